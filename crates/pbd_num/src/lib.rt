@@ -1,0 +1,221 @@
+//! Whole-number vectors, rounded division, square roots and the correction of one pair.
+#![tactic(auto)]
+
+ghost use Rattle.std.specs.Prelude.{◌≡◌, ◌↔◌, ◌≤◌, ◌<◌, ◌^◌, ◌+◌, ◌*◌, pos, ◌-ℤ◌, ◌<ℤ◌, ◌≤ℤ◌, IsTrue, unsigned_abs};
+ghost use Rattle.pbd_num.specs.Rounding.{rdiv as rounded, root as whole_root};
+ghost use Rattle.pbd_num.specs.Vectors.{Within, minus, squared_length, length_of, opposite, is_axis_within, is_within};
+ghost use Rattle.pbd_num.specs.PairMove.{share_of, along, corrections, shares, pair_moves};
+
+mod laws;
+
+pub use laws::{equal_weights_move_oppositely, roots_are_greatest, rounding_is_odd};
+
+/// The greatest size of a coordinate, in units of 1/65,536 metre.
+pub const RANGE: i64 = 536_870_912;
+
+/// Three whole numbers: a place or a way, in units of 1/65,536 metre.
+#[derive(Clone, Copy, Debug, PartialEq, Eq)]
+pub struct Vec3 {
+    pub x: i64,
+    pub y: i64,
+    pub z: i64,
+}
+
+impl Vec3 {
+    pub const ZERO: Vec3 = Vec3 { x: 0, y: 0, z: 0 };
+}
+
+/// `n / d`, rounded to the nearest whole number, halves away from zero.
+pub fn rdiv(n: i64, d: i64) -> i64
+    requires divisor { pos 0 <ℤ d }
+    requires divisor_size { unsigned_abs d ≤ 2 ^ 40 }
+    requires size { unsigned_abs n ≤ 2 ^ 61 }
+    ensures { result ≡ rounded n d }
+{
+    if n < 0 {
+        (2 * n - d) / (2 * d)
+    } else {
+        (2 * n + d) / (2 * d)
+    }
+}
+
+/// The greatest whole number whose square is at most `n`.
+pub fn root(n: i64) -> i64
+    requires { pos 0 ≤ℤ n }
+    ensures { result ≡ pos (whole_root (unsigned_abs n)) }
+{
+    n.isqrt()
+}
+
+fn axis_within(n: i64, limit: i64) -> bool
+    requires low { pos 0 ≤ℤ limit }
+    requires high { unsigned_abs limit ≤ 2 ^ 29 }
+    ensures { result ≡ is_axis_within limit n }
+{
+    -limit <= n && n <= limit
+}
+
+fn axes_within(v: Vec3, limit: i64) -> bool
+    requires low { pos 0 ≤ℤ limit }
+    requires high { unsigned_abs limit ≤ 2 ^ 29 }
+    ensures { result ≡ is_within limit v }
+{
+    axis_within(v.x, limit) && axis_within(v.y, limit) && axis_within(v.z, limit)
+}
+
+/// Whether each axis lies in `-limit..=limit`.
+pub fn within(v: Vec3, limit: i64) -> bool
+    requires low { pos 0 ≤ℤ limit }
+    requires high { unsigned_abs limit ≤ 2 ^ 29 }
+    ensures test { result ≡ is_within limit v }
+    ensures facts { IsTrue result ↔ Within (unsigned_abs limit) v }
+{
+    axes_within(v, limit)
+}
+
+/// Whether each axis lies in `-RANGE..=RANGE`.
+pub fn inside(v: Vec3) -> bool
+    ensures test { result ≡ is_within (pos (2 ^ 29)) v }
+    ensures facts { IsTrue result ↔ Within (2 ^ 29) v }
+{
+    within(v, RANGE)
+}
+
+fn difference(a: Vec3, b: Vec3) -> Vec3
+    requires a { Within (2 ^ 29) a }
+    requires b { Within (2 ^ 29) b }
+    ensures value { result ≡ minus a b }
+    ensures size { Within (2 ^ 30) result }
+{
+    Vec3 {
+        x: a.x - b.x,
+        y: a.y - b.y,
+        z: a.z - b.z,
+    }
+}
+
+fn square(n: i64) -> i64
+    requires { unsigned_abs n ≤ 2 ^ 30 }
+    ensures value { result ≡ pos (unsigned_abs n * unsigned_abs n) }
+    ensures size { unsigned_abs n * unsigned_abs n ≤ 2 ^ 60 }
+{
+    n * n
+}
+
+fn length(v: Vec3) -> i64
+    requires { Within (2 ^ 30) v }
+    ensures value { result ≡ pos (length_of v) }
+    ensures size { length_of v < 2 ^ 31 }
+{
+    root(square(v.x) + square(v.y) + square(v.z))
+}
+
+fn part(e: i64, d: i64, len: i64) -> i64
+    requires error { unsigned_abs e ≤ 2 ^ 31 }
+    requires axis { unsigned_abs d ≤ 2 ^ 30 }
+    requires axis_in_length { unsigned_abs d ≤ unsigned_abs len }
+    requires length { pos 0 <ℤ len }
+    requires length_size { unsigned_abs len ≤ 2 ^ 40 }
+    ensures value { result ≡ along e d (unsigned_abs len) }
+    ensures size { unsigned_abs result ≤ 2 ^ 31 }
+{
+    rdiv(e * d, len)
+}
+
+fn correction(d: Vec3, len: i64, rest: i64) -> Vec3
+    requires size { Within (2 ^ 30) d }
+    requires length { len ≡ pos (length_of d) }
+    requires length_size { length_of d < 2 ^ 31 }
+    requires apart { 0 < length_of d }
+    requires rest_low { pos 0 ≤ℤ rest }
+    requires rest_high { rest ≤ℤ pos (2 ^ 31) }
+    ensures value { result ≡ corrections d rest }
+    ensures size { Within (2 ^ 31) result }
+{
+    let e = len - rest;
+    Vec3 {
+        x: part(e, d.x, len),
+        y: part(e, d.y, len),
+        z: part(e, d.z, len),
+    }
+}
+
+fn share_axis(s: i64, k: i64, w: i64, total: i64) -> i64
+    requires size { unsigned_abs s ≤ 2 ^ 31 }
+    requires stiffness { unsigned_abs k ≤ 256 }
+    requires weight { unsigned_abs w ≤ unsigned_abs total }
+    requires total_low { pos 0 <ℤ total }
+    requires total_high { unsigned_abs total ≤ 131070 }
+    ensures value { result ≡ share_of s k w (unsigned_abs total) }
+    ensures size { unsigned_abs result ≤ 2 ^ 31 }
+{
+    rdiv(s * k * w, 256 * total)
+}
+
+fn share(s: Vec3, k: i64, w: i64, total: i64) -> Vec3
+    requires size { Within (2 ^ 31) s }
+    requires stiffness { unsigned_abs k ≤ 256 }
+    requires weight { unsigned_abs w ≤ unsigned_abs total }
+    requires total_low { pos 0 <ℤ total }
+    requires total_high { unsigned_abs total ≤ 131070 }
+    ensures value { result ≡ shares s k w (unsigned_abs total) }
+    ensures size { Within (2 ^ 31) result }
+{
+    Vec3 {
+        x: share_axis(s.x, k, w, total),
+        y: share_axis(s.y, k, w, total),
+        z: share_axis(s.z, k, w, total),
+    }
+}
+
+fn turned(v: Vec3) -> Vec3
+    requires { Within (2 ^ 31) v }
+    ensures value { result ≡ opposite v }
+    ensures size { Within (2 ^ 31) result }
+{
+    Vec3 {
+        x: -v.x,
+        y: -v.y,
+        z: -v.z,
+    }
+}
+
+/// The moves of two ends toward the distance `rest`, with stiffness k / 256: the distance correction
+/// of Müller and others 2007, each step of it rounded. A weight is an inverse mass, 0 where an end is
+/// held. Nothing moves where the ends lie together or both weights are 0.
+pub fn pair_move(a: Vec3, b: Vec3, rest: i64, k: i64, wa: i64, wb: i64) -> (Vec3, Vec3)
+    requires a { Within (2 ^ 29) a }
+    requires b { Within (2 ^ 29) b }
+    requires rest_low { pos 0 ≤ℤ rest }
+    requires rest_high { rest ≤ℤ pos (2 ^ 31) }
+    requires stiffness_low { pos 0 ≤ℤ k }
+    requires stiffness_high { k ≤ℤ pos 256 }
+    requires wa_low { pos 0 ≤ℤ wa }
+    requires wa_high { wa ≤ℤ pos 65535 }
+    requires wb_low { pos 0 ≤ℤ wb }
+    requires wb_high { wb ≤ℤ pos 65535 }
+    ensures moves { result ≡ pair_moves a b rest k wa wb }
+    ensures first_size { Within (2 ^ 31) result.0 }
+    ensures second_size { Within (2 ^ 31) result.1 }
+{
+    let d = difference(a, b);
+    let len = length(d);
+    let total = wa + wb;
+    if len == 0 || total == 0 {
+        return (Vec3::ZERO, Vec3::ZERO);
+    }
+    let s = correction(d, len, rest);
+    (turned(share(s, k, wa, total)), share(s, k, wb, total))
+}
+
+/// The distance of two places in range, rounded down.
+pub fn distance(a: Vec3, b: Vec3) -> i64
+    requires a { Within (2 ^ 29) a }
+    requires b { Within (2 ^ 29) b }
+    ensures { result ≡ pos (length_of (minus a b)) }
+{
+    length(difference(a, b))
+}
+
+#[cfg(test)]
+mod tests;

@@ -1,0 +1,74 @@
+-- Totals grow by no more than their entries.
+use Rattle.std.proofs.Common.{◌≡◌, refl, ◌∙◌, ℕ, ◌+◌, ◌*◌, ◌≤◌, ◌^◌, List, [], ◌∷◌, length, arith}
+use Rattle.std.specs.Prelude.{fold}
+use Rattle.std.specs.List.{AllByRecursion}
+use Rattle.pbd_num.specs.declared.Vec3.{Vec3}
+use Rattle.pbd_num.specs.Vectors.{Within}
+use Rattle.pbd_world.specs.declared.totals.Class.{Class}
+use Rattle.pbd_world.specs.declared.totals.Class.TheVariants as classes
+use Rattle.pbd_world.specs.Ledger.{Sum, Ledger, Entry, added, booked, SumWithin}
+use Rattle.pbd_world.specs.Particles.{Moved}
+use Rattle.pbd_world.specs.World.{AreBounded}
+use Rattle.pbd_world.proofs.Rooms.{sum_grows}
+
+sum_weaker : (s : Sum) (b c : ℕ) → b ≤ c → SumWithin b s → SumWithin c s
+sum_weaker s b c l h = record { x = omega (arith, l, h.x); y = omega (arith, l, h.y); z = omega (arith, l, h.z) }
+
+pub bounded_weaker : (t : Ledger) (b c : ℕ) → b ≤ c → AreBounded b t → AreBounded c t
+bounded_weaker t b c l h = record {
+  gravity = sum_weaker t.gravity b c l h.gravity;
+  damping = sum_weaker t.damping b c l h.damping;
+  link = sum_weaker t.link b c l h.link;
+  contact = sum_weaker t.contact b c l h.contact;
+  shape = sum_weaker t.shape b c l h.shape;
+}
+
+added_by : (t : Ledger) (class : Class) (v : Vec3) (b c : ℕ) → AreBounded b t → AreBounded (b + c) t → Within c v → AreBounded (b + c) (added t class v)
+added_by t classes.Gravity v b c h a k = record { gravity = sum_grows t.gravity v b c h.gravity k; damping = a.damping; link = a.link; contact = a.contact; shape = a.shape }
+added_by t classes.Damping v b c h a k = record { gravity = a.gravity; damping = sum_grows t.damping v b c h.damping k; link = a.link; contact = a.contact; shape = a.shape }
+added_by t classes.Link v b c h a k = record { gravity = a.gravity; damping = a.damping; link = sum_grows t.link v b c h.link k; contact = a.contact; shape = a.shape }
+added_by t classes.Contact v b c h a k = record { gravity = a.gravity; damping = a.damping; link = a.link; contact = sum_grows t.contact v b c h.contact k; shape = a.shape }
+added_by t classes.Pin v b c h a k = record { gravity = a.gravity; damping = a.damping; link = a.link; contact = a.contact; shape = a.shape }
+added_by t classes.Shape v b c h a k = record { gravity = a.gravity; damping = a.damping; link = a.link; contact = a.contact; shape = sum_grows t.shape v b c h.shape k }
+
+-- entries of at most c on each axis
+abbrev pub AreSmall : ℕ → List Entry → Type 0
+AreSmall c es = AllByRecursion {X = Entry} (λ e. Within c e.1) es
+
+pub booked_bounded : (es : List Entry) (t : Ledger) (b c : ℕ) → AreSmall c es → AreBounded b t → AreBounded (b + length es * c) (booked t es)
+booked_bounded [] t b c s h = bounded_weaker t b (b + length {A = Entry} [] * c) (omega arith) h
+booked_bounded (e ∷ es) t b c s h =
+    let one = added_by t e.0 e.1 b c h (bounded_weaker t b (b + c) (omega arith) h) s.0 in
+    bounded_weaker (booked (added t e.0 e.1) es) ((b + c) + length es * c) (b + length (e ∷ es) * c) (omega arith) (booked_bounded es (added t e.0 e.1) (b + c) c s.1 one)
+
+-- ---- particles that carry their entries
+
+-- at most two entries, small ones, none of them of a link or contact, and of damping only where `still` doesn't hold
+pub record IsQuiet (still : Type 0) (x : Moved) : Type 0 where
+  pub few : length x.entries ≤ 2
+  pub small : AreSmall (2 ^ 30) x.entries
+  pub links : (t : Ledger) → (booked t x.entries).link ≡ t.link
+  pub contacts : (t : Ledger) → (booked t x.entries).contact ≡ t.contact
+  pub damping : still → (t : Ledger) → (booked t x.entries).damping ≡ t.damping
+
+abbrev pub all_booked : Ledger → List Moved → Ledger
+all_booked t ms = fold {A = Moved} (λ u m. booked u m.entries) t ms
+
+pub moved_bounded : (still : Type 0) (ms : List Moved) (t : Ledger) (b : ℕ) → AllByRecursion (IsQuiet still) ms → AreBounded b t → AreBounded (b + length ms * 2 ^ 31) (all_booked t ms)
+moved_bounded still [] t b q h = bounded_weaker t b (b + length {A = Moved} [] * 2 ^ 31) (omega arith) h
+moved_bounded still (m ∷ ms) t b q h =
+    let few = q.0.few in
+    let one = bounded_weaker (booked t m.entries) (b + length m.entries * 2 ^ 30) (b + 2 ^ 31) (omega (arith, few)) (booked_bounded m.entries t b (2 ^ 30) q.0.small h) in
+    bounded_weaker (all_booked (booked t m.entries) ms) ((b + 2 ^ 31) + length ms * 2 ^ 31) (b + length (m ∷ ms) * 2 ^ 31) (omega arith) (moved_bounded still ms (booked t m.entries) (b + 2 ^ 31) q.1 one)
+
+pub moved_links : (still : Type 0) (ms : List Moved) (t : Ledger) → AllByRecursion (IsQuiet still) ms → (all_booked t ms).link ≡ t.link
+moved_links still [] t q = refl
+moved_links still (m ∷ ms) t q = moved_links still ms (booked t m.entries) q.1 ∙ q.0.links t
+
+pub moved_contacts : (still : Type 0) (ms : List Moved) (t : Ledger) → AllByRecursion (IsQuiet still) ms → (all_booked t ms).contact ≡ t.contact
+moved_contacts still [] t q = refl
+moved_contacts still (m ∷ ms) t q = moved_contacts still ms (booked t m.entries) q.1 ∙ q.0.contacts t
+
+pub moved_damping : (still : Type 0) (ms : List Moved) (t : Ledger) → still → AllByRecursion (IsQuiet still) ms → (all_booked t ms).damping ≡ t.damping
+moved_damping still [] t s q = refl
+moved_damping still (m ∷ ms) t s q = moved_damping still ms (booked t m.entries) s q.1 ∙ q.0.damping s t

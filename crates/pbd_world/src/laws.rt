@@ -1,0 +1,103 @@
+//! Laws of the definitions, each the contract of a function that does nothing.
+ghost use Rattle.std.specs.Prelude.{◌≡◌, ◌<◌, ◌≤◌, ◌+◌, ◌^◌, ◌==◌, ℕ, ℤ, pos, List, Bool, false, IsTrue, length, count_by, Contains, AllPairs};
+ghost use Rattle.pbd_num.specs.declared.Vec3.{Vec3};
+ghost use Rattle.pbd_num.specs.Vectors.{Within};
+ghost use Rattle.pbd_world.specs.declared.command.Command.{Command};
+ghost use Rattle.pbd_world.specs.declared.command.Refusal.{Refusal};
+ghost use Rattle.pbd_world.specs.declared.command.Reply.TheVariants as replies;
+ghost use Rattle.pbd_world.specs.declared.parts.Parts.{Parts};
+ghost use Rattle.pbd_world.specs.declared.totals.Class.{Class};
+ghost use Rattle.pbd_world.specs.Ledger.{Ledger, HaveRoom, SumFits, added, both_sums, sum_plus, total_of};
+ghost use Rattle.pbd_world.specs.Valid.{is_valid};
+ghost use Rattle.pbd_world.specs.World.{World, opened, IsSound, AreOfOneScene, HaveWeight};
+ghost use Rattle.pbd_world.specs.declared.parts.Link.{Link};
+ghost use Rattle.pbd_world.specs.declared.parts.Particle.{Particle};
+ghost use Rattle.pbd_world.specs.Colours.{IsGreedy, IsEarlier, colour, order, live_at};
+ghost use Rattle.pbd_world.specs.Contacts.{AreInContact, IsBefore, contacts_of};
+ghost use Rattle.pbd_world.specs.Momentum.{IsBalanced, momentum};
+ghost use Rattle.pbd_world.specs.Meaning.{after, reply};
+ghost use Rattle.pbd_world.specs.Session.{last_world};
+
+/// Each pair has the least colour that no earlier live pair which shares a particle with it has.
+pub fn colours_are_greedy()
+    ensures { (pairs : List (ℕ × ℕ)) (live : List Bool) (i : ℕ)
+        → IsGreedy pairs live (colour pairs live) i (colour pairs live i) }
+{}
+
+/// No other colours are greedy.
+pub fn colours_are_determined()
+    ensures { (pairs : List (ℕ × ℕ)) (live : List Bool) (f : ℕ → ℕ) (n : ℕ)
+        → ((i : ℕ) → i < n → IsGreedy pairs live f i (f i))
+        → (i : ℕ) → i < n → f i ≡ colour pairs live i }
+{}
+
+/// The order of a list of pairs holds each live number exactly once, and no other number.
+pub fn orders_hold_each_live_pair_once()
+    ensures live { (pairs : List (ℕ × ℕ)) (live : List Bool) (k : ℕ) → k < length pairs
+        → IsTrue (live_at live k) → count_by (λ i. i == k) (order pairs live) ≡ 1 }
+    ensures gone { (pairs : List (ℕ × ℕ)) (live : List Bool) (k : ℕ) → k < length pairs
+        → live_at live k ≡ false → count_by (λ i. i == k) (order pairs live) ≡ 0 }
+    ensures within { (pairs : List (ℕ × ℕ)) (live : List Bool) (k : ℕ) → length pairs ≤ k
+        → count_by (λ i. i == k) (order pairs live) ≡ 0 }
+{}
+
+/// The order of a list of pairs goes up by colours, and within a colour by numbers.
+pub fn orders_ascend()
+    ensures { (pairs : List (ℕ × ℕ)) (live : List Bool) → AllPairs (IsEarlier pairs live) (order pairs live) }
+{}
+
+/// The contacts are exactly the pairs that touch each other, each once and in order.
+pub fn contacts_are_the_touching_pairs()
+    ensures only { (thickness : ℤ) (links : List Link) (ps : List Particle) (i j : ℕ)
+        → Contains (contacts_of thickness links ps) (i, j) → AreInContact thickness links ps i j }
+    ensures each { (thickness : ℤ) (links : List Link) (ps : List Particle) (i j : ℕ)
+        → AreInContact thickness links ps i j → Contains (contacts_of thickness links ps) (i, j) }
+    ensures in_order { (thickness : ℤ) (links : List Link) (ps : List Particle)
+        → AllPairs IsBefore (contacts_of thickness links ps) }
+{}
+
+/// A refused command keeps the world.
+pub fn refused_commands_change_nothing()
+    ensures { (w : World) (command : Command) (refusal : Refusal)
+        → reply w command ≡ replies.Refused refusal → after w command ≡ w }
+{}
+
+/// The world of a valid scene is sound before its first command.
+pub fn opened_worlds_are_sound()
+    ensures { (parts : Parts) → IsTrue (is_valid parts) → IsSound (opened parts) }
+{}
+
+/// A command leaves a sound world in balance: momentum is the opening momentum and the six totals together.
+pub fn commands_keep_the_balance()
+    ensures { (w : World) (command : Command) → IsSound w
+        → IsBalanced (after w command).opening (after w command).totals (after w command).particles }
+{}
+
+/// Every world that commands lead to from a valid scene is sound, and of one scene with the opened one.
+pub fn sessions_stay_sound()
+    ensures sound { (parts : Parts) (commands : List Command) → IsTrue (is_valid parts)
+        → IsSound (last_world (opened parts) commands) }
+    ensures one_scene { (parts : Parts) (commands : List Command) → IsTrue (is_valid parts)
+        → AreOfOneScene (opened parts) (last_world (opened parts) commands) }
+{}
+
+/// Undamped and with equal weights, momentum changes exactly by the gravity, pin and shape totals.
+pub fn equal_weights_keep_momentum()
+    ensures { (w : World) (weight : ℕ) → IsSound w → w.damping ≡ pos 0 → HaveWeight weight w.particles
+        → momentum w.particles ≡ both_sums w.opening (both_sums w.totals.gravity (both_sums w.totals.pin w.totals.shape)) }
+{}
+
+/// Totals with room take a move, and grow by no more than it.
+pub fn totals_with_room_take_moves()
+    ensures fits { (t : Ledger) (class : Class) (v : Vec3) (b c : ℕ) → HaveRoom b t → Within c v
+        → b + c < 2 ^ 127 → SumFits (sum_plus (total_of t class) v) }
+    ensures left { (t : Ledger) (class : Class) (v : Vec3) (b c : ℕ) → HaveRoom b t → Within c v
+        → HaveRoom (b + c) (added t class v) }
+{}
+
+/// A command leads from a sound world to a sound one of the same scene.
+pub fn commands_keep_worlds_sound()
+    ensures sound { (w : World) (command : Command) → IsSound w → IsSound (after w command) }
+    ensures one_scene { (w : World) (command : Command) → IsSound w
+        → AreOfOneScene w (after w command) }
+{}

@@ -1,0 +1,31 @@
+//! The plain types of a scene and a session, and in `specs/` what they mean.
+#![tactic(auto)]
+
+mod bond;
+mod command;
+mod joined;
+mod laws;
+mod list;
+mod parts;
+mod room_list;
+mod scene;
+mod single;
+mod totals;
+mod valid;
+
+pub use bond::{Bond, Correction, End, Shift};
+pub use command::{Command, FrameSums, Left, Phase, Refusal, Reply, Width};
+pub use laws::{
+    colours_are_determined, colours_are_greedy, commands_keep_the_balance,
+    commands_keep_worlds_sound, contacts_are_the_touching_pairs, equal_weights_keep_momentum,
+    opened_worlds_are_sound, orders_ascend, orders_hold_each_live_pair_once,
+    refused_commands_change_nothing, sessions_stay_sound, totals_with_room_take_moves,
+};
+pub use list::List;
+pub use parts::{Key, Kind, Link, Particle, Parts, Plane, Sphere, Track};
+pub use room_list::{Full, RoomList};
+pub use scene::{PartsFault, Scene};
+pub use totals::{Class, Totals};
+
+#[cfg(test)]
+mod tests;
