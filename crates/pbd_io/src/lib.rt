@@ -1,0 +1,14 @@
+//! Where a run's bytes come from and go to.
+#![tactic(auto)]
+
+mod memory;
+mod standard;
+mod sure;
+#[cfg(test)]
+mod tests;
+mod traits;
+
+pub use memory::{MemSink, MemSource};
+pub use standard::{StdSink, StdSource};
+pub use sure::{SureSink, SureSource};
+pub use traits::{Failed, Sink, Source};

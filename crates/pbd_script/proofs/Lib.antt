@@ -1,0 +1,4 @@
+pub mod AsciiLemmas
+pub mod CommandLemmas
+pub mod LineLemmas
+pub mod NumberLemmas
