@@ -1,0 +1,99 @@
+-- What the tests of a mesh say of its numbers.
+use Rattle.std.proofs.Common.{◌≡◌, sym, ◌<◌, ◌≤◌, ◌^◌, true, ◌&&◌, arith, ℕ, ℤ, pos, ◌≤ℤ◌, unsigned_abs, inl, inr}
+use Rattle.std.specs.Prelude.{IsTrue, nat_lt}
+use Rattle.std.specs.Ordering.{int_eq}
+use Rattle.pbd_world.specs.Valid.{is_limit}
+use Rattle.pbd_mesh.specs.declared.spec.Cell.{Cell}
+use Rattle.std.proofs.lemmas.Int.{ints}
+use Rattle.std.proofs.lemmas.Bool.{and_parts, cases_Bool}
+use Rattle.std.proofs.lemmas.Bool.Decides.{nat_tests, Decides-int_eq}
+use Rattle.pbd_num.specs.declared.Vec3.{Vec3}
+use Rattle.pbd_num.specs.Vectors.{Within, is_within}
+use Rattle.pbd_num.proofs.Ranges.{within_facts}
+use Rattle.pbd_mesh.specs.declared.spec.ClothSpec.{ClothSpec}
+use Rattle.pbd_mesh.specs.declared.spec.RopeSpec.{RopeSpec}
+use Rattle.pbd_mesh.specs.Joined.{all_below}
+use Rattle.pbd_mesh.proofs.Below.{below}
+use Rattle.pbd_mesh.specs.Ranges.{is_between}
+use Rattle.pbd_mesh.specs.Cloth.{cloth_vectors_fit, cloth_counts_fit, cloth_threads_fit, cloth_tears_fit, cloth_in_ranges, cloth_is_inside, cloth_place, is_in_cloth, cloth_fits, ClothBounds, ClothFacts}
+use Rattle.pbd_mesh.specs.Rope.{rope_counts_fit, rope_threads_fit, rope_in_ranges, rope_is_inside, rope_place, rope_fits, RopeBounds, RopeFacts}
+
+at_most : (low high n : ℕ) → IsTrue (is_between low high n) → n ≤ high
+at_most low high n t = grind (arith, nat_tests)
+
+inside_range : (limit : ℤ) (v : Vec3) → pos 0 ≤ℤ limit → unsigned_abs limit ≤ 2 ^ 29 → IsTrue (is_within limit v) → Within (2 ^ 29) v
+inside_range limit v low high t = let w = (within_facts limit v low).0 t in record { x = omega (arith, w.x); y = omega (arith, w.y); z = omega (arith, w.z) }
+
+pub cloth_bounds : (limit : ℤ) (s : ClothSpec) → pos 0 ≤ℤ limit → unsigned_abs limit ≤ 2 ^ 29 → IsTrue (cloth_in_ranges limit s) → ClothBounds s
+unfolding cloth_in_ranges cloth_vectors_fit cloth_counts_fit
+cloth_bounds limit s low high t =
+    let t3 = and_parts (cloth_vectors_fit limit s && cloth_counts_fit s && cloth_threads_fit s) (cloth_tears_fit limit s) t in
+    let t2 = and_parts (cloth_vectors_fit limit s && cloth_counts_fit s) (cloth_threads_fit s) t3.0 in
+    let t1 = and_parts (cloth_vectors_fit limit s) (cloth_counts_fit s) t2.0 in
+    let v2 = and_parts (is_within limit s.origin && is_within limit s.across) (is_within limit s.down) t1.0 in
+    let v1 = and_parts (is_within limit s.origin) (is_within limit s.across) v2.0 in
+    let c2 = and_parts (is_between 1 256 s.rows && is_between 1 256 s.columns) (is_between 1 65535 s.weight) t1.1 in
+    let c1 = and_parts (is_between 1 256 s.rows) (is_between 1 256 s.columns) c2.0 in
+    record {
+      rows = at_most 1 256 s.rows c1.0;
+      columns = at_most 1 256 s.columns c1.1;
+      origin = inside_range limit s.origin low high v1.0;
+      across = inside_range limit s.across low high v1.1;
+      down = inside_range limit s.down low high v2.1;
+    }
+
+pub rope_bounds : (limit : ℤ) (s : RopeSpec) → pos 0 ≤ℤ limit → unsigned_abs limit ≤ 2 ^ 29 → IsTrue (rope_in_ranges limit s) → RopeBounds s
+unfolding rope_in_ranges rope_counts_fit
+rope_bounds limit s low high t =
+    let t3 = and_parts (is_within limit s.origin && is_within limit s.spacing && rope_counts_fit s) (rope_threads_fit limit s) t in
+    let t2 = and_parts (is_within limit s.origin && is_within limit s.spacing) (rope_counts_fit s) t3.0 in
+    let t1 = and_parts (is_within limit s.origin) (is_within limit s.spacing) t2.0 in
+    let c = and_parts (is_between 1 4096 s.count) (is_between 1 65535 s.weight) t2.1 in
+    record {
+      count = at_most 1 4096 s.count c.0;
+      origin = inside_range limit s.origin low high t1.0;
+      spacing = inside_range limit s.spacing low high t1.1;
+    }
+
+pub cloth_facts : (limit : ℤ) (s : ClothSpec) → pos 0 ≤ℤ limit → unsigned_abs limit ≤ 2 ^ 29 → IsTrue (cloth_in_ranges limit s) → IsTrue (cloth_is_inside limit s) → ClothFacts s
+unfolding cloth_is_inside
+cloth_facts limit s low high ranges inside = record {
+  bounds = cloth_bounds limit s low high ranges;
+  place = λ r c row column. inside_range limit (cloth_place s r c) low high (below s.columns (λ c. is_within limit (cloth_place s r c)) c (below s.rows (λ r. all_below s.columns (λ c. is_within limit (cloth_place s r c))) r inside row) column);
+}
+
+pub rope_facts : (limit : ℤ) (s : RopeSpec) → pos 0 ≤ℤ limit → unsigned_abs limit ≤ 2 ^ 29 → IsTrue (rope_in_ranges limit s) → IsTrue (rope_is_inside limit s) → RopeFacts s
+unfolding rope_is_inside
+rope_facts limit s low high ranges inside = record {
+  bounds = rope_bounds limit s low high ranges;
+  place = λ i row. inside_range limit (rope_place s i) low high (below s.count (λ i. is_within limit (rope_place s i)) i inside row);
+}
+
+is_less : (m n : ℕ) → nat_lt m n ≡ true → m < n
+is_less m n t = grind (arith, nat_tests)
+
+-- a cell that is in the cloth
+pub in_cloth : (s : ClothSpec) (cell : Cell) → true ≡ is_in_cloth s cell → (cell.row < s.rows) × (cell.column < s.columns)
+in_cloth s cell t = let h = and_parts (nat_lt cell.row s.rows) (nat_lt cell.column s.columns) (sym t) in (is_less cell.row s.rows h.0, is_less cell.column s.columns h.1)
+
+-- one of the two limits
+pub limit_bounds : (limit : ℤ) → IsTrue (is_limit limit) → (pos 0 ≤ℤ limit) × (unsigned_abs limit ≤ 2 ^ 29)
+limit_bounds limit is = elim (cases_Bool (int_eq limit (pos (2 ^ 28)))) [
+  | inl e ↦ (let same = (Decides-int_eq limit (pos (2 ^ 28))).0 e in rw same (omega (arith, ints), omega arith))
+  | inr f ↦ (let u : IsTrue (int_eq limit (pos (2 ^ 29))) = rw f at is in let same = (Decides-int_eq limit (pos (2 ^ 29))).0 u in rw same (omega (arith, ints), omega arith))
+]
+
+-- what fits has the facts
+pub cloth_facts_from_fits : (limit : ℤ) (s : ClothSpec) → IsTrue (is_limit limit) → IsTrue (cloth_fits limit s) → ClothFacts s
+unfolding cloth_fits
+cloth_facts_from_fits limit s is fits =
+    let h = and_parts (cloth_in_ranges limit s) (cloth_is_inside limit s) fits in
+    let b = limit_bounds limit is in
+    cloth_facts limit s b.0 b.1 h.0 h.1
+
+pub rope_facts_from_fits : (limit : ℤ) (s : RopeSpec) → IsTrue (is_limit limit) → IsTrue (rope_fits limit s) → RopeFacts s
+unfolding rope_fits
+rope_facts_from_fits limit s is fits =
+    let h = and_parts (rope_in_ranges limit s) (rope_is_inside limit s) fits in
+    let b = limit_bounds limit is in
+    rope_facts limit s b.0 b.1 h.0 h.1

@@ -1,0 +1,6 @@
+pub mod Below
+pub mod Corners
+pub mod Every
+pub mod Facts
+pub mod Growing
+pub mod Meshes

@@ -1,0 +1,102 @@
+-- A cloth, by row and column.
+use Rattle.std.specs.Prelude.{ℕ, ◌+◌, ◌*◌, ◌^◌, ◌<◌, ◌≤◌, nat_le, nat_lt, ℤ, pos, ◌*ℤ◌, Bool, true, false, ◌&&◌, if◌then◌else◌, List, [], ◌∷◌, ◌++◌}
+use Rattle.pbd_num.specs.declared.Vec3.{Vec3}
+use Rattle.pbd_num.specs.Vectors.{plus, minus, on_axes, Within, is_within, length_of}
+use Rattle.pbd_world.specs.declared.parts.Particle.{Particle}
+use Rattle.pbd_world.specs.declared.parts.Link.{Link}
+use Rattle.pbd_world.specs.declared.parts.Kind.{Kind}
+use Rattle.pbd_world.specs.declared.parts.Kind.TheVariants.{Stretch, Shear, Bend, Plain}
+use Rattle.pbd_mesh.specs.Ranges.{is_between, is_length}
+use Rattle.pbd_mesh.specs.declared.spec.ClothSpec.{ClothSpec}
+use Rattle.pbd_mesh.specs.declared.spec.Cell.{Cell}
+use Rattle.pbd_mesh.specs.declared.spec.Thread.{Thread}
+use Rattle.pbd_mesh.specs.Joined.{joined, all_below}
+
+abbrev pub times : ℕ → Vec3 → Vec3
+times n v = on_axes (λ axis. pos n *ℤ axis) v
+
+-- a free particle at rest
+abbrev pub resting : Vec3 → ℕ → Particle
+resting at weight = record { at = at; before = at; weight = weight; held = false }
+
+-- the place of row r and column c
+unfoldable pub cloth_place : ClothSpec → ℕ → ℕ → Vec3
+cloth_place s r c = plus (plus s.origin (times c s.across)) (times r s.down)
+
+-- row by row
+unfoldable pub cloth_particles : ClothSpec → List Particle
+cloth_particles s = joined s.rows (λ r. joined s.columns (λ c. resting (cloth_place s r c) s.weight ∷ []))
+
+abbrev pub is_in_cloth : ClothSpec → Cell → Bool
+is_in_cloth s cell = nat_lt cell.row s.rows && nat_lt cell.column s.columns
+
+-- the number of a cell's particle, where the cloth's first has the number base
+abbrev pub number : ClothSpec → ℕ → Cell → ℕ
+number s base cell = base + cell.row * s.columns + cell.column
+
+-- the link of two cells, at its length, where both are in the cloth
+unfoldable pub cell_link : ClothSpec → ℕ → Thread → Cell → Cell → List Link
+cell_link s base t from to =
+    if is_in_cloth s from && is_in_cloth s to
+    then record { a = number s base from; b = number s base to; rest = pos (length_of (minus (cloth_place s from.row from.column) (cloth_place s to.row to.column))); k = t.k; tear = t.tear; kind = t.kind; live = true } ∷ []
+    else []
+
+abbrev pub cell : ℕ → ℕ → Cell
+cell r c = record { row = r; column = c }
+
+-- the stiffness and the tear length of a kind
+abbrev pub cloth_thread : ClothSpec → Kind → Thread
+cloth_thread s Stretch = record { kind = Stretch; k = s.stretch; tear = s.stretch_tear }
+cloth_thread s Shear = record { kind = Shear; k = s.shear; tear = s.shear_tear }
+cloth_thread s Bend = record { kind = Bend; k = s.bend; tear = s.bend_tear }
+cloth_thread s Plain = record { kind = Plain; k = 0; tear = pos 0 }
+
+-- the links of a kind that begin at a cell, along the row before down the column, and of a shear both diagonals
+unfoldable pub links_of_cell : ClothSpec → ℕ → Kind → ℕ → ℕ → List Link
+links_of_cell s base Stretch r c = cell_link s base (cloth_thread s Stretch) (cell r c) (cell r (c + 1)) ++ cell_link s base (cloth_thread s Stretch) (cell r c) (cell (r + 1) c)
+links_of_cell s base Shear r c = cell_link s base (cloth_thread s Shear) (cell r c) (cell (r + 1) (c + 1)) ++ cell_link s base (cloth_thread s Shear) (cell r (c + 1)) (cell (r + 1) c)
+links_of_cell s base Bend r c = cell_link s base (cloth_thread s Bend) (cell r c) (cell r (c + 2)) ++ cell_link s base (cloth_thread s Bend) (cell r c) (cell (r + 2) c)
+links_of_cell s base Plain r c = []
+
+-- row by row
+unfoldable pub links_of_kind : ClothSpec → ℕ → Kind → List Link
+links_of_kind s base kind = joined s.rows (λ r. joined s.columns (λ c. links_of_cell s base kind r c))
+
+unfoldable pub cloth_links : ClothSpec → ℕ → List Link
+cloth_links s base = links_of_kind s base Stretch ++ links_of_kind s base Shear ++ links_of_kind s base Bend
+
+-- each number is in its range
+unfoldable pub cloth_vectors_fit : ℤ → ClothSpec → Bool
+cloth_vectors_fit limit s = is_within limit s.origin && is_within limit s.across && is_within limit s.down
+
+unfoldable pub cloth_counts_fit : ClothSpec → Bool
+cloth_counts_fit s = is_between 1 256 s.rows && is_between 1 256 s.columns && is_between 1 65535 s.weight
+
+unfoldable pub cloth_threads_fit : ClothSpec → Bool
+cloth_threads_fit s = nat_le s.stretch 256 && nat_le s.shear 256 && nat_le s.bend 256
+
+unfoldable pub cloth_tears_fit : ℤ → ClothSpec → Bool
+cloth_tears_fit limit s = is_length limit s.stretch_tear && is_length limit s.shear_tear && is_length limit s.bend_tear
+
+unfoldable pub cloth_in_ranges : ℤ → ClothSpec → Bool
+cloth_in_ranges limit s = cloth_vectors_fit limit s && cloth_counts_fit s && cloth_threads_fit s && cloth_tears_fit limit s
+
+-- the sizes of its numbers, as facts
+pub record ClothBounds (s : ClothSpec) : Type 0 where
+  pub rows : s.rows ≤ 256
+  pub columns : s.columns ≤ 256
+  pub origin : Within (2 ^ 29) s.origin
+  pub across : Within (2 ^ 29) s.across
+  pub down : Within (2 ^ 29) s.down
+
+-- and where its particles are
+pub record ClothFacts (s : ClothSpec) : Type 0 where
+  pub bounds : ClothBounds s
+  pub place : (r c : ℕ) → r < s.rows → c < s.columns → Within (2 ^ 29) (cloth_place s r c)
+
+-- each particle is within the limit
+unfoldable pub cloth_is_inside : ℤ → ClothSpec → Bool
+cloth_is_inside limit s = all_below s.rows (λ r. all_below s.columns (λ c. is_within limit (cloth_place s r c)))
+
+unfoldable pub cloth_fits : ℤ → ClothSpec → Bool
+cloth_fits limit s = cloth_in_ranges limit s && cloth_is_inside limit s

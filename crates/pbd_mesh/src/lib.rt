@@ -1,0 +1,16 @@
+//! The particles and links of cloths and ropes.
+#![tactic(auto)]
+
+mod cloths;
+mod fits;
+mod laws;
+mod place;
+mod ropes;
+mod spec;
+#[cfg(test)]
+mod tests;
+
+pub use cloths::cloth;
+pub use laws::{cloths_are_meshes, ropes_are_meshes};
+pub use ropes::rope;
+pub use spec::{ClothSpec, RopeSpec};

@@ -1,0 +1,310 @@
+-- What the entries that are accepted have.
+use Rattle.std.proofs.Common.{suc, ◌≡◌, ◌∙◌, ap, sym, refl, ℕ, ◌+◌, ◌-◌, ◌*◌, ◌≤◌, ◌<◌, List, [], ◌∷◌, ◌++◌, length, Bool, true, false, Ok, Err, Option, Some, None, arith, pos, negsuc, ℤ}
+use Rattle.std.specs.Prelude.{unwrap_or, ◌&&◌, ◌||◌, not, nat_le, nat_lt, int_le, unsigned_abs, IsTrue, ◌*ℤ◌, ◌-ℤ◌, ◌+ℤ◌, ◌≤ℤ◌, ◌^◌, if◌then◌else◌, slice_index_or}
+use Rattle.std.specs.List.{list_all, sum_by}
+use Rattle.std.proofs.lemmas.Int.{ints}
+use Rattle.std.proofs.lemmas.Bool.{and_parts, and_from, cases_lt}
+use Rattle.std.proofs.lemmas.Bool.Decides.{nat_tests}
+use Rattle.std.proofs.lemmas.List.{length-append}
+use Rattle.std.proofs.lemmas.List.Folds.{list_all-append}
+use Rattle.toml.specs.Data.{Data, Members}
+use Rattle.pbd_num.specs.declared.Vec3.{Vec3}
+use Rattle.pbd_num.specs.Vectors.{is_within, is_axis_within, zero_vector, minus, plus, on_axes, squared_length}
+use Rattle.pbd_num.proofs.Ranges.{within_facts}
+use Rattle.pbd_mesh.specs.declared.spec.ClothSpec.{ClothSpec}
+use Rattle.pbd_mesh.specs.declared.spec.RopeSpec.{RopeSpec}
+use Rattle.pbd_mesh.specs.Joined.{all_below}
+use Rattle.pbd_mesh.specs.Cloth.{cloth_fits}
+use Rattle.pbd_mesh.specs.Rope.{rope_fits}
+use Rattle.pbd_mesh.proofs.Below.{below}
+use Rattle.pbd_world.specs.declared.parts.Particle.{Particle}
+use Rattle.pbd_world.specs.declared.parts.Plane.{Plane}
+use Rattle.pbd_world.specs.declared.parts.Sphere.{Sphere}
+use Rattle.pbd_world.specs.declared.parts.Key.{Key}
+use Rattle.pbd_world.specs.Valid.{is_valid_particle, is_at_rest, is_between, is_valid_plane, is_valid_sphere, are_valid_keys}
+use Rattle.pbd_world.proofs.ValidLemmas.{rising, rising_begins}
+use Rattle.std.proofs.lemmas.List.Sums.{sum_by-append, sum_by-cons}
+use Rattle.pbd_scene.specs.declared.raw.LinkEntry.{LinkEntry}
+use Rattle.pbd_scene.specs.declared.raw.TrackEntry.{TrackEntry}
+use Rattle.pbd_scene.specs.declared.fault.SceneRule.TheVariants.{OutOfRange, TooMany, BadTrack}
+use Rattle.pbd_scene.specs.declared.fault.Place.{Place}
+use Rattle.pbd_scene.specs.declared.fault.KeyName.TheVariants as keys
+use Rattle.pbd_scene.specs.declared.fault.TableName.TheVariants as tables
+use Rattle.pbd_scene.specs.Checks.{Checked, ◌>>=◌, expect, each}
+use Rattle.pbd_scene.specs.Keys.{known}
+use Rattle.pbd_scene.specs.Values.{at, members, required_vector, vector_or, required_integer, required_any_integer, optional_integer, integer_or, required_count, count_or, boolean_or, row, required_array}
+use Rattle.pbd_scene.specs.Entries.{particle_of, inside_before, place_before, cloth_of, rope_of, fitting_cloth, fitting_rope, room_for, cloth_size, all_cloths_size, all_ropes_size, link_of, plane_of, sphere_of, reaches_within, on_by, back_by, row_of, key_of, step_number, step_of, steps_rise, track_of}
+use Rattle.pbd_scene.proofs.Accepted.{bind_ok, through, expect_ok, same_ok, tested, optional_some, between, required_integer_ok, integer_or_ok, count_or_ok, required_vector_ok, vector_or_ok, each_pass, each_count}
+
+-- ---- particles
+
+self : (n : ℤ) → n -ℤ n ≡ pos 0
+self n = omega (arith, ints)
+
+pub at_rest : (v : Vec3) → nat_le (squared_length (minus v v)) 0 ≡ true
+at_rest v = rw (self v.x, self v.y, self v.z) refl
+
+-- valid, and at rest where it is held
+abbrev pub is_entry_particle : ℤ → Particle → Bool
+is_entry_particle limit p = is_valid_particle limit p && (not p.held || is_at_rest p)
+
+le_test : (m n : ℕ) → m ≤ n → nat_le m n ≡ true
+le_test m n h = grind (arith, nat_tests)
+
+lt_test : (m n : ℕ) → m < n → nat_lt m n ≡ true
+lt_test m n h = grind (arith, nat_tests)
+
+particle_tests : (limit : ℤ) (at before : Vec3) (weight : ℕ) (held : Bool) → is_within limit at ≡ true → is_within limit before ≡ true → nat_le 1 weight ≡ true → nat_le weight 65535 ≡ true → is_entry_particle limit (record { at = at; before = if held then at else before; weight = weight; held = held }) ≡ true
+particle_tests limit at before weight true h k low high = rw (h, low, high, at_rest at) refl
+particle_tests limit at before weight false h k low high = rw (h, k, low, high) refl
+
+inside_before_ok : (limit : ℤ) (place : Place) (at velocity v : Vec3) → inside_before limit place at velocity ≡ Ok v → is_within limit v ≡ true
+unfolding inside_before
+inside_before_ok limit place at velocity v is = let t = tested (is_within limit (place_before at velocity)) OutOfRange place keys.Velocity (place_before at velocity) v is in rw (← t.1) t.0
+
+pub particle_passes : (limit : ℤ) (before : List Particle) (d : Data) (p : Particle) → particle_of limit before d ≡ Ok p → is_entry_particle limit p ≡ true
+unfolding particle_of
+particle_passes limit before d p is =
+    let place = at tables.Particle (length before) in
+    through (members place d) _ p is (λ ms e1 is1.
+    through (known place ms) _ p is1 (λ u e2 is2.
+    through (required_vector place keys.At limit ms) _ p is2 (λ here e3 is3.
+    through (vector_or place keys.Velocity (pos 2 *ℤ limit) zero_vector ms) _ p is3 (λ velocity e4 is4.
+    through (count_or place keys.Weight 1 65535 1 ms) _ p is4 (λ weight e5 is5.
+    through (boolean_or place keys.Held false ms) _ p is5 (λ held e6 is6.
+    through (inside_before limit place here velocity) _ p is6 (λ gone e7 is7.
+    let w = count_or_ok place keys.Weight 1 65535 1 ms weight (omega arith) (omega arith) e5 in
+    let all : Particle = record { at = here; before = if held then here else gone; weight = weight; held = held } in
+    let same : all ≡ p = same_ok all p is7 in
+    rw (← same) (particle_tests limit here gone weight held (required_vector_ok place keys.At limit ms here e3) (inside_before_ok limit place here velocity gone e7) (le_test 1 weight w.0) (le_test weight 65535 w.1)))))))))
+
+-- ---- meshes
+
+-- cloths that fit, and leave the particles few
+pub record CloseCloths (limit : ℤ) (count : ℕ) (cloths : List ClothSpec) : Type 0 where
+  pub fit : list_all (cloth_fits limit) cloths ≡ true
+  pub room : count + all_cloths_size cloths ≤ 65536
+
+pub record CloseRopes (limit : ℤ) (count : ℕ) (ropes : List RopeSpec) : Type 0 where
+  pub fit : list_all (rope_fits limit) ropes ≡ true
+  pub room : count + all_ropes_size ropes ≤ 65536
+
+at_most : (m n : ℕ) → nat_le m n ≡ true → m ≤ n
+at_most m n t = grind (arith, nat_tests)
+
+room_ok : (place : Place) (n : ℕ) (u : Unit {0}) → room_for place n ≡ Ok u → n ≤ 65536
+unfolding room_for
+room_ok place n u is = at_most n 65536 (expect_ok (nat_le n 65536) TooMany place keys.NoKey u is)
+
+fitting_cloth_ok : (limit : ℤ) (count : ℕ) (before : List ClothSpec) (place : Place) (spec s : ClothSpec) → fitting_cloth limit count before place spec ≡ Ok s → (cloth_fits limit s ≡ true) × (count + all_cloths_size before + cloth_size s ≤ 65536)
+unfolding fitting_cloth
+fitting_cloth_ok limit count before place spec s is =
+    through (expect (cloth_fits limit spec) OutOfRange place keys.NoKey) _ s is (λ u e1 is1.
+    through (room_for place (count + all_cloths_size before + cloth_size spec)) _ s is1 (λ v e2 is2.
+    rw (← same_ok spec s is2) (expect_ok (cloth_fits limit spec) OutOfRange place keys.NoKey u e1, room_ok place (count + all_cloths_size before + cloth_size spec) v e2)))
+
+fitting_rope_ok : (limit : ℤ) (count : ℕ) (before : List RopeSpec) (place : Place) (spec s : RopeSpec) → fitting_rope limit count before place spec ≡ Ok s → (rope_fits limit s ≡ true) × (count + all_ropes_size before + s.count ≤ 65536)
+unfolding fitting_rope
+fitting_rope_ok limit count before place spec s is =
+    through (expect (rope_fits limit spec) OutOfRange place keys.NoKey) _ s is (λ u e1 is1.
+    through (room_for place (count + all_ropes_size before + spec.count)) _ s is1 (λ v e2 is2.
+    rw (← same_ok spec s is2) (expect_ok (rope_fits limit spec) OutOfRange place keys.NoKey u e1, room_ok place (count + all_ropes_size before + spec.count) v e2)))
+
+cloth_ok : (limit : ℤ) (count : ℕ) (before : List ClothSpec) (d : Data) (s : ClothSpec) → cloth_of limit count before d ≡ Ok s → (cloth_fits limit s ≡ true) × (count + all_cloths_size before + cloth_size s ≤ 65536)
+unfolding cloth_of
+cloth_ok limit count before d s is =
+    let place = at tables.Cloth (length before) in
+    through (members place d) _ s is (λ ms e1 is1.
+    through (known place ms) _ s is1 (λ u e2 is2.
+    through (required_vector place keys.Origin limit ms) _ s is2 (λ x3 e3 is3.
+    through (required_vector place keys.Across limit ms) _ s is3 (λ x4 e4 is4.
+    through (required_vector place keys.Down limit ms) _ s is4 (λ x5 e5 is5.
+    through (required_count place keys.Rows 1 256 ms) _ s is5 (λ x6 e6 is6.
+    through (required_count place keys.Columns 1 256 ms) _ s is6 (λ x7 e7 is7.
+    through (count_or place keys.Weight 1 65535 1 ms) _ s is7 (λ x8 e8 is8.
+    through (count_or place keys.Stretch 0 256 256 ms) _ s is8 (λ x9 e9 is9.
+    through (count_or place keys.Shear 0 256 256 ms) _ s is9 (λ x10 e10 is10.
+    through (count_or place keys.Bend 0 256 64 ms) _ s is10 (λ x11 e11 is11.
+    through (integer_or place keys.StretchTear (pos 0) (pos 4 *ℤ limit) (pos 0) ms) _ s is11 (λ x12 e12 is12.
+    through (integer_or place keys.ShearTear (pos 0) (pos 4 *ℤ limit) (pos 0) ms) _ s is12 (λ x13 e13 is13.
+    through (integer_or place keys.BendTear (pos 0) (pos 4 *ℤ limit) (pos 0) ms) _ s is13 (λ x14 e14 is14.
+    fitting_cloth_ok limit count before place (record { origin = x3; across = x4; down = x5; rows = x6; columns = x7; weight = x8; stretch = x9; shear = x10; bend = x11; stretch_tear = x12; shear_tear = x13; bend_tear = x14 }) s is14))))))))))))))
+
+rope_ok : (limit : ℤ) (count : ℕ) (before : List RopeSpec) (d : Data) (s : RopeSpec) → rope_of limit count before d ≡ Ok s → (rope_fits limit s ≡ true) × (count + all_ropes_size before + s.count ≤ 65536)
+unfolding rope_of
+rope_ok limit count before d s is =
+    let place = at tables.Rope (length before) in
+    through (members place d) _ s is (λ ms e1 is1.
+    through (known place ms) _ s is1 (λ u e2 is2.
+    through (required_vector place keys.Origin limit ms) _ s is2 (λ x3 e3 is3.
+    through (required_vector place keys.Spacing limit ms) _ s is3 (λ x4 e4 is4.
+    through (required_count place keys.Count 1 4096 ms) _ s is4 (λ x5 e5 is5.
+    through (count_or place keys.Weight 1 65535 1 ms) _ s is5 (λ x6 e6 is6.
+    through (count_or place keys.Stretch 0 256 256 ms) _ s is6 (λ x7 e7 is7.
+    through (count_or place keys.Bend 0 256 64 ms) _ s is7 (λ x8 e8 is8.
+    through (integer_or place keys.StretchTear (pos 0) (pos 4 *ℤ limit) (pos 0) ms) _ s is8 (λ x9 e9 is9.
+    through (integer_or place keys.BendTear (pos 0) (pos 4 *ℤ limit) (pos 0) ms) _ s is9 (λ x10 e10 is10.
+    fitting_rope_ok limit count before place (record { origin = x3; spacing = x4; count = x5; weight = x6; stretch = x7; bend = x8; stretch_tear = x9; bend_tear = x10 }) s is10))))))))))
+
+pub cloths_keep : (limit : ℤ) (count : ℕ) (before : List ClothSpec) (d : Data) (s : ClothSpec) → CloseCloths limit count before → cloth_of limit count before d ≡ Ok s → CloseCloths limit count (before ++ s ∷ [])
+cloths_keep limit count before d s held is =
+    let t = cloth_ok limit count before d s is in
+    record {
+      fit = rw (list_all-append (cloth_fits limit) before (s ∷ []), held.fit, t.0) refl;
+      room = omega (arith, t.1, sum_by-append cloth_size before (s ∷ []), sum_by-cons cloth_size s []);
+    }
+
+pub ropes_keep : (limit : ℤ) (count : ℕ) (before : List RopeSpec) (d : Data) (s : RopeSpec) → CloseRopes limit count before → rope_of limit count before d ≡ Ok s → CloseRopes limit count (before ++ s ∷ [])
+ropes_keep limit count before d s held is =
+    let t = rope_ok limit count before d s is in
+    let size = λ (r : RopeSpec). r.count in
+    record {
+      fit = rw (list_all-append (rope_fits limit) before (s ∷ []), held.fit, t.0) refl;
+      room = omega (arith, t.1, sum_by-append size before (s ∷ []), sum_by-cons size s []);
+    }
+
+-- ---- links
+
+abbrev pub is_rest : ℤ → Option ℤ → Bool
+is_rest limit None = true
+is_rest limit (Some n) = between (pos 0) (pos 4 *ℤ limit) n
+
+-- rest, tear and stiffness are in their ranges
+abbrev pub is_link_entry : ℤ → LinkEntry → Bool
+is_link_entry limit l = is_rest limit l.rest && between (pos 0) (pos 4 *ℤ limit) l.tear && nat_le l.k 256
+
+rest_ok : (limit : ℤ) (place : Place) (ms : Members) (v : Option ℤ) → optional_integer place keys.Rest (pos 0) (pos 4 *ℤ limit) ms ≡ Ok v → is_rest limit v ≡ true
+rest_ok limit place ms None is = refl
+rest_ok limit place ms (Some n) is = optional_some place keys.Rest (pos 0) (pos 4 *ℤ limit) ms n is
+
+pub rest_or : (limit : ℤ) (rest : Option ℤ) (default : ℤ) → is_rest limit rest ≡ true → between (pos 0) (pos 4 *ℤ limit) default ≡ true → between (pos 0) (pos 4 *ℤ limit) (unwrap_or rest default) ≡ true
+rest_or limit None default h k = k
+rest_or limit (Some n) default h k = h
+
+-- 0 is a length
+zero_length : (limit : ℤ) → pos 0 ≤ℤ limit → between (pos 0) (pos 4 *ℤ limit) (pos 0) ≡ true
+zero_length limit low = grind (arith, ints, nat_tests)
+
+pub link_passes : (limit : ℤ) → pos 0 ≤ℤ limit → (before : List LinkEntry) (d : Data) (l : LinkEntry) → link_of limit before d ≡ Ok l → is_link_entry limit l ≡ true
+unfolding link_of
+link_passes limit low before d l is =
+    let place = at tables.Link (length before) in
+    through (members place d) _ l is (λ ms e1 is1.
+    through (known place ms) _ l is1 (λ u e2 is2.
+    through (required_any_integer place keys.A ms) _ l is2 (λ a e3 is3.
+    through (required_any_integer place keys.B ms) _ l is3 (λ b e4 is4.
+    through (optional_integer place keys.Rest (pos 0) (pos 4 *ℤ limit) ms) _ l is4 (λ rest e5 is5.
+    through (count_or place keys.Stiffness 0 256 256 ms) _ l is5 (λ k e6 is6.
+    through (integer_or place keys.Tear (pos 0) (pos 4 *ℤ limit) (pos 0) ms) _ l is6 (λ tear e7 is7.
+    let all : LinkEntry = record { a = a; b = b; rest = rest; k = k; tear = tear } in
+    let stiff = count_or_ok place keys.Stiffness 0 256 256 ms k (omega arith) (omega arith) e6 in
+    rw (← same_ok all l is7) (rw (rest_ok limit place ms rest e5, integer_or_ok place keys.Tear (pos 0) (pos 4 *ℤ limit) (pos 0) ms tear (zero_length limit low) e7, le_test k 256 stiff.1) refl))))))))
+
+-- ---- shapes
+
+pub plane_passes : (before : List Plane) (d : Data) (p : Plane) → plane_of before d ≡ Ok p → is_valid_plane p ≡ true
+unfolding plane_of
+plane_passes before d p is =
+    let place = at tables.Plane (length before) in
+    through (members place d) _ p is (λ ms e1 is1.
+    through (known place ms) _ p is1 (λ u e2 is2.
+    through (required_vector place keys.Normal (pos 1024) ms) _ p is2 (λ normal e3 is3.
+    through (required_integer place keys.Offset (negsuc 1099511627775) (pos 1099511627776) ms) _ p is3 (λ offset e4 is4.
+    let all : Plane = record { normal = normal; offset = offset } in
+    let t = tested (nat_lt 0 (squared_length normal)) OutOfRange place keys.Normal all p is4 in
+    let far : is_axis_within (pos (2 ^ 40)) offset ≡ true = required_integer_ok place keys.Offset (negsuc 1099511627775) (pos 1099511627776) ms offset e4 in
+    rw (← t.1) (and_from _ _ (and_from _ _ (required_vector_ok place keys.Normal (pos 1024) ms normal e3) t.0) far)))))
+
+reach_parts : (limit : ℤ) (centre : Vec3) (radius : ℤ) → reaches_within limit centre radius ≡ true → (is_within limit (on_by radius centre) ≡ true) × (is_within limit (back_by radius centre) ≡ true)
+unfolding reaches_within
+reach_parts limit centre radius t = and_parts (is_within limit (on_by radius centre)) (is_within limit (back_by radius centre)) t
+
+sphere_tests : (limit : ℤ) (centre : Vec3) (radius : ℤ) → int_le (pos 1) radius ≡ true → is_within limit (on_by radius centre) ≡ true → is_within limit (back_by radius centre) ≡ true → is_valid_sphere limit (record { centre = centre; radius = radius }) ≡ true
+unfolding on_by back_by
+sphere_tests limit centre radius one up down = and_from _ _ (and_from _ _ one up) down
+
+at_least_one : (limit radius : ℤ) → between (pos 1) limit radius ≡ true → int_le (pos 1) radius ≡ true
+at_least_one limit radius t = (and_parts (int_le (pos 1) radius) (int_le radius limit) t).0
+
+pub sphere_passes : (limit : ℤ) (before : List Sphere) (d : Data) (s : Sphere) → sphere_of limit before d ≡ Ok s → is_valid_sphere limit s ≡ true
+unfolding sphere_of
+sphere_passes limit before d s is =
+    let place = at tables.Sphere (length before) in
+    through (members place d) _ s is (λ ms e1 is1.
+    through (known place ms) _ s is1 (λ u e2 is2.
+    through (required_vector place keys.Centre limit ms) _ s is2 (λ centre e3 is3.
+    through (required_integer place keys.Radius (pos 1) limit ms) _ s is3 (λ radius e4 is4.
+    let all : Sphere = record { centre = centre; radius = radius } in
+    let t = tested (reaches_within limit centre radius) OutOfRange place keys.Radius all s is4 in
+    let reach = reach_parts limit centre radius t.0 in
+    rw (← t.1) (sphere_tests limit centre radius (at_least_one limit radius (required_integer_ok place keys.Radius (pos 1) limit ms radius e4)) reach.0 reach.1)))))
+
+-- ---- tracks
+
+-- a step and a place in their ranges
+abbrev is_key : ℤ → Key → Bool
+is_key limit key = nat_le key.step 1000000 && is_within limit key.place
+
+step_ok : (place : Place) (n : ℤ) (step : ℕ) → step_number place n ≡ Ok step → nat_le step 1000000 ≡ true
+unfolding step_number
+step_ok place n step is = let t = tested (int_le (pos 0) n && int_le n (pos 1000000)) OutOfRange place keys.Keys (unsigned_abs n) step is in rw (← t.1) (small n t.0)
+  where
+    small : (n : ℤ) → (int_le (pos 0) n && int_le n (pos 1000000)) ≡ true → nat_le (unsigned_abs n) 1000000 ≡ true
+    small (pos n) t = grind (arith, ints, nat_tests)
+    small (negsuc n) t = absurd (grind (arith, ints, nat_tests))
+
+key_passes : (place : Place) (limit : ℤ) (before : List Key) (d : Data) (k : Key) → key_of place limit before d ≡ Ok k → is_key limit k ≡ true
+unfolding key_of
+key_passes place limit before d k is =
+    through (row place keys.Keys d) _ k is (λ r e1 is1.
+    through (step_number place r.step) _ k is1 (λ step e2 is2.
+    let all : Key = record { step = step; place = r.place } in
+    let t = tested (is_within limit r.place) OutOfRange place keys.Keys all k is2 in
+    rw (← t.1) (and_from _ _ (step_ok place r.step step e2) t.0)))
+
+-- steps that rise from one to the next rise from each to all later ones
+rising_keys : (limit : ℤ) (low : ℕ) (path : List Key) → list_all (is_key limit) path ≡ true → (0 < length path → low ≤ step_of path 0) → ((i : ℕ) → suc i < length path → step_of path i < step_of path (suc i)) → rising limit low path ≡ true
+rising_keys limit low [] pass first next = refl
+rising_keys limit low (k ∷ ks) pass first next =
+    let parts = and_parts (is_key limit k) (list_all (is_key limit) ks) pass in
+    let here = and_parts (nat_le k.step 1000000) (is_within limit k.place) parts.0 in
+    let low_here : low ≤ k.step = first (omega arith) in
+    and_from _ _ (and_from _ _ (and_from _ _ (le_test low k.step low_here) here.0) here.1)
+    (rising_keys limit (k.step + 1) ks parts.1 (λ some. let h : k.step < step_of ks 0 = next 0 (omega (arith, some)) in omega arith) (λ i within. next (suc i) (omega (arith, within))))
+
+rises_at : (path : List Key) → steps_rise path ≡ true → (i : ℕ) → suc i < length path → step_of path i < step_of path (suc i)
+unfolding steps_rise
+rises_at path t i within =
+    let h = below (length path - 1) (λ i. nat_lt (step_of path i) (step_of path (i + 1))) i t (omega (arith, within)) in
+    let e : i + 1 ≡ suc i = omega arith in
+    less (step_of path i) (step_of path (suc i)) (rw e at h)
+  where
+    less : (m n : ℕ) → nat_lt m n ≡ true → m < n
+    less m n t = grind (arith, nat_tests)
+
+-- the keys of a track: some, few, and valid
+abbrev pub has_keys : ℤ → List Key → Bool
+has_keys limit path = nat_le 1 (length path) && nat_le (length path) 1024 && are_valid_keys limit path
+
+some_keys : (m : ℕ) → nat_lt 0 m ≡ true → nat_le 1 m ≡ true
+some_keys m t = grind (arith, nat_tests)
+
+pub track_passes : (limit : ℤ) (before : List TrackEntry) (d : Data) (t : TrackEntry) → track_of limit before d ≡ Ok t → has_keys limit t.keys ≡ true
+unfolding track_of
+track_passes limit before d t is =
+    let place = at tables.Track (length before) in
+    through (members place d) _ t is (λ ms e1 is1.
+    through (known place ms) _ t is1 (λ u e2 is2.
+    through (required_any_integer place keys.Particle ms) _ t is2 (λ particle e3 is3.
+    through (required_array place keys.Keys ms) _ t is3 (λ ds e4 is4.
+    through (each (row_of place) [] ds) _ t is4 (λ rows e5 is5.
+    through (expect (nat_le (length ds) 1024) TooMany place keys.Keys) _ t is5 (λ v e6 is6.
+    through (each (key_of place limit) [] ds) _ t is6 (λ path e7 is7.
+    let all : TrackEntry = record { particle = particle; keys = path } in
+    let last = tested (nat_lt 0 (length path) && steps_rise path) BadTrack place keys.Keys all t is7 in
+    let ends = and_parts (nat_lt 0 (length path)) (steps_rise path) last.0 in
+    let pass = each_pass (key_of place limit) (is_key limit) (λ front d k e. key_passes place limit front d k e) ds path e7 in
+    let few = at_most (length ds) 1024 (expect_ok (nat_le (length ds) 1024) TooMany place keys.Keys v e6) in
+    let number = each_count (key_of place limit) [] ds path e7 in
+    rw (← last.1) (and_from _ _ (and_from _ _ (some_keys (length path) ends.0) (le_test (length path) 1024 (omega (arith, few, number))))
+    (rising_begins limit path ∙ rising_keys limit 0 path pass (λ some. omega arith) (rises_at path ends.1))))))))))

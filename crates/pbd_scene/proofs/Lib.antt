@@ -1,0 +1,12 @@
+pub mod Accepted
+pub mod Bounds
+pub mod Entering
+pub mod Graphs
+pub mod Flagged
+pub mod Joinings
+pub mod Meshing
+pub mod Parted
+pub mod Reading
+pub mod Sums
+pub mod Validity
+pub mod Views

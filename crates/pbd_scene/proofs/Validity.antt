@@ -1,0 +1,354 @@
+-- The parts of a tree that breaks no rule are valid.
+use Rattle.std.proofs.Common.{◌≡◌, ◌∙◌, ap, sym, refl, ℕ, zero, suc, ◌+◌, ◌*◌, ◌≤◌, ◌<◌, List, [], ◌∷◌, ◌++◌, length, Bool, true, false, not, ◌&&◌, ◌||◌, ◌==◌, Ok, map, arith, inl, inr, pos, ℤ, ◌≤ℤ◌, get_or, unsigned_abs, ◌^◌, subst, append_assoc}
+use Rattle.std.specs.Prelude.{nat_le, nat_lt, IsTrue, ◌*ℤ◌, fold, if◌then◌else◌}
+use Rattle.std.specs.List.{list_all, list_any, sum_by, range_with_len}
+use Rattle.std.proofs.lemmas.Bool.{and_parts, and_from, not-true, or_left, or_right, cases_eq, cases_Bool, eq-eqb, eqb-true}
+use Rattle.std.proofs.lemmas.Bool.Decides.{nat_tests}
+use Rattle.std.proofs.lemmas.List.{length-append}
+use Rattle.std.proofs.lemmas.List.Folds.{list_all-append, list_any-append}
+use Rattle.std.proofs.lemmas.List.Sums.{sum_by-cons}
+use Rattle.toml.specs.Data.{Members}
+use Rattle.pbd_num.specs.Vectors.{is_within, zero_vector}
+use Rattle.pbd_num.proofs.Ranges.{within_facts}
+use Rattle.pbd_mesh.specs.declared.spec.ClothSpec.{ClothSpec}
+use Rattle.pbd_mesh.specs.declared.spec.RopeSpec.{RopeSpec}
+use Rattle.pbd_mesh.specs.Cloth.{cloth_fits, cloth_particles, cloth_links}
+use Rattle.pbd_mesh.specs.Rope.{rope_fits, rope_particles, rope_links}
+use Rattle.pbd_mesh.specs.Meshes.{is_free_and_valid, IsMesh}
+use Rattle.pbd_mesh.proofs.Every.{Every, every_more, every_test, every_from_test, once_both, once_one, apart_one}
+use Rattle.pbd_mesh.proofs.Facts.{limit_bounds}
+use Rattle.pbd_mesh.proofs.Meshes.{cloth_mesh, cloth_size, rope_mesh, rope_size}
+use Rattle.pbd_world.specs.declared.parts.Particle.{Particle}
+use Rattle.pbd_world.specs.declared.parts.Link.{Link}
+use Rattle.pbd_world.specs.declared.parts.Track.{Track}
+use Rattle.pbd_world.specs.declared.parts.Parts.{Parts}
+use Rattle.pbd_world.specs.Particles.{particle_at}
+use Rattle.pbd_world.specs.Neighbours.{is_among}
+use Rattle.pbd_world.specs.Valid.{is_limit, is_between, is_valid, is_well_formed, is_valid_particle, is_at_rest, is_valid_link, is_valid_plane, is_valid_sphere, is_valid_track, are_valid_keys, are_valid_particles, are_valid_links, are_valid_planes, are_valid_spheres, are_valid_tracks, are_tracked_held, are_valid_numbers, none_twice, join_alike, links_at}
+use Rattle.pbd_world.proofs.TwiceLemmas.{range_all}
+use Rattle.pbd_scene.specs.declared.raw.LinkEntry.{LinkEntry}
+use Rattle.pbd_scene.specs.declared.raw.TrackEntry.{TrackEntry}
+use Rattle.pbd_scene.specs.declared.raw.Settings.{Settings}
+use Rattle.pbd_scene.specs.declared.raw.Tables.{Tables}
+use Rattle.pbd_scene.specs.declared.fault.SceneRule.TheVariants.{BadTrack}
+use Rattle.pbd_scene.specs.declared.fault.KeyName.TheVariants as keys
+use Rattle.pbd_scene.specs.declared.fault.TableName.TheVariants as tables
+use Rattle.pbd_scene.specs.Checks.{Checked, ◌>>=◌, each}
+use Rattle.pbd_scene.specs.Keys.{known}
+use Rattle.pbd_scene.specs.Values.{at, vector_or, count_or, integer_or}
+use Rattle.pbd_scene.specs.Entries.{cloth_of, rope_of, particle_of, link_of, plane_of, sphere_of, track_of, cloth_size as size_of_cloth, all_cloths_size, all_ropes_size}
+use Rattle.pbd_scene.specs.Joining.{particle_number, all_links, pinned, placed_track, held_still, holding}
+use Rattle.pbd_scene.specs.Scene.{at_scene, pins_of, settings_of, particles_of, cloths_of, ropes_of, links_of, planes_of, spheres_of, tracks_of, tables_of, with_cloth, with_rope, plain_parts, with_meshes, named, joined_parts, scene_of}
+use Rattle.pbd_scene.proofs.Accepted.{through, same_ok, tested, integer_or_ok, count_or_ok, vector_or_ok, each_keeps, each_keeps_where, table_pass, table_keeps, each_count}
+use Rattle.pbd_scene.proofs.Entering.{at_rest, is_entry_particle, particle_passes, CloseCloths, CloseRopes, cloths_keep, ropes_keep, is_link_entry, link_passes, plane_passes, sphere_passes, has_keys, track_passes}
+use Rattle.pbd_scene.proofs.Graphs.{is_live_link, IsGraph, graph_none, graph_mesh, JoinedLinks, links_joined, number_ok}
+
+-- ---- the tables
+
+pub record TablesFit (limit : ℤ) (t : Tables) : Type 0 where
+  pub particles : list_all (is_entry_particle limit) t.particles ≡ true
+  pub cloths : CloseCloths limit (length t.particles) t.cloths
+  pub ropes : CloseRopes limit (length t.particles + all_cloths_size t.cloths) t.ropes
+  pub links : list_all (is_link_entry limit) t.links ≡ true
+  pub few_links : length t.links ≤ 524288
+  pub planes : list_all is_valid_plane t.planes ≡ true
+  pub few_planes : length t.planes ≤ 256
+  pub spheres : list_all (is_valid_sphere limit) t.spheres ≡ true
+  pub few_spheres : length t.spheres ≤ 256
+  pub tracks : list_all {X = TrackEntry} (λ t. has_keys limit t.keys) t.tracks ≡ true
+  pub few_tracks : length t.tracks ≤ 4096
+
+pub tables_fit : (limit : ℤ) (ms : Members) (t : Tables) → pos 0 ≤ℤ limit → tables_of limit ms ≡ Ok t → TablesFit limit t
+unfolding tables_of particles_of cloths_of ropes_of links_of planes_of spheres_of tracks_of
+tables_fit limit ms t low is =
+    through (particles_of limit ms) _ t is (λ particles e1 is1.
+    through (cloths_of limit (length particles) ms) _ t is1 (λ cloths e2 is2.
+    through (ropes_of limit (length particles + all_cloths_size cloths) ms) _ t is2 (λ ropes e3 is3.
+    through (links_of limit ms) _ t is3 (λ links e4 is4.
+    through (planes_of ms) _ t is4 (λ planes e5 is5.
+    through (spheres_of limit ms) _ t is5 (λ spheres e6 is6.
+    through (tracks_of limit ms) _ t is6 (λ tracks e7 is7.
+    let all : Tables = record { particles = particles; cloths = cloths; ropes = ropes; links = links; planes = planes; spheres = spheres; tracks = tracks } in
+    let p = table_pass tables.Particle 65536 (particle_of limit) (is_entry_particle limit) (λ front d y e. particle_passes limit front d y e) ms particles e1 in
+    let no_cloths : CloseCloths limit (length particles) [] = record { fit = refl; room = omega (arith, p.1) } in
+    let c = table_keeps tables.Cloth 64 (cloth_of limit (length particles)) (CloseCloths limit (length particles)) (λ front d y held e. cloths_keep limit (length particles) front d y held e) no_cloths ms cloths e2 in
+    let no_ropes : CloseRopes limit (length particles + all_cloths_size cloths) [] = record { fit = refl; room = omega (arith, c.room) } in
+    let r = table_keeps tables.Rope 64 (rope_of limit (length particles + all_cloths_size cloths)) (CloseRopes limit (length particles + all_cloths_size cloths)) (λ front d y held e. ropes_keep limit (length particles + all_cloths_size cloths) front d y held e) no_ropes ms ropes e3 in
+    let l = table_pass tables.Link 524288 (link_of limit) (is_link_entry limit) (λ front d y e. link_passes limit low front d y e) ms links e4 in
+    let q = table_pass tables.Plane 256 plane_of is_valid_plane (λ front d y e. plane_passes front d y e) ms planes e5 in
+    let s = table_pass tables.Sphere 256 (sphere_of limit) (is_valid_sphere limit) (λ front d y e. sphere_passes limit front d y e) ms spheres e6 in
+    let k = table_pass tables.Track 4096 (track_of limit) (λ t. has_keys limit t.keys) (λ front d y e. track_passes limit front d y e) ms tracks e7 in
+    let fit : TablesFit limit all = record { particles = p.0; cloths = c; ropes = r; links = l.0; few_links = l.1; planes = q.0; few_planes = q.1; spheres = s.0; few_spheres = s.1; tracks = k.0; few_tracks = k.1 } in
+    rw (← same_ok all t is7) fit)))))))
+
+less : (m n : ℕ) → nat_lt m n ≡ true → m < n
+less m n t = grind (arith, nat_tests)
+
+-- ---- the scene's own keys
+
+pub record SettingsFit (limit : ℤ) (s : Settings) : Type 0 where
+  pub gravity : is_within limit s.gravity ≡ true
+  pub passes : nat_le s.passes 64 ≡ true
+  pub damping : is_between (pos 0) (pos 1024) s.damping ≡ true
+  pub thickness : is_between (pos 0) (pos 1048576) s.thickness ≡ true
+  pub friction : is_between (pos 0) (pos 256) s.friction ≡ true
+
+le_test : (m n : ℕ) → m ≤ n → nat_le m n ≡ true
+le_test m n h = grind (arith, nat_tests)
+
+lt_test : (m n : ℕ) → m < n → nat_lt m n ≡ true
+lt_test m n h = grind (arith, nat_tests)
+
+zero_within : (limit : ℤ) → IsTrue (is_limit limit) → is_within limit zero_vector ≡ true
+zero_within limit is = (within_facts limit zero_vector (limit_bounds limit is).0).1 (record { x = omega arith; y = omega arith; z = omega arith })
+
+pub settings_fit : (limit : ℤ) (ms : Members) (s : Settings) → IsTrue (is_limit limit) → settings_of limit ms ≡ Ok s → SettingsFit limit s
+unfolding settings_of
+settings_fit limit ms s lim is =
+    through (known at_scene ms) _ s is (λ u e1 is1.
+    through (vector_or at_scene keys.Gravity limit zero_vector ms) _ s is1 (λ gravity e2 is2.
+    through (count_or at_scene keys.Passes 0 64 1 ms) _ s is2 (λ passes e3 is3.
+    through (integer_or at_scene keys.Damping (pos 0) (pos 1024) (pos 0) ms) _ s is3 (λ damping e4 is4.
+    through (integer_or at_scene keys.Thickness (pos 0) (pos 1048576) (pos 0) ms) _ s is4 (λ thickness e5 is5.
+    through (integer_or at_scene keys.Friction (pos 0) (pos 256) (pos 0) ms) _ s is5 (λ friction e6 is6.
+    through (pins_of ms) _ s is6 (λ pins e7 is7.
+    let all : Settings = record { gravity = gravity; passes = passes; damping = damping; thickness = thickness; friction = friction; pins = pins } in
+    let n = count_or_ok at_scene keys.Passes 0 64 1 ms passes (omega arith) (omega arith) e3 in
+    let fit : SettingsFit limit all = record {
+      gravity = vector_or_ok at_scene keys.Gravity limit zero_vector ms gravity (zero_within limit lim) e2;
+      passes = le_test passes 64 n.1;
+      damping = integer_or_ok at_scene keys.Damping (pos 0) (pos 1024) (pos 0) ms damping refl e4;
+      thickness = integer_or_ok at_scene keys.Thickness (pos 0) (pos 1048576) (pos 0) ms thickness refl e5;
+      friction = integer_or_ok at_scene keys.Friction (pos 0) (pos 256) (pos 0) ms friction refl e6;
+    } in
+    rw (← same_ok all s is7) fit)))))))
+
+-- ---- the meshes
+
+pub record Meshed (limit : ℤ) (start parts : Parts) : Type 0 where
+  pub others : parts ≡ record start { particles = parts.particles; links = parts.links }
+  pub particles : list_all (is_entry_particle limit) parts.particles ≡ true
+  pub few : length parts.particles ≤ 65536
+  pub graph : IsGraph limit (length parts.particles) parts.links
+  pub size : length parts.links ≤ 6 * length parts.particles
+
+free_passes : (limit : ℤ) (p : Particle) → is_free_and_valid limit p ≡ true → is_entry_particle limit p ≡ true
+free_passes limit p t =
+    let h = and_parts (not p.held) (is_valid_particle limit p) t in
+    and_from _ _ h.1 (or_left (not p.held) (is_at_rest p) h.0)
+
+meshed_next : (limit : ℤ) (start parts : Parts) (ps : List Particle) (ls : List Link) → Meshed limit start parts → IsMesh limit (length parts.particles) ps ls → length parts.particles + length ps ≤ 65536 → Meshed limit start (record parts { particles = parts.particles ++ ps; links = parts.links ++ ls })
+meshed_next limit start parts ps ls m mesh room = record {
+  others = ap (λ (q : Parts). record q { particles = parts.particles ++ ps; links = parts.links ++ ls }) m.others;
+  particles = list_all-append (is_entry_particle limit) parts.particles ps ∙ and_from _ _ m.particles (every_test (is_entry_particle limit) ps (every_more (λ p. IsTrue (is_free_and_valid limit p)) (λ p. IsTrue (is_entry_particle limit p)) ps (λ p t. free_passes limit p t) (every_from_test (is_free_and_valid limit) ps mesh.particles)));
+  few = omega (arith, room, length-append parts.particles ps);
+  graph = rw (length-append parts.particles ps) (graph_mesh limit (length parts.particles) parts.links ls ps m.graph mesh);
+  size = omega (arith, m.size, mesh.size, length-append parts.particles ps, length-append parts.links ls);
+}
+
+pub cloths_meshed : (limit : ℤ) (start parts : Parts) (cloths : List ClothSpec) → IsTrue (is_limit limit) → Meshed limit start parts → list_all (cloth_fits limit) cloths ≡ true → length parts.particles + all_cloths_size cloths ≤ 65536 → Meshed limit start (fold with_cloth parts cloths) × (length (fold with_cloth parts cloths).particles ≡ length parts.particles + all_cloths_size cloths)
+cloths_meshed limit start parts [] lim m fit room = (m, omega arith)
+cloths_meshed limit start parts (s ∷ ss) lim m fit room =
+    let fits = and_parts (cloth_fits limit s) (list_all (cloth_fits limit) ss) fit in
+    let sum = sum_by-cons size_of_cloth s ss in
+    let size = cloth_size s in
+    let next = meshed_next limit start parts (cloth_particles s) (cloth_links s (length parts.particles)) m (cloth_mesh limit (length parts.particles) s lim fits.0) (omega (arith, room, sum, size)) in
+    let grown = length-append parts.particles (cloth_particles s) in
+    let rest = cloths_meshed limit start (with_cloth parts s) ss lim next fits.1 (omega (arith, room, sum, size, grown)) in
+    (rest.0, omega (arith, rest.1, sum, size, grown))
+
+pub ropes_meshed : (limit : ℤ) (start parts : Parts) (ropes : List RopeSpec) → IsTrue (is_limit limit) → Meshed limit start parts → list_all (rope_fits limit) ropes ≡ true → length parts.particles + all_ropes_size ropes ≤ 65536 → Meshed limit start (fold with_rope parts ropes)
+ropes_meshed limit start parts [] lim m fit room = m
+ropes_meshed limit start parts (s ∷ ss) lim m fit room =
+    let fits = and_parts (rope_fits limit s) (list_all (rope_fits limit) ss) fit in
+    let sum = sum_by-cons (λ (r : RopeSpec). r.count) s ss in
+    let size = rope_size s in
+    let next = meshed_next limit start parts (rope_particles s) (rope_links s (length parts.particles)) m (rope_mesh limit (length parts.particles) s lim fits.0) (omega (arith, room, sum, size)) in
+    let grown = length-append parts.particles (rope_particles s) in
+    ropes_meshed limit start (with_rope parts s) ss lim next fits.1 (omega (arith, room, sum, size, grown))
+
+plain_meshed : (limit : ℤ) (s : Settings) (t : Tables) → TablesFit limit t → Meshed limit (plain_parts limit s t) (plain_parts limit s t)
+plain_meshed limit s t fit = record {
+  others = refl;
+  particles = fit.particles;
+  few = omega (arith, fit.cloths.room);
+  graph = graph_none limit (length t.particles);
+  size = omega arith;
+}
+
+pub meshes_fit : (limit : ℤ) (s : Settings) (t : Tables) → IsTrue (is_limit limit) → TablesFit limit t → Meshed limit (plain_parts limit s t) (with_meshes limit s t)
+unfolding with_meshes
+meshes_fit limit s t lim fit =
+    let start = plain_parts limit s t in
+    let c = cloths_meshed limit start start t.cloths lim (plain_meshed limit s t fit) fit.cloths.fit fit.cloths.room in
+    ropes_meshed limit start (fold with_cloth start t.cloths) t.ropes lim c.0 fit.ropes.fit (omega (arith, c.1, fit.ropes.room))
+
+-- ---- pins and tracks
+
+-- the particles that stay are valid, and as many as before
+still_passes : (limit : ℤ) (named : Bool) (p : Particle) → is_entry_particle limit p ≡ true → is_entry_particle limit (if named then held_still p else p) ≡ true
+still_passes limit true p t =
+    let valid = (and_parts (is_valid_particle limit p) (not p.held || is_at_rest p) t).0 in
+    let p2 = and_parts (is_within limit p.at && is_within limit p.before && nat_le 1 p.weight) (nat_le p.weight 65535) valid in
+    let p1 = and_parts (is_within limit p.at && is_within limit p.before) (nat_le 1 p.weight) p2.0 in
+    let p0 = and_parts (is_within limit p.at) (is_within limit p.before) p1.0 in
+    and_from _ _ (and_from _ _ (and_from _ _ (and_from _ _ p0.0 p0.0) p1.1) p2.1) (or_right (not true) (is_at_rest (held_still p)) (at_rest p.at))
+still_passes limit false p t = t
+
+holding_passes : (limit : ℤ) (names : List ℕ) (i : ℕ) (ps : List Particle) → list_all (is_entry_particle limit) ps ≡ true → list_all (is_entry_particle limit) (holding names i ps) ≡ true
+unfolding holding
+holding_passes limit names i [] t = refl
+holding_passes limit names i (p ∷ ps) t =
+    let h = and_parts (is_entry_particle limit p) (list_all (is_entry_particle limit) ps) t in
+    and_from _ _ (still_passes limit (is_among i names) p h.0) (holding_passes limit names (i + 1) ps h.1)
+
+holding_length : (names : List ℕ) (i : ℕ) (ps : List Particle) → length (holding names i ps) ≡ length ps
+unfolding holding
+holding_length names i [] = refl
+holding_length names i (p ∷ ps) = ap suc (holding_length names (i + 1) ps)
+
+-- a particle that is named is held
+named_held : (names : List ℕ) (i k : ℕ) (ps : List Particle) (d : Particle) → k < length ps → is_among (i + k) names ≡ true → (get_or (holding names i ps) k d).held ≡ true
+unfolding holding
+named_held names i k [] d within t = absurd (omega (arith, within))
+named_held names i zero (p ∷ ps) d within t = let e : i + 0 ≡ i = omega arith in let u : is_among i names ≡ true = rw e at t in rw u refl
+named_held names i (suc k) (p ∷ ps) d within t = let e : i + suc k ≡ i + 1 + k = omega arith in named_held names (i + 1) k ps d (omega (arith, within)) (rw e at t)
+
+pub record TracksFit (limit : ℤ) (n : ℕ) (tracks : List Track) : Type 0 where
+  pub valid : list_all (is_valid_track limit n) tracks ≡ true
+  pub once : none_twice {A = Track} (λ t u. t.particle == u.particle) tracks ≡ true
+
+tracks_next : (limit : ℤ) (n : ℕ) (before : List Track) (entry : TrackEntry) (t : Track) → has_keys limit entry.keys ≡ true → TracksFit limit n before → placed_track n before entry ≡ Ok t → TracksFit limit n (before ++ t ∷ [])
+unfolding placed_track
+tracks_next limit n before entry t pass held is =
+    let place = at tables.Track (length before) in
+    through (particle_number n place keys.Particle entry.particle) _ t is (λ i e1 is1.
+    let made : Track = record { particle = i; keys = entry.keys } in
+    let last = tested (not (list_any (λ u. u.particle == i) before)) BadTrack place keys.Particle made t is1 in
+    let among = number_ok n place keys.Particle entry.particle i e1 in
+    let free : list_any {X = Track} (λ u. u.particle == i) before ≡ false = not-true (list_any (λ u. u.particle == i) before) last.0 in
+    let p2 = and_parts (nat_le 1 (length entry.keys) && nat_le (length entry.keys) 1024) (are_valid_keys limit entry.keys) pass in
+    let p1 = and_parts (nat_le 1 (length entry.keys)) (nat_le (length entry.keys) 1024) p2.0 in
+    let valid : is_valid_track limit n made ≡ true = and_from _ _ (and_from _ _ (and_from _ _ (lt_test i n among) p1.0) p1.1) p2.1 in
+    let next : TracksFit limit n (before ++ made ∷ []) = record {
+      valid = rw (list_all-append (is_valid_track limit n) before (made ∷ []), held.valid, valid) refl;
+      once = once_both {A = Track} (λ t u. t.particle == u.particle) before (made ∷ []) held.once (once_one {A = Track} (λ t u. t.particle == u.particle) made) (apart_one {A = Track} (λ t u. t.particle == u.particle) before made free);
+    } in
+    rw (← last.1) next)
+
+pub tracks_fit : (limit : ℤ) (n : ℕ) (entries : List TrackEntry) (tracks : List Track) → list_all {X = TrackEntry} (λ t. has_keys limit t.keys) entries ≡ true → each (placed_track n) [] entries ≡ Ok tracks → TracksFit limit n tracks
+tracks_fit limit n entries tracks pass is = each_keeps_where (placed_track n) (λ (t : TrackEntry). has_keys limit t.keys) (TracksFit limit n) (λ front x y ok held e. tracks_next limit n front x y ok held e) [] entries tracks pass (record { valid = refl; once = refl }) is
+
+-- ---- what is held
+
+-- the names of the tracks are among those that are named
+among_own : (front : List ℕ) (ts : List Track) → list_all {X = Track} (λ t. is_among t.particle (front ++ map {A = Track} {B = ℕ} (λ t. t.particle) ts)) ts ≡ true
+among_own front [] = refl
+among_own front (t ∷ ts) =
+    let own : is_among t.particle (t.particle ∷ map {A = Track} {B = ℕ} (λ t. t.particle) ts) ≡ true = or_left (t.particle == t.particle) _ (eq-eqb t.particle t.particle refl) in
+    let here : is_among t.particle (front ++ t.particle ∷ map {A = Track} {B = ℕ} (λ t. t.particle) ts) ≡ true = list_any-append (λ m. m == t.particle) front (t.particle ∷ map {A = Track} {B = ℕ} (λ t. t.particle) ts) ∙ or_right (is_among t.particle front) _ own in
+    let rest = rw append_assoc at (among_own (front ++ t.particle ∷ []) ts) in
+    and_from _ _ here rest
+
+tracked_held : (limit : ℤ) (names : List ℕ) (ps : List Particle) (ts : List Track) → list_all (is_valid_track limit (length ps)) ts ≡ true → list_all {X = Track} (λ t. is_among t.particle names) ts ≡ true → are_tracked_held ts (holding names 0 ps) ≡ true
+tracked_held limit names ps [] valid among = refl
+tracked_held limit names ps (t ∷ ts) valid among =
+    let v = and_parts (is_valid_track limit (length ps) t) (list_all (is_valid_track limit (length ps)) ts) valid in
+    let a = and_parts (is_among t.particle names) (list_all {X = Track} (λ t. is_among t.particle names) ts) among in
+    let p2 = and_parts (nat_lt t.particle (length ps) && nat_le 1 (length t.keys) && nat_le (length t.keys) 1024) (are_valid_keys limit t.keys) v.0 in
+    let p1 = and_parts (nat_lt t.particle (length ps) && nat_le 1 (length t.keys)) (nat_le (length t.keys) 1024) p2.0 in
+    let p0 = and_parts (nat_lt t.particle (length ps)) (nat_le 1 (length t.keys)) p1.0 in
+    let e : 0 + t.particle ≡ t.particle = omega arith in
+    let named_here : is_among (0 + t.particle) names ≡ true = rw e a.0 in
+    and_from _ _ (named_held names 0 t.particle ps _ (less t.particle (length ps) p0.0) named_here) (tracked_held limit names ps ts v.1 a.1)
+
+-- ---- all together
+
+split_all : {A : Type 0} (f g : A → Bool) (xs : List A) → list_all (λ x. f x && g x) xs ≡ true → (list_all f xs ≡ true) × (list_all g xs ≡ true)
+split_all f g [] t = (refl, refl)
+split_all f g (x ∷ xs) t =
+    let h = and_parts (f x && g x) (list_all (λ x. f x && g x) xs) t in
+    let p = and_parts (f x) (g x) h.0 in
+    let r = split_all f g xs h.1 in
+    (and_from _ _ p.0 r.0, and_from _ _ p.1 r.1)
+
+-- what is asked of parts
+record Asked (parts : Parts) : Type 0 where
+  pub limit : IsTrue (is_limit parts.limit)
+  pub particles : are_valid_particles parts.limit parts.particles ≡ true
+  pub links : are_valid_links parts.limit (length parts.particles) parts.links ≡ true
+  pub planes : are_valid_planes parts.planes ≡ true
+  pub spheres : are_valid_spheres parts.limit parts.spheres ≡ true
+  pub tracks : are_valid_tracks parts.limit (length parts.particles) parts.tracks ≡ true
+  pub gravity : is_within parts.limit parts.gravity ≡ true
+  pub numbers : are_valid_numbers parts ≡ true
+  pub live : list_all {X = Link} (λ l. l.live) parts.links ≡ true
+  pub rest : list_all {X = Particle} (λ p. not p.held || is_at_rest p) parts.particles ≡ true
+  pub held : are_tracked_held parts.tracks parts.particles ≡ true
+
+all_asked : (parts : Parts) → Asked parts → is_valid parts ≡ true
+unfolding is_valid is_well_formed
+all_asked parts a = and_from _ _ (and_from _ _ (and_from _ _ (and_from _ _ (and_from _ _ (and_from _ _ (and_from _ _ (and_from _ _ (and_from _ _ (and_from _ _ a.limit a.particles) a.links) a.planes) a.spheres) a.tracks) a.gravity) a.numbers) a.live) a.rest) a.held
+
+particles_asked : (limit : ℤ) (ps : List Particle) → list_all (is_entry_particle limit) ps ≡ true → length ps ≤ 65536 → (are_valid_particles limit ps ≡ true) × (list_all {X = Particle} (λ p. not p.held || is_at_rest p) ps ≡ true)
+particles_asked limit ps t few =
+    let s = split_all (is_valid_particle limit) (λ p. not p.held || is_at_rest p) ps t in
+    (and_from _ _ (le_test (length ps) 65536 few) s.0, s.1)
+
+links_asked : (limit : ℤ) (n : ℕ) (ls : List Link) → JoinedLinks limit n ls → (are_valid_links limit n ls ≡ true) × (list_all {X = Link} (λ l. l.live) ls ≡ true)
+links_asked limit n ls j =
+    let s = split_all (λ (l : Link). l.live) (is_valid_link limit n) ls j.graph.links in
+    (and_from _ _ (and_from _ _ (and_from _ _ (le_test (length ls) 524288 j.size) s.1) j.graph.once) (range_all (λ i. nat_le (links_at ls i) 32) 0 n (λ k l u. le_test (links_at ls k) 32 (j.graph.few k))), s.0)
+
+joined_valid : (limit : ℤ) (s : Settings) (t : Tables) (start m : Parts) (pins : List ℤ) (parts : Parts) → IsTrue (is_limit limit) → SettingsFit limit s → TablesFit limit t → start ≡ plain_parts limit s t → Meshed limit start m → joined_parts pins t.links t.tracks m ≡ Ok parts → is_valid parts ≡ true
+unfolding joined_parts
+joined_valid limit s t start m pins parts lim sf tf plain mf is =
+    let low = (limit_bounds limit lim).0 in
+    let n = length m.particles in
+    through (all_links m.particles m.links t.links) _ parts is (λ links e1 is1.
+    through (each (pinned n) [] pins) _ parts is1 (λ held e2 is2.
+    through (each (placed_track n) [] t.tracks) _ parts is2 (λ tracks e3 is3.
+    let names = named held tracks in
+    let ps = holding names 0 m.particles in
+    let all : Parts = record m { particles = ps; links = links; tracks = tracks } in
+    let same : m ≡ record (plain_parts limit s t) { particles = m.particles; links = m.links } = mf.others ∙ ap (λ (q : Parts). record q { particles = m.particles; links = m.links }) plain in
+    let size : length ps ≡ n = holding_length names 0 m.particles in
+    let first : JoinedLinks limit n m.links = record { graph = mf.graph; size = omega (arith, mf.size, mf.few) } in
+    let joined = links_joined limit m.particles m.links t.links links low mf.particles tf.links first e1 in
+    let placed = tracks_fit limit n t.tracks tracks tf.tracks e3 in
+    let number = each_count (placed_track n) [] t.tracks tracks e3 in
+    let p = particles_asked limit ps (holding_passes limit names 0 m.particles mf.particles) (omega (arith, size, mf.few)) in
+    let l = links_asked limit n links joined in
+    let its_limit : m.limit ≡ limit = ap (λ (q : Parts). q.limit) same in
+    let its_planes : m.planes ≡ t.planes = ap (λ (q : Parts). q.planes) same in
+    let its_spheres : m.spheres ≡ t.spheres = ap (λ (q : Parts). q.spheres) same in
+    let its_gravity : m.gravity ≡ s.gravity = ap (λ (q : Parts). q.gravity) same in
+    let its_passes : m.passes ≡ s.passes = ap (λ (q : Parts). q.passes) same in
+    let its_damping : m.damping ≡ s.damping = ap (λ (q : Parts). q.damping) same in
+    let its_thickness : m.thickness ≡ s.thickness = ap (λ (q : Parts). q.thickness) same in
+    let its_friction : m.friction ≡ s.friction = ap (λ (q : Parts). q.friction) same in
+    let asked : Asked all = record {
+      limit = rw its_limit lim;
+      particles = rw its_limit p.0;
+      links = rw (its_limit, size) l.0;
+      planes = rw its_planes (and_from _ _ (le_test (length t.planes) 256 tf.few_planes) tf.planes);
+      spheres = rw (its_limit, its_spheres) (and_from _ _ (le_test (length t.spheres) 256 tf.few_spheres) tf.spheres);
+      tracks = rw (its_limit, size) (and_from _ _ (and_from _ _ (le_test (length tracks) 4096 (omega (arith, number, tf.few_tracks))) placed.valid) placed.once);
+      gravity = rw (its_limit, its_gravity) sf.gravity;
+      numbers = rw (its_passes, its_damping, its_thickness, its_friction) (and_from _ _ (and_from _ _ (and_from _ _ sf.passes sf.damping) sf.thickness) sf.friction);
+      live = l.1;
+      rest = p.1;
+      held = tracked_held limit names m.particles tracks placed.valid (among_own held tracks);
+    } in
+    let checked = all_asked all asked in
+    rw (← same_ok all parts is3) checked)))
+
+pub scene_valid : (limit : ℤ) (tree : Members) (parts : Parts) → IsTrue (is_limit limit) → scene_of limit tree ≡ Ok parts → IsTrue (is_valid parts)
+unfolding scene_of
+scene_valid limit tree parts lim is =
+    let low = (limit_bounds limit lim).0 in
+    through (settings_of limit tree) _ parts is (λ s e1 is1.
+    through (tables_of limit tree) _ parts is1 (λ t e2 is2.
+    let sf = settings_fit limit tree s lim e1 in
+    let tf = tables_fit limit tree t low e2 in
+    joined_valid limit s t (plain_parts limit s t) (with_meshes limit s t) s.pins parts lim sf tf refl (meshes_fit limit s t lim tf) is2))

@@ -1,0 +1,241 @@
+ghost use Rattle.std.specs.Prelude.{◌≡◌};
+ghost use Rattle.pbd_scene.specs.declared.fault.SceneFault.TheVariants.{OutOfMemory};
+ghost use Rattle.pbd_scene.specs.Keys.{key_text, table_text, rule_number, rule_text};
+
+use std::alloc::{AllocError, AllocFailed};
+use std::fmt;
+
+/// A rule that a scene may break.
+#[derive(Clone, Copy, Debug, PartialEq, Eq)]
+pub enum SceneRule {
+    /// A table has a key that isn't one of its own.
+    UnknownKey,
+    /// A key that must be there isn't.
+    MissingKey,
+    /// A value is of another kind.
+    WrongType,
+    /// A value of the right kind is out of its range.
+    OutOfRange,
+    /// There are more entries than allowed.
+    TooMany,
+    /// A number names no particle.
+    BadIndex,
+    /// A link joins a particle to itself.
+    SelfLink,
+    /// A second link joins the same two particles.
+    DoubleLink,
+    /// A particle has more than 32 links.
+    TooManyAtParticle,
+    /// A track has no keys, steps that don't increase, or a particle that an earlier track names.
+    BadTrack,
+}
+
+impl SceneRule {
+    /// 2 to 11, in the order above.
+    pub fn number(&self) -> u8
+        ensures { result ≡ rule_number self.now }
+    {
+        match self {
+            SceneRule::UnknownKey => 2,
+            SceneRule::MissingKey => 3,
+            SceneRule::WrongType => 4,
+            SceneRule::OutOfRange => 5,
+            SceneRule::TooMany => 6,
+            SceneRule::BadIndex => 7,
+            SceneRule::SelfLink => 8,
+            SceneRule::DoubleLink => 9,
+            SceneRule::TooManyAtParticle => 10,
+            SceneRule::BadTrack => 11,
+        }
+    }
+
+    /// The rule's name.
+    pub fn name(&self) -> &'static str
+        ensures { result.now ≡ rule_text self.now }
+    {
+        match self {
+            SceneRule::UnknownKey => "UnknownKey",
+            SceneRule::MissingKey => "MissingKey",
+            SceneRule::WrongType => "WrongType",
+            SceneRule::OutOfRange => "OutOfRange",
+            SceneRule::TooMany => "TooMany",
+            SceneRule::BadIndex => "BadIndex",
+            SceneRule::SelfLink => "SelfLink",
+            SceneRule::DoubleLink => "DoubleLink",
+            SceneRule::TooManyAtParticle => "TooManyAtParticle",
+            SceneRule::BadTrack => "BadTrack",
+        }
+    }
+}
+
+/// The scene itself, or one of its arrays of tables.
+#[derive(Clone, Copy, Debug, PartialEq, Eq)]
+pub enum TableName {
+    Scene,
+    Particle,
+    Cloth,
+    Rope,
+    Link,
+    Plane,
+    Sphere,
+    Track,
+}
+
+/// A key of the scene or of an entry, or none.
+#[derive(Clone, Copy, Debug, PartialEq, Eq)]
+pub enum KeyName {
+    NoKey,
+    Gravity,
+    Passes,
+    Damping,
+    Thickness,
+    Friction,
+    Pins,
+    At,
+    Velocity,
+    Weight,
+    Held,
+    Origin,
+    Across,
+    Down,
+    Rows,
+    Columns,
+    Stretch,
+    Shear,
+    Bend,
+    StretchTear,
+    ShearTear,
+    BendTear,
+    Spacing,
+    Count,
+    A,
+    B,
+    Rest,
+    Stiffness,
+    Tear,
+    Normal,
+    Offset,
+    Centre,
+    Radius,
+    Particle,
+    Keys,
+}
+
+impl TableName {
+    /// The table's name in a scene.
+    pub fn name(&self) -> &'static str
+        ensures { result.now ≡ table_text self.now }
+    {
+        match self {
+            TableName::Scene => "scene",
+            TableName::Particle => "particle",
+            TableName::Cloth => "cloth",
+            TableName::Rope => "rope",
+            TableName::Link => "link",
+            TableName::Plane => "plane",
+            TableName::Sphere => "sphere",
+            TableName::Track => "track",
+        }
+    }
+}
+
+impl KeyName {
+    /// The key as a scene writes it.
+    pub fn name(&self) -> &'static str
+        ensures { result.now ≡ key_text self.now }
+    {
+        match self {
+            KeyName::NoKey => "-",
+            KeyName::Gravity => "gravity",
+            KeyName::Passes => "passes",
+            KeyName::Damping => "damping",
+            KeyName::Thickness => "thickness",
+            KeyName::Friction => "friction",
+            KeyName::Pins => "pins",
+            KeyName::At => "at",
+            KeyName::Velocity => "velocity",
+            KeyName::Weight => "weight",
+            KeyName::Held => "held",
+            KeyName::Origin => "origin",
+            KeyName::Across => "across",
+            KeyName::Down => "down",
+            KeyName::Rows => "rows",
+            KeyName::Columns => "columns",
+            KeyName::Stretch => "stretch",
+            KeyName::Shear => "shear",
+            KeyName::Bend => "bend",
+            KeyName::StretchTear => "stretch_tear",
+            KeyName::ShearTear => "shear_tear",
+            KeyName::BendTear => "bend_tear",
+            KeyName::Spacing => "spacing",
+            KeyName::Count => "count",
+            KeyName::A => "a",
+            KeyName::B => "b",
+            KeyName::Rest => "rest",
+            KeyName::Stiffness => "stiffness",
+            KeyName::Tear => "tear",
+            KeyName::Normal => "normal",
+            KeyName::Offset => "offset",
+            KeyName::Centre => "centre",
+            KeyName::Radius => "radius",
+            KeyName::Particle => "particle",
+            KeyName::Keys => "keys",
+        }
+    }
+}
+
+impl fmt::Display for SceneRule {
+    fn fmt<W: fmt::Write>(&self, f: &mut fmt::Formatter<W>) -> Result<(), fmt::Error> {
+        f.write_str(self.name())
+    }
+}
+
+impl fmt::Display for TableName {
+    fn fmt<W: fmt::Write>(&self, f: &mut fmt::Formatter<W>) -> Result<(), fmt::Error> {
+        f.write_str(self.name())
+    }
+}
+
+impl fmt::Display for KeyName {
+    fn fmt<W: fmt::Write>(&self, f: &mut fmt::Formatter<W>) -> Result<(), fmt::Error> {
+        f.write_str(self.name())
+    }
+}
+
+/// Why a text is no scene.
+#[derive(Clone, Copy, Debug, PartialEq, Eq)]
+pub enum SceneFault {
+    /// The text is no TOML document.
+    NotToml,
+    /// The first rule that the scene breaks, with the table, the position in its array from 0, and the key.
+    Refused {
+        rule: SceneRule,
+        table: TableName,
+        position: u32,
+        key: KeyName,
+    },
+    OutOfMemory,
+}
+
+impl From<AllocError> for SceneFault {
+    ghost from_gives = { λ _ e. e ≡ OutOfMemory };
+
+    fn from(_: AllocError) -> Self {
+        SceneFault::OutOfMemory
+    }
+}
+
+impl<T: Drop> From<AllocFailed<T>> for SceneFault {
+    ghost from_gives = { λ _ e. e ≡ OutOfMemory };
+
+    fn from(_: AllocFailed<T>) -> Self {
+        SceneFault::OutOfMemory
+    }
+}
+
+/// A table of the scene and the position of an entry in it.
+#[derive(Clone, Copy, Debug, PartialEq, Eq)]
+pub struct Place {
+    pub table: TableName,
+    pub position: u32,
+}

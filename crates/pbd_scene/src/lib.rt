@@ -1,0 +1,29 @@
+//! Reads a scene from TOML text.
+#![tactic(auto)]
+
+mod arrays;
+mod axes;
+mod each;
+mod fault;
+mod joining;
+mod laws;
+mod limit;
+mod link_entries;
+mod mesh_entries;
+mod meshes;
+mod naming;
+mod particles;
+mod raw;
+mod scene;
+mod shapes;
+mod table_lists;
+mod tables;
+#[cfg(test)]
+mod tests;
+mod track_entries;
+mod values;
+mod vectors;
+
+pub use fault::{KeyName, SceneFault, SceneRule, TableName};
+pub use laws::accepted_scenes_are_valid;
+pub use scene::read_scene;

@@ -1,0 +1,63 @@
+// The `[[link]]` entries, before it is looked at which particles they name.
+ghost use Rattle.std.specs.Prelude.{◌≡◌, if◌then◌else◌, ◌≤◌, ◌<◌, ◌+◌, ◌^◌, ◌≤ℤ◌, ◌+ℤ◌, ◌-ℤ◌, ◌*ℤ◌, ℕ, pos, length, map, unsigned_abs, nat_lt, true, IfOk, IsTrue, int_le, ◌&&◌, ◌*◌, negsuc};
+ghost use Rattle.std.specs.List.{All};
+ghost use Rattle.toml.specs.View.{view};
+ghost use Rattle.pbd_num.specs.Vectors.{Within, minus, on_axes, is_within, squared_length};
+ghost use Rattle.pbd_mesh.specs.Cloth.{cloth_fits};
+ghost use Rattle.pbd_mesh.specs.Rope.{rope_fits};
+ghost use Rattle.pbd_scene.specs.Checks.{Gives};
+ghost use Rattle.pbd_scene.specs.Entries.{place_before, inside_before, fitting_cloth, fitting_rope, on_by, back_by, particle_of, cloth_size, all_cloths_size, all_ropes_size, room_for, cloth_of, rope_of, link_of, plane_of, reaches_within, sphere_of, row_of, step_number, key_of, step_of, steps_rise, track_of};
+
+use crate::arrays::members;
+use crate::axes::four_times;
+use crate::each::Reader;
+use crate::fault::{KeyName, Place, SceneFault, TableName};
+use crate::limit::Limit;
+use crate::raw::LinkEntry;
+use crate::values::{count_or, integer_or, known, optional_integer, required_any_integer};
+use toml::Value;
+
+#[derive(Clone, Copy)]
+pub struct Links {
+    pub limit: Limit,
+}
+
+#[tactic(auto, unfolding(crate::specs::Entries::link_of))]
+fn link_of(limit: i64, before: &[LinkEntry], value: &Value) -> Result<LinkEntry, SceneFault>
+    requires low { pos 0 ≤ℤ limit }
+    requires high { unsigned_abs limit ≤ 2 ^ 29 }
+    requires few { length before.now < 524288 }
+    ensures { Gives (λ l. l) result (link_of limit before.now (view value.now)) }
+{
+    let longest = four_times(limit);
+    let place = Place {
+        table: TableName::Link,
+        position: before.len() as u32,
+    };
+    let table = members(place, value)?;
+    known(place, table)?;
+    let a = required_any_integer(place, KeyName::A, table)?;
+    let b = required_any_integer(place, KeyName::B, table)?;
+    let rest = optional_integer(place, KeyName::Rest, 0, longest, table)?;
+    let k = count_or(place, KeyName::Stiffness, 0, 256, 256, table)?;
+    let tear = integer_or(place, KeyName::Tear, 0, longest, 0, table)?;
+    Ok(LinkEntry {
+        a,
+        b,
+        rest,
+        k: k as u16,
+        tear,
+    })
+}
+
+impl Reader for Links {
+    type Item = LinkEntry;
+
+    ghost most = { 524288 };
+
+    ghost reads = { λ s before d. link_of s.limit.units before d };
+
+    fn read(&self, before: &[LinkEntry], value: &Value) -> Result<LinkEntry, SceneFault> {
+        link_of(self.limit.units, before, value)
+    }
+}

@@ -1,0 +1,245 @@
+// The `[[cloth]]` and `[[rope]]` entries.
+ghost use Rattle.std.specs.Prelude.{◌≡◌, if◌then◌else◌, ◌≤◌, ◌<◌, ◌+◌, ◌^◌, ◌≤ℤ◌, ◌+ℤ◌, ◌-ℤ◌, ◌*ℤ◌, ℕ, pos, length, map, unsigned_abs, nat_lt, true, IfOk, IsTrue, int_le, ◌&&◌, ◌*◌, negsuc};
+ghost use Rattle.std.specs.List.{All};
+ghost use Rattle.toml.specs.View.{view};
+ghost use Rattle.pbd_num.specs.Vectors.{Within, minus, on_axes, is_within, squared_length};
+ghost use Rattle.pbd_mesh.specs.Cloth.{cloth_fits};
+ghost use Rattle.pbd_mesh.specs.Rope.{rope_fits};
+ghost use Rattle.pbd_scene.specs.Checks.{Gives};
+ghost use Rattle.pbd_scene.specs.Entries.{place_before, inside_before, fitting_cloth, fitting_rope, on_by, back_by, particle_of, cloth_size, all_cloths_size, all_ropes_size, room_for, cloth_of, rope_of, link_of, plane_of, reaches_within, sphere_of, row_of, step_number, key_of, step_of, steps_rise, track_of};
+
+use crate::arrays::members;
+use crate::axes::four_times;
+use crate::each::Reader;
+use crate::fault::{KeyName, Place, SceneFault, SceneRule, TableName};
+use crate::limit::Limit;
+use crate::values::{count_or, expect, integer_or, known, required_count};
+use crate::vectors::required_vector;
+use pbd_mesh::{ClothSpec, RopeSpec};
+use toml::Value;
+
+// ---- cloths
+
+#[derive(Clone, Copy)]
+pub struct Cloths {
+    pub limit: Limit,
+    /// How many particles stand before the first cloth.
+    pub count: u32,
+}
+
+pub fn all_cloths_size(cloths: &[ClothSpec]) -> u32
+    requires { all_cloths_size cloths.now ≤ 65536 }
+    ensures { result ≡ all_cloths_size cloths.now }
+{
+    let mut size = 0;
+    for s in cloths.iter() {
+        size += s.rows * s.columns;
+    }
+    size
+}
+
+#[tactic(auto, unfolding(crate::specs::Entries::room_for))]
+fn room_for(place: Place, n: u32) -> Result<(), SceneFault>
+    ensures value { Gives (λ x. x) result (room_for place n) }
+    ensures room { IfOk result (λ _. n ≤ 65536) }
+{
+    expect(n <= 65_536, SceneRule::TooMany, place, KeyName::NoKey)
+}
+
+#[tactic(auto, unfolding(crate::specs::Entries::fitting_cloth))]
+fn fitting_cloth(
+    limit: i64,
+    count: u32,
+    before: &[ClothSpec],
+    place: Place,
+    spec: ClothSpec,
+) -> Result<ClothSpec, SceneFault>
+    requires low { pos 0 ≤ℤ limit }
+    requires high { unsigned_abs limit ≤ 2 ^ 29 }
+    requires room { count + all_cloths_size before.now ≤ 65536 }
+    requires rows { spec.rows ≤ 256 }
+    requires columns { spec.columns ≤ 256 }
+    ensures value { Gives (λ s. s) result (fitting_cloth limit count before.now place spec) }
+    ensures fits { IfOk result (λ s. cloth_fits limit s ≡ true) }
+    ensures room { IfOk result (λ s. count + all_cloths_size before.now + cloth_size s ≤ 65536) }
+{
+    expect(
+        spec.fits(limit),
+        SceneRule::OutOfRange,
+        place,
+        KeyName::NoKey,
+    )?;
+    room_for(
+        place,
+        count + all_cloths_size(before) + spec.rows * spec.columns,
+    )?;
+    Ok(spec)
+}
+
+#[tactic(auto, unfolding(crate::specs::Entries::cloth_of))]
+fn cloth_of(
+    limit: i64,
+    count: u32,
+    before: &[ClothSpec],
+    value: &Value,
+) -> Result<ClothSpec, SceneFault>
+    requires low { pos 0 ≤ℤ limit }
+    requires high { unsigned_abs limit ≤ 2 ^ 29 }
+    requires few { length before.now < 64 }
+    requires room { count + all_cloths_size before.now ≤ 65536 }
+    ensures value { Gives (λ s. s) result (cloth_of limit count before.now (view value.now)) }
+    ensures fits { IfOk result (λ s. cloth_fits limit s ≡ true) }
+    ensures room { IfOk result (λ s. count + all_cloths_size before.now + cloth_size s ≤ 65536) }
+{
+    let longest = four_times(limit);
+    let place = Place {
+        table: TableName::Cloth,
+        position: before.len() as u32,
+    };
+    let table = members(place, value)?;
+    known(place, table)?;
+    let origin = required_vector(place, KeyName::Origin, limit, table)?;
+    let across = required_vector(place, KeyName::Across, limit, table)?;
+    let down = required_vector(place, KeyName::Down, limit, table)?;
+    let rows = required_count(place, KeyName::Rows, 1, 256, table)?;
+    let columns = required_count(place, KeyName::Columns, 1, 256, table)?;
+    let weight = count_or(place, KeyName::Weight, 1, 65_535, 1, table)?;
+    let stretch = count_or(place, KeyName::Stretch, 0, 256, 256, table)?;
+    let shear = count_or(place, KeyName::Shear, 0, 256, 256, table)?;
+    let bend = count_or(place, KeyName::Bend, 0, 256, 64, table)?;
+    let stretch_tear = integer_or(place, KeyName::StretchTear, 0, longest, 0, table)?;
+    let shear_tear = integer_or(place, KeyName::ShearTear, 0, longest, 0, table)?;
+    let bend_tear = integer_or(place, KeyName::BendTear, 0, longest, 0, table)?;
+    let spec = ClothSpec {
+        origin,
+        across,
+        down,
+        rows,
+        columns,
+        weight: weight as u16,
+        stretch: stretch as u16,
+        shear: shear as u16,
+        bend: bend as u16,
+        stretch_tear,
+        shear_tear,
+        bend_tear,
+    };
+    fitting_cloth(limit, count, before, place, spec)
+}
+
+impl Reader for Cloths {
+    type Item = ClothSpec;
+
+    ghost most = { 64 };
+
+    ghost fits = { λ s before. (s.count + all_cloths_size before ≤ 65536) × All (λ c. cloth_fits s.limit.units c ≡ true) before };
+
+    ghost reads = { λ s before d. cloth_of s.limit.units s.count before d };
+
+    fn read(&self, before: &[ClothSpec], value: &Value) -> Result<ClothSpec, SceneFault> {
+        cloth_of(self.limit.units, self.count, before, value)
+    }
+}
+
+// ---- ropes
+
+#[derive(Clone, Copy)]
+pub struct Ropes {
+    pub limit: Limit,
+    /// How many particles stand before the first rope.
+    pub count: u32,
+}
+
+fn all_ropes_size(ropes: &[RopeSpec]) -> u32
+    requires { all_ropes_size ropes.now ≤ 65536 }
+    ensures { result ≡ all_ropes_size ropes.now }
+{
+    let mut size = 0;
+    for s in ropes.iter() {
+        size += s.count;
+    }
+    size
+}
+
+#[tactic(auto, unfolding(crate::specs::Entries::fitting_rope))]
+fn fitting_rope(
+    limit: i64,
+    count: u32,
+    before: &[RopeSpec],
+    place: Place,
+    spec: RopeSpec,
+) -> Result<RopeSpec, SceneFault>
+    requires low { pos 0 ≤ℤ limit }
+    requires high { unsigned_abs limit ≤ 2 ^ 29 }
+    requires room { count + all_ropes_size before.now ≤ 65536 }
+    requires number { spec.count ≤ 4096 }
+    ensures value { Gives (λ s. s) result (fitting_rope limit count before.now place spec) }
+    ensures fits { IfOk result (λ s. rope_fits limit s ≡ true) }
+    ensures room { IfOk result (λ s. count + all_ropes_size before.now + s.count ≤ 65536) }
+{
+    expect(
+        spec.fits(limit),
+        SceneRule::OutOfRange,
+        place,
+        KeyName::NoKey,
+    )?;
+    room_for(place, count + all_ropes_size(before) + spec.count)?;
+    Ok(spec)
+}
+
+#[tactic(auto, unfolding(crate::specs::Entries::rope_of))]
+fn rope_of(
+    limit: i64,
+    count: u32,
+    before: &[RopeSpec],
+    value: &Value,
+) -> Result<RopeSpec, SceneFault>
+    requires low { pos 0 ≤ℤ limit }
+    requires high { unsigned_abs limit ≤ 2 ^ 29 }
+    requires few { length before.now < 64 }
+    requires room { count + all_ropes_size before.now ≤ 65536 }
+    ensures value { Gives (λ s. s) result (rope_of limit count before.now (view value.now)) }
+    ensures fits { IfOk result (λ s. rope_fits limit s ≡ true) }
+    ensures room { IfOk result (λ s. count + all_ropes_size before.now + s.count ≤ 65536) }
+{
+    let longest = four_times(limit);
+    let place = Place {
+        table: TableName::Rope,
+        position: before.len() as u32,
+    };
+    let table = members(place, value)?;
+    known(place, table)?;
+    let origin = required_vector(place, KeyName::Origin, limit, table)?;
+    let spacing = required_vector(place, KeyName::Spacing, limit, table)?;
+    let number = required_count(place, KeyName::Count, 1, 4096, table)?;
+    let weight = count_or(place, KeyName::Weight, 1, 65_535, 1, table)?;
+    let stretch = count_or(place, KeyName::Stretch, 0, 256, 256, table)?;
+    let bend = count_or(place, KeyName::Bend, 0, 256, 64, table)?;
+    let stretch_tear = integer_or(place, KeyName::StretchTear, 0, longest, 0, table)?;
+    let bend_tear = integer_or(place, KeyName::BendTear, 0, longest, 0, table)?;
+    let spec = RopeSpec {
+        origin,
+        spacing,
+        count: number,
+        weight: weight as u16,
+        stretch: stretch as u16,
+        bend: bend as u16,
+        stretch_tear,
+        bend_tear,
+    };
+    fitting_rope(limit, count, before, place, spec)
+}
+
+impl Reader for Ropes {
+    type Item = RopeSpec;
+
+    ghost most = { 64 };
+
+    ghost fits = { λ s before. (s.count + all_ropes_size before ≤ 65536) × All (λ r. rope_fits s.limit.units r ≡ true) before };
+
+    ghost reads = { λ s before d. rope_of s.limit.units s.count before d };
+
+    fn read(&self, before: &[RopeSpec], value: &Value) -> Result<RopeSpec, SceneFault> {
+        rope_of(self.limit.units, self.count, before, value)
+    }
+}

@@ -1,0 +1,100 @@
+// The `[[particle]]` entries.
+ghost use Rattle.std.specs.Prelude.{◌≡◌, if◌then◌else◌, ◌≤◌, ◌<◌, ◌+◌, ◌^◌, ◌≤ℤ◌, ◌+ℤ◌, ◌-ℤ◌, ◌*ℤ◌, ℕ, pos, length, map, unsigned_abs, nat_lt, true, IfOk, IsTrue, int_le, ◌&&◌, ◌*◌, negsuc};
+ghost use Rattle.std.specs.List.{All};
+ghost use Rattle.toml.specs.View.{view};
+ghost use Rattle.pbd_num.specs.Vectors.{Within, minus, on_axes, is_within, squared_length};
+ghost use Rattle.pbd_mesh.specs.Cloth.{cloth_fits};
+ghost use Rattle.pbd_mesh.specs.Rope.{rope_fits};
+ghost use Rattle.pbd_scene.specs.Checks.{Gives};
+ghost use Rattle.pbd_scene.specs.Entries.{place_before, inside_before, fitting_cloth, fitting_rope, on_by, back_by, particle_of, cloth_size, all_cloths_size, all_ropes_size, room_for, cloth_of, rope_of, link_of, plane_of, reaches_within, sphere_of, row_of, step_number, key_of, step_of, steps_rise, track_of};
+
+use crate::arrays::members;
+use crate::axes::{axis_difference, twice};
+use crate::each::Reader;
+use crate::fault::{KeyName, Place, SceneFault, SceneRule, TableName};
+use crate::limit::Limit;
+use crate::values::{boolean_or, count_or, expect, known};
+use crate::vectors::{is_inside, required_vector, vector_or_zero};
+use pbd_num::Vec3;
+use pbd_world::Particle;
+use toml::Value;
+
+#[derive(Clone, Copy)]
+pub struct Particles {
+    pub limit: Limit,
+}
+
+#[tactic(auto, unfolding(crate::specs::Entries::place_before))]
+fn difference(a: Vec3, b: Vec3) -> Vec3
+    requires a { Within (2 ^ 30) a }
+    requires b { Within (2 ^ 30) b }
+    ensures { result ≡ place_before a b }
+{
+    Vec3 {
+        x: axis_difference(a.x, b.x),
+        y: axis_difference(a.y, b.y),
+        z: axis_difference(a.z, b.z),
+    }
+}
+
+fn if_held(held: bool, at: Vec3, gone: Vec3) -> Vec3
+    ensures { result ≡ (if held then at else gone) }
+{
+    if held { at } else { gone }
+}
+
+#[tactic(auto, unfolding(crate::specs::Entries::inside_before))]
+fn inside_before(limit: i64, place: Place, at: Vec3, velocity: Vec3) -> Result<Vec3, SceneFault>
+    requires low { pos 0 ≤ℤ limit }
+    requires high { unsigned_abs limit ≤ 2 ^ 29 }
+    requires at { Within (2 ^ 30) at }
+    requires velocity { Within (2 ^ 30) velocity }
+    ensures { Gives (λ v. v) result (inside_before limit place at velocity) }
+{
+    let gone = difference(at, velocity);
+    expect(
+        is_inside(gone, limit),
+        SceneRule::OutOfRange,
+        place,
+        KeyName::Velocity,
+    )?;
+    Ok(gone)
+}
+
+#[tactic(auto, unfolding(crate::specs::Entries::particle_of))]
+fn particle_of(limit: i64, before: &[Particle], value: &Value) -> Result<Particle, SceneFault>
+    requires low { pos 0 ≤ℤ limit }
+    requires high { unsigned_abs limit ≤ 2 ^ 29 }
+    requires few { length before.now < 65536 }
+    ensures { Gives (λ p. p) result (particle_of limit before.now (view value.now)) }
+{
+    let place = Place {
+        table: TableName::Particle,
+        position: before.len() as u32,
+    };
+    let table = members(place, value)?;
+    known(place, table)?;
+    let at = required_vector(place, KeyName::At, limit, table)?;
+    let velocity = vector_or_zero(place, KeyName::Velocity, twice(limit), table)?;
+    let weight = count_or(place, KeyName::Weight, 1, 65_535, 1, table)?;
+    let held = boolean_or(place, KeyName::Held, false, table)?;
+    let gone = inside_before(limit, place, at, velocity)?;
+    Ok(Particle {
+        at,
+        before: if_held(held, at, gone),
+        weight: weight as u16,
+        held,
+    })
+}
+
+impl Reader for Particles {
+    type Item = Particle;
+
+    ghost most = { 65536 };
+
+    ghost reads = { λ s before d. particle_of s.limit.units before d };
+
+    fn read(&self, before: &[Particle], value: &Value) -> Result<Particle, SceneFault> {
+        particle_of(self.limit.units, before, value)
+    }
+}

@@ -1,0 +1,151 @@
+// The `[[plane]]` and `[[sphere]]` entries.
+ghost use Rattle.std.specs.Prelude.{◌≡◌, if◌then◌else◌, ◌≤◌, ◌<◌, ◌+◌, ◌^◌, ◌≤ℤ◌, ◌+ℤ◌, ◌-ℤ◌, ◌*ℤ◌, ℕ, pos, length, map, unsigned_abs, nat_lt, true, IfOk, IsTrue, int_le, ◌&&◌, ◌*◌, negsuc};
+ghost use Rattle.std.specs.List.{All};
+ghost use Rattle.toml.specs.View.{view};
+ghost use Rattle.pbd_num.specs.Vectors.{Within, minus, on_axes, is_within, squared_length};
+ghost use Rattle.pbd_mesh.specs.Cloth.{cloth_fits};
+ghost use Rattle.pbd_mesh.specs.Rope.{rope_fits};
+ghost use Rattle.pbd_scene.specs.Checks.{Gives};
+ghost use Rattle.pbd_scene.specs.Entries.{place_before, inside_before, fitting_cloth, fitting_rope, on_by, back_by, particle_of, cloth_size, all_cloths_size, all_ropes_size, room_for, cloth_of, rope_of, link_of, plane_of, reaches_within, sphere_of, row_of, step_number, key_of, step_of, steps_rise, track_of};
+
+use crate::arrays::members;
+use crate::axes::{axis_difference, axis_sum};
+use crate::each::Reader;
+use crate::fault::{KeyName, Place, SceneFault, SceneRule, TableName};
+use crate::limit::Limit;
+use crate::values::{expect, known, required_integer};
+use crate::vectors::{is_inside, required_vector};
+use pbd_num::Vec3;
+use pbd_world::{Plane, Sphere};
+use toml::Value;
+
+// ---- planes
+
+#[derive(Clone, Copy)]
+pub struct Planes;
+
+fn has_length(v: Vec3) -> bool
+    ensures { result ≡ nat_lt 0 (squared_length v) }
+{
+    v.x != 0 || v.y != 0 || v.z != 0
+}
+
+#[tactic(auto, unfolding(crate::specs::Entries::plane_of))]
+fn plane_of(before: &[Plane], value: &Value) -> Result<Plane, SceneFault>
+    requires few { length before.now < 256 }
+    ensures { Gives (λ p. p) result (plane_of before.now (view value.now)) }
+{
+    let place = Place {
+        table: TableName::Plane,
+        position: before.len() as u32,
+    };
+    let table = members(place, value)?;
+    known(place, table)?;
+    let normal = required_vector(place, KeyName::Normal, 1024, table)?;
+    let offset = required_integer(
+        place,
+        KeyName::Offset,
+        -1_099_511_627_776,
+        1_099_511_627_776,
+        table,
+    )?;
+    expect(
+        has_length(normal),
+        SceneRule::OutOfRange,
+        place,
+        KeyName::Normal,
+    )?;
+    Ok(Plane { normal, offset })
+}
+
+impl Reader for Planes {
+    type Item = Plane;
+
+    ghost most = { 256 };
+
+    ghost reads = { λ s before d. plane_of before d };
+
+    fn read(&self, before: &[Plane], value: &Value) -> Result<Plane, SceneFault> {
+        plane_of(before, value)
+    }
+}
+
+// ---- spheres
+
+#[derive(Clone, Copy)]
+pub struct Spheres {
+    pub limit: Limit,
+}
+
+#[tactic(auto, unfolding(crate::specs::Entries::on_by))]
+fn above(centre: Vec3, radius: i64) -> Vec3
+    requires centre { Within (2 ^ 30) centre }
+    requires radius { unsigned_abs radius ≤ 2 ^ 29 }
+    ensures { result ≡ on_by radius centre }
+{
+    Vec3 {
+        x: axis_sum(centre.x, radius),
+        y: axis_sum(centre.y, radius),
+        z: axis_sum(centre.z, radius),
+    }
+}
+
+#[tactic(auto, unfolding(crate::specs::Entries::back_by))]
+fn below(centre: Vec3, radius: i64) -> Vec3
+    requires centre { Within (2 ^ 30) centre }
+    requires radius { unsigned_abs radius ≤ 2 ^ 29 }
+    ensures { result ≡ back_by radius centre }
+{
+    Vec3 {
+        x: axis_difference(centre.x, radius),
+        y: axis_difference(centre.y, radius),
+        z: axis_difference(centre.z, radius),
+    }
+}
+
+#[tactic(auto, unfolding(crate::specs::Entries::reaches_within))]
+fn reaches_within(limit: i64, centre: Vec3, radius: i64) -> bool
+    requires low { pos 0 ≤ℤ limit }
+    requires high { unsigned_abs limit ≤ 2 ^ 29 }
+    requires centre { Within (2 ^ 30) centre }
+    requires radius { unsigned_abs radius ≤ 2 ^ 29 }
+    ensures { result ≡ reaches_within limit centre radius }
+{
+    is_inside(above(centre, radius), limit) && is_inside(below(centre, radius), limit)
+}
+
+#[tactic(auto, unfolding(crate::specs::Entries::sphere_of))]
+fn sphere_of(limit: i64, before: &[Sphere], value: &Value) -> Result<Sphere, SceneFault>
+    requires low { pos 0 ≤ℤ limit }
+    requires high { unsigned_abs limit ≤ 2 ^ 29 }
+    requires few { length before.now < 256 }
+    ensures { Gives (λ s. s) result (sphere_of limit before.now (view value.now)) }
+{
+    let place = Place {
+        table: TableName::Sphere,
+        position: before.len() as u32,
+    };
+    let table = members(place, value)?;
+    known(place, table)?;
+    let centre = required_vector(place, KeyName::Centre, limit, table)?;
+    let radius = required_integer(place, KeyName::Radius, 1, limit, table)?;
+    expect(
+        reaches_within(limit, centre, radius),
+        SceneRule::OutOfRange,
+        place,
+        KeyName::Radius,
+    )?;
+    Ok(Sphere { centre, radius })
+}
+
+impl Reader for Spheres {
+    type Item = Sphere;
+
+    ghost most = { 256 };
+
+    ghost reads = { λ s before d. sphere_of s.limit.units before d };
+
+    fn read(&self, before: &[Sphere], value: &Value) -> Result<Sphere, SceneFault> {
+        sphere_of(self.limit.units, before, value)
+    }
+}

@@ -1,0 +1,147 @@
+// The entries of all tables.
+ghost use Rattle.std.specs.Prelude.{◌≡◌, ◌+◌, ◌≤◌, ◌≤ℤ◌, ◌^◌, IfOk, pos, unsigned_abs, length};
+ghost use Rattle.toml.specs.View.{table_view};
+ghost use Rattle.pbd_scene.specs.Checks.{Gives};
+ghost use Rattle.pbd_scene.specs.Entries.{all_cloths_size};
+ghost use Rattle.pbd_scene.specs.Scene.{particles_of, cloths_of, ropes_of, links_of, planes_of, spheres_of, tracks_of, tables_of};
+
+use crate::arrays::read_table;
+use crate::fault::{SceneFault, TableName};
+use crate::limit::Limit;
+use crate::link_entries::Links;
+use crate::mesh_entries::{Cloths, Ropes, all_cloths_size};
+use crate::particles::Particles;
+use crate::raw::{LinkEntry, Tables, TrackEntry};
+use crate::shapes::{Planes, Spheres};
+use crate::track_entries::Tracks;
+use pbd_mesh::{ClothSpec, RopeSpec};
+use pbd_world::{List, Particle, Plane, Sphere};
+use std::alloc::Global;
+use toml::Table;
+
+#[tactic(auto, unfolding(crate::specs::Scene::particles_of))]
+fn particles_of(alloc: Global, limit: i64, members: &Table) -> Result<List<Particle>, SceneFault>
+    requires low { pos 0 ≤ℤ limit }
+    requires high { unsigned_abs limit ≤ 2 ^ 29 }
+    ensures value { Gives (λ xs. xs) result (particles_of limit (table_view members.now)) }
+    ensures few { IfOk result (λ xs. length xs ≤ 65536) }
+{
+    let limit = Limit { units: limit };
+    read_table(
+        alloc,
+        TableName::Particle,
+        65_536,
+        &Particles { limit },
+        members,
+    )
+}
+
+/// `count` particles stand before the first cloth.
+#[tactic(auto, unfolding(crate::specs::Scene::cloths_of))]
+fn cloths_of(
+    alloc: Global,
+    limit: i64,
+    count: u32,
+    members: &Table,
+) -> Result<List<ClothSpec>, SceneFault>
+    requires low { pos 0 ≤ℤ limit }
+    requires high { unsigned_abs limit ≤ 2 ^ 29 }
+    requires room { count ≤ 65536 }
+    ensures value { Gives (λ xs. xs) result (cloths_of limit count (table_view members.now)) }
+    ensures room { IfOk result (λ xs. count + all_cloths_size xs ≤ 65536) }
+{
+    let limit = Limit { units: limit };
+    read_table(
+        alloc,
+        TableName::Cloth,
+        64,
+        &Cloths { limit, count },
+        members,
+    )
+}
+
+/// `count` particles stand before the first rope.
+#[tactic(auto, unfolding(crate::specs::Scene::ropes_of))]
+fn ropes_of(
+    alloc: Global,
+    limit: i64,
+    count: u32,
+    members: &Table,
+) -> Result<List<RopeSpec>, SceneFault>
+    requires low { pos 0 ≤ℤ limit }
+    requires high { unsigned_abs limit ≤ 2 ^ 29 }
+    requires room { count ≤ 65536 }
+    ensures value { Gives (λ xs. xs) result (ropes_of limit count (table_view members.now)) }
+{
+    let limit = Limit { units: limit };
+    read_table(alloc, TableName::Rope, 64, &Ropes { limit, count }, members)
+}
+
+#[tactic(auto, unfolding(crate::specs::Scene::links_of))]
+fn links_of(alloc: Global, limit: i64, members: &Table) -> Result<List<LinkEntry>, SceneFault>
+    requires low { pos 0 ≤ℤ limit }
+    requires high { unsigned_abs limit ≤ 2 ^ 29 }
+    ensures value { Gives (λ xs. xs) result (links_of limit (table_view members.now)) }
+{
+    let limit = Limit { units: limit };
+    read_table(alloc, TableName::Link, 524_288, &Links { limit }, members)
+}
+
+#[tactic(auto, unfolding(crate::specs::Scene::planes_of))]
+fn planes_of(alloc: Global, members: &Table) -> Result<List<Plane>, SceneFault>
+    ensures value { Gives (λ xs. xs) result (planes_of (table_view members.now)) }
+{
+    read_table(alloc, TableName::Plane, 256, &Planes, members)
+}
+
+#[tactic(auto, unfolding(crate::specs::Scene::spheres_of))]
+fn spheres_of(alloc: Global, limit: i64, members: &Table) -> Result<List<Sphere>, SceneFault>
+    requires low { pos 0 ≤ℤ limit }
+    requires high { unsigned_abs limit ≤ 2 ^ 29 }
+    ensures value { Gives (λ xs. xs) result (spheres_of limit (table_view members.now)) }
+{
+    let limit = Limit { units: limit };
+    read_table(alloc, TableName::Sphere, 256, &Spheres { limit }, members)
+}
+
+#[tactic(auto, unfolding(crate::specs::Scene::tracks_of))]
+fn tracks_of(alloc: Global, limit: i64, members: &Table) -> Result<List<TrackEntry>, SceneFault>
+    requires low { pos 0 ≤ℤ limit }
+    requires high { unsigned_abs limit ≤ 2 ^ 29 }
+    ensures value { Gives (λ xs. xs) result (tracks_of limit (table_view members.now)) }
+{
+    let limit = Limit { units: limit };
+    read_table(
+        alloc,
+        TableName::Track,
+        4096,
+        &Tracks { limit, alloc },
+        members,
+    )
+}
+
+#[tactic(auto, unfolding(crate::specs::Scene::tables_of))]
+pub fn tables_of(alloc: Global, limit: i64, members: &Table) -> Result<Tables, SceneFault>
+    requires low { pos 0 ≤ℤ limit }
+    requires high { unsigned_abs limit ≤ 2 ^ 29 }
+    ensures { Gives (λ t. t) result (tables_of limit (table_view members.now)) }
+{
+    let particles = particles_of(alloc, limit, members)?;
+    let count = particles.len() as u32;
+    let cloths = cloths_of(alloc, limit, count, members)?;
+    let count = count + all_cloths_size(cloths.as_slice());
+    let ropes = ropes_of(alloc, limit, count, members)?;
+    let links = links_of(alloc, limit, members)?;
+    let planes = planes_of(alloc, members)?;
+    let spheres = spheres_of(alloc, limit, members)?;
+    let tracks = tracks_of(alloc, limit, members)?;
+    Ok(Tables {
+        particles,
+        cloths,
+        ropes,
+        links,
+        planes,
+        spheres,
+        tracks,
+    })
+}

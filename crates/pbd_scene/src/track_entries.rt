@@ -1,0 +1,176 @@
+// The `[[track]]` entries, before it is looked at which particles they name.
+ghost use Rattle.std.specs.Prelude.{[], ◌≡◌, if◌then◌else◌, ◌≤◌, ◌<◌, ◌+◌, ◌^◌, ◌≤ℤ◌, ◌+ℤ◌, ◌-ℤ◌, ◌*ℤ◌, ℕ, pos, length, map, unsigned_abs, nat_lt, true, IfOk, IsTrue, int_le, ◌&&◌, ◌*◌, negsuc};
+ghost use Rattle.std.specs.List.{All};
+ghost use Rattle.toml.specs.View.{view};
+ghost use Rattle.pbd_num.specs.Vectors.{Within, minus, on_axes, is_within, squared_length};
+ghost use Rattle.pbd_mesh.specs.Cloth.{cloth_fits};
+ghost use Rattle.pbd_mesh.specs.Rope.{rope_fits};
+ghost use Rattle.pbd_scene.specs.Checks.{Gives, each};
+ghost use Rattle.pbd_scene.specs.Entries.{place_before, inside_before, fitting_cloth, fitting_rope, on_by, back_by, particle_of, cloth_size, all_cloths_size, all_ropes_size, room_for, cloth_of, rope_of, link_of, plane_of, reaches_within, sphere_of, row_of, step_number, key_of, step_of, steps_rise, track_of};
+
+use crate::arrays::{members, required_array, row};
+use crate::each::{Reader, read_each};
+use crate::fault::{KeyName, Place, SceneFault, SceneRule, TableName};
+use crate::limit::Limit;
+use crate::raw::{Row, TrackEntry};
+use crate::values::{broken, expect, known, required_any_integer};
+use crate::vectors::is_inside;
+use pbd_world::{Key, List};
+use std::alloc::Global;
+use toml::Value;
+
+#[derive(Clone, Copy)]
+pub struct Tracks {
+    pub limit: Limit,
+    pub alloc: Global,
+}
+
+#[derive(Clone, Copy)]
+struct Rows {
+    place: Place,
+}
+
+impl Reader for Rows {
+    type Item = Row;
+
+    ghost most = { 2 ^ 64 };
+
+    ghost reads = { λ s before d. row_of s.place before d };
+
+    fn read(&self, _before: &[Row], value: &Value) -> Result<Row, SceneFault> {
+        row(self.place, KeyName::Keys, value)
+    }
+}
+
+#[derive(Clone, Copy)]
+struct Keys {
+    place: Place,
+    limit: Limit,
+}
+
+#[tactic(auto, unfolding(crate::specs::Entries::step_number))]
+fn step_number(place: Place, n: i64) -> Result<u32, SceneFault>
+    ensures { Gives (λ n. n) result (step_number place n) }
+{
+    if 0 <= n && n <= 1_000_000 {
+        Ok(n as u32)
+    } else {
+        broken(SceneRule::OutOfRange, place, KeyName::Keys)
+    }
+}
+
+#[tactic(auto, unfolding(crate::specs::Entries::key_of))]
+fn key_of(place: Place, limit: i64, _before: &[Key], value: &Value) -> Result<Key, SceneFault>
+    requires low { pos 0 ≤ℤ limit }
+    requires high { unsigned_abs limit ≤ 2 ^ 29 }
+    ensures { Gives (λ k. k) result (key_of place limit _before.now (view value.now)) }
+{
+    let row = row(place, KeyName::Keys, value)?;
+    let step = step_number(place, row.step)?;
+    expect(
+        is_inside(row.place, limit),
+        SceneRule::OutOfRange,
+        place,
+        KeyName::Keys,
+    )?;
+    Ok(Key {
+        step,
+        place: row.place,
+    })
+}
+
+impl Reader for Keys {
+    type Item = Key;
+
+    ghost most = { 2 ^ 64 };
+
+    ghost reads = { λ s before d. key_of s.place s.limit.units before d };
+
+    fn read(&self, before: &[Key], value: &Value) -> Result<Key, SceneFault> {
+        key_of(self.place, self.limit.units, before, value)
+    }
+}
+
+fn rises_at(keys: &[Key], i: usize) -> bool
+    requires { i + 1 < length keys.now }
+    ensures { result ≡ nat_lt (step_of keys.now i) (step_of keys.now (i + 1)) }
+{
+    keys[i].step < keys[i + 1].step
+}
+
+#[tactic(auto, unfolding(crate::specs::Entries::steps_rise, pbd_mesh::specs::Joined::all_below), using(pbd_mesh::proofs::Below::below_next, pbd_mesh::proofs::Below::not_below, pbd_mesh::proofs::Below::below_all))]
+fn steps_rise(keys: &[Key]) -> bool
+    ensures { result ≡ steps_rise keys.now }
+{
+    for i in 0..keys.len().saturating_sub(1) {
+        if !rises_at(keys, i) {
+            return false;
+        }
+    }
+    true
+}
+
+/// The keys of a track, each in its range.
+fn keys_of(
+    alloc: Global,
+    place: Place,
+    limit: i64,
+    values: &[Value],
+) -> Result<List<Key>, SceneFault>
+    requires low { pos 0 ≤ℤ limit }
+    requires high { unsigned_abs limit ≤ 2 ^ 29 }
+    requires few { length values.now ≤ 1024 }
+    ensures { Gives (λ ks. ks) result (each (key_of place limit) [] (map view values.now)) }
+{
+    let limit = Limit { units: limit };
+    read_each(alloc, &Keys { place, limit }, values)
+}
+
+#[tactic(auto, unfolding(crate::specs::Entries::track_of))]
+fn track_of(
+    alloc: Global,
+    limit: i64,
+    before: &[TrackEntry],
+    value: &Value,
+) -> Result<TrackEntry, SceneFault>
+    requires low { pos 0 ≤ℤ limit }
+    requires high { unsigned_abs limit ≤ 2 ^ 29 }
+    requires few { length before.now < 4096 }
+    ensures { Gives (λ t. t) result (track_of limit before.now (view value.now)) }
+{
+    let place = Place {
+        table: TableName::Track,
+        position: before.len() as u32,
+    };
+    let table = members(place, value)?;
+    known(place, table)?;
+    let particle = required_any_integer(place, KeyName::Particle, table)?;
+    let values = required_array(place, KeyName::Keys, table)?;
+    read_each(alloc, &Rows { place }, values)?;
+    expect(
+        values.len() <= 1024,
+        SceneRule::TooMany,
+        place,
+        KeyName::Keys,
+    )?;
+    let keys = keys_of(alloc, place, limit, values)?;
+    expect(
+        0 < keys.len() && steps_rise(keys.as_slice()),
+        SceneRule::BadTrack,
+        place,
+        KeyName::Keys,
+    )?;
+    Ok(TrackEntry { particle, keys })
+}
+
+impl Reader for Tracks {
+    type Item = TrackEntry;
+
+    ghost most = { 4096 };
+
+    ghost reads = { λ s before d. track_of s.limit.units before d };
+
+    fn read(&self, before: &[TrackEntry], value: &Value) -> Result<TrackEntry, SceneFault> {
+        track_of(self.alloc, self.limit.units, before, value)
+    }
+}

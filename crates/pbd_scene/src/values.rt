@@ -1,0 +1,255 @@
+// The keys of a table, and the kinds of single values that they take.
+ghost use Rattle.std.specs.Prelude.{◌≡◌, [], IsTrue, ◌≤◌, ◌<◌, ◌^◌, ◌≤ℤ◌, pos, length, map, unsigned_abs, IfOk, option_map, string_bytes, Err};
+ghost use Rattle.std.specs.List.{list_all};
+ghost use Rattle.std.specs.BTreeMap.{keys};
+ghost use Rattle.toml.specs.View.{view, items_view, table_view};
+ghost use Rattle.toml.specs.Data.{get_member};
+ghost use Rattle.pbd_num.specs.Vectors.{Within, is_within, is_axis_within, zero_vector};
+ghost use Rattle.pbd_scene.specs.Checks.{Gives, broken, expect};
+ghost use Rattle.pbd_scene.specs.Keys.{key_text, table_text, is_key_of, is_table_of, is_known, all_known, known};
+ghost use Rattle.pbd_scene.specs.Values.{array_of, value_of, any_integer, integer, required_any_integer, required_integer, optional_integer, integer_or, required_count, count_or, boolean, boolean_or, three_integers, vector, required_vector, vector_or, integers, four_integers, row, required_array, members, entries, entries_of, table_of, integers_of};
+
+use crate::fault::{KeyName, Place, SceneFault, SceneRule, TableName};
+use crate::tables::{all_tables, entry_keys};
+use toml::{Table, Value};
+
+pub fn broken<T>(rule: SceneRule, place: Place, key: KeyName) -> Result<T, SceneFault>
+    ensures { result ≡ Err (SceneFault.Refused rule place.table place.position key) }
+{
+    Err(SceneFault::Refused {
+        rule,
+        table: place.table,
+        position: place.position,
+        key,
+    })
+}
+
+/// Refuses where a test doesn't hold.
+pub fn expect(test: bool, rule: SceneRule, place: Place, key: KeyName) -> Result<(), SceneFault>
+    ensures value { Gives (λ x. x) result (expect test rule place key) }
+    ensures holds { IfOk result (λ _. IsTrue test) }
+{
+    if test {
+        Ok(())
+    } else {
+        broken(rule, place, key)
+    }
+}
+
+// ---- which keys there are
+
+fn is_key_of(names: &[KeyName], name: &str) -> bool
+    ensures { result ≡ is_key_of names.now name.now }
+{
+    names.iter().any(|key| name == key.name())
+}
+
+fn is_table_of(names: &[TableName], name: &str) -> bool
+    ensures { result ≡ is_table_of names.now name.now }
+{
+    names.iter().any(|table| name == table.name())
+}
+
+#[tactic(auto, unfolding(crate::specs::Keys::is_known))]
+fn is_known(table: TableName, name: &str) -> bool
+    ensures { result ≡ is_known table name.now }
+{
+    match table {
+        TableName::Scene => is_key_of(entry_keys(TableName::Scene), name)
+            || is_table_of(all_tables(), name),
+        _ => is_key_of(entry_keys(table), name),
+    }
+}
+
+fn are_known(table: TableName, members: &Table) -> bool
+    ensures { result ≡ list_all (λ k. is_known table (string_bytes k)) (keys members.now) }
+{
+    members.keys().all(|name| is_known(table, name.as_str()))
+}
+
+fn all_known(table: TableName, members: &Table) -> bool
+    ensures { result ≡ all_known table (table_view members.now) }
+{
+    are_known(table, members)
+}
+
+/// Refuses a table with a key that it may not have.
+#[tactic(auto, unfolding(crate::specs::Keys::known))]
+pub fn known(place: Place, members: &Table) -> Result<(), SceneFault>
+    ensures { Gives (λ x. x) result (known place (table_view members.now)) }
+{
+    expect(
+        all_known(place.table, members),
+        SceneRule::UnknownKey,
+        place,
+        KeyName::NoKey,
+    )
+}
+
+pub fn find<'a>(members: &'a Table, name: &str) -> Option<&'a Value>
+    ensures { option_map (λ v. view v.now) result ≡ get_member name.now (table_view members.now) }
+{
+    members.get(name)
+}
+
+pub fn value_of(key: KeyName, members: &Table) -> Option<&Value>
+    ensures { option_map (λ v. view v.now) result ≡ value_of key (table_view members.now) }
+{
+    find(members, key.name())
+}
+
+// ---- integers
+
+pub fn any_integer(place: Place, key: KeyName, value: &Value) -> Result<i64, SceneFault>
+    ensures { Gives (λ n. n) result (any_integer place key (view value.now)) }
+{
+    match value.as_integer() {
+        Some(n) => Ok(n),
+        None => broken(SceneRule::WrongType, place, key),
+    }
+}
+
+fn integer(
+    place: Place,
+    key: KeyName,
+    low: i64,
+    high: i64,
+    value: &Value,
+) -> Result<i64, SceneFault>
+    ensures value { Gives (λ n. n) result (integer place key low high (view value.now)) }
+    ensures low { IfOk result (λ n. low ≤ℤ n) }
+    ensures high { IfOk result (λ n. n ≤ℤ high) }
+{
+    let n = any_integer(place, key, value)?;
+    if low <= n && n <= high {
+        Ok(n)
+    } else {
+        broken(SceneRule::OutOfRange, place, key)
+    }
+}
+
+/// The integer of a key that must be there.
+#[tactic(auto, unfolding(crate::specs::Values::required_any_integer))]
+pub fn required_any_integer(place: Place, key: KeyName, members: &Table) -> Result<i64, SceneFault>
+    ensures { Gives (λ n. n) result (required_any_integer place key (table_view members.now)) }
+{
+    match value_of(key, members) {
+        None => broken(SceneRule::MissingKey, place, key),
+        Some(value) => any_integer(place, key, value),
+    }
+}
+
+#[tactic(auto, unfolding(crate::specs::Values::required_integer))]
+pub fn required_integer(
+    place: Place,
+    key: KeyName,
+    low: i64,
+    high: i64,
+    members: &Table,
+) -> Result<i64, SceneFault>
+    ensures value { Gives (λ n. n) result (required_integer place key low high (table_view members.now)) }
+    ensures low { IfOk result (λ n. low ≤ℤ n) }
+    ensures high { IfOk result (λ n. n ≤ℤ high) }
+{
+    match value_of(key, members) {
+        None => broken(SceneRule::MissingKey, place, key),
+        Some(value) => integer(place, key, low, high, value),
+    }
+}
+
+#[tactic(auto, unfolding(crate::specs::Values::optional_integer))]
+pub fn optional_integer(
+    place: Place,
+    key: KeyName,
+    low: i64,
+    high: i64,
+    members: &Table,
+) -> Result<Option<i64>, SceneFault>
+    ensures { Gives (λ n. n) result (optional_integer place key low high (table_view members.now)) }
+{
+    match value_of(key, members) {
+        None => Ok(None),
+        Some(value) => Ok(Some(integer(place, key, low, high, value)?)),
+    }
+}
+
+#[tactic(auto, unfolding(crate::specs::Values::integer_or, crate::specs::Values::optional_integer))]
+pub fn integer_or(
+    place: Place,
+    key: KeyName,
+    low: i64,
+    high: i64,
+    default: i64,
+    members: &Table,
+) -> Result<i64, SceneFault>
+    requires low { low ≤ℤ default }
+    requires high { default ≤ℤ high }
+    ensures value { Gives (λ n. n) result (integer_or place key low high default (table_view members.now)) }
+    ensures low { IfOk result (λ n. low ≤ℤ n) }
+    ensures high { IfOk result (λ n. n ≤ℤ high) }
+{
+    match value_of(key, members) {
+        None => Ok(default),
+        Some(value) => integer(place, key, low, high, value),
+    }
+}
+
+/// The number from 0 of a key that must be there.
+#[tactic(auto, unfolding(crate::specs::Values::required_count))]
+pub fn required_count(
+    place: Place,
+    key: KeyName,
+    low: u32,
+    high: u32,
+    members: &Table,
+) -> Result<u32, SceneFault>
+    ensures value { Gives (λ n. n) result (required_count place key low high (table_view members.now)) }
+    ensures high { IfOk result (λ n. n ≤ high) }
+{
+    let n = required_integer(place, key, low as i64, high as i64, members)?;
+    Ok(n as u32)
+}
+
+#[tactic(auto, unfolding(crate::specs::Values::count_or))]
+pub fn count_or(
+    place: Place,
+    key: KeyName,
+    low: u32,
+    high: u32,
+    default: u32,
+    members: &Table,
+) -> Result<u32, SceneFault>
+    requires low { low ≤ default }
+    requires high { default ≤ high }
+    ensures value { Gives (λ n. n) result (count_or place key low high default (table_view members.now)) }
+    ensures high { IfOk result (λ n. n ≤ high) }
+{
+    let n = integer_or(place, key, low as i64, high as i64, default as i64, members)?;
+    Ok(n as u32)
+}
+
+// ---- true or false
+
+fn boolean(place: Place, key: KeyName, value: &Value) -> Result<bool, SceneFault>
+    ensures { Gives (λ b. b) result (boolean place key (view value.now)) }
+{
+    match value.as_bool() {
+        Some(b) => Ok(b),
+        None => broken(SceneRule::WrongType, place, key),
+    }
+}
+
+#[tactic(auto, unfolding(crate::specs::Values::boolean_or))]
+pub fn boolean_or(
+    place: Place,
+    key: KeyName,
+    default: bool,
+    members: &Table,
+) -> Result<bool, SceneFault>
+    ensures { Gives (λ b. b) result (boolean_or place key default (table_view members.now)) }
+{
+    match value_of(key, members) {
+        None => Ok(default),
+        Some(value) => boolean(place, key, value),
+    }
+}

@@ -1,0 +1,110 @@
+// Vectors: arrays of three integers.
+ghost use Rattle.std.specs.Prelude.{◌≡◌, [], IsTrue, ◌≤◌, ◌<◌, ◌^◌, ◌≤ℤ◌, pos, length, map, unsigned_abs, IfOk, option_map, string_bytes, Err};
+ghost use Rattle.std.specs.List.{list_all};
+ghost use Rattle.std.specs.BTreeMap.{keys};
+ghost use Rattle.toml.specs.View.{view, items_view, table_view};
+ghost use Rattle.toml.specs.Data.{get_member};
+ghost use Rattle.pbd_num.specs.Vectors.{Within, is_within, is_axis_within, zero_vector};
+ghost use Rattle.pbd_scene.specs.Checks.{Gives, broken, expect};
+ghost use Rattle.pbd_scene.specs.Keys.{key_text, table_text, is_key_of, is_table_of, is_known, all_known, known};
+ghost use Rattle.pbd_scene.specs.Values.{array_of, value_of, any_integer, integer, required_any_integer, required_integer, optional_integer, integer_or, required_count, count_or, boolean, boolean_or, three_integers, vector, required_vector, vector_or, integers, four_integers, row, required_array, members, entries, entries_of, table_of, integers_of};
+
+use crate::fault::{KeyName, Place, SceneFault, SceneRule};
+use crate::values::{broken, value_of};
+use pbd_num::Vec3;
+use toml::{Table, Value};
+
+#[tactic(auto, using(crate::proofs::Views::three_of_other))]
+fn three_integers(value: &Value) -> Option<Vec3>
+    ensures { result ≡ three_integers (view value.now) }
+{
+    let items = value.as_array()?;
+    if items.len() != 3 {
+        return None;
+    }
+    let x = items[0].as_integer()?;
+    let y = items[1].as_integer()?;
+    let z = items[2].as_integer()?;
+    Some(Vec3 { x, y, z })
+}
+
+fn vector(place: Place, key: KeyName, limit: i64, value: &Value) -> Result<Vec3, SceneFault>
+    requires low { pos 0 ≤ℤ limit }
+    requires high { unsigned_abs limit ≤ 2 ^ 30 }
+    ensures value { Gives (λ v. v) result (vector place key limit (view value.now)) }
+    ensures within { IfOk result (λ v. Within (2 ^ 30) v) }
+{
+    match three_integers(value) {
+        None => broken(SceneRule::WrongType, place, key),
+        Some(v) => {
+            if is_within(v, limit) {
+                Ok(v)
+            } else {
+                broken(SceneRule::OutOfRange, place, key)
+            }
+        }
+    }
+}
+
+fn is_axis_within(n: i64, limit: i64) -> bool
+    requires low { pos 0 ≤ℤ limit }
+    ensures { result ≡ is_axis_within limit n }
+{
+    -limit <= n && n <= limit
+}
+
+/// Whether each axis lies in -limit..=limit.
+pub fn is_inside(v: Vec3, limit: i64) -> bool
+    requires low { pos 0 ≤ℤ limit }
+    ensures { result ≡ is_within limit v }
+{
+    is_axis_within(v.x, limit) && is_axis_within(v.y, limit) && is_axis_within(v.z, limit)
+}
+
+/// The same, with the facts.
+fn is_within(v: Vec3, limit: i64) -> bool
+    requires low { pos 0 ≤ℤ limit }
+    requires high { unsigned_abs limit ≤ 2 ^ 30 }
+    ensures test { result ≡ is_within limit v }
+    ensures facts { IsTrue result → Within (2 ^ 30) v }
+{
+    is_inside(v, limit)
+}
+
+/// The vector of a key that must be there.
+#[tactic(auto, unfolding(crate::specs::Values::required_vector))]
+pub fn required_vector(
+    place: Place,
+    key: KeyName,
+    limit: i64,
+    members: &Table,
+) -> Result<Vec3, SceneFault>
+    requires low { pos 0 ≤ℤ limit }
+    requires high { unsigned_abs limit ≤ 2 ^ 30 }
+    ensures value { Gives (λ v. v) result (required_vector place key limit (table_view members.now)) }
+    ensures within { IfOk result (λ v. Within (2 ^ 30) v) }
+{
+    match value_of(key, members) {
+        None => broken(SceneRule::MissingKey, place, key),
+        Some(value) => vector(place, key, limit, value),
+    }
+}
+
+/// The vector of a key, or zero.
+#[tactic(auto, unfolding(crate::specs::Values::vector_or))]
+pub fn vector_or_zero(
+    place: Place,
+    key: KeyName,
+    limit: i64,
+    members: &Table,
+) -> Result<Vec3, SceneFault>
+    requires low { pos 0 ≤ℤ limit }
+    requires high { unsigned_abs limit ≤ 2 ^ 30 }
+    ensures value { Gives (λ v. v) result (vector_or place key limit zero_vector (table_view members.now)) }
+    ensures within { IfOk result (λ v. Within (2 ^ 30) v) }
+{
+    match value_of(key, members) {
+        None => Ok(Vec3::ZERO),
+        Some(value) => vector(place, key, limit, value),
+    }
+}
