@@ -1,0 +1,92 @@
+-- Lines of a frame, and names in a line.
+use Rattle.std.proofs.Common.{◌∙◌, sym, ap, ℕ, zero, suc, ◌+◌, ◌<◌, List, [], ◌∷◌, ◌++◌, length, get_or, take, drop, arith, append_assoc, ◌≤◌, lit≤, lit<, refl, ◌≡◌}
+use Rattle.std.specs.Prelude.{flat_map}
+use Rattle.std.proofs.lemmas.Fmt.{decimal_digit}
+use Rattle.pbd_world.specs.Text.{header_line}
+use Rattle.pbd_scene.specs.declared.fault.SceneRule.{SceneRule}
+use Rattle.pbd_scene.specs.declared.fault.SceneRule.TheVariants as rules
+use Rattle.pbd_scene.specs.declared.fault.TableName.{TableName}
+use Rattle.pbd_scene.specs.declared.fault.TableName.TheVariants as tables
+use Rattle.pbd_scene.specs.declared.fault.KeyName.{KeyName}
+use Rattle.pbd_scene.specs.declared.fault.KeyName.TheVariants as keys
+use Rattle.pbd_scene.specs.Keys.{rule_text, table_text, key_text}
+use Rattle.pbd_cli.specs.Falling.{Falling, Unseen, falling, still_header}
+
+pub flat_at : {X : Type 0} (f : X → List ℕ) (xs : List X) (i : ℕ) (d : X) (piece : List ℕ) → i < length xs → piece ≡ f (get_or xs i d) → flat_map f xs ≡ flat_map f (take i xs) ++ (piece ++ flat_map f (drop (i + 1) xs))
+flat_at f [] i d piece lt is = absurd (omega arith)
+flat_at f (x ∷ xs) zero d piece lt is = rw is refl
+flat_at f (x ∷ xs) (suc i) d piece lt is =
+    let e : suc i + 1 ≡ suc (i + 1) = omega arith in
+    rw e (ap (λ t. f x ++ t) (flat_at f xs i d piece (omega (arith, lt)) is) ∙ sym (append_assoc (f x) (flat_map f (take i xs)) (piece ++ flat_map f (drop (i + 1) xs))))
+
+-- ---- a frame's first line
+
+pub header_is : (f : Falling) (u : Unseen) → header_line (falling f u) ≡ still_header f.steps (length f.particles)
+unfolding header_line still_header
+header_is f u = rw (decimal_digit 0 (lit< tt)) refl
+
+-- ---- the words of a line
+
+pub joined : (n r t p k : List ℕ) → ((((((((n ++ 32 ∷ []) ++ r) ++ 32 ∷ []) ++ t) ++ 32 ∷ []) ++ p) ++ 32 ∷ []) ++ k) ++ 10 ∷ [] ≡ n ++ 32 ∷ (r ++ 32 ∷ (t ++ 32 ∷ (p ++ 32 ∷ (k ++ 10 ∷ []))))
+joined n r t p k = simp append_assoc refl
+
+-- ---- names fit a line
+
+pub rule_short : (x : SceneRule) → length (rule_text x) ≤ 20
+rule_short rules.UnknownKey = lit≤ tt
+rule_short rules.MissingKey = lit≤ tt
+rule_short rules.WrongType = lit≤ tt
+rule_short rules.OutOfRange = lit≤ tt
+rule_short rules.TooMany = lit≤ tt
+rule_short rules.BadIndex = lit≤ tt
+rule_short rules.SelfLink = lit≤ tt
+rule_short rules.DoubleLink = lit≤ tt
+rule_short rules.TooManyAtParticle = lit≤ tt
+rule_short rules.BadTrack = lit≤ tt
+
+pub table_short : (x : TableName) → length (table_text x) ≤ 20
+table_short tables.Scene = lit≤ tt
+table_short tables.Particle = lit≤ tt
+table_short tables.Cloth = lit≤ tt
+table_short tables.Rope = lit≤ tt
+table_short tables.Link = lit≤ tt
+table_short tables.Plane = lit≤ tt
+table_short tables.Sphere = lit≤ tt
+table_short tables.Track = lit≤ tt
+
+pub key_short : (x : KeyName) → length (key_text x) ≤ 20
+key_short keys.NoKey = lit≤ tt
+key_short keys.Gravity = lit≤ tt
+key_short keys.Passes = lit≤ tt
+key_short keys.Damping = lit≤ tt
+key_short keys.Thickness = lit≤ tt
+key_short keys.Friction = lit≤ tt
+key_short keys.Pins = lit≤ tt
+key_short keys.At = lit≤ tt
+key_short keys.Velocity = lit≤ tt
+key_short keys.Weight = lit≤ tt
+key_short keys.Held = lit≤ tt
+key_short keys.Origin = lit≤ tt
+key_short keys.Across = lit≤ tt
+key_short keys.Down = lit≤ tt
+key_short keys.Rows = lit≤ tt
+key_short keys.Columns = lit≤ tt
+key_short keys.Stretch = lit≤ tt
+key_short keys.Shear = lit≤ tt
+key_short keys.Bend = lit≤ tt
+key_short keys.StretchTear = lit≤ tt
+key_short keys.ShearTear = lit≤ tt
+key_short keys.BendTear = lit≤ tt
+key_short keys.Spacing = lit≤ tt
+key_short keys.Count = lit≤ tt
+key_short keys.A = lit≤ tt
+key_short keys.B = lit≤ tt
+key_short keys.Rest = lit≤ tt
+key_short keys.Stiffness = lit≤ tt
+key_short keys.Tear = lit≤ tt
+key_short keys.Normal = lit≤ tt
+key_short keys.Offset = lit≤ tt
+key_short keys.Centre = lit≤ tt
+key_short keys.Radius = lit≤ tt
+key_short keys.Particle = lit≤ tt
+key_short keys.Keys = lit≤ tt
