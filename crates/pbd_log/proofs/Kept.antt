@@ -1,0 +1,51 @@
+-- What a session keeps of a command is an entry in the log's grammar.
+use Rattle.std.proofs.Common.{◌≡◌, refl, ℕ, false, eqb, List, [], ◌∷◌, map, Result, Ok, Err}
+use Rattle.std.specs.List.{AllByRecursion}
+use Rattle.pbd_world.specs.declared.command.Command.{Command}
+use Rattle.pbd_world.specs.declared.command.Command.TheVariants.{Step, Frame, Pin, Unpin, Move, Cut, Gravity, Ledger, Bad}
+use Rattle.pbd_world.specs.declared.command.Refusal.{Refusal}
+use Rattle.pbd_world.specs.declared.command.Refusal.TheVariants as refusals
+use Rattle.pbd_world.specs.World.{World}
+use Rattle.pbd_world.specs.Meaning.{done_or_refused, run_steps, meaning, after, reply}
+use Rattle.pbd_world.specs.Replay.{LogEntry, kept_sums, entry, logged}
+use Rattle.pbd_log.specs.declared.entry.Entry.{Entry}
+use Rattle.pbd_log.specs.Entries.{refusal_answer, answer_of, has_sums, StandExactly, IsGrammatical, entry_of}
+use Rattle.pbd_log.proofs.Answers.{answer_is}
+
+-- a refusal's number isn't 0
+some_number : (r : Refusal) → eqb (refusal_answer r).number 0 ≡ false
+some_number refusals.BadCommand = refl
+some_number refusals.NoParticle = refl
+some_number refusals.NoLink = refl
+some_number refusals.LinkGone = refl
+some_number refusals.OutOfRange = refl
+some_number refusals.NotHeld = refl
+some_number refusals.Held = refl
+some_number refusals.Tracked = refl
+some_number refusals.BadCount = refl
+some_number refusals.StepLimit = refl
+some_number (refusals.LeavesRange step phase element) = refl
+some_number (refusals.TooManyContacts step) = refl
+
+step_stands : (v w : World) (n : ℕ) (r : Result World Refusal) → StandExactly (has_sums (Step n) (answer_of (done_or_refused w r).1).number) (kept_sums v (Step n) (done_or_refused w r).1)
+step_stands v w n (Ok x) = refl
+step_stands v w n (Err refusal) = some_number refusal
+
+stands : (w : World) (c : Command) → StandExactly (has_sums c (answer_of (reply w c)).number) (kept_sums (after w c) c (reply w c))
+unfolding meaning
+stands w (Step n) = step_stands (done_or_refused w (run_steps w n)).0 w n (run_steps w n)
+stands w Frame = refl
+stands w (Pin i) = refl
+stands w (Unpin i) = refl
+stands w (Move i to) = refl
+stands w (Cut n) = refl
+stands w (Gravity g) = refl
+stands w Ledger = refl
+stands w Bad = refl
+
+pub kept_is : (w : World) (command : Command) → IsGrammatical (entry_of (entry w command))
+kept_is w command = record { answer = answer_is (reply w command); sums = stands w command }
+
+pub logged_are : (w : World) (commands : List Command) → AllByRecursion IsGrammatical (map {A = LogEntry} {B = Entry} entry_of (logged w commands))
+logged_are w [] = tt
+logged_are w (command ∷ commands) = (kept_is w command, logged_are (after w command) commands)
