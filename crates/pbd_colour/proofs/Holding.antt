@@ -1,0 +1,345 @@
+-- The chains of the pairs of each particle.
+use Rattle.std.proofs.Common.{◌≡◌, ◌≢◌, ℕ, zero, suc, ◌+◌, ◌*◌, ◌/◌, ◌%◌, ◌<◌, ◌≤◌, ◌&&◌, ◌||◌, Bool, true, false, not, cond, eqb, ltb, List, [], ◌∷◌, get_or, set, map, length, take, refl, sym, ap, ◌∙◌, subst, arith, inl, inr, add-one, ◌⊎◌, Option, slice_get}
+use Rattle.std.proofs.lemmas.Bool.{cases_eq, cases_lt, eq-eqb, ne_eqb, and_parts, and_from, lt-ltb, false≢true}
+use Rattle.std.proofs.lemmas.Bool.Decides.{nat_tests}
+use Rattle.std.proofs.lemmas.List.{get_or-set_same, get_or-set_other, get_or_past, take_all}
+use Rattle.std.specs.List.{list_any}
+use Rattle.std.specs.List.Sorted.{IsStrictlyIncreasing}
+use Rattle.pbd_chain.specs.Linked.{Linked, is_in, is_linked, chain_at, without}
+use Rattle.pbd_chain.proofs.Walks.{chain_linked, not_linked, in_linked, in_unlinked, any_here, any_found}
+use Rattle.pbd_world.specs.Colours.{pair_at, live_at, is_end, some_below, joins, joined}
+use Rattle.pbd_colour.specs.Pairs.{dropped}
+use Rattle.pbd_colour.specs.Held.{end_at, far_at, before, Holds}
+use Rattle.pbd_world.proofs.GreedyLemmas.{some_below-decides}
+
+pub even_half : (k : ℕ) → 2 * k / 2 ≡ k
+even_half k = omega arith
+
+pub odd_half : (k : ℕ) → (2 * k + 1) / 2 ≡ k
+odd_half k = omega arith
+
+even_rest : (k : ℕ) → eqb (2 * k % 2) 0 ≡ true
+even_rest k = eq-eqb _ _ (omega arith)
+
+odd_rest : (k : ℕ) → eqb ((2 * k + 1) % 2) 0 ≡ false
+odd_rest k = ne_eqb _ _ (λ e. absurd (omega arith))
+
+end_even : (pairs : List (ℕ × ℕ)) (k : ℕ) → end_at pairs (2 * k) ≡ (pair_at pairs k).0
+end_even pairs k = rw (even_rest k, even_half k) refl
+
+end_odd : (pairs : List (ℕ × ℕ)) (k : ℕ) → end_at pairs (2 * k + 1) ≡ (pair_at pairs k).1
+end_odd pairs k = rw (odd_rest k, odd_half k) refl
+
+far_even : (pairs : List (ℕ × ℕ)) (k : ℕ) → far_at pairs (2 * k) ≡ (pair_at pairs k).1
+far_even pairs k = rw (even_rest k, even_half k) refl
+
+far_odd : (pairs : List (ℕ × ℕ)) (k : ℕ) → far_at pairs (2 * k + 1) ≡ (pair_at pairs k).0
+far_odd pairs k = rw (odd_rest k, odd_half k) refl
+
+item_even : (test : ℕ → Bool) (pairs : List (ℕ × ℕ)) (k p : ℕ) → (test (2 * k / 2) && eqb (end_at pairs (2 * k)) p) ≡ (test k && eqb (pair_at pairs k).0 p)
+item_even test pairs k p = rw (even_rest k, even_half k) refl
+
+item_odd : (test : ℕ → Bool) (pairs : List (ℕ × ℕ)) (k p : ℕ) → (test ((2 * k + 1) / 2) && eqb (end_at pairs (2 * k + 1)) p) ≡ (test k && eqb (pair_at pairs k).1 p)
+item_odd test pairs k p = rw (odd_rest k, odd_half k) refl
+
+-- an item is the first end of pair k, the second, or of another pair
+data Which (k x : ℕ) : Type 0 where
+  Even : x ≡ 2 * k → Which k x
+  Odd : x ≡ 2 * k + 1 → Which k x
+  Other : x ≢ 2 * k → x ≢ 2 * k + 1 → x / 2 ≢ k → Which k x
+
+which : (k x : ℕ) → Which k x
+which k x = elim (cases_eq x (2 * k)) [
+  | inl e ↦ Even e
+  | inr ne ↦ elim (cases_eq x (2 * k + 1)) [
+    | inl e ↦ Odd e
+    | inr nf ↦ Other ne nf (λ e. absurd (omega arith))
+  ]
+]
+
+length-map : (f : List ℕ → List ℕ) (xss : List (List ℕ)) → length (map f xss) ≡ length xss
+length-map f [] = refl
+length-map f (xs ∷ xss) = ap suc (length-map f xss)
+
+length-set : (xss : List (List ℕ)) (c : ℕ) (xs : List ℕ) → length (set xss c xs) ≡ length xss
+length-set [] c xs = refl
+length-set (ys ∷ xss) zero xs = refl
+length-set (ys ∷ xss) (suc c) xs = ap suc (length-set xss c xs)
+
+before_none : (k : ℕ) → ltb k 0 ≡ false
+before_none k = grind (arith, nat_tests)
+
+not_below : (i : ℕ) → ltb i i ≡ false
+not_below i = grind (arith, nat_tests)
+
+below_next : (i : ℕ) → ltb i (i + 1) ≡ true
+below_next i = lt-ltb i (i + 1) (omega arith)
+
+below_other : (k i : ℕ) → k ≢ i → ltb k i ≡ ltb k (i + 1)
+below_other k i ne = grind (arith, nat_tests)
+
+module _ {particles room : ℕ} (i : ℕ) {pairs : List (ℕ × ℕ)} {held : Linked} (h : Holds (before i) particles room pairs held) where
+  pub first_free : is_linked held.chains (2 * i) ≡ false
+  first_free = not_linked held.chains (2 * i) (λ c l. h.holds c (2 * i) (omega (arith, h.count, l)) ∙ item_even (before i) pairs i c ∙ rw (not_below i) refl)
+
+  second_first : (first : Linked) → (pair_at pairs i).0 < particles → first ≡ record held { chains = set held.chains (pair_at pairs i).0 ((2 * i) ∷ chain_at held.chains (pair_at pairs i).0) }
+      → (p x : ℕ) → is_in x (chain_at first.chains p) ≡ ((eqb (pair_at pairs i).0 p && eqb (2 * i) x) || is_in x (chain_at held.chains p))
+  second_first first la e p x = ap (λ (l : Linked). is_in x (chain_at l.chains p)) e ∙ in_linked held.chains (pair_at pairs i).0 (2 * i) (omega (arith, h.count, la)) p x
+
+  pub second_free : (first : Linked) → (pair_at pairs i).0 < particles → first ≡ record held { chains = set held.chains (pair_at pairs i).0 ((2 * i) ∷ chain_at held.chains (pair_at pairs i).0) }
+      → is_linked first.chains (2 * i + 1) ≡ false
+  second_free first la e = not_linked first.chains (2 * i + 1) (λ c l.
+      let len : length first.chains ≡ length held.chains = ap (λ (q : Linked). length q.chains) e ∙ length-set held.chains _ _ in
+      let differ : eqb (2 * i) (2 * i + 1) ≡ false = ne_eqb _ _ (λ s. absurd (omega arith)) in
+      let old : is_in (2 * i + 1) (chain_at held.chains c) ≡ false = h.holds c (2 * i + 1) (omega (arith, h.count, len, l)) ∙ item_odd (before i) pairs i c ∙ rw (not_below i) refl in
+      second_first first la e c (2 * i + 1) ∙ rw (differ, old) (go (eqb (pair_at pairs i).0 c)))
+    where
+      go : (b : Bool) → ((b && false) || false) ≡ false
+      go true = refl
+      go false = refl
+
+  pub Holds-more : (first second : Linked) → (pair_at pairs i).0 < particles → (pair_at pairs i).1 < particles
+      → first ≡ record held { chains = set held.chains (pair_at pairs i).0 ((2 * i) ∷ chain_at held.chains (pair_at pairs i).0) }
+      → second ≡ record first { chains = set first.chains (pair_at pairs i).1 ((2 * i + 1) ∷ chain_at first.chains (pair_at pairs i).1) }
+      → Holds (before (i + 1)) particles room pairs second
+  Holds-more first second la lb e f =
+      let len : length first.chains ≡ length held.chains = ap (λ (q : Linked). length q.chains) e ∙ length-set held.chains _ _ in
+      record {
+        items = ap (λ (q : Linked). q.items) f ∙ ap (λ (q : Linked). q.items) e ∙ h.items;
+        count = ap (λ (q : Linked). length q.chains) f ∙ length-set first.chains _ _ ∙ len ∙ h.count;
+        holds = λ p x l. ap (λ (q : Linked). is_in x (chain_at q.chains p)) f ∙ in_linked first.chains (pair_at pairs i).1 (2 * i + 1) (omega (arith, len, h.count, lb)) p x
+            ∙ ap (λ (b : Bool). (eqb (pair_at pairs i).1 p && eqb (2 * i + 1) x) || b) (second_first first la e p x ∙ ap (λ (b : Bool). (eqb (pair_at pairs i).0 p && eqb (2 * i) x) || b) (h.holds p x l))
+            ∙ go p x (which i x);
+      }
+    where
+      left : (a b r : Bool) → ((b && false) || ((a && true) || (false && r))) ≡ a
+      left true true r = refl
+      left true false r = refl
+      left false true r = refl
+      left false false r = refl
+
+      right : (a b r : Bool) → ((b && true) || ((a && false) || (false && r))) ≡ b
+      right a true r = refl
+      right true false r = refl
+      right false false r = refl
+
+      rest : (a b r : Bool) → ((b && false) || ((a && false) || r)) ≡ r
+      rest true true r = refl
+      rest true false r = refl
+      rest false true r = refl
+      rest false false r = refl
+
+      go : (p x : ℕ) → Which i x → ((eqb (pair_at pairs i).1 p && eqb (2 * i + 1) x) || ((eqb (pair_at pairs i).0 p && eqb (2 * i) x) || (ltb (x / 2) i && eqb (end_at pairs x) p))) ≡ (ltb (x / 2) (i + 1) && eqb (end_at pairs x) p)
+      go p x (Even s) = let differ : eqb (2 * i + 1) (2 * i) ≡ false = ne_eqb _ _ (λ t. absurd (omega arith)) in
+          rw (s, differ, eq-eqb (2 * i) (2 * i) refl, end_even pairs i, even_half i, not_below i, below_next i) (left (eqb (pair_at pairs i).0 p) (eqb (pair_at pairs i).1 p) (eqb (pair_at pairs i).0 p))
+      go p x (Odd s) = let differ : eqb (2 * i) (2 * i + 1) ≡ false = ne_eqb _ _ (λ t. absurd (omega arith)) in
+          rw (s, differ, eq-eqb (2 * i + 1) (2 * i + 1) refl, end_odd pairs i, odd_half i, not_below i, below_next i) (right (eqb (pair_at pairs i).0 p) (eqb (pair_at pairs i).1 p) (eqb (pair_at pairs i).1 p))
+      go p x (Other na nb nk) =
+          rw (ne_eqb (2 * i + 1) x (λ t. nb (sym t)), ne_eqb (2 * i) x (λ t. na (sym t)), below_other (x / 2) i nk) (rest (eqb (pair_at pairs i).0 p) (eqb (pair_at pairs i).1 p) (ltb (x / 2) (i + 1) && eqb (end_at pairs x) p))
+
+-- ---- pairs are taken out
+module _ {particles room : ℕ} (i : ℕ) {pairs : List (ℕ × ℕ)} (live : List Bool) {held : Linked} (h : Holds (live_at live) particles room pairs held)
+    (alive : live_at live i ≡ true) (la : (pair_at pairs i).0 < particles) (lb : (pair_at pairs i).1 < particles) where
+  pub first_linked : is_linked held.chains (2 * i) ≡ true
+  first_linked = chain_linked held.chains (pair_at pairs i).0 (2 * i) (omega (arith, h.count, la))
+      (h.holds (pair_at pairs i).0 (2 * i) la ∙ item_even (live_at live) pairs i (pair_at pairs i).0 ∙ and_from _ _ alive (eq-eqb _ _ refl))
+
+  pub second_linked : (first : Linked) → first ≡ record held { chains = map (without (2 * i)) held.chains } → is_linked first.chains (2 * i + 1) ≡ true
+  second_linked first e =
+      let differ : eqb (2 * i) (2 * i + 1) ≡ false = ne_eqb _ _ (λ s. absurd (omega arith)) in
+      let len : length first.chains ≡ length held.chains = ap (λ (q : Linked). length q.chains) e ∙ length-map _ held.chains in
+      chain_linked first.chains (pair_at pairs i).1 (2 * i + 1) (omega (arith, h.count, len, lb))
+      (ap (λ (q : Linked). is_in (2 * i + 1) (chain_at q.chains (pair_at pairs i).1)) e ∙ in_unlinked held.chains (2 * i) (pair_at pairs i).1 (2 * i + 1)
+      ∙ rw differ (h.holds (pair_at pairs i).1 (2 * i + 1) lb ∙ item_odd (live_at live) pairs i (pair_at pairs i).1 ∙ and_from _ _ alive (eq-eqb _ _ refl)))
+
+  pub Holds-less : (first second : Linked) → i < length live → first ≡ record held { chains = map (without (2 * i)) held.chains } → second ≡ record first { chains = map (without (2 * i + 1)) first.chains }
+      → Holds (live_at (set live i false)) particles room pairs second
+  Holds-less first second li e f = record {
+    items = ap (λ (q : Linked). q.items) f ∙ ap (λ (q : Linked). q.items) e ∙ h.items;
+    count = ap (λ (q : Linked). length q.chains) f ∙ length-map _ first.chains ∙ ap (λ (q : Linked). length q.chains) e ∙ length-map _ held.chains ∙ h.count;
+    holds = λ p x l. ap (λ (q : Linked). is_in x (chain_at q.chains p)) f ∙ in_unlinked first.chains (2 * i + 1) p x
+        ∙ ap (λ (b : Bool). not (eqb (2 * i + 1) x) && b) (ap (λ (q : Linked). is_in x (chain_at q.chains p)) e ∙ in_unlinked held.chains (2 * i) p x ∙ ap (λ (b : Bool). not (eqb (2 * i) x) && b) (h.holds p x l))
+        ∙ go p x (which i x);
+  }
+    where
+      none : (a : Bool) → (a && false) ≡ false
+      none true = refl
+      none false = refl
+
+      go : (p x : ℕ) → Which i x → (not (eqb (2 * i + 1) x) && (not (eqb (2 * i) x) && (live_at live (x / 2) && eqb (end_at pairs x) p))) ≡ (live_at (set live i false) (x / 2) && eqb (end_at pairs x) p)
+      go p x (Even s) = rw (s, eq-eqb (2 * i) (2 * i) refl, even_half i, get_or-set_same live i false false li) (none _)
+      go p x (Odd s) = rw (s, eq-eqb (2 * i + 1) (2 * i + 1) refl, odd_half i, get_or-set_same live i false false li) refl
+      go p x (Other na nb nk) = rw (ne_eqb (2 * i + 1) x (λ t. nb (sym t)), ne_eqb (2 * i) x (λ t. na (sym t)), get_or-set_other live i (x / 2) false false nk) refl
+
+or_left : (a b : Bool) → a ≡ true → (a || b) ≡ true
+or_left true b e = refl
+or_left false b e = absurd (false≢true e)
+
+-- ---- what the chain of a particle tells
+module _ {particles room : ℕ} {pairs : List (ℕ × ℕ)} (live : List Bool) {held : Linked} (h : Holds (live_at live) particles room pairs held) (len : length live ≡ length pairs) (i : ℕ) (li : i < particles) where
+  pub held_within : (x : ℕ) → is_in x (chain_at held.chains i) ≡ true → x / 2 < length pairs
+  held_within x e = let b = and_parts _ _ (sym (h.holds i x li) ∙ e) in elim (cases_lt (x / 2) (length pairs)) [
+    | inl l ↦ l
+    | inr l ↦ absurd (false≢true (sym (get_or_past live (x / 2) false (omega (arith, len, l))) ∙ b.0))
+  ]
+
+  both : (a b : Bool) → (a ≡ true → b ≡ true) → (b ≡ true → a ≡ true) → a ≡ b
+  both true b f g = sym (f refl)
+  both false true f g = g refl
+  both false false f g = refl
+
+  or_right : (a b : Bool) → b ≡ true → (a || b) ≡ true
+  or_right true b e = refl
+  or_right false b e = e
+
+  or_cases : (a b : Bool) → (a || b) ≡ true → (a ≡ true) ⊎ (b ≡ true)
+  or_cases true b e = inl refl
+  or_cases false b e = inr e
+
+  seen : (j x : ℕ) (b : Bool) → eqb (x % 2) 0 ≡ b → eqb (end_at pairs x) i ≡ true → eqb (far_at pairs x) j ≡ true → joins (pair_at pairs (x / 2)) i j ≡ true
+  seen j x true q e f = let e' = rw q at e in let f' = rw q at f in or_left _ _ (and_from _ _ e' f')
+  seen j x false q e f = let e' = rw q at e in let f' = rw q at f in or_right _ _ (and_from _ _ f' e')
+
+  there : (j : ℕ) → list_any (λ x. eqb (far_at pairs x) j) (chain_at held.chains i) ≡ true → joined pairs live i j ≡ true
+  there j e = let w = any_found (λ x. eqb (far_at pairs x) j) (chain_at held.chains i) e in
+      let b = and_parts _ _ (sym (h.holds i w.0 li) ∙ w.1) in
+      (some_below-decides (λ k. live_at live k && joins (pair_at pairs k) i j) (length pairs)).1 (w.0 / 2, held_within w.0 w.1, and_from _ _ b.0 (seen j w.0 (eqb (w.0 % 2) 0) refl b.1 w.2))
+
+  back_at : (j k : ℕ) → live_at live k ≡ true → joins (pair_at pairs k) i j ≡ true → list_any (λ x. eqb (far_at pairs x) j) (chain_at held.chains i) ≡ true
+  back_at j k alive here =
+      let a : ℕ = (pair_at pairs k).0 in let b : ℕ = (pair_at pairs k).1 in
+      elim (or_cases (eqb a i && eqb b j) (eqb a j && eqb b i) here) [
+        | inl s ↦ (let t = and_parts (eqb a i) (eqb b j) s in any_here (λ x. eqb (far_at pairs x) j) (chain_at held.chains i) (2 * k)
+            (h.holds i (2 * k) li ∙ item_even (live_at live) pairs k i ∙ and_from (live_at live k) (eqb a i) alive t.0) (ap (λ (n : ℕ). eqb n j) (far_even pairs k) ∙ t.1))
+        | inr s ↦ (let t = and_parts (eqb a j) (eqb b i) s in any_here (λ x. eqb (far_at pairs x) j) (chain_at held.chains i) (2 * k + 1)
+            (h.holds i (2 * k + 1) li ∙ item_odd (live_at live) pairs k i ∙ and_from (live_at live k) (eqb b i) alive t.1) (ap (λ (n : ℕ). eqb n j) (far_odd pairs k) ∙ t.0))
+      ]
+
+  back : (j : ℕ) → joined pairs live i j ≡ true → list_any (λ x. eqb (far_at pairs x) j) (chain_at held.chains i) ≡ true
+  back j e = let w = (some_below-decides (λ k. live_at live k && joins (pair_at pairs k) i j) (length pairs)).0 e in
+      let b = and_parts (live_at live w.0) (joins (pair_at pairs w.0) i j) w.2 in back_at j w.0 b.0 b.1
+
+  pub leads-joined : (j : ℕ) → list_any (λ x. eqb (far_at pairs x) j) (chain_at held.chains i) ≡ joined pairs live i j
+  leads-joined j = both _ _ (there j) (back j)
+
+or_second : (a b : Bool) → b ≡ true → (a || b) ≡ true
+or_second true b e = refl
+or_second false b e = e
+
+or_split : (a b : Bool) → (a || b) ≡ true → (a ≡ true) ⊎ (b ≡ true)
+or_split true b e = inl refl
+or_split false b e = inr e
+
+same_truth : (a b : Bool) → (a ≡ true → b ≡ true) → (b ≡ true → a ≡ true) → a ≡ b
+same_truth true b f g = sym (f refl)
+same_truth false true f g = g refl
+same_truth false false f g = refl
+
+-- ---- the pairs of a particle, for the sweep that mends colours
+module _ {particles room : ℕ} {pairs : List (ℕ × ℕ)} (live : List Bool) {held : Linked} (h : Holds (live_at live) particles room pairs held) (len : length live ≡ length pairs) (p : ℕ) (lp : p < particles) (test : ℕ → Bool) where
+  touched : ℕ → Bool
+  touched k = (live_at live k && is_end (pair_at pairs k) p) && test k
+
+  end_touches : (x : ℕ) → eqb (end_at pairs x) p ≡ true → is_end (pair_at pairs (x / 2)) p ≡ true
+  end_touches x e = go (eqb (x % 2) 0) refl e
+    where
+      go : (b : Bool) → eqb (x % 2) 0 ≡ b → eqb (cond b (pair_at pairs (x / 2)).0 (pair_at pairs (x / 2)).1) p ≡ true → is_end (pair_at pairs (x / 2)) p ≡ true
+      go true q f = or_left (eqb (pair_at pairs (x / 2)).0 p) (eqb (pair_at pairs (x / 2)).1 p) f
+      go false q f = or_second (eqb (pair_at pairs (x / 2)).0 p) (eqb (pair_at pairs (x / 2)).1 p) f
+
+  met : list_any (λ x. test (x / 2)) (chain_at held.chains p) ≡ true → some_below touched (length pairs) ≡ true
+  unfolding touched
+  met e =
+      let w = any_found (λ x. test (x / 2)) (chain_at held.chains p) e in
+      let b = and_parts (live_at live (w.0 / 2)) (eqb (end_at pairs w.0) p) (sym (h.holds p w.0 lp) ∙ w.1) in
+      (some_below-decides touched (length pairs)).1 (w.0 / 2, held_within live h len p lp w.0 w.1, and_from _ _ (and_from _ _ b.0 (end_touches w.0 b.1)) w.2)
+
+  met_back : some_below touched (length pairs) ≡ true → list_any (λ x. test (x / 2)) (chain_at held.chains p) ≡ true
+  unfolding touched
+  met_back e =
+      let w = (some_below-decides touched (length pairs)).0 e in
+      let b = and_parts (live_at live w.0 && is_end (pair_at pairs w.0) p) (test w.0) w.2 in
+      let d = and_parts (live_at live w.0) (is_end (pair_at pairs w.0) p) b.0 in
+      at w.0 d.0 b.1 (or_split (eqb (pair_at pairs w.0).0 p) (eqb (pair_at pairs w.0).1 p) d.1)
+    where
+      at : (k : ℕ) → live_at live k ≡ true → test k ≡ true → ((eqb (pair_at pairs k).0 p ≡ true) ⊎ (eqb (pair_at pairs k).1 p ≡ true)) → list_any (λ x. test (x / 2)) (chain_at held.chains p) ≡ true
+      at k a t (inl e) = any_here (λ x. test (x / 2)) (chain_at held.chains p) (2 * k) (h.holds p (2 * k) lp ∙ item_even (live_at live) pairs k p ∙ and_from (live_at live k) (eqb (pair_at pairs k).0 p) a e) (ap test (even_half k) ∙ t)
+      at k a t (inr e) = any_here (λ x. test (x / 2)) (chain_at held.chains p) (2 * k + 1) (h.holds p (2 * k + 1) lp ∙ item_odd (live_at live) pairs k p ∙ and_from (live_at live k) (eqb (pair_at pairs k).1 p) a e) (ap test (odd_half k) ∙ t)
+
+  -- the chain of a particle has a pair that passes exactly where a live pair that is_end the particle passes
+  pub chain-tells : list_any (λ x. test (x / 2)) (chain_at held.chains p) ≡ some_below (λ k. (live_at live k && is_end (pair_at pairs k) p) && test k) (length pairs)
+  unfolding touched
+  chain-tells = same_truth _ _ met met_back
+
+-- ---- a walk along a chain
+pub record IsAlong (test : ℕ → Bool) (chain : List ℕ) (at : Option ℕ) (k : ℕ) : Type 0 where
+  pub next : at ≡ slice_get chain k
+  pub none : list_any test (take k chain) ≡ false
+
+pub IsAlong-all : (test : ℕ → Bool) (chain : List ℕ) (at : Option ℕ) (k : ℕ) → IsAlong test chain at k → length chain ≤ k → list_any test chain ≡ false
+IsAlong-all test chain at k h l = ap (list_any test) (sym (take_all k chain l)) ∙ h.none
+
+-- leads to particle j
+abbrev pub leads_to : List (ℕ × ℕ) → ℕ → ℕ → Bool
+leads_to pairs j x = eqb (far_at pairs x) j
+
+-- ---- rising numbers
+pub rising_at : (xs : List ℕ) → IsStrictlyIncreasing xs → (i k : ℕ) → i < k → k < length xs → get_or xs i 0 < get_or xs k 0
+rising_at xs h i zero l m = absurd (omega arith)
+rising_at xs h i (suc k) l m =
+    let next : get_or xs k 0 < get_or xs (suc k) 0 = subst (λ (n : ℕ). get_or xs k 0 < get_or xs n 0) (add-one k) (h k (omega arith)) in
+    elim (cases_eq i k) [
+      | inl e ↦ subst (λ (n : ℕ). get_or xs n 0 < get_or xs (suc k) 0) (sym e) next
+      | inr ne ↦ omega (arith, next, rising_at xs h i k (omega arith) (omega arith))
+    ]
+
+-- the numbers before place i are taken out
+pub record IsTaking (numbers : List ℕ) (particles room : ℕ) (pairs : List (ℕ × ℕ)) (old live : List Bool) (chains : Linked) (i : ℕ) : Type 0 where
+  pub flags : live ≡ dropped (take i numbers) old
+  pub held : Holds (live_at live) particles room pairs chains
+
+-- a flag that is away already
+pub set_false : (live : List Bool) (i : ℕ) → live_at live i ≡ false → live ≡ set live i false
+set_false [] i e = refl
+set_false (b ∷ bs) zero e = ap (λ (c : Bool). c ∷ bs) e
+set_false (b ∷ bs) (suc i) e = ap (λ (cs : List Bool). b ∷ cs) (set_false bs i e)
+
+-- the flags before place i are away
+pub record AreGone (particles room : ℕ) (pairs : List (ℕ × ℕ)) (live : List Bool) (chains : Linked) (i : ℕ) : Type 0 where
+  pub gone : (k : ℕ) → k < i → live_at live k ≡ false
+  pub size : length live ≡ length pairs
+  pub held : Holds (live_at live) particles room pairs chains
+
+pub AreGone-more : {particles room : ℕ} {pairs : List (ℕ × ℕ)} {live : List Bool} {chains : Linked} {i : ℕ} → AreGone particles room pairs live chains i
+    → (flags : List Bool) (new : Linked) → i < length pairs → flags ≡ set live i false → Holds (live_at flags) particles room pairs new → AreGone particles room pairs flags new (i + 1)
+AreGone-more {live = live} {i = i} h flags new l e held = record {
+  gone = λ k lk. ap (λ (xs : List Bool). live_at xs k) e ∙ elim (cases_eq k i) [
+    | inl s ↦ ap (live_at (set live i false)) s ∙ get_or-set_same live i false false (omega (arith, l, h.size))
+    | inr ne ↦ get_or-set_other live i k false false ne ∙ h.gone k (omega arith)
+  ];
+  size = ap length e ∙ length-flags live i ∙ h.size;
+  held = held;
+}
+  where
+    length-flags : (flags : List Bool) (n : ℕ) → length (set flags n false) ≡ length flags
+    length-flags [] n = refl
+    length-flags (b ∷ bs) zero = refl
+    length-flags (b ∷ bs) (suc n) = ap suc (length-flags bs n)
+
+-- then the chains hold nothing, whatever pairs come next
+pub AreGone-all : {particles room : ℕ} {pairs : List (ℕ × ℕ)} {live : List Bool} {chains : Linked} {i : ℕ} → AreGone particles room pairs live chains i → length pairs ≤ i
+    → (others : List (ℕ × ℕ)) → Holds (before 0) particles room others chains
+AreGone-all {live = live} h l others = record {
+  items = h.held.items;
+  count = h.held.count;
+  holds = λ p x lp. h.held.holds p x lp ∙ none (x / 2) (eqb (end_at _ x) p) ∙ sym (never (x / 2) (eqb (end_at others x) p));
+}
+  where
+    none : (k : ℕ) (b : Bool) → (live_at live k && b) ≡ false
+    none k b = elim (cases_lt k (length live)) [
+      | inl m ↦ rw (h.gone k (omega (arith, m, h.size, l))) refl
+      | inr m ↦ rw (get_or_past live k false (omega (arith, m))) refl
+    ]
+
+    never : (k : ℕ) (b : Bool) → (ltb k 0 && b) ≡ false
+    never k b = rw (before_none k) refl

@@ -1,0 +1,49 @@
+-- What a colouring keeps tells its batches.
+use Rattle.std.proofs.Common.{◌≡◌, inl, inr, false, ℕ, ◌+◌, ◌<◌, ◌≤◌, Bool, true, List, get_or, length, sym, ap, ◌∙◌, arith, slice_range}
+use Rattle.std.proofs.lemmas.Bool.{cases_lt, false≢true}
+use Rattle.std.proofs.lemmas.List.{get_or_past}
+use Rattle.pbd_world.specs.Colours.{live_at, colour}
+use Rattle.pbd_colour.specs.Pairs.{batch_of}
+use Rattle.pbd_colour.specs.Coloured.{by_colour}
+use Rattle.pbd_colour.specs.Coloured.{IsColoured}
+use Rattle.pbd_colour.specs.Swept.{ArePainted}
+use Rattle.pbd_world.proofs.GreedyLemmas.{colour-is_greedy}
+use Rattle.pbd_colour.proofs.Gathering.{by_colour-agree, order_is, begins_within, piece_is}
+
+-- colours that are right are below 64
+pub painted_within : (pairs : List (ℕ × ℕ)) (live : List Bool) (colours : List ℕ) → ArePainted pairs live colours → length live ≡ length pairs → (i : ℕ) → i < length live → live_at live i ≡ true → get_or colours i 0 < 64
+painted_within pairs live colours painted len i l a = let w = colour-is_greedy pairs live i in omega (arith, painted i (omega (arith, len, l)) a, w.within)
+
+-- what `gather` lists by colours that are right
+pub IsColoured-gathered : (pairs : List (ℕ × ℕ)) (live : List Bool) (colours numbers starts : List ℕ) → length live ≡ length pairs
+    → ArePainted pairs live colours
+    → numbers ≡ by_colour live (λ k. get_or colours k 0) (length live) 64
+    → ((c : ℕ) → c < 65 → get_or starts c 0 ≡ length (by_colour live (λ k. get_or colours k 0) (length live) c))
+    → IsColoured pairs live colours numbers starts
+IsColoured-gathered pairs live colours numbers starts len painted listed started =
+    let same : (m : ℕ) → by_colour live (λ k. get_or colours k 0) (length live) m ≡ by_colour live (colour pairs live) (length pairs) m =
+    λ m. by_colour-agree live _ (colour pairs live) (length live) (λ i l a. painted i (omega (arith, len, l)) a) m ∙ ap (λ (n : ℕ). by_colour live (colour pairs live) n m) len in
+    record { painted = painted; ordered = listed ∙ same 64 ∙ order_is pairs live; started = λ c l. started c l ∙ ap length (same c) }
+
+module _ {pairs : List (ℕ × ℕ)} {live : List Bool} {colours numbers starts : List ℕ} (h : IsColoured pairs live colours numbers starts) where
+  whole : numbers ≡ by_colour live (colour pairs live) (length pairs) 64
+  whole = h.ordered ∙ sym (order_is pairs live)
+
+  pub starts_ordered : (c : ℕ) → c < 64 → get_or starts c 0 ≤ get_or starts (c + 1) 0
+  starts_ordered c l = omega (arith, h.started c (omega arith), h.started (c + 1) (omega arith), begins_within live (colour pairs live) (length pairs) c (c + 1) (omega arith))
+
+  pub starts_within : (c : ℕ) → c < 65 → get_or starts c 0 ≤ length numbers
+  starts_within c l = omega (arith, h.started c l, ap length whole, begins_within live (colour pairs live) (length pairs) c 64 (omega arith))
+
+  pub batch_is : (c : ℕ) → c < 64 → slice_range numbers (get_or starts c 0) (get_or starts (c + 1) 0) ≡ batch_of pairs live c
+  batch_is c l = ap (λ (xs : List ℕ). slice_range xs (get_or starts c 0) (get_or starts (c + 1) 0)) whole
+      ∙ ap (λ (s : ℕ). slice_range (by_colour live (colour pairs live) (length pairs) 64) s (get_or starts (c + 1) 0)) (h.started c (omega arith))
+      ∙ ap (λ (e : ℕ). slice_range (by_colour live (colour pairs live) (length pairs) 64) (length (by_colour live (colour pairs live) (length pairs) c)) e) (h.started (c + 1) (omega arith))
+      ∙ piece_is live (colour pairs live) (length pairs) c 64 (omega arith)
+
+-- a number of a live pair is in range
+pub live_below : (live : List Bool) (k : ℕ) → live_at live k ≡ true → k < length live
+live_below live k a = elim (cases_lt k (length live)) [
+  | inl l ↦ l
+  | inr l ↦ absurd (false≢true (sym (get_or_past live k false (omega (arith, l))) ∙ a))
+]

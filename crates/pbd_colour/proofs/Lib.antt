@@ -1,0 +1,10 @@
+pub mod UsedLemmas
+pub mod Painting
+pub mod Gathering
+pub mod KeptLemmas
+pub mod Sweeping
+pub mod Holding
+pub mod Placing
+pub mod Batches
+pub mod Mending
+pub mod Meeting

@@ -1,0 +1,252 @@
+//! A list of pairs with live flags, its greedy colours, and the chain of each particle's pairs.
+ghost use Rattle.std.specs.Prelude.{◌≡◌, ◌<◌, ◌≤◌, ◌++◌, [], ℕ, length, slice_index, replicate, IfOk, slice_range, ◌+◌, ◌*◌, IsTrue, true, count_by};
+ghost use Rattle.std.specs.List.Sorted.{IsStrictlyIncreasing};
+ghost use Rattle.pbd_world.specs.Colours.{live_at, colour, joined, joins};
+ghost use Rattle.pbd_colour.specs.Pairs.{InRange, batch_of, dropped};
+ghost use Rattle.pbd_colour.specs.Batch.{AreApart, AreLive};
+ghost use Rattle.pbd_colour.specs.Coloured.{IsColoured};
+ghost use Rattle.pbd_colour.specs.Held.{Holds};
+ghost use Rattle.pbd_colour.specs.Swept.{ArePainted};
+
+use crate::gather::gather;
+use crate::held::{hold_instead, leads};
+use crate::lists::{copy_pairs, fill};
+use crate::mend::mend;
+use crate::paint::paint;
+use pbd_chain::Chains;
+use pbd_world::RoomList;
+use std::alloc::{AllocError, Global};
+use std::marker::Model;
+
+/// Pairs of particles with a live flag each, and their greedy colours.
+///
+/// The colour of a live pair is the least of 0 to 62 that no live pair before it which shares a
+/// particle with it has, or 63 where there is none. So pairs of one colour below 63 may be
+/// projected in any order, or side by side; pairs of colour 63 go one after another. Only opening
+/// takes memory.
+#[derive(Drop)]
+pub struct Colouring {
+    particles: u32,
+    room: u32,
+    pairs: RoomList<(u32, u32)>,
+    live: RoomList<bool>,
+    marks: RoomList<bool>,
+    colours: RoomList<u8>,
+    used: RoomList<u64>,
+    order: RoomList<u32>,
+    starts: RoomList<u32>,
+    chains: Chains,
+}
+
+impl Model for Colouring {
+    ghost use Rattle.pbd_colour.specs.Pairs.{Coloured};
+
+    ghost Value = { Coloured };
+
+    ghost use Rattle.pbd_colour.specs.Kept.{IsKept};
+
+    ghost view = { λ s. record { particles = s.particles; room = s.room; pairs = s.pairs.entries; live = s.live.entries } };
+
+    ghost invariant = { λ s. IsKept s.particles s.room s.pairs s.live s.marks s.colours s.used s.order s.starts s.chains };
+}
+
+// The numbers from the start of the c-th piece to that of the next.
+fn piece<'a>(order: &'a [u32], starts: &[u32], c: usize) -> &'a [u32]
+    requires next { c + 1 < length starts.now }
+    requires ordered { slice_index starts.now c ≤ slice_index starts.now (c + 1) }
+    requires within { slice_index starts.now (c + 1) ≤ length order.now }
+    ensures { result.now ≡ slice_range order.now (slice_index starts.now c) (slice_index starts.now (c + 1)) }
+{
+    &order[starts[c] as usize..starts[c + 1] as usize]
+}
+
+// Colours from scratch, and lists the live numbers by colour.
+fn recolour(
+    pairs: &[(u32, u32)],
+    live: &[bool],
+    used: &mut [u64],
+    colours: &mut [u8],
+    order: &mut RoomList<u32>,
+    starts: &mut [u32],
+)
+    requires pairs { InRange (length used.old) pairs.now }
+    requires live { length live.now ≡ length pairs.now }
+    requires colours { length colours.old ≡ length pairs.now }
+    requires few { length live.now < 4294967296 }
+    requires numbers { length live.now ≤ order.old.room }
+    requires starts { length starts.old ≡ 65 }
+    ensures room { order.new.room ≡ order.old.room }
+    ensures coloured { IsColoured pairs.now live.now colours.new order.new.entries starts.new }
+{
+    paint(pairs, live, used, colours);
+    gather(live, colours, order, starts);
+}
+
+// Drops the pairs of some numbers, mends the colours of the others, and lists those by colour.
+fn recolour_without(
+    pairs: &[(u32, u32)],
+    live: &mut [bool],
+    chains: &mut Chains,
+    colours: &mut [u8],
+    marks: &mut [bool],
+    order: &mut RoomList<u32>,
+    starts: &mut [u32],
+    numbers: &[u32],
+)
+    requires few { length pairs.now ≤ 524288 }
+    requires pairs { InRange (length chains.old.chains) pairs.now }
+    requires length { length live.old ≡ length pairs.now }
+    requires colours { length colours.old ≡ length pairs.now }
+    requires marks { length marks.old ≡ length pairs.now }
+    requires numbers { length live.old ≤ order.old.room }
+    requires starts { length starts.old ≡ 65 }
+    requires held { Holds (live_at live.old) (length chains.old.chains) chains.old.items pairs.now chains.old }
+    requires painted { ArePainted pairs.now live.old colours.old }
+    requires in_range { (k : ℕ) → k < length numbers.now → slice_index numbers.now k < length live.old }
+    ensures live { live.new ≡ dropped numbers.now live.old }
+    ensures held { Holds (live_at live.new) (length chains.old.chains) chains.old.items pairs.now chains.new }
+    ensures room { order.new.room ≡ order.old.room }
+    ensures coloured { IsColoured pairs.now live.new colours.new order.new.entries starts.new }
+{
+    mend(pairs, live, chains, colours, marks, numbers);
+    gather(live, colours, order, starts);
+}
+
+impl Colouring {
+    /// Makes room for so many pairs, at most 524,288, of particles below `particles`, at most 65,536.
+    /// There are no pairs yet.
+    pub fn open(alloc: Global, particles: u32, room: u32) -> Result<Colouring, AllocError>
+        requires particles { particles ≤ 65536 }
+        requires room { room ≤ 524288 }
+        ensures { IfOk result (λ c. c ≡ record { particles = particles; room = room; pairs = []; live = [] }) }
+    {
+        let pairs = RoomList::open(alloc, room)?;
+        let live = RoomList::open(alloc, room)?;
+        let marks = RoomList::open(alloc, room)?;
+        let mut colours = RoomList::open(alloc, room)?;
+        let mut used = RoomList::open(alloc, particles)?;
+        let mut order = RoomList::open(alloc, room)?;
+        let mut starts = RoomList::open(alloc, 65)?;
+        let chains = Chains::open(alloc, particles, 2 * room)?;
+        fill(&mut used, 0, particles);
+        fill(&mut starts, 0, 65);
+        recolour(
+            pairs.as_slice(),
+            live.as_slice(),
+            used.as_mut_slice(),
+            colours.as_mut_slice(),
+            &mut order,
+            starts.as_mut_slice(),
+        );
+        Ok(Colouring {
+            particles,
+            room,
+            pairs,
+            live,
+            marks,
+            colours,
+            used,
+            order,
+            starts,
+            chains,
+        })
+    }
+
+    /// Takes other pairs, at most as many as there is room for, each of two different particles.
+    /// All are live.
+    pub fn refill(&mut self, pairs: &[(u32, u32)])
+        requires fits { length pairs.now ≤ self.old.room }
+        requires in_range { InRange self.old.particles pairs.now }
+        ensures { self.new ≡ record self.old { pairs = pairs.now; live = replicate (length pairs.now) true } }
+    {
+        hold_instead(
+            &mut self.chains,
+            self.pairs.as_slice(),
+            self.live.as_mut_slice(),
+            pairs,
+        );
+        copy_pairs(&mut self.pairs, pairs);
+        let count = pairs.len() as u32;
+        fill(&mut self.live, true, count);
+        fill(&mut self.colours, 0, count);
+        recolour(
+            self.pairs.as_slice(),
+            self.live.as_slice(),
+            self.used.as_mut_slice(),
+            self.colours.as_mut_slice(),
+            &mut self.order,
+            self.starts.as_mut_slice(),
+        );
+    }
+
+    /// Drops the live pairs of these numbers, which must rise. The others keep their numbers and
+    /// get the colours that they have without the dropped ones.
+    pub fn drop_pairs(&mut self, sorted: &[u32])
+        requires increasing { IsStrictlyIncreasing sorted.now }
+        requires live { (k : ℕ) → k < length sorted.now → IsTrue (live_at self.old.live (slice_index sorted.now k)) }
+        ensures { self.new ≡ record self.old { live = dropped sorted.now self.old.live } }
+    {
+        fill(&mut self.marks, false, self.pairs.as_slice().len() as u32);
+        recolour_without(
+            self.pairs.as_slice(),
+            self.live.as_mut_slice(),
+            &mut self.chains,
+            self.colours.as_mut_slice(),
+            self.marks.as_mut_slice(),
+            &mut self.order,
+            self.starts.as_mut_slice(),
+            sorted,
+        );
+    }
+
+    /// The colour of a live pair, 0 to 63.
+    pub fn colour(&self, i: u32) -> u8
+        requires { IsTrue (live_at self.now.live i) }
+        ensures value { result ≡ colour self.now.pairs self.now.live i }
+        ensures within { result ≤ 63 }
+    {
+        self.colours.as_slice()[i as usize]
+    }
+
+    /// The live pairs of a colour below 63, ascending. No two of them share a particle.
+    pub fn batch(&self, c: u8) -> &[u32]
+        requires { c ≤ 62 }
+        ensures value { result.now ≡ batch_of self.now.pairs self.now.live c }
+        ensures live { AreLive self.now.pairs self.now.live result.now }
+        ensures apart { AreApart self.now.pairs result.now }
+    {
+        piece(self.order.as_slice(), self.starts.as_slice(), c as usize)
+    }
+
+    /// The live pairs of colour 63, ascending. These may share particles.
+    pub fn serial(&self) -> &[u32]
+        ensures value { result.now ≡ batch_of self.now.pairs self.now.live 63 }
+        ensures live { AreLive self.now.pairs self.now.live result.now }
+    {
+        piece(self.order.as_slice(), self.starts.as_slice(), 63)
+    }
+
+    /// Whether a live pair joins two particles, in either order.
+    pub fn linked(&self, i: u32, j: u32) -> bool
+        requires i_in { i < self.now.particles }
+        requires j_in { j < self.now.particles }
+        ensures { result ≡ joined self.now.pairs self.now.live i j }
+    {
+        leads(self.pairs.as_slice(), &self.chains, i, j)
+    }
+
+    /// Whether a pair is live.
+    pub fn is_live(&self, i: u32) -> bool
+        requires { i < length self.now.pairs }
+        ensures { result ≡ live_at self.now.live i }
+    {
+        self.live.as_slice()[i as usize]
+    }
+
+    /// The number of live pairs.
+    pub fn live_count(&self) -> u32
+        ensures { result ≡ count_by (λ b. b) self.now.live }
+    {
+        self.live.as_slice().iter().filter(|b| **b).count() as u32
+    }
+}

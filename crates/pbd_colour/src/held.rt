@@ -1,0 +1,125 @@
+//! The chains of the pairs of each particle, with an item for each end of a pair.
+ghost use Rattle.std.specs.Prelude.{◌≡◌, ◌+◌, ◌*◌, ◌/◌, ◌<◌, ◌≤◌, ◌==◌, ℕ, List, IsTrue, false, length, slice_index, slice_set};
+ghost use Rattle.std.specs.List.{list_any};
+ghost use Rattle.pbd_chain.specs.Linked.{is_in, chain_at};
+ghost use Rattle.pbd_world.specs.Colours.{live_at};
+ghost use Rattle.pbd_colour.specs.Pairs.{InRange, dropped};
+ghost use Rattle.pbd_colour.specs.Held.{Holds, before, far_at};
+
+use pbd_chain::Chains;
+
+// Puts both ends of each pair into the chains of their particles, which hold nothing before.
+fn hold_all(chains: &mut Chains, pairs: &[(u32, u32)])
+    requires pairs { InRange (length chains.old.chains) pairs.now }
+    requires few { length pairs.now ≤ 524288 }
+    requires room { 2 * length pairs.now ≤ chains.old.items }
+    requires empty { Holds (before 0) (length chains.old.chains) chains.old.items pairs.now chains.old }
+    ensures { Holds (before (length pairs.now)) (length chains.old.chains) chains.old.items pairs.now chains.new }
+{
+    for i in 0..pairs.len() {
+        let (a, b) = pairs[i];
+        let item = 2 * i as u32;
+        chains.link_front(a, item);
+        chains.link_front(b, item + 1);
+    }
+}
+
+// Takes a pair's flag away, and its ends out of the chains.
+fn let_go(_pairs: &[(u32, u32)], live: &mut [bool], chains: &mut Chains, i: u32)
+    requires i { i < length _pairs.now }
+    requires pairs { InRange (length chains.old.chains) _pairs.now }
+    requires length { length live.old ≡ length _pairs.now }
+    requires few { length _pairs.now ≤ 524288 }
+    requires held { Holds (live_at live.old) (length chains.old.chains) chains.old.items _pairs.now chains.old }
+    ensures live { live.new ≡ slice_set live.old i false }
+    ensures held { Holds (live_at live.new) (length chains.old.chains) chains.old.items _pairs.now chains.new }
+{
+    if !live[i as usize] {
+        return;
+    }
+    let item = 2 * i;
+    chains.unlink(item);
+    chains.unlink(item + 1);
+    live[i as usize] = false;
+}
+
+// Takes the flags of the numbers away, and their ends out of the chains.
+pub(crate) fn take_out(
+    pairs: &[(u32, u32)],
+    live: &mut [bool],
+    chains: &mut Chains,
+    numbers: &[u32],
+)
+    requires pairs { InRange (length chains.old.chains) pairs.now }
+    requires length { length live.old ≡ length pairs.now }
+    requires few { length pairs.now ≤ 524288 }
+    requires held { Holds (live_at live.old) (length chains.old.chains) chains.old.items pairs.now chains.old }
+    requires in_range { (k : ℕ) → k < length numbers.now → slice_index numbers.now k < length live.old }
+    ensures live { live.new ≡ dropped numbers.now live.old }
+    ensures held { Holds (live_at live.new) (length chains.old.chains) chains.old.items pairs.now chains.new }
+{
+    for i in numbers {
+        let_go(pairs, live, chains, *i);
+    }
+}
+
+// Takes the ends of all pairs out of the chains, which costs no more than the pairs.
+fn take_all_out(pairs: &[(u32, u32)], live: &mut [bool], chains: &mut Chains)
+    requires pairs { InRange (length chains.old.chains) pairs.now }
+    requires length { length live.old ≡ length pairs.now }
+    requires few { length pairs.now ≤ 524288 }
+    requires held { Holds (live_at live.old) (length chains.old.chains) chains.old.items pairs.now chains.old }
+    ensures { (others : List (ℕ × ℕ)) → Holds (before 0) (length chains.old.chains) chains.old.items others chains.new }
+{
+    for i in 0..pairs.len() as u32 {
+        let_go(pairs, live, chains, i);
+    }
+}
+
+// Puts both ends of each pair into the chains in place of those of other pairs.
+pub(crate) fn hold_instead(
+    chains: &mut Chains,
+    held: &[(u32, u32)],
+    live: &mut [bool],
+    pairs: &[(u32, u32)],
+)
+    requires old_pairs { InRange (length chains.old.chains) held.now }
+    requires length { length live.old ≡ length held.now }
+    requires old_few { length held.now ≤ 524288 }
+    requires held { Holds (live_at live.old) (length chains.old.chains) chains.old.items held.now chains.old }
+    requires pairs { InRange (length chains.old.chains) pairs.now }
+    requires few { length pairs.now ≤ 524288 }
+    requires room { 2 * length pairs.now ≤ chains.old.items }
+    ensures { Holds (before (length pairs.now)) (length chains.old.chains) chains.old.items pairs.now chains.new }
+{
+    take_all_out(held, live, chains);
+    hold_all(chains, pairs);
+}
+
+// The particle at the other end of the pair of an item.
+fn far_end(pairs: &[(u32, u32)], item: u32) -> u32
+    requires { item / 2 < length pairs.now }
+    ensures { result ≡ far_at pairs.now item }
+{
+    let (a, b) = pairs[(item / 2) as usize];
+    if item % 2 == 0 { b } else { a }
+}
+
+// Whether a pair in the chain of particle i leads to particle j.
+pub(crate) fn leads(pairs: &[(u32, u32)], chains: &Chains, i: u32, j: u32) -> bool
+    requires chain { i < length chains.now.chains }
+    requires pairs { (x : ℕ) → IsTrue (is_in x (chain_at chains.now.chains i)) → x / 2 < length pairs.now }
+    ensures { result ≡ list_any (λ x. far_at pairs.now x == j) (chain_at chains.now.chains i) }
+{
+    let mut at = chains.first(i);
+    for _ in 0..chains.items() {
+        let Some(item) = at else {
+            break;
+        };
+        if far_end(pairs, item) == j {
+            return true;
+        }
+        at = chains.next(item);
+    }
+    false
+}

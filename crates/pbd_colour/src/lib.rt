@@ -1,0 +1,17 @@
+//! Greedy colours of pairs, so that the pairs of one colour share no particle.
+#![tactic(auto)]
+
+mod colouring;
+mod gather;
+mod held;
+mod laws;
+mod lists;
+mod mend;
+mod neighbours;
+mod paint;
+
+pub use colouring::Colouring;
+pub use laws::{batches_are_apart, batches_are_live, batches_make_order};
+
+#[cfg(test)]
+mod tests;

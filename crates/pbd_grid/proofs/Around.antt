@@ -1,0 +1,61 @@
+-- The cells round a cell, with coordinates from 1 on so that none is below 0.
+use Rattle.std.proofs.Common.{◌≡◌, ℕ, zero, ◌+◌, ◌*◌, ◌≤◌, ◌&&◌, Bool, true, false, cond, eqb, List, [], ◌∷◌, ◌++◌, refl, ◌∙◌, arith}
+use Rattle.std.proofs.lemmas.Bool.Decides.{nat_tests}
+use Rattle.std.specs.List.{flat_map}
+
+-- how many elements pass
+abbrev pub passing : {X : Type 0} → (X → Bool) → List X → ℕ
+passing p [] = 0
+passing p (x ∷ xs) = cond (p x) 1 0 + passing p xs
+
+pub passing-append : {X : Type 0} (p : X → Bool) (xs ys : List X) → passing p (xs ++ ys) ≡ passing p xs + passing p ys
+passing-append p [] ys = omega arith
+passing-append p (x ∷ xs) ys = omega (arith, passing-append p xs ys)
+
+-- one below, the number itself and one above, each plus 1
+abbrev pub axis : ℕ → List ℕ
+axis a = (a + 0) ∷ (a + 1) ∷ (a + 2) ∷ []
+
+pub passing-axis : (a b : ℕ) → a ≤ b + 1 → b ≤ a + 1 → passing (λ d. eqb d (b + 1)) (axis a) ≡ 1
+passing-axis a b h k = grind (arith, nat_tests)
+
+abbrev pub map_pair : {X Y : Type 0} → X → List Y → List (X × Y)
+map_pair x [] = []
+map_pair x (y ∷ ys) = (x, y) ∷ map_pair x ys
+
+passing-map_pair : {X Y : Type 0} (p : X → Bool) (q : Y → Bool) (x : X) (ys : List Y) → passing (λ (z : X × Y). p z.0 && q z.1) (map_pair x ys) ≡ cond (p x) (passing q ys) 0
+passing-map_pair {X = X} {Y = Y} p q x [] = go (p x)
+  where
+    go : (b : Bool) → zero ≡ cond b zero zero
+    go true = refl
+    go false = refl
+passing-map_pair {X = X} {Y = Y} p q x (y ∷ ys) = go (p x) (q y) (passing-map_pair p q x ys)
+  where
+    go : (b c : Bool) → passing (λ (z : X × Y). p z.0 && q z.1) (map_pair x ys) ≡ cond b (passing q ys) 0
+        → cond (b && c) 1 0 + passing (λ (z : X × Y). p z.0 && q z.1) (map_pair x ys) ≡ cond b (cond c 1 0 + passing q ys) 0
+    go true true r = omega (arith, r)
+    go true false r = omega (arith, r)
+    go false true r = omega (arith, r)
+    go false false r = omega (arith, r)
+
+-- a test of pairs part by part passes as many as the product
+pub passing-product : {X Y : Type 0} (p : X → Bool) (q : Y → Bool) (xs : List X) (ys : List Y) → passing (λ (z : X × Y). p z.0 && q z.1) (flat_map (λ x. map_pair x ys) xs) ≡ passing p xs * passing q ys
+passing-product {X = X} {Y = Y} p q [] ys = omega arith
+passing-product {X = X} {Y = Y} p q (x ∷ xs) ys = passing-append (λ z. p z.0 && q z.1) (map_pair x ys) (flat_map (λ x. map_pair x ys) xs) ∙ go (p x) (passing-map_pair p q x ys) (passing-product p q xs ys)
+  where
+    go : (b : Bool) → passing (λ (z : X × Y). p z.0 && q z.1) (map_pair x ys) ≡ cond b (passing q ys) 0
+        → passing (λ (z : X × Y). p z.0 && q z.1) (flat_map (λ x. map_pair x ys) xs) ≡ passing p xs * passing q ys
+        → passing (λ (z : X × Y). p z.0 && q z.1) (map_pair x ys) + passing (λ (z : X × Y). p z.0 && q z.1) (flat_map (λ x. map_pair x ys) xs) ≡ (cond b 1 0 + passing p xs) * passing q ys
+    go true r s = omega (arith, r, s)
+    go false r s = omega (arith, r, s)
+
+-- the 27 cells
+abbrev pub around : ℕ → ℕ → ℕ → List ((ℕ × ℕ) × ℕ)
+around a b c = flat_map (λ w. map_pair w (axis c)) (flat_map (λ x. map_pair x (axis b)) (axis a))
+
+-- exactly one of the 27 is a cell that is at most one apart on each axis
+pub passing-around : (a b c a' b' c' : ℕ) → a ≤ a' + 1 → a' ≤ a + 1 → b ≤ b' + 1 → b' ≤ b + 1 → c ≤ c' + 1 → c' ≤ c + 1
+    → passing (λ (z : (ℕ × ℕ) × ℕ). eqb z.0.0 (a' + 1) && eqb z.0.1 (b' + 1) && eqb z.1 (c' + 1)) (around a b c) ≡ 1
+passing-around a b c a' b' c' h h' k k' l l' =
+    passing-product (λ (w : ℕ × ℕ). eqb w.0 (a' + 1) && eqb w.1 (b' + 1)) (λ e. eqb e (c' + 1)) (flat_map (λ x. map_pair x (axis b)) (axis a)) (axis c)
+    ∙ rw (passing-product (λ d. eqb d (a' + 1)) (λ e. eqb e (b' + 1)) (axis a) (axis b), passing-axis a a' h h', passing-axis b b' k k', passing-axis c c' l l') refl

@@ -1,0 +1,126 @@
+-- Lists of near pairs by cells.
+use Rattle.std.proofs.Common.{◌≡◌, ◌≢◌, ℕ, zero, suc, ◌+◌, ◌*◌, ◌<◌, ◌≤◌, ◌&&◌, Bool, true, false, not, cond, eqb, ltb, pos, ◌-ℤ◌, unsigned_abs, List, [], ◌∷◌, length, map, set, refl, sym, ap, ◌∙◌, arith, inl, inr, ◌⊎◌}
+use Rattle.std.proofs.lemmas.Bool.{cases_eq, eq-eqb, ne_eqb}
+use Rattle.std.proofs.lemmas.Bool.Decides.{nat_tests}
+use Rattle.std.proofs.lemmas.List.{get_or-set_same, get_or-set_other, length-set}
+use Rattle.std.specs.List.{filter}
+use Rattle.pbd_chain.specs.Linked.{Linked, is_in, is_linked, chain_at}
+use Rattle.pbd_chain.proofs.Walks.{not_linked}
+use Rattle.pbd_num.specs.declared.Vec3.{Vec3}
+use Rattle.pbd_num.specs.Vectors.{minus, squared_length}
+use Rattle.pbd_grid.specs.Near.{is_near}
+use Rattle.pbd_grid.specs.Blocks.{count, cell_at, slot_of}
+use Rattle.pbd_grid.proofs.Cells.{count-filter, root_below}
+
+-- ---- the filling of the chains
+count_none : (q : ℕ) (xs : List ℕ) → count q xs ≡ 0 → is_in q xs ≡ false
+count_none q [] e = refl
+count_none q (x ∷ xs) e = elim (cases_eq x q) [
+  | inl s ↦ absurd (let e' = rw (eq-eqb x q s) at e in omega (arith, e'))
+  | inr ne ↦ rw (ne_eqb x q ne) (count_none q xs (let e' = rw (ne_eqb x q ne) at e in omega (arith, e')))
+]
+
+count_linked : (xss : List (List ℕ)) (c y : ℕ) → c < length xss → (q p : ℕ) → count q (chain_at (set xss c (y ∷ chain_at xss c)) p) ≡ cond (eqb c p && eqb y q) 1 0 + count q (chain_at xss p)
+count_linked xss c y l q p = elim (cases_eq c p) [
+  | inl e ↦ rw (← e, get_or-set_same xss c (y ∷ chain_at xss c) [] l, eq-eqb c c refl) refl
+  | inr ne ↦ rw (get_or-set_other xss c p (y ∷ chain_at xss c) [] (λ e. ne (sym e)), ne_eqb c p ne) (omega arith)
+]
+
+-- the particles before i are in their chains
+pub record AreLinked (side : ℕ) (places : List Vec3) (n : ℕ) (old now : Linked) (i : ℕ) : Type 0 where
+  pub items : now.items ≡ old.items
+  pub count_of : length now.chains ≡ n
+  pub once : (q : ℕ) → q < i → count q (chain_at now.chains (slot_of n (cell_at side places q))) ≡ 1
+  pub none : (q c : ℕ) → i ≤ q → count q (chain_at now.chains c) ≡ 0
+
+abbrev empty_list : List ℕ
+empty_list = []
+
+empty_count : (xss : List (List ℕ)) (q c : ℕ) → count q (chain_at (map (λ _. []) xss) c) ≡ 0
+empty_count [] q c = refl
+empty_count (xs ∷ xss) q zero = refl
+empty_count (xs ∷ xss) q (suc c) = empty_count xss q c
+
+length-emptied : (xss : List (List ℕ)) → length (map (λ (xs : List ℕ). empty_list) xss) ≡ length xss
+length-emptied [] = refl
+length-emptied (xs ∷ xss) = ap suc (length-emptied xss)
+
+pub AreLinked-none : (side : ℕ) (places : List Vec3) (n : ℕ) (old now : Linked) → length old.chains ≡ n → now ≡ record old { chains = map (λ _. []) old.chains } → AreLinked side places n old now 0
+AreLinked-none side places n old now size e = rw e (record { items = refl; count_of = length-emptied old.chains ∙ size; once = λ q l. absurd (omega arith); none = λ q c l. empty_count old.chains q c })
+
+module _ {side : ℕ} {places : List Vec3} {n : ℕ} {old now : Linked} (i : ℕ) (h : AreLinked side places n old now i) where
+  pub next_free : is_linked now.chains i ≡ false
+  next_free = not_linked now.chains i (λ c l. count_none i (chain_at now.chains c) (h.none i c (omega arith)))
+
+  pub AreLinked-more : (c : ℕ) (new : Linked) → c < n → c ≡ slot_of n (cell_at side places i) → new ≡ record now { chains = set now.chains c (i ∷ chain_at now.chains c) } → AreLinked side places n old new (i + 1)
+  AreLinked-more c new lc is e =
+      let more : (q p : ℕ) → count q (chain_at new.chains p) ≡ cond (eqb c p && eqb i q) 1 0 + count q (chain_at now.chains p) =
+      λ q p. ap (λ (l : Linked). count q (chain_at l.chains p)) e ∙ count_linked now.chains c i (omega (arith, h.count_of, lc)) q p in
+      record {
+        items = ap (λ (l : Linked). l.items) e ∙ h.items;
+        count_of = ap (λ (l : Linked). length l.chains) e ∙ length-set now.chains c (i ∷ chain_at now.chains c) ∙ h.count_of;
+        once = λ q l. elim (cases_eq i q) [
+          | inl s ↦ more q (slot_of n (cell_at side places q)) ∙ rw (eq-eqb c (slot_of n (cell_at side places q)) (is ∙ ap (λ (k : ℕ). slot_of n (cell_at side places k)) s), eq-eqb i q s) (omega (arith, h.none q (slot_of n (cell_at side places q)) (omega (arith, s))))
+          | inr ne ↦ more q (slot_of n (cell_at side places q)) ∙ rw (ne_eqb i q ne) (skip (eqb c (slot_of n (cell_at side places q))) (count q (chain_at now.chains (slot_of n (cell_at side places q)))) ∙ h.once q (omega arith))
+        ];
+        none = λ q p l. more q p ∙ rw (ne_eqb i q (λ s. absurd (omega arith))) (skip (eqb c p) (count q (chain_at now.chains p)) ∙ h.none q p (omega arith));
+      }
+    where
+      skip : (b : Bool) (m : ℕ) → cond (b && false) 1 0 + m ≡ m
+      skip true m = omega arith
+      skip false m = omega arith
+
+-- ---- near particles are in cells next to each other
+part_lt : (d t a b : ℕ) → d * d + a + b < t * t → d < t
+part_lt d t a b l = root_below d t (omega (arith, l))
+
+pub lt_of : (a b : ℕ) → ltb a b ≡ true → a < b
+lt_of a b e = grind (arith, nat_tests)
+
+near_sum : (t : ℕ) (a b : Vec3) → is_near (pos t) a b ≡ true
+    → unsigned_abs (a.x -ℤ b.x) * unsigned_abs (a.x -ℤ b.x) + unsigned_abs (a.y -ℤ b.y) * unsigned_abs (a.y -ℤ b.y) + unsigned_abs (a.z -ℤ b.z) * unsigned_abs (a.z -ℤ b.z) < t * t
+near_sum t a b e = lt_of (squared_length (minus a b)) (t * t) e
+
+module _ (t : ℕ) (a b : Vec3) (e : is_near (pos t) a b ≡ true) where
+  pub near_x : unsigned_abs (a.x -ℤ b.x) < t
+  near_x = part_lt (unsigned_abs (a.x -ℤ b.x)) t (unsigned_abs (a.y -ℤ b.y) * unsigned_abs (a.y -ℤ b.y)) (unsigned_abs (a.z -ℤ b.z) * unsigned_abs (a.z -ℤ b.z)) (near_sum t a b e)
+
+  pub near_y : unsigned_abs (a.y -ℤ b.y) < t
+  near_y = part_lt (unsigned_abs (a.y -ℤ b.y)) t (unsigned_abs (a.x -ℤ b.x) * unsigned_abs (a.x -ℤ b.x)) (unsigned_abs (a.z -ℤ b.z) * unsigned_abs (a.z -ℤ b.z)) (omega (arith, near_sum t a b e))
+
+  pub near_z : unsigned_abs (a.z -ℤ b.z) < t
+  near_z = part_lt (unsigned_abs (a.z -ℤ b.z)) t (unsigned_abs (a.x -ℤ b.x) * unsigned_abs (a.x -ℤ b.x)) (unsigned_abs (a.y -ℤ b.y) * unsigned_abs (a.y -ℤ b.y)) (omega (arith, near_sum t a b e))
+
+-- ---- no more numbers than there are
+count_rest : (n : ℕ) (xs : List ℕ) → length xs ≡ count n xs + length (filter (λ x. not (eqb x n)) xs)
+count_rest n [] = refl
+count_rest n (x ∷ xs) = go (eqb x n) (count_rest n xs)
+  where
+    go : (b : Bool) → length xs ≡ count n xs + length (filter (λ x. not (eqb x n)) xs) → suc (length xs) ≡ cond b 1 0 + count n xs + length (cond (not b) (x ∷ filter (λ x. not (eqb x n)) xs) (filter (λ x. not (eqb x n)) xs))
+    go true r = omega (arith, r)
+    go false r = omega (arith, r)
+
+no_numbers : (xs : List ℕ) → ((q : ℕ) → count q xs ≡ 0) → length xs ≡ 0
+no_numbers [] h = refl
+no_numbers (x ∷ xs) h = absurd (let e = h x in let e' = rw (eq-eqb x x refl) at e in omega (arith, e'))
+
+pub few_numbers : (n : ℕ) (xs : List ℕ) → ((q : ℕ) → count q xs ≤ 1) → ((q : ℕ) → n ≤ q → count q xs ≡ 0) → length xs ≤ n
+few_numbers zero xs once above = omega (arith, no_numbers xs (λ q. above q (omega arith)))
+few_numbers (suc n) xs once above =
+    let left : (q : ℕ) → count q (filter (λ x. not (eqb x n)) xs) ≡ cond (not (eqb q n)) (count q xs) 0 = λ q. count-filter (λ x. not (eqb x n)) q xs in
+    omega (
+      arith,
+      count_rest n xs,
+      once n,
+      few_numbers n (filter (λ x. not (eqb x n)) xs)
+          (λ q. omega (arith, left q, some (not (eqb q n)) (count q xs), once q))
+          (λ q l. left q ∙ none q (cases_eq q n) l (λ m. above q m)),
+    )
+  where
+    some : (b : Bool) (m : ℕ) → cond b m 0 ≤ m
+    some true m = omega arith
+    some false m = omega arith
+
+    none : (q : ℕ) → ((q ≡ n) ⊎ (q ≢ n)) → n ≤ q → (suc n ≤ q → count q xs ≡ 0) → cond (not (eqb q n)) (count q xs) 0 ≡ 0
+    none q (inl e) l h = rw (eq-eqb q n e) refl
+    none q (inr ne) l h = rw (ne_eqb q n ne) (h (omega (arith, l, ne)))

@@ -1,0 +1,9 @@
+use Rattle.std.proofs.Common.{length}
+use Rattle.pbd_chain.specs.Linked.{chain_at}
+use Rattle.pbd_grid.specs.Blocks.{slot_of}
+use Rattle.pbd_grid.proofs.Looking.{finds}
+use Rattle.pbd_grid.proofs.Walking.{IsKept}
+use Rattle.pbd_grid.proofs.lookup.look_up.Given as goal
+
+abbrev pub invariant-loop : goal.invariant-loop
+invariant-loop g l = IsKept (finds l.places l.side (g.F.PairFilter.test l.filter) l.i l.cell) (chain_at l.chains.chains (slot_of (length l.chains.chains) l.cell)) l.at l.counter l.fn.found l.found
