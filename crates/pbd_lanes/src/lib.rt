@@ -1,0 +1,195 @@
+//! L whole numbers, or L truth values, side by side. L is one of 1, 2, 4, 8 and 16.
+#![tactic(auto)]
+
+ghost use Rattle.std.specs.Prelude.{◌≡◌, ℕ, ◌<◌, ◌≤◌, ◌^◌, pos, ◌+ℤ◌, ◌-ℤ◌, ◌*ℤ◌, ◌<ℤ◌, ◌≤ℤ◌, IsTrue, unsigned_abs, FitsSigned, int_lt, ◌&&◌, if◌then◌else◌, position};
+ghost use Rattle.std.specs.Int.{w64};
+ghost use Rattle.pbd_num.specs.Rounding.{rdiv as rounded, root as whole_root};
+ghost use Rattle.pbd_lanes.specs.Lane.{lane, is_set, lanes_of};
+
+use pbd_num::{rdiv, root};
+use std::marker::Model;
+
+/// L numbers, which contracts see as a list.
+#[derive(Clone, Copy)]
+pub struct Lanes<const L: usize> {
+    values: [i64; L],
+}
+
+impl<const L: usize> Model for Lanes<L> {
+    ghost use Rattle.std.specs.Prelude.{List, ℤ};
+
+    ghost Value = { List ℤ };
+
+    ghost view = { λ a. a.values };
+
+    ghost inverse = { λ v. record { values = v } };
+}
+
+/// L truth values, which contracts see as a list.
+#[derive(Clone, Copy)]
+pub struct Mask<const L: usize> {
+    set: [bool; L],
+}
+
+impl<const L: usize> Model for Mask<L> {
+    ghost use Rattle.std.specs.Prelude.{List, Bool};
+
+    ghost Value = { List Bool };
+
+    ghost view = { λ a. a.set };
+
+    ghost inverse = { λ v. record { set = v } };
+}
+
+impl<const L: usize> Lanes<L> {
+    /// One number in each lane.
+    pub fn splat(value: i64) -> Lanes<L>
+        ensures { result ≡ lanes_of L (λ _. value) }
+    {
+        Lanes { values: [value; L] }
+    }
+
+    /// The numbers of an array.
+    pub fn from_array(values: [i64; L]) -> Lanes<L>
+        ensures { result ≡ values.entry }
+    {
+        Lanes { values }
+    }
+
+    /// The numbers as an array.
+    pub fn to_array(&self) -> [i64; L]
+        ensures { result ≡ self.now }
+    {
+        self.values
+    }
+
+    /// The sums, lane by lane. Each has to fit 64 bits.
+    pub fn add(&self, other: &Lanes<L>) -> Lanes<L>
+        requires { (j : ℕ) → j < L → FitsSigned w64 (lane self.now j +ℤ lane other.now j) }
+        ensures { result ≡ lanes_of L (λ j. lane self.now j +ℤ lane other.now j) }
+    {
+        let mut values = [0; L];
+        for j in 0..L {
+            values[j] = self.values[j] + other.values[j];
+        }
+        Lanes { values }
+    }
+
+    /// The differences, lane by lane. Each has to fit 64 bits.
+    pub fn sub(&self, other: &Lanes<L>) -> Lanes<L>
+        requires { (j : ℕ) → j < L → FitsSigned w64 (lane self.now j -ℤ lane other.now j) }
+        ensures { result ≡ lanes_of L (λ j. lane self.now j -ℤ lane other.now j) }
+    {
+        let mut values = [0; L];
+        for j in 0..L {
+            values[j] = self.values[j] - other.values[j];
+        }
+        Lanes { values }
+    }
+
+    /// The products, lane by lane. Each has to fit 64 bits.
+    pub fn mul(&self, other: &Lanes<L>) -> Lanes<L>
+        requires { (j : ℕ) → j < L → FitsSigned w64 (lane self.now j *ℤ lane other.now j) }
+        ensures { result ≡ lanes_of L (λ j. lane self.now j *ℤ lane other.now j) }
+    {
+        let mut values = [0; L];
+        for j in 0..L {
+            values[j] = self.values[j] * other.values[j];
+        }
+        Lanes { values }
+    }
+
+    /// Where this is less than the other.
+    pub fn less(&self, other: &Lanes<L>) -> Mask<L>
+        ensures { result ≡ lanes_of L (λ j. int_lt (lane self.now j) (lane other.now j)) }
+    {
+        let mut set = [false; L];
+        for j in 0..L {
+            set[j] = self.values[j] < other.values[j];
+        }
+        Mask { set }
+    }
+
+    /// The lanes of `yes` where the mask is set, and of `no` elsewhere.
+    pub fn select(mask: &Mask<L>, yes: &Lanes<L>, no: &Lanes<L>) -> Lanes<L>
+        ensures { result ≡ lanes_of L (λ j. if is_set mask.now j then lane yes.now j else lane no.now j) }
+    {
+        let mut values = [0; L];
+        for j in 0..L {
+            values[j] = if mask.set[j] {
+                yes.values[j]
+            } else {
+                no.values[j]
+            };
+        }
+        Lanes { values }
+    }
+
+    /// The quotients, rounded with halves away from zero, where the mask is set, and 0 elsewhere.
+    /// There the divisor is in 1..=2^40 and the dividend at most 2^61 in size.
+    pub fn rdiv_lanes(n: &Lanes<L>, d: &Lanes<L>, mask: &Mask<L>) -> Lanes<L>
+        requires divisor { (j : ℕ) → j < L → IsTrue (is_set mask.now j) → pos 0 <ℤ lane d.now j }
+        requires divisor_size { (j : ℕ) → j < L → IsTrue (is_set mask.now j) → unsigned_abs (lane d.now j) ≤ 2 ^ 40 }
+        requires size { (j : ℕ) → j < L → IsTrue (is_set mask.now j) → unsigned_abs (lane n.now j) ≤ 2 ^ 61 }
+        ensures { result ≡ lanes_of L (λ j. if is_set mask.now j then rounded (lane n.now j) (lane d.now j) else pos 0) }
+    {
+        let mut values = [0; L];
+        for j in 0..L {
+            if mask.set[j] {
+                values[j] = rdiv(n.values[j], d.values[j]);
+            }
+        }
+        Lanes { values }
+    }
+
+    /// The square roots, rounded down, where the mask is set, and 0 elsewhere. There the number isn't below 0.
+    pub fn root_lanes(n: &Lanes<L>, mask: &Mask<L>) -> Lanes<L>
+        requires { (j : ℕ) → j < L → IsTrue (is_set mask.now j) → pos 0 ≤ℤ lane n.now j }
+        ensures { result ≡ lanes_of L (λ j. if is_set mask.now j then pos (whole_root (unsigned_abs (lane n.now j))) else pos 0) }
+    {
+        let mut values = [0; L];
+        for j in 0..L {
+            if mask.set[j] {
+                values[j] = root(n.values[j]);
+            }
+        }
+        Lanes { values }
+    }
+}
+
+impl<const L: usize> Mask<L> {
+    /// The truth values of an array.
+    pub fn from_array(set: [bool; L]) -> Mask<L>
+        ensures { result ≡ set.entry }
+    {
+        Mask { set }
+    }
+
+    /// The truth values as an array.
+    pub fn to_array(&self) -> [bool; L]
+        ensures { result ≡ self.now }
+    {
+        self.set
+    }
+
+    /// Where both masks are set.
+    pub fn and(&self, other: &Mask<L>) -> Mask<L>
+        ensures { result ≡ lanes_of L (λ j. is_set self.now j && is_set other.now j) }
+    {
+        let mut set = [false; L];
+        for j in 0..L {
+            set[j] = self.set[j] && other.set[j];
+        }
+        Mask { set }
+    }
+
+    /// The least lane that is set, and `None` where none is.
+    pub fn first(&self) -> Option<usize>
+        ensures { result ≡ position (λ b. b) self.now }
+    {
+        self.set.iter().position(|b| *b)
+    }
+}
+
+#[cfg(test)]
+mod tests;

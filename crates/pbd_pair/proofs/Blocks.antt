@@ -1,0 +1,143 @@
+-- A block of bonds whose corrections lie in lanes.
+use Rattle.std.proofs.Common.{◌≡◌, ℕ, zero, suc, ◌+◌, ◌-◌, ◌/◌, ◌<◌, ◌≤◌, ℤ, pos, ◌≤ℤ◌, ◌*ℤ◌, List, [], ◌∷◌, length, get_or, take, drop, Bool, true, false, IsTrue, cond, not, nat_lt, Option, Some, None, refl, ap, sym, ◌∙◌, arith, subst, inl, inr, Result, Ok, Err, min}
+use Rattle.std.proofs.lemmas.Bool.{cases_lt, lt-ltb, le-ltb, ltb-true, ltb-false, false≢true}
+use Rattle.std.proofs.lemmas.Int.{ints}
+use Rattle.std.proofs.lemmas.List.{get_or-take, get_or-drop, length-take, length-drop}
+use Rattle.std.proofs.lemmas.Nat.{le-div}
+use Rattle.std.proofs.Math.Nat.{add-div_right, div-eq_of_lt}
+use Rattle.pbd_num.specs.Vectors.{zero_vector}
+use Rattle.pbd_world.specs.declared.parts.Particle.{Particle}
+use Rattle.pbd_world.specs.declared.bond.Bond.{Bond}
+use Rattle.pbd_world.specs.declared.bond.End.{End}
+use Rattle.pbd_world.specs.declared.bond.Shift.{Shift}
+use Rattle.pbd_world.specs.declared.bond.Correction.{Correction}
+use Rattle.pbd_world.specs.Ledger.{Ledger, Entry, booked}
+use Rattle.pbd_world.specs.Particles.{Motion, particle_at}
+use Rattle.pbd_world.specs.Bonds.{projected, correction_at, correction_of, end_of, is_slack, shift_of}
+use Rattle.pbd_lanes.specs.Lane.{lane, is_set}
+use Rattle.pbd_store.specs.Gathering.{index_at, Scattered, NamesApart}
+use Rattle.pbd_store.specs.Blocks.{place_of, blocks_of}
+use Rattle.pbd_pair.specs.declared.bonds.Bonds.{Bonds}
+use Rattle.pbd_pair.specs.Bonds.{bond_of, bond_count, IsBond, IsDrawn, IsSound}
+use Rattle.pbd_pair.specs.Projecting.{fixed_parts, AreInside, Weigh, IsBatch, ShareNone}
+use Rattle.pbd_pair.specs.Lanes.{Lays, settled}
+use Rattle.pbd_pair.proofs.Correcting.{same_length}
+use Rattle.pbd_pair.proofs.InLanes.{same_lays}
+use Rattle.pbd_pair.proofs.Reaching.{nth, Reached, books, reached, reached_leaves, reached_all}
+use Rattle.pbd_pair.proofs.SideBySide.{side_by_side}
+
+-- a correction doesn't depend on which particles a bond names
+pub same_drawn : (limit : ℤ) (p q : End) (b c : Bond) → b.rest ≡ c.rest → b.k ≡ c.k → b.contact ≡ c.contact → correction_of limit p q b ≡ correction_of limit p q c
+unfolding correction_of is_slack shift_of
+same_drawn limit p q b c er ek ec = λ i. correction_of limit p q (record { a = b.a; b = b.b; rest = er i; k = ek i; contact = ec i })
+
+-- equal entries make equal ledgers
+pub settled_same : (moving : ℕ → Bool) (e f : ℕ → List Entry) (n : ℕ) (t : Ledger) → ((k : ℕ) → k < n → e k ≡ f k) → settled moving e n t ≡ settled moving f n t
+settled_same moving e f zero t h = refl
+settled_same moving e f (suc n) t h =
+    let before : settled moving e n t ≡ settled moving f n t = settled_same moving e f n t (λ k p. h k (omega arith)) in
+    λ i. cond (moving n) (booked (before i) (h n (omega arith) i)) (before i)
+
+-- ---- parts of a batch are batches
+
+module _ (limit : ℤ) (n : ℕ) (bonds : Bonds) (xs : List ℕ) (k : ℕ) (fits : k ≤ length xs) (h : IsBatch limit n bonds xs) where
+  at_front : (i : ℕ) → i < length (take k xs) → (i < k) × (get_or xs i 0 ≡ get_or (take k xs) i 0)
+  at_front i p = let q : i < k = omega (arith, length-take k xs) in (q, sym (get_or-take k xs i 0 q))
+
+  pub front_batch : IsBatch limit n bonds (take k xs)
+  front_batch = record {
+    numbers = λ i p. let q = at_front i p in subst (λ m. m < bond_count bonds) q.1 (h.numbers i (omega (arith, q.0)));
+    bond = λ i p. let q = at_front i p in subst (λ m. IsBond limit n (bond_of bonds m)) q.1 (h.bond i (omega (arith, q.0)));
+    apart = record { each = λ i j p q. let a = at_front i (omega arith) in let b = at_front j q in coe 0 1 (m. ShareNone (bond_of bonds (a.1 m)) (bond_of bonds (b.1 m))) (h.apart.each i j p (omega (arith, b.0))) };
+  }
+
+  at_back : (i : ℕ) → i < length (drop k xs) → (k + i < length xs) × (get_or xs (k + i) 0 ≡ get_or (drop k xs) i 0)
+  at_back i p = (omega (arith, length-drop k xs), sym (get_or-drop k xs i 0))
+
+  pub back_batch : IsBatch limit n bonds (drop k xs)
+  back_batch = record {
+    numbers = λ i p. let q = at_back i p in subst (λ m. m < bond_count bonds) q.1 (h.numbers (k + i) q.0);
+    bond = λ i p. let q = at_back i p in subst (λ m. IsBond limit n (bond_of bonds m)) q.1 (h.bond (k + i) q.0);
+    apart = record { each = λ i j p q. let a = at_back i (omega arith) in let b = at_back j q in coe 0 1 (m. ShareNone (bond_of bonds (a.1 m)) (bond_of bonds (b.1 m))) (h.apart.each (k + i) (k + j) (omega arith) b.0) };
+  }
+
+-- ---- one block fewer
+
+pub fewer_blocks : (m k l : ℕ) → 0 < l → 0 < m → k ≡ min m l → blocks_of (m - k) l + 1 ≤ blocks_of m l
+fewer_blocks m k l h p e = elim (cases_lt m l) [
+  | inl q ↦ (let none : (m - k + l - 1) / l ≡ 0 = div-eq_of_lt (omega arith) in omega (arith, le-div 1 (m + l - 1) l h (omega arith)))
+  | inr q ↦ (let more : (m - k + l - 1 + l) / l ≡ (m - k + l - 1) / l + 1 = add-div_right (m - k + l - 1) h in omega (arith, more, ap (λ (x : ℕ). x / l) (same q)))
+] where
+  same : l ≤ m → m - k + l - 1 + l ≡ m + l - 1
+  same q = omega arith
+
+-- ---- what stays with the fixed parts
+
+get_or-map_fixed : (ps : List Particle) (i : ℕ) → particle_at (fixed_parts ps) i ≡ record (particle_at ps i) { at = zero_vector }
+get_or-map_fixed [] i = refl
+get_or-map_fixed (p ∷ ps) zero = refl
+get_or-map_fixed (p ∷ ps) (suc i) = get_or-map_fixed ps i
+
+weight_same : (ps qs : List Particle) (i : ℕ) → fixed_parts qs ≡ fixed_parts ps → (particle_at qs i).weight ≡ (particle_at ps i).weight
+weight_same ps qs i e =
+    sym (ap (λ (p : Particle). p.weight) (get_or-map_fixed qs i)) ∙ ap (λ (l : List Particle). (particle_at l i).weight) e ∙ ap (λ (p : Particle). p.weight) (get_or-map_fixed ps i)
+
+pub weigh_same : (ps qs : List Particle) → fixed_parts qs ≡ fixed_parts ps → Weigh ps → Weigh qs
+weigh_same ps qs e h = record {
+  low = λ i p. rw (weight_same ps qs i e) (h.low i (omega (arith, same_length qs ps e)));
+  high = λ i p. rw (weight_same ps qs i e) (h.high i (omega (arith, same_length qs ps e)));
+}
+
+-- ---- a block in lanes
+
+-- lane k of a block of l lanes is named by its bond
+pub record IsNamed (l : ℕ) (block : List ℕ) (B : ℕ → Bond) (is js : List ℕ) (set moving leaving : List Bool) : Type 0 where
+  pub short : length block ≤ l
+  pub a : (k : ℕ) → k < length block → index_at is k ≡ (B k).a
+  pub b : (k : ℕ) → k < length block → index_at js k ≡ (B k).b
+  pub filled : (k : ℕ) → k < l → is_set set k ≡ nat_lt k (length block)
+  pub not_moving : (k : ℕ) → k < l → is_set set k ≡ false → is_set moving k ≡ false
+  pub not_leaving : (k : ℕ) → k < l → is_set set k ≡ false → is_set leaving k ≡ false
+
+module _ {l : ℕ} {block : List ℕ} {B : ℕ → Bond} {a b : List ℕ} {filled moving leaving : List Bool} (h : IsNamed l block B a b filled moving leaving) where
+  pub filled_below : (k : ℕ) → k < l → IsTrue (is_set filled k) → k < length block
+  filled_below k p t = ltb-true k (length block) (sym (h.filled k p) ∙ t)
+
+  pub filled_at : (k : ℕ) → k < length block → is_set filled k ≡ true
+  filled_at k p = h.filled k (omega (arith, h.short)) ∙ lt-ltb k (length block) p
+
+  pub empty_at : (k : ℕ) → length block ≤ k → k < l → is_set filled k ≡ false
+  empty_at k q p = h.filled k p ∙ le-ltb k (length block) q
+
+  pub still_at : (k : ℕ) → length block ≤ k → k < l → is_set moving k ≡ false
+  still_at k q p = h.not_moving k p (empty_at k q p)
+
+  pub moving_below : (k : ℕ) → k < l → IsTrue (is_set moving k) → k < length block
+  moving_below k p t = elim (cases_lt k (length block)) [ inl q ↦ q | inr q ↦ absurd (false≢true (sym (still_at k q p) ∙ t)) ]
+
+  pub leaving_below : (k : ℕ) → k < l → is_set leaving k ≡ true → k < length block
+  leaving_below k p t = elim (cases_lt k (length block)) [ inl q ↦ q | inr q ↦ absurd (false≢true (sym (h.not_leaving k p (empty_at k q p)) ∙ t)) ]
+
+  -- what the gathers and the scatters ask
+  pub firsts_within : (size : ℕ) → ((k : ℕ) → k < length block → (B k).a < size) → (k : ℕ) → k < l → k < length block → index_at a k < size
+  firsts_within size f k p q = omega (arith, h.a k q, f k q)
+
+  pub seconds_within : (size : ℕ) → ((k : ℕ) → k < length block → (B k).b < size) → (k : ℕ) → k < l → k < length block → index_at b k < size
+  seconds_within size f k p q = omega (arith, h.b k q, f k q)
+
+  pub firsts_apart : ((i k : ℕ) → i < k → k < length block → ShareNone (B i) (B k)) → NamesApart l a moving
+  firsts_apart f i k p q s t e =
+      let n = moving_below k q t in
+      (f i k p n).aa (sym (h.a i (omega arith)) ∙ e ∙ h.a k n)
+
+  pub seconds_apart : ((i k : ℕ) → i < k → k < length block → ShareNone (B i) (B k)) → NamesApart l b moving
+  seconds_apart f i k p q s t e =
+      let n = moving_below k q t in
+      (f i k p n).bb (sym (h.b i (omega arith)) ∙ e ∙ h.b k n)
+
+  pub le_of_unset : (k : ℕ) → k < l → is_set filled k ≡ false → length block ≤ k
+  le_of_unset k p t = ltb-false k (length block) (sym (h.filled k p) ∙ t)
+
+pub not_not : (b : Bool) → not (not b) ≡ b
+not_not true = refl
+not_not false = refl

@@ -1,0 +1,174 @@
+-- What a gather has in a lane.
+use Rattle.std.proofs.Common.{◌≡◌, ℕ, ◌+◌, ◌<◌, ◌≤◌, ℤ, pos, ◌≤ℤ◌, List, [], ◌∷◌, zero, suc, length, get_or, nat_lt, Option, Some, None, ◌*ℤ◌, IsTrue, Bool, true, false, cond, not, ◌&&◌, refl, ap, sym, ◌∙◌, arith, inl, inr, subst, unsigned_abs, int_lt}
+use Rattle.std.specs.List.{position, position_or_len}
+use Rattle.std.proofs.lemmas.Bool.{cond-true, cond-false, false≢true, lt-ltb}
+use Rattle.std.proofs.lemmas.Int.{ints}
+use Rattle.std.proofs.lemmas.List.FromFn.{get_or-map-range_with_len}
+use Rattle.pbd_num.specs.Vectors.{Within, zero_vector}
+use Rattle.pbd_world.specs.declared.parts.Particle.{Particle}
+use Rattle.pbd_world.specs.declared.bond.End.{End}
+use Rattle.pbd_world.specs.declared.bond.Bond.{Bond}
+use Rattle.pbd_world.specs.declared.bond.Shift.{Shift}
+use Rattle.pbd_world.specs.declared.bond.Correction.{Correction}
+use Rattle.pbd_world.specs.declared.bond.Correction.TheVariants.{Slack, Leaves, Moves}
+use Rattle.pbd_world.specs.Particles.{particle_at, effective_weight}
+use Rattle.pbd_world.specs.Bonds.{end_of, correction_of}
+use Rattle.pbd_lanes.specs.Lane.{lane, is_set, lanes_of}
+use Rattle.pbd_store.specs.Gathering.{index_at, gathered}
+use Rattle.pbd_store.specs.declared.lanes3.Ends.{Ends}
+use Rattle.pbd_pair.specs.Bonds.{IsEnd, IsDrawn, IsSound, IsSoundShift}
+use Rattle.pbd_pair.specs.Projecting.{AreInside, Weigh}
+use Rattle.pbd_pair.specs.Lanes.{end_in, Lays}
+use Rattle.pbd_pair.specs.declared.laid.Lane.{Lane}
+use Rattle.pbd_pair.specs.Lays.{lane_of}
+
+-- a lane of a list made by lanes
+pub lane_is : {A : Type 0} (d : A) {xs : List A} (n : ℕ) (f : ℕ → A) (j : ℕ) → xs ≡ lanes_of n f → j < n → get_or xs j d ≡ f j
+lane_is d n f j e h = ap (λ v. get_or v j d) e ∙ get_or-map-range_with_len f 0 n j j d h (omega arith)
+
+light_case : (h : Bool) (w : ℕ) → w ≤ 65535 → cond h 0 w ≤ 65535
+light_case true w p = omega arith
+light_case false w p = p
+
+free_case : (h : Bool) (w : ℕ) → 0 < w → int_lt (pos 0) (pos (cond h 0 w)) ≡ not h
+free_case true w p = refl
+free_case false w p = grind (arith, ints)
+
+-- a free end weighs something
+pub free_end : (p : Particle) (e : End) → e ≡ end_of p → 0 < p.weight → int_lt (pos 0) e.weight ≡ not p.held
+free_end p e h w = ap (λ (x : End). int_lt (pos 0) x.weight) h ∙ free_case p.held p.weight w
+
+module _ {l : ℕ} (ends : Ends l) (ps : List Particle) (is : List ℕ) (set : List Bool) (j : ℕ) (h : j < l) (ex : ends.at.x ≡ gathered l (λ p. p.at.x) ps is set) (ey : ends.at.y ≡ gathered l (λ p. p.at.y) ps is set) (ez : ends.at.z ≡ gathered l (λ p. p.at.z) ps is set) (ew : ends.weight ≡ gathered l (λ p. pos (effective_weight p)) ps is set) where
+  axis : {xs : List ℤ} (f : Particle → ℤ) → xs ≡ gathered l f ps is set → lane xs j ≡ cond (is_set set j) (f (particle_at ps (index_at is j))) (pos 0)
+  axis f e = lane_is (pos 0) l (λ k. cond (is_set set k) (f (particle_at ps (index_at is k))) (pos 0)) j e h
+
+  -- the end in a lane that is set
+  pub end_gathered : is_set set j ≡ true → end_in ends j ≡ end_of (particle_at ps (index_at is j))
+  end_gathered t =
+      let p = particle_at ps (index_at is j) in
+      let x = axis (λ p. p.at.x) ex ∙ cond-true (is_set set j) p.at.x (pos 0) t in
+      let y = axis (λ p. p.at.y) ey ∙ cond-true (is_set set j) p.at.y (pos 0) t in
+      let z = axis (λ p. p.at.z) ez ∙ cond-true (is_set set j) p.at.z (pos 0) t in
+      let w = axis (λ p. pos (effective_weight p)) ew ∙ cond-true (is_set set j) (pos (effective_weight p)) (pos 0) t in
+      λ i. record { at = record { x = x i; y = y i; z = z i }; weight = w i }
+
+  -- and in any other
+  end_empty : is_set set j ≡ false → ◌≡◌ {A = End} (end_in ends j) (record { at = zero_vector; weight = pos 0 })
+  end_empty t =
+      let p = particle_at ps (index_at is j) in
+      let x = axis (λ p. p.at.x) ex ∙ cond-false (is_set set j) p.at.x (pos 0) t in
+      let y = axis (λ p. p.at.y) ey ∙ cond-false (is_set set j) p.at.y (pos 0) t in
+      let z = axis (λ p. p.at.z) ez ∙ cond-false (is_set set j) p.at.z (pos 0) t in
+      let w = axis (λ p. pos (effective_weight p)) ew ∙ cond-false (is_set set j) (pos (effective_weight p)) (pos 0) t in
+      λ i. record { at = record { x = x i; y = y i; z = z i }; weight = w i }
+
+  pub is_end_in : (limit : ℤ) → (IsTrue (is_set set j) → index_at is j < length ps) → AreInside limit ps → Weigh ps → IsEnd limit (end_in ends j)
+  is_end_in limit within inside weights = by_case (is_set set j) refl where
+    by_case : (b : Bool) → is_set set j ≡ b → IsEnd limit (end_in ends j)
+    by_case true t =
+        let i = index_at is j in
+        subst (λ (e : End). IsEnd limit e) (sym (end_gathered t)) (record {
+          at = inside.each i (within t);
+          low = omega (arith, ints);
+          high = omega (arith, ints, light_case (particle_at ps i).held (particle_at ps i).weight (weights.high i (within t)));
+        })
+    by_case false t =
+        subst (λ (e : End). IsEnd limit e) (sym (end_empty t)) (record {
+          at = record { x = omega arith; y = omega arith; z = omega arith };
+          low = omega (arith, ints);
+          high = omega (arith, ints);
+        })
+
+-- ---- masks
+
+and_true : (b : Bool) → (b && true) ≡ b
+and_true true = refl
+and_true false = refl
+
+and_false : (b : Bool) → (b && false) ≡ false
+and_false true = refl
+and_false false = refl
+
+both_left : (a b : Bool) → (a && b) ≡ true → a ≡ true
+both_left true b e = refl
+both_left false b e = e
+
+module _ (n : ℕ) (xs ys zs : List Bool) (j : ℕ) (e : xs ≡ lanes_of n (λ k. is_set ys k && is_set zs k)) (h : j < n) where
+  both : is_set xs j ≡ (is_set ys j && is_set zs j)
+  both = lane_is false n (λ k. is_set ys k && is_set zs k) j e h
+
+  pub masked : is_set zs j ≡ true → is_set xs j ≡ is_set ys j
+  masked t = both ∙ ap (λ (b : Bool). is_set ys j && b) t ∙ and_true (is_set ys j)
+
+  pub unmasked : is_set zs j ≡ false → is_set xs j ≡ false
+  unmasked t = both ∙ ap (λ (b : Bool). is_set ys j && b) t ∙ and_false (is_set ys j)
+
+  pub set_in : is_set xs j ≡ true → is_set ys j ≡ true
+  set_in t = both_left (is_set ys j) (is_set zs j) (sym both ∙ t)
+
+-- ---- what a lane holds
+
+pub same_lays : {c d : Correction} {m m' o o' : Bool} (t : Shift) → c ≡ d → m' ≡ m → o' ≡ o → Lays c m o t → Lays d m' o' t
+same_lays t ec em eo h = coe 0 1 (i. Lays (ec i) (sym em i) (sym eo i) t) h
+
+-- a shift in a lane that moves is that of a sound correction
+pub lays_sound : (limit : ℤ) (c : Correction) (m o : Bool) (t : Shift) → Lays c m o t → (m ≡ true → IsSoundShift limit t) → IsSound limit c
+lays_sound limit Slack m o t l h = tt
+lays_sound limit Leaves m o t l h = tt
+lays_sound limit (Moves s) m o t l h = subst (λ (x : Shift). IsSoundShift limit x) l.1.1 (h l.0)
+
+-- ---- what a lane's bond is drawn to
+
+pub drawn_same : (limit : ℤ) (b c : Bond) → b.rest ≡ c.rest → b.k ≡ c.k → IsDrawn limit c → IsDrawn limit b
+drawn_same limit b c er ek d = record {
+  rest_low = subst (λ (z : ℤ). pos 0 ≤ℤ z) (sym er) d.rest_low;
+  rest_high = subst (λ (z : ℤ). z ≤ℤ (pos 4 *ℤ limit)) (sym er) d.rest_high;
+  k_low = subst (λ (z : ℤ). pos 0 ≤ℤ z) (sym ek) d.k_low;
+  k_high = subst (λ (z : ℤ). z ≤ℤ pos 256) (sym ek) d.k_high;
+}
+
+drawn_none : (limit : ℤ) (b : Bond) → pos 0 ≤ℤ limit → b.rest ≡ pos 0 → b.k ≡ pos 0 → IsDrawn limit b
+drawn_none limit b h er ek = record {
+  rest_low = subst (λ (z : ℤ). pos 0 ≤ℤ z) (sym er) (omega (arith, ints));
+  rest_high = subst (λ (z : ℤ). z ≤ℤ (pos 4 *ℤ limit)) (sym er) (omega (arith, ints, h));
+  k_low = subst (λ (z : ℤ). pos 0 ≤ℤ z) (sym ek) (omega (arith, ints));
+  k_high = subst (λ (z : ℤ). z ≤ℤ pos 256) (sym ek) (omega (arith, ints));
+}
+
+pub drawn_in : (limit : ℤ) (b : Bond) (filled : Bool) → pos 0 ≤ℤ limit → (IsTrue filled → IsDrawn limit b) → (filled ≡ false → b.rest ≡ pos 0) → (filled ≡ false → b.k ≡ pos 0) → IsDrawn limit b
+drawn_in limit b true h d r k = d refl
+drawn_in limit b false h d r k = drawn_none limit b h (r refl) (k refl)
+
+-- ---- the first lane
+
+some_place : (xs : List Bool) (k : ℕ) → get_or xs k false ≡ true → position_or_len (λ (b : Bool). b) xs < length xs
+some_place [] k e = absurd (false≢true e)
+some_place (true ∷ xs) k e = omega arith
+some_place (false ∷ xs) zero e = absurd (false≢true e)
+some_place (false ∷ xs) (suc k) e = omega (arith, some_place xs k e)
+
+none_case : (xs : List Bool) → ((i : ℕ) → position (λ (b : Bool). b) xs ≡ Some i → ⊥) → (k : ℕ) (b : Bool) → is_set xs k ≡ b → b ≡ false
+none_case xs h k true e = absurd (h (position_or_len (λ (b : Bool). b) xs) (cond-true (nat_lt (position_or_len (λ (b : Bool). b) xs) (length xs)) (Some (position_or_len (λ (b : Bool). b) xs)) None (lt-ltb (position_or_len (λ (b : Bool). b) xs) (length xs) (some_place xs k e))))
+none_case xs h k false e = refl
+
+-- where no lane is the first, none is set
+pub none_set : (xs : List Bool) → ((i : ℕ) → position (λ (b : Bool). b) xs ≡ Some i → ⊥) → (k : ℕ) → is_set xs k ≡ false
+none_set xs h k = none_case xs h k (is_set xs k) refl
+
+-- ---- one bond's lane
+
+pub lays_lane : (c : Correction) → Lays c (lane_of c).moving (lane_of c).leaving (lane_of c).shift
+lays_lane Slack = (refl, refl)
+lays_lane Leaves = (refl, refl)
+lays_lane (Moves s) = (refl, (refl, refl))
+
+lane_moves : (limit : ℤ) (c : Correction) → IsSound limit c → (lane_of c).moving ≡ true → IsSoundShift limit (lane_of c).shift
+lane_moves limit Slack h e = absurd (false≢true e)
+lane_moves limit Leaves h e = absurd (false≢true e)
+lane_moves limit (Moves s) h e = h
+
+pub lays_at : (c : Correction) (lane : Lane) {m o : Bool} {t : Shift} → lane ≡ lane_of c → m ≡ lane.moving → o ≡ lane.leaving → t ≡ lane.shift → Lays c m o t
+lays_at c lane {m} {o} {t} e em eo et = coe 1 0 (i. Lays c ((em ∙ ap (λ (l : Lane). l.moving) e) i) ((eo ∙ ap (λ (l : Lane). l.leaving) e) i) ((et ∙ ap (λ (l : Lane). l.shift) e) i)) (lays_lane c)
+
+pub sound_at : (limit : ℤ) (c : Correction) (lane : Lane) {m : Bool} {t : Shift} → lane ≡ lane_of c → m ≡ lane.moving → t ≡ lane.shift → IsSound limit c → m ≡ true → IsSoundShift limit t
+sound_at limit c lane e em et h is = subst (λ (s : Shift). IsSoundShift limit s) (sym (et ∙ ap (λ (l : Lane). l.shift) e)) (lane_moves limit c h (sym (em ∙ ap (λ (l : Lane). l.moving) e) ∙ is))

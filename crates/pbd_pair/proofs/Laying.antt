@@ -1,0 +1,25 @@
+-- Arrays that are filled from the front.
+use Rattle.std.proofs.Common.{◌≡◌, ℕ, ◌<◌, ◌≤◌, List, length, get_or, slice_set, ◌+◌, ◌∙◌, sym, arith, Bool, true, false, nat_lt, inl, inr}
+use Rattle.std.proofs.lemmas.Bool.{cases_lt, lt-ltb, le-ltb}
+use Rattle.std.proofs.lemmas.List.{length-set, get_or-set_other}
+use Rattle.std.proofs.lemmas.List.Edits.{fill_by_more}
+
+-- the first i of n lanes hold what `f` gives, and the others d
+pub record Laying {A : Type 0} (d : A) (n : ℕ) (f : ℕ → A) (i : ℕ) (xs : List A) : Type 0 where
+  pub whole : length xs ≡ n
+  pub below : (k : ℕ) → k < i → get_or xs k d ≡ f k
+  pub above : (k : ℕ) → i ≤ k → get_or xs k d ≡ d
+
+pub laying_more : {A : Type 0} {d : A} {n : ℕ} {f : ℕ → A} {i : ℕ} {xs : List A} (v : A) → Laying d n f i xs → i < n → v ≡ f i → Laying d n f (i + 1) (slice_set xs i v)
+laying_more {A} {d} {n} {f} {i} {xs} v h p e = record {
+  whole = length-set xs i v ∙ h.whole;
+  below = λ k q. rw e (fill_by_more f xs i d (omega (arith, h.whole)) h.below k q);
+  above = λ k q. get_or-set_other xs i k v d (λ s. absurd (omega arith)) ∙ h.above k (omega arith);
+}
+
+-- the lanes that are filled
+pub laying_filled : {n : ℕ} (i : ℕ) {xs : List Bool} → Laying false n (λ k. true) i xs → (k : ℕ) → get_or xs k false ≡ nat_lt k i
+laying_filled i h k = elim (cases_lt k i) [
+  | inl q ↦ h.below k q ∙ sym (lt-ltb k i q)
+  | inr q ↦ h.above k q ∙ sym (le-ltb k i q)
+]

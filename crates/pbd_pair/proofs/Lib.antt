@@ -1,0 +1,12 @@
+pub mod Ranges
+pub mod Steps
+pub mod Correcting
+pub mod Single
+pub mod OneByOne
+pub mod Laying
+pub mod Together
+pub mod SideBySide
+pub mod Reaching
+pub mod InLanes
+pub mod Blocks
+pub mod Examples

@@ -1,0 +1,42 @@
+-- A batch from one of its bonds on.
+use Rattle.std.proofs.Common.{◌≡◌, ℕ, suc, ◌+◌, ◌<◌, ◌≤◌, ℤ, List, length, get_or, ◌∷◌, ◌++◌, [], drop, take, drop-cons, add-one, refl, ap, sym, ◌∙◌, Result, Ok, Err}
+use Rattle.std.proofs.lemmas.List.{take-append-drop}
+use Rattle.pbd_world.specs.declared.bond.Bond.{Bond}
+use Rattle.pbd_world.specs.Outcomes.{◌>>=◌}
+use Rattle.pbd_world.specs.Particles.{Motion}
+use Rattle.pbd_world.specs.Bonds.{corrected, correction_at, one, projected}
+
+module _ (limit : ℤ) (bond : ℕ → Bond) (batch : List ℕ) (i : ℕ) (h : i < length batch) where
+  next : (m : Motion) → projected limit bond (drop i batch) m ≡ (one limit bond (get_or batch i 0) m >>= projected limit bond (drop (suc i) batch))
+  next m = ap (λ (b : List ℕ). projected limit bond b m) (drop-cons batch i 0 h)
+
+  -- where the bond stays
+  pub turn_on : (m m' : Motion) → one limit bond (get_or batch i 0) m ≡ Ok m' → projected limit bond (drop (i + 1) batch) m' ≡ projected limit bond (drop i batch) m
+  turn_on m m' e = ap (λ (k : ℕ). projected limit bond (drop k batch) m') (add-one i) ∙ sym (next m ∙ ap (λ (r : Result Motion ℕ). r >>= projected limit bond (drop (suc i) batch)) e)
+
+  -- where it leaves the limit
+  pub turn_out : (m : Motion) (n : ℕ) → one limit bond (get_or batch i 0) m ≡ Err n → projected limit bond (drop i batch) m ≡ Err n
+  turn_out m n e = next m ∙ ap (λ (r : Result Motion ℕ). r >>= projected limit bond (drop (suc i) batch)) e
+
+-- bond n, given what it is, at an equal limit
+pub one_is : {l : ℤ} (limit : ℤ) (bond : ℕ → Bond) (n : ℕ) (b : Bond) (m : Motion) (r : Result Motion ℕ) → l ≡ limit → b ≡ bond n → corrected n b (correction_at l m.particles b) m ≡ r → one limit bond n m ≡ r
+unfolding one
+one_is limit bond n b m r el eb h = (λ i. corrected n (sym eb i) (correction_at (sym el i) m.particles (sym eb i)) m) ∙ h
+
+-- ---- a batch in two parts
+
+joined : (limit : ℤ) (bond : ℕ → Bond) (xs ys : List ℕ) (m : Motion) → projected limit bond (xs ++ ys) m ≡ (projected limit bond xs m >>= projected limit bond ys)
+joined limit bond [] ys m = refl
+joined limit bond (n ∷ xs) ys m = after (λ k. joined limit bond xs ys k) (one limit bond n m) where
+  after : ((k : Motion) → projected limit bond (xs ++ ys) k ≡ (projected limit bond xs k >>= projected limit bond ys)) → (r : Result Motion ℕ) → (r >>= projected limit bond (xs ++ ys)) ≡ ((r >>= projected limit bond xs) >>= projected limit bond ys)
+  after h (Ok k) = h k
+  after h (Err e) = refl
+
+parted : (limit : ℤ) (bond : ℕ → Bond) (k : ℕ) (xs : List ℕ) (m : Motion) → projected limit bond xs m ≡ (projected limit bond (take k xs) m >>= projected limit bond (drop k xs))
+parted limit bond k xs m = sym (ap (λ (b : List ℕ). projected limit bond b m) (take-append-drop k xs)) ∙ joined limit bond (take k xs) (drop k xs) m
+
+pub block_done : (limit : ℤ) (bond : ℕ → Bond) (k : ℕ) (xs : List ℕ) (m m' : Motion) → projected limit bond (take k xs) m ≡ Ok m' → projected limit bond (drop k xs) m' ≡ projected limit bond xs m
+block_done limit bond k xs m m' e = sym (parted limit bond k xs m ∙ ap (λ (r : Result Motion ℕ). r >>= projected limit bond (drop k xs)) e)
+
+pub block_leaves : (limit : ℤ) (bond : ℕ → Bond) (k : ℕ) (xs : List ℕ) (m : Motion) (n : ℕ) → projected limit bond (take k xs) m ≡ Err n → projected limit bond xs m ≡ Err n
+block_leaves limit bond k xs m n e = parted limit bond k xs m ∙ ap (λ (r : Result Motion ℕ). r >>= projected limit bond (drop k xs)) e

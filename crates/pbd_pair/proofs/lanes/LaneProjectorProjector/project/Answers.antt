@@ -1,0 +1,50 @@
+use Rattle.std.proofs.Common.{◌≡◌, ℕ, ◌+◌, ◌-◌, ◌*◌, ◌<◌, ◌≤◌, min, length, List, ap, sym, ◌∙◌, arith, take, subst, ℤ}
+use Rattle.std.proofs.lemmas.Bool.{eqb-false}
+use Rattle.pbd_world.specs.Bonds.{projected}
+use Rattle.pbd_pair.specs.Bonds.{bond_of}
+use Rattle.pbd_pair.specs.Projecting.{motion_of, AreInside, IsBatch}
+use Rattle.pbd_pair.proofs.Ranges.{room_at}
+use Rattle.pbd_pair.proofs.Correcting.{same_length}
+use Rattle.pbd_pair.proofs.OneByOne.{block_done, block_leaves}
+use Rattle.pbd_pair.proofs.Blocks.{back_batch, fewer_blocks, weigh_same}
+use Rattle.pbd_pair.proofs.lanes.LaneProjectorProjector.project.Goals as goal
+
+pub returns-in-Err-clause-outcome : goal.returns-in-Err-clause-outcome
+returns-in-Err-clause-outcome g c =
+    let bond = bond_of c.args.bonds in
+    let limit = c.steps_on.store.limit in
+    let m = motion_of c.steps_on.store c.steps_on.totals in
+    let front = ap (λ (b : List ℕ). projected limit bond b m) (sym c.split_at.ensures.front) in
+    sym c.steps_on.invariant.same ∙ block_leaves limit bond c.min-size.result c.steps_on.rest.now m c.in-Err.left.element (front ∙ c.in-Err.ensures.outcome)
+
+pub steps_on-preserved : goal.steps_on-preserved
+steps_on-preserved g c =
+    let bond = bond_of c.args.bonds in
+    let limit = c.steps_on.store.limit in
+    let k = c.min-size.result in
+    let rest = c.steps_on.rest.now in
+    let inv = c.steps_on.invariant in
+    let size : k ≡ min (length rest) g.row.L = c.min-size.ensures in
+    let fits : k ≤ length rest = omega arith in
+    let ne = eqb-false (length rest) 0 (sym c.is_empty.ensures ∙ c.steps_on-test.true) in
+    let some : 0 < length rest = omega (arith, ne) in
+    let fixed = c.project_block.ensures.fixed in
+    let same_limit : limit ≡ c.project_block.new.store.limit = sym c.project_block.ensures.limit in
+    let whole = same_length c.project_block.new.store.particles c.steps_on.store.particles fixed in
+    let back = c.split_at.ensures.back in
+    let m = motion_of c.steps_on.store c.steps_on.totals in
+    let then = motion_of c.project_block.new.store c.project_block.new.totals in
+    let front = ap (λ (b : List ℕ). projected limit bond b m) (sym c.split_at.ensures.front) in
+    let fewer = fewer_blocks (length rest) k g.row.L c.requires.lanes_low some size in
+    let left : length c.split_at.result.1.now ≡ length rest - k = omega (arith, c.split_at.ensures.back_len) in
+    record {
+      batch = subst (λ (l : ℤ). IsBatch l (length c.project_block.new.store.particles) c.args.bonds c.split_at.result.1.now) same_limit (rw (whole, back) (back_batch limit (length c.steps_on.store.particles) c.args.bonds rest k fits inv.batch));
+      inside = subst (λ (l : ℤ). AreInside l c.project_block.new.store.particles) same_limit c.project_block.ensures.inside;
+      weights = weigh_same c.steps_on.store.particles c.project_block.new.store.particles fixed inv.weights;
+      room = room_at _ (omega (arith, c.split_at.ensures.back_len, c.split_at.ensures.front_len, inv.shorter)) (c.project_block.ensures.room _ inv.room);
+      shorter = omega (arith, inv.shorter, left);
+      same = (λ i. projected (sym same_limit i) bond (back i) then) ∙ block_done limit bond k rest m then (front ∙ c.in_default.ensures.outcome) ∙ inv.same;
+      limit = c.project_block.ensures.limit ∙ inv.limit;
+      fixed = fixed ∙ inv.fixed;
+      cost = rw left (omega (arith, fewer, inv.cost, c.project_block.ensures.cost));
+    }

@@ -1,0 +1,36 @@
+use Rattle.std.proofs.Common.{ℕ, ◌+◌, ◌*◌, ◌<◌, ◌≤◌, ◌^◌, arith, ◌≡◌, ◌∙◌, ap, sym, subst, ℤ, length, get_or, Result, Ok, Err}
+use Rattle.pbd_pair.specs.Bonds.{bond_of}
+use Rattle.pbd_pair.specs.Projecting.{motion_of, AreInside}
+use Rattle.pbd_pair.proofs.Ranges.{room_at}
+use Rattle.pbd_pair.proofs.Correcting.{same_length}
+use Rattle.pbd_pair.proofs.OneByOne.{turn_on, turn_out, one_is}
+use Rattle.pbd_pair.proofs.scalar.ScalarProjector.project.Goals as goal
+
+pub loop-n-preserved : goal.loop-n-preserved
+loop-n-preserved g c =
+    let inv = c.loop-n.invariant in
+    let limit = c.args.store.now.limit in
+    let bond = bond_of c.args.bonds in
+    let n = get_or c.args.batch.now c.loop-n.n-index 0 in
+    let now = motion_of c.loop-n.store c.loop-n.totals in
+    let then = motion_of c.project_one.new.store c.project_one.new.totals in
+    let did = one_is limit bond n c.get.result now (Ok then) inv.limit c.get.ensures c.in_default.ensures.outcome in
+    record {
+      room = room_at _ (omega arith) (c.project_one.ensures.room _ inv.room);
+      inside = subst (λ (l : ℤ). AreInside l c.project_one.new.store.particles) inv.limit c.project_one.ensures.inside;
+      whole = same_length _ _ (c.project_one.ensures.fixed ∙ inv.fixed);
+      same = turn_on limit bond c.args.batch.now c.loop-n.n-index (omega arith) now then did ∙ inv.same;
+      limit = c.project_one.ensures.limit ∙ inv.limit;
+      fixed = c.project_one.ensures.fixed ∙ inv.fixed;
+      cost = omega (arith, c.project_one.ensures.cost, inv.cost);
+    }
+
+pub returns-in-Err-clause-outcome : goal.returns-in-Err-clause-outcome
+returns-in-Err-clause-outcome g c =
+    let inv = c.loop-n.invariant in
+    let limit = c.args.store.now.limit in
+    let bond = bond_of c.args.bonds in
+    let n = get_or c.args.batch.now c.loop-n.n-index 0 in
+    let now = motion_of c.loop-n.store c.loop-n.totals in
+    let did = one_is limit bond n c.get.result now (Err c.in-Err.left.element) inv.limit c.get.ensures c.in-Err.ensures.outcome in
+    sym inv.same ∙ turn_out limit bond c.args.batch.now c.loop-n.n-index (omega arith) now c.in-Err.left.element did

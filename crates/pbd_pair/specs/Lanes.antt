@@ -1,0 +1,41 @@
+-- Bonds side by side, lane by lane.
+use Rattle.std.specs.Prelude.{◌≡◌, ℕ, zero, suc, ◌+◌, ◌<◌, ◌≤◌, ℤ, Bool, true, false, not, if◌then◌else◌, List}
+use Rattle.pbd_lanes.specs.Lane.{lane, is_set}
+use Rattle.pbd_world.specs.declared.bond.Bond.{Bond}
+use Rattle.pbd_world.specs.declared.bond.End.{End}
+use Rattle.pbd_world.specs.declared.bond.Shift.{Shift}
+use Rattle.pbd_world.specs.declared.bond.Correction.{Correction}
+use Rattle.pbd_world.specs.declared.bond.Correction.TheVariants.{Slack, Leaves, Moves}
+use Rattle.pbd_world.specs.Ledger.{Ledger, Entry, booked}
+use Rattle.pbd_store.specs.Blocks.{place_of}
+use Rattle.pbd_store.specs.declared.lanes3.Ends.{Ends}
+use Rattle.pbd_pair.specs.declared.laid.Drawn.{Drawn}
+use Rattle.pbd_pair.specs.declared.laid.Laid.{Laid}
+
+-- the end in lane j
+abbrev pub end_in : {l : ℕ} → Ends l → ℕ → End
+end_in ends j = record { at = place_of ends.at.x ends.at.y ends.at.z j; weight = lane ends.weight j }
+
+-- the bond in lane j, without its particles
+abbrev pub bond_in : {l : ℕ} → Drawn l → ℕ → Bond
+bond_in d j = record { a = 0; b = 0; rest = lane d.rest j; k = lane d.k j; contact = is_set d.contact j }
+
+-- the shift in lane j
+abbrev pub shift_in : {l : ℕ} → Laid l → ℕ → Shift
+shift_in l j = record {
+  first = place_of l.first.x l.first.y l.first.z j;
+  second = place_of l.second.x l.second.y l.second.z j;
+  first_move = place_of l.first_move.x l.first_move.y l.first_move.z j;
+  second_move = place_of l.second_move.x l.second_move.y l.second_move.z j;
+}
+
+-- a lane holds a correction: whether it moves, whether it leaves the limit, and the shift of one that moves
+abbrev pub Lays : Correction → Bool → Bool → Shift → Type 0
+Lays Slack moving leaving t = (moving ≡ false) × (leaving ≡ false)
+Lays Leaves moving leaving t = (moving ≡ false) × (leaving ≡ true)
+Lays (Moves s) moving leaving t = (moving ≡ true) × ((leaving ≡ false) × (t ≡ s))
+
+-- the ledger with the entries of the first n lanes, of those that move
+abbrev pub settled : (ℕ → Bool) → (ℕ → List Entry) → ℕ → Ledger → Ledger
+settled moving entries zero t = t
+settled moving entries (suc n) t = if moving n then booked (settled moving entries n t) (entries n) else settled moving entries n t

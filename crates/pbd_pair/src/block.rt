@@ -1,0 +1,142 @@
+// One block of bonds, side by side.
+ghost use Rattle.std.specs.Prelude.{◌≡◌, ℕ, ◌<◌, ◌≤◌, ◌^◌, ◌+◌, ◌*◌, ◌-◌, pos, length, MatchResult, Result, Ok, Err, slice_index_or, nat_lt, not, true, Bool, if◌then◌else◌};
+ghost use Rattle.pbd_num.specs.Vectors.{Within};
+ghost use Rattle.pbd_world.specs.Ledger.{ledger_of, booked, HaveRoom};
+ghost use Rattle.pbd_world.specs.Bonds.{projected, entries_of, class_of};
+ghost use Rattle.pbd_store.specs.Gathering.{index_at};
+ghost use Rattle.pbd_lanes.specs.Lane.{lane, is_set};
+ghost use Rattle.pbd_pair.specs.Bonds.{bond_of, bond_count};
+ghost use Rattle.pbd_pair.specs.Projecting.{motion_of, fixed_parts, AreInside, Weigh, IsBatch};
+ghost use Rattle.pbd_pair.specs.Lanes.{shift_in, settled};
+
+use crate::bonds::Bonds;
+use crate::book::book;
+use crate::gathered::{Named, lay_block};
+use crate::laid::{Drawn, Laid};
+use pbd_lanes::{Lanes, Mask};
+use pbd_store::{Steps, Store};
+use pbd_world::{Bond, Left, Shift, Totals};
+use std::sync::ledger::Ledger;
+
+fn name_block<const L: usize>(bonds: &Bonds<'_>, block: &[u32]) -> Named<L>
+    requires lanes { L ≤ 16 }
+    requires short { length block.now ≤ L }
+    requires numbers { (j : ℕ) → j < length block.now → slice_index_or block.now j 0 < bond_count bonds.now }
+    ensures a { (j : ℕ) → j < length block.now → index_at result.a j ≡ (bond_of bonds.now (slice_index_or block.now j 0)).a }
+    ensures b { (j : ℕ) → j < length block.now → index_at result.b j ≡ (bond_of bonds.now (slice_index_or block.now j 0)).b }
+    ensures rest { (j : ℕ) → j < length block.now → lane result.drawn.rest j ≡ (bond_of bonds.now (slice_index_or block.now j 0)).rest }
+    ensures k { (j : ℕ) → j < length block.now → lane result.drawn.k j ≡ (bond_of bonds.now (slice_index_or block.now j 0)).k }
+    ensures contact { (j : ℕ) → j < length block.now → is_set result.drawn.contact j ≡ (bond_of bonds.now (slice_index_or block.now j 0)).contact }
+    ensures no_rest { (j : ℕ) → length block.now ≤ j → lane result.drawn.rest j ≡ pos 0 }
+    ensures no_k { (j : ℕ) → length block.now ≤ j → lane result.drawn.k j ≡ pos 0 }
+    ensures filled { (j : ℕ) → j < L → is_set result.filled j ≡ nat_lt j (length block.now) }
+{
+    let mut a = [0; L];
+    let mut b = [0; L];
+    let mut rest = [0; L];
+    let mut k = [0; L];
+    let mut contact = [false; L];
+    let mut filled = [false; L];
+    for (j, n) in block.iter().enumerate() {
+        let bond = bonds.get(*n);
+        a[j] = bond.a;
+        b[j] = bond.b;
+        rest[j] = bond.rest;
+        k[j] = bond.k;
+        contact[j] = bond.contact;
+        filled[j] = true;
+    }
+    Named {
+        a,
+        b,
+        drawn: Drawn {
+            rest: Lanes::from_array(rest),
+            k: Lanes::from_array(k),
+            contact: Mask::from_array(contact),
+        },
+        filled: Mask::from_array(filled),
+    }
+}
+
+// Adds the moves of a bond that moves its ends to the totals.
+fn settle(
+    totals: &mut Totals,
+    moving: bool,
+    first_held: bool,
+    second_held: bool,
+    bond: Bond,
+    shift: Shift,
+)
+    requires room { HaveRoom (2 ^ 125) (ledger_of totals.old) }
+    requires first { moving ≡ true → Within (2 ^ 31) shift.first_move }
+    requires second { moving ≡ true → Within (2 ^ 31) shift.second_move }
+    ensures value { ledger_of totals.new ≡ (if moving then booked (ledger_of totals.old) (entries_of first_held second_held (class_of bond) shift) else ledger_of totals.old) }
+    ensures room { (n : ℕ) → HaveRoom n (ledger_of totals.old) → HaveRoom (n + 2 ^ 32) (ledger_of totals.new) }
+{
+    if moving {
+        book(totals, first_held, second_held, bond, shift);
+    }
+}
+
+fn book_block<const L: usize>(totals: &mut Totals, bonds: &Bonds<'_>, block: &[u32], laid: &Laid<L>)
+    requires lanes { L ≤ 16 }
+    requires short { length block.now ≤ L }
+    requires numbers { (j : ℕ) → j < length block.now → slice_index_or block.now j 0 < bond_count bonds.now }
+    requires room { HaveRoom (2 ^ 124) (ledger_of totals.old) }
+    requires first { (j : ℕ) → j < length block.now → is_set laid.now.moving j ≡ true → Within (2 ^ 31) (shift_in laid.now j).first_move }
+    requires second { (j : ℕ) → j < length block.now → is_set laid.now.moving j ≡ true → Within (2 ^ 31) (shift_in laid.now j).second_move }
+    ensures value { ledger_of totals.new ≡ settled (λ j. is_set laid.now.moving j)
+        (λ j. entries_of (not (is_set laid.now.first_free j)) (not (is_set laid.now.second_free j)) (class_of (bond_of bonds.now (slice_index_or block.now j 0))) (shift_in laid.now j))
+        (length block.now) (ledger_of totals.old) }
+    ensures room { (n : ℕ) → HaveRoom n (ledger_of totals.old) → HaveRoom (n + length block.now * 2 ^ 32) (ledger_of totals.new) }
+{
+    let moving = laid.moving.to_array();
+    let first_free = laid.first_free.to_array();
+    let second_free = laid.second_free.to_array();
+    for (j, n) in block.iter().enumerate() {
+        let bond = bonds.get(*n);
+        settle(
+            totals,
+            moving[j],
+            !first_free[j],
+            !second_free[j],
+            bond,
+            laid.shift(j),
+        );
+    }
+}
+
+/// Projects a block of at most L bonds: two gathers, the corrections, and two scatters. A bond that would leave
+/// the limit is found before the scatters.
+pub(crate) fn project_block<const L: usize, G: Ledger>(
+    store: &mut Store<L>,
+    bonds: &Bonds<'_>,
+    block: &[u32],
+    totals: &mut Totals,
+    steps: &mut Steps<G>,
+) -> Result<(), Left>
+    requires lanes { L ≤ 16 }
+    requires short { length block.now ≤ L }
+    requires block { IsBatch store.old.limit (length store.old.particles) bonds.now block.now }
+    requires inside { AreInside store.old.limit store.old.particles }
+    requires weights { Weigh store.old.particles }
+    requires room { HaveRoom (2 ^ 124) (ledger_of totals.old) }
+    ensures outcome { MatchResult result
+        (λ _. projected store.old.limit (bond_of bonds.now) block.now (motion_of store.old totals.old) ≡ Ok (motion_of store.new totals.new))
+        (λ left. projected store.old.limit (bond_of bonds.now) block.now (motion_of store.old totals.old) ≡ Err left.element) }
+    ensures limit { store.new.limit ≡ store.old.limit }
+    ensures inside { AreInside store.old.limit store.new.particles }
+    ensures fixed { fixed_parts store.new.particles ≡ fixed_parts store.old.particles }
+    ensures room { (n : ℕ) → HaveRoom n (ledger_of totals.old) → HaveRoom (n + length block.now * 2 ^ 32) (ledger_of totals.new) }
+    ensures cost { steps.new ≤ steps.old + 4 }
+{
+    let named: Named<L> = name_block(bonds, block);
+    let laid = lay_block(store, &named, steps);
+    if let Some(j) = laid.leaving.first() {
+        return Err(Left { element: block[j] });
+    }
+    book_block(totals, bonds, block, &laid);
+    store.scatter(&named.a, &laid.moving, &laid.first, steps);
+    store.scatter(&named.b, &laid.moving, &laid.second, steps);
+    Ok(())
+}

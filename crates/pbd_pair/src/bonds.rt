@@ -1,0 +1,46 @@
+ghost use Rattle.std.specs.Prelude.{◌≡◌, ◌<◌, length};
+
+use pbd_world::{Bond, Link};
+
+/// Links, or contacts: pairs of particles that are to be at least a thickness apart.
+#[derive(Clone, Copy)]
+pub enum Bonds<'a> {
+    Links(&'a [Link]),
+    Contacts {
+        pairs: &'a [(u32, u32)],
+        thickness: i64,
+    },
+}
+
+impl Bonds<'_> {
+    ghost use Rattle.pbd_pair.specs.Bonds.{bond_of, bond_count};
+
+    /// Bond n.
+    pub fn get(&self, n: u32) -> Bond
+        requires { n < bond_count self.now }
+        ensures { result ≡ bond_of self.now n }
+    {
+        match self {
+            Bonds::Links(links) => {
+                let link = links[n as usize];
+                Bond {
+                    a: link.a,
+                    b: link.b,
+                    rest: link.rest,
+                    k: i64::from(link.k),
+                    contact: false,
+                }
+            }
+            Bonds::Contacts { pairs, thickness } => {
+                let (a, b) = pairs[n as usize];
+                Bond {
+                    a,
+                    b,
+                    rest: *thickness,
+                    k: 256,
+                    contact: true,
+                }
+            }
+        }
+    }
+}

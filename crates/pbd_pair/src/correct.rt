@@ -1,0 +1,124 @@
+// What one bond does with its two ends.
+ghost use Rattle.std.specs.Prelude.{◌≡◌, ◌≤◌, ◌^◌, pos, unsigned_abs, ◌+ℤ◌, ◌≤ℤ◌, ◌&&◌, IsTrue};
+ghost use Rattle.pbd_num.specs.Vectors.{Within, plus, is_within};
+ghost use Rattle.pbd_world.specs.Particles.{effective_weight};
+ghost use Rattle.pbd_world.specs.Bonds.{end_of, is_slack, shift_of, correction_of};
+ghost use Rattle.pbd_pair.specs.Bonds.{IsBound, IsDrawn, IsEnd, IsSound};
+
+use pbd_num::{Vec3, distance, pair_move, within};
+use pbd_store::Store;
+use pbd_world::{Bond, Correction, End, Particle, Shift};
+
+/// The limit of a store.
+pub(crate) fn limit_of<const L: usize>(store: &Store<L>) -> i64
+    ensures value { result ≡ store.now.limit }
+    ensures bound { IsBound result }
+{
+    store.limit()
+}
+
+fn sum(a: i64, b: i64) -> i64
+    requires a { unsigned_abs a ≤ 2 ^ 31 }
+    requires b { unsigned_abs b ≤ 2 ^ 31 }
+    ensures { result ≡ a +ℤ b }
+{
+    a + b
+}
+
+fn moved(a: Vec3, by: Vec3) -> Vec3
+    requires a { Within (2 ^ 29) a }
+    requires by { Within (2 ^ 31) by }
+    ensures { result ≡ plus a by }
+{
+    Vec3 {
+        x: sum(a.x, by.x),
+        y: sum(a.y, by.y),
+        z: sum(a.z, by.z),
+    }
+}
+
+fn weight_of(p: Particle) -> i64
+    ensures value { result ≡ pos (effective_weight p) }
+    ensures low { pos 0 ≤ℤ result }
+    ensures high { result ≤ℤ pos 65535 }
+{
+    if p.held { 0 } else { i64::from(p.weight) }
+}
+
+/// A particle as an end.
+pub(crate) fn as_end(p: Particle) -> End
+    ensures value { result ≡ end_of p }
+    ensures low { pos 0 ≤ℤ result.weight }
+    ensures high { result.weight ≤ℤ pos 65535 }
+{
+    End {
+        at: p.at,
+        weight: weight_of(p),
+    }
+}
+
+#[tactic(auto, unfolding(pbd_world::specs::Bonds::is_slack))]
+fn slack(p: End, q: End, bond: Bond) -> bool
+    requires p { Within (2 ^ 29) p.at }
+    requires q { Within (2 ^ 29) q.at }
+    ensures { result ≡ is_slack p q bond }
+{
+    bond.contact && bond.rest <= distance(p.at, q.at)
+}
+
+#[tactic(auto, unfolding(pbd_world::specs::Bonds::shift_of))]
+fn shifted(p: End, q: End, bond: Bond) -> Shift
+    requires p { Within (2 ^ 29) p.at }
+    requires q { Within (2 ^ 29) q.at }
+    requires rest_low { pos 0 ≤ℤ bond.rest }
+    requires rest_high { bond.rest ≤ℤ pos (2 ^ 31) }
+    requires k_low { pos 0 ≤ℤ bond.k }
+    requires k_high { bond.k ≤ℤ pos 256 }
+    requires p_low { pos 0 ≤ℤ p.weight }
+    requires p_high { p.weight ≤ℤ pos 65535 }
+    requires q_low { pos 0 ≤ℤ q.weight }
+    requires q_high { q.weight ≤ℤ pos 65535 }
+    ensures value { result ≡ shift_of p q bond }
+    ensures first { Within (2 ^ 31) result.first_move }
+    ensures second { Within (2 ^ 31) result.second_move }
+{
+    let (first_move, second_move) = pair_move(p.at, q.at, bond.rest, bond.k, p.weight, q.weight);
+    Shift {
+        first: moved(p.at, first_move),
+        second: moved(q.at, second_move),
+        first_move,
+        second_move,
+    }
+}
+
+// Whether both new places are within the limit.
+fn stays(shift: Shift, limit: i64) -> bool
+    requires { IsBound limit }
+    ensures test { result ≡ (is_within limit shift.first && is_within limit shift.second) }
+    ensures first { IsTrue result → Within (unsigned_abs limit) shift.first }
+    ensures second { IsTrue result → Within (unsigned_abs limit) shift.second }
+{
+    within(shift.first, limit) && within(shift.second, limit)
+}
+
+/// What a bond does with its two ends: nothing where a contact is long enough. Else each end moves its
+/// share of the way to the rest length (Müller and others 2007, Jakobsen 2001), unless that leaves the limit.
+#[tactic(auto, unfolding(pbd_world::specs::Bonds::correction_of), using(crate::proofs::Ranges::within_more, crate::proofs::Ranges::rest_fits))]
+pub(crate) fn correct(limit: i64, p: End, q: End, bond: Bond) -> Correction
+    requires limit { IsBound limit }
+    requires p { IsEnd limit p }
+    requires q { IsEnd limit q }
+    requires drawn { IsDrawn limit bond }
+    ensures value { result ≡ correction_of limit p q bond }
+    ensures sound { IsSound limit result }
+{
+    if slack(p, q, bond) {
+        return Correction::Slack;
+    }
+    let shift = shifted(p, q, bond);
+    if stays(shift, limit) {
+        Correction::Moves(shift)
+    } else {
+        Correction::Leaves
+    }
+}

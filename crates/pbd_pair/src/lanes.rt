@@ -1,0 +1,57 @@
+ghost use Rattle.std.specs.Prelude.{◌≡◌};
+
+use crate::block::project_block;
+use crate::bonds::Bonds;
+use crate::projector::Projector;
+use pbd_store::{Steps, Store};
+use pbd_world::{Left, Totals};
+use std::sync::ledger::Ledger;
+
+/// Projects L bonds side by side.
+#[derive(Clone, Copy)]
+pub struct LaneProjector<const L: usize> {
+    count: u64,
+}
+
+impl<const L: usize> LaneProjector<L> {
+    pub fn new() -> LaneProjector<L>
+        ensures { ⟦<LaneProjector<L> as Projector<L>>⟧.count result ≡ 0 }
+    {
+        LaneProjector { count: 0 }
+    }
+}
+
+impl<const L: usize> Projector<L> for LaneProjector<L> {
+    ghost width = { λ _. L };
+
+    ghost count = { λ s. s.count };
+
+    fn lanes(&self) -> usize {
+        L
+    }
+
+    fn handed(&self) -> u64 {
+        self.count
+    }
+
+    fn project<G: Ledger>(
+        &mut self,
+        store: &mut Store<L>,
+        bonds: Bonds<'_>,
+        batch: &[u32],
+        totals: &mut Totals,
+        steps: &mut Steps<G>,
+    ) -> Result<(), Left> {
+        self.count = self.count.saturating_add(batch.len() as u64);
+        let mut rest = batch;
+        'steps_on: while !rest.is_empty() {
+            let size = rest.len().min(L);
+            let (block, after) = rest.split_at(size);
+            if let Err(left) = project_block(store, &bonds, block, totals, steps) {
+                return Err(left);
+            }
+            rest = after;
+        }
+        Ok(())
+    }
+}

@@ -1,0 +1,21 @@
+//! Batches of bonds, projected one by one or in lanes.
+#![tactic(auto)]
+
+mod block;
+mod bonds;
+mod book;
+mod correct;
+mod gathered;
+mod laid;
+mod lanes;
+mod one;
+mod projector;
+mod scalar;
+
+pub use bonds::Bonds;
+pub use lanes::LaneProjector;
+pub use projector::Projector;
+pub use scalar::Scalar;
+
+#[cfg(test)]
+mod tests;

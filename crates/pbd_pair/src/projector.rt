@@ -1,0 +1,57 @@
+ghost use Rattle.std.specs.Prelude.{◌≡◌, ℕ, ◌<◌, ◌≤◌, ◌^◌, ◌+◌, ◌-◌, ◌*◌, min, length, MatchResult, Result, Ok, Err};
+ghost use Rattle.pbd_world.specs.Ledger.{ledger_of, HaveRoom};
+ghost use Rattle.pbd_world.specs.Bonds.{projected};
+ghost use Rattle.pbd_store.specs.Blocks.{blocks_of};
+ghost use Rattle.pbd_pair.specs.Bonds.{bond_of};
+ghost use Rattle.pbd_pair.specs.Projecting.{motion_of, fixed_parts, AreInside, Weigh, IsBatch};
+
+use crate::bonds::Bonds;
+use pbd_store::{Steps, Store};
+use pbd_world::{Left, Totals};
+use std::sync::ledger::Ledger;
+
+/// What projects batches of bonds.
+pub trait Projector<const L: usize> {
+    /// How many bonds it projects side by side.
+    ghost width: { Self → ℕ };
+
+    /// How many bonds it was handed.
+    ghost count: { Self → ℕ };
+
+    /// How many bonds it projects side by side, at least 1.
+    fn lanes(&self) -> usize
+        requires { 0 < L }
+        ensures value { result ≡ width self.now }
+        ensures some { 0 < result };
+
+    /// How many bonds it was handed since it was made, up to 2^64 - 1.
+    fn handed(&self) -> u64
+        ensures { result ≡ count self.now };
+
+    /// Projects a batch as its bonds do one by one, in the batch's order.
+    ///
+    /// `Left` has the number of the first bond that would move an end out of the store's limit. The places and
+    /// the totals are then any, and all else is as it was.
+    fn project<G: Ledger>(
+        &mut self,
+        store: &mut Store<L>,
+        bonds: Bonds<'_>,
+        batch: &[u32],
+        totals: &mut Totals,
+        steps: &mut Steps<G>,
+    ) -> Result<(), Left>
+        requires lanes_low { 0 < L }
+        requires lanes_high { L ≤ 16 }
+        requires batch { IsBatch store.old.limit (length store.old.particles) bonds batch.now }
+        requires inside { AreInside store.old.limit store.old.particles }
+        requires weights { Weigh store.old.particles }
+        requires room { HaveRoom (2 ^ 120) (ledger_of totals.old) }
+        ensures outcome { MatchResult result
+            (λ _. projected store.old.limit (bond_of bonds.entry) batch.now (motion_of store.old totals.old) ≡ Ok (motion_of store.new totals.new))
+            (λ left. projected store.old.limit (bond_of bonds.entry) batch.now (motion_of store.old totals.old) ≡ Err left.element) }
+        ensures limit { store.new.limit ≡ store.old.limit }
+        ensures fixed { fixed_parts store.new.particles ≡ fixed_parts store.old.particles }
+        ensures cost { steps.new ≤ steps.old + 4 * blocks_of (length batch.now) (width self.old) }
+        ensures handed { count self.new ≡ min (count self.old + length batch.now) (2 ^ 64 - 1) }
+        ensures width { width self.new ≡ width self.old };
+}

@@ -1,0 +1,4 @@
+pub mod Filling
+pub mod Scattering
+pub mod Saving
+pub mod Starts

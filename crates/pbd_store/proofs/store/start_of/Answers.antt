@@ -1,0 +1,9 @@
+use Rattle.std.proofs.Common.{Fits, w64, ◌*◌, ◌<◌, ◌≤◌, ◌^◌, arith}
+use Rattle.pbd_store.proofs.Starts.{block_begins}
+use Rattle.pbd_store.proofs.store.start_of.Goals as goal
+
+pub overflow_mul-result : goal.overflow_mul-result
+overflow_mul-result c = record { fits = omega (arith, block_begins c.args.block c.args.len c.args.lanes c.requires.some c.requires.within, c.requires.size) }
+
+pub returns-clause-bound : goal.returns-clause-bound
+returns-clause-bound c = omega (arith, block_begins c.args.block c.args.len c.args.lanes c.requires.some c.requires.within, c.requires.size)

@@ -1,0 +1,4 @@
+pub mod Stored
+pub mod Blocks
+pub mod Gathering
+pub mod Fields
