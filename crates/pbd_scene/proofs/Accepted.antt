@@ -1,24 +1,24 @@
 -- What the checks of keys and entries accept.
-use Rattle.std.proofs.Common.{◌≡◌, ◌∙◌, ap, sym, refl, ℕ, ◌+◌, ◌*◌, ◌≤◌, ◌<◌, List, [], ◌∷◌, ◌++◌, length, Bool, true, false, Ok, Err, Option, Some, None, arith, pos, negsuc, ℤ, subst}
-use Rattle.std.specs.Prelude.{unwrap_or, ◌&&◌, ◌||◌, not, nat_le, nat_lt, int_le, unsigned_abs, IsTrue, ◌*ℤ◌, ◌-ℤ◌, ◌+ℤ◌, ◌≤ℤ◌, ◌^◌}
+use Rattle.std.proofs.Common.{◌≡◌, refl, ℕ, ◌+◌, ◌≤◌, List, [], ◌∷◌, ◌++◌, length, Bool, true, false, Ok, Err, Option, Some, None, arith, pos, negsuc, ℤ, subst}
+use Rattle.std.specs.Prelude.{unwrap_or, ◌&&◌, nat_le, int_le, unsigned_abs}
 use Rattle.std.specs.List.{list_all}
 use Rattle.std.proofs.lemmas.Int.{ints}
-use Rattle.std.proofs.lemmas.Bool.{and_parts, not-true}
+use Rattle.std.proofs.lemmas.Bool.{and_parts}
 use Rattle.std.proofs.lemmas.Bool.Decides.{nat_tests}
 use Rattle.std.proofs.lemmas.List.{length-append}
 use Rattle.std.proofs.lemmas.List.Folds.{list_all-append}
 use Rattle.toml.specs.Data.{Data, Members, get_member}
 use Rattle.pbd_num.specs.declared.Vec3.{Vec3}
-use Rattle.pbd_num.specs.Vectors.{is_within, zero_vector, minus, squared_length}
+use Rattle.pbd_num.specs.Vectors.{is_within}
 use Rattle.pbd_scene.specs.declared.fault.SceneRule.{SceneRule}
-use Rattle.pbd_scene.specs.declared.fault.SceneRule.TheVariants.{MissingKey, WrongType, OutOfRange, TooMany, BadTrack}
+use Rattle.pbd_scene.specs.declared.fault.SceneRule.TheVariants.{MissingKey, WrongType, OutOfRange, TooMany}
 use Rattle.pbd_scene.specs.declared.fault.Place.{Place}
 use Rattle.pbd_scene.specs.declared.fault.KeyName.{KeyName}
 use Rattle.pbd_scene.specs.declared.fault.TableName.{TableName}
 use Rattle.pbd_scene.specs.declared.fault.KeyName.TheVariants as keys
 use Rattle.pbd_scene.specs.Checks.{Checked, ◌>>=◌, expect, expect_some, each}
 use Rattle.pbd_scene.specs.Keys.{table_text}
-use Rattle.pbd_scene.specs.Values.{value_of, found, integer, any_integer, required_integer, optional_integer, integer_or, required_count, count_or, vector, three_integers, required_vector, vector_or, array_of, at, entries, entries_of, table_of}
+use Rattle.pbd_scene.specs.Values.{value_of, found, integer, any_integer, required_integer, optional_integer, integer_or, count_or, vector, three_integers, required_vector, vector_or, array_of, at, entries, entries_of, table_of}
 
 -- ---- chains of checks
 

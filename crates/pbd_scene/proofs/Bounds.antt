@@ -1,12 +1,12 @@
 -- Tests that are made with the numbers as the program has them.
-use Rattle.std.proofs.Common.{◌≡◌, refl, ℤ, Bool, true, false, ◌&&◌, Ok}
+use Rattle.std.proofs.Common.{◌≡◌, refl, ℤ, Bool, true, false, Ok}
 use Rattle.pbd_num.specs.declared.Vec3.{Vec3}
 use Rattle.pbd_num.specs.Vectors.{is_within}
 use Rattle.pbd_scene.specs.declared.fault.SceneRule.TheVariants.{OutOfRange}
 use Rattle.pbd_scene.specs.declared.fault.Place.{Place}
 use Rattle.pbd_scene.specs.declared.fault.KeyName.TheVariants as keys
 use Rattle.pbd_scene.specs.declared.fault.SceneFault.{SceneFault}
-use Rattle.pbd_scene.specs.Checks.{Checked, Fails, expect}
+use Rattle.pbd_scene.specs.Checks.{Fails, expect}
 use Rattle.pbd_scene.specs.Entries.{inside_before, place_before, on_by, back_by, reaches_within}
 use Rattle.pbd_scene.proofs.Reading.{bind_fails}
 

@@ -1,19 +1,16 @@
 -- What the entries that are accepted have.
-use Rattle.std.proofs.Common.{suc, ◌≡◌, ◌∙◌, ap, sym, refl, ℕ, ◌+◌, ◌-◌, ◌*◌, ◌≤◌, ◌<◌, List, [], ◌∷◌, ◌++◌, length, Bool, true, false, Ok, Err, Option, Some, None, arith, pos, negsuc, ℤ}
-use Rattle.std.specs.Prelude.{unwrap_or, ◌&&◌, ◌||◌, not, nat_le, nat_lt, int_le, unsigned_abs, IsTrue, ◌*ℤ◌, ◌-ℤ◌, ◌+ℤ◌, ◌≤ℤ◌, ◌^◌, if◌then◌else◌, slice_index_or}
-use Rattle.std.specs.List.{list_all, sum_by}
+use Rattle.std.proofs.Common.{suc, ◌≡◌, ◌∙◌, refl, ℕ, ◌+◌, ◌-◌, ◌≤◌, ◌<◌, List, [], ◌∷◌, ◌++◌, length, Bool, true, false, Ok, Option, Some, None, arith, pos, negsuc, ℤ}
+use Rattle.std.specs.Prelude.{unwrap_or, ◌&&◌, ◌||◌, not, nat_le, nat_lt, int_le, unsigned_abs, ◌*ℤ◌, ◌-ℤ◌, ◌≤ℤ◌, ◌^◌, if◌then◌else◌}
+use Rattle.std.specs.List.{list_all}
 use Rattle.std.proofs.lemmas.Int.{ints}
-use Rattle.std.proofs.lemmas.Bool.{and_parts, and_from, cases_lt}
+use Rattle.std.proofs.lemmas.Bool.{and_parts, and_from}
 use Rattle.std.proofs.lemmas.Bool.Decides.{nat_tests}
-use Rattle.std.proofs.lemmas.List.{length-append}
 use Rattle.std.proofs.lemmas.List.Folds.{list_all-append}
 use Rattle.toml.specs.Data.{Data, Members}
 use Rattle.pbd_num.specs.declared.Vec3.{Vec3}
-use Rattle.pbd_num.specs.Vectors.{is_within, is_axis_within, zero_vector, minus, plus, on_axes, squared_length}
-use Rattle.pbd_num.proofs.Ranges.{within_facts}
+use Rattle.pbd_num.specs.Vectors.{is_within, is_axis_within, zero_vector, minus, squared_length}
 use Rattle.pbd_mesh.specs.declared.spec.ClothSpec.{ClothSpec}
 use Rattle.pbd_mesh.specs.declared.spec.RopeSpec.{RopeSpec}
-use Rattle.pbd_mesh.specs.Joined.{all_below}
 use Rattle.pbd_mesh.specs.Cloth.{cloth_fits}
 use Rattle.pbd_mesh.specs.Rope.{rope_fits}
 use Rattle.pbd_mesh.proofs.Below.{below}
@@ -21,7 +18,7 @@ use Rattle.pbd_world.specs.declared.parts.Particle.{Particle}
 use Rattle.pbd_world.specs.declared.parts.Plane.{Plane}
 use Rattle.pbd_world.specs.declared.parts.Sphere.{Sphere}
 use Rattle.pbd_world.specs.declared.parts.Key.{Key}
-use Rattle.pbd_world.specs.Valid.{is_valid_particle, is_at_rest, is_between, is_valid_plane, is_valid_sphere, are_valid_keys}
+use Rattle.pbd_world.specs.Valid.{is_valid_particle, is_at_rest, is_valid_plane, is_valid_sphere, are_valid_keys}
 use Rattle.pbd_world.proofs.ValidLemmas.{rising, rising_begins}
 use Rattle.std.proofs.lemmas.List.Sums.{sum_by-append, sum_by-cons}
 use Rattle.pbd_scene.specs.declared.raw.LinkEntry.{LinkEntry}
@@ -30,11 +27,11 @@ use Rattle.pbd_scene.specs.declared.fault.SceneRule.TheVariants.{OutOfRange, Too
 use Rattle.pbd_scene.specs.declared.fault.Place.{Place}
 use Rattle.pbd_scene.specs.declared.fault.KeyName.TheVariants as keys
 use Rattle.pbd_scene.specs.declared.fault.TableName.TheVariants as tables
-use Rattle.pbd_scene.specs.Checks.{Checked, ◌>>=◌, expect, each}
+use Rattle.pbd_scene.specs.Checks.{expect, each}
 use Rattle.pbd_scene.specs.Keys.{known}
 use Rattle.pbd_scene.specs.Values.{at, members, required_vector, vector_or, required_integer, required_any_integer, optional_integer, integer_or, required_count, count_or, boolean_or, row, required_array}
 use Rattle.pbd_scene.specs.Entries.{particle_of, inside_before, place_before, cloth_of, rope_of, fitting_cloth, fitting_rope, room_for, cloth_size, all_cloths_size, all_ropes_size, link_of, plane_of, sphere_of, reaches_within, on_by, back_by, row_of, key_of, step_number, step_of, steps_rise, track_of}
-use Rattle.pbd_scene.proofs.Accepted.{bind_ok, through, expect_ok, same_ok, tested, optional_some, between, required_integer_ok, integer_or_ok, count_or_ok, required_vector_ok, vector_or_ok, each_pass, each_count}
+use Rattle.pbd_scene.proofs.Accepted.{through, expect_ok, same_ok, tested, optional_some, between, required_integer_ok, integer_or_ok, count_or_ok, required_vector_ok, each_pass, each_count}
 
 -- ---- particles
 

@@ -1,5 +1,5 @@
 -- Flags that tell which numbers are named, and the particles and tracks of these numbers.
-use Rattle.std.proofs.Common.{◌≡◌, ◌∙◌, ap, sym, refl, ℕ, ◌+◌, ◌<◌, ◌≤◌, Bool, true, false, ◌||◌, List, [], ◌∷◌, ◌++◌, length, get_or, take, drop, map, arith, inl, inr, append_assoc, append-nil}
+use Rattle.std.proofs.Common.{◌≡◌, ◌∙◌, ap, sym, refl, ℕ, ◌+◌, ◌<◌, ◌≤◌, Bool, true, false, ◌||◌, List, [], ◌∷◌, ◌++◌, length, get_or, take, drop, arith, inl, inr, append_assoc, append-nil}
 use Rattle.std.specs.Prelude.{slice_set as set, replicate, ◌==◌, if◌then◌else◌, Ok}
 use Rattle.std.specs.List.{list_any}
 use Rattle.std.proofs.lemmas.Bool.{cases_eq, eq-eqb, ne_eqb}
@@ -10,7 +10,7 @@ use Rattle.pbd_world.specs.declared.parts.Track.{Track}
 use Rattle.pbd_world.specs.Neighbours.{is_among, HoldsTracked}
 use Rattle.pbd_scene.specs.declared.raw.TrackEntry.{TrackEntry}
 use Rattle.pbd_scene.specs.declared.fault.SceneFault.{SceneFault}
-use Rattle.pbd_scene.specs.Checks.{Checked, Fails, each}
+use Rattle.pbd_scene.specs.Checks.{Fails, each}
 use Rattle.pbd_scene.specs.Joining.{placed_track, held_still, holding}
 use Rattle.pbd_scene.specs.Marks.{Flags}
 use Rattle.pbd_scene.proofs.Reading.{next_ok, next_fails, last_ok}

@@ -1,5 +1,5 @@
 -- Links that join valid particles: none twice, and few at each particle.
-use Rattle.std.proofs.Common.{◌≡◌, ◌≢◌, ◌∙◌, ap, sym, refl, ℕ, zero, suc, ◌+◌, ◌*◌, ◌≤◌, ◌<◌, List, [], ◌∷◌, ◌++◌, length, Bool, true, false, not, ◌&&◌, ◌||◌, ◌==◌, Ok, Option, Some, None, arith, inl, inr, pos, ℤ, ◌≤ℤ◌, get_or, append_assoc, append-nil}
+use Rattle.std.proofs.Common.{◌≡◌, ◌∙◌, ap, sym, refl, ℕ, zero, suc, ◌+◌, ◌≤◌, ◌<◌, List, [], ◌∷◌, ◌++◌, length, Bool, true, false, not, ◌&&◌, ◌||◌, ◌==◌, Ok, arith, inl, inr, pos, ℤ, ◌≤ℤ◌, get_or, append_assoc, append-nil}
 use Rattle.std.specs.Prelude.{unwrap_or, nat_le, nat_lt, int_le, int_lt, IsTrue, ◌*ℤ◌, filter, cond, unsigned_abs}
 use Rattle.std.specs.List.{list_all, list_any}
 use Rattle.std.proofs.lemmas.Int.{ints}
@@ -8,8 +8,8 @@ use Rattle.std.proofs.lemmas.Bool.Decides.{nat_tests}
 use Rattle.std.proofs.lemmas.List.{length-append}
 use Rattle.std.proofs.lemmas.List.Folds.{list_all-append, list_any-append}
 use Rattle.pbd_num.specs.Vectors.{is_within}
-use Rattle.pbd_mesh.specs.Meshes.{is_free_and_valid, is_mesh_link, IsMesh}
-use Rattle.pbd_mesh.proofs.Every.{Every, every_more, every_test, every_from_test, Apart, apart_from, apart_one, once_one, once_both, count_both, count_none}
+use Rattle.pbd_mesh.specs.Meshes.{is_mesh_link, IsMesh}
+use Rattle.pbd_mesh.proofs.Every.{Every, every_more, every_test, every_from_test, apart_from, apart_one, once_one, once_both, count_both, count_none}
 use Rattle.pbd_mesh.proofs.Meshes.{rest_fits}
 use Rattle.pbd_world.specs.declared.parts.Particle.{Particle}
 use Rattle.pbd_world.specs.declared.parts.Link.{Link}
@@ -22,7 +22,7 @@ use Rattle.pbd_scene.specs.declared.fault.Place.{Place}
 use Rattle.pbd_scene.specs.declared.fault.KeyName.{KeyName}
 use Rattle.pbd_scene.specs.declared.fault.KeyName.TheVariants as keys
 use Rattle.pbd_scene.specs.declared.fault.TableName.TheVariants as tables
-use Rattle.pbd_scene.specs.Checks.{Checked, ◌>>=◌, expect, each}
+use Rattle.pbd_scene.specs.Checks.{expect, each}
 use Rattle.pbd_scene.specs.Values.{at}
 use Rattle.pbd_scene.specs.Joining.{particle_number, plain_link, length_between, joined_link, link_after, all_links}
 use Rattle.pbd_scene.proofs.Accepted.{through, expect_ok, same_ok, tested, each_keeps_where}

@@ -8,7 +8,7 @@ use Rattle.pbd_world.specs.Neighbours.{HoldsNeighbours, AddsLink}
 use Rattle.pbd_world.proofs.Neighbouring.{holds_next, holds_more}
 use Rattle.pbd_scene.specs.declared.raw.LinkEntry.{LinkEntry}
 use Rattle.pbd_scene.specs.declared.fault.SceneFault.{SceneFault}
-use Rattle.pbd_scene.specs.Checks.{Checked, ◌>>=◌, Fails, each}
+use Rattle.pbd_scene.specs.Checks.{Fails, each}
 use Rattle.pbd_scene.specs.Joining.{joined_link, link_after, all_links}
 use Rattle.pbd_scene.proofs.Reading.{next_ok, next_fails, last_ok, bind_fails}
 

@@ -1,11 +1,10 @@
 -- Parts to which meshes are added one after another.
-use Rattle.std.proofs.Common.{◌≡◌, ◌∙◌, ap, sym, refl, ℕ, ◌+◌, ◌*◌, ◌<◌, ◌≤◌, List, [], ◌∷◌, ◌++◌, length, get_or, drop, arith, true, All}
-use Rattle.std.specs.Prelude.{fold, IsTrue}
+use Rattle.std.proofs.Common.{◌≡◌, ◌∙◌, ap, sym, refl, ℕ, ◌+◌, ◌<◌, ◌≤◌, List, [], ◌∷◌, length, get_or, drop, arith}
+use Rattle.std.specs.Prelude.{fold}
 use Rattle.std.specs.List.{sum_by}
-use Rattle.std.proofs.lemmas.List.{drop_more, drop_all, length-append}
+use Rattle.std.proofs.lemmas.List.{drop_more, drop_all}
 use Rattle.std.proofs.lemmas.List.Sums.{sum_by-cons}
 use Rattle.pbd_world.specs.declared.parts.Parts.{Parts}
-use Rattle.pbd_world.specs.Valid.{is_limit}
 
 whole : {A : Type 0} (xs : List A) → drop 0 xs ≡ xs
 whole [] = refl

@@ -1,5 +1,5 @@
 -- What the tables of a tree give, while its parts are put together.
-use Rattle.std.proofs.Common.{◌≡◌, ◌∙◌, ap, sym, refl, ℕ, zero, suc, ◌+◌, ◌≤◌, ◌<◌, ◌^◌, List, [], ◌∷◌, length, Bool, true, ◌&&◌, Ok, arith, pos, ℤ, ◌≤ℤ◌, unsigned_abs, All, get_or}
+use Rattle.std.proofs.Common.{◌≡◌, ◌∙◌, ap, refl, ℕ, zero, suc, ◌+◌, ◌≤◌, ◌<◌, ◌^◌, List, [], ◌∷◌, length, Bool, true, arith, pos, ℤ, All, get_or}
 use Rattle.std.specs.Prelude.{IsTrue, fold}
 use Rattle.std.specs.List.{list_all}
 use Rattle.std.proofs.lemmas.Bool.{and_parts}
@@ -17,7 +17,6 @@ use Rattle.pbd_world.specs.Valid.{is_limit}
 use Rattle.pbd_scene.specs.declared.raw.Tables.{Tables}
 use Rattle.pbd_scene.specs.Entries.{all_cloths_size, all_ropes_size}
 use Rattle.pbd_scene.specs.Scene.{with_cloth, with_rope}
-use Rattle.pbd_scene.proofs.Entering.{is_entry_particle}
 use Rattle.pbd_scene.proofs.Graphs.{within_at, graph_none}
 use Rattle.pbd_scene.proofs.Validity.{TablesFit, Meshed, cloths_meshed, ropes_meshed}
 

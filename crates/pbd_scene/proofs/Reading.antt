@@ -1,7 +1,6 @@
 -- A list of values that is read one after another.
 use Rattle.std.proofs.Common.{◌≡◌, ◌∙◌, ap, sym, refl, ℕ, ◌+◌, ◌<◌, ◌≤◌, List, [], ◌∷◌, ◌++◌, length, get_or, drop, map, Ok, Err, arith}
 use Rattle.std.proofs.lemmas.List.{drop_more, drop_all, length-append, get_or_default}
-use Rattle.toml.specs.Data.{Data}
 use Rattle.pbd_scene.specs.declared.fault.SceneFault.{SceneFault}
 use Rattle.pbd_scene.specs.declared.fault.SceneFault.TheVariants as faults
 use Rattle.pbd_scene.specs.Checks.{Broken, Checked, ◌>>=◌, each, Fails}

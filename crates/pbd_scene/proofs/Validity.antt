@@ -1,8 +1,8 @@
 -- The parts of a tree that breaks no rule are valid.
-use Rattle.std.proofs.Common.{◌≡◌, ◌∙◌, ap, sym, refl, ℕ, zero, suc, ◌+◌, ◌*◌, ◌≤◌, ◌<◌, List, [], ◌∷◌, ◌++◌, length, Bool, true, false, not, ◌&&◌, ◌||◌, ◌==◌, Ok, map, arith, inl, inr, pos, ℤ, ◌≤ℤ◌, get_or, unsigned_abs, ◌^◌, subst, append_assoc}
-use Rattle.std.specs.Prelude.{nat_le, nat_lt, IsTrue, ◌*ℤ◌, fold, if◌then◌else◌}
-use Rattle.std.specs.List.{list_all, list_any, sum_by, range_with_len}
-use Rattle.std.proofs.lemmas.Bool.{and_parts, and_from, not-true, or_left, or_right, cases_eq, cases_Bool, eq-eqb, eqb-true}
+use Rattle.std.proofs.Common.{◌≡◌, ◌∙◌, ap, refl, ℕ, zero, suc, ◌+◌, ◌*◌, ◌≤◌, ◌<◌, List, [], ◌∷◌, ◌++◌, length, Bool, true, false, not, ◌&&◌, ◌||◌, ◌==◌, Ok, map, arith, pos, ℤ, ◌≤ℤ◌, get_or, append_assoc}
+use Rattle.std.specs.Prelude.{nat_le, nat_lt, IsTrue, fold, if◌then◌else◌}
+use Rattle.std.specs.List.{list_all, list_any}
+use Rattle.std.proofs.lemmas.Bool.{and_parts, and_from, not-true, or_left, or_right, eq-eqb}
 use Rattle.std.proofs.lemmas.Bool.Decides.{nat_tests}
 use Rattle.std.proofs.lemmas.List.{length-append}
 use Rattle.std.proofs.lemmas.List.Folds.{list_all-append, list_any-append}
@@ -15,33 +15,31 @@ use Rattle.pbd_mesh.specs.declared.spec.RopeSpec.{RopeSpec}
 use Rattle.pbd_mesh.specs.Cloth.{cloth_fits, cloth_particles, cloth_links}
 use Rattle.pbd_mesh.specs.Rope.{rope_fits, rope_particles, rope_links}
 use Rattle.pbd_mesh.specs.Meshes.{is_free_and_valid, IsMesh}
-use Rattle.pbd_mesh.proofs.Every.{Every, every_more, every_test, every_from_test, once_both, once_one, apart_one}
+use Rattle.pbd_mesh.proofs.Every.{every_more, every_test, every_from_test, once_both, once_one, apart_one}
 use Rattle.pbd_mesh.proofs.Facts.{limit_bounds}
 use Rattle.pbd_mesh.proofs.Meshes.{cloth_mesh, cloth_size, rope_mesh, rope_size}
 use Rattle.pbd_world.specs.declared.parts.Particle.{Particle}
 use Rattle.pbd_world.specs.declared.parts.Link.{Link}
 use Rattle.pbd_world.specs.declared.parts.Track.{Track}
 use Rattle.pbd_world.specs.declared.parts.Parts.{Parts}
-use Rattle.pbd_world.specs.Particles.{particle_at}
 use Rattle.pbd_world.specs.Neighbours.{is_among}
-use Rattle.pbd_world.specs.Valid.{is_limit, is_between, is_valid, is_well_formed, is_valid_particle, is_at_rest, is_valid_link, is_valid_plane, is_valid_sphere, is_valid_track, are_valid_keys, are_valid_particles, are_valid_links, are_valid_planes, are_valid_spheres, are_valid_tracks, are_tracked_held, are_valid_numbers, none_twice, join_alike, links_at}
+use Rattle.pbd_world.specs.Valid.{is_limit, is_between, is_valid, is_well_formed, is_valid_particle, is_at_rest, is_valid_link, is_valid_plane, is_valid_sphere, is_valid_track, are_valid_keys, are_valid_particles, are_valid_links, are_valid_planes, are_valid_spheres, are_valid_tracks, are_tracked_held, are_valid_numbers, none_twice, links_at}
 use Rattle.pbd_world.proofs.TwiceLemmas.{range_all}
-use Rattle.pbd_scene.specs.declared.raw.LinkEntry.{LinkEntry}
 use Rattle.pbd_scene.specs.declared.raw.TrackEntry.{TrackEntry}
 use Rattle.pbd_scene.specs.declared.raw.Settings.{Settings}
 use Rattle.pbd_scene.specs.declared.raw.Tables.{Tables}
 use Rattle.pbd_scene.specs.declared.fault.SceneRule.TheVariants.{BadTrack}
 use Rattle.pbd_scene.specs.declared.fault.KeyName.TheVariants as keys
 use Rattle.pbd_scene.specs.declared.fault.TableName.TheVariants as tables
-use Rattle.pbd_scene.specs.Checks.{Checked, ◌>>=◌, each}
+use Rattle.pbd_scene.specs.Checks.{each}
 use Rattle.pbd_scene.specs.Keys.{known}
 use Rattle.pbd_scene.specs.Values.{at, vector_or, count_or, integer_or}
 use Rattle.pbd_scene.specs.Entries.{cloth_of, rope_of, particle_of, link_of, plane_of, sphere_of, track_of, cloth_size as size_of_cloth, all_cloths_size, all_ropes_size}
 use Rattle.pbd_scene.specs.Joining.{particle_number, all_links, pinned, placed_track, held_still, holding}
 use Rattle.pbd_scene.specs.Scene.{at_scene, pins_of, settings_of, particles_of, cloths_of, ropes_of, links_of, planes_of, spheres_of, tracks_of, tables_of, with_cloth, with_rope, plain_parts, with_meshes, named, joined_parts, scene_of}
-use Rattle.pbd_scene.proofs.Accepted.{through, same_ok, tested, integer_or_ok, count_or_ok, vector_or_ok, each_keeps, each_keeps_where, table_pass, table_keeps, each_count}
+use Rattle.pbd_scene.proofs.Accepted.{through, same_ok, tested, integer_or_ok, count_or_ok, vector_or_ok, each_keeps_where, table_pass, table_keeps, each_count}
 use Rattle.pbd_scene.proofs.Entering.{at_rest, is_entry_particle, particle_passes, CloseCloths, CloseRopes, cloths_keep, ropes_keep, is_link_entry, link_passes, plane_passes, sphere_passes, has_keys, track_passes}
-use Rattle.pbd_scene.proofs.Graphs.{is_live_link, IsGraph, graph_none, graph_mesh, JoinedLinks, links_joined, number_ok}
+use Rattle.pbd_scene.proofs.Graphs.{IsGraph, graph_none, graph_mesh, JoinedLinks, links_joined, number_ok}
 
 -- ---- the tables
 

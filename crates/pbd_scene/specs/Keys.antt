@@ -1,5 +1,5 @@
 -- The names of keys, tables and rules, and which keys a table may have.
-use Rattle.std.specs.Prelude.{ℕ, codes, Bool, true, ◌&&◌, ◌||◌, if◌then◌else◌, List, [], ◌∷◌, Result, Ok, bytes_eq}
+use Rattle.std.specs.Prelude.{ℕ, codes, Bool, true, ◌&&◌, ◌||◌, List, [], ◌∷◌, bytes_eq}
 use Rattle.std.specs.List.{list_any}
 use Rattle.toml.specs.Data.{Members, no_members, member}
 use Rattle.pbd_scene.specs.declared.fault.SceneRule.{SceneRule}

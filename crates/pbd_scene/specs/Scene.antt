@@ -1,6 +1,6 @@
 -- What a tree of TOML means as a scene, or the first rule that it breaks.
-use Rattle.std.specs.Prelude.{ℕ, ◌+◌, ℤ, pos, List, [], ◌∷◌, ◌++◌, length, map, fold, Result, Ok, Err, Option, Some, None, option_map, unwrap_or, ◌≡◌, ◌⊎◌, IsErrAnd, nat_le}
-use Rattle.toml.specs.Data.{Data, Members}
+use Rattle.std.specs.Prelude.{ℕ, ◌+◌, ℤ, pos, List, [], ◌++◌, length, map, fold, Result, Ok, Option, Some, None, ◌≡◌, ◌⊎◌, IsErrAnd, nat_le}
+use Rattle.toml.specs.Data.{Members}
 use Rattle.pbd_num.specs.Vectors.{zero_vector}
 use Rattle.pbd_world.specs.declared.parts.Particle.{Particle}
 use Rattle.pbd_world.specs.declared.parts.Plane.{Plane}

@@ -6,6 +6,8 @@ mod axes;
 mod each;
 mod fault;
 mod joining;
+#[cfg(test)]
+mod key_cases;
 mod laws;
 mod limit;
 mod link_entries;

@@ -1,6 +1,7 @@
 ghost use Rattle.std.specs.Prelude.{IsTrue};
 ghost use Rattle.pbd_world.specs.Valid.{is_limit};
 
+use super::key_cases::key_cases;
 use super::*;
 use pbd_world::Scene;
 use std::alloc::{AllocError, Global};
@@ -123,6 +124,84 @@ fn the_first_broken_rule_is_told(rt: HostRuntime) -> Result<(), Fail> {
 }
 
 #[test]
+fn each_key_has_its_rules(rt: HostRuntime) -> Result<(), Fail> {
+    for line in key_cases().lines() {
+        let (scene, answer) = line.split_once(" => ").unwrap_or((line, "no answer"));
+        assert_eq!(rt; found(rt.alloc(), scene)?.as_str(), answer, "{scene}");
+    }
+    Ok(())
+}
+
+/// A table with so many empty entries.
+fn empty_entries(alloc: Global, table: &str, count: u32) -> Result<String, AllocError> {
+    let mut text = String::from_str(alloc, table)?;
+    text.push_str("=[")?;
+    for _ in 0..count {
+        text.push_str("{},")?;
+    }
+    text.push_str("]")?;
+    Ok(text)
+}
+
+#[test]
+fn entries_past_the_greatest_number_are_refused(rt: HostRuntime) -> Result<(), Fail> {
+    let tables = [
+        ("particle", 65_536, "6 particle 0 -"),
+        ("cloth", 64, "6 cloth 0 -"),
+        ("rope", 64, "6 rope 0 -"),
+        ("link", 524_288, "6 link 0 -"),
+        ("plane", 256, "6 plane 0 -"),
+        ("sphere", 256, "6 sphere 0 -"),
+        ("track", 4_096, "6 track 0 -"),
+    ];
+    for (table, most, answer) in tables {
+        let text = empty_entries(rt.alloc(), table, most + 1)?;
+        assert_eq!(rt;
+            found(rt.alloc(), text.as_str())?.as_str(),
+            answer,
+            "{table}"
+        );
+    }
+    let mut pins = String::from_str(rt.alloc(), "pins=[")?;
+    for _ in 0..65_537 {
+        pins.push_str("0,")?;
+    }
+    pins.push_str("]")?;
+    assert_eq!(rt;
+        found(rt.alloc(), pins.as_str())?.as_str(),
+        "6 scene 0 pins"
+    );
+    Ok(())
+}
+
+/// A cloth of 390,658 links, and 133,630 links more, or one more than that.
+fn many_links(alloc: Global, last: u16) -> Result<String, AllocError> {
+    let mut text = String::from_str(
+        alloc,
+        "cloth=[{origin=[0,0,0],across=[9,0,0],down=[0,0,9],rows=256,columns=256}]\nlink=[",
+    )?;
+    for (apart, count) in [(3u16, 65_533u16), (5, 65_531), (7, last)] {
+        for i in 0..count {
+            write!(text, "{{a={i},b={}}},", u32::from(i) + u32::from(apart))?;
+        }
+    }
+    text.push_str("]")?;
+    Ok(text)
+}
+
+#[test]
+fn links_of_meshes_and_entries_count_together(rt: HostRuntime) -> Result<(), Fail> {
+    let text = many_links(rt.alloc(), 2_566)?;
+    assert_eq!(rt; found(rt.alloc(), text.as_str())?.as_str(), "ok");
+    let text = many_links(rt.alloc(), 2_567)?;
+    assert_eq!(rt;
+        found(rt.alloc(), text.as_str())?.as_str(),
+        "6 link 133630 -"
+    );
+    Ok(())
+}
+
+#[test]
 fn the_thirty_third_link_is_refused(rt: HostRuntime) -> Result<(), Fail> {
     let mut text = String::new(rt.alloc());
     for i in 0..34 {
@@ -132,8 +211,14 @@ fn the_thirty_third_link_is_refused(rt: HostRuntime) -> Result<(), Fail> {
         write!(text, "[[link]]\na = {i}\nb = 0\n")?;
     }
     assert_eq!(rt; found(rt.alloc(), text.as_str())?.as_str(), "ok");
+    let mut turned = text.clone()?;
     write!(text, "[[link]]\na = 33\nb = 0\n")?;
     assert_eq!(rt; found(rt.alloc(), text.as_str())?.as_str(), "10 link 32 b");
+    write!(turned, "[[link]]\na = 0\nb = 33\n")?;
+    assert_eq!(rt;
+        found(rt.alloc(), turned.as_str())?.as_str(),
+        "10 link 32 a"
+    );
     Ok(())
 }
 

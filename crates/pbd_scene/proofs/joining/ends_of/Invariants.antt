@@ -1,4 +1,4 @@
-use Rattle.std.proofs.Common.{take, length}
+use Rattle.std.proofs.Common.{take}
 use Rattle.pbd_world.specs.Neighbours.{HoldsNeighbours}
 use Rattle.pbd_scene.proofs.joining.ends_of.Given as goal
 

@@ -1,4 +1,4 @@
-use Rattle.std.proofs.Common.{[], ap}
+use Rattle.std.proofs.Common.{[]}
 use Rattle.std.proofs.lemmas.Result.{err_from_is_err_and}
 use Rattle.pbd_scene.specs.Checks.{each}
 use Rattle.pbd_scene.specs.Joining.{pinned}

@@ -1,7 +1,5 @@
-use Rattle.std.proofs.Common.{◌≤◌, ◌^◌, arith, true, ◌≡◌, sym, ◌∙◌}
-use Rattle.std.specs.Prelude.{unsigned_abs, IsTrue}
+use Rattle.std.proofs.Common.{arith, sym, ◌∙◌}
 use Rattle.std.proofs.lemmas.Int.{to_z-of_z}
-use Rattle.pbd_num.specs.Vectors.{Within, is_within}
 use Rattle.pbd_num.proofs.Ranges.{within_facts}
 use Rattle.pbd_scene.proofs.vectors.is_within.Goals as goal
 
