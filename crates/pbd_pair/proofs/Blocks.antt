@@ -1,7 +1,6 @@
 -- A block of bonds whose corrections lie in lanes.
-use Rattle.std.proofs.Common.{◌≡◌, ℕ, zero, suc, ◌+◌, ◌-◌, ◌/◌, ◌<◌, ◌≤◌, ℤ, pos, ◌≤ℤ◌, ◌*ℤ◌, List, [], ◌∷◌, length, get_or, take, drop, Bool, true, false, IsTrue, cond, not, nat_lt, Option, Some, None, refl, ap, sym, ◌∙◌, arith, subst, inl, inr, Result, Ok, Err, min}
+use Rattle.std.proofs.Common.{◌≡◌, ℕ, zero, suc, ◌+◌, ◌-◌, ◌/◌, ◌<◌, ◌≤◌, ℤ, List, [], ◌∷◌, length, get_or, take, drop, Bool, true, false, IsTrue, cond, not, nat_lt, refl, ap, sym, ◌∙◌, arith, subst, inl, inr, min}
 use Rattle.std.proofs.lemmas.Bool.{cases_lt, lt-ltb, le-ltb, ltb-true, ltb-false, false≢true}
-use Rattle.std.proofs.lemmas.Int.{ints}
 use Rattle.std.proofs.lemmas.List.{get_or-take, get_or-drop, length-take, length-drop}
 use Rattle.std.proofs.lemmas.Nat.{le-div}
 use Rattle.std.proofs.Math.Nat.{add-div_right, div-eq_of_lt}
@@ -9,22 +8,17 @@ use Rattle.pbd_num.specs.Vectors.{zero_vector}
 use Rattle.pbd_world.specs.declared.parts.Particle.{Particle}
 use Rattle.pbd_world.specs.declared.bond.Bond.{Bond}
 use Rattle.pbd_world.specs.declared.bond.End.{End}
-use Rattle.pbd_world.specs.declared.bond.Shift.{Shift}
-use Rattle.pbd_world.specs.declared.bond.Correction.{Correction}
 use Rattle.pbd_world.specs.Ledger.{Ledger, Entry, booked}
-use Rattle.pbd_world.specs.Particles.{Motion, particle_at}
-use Rattle.pbd_world.specs.Bonds.{projected, correction_at, correction_of, end_of, is_slack, shift_of}
-use Rattle.pbd_lanes.specs.Lane.{lane, is_set}
-use Rattle.pbd_store.specs.Gathering.{index_at, Scattered, NamesApart}
-use Rattle.pbd_store.specs.Blocks.{place_of, blocks_of}
+use Rattle.pbd_world.specs.Particles.{particle_at}
+use Rattle.pbd_world.specs.Bonds.{correction_of, is_slack, shift_of}
+use Rattle.pbd_lanes.specs.Lane.{is_set}
+use Rattle.pbd_store.specs.Gathering.{index_at, NamesApart}
+use Rattle.pbd_store.specs.Blocks.{blocks_of}
 use Rattle.pbd_pair.specs.declared.bonds.Bonds.{Bonds}
-use Rattle.pbd_pair.specs.Bonds.{bond_of, bond_count, IsBond, IsDrawn, IsSound}
-use Rattle.pbd_pair.specs.Projecting.{fixed_parts, AreInside, Weigh, IsBatch, ShareNone}
-use Rattle.pbd_pair.specs.Lanes.{Lays, settled}
+use Rattle.pbd_pair.specs.Bonds.{bond_of, bond_count, IsBond}
+use Rattle.pbd_pair.specs.Projecting.{fixed_parts, Weigh, IsBatch, ShareNone}
+use Rattle.pbd_pair.specs.Lanes.{settled}
 use Rattle.pbd_pair.proofs.Correcting.{same_length}
-use Rattle.pbd_pair.proofs.InLanes.{same_lays}
-use Rattle.pbd_pair.proofs.Reaching.{nth, Reached, books, reached, reached_leaves, reached_all}
-use Rattle.pbd_pair.proofs.SideBySide.{side_by_side}
 
 -- a correction doesn't depend on which particles a bond names
 pub same_drawn : (limit : ℤ) (p q : End) (b c : Bond) → b.rest ≡ c.rest → b.k ≡ c.k → b.contact ≡ c.contact → correction_of limit p q b ≡ correction_of limit p q c

@@ -1,5 +1,5 @@
 -- What a correction makes of two particles and of the ledger.
-use Rattle.std.proofs.Common.{◌≡◌, ◌≢◌, ℕ, ◌+◌, ◌<◌, ◌≤◌, ◌^◌, ℤ, List, length, Bool, true, false, refl, ap, sym, ◌∙◌, arith, inl, inr, subst, unsigned_abs, Result, Ok, Err}
+use Rattle.std.proofs.Common.{◌≡◌, ℕ, ◌<◌, ℤ, List, length, Bool, true, false, refl, ap, sym, ◌∙◌, arith, inl, inr, subst, unsigned_abs, Ok, Err}
 use Rattle.std.proofs.lemmas.Bool.{cases_eq}
 use Rattle.std.proofs.Math.Seq.{map-set_same}
 use Rattle.std.proofs.lemmas.List.{length-map}

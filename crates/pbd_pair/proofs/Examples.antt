@@ -1,9 +1,9 @@
 -- The tests say what a projector asks.
-use Rattle.std.proofs.Common.{◌≡◌, ◌≢◌, ℕ, zero, suc, ◌<◌, ◌≤◌, ◌^◌, ℤ, pos, ◌≤ℤ◌, ◌*ℤ◌, int_le, List, [], ◌∷◌, length, get_or, IsTrue, Bool, true, false, not, ◌&&◌, ◌==◌, eqb, nat_le, nat_lt, unsigned_abs, refl, sym, ◌∙◌, ap, arith}
+use Rattle.std.proofs.Common.{◌≡◌, ℕ, zero, suc, ◌<◌, ◌^◌, ℤ, pos, ◌≤ℤ◌, ◌*ℤ◌, int_le, List, [], ◌∷◌, length, get_or, IsTrue, Bool, true, false, not, ◌&&◌, ◌==◌, nat_le, nat_lt, refl, sym, ◌∙◌, ap, arith}
 use Rattle.std.specs.List.{list_all}
 use Rattle.std.proofs.lemmas.Bool.{leb-true, ltb-true, false≢true, eq-eqb}
 use Rattle.std.proofs.lemmas.Int.{ints}
-use Rattle.pbd_num.specs.Vectors.{Within, is_within}
+use Rattle.pbd_num.specs.Vectors.{is_within}
 use Rattle.pbd_num.proofs.Ranges.{within_facts}
 use Rattle.pbd_world.specs.declared.parts.Particle.{Particle}
 use Rattle.pbd_world.specs.declared.bond.Bond.{Bond}
@@ -11,7 +11,7 @@ use Rattle.pbd_world.specs.Ledger.{Ledger, zero_sum, zero_totals, SumWithin, Hav
 use Rattle.pbd_world.specs.Particles.{particle_at}
 use Rattle.pbd_pair.specs.declared.bonds.Bonds.{Bonds}
 use Rattle.pbd_pair.specs.Bonds.{bond_of, bond_count, IsDrawn, IsBond}
-use Rattle.pbd_pair.specs.Projecting.{AreInside, Weigh, ShareNone, AreApart, IsBatch}
+use Rattle.pbd_pair.specs.Projecting.{AreInside, Weigh, ShareNone, IsBatch}
 use Rattle.pbd_pair.specs.Examples.{is_placed, is_drawn, is_bond, share_none, is_batch}
 
 left : (a b : Bool) → IsTrue (a && b) → IsTrue a

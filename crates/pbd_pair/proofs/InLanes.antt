@@ -1,10 +1,10 @@
 -- What a gather has in a lane.
-use Rattle.std.proofs.Common.{◌≡◌, ℕ, ◌+◌, ◌<◌, ◌≤◌, ℤ, pos, ◌≤ℤ◌, List, [], ◌∷◌, zero, suc, length, get_or, nat_lt, Option, Some, None, ◌*ℤ◌, IsTrue, Bool, true, false, cond, not, ◌&&◌, refl, ap, sym, ◌∙◌, arith, inl, inr, subst, unsigned_abs, int_lt}
+use Rattle.std.proofs.Common.{◌≡◌, ℕ, ◌<◌, ◌≤◌, ℤ, pos, ◌≤ℤ◌, List, [], ◌∷◌, zero, suc, length, get_or, nat_lt, Some, None, ◌*ℤ◌, IsTrue, Bool, true, false, cond, not, ◌&&◌, refl, ap, sym, ◌∙◌, arith, subst, int_lt}
 use Rattle.std.specs.List.{position, position_or_len}
 use Rattle.std.proofs.lemmas.Bool.{cond-true, cond-false, false≢true, lt-ltb}
 use Rattle.std.proofs.lemmas.Int.{ints}
 use Rattle.std.proofs.lemmas.List.FromFn.{get_or-map-range_with_len}
-use Rattle.pbd_num.specs.Vectors.{Within, zero_vector}
+use Rattle.pbd_num.specs.Vectors.{zero_vector}
 use Rattle.pbd_world.specs.declared.parts.Particle.{Particle}
 use Rattle.pbd_world.specs.declared.bond.End.{End}
 use Rattle.pbd_world.specs.declared.bond.Bond.{Bond}
@@ -12,7 +12,7 @@ use Rattle.pbd_world.specs.declared.bond.Shift.{Shift}
 use Rattle.pbd_world.specs.declared.bond.Correction.{Correction}
 use Rattle.pbd_world.specs.declared.bond.Correction.TheVariants.{Slack, Leaves, Moves}
 use Rattle.pbd_world.specs.Particles.{particle_at, effective_weight}
-use Rattle.pbd_world.specs.Bonds.{end_of, correction_of}
+use Rattle.pbd_world.specs.Bonds.{end_of}
 use Rattle.pbd_lanes.specs.Lane.{lane, is_set, lanes_of}
 use Rattle.pbd_store.specs.Gathering.{index_at, gathered}
 use Rattle.pbd_store.specs.declared.lanes3.Ends.{Ends}

@@ -1,5 +1,5 @@
 -- A batch from one of its bonds on.
-use Rattle.std.proofs.Common.{◌≡◌, ℕ, suc, ◌+◌, ◌<◌, ◌≤◌, ℤ, List, length, get_or, ◌∷◌, ◌++◌, [], drop, take, drop-cons, add-one, refl, ap, sym, ◌∙◌, Result, Ok, Err}
+use Rattle.std.proofs.Common.{◌≡◌, ℕ, suc, ◌+◌, ◌<◌, ℤ, List, length, get_or, ◌∷◌, ◌++◌, [], drop, take, drop-cons, add-one, refl, ap, sym, ◌∙◌, Result, Ok, Err}
 use Rattle.std.proofs.lemmas.List.{take-append-drop}
 use Rattle.pbd_world.specs.declared.bond.Bond.{Bond}
 use Rattle.pbd_world.specs.Outcomes.{◌>>=◌}

@@ -1,11 +1,9 @@
 -- Limits, and what lies within them.
-use Rattle.std.proofs.Common.{◌≡◌, ℕ, ◌+◌, ◌≤◌, ◌^◌, ℤ, pos, ◌≤ℤ◌, ◌*ℤ◌, unsigned_abs, IsTrue, Bool, true, false, ◌||◌, ◌⊎◌, inl, inr, refl, sym, subst, arith}
-use Rattle.std.specs.Ordering.{int_eq}
+use Rattle.std.proofs.Common.{ℕ, ◌≤◌, ◌^◌, ℤ, pos, ◌≤ℤ◌, arith}
 use Rattle.std.proofs.lemmas.Int.{ints}
 use Rattle.pbd_num.specs.declared.Vec3.{Vec3}
 use Rattle.pbd_num.specs.Vectors.{Within}
 use Rattle.pbd_world.specs.declared.bond.Bond.{Bond}
-use Rattle.pbd_world.specs.Valid.{is_limit}
 use Rattle.pbd_world.specs.Ledger.{Sum, Ledger, SumWithin, HaveRoom}
 use Rattle.pbd_pair.specs.Bonds.{IsBound, IsDrawn}
 

@@ -1,5 +1,5 @@
 -- How far the bonds of a block have come.
-use Rattle.std.proofs.Common.{◌≡◌, ℕ, zero, suc, ◌+◌, ◌<◌, ◌≤◌, ℤ, List, [], length, get_or, drop, Bool, true, false, refl, ap, sym, ◌∙◌, arith, subst, Result, Ok, Err, cond}
+use Rattle.std.proofs.Common.{◌≡◌, ℕ, zero, suc, ◌+◌, ◌<◌, ◌≤◌, ℤ, List, length, get_or, drop, Bool, true, false, refl, ap, sym, ◌∙◌, arith, subst, Ok, Err, cond}
 use Rattle.std.proofs.lemmas.List.{drop_all}
 use Rattle.pbd_world.specs.declared.parts.Particle.{Particle}
 use Rattle.pbd_world.specs.declared.bond.Bond.{Bond}
@@ -8,10 +8,10 @@ use Rattle.pbd_world.specs.declared.bond.Correction.{Correction}
 use Rattle.pbd_world.specs.declared.bond.Correction.TheVariants.{Slack, Leaves, Moves}
 use Rattle.pbd_world.specs.Ledger.{Ledger, Entry, booked}
 use Rattle.pbd_world.specs.Particles.{Motion, particle_at}
-use Rattle.pbd_world.specs.Bonds.{projected, one, correction_at, corrected, entries_of, class_of}
+use Rattle.pbd_world.specs.Bonds.{projected, one, correction_at, entries_of, class_of}
 use Rattle.pbd_pair.specs.Bonds.{IsBond, IsSound}
 use Rattle.pbd_pair.specs.Lanes.{Lays, settled}
-use Rattle.pbd_pair.specs.Projecting.{fixed_parts, AreInside, AreApart, ShareNone}
+use Rattle.pbd_pair.specs.Projecting.{fixed_parts, AreInside, ShareNone}
 use Rattle.pbd_pair.proofs.Correcting.{leaves_by, placed_by, booked_by, corrected_stays, corrected_leaves, inside-placed_by, fixed-placed_by}
 use Rattle.pbd_pair.proofs.OneByOne.{turn_on, turn_out, one_is}
 use Rattle.pbd_pair.proofs.Together.{Together, together_none, together_more, correction_same, held_same}

@@ -1,5 +1,5 @@
 -- One bond: what its steps answer, put together.
-use Rattle.std.proofs.Common.{◌≡◌, ℕ, ◌<◌, ◌≤◌, ℤ, pos, ◌≤ℤ◌, List, length, Bool, false, ◌&&◌, ap, sym, ◌∙◌, subst, Result, Ok, unsigned_abs}
+use Rattle.std.proofs.Common.{◌≡◌, ℕ, ◌<◌, ℤ, pos, ◌≤ℤ◌, List, length, false, ◌&&◌, ap, sym, ◌∙◌, Ok, unsigned_abs}
 use Rattle.std.proofs.lemmas.Bool.{cond-false}
 use Rattle.pbd_num.specs.Vectors.{Within, is_within}
 use Rattle.pbd_world.specs.declared.parts.Particle.{Particle}

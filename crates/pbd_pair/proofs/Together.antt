@@ -1,10 +1,7 @@
 -- Bonds without a common particle: each is corrected as it is at the start.
-use Rattle.std.proofs.Common.{◌≡◌, ◌≢◌, ℕ, suc, ◌+◌, ◌<◌, ◌≤◌, ◌⊎◌, ℤ, List, length, Bool, true, false, refl, ap, sym, ◌∙◌, arith, inl, inr, subst}
-use Rattle.std.proofs.lemmas.Bool.{cases_eq}
-use Rattle.pbd_num.specs.declared.Vec3.{Vec3}
+use Rattle.std.proofs.Common.{◌≡◌, ◌≢◌, ℕ, ◌+◌, ◌<◌, ℤ, List, length, refl, ap, sym, ◌∙◌, arith, inl, inr, subst}
 use Rattle.pbd_world.specs.declared.parts.Particle.{Particle}
 use Rattle.pbd_world.specs.declared.bond.Bond.{Bond}
-use Rattle.pbd_world.specs.declared.bond.Shift.{Shift}
 use Rattle.pbd_world.specs.declared.bond.Correction.{Correction}
 use Rattle.pbd_world.specs.declared.bond.Correction.TheVariants.{Slack, Leaves, Moves}
 use Rattle.pbd_world.specs.Ledger.{Ledger}

@@ -1,5 +1,5 @@
 -- Whether an example meets what a projector asks, as tests that compute.
-use Rattle.std.specs.Prelude.{ℕ, ℤ, pos, ◌*ℤ◌, int_le, nat_le, nat_lt, ◌==◌, Bool, true, not, ◌&&◌, ◌||◌, List, [], ◌∷◌}
+use Rattle.std.specs.Prelude.{ℕ, ℤ, pos, ◌*ℤ◌, int_le, nat_le, nat_lt, ◌==◌, Bool, true, not, ◌&&◌, List, [], ◌∷◌}
 use Rattle.std.specs.List.{list_all}
 use Rattle.pbd_num.specs.Vectors.{is_within}
 use Rattle.pbd_world.specs.declared.parts.Particle.{Particle}

@@ -1,5 +1,5 @@
 -- What a store is seen as.
-use Rattle.std.specs.Prelude.{ℕ, ℤ, List}
+use Rattle.std.specs.Prelude.{ℤ, List}
 use Rattle.pbd_world.specs.declared.parts.Particle.{Particle}
 
 -- a list of particles, and the limit within which their places are to stay

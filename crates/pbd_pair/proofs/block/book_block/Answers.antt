@@ -1,4 +1,4 @@
-use Rattle.std.proofs.Common.{◌≡◌, ℕ, suc, ◌+◌, ◌*◌, ◌^◌, ◌<◌, ◌≤◌, add-one, ap, sym, ◌∙◌, arith, not, cond, length, get_or}
+use Rattle.std.proofs.Common.{◌≡◌, ℕ, ◌^◌, add-one, ap, sym, ◌∙◌, arith, not, cond, length, get_or}
 use Rattle.pbd_lanes.specs.Lane.{is_set}
 use Rattle.pbd_world.specs.Ledger.{ledger_of, booked}
 use Rattle.pbd_world.specs.Bonds.{entries_of, class_of}

@@ -1,8 +1,7 @@
-use Rattle.std.proofs.Common.{◌≡◌, ℕ, ◌<◌, ◌≤◌, refl, ap, sym, ◌∙◌, arith, rules, w64, FitsSigned, List, ℤ, Bool, length, get_or, false, pos}
+use Rattle.std.proofs.Common.{◌<◌, refl, ap, arith, rules, w64, FitsSigned}
 use Rattle.std.proofs.lemmas.Int.{to_z-of_z}
 use Rattle.pbd_world.specs.declared.bond.Bond.{Bond}
-use Rattle.pbd_lanes.specs.Lane.{lane, is_set}
-use Rattle.pbd_pair.proofs.Laying.{laying_more, laying_filled}
+use Rattle.pbd_pair.proofs.Laying.{laying_more}
 use Rattle.pbd_pair.proofs.block.name_block.Goals as goal
 
 pub loop-j-preserved : goal.loop-j-preserved

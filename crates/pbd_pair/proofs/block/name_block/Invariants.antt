@@ -1,4 +1,4 @@
-use Rattle.std.proofs.Common.{ℕ, get_or, true, false, pos}
+use Rattle.std.proofs.Common.{get_or, true, false, pos}
 use Rattle.pbd_pair.specs.Bonds.{bond_of}
 use Rattle.pbd_pair.proofs.Laying.{Laying}
 use Rattle.pbd_pair.proofs.block.name_block.Given as goal

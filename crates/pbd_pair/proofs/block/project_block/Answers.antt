@@ -1,14 +1,14 @@
-use Rattle.std.proofs.Common.{◌≡◌, ℕ, ◌+◌, ◌*◌, ◌<◌, ◌≤◌, ◌^◌, List, length, get_or, Bool, true, false, IsTrue, not, refl, ap, sym, ◌∙◌, arith, subst, Option, Some, Result, Ok, Err}
+use Rattle.std.proofs.Common.{◌≡◌, ℕ, ◌<◌, List, length, Bool, false, not, refl, ap, sym, ◌∙◌, arith, subst, Ok}
 use Rattle.std.proofs.lemmas.List.Quantifiers.{position-Some}
 use Rattle.pbd_lanes.specs.Lane.{is_set}
 use Rattle.pbd_world.specs.declared.parts.Particle.{Particle}
 use Rattle.pbd_world.specs.Ledger.{ledger_of}
-use Rattle.pbd_world.specs.Particles.{Motion, particle_at}
+use Rattle.pbd_world.specs.Particles.{particle_at}
 use Rattle.pbd_world.specs.Bonds.{correction_at, correction_of, end_of, entries_of, class_of}
 use Rattle.pbd_store.specs.Gathering.{index_at}
-use Rattle.pbd_pair.specs.Bonds.{bond_of, IsBond, IsSound}
+use Rattle.pbd_pair.specs.Bonds.{bond_of, IsSound}
 use Rattle.pbd_pair.specs.Projecting.{motion_of, fixed_parts, AreInside}
-use Rattle.pbd_pair.specs.Lanes.{Lays, bond_in, shift_in, settled}
+use Rattle.pbd_pair.specs.Lanes.{Lays, bond_in, shift_in}
 use Rattle.pbd_pair.proofs.InLanes.{drawn_same, none_set, same_lays, lays_sound}
 use Rattle.pbd_pair.proofs.Reaching.{nth, books, reached, reached_leaves, reached_all}
 use Rattle.pbd_pair.proofs.SideBySide.{side_by_side}

@@ -1,4 +1,4 @@
-use Rattle.std.proofs.Common.{◌+◌, ◌^◌, ◌≤◌, arith}
+use Rattle.std.proofs.Common.{◌^◌, arith}
 use Rattle.pbd_world.specs.Ledger.{ledger_of}
 use Rattle.pbd_world.proofs.Rooms.{move_fits, room_left}
 use Rattle.pbd_pair.proofs.book.add.Goals as goal

@@ -1,4 +1,4 @@
-use Rattle.std.proofs.Common.{◌+◌, ◌^◌, ◌≤◌, arith}
+use Rattle.std.proofs.Common.{◌+◌, ◌^◌, arith}
 use Rattle.pbd_pair.proofs.Ranges.{room_at}
 use Rattle.pbd_pair.proofs.book.book.Goals as goal
 

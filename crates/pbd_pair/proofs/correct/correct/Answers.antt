@@ -1,4 +1,4 @@
-use Rattle.std.proofs.Common.{sym, ◌∙◌, rules, w64, FitsSigned}
+use Rattle.std.proofs.Common.{sym, ◌∙◌, w64, FitsSigned}
 use Rattle.std.proofs.lemmas.Int.{to_z-of_z}
 use Rattle.pbd_pair.proofs.Single.{leaves_case}
 use Rattle.pbd_pair.proofs.correct.correct.Goals as goal

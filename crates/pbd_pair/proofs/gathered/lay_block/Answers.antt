@@ -1,4 +1,4 @@
-use Rattle.std.proofs.Common.{◌≡◌, ℕ, pos, ◌≤ℤ◌, ◌<◌, ◌≤◌, ◌∙◌, ap, sym, subst, arith, rules, w64, FitsSigned, ℤ, IsTrue, true, false, not, ◌&&◌, length}
+use Rattle.std.proofs.Common.{ℕ, pos, ◌≤ℤ◌, ◌<◌, ◌∙◌, ap, sym, subst, arith, rules, w64, FitsSigned, ℤ, ◌&&◌, length}
 use Rattle.std.proofs.lemmas.List.FromFn.{length-map-range_with_len}
 use Rattle.std.proofs.lemmas.Int.{to_z-of_z}
 use Rattle.pbd_lanes.specs.Lane.{is_set}
@@ -7,7 +7,7 @@ use Rattle.pbd_world.specs.Bonds.{correction_of}
 use Rattle.pbd_store.specs.Gathering.{index_at}
 use Rattle.pbd_pair.specs.Bonds.{IsEnd, IsDrawn, IsSoundShift}
 use Rattle.pbd_pair.specs.Lanes.{end_in, bond_in, shift_in}
-use Rattle.pbd_pair.proofs.InLanes.{lane_is, end_gathered, is_end_in, free_end, masked, unmasked, set_in, same_lays, drawn_in}
+use Rattle.pbd_pair.proofs.InLanes.{end_gathered, is_end_in, free_end, masked, unmasked, set_in, same_lays, drawn_in}
 use Rattle.pbd_pair.proofs.gathered.lay_block.Goals as goal
 
 pub correct_lanes-laid-requires : goal.correct_lanes-laid-requires

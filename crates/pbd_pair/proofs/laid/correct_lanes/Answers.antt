@@ -1,15 +1,12 @@
-use Rattle.std.proofs.Common.{◌≡◌, ℕ, ◌<◌, ◌≤◌, ◌∙◌, arith, rules, w64, FitsSigned, ℤ, pos, false, true, get_or, Bool, List}
+use Rattle.std.proofs.Common.{◌≡◌, ℕ, ◌<◌, arith, w64, FitsSigned, ℤ, pos, false, get_or, List}
 use Rattle.std.proofs.lemmas.Int.{to_z-of_z}
 use Rattle.pbd_num.specs.declared.Vec3.{Vec3}
 use Rattle.pbd_world.specs.declared.bond.Shift.{Shift}
 use Rattle.pbd_world.specs.Bonds.{correction_of}
-use Rattle.pbd_lanes.specs.Lane.{lane, is_set, lanes_of}
+use Rattle.pbd_lanes.specs.Lane.{lanes_of}
 use Rattle.pbd_store.specs.Blocks.{place_of}
-use Rattle.pbd_pair.specs.declared.laid.Lane.{Lane}
-use Rattle.pbd_pair.specs.declared.laid.Laid.{Laid}
-use Rattle.pbd_pair.specs.Bonds.{IsBound}
-use Rattle.pbd_pair.specs.Lanes.{end_in, bond_in, shift_in}
-use Rattle.pbd_pair.specs.Lays.{still_lane, part_of}
+use Rattle.pbd_pair.specs.Lanes.{end_in, bond_in}
+use Rattle.pbd_pair.specs.Lays.{still_lane}
 use Rattle.pbd_pair.proofs.InLanes.{lane_is, lays_at, sound_at}
 use Rattle.pbd_pair.proofs.laid.correct_lanes.Goals as goal
 

@@ -1,4 +1,4 @@
-use Rattle.std.proofs.Common.{◌≡◌, ℕ, ◌<◌, ◌∙◌, ap, ℤ, pos, false, int_lt}
+use Rattle.std.proofs.Common.{ℕ, ◌∙◌, ap, ℤ, pos, false, int_lt}
 use Rattle.pbd_lanes.specs.Lane.{lane}
 use Rattle.pbd_pair.proofs.InLanes.{lane_is}
 use Rattle.pbd_pair.proofs.laid.free.Goals as goal

@@ -1,4 +1,4 @@
-use Rattle.std.proofs.Common.{◌≡◌, ℕ, ◌<◌, false, get_or, length}
+use Rattle.std.proofs.Common.{ℕ, ◌<◌, false}
 use Rattle.pbd_world.specs.Bonds.{correction_of}
 use Rattle.pbd_pair.specs.Bonds.{IsSound}
 use Rattle.pbd_pair.specs.Lanes.{end_in, bond_in}

@@ -1,16 +1,13 @@
-use Rattle.std.proofs.Common.{◌≡◌, ap, sym, ◌∙◌, w64, FitsSigned, rules, subst, ℤ}
+use Rattle.std.proofs.Common.{ap, sym, ◌∙◌, w64, FitsSigned, rules, subst, ℤ}
 use Rattle.std.proofs.lemmas.Int.{to_z-of_z}
-use Rattle.pbd_world.specs.declared.parts.Particle.{Particle}
-use Rattle.pbd_world.specs.declared.bond.End.{End}
 use Rattle.pbd_world.specs.declared.bond.Correction.{Correction}
 use Rattle.pbd_world.specs.declared.bond.Correction.TheVariants.{Moves}
 use Rattle.pbd_world.specs.Ledger.{ledger_of}
-use Rattle.pbd_world.specs.Particles.{particle_at}
 use Rattle.pbd_world.specs.Bonds.{corrected, end_of}
 use Rattle.pbd_pair.specs.Bonds.{IsSound}
 use Rattle.pbd_pair.specs.Projecting.{motion_of}
 use Rattle.pbd_pair.proofs.Single.{is_end, same_correction, moves_outcome}
-use Rattle.pbd_pair.proofs.Correcting.{placed_by, inside-placed_by, fixed-placed_by}
+use Rattle.pbd_pair.proofs.Correcting.{inside-placed_by, fixed-placed_by}
 use Rattle.pbd_pair.proofs.one.project_one.Goals as goal
 
 pub correct-requires-clause-p : goal.correct-requires-clause-p

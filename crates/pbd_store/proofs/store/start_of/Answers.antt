@@ -1,4 +1,4 @@
-use Rattle.std.proofs.Common.{Fits, w64, ◌*◌, ◌<◌, ◌≤◌, ◌^◌, arith}
+use Rattle.std.proofs.Common.{arith}
 use Rattle.pbd_store.proofs.Starts.{block_begins}
 use Rattle.pbd_store.proofs.store.start_of.Goals as goal
 

@@ -1,4 +1,4 @@
-use Rattle.std.proofs.Common.{◌≡◌, ℕ, ◌+◌, ◌-◌, ◌*◌, ◌<◌, ◌≤◌, min, length, List, ap, sym, ◌∙◌, arith, take, subst, ℤ}
+use Rattle.std.proofs.Common.{◌≡◌, ℕ, ◌-◌, ◌<◌, ◌≤◌, min, length, List, ap, sym, ◌∙◌, arith, subst, ℤ}
 use Rattle.std.proofs.lemmas.Bool.{eqb-false}
 use Rattle.pbd_world.specs.Bonds.{projected}
 use Rattle.pbd_pair.specs.Bonds.{bond_of}

@@ -1,4 +1,4 @@
-use Rattle.std.proofs.Common.{ℕ, ◌+◌, ◌*◌, ◌<◌, ◌≤◌, ◌^◌, arith, ◌≡◌, ◌∙◌, ap, sym, subst, ℤ, length, get_or, Result, Ok, Err}
+use Rattle.std.proofs.Common.{arith, ◌∙◌, sym, subst, ℤ, get_or, Ok, Err}
 use Rattle.pbd_pair.specs.Bonds.{bond_of}
 use Rattle.pbd_pair.specs.Projecting.{motion_of, AreInside}
 use Rattle.pbd_pair.proofs.Ranges.{room_at}

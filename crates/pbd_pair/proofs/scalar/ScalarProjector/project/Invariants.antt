@@ -1,4 +1,4 @@
-use Rattle.std.proofs.Common.{◌≡◌, ℕ, ◌+◌, ◌*◌, ◌^◌, ◌≤◌, drop, length}
+use Rattle.std.proofs.Common.{◌≡◌, ◌+◌, ◌*◌, ◌^◌, ◌≤◌, drop, length}
 use Rattle.pbd_world.specs.Ledger.{ledger_of, HaveRoom}
 use Rattle.pbd_world.specs.Bonds.{projected}
 use Rattle.pbd_pair.specs.Bonds.{bond_of}

@@ -1,4 +1,4 @@
-use Rattle.std.proofs.Common.{◌≡◌, arith, refl, ◌∙◌, sym, ap, length}
+use Rattle.std.proofs.Common.{refl}
 use Rattle.pbd_store.proofs.Saving.{saved_more, saved_none}
 use Rattle.pbd_store.specs.Blocks.{place_of}
 use Rattle.pbd_store.proofs.store.Store.save.Goals as goal

@@ -1,10 +1,7 @@
 use Rattle.std.proofs.Common.{◌≡◌, arith, refl, ◌∙◌, sym, ap, List, Bool, length}
-use Rattle.pbd_world.specs.declared.parts.Particle.{Particle}
 use Rattle.pbd_lanes.specs.Lane.{is_set}
 use Rattle.pbd_store.specs.Stored.{Stored}
-use Rattle.pbd_store.specs.Gathering.{Scattered}
-use Rattle.pbd_store.specs.Blocks.{place_of}
-use Rattle.pbd_store.proofs.Scattering.{scattered_more, scattered_none, scattered_all}
+use Rattle.pbd_store.proofs.Scattering.{scattered_more, scattered_none}
 use Rattle.pbd_store.proofs.store.Store.scatter.Goals as goal
 
 pub loop-j-init : goal.loop-j-init
