@@ -1,0 +1,108 @@
+//! Which links tear.
+#![tactic(auto)]
+
+ghost use Rattle.std.specs.Prelude.{◌≡◌, ◌+◌, ◌*◌, ◌<◌, ◌≤◌, ◌^◌, ◌++◌, ◌∷◌, [], pos, ◌-ℤ◌, unsigned_abs, nat_lt, int_lt, ◌&&◌, length, IsTrue, if◌then◌else◌};
+ghost use Rattle.pbd_num.specs.Vectors.{Within, minus, squared_length};
+ghost use Rattle.pbd_world.specs.Particles.{particle_at};
+ghost use Rattle.pbd_world.specs.Valid.{are_valid_links};
+ghost use Rattle.pbd_world.specs.Step.{is_torn};
+ghost use Rattle.pbd_tear.specs.Tearing.{AreInside, IsLink, torn_numbers};
+
+use pbd_num::Vec3;
+use pbd_store::{Steps, Store};
+use pbd_world::{Link, RoomList};
+use std::sync::ledger::Ledger;
+
+mod laws;
+
+pub use laws::{torn_links_go, valid_particles_are_inside};
+
+fn square(n: i64) -> i64
+    requires { unsigned_abs n ≤ 2 ^ 31 }
+    ensures { result ≡ pos (unsigned_abs n * unsigned_abs n) }
+{
+    n * n
+}
+
+fn squared_axis(a: i64, b: i64) -> i64
+    requires a { unsigned_abs a ≤ 2 ^ 29 }
+    requires b { unsigned_abs b ≤ 2 ^ 29 }
+    ensures value { result ≡ pos (unsigned_abs (a -ℤ b) * unsigned_abs (a -ℤ b)) }
+    ensures size { unsigned_abs (a -ℤ b) * unsigned_abs (a -ℤ b) ≤ 2 ^ 60 }
+{
+    square(a - b)
+}
+
+fn squared_distance(a: Vec3, b: Vec3) -> i64
+    requires a { Within (2 ^ 29) a }
+    requires b { Within (2 ^ 29) b }
+    ensures { result ≡ pos (squared_length (minus a b)) }
+{
+    squared_axis(a.x, b.x) + squared_axis(a.y, b.y) + squared_axis(a.z, b.z)
+}
+
+/// Whether two places are farther apart than a length.
+fn are_apart(a: Vec3, b: Vec3, length: i64) -> bool
+    requires a { Within (2 ^ 29) a }
+    requires b { Within (2 ^ 29) b }
+    requires length { unsigned_abs length ≤ 2 ^ 31 }
+    ensures { result ≡ nat_lt (unsigned_abs length * unsigned_abs length) (squared_length (minus a b)) }
+{
+    square(length) < squared_distance(a, b)
+}
+
+fn may_tear(link: Link) -> bool
+    ensures { result ≡ (link.live && int_lt (pos 0) link.tear) }
+{
+    link.live && 0 < link.tear
+}
+
+fn is_torn<const L: usize, G: Ledger>(store: &Store<L>, link: Link, steps: &mut Steps<G>) -> bool
+    requires link { IsLink (length store.now.particles) link }
+    requires inside { AreInside (2 ^ 29) store.now.particles }
+    ensures value { result ≡ is_torn store.now.particles link }
+    ensures cost { steps.new ≤ steps.old + 2 }
+{
+    if !may_tear(link) {
+        return false;
+    }
+    let a = store.at(link.a, steps);
+    let b = store.at(link.b, steps);
+    are_apart(a.at, b.at, link.tear)
+}
+
+fn push_if(out: &mut RoomList<u32>, number: u32, wanted: bool)
+    requires { length out.old.entries < out.old.room }
+    ensures { out.new ≡ record out.old { entries = if wanted then out.old.entries ++ number ∷ [] else out.old.entries } }
+{
+    if wanted {
+        let _ = out.push(number);
+    }
+}
+
+/// Leaves in `out` exactly the numbers of the live links that tear, ascending: those that may tear and
+/// are longer than their tear length. What `out` held before is dropped.
+/// It reaches the store at most twice for each link.
+pub fn torn<const L: usize, G: Ledger>(
+    store: &Store<L>,
+    links: &[Link],
+    out: &mut RoomList<u32>,
+    steps: &mut Steps<G>,
+)
+    requires links { IsTrue (are_valid_links store.now.limit (length store.now.particles) links.now) }
+    requires inside { AreInside (unsigned_abs store.now.limit) store.now.particles }
+    requires room { length links.now ≤ out.old.room }
+    ensures numbers { out.new ≡ record out.old { entries = torn_numbers store.now.particles links.now } }
+    ensures cost { steps.new ≤ steps.old + 2 * length links.now }
+{
+    // By it the links and the places are in the range of both limits.
+    let _limit = store.limit();
+    out.clear();
+    for i in 0..links.len() {
+        let tears = is_torn(store, links[i], steps);
+        push_if(out, i as u32, tears);
+    }
+}
+
+#[cfg(test)]
+mod tests;

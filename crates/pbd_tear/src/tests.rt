@@ -1,0 +1,107 @@
+ghost use Rattle.std.specs.Prelude.{◌≡◌, ◌<◌, pos, false};
+ghost use Rattle.pbd_world.specs.declared.parts.Kind.TheVariants as kinds;
+
+use crate::torn;
+use pbd_num::{RANGE, Vec3};
+use pbd_store::{Steps, Store};
+use pbd_world::{Kind, Link, Particle, RoomList};
+use std::alloc::{AllocError, Global};
+use std::marker::Brand;
+use std::sync::ledger::{Blank, Ledger};
+use std::test::Fail;
+
+fn resting(x: i64, y: i64) -> Particle
+    ensures { result ≡ record { at = record { x = x; y = y; z = pos 0 }; before = record { x = x; y = y; z = pos 0 }; weight = 1; held = false } }
+{
+    let place = Vec3 { x, y, z: 0 };
+    Particle {
+        at: place,
+        before: place,
+        weight: 1,
+        held: false,
+    }
+}
+
+fn link(a: u32, b: u32, tear: i64, live: bool) -> Link
+    ensures { result ≡ record { a = a; b = b; rest = pos 100; k = 256; tear = tear; kind = kinds.Plain; live = live } }
+{
+    Link {
+        a,
+        b,
+        rest: 100,
+        k: 256,
+        tear,
+        kind: Kind::Plain,
+        live,
+    }
+}
+
+fn number_at(numbers: &[u32], i: usize) -> Option<u32> {
+    if i < numbers.len() {
+        Some(numbers[i])
+    } else {
+        None
+    }
+}
+
+/// The first torn numbers of three links of lengths 100, 101 and 102 that tear above 100, and of one of length 102 that never tears.
+fn numbers_in<const L: usize, G: Ledger>(
+    alloc: Global,
+    last_live: bool,
+    steps: &mut Steps<G>,
+) -> Result<[Option<u32>; 3], AllocError> {
+    let particles = [
+        resting(0, 0),
+        resting(100, 0),
+        resting(0, 1000),
+        resting(101, 1000),
+        resting(0, 2000),
+        resting(102, 2000),
+    ];
+    let store: Store<L> = Store::open(alloc, &particles, RANGE)?;
+    let links = [
+        link(0, 1, 100, true),
+        link(2, 3, 100, true),
+        link(0, 3, 0, true),
+        link(4, 5, 100, last_live),
+    ];
+    let mut out = RoomList::open(alloc, 4)?;
+    torn(&store, &links, &mut out, steps);
+    let numbers = out.as_slice();
+    Ok([
+        number_at(numbers, 0),
+        number_at(numbers, 1),
+        number_at(numbers, 2),
+    ])
+}
+
+fn counted<G: Ledger>(
+    alloc: Global,
+    blank: Blank,
+    last_live: bool,
+) -> Result<[[Option<u32>; 3]; 5], AllocError>
+    requires name { blank.name ≡ G.name }
+    requires parts { blank.parts ≡ G.parts }
+    requires some { 0 < blank.parts }
+{
+    let mut steps: Steps<G> = Steps::open(blank);
+    Ok([
+        numbers_in::<1, G>(alloc, last_live, &mut steps)?,
+        numbers_in::<2, G>(alloc, last_live, &mut steps)?,
+        numbers_in::<4, G>(alloc, last_live, &mut steps)?,
+        numbers_in::<8, G>(alloc, last_live, &mut steps)?,
+        numbers_in::<16, G>(alloc, last_live, &mut steps)?,
+    ])
+}
+
+/// The torn numbers at each width.
+fn numbers(alloc: Global, last_live: bool) -> Result<[[Option<u32>; 3]; 5], AllocError> {
+    counted::<Brand>(alloc, Blank::new(1), last_live)
+}
+
+#[test]
+fn longer_links_tear_together(rt: HostRuntime) -> Result<(), Fail> {
+    assert_eq!(rt; numbers(rt.alloc(), true)?, [[Some(1), Some(3), None]; 5]);
+    assert_eq!(rt; numbers(rt.alloc(), false)?, [[Some(1), None, None]; 5]);
+    Ok(())
+}

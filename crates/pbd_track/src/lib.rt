@@ -1,0 +1,104 @@
+//! Where tracked particles are at a step.
+#![tactic(auto)]
+
+ghost use Rattle.std.specs.Prelude.{◌≡◌, ◌+◌, ◌<◌, ◌≤◌, ◌^◌, pos, ◌+ℤ◌, ◌-ℤ◌, ◌*ℤ◌, unsigned_abs, length, IsTrue, All};
+ghost use Rattle.pbd_num.specs.Rounding.{rdiv as rounded};
+ghost use Rattle.pbd_world.specs.Tracks.{place_between, place_from, place_at};
+ghost use Rattle.pbd_world.specs.World.{is_tracked};
+ghost use Rattle.pbd_world.specs.Valid.{are_valid_tracks};
+ghost use Rattle.pbd_track.specs.Tracking.{IsKey, IsTrack, Attached};
+
+use pbd_num::{Vec3, rdiv};
+use pbd_store::{Steps, Store};
+use pbd_world::{Key, Track};
+use std::sync::ledger::Ledger;
+
+/// One axis after `part` of `whole` steps from one place to another, to the nearest whole number.
+fn axis_between(from: i64, to: i64, part: u32, whole: u32) -> i64
+    requires from { unsigned_abs from ≤ 2 ^ 29 }
+    requires to { unsigned_abs to ≤ 2 ^ 29 }
+    requires part { part < whole }
+    requires whole { whole ≤ 1000000 }
+    ensures { result ≡ from +ℤ rounded ((to -ℤ from) *ℤ pos part) (pos whole) }
+{
+    from + rdiv((to - from) * i64::from(part), i64::from(whole))
+}
+
+fn place_between(k: Key, l: Key, t: u32) -> Vec3
+    requires first { IsKey k }
+    requires second { IsKey l }
+    requires after { k.step < t }
+    requires before { t < l.step }
+    ensures { result ≡ place_between k l t }
+{
+    let part = t - k.step;
+    let whole = l.step - k.step;
+    Vec3 {
+        x: axis_between(k.place.x, l.place.x, part, whole),
+        y: axis_between(k.place.y, l.place.y, part, whole),
+        z: axis_between(k.place.z, l.place.z, part, whole),
+    }
+}
+
+fn place_from(first: Key, later: &[Key], t: u32) -> Vec3
+    requires first { IsKey first }
+    requires later { All IsKey later.now }
+    ensures { result ≡ place_from first later.now t }
+{
+    let mut from = first;
+    for key in later {
+        if t <= from.step {
+            return from.place;
+        }
+        if t < key.step {
+            return place_between(from, *key, t);
+        }
+        from = *key;
+    }
+    from.place
+}
+
+/// The place of a track at step t: its first key's place up to that key's step, the share of the way
+/// between two keys, rounded to the nearest whole number with halves away from zero, and its last
+/// key's place from then on. In units of 1/65,536 metre.
+pub fn track_at(track: &Track, t: u32) -> Vec3
+    requires { IsTrack track.now }
+    ensures { result ≡ place_at track.now.keys t }
+{
+    let keys = track.keys.as_slice();
+    if keys.len() == 0 {
+        return Vec3::ZERO;
+    }
+    place_from(keys[0], &keys[1..], t)
+}
+
+/// Whether some track names particle i.
+pub fn is_tracked(tracks: &[Track], i: u32) -> bool
+    ensures { result ≡ is_tracked tracks.now i }
+{
+    tracks.iter().any(|track| track.particle == i)
+}
+
+/// Moves each tracked particle to the place of its track at step t. All else stays.
+/// It reaches the store once for each track.
+pub fn place<const L: usize, G: Ledger>(
+    tracks: &[Track],
+    t: u32,
+    store: &mut Store<L>,
+    steps: &mut Steps<G>,
+)
+    requires { IsTrue (are_valid_tracks store.old.limit (length store.old.particles) tracks.now) }
+    ensures particles { Attached tracks.now t store.old.particles store.new.particles }
+    ensures limit { store.new.limit ≡ store.old.limit }
+    ensures cost { steps.new ≡ steps.old + length tracks.now }
+{
+    // By it each track is valid with one of the two limits.
+    let _limit = store.limit();
+    for track in tracks {
+        let place = track_at(track, t);
+        store.put(track.particle, place, steps);
+    }
+}
+
+#[cfg(test)]
+mod tests;
