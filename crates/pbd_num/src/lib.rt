@@ -39,12 +39,60 @@ pub fn rdiv(n: i64, d: i64) -> i64
     }
 }
 
+/// One step of Newton from `r` toward the root of `n`.
+fn newton_step(n: u64, r: u64) -> u64 {
+    r.wrapping_add(n / r.max(1)) / 2
+}
+
+/// A number near the root of `n`, mostly the root itself: a parabola over the 30 leading bits, right to
+/// 8 bits, and two steps of Newton. `root` mends what is wrong with it, so nothing is said of it but its
+/// size.
+fn near_root(n: u64) -> u64
+    ensures { result < 2 ^ 32 }
+{
+    let shift = n.leading_zeros() / 2 * 2;
+    let raised = n.wrapping_shl(shift);
+    let leading = raised >> 34;
+    let slope = 4_518_387_538u64.wrapping_sub(leading.wrapping_mul(1_358_586_802) >> 30);
+    let first = (leading.wrapping_mul(slope) >> 30).wrapping_add(1_113_587_882);
+    let second = newton_step(raised, first);
+    let third = newton_step(raised, second);
+    third.wrapping_shr(shift / 2).min(4_294_967_295)
+}
+
+/// The first number from `start` down whose square is at most `n`.
+fn stepped_down(n: u64, start: u64) -> u64
+    requires { start < 2 ^ 32 }
+    ensures { result * result ≤ n }
+{
+    let mut r = start;
+    while r * r > n {
+        r -= 1;
+    }
+    r
+}
+
+/// The first number from `start` up whose next square is above `n`.
+fn stepped_up(n: u64, start: u64) -> u64
+    requires square { start * start ≤ n }
+    requires size { n < 2 ^ 63 }
+    ensures value { result ≡ whole_root n }
+    ensures size { result < 2 ^ 32 }
+{
+    let mut r = start;
+    while (r + 1) * (r + 1) <= n {
+        r += 1;
+    }
+    r
+}
+
 /// The greatest whole number whose square is at most `n`.
 pub fn root(n: i64) -> i64
     requires { pos 0 ≤ℤ n }
     ensures { result ≡ pos (whole_root (unsigned_abs n)) }
 {
-    n.isqrt()
+    let size = n.unsigned_abs();
+    stepped_up(size, stepped_down(size, near_root(size))) as i64
 }
 
 fn axis_within(n: i64, limit: i64) -> bool
