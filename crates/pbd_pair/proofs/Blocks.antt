@@ -16,7 +16,8 @@ use Rattle.pbd_store.specs.Gathering.{index_at, NamesApart}
 use Rattle.pbd_store.specs.Blocks.{blocks_of}
 use Rattle.pbd_pair.specs.declared.bonds.Bonds.{Bonds}
 use Rattle.pbd_pair.specs.Bonds.{bond_of, bond_count, IsBond}
-use Rattle.pbd_pair.specs.Projecting.{fixed_parts, Weigh, IsBatch, ShareNone}
+use Rattle.pbd_store.specs.Moving.{fixed_parts, Weigh}
+use Rattle.pbd_pair.specs.Projecting.{IsBatch, ShareNone}
 use Rattle.pbd_pair.specs.Lanes.{settled}
 use Rattle.pbd_pair.proofs.Correcting.{same_length}
 

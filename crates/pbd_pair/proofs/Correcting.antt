@@ -14,7 +14,7 @@ use Rattle.pbd_world.specs.Particles.{Motion, particle_at, placed, no_particle}
 use Rattle.pbd_world.specs.Bonds.{corrected, entries_of, class_of}
 use Rattle.pbd_store.proofs.Scattering.{placed_same, placed_other, length-placed}
 use Rattle.pbd_pair.specs.Bonds.{IsSound}
-use Rattle.pbd_pair.specs.Projecting.{fixed_parts, AreInside}
+use Rattle.pbd_store.specs.Moving.{fixed_parts, AreInside}
 
 abbrev pub leaves_by : Correction → Bool
 leaves_by Slack = false

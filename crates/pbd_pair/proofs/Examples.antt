@@ -11,7 +11,8 @@ use Rattle.pbd_world.specs.Ledger.{Ledger, zero_sum, zero_totals, SumWithin, Hav
 use Rattle.pbd_world.specs.Particles.{particle_at}
 use Rattle.pbd_pair.specs.declared.bonds.Bonds.{Bonds}
 use Rattle.pbd_pair.specs.Bonds.{bond_of, bond_count, IsDrawn, IsBond}
-use Rattle.pbd_pair.specs.Projecting.{AreInside, Weigh, ShareNone, IsBatch}
+use Rattle.pbd_store.specs.Moving.{AreInside, Weigh}
+use Rattle.pbd_pair.specs.Projecting.{ShareNone, IsBatch}
 use Rattle.pbd_pair.specs.Examples.{is_placed, is_drawn, is_bond, share_none, is_batch}
 
 left : (a b : Bool) → IsTrue (a && b) → IsTrue a

@@ -17,7 +17,7 @@ use Rattle.pbd_lanes.specs.Lane.{lane, is_set, lanes_of}
 use Rattle.pbd_store.specs.Gathering.{index_at, gathered}
 use Rattle.pbd_store.specs.declared.lanes3.Ends.{Ends}
 use Rattle.pbd_pair.specs.Bonds.{IsEnd, IsDrawn, IsSound, IsSoundShift}
-use Rattle.pbd_pair.specs.Projecting.{AreInside, Weigh}
+use Rattle.pbd_store.specs.Moving.{AreInside, Weigh}
 use Rattle.pbd_pair.specs.Lanes.{end_in, Lays}
 use Rattle.pbd_pair.specs.declared.laid.Lane.{Lane}
 use Rattle.pbd_pair.specs.Lays.{lane_of}

@@ -11,7 +11,8 @@ use Rattle.pbd_world.specs.Particles.{Motion, particle_at}
 use Rattle.pbd_world.specs.Bonds.{projected, one, correction_at, entries_of, class_of}
 use Rattle.pbd_pair.specs.Bonds.{IsBond, IsSound}
 use Rattle.pbd_pair.specs.Lanes.{Lays, settled}
-use Rattle.pbd_pair.specs.Projecting.{fixed_parts, AreInside, ShareNone}
+use Rattle.pbd_store.specs.Moving.{fixed_parts, AreInside}
+use Rattle.pbd_pair.specs.Projecting.{ShareNone}
 use Rattle.pbd_pair.proofs.Correcting.{leaves_by, placed_by, booked_by, corrected_stays, corrected_leaves, inside-placed_by, fixed-placed_by}
 use Rattle.pbd_pair.proofs.OneByOne.{turn_on, turn_out, one_is}
 use Rattle.pbd_pair.proofs.Together.{Together, together_none, together_more, correction_same, held_same}

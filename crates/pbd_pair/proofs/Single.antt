@@ -12,7 +12,7 @@ use Rattle.pbd_world.specs.Ledger.{Ledger, booked}
 use Rattle.pbd_world.specs.Particles.{Motion, particle_at, placed}
 use Rattle.pbd_world.specs.Bonds.{corrected, correction_of, correction_at, end_of, entries_of, class_of, is_slack, shift_of, within_or_leaves}
 use Rattle.pbd_pair.specs.Bonds.{IsEnd}
-use Rattle.pbd_pair.specs.Projecting.{AreInside}
+use Rattle.pbd_store.specs.Moving.{AreInside}
 
 pub is_end : {l limit : ℤ} (ps : List Particle) (i : ℕ) (e : End) → l ≡ limit → e ≡ end_of (particle_at ps i) → pos 0 ≤ℤ e.weight → e.weight ≤ℤ pos 65535 → i < length ps → AreInside limit ps → IsEnd l e
 is_end {l} {limit} ps i e el ee low high h inside = record {

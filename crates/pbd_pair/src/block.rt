@@ -6,7 +6,8 @@ ghost use Rattle.pbd_world.specs.Bonds.{projected, entries_of, class_of};
 ghost use Rattle.pbd_store.specs.Gathering.{index_at};
 ghost use Rattle.pbd_lanes.specs.Lane.{lane, is_set};
 ghost use Rattle.pbd_pair.specs.Bonds.{bond_of, bond_count};
-ghost use Rattle.pbd_pair.specs.Projecting.{motion_of, fixed_parts, AreInside, Weigh, IsBatch};
+ghost use Rattle.pbd_store.specs.Moving.{motion_of, fixed_parts, AreInside, Weigh};
+ghost use Rattle.pbd_pair.specs.Projecting.{IsBatch};
 ghost use Rattle.pbd_pair.specs.Lanes.{shift_in, settled};
 
 use crate::bonds::Bonds;

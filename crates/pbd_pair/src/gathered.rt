@@ -5,7 +5,7 @@ ghost use Rattle.pbd_world.specs.Bonds.{correction_of, end_of};
 ghost use Rattle.pbd_world.specs.Particles.{particle_at};
 ghost use Rattle.pbd_store.specs.Gathering.{index_at};
 ghost use Rattle.pbd_pair.specs.Bonds.{IsDrawn, IsSoundShift};
-ghost use Rattle.pbd_pair.specs.Projecting.{AreInside, Weigh};
+ghost use Rattle.pbd_store.specs.Moving.{AreInside, Weigh};
 ghost use Rattle.pbd_pair.specs.Lanes.{bond_in, shift_in, Lays};
 
 use crate::correct::limit_of;

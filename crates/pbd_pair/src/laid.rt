@@ -6,7 +6,7 @@ ghost use Rattle.pbd_world.specs.Bonds.{correction_of, end_of};
 ghost use Rattle.pbd_world.specs.Particles.{particle_at};
 ghost use Rattle.pbd_store.specs.Gathering.{index_at};
 ghost use Rattle.pbd_pair.specs.Bonds.{IsBound, IsDrawn, IsEnd, IsSound, IsSoundShift};
-ghost use Rattle.pbd_pair.specs.Projecting.{AreInside, Weigh};
+ghost use Rattle.pbd_store.specs.Moving.{AreInside, Weigh};
 ghost use Rattle.pbd_pair.specs.Lanes.{end_in, bond_in, shift_in, Lays};
 ghost use Rattle.pbd_pair.specs.Lays.{still_lane, lane_of, part_of};
 

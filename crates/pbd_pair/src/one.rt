@@ -3,7 +3,7 @@ ghost use Rattle.std.specs.Prelude.{◌≡◌, ℕ, ◌≤◌, ◌^◌, ◌+◌,
 ghost use Rattle.pbd_world.specs.Ledger.{ledger_of, HaveRoom};
 ghost use Rattle.pbd_world.specs.Bonds.{corrected, correction_at};
 ghost use Rattle.pbd_pair.specs.Bonds.{IsBond};
-ghost use Rattle.pbd_pair.specs.Projecting.{motion_of, fixed_parts, AreInside};
+ghost use Rattle.pbd_store.specs.Moving.{motion_of, fixed_parts, AreInside};
 
 use crate::book::book;
 use crate::correct::{as_end, correct, limit_of};

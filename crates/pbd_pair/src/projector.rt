@@ -1,9 +1,10 @@
-ghost use Rattle.std.specs.Prelude.{◌≡◌, ℕ, ◌<◌, ◌≤◌, ◌^◌, ◌+◌, ◌-◌, ◌*◌, min, length, MatchResult, Result, Ok, Err};
+ghost use Rattle.std.specs.Prelude.{◌≡◌, ℕ, ◌<◌, ◌≤◌, ◌^◌, ◌+◌, ◌-◌, ◌*◌, min, length, MatchResult, OnOk, Result, Ok, Err};
 ghost use Rattle.pbd_world.specs.Ledger.{ledger_of, HaveRoom};
 ghost use Rattle.pbd_world.specs.Bonds.{projected};
 ghost use Rattle.pbd_store.specs.Blocks.{blocks_of};
 ghost use Rattle.pbd_pair.specs.Bonds.{bond_of};
-ghost use Rattle.pbd_pair.specs.Projecting.{motion_of, fixed_parts, AreInside, Weigh, IsBatch};
+ghost use Rattle.pbd_store.specs.Moving.{motion_of, fixed_parts, AreInside, Weigh};
+ghost use Rattle.pbd_pair.specs.Projecting.{IsBatch};
 
 use crate::bonds::Bonds;
 use pbd_store::{Steps, Store};
@@ -51,6 +52,8 @@ pub trait Projector<const L: usize> {
             (λ left. projected store.old.limit (bond_of bonds.entry) batch.now (motion_of store.old totals.old) ≡ Err left.element) }
         ensures limit { store.new.limit ≡ store.old.limit }
         ensures fixed { fixed_parts store.new.particles ≡ fixed_parts store.old.particles }
+        ensures inside { OnOk result (AreInside store.old.limit store.new.particles) }
+        ensures room { OnOk result ((n : ℕ) → HaveRoom n (ledger_of totals.old) → HaveRoom (n + length batch.now * 2 ^ 32) (ledger_of totals.new)) }
         ensures cost { steps.new ≤ steps.old + 4 * blocks_of (length batch.now) (width self.old) }
         ensures handed { count self.new ≡ min (count self.old + length batch.now) (2 ^ 64 - 1) }
         ensures width { width self.new ≡ width self.old };

@@ -1,3 +1,4 @@
+pub mod Limits
 pub mod Filling
 pub mod Scattering
 pub mod Saving

@@ -2,3 +2,4 @@ pub mod Stored
 pub mod Blocks
 pub mod Gathering
 pub mod Fields
+pub mod Moving

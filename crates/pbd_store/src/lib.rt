@@ -3,10 +3,12 @@
 
 mod columns;
 mod lanes3;
+mod laws;
 mod steps;
 mod store;
 
 pub use lanes3::{Block, Ends, Lanes3};
+pub use laws::valid_particles_are_inside;
 pub use steps::Steps;
 pub use store::Store;
 

@@ -62,6 +62,8 @@ impl<const L: usize> Store<L> {
     pub fn limit(&self) -> i64
         ensures value { result ≡ self.now.limit }
         ensures either { IsTrue (is_limit result) }
+        ensures low { pos 0 ≤ℤ result }
+        ensures high { unsigned_abs result ≤ 2 ^ 29 }
     {
         self.limit
     }

@@ -1,6 +1,10 @@
 -- Torn numbers one by one, and valid links.
 use Rattle.std.proofs.Common.{◌≡◌, refl, sym, ap, ◌∙◌, ℕ, zero, suc, ◌+◌, ◌-◌, ◌*◌, ◌<◌, ◌≤◌, ◌^◌, ◌==◌, nat_lt, not, ◌&&◌, ◌||◌, Bool, true, false, cond, List, [], ◌∷◌, ◌++◌, length, filter, get_or, arith, ℤ, pos, ◌≤ℤ◌, ◌-ℤ◌, ◌*ℤ◌, int_lt, unsigned_abs, IsTrue, inl, inr, append_assoc}
-use Rattle.std.specs.List.{list_any, range_with_len}
+use Rattle.std.specs.List.{list_any, range_with_len, AllByRecursion}
+use Rattle.std.specs.List.Sorted.{IsStrictlyIncreasing}
+use Rattle.std.proofs.lemmas.List.Kept.{IsStrictlyIncreasing-filter}
+use Rattle.std.proofs.lemmas.List.FromFn.{length-range_with_len, get_or-range_with_len}
+use Rattle.pbd_world.proofs.KeepingOn.{all-at}
 use Rattle.std.specs.Ordering.{int_eq}
 use Rattle.std.proofs.lemmas.Int.{ints}
 use Rattle.std.proofs.lemmas.Bool.{and_parts, leb-true, ltb-true, cases_eq, eq-eqb, ne_eqb}
@@ -18,25 +22,10 @@ use Rattle.pbd_world.specs.Particles.{particle_at, no_particle}
 use Rattle.pbd_world.specs.Bonds.{link_at}
 use Rattle.pbd_world.specs.Step.{is_torn, tear}
 use Rattle.pbd_world.specs.Valid.{is_limit, is_between, is_valid_particle, are_valid_particles, is_valid_link, are_valid_links}
-use Rattle.pbd_tear.specs.Tearing.{AreInside, IsLink, torn_numbers}
+use Rattle.pbd_store.proofs.Limits.{limit_size}
+use Rattle.pbd_tear.specs.Tearing.{IsLink, AscendTo, torn_numbers, gone_numbers}
 
 -- ---- limits and links
-
-pub limit_size : (n : ℤ) → IsTrue (is_limit n) → (pos 0 ≤ℤ n) × (unsigned_abs n ≤ 2 ^ 29)
-limit_size n h = by (int_eq n (pos (2 ^ 28))) refl
-  where
-    by : (b : Bool) → int_eq n (pos (2 ^ 28)) ≡ b → (pos 0 ≤ℤ n) × (unsigned_abs n ≤ 2 ^ 29)
-    by true e = let small : n ≡ pos (2 ^ 28) = (Decides-int_eq n (pos (2 ^ 28))).0 e in (omega (arith, ints), omega (arith, ap unsigned_abs small))
-    by false e = let large : n ≡ pos (2 ^ 29) = (Decides-int_eq n (pos (2 ^ 29))).0 (ap (λ (b : Bool). b || int_eq n (pos (2 ^ 29))) (sym e) ∙ h) in (omega (arith, ints), omega (arith, ap unsigned_abs large))
-
-pub inside_both : (limit : ℤ) (ps : List Particle) → IsTrue (is_limit limit) → AreInside (unsigned_abs limit) ps → AreInside (2 ^ 29) ps
-inside_both limit ps l h =
-    let size = (limit_size limit l).1 in
-    record { each = λ i lt. (let w = h.each i lt in record { x = omega (arith, w.x, size); y = omega (arith, w.y, size); z = omega (arith, w.z, size) }) }
-
--- the places of valid particles
-pub valid_inside : (limit : ℤ) (ps : List Particle) → IsTrue (is_limit limit) → IsTrue (are_valid_particles limit ps) → AreInside (unsigned_abs limit) ps
-valid_inside limit ps l h = record { each = λ i lt. (within_facts limit _ (limit_size limit l).0).0 ((and_parts _ _ (and_parts _ _ (and_parts _ _ (AllPass-from_list_all (is_valid_particle limit) ps (and_parts _ _ h).1 i no_particle lt)).0).0).0) }
 
 tear_size : (limit t : ℤ) → pos 0 ≤ℤ limit → unsigned_abs limit ≤ 2 ^ 29 → IsTrue (is_between (pos 0) (pos 4 *ℤ limit) t) → unsigned_abs t ≤ 2 ^ 31
 tear_size limit t low high h = grind (arith, ints, nat_tests)
@@ -101,6 +90,32 @@ passing_all test n i so_far le h =
     let none : n - i ≡ 0 = omega (arith, le) in
     sym (append-nil so_far) ∙ ap (λ (k : ℕ). so_far ++ filter test (range_with_len i k)) (sym none) ∙ h.whole
 
+-- what passes of a range ascends within it
+range_rises : (n : ℕ) → IsStrictlyIncreasing (range_with_len 0 n)
+range_rises n k l = let e = length-range_with_len 0 n in rw (get_or-range_with_len 0 n k 0 (omega (arith, l, e)), get_or-range_with_len 0 n (k + 1) 0 (omega (arith, l, e))) (omega arith)
+
+all_below : (test : ℕ → Bool) (a n m : ℕ) → a + n ≤ m → AllByRecursion (λ i. i < m) (filter test (range_with_len a n))
+all_below test a zero m le = tt
+all_below test a (suc n) m le = by (test a) (all_below test (a + 1) n m (omega (arith, le)))
+  where
+    by : (b : Bool) → AllByRecursion (λ i. i < m) (filter test (range_with_len (a + 1) n)) → AllByRecursion (λ i. i < m) (cond b (a ∷ filter test (range_with_len (a + 1) n)) (filter test (range_with_len (a + 1) n)))
+    by true rest = (omega (arith, le), rest)
+    by false rest = rest
+
+pub ascends : (test : ℕ → Bool) (n : ℕ) → AscendTo n (filter test (range_with_len 0 n))
+ascends test n = record {
+  rising = IsStrictlyIncreasing-filter test (range_with_len 0 n) (range_rises n);
+  within = λ k l. all-at (λ i. i < n) (filter test (range_with_len 0 n)) k 0 l (all_below test 0 n n (omega arith));
+}
+
+pub torn_ascend : (ps : List Particle) (links : List Link) → AscendTo (length links) (torn_numbers ps links)
+unfolding torn_numbers
+torn_ascend ps links = ascends (λ i. is_torn ps (link_at links i)) (length links)
+
+pub gone_ascend : (links : List Link) → AscendTo (length links) (gone_numbers links)
+unfolding gone_numbers
+gone_ascend links = ascends (λ i. not (link_at links i).live) (length links)
+
 -- an item is the same with any default
 any_default : (links : List Link) (i : ℕ) (d e : Link) → i < length links → get_or links i d ≡ get_or links i e
 any_default [] i d e lt = absurd (omega (arith, lt))
@@ -156,3 +171,23 @@ numbers_go ps links i lt =
 -- a list with a room, by its two parts
 pub list_is : (o p : Roomed ℕ) (xs : List ℕ) → o.entries ≡ xs → o.room ≡ p.room → o ≡ record p { entries = xs }
 list_is o p xs e r = λ i. record { entries = e i; room = r i }
+
+-- ---- links that are live no longer
+
+-- the numbers below i of links that are live no longer
+pub record GoneSoFar (links : List Link) (i : ℕ) (so_far : List ℕ) : Type 0 where
+  pub passing : Passing (λ n. not (link_at links n).live) (length links) i so_far
+
+pub gone_none : (links : List Link) → GoneSoFar links 0 []
+gone_none links = record { passing = passing_none (λ n. not (link_at links n).live) (length links) }
+
+pub gone_more : (links : List Link) (i : ℕ) (so_far : List ℕ) (wanted : Bool) (d : Link) → i < length links → wanted ≡ not (get_or links i d).live → GoneSoFar links i so_far → GoneSoFar links (i + 1) (cond wanted (so_far ++ i ∷ []) so_far)
+gone_more links i so_far wanted d lt e h = record { passing = passing_more (λ n. not (link_at links n).live) (length links) i so_far wanted lt (e ∙ ap (λ (l : Link). not l.live) (any_default links i d _ lt)) h.passing }
+
+pub gone_all : (links : List Link) (i : ℕ) (so_far : List ℕ) → length links ≤ i → GoneSoFar links i so_far → so_far ≡ gone_numbers links
+unfolding gone_numbers
+gone_all links i so_far le h = passing_all (λ n. not (link_at links n).live) (length links) i so_far le h.passing
+
+pub numbers_gone : (links : List Link) (i : ℕ) → i < length links → list_any (λ n. n == i) (gone_numbers links) ≡ not (link_at links i).live
+unfolding gone_numbers
+numbers_gone links i lt = among (λ n. not (link_at links n).live) 0 (length links) i (omega arith) (omega (arith, lt))

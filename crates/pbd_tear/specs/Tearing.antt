@@ -1,7 +1,7 @@
--- The numbers of the links that tear.
-use Rattle.std.specs.Prelude.{ℕ, ◌<◌, ◌≤◌, ◌^◌, unsigned_abs, List, length, filter}
+-- The numbers of the links that tear, and of those that are gone.
+use Rattle.std.specs.Prelude.{ℕ, ◌<◌, ◌≤◌, ◌^◌, unsigned_abs, List, length, filter, not, slice_index}
 use Rattle.std.specs.List.{range_with_len}
-use Rattle.pbd_num.specs.Vectors.{Within}
+use Rattle.std.specs.List.Sorted.{IsStrictlyIncreasing}
 use Rattle.pbd_world.specs.declared.parts.Particle.{Particle}
 use Rattle.pbd_world.specs.declared.parts.Link.{Link}
 use Rattle.pbd_world.specs.Particles.{particle_at}
@@ -12,9 +12,14 @@ use Rattle.pbd_world.specs.Step.{is_torn}
 unfoldable pub torn_numbers : List Particle → List Link → List ℕ
 torn_numbers ps links = filter (λ i. is_torn ps (link_at links i)) (range_with_len 0 (length links))
 
--- every place is within the bound
-pub record AreInside (bound : ℕ) (ps : List Particle) : Type 0 where
-  pub each : (i : ℕ) → i < length ps → Within bound (particle_at ps i).at
+-- the numbers of the links that are live no longer, ascending
+unfoldable pub gone_numbers : List Link → List ℕ
+gone_numbers links = filter (λ i. not (link_at links i).live) (range_with_len 0 (length links))
+
+-- numbers below n that ascend
+pub record AscendTo (n : ℕ) (numbers : List ℕ) : Type 0 where
+  pub rising : IsStrictlyIncreasing numbers
+  pub within : (k : ℕ) → k < length numbers → slice_index numbers k < n
 
 -- a link of n particles with a tear length in the range of both limits
 pub record IsLink (n : ℕ) (link : Link) : Type 0 where

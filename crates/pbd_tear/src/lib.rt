@@ -6,7 +6,8 @@ ghost use Rattle.pbd_num.specs.Vectors.{Within, minus, squared_length};
 ghost use Rattle.pbd_world.specs.Particles.{particle_at};
 ghost use Rattle.pbd_world.specs.Valid.{are_valid_links};
 ghost use Rattle.pbd_world.specs.Step.{is_torn};
-ghost use Rattle.pbd_tear.specs.Tearing.{AreInside, IsLink, torn_numbers};
+ghost use Rattle.pbd_store.specs.Moving.{AreInside};
+ghost use Rattle.pbd_tear.specs.Tearing.{IsLink, AscendTo, torn_numbers, gone_numbers};
 
 use pbd_num::Vec3;
 use pbd_store::{Steps, Store};
@@ -15,7 +16,7 @@ use std::sync::ledger::Ledger;
 
 mod laws;
 
-pub use laws::{torn_links_go, valid_particles_are_inside};
+pub use laws::{gone_links_are_dead, torn_links_go};
 
 fn square(n: i64) -> i64
     requires { unsigned_abs n ≤ 2 ^ 31 }
@@ -59,7 +60,7 @@ fn may_tear(link: Link) -> bool
 
 fn is_torn<const L: usize, G: Ledger>(store: &Store<L>, link: Link, steps: &mut Steps<G>) -> bool
     requires link { IsLink (length store.now.particles) link }
-    requires inside { AreInside (2 ^ 29) store.now.particles }
+    requires inside { AreInside (pos (2 ^ 29)) store.now.particles }
     ensures value { result ≡ is_torn store.now.particles link }
     ensures cost { steps.new ≤ steps.old + 2 }
 {
@@ -90,9 +91,10 @@ pub fn torn<const L: usize, G: Ledger>(
     steps: &mut Steps<G>,
 )
     requires links { IsTrue (are_valid_links store.now.limit (length store.now.particles) links.now) }
-    requires inside { AreInside (unsigned_abs store.now.limit) store.now.particles }
+    requires inside { AreInside store.now.limit store.now.particles }
     requires room { length links.now ≤ out.old.room }
     ensures numbers { out.new ≡ record out.old { entries = torn_numbers store.now.particles links.now } }
+    ensures ascending { AscendTo (length links.now) out.new.entries }
     ensures cost { steps.new ≤ steps.old + 2 * length links.now }
 {
     // By it the links and the places are in the range of both limits.
@@ -101,6 +103,19 @@ pub fn torn<const L: usize, G: Ledger>(
     for i in 0..links.len() {
         let tears = is_torn(store, links[i], steps);
         push_if(out, i as u32, tears);
+    }
+}
+
+/// Leaves in `out` exactly the numbers of the links that are live no longer, ascending. What `out` held before is dropped.
+pub fn gone(links: &[Link], out: &mut RoomList<u32>)
+    requires few { length links.now ≤ 524288 }
+    requires room { length links.now ≤ out.old.room }
+    ensures numbers { out.new ≡ record out.old { entries = gone_numbers links.now } }
+    ensures ascending { AscendTo (length links.now) out.new.entries }
+{
+    out.clear();
+    for i in 0..links.len() {
+        push_if(out, i as u32, !links[i].live);
     }
 }
 

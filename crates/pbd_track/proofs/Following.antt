@@ -19,16 +19,10 @@ use Rattle.pbd_world.specs.declared.parts.Particle.{Particle}
 use Rattle.pbd_world.specs.Particles.{particle_at, no_particle, placed}
 use Rattle.pbd_world.specs.Tracks.{place_between, place_from, place_at, track_of, held_place}
 use Rattle.pbd_world.specs.Valid.{is_limit, none_twice, are_valid_keys, is_valid_track, are_valid_tracks}
+use Rattle.pbd_store.proofs.Limits.{limit_size}
 use Rattle.pbd_track.specs.Tracking.{IsKey, IsTrack, attached_at, Attached}
 
 -- ---- limits and keys
-
-pub limit_size : (n : ℤ) → IsTrue (is_limit n) → (pos 0 ≤ℤ n) × (unsigned_abs n ≤ 2 ^ 29)
-limit_size n h = by (int_eq n (pos (2 ^ 28))) refl
-  where
-    by : (b : Bool) → int_eq n (pos (2 ^ 28)) ≡ b → (pos 0 ≤ℤ n) × (unsigned_abs n ≤ 2 ^ 29)
-    by true e = let small : n ≡ pos (2 ^ 28) = (Decides-int_eq n (pos (2 ^ 28))).0 e in (omega (arith, ints), omega (arith, ap unsigned_abs small))
-    by false e = let large : n ≡ pos (2 ^ 29) = (Decides-int_eq n (pos (2 ^ 29))).0 (ap (λ (b : Bool). b || int_eq n (pos (2 ^ 29))) (sym e) ∙ h) in (omega (arith, ints), omega (arith, ap unsigned_abs large))
 
 within_limit : (limit : ℤ) (v : Vec3) → IsTrue (is_limit limit) → IsTrue (is_within limit v) → Within (2 ^ 29) v
 within_limit limit v l h =

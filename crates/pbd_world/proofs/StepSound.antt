@@ -176,7 +176,7 @@ pub record Begun (w : World) (m : Motion) : Type 0 where
   pub starts : AllZip (Starts w.limit (w.damping ≡ pos 0)) w.particles ms
   pub rest : all_rest w.tracks 0 (map {A = Moved} {B = Particle} (λ m. m.particle) ms) ≡ true
 
-can_predict : (w : World) → IsSound w → CanPredict w
+pub can_predict : (w : World) → IsSound w → CanPredict w
 can_predict w sound =
     let form = formed (parts_of w) sound.well_formed in
     let numbers = numbers_of w form in
@@ -193,7 +193,7 @@ both_ok : {A E : Type 0} (P Q : A → Type 0) (r : Result A E) → IfOk r P → 
 both_ok P Q (Ok x) h k = (h, k)
 both_ok P Q (Err e) h k = tt
 
-predict_begins : (w : World) → IsSound w → IfOk (predict w) (Begun w)
+pub predict_begins : (w : World) → IsSound w → IfOk (predict w) (Begun w)
 unfolding predict
 predict_begins w sound =
     let form = formed (parts_of w) sound.well_formed in

@@ -1,8 +1,9 @@
 use Rattle.std.proofs.Common.{◌∙◌, sym, ap, refl, subst, arith, ◌+◌, ◌≤◌, ℕ, ℤ, List, length, IsTrue}
 use Rattle.pbd_world.specs.Room.{Roomed}
 use Rattle.pbd_world.specs.Valid.{is_limit}
-use Rattle.pbd_tear.specs.Tearing.{torn_numbers}
-use Rattle.pbd_tear.proofs.Numbers.{link_is, inside_both, TornSoFar, torn_none, torn_more, torn_all, few_more, list_is}
+use Rattle.pbd_tear.specs.Tearing.{AscendTo, torn_numbers}
+use Rattle.pbd_store.proofs.Limits.{inside_both}
+use Rattle.pbd_tear.proofs.Numbers.{link_is, TornSoFar, torn_none, torn_more, torn_all, few_more, list_is, torn_ascend}
 use Rattle.pbd_tear.proofs.torn.Goals as goal
 
 pub is_torn-tears-requires : goal.is_torn-tears-requires
@@ -25,3 +26,8 @@ loop-i-preserved g c =
 
 pub returns-clause-numbers : goal.returns-clause-numbers
 returns-clause-numbers g c = list_is c.loop-i.out c.args.out.now (torn_numbers c.args.store.now.particles c.args.links.now) (torn_all c.args.store.now.particles c.args.links.now c.loop-i.i c.loop-i.out.entries c.loop-i-test.false c.loop-i.invariant.so_far) (c.loop-i.invariant.room ∙ ap (λ (o : Roomed ℕ). o.room) c.clear.ensures)
+
+pub returns-clause-ascending : goal.returns-clause-ascending
+returns-clause-ascending g c =
+    let whole = torn_all c.args.store.now.particles c.args.links.now c.loop-i.i c.loop-i.out.entries c.loop-i-test.false c.loop-i.invariant.so_far in
+    subst (λ (xs : List ℕ). AscendTo (length c.args.links.now) xs) (sym whole) (torn_ascend c.args.store.now.particles c.args.links.now)

@@ -7,7 +7,7 @@ use Rattle.pbd_world.specs.Particles.{particle_at}
 use Rattle.pbd_world.specs.Bonds.{correction_at, correction_of, end_of, entries_of, class_of}
 use Rattle.pbd_store.specs.Gathering.{index_at}
 use Rattle.pbd_pair.specs.Bonds.{bond_of, IsSound}
-use Rattle.pbd_pair.specs.Projecting.{motion_of, fixed_parts, AreInside}
+use Rattle.pbd_store.specs.Moving.{motion_of, fixed_parts, AreInside}
 use Rattle.pbd_pair.specs.Lanes.{Lays, bond_in, shift_in}
 use Rattle.pbd_pair.proofs.InLanes.{drawn_same, none_set, same_lays, lays_sound}
 use Rattle.pbd_pair.proofs.Reaching.{nth, books, reached, reached_leaves, reached_all}

@@ -5,7 +5,7 @@ use Rattle.pbd_world.specs.declared.bond.Correction.TheVariants.{Moves}
 use Rattle.pbd_world.specs.Ledger.{ledger_of}
 use Rattle.pbd_world.specs.Bonds.{corrected, end_of}
 use Rattle.pbd_pair.specs.Bonds.{IsSound}
-use Rattle.pbd_pair.specs.Projecting.{motion_of}
+use Rattle.pbd_store.specs.Moving.{motion_of}
 use Rattle.pbd_pair.proofs.Single.{is_end, same_correction, moves_outcome}
 use Rattle.pbd_pair.proofs.Correcting.{inside-placed_by, fixed-placed_by}
 use Rattle.pbd_pair.proofs.one.project_one.Goals as goal

@@ -1,7 +1,8 @@
 use Rattle.std.proofs.Common.{◌≡◌, ◌^◌, arith, pos, length}
 use Rattle.std.proofs.lemmas.Int.{ints}
 use Rattle.pbd_world.specs.Ledger.{ledger_of}
-use Rattle.pbd_pair.specs.Projecting.{AreInside, Weigh, IsBatch}
+use Rattle.pbd_store.specs.Moving.{AreInside, Weigh}
+use Rattle.pbd_pair.specs.Projecting.{IsBatch}
 use Rattle.pbd_pair.proofs.Examples.{are_inside, weigh, batch_is, room_of_zero}
 use Rattle.pbd_pair.proofs.tests.run.Goals as goal
 

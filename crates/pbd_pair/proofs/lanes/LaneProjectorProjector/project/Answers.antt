@@ -2,7 +2,8 @@ use Rattle.std.proofs.Common.{◌≡◌, ℕ, ◌-◌, ◌<◌, ◌≤◌, min, 
 use Rattle.std.proofs.lemmas.Bool.{eqb-false}
 use Rattle.pbd_world.specs.Bonds.{projected}
 use Rattle.pbd_pair.specs.Bonds.{bond_of}
-use Rattle.pbd_pair.specs.Projecting.{motion_of, AreInside, IsBatch}
+use Rattle.pbd_store.specs.Moving.{motion_of, AreInside}
+use Rattle.pbd_pair.specs.Projecting.{IsBatch}
 use Rattle.pbd_pair.proofs.Ranges.{room_at}
 use Rattle.pbd_pair.proofs.Correcting.{same_length}
 use Rattle.pbd_pair.proofs.OneByOne.{block_done, block_leaves}
@@ -42,9 +43,13 @@ steps_on-preserved g c =
       inside = subst (λ (l : ℤ). AreInside l c.project_block.new.store.particles) same_limit c.project_block.ensures.inside;
       weights = weigh_same c.steps_on.store.particles c.project_block.new.store.particles fixed inv.weights;
       room = room_at _ (omega (arith, c.split_at.ensures.back_len, c.split_at.ensures.front_len, inv.shorter)) (c.project_block.ensures.room _ inv.room);
+      grows = λ n h. room_at _ (omega (arith, c.split_at.ensures.back_len, c.split_at.ensures.front_len, inv.shorter)) (c.project_block.ensures.room _ (inv.grows n h));
       shorter = omega (arith, inv.shorter, left);
       same = (λ i. projected (sym same_limit i) bond (back i) then) ∙ block_done limit bond k rest m then (front ∙ c.in_default.ensures.outcome) ∙ inv.same;
       limit = c.project_block.ensures.limit ∙ inv.limit;
       fixed = fixed ∙ inv.fixed;
       cost = rw left (omega (arith, fewer, inv.cost, c.project_block.ensures.cost));
     }
+
+pub returns-clause-room : goal.returns-clause-room
+returns-clause-room g c = λ n h. room_at _ (omega arith) (c.steps_on.invariant.grows n h)

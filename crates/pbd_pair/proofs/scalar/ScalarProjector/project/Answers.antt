@@ -1,6 +1,6 @@
-use Rattle.std.proofs.Common.{arith, ◌∙◌, sym, subst, ℤ, get_or, Ok, Err}
+use Rattle.std.proofs.Common.{arith, refl, ◌∙◌, sym, subst, ℤ, get_or, Ok, Err}
 use Rattle.pbd_pair.specs.Bonds.{bond_of}
-use Rattle.pbd_pair.specs.Projecting.{motion_of, AreInside}
+use Rattle.pbd_store.specs.Moving.{motion_of, AreInside}
 use Rattle.pbd_pair.proofs.Ranges.{room_at}
 use Rattle.pbd_pair.proofs.Correcting.{same_length}
 use Rattle.pbd_pair.proofs.OneByOne.{turn_on, turn_out, one_is}
@@ -17,6 +17,7 @@ loop-n-preserved g c =
     let did = one_is limit bond n c.get.result now (Ok then) inv.limit c.get.ensures c.in_default.ensures.outcome in
     record {
       room = room_at _ (omega arith) (c.project_one.ensures.room _ inv.room);
+      grows = λ n h. room_at _ (omega arith) (c.project_one.ensures.room _ (inv.grows n h));
       inside = subst (λ (l : ℤ). AreInside l c.project_one.new.store.particles) inv.limit c.project_one.ensures.inside;
       whole = same_length _ _ (c.project_one.ensures.fixed ∙ inv.fixed);
       same = turn_on limit bond c.args.batch.now c.loop-n.n-index (omega arith) now then did ∙ inv.same;
@@ -34,3 +35,18 @@ returns-in-Err-clause-outcome g c =
     let now = motion_of c.loop-n.store c.loop-n.totals in
     let did = one_is limit bond n c.get.result now (Err c.in-Err.left.element) inv.limit c.get.ensures c.in-Err.ensures.outcome in
     sym inv.same ∙ turn_out limit bond c.args.batch.now c.loop-n.n-index (omega arith) now c.in-Err.left.element did
+
+pub loop-n-init : goal.loop-n-init
+loop-n-init g c = record {
+  room = room_at _ (omega arith) c.requires.room;
+  grows = λ n h. room_at _ (omega arith) h;
+  inside = c.requires.inside;
+  whole = refl;
+  same = refl;
+  limit = refl;
+  fixed = refl;
+  cost = omega arith;
+}
+
+pub returns-clause-room : goal.returns-clause-room
+returns-clause-room g c = λ n h. room_at _ (omega (arith, c.loop-n-test.false)) (c.loop-n.invariant.grows n h)

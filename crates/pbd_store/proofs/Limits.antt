@@ -1,0 +1,29 @@
+-- Limits, and what is within them.
+use Rattle.std.proofs.Common.{◌≡◌, refl, sym, ap, ◌∙◌, ◌≤◌, ◌^◌, ◌||◌, Bool, true, false, List, arith, ℤ, pos, ◌≤ℤ◌, unsigned_abs, IsTrue}
+use Rattle.std.specs.Ordering.{int_eq}
+use Rattle.std.proofs.lemmas.Int.{ints}
+use Rattle.std.proofs.lemmas.Bool.{and_parts}
+use Rattle.std.proofs.lemmas.Bool.Decides.{Decides-int_eq}
+use Rattle.std.proofs.lemmas.List.Sums.{AllPass-from_list_all}
+use Rattle.pbd_num.proofs.Ranges.{within_facts}
+use Rattle.pbd_world.specs.declared.parts.Particle.{Particle}
+use Rattle.pbd_world.specs.Particles.{no_particle}
+use Rattle.pbd_world.specs.Valid.{is_limit, is_valid_particle, are_valid_particles}
+use Rattle.pbd_store.specs.Moving.{AreInside}
+
+pub limit_size : (n : ℤ) → IsTrue (is_limit n) → (pos 0 ≤ℤ n) × (unsigned_abs n ≤ 2 ^ 29)
+limit_size n h = by (int_eq n (pos (2 ^ 28))) refl
+  where
+    by : (b : Bool) → int_eq n (pos (2 ^ 28)) ≡ b → (pos 0 ≤ℤ n) × (unsigned_abs n ≤ 2 ^ 29)
+    by true e = let small : n ≡ pos (2 ^ 28) = (Decides-int_eq n (pos (2 ^ 28))).0 e in (omega (arith, ints), omega (arith, ap unsigned_abs small))
+    by false e = let large : n ≡ pos (2 ^ 29) = (Decides-int_eq n (pos (2 ^ 29))).0 (ap (λ (b : Bool). b || int_eq n (pos (2 ^ 29))) (sym e) ∙ h) in (omega (arith, ints), omega (arith, ap unsigned_abs large))
+
+-- what is within a limit is in the range of both
+pub inside_both : (limit : ℤ) (ps : List Particle) → IsTrue (is_limit limit) → AreInside limit ps → AreInside (pos (2 ^ 29)) ps
+inside_both limit ps l h =
+    let size = (limit_size limit l).1 in
+    record { each = λ i lt. (let w = h.each i lt in record { x = omega (arith, w.x, size); y = omega (arith, w.y, size); z = omega (arith, w.z, size) }) }
+
+-- the places of valid particles
+pub valid_inside : (limit : ℤ) (ps : List Particle) → IsTrue (is_limit limit) → IsTrue (are_valid_particles limit ps) → AreInside limit ps
+valid_inside limit ps l h = record { each = λ i lt. (within_facts limit _ (limit_size limit l).0).0 ((and_parts _ _ (and_parts _ _ (and_parts _ _ (AllPass-from_list_all (is_valid_particle limit) ps (and_parts _ _ h).1 i no_particle lt)).0).0).0) }
