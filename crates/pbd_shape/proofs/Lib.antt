@@ -1,0 +1,5 @@
+pub mod Moves
+pub mod Ways
+pub mod Onward
+pub mod Saves
+pub mod Steps

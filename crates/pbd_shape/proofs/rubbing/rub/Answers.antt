@@ -1,0 +1,102 @@
+use Rattle.std.proofs.Common.{◌≡◌, refl, sym, ap, ◌∙◌, ℕ, ◌+◌, ◌-◌, ◌*◌, ◌^◌, min, ◌<◌, ◌≤◌, arith, subst, ℤ, length}
+use Rattle.std.proofs.lemmas.Int.{to_z-of_z}
+use Rattle.pbd_num.specs.Vectors.{zero_vector}
+use Rattle.pbd_world.specs.declared.parts.Particle.{Particle}
+use Rattle.pbd_world.specs.Ledger.{ledger_of, HaveRoom}
+use Rattle.pbd_world.specs.Step.{Passing}
+use Rattle.pbd_store.specs.Blocks.{blocks_of}
+use Rattle.pbd_store.specs.Moving.{motion_of}
+use Rattle.pbd_store.proofs.Starts.{block_begins}
+use Rattle.pbd_shape.specs.Rubbing.{AreWithin, rubbed_from}
+use Rattle.pbd_shape.proofs.Onward.{rubbed_begins, rubbed_all}
+use Rattle.pbd_shape.proofs.Saves.{same_length}
+use Rattle.pbd_shape.proofs.Steps.{room_at, all_held, next_start, room_more, room_whole, room_enough}
+use Rattle.pbd_shape.proofs.rubbing.rub.Goals as goal
+
+abbrev settled : Particle → Particle
+settled p = record p { before = zero_vector }
+
+none : (n : ℕ) → 0 * n ≡ 0
+none n = omega arith
+
+pub loop-block-init : goal.loop-block-init
+loop-block-init g c =
+    let f = c.ranges.friction in
+    let s : Passing = record { motion = motion_of c.args.store.now c.args.totals.now; touched = c.args.touched.now } in
+    record {
+      rest = simp to_z-of_z (ap (λ (m : ℕ). rubbed_from c.args.friction m s) (none g.row.L) ∙ rubbed_begins c.args.friction s);
+      limit = refl;
+      settled = refl;
+      within = c.requires.within;
+      room = λ n h. room_at _ (omega arith) h;
+      cost = omega arith;
+    }
+
+pub rub_block-requires : goal.rub_block-requires
+rub_block-requires g c =
+    let f = c.ranges.friction in
+    let inv = c.loop-block.invariant in
+    let r = c.requires in
+    let ps = c.loop-block.store.particles in
+    let len : length ps ≡ length c.args.store.now.particles = same_length settled ps c.args.store.now.particles inv.settled in
+    let block : c.loop-block.block < blocks_of (length c.args.store.now.particles) g.row.L = omega (arith, c.blocks-block-end.ensures, c.loop-block-test.true) in (
+      omega arith,
+      (
+        r.lanes_low,
+        (
+          r.lanes_high,
+          (
+            subst (λ (m : ℕ). c.loop-block.block < blocks_of m g.row.L) (sym len) block,
+            (
+              (simp to_z-of_z r.friction),
+              (
+                r.flags ∙ sym len,
+                (
+                  subst (λ (l : ℤ). AreWithin l ps) (sym inv.limit) inv.within,
+                  room_at (2 ^ 125) (room_enough (c.loop-block.block * g.row.L) (length c.args.store.now.particles) (omega (arith, c.len-len.ensures.value, c.len-len.ensures.size))) (inv.room (2 ^ 120) r.room),
+                ),
+              ),
+            ),
+          ),
+        ),
+      ),
+    )
+
+pub loop-block-preserved : goal.loop-block-preserved
+loop-block-preserved g c =
+    let f = c.ranges.friction in
+    let inv = c.loop-block.invariant in
+    let e = c.rub_block.ensures in
+    let start = c.loop-block.block * g.row.L in
+    let then : Passing = record { motion = motion_of c.rub_block.new.store c.rub_block.new.totals; touched = c.args.touched.now } in
+    let len : length c.loop-block.store.particles ≡ length c.args.store.now.particles = same_length settled c.loop-block.store.particles c.args.store.now.particles inv.settled in
+    let begins : start < length c.args.store.now.particles = block_begins c.loop-block.block (length c.args.store.now.particles) g.row.L c.requires.lanes_low (omega (arith, c.blocks-block-end.ensures, c.loop-block-test.true)) in
+    let outcome = simp to_z-of_z at e.outcome in
+    let rest = simp to_z-of_z at inv.rest in
+    record {
+      rest = simp to_z-of_z (ap (λ (m : ℕ). rubbed_from c.args.friction m then) (next_start c.loop-block.block g.row.L) ∙ outcome ∙ rest);
+      limit = e.limit ∙ inv.limit;
+      settled = e.settled ∙ inv.settled;
+      within = subst (λ (l : ℤ). AreWithin l c.rub_block.new.store.particles) inv.limit e.within;
+      room = λ n h. room_at _ (room_more n start _ (length c.args.store.now.particles) g.row.L begins (next_start c.loop-block.block g.row.L)) (subst (λ (m : ℕ). HaveRoom (n + min start (length c.args.store.now.particles) * 2 ^ 31 + (min (start + g.row.L) m - start) * 2 ^ 31) (ledger_of c.rub_block.new.totals)) len (e.room _ (inv.room n h)));
+      cost = omega (arith, e.cost, inv.cost);
+    }
+
+pub returns : goal.returns
+returns g c =
+    let f = c.ranges.friction in
+    let inv = c.loop-block.invariant in
+    let ps = c.loop-block.store.particles in
+    let start = c.loop-block.block * g.row.L in
+    let now : Passing = record { motion = motion_of c.loop-block.store c.loop-block.totals; touched = c.args.touched.now } in
+    let len : length ps ≡ length c.args.store.now.particles = same_length settled ps c.args.store.now.particles inv.settled in
+    let whole : length c.args.store.now.particles ≤ start = all_held c.loop-block.block (length c.args.store.now.particles) g.row.L c.requires.lanes_low (omega (arith, c.blocks-block-end.ensures, c.loop-block-test.false)) in
+    let rest = simp to_z-of_z at inv.rest in
+    record {
+      outcome = sym (rubbed_all c.args.friction start now (omega (arith, len, whole))) ∙ rest;
+      limit = inv.limit;
+      settled = inv.settled;
+      within = inv.within;
+      room = λ n h. room_at _ (room_whole n start (length c.args.store.now.particles)) (inv.room n h);
+      cost = omega (arith, inv.cost, c.blocks-block-end.ensures, c.loop-block.auto.block-end);
+    }

@@ -1,0 +1,4 @@
+pub mod Shaping
+pub mod Rubbing
+pub mod Valid
+pub mod Way

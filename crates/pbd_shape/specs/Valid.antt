@@ -1,0 +1,22 @@
+-- Planes and spheres in their ranges, as facts.
+use Rattle.std.specs.Prelude.{◌<◌, ◌≤◌, ◌^◌, ℤ, pos, ◌≤ℤ◌, unsigned_abs}
+use Rattle.pbd_num.specs.Vectors.{Within, squared_length}
+use Rattle.pbd_world.specs.declared.parts.Plane.{Plane}
+use Rattle.pbd_world.specs.declared.parts.Sphere.{Sphere}
+
+-- a limit of places
+pub record IsLimit (limit : ℤ) : Type 0 where
+  pub low : pos 0 ≤ℤ limit
+  pub high : unsigned_abs limit ≤ 2 ^ 29
+
+-- a plane with a normal that isn't zero
+pub record IsPlane (plane : Plane) : Type 0 where
+  pub normal : Within (2 ^ 10) plane.normal
+  pub some : 0 < squared_length plane.normal
+  pub offset : unsigned_abs plane.offset ≤ 2 ^ 40
+
+-- a sphere within the range of both limits
+pub record IsSphere (sphere : Sphere) : Type 0 where
+  pub centre : Within (2 ^ 29) sphere.centre
+  pub low : pos 0 ≤ℤ sphere.radius
+  pub high : unsigned_abs sphere.radius ≤ 2 ^ 29
