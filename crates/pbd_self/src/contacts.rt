@@ -1,0 +1,164 @@
+//! The contacts of so many particles, and their colours.
+ghost use Rattle.std.specs.Prelude.{◌≡◌, ◌+◌, ◌<◌, ◌≤◌, [], true, pos, ◌≤ℤ◌, length, map, IfOk, OnOk, OnErr};
+ghost use Rattle.pbd_store.specs.Moving.{AreInside};
+ghost use Rattle.pbd_colour.specs.Pairs.{InRange};
+ghost use Rattle.pbd_self.specs.Touching.{touching, AreOrdered};
+
+use crate::apart::find_apart;
+use crate::places::copy_particles;
+use pbd_colour::Colouring;
+use pbd_grid::Grid;
+use pbd_num::Vec3;
+use pbd_store::{Steps, Store};
+use pbd_world::{Full, RoomList};
+use std::alloc::{AllocError, Global};
+use std::marker::Model;
+use std::sync::ledger::Ledger;
+
+/// How many contacts there may be.
+const ROOM: u32 = 262_144;
+
+/// The pairs of particles that touch each other in a step, and their colours. Only opening takes memory.
+#[derive(Drop)]
+pub struct SelfContacts {
+    particles: u32,
+    grid: Grid,
+    pairs: RoomList<(u32, u32)>,
+    colouring: Colouring,
+    places: RoomList<Vec3>,
+    held: RoomList<bool>,
+}
+
+impl Model for SelfContacts {
+    ghost use Rattle.pbd_self.specs.Touching.{Found};
+    ghost use Rattle.pbd_self.specs.Ready.{IsReady};
+
+    ghost Value = { Found };
+
+    ghost view = { λ s. record { particles = s.particles; pairs = s.pairs.entries } };
+
+    ghost invariant = { λ s. IsReady s.particles s.grid s.pairs s.colouring s.places s.held };
+}
+
+impl SelfContacts {
+    /// Makes room for the contacts of so many particles, at most 65,536. There are none yet.
+    pub fn open(alloc: Global, particles: u32) -> Result<SelfContacts, AllocError>
+        requires { particles ≤ 65536 }
+        ensures { IfOk result (λ c. c ≡ record { particles = particles; pairs = [] }) }
+    {
+        let grid = Grid::open(alloc, particles)?;
+        let pairs = RoomList::open(alloc, ROOM)?;
+        let colouring = Colouring::open(alloc, particles, ROOM)?;
+        let places = RoomList::open(alloc, particles)?;
+        let held = RoomList::open(alloc, particles)?;
+        Ok(SelfContacts {
+            particles,
+            grid,
+            pairs,
+            colouring,
+            places,
+            held,
+        })
+    }
+
+    // Forgets all pairs.
+    fn clear(&mut self)
+        ensures { self.new ≡ record self.old { pairs = [] } }
+    {
+        self.pairs.clear();
+        self.colouring.refill(&[]);
+    }
+
+    // Finds the pairs that touch at a thickness from 1.
+    fn find<const L: usize, G: Ledger>(
+        &mut self,
+        store: &Store<L>,
+        links: &Colouring,
+        thickness: i64,
+        steps: &mut Steps<G>,
+    ) -> Result<(), Full>
+        requires len { length store.now.particles ≡ self.old.particles }
+        requires colouring { links.now.particles ≡ self.old.particles }
+        requires low { pos 1 ≤ℤ thickness }
+        requires high { thickness ≤ℤ pos 1048576 }
+        requires inside { AreInside store.now.limit store.now.particles }
+        ensures found { OnOk result (self.new ≡ record self.old { pairs = touching thickness links.now store.now.particles }) }
+        ensures few { OnOk result (length (touching thickness links.now store.now.particles) ≤ 262144) }
+        ensures full { OnErr result (262144 < length (touching thickness links.now store.now.particles)) }
+        ensures emptied { OnErr result (self.new ≡ record self.old { pairs = [] }) }
+        ensures cost { steps.new ≤ steps.old + self.old.particles }
+    {
+        // By it the places are in the range of both limits.
+        let _limit = store.limit();
+        copy_particles(store, &mut self.places, &mut self.held, steps);
+        let found = find_apart(
+            &mut self.grid,
+            self.places.as_slice(),
+            self.held.as_slice(),
+            links,
+            thickness,
+            &mut self.pairs,
+        );
+        self.colouring.refill(self.pairs.as_slice());
+        found
+    }
+
+    /// Finds the contacts of a step: the pairs of particles less than `thickness` apart that aren't
+    /// both held and that no live link joins.
+    ///
+    /// The store has so many particles, all within its limit, and the colouring of the links is over
+    /// as many. The thickness is 0 to 1,048,576, in units of 1/65,536 metre; at 0 there are no
+    /// contacts. `Full` comes exactly where the contacts are more than 262,144, and none are held
+    /// then. The store is reached at most once for each particle.
+    pub fn detect<const L: usize, G: Ledger>(
+        &mut self,
+        store: &Store<L>,
+        links: &Colouring,
+        thickness: i64,
+        steps: &mut Steps<G>,
+    ) -> Result<(), Full>
+        requires len { length store.now.particles ≡ self.old.particles }
+        requires colouring { links.now.particles ≡ self.old.particles }
+        requires low { pos 0 ≤ℤ thickness }
+        requires high { thickness ≤ℤ pos 1048576 }
+        requires inside { AreInside store.now.limit store.now.particles }
+        ensures found { OnOk result (self.new ≡ record self.old { pairs = touching thickness links.now store.now.particles }) }
+        ensures few { OnOk result (length (touching thickness links.now store.now.particles) ≤ 262144) }
+        ensures full { OnErr result (262144 < length (touching thickness links.now store.now.particles)) }
+        ensures emptied { OnErr result (self.new ≡ record self.old { pairs = [] }) }
+        ensures cost { steps.new ≤ steps.old + self.old.particles }
+    {
+        if thickness == 0 {
+            self.clear();
+            return Ok(());
+        }
+        self.find(store, links, thickness, steps)
+    }
+
+    /// The pairs that touch, each with the lower number first, in order.
+    pub fn pairs(&self) -> &[(u32, u32)]
+        ensures value { result.now ≡ self.now.pairs }
+        ensures ordered { AreOrdered self.now.particles result.now }
+        ensures in_range { InRange self.now.particles result.now }
+        ensures few { length result.now ≤ 262144 }
+    {
+        self.pairs.as_slice()
+    }
+
+    /// How many pairs touch, at most 262,144.
+    pub fn count(&self) -> u32
+        ensures value { result ≡ length self.now.pairs }
+        ensures few { result ≤ 262144 }
+    {
+        self.pairs.as_slice().len() as u32
+    }
+
+    /// The colours of the pairs that touch, all of which are live.
+    pub fn colouring(&self) -> &Colouring
+        ensures pairs { result.now.pairs ≡ self.now.pairs }
+        ensures live { result.now.live ≡ map (λ pair. true) self.now.pairs }
+        ensures particles { result.now.particles ≡ self.now.particles }
+    {
+        &self.colouring
+    }
+}
