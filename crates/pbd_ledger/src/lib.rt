@@ -49,6 +49,19 @@ fn with_velocity(sum: [i128; 3], particle: Particle) -> [i128; 3]
     onward_on_axes(sum, particle.at, particle.before)
 }
 
+/// The momentum of a list of at most 65,536 particles, as `momentum` of a store.
+pub fn momentum_of(particles: &[Particle]) -> [i128; 3]
+    requires { length particles.now ≤ 65536 }
+    ensures { sum_of result ≡ momentum particles.now }
+{
+    let mut sum = [0; 3];
+    for i in 0..particles.len() {
+        let next = with_velocity(sum, particles[i]);
+        sum = next;
+    }
+    sum
+}
+
 /// The sum of the velocities of the particles that are not held, axis by axis, in units per step.
 pub fn momentum<const L: usize, G: Ledger>(store: &Store<L>, steps: &mut Steps<G>) -> [i128; 3]
     ensures value { sum_of result ≡ momentum store.now.particles }

@@ -1,0 +1,15 @@
+pub mod SoundRoom
+pub mod Dropping
+pub mod UnderWay
+pub mod Passes
+pub mod Finding
+pub mod Stepping
+pub mod Running
+pub mod Flying
+pub mod Mild
+pub mod Predicting
+pub mod Leading
+pub mod InOrder
+pub mod Counting
+pub mod Settling
+pub mod Keeping

@@ -1,0 +1,52 @@
+-- What a world in a step gives to its parts: both places of each particle are within the limit, and the numbers are small.
+use Rattle.std.proofs.Common.{ℕ, zero, suc, ◌<◌, ◌≤◌, ◌^◌, ◌&&◌, List, [], ◌∷◌, length, arith, ℤ, pos, unsigned_abs}
+use Rattle.std.specs.Prelude.{IsTrue, nat_le}
+use Rattle.std.specs.List.{AllByRecursion, list_all}
+use Rattle.std.proofs.lemmas.Bool.{and_parts}
+use Rattle.pbd_num.specs.Vectors.{Within}
+use Rattle.pbd_num.proofs.Ranges.{within_facts}
+use Rattle.pbd_world.specs.declared.parts.Particle.{Particle}
+use Rattle.pbd_world.specs.Particles.{particle_at}
+use Rattle.pbd_world.specs.Valid.{is_between, is_valid_particle, is_well_formed}
+use Rattle.pbd_world.specs.World.{World, parts_of, IsSound}
+use Rattle.pbd_world.proofs.KeptLemmas.{wider}
+use Rattle.pbd_world.proofs.WorldParts.{formed, limit_of, numbers_of, IsFit, all_fit}
+use Rattle.pbd_shape.specs.Rubbing.{AreWithin}
+
+fit_at : (limit : ℤ) (ps : List Particle) (i : ℕ) → AllByRecursion (IsFit limit) ps → i < length ps → IsFit limit (particle_at ps i)
+fit_at limit [] i f l = absurd (omega (arith, l))
+fit_at limit (p ∷ ps) zero f l = f.0
+fit_at limit (p ∷ ps) (suc i) f l = fit_at limit ps i f.1 (omega (arith, l))
+
+pub formed_within : (w : World) → IsTrue (is_well_formed (parts_of w)) → AreWithin w.limit w.particles
+formed_within w h =
+    let form = formed (parts_of w) h in
+    let lim = limit_of w form in
+    let fits = all_fit w.limit w.particles (and_parts (nat_le (length w.particles) 65536) (list_all (is_valid_particle w.limit) w.particles) form.particles).1 in
+    record {
+      at = λ i lt. (within_facts w.limit (particle_at w.particles i).at lim.low).0 (fit_at w.limit w.particles i fits lt).at;
+      before = λ i lt. (within_facts w.limit (particle_at w.particles i).before lim.low).0 (fit_at w.limit w.particles i fits lt).before;
+    }
+
+pub formed_friction : (w : World) → IsTrue (is_well_formed (parts_of w)) → IsTrue (is_between (pos 0) (pos 256) w.friction)
+formed_friction w h = (and_parts (nat_le w.passes 64 && is_between (pos 0) (pos 1024) w.damping && is_between (pos 0) (pos 1048576) w.thickness) (is_between (pos 0) (pos 256) w.friction) (formed (parts_of w) h).numbers).1
+
+-- both places of each particle, damping and gravity are in the range of both limits
+pub record IsMild (w : World) : Type 0 where
+  pub at : (i : ℕ) → i < length w.particles → Within (2 ^ 29) (particle_at w.particles i).at
+  pub before : (i : ℕ) → i < length w.particles → Within (2 ^ 29) (particle_at w.particles i).before
+  pub damping : unsigned_abs w.damping ≤ 1024
+  pub gravity : Within (2 ^ 29) w.gravity
+
+pub sound_mild : (w : World) → IsSound w → IsMild w
+sound_mild w sound =
+    let form = formed (parts_of w) sound.well_formed in
+    let lim = limit_of w form in
+    let inside = formed_within w sound.well_formed in
+    let l = unsigned_abs w.limit in
+    record {
+      at = λ i lt. wider (particle_at w.particles i).at l (2 ^ 29) lim.high (inside.at i lt);
+      before = λ i lt. wider (particle_at w.particles i).before l (2 ^ 29) lim.high (inside.before i lt);
+      damping = (numbers_of w form).damping_high;
+      gravity = wider w.gravity l (2 ^ 29) lim.high ((within_facts w.limit w.gravity lim.low).0 form.gravity);
+    }

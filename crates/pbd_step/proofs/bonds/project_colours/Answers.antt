@@ -1,0 +1,52 @@
+use Rattle.std.proofs.Common.{◌≡◌, ◌+◌, ◌^◌, ◌++◌, arith, refl, ◌∙◌, length}
+use Rattle.pbd_store.specs.Moving.{motion_of, AreInside}
+use Rattle.pbd_pair.specs.Projecting.{IsBatch}
+use Rattle.pbd_step.specs.Projecting.{parallel_from}
+use Rattle.pbd_pair.proofs.Correcting.{same_length}
+use Rattle.pbd_pair.proofs.Blocks.{weigh_same}
+use Rattle.pbd_step.proofs.InOrder.{batch_is, parallel_next, parallel_none, parts_length, none_so_far, more_so_far, stops_so_far, whole_so_far, room_so_far}
+use Rattle.pbd_step.proofs.bonds.project_colours.Goals as goal
+
+pub project-requires : goal.project-requires
+project-requires g c =
+    let inv = c.loop-c.invariant in
+    let pairs = c.args.colours.now.pairs in
+    let live = c.args.colours.now.live in
+    let whole : length c.loop-c.store.particles ≡ length c.args.store.now.particles = same_length c.loop-c.store.particles c.args.store.now.particles inv.so_far.fixed in
+    let batch : IsBatch c.loop-c.store.limit (length c.loop-c.store.particles) c.args.bonds c.batch.result.now = rw (inv.limit, whole) (batch_is c.args.store.now.limit (length c.args.store.now.particles) c.args.bonds pairs c.requires.bonds live c.batch.result.now c.batch.ensures.live c.batch.ensures.apart) in
+    let inside : AreInside c.loop-c.store.limit c.loop-c.store.particles = rw inv.limit inv.so_far.inside in
+    let weights = weigh_same c.args.store.now.particles c.loop-c.store.particles inv.so_far.fixed c.requires.weights in
+    let room = room_so_far inv.so_far (2 ^ 119) (2 ^ 120) (omega (arith, parts_length pairs live, c.requires.few)) c.requires.room in
+    (omega arith, (c.requires.lanes_low, (c.requires.lanes_high, (batch, (inside, (weights, room))))))
+
+pub returns-in-Err-clause-outcome : goal.returns-in-Err-clause-outcome
+returns-in-Err-clause-outcome g c =
+    let inv = c.loop-c.invariant in
+    let pairs = c.args.colours.now.pairs in
+    let live = c.args.colours.now.live in
+    let parts : parallel_from pairs live c.loop-c.c ≡ c.batch.result.now ++ parallel_from pairs live (c.loop-c.c + 1) = rw c.batch.ensures.value (parallel_next pairs live c.loop-c.c (omega arith)) in
+    stops_so_far _ _ parts inv.limit inv.so_far c.in-Err.left.element c.in-Err.ensures.outcome
+
+pub loop-c-init : goal.loop-c-init
+loop-c-init g c = record { so_far = none_so_far _ _ _ _ _ c.requires.inside c.requires.counted; limit = refl; width = refl }
+
+pub loop-c-preserved : goal.loop-c-preserved
+loop-c-preserved g c =
+    let inv = c.loop-c.invariant in
+    let pairs = c.args.colours.now.pairs in
+    let live = c.args.colours.now.live in
+    let parts : parallel_from pairs live c.loop-c.c ≡ c.batch.result.now ++ parallel_from pairs live (c.loop-c.c + 1) = rw c.batch.ensures.value (parallel_next pairs live c.loop-c.c (omega arith)) in
+    record {
+      so_far = more_so_far c.batch.result.now (parallel_from pairs live (c.loop-c.c + 1)) parts inv.limit inv.so_far (motion_of c.project.new.store c.project.new.totals) _ c.in_default.ensures.outcome c.project.ensures.fixed c.in_default.ensures.inside c.in_default.ensures.room c.project.ensures.handed;
+      limit = c.project.ensures.limit ∙ inv.limit;
+      width = c.project.ensures.width ∙ inv.width;
+    }
+
+pub returns-clause-outcome : goal.returns-clause-outcome
+returns-clause-outcome g c = (whole_so_far c.loop-c.invariant.so_far (parallel_none c.args.colours.now.pairs c.args.colours.now.live c.loop-c.c (omega arith))).same
+
+pub returns-clause-room : goal.returns-clause-room
+returns-clause-room g c = (whole_so_far c.loop-c.invariant.so_far (parallel_none c.args.colours.now.pairs c.args.colours.now.live c.loop-c.c (omega arith))).grows
+
+pub returns-clause-handed : goal.returns-clause-handed
+returns-clause-handed g c = (whole_so_far c.loop-c.invariant.so_far (parallel_none c.args.colours.now.pairs c.args.colours.now.live c.loop-c.c (omega arith))).count

@@ -1,0 +1,14 @@
+use Rattle.std.proofs.Common.{◌≡◌}
+use Rattle.pbd_store.specs.Moving.{motion_of}
+use Rattle.pbd_pair.specs.Bonds.{bond_of}
+use Rattle.pbd_step.specs.Projecting.{parallel_from}
+use Rattle.pbd_step.proofs.InOrder.{SoFar}
+use Rattle.pbd_step.proofs.bonds.project_colours.Given as goal
+
+abbrev pub invariant-loop-c : goal.invariant-loop-c
+invariant-loop-c g l = record {
+  so_far : SoFar l.initial.store.limit (bond_of l.bonds) (parallel_from l.colours.pairs l.colours.live 0) (parallel_from l.colours.pairs l.colours.live l.c)
+      (motion_of l.initial.store l.initial.totals) (motion_of l.store l.totals) (g.P.Projector.count l.initial.projector) (g.P.Projector.count l.projector);
+  limit : l.store.limit ≡ l.initial.store.limit;
+  width : g.P.Projector.width l.projector ≡ g.P.Projector.width l.initial.projector;
+}

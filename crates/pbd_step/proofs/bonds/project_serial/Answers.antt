@@ -1,0 +1,38 @@
+use Rattle.std.proofs.Common.{◌≡◌, ◌+◌, ◌^◌, ◌++◌, ◌∷◌, [], ◌<◌, List, ℕ, drop, drop_of_length-le, get_or, arith, sym, ◌∙◌, length}
+use Rattle.pbd_store.specs.Moving.{motion_of, AreInside}
+use Rattle.pbd_pair.specs.Projecting.{IsBatch}
+use Rattle.pbd_colour.specs.Pairs.{batch_of}
+use Rattle.pbd_pair.proofs.Correcting.{same_length}
+use Rattle.pbd_pair.proofs.Blocks.{weigh_same}
+use Rattle.pbd_step.proofs.InOrder.{single_is, serial_next, parts_length, more_so_far, whole_so_far, room_so_far}
+use Rattle.pbd_step.proofs.bonds.project_serial.Goals as goal
+
+pub project-requires : goal.project-requires
+project-requires g c =
+    let inv = c.loop-n.invariant in
+    let pairs = c.args.colours.now.pairs in
+    let live = c.args.colours.now.live in
+    let whole : length c.loop-n.store.particles ≡ length c.args.store.now.particles = same_length c.loop-n.store.particles c.args.store.now.particles inv.so_far.fixed in
+    let within = c.serial-n-items.ensures.live.within c.loop-n.n-index (omega arith) in
+    let number : ℕ = get_or c.serial-n-items.result.now c.loop-n.n-index 0 in
+    let batch : IsBatch c.loop-n.store.limit (length c.loop-n.store.particles) c.args.bonds (number ∷ []) = rw (inv.limit, whole) (single_is c.args.store.now.limit (length c.args.store.now.particles) c.args.bonds pairs c.requires.bonds number within) in
+    let inside : AreInside c.loop-n.store.limit c.loop-n.store.particles = rw inv.limit inv.so_far.inside in
+    let weights = weigh_same c.args.store.now.particles c.loop-n.store.particles inv.so_far.fixed c.requires.weights in
+    let room = room_so_far inv.so_far (2 ^ 119 + 2 ^ 57) (2 ^ 120) (omega (arith, parts_length pairs live, c.requires.few)) c.requires.room in
+    (omega arith, (c.requires.lanes_low, (c.requires.lanes_high, (batch, (inside, (weights, room))))))
+
+pub loop-n-preserved : goal.loop-n-preserved
+loop-n-preserved g c =
+    let inv = c.loop-n.invariant in
+    let numbers : List ℕ = batch_of c.args.colours.now.pairs c.args.colours.now.live 63 in
+    let same = c.serial-n-items.ensures.value in
+    let within : c.loop-n.n-index < length numbers = rw (sym same) (omega arith) in
+    let parts : drop c.loop-n.n-index numbers ≡ (get_or c.serial-n-items.result.now c.loop-n.n-index 0 ∷ []) ++ drop (c.loop-n.n-index + 1) numbers = rw same (serial_next numbers c.loop-n.n-index within) in
+    record {
+      so_far = more_so_far (get_or c.serial-n-items.result.now c.loop-n.n-index 0 ∷ []) (drop (c.loop-n.n-index + 1) numbers) parts inv.limit inv.so_far (motion_of c.project.new.store c.project.new.totals) _ c.in_default.ensures.outcome c.project.ensures.fixed c.in_default.ensures.inside c.in_default.ensures.room c.project.ensures.handed;
+      limit = c.project.ensures.limit ∙ inv.limit;
+      width = c.project.ensures.width ∙ inv.width;
+    }
+
+pub returns-clause-room : goal.returns-clause-room
+returns-clause-room g c = (whole_so_far c.loop-n.invariant.so_far (drop_of_length-le (batch_of c.args.colours.now.pairs c.args.colours.now.live 63) (rw (sym c.serial-n-items.ensures.value) (omega arith)))).grows

@@ -1,0 +1,14 @@
+use Rattle.std.proofs.Common.{◌≡◌, drop}
+use Rattle.pbd_store.specs.Moving.{motion_of}
+use Rattle.pbd_colour.specs.Pairs.{batch_of}
+use Rattle.pbd_pair.specs.Bonds.{bond_of}
+use Rattle.pbd_step.proofs.InOrder.{SoFar}
+use Rattle.pbd_step.proofs.bonds.project_serial.Given as goal
+
+abbrev pub invariant-loop-n : goal.invariant-loop-n
+invariant-loop-n g l = record {
+  so_far : SoFar l.initial.store.limit (bond_of l.bonds) (batch_of l.colours.pairs l.colours.live 63) (drop l.n-index (batch_of l.colours.pairs l.colours.live 63))
+      (motion_of l.initial.store l.initial.totals) (motion_of l.store l.totals) (g.P.Projector.count l.initial.projector) (g.P.Projector.count l.projector);
+  limit : l.store.limit ≡ l.initial.store.limit;
+  width : g.P.Projector.width l.projector ≡ g.P.Projector.width l.initial.projector;
+}

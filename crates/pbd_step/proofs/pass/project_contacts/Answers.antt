@@ -1,0 +1,50 @@
+use Rattle.std.proofs.Common.{◌≡◌, ◌+◌, ◌-◌, ◌^◌, ℕ, min, length, OnOk, MatchResult, Ok, Err, FitsSigned, to_z, of_z, w64, arith, refl, sym, ap, ◌∙◌, subst}
+use Rattle.std.proofs.lemmas.Int.{to_z-of_z}
+use Rattle.pbd_world.specs.Bonds.{projected, contact_bond}
+use Rattle.pbd_world.specs.Colours.{order}
+use Rattle.pbd_store.specs.Moving.{motion_of}
+use Rattle.pbd_colour.specs.Pairs.{InRange}
+use Rattle.pbd_pair.specs.declared.bonds.Bonds.TheVariants.{Contacts}
+use Rattle.pbd_step.specs.Projecting.{AreBondsOf}
+use Rattle.pbd_step.proofs.Counting.{contacts_count}
+use Rattle.pbd_step.proofs.UnderWay.{contact_bonds, ok_both, still_movable}
+use Rattle.pbd_step.proofs.pass.project_contacts.Goals as goal
+
+pub project_all-requires : goal.project_all-requires
+project_all-requires g c =
+    let limit = c.args.store.now.limit in
+    let n : ℕ = length c.args.store.now.particles in
+    let pairs = c.pairs.result.now in
+    let fit : FitsSigned w64 c.args.thickness = c.ranges.thickness in
+    let same : to_z w64 (of_z w64 c.args.thickness) ≡ c.args.thickness = to_z-of_z w64 c.args.thickness fit in
+    let range : InRange n pairs = subst (λ (k : ℕ). InRange k pairs) c.requires.found c.pairs.ensures.in_range in
+    let these : pairs ≡ c.colouring.result.now.pairs = c.pairs.ensures.value ∙ sym c.colouring.ensures.pairs in
+    let fits = contact_bonds limit c.args.thickness n pairs (Contacts c.pairs.result c.args.thickness) refl (λ k. refl) c.requires.limit c.requires.thickness range in
+    let bonds : AreBondsOf limit n (Contacts c.pairs.result (to_z w64 (of_z w64 c.args.thickness))) c.colouring.result.now.pairs = coe 0 1 (i. AreBondsOf limit n (Contacts c.pairs.result (sym same i)) (these i)) fits in
+    let movable = c.requires.movable in
+    (omega arith, (c.requires.lanes_low, (c.requires.lanes_high, (bonds, (movable.inside, (movable.weights, (omega (arith, ap length these, c.pairs.ensures.few), movable.room)))))))
+
+pub returns-clause-outcome : goal.returns-clause-outcome
+returns-clause-outcome g c =
+    let fit : FitsSigned w64 c.args.thickness = c.ranges.thickness in
+    let same : to_z w64 (of_z w64 c.args.thickness) ≡ c.args.thickness = to_z-of_z w64 c.args.thickness fit in
+    let limit = c.args.store.now.limit in
+    let value = c.pairs.ensures.value in
+    let pairs = c.colouring.ensures.pairs in
+    let live = c.colouring.ensures.live in
+    let start = motion_of c.args.store.now c.args.totals.now in
+    let now = motion_of c.project_all.new.store c.project_all.new.totals in
+    coe 0 1 (i. MatchResult c.project_all.result
+    (λ _. projected limit (contact_bond (same i) (value i)) (order (pairs i) (live i)) start ≡ Ok now)
+    (λ left. projected limit (contact_bond (same i) (value i)) (order (pairs i) (live i)) start ≡ Err left.element))
+    c.project_all.ensures.outcome
+
+pub returns-clause-movable : goal.returns-clause-movable
+returns-clause-movable g c = ok_both c.project_all.result (still_movable (2 ^ 60) c.project_all.ensures.limit c.project_all.ensures.fixed) c.project_all.ensures.inside c.project_all.ensures.room
+
+pub returns-clause-handed : goal.returns-clause-handed
+returns-clause-handed g c =
+    let before = g.P.Projector.count c.args.projector.now in
+    let after = g.P.Projector.count c.project_all.new.projector in
+    let same : length (order c.colouring.result.now.pairs c.colouring.result.now.live) ≡ length c.args.found.now.pairs = (λ i. length (order (c.colouring.ensures.pairs i) (c.colouring.ensures.live i))) ∙ contacts_count c.args.found.now.pairs in
+    subst (λ (k : ℕ). OnOk c.project_all.result (after ≡ min (before + k) (2 ^ 64 - 1))) same c.project_all.ensures.handed

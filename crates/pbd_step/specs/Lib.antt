@@ -1,0 +1,7 @@
+pub mod Solving
+pub mod States
+pub mod Projecting
+pub mod Stepping
+pub mod Predicting
+pub mod Settling
+pub mod Opening

@@ -1,0 +1,28 @@
+-- What a solver opens on.
+use Rattle.std.specs.Prelude.{◌≡◌, ℕ}
+use Rattle.pbd_world.specs.declared.parts.Parts.{Parts}
+use Rattle.pbd_world.specs.Ledger.{sum_of, ledger_of, zero_totals}
+use Rattle.pbd_world.specs.Momentum.{momentum}
+use Rattle.pbd_step.specs.declared.state.Setting.{Setting}
+use Rattle.pbd_step.specs.declared.state.State.{State}
+
+-- a setting has what no step changes of some parts
+pub record AreCopied (parts : Parts) (setting : Setting) : Type 0 where
+  pub tracks : setting.tracks ≡ parts.tracks
+  pub planes : setting.planes ≡ parts.planes
+  pub spheres : setting.spheres ≡ parts.spheres
+  pub gravity : setting.gravity ≡ parts.gravity
+  pub passes : setting.passes ≡ parts.passes
+  pub damping : setting.damping ≡ parts.damping
+  pub thickness : setting.thickness ≡ parts.thickness
+  pub friction : setting.friction ≡ parts.friction
+  pub opening : sum_of setting.opening ≡ momentum parts.particles
+
+-- a state has the particles and links of some parts, at step 0
+pub record IsFirst {l : ℕ} (parts : Parts) (state : State l) : Type 0 where
+  pub particles : state.store.particles ≡ parts.particles
+  pub limit : state.store.limit ≡ parts.limit
+  pub links : state.links.items ≡ parts.links
+  pub totals : ledger_of state.totals ≡ zero_totals
+  pub steps : state.steps ≡ 0
+  pub contacts : state.contacts ≡ 0

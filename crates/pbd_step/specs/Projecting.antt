@@ -1,0 +1,27 @@
+-- Lists of bonds that belong to the pairs of a colouring.
+use Rattle.std.specs.Prelude.{◌≡◌, ℕ, ◌-◌, ◌<◌, ℤ, Bool, List, length}
+use Rattle.std.specs.List.{range_with_len, flat_map}
+use Rattle.pbd_world.specs.declared.parts.Particle.{Particle}
+use Rattle.pbd_world.specs.Ledger.{Ledger, HaveRoom}
+use Rattle.pbd_world.specs.Colours.{pair_at}
+use Rattle.pbd_store.specs.Moving.{AreInside, Weigh}
+use Rattle.pbd_colour.specs.Pairs.{batch_of}
+use Rattle.pbd_pair.specs.declared.bonds.Bonds.{Bonds}
+use Rattle.pbd_pair.specs.Bonds.{bond_of, bond_count, IsBond}
+
+-- bond k joins the particles of pair k, and is one of n particles in the ranges of the limit
+pub record AreBondsOf (limit : ℤ) (n : ℕ) (bonds : Bonds) (pairs : List (ℕ × ℕ)) : Type 0 where
+  pub count : bond_count bonds ≡ length pairs
+  pub first : (k : ℕ) → k < length pairs → (bond_of bonds k).a ≡ (pair_at pairs k).0
+  pub second : (k : ℕ) → k < length pairs → (bond_of bonds k).b ≡ (pair_at pairs k).1
+  pub bond : (k : ℕ) → k < length pairs → IsBond limit n (bond_of bonds k)
+
+-- the live numbers of colour c, then those of the next colour, and so on up to colour 62
+unfoldable pub parallel_from : List (ℕ × ℕ) → List Bool → ℕ → List ℕ
+parallel_from pairs live c = flat_map (batch_of pairs live) (range_with_len c (63 - c))
+
+-- particles within the limit and with weights in their range, and totals that have grown no further than to `bound`
+pub record AreMovable (bound : ℕ) (limit : ℤ) (ps : List Particle) (totals : Ledger) : Type 0 where
+  pub inside : AreInside limit ps
+  pub weights : Weigh ps
+  pub room : HaveRoom bound totals

@@ -1,0 +1,41 @@
+-- What a solver is seen as and keeps, and how many bonds its steps hand to its projector.
+use Rattle.std.specs.Prelude.{◌≡◌, ℕ, zero, suc, ◌+◌, ◌*◌, length, Result, Ok, Err}
+use Rattle.pbd_world.specs.declared.command.Refusal.{Refusal}
+use Rattle.pbd_world.specs.World.{World, IsSound, live_count}
+use Rattle.pbd_world.specs.Step.{step}
+use Rattle.pbd_colour.specs.Pairs.{Coloured}
+use Rattle.pbd_step.specs.declared.state.Setting.{Setting}
+use Rattle.pbd_step.specs.declared.state.State.{State}
+use Rattle.pbd_step.specs.declared.state.Tools.{Tools}
+use Rattle.pbd_step.specs.States.{world_of, HasLinks, HaveSpace}
+
+-- a world, and the projector that its steps go through
+pub record Solved (P : Type 0) : Type 0 where
+  pub world : World
+  pub projector : P
+
+-- the bonds that a step from w to v projects: in each pass, the links that are live before it and the contacts found in it
+abbrev pub bonds_of : World → World → ℕ
+bonds_of w v = w.passes * (live_count w.links + v.contacts)
+
+abbrev pub bonds_from : World → (World → ℕ) → Result World Refusal → ℕ
+bonds_from w rest (Ok v) = bonds_of w v + rest v
+bonds_from w rest (Err refusal) = 0
+
+-- the bonds that n steps project
+unfoldable pub bonds_over : ℕ → World → ℕ
+bonds_over zero w = 0
+bonds_over (suc n) w = bonds_from w (bonds_over n) (step w)
+
+-- two states have room for the same
+pub record AreAlike {l : ℕ} (s t : State l) : Type 0 where
+  pub particles : length s.store.particles ≡ length t.store.particles
+  pub limit : s.store.limit ≡ t.store.limit
+  pub links : length s.links.items ≡ length t.links.items
+
+-- the world is sound, its links are coloured, and the tools and the second state have room for it
+pub record IsKept {l : ℕ} (setting : Setting) (state kept : State l) (colours : Coloured) (tools : Tools) : Type 0 where
+  pub sound : IsSound (world_of setting state)
+  pub links : HasLinks (length state.store.particles) state.links.items colours
+  pub space : HaveSpace (length state.store.particles) (length state.links.items) tools
+  pub alike : AreAlike kept state

@@ -1,0 +1,57 @@
+-- The world that the parts of a solver make up, and what they keep.
+use Rattle.std.specs.Prelude.{◌≡◌, ℕ, ◌≤◌, List, length, IsTrue}
+use Rattle.pbd_world.specs.declared.parts.Link.{Link}
+use Rattle.pbd_world.specs.Ledger.{sum_of, ledger_of, HaveRoom}
+use Rattle.pbd_world.specs.Contacts.{link_pairs, live_flags}
+use Rattle.pbd_world.specs.Particles.{Motion}
+use Rattle.pbd_world.specs.World.{World, parts_of}
+use Rattle.pbd_world.specs.Valid.{is_well_formed}
+use Rattle.pbd_colour.specs.Pairs.{Coloured}
+use Rattle.pbd_store.specs.Moving.{motion_of}
+use Rattle.pbd_step.specs.declared.state.Setting.{Setting}
+use Rattle.pbd_step.specs.declared.state.State.{State}
+use Rattle.pbd_step.specs.declared.state.Tools.{Tools}
+
+-- the world of a setting and a state
+abbrev pub world_of : {l : ℕ} → Setting → State l → World
+world_of setting state = record {
+  limit = state.store.limit;
+  steps = state.steps;
+  particles = state.store.particles;
+  links = state.links.items;
+  tracks = setting.tracks;
+  planes = setting.planes;
+  spheres = setting.spheres;
+  gravity = setting.gravity;
+  passes = setting.passes;
+  damping = setting.damping;
+  thickness = setting.thickness;
+  friction = setting.friction;
+  contacts = state.contacts;
+  totals = ledger_of state.totals;
+  opening = sum_of setting.opening;
+}
+
+-- the particles and totals of a state
+abbrev pub now_of : {l : ℕ} → State l → Motion
+now_of state = motion_of state.store state.totals
+
+-- a colouring has the links, with those live that are
+pub record HasLinks (n : ℕ) (links : List Link) (colours : Coloured) : Type 0 where
+  pub particles : colours.particles ≡ n
+  pub pairs : colours.pairs ≡ link_pairs links
+  pub live : colours.live ≡ live_flags links
+  pub room : length links ≤ colours.room
+
+-- the tools have room for what a step of n particles and m links leaves in them
+pub record HaveSpace (n m : ℕ) (tools : Tools) : Type 0 where
+  pub found : tools.found.particles ≡ n
+  pub touched : length tools.touched ≡ n
+  pub pairs : m ≤ tools.pairs.room
+  pub numbers : m ≤ tools.numbers.room
+
+-- a world in the middle of a step: places are inside, weights and all that no step changes are in their ranges, and totals have
+-- grown no further than to `bound`
+pub record IsUnderWay (bound : ℕ) (w : World) : Type 0 where
+  pub well_formed : IsTrue (is_well_formed (parts_of w))
+  pub room : HaveRoom bound w.totals

@@ -1,0 +1,108 @@
+// Taking over another state, with the colours of its links.
+ghost use Rattle.std.specs.Prelude.{◌≡◌, ◌<◌, ◌≤◌, length, IfOk};
+ghost use Rattle.pbd_world.specs.Contacts.{link_pairs, live_flags};
+ghost use Rattle.pbd_colour.specs.Pairs.{InRange};
+ghost use Rattle.pbd_step.specs.declared.state.Setting.{Setting};
+ghost use Rattle.pbd_step.specs.States.{world_of, HasLinks, HaveSpace};
+ghost use Rattle.pbd_step.specs.Solving.{AreAlike};
+
+use crate::state::{State, Tools};
+use pbd_colour::Colouring;
+use pbd_tear::{gone as gone_links, gone_links_are_dead};
+use pbd_world::{Link, RoomList};
+use std::alloc::{AllocError, Global};
+
+/// Makes a state that of another one, which has as many particles and links and the same limit.
+pub(crate) fn take_over<const L: usize>(state: &mut State<L>, other: &State<L>)
+    requires lanes { L ≤ 16 }
+    requires alike { AreAlike state.old other.now }
+    ensures world { (setting : Setting) → world_of setting state.new ≡ world_of setting other.now }
+    ensures particles { state.new.store.particles ≡ other.now.store.particles }
+    ensures limit { state.new.store.limit ≡ other.now.store.limit }
+    ensures links { state.new.links.items ≡ other.now.links.items }
+{
+    state.store.copy_from(&other.store);
+    state.links.copy_from_slice(&other.links);
+    state.totals = other.totals;
+    state.steps = other.steps;
+    state.contacts = other.contacts;
+}
+
+/// Lists the pairs of particles that links join.
+fn list_pairs(links: &[Link], pairs: &mut RoomList<(u32, u32)>)
+    requires { length links.now ≤ pairs.old.room }
+    ensures { pairs.new ≡ record pairs.old { entries = link_pairs links.now } }
+{
+    pairs.clear();
+    for link in links {
+        let _ = pairs.push((link.a, link.b));
+    }
+}
+
+/// Colours the links anew, those that are live.
+fn colour_again(
+    links: &[Link],
+    colours: &mut Colouring,
+    pairs: &mut RoomList<(u32, u32)>,
+    gone: &mut RoomList<u32>,
+)
+    requires few { length links.now ≤ 524288 }
+    requires in_range { InRange colours.old.particles (link_pairs links.now) }
+    requires room { length links.now ≤ colours.old.room }
+    requires pairs_room { length links.now ≤ pairs.old.room }
+    requires gone_room { length links.now ≤ gone.old.room }
+    ensures links { HasLinks colours.old.particles links.now colours.new }
+    ensures room { colours.new.room ≡ colours.old.room }
+    ensures pairs_room { pairs.new.room ≡ pairs.old.room }
+    ensures gone_room { gone.new.room ≡ gone.old.room }
+{
+    gone_links_are_dead();
+    list_pairs(links, pairs);
+    gone_links(links, gone);
+    colours.refill(pairs.as_slice());
+    colours.drop_pairs(gone.as_slice());
+}
+
+/// Makes a state that of another one, with the colours of its links.
+pub(crate) fn restore<const L: usize>(
+    state: &mut State<L>,
+    other: &State<L>,
+    colours: &mut Colouring,
+    tools: &mut Tools,
+)
+    requires lanes { L ≤ 16 }
+    requires alike { AreAlike state.old other.now }
+    requires few { length other.now.links.items ≤ 524288 }
+    requires in_range { InRange (length other.now.store.particles) (link_pairs other.now.links.items) }
+    requires particles { colours.old.particles ≡ length other.now.store.particles }
+    requires room { length other.now.links.items ≤ colours.old.room }
+    requires space { HaveSpace (length other.now.store.particles) (length other.now.links.items) tools.old }
+    ensures world { (setting : Setting) → world_of setting state.new ≡ world_of setting other.now }
+    ensures particles { state.new.store.particles ≡ other.now.store.particles }
+    ensures limit { state.new.store.limit ≡ other.now.store.limit }
+    ensures same_links { state.new.links.items ≡ other.now.links.items }
+    ensures links { HasLinks (length other.now.store.particles) other.now.links.items colours.new }
+    ensures space { HaveSpace (length other.now.store.particles) (length other.now.links.items) tools.new }
+{
+    take_over(state, other);
+    colour_again(&state.links, colours, &mut tools.pairs, &mut tools.numbers);
+}
+
+/// The colours of links that are all between so many particles.
+pub(crate) fn open_colours(
+    alloc: Global,
+    particles: u32,
+    links: &[Link],
+    tools: &mut Tools,
+) -> Result<Colouring, AllocError>
+    requires particles { particles ≤ 65536 }
+    requires few { length links.now ≤ 524288 }
+    requires in_range { InRange particles (link_pairs links.now) }
+    requires space { HaveSpace particles (length links.now) tools.old }
+    ensures links { IfOk result (HasLinks particles links.now) }
+    ensures space { HaveSpace particles (length links.now) tools.new }
+{
+    let mut colours = Colouring::open(alloc, particles, links.len() as u32)?;
+    colour_again(links, &mut colours, &mut tools.pairs, &mut tools.numbers);
+    Ok(colours)
+}

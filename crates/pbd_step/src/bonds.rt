@@ -1,0 +1,133 @@
+// All live bonds of a list, projected colour by colour.
+ghost use Rattle.std.specs.Prelude.{◌≡◌, ◌+◌, ◌-◌, ◌*◌, ◌<◌, ◌≤◌, ◌^◌, ℕ, min, length, OnOk, MatchResult, Result, Ok, Err};
+ghost use Rattle.pbd_world.specs.Bonds.{projected};
+ghost use Rattle.pbd_world.specs.Colours.{order};
+ghost use Rattle.pbd_world.specs.Ledger.{ledger_of, HaveRoom};
+ghost use Rattle.pbd_store.specs.Moving.{motion_of, fixed_parts, AreInside, Weigh};
+ghost use Rattle.pbd_colour.specs.Pairs.{batch_of};
+ghost use Rattle.pbd_pair.specs.Bonds.{bond_of};
+ghost use Rattle.pbd_step.specs.Projecting.{AreBondsOf, parallel_from};
+
+use pbd_colour::Colouring;
+use pbd_pair::{Bonds, Projector};
+use pbd_store::{Steps, Store};
+use pbd_world::{Left, Totals};
+use std::sync::ledger::Ledger;
+
+/// A projector's count of what it was handed fits 64 bits.
+pub(crate) fn counts<const L: usize, P: Projector<L>>(projector: &P)
+    ensures { P.count projector.now ≤ 2 ^ 64 - 1 }
+{
+    let _count = projector.handed();
+}
+
+// The live pairs of the colours below 63, each colour as one batch.
+fn project_colours<const L: usize, P: Projector<L>, G: Ledger>(
+    projector: &mut P,
+    store: &mut Store<L>,
+    bonds: Bonds<'_>,
+    colours: &Colouring,
+    totals: &mut Totals,
+    steps: &mut Steps<G>,
+) -> Result<(), Left>
+    requires lanes_low { 0 < L }
+    requires lanes_high { L ≤ 16 }
+    requires bonds { AreBondsOf store.old.limit (length store.old.particles) bonds colours.now.pairs }
+    requires inside { AreInside store.old.limit store.old.particles }
+    requires weights { Weigh store.old.particles }
+    requires few { length colours.now.pairs ≤ 524288 }
+    requires room { HaveRoom (2 ^ 119) (ledger_of totals.old) }
+    requires counted { P.count projector.old ≤ 2 ^ 64 - 1 }
+    ensures outcome { MatchResult result
+        (λ _. projected store.old.limit (bond_of bonds.entry) (parallel_from colours.now.pairs colours.now.live 0) (motion_of store.old totals.old) ≡ Ok (motion_of store.new totals.new))
+        (λ left. projected store.old.limit (bond_of bonds.entry) (parallel_from colours.now.pairs colours.now.live 0) (motion_of store.old totals.old) ≡ Err left.element) }
+    ensures limit { store.new.limit ≡ store.old.limit }
+    ensures fixed { fixed_parts store.new.particles ≡ fixed_parts store.old.particles }
+    ensures inside { OnOk result (AreInside store.old.limit store.new.particles) }
+    ensures room { OnOk result ((n : ℕ) → HaveRoom n (ledger_of totals.old) → HaveRoom (n + length (parallel_from colours.now.pairs colours.now.live 0) * 2 ^ 32) (ledger_of totals.new)) }
+    ensures handed { OnOk result (P.count projector.new ≡ min (P.count projector.old + length (parallel_from colours.now.pairs colours.now.live 0)) (2 ^ 64 - 1)) }
+    ensures not_fallen { P.count projector.old ≤ P.count projector.new }
+    ensures width { P.width projector.new ≡ P.width projector.old }
+{
+    for c in 0..63 {
+        if let Err(left) = projector.project(store, bonds, colours.batch(c), totals, steps) {
+            return Err(left);
+        }
+    }
+    Ok(())
+}
+
+// The live pairs of colour 63, one by one.
+fn project_serial<const L: usize, P: Projector<L>, G: Ledger>(
+    projector: &mut P,
+    store: &mut Store<L>,
+    bonds: Bonds<'_>,
+    colours: &Colouring,
+    totals: &mut Totals,
+    steps: &mut Steps<G>,
+) -> Result<(), Left>
+    requires lanes_low { 0 < L }
+    requires lanes_high { L ≤ 16 }
+    requires bonds { AreBondsOf store.old.limit (length store.old.particles) bonds colours.now.pairs }
+    requires inside { AreInside store.old.limit store.old.particles }
+    requires weights { Weigh store.old.particles }
+    requires few { length colours.now.pairs ≤ 524288 }
+    requires room { HaveRoom (2 ^ 119 + 2 ^ 57) (ledger_of totals.old) }
+    requires counted { P.count projector.old ≤ 2 ^ 64 - 1 }
+    ensures outcome { MatchResult result
+        (λ _. projected store.old.limit (bond_of bonds.entry) (batch_of colours.now.pairs colours.now.live 63) (motion_of store.old totals.old) ≡ Ok (motion_of store.new totals.new))
+        (λ left. projected store.old.limit (bond_of bonds.entry) (batch_of colours.now.pairs colours.now.live 63) (motion_of store.old totals.old) ≡ Err left.element) }
+    ensures limit { store.new.limit ≡ store.old.limit }
+    ensures fixed { fixed_parts store.new.particles ≡ fixed_parts store.old.particles }
+    ensures inside { OnOk result (AreInside store.old.limit store.new.particles) }
+    ensures room { OnOk result ((n : ℕ) → HaveRoom n (ledger_of totals.old) → HaveRoom (n + length (batch_of colours.now.pairs colours.now.live 63) * 2 ^ 32) (ledger_of totals.new)) }
+    ensures handed { OnOk result (P.count projector.new ≡ min (P.count projector.old + length (batch_of colours.now.pairs colours.now.live 63)) (2 ^ 64 - 1)) }
+    ensures not_fallen { P.count projector.old ≤ P.count projector.new }
+    ensures width { P.width projector.new ≡ P.width projector.old }
+{
+    for n in colours.serial() {
+        if let Err(left) = projector.project(store, bonds, &[*n], totals, steps) {
+            return Err(left);
+        }
+    }
+    Ok(())
+}
+
+/// Projects the live pairs of a colouring, each as the bond of its number: colour by colour, each colour as one
+/// batch, and then the serial pairs one by one. `Left` has the number of the first that would leave the limit;
+/// places and totals are then any.
+pub(crate) fn project_all<const L: usize, P: Projector<L>, G: Ledger>(
+    projector: &mut P,
+    store: &mut Store<L>,
+    bonds: Bonds<'_>,
+    colours: &Colouring,
+    totals: &mut Totals,
+    steps: &mut Steps<G>,
+) -> Result<(), Left>
+    requires lanes_low { 0 < L }
+    requires lanes_high { L ≤ 16 }
+    requires bonds { AreBondsOf store.old.limit (length store.old.particles) bonds colours.now.pairs }
+    requires inside { AreInside store.old.limit store.old.particles }
+    requires weights { Weigh store.old.particles }
+    requires few { length colours.now.pairs ≤ 524288 }
+    requires room { HaveRoom (2 ^ 119) (ledger_of totals.old) }
+    ensures outcome { MatchResult result
+        (λ _. projected store.old.limit (bond_of bonds.entry) (order colours.now.pairs colours.now.live) (motion_of store.old totals.old) ≡ Ok (motion_of store.new totals.new))
+        (λ left. projected store.old.limit (bond_of bonds.entry) (order colours.now.pairs colours.now.live) (motion_of store.old totals.old) ≡ Err left.element) }
+    ensures limit { store.new.limit ≡ store.old.limit }
+    ensures fixed { fixed_parts store.new.particles ≡ fixed_parts store.old.particles }
+    ensures inside { OnOk result (AreInside store.old.limit store.new.particles) }
+    ensures room { OnOk result ((n : ℕ) → HaveRoom n (ledger_of totals.old) → HaveRoom (n + 2 ^ 60) (ledger_of totals.new)) }
+    ensures handed { OnOk result (P.count projector.new ≡ min (P.count projector.old + length (order colours.now.pairs colours.now.live)) (2 ^ 64 - 1)) }
+    ensures not_fallen { P.count projector.old ≤ P.count projector.new }
+    ensures width { P.width projector.new ≡ P.width projector.old }
+{
+    counts(projector);
+    if let Err(left) = project_colours(projector, store, bonds, colours, totals, steps) {
+        return Err(left);
+    }
+    if let Err(left) = project_serial(projector, store, bonds, colours, totals, steps) {
+        return Err(left);
+    }
+    Ok(())
+}

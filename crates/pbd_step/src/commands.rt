@@ -1,0 +1,223 @@
+// The commands that are no steps. After a refusal the state is as it was.
+ghost use Rattle.std.specs.Prelude.{◌≡◌, ◌+◌, ◌<◌, ◌≤◌, ◌^◌, ℕ, neg_ℤ, ◌-ℤ◌, unsigned_abs, length, IfSome, IfNone, OnErr, MatchResult, Result, Ok, Err, false};
+ghost use Rattle.pbd_world.specs.Meaning.{pin as pinned_world, unpin as unpinned_world, place_held as placed_world, cut as cut_world, set_gravity as pulled_world};
+ghost use Rattle.pbd_num.specs.Vectors.{Within, opposite};
+ghost use Rattle.pbd_world.specs.Particles.{velocity};
+ghost use Rattle.pbd_world.specs.World.{IsSound, is_tracked};
+ghost use Rattle.pbd_step.specs.States.{world_of, HasLinks};
+
+use crate::state::{Setting, State};
+use pbd_colour::Colouring;
+use pbd_num::{Vec3, within};
+use pbd_store::{Steps, Store};
+use pbd_track::is_tracked;
+use pbd_world::{Class, Link, Particle, Refusal, totals_with_room_take_moves};
+use std::sync::ledger::Ledger;
+
+/// The number of particle i, if there is one.
+fn number_of<const L: usize>(store: &Store<L>, i: u64) -> Option<u32>
+    requires lanes { L ≤ 16 }
+    ensures there { IfSome result (λ n. (n ≡ i) × (i < length store.now.particles)) }
+    ensures missing { IfNone result (length store.now.particles ≤ i) }
+{
+    if i < u64::from(store.len()) {
+        Some(i as u32)
+    } else {
+        None
+    }
+}
+
+/// Whether a track leads particle n.
+fn is_led(setting: &Setting, n: u32) -> bool
+    ensures { result ≡ is_tracked setting.now.tracks n }
+{
+    is_tracked(setting.tracks.as_slice(), n)
+}
+
+/// A particle at rest.
+fn resting(at: Vec3, weight: u16, held: bool) -> Particle
+    ensures { result ≡ record { at = at; before = at; weight = weight; held = held } }
+{
+    Particle {
+        at,
+        before: at,
+        weight,
+        held,
+    }
+}
+
+fn lost_axis(at: i64, before: i64) -> i64
+    requires at { unsigned_abs at ≤ 2 ^ 29 }
+    requires before { unsigned_abs before ≤ 2 ^ 29 }
+    ensures value { result ≡ neg_ℤ (at -ℤ before) }
+    ensures size { unsigned_abs result ≤ 2 ^ 30 }
+{
+    -(at - before)
+}
+
+/// What momentum gains where a particle is held: its velocity, turned round.
+fn lost(p: Particle) -> Vec3
+    requires at { Within (2 ^ 29) p.at }
+    requires before { Within (2 ^ 29) p.before }
+    ensures value { result ≡ opposite (velocity p) }
+    ensures size { Within (2 ^ 30) result }
+{
+    Vec3 {
+        x: lost_axis(p.at.x, p.before.x),
+        y: lost_axis(p.at.y, p.before.y),
+        z: lost_axis(p.at.z, p.before.z),
+    }
+}
+
+/// Holds particle i where it is, and books its velocity to pin.
+pub(crate) fn pin<const L: usize, G: Ledger>(
+    setting: &Setting,
+    state: &mut State<L>,
+    i: u64,
+    steps: &mut Steps<G>,
+) -> Result<(), Refusal>
+    requires lanes { L ≤ 16 }
+    requires sound { IsSound (world_of setting.now state.old) }
+    ensures outcome { MatchResult result
+        (λ _. pinned_world (world_of setting.now state.old) i ≡ Ok (world_of setting.now state.new))
+        (λ refusal. pinned_world (world_of setting.now state.old) i ≡ Err refusal) }
+    ensures kept { OnErr result (state.new ≡ state.old) }
+    ensures same { state.new ≡ record state.old { store = state.new.store; totals = state.new.totals } }
+{
+    let Some(n) = number_of(&state.store, i) else {
+        return Err(Refusal::NoParticle);
+    };
+    let p = state.store.at(n, steps);
+    if p.held {
+        return Err(Refusal::Held);
+    }
+    totals_with_room_take_moves();
+    state.totals.add(Class::Pin, lost(p));
+    state.store.set(n, resting(p.at, p.weight, true), steps);
+    Ok(())
+}
+
+/// Frees particle i, at rest.
+pub(crate) fn unpin<const L: usize, G: Ledger>(
+    setting: &Setting,
+    state: &mut State<L>,
+    i: u64,
+    steps: &mut Steps<G>,
+) -> Result<(), Refusal>
+    requires lanes { L ≤ 16 }
+    ensures outcome { MatchResult result
+        (λ _. unpinned_world (world_of setting.now state.old) i ≡ Ok (world_of setting.now state.new))
+        (λ refusal. unpinned_world (world_of setting.now state.old) i ≡ Err refusal) }
+    ensures kept { OnErr result (state.new ≡ state.old) }
+    ensures same { state.new ≡ record state.old { store = state.new.store } }
+{
+    let Some(n) = number_of(&state.store, i) else {
+        return Err(Refusal::NoParticle);
+    };
+    let p = state.store.at(n, steps);
+    if !p.held {
+        return Err(Refusal::NotHeld);
+    }
+    if is_led(setting, n) {
+        return Err(Refusal::Tracked);
+    }
+    state.store.set(n, resting(p.at, p.weight, false), steps);
+    Ok(())
+}
+
+/// Puts the held particle i at a place.
+pub(crate) fn place_held<const L: usize, G: Ledger>(
+    setting: &Setting,
+    state: &mut State<L>,
+    i: u64,
+    to: Vec3,
+    steps: &mut Steps<G>,
+) -> Result<(), Refusal>
+    requires lanes { L ≤ 16 }
+    ensures outcome { MatchResult result
+        (λ _. placed_world (world_of setting.now state.old) i to ≡ Ok (world_of setting.now state.new))
+        (λ refusal. placed_world (world_of setting.now state.old) i to ≡ Err refusal) }
+    ensures kept { OnErr result (state.new ≡ state.old) }
+    ensures same { state.new ≡ record state.old { store = state.new.store } }
+{
+    let Some(n) = number_of(&state.store, i) else {
+        return Err(Refusal::NoParticle);
+    };
+    let p = state.store.at(n, steps);
+    if !within(to, state.store.limit()) {
+        return Err(Refusal::OutOfRange);
+    }
+    if !p.held {
+        return Err(Refusal::NotHeld);
+    }
+    if is_led(setting, n) {
+        return Err(Refusal::Tracked);
+    }
+    state.store.set(n, resting(to, p.weight, true), steps);
+    Ok(())
+}
+
+/// A link that is live no longer.
+fn dead(link: Link) -> Link
+    ensures { result ≡ record link { live = false } }
+{
+    Link {
+        a: link.a,
+        b: link.b,
+        rest: link.rest,
+        k: link.k,
+        tear: link.tear,
+        kind: link.kind,
+        live: false,
+    }
+}
+
+/// Lets link l go, and mends the colours of the others.
+pub(crate) fn cut<const L: usize>(
+    setting: &Setting,
+    state: &mut State<L>,
+    colours: &mut Colouring,
+    l: u64,
+) -> Result<(), Refusal>
+    requires lanes { L ≤ 16 }
+    requires few { length state.old.links.items ≤ 524288 }
+    requires links { HasLinks (length state.old.store.particles) state.old.links.items colours.old }
+    ensures outcome { MatchResult result
+        (λ _. cut_world (world_of setting.now state.old) l ≡ Ok (world_of setting.now state.new))
+        (λ refusal. cut_world (world_of setting.now state.old) l ≡ Err refusal) }
+    ensures kept { OnErr result (state.new ≡ state.old) }
+    ensures same { state.new ≡ record state.old { links = state.new.links } }
+    ensures links_length { length state.new.links.items ≡ length state.old.links.items }
+    ensures links { HasLinks (length state.old.store.particles) state.new.links.items colours.new }
+{
+    let n = l as usize;
+    if state.links.len() <= n {
+        return Err(Refusal::NoLink);
+    }
+    if !state.links[n].live {
+        return Err(Refusal::LinkGone);
+    }
+    state.links[n] = dead(state.links[n]);
+    colours.drop_pairs(&[n as u32]);
+    Ok(())
+}
+
+/// Sets gravity.
+pub(crate) fn set_gravity<const L: usize>(
+    setting: &mut Setting,
+    state: &State<L>,
+    g: Vec3,
+) -> Result<(), Refusal>
+    requires lanes { L ≤ 16 }
+    ensures outcome { MatchResult result
+        (λ _. pulled_world (world_of setting.old state.now) g ≡ Ok (world_of setting.new state.now))
+        (λ refusal. pulled_world (world_of setting.old state.now) g ≡ Err refusal) }
+    ensures kept { OnErr result (setting.new ≡ setting.old) }
+    ensures same { setting.new ≡ record setting.old { gravity = setting.new.gravity } }
+{
+    if !within(g, state.store.limit()) {
+        return Err(Refusal::OutOfRange);
+    }
+    setting.gravity = g;
+    Ok(())
+}

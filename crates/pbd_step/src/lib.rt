@@ -1,0 +1,15 @@
+//! A world that steps: each command is its meaning, at every lane width and for every projector.
+#![tactic(auto)]
+
+mod again;
+mod bonds;
+mod commands;
+mod open;
+mod pass;
+mod predict;
+mod settle;
+mod solver;
+mod state;
+mod step;
+
+pub use solver::Solver;

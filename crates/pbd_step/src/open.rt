@@ -1,0 +1,104 @@
+// What a solver takes at its opening.
+ghost use Rattle.std.specs.Prelude.{◌≡◌, ◌≤◌, length, IfOk, IsTrue};
+ghost use Rattle.pbd_world.specs.Valid.{is_valid};
+ghost use Rattle.pbd_step.specs.Opening.{AreCopied, IsFirst};
+ghost use Rattle.pbd_step.specs.States.{HaveSpace};
+
+use crate::state::{Setting, State, Tools};
+use pbd_ledger::momentum_of;
+use pbd_self::SelfContacts;
+use pbd_shape::Touched;
+use pbd_store::Store;
+use pbd_world::{List, Parts, RoomList, Totals, Track};
+use std::alloc::{AllocError, Global};
+
+fn copied<T: Copy + Drop>(alloc: Global, items: &[T]) -> Result<List<T>, AllocError>
+    ensures { IfOk result (λ list. list ≡ items.now) }
+{
+    let mut list = List::new(alloc);
+    for item in items {
+        list.push(*item)?;
+    }
+    Ok(list)
+}
+
+fn copied_track(alloc: Global, track: &Track) -> Result<Track, AllocError>
+    ensures { IfOk result (λ t. t ≡ track.now) }
+{
+    let keys = copied(alloc, track.keys.as_slice())?;
+    Ok(Track {
+        particle: track.particle,
+        keys,
+    })
+}
+
+fn copied_tracks(alloc: Global, tracks: &[Track]) -> Result<List<Track>, AllocError>
+    ensures { IfOk result (λ list. list ≡ tracks.now) }
+{
+    let mut list = List::new(alloc);
+    for track in tracks {
+        let copy = copied_track(alloc, track)?;
+        list.push(copy)?;
+    }
+    Ok(list)
+}
+
+/// What no step changes of some parts.
+pub(crate) fn open_setting(alloc: Global, parts: &Parts) -> Result<Setting, AllocError>
+    requires { length parts.now.particles ≤ 65536 }
+    ensures { IfOk result (λ setting. AreCopied parts.now setting) }
+{
+    let opening = momentum_of(parts.particles.as_slice());
+    let tracks = copied_tracks(alloc, parts.tracks.as_slice())?;
+    let planes = copied(alloc, parts.planes.as_slice())?;
+    let spheres = copied(alloc, parts.spheres.as_slice())?;
+    Ok(Setting {
+        tracks,
+        planes,
+        spheres,
+        gravity: parts.gravity,
+        passes: parts.passes,
+        damping: parts.damping,
+        thickness: parts.thickness,
+        friction: parts.friction,
+        opening,
+    })
+}
+
+/// What steps change of some parts, before the first.
+pub(crate) fn open_state<const L: usize>(
+    alloc: Global,
+    parts: &Parts,
+) -> Result<State<L>, AllocError>
+    requires lanes { L ≤ 16 }
+    requires valid { IsTrue (is_valid parts.now) }
+    ensures { IfOk result (λ state. IsFirst parts.now state) }
+{
+    let store = Store::open(alloc, parts.particles.as_slice(), parts.limit)?;
+    let links = parts.links.as_slice().to_vec(alloc)?;
+    Ok(State {
+        store,
+        links,
+        totals: Totals::zero(),
+        steps: 0,
+        contacts: 0,
+    })
+}
+
+/// Room for what a step works with.
+pub(crate) fn open_tools(alloc: Global, particles: u32, links: u32) -> Result<Tools, AllocError>
+    requires particles { particles ≤ 65536 }
+    requires links { links ≤ 524288 }
+    ensures { IfOk result (HaveSpace particles links) }
+{
+    let found = SelfContacts::open(alloc, particles)?;
+    let touched = Touched::open(alloc, particles)?;
+    let pairs = RoomList::open(alloc, links)?;
+    let numbers = RoomList::open(alloc, links)?;
+    Ok(Tools {
+        found,
+        touched,
+        pairs,
+        numbers,
+    })
+}

@@ -1,0 +1,299 @@
+ghost use Rattle.std.specs.Prelude.{◌≡◌, ◌+◌, ◌-◌, ◌<◌, ◌≤◌, ◌^◌, ℕ, min, length, IfOk, OnOk, OnErr, MatchResult, Result, Ok, Err};
+ghost use Rattle.pbd_num.specs.Vectors.{Within};
+ghost use Rattle.pbd_world.specs.Ledger.{sum_of, ledger_of};
+ghost use Rattle.pbd_world.specs.Meaning.{run_steps, pin as pinned_world, unpin as unpinned_world, place_held as placed_world, cut as cut_world, set_gravity as pulled_world};
+ghost use Rattle.pbd_world.specs.Momentum.{momentum as momentum_of};
+ghost use Rattle.pbd_world.specs.Particles.{particle_at};
+ghost use Rattle.pbd_world.specs.World.{opened, live_count, IsSound, AreOfOneScene};
+ghost use Rattle.pbd_step.specs.Solving.{bonds_over};
+
+use crate::again::{open_colours, restore};
+use crate::commands::{cut, pin, place_held, set_gravity, unpin};
+use crate::open::{open_setting, open_state, open_tools};
+use crate::state::{Setting, State, Tools};
+use crate::step::run_whole;
+use pbd_colour::Colouring;
+use pbd_ledger::momentum;
+use pbd_num::Vec3;
+use pbd_pair::Projector;
+use pbd_store::Steps;
+use pbd_world::{Particle, Refusal, Scene, Totals};
+use std::alloc::{AllocError, Global};
+use std::marker::Model;
+use std::sync::ledger::Ledger;
+
+/// A world that steps and takes commands. Only opening takes memory.
+///
+/// Clauses see it as a sound world and the projector through which its steps project. Its columns of
+/// particles, colours, contacts and the second state that a refused command goes back to are its inside.
+#[derive(Drop)]
+pub struct Solver<const L: usize, P: Projector<L> + Drop> {
+    setting: Setting,
+    state: State<L>,
+    kept: State<L>,
+    colours: Colouring,
+    tools: Tools,
+    projector: P,
+}
+
+impl<const L: usize, P: Projector<L> + Drop> Model for Solver<L, P> {
+    ghost use Rattle.pbd_step.specs.Solving.{Solved};
+    ghost use Rattle.pbd_step.specs.States.{world_of};
+
+    ghost Value = { Solved P };
+
+    ghost view = { λ s. record { world = world_of s.setting s.state; projector = s.projector } };
+
+    ghost use Rattle.pbd_step.specs.Solving.{IsKept};
+
+    ghost invariant = { λ s. IsKept s.setting s.state s.kept s.colours s.tools };
+}
+
+impl<const L: usize, P: Projector<L> + Drop> Solver<L, P> {
+    /// The world of a scene before its first command. The only call that takes memory.
+    pub fn open(alloc: Global, scene: &Scene, projector: P) -> Result<Solver<L, P>, AllocError>
+        requires lanes_low { 0 < L }
+        requires lanes_high { L ≤ 16 }
+        ensures world { IfOk result (λ s. s.world ≡ opened scene.now) }
+        ensures projector { IfOk result (λ s. s.projector ≡ projector) }
+    {
+        let parts = scene.parts();
+        let particles = parts.particles.len() as u32;
+        let setting = open_setting(alloc, parts)?;
+        let state = open_state(alloc, parts)?;
+        let kept = open_state(alloc, parts)?;
+        let mut tools = open_tools(alloc, particles, parts.links.len() as u32)?;
+        let colours = open_colours(alloc, particles, parts.links.as_slice(), &mut tools)?;
+        Ok(Solver {
+            setting,
+            state,
+            kept,
+            colours,
+            tools,
+            projector,
+        })
+    }
+
+    /// Takes n steps, 1 to 100,000. A refusal keeps the world: `BadCount` where there are none or more, `StepLimit`
+    /// where the world would come past step 1,000,000, `LeavesRange` or `TooManyContacts` where a step meets it.
+    pub fn steps<G: Ledger>(&mut self, n: u64, steps: &mut Steps<G>) -> Result<(), Refusal>
+        requires lanes_low { 0 < L }
+        requires lanes_high { L ≤ 16 }
+        ensures outcome { MatchResult result
+            (λ _. run_steps self.old.world n ≡ Ok self.new.world)
+            (λ refusal. run_steps self.old.world n ≡ Err refusal) }
+        ensures kept { OnErr result (self.new.world ≡ self.old.world) }
+        // Each bond of each pass of each step was handed to the projector.
+        ensures handed { OnOk result (P.count self.new.projector ≡ min (P.count self.old.projector + bonds_over n self.old.world) (2 ^ 64 - 1)) }
+        ensures not_fallen { P.count self.old.projector ≤ P.count self.new.projector }
+        ensures width { P.width self.new.projector ≡ P.width self.old.projector }
+        ensures sound { IsSound self.new.world }
+        ensures one_scene { AreOfOneScene self.old.world self.new.world }
+    {
+        let count = self.state.steps;
+        if n < 1 || 100_000 < n {
+            return Err(Refusal::BadCount);
+        }
+        if 1_000_000 < count + n {
+            return Err(Refusal::StepLimit);
+        }
+        run_whole(
+            &self.setting,
+            &mut self.state,
+            &mut self.kept,
+            &mut self.colours,
+            &mut self.tools,
+            &mut self.projector,
+            n,
+            steps,
+        )
+    }
+
+    /// Holds particle i where it is, and books its velocity to pin. `NoParticle` where there is none, `Held` where it is
+    /// held.
+    pub fn pin<G: Ledger>(&mut self, i: u64, steps: &mut Steps<G>) -> Result<(), Refusal>
+        requires lanes_low { 0 < L }
+        requires lanes_high { L ≤ 16 }
+        ensures outcome { MatchResult result
+            (λ _. pinned_world self.old.world i ≡ Ok self.new.world)
+            (λ refusal. pinned_world self.old.world i ≡ Err refusal) }
+        ensures kept { OnErr result (self.new.world ≡ self.old.world) }
+        ensures projector { self.new.projector ≡ self.old.projector }
+        ensures sound { IsSound self.new.world }
+        ensures one_scene { AreOfOneScene self.old.world self.new.world }
+    {
+        pin(&self.setting, &mut self.state, i, steps)
+    }
+
+    /// Frees particle i, at rest. `NoParticle` where there is none, `NotHeld` where it is free, `Tracked` where a track
+    /// holds it.
+    pub fn unpin<G: Ledger>(&mut self, i: u64, steps: &mut Steps<G>) -> Result<(), Refusal>
+        requires lanes_low { 0 < L }
+        requires lanes_high { L ≤ 16 }
+        ensures outcome { MatchResult result
+            (λ _. unpinned_world self.old.world i ≡ Ok self.new.world)
+            (λ refusal. unpinned_world self.old.world i ≡ Err refusal) }
+        ensures kept { OnErr result (self.new.world ≡ self.old.world) }
+        ensures projector { self.new.projector ≡ self.old.projector }
+        ensures sound { IsSound self.new.world }
+        ensures one_scene { AreOfOneScene self.old.world self.new.world }
+    {
+        unpin(&self.setting, &mut self.state, i, steps)
+    }
+
+    /// Puts the held particle i at a place. `NoParticle` where there is none, `OutOfRange` where the place is outside
+    /// the limit, `NotHeld` where it is free, `Tracked` where a track leads it.
+    pub fn place_held<G: Ledger>(
+        &mut self,
+        i: u64,
+        to: Vec3,
+        steps: &mut Steps<G>,
+    ) -> Result<(), Refusal>
+        requires lanes_low { 0 < L }
+        requires lanes_high { L ≤ 16 }
+        ensures outcome { MatchResult result
+            (λ _. placed_world self.old.world i to ≡ Ok self.new.world)
+            (λ refusal. placed_world self.old.world i to ≡ Err refusal) }
+        ensures kept { OnErr result (self.new.world ≡ self.old.world) }
+        ensures projector { self.new.projector ≡ self.old.projector }
+        ensures sound { IsSound self.new.world }
+        ensures one_scene { AreOfOneScene self.old.world self.new.world }
+    {
+        place_held(&self.setting, &mut self.state, i, to, steps)
+    }
+
+    /// Lets link l go, and mends the colours of the others. `NoLink` where there is none, `LinkGone` where it is live no
+    /// longer.
+    pub fn cut(&mut self, l: u64) -> Result<(), Refusal>
+        requires lanes_low { 0 < L }
+        requires lanes_high { L ≤ 16 }
+        ensures outcome { MatchResult result
+            (λ _. cut_world self.old.world l ≡ Ok self.new.world)
+            (λ refusal. cut_world self.old.world l ≡ Err refusal) }
+        ensures kept { OnErr result (self.new.world ≡ self.old.world) }
+        ensures projector { self.new.projector ≡ self.old.projector }
+        ensures sound { IsSound self.new.world }
+        ensures one_scene { AreOfOneScene self.old.world self.new.world }
+    {
+        cut(&self.setting, &mut self.state, &mut self.colours, l)
+    }
+
+    /// Sets gravity, in units per step squared. `OutOfRange` where it is outside the limit.
+    pub fn set_gravity(&mut self, g: Vec3) -> Result<(), Refusal>
+        requires lanes_low { 0 < L }
+        requires lanes_high { L ≤ 16 }
+        ensures outcome { MatchResult result
+            (λ _. pulled_world self.old.world g ≡ Ok self.new.world)
+            (λ refusal. pulled_world self.old.world g ≡ Err refusal) }
+        ensures kept { OnErr result (self.new.world ≡ self.old.world) }
+        ensures projector { self.new.projector ≡ self.old.projector }
+        ensures sound { IsSound self.new.world }
+        ensures one_scene { AreOfOneScene self.old.world self.new.world }
+    {
+        set_gravity(&mut self.setting, &self.state, g)
+    }
+
+    /// Takes over the world of another solver of one scene.
+    pub fn copy_from(&mut self, other: &Solver<L, P>)
+        requires lanes_low { 0 < L }
+        requires lanes_high { L ≤ 16 }
+        requires one_scene { AreOfOneScene self.old.world other.now.world }
+        ensures world { self.new.world ≡ other.now.world }
+        ensures projector { self.new.projector ≡ self.old.projector }
+    {
+        self.setting.gravity = other.setting.gravity;
+        restore(
+            &mut self.state,
+            &other.state,
+            &mut self.colours,
+            &mut self.tools,
+        );
+    }
+
+    // ---- what is there
+
+    /// The projector through which all bonds go.
+    pub fn projector(&self) -> &P
+        requires lanes_high { L ≤ 16 }
+        ensures { result.now ≡ self.now.projector }
+    {
+        &self.projector
+    }
+
+    /// The greatest size of a coordinate: 2^28 or 2^29.
+    pub fn limit(&self) -> i64
+        requires lanes_high { L ≤ 16 }
+        ensures value { result ≡ self.now.world.limit }
+        ensures sound { IsSound self.now.world }
+    {
+        self.state.store.limit()
+    }
+
+    /// Particle i.
+    pub fn particle<G: Ledger>(&self, i: u32, steps: &mut Steps<G>) -> Particle
+        requires lanes_high { L ≤ 16 }
+        requires within { i < length self.now.world.particles }
+        ensures value { result ≡ particle_at self.now.world.particles i }
+        ensures at { Within (2 ^ 29) result.at }
+        ensures before { Within (2 ^ 29) result.before }
+    {
+        self.state.store.at(i, steps)
+    }
+
+    /// How many particles there are, at most 65,536.
+    pub fn particles(&self) -> u32
+        requires lanes_high { L ≤ 16 }
+        ensures value { result ≡ length self.now.world.particles }
+        ensures size { result ≤ 65536 }
+    {
+        self.state.store.len()
+    }
+
+    /// How many links are live.
+    pub fn live(&self) -> u32
+        requires lanes_high { L ≤ 16 }
+        ensures { result ≡ live_count self.now.world.links }
+    {
+        self.colours.live_count()
+    }
+
+    /// How many contacts the last step found, at most 262,144.
+    pub fn contacts(&self) -> u32
+        requires lanes_high { L ≤ 16 }
+        ensures value { result ≡ self.now.world.contacts }
+    {
+        self.state.contacts
+    }
+
+    /// How many steps were taken, at most 1,000,000.
+    pub fn step_count(&self) -> u64
+        requires lanes_high { L ≤ 16 }
+        ensures value { result ≡ self.now.world.steps }
+    {
+        self.state.steps
+    }
+
+    /// The sums of all moves since opening, by what made them.
+    pub fn totals(&self) -> &Totals
+        requires lanes_high { L ≤ 16 }
+        ensures { ledger_of result.now ≡ self.now.world.totals }
+    {
+        &self.state.totals
+    }
+
+    /// The momentum at opening.
+    pub fn opening(&self) -> &[i128; 3]
+        requires lanes_high { L ≤ 16 }
+        ensures { sum_of result.now ≡ self.now.world.opening }
+    {
+        &self.setting.opening
+    }
+
+    /// The sum of the velocities of the particles that are not held.
+    pub fn momentum<G: Ledger>(&self, steps: &mut Steps<G>) -> [i128; 3]
+        requires lanes_high { L ≤ 16 }
+        ensures { sum_of result ≡ momentum_of self.now.world.particles }
+    {
+        momentum(&self.state.store, steps)
+    }
+}

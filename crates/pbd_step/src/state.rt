@@ -1,0 +1,40 @@
+// What a solver is made of.
+use pbd_colour::Colouring;
+use pbd_num::Vec3;
+use pbd_self::SelfContacts;
+use pbd_shape::Touched;
+use pbd_store::Store;
+use pbd_world::{Link, List, Plane, RoomList, Sphere, Totals, Track};
+
+/// What no step changes: the scene's shapes and numbers, gravity, and the momentum at opening.
+#[derive(Drop)]
+pub struct Setting {
+    pub(crate) tracks: List<Track>,
+    pub(crate) planes: List<Plane>,
+    pub(crate) spheres: List<Sphere>,
+    pub(crate) gravity: Vec3,
+    pub(crate) passes: u32,
+    pub(crate) damping: i64,
+    pub(crate) thickness: i64,
+    pub(crate) friction: i64,
+    pub(crate) opening: [i128; 3],
+}
+
+/// What steps change.
+#[derive(Drop)]
+pub struct State<const L: usize> {
+    pub(crate) store: Store<L>,
+    pub(crate) links: Vec<Link>,
+    pub(crate) totals: Totals,
+    pub(crate) steps: u64,
+    pub(crate) contacts: u32,
+}
+
+/// What a step works with and leaves behind for the next one to overwrite.
+#[derive(Drop)]
+pub struct Tools {
+    pub(crate) found: SelfContacts,
+    pub(crate) touched: Touched,
+    pub(crate) pairs: RoomList<(u32, u32)>,
+    pub(crate) numbers: RoomList<u32>,
+}
