@@ -140,3 +140,16 @@ pub entries_none : (bytes : List ℕ) → entry_at bytes ≡ None → entries_of
 unfolding entries_of
 entries_none [] none = refl
 entries_none (b ∷ bytes) none = rw none refl
+
+-- there are no more entries than bytes
+few_more : (n : ℕ) (o : Option (Entry × List ℕ)) (more : List ℕ → List Entry) → ((bytes : List ℕ) → length (more bytes) ≤ n) → length (then_more o more) ≤ suc n
+few_more n None more few = omega arith
+few_more n (Some x) more few = omega (arith, few x.1)
+
+few_within : (n : ℕ) (bytes : List ℕ) → length (entries_within n bytes) ≤ n
+few_within zero bytes = omega arith
+few_within (suc n) bytes = few_more n (entry_at bytes) (entries_within n) (few_within n)
+
+pub entries_few : (bytes : List ℕ) → length (entries_of bytes) ≤ length bytes
+unfolding entries_of
+entries_few bytes = few_within (length bytes) bytes

@@ -177,6 +177,14 @@ impl<'a> LogView<'a> {
         self.scene
     }
 
+    /// How many bytes are left, which are no fewer than the entries still to come.
+    pub fn bytes_left(&self) -> usize
+        ensures few { length self.now.entries ≤ result }
+        ensures short { result < 2 ^ 63 }
+    {
+        self.rest.len()
+    }
+
     /// The next entry. None comes exactly after the last one.
     pub fn next(&mut self) -> Option<Entry>
         ensures next { IfSome result (λ entry. self.old ≡ record self.new { entries = entry ∷ self.new.entries }) }

@@ -1,0 +1,7 @@
+mod Texts
+mod Leading
+mod Running
+mod Recorded
+mod Comparing
+mod Replays
+mod Summing

@@ -1,0 +1,84 @@
+-- Printed lines, and lines with something before each.
+use Rattle.std.proofs.Common.{◌≡◌, ◌∙◌, sym, ap, refl, ℕ, zero, suc, ◌+◌, ◌<◌, List, [], ◌∷◌, ◌++◌, length, get_or, take, drop, map, arith, append_assoc, append-nil, codes, Option, Result, Ok, Err}
+use Rattle.std.specs.Io.KnownBytes.{Appends}
+use Rattle.std.specs.List.{flat_map}
+use Rattle.std.proofs.lemmas.Grind.{flat_map-append}
+use Rattle.std.proofs.lemmas.List.{take_more}
+use Rattle.pbd_io.specs.Pieces.{AppendsFront, WritesPiece}
+use Rattle.pbd_io.specs.Appending.{appends_then, front_longer, front_then}
+use Rattle.pbd_world.specs.declared.command.Reply.{Reply}
+use Rattle.pbd_world.specs.declared.command.Reply.TheVariants as replies
+use Rattle.pbd_world.specs.Momentum.{momentum}
+use Rattle.pbd_world.specs.World.{World, live_count}
+use Rattle.pbd_world.specs.Text.{header_line, place_line, sum_line, text}
+use Rattle.pbd_session.specs.declared.printing.Named.{Named}
+use Rattle.pbd_session.specs.Naming.{named_of}
+use Rattle.pbd_session.specs.Printing.{NamedSum, each_after, frame_header, header_after, ledger_sums, named_line, place_after, sum_after, text_after}
+
+-- ---- pieces of a line in their order
+
+pub pieces7 : (a b c d e f g : List ℕ) → (((((a ++ b) ++ c) ++ d) ++ e) ++ f) ++ g ≡ a ++ (b ++ (c ++ (d ++ (e ++ (f ++ g)))))
+pieces7 a b c d e f g = simp append_assoc refl
+
+pub pieces10 : (a b c d e f g h i j : List ℕ) → ((((((((a ++ b) ++ c) ++ d) ++ e) ++ f) ++ g) ++ h) ++ i) ++ j ≡ a ++ (b ++ (c ++ (d ++ (e ++ (f ++ (g ++ (h ++ (i ++ j))))))))
+pieces10 a b c d e f g h i j = simp append_assoc refl
+
+pub pieces8 : (a b c d e f g h : List ℕ) → ((((((a ++ b) ++ c) ++ d) ++ e) ++ f) ++ g) ++ h ≡ a ++ (b ++ (c ++ (d ++ (e ++ (f ++ (g ++ h))))))
+pieces8 a b c d e f g h = simp append_assoc refl
+
+pub flat_at : {X : Type 0} (f : X → List ℕ) (xs : List X) (i : ℕ) (d : X) (piece : List ℕ) → i < length xs → piece ≡ f (get_or xs i d) → flat_map f xs ≡ flat_map f (take i xs) ++ (piece ++ flat_map f (drop (i + 1) xs))
+flat_at f [] i d piece lt is = absurd (omega arith)
+flat_at f (x ∷ xs) zero d piece lt is = rw is refl
+flat_at f (x ∷ xs) (suc i) d piece lt is =
+    let e : suc i + 1 ≡ suc (i + 1) = omega arith in
+    rw e (ap (λ t. f x ++ t) (flat_at f xs i d piece (omega (arith, lt)) is) ∙ sym (append_assoc (f x) (flat_map f (take i xs)) (piece ++ flat_map f (drop (i + 1) xs))))
+
+-- the pieces of the items before i are written, and then that of item i
+pub wrote_next : {X : Type 0} (f : X → List ℕ) (xs : List X) (i : ℕ) (d : X) (head piece : List ℕ) (old mid new : Option (List ℕ)) → Appends old mid (head ++ flat_map f (take i xs)) → i < length xs → piece ≡ f (get_or xs i d) → Appends mid new piece → Appends old new (head ++ flat_map f (take (i + 1) xs))
+wrote_next f xs i d head piece old mid new before lt is wrote =
+    let e : flat_map f (take (i + 1) xs) ≡ flat_map f (take i xs) ++ piece = ap (flat_map f) (take_more xs i d lt) ∙ (flat_map-append f (take i xs) (get_or xs i d ∷ []) ∙ ap (λ t. flat_map f (take i xs) ++ t) (append-nil (f (get_or xs i d)) ∙ sym is)) in
+    rw (e, ← append_assoc head (flat_map f (take i xs)) piece) (appends_then _ _ _ _ _ before wrote)
+
+-- and some front of it
+pub failed_next : {X : Type 0} (f : X → List ℕ) (xs : List X) (i : ℕ) (d : X) (head piece : List ℕ) (old mid new : Option (List ℕ)) → Appends old mid (head ++ flat_map f (take i xs)) → i < length xs → piece ≡ f (get_or xs i d) → AppendsFront mid new piece → AppendsFront old new (head ++ flat_map f xs)
+failed_next f xs i d head piece old mid new before lt is failed =
+    rw (flat_at f xs i d piece lt is, ← append_assoc head (flat_map f (take i xs)) (piece ++ flat_map f (drop (i + 1) xs))) (front_then _ _ _ _ _ before (front_longer _ _ piece _ failed))
+
+pub header_is : (w : World) → header_line w ≡ frame_header w.steps (length w.particles) (live_count w.links) w.contacts
+unfolding header_line frame_header
+header_is w = refl
+
+-- lines made of items
+each_of : {X : Type 0} (prefix : List ℕ) (f : X → List ℕ) (xs : List X) → each_after prefix (map {A = X} {B = List ℕ} f xs) ≡ flat_map (λ x. prefix ++ f x) xs
+each_of prefix f [] = refl
+each_of prefix f (x ∷ xs) = ap (λ t. (prefix ++ f x) ++ t) (each_of prefix f xs)
+
+pub frame_after : (prefix : List ℕ) (w : World) → text_after prefix w replies.Frame ≡ header_after prefix w ++ flat_map (place_after prefix) w.particles
+unfolding text_after
+frame_after prefix w = ap (λ t. header_after prefix w ++ t) (each_of prefix place_line w.particles)
+
+pub ledger_after : (prefix : List ℕ) (w : World) → text_after prefix w replies.Ledger ≡ flat_map (sum_after prefix) (ledger_sums w)
+unfolding text_after
+ledger_after prefix w = each_of prefix named_line (ledger_sums w)
+
+pub nothing_before : (w : World) (r : Reply) → text_after [] w r ≡ text w r
+unfolding text_after text
+nothing_before w replies.Done = refl
+nothing_before w replies.Frame = ap (λ t. header_line w ++ t) (each_of [] place_line w.particles)
+nothing_before w replies.Ledger =
+    rw (append-nil (sum_line (codes "shape") w.totals.shape))
+    (sym (pieces8 (sum_line (codes "momentum") (momentum w.particles)) (sum_line (codes "opening") w.opening) (sum_line (codes "gravity") w.totals.gravity) (sum_line (codes "damping") w.totals.damping) (sum_line (codes "link") w.totals.link) (sum_line (codes "contact") w.totals.contact) (sum_line (codes "pin") w.totals.pin) (sum_line (codes "shape") w.totals.shape)))
+nothing_before w (replies.Refused r) = append-nil _
+
+-- ---- what two calls write
+
+pub piece_then : {T E : Type 0} (a b c : Option (List ℕ)) (r : Result T E) (x y : List ℕ) → Appends a b x → WritesPiece b c r y → WritesPiece a c r (x ++ y)
+piece_then a b c (Ok t) x y first second = appends_then _ _ _ _ _ first second
+piece_then a b c (Err e) x y first second = front_then _ _ _ _ _ first second
+
+mapped_of : {X Y : Type 0} (g : X → Y) (f : Y → List ℕ) (xs : List X) → flat_map (λ x. f (g x)) xs ≡ flat_map f (map {A = X} {B = Y} g xs)
+mapped_of g f [] = refl
+mapped_of g f (x ∷ xs) = ap (λ t. f (g x) ++ t) (mapped_of g f xs)
+
+pub sums_after : (prefix : List ℕ) (w : World) (ss : List Named) → map {A = Named} {B = NamedSum} named_of ss ≡ ledger_sums w → flat_map (λ s. sum_after prefix (named_of s)) ss ≡ text_after prefix w replies.Ledger
+sums_after prefix w ss is = mapped_of named_of (sum_after prefix) ss ∙ (ap (flat_map (sum_after prefix)) is ∙ sym (ledger_after prefix w))

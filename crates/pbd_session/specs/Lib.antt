@@ -1,0 +1,5 @@
+pub mod Printing
+pub mod Recording
+pub mod Replaying
+pub mod Naming
+pub mod Lending

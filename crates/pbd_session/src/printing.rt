@@ -1,0 +1,168 @@
+//! Replies, line by line, each line by one call of the sink's `write`.
+ghost use Rattle.std.specs.Prelude.{◌≡◌, ◌≤◌, map, length, All};
+ghost use Rattle.std.specs.List.{flat_map};
+ghost use Rattle.pbd_io.specs.Causes.{HasCause};
+ghost use Rattle.pbd_io.specs.Pieces.{WritesPiece};
+ghost use Rattle.pbd_world.specs.Text.{text};
+ghost use Rattle.pbd_session.specs.declared.printing.Named.{Named};
+ghost use Rattle.pbd_session.specs.Printing.{NamedSum, header_after, ledger_sums, place_after, sum_after, text_after};
+ghost use Rattle.pbd_session.specs.Naming.{IsShort, named_of};
+
+use crate::Session;
+use crate::line::{done_line, header_line, place_line, refusal_line, sum_line};
+use pbd_io::{Failed, Sink};
+use pbd_pair::Projector;
+use pbd_step::Solver;
+use pbd_store::Steps;
+use pbd_world::Reply;
+use std::sync::ledger::Ledger;
+
+/// A sum of the ledger, and its name of at most 8 bytes.
+#[derive(Clone, Copy)]
+pub struct Named {
+    name: &'static str,
+    sum: [i128; 3],
+}
+
+#[tactic(auto, using(crate::proofs::Texts::header_is))]
+fn write_header<const L: usize, P: Projector<L> + Drop, K: Sink>(
+    solver: &Solver<L, P>,
+    prefix: &[u8],
+    sink: &mut K,
+) -> Result<(), Failed>
+    requires lanes_high { L ≤ 16 }
+    requires prefix { length prefix.now ≤ 16 }
+    ensures bytes { WritesPiece (K.written sink.old) (K.written sink.new) result (header_after prefix.now solver.now.world) }
+    ensures cause { HasCause (K.faults sink.old) (K.faults sink.new) result }
+{
+    let steps = solver.step_count();
+    let particles = solver.particles();
+    let live = solver.live();
+    let contacts = solver.contacts();
+    let header = header_line(prefix, steps, particles, live, contacts);
+    sink.write(header.as_slice())
+}
+
+fn write_places<const L: usize, P: Projector<L> + Drop, K: Sink, G: Ledger>(
+    solver: &Solver<L, P>,
+    prefix: &[u8],
+    sink: &mut K,
+    steps: &mut Steps<G>,
+) -> Result<(), Failed>
+    requires lanes_high { L ≤ 16 }
+    requires prefix { length prefix.now ≤ 16 }
+    ensures bytes { WritesPiece (K.written sink.old) (K.written sink.new) result (flat_map (place_after prefix.now) solver.now.world.particles) }
+    ensures cause { HasCause (K.faults sink.old) (K.faults sink.new) result }
+{
+    for i in 0..solver.particles() {
+        let place = place_line(prefix, &solver.particle(i, steps));
+        sink.write(place.as_slice())?;
+    }
+    Ok(())
+}
+
+fn write_frame<const L: usize, P: Projector<L> + Drop, K: Sink, G: Ledger>(
+    solver: &Solver<L, P>,
+    prefix: &[u8],
+    sink: &mut K,
+    steps: &mut Steps<G>,
+) -> Result<(), Failed>
+    requires lanes_high { L ≤ 16 }
+    requires prefix { length prefix.now ≤ 16 }
+    ensures bytes { WritesPiece (K.written sink.old) (K.written sink.new) result (text_after prefix.now solver.now.world Reply.Frame) }
+    ensures cause { HasCause (K.faults sink.old) (K.faults sink.new) result }
+{
+    write_header(solver, prefix, sink)?;
+    write_places(solver, prefix, sink, steps)
+}
+
+/// The sums of the ledger in the order of its lines.
+fn named_sums<const L: usize, P: Projector<L> + Drop, G: Ledger>(
+    solver: &Solver<L, P>,
+    steps: &mut Steps<G>,
+) -> [Named; 8]
+    requires lanes_high { L ≤ 16 }
+    ensures sums { map {A = Named} {B = NamedSum} named_of result ≡ ledger_sums solver.now.world }
+    ensures short { All IsShort result }
+{
+    let totals = *solver.totals();
+    let named = |name, sum| Named { name, sum };
+    [
+        named("momentum", solver.momentum(steps)),
+        named("opening", *solver.opening()),
+        named("gravity", totals.gravity),
+        named("damping", totals.damping),
+        named("link", totals.link),
+        named("contact", totals.contact),
+        named("pin", totals.pin),
+        named("shape", totals.shape),
+    ]
+}
+
+fn write_sums<K: Sink>(sums: &[Named], prefix: &[u8], sink: &mut K) -> Result<(), Failed>
+    requires prefix { length prefix.now ≤ 16 }
+    requires short { All IsShort sums.now }
+    ensures bytes { WritesPiece (K.written sink.old) (K.written sink.new) result (flat_map (λ s. sum_after prefix.now (named_of s)) sums.now) }
+    ensures cause { HasCause (K.faults sink.old) (K.faults sink.new) result }
+{
+    for sum in sums {
+        let line = sum_line(prefix, sum.name, &sum.sum);
+        sink.write(line.as_slice())?;
+    }
+    Ok(())
+}
+
+fn write_ledger<const L: usize, P: Projector<L> + Drop, K: Sink, G: Ledger>(
+    solver: &Solver<L, P>,
+    prefix: &[u8],
+    sink: &mut K,
+    steps: &mut Steps<G>,
+) -> Result<(), Failed>
+    requires lanes_high { L ≤ 16 }
+    requires prefix { length prefix.now ≤ 16 }
+    ensures bytes { WritesPiece (K.written sink.old) (K.written sink.new) result (text_after prefix.now solver.now.world Reply.Ledger) }
+    ensures cause { HasCause (K.faults sink.old) (K.faults sink.new) result }
+{
+    write_sums(&named_sums(solver, steps), prefix, sink)
+}
+
+impl<const L: usize, P: Projector<L> + Drop> Session<L, P> {
+    /// Writes the lines of a reply, with frames and ledgers read from the world as it is now.
+    /// `Failed` comes only where the sink's count of faults rose, and then a front of these bytes was appended.
+    #[tactic(auto, using(crate::proofs::Texts::nothing_before))]
+    pub fn write_reply<K: Sink, G: Ledger>(
+        &self,
+        reply: &Reply,
+        sink: &mut K,
+        steps: &mut Steps<G>,
+    ) -> Result<(), Failed>
+        requires lanes_high { L ≤ 16 }
+        ensures bytes { WritesPiece (K.written sink.old) (K.written sink.new) result (text self.now reply.now) }
+        ensures cause { HasCause (K.faults sink.old) (K.faults sink.new) result }
+    {
+        self.write_after(&[], reply, sink, steps)
+    }
+
+    /// Writes the lines of a reply, each with the prefix of at most 16 bytes before it.
+    /// `Failed` is as for `write_reply`.
+    #[tactic(auto, unfolding(crate::specs::Printing::text_after))]
+    pub fn write_after<K: Sink, G: Ledger>(
+        &self,
+        prefix: &[u8],
+        reply: &Reply,
+        sink: &mut K,
+        steps: &mut Steps<G>,
+    ) -> Result<(), Failed>
+        requires lanes_high { L ≤ 16 }
+        requires prefix { length prefix.now ≤ 16 }
+        ensures bytes { WritesPiece (K.written sink.old) (K.written sink.new) result (text_after prefix.now self.now reply.now) }
+        ensures cause { HasCause (K.faults sink.old) (K.faults sink.new) result }
+    {
+        match reply {
+            Reply::Done => sink.write(done_line(prefix).as_slice()),
+            Reply::Frame => write_frame(self.solver(), prefix, sink, steps),
+            Reply::Ledger => write_ledger(self.solver(), prefix, sink, steps),
+            Reply::Refused(refusal) => sink.write(refusal_line(prefix, refusal).as_slice()),
+        }
+    }
+}

@@ -1,0 +1,89 @@
+//! The sums of a frame.
+ghost use Rattle.std.specs.Prelude.{◌≡◌, ◌+◌, ◌*◌, ◌<◌, ◌≤◌, ◌^◌, ◌+ℤ◌, unsigned_abs};
+ghost use Rattle.pbd_num.specs.Vectors.{Within, axes, plus};
+ghost use Rattle.pbd_world.specs.Replay.{frame_sums, sum_over};
+
+use crate::Session;
+use pbd_num::Vec3;
+use pbd_pair::Projector;
+use pbd_step::Solver;
+use pbd_store::Steps;
+use pbd_world::FrameSums;
+use std::sync::ledger::Ledger;
+
+/// The sums of the places and of the places before over some particles.
+#[derive(Clone, Copy)]
+pub struct Sums {
+    at: Vec3,
+    before: Vec3,
+}
+
+/// A sum of so many axes with one more.
+fn further(count: u32, sum: i64, axis: i64) -> i64
+    requires count { count ≤ 65536 }
+    requires sum { unsigned_abs sum ≤ count * 2 ^ 29 }
+    requires axis { unsigned_abs axis ≤ 2 ^ 29 }
+    ensures value { result ≡ sum +ℤ axis }
+    ensures size { unsigned_abs result ≤ (count + 1) * 2 ^ 29 }
+{
+    sum + axis
+}
+
+/// A sum of so many places with one more.
+fn plus(count: u32, sum: Vec3, place: Vec3) -> Vec3
+    requires count { count ≤ 65536 }
+    requires sum { Within (count * 2 ^ 29) sum }
+    requires place { Within (2 ^ 29) place }
+    ensures value { result ≡ plus sum place }
+    ensures size { Within ((count + 1) * 2 ^ 29) result }
+{
+    Vec3 {
+        x: further(count, sum.x, place.x),
+        y: further(count, sum.y, place.y),
+        z: further(count, sum.z, place.z),
+    }
+}
+
+/// The sums over all particles, of which there are at most 65,536, so that each axis is at most 2^45 in size.
+fn summed<const L: usize, P: Projector<L> + Drop, G: Ledger>(
+    solver: &Solver<L, P>,
+    steps: &mut Steps<G>,
+) -> Sums
+    requires lanes_high { L ≤ 16 }
+    ensures at { result.at ≡ sum_over (λ p. p.at) solver.now.world.particles }
+    ensures before { result.before ≡ sum_over (λ p. p.before) solver.now.world.particles }
+{
+    let zero = Vec3 { x: 0, y: 0, z: 0 };
+    let mut at = zero;
+    let mut before = zero;
+    for i in 0..solver.particles() {
+        let particle = solver.particle(i, steps);
+        at = plus(i, at, particle.at);
+        before = plus(i, before, particle.before);
+    }
+    Sums { at, before }
+}
+
+fn axes(v: Vec3) -> [i64; 3]
+    ensures { result ≡ axes v }
+{
+    [v.x, v.y, v.z]
+}
+
+impl<const L: usize, P: Projector<L> + Drop> Session<L, P> {
+    /// What a log keeps of the world: counts, and the sums of the places over all particles.
+    pub fn frame_sums<G: Ledger>(&self, steps: &mut Steps<G>) -> FrameSums
+        requires lanes_high { L ≤ 16 }
+        ensures { result ≡ frame_sums self.now }
+    {
+        let solver = self.solver();
+        let sums = summed(solver, steps);
+        FrameSums {
+            steps: solver.step_count(),
+            live: solver.live(),
+            contacts: solver.contacts(),
+            at: axes(sums.at),
+            before: axes(sums.before),
+        }
+    }
+}
