@@ -48,14 +48,28 @@ macro_rules! link {
     };
 }
 
-/// What a batch came to: the bond that left, the first and the last two places on x, and the totals on x.
+/// What a batch came to: the bond that left, the first and the last two places on x, how many are at 3 or 102
+/// on x, and the totals on x.
 #[derive(Drop)]
 struct Seen {
     left: Option<u32>,
     x: [i64; 4],
+    settled: u32,
     link: i128,
     contact: i128,
     pin: i128,
+}
+
+/// How many places are at 3 or 102 on x.
+fn settled_places<G: Ledger, const L: usize>(store: &Store<L>, steps: &mut Steps<G>) -> u32 {
+    let mut count = 0u32;
+    for i in 0..store.len() {
+        let x = store.at(i, steps).at.x;
+        if x == 3 || x == 102 {
+            count = count.saturating_add(1);
+        }
+    }
+    count
 }
 
 fn run<G: Ledger, P: Projector<L>, const L: usize>(
@@ -87,9 +101,11 @@ fn run<G: Ledger, P: Projector<L>, const L: usize>(
         Ok(()) => None,
         Err(left) => Some(left.element),
     };
+    let settled = settled_places(&store, steps);
     Ok(Seen {
         left,
         x,
+        settled,
         link: totals.link[0],
         contact: totals.contact[0],
         pin: totals.pin[0],
@@ -269,6 +285,81 @@ fn five_links<G: Ledger, P: Projector<L>, const L: usize>(
     Ok(good)
 }
 
+fn seventeen_links<G: Ledger, P: Projector<L>, const L: usize>(
+    alloc: Global,
+    steps: &mut Steps<G>,
+    projector: &mut P,
+) -> Result<bool, AllocError>
+    requires low { 0 < L }
+    requires high { L ≤ 16 }
+{
+    let links = [
+        link!(0, 1, 100),
+        link!(2, 3, 100),
+        link!(4, 5, 100),
+        link!(6, 7, 100),
+        link!(8, 9, 100),
+        link!(10, 11, 100),
+        link!(12, 13, 100),
+        link!(14, 15, 100),
+        link!(16, 17, 100),
+        link!(18, 19, 100),
+        link!(20, 21, 100),
+        link!(22, 23, 100),
+        link!(24, 25, 100),
+        link!(26, 27, 100),
+        link!(28, 29, 100),
+        link!(30, 31, 100),
+        link!(32, 33, 100),
+    ];
+    let particles = [
+        free!(0, 0, 1),
+        free!(105, 0, 1),
+        free!(0, 1000, 1),
+        free!(105, 1000, 1),
+        free!(0, 2000, 1),
+        free!(105, 2000, 1),
+        free!(0, 3000, 1),
+        free!(105, 3000, 1),
+        free!(0, 4000, 1),
+        free!(105, 4000, 1),
+        free!(0, 5000, 1),
+        free!(105, 5000, 1),
+        free!(0, 6000, 1),
+        free!(105, 6000, 1),
+        free!(0, 7000, 1),
+        free!(105, 7000, 1),
+        free!(0, 8000, 1),
+        free!(105, 8000, 1),
+        free!(0, 9000, 1),
+        free!(105, 9000, 1),
+        free!(0, 10000, 1),
+        free!(105, 10000, 1),
+        free!(0, 11000, 1),
+        free!(105, 11000, 1),
+        free!(0, 12000, 1),
+        free!(105, 12000, 1),
+        free!(0, 13000, 1),
+        free!(105, 13000, 1),
+        free!(0, 14000, 1),
+        free!(105, 14000, 1),
+        free!(0, 15000, 1),
+        free!(105, 15000, 1),
+        free!(0, 16000, 1),
+        free!(105, 16000, 1),
+    ];
+    let all = run(
+        alloc,
+        steps,
+        projector,
+        &particles,
+        Bonds::Links(&links),
+        &[0, 1, 2, 3, 4, 5, 6, 7, 8, 9, 10, 11, 12, 13, 14, 15, 16],
+    )?;
+    let still = [all.link, all.contact, all.pin] == [0, 0, 0];
+    Ok(all.left == None && all.x == [3, 102, 3, 102] && all.settled == 34 && still)
+}
+
 fn batches<G: Ledger, P: Projector<L>, const L: usize>(
     alloc: Global,
     steps: &mut Steps<G>,
@@ -282,7 +373,8 @@ fn batches<G: Ledger, P: Projector<L>, const L: usize>(
     good = good && far_link(alloc, steps, projector)?;
     good = good && contacts(alloc, steps, projector)?;
     good = good && five_links(alloc, steps, projector)?;
-    good = good && projector.handed() == 18;
+    good = good && seventeen_links(alloc, steps, projector)?;
+    good = good && projector.handed() == 35;
     Ok(good)
 }
 
