@@ -19,8 +19,6 @@ use Rattle.pbd_store.specs.declared.lanes3.Ends.{Ends}
 use Rattle.pbd_pair.specs.Bonds.{IsEnd, IsDrawn, IsSound, IsSoundShift}
 use Rattle.pbd_store.specs.Moving.{AreInside, Weigh}
 use Rattle.pbd_pair.specs.Lanes.{end_in, Lays}
-use Rattle.pbd_pair.specs.declared.laid.Lane.{Lane}
-use Rattle.pbd_pair.specs.Lays.{lane_of}
 
 -- a lane of a list made by lanes
 pub lane_is : {A : Type 0} (d : A) {xs : List A} (n : ℕ) (f : ℕ → A) (j : ℕ) → xs ≡ lanes_of n f → j < n → get_or xs j d ≡ f j
@@ -154,21 +152,3 @@ none_case xs h k false e = refl
 -- where no lane is the first, none is set
 pub none_set : (xs : List Bool) → ((i : ℕ) → position (λ (b : Bool). b) xs ≡ Some i → ⊥) → (k : ℕ) → is_set xs k ≡ false
 none_set xs h k = none_case xs h k (is_set xs k) refl
-
--- ---- one bond's lane
-
-pub lays_lane : (c : Correction) → Lays c (lane_of c).moving (lane_of c).leaving (lane_of c).shift
-lays_lane Slack = (refl, refl)
-lays_lane Leaves = (refl, refl)
-lays_lane (Moves s) = (refl, (refl, refl))
-
-lane_moves : (limit : ℤ) (c : Correction) → IsSound limit c → (lane_of c).moving ≡ true → IsSoundShift limit (lane_of c).shift
-lane_moves limit Slack h e = absurd (false≢true e)
-lane_moves limit Leaves h e = absurd (false≢true e)
-lane_moves limit (Moves s) h e = h
-
-pub lays_at : (c : Correction) (lane : Lane) {m o : Bool} {t : Shift} → lane ≡ lane_of c → m ≡ lane.moving → o ≡ lane.leaving → t ≡ lane.shift → Lays c m o t
-lays_at c lane {m} {o} {t} e em eo et = coe 1 0 (i. Lays c ((em ∙ ap (λ (l : Lane). l.moving) e) i) ((eo ∙ ap (λ (l : Lane). l.leaving) e) i) ((et ∙ ap (λ (l : Lane). l.shift) e) i)) (lays_lane c)
-
-pub sound_at : (limit : ℤ) (c : Correction) (lane : Lane) {m : Bool} {t : Shift} → lane ≡ lane_of c → m ≡ lane.moving → t ≡ lane.shift → IsSound limit c → m ≡ true → IsSoundShift limit t
-sound_at limit c lane e em et h is = subst (λ (s : Shift). IsSoundShift limit s) (sym (et ∙ ap (λ (l : Lane). l.shift) e)) (lane_moves limit c h (sym (em ∙ ap (λ (l : Lane). l.moving) e) ∙ is))

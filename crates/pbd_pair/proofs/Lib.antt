@@ -9,4 +9,6 @@ pub mod SideBySide
 pub mod Reaching
 pub mod InLanes
 pub mod Blocks
+pub mod LaneSteps
+pub mod Drawing
 pub mod Examples

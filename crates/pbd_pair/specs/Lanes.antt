@@ -1,6 +1,7 @@
 -- Bonds side by side, lane by lane.
 use Rattle.std.specs.Prelude.{◌≡◌, ℕ, zero, suc, Bool, true, false, if◌then◌else◌, List}
 use Rattle.pbd_lanes.specs.Lane.{lane, is_set}
+use Rattle.pbd_num.specs.declared.Vec3.{Vec3}
 use Rattle.pbd_world.specs.declared.bond.Bond.{Bond}
 use Rattle.pbd_world.specs.declared.bond.End.{End}
 use Rattle.pbd_world.specs.declared.bond.Shift.{Shift}
@@ -9,8 +10,13 @@ use Rattle.pbd_world.specs.declared.bond.Correction.TheVariants.{Slack, Leaves, 
 use Rattle.pbd_world.specs.Ledger.{Ledger, Entry, booked}
 use Rattle.pbd_store.specs.Blocks.{place_of}
 use Rattle.pbd_store.specs.declared.lanes3.Ends.{Ends}
+use Rattle.pbd_store.specs.declared.lanes3.Lanes3.{Lanes3}
 use Rattle.pbd_pair.specs.declared.laid.Drawn.{Drawn}
 use Rattle.pbd_pair.specs.declared.laid.Laid.{Laid}
+
+-- the place in lane j
+abbrev pub place_in : {l : ℕ} → Lanes3 l → ℕ → Vec3
+place_in v j = place_of v.x v.y v.z j
 
 -- the end in lane j
 abbrev pub end_in : {l : ℕ} → Ends l → ℕ → End

@@ -1,5 +1,4 @@
 pub mod Bonds
 pub mod Projecting
 pub mod Lanes
-pub mod Lays
 pub mod Examples

@@ -1,20 +1,16 @@
 // L bonds, corrected side by side.
-ghost use Rattle.std.specs.Prelude.{◌≡◌, ℕ, ◌<◌, ◌≤◌, ◌^◌, ◌+◌, pos, true, false, not, length, IsTrue, int_lt, slice_index_or};
-ghost use Rattle.pbd_num.specs.Vectors.{Within};
-ghost use Rattle.pbd_lanes.specs.Lane.{is_set, lanes_of};
-ghost use Rattle.pbd_world.specs.Bonds.{correction_of, end_of};
-ghost use Rattle.pbd_world.specs.Particles.{particle_at};
-ghost use Rattle.pbd_store.specs.Gathering.{index_at};
-ghost use Rattle.pbd_pair.specs.Bonds.{IsBound, IsDrawn, IsEnd, IsSound, IsSoundShift};
-ghost use Rattle.pbd_store.specs.Moving.{AreInside, Weigh};
-ghost use Rattle.pbd_pair.specs.Lanes.{end_in, bond_in, shift_in, Lays};
-ghost use Rattle.pbd_pair.specs.Lays.{still_lane, lane_of, part_of};
+ghost use Rattle.std.specs.Prelude.{◌≡◌, ℕ, ◌<◌, ◌≤◌, ◌^◌, pos, true, not, ◌&&◌, ◌<ℤ◌, int_lt, int_le};
+ghost use Rattle.pbd_num.specs.Vectors.{Within, minus, length_of};
+ghost use Rattle.pbd_num.specs.PairMove.{pair_moves};
+ghost use Rattle.pbd_lanes.specs.Lane.{lane, is_set};
+ghost use Rattle.pbd_world.specs.Bonds.{correction_of};
+ghost use Rattle.pbd_pair.specs.Bonds.{IsBound, IsDrawn, IsEnd, IsSoundShift};
+ghost use Rattle.pbd_pair.specs.Lanes.{end_in, bond_in, shift_in, place_in, Lays};
 
-use crate::correct::correct;
+use crate::wide::{above_zero, errors, gaps, lengths, moved, others, shares, stays, sums, turned};
 use pbd_lanes::{Lanes, Mask};
-use pbd_num::Vec3;
 use pbd_store::{Ends, Lanes3};
-use pbd_world::{Bond, Correction, End, Shift};
+use pbd_world::Shift;
 
 /// What L bonds are drawn to.
 #[derive(Clone, Copy)]
@@ -53,147 +49,55 @@ impl<const L: usize> Laid<L> {
     }
 }
 
-// What one bond comes to.
+/// How far both ends of L bonds move.
 #[derive(Clone, Copy)]
-pub(crate) struct Lane {
-    moving: bool,
-    leaving: bool,
-    shift: Shift,
+struct Moves<const L: usize> {
+    first: Lanes3<L>,
+    second: Lanes3<L>,
 }
 
-// A place or a move of a shift.
-#[derive(Clone, Copy)]
-pub(crate) enum Part {
-    First,
-    Second,
-    FirstMove,
-    SecondMove,
-}
-
-fn still(leaving: bool) -> Lane
-    ensures { result ≡ still_lane leaving }
+/// Where a bond moves its ends: not where a contact is long enough.
+fn drawing<const L: usize>(len: &Lanes<L>, drawn: &Drawn<L>) -> Mask<L>
+    requires { (j : ℕ) → j < L → lane len.now j <ℤ pos (2 ^ 31) }
+    ensures { (j : ℕ) → j < L → is_set result j ≡ not (is_set drawn.now.contact j && int_le (lane drawn.now.rest j) (lane len.now j)) }
 {
-    Lane {
-        moving: false,
-        leaving,
-        shift: Shift {
-            first: Vec3::ZERO,
-            second: Vec3::ZERO,
-            first_move: Vec3::ZERO,
-            second_move: Vec3::ZERO,
-        },
-    }
+    let always = Lanes::splat(2_147_483_648);
+    let enough = Lanes::select(&drawn.contact, &drawn.rest, &always);
+    len.less(&enough)
 }
 
-fn as_lane(correction: Correction) -> Lane
-    ensures { result ≡ lane_of correction }
+/// The moves of the ends of L bonds, which lie `d` apart, `len` long: none where that is 0 or both weights are.
+fn draw<const L: usize>(
+    p: &Ends<L>,
+    q: &Ends<L>,
+    d: &Lanes3<L>,
+    len: &Lanes<L>,
+    drawn: &Drawn<L>,
+) -> Moves<L>
+    requires lanes { L ≤ 16 }
+    requires p { (j : ℕ) → j < L → IsEnd (pos (2 ^ 29)) (end_in p.now j) }
+    requires q { (j : ℕ) → j < L → IsEnd (pos (2 ^ 29)) (end_in q.now j) }
+    requires d { (j : ℕ) → j < L → place_in d.now j ≡ minus (place_in p.now.at j) (place_in q.now.at j) }
+    requires len { (j : ℕ) → j < L → lane len.now j ≡ pos (length_of (place_in d.now j)) }
+    requires drawn { (j : ℕ) → j < L → IsDrawn (pos (2 ^ 29)) (bond_in drawn.now j) }
+    ensures first { (j : ℕ) → j < L → place_in result.first j ≡ (pair_moves (place_in p.now.at j) (place_in q.now.at j) (lane drawn.now.rest j) (lane drawn.now.k j) (lane p.now.weight j) (lane q.now.weight j)).0 }
+    ensures second { (j : ℕ) → j < L → place_in result.second j ≡ (pair_moves (place_in p.now.at j) (place_in q.now.at j) (lane drawn.now.rest j) (lane drawn.now.k j) (lane p.now.weight j) (lane q.now.weight j)).1 }
+    ensures first_size { (j : ℕ) → j < L → Within (2 ^ 31) (place_in result.first j) }
+    ensures second_size { (j : ℕ) → j < L → Within (2 ^ 31) (place_in result.second j) }
 {
-    match correction {
-        Correction::Slack => still(false),
-        Correction::Leaves => still(true),
-        Correction::Moves(shift) => Lane {
-            moving: true,
-            leaving: false,
-            shift,
-        },
-    }
-}
-
-fn end_at<const L: usize>(ends: &Ends<L>, j: usize) -> End
-    requires { j < L }
-    ensures { result ≡ end_in ends.now j }
-{
-    End {
-        at: ends.at.place(j),
-        weight: ends.weight.to_array()[j],
-    }
-}
-
-fn bond_at<const L: usize>(drawn: &Drawn<L>, j: usize) -> Bond
-    requires { j < L }
-    ensures { result ≡ bond_in drawn.now j }
-{
-    Bond {
-        a: 0,
-        b: 0,
-        rest: drawn.rest.to_array()[j],
-        k: drawn.k.to_array()[j],
-        contact: drawn.contact.to_array()[j],
-    }
-}
-
-fn lay_lanes<const L: usize>(limit: i64, p: &Ends<L>, q: &Ends<L>, drawn: &Drawn<L>) -> [Lane; L]
-    requires limit { IsBound limit }
-    requires p { (j : ℕ) → j < L → IsEnd limit (end_in p.now j) }
-    requires q { (j : ℕ) → j < L → IsEnd limit (end_in q.now j) }
-    requires drawn { (j : ℕ) → j < L → IsDrawn limit (bond_in drawn.now j) }
-    ensures lays { (j : ℕ) → j < L → slice_index_or result j (still_lane false) ≡ lane_of (correction_of limit (end_in p.now j) (end_in q.now j) (bond_in drawn.now j)) }
-    ensures sound { (j : ℕ) → j < L → IsSound limit (correction_of limit (end_in p.now j) (end_in q.now j) (bond_in drawn.now j)) }
-{
-    let mut lanes = [still(false); L];
-    for j in 0..L {
-        let correction = correct(limit, end_at(p, j), end_at(q, j), bond_at(drawn, j));
-        lanes[j] = as_lane(correction);
-    }
-    lanes
-}
-
-fn moving<const L: usize>(lanes: &[Lane; L]) -> Mask<L>
-    ensures { result ≡ lanes_of L (λ j. (slice_index_or lanes.now j (still_lane false)).moving) }
-{
-    let mut set = [false; L];
-    for j in 0..L {
-        set[j] = lanes[j].moving;
-    }
-    Mask::from_array(set)
-}
-
-fn leaving<const L: usize>(lanes: &[Lane; L]) -> Mask<L>
-    ensures { result ≡ lanes_of L (λ j. (slice_index_or lanes.now j (still_lane false)).leaving) }
-{
-    let mut set = [false; L];
-    for j in 0..L {
-        set[j] = lanes[j].leaving;
-    }
-    Mask::from_array(set)
-}
-
-fn pick(shift: Shift, part: Part) -> Vec3
-    ensures { result ≡ part_of part shift }
-{
-    match part {
-        Part::First => shift.first,
-        Part::Second => shift.second,
-        Part::FirstMove => shift.first_move,
-        Part::SecondMove => shift.second_move,
-    }
-}
-
-fn parts<const L: usize>(lanes: &[Lane; L], part: Part) -> Lanes3<L>
-    ensures x { result.x ≡ lanes_of L (λ j. (part_of part (slice_index_or lanes.now j (still_lane false)).shift).x) }
-    ensures y { result.y ≡ lanes_of L (λ j. (part_of part (slice_index_or lanes.now j (still_lane false)).shift).y) }
-    ensures z { result.z ≡ lanes_of L (λ j. (part_of part (slice_index_or lanes.now j (still_lane false)).shift).z) }
-{
-    let mut x = [0; L];
-    let mut y = [0; L];
-    let mut z = [0; L];
-    for j in 0..L {
-        let place = pick(lanes[j].shift, part);
-        x[j] = place.x;
-        y[j] = place.y;
-        z[j] = place.z;
-    }
-    Lanes3 {
-        x: Lanes::from_array(x),
-        y: Lanes::from_array(y),
-        z: Lanes::from_array(z),
-    }
+    let total = sums(&p.weight, &q.weight);
+    let apart = above_zero(len).and(&above_zero(&total));
+    let s = errors(d, len, &drawn.rest, &apart);
+    let first = shares(&s, &drawn.k, &p.weight, &total, &apart);
+    let second = shares(&s, &drawn.k, &q.weight, &total, &apart);
+    let first = turned(&first);
+    Moves { first, second }
 }
 
 fn free<const L: usize>(ends: &Ends<L>) -> Mask<L>
     ensures { (j : ℕ) → j < L → is_set result j ≡ int_lt (pos 0) (end_in ends.now j).weight }
 {
-    Lanes::splat(0).less(&ends.weight)
+    above_zero(&ends.weight)
 }
 
 /// What L bonds do with their ends.
@@ -213,14 +117,21 @@ pub(crate) fn correct_lanes<const L: usize>(
     ensures first_free { (j : ℕ) → j < L → is_set result.first_free j ≡ int_lt (pos 0) (end_in p.now j).weight }
     ensures second_free { (j : ℕ) → j < L → is_set result.second_free j ≡ int_lt (pos 0) (end_in q.now j).weight }
 {
-    let lanes = lay_lanes(limit, p, q, drawn);
+    let d = gaps(&p.at, &q.at);
+    let len = lengths(&d);
+    let drawing = drawing(&len, drawn);
+    let moves = draw(p, q, &d, &len, drawn);
+    let first = moved(&p.at, &moves.first);
+    let second = moved(&q.at, &moves.second);
+    let stay = stays(limit, &first).and(&stays(limit, &second));
+    let leave = others(&stay);
     Laid {
-        moving: moving(&lanes),
-        leaving: leaving(&lanes),
-        first: parts(&lanes, Part::First),
-        second: parts(&lanes, Part::Second),
-        first_move: parts(&lanes, Part::FirstMove),
-        second_move: parts(&lanes, Part::SecondMove),
+        moving: drawing.and(&stay),
+        leaving: drawing.and(&leave),
+        first,
+        second,
+        first_move: moves.first,
+        second_move: moves.second,
         first_free: free(p),
         second_free: free(q),
     }

@@ -11,6 +11,7 @@ mod lanes;
 mod one;
 mod projector;
 mod scalar;
+mod wide;
 
 pub use bonds::Bonds;
 pub use lanes::LaneProjector;

@@ -1,52 +1,134 @@
-use Rattle.std.proofs.Common.{◌≡◌, ℕ, ◌<◌, arith, w64, FitsSigned, ℤ, pos, false, get_or, List}
+use Rattle.std.proofs.Common.{◌&&◌, refl, false, arith, w64, FitsSigned}
 use Rattle.std.proofs.lemmas.Int.{to_z-of_z}
 use Rattle.pbd_num.specs.declared.Vec3.{Vec3}
 use Rattle.pbd_world.specs.declared.bond.Shift.{Shift}
-use Rattle.pbd_world.specs.Bonds.{correction_of}
-use Rattle.pbd_lanes.specs.Lane.{lanes_of}
-use Rattle.pbd_store.specs.Blocks.{place_of}
-use Rattle.pbd_pair.specs.Lanes.{end_in, bond_in}
-use Rattle.pbd_pair.specs.Lays.{still_lane}
-use Rattle.pbd_pair.proofs.InLanes.{lane_is, lays_at, sound_at}
+use Rattle.pbd_lanes.specs.Lane.{lane, is_set}
+use Rattle.pbd_pair.specs.Lanes.{place_in, end_in, bond_in}
+use Rattle.pbd_pair.proofs.InLanes.{lane_is}
+use Rattle.pbd_pair.proofs.LaneSteps.{and_is}
+use Rattle.pbd_pair.proofs.Steps.{shift-by_steps}
+use Rattle.pbd_pair.proofs.Drawing.{lays_by_steps, slack_lane, sound_by_steps, end_fits, drawn_fits, gap_short, length_under}
 use Rattle.pbd_pair.proofs.laid.correct_lanes.Goals as goal
 
--- a place from its three axes
-place_at : (n : ℕ) (f : ℕ → Vec3) {xs ys zs : List ℤ} (j : ℕ) → j < n → xs ≡ lanes_of n (λ k. (f k).x) → ys ≡ lanes_of n (λ k. (f k).y) → zs ≡ lanes_of n (λ k. (f k).z) → place_of xs ys zs j ≡ f j
-place_at n f j h ex ey ez = λ i. record { x = lane_is (pos 0) n (λ k. (f k).x) j ex h i; y = lane_is (pos 0) n (λ k. (f k).y) j ey h i; z = lane_is (pos 0) n (λ k. (f k).z) j ez h i }
+pub gaps-d-requires : goal.gaps-d-requires
+gaps-d-requires g c = (
+  omega (arith, c.requires.lanes),
+  (
+    c.requires.lanes,
+    (
+      λ j p. (end_fits c.args.limit (end_in c.args.p.now j) c.requires.limit (c.requires.p j p)).at,
+      λ j p. (end_fits c.args.limit (end_in c.args.q.now j) c.requires.limit (c.requires.q j p)).at,
+    ),
+  ),
+)
 
-pub lay_lanes-lanes-requires : goal.lay_lanes-lanes-requires
-lay_lanes-lanes-requires g c =
+pub lengths-len-requires : goal.lengths-len-requires
+lengths-len-requires g c = (
+  omega (arith, c.requires.lanes),
+  (
+    omega (arith, c.requires.lanes),
+    (
+      c.requires.lanes,
+      λ j p. (gap_short (place_in c.args.p.now.at j) (place_in c.args.q.now.at j) (c.gaps-d.ensures j p) (end_fits c.args.limit (end_in c.args.p.now j) c.requires.limit (c.requires.p j p)).at (end_fits c.args.limit (end_in c.args.q.now j) c.requires.limit (c.requires.q j p)).at),
+    ),
+  ),
+)
+
+pub drawing-drawing-requires : goal.drawing-drawing-requires
+drawing-drawing-requires g c = (
+  omega (arith, c.requires.lanes),
+  (
+    omega (arith, c.requires.lanes),
+    (omega (arith, c.requires.lanes), λ j p. length_under (place_in c.gaps-d.result j) (c.lengths-len.ensures j p) (gap_short (place_in c.args.p.now.at j) (place_in c.args.q.now.at j) (c.gaps-d.ensures j p) (end_fits c.args.limit (end_in c.args.p.now j) c.requires.limit (c.requires.p j p)).at (end_fits c.args.limit (end_in c.args.q.now j) c.requires.limit (c.requires.q j p)).at)),
+  ),
+)
+
+pub draw-moves-requires : goal.draw-moves-requires
+draw-moves-requires g c = (
+  omega (arith, c.requires.lanes),
+  (
+    omega (arith, c.requires.lanes),
+    (
+      omega (arith, c.requires.lanes),
+      (
+        omega (arith, c.requires.lanes),
+        (
+          omega (arith, c.requires.lanes),
+          (
+            c.requires.lanes,
+            (
+              λ j p. (end_fits c.args.limit (end_in c.args.p.now j) c.requires.limit (c.requires.p j p)),
+              (
+                λ j p. (end_fits c.args.limit (end_in c.args.q.now j) c.requires.limit (c.requires.q j p)),
+                (c.gaps-d.ensures, (c.lengths-len.ensures, λ j p. drawn_fits c.args.limit (bond_in c.args.drawn.now j) c.requires.limit (c.requires.drawn j p))),
+              ),
+            ),
+          ),
+        ),
+      ),
+    ),
+  ),
+)
+
+pub moved-first-requires : goal.moved-first-requires
+moved-first-requires g c = (
+  omega (arith, c.requires.lanes),
+  (
+    c.requires.lanes,
+    (
+      λ j p. (end_fits c.args.limit (end_in c.args.p.now j) c.requires.limit (c.requires.p j p)).at,
+      c.draw-moves.ensures.first_size,
+    ),
+  ),
+)
+
+pub moved-second-requires : goal.moved-second-requires
+moved-second-requires g c = (
+  omega (arith, c.requires.lanes),
+  (
+    c.requires.lanes,
+    (
+      λ j p. (end_fits c.args.limit (end_in c.args.q.now j) c.requires.limit (c.requires.q j p)).at,
+      c.draw-moves.ensures.second_size,
+    ),
+  ),
+)
+
+pub stays-requires : goal.stays-requires
+stays-requires g c =
     let f : FitsSigned w64 c.args.limit = c.ranges.limit in
-    let size = c.requires.lanes in
-    simp to_z-of_z (omega (arith, size), (omega (arith, size), (omega (arith, size), (c.requires.limit, (c.requires.p, (c.requires.q, c.requires.drawn))))))
+    simp to_z-of_z (omega (arith, c.requires.lanes), (omega (arith, c.requires.lanes), c.requires.limit))
+
+pub stays-requires-2 : goal.stays-requires-2
+stays-requires-2 g c =
+    let f : FitsSigned w64 c.args.limit = c.ranges.limit in
+    simp to_z-of_z (omega (arith, c.requires.lanes), (omega (arith, c.requires.lanes), c.requires.limit))
 
 pub returns-clause-lays : goal.returns-clause-lays
 returns-clause-lays g c = λ j h.
     let f : FitsSigned w64 c.args.limit = c.ranges.limit in
-    let lane = λ (k : ℕ). get_or c.lay_lanes-lanes.result k (still_lane false) in
-    let told = simp to_z-of_z at c.lay_lanes-lanes.ensures.lays in
-    let first = place_at g.row.L (λ k. (lane k).shift.first) j h c.parts.ensures.x c.parts.ensures.y c.parts.ensures.z in
-    let second = place_at g.row.L (λ k. (lane k).shift.second) j h c.parts-2.ensures.x c.parts-2.ensures.y c.parts-2.ensures.z in
-    let first_move = place_at g.row.L (λ k. (lane k).shift.first_move) j h c.parts-3.ensures.x c.parts-3.ensures.y c.parts-3.ensures.z in
-    let second_move = place_at g.row.L (λ k. (lane k).shift.second_move) j h c.parts-4.ensures.x c.parts-4.ensures.y c.parts-4.ensures.z in
-    let shift : ◌≡◌ {A = Shift} (record { first = place_of c.parts.result.x c.parts.result.y c.parts.result.z j; second = place_of c.parts-2.result.x c.parts-2.result.y c.parts-2.result.z j; first_move = place_of c.parts-3.result.x c.parts-3.result.y c.parts-3.result.z j; second_move = place_of c.parts-4.result.x c.parts-4.result.y c.parts-4.result.z j }) (lane j).shift = λ i. record { first = first i; second = second i; first_move = first_move i; second_move = second_move i } in
-    let moves = lane_is false g.row.L (λ k. (lane k).moving) j c.moving.ensures h in
-    let leaves = lane_is false g.row.L (λ k. (lane k).leaving) j c.leaving.ensures h in
-    let correction = correction_of c.args.limit (end_in c.args.p.now j) (end_in c.args.q.now j) (bond_in c.args.drawn.now j) in
-    lays_at correction (lane j) (told j h) moves leaves shift
+    let p = end_in c.args.p.now j in
+    let q = end_in c.args.q.now j in
+    let bond = bond_in c.args.drawn.now j in
+    let draws = is_set c.drawing-drawing.result j in
+    let stays = is_set c.and-stay.result j in
+    let first_stays = simp to_z-of_z at c.stays.ensures in
+    let second_stays = simp to_z-of_z at c.stays-2.ensures in
+    let moves : Vec3 × Vec3 = (place_in c.draw-moves.result.first j, place_in c.draw-moves.result.second j) in
+    let both = and_is (lane_is false g.row.L (λ k. is_set c.stays.result k && is_set c.stays-2.result k) j c.and-stay.ensures h) (first_stays j h) (second_stays j h) in
+    let moving = lane_is false g.row.L (λ k. is_set c.drawing-drawing.result k && is_set c.and-stay.result k) j c.and.ensures h in
+    let leaving = and_is (lane_is false g.row.L (λ k. is_set c.drawing-drawing.result k && is_set c.others-leave.result k) j c.and-2.ensures h) refl (c.others-leave.ensures j h) in
+    let shift = shift-by_steps p q bond moves (place_in c.moved-first.result j) (place_in c.moved-second.result j) (λ i. (c.draw-moves.ensures.first j h i, c.draw-moves.ensures.second j h i)) (c.moved-first.ensures j h) (c.moved-second.ensures j h) in
+    let tight = slack_lane p q bond (place_in c.gaps-d.result j) (lane c.lengths-len.result j) draws (c.gaps-d.ensures j h) (c.lengths-len.ensures j h) (c.drawing-drawing.ensures j h) in
+    let t : Shift = record { first = place_in c.moved-first.result j; second = place_in c.moved-second.result j; first_move = moves.0; second_move = moves.1 } in
+    lays_by_steps c.args.limit p q bond t draws stays (is_set c.and.result j) (is_set c.and-2.result j) tight both moving leaving shift
 
 pub returns-clause-sound : goal.returns-clause-sound
-returns-clause-sound g c = λ j h t.
+returns-clause-sound g c = λ j h is.
     let f : FitsSigned w64 c.args.limit = c.ranges.limit in
-    let lane = λ (k : ℕ). get_or c.lay_lanes-lanes.result k (still_lane false) in
-    let told = simp to_z-of_z at c.lay_lanes-lanes.ensures.lays in
-    let first = place_at g.row.L (λ k. (lane k).shift.first) j h c.parts.ensures.x c.parts.ensures.y c.parts.ensures.z in
-    let second = place_at g.row.L (λ k. (lane k).shift.second) j h c.parts-2.ensures.x c.parts-2.ensures.y c.parts-2.ensures.z in
-    let first_move = place_at g.row.L (λ k. (lane k).shift.first_move) j h c.parts-3.ensures.x c.parts-3.ensures.y c.parts-3.ensures.z in
-    let second_move = place_at g.row.L (λ k. (lane k).shift.second_move) j h c.parts-4.ensures.x c.parts-4.ensures.y c.parts-4.ensures.z in
-    let shift : ◌≡◌ {A = Shift} (record { first = place_of c.parts.result.x c.parts.result.y c.parts.result.z j; second = place_of c.parts-2.result.x c.parts-2.result.y c.parts-2.result.z j; first_move = place_of c.parts-3.result.x c.parts-3.result.y c.parts-3.result.z j; second_move = place_of c.parts-4.result.x c.parts-4.result.y c.parts-4.result.z j }) (lane j).shift = λ i. record { first = first i; second = second i; first_move = first_move i; second_move = second_move i } in
-    let moves = lane_is false g.row.L (λ k. (lane k).moving) j c.moving.ensures h in
-    let leaves = lane_is false g.row.L (λ k. (lane k).leaving) j c.leaving.ensures h in
-    let correction = correction_of c.args.limit (end_in c.args.p.now j) (end_in c.args.q.now j) (bond_in c.args.drawn.now j) in
-    let sound = simp to_z-of_z at c.lay_lanes-lanes.ensures.sound in
-    sound_at c.args.limit correction (lane j) (told j h) moves shift (sound j h) t
+    let first_stays = simp to_z-of_z at c.stays.ensures in
+    let second_stays = simp to_z-of_z at c.stays-2.ensures in
+    let both = and_is (lane_is false g.row.L (λ k. is_set c.stays.result k && is_set c.stays-2.result k) j c.and-stay.ensures h) (first_stays j h) (second_stays j h) in
+    let moving = lane_is false g.row.L (λ k. is_set c.drawing-drawing.result k && is_set c.and-stay.result k) j c.and.ensures h in
+    let t : Shift = record { first = place_in c.moved-first.result j; second = place_in c.moved-second.result j; first_move = place_in c.draw-moves.result.first j; second_move = place_in c.draw-moves.result.second j } in
+    sound_by_steps c.args.limit t (is_set c.drawing-drawing.result j) (is_set c.and-stay.result j) (is_set c.and.result j) c.requires.limit.low both moving (c.draw-moves.ensures.first_size j h) (c.draw-moves.ensures.second_size j h) is

@@ -1,0 +1,14 @@
+use Rattle.std.proofs.Common.{pos, ◌-ℤ◌, arith}
+use Rattle.pbd_num.proofs.Sizes.{fits, size-sub}
+use Rattle.pbd_lanes.specs.Lane.{lane}
+use Rattle.pbd_pair.proofs.InLanes.{lane_is}
+use Rattle.pbd_pair.proofs.wide.differences.Goals as goal
+
+pub sub-requires : goal.sub-requires
+sub-requires g c = (
+  omega (arith, c.requires.lanes),
+  λ j p. let a = lane c.args.a.now j in let b = lane c.args.b.now j in fits (a -ℤ b) (omega (arith, size-sub a b, c.requires.a j p, c.requires.b j p)),
+)
+
+pub returns : goal.returns
+returns g c = λ j p. lane_is (pos 0) g.row.L (λ k. lane c.args.a.now k -ℤ lane c.args.b.now k) j c.sub.ensures p
