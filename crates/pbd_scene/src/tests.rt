@@ -174,6 +174,28 @@ fn entries_past_the_greatest_number_are_refused(rt: HostRuntime) -> Result<(), F
     Ok(())
 }
 
+/// A particle, and a second track with so many keys, one at each step from 0 on.
+fn many_keys(alloc: Global, count: u32) -> Result<String, AllocError> {
+    let mut text = String::from_str(
+        alloc,
+        "particle=[{at=[0,0,0]},{at=[0,0,0]}]\ntrack=[{particle=0,keys=[[0,0,0,0]]},{particle=1,keys=[",
+    )?;
+    for step in 0..count {
+        write!(text, "[{step},0,0,0],")?;
+    }
+    text.push_str("]}]")?;
+    Ok(text)
+}
+
+#[test]
+fn keys_past_the_greatest_number_are_refused(rt: HostRuntime) -> Result<(), Fail> {
+    for (count, answer) in [(1_024, "ok"), (1_025, "6 track 1 keys")] {
+        let text = many_keys(rt.alloc(), count)?;
+        assert_eq!(rt; found(rt.alloc(), text.as_str())?.as_str(), answer);
+    }
+    Ok(())
+}
+
 /// A cloth of 390,658 links, and 133,630 links more, or one more than that.
 fn many_links(alloc: Global, last: u16) -> Result<String, AllocError> {
     let mut text = String::from_str(
