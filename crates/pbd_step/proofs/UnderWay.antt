@@ -35,7 +35,7 @@ use Rattle.pbd_step.specs.States.{world_of, IsUnderWay}
 
 -- ---- links and contacts as bonds
 
-between_parts : (high n : ℤ) → IsTrue (is_between (pos 0) high n) → (pos 0 ≤ℤ n) × (n ≤ℤ high)
+pub between_parts : (high n : ℤ) → IsTrue (is_between (pos 0) high n) → (pos 0 ≤ℤ n) × (n ≤ℤ high)
 between_parts high n h = (grind (arith, ints, nat_tests), grind (arith, ints, nat_tests))
 
 differ : (a b : ℕ) → IsTrue (not (a == b)) → a ≢ b
