@@ -1,5 +1,5 @@
 //! The contacts of so many particles, and their colours.
-ghost use Rattle.std.specs.Prelude.{◌≡◌, ◌+◌, ◌<◌, ◌≤◌, [], true, pos, ◌≤ℤ◌, length, map, IfOk, OnOk, OnErr};
+ghost use Rattle.std.specs.Prelude.{◌≡◌, ◌+◌, ◌<◌, ◌≤◌, [], true, pos, ◌≤ℤ◌, length, map, replicate, IfOk, OnOk, OnErr};
 ghost use Rattle.pbd_store.specs.Moving.{AreInside};
 ghost use Rattle.pbd_colour.specs.Pairs.{InRange};
 ghost use Rattle.pbd_self.specs.Touching.{touching, AreOrdered};
@@ -17,6 +17,15 @@ use std::sync::ledger::Ledger;
 
 /// How many contacts there may be.
 const ROOM: u32 = 262_144;
+
+// Colours pairs anew, all of them live.
+fn colour(colouring: &mut Colouring, pairs: &[(u32, u32)])
+    requires in_range { InRange colouring.old.particles pairs.now }
+    requires few { length pairs.now ≤ colouring.old.room }
+    ensures { colouring.new ≡ record colouring.old { pairs = pairs.now; live = replicate (length pairs.now) true } }
+{
+    colouring.refill(pairs);
+}
 
 /// The pairs of particles that touch each other in a step, and their colours. Only opening takes memory.
 #[derive(Drop)]
@@ -99,7 +108,7 @@ impl SelfContacts {
             thickness,
             &mut self.pairs,
         );
-        self.colouring.refill(self.pairs.as_slice());
+        colour(&mut self.colouring, self.pairs.as_slice());
         found
     }
 

@@ -14,8 +14,8 @@ find_apart-found-requires-clause-inside g c =
     places_inside c.args.store.now.limit c.args.store.now.particles c.copy_particles.new.places c.self.inside.places c.as_slice.result.now
     (omega (arith, ap unsigned_abs c.limit-limit.ensures.value, c.limit-limit.ensures.high)) c.requires.inside c.copy_particles.ensures.places c.as_slice.ensures
 
-pub refill-requires-clause-in_range : goal.refill-requires-clause-in_range
-refill-requires-clause-in_range g c =
+pub colour-requires-clause-in_range : goal.colour-requires-clause-in_range
+colour-requires-clause-in_range g c =
     let found : near_pairs c.as_slice.result.now (to_z w64 (of_z w64 c.args.thickness)) (may_touch c.as_slice-2.result.now c.args.links.now) ≡ touching c.args.thickness c.args.links.now c.args.store.now.particles
     = grid_finds (to_z w64 (of_z w64 c.args.thickness)) c.args.thickness c.args.links.now c.args.store.now.particles c.self.inside.places c.copy_particles.new.places c.self.inside.held c.copy_particles.new.held c.as_slice.result.now c.as_slice-2.result.now (to_z-of_z w64 c.args.thickness c.ranges.thickness) c.as_slice.ensures c.copy_particles.ensures.places c.as_slice-2.ensures c.copy_particles.ensures.held in
     let size : length c.args.store.now.particles ≡ c.self.inside.particles = rw (← c.self.view_is) at c.requires.len in
@@ -38,7 +38,7 @@ invariant_of-self g c =
       fits = result_fits c.find_apart-found.result c.find_apart-found.new.out.entries (near_pairs c.as_slice.result.now (to_z w64 (of_z w64 c.args.thickness)) (may_touch c.as_slice-2.result.now c.args.links.now)) c.self.inside.pairs.room c.self.invariant.room c.find_apart-found.ensures.pairs c.find_apart-found.ensures.fits c.find_apart-found.ensures.emptied;
       room = c.find_apart-found.ensures.room ∙ c.self.invariant.room;
       ordered = result_ordered c.find_apart-found.result c.find_apart-found.new.out.entries (near_pairs c.as_slice.result.now (to_z w64 (of_z w64 c.args.thickness)) (may_touch c.as_slice-2.result.now c.args.links.now)) c.self.inside.particles near_ordered c.find_apart-found.ensures.pairs c.find_apart-found.ensures.emptied;
-      coloured = recoloured c.self.inside.particles c.self.inside.colouring c.refill.new.self c.self.inside.pairs.entries c.find_apart-found.new.out.entries c.as_slice-3.result.now c.self.invariant.coloured c.as_slice-3.ensures c.refill.ensures;
+      coloured = recoloured c.self.inside.particles c.self.inside.colouring c.colour.new.colouring c.self.inside.pairs.entries c.find_apart-found.new.out.entries c.as_slice-3.result.now c.self.invariant.coloured c.as_slice-3.ensures c.colour.ensures;
       places_room = ap (λ (r : Roomed _). r.room) c.copy_particles.ensures.places ∙ c.self.invariant.places_room;
       held_room = ap (λ (r : Roomed _). r.room) c.copy_particles.ensures.held ∙ c.self.invariant.held_room;
     }
