@@ -1,11 +1,60 @@
 -- What a look-up of cells needs of numbers.
-use Rattle.std.proofs.Common.{◌≡◌, ℕ, ◌+◌, ◌*◌, ◌<◌, ◌≤◌, ◌&&◌, Bool, ℤ, pos, ◌+ℤ◌, ◌-ℤ◌, ◌*ℤ◌, unsigned_abs, List, arith}
+use Rattle.std.proofs.Common.{◌≡◌, ◌∙◌, sym, ap, ℕ, suc, ◌+◌, ◌-◌, ◌*◌, ◌/◌, ◌<◌, ◌≤◌, ◌^◌, ◌&&◌, ltb, Bool, true, false, ℤ, pos, negsuc, ◌+ℤ◌, ◌-ℤ◌, ◌*ℤ◌, unsigned_abs, List, arith}
+use Rattle.std.specs.Prelude.{int_lt}
+use Rattle.std.proofs.lemmas.Bool.{false≢true}
+use Rattle.std.proofs.lemmas.Bool.Decides.{nat_tests}
 use Rattle.std.proofs.lemmas.Int.{ints}
-use Rattle.std.proofs.lemmas.Nat.{div_below}
+use Rattle.std.proofs.lemmas.Nat.{div_below, div-mul-add}
+use Rattle.std.proofs.Math.Nat.{add-mul-div_right, div-mul-le_self, lt-div-mul-add}
 use Rattle.pbd_num.specs.declared.Vec3.{Vec3}
 use Rattle.pbd_grid.specs.declared.lookup.Cell.{Cell}
 use Rattle.pbd_grid.specs.Blocks.{axis_cell, cell_at, same_cell, keep}
 use Rattle.pbd_grid.proofs.Cells.{cells_near}
+
+shifted_above : (side n : ℕ) → unsigned_abs (pos n +ℤ pos 536870912 *ℤ pos side) ≡ n + 536870912 * side
+shifted_above side n = search (arith, ints)
+
+shifted_below : (side m : ℕ) → suc m ≤ 536870912 * side → unsigned_abs (negsuc m +ℤ pos 536870912 *ℤ pos side) ≡ 536870912 * side - suc m
+shifted_below side m h = search (arith, ints)
+
+-- the cell by the distance from 0, on both sides
+axis_above : (side n : ℕ) → 0 < side → 536870912 + n / side ≡ axis_cell side (pos n)
+unfolding axis_cell
+axis_above side n low = omega (arith, ap (λ (k : ℕ). k / side) (shifted_above side n), add-mul-div_right n 536870912 low)
+
+axis_below : (side m : ℕ) → 0 < side → m < 536870912 → 536870911 - m / side ≡ axis_cell side (negsuc m)
+unfolding axis_cell
+axis_below side m low small =
+    let q = m / side in
+    let r = 536870911 - q in
+    let floor : q * side ≤ m = div-mul-le_self m side in
+    let ceiling : m < q * side + side = lt-div-mul-add low in
+    let few : q ≤ m = omega (arith, floor, low) in
+    let whole : r + q ≡ 536870911 = omega (arith, few, small) in
+    let parts : r * side + q * side ≡ 536870911 * side = omega (arith, ap (λ (k : ℕ). k * side) whole) in
+    let rest : 536870912 * side - suc m ≡ r * side + (q * side + side - suc m) = omega (arith, parts, ceiling) in
+    sym (ap (λ (k : ℕ). k / side) (shifted_below side m (omega (arith, low, small)) ∙ rest) ∙ div-mul-add r side (q * side + side - suc m) (omega (arith, floor, ceiling)))
+
+none_below : (n : ℕ) → ltb n 0 ≡ false
+none_below n = grind (arith, nat_tests)
+
+not_left : (n : ℕ) → int_lt (pos n) (pos 0) ≡ false
+not_left n = none_below n
+
+left_of : (side : ℕ) (x : ℤ) → 0 < side → unsigned_abs x ≤ 536870912 → int_lt x (pos 0) ≡ true → 536870911 - (unsigned_abs x - 1) / side ≡ axis_cell side x
+left_of side (pos n) low small e = absurd (false≢true (sym (not_left n) ∙ e))
+left_of side (negsuc m) low small e = let less : suc m - 1 ≡ m = omega arith in ap (λ (k : ℕ). 536870911 - k / side) less ∙ axis_below side m low (omega (arith, small))
+
+right_of : (side : ℕ) (x : ℤ) → 0 < side → int_lt x (pos 0) ≡ false → 536870912 + unsigned_abs x / side ≡ axis_cell side x
+right_of side (pos n) low e = axis_above side n low
+right_of side (negsuc m) low e = absurd (false≢true (sym e))
+
+module _ (side far : ℕ) (x y : ℤ) (low : 0 < side) (same : y ≡ x) (is : far ≡ unsigned_abs y) where
+  pub axis_left : unsigned_abs x ≤ 2 ^ 29 → int_lt y (pos 0) ≡ true → 536870911 - (far - 1) / side ≡ axis_cell side x
+  axis_left small e = rw (is, same) (left_of side x low (omega (arith, small)) (rw same at e))
+
+  pub axis_right : int_lt y (pos 0) ≡ false → 536870912 + far / side ≡ axis_cell side x
+  axis_right e = rw (is, same) (right_of side x low (rw same at e))
 
 shifted_small : (side : ℕ) (x : ℤ) → unsigned_abs x ≤ 536870912 → unsigned_abs (x +ℤ pos 536870912 *ℤ pos side) ≤ 536870912 + 536870912 * side
 shifted_small side x h = search (arith, ints)

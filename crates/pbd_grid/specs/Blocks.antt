@@ -37,7 +37,7 @@ pub record Below (n : ℕ) (c : Cell) : Type 0 where
 
 -- the number of the chain for a cell
 unfoldable pub slot_of : ℕ → Cell → ℕ
-slot_of n c = (c.x * 73856093 + c.y * 19349663 + c.z * 83492791) % n
+slot_of n c = (c.x * 3432918353 + c.y * 2654435769 + c.z * 2246822507) % 4294967296 % n
 
 -- j stands behind i, is near it, and the test keeps the pair
 abbrev pub keep : List Vec3 → ℕ → (ℕ → ℕ → Bool) → ℕ → ℕ → Bool

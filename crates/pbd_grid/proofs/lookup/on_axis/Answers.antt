@@ -1,10 +1,10 @@
-use Rattle.std.proofs.Common.{◌≡◌, ◌/◌, rules}
-use Rattle.pbd_grid.specs.Blocks.{axis_cell}
-use Rattle.pbd_grid.proofs.Looking.{axis_small}
+use Rattle.std.proofs.Common.{◌≡◌, ◌∙◌, w64}
+use Rattle.std.proofs.lemmas.Int.{to_z-of_z}
+use Rattle.pbd_grid.proofs.Looking.{axis_left, axis_right}
 use Rattle.pbd_grid.proofs.lookup.on_axis.Goals as goal
 
-pub returns-clause-bounded : goal.returns-clause-bounded
-unfolding axis_cell
-returns-clause-bounded c =
-    let v : c.unsigned_abs.result / c.from-2.result ≡ axis_cell c.args.side c.args.x = search rules in
-    rw v (axis_small c.args.side c.args.x c.requires.x c.requires.low)
+pub returns-then-x-lt0-clause-value : goal.returns-then-x-lt0-clause-value
+returns-then-x-lt0-clause-value c = c.from.ensures ∙ axis_left c.args.side c.unsigned_abs-far.result c.args.x _ c.requires.low (to_z-of_z w64 c.args.x c.ranges.x) c.unsigned_abs-far.ensures.value c.requires.x c.if-x-lt0.true
+
+pub returns-else-x-lt0-clause-value : goal.returns-else-x-lt0-clause-value
+returns-else-x-lt0-clause-value c = c.from-else-x-lt0.ensures ∙ axis_right c.args.side c.unsigned_abs-far.result c.args.x _ c.requires.low (to_z-of_z w64 c.args.x c.ranges.x) c.unsigned_abs-far.ensures.value c.if-x-lt0.false
