@@ -1,8 +1,5 @@
--- Lines of a frame, and names in a line.
-use Rattle.std.proofs.Common.{◌∙◌, sym, ap, ℕ, zero, suc, ◌+◌, ◌<◌, List, [], ◌∷◌, ◌++◌, length, get_or, take, drop, arith, append_assoc, ◌≤◌, lit≤, lit<, refl, ◌≡◌}
-use Rattle.std.specs.Prelude.{flat_map}
-use Rattle.std.proofs.lemmas.Fmt.{decimal_digit}
-use Rattle.pbd_world.specs.Text.{header_line}
+-- Names in a line.
+use Rattle.std.proofs.Common.{ℕ, List, [], ◌∷◌, ◌++◌, length, append_assoc, ◌≤◌, lit≤, refl, ◌≡◌}
 use Rattle.pbd_scene.specs.declared.fault.SceneRule.{SceneRule}
 use Rattle.pbd_scene.specs.declared.fault.SceneRule.TheVariants as rules
 use Rattle.pbd_scene.specs.declared.fault.TableName.{TableName}
@@ -10,20 +7,6 @@ use Rattle.pbd_scene.specs.declared.fault.TableName.TheVariants as tables
 use Rattle.pbd_scene.specs.declared.fault.KeyName.{KeyName}
 use Rattle.pbd_scene.specs.declared.fault.KeyName.TheVariants as keys
 use Rattle.pbd_scene.specs.Keys.{rule_text, table_text, key_text}
-use Rattle.pbd_cli.specs.Falling.{Falling, Unseen, falling, still_header}
-
-pub flat_at : {X : Type 0} (f : X → List ℕ) (xs : List X) (i : ℕ) (d : X) (piece : List ℕ) → i < length xs → piece ≡ f (get_or xs i d) → flat_map f xs ≡ flat_map f (take i xs) ++ (piece ++ flat_map f (drop (i + 1) xs))
-flat_at f [] i d piece lt is = absurd (omega arith)
-flat_at f (x ∷ xs) zero d piece lt is = rw is refl
-flat_at f (x ∷ xs) (suc i) d piece lt is =
-    let e : suc i + 1 ≡ suc (i + 1) = omega arith in
-    rw e (ap (λ t. f x ++ t) (flat_at f xs i d piece (omega (arith, lt)) is) ∙ sym (append_assoc (f x) (flat_map f (take i xs)) (piece ++ flat_map f (drop (i + 1) xs))))
-
--- ---- a frame's first line
-
-pub header_is : (f : Falling) (u : Unseen) → header_line (falling f u) ≡ still_header f.steps (length f.particles)
-unfolding header_line still_header
-header_is f u = rw (decimal_digit 0 (lit< tt)) refl
 
 -- ---- the words of a line
 

@@ -1,5 +1,5 @@
 -- What the words ask for.
-use Rattle.std.specs.Prelude.{ℕ, ◌^◌, Bool, ◌&&◌, nat_le, nat_lt, codes, if◌then◌else◌, List, [], ◌∷◌, length, bytes_eq, Option, Some, None, option_map, option_and_then}
+use Rattle.std.specs.Prelude.{ℕ, ◌≤◌, ◌^◌, Bool, ◌&&◌, nat_le, nat_lt, codes, if◌then◌else◌, List, [], ◌∷◌, length, bytes_eq, Option, Some, None, option_map, option_and_then}
 use Rattle.std.specs.List.{list_all}
 use Rattle.pbd_world.specs.declared.command.Width.{Width}
 use Rattle.pbd_world.specs.declared.command.Width.TheVariants.{W1, W2, W4, W8, W16}
@@ -44,3 +44,8 @@ abbrev pub job : List (List ℕ) → Option Job
 job (form ∷ word ∷ []) = if bytes_eq form (codes "scramble") then option_map (λ seed. Scramble seed) (number word) else option_and_then (with_width form) (width word)
 job (form ∷ w ∷ seed ∷ side ∷ []) = if bytes_eq form (codes "large") then large w seed side else None
 job _ = None
+
+-- a generated scene has 2 to 128 rows
+abbrev pub IsSized : Job → Type 0
+IsSized (Large width seed size) = (2 ≤ size) × (size ≤ 128)
+IsSized _ = Unit {0}

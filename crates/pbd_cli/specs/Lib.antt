@@ -1,6 +1,8 @@
 pub mod Clauses
-pub mod Falling
+pub mod Generated
+pub mod Headline
 pub mod Job
 pub mod Outcome
 pub mod Reading
 pub mod Split
+pub mod Statuses

@@ -1,25 +1,31 @@
--- What a run writes and answers: a function of the job and the input.
-use Rattle.std.specs.Prelude.{ℕ, ◌+◌, ◌^◌, ℤ, pos, Bool, true, false, ◌&&◌, codes, decimal, if◌then◌else◌, nat_lt, ◌==◌, List, [], ◌∷◌, length, drop, Option, Some, None, Ok, Err}
-use Rattle.std.specs.List.{list_all}
+-- What a run writes and answers, by the job and the input. No width has a part in it.
+use Rattle.std.specs.Prelude.{◌≡◌, ◌⊎◌, ℕ, ◌+◌, ◌<◌, ◌≤◌, ◌==◌, ◌^◌, ℤ, pos, if◌then◌else◌, List, [], length, drop, Option, Some, None, Result, Ok, Err}
 use Rattle.std.specs.Str.{is_utf8}
 use Rattle.toml.specs.Data.{Members}
 use Rattle.toml.specs.Parse.{parse_document}
 use Rattle.pbd_world.specs.declared.parts.Parts.{Parts}
 use Rattle.pbd_world.specs.declared.command.Command.{Command}
-use Rattle.pbd_world.specs.declared.command.Command.TheVariants as commands
+use Rattle.pbd_world.specs.Outcomes.{◌>>=◌}
 use Rattle.pbd_world.specs.World.{World, opened}
-use Rattle.pbd_world.specs.Text.{line}
-use Rattle.pbd_world.specs.Session.{session_text, refused_count}
+use Rattle.pbd_world.specs.declared.command.Command.TheVariants.{Step}
+use Rattle.pbd_world.specs.declared.command.Reply.{Reply}
+use Rattle.pbd_world.specs.Meaning.{after, reply}
+use Rattle.pbd_world.specs.Session.{is_refused, session_text, refused_count}
 use Rattle.pbd_scene.specs.Checks.{Broken, Checked}
-use Rattle.pbd_scene.specs.Keys.{key_text, table_text, rule_number, rule_text}
 use Rattle.pbd_scene.specs.Scene.{scene_of}
-use Rattle.pbd_script.specs.Commands as script
+use Rattle.pbd_script.specs.Commands.{commands}
+use Rattle.pbd_log.specs.Logs.{Log, Spells, IsFault}
+use Rattle.pbd_session.specs.declared.ending.ReplayEnd.{ReplayEnd}
+use Rattle.pbd_session.specs.declared.ending.ReplayEnd.TheVariants as ends
+use Rattle.pbd_session.specs.Recording.{entries_of, log_bytes}
+use Rattle.pbd_session.specs.Replaying.{Replay, replayed}
 use Rattle.pbd_cli.specs.declared.job.Job.{Job}
-use Rattle.pbd_cli.specs.declared.job.Job.TheVariants.{Simulate}
+use Rattle.pbd_cli.specs.declared.job.Job.TheVariants as jobs
 use Rattle.pbd_cli.specs.declared.status.Status.{Status}
-use Rattle.pbd_cli.specs.declared.status.Status.TheVariants as status
-use Rattle.pbd_cli.specs.Falling.{only_fall}
+use Rattle.pbd_cli.specs.declared.status.Status.TheVariants.{Done, SomeRefused, Usage, InputTooLong, NoScript, SceneNotText, SceneNotToml, SceneRefused, LogRefused, Mismatch, NotBuilt}
+use Rattle.pbd_cli.specs.Generated.{generated, summary}
 use Rattle.pbd_cli.specs.Split.{split}
+use Rattle.pbd_cli.specs.Statuses.{status_line, refused_line, log_line}
 
 -- the text and the status of a run, and what it leaves of the input
 pub record Outcome : Type 0 where
@@ -27,94 +33,124 @@ pub record Outcome : Type 0 where
   pub status : Status
   pub rest : List ℕ
 
--- how many bytes an input may have
+-- how many bytes an input with a scene and a script may have
 unfoldable pub most : ℕ
 most = 16777216
 
--- the greatest size of a coordinate
+-- how many bytes a log may have
+unfoldable pub most_of_log : ℕ
+most_of_log = 134217728
+
+-- the greatest size of a coordinate, but in a log with another limit
 abbrev pub range : ℤ
 range = pos (2 ^ 29)
 
--- ---- statuses
-
-abbrev pub status_number : Status → ℕ
-status_number status.Done = 0
-status_number status.Usage = 1
-status_number status.ReadFault = 2
-status_number status.WriteFault = 3
-status_number status.InputTooLong = 4
-status_number status.NoScript = 5
-status_number status.SceneNotText = 6
-status_number status.SceneNotToml = 7
-status_number status.SceneRefused = 8
-status_number status.SomeRefused = 11
-status_number status.OutOfMemory = 12
-status_number status.NotBuilt = 13
-
--- ---- error lines
-
-abbrev pub error_line : List (List ℕ) → List ℕ
-error_line words = line (codes "error" ∷ words)
-
--- the line of a status that has one of its own
-abbrev pub status_line : Status → List ℕ
-status_line status.Usage = error_line (codes "1" ∷ codes "Usage" ∷ [])
-status_line status.ReadFault = error_line (codes "2" ∷ codes "ReadFault" ∷ [])
-status_line status.InputTooLong = error_line (codes "4" ∷ codes "InputTooLong" ∷ [])
-status_line status.NoScript = error_line (codes "5" ∷ codes "NoScript" ∷ [])
-status_line status.SceneNotText = error_line (codes "6" ∷ codes "SceneNotText" ∷ [])
-status_line status.SceneNotToml = error_line (codes "7" ∷ codes "SceneNotToml" ∷ [])
-status_line status.NotBuilt = error_line (codes "13" ∷ codes "NotBuilt" ∷ [])
-status_line _ = []
-
--- the rule that a scene breaks, and where
-unfoldable pub refused_line : Broken → List ℕ
-refused_line b = error_line (codes "8" ∷ codes "SceneRefused" ∷ decimal (rule_number b.rule) ∷ rule_text b.rule ∷ table_text b.place.table ∷ decimal b.place.position ∷ key_text b.key ∷ [])
-
--- ---- what isn't built yet
-
-abbrev pub is_built_command : Command → Bool
-is_built_command (commands.Step n) = true
-is_built_command commands.Frame = true
-is_built_command commands.Bad = true
-is_built_command _ = false
-
-abbrev pub are_built : Parts → List Command → Bool
-are_built parts cs = only_fall parts && list_all is_built_command cs
-
--- ---- the outcome
-
 -- the run stops, with the line of its status
 abbrev pub stops : Status → List ℕ → Outcome
-stops s rest = record { text = status_line s; status = s; rest = rest }
+stops status rest = record { text = status_line status; status = status; rest = rest }
+
+-- the outcome that a run comes to, early or at its end
+abbrev pub settled : Result Outcome Outcome → Outcome
+settled (Ok o) = o
+settled (Err o) = o
+
+-- ---- a scene and a script
+
+-- the scene's bytes and the script, or how the run stops
+abbrev pub halves_in : Option (List ℕ × List ℕ) → Result (List ℕ × List ℕ) Outcome
+halves_in (Some halves) = Ok halves
+halves_in None = Err (stops NoScript [])
 
 abbrev pub scene_refused : Broken → Outcome
-scene_refused b = record { text = refused_line b; status = status.SceneRefused; rest = [] }
+scene_refused broken = record { text = refused_line broken; status = SceneRefused; rest = [] }
+
+-- the first broken rule stops the run
+abbrev pub parts_in : Checked Parts → Result Parts Outcome
+parts_in (Ok parts) = Ok parts
+parts_in (Err broken) = Err (scene_refused broken)
+
+abbrev pub tree_in : ℤ → Option Members → Result Parts Outcome
+tree_in limit (Some tree) = parts_in (scene_of limit tree)
+tree_in limit None = Err (stops SceneNotToml [])
+
+-- the parts of a scene's bytes, read with a limit, or how the run stops
+unfoldable pub scene_in : ℤ → List ℕ → Result Parts Outcome
+scene_in limit bytes = if is_utf8 bytes then tree_in limit (parse_document bytes) else Err (stops SceneNotText [])
+
+-- the status of a run with so many refused commands
+abbrev pub ends_as : ℕ → Status
+ends_as refused = if refused == 0 then Done else SomeRefused
 
 -- the replies to the commands
 abbrev pub session_outcome : World → List Command → Outcome
-session_outcome w cs = record { text = session_text w cs; status = if refused_count w cs == 0 then status.Done else status.SomeRefused; rest = [] }
+session_outcome w cs = record { text = session_text w cs; status = ends_as (refused_count w cs); rest = [] }
 
-abbrev pub parts_outcome : Parts → List Command → Outcome
-parts_outcome parts cs = if are_built parts cs then session_outcome (opened parts) cs else stops status.NotBuilt []
+-- the log of the commands
+abbrev pub record_outcome : List ℕ → World → List Command → Outcome
+record_outcome scene w cs = record { text = log_bytes range scene (entries_of w cs); status = ends_as (refused_count w cs); rest = [] }
 
-abbrev pub scene_outcome : Checked Parts → List Command → Outcome
-scene_outcome (Err broken) cs = scene_refused broken
-scene_outcome (Ok parts) cs = parts_outcome parts cs
+unfoldable pub simulated : List ℕ → Outcome
+simulated input = settled (do
+  halves ← halves_in (split input)
+  parts ← scene_in range halves.0
+  Ok (session_outcome (opened parts) (commands halves.1)))
 
-abbrev pub tree_outcome : Option Members → List Command → Outcome
-tree_outcome None cs = stops status.SceneNotToml []
-tree_outcome (Some tree) cs = scene_outcome (scene_of range tree) cs
+unfoldable pub recorded : List ℕ → Outcome
+recorded input = settled (do
+  halves ← halves_in (split input)
+  parts ← scene_in range halves.0
+  Ok (record_outcome halves.0 (opened parts) (commands halves.1)))
 
-unfoldable pub halves_outcome : Option (List ℕ × List ℕ) → Outcome
-halves_outcome None = stops status.NoScript []
-halves_outcome (Some halves) = if is_utf8 halves.0 then tree_outcome (parse_document halves.0) (script.commands halves.1) else stops status.SceneNotText []
+-- ---- a log
 
-unfoldable pub input_outcome : List ℕ → Outcome
-input_outcome input = if nat_lt most (length input) then stops status.InputTooLong (drop (most + 1) input) else halves_outcome (split input)
+abbrev pub replay_status : ReplayEnd → Status
+replay_status (ends.Done refused) = ends_as refused
+replay_status (ends.Mismatch entry field recorded found) = Mismatch
 
--- Words that are no form read nothing, nor does a job that isn't built.
-unfoldable pub outcome : Option Job → List ℕ → Outcome
-outcome None input = stops status.Usage input
-outcome (Some (Simulate width)) input = input_outcome input
-outcome (Some _) input = stops status.NotBuilt input
+-- the replies of the entries up to the first that differs, and its line
+abbrev pub replay_outcome : Replay → Outcome
+replay_outcome r = record { text = r.text; status = replay_status r.ended; rest = [] }
+
+-- a log on its scene, which is read with the log's limit
+unfoldable pub log_outcome : Log → Outcome
+log_outcome log = settled (do
+  parts ← scene_in log.limit log.scene
+  Ok (replay_outcome (replayed (opened parts) log.entries)))
+
+abbrev pub log_refused : ℕ → Outcome
+log_refused offset = record { text = log_line offset; status = LogRefused; rest = [] }
+
+-- The bytes are a log, and the outcome is that of its replay; or they are none, and it tells where they go wrong.
+abbrev pub IsReplayed : List ℕ → Outcome → Type 0
+IsReplayed input o =
+    ((log : Log) × Spells input log.version log.limit log.scene log.entries × (o ≡ log_outcome log))
+    ⊎ ((offset : ℕ) × IsFault input offset × (o ≡ log_refused offset))
+
+-- ---- a generated scene
+
+abbrev pub step_status : Reply → Status
+step_status r = if is_refused r then SomeRefused else Done
+
+-- thirty steps of a world, and what came of them
+unfoldable pub summary_outcome : ℕ → ℕ → World → List ℕ → Outcome
+summary_outcome number size w rest = record { text = summary number size (after w (Step 30)) (reply w (Step 30)); status = step_status (reply w (Step 30)); rest = rest }
+
+abbrev pub large_outcome : ℕ → ℕ → List ℕ → Outcome
+large_outcome number size rest = summary_outcome number size (opened (generated number size)) rest
+
+-- ---- all forms
+
+-- One byte more than the form allows stops the run, which leaves what follows it. Else the whole input decides.
+abbrev pub IsWithin : ℕ → (Outcome → Type 0) → List ℕ → Outcome → Type 0
+IsWithin limit IsWhole input o =
+    ((limit < length input) × (o ≡ stops InputTooLong (drop (limit + 1) input)))
+    ⊎ ((length input ≤ limit) × IsWhole o)
+
+-- Words that are no form read nothing, nor does a form that isn't built.
+abbrev pub IsOutcome : Option Job → List ℕ → Outcome → Type 0
+IsOutcome None input o = o ≡ stops Usage input
+IsOutcome (Some (jobs.Simulate width)) input o = IsWithin most (λ o. o ≡ simulated input) input o
+IsOutcome (Some (jobs.Record width)) input o = IsWithin most (λ o. o ≡ recorded input) input o
+IsOutcome (Some (jobs.Replay width)) input o = IsWithin most_of_log (IsReplayed input) input o
+IsOutcome (Some (jobs.Large width number size)) input o = o ≡ large_outcome number size input
+IsOutcome (Some job) input o = o ≡ stops NotBuilt input

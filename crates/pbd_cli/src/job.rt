@@ -1,7 +1,7 @@
-ghost use Rattle.std.specs.Prelude.{◌≡◌, [], ◌∷◌, ◌≤◌, ◌<◌, ◌^◌, IsTrue, length, map, string_bytes};
+ghost use Rattle.std.specs.Prelude.{◌≡◌, [], ◌∷◌, ◌≤◌, ◌<◌, ◌^◌, IfSome, IsTrue, length, map, string_bytes};
 ghost use Rattle.std.specs.List.{list_all};
 ghost use Rattle.pbd_script.specs.Lines.{is_digit, value};
-ghost use Rattle.pbd_cli.specs.Job.{width, are_digits, number, size, with_width, large, job};
+ghost use Rattle.pbd_cli.specs.Job.{width, are_digits, number, size, with_width, large, job, IsSized};
 
 use pbd_world::Width;
 
@@ -83,7 +83,9 @@ fn number(word: &str) -> Option<u64>
 /// 1 to 3 digits that say 2 to 128.
 #[tactic(auto, unfolding(crate::specs::Job::size))]
 fn size(word: &str) -> Option<u32>
-    ensures { result ≡ size word.now }
+    ensures value { result ≡ size word.now }
+    ensures low { IfSome result (λ n. 2 ≤ n) }
+    ensures high { IfSome result (λ n. n ≤ 128) }
 {
     if !are_digits(3, word.as_bytes()) {
         return None;
@@ -97,7 +99,8 @@ fn size(word: &str) -> Option<u32>
 }
 
 fn with_width(form: &str, width: Width) -> Option<Job>
-    ensures { result ≡ with_width form.now width }
+    ensures value { result ≡ with_width form.now width }
+    ensures sized { IfSome result IsSized }
 {
     if form == "simulate" {
         Some(Job::Simulate(width))
@@ -117,7 +120,8 @@ fn with_width(form: &str, width: Width) -> Option<Job>
 }
 
 fn large(width: &str, seed: &str, side: &str) -> Option<Job>
-    ensures { result ≡ large width.now seed.now side.now }
+    ensures value { result ≡ large width.now seed.now side.now }
+    ensures sized { IfSome result IsSized }
 {
     let width = width_of(width)?;
     let seed = number(seed)?;
@@ -126,7 +130,8 @@ fn large(width: &str, seed: &str, side: &str) -> Option<Job>
 }
 
 fn of_two(form: &str, word: &str) -> Option<Job>
-    ensures { result ≡ job (form.now ∷ word.now ∷ []) }
+    ensures value { result ≡ job (form.now ∷ word.now ∷ []) }
+    ensures sized { IfSome result IsSized }
 {
     if form == "scramble" {
         let seed = number(word)?;
@@ -138,7 +143,8 @@ fn of_two(form: &str, word: &str) -> Option<Job>
 
 /// The job of the words, `None` exactly where they are no form.
 pub fn job_of(words: &[String]) -> Option<Job>
-    ensures { result ≡ job (map string_bytes words.now) }
+    ensures job { result ≡ job (map string_bytes words.now) }
+    ensures sized { IfSome result IsSized }
 {
     match words {
         [form, word] => of_two(form.as_str(), word.as_str()),

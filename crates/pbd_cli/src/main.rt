@@ -1,11 +1,16 @@
 //! Runs a simulation: a scene, a line `%%` and a script on standard input, and the replies on standard output.
 #![tactic(auto)]
 
+#[cfg(test)]
+mod examples;
 mod job;
+mod large;
+mod laws;
 mod line;
 mod reading;
 mod run;
-mod session;
+mod scene;
+mod sessions;
 mod split;
 mod status;
 #[cfg(test)]

@@ -12,7 +12,9 @@ fn is_divider(piece: &[u8]) -> bool
 /// The scene before the first line that is `%%`, and the script after it.
 #[tactic(auto, using(crate::proofs::SplitLaws::split_here, crate::proofs::SplitLaws::split_on, crate::proofs::SplitLaws::split_last))]
 pub fn split(input: &[u8]) -> Option<(&[u8], &[u8])>
-    ensures { option_map (λ halves. (halves.0.now, halves.1.now)) result ≡ split input.now }
+    ensures halves { option_map (λ halves. (halves.0.now, halves.1.now)) result ≡ split input.now }
+    ensures first { IfSome result (λ halves. length halves.0.now ≤ length input.now) }
+    ensures second { IfSome result (λ halves. length halves.1.now ≤ length input.now) }
 {
     let mut at = 0;
     let mut rest = input;

@@ -1,5 +1,8 @@
 ghost use Rattle.std.specs.Prelude.{◌≡◌};
-ghost use Rattle.pbd_cli.specs.Outcome.{status_line};
+ghost use Rattle.pbd_cli.specs.Statuses.{status_line};
+ghost use Rattle.pbd_cli.specs.Outcome.{ends_as, replay_status};
+
+use pbd_session::ReplayEnd;
 
 /// How a run ended.
 #[derive(Clone, Copy, Debug, PartialEq, Eq)]
@@ -22,16 +25,20 @@ pub enum Status {
     SceneNotToml,
     /// The scene breaks a rule.
     SceneRefused,
+    /// The bytes are no log.
+    LogRefused,
+    /// A record of the log differs from what the session answers.
+    Mismatch,
     /// All went well, but a command was refused.
     SomeRefused,
     /// Memory ran out before the first byte of output.
     OutOfMemory,
-    /// The form, a key of the scene or a command isn't built yet.
+    /// The form isn't built yet.
     NotBuilt,
 }
 
 impl Status {
-    ghost use Rattle.pbd_cli.specs.Outcome.{status_number};
+    ghost use Rattle.pbd_cli.specs.Statuses.{status_number};
 
     /// The number that the program ends with.
     pub fn code(&self) -> u8
@@ -47,6 +54,8 @@ impl Status {
             Status::SceneNotText => 6,
             Status::SceneNotToml => 7,
             Status::SceneRefused => 8,
+            Status::LogRefused => 9,
+            Status::Mismatch => 10,
             Status::SomeRefused => 11,
             Status::OutOfMemory => 12,
             Status::NotBuilt => 13,
@@ -54,7 +63,7 @@ impl Status {
     }
 }
 
-/// The line of a status that has one of its own.
+/// The line of a status that has always the same.
 pub fn status_line(status: Status) -> &'static str
     ensures { result.now ≡ status_line status }
 {
@@ -67,5 +76,26 @@ pub fn status_line(status: Status) -> &'static str
         Status::SceneNotToml => "error 7 SceneNotToml\n",
         Status::NotBuilt => "error 13 NotBuilt\n",
         _ => "",
+    }
+}
+
+/// How a session with so many refused commands ends.
+pub fn ends_as(refused: u64) -> Status
+    ensures { result ≡ ends_as refused }
+{
+    if refused == 0 {
+        Status::Done
+    } else {
+        Status::SomeRefused
+    }
+}
+
+/// How a replay with this end ends.
+pub fn replay_status(end: ReplayEnd) -> Status
+    ensures { result ≡ replay_status end }
+{
+    match end {
+        ReplayEnd::Done { refused } => ends_as(refused),
+        ReplayEnd::Mismatch { .. } => Status::Mismatch,
     }
 }

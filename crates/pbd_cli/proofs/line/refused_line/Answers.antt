@@ -1,6 +1,6 @@
 use Rattle.std.proofs.Common.{ap, ◌++◌, codes, decimal}
 use Rattle.pbd_scene.specs.Keys.{rule_number, rule_text, table_text, key_text}
-use Rattle.pbd_cli.specs.Outcome.{refused_line}
+use Rattle.pbd_cli.specs.Statuses.{refused_line}
 use Rattle.pbd_cli.proofs.LineLaws.{joined}
 use Rattle.pbd_cli.proofs.line.refused_line.Goals as goal
 

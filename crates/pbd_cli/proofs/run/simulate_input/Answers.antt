@@ -1,0 +1,13 @@
+use Rattle.std.proofs.Common.{sym}
+use Rattle.pbd_cli.proofs.OutcomeLaws.{simulated_none, simulated_halves, simulated_did}
+use Rattle.pbd_cli.proofs.SceneLaws.{scene_ended}
+use Rattle.pbd_cli.proofs.run.simulate_input.Goals as goal
+
+pub returns-in_default : goal.returns-in_default
+returns-in_default g c = rw (simulated_none c.args.input.now (sym c.in_default.ensures.halves)) c.stop.ensures.does
+
+pub returns-in-Ok : goal.returns-in-Ok
+returns-in-Ok g c = simulated_did c.args.input.now (c.in-Some.text.now, c.in-Some.script.now) c.in-Ok.scene _ _ _ _ _ (sym c.in-Some.ensures.halves) c.in-Ok.ensures c.simulate_at.ensures
+
+pub returns-in-Err : goal.returns-in-Err
+returns-in-Err g c = rw (simulated_halves c.args.input.now (c.in-Some.text.now, c.in-Some.script.now) (sym c.in-Some.ensures.halves)) (scene_ended c.in-Err.why _ _ _ _ _ _ _ c.in-Err.ensures c.stop_scene.ensures)
