@@ -10,7 +10,7 @@ use Rattle.std.proofs.lemmas.List.Elements.{All-drop}
 use Rattle.pbd_num.specs.declared.Vec3.{Vec3}
 use Rattle.pbd_num.specs.Vectors.{Within, is_within}
 use Rattle.pbd_num.specs.Rounding.{rdiv}
-use Rattle.pbd_num.proofs.Sizes.{size-mul, size-sub}
+use Rattle.pbd_num.proofs.Sizes.{size-mul}
 use Rattle.pbd_num.proofs.RoundingLemmas.{size-rdiv}
 use Rattle.pbd_num.proofs.Ranges.{within_facts}
 use Rattle.pbd_world.specs.declared.parts.Key.{Key}
@@ -46,11 +46,11 @@ track_keys track h =
 
 -- ---- places between keys
 
-pub share_size : (from to : ℤ) (part whole : ℕ) → unsigned_abs from ≤ 2 ^ 29 → unsigned_abs to ≤ 2 ^ 29 → part < whole → unsigned_abs ((to -ℤ from) *ℤ pos part) ≤ 2 ^ 30 * whole
-share_size from to part whole h k lt = size-mul (to -ℤ from) (pos part) (2 ^ 30) whole (omega (arith, size-sub to from)) (omega arith)
+pub share_size : (way : ℤ) (part whole : ℕ) → unsigned_abs way ≤ 2 ^ 30 → part < whole → unsigned_abs (way *ℤ pos part) ≤ 2 ^ 30 * whole
+share_size way part whole h lt = size-mul way (pos part) (2 ^ 30) whole (omega (arith, h)) (omega arith)
 
-pub rounded_size : (from to : ℤ) (part whole : ℕ) → unsigned_abs from ≤ 2 ^ 29 → unsigned_abs to ≤ 2 ^ 29 → part < whole → unsigned_abs (rdiv ((to -ℤ from) *ℤ pos part) (pos whole)) ≤ 2 ^ 30
-rounded_size from to part whole h k lt = size-rdiv ((to -ℤ from) *ℤ pos part) (pos whole) (2 ^ 30) (omega arith) (share_size from to part whole h k lt)
+pub rounded_size : (way : ℤ) (part whole : ℕ) → unsigned_abs way ≤ 2 ^ 30 → part < whole → unsigned_abs (rdiv (way *ℤ pos part) (pos whole)) ≤ 2 ^ 30
+rounded_size way part whole h lt = size-rdiv (way *ℤ pos part) (pos whole) (2 ^ 30) (omega arith) (share_size way part whole h lt)
 
 pub up_to : (from : Key) (keys : List Key) (t : ℕ) → t ≤ from.step → place_from from keys t ≡ from.place
 up_to from [] t h = refl

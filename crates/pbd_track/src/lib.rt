@@ -13,7 +13,18 @@ use pbd_store::{Steps, Store};
 use pbd_world::{Key, Track};
 use std::sync::ledger::Ledger;
 
-/// One axis after `part` of `whole` steps from one place to another, to the nearest whole number.
+/// The share of a way after `part` of `whole` steps, to the nearest whole number.
+fn share(way: i64, part: u32, whole: u32) -> i64
+    requires way { unsigned_abs way ≤ 2 ^ 30 }
+    requires part { part < whole }
+    requires whole { whole ≤ 1000000 }
+    ensures value { result ≡ rounded (way *ℤ pos part) (pos whole) }
+    ensures size { unsigned_abs result ≤ 2 ^ 30 }
+{
+    rdiv(way * i64::from(part), i64::from(whole))
+}
+
+/// One axis after `part` of `whole` steps from one place to another.
 fn axis_between(from: i64, to: i64, part: u32, whole: u32) -> i64
     requires from { unsigned_abs from ≤ 2 ^ 29 }
     requires to { unsigned_abs to ≤ 2 ^ 29 }
@@ -21,7 +32,7 @@ fn axis_between(from: i64, to: i64, part: u32, whole: u32) -> i64
     requires whole { whole ≤ 1000000 }
     ensures { result ≡ from +ℤ rounded ((to -ℤ from) *ℤ pos part) (pos whole) }
 {
-    from + rdiv((to - from) * i64::from(part), i64::from(whole))
+    from + share(to - from, part, whole)
 }
 
 fn place_between(k: Key, l: Key, t: u32) -> Vec3
