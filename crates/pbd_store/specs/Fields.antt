@@ -1,7 +1,7 @@
-use Rattle.std.specs.Prelude.{ℤ, pos}
+use Rattle.std.specs.Prelude.{ℤ}
 use Rattle.pbd_world.specs.declared.parts.Particle.{Particle}
-use Rattle.pbd_store.specs.declared.columns.Field.{Field}
-use Rattle.pbd_store.specs.declared.columns.Field.TheVariants as number
+use Rattle.pbd_store.specs.declared.axes.Field.{Field}
+use Rattle.pbd_store.specs.declared.axes.Field.TheVariants as number
 
 -- one number of a particle
 abbrev pub number_of : Field → Particle → ℤ
@@ -11,4 +11,3 @@ number_of number.AtZ p = p.at.z
 number_of number.BeforeX p = p.before.x
 number_of number.BeforeY p = p.before.y
 number_of number.BeforeZ p = p.before.z
-number_of number.Weight p = pos p.weight

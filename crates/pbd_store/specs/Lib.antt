@@ -2,4 +2,5 @@ pub mod Stored
 pub mod Blocks
 pub mod Gathering
 pub mod Fields
+pub mod Listed
 pub mod Moving

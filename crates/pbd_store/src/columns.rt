@@ -1,78 +1,145 @@
-ghost use Rattle.std.specs.Prelude.{◌≡◌, ℕ, ◌<◌, ◌≤◌, ◌+◌, pos, ℤ, length, slice_set, IfOk, IsTrue, vec_len, if◌then◌else◌, nat_lt};
+ghost use Rattle.std.specs.Prelude.{◌≡◌, ℕ, ◌<◌, ◌≤◌, ◌+◌, ◌++◌, pos, false, ℤ, length, map, replicate, slice_index, slice_set, IfOk, IsTrue, vec_len, if◌then◌else◌, nat_lt};
 ghost use Rattle.pbd_lanes.specs.Lane.{lanes_of};
 ghost use Rattle.pbd_world.specs.Particles.{particle_at, placed, effective_weight};
 ghost use Rattle.pbd_store.specs.Blocks.{place_of};
 ghost use Rattle.pbd_store.specs.Fields.{number_of};
 
+use crate::axes::{Axes, Field, column, lanes_from, padded};
 use pbd_lanes::{Lanes, Mask};
 use pbd_num::Vec3;
 use pbd_world::Particle;
 use std::alloc::{AllocError, Global};
 use std::marker::Model;
 
-/// The particles, without a limit and a count of accesses.
+/// The particles, without a limit and a count of accesses: a column for each of their numbers, and for the flags.
+/// Each column has L zeros at its end, so that every block is whole.
 #[derive(Drop)]
-pub(crate) struct Columns {
-    particles: Vec<Particle>,
+pub(crate) struct Columns<const L: usize> {
+    count: usize,
+    at: Axes,
+    before: Axes,
+    weight: Vec<u16>,
+    held: Vec<bool>,
 }
 
-impl Model for Columns {
-    ghost use Rattle.std.specs.Prelude.{List, vec_len, ◌≤◌};
+impl<const L: usize> Model for Columns<L> {
+    ghost use Rattle.std.specs.Prelude.{List};
     ghost use Rattle.pbd_world.specs.declared.parts.Particle.{Particle};
+    ghost use Rattle.pbd_store.specs.Listed.{listed, ArePadded};
 
     ghost Value = { List Particle };
 
-    ghost view = { λ s. s.particles.items };
+    ghost view = { λ s. listed s.count s.at s.before s.weight.items s.held.items };
 
-    ghost invariant = { λ s. vec_len s.particles ≤ 65536 };
+    ghost invariant = { λ s. ArePadded s.count L s.at s.before s.weight.items s.held.items };
 }
 
-#[derive(Clone, Copy)]
-pub(crate) enum Field {
-    AtX,
-    AtY,
-    AtZ,
-    BeforeX,
-    BeforeY,
-    BeforeZ,
-    Weight,
-}
-
-fn number_in(particle: Particle, which: Field) -> i64
-    ensures { result ≡ number_of which particle }
+fn weights_of(alloc: Global, particles: &[Particle]) -> Result<Vec<u16>, AllocError>
+    ensures { IfOk result (λ v. v.items ≡ map (λ p. p.weight) particles.now) }
 {
-    match which {
-        Field::AtX => particle.at.x,
-        Field::AtY => particle.at.y,
-        Field::AtZ => particle.at.z,
-        Field::BeforeX => particle.before.x,
-        Field::BeforeY => particle.before.y,
-        Field::BeforeZ => particle.before.z,
-        Field::Weight => i64::from(particle.weight),
-    }
+    particles.iter().map(|p| p.weight).collect(alloc)
 }
 
-impl Columns {
-    pub(crate) fn open(alloc: Global, particles: &[Particle]) -> Result<Columns, AllocError>
+fn flags_of(alloc: Global, particles: &[Particle]) -> Result<Vec<bool>, AllocError>
+    ensures { IfOk result (λ v. v.items ≡ map (λ p. p.held) particles.now) }
+{
+    particles.iter().map(|p| p.held).collect(alloc)
+}
+
+fn weight_at(column: &[u16], i: usize) -> i64
+    requires { i < length column.now }
+    ensures { result ≡ pos (slice_index column.now i) }
+{
+    i64::from(column[i])
+}
+
+fn set_weight(column: &mut Vec<u16>, i: usize, weight: u16)
+    requires { i < length column.old.items }
+    ensures { column.new.items ≡ slice_set column.old.items i weight }
+{
+    column[i] = weight;
+}
+
+fn set_flag(column: &mut Vec<bool>, i: usize, flag: bool)
+    requires { i < length column.old.items }
+    ensures { column.new.items ≡ slice_set column.old.items i flag }
+{
+    column[i] = flag;
+}
+
+impl<const L: usize> Columns<L> {
+    pub(crate) fn open(alloc: Global, particles: &[Particle]) -> Result<Columns<L>, AllocError>
         requires { length particles.now ≤ 65536 }
         ensures { IfOk result (λ s. s ≡ particles.now) }
     {
-        let particles = particles.to_vec(alloc)?;
-        Ok(Columns { particles })
+        let at_x = column(alloc, particles, L, Field::AtX)?;
+        let at_y = column(alloc, particles, L, Field::AtY)?;
+        let at_z = column(alloc, particles, L, Field::AtZ)?;
+        let before_x = column(alloc, particles, L, Field::BeforeX)?;
+        let before_y = column(alloc, particles, L, Field::BeforeY)?;
+        let before_z = column(alloc, particles, L, Field::BeforeZ)?;
+        let weights = weights_of(alloc, particles)?;
+        let weight = padded(weights, L, 0)?;
+        let flags = flags_of(alloc, particles)?;
+        let held = padded(flags, L, false)?;
+        let at = Axes {
+            x: at_x,
+            y: at_y,
+            z: at_z,
+        };
+        let before = Axes {
+            x: before_x,
+            y: before_y,
+            z: before_z,
+        };
+        Ok(Columns::joined(particles, at, before, weight, held))
+    }
+
+    // The columns of a list.
+    fn joined(
+        particles: &[Particle],
+        at: Axes,
+        before: Axes,
+        weight: Vec<u16>,
+        held: Vec<bool>,
+    ) -> Columns<L>
+        requires few { length particles.now ≤ 65536 }
+        requires at_x { at.x.items ≡ map (number_of Field.AtX) particles.now ++ replicate L (pos 0) }
+        requires at_y { at.y.items ≡ map (number_of Field.AtY) particles.now ++ replicate L (pos 0) }
+        requires at_z { at.z.items ≡ map (number_of Field.AtZ) particles.now ++ replicate L (pos 0) }
+        requires before_x { before.x.items ≡ map (number_of Field.BeforeX) particles.now ++ replicate L (pos 0) }
+        requires before_y { before.y.items ≡ map (number_of Field.BeforeY) particles.now ++ replicate L (pos 0) }
+        requires before_z { before.z.items ≡ map (number_of Field.BeforeZ) particles.now ++ replicate L (pos 0) }
+        requires weight { weight.items ≡ map (λ p. p.weight) particles.now ++ replicate L 0 }
+        requires held { held.items ≡ map (λ p. p.held) particles.now ++ replicate L false }
+        ensures { result ≡ particles.now }
+    {
+        Columns {
+            count: particles.len(),
+            at,
+            before,
+            weight,
+            held,
+        }
     }
 
     pub(crate) fn len(&self) -> usize
         ensures value { result ≡ length self.now }
         ensures size { result ≤ 65536 }
     {
-        self.particles.len()
+        self.count
     }
 
     pub(crate) fn get(&self, i: usize) -> Particle
         requires { i < length self.now }
         ensures { result ≡ particle_at self.now i }
     {
-        self.particles[i]
+        Particle {
+            at: self.at.place(i),
+            before: self.before.place(i),
+            weight: self.weight[i],
+            held: self.held[i],
+        }
     }
 
     // The place and the effective weight of a particle that is wanted, else zeros.
@@ -86,7 +153,7 @@ impl Columns {
         if !wanted {
             return (Vec3::ZERO, 0);
         }
-        let particle = self.particles[i as usize];
+        let particle = self.get(i as usize);
         if particle.held {
             return (particle.at, 0);
         }
@@ -97,13 +164,7 @@ impl Columns {
         requires { i < length self.old }
         ensures { self.new ≡ placed self.old i place }
     {
-        let particle = self.particles[i];
-        self.particles[i] = Particle {
-            at: place,
-            before: particle.before,
-            weight: particle.weight,
-            held: particle.held,
-        };
+        self.at.set(i, place);
     }
 
     pub(crate) fn place_if(&mut self, i: u32, wanted: bool, place: Vec3)
@@ -119,83 +180,87 @@ impl Columns {
         requires { i < length self.old }
         ensures { self.new ≡ slice_set self.old i particle }
     {
-        self.particles[i] = particle;
+        self.at.set(i, particle.at);
+        self.before.set(i, particle.before);
+        set_weight(&mut self.weight, i, particle.weight);
+        set_flag(&mut self.held, i, particle.held);
+    }
+
+    fn move_both(&mut self, i: usize, at: Vec3, before: Vec3)
+        requires { i < length self.old }
+        ensures { self.new ≡ slice_set self.old i (record (particle_at self.old i) { at = at; before = before }) }
+    {
+        self.at.set(i, at);
+        self.before.set(i, before);
     }
 
     pub(crate) fn move_if(&mut self, i: usize, wanted: bool, at: Vec3, before: Vec3)
         ensures { self.new ≡ (if wanted then (if nat_lt i (length self.old) then slice_set self.old i (record (particle_at self.old i) { at = at; before = before }) else self.old) else self.old) }
     {
-        if wanted && i < self.particles.len() {
-            let particle = self.particles[i];
-            self.particles[i] = Particle {
-                at,
-                before,
-                weight: particle.weight,
-                held: particle.held,
-            };
+        if wanted && i < self.len() {
+            self.move_both(i, at, before);
         }
     }
 
-    pub(crate) fn copy_from(&mut self, other: &Columns)
+    pub(crate) fn copy_from(&mut self, other: &Columns<L>)
         requires { length self.old ≡ length other.now }
         ensures { self.new ≡ other.now }
     {
-        self.particles.copy_from_slice(&other.particles);
-    }
-
-    fn number_at(&self, i: usize, which: Field) -> i64
-        ensures { result ≡ number_of which (particle_at self.now i) }
-    {
-        if i < self.particles.len() {
-            number_in(self.particles[i], which)
-        } else {
-            0
-        }
+        self.at.copy_from(&other.at);
+        self.before.copy_from(&other.before);
+        self.weight.copy_from_slice(&other.weight);
+        self.held.copy_from_slice(&other.held);
     }
 
     // One number of the L particles from `start` on.
-    pub(crate) fn numbers<const L: usize>(&self, start: usize, which: Field) -> Lanes<L>
-        requires start { start ≤ 65536 }
+    pub(crate) fn numbers(&self, start: usize, which: Field) -> Lanes<L>
+        requires start { start ≤ length self.now }
         requires lanes { L ≤ 16 }
         ensures { result ≡ lanes_of L (λ j. number_of which (particle_at self.now (start + j))) }
     {
+        match which {
+            Field::AtX => lanes_from(&self.at.x, start),
+            Field::AtY => lanes_from(&self.at.y, start),
+            Field::AtZ => lanes_from(&self.at.z, start),
+            Field::BeforeX => lanes_from(&self.before.x, start),
+            Field::BeforeY => lanes_from(&self.before.y, start),
+            Field::BeforeZ => lanes_from(&self.before.z, start),
+        }
+    }
+
+    pub(crate) fn weights(&self, start: usize) -> Lanes<L>
+        requires start { start ≤ length self.now }
+        requires lanes { L ≤ 16 }
+        ensures { result ≡ lanes_of L (λ j. pos (particle_at self.now (start + j)).weight) }
+    {
         let mut values = [0; L];
         for j in 0..L {
-            values[j] = self.number_at(start + j, which);
+            values[j] = weight_at(&self.weight, start + j);
         }
         Lanes::from_array(values)
     }
 
-    fn held_at(&self, i: usize) -> bool
-        ensures { result ≡ (particle_at self.now i).held }
-    {
-        if i < self.particles.len() {
-            self.particles[i].held
-        } else {
-            false
-        }
-    }
-
-    pub(crate) fn held<const L: usize>(&self, start: usize) -> Mask<L>
-        requires start { start ≤ 65536 }
+    pub(crate) fn held(&self, start: usize) -> Mask<L>
+        requires start { start ≤ length self.now }
         requires lanes { L ≤ 16 }
         ensures { result ≡ lanes_of L (λ j. (particle_at self.now (start + j)).held) }
     {
         let mut set = [false; L];
         for j in 0..L {
-            set[j] = self.held_at(start + j);
+            set[j] = self.held[start + j];
         }
         Mask::from_array(set)
     }
 
-    pub(crate) fn filled<const L: usize>(&self, start: usize) -> Mask<L>
-        requires start { start ≤ 65536 }
+    pub(crate) fn filled(&self, start: usize) -> Mask<L>
+        requires start { start ≤ length self.now }
         requires lanes { L ≤ 16 }
         ensures { result ≡ lanes_of L (λ j. nat_lt (start + j) (length self.now)) }
     {
+        let count = self.len();
         let mut set = [false; L];
         for j in 0..L {
-            set[j] = start + j < self.particles.len();
+            set[j] = start + j < count;
         }
         Mask::from_array(set)
     }

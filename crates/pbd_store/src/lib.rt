@@ -1,6 +1,7 @@
 //! A list of particles, read and written one by one or in lanes.
 #![tactic(auto)]
 
+mod axes;
 mod columns;
 mod lanes3;
 mod laws;

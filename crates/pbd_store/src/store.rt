@@ -5,7 +5,8 @@ ghost use Rattle.pbd_world.specs.Valid.{is_limit};
 ghost use Rattle.pbd_store.specs.Blocks.{blocks_of, loaded, filled_lanes, place_of, Saved};
 ghost use Rattle.pbd_store.specs.Gathering.{index_at, gathered, NamesApart, Scattered};
 
-use crate::columns::{Columns, Field};
+use crate::axes::Field;
+use crate::columns::Columns;
 use crate::lanes3::{Block, Ends, Lanes3};
 use crate::steps::Steps;
 use pbd_lanes::{Lanes, Mask};
@@ -21,7 +22,7 @@ fn start_of(block: u32, lanes: usize, len: u32) -> usize
     requires size { len ≤ 65536 }
     requires within { block < blocks_of len lanes }
     ensures value { result ≡ block * lanes }
-    ensures bound { result ≤ 65536 }
+    ensures within { result ≤ len }
 {
     block as usize * lanes
 }
@@ -30,7 +31,7 @@ fn start_of(block: u32, lanes: usize, len: u32) -> usize
 /// The calls that reach particles each raise the count of accesses by one.
 #[derive(Drop)]
 pub struct Store<const L: usize> {
-    columns: Columns,
+    columns: Columns<L>,
     limit: i64,
 }
 
@@ -155,7 +156,7 @@ impl<const L: usize> Store<L> {
                 y: self.columns.numbers(start, Field::BeforeY),
                 z: self.columns.numbers(start, Field::BeforeZ),
             },
-            weight: self.columns.numbers(start, Field::Weight),
+            weight: self.columns.weights(start),
             held: self.columns.held(start),
             filled: self.columns.filled(start),
         }

@@ -14,31 +14,31 @@ filled_from : (n : ℕ) (block : ℕ) {start : ℕ} {ps qs : List Particle} → 
 filled_from n block e v = λ i. lanes_of n (λ j. nat_lt (e i + j) (length (v i)))
 
 pub numbers-requires : goal.numbers-requires
-numbers-requires g c = (omega (arith, c.requires.lanes), (c.start_of-start.ensures.bound, c.requires.lanes))
+numbers-requires g c = (omega (arith, c.requires.lanes), (omega (arith, c.requires.lanes), (omega (arith, c.start_of-start.ensures.within, c.len.ensures.value, ap (λ (s : Stored). length s.particles) c.self.view_is), c.requires.lanes)))
 
 pub numbers-requires-2 : goal.numbers-requires-2
-numbers-requires-2 g c = (omega (arith, c.requires.lanes), (c.start_of-start.ensures.bound, c.requires.lanes))
+numbers-requires-2 g c = (omega (arith, c.requires.lanes), (omega (arith, c.requires.lanes), (omega (arith, c.start_of-start.ensures.within, c.len.ensures.value, ap (λ (s : Stored). length s.particles) c.self.view_is), c.requires.lanes)))
 
 pub numbers-requires-3 : goal.numbers-requires-3
-numbers-requires-3 g c = (omega (arith, c.requires.lanes), (c.start_of-start.ensures.bound, c.requires.lanes))
+numbers-requires-3 g c = (omega (arith, c.requires.lanes), (omega (arith, c.requires.lanes), (omega (arith, c.start_of-start.ensures.within, c.len.ensures.value, ap (λ (s : Stored). length s.particles) c.self.view_is), c.requires.lanes)))
 
 pub numbers-requires-4 : goal.numbers-requires-4
-numbers-requires-4 g c = (omega (arith, c.requires.lanes), (c.start_of-start.ensures.bound, c.requires.lanes))
+numbers-requires-4 g c = (omega (arith, c.requires.lanes), (omega (arith, c.requires.lanes), (omega (arith, c.start_of-start.ensures.within, c.len.ensures.value, ap (λ (s : Stored). length s.particles) c.self.view_is), c.requires.lanes)))
 
 pub numbers-requires-5 : goal.numbers-requires-5
-numbers-requires-5 g c = (omega (arith, c.requires.lanes), (c.start_of-start.ensures.bound, c.requires.lanes))
+numbers-requires-5 g c = (omega (arith, c.requires.lanes), (omega (arith, c.requires.lanes), (omega (arith, c.start_of-start.ensures.within, c.len.ensures.value, ap (λ (s : Stored). length s.particles) c.self.view_is), c.requires.lanes)))
 
 pub numbers-requires-6 : goal.numbers-requires-6
-numbers-requires-6 g c = (omega (arith, c.requires.lanes), (c.start_of-start.ensures.bound, c.requires.lanes))
+numbers-requires-6 g c = (omega (arith, c.requires.lanes), (omega (arith, c.requires.lanes), (omega (arith, c.start_of-start.ensures.within, c.len.ensures.value, ap (λ (s : Stored). length s.particles) c.self.view_is), c.requires.lanes)))
 
-pub numbers-requires-7 : goal.numbers-requires-7
-numbers-requires-7 g c = (omega (arith, c.requires.lanes), (c.start_of-start.ensures.bound, c.requires.lanes))
+pub weights-requires : goal.weights-requires
+weights-requires g c = (omega (arith, c.requires.lanes), (omega (arith, c.requires.lanes), (omega (arith, c.start_of-start.ensures.within, c.len.ensures.value, ap (λ (s : Stored). length s.particles) c.self.view_is), c.requires.lanes)))
 
 pub held-requires : goal.held-requires
-held-requires g c = (omega (arith, c.requires.lanes), (c.start_of-start.ensures.bound, c.requires.lanes))
+held-requires g c = (omega (arith, c.requires.lanes), (omega (arith, c.requires.lanes), (omega (arith, c.start_of-start.ensures.within, c.len.ensures.value, ap (λ (s : Stored). length s.particles) c.self.view_is), c.requires.lanes)))
 
 pub filled-requires : goal.filled-requires
-filled-requires g c = (omega (arith, c.requires.lanes), (c.start_of-start.ensures.bound, c.requires.lanes))
+filled-requires g c = (omega (arith, c.requires.lanes), (omega (arith, c.requires.lanes), (omega (arith, c.start_of-start.ensures.within, c.len.ensures.value, ap (λ (s : Stored). length s.particles) c.self.view_is), c.requires.lanes)))
 
 pub returns-clause-at_x : goal.returns-clause-at_x
 returns-clause-at_x g c = c.numbers.ensures ∙ from g.row.L (λ p. p.at.x) c.args.block c.start_of-start.ensures.value (ap (λ (s : Stored). s.particles) c.self.view_is)
@@ -59,7 +59,7 @@ pub returns-clause-before_z : goal.returns-clause-before_z
 returns-clause-before_z g c = c.numbers-6.ensures ∙ from g.row.L (λ p. p.before.z) c.args.block c.start_of-start.ensures.value (ap (λ (s : Stored). s.particles) c.self.view_is)
 
 pub returns-clause-weight : goal.returns-clause-weight
-returns-clause-weight g c = c.numbers-7.ensures ∙ from g.row.L (λ p. pos p.weight) c.args.block c.start_of-start.ensures.value (ap (λ (s : Stored). s.particles) c.self.view_is)
+returns-clause-weight g c = c.weights.ensures ∙ from g.row.L (λ p. pos p.weight) c.args.block c.start_of-start.ensures.value (ap (λ (s : Stored). s.particles) c.self.view_is)
 
 pub returns-clause-held : goal.returns-clause-held
 returns-clause-held g c = c.held.ensures ∙ from g.row.L (λ p. p.held) c.args.block c.start_of-start.ensures.value (ap (λ (s : Stored). s.particles) c.self.view_is)

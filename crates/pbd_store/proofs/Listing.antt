@@ -1,0 +1,212 @@
+-- Columns seen as a list of particles: what a read gives, and what a write makes of the list.
+use Rattle.std.proofs.Common.{◌≡◌, ℕ, ◌+◌, ◌++◌, ◌<◌, ◌≤◌, ℤ, pos, List, [], ◌∷◌, zero, suc, length, get_or, map, replicate, slice_set, Bool, false, refl, sym, ◌∙◌, ap, arith, inl, inr}
+use Rattle.std.proofs.lemmas.Bool.{cases_lt, cases_eq}
+use Rattle.std.proofs.lemmas.List.{get_or-set_same, get_or-set_other, get_or_past, get_or-replicate, length-set, length-map, length-append, length-replicate}
+use Rattle.std.proofs.lemmas.List.FromFn.{fill_by_all, get_or-map-range_with_len, length-map-range_with_len}
+use Rattle.pbd_num.specs.declared.Vec3.{Vec3}
+use Rattle.pbd_lanes.specs.Lane.{lane, is_set, lanes_of}
+use Rattle.pbd_world.specs.declared.parts.Particle.{Particle}
+use Rattle.pbd_world.specs.Particles.{particle_at, placed, no_particle}
+use Rattle.pbd_store.specs.Blocks.{place_of}
+use Rattle.pbd_store.specs.declared.axes.Axes.{Axes}
+use Rattle.pbd_store.specs.Listed.{place_at, row, listed, AreLong, ArePadded}
+
+-- ---- a list that a function gives, with one element set
+
+pub written : (n i : ℕ) (f g : ℕ → Particle) (v : Particle) → i < n → g i ≡ v → ((k : ℕ) → (k ≡ i → ⊥) → g k ≡ f k) → lanes_of n g ≡ slice_set (lanes_of n f) i v
+written n i f g v h same other =
+    let long : length (lanes_of n f) ≡ n = length-map-range_with_len f 0 n in
+    sym (fill_by_all g (slice_set (lanes_of n f) i v) n no_particle (length-set (lanes_of n f) i v ∙ long) (λ k p. elim (cases_eq k i) [
+      | inl e ↦ ap (λ (m : ℕ). get_or (slice_set (lanes_of n f) i v) m no_particle) e ∙ get_or-set_same (lanes_of n f) i v no_particle (omega arith) ∙ sym same ∙ ap g (sym e)
+      | inr d ↦ get_or-set_other (lanes_of n f) i k v no_particle d ∙ get_or-map-range_with_len f 0 n k k no_particle p (omega arith) ∙ sym (other k d)
+    ]))
+
+-- ---- a column of a list
+
+padded_past : {A : Type 0} (n k : ℕ) (d : A) → get_or (replicate n d) k d ≡ d
+padded_past n k d = elim (cases_lt k n) [ inl p ↦ get_or-replicate n k d d p | inr q ↦ get_or_past (replicate n d) k d (omega (arith, length-replicate n d)) ]
+
+pub column_is : {A : Type 0} (f : Particle → A) (ps : List Particle) (n k : ℕ) → get_or (map f ps ++ replicate n (f no_particle)) k (f no_particle) ≡ f (particle_at ps k)
+column_is f [] n k = padded_past n k (f no_particle)
+column_is f (p ∷ ps) n zero = refl
+column_is f (p ∷ ps) n (suc k) = column_is f ps n k
+
+pub column_long : {A : Type 0} (f : Particle → A) (ps : List Particle) (n : ℕ) (d : A) → length (map f ps ++ replicate n d) ≡ length ps + n
+column_long f ps n d = length-append (map f ps) (replicate n d) ∙ (λ i. length-map ps f i + length-replicate n d i)
+
+-- ---- places
+
+module _ (a b : Axes) (i : ℕ) (v : Vec3) (ex : b.x.items ≡ slice_set a.x.items i v.x) (ey : b.y.items ≡ slice_set a.y.items i v.y) (ez : b.z.items ≡ slice_set a.z.items i v.z) where
+  pub place_same : (n : ℕ) → AreLong n a → i < n → place_at b i ≡ v
+  place_same n h p =
+      let x = ap (λ (xs : List ℤ). lane xs i) ex ∙ get_or-set_same a.x.items i v.x (pos 0) (omega (arith, h.x)) in
+      let y = ap (λ (xs : List ℤ). lane xs i) ey ∙ get_or-set_same a.y.items i v.y (pos 0) (omega (arith, h.y)) in
+      let z = ap (λ (xs : List ℤ). lane xs i) ez ∙ get_or-set_same a.z.items i v.z (pos 0) (omega (arith, h.z)) in
+      λ t. record { x = x t; y = y t; z = z t }
+
+  pub place_other : (k : ℕ) → (k ≡ i → ⊥) → place_at b k ≡ place_at a k
+  place_other k d =
+      let x = ap (λ (xs : List ℤ). lane xs k) ex ∙ get_or-set_other a.x.items i k v.x (pos 0) d in
+      let y = ap (λ (xs : List ℤ). lane xs k) ey ∙ get_or-set_other a.y.items i k v.y (pos 0) d in
+      let z = ap (λ (xs : List ℤ). lane xs k) ez ∙ get_or-set_other a.z.items i k v.z (pos 0) d in
+      λ t. record { x = x t; y = y t; z = z t }
+
+  pub places_long : (n : ℕ) → AreLong n a → AreLong n b
+  places_long n h = record {
+    x = ap (λ (xs : List ℤ). length xs) ex ∙ length-set a.x.items i v.x ∙ h.x;
+    y = ap (λ (xs : List ℤ). length xs) ey ∙ length-set a.y.items i v.y ∙ h.y;
+    z = ap (λ (xs : List ℤ). length xs) ez ∙ length-set a.z.items i v.z ∙ h.z;
+  }
+
+-- ---- the list of padded columns
+
+module _ (n spare : ℕ) (at before : Axes) (weight : List ℕ) (held : List Bool) (h : ArePadded n spare at before weight held) where
+  pub listed_long : length (listed n at before weight held) ≡ n
+  listed_long = length-map-range_with_len (row at before weight held) 0 n
+
+  pub shown : (k : ℕ) → particle_at (listed n at before weight held) k ≡ row at before weight held k
+  shown k = elim (cases_lt k n) [
+    | inl p ↦ get_or-map-range_with_len (row at before weight held) 0 n k k no_particle p (omega arith)
+    | inr q ↦ get_or_past (listed n at before weight held) k no_particle (omega (arith, listed_long)) ∙ sym (h.padding k q)
+  ]
+
+  -- other rows, but for row i
+  module _ (at' before' : Axes) (weight' : List ℕ) (held' : List Bool) (i : ℕ) (within : i < n) (other : (k : ℕ) → (k ≡ i → ⊥) → row at' before' weight' held' k ≡ row at before weight held k) where
+    pub listed_set : (v : Particle) → row at' before' weight' held' i ≡ v → listed n at' before' weight' held' ≡ slice_set (listed n at before weight held) i v
+    listed_set v same = written n i (row at before weight held) (row at' before' weight' held') v within same other
+
+    pub padded_set : AreLong (n + spare) at' → AreLong (n + spare) before' → length weight' ≡ n + spare → length held' ≡ n + spare → ArePadded n spare at' before' weight' held'
+    padded_set la lb lw lh = record { size = h.size; places = la; befores = lb; weights = lw; flags = lh; padding = λ k q. other k (λ e. absurd (omega arith)) ∙ h.padding k q }
+
+-- the columns of a list
+pub listed_from : (ps : List Particle) (at before : Axes) (weight : List ℕ) (held : List Bool) → ((k : ℕ) → row at before weight held k ≡ particle_at ps k) → listed (length ps) at before weight held ≡ ps
+listed_from ps at before weight held is = sym (fill_by_all (row at before weight held) ps (length ps) no_particle refl (λ k p. sym (is k)))
+
+pub any_default : {A : Type 0} (xs : List A) (i : ℕ) (d e : A) → i < length xs → get_or xs i d ≡ get_or xs i e
+any_default [] i d e h = absurd (omega arith)
+any_default (x ∷ xs) zero d e h = refl
+any_default (x ∷ xs) (suc i) d e h = any_default xs i d e (omega arith)
+
+-- ---- the list that clauses see
+
+module _ (n spare : ℕ) (at before : Axes) (weight : List ℕ) (held : List Bool) (h : ArePadded n spare at before weight held) (ps : List Particle) (e : listed n at before weight held ≡ ps) where
+  pub count_is : n ≡ length ps
+  count_is = sym (listed_long n spare at before weight held h) ∙ ap (λ (qs : List Particle). length qs) e
+
+  pub row_is : (k : ℕ) → particle_at ps k ≡ row at before weight held k
+  row_is k = ap (λ (qs : List Particle). particle_at qs k) (sym e) ∙ shown n spare at before weight held h k
+
+  -- another place
+  module _ (at' : Axes) (i : ℕ) (v : Vec3) (within : i < length ps) (ex : at'.x.items ≡ slice_set at.x.items i v.x) (ey : at'.y.items ≡ slice_set at.y.items i v.y) (ez : at'.z.items ≡ slice_set at.z.items i v.z) where
+    near : i < n
+    near = omega (arith, count_is)
+
+    other_place : (k : ℕ) → (k ≡ i → ⊥) → row at' before weight held k ≡ row at before weight held k
+    other_place k d = λ t. record { at = place_other at at' i v ex ey ez k d t; before = place_at before k; weight = get_or weight k 0; held = is_set held k }
+
+    pub place_padded : ArePadded n spare at' before weight held
+    place_padded = padded_set n spare at before weight held h at' before weight held i near other_place (places_long at at' i v ex ey ez (n + spare) h.places) h.befores h.weights h.flags
+
+    pub place_listed : listed n at' before weight held ≡ placed ps i v
+    place_listed =
+        let now : row at' before weight held i ≡ record (particle_at ps i) { at = v } =
+        (λ t. record { at = place_same at at' i v ex ey ez (n + spare) h.places (omega (arith, near)) t; before = place_at before i; weight = get_or weight i 0; held = is_set held i })
+        ∙ ap (λ (q : Particle). record q { at = v }) (sym (row_is i)) in
+        listed_set n spare at before weight held h at' before weight held i near other_place (record (particle_at ps i) { at = v }) now
+        ∙ ap (λ (qs : List Particle). slice_set qs i (record (particle_at ps i) { at = v })) e
+
+    -- and another place before
+    module _ (before' : Axes) (b : Vec3) (bx : before'.x.items ≡ slice_set before.x.items i b.x) (by : before'.y.items ≡ slice_set before.y.items i b.y) (bz : before'.z.items ≡ slice_set before.z.items i b.z) where
+      other_both : (k : ℕ) → (k ≡ i → ⊥) → row at' before' weight held k ≡ row at before weight held k
+      other_both k d = λ t. record { at = place_other at at' i v ex ey ez k d t; before = place_other before before' i b bx by bz k d t; weight = get_or weight k 0; held = is_set held k }
+
+      pub both_padded : ArePadded n spare at' before' weight held
+      both_padded = padded_set n spare at before weight held h at' before' weight held i near other_both (places_long at at' i v ex ey ez (n + spare) h.places) (places_long before before' i b bx by bz (n + spare) h.befores) h.weights h.flags
+
+      pub both_listed : listed n at' before' weight held ≡ slice_set ps i (record (particle_at ps i) { at = v; before = b })
+      both_listed =
+          let now : row at' before' weight held i ≡ record (particle_at ps i) { at = v; before = b } =
+          (λ t. record { at = place_same at at' i v ex ey ez (n + spare) h.places (omega (arith, near)) t; before = place_same before before' i b bx by bz (n + spare) h.befores (omega (arith, near)) t; weight = get_or weight i 0; held = is_set held i })
+          ∙ ap (λ (q : Particle). record q { at = v; before = b }) (sym (row_is i)) in
+          listed_set n spare at before weight held h at' before' weight held i near other_both (record (particle_at ps i) { at = v; before = b }) now
+          ∙ ap (λ (qs : List Particle). slice_set qs i (record (particle_at ps i) { at = v; before = b })) e
+
+      -- and another weight and flag
+      module _ (weight' : List ℕ) (w : ℕ) (ew : weight' ≡ slice_set weight i w) (held' : List Bool) (f : Bool) (eh : held' ≡ slice_set held i f) where
+        other_all : (k : ℕ) → (k ≡ i → ⊥) → row at' before' weight' held' k ≡ row at before weight held k
+        other_all k d =
+            let ws = ap (λ (xs : List ℕ). get_or xs k 0) ew ∙ get_or-set_other weight i k w 0 d in
+            let hs = ap (λ (xs : List Bool). is_set xs k) eh ∙ get_or-set_other held i k f false d in
+            λ t. record { at = place_other at at' i v ex ey ez k d t; before = place_other before before' i b bx by bz k d t; weight = ws t; held = hs t }
+
+        pub all_padded : ArePadded n spare at' before' weight' held'
+        all_padded = padded_set n spare at before weight held h at' before' weight' held' i near other_all (places_long at at' i v ex ey ez (n + spare) h.places) (places_long before before' i b bx by bz (n + spare) h.befores)
+            (ap (λ (xs : List ℕ). length xs) ew ∙ length-set weight i w ∙ h.weights) (ap (λ (xs : List Bool). length xs) eh ∙ length-set held i f ∙ h.flags)
+
+        pub all_listed : listed n at' before' weight' held' ≡ slice_set ps i (record { at = v; before = b; weight = w; held = f })
+        all_listed =
+            let ws = ap (λ (xs : List ℕ). get_or xs i 0) ew ∙ get_or-set_same weight i w 0 (omega (arith, near, h.weights)) in
+            let hs = ap (λ (xs : List Bool). is_set xs i) eh ∙ get_or-set_same held i f false (omega (arith, near, h.flags)) in
+            let now : row at' before' weight' held' i ≡ record { at = v; before = b; weight = w; held = f } =
+            λ t. record { at = place_same at at' i v ex ey ez (n + spare) h.places (omega (arith, near)) t; before = place_same before before' i b bx by bz (n + spare) h.befores (omega (arith, near)) t; weight = ws t; held = hs t } in
+            listed_set n spare at before weight held h at' before' weight' held' i near other_all (record { at = v; before = b; weight = w; held = f }) now
+            ∙ ap (λ (qs : List Particle). slice_set qs i (record { at = v; before = b; weight = w; held = f })) e
+
+  -- the same columns once more
+  module _ (n' : ℕ) (en : n' ≡ n) (at' before' : Axes) (weight' : List ℕ) (held' : List Bool) (ax : at'.x.items ≡ at.x.items) (ay : at'.y.items ≡ at.y.items) (az : at'.z.items ≡ at.z.items) (bx : before'.x.items ≡ before.x.items) (by : before'.y.items ≡ before.y.items) (bz : before'.z.items ≡ before.z.items) (ew : weight' ≡ weight) (eh : held' ≡ held) where
+    same_row : (k : ℕ) → row at' before' weight' held' k ≡ row at before weight held k
+    same_row k = λ t. record { at = place_of (ax t) (ay t) (az t) k; before = place_of (bx t) (by t) (bz t) k; weight = get_or (ew t) k 0; held = is_set (eh t) k }
+
+    long : {A : Type 0} {xs ys : List A} → xs ≡ ys → length ys ≡ n + spare → length xs ≡ n' + spare
+    long {A} ex l = ap (λ (zs : List A). length zs) ex ∙ l ∙ ap (λ (m : ℕ). m + spare) (sym en)
+
+    pub copied_padded : ArePadded n' spare at' before' weight' held'
+    copied_padded = record {
+      size = omega (arith, h.size);
+      places = record { x = long ax h.places.x; y = long ay h.places.y; z = long az h.places.z };
+      befores = record { x = long bx h.befores.x; y = long by h.befores.y; z = long bz h.befores.z };
+      weights = long ew h.weights;
+      flags = long eh h.flags;
+      padding = λ k q. same_row k ∙ h.padding k (omega arith);
+    }
+
+    pub copied_listed : listed n' at' before' weight' held' ≡ ps
+    copied_listed = (λ t. lanes_of (en t) (λ (k : ℕ). same_row k t)) ∙ e
+
+-- ---- the columns of a list
+
+module _ (ps : List Particle) (spare : ℕ) (few : length ps ≤ 65536) (at before : Axes) (weight : List ℕ) (held : List Bool) (ax : at.x.items ≡ map (λ (p : Particle). p.at.x) ps ++ replicate spare (pos 0)) (ay : at.y.items ≡ map (λ (p : Particle). p.at.y) ps ++ replicate spare (pos 0)) (az : at.z.items ≡ map (λ (p : Particle). p.at.z) ps ++ replicate spare (pos 0)) (bx : before.x.items ≡ map (λ (p : Particle). p.before.x) ps ++ replicate spare (pos 0)) (by : before.y.items ≡ map (λ (p : Particle). p.before.y) ps ++ replicate spare (pos 0)) (bz : before.z.items ≡ map (λ (p : Particle). p.before.z) ps ++ replicate spare (pos 0)) (ew : weight ≡ map (λ (p : Particle). p.weight) ps ++ replicate spare 0) (eh : held ≡ map (λ (p : Particle). p.held) ps ++ replicate spare false) where
+  number : {xs : List ℤ} (f : Particle → ℤ) (k : ℕ) → f no_particle ≡ pos 0 → xs ≡ map f ps ++ replicate spare (pos 0) → lane xs k ≡ f (particle_at ps k)
+  number f k z ex = ap (λ (xs : List ℤ). lane xs k) ex ∙ (λ t. get_or (map f ps ++ replicate spare (sym z t)) k (sym z t)) ∙ column_is f ps spare k
+
+  from_row : (k : ℕ) → row at before weight held k ≡ particle_at ps k
+  from_row k =
+      let x = number (λ (p : Particle). p.at.x) k refl ax in
+      let y = number (λ (p : Particle). p.at.y) k refl ay in
+      let z = number (λ (p : Particle). p.at.z) k refl az in
+      let u = number (λ (p : Particle). p.before.x) k refl bx in
+      let v = number (λ (p : Particle). p.before.y) k refl by in
+      let w = number (λ (p : Particle). p.before.z) k refl bz in
+      let weighs = ap (λ (xs : List ℕ). get_or xs k 0) ew ∙ column_is (λ (p : Particle). p.weight) ps spare k in
+      let holds = ap (λ (xs : List Bool). is_set xs k) eh ∙ column_is (λ (p : Particle). p.held) ps spare k in
+      λ t. record { at = record { x = x t; y = y t; z = z t }; before = record { x = u t; y = v t; z = w t }; weight = weighs t; held = holds t }
+
+  long_as : {A : Type 0} {xs : List A} (f : Particle → A) (d : A) → xs ≡ map f ps ++ replicate spare d → length xs ≡ length ps + spare
+  long_as {A} f d ex = ap (λ (zs : List A). length zs) ex ∙ column_long f ps spare d
+
+  pub from_padded : ArePadded (length ps) spare at before weight held
+  from_padded = record {
+    size = few;
+    places = record { x = long_as (λ (p : Particle). p.at.x) (pos 0) ax; y = long_as (λ (p : Particle). p.at.y) (pos 0) ay; z = long_as (λ (p : Particle). p.at.z) (pos 0) az };
+    befores = record { x = long_as (λ (p : Particle). p.before.x) (pos 0) bx; y = long_as (λ (p : Particle). p.before.y) (pos 0) by; z = long_as (λ (p : Particle). p.before.z) (pos 0) bz };
+    weights = long_as (λ (p : Particle). p.weight) 0 ew;
+    flags = long_as (λ (p : Particle). p.held) false eh;
+    padding = λ k q. from_row k ∙ get_or_past ps k no_particle q;
+  }
+
+  pub from_listed : listed (length ps) at before weight held ≡ ps
+  from_listed = listed_from ps at before weight held from_row
+
+-- lanes of a column, and of the list
+pub lanes_told : (l start : ℕ) {xs ys : List ℤ} (f : ℕ → ℤ) → xs ≡ ys → ((k : ℕ) → lane ys k ≡ f k) → lanes_of l (λ (j : ℕ). lane xs (start + j)) ≡ lanes_of l (λ (j : ℕ). f (start + j))
+lanes_told l start f e h = λ t. lanes_of l (λ (j : ℕ). (ap (λ (zs : List ℤ). lane zs (start + j)) e ∙ h (start + j)) t)

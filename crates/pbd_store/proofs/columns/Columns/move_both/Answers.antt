@@ -1,0 +1,27 @@
+use Rattle.std.proofs.Common.{arith}
+use Rattle.pbd_store.proofs.Listing.{count_is, both_padded, both_listed}
+use Rattle.pbd_store.proofs.columns.Columns.move_both.Goals as goal
+
+pub set-requires-clause-x : goal.set-requires-clause-x
+set-requires-clause-x g c = omega (arith, count_is c.self.inside.count g.row.L c.self.inside.at c.self.inside.before c.self.inside.weight.items c.self.inside.held.items c.self.invariant c.args.self.now c.self.view_is, c.self.invariant.places.x)
+
+pub set-requires-clause-y : goal.set-requires-clause-y
+set-requires-clause-y g c = omega (arith, count_is c.self.inside.count g.row.L c.self.inside.at c.self.inside.before c.self.inside.weight.items c.self.inside.held.items c.self.invariant c.args.self.now c.self.view_is, c.self.invariant.places.y)
+
+pub set-requires-clause-z : goal.set-requires-clause-z
+set-requires-clause-z g c = omega (arith, count_is c.self.inside.count g.row.L c.self.inside.at c.self.inside.before c.self.inside.weight.items c.self.inside.held.items c.self.invariant c.args.self.now c.self.view_is, c.self.invariant.places.z)
+
+pub set-requires-2-clause-x : goal.set-requires-2-clause-x
+set-requires-2-clause-x g c = omega (arith, count_is c.self.inside.count g.row.L c.self.inside.at c.self.inside.before c.self.inside.weight.items c.self.inside.held.items c.self.invariant c.args.self.now c.self.view_is, c.self.invariant.befores.x)
+
+pub set-requires-2-clause-y : goal.set-requires-2-clause-y
+set-requires-2-clause-y g c = omega (arith, count_is c.self.inside.count g.row.L c.self.inside.at c.self.inside.before c.self.inside.weight.items c.self.inside.held.items c.self.invariant c.args.self.now c.self.view_is, c.self.invariant.befores.y)
+
+pub set-requires-2-clause-z : goal.set-requires-2-clause-z
+set-requires-2-clause-z g c = omega (arith, count_is c.self.inside.count g.row.L c.self.inside.at c.self.inside.before c.self.inside.weight.items c.self.inside.held.items c.self.invariant c.args.self.now c.self.view_is, c.self.invariant.befores.z)
+
+pub invariant_of-self : goal.invariant_of-self
+invariant_of-self g c = both_padded c.self.inside.count g.row.L c.self.inside.at c.self.inside.before c.self.inside.weight.items c.self.inside.held.items c.self.invariant c.args.self.now c.self.view_is c.set.new.self c.args.i c.args.at c.requires c.set.ensures.x c.set.ensures.y c.set.ensures.z c.set-2.new.self c.args.before c.set-2.ensures.x c.set-2.ensures.y c.set-2.ensures.z
+
+pub returns : goal.returns
+returns g c = both_listed c.self.inside.count g.row.L c.self.inside.at c.self.inside.before c.self.inside.weight.items c.self.inside.held.items c.self.invariant c.args.self.now c.self.view_is c.set.new.self c.args.i c.args.at c.requires c.set.ensures.x c.set.ensures.y c.set.ensures.z c.set-2.new.self c.args.before c.set-2.ensures.x c.set-2.ensures.y c.set-2.ensures.z

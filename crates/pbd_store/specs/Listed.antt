@@ -1,0 +1,35 @@
+-- Columns, one for each number of a particle, as a list of particles.
+use Rattle.std.specs.Prelude.{◌≡◌, ℕ, ◌+◌, ◌≤◌, List, length, Bool, slice_index_or}
+use Rattle.pbd_num.specs.declared.Vec3.{Vec3}
+use Rattle.pbd_lanes.specs.Lane.{is_set, lanes_of}
+use Rattle.pbd_world.specs.declared.parts.Particle.{Particle}
+use Rattle.pbd_world.specs.Particles.{no_particle}
+use Rattle.pbd_store.specs.Blocks.{place_of}
+use Rattle.pbd_store.specs.declared.axes.Axes.{Axes}
+
+-- the place at i
+abbrev pub place_at : Axes → ℕ → Vec3
+place_at a i = place_of a.x.items a.y.items a.z.items i
+
+-- particle i
+abbrev pub row : Axes → Axes → List ℕ → List Bool → ℕ → Particle
+row at before weight held i = record { at = place_at at i; before = place_at before i; weight = slice_index_or weight i 0; held = is_set held i }
+
+-- the first n particles
+abbrev pub listed : ℕ → Axes → Axes → List ℕ → List Bool → List Particle
+listed n at before weight held = lanes_of n (row at before weight held)
+
+-- three columns of n numbers
+pub record AreLong (n : ℕ) (a : Axes) : Type 0 where
+  pub x : length a.x.items ≡ n
+  pub y : length a.y.items ≡ n
+  pub z : length a.z.items ≡ n
+
+-- columns of n particles, at most 65,536, and `spare` rows of zeros
+pub record ArePadded (n spare : ℕ) (at before : Axes) (weight : List ℕ) (held : List Bool) : Type 0 where
+  pub size : n ≤ 65536
+  pub places : AreLong (n + spare) at
+  pub befores : AreLong (n + spare) before
+  pub weights : length weight ≡ n + spare
+  pub flags : length held ≡ n + spare
+  pub padding : (k : ℕ) → n ≤ k → row at before weight held k ≡ no_particle
