@@ -11,5 +11,7 @@ mod settle;
 mod solver;
 mod state;
 mod step;
+#[cfg(test)]
+mod tests;
 
 pub use solver::Solver;
