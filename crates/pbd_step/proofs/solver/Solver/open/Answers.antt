@@ -24,6 +24,11 @@ overflow_cast-len g c =
     let few : c.len.result ≤ 524288 = omega (arith, c.len.ensures, fit.links) in
     search rules
 
+pub open_tools-requires-clause-particles : goal.open_tools-requires-clause-particles
+open_tools-requires-clause-particles g c =
+    let fit : HasFit c.parts-parts.result.now.particles c.parts-parts.result.now.links = valid_fit c.parts-parts.result.now (subst (λ (p : Parts). IsTrue (is_valid p)) (sym c.parts-parts.ensures.parts) c.parts-parts.ensures.valid) in
+    omega (arith, c.len-particles.ensures, fit.particles)
+
 pub open_tools-requires-clause-links : goal.open_tools-requires-clause-links
 open_tools-requires-clause-links g c =
     let fit : HasFit c.parts-parts.result.now.particles c.parts-parts.result.now.links = valid_fit c.parts-parts.result.now (subst (λ (p : Parts). IsTrue (is_valid p)) (sym c.parts-parts.ensures.parts) c.parts-parts.ensures.valid) in
