@@ -1,4 +1,6 @@
-ghost use Rattle.std.specs.Prelude.{◌≡◌, ◌<◌, pos, false};
+ghost use Rattle.std.specs.Prelude.{◌≡◌, ◌<◌, ◌≤◌, ◌^◌, pos, false, length, IsTrue};
+ghost use Rattle.pbd_store.specs.Moving.{AreInside};
+ghost use Rattle.pbd_world.specs.Valid.{are_valid_links};
 ghost use Rattle.pbd_world.specs.declared.parts.Kind.TheVariants as kinds;
 
 use crate::torn;
@@ -44,6 +46,29 @@ fn number_at(numbers: &[u32], i: usize) -> Option<u32> {
     }
 }
 
+/// The first three torn numbers of four links.
+fn first_torn<const L: usize, G: Ledger>(
+    alloc: Global,
+    particles: &[Particle],
+    links: &[Link],
+    steps: &mut Steps<G>,
+) -> Result<[Option<u32>; 3], AllocError>
+    requires few { length particles.now ≤ 65536 }
+    requires inside { AreInside (pos (2 ^ 29)) particles.now }
+    requires links { IsTrue (are_valid_links (pos (2 ^ 29)) (length particles.now) links.now) }
+    requires four { length links.now ≤ 4 }
+{
+    let store: Store<L> = Store::open(alloc, particles, RANGE)?;
+    let mut out = RoomList::open(alloc, 4)?;
+    torn(&store, links, &mut out, steps);
+    let numbers = out.as_slice();
+    Ok([
+        number_at(numbers, 0),
+        number_at(numbers, 1),
+        number_at(numbers, 2),
+    ])
+}
+
 /// The first torn numbers of three links of lengths 100, 101 and 102 that tear above 100, and of one of length 102 that never tears.
 fn numbers_in<const L: usize, G: Ledger>(
     alloc: Global,
@@ -58,21 +83,13 @@ fn numbers_in<const L: usize, G: Ledger>(
         resting(0, 2000),
         resting(102, 2000),
     ];
-    let store: Store<L> = Store::open(alloc, &particles, RANGE)?;
     let links = [
         link(0, 1, 100, true),
         link(2, 3, 100, true),
         link(0, 3, 0, true),
         link(4, 5, 100, last_live),
     ];
-    let mut out = RoomList::open(alloc, 4)?;
-    torn(&store, &links, &mut out, steps);
-    let numbers = out.as_slice();
-    Ok([
-        number_at(numbers, 0),
-        number_at(numbers, 1),
-        number_at(numbers, 2),
-    ])
+    first_torn::<L, G>(alloc, &particles, &links, steps)
 }
 
 fn counted<G: Ledger>(

@@ -1,9 +1,10 @@
-use Rattle.std.proofs.Common.{◌≡◌, ◌^◌, arith, pos, length}
+use Rattle.std.proofs.Common.{◌≡◌, ◌^◌, ap, arith, pos, length}
 use Rattle.std.proofs.lemmas.Int.{ints}
 use Rattle.pbd_world.specs.Ledger.{ledger_of}
 use Rattle.pbd_store.specs.Moving.{AreInside, Weigh}
 use Rattle.pbd_pair.specs.Projecting.{IsBatch}
 use Rattle.pbd_pair.proofs.Examples.{are_inside, weigh, batch_is, room_of_zero}
+use Rattle.pbd_pair.proofs.Correcting.{same_length}
 use Rattle.pbd_pair.proofs.tests.run.Goals as goal
 
 pub project-outcome-requires : goal.project-outcome-requires
@@ -30,3 +31,8 @@ project-outcome-requires g c =
         ),
       ),
     )
+
+pub overflow_sub-last-2 : goal.overflow_sub-last-2
+overflow_sub-last-2 g c =
+    let as_many = same_length c.project-outcome.new.store.particles c.in_ok-store.store.particles c.project-outcome.ensures.fixed in
+    omega (arith, c.requires.two, c.len-last.ensures.value, as_many, ap length c.in_ok-store.ensures.particles)
