@@ -5,7 +5,7 @@ use Rattle.std.specs.List.{AllByRecursion}
 use Rattle.std.proofs.lemmas.Bool.{and_parts}
 use Rattle.pbd_num.specs.declared.Vec3.{Vec3}
 use Rattle.pbd_num.specs.Vectors.{Within, axes, is_within, plus, zero_vector}
-use Rattle.pbd_num.proofs.Ranges.{within_facts}
+use Rattle.pbd_num.proofs.Ranges.{within_facts, wider}
 use Rattle.pbd_num.proofs.Sizes.{fits, size-add}
 use Rattle.pbd_world.specs.declared.parts.Particle.{Particle}
 use Rattle.pbd_world.specs.declared.parts.Link.{Link}
@@ -19,7 +19,7 @@ use Rattle.pbd_world.specs.World.{World, IsSound, live_count, parts_of}
 use Rattle.pbd_world.specs.Meaning.{after, done_or_refused, meaning, reply, run_steps}
 use Rattle.pbd_world.specs.Replay.{entry, frame_sums, kept_sums, logged, sum_over, LogEntry}
 use Rattle.pbd_world.proofs.CommandSound.{command-sound}
-use Rattle.pbd_world.proofs.KeptLemmas.{IsLimit, wider}
+use Rattle.pbd_world.proofs.KeptLemmas.{IsLimit}
 use Rattle.pbd_world.proofs.WorldParts.{IsFit, all_fit, formed, limit_of}
 use Rattle.pbd_log.specs.declared.entry.Entry.{Entry}
 use Rattle.pbd_log.specs.Entries.{AreAxes, CommandFits, HasWidths, IsEntry, SumsFit, answer_of, entry_of, refusal_answer}

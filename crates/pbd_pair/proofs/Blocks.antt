@@ -19,7 +19,7 @@ use Rattle.pbd_pair.specs.Bonds.{bond_of, bond_count, IsBond}
 use Rattle.pbd_store.specs.Moving.{fixed_parts, Weigh}
 use Rattle.pbd_pair.specs.Projecting.{IsBatch, ShareNone}
 use Rattle.pbd_pair.specs.Lanes.{settled}
-use Rattle.pbd_pair.proofs.Correcting.{same_length}
+use Rattle.pbd_store.proofs.Fixed.{same_length}
 
 -- a correction doesn't depend on which particles a bond names
 pub same_drawn : (limit : ℤ) (p q : End) (b c : Bond) → b.rest ≡ c.rest → b.k ≡ c.k → b.contact ≡ c.contact → correction_of limit p q b ≡ correction_of limit p q c

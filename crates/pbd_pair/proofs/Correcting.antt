@@ -2,7 +2,6 @@
 use Rattle.std.proofs.Common.{◌≡◌, ℕ, ◌<◌, ℤ, List, length, Bool, true, false, refl, ap, sym, ◌∙◌, arith, inl, inr, subst, unsigned_abs, Ok, Err}
 use Rattle.std.proofs.lemmas.Bool.{cases_eq}
 use Rattle.std.proofs.Math.Seq.{map-set_same}
-use Rattle.std.proofs.lemmas.List.{length-map}
 use Rattle.pbd_num.specs.declared.Vec3.{Vec3}
 use Rattle.pbd_num.specs.Vectors.{Within, zero_vector}
 use Rattle.pbd_world.specs.declared.parts.Particle.{Particle}
@@ -64,10 +63,3 @@ pub fixed-placed_by : (ps : List Particle) (b : Bond) (c : Correction) → fixed
 fixed-placed_by ps b Slack = refl
 fixed-placed_by ps b Leaves = refl
 fixed-placed_by ps b (Moves t) = fixed_parts-placed (placed ps b.a t.first) b.b t.second ∙ fixed_parts-placed ps b.a t.first
-
-abbrev fixed : Particle → Particle
-fixed p = record p { at = zero_vector }
-
--- lists with the same fixed parts are as long
-pub same_length : (ps qs : List Particle) → fixed_parts ps ≡ fixed_parts qs → length ps ≡ length qs
-same_length ps qs e = sym (length-map ps fixed) ∙ ap length e ∙ length-map qs fixed

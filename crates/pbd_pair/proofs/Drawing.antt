@@ -6,7 +6,7 @@ use Rattle.pbd_num.specs.declared.Vec3.{Vec3}
 use Rattle.pbd_num.specs.Vectors.{Within, zero_vector, minus, opposite, length_of, is_within}
 use Rattle.pbd_num.specs.PairMove.{corrections, shares, pair_moves}
 use Rattle.pbd_num.proofs.Sizes.{size-add, size-sub, size-neg}
-use Rattle.pbd_num.proofs.Ranges.{within_facts}
+use Rattle.pbd_num.proofs.Ranges.{within_facts, wider}
 use Rattle.pbd_num.proofs.Lengths.{length_below, pair_moves-none, pair_moves-by_steps}
 use Rattle.pbd_world.specs.declared.bond.Bond.{Bond}
 use Rattle.pbd_world.specs.declared.bond.End.{End}
@@ -15,7 +15,6 @@ use Rattle.pbd_world.specs.declared.bond.Correction.TheVariants.{Slack, Leaves, 
 use Rattle.pbd_world.specs.Bonds.{correction_of, is_slack, shift_of}
 use Rattle.pbd_pair.specs.Bonds.{IsBound, IsDrawn, IsEnd, IsSoundShift}
 use Rattle.pbd_pair.specs.Lanes.{Lays}
-use Rattle.pbd_pair.proofs.Ranges.{within_more}
 
 -- ---- the moves of two ends
 
@@ -82,7 +81,7 @@ sound_by_steps limit t draws stays m low es em h1 h2 is =
 -- ---- the widest limit
 
 pub end_fits : (limit : ℤ) (e : End) → IsBound limit → IsEnd limit e → IsEnd (pos (2 ^ 29)) e
-end_fits limit e b h = record { at = within_more (unsigned_abs limit) (2 ^ 29) e.at b.size h.at; low = h.low; high = h.high }
+end_fits limit e b h = record { at = wider e.at (unsigned_abs limit) (2 ^ 29) b.size h.at; low = h.low; high = h.high }
 
 pub drawn_fits : (limit : ℤ) (d : Bond) → IsBound limit → IsDrawn limit d → IsDrawn (pos (2 ^ 29)) d
 drawn_fits limit d b h = record { rest_low = h.rest_low; rest_high = omega (arith, ints, h.rest_high, b.high); k_low = h.k_low; k_high = h.k_high }

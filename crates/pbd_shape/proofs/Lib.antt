@@ -1,5 +1,4 @@
 pub mod Moves
 pub mod Ways
 pub mod Onward
-pub mod Saves
 pub mod Steps

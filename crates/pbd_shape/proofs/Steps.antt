@@ -1,18 +1,17 @@
 -- One lane of a block after another.
-use Rattle.std.proofs.Common.{◌≡◌, refl, sym, ap, ◌∙◌, ℕ, ◌+◌, ◌-◌, ◌*◌, ◌^◌, ◌<◌, ◌≤◌, min, Bool, true, false, cond, not, ◌&&◌, ◌||◌, List, [], ◌∷◌, length, get_or, slice_set, arith, subst, ℤ, pos, negsuc, ◌+ℤ◌, ◌*ℤ◌, ◌≤ℤ◌, unsigned_abs, IsTrue, Option, Some, None, option_map, Err, inl, inr}
+use Rattle.std.proofs.Common.{◌≡◌, refl, sym, ap, ◌∙◌, ℕ, ◌+◌, ◌*◌, ◌^◌, ◌<◌, ◌≤◌, min, Bool, true, false, cond, not, ◌&&◌, ◌||◌, List, [], ◌∷◌, length, get_or, slice_set, arith, subst, ℤ, pos, negsuc, ◌+ℤ◌, ◌*ℤ◌, ◌≤ℤ◌, unsigned_abs, IsTrue, Option, Some, None, option_map, Err, inl, inr}
 use Rattle.std.proofs.lemmas.Int.{ints}
 use Rattle.std.proofs.lemmas.Bool.Decides.{nat_tests}
 use Rattle.std.proofs.lemmas.Bool.{cases_lt, lt-ltb}
-use Rattle.std.proofs.lemmas.List.{get_or-set_same, get_or-set_other, length-set, set-get_or}
+use Rattle.std.proofs.lemmas.List.{get_or-set_same, length-set, set-get_or}
 use Rattle.std.proofs.Math.Bool.{or-true, or-false}
-use Rattle.std.proofs.Math.Nat.{mul-le-mul_right, lt-div-mul-add}
 use Rattle.pbd_num.specs.declared.Vec3.{Vec3}
 use Rattle.pbd_num.specs.Vectors.{Within, zero_vector, plus, minus, opposite}
 use Rattle.pbd_world.specs.declared.parts.Particle.{Particle}
 use Rattle.pbd_world.specs.declared.parts.Plane.{Plane}
 use Rattle.pbd_world.specs.declared.parts.Sphere.{Sphere}
 use Rattle.pbd_world.specs.declared.totals.Class.TheVariants as classes
-use Rattle.pbd_world.specs.Ledger.{Sum, Ledger, added, booked, SumWithin, HaveRoom}
+use Rattle.pbd_world.specs.Ledger.{Ledger, added, booked}
 use Rattle.pbd_world.specs.Particles.{particle_at}
 use Rattle.pbd_world.specs.Shapes.{Shape, Way, way_through, shaped, shapes_of, stays, rubbed_away, slowed, rubbed}
 use Rattle.pbd_world.specs.Step.{Passing}
@@ -22,23 +21,16 @@ use Rattle.pbd_num.proofs.Sizes.{size-mul, size_at_most}
 use Rattle.pbd_world.specs.Valid.{is_between}
 use Rattle.pbd_world.proofs.BetweenLemmas.{between}
 use Rattle.pbd_lanes.specs.Lane.{is_set}
-use Rattle.pbd_store.specs.Blocks.{blocks_of, filled_lanes, Saved}
-use Rattle.pbd_store.proofs.Scattering.{split_below}
+use Rattle.pbd_store.specs.Blocks.{filled_lanes, Saved}
 use Rattle.pbd_store.proofs.Saving.{saved_none}
+use Rattle.pbd_store.proofs.Places.{place_in, at_of, before_of, places_more}
 use Rattle.pbd_shape.specs.Shaping.{pushed_from}
 use Rattle.pbd_shape.specs.Rubbing.{rubbed_from}
 use Rattle.pbd_shape.proofs.Onward.{one_shaped, shaped_to, shaped_is, pushed_on, pushed_out, pushed_all, one_rubbed, rubbed_by, rubbed_on, rubbed_all}
-use Rattle.pbd_shape.proofs.Saves.{filled_is, saved_on, saved_as, saved_rest, saved_not_yet, saved_once}
+use Rattle.pbd_store.proofs.Saves.{filled_is, saved_on, saved_as, saved_rest, saved_not_yet, saved_once}
 
 abbrev pub passing : List Particle → Ledger → List Bool → Passing
 passing ps t ts = record { motion = record { particles = ps; totals = t }; touched = ts }
-
--- the place before of lane j
-abbrev pub before_of : ℕ → ℕ → List Particle → ℕ → Vec3
-before_of n block ps j = (particle_at ps (block * n + j)).before
-
-abbrev pub place_in : List Vec3 → ℕ → Vec3
-place_in places j = get_or places j zero_vector
 
 -- the first j lanes of a block are pushed to their places
 pub record Pushing (limit : ℤ) (planes : List Plane) (spheres : List Sphere) (n block j : ℕ) (places : List Vec3) (ps : List Particle) (t : Ledger) (ts : List Bool) (u : Ledger) (us : List Bool) : Type 0 where
@@ -55,10 +47,6 @@ booked_one false t by = refl
 pub flagged_one : (now : Bool) (ts : List Bool) (i : ℕ) → cond now (slice_set ts i true) ts ≡ slice_set ts i (get_or ts i false || now)
 flagged_one true ts i = ap (λ (b : Bool). slice_set ts i b) (sym (or-true (get_or ts i false)))
 flagged_one false ts i = sym (ap (λ (b : Bool). slice_set ts i b) (or-false (get_or ts i false)) ∙ set-get_or ts i false)
-
--- places of which one more is set
-pub places_more : (places : List Vec3) (j : ℕ) (v : Vec3) (k : ℕ) → k < j → get_or places k zero_vector ≡ get_or (slice_set places j v) k zero_vector
-places_more places j v k h = sym (get_or-set_other places j k v zero_vector (λ e. absurd (omega arith)))
 
 module _ (limit : ℤ) (planes : List Plane) (spheres : List Sphere) (n block : ℕ) (ps : List Particle) (t : Ledger) (ts : List Bool) where
   pub pushing_none : (places : List Vec3) → Pushing limit planes spheres n block 0 places ps t ts t ts
@@ -132,62 +120,12 @@ pub flagged_length : (now : Bool) (ts : List Bool) (i : ℕ) → length (cond no
 flagged_length true ts i = length-set ts i true
 flagged_length false ts i = refl
 
-pub inside_more : (b : ℕ) (places : List Vec3) (j : ℕ) (v : Vec3) → j < length places → ((k : ℕ) → k < j → Within b (get_or places k zero_vector)) → Within b v → (k : ℕ) → k < j + 1 → Within b (get_or (slice_set places j v) k zero_vector)
-inside_more b places j v room h w k lt = elim (split_below k j lt) [
-  | inl p ↦ subst (Within b) (places_more places j v k p) (h k p)
-  | inr e ↦ subst (Within b) (sym (get_or-set_same places j v zero_vector room) ∙ ap (λ (m : ℕ). get_or (slice_set places j v) m zero_vector) (sym e)) w
-]
-
-pub within_at : {a b : ℕ} {v w : Vec3} → a ≡ b → v ≡ w → Within b w → Within a v
-within_at ea ev h = coe 1 0 (i. Within (ea i) (ev i)) h
-
-pub within_more : {a : ℕ} {v : Vec3} (b : ℕ) → a ≤ b → Within a v → Within b v
-within_more b p h = record { x = omega (arith, h.x); y = omega (arith, h.y); z = omega (arith, h.z) }
-
--- a lane that has a particle is one of the first lanes
-pub below_count : (j count n start len : ℕ) → (count < n → start + count ≡ len) → count ≤ n → j < n → start + j < len → j < count
-below_count j count n start len last le h k = elim (cases_lt count n) [ inl p ↦ (let e = last p in omega arith) | inr p ↦ omega arith ]
-
--- room at a larger bound
-sum_at : {n : ℕ} {s : Sum} (m : ℕ) → n ≤ m → SumWithin n s → SumWithin m s
-sum_at m p h = record { x = omega (arith, h.x); y = omega (arith, h.y); z = omega (arith, h.z) }
-
-pub room_at : {n : ℕ} {t : Ledger} (m : ℕ) → n ≤ m → HaveRoom n t → HaveRoom m t
-room_at m p h = record {
-  gravity = sum_at m p h.gravity;
-  damping = sum_at m p h.damping;
-  link = sum_at m p h.link;
-  contact = sum_at m p h.contact;
-  pin = sum_at m p h.pin;
-  shape = sum_at m p h.shape;
-}
-
 -- ---- blocks
-
--- the blocks hold all particles
-pub all_held : (block m n : ℕ) → 0 < n → blocks_of m n ≤ block → m ≤ block * n
-all_held block m n some h =
-    let fits : blocks_of m n * n ≤ block * n = mul-le-mul_right {m = blocks_of m n} n h in
-    omega (arith, lt-div-mul-add {a = m + n - 1} {b = n} some, fits)
-
-pub next_start : (block n : ℕ) → (block + 1) * n ≡ block * n + n
-next_start block n = omega arith
-
--- what a block books, after all before it
-pub room_more : (n s next len lanes : ℕ) → s < len → next ≡ s + lanes → n + min s len * 2 ^ 31 + (min (s + lanes) len - s) * 2 ^ 31 ≤ n + min next len * 2 ^ 31
-room_more n s next len lanes h e = omega arith
-
-pub room_whole : (n s len : ℕ) → n + min s len * 2 ^ 31 ≤ n + len * 2 ^ 31
-room_whole n s len = omega arith
 
 pub room_enough : (s len : ℕ) → len ≤ 65536 → 2 ^ 120 + min s len * 2 ^ 31 ≤ 2 ^ 125
 room_enough s len h = omega arith
 
 -- ---- friction
-
--- the place of lane j
-abbrev pub at_of : ℕ → ℕ → List Particle → ℕ → Vec3
-at_of n block ps j = (particle_at ps (block * n + j)).at
 
 -- the first j lanes of a block are rubbed, and have come to their places before
 pub record Rubbing (friction : ℤ) (n block j : ℕ) (places : List Vec3) (ps : List Particle) (t : Ledger) (ts : List Bool) (u : Ledger) : Type 0 where

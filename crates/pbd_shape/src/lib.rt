@@ -6,7 +6,6 @@ mod laws;
 mod plane;
 mod pushing;
 mod rubbing;
-mod span;
 mod sphere;
 mod touched;
 mod way;

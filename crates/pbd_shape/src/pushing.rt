@@ -14,11 +14,10 @@ ghost use Rattle.pbd_shape.specs.Way.{way_of};
 ghost use Rattle.pbd_shape.specs.Shaping.{all_pushed, pushed_from};
 
 use crate::book::{book_if, difference, touch_if};
-use crate::span::{particles_in, side_by_side};
 use crate::touched::Touched;
 use crate::way::{Pushed, push};
 use pbd_num::Vec3;
-use pbd_store::{Block, Steps, Store};
+use pbd_store::{Block, Lanes3, Steps, Store};
 use pbd_world::{Left, Plane, Sphere, Totals};
 use std::sync::ledger::Ledger;
 
@@ -74,7 +73,7 @@ fn push_lanes<const L: usize>(
     ensures room { (n : ℕ) → HaveRoom n (ledger_of totals.old) → HaveRoom (n + (min (block * L + L) (length store.now.particles) - block * L) * 2 ^ 31) (ledger_of totals.new) }
 {
     let limit = store.limit();
-    let span = particles_in(block, L, store.len());
+    let span = store.span(block);
     let held = lanes.held.to_array();
     let mut places = [Vec3::ZERO; L];
     for j in 0..span.count {
@@ -123,7 +122,7 @@ fn push_block<const L: usize, G: Ledger>(
     match push_lanes(store, block, &lanes, planes, spheres, touched, totals) {
         Err(left) => Err(left),
         Ok(places) => {
-            lanes.at = side_by_side(&places);
+            lanes.at = Lanes3::from_places(&places);
             let filled = lanes.filled;
             store.save(block, &lanes, &filled, steps);
             Ok(())

@@ -14,10 +14,9 @@ ghost use Rattle.pbd_store.specs.Moving.{motion_of};
 ghost use Rattle.pbd_shape.specs.Rubbing.{AreWithin, settled_parts, rubbed_from};
 
 use crate::book::{book_if, difference};
-use crate::span::{particles_in, side_by_side};
 use crate::touched::Touched;
 use pbd_num::{Vec3, rdiv};
-use pbd_store::{Block, Steps, Store};
+use pbd_store::{Block, Lanes3, Steps, Store};
 use pbd_world::Totals;
 use std::sync::ledger::Ledger;
 
@@ -117,7 +116,7 @@ fn rub_lanes<const L: usize>(
 {
     // By it the places are in the range of both limits.
     let _limit = store.limit();
-    let span = particles_in(block, L, store.len());
+    let span = store.span(block);
     let held = lanes.held.to_array();
     let mut places = [Vec3::ZERO; L];
     for j in 0..span.count {
@@ -155,7 +154,7 @@ fn rub_block<const L: usize, G: Ledger>(
 {
     let mut lanes = store.load(block, steps);
     let places = rub_lanes(store, block, &lanes, friction, touched, totals);
-    lanes.before = side_by_side(&places);
+    lanes.before = Lanes3::from_places(&places);
     let filled = lanes.filled;
     store.save(block, &lanes, &filled, steps);
 }

@@ -1,5 +1,5 @@
 -- What the parts of a world in its ranges are.
-use Rattle.std.proofs.Common.{ℕ, List, ℤ, pos, ◌≤ℤ◌, IsTrue}
+use Rattle.std.proofs.Common.{ℕ, List, pos, ◌≤ℤ◌, IsTrue}
 use Rattle.pbd_world.specs.Valid.{is_well_formed}
 use Rattle.pbd_world.specs.World.{World, parts_of}
 use Rattle.pbd_world.proofs.WorldParts.{formed}

@@ -5,8 +5,7 @@ use Rattle.pbd_num.specs.Vectors.{Within}
 use Rattle.pbd_num.proofs.Sizes.{size-add, size-sub, size-mul, fits}
 use Rattle.pbd_world.specs.declared.totals.Class.TheVariants as classes
 use Rattle.pbd_world.specs.Ledger.{Ledger, added, HaveRoom}
-use Rattle.pbd_world.proofs.Rooms.{room_left}
-use Rattle.pbd_pair.proofs.Ranges.{room_at}
+use Rattle.pbd_world.proofs.Rooms.{room_left, room_at}
 
 pub record Sizes (a b l p : ℤ) : Type 0 where
   pub velocity : unsigned_abs (a -ℤ b) ≤ 2 ^ 30

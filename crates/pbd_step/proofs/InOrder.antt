@@ -15,7 +15,7 @@ use Rattle.pbd_colour.proofs.Batches.{order-batches}
 use Rattle.pbd_pair.specs.declared.bonds.Bonds.{Bonds}
 use Rattle.pbd_pair.specs.Bonds.{bond_of, bond_count, IsBond}
 use Rattle.pbd_pair.specs.Projecting.{ShareNone, IsBatch}
-use Rattle.pbd_pair.proofs.Ranges.{room_at}
+use Rattle.pbd_world.proofs.Rooms.{room_at}
 use Rattle.pbd_step.specs.Projecting.{AreBondsOf, parallel_from}
 
 -- ---- one list of items after another

@@ -4,12 +4,11 @@ use Rattle.std.specs.Prelude.{IsTrue, nat_le}
 use Rattle.std.specs.List.{AllByRecursion, list_all}
 use Rattle.std.proofs.lemmas.Bool.{and_parts}
 use Rattle.pbd_num.specs.Vectors.{Within}
-use Rattle.pbd_num.proofs.Ranges.{within_facts}
+use Rattle.pbd_num.proofs.Ranges.{within_facts, wider}
 use Rattle.pbd_world.specs.declared.parts.Particle.{Particle}
 use Rattle.pbd_world.specs.Particles.{particle_at}
 use Rattle.pbd_world.specs.Valid.{is_between, is_valid_particle, is_well_formed}
 use Rattle.pbd_world.specs.World.{World, parts_of, IsSound}
-use Rattle.pbd_world.proofs.KeptLemmas.{wider}
 use Rattle.pbd_world.proofs.WorldParts.{formed, limit_of, numbers_of, IsFit, all_fit}
 use Rattle.pbd_shape.specs.Rubbing.{AreWithin}
 

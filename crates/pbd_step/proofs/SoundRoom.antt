@@ -6,7 +6,7 @@ use Rattle.std.proofs.lemmas.Int.{ints}
 use Rattle.std.proofs.lemmas.Bool.{and_parts, leb-true}
 use Rattle.pbd_num.specs.declared.Vec3.{Vec3}
 use Rattle.pbd_num.specs.Vectors.{Within}
-use Rattle.pbd_num.proofs.Ranges.{within_facts}
+use Rattle.pbd_num.proofs.Ranges.{within_facts, wider}
 use Rattle.pbd_num.proofs.Sizes.{size-add, size_above, size_below, size_le}
 use Rattle.pbd_world.specs.declared.parts.Particle.{Particle}
 use Rattle.pbd_world.specs.Ledger.{Sum, zero_sum, both_sums, SumWithin, HaveRoom}
@@ -16,8 +16,8 @@ use Rattle.pbd_world.specs.Valid.{is_valid_particle}
 use Rattle.pbd_world.specs.World.{World, parts_of, IsSound}
 use Rattle.pbd_world.proofs.MomentumLemmas.{part_by, part, momentum_cons}
 use Rattle.pbd_world.proofs.BetweenLemmas.{step_size}
-use Rattle.pbd_world.proofs.KeptLemmas.{IsLimit, wider}
-use Rattle.pbd_world.proofs.Rooms.{sum_grows}
+use Rattle.pbd_world.proofs.KeptLemmas.{IsLimit}
+use Rattle.pbd_world.proofs.Rooms.{sum_grows, sum_wider}
 use Rattle.pbd_world.proofs.WorldParts.{formed, limit_of, IsFit, all_fit}
 
 -- ---- the momentum of particles within the limit
@@ -54,9 +54,6 @@ pin_axis m o g d l c p s b e hm ho hg hd hl hc hs =
     (omega (arith, ints, e, size_above m, size_below o, size_below g, size_below d, size_below l, size_below c, size_below s, hm, ho, hg, hd, hl, hc, hs))
     (omega (arith, ints, e, size_below m, size_above o, size_above g, size_above d, size_above l, size_above c, size_above s, hm, ho, hg, hd, hl, hc, hs))
 
-within_more : (s : Sum) (b c : ℕ) → b ≤ c → SumWithin b s → SumWithin c s
-within_more s b c l h = record { x = omega (arith, l, h.x); y = omega (arith, l, h.y); z = omega (arith, l, h.z) }
-
 -- each axis of each total of a sound world is at most 2^99 in size
 pub sound_room : (w : World) → IsSound w → HaveRoom (2 ^ 99) w.totals
 sound_room w sound =
@@ -67,10 +64,10 @@ sound_room w sound =
     let t = w.totals in
     let b = sound.bounded in
     let small : 2 ^ 64 * w.steps ≤ 2 ^ 84 = omega (arith, sound.steps) in
-    let up : (s : Sum) → SumWithin (2 ^ 64 * w.steps) s → SumWithin (2 ^ 84) s = λ s h. within_more s (2 ^ 64 * w.steps) (2 ^ 84) small h in
-    let far : (s : Sum) → SumWithin (2 ^ 84) s → SumWithin (2 ^ 99) s = λ s h. within_more s (2 ^ 84) (2 ^ 99) (omega arith) h in
-    let m = within_more (momentum w.particles) (length w.particles * 2 ^ 30) (2 ^ 84) (omega (arith, few)) (momentum_within w.limit w.particles lim (all_fit w.limit w.particles counts.1)) in
-    let o = within_more w.opening (2 ^ 46) (2 ^ 84) (omega arith) sound.opening in
+    let up : (s : Sum) → SumWithin (2 ^ 64 * w.steps) s → SumWithin (2 ^ 84) s = λ s h. sum_wider s (2 ^ 64 * w.steps) (2 ^ 84) small h in
+    let far : (s : Sum) → SumWithin (2 ^ 84) s → SumWithin (2 ^ 99) s = λ s h. sum_wider s (2 ^ 84) (2 ^ 99) (omega arith) h in
+    let m = sum_wider (momentum w.particles) (length w.particles * 2 ^ 30) (2 ^ 84) (omega (arith, few)) (momentum_within w.limit w.particles lim (all_fit w.limit w.particles counts.1)) in
+    let o = sum_wider w.opening (2 ^ 46) (2 ^ 84) (omega arith) sound.opening in
     let g = up t.gravity b.gravity in let d = up t.damping b.damping in let l = up t.link b.link in let c = up t.contact b.contact in let s = up t.shape b.shape in
     let x = pin_axis (momentum w.particles).x w.opening.x t.gravity.x t.damping.x t.link.x t.contact.x t.pin.x t.shape.x (2 ^ 84) (ap (λ (u : Sum). u.x) sound.balanced) m.x o.x g.x d.x l.x c.x s.x in
     let y = pin_axis (momentum w.particles).y w.opening.y t.gravity.y t.damping.y t.link.y t.contact.y t.pin.y t.shape.y (2 ^ 84) (ap (λ (u : Sum). u.y) sound.balanced) m.y o.y g.y d.y l.y c.y s.y in

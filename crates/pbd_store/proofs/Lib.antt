@@ -4,3 +4,6 @@ pub mod Listing
 pub mod Scattering
 pub mod Saving
 pub mod Starts
+pub mod Fixed
+pub mod Saves
+pub mod Places

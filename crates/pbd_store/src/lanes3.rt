@@ -1,8 +1,17 @@
-ghost use Rattle.std.specs.Prelude.{◌≡◌, ◌<◌, ◌≤◌};
+ghost use Rattle.std.specs.Prelude.{◌≡◌, ℕ, ◌<◌, ◌≤◌, slice_index_or};
+ghost use Rattle.pbd_num.specs.Vectors.{zero_vector};
 ghost use Rattle.pbd_store.specs.Blocks.{place_of};
 
 use pbd_lanes::{Lanes, Mask};
 use pbd_num::Vec3;
+
+fn place_at<const L: usize>(places: &[Vec3; L], j: usize) -> Vec3
+    requires lanes { L ≤ 16 }
+    requires within { j < L }
+    ensures { result ≡ slice_index_or places.now j zero_vector }
+{
+    places[j]
+}
 
 /// L places, axis by axis.
 #[derive(Clone, Copy)]
@@ -13,6 +22,27 @@ pub struct Lanes3<const L: usize> {
 }
 
 impl<const L: usize> Lanes3<L> {
+    /// Places side by side: lane j has place j.
+    pub fn from_places(places: &[Vec3; L]) -> Lanes3<L>
+        requires { L ≤ 16 }
+        ensures { (j : ℕ) → j < L → place_of result.x result.y result.z j ≡ slice_index_or places.now j zero_vector }
+    {
+        let mut x = [0; L];
+        let mut y = [0; L];
+        let mut z = [0; L];
+        for j in 0..L {
+            let place = place_at(places, j);
+            x[j] = place.x;
+            y[j] = place.y;
+            z[j] = place.z;
+        }
+        Lanes3 {
+            x: Lanes::from_array(x),
+            y: Lanes::from_array(y),
+            z: Lanes::from_array(z),
+        }
+    }
+
     /// The place in lane j.
     pub fn place(&self, j: usize) -> Vec3
         requires { j < L }

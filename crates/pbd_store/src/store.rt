@@ -8,6 +8,7 @@ ghost use Rattle.pbd_store.specs.Gathering.{index_at, gathered, NamesApart, Scat
 use crate::axes::Field;
 use crate::columns::Columns;
 use crate::lanes3::{Block, Ends, Lanes3};
+use crate::span::{Span, particles_in};
 use crate::steps::Steps;
 use pbd_lanes::{Lanes, Mask};
 use pbd_num::Vec3;
@@ -83,6 +84,20 @@ impl<const L: usize> Store<L> {
         ensures { result ≡ blocks_of (length self.now.particles) L }
     {
         self.columns.len().div_ceil(L) as u32
+    }
+
+    /// Which particles are in a block.
+    pub fn span(&self, block: u32) -> Span
+        requires some_lanes { 0 < L }
+        requires lanes { L ≤ 16 }
+        requires within { block < blocks_of (length self.now.particles) L }
+        ensures first { result.first ≡ block * L }
+        ensures count { result.count ≤ L }
+        ensures within { result.first + result.count ≤ length self.now.particles }
+        ensures size { result.first + result.count ≤ 65536 }
+        ensures last { result.count < L → result.first + result.count ≡ length self.now.particles }
+    {
+        particles_in(block, L, self.len())
     }
 
     /// Particle i.

@@ -7,7 +7,7 @@ use Rattle.std.proofs.lemmas.Bool.{cases_lt, and_parts}
 use Rattle.pbd_num.specs.declared.Vec3.{Vec3}
 use Rattle.pbd_num.specs.Vectors.{Within, is_within, zero_vector, plus, minus, opposite, length_of}
 use Rattle.pbd_num.specs.PairMove.{share_of, corrections, pair_moves}
-use Rattle.pbd_num.proofs.Ranges.{within_facts}
+use Rattle.pbd_num.proofs.Ranges.{within_facts, wider}
 use Rattle.pbd_num.proofs.Sizes.{size-mul}
 use Rattle.pbd_num.proofs.RoundingLemmas.{size-rdiv}
 use Rattle.pbd_num.proofs.Lengths.{pair_moves-none, pair_moves-some, pair_moves-equal}
@@ -173,9 +173,6 @@ goes_weaker limit ps t b c m l h = record { kept = h.kept; bounded = bounded_wea
 pub record IsLimit (limit : ℤ) : Type 0 where
   pub low : pos 0 ≤ℤ limit
   pub high : unsigned_abs limit ≤ 2 ^ 29
-
-pub wider : (v : Vec3) (b c : ℕ) → b ≤ c → Within b v → Within c v
-wider v b c l h = record { x = omega (arith, l, h.x); y = omega (arith, l, h.y); z = omega (arith, l, h.z) }
 
 moved_goes : (limit : ℤ) (ps : List Particle) (t : Ledger) (b : ℕ) (m : Motion) (bond : Bond) (s : Shift) → IsLimit limit → AreEnds (length ps) bond → Goes limit ps t b m
     → s ≡ shift_of (end_of (particle_at m.particles bond.a)) (end_of (particle_at m.particles bond.b)) bond

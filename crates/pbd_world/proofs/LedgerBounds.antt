@@ -6,21 +6,18 @@ use Rattle.pbd_num.specs.declared.Vec3.{Vec3}
 use Rattle.pbd_num.specs.Vectors.{Within}
 use Rattle.pbd_world.specs.declared.totals.Class.{Class}
 use Rattle.pbd_world.specs.declared.totals.Class.TheVariants as classes
-use Rattle.pbd_world.specs.Ledger.{Sum, Ledger, Entry, added, booked, SumWithin}
+use Rattle.pbd_world.specs.Ledger.{Ledger, Entry, added, booked}
 use Rattle.pbd_world.specs.Particles.{Moved}
 use Rattle.pbd_world.specs.World.{AreBounded}
-use Rattle.pbd_world.proofs.Rooms.{sum_grows}
-
-sum_weaker : (s : Sum) (b c : ℕ) → b ≤ c → SumWithin b s → SumWithin c s
-sum_weaker s b c l h = record { x = omega (arith, l, h.x); y = omega (arith, l, h.y); z = omega (arith, l, h.z) }
+use Rattle.pbd_world.proofs.Rooms.{sum_grows, sum_wider}
 
 pub bounded_weaker : (t : Ledger) (b c : ℕ) → b ≤ c → AreBounded b t → AreBounded c t
 bounded_weaker t b c l h = record {
-  gravity = sum_weaker t.gravity b c l h.gravity;
-  damping = sum_weaker t.damping b c l h.damping;
-  link = sum_weaker t.link b c l h.link;
-  contact = sum_weaker t.contact b c l h.contact;
-  shape = sum_weaker t.shape b c l h.shape;
+  gravity = sum_wider t.gravity b c l h.gravity;
+  damping = sum_wider t.damping b c l h.damping;
+  link = sum_wider t.link b c l h.link;
+  contact = sum_wider t.contact b c l h.contact;
+  shape = sum_wider t.shape b c l h.shape;
 }
 
 added_by : (t : Ledger) (class : Class) (v : Vec3) (b c : ℕ) → AreBounded b t → AreBounded (b + c) t → Within c v → AreBounded (b + c) (added t class v)

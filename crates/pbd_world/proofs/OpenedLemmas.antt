@@ -6,10 +6,9 @@ use Rattle.std.specs.Ordering.{int_eq}
 use Rattle.std.proofs.lemmas.Int.{ints}
 use Rattle.std.proofs.lemmas.Bool.{and_parts, and_from, cases_Bool, leb-true}
 use Rattle.std.proofs.lemmas.Bool.Decides.{Decides-int_eq}
-use Rattle.pbd_num.specs.declared.Vec3.{Vec3}
 use Rattle.pbd_num.specs.Vectors.{is_within, Within}
 use Rattle.pbd_num.proofs.Ranges.{within_facts}
-use Rattle.pbd_num.proofs.Sizes.{size-add, size-sub}
+use Rattle.pbd_num.proofs.Sizes.{size-sub}
 use Rattle.pbd_world.specs.declared.parts.Particle.{Particle}
 use Rattle.pbd_world.specs.declared.parts.Track.{Track}
 use Rattle.pbd_world.specs.declared.parts.Parts.{Parts}
@@ -18,6 +17,7 @@ use Rattle.pbd_world.specs.Particles.{velocity, is_free}
 use Rattle.pbd_world.specs.Momentum.{momentum}
 use Rattle.pbd_world.specs.Valid.{is_limit, is_valid_particle, are_valid_particles, is_at_rest, is_well_formed, is_valid}
 use Rattle.pbd_world.specs.World.{opened, is_tracked, IsSound}
+use Rattle.pbd_world.proofs.Rooms.{sum_grows, sum_wider}
 
 -- ---- the size of the momentum
 
@@ -35,27 +35,17 @@ velocity_within limit b p h hb v =
       z = omega (arith, size-sub p.at.z p.before.z, at.z, before.z);
     }
 
-plus_within : (s : Sum) (v : Vec3) (a b : ℕ) → SumWithin a s → Within b v → SumWithin (a + b) (sum_plus s v)
-plus_within s v a b hs hv = record {
-  x = omega (arith, size-add s.x v.x, hs.x, hv.x);
-  y = omega (arith, size-add s.y v.y, hs.y, hv.y);
-  z = omega (arith, size-add s.z v.z, hs.z, hv.z);
-}
-
-wider : (s : Sum) (a b : ℕ) → a ≤ b → SumWithin a s → SumWithin b s
-wider s a b h w = record { x = omega (arith, w.x); y = omega (arith, w.y); z = omega (arith, w.z) }
-
 -- one particle more, held or free
 one_more : (limit : ℤ) (b : ℕ) (p : Particle) (ps : List Particle) (s : Sum) (a : ℕ) (held : Bool)
     → ((t : Sum) (u : ℕ) → SumWithin u t → SumWithin (u + length ps * (2 * b)) (fold sum_plus t (map velocity (filter is_free ps))))
     → SumWithin a s → Within (2 * b) (velocity p)
     → SumWithin (a + length (p ∷ ps) * (2 * b)) (fold sum_plus s (map velocity (cond (not held) (p ∷ filter is_free ps) (filter is_free ps))))
-one_more limit b p ps s a true rest w v = wider _ (a + length ps * (2 * b)) _ (omega arith) (rest s a w)
-one_more limit b p ps s a false rest w v = wider _ ((a + 2 * b) + length ps * (2 * b)) _ (omega arith) (rest (sum_plus s (velocity p)) (a + 2 * b) (plus_within s (velocity p) a (2 * b) w v))
+one_more limit b p ps s a true rest w v = sum_wider _ (a + length ps * (2 * b)) _ (omega arith) (rest s a w)
+one_more limit b p ps s a false rest w v = sum_wider _ ((a + 2 * b) + length ps * (2 * b)) _ (omega arith) (rest (sum_plus s (velocity p)) (a + 2 * b) (sum_grows s (velocity p) a (2 * b) w v))
 
 -- the sum grows by at most so much with each particle
 momentum_from : (limit : ℤ) (b : ℕ) (ps : List Particle) (s : Sum) (a : ℕ) → pos 0 ≤ℤ limit → unsigned_abs limit ≤ b → IsTrue (list_all (is_valid_particle limit) ps) → SumWithin a s → SumWithin (a + length ps * (2 * b)) (fold sum_plus s (map velocity (filter is_free ps)))
-momentum_from limit b [] s a h hb v w = wider s a (a + length {A = Particle} [] * (2 * b)) (omega arith) w
+momentum_from limit b [] s a h hb v w = sum_wider s a (a + length {A = Particle} [] * (2 * b)) (omega arith) w
 momentum_from limit b (p ∷ ps) s a h hb v w =
     let parts = and_parts (is_valid_particle limit p) (list_all (is_valid_particle limit) ps) v in
     one_more limit b p ps s a p.held
@@ -120,7 +110,7 @@ opened-is_sound parts v =
       steps = omega arith;
       contacts = omega arith;
       bounded = record { gravity = nothing 0; damping = nothing 0; link = nothing 0; contact = nothing 0; shape = nothing 0 };
-      opening = wider (momentum parts.particles) (0 + length parts.particles * (2 * 2 ^ 29)) (2 ^ 46) (omega arith) (momentum_from parts.limit (2 ^ 29) parts.particles zero_sum 0 limit.0 limit.1 particles.1 (nothing 0));
+      opening = sum_wider (momentum parts.particles) (0 + length parts.particles * (2 * 2 ^ 29)) (2 ^ 46) (omega arith) (momentum_from parts.limit (2 ^ 29) parts.particles zero_sum 0 limit.0 limit.1 particles.1 (nothing 0));
       balanced = nothing_more (momentum parts.particles);
       undamped = λ e. refl;
       one_weight = λ weight all. (refl, refl);

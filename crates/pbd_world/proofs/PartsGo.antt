@@ -5,7 +5,7 @@ use Rattle.std.specs.List.{AllByRecursion, AllZip, zip}
 use Rattle.pbd_num.specs.declared.Vec3.{Vec3}
 use Rattle.pbd_num.specs.Vectors.{is_within, minus}
 use Rattle.std.proofs.lemmas.Bool.{false≢true}
-use Rattle.pbd_num.proofs.Ranges.{within_facts}
+use Rattle.pbd_num.proofs.Ranges.{within_facts, wider}
 use Rattle.pbd_world.specs.declared.parts.Particle.{Particle}
 use Rattle.pbd_world.specs.declared.parts.Link.{Link}
 use Rattle.pbd_world.specs.declared.bond.Bond.{Bond}
@@ -23,7 +23,7 @@ use Rattle.pbd_world.proofs.KeepingOn.{bind-keeps, fault-keeps, each-keeps, leng
 use Rattle.pbd_world.proofs.StepBalance.{AreEnds, ArePair, all-order}
 use Rattle.pbd_world.proofs.BetweenLemmas.{step_size}
 use Rattle.pbd_world.proofs.LedgerBounds.{IsQuiet, all_booked, bounded_weaker, moved_bounded, moved_links, moved_contacts, moved_damping}
-use Rattle.pbd_world.proofs.KeptLemmas.{Kept, kept_join, Goes, goes_weaker, IsLimit, wider, one_goes}
+use Rattle.pbd_world.proofs.KeptLemmas.{Kept, kept_join, Goes, goes_weaker, IsLimit, one_goes}
 use Rattle.pbd_world.proofs.CountingOn.{ok_weaker, turn-counts, order_length}
 
 -- ---- bonds

@@ -7,7 +7,7 @@ use Rattle.std.proofs.lemmas.Bool.{and_parts, and_from, false≢true, ltb-true, 
 use Rattle.pbd_num.specs.declared.Vec3.{Vec3}
 use Rattle.pbd_num.specs.Rounding.{rdiv}
 use Rattle.pbd_num.specs.Vectors.{Within, is_within, opposite}
-use Rattle.pbd_num.proofs.Ranges.{within_facts}
+use Rattle.pbd_num.proofs.Ranges.{within_facts, wider}
 use Rattle.pbd_num.proofs.Sizes.{size-neg, size-mul, pos_size}
 use Rattle.pbd_num.proofs.RoundingLemmas.{size-rdiv}
 use Rattle.pbd_world.specs.declared.parts.Particle.{Particle}
@@ -24,7 +24,7 @@ use Rattle.pbd_world.specs.Step.{attached, damped_away, flown, if_within, predic
 use Rattle.pbd_world.proofs.MomentumLemmas.{same_sum}
 use Rattle.pbd_world.proofs.BetweenLemmas.{between, step_size, loss_size}
 use Rattle.pbd_world.proofs.LedgerBounds.{IsQuiet}
-use Rattle.pbd_world.proofs.KeptLemmas.{Kept, IsLimit, wider}
+use Rattle.pbd_world.proofs.KeptLemmas.{Kept, IsLimit}
 use Rattle.pbd_world.proofs.ValidLemmas.{at_rest_from}
 
 -- ---- tracks

@@ -1,4 +1,4 @@
--- Totals with room: a move more fits, and leaves room.
+-- Totals with room: there is room at a greater bound, and a move more fits and leaves room.
 use Rattle.std.proofs.Common.{ℕ, ◌+◌, ◌<◌, ◌≤◌, ◌^◌, arith, ℤ, ◌+ℤ◌, unsigned_abs, FitsSigned}
 use Rattle.std.specs.Int.{w128}
 use Rattle.std.proofs.lemmas.Int.{fits_signed_from_abs}
@@ -26,8 +26,19 @@ sum_grows s v b c h k = record {
   z = omega (arith, size-add s.z v.z, h.z, k.z);
 }
 
-pub sum_stays : (s : Sum) (b c : ℕ) → SumWithin b s → SumWithin (b + c) s
-sum_stays s b c h = record { x = omega (arith, h.x); y = omega (arith, h.y); z = omega (arith, h.z) }
+-- what is within a bound is within a greater one
+pub sum_wider : (s : Sum) (b c : ℕ) → b ≤ c → SumWithin b s → SumWithin c s
+sum_wider s b c l h = record { x = omega (arith, l, h.x); y = omega (arith, l, h.y); z = omega (arith, l, h.z) }
+
+pub room_at : {n : ℕ} {t : Ledger} (m : ℕ) → n ≤ m → HaveRoom n t → HaveRoom m t
+room_at {n} {t} m l h = record {
+  gravity = sum_wider t.gravity n m l h.gravity;
+  damping = sum_wider t.damping n m l h.damping;
+  link = sum_wider t.link n m l h.link;
+  contact = sum_wider t.contact n m l h.contact;
+  pin = sum_wider t.pin n m l h.pin;
+  shape = sum_wider t.shape n m l h.shape;
+}
 
 total_within : (t : Ledger) (class : Class) (b : ℕ) → HaveRoom b t → SumWithin b (total_of t class)
 total_within t classes.Gravity b h = h.gravity
@@ -44,14 +55,7 @@ move_fits t class v b c h k room = sum_fits (total_of t class) v b c (total_with
 -- and no total grows by more than the move
 pub room_left : (t : Ledger) (class : Class) (v : Vec3) (b c : ℕ) → HaveRoom b t → Within c v → HaveRoom (b + c) (added t class v)
 room_left t class v b c h k =
-    let all : HaveRoom (b + c) t = record {
-      gravity = sum_stays t.gravity b c h.gravity;
-      damping = sum_stays t.damping b c h.damping;
-      link = sum_stays t.link b c h.link;
-      contact = sum_stays t.contact b c h.contact;
-      pin = sum_stays t.pin b c h.pin;
-      shape = sum_stays t.shape b c h.shape;
-    } in
+    let all : HaveRoom (b + c) t = room_at (b + c) (omega arith) h in
     in_class class all
   where
     in_class : (d : Class) → HaveRoom (b + c) t → HaveRoom (b + c) (added t d v)

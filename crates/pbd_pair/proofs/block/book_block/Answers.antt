@@ -4,7 +4,7 @@ use Rattle.pbd_world.specs.Ledger.{ledger_of, booked}
 use Rattle.pbd_world.specs.Bonds.{entries_of, class_of}
 use Rattle.pbd_pair.specs.Bonds.{bond_of}
 use Rattle.pbd_pair.specs.Lanes.{shift_in, settled}
-use Rattle.pbd_pair.proofs.Ranges.{room_at}
+use Rattle.pbd_world.proofs.Rooms.{room_at}
 use Rattle.pbd_pair.proofs.block.book_block.Goals as goal
 
 pub settle-requires-clause-room : goal.settle-requires-clause-room

@@ -1,5 +1,5 @@
 use Rattle.std.proofs.Common.{◌+◌, ◌^◌, arith}
-use Rattle.pbd_pair.proofs.Ranges.{room_at}
+use Rattle.pbd_world.proofs.Rooms.{room_at}
 use Rattle.pbd_pair.proofs.book.book.Goals as goal
 
 pub add-requires-else-second_held-2-clause-room : goal.add-requires-else-second_held-2-clause-room

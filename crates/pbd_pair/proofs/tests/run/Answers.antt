@@ -4,7 +4,7 @@ use Rattle.pbd_world.specs.Ledger.{ledger_of}
 use Rattle.pbd_store.specs.Moving.{AreInside, Weigh}
 use Rattle.pbd_pair.specs.Projecting.{IsBatch}
 use Rattle.pbd_pair.proofs.Examples.{are_inside, weigh, batch_is, room_of_zero}
-use Rattle.pbd_pair.proofs.Correcting.{same_length}
+use Rattle.pbd_store.proofs.Fixed.{same_length}
 use Rattle.pbd_pair.proofs.tests.run.Goals as goal
 
 pub project-outcome-requires : goal.project-outcome-requires

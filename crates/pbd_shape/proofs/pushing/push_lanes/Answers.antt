@@ -7,7 +7,10 @@ use Rattle.pbd_world.specs.Ledger.{ledger_of, added}
 use Rattle.pbd_world.specs.Particles.{particle_at}
 use Rattle.pbd_world.specs.Shapes.{shapes_of}
 use Rattle.pbd_shape.specs.Way.{way_of}
-use Rattle.pbd_shape.proofs.Steps.{pushing_none, pushing_out, pushing_on, pushing_all, way_is, flagged_length, inside_more, within_at, within_more, below_count, room_at}
+use Rattle.pbd_world.proofs.Rooms.{room_at}
+use Rattle.pbd_num.proofs.Ranges.{wider}
+use Rattle.pbd_store.proofs.Places.{inside_more, within_at, below_count}
+use Rattle.pbd_shape.proofs.Steps.{pushing_none, pushing_out, pushing_on, pushing_all, way_is, flagged_length}
 use Rattle.pbd_shape.proofs.pushing.push_lanes.Goals as goal
 
 pub loop-j-init : goal.loop-j-init
@@ -23,9 +26,9 @@ pub push_if_free-requires-clause-place : goal.push_if_free-requires-clause-place
 push_if_free-requires-clause-place g c =
     let f : FitsSigned w64 c.limit-limit.result = record { sfits = c.limit-limit.type_inv } in
     let j = c.loop-j.j in
-    let span = c.particles_in-span.ensures in
+    let span = c.span-span.ensures in
     let lane : j < g.row.L = omega (arith, span.count, c.loop-j-test.true) in
-    let lt : c.args.block * g.row.L + j < length c.args.store.now.particles = omega (arith, span.first, span.within, c.len.ensures.value, c.loop-j-test.true) in
+    let lt : c.args.block * g.row.L + j < length c.args.store.now.particles = omega (arith, span.first, span.within, c.loop-j-test.true) in
     simp to_z-of_z (within_at (ap unsigned_abs c.limit-limit.ensures.value) (c.place-from.ensures ∙ c.requires.at j lane) (c.requires.inside.each _ lt))
 
 pub returns-in_default-clause-outcome : goal.returns-in_default-clause-outcome
@@ -34,9 +37,9 @@ returns-in_default-clause-outcome g c =
     let j = c.loop-j.j in
     let ps = c.args.store.now.particles in
     let i = c.args.block * g.row.L + j in
-    let span = c.particles_in-span.ensures in
+    let span = c.span-span.ensures in
     let lane : j < g.row.L = omega (arith, span.count, c.loop-j-test.true) in
-    let lt : i < length ps = omega (arith, span.first, span.within, c.len.ensures.value, c.loop-j-test.true) in
+    let lt : i < length ps = omega (arith, span.first, span.within, c.loop-j-test.true) in
     let held = ap (λ (bs : List Bool). get_or bs j false) c.to_array-held.ensures ∙ c.requires.held j lane in
     let at = c.place-from.ensures ∙ c.requires.at j lane in
     let value = simp to_z-of_z at c.in_default.ensures.value in
@@ -45,25 +48,25 @@ returns-in_default-clause-outcome g c =
 
 pub returns-in_default-clause-room : goal.returns-in_default-clause-room
 returns-in_default-clause-room g c =
-    let span = c.particles_in-span.ensures in
-    λ n h. room_at _ (omega (arith, span.first, span.count, span.within, c.len.ensures.value, c.loop-j-test.true)) (c.loop-j.invariant.room n h)
+    let span = c.span-span.ensures in
+    λ n h. room_at _ (omega (arith, span.first, span.count, span.within, c.loop-j-test.true)) (c.loop-j.invariant.room n h)
 
 pub difference-requires-clause-from : goal.difference-requires-clause-from
 difference-requires-clause-from g c =
     let j = c.loop-j.j in
-    let span = c.particles_in-span.ensures in
+    let span = c.span-span.ensures in
     let lane : j < g.row.L = omega (arith, span.count, c.loop-j-test.true) in
-    let lt : c.args.block * g.row.L + j < length c.args.store.now.particles = omega (arith, span.first, span.within, c.len.ensures.value, c.loop-j-test.true) in
-    within_more (2 ^ 29) c.limit-limit.ensures.high (within_at (ap unsigned_abs c.limit-limit.ensures.value) (c.place-from.ensures ∙ c.requires.at j lane) (c.requires.inside.each _ lt))
+    let lt : c.args.block * g.row.L + j < length c.args.store.now.particles = omega (arith, span.first, span.within, c.loop-j-test.true) in
+    wider _ _ (2 ^ 29) c.limit-limit.ensures.high (within_at (ap unsigned_abs c.limit-limit.ensures.value) (c.place-from.ensures ∙ c.requires.at j lane) (c.requires.inside.each _ lt))
 
 pub difference-requires-clause-to : goal.difference-requires-clause-to
 difference-requires-clause-to g c =
     let f : FitsSigned w64 c.limit-limit.result = record { sfits = c.limit-limit.type_inv } in
-    within_more (2 ^ 29) c.limit-limit.ensures.high (simp to_z-of_z at c.in-Some.ensures.within)
+    wider _ _ (2 ^ 29) c.limit-limit.ensures.high (simp to_z-of_z at c.in-Some.ensures.within)
 
 pub book_if-requires-clause-room : goal.book_if-requires-clause-room
 book_if-requires-clause-room g c =
-    let span = c.particles_in-span.ensures in
+    let span = c.span-span.ensures in
     room_at (2 ^ 126) (omega (arith, span.count, c.requires.lanes_high, c.loop-j-test.true)) (c.loop-j.invariant.room (2 ^ 125) c.requires.room)
 
 pub loop-j-preserved : goal.loop-j-preserved
@@ -77,9 +80,9 @@ loop-j-preserved g c =
     let u = ledger_of c.loop-j.totals in
     let us = c.loop-j.touched in
     let next = c.in-Some.next in
-    let span = c.particles_in-span.ensures in
+    let span = c.span-span.ensures in
     let lane : j < g.row.L = omega (arith, span.count, c.loop-j-test.true) in
-    let lt : i < length ps = omega (arith, span.first, span.within, c.len.ensures.value, c.loop-j-test.true) in
+    let lt : i < length ps = omega (arith, span.first, span.within, c.loop-j-test.true) in
     let held = ap (λ (bs : List Bool). get_or bs j false) c.to_array-held.ensures ∙ c.requires.held j lane in
     let at = c.place-from.ensures ∙ c.requires.at j lane in
     let value = simp to_z-of_z at c.in-Some.ensures.value in
@@ -98,16 +101,16 @@ loop-j-preserved g c =
 
 pub returns-clause-outcome : goal.returns-clause-outcome
 returns-clause-outcome g c =
-    let span = c.particles_in-span.ensures in
+    let span = c.span-span.ensures in
     let inv = c.loop-j.invariant in
-    pushing_all c.args.store.now.limit c.args.planes.now c.args.spheres.now g.row.L c.args.block c.args.store.now.particles _ _ c.loop-j.j c.loop-j.places _ _ inv.some (inv.flags ∙ c.requires.flags) (omega (arith, span.count, c.loop-j-test.false, c.loop-j.auto.j-end)) (λ p. omega (arith, span.first, c.len.ensures.value, c.loop-j-test.false, c.loop-j.auto.j-end, span.last (omega (arith, c.loop-j-test.false, c.loop-j.auto.j-end))))
+    pushing_all c.args.store.now.limit c.args.planes.now c.args.spheres.now g.row.L c.args.block c.args.store.now.particles _ _ c.loop-j.j c.loop-j.places _ _ inv.some (inv.flags ∙ c.requires.flags) (omega (arith, span.count, c.loop-j-test.false, c.loop-j.auto.j-end)) (λ p. omega (arith, span.first, c.loop-j-test.false, c.loop-j.auto.j-end, span.last (omega (arith, c.loop-j-test.false, c.loop-j.auto.j-end))))
 
 pub returns-clause-inside : goal.returns-clause-inside
 returns-clause-inside g c =
-    let span = c.particles_in-span.ensures in
-    λ j h k. c.loop-j.invariant.inside j (omega (arith, c.loop-j-test.false, below_count j c.particles_in-span.result.count g.row.L c.particles_in-span.result.first (length c.args.store.now.particles) (λ p. span.last p ∙ c.len.ensures.value) span.count h (omega (arith, span.first))))
+    let span = c.span-span.ensures in
+    λ j h k. c.loop-j.invariant.inside j (omega (arith, c.loop-j-test.false, below_count j c.span-span.result.count g.row.L c.span-span.result.first (length c.args.store.now.particles) span.last span.count h (omega (arith, span.first))))
 
 pub returns-clause-room : goal.returns-clause-room
 returns-clause-room g c =
-    let span = c.particles_in-span.ensures in
-    λ n h. room_at _ (omega (arith, span.first, span.count, span.within, c.len.ensures.value, c.loop-j-test.false, c.loop-j.auto.j-end)) (c.loop-j.invariant.room n h)
+    let span = c.span-span.ensures in
+    λ n h. room_at _ (omega (arith, span.first, span.count, span.within, c.loop-j-test.false, c.loop-j.auto.j-end)) (c.loop-j.invariant.room n h)

@@ -1,20 +1,16 @@
 use Rattle.std.proofs.Common.{◌≡◌, refl, sym, ap, ◌∙◌, ℕ, ◌+◌, ◌-◌, ◌*◌, ◌^◌, min, ◌<◌, ◌≤◌, arith, subst, IsTrue, ℤ, length, Err}
-use Rattle.pbd_num.specs.Vectors.{zero_vector}
-use Rattle.pbd_world.specs.declared.parts.Particle.{Particle}
 use Rattle.pbd_world.specs.Ledger.{ledger_of, HaveRoom}
 use Rattle.pbd_world.specs.Step.{Passing}
 use Rattle.pbd_world.specs.Valid.{are_valid_spheres}
 use Rattle.pbd_store.specs.Blocks.{blocks_of}
 use Rattle.pbd_store.specs.Moving.{motion_of, AreInside}
-use Rattle.pbd_store.proofs.Starts.{block_begins}
+use Rattle.pbd_store.proofs.Starts.{block_begins, all_held, next_start, room_more, room_whole}
 use Rattle.pbd_shape.specs.Shaping.{pushed_from}
 use Rattle.pbd_shape.proofs.Onward.{pushed_begins, pushed_all}
-use Rattle.pbd_shape.proofs.Saves.{same_length}
-use Rattle.pbd_shape.proofs.Steps.{room_at, all_held, next_start, room_more, room_whole, room_enough}
+use Rattle.pbd_store.proofs.Fixed.{same_length}
+use Rattle.pbd_world.proofs.Rooms.{room_at}
+use Rattle.pbd_shape.proofs.Steps.{room_enough}
 use Rattle.pbd_shape.proofs.pushing.push_out.Goals as goal
-
-abbrev fixed : Particle → Particle
-fixed p = record p { at = zero_vector }
 
 none : (n : ℕ) → 0 * n ≡ 0
 none n = omega arith
@@ -36,7 +32,7 @@ push_block-requires g c =
     let inv = c.loop-block.invariant in
     let r = c.requires in
     let ps = c.loop-block.store.particles in
-    let len : length ps ≡ length c.args.store.now.particles = same_length fixed ps c.args.store.now.particles inv.fixed in
+    let len : length ps ≡ length c.args.store.now.particles = same_length ps c.args.store.now.particles inv.fixed in
     let block : c.loop-block.block < blocks_of (length c.args.store.now.particles) g.row.L = omega (arith, c.blocks-block-end.ensures, c.loop-block-test.true) in (
       omega arith,
       (
@@ -73,7 +69,7 @@ loop-block-preserved g c =
     let start = c.loop-block.block * g.row.L in
     let now : Passing = record { motion = motion_of c.loop-block.store c.loop-block.totals; touched = c.loop-block.touched } in
     let then : Passing = record { motion = motion_of c.push_block.new.store c.push_block.new.totals; touched = c.push_block.new.touched } in
-    let len : length c.loop-block.store.particles ≡ length c.args.store.now.particles = same_length fixed c.loop-block.store.particles c.args.store.now.particles inv.fixed in
+    let len : length c.loop-block.store.particles ≡ length c.args.store.now.particles = same_length c.loop-block.store.particles c.args.store.now.particles inv.fixed in
     let begins : start < length c.args.store.now.particles = block_begins c.loop-block.block (length c.args.store.now.particles) g.row.L c.requires.lanes_low (omega (arith, c.blocks-block-end.ensures, c.loop-block-test.true)) in
     let did = subst (λ (l : ℤ). pushed_from l planes spheres (start + g.row.L) then ≡ pushed_from l planes spheres start now) inv.limit c.in_default.ensures.outcome in
     record {
@@ -109,7 +105,7 @@ returns g c =
     let ps = c.loop-block.store.particles in
     let start = c.loop-block.block * g.row.L in
     let now : Passing = record { motion = motion_of c.loop-block.store c.loop-block.totals; touched = c.loop-block.touched } in
-    let len : length ps ≡ length c.args.store.now.particles = same_length fixed ps c.args.store.now.particles inv.fixed in
+    let len : length ps ≡ length c.args.store.now.particles = same_length ps c.args.store.now.particles inv.fixed in
     let whole : length c.args.store.now.particles ≤ start = all_held c.loop-block.block (length c.args.store.now.particles) g.row.L c.requires.lanes_low (omega (arith, c.blocks-block-end.ensures, c.loop-block-test.false)) in
     record {
       outcome = sym inv.rest ∙ pushed_all c.args.store.now.limit c.args.planes.now c.args.spheres.now start now (omega (arith, len, whole)) (omega (arith, inv.flags, c.requires.flags, whole));

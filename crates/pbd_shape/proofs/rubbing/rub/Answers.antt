@@ -6,11 +6,12 @@ use Rattle.pbd_world.specs.Ledger.{ledger_of, HaveRoom}
 use Rattle.pbd_world.specs.Step.{Passing}
 use Rattle.pbd_store.specs.Blocks.{blocks_of}
 use Rattle.pbd_store.specs.Moving.{motion_of}
-use Rattle.pbd_store.proofs.Starts.{block_begins}
+use Rattle.pbd_store.proofs.Starts.{block_begins, all_held, next_start, room_more, room_whole}
 use Rattle.pbd_shape.specs.Rubbing.{AreWithin, rubbed_from}
 use Rattle.pbd_shape.proofs.Onward.{rubbed_begins, rubbed_all}
-use Rattle.pbd_shape.proofs.Saves.{same_length}
-use Rattle.pbd_shape.proofs.Steps.{room_at, all_held, next_start, room_more, room_whole, room_enough}
+use Rattle.pbd_store.proofs.Fixed.{same_length_by}
+use Rattle.pbd_world.proofs.Rooms.{room_at}
+use Rattle.pbd_shape.proofs.Steps.{room_enough}
 use Rattle.pbd_shape.proofs.rubbing.rub.Goals as goal
 
 abbrev settled : Particle → Particle
@@ -38,7 +39,7 @@ rub_block-requires g c =
     let inv = c.loop-block.invariant in
     let r = c.requires in
     let ps = c.loop-block.store.particles in
-    let len : length ps ≡ length c.args.store.now.particles = same_length settled ps c.args.store.now.particles inv.settled in
+    let len : length ps ≡ length c.args.store.now.particles = same_length_by settled ps c.args.store.now.particles inv.settled in
     let block : c.loop-block.block < blocks_of (length c.args.store.now.particles) g.row.L = omega (arith, c.blocks-block-end.ensures, c.loop-block-test.true) in (
       omega arith,
       (
@@ -69,7 +70,7 @@ loop-block-preserved g c =
     let e = c.rub_block.ensures in
     let start = c.loop-block.block * g.row.L in
     let then : Passing = record { motion = motion_of c.rub_block.new.store c.rub_block.new.totals; touched = c.args.touched.now } in
-    let len : length c.loop-block.store.particles ≡ length c.args.store.now.particles = same_length settled c.loop-block.store.particles c.args.store.now.particles inv.settled in
+    let len : length c.loop-block.store.particles ≡ length c.args.store.now.particles = same_length_by settled c.loop-block.store.particles c.args.store.now.particles inv.settled in
     let begins : start < length c.args.store.now.particles = block_begins c.loop-block.block (length c.args.store.now.particles) g.row.L c.requires.lanes_low (omega (arith, c.blocks-block-end.ensures, c.loop-block-test.true)) in
     let outcome = simp to_z-of_z at e.outcome in
     let rest = simp to_z-of_z at inv.rest in
@@ -89,7 +90,7 @@ returns g c =
     let ps = c.loop-block.store.particles in
     let start = c.loop-block.block * g.row.L in
     let now : Passing = record { motion = motion_of c.loop-block.store c.loop-block.totals; touched = c.args.touched.now } in
-    let len : length ps ≡ length c.args.store.now.particles = same_length settled ps c.args.store.now.particles inv.settled in
+    let len : length ps ≡ length c.args.store.now.particles = same_length_by settled ps c.args.store.now.particles inv.settled in
     let whole : length c.args.store.now.particles ≤ start = all_held c.loop-block.block (length c.args.store.now.particles) g.row.L c.requires.lanes_low (omega (arith, c.blocks-block-end.ensures, c.loop-block-test.false)) in
     let rest = simp to_z-of_z at inv.rest in
     record {

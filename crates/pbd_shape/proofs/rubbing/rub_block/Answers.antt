@@ -4,8 +4,8 @@ use Rattle.pbd_num.specs.Vectors.{Within, zero_vector}
 use Rattle.pbd_world.specs.declared.parts.Particle.{Particle}
 use Rattle.pbd_world.specs.Particles.{particle_at}
 use Rattle.pbd_store.specs.Blocks.{filled_lanes}
-use Rattle.pbd_shape.proofs.Saves.{place_loaded, held_loaded, block_saved, saved_each, same_parts}
-use Rattle.pbd_shape.proofs.Steps.{place_in, at_of}
+use Rattle.pbd_store.proofs.Saves.{place_loaded, held_loaded, block_saved, saved_each, same_parts}
+use Rattle.pbd_store.proofs.Places.{place_in, at_of}
 use Rattle.pbd_shape.proofs.rubbing.rub_block.Goals as goal
 
 pub rub_lanes-places-requires : goal.rub_lanes-places-requires
@@ -54,7 +54,7 @@ returns g c =
     let places = c.rub_lanes-places.result in
     let settled = λ (p : Particle). record p { before = zero_vector } in
     let limit = c.args.store.now.limit in
-    let saved = block_saved g.row.L block (at_of g.row.L block ps) (place_in places) ps qs e.filled (λ j h. place_loaded (λ p. p.at) g.row.L block j ps e.at_x e.at_y e.at_z h) c.side_by_side-lanes.ensures c.save.ensures.particles in
+    let saved = block_saved g.row.L block (at_of g.row.L block ps) (place_in places) ps qs e.filled (λ j h. place_loaded (λ p. p.at) g.row.L block j ps e.at_x e.at_y e.at_z h) c.from_places-lanes.ensures c.save.ensures.particles in
     let start = block * g.row.L in
     let filled = filled_lanes g.row.L block ps in
     let outcome = simp to_z-of_z at r.outcome in

@@ -7,7 +7,10 @@ use Rattle.pbd_world.specs.declared.totals.Class.TheVariants as classes
 use Rattle.pbd_world.specs.Ledger.{ledger_of, added}
 use Rattle.pbd_world.specs.Particles.{particle_at}
 use Rattle.pbd_world.specs.Shapes.{rubbed_away}
-use Rattle.pbd_shape.proofs.Steps.{rubbing_none, rubbing_on, rubbing_all, loss_of, loss_within, part_low, part_high, inside_more, within_at, within_more, below_count, room_at}
+use Rattle.pbd_world.proofs.Rooms.{room_at}
+use Rattle.pbd_num.proofs.Ranges.{wider}
+use Rattle.pbd_store.proofs.Places.{inside_more, within_at, below_count}
+use Rattle.pbd_shape.proofs.Steps.{rubbing_none, rubbing_on, rubbing_all, loss_of, loss_within, part_low, part_high}
 use Rattle.pbd_shape.proofs.rubbing.rub_lanes.Goals as goal
 
 pub loop-j-init : goal.loop-j-init
@@ -22,18 +25,18 @@ loop-j-init g c =
 
 pub is_rubbed-rubs-requires : goal.is_rubbed-rubs-requires
 is_rubbed-rubs-requires g c =
-    let span = c.particles_in-span.ensures in
-    omega (arith, span.within, c.len.ensures.value, c.requires.flags, c.loop-j-test.true)
+    let span = c.span-span.ensures in
+    omega (arith, span.within, c.requires.flags, c.loop-j-test.true)
 
 pub difference-requires : goal.difference-requires
 difference-requires g c =
     let j = c.loop-j.j in
-    let span = c.particles_in-span.ensures in
+    let span = c.span-span.ensures in
     let lane : j < g.row.L = omega (arith, span.count, c.loop-j-test.true) in
-    let lt : c.args.block * g.row.L + j < length c.args.store.now.particles = omega (arith, span.first, span.within, c.len.ensures.value, c.loop-j-test.true) in
+    let lt : c.args.block * g.row.L + j < length c.args.store.now.particles = omega (arith, span.first, span.within, c.loop-j-test.true) in
     record {
-      from = within_more (2 ^ 29) c.limit-limit.ensures.high (within_at (ap unsigned_abs c.limit-limit.ensures.value) (c.place-before.ensures ∙ c.requires.before j lane) (c.requires.within.before _ lt));
-      to = within_more (2 ^ 29) c.limit-limit.ensures.high (within_at (ap unsigned_abs c.limit-limit.ensures.value) (c.place.ensures ∙ c.requires.at j lane) (c.requires.within.at _ lt));
+      from = wider _ _ (2 ^ 29) c.limit-limit.ensures.high (within_at (ap unsigned_abs c.limit-limit.ensures.value) (c.place-before.ensures ∙ c.requires.before j lane) (c.requires.within.before _ lt));
+      to = wider _ _ (2 ^ 29) c.limit-limit.ensures.high (within_at (ap unsigned_abs c.limit-limit.ensures.value) (c.place.ensures ∙ c.requires.at j lane) (c.requires.within.at _ lt));
     }
 
 pub lost_if-loss-requires : goal.lost_if-loss-requires
@@ -46,7 +49,7 @@ turned-requires g c = c.lost_if-loss.ensures.size
 
 pub book_if-requires : goal.book_if-requires
 book_if-requires g c =
-    let span = c.particles_in-span.ensures in
+    let span = c.span-span.ensures in
     record {
       room = room_at (2 ^ 126) (omega (arith, span.count, c.requires.lanes_high, c.loop-j-test.true)) (c.loop-j.invariant.room (2 ^ 125) c.requires.room);
       short = c.turned.ensures.size;
@@ -55,11 +58,11 @@ book_if-requires g c =
 pub moved-requires : goal.moved-requires
 moved-requires g c =
     let j = c.loop-j.j in
-    let span = c.particles_in-span.ensures in
+    let span = c.span-span.ensures in
     let lane : j < g.row.L = omega (arith, span.count, c.loop-j-test.true) in
-    let lt : c.args.block * g.row.L + j < length c.args.store.now.particles = omega (arith, span.first, span.within, c.len.ensures.value, c.loop-j-test.true) in
+    let lt : c.args.block * g.row.L + j < length c.args.store.now.particles = omega (arith, span.first, span.within, c.loop-j-test.true) in
     record {
-      a = within_more (2 ^ 29) c.limit-limit.ensures.high (within_at (ap unsigned_abs c.limit-limit.ensures.value) (c.place-before.ensures ∙ c.requires.before j lane) (c.requires.within.before _ lt));
+      a = wider _ _ (2 ^ 29) c.limit-limit.ensures.high (within_at (ap unsigned_abs c.limit-limit.ensures.value) (c.place-before.ensures ∙ c.requires.before j lane) (c.requires.within.before _ lt));
       by = c.lost_if-loss.ensures.size;
     }
 
@@ -74,11 +77,11 @@ loop-j-preserved g c =
     let i = c.args.block * g.row.L + j in
     let p = particle_at ps i in
     let u = ledger_of c.loop-j.totals in
-    let span = c.particles_in-span.ensures in
+    let span = c.span-span.ensures in
     let made = c.is_rubbed-rubs.result in
     let loss = c.lost_if-loss.result in
     let lane : j < g.row.L = omega (arith, span.count, c.loop-j-test.true) in
-    let lt : i < length ps = omega (arith, span.first, span.within, c.len.ensures.value, c.loop-j-test.true) in
+    let lt : i < length ps = omega (arith, span.first, span.within, c.loop-j-test.true) in
     let held = ap (λ (bs : List Bool). get_or bs j false) c.to_array-held.ensures ∙ c.requires.held j lane in
     let before = c.place-before.ensures ∙ c.requires.before j lane in
     let at = c.place.ensures ∙ c.requires.at j lane in
@@ -102,10 +105,10 @@ pub returns : goal.returns
 returns g c =
     let f = c.ranges.friction in
     let inv = c.loop-j.invariant in
-    let span = c.particles_in-span.ensures in
+    let span = c.span-span.ensures in
     let some = simp to_z-of_z at inv.some in
     record {
-      outcome = rubbing_all c.args.friction g.row.L c.args.block c.args.store.now.particles _ _ c.loop-j.j c.loop-j.places _ some (omega (arith, span.count, c.loop-j-test.false, c.loop-j.auto.j-end)) (λ p. omega (arith, span.first, c.len.ensures.value, c.loop-j-test.false, c.loop-j.auto.j-end, span.last (omega (arith, c.loop-j-test.false, c.loop-j.auto.j-end))));
-      within = λ j h k. inv.within j (omega (arith, c.loop-j-test.false, below_count j c.particles_in-span.result.count g.row.L c.particles_in-span.result.first (length c.args.store.now.particles) (λ p. span.last p ∙ c.len.ensures.value) span.count h (omega (arith, span.first))));
-      room = λ n h. room_at _ (omega (arith, span.first, span.count, span.within, c.len.ensures.value, c.loop-j-test.false, c.loop-j.auto.j-end)) (inv.room n h);
+      outcome = rubbing_all c.args.friction g.row.L c.args.block c.args.store.now.particles _ _ c.loop-j.j c.loop-j.places _ some (omega (arith, span.count, c.loop-j-test.false, c.loop-j.auto.j-end)) (λ p. omega (arith, span.first, c.loop-j-test.false, c.loop-j.auto.j-end, span.last (omega (arith, c.loop-j-test.false, c.loop-j.auto.j-end))));
+      within = λ j h k. inv.within j (omega (arith, c.loop-j-test.false, below_count j c.span-span.result.count g.row.L c.span-span.result.first (length c.args.store.now.particles) span.last span.count h (omega (arith, span.first))));
+      room = λ n h. room_at _ (omega (arith, span.first, span.count, span.within, c.loop-j-test.false, c.loop-j.auto.j-end)) (inv.room n h);
     }

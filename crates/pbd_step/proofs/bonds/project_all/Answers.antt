@@ -4,8 +4,8 @@ use Rattle.pbd_world.specs.Bonds.{projected}
 use Rattle.pbd_store.specs.Moving.{motion_of, AreInside}
 use Rattle.pbd_colour.specs.Pairs.{batch_of}
 use Rattle.pbd_pair.specs.Bonds.{bond_of}
-use Rattle.pbd_pair.proofs.Ranges.{room_at}
-use Rattle.pbd_pair.proofs.Correcting.{same_length}
+use Rattle.pbd_world.proofs.Rooms.{room_at}
+use Rattle.pbd_store.proofs.Fixed.{same_length}
 use Rattle.pbd_pair.proofs.Blocks.{weigh_same}
 use Rattle.pbd_step.specs.Projecting.{AreBondsOf, parallel_from}
 use Rattle.pbd_step.proofs.InOrder.{both_parts, order_parts, parts_length, stops, then_part}

@@ -2,7 +2,7 @@ use Rattle.std.proofs.Common.{◌≡◌, ◌+◌, ◌^◌, ◌++◌, arith, refl
 use Rattle.pbd_store.specs.Moving.{motion_of, AreInside}
 use Rattle.pbd_pair.specs.Projecting.{IsBatch}
 use Rattle.pbd_step.specs.Projecting.{parallel_from}
-use Rattle.pbd_pair.proofs.Correcting.{same_length}
+use Rattle.pbd_store.proofs.Fixed.{same_length}
 use Rattle.pbd_pair.proofs.Blocks.{weigh_same}
 use Rattle.pbd_step.proofs.InOrder.{batch_is, parallel_next, parallel_none, parts_length, none_so_far, more_so_far, stops_so_far, whole_so_far, room_so_far}
 use Rattle.pbd_step.proofs.bonds.project_colours.Goals as goal

@@ -2,7 +2,7 @@ use Rattle.std.proofs.Common.{◌≡◌, ◌+◌, ◌^◌, ◌++◌, ◌∷◌, 
 use Rattle.pbd_store.specs.Moving.{motion_of, AreInside}
 use Rattle.pbd_pair.specs.Projecting.{IsBatch}
 use Rattle.pbd_colour.specs.Pairs.{batch_of}
-use Rattle.pbd_pair.proofs.Correcting.{same_length}
+use Rattle.pbd_store.proofs.Fixed.{same_length}
 use Rattle.pbd_pair.proofs.Blocks.{weigh_same}
 use Rattle.pbd_step.proofs.InOrder.{single_is, serial_next, parts_length, more_so_far, whole_so_far, room_so_far}
 use Rattle.pbd_step.proofs.bonds.project_serial.Goals as goal

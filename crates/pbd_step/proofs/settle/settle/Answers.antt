@@ -5,7 +5,7 @@ use Rattle.pbd_world.specs.Step.{tear}
 use Rattle.pbd_world.specs.World.{parts_of}
 use Rattle.pbd_world.proofs.WorldParts.{formed, numbers_of}
 use Rattle.pbd_colour.specs.Pairs.{dropped}
-use Rattle.pbd_pair.proofs.Ranges.{room_at}
+use Rattle.pbd_world.proofs.Rooms.{room_at}
 use Rattle.pbd_tear.specs.Tearing.{torn_numbers}
 use Rattle.pbd_tear.proofs.Numbers.{torn_ascend}
 use Rattle.pbd_world.specs.Room.{Roomed}

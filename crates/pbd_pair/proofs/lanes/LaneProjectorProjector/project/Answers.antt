@@ -4,8 +4,8 @@ use Rattle.pbd_world.specs.Bonds.{projected}
 use Rattle.pbd_pair.specs.Bonds.{bond_of}
 use Rattle.pbd_store.specs.Moving.{motion_of, AreInside}
 use Rattle.pbd_pair.specs.Projecting.{IsBatch}
-use Rattle.pbd_pair.proofs.Ranges.{room_at}
-use Rattle.pbd_pair.proofs.Correcting.{same_length}
+use Rattle.pbd_world.proofs.Rooms.{room_at}
+use Rattle.pbd_store.proofs.Fixed.{same_length}
 use Rattle.pbd_pair.proofs.OneByOne.{block_done, block_leaves}
 use Rattle.pbd_pair.proofs.Blocks.{back_batch, fewer_blocks, weigh_same}
 use Rattle.pbd_pair.proofs.lanes.LaneProjectorProjector.project.Goals as goal

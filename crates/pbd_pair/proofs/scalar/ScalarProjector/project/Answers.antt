@@ -1,8 +1,8 @@
 use Rattle.std.proofs.Common.{arith, refl, ◌∙◌, sym, subst, ℤ, get_or, Ok, Err}
 use Rattle.pbd_pair.specs.Bonds.{bond_of}
 use Rattle.pbd_store.specs.Moving.{motion_of, AreInside}
-use Rattle.pbd_pair.proofs.Ranges.{room_at}
-use Rattle.pbd_pair.proofs.Correcting.{same_length}
+use Rattle.pbd_world.proofs.Rooms.{room_at}
+use Rattle.pbd_store.proofs.Fixed.{same_length}
 use Rattle.pbd_pair.proofs.OneByOne.{turn_on, turn_out, one_is}
 use Rattle.pbd_pair.proofs.scalar.ScalarProjector.project.Goals as goal
 

@@ -1,7 +1,7 @@
 use Rattle.std.proofs.Common.{pos, get_or}
 use Rattle.pbd_num.specs.Vectors.{zero_vector}
 use Rattle.pbd_store.proofs.Filling.{Filled}
-use Rattle.pbd_shape.proofs.span.side_by_side.Given as goal
+use Rattle.pbd_store.proofs.lanes3.Lanes3.from_places.Given as goal
 
 abbrev pub invariant-loop-j : goal.invariant-loop-j
 invariant-loop-j g l = record {

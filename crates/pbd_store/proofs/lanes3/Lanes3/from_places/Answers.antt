@@ -4,7 +4,7 @@ use Rattle.std.proofs.lemmas.List.{length-replicate}
 use Rattle.pbd_num.specs.declared.Vec3.{Vec3}
 use Rattle.pbd_lanes.specs.Lane.{lane}
 use Rattle.pbd_store.proofs.Filling.{filled_more}
-use Rattle.pbd_shape.proofs.span.side_by_side.Goals as goal
+use Rattle.pbd_store.proofs.lanes3.Lanes3.from_places.Goals as goal
 
 pub loop-j-init : goal.loop-j-init
 loop-j-init g c = record {

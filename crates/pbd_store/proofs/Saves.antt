@@ -104,9 +104,6 @@ same_parts f new old e h = ext_get_or no_particle (map f new) (map f old) (lengt
     each : (i : ℕ) → i < length old → get_or (map f new) i no_particle ≡ get_or (map f old) i no_particle
     each i p = get_or-map f new i no_particle no_particle (omega (arith, e)) ∙ h i p ∙ sym (get_or-map f old i no_particle no_particle p)
 
-pub same_length : (f : Particle → Particle) (ps qs : List Particle) → map f ps ≡ map f qs → length ps ≡ length qs
-same_length f ps qs e = sym (length-map ps f) ∙ ap length e ∙ length-map qs f
-
 -- the place in a lane
 pub place_loaded : {xs ys zs : List ℤ} (f : Particle → Vec3) (n block j : ℕ) (ps : List Particle) → xs ≡ loaded n block (λ p. (f p).x) ps → ys ≡ loaded n block (λ p. (f p).y) ps → zs ≡ loaded n block (λ p. (f p).z) ps → j < n → place_of xs ys zs j ≡ f (particle_at ps (block * n + j))
 place_loaded f n block j ps ex ey ez h = λ i. record {
