@@ -8,6 +8,7 @@ pub mod Running
 pub mod Flying
 pub mod Mild
 pub mod Predicting
+pub mod Advancing
 pub mod Leading
 pub mod InOrder
 pub mod Counting

@@ -4,9 +4,12 @@
 mod again;
 mod bonds;
 mod commands;
+mod contacts;
 mod open;
 mod pass;
 mod predict;
+#[cfg(test)]
+mod rows;
 mod settle;
 mod solver;
 mod state;

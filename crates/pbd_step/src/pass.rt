@@ -11,11 +11,11 @@ ghost use Rattle.pbd_step.specs.Projecting.{AreMovable};
 ghost use Rattle.pbd_step.specs.States.{world_of, now_of, HasLinks, IsUnderWay};
 
 use crate::bonds::{counts, project_all};
-use crate::state::{Setting, State};
+use crate::state::{Setting, State, Tools};
 use pbd_colour::Colouring;
 use pbd_pair::{Bonds, Projector};
 use pbd_self::SelfContacts;
-use pbd_shape::{Touched, push_out};
+use pbd_shape::push_out;
 use pbd_store::{Steps, Store};
 use pbd_world::{Left, Link, Phase, Refusal, Totals};
 use std::sync::ledger::Ledger;
@@ -91,8 +91,7 @@ fn project_once<const L: usize, P: Projector<L>, G: Ledger>(
     setting: &Setting,
     state: &mut State<L>,
     colours: &Colouring,
-    found: &SelfContacts,
-    touched: &mut Touched,
+    tools: &mut Tools,
     projector: &mut P,
     steps: &mut Steps<G>,
 ) -> Result<(), Refusal>
@@ -101,17 +100,18 @@ fn project_once<const L: usize, P: Projector<L>, G: Ledger>(
     requires count { state.old.steps < 2 ^ 63 }
     requires under_way { IsUnderWay (2 ^ 118) (world_of setting.now state.old) }
     requires links { HasLinks (length state.old.store.particles) state.old.links.items colours.now }
-    requires found { found.now.particles ≡ length state.old.store.particles }
-    requires flags { length touched.old ≡ length state.old.store.particles }
+    requires found { tools.old.found.particles ≡ length state.old.store.particles }
+    requires flags { length tools.old.touched ≡ length state.old.store.particles }
     ensures outcome { MatchResult result
-        (λ _. passed (world_of setting.now state.old) found.now.pairs (record { motion = now_of state.old; touched = touched.old }) ≡ Ok (record { motion = now_of state.new; touched = touched.new }))
-        (λ refusal. passed (world_of setting.now state.old) found.now.pairs (record { motion = now_of state.old; touched = touched.old }) ≡ Err refusal) }
+        (λ _. passed (world_of setting.now state.old) tools.old.found.pairs (record { motion = now_of state.old; touched = tools.old.touched }) ≡ Ok (record { motion = now_of state.new; touched = tools.new.touched }))
+        (λ refusal. passed (world_of setting.now state.old) tools.old.found.pairs (record { motion = now_of state.old; touched = tools.old.touched }) ≡ Err refusal) }
     ensures same { state.new ≡ record state.old { store = state.new.store; totals = state.new.totals } }
     ensures limit { state.new.store.limit ≡ state.old.store.limit }
     ensures fixed { fixed_parts state.new.store.particles ≡ fixed_parts state.old.store.particles }
-    ensures flags { length touched.new ≡ length touched.old }
+    ensures tools { tools.new ≡ record tools.old { touched = tools.new.touched } }
+    ensures flags { length tools.new.touched ≡ length tools.old.touched }
     ensures under_way { OnOk result ((n : ℕ) → IsUnderWay n (world_of setting.now state.old) → IsUnderWay (n + 2 ^ 62) (world_of setting.now state.new)) }
-    ensures handed { OnOk result (P.count projector.new ≡ min (P.count projector.old + (live_count state.old.links.items + length found.now.pairs)) (2 ^ 64 - 1)) }
+    ensures handed { OnOk result (P.count projector.new ≡ min (P.count projector.old + (live_count state.old.links.items + length tools.old.found.pairs)) (2 ^ 64 - 1)) }
     ensures not_fallen { P.count projector.old ≤ P.count projector.new }
     ensures width { P.width projector.new ≡ P.width projector.old }
 {
@@ -132,7 +132,7 @@ fn project_once<const L: usize, P: Projector<L>, G: Ledger>(
     }
     if let Err(left) = project_contacts(
         &mut state.store,
-        found,
+        &tools.found,
         setting.thickness,
         &mut state.totals,
         projector,
@@ -148,7 +148,7 @@ fn project_once<const L: usize, P: Projector<L>, G: Ledger>(
         &mut state.store,
         setting.planes.as_slice(),
         setting.spheres.as_slice(),
-        touched,
+        &mut tools.touched,
         &mut state.totals,
         steps,
     ) {
@@ -167,8 +167,7 @@ pub(crate) fn project_in_passes<const L: usize, P: Projector<L>, G: Ledger>(
     setting: &Setting,
     state: &mut State<L>,
     colours: &Colouring,
-    found: &SelfContacts,
-    touched: &mut Touched,
+    tools: &mut Tools,
     projector: &mut P,
     steps: &mut Steps<G>,
 ) -> Result<(), Refusal>
@@ -177,25 +176,24 @@ pub(crate) fn project_in_passes<const L: usize, P: Projector<L>, G: Ledger>(
     requires count { state.old.steps < 2 ^ 63 }
     requires under_way { IsUnderWay (2 ^ 100) (world_of setting.now state.old) }
     requires links { HasLinks (length state.old.store.particles) state.old.links.items colours.now }
-    requires found { found.now.particles ≡ length state.old.store.particles }
-    requires flags { length touched.old ≡ length state.old.store.particles }
+    requires found { tools.old.found.particles ≡ length state.old.store.particles }
+    requires flags { length tools.old.touched ≡ length state.old.store.particles }
     ensures outcome { MatchResult result
-        (λ _. repeated setting.now.passes (passed (world_of setting.now state.old) found.now.pairs) (record { motion = now_of state.old; touched = touched.old }) ≡ Ok (record { motion = now_of state.new; touched = touched.new }))
-        (λ refusal. repeated setting.now.passes (passed (world_of setting.now state.old) found.now.pairs) (record { motion = now_of state.old; touched = touched.old }) ≡ Err refusal) }
+        (λ _. repeated setting.now.passes (passed (world_of setting.now state.old) tools.old.found.pairs) (record { motion = now_of state.old; touched = tools.old.touched }) ≡ Ok (record { motion = now_of state.new; touched = tools.new.touched }))
+        (λ refusal. repeated setting.now.passes (passed (world_of setting.now state.old) tools.old.found.pairs) (record { motion = now_of state.old; touched = tools.old.touched }) ≡ Err refusal) }
     ensures same { state.new ≡ record state.old { store = state.new.store; totals = state.new.totals } }
     ensures limit { state.new.store.limit ≡ state.old.store.limit }
     ensures fixed { fixed_parts state.new.store.particles ≡ fixed_parts state.old.store.particles }
-    ensures flags { length touched.new ≡ length touched.old }
+    ensures tools { tools.new ≡ record tools.old { touched = tools.new.touched } }
+    ensures flags { length tools.new.touched ≡ length tools.old.touched }
     ensures under_way { OnOk result (IsUnderWay (2 ^ 101) (world_of setting.now state.new)) }
-    ensures handed { OnOk result (P.count projector.new ≡ min (P.count projector.old + setting.now.passes * (live_count state.old.links.items + length found.now.pairs)) (2 ^ 64 - 1)) }
+    ensures handed { OnOk result (P.count projector.new ≡ min (P.count projector.old + setting.now.passes * (live_count state.old.links.items + length tools.old.found.pairs)) (2 ^ 64 - 1)) }
     ensures not_fallen { P.count projector.old ≤ P.count projector.new }
     ensures width { P.width projector.new ≡ P.width projector.old }
 {
     counts(projector);
     for _ in 0..setting.passes {
-        if let Err(refusal) = project_once(
-            setting, state, colours, found, touched, projector, steps,
-        ) {
+        if let Err(refusal) = project_once(setting, state, colours, tools, projector, steps) {
             return Err(refusal);
         }
     }

@@ -1,20 +1,25 @@
 // The start of a step: held particles are attached and free ones predicted.
-ghost use Rattle.std.specs.Prelude.{◌≡◌, ◌+◌, ◌*◌, ◌<◌, ◌≤◌, ◌^◌, [], ◌∷◌, ℕ, pos, ◌+ℤ◌, ◌-ℤ◌, ◌*ℤ◌, unsigned_abs, length, None, OnOk, MatchResult, Result, Ok, Err};
+ghost use Rattle.std.specs.Prelude.{◌≡◌, ◌+◌, ◌-◌, ◌*◌, ◌<◌, ◌≤◌, ◌^◌, min, [], ◌∷◌, List, ℕ, pos, ◌+ℤ◌, ◌-ℤ◌, ◌*ℤ◌, ◌≤ℤ◌, unsigned_abs, length, slice_index_or, None, MatchOption, IfSome, OnOk, IfOk, MatchResult, Result, Ok, Err};
 ghost use Rattle.pbd_num.specs.Rounding.{rdiv as rounded};
-ghost use Rattle.pbd_num.specs.Vectors.{Within, plus, minus, opposite};
+ghost use Rattle.pbd_num.specs.Vectors.{Within, zero_vector, plus, minus, opposite};
+ghost use Rattle.pbd_world.specs.declared.parts.Particle.{Particle};
 ghost use Rattle.pbd_world.specs.declared.totals.Class.TheVariants as classes;
 ghost use Rattle.pbd_world.specs.Ledger.{ledger_of, booked, HaveRoom};
-ghost use Rattle.pbd_world.specs.Particles.{particle_at, velocity};
+ghost use Rattle.pbd_world.specs.Particles.{particle_at};
 ghost use Rattle.pbd_world.specs.Step.{damped_away, predicted, predict as predicted_motion};
 ghost use Rattle.pbd_world.specs.World.{IsSound};
+ghost use Rattle.pbd_lanes.specs.Lane.{is_set};
+ghost use Rattle.pbd_store.specs.Blocks.{blocks_of, filled_lanes, place_of, Saved};
+ghost use Rattle.pbd_store.specs.Moving.{motion_of};
+ghost use Rattle.pbd_shape.specs.Rubbing.{AreWithin};
 ghost use Rattle.pbd_step.specs.States.{world_of, now_of, IsUnderWay};
-ghost use Rattle.pbd_step.specs.Predicting.{unled, Advanced};
+ghost use Rattle.pbd_step.specs.Predicting.{unled, bare_world, predicted_from, Advanced};
 
 use crate::state::{Setting, State};
 use pbd_num::{Vec3, rdiv, within};
-use pbd_store::Steps;
+use pbd_store::{Block, Lanes3, Steps, Store};
 use pbd_track::place;
-use pbd_world::{Class, Left, Particle, Totals};
+use pbd_world::{Class, Left, Totals};
 use std::sync::ledger::Ledger;
 
 /// What damping takes of one axis of a velocity.
@@ -39,31 +44,31 @@ fn flown_axis(at: i64, before: i64, loss: i64, pull: i64) -> i64
     at + (at - before - loss) + pull
 }
 
-fn damped_away(p: Particle, damping: i64) -> Vec3
-    requires at { Within (2 ^ 29) p.at }
-    requires before { Within (2 ^ 29) p.before }
+fn damped_away(at: Vec3, before: Vec3, damping: i64) -> Vec3
+    requires at { Within (2 ^ 29) at }
+    requires before { Within (2 ^ 29) before }
     requires damping { unsigned_abs damping ≤ 1024 }
-    ensures value { result ≡ damped_away damping (velocity p) }
+    ensures value { result ≡ damped_away damping (minus at before) }
     ensures size { Within (2 ^ 30) result }
 {
     Vec3 {
-        x: lost(p.at.x, p.before.x, damping),
-        y: lost(p.at.y, p.before.y, damping),
-        z: lost(p.at.z, p.before.z, damping),
+        x: lost(at.x, before.x, damping),
+        y: lost(at.y, before.y, damping),
+        z: lost(at.z, before.z, damping),
     }
 }
 
-fn flown_to(p: Particle, loss: Vec3, gravity: Vec3) -> Vec3
-    requires at { Within (2 ^ 29) p.at }
-    requires before { Within (2 ^ 29) p.before }
+fn flown_to(at: Vec3, before: Vec3, loss: Vec3, gravity: Vec3) -> Vec3
+    requires at { Within (2 ^ 29) at }
+    requires before { Within (2 ^ 29) before }
     requires loss { Within (2 ^ 30) loss }
     requires gravity { Within (2 ^ 29) gravity }
-    ensures { result ≡ plus (plus p.at (minus (velocity p) loss)) gravity }
+    ensures { result ≡ plus (plus at (minus (minus at before) loss)) gravity }
 {
     Vec3 {
-        x: flown_axis(p.at.x, p.before.x, loss.x, gravity.x),
-        y: flown_axis(p.at.y, p.before.y, loss.y, gravity.y),
-        z: flown_axis(p.at.z, p.before.z, loss.z, gravity.z),
+        x: flown_axis(at.x, before.x, loss.x, gravity.x),
+        y: flown_axis(at.y, before.y, loss.y, gravity.y),
+        z: flown_axis(at.z, before.z, loss.z, gravity.z),
     }
 }
 
@@ -91,54 +96,117 @@ fn book(totals: &mut Totals, gravity: Vec3, loss: Vec3)
     totals.add(Class::Damping, opposite(loss));
 }
 
-/// Particle i rests where it is held, and flies on where it is free, unless it would leave the limit.
-fn advance<const L: usize, G: Ledger>(
+/// Where a particle comes to, with its entries booked: a held one rests, and a free one flies on, unless it would leave the limit.
+fn advance(
+    setting: &Setting,
+    limit: i64,
+    held: bool,
+    at: Vec3,
+    before: Vec3,
+    totals: &mut Totals,
+) -> Option<Vec3>
+    requires low { pos 0 ≤ℤ limit }
+    requires high { unsigned_abs limit ≤ 2 ^ 29 }
+    requires at { Within (unsigned_abs limit) at }
+    requires before { Within (unsigned_abs limit) before }
+    requires damping { unsigned_abs setting.now.damping ≤ 1024 }
+    requires gravity { Within (2 ^ 29) setting.now.gravity }
+    requires room { HaveRoom (2 ^ 120) (ledger_of totals.old) }
+    ensures outcome { (i weight : ℕ) → MatchOption result
+        (predicted (bare_world setting.now limit) i (record { at = at; before = before; weight = weight; held = held }) ≡ None)
+        (λ place. Advanced (bare_world setting.now limit) i (record { at = at; before = before; weight = weight; held = held }) place (ledger_of totals.old) (ledger_of totals.new)) }
+    ensures within { IfSome result (λ place. Within (unsigned_abs limit) place) }
+    ensures room { (n : ℕ) → HaveRoom n (ledger_of totals.old) → HaveRoom (n + 2 ^ 31) (ledger_of totals.new) }
+{
+    if held {
+        return Some(at);
+    }
+    let loss = damped_away(at, before, setting.damping);
+    let to = flown_to(at, before, loss, setting.gravity);
+    if !within(to, limit) {
+        return None;
+    }
+    book(totals, setting.gravity, loss);
+    Some(to)
+}
+
+// Where the particles of a block come to, lane by lane. `Left` has the first that would leave the limit.
+fn advance_lanes<const L: usize>(
+    setting: &Setting,
+    store: &Store<L>,
+    block: u32,
+    lanes: &Block<L>,
+    totals: &mut Totals,
+) -> Result<[Vec3; L], Left>
+    requires lanes_low { 0 < L }
+    requires lanes_high { L ≤ 16 }
+    requires block { block < blocks_of (length store.now.particles) L }
+    requires at { (j : ℕ) → j < L → place_of lanes.now.at.x lanes.now.at.y lanes.now.at.z j ≡ (particle_at store.now.particles (block * L + j)).at }
+    requires before { (j : ℕ) → j < L → place_of lanes.now.before.x lanes.now.before.y lanes.now.before.z j ≡ (particle_at store.now.particles (block * L + j)).before }
+    requires held { (j : ℕ) → j < L → is_set lanes.now.held j ≡ (particle_at store.now.particles (block * L + j)).held }
+    requires within { AreWithin store.now.limit store.now.particles }
+    requires damping { unsigned_abs setting.now.damping ≤ 1024 }
+    requires gravity { Within (2 ^ 29) setting.now.gravity }
+    requires room { HaveRoom (2 ^ 110) (ledger_of totals.old) }
+    ensures outcome { MatchResult result
+        (λ places. (qs : List Particle) → Saved L (block * L) (filled_lanes L block store.now.particles) (λ j. slice_index_or places j zero_vector) (λ j. (particle_at store.now.particles (block * L + j)).at) store.now.particles qs
+        → predicted_from (bare_world setting.now store.now.limit) (block * L + L) (record { particles = qs; totals = ledger_of totals.new })
+        ≡ predicted_from (bare_world setting.now store.now.limit) (block * L) (motion_of store.now totals.old))
+        (λ left. predicted_from (bare_world setting.now store.now.limit) (block * L) (motion_of store.now totals.old) ≡ Err left.element) }
+    ensures within { IfOk result (λ places. (j : ℕ) → j < L → block * L + j < length store.now.particles → Within (unsigned_abs store.now.limit) (slice_index_or places j zero_vector)) }
+    ensures room { (n : ℕ) → HaveRoom n (ledger_of totals.old) → HaveRoom (n + (min (block * L + L) (length store.now.particles) - block * L) * 2 ^ 31) (ledger_of totals.new) }
+{
+    let limit = store.limit();
+    let span = store.span(block);
+    let held = lanes.held.to_array();
+    let mut places = [Vec3::ZERO; L];
+    for j in 0..span.count {
+        let i = span.first + j as u32;
+        let at = lanes.at.place(j);
+        let before = lanes.before.place(j);
+        let Some(to) = advance(setting, limit, held[j], at, before, totals) else {
+            return Err(Left { element: i });
+        };
+        places[j] = to;
+    }
+    Ok(places)
+}
+
+// Advances the particles of a block: one access reads them, and another writes them, unless one would leave the limit.
+fn advance_block<const L: usize, G: Ledger>(
     setting: &Setting,
     state: &mut State<L>,
-    i: u32,
+    block: u32,
     steps: &mut Steps<G>,
 ) -> Result<(), Left>
     requires lanes_low { 0 < L }
     requires lanes_high { L ≤ 16 }
-    requires i { i < length state.old.store.particles }
-    requires at { Within (2 ^ 29) (particle_at state.old.store.particles i).at }
-    requires before { Within (2 ^ 29) (particle_at state.old.store.particles i).before }
+    requires block { block < blocks_of (length state.old.store.particles) L }
+    requires within { AreWithin state.old.store.limit state.old.store.particles }
     requires damping { unsigned_abs setting.now.damping ≤ 1024 }
     requires gravity { Within (2 ^ 29) setting.now.gravity }
-    requires room { HaveRoom (2 ^ 120) (ledger_of state.old.totals) }
+    requires room { HaveRoom (2 ^ 110) (ledger_of state.old.totals) }
     ensures outcome { MatchResult result
-        (λ _. Advanced (unled (world_of setting.now state.old)) i (now_of state.old) (now_of state.new))
-        (λ left. (predicted (unled (world_of setting.now state.old)) i (particle_at state.old.store.particles i) ≡ None) × (left.element ≡ i)) }
+        (λ _. predicted_from (bare_world setting.now state.old.store.limit) (block * L + L) (now_of state.new) ≡ predicted_from (bare_world setting.now state.old.store.limit) (block * L) (now_of state.old))
+        (λ left. predicted_from (bare_world setting.now state.old.store.limit) (block * L) (now_of state.old) ≡ Err left.element) }
     ensures same { state.new ≡ record state.old { store = state.new.store; totals = state.new.totals } }
     ensures limit { state.new.store.limit ≡ state.old.store.limit }
     ensures length { length state.new.store.particles ≡ length state.old.store.particles }
-    ensures room { (n : ℕ) → HaveRoom n (ledger_of state.old.totals) → HaveRoom (n + 2 ^ 31) (ledger_of state.new.totals) }
+    ensures within { AreWithin state.old.store.limit state.new.store.particles }
+    ensures room { (n : ℕ) → HaveRoom n (ledger_of state.old.totals) → HaveRoom (n + (min (block * L + L) (length state.old.store.particles) - block * L) * 2 ^ 31) (ledger_of state.new.totals) }
+    ensures cost { steps.new ≤ steps.old + 2 }
 {
-    let p = state.store.at(i, steps);
-    if p.held {
-        let rested = Particle {
-            at: p.at,
-            before: p.at,
-            weight: p.weight,
-            held: true,
-        };
-        state.store.set(i, rested, steps);
-        return Ok(());
+    let mut lanes = state.store.load(block, steps);
+    match advance_lanes(setting, &state.store, block, &lanes, &mut state.totals) {
+        Err(left) => Err(left),
+        Ok(places) => {
+            lanes.before = lanes.at;
+            lanes.at = Lanes3::from_places(&places);
+            let filled = lanes.filled;
+            state.store.save(block, &lanes, &filled, steps);
+            Ok(())
+        }
     }
-    let loss = damped_away(p, setting.damping);
-    let at = flown_to(p, loss, setting.gravity);
-    if !within(at, state.store.limit()) {
-        return Err(Left { element: i });
-    }
-    let flown = Particle {
-        at,
-        before: p.at,
-        weight: p.weight,
-        held: false,
-    };
-    state.store.set(i, flown, steps);
-    book(&mut state.totals, setting.gravity, loss);
-    Ok(())
 }
 
 /// Advances all particles, up to the first that would leave the limit.
@@ -157,15 +225,19 @@ fn advance_all<const L: usize, G: Ledger>(
     ensures limit { state.new.store.limit ≡ state.old.store.limit }
     ensures length { length state.new.store.particles ≡ length state.old.store.particles }
     ensures room { OnOk result (HaveRoom (2 ^ 100) (ledger_of state.new.totals)) }
+    ensures cost { steps.new ≤ steps.old + 2 * blocks_of (length state.old.store.particles) L }
 {
-    for i in 0..state.store.len() {
-        advance(setting, state, i, steps)?;
+    // By it the totals have room.
+    let _len = state.store.len();
+    for block in 0..state.store.blocks() {
+        advance_block(setting, state, block, steps)?;
     }
     Ok(())
 }
 
 /// Attaches the held particles and predicts the free ones, up to the first that would leave the limit
 /// (Verlet's step, Jakobsen 2001). After `Left` places and totals are any.
+/// It reaches the store at most twice for each block, and once for each track.
 pub(crate) fn predict<const L: usize, G: Ledger>(
     setting: &Setting,
     state: &mut State<L>,
@@ -181,6 +253,7 @@ pub(crate) fn predict<const L: usize, G: Ledger>(
     ensures limit { state.new.store.limit ≡ state.old.store.limit }
     ensures length { length state.new.store.particles ≡ length state.old.store.particles }
     ensures under_way { OnOk result (IsUnderWay (2 ^ 100) (world_of setting.now state.new)) }
+    ensures cost { steps.new ≤ steps.old + 2 * blocks_of (length state.old.store.particles) L + length setting.now.tracks }
 {
     advance_all(setting, state, steps)?;
     let t = state.steps as u32 + 1;

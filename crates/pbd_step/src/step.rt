@@ -1,27 +1,25 @@
 // Steps of a world.
-ghost use Rattle.std.specs.Prelude.{◌≡◌, ⊤, ◌+◌, ◌-◌, ◌*◌, ◌<◌, ◌≤◌, ◌^◌, ℕ, min, length, replicate, false, OnOk, OnErr, MatchResult, Result, Ok, Err};
+ghost use Rattle.std.specs.Prelude.{◌≡◌, ◌+◌, ◌-◌, ◌*◌, ◌<◌, ◌≤◌, ◌^◌, ℕ, min, length, replicate, false, OnOk, OnErr, MatchResult, Result, Ok, Err};
 ghost use Rattle.pbd_world.specs.Meaning.{steps_of};
 ghost use Rattle.pbd_world.specs.Step.{step as stepped, leaves, predict as predicted_motion, after_contacts};
-ghost use Rattle.pbd_world.specs.Contacts.{contacts_of};
 ghost use Rattle.pbd_world.specs.Outcomes.{with_fault};
 ghost use Rattle.pbd_world.specs.World.{IsSound, live_count};
 ghost use Rattle.pbd_world.specs.declared.command.Phase.TheVariants as phases;
-ghost use Rattle.pbd_world.specs.declared.command.Refusal.TheVariants as refusals;
 ghost use Rattle.pbd_step.specs.States.{world_of, now_of, HasLinks, HaveSpace, IsUnderWay};
 ghost use Rattle.pbd_step.specs.Solving.{bonds_of, bonds_over, IsKept};
 ghost use Rattle.pbd_step.specs.Stepping.{finished};
 
 use crate::again::{restore, take_over};
 use crate::bonds::counts;
+use crate::contacts::find;
 use crate::pass::project_in_passes;
 use crate::predict::predict;
 use crate::settle::settle;
 use crate::state::{Setting, State, Tools};
 use pbd_colour::Colouring;
 use pbd_pair::Projector;
-use pbd_self::{SelfContacts, touching_pairs_are_contacts};
 use pbd_store::Steps;
-use pbd_world::{Full, Left, Phase, Refusal};
+use pbd_world::{Phase, Refusal};
 use std::sync::ledger::Ledger;
 
 /// Attaches and predicts, or says in which step which particle would leave.
@@ -48,35 +46,6 @@ fn begin<const L: usize, G: Ledger>(
             step: next,
             phase: Phase::Predict,
             element: left.element,
-        }),
-    }
-}
-
-/// Finds the contacts of the places as they are, or says in which step there are too many.
-fn find<const L: usize, G: Ledger>(
-    setting: &Setting,
-    state: &State<L>,
-    colours: &Colouring,
-    found: &mut SelfContacts,
-    steps: &mut Steps<G>,
-) -> Result<(), Refusal>
-    requires lanes_low { 0 < L }
-    requires lanes_high { L ≤ 16 }
-    requires under_way { IsUnderWay (2 ^ 100) (world_of setting.now state.now) }
-    requires links { HasLinks (length state.now.store.particles) state.now.links.items colours.now }
-    requires found { found.old.particles ≡ length state.now.store.particles }
-    requires count { state.now.steps < 1000000 }
-    ensures found { OnOk result (found.new ≡ record found.old { pairs = contacts_of setting.now.thickness state.now.links.items state.now.store.particles }) }
-    ensures few { OnOk result (length (contacts_of setting.now.thickness state.now.links.items state.now.store.particles) ≤ 262144) }
-    ensures full { MatchResult result (λ _. ⊤)
-        (λ refusal. (262144 < length (contacts_of setting.now.thickness state.now.links.items state.now.store.particles)) × (refusal ≡ refusals.TooManyContacts (state.now.steps + 1))) }
-    ensures particles { found.new.particles ≡ found.old.particles }
-{
-    touching_pairs_are_contacts();
-    match found.detect(&state.store, colours, setting.thickness, steps) {
-        Ok(()) => Ok(()),
-        Err(Full) => Err(Refusal::TooManyContacts {
-            step: state.steps + 1,
         }),
     }
 }
@@ -110,15 +79,7 @@ fn finish<const L: usize, P: Projector<L>, G: Ledger>(
     ensures width { P.width projector.new ≡ P.width projector.old }
 {
     tools.touched.clear();
-    if let Err(refusal) = project_in_passes(
-        setting,
-        state,
-        colours,
-        &tools.found,
-        &mut tools.touched,
-        projector,
-        steps,
-    ) {
+    if let Err(refusal) = project_in_passes(setting, state, colours, tools, projector, steps) {
         return Err(refusal);
     }
     settle(

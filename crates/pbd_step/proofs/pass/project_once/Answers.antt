@@ -6,8 +6,8 @@ use Rattle.pbd_world.specs.Valid.{is_limit, is_between, are_valid_links, are_val
 use Rattle.pbd_world.specs.World.{World, parts_of}
 use Rattle.pbd_world.proofs.WorldParts.{formed}
 use Rattle.pbd_store.specs.Moving.{motion_of, AreInside}
-use Rattle.pbd_pair.proofs.Correcting.{same_length}
-use Rattle.pbd_pair.proofs.Ranges.{room_at}
+use Rattle.pbd_store.proofs.Fixed.{same_length}
+use Rattle.pbd_world.proofs.Rooms.{room_at}
 use Rattle.pbd_step.specs.declared.state.State.{State}
 use Rattle.pbd_step.specs.States.{world_of, now_of, HasLinks, IsUnderWay}
 use Rattle.pbd_step.proofs.Passes.{link_leaves, contact_leaves, shape_leaves, pass_done, link_part_is, contact_part_is, shape_part_is}
@@ -28,28 +28,16 @@ project_links-requires g c =
 pub returns-in-Err-clause-outcome : goal.returns-in-Err-clause-outcome
 returns-in-Err-clause-outcome g c =
     let w : World = world_of c.args.setting.now c.args.state.now in
-    let s : Passing = record { motion = now_of c.args.state.now; touched = c.args.touched.now } in
+    let s : Passing = record { motion = now_of c.args.state.now; touched = c.args.tools.now.touched } in
     let n = c.in-Err.left.element in
-    link_leaves w c.args.found.now.pairs s n (link_part_is w c.deref.result.now s.motion (Err n) c.deref.ensures.value c.in-Err.ensures.outcome)
-
-pub project_contacts-requires : goal.project_contacts-requires
-project_contacts-requires g c =
-    let w : World = world_of c.args.setting.now c.args.state.now in
-    let f = formed (parts_of w) c.requires.under_way.well_formed in
-    let now = c.project_links.new.store in
-    let limit : IsTrue (is_limit now.limit) = subst (λ (l : ℤ). IsTrue (is_limit l)) (sym c.project_links.ensures.limit) f.limit in
-    let thin = thickness_of w f in
-    let thickness : IsTrue (is_between (pos 0) (pos 1048576) (to_z w64 (of_z w64 w.thickness))) = subst (λ (t : ℤ). IsTrue (is_between (pos 0) (pos 1048576) t)) (sym (thickness_kept w.thickness thin)) thin in
-    let found : c.args.found.now.particles ≡ length now.particles = c.requires.found ∙ sym (same_length now.particles w.particles c.project_links.ensures.fixed) in
-    let ready = more_movable (2 ^ 119) (omega arith) (c.in_default.ensures.movable (2 ^ 118) (movable (2 ^ 118) w c.requires.under_way)) in
-    (omega arith, (c.requires.lanes_low, (c.requires.lanes_high, (limit, (thickness, (found, ready))))))
+    link_leaves w c.args.tools.now.found.pairs s n (link_part_is w c.deref.result.now s.motion (Err n) c.deref.ensures.value c.in-Err.ensures.outcome)
 
 pub returns-in-Err-project_contacts-clause-outcome : goal.returns-in-Err-project_contacts-clause-outcome
 returns-in-Err-project_contacts-clause-outcome g c =
     let w : World = world_of c.args.setting.now c.args.state.now in
     let f = formed (parts_of w) c.requires.under_way.well_formed in
-    let pairs = c.args.found.now.pairs in
-    let s : Passing = record { motion = now_of c.args.state.now; touched = c.args.touched.now } in
+    let pairs = c.args.tools.now.found.pairs in
+    let s : Passing = record { motion = now_of c.args.state.now; touched = c.args.tools.now.touched } in
     let m = motion_of c.project_links.new.store c.project_links.new.totals in
     let n = c.in-Err-project_contacts.left.element in
     let linked : link_part w s.motion ≡ Ok m = link_part_is w c.deref.result.now s.motion (Ok m) c.deref.ensures.value c.in_default.ensures.outcome in
@@ -72,8 +60,8 @@ pub returns-in-Err-push_out-clause-outcome : goal.returns-in-Err-push_out-clause
 returns-in-Err-push_out-clause-outcome g c =
     let w : World = world_of c.args.setting.now c.args.state.now in
     let f = formed (parts_of w) c.requires.under_way.well_formed in
-    let pairs = c.args.found.now.pairs in
-    let s : Passing = record { motion = now_of c.args.state.now; touched = c.args.touched.now } in
+    let pairs = c.args.tools.now.found.pairs in
+    let s : Passing = record { motion = now_of c.args.state.now; touched = c.args.tools.now.touched } in
     let m = motion_of c.project_links.new.store c.project_links.new.totals in
     let k = motion_of c.project_contacts.new.store c.project_contacts.new.totals in
     let n = c.in-Err-push_out.left.element in
@@ -86,8 +74,8 @@ pub returns-clause-outcome : goal.returns-clause-outcome
 returns-clause-outcome g c =
     let w : World = world_of c.args.setting.now c.args.state.now in
     let f = formed (parts_of w) c.requires.under_way.well_formed in
-    let pairs = c.args.found.now.pairs in
-    let s : Passing = record { motion = now_of c.args.state.now; touched = c.args.touched.now } in
+    let pairs = c.args.tools.now.found.pairs in
+    let s : Passing = record { motion = now_of c.args.state.now; touched = c.args.tools.now.touched } in
     let m = motion_of c.project_links.new.store c.project_links.new.totals in
     let k = motion_of c.project_contacts.new.store c.project_contacts.new.totals in
     let t : Passing = record { motion = motion_of c.push_out.new.store c.push_out.new.totals; touched = c.push_out.new.touched } in
@@ -112,3 +100,15 @@ returns-clause-under_way g c = λ n u.
     let room : HaveRoom (n + 2 ^ 62) (ledger_of new.totals) = room_at (n + 2 ^ 62) (omega (arith, whole, particles_few w f)) (c.in_default-push_out.ensures.room (n + 2 ^ 60 + 2 ^ 60) ready.room) in
     subst (λ (v : World). IsUnderWay (n + 2 ^ 62) v) (sym (moved_world c.args.setting.now old new refl (c.push_out.ensures.limit ∙ limit)))
     (moved_under_way n (n + 2 ^ 62) w now.particles (ledger_of new.totals) u (c.push_out.ensures.fixed ∙ fixed) inside room)
+
+pub project_contacts-requires : goal.project_contacts-requires
+project_contacts-requires g c =
+    let w : World = world_of c.args.setting.now c.args.state.now in
+    let f = formed (parts_of w) c.requires.under_way.well_formed in
+    let now = c.project_links.new.store in
+    let limit : IsTrue (is_limit now.limit) = subst (λ (l : ℤ). IsTrue (is_limit l)) (sym c.project_links.ensures.limit) f.limit in
+    let thin = thickness_of w f in
+    let thickness : IsTrue (is_between (pos 0) (pos 1048576) (to_z w64 (of_z w64 w.thickness))) = subst (λ (t : ℤ). IsTrue (is_between (pos 0) (pos 1048576) t)) (sym (thickness_kept w.thickness thin)) thin in
+    let found : c.args.tools.now.found.particles ≡ length now.particles = c.requires.found ∙ sym (same_length now.particles w.particles c.project_links.ensures.fixed) in
+    let ready = more_movable (2 ^ 119) (omega arith) (c.in_default.ensures.movable (2 ^ 118) (movable (2 ^ 118) w c.requires.under_way)) in
+    (omega arith, (c.requires.lanes_low, (c.requires.lanes_high, (limit, (thickness, (found, ready))))))

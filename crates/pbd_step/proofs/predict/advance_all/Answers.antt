@@ -1,83 +1,90 @@
-use Rattle.std.proofs.Common.{◌∙◌, ◌<◌, ◌≤◌, ◌+◌, ◌*◌, ◌^◌, ℕ, sym, refl, ap, arith, length, Err, subst}
+use Rattle.std.proofs.Common.{◌≡◌, ◌∙◌, ◌<◌, ◌≤◌, ◌+◌, ◌*◌, ◌-◌, ◌^◌, ℕ, ℤ, sym, refl, ap, min, arith, length, Err, subst}
 use Rattle.std.proofs.lemmas.Result.{err_from_is_err_and}
-use Rattle.pbd_num.specs.Vectors.{Within}
-use Rattle.pbd_pair.proofs.Ranges.{room_at}
-use Rattle.pbd_world.specs.declared.parts.Particle.{Particle}
+use Rattle.pbd_world.proofs.Rooms.{room_at}
+use Rattle.pbd_world.specs.Ledger.{ledger_of, HaveRoom}
+use Rattle.pbd_store.specs.Blocks.{blocks_of}
+use Rattle.pbd_store.proofs.Starts.{block_begins, all_held, next_start, room_more}
+use Rattle.pbd_shape.specs.Rubbing.{AreWithin}
 use Rattle.pbd_step.specs.States.{world_of, now_of}
-use Rattle.pbd_step.specs.Predicting.{unled}
+use Rattle.pbd_step.specs.Predicting.{bare_world, predicted_from}
 use Rattle.pbd_step.proofs.SoundRoom.{sound_room}
-use Rattle.pbd_step.proofs.Mild.{sound_mild}
-use Rattle.pbd_step.proofs.Predicting.{begins, next_is, goes_on, stops_here, all_done, advanced_as, left_as}
+use Rattle.pbd_step.proofs.Mild.{formed_within, sound_mild}
+use Rattle.pbd_step.proofs.Predicting.{predicted_begins, predicted_all}
 use Rattle.pbd_step.proofs.predict.advance_all.Goals as goal
 
-pub loop-i-init : goal.loop-i-init
-loop-i-init g c =
-    let w = world_of c.args.setting.now c.args.state.now in
-    record { so_far = begins (unled w) (now_of c.args.state.now); same = refl; limit = refl; many = refl; room = sound_room w c.requires.sound }
+none : (n : ℕ) → 0 * n ≡ 0
+none n = omega arith
 
-pub advance-requires : goal.advance-requires
-advance-requires g c =
-    let w = world_of c.args.setting.now c.args.state.now in
-    let mild = sound_mild w c.requires.sound in
-    let i = c.loop-i.i in
-    let keeps = c.loop-i.invariant in
-    let within : i < length c.args.state.now.store.particles = omega (arith, c.loop-i-test.true, c.len-i-end.ensures.value) in
-    let here = next_is (unled w) (now_of c.args.state.now) (now_of c.loop-i.state) i within keeps.so_far in (
+pub loop-block-init : goal.loop-block-init
+loop-block-init g c =
+    let setting = c.args.setting.now in
+    let state = c.args.state.now in
+    let w = world_of setting state in
+    record {
+      rest = ap (λ (m : ℕ). predicted_from (bare_world setting state.store.limit) m (now_of state)) (none g.row.L) ∙ predicted_begins setting state;
+      same = refl;
+      limit = refl;
+      many = refl;
+      within = formed_within w c.requires.sound.well_formed;
+      room = room_at _ (omega arith) (sound_room w c.requires.sound);
+      cost = omega arith;
+    }
+
+pub advance_block-requires : goal.advance_block-requires
+advance_block-requires g c =
+    let inv = c.loop-block.invariant in
+    let r = c.requires in
+    let old = c.args.state.now.store in
+    let mild = sound_mild (world_of c.args.setting.now c.args.state.now) r.sound in
+    let block : c.loop-block.block < blocks_of (length old.particles) g.row.L = omega (arith, c.blocks-block-end.ensures, c.loop-block-test.true) in (
       omega arith,
       (
-        c.requires.lanes_low,
+        r.lanes_low,
         (
-          c.requires.lanes_high,
+          r.lanes_high,
           (
-            omega (arith, within, keeps.many),
+            subst (λ (m : ℕ). c.loop-block.block < blocks_of m g.row.L) (sym inv.many) block,
             (
-              subst (λ (p : Particle). Within (2 ^ 29) p.at) (sym here) (mild.at i within),
-              (
-                subst (λ (p : Particle). Within (2 ^ 29) p.before) (sym here) (mild.before i within),
-                (
-                  mild.damping,
-                  (
-                    mild.gravity,
-                    room_at (2 ^ 120) (omega (arith, c.loop-i-test.true, c.len-i-end.ensures.size)) keeps.room,
-                  ),
-                ),
-              ),
+              subst (λ (l : ℤ). AreWithin l c.loop-block.state.store.particles) (sym inv.limit) inv.within,
+              (mild.damping, (mild.gravity, room_at (2 ^ 110) (omega (arith, c.len-len.ensures.value, c.len-len.ensures.size)) inv.room)),
             ),
           ),
         ),
       ),
     )
 
-pub returns-in_err-advance-clause-outcome : goal.returns-in_err-advance-clause-outcome
-returns-in_err-advance-clause-outcome g c =
-    let w = world_of c.args.setting.now c.args.state.now in
-    let i = c.loop-i.i in
-    let keeps = c.loop-i.invariant in
-    let within : i < length c.args.state.now.store.particles = omega (arith, c.loop-i-test.true, c.len-i-end.ensures.value) in
-    let left = c.in_err-advance.ensures.outcome in
-    let none = left_as (world_of c.args.setting.now c.loop-i.state) w i _ keeps.limit refl refl left.0 in
-    let stops = stops_here (unled w) (now_of c.args.state.now) (now_of c.loop-i.state) i refl within keeps.so_far none in
-    let p = err_from_is_err_and c.from_residual.result c.from_residual.ensures.1 in
-    rw (p.1, p.2) (stops ∙ ap (λ (n : ℕ). Err n) (sym left.1))
-
-pub loop-i-preserved : goal.loop-i-preserved
-loop-i-preserved g c =
-    let w = world_of c.args.setting.now c.args.state.now in
-    let i = c.loop-i.i in
-    let keeps = c.loop-i.invariant in
-    let done = c.in_ok-advance.ensures in
-    let within : i < length c.args.state.now.store.particles = omega (arith, c.loop-i-test.true, c.len-i-end.ensures.value) in
-    let step = advanced_as (world_of c.args.setting.now c.loop-i.state) w i (now_of c.loop-i.state) (now_of c.advance.new.state) keeps.limit refl refl done.outcome in
+pub loop-block-preserved : goal.loop-block-preserved
+loop-block-preserved g c =
+    let inv = c.loop-block.invariant in
+    let done = c.in_ok-advance_block.ensures in
+    let setting = c.args.setting.now in
+    let start = c.loop-block.block * g.row.L in
+    let many = length c.args.state.now.store.particles in
+    let then = c.advance_block.new.state in
+    let begins : start < many = block_begins c.loop-block.block many g.row.L c.requires.lanes_low (omega (arith, c.blocks-block-end.ensures, c.loop-block-test.true)) in
+    let did = subst (λ (l : ℤ). predicted_from (bare_world setting l) (start + g.row.L) (now_of then) ≡ predicted_from (bare_world setting l) start (now_of c.loop-block.state)) inv.limit done.outcome in
     record {
-      so_far = goes_on (unled w) (now_of c.args.state.now) (now_of c.loop-i.state) (now_of c.advance.new.state) i within keeps.so_far step;
-      same = done.same ∙ (λ k. record (keeps.same k) { store = c.advance.new.state.store; totals = c.advance.new.state.totals });
-      limit = done.limit ∙ keeps.limit;
-      many = done.length ∙ keeps.many;
-      room = room_at (2 ^ 99 + (i + 1) * 2 ^ 31) (omega arith) (done.room (2 ^ 99 + i * 2 ^ 31) keeps.room);
+      rest = ap (λ (m : ℕ). predicted_from (bare_world setting c.args.state.now.store.limit) m (now_of then)) (next_start c.loop-block.block g.row.L) ∙ did ∙ inv.rest;
+      same = done.same ∙ (λ k. record (inv.same k) { store = then.store; totals = then.totals });
+      limit = done.limit ∙ inv.limit;
+      many = done.length ∙ inv.many;
+      within = subst (λ (l : ℤ). AreWithin l then.store.particles) inv.limit done.within;
+      room = room_at _ (room_more (2 ^ 99) start _ many g.row.L begins (next_start c.loop-block.block g.row.L)) (subst (λ (m : ℕ). HaveRoom (2 ^ 99 + min start many * 2 ^ 31 + (min (start + g.row.L) m - start) * 2 ^ 31) (ledger_of then.totals)) inv.many (done.room _ inv.room));
+      cost = omega (arith, done.cost, inv.cost);
     }
+
+pub returns-in_err-advance_block-clause-outcome : goal.returns-in_err-advance_block-clause-outcome
+returns-in_err-advance_block-clause-outcome g c =
+    let inv = c.loop-block.invariant in
+    let left = c.in_err-advance_block.ensures.outcome in
+    let start = c.loop-block.block * g.row.L in
+    let out = subst (λ (l : ℤ). predicted_from (bare_world c.args.setting.now l) start (now_of c.loop-block.state) ≡ Err c.in_err-advance_block.field-0.0.element) inv.limit left in
+    let p = err_from_is_err_and c.from_residual.result c.from_residual.ensures.1 in
+    rw (p.1, p.2) (sym inv.rest ∙ out)
 
 pub returns-clause-outcome : goal.returns-clause-outcome
 returns-clause-outcome g c =
-    let w = world_of c.args.setting.now c.args.state.now in
-    let all : length c.args.state.now.store.particles ≤ c.loop-i.i = omega (arith, c.loop-i-test.false, c.len-i-end.ensures.value) in
-    all_done (unled w) (now_of c.args.state.now) (now_of c.loop-i.state) c.loop-i.i refl refl all c.loop-i.invariant.so_far
+    let inv = c.loop-block.invariant in
+    let start = c.loop-block.block * g.row.L in
+    let whole : length c.args.state.now.store.particles ≤ start = all_held c.loop-block.block (length c.args.state.now.store.particles) g.row.L c.requires.lanes_low (omega (arith, c.blocks-block-end.ensures, c.loop-block-test.false)) in
+    sym inv.rest ∙ predicted_all (bare_world c.args.setting.now c.args.state.now.store.limit) start (now_of c.loop-block.state) (omega (arith, inv.many, whole))

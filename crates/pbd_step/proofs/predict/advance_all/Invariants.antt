@@ -1,16 +1,19 @@
-use Rattle.std.proofs.Common.{◌≡◌, ◌+◌, ◌*◌, ◌^◌, length}
+use Rattle.std.proofs.Common.{◌≡◌, ◌+◌, ◌*◌, ◌^◌, ◌≤◌, min, length}
 use Rattle.pbd_world.specs.Ledger.{ledger_of, HaveRoom}
+use Rattle.pbd_world.specs.Step.{predict}
+use Rattle.pbd_shape.specs.Rubbing.{AreWithin}
 use Rattle.pbd_step.specs.States.{world_of, now_of}
-use Rattle.pbd_step.specs.Predicting.{unled}
-use Rattle.pbd_step.proofs.Predicting.{SoFar}
+use Rattle.pbd_step.specs.Predicting.{unled, bare_world, predicted_from}
 use Rattle.pbd_step.proofs.predict.advance_all.Given as goal
 
--- the first i particles are predicted
-abbrev pub invariant-loop-i : goal.invariant-loop-i
-invariant-loop-i g l = record {
-  so_far : SoFar (unled (world_of l.initial.setting l.initial.state)) (now_of l.initial.state) (now_of l.state) l.i;
+-- what is left of the particles makes the whole
+abbrev pub invariant-loop-block : goal.invariant-loop-block
+invariant-loop-block g l = record {
+  rest : predicted_from (bare_world l.initial.setting l.initial.state.store.limit) (l.block * g.row.L) (now_of l.state) ≡ predict (unled (world_of l.initial.setting l.initial.state));
   same : l.state ≡ record l.initial.state { store = l.state.store; totals = l.state.totals };
   limit : l.state.store.limit ≡ l.initial.state.store.limit;
   many : length l.state.store.particles ≡ length l.initial.state.store.particles;
-  room : HaveRoom (2 ^ 99 + l.i * 2 ^ 31) (ledger_of l.state.totals);
+  within : AreWithin l.initial.state.store.limit l.state.store.particles;
+  room : HaveRoom (2 ^ 99 + min (l.block * g.row.L) (length l.initial.state.store.particles) * 2 ^ 31) (ledger_of l.state.totals);
+  cost : l.steps ≤ l.initial.steps + 2 * l.block;
 }

@@ -1,13 +1,13 @@
 use Rattle.std.proofs.Common.{arith, ◌^◌, w64, FitsSigned}
 use Rattle.std.proofs.lemmas.Int.{to_z-of_z}
-use Rattle.pbd_world.proofs.KeptLemmas.{wider}
+use Rattle.pbd_num.proofs.Ranges.{wider}
 use Rattle.pbd_step.proofs.Flying.{fit}
 use Rattle.pbd_step.proofs.predict.flown_to.Goals as goal
 
 pub returns : goal.returns
 returns c =
-    let at = fit c.args.p.at (wider c.args.p.at (2 ^ 29) (2 ^ 30) (omega arith) c.requires.at) in
-    let before = fit c.args.p.before (wider c.args.p.before (2 ^ 29) (2 ^ 30) (omega arith) c.requires.before) in
+    let at = fit c.args.at (wider c.args.at (2 ^ 29) (2 ^ 30) (omega arith) c.requires.at) in
+    let before = fit c.args.before (wider c.args.before (2 ^ 29) (2 ^ 30) (omega arith) c.requires.before) in
     let loss = fit c.args.loss c.requires.loss in
     let pull = fit c.args.gravity (wider c.args.gravity (2 ^ 29) (2 ^ 30) (omega arith) c.requires.gravity) in
     let ax = at.x in let ay = at.y in let az = at.z in

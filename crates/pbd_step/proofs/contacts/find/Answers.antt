@@ -3,7 +3,7 @@ use Rattle.std.specs.Int.{w64}
 use Rattle.std.proofs.lemmas.Int.{to_z-of_z}
 use Rattle.pbd_step.specs.States.{world_of}
 use Rattle.pbd_step.proofs.Finding.{thickness_range, places_inside, as_found}
-use Rattle.pbd_step.proofs.step.find.Goals as goal
+use Rattle.pbd_step.proofs.contacts.find.Goals as goal
 
 pub detect-requires : goal.detect-requires
 detect-requires g c =
