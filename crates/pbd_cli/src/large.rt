@@ -12,6 +12,7 @@ ghost use Rattle.pbd_cli.specs.Clauses.{Does};
 
 use crate::line::{large_line, sums_line};
 use crate::status::Status;
+use crate::widths::at_width;
 use pbd_io::{Failed, Sink};
 use pbd_mesh::{ClothSpec, cloth};
 use pbd_num::{RANGE, Vec3};
@@ -312,13 +313,7 @@ fn large_counted<G: Ledger, K: Sink>(
     requires some { 0 < blank.parts }
     ensures { Does (summary_outcome number size (opened scene.now) []) (K.written sink.old) (K.written sink.new) (K.faults sink.old) (K.faults sink.new) result }
 {
-    match width {
-        Width::W1 => large_over::<1, G, K>(alloc, blank, number, size, scene, sink),
-        Width::W2 => large_over::<2, G, K>(alloc, blank, number, size, scene, sink),
-        Width::W4 => large_over::<4, G, K>(alloc, blank, number, size, scene, sink),
-        Width::W8 => large_over::<8, G, K>(alloc, blank, number, size, scene, sink),
-        Width::W16 => large_over::<16, G, K>(alloc, blank, number, size, scene, sink),
-    }
+    at_width!(width, large_over(alloc, blank, number, size, scene, sink))
 }
 
 fn large_at<K: Sink>(

@@ -15,6 +15,7 @@ mod split;
 mod status;
 #[cfg(test)]
 mod tests;
+mod widths;
 
 use pbd_io::{StdSink, StdSource};
 use run::run;

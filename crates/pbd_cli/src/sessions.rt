@@ -7,6 +7,7 @@ ghost use Rattle.pbd_cli.specs.Outcome.{range, session_outcome, record_outcome, 
 ghost use Rattle.pbd_cli.specs.Clauses.{Does};
 
 use crate::status::{Status, ends_as, replay_status};
+use crate::widths::at_width;
 use pbd_io::{Failed, Sink};
 use pbd_log::LogView;
 use pbd_pair::LaneProjector;
@@ -56,13 +57,7 @@ fn simulate_counted<G: Ledger, K: Sink>(
     requires script { length script.now ≤ 2 ^ 31 }
     ensures { Does (session_outcome (opened scene.now) (commands script.now)) (K.written sink.old) (K.written sink.new) (K.faults sink.old) (K.faults sink.new) result }
 {
-    match width {
-        Width::W1 => simulate_over::<1, G, K>(alloc, blank, scene, script, sink),
-        Width::W2 => simulate_over::<2, G, K>(alloc, blank, scene, script, sink),
-        Width::W4 => simulate_over::<4, G, K>(alloc, blank, scene, script, sink),
-        Width::W8 => simulate_over::<8, G, K>(alloc, blank, scene, script, sink),
-        Width::W16 => simulate_over::<16, G, K>(alloc, blank, scene, script, sink),
-    }
+    at_width!(width, simulate_over(alloc, blank, scene, script, sink))
 }
 
 /// Runs a script on a scene, and writes the replies.
@@ -124,13 +119,7 @@ fn record_counted<G: Ledger, K: Sink>(
     requires limit { scene.now.limit ≡ range }
     ensures { Does (record_outcome text.now (opened scene.now) (commands script.now)) (K.written sink.old) (K.written sink.new) (K.faults sink.old) (K.faults sink.new) result }
 {
-    match width {
-        Width::W1 => record_over::<1, G, K>(alloc, blank, text, scene, script, sink),
-        Width::W2 => record_over::<2, G, K>(alloc, blank, text, scene, script, sink),
-        Width::W4 => record_over::<4, G, K>(alloc, blank, text, scene, script, sink),
-        Width::W8 => record_over::<8, G, K>(alloc, blank, text, scene, script, sink),
-        Width::W16 => record_over::<16, G, K>(alloc, blank, text, scene, script, sink),
-    }
+    at_width!(width, record_over(alloc, blank, text, scene, script, sink))
 }
 
 /// Runs a script on a scene with this text, and writes the log.
@@ -187,13 +176,7 @@ fn replay_counted<G: Ledger, K: Sink>(
     requires some { 0 < blank.parts }
     ensures { Does (replay_outcome (replayed (opened scene.now) log.entry.entries)) (K.written sink.old) (K.written sink.new) (K.faults sink.old) (K.faults sink.new) result }
 {
-    match width {
-        Width::W1 => replay_over::<1, G, K>(alloc, blank, scene, log, sink),
-        Width::W2 => replay_over::<2, G, K>(alloc, blank, scene, log, sink),
-        Width::W4 => replay_over::<4, G, K>(alloc, blank, scene, log, sink),
-        Width::W8 => replay_over::<8, G, K>(alloc, blank, scene, log, sink),
-        Width::W16 => replay_over::<16, G, K>(alloc, blank, scene, log, sink),
-    }
+    at_width!(width, replay_over(alloc, blank, scene, log, sink))
 }
 
 /// Replays a log on its scene, and writes the replies.
