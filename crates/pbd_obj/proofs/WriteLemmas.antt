@@ -1,0 +1,105 @@
+-- What is written, piece by piece.
+use Rattle.std.proofs.Common.{◌≡◌, ◌∙◌, sym, ap, refl, ℕ, zero, suc, ◌+◌, ◌-◌, ◌*◌, ◌/◌, ◌%◌, ◌<◌, ◌≤◌, List, [], ◌∷◌, ◌++◌, length, get_or, take, drop, map, arith, append_assoc, append-nil, codes, decimal, Option, Result, Ok, Err, length-append, ℤ, unsigned_abs}
+use Rattle.std.specs.Io.KnownBytes.{Appends}
+use Rattle.std.specs.List.{flat_map}
+use Rattle.std.proofs.lemmas.Bool.{ne_eqb}
+use Rattle.std.proofs.lemmas.Grind.{flat_map-append}
+use Rattle.std.proofs.lemmas.List.{take_more}
+use Rattle.pbd_io.specs.Pieces.{AppendsFront, WritesPiece}
+use Rattle.pbd_io.specs.Appending.{appends_then, front_longer, front_then}
+use Rattle.pbd_num.specs.declared.Vec3.{Vec3}
+use Rattle.pbd_world.specs.Text.{line}
+use Rattle.pbd_obj.specs.Writing.{coordinate, corner_text, decimals, face_line, fraction, sign, vertex_line}
+
+-- ---- decimals
+
+-- the decimals of n so far, and those that are left of the rest
+pub record DecimalsSoFar (n : ℕ) (start now : List ℕ) (rest count : ℕ) : Type 0 where
+  pub bytes : now ++ decimals (16 - count) rest ≡ start ++ decimals 16 n
+  pub size : length now ≤ length start + count
+  pub small : rest < 65536
+
+pub decimals_begin : (n : ℕ) (start : List ℕ) → n < 65536 → DecimalsSoFar n start start n 0
+decimals_begin n start small = record { bytes = refl; size = omega arith; small = small }
+
+decimals_more : (k rest : ℕ) → (rest ≡ 0 → ⊥) → decimals (suc k) rest ≡ (48 + rest * 10 / 65536) ∷ decimals k (rest * 10 % 65536)
+decimals_more k rest some = rw (ne_eqb rest 0 some) refl
+
+decimals_zero : (k : ℕ) → decimals k 0 ≡ []
+decimals_zero zero = refl
+decimals_zero (suc k) = refl
+
+pub decimals_next : (n : ℕ) (start old now : List ℕ) (rest count : ℕ) → DecimalsSoFar n start old rest count → count < 16 → (rest ≡ 0 → ⊥) → now ≡ old ++ (48 + rest * 10 / 65536) ∷ [] → DecimalsSoFar n start now (rest * 10 % 65536) (count + 1)
+decimals_next n start old now rest count so_far lt some push =
+    let left : 16 - count ≡ suc (16 - (count + 1)) = omega (arith, lt) in
+    let digit = 48 + rest * 10 / 65536 in
+    let all : now ++ decimals (16 - (count + 1)) (rest * 10 % 65536) ≡ old ++ decimals (16 - count) rest =
+    rw (left, decimals_more (16 - (count + 1)) rest some, push) (append_assoc old (digit ∷ []) (decimals (16 - (count + 1)) (rest * 10 % 65536))) in
+    record {
+      bytes = all ∙ so_far.bytes;
+      size = rw push (omega (arith, so_far.size, length-append old (digit ∷ [])));
+      small = omega arith;
+    }
+
+pub decimals_zero_ends : (n : ℕ) (start now : List ℕ) (rest count : ℕ) → DecimalsSoFar n start now rest count → rest ≡ 0 → now ≡ start ++ decimals 16 n
+decimals_zero_ends n start now rest count so_far is =
+    let none : decimals (16 - count) rest ≡ [] = rw is (decimals_zero (16 - count)) in
+    sym (append-nil now) ∙ (ap (λ t. now ++ t) (sym none) ∙ so_far.bytes)
+
+pub decimals_all_end : (n : ℕ) (start now : List ℕ) (rest count : ℕ) → DecimalsSoFar n start now rest count → 16 ≤ count → now ≡ start ++ decimals 16 n
+decimals_all_end n start now rest count so_far le =
+    let none : 16 - count ≡ 0 = omega (arith, le) in
+    sym (append-nil now) ∙ (ap (λ k. now ++ decimals k rest) (sym none) ∙ so_far.bytes)
+
+-- ---- one piece for each item
+
+flat_at : {X : Type 0} (f : X → List ℕ) (xs : List X) (i : ℕ) (d : X) (piece : List ℕ) → i < length xs → piece ≡ f (get_or xs i d) → flat_map f xs ≡ flat_map f (take i xs) ++ (piece ++ flat_map f (drop (i + 1) xs))
+flat_at f [] i d piece lt is = absurd (omega arith)
+flat_at f (x ∷ xs) zero d piece lt is = rw is refl
+flat_at f (x ∷ xs) (suc i) d piece lt is =
+    let e : suc i + 1 ≡ suc (i + 1) = omega arith in
+    rw e (ap (λ t. f x ++ t) (flat_at f xs i d piece (omega (arith, lt)) is) ∙ sym (append_assoc (f x) (flat_map f (take i xs)) (piece ++ flat_map f (drop (i + 1) xs))))
+
+-- the pieces of the items before i are written, and then that of item i
+pub wrote_next : {X : Type 0} (f : X → List ℕ) (xs : List X) (i : ℕ) (d : X) (piece : List ℕ) (old mid new : Option (List ℕ)) → Appends old mid (flat_map f (take i xs)) → i < length xs → piece ≡ f (get_or xs i d) → Appends mid new piece → Appends old new (flat_map f (take (i + 1) xs))
+wrote_next f xs i d piece old mid new before lt is wrote =
+    let e : flat_map f (take (i + 1) xs) ≡ flat_map f (take i xs) ++ piece = ap (flat_map f) (take_more xs i d lt) ∙ (flat_map-append f (take i xs) (get_or xs i d ∷ []) ∙ ap (λ t. flat_map f (take i xs) ++ t) (append-nil (f (get_or xs i d)) ∙ sym is)) in
+    rw e (appends_then _ _ _ _ _ before wrote)
+
+-- and some front of it
+pub failed_next : {X : Type 0} (f : X → List ℕ) (xs : List X) (i : ℕ) (d : X) (piece : List ℕ) (old mid new : Option (List ℕ)) → Appends old mid (flat_map f (take i xs)) → i < length xs → piece ≡ f (get_or xs i d) → AppendsFront mid new piece → AppendsFront old new (flat_map f xs)
+failed_next f xs i d piece old mid new before lt is failed =
+    rw (flat_at f xs i d piece lt is) (front_then _ _ _ _ _ before (front_longer _ _ piece _ failed))
+
+-- ---- the line of a face
+
+mapped : {X : Type 0} (f : X → List ℕ) (xs : List X) → flat_map (λ w. 32 ∷ w) (map {A = X} {B = List ℕ} f xs) ≡ flat_map (λ x. 32 ∷ f x) xs
+mapped f [] = refl
+mapped f (x ∷ xs) = ap (λ t. (32 ∷ f x) ++ t) (mapped f xs)
+
+line_is : (w : List ℕ) (ws : List (List ℕ)) → line (w ∷ ws) ≡ w ++ (flat_map (λ v. 32 ∷ v) ws ++ 10 ∷ [])
+line_is w [] = refl
+line_is w (next ∷ ws) = ap (λ t. w ++ 32 ∷ t) (line_is next ws ∙ sym (append_assoc next (flat_map (λ v. 32 ∷ v) ws) (10 ∷ [])))
+
+pub face_line_is : (base : ℕ) (corners : List ℕ) → face_line base corners ≡ codes "f" ++ (flat_map (λ corner. corner_text (base + corner + 1)) corners ++ codes "\n")
+unfolding face_line
+face_line_is base corners = line_is (codes "f") (map (λ corner. decimal (base + corner + 1)) corners) ∙ ap (λ t. codes "f" ++ (t ++ codes "\n")) (mapped (λ corner. decimal (base + corner + 1)) corners)
+
+-- ---- what two calls write
+
+pub piece_then : {T E : Type 0} (a b c : Option (List ℕ)) (r : Result T E) (x y : List ℕ) → Appends a b x → WritesPiece b c r y → WritesPiece a c r (x ++ y)
+piece_then a b c (Ok t) x y first second = appends_then _ _ _ _ _ first second
+piece_then a b c (Err e) x y first second = front_then _ _ _ _ _ first second
+
+-- ---- the line of a vertex
+
+pub coordinate_is : (old : List ℕ) (u : ℤ) (n : ℕ) → n ≡ unsigned_abs u → ((old ++ sign u) ++ decimal (n / 65536)) ++ fraction (n % 65536) ≡ old ++ coordinate u
+unfolding coordinate
+coordinate_is old u n is = rw is (append_assoc (old ++ sign u) (decimal (unsigned_abs u / 65536)) (fraction (unsigned_abs u % 65536)) ∙ append_assoc old (sign u) (decimal (unsigned_abs u / 65536) ++ fraction (unsigned_abs u % 65536)))
+
+pub vertex_line_is : (place : Vec3) → ((((((([] ++ codes "v ") ++ coordinate place.x) ++ codes " ") ++ coordinate place.y) ++ codes " ") ++ coordinate place.z) ++ codes "\n") ≡ vertex_line place
+unfolding vertex_line
+vertex_line_is place = pieces7 (codes "v ") (coordinate place.x) (codes " ") (coordinate place.y) (codes " ") (coordinate place.z) (codes "\n")
+  where
+    pieces7 : (a b c d e f g : List ℕ) → (((((a ++ b) ++ c) ++ d) ++ e) ++ f) ++ g ≡ a ++ (b ++ (c ++ (d ++ (e ++ (f ++ g)))))
+    pieces7 a b c d e f g = simp append_assoc refl

@@ -1,0 +1,7 @@
+use Rattle.std.proofs.Common.{drop}
+use Rattle.pbd_obj.proofs.NetLemmas.{FacesSoFar}
+use Rattle.pbd_obj.proofs.links.add_kind.Given as goal
+
+-- the links of the faces so far were added
+abbrev pub invariant-loop-size : goal.invariant-loop-size
+invariant-loop-size l = FacesSoFar l.mesh l.kind l.fn.net l.net (drop l.size-index l.sizes) l.rest

@@ -1,0 +1,310 @@
+//! The particles and links of a mesh.
+ghost use Rattle.std.specs.Prelude.{◌≡◌, ◌+◌, ◌-◌, ◌^◌, ◌<◌, ◌≤◌, ◌++◌, pos, [], ◌∷◌, length, map, take, replicate, All, IfOk, IfErr, IfSome, OnOk, OnErr, Ok, IsTrue, slice_set, slice_index};
+ghost use Rattle.pbd_num.specs.declared.Vec3.{Vec3};
+ghost use Rattle.pbd_world.specs.declared.parts.Particle.{Particle};
+ghost use Rattle.pbd_world.specs.declared.parts.Link.{Link};
+ghost use Rattle.pbd_world.specs.Valid.{is_valid};
+ghost use Rattle.pbd_obj.specs.Meshes.{IsMesh};
+ghost use Rattle.pbd_obj.specs.MeshLinks.{face_links, first_overfull, kind_links, link, mesh_links, particles, resting, with_all, with_mesh};
+ghost use Rattle.pbd_obj.specs.Reading.{IsFaultOf};
+ghost use Rattle.pbd_obj.specs.Nets.{counted_end, ordered, Adds, AreFew, CountsLink, FitsNet, HoldsJoined, IsFrom, IsFullAt, IsLinkFrom, IsStopped, Names, WithFront};
+
+use crate::{ObjFault, ObjMesh};
+use pbd_num::{Vec3, distance};
+use pbd_world::{Kind, Link, List, Particle, Parts};
+use std::alloc::{AllocError, Global};
+use std::collections::BTreeSet;
+
+const MOST_PARTICLES: usize = 65_536;
+
+const MOST_LINKS: usize = 524_288;
+
+const MOST_AT_ONE: u32 = 32;
+
+/// Links that are found one by one, each once.
+#[derive(Drop)]
+pub struct Net {
+    /// The particle of the first vertex.
+    base: u32,
+    /// How many links there may be.
+    room: usize,
+    links: List<Link>,
+    /// The pairs of particles that they join, the smaller number first.
+    joined: BTreeSet<(u32, u32)>,
+}
+
+#[tactic(auto, unfolding(crate::specs::Nets::ordered))]
+fn ordered(a: u32, b: u32) -> (u32, u32)
+    ensures { result ≡ ordered a b }
+{
+    (a.min(b), a.max(b))
+}
+
+/// Adds a link, unless one before it joins its particles.
+fn add(net: &mut Net, link: Link) -> Result<(), ObjFault>
+    requires { HoldsJoined net.old }
+    ensures ok { OnOk result (Adds (link ∷ []) net.old net.new) }
+    ensures err { IfErr result (λ fault. IsStopped (link ∷ []) net.old fault) }
+{
+    if !net.joined.insert(ordered(link.a, link.b))? {
+        return Ok(());
+    }
+    if net.links.len() >= net.room {
+        return Err(ObjFault::TooMany);
+    }
+    net.links.push(link)?;
+    Ok(())
+}
+
+#[tactic(auto, unfolding(crate::specs::MeshLinks::link))]
+fn link(mesh: &ObjMesh, base: u32, kind: Kind, a: u32, b: u32) -> Link
+    requires mesh { FitsNet mesh.now base }
+    requires a { a < length mesh.now.places }
+    requires b { b < length mesh.now.places }
+    ensures { result ≡ link mesh.now base kind (a, b) }
+{
+    let places = mesh.places.as_slice();
+    Link {
+        a: base + a,
+        b: base + b,
+        rest: distance(places[a as usize], places[b as usize]),
+        k: 256,
+        tear: 0,
+        kind,
+        live: true,
+    }
+}
+
+/// Links each corner to the next, and the last to the first.
+fn add_ring(mesh: &ObjMesh, face: &[u32], net: &mut Net) -> Result<(), ObjFault>
+    requires mesh { FitsNet mesh.now net.old.base }
+    requires joined { HoldsJoined net.old }
+    requires face { Names mesh.now face.now }
+    ensures ok { OnOk result (Adds (face_links mesh.now net.old.base Kind.Stretch face.now) net.old net.new) }
+    ensures err { IfErr result (λ fault. IsStopped (face_links mesh.now net.old.base Kind.Stretch face.now) net.old fault) }
+{
+    for i in 0..face.len() {
+        let next = face[(i + 1) % face.len()];
+        let side = link(mesh, net.base, Kind::Stretch, face[i], next);
+        add(net, side)?;
+    }
+    Ok(())
+}
+
+/// Links both diagonals of a face with four corners.
+fn add_diagonals(mesh: &ObjMesh, face: &[u32], net: &mut Net) -> Result<(), ObjFault>
+    requires mesh { FitsNet mesh.now net.old.base }
+    requires joined { HoldsJoined net.old }
+    requires face { Names mesh.now face.now }
+    ensures ok { OnOk result (Adds (face_links mesh.now net.old.base Kind.Shear face.now) net.old net.new) }
+    ensures err { IfErr result (λ fault. IsStopped (face_links mesh.now net.old.base Kind.Shear face.now) net.old fault) }
+{
+    if face.len() != 4 {
+        return Ok(());
+    }
+    let first = link(mesh, net.base, Kind::Shear, face[0], face[2]);
+    let second = link(mesh, net.base, Kind::Shear, face[1], face[3]);
+    add(net, first)?;
+    add(net, second)
+}
+
+fn add_face(mesh: &ObjMesh, kind: Kind, face: &[u32], net: &mut Net) -> Result<(), ObjFault>
+    requires mesh { FitsNet mesh.now net.old.base }
+    requires joined { HoldsJoined net.old }
+    requires face { Names mesh.now face.now }
+    ensures ok { OnOk result (Adds (face_links mesh.now net.old.base kind face.now) net.old net.new) }
+    ensures err { IfErr result (λ fault. IsStopped (face_links mesh.now net.old.base kind face.now) net.old fault) }
+{
+    match kind {
+        Kind::Stretch => add_ring(mesh, face, net),
+        Kind::Shear => add_diagonals(mesh, face, net),
+        Kind::Bend | Kind::Plain => Ok(()),
+    }
+}
+
+fn add_kind(mesh: &ObjMesh, kind: Kind, net: &mut Net) -> Result<(), ObjFault>
+    requires mesh { IsMesh mesh.now }
+    requires fits { FitsNet mesh.now net.old.base }
+    requires joined { HoldsJoined net.old }
+    ensures ok { OnOk result (Adds (kind_links mesh.now net.old.base kind) net.old net.new) }
+    ensures err { IfErr result (λ fault. IsStopped (kind_links mesh.now net.old.base kind) net.old fault) }
+{
+    let sizes = mesh.sizes.as_slice();
+    let mut rest = mesh.corners.as_slice();
+    for size in sizes {
+        let (face, behind) = rest.split_at(*size as usize);
+        add_face(mesh, kind, face, net)?;
+        rest = behind;
+    }
+    Ok(())
+}
+
+/// The links of a mesh whose first vertex is particle `base`. `TooMany` comes where there are more
+/// than `room`.
+#[tactic(auto, unfolding(crate::specs::MeshLinks::mesh_links))]
+fn mesh_links(alloc: Global, mesh: &ObjMesh, base: u32, room: usize) -> Result<List<Link>, ObjFault>
+    requires mesh { IsMesh mesh.now }
+    requires fits { FitsNet mesh.now base }
+    ensures links { IfOk result (λ links. links ≡ mesh_links mesh.now base) }
+    ensures few { IfOk result (λ links. length links ≤ room) }
+    ensures err { IfErr result (λ fault. IsFullAt (mesh_links mesh.now base) room fault) }
+{
+    let mut net = Net {
+        base,
+        room,
+        links: List::new(alloc),
+        joined: BTreeSet::new(alloc),
+    };
+    add_kind(mesh, Kind::Stretch, &mut net)?;
+    add_kind(mesh, Kind::Shear, &mut net)?;
+    let Net { links, .. } = net;
+    Ok(links)
+}
+
+// ---- how many are at a particle
+
+/// The end of a link at which there are 32 already.
+fn counted_end(base: u32, link: &Link, counts: &[u32]) -> Option<u32>
+    requires { IsLinkFrom base (length counts.now) link.now }
+    ensures { result ≡ counted_end base counts.now link.now }
+{
+    if counts[(link.a - base) as usize] == MOST_AT_ONE {
+        Some(link.a)
+    } else if counts[(link.b - base) as usize] == MOST_AT_ONE {
+        Some(link.b)
+    } else {
+        None
+    }
+}
+
+fn no_counts(alloc: Global, count: usize) -> Result<Vec<u32>, AllocError>
+    ensures { IfOk result (λ counts. counts.items ≡ replicate count 0) }
+{
+    vec![in alloc; 0; count]
+}
+
+fn add_one(index: u32, counts: &mut Vec<u32>)
+    requires index { index < length counts.old.items }
+    requires fits { slice_index counts.old.items index < 2 ^ 31 }
+    ensures { counts.new.items ≡ slice_set counts.old.items index (slice_index counts.old.items index + 1) }
+{
+    counts[index as usize] += 1;
+}
+
+/// Counts a link at both its ends.
+fn count(base: u32, link: &Link, counts: &mut Vec<u32>)
+    requires link { IsLinkFrom base (length counts.old.items) link.now }
+    requires few { AreFew counts.old.items }
+    ensures { CountsLink base link.now counts.old.items counts.new.items }
+{
+    add_one(link.a - base, counts);
+    add_one(link.b - base, counts);
+}
+
+/// The first particle at which a link is the 33rd.
+#[tactic(auto, using(crate::proofs::AddLemmas::counts_begin))]
+fn first_overfull(
+    alloc: Global,
+    base: u32,
+    vertices: usize,
+    links: &[Link],
+) -> Result<Option<u32>, AllocError>
+    requires { All (IsLinkFrom base vertices) links.now }
+    ensures first { IfOk result (λ end. end ≡ first_overfull [] links.now) }
+    ensures within { IfOk result (λ end. IfSome end (IsFrom base vertices)) }
+{
+    let mut counts = no_counts(alloc, vertices)?;
+    for link in links {
+        if let Some(end) = counted_end(base, link, counts.as_slice()) {
+            return Ok(Some(end));
+        }
+        count(base, link, &mut counts);
+    }
+    Ok(None)
+}
+
+// ---- a scene and a mesh
+
+fn resting(place: Vec3) -> Particle
+    ensures { result ≡ resting place }
+{
+    Particle {
+        at: place,
+        before: place,
+        weight: 1,
+        held: false,
+    }
+}
+
+#[tactic(auto, using(crate::proofs::AddLemmas::pushed_begin, crate::proofs::AddLemmas::pushed_next, crate::proofs::AddLemmas::pushed_all, crate::proofs::AddLemmas::front_of))]
+fn push_particles(places: &[Vec3], particles: &mut List<Particle>) -> Result<(), AllocError>
+    ensures ok { OnOk result (particles.new ≡ particles.old ++ map {A = Vec3} {B = Particle} resting places.now) }
+    ensures err { OnErr result (take (length particles.old) particles.new ≡ particles.old) }
+{
+    for place in places {
+        particles.push(resting(*place))?;
+    }
+    Ok(())
+}
+
+#[tactic(auto, using(crate::proofs::AddLemmas::copied_begin, crate::proofs::AddLemmas::copied_next, crate::proofs::AddLemmas::front_of))]
+fn push_links(new: &[Link], links: &mut List<Link>) -> Result<(), AllocError>
+    ensures ok { OnOk result (links.new ≡ links.old ++ new.now) }
+    ensures err { OnErr result (take (length links.old) links.new ≡ links.old) }
+{
+    for link in new {
+        links.push(*link)?;
+    }
+    Ok(())
+}
+
+fn push_all(mesh: &ObjMesh, links: &[Link], parts: &mut Parts) -> Result<(), AllocError>
+    ensures ok { OnOk result (parts.new ≡ with_all (particles mesh.now) links.now parts.old) }
+    ensures err { OnErr result (WithFront parts.old parts.new) }
+{
+    push_particles(mesh.places.as_slice(), &mut parts.particles)?;
+    push_links(links, &mut parts.links)
+}
+
+/// Pushes the particles and links, or leaves the parts as they were.
+fn append(mesh: &ObjMesh, links: &[Link], parts: &mut Parts) -> Result<(), AllocError>
+    ensures ok { OnOk result (parts.new ≡ with_all (particles mesh.now) links.now parts.old) }
+    ensures err { OnErr result (parts.new ≡ parts.old) }
+{
+    let particles_before = parts.particles.len();
+    let links_before = parts.links.len();
+    let pushed = push_all(mesh, links, parts);
+    if pushed.is_err() {
+        parts.particles.truncate(particles_before);
+        parts.links.truncate(links_before);
+    }
+    pushed
+}
+
+/// Appends the vertices of a mesh as free particles of weight 1 at rest, and links them: along the
+/// sides of each face, and across each face with four corners. After a refusal the parts are as
+/// before. `TooMany` comes before `TooManyAtParticle`, which names the vertex of the first link that
+/// is the 33rd there.
+#[tactic(auto, unfolding(crate::specs::MeshLinks::with_mesh))]
+pub fn add_mesh(alloc: Global, mesh: &ObjMesh, parts: &mut Parts) -> Result<(), ObjFault>
+    requires mesh { IsMesh mesh.now }
+    requires valid { IsTrue (is_valid parts.old) }
+    requires limit { parts.old.limit ≡ pos 536870912 }
+    ensures ok { OnOk result (with_mesh mesh.now parts.old ≡ Ok parts.new) }
+    ensures err { IfErr result (λ fault. IsFaultOf (with_mesh mesh.now parts.old) fault) }
+    ensures kept { OnErr result (parts.new ≡ parts.old) }
+{
+    let base = parts.particles.len();
+    let vertices = mesh.places.len();
+    if vertices > MOST_PARTICLES - base {
+        return Err(ObjFault::TooMany);
+    }
+    let room = MOST_LINKS - parts.links.len();
+    let links = mesh_links(alloc, mesh, base as u32, room)?;
+    if let Some(end) = first_overfull(alloc, base as u32, vertices, links.as_slice())? {
+        let vertex = end - base as u32 + 1;
+        return Err(ObjFault::TooManyAtParticle { vertex });
+    }
+    append(mesh, links.as_slice(), parts)?;
+    Ok(())
+}

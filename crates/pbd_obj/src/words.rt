@@ -1,0 +1,56 @@
+//! Words that are counts, and signs before them.
+ghost use Rattle.std.specs.Prelude.{◌≡◌, ◌<◌, ◌≤◌, ◌^◌, IfSome, length};
+ghost use Rattle.std.specs.List.{list_all};
+ghost use Rattle.pbd_script.specs.Lines.{is_digit};
+ghost use Rattle.pbd_obj.specs.Decimals.{is_minus, without_sign, short_count};
+ghost use Rattle.pbd_obj.specs.Reading.{without_minus};
+
+use pbd_script::lines::count_of;
+
+pub fn is_minus(word: &[u8]) -> bool
+    ensures { result ≡ is_minus word.now }
+{
+    match word {
+        [first, ..] => *first == b'-',
+        [] => false,
+    }
+}
+
+/// The word without the `+` or `-` before it, if there is one.
+pub fn without_sign(word: &[u8]) -> &[u8]
+    ensures value { result.now ≡ without_sign word.now }
+{
+    match word {
+        [first, rest @ ..] if *first == b'+' || *first == b'-' => rest,
+        _ => word,
+    }
+}
+
+/// The word without the `-` before it, if there is one.
+pub fn without_minus(word: &[u8]) -> &[u8]
+    ensures { result.now ≡ without_minus word.now }
+{
+    match word {
+        [first, rest @ ..] if *first == b'-' => rest,
+        _ => word,
+    }
+}
+
+/// The number that 1 to `most` digits write.
+pub fn short_count(most: usize, word: &[u8]) -> Option<u64>
+    requires { most ≤ 18 }
+    ensures value { result ≡ short_count most word.now }
+    ensures size { IfSome result (λ n. n < 10 ^ most) }
+{
+    if word.len() <= most {
+        count_of(word)
+    } else {
+        None
+    }
+}
+
+pub fn are_digits(word: &[u8]) -> bool
+    ensures { result ≡ list_all is_digit word.now }
+{
+    word.iter().all(|b| 48 <= *b && *b <= 57)
+}
