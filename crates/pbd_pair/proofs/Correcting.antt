@@ -51,7 +51,7 @@ inside-placed limit ps i v within h w = record {
   ];
 }
 
-fixed_parts-placed : (ps : List Particle) (i : ℕ) (v : Vec3) → fixed_parts (placed ps i v) ≡ fixed_parts ps
+pub fixed_parts-placed : (ps : List Particle) (i : ℕ) (v : Vec3) → fixed_parts (placed ps i v) ≡ fixed_parts ps
 fixed_parts-placed ps i v = map-set_same (λ (p : Particle). record p { at = zero_vector }) ps i (record (particle_at ps i) { at = v }) no_particle refl
 
 pub inside-placed_by : (limit : ℤ) (ps : List Particle) (b : Bond) (c : Correction) → b.a < length ps → b.b < length ps → IsSound limit c → AreInside limit ps → AreInside limit (placed_by ps b c)

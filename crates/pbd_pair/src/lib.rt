@@ -9,12 +9,14 @@ mod gathered;
 mod laid;
 mod lanes;
 mod one;
+mod parts;
 mod projector;
 mod scalar;
 mod wide;
 
 pub use bonds::Bonds;
 pub use lanes::LaneProjector;
+pub use parts::{Note, book_moves, read_bond};
 pub use projector::Projector;
 pub use scalar::Scalar;
 
