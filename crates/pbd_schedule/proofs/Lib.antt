@@ -1,0 +1,10 @@
+pub mod Legality
+pub mod DrawingOn
+pub mod Mixing
+pub mod Counting
+pub mod Booking
+pub mod Standing
+pub mod Interleaving
+pub mod DrawnLegal
+pub mod Alike
+pub mod ReadsThenWrites

@@ -1,0 +1,5 @@
+pub mod Legal
+pub mod Mixed
+pub mod Drawn
+pub mod Notes
+pub mod Stages
