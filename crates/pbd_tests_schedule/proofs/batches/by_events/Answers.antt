@@ -1,0 +1,40 @@
+use Rattle.std.proofs.Common.{◌≡◌, ◌∙◌, ◌^◌, ap, arith, pos, length}
+use Rattle.std.proofs.lemmas.Int.{ints}
+use Rattle.pbd_world.specs.Ledger.{ledger_of}
+use Rattle.pbd_store.specs.Moving.{AreInside, Weigh}
+use Rattle.pbd_store.proofs.Fixed.{same_length}
+use Rattle.pbd_pair.specs.Projecting.{IsBatch}
+use Rattle.pbd_pair.specs.Examples.{is_batch}
+use Rattle.pbd_pair.proofs.Examples.{are_inside, weigh, batch_is, room_of_zero}
+use Rattle.pbd_tests_schedule.proofs.batches.by_events.Goals as goal
+
+pub run_events-answer-requires : goal.run_events-answer-requires
+run_events-answer-requires g c =
+    let bound = pos (2 ^ 29) in
+    let ps = c.args.particles.now in
+    let limit : c.in_ok-store.store.limit ≡ pos (2 ^ 29) = c.in_ok-store.ensures.limit in
+    let same : c.in_ok-store.store.particles ≡ ps = c.in_ok-store.ensures.particles in
+    let six : length c.in_ok-store.store.particles ≡ 6 = ap length same ∙ c.requires.six in (
+      omega arith,
+      (
+        c.requires.low,
+        (
+          c.requires.high,
+          (
+            coe 1 0 (i. IsBatch (limit i) (six i) c.args.bonds c.args.batch.now) (batch_is (pos (2 ^ 29)) 6 c.args.bonds c.args.batch.now c.requires.batch),
+            (
+              coe 1 0 (i. AreInside (limit i) (same i)) (are_inside (pos (2 ^ 29)) ps (omega (arith, ints)) c.requires.placed),
+              (
+                coe 1 0 (i. Weigh (same i)) (weigh (pos (2 ^ 29)) ps (omega (arith, ints)) c.requires.placed),
+                (room_of_zero (ledger_of c.zero-totals.result) c.zero-totals.ensures, c.requires.few),
+              ),
+            ),
+          ),
+        ),
+      ),
+    )
+
+pub all_particles-particles-requires : goal.all_particles-particles-requires
+all_particles-particles-requires g c =
+    let as_many = same_length c.run_events-answer.new.store.particles c.in_ok-store.store.particles c.run_events-answer.ensures.fixed in
+    omega (arith, c.requires.six, as_many, ap length c.in_ok-store.ensures.particles)

@@ -1,0 +1,120 @@
+//! Batches by events that are drawn.
+ghost use Rattle.std.specs.Prelude.{◌≡◌, ◌<◌};
+
+use crate::batches::{are_alike, by_projector};
+use pbd_num::Vec3;
+use pbd_pair::{Bonds, Projector, Scalar};
+use pbd_schedule::{Event, EventFault, ScrambleProjector};
+use pbd_store::Steps;
+use pbd_world::{Kind, Link, Particle};
+use std::alloc::{AllocError, Global};
+use std::marker::Brand;
+use std::sync::ledger::{Blank, Ledger};
+use std::test::Fail;
+
+// What the words of PCG-XSH-RR with stream 1 draw from the seed 7 for three bonds.
+const FROM_SEVEN: [Event; 9] = [
+    Event::Read(2),
+    Event::Read(1),
+    Event::WriteA(1),
+    Event::Read(0),
+    Event::WriteA(0),
+    Event::WriteB(0),
+    Event::WriteB(1),
+    Event::WriteA(2),
+    Event::WriteB(2),
+];
+
+// And from the seed 8.
+const FROM_EIGHT: [Event; 9] = [
+    Event::Read(1),
+    Event::Read(0),
+    Event::WriteA(1),
+    Event::Read(2),
+    Event::WriteA(2),
+    Event::WriteA(0),
+    Event::WriteB(2),
+    Event::WriteB(1),
+    Event::WriteB(0),
+];
+
+// What the words behind those of the seed 7 draw for two bonds.
+const AND_THEN: [Event; 6] = [
+    Event::Read(0),
+    Event::Read(1),
+    Event::WriteA(1),
+    Event::WriteA(0),
+    Event::WriteB(1),
+    Event::WriteB(0),
+];
+
+/// A seed draws these events for three bonds, and they come to what the scalar projector does.
+fn draws<G: Ledger>(
+    alloc: Global,
+    steps: &mut Steps<G>,
+    seed: u64,
+    events: &[Event],
+) -> Result<bool, AllocError> {
+    let mut projector = ScrambleProjector::open(alloc, seed)?;
+    let mut plain: Scalar<1> = Scalar::new();
+    let none_yet = projector.last_events().is_empty() && projector.handed() == 0;
+    let particles = [
+        free!(0, 0, 1),
+        free!(105, 0, 1),
+        free!(0, 1000, 1),
+        free!(110, 1000, 1),
+        free!(0, 2000, 1),
+        free!(100, 2000, 1),
+    ];
+    let links = [link!(0, 1), link!(2, 3), link!(4, 5)];
+    let bonds = Bonds::Links(&links);
+    let batch = [2, 0, 1];
+    let seen = by_projector(alloc, steps, &mut projector, &particles, bonds, &batch)?;
+    let wanted = by_projector(alloc, steps, &mut plain, &particles, bonds, &batch)?;
+    let moved = seen.answer == Ok(()) && seen.particles[0].at.x == 3;
+    let drawn = projector.last_events() == events && projector.handed() == 3;
+    Ok(none_yet && moved && are_alike(&seen, &wanted) && drawn)
+}
+
+/// The next batch goes on with the words, also where the one before it left.
+fn goes_on<G: Ledger>(
+    alloc: Global,
+    steps: &mut Steps<G>,
+    events: &[Event],
+) -> Result<bool, AllocError> {
+    let mut projector = ScrambleProjector::open(alloc, 7)?;
+    let particles = [
+        free!(0, 0, 1),
+        free!(105, 0, 1),
+        free!(0, 1000, 1),
+        free!(110, 1000, 1),
+        free!(536870912, 2000, 1),
+        free!(536870911, 2000, 1),
+    ];
+    let links = [link!(0, 1), link!(2, 3), link!(4, 5)];
+    let bonds = Bonds::Links(&links);
+    let first = by_projector(alloc, steps, &mut projector, &particles, bonds, &[0, 2, 1])?;
+    let left = first.answer == Err(EventFault::Left { element: 2 });
+    let next = by_projector(alloc, steps, &mut projector, &particles, bonds, &[1, 0])?;
+    let drawn = projector.last_events() == events && projector.handed() == 5;
+    Ok(left && next.answer == Ok(()) && drawn)
+}
+
+fn seeds<G: Ledger>(alloc: Global, blank: Blank) -> Result<[bool; 3], AllocError>
+    requires name { blank.name ≡ G.name }
+    requires parts { blank.parts ≡ G.parts }
+    requires some { 0 < blank.parts }
+{
+    let mut steps: Steps<G> = Steps::open(blank);
+    Ok([
+        draws(alloc, &mut steps, 7, &FROM_SEVEN)?,
+        draws(alloc, &mut steps, 8, &FROM_EIGHT)?,
+        goes_on(alloc, &mut steps, &AND_THEN)?,
+    ])
+}
+
+#[test]
+fn drawn_events(rt: HostRuntime) -> Result<(), Fail> {
+    assert_eq!(rt; seeds::<Brand>(rt.alloc(), Blank::new(1))?, [true; 3]);
+    Ok(())
+}

@@ -1,0 +1,150 @@
+//! Every list of up to seven events over two bonds: the illegal ones are refused, each at its first wrong event.
+ghost use Rattle.std.specs.Prelude.{◌≡◌, ◌<◌, ◌≤◌, ◌^◌, pos, IsTrue, length};
+ghost use Rattle.std.specs.List.{list_all};
+ghost use Rattle.pbd_pair.specs.Examples.{is_placed, is_batch};
+
+use crate::batches::by_events;
+use pbd_num::Vec3;
+use pbd_pair::Bonds;
+use pbd_schedule::{Event, EventFault, Notes};
+use pbd_store::Steps;
+use pbd_world::{Kind, Link, Particle};
+use std::alloc::{AllocError, Global};
+use std::marker::Brand;
+use std::sync::ledger::{Blank, Ledger};
+use std::test::Fail;
+
+/// How many lists ran, how many were refused where they had to be, with the particles as before, and how many
+/// came to something else.
+#[derive(Drop)]
+struct Tally {
+    ran: u32,
+    refused: u32,
+    wrong: u32,
+}
+
+/// One of the six events of two bonds.
+fn event_named(digit: u32) -> Event {
+    match digit {
+        0 => Event::Read(0),
+        1 => Event::WriteA(0),
+        2 => Event::WriteB(0),
+        3 => Event::Read(1),
+        4 => Event::WriteA(1),
+        _ => Event::WriteB(1),
+    }
+}
+
+/// The seven events that the digits of a number name, in base 6.
+fn events_named(number: u32) -> [Event; 7] {
+    let mut rest = number;
+    let mut events = [Event::Read(0); 7];
+    for i in 0..7 {
+        events[i] = event_named(rest % 6);
+        rest /= 6;
+    }
+    events
+}
+
+/// Whether an event comes in turn: it didn't come yet, and what it waits for did.
+fn is_in_turn(earlier: &[Event], event: Event) -> bool {
+    if earlier.contains(&event) {
+        return false;
+    }
+    match event {
+        Event::Read(_) => true,
+        Event::WriteA(k) => earlier.contains(&Event::Read(k)),
+        Event::WriteB(k) => earlier.contains(&Event::WriteA(k)),
+    }
+}
+
+/// How many events at the front of a list come in turn.
+fn in_turn(events: &[Event]) -> usize {
+    for i in 0..events.len() {
+        if !is_in_turn(&events[..i], events[i]) {
+            return i;
+        }
+    }
+    events.len()
+}
+
+/// The answer that a list of events of two bonds has to have. Six events in turn are all there are.
+fn wanted(events: &[Event]) -> Result<(), EventFault> {
+    match in_turn(events) {
+        6 if events.len() == 6 => Ok(()),
+        at => Err(EventFault::BadEvent {
+            at: u32::try_from(at).unwrap_or(u32::MAX),
+        }),
+    }
+}
+
+/// Runs all lists of a length. There are as many as `numbers`.
+fn all_lists<G: Ledger>(
+    alloc: Global,
+    steps: &mut Steps<G>,
+    particles: &[Particle],
+    bonds: Bonds<'_>,
+    batch: &[u32],
+    size: usize,
+    numbers: u32,
+) -> Result<Tally, AllocError>
+    requires six { length particles.now ≡ 6 }
+    requires placed { IsTrue (list_all (is_placed (pos (2 ^ 29))) particles.now) }
+    requires batch { IsTrue (is_batch (pos (2 ^ 29)) 6 bonds batch.now) }
+    requires size { size ≤ 7 }
+{
+    let mut notes = Notes::open(alloc)?;
+    let mut tally = Tally {
+        ran: 0,
+        refused: 0,
+        wrong: 0,
+    };
+    for number in 0..numbers {
+        let events = events_named(number);
+        let events = &events[..size];
+        let seen = by_events::<1, G>(alloc, steps, &mut notes, particles, bonds, batch, events)?;
+        if seen.answer != wanted(events) {
+            tally.wrong = tally.wrong.saturating_add(1);
+        } else if seen.answer.is_ok() {
+            tally.ran = tally.ran.saturating_add(1);
+        } else if seen.particles.as_slice() == particles {
+            tally.refused = tally.refused.saturating_add(1);
+        }
+    }
+    Ok(tally)
+}
+
+/// Lists of up to seven events, by their length. Of the 335,923 the 20 legal ones have six events.
+fn lists<G: Ledger>(alloc: Global, blank: Blank) -> Result<bool, AllocError>
+    requires name { blank.name ≡ G.name }
+    requires parts { blank.parts ≡ G.parts }
+    requires some { 0 < blank.parts }
+{
+    let mut steps: Steps<G> = Steps::open(blank);
+    let links = [link!(0, 1), link!(2, 3)];
+    let bonds = Bonds::Links(&links);
+    let particles = [
+        free!(0, 0, 1),
+        free!(105, 0, 2),
+        free!(0, 1000, 1),
+        free!(107, 1000, 1),
+        free!(0, 2000, 1),
+        free!(100, 2000, 1),
+    ];
+    let numbers = [1, 6, 36, 216, 1296, 7776, 46656, 279936];
+    let mut good = true;
+    for size in 0..8 {
+        let many = numbers[size];
+        let tally = all_lists(alloc, &mut steps, &particles, bonds, &[0, 1], size, many)?;
+        let legal = if size == 6 { 20 } else { 0 };
+        good = good && tally.ran == legal && tally.wrong == 0;
+        good = good && tally.refused.saturating_add(legal) == many;
+    }
+    Ok(good)
+}
+
+#[test]
+fn lists_of_events(rt: HostRuntime) -> Result<(), Fail> {
+    assert!(rt; lists::<Brand>(rt.alloc(), Blank::new(1))?);
+    Ok(())
+}
