@@ -8,7 +8,6 @@ use Rattle.pbd_world.specs.Particles.{Motion}
 use Rattle.pbd_pair.specs.declared.bonds.Bonds.{Bonds}
 use Rattle.pbd_pair.specs.Bonds.{bond_of, IsBond}
 use Rattle.pbd_pair.specs.Projecting.{ShareNone, IsBatch}
-use Rattle.pbd_pair.specs.declared.parts.Note.{Note}
 use Rattle.pbd_schedule.specs.declared.event.Event.{Event}
 use Rattle.pbd_schedule.specs.Legal.{IsLegal}
 use Rattle.pbd_schedule.specs.Mixed.{Mixed, no_note, noted_outcome, bond_at, mixed, interleaved}

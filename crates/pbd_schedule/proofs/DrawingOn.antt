@@ -1,11 +1,11 @@
 -- What may come after an event is drawn.
-use Rattle.std.proofs.Common.{◌≡◌, ℕ, zero, suc, [], ◌∷◌, ◌++◌, ◌+◌, ◌*◌, map, ◌-◌, ◌<◌, ◌≤◌, List, length, take, set, get_or, min, length-take, refl, sym, ◌∙◌, ap, arith, Option, Some, None}
+use Rattle.std.proofs.Common.{◌≡◌, ℕ, zero, suc, [], ◌∷◌, ◌++◌, ◌+◌, ◌*◌, map, ◌-◌, ◌<◌, ◌≤◌, List, length, take, set, length-take, refl, sym, ◌∙◌, ap, arith, Some, None}
 use Rattle.std.proofs.Math.Seq.{take-set-lt}
 use Rattle.std.proofs.lemmas.List.{get_or-take, append_assoc, append-nil}
 use Rattle.std.proofs.lemmas.List.Sums.{sum_by-set, sum_by-swap_remove, sum_by-cons}
 use Rattle.rand_pcg.specs.Lcg.{Lcg}
 use Rattle.rand_pcg.specs.Pcg.{pcg32}
-use Rattle.std.specs.List.{swap_remove, sum_by, range_with_len}
+use Rattle.std.specs.List.{sum_by, range_with_len}
 use Rattle.pbd_schedule.specs.declared.event.Event.{Event}
 use Rattle.pbd_schedule.specs.declared.event.Event.TheVariants.{Read, WriteA, WriteB}
 use Rattle.pbd_schedule.specs.Legal.{event_at}

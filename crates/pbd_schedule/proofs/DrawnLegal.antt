@@ -1,6 +1,6 @@
 -- Events that are drawn are legal.
-use Rattle.std.proofs.Common.{◌≡◌, ◌≢◌, ℕ, zero, suc, ◌+◌, ◌*◌, ◌-◌, ◌<◌, ◌≤◌, List, [], ◌∷◌, ◌++◌, length, take, set, get_or, map, replicate, Bool, true, false, refl, sym, ◌∙◌, ap, arith, subst, inl, inr, Option, Some, None}
-use Rattle.std.specs.List.{sum_by, range_with_len, swap_remove}
+use Rattle.std.proofs.Common.{◌≡◌, ◌≢◌, ℕ, zero, suc, ◌+◌, ◌*◌, ◌-◌, ◌<◌, List, [], ◌∷◌, ◌++◌, length, set, replicate, true, refl, sym, ◌∙◌, ap, arith, subst, inl, inr}
+use Rattle.std.specs.List.{swap_remove}
 use Rattle.std.proofs.Math.Nat.{mod-lt}
 use Rattle.std.proofs.lemmas.Bool.{cases_eq, and_from, lt-ltb, eq-eqb}
 use Rattle.std.proofs.lemmas.List.{get_or-set_same, get_or-set_other, length-set, length-take, get_or-take, get_or-replicate, length-replicate, append_assoc, append-nil}

@@ -1,6 +1,5 @@
 -- Legal events do what the bonds do one by one.
-use Rattle.std.proofs.Common.{◌≡◌, ◌≢◌, ℕ, zero, suc, ◌+◌, ◌<◌, ◌≤◌, ◌==◌, ◌&&◌, nat_lt, ℤ, List, [], ◌∷◌, ◌++◌, length, get_or, take, replicate, Bool, true, false, cond, IsTrue, refl, sym, ◌∙◌, ap, arith, subst, inl, inr, ◌⊎◌, Option, Some, None, Result, Ok, Err, pos}
-use Rattle.std.proofs.lemmas.Bool.{cases_eq, ltb-true, eqb-true, false≢true}
+use Rattle.std.proofs.Common.{◌≡◌, ℕ, zero, suc, ◌+◌, ◌<◌, ◌≤◌, ℤ, List, [], ◌∷◌, ◌++◌, length, get_or, replicate, Bool, true, false, cond, refl, sym, ◌∙◌, ap, arith, subst, inl, inr, Option, Some, None, Ok, Err}
 use Rattle.std.proofs.lemmas.List.{append-nil, append_assoc, get_or-set_same, get_or-set_other, length-set, length-replicate, get_or-replicate, ext_get_or}
 use Rattle.pbd_num.specs.Vectors.{zero_vector}
 use Rattle.pbd_world.specs.declared.parts.Particle.{Particle}
@@ -17,16 +16,16 @@ use Rattle.pbd_pair.specs.Bonds.{IsBond, IsSound}
 use Rattle.pbd_pair.specs.Lanes.{Lays, settled}
 use Rattle.pbd_pair.specs.Projecting.{ShareNone}
 use Rattle.pbd_pair.proofs.Correcting.{leaves_by, booked_by}
-use Rattle.pbd_pair.proofs.Together.{Together, first_by, second_by}
+use Rattle.pbd_pair.proofs.Together.{Together}
 use Rattle.pbd_pair.proofs.SideBySide.{find_below}
-use Rattle.pbd_pair.proofs.Reaching.{Reached, reached, reached_all, reached_leaves, books as lane_books}
+use Rattle.pbd_pair.proofs.Reaching.{reached, reached_all, reached_leaves}
 use Rattle.pbd_schedule.specs.declared.event.Event.{Event}
 use Rattle.pbd_schedule.specs.declared.event.EventFault.{EventFault}
 use Rattle.pbd_schedule.specs.declared.event.EventFault.TheVariants.{BadEvent, Left}
 use Rattle.pbd_schedule.specs.Legal.{position_of, IsLegal, BeginsLegal}
-use Rattle.pbd_schedule.specs.Mixed.{Mixed, no_note, note_at, note_of, is_leaving, first_leaving, unless_left, noted_outcome, bond_at, happened, mixed, interleaved}
+use Rattle.pbd_schedule.specs.Mixed.{Mixed, no_note, note_at, note_of, is_leaving, first_leaving, unless_left, noted_outcome, bond_at, happened, mixed}
 use Rattle.pbd_schedule.specs.Notes.{ComeTo, Faults}
-use Rattle.pbd_schedule.specs.Stages.{rank_of, stage_at, may_come, one_more, HaveCome, AreSound, mix_of}
+use Rattle.pbd_schedule.specs.Stages.{stage_at, may_come, one_more, HaveCome, AreSound, mix_of}
 use Rattle.pbd_schedule.proofs.Legality.{none_came, came_more, misplaced, all_stages, may_within, may_rank}
 use Rattle.pbd_schedule.proofs.Standing.{Stand, stand_more, first_at, second_at, booked_at, booked_up, booked_none, books}
 

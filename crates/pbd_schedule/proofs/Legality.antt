@@ -1,5 +1,5 @@
 -- Events that came in order begin a legal list, and no others do.
-use Rattle.std.proofs.Common.{◌≡◌, ℕ, zero, suc, ◌+◌, ◌<◌, ◌≤◌, ◌==◌, List, [], ◌∷◌, ◌++◌, length, take, drop, get_or, set, replicate, IsTrue, Bool, true, false, cond, not, ◌&&◌, nat_lt, filter, ◌≢◌, refl, sym, ◌∙◌, ap, arith, subst, inl, inr}
+use Rattle.std.proofs.Common.{◌≡◌, ℕ, zero, suc, ◌+◌, ◌<◌, ◌≤◌, ◌==◌, List, [], ◌∷◌, ◌++◌, length, take, drop, get_or, replicate, IsTrue, Bool, true, false, cond, ◌&&◌, nat_lt, ◌≢◌, refl, sym, ◌∙◌, ap, arith, subst, inl, inr}
 use Rattle.std.specs.List.{list_all}
 use Rattle.std.proofs.lemmas.Bool.{ltb-true, lt-ltb, false≢true, eq-eqb, eqb-true, ne_eqb, cases_eq, and_from}
 use Rattle.std.proofs.lemmas.List.{take-append-drop, get_or-set_same, get_or-set_other, length-set, get_or-replicate, append-nil, append_assoc}

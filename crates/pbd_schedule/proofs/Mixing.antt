@@ -1,5 +1,5 @@
 -- Notes, one after another.
-use Rattle.std.proofs.Common.{◌≡◌, ℕ, zero, suc, ◌+◌, ◌<◌, ◌≤◌, ℤ, List, [], ◌∷◌, length, drop, get_or, set, cond, true, false, refl, sym, ◌∙◌, ap, arith, subst, inl, inr, Option, Some, None}
+use Rattle.std.proofs.Common.{◌≡◌, ℕ, zero, suc, ◌<◌, ℤ, List, [], ◌∷◌, length, drop, get_or, set, cond, true, false, refl, sym, ◌∙◌, ap, arith, subst, inl, inr, Some}
 use Rattle.std.proofs.lemmas.Bool.{cases_eq}
 use Rattle.std.proofs.lemmas.List.{get_or-set_same, get_or-set_other, length-set}
 use Rattle.pbd_world.specs.declared.bond.Correction.{Correction}

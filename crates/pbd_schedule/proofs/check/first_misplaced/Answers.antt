@@ -1,4 +1,4 @@
-use Rattle.std.proofs.Common.{◌≡◌, ℕ, length, take, get_or, ap, sym, ◌∙◌, arith, subst}
+use Rattle.std.proofs.Common.{ℕ, length, take, get_or, sym, ◌∙◌, arith, subst}
 use Rattle.std.proofs.lemmas.List.{take_more}
 use Rattle.pbd_schedule.specs.declared.event.Event.TheVariants.{Read}
 use Rattle.pbd_schedule.specs.Legal.{BeginsLegal, IsMisplaced}

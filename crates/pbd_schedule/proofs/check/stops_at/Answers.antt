@@ -1,4 +1,4 @@
-use Rattle.std.proofs.Common.{◌≡◌, ℕ, length, ap, sym, ◌∙◌, arith, subst}
+use Rattle.std.proofs.Common.{ℕ, length, sym, subst}
 use Rattle.pbd_schedule.specs.Legal.{StopsAt}
 use Rattle.pbd_schedule.proofs.Legality.{stops_misplaced, stops_short}
 use Rattle.pbd_schedule.proofs.check.stops_at.Goals as goal

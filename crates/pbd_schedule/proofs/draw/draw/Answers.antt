@@ -8,7 +8,7 @@ use Rattle.pbd_world.specs.Room.{Roomed}
 use Rattle.pbd_schedule.specs.declared.event.Event.{Event}
 use Rattle.pbd_schedule.specs.declared.event.Event.TheVariants.{Read}
 use Rattle.pbd_schedule.specs.Legal.{event_at}
-use Rattle.pbd_schedule.specs.Drawn.{drawn_from, first_events, gone_on, drawn_place, later}
+use Rattle.pbd_schedule.specs.Drawn.{drawn_from, gone_on, drawn_place, later}
 use Rattle.pbd_schedule.proofs.DrawingOn.{still_to_come, all_reads, gone_fewer, drawn_more, later_more, none_more, some_left}
 use Rattle.pbd_schedule.proofs.draw.draw.Goals as goal
 

@@ -1,4 +1,4 @@
-use Rattle.std.proofs.Common.{◌≡◌, ℕ, ◌+◌, ◌*◌, ◌≤◌, ◌-◌, length, take, ◌++◌}
+use Rattle.std.proofs.Common.{◌≡◌, ◌+◌, ◌*◌, ◌≤◌, ◌-◌, length, take, ◌++◌}
 use Rattle.pbd_schedule.specs.Drawn.{drawn_from, first_events, later}
 use Rattle.pbd_schedule.proofs.DrawingOn.{still_to_come}
 use Rattle.pbd_schedule.proofs.draw.draw.Given as goal

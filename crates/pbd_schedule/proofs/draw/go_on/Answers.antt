@@ -1,4 +1,4 @@
-use Rattle.std.proofs.Common.{◌≡◌, ap, sym, ◌∙◌, arith}
+use Rattle.std.proofs.Common.{sym, ◌∙◌}
 use Rattle.pbd_schedule.proofs.draw.go_on.Goals as goal
 use Rattle.pbd_schedule.proofs.DrawingOn.{goes_on, goes_out}
 

@@ -1,4 +1,4 @@
-use Rattle.std.proofs.Common.{◌≡◌, ℕ, ap, ◌∙◌, arith, drop, add-one}
+use Rattle.std.proofs.Common.{ℕ, ap, ◌∙◌, arith, drop, add-one}
 use Rattle.pbd_schedule.specs.Mixed.{first_leaving}
 use Rattle.pbd_schedule.proofs.Mixing.{goes_on, not_leaving}
 use Rattle.pbd_schedule.proofs.mix.first_leaving.Goals as goal

@@ -1,5 +1,5 @@
-use Rattle.std.proofs.Common.{◌≡◌, ℕ, ap, sym, ◌∙◌, arith, drop, take, get_or, add-one, subst, ℤ, length, suc, List, ◌+◌}
-use Rattle.std.proofs.Math.Seq.{drop-cons, take-length}
+use Rattle.std.proofs.Common.{◌≡◌, ℕ, ap, sym, ◌∙◌, arith, drop, get_or, add-one, subst, ℤ, suc, List, ◌+◌}
+use Rattle.std.proofs.Math.Seq.{drop-cons}
 use Rattle.std.proofs.lemmas.List.Sums.{fold_more, sum_by-take-le}
 use Rattle.pbd_world.specs.Ledger.{ledger_of}
 use Rattle.pbd_world.proofs.Rooms.{room_at}

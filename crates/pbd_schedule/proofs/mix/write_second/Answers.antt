@@ -1,4 +1,4 @@
-use Rattle.std.proofs.Common.{◌≡◌, sym, subst}
+use Rattle.std.proofs.Common.{subst}
 use Rattle.pbd_world.specs.declared.bond.Correction.{Correction}
 use Rattle.pbd_pair.specs.Bonds.{IsSound}
 use Rattle.pbd_pair.proofs.Correcting.{fixed_parts-placed, inside-placed}

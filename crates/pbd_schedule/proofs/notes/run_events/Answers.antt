@@ -1,4 +1,4 @@
-use Rattle.std.proofs.Common.{◌≡◌, ℕ, ◌<◌, List, replicate, ap, sym, ◌∙◌, arith, length, subst}
+use Rattle.std.proofs.Common.{ℕ, List, replicate, ap, sym, ◌∙◌, arith, length, subst}
 use Rattle.std.proofs.lemmas.List.{length-replicate}
 use Rattle.pbd_world.specs.Lending.{overwritten_is}
 use Rattle.pbd_world.specs.Ledger.{ledger_of}

@@ -1,6 +1,5 @@
-use Rattle.std.proofs.Common.{◌≡◌, ℕ, List, ◌*◌, ap, sym, ◌∙◌, arith, length}
+use Rattle.std.proofs.Common.{◌≡◌, List, ◌*◌, ap, sym, ◌∙◌, arith, length}
 use Rattle.std.proofs.lemmas.List.FromFn.{length-map-range_with_len}
-use Rattle.rand_pcg.specs.Lcg.{Lcg}
 use Rattle.pbd_world.specs.Room.{Roomed}
 use Rattle.pbd_schedule.specs.declared.event.Event.{Event}
 use Rattle.pbd_schedule.specs.declared.event.Event.TheVariants.{Read}

@@ -1,10 +1,9 @@
 use Rattle.std.proofs.Common.{◌≡◌, ℕ, ◌<◌, List, ap, sym, ◌∙◌, arith, length, subst}
-use Rattle.rand_pcg.specs.Lcg.{Lcg}
 use Rattle.pbd_store.specs.Moving.{motion_of}
 use Rattle.pbd_pair.specs.Bonds.{bond_of}
 use Rattle.pbd_schedule.specs.declared.event.Event.{Event}
 use Rattle.pbd_schedule.specs.Legal.{IsLegal}
-use Rattle.pbd_schedule.specs.Drawn.{Drawing, drawn}
+use Rattle.pbd_schedule.specs.Drawn.{Drawing}
 use Rattle.pbd_schedule.proofs.DrawingOn.{length-drawn}
 use Rattle.pbd_schedule.proofs.DrawnLegal.{drawn_legal}
 use Rattle.pbd_schedule.proofs.Interleaving.{not_bad}
