@@ -4,7 +4,6 @@ use Rattle.pbd_world.specs.Ledger.{ledger_of}
 use Rattle.pbd_store.specs.Moving.{AreInside, Weigh}
 use Rattle.pbd_store.proofs.Fixed.{same_length}
 use Rattle.pbd_pair.specs.Projecting.{IsBatch}
-use Rattle.pbd_pair.specs.Examples.{is_batch}
 use Rattle.pbd_pair.proofs.Examples.{are_inside, weigh, batch_is, room_of_zero}
 use Rattle.pbd_tests_schedule.proofs.batches.by_projector.Goals as goal
 
