@@ -11,6 +11,7 @@ ghost use Rattle.pbd_step.specs.Projecting.{AreMovable};
 ghost use Rattle.pbd_step.specs.States.{world_of, now_of, HasLinks, IsUnderWay};
 
 use crate::bonds::{counts, project_all};
+use crate::leaving::leaving;
 use crate::state::{Setting, State, Tools};
 use pbd_colour::Colouring;
 use pbd_pair::{Bonds, Projector};
@@ -115,7 +116,7 @@ fn project_once<const L: usize, P: Projector<L>, G: Ledger>(
     ensures not_fallen { P.count projector.old ≤ P.count projector.new }
     ensures width { P.width projector.new ≡ P.width projector.old }
 {
-    let step = state.steps + 1;
+    let taken = state.steps;
     if let Err(left) = project_links(
         &mut state.store,
         &state.links,
@@ -124,11 +125,7 @@ fn project_once<const L: usize, P: Projector<L>, G: Ledger>(
         projector,
         steps,
     ) {
-        return Err(Refusal::LeavesRange {
-            step,
-            phase: Phase::Link,
-            element: left.element,
-        });
+        return Err(leaving(taken, Phase::Link, left));
     }
     if let Err(left) = project_contacts(
         &mut state.store,
@@ -138,11 +135,7 @@ fn project_once<const L: usize, P: Projector<L>, G: Ledger>(
         projector,
         steps,
     ) {
-        return Err(Refusal::LeavesRange {
-            step,
-            phase: Phase::Contact,
-            element: left.element,
-        });
+        return Err(leaving(taken, Phase::Contact, left));
     }
     if let Err(left) = push_out(
         &mut state.store,
@@ -152,11 +145,7 @@ fn project_once<const L: usize, P: Projector<L>, G: Ledger>(
         &mut state.totals,
         steps,
     ) {
-        return Err(Refusal::LeavesRange {
-            step,
-            phase: Phase::Shape,
-            element: left.element,
-        });
+        return Err(leaving(taken, Phase::Shape, left));
     }
     Ok(())
 }

@@ -12,6 +12,7 @@ ghost use Rattle.pbd_step.specs.Stepping.{finished};
 use crate::again::{restore, take_over};
 use crate::bonds::counts;
 use crate::contacts::find;
+use crate::leaving::leaving;
 use crate::pass::project_in_passes;
 use crate::predict::predict;
 use crate::settle::settle;
@@ -39,14 +40,10 @@ fn begin<const L: usize, G: Ledger>(
     ensures length { length state.new.store.particles ≡ length state.old.store.particles }
     ensures under_way { OnOk result (IsUnderWay (2 ^ 100) (world_of setting.now state.new)) }
 {
-    let next = state.steps + 1;
+    let taken = state.steps;
     match predict(setting, state, steps) {
         Ok(()) => Ok(()),
-        Err(left) => Err(Refusal::LeavesRange {
-            step: next,
-            phase: Phase::Predict,
-            element: left.element,
-        }),
+        Err(left) => Err(leaving(taken, Phase::Predict, left)),
     }
 }
 

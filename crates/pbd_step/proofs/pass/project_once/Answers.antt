@@ -1,5 +1,6 @@
-use Rattle.std.proofs.Common.{◌≡◌, ◌+◌, ◌^◌, ℕ, ℤ, pos, List, length, IsTrue, to_z, of_z, w64, arith, refl, sym, ◌∙◌, subst, Ok, Err}
+use Rattle.std.proofs.Common.{◌≡◌, ◌+◌, ◌^◌, ℕ, ℤ, pos, List, length, IsTrue, to_z, of_z, w64, arith, refl, sym, ap, ◌∙◌, subst, Ok, Err}
 use Rattle.pbd_world.specs.declared.parts.Link.{Link}
+use Rattle.pbd_world.specs.declared.command.Refusal.{Refusal}
 use Rattle.pbd_world.specs.Ledger.{ledger_of, HaveRoom}
 use Rattle.pbd_world.specs.Step.{Passing, link_part, contact_part}
 use Rattle.pbd_world.specs.Valid.{is_limit, is_between, are_valid_links, are_valid_planes, are_valid_spheres}
@@ -31,6 +32,7 @@ returns-in-Err-clause-outcome g c =
     let s : Passing = record { motion = now_of c.args.state.now; touched = c.args.tools.now.touched } in
     let n = c.in-Err.left.element in
     link_leaves w c.args.tools.now.found.pairs s n (link_part_is w c.deref.result.now s.motion (Err n) c.deref.ensures.value c.in-Err.ensures.outcome)
+    ∙ ap (λ (r : Refusal). Err r) (sym c.leaving.ensures)
 
 pub returns-in-Err-project_contacts-clause-outcome : goal.returns-in-Err-project_contacts-clause-outcome
 returns-in-Err-project_contacts-clause-outcome g c =
@@ -42,6 +44,7 @@ returns-in-Err-project_contacts-clause-outcome g c =
     let n = c.in-Err-project_contacts.left.element in
     let linked : link_part w s.motion ≡ Ok m = link_part_is w c.deref.result.now s.motion (Ok m) c.deref.ensures.value c.in_default.ensures.outcome in
     contact_leaves w pairs s m linked n (contact_part_is w pairs c.project_links.new.store.limit (to_z w64 (of_z w64 w.thickness)) m (Err n) c.project_links.ensures.limit (thickness_kept w.thickness (thickness_of w f)) c.in-Err-project_contacts.ensures.outcome)
+    ∙ ap (λ (r : Refusal). Err r) (sym c.leaving-in-Err-project_contacts.ensures)
 
 pub push_out-requires : goal.push_out-requires
 push_out-requires g c =
@@ -69,6 +72,7 @@ returns-in-Err-push_out-clause-outcome g c =
     let touched : contact_part w pairs m ≡ Ok k = contact_part_is w pairs c.project_links.new.store.limit (to_z w64 (of_z w64 w.thickness)) m (Ok k) c.project_links.ensures.limit (thickness_kept w.thickness (thickness_of w f)) c.in_default-project_contacts.ensures.outcome in
     let limit : c.project_contacts.new.store.limit ≡ w.limit = c.project_contacts.ensures.limit ∙ c.project_links.ensures.limit in
     shape_leaves w pairs s m linked k touched n (shape_part_is w (record s { motion = k }) c.project_contacts.new.store.limit c.as_slice.result.now c.as_slice-2.result.now (Err n) limit c.as_slice.ensures c.as_slice-2.ensures c.in-Err-push_out.ensures.outcome)
+    ∙ ap (λ (r : Refusal). Err r) (sym c.leaving-in-Err-push_out.ensures)
 
 pub returns-clause-outcome : goal.returns-clause-outcome
 returns-clause-outcome g c =
