@@ -1,10 +1,9 @@
 -- What the parts of a world in its ranges are.
-use Rattle.std.proofs.Common.{ℕ, List, pos, ◌≤ℤ◌, IsTrue}
+use Rattle.std.proofs.Common.{pos, ◌≤ℤ◌, IsTrue}
 use Rattle.pbd_world.specs.Valid.{is_well_formed}
 use Rattle.pbd_world.specs.World.{World, parts_of}
 use Rattle.pbd_world.proofs.WorldParts.{formed}
 use Rattle.pbd_store.specs.Moving.{AreInside}
-use Rattle.pbd_self.specs.Touching.{Found}
 use Rattle.pbd_store.proofs.Limits.{valid_inside}
 use Rattle.pbd_step.proofs.UnderWay.{between_parts, thickness_of}
 
@@ -13,6 +12,3 @@ thickness_range w h = between_parts (pos 1048576) w.thickness (thickness_of w (f
 
 pub places_inside : (w : World) → IsTrue (is_well_formed (parts_of w)) → AreInside w.limit w.particles
 places_inside w h = let f = formed (parts_of w) h in valid_inside w.limit w.particles f.limit f.particles
-
-abbrev pub as_found : ℕ → List (ℕ × ℕ) → Found
-as_found n pairs = record { particles = n; pairs = pairs }

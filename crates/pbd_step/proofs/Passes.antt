@@ -1,17 +1,16 @@
 -- One pass by its three parts, and passes one after another.
-use Rattle.std.proofs.Common.{◌≡◌, ap, sym, ◌∙◌, ℕ, suc, ◌+◌, ◌-◌, ◌*◌, ◌^◌, ◌<◌, ◌≤◌, min, add-mul, one-mul, List, arith, ℤ, Result, Ok, Err}
+use Rattle.std.proofs.Common.{◌≡◌, ap, sym, ◌∙◌, ℕ, suc, ◌+◌, ◌-◌, ◌*◌, ◌^◌, ◌<◌, ◌≤◌, min, add-mul, one-mul, Bool, List, arith, ℤ, Result, Ok, Err}
 use Rattle.pbd_world.specs.declared.command.Phase.TheVariants as phases
 use Rattle.pbd_world.specs.declared.command.Refusal.{Refusal}
 use Rattle.pbd_world.specs.declared.parts.Particle.{Particle}
-use Rattle.pbd_world.specs.declared.parts.Link.{Link}
 use Rattle.pbd_world.specs.declared.parts.Plane.{Plane}
 use Rattle.pbd_world.specs.declared.parts.Sphere.{Sphere}
 use Rattle.pbd_world.specs.Outcomes.{◌>>=◌, with_fault, repeated}
 use Rattle.pbd_world.specs.Ledger.{Ledger}
 use Rattle.pbd_world.specs.Particles.{Motion}
 use Rattle.pbd_world.specs.World.{World}
-use Rattle.pbd_world.specs.Bonds.{projected, link_bond, contact_bond}
-use Rattle.pbd_world.specs.Step.{Passing, pass, leaves, link_order, contact_order, link_part, contact_part, shape_part}
+use Rattle.pbd_world.specs.Bonds.{projected, contact_bond}
+use Rattle.pbd_world.specs.Step.{Passing, pass, leaves, contact_order, link_part, contact_part, shape_part}
 use Rattle.pbd_shape.specs.Shaping.{all_pushed}
 
 stage : {A C E F : Type 0} (f : E → F) (r : Result A E) (x : A) (k : A → Result C F) → r ≡ Ok x → (with_fault f r >>= k) ≡ k x
@@ -49,16 +48,13 @@ module _ (w : World) (contacts : List (ℕ × ℕ)) (s : Passing) where
       pub pass_done : (t : Passing) → shape_part w (record s { motion = k }) ≡ Ok t → pass w contacts s ≡ Ok t
       pass_done t e = touched_on ∙ ap (with_fault (leaves w phases.Shape)) e
 
--- ---- the three parts, by equal lists and numbers
+-- ---- the parts, by equal lists and numbers
 
-pub link_part_is : (w : World) (ls : List Link) (m : Motion) (r : Result Motion ℕ) → ls ≡ w.links → projected w.limit (link_bond ls) (link_order ls) m ≡ r → link_part w m ≡ r
-link_part_is w ls m r e h = (λ i. projected w.limit (link_bond (sym e i)) (link_order (sym e i)) m) ∙ h
+pub contact_part_is : (w : World) (contacts found : List (ℕ × ℕ)) (l t : ℤ) (m : Motion) (r : Result Motion ℕ) → found ≡ contacts → l ≡ w.limit → t ≡ w.thickness → projected l (contact_bond t found) (contact_order found) m ≡ r → contact_part w contacts m ≡ r
+contact_part_is w contacts found l t m r ef el et h = (λ i. projected (sym el i) (contact_bond (sym et i) (sym ef i)) (contact_order (sym ef i)) m) ∙ h
 
-pub contact_part_is : (w : World) (contacts : List (ℕ × ℕ)) (l t : ℤ) (m : Motion) (r : Result Motion ℕ) → l ≡ w.limit → t ≡ w.thickness → projected l (contact_bond t contacts) (contact_order contacts) m ≡ r → contact_part w contacts m ≡ r
-contact_part_is w contacts l t m r el et h = (λ i. projected (sym el i) (contact_bond (sym et i) contacts) (contact_order contacts) m) ∙ h
-
-pub shape_part_is : (w : World) (s : Passing) (l : ℤ) (planes : List Plane) (spheres : List Sphere) (r : Result Passing ℕ) → l ≡ w.limit → planes ≡ w.planes → spheres ≡ w.spheres → all_pushed l planes spheres s ≡ r → shape_part w s ≡ r
-shape_part_is w s l planes spheres r el ep es h = (λ i. all_pushed (sym el i) (sym ep i) (sym es i) s) ∙ h
+pub shape_part_is : (w : World) (s : Passing) (flags : List Bool) (l : ℤ) (planes : List Plane) (spheres : List Sphere) (r : Result Passing ℕ) → flags ≡ s.touched → l ≡ w.limit → planes ≡ w.planes → spheres ≡ w.spheres → all_pushed l planes spheres (record s { touched = flags }) ≡ r → shape_part w s ≡ r
+shape_part_is w s flags l planes spheres r ef el ep es h = (λ i. all_pushed (sym el i) (sym ep i) (sym es i) (record s { touched = sym ef i })) ∙ h
 
 -- a pass doesn't look at the particles and totals of its world
 pub same_pass : (w v : World) (ps : List Particle) (t : Ledger) (contacts : List (ℕ × ℕ)) (s : Passing) → v ≡ record w { particles = ps; totals = t } → pass v contacts s ≡ pass w contacts s

@@ -1,5 +1,6 @@
 pub mod Solving
 pub mod States
+pub mod Staying
 pub mod Projecting
 pub mod Stepping
 pub mod Predicting

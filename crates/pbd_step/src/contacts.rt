@@ -2,40 +2,40 @@
 ghost use Rattle.std.specs.Prelude.{◌≡◌, ⊤, ◌+◌, ◌<◌, ◌≤◌, ◌^◌, length, OnOk, MatchResult};
 ghost use Rattle.pbd_world.specs.Contacts.{contacts_of};
 ghost use Rattle.pbd_world.specs.declared.command.Refusal.TheVariants as refusals;
-ghost use Rattle.pbd_step.specs.States.{world_of, HasLinks, IsUnderWay};
+ghost use Rattle.pbd_step.specs.Staying.{IsGoing};
 
-use crate::state::{Setting, State};
-use pbd_colour::Colouring;
-use pbd_self::{SelfContacts, touching_pairs_are_contacts};
+use crate::state::{Running, Setting};
+use pbd_pair::Projector;
+use pbd_self::touching_pairs_are_contacts;
 use pbd_store::Steps;
 use pbd_world::{Full, Refusal};
 use std::sync::ledger::Ledger;
 
 /// Finds the contacts of the places as they are, or says in which step there are too many.
-pub(crate) fn find<const L: usize, G: Ledger>(
+pub(crate) fn find<const L: usize, P: Projector<L> + Drop, G: Ledger>(
     setting: &Setting,
-    state: &State<L>,
-    colours: &Colouring,
-    found: &mut SelfContacts,
+    run: &mut Running<L, P>,
     steps: &mut Steps<G>,
 ) -> Result<(), Refusal>
     requires lanes_low { 0 < L }
     requires lanes_high { L ≤ 16 }
-    requires under_way { IsUnderWay (2 ^ 118) (world_of setting.now state.now) }
-    requires links { HasLinks (length state.now.store.particles) state.now.links.items colours.now }
-    requires found { found.old.particles ≡ length state.now.store.particles }
-    requires count { state.now.steps < 2 ^ 63 }
-    ensures found { OnOk result (found.new ≡ record found.old { pairs = contacts_of setting.now.thickness state.now.links.items state.now.store.particles }) }
-    ensures few { OnOk result (length (contacts_of setting.now.thickness state.now.links.items state.now.store.particles) ≤ 262144) }
+    requires going { IsGoing (2 ^ 118) setting.now run.old }
+    ensures found { OnOk result (run.new.tools.found.pairs ≡ contacts_of setting.now.thickness run.old.state.links.items run.old.state.store.particles) }
+    ensures few { OnOk result (length (contacts_of setting.now.thickness run.old.state.links.items run.old.state.store.particles) ≤ 262144) }
     ensures full { MatchResult result (λ _. ⊤)
-        (λ refusal. (262144 < length (contacts_of setting.now.thickness state.now.links.items state.now.store.particles)) × (refusal ≡ refusals.TooManyContacts (state.now.steps + 1))) }
-    ensures particles { found.new.particles ≡ found.old.particles }
+        (λ refusal. (262144 < length (contacts_of setting.now.thickness run.old.state.links.items run.old.state.store.particles)) × (refusal ≡ refusals.TooManyContacts (run.old.state.steps + 1))) }
+    ensures particles { run.new.tools.found.particles ≡ run.old.tools.found.particles }
+    ensures stays { run.new ≡ record run.old { tools = record run.old.tools { found = run.new.tools.found } } }
 {
     touching_pairs_are_contacts();
-    match found.detect(&state.store, colours, setting.thickness, steps) {
+    match run
+        .tools
+        .found
+        .detect(&run.state.store, &run.colours, setting.thickness, steps)
+    {
         Ok(()) => Ok(()),
         Err(Full) => Err(Refusal::TooManyContacts {
-            step: state.steps + 1,
+            step: run.state.steps + 1,
         }),
     }
 }

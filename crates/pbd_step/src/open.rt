@@ -2,10 +2,12 @@
 ghost use Rattle.std.specs.Prelude.{◌≡◌, ◌≤◌, length, IfOk, IsTrue};
 ghost use Rattle.pbd_world.specs.Valid.{is_valid};
 ghost use Rattle.pbd_step.specs.Opening.{AreCopied, IsFirst};
-ghost use Rattle.pbd_step.specs.States.{HaveSpace};
+ghost use Rattle.pbd_step.specs.States.{HasLinks, HaveSpace};
 
-use crate::state::{Setting, State, Tools};
+use crate::again::open_colours;
+use crate::state::{Running, Setting, State, Tools};
 use pbd_ledger::momentum_of;
+use pbd_pair::Projector;
 use pbd_self::SelfContacts;
 use pbd_shape::Touched;
 use pbd_store::Store;
@@ -100,5 +102,30 @@ pub(crate) fn open_tools(alloc: Global, particles: u32, links: u32) -> Result<To
         touched,
         pairs,
         numbers,
+    })
+}
+
+/// A state before the first step, with what its steps work with.
+pub(crate) fn open_running<const L: usize, P: Projector<L> + Drop>(
+    alloc: Global,
+    parts: &Parts,
+    projector: P,
+) -> Result<Running<L, P>, AllocError>
+    requires lanes { L ≤ 16 }
+    requires valid { IsTrue (is_valid parts.now) }
+    ensures state { IfOk result (λ run. IsFirst parts.now run.state) }
+    ensures links { IfOk result (λ run. HasLinks (length parts.now.particles) parts.now.links run.colours) }
+    ensures space { IfOk result (λ run. HaveSpace (length parts.now.particles) (length parts.now.links) run.tools) }
+    ensures projector { IfOk result (λ run. run.projector ≡ projector) }
+{
+    let particles = parts.particles.len() as u32;
+    let state = open_state(alloc, parts)?;
+    let mut tools = open_tools(alloc, particles, parts.links.len() as u32)?;
+    let colours = open_colours(alloc, particles, parts.links.as_slice(), &mut tools)?;
+    Ok(Running {
+        state,
+        colours,
+        tools,
+        projector,
     })
 }

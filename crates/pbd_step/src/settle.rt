@@ -1,15 +1,16 @@
 // The end of a step: friction, and the links that tear.
-ghost use Rattle.std.specs.Prelude.{◌≡◌, ◌+◌, ◌<◌, ◌≤◌, ◌^◌, ℕ, List, length, slice_index};
+ghost use Rattle.std.specs.Prelude.{◌≡◌, ◌<◌, ◌≤◌, ◌^◌, ℕ, length, slice_index};
 ghost use Rattle.pbd_world.specs.Step.{settled, rub as rubbed_motion};
-ghost use Rattle.pbd_step.specs.States.{world_of, now_of, HasLinks, IsUnderWay};
+ghost use Rattle.pbd_step.specs.States.{world_of, HasLinks};
+ghost use Rattle.pbd_step.specs.Staying.{IsGoing, StaysInStep, passing_of};
 ghost use Rattle.pbd_step.specs.Settling.{LetGo};
 
-use crate::state::{Setting, State};
-use pbd_colour::Colouring;
-use pbd_shape::{Touched, rub};
+use crate::state::{Running, Setting};
+use pbd_pair::Projector;
+use pbd_shape::rub;
 use pbd_store::Steps;
 use pbd_tear::torn as find_torn;
-use pbd_world::{Link, RoomList};
+use pbd_world::Link;
 use std::sync::ledger::Ledger;
 
 /// Lets the links of some numbers go.
@@ -24,40 +25,35 @@ fn let_go(links: &mut Vec<Link>, numbers: &[u32])
 
 /// Slows the particles that shapes touched, lets all links that are too long go together, mends the colours of
 /// the others, and counts the step.
-pub(crate) fn settle<const L: usize, G: Ledger>(
+pub(crate) fn settle<const L: usize, P: Projector<L> + Drop, G: Ledger>(
     setting: &Setting,
-    state: &mut State<L>,
-    colours: &mut Colouring,
-    contacts: u32,
-    touched: &Touched,
-    torn: &mut RoomList<u32>,
+    run: &mut Running<L, P>,
     steps: &mut Steps<G>,
 )
     requires lanes_low { 0 < L }
     requires lanes_high { L ≤ 16 }
-    requires under_way { IsUnderWay (2 ^ 102) (world_of setting.now state.old) }
-    requires links { HasLinks (length state.old.store.particles) state.old.links.items colours.old }
-    requires flags { length touched.now ≡ length state.old.store.particles }
-    requires room { length state.old.links.items ≤ torn.old.room }
-    requires count { state.old.steps < 2 ^ 63 }
-    ensures world { (pairs : List (ℕ × ℕ)) → length pairs ≡ contacts → world_of setting.now state.new ≡ settled (world_of setting.now state.old) pairs (rubbed_motion setting.now.friction (record { motion = now_of state.old; touched = touched.now })) }
-    ensures links { HasLinks (length state.old.store.particles) state.new.links.items colours.new }
-    ensures limit { state.new.store.limit ≡ state.old.store.limit }
-    ensures length { length state.new.store.particles ≡ length state.old.store.particles }
-    ensures links_length { length state.new.links.items ≡ length state.old.links.items }
-    ensures pairs { colours.new ≡ record colours.old { live = colours.new.live } }
-    ensures room { torn.new.room ≡ torn.old.room }
+    requires going { IsGoing (2 ^ 102) setting.now run.old }
+    ensures world { world_of setting.now run.new.state ≡ settled (world_of setting.now run.old.state) run.old.tools.found.pairs (rubbed_motion setting.now.friction (passing_of run.old)) }
+    ensures links { HasLinks (length run.old.state.store.particles) run.new.state.links.items run.new.colours }
+    ensures stays { StaysInStep P.count P.width run.old run.new }
+    ensures projector { run.new.projector ≡ run.old.projector }
 {
+    let contacts = run.tools.found.count();
     rub(
-        &mut state.store,
+        &mut run.state.store,
         setting.friction,
-        touched,
-        &mut state.totals,
+        &run.tools.touched,
+        &mut run.state.totals,
         steps,
     );
-    find_torn(&state.store, &state.links, torn, steps);
-    let_go(&mut state.links, torn.as_slice());
-    colours.drop_pairs(torn.as_slice());
-    state.steps += 1;
-    state.contacts = contacts;
+    find_torn(
+        &run.state.store,
+        &run.state.links,
+        &mut run.tools.numbers,
+        steps,
+    );
+    let_go(&mut run.state.links, run.tools.numbers.as_slice());
+    run.colours.drop_pairs(run.tools.numbers.as_slice());
+    run.state.steps += 1;
+    run.state.contacts = contacts;
 }

@@ -7,12 +7,11 @@ ghost use Rattle.pbd_world.specs.Particles.{particle_at};
 ghost use Rattle.pbd_world.specs.World.{opened, live_count, IsSound, AreOfOneScene};
 ghost use Rattle.pbd_step.specs.Solving.{bonds_over};
 
-use crate::again::{open_colours, restore};
+use crate::again::restore;
 use crate::commands::{cut, pin, place_held, set_gravity, unpin};
-use crate::open::{open_setting, open_state, open_tools};
-use crate::state::{Setting, State, Tools};
+use crate::open::{open_running, open_setting, open_state};
+use crate::state::{Running, Setting, State};
 use crate::step::run_whole;
-use pbd_colour::Colouring;
 use pbd_ledger::momentum;
 use pbd_num::Vec3;
 use pbd_pair::Projector;
@@ -29,11 +28,8 @@ use std::sync::ledger::Ledger;
 #[derive(Drop)]
 pub struct Solver<const L: usize, P: Projector<L> + Drop> {
     setting: Setting,
-    state: State<L>,
+    run: Running<L, P>,
     kept: State<L>,
-    colours: Colouring,
-    tools: Tools,
-    projector: P,
 }
 
 impl<const L: usize, P: Projector<L> + Drop> Model for Solver<L, P> {
@@ -42,11 +38,11 @@ impl<const L: usize, P: Projector<L> + Drop> Model for Solver<L, P> {
 
     ghost Value = { Solved P };
 
-    ghost view = { λ s. record { world = world_of s.setting s.state; projector = s.projector } };
+    ghost view = { λ s. record { world = world_of s.setting s.run.state; projector = s.run.projector } };
 
     ghost use Rattle.pbd_step.specs.Solving.{IsKept};
 
-    ghost invariant = { λ s. IsKept s.setting s.state s.kept s.colours s.tools };
+    ghost invariant = { λ s. IsKept s.setting s.run.state s.kept s.run.colours s.run.tools };
 }
 
 impl<const L: usize, P: Projector<L> + Drop> Solver<L, P> {
@@ -58,20 +54,10 @@ impl<const L: usize, P: Projector<L> + Drop> Solver<L, P> {
         ensures projector { IfOk result (λ s. s.projector ≡ projector) }
     {
         let parts = scene.parts();
-        let particles = parts.particles.len() as u32;
         let setting = open_setting(alloc, parts)?;
-        let state = open_state(alloc, parts)?;
+        let run = open_running(alloc, parts, projector)?;
         let kept = open_state(alloc, parts)?;
-        let mut tools = open_tools(alloc, particles, parts.links.len() as u32)?;
-        let colours = open_colours(alloc, particles, parts.links.as_slice(), &mut tools)?;
-        Ok(Solver {
-            setting,
-            state,
-            kept,
-            colours,
-            tools,
-            projector,
-        })
+        Ok(Solver { setting, run, kept })
     }
 
     /// Takes n steps, 1 to 100,000. A refusal keeps the world: `BadCount` where there are none or more, `StepLimit`
@@ -90,23 +76,14 @@ impl<const L: usize, P: Projector<L> + Drop> Solver<L, P> {
         ensures sound { IsSound self.new.world }
         ensures one_scene { AreOfOneScene self.old.world self.new.world }
     {
-        let count = self.state.steps;
+        let count = self.run.state.steps;
         if n < 1 || 100_000 < n {
             return Err(Refusal::BadCount);
         }
         if 1_000_000 < count + n {
             return Err(Refusal::StepLimit);
         }
-        run_whole(
-            &self.setting,
-            &mut self.state,
-            &mut self.kept,
-            &mut self.colours,
-            &mut self.tools,
-            &mut self.projector,
-            n,
-            steps,
-        )
+        run_whole(&self.setting, &mut self.run, &mut self.kept, n, steps)
     }
 
     /// Holds particle i where it is, and books its velocity to pin. `NoParticle` where there is none, `Held` where it is
@@ -122,7 +99,7 @@ impl<const L: usize, P: Projector<L> + Drop> Solver<L, P> {
         ensures sound { IsSound self.new.world }
         ensures one_scene { AreOfOneScene self.old.world self.new.world }
     {
-        pin(&self.setting, &mut self.state, i, steps)
+        pin(&self.setting, &mut self.run.state, i, steps)
     }
 
     /// Frees particle i, at rest. `NoParticle` where there is none, `NotHeld` where it is free, `Tracked` where a track
@@ -138,7 +115,7 @@ impl<const L: usize, P: Projector<L> + Drop> Solver<L, P> {
         ensures sound { IsSound self.new.world }
         ensures one_scene { AreOfOneScene self.old.world self.new.world }
     {
-        unpin(&self.setting, &mut self.state, i, steps)
+        unpin(&self.setting, &mut self.run.state, i, steps)
     }
 
     /// Puts the held particle i at a place. `NoParticle` where there is none, `OutOfRange` where the place is outside
@@ -159,7 +136,7 @@ impl<const L: usize, P: Projector<L> + Drop> Solver<L, P> {
         ensures sound { IsSound self.new.world }
         ensures one_scene { AreOfOneScene self.old.world self.new.world }
     {
-        place_held(&self.setting, &mut self.state, i, to, steps)
+        place_held(&self.setting, &mut self.run.state, i, to, steps)
     }
 
     /// Lets link l go, and mends the colours of the others. `NoLink` where there is none, `LinkGone` where it is live no
@@ -175,7 +152,7 @@ impl<const L: usize, P: Projector<L> + Drop> Solver<L, P> {
         ensures sound { IsSound self.new.world }
         ensures one_scene { AreOfOneScene self.old.world self.new.world }
     {
-        cut(&self.setting, &mut self.state, &mut self.colours, l)
+        cut(&self.setting, &mut self.run.state, &mut self.run.colours, l)
     }
 
     /// Sets gravity, in units per step squared. `OutOfRange` where it is outside the limit.
@@ -190,7 +167,7 @@ impl<const L: usize, P: Projector<L> + Drop> Solver<L, P> {
         ensures sound { IsSound self.new.world }
         ensures one_scene { AreOfOneScene self.old.world self.new.world }
     {
-        set_gravity(&mut self.setting, &self.state, g)
+        set_gravity(&mut self.setting, &self.run.state, g)
     }
 
     /// Takes over the world of another solver of one scene.
@@ -203,10 +180,10 @@ impl<const L: usize, P: Projector<L> + Drop> Solver<L, P> {
     {
         self.setting.gravity = other.setting.gravity;
         restore(
-            &mut self.state,
-            &other.state,
-            &mut self.colours,
-            &mut self.tools,
+            &mut self.run.state,
+            &other.run.state,
+            &mut self.run.colours,
+            &mut self.run.tools,
         );
     }
 
@@ -217,7 +194,7 @@ impl<const L: usize, P: Projector<L> + Drop> Solver<L, P> {
         requires lanes_high { L ≤ 16 }
         ensures { result.now ≡ self.now.projector }
     {
-        &self.projector
+        &self.run.projector
     }
 
     /// The greatest size of a coordinate: 2^28 or 2^29.
@@ -226,7 +203,7 @@ impl<const L: usize, P: Projector<L> + Drop> Solver<L, P> {
         ensures value { result ≡ self.now.world.limit }
         ensures sound { IsSound self.now.world }
     {
-        self.state.store.limit()
+        self.run.state.store.limit()
     }
 
     /// Particle i.
@@ -237,7 +214,7 @@ impl<const L: usize, P: Projector<L> + Drop> Solver<L, P> {
         ensures at { Within (2 ^ 29) result.at }
         ensures before { Within (2 ^ 29) result.before }
     {
-        self.state.store.at(i, steps)
+        self.run.state.store.at(i, steps)
     }
 
     /// How many particles there are, at most 65,536.
@@ -246,7 +223,7 @@ impl<const L: usize, P: Projector<L> + Drop> Solver<L, P> {
         ensures value { result ≡ length self.now.world.particles }
         ensures size { result ≤ 65536 }
     {
-        self.state.store.len()
+        self.run.state.store.len()
     }
 
     /// How many links are live.
@@ -254,7 +231,7 @@ impl<const L: usize, P: Projector<L> + Drop> Solver<L, P> {
         requires lanes_high { L ≤ 16 }
         ensures { result ≡ live_count self.now.world.links }
     {
-        self.colours.live_count()
+        self.run.colours.live_count()
     }
 
     /// How many contacts the last step found, at most 262,144.
@@ -262,7 +239,7 @@ impl<const L: usize, P: Projector<L> + Drop> Solver<L, P> {
         requires lanes_high { L ≤ 16 }
         ensures value { result ≡ self.now.world.contacts }
     {
-        self.state.contacts
+        self.run.state.contacts
     }
 
     /// How many steps were taken, at most 1,000,000.
@@ -270,7 +247,7 @@ impl<const L: usize, P: Projector<L> + Drop> Solver<L, P> {
         requires lanes_high { L ≤ 16 }
         ensures value { result ≡ self.now.world.steps }
     {
-        self.state.steps
+        self.run.state.steps
     }
 
     /// The sums of all moves since opening, by what made them.
@@ -278,7 +255,7 @@ impl<const L: usize, P: Projector<L> + Drop> Solver<L, P> {
         requires lanes_high { L ≤ 16 }
         ensures { ledger_of result.now ≡ self.now.world.totals }
     {
-        &self.state.totals
+        &self.run.state.totals
     }
 
     /// The momentum at opening.
@@ -294,6 +271,6 @@ impl<const L: usize, P: Projector<L> + Drop> Solver<L, P> {
         requires lanes_high { L ≤ 16 }
         ensures { sum_of result ≡ momentum_of self.now.world.particles }
     {
-        momentum(&self.state.store, steps)
+        momentum(&self.run.state.store, steps)
     }
 }

@@ -1,6 +1,7 @@
 // What a solver is made of.
 use pbd_colour::Colouring;
 use pbd_num::Vec3;
+use pbd_pair::Projector;
 use pbd_self::SelfContacts;
 use pbd_shape::Touched;
 use pbd_store::Store;
@@ -37,4 +38,13 @@ pub struct Tools {
     pub(crate) touched: Touched,
     pub(crate) pairs: RoomList<(u32, u32)>,
     pub(crate) numbers: RoomList<u32>,
+}
+
+/// A state, and what its steps work with.
+#[derive(Drop)]
+pub struct Running<const L: usize, P: Projector<L> + Drop> {
+    pub(crate) state: State<L>,
+    pub(crate) colours: Colouring,
+    pub(crate) tools: Tools,
+    pub(crate) projector: P,
 }

@@ -7,13 +7,14 @@ use Rattle.pbd_colour.specs.Pairs.{InRange}
 use Rattle.pbd_pair.specs.declared.bonds.Bonds.TheVariants.{Contacts}
 use Rattle.pbd_step.specs.Projecting.{AreBondsOf}
 use Rattle.pbd_step.proofs.Counting.{contacts_count}
+use Rattle.pbd_step.proofs.Staying.{part_in_pass}
 use Rattle.pbd_step.proofs.UnderWay.{contact_bonds, ok_both, still_movable}
 use Rattle.pbd_step.proofs.pass.project_contacts.Goals as goal
 
 pub project_all-requires : goal.project_all-requires
 project_all-requires g c =
-    let limit = c.args.store.now.limit in
-    let n : ℕ = length c.args.store.now.particles in
+    let limit = c.args.run.now.state.store.limit in
+    let n : ℕ = length c.args.run.now.state.store.particles in
     let pairs = c.pairs.result.now in
     let fit : FitsSigned w64 c.args.thickness = c.ranges.thickness in
     let same : to_z w64 (of_z w64 c.args.thickness) ≡ c.args.thickness = to_z-of_z w64 c.args.thickness fit in
@@ -28,23 +29,28 @@ pub returns-clause-outcome : goal.returns-clause-outcome
 returns-clause-outcome g c =
     let fit : FitsSigned w64 c.args.thickness = c.ranges.thickness in
     let same : to_z w64 (of_z w64 c.args.thickness) ≡ c.args.thickness = to_z-of_z w64 c.args.thickness fit in
-    let limit = c.args.store.now.limit in
+    let limit = c.args.run.now.state.store.limit in
     let value = c.pairs.ensures.value in
     let pairs = c.colouring.ensures.pairs in
     let live = c.colouring.ensures.live in
-    let start = motion_of c.args.store.now c.args.totals.now in
+    let start = motion_of c.args.run.now.state.store c.args.run.now.state.totals in
     let now = motion_of c.project_all.new.store c.project_all.new.totals in
     coe 0 1 (i. MatchResult c.project_all.result
     (λ _. projected limit (contact_bond (same i) (value i)) (order (pairs i) (live i)) start ≡ Ok now)
     (λ left. projected limit (contact_bond (same i) (value i)) (order (pairs i) (live i)) start ≡ Err left.element))
     c.project_all.ensures.outcome
 
+pub returns-clause-stays : goal.returns-clause-stays
+returns-clause-stays g c =
+    let run = c.args.run.now in
+    part_in_pass run (record run.state { store = c.project_all.new.store; totals = c.project_all.new.totals }) run.tools.touched c.project_all.new.projector refl c.project_all.ensures.limit c.project_all.ensures.fixed refl c.project_all.ensures.not_fallen c.project_all.ensures.width
+
 pub returns-clause-movable : goal.returns-clause-movable
 returns-clause-movable g c = ok_both c.project_all.result (still_movable (2 ^ 60) c.project_all.ensures.limit c.project_all.ensures.fixed) c.project_all.ensures.inside c.project_all.ensures.room
 
 pub returns-clause-handed : goal.returns-clause-handed
 returns-clause-handed g c =
-    let before = g.P.Projector.count c.args.projector.now in
+    let before = g.P.Projector.count c.args.run.now.projector in
     let after = g.P.Projector.count c.project_all.new.projector in
-    let same : length (order c.colouring.result.now.pairs c.colouring.result.now.live) ≡ length c.args.found.now.pairs = (λ i. length (order (c.colouring.ensures.pairs i) (c.colouring.ensures.live i))) ∙ contacts_count c.args.found.now.pairs in
+    let same : length (order c.colouring.result.now.pairs c.colouring.result.now.live) ≡ length c.args.run.now.tools.found.pairs = (λ i. length (order (c.colouring.ensures.pairs i) (c.colouring.ensures.live i))) ∙ contacts_count c.args.run.now.tools.found.pairs in
     subst (λ (k : ℕ). OnOk c.project_all.result (after ≡ min (before + k) (2 ^ 64 - 1))) same c.project_all.ensures.handed

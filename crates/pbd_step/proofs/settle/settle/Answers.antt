@@ -1,10 +1,10 @@
-use Rattle.std.proofs.Common.{◌∙◌, ◌≡◌, ◌+◌, ◌^◌, ℕ, List, length, sym, ap, arith, subst}
+use Rattle.std.proofs.Common.{◌∙◌, ◌≡◌, ◌+◌, ◌^◌, ℕ, List, length, refl, sym, ap, arith, subst}
 use Rattle.std.proofs.lemmas.Int.{to_z-of_z}
 use Rattle.pbd_num.proofs.Sizes.{fits}
 use Rattle.pbd_world.specs.Step.{tear}
 use Rattle.pbd_world.specs.World.{parts_of}
 use Rattle.pbd_world.proofs.WorldParts.{formed, numbers_of}
-use Rattle.pbd_colour.specs.Pairs.{dropped}
+use Rattle.pbd_colour.specs.Pairs.{Coloured, dropped}
 use Rattle.pbd_world.proofs.Rooms.{room_at}
 use Rattle.pbd_tear.specs.Tearing.{torn_numbers}
 use Rattle.pbd_tear.proofs.Numbers.{torn_ascend}
@@ -17,55 +17,64 @@ use Rattle.pbd_step.proofs.settle.settle.Goals as goal
 
 pub rub-requires : goal.rub-requires
 rub-requires g c =
-    let w = world_of c.args.setting.now c.args.state.now in
-    let whole = c.requires.under_way.well_formed in
+    let w = world_of c.args.setting.now c.args.run.now.state in
+    let whole = c.requires.going.under_way.well_formed in
     let small = fits c.args.setting.now.friction (omega (arith, (numbers_of w (formed (parts_of w) whole)).friction_high)) in
-    (omega arith, (c.requires.lanes_low, (c.requires.lanes_high, (simp to_z-of_z (formed_friction w whole), (c.requires.flags, (formed_within w whole, room_at (2 ^ 120) (omega arith) c.requires.under_way.room))))))
+    (omega arith, (c.requires.lanes_low, (c.requires.lanes_high, (simp to_z-of_z (formed_friction w whole), (c.requires.going.space.touched, (formed_within w whole, room_at (2 ^ 120) (omega arith) c.requires.going.under_way.room))))))
 
 pub torn-requires : goal.torn-requires
 torn-requires g c =
-    let w = world_of c.args.setting.now c.args.state.now in
-    let many = still_many c.rub.new.store.particles c.args.state.now.store.particles c.rub.ensures.settled in
-    let links = (formed (parts_of w) c.requires.under_way.well_formed).links in
-    (omega arith, (rw (c.deref.ensures.value, c.rub.ensures.limit, many) links, (rw c.rub.ensures.limit (record { each = c.rub.ensures.within.at }), rw c.deref.ensures.value c.requires.room)))
+    let w = world_of c.args.setting.now c.args.run.now.state in
+    let many = still_many c.rub.new.store.particles c.args.run.now.state.store.particles c.rub.ensures.settled in
+    let links = (formed (parts_of w) c.requires.going.under_way.well_formed).links in
+    (omega arith, (rw (c.deref.ensures.value, c.rub.ensures.limit, many) links, (rw c.rub.ensures.limit (record { each = c.rub.ensures.within.at }), rw c.deref.ensures.value c.requires.going.space.numbers)))
 
 pub drop_pairs-requires-clause-live : goal.drop_pairs-requires-clause-live
 drop_pairs-requires-clause-live g c =
     let ps = c.rub.new.store.particles in
-    let links = c.args.state.now.links.items in
+    let links = c.args.run.now.state.links.items in
     let numbers : c.as_slice-2.result.now ≡ torn_numbers ps links = c.as_slice-2.ensures ∙ ap (λ (o : Roomed ℕ). o.entries) c.torn.ensures.numbers ∙ ap (torn_numbers ps) c.deref.ensures.value in
-    rw (numbers, c.requires.links.live) (λ k lt. torn_live ps links k (torn_ascend ps links) lt)
+    rw (numbers, c.requires.going.links.live) (λ k lt. torn_live ps links k (torn_ascend ps links) lt)
 
 pub returns-clause-world : goal.returns-clause-world
-returns-clause-world g c = λ pairs e.
-    let w = world_of c.args.setting.now c.args.state.now in
+returns-clause-world g c =
+    let w = world_of c.args.setting.now c.args.run.now.state in
     let ps = c.rub.new.store.particles in
-    let links = c.args.state.now.links.items in
+    let links = c.args.run.now.state.links.items in
     let after = c.let_go.new.links.items in
-    let small = fits c.args.setting.now.friction (omega (arith, (numbers_of w (formed (parts_of w) c.requires.under_way.well_formed)).friction_high)) in
+    let small = fits c.args.setting.now.friction (omega (arith, (numbers_of w (formed (parts_of w) c.requires.going.under_way.well_formed)).friction_high)) in
     let motion = simp to_z-of_z at c.rub.ensures.outcome in
     let numbers : c.as_slice.result.now ≡ torn_numbers ps links = c.as_slice.ensures ∙ ap (λ (o : Roomed ℕ). o.entries) c.torn.ensures.numbers ∙ ap (torn_numbers ps) c.deref.ensures.value in
     let tears = let_go_tears ps links after (subst (λ (ns : List ℕ). LetGo ns links after) numbers c.let_go.ensures) in
     let torn = tears ∙ (λ k. tear (motion k).particles links) in
-    λ k. record (world_of c.args.setting.now c.args.state.now) {
+    λ k. record (world_of c.args.setting.now c.args.run.now.state) {
       limit = c.rub.ensures.limit k;
-      steps = c.args.state.now.steps + 1;
+      steps = c.args.run.now.state.steps + 1;
       particles = (motion k).particles;
       links = torn k;
-      contacts = sym e k;
+      contacts = c.count-contacts.ensures.value k;
       totals = (motion k).totals;
     }
 
 pub returns-clause-links : goal.returns-clause-links
 returns-clause-links g c =
     let ps = c.rub.new.store.particles in
-    let links = c.args.state.now.links.items in
+    let links = c.args.run.now.state.links.items in
     let after = c.let_go.new.links.items in
     let first : c.as_slice.result.now ≡ torn_numbers ps links = c.as_slice.ensures ∙ ap (λ (o : Roomed ℕ). o.entries) c.torn.ensures.numbers ∙ ap (torn_numbers ps) c.deref.ensures.value in
     let second : c.as_slice-2.result.now ≡ torn_numbers ps links = c.as_slice-2.ensures ∙ ap (λ (o : Roomed ℕ). o.entries) c.torn.ensures.numbers ∙ ap (torn_numbers ps) c.deref.ensures.value in
     let tears = let_go_tears ps links after (subst (λ (ns : List ℕ). LetGo ns links after) first c.let_go.ensures) in
-    let coloured = c.drop_pairs.ensures ∙ ap (λ (ns : List ℕ). record c.args.colours.now { live = dropped ns c.args.colours.now.live }) second in
-    torn_coloured (length c.args.state.now.store.particles) ps links after c.args.colours.now c.drop_pairs.new.self c.requires.links tears coloured
+    let coloured = c.drop_pairs.ensures ∙ ap (λ (ns : List ℕ). record c.args.run.now.colours { live = dropped ns c.args.run.now.colours.live }) second in
+    torn_coloured (length c.args.run.now.state.store.particles) ps links after c.args.run.now.colours c.drop_pairs.new.self c.requires.going.links tears coloured
 
-pub returns-clause-length : goal.returns-clause-length
-returns-clause-length g c = still_many c.rub.new.store.particles c.args.state.now.store.particles c.rub.ensures.settled
+pub returns-clause-stays : goal.returns-clause-stays
+returns-clause-stays g c =
+    let room : c.torn.new.out.room ≡ c.args.run.now.tools.numbers.room = ap (λ (o : Roomed ℕ). o.room) c.torn.ensures.numbers in
+    let live = ap (λ (k : Coloured). k.live) c.drop_pairs.ensures in
+    record {
+      alike = record { particles = still_many c.rub.new.store.particles c.args.run.now.state.store.particles c.rub.ensures.settled; limit = c.rub.ensures.limit; links = c.let_go.ensures.whole };
+      pairs = c.drop_pairs.ensures ∙ (λ k. record c.args.run.now.colours { live = sym live k });
+      space = λ n m h. record { found = h.found; touched = h.touched; pairs = h.pairs; numbers = omega (arith, room, h.numbers) };
+      not_fallen = omega arith;
+      width = refl;
+    }

@@ -1,23 +1,70 @@
-use Rattle.std.proofs.Common.{sym, ap, ◌∙◌, length, Ok, Err}
-use Rattle.pbd_world.specs.Step.{Passing, settled, rub}
+use Rattle.std.proofs.Common.{arith, sym, ap, ◌∙◌, subst, ℕ, length, List, Bool, Ok, Err}
+use Rattle.std.proofs.lemmas.List.{length-replicate}
+use Rattle.pbd_world.specs.Step.{settled, rub}
 use Rattle.pbd_world.specs.World.{World}
 use Rattle.pbd_step.specs.declared.state.Tools.{Tools}
-use Rattle.pbd_step.specs.States.{world_of, now_of}
-use Rattle.pbd_step.proofs.UnderWay.{moved_world}
+use Rattle.pbd_step.specs.States.{world_of, now_of, HasLinks}
+use Rattle.pbd_step.specs.Staying.{passing_of}
+use Rattle.pbd_step.proofs.Staying.{cleared, tools_go, tools_in_step, pass_in_step, both_in_step, pass_goes}
 use Rattle.pbd_step.proofs.Stepping.{no_flags, finished_is}
+use Rattle.pbd_step.proofs.UnderWay.{moved_world, more_under_way}
 use Rattle.pbd_step.proofs.step.finish.Goals as goal
+
+pub project_in_passes-requires : goal.project_in_passes-requires
+project_in_passes-requires g c =
+    let run = c.args.run.now in
+    let many = ap (λ (fs : List Bool). length fs) c.clear.ensures ∙ length-replicate _ _ in
+    (omega arith, (c.requires.lanes_low, (c.requires.lanes_high, tools_go c.args.setting.now run (record run.tools { touched = c.clear.new.self }) (cleared run.tools c.clear.new.self many) c.requires.going)))
+
+pub settle-requires : goal.settle-requires
+settle-requires g c =
+    let run = c.args.run.now in
+    let many = ap (λ (fs : List Bool). length fs) c.clear.ensures ∙ length-replicate _ _ in
+    let start = record run { tools = record run.tools { touched = c.clear.new.self } } in
+    let going = tools_go c.args.setting.now run start.tools (cleared run.tools c.clear.new.self many) c.requires.going in
+    (omega arith, (c.requires.lanes_low, (c.requires.lanes_high, pass_goes _ c.args.setting.now start c.project_in_passes.new.run going c.project_in_passes.ensures.stays (more_under_way _ (omega arith) c.in_default.ensures.under_way))))
 
 pub returns-in-Err-clause-outcome : goal.returns-in-Err-clause-outcome
 returns-in-Err-clause-outcome g c =
-    let flags = c.clear.ensures ∙ no_flags (length c.args.tools.now.touched) c.args.state.now.store.particles c.requires.space.touched in
-    finished_is (world_of c.args.setting.now c.args.state.now) c.args.tools.now.found.pairs (now_of c.args.state.now) c.clear.new.self (Err c.in-Err.refusal) flags c.in-Err.ensures.outcome
+    let run = c.args.run.now in
+    let flags = c.clear.ensures ∙ no_flags (length run.tools.touched) run.state.store.particles c.requires.going.space.touched in
+    finished_is (world_of c.args.setting.now run.state) run.tools.found.pairs (now_of run.state) c.clear.new.self (Err c.in-Err.refusal) flags c.in-Err.ensures.outcome
 
 pub returns-clause-outcome : goal.returns-clause-outcome
 returns-clause-outcome g c =
-    let flags = c.clear.ensures ∙ no_flags (length c.args.tools.now.touched) c.args.state.now.store.particles c.requires.space.touched in
-    let w = world_of c.args.setting.now c.args.state.now in
-    let pairs = c.args.tools.now.found.pairs in
-    let s : Passing = record { motion = now_of c.project_in_passes.new.state; touched = c.project_in_passes.new.tools.touched } in
-    let moved = moved_world c.args.setting.now c.args.state.now c.project_in_passes.new.state c.project_in_passes.ensures.same c.project_in_passes.ensures.limit in
-    finished_is w pairs (now_of c.args.state.now) c.clear.new.self (Ok s) flags c.in_default.ensures.outcome
-    ∙ sym (ap (λ (v : World). Ok v) (c.settle.ensures.world pairs (ap (λ (t : Tools). length t.found.pairs) (sym c.project_in_passes.ensures.tools) ∙ sym c.count.ensures.value) ∙ ap (λ (v : World). settled v pairs (rub c.args.setting.now.friction s)) moved))
+    let run = c.args.run.now in
+    let flags = c.clear.ensures ∙ no_flags (length run.tools.touched) run.state.store.particles c.requires.going.space.touched in
+    let w = world_of c.args.setting.now run.state in
+    let pairs = run.tools.found.pairs in
+    let s = passing_of c.project_in_passes.new.run in
+    let stays = c.project_in_passes.ensures.stays in
+    let moved = moved_world c.args.setting.now run.state c.project_in_passes.new.run.state stays.moved.same stays.moved.limit in
+    finished_is w pairs (now_of run.state) c.clear.new.self (Ok s) flags c.in_default.ensures.outcome
+    ∙ sym (ap (λ (v : World). Ok v) (c.settle.ensures.world ∙ (λ i. settled (moved i) (stays.tools i).found.pairs (rub c.args.setting.now.friction s))))
+
+pub returns-in-Err-clause-stays : goal.returns-in-Err-clause-stays
+returns-in-Err-clause-stays g c =
+    let run = c.args.run.now in
+    let many = ap (λ (fs : List Bool). length fs) c.clear.ensures ∙ length-replicate _ _ in
+    let tools : Tools = record run.tools { touched = c.clear.new.self } in
+    let start = record run { tools = tools } in
+    both_in_step run start c.project_in_passes.new.run (tools_in_step run tools (cleared run.tools c.clear.new.self many)) (pass_in_step start c.project_in_passes.new.run c.project_in_passes.ensures.stays)
+
+pub returns-clause-stays : goal.returns-clause-stays
+returns-clause-stays g c =
+    let run = c.args.run.now in
+    let many = ap (λ (fs : List Bool). length fs) c.clear.ensures ∙ length-replicate _ _ in
+    let tools : Tools = record run.tools { touched = c.clear.new.self } in
+    let start = record run { tools = tools } in
+    both_in_step run c.project_in_passes.new.run c.settle.new.run (both_in_step run start c.project_in_passes.new.run (tools_in_step run tools (cleared run.tools c.clear.new.self many)) (pass_in_step start c.project_in_passes.new.run c.project_in_passes.ensures.stays)) c.settle.ensures.stays
+
+pub returns-clause-links : goal.returns-clause-links
+returns-clause-links g c =
+    let now = c.settle.new.run in
+    subst (λ (n : ℕ). HasLinks n now.state.links.items now.colours) c.project_in_passes.ensures.stays.moved.whole c.settle.ensures.links
+
+pub returns-clause-contacts : goal.returns-clause-contacts
+returns-clause-contacts g c = ap (λ (w : World). w.contacts) c.settle.ensures.world ∙ ap (λ (t : Tools). length t.found.pairs) c.project_in_passes.ensures.stays.tools
+
+pub returns-clause-handed : goal.returns-clause-handed
+returns-clause-handed g c = ap g.P.Projector.count c.settle.ensures.projector ∙ c.in_default.ensures.handed

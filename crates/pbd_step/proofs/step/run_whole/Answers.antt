@@ -5,26 +5,36 @@ use Rattle.pbd_world.specs.World.{World, IsSound}
 use Rattle.pbd_colour.specs.Pairs.{Coloured}
 use Rattle.pbd_step.specs.States.{world_of, HasLinks, HaveSpace}
 use Rattle.pbd_step.specs.Solving.{AreAlike}
-use Rattle.pbd_step.proofs.Keeping.{formed_fit, taken_fit, same_alike, kept_moved}
+use Rattle.pbd_step.proofs.Keeping.{formed_fit, taken_fit, same_alike, alike_join, kept_moved}
 use Rattle.pbd_step.proofs.step.run_whole.Goals as goal
+
+pub take_steps-requires : goal.take_steps-requires
+take_steps-requires g c =
+    let kept = c.requires.kept in
+    (omega arith, (c.requires.lanes_low, (c.requires.lanes_high, (record { sound = kept.sound; links = kept.links; space = kept.space }, c.requires.count))))
 
 pub restore-requires : goal.restore-requires
 restore-requires g c =
     let kept = c.take_over.new.state in
-    let state = c.args.state.now in
+    let run = c.args.run.now in
+    let state = run.state in
+    let stays = c.take_steps.ensures.stays in
     let fit = taken_fit kept.store.particles state.store.particles kept.links.items state.links.items c.take_over.ensures.particles c.take_over.ensures.links (formed_fit (world_of c.args.setting.now state) c.requires.kept.sound.well_formed) in
-    let many : length state.store.particles ≡ length kept.store.particles = ap (λ (ps : List Particle). length ps) (sym c.take_over.ensures.particles) in
-    let links : length state.links.items ≡ length kept.links.items = ap (λ (ls : List Link). length ls) (sym c.take_over.ensures.links) in
-    let alike : AreAlike c.run.new.state kept = record { particles = c.in-Err.ensures.length ∙ many; limit = c.in-Err.ensures.limit ∙ sym c.take_over.ensures.limit; links = c.in-Err.ensures.links_length ∙ links } in
-    let colours = ap (λ (k : Coloured). k.particles) c.in-Err.ensures.pairs ∙ c.requires.kept.links.particles ∙ many in
-    let room : length kept.links.items ≤ c.run.new.colours.room = omega (arith, ap (λ (k : Coloured). k.room) c.in-Err.ensures.pairs, c.requires.kept.links.room, links) in
-    let space = subst (λ (m : ℕ). HaveSpace (length kept.store.particles) m c.run.new.tools) links (subst (λ (n : ℕ). HaveSpace n (length state.links.items) c.run.new.tools) many c.in-Err.ensures.space) in
+    let taken : AreAlike state kept = record {
+      particles = ap (λ (ps : List Particle). length ps) (sym c.take_over.ensures.particles);
+      limit = sym c.take_over.ensures.limit;
+      links = ap (λ (ls : List Link). length ls) (sym c.take_over.ensures.links);
+    } in
+    let alike : AreAlike c.take_steps.new.run.state kept = alike_join c.take_steps.new.run.state state kept stays.alike taken in
+    let colours = ap (λ (k : Coloured). k.particles) stays.pairs ∙ c.requires.kept.links.particles ∙ taken.particles in
+    let room : length kept.links.items ≤ c.take_steps.new.run.colours.room = omega (arith, ap (λ (k : Coloured). k.room) stays.pairs, c.requires.kept.links.room, taken.links) in
+    let space = coe 0 1 (i. HaveSpace (taken.particles i) (taken.links i) c.take_steps.new.run.tools) (stays.space (length state.store.particles) (length state.links.items) c.requires.kept.space) in
     (omega arith, (c.requires.lanes_high, (alike, (fit.links, (fit.in_range, (colours, (room, space)))))))
 
 pub returns-in-Err-clause-kept : goal.returns-in-Err-clause-kept
 returns-in-Err-clause-kept g c =
     let kept = c.take_over.new.state in
-    let state = c.args.state.now in
+    let state = c.args.run.now.state in
     let setting = c.args.setting.now in
     let same : world_of setting c.restore.new.state ≡ world_of setting state = c.restore.ensures.world setting ∙ c.take_over.ensures.world setting in
     let many = ap (λ (ps : List Particle). length ps) c.take_over.ensures.particles in
@@ -32,4 +42,26 @@ returns-in-Err-clause-kept g c =
     kept_moved setting state c.restore.new.state kept c.restore.new.colours c.restore.new.tools (subst (λ (w : World). IsSound w) (sym same) c.requires.kept.sound)
     (same_alike state c.restore.new.state setting (sym same)) (same_alike kept state setting (c.take_over.ensures.world setting))
     (subst (λ (ls : List Link). HasLinks (length state.store.particles) ls c.restore.new.colours) (sym c.restore.ensures.same_links) (subst (λ (n : ℕ). HasLinks n kept.links.items c.restore.new.colours) many c.restore.ensures.links))
-    (subst (λ (m : ℕ). HaveSpace (length state.store.particles) m c.restore.new.tools) links (subst (λ (n : ℕ). HaveSpace n (length kept.links.items) c.restore.new.tools) many c.restore.ensures.space))
+    (coe 0 1 (i. HaveSpace (many i) (links i) c.restore.new.tools) c.restore.ensures.space)
+
+pub returns-clause-kept : goal.returns-clause-kept
+returns-clause-kept g c =
+    let ready = c.in_default.ensures.ready in
+    record {
+      sound = ready.sound;
+      links = ready.links;
+      space = ready.space;
+      alike = alike_join c.take_over.new.state c.args.run.now.state c.take_steps.new.run.state (same_alike c.take_over.new.state c.args.run.now.state c.args.setting.now (c.take_over.ensures.world c.args.setting.now)) (record { particles = sym c.take_steps.ensures.stays.alike.particles; limit = sym c.take_steps.ensures.stays.alike.limit; links = sym c.take_steps.ensures.stays.alike.links });
+    }
+
+pub returns-in-Err-clause-not_fallen : goal.returns-in-Err-clause-not_fallen
+returns-in-Err-clause-not_fallen g c = c.take_steps.ensures.stays.not_fallen
+
+pub returns-in-Err-clause-width : goal.returns-in-Err-clause-width
+returns-in-Err-clause-width g c = c.take_steps.ensures.stays.width
+
+pub returns-clause-not_fallen : goal.returns-clause-not_fallen
+returns-clause-not_fallen g c = c.take_steps.ensures.stays.not_fallen
+
+pub returns-clause-width : goal.returns-clause-width
+returns-clause-width g c = c.take_steps.ensures.stays.width

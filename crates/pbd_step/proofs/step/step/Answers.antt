@@ -1,31 +1,86 @@
-use Rattle.std.proofs.Common.{ap}
-use Rattle.pbd_step.specs.declared.state.State.{State}
-use Rattle.pbd_self.specs.Touching.{Found}
+use Rattle.std.proofs.Common.{◌≡◌, ◌+◌, ◌-◌, ◌*◌, ◌^◌, min, arith, ap, sym, ◌∙◌, subst, ℕ, OnOk, length}
 use Rattle.pbd_world.specs.Step.{step}
-use Rattle.pbd_step.specs.States.{world_of, now_of}
+use Rattle.pbd_world.specs.World.{live_count}
+use Rattle.pbd_step.specs.declared.state.State.{State}
+use Rattle.pbd_step.specs.declared.state.Running.{Running}
+use Rattle.pbd_step.specs.States.{world_of, now_of, HasLinks}
+use Rattle.pbd_step.specs.Staying.{IsGoing, StaysInStep}
 use Rattle.pbd_step.specs.Stepping.{finished}
-use Rattle.pbd_step.proofs.UnderWay.{moved_world}
+use Rattle.pbd_step.proofs.Staying.{move_in_step, tools_in_step, both_in_step, begun_goes, tools_go, refound}
 use Rattle.pbd_step.proofs.Stepping.{step_leaves, step_crowds, step_finishes, answers_so}
+use Rattle.pbd_step.proofs.UnderWay.{moved_world, more_under_way, ok_both}
 use Rattle.pbd_step.proofs.step.step.Goals as goal
 
+pub find-requires : goal.find-requires
+find-requires g c =
+    (omega arith, (c.requires.lanes_low, (c.requires.lanes_high, begun_goes _ c.args.setting.now c.args.run.now c.begin.new.state c.requires.ready c.requires.count c.begin.ensures.moved (more_under_way _ (omega arith) c.in_default.ensures.under_way))))
+
+pub finish-requires : goal.finish-requires
+finish-requires g c =
+    let start : Running g.row.L g.row.P.Denot = record c.args.run.now { state = c.begin.new.state } in
+    let going = begun_goes _ c.args.setting.now c.args.run.now c.begin.new.state c.requires.ready c.requires.count c.begin.ensures.moved c.in_default.ensures.under_way in
+    let found = c.find.new.run.tools.found in
+    let goes = tools_go c.args.setting.now start (record start.tools { found = found }) (refound start.tools found c.find.ensures.particles) going in
+    (omega arith, (c.requires.lanes_low, (c.requires.lanes_high, subst (λ (r : Running g.row.L g.row.P.Denot). IsGoing (2 ^ 100) c.args.setting.now r) (sym c.find.ensures.stays) goes)))
+
 pub returns-in-Err-clause-outcome : goal.returns-in-Err-clause-outcome
-returns-in-Err-clause-outcome g c = step_leaves (world_of c.args.setting.now c.args.state.now) c.in-Err.refusal c.in-Err.ensures.outcome
+returns-in-Err-clause-outcome g c = step_leaves (world_of c.args.setting.now c.args.run.now.state) c.in-Err.refusal c.in-Err.ensures.outcome
 
 pub returns-in-Err-find-clause-outcome : goal.returns-in-Err-find-clause-outcome
 returns-in-Err-find-clause-outcome g c =
     let then = c.begin.new.state in
-    step_crowds (world_of c.args.setting.now c.args.state.now) (now_of then) then.links.items c.in-Err-find.refusal then.steps c.in_default.ensures.outcome
-    (ap (λ (s : State g.row.L). s.links.items) c.in_default.ensures.same) (ap (λ (s : State g.row.L). s.steps) c.in_default.ensures.same) c.in-Err-find.ensures.full
+    let same = c.begin.ensures.moved.same in
+    step_crowds (world_of c.args.setting.now c.args.run.now.state) (now_of then) then.links.items c.in-Err-find.refusal then.steps c.in_default.ensures.outcome
+    (ap (λ (s : State g.row.L). s.links.items) same) (ap (λ (s : State g.row.L). s.steps) same) c.in-Err-find.ensures.full
 
 pub returns-clause-outcome : goal.returns-clause-outcome
 returns-clause-outcome g c =
-    let w = world_of c.args.setting.now c.args.state.now in
+    let setting = c.args.setting.now in
+    let w = world_of setting c.args.run.now.state in
     let then = c.begin.new.state in
-    let same = c.in_default.ensures.same in
-    let v = world_of c.args.setting.now then in
-    let pairs = c.find.new.found.pairs in
-    answers_so c.finish.result (step w) (world_of c.args.setting.now c.finish.new.state) (finished v pairs (now_of then))
-    (step_finishes w v (now_of then) then.links.items pairs c.in_default.ensures.outcome
-    (ap (λ (s : State g.row.L). s.links.items) same) c.in_default-find.ensures.few (ap (λ (f : Found). f.pairs) c.in_default-find.ensures.found)
-    (moved_world c.args.setting.now c.args.state.now then same c.in_default.ensures.limit))
+    let moved = c.begin.ensures.moved in
+    let pairs = c.find.new.run.tools.found.pairs in
+    let begun : c.find.new.run.state ≡ then = ap (λ (r : Running g.row.L g.row.P.Denot). r.state) c.find.ensures.stays in
+    answers_so c.finish.result (step w) (world_of setting c.finish.new.run.state) (finished (world_of setting c.find.new.run.state) pairs (now_of c.find.new.run.state))
+    (step_finishes w (world_of setting then) (now_of then) then.links.items pairs c.in_default.ensures.outcome
+    (ap (λ (s : State g.row.L). s.links.items) moved.same) c.in_default-find.ensures.few c.in_default-find.ensures.found
+    (moved_world setting c.args.run.now.state then moved.same moved.limit)
+    ∙ ap (λ (s : State g.row.L). finished (world_of setting s) pairs (now_of s)) (sym begun))
     c.finish.ensures.outcome
+
+pub returns-in-Err-clause-stays : goal.returns-in-Err-clause-stays
+returns-in-Err-clause-stays g c = move_in_step c.args.run.now c.begin.new.state c.begin.ensures.moved
+
+pub returns-in-Err-find-clause-stays : goal.returns-in-Err-find-clause-stays
+returns-in-Err-find-clause-stays g c =
+    let run = c.args.run.now in
+    let start : Running g.row.L g.row.P.Denot = record run { state = c.begin.new.state } in
+    let found = c.find.new.run.tools.found in
+    subst (λ (r : Running g.row.L g.row.P.Denot). StaysInStep g.P.Projector.count g.P.Projector.width run r) (sym c.find.ensures.stays)
+    (both_in_step run start (record start { tools = record start.tools { found = found } }) (move_in_step run start.state c.begin.ensures.moved) (tools_in_step start (record start.tools { found = found }) (refound start.tools found c.find.ensures.particles)))
+
+pub returns-clause-stays : goal.returns-clause-stays
+returns-clause-stays g c =
+    let run = c.args.run.now in
+    let start : Running g.row.L g.row.P.Denot = record run { state = c.begin.new.state } in
+    let found = c.find.new.run.tools.found in
+    both_in_step run c.find.new.run c.finish.new.run
+    (subst (λ (r : Running g.row.L g.row.P.Denot). StaysInStep g.P.Projector.count g.P.Projector.width run r) (sym c.find.ensures.stays)
+    (both_in_step run start (record start { tools = record start.tools { found = found } }) (move_in_step run start.state c.begin.ensures.moved) (tools_in_step start (record start.tools { found = found }) (refound start.tools found c.find.ensures.particles))))
+    c.finish.ensures.stays
+
+pub returns-clause-links : goal.returns-clause-links
+returns-clause-links g c =
+    let whole = ap (λ (r : Running g.row.L g.row.P.Denot). length r.state.store.particles) c.find.ensures.stays ∙ c.begin.ensures.moved.whole in
+    let now = c.finish.new.run in
+    subst (λ (n : ℕ). OnOk c.finish.result (HasLinks n now.state.links.items now.colours)) whole c.finish.ensures.links
+
+pub returns-clause-handed : goal.returns-clause-handed
+returns-clause-handed g c =
+    let count = g.P.Projector.count in
+    let run = c.args.run.now in
+    let given = ap (λ (r : Running g.row.L g.row.P.Denot). count r.projector) c.find.ensures.stays in
+    let links = ap (λ (r : Running g.row.L g.row.P.Denot). live_count r.state.links.items) c.find.ensures.stays ∙ ap (λ (s : State g.row.L). live_count s.links.items) c.begin.ensures.moved.same in
+    ok_both c.finish.result (λ (contacts : c.finish.new.run.state.contacts ≡ length c.find.new.run.tools.found.pairs) (handed : count c.finish.new.run.projector ≡ min (count c.find.new.run.projector + c.args.setting.now.passes * (live_count c.find.new.run.state.links.items + length c.find.new.run.tools.found.pairs)) (2 ^ 64 - 1)).
+    handed ∙ (λ i. min (given i + c.args.setting.now.passes * (links i + sym contacts i)) (2 ^ 64 - 1)))
+    c.finish.ensures.contacts c.finish.ensures.handed

@@ -10,19 +10,19 @@ use Rattle.pbd_step.proofs.solver.Solver.copy_from.Goals as goal
 
 pub restore-requires : goal.restore-requires
 restore-requires g c =
-    let mine = c.self.inside.state in
-    let other = c.other.inside.state in
+    let mine = c.self.inside.run.state in
+    let other = c.other.inside.run.state in
     let scene = subst (λ (v : World). AreOfOneScene v (world_of c.other.inside.setting other)) (sym (ap (λ (s : Solved g.row.P.Denot). s.world) c.self.view_is)) (subst (λ (v : World). AreOfOneScene c.args.self.now.world v) (sym (ap (λ (s : Solved g.row.P.Denot). s.world) c.other.view_is)) c.requires.one_scene) in
     let alike : AreAlike mine other = scene_alike c.self.inside.setting c.other.inside.setting mine other scene in
     let fit = formed_fit (world_of c.other.inside.setting other) c.other.invariant.sound.well_formed in
-    let room : length other.links.items ≤ c.self.inside.colours.room = omega (arith, c.self.invariant.links.room, alike.links) in
-    let space = subst (λ (m : ℕ). HaveSpace (length other.store.particles) m c.self.inside.tools) alike.links (subst (λ (n : ℕ). HaveSpace n (length mine.links.items) c.self.inside.tools) alike.particles c.self.invariant.space) in
+    let room : length other.links.items ≤ c.self.inside.run.colours.room = omega (arith, c.self.invariant.links.room, alike.links) in
+    let space = subst (λ (m : ℕ). HaveSpace (length other.store.particles) m c.self.inside.run.tools) alike.links (subst (λ (n : ℕ). HaveSpace n (length mine.links.items) c.self.inside.run.tools) alike.particles c.self.invariant.space) in
     (omega arith, (c.requires.lanes_high, (alike, (fit.links, (fit.in_range, (c.self.invariant.links.particles ∙ alike.particles, (room, space)))))))
 
 pub invariant_of-self : goal.invariant_of-self
 invariant_of-self g c =
-    let mine = c.self.inside.state in
-    let other = c.other.inside.state in
+    let mine = c.self.inside.run.state in
+    let other = c.other.inside.run.state in
     let setting : Setting = record c.self.inside.setting { gravity = c.other.inside.setting.gravity } in
     let scene = subst (λ (v : World). AreOfOneScene v (world_of c.other.inside.setting other)) (sym (ap (λ (s : Solved g.row.P.Denot). s.world) c.self.view_is)) (subst (λ (v : World). AreOfOneScene c.args.self.now.world v) (sym (ap (λ (s : Solved g.row.P.Denot). s.world) c.other.view_is)) c.requires.one_scene) in
     let same = c.restore.ensures.world setting ∙ scene_world c.self.inside.setting c.other.inside.setting mine other scene in
@@ -35,8 +35,8 @@ invariant_of-self g c =
 
 pub returns-clause-world : goal.returns-clause-world
 returns-clause-world g c =
-    let mine = c.self.inside.state in
-    let other = c.other.inside.state in
+    let mine = c.self.inside.run.state in
+    let other = c.other.inside.run.state in
     let setting : Setting = record c.self.inside.setting { gravity = c.other.inside.setting.gravity } in
     let scene = subst (λ (v : World). AreOfOneScene v (world_of c.other.inside.setting other)) (sym (ap (λ (s : Solved g.row.P.Denot). s.world) c.self.view_is)) (subst (λ (v : World). AreOfOneScene c.args.self.now.world v) (sym (ap (λ (s : Solved g.row.P.Denot). s.world) c.other.view_is)) c.requires.one_scene) in
     c.restore.ensures.world setting ∙ scene_world c.self.inside.setting c.other.inside.setting mine other scene ∙ ap (λ (s : Solved g.row.P.Denot). s.world) c.other.view_is

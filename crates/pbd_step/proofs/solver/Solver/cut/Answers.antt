@@ -9,17 +9,17 @@ use Rattle.pbd_step.proofs.Keeping.{leads_on, cut_means, kept_now, formed_fit}
 use Rattle.pbd_step.proofs.solver.Solver.cut.Goals as goal
 
 pub cut-requires : goal.cut-requires
-cut-requires g c = (omega arith, (c.requires.lanes_high, ((formed_fit (world_of c.self.inside.setting c.self.inside.state) c.self.invariant.sound.well_formed).links, c.self.invariant.links)))
+cut-requires g c = (omega arith, (c.requires.lanes_high, ((formed_fit (world_of c.self.inside.setting c.self.inside.run.state) c.self.invariant.sound.well_formed).links, c.self.invariant.links)))
 
 pub invariant_of-self : goal.invariant_of-self
 invariant_of-self g c =
-    let led = leads_on (λ (s : State g.row.L). world_of c.self.inside.setting s) c.self.inside.state c.cut.new.state (commands.Cut c.args.l) c.cut.result (cut (world_of c.self.inside.setting c.self.inside.state) c.args.l) c.self.invariant.sound (cut_means (world_of c.self.inside.setting c.self.inside.state) c.args.l) c.cut.ensures.outcome c.cut.ensures.kept in
-    kept_now c.self.inside.setting c.self.inside.setting c.self.inside.state c.cut.new.state c.self.inside.kept c.cut.new.colours c.self.inside.tools led.0 led.1 c.self.invariant.alike c.cut.ensures.links c.self.invariant.space
+    let led = leads_on (λ (s : State g.row.L). world_of c.self.inside.setting s) c.self.inside.run.state c.cut.new.state (commands.Cut c.args.l) c.cut.result (cut (world_of c.self.inside.setting c.self.inside.run.state) c.args.l) c.self.invariant.sound (cut_means (world_of c.self.inside.setting c.self.inside.run.state) c.args.l) c.cut.ensures.outcome c.cut.ensures.kept in
+    kept_now c.self.inside.setting c.self.inside.setting c.self.inside.run.state c.cut.new.state c.self.inside.kept c.cut.new.colours c.self.inside.run.tools led.0 led.1 c.self.invariant.alike c.cut.ensures.links c.self.invariant.space
 
 pub returns-clause-sound : goal.returns-clause-sound
-returns-clause-sound g c = (leads_on (λ (s : State g.row.L). world_of c.self.inside.setting s) c.self.inside.state c.cut.new.state (commands.Cut c.args.l) c.cut.result (cut (world_of c.self.inside.setting c.self.inside.state) c.args.l) c.self.invariant.sound (cut_means (world_of c.self.inside.setting c.self.inside.state) c.args.l) c.cut.ensures.outcome c.cut.ensures.kept).0
+returns-clause-sound g c = (leads_on (λ (s : State g.row.L). world_of c.self.inside.setting s) c.self.inside.run.state c.cut.new.state (commands.Cut c.args.l) c.cut.result (cut (world_of c.self.inside.setting c.self.inside.run.state) c.args.l) c.self.invariant.sound (cut_means (world_of c.self.inside.setting c.self.inside.run.state) c.args.l) c.cut.ensures.outcome c.cut.ensures.kept).0
 
 pub returns-clause-one_scene : goal.returns-clause-one_scene
 returns-clause-one_scene g c =
-    let led = leads_on (λ (s : State g.row.L). world_of c.self.inside.setting s) c.self.inside.state c.cut.new.state (commands.Cut c.args.l) c.cut.result (cut (world_of c.self.inside.setting c.self.inside.state) c.args.l) c.self.invariant.sound (cut_means (world_of c.self.inside.setting c.self.inside.state) c.args.l) c.cut.ensures.outcome c.cut.ensures.kept in
+    let led = leads_on (λ (s : State g.row.L). world_of c.self.inside.setting s) c.self.inside.run.state c.cut.new.state (commands.Cut c.args.l) c.cut.result (cut (world_of c.self.inside.setting c.self.inside.run.state) c.args.l) c.self.invariant.sound (cut_means (world_of c.self.inside.setting c.self.inside.run.state) c.args.l) c.cut.ensures.outcome c.cut.ensures.kept in
     subst (λ (v : World). AreOfOneScene v (world_of c.self.inside.setting c.cut.new.state)) (ap (λ (s : Solved g.row.P.Denot). s.world) c.self.view_is) led.1

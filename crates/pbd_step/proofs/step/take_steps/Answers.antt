@@ -1,0 +1,54 @@
+use Rattle.std.proofs.Common.{arith, sym, subst, ℕ, ◌<◌, ◌^◌, length, OnOk}
+use Rattle.pbd_step.specs.States.{world_of, HasLinks}
+use Rattle.pbd_step.proofs.Running.{runs_none, runs_more, runs_out, runs_all, handed_none, handed_more, handed_all}
+use Rattle.pbd_step.proofs.Staying.{none_in_step, both_in_step, ready_on}
+use Rattle.pbd_step.proofs.step.take_steps.Goals as goal
+
+pub loop-i-init : goal.loop-i-init
+loop-i-init g c =
+    let run = c.args.run.now in
+    record {
+      running = runs_none c.args.n (world_of c.args.setting.now run.state) c.requires.ready.sound;
+      handed = handed_none c.args.n (world_of c.args.setting.now run.state) (g.P.Projector.count run.projector) (omega (arith, c.counts.ensures));
+      links = c.requires.ready.links;
+      stays = none_in_step run;
+    }
+
+pub step-requires : goal.step-requires
+step-requires g c =
+    let inv = c.loop-i.invariant in
+    (omega arith, (c.requires.lanes_low, (c.requires.lanes_high, (ready_on c.args.setting.now c.args.run.now c.loop-i.run c.requires.ready inv.stays inv.running.sound inv.links, omega (arith, inv.running.steps, c.requires.count, c.loop-i-test.true)))))
+
+pub returns-in-Err-clause-outcome : goal.returns-in-Err-clause-outcome
+returns-in-Err-clause-outcome g c =
+    runs_out c.args.n c.loop-i.i (world_of c.args.setting.now c.args.run.now.state) (world_of c.args.setting.now c.loop-i.run.state) c.in-Err.refusal c.loop-i-test.true c.loop-i.invariant.running c.in-Err.ensures.outcome
+
+pub returns-in-Err-clause-stays : goal.returns-in-Err-clause-stays
+returns-in-Err-clause-stays g c = both_in_step c.args.run.now c.loop-i.run c.step.new.run c.loop-i.invariant.stays c.step.ensures.stays
+
+pub loop-i-preserved : goal.loop-i-preserved
+loop-i-preserved g c =
+    let start = world_of c.args.setting.now c.args.run.now.state in
+    let now = world_of c.args.setting.now c.loop-i.run.state in
+    let next = world_of c.args.setting.now c.step.new.run.state in
+    let inv = c.loop-i.invariant in
+    let did = c.in_default.ensures in
+    record {
+      running = runs_more c.args.n c.loop-i.i start now next c.loop-i-test.true c.requires.count inv.running did.outcome;
+      handed = handed_more c.args.n c.loop-i.i start now next (g.P.Projector.count c.args.run.now.projector) (g.P.Projector.count c.loop-i.run.projector) (g.P.Projector.count c.step.new.run.projector) c.loop-i-test.true did.outcome inv.handed did.handed;
+      links = subst (λ (n : ℕ). HasLinks n c.step.new.run.state.links.items c.step.new.run.colours) inv.stays.alike.particles did.links;
+      stays = both_in_step c.args.run.now c.loop-i.run c.step.new.run inv.stays did.stays;
+    }
+
+pub returns-clause-outcome : goal.returns-clause-outcome
+returns-clause-outcome g c =
+    runs_all c.args.n c.loop-i.i (world_of c.args.setting.now c.args.run.now.state) (world_of c.args.setting.now c.loop-i.run.state) (omega (arith, c.loop-i-test.false)) c.loop-i.invariant.running
+
+pub returns-clause-ready : goal.returns-clause-ready
+returns-clause-ready g c =
+    let inv = c.loop-i.invariant in
+    ready_on c.args.setting.now c.args.run.now c.loop-i.run c.requires.ready inv.stays inv.running.sound inv.links
+
+pub returns-clause-handed : goal.returns-clause-handed
+returns-clause-handed g c =
+    handed_all c.args.n c.loop-i.i (world_of c.args.setting.now c.args.run.now.state) (world_of c.args.setting.now c.loop-i.run.state) (g.P.Projector.count c.args.run.now.projector) (g.P.Projector.count c.loop-i.run.projector) (omega (arith, c.loop-i-test.false)) c.loop-i.invariant.handed

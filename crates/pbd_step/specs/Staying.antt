@@ -1,0 +1,53 @@
+-- What a part of a step works on, and what it leaves as it was.
+use Rattle.std.specs.Prelude.{◌≡◌, ℕ, ◌<◌, ◌≤◌, ◌^◌, length}
+use Rattle.pbd_store.specs.Moving.{fixed_parts}
+use Rattle.pbd_world.specs.Step.{Passing}
+use Rattle.pbd_world.specs.World.{IsSound}
+use Rattle.pbd_step.specs.declared.state.Setting.{Setting}
+use Rattle.pbd_step.specs.declared.state.State.{State}
+use Rattle.pbd_step.specs.declared.state.Running.{Running}
+use Rattle.pbd_step.specs.States.{world_of, now_of, HasLinks, HaveSpace, IsUnderWay}
+use Rattle.pbd_step.specs.Solving.{AreAlike}
+
+-- a step may begin: the world is sound, its links are coloured, and the tools have room
+pub record IsReady {l : ℕ} {P : Type 0} (setting : Setting) (run : Running l P) : Type 0 where
+  pub sound : IsSound (world_of setting run.state)
+  pub links : HasLinks (length run.state.store.particles) run.state.links.items run.colours
+  pub space : HaveSpace (length run.state.store.particles) (length run.state.links.items) run.tools
+
+-- a step goes on: it may still be counted, its world is under way, the links are coloured, and the tools have room
+pub record IsGoing {l : ℕ} {P : Type 0} (bound : ℕ) (setting : Setting) (run : Running l P) : Type 0 where
+  pub count : run.state.steps < 2 ^ 63
+  pub under_way : IsUnderWay bound (world_of setting run.state)
+  pub links : HasLinks (length run.state.store.particles) run.state.links.items run.colours
+  pub space : HaveSpace (length run.state.store.particles) (length run.state.links.items) run.tools
+
+-- the particles and totals, and what the shapes have touched
+abbrev pub passing_of : {l : ℕ} {P : Type 0} → Running l P → Passing
+passing_of run = record { motion = now_of run.state; touched = run.tools.touched }
+
+-- of a state the places and the totals alone were changed
+pub record IsMoved {l : ℕ} (old new : State l) : Type 0 where
+  pub same : new ≡ record old { store = new.store; totals = new.totals }
+  pub limit : new.store.limit ≡ old.store.limit
+  pub whole : length new.store.particles ≡ length old.store.particles
+
+-- a part of a pass changes the places, the totals, the flags of what was touched, and what the projector keeps of itself
+-- beside its width
+pub record StaysInPass {l : ℕ} {P : Type 0} (count : P → ℕ) (lanes : P → ℕ) (old new : Running l P) : Type 0 where
+  pub moved : IsMoved old.state new.state
+  pub fixed : fixed_parts new.state.store.particles ≡ fixed_parts old.state.store.particles
+  pub colours : new.colours ≡ old.colours
+  pub tools : new.tools ≡ record old.tools { touched = new.tools.touched }
+  pub flags : length new.tools.touched ≡ length old.tools.touched
+  pub not_fallen : count old.projector ≤ count new.projector
+  pub width : lanes new.projector ≡ lanes old.projector
+
+-- a part of a step leaves the limit, how many particles and links there are, the coloured pairs, the room of the tools and
+-- the projector's width
+pub record StaysInStep {l : ℕ} {P : Type 0} (count : P → ℕ) (lanes : P → ℕ) (old new : Running l P) : Type 0 where
+  pub alike : AreAlike new.state old.state
+  pub pairs : new.colours ≡ record old.colours { live = new.colours.live }
+  pub space : (n m : ℕ) → HaveSpace n m old.tools → HaveSpace n m new.tools
+  pub not_fallen : count old.projector ≤ count new.projector
+  pub width : lanes new.projector ≡ lanes old.projector
