@@ -34,16 +34,20 @@ use Rattle.pbd_step.specs.States.{world_of, HasLinks, HaveSpace}
 use Rattle.pbd_world.proofs.OpenedLemmas.{opened-is_sound}
 use Rattle.pbd_step.specs.Opening.{AreCopied, IsFirst}
 use Rattle.pbd_step.specs.Solving.{AreAlike, IsKept}
+use Rattle.pbd_step.specs.Obeying.{Obeys}
 
 -- ---- what a command leads to
 
--- where a command answers as a, and the new world is that of a, or all is as before
-pub leads_on : {S : Type 0} (world : S → World) (old new : S) (c : Command) (r : Result (Unit {0}) Refusal) (a : Result World Refusal) → IsSound (world old) → meaning (world old) c ≡ done_or_refused (world old) a
-    → MatchResult r (λ x. a ≡ Ok (world new)) (λ refusal. a ≡ Err refusal) → OnErr r (new ≡ old) → IsSound (world new) × AreOfOneScene (world old) (world new)
-leads_on world old new c (Ok x) a sound is e kept =
-    let there : after (world old) c ≡ world new = ap (λ (p : World × Reply). p.0) is ∙ ap (λ (s : Result World Refusal). (done_or_refused (world old) s).0) e in
-    (subst IsSound there (command-sound (world old) c sound), subst (AreOfOneScene (world old)) there (command-scene (world old) c sound))
-leads_on world old new c (Err refusal) a sound is e kept = (subst IsSound (sym (ap world kept)) sound, subst (AreOfOneScene (world old)) (sym (ap world kept)) refl)
+-- a command leads from a sound world to a sound world of the same scene
+pub obeyed : {S : Type 0} {world : S → World} {r : Result (Unit {0}) Refusal} {meant : Result World Refusal} {old new : S} (c : Command) → Obeys world r meant old new → IsSound (world old) → meaning (world old) c ≡ done_or_refused (world old) meant
+    → IsSound (world new) × AreOfOneScene (world old) (world new)
+obeyed {S} {world} {r} {meant} {old} {new} c h sound is = by r h.outcome h.kept
+  where
+    by : (r : Result (Unit {0}) Refusal) → MatchResult r (λ x. meant ≡ Ok (world new)) (λ refusal. meant ≡ Err refusal) → OnErr r (new ≡ old) → IsSound (world new) × AreOfOneScene (world old) (world new)
+    by (Ok x) e kept =
+        let there : after (world old) c ≡ world new = ap (λ (p : World × Reply). p.0) is ∙ ap (λ (s : Result World Refusal). (done_or_refused (world old) s).0) e in
+        (subst IsSound there (command-sound (world old) c sound), subst (AreOfOneScene (world old)) there (command-scene (world old) c sound))
+    by (Err refusal) e kept = (subst IsSound (sym (ap world kept)) sound, subst (AreOfOneScene (world old)) (sym (ap world kept)) refl)
 
 pub steps_mean : (w : World) (n : ℕ) → meaning w (commands.Step n) ≡ done_or_refused w (run_steps w n)
 unfolding meaning

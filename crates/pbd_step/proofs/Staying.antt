@@ -1,5 +1,5 @@
 -- What the parts of a step leave as it was, one after another.
-use Rattle.std.proofs.Common.{◌≡◌, refl, sym, ap, ◌∙◌, ℕ, ◌<◌, ◌≤◌, ◌^◌, List, Bool, length, arith, subst}
+use Rattle.std.proofs.Common.{◌≡◌, refl, sym, ap, ◌∙◌, ℕ, ◌<◌, ◌≤◌, List, Bool, length, arith, subst}
 use Rattle.pbd_colour.specs.Pairs.{Coloured}
 use Rattle.pbd_store.specs.Moving.{fixed_parts}
 use Rattle.pbd_store.proofs.Fixed.{same_length}

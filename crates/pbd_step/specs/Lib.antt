@@ -1,6 +1,7 @@
 pub mod Solving
 pub mod States
 pub mod Staying
+pub mod Obeying
 pub mod Projecting
 pub mod Stepping
 pub mod Predicting

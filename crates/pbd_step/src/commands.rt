@@ -1,10 +1,11 @@
 // The commands that are no steps. After a refusal the state is as it was.
-ghost use Rattle.std.specs.Prelude.{◌≡◌, ◌+◌, ◌<◌, ◌≤◌, ◌^◌, ℕ, neg_ℤ, ◌-ℤ◌, unsigned_abs, length, IfSome, IfNone, OnErr, MatchResult, Result, Ok, Err, false};
+ghost use Rattle.std.specs.Prelude.{◌≡◌, ◌+◌, ◌<◌, ◌≤◌, ◌^◌, ℕ, neg_ℤ, ◌-ℤ◌, unsigned_abs, length, IfSome, IfNone, false};
 ghost use Rattle.pbd_world.specs.Meaning.{pin as pinned_world, unpin as unpinned_world, place_held as placed_world, cut as cut_world, set_gravity as pulled_world};
 ghost use Rattle.pbd_num.specs.Vectors.{Within, opposite};
 ghost use Rattle.pbd_world.specs.Particles.{velocity};
 ghost use Rattle.pbd_world.specs.World.{IsSound, is_tracked};
 ghost use Rattle.pbd_step.specs.States.{world_of, HasLinks};
+ghost use Rattle.pbd_step.specs.Obeying.{Obeys};
 
 use crate::state::{Setting, State};
 use pbd_colour::Colouring;
@@ -78,10 +79,7 @@ pub(crate) fn pin<const L: usize, G: Ledger>(
 ) -> Result<(), Refusal>
     requires lanes { L ≤ 16 }
     requires sound { IsSound (world_of setting.now state.old) }
-    ensures outcome { MatchResult result
-        (λ _. pinned_world (world_of setting.now state.old) i ≡ Ok (world_of setting.now state.new))
-        (λ refusal. pinned_world (world_of setting.now state.old) i ≡ Err refusal) }
-    ensures kept { OnErr result (state.new ≡ state.old) }
+    ensures obeys { Obeys (λ s. world_of setting.now s) result (pinned_world (world_of setting.now state.old) i) state.old state.new }
     ensures same { state.new ≡ record state.old { store = state.new.store; totals = state.new.totals } }
 {
     let Some(n) = number_of(&state.store, i) else {
@@ -105,10 +103,7 @@ pub(crate) fn unpin<const L: usize, G: Ledger>(
     steps: &mut Steps<G>,
 ) -> Result<(), Refusal>
     requires lanes { L ≤ 16 }
-    ensures outcome { MatchResult result
-        (λ _. unpinned_world (world_of setting.now state.old) i ≡ Ok (world_of setting.now state.new))
-        (λ refusal. unpinned_world (world_of setting.now state.old) i ≡ Err refusal) }
-    ensures kept { OnErr result (state.new ≡ state.old) }
+    ensures obeys { Obeys (λ s. world_of setting.now s) result (unpinned_world (world_of setting.now state.old) i) state.old state.new }
     ensures same { state.new ≡ record state.old { store = state.new.store } }
 {
     let Some(n) = number_of(&state.store, i) else {
@@ -134,10 +129,7 @@ pub(crate) fn place_held<const L: usize, G: Ledger>(
     steps: &mut Steps<G>,
 ) -> Result<(), Refusal>
     requires lanes { L ≤ 16 }
-    ensures outcome { MatchResult result
-        (λ _. placed_world (world_of setting.now state.old) i to ≡ Ok (world_of setting.now state.new))
-        (λ refusal. placed_world (world_of setting.now state.old) i to ≡ Err refusal) }
-    ensures kept { OnErr result (state.new ≡ state.old) }
+    ensures obeys { Obeys (λ s. world_of setting.now s) result (placed_world (world_of setting.now state.old) i to) state.old state.new }
     ensures same { state.new ≡ record state.old { store = state.new.store } }
 {
     let Some(n) = number_of(&state.store, i) else {
@@ -182,10 +174,7 @@ pub(crate) fn cut<const L: usize>(
     requires lanes { L ≤ 16 }
     requires few { length state.old.links.items ≤ 524288 }
     requires links { HasLinks (length state.old.store.particles) state.old.links.items colours.old }
-    ensures outcome { MatchResult result
-        (λ _. cut_world (world_of setting.now state.old) l ≡ Ok (world_of setting.now state.new))
-        (λ refusal. cut_world (world_of setting.now state.old) l ≡ Err refusal) }
-    ensures kept { OnErr result (state.new ≡ state.old) }
+    ensures obeys { Obeys (λ s. world_of setting.now s) result (cut_world (world_of setting.now state.old) l) state.old state.new }
     ensures same { state.new ≡ record state.old { links = state.new.links } }
     ensures links_length { length state.new.links.items ≡ length state.old.links.items }
     ensures links { HasLinks (length state.old.store.particles) state.new.links.items colours.new }
@@ -209,10 +198,7 @@ pub(crate) fn set_gravity<const L: usize>(
     g: Vec3,
 ) -> Result<(), Refusal>
     requires lanes { L ≤ 16 }
-    ensures outcome { MatchResult result
-        (λ _. pulled_world (world_of setting.old state.now) g ≡ Ok (world_of setting.new state.now))
-        (λ refusal. pulled_world (world_of setting.old state.now) g ≡ Err refusal) }
-    ensures kept { OnErr result (setting.new ≡ setting.old) }
+    ensures obeys { Obeys (λ s. world_of s state.now) result (pulled_world (world_of setting.old state.now) g) setting.old setting.new }
     ensures same { setting.new ≡ record setting.old { gravity = setting.new.gravity } }
 {
     if !within(g, state.store.limit()) {

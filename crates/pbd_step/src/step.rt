@@ -1,5 +1,5 @@
 // Steps of a world.
-ghost use Rattle.std.specs.Prelude.{◌≡◌, ◌+◌, ◌-◌, ◌*◌, ◌<◌, ◌≤◌, ◌^◌, ℕ, min, length, replicate, false, OnOk, OnErr, MatchResult, Result, Ok, Err};
+ghost use Rattle.std.specs.Prelude.{◌≡◌, ◌+◌, ◌-◌, ◌*◌, ◌<◌, ◌≤◌, ◌^◌, ℕ, min, length, replicate, false, OnOk, MatchResult, Result, Ok, Err};
 ghost use Rattle.pbd_world.specs.Meaning.{steps_of};
 ghost use Rattle.pbd_world.specs.Step.{step as stepped, leaves, predict as predicted_motion, after_contacts};
 ghost use Rattle.pbd_world.specs.Outcomes.{with_fault};
@@ -9,6 +9,7 @@ ghost use Rattle.pbd_step.specs.States.{world_of, now_of, HasLinks, IsUnderWay};
 ghost use Rattle.pbd_step.specs.Staying.{IsGoing, IsMoved, IsReady, StaysInStep};
 ghost use Rattle.pbd_step.specs.Solving.{bonds_of, bonds_over, IsKept};
 ghost use Rattle.pbd_step.specs.Stepping.{finished};
+ghost use Rattle.pbd_step.specs.Obeying.{Obeys};
 
 use crate::again::{restore, take_over};
 use crate::bonds::counts;
@@ -136,10 +137,7 @@ pub(crate) fn run_whole<const L: usize, P: Projector<L> + Drop, G: Ledger>(
     requires lanes_high { L ≤ 16 }
     requires kept { IsKept setting.now run.old.state kept.old run.old.colours run.old.tools }
     requires count { run.old.state.steps + n ≤ 1000000 }
-    ensures outcome { MatchResult result
-        (λ _. steps_of n (world_of setting.now run.old.state) ≡ Ok (world_of setting.now run.new.state))
-        (λ refusal. steps_of n (world_of setting.now run.old.state) ≡ Err refusal) }
-    ensures unmoved { OnErr result (world_of setting.now run.new.state ≡ world_of setting.now run.old.state) }
+    ensures obeys { Obeys (λ w. w) result (steps_of n (world_of setting.now run.old.state)) (world_of setting.now run.old.state) (world_of setting.now run.new.state) }
     ensures kept { IsKept setting.now run.new.state kept.new run.new.colours run.new.tools }
     ensures handed { OnOk result (P.count run.new.projector ≡ min (P.count run.old.projector + bonds_over n (world_of setting.now run.old.state)) (2 ^ 64 - 1)) }
     ensures not_fallen { P.count run.old.projector ≤ P.count run.new.projector }

@@ -1,4 +1,4 @@
-use Rattle.std.proofs.Common.{rules, ◌≡◌, sym, ap, ◌∙◌, arith, subst, length, ℕ, ◌≤◌, List}
+use Rattle.std.proofs.Common.{rules, sym, ap, arith, subst, length, ℕ, ◌≤◌, List}
 use Rattle.pbd_world.specs.declared.parts.Link.{Link}
 use Rattle.pbd_world.specs.Contacts.{link_pairs}
 use Rattle.pbd_colour.specs.Pairs.{InRange}

@@ -1,4 +1,4 @@
-use Rattle.std.proofs.Common.{◌≡◌, ◌+◌, ◌-◌, ◌*◌, ◌^◌, ℕ, min, List, length, arith, refl, sym, ap, ◌∙◌, Ok, Err}
+use Rattle.std.proofs.Common.{◌≡◌, ◌+◌, ◌-◌, ◌*◌, ◌^◌, ℕ, min, List, length, arith, sym, ap, ◌∙◌}
 use Rattle.pbd_world.specs.Ledger.{ledger_of}
 use Rattle.pbd_world.specs.Step.{Passing, pass}
 use Rattle.pbd_world.specs.World.{World, live_count}

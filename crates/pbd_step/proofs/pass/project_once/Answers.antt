@@ -1,7 +1,7 @@
-use Rattle.std.proofs.Common.{◌≡◌, ◌+◌, ◌^◌, ℕ, ℤ, pos, List, length, IsTrue, to_z, of_z, w64, arith, refl, sym, ap, ◌∙◌, subst, Ok, Err}
+use Rattle.std.proofs.Common.{◌≡◌, ◌+◌, ◌^◌, ℤ, pos, length, IsTrue, to_z, of_z, w64, arith, refl, sym, ap, ◌∙◌, subst, Ok, Err}
 use Rattle.pbd_world.specs.declared.command.Refusal.{Refusal}
 use Rattle.pbd_world.specs.Ledger.{ledger_of, HaveRoom}
-use Rattle.pbd_world.specs.Step.{Passing, link_part, contact_part}
+use Rattle.pbd_world.specs.Step.{Passing, contact_part}
 use Rattle.pbd_world.specs.Valid.{is_limit, is_between, are_valid_planes, are_valid_spheres}
 use Rattle.pbd_world.specs.World.{World, parts_of}
 use Rattle.pbd_world.proofs.WorldParts.{formed}

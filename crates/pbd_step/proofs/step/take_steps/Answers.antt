@@ -1,4 +1,4 @@
-use Rattle.std.proofs.Common.{arith, sym, subst, ℕ, ◌<◌, ◌^◌, length, OnOk}
+use Rattle.std.proofs.Common.{arith, subst, ℕ}
 use Rattle.pbd_step.specs.States.{world_of, HasLinks}
 use Rattle.pbd_step.proofs.Running.{runs_none, runs_more, runs_out, runs_all, handed_none, handed_more, handed_all}
 use Rattle.pbd_step.proofs.Staying.{none_in_step, both_in_step, ready_on}

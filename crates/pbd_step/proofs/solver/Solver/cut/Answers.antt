@@ -1,11 +1,9 @@
 use Rattle.std.proofs.Common.{arith, ap, subst}
 use Rattle.pbd_world.specs.declared.command.Command.TheVariants as commands
-use Rattle.pbd_world.specs.Meaning.{cut}
-use Rattle.pbd_step.specs.declared.state.State.{State}
 use Rattle.pbd_world.specs.World.{World, AreOfOneScene}
 use Rattle.pbd_step.specs.Solving.{Solved}
 use Rattle.pbd_step.specs.States.{world_of}
-use Rattle.pbd_step.proofs.Keeping.{leads_on, cut_means, kept_now, formed_fit}
+use Rattle.pbd_step.proofs.Keeping.{obeyed, cut_means, kept_now, formed_fit}
 use Rattle.pbd_step.proofs.solver.Solver.cut.Goals as goal
 
 pub cut-requires : goal.cut-requires
@@ -13,13 +11,16 @@ cut-requires g c = (omega arith, (c.requires.lanes_high, ((formed_fit (world_of 
 
 pub invariant_of-self : goal.invariant_of-self
 invariant_of-self g c =
-    let led = leads_on (λ (s : State g.row.L). world_of c.self.inside.setting s) c.self.inside.run.state c.cut.new.state (commands.Cut c.args.l) c.cut.result (cut (world_of c.self.inside.setting c.self.inside.run.state) c.args.l) c.self.invariant.sound (cut_means (world_of c.self.inside.setting c.self.inside.run.state) c.args.l) c.cut.ensures.outcome c.cut.ensures.kept in
-    kept_now c.self.inside.setting c.self.inside.setting c.self.inside.run.state c.cut.new.state c.self.inside.kept c.cut.new.colours c.self.inside.run.tools led.0 led.1 c.self.invariant.alike c.cut.ensures.links c.self.invariant.space
+    let setting = c.self.inside.setting in
+    let run = c.self.inside.run in
+    let led = obeyed (commands.Cut c.args.l) c.cut.ensures.obeys c.self.invariant.sound (cut_means (world_of setting run.state) c.args.l) in
+    kept_now setting setting run.state c.cut.new.state c.self.inside.kept c.cut.new.colours run.tools led.0 led.1 c.self.invariant.alike c.cut.ensures.links c.self.invariant.space
 
 pub returns-clause-sound : goal.returns-clause-sound
-returns-clause-sound g c = (leads_on (λ (s : State g.row.L). world_of c.self.inside.setting s) c.self.inside.run.state c.cut.new.state (commands.Cut c.args.l) c.cut.result (cut (world_of c.self.inside.setting c.self.inside.run.state) c.args.l) c.self.invariant.sound (cut_means (world_of c.self.inside.setting c.self.inside.run.state) c.args.l) c.cut.ensures.outcome c.cut.ensures.kept).0
+returns-clause-sound g c = (invariant_of-self g c).sound
 
 pub returns-clause-one_scene : goal.returns-clause-one_scene
 returns-clause-one_scene g c =
-    let led = leads_on (λ (s : State g.row.L). world_of c.self.inside.setting s) c.self.inside.run.state c.cut.new.state (commands.Cut c.args.l) c.cut.result (cut (world_of c.self.inside.setting c.self.inside.run.state) c.args.l) c.self.invariant.sound (cut_means (world_of c.self.inside.setting c.self.inside.run.state) c.args.l) c.cut.ensures.outcome c.cut.ensures.kept in
-    subst (λ (v : World). AreOfOneScene v (world_of c.self.inside.setting c.cut.new.state)) (ap (λ (s : Solved g.row.P.Denot). s.world) c.self.view_is) led.1
+    let setting = c.self.inside.setting in
+    let led = obeyed (commands.Cut c.args.l) c.cut.ensures.obeys c.self.invariant.sound (cut_means (world_of setting c.self.inside.run.state) c.args.l) in
+    subst (λ (v : World). AreOfOneScene v (world_of setting c.cut.new.state)) (ap (λ (s : Solved g.row.P.Denot). s.world) c.self.view_is) led.1
