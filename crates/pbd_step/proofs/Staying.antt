@@ -23,6 +23,13 @@ same_room old new tools flags n m h = record {
   numbers = omega (arith, ap (λ (t : Tools). t.numbers.room) tools, h.numbers);
 }
 
+pub both_moved : {l : ℕ} (old mid new : State l) → IsMoved old mid → IsMoved mid new → IsMoved old new
+both_moved {l} old mid new h k = record {
+  same = k.same ∙ ap (λ (s : State l). record s { store = new.store; totals = new.totals }) h.same;
+  limit = k.limit ∙ h.limit;
+  whole = k.whole ∙ h.whole;
+}
+
 pub moved_alike : {l : ℕ} (old new : State l) → IsMoved old new → AreAlike new old
 moved_alike {l} old new h = record { particles = h.whole; limit = h.limit; links = ap (λ (s : State l). length s.links.items) h.same }
 
@@ -50,11 +57,7 @@ module _ {l : ℕ} {P : Type 0} {count : P → ℕ} {lanes : P → ℕ} where
 
   pub both_in_pass : (old mid new : Running l P) → StaysInPass count lanes old mid → StaysInPass count lanes mid new → StaysInPass count lanes old new
   both_in_pass old mid new h k = record {
-    moved = record {
-      same = k.moved.same ∙ ap (λ (s : State l). record s { store = new.state.store; totals = new.state.totals }) h.moved.same;
-      limit = k.moved.limit ∙ h.moved.limit;
-      whole = k.moved.whole ∙ h.moved.whole;
-    };
+    moved = both_moved old.state mid.state new.state h.moved k.moved;
     fixed = k.fixed ∙ h.fixed;
     colours = k.colours ∙ h.colours;
     tools = k.tools ∙ ap (λ (t : Tools). record t { touched = new.tools.touched }) h.tools;

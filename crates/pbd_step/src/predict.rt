@@ -13,6 +13,7 @@ ghost use Rattle.pbd_store.specs.Blocks.{blocks_of, filled_lanes, place_of, Save
 ghost use Rattle.pbd_store.specs.Moving.{motion_of};
 ghost use Rattle.pbd_shape.specs.Rubbing.{AreWithin};
 ghost use Rattle.pbd_step.specs.States.{world_of, now_of, IsUnderWay};
+ghost use Rattle.pbd_step.specs.Staying.{IsMoved};
 ghost use Rattle.pbd_step.specs.Predicting.{unled, bare_world, predicted_from, Advanced};
 
 use crate::state::{Setting, State};
@@ -96,28 +97,30 @@ fn book(totals: &mut Totals, gravity: Vec3, loss: Vec3)
     totals.add(Class::Damping, opposite(loss));
 }
 
-/// Where a particle comes to, with its entries booked: a held one rests, and a free one flies on, unless it would leave the limit.
-fn advance(
-    setting: &Setting,
-    limit: i64,
+/// Where a particle is and was, and whether it is held.
+#[derive(Clone, Copy)]
+struct Flight {
     held: bool,
     at: Vec3,
     before: Vec3,
-    totals: &mut Totals,
-) -> Option<Vec3>
+}
+
+/// Where a particle comes to, with its entries booked: a held one rests, and a free one flies on, unless it would leave the limit.
+fn advance(setting: &Setting, limit: i64, flight: Flight, totals: &mut Totals) -> Option<Vec3>
     requires low { pos 0 ≤ℤ limit }
     requires high { unsigned_abs limit ≤ 2 ^ 29 }
-    requires at { Within (unsigned_abs limit) at }
-    requires before { Within (unsigned_abs limit) before }
+    requires at { Within (unsigned_abs limit) flight.at }
+    requires before { Within (unsigned_abs limit) flight.before }
     requires damping { unsigned_abs setting.now.damping ≤ 1024 }
     requires gravity { Within (2 ^ 29) setting.now.gravity }
     requires room { HaveRoom (2 ^ 120) (ledger_of totals.old) }
     ensures outcome { (i weight : ℕ) → MatchOption result
-        (predicted (bare_world setting.now limit) i (record { at = at; before = before; weight = weight; held = held }) ≡ None)
-        (λ place. Advanced (bare_world setting.now limit) i (record { at = at; before = before; weight = weight; held = held }) place (ledger_of totals.old) (ledger_of totals.new)) }
+        (predicted (bare_world setting.now limit) i (record { at = flight.at; before = flight.before; weight = weight; held = flight.held }) ≡ None)
+        (λ place. Advanced (bare_world setting.now limit) i (record { at = flight.at; before = flight.before; weight = weight; held = flight.held }) place (ledger_of totals.old) (ledger_of totals.new)) }
     ensures within { IfSome result (λ place. Within (unsigned_abs limit) place) }
     ensures room { (n : ℕ) → HaveRoom n (ledger_of totals.old) → HaveRoom (n + 2 ^ 31) (ledger_of totals.new) }
 {
+    let Flight { held, at, before } = flight;
     if held {
         return Some(at);
     }
@@ -164,7 +167,12 @@ fn advance_lanes<const L: usize>(
         let i = span.first + j as u32;
         let at = lanes.at.place(j);
         let before = lanes.before.place(j);
-        let Some(to) = advance(setting, limit, held[j], at, before, totals) else {
+        let flight = Flight {
+            held: held[j],
+            at,
+            before,
+        };
+        let Some(to) = advance(setting, limit, flight, totals) else {
             return Err(Left { element: i });
         };
         places[j] = to;
@@ -189,9 +197,7 @@ fn advance_block<const L: usize, G: Ledger>(
     ensures outcome { MatchResult result
         (λ _. predicted_from (bare_world setting.now state.old.store.limit) (block * L + L) (now_of state.new) ≡ predicted_from (bare_world setting.now state.old.store.limit) (block * L) (now_of state.old))
         (λ left. predicted_from (bare_world setting.now state.old.store.limit) (block * L) (now_of state.old) ≡ Err left.element) }
-    ensures same { state.new ≡ record state.old { store = state.new.store; totals = state.new.totals } }
-    ensures limit { state.new.store.limit ≡ state.old.store.limit }
-    ensures length { length state.new.store.particles ≡ length state.old.store.particles }
+    ensures moved { IsMoved state.old state.new }
     ensures within { AreWithin state.old.store.limit state.new.store.particles }
     ensures room { (n : ℕ) → HaveRoom n (ledger_of state.old.totals) → HaveRoom (n + (min (block * L + L) (length state.old.store.particles) - block * L) * 2 ^ 31) (ledger_of state.new.totals) }
     ensures cost { steps.new ≤ steps.old + 2 }
@@ -221,9 +227,7 @@ fn advance_all<const L: usize, G: Ledger>(
     ensures outcome { MatchResult result
         (λ _. predicted_motion (unled (world_of setting.now state.old)) ≡ Ok (now_of state.new))
         (λ left. predicted_motion (unled (world_of setting.now state.old)) ≡ Err left.element) }
-    ensures same { state.new ≡ record state.old { store = state.new.store; totals = state.new.totals } }
-    ensures limit { state.new.store.limit ≡ state.old.store.limit }
-    ensures length { length state.new.store.particles ≡ length state.old.store.particles }
+    ensures moved { IsMoved state.old state.new }
     ensures room { OnOk result (HaveRoom (2 ^ 100) (ledger_of state.new.totals)) }
     ensures cost { steps.new ≤ steps.old + 2 * blocks_of (length state.old.store.particles) L }
 {
@@ -249,9 +253,7 @@ pub(crate) fn predict<const L: usize, G: Ledger>(
     ensures outcome { MatchResult result
         (λ _. predicted_motion (world_of setting.now state.old) ≡ Ok (now_of state.new))
         (λ left. predicted_motion (world_of setting.now state.old) ≡ Err left.element) }
-    ensures same { state.new ≡ record state.old { store = state.new.store; totals = state.new.totals } }
-    ensures limit { state.new.store.limit ≡ state.old.store.limit }
-    ensures length { length state.new.store.particles ≡ length state.old.store.particles }
+    ensures moved { IsMoved state.old state.new }
     ensures under_way { OnOk result (IsUnderWay (2 ^ 100) (world_of setting.now state.new)) }
     ensures cost { steps.new ≤ steps.old + 2 * blocks_of (length state.old.store.particles) L + length setting.now.tracks }
 {

@@ -1,4 +1,4 @@
-use Rattle.std.proofs.Common.{rules, sym, ap, arith, subst, length, ℕ, ◌≤◌, List}
+use Rattle.std.proofs.Common.{rules, sym, ap, ◌∙◌, arith, subst, length, ℕ, ◌≤◌, List}
 use Rattle.pbd_world.specs.declared.parts.Link.{Link}
 use Rattle.pbd_world.specs.Contacts.{link_pairs}
 use Rattle.pbd_colour.specs.Pairs.{InRange}
@@ -28,6 +28,11 @@ open_colours-requires-clause-few g c = subst (λ (ls : List Link). length ls ≤
 pub open_colours-requires-clause-in_range : goal.open_colours-requires-clause-in_range
 open_colours-requires-clause-in_range g c =
     subst (λ (ls : List Link). InRange c.len-particles.result (link_pairs ls)) (sym c.as_slice.ensures) (subst (λ (n : ℕ). InRange n (link_pairs c.args.parts.now.links)) (sym c.len-particles.ensures) (valid_fit c.args.parts.now c.requires.valid).in_range)
+
+pub open_colours-requires-clause-space : goal.open_colours-requires-clause-space
+open_colours-requires-clause-space g c =
+    let many = c.len.ensures ∙ sym (ap (λ (ls : List Link). length ls) c.as_slice.ensures) in
+    subst (λ (m : ℕ). HaveSpace c.len-particles.result m c.in_ok-tools.tools) many c.in_ok-tools.ensures
 
 pub returns-clause-links : goal.returns-clause-links
 returns-clause-links g c =

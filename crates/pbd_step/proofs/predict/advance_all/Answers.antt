@@ -7,6 +7,7 @@ use Rattle.pbd_store.proofs.Starts.{block_begins, all_held, next_start, room_mor
 use Rattle.pbd_shape.specs.Rubbing.{AreWithin}
 use Rattle.pbd_step.specs.States.{world_of, now_of}
 use Rattle.pbd_step.specs.Predicting.{bare_world, predicted_from}
+use Rattle.pbd_step.proofs.Staying.{both_moved}
 use Rattle.pbd_step.proofs.SoundRoom.{sound_room}
 use Rattle.pbd_step.proofs.Mild.{formed_within, sound_mild}
 use Rattle.pbd_step.proofs.Predicting.{predicted_begins, predicted_all}
@@ -22,9 +23,7 @@ loop-block-init g c =
     let w = world_of setting state in
     record {
       rest = ap (λ (m : ℕ). predicted_from (bare_world setting state.store.limit) m (now_of state)) (none g.row.L) ∙ predicted_begins setting state;
-      same = refl;
-      limit = refl;
-      many = refl;
+      moved = record { same = refl; limit = refl; whole = refl };
       within = formed_within w c.requires.sound.well_formed;
       room = room_at _ (omega arith) (sound_room w c.requires.sound);
       cost = omega arith;
@@ -43,9 +42,9 @@ advance_block-requires g c =
         (
           r.lanes_high,
           (
-            subst (λ (m : ℕ). c.loop-block.block < blocks_of m g.row.L) (sym inv.many) block,
+            subst (λ (m : ℕ). c.loop-block.block < blocks_of m g.row.L) (sym inv.moved.whole) block,
             (
-              subst (λ (l : ℤ). AreWithin l c.loop-block.state.store.particles) (sym inv.limit) inv.within,
+              subst (λ (l : ℤ). AreWithin l c.loop-block.state.store.particles) (sym inv.moved.limit) inv.within,
               (mild.damping, (mild.gravity, room_at (2 ^ 110) (omega (arith, c.len-len.ensures.value, c.len-len.ensures.size)) inv.room)),
             ),
           ),
@@ -62,14 +61,12 @@ loop-block-preserved g c =
     let many = length c.args.state.now.store.particles in
     let then = c.advance_block.new.state in
     let begins : start < many = block_begins c.loop-block.block many g.row.L c.requires.lanes_low (omega (arith, c.blocks-block-end.ensures, c.loop-block-test.true)) in
-    let did = subst (λ (l : ℤ). predicted_from (bare_world setting l) (start + g.row.L) (now_of then) ≡ predicted_from (bare_world setting l) start (now_of c.loop-block.state)) inv.limit done.outcome in
+    let did = subst (λ (l : ℤ). predicted_from (bare_world setting l) (start + g.row.L) (now_of then) ≡ predicted_from (bare_world setting l) start (now_of c.loop-block.state)) inv.moved.limit done.outcome in
     record {
       rest = ap (λ (m : ℕ). predicted_from (bare_world setting c.args.state.now.store.limit) m (now_of then)) (next_start c.loop-block.block g.row.L) ∙ did ∙ inv.rest;
-      same = done.same ∙ (λ k. record (inv.same k) { store = then.store; totals = then.totals });
-      limit = done.limit ∙ inv.limit;
-      many = done.length ∙ inv.many;
-      within = subst (λ (l : ℤ). AreWithin l then.store.particles) inv.limit done.within;
-      room = room_at _ (room_more (2 ^ 99) start _ many g.row.L begins (next_start c.loop-block.block g.row.L)) (subst (λ (m : ℕ). HaveRoom (2 ^ 99 + min start many * 2 ^ 31 + (min (start + g.row.L) m - start) * 2 ^ 31) (ledger_of then.totals)) inv.many (done.room _ inv.room));
+      moved = both_moved c.args.state.now c.loop-block.state then inv.moved done.moved;
+      within = subst (λ (l : ℤ). AreWithin l then.store.particles) inv.moved.limit done.within;
+      room = room_at _ (room_more (2 ^ 99) start _ many g.row.L begins (next_start c.loop-block.block g.row.L)) (subst (λ (m : ℕ). HaveRoom (2 ^ 99 + min start many * 2 ^ 31 + (min (start + g.row.L) m - start) * 2 ^ 31) (ledger_of then.totals)) inv.moved.whole (done.room _ inv.room));
       cost = omega (arith, done.cost, inv.cost);
     }
 
@@ -78,7 +75,7 @@ returns-in_err-advance_block-clause-outcome g c =
     let inv = c.loop-block.invariant in
     let left = c.in_err-advance_block.ensures.outcome in
     let start = c.loop-block.block * g.row.L in
-    let out = subst (λ (l : ℤ). predicted_from (bare_world c.args.setting.now l) start (now_of c.loop-block.state) ≡ Err c.in_err-advance_block.field-0.0.element) inv.limit left in
+    let out = subst (λ (l : ℤ). predicted_from (bare_world c.args.setting.now l) start (now_of c.loop-block.state) ≡ Err c.in_err-advance_block.field-0.0.element) inv.moved.limit left in
     let p = err_from_is_err_and c.from_residual.result c.from_residual.ensures.1 in
     rw (p.1, p.2) (sym inv.rest ∙ out)
 
@@ -87,4 +84,4 @@ returns-clause-outcome g c =
     let inv = c.loop-block.invariant in
     let start = c.loop-block.block * g.row.L in
     let whole : length c.args.state.now.store.particles ≤ start = all_held c.loop-block.block (length c.args.state.now.store.particles) g.row.L c.requires.lanes_low (omega (arith, c.blocks-block-end.ensures, c.loop-block-test.false)) in
-    sym inv.rest ∙ predicted_all (bare_world c.args.setting.now c.args.state.now.store.limit) start (now_of c.loop-block.state) (omega (arith, inv.many, whole))
+    sym inv.rest ∙ predicted_all (bare_world c.args.setting.now c.args.state.now.store.limit) start (now_of c.loop-block.state) (omega (arith, inv.moved.whole, whole))

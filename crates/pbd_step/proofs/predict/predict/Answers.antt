@@ -16,13 +16,13 @@ pub place-requires : goal.place-requires
 place-requires g c =
     let w = world_of c.args.setting.now c.args.state.now in
     let done = c.in_ok-advance_all.ensures in
-    (omega arith, rw (c.as_slice.ensures, done.limit, done.length) ((formed (parts_of w) c.requires.sound.well_formed).tracks))
+    (omega arith, rw (c.as_slice.ensures, done.moved.limit, done.moved.whole) ((formed (parts_of w) c.requires.sound.well_formed).tracks))
 
 pub returns-clause-outcome : goal.returns-clause-outcome
 returns-clause-outcome g c =
     let w = world_of c.args.setting.now c.args.state.now in
     let done = c.in_ok-advance_all.ensures in
-    let steps : c.advance_all.new.state.steps ≡ c.args.state.now.steps = λ k. (done.same k).steps in
+    let steps : c.advance_all.new.state.steps ≡ c.args.state.now.steps = λ k. (done.moved.same k).steps in
     let follow = rw (c.as_slice.ensures, steps) at c.place.ensures.particles in
     goes_led w (now_of c.advance_all.new.state) c.place.new.store.particles c.requires.sound done.outcome follow
 
@@ -30,13 +30,13 @@ pub returns-clause-under_way : goal.returns-clause-under_way
 returns-clause-under_way g c =
     let w = world_of c.args.setting.now c.args.state.now in
     let done = c.in_ok-advance_all.ensures in
-    let limit = c.place.ensures.limit ∙ done.limit in
+    let limit = c.place.ensures.limit ∙ done.moved.limit in
     subst (λ (v : World). IsUnderWay (2 ^ 100) v)
     (λ k. record w {
       limit = sym limit k;
-      steps = (sym done.same k).steps;
-      links = (sym done.same k).links.items;
-      contacts = (sym done.same k).contacts;
+      steps = (sym done.moved.same k).steps;
+      links = (sym done.moved.same k).links.items;
+      contacts = (sym done.moved.same k).contacts;
       particles = c.place.new.store.particles;
       totals = (now_of c.advance_all.new.state).totals;
     })
