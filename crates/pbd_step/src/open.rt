@@ -87,14 +87,16 @@ pub(crate) fn open_state<const L: usize>(
     })
 }
 
-/// Room for what a step works with.
-pub(crate) fn open_tools(alloc: Global, particles: u32, links: u32) -> Result<Tools, AllocError>
-    requires particles { particles ≤ 65536 }
-    requires links { links ≤ 524288 }
-    ensures { IfOk result (HaveSpace particles links) }
+// Tools of these contacts and flags, with room for so many links.
+fn with_room(
+    alloc: Global,
+    found: SelfContacts,
+    touched: Touched,
+    links: u32,
+) -> Result<Tools, AllocError>
+    requires { length touched ≡ found.particles }
+    ensures { IfOk result (HaveSpace found.particles links) }
 {
-    let found = SelfContacts::open(alloc, particles)?;
-    let touched = Touched::open(alloc, particles)?;
     let pairs = RoomList::open(alloc, links)?;
     let numbers = RoomList::open(alloc, links)?;
     Ok(Tools {
@@ -103,6 +105,17 @@ pub(crate) fn open_tools(alloc: Global, particles: u32, links: u32) -> Result<To
         pairs,
         numbers,
     })
+}
+
+/// Room for what a step works with.
+pub(crate) fn open_tools(alloc: Global, particles: u32, links: u32) -> Result<Tools, AllocError>
+    requires particles { particles ≤ 65536 }
+    requires links { links ≤ 524288 }
+    ensures { IfOk result (HaveSpace particles links) }
+{
+    let found = SelfContacts::open(alloc, particles)?;
+    let touched = Touched::open(alloc, particles)?;
+    with_room(alloc, found, touched, links)
 }
 
 /// A state before the first step, with what its steps work with.

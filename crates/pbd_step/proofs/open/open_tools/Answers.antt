@@ -1,13 +1,12 @@
-use Rattle.std.proofs.Common.{ap, ◌∙◌, ℕ, List, Bool, length, arith}
+use Rattle.std.proofs.Common.{sym, ap, ◌∙◌, subst, ℕ, List, Bool, length}
+use Rattle.std.specs.Prelude.{IfOk}
 use Rattle.std.proofs.lemmas.List.{length-replicate}
-use Rattle.pbd_world.specs.Room.{Roomed}
 use Rattle.pbd_self.specs.Touching.{Found}
+use Rattle.pbd_step.specs.States.{HaveSpace}
 use Rattle.pbd_step.proofs.open.open_tools.Goals as goal
 
+pub with_room-requires : goal.with_room-requires
+with_room-requires c = ap (λ (fs : List Bool). length fs) c.in_ok-touched.ensures ∙ length-replicate _ _ ∙ sym (ap (λ (f : Found). f.particles) c.in_ok-found.ensures)
+
 pub returns : goal.returns
-returns c = record {
-  found = ap (λ (f : Found). f.particles) c.in_ok-found.ensures;
-  touched = ap (λ (fs : List Bool). length fs) c.in_ok-touched.ensures ∙ length-replicate _ _;
-  pairs = omega (arith, ap (λ (r : Roomed (ℕ × ℕ)). r.room) c.in_ok-pairs.ensures);
-  numbers = omega (arith, ap (λ (r : Roomed ℕ). r.room) c.in_ok-numbers.ensures);
-}
+returns c = subst (λ (n : ℕ). IfOk c.with_room.result (HaveSpace n c.args.links)) (ap (λ (f : Found). f.particles) c.in_ok-found.ensures) c.with_room.ensures
