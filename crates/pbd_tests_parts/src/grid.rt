@@ -1,0 +1,168 @@
+//! Near pairs by cells, beside those found by looking at all.
+ghost use Rattle.std.specs.Prelude.{◌≡◌, ◌≤◌, IsTrue, length};
+ghost use Rattle.pbd_grid.specs.Near.{AllInside};
+
+use crate::places::at;
+use pbd_grid::{Grid, PairFilter};
+use pbd_num::{Vec3, inside};
+use pbd_world::RoomList;
+use std::alloc::{AllocError, Global};
+use std::process::Abort;
+use std::test::Fail;
+
+// Keeps all pairs but one.
+#[derive(Drop)]
+struct AllBut {
+    count: u32,
+    first: u32,
+    second: u32,
+}
+
+impl PairFilter for AllBut {
+    ghost use Rattle.std.specs.Prelude.{◌==◌, ◌&&◌, not};
+
+    ghost particles = { λ s. s.count };
+
+    ghost test = { λ s i j. not (i == s.first && j == s.second) };
+
+    fn keeps(&self, i: u32, j: u32) -> bool {
+        !(i == self.first && j == self.second)
+    }
+}
+
+// Whether each place is in range.
+fn are_inside(places: &[Vec3]) -> bool
+    ensures { IsTrue result → AllInside places.now }
+{
+    for place in places {
+        if !inside(*place) {
+            return false;
+        }
+    }
+    true
+}
+
+// The square of the distance of two places that are in range.
+fn squared_distance(a: Vec3, b: Vec3) -> i64 {
+    let x = a.x.wrapping_sub(b.x);
+    let y = a.y.wrapping_sub(b.y);
+    let z = a.z.wrapping_sub(b.z);
+    (x.wrapping_mul(x))
+        .wrapping_add(y.wrapping_mul(y))
+        .wrapping_add(z.wrapping_mul(z))
+}
+
+// The near pairs that are kept, by looking at all.
+fn near_of_all(
+    alloc: Global,
+    places: &[Vec3],
+    thickness: i64,
+    filter: &AllBut,
+) -> Result<Vec<(u32, u32)>, AllocError>
+    requires { length places.now ≤ 64 }
+{
+    let mut pairs = Vec::new(alloc);
+    let bound = thickness.wrapping_mul(thickness);
+    let count = places.len() as u32;
+    for i in 0..count {
+        for j in i + 1..count {
+            let squared = squared_distance(places[i as usize], places[j as usize]);
+            let is_left_out = i == filter.first && j == filter.second;
+            if squared < bound && !is_left_out {
+                pairs.push((i, j))?;
+            }
+        }
+    }
+    Ok(pairs)
+}
+
+// The pairs that a grid finds with room for so many, or none where they are more.
+fn near_by_cells(
+    rt: &impl Abort,
+    alloc: Global,
+    places: &[Vec3],
+    thickness: i64,
+    filter: &AllBut,
+    room: u32,
+) -> Result<Option<RoomList<(u32, u32)>>, AllocError> {
+    assert!(rt; places.len() <= 64 && filter.count as usize == places.len());
+    assert!(rt; are_inside(places));
+    assert!(rt; 1 <= thickness && thickness <= 1_048_576);
+    let mut grid = Grid::open(alloc, places.len() as u32)?;
+    let mut out = RoomList::open(alloc, room)?;
+    if grid.pairs(places, thickness, filter, &mut out).is_ok() {
+        return Ok(Some(out));
+    }
+    assert_eq!(rt; out.as_slice().len(), 0);
+    Ok(None)
+}
+
+// Compares a grid with all pairs, at a room that is just enough and at one too small.
+fn try_places(
+    rt: &impl Abort,
+    alloc: Global,
+    thickness: i64,
+    places: &[Vec3],
+    wanted: usize,
+) -> Result<(), AllocError> {
+    assert!(rt; places.len() <= 64 && wanted <= 64);
+    let filter = AllBut {
+        count: places.len() as u32,
+        first: 0,
+        second: 2,
+    };
+    let expected = near_of_all(alloc, places, thickness, &filter)?;
+    assert_eq!(rt; expected.len(), wanted);
+    let room = wanted as u32;
+    match near_by_cells(rt, alloc, places, thickness, &filter, room)? {
+        Some(found) => assert_eq!(rt; found.as_slice(), expected.as_slice()),
+        None => assert!(rt; false, "the room is enough"),
+    }
+    if room > 0 {
+        let less = near_by_cells(rt, alloc, places, thickness, &filter, room - 1)?;
+        assert!(rt; less.is_none());
+    }
+    Ok(())
+}
+
+#[test]
+fn near_pairs_are_those_of_all(rt: HostRuntime) -> Result<(), Fail> {
+    let alloc = rt.alloc();
+    let far = 536_870_912;
+    // Three in a line: 100 apart isn't nearer than 100.
+    try_places(
+        &rt,
+        alloc,
+        100,
+        &[at(0, 0, 0), at(99, 0, 0), at(100, 0, 0)],
+        2,
+    )?;
+    // On both sides of 0, and round a corner where eight cells meet.
+    try_places(&rt, alloc, 2, &[at(-1, 0, 0), at(0, 0, 0)], 1)?;
+    let corner = [
+        at(-1, -1, -1),
+        at(-1, -1, 0),
+        at(-1, 0, -1),
+        at(-1, 0, 0),
+        at(0, -1, -1),
+        at(0, -1, 0),
+        at(0, 0, -1),
+        at(0, 0, 0),
+    ];
+    try_places(&rt, alloc, 2, &corner, 27)?;
+    // Equal places are near at thickness 1, others aren't.
+    let few = [at(5, -7, 9), at(5, -7, 9), at(5, -7, 10), at(5, -7, 9)];
+    try_places(&rt, alloc, 1, &few, 3)?;
+    // The greatest thickness, at the ends of the range and on the edges of cells.
+    let wide = [
+        at(far, -far, far),
+        at(far - 1_048_575, -far, far),
+        at(far - 1_048_576, -far, far),
+        at(-far, -far, -far),
+        at(-far, -far + 1_048_575, -far),
+        at(0, 1_048_576, 0),
+        at(0, 1_048_575, 0),
+    ];
+    try_places(&rt, alloc, 1_048_576, &wide, 4)?;
+    Ok(())
+}

@@ -1,0 +1,395 @@
+//! Contacts at each width, compared with all pairs.
+ghost use Rattle.std.specs.Prelude.{◌≡◌, ◌<◌, ◌≤◌, IsTrue, IfOk, pos, ◌≤ℤ◌, length};
+ghost use Rattle.pbd_store.specs.Moving.{AreInside};
+
+use crate::pairs::are_in_range;
+use crate::places::{at, resting};
+use pbd_colour::Colouring;
+use pbd_num::{RANGE, inside};
+use pbd_self::SelfContacts;
+use pbd_store::{Steps, Store};
+use pbd_world::Particle;
+use std::alloc::{AllocError, Global};
+use std::marker::Brand;
+use std::process::Abort;
+use std::sync::ledger::{Blank, Ledger};
+use std::test::Fail;
+
+fn free(x: i64, y: i64, z: i64) -> Particle {
+    resting(at(x, y, z))
+}
+
+fn held(x: i64, y: i64, z: i64) -> Particle {
+    Particle {
+        held: true,
+        ..free(x, y, z)
+    }
+}
+
+// Particles and links, a thickness, and how many contacts there are.
+#[derive(Drop)]
+struct Case<'a> {
+    particles: &'a [Particle],
+    links: &'a [(u32, u32)],
+    thickness: i64,
+    contacts: usize,
+}
+
+// Whether each place is in range.
+fn are_inside(particles: &[Particle]) -> bool
+    ensures { IsTrue result → AreInside (pos 536870912) particles.now }
+{
+    for particle in particles {
+        if !inside(particle.at) {
+            return false;
+        }
+    }
+    true
+}
+
+fn square(n: i64) -> i64 {
+    n.wrapping_mul(n)
+}
+
+// Whether two particles touch, where links don't join them.
+fn may_touch(a: &Particle, b: &Particle, thickness: i64) -> bool {
+    let far = square(a.at.x.wrapping_sub(b.at.x))
+        .wrapping_add(square(a.at.y.wrapping_sub(b.at.y)))
+        .wrapping_add(square(a.at.z.wrapping_sub(b.at.z)));
+    far < square(thickness) && !(a.held && b.held)
+}
+
+fn joins(links: &[(u32, u32)], i: u32, j: u32) -> bool {
+    links.iter().any(|link| *link == (i, j) || *link == (j, i))
+}
+
+// The contacts, by looking at all pairs.
+fn touching_of_all(
+    alloc: Global,
+    particles: &[Particle],
+    links: &[(u32, u32)],
+    thickness: i64,
+) -> Result<Vec<(u32, u32)>, AllocError>
+    requires { length particles.now ≤ 1024 }
+{
+    let mut pairs = Vec::new(alloc);
+    let count = particles.len() as u32;
+    for i in 0..count {
+        for j in i + 1..count {
+            let near = may_touch(&particles[i as usize], &particles[j as usize], thickness);
+            if near && !joins(links, i, j) {
+                pairs.push((i, j))?;
+            }
+        }
+    }
+    Ok(pairs)
+}
+
+// The live links of so many particles.
+fn linked(
+    rt: &impl Abort,
+    alloc: Global,
+    particles: u32,
+    links: &[(u32, u32)],
+) -> Result<Colouring, AllocError>
+    requires { particles ≤ 1024 }
+    ensures { IfOk result (λ c. c.particles ≡ particles) }
+{
+    assert!(rt; links.len() <= 64 && are_in_range(links, particles));
+    let mut colouring = Colouring::open(alloc, particles, 64)?;
+    colouring.refill(links);
+    Ok(colouring)
+}
+
+// Whether contacts hold just these pairs, all live.
+fn holds(contacts: &SelfContacts, wanted: &[(u32, u32)]) -> bool {
+    contacts.pairs() == wanted
+        && contacts.count() as usize == wanted.len()
+        && contacts.colouring().live_count() as usize == wanted.len()
+}
+
+// Whether the contacts at a width are the wanted ones where these fit, and none where they don't.
+// Before these others are found.
+fn finds<const L: usize, G: Ledger>(
+    alloc: Global,
+    particles: &[Particle],
+    links: &Colouring,
+    thickness: i64,
+    wanted: &[(u32, u32)],
+    steps: &mut Steps<G>,
+) -> Result<bool, AllocError>
+    requires few { length particles.now ≤ 1024 }
+    requires inside { AreInside (pos 536870912) particles.now }
+    requires links { links.now.particles ≡ length particles.now }
+    requires low { pos 0 ≤ℤ thickness }
+    requires high { thickness ≤ℤ pos 1048576 }
+{
+    let store: Store<L> = Store::open(alloc, particles, RANGE)?;
+    let mut contacts = SelfContacts::open(alloc, particles.len() as u32)?;
+    let _ = contacts.detect(&store, links, 8, steps);
+    let found = contacts.detect(&store, links, thickness, steps);
+    if wanted.len() > 262_144 {
+        return Ok(found.is_err() && holds(&contacts, &[]));
+    }
+    Ok(found.is_ok() && holds(&contacts, wanted))
+}
+
+// The same, after what it asks for was seen to.
+fn finds_safely<const L: usize, G: Ledger>(
+    rt: &impl Abort,
+    alloc: Global,
+    case: &Case<'_>,
+    wanted: &[(u32, u32)],
+    steps: &mut Steps<G>,
+) -> Result<bool, AllocError> {
+    let particles = case.particles;
+    let links = case.links;
+    let thickness = case.thickness;
+    assert!(rt; particles.len() <= 1024);
+    assert!(rt; are_inside(particles));
+    assert!(rt; 0 <= thickness && thickness <= 1_048_576);
+    let colouring = linked(rt, alloc, particles.len() as u32, links)?;
+    finds::<L, G>(alloc, particles, &colouring, thickness, wanted, steps)
+}
+
+fn finds_counted<G: Ledger>(
+    rt: &impl Abort,
+    alloc: Global,
+    blank: Blank,
+    case: &Case<'_>,
+    wanted: &[(u32, u32)],
+) -> Result<[bool; 5], AllocError>
+    requires name { blank.name ≡ G.name }
+    requires parts { blank.parts ≡ G.parts }
+    requires some { 0 < blank.parts }
+{
+    let mut steps: Steps<G> = Steps::open(blank);
+    Ok([
+        finds_safely::<1, G>(rt, alloc, case, wanted, &mut steps)?,
+        finds_safely::<2, G>(rt, alloc, case, wanted, &mut steps)?,
+        finds_safely::<4, G>(rt, alloc, case, wanted, &mut steps)?,
+        finds_safely::<8, G>(rt, alloc, case, wanted, &mut steps)?,
+        finds_safely::<16, G>(rt, alloc, case, wanted, &mut steps)?,
+    ])
+}
+
+// Whether the wanted contacts are found at each width.
+fn finds_at_each_width(
+    rt: &impl Abort,
+    alloc: Global,
+    case: &Case<'_>,
+    wanted: &[(u32, u32)],
+) -> Result<bool, AllocError> {
+    let found = finds_counted::<Brand>(rt, alloc, Blank::new(1), case, wanted)?;
+    Ok(found == [true; 5])
+}
+
+// Compares what is found at each width with all pairs, of which so many touch.
+fn try_case(rt: &impl Abort, alloc: Global, case: &Case<'_>) -> Result<(), AllocError> {
+    assert!(rt; case.particles.len() <= 1024);
+    let wanted = touching_of_all(alloc, case.particles, case.links, case.thickness)?;
+    assert_eq!(rt; wanted.len(), case.contacts);
+    assert!(rt; finds_at_each_width(rt, alloc, case, wanted.as_slice())?);
+    Ok(())
+}
+
+// So many particles in a row.
+fn row(alloc: Global, count: u32) -> Result<Vec<Particle>, AllocError> {
+    let mut particles = Vec::new(alloc);
+    for x in 0..count {
+        particles.push(free(x as i64, 0, 0))?;
+    }
+    Ok(particles)
+}
+
+// Tries particles in a row, with no links.
+fn try_row(
+    rt: &impl Abort,
+    alloc: Global,
+    count: u32,
+    thickness: i64,
+    contacts: usize,
+) -> Result<(), AllocError> {
+    let particles = row(alloc, count)?;
+    let case = Case {
+        particles: particles.as_slice(),
+        links: &[],
+        thickness,
+        contacts,
+    };
+    try_case(rt, alloc, &case)
+}
+
+#[test]
+fn few_particles(rt: HostRuntime) -> Result<(), Fail> {
+    let alloc = rt.alloc();
+    // 100 apart isn't nearer than 100.
+    let line = [free(0, 0, 0), free(99, 0, 0), free(100, 0, 0)];
+    try_case(
+        &rt,
+        alloc,
+        &Case {
+            particles: &line,
+            links: &[],
+            thickness: 100,
+            contacts: 2,
+        },
+    )?;
+    try_case(
+        &rt,
+        alloc,
+        &Case {
+            particles: &line,
+            links: &[(1, 0)],
+            thickness: 100,
+            contacts: 1,
+        },
+    )?;
+    try_case(
+        &rt,
+        alloc,
+        &Case {
+            particles: &line,
+            links: &[(0, 2)],
+            thickness: 100,
+            contacts: 2,
+        },
+    )?;
+    try_case(
+        &rt,
+        alloc,
+        &Case {
+            particles: &line,
+            links: &[],
+            thickness: 0,
+            contacts: 0,
+        },
+    )?;
+    // On both sides of 0.
+    try_case(
+        &rt,
+        alloc,
+        &Case {
+            particles: &[free(-1, 0, 0), free(0, 0, 0)],
+            links: &[],
+            thickness: 2,
+            contacts: 1,
+        },
+    )?;
+    // Two held ones don't touch, a held and a free one do.
+    let pinned = [held(0, 5, 0), free(3, 5, 0), held(5, 5, 0), held(0, 5, 3)];
+    try_case(
+        &rt,
+        alloc,
+        &Case {
+            particles: &pinned,
+            links: &[],
+            thickness: 6,
+            contacts: 3,
+        },
+    )?;
+    try_case(
+        &rt,
+        alloc,
+        &Case {
+            particles: &pinned,
+            links: &[(2, 1), (0, 3)],
+            thickness: 6,
+            contacts: 2,
+        },
+    )?;
+    // Equal places are near at thickness 1, others aren't, and none is at 0.
+    let equal = [
+        free(5, -7, 9),
+        free(5, -7, 9),
+        free(5, -7, 10),
+        free(5, -7, 9),
+    ];
+    try_case(
+        &rt,
+        alloc,
+        &Case {
+            particles: &equal,
+            links: &[],
+            thickness: 1,
+            contacts: 3,
+        },
+    )?;
+    try_case(
+        &rt,
+        alloc,
+        &Case {
+            particles: &equal,
+            links: &[],
+            thickness: 0,
+            contacts: 0,
+        },
+    )?;
+    Ok(())
+}
+
+#[test]
+fn edges_of_cells_and_of_the_range(rt: HostRuntime) -> Result<(), Fail> {
+    let alloc = rt.alloc();
+    // Round a corner where eight cells meet.
+    let corner = [
+        free(-1, -1, -1),
+        free(-1, -1, 0),
+        free(-1, 0, -1),
+        free(-1, 0, 0),
+        free(0, -1, -1),
+        free(0, -1, 0),
+        free(0, 0, -1),
+        free(0, 0, 0),
+    ];
+    try_case(
+        &rt,
+        alloc,
+        &Case {
+            particles: &corner,
+            links: &[],
+            thickness: 2,
+            contacts: 28,
+        },
+    )?;
+    // The greatest thickness, at the ends of the range and on the edges of cells.
+    let far = 536_870_912;
+    let wide = [
+        free(far, -far, far),
+        free(far - 1_048_575, -far, far),
+        free(far - 1_048_576, -far, far),
+        free(-far, -far, -far),
+        free(-far, 1_048_575 - far, -far),
+        free(0, 1_048_576, 0),
+        free(0, 1_048_575, 0),
+    ];
+    try_case(
+        &rt,
+        alloc,
+        &Case {
+            particles: &wide,
+            links: &[],
+            thickness: 1_048_576,
+            contacts: 4,
+        },
+    )?;
+    Ok(())
+}
+
+#[test]
+fn seventy_particles_all_touch(rt: HostRuntime) -> Result<(), Fail> {
+    try_row(&rt, rt.alloc(), 70, 100, 2415)?;
+    Ok(())
+}
+
+#[test]
+fn just_as_many_as_there_is_room_for(rt: HostRuntime) -> Result<(), Fail> {
+    try_row(&rt, rt.alloc(), 724, 1000, 261_726)?;
+    Ok(())
+}
+
+#[test]
+fn more_than_there_is_room_for(rt: HostRuntime) -> Result<(), Fail> {
+    try_row(&rt, rt.alloc(), 725, 1000, 262_450)?;
+    Ok(())
+}
