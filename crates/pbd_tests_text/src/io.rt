@@ -1,0 +1,153 @@
+//! Each source and sink through its trait, with calls that fail once in mid-stream.
+use pbd_io::{Failed, MemSink, MemSource, Sink, Source, StdSink, StdSource, SureSink, SureSource};
+use std::io::{self, ErrorKind, Read, Write};
+use std::test::Fail;
+
+fn put<K: Sink>(sink: &mut K, piece: &[u8]) -> Result<(), Failed> {
+    sink.write(piece)
+}
+
+fn get<S: Source>(source: &mut S, into: &mut [u8]) -> Result<usize, Failed> {
+    source.read(into)
+}
+
+// Moves at most two bytes a call, fails the second call, and takes nothing at the fourth.
+// The flush after the seventh fails.
+#[derive(Drop)]
+struct Halting<T> {
+    inner: T,
+    calls: u8,
+}
+
+impl<T> Halting<T> {
+    fn turn(&mut self, len: usize) -> io::Result<usize> {
+        self.calls = self.calls.saturating_add(1);
+        match self.calls {
+            2 => Err(ErrorKind::BrokenPipe.into()),
+            4 => Ok(0),
+            _ => Ok(len.min(2)),
+        }
+    }
+}
+
+impl<T: Read> Read for Halting<T> {
+    fn read(&mut self, buf: &mut [u8]) -> io::Result<usize> {
+        let len = self.turn(buf.len())?.min(buf.len());
+        self.inner.read(&mut buf[..len])
+    }
+}
+
+impl<T: Write> Write for Halting<T> {
+    fn write(&mut self, buf: &[u8]) -> io::Result<usize> {
+        let len = self.turn(buf.len())?.min(buf.len());
+        self.inner.write(&buf[..len])
+    }
+
+    fn flush(&mut self) -> io::Result<()> {
+        if self.calls == 7 {
+            return Err(ErrorKind::BrokenPipe.into());
+        }
+        Ok(())
+    }
+}
+
+#[test]
+fn a_sink_in_memory_fails_where_it_is_told(rt: HostRuntime) -> Result<(), Fail> {
+    let fails = [(2, 1), (4, 9), (2, 5)].to_vec(rt.alloc())?;
+    let mut sink = MemSink::open(rt.alloc(), 8, fails)?;
+    let calls: [(&[u8], Result<(), Failed>, &[u8]); 8] = [
+        (b"abc", Ok(()), b"abc"),
+        (b"de", Err(Failed), b"abcd"),
+        (b"efghi", Err(Failed), b"abcd"),
+        (b"xy", Err(Failed), b"abcdxy"),
+        (b"", Ok(()), b"abcdxy"),
+        (b"zw", Ok(()), b"abcdxyzw"),
+        (b"q", Err(Failed), b"abcdxyzw"),
+        (b"", Ok(()), b"abcdxyzw"),
+    ];
+    for (piece, answer, holds) in calls {
+        assert_eq!(rt; put(&mut sink, piece), answer, "at {piece:?}");
+        assert_eq!(rt; sink.written(), holds, "after {piece:?}");
+    }
+    Ok(())
+}
+
+#[test]
+fn a_source_in_memory_fails_where_it_is_told(rt: HostRuntime) -> Result<(), Fail> {
+    let bytes = b"abcdefg".to_vec(rt.alloc())?;
+    let fails = [2, 5].to_vec(rt.alloc())?;
+    let mut source = MemSource::new(bytes, 3, fails);
+    let calls: [(usize, Result<usize, Failed>, &[u8]); 7] = [
+        (4, Ok(3), b"abc."),
+        (4, Err(Failed), b"...."),
+        (2, Ok(2), b"de.."),
+        (0, Ok(0), b"...."),
+        (4, Err(Failed), b"...."),
+        (4, Ok(2), b"fg.."),
+        (4, Ok(0), b"...."),
+    ];
+    for (room, answer, given) in calls {
+        let mut into = [b'.'; 4];
+        assert_eq!(rt;
+            get(&mut source, &mut into[..room.min(4)]),
+            answer,
+            "into {room}"
+        );
+        assert_eq!(rt; into.as_slice(), given, "into {room}");
+    }
+    Ok(())
+}
+
+#[test]
+fn the_sure_ones_never_fail(rt: HostRuntime) {
+    let mut source = SureSource::new(b"abc");
+    let mut into = [b'.'; 2];
+    assert_eq!(rt; get(&mut source, &mut into), Ok(2));
+    assert_eq!(rt; get(&mut source, &mut into), Ok(1));
+    assert_eq!(rt; into.as_slice(), b"cb".as_slice());
+    assert_eq!(rt; get(&mut source, &mut into), Ok(0));
+    let mut sink = SureSink::new();
+    assert_eq!(rt; put(&mut sink, b"abc"), Ok(()));
+    assert_eq!(rt; put(&mut sink, b"de"), Ok(()));
+    assert_eq!(rt; sink.taken(), 5);
+}
+
+#[test]
+fn a_reader_of_std_goes_on_after_a_fault(rt: HostRuntime) {
+    let text: &[u8] = b"abc";
+    let mut source = StdSource::new(Halting {
+        inner: text,
+        calls: 0,
+    });
+    let calls: [(Result<usize, Failed>, &[u8]); 4] = [
+        (Ok(2), b"ab."),
+        (Err(Failed), b"..."),
+        (Ok(1), b"c.."),
+        (Ok(0), b"..."),
+    ];
+    for (answer, given) in calls {
+        let mut into = [b'.'; 3];
+        assert_eq!(rt; get(&mut source, &mut into), answer);
+        assert_eq!(rt; into.as_slice(), given);
+    }
+}
+
+#[test]
+fn a_writer_of_std_fails_and_goes_on(rt: HostRuntime) {
+    let mut held = Vec::new(rt.alloc());
+    let mut sink = StdSink::new(Halting {
+        inner: &mut held,
+        calls: 0,
+    });
+    let calls: [(&[u8], Result<(), Failed>); 5] = [
+        (b"abc", Err(Failed)),
+        (b"defg", Err(Failed)),
+        (b"hij", Ok(())),
+        (b"", Ok(())),
+        (b"k", Err(Failed)),
+    ];
+    for (piece, answer) in calls {
+        assert_eq!(rt; put(&mut sink, piece), answer, "at {piece:?}");
+    }
+    assert_eq!(rt; held.as_slice(), b"abdehijk".as_slice());
+}

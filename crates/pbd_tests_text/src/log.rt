@@ -1,0 +1,364 @@
+//! Logs byte by byte, cut and changed, sinks that fail, and what is read back.
+ghost use Rattle.std.specs.Prelude.{◌≡◌, ◌<◌, ◌^◌, ◌++◌, IsTrue, length, OnOk};
+ghost use Rattle.std.specs.Io.KnownBytes.{Appends};
+ghost use Rattle.std.specs.List.{All, flat_map};
+ghost use Rattle.pbd_world.specs.Valid.{is_limit};
+ghost use Rattle.pbd_log.specs.Entries.{IsGrammatical, entry_bytes};
+ghost use Rattle.pbd_log.specs.Logs.{header_bytes, end_bytes};
+
+use pbd_io::{Failed, MemSink, Sink};
+use pbd_log::{Entry, LogWriter, answer_of, read_log};
+use pbd_num::Vec3;
+use pbd_world::{Command, FrameSums, Phase, Refusal, Reply};
+use std::test::*;
+
+const SCENE: [u8; 53] = [
+    103, 114, 97, 118, 105, 116, 121, 32, 61, 32, 91, 48, 44, 32, 45, 49, 48, 44, 32, 48, 93, 10,
+    91, 91, 112, 97, 114, 116, 105, 99, 108, 101, 93, 93, 10, 97, 116, 32, 61, 32, 91, 48, 44, 32,
+    49, 48, 48, 48, 44, 32, 48, 93, 10,
+];
+
+// A log of version 2 with that scene, a step, a frame and the end.
+const LONG: [u8; 158] = [
+    80, 66, 68, 83, 76, 79, 71, 2, 0, 0, 0, 0, 32, 0, 0, 0, 0, 0, 0, 53, 103, 114, 97, 118, 105,
+    116, 121, 32, 61, 32, 91, 48, 44, 32, 45, 49, 48, 44, 32, 48, 93, 10, 91, 91, 112, 97, 114,
+    116, 105, 99, 108, 101, 93, 93, 10, 97, 116, 32, 61, 32, 91, 48, 44, 32, 49, 48, 48, 48, 44,
+    32, 48, 93, 10, 1, 0, 0, 0, 0, 0, 0, 0, 3, 0, 0, 0, 0, 0, 0, 0, 0, 3, 0, 0, 0, 0, 0, 0, 0, 0,
+    0, 0, 0, 0, 0, 0, 0, 0, 0, 0, 0, 0, 0, 0, 3, 172, 0, 0, 0, 0, 0, 0, 0, 0, 0, 0, 0, 0, 0, 0, 0,
+    0, 0, 0, 0, 0, 0, 0, 3, 202, 0, 0, 0, 0, 0, 0, 0, 0, 2, 0, 0, 0, 0, 0, 0, 0, 0, 0, 2,
+];
+
+// The same run in version 1.
+const OLD: [u8; 150] = [
+    80, 66, 68, 83, 76, 79, 71, 1, 0, 0, 0, 53, 103, 114, 97, 118, 105, 116, 121, 32, 61, 32, 91,
+    48, 44, 32, 45, 49, 48, 44, 32, 48, 93, 10, 91, 91, 112, 97, 114, 116, 105, 99, 108, 101, 93,
+    93, 10, 97, 116, 32, 61, 32, 91, 48, 44, 32, 49, 48, 48, 48, 44, 32, 48, 93, 10, 1, 0, 0, 0, 0,
+    0, 0, 0, 3, 0, 0, 0, 0, 0, 0, 0, 0, 3, 0, 0, 0, 0, 0, 0, 0, 0, 0, 0, 0, 0, 0, 0, 0, 0, 0, 0, 0,
+    0, 0, 0, 3, 172, 0, 0, 0, 0, 0, 0, 0, 0, 0, 0, 0, 0, 0, 0, 0, 0, 0, 0, 0, 0, 0, 0, 3, 202, 0,
+    0, 0, 0, 0, 0, 0, 0, 2, 0, 0, 0, 0, 0, 0, 0, 0, 0, 2,
+];
+
+const SMALL: [u8; 31] = [
+    80, 66, 68, 83, 76, 79, 71, 2, 0, 0, 0, 0, 32, 0, 0, 0, 0, 0, 0, 0, 2, 0, 0, 0, 0, 0, 0, 0, 0,
+    0, 1,
+];
+
+const OLD_SMALL: [u8; 23] = [
+    80, 66, 68, 83, 76, 79, 71, 1, 0, 0, 0, 0, 2, 0, 0, 0, 0, 0, 0, 0, 0, 0, 1,
+];
+
+// The greatest number of steps, refused with 9.
+const OLD_BAD_COUNT: [u8; 31] = [
+    80, 66, 68, 83, 76, 79, 71, 1, 0, 0, 0, 0, 1, 255, 255, 255, 255, 255, 255, 255, 255, 9, 0, 0,
+    0, 0, 0, 0, 0, 0, 1,
+];
+
+// One step, refused with 11: step 1, predict, element 0.
+const OLD_LEAVES: [u8; 44] = [
+    80, 66, 68, 83, 76, 79, 71, 1, 0, 0, 0, 0, 1, 0, 0, 0, 0, 0, 0, 0, 1, 11, 0, 0, 0, 0, 0, 0, 0,
+    1, 1, 0, 0, 0, 0, 0, 0, 0, 0, 0, 0, 0, 0, 1,
+];
+
+const STEP_SUMS: FrameSums = FrameSums {
+    steps: 3,
+    live: 0,
+    contacts: 0,
+    at: [0, 940, 0],
+    before: [0, 970, 0],
+};
+
+/// What a session keeps of this command and this reply, with these sums where sums stand.
+fn kept(command: Command, reply: &Reply, sums: FrameSums) -> Entry
+    ensures { IsGrammatical result }
+{
+    let answer = answer_of(reply);
+    let sums = match command {
+        Command::Step(_) if answer.number == 0 => Some(sums),
+        _ => None,
+    };
+    Entry {
+        command,
+        answer,
+        sums,
+    }
+}
+
+fn step() -> Entry
+    ensures { IsGrammatical result }
+{
+    kept(Command::Step(3), &Reply::Done, STEP_SUMS)
+}
+
+fn frame() -> Entry
+    ensures { IsGrammatical result }
+{
+    kept(Command::Frame, &Reply::Frame, STEP_SUMS)
+}
+
+/// A whole log of version 2, part by part: what it appends is known from the writer's clauses alone.
+fn write_log<K: Sink>(
+    sink: &mut K,
+    limit: i64,
+    scene: &[u8],
+    entries: &[Entry],
+) -> Result<(), Failed>
+    requires limit { IsTrue (is_limit limit) }
+    requires scene { length scene.now < 2 ^ 32 }
+    requires grammar { All IsGrammatical entries.now }
+    requires room { length entries.now < 2 ^ 32 }
+    ensures { OnOk result (Appends (K.written sink.old) (K.written sink.new) ((header_bytes 2 limit (length scene.now) ++ scene.now) ++ flat_map entry_bytes entries.now ++ end_bytes (length entries.now))) }
+{
+    let mut writer = LogWriter::begin(sink, limit, scene)?;
+    for entry in entries {
+        writer.append(sink, entry)?;
+    }
+    writer.finish(sink)
+}
+
+#[test]
+fn writes_the_examples(rt: HostRuntime) -> Result<(), Fail> {
+    let mut sink = MemSink::open(rt.alloc(), 31, Vec::new(rt.alloc()))?;
+    write_log(&mut sink, 536_870_912, &[], &[frame()])
+        .ok()
+        .ok_or("small")?;
+    assert_eq!(rt; sink.written(), SMALL.as_slice());
+    let mut sink = MemSink::open(rt.alloc(), 158, Vec::new(rt.alloc()))?;
+    write_log(&mut sink, 536_870_912, &SCENE, &[step(), frame()])
+        .ok()
+        .ok_or("long")?;
+    assert_eq!(rt; sink.written(), LONG.as_slice());
+    Ok(())
+}
+
+#[test]
+fn reads_the_examples(rt: HostRuntime) -> Result<(), Fail> {
+    let bad_count = Reply::Refused(Refusal::BadCount);
+    let leaves = Reply::Refused(Refusal::LeavesRange {
+        step: 1,
+        phase: Phase::Predict,
+        element: 0,
+    });
+    let whole = [step(), frame()];
+    let only_frame = [frame()];
+    let refused_count = [kept(Command::Step(u64::MAX), &bad_count, STEP_SUMS)];
+    let refused_step = [kept(Command::Step(1), &leaves, STEP_SUMS)];
+    let none: &[u8] = &[];
+    let table: [(&[u8], u8, i64, &[u8], &[Entry]); 6] = [
+        (&LONG, 2, 536_870_912, &SCENE, &whole),
+        (&SMALL, 2, 536_870_912, none, &only_frame),
+        (&OLD, 1, 268_435_456, &SCENE, &whole),
+        (&OLD_SMALL, 1, 268_435_456, none, &only_frame),
+        (&OLD_BAD_COUNT, 1, 268_435_456, none, &refused_count),
+        (&OLD_LEAVES, 1, 268_435_456, none, &refused_step),
+    ];
+    for (bytes, version, limit, scene, entries) in table {
+        let mut view = read_log(bytes).ok().ok_or("it is a log")?;
+        assert_eq!(rt; view.version(), version);
+        assert_eq!(rt; view.limit(), limit);
+        assert_eq!(rt; view.scene(), scene);
+        for entry in entries {
+            assert_eq!(rt; view.next(), Some(*entry));
+        }
+        assert_eq!(rt; view.next(), None);
+        assert_eq!(rt; view.next(), None);
+    }
+    Ok(())
+}
+
+fn offset_of(bytes: &[u8]) -> Option<u64> {
+    match read_log(bytes) {
+        Ok(_) => None,
+        Err(fault) => Some(fault.offset),
+    }
+}
+
+/// The offset for the first n bytes: that of the first row that n isn't past.
+fn expected_at(n: usize, rows: &[(usize, u64)]) -> Option<u64> {
+    for (last, offset) in rows {
+        if n <= *last {
+            return Some(*offset);
+        }
+    }
+    None
+}
+
+#[test]
+fn refuses_each_cut(rt: HostRuntime) {
+    let long: [(usize, u64); 6] = [(7, 0), (15, 8), (72, 16), (146, 73), (148, 147), (157, 149)];
+    let old: [(usize, u64); 5] = [(7, 0), (64, 8), (138, 65), (140, 139), (149, 141)];
+    let small: [(usize, u64); 5] = [(7, 0), (15, 8), (19, 16), (21, 20), (30, 22)];
+    let old_small: [(usize, u64); 4] = [(7, 0), (11, 8), (13, 12), (22, 14)];
+    let table: [(&[u8], &[(usize, u64)]); 4] = [
+        (&LONG, &long),
+        (&OLD, &old),
+        (&SMALL, &small),
+        (&OLD_SMALL, &old_small),
+    ];
+    for (bytes, rows) in table {
+        for n in 0..=bytes.len() {
+            assert_eq!(rt; offset_of(&bytes[..n]), expected_at(n, rows), "cut to {n}");
+        }
+    }
+}
+
+/// What becomes of the bytes with this one set.
+fn offset_with<const N: usize>(bytes: &[u8; N], at: usize, byte: u8) -> Option<u64> {
+    let mut changed = *bytes;
+    if at < N {
+        changed[at] = byte;
+    }
+    offset_of(&changed)
+}
+
+#[test]
+fn looks_at_each_field(rt: HostRuntime) {
+    for (at, byte, offset) in [
+        (0, 81, Some(0)),
+        (6, 103, Some(0)),
+        (7, 0, Some(0)),
+        (7, 3, Some(0)),
+        (8, 1, Some(8)),
+        (12, 16, None),
+        (12, 48, Some(8)),
+        (15, 1, Some(8)),
+        (16, 255, Some(16)),
+        (19, 12, Some(16)),
+        (20, 0, Some(29)),
+        (20, 10, Some(20)),
+        (21, 2, None),
+        (21, 13, Some(20)),
+        (22, 10, Some(22)),
+        (23, 1, Some(22)),
+        (30, 2, Some(22)),
+    ] {
+        assert_eq!(rt; offset_with(&SMALL, at, byte), offset, "{byte} at {at}");
+    }
+    for (at, byte, offset) in [
+        (11, 12, Some(8)),
+        (12, 10, Some(12)),
+        (13, 13, Some(12)),
+        (22, 2, Some(14)),
+    ] {
+        assert_eq!(rt; offset_with(&OLD_SMALL, at, byte), offset, "{byte} at {at}");
+    }
+    for (phase, offset) in [(0, Some(12)), (1, None), (4, None), (5, Some(12))] {
+        assert_eq!(rt;
+            offset_with(&OLD_LEAVES, 30, phase),
+            offset,
+            "phase {phase}"
+        );
+    }
+    assert_eq!(rt; offset_with(&OLD_LEAVES, 21, 0), Some(12));
+    assert_eq!(rt;
+        offset_of(&[80, 66, 68, 83, 76, 79, 71, 1, 255, 255, 255, 255]),
+        Some(8)
+    );
+}
+
+#[test]
+fn refuses_bytes_after_the_end(rt: HostRuntime) {
+    let mut longer = [0; 32];
+    longer[..31].copy_from_slice(SMALL.as_slice());
+    assert_eq!(rt; offset_of(&longer), Some(31));
+    let mut longer = [2; 40];
+    longer[..23].copy_from_slice(OLD_SMALL.as_slice());
+    assert_eq!(rt; offset_of(&longer), Some(23));
+}
+
+#[test]
+fn reads_back_what_it_wrote(rt: HostRuntime) -> Result<(), Fail> {
+    let to = Vec3 {
+        x: i64::MIN,
+        y: -1,
+        z: i64::MAX,
+    };
+    let sums = FrameSums {
+        steps: u64::MAX,
+        live: u32::MAX,
+        contacts: 65_536,
+        at: [i64::MIN, -256, 1],
+        before: [i64::MAX, 0, -1],
+    };
+    let leaves = Refusal::LeavesRange {
+        step: 1_000_000,
+        phase: Phase::Shape,
+        element: 65_535,
+    };
+    let many = Refusal::TooManyContacts { step: u64::MAX };
+    let table: [(Command, Reply); 13] = [
+        (Command::Step(u64::MAX), Reply::Refused(Refusal::BadCount)),
+        (Command::Step(1), Reply::Done),
+        (Command::Step(1), Reply::Refused(leaves)),
+        (Command::Step(256), Reply::Refused(many)),
+        (Command::Frame, Reply::Frame),
+        (Command::Pin(7), Reply::Done),
+        (Command::Unpin(65_536), Reply::Refused(Refusal::NotHeld)),
+        (Command::Move { particle: 3, to }, Reply::Done),
+        (
+            Command::Move { particle: 4, to },
+            Reply::Refused(Refusal::OutOfRange),
+        ),
+        (Command::Cut(0), Reply::Refused(Refusal::NoLink)),
+        (Command::Gravity(to), Reply::Done),
+        (Command::Ledger, Reply::Ledger),
+        (Command::Bad, Reply::Refused(Refusal::BadCommand)),
+    ];
+    let mut sink = MemSink::open(rt.alloc(), 1000, Vec::new(rt.alloc()))?;
+    let mut writer = LogWriter::begin(&mut sink, 268_435_456, &[])
+        .ok()
+        .ok_or("begin")?;
+    for (command, reply) in &table {
+        let _ = writer.append(&mut sink, &kept(*command, reply, sums));
+    }
+    writer.finish(&mut sink).ok().ok_or("finish")?;
+    let mut view = read_log(sink.written()).ok().ok_or("it is a log")?;
+    assert_eq!(rt; view.limit(), 268_435_456);
+    for (command, reply) in &table {
+        assert_eq!(rt; view.next(), Some(kept(*command, reply, sums)));
+    }
+    assert_eq!(rt; view.next(), None);
+    Ok(())
+}
+
+// The header, the scene, each entry and the end are one call each.
+#[test]
+fn stops_at_the_call_that_fails(rt: HostRuntime) -> Result<(), Fail> {
+    for (call, taken, held) in [
+        (1, 0, 0),
+        (1, 19, 19),
+        (2, 0, 20),
+        (2, 52, 72),
+        (3, 1, 74),
+        (4, 0, 147),
+        (4, 2, 149),
+        (5, 8, 157),
+    ] {
+        let fails = Vec::from_array(rt.alloc(), [(call, taken)])?;
+        let mut sink = MemSink::open(rt.alloc(), 158, fails)?;
+        let result = write_log(&mut sink, 536_870_912, &SCENE, &[step(), frame()]);
+        assert!(rt; result.is_err(), "call {call}");
+        assert_eq!(rt; sink.written(), &LONG[..held], "call {call}");
+    }
+    for (call, held) in [(1, 0), (2, 20), (3, 22)] {
+        let fails = Vec::from_array(rt.alloc(), [(call, 0)])?;
+        let mut sink = MemSink::open(rt.alloc(), 31, fails)?;
+        assert!(rt; write_log(&mut sink, 536_870_912, &[], &[frame()]).is_err());
+        assert_eq!(rt; sink.written(), &SMALL[..held], "empty scene, call {call}");
+    }
+    Ok(())
+}
+
+// After an append that failed the end has the number of the entries that were written.
+#[test]
+fn goes_on_after_a_failed_append(rt: HostRuntime) -> Result<(), Fail> {
+    let fails = Vec::from_array(rt.alloc(), [(2, 0)])?;
+    let mut sink = MemSink::open(rt.alloc(), 31, fails)?;
+    let mut writer = LogWriter::begin(&mut sink, 536_870_912, &[])
+        .ok()
+        .ok_or("begin")?;
+    assert!(rt; writer.append(&mut sink, &frame()).is_err());
+    writer.append(&mut sink, &frame()).ok().ok_or("append")?;
+    writer.finish(&mut sink).ok().ok_or("finish")?;
+    assert_eq!(rt; sink.written(), SMALL.as_slice());
+    Ok(())
+}

@@ -1,0 +1,253 @@
+//! Texts and their meshes, meshes and their links, and lines.
+ghost use Rattle.std.specs.Prelude.{◌≤◌};
+
+use crate::parts::{compare_links, empty_parts};
+use pbd_io::MemSink;
+use pbd_num::{RANGE, Vec3, inside};
+use pbd_obj::{ObjFault, add_mesh, read_obj, write_face, write_vertex};
+use pbd_world::Kind;
+use std::alloc::Global;
+use std::test::Fail;
+
+const SQUARE: &[u8] = b"v 0 0 0\nv 1 0 0\nv 1 1 0\nv 0 1 0\nf 1 2/7 -2//3 4\n";
+
+fn place(x: i64, y: i64, z: i64) -> Vec3 {
+    Vec3 { x, y, z }
+}
+
+#[test]
+fn texts_with_a_bad_vertex(rt: HostRuntime) -> Result<(), Fail> {
+    let texts: [(&[u8], ObjFault); 19] = [
+        (b"v 1 2", ObjFault::BadNumber { line: 1 }),
+        (b"v", ObjFault::BadNumber { line: 1 }),
+        (b"#\n\n v 1 2 x\r\n", ObjFault::BadNumber { line: 3 }),
+        (b"v 1 2 .", ObjFault::BadNumber { line: 1 }),
+        (b"v 1 2 1..", ObjFault::BadNumber { line: 1 }),
+        (b"v 1 2 --3", ObjFault::BadNumber { line: 1 }),
+        (b"v 1 2 3e", ObjFault::BadNumber { line: 1 }),
+        (b"v 1 2 3e+", ObjFault::BadNumber { line: 1 }),
+        (b"v 1 2 3e123", ObjFault::BadNumber { line: 1 }),
+        (b"v 1 2 3e1.5", ObjFault::BadNumber { line: 1 }),
+        (b"v 1 2 e5", ObjFault::BadNumber { line: 1 }),
+        (b"v 1 2 0x3", ObjFault::BadNumber { line: 1 }),
+        (b"v 1 2 nan", ObjFault::BadNumber { line: 1 }),
+        (
+            b"v 1 2 0000000000000000000000003",
+            ObjFault::BadNumber { line: 1 },
+        ),
+        (b"v 9999 2 x", ObjFault::BadNumber { line: 1 }),
+        (b"v 8193 0 0", ObjFault::OutOfRange { line: 1 }),
+        (b"v 0 -8192.0001 0", ObjFault::OutOfRange { line: 1 }),
+        (b"v 0 0 1e99", ObjFault::OutOfRange { line: 1 }),
+        (
+            b"v 0 0 999999999999999999999999e99",
+            ObjFault::OutOfRange { line: 1 },
+        ),
+    ];
+    for (text, fault) in texts {
+        match read_obj(rt.alloc(), text) {
+            Ok(_) => assert!(rt; false, "no fault of {text:?}"),
+            Err(found) => assert_eq!(rt; found, fault, "of {text:?}"),
+        }
+    }
+    Ok(())
+}
+
+#[test]
+fn texts_with_a_bad_face(rt: HostRuntime) -> Result<(), Fail> {
+    let texts: [(&[u8], ObjFault); 13] = [
+        (
+            b"v 0 0 0\nv 0 0 9e3\nf 1 2 3",
+            ObjFault::OutOfRange { line: 2 },
+        ),
+        (b"f 1 2 3", ObjFault::BadFace { line: 1 }),
+        (b"v 0 0 0\nv 0 0 0\nf 1 2\n", ObjFault::BadFace { line: 3 }),
+        (
+            b"v 0 0 0\nv 0 0 0\nv 0 0 0\nf 1 2 1\n",
+            ObjFault::BadFace { line: 4 },
+        ),
+        (
+            b"v 0 0 0\nv 0 0 0\nv 0 0 0\nf 1 2 -2\n",
+            ObjFault::BadFace { line: 4 },
+        ),
+        (
+            b"v 0 0 0\nv 0 0 0\nv 0 0 0\nf 1 2 4\n",
+            ObjFault::BadFace { line: 4 },
+        ),
+        (
+            b"v 0 0 0\nv 0 0 0\nv 0 0 0\nf 1 2 -4\n",
+            ObjFault::BadFace { line: 4 },
+        ),
+        (
+            b"v 0 0 0\nv 0 0 0\nv 0 0 0\nf 1 2 0\n",
+            ObjFault::BadFace { line: 4 },
+        ),
+        (
+            b"v 0 0 0\nv 0 0 0\nv 0 0 0\nf 1 2 +3\n",
+            ObjFault::BadFace { line: 4 },
+        ),
+        (
+            b"v 0 0 0\nv 0 0 0\nv 0 0 0\nf 1 2 /3\n",
+            ObjFault::BadFace { line: 4 },
+        ),
+        (
+            b"v 0 0 0\nv 0 0 0\nv 0 0 0\nf 1 2 3 # three\n",
+            ObjFault::BadFace { line: 4 },
+        ),
+        (
+            b"v 0 0 0\nv 0 0 0\nv 0 0 0\nf 1 2 0000000003\n",
+            ObjFault::BadFace { line: 4 },
+        ),
+        (
+            b"v 0 0 0\nv 0 0 0\nf 1 2 3\nv 0 0 0\n",
+            ObjFault::BadFace { line: 3 },
+        ),
+    ];
+    for (text, fault) in texts {
+        match read_obj(rt.alloc(), text) {
+            Ok(_) => assert!(rt; false, "no fault of {text:?}"),
+            Err(found) => assert_eq!(rt; found, fault, "of {text:?}"),
+        }
+    }
+    Ok(())
+}
+
+#[test]
+fn decimals_and_their_units(rt: HostRuntime) -> Result<(), Fail> {
+    let texts: [(&[u8], i64); 20] = [
+        (b"v 0.1 0 0", 6554),
+        (b"v 1e-1 0 0", 6554),
+        (b"\tv\t1E-01\t0\t0 7 colour\r\n", 6554),
+        (b"v 0.00000762939453125 0 0", 1),
+        (b"v -0.00000762939453125 0 0", -1),
+        (b"v 0.000007629394531249 0 0", 0),
+        (b"v 762939453125e-17 0 0", 1),
+        (b"v 762939453124e-17 0 0", 0),
+        (b"v -0 0 0", 0),
+        (b"v +1. 0 0", 65_536),
+        (b"v .5 0 0", 32_768),
+        (b"v -8192 0 0", -536_870_912),
+        (b"v 8192.000007 0 0", 536_870_912),
+        (b"v 0.00008192e8 0 0", 536_870_912),
+        (b"v 81920000000000000000000e-19 0 0", 536_870_912),
+        (b"v 0e99 0 0", 0),
+        (b"v 1e-99 0 0", 0),
+        (b"v 999999999999999999999999e-29 0 0", 1),
+        (b"v 999999999999999999999999e-30 0 0", 0),
+        (b"v 000000000000000000000001 0 0", 65_536),
+    ];
+    for (text, units) in texts {
+        match read_obj(rt.alloc(), text) {
+            Ok(mesh) => assert_eq!(rt;
+                mesh.places.as_slice(),
+                &[place(units, 0, 0)][..],
+                "of {text:?}"
+            ),
+            Err(fault) => assert!(rt; false, "{fault:?} of {text:?}"),
+        }
+    }
+    Ok(())
+}
+
+#[test]
+fn a_square_is_read(rt: HostRuntime) -> Result<(), Fail> {
+    let places = [
+        place(0, 0, 0),
+        place(65_536, 0, 0),
+        place(65_536, 65_536, 0),
+        place(0, 65_536, 0),
+    ];
+    match read_obj(rt.alloc(), SQUARE) {
+        Ok(mesh) => {
+            assert_eq!(rt; mesh.places.as_slice(), &places[..]);
+            assert_eq!(rt; mesh.sizes.as_slice(), &[4][..]);
+            assert_eq!(rt; mesh.corners.as_slice(), &[0, 1, 2, 3][..]);
+        }
+        Err(fault) => assert!(rt; false, "{fault:?}"),
+    }
+    Ok(())
+}
+
+#[test]
+fn a_mesh_is_added_face_by_face(rt: HostRuntime) -> Result<(), Fail> {
+    let text = b"v 0 0 0\nv 1 0 0\nv 1 1 0\nv 0 1 0\nv 0.5 2 0\nf 1 2 3 4\nf 4 3 5\n";
+    let wanted = [
+        (Kind::Stretch, 0, 1, 65_536, 256, 0),
+        (Kind::Stretch, 1, 2, 65_536, 256, 0),
+        (Kind::Stretch, 2, 3, 65_536, 256, 0),
+        (Kind::Stretch, 3, 0, 65_536, 256, 0),
+        (Kind::Stretch, 2, 4, 73_271, 256, 0),
+        (Kind::Stretch, 4, 3, 73_271, 256, 0),
+        (Kind::Shear, 0, 2, 92_681, 256, 0),
+        (Kind::Shear, 1, 3, 92_681, 256, 0),
+    ];
+    let mut parts = empty_parts(rt.alloc(), RANGE);
+    match read_obj(rt.alloc(), text) {
+        Ok(mesh) => assert_eq!(rt; add_mesh(rt.alloc(), &mesh, &mut parts), Ok(())),
+        Err(fault) => assert!(rt; false, "{fault:?}"),
+    }
+    assert_eq!(rt; parts.particles.len(), 5);
+    compare_links(&rt, parts.links.as_slice(), &wanted);
+    Ok(())
+}
+
+/// A fan of triangles round vertex 1: so many links meet there as it has outer vertices.
+fn fan(alloc: Global, outer: u32) -> Result<String, Fail>
+    requires { outer ≤ 100 }
+{
+    let mut text = String::new(alloc);
+    for _ in 0..=outer {
+        text.push_str("v 0 0 0\n")?;
+    }
+    for i in 1..outer {
+        let second = i + 1;
+        let third = i + 2;
+        text.push_str(format!(in alloc; "f 1 {second} {third}\n")?.as_str())?;
+    }
+    Ok(text)
+}
+
+#[test]
+fn a_vertex_has_at_most_32_links(rt: HostRuntime) -> Result<(), Fail> {
+    for (outer, want) in [
+        (32, Ok(())),
+        (33, Err(ObjFault::TooManyAtParticle { vertex: 1 })),
+    ] {
+        let text = fan(rt.alloc(), outer)?;
+        let text = text.as_bytes();
+        assert!(rt; text.len() < 10_000);
+        let mut parts = empty_parts(rt.alloc(), RANGE);
+        match read_obj(rt.alloc(), text) {
+            Ok(mesh) => assert_eq!(rt; add_mesh(rt.alloc(), &mesh, &mut parts), want),
+            Err(fault) => assert!(rt; false, "{fault:?}"),
+        }
+    }
+    Ok(())
+}
+
+#[test]
+fn lines_of_a_mesh(rt: HostRuntime) -> Result<(), Fail> {
+    let places: [(Vec3, &[u8]); 4] = [
+        (place(0, 65_536, -98_304), b"v 0 1 -1.5\n"),
+        (
+            place(6554, 1, -1),
+            b"v 0.100006103515625 0.0000152587890625 -0.0000152587890625\n",
+        ),
+        (
+            place(536_870_912, -536_870_912, 536_870_911),
+            b"v 8192 -8192 8191.9999847412109375\n",
+        ),
+        (place(32_768, 655_360, 8), b"v 0.5 10 0.0001220703125\n"),
+    ];
+    for (place, line) in places {
+        let mut sink = MemSink::open(rt.alloc(), 100, Vec::new(rt.alloc()))?;
+        assert!(rt; inside(place));
+        assert_eq!(rt; write_vertex(place, &mut sink), Ok(()));
+        assert_eq!(rt; sink.written(), line);
+    }
+    let mut sink = MemSink::open(rt.alloc(), 100, Vec::new(rt.alloc()))?;
+    assert_eq!(rt; write_face(&[0, 3, 99], 0, &mut sink), Ok(()));
+    assert_eq!(rt; write_face(&[0, 1, 2, 3], 10, &mut sink), Ok(()));
+    assert_eq!(rt; sink.written(), &b"f 1 4 100\nf 11 12 13 14\n"[..]);
+    Ok(())
+}
