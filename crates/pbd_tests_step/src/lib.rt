@@ -1,0 +1,11 @@
+//! Tests of steps and sessions, at each width and with both projectors.
+#![tactic(auto)]
+
+#[cfg(test)]
+mod drawing;
+#[cfg(test)]
+mod session;
+#[cfg(test)]
+mod step;
+#[cfg(test)]
+mod step_rows;

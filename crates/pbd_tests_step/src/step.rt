@@ -1,0 +1,234 @@
+//! Worked steps and commands at each width: both projectors answer as the rows say, and leave the same worlds.
+ghost use Rattle.std.specs.Prelude.{◌≡◌, ◌<◌, ◌≤◌};
+
+use crate::drawing::parts;
+use crate::step_rows::{COMMANDS, CONTACTS_AND_SHAPES, LEAVING, LINKS, Row};
+use pbd_num::Vec3;
+use pbd_pair::{LaneProjector, Projector, Scalar};
+use pbd_step::Solver;
+use pbd_store::Steps;
+use pbd_world::{Command, Particle, Refusal, Scene, Totals};
+use std::alloc::{AllocError, Global};
+use std::marker::Brand;
+use std::sync::ledger::{Blank, Ledger};
+use std::test::Fail;
+
+fn apply<const L: usize, P: Projector<L> + Drop, G: Ledger>(
+    solver: &mut Solver<L, P>,
+    command: Command,
+    steps: &mut Steps<G>,
+) -> Result<(), Refusal>
+    requires low { 0 < L }
+    requires high { L ≤ 16 }
+{
+    match command {
+        Command::Step(n) => solver.steps(n, steps),
+        Command::Pin(i) => solver.pin(i, steps),
+        Command::Unpin(i) => solver.unpin(i, steps),
+        Command::Move { particle, to } => solver.place_held(particle, to, steps),
+        Command::Cut(l) => solver.cut(l),
+        Command::Gravity(g) => solver.set_gravity(g),
+        _ => Err(Refusal::BadCommand),
+    }
+}
+
+/// What was answered and what was seen of a world after each command.
+#[derive(Drop)]
+struct Trace {
+    answers: Vec<Result<(), Refusal>>,
+    particles: Vec<Particle>,
+    counts: Vec<(u64, u32, u32)>,
+    totals: Vec<Totals>,
+}
+
+fn no_trace(alloc: Global) -> Trace {
+    Trace {
+        answers: Vec::new(alloc),
+        particles: Vec::new(alloc),
+        counts: Vec::new(alloc),
+        totals: Vec::new(alloc),
+    }
+}
+
+fn are_alike(one: &Trace, other: &Trace) -> bool {
+    one.answers.as_slice() == other.answers.as_slice()
+        && one.particles.as_slice() == other.particles.as_slice()
+        && one.counts.as_slice() == other.counts.as_slice()
+        && one.totals.as_slice() == other.totals.as_slice()
+}
+
+fn see_particles<const L: usize, P: Projector<L> + Drop, G: Ledger>(
+    solver: &Solver<L, P>,
+    particles: &mut Vec<Particle>,
+    steps: &mut Steps<G>,
+) -> Result<(), AllocError>
+    requires high { L ≤ 16 }
+{
+    for i in 0..solver.particles() {
+        particles.push(solver.particle(i, steps))?;
+    }
+    Ok(())
+}
+
+fn see<const L: usize, P: Projector<L> + Drop, G: Ledger>(
+    solver: &Solver<L, P>,
+    trace: &mut Trace,
+    steps: &mut Steps<G>,
+) -> Result<(), AllocError>
+    requires high { L ≤ 16 }
+{
+    see_particles(solver, &mut trace.particles, steps)?;
+    let counts = (solver.step_count(), solver.live(), solver.contacts());
+    trace.counts.push(counts)?;
+    trace.totals.push(*solver.totals())?;
+    Ok(())
+}
+
+/// Does commands one after another.
+fn do_all<const L: usize, P: Projector<L> + Drop, G: Ledger>(
+    solver: &mut Solver<L, P>,
+    script: &[(Command, Result<(), Refusal>)],
+    trace: &mut Trace,
+    steps: &mut Steps<G>,
+) -> Result<(), AllocError>
+    requires low { 0 < L }
+    requires high { L ≤ 16 }
+{
+    for (command, _) in script {
+        let answer = apply(solver, *command, steps);
+        trace.answers.push(answer)?;
+        see(solver, trace, steps)?;
+    }
+    Ok(())
+}
+
+fn do_one_by_one<const L: usize, G: Ledger>(
+    alloc: Global,
+    scene: &Scene,
+    script: &[(Command, Result<(), Refusal>)],
+    trace: &mut Trace,
+    steps: &mut Steps<G>,
+) -> Result<(), AllocError>
+    requires low { 0 < L }
+    requires high { L ≤ 16 }
+{
+    let mut solver = Solver::open(alloc, scene, Scalar::<L>::new())?;
+    do_all(&mut solver, script, trace, steps)
+}
+
+fn do_in_lanes<const L: usize, G: Ledger>(
+    alloc: Global,
+    scene: &Scene,
+    script: &[(Command, Result<(), Refusal>)],
+    trace: &mut Trace,
+    steps: &mut Steps<G>,
+) -> Result<(), AllocError>
+    requires low { 0 < L }
+    requires high { L ≤ 16 }
+{
+    let mut solver = Solver::open(alloc, scene, LaneProjector::<L>::new())?;
+    do_all(&mut solver, script, trace, steps)
+}
+
+/// Whether the answers are those of the script.
+fn are_answers(answers: &[Result<(), Refusal>], script: &[(Command, Result<(), Refusal>)]) -> bool {
+    let mut same = answers.len() == script.len();
+    for ((_, wanted), answer) in script.iter().zip(answers) {
+        same = same && *wanted == *answer;
+    }
+    same
+}
+
+/// Whether the last particles seen, of so many, begin at these places.
+fn are_at(particles: &[Particle], many: usize, places: &[Vec3]) -> bool {
+    let last = particles.len().saturating_sub(many);
+    let (_, world) = particles.split_at(last);
+    let mut same = places.len() <= world.len();
+    for (place, particle) in places.iter().zip(world) {
+        same = same && *place == particle.at;
+    }
+    same
+}
+
+/// Whether both projectors answer the script as it says, leave worlds that are alike after each command, and come to
+/// these places.
+fn agree<const L: usize, G: Ledger>(
+    alloc: Global,
+    scene: &Scene,
+    row: &Row,
+    steps: &mut Steps<G>,
+) -> Result<bool, AllocError>
+    requires low { 0 < L }
+    requires high { L ≤ 16 }
+{
+    let mut one = no_trace(alloc);
+    let mut other = no_trace(alloc);
+    do_one_by_one::<L, G>(alloc, scene, row.script, &mut one, steps)?;
+    do_in_lanes::<L, G>(alloc, scene, row.script, &mut other, steps)?;
+    Ok(
+        are_alike(&one, &other)
+            && are_answers(&one.answers, row.script)
+            && are_at(&one.particles, row.scene.particles.len(), row.places),
+    )
+}
+
+fn counted<G: Ledger>(
+    alloc: Global,
+    blank: Blank,
+    scene: &Scene,
+    row: &Row,
+) -> Result<[bool; 5], AllocError>
+    requires name { blank.name ≡ G.name }
+    requires parts { blank.parts ≡ G.parts }
+    requires some { 0 < blank.parts }
+{
+    let mut steps: Steps<G> = Steps::open(blank);
+    let one = agree::<1, G>(alloc, scene, row, &mut steps)?;
+    let two = agree::<2, G>(alloc, scene, row, &mut steps)?;
+    let four = agree::<4, G>(alloc, scene, row, &mut steps)?;
+    let eight = agree::<8, G>(alloc, scene, row, &mut steps)?;
+    let sixteen = agree::<16, G>(alloc, scene, row, &mut steps)?;
+    Ok([one, two, four, eight, sixteen])
+}
+
+fn at_each_width(alloc: Global, scene: &Scene, row: &Row) -> Result<[bool; 5], AllocError> {
+    counted::<Brand>(alloc, Blank::new(1), scene, row)
+}
+
+/// Whether a row holds at each width.
+fn holds(alloc: Global, row: &Row) -> Result<bool, Fail> {
+    let scene = Scene::from_parts(alloc, parts(alloc, &row.scene)?)?;
+    Ok(at_each_width(alloc, &scene, row)? == [true; 5])
+}
+
+#[test]
+fn links_pull_and_tear(rt: HostRuntime) -> Result<(), Fail> {
+    for row in &LINKS {
+        assert!(rt; holds(rt.alloc(), row)?, "{}", row.name);
+    }
+    Ok(())
+}
+
+#[test]
+fn contacts_and_shapes_push(rt: HostRuntime) -> Result<(), Fail> {
+    for row in &CONTACTS_AND_SHAPES {
+        assert!(rt; holds(rt.alloc(), row)?, "{}", row.name);
+    }
+    Ok(())
+}
+
+#[test]
+fn what_leaves_the_range_is_refused(rt: HostRuntime) -> Result<(), Fail> {
+    for row in &LEAVING {
+        assert!(rt; holds(rt.alloc(), row)?, "{}", row.name);
+    }
+    Ok(())
+}
+
+#[test]
+fn commands_change_or_keep_the_world(rt: HostRuntime) -> Result<(), Fail> {
+    for row in &COMMANDS {
+        assert!(rt; holds(rt.alloc(), row)?, "{}", row.name);
+    }
+    Ok(())
+}
