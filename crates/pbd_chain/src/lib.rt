@@ -10,6 +10,3 @@ pub use laws::{
     chains_link_their_items, items_of_no_chain_are_free, linking_adds_one, unlinking_takes_one,
     walked_items_are_in, walks_end,
 };
-
-#[cfg(test)]
-mod tests;

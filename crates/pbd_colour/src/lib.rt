@@ -12,6 +12,3 @@ mod paint;
 
 pub use colouring::Colouring;
 pub use laws::{batches_are_apart, batches_are_live, batches_make_order};
-
-#[cfg(test)]
-mod tests;

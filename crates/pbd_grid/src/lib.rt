@@ -7,6 +7,3 @@ mod pairs;
 mod rows;
 
 pub use pairs::{Grid, PairFilter};
-
-#[cfg(test)]
-mod tests;

@@ -190,6 +190,3 @@ impl<const L: usize> Mask<L> {
         self.set.iter().position(|b| *b)
     }
 }
-
-#[cfg(test)]
-mod tests;

@@ -101,6 +101,3 @@ pub fn balanced(opening: &[i128; 3], now: &[i128; 3], totals: &Totals) -> bool
     let all = both(&totals.gravity, &from_damping);
     same(now, &both(opening, &all))
 }
-
-#[cfg(test)]
-mod tests;

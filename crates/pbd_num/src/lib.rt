@@ -264,6 +264,3 @@ pub fn distance(a: Vec3, b: Vec3) -> i64
 {
     length(difference(a, b))
 }
-
-#[cfg(test)]
-mod tests;

@@ -19,6 +19,3 @@ pub use lanes::LaneProjector;
 pub use parts::{Note, book_moves, read_bond};
 pub use projector::Projector;
 pub use scalar::Scalar;
-
-#[cfg(test)]
-mod tests;

@@ -8,6 +8,3 @@ mod places;
 
 pub use contacts::SelfContacts;
 pub use laws::touching_pairs_are_contacts;
-
-#[cfg(test)]
-mod tests;

@@ -14,6 +14,3 @@ pub use laws::{shape_parts_push_all, valid_particles_are_within};
 pub use pushing::push_out;
 pub use rubbing::rub;
 pub use touched::Touched;
-
-#[cfg(test)]
-mod tests;

@@ -14,6 +14,3 @@ pub use laws::valid_particles_are_inside;
 pub use span::Span;
 pub use steps::Steps;
 pub use store::Store;
-
-#[cfg(test)]
-mod tests;

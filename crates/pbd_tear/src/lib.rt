@@ -118,6 +118,3 @@ pub fn gone(links: &[Link], out: &mut RoomList<u32>)
         push_if(out, i as u32, !links[i].live);
     }
 }
-
-#[cfg(test)]
-mod tests;

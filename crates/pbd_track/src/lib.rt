@@ -110,6 +110,3 @@ pub fn place<const L: usize, G: Ledger>(
         store.put(track.particle, place, steps);
     }
 }
-
-#[cfg(test)]
-mod tests;

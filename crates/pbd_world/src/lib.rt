@@ -26,6 +26,3 @@ pub use parts::{Key, Kind, Link, Particle, Parts, Plane, Sphere, Track};
 pub use room_list::{Full, RoomList};
 pub use scene::{PartsFault, Scene};
 pub use totals::{Class, Totals};
-
-#[cfg(test)]
-mod tests;
