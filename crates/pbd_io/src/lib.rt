@@ -4,8 +4,6 @@
 mod memory;
 mod standard;
 mod sure;
-#[cfg(test)]
-mod tests;
 mod traits;
 
 pub use memory::{MemSink, MemSource};

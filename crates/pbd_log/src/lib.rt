@@ -17,6 +17,3 @@ pub use laws::{
 };
 pub use view::{LogView, read_log};
 pub use writer::LogWriter;
-
-#[cfg(test)]
-mod tests;

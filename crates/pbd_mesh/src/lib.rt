@@ -7,8 +7,6 @@ mod laws;
 mod place;
 mod ropes;
 mod spec;
-#[cfg(test)]
-mod tests;
 
 pub use cloths::cloth;
 pub use laws::{cloths_are_meshes, ropes_are_meshes};

@@ -6,8 +6,6 @@ mod laws;
 mod links;
 mod mesh;
 mod reading;
-#[cfg(test)]
-mod tests;
 mod words;
 mod writing;
 

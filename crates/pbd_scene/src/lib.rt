@@ -6,8 +6,6 @@ mod axes;
 mod each;
 mod fault;
 mod joining;
-#[cfg(test)]
-mod key_cases;
 mod laws;
 mod limit;
 mod link_entries;
@@ -20,8 +18,6 @@ mod scene;
 mod shapes;
 mod table_lists;
 mod tables;
-#[cfg(test)]
-mod tests;
 mod track_entries;
 mod values;
 mod vectors;

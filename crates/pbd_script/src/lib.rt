@@ -5,8 +5,6 @@ mod command;
 mod laws;
 pub mod lines;
 mod script;
-#[cfg(test)]
-mod tests;
 
 pub use command::line_command;
 pub use laws::{
