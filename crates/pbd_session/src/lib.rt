@@ -11,8 +11,6 @@ mod replay;
 mod script;
 mod session;
 mod sums;
-#[cfg(test)]
-mod tests;
 
 pub use ending::{Compared, Field, ReplayEnd, RunEnd};
 pub use laws::{nothing_before_lines_is_the_text, recorded_sessions_replay_alike};

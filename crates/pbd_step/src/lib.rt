@@ -9,13 +9,9 @@ mod leaving;
 mod open;
 mod pass;
 mod predict;
-#[cfg(test)]
-mod rows;
 mod settle;
 mod solver;
 mod state;
 mod step;
-#[cfg(test)]
-mod tests;
 
 pub use solver::Solver;
