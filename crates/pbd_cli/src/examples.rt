@@ -1,8 +1,8 @@
 //! The scenes of `examples/`, without their comments, run at two widths, recorded at a third and replayed at a fourth.
 use crate::run::run;
-use crate::status::Status;
 use crate::tests::{lines_of, words_of};
 use pbd_io::{MemSink, SureSource};
+use pbd_outcome::Status;
 use std::alloc::{AllocError, Global};
 use std::test::Fail;
 

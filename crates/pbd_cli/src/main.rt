@@ -3,23 +3,13 @@
 
 #[cfg(test)]
 mod examples;
-mod job;
-mod large;
-mod laws;
-mod line;
-mod reading;
 mod run;
-mod scene;
-mod sessions;
-mod split;
-mod status;
 #[cfg(test)]
 mod tests;
-mod widths;
 
 use pbd_io::{StdSink, StdSource};
+use pbd_outcome::Status;
 use run::run;
-use status::Status;
 use std::env;
 use std::io::{self, ErrorKind};
 use std::process::ExitCode;

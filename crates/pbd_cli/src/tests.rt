@@ -1,7 +1,7 @@
 //! Whole runs, on sources and sinks in memory.
 use crate::run::run;
-use crate::status::Status;
 use pbd_io::{MemSink, MemSource, SureSource};
+use pbd_outcome::Status;
 use std::alloc::{AllocError, Global};
 use std::test::Fail;
 

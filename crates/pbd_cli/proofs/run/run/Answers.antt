@@ -1,6 +1,6 @@
 use Rattle.std.proofs.Common.{sym, map, string_bytes}
-use Rattle.pbd_cli.specs.Job.{job}
-use Rattle.pbd_cli.proofs.HeadlineLaws.{headline_of}
+use Rattle.pbd_outcome.specs.Job.{job}
+use Rattle.pbd_outcome.proofs.HeadlineLaws.{headline_of}
 use Rattle.pbd_cli.proofs.run.run.Goals as goal
 
 pub returns-clause-outcome : goal.returns-clause-outcome

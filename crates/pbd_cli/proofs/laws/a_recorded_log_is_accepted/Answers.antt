@@ -1,5 +1,0 @@
-use Rattle.pbd_cli.proofs.ShortRecords.{recorded_short}
-use Rattle.pbd_cli.proofs.laws.a_recorded_log_is_accepted.Goals as goal
-
-pub returns : goal.returns
-returns c = recorded_short

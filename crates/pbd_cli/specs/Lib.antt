@@ -1,8 +1,0 @@
-pub mod Clauses
-pub mod Generated
-pub mod Headline
-pub mod Job
-pub mod Outcome
-pub mod Reading
-pub mod Split
-pub mod Statuses

@@ -1,0 +1,11 @@
+pub mod EntryFits
+pub mod HeadlineLaws
+pub mod LineLaws
+pub mod OneOutcome
+pub mod OutcomeLaws
+pub mod RefusalFits
+pub mod ReplayedRecords
+pub mod ScriptFits
+pub mod ShortLines
+pub mod ShortLogs
+pub mod ShortRecords

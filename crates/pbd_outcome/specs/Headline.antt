@@ -1,0 +1,61 @@
+-- The headline: what a run of `simulate` did on an accepted scene and a script.
+use Rattle.std.specs.Prelude.{◌≡◌, ◌≢◌, ◌≤◌, ◌∷◌, ◌++◌, ℕ, pos, true, List, length, Option, Some, Ok}
+use Rattle.std.specs.Io.KnownBytes.{Appends}
+use Rattle.std.specs.Str.{is_utf8}
+use Rattle.toml.specs.Data.{Members}
+use Rattle.toml.specs.Parse.{parse_document}
+use Rattle.pbd_world.specs.declared.command.Command.{Command}
+use Rattle.pbd_world.specs.declared.command.Refusal.{Refusal}
+use Rattle.pbd_world.specs.declared.command.Reply.TheVariants.{Refused}
+use Rattle.pbd_world.specs.declared.command.Width.{Width}
+use Rattle.pbd_world.specs.declared.parts.Parts.{Parts}
+use Rattle.pbd_world.specs.Ledger.{Sum, both_sums}
+use Rattle.pbd_world.specs.Meaning.{after, reply}
+use Rattle.pbd_world.specs.Momentum.{momentum}
+use Rattle.pbd_world.specs.Session.{last_world, refused_count, session_text}
+use Rattle.pbd_world.specs.World.{HaveWeight, World, opened}
+use Rattle.pbd_scene.specs.Scene.{scene_of}
+use Rattle.pbd_script.specs.Commands.{commands}
+use Rattle.pbd_outcome.specs.declared.job.Job.{Job}
+use Rattle.pbd_outcome.specs.declared.job.Job.TheVariants.{Simulate}
+use Rattle.pbd_outcome.specs.declared.status.Status.{Status}
+use Rattle.pbd_outcome.specs.declared.status.Status.TheVariants.{ReadFault, WriteFault, OutOfMemory}
+use Rattle.pbd_outcome.specs.Clauses.{Ends}
+use Rattle.pbd_outcome.specs.Outcome.{ends_as, most, range}
+use Rattle.pbd_outcome.specs.Split.{split}
+
+-- momentum is what it was at first and what gravity, pins and shapes gave
+abbrev pub KeepsMomentum : Sum → World → Type 0
+KeepsMomentum first w = momentum w.particles ≡ both_sums first (both_sums w.totals.gravity (both_sums w.totals.pin w.totals.shape))
+
+-- an input has a scene with these parts and this script
+pub record Accepts (input : List ℕ) (parts : Parts) (script : List ℕ) : Type 0 where
+  pub scene : List ℕ
+  pub tree : Members
+  pub short : length input ≤ most
+  pub halves : split input ≡ Some (scene, script)
+  pub is_text : is_utf8 scene ≡ true
+  pub is_tree : parse_document scene ≡ Some tree
+  pub accepted : scene_of range tree ≡ Ok parts
+
+-- A run of these commands on a scene of these parts. No width has a part in it.
+pub record Headline (parts : Parts) (cs : List Command) (old new : Ends) (status : Status) : Type 0 where
+  -- The bytes are those of the scalar solver: of one command after another by its meaning, whose steps project one
+  -- constraint at a time, in colour and index order, with the contacts of all pairs.
+  pub bytes : Appends old.written new.written (session_text (opened parts) cs)
+  pub ending : status ≡ ends_as (refused_count (opened parts) cs)
+  -- A refused command changes nothing.
+  pub refused : (before later : List Command) (command : Command) (refusal : Refusal) → cs ≡ before ++ command ∷ later
+      → reply (last_world (opened parts) before) command ≡ Refused refusal
+      → after (last_world (opened parts) before) command ≡ last_world (opened parts) before
+  -- Undamped and with equal weights, momentum changes exactly by the gravity, pin and shape totals, at each moment.
+  pub momentum : (before later : List Command) (weight : ℕ) → cs ≡ before ++ later
+      → parts.damping ≡ pos 0 → HaveWeight weight parts.particles
+      → KeepsMomentum (momentum parts.particles) (last_world (opened parts) before)
+
+-- at each width, where reading, writing and memory went well
+abbrev pub KeepsHeadline : Option Job → Ends → Ends → Status → Type 0
+KeepsHeadline job old new status = (width : Width) (input script : List ℕ) (parts : Parts)
+    → job ≡ Some (Simulate width) → old.left ≡ Some input → Accepts input parts script
+    → status ≢ ReadFault → status ≢ WriteFault → status ≢ OutOfMemory
+    → Headline parts (commands script) old new status

@@ -1,0 +1,9 @@
+pub mod GeneratedLaws
+pub mod GeneratedValid
+pub mod InputLaws
+pub mod LargeLaws
+pub mod RunLaws
+pub mod SceneLaws
+pub mod SessionLaws
+pub mod SplitLaws
+pub mod WholeLaws

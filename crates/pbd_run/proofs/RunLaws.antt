@@ -1,0 +1,190 @@
+-- From what a reading and a session did to what a run promises.
+use Rattle.std.proofs.Common.{◌≡◌, ◌≢◌, ◌∙◌, sym, subst, refl, ℕ, ◌+◌, ◌<◌, ◌≤◌, List, [], length, drop, Option, Some, None, IfSome, Err, arith, inl, inr, length-append}
+use Rattle.std.specs.Io.KnownBytes.{Appends, Keeps, Consumes}
+use Rattle.pbd_io.specs.Causes.{Rose}
+use Rattle.pbd_io.specs.Pieces.{AppendsFront}
+use Rattle.pbd_io.specs.Appending.{consumed_all, consumed_some}
+use Rattle.pbd_world.specs.declared.command.Width.{Width}
+use Rattle.pbd_outcome.specs.declared.job.Job.{Job}
+use Rattle.pbd_outcome.specs.declared.job.Job.TheVariants.{Simulate, Record, Replay, Large, Scramble, Obj, Marks, Host}
+use Rattle.pbd_run.specs.declared.reading.ReadEnd.{ReadEnd}
+use Rattle.pbd_run.specs.declared.reading.ReadEnd.TheVariants as readings
+use Rattle.pbd_outcome.specs.declared.status.Status.{Status}
+use Rattle.pbd_outcome.specs.declared.status.Status.TheVariants.{Done, Usage, ReadFault, WriteFault, InputTooLong, NoScript, SceneNotText, SceneNotToml, SceneRefused, LogRefused, Mismatch, SomeRefused, OutOfMemory, NotBuilt}
+use Rattle.pbd_run.specs.Reading.{ReachesEnd, Overruns, ReadsAll}
+use Rattle.pbd_outcome.specs.Outcome.{Outcome, IsOutcome, IsReplayed, IsWithin, large_outcome, most, most_of_log, recorded, simulated, stops}
+use Rattle.pbd_outcome.specs.Clauses.{Ends, IsInput, Promises, Reads}
+use Rattle.pbd_run.specs.Calls.{Does, DoesSome, EndsReading, IsOne, limit_of}
+use Rattle.pbd_run.proofs.WholeLaws.{IsWhole, large_read, large_rest, simulated_whole, recorded_whole, replayed_whole}
+
+-- ---- what a call did
+
+pub does_settled : (o : Outcome) (a b : Option (List ℕ)) (m n : ℕ) (s : Status) → Does o a b m n s → s ≢ WriteFault → s ≢ OutOfMemory → (s ≡ o.status) × Appends a b o.text
+does_settled o a b m n Done does w m' = does
+does_settled o a b m n Usage does w m' = does
+does_settled o a b m n ReadFault does w m' = does
+does_settled o a b m n WriteFault does w m' = absurd (w refl)
+does_settled o a b m n InputTooLong does w m' = does
+does_settled o a b m n NoScript does w m' = does
+does_settled o a b m n SceneNotText does w m' = does
+does_settled o a b m n SceneNotToml does w m' = does
+does_settled o a b m n SceneRefused does w m' = does
+does_settled o a b m n LogRefused does w m' = does
+does_settled o a b m n Mismatch does w m' = does
+does_settled o a b m n SomeRefused does w m' = does
+does_settled o a b m n OutOfMemory does w m' = absurd (m' refl)
+does_settled o a b m n NotBuilt does w m' = does
+
+does_failed : (o : Outcome) (a b : Option (List ℕ)) (m n : ℕ) (s : Status) → Does o a b m n s → s ≡ WriteFault → Rose m n × AppendsFront a b o.text
+does_failed o a b m n s does is = rw is at does
+
+does_nothing : (o : Outcome) (a b : Option (List ℕ)) (m n : ℕ) (s : Status) → Does o a b m n s → s ≡ OutOfMemory → Keeps a b
+does_nothing o a b m n s does is = rw is at does
+
+-- what a call did is an outcome of the job on this input, but for what it says to be left
+pub record Agrees (job : Option Job) (old new : Ends) (o : Outcome) (input : List ℕ) : Type 0 where
+  pub outcome : Outcome
+  pub its : IsOutcome job input outcome
+  pub text : outcome.text ≡ o.text
+  pub ends : outcome.status ≡ o.status
+  pub rest : Reads job → IfSome old.left (λ _. new.left ≡ Some outcome.rest)
+
+-- the promises of a run that did as an outcome says, where that is one on every input that it may have had
+pub promised : (job : Option Job) (old new : Ends) (o : Outcome) (s : Status) → o.status ≢ ReadFault → (s ≡ OutOfMemory → job ≢ None) → Does o old.written new.written old.sink_faults new.sink_faults s → ((input : List ℕ) → IsInput job old.left input → Agrees job old new o input) → Promises job old new s
+promised job old new o s not_read asked does agrees = record {
+  outcome = λ nr nw nm input is.
+      let a = agrees input is in
+      let d = does_settled o old.written new.written old.sink_faults new.sink_faults s does nw nm in
+      record { outcome = a.outcome; its = a.its; ends = d.0 ∙ sym a.ends; text = rw a.text d.1; rest = a.rest };
+  read_fault = λ e.
+      let d = does_settled o old.written new.written old.sink_faults new.sink_faults s does (λ f. cc) (λ f. cc) in
+      absurd (not_read (sym d.0 ∙ e));
+  write_fault = λ e.
+      let d = does_failed o old.written new.written old.sink_faults new.sink_faults s does e in
+      record { cause = d.0; text = λ input is. let a = agrees input is in inl (record { outcome = a.outcome; its = a.its; front = rw a.text d.1 }) };
+  no_memory = λ e. record { nothing = does_nothing o old.written new.written old.sink_faults new.sink_faults s does e; asked = asked e };
+}
+
+-- ---- forms that read
+
+-- A form that reads up to a limit. `IsOne` says what it comes to on an input that was read to its end.
+pub record IsForm (job : Job) (limit : ℕ) (IsOne : List ℕ → Outcome → Type 0) : Type 0 where
+  pub reads : Reads (Some job)
+  pub its : (input : List ℕ) (o : Outcome) → IsWithin limit (IsOne input) input o → IsOutcome (Some job) input o
+  pub whole : (input : List ℕ) (o : Outcome) → IsOne input o → IsWhole o
+
+pub forms : (job : Job) → Reads (Some job) → IsForm job (limit_of job) (IsOne job)
+forms (Simulate w) reads = record { reads = tt; its = λ input o is. is; whole = λ input o is. rw is (simulated_whole input) }
+forms (Record w) reads = record { reads = tt; its = λ input o is. is; whole = λ input o is. rw is (recorded_whole input) }
+forms (Replay w) reads = record { reads = tt; its = λ input o is. is; whole = replayed_whole }
+forms (Large w seed size) reads = absurd reads
+forms (Scramble seed) reads = absurd reads
+forms (Obj w) reads = absurd reads
+forms (Marks w) reads = absurd reads
+forms (Host w) reads = absurd reads
+
+-- only these read
+pub reads_one : (job : Job) → Reads (Some job) → ((w : Width) → job ≡ Simulate w → ⊥) → ((w : Width) → job ≡ Record w → ⊥) → ((w : Width) → job ≡ Replay w → ⊥) → ⊥
+reads_one (Simulate w) reads a b c = a w refl
+reads_one (Record w) reads a b c = b w refl
+reads_one (Replay w) reads a b c = c w refl
+reads_one (Large w seed size) reads a b c = reads
+reads_one (Scramble seed) reads a b c = reads
+reads_one (Obj w) reads a b c = reads
+reads_one (Marks w) reads a b c = reads
+reads_one (Host w) reads a b c = reads
+
+told_input : (job : Option Job) (left : Option (List ℕ)) (input : List ℕ) → Reads job → IsInput job left input → left ≡ Some input
+told_input job left input reads (inl unread) = absurd (unread reads)
+told_input job left input reads (inr told) = told
+
+-- the input was read to its end, and the job did one of its outcomes
+pub read_whole : (job : Job) (limit : ℕ) (IsOne : List ℕ → Outcome → Type 0) (old new : Ends) (v : List ℕ) (s : Status) → IsForm job limit IsOne → ReachesEnd limit old.left new.left v → DoesSome (IsOne v) old.written new.written old.sink_faults new.sink_faults s → Promises (Some job) old new s
+read_whole job limit IsOne old new v s form reached did =
+    let whole = form.whole v did.outcome did.its in
+    promised (Some job) old new did.outcome s whole.read (λ e f. cc) did.does (λ input given.
+    let told = told_input (Some job) old.left input form.reads given in
+    let all = consumed_all input new.left v (rw told at reached.consumed) reached.ended in
+    let its : IsWithin limit (IsOne v) v did.outcome = inr (reached.short, did.its) in
+    record { outcome = did.outcome; its = form.its input did.outcome (rw all.0 its); text = refl; ends = refl; rest = λ _. rw (told, whole.rest) all.1 })
+
+-- where only one outcome is of the kind
+pub did_one : (o : Outcome) (a b : Option (List ℕ)) (m n : ℕ) (s : Status) → Does o a b m n s → DoesSome (λ x. x ≡ o) a b m n s
+did_one o a b m n s does = record { outcome = o; its = refl; does = does }
+
+longer : (input : List ℕ) (new : Option (List ℕ)) (bytes : List ℕ) → Consumes (Some input) new bytes → length bytes ≤ length input
+longer input None bytes consumed = absurd consumed
+longer input (Some rest) bytes consumed = rw consumed (omega (arith, length-append bytes rest))
+
+-- one byte past the limit came
+read_over : (job : Job) (limit : ℕ) (IsOne : List ℕ → Outcome → Type 0) (old new : Ends) (s : Status) → IsForm job limit IsOne → Overruns limit old.left new.left → Does (stops InputTooLong []) old.written new.written old.sink_faults new.sink_faults s → Promises (Some job) old new s
+read_over job limit IsOne old new s form (bytes, consumed, count) does =
+    promised (Some job) old new (stops InputTooLong []) s (λ e. cc) (λ e f. cc) does (λ input given.
+    let told = told_input (Some job) old.left input form.reads given in
+    let some : Consumes (Some input) new.left bytes = rw told at consumed in
+    let left = consumed_some input new.left bytes some in
+    let long : limit < length input = omega (arith, count, longer input new.left bytes some) in
+    let o : Outcome = stops InputTooLong (drop (limit + 1) input) in
+    record { outcome = o; its = form.its input o (inl (long, refl)); text = refl; ends = refl; rest = λ _. rw (told, ← count) left })
+
+-- reading failed
+read_failed : (job : Option Job) (old new : Ends) (s : Status) → Reads job → Rose old.source_faults new.source_faults → Does (stops ReadFault []) old.written new.written old.sink_faults new.sink_faults s → s ≢ OutOfMemory → Promises job old new s
+read_failed job old new s reads rose does some = record {
+  outcome = λ nr nw nm input is. absurd (nr ((does_settled (stops ReadFault []) old.written new.written old.sink_faults new.sink_faults s does nw nm).0));
+  read_fault = λ e. record { cause = rose; text = (does_settled (stops ReadFault []) old.written new.written old.sink_faults new.sink_faults s does (λ f. cc) (λ f. cc)).1; reads = reads };
+  write_fault = λ e. let d = does_failed (stops ReadFault []) old.written new.written old.sink_faults new.sink_faults s does e in record { cause = d.0; text = λ input is. inr (rose, d.1) };
+  no_memory = λ e. absurd (some e);
+}
+
+-- memory ran out
+no_memory : (job : Job) (old new : Ends) (s : Status) → s ≡ OutOfMemory → Keeps old.written new.written → Promises (Some job) old new s
+no_memory job old new s is keeps = record {
+  outcome = λ nr nw nm input given. absurd (nm is);
+  read_fault = λ e. absurd cc;
+  write_fault = λ e. absurd cc;
+  no_memory = λ e. record { nothing = keeps; asked = λ f. cc };
+}
+
+-- the end wasn't reached
+pub read_ended : (job : Job) (limit : ℕ) (IsOne : List ℕ → Outcome → Type 0) (old new : Ends) (end : ReadEnd) (s : Status) → IsForm job limit IsOne → ReadsAll limit old.left new.left (Err end) → (end ≡ readings.Failed → Rose old.source_faults new.source_faults) → EndsReading end old.written new.written old.sink_faults new.sink_faults s → Promises (Some job) old new s
+read_ended job limit IsOne old new readings.Failed s form reads rose did = read_failed (Some job) old new s form.reads (rose refl) did.0 did.1
+read_ended job limit IsOne old new readings.TooLong s form reads rose did = read_over job limit IsOne old new s form reads did
+read_ended job limit IsOne old new readings.OutOfMemory s form reads rose did = no_memory job old new s did.0 did.1
+
+-- the same where the limit is told by another name
+pub read_ended_at : (job : Job) (limit n : ℕ) (IsOne : List ℕ → Outcome → Type 0) (old new : Ends) (end : ReadEnd) (s : Status) → n ≡ limit → IsForm job limit IsOne → ReadsAll n old.left new.left (Err end) → (end ≡ readings.Failed → Rose old.source_faults new.source_faults) → EndsReading end old.written new.written old.sink_faults new.sink_faults s → Promises (Some job) old new s
+read_ended_at job limit n IsOne old new end s is form reads rose did = read_ended job limit IsOne old new end s form (subst (λ (x : ℕ). ReadsAll x old.left new.left (Err end)) is reads) rose did
+
+-- ---- forms that read nothing
+
+pub unread : (job : Option Job) (old new : Ends) (o : Outcome) (s : Status) → (Reads job → ⊥) → ((input : List ℕ) → IsOutcome job input (record o { rest = input })) → o.status ≢ ReadFault → (s ≡ OutOfMemory → job ≢ None) → Does o old.written new.written old.sink_faults new.sink_faults s → Promises job old new s
+unread job old new o s none its not_read asked does =
+    promised job old new o s not_read asked does (λ input given.
+    record { outcome = record o { rest = input }; its = its input; text = refl; ends = refl; rest = λ reads. absurd (none reads) })
+
+-- a generated scene
+pub unread_large : (w : Width) (number size : ℕ) (old new : Ends) (s : Status) → Does (large_outcome number size []) old.written new.written old.sink_faults new.sink_faults s → Promises (Some (Large w number size)) old new s
+unread_large w number size old new s does =
+    unread (Some (Large w number size)) old new (large_outcome number size []) s (λ r. r) (λ input. large_rest number size input) (large_read number size) (λ e f. cc) does
+
+-- words that are no form
+pub unread_usage : (old new : Ends) (s : Status) → s ≢ OutOfMemory → Does (stops Usage []) old.written new.written old.sink_faults new.sink_faults s → Promises None old new s
+unread_usage old new s some does = unread None old new (stops Usage []) s (λ r. r) (λ input. refl) (λ e. cc) (λ e. absurd (some e)) does
+
+-- a form that isn't built
+pub record IsNotBuilt (job : Job) : Type 0 where
+  pub reads : Reads (Some job) → ⊥
+  pub its : (input : List ℕ) → IsOutcome (Some job) input (stops NotBuilt input)
+
+pub not_built : (job : Job) → ((w : Width) → job ≡ Simulate w → ⊥) → ((w : Width) → job ≡ Record w → ⊥) → ((w : Width) → job ≡ Replay w → ⊥) → ((w : Width) (seed size : ℕ) → job ≡ Large w seed size → ⊥) → IsNotBuilt job
+not_built (Simulate w) a b c d = absurd (a w refl)
+not_built (Record w) a b c d = absurd (b w refl)
+not_built (Replay w) a b c d = absurd (c w refl)
+not_built (Large w seed size) a b c d = absurd (d w seed size refl)
+not_built (Scramble seed) a b c d = record { reads = λ r. r; its = λ input. refl }
+not_built (Obj w) a b c d = record { reads = λ r. r; its = λ input. refl }
+not_built (Marks w) a b c d = record { reads = λ r. r; its = λ input. refl }
+not_built (Host w) a b c d = record { reads = λ r. r; its = λ input. refl }
+
+pub unread_form : (job : Job) (old new : Ends) (s : Status) → IsNotBuilt job → s ≢ OutOfMemory → Does (stops NotBuilt []) old.written new.written old.sink_faults new.sink_faults s → Promises (Some job) old new s
+unread_form job old new s form some does = unread (Some job) old new (stops NotBuilt []) s form.reads form.its (λ e. cc) (λ e f. cc) does

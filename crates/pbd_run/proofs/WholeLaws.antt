@@ -1,0 +1,102 @@
+-- What each form comes to leaves nothing of what was read, and is never a fault of reading.
+use Rattle.std.proofs.Common.{◌≡◌, ◌≢◌, refl, ℕ, Bool, true, false, cond, List, [], Option, Some, None, Result, Ok, Err, inl, inr}
+use Rattle.std.specs.Prelude.{◌==◌, ℤ}
+use Rattle.std.specs.Str.{is_utf8}
+use Rattle.toml.specs.Data.{Members}
+use Rattle.toml.specs.Parse.{parse_document}
+use Rattle.pbd_world.specs.declared.parts.Parts.{Parts}
+use Rattle.pbd_world.specs.declared.command.Command.TheVariants.{Step}
+use Rattle.pbd_world.specs.Meaning.{reply}
+use Rattle.pbd_world.specs.Outcomes.{◌>>=◌}
+use Rattle.pbd_world.specs.Session.{is_refused, refused_count}
+use Rattle.pbd_world.specs.World.{opened}
+use Rattle.pbd_scene.specs.Checks.{Checked}
+use Rattle.pbd_scene.specs.Scene.{scene_of}
+use Rattle.pbd_script.specs.Commands.{commands}
+use Rattle.pbd_log.specs.Logs.{Log}
+use Rattle.pbd_session.specs.declared.ending.ReplayEnd.{ReplayEnd}
+use Rattle.pbd_session.specs.declared.ending.ReplayEnd.TheVariants as ends
+use Rattle.pbd_session.specs.Replaying.{replayed}
+use Rattle.pbd_outcome.specs.declared.status.Status.TheVariants.{Done, SomeRefused, ReadFault, NoScript, SceneNotText}
+use Rattle.pbd_outcome.specs.Generated.{generated}
+use Rattle.pbd_outcome.specs.Split.{split}
+use Rattle.pbd_outcome.specs.Outcome.{IsReplayed, Outcome, halves_in, large_outcome, log_outcome, parts_in, range, recorded, replay_status, scene_in, settled, simulated, stops, summary_outcome, tree_in}
+
+-- an outcome that leaves nothing and is no fault of reading
+pub record IsWhole (o : Outcome) : Type 0 where
+  pub rest : o.rest ≡ []
+  pub read : o.status ≢ ReadFault
+
+abbrev StopsWhole : {A : Type 0} → Result A Outcome → Type 0
+StopsWhole (Ok a) = Unit {0}
+StopsWhole (Err o) = IsWhole o
+
+then_whole : {A : Type 0} (r : Result A Outcome) (then : A → Result Outcome Outcome) → StopsWhole r → ((a : A) → IsWhole (settled (then a))) → IsWhole (settled (r >>= then))
+then_whole (Ok a) then stop whole = whole a
+then_whole (Err o) then stop whole = stop
+
+halves_whole : (h : Option (List ℕ × List ℕ)) → StopsWhole (halves_in h)
+halves_whole (Some h) = tt
+halves_whole None = record { rest = refl; read = λ e. cc }
+
+parts_whole : (c : Checked Parts) → StopsWhole (parts_in c)
+parts_whole (Ok parts) = tt
+parts_whole (Err b) = record { rest = refl; read = λ e. cc }
+
+tree_whole : (limit : ℤ) (tree : Option Members) → StopsWhole (tree_in limit tree)
+tree_whole limit None = record { rest = refl; read = λ e. cc }
+tree_whole limit (Some t) = parts_whole (scene_of limit t)
+
+text_whole : (b : Bool) (limit : ℤ) (tree : Option Members) → StopsWhole (cond b (tree_in limit tree) (Err (stops SceneNotText [])))
+text_whole true limit tree = tree_whole limit tree
+text_whole false limit tree = record { rest = refl; read = λ e. cc }
+
+scene_whole : (limit : ℤ) (bytes : List ℕ) → StopsWhole (scene_in limit bytes)
+unfolding scene_in
+scene_whole limit bytes = text_whole (is_utf8 bytes) limit (parse_document bytes)
+
+no_read_fault : (b : Bool) → cond b Done SomeRefused ≢ ReadFault
+no_read_fault true e = cc
+no_read_fault false e = cc
+
+replay_read : (end : ReplayEnd) → replay_status end ≢ ReadFault
+replay_read (ends.Done refused) e = no_read_fault (refused == 0) e
+replay_read (ends.Mismatch entry field recorded found) e = cc
+
+pub simulated_whole : (input : List ℕ) → IsWhole (simulated input)
+unfolding simulated
+simulated_whole input =
+    then_whole (halves_in (split input)) _ (halves_whole (split input)) (λ h.
+    then_whole (scene_in range h.0) _ (scene_whole range h.0) (λ parts.
+    record { rest = refl; read = no_read_fault (refused_count (opened parts) (commands h.1) == 0) }))
+
+pub recorded_whole : (input : List ℕ) → IsWhole (recorded input)
+unfolding recorded
+recorded_whole input =
+    then_whole (halves_in (split input)) _ (halves_whole (split input)) (λ h.
+    then_whole (scene_in range h.0) _ (scene_whole range h.0) (λ parts.
+    record { rest = refl; read = no_read_fault (refused_count (opened parts) (commands h.1) == 0) }))
+
+log_whole : (log : Log) → IsWhole (log_outcome log)
+unfolding log_outcome
+log_whole log =
+    then_whole (scene_in log.limit log.scene) _ (scene_whole log.limit log.scene) (λ parts.
+    record { rest = refl; read = replay_read (replayed (opened parts) log.entries).ended })
+
+pub replayed_whole : (input : List ℕ) (o : Outcome) → IsReplayed input o → IsWhole o
+replayed_whole input o (inl (log, spells, is)) = rw is (log_whole log)
+replayed_whole input o (inr (offset, fault, is)) = rw is (record { rest = refl; read = λ e. cc })
+
+-- ---- a generated scene
+
+pub large_rest : (number size : ℕ) (input : List ℕ) → record (large_outcome number size []) { rest = input } ≡ large_outcome number size input
+unfolding summary_outcome
+large_rest number size input = refl
+
+step_read : (b : Bool) → cond b SomeRefused Done ≢ ReadFault
+step_read true e = cc
+step_read false e = cc
+
+pub large_read : (number size : ℕ) → (large_outcome number size []).status ≢ ReadFault
+unfolding summary_outcome
+large_read number size = step_read (is_refused (reply (opened (generated number size)) (Step 30)))

@@ -1,0 +1,9 @@
+use Rattle.pbd_outcome.specs.Outcome.{recorded, simulated}
+use Rattle.pbd_run.proofs.RunLaws.{did_one}
+use Rattle.pbd_run.proofs.forms.on_input.Goals as goal
+
+pub returns-in-Simulate : goal.returns-in-Simulate
+returns-in-Simulate g c = rw c.in-Simulate.is (did_one (simulated c.args.input.now) _ _ _ _ _ c.simulate_input.ensures)
+
+pub returns-in-Record : goal.returns-in-Record
+returns-in-Record g c = rw c.in-Record.is (did_one (recorded c.args.input.now) _ _ _ _ _ c.record_input.ensures)

@@ -1,0 +1,101 @@
+-- What the calls below `run` do.
+use Rattle.std.specs.Prelude.{◌≡◌, ◌≢◌, ◌<◌, ◌≤◌, ◌^◌, ℕ, List, [], length, Option, Some, Result, Ok, Err}
+use Rattle.std.specs.Io.KnownBytes.{Appends, Keeps}
+use Rattle.pbd_io.specs.Causes.{Rose}
+use Rattle.pbd_io.specs.Pieces.{AppendsFront}
+use Rattle.pbd_world.specs.declared.parts.Parts.{Parts}
+use Rattle.pbd_world.specs.Outcomes.{◌>>=◌}
+use Rattle.pbd_scene.specs.declared.fault.SceneFault.TheVariants as faults
+use Rattle.pbd_outcome.specs.declared.job.Job.{Job}
+use Rattle.pbd_outcome.specs.declared.job.Job.TheVariants.{Simulate, Record, Replay}
+use Rattle.pbd_outcome.specs.declared.status.Status.{Status}
+use Rattle.pbd_outcome.specs.declared.status.Status.TheVariants.{ReadFault, WriteFault, InputTooLong, SceneNotText, SceneNotToml, OutOfMemory}
+use Rattle.pbd_outcome.specs.Outcome.{IsReplayed, Outcome, halves_in, most, most_of_log, range, recorded, scene_in, scene_refused, settled, simulated, stops}
+use Rattle.pbd_outcome.specs.Split.{split}
+use Rattle.pbd_run.specs.declared.reading.ReadEnd.{ReadEnd}
+use Rattle.pbd_run.specs.declared.reading.ReadEnd.TheVariants as readings
+use Rattle.pbd_run.specs.declared.scene.SceneStop.{SceneStop}
+use Rattle.pbd_run.specs.declared.scene.SceneStop.TheVariants.{NotText, Fault}
+
+-- What a call answers and leaves in the sink that is to do as this outcome says.
+abbrev pub Does : Outcome → Option (List ℕ) → Option (List ℕ) → ℕ → ℕ → Status → Type 0
+Does o old new before now WriteFault = Rose before now × AppendsFront old new o.text
+Does o old new before now OutOfMemory = Keeps old new
+Does o old new before now status = (status ≡ o.status) × Appends old new o.text
+
+-- a status that a call may end with of its own
+abbrev pub IsPlain : Status → Type 0
+IsPlain WriteFault = ⊥
+IsPlain OutOfMemory = ⊥
+IsPlain _ = Unit {0}
+
+-- a call did as some outcome of this kind says
+pub record DoesSome (IsOne : Outcome → Type 0) (old new : Option (List ℕ)) (before now : ℕ) (status : Status) : Type 0 where
+  pub outcome : Outcome
+  pub its : IsOne outcome
+  pub does : Does outcome old new before now status
+
+-- why a scene's bytes gave no parts
+abbrev pub Stops : SceneStop → Result Parts Outcome → Type 0
+Stops NotText r = r ≡ Err (stops SceneNotText [])
+Stops (Fault faults.NotToml) r = r ≡ Err (stops SceneNotToml [])
+Stops (Fault (faults.Refused rule table position key)) r = r ≡ Err (scene_refused (record { rule = rule; place = record { table = table; position = position }; key = key }))
+Stops (Fault faults.OutOfMemory) r = Unit {0}
+
+-- the parts that a scene's bytes gave, or why they gave none
+abbrev pub GivesParts : Result Parts SceneStop → Result Parts Outcome → Type 0
+GivesParts (Ok parts) r = r ≡ Ok parts
+GivesParts (Err stop) r = Stops stop r
+
+-- what a call does that ends a reading which didn't come to the end
+abbrev pub EndsReading : ReadEnd → Option (List ℕ) → Option (List ℕ) → ℕ → ℕ → Status → Type 0
+EndsReading readings.Failed old new before now status = Does (stops ReadFault []) old new before now status × (status ≢ OutOfMemory)
+EndsReading readings.TooLong old new before now status = Does (stops InputTooLong []) old new before now status
+EndsReading readings.OutOfMemory old new before now status = (status ≡ OutOfMemory) × Keeps old new
+
+-- what a call does that ends a run whose scene gives no parts
+abbrev pub EndsForScene : SceneStop → Option (List ℕ) → Option (List ℕ) → ℕ → ℕ → Status → Type 0
+EndsForScene NotText old new before now status = Does (stops SceneNotText []) old new before now status
+EndsForScene (Fault faults.NotToml) old new before now status = Does (stops SceneNotToml []) old new before now status
+EndsForScene (Fault (faults.Refused rule table position key)) old new before now status = Does (scene_refused (record { rule = rule; place = record { table = table; position = position }; key = key })) old new before now status
+EndsForScene (Fault faults.OutOfMemory) old new before now status = (status ≡ OutOfMemory) × Keeps old new
+
+-- ---- jobs that read
+
+-- how many bytes the input of a job may have
+abbrev pub limit_of : Job → ℕ
+limit_of (Replay width) = most_of_log
+limit_of job = most
+
+-- what a job that reads comes to on an input that was read to its end
+abbrev pub IsOne : Job → List ℕ → Outcome → Type 0
+IsOne (Simulate width) input o = o ≡ simulated input
+IsOne (Record width) input o = o ≡ recorded input
+IsOne (Replay width) input o = IsReplayed input o
+IsOne job input o = ⊥
+
+-- ---- a scene and a script
+
+-- an input has these halves, and the first gives a scene of these parts
+pub record HasHalves (input text : List ℕ) (parts : Parts) (script : List ℕ) : Type 0 where
+  pub halves : split input ≡ Some (text, script)
+  pub scene : scene_in range text ≡ Ok parts
+  pub short_text : length text ≤ length input
+  pub short_script : length script ≤ length input
+
+-- what a run comes to that needs the halves of its input, where `outcome` says what it does with them
+abbrev pub on_halves : (List ℕ → Parts → List ℕ → Outcome) → List ℕ → Outcome
+on_halves outcome input = settled (do
+  halves ← halves_in (split input)
+  parts ← scene_in range halves.0
+  Ok (outcome halves.0 parts halves.1))
+
+-- a call ended a run whose input has no such halves, whatever it would have done with them
+abbrev pub StopsAtHalves : List ℕ → Option (List ℕ) → Option (List ℕ) → ℕ → ℕ → Status → Type 0
+StopsAtHalves input old new before now status = (outcome : List ℕ → Parts → List ℕ → Outcome) → Does (on_halves outcome input) old new before now status
+
+-- what `record` asks of its scene and its script: that they can be written in a log
+pub record IsRecordable (text : List ℕ) (parts : Parts) (script : List ℕ) : Type 0 where
+  pub short_text : length text < 2 ^ 32
+  pub short_script : length script ≤ 2 ^ 31
+  pub limit : parts.limit ≡ range

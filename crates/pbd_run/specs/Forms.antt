@@ -1,0 +1,24 @@
+-- What each form comes to, by what it borrows. No width has a part in it.
+use Rattle.std.specs.Prelude.{ℕ, List, []}
+use Rattle.pbd_world.specs.declared.parts.Parts.{Parts}
+use Rattle.pbd_world.specs.World.{opened}
+use Rattle.pbd_script.specs.Commands.{commands}
+use Rattle.pbd_log.specs.declared.entry.Entry.{Entry}
+use Rattle.pbd_session.specs.Replaying.{replayed}
+use Rattle.pbd_outcome.specs.Outcome.{Outcome, record_outcome, replay_outcome, session_outcome, summary_outcome}
+
+-- a script on a scene
+unfoldable pub simulate_on : Parts → List ℕ → Outcome
+simulate_on scene script = session_outcome (opened scene) (commands script)
+
+-- the same in a log, which has the bytes of the scene too
+unfoldable pub record_on : List ℕ → Parts → List ℕ → Outcome
+record_on text scene script = record_outcome text (opened scene) (commands script)
+
+-- the entries of a log on its scene
+unfoldable pub replay_on : Parts → List Entry → Outcome
+replay_on scene entries = replay_outcome (replayed (opened scene) entries)
+
+-- thirty steps of a scene that was generated from a number and a size
+unfoldable pub large_on : ℕ → ℕ → Parts → Outcome
+large_on number size scene = summary_outcome number size (opened scene) []

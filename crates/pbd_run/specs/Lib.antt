@@ -1,0 +1,3 @@
+pub mod Calls
+pub mod Forms
+pub mod Reading

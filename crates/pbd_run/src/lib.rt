@@ -1,0 +1,18 @@
+//! What the program's forms do, from the job to the status.
+#![tactic(auto)]
+
+mod form;
+mod forms;
+mod generated;
+mod halves;
+mod large;
+mod line;
+mod reading;
+mod record;
+mod replay;
+mod scene;
+mod simulate;
+mod split;
+
+pub use form::{AtWidth, Counted, Form, Settled, with_counter};
+pub use forms::perform;
