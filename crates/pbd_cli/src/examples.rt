@@ -1,4 +1,5 @@
-//! The scenes of `examples/`, without their comments, run at two widths, recorded at a third and replayed at a fourth.
+//! The scenes of `examples/`, without their comments, run at two widths and in two scrambled orders, recorded at a
+//! third width and replayed at a fourth.
 use crate::run::run;
 use crate::tests::{lines_of, words_of};
 use pbd_io::{MemSink, SureSource};
@@ -68,7 +69,7 @@ fn headers(alloc: Global, written: &[u8]) -> Result<String, AllocError> {
 }
 
 #[test]
-fn the_examples_run_and_replay(rt: HostRuntime) -> Result<(), Fail> {
+fn the_examples_run_scramble_and_replay(rt: HostRuntime) -> Result<(), Fail> {
     let alloc = rt.alloc();
     for (text, frames, ends, status) in EXAMPLES {
         let input = lines_of(alloc, text)?;
@@ -87,6 +88,10 @@ fn the_examples_run_and_replay(rt: HostRuntime) -> Result<(), Fail> {
         );
         let wide = run_on(alloc, "simulate 16", input.as_str().as_bytes())?;
         assert!(rt; wide == narrow, "{text}");
+        for words in ["scramble 7", "scramble 8"] {
+            let scrambled = run_on(alloc, words, input.as_str().as_bytes())?;
+            assert!(rt; scrambled == narrow, "{text}");
+        }
         let log = run_on(alloc, "record 4", input.as_str().as_bytes())?;
         let replayed = run_on(alloc, "replay 8", &log.1)?;
         assert!(rt; replayed == narrow, "{text}");

@@ -1,7 +1,7 @@
 //! What the program does, from the words to the status.
 ghost use Rattle.std.specs.Prelude.{◌≡◌, map, string_bytes};
 ghost use Rattle.pbd_outcome.specs.Job.{job};
-ghost use Rattle.pbd_outcome.specs.Clauses.{ends, Settles, BlamesSource, BlamesSink, GivesUp, Reads};
+ghost use Rattle.pbd_outcome.specs.Clauses.{ends, Settles, ScramblesAlike, BlamesSource, BlamesSink, GivesUp, Reads};
 ghost use Rattle.pbd_outcome.specs.Headline.{KeepsHeadline};
 
 use pbd_io::{Sink, Source};
@@ -21,6 +21,8 @@ pub fn run<S: Source, K: Sink>(
     ensures headline { KeepsHeadline (job (map string_bytes words.now)) (ends S.left S.faults K.written K.faults source.old sink.old) (ends S.left S.faults K.written K.faults source.new sink.new) result }
     // Unless the status is 2, 3 or 12, the status and the bytes are those of the outcome, whatever failed on the way.
     ensures outcome { Settles (job (map string_bytes words.now)) (ends S.left S.faults K.written K.faults source.old sink.old) (ends S.left S.faults K.written K.faults source.new sink.new) result }
+    // `scramble` does what `simulate` does, whatever its number.
+    ensures scrambled { ScramblesAlike (job (map string_bytes words.now)) (ends S.left S.faults K.written K.faults source.old sink.old) (ends S.left S.faults K.written K.faults source.new sink.new) result }
     // A fault of reading or writing is told only where the source or the sink failed.
     ensures read_fault { result ≡ Status.ReadFault → BlamesSource (job (map string_bytes words.now)) (ends S.left S.faults K.written K.faults source.old sink.old) (ends S.left S.faults K.written K.faults source.new sink.new) }
     ensures write_fault { result ≡ Status.WriteFault → BlamesSink (job (map string_bytes words.now)) (ends S.left S.faults K.written K.faults source.old sink.old) (ends S.left S.faults K.written K.faults source.new sink.new) }

@@ -343,8 +343,8 @@ fn a_run_that_stops_writes_one_line(rt: HostRuntime) -> Result<(), Fail> {
         (
             "scramble 18446744073709551615",
             "",
-            "error 13 NotBuilt",
-            Status::NotBuilt,
+            "error 5 NoScript",
+            Status::NoScript,
         ),
         ("simulate 3", "", "error 1 Usage", Status::Usage),
         ("simulate 01", "", "error 1 Usage", Status::Usage),

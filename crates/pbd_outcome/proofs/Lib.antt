@@ -5,6 +5,7 @@ pub mod OneOutcome
 pub mod OutcomeLaws
 pub mod RefusalFits
 pub mod ReplayedRecords
+pub mod ScrambleLaws
 pub mod ScriptFits
 pub mod ShortLines
 pub mod ShortLogs

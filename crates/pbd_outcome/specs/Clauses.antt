@@ -3,8 +3,9 @@ use Rattle.std.specs.Prelude.{◌≡◌, ◌≢◌, ◌⊎◌, ℕ, List, Option
 use Rattle.std.specs.Io.KnownBytes.{Appends, Keeps}
 use Rattle.pbd_io.specs.Causes.{Rose}
 use Rattle.pbd_io.specs.Pieces.{AppendsFront}
+use Rattle.pbd_world.specs.declared.command.Width.{Width}
 use Rattle.pbd_outcome.specs.declared.job.Job.{Job}
-use Rattle.pbd_outcome.specs.declared.job.Job.TheVariants.{Simulate, Record, Replay}
+use Rattle.pbd_outcome.specs.declared.job.Job.TheVariants.{Simulate, Record, Replay, Scramble}
 use Rattle.pbd_outcome.specs.declared.status.Status.{Status}
 use Rattle.pbd_outcome.specs.declared.status.Status.TheVariants.{ReadFault, WriteFault, OutOfMemory}
 use Rattle.pbd_outcome.specs.Statuses.{status_line}
@@ -25,6 +26,7 @@ abbrev pub Reads : Option Job → Type 0
 Reads (Some (Simulate width)) = Unit {0}
 Reads (Some (Record width)) = Unit {0}
 Reads (Some (Replay width)) = Unit {0}
+Reads (Some (Scramble seed)) = Unit {0}
 Reads _ = ⊥
 
 -- the input is told, or the job doesn't read it
@@ -43,6 +45,10 @@ pub record Goes (job : Option Job) (input : List ℕ) (old new : Ends) (status :
 abbrev pub Settles : Option Job → Ends → Ends → Status → Type 0
 Settles job old new status = status ≢ ReadFault → status ≢ WriteFault → status ≢ OutOfMemory
     → (input : List ℕ) → IsInput job old.left input → Goes job input old new status
+
+-- What `scramble` does is what `simulate` does at each width, whatever the number.
+abbrev pub ScramblesAlike : Option Job → Ends → Ends → Status → Type 0
+ScramblesAlike job old new status = (number : ℕ) (width : Width) → job ≡ Some (Scramble number) → Settles (Some (Simulate width)) old new status
 
 -- A fault of reading
 pub record BlamesSource (job : Option Job) (old new : Ends) : Type 0 where

@@ -153,4 +153,5 @@ IsOutcome (Some (jobs.Simulate width)) input o = IsWithin most (λ o. o ≡ simu
 IsOutcome (Some (jobs.Record width)) input o = IsWithin most (λ o. o ≡ recorded input) input o
 IsOutcome (Some (jobs.Replay width)) input o = IsWithin most_of_log (IsReplayed input) input o
 IsOutcome (Some (jobs.Large width number size)) input o = o ≡ large_outcome number size input
+IsOutcome (Some (jobs.Scramble seed)) input o = IsWithin most (λ o. o ≡ simulated input) input o
 IsOutcome (Some job) input o = o ≡ stops NotBuilt input

@@ -21,6 +21,11 @@ pub fn each_input_has_one_outcome()
     ensures { (job : Option Job) (input : List ℕ) (o p : Outcome) → IsOutcome job input o → IsOutcome job input p → o ≡ p }
 {}
 
+/// What `scramble` comes to is what `simulate` comes to, at every width and whatever the number.
+pub fn a_scrambled_run_comes_to_what_simulate_does()
+    ensures { (number : ℕ) (width : Width) (input : List ℕ) (o : Outcome) → IsOutcome (Some (jobs.Scramble number)) input o → IsOutcome (Some (jobs.Simulate width)) input o }
+{}
+
 /// A refused command prints its line, and all that comes after it is what comes without it.
 pub fn a_refused_command_changes_nothing_later()
     ensures { (w : World) (command : Command) (later : List Command) (refusal : Refusal)

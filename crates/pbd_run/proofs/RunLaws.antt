@@ -78,21 +78,21 @@ forms (Simulate w) reads = record { reads = tt; its = λ input o is. is; whole =
 forms (Record w) reads = record { reads = tt; its = λ input o is. is; whole = λ input o is. rw is (recorded_whole input) }
 forms (Replay w) reads = record { reads = tt; its = λ input o is. is; whole = replayed_whole }
 forms (Large w seed size) reads = absurd reads
-forms (Scramble seed) reads = absurd reads
+forms (Scramble seed) reads = record { reads = tt; its = λ input o is. is; whole = λ input o is. rw is (simulated_whole input) }
 forms (Obj w) reads = absurd reads
 forms (Marks w) reads = absurd reads
 forms (Host w) reads = absurd reads
 
 -- only these read
-pub reads_one : (job : Job) → Reads (Some job) → ((w : Width) → job ≡ Simulate w → ⊥) → ((w : Width) → job ≡ Record w → ⊥) → ((w : Width) → job ≡ Replay w → ⊥) → ⊥
-reads_one (Simulate w) reads a b c = a w refl
-reads_one (Record w) reads a b c = b w refl
-reads_one (Replay w) reads a b c = c w refl
-reads_one (Large w seed size) reads a b c = reads
-reads_one (Scramble seed) reads a b c = reads
-reads_one (Obj w) reads a b c = reads
-reads_one (Marks w) reads a b c = reads
-reads_one (Host w) reads a b c = reads
+pub reads_one : (job : Job) → Reads (Some job) → ((w : Width) → job ≡ Simulate w → ⊥) → ((w : Width) → job ≡ Record w → ⊥) → ((w : Width) → job ≡ Replay w → ⊥) → ((seed : ℕ) → job ≡ Scramble seed → ⊥) → ⊥
+reads_one (Simulate w) reads a b c d = a w refl
+reads_one (Record w) reads a b c d = b w refl
+reads_one (Replay w) reads a b c d = c w refl
+reads_one (Large w seed size) reads a b c d = reads
+reads_one (Scramble seed) reads a b c d = d seed refl
+reads_one (Obj w) reads a b c d = reads
+reads_one (Marks w) reads a b c d = reads
+reads_one (Host w) reads a b c d = reads
 
 told_input : (job : Option Job) (left : Option (List ℕ)) (input : List ℕ) → Reads job → IsInput job left input → left ≡ Some input
 told_input job left input reads (inl unread) = absurd (unread reads)
@@ -176,15 +176,15 @@ pub record IsNotBuilt (job : Job) : Type 0 where
   pub reads : Reads (Some job) → ⊥
   pub its : (input : List ℕ) → IsOutcome (Some job) input (stops NotBuilt input)
 
-pub not_built : (job : Job) → ((w : Width) → job ≡ Simulate w → ⊥) → ((w : Width) → job ≡ Record w → ⊥) → ((w : Width) → job ≡ Replay w → ⊥) → ((w : Width) (seed size : ℕ) → job ≡ Large w seed size → ⊥) → IsNotBuilt job
-not_built (Simulate w) a b c d = absurd (a w refl)
-not_built (Record w) a b c d = absurd (b w refl)
-not_built (Replay w) a b c d = absurd (c w refl)
-not_built (Large w seed size) a b c d = absurd (d w seed size refl)
-not_built (Scramble seed) a b c d = record { reads = λ r. r; its = λ input. refl }
-not_built (Obj w) a b c d = record { reads = λ r. r; its = λ input. refl }
-not_built (Marks w) a b c d = record { reads = λ r. r; its = λ input. refl }
-not_built (Host w) a b c d = record { reads = λ r. r; its = λ input. refl }
+pub not_built : (job : Job) → ((w : Width) → job ≡ Simulate w → ⊥) → ((w : Width) → job ≡ Record w → ⊥) → ((w : Width) → job ≡ Replay w → ⊥) → ((seed : ℕ) → job ≡ Scramble seed → ⊥) → ((w : Width) (seed size : ℕ) → job ≡ Large w seed size → ⊥) → IsNotBuilt job
+not_built (Simulate w) a b c d e = absurd (a w refl)
+not_built (Record w) a b c d e = absurd (b w refl)
+not_built (Replay w) a b c d e = absurd (c w refl)
+not_built (Large w seed size) a b c d e = absurd (e w seed size refl)
+not_built (Scramble seed) a b c d e = absurd (d seed refl)
+not_built (Obj w) a b c d e = record { reads = λ r. r; its = λ input. refl }
+not_built (Marks w) a b c d e = record { reads = λ r. r; its = λ input. refl }
+not_built (Host w) a b c d e = record { reads = λ r. r; its = λ input. refl }
 
 pub unread_form : (job : Job) (old new : Ends) (s : Status) → IsNotBuilt job → s ≢ OutOfMemory → Does (stops NotBuilt []) old.written new.written old.sink_faults new.sink_faults s → Promises (Some job) old new s
 unread_form job old new s form some does = unread (Some job) old new (stops NotBuilt []) s form.reads form.its (λ e. cc) (λ e f. cc) does

@@ -9,6 +9,7 @@ use crate::reading::read_all;
 use crate::record::record_input;
 use crate::replay::replay_input;
 use crate::scene::{stop, stop_reading};
+use crate::scramble::scramble_input;
 use crate::simulate::simulate_input;
 use pbd_io::{Sink, Source};
 use pbd_outcome::{Job, Status};
@@ -42,6 +43,7 @@ fn on_input<K: Sink>(alloc: Global, job: Job, input: &[u8], sink: &mut K) -> Sta
         Job::Simulate(width) => simulate_input(alloc, width, input, sink),
         Job::Record(width) => record_input(alloc, width, input, sink),
         Job::Replay(width) => replay_input(alloc, width, input, sink),
+        Job::Scramble { seed } => scramble_input(alloc, seed, input, sink),
         _ => unreachable!(),
     }
 }
@@ -72,7 +74,9 @@ pub fn perform<S: Source, K: Sink>(
         return stop(Status::Usage, sink);
     };
     match job {
-        Job::Simulate(_) | Job::Record(_) | Job::Replay(_) => read_and_do(alloc, job, source, sink),
+        Job::Simulate(_) | Job::Record(_) | Job::Replay(_) | Job::Scramble { .. } => {
+            read_and_do(alloc, job, source, sink)
+        }
         Job::Large { width, seed, size } => large_run(alloc, width, seed, size, sink),
         _ => stop(Status::NotBuilt, sink),
     }

@@ -11,6 +11,7 @@ mod reading;
 mod record;
 mod replay;
 mod scene;
+mod scramble;
 mod simulate;
 mod split;
 

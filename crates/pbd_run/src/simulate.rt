@@ -43,7 +43,7 @@ impl<const L: usize> Form<L> for Simulate<'_> {
 }
 
 /// Runs the script on the session that the scene opened.
-fn on_session<const L: usize, P: Projector<L> + Drop, G: Ledger, K: Sink>(
+pub(crate) fn on_session<const L: usize, P: Projector<L> + Drop, G: Ledger, K: Sink>(
     it: Simulate<'_>,
     session: &mut Session<L, P>,
     sink: &mut K,

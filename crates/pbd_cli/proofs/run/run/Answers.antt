@@ -1,6 +1,7 @@
 use Rattle.std.proofs.Common.{sym, map, string_bytes}
 use Rattle.pbd_outcome.specs.Job.{job}
 use Rattle.pbd_outcome.proofs.HeadlineLaws.{headline_of}
+use Rattle.pbd_outcome.proofs.ScrambleLaws.{scrambles_alike}
 use Rattle.pbd_cli.proofs.run.run.Goals as goal
 
 pub returns-clause-outcome : goal.returns-clause-outcome
@@ -8,3 +9,6 @@ returns-clause-outcome g c = rw (sym c.job_of.ensures.job) (c.perform.ensures.pr
 
 pub returns-clause-headline : goal.returns-clause-headline
 returns-clause-headline g c = headline_of (job (map string_bytes c.args.words.now)) _ _ c.perform.result (rw (sym c.job_of.ensures.job) (c.perform.ensures.promises.outcome))
+
+pub returns-clause-scrambled : goal.returns-clause-scrambled
+returns-clause-scrambled g c = scrambles_alike (job (map string_bytes c.args.words.now)) _ _ c.perform.result (rw (sym c.job_of.ensures.job) (c.perform.ensures.promises.outcome))

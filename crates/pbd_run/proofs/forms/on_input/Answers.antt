@@ -7,3 +7,6 @@ returns-in-Simulate g c = rw c.in-Simulate.is (did_one (simulated c.args.input.n
 
 pub returns-in-Record : goal.returns-in-Record
 returns-in-Record g c = rw c.in-Record.is (did_one (recorded c.args.input.now) _ _ _ _ _ c.record_input.ensures)
+
+pub returns-in-Scramble : goal.returns-in-Scramble
+returns-in-Scramble g c = rw c.in-Scramble.is (did_one (simulated c.args.input.now) _ _ _ _ _ c.scramble_input.ensures)
