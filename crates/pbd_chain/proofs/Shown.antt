@@ -5,10 +5,10 @@ use Rattle.std.proofs.lemmas.List.{get_or-map, get_or-set_same, get_or-set_other
 use Rattle.std.proofs.lemmas.List.FromFn.{get_or-map-range_with_len, length-map-range_with_len}
 use Rattle.pbd_chain.specs.declared.links.Slot.{Slot}
 use Rattle.pbd_chain.specs.declared.links.Slot.TheVariants.{Head, After}
-use Rattle.pbd_chain.specs.Thread.{at, back_of, IsThread, follow}
+use Rattle.pbd_chain.specs.Succession.{at, back_of, IsSuccession, follow}
 use Rattle.pbd_chain.specs.Changes.{LinksFront, Unlinks, IsSlot}
 use Rattle.pbd_chain.specs.Linked.{is_in, is_linked, without, chain_at, chains_of, Shows, Linked}
-use Rattle.pbd_chain.proofs.Threads.{In, In-from_test, test-from_In, In-without, without-In, tells_slot, Stands, stands, length_le, follow_is, thread-unlinked, thread-kept, thread-linked}
+use Rattle.pbd_chain.proofs.Successions.{In, In-from_test, test-from_In, In-without, without-In, tells_slot, Stands, stands, length_le, follow_is, succession-unlinked, succession-kept, succession-linked}
 
 abbrev pub none_of : (A : Type 0) → List A
 none_of A = []
@@ -42,11 +42,11 @@ module _ {heads next : List (Option ℕ)} {back : List (Option Slot)} {chains : 
   shown_is = ext_get_or [] (chains_of heads next) chains (length-map-range_with_len _ 0 (length heads) ∙ sym h.count)
       (λ c l. let within : c < length heads = omega (arith, length-map-range_with_len (λ c. follow (at heads next) (length next) (Head c)) 0 (length heads), l) in
       get_or-map-range_with_len (λ c. follow (at heads next) (length next) (Head c)) 0 (length heads) c c [] within (omega arith)
-      ∙ follow_is (at heads next) (back_of back) (length next) (Head c) (chain_at chains c) (h.threads c within)
-      (length_le (at heads next) (back_of back) (length next) c (chain_at chains c) (h.threads c within) (λ x i. h.items c x within (test-from_In x (chain_at chains c) i))))
+      ∙ follow_is (at heads next) (back_of back) (length next) (Head c) (chain_at chains c) (h.successions c within)
+      (length_le (at heads next) (back_of back) (length next) c (chain_at chains c) (h.successions c within) (λ x i. h.items c x within (test-from_In x (chain_at chains c) i))))
 
   pub stands_at : (c x : ℕ) → c < length heads → is_in x (chain_at chains c) ≡ true → (r : Slot) × Stands (at heads next) (back_of back) (Head c) (chain_at chains c) x r
-  stands_at c x l i = stands (at heads next) (back_of back) (Head c) (chain_at chains c) x (h.threads c l) (In-from_test x _ i)
+  stands_at c x l i = stands (at heads next) (back_of back) (Head c) (chain_at chains c) x (h.successions c l) (In-from_test x _ i)
 
   -- where a linked item stands, in some chain
   pub stands_linked : (x : ℕ) → is_linked chains x ≡ true → (c : ℕ) × (c < length heads) × ((r : Slot) × Stands (at heads next) (back_of back) (Head c) (chain_at chains c) x r)
@@ -69,7 +69,7 @@ module _ {heads next : List (Option ℕ)} {back : List (Option Slot)} {chains : 
   told_below x s e = item_below x (linked_tells x s e)
 
   pub first_below : (c z : ℕ) → c < length heads → get_or heads c None ≡ Some z → z < length next
-  first_below c z l e = told_below z (Head c) (tells_slot (at heads next) (back_of back) (Head c) (chain_at chains c) (h.threads c l) z e)
+  first_below c z l e = told_below z (Head c) (tells_slot (at heads next) (back_of back) (Head c) (chain_at chains c) (h.successions c l) z e)
 
   pub behind_below : (x z : ℕ) → is_linked chains x ≡ true → get_or next x None ≡ Some z → z < length next
   behind_below x z i e = let k = stands_linked x i in told_below z (After x) (k.2.1.behind z e)
@@ -103,8 +103,8 @@ module _ {heads next heads' next' : List (Option ℕ)} {back back' : List (Optio
         few = omega (arith, ln, h.few);
         backs = omega (arith, lb, ln, h.backs);
         count = length-map chains (without x) ∙ h.count ∙ sym lh;
-        threads = λ c l. let m : c < length heads = omega (arith, lh, l) in
-            subst (λ (xs : List ℕ). IsThread (at heads' next') (back_of back') (Head c) xs) (sym (chain c m)) (thread-unlinked u w.tells w.holds w.behind (Head c) (chain_at chains c) (h.threads c m) (λ e. cc));
+        successions = λ c l. let m : c < length heads = omega (arith, lh, l) in
+            subst (λ (xs : List ℕ). IsSuccession (at heads' next') (back_of back') (Head c) xs) (sym (chain c m)) (succession-unlinked u w.tells w.holds w.behind (Head c) (chain_at chains c) (h.successions c m) (λ e. cc));
         items = λ c y l t. let m : c < length heads = omega (arith, lh, l) in
             let old : In y (chain_at chains c) = In-without x y (chain_at chains c) (In-from_test y _ (subst (λ (xs : List ℕ). is_in y xs ≡ true) (chain c m) t)) in
             subst (λ (n : ℕ). y < n) (sym ln) (h.items c y m (test-from_In y _ old));
@@ -127,7 +127,7 @@ module _ {heads next heads' next' : List (Option ℕ)} {back back' : List (Optio
       → Shows heads' next' back' (set chains c (x ∷ chain_at chains c))
   Shows-link c x lc lx free l =
       let none : back_of back x ≡ None = free_tells h x free in
-      let first : (z : ℕ) → at heads next (Head c) ≡ Some z → back_of back z ≡ Some (Head c) = tells_slot (at heads next) (back_of back) (Head c) (chain_at chains c) (h.threads c lc) in
+      let first : (z : ℕ) → at heads next (Head c) ≡ Some z → back_of back z ≡ Some (Head c) = tells_slot (at heads next) (back_of back) (Head c) (chain_at chains c) (h.successions c lc) in
       let new : List (List ℕ) = set chains c (x ∷ chain_at chains c) in
       let here : chain_at (set chains c (x ∷ chain_at chains c)) c ≡ x ∷ chain_at chains c = get_or-set_same chains c _ [] (omega (arith, h.count, lc)) in
       let there : (d : ℕ) → d ≢ c → chain_at (set chains c (x ∷ chain_at chains c)) d ≡ chain_at chains d = λ d ne. get_or-set_other chains c d _ [] ne in
@@ -135,11 +135,11 @@ module _ {heads next heads' next' : List (Option ℕ)} {back back' : List (Optio
         few = omega (arith, ln, h.few);
         backs = omega (arith, lb, ln, h.backs);
         count = length-set chains c _ ∙ h.count ∙ sym lh;
-        threads = λ d ld. let m : d < length heads = omega (arith, lh, ld) in elim (cases_eq d c) [
-          | inl e ↦ subst (λ (n : ℕ). IsThread (at heads' next') (back_of back') (Head n) (chain_at (set chains c (x ∷ chain_at chains c)) n)) (sym e)
-              (subst (λ (xs : List ℕ). IsThread (at heads' next') (back_of back') (Head c) xs) (sym here) (thread-linked l none first (chain_at chains c) (h.threads c lc)))
-          | inr ne ↦ subst (λ (xs : List ℕ). IsThread (at heads' next') (back_of back') (Head d) xs) (sym (there d ne))
-              (thread-kept l none first (Head d) (chain_at chains d) (h.threads d m) (λ e. ne cc) (λ e. cc))
+        successions = λ d ld. let m : d < length heads = omega (arith, lh, ld) in elim (cases_eq d c) [
+          | inl e ↦ subst (λ (n : ℕ). IsSuccession (at heads' next') (back_of back') (Head n) (chain_at (set chains c (x ∷ chain_at chains c)) n)) (sym e)
+              (subst (λ (xs : List ℕ). IsSuccession (at heads' next') (back_of back') (Head c) xs) (sym here) (succession-linked l none first (chain_at chains c) (h.successions c lc)))
+          | inr ne ↦ subst (λ (xs : List ℕ). IsSuccession (at heads' next') (back_of back') (Head d) xs) (sym (there d ne))
+              (succession-kept l none first (Head d) (chain_at chains d) (h.successions d m) (λ e. ne cc) (λ e. cc))
         ];
         items = λ d y ld t. let m : d < length heads = omega (arith, lh, ld) in subst (λ (n : ℕ). y < n) (sym ln) (elim (cases_eq d c) [
           | inl e ↦ (let i : In y (x ∷ chain_at chains c) = In-from_test y (x ∷ chain_at chains c) (subst (λ (xs : List ℕ). is_in y xs ≡ true) (ap (chain_at (set chains c (x ∷ chain_at chains c))) e ∙ here) t) in
@@ -168,25 +168,25 @@ module _ {heads next heads' next' : List (Option ℕ)} {back back' : List (Optio
       ]
 
 module _ (f : Slot → Option ℕ) (g : ℕ → Option Slot) where
-  pub thread-first : (s : Slot) (xs : List ℕ) → IsThread f g s xs → f s ≡ slice_get xs 0
-  thread-first s [] h = h
-  thread-first s (x ∷ xs) h = h.0
+  pub succession-first : (s : Slot) (xs : List ℕ) → IsSuccession f g s xs → f s ≡ slice_get xs 0
+  succession-first s [] h = h
+  succession-first s (x ∷ xs) h = h.0
 
-  pub thread-next : (s : Slot) (xs : List ℕ) (k x : ℕ) → IsThread f g s xs → slice_get xs k ≡ Some x → f (After x) ≡ slice_get xs (k + 1)
-  thread-next s [] k x h e = cc
-  thread-next s (y ∷ ys) zero x h e = let same : y ≡ x = cc in subst (λ (n : ℕ). f (After n) ≡ slice_get ys 0) same (thread-first (After y) ys h.2)
-  thread-next s (y ∷ ys) (suc k) x h e = thread-next (After y) ys k x h.2 e ∙ ap (slice_get (y ∷ ys)) (let m : suc (k + 1) ≡ suc k + 1 = omega arith in m)
+  pub succession-next : (s : Slot) (xs : List ℕ) (k x : ℕ) → IsSuccession f g s xs → slice_get xs k ≡ Some x → f (After x) ≡ slice_get xs (k + 1)
+  succession-next s [] k x h e = cc
+  succession-next s (y ∷ ys) zero x h e = let same : y ≡ x = cc in subst (λ (n : ℕ). f (After n) ≡ slice_get ys 0) same (succession-first (After y) ys h.2)
+  succession-next s (y ∷ ys) (suc k) x h e = succession-next (After y) ys k x h.2 e ∙ ap (slice_get (y ∷ ys)) (let m : suc (k + 1) ≡ suc k + 1 = omega arith in m)
 
 module _ {heads next : List (Option ℕ)} {back : List (Option Slot)} {chains : List (List ℕ)} (h : Shows heads next back chains) where
   pub chain_le : (c : ℕ) → c < length heads → length (chain_at chains c) ≤ length next
-  chain_le c l = length_le (at heads next) (back_of back) (length next) c (chain_at chains c) (h.threads c l) (λ x i. h.items c x l (test-from_In x (chain_at chains c) i))
+  chain_le c l = length_le (at heads next) (back_of back) (length next) c (chain_at chains c) (h.successions c l) (λ x i. h.items c x l (test-from_In x (chain_at chains c) i))
 
   pub shown-first : (c : ℕ) → c < length heads → get_or heads c None ≡ slice_get (chain_at chains c) 0
-  shown-first c l = thread-first (at heads next) (back_of back) (Head c) (chain_at chains c) (h.threads c l)
+  shown-first c l = succession-first (at heads next) (back_of back) (Head c) (chain_at chains c) (h.successions c l)
 
   pub shown-next : (c k x : ℕ) → slice_get (chain_at chains c) k ≡ Some x → get_or next x None ≡ slice_get (chain_at chains c) (k + 1)
   shown-next c k x e = elim (cases_lt c (length heads)) [
-    | inl l ↦ thread-next (at heads next) (back_of back) (Head c) (chain_at chains c) k x (h.threads c l) e
+    | inl l ↦ succession-next (at heads next) (back_of back) (Head c) (chain_at chains c) k x (h.successions c l) e
     | inr m ↦ (let none : chain_at chains c ≡ [] = get_or_past chains c [] (omega (arith, h.count, m)) in let k = ap (λ (xs : List ℕ). slice_get xs k) none in let no : ⊥ = cc in absurd no)
   ]
 
@@ -203,7 +203,7 @@ Shows-none heads next back chains few lb lc hs bs cs = record {
   few = few;
   backs = lb;
   count = lc;
-  threads = λ c l. subst (λ (xs : List ℕ). IsThread (at heads next) (back_of back) (Head c) xs) (sym (cs c)) (hs c);
+  successions = λ c l. subst (λ (xs : List ℕ). IsSuccession (at heads next) (back_of back) (Head c) xs) (sym (cs c)) (hs c);
   items = λ c x l t. absurd (false≢true (subst (λ (xs : List ℕ). is_in x xs ≡ true) (cs c) t));
   linked = λ x s e. let b = bs x in let no : ⊥ = cc in absurd no;
 }
@@ -254,7 +254,7 @@ slot_at s [] (suc k) = s
 slot_at s (x ∷ xs) (suc k) = slot_at (After x) xs k
 
 module _ (f : Slot → Option ℕ) (g : ℕ → Option Slot) where
-  slot_told : (s : Slot) (xs : List ℕ) (k x : ℕ) → IsThread f g s xs → slice_get xs k ≡ Some x → g x ≡ Some (slot_at s xs k)
+  slot_told : (s : Slot) (xs : List ℕ) (k x : ℕ) → IsSuccession f g s xs → slice_get xs k ≡ Some x → g x ≡ Some (slot_at s xs k)
   unfolding slot_at
   slot_told s [] k x h e = let no : ⊥ = cc in absurd no
   slot_told s (y ∷ ys) zero x h e = let same : y ≡ x = cc in subst (λ (n : ℕ). g n ≡ Some s) same h.1
@@ -279,7 +279,7 @@ module _ {heads next : List (Option ℕ)} {back : List (Option Slot)} {chains : 
   ]
 
   told_at : (c k x : ℕ) → slice_get (chain_at chains c) k ≡ Some x → back_of back x ≡ Some (slot_at (Head c) (chain_at chains c) k)
-  told_at c k x e = slot_told (at heads next) (back_of back) (Head c) (chain_at chains c) k x (h.threads c (within_heads c k x e)) e
+  told_at c k x e = slot_told (at heads next) (back_of back) (Head c) (chain_at chains c) k x (h.successions c (within_heads c k x e)) e
 
   pub stands_once : (c d j k x : ℕ) → slice_get (chain_at chains c) j ≡ Some x → slice_get (chain_at chains d) k ≡ Some x → (c ≡ d) × (j ≡ k)
   stands_once c d zero zero x e i =

@@ -3,7 +3,7 @@ use Rattle.std.specs.Prelude.{◌≡◌, ℕ, ◌<◌, ◌≤◌, ◌==◌, Bool
 use Rattle.std.specs.List.{range_with_len, list_any}
 use Rattle.pbd_chain.specs.declared.links.Slot.{Slot}
 use Rattle.pbd_chain.specs.declared.links.Slot.TheVariants.{Head}
-use Rattle.pbd_chain.specs.Thread.{at, back_of, IsThread, follow}
+use Rattle.pbd_chain.specs.Succession.{at, back_of, IsSuccession, follow}
 
 -- what chains are seen as: a number of items, and the items of each chain
 pub record Linked : Type 0 where
@@ -33,6 +33,6 @@ pub record Shows (heads next : List (Option ℕ)) (back : List (Option Slot)) (c
   pub few : length next ≤ 2097152
   pub backs : length back ≡ length next
   pub count : length chains ≡ length heads
-  pub threads : (c : ℕ) → c < length heads → IsThread (at heads next) (back_of back) (Head c) (chain_at chains c)
+  pub successions : (c : ℕ) → c < length heads → IsSuccession (at heads next) (back_of back) (Head c) (chain_at chains c)
   pub items : (c x : ℕ) → c < length heads → IsTrue (is_in x (chain_at chains c)) → x < length next
   pub linked : (x : ℕ) (s : Slot) → back_of back x ≡ Some s → (c : ℕ) × (c < length heads) × IsTrue (is_in x (chain_at chains c))

@@ -1,6 +1,6 @@
 //! What linking and unlinking write, slot by slot.
 ghost use Rattle.std.specs.Prelude.{◌≡◌, ◌<◌, ℕ, Some, length, slice_index_or, None};
-ghost use Rattle.pbd_chain.specs.Thread.{at, back_of};
+ghost use Rattle.pbd_chain.specs.Succession.{at, back_of};
 ghost use Rattle.pbd_chain.specs.declared.links.Slot.{Slot};
 ghost use Rattle.pbd_chain.specs.Changes.{LinksFront, Unlinks, Puts, IsSlot};
 

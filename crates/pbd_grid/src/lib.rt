@@ -1,4 +1,4 @@
-//! The near pairs of many places, found by cells.
+//! The broad phase: the near pairs of many places, found by the cells of a uniform grid.
 #![tactic(auto)]
 
 mod lookup;

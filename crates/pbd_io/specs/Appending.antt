@@ -2,8 +2,8 @@
 use Rattle.std.proofs.Common.{◌≡◌, ◌∙◌, sym, ap, refl, ℕ, ◌+◌, ◌≤◌, min, List, [], ◌∷◌, ◌++◌, length, take, drop, Option, Some, None, arith, append_assoc, append-nil, zero-add, suc}
 use Rattle.std.proofs.lemmas.List.{take_all, take-append-le, take_min, drop_at}
 use Rattle.std.specs.Io.KnownBytes.{Appends, Keeps, Consumes, IsAtEnd}
-use Rattle.pbd_io.specs.Causes.{Rose}
-use Rattle.pbd_io.specs.Pieces.{AppendsFront}
+use Rattle.pbd_io.specs.Causes.{HasRisen}
+use Rattle.pbd_io.specs.Pieces.{AppendsPrefix}
 
 pub appends_then : (a b c : Option (List ℕ)) (x y : List ℕ) → Appends a b x → Appends b c y → Appends a c (x ++ y)
 appends_then None b c x y first second = tt
@@ -23,23 +23,23 @@ take_past : (x y : List ℕ) (n : ℕ) → take (length x + n) (x ++ y) ≡ x ++
 take_past [] y n = rw zero-add refl
 take_past (b ∷ x) y n = let e : length (b ∷ x) + n ≡ suc (length x + n) = omega arith in rw e (ap (λ t. b ∷ t) (take_past x y n))
 
-pub front_then : (a b c : Option (List ℕ)) (x y : List ℕ) → Appends a b x → AppendsFront b c y → AppendsFront a c (x ++ y)
-front_then a b c x y first (n, second) = (length x + n, rw take_past (appends_then a b c x (take n y) first second))
+pub prefix_then : (a b c : Option (List ℕ)) (x y : List ℕ) → Appends a b x → AppendsPrefix b c y → AppendsPrefix a c (x ++ y)
+prefix_then a b c x y first (n, second) = (length x + n, rw take_past (appends_then a b c x (take n y) first second))
 
-pub front_longer : (a b : Option (List ℕ)) (x y : List ℕ) → AppendsFront a b x → AppendsFront a b (x ++ y)
-front_longer a b x y (n, front) =
+pub prefix_longer : (a b : Option (List ℕ)) (x y : List ℕ) → AppendsPrefix a b x → AppendsPrefix a b (x ++ y)
+prefix_longer a b x y (n, front) =
     let le : min n (length x) ≤ length x = omega arith in
     let e : take (min n (length x)) (x ++ y) ≡ take n x = take-append-le (min n (length x)) x y le ∙ take_min n x in
     (min n (length x), rw e front)
 
-pub whole_front : (a b : Option (List ℕ)) (x : List ℕ) → Appends a b x → AppendsFront a b x
+pub whole_front : (a b : Option (List ℕ)) (x : List ℕ) → Appends a b x → AppendsPrefix a b x
 whole_front a b x all = let e : take (length x) x ≡ x = take_all (length x) x (omega arith) in (length x, rw e all)
 
 -- a count that rose and then didn't fall
-pub rose_then : (a b c : ℕ) → Rose a b → b ≤ c → Rose a c
+pub rose_then : (a b c : ℕ) → HasRisen a b → b ≤ c → HasRisen a c
 rose_then a b c rose le = omega (arith, rose)
 
-pub rose_later : (a b c : ℕ) → a ≤ b → Rose b c → Rose a c
+pub rose_later : (a b c : ℕ) → a ≤ b → HasRisen b c → HasRisen a c
 rose_later a b c le rose = omega (arith, rose)
 
 pub consumes_then : (a b c : Option (List ℕ)) (x y : List ℕ) → Consumes a b x → Consumes b c y → Consumes a c (x ++ y)
@@ -89,7 +89,7 @@ consumes_keeps (Some p) (Some q) None x first second = absurd second
 consumes_keeps (Some p) (Some q) (Some r) x first second = first ∙ ap (λ t. x ++ t) (sym second)
 
 -- nothing is a front of anything
-pub nothing_front : (a b : Option (List ℕ)) (x : List ℕ) → Keeps a b → AppendsFront a b x
+pub nothing_front : (a b : Option (List ℕ)) (x : List ℕ) → Keeps a b → AppendsPrefix a b x
 nothing_front a b x same = (0, keeps_appends_nothing a b same)
   where
     keeps_appends_nothing : (a b : Option (List ℕ)) → Keeps a b → Appends a b []

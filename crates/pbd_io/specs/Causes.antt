@@ -14,10 +14,10 @@ abbrev pub CountsFaults : {T E : Type 0} → ℕ → ℕ → Result T E → Type
 CountsFaults before now result = MatchResult result (λ _. now ≡ before) (λ _. now ≡ next_count before)
 
 -- a count of faults rose, or stands at its type's end
-abbrev pub Rose : ℕ → ℕ → Type 0
-Rose before now = min (before + 1) (2 ^ 64 - 1) ≤ now
+abbrev pub HasRisen : ℕ → ℕ → Type 0
+HasRisen before now = min (before + 1) (2 ^ 64 - 1) ≤ now
 
 -- the count doesn't fall, and where the call failed it rose
 pub record HasCause {T E : Type 0} (before now : ℕ) (result : Result T E) : Type 0 where
   pub later : before ≤ now
-  pub failed : OnErr result (Rose before now)
+  pub failed : OnErr result (HasRisen before now)

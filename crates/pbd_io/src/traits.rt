@@ -34,7 +34,7 @@ pub trait Sink {
     ghost faults: { Self → ℕ };
 
     /// `Ok` appends the whole piece. `Failed` comes only where the count of faults rose, or stands
-    /// at 2^64 - 1, and then a front of the piece was appended.
+    /// at 2^64 - 1, and then a prefix of the piece was appended.
     fn write(&mut self, piece: &[u8]) -> Result<(), Failed>
         ensures bytes { WritesPiece (written self.old) (written self.new) result piece.now }
         ensures cause { HasCause (faults self.old) (faults self.new) result };

@@ -17,7 +17,7 @@ mod laws;
 
 pub use laws::sums_with_room_fit;
 
-fn onward(sum: i128, at: i64, before: i64) -> i128
+fn add_velocity(sum: i128, at: i64, before: i64) -> i128
     requires { unsigned_abs sum ≤ 2 ^ 80 }
     ensures value { result ≡ sum +ℤ (at -ℤ before) }
     ensures size { unsigned_abs result ≤ unsigned_abs sum + 2 ^ 64 }
@@ -25,15 +25,15 @@ fn onward(sum: i128, at: i64, before: i64) -> i128
     sum + (i128::from(at) - i128::from(before))
 }
 
-fn onward_on_axes(sum: [i128; 3], at: Vec3, before: Vec3) -> [i128; 3]
+fn add_velocity_on_axes(sum: [i128; 3], at: Vec3, before: Vec3) -> [i128; 3]
     requires { SumWithin (2 ^ 80) (sum_of sum) }
     ensures value { sum_of result ≡ sum_plus (sum_of sum) (minus at before) }
     ensures size { (bound : ℕ) → SumWithin bound (sum_of sum) → SumWithin (bound + 2 ^ 64) (sum_of result) }
 {
     [
-        onward(sum[0], at.x, before.x),
-        onward(sum[1], at.y, before.y),
-        onward(sum[2], at.z, before.z),
+        add_velocity(sum[0], at.x, before.x),
+        add_velocity(sum[1], at.y, before.y),
+        add_velocity(sum[2], at.z, before.z),
     ]
 }
 
@@ -46,7 +46,7 @@ fn with_velocity(sum: [i128; 3], particle: Particle) -> [i128; 3]
     if particle.held {
         return sum;
     }
-    onward_on_axes(sum, particle.at, particle.before)
+    add_velocity_on_axes(sum, particle.at, particle.before)
 }
 
 /// The momentum of a list of at most 65,536 particles, as `momentum` of a store.

@@ -15,8 +15,8 @@ use Rattle.pbd_mesh.specs.declared.spec.RopeSpec.{RopeSpec}
 use Rattle.pbd_mesh.specs.Joined.{all_below}
 use Rattle.pbd_mesh.proofs.Below.{below}
 use Rattle.pbd_mesh.specs.Ranges.{is_between}
-use Rattle.pbd_mesh.specs.Cloth.{cloth_vectors_fit, cloth_counts_fit, cloth_threads_fit, cloth_tears_fit, cloth_in_ranges, cloth_is_inside, cloth_place, is_in_cloth, cloth_fits, ClothBounds, ClothFacts}
-use Rattle.pbd_mesh.specs.Rope.{rope_counts_fit, rope_threads_fit, rope_in_ranges, rope_is_inside, rope_place, rope_fits, RopeBounds, RopeFacts}
+use Rattle.pbd_mesh.specs.Cloth.{cloth_vectors_fit, cloth_counts_fit, cloth_settings_fit, cloth_tears_fit, cloth_in_ranges, cloth_is_inside, cloth_place, is_in_cloth, cloth_fits, ClothBounds, ClothFacts}
+use Rattle.pbd_mesh.specs.Rope.{rope_counts_fit, rope_settings_fit, rope_in_ranges, rope_is_inside, rope_place, rope_fits, RopeBounds, RopeFacts}
 
 at_most : (low high n : ℕ) → IsTrue (is_between low high n) → n ≤ high
 at_most low high n t = grind (arith, nat_tests)
@@ -27,8 +27,8 @@ inside_range limit v low high t = let w = (within_facts limit v low).0 t in reco
 pub cloth_bounds : (limit : ℤ) (s : ClothSpec) → pos 0 ≤ℤ limit → unsigned_abs limit ≤ 2 ^ 29 → IsTrue (cloth_in_ranges limit s) → ClothBounds s
 unfolding cloth_in_ranges cloth_vectors_fit cloth_counts_fit
 cloth_bounds limit s low high t =
-    let t3 = and_parts (cloth_vectors_fit limit s && cloth_counts_fit s && cloth_threads_fit s) (cloth_tears_fit limit s) t in
-    let t2 = and_parts (cloth_vectors_fit limit s && cloth_counts_fit s) (cloth_threads_fit s) t3.0 in
+    let t3 = and_parts (cloth_vectors_fit limit s && cloth_counts_fit s && cloth_settings_fit s) (cloth_tears_fit limit s) t in
+    let t2 = and_parts (cloth_vectors_fit limit s && cloth_counts_fit s) (cloth_settings_fit s) t3.0 in
     let t1 = and_parts (cloth_vectors_fit limit s) (cloth_counts_fit s) t2.0 in
     let v2 = and_parts (is_within limit s.origin && is_within limit s.across) (is_within limit s.down) t1.0 in
     let v1 = and_parts (is_within limit s.origin) (is_within limit s.across) v2.0 in
@@ -45,7 +45,7 @@ cloth_bounds limit s low high t =
 pub rope_bounds : (limit : ℤ) (s : RopeSpec) → pos 0 ≤ℤ limit → unsigned_abs limit ≤ 2 ^ 29 → IsTrue (rope_in_ranges limit s) → RopeBounds s
 unfolding rope_in_ranges rope_counts_fit
 rope_bounds limit s low high t =
-    let t3 = and_parts (is_within limit s.origin && is_within limit s.spacing && rope_counts_fit s) (rope_threads_fit limit s) t in
+    let t3 = and_parts (is_within limit s.origin && is_within limit s.spacing && rope_counts_fit s) (rope_settings_fit limit s) t in
     let t2 = and_parts (is_within limit s.origin && is_within limit s.spacing) (rope_counts_fit s) t3.0 in
     let t1 = and_parts (is_within limit s.origin) (is_within limit s.spacing) t2.0 in
     let c = and_parts (is_between 1 4096 s.count) (is_between 1 65535 s.weight) t2.1 in

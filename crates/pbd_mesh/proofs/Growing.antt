@@ -34,7 +34,7 @@ take_less (suc m) zero xs le = absurd (omega arith)
 take_less (suc m) (suc n) [] le = refl
 take_less (suc m) (suc n) (x ∷ xs) le = ap (λ ys. x ∷ ys) (take_less m n xs (omega arith))
 
-pub front_then : {A : Type 0} (old mid now more : List A) → mid ≡ old ++ more → take (length mid) now ≡ mid → take (length old) now ≡ old
-front_then old mid now more grown kept =
+pub prefix_then : {A : Type 0} (old mid now more : List A) → mid ≡ old ++ more → take (length mid) now ≡ mid → take (length old) now ≡ old
+prefix_then old mid now more grown kept =
     let shorter : length old ≤ length mid = rw grown (omega (arith, length-append old more)) in
     sym (take_less (length old) (length mid) now shorter) ∙ ap (take (length old)) kept ∙ front_of_append old mid more grown

@@ -19,10 +19,10 @@ use Rattle.pbd_world.specs.Valid.{is_limit, is_between, is_valid_link, none_twic
 use Rattle.pbd_mesh.specs.declared.spec.ClothSpec.{ClothSpec}
 use Rattle.pbd_mesh.specs.declared.spec.RopeSpec.{RopeSpec}
 use Rattle.pbd_mesh.specs.declared.spec.Cell.{Cell}
-use Rattle.pbd_mesh.specs.declared.spec.Thread.{Thread}
+use Rattle.pbd_mesh.specs.declared.spec.KindSettings.{KindSettings}
 use Rattle.pbd_mesh.specs.Joined.{joined, all_below}
-use Rattle.pbd_mesh.specs.Cloth.{cell, cell_link, cloth_fits, cloth_in_ranges, cloth_counts_fit, cloth_threads_fit, cloth_tears_fit, cloth_vectors_fit, cloth_is_inside, cloth_links, cloth_particles, cloth_place, cloth_thread, is_in_cloth, links_of_cell, links_of_kind, number, resting}
-use Rattle.pbd_mesh.specs.Rope.{rope_chain, rope_counts_fit, rope_fits, rope_in_ranges, rope_is_inside, rope_link, rope_links, rope_particles, rope_place, rope_threads_fit}
+use Rattle.pbd_mesh.specs.Cloth.{cell, cell_link, cloth_fits, cloth_in_ranges, cloth_counts_fit, cloth_settings_fit, cloth_tears_fit, cloth_vectors_fit, cloth_is_inside, cloth_links, cloth_particles, cloth_place, cloth_settings, is_in_cloth, links_of_cell, links_of_kind, number, resting}
+use Rattle.pbd_mesh.specs.Rope.{rope_chain, rope_counts_fit, rope_fits, rope_in_ranges, rope_is_inside, rope_link, rope_links, rope_particles, rope_place, rope_settings_fit}
 use Rattle.pbd_mesh.specs.Meshes.{is_free_and_valid, is_mesh_link, IsMesh}
 use Rattle.pbd_mesh.proofs.Below.{below}
 use Rattle.pbd_mesh.proofs.Corners.{Shaped, Corner, row_before, cell_of, same_shape, other_corners, other_totals, diagonal_not_bend, other_rows, other_columns}
@@ -32,28 +32,28 @@ use Rattle.pbd_mesh.proofs.Facts.{limit_bounds, in_cloth}
 -- ---- the corners of a cloth's links
 
 -- the link of two cells
-abbrev the_link : ClothSpec → ℕ → Thread → Cell → Cell → Link
+abbrev the_link : ClothSpec → ℕ → KindSettings → Cell → Cell → Link
 the_link s base t from to = record { a = number s base from; b = number s base to; rest = pos (length_of (minus (cloth_place s from.row from.column) (cloth_place s to.row to.column))); k = t.k; tear = t.tear; kind = t.kind; live = true }
 
-cell_every : (P : Link → Type 0) (s : ClothSpec) (base : ℕ) (t : Thread) (from to : Cell) → (true ≡ is_in_cloth s from → true ≡ is_in_cloth s to → P (the_link s base t from to)) → Every P (cell_link s base t from to)
+cell_every : (P : Link → Type 0) (s : ClothSpec) (base : ℕ) (t : KindSettings) (from to : Cell) → (true ≡ is_in_cloth s from → true ≡ is_in_cloth s to → P (the_link s base t from to)) → Every P (cell_link s base t from to)
 unfolding cell_link
 cell_every P s base t from to h = elim (cases_Bool (is_in_cloth s from && is_in_cloth s to)) [
   | inl e ↦ (let tests = and_parts (is_in_cloth s from) (is_in_cloth s to) e in rw e (every_one P (the_link s base t from to) (h (sym tests.0) (sym tests.1))))
   | inr e ↦ rw e (every_none P)
 ]
 
-cell_once : (s : ClothSpec) (base : ℕ) (t : Thread) (from to : Cell) → IsTrue (none_twice join_alike (cell_link s base t from to))
+cell_once : (s : ClothSpec) (base : ℕ) (t : KindSettings) (from to : Cell) → IsTrue (none_twice join_alike (cell_link s base t from to))
 unfolding cell_link
 cell_once s base t from to = elim (cases_Bool (is_in_cloth s from && is_in_cloth s to)) [
   | inl e ↦ rw e (once_one join_alike (the_link s base t from to))
   | inr e ↦ rw e (once_none join_alike)
 ]
 
-cell_most : (s : ClothSpec) (base : ℕ) (t : Thread) (from to : Cell) → length (cell_link s base t from to) ≤ 1
+cell_most : (s : ClothSpec) (base : ℕ) (t : KindSettings) (from to : Cell) → length (cell_link s base t from to) ≤ 1
 unfolding cell_link
 cell_most s base t from to = elim (cases_Bool (is_in_cloth s from && is_in_cloth s to)) [ inl e ↦ rw e (omega arith) | inr e ↦ rw e (omega arith) ]
 
-cell_shaped : (s : ClothSpec) (base : ℕ) (t : Thread) (r h c d q : ℕ) → q ≡ r + h → (h ≡ 0 → c < d) → true ≡ is_in_cloth s (cell r c) → true ≡ is_in_cloth s (cell q d) → Shaped s.columns base r h c d (the_link s base t (cell r c) (cell q d))
+cell_shaped : (s : ClothSpec) (base : ℕ) (t : KindSettings) (r h c d q : ℕ) → q ≡ r + h → (h ≡ 0 → c < d) → true ≡ is_in_cloth s (cell r c) → true ≡ is_in_cloth s (cell q d) → Shaped s.columns base r h c d (the_link s base t (cell r c) (cell q d))
 cell_shaped s base t r h c d q is ordered from to = record {
   a = refl;
   b = rw is refl;
@@ -63,10 +63,10 @@ cell_shaped s base t r h c d q is ordered from to = record {
 }
 
 -- the shape of each of a cell's links
-shape_at : (s : ClothSpec) (base : ℕ) (t : Thread) (r h c d q : ℕ) → q ≡ r + h → (h ≡ 0 → c < d) → Every (Shaped s.columns base r h c d) (cell_link s base t (cell r c) (cell q d))
+shape_at : (s : ClothSpec) (base : ℕ) (t : KindSettings) (r h c d q : ℕ) → q ≡ r + h → (h ≡ 0 → c < d) → Every (Shaped s.columns base r h c d) (cell_link s base t (cell r c) (cell q d))
 shape_at s base t r h c d q is ordered = cell_every (Shaped s.columns base r h c d) s base t (cell r c) (cell q d) (λ from to. cell_shaped s base t r h c d q is ordered from to)
 
-corner_at : (s : ClothSpec) (base : ℕ) (t : Thread) (r h c d q total span corner w : ℕ) → q ≡ r + h → (h ≡ 0 → c < d) → h + w ≡ total → (h ≡ 0) ⊎ (h ≡ span) → (w ≡ 0) ⊎ (w ≡ span) → ((c ≡ corner) × (d ≡ corner + w)) ⊎ ((c ≡ corner + w) × (d ≡ corner)) → Every (Corner s.columns base total span r corner) (cell_link s base t (cell r c) (cell q d))
+corner_at : (s : ClothSpec) (base : ℕ) (t : KindSettings) (r h c d q total span corner w : ℕ) → q ≡ r + h → (h ≡ 0 → c < d) → h + w ≡ total → (h ≡ 0) ⊎ (h ≡ span) → (w ≡ 0) ⊎ (w ≡ span) → ((c ≡ corner) × (d ≡ corner + w)) ⊎ ((c ≡ corner + w) × (d ≡ corner)) → Every (Corner s.columns base total span r corner) (cell_link s base t (cell r c) (cell q d))
 corner_at s base t r h c d q total span corner w is ordered sum tall wide ends =
     every_more (Shaped s.columns base r h c d) (Corner s.columns base total span r corner) (cell_link s base t (cell r c) (cell q d))
     (λ l p. record { h = h; w = w; first = c; second = d; shaped = p; sum = sum; tall = tall; wide = wide; ends = ends })
@@ -88,7 +88,7 @@ two_most xs ys h k = omega (arith, length-append xs ys)
 stretch_cell : (s : ClothSpec) (base r c : ℕ) → CellFacts s base Stretch 1 1 r c
 unfolding links_of_cell
 stretch_cell s base r c =
-    let t = cloth_thread s Stretch in
+    let t = cloth_settings s Stretch in
     let xs = cell_link s base t (cell r c) (cell r (c + 1)) in
     let ys = cell_link s base t (cell r c) (cell (r + 1) c) in
     record {
@@ -103,7 +103,7 @@ stretch_cell s base r c =
 shear_cell : (s : ClothSpec) (base r c : ℕ) → CellFacts s base Shear 2 1 r c
 unfolding links_of_cell
 shear_cell s base r c =
-    let t = cloth_thread s Shear in
+    let t = cloth_settings s Shear in
     let xs = cell_link s base t (cell r c) (cell (r + 1) (c + 1)) in
     let ys = cell_link s base t (cell r (c + 1)) (cell (r + 1) c) in
     record {
@@ -118,7 +118,7 @@ shear_cell s base r c =
 bend_cell : (s : ClothSpec) (base r c : ℕ) → CellFacts s base Bend 2 2 r c
 unfolding links_of_cell
 bend_cell s base r c =
-    let t = cloth_thread s Bend in
+    let t = cloth_settings s Bend in
     let xs = cell_link s base t (cell r c) (cell r (c + 2)) in
     let ys = cell_link s base t (cell r c) (cell (r + 2) c) in
     record {
@@ -264,7 +264,7 @@ shape_ends W base r h c d rows l p within under = (
 )
 
 -- what is asked of a kind's stiffness and tear length
-record IsThread (limit : ℤ) (t : Thread) : Type 0 where
+record AreSettings (limit : ℤ) (t : KindSettings) : Type 0 where
   pub k : nat_le t.k 256 ≡ true
   pub tear : IsTrue (is_between (pos 0) (pos 4 *ℤ limit) t.tear)
 
@@ -274,20 +274,20 @@ record ClothTests (limit : ℤ) (s : ClothSpec) : Type 0 where
   pub wide : 0 < s.columns
   pub weight_low : nat_le 1 s.weight ≡ true
   pub weight_high : nat_le s.weight 65535 ≡ true
-  pub stretch : IsThread limit (cloth_thread s Stretch)
-  pub shear : IsThread limit (cloth_thread s Shear)
-  pub bend : IsThread limit (cloth_thread s Bend)
+  pub stretch : AreSettings limit (cloth_settings s Stretch)
+  pub shear : AreSettings limit (cloth_settings s Shear)
+  pub bend : AreSettings limit (cloth_settings s Bend)
   pub inside : (r c : ℕ) → r < s.rows → c < s.columns → IsTrue (is_within limit (cloth_place s r c))
 
 at_least : (low high n : ℕ) → IsTrue (nat_le low n && nat_le n high) → low ≤ n
 at_least low high n t = grind (arith, nat_tests)
 
 cloth_tests : (limit : ℤ) (s : ClothSpec) → IsTrue (is_limit limit) → IsTrue (cloth_fits limit s) → ClothTests limit s
-unfolding cloth_fits cloth_in_ranges cloth_counts_fit cloth_threads_fit cloth_tears_fit cloth_is_inside
+unfolding cloth_fits cloth_in_ranges cloth_counts_fit cloth_settings_fit cloth_tears_fit cloth_is_inside
 cloth_tests limit s is fits =
     let h = and_parts (cloth_in_ranges limit s) (cloth_is_inside limit s) fits in
-    let t3 = and_parts (cloth_vectors_fit limit s && cloth_counts_fit s && cloth_threads_fit s) (cloth_tears_fit limit s) h.0 in
-    let t2 = and_parts (cloth_vectors_fit limit s && cloth_counts_fit s) (cloth_threads_fit s) t3.0 in
+    let t3 = and_parts (cloth_vectors_fit limit s && cloth_counts_fit s && cloth_settings_fit s) (cloth_tears_fit limit s) h.0 in
+    let t2 = and_parts (cloth_vectors_fit limit s && cloth_counts_fit s) (cloth_settings_fit s) t3.0 in
     let t1 = and_parts (cloth_vectors_fit limit s) (cloth_counts_fit s) t2.0 in
     let c2 = and_parts ((nat_le 1 s.rows && nat_le s.rows 256) && (nat_le 1 s.columns && nat_le s.columns 256)) (nat_le 1 s.weight && nat_le s.weight 65535) t1.1 in
     let c1 = and_parts (nat_le 1 s.rows && nat_le s.rows 256) (nat_le 1 s.columns && nat_le s.columns 256) c2.0 in
@@ -309,8 +309,8 @@ cloth_tests limit s is fits =
 
 -- ---- cloths
 
-cell_valid : (limit : ℤ) (s : ClothSpec) (base : ℕ) (t : Thread) (r h c d q : ℕ) → ClothTests limit s → IsThread limit t → q ≡ r + h → (h ≡ 0 → c < d) → Every (λ l. IsTrue (is_mesh_link limit base (base + s.rows * s.columns) l)) (cell_link s base t (cell r c) (cell q d))
-cell_valid limit s base t r h c d q tests thread is ordered = cell_every (λ l. IsTrue (is_mesh_link limit base (base + s.rows * s.columns) l)) s base t (cell r c) (cell q d)
+cell_valid : (limit : ℤ) (s : ClothSpec) (base : ℕ) (t : KindSettings) (r h c d q : ℕ) → ClothTests limit s → AreSettings limit t → q ≡ r + h → (h ≡ 0 → c < d) → Every (λ l. IsTrue (is_mesh_link limit base (base + s.rows * s.columns) l)) (cell_link s base t (cell r c) (cell q d))
+cell_valid limit s base t r h c d q tests settings is ordered = cell_every (λ l. IsTrue (is_mesh_link limit base (base + s.rows * s.columns) l)) s base t (cell r c) (cell q d)
     (λ from to.
     let l = the_link s base t (cell r c) (cell q d) in
     let f = in_cloth s (cell r c) from in
@@ -319,7 +319,7 @@ cell_valid limit s base t r h c d q tests thread is ordered = cell_every (λ l. 
     let ends = shape_ends s.columns base r h c d s.rows l p f.0 (omega (arith, is, g.0)) in
     link_valid limit base (base + s.rows * s.columns) l refl (omega (arith, p.a)) (omega (arith, p.b)) ends.0 ends.1 ends.2
     (rest_fits limit (cloth_place s r c) (cloth_place s q d) tests.low (tests.inside r c f.0 f.1) (tests.inside q d g.0 g.1))
-    thread.tear thread.k)
+    settings.tear settings.k)
 
 kind_valid : (limit : ℤ) (s : ClothSpec) (base : ℕ) (kind : Kind) → ((r c : ℕ) → Every (λ l. IsTrue (is_mesh_link limit base (base + s.rows * s.columns) l)) (links_of_cell s base kind r c)) → Every (λ l. IsTrue (is_mesh_link limit base (base + s.rows * s.columns) l)) (links_of_kind s base kind)
 unfolding links_of_kind
@@ -331,15 +331,15 @@ cloth_valid limit s base tests =
     let P = λ (l : Link). IsTrue (is_mesh_link limit base (base + s.rows * s.columns) l) in
     every_both P (links_of_kind s base Stretch ++ links_of_kind s base Shear) (links_of_kind s base Bend)
     (every_both P (links_of_kind s base Stretch) (links_of_kind s base Shear)
-    (kind_valid limit s base Stretch (λ r c. every_both P (cell_link s base (cloth_thread s Stretch) (cell r c) (cell r (c + 1))) (cell_link s base (cloth_thread s Stretch) (cell r c) (cell (r + 1) c))
-    (cell_valid limit s base (cloth_thread s Stretch) r 0 c (c + 1) r tests tests.stretch (omega arith) (λ e. omega arith))
-    (cell_valid limit s base (cloth_thread s Stretch) r 1 c c (r + 1) tests tests.stretch refl (λ e. absurd (omega arith)))))
-    (kind_valid limit s base Shear (λ r c. every_both P (cell_link s base (cloth_thread s Shear) (cell r c) (cell (r + 1) (c + 1))) (cell_link s base (cloth_thread s Shear) (cell r (c + 1)) (cell (r + 1) c))
-    (cell_valid limit s base (cloth_thread s Shear) r 1 c (c + 1) (r + 1) tests tests.shear refl (λ e. omega arith))
-    (cell_valid limit s base (cloth_thread s Shear) r 1 (c + 1) c (r + 1) tests tests.shear refl (λ e. absurd (omega arith))))))
-    (kind_valid limit s base Bend (λ r c. every_both P (cell_link s base (cloth_thread s Bend) (cell r c) (cell r (c + 2))) (cell_link s base (cloth_thread s Bend) (cell r c) (cell (r + 2) c))
-    (cell_valid limit s base (cloth_thread s Bend) r 0 c (c + 2) r tests tests.bend (omega arith) (λ e. omega arith))
-    (cell_valid limit s base (cloth_thread s Bend) r 2 c c (r + 2) tests tests.bend refl (λ e. absurd (omega arith)))))
+    (kind_valid limit s base Stretch (λ r c. every_both P (cell_link s base (cloth_settings s Stretch) (cell r c) (cell r (c + 1))) (cell_link s base (cloth_settings s Stretch) (cell r c) (cell (r + 1) c))
+    (cell_valid limit s base (cloth_settings s Stretch) r 0 c (c + 1) r tests tests.stretch (omega arith) (λ e. omega arith))
+    (cell_valid limit s base (cloth_settings s Stretch) r 1 c c (r + 1) tests tests.stretch refl (λ e. absurd (omega arith)))))
+    (kind_valid limit s base Shear (λ r c. every_both P (cell_link s base (cloth_settings s Shear) (cell r c) (cell (r + 1) (c + 1))) (cell_link s base (cloth_settings s Shear) (cell r (c + 1)) (cell (r + 1) c))
+    (cell_valid limit s base (cloth_settings s Shear) r 1 c (c + 1) (r + 1) tests tests.shear refl (λ e. omega arith))
+    (cell_valid limit s base (cloth_settings s Shear) r 1 (c + 1) c (r + 1) tests tests.shear refl (λ e. absurd (omega arith))))))
+    (kind_valid limit s base Bend (λ r c. every_both P (cell_link s base (cloth_settings s Bend) (cell r c) (cell r (c + 2))) (cell_link s base (cloth_settings s Bend) (cell r c) (cell (r + 2) c))
+    (cell_valid limit s base (cloth_settings s Bend) r 0 c (c + 2) r tests tests.bend (omega arith) (λ e. omega arith))
+    (cell_valid limit s base (cloth_settings s Bend) r 2 c c (r + 2) tests tests.bend refl (λ e. absurd (omega arith)))))
 
 pub cloth_size : (s : ClothSpec) → length (cloth_particles s) ≡ s.rows * s.columns
 unfolding cloth_particles
@@ -387,15 +387,15 @@ record RopeTests (limit : ℤ) (s : RopeSpec) : Type 0 where
   pub count : 0 < s.count
   pub weight_low : nat_le 1 s.weight ≡ true
   pub weight_high : nat_le s.weight 65535 ≡ true
-  pub stretch : IsThread limit (record { kind = Stretch; k = s.stretch; tear = s.stretch_tear })
-  pub bend : IsThread limit (record { kind = Bend; k = s.bend; tear = s.bend_tear })
+  pub stretch : AreSettings limit (record { kind = Stretch; k = s.stretch; tear = s.stretch_tear })
+  pub bend : AreSettings limit (record { kind = Bend; k = s.bend; tear = s.bend_tear })
   pub inside : (i : ℕ) → i < s.count → IsTrue (is_within limit (rope_place s i))
 
 rope_tests : (limit : ℤ) (s : RopeSpec) → IsTrue (is_limit limit) → IsTrue (rope_fits limit s) → RopeTests limit s
-unfolding rope_fits rope_in_ranges rope_counts_fit rope_threads_fit rope_is_inside
+unfolding rope_fits rope_in_ranges rope_counts_fit rope_settings_fit rope_is_inside
 rope_tests limit s is fits =
     let h = and_parts (rope_in_ranges limit s) (rope_is_inside limit s) fits in
-    let t2 = and_parts (is_within limit s.origin && is_within limit s.spacing && rope_counts_fit s) (rope_threads_fit limit s) h.0 in
+    let t2 = and_parts (is_within limit s.origin && is_within limit s.spacing && rope_counts_fit s) (rope_settings_fit limit s) h.0 in
     let t1 = and_parts (is_within limit s.origin && is_within limit s.spacing) (rope_counts_fit s) t2.0 in
     let c1 = and_parts (nat_le 1 s.count && nat_le s.count 4096) (nat_le 1 s.weight && nat_le s.weight 65535) t1.1 in
     let w = and_parts (nat_le 1 s.weight) (nat_le s.weight 65535) c1.1 in
@@ -412,7 +412,7 @@ rope_tests limit s is fits =
       inside = λ i within. below s.count (λ i. is_within limit (rope_place s i)) i h.1 within;
     }
 
-rope_shaped : (s : RopeSpec) (base : ℕ) (t : Thread) (step i : ℕ) → 0 < step → i + step < s.count → Shaped s.count base 0 0 i (i + step) (rope_link s base t step i)
+rope_shaped : (s : RopeSpec) (base : ℕ) (t : KindSettings) (step i : ℕ) → 0 < step → i + step < s.count → Shaped s.count base 0 0 i (i + step) (rope_link s base t step i)
 unfolding rope_link
 rope_shaped s base t step i moves within = record {
   a = omega arith;
@@ -422,14 +422,14 @@ rope_shaped s base t step i moves within = record {
   ordered = λ e. omega arith;
 }
 
-rope_corner : (s : RopeSpec) (base : ℕ) (t : Thread) (step i : ℕ) → 0 < step → i + step < s.count → Corner s.count base step step 0 i (rope_link s base t step i)
+rope_corner : (s : RopeSpec) (base : ℕ) (t : KindSettings) (step i : ℕ) → 0 < step → i + step < s.count → Corner s.count base step step 0 i (rope_link s base t step i)
 rope_corner s base t step i moves within = record { h = 0; w = step; first = i; second = i + step; shaped = rope_shaped s base t step i moves within; sum = omega arith; tall = inl refl; wide = inr refl; ends = inl (refl, refl) }
 
-chain_corners : (s : RopeSpec) (base : ℕ) (t : Thread) (step : ℕ) → 0 < step → Every (SomeCorner s.count base step step) (rope_chain s base t step)
+chain_corners : (s : RopeSpec) (base : ℕ) (t : KindSettings) (step : ℕ) → 0 < step → Every (SomeCorner s.count base step step) (rope_chain s base t step)
 unfolding rope_chain
 chain_corners s base t step moves = every_joined (SomeCorner s.count base step step) (s.count - step) (λ i. rope_link s base t step i ∷ []) (λ i w. every_one (SomeCorner s.count base step step) (rope_link s base t step i) (some s.count base step step 0 i (rope_link s base t step i) (rope_corner s base t step i moves (omega arith))))
 
-chain_once : (s : RopeSpec) (base : ℕ) (t : Thread) (step : ℕ) → 0 < step → IsTrue (none_twice join_alike (rope_chain s base t step))
+chain_once : (s : RopeSpec) (base : ℕ) (t : KindSettings) (step : ℕ) → 0 < step → IsTrue (none_twice join_alike (rope_chain s base t step))
 unfolding rope_chain
 chain_once s base t step moves = once_joined join_alike (s.count - step) (λ i. rope_link s base t step i ∷ [])
     (λ i w. once_one join_alike (rope_link s base t step i))
@@ -441,31 +441,31 @@ chain_once s base t step moves = once_joined join_alike (s.count - step) (λ i. 
     (every_one P (rope_link s base t step i) (rope_corner s base t step i moves (omega arith)))
     (every_one Q (rope_link s base t step j) (rope_corner s base t step j moves (omega arith))))
 
-chain_few_at : (s : RopeSpec) (base : ℕ) (t : Thread) (step x y i : ℕ) → 0 < step → y < s.count → i ≡ base + x * s.count + y → links_at (rope_chain s base t step) i ≤ 2
+chain_few_at : (s : RopeSpec) (base : ℕ) (t : KindSettings) (step x y i : ℕ) → 0 < step → y < s.count → i ≡ base + x * s.count + y → links_at (rope_chain s base t step) i ≤ 2
 unfolding rope_chain
 chain_few_at s base t step x y i moves within is =
     count_joined (λ l. l.a == i || l.b == i) (s.count - step) (λ i. rope_link s base t step i ∷ []) 1 y (y - step)
     (λ j w. omega (arith, at_most_length (λ l. l.a == i || l.b == i) (rope_link s base t step j ∷ [])))
     (λ j w here before. count_none (λ l. l.a == i || l.b == i) (rope_link s base t step j ∷ []) (every_one (λ (l : Link). (l.a == i || l.b == i) ≡ false) (rope_link s base t step j) (other_columns s.count base step step 0 j x y i (rope_link s base t step j) (rope_corner s base t step j moves (omega arith)) within is here before)))
 
-chain_few : (s : RopeSpec) (base : ℕ) (t : Thread) (step : ℕ) → 0 < step → 0 < s.count → (i : ℕ) → links_at (rope_chain s base t step) i ≤ 2
+chain_few : (s : RopeSpec) (base : ℕ) (t : KindSettings) (step : ℕ) → 0 < step → 0 < s.count → (i : ℕ) → links_at (rope_chain s base t step) i ≤ 2
 chain_few s base t step moves some_count i = elim (cases_lt i base) [
   | inl before ↦ omega (arith, none_before s.count base step step i (rope_chain s base t step) before (chain_corners s base t step moves))
   | inr after ↦ (let k : base ≤ i = omega arith in chain_few_at s base t step ((i - base) / s.count) ((i - base) % s.count) i moves (omega arith) (placed s.count base i some_count k))
 ]
 
-rope_link_valid : (limit : ℤ) (s : RopeSpec) (base : ℕ) (t : Thread) (step i : ℕ) → RopeTests limit s → IsThread limit t → 0 < step → i + step < s.count → IsTrue (is_mesh_link limit base (base + s.count) (rope_link s base t step i))
+rope_link_valid : (limit : ℤ) (s : RopeSpec) (base : ℕ) (t : KindSettings) (step i : ℕ) → RopeTests limit s → AreSettings limit t → 0 < step → i + step < s.count → IsTrue (is_mesh_link limit base (base + s.count) (rope_link s base t step i))
 unfolding rope_link
-rope_link_valid limit s base t step i tests thread moves within =
+rope_link_valid limit s base t step i tests settings moves within =
     link_valid limit base (base + s.count) (rope_link s base t step i) refl (omega arith) (omega arith) (omega arith) (omega arith) (λ e. absurd (omega arith))
     (rest_fits limit (rope_place s i) (rope_place s (i + step)) tests.low (tests.inside i (omega arith)) (tests.inside (i + step) within))
-    thread.tear thread.k
+    settings.tear settings.k
 
-chain_valid : (limit : ℤ) (s : RopeSpec) (base : ℕ) (t : Thread) (step : ℕ) → RopeTests limit s → IsThread limit t → 0 < step → Every (λ l. IsTrue (is_mesh_link limit base (base + s.count) l)) (rope_chain s base t step)
+chain_valid : (limit : ℤ) (s : RopeSpec) (base : ℕ) (t : KindSettings) (step : ℕ) → RopeTests limit s → AreSettings limit t → 0 < step → Every (λ l. IsTrue (is_mesh_link limit base (base + s.count) l)) (rope_chain s base t step)
 unfolding rope_chain
-chain_valid limit s base t step tests thread moves = let P = λ (l : Link). IsTrue (is_mesh_link limit base (base + s.count) l) in every_joined P (s.count - step) (λ i. rope_link s base t step i ∷ []) (λ i w. every_one P (rope_link s base t step i) (rope_link_valid limit s base t step i tests thread moves (omega arith)))
+chain_valid limit s base t step tests settings moves = let P = λ (l : Link). IsTrue (is_mesh_link limit base (base + s.count) l) in every_joined P (s.count - step) (λ i. rope_link s base t step i ∷ []) (λ i w. every_one P (rope_link s base t step i) (rope_link_valid limit s base t step i tests settings moves (omega arith)))
 
-chain_size : (s : RopeSpec) (base : ℕ) (t : Thread) (step : ℕ) → length (rope_chain s base t step) ≤ s.count
+chain_size : (s : RopeSpec) (base : ℕ) (t : KindSettings) (step : ℕ) → length (rope_chain s base t step) ≤ s.count
 unfolding rope_chain
 chain_size s base t step = omega (arith, joined_most (s.count - step) 1 (λ i. rope_link s base t step i ∷ []) (λ i w. omega arith))
 
@@ -481,8 +481,8 @@ pub rope_mesh : (limit : ℤ) (base : ℕ) (s : RopeSpec) → IsTrue (is_limit l
 unfolding rope_links
 rope_mesh limit base s is fits =
     let tests = rope_tests limit s is fits in
-    let t : Thread = record { kind = Stretch; k = s.stretch; tear = s.stretch_tear } in
-    let u : Thread = record { kind = Bend; k = s.bend; tear = s.bend_tear } in
+    let t : KindSettings = record { kind = Stretch; k = s.stretch; tear = s.stretch_tear } in
+    let u : KindSettings = record { kind = Bend; k = s.bend; tear = s.bend_tear } in
     let A = rope_chain s base t 1 in
     let B = rope_chain s base u 2 in
     let P = λ (l : Link). IsTrue (is_mesh_link limit base (base + s.count) l) in

@@ -9,7 +9,7 @@ use Rattle.pbd_world.specs.declared.parts.Kind.TheVariants.{Stretch, Shear, Bend
 use Rattle.pbd_mesh.specs.Ranges.{is_between, is_length}
 use Rattle.pbd_mesh.specs.declared.spec.ClothSpec.{ClothSpec}
 use Rattle.pbd_mesh.specs.declared.spec.Cell.{Cell}
-use Rattle.pbd_mesh.specs.declared.spec.Thread.{Thread}
+use Rattle.pbd_mesh.specs.declared.spec.KindSettings.{KindSettings}
 use Rattle.pbd_mesh.specs.Joined.{joined, all_below}
 
 abbrev pub times : ℕ → Vec3 → Vec3
@@ -35,7 +35,7 @@ abbrev pub number : ClothSpec → ℕ → Cell → ℕ
 number s base cell = base + cell.row * s.columns + cell.column
 
 -- the link of two cells, at its length, where both are in the cloth
-unfoldable pub cell_link : ClothSpec → ℕ → Thread → Cell → Cell → List Link
+unfoldable pub cell_link : ClothSpec → ℕ → KindSettings → Cell → Cell → List Link
 cell_link s base t from to =
     if is_in_cloth s from && is_in_cloth s to
     then record { a = number s base from; b = number s base to; rest = pos (length_of (minus (cloth_place s from.row from.column) (cloth_place s to.row to.column))); k = t.k; tear = t.tear; kind = t.kind; live = true } ∷ []
@@ -45,17 +45,17 @@ abbrev pub cell : ℕ → ℕ → Cell
 cell r c = record { row = r; column = c }
 
 -- the stiffness and the tear length of a kind
-abbrev pub cloth_thread : ClothSpec → Kind → Thread
-cloth_thread s Stretch = record { kind = Stretch; k = s.stretch; tear = s.stretch_tear }
-cloth_thread s Shear = record { kind = Shear; k = s.shear; tear = s.shear_tear }
-cloth_thread s Bend = record { kind = Bend; k = s.bend; tear = s.bend_tear }
-cloth_thread s Plain = record { kind = Plain; k = 0; tear = pos 0 }
+abbrev pub cloth_settings : ClothSpec → Kind → KindSettings
+cloth_settings s Stretch = record { kind = Stretch; k = s.stretch; tear = s.stretch_tear }
+cloth_settings s Shear = record { kind = Shear; k = s.shear; tear = s.shear_tear }
+cloth_settings s Bend = record { kind = Bend; k = s.bend; tear = s.bend_tear }
+cloth_settings s Plain = record { kind = Plain; k = 0; tear = pos 0 }
 
 -- the links of a kind that begin at a cell, along the row before down the column, and of a shear both diagonals
 unfoldable pub links_of_cell : ClothSpec → ℕ → Kind → ℕ → ℕ → List Link
-links_of_cell s base Stretch r c = cell_link s base (cloth_thread s Stretch) (cell r c) (cell r (c + 1)) ++ cell_link s base (cloth_thread s Stretch) (cell r c) (cell (r + 1) c)
-links_of_cell s base Shear r c = cell_link s base (cloth_thread s Shear) (cell r c) (cell (r + 1) (c + 1)) ++ cell_link s base (cloth_thread s Shear) (cell r (c + 1)) (cell (r + 1) c)
-links_of_cell s base Bend r c = cell_link s base (cloth_thread s Bend) (cell r c) (cell r (c + 2)) ++ cell_link s base (cloth_thread s Bend) (cell r c) (cell (r + 2) c)
+links_of_cell s base Stretch r c = cell_link s base (cloth_settings s Stretch) (cell r c) (cell r (c + 1)) ++ cell_link s base (cloth_settings s Stretch) (cell r c) (cell (r + 1) c)
+links_of_cell s base Shear r c = cell_link s base (cloth_settings s Shear) (cell r c) (cell (r + 1) (c + 1)) ++ cell_link s base (cloth_settings s Shear) (cell r (c + 1)) (cell (r + 1) c)
+links_of_cell s base Bend r c = cell_link s base (cloth_settings s Bend) (cell r c) (cell r (c + 2)) ++ cell_link s base (cloth_settings s Bend) (cell r c) (cell (r + 2) c)
 links_of_cell s base Plain r c = []
 
 -- row by row
@@ -72,14 +72,14 @@ cloth_vectors_fit limit s = is_within limit s.origin && is_within limit s.across
 unfoldable pub cloth_counts_fit : ClothSpec → Bool
 cloth_counts_fit s = is_between 1 256 s.rows && is_between 1 256 s.columns && is_between 1 65535 s.weight
 
-unfoldable pub cloth_threads_fit : ClothSpec → Bool
-cloth_threads_fit s = nat_le s.stretch 256 && nat_le s.shear 256 && nat_le s.bend 256
+unfoldable pub cloth_settings_fit : ClothSpec → Bool
+cloth_settings_fit s = nat_le s.stretch 256 && nat_le s.shear 256 && nat_le s.bend 256
 
 unfoldable pub cloth_tears_fit : ℤ → ClothSpec → Bool
 cloth_tears_fit limit s = is_length limit s.stretch_tear && is_length limit s.shear_tear && is_length limit s.bend_tear
 
 unfoldable pub cloth_in_ranges : ℤ → ClothSpec → Bool
-cloth_in_ranges limit s = cloth_vectors_fit limit s && cloth_counts_fit s && cloth_threads_fit s && cloth_tears_fit limit s
+cloth_in_ranges limit s = cloth_vectors_fit limit s && cloth_counts_fit s && cloth_settings_fit s && cloth_tears_fit limit s
 
 -- the sizes of its numbers, as facts
 pub record ClothBounds (s : ClothSpec) : Type 0 where

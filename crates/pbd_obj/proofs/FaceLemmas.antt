@@ -52,7 +52,7 @@ once_twice (x ∷ front) c more among = twice_case (x == c) x c front more refl 
 -- ---- so far
 
 -- some corners were pushed, those of the words before these
-pub record Named (n : ℕ) (old : List ℕ) (all rest : List (List ℕ)) (now : List ℕ) (marks : BTreeSet ℕ) : Type 0 where
+pub record FaceSoFar (n : ℕ) (old : List ℕ) (all rest : List (List ℕ)) (now : List ℕ) (marks : BTreeSet ℕ) : Type 0 where
   pub front : List ℕ
   pub pushed : now ≡ old ++ front
   pub named : corners n all ≡ option_map (λ cs. front ++ cs) (corners n rest)
@@ -63,7 +63,7 @@ same_map : (o : Option (List ℕ)) → o ≡ option_map (λ cs. [] ++ cs) o
 same_map None = refl
 same_map (Some cs) = refl
 
-pub named_begins : (n : ℕ) (old : List ℕ) (all : List (List ℕ)) (marks : BTreeSet ℕ) → marks.keys ≡ [] → Named n old all all old marks
+pub named_begins : (n : ℕ) (old : List ℕ) (all : List (List ℕ)) (marks : BTreeSet ℕ) → marks.keys ≡ [] → FaceSoFar n old all all old marks
 named_begins n old all marks none = record { front = []; pushed = sym (append-nil old); named = same_map (corners n all); once = refl; marked = λ q. rw none refl }
 
 map_more : (front : List ℕ) (c : ℕ) (o : Option (List ℕ)) → option_map (λ cs. front ++ cs) (option_map (λ cs. c ∷ cs) o) ≡ option_map (λ cs. (front ++ c ∷ []) ++ cs) o
@@ -73,7 +73,7 @@ map_more front c (Some cs) = ap (λ t. Some t) (sym (append_assoc front (c ∷ [
 head_named : (n : ℕ) (word : List ℕ) (rest : List (List ℕ)) (c : ℕ) → corner n word ≡ Some c → corners n (word ∷ rest) ≡ option_map (λ cs. c ∷ cs) (corners n rest)
 head_named n word rest c is = rw is refl
 
-pub front_within : (n : ℕ) (old : List ℕ) (all rest : List (List ℕ)) (now : List ℕ) (marks : BTreeSet ℕ) → Named n old all rest now marks → length old ≤ length now
+pub front_within : (n : ℕ) (old : List ℕ) (all rest : List (List ℕ)) (now : List ℕ) (marks : BTreeSet ℕ) → FaceSoFar n old all rest now marks → length old ≤ length now
 front_within n old all rest now marks so_far = rw so_far.pushed (omega (arith, length-append old so_far.front))
 
 cmp_same : (x u : ℕ) → is_eq (nat_cmp x u) ≡ (x == u)
@@ -102,7 +102,7 @@ not_both : (b c : Bool) → b ≡ not c → c ≡ not b
 not_both b true is = ap not (sym is)
 not_both b false is = ap not (sym is)
 
-pub named_next : (n : ℕ) (old : List ℕ) (all : List (List ℕ)) (word : List ℕ) (words rest : List (List ℕ)) (mid now : List ℕ) (marks next : BTreeSet ℕ) (c : ℕ) → Named n old all words mid marks → words ≡ word ∷ rest → Some c ≡ corner n word → true ≡ not (contains nat_cmp marks c) → ((q : ℕ) → contains nat_cmp next q ≡ cond (is_at (nat_cmp c) q) true (contains nat_cmp marks q)) → now ≡ mid ++ c ∷ [] → Named n old all rest now next
+pub named_next : (n : ℕ) (old : List ℕ) (all : List (List ℕ)) (word : List ℕ) (words rest : List (List ℕ)) (mid now : List ℕ) (marks next : BTreeSet ℕ) (c : ℕ) → FaceSoFar n old all words mid marks → words ≡ word ∷ rest → Some c ≡ corner n word → true ≡ not (contains nat_cmp marks c) → ((q : ℕ) → contains nat_cmp next q ≡ cond (is_at (nat_cmp c) q) true (contains nat_cmp marks q)) → now ≡ mid ++ c ∷ [] → FaceSoFar n old all rest now next
 named_next n old all word words rest mid now marks next c so_far are is new grown push = record {
   front = so_far.front ++ c ∷ [];
   pushed = push ∙ (ap (λ t. t ++ c ∷ []) so_far.pushed ∙ append_assoc old so_far.front (c ∷ []));
@@ -123,7 +123,7 @@ no_word : (n : ℕ) (word : List ℕ) (rest : List (List ℕ)) → corner n word
 no_word n word rest is = rw is refl
 
 -- a word that names no vertex
-pub unnamed : (n : ℕ) (old : List ℕ) (all : List (List ℕ)) (word : List ℕ) (words rest : List (List ℕ)) (mid : List ℕ) (marks : BTreeSet ℕ) → Named n old all words mid marks → words ≡ word ∷ rest → None ≡ corner n word → face n all ≡ None
+pub unnamed : (n : ℕ) (old : List ℕ) (all : List (List ℕ)) (word : List ℕ) (words rest : List (List ℕ)) (mid : List ℕ) (marks : BTreeSet ℕ) → FaceSoFar n old all words mid marks → words ≡ word ∷ rest → None ≡ corner n word → face n all ≡ None
 unnamed n old all word words rest mid marks so_far are is =
     let none : corners n words ≡ None = ap (corners n) are ∙ no_word n word rest (sym is) in
     face_none n all (so_far.named ∙ ap (option_map (λ cs. so_far.front ++ cs)) none)
@@ -135,14 +135,14 @@ twice_face n all front c (Some cs) are among =
     face_some n all (front ++ c ∷ cs) are ∙ ap (λ b. cond b (Some (front ++ c ∷ cs)) None) no
 
 -- a vertex that was named before
-pub renamed : (n : ℕ) (old : List ℕ) (all : List (List ℕ)) (word : List ℕ) (words rest : List (List ℕ)) (mid : List ℕ) (marks : BTreeSet ℕ) (c : ℕ) → Named n old all words mid marks → words ≡ word ∷ rest → Some c ≡ corner n word → false ≡ not (contains nat_cmp marks c) → face n all ≡ None
+pub renamed : (n : ℕ) (old : List ℕ) (all : List (List ℕ)) (word : List ℕ) (words rest : List (List ℕ)) (mid : List ℕ) (marks : BTreeSet ℕ) (c : ℕ) → FaceSoFar n old all words mid marks → words ≡ word ∷ rest → Some c ≡ corner n word → false ≡ not (contains nat_cmp marks c) → face n all ≡ None
 renamed n old all word words rest mid marks c so_far are is again =
     twice_face n all so_far.front c (corners n rest)
     (so_far.named ∙ (ap (λ ws. option_map (λ cs. so_far.front ++ cs) (corners n ws)) are ∙ ap (option_map (λ cs. so_far.front ++ cs)) (head_named n word rest c (sym is))))
     (sym (so_far.marked c) ∙ not_both false (contains nat_cmp marks c) again)
 
 -- all words
-named_all : (n : ℕ) (old : List ℕ) (all words : List (List ℕ)) (now : List ℕ) (marks : BTreeSet ℕ) (so_far : Named n old all words now marks) → words ≡ [] → face n all ≡ cond (nat_le 3 (length so_far.front)) (Some so_far.front) None
+named_all : (n : ℕ) (old : List ℕ) (all words : List (List ℕ)) (now : List ℕ) (marks : BTreeSet ℕ) (so_far : FaceSoFar n old all words now marks) → words ≡ [] → face n all ≡ cond (nat_le 3 (length so_far.front)) (Some so_far.front) None
 named_all n old all words now marks so_far none =
     let are : corners n all ≡ Some so_far.front = so_far.named ∙ (ap (λ ws. option_map (λ cs. so_far.front ++ cs) (corners n ws)) none ∙ ap (λ t. Some t) (append-nil so_far.front)) in
     let test : is_face so_far.front ≡ nat_le 3 (length so_far.front) = ap (λ b. nat_le 3 (length so_far.front) && b) so_far.once ∙ and_true (nat_le 3 (length so_far.front)) in
@@ -152,7 +152,7 @@ named_all n old all words now marks so_far none =
     and_true true = refl
     and_true false = refl
 
-face_whole : (n : ℕ) (old : List ℕ) (all words : List (List ℕ)) (now : List ℕ) (marks : BTreeSet ℕ) → Named n old all words now marks → words ≡ [] → 3 ≤ length now - length old → (f : List ℕ) × (face n all ≡ Some f) × (now ≡ old ++ f)
+face_whole : (n : ℕ) (old : List ℕ) (all words : List (List ℕ)) (now : List ℕ) (marks : BTreeSet ℕ) → FaceSoFar n old all words now marks → words ≡ [] → 3 ≤ length now - length old → (f : List ℕ) × (face n all ≡ Some f) × (now ≡ old ++ f)
 face_whole n old all words now marks so_far none long =
     let size : 3 ≤ length so_far.front = three (length old) (length so_far.front) (length now) (rw so_far.pushed (length-append old so_far.front)) long in
     (so_far.front, named_all n old all words now marks so_far none ∙ ap (λ b. cond b (Some so_far.front) None) (le-leb 3 (length so_far.front) size), so_far.pushed)
@@ -160,7 +160,7 @@ face_whole n old all words now marks so_far none long =
     three : (a b c : ℕ) → c ≡ a + b → 3 ≤ c - a → 3 ≤ b
     three a b c is le = omega (arith, is, le)
 
-face_short : (n : ℕ) (old : List ℕ) (all words : List (List ℕ)) (now : List ℕ) (marks : BTreeSet ℕ) → Named n old all words now marks → words ≡ [] → length now - length old < 3 → face n all ≡ None
+face_short : (n : ℕ) (old : List ℕ) (all words : List (List ℕ)) (now : List ℕ) (marks : BTreeSet ℕ) → FaceSoFar n old all words now marks → words ≡ [] → length now - length old < 3 → face n all ≡ None
 face_short n old all words now marks so_far none short =
     let size : length so_far.front < 3 = two (length old) (length so_far.front) (length now) (rw so_far.pushed (length-append old so_far.front)) short in
     named_all n old all words now marks so_far none ∙ ap (λ b. cond b (Some so_far.front) None) (lt-leb 3 (length so_far.front) size)
@@ -168,7 +168,7 @@ face_short n old all words now marks so_far none short =
     two : (a b c : ℕ) → c ≡ a + b → c - a < 3 → b < 3
     two a b c is lt = omega (arith, is, lt)
 
-pub face_ends : (n : ℕ) (old : List ℕ) (all words : List (List ℕ)) (now : List ℕ) (marks : BTreeSet ℕ) (long : Bool) → Named n old all words now marks → words ≡ [] → nat_le 3 (length now - length old) ≡ long → PushesFace (face n all) old now long
+pub face_ends : (n : ℕ) (old : List ℕ) (all words : List (List ℕ)) (now : List ℕ) (marks : BTreeSet ℕ) (long : Bool) → FaceSoFar n old all words now marks → words ≡ [] → nat_le 3 (length now - length old) ≡ long → PushesFace (face n all) old now long
 face_ends n old all words now marks true so_far none is = face_whole n old all words now marks so_far none (leb-true 3 (length now - length old) is)
 face_ends n old all words now marks false so_far none is = face_short n old all words now marks so_far none (leb-false 3 (length now - length old) is)
 

@@ -19,7 +19,7 @@ use Rattle.pbd_world.specs.Valid.{join_alike}
 use Rattle.pbd_obj.specs.declared.mesh.ObjMesh.{ObjMesh}
 use Rattle.pbd_obj.specs.declared.mesh.ObjFault.{ObjFault}
 use Rattle.pbd_obj.specs.declared.mesh.ObjFault.TheVariants.{TooMany}
-use Rattle.pbd_obj.specs.declared.links.Net.{Net}
+use Rattle.pbd_obj.specs.declared.links.FoundLinks.{FoundLinks}
 use Rattle.pbd_obj.specs.Meshes.{cut, faces, IsFace, IsMesh}
 use Rattle.pbd_obj.specs.MeshLinks.{each_once, face_links, kind_links, link, mesh_links, side}
 use Rattle.pbd_obj.specs.Nets.{Adds, HoldsJoined, HoldsPairs, IsFullAt, IsStopped, Names, ordered, pair_cmp}
@@ -110,7 +110,7 @@ once_new : (kept : List Link) (l : Link) → list_any (join_alike l) kept ≡ fa
 once_new kept l is = rw is refl
 
 -- its particles are joined already
-pub add_old : (l : Link) (old : Net) (joined : BTreeSet (ℕ × ℕ)) → HoldsJoined old → false ≡ not (contains pair_cmp old.joined (ordered l.a l.b)) → joined.keys ≡ old.joined.keys → Adds (l ∷ []) old (record old { joined = joined })
+pub add_old : (l : Link) (old : FoundLinks) (joined : BTreeSet (ℕ × ℕ)) → HoldsJoined old → false ≡ not (contains pair_cmp old.joined (ordered l.a l.b)) → joined.keys ≡ old.joined.keys → Adds (l ∷ []) old (record old { joined = joined })
 add_old l old joined held is same = record {
   links = sym (once_old old.links l (pairs_has old.links l old.joined false held is));
   joined = pairs_same old.links old.joined joined held same;
@@ -120,7 +120,7 @@ add_old l old joined held is same = record {
 }
 
 -- they are not
-pub add_new : (l : Link) (old : Net) (joined : BTreeSet (ℕ × ℕ)) (links : List Link) → HoldsJoined old → true ≡ not (contains pair_cmp old.joined (ordered l.a l.b)) → ((q : ℕ × ℕ) → contains pair_cmp joined q ≡ cond (is_at (pair_cmp (ordered l.a l.b)) q) true (contains pair_cmp old.joined q)) → length old.links < old.room → links ≡ old.links ++ l ∷ [] → Adds (l ∷ []) old (record old { joined = joined; links = links })
+pub add_new : (l : Link) (old : FoundLinks) (joined : BTreeSet (ℕ × ℕ)) (links : List Link) → HoldsJoined old → true ≡ not (contains pair_cmp old.joined (ordered l.a l.b)) → ((q : ℕ × ℕ) → contains pair_cmp joined q ≡ cond (is_at (pair_cmp (ordered l.a l.b)) q) true (contains pair_cmp old.joined q)) → length old.links < old.room → links ≡ old.links ++ l ∷ [] → Adds (l ∷ []) old (record old { joined = joined; links = links })
 add_new l old joined links held is grown lt push = record {
   links = push ∙ sym (once_new old.links l (pairs_has old.links l old.joined true held is));
   joined = rw push (pairs_more old.links l old.joined joined held grown);
@@ -130,7 +130,7 @@ add_new l old joined links held is grown lt push = record {
 }
 
 -- and there is no room
-pub add_full : (l : Link) (old : Net) → HoldsJoined old → true ≡ not (contains pair_cmp old.joined (ordered l.a l.b)) → old.room ≤ length old.links → IsStopped (l ∷ []) old TooMany
+pub add_full : (l : Link) (old : FoundLinks) → HoldsJoined old → true ≡ not (contains pair_cmp old.joined (ordered l.a l.b)) → old.room ≤ length old.links → IsStopped (l ∷ []) old TooMany
 add_full l old held is full =
     let one : length (each_once old.links (l ∷ [])) ≡ length old.links + 1 = ap length (once_new old.links l (pairs_has old.links l old.joined true held is)) ∙ length-append old.links (l ∷ []) in
     inr (refl, omega (arith, one, full))
@@ -151,10 +151,10 @@ once_longer kept (l ∷ ls) =
     let more = cond (list_any (join_alike l) kept) kept (kept ++ l ∷ []) in
     omega (arith, longer_case (list_any (join_alike l) kept) kept l, once_longer more ls)
 
-adds_none : (old : Net) → HoldsJoined old → Adds [] old old
+adds_none : (old : FoundLinks) → HoldsJoined old → Adds [] old old
 adds_none old held = record { links = refl; joined = held; base = refl; room = refl; within = λ le. le }
 
-adds_then : (old mid now : Net) (xs ys : List Link) → Adds xs old mid → Adds ys mid now → Adds (xs ++ ys) old now
+adds_then : (old mid now : FoundLinks) (xs ys : List Link) → Adds xs old mid → Adds ys mid now → Adds (xs ++ ys) old now
 adds_then old mid now xs ys first second = record {
   links = second.links ∙ (ap (λ kept. each_once kept ys) first.links ∙ sym (once_append old.links xs ys));
   joined = second.joined;
@@ -164,33 +164,33 @@ adds_then old mid now xs ys first second = record {
 }
 
 -- some of the links were added, and these are left
-pub record SoFar (whole : List Link) (old now : Net) (rest : List Link) : Type 0 where
+pub record SoFar (whole : List Link) (old now : FoundLinks) (rest : List Link) : Type 0 where
   pub done : List Link
   pub adds : Adds done old now
   pub makes : done ++ rest ≡ whole
 
-pub so_far_begins : (whole : List Link) (old : Net) (rest : List Link) → HoldsJoined old → rest ≡ whole → SoFar whole old old rest
+pub so_far_begins : (whole : List Link) (old : FoundLinks) (rest : List Link) → HoldsJoined old → rest ≡ whole → SoFar whole old old rest
 so_far_begins whole old rest held is = record { done = []; adds = adds_none old held; makes = is }
 
-pub so_far_next : (whole : List Link) (old mid now : Net) (xs rest left : List Link) → SoFar whole old mid left → left ≡ xs ++ rest → Adds xs mid now → SoFar whole old now rest
+pub so_far_next : (whole : List Link) (old mid now : FoundLinks) (xs rest left : List Link) → SoFar whole old mid left → left ≡ xs ++ rest → Adds xs mid now → SoFar whole old now rest
 so_far_next whole old mid now xs rest left so_far is adds = record {
   done = so_far.done ++ xs;
   adds = adds_then old mid now so_far.done xs so_far.adds adds;
   makes = append_assoc so_far.done xs rest ∙ (ap (λ t. so_far.done ++ t) (sym is) ∙ so_far.makes);
 }
 
-pub so_far_ends : (whole : List Link) (old now : Net) (left : List Link) → SoFar whole old now left → left ≡ [] → Adds whole old now
+pub so_far_ends : (whole : List Link) (old now : FoundLinks) (left : List Link) → SoFar whole old now left → left ≡ [] → Adds whole old now
 so_far_ends whole old now left so_far is =
     let all : so_far.done ≡ whole = sym (append-nil so_far.done) ∙ (ap (λ t. so_far.done ++ t) (sym is) ∙ so_far.makes) in
     rw (← all) so_far.adds
 
-full_then : (whole : List Link) (old mid : Net) (xs rest done : List Link) → Adds done old mid → done ++ (xs ++ rest) ≡ whole → mid.room < length (each_once mid.links xs) → old.room < length (each_once old.links whole)
+full_then : (whole : List Link) (old mid : FoundLinks) (xs rest done : List Link) → Adds done old mid → done ++ (xs ++ rest) ≡ whole → mid.room < length (each_once mid.links xs) → old.room < length (each_once old.links whole)
 full_then whole old mid xs rest done adds makes full =
     let all : each_once old.links whole ≡ each_once (each_once mid.links xs) rest = ap (each_once old.links) (sym makes) ∙ (once_append old.links done (xs ++ rest) ∙ (ap (λ kept. each_once kept (xs ++ rest)) (sym adds.links) ∙ once_append mid.links xs rest)) in
     let size : length (each_once old.links whole) ≡ length (each_once (each_once mid.links xs) rest) = ap length all in
     omega (arith, size, once_longer (each_once mid.links xs) rest, full, adds.room)
 
-pub so_far_stops : (whole : List Link) (old mid : Net) (xs rest left : List Link) (fault : ObjFault) → SoFar whole old mid left → left ≡ xs ++ rest → IsStopped xs mid fault → IsStopped whole old fault
+pub so_far_stops : (whole : List Link) (old mid : FoundLinks) (xs rest left : List Link) (fault : ObjFault) → SoFar whole old mid left → left ≡ xs ++ rest → IsStopped xs mid fault → IsStopped whole old fault
 so_far_stops whole old mid xs rest left fault so_far is (inl memory) = inl memory
 so_far_stops whole old mid xs rest left fault so_far is (inr full) =
     inr (full.0, full_then whole old mid xs rest so_far.done so_far.adds (ap (λ t. so_far.done ++ t) (sym is) ∙ so_far.makes) full.1)
@@ -210,15 +210,15 @@ sides_next mesh base face i lt = let e : length face - i ≡ suc (length face - 
 pub sides_end : (mesh : ObjMesh) (base : ℕ) (face : List ℕ) (i : ℕ) → length face ≤ i → sides_from mesh base face i ≡ []
 sides_end mesh base face i le = let e : length face - i ≡ 0 = omega (arith, le) in rw e refl
 
-side_is : (mesh : ObjMesh) (face : List ℕ) (old mid : Net) (done : List Link) (i : ℕ) (l : Link) → Adds done old mid → l ≡ link mesh mid.base Stretch (side face i) → l ≡ link mesh old.base Stretch (side face i)
+side_is : (mesh : ObjMesh) (face : List ℕ) (old mid : FoundLinks) (done : List Link) (i : ℕ) (l : Link) → Adds done old mid → l ≡ link mesh mid.base Stretch (side face i) → l ≡ link mesh old.base Stretch (side face i)
 side_is mesh face old mid done i l adds is = is ∙ ap (λ b. link mesh b Stretch (side face i)) adds.base
 
-pub ring_next : (mesh : ObjMesh) (face : List ℕ) (old mid now : Net) (i : ℕ) (l : Link) → SoFar (face_links mesh old.base Stretch face) old mid (sides_from mesh old.base face i) → i < length face → l ≡ link mesh mid.base Stretch (side face i) → Adds (l ∷ []) mid now → SoFar (face_links mesh old.base Stretch face) old now (sides_from mesh old.base face (i + 1))
+pub ring_next : (mesh : ObjMesh) (face : List ℕ) (old mid now : FoundLinks) (i : ℕ) (l : Link) → SoFar (face_links mesh old.base Stretch face) old mid (sides_from mesh old.base face i) → i < length face → l ≡ link mesh mid.base Stretch (side face i) → Adds (l ∷ []) mid now → SoFar (face_links mesh old.base Stretch face) old now (sides_from mesh old.base face (i + 1))
 ring_next mesh face old mid now i l so_far lt is adds =
     let same : l ≡ link mesh old.base Stretch (side face i) = side_is mesh face old mid so_far.done i l so_far.adds is in
     so_far_next (face_links mesh old.base Stretch face) old mid now (l ∷ []) (sides_from mesh old.base face (i + 1)) (sides_from mesh old.base face i) so_far (sides_next mesh old.base face i lt ∙ ap (λ m. (m ∷ []) ++ sides_from mesh old.base face (i + 1)) (sym same)) adds
 
-pub ring_stops : (mesh : ObjMesh) (face : List ℕ) (old mid : Net) (i : ℕ) (l : Link) (fault : ObjFault) → SoFar (face_links mesh old.base Stretch face) old mid (sides_from mesh old.base face i) → i < length face → l ≡ link mesh mid.base Stretch (side face i) → IsStopped (l ∷ []) mid fault → IsStopped (face_links mesh old.base Stretch face) old fault
+pub ring_stops : (mesh : ObjMesh) (face : List ℕ) (old mid : FoundLinks) (i : ℕ) (l : Link) (fault : ObjFault) → SoFar (face_links mesh old.base Stretch face) old mid (sides_from mesh old.base face i) → i < length face → l ≡ link mesh mid.base Stretch (side face i) → IsStopped (l ∷ []) mid fault → IsStopped (face_links mesh old.base Stretch face) old fault
 ring_stops mesh face old mid i l fault so_far lt is stopped =
     let same : l ≡ link mesh old.base Stretch (side face i) = side_is mesh face old mid so_far.done i l so_far.adds is in
     so_far_stops (face_links mesh old.base Stretch face) old mid (l ∷ []) (sides_from mesh old.base face (i + 1)) (sides_from mesh old.base face i) fault so_far (sides_next mesh old.base face i lt ∙ ap (λ m. (m ∷ []) ++ sides_from mesh old.base face (i + 1)) (sym same)) stopped
@@ -226,13 +226,13 @@ ring_stops mesh face old mid i l fault so_far lt is stopped =
 -- ---- face by face
 
 -- the links of some faces were added, and these sizes and corners are left
-pub record FacesSoFar (mesh : ObjMesh) (kind : Kind) (old now : Net) (sizes corners : List ℕ) : Type 0 where
+pub record FacesSoFar (mesh : ObjMesh) (kind : Kind) (old now : FoundLinks) (sizes corners : List ℕ) : Type 0 where
   pub links : SoFar (kind_links mesh old.base kind) old now (flat_map {X = List ℕ} {A = Link} (face_links mesh old.base kind) (cut sizes corners))
   pub named : All {X = List ℕ} (Names mesh) (cut sizes corners)
   pub whole : sum sizes ≡ length corners
   pub base : now.base ≡ old.base
 
-pub faces_begin : (mesh : ObjMesh) (kind : Kind) (old : Net) → IsMesh mesh → HoldsJoined old → FacesSoFar mesh kind old old mesh.sizes mesh.corners
+pub faces_begin : (mesh : ObjMesh) (kind : Kind) (old : FoundLinks) → IsMesh mesh → HoldsJoined old → FacesSoFar mesh kind old old mesh.sizes mesh.corners
 faces_begin mesh kind old is held = record {
   links = so_far_begins (kind_links mesh old.base kind) old (kind_links mesh old.base kind) held refl;
   named = All-weaker {X = List ℕ} (λ face. IsFace (length mesh.places) face) (Names mesh) (λ face h. h.within) (faces mesh) is.faces;
@@ -240,13 +240,13 @@ faces_begin mesh kind old is held = record {
   base = refl;
 }
 
-pub faces_fit : (mesh : ObjMesh) (kind : Kind) (old now : Net) (s : ℕ) (sizes corners : List ℕ) → FacesSoFar mesh kind old now (s ∷ sizes) corners → s ≤ length corners
+pub faces_fit : (mesh : ObjMesh) (kind : Kind) (old now : FoundLinks) (s : ℕ) (sizes corners : List ℕ) → FacesSoFar mesh kind old now (s ∷ sizes) corners → s ≤ length corners
 faces_fit mesh kind old now s sizes corners so_far = let all : s + sum sizes ≡ length corners = sym (sum_by-cons (λ x. x) s sizes) ∙ so_far.whole in omega (arith, all)
 
-pub face_named : (mesh : ObjMesh) (kind : Kind) (old now : Net) (s : ℕ) (sizes corners : List ℕ) → FacesSoFar mesh kind old now (s ∷ sizes) corners → Names mesh (take s corners)
+pub face_named : (mesh : ObjMesh) (kind : Kind) (old now : FoundLinks) (s : ℕ) (sizes corners : List ℕ) → FacesSoFar mesh kind old now (s ∷ sizes) corners → Names mesh (take s corners)
 face_named mesh kind old now s sizes corners so_far = All-head {X = List ℕ} (Names mesh) (take s corners) (cut sizes (drop s corners)) so_far.named
 
-pub faces_next : (mesh : ObjMesh) (kind : Kind) (old mid now : Net) (s : ℕ) (sizes corners : List ℕ) → FacesSoFar mesh kind old mid (s ∷ sizes) corners → Adds (face_links mesh mid.base kind (take s corners)) mid now → FacesSoFar mesh kind old now sizes (drop s corners)
+pub faces_next : (mesh : ObjMesh) (kind : Kind) (old mid now : FoundLinks) (s : ℕ) (sizes corners : List ℕ) → FacesSoFar mesh kind old mid (s ∷ sizes) corners → Adds (face_links mesh mid.base kind (take s corners)) mid now → FacesSoFar mesh kind old now sizes (drop s corners)
 faces_next mesh kind old mid now s sizes corners so_far adds =
     let all : s + sum sizes ≡ length corners = sym (sum_by-cons (λ x. x) s sizes) ∙ so_far.whole in
     record {
@@ -256,56 +256,56 @@ faces_next mesh kind old mid now s sizes corners so_far adds =
       base = adds.base ∙ so_far.base;
     }
 
-pub faces_stop : (mesh : ObjMesh) (kind : Kind) (old mid : Net) (s : ℕ) (sizes corners : List ℕ) (fault : ObjFault) → FacesSoFar mesh kind old mid (s ∷ sizes) corners → IsStopped (face_links mesh mid.base kind (take s corners)) mid fault → IsStopped (kind_links mesh old.base kind) old fault
+pub faces_stop : (mesh : ObjMesh) (kind : Kind) (old mid : FoundLinks) (s : ℕ) (sizes corners : List ℕ) (fault : ObjFault) → FacesSoFar mesh kind old mid (s ∷ sizes) corners → IsStopped (face_links mesh mid.base kind (take s corners)) mid fault → IsStopped (kind_links mesh old.base kind) old fault
 faces_stop mesh kind old mid s sizes corners fault so_far stopped =
     so_far_stops (kind_links mesh old.base kind) old mid (face_links mesh old.base kind (take s corners)) (flat_map {X = List ℕ} {A = Link} (face_links mesh old.base kind) (cut sizes (drop s corners))) _ fault so_far.links refl (subst (λ (b : ℕ). IsStopped (face_links mesh b kind (take s corners)) mid fault) so_far.base stopped)
 
-pub faces_end : (mesh : ObjMesh) (kind : Kind) (old now : Net) (sizes corners : List ℕ) → FacesSoFar mesh kind old now sizes corners → sizes ≡ [] → Adds (kind_links mesh old.base kind) old now
+pub faces_end : (mesh : ObjMesh) (kind : Kind) (old now : FoundLinks) (sizes corners : List ℕ) → FacesSoFar mesh kind old now sizes corners → sizes ≡ [] → Adds (kind_links mesh old.base kind) old now
 faces_end mesh kind old now sizes corners so_far none = so_far_ends (kind_links mesh old.base kind) old now (flat_map {X = List ℕ} {A = Link} (face_links mesh old.base kind) (cut sizes corners)) so_far.links (ap (λ ss. flat_map {X = List ℕ} {A = Link} (face_links mesh old.base kind) (cut ss corners)) none)
 
 pub sizes_at : (sizes : List ℕ) (i : ℕ) → i < length sizes → drop i sizes ≡ get_or sizes i 0 ∷ drop (i + 1) sizes
 sizes_at sizes i lt = drop_more sizes i 0 lt
 
-at_size : (mesh : ObjMesh) (kind : Kind) (old now : Net) (sizes : List ℕ) (i : ℕ) (corners : List ℕ) → FacesSoFar mesh kind old now (drop i sizes) corners → i < length sizes → FacesSoFar mesh kind old now (get_or sizes i 0 ∷ drop (i + 1) sizes) corners
+at_size : (mesh : ObjMesh) (kind : Kind) (old now : FoundLinks) (sizes : List ℕ) (i : ℕ) (corners : List ℕ) → FacesSoFar mesh kind old now (drop i sizes) corners → i < length sizes → FacesSoFar mesh kind old now (get_or sizes i 0 ∷ drop (i + 1) sizes) corners
 at_size mesh kind old now sizes i corners so_far lt = subst (λ (left : List ℕ). FacesSoFar mesh kind old now left corners) (sizes_at sizes i lt) so_far
 
-pub face_named_at : (mesh : ObjMesh) (kind : Kind) (old now : Net) (sizes : List ℕ) (i : ℕ) (corners face : List ℕ) → FacesSoFar mesh kind old now (drop i sizes) corners → i < length sizes → face ≡ take (get_or sizes i 0) corners → Names mesh face
+pub face_named_at : (mesh : ObjMesh) (kind : Kind) (old now : FoundLinks) (sizes : List ℕ) (i : ℕ) (corners face : List ℕ) → FacesSoFar mesh kind old now (drop i sizes) corners → i < length sizes → face ≡ take (get_or sizes i 0) corners → Names mesh face
 face_named_at mesh kind old now sizes i corners face so_far lt is =
     subst (λ (f : List ℕ). Names mesh f) (sym is) (face_named mesh kind old now (get_or sizes i 0) (drop (i + 1) sizes) corners (at_size mesh kind old now sizes i corners so_far lt))
 
-pub faces_next_at : (mesh : ObjMesh) (kind : Kind) (old mid now : Net) (sizes : List ℕ) (i : ℕ) (corners face behind : List ℕ) → FacesSoFar mesh kind old mid (drop i sizes) corners → i < length sizes → face ≡ take (get_or sizes i 0) corners → behind ≡ drop (get_or sizes i 0) corners → Adds (face_links mesh mid.base kind face) mid now → FacesSoFar mesh kind old now (drop (i + 1) sizes) behind
+pub faces_next_at : (mesh : ObjMesh) (kind : Kind) (old mid now : FoundLinks) (sizes : List ℕ) (i : ℕ) (corners face behind : List ℕ) → FacesSoFar mesh kind old mid (drop i sizes) corners → i < length sizes → face ≡ take (get_or sizes i 0) corners → behind ≡ drop (get_or sizes i 0) corners → Adds (face_links mesh mid.base kind face) mid now → FacesSoFar mesh kind old now (drop (i + 1) sizes) behind
 faces_next_at mesh kind old mid now sizes i corners face behind so_far lt front back adds =
     subst (λ (left : List ℕ). FacesSoFar mesh kind old now (drop (i + 1) sizes) left) (sym back)
     (faces_next mesh kind old mid now (get_or sizes i 0) (drop (i + 1) sizes) corners (at_size mesh kind old mid sizes i corners so_far lt) (subst (λ (f : List ℕ). Adds (face_links mesh mid.base kind f) mid now) front adds))
 
-pub faces_stop_at : (mesh : ObjMesh) (kind : Kind) (old mid : Net) (sizes : List ℕ) (i : ℕ) (corners face : List ℕ) (fault : ObjFault) → FacesSoFar mesh kind old mid (drop i sizes) corners → i < length sizes → face ≡ take (get_or sizes i 0) corners → IsStopped (face_links mesh mid.base kind face) mid fault → IsStopped (kind_links mesh old.base kind) old fault
+pub faces_stop_at : (mesh : ObjMesh) (kind : Kind) (old mid : FoundLinks) (sizes : List ℕ) (i : ℕ) (corners face : List ℕ) (fault : ObjFault) → FacesSoFar mesh kind old mid (drop i sizes) corners → i < length sizes → face ≡ take (get_or sizes i 0) corners → IsStopped (face_links mesh mid.base kind face) mid fault → IsStopped (kind_links mesh old.base kind) old fault
 faces_stop_at mesh kind old mid sizes i corners face fault so_far lt front stopped =
     faces_stop mesh kind old mid (get_or sizes i 0) (drop (i + 1) sizes) corners fault (at_size mesh kind old mid sizes i corners so_far lt) (subst (λ (f : List ℕ). IsStopped (face_links mesh mid.base kind f) mid fault) front stopped)
 
 -- ---- both kinds
 
-pub mesh_links_are : (mesh : ObjMesh) (start mid now : Net) → start.links ≡ [] → Adds (kind_links mesh start.base Stretch) start mid → Adds (kind_links mesh mid.base Shear) mid now → now.links ≡ mesh_links mesh start.base
+pub mesh_links_are : (mesh : ObjMesh) (start mid now : FoundLinks) → start.links ≡ [] → Adds (kind_links mesh start.base Stretch) start mid → Adds (kind_links mesh mid.base Shear) mid now → now.links ≡ mesh_links mesh start.base
 unfolding mesh_links
 mesh_links_are mesh start mid now none first second =
     (adds_then start mid now (kind_links mesh start.base Stretch) (kind_links mesh start.base Shear) first (subst (λ (b : ℕ). Adds (kind_links mesh b Shear) mid now) first.base second)).links ∙ ap (λ kept. each_once kept (kind_links mesh start.base Stretch ++ kind_links mesh start.base Shear)) none
 
-pub mesh_links_few : (start mid now : Net) (xs ys : List Link) → start.links ≡ [] → Adds xs start mid → Adds ys mid now → length now.links ≤ start.room
+pub mesh_links_few : (start mid now : FoundLinks) (xs ys : List Link) → start.links ≡ [] → Adds xs start mid → Adds ys mid now → length now.links ≤ start.room
 mesh_links_few start mid now xs ys none first second =
     let begin : length start.links ≤ start.room = rw none (omega arith) in
     let end = second.within (first.within begin) in
     omega (arith, end, first.room, second.room)
 
-full_at : (links : List Link) (room : ℕ) (start : Net) (whole : List Link) (fault : ObjFault) → start.links ≡ [] → start.room ≡ room → each_once [] whole ≡ links → IsStopped whole start fault → IsFullAt links room fault
+full_at : (links : List Link) (room : ℕ) (start : FoundLinks) (whole : List Link) (fault : ObjFault) → start.links ≡ [] → start.room ≡ room → each_once [] whole ≡ links → IsStopped whole start fault → IsFullAt links room fault
 full_at links room start whole fault none at is (inl memory) = inl memory
 full_at links room start whole fault none at is (inr full) = inr (full.0, let size : length (each_once start.links whole) ≡ length links = ap length (ap (λ kept. each_once kept whole) none ∙ is) in omega (arith, full.1, at, size))
 
-pub first_kind_stops : (mesh : ObjMesh) (start : Net) (fault : ObjFault) → HoldsJoined start → start.links ≡ [] → IsStopped (kind_links mesh start.base Stretch) start fault → IsFullAt (mesh_links mesh start.base) start.room fault
+pub first_kind_stops : (mesh : ObjMesh) (start : FoundLinks) (fault : ObjFault) → HoldsJoined start → start.links ≡ [] → IsStopped (kind_links mesh start.base Stretch) start fault → IsFullAt (mesh_links mesh start.base) start.room fault
 unfolding mesh_links
 first_kind_stops mesh start fault held none stopped =
     let both = kind_links mesh start.base Stretch ++ kind_links mesh start.base Shear in
     full_at (each_once [] both) start.room start both fault none refl refl (so_far_stops both start start (kind_links mesh start.base Stretch) (kind_links mesh start.base Shear) both fault (so_far_begins both start both held refl) refl stopped)
 
-pub second_kind_stops : (mesh : ObjMesh) (start mid : Net) (fault : ObjFault) → HoldsJoined start → start.links ≡ [] → Adds (kind_links mesh start.base Stretch) start mid → IsStopped (kind_links mesh mid.base Shear) mid fault → IsFullAt (mesh_links mesh start.base) start.room fault
+pub second_kind_stops : (mesh : ObjMesh) (start mid : FoundLinks) (fault : ObjFault) → HoldsJoined start → start.links ≡ [] → Adds (kind_links mesh start.base Stretch) start mid → IsStopped (kind_links mesh mid.base Shear) mid fault → IsFullAt (mesh_links mesh start.base) start.room fault
 unfolding mesh_links
 second_kind_stops mesh start mid fault held none first stopped =
     let stretch = kind_links mesh start.base Stretch in
@@ -332,15 +332,15 @@ diagonals_some mesh base (a ∷ b ∷ c ∷ []) is = absurd (omega (arith, is))
 diagonals_some mesh base (a ∷ b ∷ c ∷ d ∷ []) is = refl
 diagonals_some mesh base (a ∷ b ∷ c ∷ d ∷ e ∷ more) is = absurd (omega (arith, is))
 
-pub adds_nothing : (old : Net) (links : List Link) → HoldsJoined old → links ≡ [] → Adds links old old
+pub adds_nothing : (old : FoundLinks) (links : List Link) → HoldsJoined old → links ≡ [] → Adds links old old
 adds_nothing old links held none = rw none (adds_none old held)
 
-pub adds_two : (old mid now : Net) (links : List Link) (first second : Link) → links ≡ first ∷ second ∷ [] → Adds (first ∷ []) old mid → Adds (second ∷ []) mid now → Adds links old now
+pub adds_two : (old mid now : FoundLinks) (links : List Link) (first second : Link) → links ≡ first ∷ second ∷ [] → Adds (first ∷ []) old mid → Adds (second ∷ []) mid now → Adds links old now
 adds_two old mid now links first second is one two = rw is (adds_then old mid now (first ∷ []) (second ∷ []) one two)
 
-pub first_stops : (old : Net) (links : List Link) (first second : Link) (fault : ObjFault) → HoldsJoined old → links ≡ first ∷ second ∷ [] → IsStopped (first ∷ []) old fault → IsStopped links old fault
+pub first_stops : (old : FoundLinks) (links : List Link) (first second : Link) (fault : ObjFault) → HoldsJoined old → links ≡ first ∷ second ∷ [] → IsStopped (first ∷ []) old fault → IsStopped links old fault
 first_stops old links first second fault held is stopped = so_far_stops links old old (first ∷ []) (second ∷ []) links fault (so_far_begins links old links held refl) is stopped
 
-pub second_stops : (old mid : Net) (links : List Link) (first second : Link) (fault : ObjFault) → HoldsJoined old → links ≡ first ∷ second ∷ [] → Adds (first ∷ []) old mid → IsStopped (second ∷ []) mid fault → IsStopped links old fault
+pub second_stops : (old mid : FoundLinks) (links : List Link) (first second : Link) (fault : ObjFault) → HoldsJoined old → links ≡ first ∷ second ∷ [] → Adds (first ∷ []) old mid → IsStopped (second ∷ []) mid fault → IsStopped links old fault
 second_stops old mid links first second fault held is one stopped =
     so_far_stops links old mid (second ∷ []) [] (second ∷ []) fault (so_far_next links old old mid (first ∷ []) (second ∷ []) links (so_far_begins links old links held refl) is one) refl stopped

@@ -5,8 +5,8 @@ use Rattle.std.specs.List.{flat_map}
 use Rattle.std.proofs.lemmas.Bool.{ne_eqb}
 use Rattle.std.proofs.lemmas.Grind.{flat_map-append}
 use Rattle.std.proofs.lemmas.List.{take_more}
-use Rattle.pbd_io.specs.Pieces.{AppendsFront, WritesPiece}
-use Rattle.pbd_io.specs.Appending.{appends_then, front_longer, front_then}
+use Rattle.pbd_io.specs.Pieces.{AppendsPrefix, WritesPiece}
+use Rattle.pbd_io.specs.Appending.{appends_then, prefix_longer, prefix_then}
 use Rattle.pbd_num.specs.declared.Vec3.{Vec3}
 use Rattle.pbd_world.specs.Text.{line}
 use Rattle.pbd_obj.specs.Writing.{coordinate, corner_text, decimals, face_line, fraction, sign, vertex_line}
@@ -66,10 +66,10 @@ wrote_next f xs i d piece old mid new before lt is wrote =
     let e : flat_map f (take (i + 1) xs) ≡ flat_map f (take i xs) ++ piece = ap (flat_map f) (take_more xs i d lt) ∙ (flat_map-append f (take i xs) (get_or xs i d ∷ []) ∙ ap (λ t. flat_map f (take i xs) ++ t) (append-nil (f (get_or xs i d)) ∙ sym is)) in
     rw e (appends_then _ _ _ _ _ before wrote)
 
--- and some front of it
-pub failed_next : {X : Type 0} (f : X → List ℕ) (xs : List X) (i : ℕ) (d : X) (piece : List ℕ) (old mid new : Option (List ℕ)) → Appends old mid (flat_map f (take i xs)) → i < length xs → piece ≡ f (get_or xs i d) → AppendsFront mid new piece → AppendsFront old new (flat_map f xs)
+-- and some prefix of it
+pub failed_next : {X : Type 0} (f : X → List ℕ) (xs : List X) (i : ℕ) (d : X) (piece : List ℕ) (old mid new : Option (List ℕ)) → Appends old mid (flat_map f (take i xs)) → i < length xs → piece ≡ f (get_or xs i d) → AppendsPrefix mid new piece → AppendsPrefix old new (flat_map f xs)
 failed_next f xs i d piece old mid new before lt is failed =
-    rw (flat_at f xs i d piece lt is) (front_then _ _ _ _ _ before (front_longer _ _ piece _ failed))
+    rw (flat_at f xs i d piece lt is) (prefix_then _ _ _ _ _ before (prefix_longer _ _ piece _ failed))
 
 -- ---- the line of a face
 
@@ -89,7 +89,7 @@ face_line_is base corners = line_is (codes "f") (map (λ corner. decimal (base +
 
 pub piece_then : {T E : Type 0} (a b c : Option (List ℕ)) (r : Result T E) (x y : List ℕ) → Appends a b x → WritesPiece b c r y → WritesPiece a c r (x ++ y)
 piece_then a b c (Ok t) x y first second = appends_then _ _ _ _ _ first second
-piece_then a b c (Err e) x y first second = front_then _ _ _ _ _ first second
+piece_then a b c (Err e) x y first second = prefix_then _ _ _ _ _ first second
 
 -- ---- the line of a vertex
 

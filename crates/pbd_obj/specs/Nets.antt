@@ -12,7 +12,7 @@ use Rattle.pbd_world.specs.Valid.{join_alike, links_at}
 use Rattle.pbd_obj.specs.declared.mesh.ObjMesh.{ObjMesh}
 use Rattle.pbd_obj.specs.declared.mesh.ObjFault.{ObjFault}
 use Rattle.pbd_obj.specs.declared.mesh.ObjFault.TheVariants.{TooMany, OutOfMemory}
-use Rattle.pbd_obj.specs.declared.links.Net.{Net}
+use Rattle.pbd_obj.specs.declared.links.FoundLinks.{FoundLinks}
 use Rattle.pbd_obj.specs.MeshLinks.{each_once}
 
 -- the vertices fit behind `base` particles, and their places are in range
@@ -35,11 +35,11 @@ pair_cmp p q = ordering_then (nat_cmp p.0 q.0) (nat_cmp p.1 q.1)
 unfoldable pub HoldsPairs : List Link → BTreeSet (ℕ × ℕ) → Type 0
 HoldsPairs links joined = (l : Link) → contains pair_cmp joined (ordered l.a l.b) ≡ list_any (join_alike l) links
 
-abbrev pub HoldsJoined : Net → Type 0
-HoldsJoined net = HoldsPairs net.links net.joined
+abbrev pub HoldsJoined : FoundLinks → Type 0
+HoldsJoined found = HoldsPairs found.links found.joined
 
 -- links were added, each whose particles none before it joins
-pub record Adds (more : List Link) (old now : Net) : Type 0 where
+pub record Adds (more : List Link) (old now : FoundLinks) : Type 0 where
   pub links : now.links ≡ each_once old.links more
   pub joined : HoldsJoined now
   pub base : now.base ≡ old.base
@@ -47,7 +47,7 @@ pub record Adds (more : List Link) (old now : Net) : Type 0 where
   pub within : length old.links ≤ old.room → length now.links ≤ now.room
 
 -- why links can't be added: there are more than fit the room, or there is no memory
-abbrev pub IsStopped : List Link → Net → ObjFault → Type 0
+abbrev pub IsStopped : List Link → FoundLinks → ObjFault → Type 0
 IsStopped links old fault = (fault ≡ OutOfMemory) ⊎ ((fault ≡ TooMany) × (old.room < length (each_once old.links links)))
 
 abbrev pub IsFullAt : List Link → ℕ → ObjFault → Type 0

@@ -23,7 +23,7 @@ const MOST_AT_ONE: u32 = 32;
 
 /// Links that are found one by one, each once.
 #[derive(Drop)]
-pub struct Net {
+pub struct FoundLinks {
     /// The particle of the first vertex.
     base: u32,
     /// How many links there may be.
@@ -41,18 +41,18 @@ fn ordered(a: u32, b: u32) -> (u32, u32)
 }
 
 /// Adds a link, unless one before it joins its particles.
-fn add(net: &mut Net, link: Link) -> Result<(), ObjFault>
-    requires { HoldsJoined net.old }
-    ensures ok { OnOk result (Adds (link ∷ []) net.old net.new) }
-    ensures err { IfErr result (λ fault. IsStopped (link ∷ []) net.old fault) }
+fn add(found: &mut FoundLinks, link: Link) -> Result<(), ObjFault>
+    requires { HoldsJoined found.old }
+    ensures ok { OnOk result (Adds (link ∷ []) found.old found.new) }
+    ensures err { IfErr result (λ fault. IsStopped (link ∷ []) found.old fault) }
 {
-    if !net.joined.insert(ordered(link.a, link.b))? {
+    if !found.joined.insert(ordered(link.a, link.b))? {
         return Ok(());
     }
-    if net.links.len() >= net.room {
+    if found.links.len() >= found.room {
         return Err(ObjFault::TooMany);
     }
-    net.links.push(link)?;
+    found.links.push(link)?;
     Ok(())
 }
 
@@ -76,64 +76,69 @@ fn link(mesh: &ObjMesh, base: u32, kind: Kind, a: u32, b: u32) -> Link
 }
 
 /// Links each corner to the next, and the last to the first.
-fn add_ring(mesh: &ObjMesh, face: &[u32], net: &mut Net) -> Result<(), ObjFault>
-    requires mesh { FitsNet mesh.now net.old.base }
-    requires joined { HoldsJoined net.old }
+fn add_ring(mesh: &ObjMesh, face: &[u32], found: &mut FoundLinks) -> Result<(), ObjFault>
+    requires mesh { FitsNet mesh.now found.old.base }
+    requires joined { HoldsJoined found.old }
     requires face { Names mesh.now face.now }
-    ensures ok { OnOk result (Adds (face_links mesh.now net.old.base Kind.Stretch face.now) net.old net.new) }
-    ensures err { IfErr result (λ fault. IsStopped (face_links mesh.now net.old.base Kind.Stretch face.now) net.old fault) }
+    ensures ok { OnOk result (Adds (face_links mesh.now found.old.base Kind.Stretch face.now) found.old found.new) }
+    ensures err { IfErr result (λ fault. IsStopped (face_links mesh.now found.old.base Kind.Stretch face.now) found.old fault) }
 {
     for i in 0..face.len() {
         let next = face[(i + 1) % face.len()];
-        let side = link(mesh, net.base, Kind::Stretch, face[i], next);
-        add(net, side)?;
+        let side = link(mesh, found.base, Kind::Stretch, face[i], next);
+        add(found, side)?;
     }
     Ok(())
 }
 
 /// Links both diagonals of a face with four corners.
-fn add_diagonals(mesh: &ObjMesh, face: &[u32], net: &mut Net) -> Result<(), ObjFault>
-    requires mesh { FitsNet mesh.now net.old.base }
-    requires joined { HoldsJoined net.old }
+fn add_diagonals(mesh: &ObjMesh, face: &[u32], found: &mut FoundLinks) -> Result<(), ObjFault>
+    requires mesh { FitsNet mesh.now found.old.base }
+    requires joined { HoldsJoined found.old }
     requires face { Names mesh.now face.now }
-    ensures ok { OnOk result (Adds (face_links mesh.now net.old.base Kind.Shear face.now) net.old net.new) }
-    ensures err { IfErr result (λ fault. IsStopped (face_links mesh.now net.old.base Kind.Shear face.now) net.old fault) }
+    ensures ok { OnOk result (Adds (face_links mesh.now found.old.base Kind.Shear face.now) found.old found.new) }
+    ensures err { IfErr result (λ fault. IsStopped (face_links mesh.now found.old.base Kind.Shear face.now) found.old fault) }
 {
     if face.len() != 4 {
         return Ok(());
     }
-    let first = link(mesh, net.base, Kind::Shear, face[0], face[2]);
-    let second = link(mesh, net.base, Kind::Shear, face[1], face[3]);
-    add(net, first)?;
-    add(net, second)
+    let first = link(mesh, found.base, Kind::Shear, face[0], face[2]);
+    let second = link(mesh, found.base, Kind::Shear, face[1], face[3]);
+    add(found, first)?;
+    add(found, second)
 }
 
-fn add_face(mesh: &ObjMesh, kind: Kind, face: &[u32], net: &mut Net) -> Result<(), ObjFault>
-    requires mesh { FitsNet mesh.now net.old.base }
-    requires joined { HoldsJoined net.old }
+fn add_face(
+    mesh: &ObjMesh,
+    kind: Kind,
+    face: &[u32],
+    found: &mut FoundLinks,
+) -> Result<(), ObjFault>
+    requires mesh { FitsNet mesh.now found.old.base }
+    requires joined { HoldsJoined found.old }
     requires face { Names mesh.now face.now }
-    ensures ok { OnOk result (Adds (face_links mesh.now net.old.base kind face.now) net.old net.new) }
-    ensures err { IfErr result (λ fault. IsStopped (face_links mesh.now net.old.base kind face.now) net.old fault) }
+    ensures ok { OnOk result (Adds (face_links mesh.now found.old.base kind face.now) found.old found.new) }
+    ensures err { IfErr result (λ fault. IsStopped (face_links mesh.now found.old.base kind face.now) found.old fault) }
 {
     match kind {
-        Kind::Stretch => add_ring(mesh, face, net),
-        Kind::Shear => add_diagonals(mesh, face, net),
+        Kind::Stretch => add_ring(mesh, face, found),
+        Kind::Shear => add_diagonals(mesh, face, found),
         Kind::Bend | Kind::Plain => Ok(()),
     }
 }
 
-fn add_kind(mesh: &ObjMesh, kind: Kind, net: &mut Net) -> Result<(), ObjFault>
+fn add_kind(mesh: &ObjMesh, kind: Kind, found: &mut FoundLinks) -> Result<(), ObjFault>
     requires mesh { IsMesh mesh.now }
-    requires fits { FitsNet mesh.now net.old.base }
-    requires joined { HoldsJoined net.old }
-    ensures ok { OnOk result (Adds (kind_links mesh.now net.old.base kind) net.old net.new) }
-    ensures err { IfErr result (λ fault. IsStopped (kind_links mesh.now net.old.base kind) net.old fault) }
+    requires fits { FitsNet mesh.now found.old.base }
+    requires joined { HoldsJoined found.old }
+    ensures ok { OnOk result (Adds (kind_links mesh.now found.old.base kind) found.old found.new) }
+    ensures err { IfErr result (λ fault. IsStopped (kind_links mesh.now found.old.base kind) found.old fault) }
 {
     let sizes = mesh.sizes.as_slice();
     let mut rest = mesh.corners.as_slice();
     for size in sizes {
         let (face, behind) = rest.split_at(*size as usize);
-        add_face(mesh, kind, face, net)?;
+        add_face(mesh, kind, face, found)?;
         rest = behind;
     }
     Ok(())
@@ -149,15 +154,15 @@ fn mesh_links(alloc: Global, mesh: &ObjMesh, base: u32, room: usize) -> Result<L
     ensures few { IfOk result (λ links. length links ≤ room) }
     ensures err { IfErr result (λ fault. IsFullAt (mesh_links mesh.now base) room fault) }
 {
-    let mut net = Net {
+    let mut found = FoundLinks {
         base,
         room,
         links: List::new(alloc),
         joined: BTreeSet::new(alloc),
     };
-    add_kind(mesh, Kind::Stretch, &mut net)?;
-    add_kind(mesh, Kind::Shear, &mut net)?;
-    let Net { links, .. } = net;
+    add_kind(mesh, Kind::Stretch, &mut found)?;
+    add_kind(mesh, Kind::Shear, &mut found)?;
+    let FoundLinks { links, .. } = found;
     Ok(links)
 }
 

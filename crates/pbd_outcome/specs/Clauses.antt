@@ -1,8 +1,8 @@
 -- What a run promises of its status, its source and its sink.
 use Rattle.std.specs.Prelude.{◌≡◌, ◌≢◌, ◌⊎◌, ℕ, List, Option, Some, None, IfSome}
 use Rattle.std.specs.Io.KnownBytes.{Appends, Keeps}
-use Rattle.pbd_io.specs.Causes.{Rose}
-use Rattle.pbd_io.specs.Pieces.{AppendsFront}
+use Rattle.pbd_io.specs.Causes.{HasRisen}
+use Rattle.pbd_io.specs.Pieces.{AppendsPrefix}
 use Rattle.pbd_world.specs.declared.command.Width.{Width}
 use Rattle.pbd_outcome.specs.declared.job.Job.{Job}
 use Rattle.pbd_outcome.specs.declared.job.Job.TheVariants.{Simulate, Record, Replay, Scramble}
@@ -52,22 +52,22 @@ ScramblesAlike job old new status = (number : ℕ) (width : Width) → job ≡ S
 
 -- A fault of reading
 pub record BlamesSource (job : Option Job) (old new : Ends) : Type 0 where
-  pub cause : Rose old.source_faults new.source_faults
+  pub cause : HasRisen old.source_faults new.source_faults
   pub text : Appends old.written new.written (status_line ReadFault)
   pub reads : Reads job
 
--- a front of the text of an outcome was written
+-- a prefix of the text of an outcome was written
 pub record Begins (job : Option Job) (input : List ℕ) (old new : Ends) : Type 0 where
   pub outcome : Outcome
   pub its : IsOutcome job input outcome
-  pub front : AppendsFront old.written new.written outcome.text
+  pub front : AppendsPrefix old.written new.written outcome.text
 
 -- A fault of writing
 pub record BlamesSink (job : Option Job) (old new : Ends) : Type 0 where
-  pub cause : Rose old.sink_faults new.sink_faults
+  pub cause : HasRisen old.sink_faults new.sink_faults
   pub text : (input : List ℕ) → IsInput job old.left input
       → Begins job input old new
-      ⊎ (Rose old.source_faults new.source_faults × AppendsFront old.written new.written (status_line ReadFault))
+      ⊎ (HasRisen old.source_faults new.source_faults × AppendsPrefix old.written new.written (status_line ReadFault))
 
 -- Memory ran out
 pub record GivesUp (job : Option Job) (old new : Ends) : Type 0 where

@@ -11,8 +11,8 @@ use Rattle.pbd_world.specs.Ledger.{Ledger, Entry, booked}
 use Rattle.pbd_store.specs.Blocks.{place_of}
 use Rattle.pbd_store.specs.declared.lanes3.Ends.{Ends}
 use Rattle.pbd_store.specs.declared.lanes3.Lanes3.{Lanes3}
-use Rattle.pbd_pair.specs.declared.laid.Drawn.{Drawn}
-use Rattle.pbd_pair.specs.declared.laid.Laid.{Laid}
+use Rattle.pbd_pair.specs.declared.laid.BondTargets.{BondTargets}
+use Rattle.pbd_pair.specs.declared.laid.BlockMoves.{BlockMoves}
 
 -- the place in lane j
 abbrev pub place_in : {l : ℕ} → Lanes3 l → ℕ → Vec3
@@ -23,11 +23,11 @@ abbrev pub end_in : {l : ℕ} → Ends l → ℕ → End
 end_in ends j = record { at = place_of ends.at.x ends.at.y ends.at.z j; weight = lane ends.weight j }
 
 -- the bond in lane j, without its particles
-abbrev pub bond_in : {l : ℕ} → Drawn l → ℕ → Bond
+abbrev pub bond_in : {l : ℕ} → BondTargets l → ℕ → Bond
 bond_in d j = record { a = 0; b = 0; rest = lane d.rest j; k = lane d.k j; contact = is_set d.contact j }
 
 -- the shift in lane j
-abbrev pub shift_in : {l : ℕ} → Laid l → ℕ → Shift
+abbrev pub shift_in : {l : ℕ} → BlockMoves l → ℕ → Shift
 shift_in l j = record {
   first = place_of l.first.x l.first.y l.first.z j;
   second = place_of l.second.x l.second.y l.second.z j;

@@ -12,14 +12,14 @@ ghost use Rattle.pbd_pair.specs.Lanes.{shift_in, settled};
 
 use crate::bonds::Bonds;
 use crate::book::book;
-use crate::gathered::{Named, lay_block};
-use crate::laid::{Drawn, Laid};
+use crate::gathered::{BlockBonds, lay_block};
+use crate::laid::{BlockMoves, BondTargets};
 use pbd_lanes::{Lanes, Mask};
 use pbd_store::{Steps, Store};
 use pbd_world::{Bond, Left, Shift, Totals};
 use std::sync::ledger::Ledger;
 
-fn name_block<const L: usize>(bonds: &Bonds<'_>, block: &[u32]) -> Named<L>
+fn name_block<const L: usize>(bonds: &Bonds<'_>, block: &[u32]) -> BlockBonds<L>
     requires lanes { L ≤ 16 }
     requires short { length block.now ≤ L }
     requires numbers { (j : ℕ) → j < length block.now → slice_index_or block.now j 0 < bond_count bonds.now }
@@ -47,10 +47,10 @@ fn name_block<const L: usize>(bonds: &Bonds<'_>, block: &[u32]) -> Named<L>
         contact[j] = bond.contact;
         filled[j] = true;
     }
-    Named {
+    BlockBonds {
         a,
         b,
-        drawn: Drawn {
+        drawn: BondTargets {
             rest: Lanes::from_array(rest),
             k: Lanes::from_array(k),
             contact: Mask::from_array(contact),
@@ -60,7 +60,7 @@ fn name_block<const L: usize>(bonds: &Bonds<'_>, block: &[u32]) -> Named<L>
 }
 
 // Adds the moves of a bond that moves its ends to the totals.
-fn settle(
+fn book_if_moving(
     totals: &mut Totals,
     moving: bool,
     first_held: bool,
@@ -79,7 +79,12 @@ fn settle(
     }
 }
 
-fn book_block<const L: usize>(totals: &mut Totals, bonds: &Bonds<'_>, block: &[u32], laid: &Laid<L>)
+fn book_block<const L: usize>(
+    totals: &mut Totals,
+    bonds: &Bonds<'_>,
+    block: &[u32],
+    laid: &BlockMoves<L>,
+)
     requires lanes { L ≤ 16 }
     requires short { length block.now ≤ L }
     requires numbers { (j : ℕ) → j < length block.now → slice_index_or block.now j 0 < bond_count bonds.now }
@@ -96,7 +101,7 @@ fn book_block<const L: usize>(totals: &mut Totals, bonds: &Bonds<'_>, block: &[u
     let second_free = laid.second_free.to_array();
     for (j, n) in block.iter().enumerate() {
         let bond = bonds.get(*n);
-        settle(
+        book_if_moving(
             totals,
             moving[j],
             !first_free[j],
@@ -131,7 +136,7 @@ pub(crate) fn project_block<const L: usize, G: Ledger>(
     ensures room { (n : ℕ) → HaveRoom n (ledger_of totals.old) → HaveRoom (n + length block.now * 2 ^ 32) (ledger_of totals.new) }
     ensures cost { steps.new ≤ steps.old + 4 }
 {
-    let named: Named<L> = name_block(bonds, block);
+    let named: BlockBonds<L> = name_block(bonds, block);
     let laid = lay_block(store, &named, steps);
     if let Some(j) = laid.leaving.first() {
         return Err(Left { element: block[j] });

@@ -9,26 +9,26 @@ ghost use Rattle.pbd_store.specs.Moving.{AreInside, Weigh};
 ghost use Rattle.pbd_pair.specs.Lanes.{bond_in, shift_in, Lays};
 
 use crate::correct::limit_of;
-use crate::laid::{Drawn, Laid, correct_lanes};
+use crate::laid::{BlockMoves, BondTargets, correct_lanes};
 use pbd_lanes::Mask;
 use pbd_store::{Steps, Store};
 use std::sync::ledger::Ledger;
 
 /// The bonds of a block: their ends, what they are drawn to, and which lanes have one.
 #[derive(Drop)]
-pub(crate) struct Named<const L: usize> {
+pub(crate) struct BlockBonds<const L: usize> {
     pub(crate) a: [u32; L],
     pub(crate) b: [u32; L],
-    pub(crate) drawn: Drawn<L>,
+    pub(crate) drawn: BondTargets<L>,
     pub(crate) filled: Mask<L>,
 }
 
 /// What the bonds of a block do with their ends as they stand. A lane without a bond does nothing.
 pub(crate) fn lay_block<const L: usize, G: Ledger>(
     store: &Store<L>,
-    named: &Named<L>,
+    named: &BlockBonds<L>,
     steps: &mut Steps<G>,
-) -> Laid<L>
+) -> BlockMoves<L>
     requires lanes { L ≤ 16 }
     requires a { (j : ℕ) → j < L → IsTrue (is_set named.now.filled j) → index_at named.now.a j < length store.now.particles }
     requires b { (j : ℕ) → j < L → IsTrue (is_set named.now.filled j) → index_at named.now.b j < length store.now.particles }
@@ -50,7 +50,7 @@ pub(crate) fn lay_block<const L: usize, G: Ledger>(
     let first = store.gather(&named.a, &named.filled, steps);
     let second = store.gather(&named.b, &named.filled, steps);
     let laid = correct_lanes(limit, &first, &second, &named.drawn);
-    Laid {
+    BlockMoves {
         moving: laid.moving.and(&named.filled),
         leaving: laid.leaving.and(&named.filled),
         first: laid.first,

@@ -14,7 +14,7 @@ use pbd_world::Shift;
 
 /// What L bonds are drawn to.
 #[derive(Clone, Copy)]
-pub(crate) struct Drawn<const L: usize> {
+pub(crate) struct BondTargets<const L: usize> {
     pub(crate) rest: Lanes<L>,
     pub(crate) k: Lanes<L>,
     pub(crate) contact: Mask<L>,
@@ -23,7 +23,7 @@ pub(crate) struct Drawn<const L: usize> {
 /// What L bonds come to: those that move their ends, those that would move one out of the limit, the new places
 /// and the moves of those that move, and which ends are free.
 #[derive(Clone, Copy)]
-pub(crate) struct Laid<const L: usize> {
+pub(crate) struct BlockMoves<const L: usize> {
     pub(crate) moving: Mask<L>,
     pub(crate) leaving: Mask<L>,
     pub(crate) first: Lanes3<L>,
@@ -34,7 +34,7 @@ pub(crate) struct Laid<const L: usize> {
     pub(crate) second_free: Mask<L>,
 }
 
-impl<const L: usize> Laid<L> {
+impl<const L: usize> BlockMoves<L> {
     /// The shift in lane j.
     pub(crate) fn shift(&self, j: usize) -> Shift
         requires { j < L }
@@ -57,7 +57,7 @@ struct Moves<const L: usize> {
 }
 
 /// Where a bond moves its ends: not where a contact is long enough.
-fn drawing<const L: usize>(len: &Lanes<L>, drawn: &Drawn<L>) -> Mask<L>
+fn drawing<const L: usize>(len: &Lanes<L>, drawn: &BondTargets<L>) -> Mask<L>
     requires { (j : ℕ) → j < L → lane len.now j <ℤ pos (2 ^ 31) }
     ensures { (j : ℕ) → j < L → is_set result j ≡ not (is_set drawn.now.contact j && int_le (lane drawn.now.rest j) (lane len.now j)) }
 {
@@ -72,7 +72,7 @@ fn draw<const L: usize>(
     q: &Ends<L>,
     d: &Lanes3<L>,
     len: &Lanes<L>,
-    drawn: &Drawn<L>,
+    drawn: &BondTargets<L>,
 ) -> Moves<L>
     requires lanes { L ≤ 16 }
     requires p { (j : ℕ) → j < L → IsEnd (pos (2 ^ 29)) (end_in p.now j) }
@@ -105,8 +105,8 @@ pub(crate) fn correct_lanes<const L: usize>(
     limit: i64,
     p: &Ends<L>,
     q: &Ends<L>,
-    drawn: &Drawn<L>,
-) -> Laid<L>
+    drawn: &BondTargets<L>,
+) -> BlockMoves<L>
     requires lanes { L ≤ 16 }
     requires limit { IsBound limit }
     requires p { (j : ℕ) → j < L → IsEnd limit (end_in p.now j) }
@@ -125,7 +125,7 @@ pub(crate) fn correct_lanes<const L: usize>(
     let second = moved(&q.at, &moves.second);
     let stay = stays(limit, &first).and(&stays(limit, &second));
     let leave = others(&stay);
-    Laid {
+    BlockMoves {
         moving: drawing.and(&stay),
         leaving: drawing.and(&leave),
         first,

@@ -11,7 +11,8 @@ use pbd_store::{Steps, Store};
 use pbd_world::{Left, Totals};
 use std::sync::ledger::Ledger;
 
-/// What projects batches of bonds.
+/// What projects batches of constraints: bonds of which no two share a particle, so that the order within a batch
+/// has no effect, as between the colours of a Gauss-Seidel sweep.
 pub trait Projector<const L: usize> {
     /// How many bonds it projects side by side.
     ghost width: { Self → ℕ };

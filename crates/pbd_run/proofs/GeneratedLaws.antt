@@ -14,7 +14,7 @@ use Rattle.pbd_world.specs.declared.parts.Particle.{Particle}
 use Rattle.pbd_mesh.specs.Joined.{all_below}
 use Rattle.pbd_mesh.proofs.Meshes.{cloth_size}
 use Rattle.pbd_mesh.proofs.Every.{every_joined, every_one, every_test}
-use Rattle.pbd_mesh.specs.Cloth.{cloth_particles, cloth_place, cloth_fits, cloth_in_ranges, cloth_vectors_fit, cloth_counts_fit, cloth_threads_fit, cloth_tears_fit, cloth_is_inside}
+use Rattle.pbd_mesh.specs.Cloth.{cloth_particles, cloth_place, cloth_fits, cloth_in_ranges, cloth_vectors_fit, cloth_counts_fit, cloth_settings_fit, cloth_tears_fit, cloth_is_inside}
 use Rattle.pbd_outcome.specs.Generated.{all_set_off, after_three, is_hung, is_near, level_cloth, set_off, speed, vector, velocity_of}
 
 positive : pos 0 ≤ℤ pos (2 ^ 29)
@@ -49,7 +49,7 @@ near_place size r c lr lc =
     record { x = omega (arith, close.x); y = omega (arith, close.y); z = omega (arith, close.z) }
 
 pub level_fits : (size : ℕ) → 2 ≤ size → size ≤ 128 → IsTrue (cloth_fits (pos (2 ^ 29)) (level_cloth size))
-unfolding cloth_fits cloth_in_ranges cloth_vectors_fit cloth_counts_fit cloth_threads_fit cloth_tears_fit cloth_is_inside
+unfolding cloth_fits cloth_in_ranges cloth_vectors_fit cloth_counts_fit cloth_settings_fit cloth_tears_fit cloth_is_inside
 level_fits size low high =
     let one : nat_le 1 size ≡ true = grind (arith, nat_tests) in
     let two : nat_le size 256 ≡ true = grind (arith, nat_tests) in

@@ -1,9 +1,9 @@
 -- What the run of a generated scene wrote, piece after piece, and how it ended.
 use Rattle.std.proofs.Common.{◌≡◌, ◌∙◌, sym, ap, subst, refl, ℕ, ◌≤◌, Bool, true, false, cond, List, [], ◌++◌, Option, Result, Ok, Err, arith}
 use Rattle.std.specs.Io.KnownBytes.{Appends}
-use Rattle.pbd_io.specs.Causes.{HasCause, Rose}
-use Rattle.pbd_io.specs.Pieces.{AppendsFront, WritesPiece}
-use Rattle.pbd_io.specs.Appending.{appends_then, front_longer, front_then, rose_later}
+use Rattle.pbd_io.specs.Causes.{HasCause, HasRisen}
+use Rattle.pbd_io.specs.Pieces.{AppendsPrefix, WritesPiece}
+use Rattle.pbd_io.specs.Appending.{appends_then, prefix_longer, prefix_then, rose_later}
 use Rattle.pbd_world.specs.declared.command.Command.TheVariants.{Step}
 use Rattle.pbd_world.specs.declared.command.Reply.{Reply}
 use Rattle.pbd_world.specs.Meaning.{after, reply}
@@ -21,10 +21,10 @@ use Rattle.pbd_run.specs.Forms.{large_on}
 
 pub piece_then : {T E : Type 0} (a b c : Option (List ℕ)) (x y : List ℕ) (r : Result T E) → Appends a b x → WritesPiece b c r y → WritesPiece a c r (x ++ y)
 piece_then a b c x y (Ok t) first second = appends_then a b c x y first second
-piece_then a b c x y (Err e) first second = front_then a b c x y first second
+piece_then a b c x y (Err e) first second = prefix_then a b c x y first second
 
-pub front_of_two : (a b : Option (List ℕ)) (x y : List ℕ) → AppendsFront a b x → AppendsFront a b (x ++ y)
-front_of_two a b x y front = front_longer a b x y front
+pub prefix_of_two : (a b : Option (List ℕ)) (x y : List ℕ) → AppendsPrefix a b x → AppendsPrefix a b (x ++ y)
+prefix_of_two a b x y front = prefix_longer a b x y front
 
 pub cause_then : {T E : Type 0} (a b c : ℕ) (r : Result T E) → a ≤ b → HasCause b c r → HasCause a c r
 cause_then a b c (Ok t) le cause = record { later = omega (arith, le, cause.later); failed = cause.failed }
@@ -40,7 +40,7 @@ large_went : (number size : ℕ) (w : World) (s : Status) (a b : Option (List �
 unfolding summary_outcome
 large_went number size w s a b m n is wrote = rw is (either (is_refused (reply w (Step 30))) (summary_outcome number size w []) a b m n refl wrote)
 
-large_front : (number size : ℕ) (w : World) (a b : Option (List ℕ)) (m n : ℕ) → Rose m n → AppendsFront a b (summary number size (after w (Step 30)) (reply w (Step 30))) → Does (summary_outcome number size w []) a b m n WriteFault
+large_front : (number size : ℕ) (w : World) (a b : Option (List ℕ)) (m n : ℕ) → HasRisen m n → AppendsPrefix a b (summary number size (after w (Step 30)) (reply w (Step 30))) → Does (summary_outcome number size w []) a b m n WriteFault
 unfolding summary_outcome
 large_front number size w a b m n rose wrote = (rose, wrote)
 
@@ -51,17 +51,17 @@ large_ended_in number size v w u r s a b m n is now said status wrote =
     (large_went number size v s a b m n (status ∙ ap step_status said)
     (subst (λ (q : Reply). Appends a b (summary number size (after v (Step 30)) q)) said (subst (λ (x : World). Appends a b (summary number size x r)) now wrote)))
 
-large_failed_in : (number size : ℕ) (v w u : World) (r : Reply) (a b : Option (List ℕ)) (m n : ℕ) → v ≡ w → u ≡ after v (Step 30) → r ≡ reply v (Step 30) → Rose m n → AppendsFront a b (summary number size u r) → Does (summary_outcome number size w []) a b m n WriteFault
+large_failed_in : (number size : ℕ) (v w u : World) (r : Reply) (a b : Option (List ℕ)) (m n : ℕ) → v ≡ w → u ≡ after v (Step 30) → r ≡ reply v (Step 30) → HasRisen m n → AppendsPrefix a b (summary number size u r) → Does (summary_outcome number size w []) a b m n WriteFault
 large_failed_in number size v w u r a b m n is now said rose wrote =
     subst (λ (x : World). Does (summary_outcome number size x []) a b m n WriteFault) is
     (large_front number size v a b m n rose
-    (subst (λ (q : Reply). AppendsFront a b (summary number size (after v (Step 30)) q)) said (subst (λ (x : World). AppendsFront a b (summary number size x r)) now wrote)))
+    (subst (λ (q : Reply). AppendsPrefix a b (summary number size (after v (Step 30)) q)) said (subst (λ (x : World). AppendsPrefix a b (summary number size x r)) now wrote)))
 
 pub large_ended : (number size : ℕ) (v : World) (scene : Parts) (u : World) (r : Reply) (s : Status) (a b : Option (List ℕ)) (m n : ℕ) → v ≡ opened scene → u ≡ after v (Step 30) → r ≡ reply v (Step 30) → s ≡ step_status r → Appends a b (summary number size u r) → Does (large_on number size scene) a b m n s
 unfolding large_on
 large_ended number size v scene u r s a b m n is now said status wrote = large_ended_in number size v (opened scene) u r s a b m n is now said status wrote
 
-pub large_failed : (number size : ℕ) (v : World) (scene : Parts) (u : World) (r : Reply) (a b : Option (List ℕ)) (m n : ℕ) → v ≡ opened scene → u ≡ after v (Step 30) → r ≡ reply v (Step 30) → Rose m n → AppendsFront a b (summary number size u r) → Does (large_on number size scene) a b m n WriteFault
+pub large_failed : (number size : ℕ) (v : World) (scene : Parts) (u : World) (r : Reply) (a b : Option (List ℕ)) (m n : ℕ) → v ≡ opened scene → u ≡ after v (Step 30) → r ≡ reply v (Step 30) → HasRisen m n → AppendsPrefix a b (summary number size u r) → Does (large_on number size scene) a b m n WriteFault
 unfolding large_on
 large_failed number size v scene u r a b m n is now said rose wrote = large_failed_in number size v (opened scene) u r a b m n is now said rose wrote
 

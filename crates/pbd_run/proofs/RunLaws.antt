@@ -1,8 +1,8 @@
 -- From what a reading and a session did to what a run promises.
 use Rattle.std.proofs.Common.{◌≡◌, ◌≢◌, ◌∙◌, sym, subst, refl, ℕ, ◌+◌, ◌<◌, ◌≤◌, List, [], length, drop, Option, Some, None, IfSome, Err, arith, inl, inr, length-append}
 use Rattle.std.specs.Io.KnownBytes.{Appends, Keeps, Consumes}
-use Rattle.pbd_io.specs.Causes.{Rose}
-use Rattle.pbd_io.specs.Pieces.{AppendsFront}
+use Rattle.pbd_io.specs.Causes.{HasRisen}
+use Rattle.pbd_io.specs.Pieces.{AppendsPrefix}
 use Rattle.pbd_io.specs.Appending.{consumed_all, consumed_some}
 use Rattle.pbd_world.specs.declared.command.Width.{Width}
 use Rattle.pbd_outcome.specs.declared.job.Job.{Job}
@@ -35,7 +35,7 @@ does_settled o a b m n SomeRefused does w m' = does
 does_settled o a b m n OutOfMemory does w m' = absurd (m' refl)
 does_settled o a b m n NotBuilt does w m' = does
 
-does_failed : (o : Outcome) (a b : Option (List ℕ)) (m n : ℕ) (s : Status) → Does o a b m n s → s ≡ WriteFault → Rose m n × AppendsFront a b o.text
+does_failed : (o : Outcome) (a b : Option (List ℕ)) (m n : ℕ) (s : Status) → Does o a b m n s → s ≡ WriteFault → HasRisen m n × AppendsPrefix a b o.text
 does_failed o a b m n s does is = rw is at does
 
 does_nothing : (o : Outcome) (a b : Option (List ℕ)) (m n : ℕ) (s : Status) → Does o a b m n s → s ≡ OutOfMemory → Keeps a b
@@ -128,7 +128,7 @@ read_over job limit IsOne old new s form (bytes, consumed, count) does =
     record { outcome = o; its = form.its input o (inl (long, refl)); text = refl; ends = refl; rest = λ _. rw (told, ← count) left })
 
 -- reading failed
-read_failed : (job : Option Job) (old new : Ends) (s : Status) → Reads job → Rose old.source_faults new.source_faults → Does (stops ReadFault []) old.written new.written old.sink_faults new.sink_faults s → s ≢ OutOfMemory → Promises job old new s
+read_failed : (job : Option Job) (old new : Ends) (s : Status) → Reads job → HasRisen old.source_faults new.source_faults → Does (stops ReadFault []) old.written new.written old.sink_faults new.sink_faults s → s ≢ OutOfMemory → Promises job old new s
 read_failed job old new s reads rose does some = record {
   outcome = λ nr nw nm input is. absurd (nr ((does_settled (stops ReadFault []) old.written new.written old.sink_faults new.sink_faults s does nw nm).0));
   read_fault = λ e. record { cause = rose; text = (does_settled (stops ReadFault []) old.written new.written old.sink_faults new.sink_faults s does (λ f. cc) (λ f. cc)).1; reads = reads };
@@ -146,13 +146,13 @@ no_memory job old new s is keeps = record {
 }
 
 -- the end wasn't reached
-pub read_ended : (job : Job) (limit : ℕ) (IsOne : List ℕ → Outcome → Type 0) (old new : Ends) (end : ReadEnd) (s : Status) → IsForm job limit IsOne → ReadsAll limit old.left new.left (Err end) → (end ≡ readings.Failed → Rose old.source_faults new.source_faults) → EndsReading end old.written new.written old.sink_faults new.sink_faults s → Promises (Some job) old new s
+pub read_ended : (job : Job) (limit : ℕ) (IsOne : List ℕ → Outcome → Type 0) (old new : Ends) (end : ReadEnd) (s : Status) → IsForm job limit IsOne → ReadsAll limit old.left new.left (Err end) → (end ≡ readings.Failed → HasRisen old.source_faults new.source_faults) → EndsReading end old.written new.written old.sink_faults new.sink_faults s → Promises (Some job) old new s
 read_ended job limit IsOne old new readings.Failed s form reads rose did = read_failed (Some job) old new s form.reads (rose refl) did.0 did.1
 read_ended job limit IsOne old new readings.TooLong s form reads rose did = read_over job limit IsOne old new s form reads did
 read_ended job limit IsOne old new readings.OutOfMemory s form reads rose did = no_memory job old new s did.0 did.1
 
 -- the same where the limit is told by another name
-pub read_ended_at : (job : Job) (limit n : ℕ) (IsOne : List ℕ → Outcome → Type 0) (old new : Ends) (end : ReadEnd) (s : Status) → n ≡ limit → IsForm job limit IsOne → ReadsAll n old.left new.left (Err end) → (end ≡ readings.Failed → Rose old.source_faults new.source_faults) → EndsReading end old.written new.written old.sink_faults new.sink_faults s → Promises (Some job) old new s
+pub read_ended_at : (job : Job) (limit n : ℕ) (IsOne : List ℕ → Outcome → Type 0) (old new : Ends) (end : ReadEnd) (s : Status) → n ≡ limit → IsForm job limit IsOne → ReadsAll n old.left new.left (Err end) → (end ≡ readings.Failed → HasRisen old.source_faults new.source_faults) → EndsReading end old.written new.written old.sink_faults new.sink_faults s → Promises (Some job) old new s
 read_ended_at job limit n IsOne old new end s is form reads rose did = read_ended job limit IsOne old new end s form (subst (λ (x : ℕ). ReadsAll x old.left new.left (Err end)) is reads) rose did
 
 -- ---- forms that read nothing

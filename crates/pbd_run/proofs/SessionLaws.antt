@@ -2,8 +2,8 @@
 use Rattle.std.proofs.Common.{◌≡◌, ◌∙◌, sym, ap, subst, ℕ, Bool, true, false, cond, List, Option}
 use Rattle.std.specs.Prelude.{◌==◌, ℤ}
 use Rattle.std.specs.Io.KnownBytes.{Appends}
-use Rattle.pbd_io.specs.Causes.{Rose}
-use Rattle.pbd_io.specs.Pieces.{AppendsFront}
+use Rattle.pbd_io.specs.Causes.{HasRisen}
+use Rattle.pbd_io.specs.Pieces.{AppendsPrefix}
 use Rattle.pbd_world.specs.declared.command.Command.{Command}
 use Rattle.pbd_world.specs.Session.{refused_count, session_text}
 use Rattle.pbd_world.specs.World.{World, opened}
@@ -42,7 +42,7 @@ script_ended_in : (v w : World) (cs : List Command) (k : ℕ) (s : Status) (a b 
 script_ended_in v w cs k s a b m n is ends refused wrote =
     subst (λ (x : World). Does (session_outcome x cs) a b m n s) is (ended k s (session_outcome v cs) a b m n ends (ap ends_as (sym refused)) wrote)
 
-script_failed_in : (v w : World) (cs : List Command) (a b : Option (List ℕ)) (m n : ℕ) → v ≡ w → Rose m n → AppendsFront a b (session_text v cs) → Does (session_outcome w cs) a b m n WriteFault
+script_failed_in : (v w : World) (cs : List Command) (a b : Option (List ℕ)) (m n : ℕ) → v ≡ w → HasRisen m n → AppendsPrefix a b (session_text v cs) → Does (session_outcome w cs) a b m n WriteFault
 script_failed_in v w cs a b m n is rose wrote = subst (λ (x : World). Does (session_outcome x cs) a b m n WriteFault) is (rose, wrote)
 
 -- a log whose limit is the range
@@ -54,16 +54,16 @@ record_ended_in v w scene cs k s a b m n is limit ends refused wrote =
     let same = of_range v.limit scene (entries_of v cs) (ap (λ (x : World). x.limit) is ∙ limit) in
     subst (λ (x : World). Does (record_outcome scene x cs) a b m n s) is (ended k s (record_outcome scene v cs) a b m n ends (ap ends_as (sym refused)) (subst (λ bytes. Appends a b bytes) same wrote))
 
-record_failed_in : (v w : World) (scene : List ℕ) (cs : List Command) (a b : Option (List ℕ)) (m n : ℕ) → v ≡ w → w.limit ≡ range → Rose m n → AppendsFront a b (log_bytes v.limit scene (entries_of v cs)) → Does (record_outcome scene w cs) a b m n WriteFault
+record_failed_in : (v w : World) (scene : List ℕ) (cs : List Command) (a b : Option (List ℕ)) (m n : ℕ) → v ≡ w → w.limit ≡ range → HasRisen m n → AppendsPrefix a b (log_bytes v.limit scene (entries_of v cs)) → Does (record_outcome scene w cs) a b m n WriteFault
 record_failed_in v w scene cs a b m n is limit rose wrote =
     let same = of_range v.limit scene (entries_of v cs) (ap (λ (x : World). x.limit) is ∙ limit) in
-    subst (λ (x : World). Does (record_outcome scene x cs) a b m n WriteFault) is (rose, subst (λ bytes. AppendsFront a b bytes) same wrote)
+    subst (λ (x : World). Does (record_outcome scene x cs) a b m n WriteFault) is (rose, subst (λ bytes. AppendsPrefix a b bytes) same wrote)
 
 replay_done_in : (v w : World) (entries : List Entry) (e : ReplayEnd) (s : Status) (a b : Option (List ℕ)) (m n : ℕ) → v ≡ w → s ≡ replay_status e → e ≡ (replayed v entries).ended → Appends a b (replayed v entries).text → Does (replay_outcome (replayed w entries)) a b m n s
 replay_done_in v w entries e s a b m n is status ends wrote =
     subst (λ (x : World). Does (replay_outcome (replayed x entries)) a b m n s) is (replay_ended e s (replay_outcome (replayed v entries)) a b m n status (ap replay_status (sym ends)) wrote)
 
-replay_failed_in : (v w : World) (entries : List Entry) (a b : Option (List ℕ)) (m n : ℕ) → v ≡ w → Rose m n → AppendsFront a b (replayed v entries).text → Does (replay_outcome (replayed w entries)) a b m n WriteFault
+replay_failed_in : (v w : World) (entries : List Entry) (a b : Option (List ℕ)) (m n : ℕ) → v ≡ w → HasRisen m n → AppendsPrefix a b (replayed v entries).text → Does (replay_outcome (replayed w entries)) a b m n WriteFault
 replay_failed_in v w entries a b m n is rose wrote = subst (λ (x : World). Does (replay_outcome (replayed x entries)) a b m n WriteFault) is (rose, wrote)
 
 -- ---- forms on a scene
@@ -74,7 +74,7 @@ pub script_ended : (v : World) (scene : Parts) (script : List ℕ) (k : ℕ) (s 
 unfolding simulate_on
 script_ended v scene script k s a b m n is ends refused wrote = script_ended_in v (opened scene) (commands script) k s a b m n is ends refused wrote
 
-pub script_failed : (v : World) (scene : Parts) (script : List ℕ) (a b : Option (List ℕ)) (m n : ℕ) → v ≡ opened scene → Rose m n → AppendsFront a b (session_text v (commands script)) → Does (simulate_on scene script) a b m n WriteFault
+pub script_failed : (v : World) (scene : Parts) (script : List ℕ) (a b : Option (List ℕ)) (m n : ℕ) → v ≡ opened scene → HasRisen m n → AppendsPrefix a b (session_text v (commands script)) → Does (simulate_on scene script) a b m n WriteFault
 unfolding simulate_on
 script_failed v scene script a b m n is rose wrote = script_failed_in v (opened scene) (commands script) a b m n is rose wrote
 
@@ -82,7 +82,7 @@ pub record_ended : (v : World) (text : List ℕ) (scene : Parts) (script : List 
 unfolding record_on
 record_ended v text scene script k s a b m n is limit ends refused wrote = record_ended_in v (opened scene) text (commands script) k s a b m n is limit ends refused wrote
 
-pub record_failed : (v : World) (text : List ℕ) (scene : Parts) (script : List ℕ) (a b : Option (List ℕ)) (m n : ℕ) → v ≡ opened scene → scene.limit ≡ range → Rose m n → AppendsFront a b (log_bytes v.limit text (entries_of v (commands script))) → Does (record_on text scene script) a b m n WriteFault
+pub record_failed : (v : World) (text : List ℕ) (scene : Parts) (script : List ℕ) (a b : Option (List ℕ)) (m n : ℕ) → v ≡ opened scene → scene.limit ≡ range → HasRisen m n → AppendsPrefix a b (log_bytes v.limit text (entries_of v (commands script))) → Does (record_on text scene script) a b m n WriteFault
 unfolding record_on
 record_failed v text scene script a b m n is limit rose wrote = record_failed_in v (opened scene) text (commands script) a b m n is limit rose wrote
 
@@ -90,6 +90,6 @@ pub replay_done : (v : World) (scene : Parts) (entries : List Entry) (e : Replay
 unfolding replay_on
 replay_done v scene entries e s a b m n is status ends wrote = replay_done_in v (opened scene) entries e s a b m n is status ends wrote
 
-pub replay_failed : (v : World) (scene : Parts) (entries : List Entry) (a b : Option (List ℕ)) (m n : ℕ) → v ≡ opened scene → Rose m n → AppendsFront a b (replayed v entries).text → Does (replay_on scene entries) a b m n WriteFault
+pub replay_failed : (v : World) (scene : Parts) (entries : List Entry) (a b : Option (List ℕ)) (m n : ℕ) → v ≡ opened scene → HasRisen m n → AppendsPrefix a b (replayed v entries).text → Does (replay_on scene entries) a b m n WriteFault
 unfolding replay_on
 replay_failed v scene entries a b m n is rose wrote = replay_failed_in v (opened scene) entries a b m n is rose wrote

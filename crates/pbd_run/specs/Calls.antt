@@ -1,8 +1,8 @@
 -- What the calls below `run` do.
 use Rattle.std.specs.Prelude.{◌≡◌, ◌≢◌, ◌<◌, ◌≤◌, ◌^◌, ℕ, List, [], length, Option, Some, Result, Ok, Err}
 use Rattle.std.specs.Io.KnownBytes.{Appends, Keeps}
-use Rattle.pbd_io.specs.Causes.{Rose}
-use Rattle.pbd_io.specs.Pieces.{AppendsFront}
+use Rattle.pbd_io.specs.Causes.{HasRisen}
+use Rattle.pbd_io.specs.Pieces.{AppendsPrefix}
 use Rattle.pbd_world.specs.declared.parts.Parts.{Parts}
 use Rattle.pbd_world.specs.Outcomes.{◌>>=◌}
 use Rattle.pbd_scene.specs.declared.fault.SceneFault.TheVariants as faults
@@ -19,7 +19,7 @@ use Rattle.pbd_run.specs.declared.scene.SceneStop.TheVariants.{NotText, Fault}
 
 -- What a call answers and leaves in the sink that is to do as this outcome says.
 abbrev pub Does : Outcome → Option (List ℕ) → Option (List ℕ) → ℕ → ℕ → Status → Type 0
-Does o old new before now WriteFault = Rose before now × AppendsFront old new o.text
+Does o old new before now WriteFault = HasRisen before now × AppendsPrefix old new o.text
 Does o old new before now OutOfMemory = Keeps old new
 Does o old new before now status = (status ≡ o.status) × Appends old new o.text
 

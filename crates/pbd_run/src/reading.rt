@@ -1,6 +1,6 @@
 ghost use Rattle.std.specs.Prelude.{◌≡◌, ◌+◌, ◌≤◌, ◌<◌, ◌^◌, ℕ, List, length, IfOk, OnErr, IsErrOf};
 ghost use Rattle.std.specs.Io.KnownBytes.{Consumes, IsAtEnd};
-ghost use Rattle.pbd_io.specs.Causes.{Rose};
+ghost use Rattle.pbd_io.specs.Causes.{HasRisen};
 ghost use Rattle.pbd_run.specs.Reading.{ReadsAll};
 
 use pbd_io::{Failed, Source};
@@ -20,7 +20,7 @@ pub enum ReadEnd {
 pub fn read_all<S: Source>(alloc: Global, limit: usize, source: &mut S) -> Result<Vec<u8>, ReadEnd>
     requires { limit < 2 ^ 40 }
     ensures bytes { ReadsAll limit (S.left source.old) (S.left source.new) result }
-    ensures cause { IsErrOf result ReadEnd.Failed → Rose (S.faults source.old) (S.faults source.new) }
+    ensures cause { IsErrOf result ReadEnd.Failed → HasRisen (S.faults source.old) (S.faults source.new) }
     ensures later { S.faults source.old ≤ S.faults source.new }
 {
     let mut input = Vec::new(alloc);

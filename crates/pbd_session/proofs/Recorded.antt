@@ -3,8 +3,8 @@ use Rattle.std.proofs.Common.{◌≡◌, ◌∙◌, sym, ap, refl, ℕ, ◌+◌,
 use Rattle.std.specs.Prelude.{if◌then◌else◌}
 use Rattle.std.specs.Io.KnownBytes.{Appends}
 use Rattle.std.specs.List.{Contains, flat_map, AllByRecursion}
-use Rattle.pbd_io.specs.Pieces.{AppendsFront}
-use Rattle.pbd_io.specs.Appending.{appends_then, front_then, front_longer}
+use Rattle.pbd_io.specs.Pieces.{AppendsPrefix}
+use Rattle.pbd_io.specs.Appending.{appends_then, prefix_then, prefix_longer}
 use Rattle.pbd_world.specs.declared.command.Command.{Command}
 use Rattle.pbd_world.specs.declared.command.Reply.{Reply}
 use Rattle.pbd_world.specs.Valid.{is_limit}
@@ -83,28 +83,28 @@ has_room start all limit scene w left old new refused written logged few = omega
 
 -- what stands where a sink failed
 pub record Failed (start : World) (all : List Command) (limit : ℤ) (scene : List ℕ) (v : World) (old new : Option (List ℕ)) : Type 0 where
-  pub bytes : AppendsFront old new (log_bytes limit scene (entries_of start all))
+  pub bytes : AppendsPrefix old new (log_bytes limit scene (entries_of start all))
   pub one_of : Contains (worlds start all) v
 
-pub begin_failed : (w : World) (all : List Command) (limit : ℤ) (scene : List ℕ) (old new : Option (List ℕ)) → AppendsFront old new (head limit scene) → Failed w all limit scene w old new
+pub begin_failed : (w : World) (all : List Command) (limit : ℤ) (scene : List ℕ) (old new : Option (List ℕ)) → AppendsPrefix old new (head limit scene) → Failed w all limit scene w old new
 unfolding log_bytes
 begin_failed w all limit scene old new wrote = record {
-  bytes = front_longer _ _ (head limit scene ++ bytes_of (entries_of w all)) _ (front_longer _ _ (head limit scene) _ wrote);
+  bytes = prefix_longer _ _ (head limit scene ++ bytes_of (entries_of w all)) _ (prefix_longer _ _ (head limit scene) _ wrote);
   one_of = leads_among w all w all (leads_begin w all);
 }
 
 regroup : (h d e m t : List ℕ) → ((h ++ d) ++ e) ++ (m ++ t) ≡ (h ++ (d ++ (e ++ m))) ++ t
 regroup h d e m t = simp append_assoc refl
 
-pub logged_failed : (start : World) (all : List Command) (limit : ℤ) (scene : List ℕ) (w v : World) (left : List Command) (c : Command) (cs : List Command) (old mid new : Option (List ℕ)) (refused written : ℕ) (r : Reply) (e : Entry) → Logged start all limit scene w left old mid refused written → left ≡ c ∷ cs → Does w v c r → e ≡ entry_of (entry w c) → AppendsFront mid new (entry_bytes e) → Failed start all limit scene v old new
+pub logged_failed : (start : World) (all : List Command) (limit : ℤ) (scene : List ℕ) (w v : World) (left : List Command) (c : Command) (cs : List Command) (old mid new : Option (List ℕ)) (refused written : ℕ) (r : Reply) (e : Entry) → Logged start all limit scene w left old mid refused written → left ≡ c ∷ cs → Does w v c r → e ≡ entry_of (entry w c) → AppendsPrefix mid new (entry_bytes e) → Failed start all limit scene v old new
 unfolding log_bytes
 logged_failed start all limit scene w v left c cs old mid new refused written r e logged is does kept wrote =
     let here : Logged start all limit scene w (c ∷ cs) old mid refused written = rw is at logged in
     let e' = entry_of (entry w c) in
-    let wrote_that : AppendsFront mid new (entry_bytes e') = rw kept at wrote in
+    let wrote_that : AppendsPrefix mid new (entry_bytes e') = rw kept at wrote in
     let tail = end_bytes (length (entries_of start all)) in
     let more = bytes_of (entries_of (after w c) cs) in
-    let all_of : AppendsFront old new (((head limit scene ++ here.done) ++ entry_bytes e') ++ (more ++ tail)) = front_longer _ _ ((head limit scene ++ here.done) ++ entry_bytes e') (more ++ tail) (front_then _ _ _ _ _ here.bytes wrote_that) in
+    let all_of : AppendsPrefix old new (((head limit scene ++ here.done) ++ entry_bytes e') ++ (more ++ tail)) = prefix_longer _ _ ((head limit scene ++ here.done) ++ entry_bytes e') (more ++ tail) (prefix_then _ _ _ _ _ here.bytes wrote_that) in
     let parts : ((head limit scene ++ here.done) ++ entry_bytes e') ++ (more ++ tail) ≡ (head limit scene ++ bytes_of (entries_of start all)) ++ tail =
     regroup (head limit scene) here.done (entry_bytes e') more tail ∙ ap (λ t. (head limit scene ++ t) ++ tail) here.entries in
     rw does.world (record {
@@ -119,11 +119,11 @@ whole start all limit scene w old mid new refused written here =
     let d : here.done ≡ bytes_of (entries_of start all) = sym (append-nil here.done) ∙ here.entries in
     rw (d, n) refl
 
-pub finish_failed : (start : World) (all : List Command) (limit : ℤ) (scene : List ℕ) (w : World) (left : List Command) (old mid new : Option (List ℕ)) (refused written : ℕ) → Logged start all limit scene w left old mid refused written → left ≡ [] → AppendsFront mid new (end_bytes written) → Failed start all limit scene w old new
+pub finish_failed : (start : World) (all : List Command) (limit : ℤ) (scene : List ℕ) (w : World) (left : List Command) (old mid new : Option (List ℕ)) (refused written : ℕ) → Logged start all limit scene w left old mid refused written → left ≡ [] → AppendsPrefix mid new (end_bytes written) → Failed start all limit scene w old new
 finish_failed start all limit scene w left old mid new refused written logged is wrote =
     let here : Logged start all limit scene w [] old mid refused written = rw is at logged in
     record {
-      bytes = rw (← whole start all limit scene w old mid new refused written here) (front_then _ _ _ _ _ here.bytes wrote);
+      bytes = rw (← whole start all limit scene w old mid new refused written here) (prefix_then _ _ _ _ _ here.bytes wrote);
       one_of = leads_among start all w [] here.leads;
     }
 

@@ -3,8 +3,8 @@ use Rattle.std.proofs.Common.{◌≡◌, ◌∙◌, sym, refl, ℕ, ◌+◌, ◌
 use Rattle.std.specs.Prelude.{if◌then◌else◌, OnOk}
 use Rattle.std.specs.Io.KnownBytes.{Appends}
 use Rattle.std.specs.List.{Contains}
-use Rattle.pbd_io.specs.Pieces.{AppendsFront, WritesPiece}
-use Rattle.pbd_io.specs.Appending.{appends_nothing, appends_then, front_then, front_longer}
+use Rattle.pbd_io.specs.Pieces.{AppendsPrefix, WritesPiece}
+use Rattle.pbd_io.specs.Appending.{appends_nothing, appends_then, prefix_then, prefix_longer}
 use Rattle.pbd_world.specs.declared.command.Reply.{Reply}
 use Rattle.pbd_world.specs.World.{World}
 use Rattle.pbd_world.specs.Meaning.{after, reply}
@@ -73,13 +73,13 @@ agreed_next start all n w v left e es old mid new refused r agreed is does same 
       few = omega (arith, here.few, one_more r');
     })
 
--- or a front of it
-pub agreed_failed : (start : World) (all : List Entry) (n : ℕ) (w v : World) (left : List Entry) (e : Entry) (es : List Entry) (old mid new : Option (List ℕ)) (refused : ℕ) (r : Reply) → Agreed start all n w left old mid refused → left ≡ e ∷ es → Does w v e.command r → difference e (found_now w e) ≡ None → AppendsFront mid new (text v r) → AppendsFront old new (replayed start all).text
+-- or a prefix of it
+pub agreed_failed : (start : World) (all : List Entry) (n : ℕ) (w v : World) (left : List Entry) (e : Entry) (es : List Entry) (old mid new : Option (List ℕ)) (refused : ℕ) (r : Reply) → Agreed start all n w left old mid refused → left ≡ e ∷ es → Does w v e.command r → difference e (found_now w e) ≡ None → AppendsPrefix mid new (text v r) → AppendsPrefix old new (replayed start all).text
 unfolding replayed_from
 agreed_failed start all n w v left e es old mid new refused r agreed is does same wrote =
     let here : Agreed start all n w (e ∷ es) old mid refused = rw is at agreed in
-    let wrote_that : AppendsFront mid new (text (after w e.command) (reply w e.command)) = rw (does.world, does.reply) at wrote in
-    rw (← (rw same at here.text)) (front_then _ _ _ here.done _ here.bytes (front_longer _ _ (text (after w e.command) (reply w e.command)) _ wrote_that))
+    let wrote_that : AppendsPrefix mid new (text (after w e.command) (reply w e.command)) = rw (does.world, does.reply) at wrote in
+    rw (← (rw same at here.text)) (prefix_then _ _ _ here.done _ here.bytes (prefix_longer _ _ (text (after w e.command) (reply w e.command)) _ wrote_that))
 
 pub record Ended (start : World) (all : List Entry) (w : World) (old new : Option (List ℕ)) (end : ReplayEnd) : Type 0 where
   pub bytes : Appends old new (replayed start all).text

@@ -3,8 +3,8 @@ use Rattle.std.proofs.Common.{◌≡◌, ◌∙◌, sym, refl, ℕ, ◌+◌, ◌
 use Rattle.std.specs.Prelude.{if◌then◌else◌}
 use Rattle.std.specs.Io.KnownBytes.{Appends}
 use Rattle.std.specs.List.{Contains}
-use Rattle.pbd_io.specs.Pieces.{AppendsFront}
-use Rattle.pbd_io.specs.Appending.{appends_nothing, appends_then, front_then, front_longer}
+use Rattle.pbd_io.specs.Pieces.{AppendsPrefix}
+use Rattle.pbd_io.specs.Appending.{appends_nothing, appends_then, prefix_then, prefix_longer}
 use Rattle.pbd_world.specs.declared.command.Command.{Command}
 use Rattle.pbd_world.specs.declared.command.Reply.{Reply}
 use Rattle.pbd_world.specs.declared.command.Reply.TheVariants as replies
@@ -71,16 +71,16 @@ ran_next start all w v left c cs old mid new refused r ran is does wrote =
 
 -- what stands where a reply could not be written
 pub record Failed (start : World) (all : List Command) (v : World) (old new : Option (List ℕ)) : Type 0 where
-  pub bytes : AppendsFront old new (session_text start all)
+  pub bytes : AppendsPrefix old new (session_text start all)
   pub one_of : Contains (worlds start all) v
 
-pub ran_failed : (start : World) (all : List Command) (w v : World) (left : List Command) (c : Command) (cs : List Command) (old mid new : Option (List ℕ)) (refused : ℕ) (r : Reply) → Ran start all w left old mid refused → left ≡ c ∷ cs → Does w v c r → AppendsFront mid new (text v r) → Failed start all v old new
+pub ran_failed : (start : World) (all : List Command) (w v : World) (left : List Command) (c : Command) (cs : List Command) (old mid new : Option (List ℕ)) (refused : ℕ) (r : Reply) → Ran start all w left old mid refused → left ≡ c ∷ cs → Does w v c r → AppendsPrefix mid new (text v r) → Failed start all v old new
 unfolding session_text
 ran_failed start all w v left c cs old mid new refused r ran is does wrote =
     let here : Ran start all w (c ∷ cs) old mid refused = rw is at ran in
-    let wrote_that : AppendsFront mid new (text (after w c) (reply w c)) = rw (does.world, does.reply) at wrote in
+    let wrote_that : AppendsPrefix mid new (text (after w c) (reply w c)) = rw (does.world, does.reply) at wrote in
     rw does.world (record {
-      bytes = rw (← here.text) (front_then _ _ _ here.done _ here.bytes (front_longer _ _ (text (after w c) (reply w c)) (session_text (after w c) cs) wrote_that));
+      bytes = rw (← here.text) (prefix_then _ _ _ here.done _ here.bytes (prefix_longer _ _ (text (after w c) (reply w c)) (session_text (after w c) cs) wrote_that));
       one_of = leads_among start all (after w c) cs (leads_on start all w c cs here.leads);
     })
 

@@ -4,14 +4,14 @@ use Rattle.std.specs.Io.KnownBytes.{Appends}
 use Rattle.std.specs.List.{flat_map}
 use Rattle.std.proofs.lemmas.Grind.{flat_map-append}
 use Rattle.std.proofs.lemmas.List.{take_more}
-use Rattle.pbd_io.specs.Pieces.{AppendsFront, WritesPiece}
-use Rattle.pbd_io.specs.Appending.{appends_then, front_longer, front_then}
+use Rattle.pbd_io.specs.Pieces.{AppendsPrefix, WritesPiece}
+use Rattle.pbd_io.specs.Appending.{appends_then, prefix_longer, prefix_then}
 use Rattle.pbd_world.specs.declared.command.Reply.{Reply}
 use Rattle.pbd_world.specs.declared.command.Reply.TheVariants as replies
 use Rattle.pbd_world.specs.Momentum.{momentum}
 use Rattle.pbd_world.specs.World.{World, live_count}
 use Rattle.pbd_world.specs.Text.{header_line, place_line, sum_line, text}
-use Rattle.pbd_session.specs.declared.printing.Named.{Named}
+use Rattle.pbd_session.specs.declared.printing.NamedTotal.{NamedTotal}
 use Rattle.pbd_session.specs.Naming.{named_of}
 use Rattle.pbd_session.specs.Printing.{NamedSum, each_after, frame_header, header_after, ledger_sums, named_line, place_after, sum_after, text_after}
 
@@ -39,10 +39,10 @@ wrote_next f xs i d head piece old mid new before lt is wrote =
     let e : flat_map f (take (i + 1) xs) ≡ flat_map f (take i xs) ++ piece = ap (flat_map f) (take_more xs i d lt) ∙ (flat_map-append f (take i xs) (get_or xs i d ∷ []) ∙ ap (λ t. flat_map f (take i xs) ++ t) (append-nil (f (get_or xs i d)) ∙ sym is)) in
     rw (e, ← append_assoc head (flat_map f (take i xs)) piece) (appends_then _ _ _ _ _ before wrote)
 
--- and some front of it
-pub failed_next : {X : Type 0} (f : X → List ℕ) (xs : List X) (i : ℕ) (d : X) (head piece : List ℕ) (old mid new : Option (List ℕ)) → Appends old mid (head ++ flat_map f (take i xs)) → i < length xs → piece ≡ f (get_or xs i d) → AppendsFront mid new piece → AppendsFront old new (head ++ flat_map f xs)
+-- and some prefix of it
+pub failed_next : {X : Type 0} (f : X → List ℕ) (xs : List X) (i : ℕ) (d : X) (head piece : List ℕ) (old mid new : Option (List ℕ)) → Appends old mid (head ++ flat_map f (take i xs)) → i < length xs → piece ≡ f (get_or xs i d) → AppendsPrefix mid new piece → AppendsPrefix old new (head ++ flat_map f xs)
 failed_next f xs i d head piece old mid new before lt is failed =
-    rw (flat_at f xs i d piece lt is, ← append_assoc head (flat_map f (take i xs)) (piece ++ flat_map f (drop (i + 1) xs))) (front_then _ _ _ _ _ before (front_longer _ _ piece _ failed))
+    rw (flat_at f xs i d piece lt is, ← append_assoc head (flat_map f (take i xs)) (piece ++ flat_map f (drop (i + 1) xs))) (prefix_then _ _ _ _ _ before (prefix_longer _ _ piece _ failed))
 
 pub header_is : (w : World) → header_line w ≡ frame_header w.steps (length w.particles) (live_count w.links) w.contacts
 unfolding header_line frame_header
@@ -74,11 +74,11 @@ nothing_before w (replies.Refused r) = append-nil _
 
 pub piece_then : {T E : Type 0} (a b c : Option (List ℕ)) (r : Result T E) (x y : List ℕ) → Appends a b x → WritesPiece b c r y → WritesPiece a c r (x ++ y)
 piece_then a b c (Ok t) x y first second = appends_then _ _ _ _ _ first second
-piece_then a b c (Err e) x y first second = front_then _ _ _ _ _ first second
+piece_then a b c (Err e) x y first second = prefix_then _ _ _ _ _ first second
 
 mapped_of : {X Y : Type 0} (g : X → Y) (f : Y → List ℕ) (xs : List X) → flat_map (λ x. f (g x)) xs ≡ flat_map f (map {A = X} {B = Y} g xs)
 mapped_of g f [] = refl
 mapped_of g f (x ∷ xs) = ap (λ t. f (g x) ++ t) (mapped_of g f xs)
 
-pub sums_after : (prefix : List ℕ) (w : World) (ss : List Named) → map {A = Named} {B = NamedSum} named_of ss ≡ ledger_sums w → flat_map (λ s. sum_after prefix (named_of s)) ss ≡ text_after prefix w replies.Ledger
+pub sums_after : (prefix : List ℕ) (w : World) (ss : List NamedTotal) → map {A = NamedTotal} {B = NamedSum} named_of ss ≡ ledger_sums w → flat_map (λ s. sum_after prefix (named_of s)) ss ≡ text_after prefix w replies.Ledger
 sums_after prefix w ss is = mapped_of named_of (sum_after prefix) ss ∙ (ap (flat_map (sum_after prefix)) is ∙ sym (ledger_after prefix w))

@@ -2,11 +2,11 @@
 use Rattle.std.specs.Prelude.{◌≤◌, length}
 use Rattle.pbd_world.specs.Ledger.{sum_of}
 use Rattle.pbd_session.specs.Printing.{NamedSum}
-use Rattle.pbd_session.specs.declared.printing.Named.{Named}
+use Rattle.pbd_session.specs.declared.printing.NamedTotal.{NamedTotal}
 
-abbrev pub named_of : Named → NamedSum
+abbrev pub named_of : NamedTotal → NamedSum
 named_of s = record { name = s.name.now; sum = sum_of s.sum }
 
 -- a name of the ledger
-abbrev pub IsShort : Named → Type 0
+abbrev pub IsShort : NamedTotal → Type 0
 IsShort s = length s.name.now ≤ 8

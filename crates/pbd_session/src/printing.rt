@@ -4,7 +4,7 @@ ghost use Rattle.std.specs.List.{flat_map};
 ghost use Rattle.pbd_io.specs.Causes.{HasCause};
 ghost use Rattle.pbd_io.specs.Pieces.{WritesPiece};
 ghost use Rattle.pbd_world.specs.Text.{text};
-ghost use Rattle.pbd_session.specs.declared.printing.Named.{Named};
+ghost use Rattle.pbd_session.specs.declared.printing.NamedTotal.{NamedTotal};
 ghost use Rattle.pbd_session.specs.Printing.{NamedSum, header_after, ledger_sums, place_after, sum_after, text_after};
 ghost use Rattle.pbd_session.specs.Naming.{IsShort, named_of};
 
@@ -19,7 +19,7 @@ use std::sync::ledger::Ledger;
 
 /// A sum of the ledger, and its name of at most 8 bytes.
 #[derive(Clone, Copy)]
-pub struct Named {
+pub struct NamedTotal {
     name: &'static str,
     sum: [i128; 3],
 }
@@ -80,13 +80,13 @@ fn write_frame<const L: usize, P: Projector<L> + Drop, K: Sink, G: Ledger>(
 fn named_sums<const L: usize, P: Projector<L> + Drop, G: Ledger>(
     solver: &Solver<L, P>,
     steps: &mut Steps<G>,
-) -> [Named; 8]
+) -> [NamedTotal; 8]
     requires lanes_high { L ≤ 16 }
-    ensures sums { map {A = Named} {B = NamedSum} named_of result ≡ ledger_sums solver.now.world }
+    ensures sums { map {A = NamedTotal} {B = NamedSum} named_of result ≡ ledger_sums solver.now.world }
     ensures short { All IsShort result }
 {
     let totals = *solver.totals();
-    let named = |name, sum| Named { name, sum };
+    let named = |name, sum| NamedTotal { name, sum };
     [
         named("momentum", solver.momentum(steps)),
         named("opening", *solver.opening()),
@@ -99,7 +99,7 @@ fn named_sums<const L: usize, P: Projector<L> + Drop, G: Ledger>(
     ]
 }
 
-fn write_sums<K: Sink>(sums: &[Named], prefix: &[u8], sink: &mut K) -> Result<(), Failed>
+fn write_sums<K: Sink>(sums: &[NamedTotal], prefix: &[u8], sink: &mut K) -> Result<(), Failed>
     requires prefix { length prefix.now ≤ 16 }
     requires short { All IsShort sums.now }
     ensures bytes { WritesPiece (K.written sink.old) (K.written sink.new) result (flat_map (λ s. sum_after prefix.now (named_of s)) sums.now) }
@@ -128,7 +128,7 @@ fn write_ledger<const L: usize, P: Projector<L> + Drop, K: Sink, G: Ledger>(
 
 impl<const L: usize, P: Projector<L> + Drop> Session<L, P> {
     /// Writes the lines of a reply, with frames and ledgers read from the world as it is now.
-    /// `Failed` comes only where the sink's count of faults rose, and then a front of these bytes was appended.
+    /// `Failed` comes only where the sink's count of faults rose, and then a prefix of these bytes was appended.
     #[tactic(auto, using(crate::proofs::Texts::nothing_before))]
     pub fn write_reply<K: Sink, G: Ledger>(
         &self,

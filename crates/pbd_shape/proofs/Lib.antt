@@ -1,4 +1,4 @@
 pub mod Moves
 pub mod Ways
-pub mod Onward
+pub mod Continuing
 pub mod Steps

@@ -26,7 +26,7 @@ use Rattle.pbd_store.proofs.Saving.{saved_none}
 use Rattle.pbd_store.proofs.Places.{place_in, at_of, before_of, places_more}
 use Rattle.pbd_shape.specs.Shaping.{pushed_from}
 use Rattle.pbd_shape.specs.Rubbing.{rubbed_from}
-use Rattle.pbd_shape.proofs.Onward.{one_shaped, shaped_to, shaped_is, pushed_on, pushed_out, pushed_all, one_rubbed, rubbed_by, rubbed_on, rubbed_all}
+use Rattle.pbd_shape.proofs.Continuing.{one_shaped, shaped_to, shaped_is, pushed_on, pushed_out, pushed_all, one_rubbed, rubbed_by, rubbed_on, rubbed_all}
 use Rattle.pbd_store.proofs.Saves.{filled_is, saved_on, saved_as, saved_rest, saved_not_yet, saved_once}
 
 abbrev pub passing : List Particle → Ledger → List Bool → Passing

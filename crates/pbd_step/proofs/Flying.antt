@@ -10,7 +10,7 @@ use Rattle.pbd_world.proofs.Rooms.{room_left, room_at}
 pub record Sizes (a b l p : ℤ) : Type 0 where
   pub velocity : unsigned_abs (a -ℤ b) ≤ 2 ^ 30
   pub slowed : unsigned_abs ((a -ℤ b) -ℤ l) ≤ 2 ^ 31
-  pub onward : unsigned_abs (a +ℤ ((a -ℤ b) -ℤ l)) ≤ 2 ^ 32
+  pub ahead : unsigned_abs (a +ℤ ((a -ℤ b) -ℤ l)) ≤ 2 ^ 32
   pub pulled : unsigned_abs ((a +ℤ ((a -ℤ b) -ℤ l)) +ℤ p) ≤ 2 ^ 33
 
 pub sizes : (a b l p : ℤ) → unsigned_abs a ≤ 2 ^ 29 → unsigned_abs b ≤ 2 ^ 29 → unsigned_abs l ≤ 2 ^ 30 → unsigned_abs p ≤ 2 ^ 29 → Sizes a b l p
@@ -18,7 +18,7 @@ sizes a b l p ha hb hl hp =
     let v : unsigned_abs (a -ℤ b) ≤ 2 ^ 30 = omega (arith, size-sub a b, ha, hb) in
     let s : unsigned_abs ((a -ℤ b) -ℤ l) ≤ 2 ^ 31 = omega (arith, size-sub (a -ℤ b) l, v, hl) in
     let t : unsigned_abs (a +ℤ ((a -ℤ b) -ℤ l)) ≤ 2 ^ 32 = omega (arith, size-add a ((a -ℤ b) -ℤ l), s, ha) in
-    record { velocity = v; slowed = s; onward = t; pulled = omega (arith, size-add (a +ℤ ((a -ℤ b) -ℤ l)) p, t, hp) }
+    record { velocity = v; slowed = s; ahead = t; pulled = omega (arith, size-add (a +ℤ ((a -ℤ b) -ℤ l)) p, t, hp) }
 
 pub slowed_size : (a b c : ℤ) → unsigned_abs a ≤ 2 ^ 29 → unsigned_abs b ≤ 2 ^ 29 → unsigned_abs c ≤ 1024 → unsigned_abs ((a -ℤ b) *ℤ c) ≤ 2 ^ 30 * 1024
 slowed_size a b c ha hb hc = size-mul (a -ℤ b) c (2 ^ 30) 1024 (omega (arith, size-sub a b, ha, hb)) hc

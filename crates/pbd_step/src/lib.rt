@@ -9,7 +9,7 @@ mod leaving;
 mod open;
 mod pass;
 mod predict;
-mod settle;
+mod rub_and_tear;
 mod solver;
 mod state;
 mod step;

@@ -17,7 +17,7 @@ use crate::contacts::find;
 use crate::leaving::leaving;
 use crate::pass::project_in_passes;
 use crate::predict::predict;
-use crate::settle::settle;
+use crate::rub_and_tear::rub_and_tear;
 use crate::state::{Running, Setting, State};
 use pbd_pair::Projector;
 use pbd_store::Steps;
@@ -67,7 +67,7 @@ fn finish<const L: usize, P: Projector<L> + Drop, G: Ledger>(
     if let Err(refusal) = project_in_passes(setting, run, steps) {
         return Err(refusal);
     }
-    settle(setting, run, steps);
+    rub_and_tear(setting, run, steps);
     Ok(())
 }
 

@@ -58,7 +58,7 @@ fn is_in_turn(earlier: &[Event], event: Event) -> bool {
     }
 }
 
-/// How many events at the front of a list come in turn.
+/// How many events at the prefix of a list come in turn.
 fn in_turn(events: &[Event]) -> usize {
     for i in 0..events.len() {
         if !is_in_turn(&events[..i], events[i]) {

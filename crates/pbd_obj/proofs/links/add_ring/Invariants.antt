@@ -5,4 +5,4 @@ use Rattle.pbd_obj.proofs.links.add_ring.Given as goal
 
 -- the sides so far were added
 abbrev pub invariant-loop-i : goal.invariant-loop-i
-invariant-loop-i l = SoFar (face_links l.mesh l.fn.net.base Stretch l.face) l.fn.net l.net (sides_from l.mesh l.fn.net.base l.face l.i)
+invariant-loop-i l = SoFar (face_links l.mesh l.fn.found.base Stretch l.face) l.fn.found l.found (sides_from l.mesh l.fn.found.base l.face l.i)

@@ -1,5 +1,5 @@
 use Rattle.std.proofs.lemmas.Result.{err_from_is_err_and}
-use Rattle.pbd_io.specs.Appending.{front_longer}
+use Rattle.pbd_io.specs.Appending.{prefix_longer}
 use Rattle.pbd_session.specs.Printing.{header_after}
 use Rattle.pbd_session.proofs.Texts.{frame_after, piece_then}
 use Rattle.pbd_session.proofs.printing.write_frame.Goals as goal
@@ -7,7 +7,7 @@ use Rattle.pbd_session.proofs.printing.write_frame.Goals as goal
 pub returns-in_err-write_header-clause-bytes : goal.returns-in_err-write_header-clause-bytes
 returns-in_err-write_header-clause-bytes g c =
     let p = err_from_is_err_and c.from_residual.result c.from_residual.ensures.1 in
-    rw (p.1, frame_after c.args.prefix.now c.args.solver.now.world) (front_longer _ _ (header_after c.args.prefix.now c.args.solver.now.world) _ c.in_err-write_header.ensures.bytes)
+    rw (p.1, frame_after c.args.prefix.now c.args.solver.now.world) (prefix_longer _ _ (header_after c.args.prefix.now c.args.solver.now.world) _ c.in_err-write_header.ensures.bytes)
 
 pub returns-clause-bytes : goal.returns-clause-bytes
 returns-clause-bytes g c =

@@ -6,7 +6,7 @@ use Rattle.pbd_store.specs.Blocks.{blocks_of}
 use Rattle.pbd_store.specs.Moving.{motion_of, AreInside}
 use Rattle.pbd_store.proofs.Starts.{block_begins, all_held, next_start, room_more, room_whole}
 use Rattle.pbd_shape.specs.Shaping.{pushed_from}
-use Rattle.pbd_shape.proofs.Onward.{pushed_begins, pushed_all}
+use Rattle.pbd_shape.proofs.Continuing.{pushed_begins, pushed_all}
 use Rattle.pbd_store.proofs.Fixed.{same_length}
 use Rattle.pbd_world.proofs.Rooms.{room_at}
 use Rattle.pbd_shape.proofs.Steps.{room_enough}

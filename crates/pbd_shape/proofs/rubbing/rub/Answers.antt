@@ -8,7 +8,7 @@ use Rattle.pbd_store.specs.Blocks.{blocks_of}
 use Rattle.pbd_store.specs.Moving.{motion_of}
 use Rattle.pbd_store.proofs.Starts.{block_begins, all_held, next_start, room_more, room_whole}
 use Rattle.pbd_shape.specs.Rubbing.{AreWithin, rubbed_from}
-use Rattle.pbd_shape.proofs.Onward.{rubbed_begins, rubbed_all}
+use Rattle.pbd_shape.proofs.Continuing.{rubbed_begins, rubbed_all}
 use Rattle.pbd_store.proofs.Fixed.{same_length_by}
 use Rattle.pbd_world.proofs.Rooms.{room_at}
 use Rattle.pbd_shape.proofs.Steps.{room_enough}

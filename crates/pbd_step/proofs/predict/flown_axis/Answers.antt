@@ -16,7 +16,7 @@ overflow_add-result-2 c =
     let fp = c.ranges.pull in
     let fv = fits (a -ℤ b) (omega (arith, z.velocity)) in
     let fs = fits ((a -ℤ b) -ℤ l) (omega (arith, z.slowed)) in
-    let ft = fits (a +ℤ ((a -ℤ b) -ℤ l)) (omega (arith, z.onward)) in
+    let ft = fits (a +ℤ ((a -ℤ b) -ℤ l)) (omega (arith, z.ahead)) in
     simp to_z-of_z (fits ((a +ℤ ((a -ℤ b) -ℤ l)) +ℤ c.args.pull) (omega (arith, z.pulled)))
 
 pub returns : goal.returns
@@ -31,6 +31,6 @@ returns c =
     let fp = c.ranges.pull in
     let fv = fits (a -ℤ b) (omega (arith, z.velocity)) in
     let fs = fits ((a -ℤ b) -ℤ l) (omega (arith, z.slowed)) in
-    let ft = fits (a +ℤ ((a -ℤ b) -ℤ l)) (omega (arith, z.onward)) in
+    let ft = fits (a +ℤ ((a -ℤ b) -ℤ l)) (omega (arith, z.ahead)) in
     let fw = fits ((a +ℤ ((a -ℤ b) -ℤ l)) +ℤ c.args.pull) (omega (arith, z.pulled)) in
     simp to_z-of_z refl

@@ -16,8 +16,8 @@ project_in_passes-requires g c =
     let many = ap (λ (fs : List Bool). length fs) c.clear.ensures ∙ length-replicate _ _ in
     (omega arith, (c.requires.lanes_low, (c.requires.lanes_high, tools_go c.args.setting.now run (record run.tools { touched = c.clear.new.self }) (cleared run.tools c.clear.new.self many) c.requires.going)))
 
-pub settle-requires : goal.settle-requires
-settle-requires g c =
+pub rub_and_tear-requires : goal.rub_and_tear-requires
+rub_and_tear-requires g c =
     let run = c.args.run.now in
     let many = ap (λ (fs : List Bool). length fs) c.clear.ensures ∙ length-replicate _ _ in
     let start = record run { tools = record run.tools { touched = c.clear.new.self } } in
@@ -40,7 +40,7 @@ returns-clause-outcome g c =
     let stays = c.project_in_passes.ensures.stays in
     let moved = moved_world c.args.setting.now run.state c.project_in_passes.new.run.state stays.moved.same stays.moved.limit in
     finished_is w pairs (now_of run.state) c.clear.new.self (Ok s) flags c.in_default.ensures.outcome
-    ∙ sym (ap (λ (v : World). Ok v) (c.settle.ensures.world ∙ (λ i. settled (moved i) (stays.tools i).found.pairs (rub c.args.setting.now.friction s))))
+    ∙ sym (ap (λ (v : World). Ok v) (c.rub_and_tear.ensures.world ∙ (λ i. settled (moved i) (stays.tools i).found.pairs (rub c.args.setting.now.friction s))))
 
 pub returns-in-Err-clause-stays : goal.returns-in-Err-clause-stays
 returns-in-Err-clause-stays g c =
@@ -56,15 +56,15 @@ returns-clause-stays g c =
     let many = ap (λ (fs : List Bool). length fs) c.clear.ensures ∙ length-replicate _ _ in
     let tools : Tools = record run.tools { touched = c.clear.new.self } in
     let start = record run { tools = tools } in
-    both_in_step run c.project_in_passes.new.run c.settle.new.run (both_in_step run start c.project_in_passes.new.run (tools_in_step run tools (cleared run.tools c.clear.new.self many)) (pass_in_step start c.project_in_passes.new.run c.project_in_passes.ensures.stays)) c.settle.ensures.stays
+    both_in_step run c.project_in_passes.new.run c.rub_and_tear.new.run (both_in_step run start c.project_in_passes.new.run (tools_in_step run tools (cleared run.tools c.clear.new.self many)) (pass_in_step start c.project_in_passes.new.run c.project_in_passes.ensures.stays)) c.rub_and_tear.ensures.stays
 
 pub returns-clause-links : goal.returns-clause-links
 returns-clause-links g c =
-    let now = c.settle.new.run in
-    subst (λ (n : ℕ). HasLinks n now.state.links.items now.colours) c.project_in_passes.ensures.stays.moved.whole c.settle.ensures.links
+    let now = c.rub_and_tear.new.run in
+    subst (λ (n : ℕ). HasLinks n now.state.links.items now.colours) c.project_in_passes.ensures.stays.moved.whole c.rub_and_tear.ensures.links
 
 pub returns-clause-contacts : goal.returns-clause-contacts
-returns-clause-contacts g c = ap (λ (w : World). w.contacts) c.settle.ensures.world ∙ ap (λ (t : Tools). length t.found.pairs) c.project_in_passes.ensures.stays.tools
+returns-clause-contacts g c = ap (λ (w : World). w.contacts) c.rub_and_tear.ensures.world ∙ ap (λ (t : Tools). length t.found.pairs) c.project_in_passes.ensures.stays.tools
 
 pub returns-clause-handed : goal.returns-clause-handed
-returns-clause-handed g c = ap g.P.Projector.count c.settle.ensures.projector ∙ c.in_default.ensures.handed
+returns-clause-handed g c = ap g.P.Projector.count c.rub_and_tear.ensures.projector ∙ c.in_default.ensures.handed

@@ -25,7 +25,7 @@ fn let_go(links: &mut Vec<Link>, numbers: &[u32])
 
 /// Slows the particles that shapes touched, lets all links that are too long go together, mends the colours of
 /// the others, and counts the step.
-pub(crate) fn settle<const L: usize, P: Projector<L> + Drop, G: Ledger>(
+pub(crate) fn rub_and_tear<const L: usize, P: Projector<L> + Drop, G: Ledger>(
     setting: &Setting,
     run: &mut Running<L, P>,
     steps: &mut Steps<G>,

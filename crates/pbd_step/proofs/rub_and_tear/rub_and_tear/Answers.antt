@@ -13,7 +13,7 @@ use Rattle.pbd_step.specs.States.{world_of}
 use Rattle.pbd_step.specs.Settling.{LetGo}
 use Rattle.pbd_step.proofs.Mild.{formed_within, formed_friction}
 use Rattle.pbd_step.proofs.Settling.{let_go_tears, torn_live, torn_coloured, still_many}
-use Rattle.pbd_step.proofs.settle.settle.Goals as goal
+use Rattle.pbd_step.proofs.rub_and_tear.rub_and_tear.Goals as goal
 
 pub rub-requires : goal.rub-requires
 rub-requires g c =

@@ -5,7 +5,7 @@ use Rattle.pbd_world.specs.Ledger.{sum_of, sum_plus}
 use Rattle.pbd_world.proofs.MomentumLemmas.{same_sum}
 use Rattle.pbd_num.specs.Vectors.{minus}
 use Rattle.pbd_ledger.proofs.Adding.{wide}
-use Rattle.pbd_ledger.proofs.onward_on_axes.Goals as goal
+use Rattle.pbd_ledger.proofs.add_velocity_on_axes.Goals as goal
 
 pub returns-clause-value : goal.returns-clause-value
 returns-clause-value c =
@@ -18,17 +18,17 @@ returns-clause-value c =
     let sx = wide (sum_of c.args.sum).x (omega arith) in
     let sy = wide (sum_of c.args.sum).y (omega arith) in
     let sz = wide (sum_of c.args.sum).z (omega arith) in
-    let fx : FitsSigned w128 c.onward.result = record { sfits = c.onward.type_inv } in
-    let fy : FitsSigned w128 c.onward-2.result = record { sfits = c.onward-2.type_inv } in
-    let fz : FitsSigned w128 c.onward-3.result = record { sfits = c.onward-3.type_inv } in
-    simp to_z-of_z (same_sum _ (sum_plus (sum_of c.args.sum) (minus c.args.at c.args.before)) (simp to_z-of_z at c.onward.ensures.value) (simp to_z-of_z at c.onward-2.ensures.value) (simp to_z-of_z at c.onward-3.ensures.value))
+    let fx : FitsSigned w128 c.add_velocity.result = record { sfits = c.add_velocity.type_inv } in
+    let fy : FitsSigned w128 c.add_velocity-2.result = record { sfits = c.add_velocity-2.type_inv } in
+    let fz : FitsSigned w128 c.add_velocity-3.result = record { sfits = c.add_velocity-3.type_inv } in
+    simp to_z-of_z (same_sum _ (sum_plus (sum_of c.args.sum) (minus c.args.at c.args.before)) (simp to_z-of_z at c.add_velocity.ensures.value) (simp to_z-of_z at c.add_velocity-2.ensures.value) (simp to_z-of_z at c.add_velocity-3.ensures.value))
 
 pub returns-clause-size : goal.returns-clause-size
 returns-clause-size c bound h =
     let sx = wide (sum_of c.args.sum).x (omega arith) in
     let sy = wide (sum_of c.args.sum).y (omega arith) in
     let sz = wide (sum_of c.args.sum).z (omega arith) in
-    let fx : FitsSigned w128 c.onward.result = record { sfits = c.onward.type_inv } in
-    let fy : FitsSigned w128 c.onward-2.result = record { sfits = c.onward-2.type_inv } in
-    let fz : FitsSigned w128 c.onward-3.result = record { sfits = c.onward-3.type_inv } in
-    simp to_z-of_z (record { x = omega (arith, h.x, simp to_z-of_z at c.onward.ensures.size); y = omega (arith, h.y, simp to_z-of_z at c.onward-2.ensures.size); z = omega (arith, h.z, simp to_z-of_z at c.onward-3.ensures.size) })
+    let fx : FitsSigned w128 c.add_velocity.result = record { sfits = c.add_velocity.type_inv } in
+    let fy : FitsSigned w128 c.add_velocity-2.result = record { sfits = c.add_velocity-2.type_inv } in
+    let fz : FitsSigned w128 c.add_velocity-3.result = record { sfits = c.add_velocity-3.type_inv } in
+    simp to_z-of_z (record { x = omega (arith, h.x, simp to_z-of_z at c.add_velocity.ensures.size); y = omega (arith, h.y, simp to_z-of_z at c.add_velocity-2.ensures.size); z = omega (arith, h.z, simp to_z-of_z at c.add_velocity-3.ensures.size) })
