@@ -1,7 +1,7 @@
 -- Vectors of whole numbers of any size, axis by axis.
 use Rattle.std.specs.Prelude.{ℕ, ◌+◌, ◌*◌, ◌≤◌, ℤ, List, [], ◌∷◌, pos, neg_ℤ, ◌+ℤ◌, ◌-ℤ◌, ◌*ℤ◌, int_le, Bool, ◌&&◌, unsigned_abs}
 use Rattle.pbd_num.specs.declared.Vec3.{Vec3}
-use Rattle.pbd_num.specs.Rounding.{root}
+use Rattle.pbd_num.specs.Rounding.{rdiv, root}
 
 -- a function of each axis
 abbrev pub on_axes : (ℤ → ℤ) → Vec3 → Vec3
@@ -22,6 +22,10 @@ minus a b = axis_by_axis (λ p q. p -ℤ q) a b
 
 abbrev pub opposite : Vec3 → Vec3
 opposite v = on_axes neg_ℤ v
+
+-- the part n / d of each axis, rounded
+abbrev pub scaled : ℤ → ℤ → Vec3 → Vec3
+scaled n d v = on_axes (λ axis. rdiv (axis *ℤ n) d) v
 
 abbrev pub dot : Vec3 → Vec3 → ℤ
 dot a b = a.x *ℤ b.x +ℤ a.y *ℤ b.y +ℤ a.z *ℤ b.z

@@ -7,8 +7,10 @@ ghost use Rattle.pbd_num.specs.Vectors.{Within, minus, squared_length, length_of
 ghost use Rattle.pbd_num.specs.PairMove.{share_of, along, corrections, shares, pair_moves};
 
 mod laws;
+mod vectors;
 
 pub use laws::{equal_weights_move_oppositely, roots_are_greatest, rounding_is_odd};
+pub use vectors::square;
 
 /// The greatest size of a coordinate, in units of 1/65,536 metre.
 pub const RANGE: i64 = 536_870_912;
@@ -129,35 +131,6 @@ pub fn inside(v: Vec3) -> bool
     within(v, RANGE)
 }
 
-fn difference(a: Vec3, b: Vec3) -> Vec3
-    requires a { Within (2 ^ 29) a }
-    requires b { Within (2 ^ 29) b }
-    ensures value { result ≡ minus a b }
-    ensures size { Within (2 ^ 30) result }
-{
-    Vec3 {
-        x: a.x - b.x,
-        y: a.y - b.y,
-        z: a.z - b.z,
-    }
-}
-
-fn square(n: i64) -> i64
-    requires { unsigned_abs n ≤ 2 ^ 30 }
-    ensures value { result ≡ pos (unsigned_abs n * unsigned_abs n) }
-    ensures size { unsigned_abs n * unsigned_abs n ≤ 2 ^ 60 }
-{
-    n * n
-}
-
-fn length(v: Vec3) -> i64
-    requires { Within (2 ^ 30) v }
-    ensures value { result ≡ pos (length_of v) }
-    ensures size { length_of v < 2 ^ 31 }
-{
-    root(square(v.x) + square(v.y) + square(v.z))
-}
-
 fn part(e: i64, d: i64, len: i64) -> i64
     requires error { unsigned_abs e ≤ 2 ^ 31 }
     requires axis { unsigned_abs d ≤ 2 ^ 30 }
@@ -216,18 +189,6 @@ fn share(s: Vec3, k: i64, w: i64, total: i64) -> Vec3
     }
 }
 
-fn turned(v: Vec3) -> Vec3
-    requires { Within (2 ^ 31) v }
-    ensures value { result ≡ opposite v }
-    ensures size { Within (2 ^ 31) result }
-{
-    Vec3 {
-        x: -v.x,
-        y: -v.y,
-        z: -v.z,
-    }
-}
-
 /// The moves of two ends toward the distance `rest`, with stiffness k / 256: the distance correction
 /// of Müller and others 2007, each step of it rounded. A weight is an inverse mass, 0 where an end is
 /// held. Nothing moves where the ends lie together or both weights are 0.
@@ -246,14 +207,14 @@ pub fn pair_move(a: Vec3, b: Vec3, rest: i64, k: i64, wa: i64, wb: i64) -> (Vec3
     ensures first_size { Within (2 ^ 31) result.0 }
     ensures second_size { Within (2 ^ 31) result.1 }
 {
-    let d = difference(a, b);
-    let len = length(d);
+    let d = a.minus(b);
+    let len = d.length();
     let total = wa + wb;
     if len == 0 || total == 0 {
         return (Vec3::ZERO, Vec3::ZERO);
     }
     let s = correction(d, len, rest);
-    (turned(share(s, k, wa, total)), share(s, k, wb, total))
+    (share(s, k, wa, total).opposite(), share(s, k, wb, total))
 }
 
 /// The distance of two places in range, rounded down.
@@ -262,5 +223,5 @@ pub fn distance(a: Vec3, b: Vec3) -> i64
     requires b { Within (2 ^ 29) b }
     ensures { result ≡ pos (length_of (minus a b)) }
 {
-    length(difference(a, b))
+    a.minus(b).length()
 }

@@ -1,0 +1,71 @@
+-- The sizes of sums, differences, opposites and parts of vectors.
+use Rattle.std.proofs.Common.{◌≡◌, ℕ, ◌+◌, ◌*◌, ◌<◌, ◌≤◌, ◌^◌, arith, ℤ, pos, ◌*ℤ◌, ◌<ℤ◌, unsigned_abs, w64, FitsSigned}
+use Rattle.std.proofs.lemmas.Int.{ints}
+use Rattle.pbd_num.specs.declared.Vec3.{Vec3}
+use Rattle.pbd_num.specs.Rounding.{rdiv}
+use Rattle.std.proofs.Math.Nat.{mul-le-mul}
+use Rattle.pbd_num.specs.Vectors.{Within, plus, minus, opposite, squared_length}
+use Rattle.pbd_num.proofs.Sizes.{fits, size-add, size-sub, size-neg, size-mul, pos_size}
+use Rattle.pbd_num.proofs.RoundingLemmas.{size-rdiv}
+use Rattle.pbd_num.proofs.Lengths.{squared_length_le}
+
+-- the axes of a vector fit 64 bits
+pub record FitAxes (v : Vec3) : Type 0 where
+  pub x : FitsSigned w64 v.x
+  pub y : FitsSigned w64 v.y
+  pub z : FitsSigned w64 v.z
+
+pub fit_axes : (v : Vec3) (n : ℕ) → n < 2 ^ 63 → Within n v → FitAxes v
+fit_axes v n l h = record { x = fits v.x (omega (arith, l, h.x)); y = fits v.y (omega (arith, l, h.y)); z = fits v.z (omega (arith, l, h.z)) }
+
+pub plus_within : (a b : Vec3) (m n : ℕ) → Within m a → Within n b → Within (m + n) (plus a b)
+plus_within a b m n h k = record {
+  x = omega (arith, size-add a.x b.x, h.x, k.x);
+  y = omega (arith, size-add a.y b.y, h.y, k.y);
+  z = omega (arith, size-add a.z b.z, h.z, k.z);
+}
+
+pub minus_within : (a b : Vec3) (m n : ℕ) → Within m a → Within n b → Within (m + n) (minus a b)
+minus_within a b m n h k = record {
+  x = omega (arith, size-sub a.x b.x, h.x, k.x);
+  y = omega (arith, size-sub a.y b.y, h.y, k.y);
+  z = omega (arith, size-sub a.z b.z, h.z, k.z);
+}
+
+pub opposite_within : (v : Vec3) (n : ℕ) → Within n v → Within n (opposite v)
+opposite_within v n h = record {
+  x = omega (arith, size-neg v.x, h.x);
+  y = omega (arith, size-neg v.y, h.y);
+  z = omega (arith, size-neg v.z, h.z);
+}
+
+-- a number above 0 has a size above 0
+above : (d : ℤ) → pos 0 <ℤ d → 0 < unsigned_abs d
+above d h = omega (arith, ints, pos_size d (omega (arith, ints, h)), h)
+
+-- a part of an axis is at most the axis, and in any case at most the product
+pub scaled_axis_size : (axis part whole : ℤ) (n : ℕ) → pos 0 <ℤ whole → unsigned_abs part ≤ unsigned_abs whole → unsigned_abs axis ≤ n → unsigned_abs (rdiv (axis *ℤ part) whole) ≤ n
+scaled_axis_size axis part whole n low less h = size-rdiv (axis *ℤ part) whole n (above whole low) (size-mul axis part n (unsigned_abs whole) h less)
+
+pub scaled_axis_fits : (axis part whole : ℤ) → pos 0 <ℤ whole → unsigned_abs axis ≤ 2 ^ 30 → unsigned_abs part ≤ 2 ^ 31 → unsigned_abs (rdiv (axis *ℤ part) whole) ≤ 2 ^ 61
+scaled_axis_fits axis part whole low h k =
+    let some = above whole low in
+    let product : unsigned_abs (axis *ℤ part) ≤ 2 ^ 61 = omega (arith, size-mul axis part (2 ^ 30) (2 ^ 31) h k) in
+    size-rdiv (axis *ℤ part) whole (2 ^ 61) some (omega (arith, product, some))
+
+-- the squares of the axes of a vector up to 2^30, and their sums, fit 64 bits
+pub record Squares (v : Vec3) : Type 0 where
+  pub x : FitsSigned w64 (pos (unsigned_abs v.x * unsigned_abs v.x))
+  pub y : FitsSigned w64 (pos (unsigned_abs v.y * unsigned_abs v.y))
+  pub z : FitsSigned w64 (pos (unsigned_abs v.z * unsigned_abs v.z))
+  pub xy : FitsSigned w64 (pos (unsigned_abs v.x * unsigned_abs v.x + unsigned_abs v.y * unsigned_abs v.y))
+  pub xyz : FitsSigned w64 (pos (squared_length v))
+
+pub squares_fit : (v : Vec3) → Within (2 ^ 30) v → Squares v
+squares_fit v h = record {
+  x = fits _ (omega (arith, mul-le-mul h.x h.x));
+  y = fits _ (omega (arith, mul-le-mul h.y h.y));
+  z = fits _ (omega (arith, mul-le-mul h.z h.z));
+  xy = fits _ (omega (arith, mul-le-mul h.x h.x, mul-le-mul h.y h.y));
+  xyz = fits _ (omega (arith, squared_length_le v (2 ^ 30) h));
+}
