@@ -131,34 +131,17 @@ pub fn inside(v: Vec3) -> bool
     within(v, RANGE)
 }
 
-fn part(e: i64, d: i64, len: i64) -> i64
-    requires error { unsigned_abs e ≤ 2 ^ 31 }
-    requires axis { unsigned_abs d ≤ 2 ^ 30 }
-    requires axis_in_length { unsigned_abs d ≤ unsigned_abs len }
-    requires length { pos 0 <ℤ len }
-    requires length_size { unsigned_abs len ≤ 2 ^ 40 }
-    ensures value { result ≡ along e d (unsigned_abs len) }
-    ensures size { unsigned_abs result ≤ 2 ^ 31 }
-{
-    rdiv(e * d, len)
-}
-
 fn correction(d: Vec3, len: i64, rest: i64) -> Vec3
     requires size { Within (2 ^ 30) d }
     requires length { len ≡ pos (length_of d) }
     requires length_size { length_of d < 2 ^ 31 }
-    requires apart { 0 < length_of d }
+    requires some { 0 < length_of d }
     requires rest_low { pos 0 ≤ℤ rest }
     requires rest_high { rest ≤ℤ pos (2 ^ 31) }
     ensures value { result ≡ corrections d rest }
     ensures size { Within (2 ^ 31) result }
 {
-    let e = len - rest;
-    Vec3 {
-        x: part(e, d.x, len),
-        y: part(e, d.y, len),
-        z: part(e, d.z, len),
-    }
+    d.scaled(len - rest, len)
 }
 
 fn share_axis(s: i64, k: i64, w: i64, total: i64) -> i64
