@@ -1,13 +1,13 @@
--- The sizes of sums, differences, opposites and parts of vectors.
-use Rattle.std.proofs.Common.{◌≡◌, ℕ, ◌+◌, ◌*◌, ◌<◌, ◌≤◌, ◌^◌, arith, ℤ, pos, ◌-ℤ◌, ◌*ℤ◌, ◌<ℤ◌, unsigned_abs, w64, FitsSigned}
+-- The sizes of sums, differences and parts of vectors.
+use Rattle.std.proofs.Common.{◌≡◌, ℕ, ◌+◌, ◌*◌, ◌<◌, ◌≤◌, ◌^◌, arith, ℤ, pos, ◌+ℤ◌, ◌-ℤ◌, ◌*ℤ◌, ◌<ℤ◌, unsigned_abs, w64, FitsSigned}
 use Rattle.std.proofs.lemmas.Int.{ints}
 use Rattle.std.proofs.Math.IntN.{*ℤ_comm}
 use Rattle.pbd_num.specs.declared.Vec3.{Vec3}
 use Rattle.pbd_num.specs.Rounding.{rdiv}
 use Rattle.std.proofs.Math.Nat.{mul-le-mul}
-use Rattle.pbd_num.specs.Vectors.{Within, plus, minus, opposite, scaled, squared_length, length_of}
+use Rattle.pbd_num.specs.Vectors.{Within, plus, minus, zero_vector, scaled, squared_length, length_of}
 use Rattle.pbd_num.specs.PairMove.{corrections}
-use Rattle.pbd_num.proofs.Sizes.{fits, size-add, size-sub, size-neg, size-mul, pos_size}
+use Rattle.pbd_num.proofs.Sizes.{fits, size-add, size-sub, size-mul, positive_above}
 use Rattle.pbd_num.proofs.RoundingLemmas.{size-rdiv}
 use Rattle.pbd_num.proofs.Lengths.{squared_length_le, along_size, axes_le_length}
 
@@ -34,24 +34,20 @@ minus_within a b m n h k = record {
   z = omega (arith, size-sub a.z b.z, h.z, k.z);
 }
 
-pub opposite_within : (v : Vec3) (n : ℕ) → Within n v → Within n (opposite v)
-opposite_within v n h = record {
-  x = omega (arith, size-neg v.x, h.x);
-  y = omega (arith, size-neg v.y, h.y);
-  z = omega (arith, size-neg v.z, h.z);
-}
+plus_zero : (a : ℤ) → a +ℤ pos 0 ≡ a
+plus_zero a = omega (arith, ints)
 
--- a number above 0 has a size above 0
-above : (d : ℤ) → pos 0 <ℤ d → 0 < unsigned_abs d
-above d h = omega (arith, ints, pos_size d (omega (arith, ints, h)), h)
+-- the vector 0 adds nothing
+pub plus_nothing : (v : Vec3) → plus v zero_vector ≡ v
+plus_nothing v = λ i. record { x = plus_zero v.x i; y = plus_zero v.y i; z = plus_zero v.z i }
 
 -- a part of an axis is at most the axis, and in any case at most the product
 pub scaled_axis_size : (axis part whole : ℤ) (n : ℕ) → pos 0 <ℤ whole → unsigned_abs part ≤ unsigned_abs whole → unsigned_abs axis ≤ n → unsigned_abs (rdiv (axis *ℤ part) whole) ≤ n
-scaled_axis_size axis part whole n low less h = size-rdiv (axis *ℤ part) whole n (above whole low) (size-mul axis part n (unsigned_abs whole) h less)
+scaled_axis_size axis part whole n low less h = size-rdiv (axis *ℤ part) whole n (positive_above whole low) (size-mul axis part n (unsigned_abs whole) h less)
 
 pub scaled_axis_fits : (axis part whole : ℤ) → pos 0 <ℤ whole → unsigned_abs axis ≤ 2 ^ 30 → unsigned_abs part ≤ 2 ^ 31 → unsigned_abs (rdiv (axis *ℤ part) whole) ≤ 2 ^ 61
 scaled_axis_fits axis part whole low h k =
-    let some = above whole low in
+    let some = positive_above whole low in
     let product : unsigned_abs (axis *ℤ part) ≤ 2 ^ 61 = omega (arith, size-mul axis part (2 ^ 30) (2 ^ 31) h k) in
     size-rdiv (axis *ℤ part) whole (2 ^ 61) some (omega (arith, product, some))
 
