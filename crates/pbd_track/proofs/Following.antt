@@ -17,7 +17,7 @@ use Rattle.pbd_world.specs.declared.parts.Key.{Key}
 use Rattle.pbd_world.specs.declared.parts.Track.{Track}
 use Rattle.pbd_world.specs.declared.parts.Particle.{Particle}
 use Rattle.pbd_world.specs.Particles.{particle_at, no_particle, placed}
-use Rattle.pbd_world.specs.Tracks.{place_between, place_from, place_at, track_of, held_place}
+use Rattle.pbd_world.specs.Tracks.{place_between, place_after, place_at, track_of, held_place}
 use Rattle.pbd_world.specs.Valid.{is_limit, none_twice, are_valid_keys, is_valid_track, are_valid_tracks}
 use Rattle.pbd_store.proofs.Limits.{limit_size}
 use Rattle.pbd_track.specs.Tracking.{IsKey, IsTrack, attached_at, Attached}
@@ -52,27 +52,21 @@ share_size way part whole h lt = size-mul way (pos part) (2 ^ 30) whole (omega (
 pub rounded_size : (way : ℤ) (part whole : ℕ) → unsigned_abs way ≤ 2 ^ 30 → part < whole → unsigned_abs (rdiv (way *ℤ pos part) (pos whole)) ≤ 2 ^ 30
 rounded_size way part whole h lt = size-rdiv (way *ℤ pos part) (pos whole) (2 ^ 30) (omega arith) (share_size way part whole h lt)
 
-pub up_to : (from : Key) (keys : List Key) (t : ℕ) → t ≤ from.step → place_from from keys t ≡ from.place
-up_to from [] t h = refl
-up_to from (l ∷ keys) t h = let e : nat_le t from.step ≡ true = grind (arith, nat_tests) in rw e refl
-
-pub before_next : (from l : Key) (keys : List Key) (t : ℕ) → from.step < t → t < l.step → place_from from (l ∷ keys) t ≡ place_between from l t
-before_next from l keys t h k =
-    let e : nat_le t from.step ≡ false = grind (arith, nat_tests) in
+pub before_next : (from l : Key) (keys : List Key) (t : ℕ) → t < l.step → place_after from (l ∷ keys) t ≡ place_between from l t
+before_next from l keys t k =
     let f : nat_lt t l.step ≡ true = grind (arith, nat_tests) in
-    rw (e, f) refl
+    rw f refl
 
-pub from_next : (from l : Key) (keys : List Key) (t : ℕ) → from.step < t → l.step ≤ t → place_from from (l ∷ keys) t ≡ place_from l keys t
-from_next from l keys t h k =
-    let e : nat_le t from.step ≡ false = grind (arith, nat_tests) in
+pub from_next : (from l : Key) (keys : List Key) (t : ℕ) → l.step ≤ t → place_after from (l ∷ keys) t ≡ place_after l keys t
+from_next from l keys t k =
     let f : nat_lt t l.step ≡ false = grind (arith, nat_tests) in
-    rw (e, f) refl
+    rw f refl
 
-pub left_over : (from : Key) (later : List Key) (i t : ℕ) (d : Key) → i < length later → place_from from (drop i later) t ≡ place_from from (get_or later i d ∷ drop (i + 1) later) t
-left_over from later i t d lt = at_drop_more (λ (keys : List Key). place_from from keys t) later i d lt
+pub left_over : (from : Key) (later : List Key) (i t : ℕ) (d : Key) → i < length later → place_after from (drop i later) t ≡ place_after from (get_or later i d ∷ drop (i + 1) later) t
+left_over from later i t d lt = at_drop_more (λ (keys : List Key). place_after from keys t) later i d lt
 
-pub none_left : (from : Key) (later : List Key) (i t : ℕ) → length later ≤ i → place_from from (drop i later) t ≡ from.place
-none_left from later i t le = at_drop_all (λ (keys : List Key). place_from from keys t) later i le
+pub none_left : (from : Key) (later : List Key) (i t : ℕ) → length later ≤ i → place_after from (drop i later) t ≡ from.place
+none_left from later i t le = at_drop_all (λ (keys : List Key). place_after from keys t) later i le
 
 -- what a slice from the second item on holds
 pub all_but_first : (keys : List Key) → take (length keys - 1) (drop 1 keys) ≡ drop 1 keys
@@ -81,10 +75,17 @@ all_but_first keys = take_all (length keys - 1) (drop 1 keys) (omega (arith, len
 pub later_keys : (keys : List Key) → ((k : ℕ) (d : Key) → k < length keys → IsKey (get_or keys k d)) → (k : ℕ) (d : Key) → k < length (take (length keys - 1) (drop 1 keys)) → IsKey (get_or (take (length keys - 1) (drop 1 keys)) k d)
 later_keys keys h = rw (all_but_first keys) (All-drop IsKey 1 keys h)
 
-pub place_at_keys : (keys : List Key) (d : Key) (t : ℕ) → 0 < length keys → place_at keys t ≡ place_from (get_or keys 0 d) (take (length keys - 1) (drop 1 keys)) t
+pub up_to_first : (keys : List Key) (d : Key) (t : ℕ) → 0 < length keys → t ≤ (get_or keys 0 d).step → place_at keys t ≡ (get_or keys 0 d).place
 unfolding place_at
-place_at_keys [] d t h = absurd (omega (arith, h))
-place_at_keys (k ∷ keys) d t h = ap (λ (later : List Key). place_from k later t) (sym (all_but_first (k ∷ keys)))
+up_to_first [] d t h le = absurd (omega (arith, h))
+up_to_first (k ∷ keys) d t h le = let e : nat_le t k.step ≡ true = grind (arith, nat_tests) in rw e refl
+
+pub after_first : (keys : List Key) (d : Key) (t : ℕ) → 0 < length keys → (get_or keys 0 d).step < t → place_at keys t ≡ place_after (get_or keys 0 d) (take (length keys - 1) (drop 1 keys)) t
+unfolding place_at
+after_first [] d t h lt = absurd (omega (arith, h))
+after_first (k ∷ keys) d t h lt =
+    let e : nat_le t k.step ≡ false = grind (arith, nat_tests) in
+    rw e (ap (λ (later : List Key). place_after k later t) (sym (all_but_first (k ∷ keys))))
 
 -- ---- one particle after another
 

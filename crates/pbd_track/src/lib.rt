@@ -3,7 +3,7 @@
 
 ghost use Rattle.std.specs.Prelude.{◌≡◌, ◌+◌, ◌<◌, ◌≤◌, ◌^◌, pos, ◌+ℤ◌, ◌-ℤ◌, ◌*ℤ◌, unsigned_abs, length, IsTrue, All};
 ghost use Rattle.pbd_num.specs.Rounding.{rdiv as rounded};
-ghost use Rattle.pbd_world.specs.Tracks.{place_between, place_from, place_at};
+ghost use Rattle.pbd_world.specs.Tracks.{place_between, place_after, place_at};
 ghost use Rattle.pbd_world.specs.World.{is_tracked};
 ghost use Rattle.pbd_world.specs.Valid.{are_valid_tracks};
 ghost use Rattle.pbd_track.specs.Tracking.{IsKey, IsTrack, Attached};
@@ -38,7 +38,7 @@ fn axis_between(from: i64, to: i64, part: u32, whole: u32) -> i64
 fn place_between(k: Key, l: Key, t: u32) -> Vec3
     requires first { IsKey k }
     requires second { IsKey l }
-    requires after { k.step < t }
+    requires after { k.step ≤ t }
     requires before { t < l.step }
     ensures { result ≡ place_between k l t }
 {
@@ -51,16 +51,14 @@ fn place_between(k: Key, l: Key, t: u32) -> Vec3
     }
 }
 
-fn place_from(first: Key, later: &[Key], t: u32) -> Vec3
+fn place_after(first: Key, later: &[Key], t: u32) -> Vec3
     requires first { IsKey first }
     requires later { All IsKey later.now }
-    ensures { result ≡ place_from first later.now t }
+    requires after { first.step ≤ t }
+    ensures { result ≡ place_after first later.now t }
 {
     let mut from = first;
     for key in later {
-        if t <= from.step {
-            return from.place;
-        }
         if t < key.step {
             return place_between(from, *key, t);
         }
@@ -80,7 +78,10 @@ pub fn track_at(track: &Track, t: u32) -> Vec3
     if keys.len() == 0 {
         return Vec3::ZERO;
     }
-    place_from(keys[0], &keys[1..], t)
+    if t <= keys[0].step {
+        return keys[0].place;
+    }
+    place_after(keys[0], &keys[1..], t)
 }
 
 /// Whether some track names particle i.

@@ -3,7 +3,7 @@ use Rattle.std.proofs.Common.{◌≡◌, refl, sym, ap, ◌∙◌, ℕ, ◌+◌,
 use Rattle.std.specs.Prelude.{Result, Ok, Err, IfOk, IsTrue, Option, Some, None, IfSome, if◌then◌else◌, nat_le, nat_lt, ◌==◌}
 use Rattle.std.specs.List.{AllByRecursion, AllZip, zip, find, list_all}
 use Rattle.std.proofs.lemmas.Int.{ints}
-use Rattle.std.proofs.lemmas.Bool.{and_parts, and_from, false≢true, ltb-true, leb-false}
+use Rattle.std.proofs.lemmas.Bool.{and_parts, and_from, false≢true, ltb-true, ltb-false, leb-false}
 use Rattle.pbd_num.specs.declared.Vec3.{Vec3}
 use Rattle.pbd_num.specs.Rounding.{rdiv}
 use Rattle.pbd_num.specs.Vectors.{Within, is_within, opposite}
@@ -17,7 +17,7 @@ use Rattle.pbd_world.specs.Ledger.{Sum, sum_plus}
 use Rattle.pbd_world.specs.Particles.{Moved, velocity}
 use Rattle.pbd_world.specs.Valid.{are_valid_keys, is_valid_track, is_at_rest}
 use Rattle.pbd_world.specs.World.{World, is_tracked}
-use Rattle.pbd_world.specs.Tracks.{place_between, place_from, place_at, track_of, held_place}
+use Rattle.pbd_world.specs.Tracks.{place_between, place_after, place_at, track_of, held_place}
 use Rattle.pbd_world.specs.Outcomes.{one_more, each_from}
 use Rattle.pbd_world.specs.Shapes.{stays, rubbed_away, slowed, rubbed}
 use Rattle.pbd_world.specs.Step.{attached, damped_away, flown, if_within, predicted}
@@ -32,26 +32,24 @@ use Rattle.pbd_world.proofs.ValidLemmas.{at_rest_from}
 abbrev Inside : ℤ → Vec3 → Type 0
 Inside limit v = IsTrue (is_within limit v)
 
-between_inside : (limit : ℤ) (k l : Key) (t : ℕ) → IsLimit limit → Inside limit k.place → Inside limit l.place → k.step < t → t < l.step → Inside limit (place_between k l t)
+between_inside : (limit : ℤ) (k l : Key) (t : ℕ) → IsLimit limit → Inside limit k.place → Inside limit l.place → k.step ≤ t → t < l.step → Inside limit (place_between k l t)
 between_inside limit k l t lim hk hl above below =
     (within_facts limit (place_between k l t) lim.low).1
     (between k.place l.place (t - k.step) (l.step - k.step) (unsigned_abs limit) (omega (arith, above, below)) (omega (arith, above, below)) ((within_facts limit k.place lim.low).0 hk) ((within_facts limit l.place lim.low).0 hl))
 
-from_by : (limit : ℤ) (a b c : Vec3) (x y : Bool) → (x ≡ true → Inside limit a) → (x ≡ false → y ≡ true → Inside limit b) → (y ≡ false → Inside limit c) → Inside limit (if x then a else (if y then b else c))
-from_by limit a b c true y ha hb hc = ha refl
-from_by limit a b c false true ha hb hc = hb refl refl
-from_by limit a b c false false ha hb hc = hc refl
+either_inside : (limit : ℤ) (a b : Vec3) (x : Bool) → (x ≡ true → Inside limit a) → (x ≡ false → Inside limit b) → Inside limit (if x then a else b)
+either_inside limit a b true ha hb = ha refl
+either_inside limit a b false ha hb = hb refl
 
-place_inside : (limit : ℤ) (k : Key) (keys : List Key) (t : ℕ) → IsLimit limit → Inside limit k.place → IsTrue (are_valid_keys limit keys) → Inside limit (place_from k keys t)
-place_inside limit k [] t lim h v = h
-place_inside limit k (l ∷ keys) t lim h v =
+after_inside : (limit : ℤ) (k : Key) (keys : List Key) (t : ℕ) → IsLimit limit → k.step ≤ t → Inside limit k.place → IsTrue (are_valid_keys limit keys) → Inside limit (place_after k keys t)
+after_inside limit k [] t lim le h v = h
+after_inside limit k (l ∷ keys) t lim le h v =
     let p3 = and_parts (nat_le l.step 1000000 && is_within limit l.place && list_all (λ (later : Key). nat_lt l.step later.step) keys) (are_valid_keys limit keys) v in
     let p2 = and_parts (nat_le l.step 1000000 && is_within limit l.place) (list_all (λ (later : Key). nat_lt l.step later.step) keys) p3.0 in
     let p1 = and_parts (nat_le l.step 1000000) (is_within limit l.place) p2.0 in
-    from_by limit k.place (place_between k l t) (place_from l keys t) (nat_le t k.step) (nat_lt t l.step)
-    (λ e. h)
-    (λ e f. between_inside limit k l t lim h p1.1 (leb-false t k.step e) (ltb-true t l.step f))
-    (λ e. place_inside limit l keys t lim p1.1 p3.1)
+    either_inside limit (place_between k l t) (place_after l keys t) (nat_lt t l.step)
+    (λ e. between_inside limit k l t lim h p1.1 le (ltb-true t l.step e))
+    (λ e. after_inside limit l keys t lim (ltb-false t l.step e) p1.1 p3.1)
 
 track_inside : (limit : ℤ) (n : ℕ) (track : Track) (t : ℕ) → IsLimit limit → IsTrue (is_valid_track limit n track) → Inside limit (place_at track.keys t)
 unfolding place_at
@@ -62,7 +60,10 @@ track_inside limit n track t lim v = by_keys track.keys (and_parts _ _ v).1 (and
     by_keys (k ∷ keys) h e =
         let p3 = and_parts (nat_le k.step 1000000 && is_within limit k.place && list_all (λ (later : Key). nat_lt k.step later.step) keys) (are_valid_keys limit keys) h in
         let p2 = and_parts (nat_le k.step 1000000 && is_within limit k.place) (list_all (λ (later : Key). nat_lt k.step later.step) keys) p3.0 in
-        place_inside limit k keys t lim (and_parts (nat_le k.step 1000000) (is_within limit k.place) p2.0).1 p3.1
+        let inside = (and_parts (nat_le k.step 1000000) (is_within limit k.place) p2.0).1 in
+        either_inside limit k.place (place_after k keys t) (nat_le t k.step)
+        (λ e. inside)
+        (λ e. after_inside limit k keys t lim (omega (arith, leb-false t k.step e)) inside p3.1)
 
 found_valid : (limit : ℤ) (n i : ℕ) (tracks : List Track) → IsTrue (list_all (is_valid_track limit n) tracks) → IfSome (track_of tracks i) (λ t. IsTrue (is_valid_track limit n t))
 found_valid limit n i [] h = tt

@@ -5,6 +5,7 @@ mod bond;
 mod command;
 mod joined;
 mod laws;
+mod limits;
 mod list;
 mod parts;
 mod room_list;
@@ -20,6 +21,10 @@ pub use laws::{
     commands_keep_worlds_sound, contacts_are_the_touching_pairs, equal_weights_keep_momentum,
     opened_worlds_are_sound, orders_ascend, orders_hold_each_live_pair_once,
     refused_commands_change_nothing, sessions_stay_sound, totals_with_room_take_moves,
+};
+pub use limits::{
+    LAST_STEP, MOST_CONTACTS, MOST_LINKS, MOST_PARTICLES, MOST_STEPS, MOST_THICKNESS, MOST_TRACKS,
+    OLD_RANGE,
 };
 pub use list::List;
 pub use parts::{Key, Kind, Link, Particle, Parts, Plane, Sphere, Track};

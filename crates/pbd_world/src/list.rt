@@ -1,4 +1,4 @@
-ghost use Rattle.std.specs.Prelude.{◌≡◌, ◌++◌, [], ◌∷◌, length, take, OnOk, OnErr};
+ghost use Rattle.std.specs.Prelude.{◌≡◌, ◌++◌, [], ◌∷◌, length, take, IfOk, OnOk, OnErr};
 
 use std::alloc::{AllocError, Global};
 use std::marker::Model;
@@ -25,6 +25,19 @@ impl<T> List<T> {
         List {
             entries: Vec::new(alloc),
         }
+    }
+
+    /// A list of the same items.
+    pub fn copied(alloc: Global, items: &[T]) -> Result<List<T>, AllocError>
+    where
+        T: Copy + Drop,
+        ensures { IfOk result (λ list. list ≡ items.now) }
+    {
+        let mut list = List::new(alloc);
+        for item in items {
+            list.push(*item)?;
+        }
+        Ok(list)
     }
 
     /// Adds an item at the end. The list is unchanged where there is no memory for it.

@@ -4,8 +4,9 @@ ghost use Rattle.std.specs.List.{list_all};
 ghost use Rattle.pbd_world.specs.Valid.{is_between, is_limit, is_valid_particle, are_valid_particles, is_valid_link, is_valid_plane, are_valid_planes, is_reach_within, is_valid_sphere, are_valid_spheres, are_valid_keys, is_valid_track, are_valid_numbers, is_at_rest, is_next_key, are_tracked_held};
 ghost use Rattle.pbd_world.specs.Particles.{particle_at};
 
+use crate::limits::{LAST_STEP, MOST_PARTICLES, MOST_THICKNESS, OLD_RANGE};
 use crate::parts::{Key, Link, Particle, Parts, Plane, Sphere, Track};
-use pbd_num::{Vec3, within};
+use pbd_num::{RANGE, Vec3, within};
 
 fn is_between(low: i64, high: i64, n: i64) -> bool
     ensures { result ≡ is_between low high n }
@@ -17,7 +18,7 @@ fn is_between(low: i64, high: i64, n: i64) -> bool
 pub fn is_limit(n: i64) -> bool
     ensures { result ≡ is_limit n }
 {
-    n == 268_435_456 || n == 536_870_912
+    n == OLD_RANGE || n == RANGE
 }
 
 // ---- particles
@@ -43,7 +44,7 @@ pub fn are_valid_particles(limit: i64, particles: &[Particle]) -> bool
     requires high { unsigned_abs limit ≤ 2 ^ 29 }
     ensures { result ≡ are_valid_particles limit particles.now }
 {
-    particles.len() <= 65_536 && all_particles(limit, particles)
+    particles.len() <= MOST_PARTICLES && all_particles(limit, particles)
 }
 
 #[tactic(auto, using(crate::proofs::ValidLemmas::at_rest_test))]
@@ -186,7 +187,7 @@ fn is_next_key(limit: i64, low: u32, key: &Key) -> bool
     requires high { unsigned_abs limit ≤ 2 ^ 29 }
     ensures { result ≡ is_next_key limit low key.now }
 {
-    low <= key.step && key.step <= 1_000_000 && within(key.place, limit)
+    low <= key.step && key.step <= LAST_STEP && within(key.place, limit)
 }
 
 /// Whether all keys are in their ranges, and their steps increase.
@@ -252,6 +253,6 @@ pub fn are_valid_numbers(parts: &Parts) -> bool
 {
     parts.passes <= 64
         && is_between(0, 1024, parts.damping)
-        && is_between(0, 1_048_576, parts.thickness)
+        && is_between(0, MOST_THICKNESS, parts.thickness)
         && is_between(0, 256, parts.friction)
 }

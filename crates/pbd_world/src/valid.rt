@@ -3,6 +3,7 @@ ghost use Rattle.std.specs.Prelude.{◌≡◌, ◌≤◌, ◌^◌, pos, ◌≤�
 ghost use Rattle.pbd_world.specs.Valid.{are_valid_links, are_valid_tracks, is_well_formed, is_valid};
 
 use crate::joined::{are_apart, name_apart};
+use crate::limits::{MOST_LINKS, MOST_TRACKS};
 use crate::parts::{Link, Parts, Track};
 use crate::single::{
     all_links, all_tracks, are_held_at_rest, are_live, are_tracked_held, are_valid_numbers,
@@ -22,7 +23,7 @@ fn are_valid_links(
     requires high { unsigned_abs limit ≤ 2 ^ 29 }
     ensures { IfOk result (λ valid. valid ≡ are_valid_links limit count links.now) }
 {
-    if links.len() > 524_288 || !all_links(limit, count, links) {
+    if links.len() > MOST_LINKS || !all_links(limit, count, links) {
         return Ok(false);
     }
     are_apart(alloc, count, links)
@@ -39,7 +40,7 @@ fn are_valid_tracks(
     requires high { unsigned_abs limit ≤ 2 ^ 29 }
     ensures { IfOk result (λ valid. valid ≡ are_valid_tracks limit count tracks.now) }
 {
-    if tracks.len() > 4_096 || !all_tracks(limit, count, tracks) {
+    if tracks.len() > MOST_TRACKS || !all_tracks(limit, count, tracks) {
         return Ok(false);
     }
     name_apart(alloc, count, tracks)
