@@ -10,7 +10,7 @@ use crate::fault::{KeyName, Place, SceneFault, SceneRule, TableName};
 use crate::raw::LinkEntry;
 use crate::values::expect;
 use pbd_num::distance;
-use pbd_world::{Kind, Link, List, Particle};
+use pbd_world::{Kind, Link, List, MOST_LINKS, Particle};
 use std::alloc::{AllocError, Global};
 
 /// A number that names one of `count` particles.
@@ -123,7 +123,7 @@ fn joined_link(
     };
     let count = particles.len() as u32;
     expect(
-        links.len() < 524_288,
+        links.len() < MOST_LINKS,
         SceneRule::TooMany,
         place,
         KeyName::NoKey,

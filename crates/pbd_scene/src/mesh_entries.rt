@@ -16,6 +16,7 @@ use crate::limit::Limit;
 use crate::values::{count_or, expect, integer_or, known, required_count};
 use crate::vectors::required_vector;
 use pbd_mesh::{ClothSpec, RopeSpec};
+use pbd_world::MOST_PARTICLES;
 use toml::Value;
 
 // ---- cloths
@@ -43,7 +44,12 @@ fn room_for(place: Place, n: u32) -> Result<(), SceneFault>
     ensures value { Gives (λ x. x) result (room_for place n) }
     ensures room { IfOk result (λ _. n ≤ 65536) }
 {
-    expect(n <= 65_536, SceneRule::TooMany, place, KeyName::NoKey)
+    expect(
+        n as usize <= MOST_PARTICLES,
+        SceneRule::TooMany,
+        place,
+        KeyName::NoKey,
+    )
 }
 
 #[tactic(auto, unfolding(crate::specs::Entries::fitting_cloth))]

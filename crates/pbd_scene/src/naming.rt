@@ -40,16 +40,6 @@ pub fn pinned_particles(alloc: Global, count: u32, pins: &[i64]) -> Result<List<
 
 // ---- tracks
 
-fn copied(alloc: Global, keys: &[Key]) -> Result<List<Key>, AllocError>
-    ensures { IfOk result (λ copy. copy ≡ keys.now) }
-{
-    let mut copy = List::new(alloc);
-    for key in keys.iter() {
-        copy.push(*key)?;
-    }
-    Ok(copy)
-}
-
 fn no_flags(alloc: Global, count: usize) -> Result<Vec<bool>, AllocError>
     ensures { IfOk result (λ flags. flags.items ≡ replicate count false) }
 {
@@ -81,7 +71,7 @@ fn placed_track(
         place,
         KeyName::Particle,
     )?;
-    let keys = copied(alloc, entry.keys.as_slice())?;
+    let keys = List::copied(alloc, entry.keys.as_slice())?;
     Ok(Track { particle, keys })
 }
 

@@ -17,7 +17,7 @@ use crate::raw::{LinkEntry, Settings, TrackEntry};
 use crate::table_lists::tables_of;
 use crate::values::{count_or, expect, integer_or, known};
 use crate::vectors::vector_or_zero;
-use pbd_world::{List, Parts, PartsFault, Scene};
+use pbd_world::{List, MOST_PARTICLES, MOST_THICKNESS, Parts, PartsFault, Scene};
 use std::alloc::Global;
 use toml::Table;
 
@@ -32,7 +32,7 @@ fn pins_of(alloc: Global, members: &Table) -> Result<List<i64>, SceneFault>
 {
     let pins = integers_of(alloc, AT_SCENE, KeyName::Pins, members)?;
     expect(
-        pins.len() <= 65_536,
+        pins.len() <= MOST_PARTICLES,
         SceneRule::TooMany,
         AT_SCENE,
         KeyName::Pins,
@@ -50,7 +50,7 @@ fn settings_of(alloc: Global, limit: i64, members: &Table) -> Result<Settings, S
     let gravity = vector_or_zero(AT_SCENE, KeyName::Gravity, limit, members)?;
     let passes = count_or(AT_SCENE, KeyName::Passes, 0, 64, 1, members)?;
     let damping = integer_or(AT_SCENE, KeyName::Damping, 0, 1024, 0, members)?;
-    let thickness = integer_or(AT_SCENE, KeyName::Thickness, 0, 1_048_576, 0, members)?;
+    let thickness = integer_or(AT_SCENE, KeyName::Thickness, 0, MOST_THICKNESS, 0, members)?;
     let friction = integer_or(AT_SCENE, KeyName::Friction, 0, 256, 0, members)?;
     let pins = pins_of(alloc, members)?;
     Ok(Settings {

@@ -15,7 +15,7 @@ use crate::raw::{LinkEntry, Tables, TrackEntry};
 use crate::shapes::{Planes, Spheres};
 use crate::track_entries::Tracks;
 use pbd_mesh::{ClothSpec, RopeSpec};
-use pbd_world::{List, Particle, Plane, Sphere};
+use pbd_world::{List, MOST_LINKS, MOST_PARTICLES, MOST_TRACKS, Particle, Plane, Sphere};
 use std::alloc::Global;
 use toml::Table;
 
@@ -30,7 +30,7 @@ fn particles_of(alloc: Global, limit: i64, members: &Table) -> Result<List<Parti
     read_table(
         alloc,
         TableName::Particle,
-        65_536,
+        MOST_PARTICLES,
         &Particles { limit },
         members,
     )
@@ -84,7 +84,13 @@ fn links_of(alloc: Global, limit: i64, members: &Table) -> Result<List<LinkEntry
     ensures value { Gives (λ xs. xs) result (links_of limit (table_view members.now)) }
 {
     let limit = Limit { units: limit };
-    read_table(alloc, TableName::Link, 524_288, &Links { limit }, members)
+    read_table(
+        alloc,
+        TableName::Link,
+        MOST_LINKS,
+        &Links { limit },
+        members,
+    )
 }
 
 #[tactic(auto, unfolding(crate::specs::Scene::planes_of))]
@@ -114,7 +120,7 @@ fn tracks_of(alloc: Global, limit: i64, members: &Table) -> Result<List<TrackEnt
     read_table(
         alloc,
         TableName::Track,
-        4096,
+        MOST_TRACKS,
         &Tracks { limit, alloc },
         members,
     )

@@ -15,7 +15,7 @@ use crate::limit::Limit;
 use crate::raw::{Row, TrackEntry};
 use crate::values::{broken, expect, known, required_any_integer};
 use crate::vectors::is_inside;
-use pbd_world::{Key, List};
+use pbd_world::{Key, LAST_STEP, List};
 use std::alloc::Global;
 use toml::Value;
 
@@ -52,7 +52,7 @@ struct Keys {
 fn step_number(place: Place, n: i64) -> Result<u32, SceneFault>
     ensures { Gives (λ n. n) result (step_number place n) }
 {
-    if 0 <= n && n <= 1_000_000 {
+    if 0 <= n && n <= i64::from(LAST_STEP) {
         Ok(n as u32)
     } else {
         broken(SceneRule::OutOfRange, place, KeyName::Keys)

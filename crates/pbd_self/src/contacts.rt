@@ -10,13 +10,10 @@ use pbd_colour::Colouring;
 use pbd_grid::Grid;
 use pbd_num::Vec3;
 use pbd_store::{Steps, Store};
-use pbd_world::{Full, RoomList};
+use pbd_world::{Full, MOST_CONTACTS, RoomList};
 use std::alloc::{AllocError, Global};
 use std::marker::Model;
 use std::sync::ledger::Ledger;
-
-/// How many contacts there may be.
-const ROOM: u32 = 262_144;
 
 // Colours pairs anew, all of them live.
 fn colour(colouring: &mut Colouring, pairs: &[(u32, u32)])
@@ -56,8 +53,8 @@ impl SelfContacts {
         ensures { IfOk result (λ c. c ≡ record { particles = particles; pairs = [] }) }
     {
         let grid = Grid::open(alloc, particles)?;
-        let pairs = RoomList::open(alloc, ROOM)?;
-        let colouring = Colouring::open(alloc, particles, ROOM)?;
+        let pairs = RoomList::open(alloc, MOST_CONTACTS)?;
+        let colouring = Colouring::open(alloc, particles, MOST_CONTACTS)?;
         let places = RoomList::open(alloc, particles)?;
         let held = RoomList::open(alloc, particles)?;
         Ok(SelfContacts {

@@ -14,20 +14,10 @@ use pbd_store::Store;
 use pbd_world::{List, Parts, RoomList, Totals, Track};
 use std::alloc::{AllocError, Global};
 
-fn copied<T: Copy + Drop>(alloc: Global, items: &[T]) -> Result<List<T>, AllocError>
-    ensures { IfOk result (λ list. list ≡ items.now) }
-{
-    let mut list = List::new(alloc);
-    for item in items {
-        list.push(*item)?;
-    }
-    Ok(list)
-}
-
 fn copied_track(alloc: Global, track: &Track) -> Result<Track, AllocError>
     ensures { IfOk result (λ t. t ≡ track.now) }
 {
-    let keys = copied(alloc, track.keys.as_slice())?;
+    let keys = List::copied(alloc, track.keys.as_slice())?;
     Ok(Track {
         particle: track.particle,
         keys,
@@ -52,8 +42,8 @@ pub(crate) fn open_setting(alloc: Global, parts: &Parts) -> Result<Setting, Allo
 {
     let opening = momentum_of(parts.particles.as_slice());
     let tracks = copied_tracks(alloc, parts.tracks.as_slice())?;
-    let planes = copied(alloc, parts.planes.as_slice())?;
-    let spheres = copied(alloc, parts.spheres.as_slice())?;
+    let planes = List::copied(alloc, parts.planes.as_slice())?;
+    let spheres = List::copied(alloc, parts.spheres.as_slice())?;
     Ok(Setting {
         tracks,
         planes,

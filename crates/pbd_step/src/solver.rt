@@ -16,7 +16,7 @@ use pbd_ledger::momentum;
 use pbd_num::Vec3;
 use pbd_pair::Projector;
 use pbd_store::Steps;
-use pbd_world::{Particle, Refusal, Scene, Totals};
+use pbd_world::{LAST_STEP, MOST_STEPS, Particle, Refusal, Scene, Totals};
 use std::alloc::{AllocError, Global};
 use std::marker::Model;
 use std::sync::ledger::Ledger;
@@ -77,10 +77,10 @@ impl<const L: usize, P: Projector<L> + Drop> Solver<L, P> {
         ensures one_scene { AreOfOneScene self.old.world self.new.world }
     {
         let count = self.run.state.steps;
-        if n < 1 || 100_000 < n {
+        if n < 1 || MOST_STEPS < n {
             return Err(Refusal::BadCount);
         }
-        if 1_000_000 < count + n {
+        if u64::from(LAST_STEP) < count + n {
             return Err(Refusal::StepLimit);
         }
         run_whole(&self.setting, &mut self.run, &mut self.kept, n, steps)

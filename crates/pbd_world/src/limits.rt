@@ -9,7 +9,7 @@ pub const MOST_LINKS: usize = 524_288;
 /// Tracks of a scene.
 pub const MOST_TRACKS: usize = 4096;
 
-/// The last step of a world, and of a key.
+/// The last step of a world, and of a key of a track.
 pub const LAST_STEP: u32 = 1_000_000;
 
 /// Steps of one command.
