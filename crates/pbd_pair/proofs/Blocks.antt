@@ -1,6 +1,6 @@
 -- A block of bonds whose corrections lie in lanes.
 use Rattle.std.proofs.Common.{◌≡◌, ℕ, zero, suc, ◌+◌, ◌-◌, ◌/◌, ◌<◌, ◌≤◌, ℤ, List, [], ◌∷◌, length, get_or, take, drop, Bool, true, false, IsTrue, cond, not, nat_lt, refl, ap, sym, ◌∙◌, arith, subst, inl, inr, min}
-use Rattle.std.proofs.lemmas.Bool.{cases_lt, lt-ltb, le-ltb, ltb-true, ltb-false, false≢true}
+use Rattle.std.proofs.lemmas.Bool.{cases_lt, lt-ltb, le-ltb, ltb-true, ltb-false}
 use Rattle.std.proofs.lemmas.List.{get_or-take, get_or-drop, length-take, length-drop}
 use Rattle.std.proofs.lemmas.Nat.{le-div}
 use Rattle.std.proofs.Math.Nat.{add-div_right, div-eq_of_lt}
@@ -12,7 +12,7 @@ use Rattle.pbd_world.specs.Ledger.{Ledger, Entry, booked}
 use Rattle.pbd_world.specs.Particles.{particle_at}
 use Rattle.pbd_world.specs.Bonds.{correction_of, is_slack, shift_of}
 use Rattle.pbd_lanes.specs.Lane.{is_set}
-use Rattle.pbd_store.specs.Gathering.{index_at, NamesApart}
+use Rattle.pbd_store.specs.Gathering.{index_at}
 use Rattle.pbd_store.specs.Blocks.{blocks_of}
 use Rattle.pbd_pair.specs.declared.bonds.Bonds.{Bonds}
 use Rattle.pbd_pair.specs.Bonds.{bond_of, bond_count, IsBond}
@@ -86,15 +86,13 @@ weigh_same ps qs e h = record {
 -- ---- a block in lanes
 
 -- lane k of a block of l lanes is named by its bond
-pub record IsNamed (l : ℕ) (block : List ℕ) (B : ℕ → Bond) (is js : List ℕ) (set moving leaving : List Bool) : Type 0 where
+pub record IsNamed (l : ℕ) (block : List ℕ) (B : ℕ → Bond) (is js : List ℕ) (set : List Bool) : Type 0 where
   pub short : length block ≤ l
   pub a : (k : ℕ) → k < length block → index_at is k ≡ (B k).a
   pub b : (k : ℕ) → k < length block → index_at js k ≡ (B k).b
   pub filled : (k : ℕ) → k < l → is_set set k ≡ nat_lt k (length block)
-  pub not_moving : (k : ℕ) → k < l → is_set set k ≡ false → is_set moving k ≡ false
-  pub not_leaving : (k : ℕ) → k < l → is_set set k ≡ false → is_set leaving k ≡ false
 
-module _ {l : ℕ} {block : List ℕ} {B : ℕ → Bond} {a b : List ℕ} {filled moving leaving : List Bool} (h : IsNamed l block B a b filled moving leaving) where
+module _ {l : ℕ} {block : List ℕ} {B : ℕ → Bond} {a b : List ℕ} {filled : List Bool} (h : IsNamed l block B a b filled) where
   pub filled_below : (k : ℕ) → k < l → IsTrue (is_set filled k) → k < length block
   filled_below k p t = ltb-true k (length block) (sym (h.filled k p) ∙ t)
 
@@ -104,34 +102,15 @@ module _ {l : ℕ} {block : List ℕ} {B : ℕ → Bond} {a b : List ℕ} {fille
   pub empty_at : (k : ℕ) → length block ≤ k → k < l → is_set filled k ≡ false
   empty_at k q p = h.filled k p ∙ le-ltb k (length block) q
 
-  pub still_at : (k : ℕ) → length block ≤ k → k < l → is_set moving k ≡ false
-  still_at k q p = h.not_moving k p (empty_at k q p)
+  pub le_of_unset : (k : ℕ) → k < l → is_set filled k ≡ false → length block ≤ k
+  le_of_unset k p t = ltb-false k (length block) (sym (h.filled k p) ∙ t)
 
-  pub moving_below : (k : ℕ) → k < l → IsTrue (is_set moving k) → k < length block
-  moving_below k p t = elim (cases_lt k (length block)) [ inl q ↦ q | inr q ↦ absurd (false≢true (sym (still_at k q p) ∙ t)) ]
-
-  pub leaving_below : (k : ℕ) → k < l → is_set leaving k ≡ true → k < length block
-  leaving_below k p t = elim (cases_lt k (length block)) [ inl q ↦ q | inr q ↦ absurd (false≢true (sym (h.not_leaving k p (empty_at k q p)) ∙ t)) ]
-
-  -- what the gathers and the scatters ask
+  -- what the gathers ask
   pub firsts_within : (size : ℕ) → ((k : ℕ) → k < length block → (B k).a < size) → (k : ℕ) → k < l → k < length block → index_at a k < size
   firsts_within size f k p q = omega (arith, h.a k q, f k q)
 
   pub seconds_within : (size : ℕ) → ((k : ℕ) → k < length block → (B k).b < size) → (k : ℕ) → k < l → k < length block → index_at b k < size
   seconds_within size f k p q = omega (arith, h.b k q, f k q)
-
-  pub firsts_apart : ((i k : ℕ) → i < k → k < length block → ShareNone (B i) (B k)) → NamesApart l a moving
-  firsts_apart f i k p q s t e =
-      let n = moving_below k q t in
-      (f i k p n).aa (sym (h.a i (omega arith)) ∙ e ∙ h.a k n)
-
-  pub seconds_apart : ((i k : ℕ) → i < k → k < length block → ShareNone (B i) (B k)) → NamesApart l b moving
-  seconds_apart f i k p q s t e =
-      let n = moving_below k q t in
-      (f i k p n).bb (sym (h.b i (omega arith)) ∙ e ∙ h.b k n)
-
-  pub le_of_unset : (k : ℕ) → k < l → is_set filled k ≡ false → length block ≤ k
-  le_of_unset k p t = ltb-false k (length block) (sym (h.filled k p) ∙ t)
 
 pub not_not : (b : Bool) → not (not b) ≡ b
 not_not true = refl

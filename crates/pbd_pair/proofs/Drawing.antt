@@ -31,7 +31,7 @@ one_zero zero m e = inl refl
 one_zero (suc n) zero e = inr refl
 one_zero (suc n) (suc m) e = absurd (false≢true (e ∙ (λ i. lt-ltb 0 (suc n) (omega arith) i && lt-ltb 0 (suc m) (omega arith) i)))
 
--- both moves, where the mask is set exactly where the ends are apart and one is free
+-- both moves, where the mask is set exactly where the length is not 0 and one end is free
 pub moves_are : (a b d s first second turned : Vec3) (rest k wa wb len total : ℤ) (set : Bool) → d ≡ minus a b → len ≡ pos (length_of d) → total ≡ wa +ℤ wb → pos 0 ≤ℤ wa → pos 0 ≤ℤ wb → set ≡ (int_lt (pos 0) len && int_lt (pos 0) total) → s ≡ cond set (corrections d rest) zero_vector → first ≡ cond set (shares s k wa (unsigned_abs total)) zero_vector → second ≡ cond set (shares s k wb (unsigned_abs total)) zero_vector → turned ≡ opposite first → ◌≡◌ {A = Vec3 × Vec3} (turned, second) (pair_moves a b rest k wa wb)
 moves_are a b d s first second turned rest k wa wb len total set hd hl ht la lb es hs h1 h2 h3 = by_case set told hs h1 h2 where
   sum : total ≡ pos (unsigned_abs wa + unsigned_abs wb)

@@ -68,7 +68,7 @@ bond_is limit n b h =
     record {
       first = ltb-true b.a n (left (nat_lt b.a n) (nat_lt b.b n && (not (b.a == b.b) && is_drawn limit b)) h);
       second = ltb-true b.b n (left (nat_lt b.b n) (not (b.a == b.b) && is_drawn limit b) h1);
-      apart = differ b.a b.b (left (not (b.a == b.b)) (is_drawn limit b) h2);
+      different = differ b.a b.b (left (not (b.a == b.b)) (is_drawn limit b) h2);
       drawn = drawn limit b (right (not (b.a == b.b)) (is_drawn limit b) h2);
     }
 

@@ -7,7 +7,7 @@ use Rattle.pbd_num.specs.declared.Vec3.{Vec3}
 use Rattle.pbd_num.specs.Rounding.{rdiv}
 use Rattle.pbd_num.specs.Vectors.{Within, zero_vector, is_axis_within, length_of}
 use Rattle.pbd_num.specs.PairMove.{along, share_of}
-use Rattle.pbd_num.proofs.Sizes.{size-mul, size_at_most, pos_size}
+use Rattle.pbd_num.proofs.Sizes.{size-mul, size_at_most, positive_size, positive_above}
 use Rattle.pbd_num.proofs.Lengths.{along_size, share_size, length_below, axes_le_length, error_size}
 
 -- ---- what a mask leaves out
@@ -33,12 +33,6 @@ pub square_size : (n : ℕ) → n ≤ 2 ^ 30 → n * n ≤ 2 ^ 60
 square_size n h = omega (arith, mul-le-mul h h)
 
 -- ---- a part of an error, and a share of it
-
-pub positive_size : (n : ℤ) → pos 0 <ℤ n → n ≡ pos (unsigned_abs n)
-positive_size n h = pos_size n (omega (arith, ints))
-
-pub positive_above : (n : ℤ) → pos 0 <ℤ n → 0 < unsigned_abs n
-positive_above n h = let e = positive_size n h in omega (arith, ints)
 
 pub part_product : {n : ℤ} (e d : ℤ) → n ≡ e *ℤ d → unsigned_abs e ≤ 2 ^ 31 → unsigned_abs d ≤ 2 ^ 30 → unsigned_abs n ≤ 2 ^ 61
 part_product e d is he hd = size_at (2 ^ 61) is (omega (arith, size-mul e d (2 ^ 31) (2 ^ 30) he hd))

@@ -12,3 +12,4 @@ pub mod Blocks
 pub mod LaneSteps
 pub mod Drawing
 pub mod Examples
+pub mod LaidBlocks

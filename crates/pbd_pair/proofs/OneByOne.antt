@@ -2,7 +2,7 @@
 use Rattle.std.proofs.Common.{◌≡◌, ℕ, suc, ◌+◌, ◌<◌, ℤ, List, length, get_or, ◌∷◌, ◌++◌, [], drop, take, drop-cons, add-one, refl, ap, sym, ◌∙◌, Result, Ok, Err}
 use Rattle.std.proofs.lemmas.List.{take-append-drop}
 use Rattle.pbd_world.specs.declared.bond.Bond.{Bond}
-use Rattle.pbd_world.specs.Outcomes.{◌>>=◌}
+use Rattle.pbd_world.specs.Outcomes.{◌>>=◌, in_turn}
 use Rattle.pbd_world.specs.Particles.{Motion}
 use Rattle.pbd_world.specs.Bonds.{corrected, correction_at, one, projected}
 
@@ -25,15 +25,16 @@ one_is limit bond n b m r el eb h = (λ i. corrected n (sym eb i) (correction_at
 
 -- ---- a batch in two parts
 
-joined : (limit : ℤ) (bond : ℕ → Bond) (xs ys : List ℕ) (m : Motion) → projected limit bond (xs ++ ys) m ≡ (projected limit bond xs m >>= projected limit bond ys)
-joined limit bond [] ys m = refl
-joined limit bond (n ∷ xs) ys m = after (λ k. joined limit bond xs ys k) (one limit bond n m) where
-  after : ((k : Motion) → projected limit bond (xs ++ ys) k ≡ (projected limit bond xs k >>= projected limit bond ys)) → (r : Result Motion ℕ) → (r >>= projected limit bond (xs ++ ys)) ≡ ((r >>= projected limit bond xs) >>= projected limit bond ys)
-  after h (Ok k) = h k
+-- one list of items after another
+pub in_turn-append : {A S E : Type 0} (f : A → S → Result S E) (xs ys : List A) (s : S) → in_turn f (xs ++ ys) s ≡ (in_turn f xs s >>= in_turn f ys)
+in_turn-append f [] ys s = refl
+in_turn-append {A} {S} {E} f (x ∷ xs) ys s = after (λ t. in_turn-append f xs ys t) (f x s) where
+  after : ((t : S) → in_turn f (xs ++ ys) t ≡ (in_turn f xs t >>= in_turn f ys)) → (r : Result S E) → (r >>= in_turn f (xs ++ ys)) ≡ ((r >>= in_turn f xs) >>= in_turn f ys)
+  after h (Ok t) = h t
   after h (Err e) = refl
 
 parted : (limit : ℤ) (bond : ℕ → Bond) (k : ℕ) (xs : List ℕ) (m : Motion) → projected limit bond xs m ≡ (projected limit bond (take k xs) m >>= projected limit bond (drop k xs))
-parted limit bond k xs m = sym (ap (λ (b : List ℕ). projected limit bond b m) (take-append-drop k xs)) ∙ joined limit bond (take k xs) (drop k xs) m
+parted limit bond k xs m = sym (ap (λ (b : List ℕ). projected limit bond b m) (take-append-drop k xs)) ∙ in_turn-append (one limit bond) (take k xs) (drop k xs) m
 
 pub block_done : (limit : ℤ) (bond : ℕ → Bond) (k : ℕ) (xs : List ℕ) (m m' : Motion) → projected limit bond (take k xs) m ≡ Ok m' → projected limit bond (drop k xs) m' ≡ projected limit bond xs m
 block_done limit bond k xs m m' e = sym (parted limit bond k xs m ∙ ap (λ (r : Result Motion ℕ). r >>= projected limit bond (drop k xs)) e)

@@ -66,7 +66,7 @@ module _ (limit : ℤ) (B : ℕ → Bond) (n l : ℕ) (ps qs mid new : List Part
   -- the ends of two of the bonds differ
   cross : (i k : ℕ) → i < n → k < n → (B i).b ≡ (B k).a → ⊥
   cross i k h p e = elim (cases_eq i k) [
-    | inl q ↦ (bonds k p).apart (sym (ap (λ m. (B m).b) (sym q) ∙ e))
+    | inl q ↦ (bonds k p).different (sym (ap (λ m. (B m).b) (sym q) ∙ e))
     | inr m ↦ elim (cases_lt i k) [ inl r ↦ (apart i k r p).ba e | inr r ↦ (apart k i (omega (arith, m)) h).ab (sym e) ]
   ]
 

@@ -78,12 +78,12 @@ module _ (limit : ℤ) (B : ℕ → Bond) (n : ℕ) (ps : List Particle) (bonds 
         firsts = λ k p. elim (split_below k j p) [
           | inl q ↦ placed_by_other qs (B j) c (B k).a (λ e. (apart k j q h).aa (sym e)) (λ e. (apart k j q h).ab (sym e)) ∙ t.firsts k q
           | inr e ↦ subst (λ (m : ℕ). particle_at (placed_by qs (B j) c) (B m).a ≡ first_by (correction_at limit ps (B m)) (particle_at ps (B m).a)) (sym e)
-              (placed_by_first qs (B j) c (omega (arith, b.first, t.whole)) b.apart ∙ ap (first_by c) (first_same j qs h t))
+              (placed_by_first qs (B j) c (omega (arith, b.first, t.whole)) b.different ∙ ap (first_by c) (first_same j qs h t))
         ];
         seconds = λ k p. elim (split_below k j p) [
           | inl q ↦ placed_by_other qs (B j) c (B k).b (λ e. (apart k j q h).ba (sym e)) (λ e. (apart k j q h).bb (sym e)) ∙ t.seconds k q
           | inr e ↦ subst (λ (m : ℕ). particle_at (placed_by qs (B j) c) (B m).b ≡ second_by (correction_at limit ps (B m)) (particle_at ps (B m).b)) (sym e)
-              (placed_by_second qs (B j) c (omega (arith, b.second, t.whole)) b.apart ∙ ap (second_by c) (second_same j qs h t))
+              (placed_by_second qs (B j) c (omega (arith, b.second, t.whole)) b.different ∙ ap (second_by c) (second_same j qs h t))
         ];
         others = λ i f. placed_by_other qs (B j) c i (f j (omega arith)).0 (f j (omega arith)).1 ∙ t.others i (λ k p. f k (omega arith));
       }

@@ -37,7 +37,7 @@ pub record IsDrawn (limit : ℤ) (b : Bond) : Type 0 where
 pub record IsBond (limit : ℤ) (n : ℕ) (b : Bond) : Type 0 where
   pub first : b.a < n
   pub second : b.b < n
-  pub apart : b.a ≢ b.b
+  pub different : b.a ≢ b.b
   pub drawn : IsDrawn limit b
 
 -- an end within the limit, of a weight in 0..=65,535

@@ -1,16 +1,21 @@
 -- Bonds side by side, lane by lane.
-use Rattle.std.specs.Prelude.{◌≡◌, ℕ, zero, suc, Bool, true, false, if◌then◌else◌, List}
+use Rattle.std.specs.Prelude.{◌≡◌, ℕ, zero, suc, ◌<◌, ◌≤◌, ℤ, Bool, true, false, not, if◌then◌else◌, List, length, slice_index_or}
 use Rattle.pbd_lanes.specs.Lane.{lane, is_set}
 use Rattle.pbd_num.specs.declared.Vec3.{Vec3}
+use Rattle.pbd_world.specs.declared.parts.Particle.{Particle}
 use Rattle.pbd_world.specs.declared.bond.Bond.{Bond}
 use Rattle.pbd_world.specs.declared.bond.End.{End}
 use Rattle.pbd_world.specs.declared.bond.Shift.{Shift}
 use Rattle.pbd_world.specs.declared.bond.Correction.{Correction}
 use Rattle.pbd_world.specs.declared.bond.Correction.TheVariants.{Slack, Leaves, Moves}
 use Rattle.pbd_world.specs.Ledger.{Ledger, Entry, booked}
+use Rattle.pbd_world.specs.Particles.{particle_at}
+use Rattle.pbd_world.specs.Bonds.{correction_at}
 use Rattle.pbd_store.specs.Blocks.{place_of}
+use Rattle.pbd_store.specs.Gathering.{index_at}
 use Rattle.pbd_store.specs.declared.lanes3.Ends.{Ends}
 use Rattle.pbd_store.specs.declared.lanes3.Lanes3.{Lanes3}
+use Rattle.pbd_pair.specs.Bonds.{IsSoundShift}
 use Rattle.pbd_pair.specs.declared.laid.BondTargets.{BondTargets}
 use Rattle.pbd_pair.specs.declared.laid.BlockMoves.{BlockMoves}
 
@@ -45,3 +50,15 @@ Lays (Moves s) moving leaving t = (moving ≡ true) × ((leaving ≡ false) × (
 abbrev pub settled : (ℕ → Bool) → (ℕ → List Entry) → ℕ → Ledger → Ledger
 settled moving entries zero t = t
 settled moving entries (suc n) t = if moving n then booked (settled moving entries n t) (entries n) else settled moving entries n t
+
+-- a block of bonds in l lanes: lane k names the ends of bond k and holds its correction, and a lane without a bond does nothing
+pub record IsLaid {l : ℕ} (limit : ℤ) (ps : List Particle) (bond : ℕ → Bond) (block : List ℕ) (firsts seconds : List ℕ) (moves : BlockMoves l) : Type 0 where
+  pub first : (k : ℕ) → k < length block → index_at firsts k ≡ (bond (slice_index_or block k 0)).a
+  pub second : (k : ℕ) → k < length block → index_at seconds k ≡ (bond (slice_index_or block k 0)).b
+  pub lays : (k : ℕ) → k < length block → Lays (correction_at limit ps (bond (slice_index_or block k 0))) (is_set moves.moving k) (is_set moves.leaving k) (shift_in moves k)
+  pub sound : (k : ℕ) → k < l → is_set moves.moving k ≡ true → IsSoundShift limit (shift_in moves k)
+  pub first_held : (k : ℕ) → k < length block → not (is_set moves.first_free k) ≡ (particle_at ps (bond (slice_index_or block k 0)).a).held
+  pub second_held : (k : ℕ) → k < length block → not (is_set moves.second_free k) ≡ (particle_at ps (bond (slice_index_or block k 0)).b).held
+  pub not_moving : (k : ℕ) → length block ≤ k → k < l → is_set moves.moving k ≡ false
+  pub not_leaving : (k : ℕ) → length block ≤ k → k < l → is_set moves.leaving k ≡ false
+  pub lanes : length moves.leaving ≡ l

@@ -8,7 +8,7 @@ ghost use Rattle.pbd_lanes.specs.Lane.{lane, is_set};
 ghost use Rattle.pbd_pair.specs.Bonds.{bond_of, bond_count};
 ghost use Rattle.pbd_store.specs.Moving.{motion_of, fixed_parts, AreInside, Weigh};
 ghost use Rattle.pbd_pair.specs.Projecting.{IsBatch};
-ghost use Rattle.pbd_pair.specs.Lanes.{shift_in, settled};
+ghost use Rattle.pbd_pair.specs.Lanes.{shift_in, settled, IsLaid};
 
 use crate::bonds::Bonds;
 use crate::book::book;
@@ -112,6 +112,38 @@ fn book_block<const L: usize>(
     }
 }
 
+/// A block of bonds, laid in lanes: the two ends of each, and what it does with them.
+#[derive(Drop)]
+struct LaidBlock<const L: usize> {
+    a: [u32; L],
+    b: [u32; L],
+    moves: BlockMoves<L>,
+}
+
+// Lays a block of at most L bonds: two gathers, and the corrections.
+fn lay_bonds<const L: usize, G: Ledger>(
+    store: &Store<L>,
+    bonds: &Bonds<'_>,
+    block: &[u32],
+    steps: &mut Steps<G>,
+) -> LaidBlock<L>
+    requires lanes { L ≤ 16 }
+    requires short { length block.now ≤ L }
+    requires block { IsBatch store.now.limit (length store.now.particles) bonds.now block.now }
+    requires inside { AreInside store.now.limit store.now.particles }
+    requires weights { Weigh store.now.particles }
+    ensures laid { IsLaid store.now.limit store.now.particles (bond_of bonds.now) block.now result.a result.b result.moves }
+    ensures cost { steps.new ≡ steps.old + 2 }
+{
+    let named: BlockBonds<L> = name_block(bonds, block);
+    let moves = lay_block(store, &named, steps);
+    LaidBlock {
+        a: named.a,
+        b: named.b,
+        moves,
+    }
+}
+
 /// Projects a block of at most L bonds: two gathers, the corrections, and two scatters. A bond that would leave
 /// the limit is found before the scatters.
 pub(crate) fn project_block<const L: usize, G: Ledger>(
@@ -136,13 +168,12 @@ pub(crate) fn project_block<const L: usize, G: Ledger>(
     ensures room { (n : ℕ) → HaveRoom n (ledger_of totals.old) → HaveRoom (n + length block.now * 2 ^ 32) (ledger_of totals.new) }
     ensures cost { steps.new ≤ steps.old + 4 }
 {
-    let named: BlockBonds<L> = name_block(bonds, block);
-    let laid = lay_block(store, &named, steps);
-    if let Some(j) = laid.leaving.first() {
+    let laid = lay_bonds(store, bonds, block, steps);
+    if let Some(j) = laid.moves.leaving.first() {
         return Err(Left { element: block[j] });
     }
-    book_block(totals, bonds, block, &laid);
-    store.scatter(&named.a, &laid.moving, &laid.first, steps);
-    store.scatter(&named.b, &laid.moving, &laid.second, steps);
+    book_block(totals, bonds, block, &laid.moves);
+    store.scatter(&laid.a, &laid.moves.moving, &laid.moves.first, steps);
+    store.scatter(&laid.b, &laid.moves.moving, &laid.moves.second, steps);
     Ok(())
 }

@@ -17,26 +17,6 @@ pub(crate) fn limit_of<const L: usize>(store: &Store<L>) -> i64
     store.limit()
 }
 
-fn sum(a: i64, b: i64) -> i64
-    requires a { unsigned_abs a ≤ 2 ^ 31 }
-    requires b { unsigned_abs b ≤ 2 ^ 31 }
-    ensures { result ≡ a +ℤ b }
-{
-    a + b
-}
-
-fn moved(a: Vec3, by: Vec3) -> Vec3
-    requires a { Within (2 ^ 29) a }
-    requires by { Within (2 ^ 31) by }
-    ensures { result ≡ plus a by }
-{
-    Vec3 {
-        x: sum(a.x, by.x),
-        y: sum(a.y, by.y),
-        z: sum(a.z, by.z),
-    }
-}
-
 fn weight_of(p: Particle) -> i64
     ensures value { result ≡ pos (effective_weight p) }
     ensures low { pos 0 ≤ℤ result }
@@ -84,8 +64,8 @@ fn shifted(p: End, q: End, bond: Bond) -> Shift
 {
     let (first_move, second_move) = pair_move(p.at, q.at, bond.rest, bond.k, p.weight, q.weight);
     Shift {
-        first: moved(p.at, first_move),
-        second: moved(q.at, second_move),
+        first: p.at.plus(first_move),
+        second: q.at.plus(second_move),
         first_move,
         second_move,
     }

@@ -66,7 +66,7 @@ fn drawing<const L: usize>(len: &Lanes<L>, drawn: &BondTargets<L>) -> Mask<L>
     len.less(&enough)
 }
 
-/// The moves of the ends of L bonds, which lie `d` apart, `len` long: none where that is 0 or both weights are.
+/// The moves of the ends of L bonds, whose difference is `d`, `len` long: none where that is 0 or both weights are.
 fn draw<const L: usize>(
     p: &Ends<L>,
     q: &Ends<L>,
@@ -86,10 +86,10 @@ fn draw<const L: usize>(
     ensures second_size { (j : ℕ) → j < L → Within (2 ^ 31) (place_in result.second j) }
 {
     let total = sums(&p.weight, &q.weight);
-    let apart = above_zero(len).and(&above_zero(&total));
-    let s = errors(d, len, &drawn.rest, &apart);
-    let first = shares(&s, &drawn.k, &p.weight, &total, &apart);
-    let second = shares(&s, &drawn.k, &q.weight, &total, &apart);
+    let can_move = above_zero(len).and(&above_zero(&total));
+    let s = errors(d, len, &drawn.rest, &can_move);
+    let first = shares(&s, &drawn.k, &p.weight, &total, &can_move);
+    let second = shares(&s, &drawn.k, &q.weight, &total, &can_move);
     let first = turned(&first);
     Moves { first, second }
 }

@@ -109,7 +109,7 @@ pub(crate) fn errors<const L: usize>(
     requires lanes { L ≤ 16 }
     requires d { (j : ℕ) → j < L → Within (2 ^ 30) (place_in d.now j) }
     requires len { (j : ℕ) → j < L → lane len.now j ≡ pos (length_of (place_in d.now j)) }
-    requires apart { (j : ℕ) → j < L → IsTrue (is_set mask.now j) → pos 0 <ℤ lane len.now j }
+    requires some { (j : ℕ) → j < L → IsTrue (is_set mask.now j) → pos 0 <ℤ lane len.now j }
     requires rest_low { (j : ℕ) → j < L → pos 0 ≤ℤ lane rest.now j }
     requires rest_high { (j : ℕ) → j < L → lane rest.now j ≤ℤ pos (2 ^ 31) }
     ensures value { (j : ℕ) → j < L → place_in result j ≡ (if is_set mask.now j then corrections (place_in d.now j) (lane rest.now j) else zero_vector) }

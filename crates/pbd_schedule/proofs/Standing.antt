@@ -213,7 +213,7 @@ module _ (limit : ℤ) (B : ℕ → Bond) (m : ℕ) (ps : List Particle) (t : Le
     }) where
       cross : (k : ℕ) → k < m → (B k).b ≢ (B p).a
       cross k q e = elim (cases_eq k p) [
-        | inl r ↦ (bonds p h).apart (sym (ap (λ (j : ℕ). (B j).b) (sym r) ∙ e))
+        | inl r ↦ (bonds p h).different (sym (ap (λ (j : ℕ). (B j).b) (sym r) ∙ e))
         | inr d ↦ (differ k p d q h).ba e
       ]
 
@@ -235,7 +235,7 @@ module _ (limit : ℤ) (B : ℕ → Bond) (m : ℕ) (ps : List Particle) (t : Le
     }) where
       cross : (k : ℕ) → k < m → (B k).a ≢ (B p).b
       cross k q e = elim (cases_eq k p) [
-        | inl r ↦ (bonds p h).apart (ap (λ (j : ℕ). (B j).a) (sym r) ∙ e)
+        | inl r ↦ (bonds p h).different (ap (λ (j : ℕ). (B j).a) (sym r) ∙ e)
         | inr d ↦ (differ k p d q h).ab e
       ]
 

@@ -31,7 +31,7 @@ parts_of_axis-x-requires g c = (
           (
             λ j p. (in_length (place_in c.args.d.now j) (c.requires.len j p)).x,
             (
-              c.requires.apart,
+              c.requires.some,
               λ j p. omega (arith, length_short (place_in c.args.d.now j) (c.requires.len j p) (c.requires.d j p)),
             ),
           ),
@@ -55,7 +55,7 @@ parts_of_axis-y-requires g c = (
           (
             λ j p. (in_length (place_in c.args.d.now j) (c.requires.len j p)).y,
             (
-              c.requires.apart,
+              c.requires.some,
               λ j p. omega (arith, length_short (place_in c.args.d.now j) (c.requires.len j p) (c.requires.d j p)),
             ),
           ),
@@ -79,7 +79,7 @@ parts_of_axis-z-requires g c = (
           (
             λ j p. (in_length (place_in c.args.d.now j) (c.requires.len j p)).z,
             (
-              c.requires.apart,
+              c.requires.some,
               λ j p. omega (arith, length_short (place_in c.args.d.now j) (c.requires.len j p) (c.requires.d j p)),
             ),
           ),
