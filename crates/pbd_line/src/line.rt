@@ -32,10 +32,16 @@ impl Line {
 
     /// Its bytes.
     pub fn as_slice(&self) -> &[u8]
-        ensures bytes { result.now ≡ self.now }
-        ensures fits { length self.now ≤ 256 }
+        ensures { result.now ≡ self.now }
     {
         self.bytes.as_slice()
+    }
+
+    /// How many more bytes fit.
+    pub fn room(&self) -> usize
+        ensures { result + length self.now ≡ 256 }
+    {
+        self.bytes.remaining_capacity()
     }
 
     /// Appends a text.
