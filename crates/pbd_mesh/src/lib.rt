@@ -10,5 +10,6 @@ mod spec;
 
 pub use cloths::cloth;
 pub use laws::{cloths_are_meshes, ropes_are_meshes};
+pub use place::resting;
 pub use ropes::rope;
 pub use spec::{ClothSpec, RopeSpec};

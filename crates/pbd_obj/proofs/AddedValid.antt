@@ -28,7 +28,7 @@ use Rattle.pbd_world.proofs.TwiceLemmas.{range_all}
 use Rattle.pbd_obj.specs.declared.mesh.ObjMesh.{ObjMesh}
 use Rattle.pbd_obj.specs.declared.mesh.ObjFault.TheVariants.{TooMany}
 use Rattle.pbd_obj.specs.Meshes.{IsMesh}
-use Rattle.pbd_obj.specs.MeshLinks.{each_once, first_overfull, kind_links, place_at, mesh_links, overfull_end, particles, resting, unless_overfull, with_all, with_mesh}
+use Rattle.pbd_obj.specs.MeshLinks.{each_once, first_overfull, kind_links, place_at, mesh_links, overfull_end, particles, at_rest, unless_overfull, with_all, with_mesh}
 use Rattle.pbd_obj.specs.Nets.{FitsNet}
 use Rattle.pbd_obj.proofs.AddLemmas.{links_push, Made, mesh_fits, mesh_links_made}
 
@@ -267,17 +267,17 @@ links_valid mesh base n old new fits size valid made once none few =
 
 -- ---- particles and tracks
 
-resting_valid : (place : Vec3) → IsTrue (is_within (pos 536870912) place) → is_valid_particle (pos 536870912) (resting place) ≡ true
-resting_valid place t = rw t refl
+at_rest_valid : (place : Vec3) → IsTrue (is_within (pos 536870912) place) → is_valid_particle (pos 536870912) (at_rest place) ≡ true
+at_rest_valid place t = rw t refl
 
 particles_valid : (mesh : ObjMesh) → IsMesh mesh → list_all (is_valid_particle (pos 536870912)) (particles mesh) ≡ true
 particles_valid mesh is = each mesh.places (recursion_from_All {X = Vec3} (λ place. IsTrue (is_within (pos 536870912) place)) mesh.places is.inside)
   where
-    each : (ps : List Vec3) → AllByRecursion (λ place. IsTrue (is_within (pos 536870912) place)) ps → list_all (is_valid_particle (pos 536870912)) (map {A = Vec3} {B = Particle} resting ps) ≡ true
+    each : (ps : List Vec3) → AllByRecursion (λ place. IsTrue (is_within (pos 536870912) place)) ps → list_all (is_valid_particle (pos 536870912)) (map {A = Vec3} {B = Particle} at_rest ps) ≡ true
     each [] all = refl
-    each (p ∷ ps) all = and_from (is_valid_particle (pos 536870912) (resting p)) (list_all (is_valid_particle (pos 536870912)) (map {A = Vec3} {B = Particle} resting ps)) (resting_valid p all.0) (each ps all.1)
+    each (p ∷ ps) all = and_from (is_valid_particle (pos 536870912) (at_rest p)) (list_all (is_valid_particle (pos 536870912)) (map {A = Vec3} {B = Particle} at_rest ps)) (at_rest_valid p all.0) (each ps all.1)
 
-free_rest : (ps : List Vec3) → list_all (λ p. not p.held || is_at_rest p) (map {A = Vec3} {B = Particle} resting ps) ≡ true
+free_rest : (ps : List Vec3) → list_all (λ p. not p.held || is_at_rest p) (map {A = Vec3} {B = Particle} at_rest ps) ≡ true
 free_rest [] = refl
 free_rest (p ∷ ps) = free_rest ps
 
@@ -316,7 +316,7 @@ all_valid mesh parts is valid limit few few_links none =
     let new = mesh_links mesh base in
     let fits = mesh_fits mesh base is few in
     let made = mesh_links_made mesh base is in
-    let size : length (parts.particles ++ particles mesh) ≡ base + length mesh.places = length-append parts.particles (particles mesh) ∙ ap (λ k. base + k) (length-map mesh.places resting) in
+    let size : length (parts.particles ++ particles mesh) ≡ base + length mesh.places = length-append parts.particles (particles mesh) ∙ ap (λ k. base + k) (length-map mesh.places at_rest) in
     let grows : base ≤ length (parts.particles ++ particles mesh) = omega (arith, size) in
     let ps = and_parts (nat_le (length parts.particles) 65536) (list_all (is_valid_particle parts.limit) parts.particles) f.particles in
     let new_particles : list_all (is_valid_particle parts.limit) (particles mesh) ≡ true = subst (λ (z : ℤ). list_all (is_valid_particle z) (particles mesh) ≡ true) (sym limit) (particles_valid mesh is) in

@@ -1,5 +1,5 @@
 -- What digits write, and numbers times powers of ten.
-use Rattle.std.proofs.Common.{◌≡◌, ◌∙◌, sym, ap, refl, ℕ, zero, suc, ◌+◌, ◌-◌, ◌*◌, ◌/◌, ◌^◌, ◌<◌, ◌≤◌, min, Bool, true, false, ◌&&◌, List, [], ◌∷◌, ◌++◌, length, take, get_or, Option, Some, None, nat_le, nat_lt, arith, lit<, inl, inr, length-append, ℤ, pos, negsuc, neg_ℤ, unsigned_abs, ◌<ℤ◌, ◌≤ℤ◌}
+use Rattle.std.proofs.Common.{◌≡◌, ◌∙◌, sym, ap, refl, ℕ, zero, suc, ◌+◌, ◌-◌, ◌*◌, ◌/◌, ◌^◌, ◌<◌, ◌≤◌, min, Bool, true, false, ◌&&◌, List, [], ◌∷◌, ◌++◌, length, Option, Some, None, nat_le, nat_lt, arith, lit<, inl, inr, length-append, ℤ, pos, negsuc, neg_ℤ, unsigned_abs, ◌<ℤ◌, ◌≤ℤ◌}
 use Rattle.std.specs.Prelude.{position, unwrap_or, IfSome, IsTrue, cond}
 use Rattle.std.specs.List.{list_all, position_or_len}
 use Rattle.std.specs.Option.{option_map}
@@ -12,7 +12,6 @@ use Rattle.std.specs.Prelude.{◌-ℤ◌}
 use Rattle.std.proofs.lemmas.List.Sums.{prefix_len-le-length}
 use Rattle.pbd_num.specs.Rounding.{rdiv}
 use Rattle.pbd_script.specs.Lines.{value, is_digit, is_count, count}
-use Rattle.pbd_script.proofs.NumberLemmas.{next_value}
 use Rattle.pbd_obj.specs.declared.decimal.Decimal.{Decimal}
 use Rattle.pbd_obj.specs.Decimals.{signed, scaled, decimal, units, units_of, with_digits, are_few_digits}
 use Rattle.pbd_obj.specs.Sizes.{capped, capped_size, lowered, scaled_size}
@@ -60,32 +59,6 @@ count_case true word most is le =
 
 pub count_below : (word : List ℕ) (most : ℕ) (r : Option ℕ) → r ≡ count word → length word ≤ most → IfSome r (λ n. n < 10 ^ most)
 count_below word most r is le = rw is (count_case (is_count word) word most refl le)
-
--- ---- digits behind others
-
--- so far, and one digit more
-pub continued_value : (start : ℕ) (ds : List ℕ) (i n d : ℕ) → i < length ds → n ≡ start * 10 ^ i + value (take i ds) → d ≡ get_or ds i 0 - 48 → n * 10 + d ≡ start * 10 ^ (i + 1) + value (take (i + 1) ds)
-continued_value start ds i n d lt so_far digit =
-    let next : value (take i ds) * 10 + d ≡ value (take (i + 1) ds) = next_value ds i (value (take i ds)) d lt refl digit in
-    let more : start * 10 ^ (i + 1) ≡ start * 10 ^ i * 10 = rw (ten_more i) (omega arith) in
-    omega (arith, so_far, next, more)
-
-pub continued_size : (start i n d : ℕ) → n + 1 ≤ (start + 1) * 10 ^ i → d ≤ 9 → n * 10 + d + 1 ≤ (start + 1) * 10 ^ (i + 1)
-continued_size start i n d so_far small =
-    let more : (start + 1) * 10 ^ (i + 1) ≡ (start + 1) * 10 ^ i * 10 = rw (ten_more i) (omega arith) in
-    omega (arith, so_far, small, more)
-
-pub continued_fits : (start i n len : ℕ) → n + 1 ≤ (start + 1) * 10 ^ i → i < len → (start + 1) * 10 ^ len ≤ 10 ^ 24 → n * 10 + 10 ≤ 10 ^ 24
-continued_fits start i n len so_far lt fits =
-    let more : (start + 1) * 10 ^ (i + 1) ≡ (start + 1) * 10 ^ i * 10 = rw (ten_more i) (omega arith) in
-    let wider : 10 ^ (i + 1) ≤ 10 ^ len = pow-le-pow_right {n = 10} (lit< tt) (omega (arith, lt)) in
-    let all : (start + 1) * 10 ^ (i + 1) ≤ (start + 1) * 10 ^ len = mul-le (start + 1) (10 ^ (i + 1)) (start + 1) (10 ^ len) (omega arith) wider in
-    omega (arith, so_far, more, all, fits)
-
-pub digit_at : (ds : List ℕ) (i : ℕ) → IsTrue (list_all is_digit ds) → i < length ds → get_or ds i 0 - 48 ≤ 9
-digit_at [] i all lt = absurd (omega arith)
-digit_at (d ∷ ds) zero all lt = digit_small d (and_parts (is_digit d) (list_all is_digit ds) all).0
-digit_at (d ∷ ds) (suc i) all lt = digit_at ds i (and_parts (is_digit d) (list_all is_digit ds) all).1 (omega (arith, lt))
 
 -- two rows of digits as one
 pub value-append : (xs ys : List ℕ) → value (xs ++ ys) ≡ value xs * 10 ^ length ys + value ys
@@ -179,23 +152,18 @@ few_length whole fraction few =
     le_from : (n : ℕ) → nat_le n 24 ≡ true → n ≤ 24
     le_from n t = grind (arith, nat_tests)
 
-pub whole_fits : (whole fraction : ℕ) → whole + fraction ≤ 24 → 1 * 10 ^ whole ≤ 10 ^ 24
-whole_fits whole fraction few = omega (arith, ten_le whole 24 (omega (arith, few)))
-
-pub fraction_fits : (whole fraction n : ℕ) → whole + fraction ≤ 24 → n + 1 ≤ 1 * 10 ^ whole → (n + 1) * 10 ^ fraction ≤ 10 ^ 24
-fraction_fits whole fraction n few fits =
+-- the digits behind the point on those before it
+pub joined_below : (whole fraction n m power : ℕ) → whole + fraction ≤ 24 → n < 10 ^ whole → m < 10 ^ fraction → power ≡ 10 ^ fraction → n * power + m < 10 ^ 24
+joined_below whole fraction n m power few first second is =
     let both : 10 ^ (whole + fraction) ≡ 10 ^ whole * 10 ^ fraction = pow-add 10 whole fraction in
-    let product : (n + 1) * 10 ^ fraction ≤ 10 ^ whole * 10 ^ fraction = mul-le (n + 1) (10 ^ fraction) (10 ^ whole) (10 ^ fraction) (omega (arith, fits)) (omega arith) in
-    omega (arith, both, product, ten_le (whole + fraction) 24 few)
+    let product : (n + 1) * 10 ^ fraction ≤ 10 ^ whole * 10 ^ fraction = mul-le (n + 1) (10 ^ fraction) (10 ^ whole) (10 ^ fraction) (omega (arith, first)) (omega arith) in
+    rw is (omega (arith, both, product, second, ten_le (whole + fraction) 24 few))
 
-pub digits_below : (whole fraction n m : ℕ) → whole + fraction ≤ 24 → n + 1 ≤ 1 * 10 ^ whole → m + 1 ≤ (n + 1) * 10 ^ fraction → m < 10 ^ 24
-digits_below whole fraction n m few fits all = omega (arith, all, fraction_fits whole fraction n few fits)
+pub value_is : (whole fraction : List ℕ) (n m power : ℕ) → n ≡ value whole → m ≡ value fraction → power ≡ 10 ^ length fraction → n * power + m ≡ value (whole ++ fraction)
+value_is whole fraction n m power first second is = rw (first, second, is) (sym (value-append whole fraction))
 
-pub digits_are : (minus : Bool) (whole fraction : List ℕ) (n m : ℕ) (e power : ℤ) → IsTrue (are_few_digits (whole ++ fraction)) → n ≡ 0 * 10 ^ length whole + value whole → m ≡ n * 10 ^ length fraction + value fraction → power ≡ e -ℤ pos (length fraction) → ◌≡◌ {A = Option Decimal} (Some (record { minus = minus; digits = m; power = power })) (with_digits minus whole fraction (Some e))
-digits_are minus whole fraction n m e power few first second at =
-    let front : n ≡ value whole = omega (arith, first) in
-    let all : m ≡ value (whole ++ fraction) = second ∙ (ap (λ k. k * 10 ^ length fraction + value fraction) front ∙ sym (value-append whole fraction)) in
-    rw (few, all, at) refl
+pub digits_are : (minus : Bool) (whole fraction : List ℕ) (n : ℕ) (e power : ℤ) → IsTrue (are_few_digits (whole ++ fraction)) → n ≡ value (whole ++ fraction) → power ≡ e -ℤ pos (length fraction) → ◌≡◌ {A = Option Decimal} (Some (record { minus = minus; digits = n; power = power })) (with_digits minus whole fraction (Some e))
+digits_are minus whole fraction n e power few all at = rw (few, all, at) refl
 
 pub units_none : (word : List ℕ) → decimal word ≡ None → option_map capped (units_of word) ≡ None
 unfolding units_of

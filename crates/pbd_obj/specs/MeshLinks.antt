@@ -1,5 +1,5 @@
 -- The particles and links of a mesh.
-use Rattle.std.specs.Prelude.{ℕ, ◌+◌, ◌-◌, ◌%◌, ◌==◌, nat_lt, ◌||◌, true, false, pos, if◌then◌else◌, List, [], ◌∷◌, ◌++◌, length, map, slice_index, slice_index_or, Option, Some, None, Result, Ok, Err}
+use Rattle.std.specs.Prelude.{ℕ, ◌+◌, ◌-◌, ◌%◌, ◌==◌, nat_lt, ◌||◌, true, pos, if◌then◌else◌, List, [], ◌∷◌, ◌++◌, length, map, slice_index, slice_index_or, Option, Some, None, Result, Ok, Err}
 use Rattle.std.specs.List.{flat_map, list_any, range_with_len}
 use Rattle.std.specs.Option.{option_or}
 use Rattle.pbd_num.specs.declared.Vec3.{Vec3}
@@ -10,6 +10,7 @@ use Rattle.pbd_world.specs.declared.parts.Kind.{Kind}
 use Rattle.pbd_world.specs.declared.parts.Kind.TheVariants.{Stretch, Shear, Bend, Plain}
 use Rattle.pbd_world.specs.declared.parts.Parts.{Parts}
 use Rattle.pbd_world.specs.Valid.{join_alike, links_at}
+use Rattle.pbd_mesh.specs.Cloth.{resting}
 use Rattle.pbd_obj.specs.declared.mesh.ObjMesh.{ObjMesh}
 use Rattle.pbd_obj.specs.declared.mesh.ObjFault.{ObjFault}
 use Rattle.pbd_obj.specs.declared.mesh.ObjFault.TheVariants.{TooMany, TooManyAtParticle}
@@ -85,15 +86,15 @@ first_overfull before (l ∷ ls) = option_or (overfull_end before l) (first_over
 -- ---- a scene and a mesh
 
 -- a free particle of weight 1 at rest
-abbrev pub resting : Vec3 → Particle
-resting place = record { at = place; before = place; weight = 1; held = false }
+abbrev pub at_rest : Vec3 → Particle
+at_rest place = resting place 1
 
 -- parts with particles and links after their own
 abbrev pub with_all : List Particle → List Link → Parts → Parts
 with_all particles links parts = record parts { particles = parts.particles ++ particles; links = parts.links ++ links }
 
 abbrev pub particles : ObjMesh → List Particle
-particles mesh = map {A = Vec3} {B = Particle} resting mesh.places
+particles mesh = map {A = Vec3} {B = Particle} at_rest mesh.places
 
 -- parts with a mesh after their own, unless it makes too many particles or links, or too many at a vertex, counted from 1
 abbrev pub unless_overfull : ℕ → Option ℕ → Parts → Result Parts ObjFault

@@ -6,7 +6,8 @@ ghost use Rattle.pbd_script.specs.Lines.{is_digit, value};
 ghost use Rattle.pbd_obj.specs.Decimals.{are_few_digits, decimal, exponent, is_mark, is_point, signed, split_decimal, units_of, with_digits};
 ghost use Rattle.pbd_obj.specs.Sizes.{HasFewDigits, capped, capped_size, lowered, scaled_size};
 
-use crate::words::{are_digits, is_minus, short_count, without_sign};
+use crate::words::{is_minus, short_count, without_sign};
+use pbd_script::lines::{are_digits, value_of};
 
 /// The most digits of a number.
 const MOST_DIGITS: usize = 24;
@@ -74,18 +75,15 @@ fn exponent(word: &[u8]) -> Option<i64>
     }
 }
 
-/// The number that the digits behind those of `start` make with them.
-fn continued(start: u128, digits: &[u8]) -> u128
-    requires digits { IsTrue (list_all is_digit digits.now) }
-    requires size { (start + 1) * 10 ^ length digits.now ≤ 10 ^ 24 }
-    ensures value { result ≡ start * 10 ^ length digits.now + value digits.now }
-    ensures size { result + 1 ≤ (start + 1) * 10 ^ length digits.now }
+/// The number that the digits before and behind a point make together.
+fn joined_value(whole: &[u8], fraction: &[u8]) -> u128
+    requires whole { IsTrue (list_all is_digit whole.now) }
+    requires fraction { IsTrue (list_all is_digit fraction.now) }
+    requires few { length whole.now + length fraction.now ≤ 24 }
+    ensures value { result ≡ value (whole.now ++ fraction.now) }
+    ensures size { result < 10 ^ 24 }
 {
-    let mut n = start;
-    for digit in digits {
-        n = n * 10 + u128::from(*digit - b'0');
-    }
-    n
+    value_of(whole) * 10u128.pow(fraction.len() as u32) + value_of(fraction)
 }
 
 fn are_few_digits(whole: &[u8], fraction: &[u8]) -> bool
@@ -107,7 +105,7 @@ fn with_digits(minus: bool, whole: &[u8], fraction: &[u8], exponent: i64) -> Opt
     }
     Some(Decimal {
         minus,
-        digits: continued(continued(0, whole), fraction),
+        digits: joined_value(whole, fraction),
         power: exponent - fraction.len() as i64,
     })
 }

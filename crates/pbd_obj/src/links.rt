@@ -5,11 +5,12 @@ ghost use Rattle.pbd_world.specs.declared.parts.Particle.{Particle};
 ghost use Rattle.pbd_world.specs.declared.parts.Link.{Link};
 ghost use Rattle.pbd_world.specs.Valid.{is_valid};
 ghost use Rattle.pbd_obj.specs.Meshes.{IsMesh};
-ghost use Rattle.pbd_obj.specs.MeshLinks.{face_links, first_overfull, kind_links, link, mesh_links, particles, resting, with_all, with_mesh};
+ghost use Rattle.pbd_obj.specs.MeshLinks.{face_links, first_overfull, kind_links, link, mesh_links, particles, at_rest, with_all, with_mesh};
 ghost use Rattle.pbd_obj.specs.Reading.{IsFaultOf};
 ghost use Rattle.pbd_obj.specs.Nets.{counted_end, ordered, Adds, AreFew, CountsLink, FitsNet, HoldsJoined, IsFrom, IsFullAt, IsLinkFrom, IsStopped, Names, WithFront};
 
 use crate::{ObjFault, ObjMesh};
+use pbd_mesh::resting;
 use pbd_num::{Vec3, distance};
 use pbd_world::{Kind, Link, List, Particle, Parts};
 use std::alloc::{AllocError, Global};
@@ -230,24 +231,13 @@ fn first_overfull(
 
 // ---- a scene and a mesh
 
-fn resting(place: Vec3) -> Particle
-    ensures { result ≡ resting place }
-{
-    Particle {
-        at: place,
-        before: place,
-        weight: 1,
-        held: false,
-    }
-}
-
 #[tactic(auto, using(crate::proofs::AddLemmas::pushed_begin, crate::proofs::AddLemmas::pushed_next, crate::proofs::AddLemmas::pushed_all, crate::proofs::AddLemmas::front_of))]
 fn push_particles(places: &[Vec3], particles: &mut List<Particle>) -> Result<(), AllocError>
-    ensures ok { OnOk result (particles.new ≡ particles.old ++ map {A = Vec3} {B = Particle} resting places.now) }
+    ensures ok { OnOk result (particles.new ≡ particles.old ++ map {A = Vec3} {B = Particle} at_rest places.now) }
     ensures err { OnErr result (take (length particles.old) particles.new ≡ particles.old) }
 {
     for place in places {
-        particles.push(resting(*place))?;
+        particles.push(resting(*place, 1))?;
     }
     Ok(())
 }

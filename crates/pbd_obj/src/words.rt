@@ -1,7 +1,5 @@
 //! Words that are counts, and signs before them.
 ghost use Rattle.std.specs.Prelude.{◌≡◌, ◌<◌, ◌≤◌, ◌^◌, IfSome, length};
-ghost use Rattle.std.specs.List.{list_all};
-ghost use Rattle.pbd_script.specs.Lines.{is_digit};
 ghost use Rattle.pbd_obj.specs.Decimals.{is_minus, without_sign, short_count};
 ghost use Rattle.pbd_obj.specs.Reading.{without_minus};
 
@@ -47,10 +45,4 @@ pub fn short_count(most: usize, word: &[u8]) -> Option<u64>
     } else {
         None
     }
-}
-
-pub fn are_digits(word: &[u8]) -> bool
-    ensures { result ≡ list_all is_digit word.now }
-{
-    word.iter().all(|b| 48 <= *b && *b <= 57)
 }

@@ -14,6 +14,10 @@ use Rattle.pbd_script.specs.Lines.{value, is_digit, count, number}
 pub of_digits : (n i : ℕ) → n < 10 ^ i → i ≤ 18 → n < 1000000000000000000
 of_digits n i bound le = let p = pow-le-pow_right {n = 10} (lit< tt) le in omega (arith, bound, p)
 
+-- one of at most 37
+pub of_most_digits : (n i : ℕ) → n < 10 ^ i → i ≤ 37 → n < 10000000000000000000000000000000000000
+of_most_digits n i bound le = let p = pow-le-pow_right {n = 10} (lit< tt) le in omega (arith, bound, p)
+
 -- one more digit is ten times the number, and the digit
 pub value-push : (ds : List ℕ) (d : ℕ) → value (ds ++ d ∷ []) ≡ value ds * 10 + (d - 48)
 value-push [] d = omega arith

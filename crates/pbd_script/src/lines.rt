@@ -1,8 +1,8 @@
 //! Lines, words and numbers of a text in bytes. Nothing here takes memory.
-ghost use Rattle.std.specs.Prelude.{◌≡◌, ◌≢◌, ◌<◌, ◌^◌, [], ◌∷◌, ◌++◌, ◌==◌, not, IfSome, position, MatchOption, All, unsigned_abs};
+ghost use Rattle.std.specs.Prelude.{◌≡◌, ◌≢◌, ◌<◌, ◌≤◌, ◌^◌, IsTrue, length, [], ◌∷◌, ◌++◌, ◌==◌, not, IfSome, position, MatchOption, All, unsigned_abs};
 ghost use Rattle.std.specs.List.{list_all};
 ghost use Rattle.std.specs.Str.Lines.{strip_carriage_return};
-ghost use Rattle.pbd_script.specs.Lines.{pieces, is_blank, words, first_word, behind_word, is_digit, count, number, only_count};
+ghost use Rattle.pbd_script.specs.Lines.{pieces, is_blank, words, first_word, behind_word, is_digit, value, count, number, only_count};
 
 /// The most digits that a count may have.
 const MOST_DIGITS: usize = 18;
@@ -75,10 +75,25 @@ pub fn next_word(line: &[u8]) -> Option<(&[u8], &[u8])>
     }
 }
 
-fn are_digits(word: &[u8]) -> bool
+/// Whether all bytes are digits, as they are where there are none.
+pub fn are_digits(word: &[u8]) -> bool
     ensures { result ≡ list_all is_digit word.now }
 {
     word.iter().all(|b| 48 <= *b && *b <= 57)
+}
+
+/// The number that at most 38 digits write, so that it is below 2^128.
+pub fn value_of(digits: &[u8]) -> u128
+    requires digits { IsTrue (list_all is_digit digits.now) }
+    requires short { length digits.now ≤ 38 }
+    ensures value { result ≡ value digits.now }
+    ensures size { result < 10 ^ length digits.now }
+{
+    let mut n = 0;
+    for digit in digits {
+        n = n * 10 + u128::from(*digit - b'0');
+    }
+    n
 }
 
 /// The number that 1 to 18 digits write. Leading zeros are allowed. Any other word gives None.
@@ -89,11 +104,7 @@ pub fn count_of(word: &[u8]) -> Option<u64>
     if word.is_empty() || word.len() > MOST_DIGITS || !are_digits(word) {
         return None;
     }
-    let mut n: u64 = 0;
-    for digit in word {
-        n = n * 10 + u64::from(*digit - b'0');
-    }
-    Some(n)
+    Some(value_of(word) as u64)
 }
 
 /// The count that is the only word of a line, or of what follows its first word.

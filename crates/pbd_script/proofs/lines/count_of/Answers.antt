@@ -1,19 +1,6 @@
-use Rattle.std.proofs.Common.{◌∙◌, sym, arith}
-use Rattle.pbd_script.proofs.NumberLemmas.{next_bound, next_value, of_digits}
+use Rattle.std.proofs.Common.{arith, length}
+use Rattle.pbd_script.proofs.NumberLemmas.{of_digits}
 use Rattle.pbd_script.proofs.lines.count_of.Goals as goal
 
-pub overflow_mul-n : goal.overflow_mul-n
-overflow_mul-n c = let n = of_digits c.loop-digit.n c.loop-digit.digit-index c.loop-digit.invariant.bound (omega arith) in omega (arith, n)
-
-pub overflow_add-n : goal.overflow_add-n
-overflow_add-n c = let n = of_digits c.loop-digit.n c.loop-digit.digit-index c.loop-digit.invariant.bound (omega arith) in omega (arith, n, c.from.type_inv)
-
-pub loop-digit-preserved : goal.loop-digit-preserved
-loop-digit-preserved c =
-    record {
-      value = next_value c.args.word.now c.loop-digit.digit-index c.loop-digit.n c.from.result c.loop-digit-test.true c.loop-digit.invariant.value c.from.ensures;
-      bound = next_bound c.args.word.now c.loop-digit.digit-index c.loop-digit.n c.from.result c.loop-digit-test.true (sym c.are_digits.ensures ∙ c.if-not-are_digits.false) c.loop-digit.invariant.bound c.from.ensures;
-    }
-
 pub returns-clause-bound : goal.returns-clause-bound
-returns-clause-bound c = of_digits c.loop-digit.n c.loop-digit.digit-index c.loop-digit.invariant.bound (omega (arith, c.loop-digit.auto.digit-index-end, c.if-word-gt-MOST_DIGITS.false))
+returns-clause-bound c = of_digits c.value_of.result (length c.args.word.now) c.value_of.ensures.size (omega (arith, c.if-word-gt-MOST_DIGITS.false))

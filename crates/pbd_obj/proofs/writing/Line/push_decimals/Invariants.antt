@@ -1,5 +1,0 @@
-use Rattle.pbd_obj.proofs.WriteLemmas.{DecimalsSoFar}
-use Rattle.pbd_obj.proofs.writing.Line.push_decimals.Given as goal
-
-abbrev pub invariant-loop : goal.invariant-loop
-invariant-loop l = DecimalsSoFar l.n l.fn.self l.self l.rest l.counter
