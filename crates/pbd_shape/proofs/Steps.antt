@@ -1,5 +1,5 @@
 -- One lane of a block after another.
-use Rattle.std.proofs.Common.{◌≡◌, refl, sym, ap, ◌∙◌, ℕ, ◌+◌, ◌*◌, ◌^◌, ◌<◌, ◌≤◌, min, Bool, true, false, cond, not, ◌&&◌, ◌||◌, List, [], ◌∷◌, length, get_or, slice_set, arith, subst, ℤ, pos, negsuc, ◌+ℤ◌, ◌*ℤ◌, ◌≤ℤ◌, unsigned_abs, IsTrue, Option, Some, None, option_map, Err, inl, inr}
+use Rattle.std.proofs.Common.{◌≡◌, refl, sym, ap, ◌∙◌, ℕ, ◌+◌, ◌*◌, ◌^◌, ◌<◌, ◌≤◌, min, Bool, true, false, cond, not, ◌&&◌, ◌||◌, List, [], ◌∷◌, length, get_or, slice_set, arith, subst, ℤ, pos, negsuc, ◌≤ℤ◌, unsigned_abs, IsTrue, Option, Some, None, option_map, Err, inl, inr}
 use Rattle.std.proofs.lemmas.Int.{ints}
 use Rattle.std.proofs.lemmas.Bool.Decides.{nat_tests}
 use Rattle.std.proofs.lemmas.Bool.{cases_lt, lt-ltb}
@@ -15,9 +15,8 @@ use Rattle.pbd_world.specs.Ledger.{Ledger, added, booked}
 use Rattle.pbd_world.specs.Particles.{particle_at}
 use Rattle.pbd_world.specs.Shapes.{Shape, Way, way_through, shaped, shapes_of, stays, rubbed_away, slowed, rubbed}
 use Rattle.pbd_world.specs.Step.{Passing}
-use Rattle.pbd_num.specs.Rounding.{rdiv}
-use Rattle.pbd_num.proofs.RoundingLemmas.{size-rdiv}
-use Rattle.pbd_num.proofs.Sizes.{size-mul, size_at_most}
+use Rattle.pbd_num.proofs.Sizes.{size_at_most}
+use Rattle.pbd_num.proofs.VectorSizes.{plus_nothing}
 use Rattle.pbd_world.specs.Valid.{is_between}
 use Rattle.pbd_world.proofs.BetweenLemmas.{between}
 use Rattle.pbd_lanes.specs.Lane.{is_set}
@@ -140,17 +139,8 @@ part_low friction h = grind (arith, ints, nat_tests)
 pub part_high : (friction : ℤ) → IsTrue (is_between (pos 0) (pos 256) friction) → friction ≤ℤ pos 256
 part_high friction h = grind (arith, ints, nat_tests)
 
-pub lost_size : (friction axis : ℤ) → IsTrue (is_between (pos 0) (pos 256) friction) → unsigned_abs axis ≤ 2 ^ 30 → unsigned_abs (rdiv (axis *ℤ friction) (pos 256)) ≤ 2 ^ 30
-lost_size friction axis h k = size-rdiv (axis *ℤ friction) (pos 256) (2 ^ 30) (omega arith) (omega (arith, size-mul axis friction (2 ^ 30) 256 k (size_at_most friction 256 (part_low friction h) (part_high friction h))))
-
-pub product_size : (friction axis : ℤ) → IsTrue (is_between (pos 0) (pos 256) friction) → unsigned_abs axis ≤ 2 ^ 30 → unsigned_abs (axis *ℤ friction) ≤ 2 ^ 38
-product_size friction axis h k = omega (arith, size-mul axis friction (2 ^ 30) 256 k (size_at_most friction 256 (part_low friction h) (part_high friction h)))
-
-still_axis : (a : ℤ) → a +ℤ pos 0 ≡ a
-still_axis a = omega (arith, ints)
-
-plus_nothing : (v : Vec3) → plus v zero_vector ≡ v
-plus_nothing v = λ i. record { x = still_axis v.x i; y = still_axis v.y i; z = still_axis v.z i }
+pub part_size : (friction : ℤ) → IsTrue (is_between (pos 0) (pos 256) friction) → unsigned_abs friction ≤ 256
+part_size friction h = size_at_most friction 256 (part_low friction h) (part_high friction h)
 
 -- what a particle loses, or nothing
 abbrev pub loss_of : ℤ → Bool → Vec3 → Vec3 → Vec3

@@ -1,26 +1,12 @@
 // What a move by a shape or by friction leaves in the ledger and in the flags.
 ghost use Rattle.std.specs.Prelude.{◌≡◌, ℕ, ◌<◌, ◌≤◌, ◌^◌, ◌+◌, true, length, slice_set, if◌then◌else◌};
-ghost use Rattle.pbd_num.specs.Vectors.{Within, minus};
+ghost use Rattle.pbd_num.specs.Vectors.{Within};
 ghost use Rattle.pbd_world.specs.Ledger.{added, ledger_of, HaveRoom};
 ghost use Rattle.pbd_world.specs.declared.totals.Class.TheVariants as classes;
 
 use crate::touched::Touched;
 use pbd_num::Vec3;
 use pbd_world::{Class, Totals};
-
-/// The way from one place to another.
-pub(crate) fn difference(from: Vec3, to: Vec3) -> Vec3
-    requires from { Within (2 ^ 29) from }
-    requires to { Within (2 ^ 29) to }
-    ensures value { result ≡ minus to from }
-    ensures size { Within (2 ^ 30) result }
-{
-    Vec3 {
-        x: to.x - from.x,
-        y: to.y - from.y,
-        z: to.z - from.z,
-    }
-}
 
 /// Adds a move to the total of shapes, if it is made.
 pub(crate) fn book_if(totals: &mut Totals, made: bool, by: Vec3)

@@ -13,7 +13,7 @@ ghost use Rattle.pbd_shape.specs.Valid.{IsLimit};
 ghost use Rattle.pbd_shape.specs.Way.{way_of};
 ghost use Rattle.pbd_shape.specs.Shaping.{all_pushed, pushed_from};
 
-use crate::book::{book_if, difference, touch_if};
+use crate::book::{book_if, touch_if};
 use crate::touched::Touched;
 use crate::way::{Pushed, push};
 use pbd_num::Vec3;
@@ -82,7 +82,7 @@ fn push_lanes<const L: usize>(
         let Some(next) = push_if_free(limit, planes, spheres, held[j], from) else {
             return Err(Left { element: i });
         };
-        book_if(totals, !held[j], difference(from, next.at));
+        book_if(totals, !held[j], next.at.minus(from));
         touch_if(touched, i, next.touched);
         places[j] = next.at;
     }

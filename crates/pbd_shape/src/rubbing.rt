@@ -13,21 +13,12 @@ ghost use Rattle.pbd_store.specs.Blocks.{blocks_of, filled_lanes, place_of, Save
 ghost use Rattle.pbd_store.specs.Moving.{motion_of};
 ghost use Rattle.pbd_shape.specs.Rubbing.{AreWithin, settled_parts, rubbed_from};
 
-use crate::book::{book_if, difference};
+use crate::book::book_if;
 use crate::touched::Touched;
-use pbd_num::{Vec3, rdiv};
+use pbd_num::Vec3;
 use pbd_store::{Block, Lanes3, Steps, Store};
 use pbd_world::Totals;
 use std::sync::ledger::Ledger;
-
-fn axis_lost(friction: i64, axis: i64) -> i64
-    requires friction { IsTrue (is_between (pos 0) (pos 256) friction) }
-    requires axis { unsigned_abs axis ≤ 2 ^ 30 }
-    ensures value { result ≡ rounded (axis *ℤ friction) (pos 256) }
-    ensures size { unsigned_abs result ≤ 2 ^ 30 }
-{
-    rdiv(axis * friction, 256)
-}
 
 // What friction takes of a velocity, and nothing where it doesn't rub.
 fn lost_if(friction: i64, rubs: bool, velocity: Vec3) -> Vec3
@@ -39,43 +30,7 @@ fn lost_if(friction: i64, rubs: bool, velocity: Vec3) -> Vec3
     if !rubs {
         return Vec3::ZERO;
     }
-    Vec3 {
-        x: axis_lost(friction, velocity.x),
-        y: axis_lost(friction, velocity.y),
-        z: axis_lost(friction, velocity.z),
-    }
-}
-
-fn turned(v: Vec3) -> Vec3
-    requires { Within (2 ^ 30) v }
-    ensures value { result ≡ opposite v }
-    ensures size { Within (2 ^ 31) result }
-{
-    Vec3 {
-        x: -v.x,
-        y: -v.y,
-        z: -v.z,
-    }
-}
-
-fn sum(a: i64, b: i64) -> i64
-    requires a { unsigned_abs a ≤ 2 ^ 29 }
-    requires b { unsigned_abs b ≤ 2 ^ 30 }
-    ensures { result ≡ a +ℤ b }
-{
-    a + b
-}
-
-fn moved(a: Vec3, by: Vec3) -> Vec3
-    requires a { Within (2 ^ 29) a }
-    requires by { Within (2 ^ 30) by }
-    ensures { result ≡ plus a by }
-{
-    Vec3 {
-        x: sum(a.x, by.x),
-        y: sum(a.y, by.y),
-        z: sum(a.z, by.z),
-    }
+    velocity.scaled(friction, 256)
 }
 
 // Whether friction rubs particle i: it is free, and a shape touched it.
@@ -122,9 +77,9 @@ fn rub_lanes<const L: usize>(
     for j in 0..span.count {
         let before = lanes.before.place(j);
         let rubs = is_rubbed(held[j], touched, span.first + j as u32);
-        let loss = lost_if(friction, rubs, difference(before, lanes.at.place(j)));
-        book_if(totals, rubs, turned(loss));
-        places[j] = moved(before, loss);
+        let loss = lost_if(friction, rubs, lanes.at.place(j).minus(before));
+        book_if(totals, rubs, loss.opposite());
+        places[j] = before.plus(loss);
     }
     places
 }

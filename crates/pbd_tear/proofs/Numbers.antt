@@ -1,28 +1,25 @@
 -- Torn numbers one by one, and valid links.
-use Rattle.std.proofs.Common.{◌≡◌, refl, sym, ap, ◌∙◌, ℕ, zero, suc, ◌+◌, ◌-◌, ◌*◌, ◌<◌, ◌≤◌, ◌^◌, ◌==◌, nat_lt, not, ◌&&◌, ◌||◌, Bool, true, false, cond, List, [], ◌∷◌, ◌++◌, length, filter, get_or, arith, ℤ, pos, ◌≤ℤ◌, ◌-ℤ◌, ◌*ℤ◌, int_lt, unsigned_abs, IsTrue, inl, inr, append_assoc}
+use Rattle.std.proofs.Common.{◌≡◌, refl, sym, ap, ◌∙◌, ℕ, zero, suc, ◌+◌, ◌-◌, ◌*◌, ◌<◌, ◌≤◌, ◌^◌, ◌==◌, nat_lt, not, ◌&&◌, Bool, true, false, cond, List, [], ◌∷◌, ◌++◌, length, filter, get_or, arith, ℤ, pos, ◌≤ℤ◌, ◌*ℤ◌, int_lt, unsigned_abs, IsTrue, inl, inr, append_assoc}
 use Rattle.std.specs.List.{list_any, range_with_len, AllByRecursion}
 use Rattle.std.specs.List.Sorted.{IsStrictlyIncreasing}
 use Rattle.std.proofs.lemmas.List.Kept.{IsStrictlyIncreasing-filter}
 use Rattle.std.proofs.lemmas.List.FromFn.{length-range_with_len, get_or-range_with_len}
 use Rattle.pbd_world.proofs.KeepingOn.{all-at}
-use Rattle.std.specs.Ordering.{int_eq}
 use Rattle.std.proofs.lemmas.Int.{ints}
 use Rattle.std.proofs.lemmas.Bool.{and_parts, leb-true, ltb-true, cases_eq, eq-eqb, ne_eqb}
-use Rattle.std.proofs.lemmas.Bool.Decides.{nat_tests, Decides-int_eq}
+use Rattle.std.proofs.lemmas.Bool.Decides.{nat_tests}
 use Rattle.std.proofs.lemmas.List.{get_or-map, append-nil, length-append}
 use Rattle.std.proofs.lemmas.List.Sums.{AllPass-from_list_all}
-use Rattle.std.proofs.Math.Nat.{mul-le-mul}
 use Rattle.pbd_num.specs.Vectors.{minus, squared_length}
-use Rattle.pbd_num.proofs.Ranges.{within_facts}
-use Rattle.pbd_num.proofs.Sizes.{size-sub}
 use Rattle.pbd_world.specs.declared.parts.Particle.{Particle}
 use Rattle.pbd_world.specs.declared.parts.Link.{Link}
 use Rattle.pbd_world.specs.Room.{Roomed}
-use Rattle.pbd_world.specs.Particles.{particle_at, no_particle}
+use Rattle.pbd_world.specs.Particles.{particle_at}
 use Rattle.pbd_world.specs.Bonds.{link_at}
 use Rattle.pbd_world.specs.Step.{is_torn, tear}
-use Rattle.pbd_world.specs.Valid.{is_limit, is_between, is_valid_particle, are_valid_particles, is_valid_link, are_valid_links}
+use Rattle.pbd_world.specs.Valid.{is_limit, is_between, is_valid_link, are_valid_links}
 use Rattle.pbd_store.proofs.Limits.{limit_size}
+use Rattle.pbd_store.proofs.Listing.{any_default}
 use Rattle.pbd_tear.specs.Tearing.{IsLink, AscendTo, torn_numbers, gone_numbers}
 
 -- ---- limits and links
@@ -47,11 +44,6 @@ link_is limit n links i d h valid lt =
 
 pub few_links : (limit : ℤ) (n : ℕ) (links : List Link) → IsTrue (are_valid_links limit n links) → length links ≤ 524288
 few_links limit n links valid = leb-true (length links) 524288 (and_parts _ _ (and_parts _ _ (and_parts _ _ valid).0).0).0
-
-pub square_size : (a b : ℤ) → unsigned_abs a ≤ 2 ^ 29 → unsigned_abs b ≤ 2 ^ 29 → unsigned_abs (a -ℤ b) * unsigned_abs (a -ℤ b) ≤ 2 ^ 60
-square_size a b h k =
-    let size : unsigned_abs (a -ℤ b) ≤ 2 ^ 30 = omega (arith, size-sub a b) in
-    omega (arith, mul-le-mul size size)
 
 -- a link that may tear, by the particles at its ends
 pub torn_by : (ps : List Particle) (l : Link) (a b : Particle) → (l.live && int_lt (pos 0) l.tear) ≡ true → a ≡ particle_at ps l.a → b ≡ particle_at ps l.b → nat_lt (unsigned_abs l.tear * unsigned_abs l.tear) (squared_length (minus a.at b.at)) ≡ is_torn ps l
@@ -115,12 +107,6 @@ torn_ascend ps links = ascends (λ i. is_torn ps (link_at links i)) (length link
 pub gone_ascend : (links : List Link) → AscendTo (length links) (gone_numbers links)
 unfolding gone_numbers
 gone_ascend links = ascends (λ i. not (link_at links i).live) (length links)
-
--- an item is the same with any default
-any_default : (links : List Link) (i : ℕ) (d e : Link) → i < length links → get_or links i d ≡ get_or links i e
-any_default [] i d e lt = absurd (omega (arith, lt))
-any_default (l ∷ links) zero d e lt = refl
-any_default (l ∷ links) (suc i) d e lt = any_default links i d e (omega (arith, lt))
 
 -- the torn numbers below i
 pub record TornSoFar (ps : List Particle) (links : List Link) (i : ℕ) (so_far : List ℕ) : Type 0 where

@@ -9,7 +9,7 @@ ghost use Rattle.pbd_world.specs.Step.{is_torn};
 ghost use Rattle.pbd_store.specs.Moving.{AreInside};
 ghost use Rattle.pbd_tear.specs.Tearing.{IsLink, AscendTo, torn_numbers, gone_numbers};
 
-use pbd_num::Vec3;
+use pbd_num::{Vec3, square};
 use pbd_store::{Steps, Store};
 use pbd_world::{Link, RoomList};
 use std::sync::ledger::Ledger;
@@ -18,38 +18,14 @@ mod laws;
 
 pub use laws::{gone_links_are_dead, torn_links_go};
 
-fn square(n: i64) -> i64
-    requires { unsigned_abs n ≤ 2 ^ 31 }
-    ensures { result ≡ pos (unsigned_abs n * unsigned_abs n) }
-{
-    n * n
-}
-
-fn squared_axis(a: i64, b: i64) -> i64
-    requires a { unsigned_abs a ≤ 2 ^ 29 }
-    requires b { unsigned_abs b ≤ 2 ^ 29 }
-    ensures value { result ≡ pos (unsigned_abs (a -ℤ b) * unsigned_abs (a -ℤ b)) }
-    ensures size { unsigned_abs (a -ℤ b) * unsigned_abs (a -ℤ b) ≤ 2 ^ 60 }
-{
-    square(a - b)
-}
-
-fn squared_distance(a: Vec3, b: Vec3) -> i64
-    requires a { Within (2 ^ 29) a }
-    requires b { Within (2 ^ 29) b }
-    ensures { result ≡ pos (squared_length (minus a b)) }
-{
-    squared_axis(a.x, b.x) + squared_axis(a.y, b.y) + squared_axis(a.z, b.z)
-}
-
-/// Whether two places are farther apart than a length.
-fn are_apart(a: Vec3, b: Vec3, length: i64) -> bool
+/// Whether two places are farther from one another than a length.
+fn are_farther(a: Vec3, b: Vec3, length: i64) -> bool
     requires a { Within (2 ^ 29) a }
     requires b { Within (2 ^ 29) b }
     requires length { unsigned_abs length ≤ 2 ^ 31 }
     ensures { result ≡ nat_lt (unsigned_abs length * unsigned_abs length) (squared_length (minus a b)) }
 {
-    square(length) < squared_distance(a, b)
+    square(length) < a.minus(b).squared_length()
 }
 
 fn may_tear(link: Link) -> bool
@@ -69,7 +45,7 @@ fn is_torn<const L: usize, G: Ledger>(store: &Store<L>, link: Link, steps: &mut 
     }
     let a = store.at(link.a, steps);
     let b = store.at(link.b, steps);
-    are_apart(a.at, b.at, link.tear)
+    are_farther(a.at, b.at, link.tear)
 }
 
 fn push_if(out: &mut RoomList<u32>, number: u32, wanted: bool)

@@ -1,17 +1,12 @@
 -- Valid tracks, and how particles follow them one after another.
-use Rattle.std.proofs.Common.{◌≡◌, refl, sym, ap, ◌∙◌, subst, ℕ, zero, suc, ◌+◌, ◌-◌, ◌*◌, ◌<◌, ◌≤◌, ◌^◌, ◌==◌, nat_le, nat_lt, not, ◌||◌, Bool, true, false, cond, List, [], ◌∷◌, length, take, drop, get_or, arith, ℤ, pos, ◌≤ℤ◌, ◌-ℤ◌, ◌*ℤ◌, unsigned_abs, IsTrue, Option, Some, None, inl, inr}
+use Rattle.std.proofs.Common.{◌≡◌, refl, sym, ap, ◌∙◌, subst, ℕ, zero, suc, ◌+◌, ◌-◌, ◌<◌, ◌≤◌, ◌^◌, ◌==◌, nat_le, nat_lt, not, ◌||◌, Bool, true, false, cond, List, [], ◌∷◌, length, take, drop, get_or, arith, ℤ, IsTrue, Option, Some, None, inl, inr}
 use Rattle.std.specs.List.{list_all, list_any, All}
-use Rattle.std.specs.Ordering.{int_eq}
-use Rattle.std.proofs.lemmas.Int.{ints}
 use Rattle.std.proofs.lemmas.Bool.{and_parts, leb-true, ltb-true, cases_eq, eq-eqb, ne_eqb, false≢true}
-use Rattle.std.proofs.lemmas.Bool.Decides.{nat_tests, Decides-int_eq}
+use Rattle.std.proofs.lemmas.Bool.Decides.{nat_tests}
 use Rattle.std.proofs.lemmas.List.{at_drop_more, at_drop_all, drop_more, drop_all, take_all, length-drop, get_or-set_same, get_or-set_other, length-set}
 use Rattle.std.proofs.lemmas.List.Elements.{All-drop}
 use Rattle.pbd_num.specs.declared.Vec3.{Vec3}
 use Rattle.pbd_num.specs.Vectors.{Within, is_within}
-use Rattle.pbd_num.specs.Rounding.{rdiv}
-use Rattle.pbd_num.proofs.Sizes.{size-mul}
-use Rattle.pbd_num.proofs.RoundingLemmas.{size-rdiv}
 use Rattle.pbd_num.proofs.Ranges.{within_facts}
 use Rattle.pbd_world.specs.declared.parts.Key.{Key}
 use Rattle.pbd_world.specs.declared.parts.Track.{Track}
@@ -45,12 +40,6 @@ track_keys track h =
     keys_are h.limit track.keys h.either parts.1
 
 -- ---- places between keys
-
-pub share_size : (way : ℤ) (part whole : ℕ) → unsigned_abs way ≤ 2 ^ 30 → part < whole → unsigned_abs (way *ℤ pos part) ≤ 2 ^ 30 * whole
-share_size way part whole h lt = size-mul way (pos part) (2 ^ 30) whole (omega (arith, h)) (omega arith)
-
-pub rounded_size : (way : ℤ) (part whole : ℕ) → unsigned_abs way ≤ 2 ^ 30 → part < whole → unsigned_abs (rdiv (way *ℤ pos part) (pos whole)) ≤ 2 ^ 30
-rounded_size way part whole h lt = size-rdiv (way *ℤ pos part) (pos whole) (2 ^ 30) (omega arith) (share_size way part whole h lt)
 
 pub before_next : (from l : Key) (keys : List Key) (t : ℕ) → t < l.step → place_after from (l ∷ keys) t ≡ place_between from l t
 before_next from l keys t k =

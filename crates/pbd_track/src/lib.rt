@@ -8,32 +8,10 @@ ghost use Rattle.pbd_world.specs.World.{is_tracked};
 ghost use Rattle.pbd_world.specs.Valid.{are_valid_tracks};
 ghost use Rattle.pbd_track.specs.Tracking.{IsKey, IsTrack, Attached};
 
-use pbd_num::{Vec3, rdiv};
+use pbd_num::Vec3;
 use pbd_store::{Steps, Store};
 use pbd_world::{Key, Track};
 use std::sync::ledger::Ledger;
-
-/// The share of a way after `part` of `whole` steps, to the nearest whole number.
-fn share(way: i64, part: u32, whole: u32) -> i64
-    requires way { unsigned_abs way ≤ 2 ^ 30 }
-    requires part { part < whole }
-    requires whole { whole ≤ 1000000 }
-    ensures value { result ≡ rounded (way *ℤ pos part) (pos whole) }
-    ensures size { unsigned_abs result ≤ 2 ^ 30 }
-{
-    rdiv(way * i64::from(part), i64::from(whole))
-}
-
-/// One axis after `part` of `whole` steps from one place to another.
-fn axis_between(from: i64, to: i64, part: u32, whole: u32) -> i64
-    requires from { unsigned_abs from ≤ 2 ^ 29 }
-    requires to { unsigned_abs to ≤ 2 ^ 29 }
-    requires part { part < whole }
-    requires whole { whole ≤ 1000000 }
-    ensures { result ≡ from +ℤ rounded ((to -ℤ from) *ℤ pos part) (pos whole) }
-{
-    from + share(to - from, part, whole)
-}
 
 fn place_between(k: Key, l: Key, t: u32) -> Vec3
     requires first { IsKey k }
@@ -44,11 +22,8 @@ fn place_between(k: Key, l: Key, t: u32) -> Vec3
 {
     let part = t - k.step;
     let whole = l.step - k.step;
-    Vec3 {
-        x: axis_between(k.place.x, l.place.x, part, whole),
-        y: axis_between(k.place.y, l.place.y, part, whole),
-        z: axis_between(k.place.z, l.place.z, part, whole),
-    }
+    let way = l.place.minus(k.place);
+    k.place.plus(way.scaled(i64::from(part), i64::from(whole)))
 }
 
 fn place_after(first: Key, later: &[Key], t: u32) -> Vec3

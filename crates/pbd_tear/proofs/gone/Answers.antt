@@ -1,4 +1,4 @@
-use Rattle.std.proofs.Common.{◌≡◌, ◌∙◌, sym, ap, refl, subst, arith, ◌+◌, ◌≤◌, ℕ, List, length, not}
+use Rattle.std.proofs.Common.{◌∙◌, sym, ap, refl, subst, arith, ◌+◌, ◌≤◌, ℕ, List, length}
 use Rattle.pbd_world.specs.Room.{Roomed}
 use Rattle.pbd_tear.specs.Tearing.{AscendTo, gone_numbers}
 use Rattle.pbd_tear.proofs.Numbers.{GoneSoFar, gone_none, gone_more, gone_all, few_more, list_is, gone_ascend}

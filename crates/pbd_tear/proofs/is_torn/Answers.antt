@@ -7,14 +7,14 @@ use Rattle.pbd_tear.proofs.is_torn.Goals as goal
 pub returns-then-not-may_tear-clause-value : goal.returns-then-not-may_tear-clause-value
 returns-then-not-may_tear-clause-value g c = never_torn c.args.store.now.particles c.args.link (sym c.may_tear.ensures ∙ c.if-not-may_tear.true)
 
-pub are_apart-requires-clause-a : goal.are_apart-requires-clause-a
-are_apart-requires-clause-a g c = rw c.at-a.ensures.value (c.requires.inside.each c.args.link.a c.requires.link.a)
+pub are_farther-requires-clause-a : goal.are_farther-requires-clause-a
+are_farther-requires-clause-a g c = rw c.at-a.ensures.value (c.requires.inside.each c.args.link.a c.requires.link.a)
 
-pub are_apart-requires-clause-b : goal.are_apart-requires-clause-b
-are_apart-requires-clause-b g c = rw c.at-b.ensures.value (c.requires.inside.each c.args.link.b c.requires.link.b)
+pub are_farther-requires-clause-b : goal.are_farther-requires-clause-b
+are_farther-requires-clause-b g c = rw c.at-b.ensures.value (c.requires.inside.each c.args.link.b c.requires.link.b)
 
 pub returns-clause-value : goal.returns-clause-value
 returns-clause-value g c =
     let tear = fits c.args.link.tear (omega (arith, c.requires.link.tear)) in
-    let apart = simp to_z-of_z at c.are_apart.ensures in
-    apart ∙ torn_by c.args.store.now.particles c.args.link c.at-a.result c.at-b.result (sym c.may_tear.ensures ∙ c.if-not-may_tear.false) c.at-a.ensures.value c.at-b.ensures.value
+    let farther = simp to_z-of_z at c.are_farther.ensures in
+    farther ∙ torn_by c.args.store.now.particles c.args.link c.at-a.result c.at-b.result (sym c.may_tear.ensures ∙ c.if-not-may_tear.false) c.at-a.ensures.value c.at-b.ensures.value

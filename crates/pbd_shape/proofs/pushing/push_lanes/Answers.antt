@@ -51,18 +51,29 @@ returns-in_default-clause-room g c =
     let span = c.span-span.ensures in
     λ n h. room_at _ (omega (arith, span.first, span.count, span.within, c.loop-j-test.true)) (c.loop-j.invariant.room n h)
 
-pub difference-requires-clause-from : goal.difference-requires-clause-from
-difference-requires-clause-from g c =
+pub minus-requires-clause-first : goal.minus-requires-clause-first
+minus-requires-clause-first g c =
+    let f : FitsSigned w64 c.limit-limit.result = record { sfits = c.limit-limit.type_inv } in
+    wider _ _ (2 ^ 61) (omega (arith, c.limit-limit.ensures.high)) (simp to_z-of_z at c.in-Some.ensures.within)
+
+pub minus-requires-clause-second : goal.minus-requires-clause-second
+minus-requires-clause-second g c =
     let j = c.loop-j.j in
     let span = c.span-span.ensures in
     let lane : j < g.row.L = omega (arith, span.count, c.loop-j-test.true) in
     let lt : c.args.block * g.row.L + j < length c.args.store.now.particles = omega (arith, span.first, span.within, c.loop-j-test.true) in
-    wider _ _ (2 ^ 29) c.limit-limit.ensures.high (within_at (ap unsigned_abs c.limit-limit.ensures.value) (c.place-from.ensures ∙ c.requires.at j lane) (c.requires.inside.each _ lt))
+    wider _ _ (2 ^ 61) (omega (arith, c.limit-limit.ensures.high)) (within_at (ap unsigned_abs c.limit-limit.ensures.value) (c.place-from.ensures ∙ c.requires.at j lane) (c.requires.inside.each _ lt))
 
-pub difference-requires-clause-to : goal.difference-requires-clause-to
-difference-requires-clause-to g c =
+pub book_if-requires-clause-short : goal.book_if-requires-clause-short
+book_if-requires-clause-short g c =
     let f : FitsSigned w64 c.limit-limit.result = record { sfits = c.limit-limit.type_inv } in
-    wider _ _ (2 ^ 29) c.limit-limit.ensures.high (simp to_z-of_z at c.in-Some.ensures.within)
+    let j = c.loop-j.j in
+    let span = c.span-span.ensures in
+    let lane : j < g.row.L = omega (arith, span.count, c.loop-j-test.true) in
+    let lt : c.args.block * g.row.L + j < length c.args.store.now.particles = omega (arith, span.first, span.within, c.loop-j-test.true) in
+    let to = wider _ _ (2 ^ 29) c.limit-limit.ensures.high (simp to_z-of_z at c.in-Some.ensures.within) in
+    let from = wider _ _ (2 ^ 29) c.limit-limit.ensures.high (within_at (ap unsigned_abs c.limit-limit.ensures.value) (c.place-from.ensures ∙ c.requires.at j lane) (c.requires.inside.each _ lt)) in
+    wider _ (2 ^ 30) (2 ^ 31) (omega arith) (c.minus.ensures.size (2 ^ 29) (2 ^ 29) to from)
 
 pub book_if-requires-clause-room : goal.book_if-requires-clause-room
 book_if-requires-clause-room g c =
@@ -88,7 +99,7 @@ loop-j-preserved g c =
     let value = simp to_z-of_z at c.in-Some.ensures.value in
     let within = simp to_z-of_z at c.in-Some.ensures.within in
     let way = way_is (shapes_of c.args.planes.now c.args.spheres.now) p c.limit-limit.ensures.value held at value in
-    let books = c.book_if.ensures.value ∙ (λ k. cond (not (held k)) (added u classes.Shape ((c.difference.ensures.value ∙ ap (minus next.at) at) k)) u) in
+    let books = c.book_if.ensures.value ∙ (λ k. cond (not (held k)) (added u classes.Shape ((c.minus.ensures.value ∙ ap (minus next.at) at) k)) u) in
     let flags = c.touch_if.ensures ∙ ap (λ (m : ℕ). cond next.touched (slice_set us (m + j) true) us) span.first in
     let room : j < length c.loop-j.places = omega (arith, inv.whole) in
     record {

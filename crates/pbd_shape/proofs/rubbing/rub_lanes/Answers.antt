@@ -1,4 +1,4 @@
-use Rattle.std.proofs.Common.{◌≡◌, refl, ap, ◌∙◌, ◌+◌, ◌*◌, ◌^◌, ◌<◌, arith, unsigned_abs, Bool, List, length, get_or, false, not, ◌&&◌, cond}
+use Rattle.std.proofs.Common.{◌≡◌, refl, ap, ◌∙◌, ◌+◌, ◌*◌, ◌^◌, ◌<◌, ◌≤◌, arith, unsigned_abs, Bool, List, length, get_or, false, not, ◌&&◌, cond}
 use Rattle.std.proofs.lemmas.Int.{to_z-of_z}
 use Rattle.std.proofs.lemmas.List.{length-replicate, length-set}
 use Rattle.pbd_num.specs.declared.Vec3.{Vec3}
@@ -28,42 +28,50 @@ is_rubbed-rubs-requires g c =
     let span = c.span-span.ensures in
     omega (arith, span.within, c.requires.flags, c.loop-j-test.true)
 
-pub difference-requires : goal.difference-requires
-difference-requires g c =
+-- a place, and the place before, in the range of both limits
+pub minus-requires : goal.minus-requires
+minus-requires g c =
     let j = c.loop-j.j in
     let span = c.span-span.ensures in
     let lane : j < g.row.L = omega (arith, span.count, c.loop-j-test.true) in
     let lt : c.args.block * g.row.L + j < length c.args.store.now.particles = omega (arith, span.first, span.within, c.loop-j-test.true) in
+    let wide : unsigned_abs c.limit-limit.result ≤ 2 ^ 61 = omega (arith, c.limit-limit.ensures.high) in
     record {
-      from = wider _ _ (2 ^ 29) c.limit-limit.ensures.high (within_at (ap unsigned_abs c.limit-limit.ensures.value) (c.place-before.ensures ∙ c.requires.before j lane) (c.requires.within.before _ lt));
-      to = wider _ _ (2 ^ 29) c.limit-limit.ensures.high (within_at (ap unsigned_abs c.limit-limit.ensures.value) (c.place.ensures ∙ c.requires.at j lane) (c.requires.within.at _ lt));
+      first = wider _ _ (2 ^ 61) wide (within_at (ap unsigned_abs c.limit-limit.ensures.value) (c.place.ensures ∙ c.requires.at j lane) (c.requires.within.at _ lt));
+      second = wider _ _ (2 ^ 61) wide (within_at (ap unsigned_abs c.limit-limit.ensures.value) (c.place-before.ensures ∙ c.requires.before j lane) (c.requires.within.before _ lt));
     }
 
 pub lost_if-loss-requires : goal.lost_if-loss-requires
 lost_if-loss-requires g c =
     let f = c.ranges.friction in
-    record { friction = simp to_z-of_z c.requires.friction; velocity = c.difference.ensures.size }
+    let j = c.loop-j.j in
+    let span = c.span-span.ensures in
+    let lane : j < g.row.L = omega (arith, span.count, c.loop-j-test.true) in
+    let lt : c.args.block * g.row.L + j < length c.args.store.now.particles = omega (arith, span.first, span.within, c.loop-j-test.true) in
+    let at = wider _ _ (2 ^ 29) c.limit-limit.ensures.high (within_at (ap unsigned_abs c.limit-limit.ensures.value) (c.place.ensures ∙ c.requires.at j lane) (c.requires.within.at _ lt)) in
+    let before = wider _ _ (2 ^ 29) c.limit-limit.ensures.high (within_at (ap unsigned_abs c.limit-limit.ensures.value) (c.place-before.ensures ∙ c.requires.before j lane) (c.requires.within.before _ lt)) in
+    record { friction = simp to_z-of_z c.requires.friction; velocity = c.minus.ensures.size (2 ^ 29) (2 ^ 29) at before }
 
-pub turned-requires : goal.turned-requires
-turned-requires g c = c.lost_if-loss.ensures.size
+pub opposite-requires : goal.opposite-requires
+opposite-requires g c = wider _ (2 ^ 30) (2 ^ 61) (omega arith) c.lost_if-loss.ensures.size
 
 pub book_if-requires : goal.book_if-requires
 book_if-requires g c =
     let span = c.span-span.ensures in
     record {
       room = room_at (2 ^ 126) (omega (arith, span.count, c.requires.lanes_high, c.loop-j-test.true)) (c.loop-j.invariant.room (2 ^ 125) c.requires.room);
-      short = c.turned.ensures.size;
+      short = wider _ (2 ^ 30) (2 ^ 31) (omega arith) (c.opposite.ensures.size (2 ^ 30) c.lost_if-loss.ensures.size);
     }
 
-pub moved-requires : goal.moved-requires
-moved-requires g c =
+pub plus-requires : goal.plus-requires
+plus-requires g c =
     let j = c.loop-j.j in
     let span = c.span-span.ensures in
     let lane : j < g.row.L = omega (arith, span.count, c.loop-j-test.true) in
     let lt : c.args.block * g.row.L + j < length c.args.store.now.particles = omega (arith, span.first, span.within, c.loop-j-test.true) in
     record {
-      a = wider _ _ (2 ^ 29) c.limit-limit.ensures.high (within_at (ap unsigned_abs c.limit-limit.ensures.value) (c.place-before.ensures ∙ c.requires.before j lane) (c.requires.within.before _ lt));
-      by = c.lost_if-loss.ensures.size;
+      first = wider _ _ (2 ^ 61) (omega (arith, c.limit-limit.ensures.high)) (within_at (ap unsigned_abs c.limit-limit.ensures.value) (c.place-before.ensures ∙ c.requires.before j lane) (c.requires.within.before _ lt));
+      second = wider _ (2 ^ 30) (2 ^ 61) (omega arith) c.lost_if-loss.ensures.size;
     }
 
 pub loop-j-preserved : goal.loop-j-preserved
@@ -87,17 +95,17 @@ loop-j-preserved g c =
     let at = c.place.ensures ∙ c.requires.at j lane in
     let makes : made ≡ (not p.held && get_or ts i false) = c.is_rubbed-rubs.ensures ∙ (λ k. not (held k) && get_or ts (span.first k + j) false) in
     let told = simp to_z-of_z at c.lost_if-loss.ensures.value in
-    let velocity = c.difference.ensures.value ∙ (λ k. minus (at k) (before k)) in
+    let velocity = c.minus.ensures.value ∙ (λ k. minus (at k) (before k)) in
     let loses : loss ≡ loss_of friction made p.before p.at = told ∙ ap (λ (v : Vec3). cond made (rubbed_away friction v) zero_vector) velocity in
-    let comes : c.moved.result ≡ plus p.before loss = c.moved.ensures ∙ ap (λ (v : Vec3). plus v loss) before in
-    let books = c.book_if.ensures.value ∙ ap (λ (v : Vec3). cond made (added u classes.Shape v) u) c.turned.ensures.value in
+    let comes : c.plus.result ≡ plus p.before loss = c.plus.ensures.value ∙ ap (λ (v : Vec3). plus v loss) before in
+    let books = c.book_if.ensures.value ∙ ap (λ (v : Vec3). cond made (added u classes.Shape v) u) c.opposite.ensures.value in
     let room : j < length c.loop-j.places = omega (arith, inv.whole) in
     let some = simp to_z-of_z at inv.some in
     let stays = within_at refl (comes ∙ ap (plus p.before) loses) (loss_within friction made p.before p.at (unsigned_abs c.args.store.now.limit) (part_low friction c.requires.friction) (part_high friction c.requires.friction) (c.requires.within.before i lt) (c.requires.within.at i lt)) in
     record {
-      some = simp to_z-of_z (rubbing_on friction g.row.L c.args.block ps _ ts j c.loop-j.places u some lane lt c.requires.flags room made loss c.moved.result _ makes loses comes books);
-      whole = length-set c.loop-j.places j c.moved.result ∙ inv.whole;
-      within = inside_more _ c.loop-j.places j c.moved.result room inv.within stays;
+      some = simp to_z-of_z (rubbing_on friction g.row.L c.args.block ps _ ts j c.loop-j.places u some lane lt c.requires.flags room made loss c.plus.result _ makes loses comes books);
+      whole = length-set c.loop-j.places j c.plus.result ∙ inv.whole;
+      within = inside_more _ c.loop-j.places j c.plus.result room inv.within stays;
       room = λ n h. room_at _ (omega arith) (c.book_if.ensures.room _ (inv.room n h));
     }
 
