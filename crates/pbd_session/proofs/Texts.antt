@@ -17,11 +17,11 @@ use Rattle.pbd_session.specs.Printing.{NamedSum, each_after, frame_header, heade
 
 -- ---- pieces of a line in their order
 
-pub pieces7 : (a b c d e f g : List ℕ) → (((((a ++ b) ++ c) ++ d) ++ e) ++ f) ++ g ≡ a ++ (b ++ (c ++ (d ++ (e ++ (f ++ g)))))
-pieces7 a b c d e f g = simp append_assoc refl
+pub pieces6 : (a b c d e f : List ℕ) → ((((a ++ b) ++ c) ++ d) ++ e) ++ f ≡ a ++ (b ++ (c ++ (d ++ (e ++ f))))
+pieces6 a b c d e f = simp append_assoc refl
 
-pub pieces10 : (a b c d e f g h i j : List ℕ) → ((((((((a ++ b) ++ c) ++ d) ++ e) ++ f) ++ g) ++ h) ++ i) ++ j ≡ a ++ (b ++ (c ++ (d ++ (e ++ (f ++ (g ++ (h ++ (i ++ j))))))))
-pieces10 a b c d e f g h i j = simp append_assoc refl
+pub pieces9 : (a b c d e f g h i : List ℕ) → (((((((a ++ b) ++ c) ++ d) ++ e) ++ f) ++ g) ++ h) ++ i ≡ a ++ (b ++ (c ++ (d ++ (e ++ (f ++ (g ++ (h ++ i)))))))
+pieces9 a b c d e f g h i = simp append_assoc refl
 
 pub pieces8 : (a b c d e f g h : List ℕ) → ((((((a ++ b) ++ c) ++ d) ++ e) ++ f) ++ g) ++ h ≡ a ++ (b ++ (c ++ (d ++ (e ++ (f ++ (g ++ h))))))
 pieces8 a b c d e f g h = simp append_assoc refl

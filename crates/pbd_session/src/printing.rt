@@ -1,5 +1,5 @@
-//! Replies, line by line, each line by one call of the sink's `write`.
-ghost use Rattle.std.specs.Prelude.{◌≡◌, ◌≤◌, map, length, All};
+//! Replies, line by line, each line by one call of the sink's `write` unless its prefix is long.
+ghost use Rattle.std.specs.Prelude.{◌≡◌, ◌≤◌, ◌++◌, map, All};
 ghost use Rattle.std.specs.List.{flat_map};
 ghost use Rattle.pbd_io.specs.Causes.{HasCause};
 ghost use Rattle.pbd_io.specs.Pieces.{WritesPiece};
@@ -11,6 +11,7 @@ ghost use Rattle.pbd_session.specs.Naming.{IsShort, named_of};
 use crate::Session;
 use crate::line::{done_line, header_line, place_line, refusal_line, sum_line};
 use pbd_io::{Failed, Sink};
+use pbd_line::Line;
 use pbd_pair::Projector;
 use pbd_step::Solver;
 use pbd_store::Steps;
@@ -24,6 +25,21 @@ pub struct NamedTotal {
     sum: [i128; 3],
 }
 
+/// Writes a line with a prefix before it, in one call where both fit in a line.
+fn write_line<K: Sink>(prefix: &[u8], line: &Line, sink: &mut K) -> Result<(), Failed>
+    ensures bytes { WritesPiece (K.written sink.old) (K.written sink.new) result (prefix.now ++ line.now) }
+    ensures cause { HasCause (K.faults sink.old) (K.faults sink.new) result }
+{
+    if prefix.len() <= line.room() {
+        let mut whole = Line::new();
+        whole.push_bytes(prefix);
+        whole.push_bytes(line.as_slice());
+        return sink.write(whole.as_slice());
+    }
+    sink.write(prefix)?;
+    sink.write(line.as_slice())
+}
+
 #[tactic(auto, using(crate::proofs::Texts::header_is))]
 fn write_header<const L: usize, P: Projector<L> + Drop, K: Sink>(
     solver: &Solver<L, P>,
@@ -31,7 +47,6 @@ fn write_header<const L: usize, P: Projector<L> + Drop, K: Sink>(
     sink: &mut K,
 ) -> Result<(), Failed>
     requires lanes_high { L ≤ 16 }
-    requires prefix { length prefix.now ≤ 16 }
     ensures bytes { WritesPiece (K.written sink.old) (K.written sink.new) result (header_after prefix.now solver.now.world) }
     ensures cause { HasCause (K.faults sink.old) (K.faults sink.new) result }
 {
@@ -39,8 +54,8 @@ fn write_header<const L: usize, P: Projector<L> + Drop, K: Sink>(
     let particles = solver.particles();
     let live = solver.live();
     let contacts = solver.contacts();
-    let header = header_line(prefix, steps, particles, live, contacts);
-    sink.write(header.as_slice())
+    let header = header_line(steps, particles, live, contacts);
+    write_line(prefix, &header, sink)
 }
 
 fn write_places<const L: usize, P: Projector<L> + Drop, K: Sink, G: Ledger>(
@@ -50,13 +65,12 @@ fn write_places<const L: usize, P: Projector<L> + Drop, K: Sink, G: Ledger>(
     steps: &mut Steps<G>,
 ) -> Result<(), Failed>
     requires lanes_high { L ≤ 16 }
-    requires prefix { length prefix.now ≤ 16 }
     ensures bytes { WritesPiece (K.written sink.old) (K.written sink.new) result (flat_map (place_after prefix.now) solver.now.world.particles) }
     ensures cause { HasCause (K.faults sink.old) (K.faults sink.new) result }
 {
     for i in 0..solver.particles() {
-        let place = place_line(prefix, &solver.particle(i, steps));
-        sink.write(place.as_slice())?;
+        let place = place_line(&solver.particle(i, steps));
+        write_line(prefix, &place, sink)?;
     }
     Ok(())
 }
@@ -68,7 +82,6 @@ fn write_frame<const L: usize, P: Projector<L> + Drop, K: Sink, G: Ledger>(
     steps: &mut Steps<G>,
 ) -> Result<(), Failed>
     requires lanes_high { L ≤ 16 }
-    requires prefix { length prefix.now ≤ 16 }
     ensures bytes { WritesPiece (K.written sink.old) (K.written sink.new) result (text_after prefix.now solver.now.world Reply.Frame) }
     ensures cause { HasCause (K.faults sink.old) (K.faults sink.new) result }
 {
@@ -100,14 +113,13 @@ fn named_sums<const L: usize, P: Projector<L> + Drop, G: Ledger>(
 }
 
 fn write_sums<K: Sink>(sums: &[NamedTotal], prefix: &[u8], sink: &mut K) -> Result<(), Failed>
-    requires prefix { length prefix.now ≤ 16 }
     requires short { All IsShort sums.now }
     ensures bytes { WritesPiece (K.written sink.old) (K.written sink.new) result (flat_map (λ s. sum_after prefix.now (named_of s)) sums.now) }
     ensures cause { HasCause (K.faults sink.old) (K.faults sink.new) result }
 {
     for sum in sums {
-        let line = sum_line(prefix, sum.name, &sum.sum);
-        sink.write(line.as_slice())?;
+        let line = sum_line(sum.name, &sum.sum);
+        write_line(prefix, &line, sink)?;
     }
     Ok(())
 }
@@ -119,7 +131,6 @@ fn write_ledger<const L: usize, P: Projector<L> + Drop, K: Sink, G: Ledger>(
     steps: &mut Steps<G>,
 ) -> Result<(), Failed>
     requires lanes_high { L ≤ 16 }
-    requires prefix { length prefix.now ≤ 16 }
     ensures bytes { WritesPiece (K.written sink.old) (K.written sink.new) result (text_after prefix.now solver.now.world Reply.Ledger) }
     ensures cause { HasCause (K.faults sink.old) (K.faults sink.new) result }
 {
@@ -143,7 +154,7 @@ impl<const L: usize, P: Projector<L> + Drop> Session<L, P> {
         self.write_after(&[], reply, sink, steps)
     }
 
-    /// Writes the lines of a reply, each with the prefix of at most 16 bytes before it.
+    /// Writes the lines of a reply, each with the prefix before it.
     /// `Failed` is as for `write_reply`.
     #[tactic(auto, unfolding(crate::specs::Printing::text_after))]
     pub fn write_after<K: Sink, G: Ledger>(
@@ -154,15 +165,14 @@ impl<const L: usize, P: Projector<L> + Drop> Session<L, P> {
         steps: &mut Steps<G>,
     ) -> Result<(), Failed>
         requires lanes_high { L ≤ 16 }
-        requires prefix { length prefix.now ≤ 16 }
         ensures bytes { WritesPiece (K.written sink.old) (K.written sink.new) result (text_after prefix.now self.now reply.now) }
         ensures cause { HasCause (K.faults sink.old) (K.faults sink.new) result }
     {
         match reply {
-            Reply::Done => sink.write(done_line(prefix).as_slice()),
+            Reply::Done => write_line(prefix, &done_line(), sink),
             Reply::Frame => write_frame(self.solver(), prefix, sink, steps),
             Reply::Ledger => write_ledger(self.solver(), prefix, sink, steps),
-            Reply::Refused(refusal) => sink.write(refusal_line(prefix, refusal).as_slice()),
+            Reply::Refused(refusal) => write_line(prefix, &refusal_line(refusal), sink),
         }
     }
 }

@@ -2,7 +2,7 @@ use Rattle.std.proofs.Common.{codes}
 use Rattle.std.specs.Fmt.{signed_decimal}
 use Rattle.std.proofs.lemmas.Int.{to_z-of_z}
 use Rattle.pbd_world.specs.Text.{sum_line}
-use Rattle.pbd_session.proofs.Texts.{pieces10}
+use Rattle.pbd_session.proofs.Texts.{pieces9}
 use Rattle.pbd_session.proofs.line.wide_line.Goals as goal
 
 pub returns : goal.returns
@@ -14,5 +14,5 @@ returns c =
     let x = simp to_z-of_z at c.push_wide.ensures.bytes in
     let y = simp to_z-of_z at c.push_wide-2.ensures.bytes in
     let z = simp to_z-of_z at c.push_wide-3.ensures.bytes in
-    rw (c.push-6.ensures, z, c.push-5.ensures, y, c.push-4.ensures, x, c.push-3.ensures, c.push-2.ensures, c.push.ensures, c.after-line.ensures)
-    (pieces10 c.args.prefix.now (codes "ledger ") c.args.name.now (codes " ") (signed_decimal c.args.x) (codes " ") (signed_decimal c.args.y) (codes " ") (signed_decimal c.args.z) (codes "\n"))
+    rw (c.push-6.ensures, z, c.push-5.ensures, y, c.push-4.ensures, x, c.push-3.ensures, c.push-2.ensures, c.push.ensures, c.new-line.ensures)
+    (pieces9 (codes "ledger ") c.args.name.now (codes " ") (signed_decimal c.args.x) (codes " ") (signed_decimal c.args.y) (codes " ") (signed_decimal c.args.z) (codes "\n"))
