@@ -2,9 +2,9 @@
 #![tactic(auto)]
 
 mod answer;
-mod buffer;
 mod entry;
 mod laws;
+mod pushes;
 mod reading;
 mod view;
 mod writer;

@@ -5,56 +5,57 @@ ghost use Rattle.pbd_world.specs.Valid.{is_limit};
 ghost use Rattle.pbd_log.specs.Entries.{command_bytes, answer_bytes, sums_bytes, entry_bytes, CommandFits, SumsFit, IsGrammatical, HasWidths, IsEntry};
 ghost use Rattle.pbd_log.specs.Logs.{header_bytes, end_bytes};
 
-use crate::buffer::Buffer;
+use crate::pushes::{push_axes, push_byte, push_u32, push_u64, push_vector};
 use crate::{Answer, Entry};
 use pbd_io::{Failed, Sink};
+use pbd_line::Line;
 use pbd_world::{Command, FrameSums};
 use std::marker::Model;
 
 #[tactic(auto, unfolding(crate::specs::Entries::command_bytes))]
-fn push_command(buffer: &mut Buffer, command: &Command)
-    requires { length buffer.old ≡ 0 }
-    ensures bytes { buffer.new ≡ buffer.old ++ command_bytes command.now }
+fn push_command(piece: &mut Line, command: &Command)
+    requires { length piece.old ≡ 0 }
+    ensures bytes { piece.new ≡ piece.old ++ command_bytes command.now }
     ensures fits { CommandFits command.now }
-    ensures room { length buffer.new ≤ 33 }
+    ensures room { length piece.new ≤ 33 }
 {
     match command {
         Command::Step(count) => {
-            buffer.push_byte(1);
-            buffer.push_u64(*count);
+            push_byte(piece, 1);
+            push_u64(piece, *count);
         }
-        Command::Frame => buffer.push_byte(2),
+        Command::Frame => push_byte(piece, 2),
         Command::Pin(particle) => {
-            buffer.push_byte(3);
-            buffer.push_u64(*particle);
+            push_byte(piece, 3);
+            push_u64(piece, *particle);
         }
         Command::Unpin(particle) => {
-            buffer.push_byte(4);
-            buffer.push_u64(*particle);
+            push_byte(piece, 4);
+            push_u64(piece, *particle);
         }
         Command::Move { particle, to } => {
-            buffer.push_byte(5);
-            buffer.push_u64(*particle);
-            buffer.push_vector(to);
+            push_byte(piece, 5);
+            push_u64(piece, *particle);
+            push_vector(piece, to);
         }
         Command::Cut(link) => {
-            buffer.push_byte(6);
-            buffer.push_u64(*link);
+            push_byte(piece, 6);
+            push_u64(piece, *link);
         }
         Command::Gravity(gravity) => {
-            buffer.push_byte(7);
-            buffer.push_vector(gravity);
+            push_byte(piece, 7);
+            push_vector(piece, gravity);
         }
-        Command::Ledger => buffer.push_byte(8),
-        Command::Bad => buffer.push_byte(9),
+        Command::Ledger => push_byte(piece, 8),
+        Command::Bad => push_byte(piece, 9),
     }
 }
 
 #[tactic(auto, unfolding(crate::specs::Entries::answer_bytes))]
-fn push_answer(buffer: &mut Buffer, answer: &Answer)
-    requires { length buffer.old ≤ 33 }
-    ensures bytes { buffer.new ≡ buffer.old ++ answer_bytes answer.now }
-    ensures room { length buffer.new ≤ length buffer.old + 14 }
+fn push_answer(piece: &mut Line, answer: &Answer)
+    requires { length piece.old ≤ 33 }
+    ensures bytes { piece.new ≡ piece.old ++ answer_bytes answer.now }
+    ensures room { length piece.new ≤ length piece.old + 14 }
     ensures step { answer.now.step < 2 ^ 64 }
     ensures element { answer.now.element < 2 ^ 32 }
 {
@@ -64,52 +65,52 @@ fn push_answer(buffer: &mut Buffer, answer: &Answer)
         phase,
         element,
     } = *answer;
-    buffer.push_byte(number);
+    push_byte(piece, number);
     if number == 11 {
-        buffer.push_u64(step);
-        buffer.push_byte(phase);
-        buffer.push_u32(element);
+        push_u64(piece, step);
+        push_byte(piece, phase);
+        push_u32(piece, element);
     } else if number == 12 {
-        buffer.push_u64(step);
+        push_u64(piece, step);
     }
 }
 
 #[tactic(auto, unfolding(crate::specs::Entries::sums_bytes))]
-fn push_sums(buffer: &mut Buffer, sums: &FrameSums)
-    requires { length buffer.old ≤ 47 }
-    ensures bytes { buffer.new ≡ buffer.old ++ sums_bytes sums.now }
+fn push_sums(piece: &mut Line, sums: &FrameSums)
+    requires { length piece.old ≤ 47 }
+    ensures bytes { piece.new ≡ piece.old ++ sums_bytes sums.now }
     ensures fits { SumsFit sums.now }
 {
-    buffer.push_u64(sums.steps);
-    buffer.push_u32(sums.live);
-    buffer.push_u32(sums.contacts);
-    buffer.push_axes(&sums.at);
-    buffer.push_axes(&sums.before);
+    push_u64(piece, sums.steps);
+    push_u32(piece, sums.live);
+    push_u32(piece, sums.contacts);
+    push_axes(piece, &sums.at);
+    push_axes(piece, &sums.before);
 }
 
 #[tactic(auto, unfolding(crate::specs::Entries::entry_bytes))]
-fn push_entry(buffer: &mut Buffer, entry: &Entry)
-    requires { buffer.old ≡ [] }
-    ensures bytes { buffer.new ≡ entry_bytes entry.now }
+fn push_entry(piece: &mut Line, entry: &Entry)
+    requires { piece.old ≡ [] }
+    ensures bytes { piece.new ≡ entry_bytes entry.now }
     ensures widths { HasWidths entry.now }
 {
-    push_command(buffer, &entry.command);
-    push_answer(buffer, &entry.answer);
+    push_command(piece, &entry.command);
+    push_answer(piece, &entry.answer);
     if let Some(sums) = &entry.sums {
-        push_sums(buffer, sums);
+        push_sums(piece, sums);
     }
 }
 
 #[tactic(auto, unfolding(crate::specs::Logs::header_bytes, crate::specs::Logs::opening_bytes))]
-fn push_header(buffer: &mut Buffer, limit: i64, len: u32)
-    requires empty { buffer.old ≡ [] }
+fn push_header(piece: &mut Line, limit: i64, len: u32)
+    requires empty { piece.old ≡ [] }
     requires limit { IsTrue (is_limit limit) }
-    ensures { buffer.new ≡ header_bytes 2 limit len }
+    ensures { piece.new ≡ header_bytes 2 limit len }
 {
-    buffer.push(b"PBDSLOG".as_slice());
-    buffer.push_byte(2);
-    buffer.push_u64(limit as u64);
-    buffer.push_u32(len);
+    piece.push("PBDSLOG");
+    push_byte(piece, 2);
+    push_u64(piece, limit as u64);
+    push_u32(piece, len);
 }
 
 /// Writes a log of version 2, part by part. Clauses see it as the number of entries so far.
@@ -137,7 +138,7 @@ impl LogWriter {
         ensures cause { HasCause (K.faults sink.old) (K.faults sink.new) result }
         ensures entries { IfOk result (λ writer. writer ≡ 0) }
     {
-        let mut header = Buffer::new();
+        let mut header = Line::new();
         push_header(&mut header, limit, scene.len() as u32);
         sink.write(header.as_slice())?;
         if !scene.is_empty() {
@@ -157,7 +158,7 @@ impl LogWriter {
         // Its numbers have the widths of their fields, so it is an entry that can be read again.
         ensures entry { IsEntry entry.now }
     {
-        let mut piece = Buffer::new();
+        let mut piece = Line::new();
         push_entry(&mut piece, entry);
         sink.write(piece.as_slice())?;
         self.entries += 1;
@@ -170,9 +171,9 @@ impl LogWriter {
         ensures bytes { WritesPiece (K.written sink.old) (K.written sink.new) result (end_bytes self) }
         ensures cause { HasCause (K.faults sink.old) (K.faults sink.new) result }
     {
-        let mut piece = Buffer::new();
-        piece.push_byte(0);
-        piece.push_u64(self.entries);
+        let mut piece = Line::new();
+        push_byte(&mut piece, 0);
+        push_u64(&mut piece, self.entries);
         sink.write(piece.as_slice())
     }
 }

@@ -1,4 +1,4 @@
-use Rattle.std.proofs.Common.{◌≡◌, ◌≤◌, ◌∙◌, sym, ap, ℕ, List, length}
+use Rattle.std.proofs.Common.{◌≡◌, ◌≤◌, sym, ap, ℕ, List, length}
 use Rattle.pbd_log.specs.declared.entry.Entry.{Entry}
 use Rattle.pbd_log.specs.Logs.{Log}
 use Rattle.pbd_log.specs.Reading.{entries_of}
