@@ -17,7 +17,7 @@ use Rattle.pbd_obj.specs.declared.mesh.ObjMesh.{ObjMesh}
 use Rattle.pbd_outcome.specs.declared.status.Status.{Status}
 use Rattle.pbd_outcome.specs.declared.status.Status.TheVariants.{WriteFault}
 use Rattle.pbd_outcome.specs.ObjText.{obj_session_text, obj_text}
-use Rattle.pbd_outcome.specs.Outcome.{Outcome, ends_as, obj_outcome}
+use Rattle.pbd_outcome.specs.Outcome.{ends_as, obj_outcome}
 use Rattle.pbd_run.specs.Calls.{Does}
 use Rattle.pbd_run.specs.Forms.{obj_on}
 use Rattle.pbd_run.proofs.SessionLaws.{ended}

@@ -1,17 +1,17 @@
 -- The lines of a frame as OBJ text.
-use Rattle.std.proofs.Common.{◌≡◌, ◌∙◌, sym, ap, refl, subst, ℕ, ◌+◌, ◌-◌, ◌<◌, ◌≤◌, ◌^◌, List, [], ◌∷◌, ◌++◌, length, get_or, take, drop, arith, append_assoc, append-nil, Option, Result, Ok, Err}
+use Rattle.std.proofs.Common.{◌≡◌, ◌∙◌, sym, ap, refl, subst, ℕ, ◌+◌, ◌-◌, ◌<◌, ◌≤◌, ◌^◌, List, [], ◌∷◌, ◌++◌, length, get_or, take, drop, arith, append_assoc, append-nil, Option}
 use Rattle.std.specs.Prelude.{All, sum}
 use Rattle.std.specs.Io.KnownBytes.{Appends}
 use Rattle.std.specs.List.{flat_map}
 use Rattle.std.proofs.lemmas.List.{drop_more, length-drop}
 use Rattle.std.proofs.lemmas.List.Sums.{sum_by-cons}
 use Rattle.std.proofs.lemmas.List.Elements.{All-head, All-tail, All-weaker}
-use Rattle.pbd_io.specs.Pieces.{AppendsPrefix, WritesPiece}
+use Rattle.pbd_io.specs.Pieces.{AppendsPrefix}
 use Rattle.pbd_io.specs.Appending.{appends_nothing, appends_then, prefix_longer, prefix_then}
 use Rattle.pbd_world.specs.Text.{header_line}
 use Rattle.pbd_world.specs.World.{World, live_count}
 use Rattle.pbd_obj.specs.declared.mesh.ObjMesh.{ObjMesh}
-use Rattle.pbd_obj.specs.Meshes.{IsFace, IsMesh, cut, faces}
+use Rattle.pbd_obj.specs.Meshes.{IsFace, cut, faces}
 use Rattle.pbd_obj.specs.Writing.{face_line}
 use Rattle.pbd_session.specs.Printing.{frame_header}
 use Rattle.pbd_outcome.specs.ObjText.{comment, obj_frame, particle_line}

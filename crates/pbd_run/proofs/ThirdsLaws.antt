@@ -1,6 +1,5 @@
 -- The thirds of an input: what its mesh and its halves come to together.
-use Rattle.std.proofs.Common.{◌≡◌, ◌∙◌, sym, ap, refl, ℕ, ◌+◌, ◌≤◌, List, [], length, Option, Some, None, Result, Ok, Err, inl, inr}
-use Rattle.std.specs.Io.KnownBytes.{Keeps}
+use Rattle.std.proofs.Common.{◌≡◌, ◌∙◌, ap, refl, ℕ, List, [], length, Option, Some, None, Result, Ok, Err, inl, inr}
 use Rattle.pbd_world.specs.declared.parts.Parts.{Parts}
 use Rattle.pbd_world.specs.Outcomes.{◌>>=◌}
 use Rattle.pbd_obj.specs.declared.mesh.ObjMesh.{ObjMesh}

@@ -20,7 +20,7 @@ use Rattle.pbd_log.specs.Logs.{Log}
 use Rattle.pbd_session.specs.declared.ending.ReplayEnd.{ReplayEnd}
 use Rattle.pbd_session.specs.declared.ending.ReplayEnd.TheVariants as ends
 use Rattle.pbd_session.specs.Replaying.{replayed}
-use Rattle.pbd_outcome.specs.declared.status.Status.TheVariants.{Done, SomeRefused, ReadFault, NoScript, SceneNotText}
+use Rattle.pbd_outcome.specs.declared.status.Status.TheVariants.{Done, SomeRefused, ReadFault, SceneNotText}
 use Rattle.pbd_outcome.specs.Generated.{generated}
 use Rattle.pbd_outcome.specs.Split.{split}
 use Rattle.pbd_outcome.specs.Outcome.{IsReplayed, Outcome, halves_in, large_outcome, log_outcome, mesh_in, meshed, parts_in, range, recorded, replay_status, scene_in, settled, simulated, stops, summary_outcome, tree_in}

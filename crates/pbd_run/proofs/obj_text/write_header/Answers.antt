@@ -1,4 +1,4 @@
-use Rattle.std.proofs.Common.{◌≡◌, ◌∙◌, ◌++◌}
+use Rattle.std.proofs.Common.{◌≡◌, ◌++◌}
 use Rattle.pbd_world.specs.Text.{header_line}
 use Rattle.pbd_outcome.specs.ObjText.{comment}
 use Rattle.pbd_run.proofs.ObjTextLaws.{header_of}
