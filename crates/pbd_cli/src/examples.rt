@@ -48,10 +48,10 @@ const EXAMPLES: [(&str, &str, &str, Status); 6] = [
 ];
 
 /// What a run answers and writes.
-fn run_on(alloc: Global, words: &str, input: &[u8]) -> Result<(Status, Vec<u8>), AllocError> {
+pub fn run_on(alloc: Global, words: &str, input: &[u8]) -> Result<(Status, Vec<u8>), AllocError> {
     let words = words_of(alloc, words)?;
     let mut source = SureSource::new(input);
-    let mut sink = MemSink::open(alloc, 16_384, Vec::new(alloc))?;
+    let mut sink = MemSink::open(alloc, 1_048_576, Vec::new(alloc))?;
     let status = run(alloc, &words, &mut source, &mut sink);
     Ok((status, sink.written().to_vec(alloc)?))
 }

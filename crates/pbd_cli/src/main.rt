@@ -3,6 +3,8 @@
 
 #[cfg(test)]
 mod examples;
+#[cfg(test)]
+mod meshes;
 mod run;
 #[cfg(test)]
 mod tests;

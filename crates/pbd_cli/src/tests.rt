@@ -250,7 +250,7 @@ fn the_step_limit_stops_no_run(rt: HostRuntime) -> Result<(), Fail> {
 #[test]
 fn a_run_that_stops_writes_one_line(rt: HostRuntime) -> Result<(), Fail> {
     let alloc = rt.alloc();
-    let runs: [(&str, &str, &str, Status); 31] = [
+    let runs: [(&str, &str, &str, Status); 30] = [
         ("simulate 1", "", "error 5 NoScript", Status::NoScript),
         (
             "simulate 1",
@@ -337,7 +337,6 @@ fn a_run_that_stops_writes_one_line(rt: HostRuntime) -> Result<(), Fail> {
             "error 8 SceneRefused 5 OutOfRange scene 0 gravity",
             Status::SceneRefused,
         ),
-        ("obj 2", "", "error 13 NotBuilt", Status::NotBuilt),
         ("marks 4", "", "error 13 NotBuilt", Status::NotBuilt),
         ("host 8", "", "error 13 NotBuilt", Status::NotBuilt),
         (

@@ -14,6 +14,10 @@ use Rattle.pbd_world.specs.Session.{is_refused, session_text, refused_count}
 use Rattle.pbd_scene.specs.Checks.{Broken, Checked}
 use Rattle.pbd_scene.specs.Scene.{scene_of}
 use Rattle.pbd_script.specs.Commands.{commands}
+use Rattle.pbd_obj.specs.declared.mesh.ObjMesh.{ObjMesh}
+use Rattle.pbd_obj.specs.declared.mesh.ObjFault.{ObjFault}
+use Rattle.pbd_obj.specs.MeshLinks.{with_mesh}
+use Rattle.pbd_obj.specs.Reading.{read}
 use Rattle.pbd_log.specs.Logs.{Log, Spells, IsFault}
 use Rattle.pbd_session.specs.declared.ending.ReplayEnd.{ReplayEnd}
 use Rattle.pbd_session.specs.declared.ending.ReplayEnd.TheVariants as ends
@@ -22,8 +26,9 @@ use Rattle.pbd_session.specs.Replaying.{Replay, replayed}
 use Rattle.pbd_outcome.specs.declared.job.Job.{Job}
 use Rattle.pbd_outcome.specs.declared.job.Job.TheVariants as jobs
 use Rattle.pbd_outcome.specs.declared.status.Status.{Status}
-use Rattle.pbd_outcome.specs.declared.status.Status.TheVariants.{Done, SomeRefused, Usage, InputTooLong, NoScript, SceneNotText, SceneNotToml, SceneRefused, LogRefused, Mismatch, NotBuilt}
+use Rattle.pbd_outcome.specs.declared.status.Status.TheVariants.{Done, SomeRefused, Usage, InputTooLong, NoScript, SceneNotText, SceneNotToml, SceneRefused, LogRefused, Mismatch, NotBuilt, ObjRefused}
 use Rattle.pbd_outcome.specs.Generated.{generated, summary}
+use Rattle.pbd_outcome.specs.ObjText.{obj_line, obj_session_text}
 use Rattle.pbd_outcome.specs.Split.{split}
 use Rattle.pbd_outcome.specs.Statuses.{status_line, refused_line, log_line}
 
@@ -101,6 +106,31 @@ recorded input = settled (do
   parts ← scene_in range halves.0
   Ok (record_outcome halves.0 (opened parts) (commands halves.1)))
 
+-- ---- a mesh, a scene and a script
+
+abbrev pub obj_refused : ObjFault → Outcome
+obj_refused fault = record { text = obj_line fault; status = ObjRefused; rest = [] }
+
+-- a mesh or parts, or how the run stops
+abbrev pub mesh_in : {A : Type 0} → Result A ObjFault → Result A Outcome
+mesh_in (Ok a) = Ok a
+mesh_in (Err fault) = Err (obj_refused fault)
+
+-- the replies as OBJ text, where the first vertex of the mesh is particle `base`
+abbrev pub obj_outcome : ℕ → ObjMesh → World → List Command → Outcome
+obj_outcome base mesh w cs = record { text = obj_session_text base mesh w cs; status = ends_as (refused_count w cs); rest = [] }
+
+-- The mesh stands before the first line that is `%%`, and what follows that line has the scene and the script. The mesh is
+-- looked at after the scene, and its particles and links stand after those of the scene.
+unfoldable pub meshed : List ℕ → Outcome
+meshed input = settled (do
+  outer ← halves_in (split input)
+  halves ← halves_in (split outer.1)
+  parts ← scene_in range halves.0
+  mesh ← mesh_in (read outer.0)
+  whole ← mesh_in (with_mesh mesh parts)
+  Ok (obj_outcome (length parts.particles) mesh (opened whole) (commands halves.1)))
+
 -- ---- a log
 
 abbrev pub replay_status : ReplayEnd → Status
@@ -154,4 +184,5 @@ IsOutcome (Some (jobs.Record width)) input o = IsWithin most (λ o. o ≡ record
 IsOutcome (Some (jobs.Replay width)) input o = IsWithin most_of_log (IsReplayed input) input o
 IsOutcome (Some (jobs.Large width number size)) input o = o ≡ large_outcome number size input
 IsOutcome (Some (jobs.Scramble seed)) input o = IsWithin most (λ o. o ≡ simulated input) input o
+IsOutcome (Some (jobs.Obj width)) input o = IsWithin most (λ o. o ≡ meshed input) input o
 IsOutcome (Some job) input o = o ≡ stops NotBuilt input

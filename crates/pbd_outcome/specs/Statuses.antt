@@ -4,7 +4,7 @@ use Rattle.pbd_world.specs.Text.{line}
 use Rattle.pbd_scene.specs.Checks.{Broken}
 use Rattle.pbd_scene.specs.Keys.{key_text, table_text, rule_number, rule_text}
 use Rattle.pbd_outcome.specs.declared.status.Status.{Status}
-use Rattle.pbd_outcome.specs.declared.status.Status.TheVariants.{Done, Usage, ReadFault, WriteFault, InputTooLong, NoScript, SceneNotText, SceneNotToml, SceneRefused, LogRefused, Mismatch, SomeRefused, OutOfMemory, NotBuilt}
+use Rattle.pbd_outcome.specs.declared.status.Status.TheVariants.{Done, Usage, ReadFault, WriteFault, InputTooLong, NoScript, SceneNotText, SceneNotToml, SceneRefused, LogRefused, Mismatch, SomeRefused, OutOfMemory, NotBuilt, ObjRefused}
 
 abbrev pub status_number : Status → ℕ
 status_number Done = 0
@@ -21,6 +21,7 @@ status_number Mismatch = 10
 status_number SomeRefused = 11
 status_number OutOfMemory = 12
 status_number NotBuilt = 13
+status_number ObjRefused = 14
 
 abbrev pub error_line : List (List ℕ) → List ℕ
 error_line words = line (codes "error" ∷ words)

@@ -35,6 +35,8 @@ pub enum Status {
     OutOfMemory,
     /// The form isn't built yet.
     NotBuilt,
+    /// The mesh has a fault, or can't be added to the scene.
+    ObjRefused,
 }
 
 impl Status {
@@ -59,6 +61,7 @@ impl Status {
             Status::SomeRefused => 11,
             Status::OutOfMemory => 12,
             Status::NotBuilt => 13,
+            Status::ObjRefused => 14,
         }
     }
 }

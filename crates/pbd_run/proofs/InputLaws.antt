@@ -22,7 +22,7 @@ use Rattle.pbd_run.proofs.SceneLaws.{its_limit, scene_ended}
 then_scene : (outcome : List ℕ → Parts → List ℕ → Outcome) (input : List ℕ) (h : List ℕ × List ℕ) → split input ≡ Some h → on_halves outcome input ≡ settled (scene_in range h.0 >>= λ parts. Ok (outcome h.0 parts h.1))
 then_scene outcome input h e = rw e refl
 
-of_halves : (outcome : List ℕ → Parts → List ℕ → Outcome) (input text : List ℕ) (parts : Parts) (script : List ℕ) → HasHalves input text parts script → on_halves outcome input ≡ outcome text parts script
+pub of_halves : (outcome : List ℕ → Parts → List ℕ → Outcome) (input text : List ℕ) (parts : Parts) (script : List ℕ) → HasHalves input text parts script → on_halves outcome input ≡ outcome text parts script
 of_halves outcome input text parts script has = then_scene outcome input (text, script) has.halves ∙ settled_ok (scene_in range text) (λ p. outcome text p script) parts has.scene
 
 pub no_halves : (input : List ℕ) (a b : Option (List ℕ)) (m n : ℕ) (s : Status) → split input ≡ None → Does (stops NoScript []) a b m n s → StopsAtHalves input a b m n s

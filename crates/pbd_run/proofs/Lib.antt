@@ -2,8 +2,11 @@ pub mod GeneratedLaws
 pub mod GeneratedValid
 pub mod InputLaws
 pub mod LargeLaws
+pub mod ObjLaws
+pub mod ObjTextLaws
 pub mod RunLaws
 pub mod SceneLaws
 pub mod SessionLaws
 pub mod SplitLaws
+pub mod ThirdsLaws
 pub mod WholeLaws

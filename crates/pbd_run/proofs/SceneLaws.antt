@@ -53,7 +53,7 @@ fault_read limit (Some t) (faults.Refused rule table position key) reads = ap pa
 stopped : (r : Result Parts Outcome) (then : Parts → Result Outcome Outcome) (o : Outcome) (a b : Option (List ℕ)) (m n : ℕ) (s : Status) → r ≡ Err o → Does o a b m n s → Does (settled (r >>= then)) a b m n s
 stopped r then o a b m n s is does = rw is does
 
-gave_up : (o : Outcome) (a b : Option (List ℕ)) (m n : ℕ) (s : Status) → s ≡ OutOfMemory → Keeps a b → Does o a b m n s
+pub gave_up : (o : Outcome) (a b : Option (List ℕ)) (m n : ℕ) (s : Status) → s ≡ OutOfMemory → Keeps a b → Does o a b m n s
 gave_up o a b m n s is keeps = rw is keeps
 
 -- whatever was to be done with the parts

@@ -25,7 +25,7 @@ either true o a b m n is wrote = (sym is, wrote)
 either false o a b m n is wrote = (sym is, wrote)
 
 -- with so many refused commands
-ended : (k : ℕ) (s : Status) (o : Outcome) (a b : Option (List ℕ)) (m n : ℕ) → s ≡ ends_as k → o.status ≡ ends_as k → Appends a b o.text → Does o a b m n s
+pub ended : (k : ℕ) (s : Status) (o : Outcome) (a b : Option (List ℕ)) (m n : ℕ) → s ≡ ends_as k → o.status ≡ ends_as k → Appends a b o.text → Does o a b m n s
 ended k s o a b m n ends is wrote = rw ends (either (k == 0) o a b m n is wrote)
 
 -- with this end of a replay

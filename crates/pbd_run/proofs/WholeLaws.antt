@@ -13,14 +13,17 @@ use Rattle.pbd_world.specs.World.{opened}
 use Rattle.pbd_scene.specs.Checks.{Checked}
 use Rattle.pbd_scene.specs.Scene.{scene_of}
 use Rattle.pbd_script.specs.Commands.{commands}
+use Rattle.pbd_obj.specs.declared.mesh.ObjFault.{ObjFault}
+use Rattle.pbd_obj.specs.MeshLinks.{with_mesh}
+use Rattle.pbd_obj.specs.Reading.{read}
 use Rattle.pbd_log.specs.Logs.{Log}
 use Rattle.pbd_session.specs.declared.ending.ReplayEnd.{ReplayEnd}
 use Rattle.pbd_session.specs.declared.ending.ReplayEnd.TheVariants as ends
 use Rattle.pbd_session.specs.Replaying.{replayed}
-use Rattle.pbd_outcome.specs.declared.status.Status.TheVariants.{Done, SomeRefused, ReadFault, NoScript, SceneNotText}
+use Rattle.pbd_outcome.specs.declared.status.Status.TheVariants.{Done, SomeRefused, ReadFault, SceneNotText}
 use Rattle.pbd_outcome.specs.Generated.{generated}
 use Rattle.pbd_outcome.specs.Split.{split}
-use Rattle.pbd_outcome.specs.Outcome.{IsReplayed, Outcome, halves_in, large_outcome, log_outcome, parts_in, range, recorded, replay_status, scene_in, settled, simulated, stops, summary_outcome, tree_in}
+use Rattle.pbd_outcome.specs.Outcome.{IsReplayed, Outcome, halves_in, large_outcome, log_outcome, mesh_in, meshed, parts_in, range, recorded, replay_status, scene_in, settled, simulated, stops, summary_outcome, tree_in}
 
 -- an outcome that leaves nothing and is no fault of reading
 pub record IsWhole (o : Outcome) : Type 0 where
@@ -76,6 +79,20 @@ recorded_whole input =
     then_whole (halves_in (split input)) _ (halves_whole (split input)) (λ h.
     then_whole (scene_in range h.0) _ (scene_whole range h.0) (λ parts.
     record { rest = refl; read = no_read_fault (refused_count (opened parts) (commands h.1) == 0) }))
+
+mesh_whole : {A : Type 0} (r : Result A ObjFault) → StopsWhole (mesh_in r)
+mesh_whole (Ok a) = tt
+mesh_whole (Err fault) = record { rest = refl; read = λ e. cc }
+
+pub meshed_whole : (input : List ℕ) → IsWhole (meshed input)
+unfolding meshed
+meshed_whole input =
+    then_whole (halves_in (split input)) _ (halves_whole (split input)) (λ outer.
+    then_whole (halves_in (split outer.1)) _ (halves_whole (split outer.1)) (λ h.
+    then_whole (scene_in range h.0) _ (scene_whole range h.0) (λ parts.
+    then_whole (mesh_in (read outer.0)) _ (mesh_whole (read outer.0)) (λ mesh.
+    then_whole (mesh_in (with_mesh mesh parts)) _ (mesh_whole (with_mesh mesh parts)) (λ whole.
+    record { rest = refl; read = no_read_fault (refused_count (opened whole) (commands h.1) == 0) })))))
 
 log_whole : (log : Log) → IsWhole (log_outcome log)
 unfolding log_outcome

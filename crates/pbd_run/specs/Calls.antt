@@ -1,16 +1,22 @@
 -- What the calls below `run` do.
-use Rattle.std.specs.Prelude.{◌≡◌, ◌≢◌, ◌<◌, ◌≤◌, ◌^◌, ℕ, List, [], length, Option, Some, Result, Ok, Err}
+use Rattle.std.specs.Prelude.{◌≡◌, ◌≢◌, ◌+◌, ◌<◌, ◌≤◌, ◌^◌, ℕ, List, [], length, Option, Some, Result, Ok, Err}
 use Rattle.std.specs.Io.KnownBytes.{Appends, Keeps}
 use Rattle.pbd_io.specs.Causes.{HasRisen}
 use Rattle.pbd_io.specs.Pieces.{AppendsPrefix}
 use Rattle.pbd_world.specs.declared.parts.Parts.{Parts}
 use Rattle.pbd_world.specs.Outcomes.{◌>>=◌}
 use Rattle.pbd_scene.specs.declared.fault.SceneFault.TheVariants as faults
+use Rattle.pbd_obj.specs.declared.mesh.ObjMesh.{ObjMesh}
+use Rattle.pbd_obj.specs.declared.mesh.ObjFault.{ObjFault}
+use Rattle.pbd_obj.specs.declared.mesh.ObjFault.TheVariants as mesh_faults
+use Rattle.pbd_obj.specs.Meshes.{IsMesh}
+use Rattle.pbd_obj.specs.MeshLinks.{with_mesh}
+use Rattle.pbd_obj.specs.Reading.{read}
 use Rattle.pbd_outcome.specs.declared.job.Job.{Job}
-use Rattle.pbd_outcome.specs.declared.job.Job.TheVariants.{Simulate, Record, Replay, Scramble}
+use Rattle.pbd_outcome.specs.declared.job.Job.TheVariants.{Simulate, Record, Replay, Scramble, Obj}
 use Rattle.pbd_outcome.specs.declared.status.Status.{Status}
 use Rattle.pbd_outcome.specs.declared.status.Status.TheVariants.{ReadFault, WriteFault, InputTooLong, SceneNotText, SceneNotToml, OutOfMemory}
-use Rattle.pbd_outcome.specs.Outcome.{IsReplayed, Outcome, halves_in, most, most_of_log, range, recorded, scene_in, scene_refused, settled, simulated, stops}
+use Rattle.pbd_outcome.specs.Outcome.{IsReplayed, Outcome, halves_in, meshed, most, most_of_log, obj_refused, range, recorded, scene_in, scene_refused, settled, simulated, stops}
 use Rattle.pbd_outcome.specs.Split.{split}
 use Rattle.pbd_run.specs.declared.reading.ReadEnd.{ReadEnd}
 use Rattle.pbd_run.specs.declared.reading.ReadEnd.TheVariants as readings
@@ -60,6 +66,11 @@ EndsForScene (Fault faults.NotToml) old new before now status = Does (stops Scen
 EndsForScene (Fault (faults.Refused rule table position key)) old new before now status = Does (scene_refused (record { rule = rule; place = record { table = table; position = position }; key = key })) old new before now status
 EndsForScene (Fault faults.OutOfMemory) old new before now status = (status ≡ OutOfMemory) × Keeps old new
 
+-- what a call does that ends a run whose mesh is refused
+abbrev pub EndsForMesh : ObjFault → Option (List ℕ) → Option (List ℕ) → ℕ → ℕ → Status → Type 0
+EndsForMesh mesh_faults.OutOfMemory old new before now status = (status ≡ OutOfMemory) × Keeps old new
+EndsForMesh fault old new before now status = Does (obj_refused fault) old new before now status
+
 -- ---- jobs that read
 
 -- how many bytes the input of a job may have
@@ -73,6 +84,7 @@ IsOne (Simulate width) input o = o ≡ simulated input
 IsOne (Record width) input o = o ≡ recorded input
 IsOne (Replay width) input o = IsReplayed input o
 IsOne (Scramble seed) input o = o ≡ simulated input
+IsOne (Obj width) input o = o ≡ meshed input
 IsOne job input o = ⊥
 
 -- ---- a scene and a script
@@ -100,3 +112,21 @@ pub record IsRecordable (text : List ℕ) (parts : Parts) (script : List ℕ) : 
   pub short_text : length text < 2 ^ 32
   pub short_script : length script ≤ 2 ^ 31
   pub limit : parts.limit ≡ range
+
+-- ---- a mesh, a scene and a script
+
+-- the parts of a scene with the mesh of a text, or the text's or the mesh's fault
+abbrev pub with_text : List ℕ → Parts → Result Parts ObjFault
+with_text text parts = read text >>= λ mesh. with_mesh mesh parts
+
+-- the faces of a mesh can be written, where its first vertex is particle `base`
+pub record IsDrawable (base : ℕ) (mesh : ObjMesh) : Type 0 where
+  pub is_mesh : IsMesh mesh
+  pub few : base + length mesh.places < 2 ^ 31
+
+-- a text gives a mesh, and the mesh with a scene's parts makes the whole
+pub record HasMesh (text : List ℕ) (parts : Parts) (mesh : ObjMesh) (base : ℕ) (whole : Parts) : Type 0 where
+  pub gives : read text ≡ Ok mesh
+  pub first : base ≡ length parts.particles
+  pub joined : with_mesh mesh parts ≡ Ok whole
+  pub drawable : IsDrawable base mesh

@@ -3,9 +3,10 @@ use Rattle.std.specs.Prelude.{ℕ, List, []}
 use Rattle.pbd_world.specs.declared.parts.Parts.{Parts}
 use Rattle.pbd_world.specs.World.{opened}
 use Rattle.pbd_script.specs.Commands.{commands}
+use Rattle.pbd_obj.specs.declared.mesh.ObjMesh.{ObjMesh}
 use Rattle.pbd_log.specs.declared.entry.Entry.{Entry}
 use Rattle.pbd_session.specs.Replaying.{replayed}
-use Rattle.pbd_outcome.specs.Outcome.{Outcome, record_outcome, replay_outcome, session_outcome, summary_outcome}
+use Rattle.pbd_outcome.specs.Outcome.{Outcome, obj_outcome, record_outcome, replay_outcome, session_outcome, summary_outcome}
 
 -- a script on a scene
 unfoldable pub simulate_on : Parts → List ℕ → Outcome
@@ -14,6 +15,10 @@ simulate_on scene script = session_outcome (opened scene) (commands script)
 -- the same in a log, which has the bytes of the scene too
 unfoldable pub record_on : List ℕ → Parts → List ℕ → Outcome
 record_on text scene script = record_outcome text (opened scene) (commands script)
+
+-- a script on a scene that has a mesh, whose first vertex is particle `base`
+unfoldable pub obj_on : ℕ → ObjMesh → Parts → List ℕ → Outcome
+obj_on base mesh scene script = obj_outcome base mesh (opened scene) (commands script)
 
 -- the entries of a log on its scene
 unfoldable pub replay_on : Parts → List Entry → Outcome

@@ -7,6 +7,8 @@ mod generated;
 mod halves;
 mod large;
 mod line;
+mod obj;
+mod obj_text;
 mod reading;
 mod record;
 mod replay;
@@ -14,6 +16,7 @@ mod scene;
 mod scramble;
 mod simulate;
 mod split;
+mod thirds;
 
 pub use form::{AtWidth, Counted, Form, Settled, with_counter};
 pub use forms::perform;

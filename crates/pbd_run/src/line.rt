@@ -3,11 +3,14 @@ ghost use Rattle.std.specs.Prelude.{◌≡◌, ◌+◌, ◌≤◌, ◌++◌, ◌
 ghost use Rattle.pbd_scene.specs.Keys.{rule_number, rule_text, table_text, key_text};
 ghost use Rattle.pbd_outcome.specs.Statuses.{log_line, refused_line};
 ghost use Rattle.std.specs.Fmt.{signed_decimal};
+ghost use Rattle.pbd_session.specs.Printing.{frame_header};
 ghost use Rattle.pbd_session.specs.Replaying.{axis};
 ghost use Rattle.pbd_outcome.specs.Generated.{large_line, sums_line};
+ghost use Rattle.pbd_outcome.specs.ObjText.{comment, fault_name, fault_number, fault_place, obj_line};
 
 use arrayvec::ArrayString;
 use itoa::Buffer;
+use pbd_obj::ObjFault;
 use pbd_scene::{KeyName, SceneRule, TableName};
 use pbd_world::FrameSums;
 
@@ -81,6 +84,82 @@ pub fn log_line(offset: u64) -> Line
     let mut line = Line::new();
     line.push_str("error 9 LogRefused offset ");
     push_number(&mut line, offset);
+    line.push_str("\n");
+    line
+}
+
+// ---- the lines of a mesh
+
+fn fault_number(fault: ObjFault) -> u64
+    ensures { result ≡ fault_number fault }
+{
+    match fault {
+        ObjFault::OutOfMemory => 0,
+        ObjFault::BadNumber { .. } => 1,
+        ObjFault::BadFace { .. } => 2,
+        ObjFault::OutOfRange { .. } => 3,
+        ObjFault::TooMany => 4,
+        ObjFault::TooManyAtParticle { .. } => 5,
+    }
+}
+
+fn fault_name(fault: ObjFault) -> &'static str
+    ensures name { result.now ≡ fault_name fault }
+    ensures short { length result.now ≤ 20 }
+{
+    match fault {
+        ObjFault::OutOfMemory => "",
+        ObjFault::BadNumber { .. } => "BadNumber",
+        ObjFault::BadFace { .. } => "BadFace",
+        ObjFault::OutOfRange { .. } => "OutOfRange",
+        ObjFault::TooMany => "TooMany",
+        ObjFault::TooManyAtParticle { .. } => "TooManyAtParticle",
+    }
+}
+
+/// The line or the vertex of a fault, counted from 1, or 0.
+fn fault_place(fault: ObjFault) -> u32
+    ensures { result ≡ fault_place fault }
+{
+    match fault {
+        ObjFault::OutOfMemory | ObjFault::TooMany => 0,
+        ObjFault::BadNumber { line } => line,
+        ObjFault::BadFace { line } => line,
+        ObjFault::OutOfRange { line } => line,
+        ObjFault::TooManyAtParticle { vertex } => vertex,
+    }
+}
+
+/// The line of a mesh that is refused.
+#[tactic(auto, unfolding(pbd_outcome::specs::ObjText::obj_line))]
+pub fn obj_line(fault: ObjFault) -> Line
+    ensures { result.bytes ≡ obj_line fault }
+{
+    let mut line = Line::new();
+    line.push_str("error 14 ObjRefused ");
+    push_number(&mut line, fault_number(fault));
+    line.push_str(" ");
+    line.push_str(fault_name(fault));
+    line.push_str(" at ");
+    push_number(&mut line, u64::from(fault_place(fault)));
+    line.push_str("\n");
+    line
+}
+
+/// The first line of a frame, as a comment.
+#[tactic(auto, unfolding(pbd_session::specs::Printing::frame_header))]
+pub fn comment_frame(steps: u64, particles: u32, live: u32, contacts: u32) -> Line
+    ensures { result.bytes ≡ comment ++ frame_header steps particles live contacts }
+{
+    let mut line = Line::new();
+    line.push_str("# frame ");
+    push_number(&mut line, steps);
+    line.push_str(" ");
+    push_number(&mut line, u64::from(particles));
+    line.push_str(" ");
+    push_number(&mut line, u64::from(live));
+    line.push_str(" ");
+    push_number(&mut line, u64::from(contacts));
     line.push_str("\n");
     line
 }

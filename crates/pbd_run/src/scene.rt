@@ -2,12 +2,13 @@
 ghost use Rattle.std.specs.Prelude.{◌≡◌, ◌≢◌, [], IsTrue};
 ghost use Rattle.pbd_world.specs.Valid.{is_limit};
 ghost use Rattle.pbd_outcome.specs.Outcome.{log_refused, scene_in, stops};
-ghost use Rattle.pbd_run.specs.Calls.{Does, EndsForScene, EndsReading, GivesParts, IsPlain};
+ghost use Rattle.pbd_run.specs.Calls.{Does, EndsForMesh, EndsForScene, EndsReading, GivesParts, IsPlain};
 
-use crate::line::{log_line, refused_line};
+use crate::line::{log_line, obj_line, refused_line};
 use crate::reading::ReadEnd;
 use pbd_io::{Failed, Sink};
 use pbd_log::LogFault;
+use pbd_obj::ObjFault;
 use pbd_outcome::{Status, status_line};
 use pbd_scene::{SceneFault, read_scene};
 use pbd_world::Scene;
@@ -88,6 +89,19 @@ pub fn stop_log<K: Sink>(fault: LogFault, sink: &mut K) -> Status
 {
     match sink.write(log_line(fault.offset).as_str().as_bytes()) {
         Ok(()) => Status::LogRefused,
+        Err(Failed) => Status::WriteFault,
+    }
+}
+
+/// Ends a run whose mesh is refused, or for which there was no memory.
+pub fn stop_mesh<K: Sink>(fault: ObjFault, sink: &mut K) -> Status
+    ensures { EndsForMesh fault (K.written sink.old) (K.written sink.new) (K.faults sink.old) (K.faults sink.new) result }
+{
+    if let ObjFault::OutOfMemory = fault {
+        return Status::OutOfMemory;
+    }
+    match sink.write(obj_line(fault).as_str().as_bytes()) {
+        Ok(()) => Status::ObjRefused,
         Err(Failed) => Status::WriteFault,
     }
 }

@@ -1,0 +1,17 @@
+use Rattle.std.proofs.Common.{◌++◌}
+use Rattle.std.proofs.lemmas.Result.{err_from_is_err_and}
+use Rattle.pbd_io.specs.Appending.{prefix_longer}
+use Rattle.pbd_world.specs.Text.{header_line}
+use Rattle.pbd_outcome.specs.ObjText.{comment}
+use Rattle.pbd_obj.proofs.WriteLemmas.{piece_then}
+use Rattle.pbd_run.proofs.ObjTextLaws.{frame_is}
+use Rattle.pbd_run.proofs.obj_text.Faces.write_frame.Goals as goal
+
+pub returns-in_err-write_header-clause-bytes : goal.returns-in_err-write_header-clause-bytes
+returns-in_err-write_header-clause-bytes g c =
+    let p = err_from_is_err_and c.from_residual.result c.from_residual.ensures.1 in
+    rw (p.1, frame_is c.args.self.now.base c.args.self.now.mesh.now c.args.session.now) (prefix_longer _ _ (comment ++ header_line c.args.session.now) _ c.in_err-write_header.ensures.bytes)
+
+pub returns-clause-bytes : goal.returns-clause-bytes
+returns-clause-bytes g c =
+    rw (frame_is c.args.self.now.base c.args.self.now.mesh.now c.args.session.now) (piece_then _ _ _ c.write_mesh.result _ _ c.in_ok-write_header.ensures.bytes c.write_mesh.ensures.bytes)

@@ -1,0 +1,174 @@
+//! Replies as OBJ text: a frame is a mesh, and all else is comments.
+ghost use Rattle.std.specs.Prelude.{◌≡◌, ◌<◌, ◌≤◌, ◌^◌, ◌++◌, length, IfOk, if◌then◌else◌};
+ghost use Rattle.std.specs.List.{flat_map};
+ghost use Rattle.pbd_io.specs.Causes.{HasCause};
+ghost use Rattle.pbd_io.specs.Pieces.{WritesPiece};
+ghost use Rattle.pbd_obj.specs.Meshes.{faces};
+ghost use Rattle.pbd_obj.specs.Writing.{face_line};
+ghost use Rattle.pbd_script.specs.Commands.{commands};
+ghost use Rattle.pbd_world.specs.Session.{is_refused, refused_count};
+ghost use Rattle.pbd_world.specs.Text.{header_line};
+ghost use Rattle.pbd_outcome.specs.ObjText.{comment, obj_frame, obj_session_text, obj_text, particle_line};
+ghost use Rattle.pbd_run.specs.Calls.{IsDrawable};
+
+use crate::line::comment_frame;
+use pbd_io::{Failed, Sink};
+use pbd_obj::{ObjMesh, write_face, write_vertex};
+use pbd_pair::Projector;
+use pbd_script::Script;
+use pbd_session::{RunEnd, Session};
+use pbd_store::Steps;
+use pbd_world::Reply;
+use std::sync::ledger::Ledger;
+
+/// What stands before a line that is no part of a mesh.
+const COMMENT: &[u8] = b"# ";
+
+fn write_header<const L: usize, P: Projector<L> + Drop, K: Sink>(
+    session: &Session<L, P>,
+    sink: &mut K,
+) -> Result<(), Failed>
+    requires lanes_high { L ≤ 16 }
+    ensures bytes { WritesPiece (K.written sink.old) (K.written sink.new) result (comment ++ header_line session.now) }
+    ensures cause { HasCause (K.faults sink.old) (K.faults sink.new) result }
+{
+    let solver = session.solver();
+    let steps = solver.step_count();
+    let particles = solver.particles();
+    let live = solver.live();
+    let contacts = solver.contacts();
+    let header = comment_frame(steps, particles, live, contacts);
+    sink.write(header.as_str().as_bytes())
+}
+
+/// Writes each particle as a vertex.
+fn write_particles<const L: usize, P: Projector<L> + Drop, K: Sink, G: Ledger>(
+    session: &Session<L, P>,
+    sink: &mut K,
+    steps: &mut Steps<G>,
+) -> Result<(), Failed>
+    requires lanes_high { L ≤ 16 }
+    ensures bytes { WritesPiece (K.written sink.old) (K.written sink.new) result (flat_map particle_line session.now.particles) }
+    ensures cause { HasCause (K.faults sink.old) (K.faults sink.new) result }
+{
+    let solver = session.solver();
+    for i in 0..solver.particles() {
+        write_vertex(solver.particle(i, steps).at, sink)?;
+    }
+    Ok(())
+}
+
+/// How many refusals a reply is: one or none.
+fn refusals(reply: &Reply) -> u64
+    ensures { result ≡ (if is_refused reply.now then 1 else 0) }
+{
+    match reply {
+        Reply::Refused(_) => 1,
+        _ => 0,
+    }
+}
+
+/// The faces of the frames.
+#[derive(Drop)]
+pub struct Faces<'a> {
+    pub mesh: &'a ObjMesh,
+    /// The particle of the first vertex.
+    pub base: u32,
+}
+
+impl Faces<'_> {
+    fn write_faces<K: Sink>(&self, sink: &mut K) -> Result<(), Failed>
+        requires drawable { IsDrawable self.now.base self.now.mesh.now }
+        ensures bytes { WritesPiece (K.written sink.old) (K.written sink.new) result (flat_map (face_line self.now.base) (faces self.now.mesh.now)) }
+        ensures cause { HasCause (K.faults sink.old) (K.faults sink.new) result }
+    {
+        let sizes = self.mesh.sizes.as_slice();
+        let mut rest = self.mesh.corners.as_slice();
+        for size in sizes {
+            let (face, behind) = rest.split_at(*size as usize);
+            write_face(face, self.base, sink)?;
+            rest = behind;
+        }
+        Ok(())
+    }
+
+    /// Writes the particles and then the faces.
+    fn write_mesh<const L: usize, P: Projector<L> + Drop, K: Sink, G: Ledger>(
+        &self,
+        session: &Session<L, P>,
+        sink: &mut K,
+        steps: &mut Steps<G>,
+    ) -> Result<(), Failed>
+        requires lanes_high { L ≤ 16 }
+        requires drawable { IsDrawable self.now.base self.now.mesh.now }
+        ensures bytes { WritesPiece (K.written sink.old) (K.written sink.new) result (flat_map particle_line session.now.particles ++ flat_map (face_line self.now.base) (faces self.now.mesh.now)) }
+        ensures cause { HasCause (K.faults sink.old) (K.faults sink.new) result }
+    {
+        write_particles(session, sink, steps)?;
+        self.write_faces(sink)
+    }
+
+    fn write_frame<const L: usize, P: Projector<L> + Drop, K: Sink, G: Ledger>(
+        &self,
+        session: &Session<L, P>,
+        sink: &mut K,
+        steps: &mut Steps<G>,
+    ) -> Result<(), Failed>
+        requires lanes_high { L ≤ 16 }
+        requires drawable { IsDrawable self.now.base self.now.mesh.now }
+        ensures bytes { WritesPiece (K.written sink.old) (K.written sink.new) result (obj_frame self.now.base self.now.mesh.now session.now) }
+        ensures cause { HasCause (K.faults sink.old) (K.faults sink.new) result }
+    {
+        write_header(session, sink)?;
+        self.write_mesh(session, sink, steps)
+    }
+
+    /// Writes a reply, with frames and ledgers read from the session's world as it is now.
+    #[tactic(auto, unfolding(pbd_outcome::specs::ObjText::obj_text))]
+    fn write_reply<const L: usize, P: Projector<L> + Drop, K: Sink, G: Ledger>(
+        &self,
+        session: &Session<L, P>,
+        reply: &Reply,
+        sink: &mut K,
+        steps: &mut Steps<G>,
+    ) -> Result<(), Failed>
+        requires lanes_high { L ≤ 16 }
+        requires drawable { IsDrawable self.now.base self.now.mesh.now }
+        ensures bytes { WritesPiece (K.written sink.old) (K.written sink.new) result (obj_text self.now.base self.now.mesh.now session.now reply.now) }
+        ensures cause { HasCause (K.faults sink.old) (K.faults sink.new) result }
+    {
+        match reply {
+            Reply::Frame => self.write_frame(session, sink, steps),
+            Reply::Done | Reply::Ledger | Reply::Refused(_) => {
+                session.write_after(COMMENT, reply, sink, steps)
+            }
+        }
+    }
+
+    /// Does the commands of a script, and writes their replies as OBJ text.
+    /// `Failed` comes only where the sink's count of faults rose, and then a prefix of these bytes was appended.
+    pub fn run_script<const L: usize, P: Projector<L> + Drop, K: Sink, G: Ledger>(
+        &self,
+        session: &mut Session<L, P>,
+        script: &[u8],
+        sink: &mut K,
+        steps: &mut Steps<G>,
+    ) -> Result<RunEnd, Failed>
+        requires lanes_low { 0 < L }
+        requires lanes_high { L ≤ 16 }
+        requires drawable { IsDrawable self.now.base self.now.mesh.now }
+        requires script { length script.now ≤ 2 ^ 31 }
+        ensures bytes { WritesPiece (K.written sink.old) (K.written sink.new) result (obj_session_text self.now.base self.now.mesh.now session.old (commands script.now)) }
+        ensures refused { IfOk result (λ end. end.refused ≡ refused_count session.old (commands script.now)) }
+        ensures cause { HasCause (K.faults sink.old) (K.faults sink.new) result }
+    {
+        let mut script = Script::new(script);
+        let mut refused = 0;
+        while let Some(command) = script.next() {
+            let reply = session.apply(&command, steps);
+            self.write_reply(session, &reply, sink, steps)?;
+            refused += refusals(&reply);
+        }
+        Ok(RunEnd { refused })
+    }
+}
