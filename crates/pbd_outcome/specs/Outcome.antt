@@ -19,6 +19,9 @@ use Rattle.pbd_session.specs.declared.ending.ReplayEnd.{ReplayEnd}
 use Rattle.pbd_session.specs.declared.ending.ReplayEnd.TheVariants as ends
 use Rattle.pbd_session.specs.Recording.{entries_of, log_bytes}
 use Rattle.pbd_session.specs.Replaying.{Replay, replayed}
+use Rattle.pbd_marks.specs.declared.command.MarkCommand.{MarkCommand}
+use Rattle.pbd_marks.specs.Marked.{Marked, marked_text, marked_refused_count, unmarked}
+use Rattle.pbd_marks.specs.Script.{mark_commands}
 use Rattle.pbd_outcome.specs.declared.job.Job.{Job}
 use Rattle.pbd_outcome.specs.declared.job.Job.TheVariants as jobs
 use Rattle.pbd_outcome.specs.declared.status.Status.{Status}
@@ -101,6 +104,18 @@ recorded input = settled (do
   parts ← scene_in range halves.0
   Ok (record_outcome halves.0 (opened parts) (commands halves.1)))
 
+-- ---- a scene and a script with marks
+
+-- the replies to the commands
+abbrev pub marks_outcome : Marked → List MarkCommand → Outcome
+marks_outcome m cs = record { text = marked_text m cs; status = ends_as (marked_refused_count m cs); rest = [] }
+
+unfoldable pub simulated_with_marks : List ℕ → Outcome
+simulated_with_marks input = settled (do
+  halves ← halves_in (split input)
+  parts ← scene_in range halves.0
+  Ok (marks_outcome (unmarked (opened parts)) (mark_commands halves.1)))
+
 -- ---- a log
 
 abbrev pub replay_status : ReplayEnd → Status
@@ -154,4 +169,5 @@ IsOutcome (Some (jobs.Record width)) input o = IsWithin most (λ o. o ≡ record
 IsOutcome (Some (jobs.Replay width)) input o = IsWithin most_of_log (IsReplayed input) input o
 IsOutcome (Some (jobs.Large width number size)) input o = o ≡ large_outcome number size input
 IsOutcome (Some (jobs.Scramble seed)) input o = IsWithin most (λ o. o ≡ simulated input) input o
+IsOutcome (Some (jobs.Marks width)) input o = IsWithin most (λ o. o ≡ simulated_with_marks input) input o
 IsOutcome (Some job) input o = o ≡ stops NotBuilt input

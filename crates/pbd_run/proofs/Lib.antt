@@ -2,6 +2,7 @@ pub mod GeneratedLaws
 pub mod GeneratedValid
 pub mod InputLaws
 pub mod LargeLaws
+pub mod MarkedRuns
 pub mod RunLaws
 pub mod SceneLaws
 pub mod SessionLaws

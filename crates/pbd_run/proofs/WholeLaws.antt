@@ -17,10 +17,12 @@ use Rattle.pbd_log.specs.Logs.{Log}
 use Rattle.pbd_session.specs.declared.ending.ReplayEnd.{ReplayEnd}
 use Rattle.pbd_session.specs.declared.ending.ReplayEnd.TheVariants as ends
 use Rattle.pbd_session.specs.Replaying.{replayed}
+use Rattle.pbd_marks.specs.Marked.{marked_refused_count, unmarked}
+use Rattle.pbd_marks.specs.Script.{mark_commands}
 use Rattle.pbd_outcome.specs.declared.status.Status.TheVariants.{Done, SomeRefused, ReadFault, NoScript, SceneNotText}
 use Rattle.pbd_outcome.specs.Generated.{generated}
 use Rattle.pbd_outcome.specs.Split.{split}
-use Rattle.pbd_outcome.specs.Outcome.{IsReplayed, Outcome, halves_in, large_outcome, log_outcome, parts_in, range, recorded, replay_status, scene_in, settled, simulated, stops, summary_outcome, tree_in}
+use Rattle.pbd_outcome.specs.Outcome.{IsReplayed, Outcome, halves_in, large_outcome, log_outcome, parts_in, range, recorded, replay_status, scene_in, settled, simulated, simulated_with_marks, stops, summary_outcome, tree_in}
 
 -- an outcome that leaves nothing and is no fault of reading
 pub record IsWhole (o : Outcome) : Type 0 where
@@ -76,6 +78,13 @@ recorded_whole input =
     then_whole (halves_in (split input)) _ (halves_whole (split input)) (λ h.
     then_whole (scene_in range h.0) _ (scene_whole range h.0) (λ parts.
     record { rest = refl; read = no_read_fault (refused_count (opened parts) (commands h.1) == 0) }))
+
+pub marks_whole : (input : List ℕ) → IsWhole (simulated_with_marks input)
+unfolding simulated_with_marks
+marks_whole input =
+    then_whole (halves_in (split input)) _ (halves_whole (split input)) (λ h.
+    then_whole (scene_in range h.0) _ (scene_whole range h.0) (λ parts.
+    record { rest = refl; read = no_read_fault (marked_refused_count (unmarked (opened parts)) (mark_commands h.1) == 0) }))
 
 log_whole : (log : Log) → IsWhole (log_outcome log)
 unfolding log_outcome

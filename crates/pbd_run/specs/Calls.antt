@@ -7,10 +7,10 @@ use Rattle.pbd_world.specs.declared.parts.Parts.{Parts}
 use Rattle.pbd_world.specs.Outcomes.{◌>>=◌}
 use Rattle.pbd_scene.specs.declared.fault.SceneFault.TheVariants as faults
 use Rattle.pbd_outcome.specs.declared.job.Job.{Job}
-use Rattle.pbd_outcome.specs.declared.job.Job.TheVariants.{Simulate, Record, Replay, Scramble}
+use Rattle.pbd_outcome.specs.declared.job.Job.TheVariants.{Simulate, Record, Replay, Scramble, Marks}
 use Rattle.pbd_outcome.specs.declared.status.Status.{Status}
 use Rattle.pbd_outcome.specs.declared.status.Status.TheVariants.{ReadFault, WriteFault, InputTooLong, SceneNotText, SceneNotToml, OutOfMemory}
-use Rattle.pbd_outcome.specs.Outcome.{IsReplayed, Outcome, halves_in, most, most_of_log, range, recorded, scene_in, scene_refused, settled, simulated, stops}
+use Rattle.pbd_outcome.specs.Outcome.{IsReplayed, Outcome, halves_in, most, most_of_log, range, recorded, scene_in, scene_refused, settled, simulated, simulated_with_marks, stops}
 use Rattle.pbd_outcome.specs.Split.{split}
 use Rattle.pbd_run.specs.declared.reading.ReadEnd.{ReadEnd}
 use Rattle.pbd_run.specs.declared.reading.ReadEnd.TheVariants as readings
@@ -73,6 +73,7 @@ IsOne (Simulate width) input o = o ≡ simulated input
 IsOne (Record width) input o = o ≡ recorded input
 IsOne (Replay width) input o = IsReplayed input o
 IsOne (Scramble seed) input o = o ≡ simulated input
+IsOne (Marks width) input o = o ≡ simulated_with_marks input
 IsOne job input o = ⊥
 
 -- ---- a scene and a script

@@ -5,7 +5,9 @@ use Rattle.pbd_world.specs.World.{opened}
 use Rattle.pbd_script.specs.Commands.{commands}
 use Rattle.pbd_log.specs.declared.entry.Entry.{Entry}
 use Rattle.pbd_session.specs.Replaying.{replayed}
-use Rattle.pbd_outcome.specs.Outcome.{Outcome, record_outcome, replay_outcome, session_outcome, summary_outcome}
+use Rattle.pbd_marks.specs.Marked.{unmarked}
+use Rattle.pbd_marks.specs.Script.{mark_commands}
+use Rattle.pbd_outcome.specs.Outcome.{Outcome, marks_outcome, record_outcome, replay_outcome, session_outcome, summary_outcome}
 
 -- a script on a scene
 unfoldable pub simulate_on : Parts → List ℕ → Outcome
@@ -14,6 +16,10 @@ simulate_on scene script = session_outcome (opened scene) (commands script)
 -- the same in a log, which has the bytes of the scene too
 unfoldable pub record_on : List ℕ → Parts → List ℕ → Outcome
 record_on text scene script = record_outcome text (opened scene) (commands script)
+
+-- a script with marks on a scene
+unfoldable pub marks_on : Parts → List ℕ → Outcome
+marks_on scene script = marks_outcome (unmarked (opened scene)) (mark_commands script)
 
 -- the entries of a log on its scene
 unfoldable pub replay_on : Parts → List Entry → Outcome

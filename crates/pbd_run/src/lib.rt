@@ -7,6 +7,8 @@ mod generated;
 mod halves;
 mod large;
 mod line;
+mod marked;
+mod marks;
 mod reading;
 mod record;
 mod replay;

@@ -1,4 +1,4 @@
-use Rattle.pbd_outcome.specs.Outcome.{recorded, simulated}
+use Rattle.pbd_outcome.specs.Outcome.{recorded, simulated, simulated_with_marks}
 use Rattle.pbd_run.proofs.RunLaws.{did_one}
 use Rattle.pbd_run.proofs.forms.on_input.Goals as goal
 
@@ -10,3 +10,6 @@ returns-in-Record g c = rw c.in-Record.is (did_one (recorded c.args.input.now) _
 
 pub returns-in-Scramble : goal.returns-in-Scramble
 returns-in-Scramble g c = rw c.in-Scramble.is (did_one (simulated c.args.input.now) _ _ _ _ _ c.scramble_input.ensures)
+
+pub returns-in-Marks : goal.returns-in-Marks
+returns-in-Marks g c = rw c.in-Marks.is (did_one (simulated_with_marks c.args.input.now) _ _ _ _ _ c.marks_input.ensures)
