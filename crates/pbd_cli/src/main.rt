@@ -3,6 +3,8 @@
 
 #[cfg(test)]
 mod examples;
+#[cfg(test)]
+mod marks;
 mod run;
 #[cfg(test)]
 mod tests;
