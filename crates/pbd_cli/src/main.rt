@@ -5,6 +5,7 @@
 mod examples;
 #[cfg(test)]
 mod meshes;
+mod marks;
 mod run;
 #[cfg(test)]
 mod tests;

@@ -250,7 +250,7 @@ fn the_step_limit_stops_no_run(rt: HostRuntime) -> Result<(), Fail> {
 #[test]
 fn a_run_that_stops_writes_one_line(rt: HostRuntime) -> Result<(), Fail> {
     let alloc = rt.alloc();
-    let runs: [(&str, &str, &str, Status); 30] = [
+    let runs: [(&str, &str, &str, Status); 32] = [
         ("simulate 1", "", "error 5 NoScript", Status::NoScript),
         (
             "simulate 1",
@@ -337,14 +337,21 @@ fn a_run_that_stops_writes_one_line(rt: HostRuntime) -> Result<(), Fail> {
             "error 8 SceneRefused 5 OutOfRange scene 0 gravity",
             Status::SceneRefused,
         ),
-        ("marks 4", "", "error 13 NotBuilt", Status::NotBuilt),
-        ("host 8", "", "error 13 NotBuilt", Status::NotBuilt),
+        ("marks 4", "", "error 5 NoScript", Status::NoScript),
+        ("host 8", "", "error 5 NoScript", Status::NoScript),
         (
             "scramble 18446744073709551615",
             "",
             "error 5 NoScript",
             Status::NoScript,
         ),
+        (
+            "marks 16",
+            "colour = 1; %%; mark 1",
+            "error 8 SceneRefused 2 UnknownKey scene 0 -",
+            Status::SceneRefused,
+        ),
+        ("marks 3", "", "error 1 Usage", Status::Usage),
         ("simulate 3", "", "error 1 Usage", Status::Usage),
         ("simulate 01", "", "error 1 Usage", Status::Usage),
         ("simulate 1 1", "", "error 1 Usage", Status::Usage),

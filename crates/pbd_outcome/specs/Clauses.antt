@@ -5,7 +5,7 @@ use Rattle.pbd_io.specs.Causes.{HasRisen}
 use Rattle.pbd_io.specs.Pieces.{AppendsPrefix}
 use Rattle.pbd_world.specs.declared.command.Width.{Width}
 use Rattle.pbd_outcome.specs.declared.job.Job.{Job}
-use Rattle.pbd_outcome.specs.declared.job.Job.TheVariants.{Simulate, Record, Replay, Scramble, Obj}
+use Rattle.pbd_outcome.specs.declared.job.Job.TheVariants.{Simulate, Record, Replay, Scramble, Obj, Marks}
 use Rattle.pbd_outcome.specs.declared.status.Status.{Status}
 use Rattle.pbd_outcome.specs.declared.status.Status.TheVariants.{ReadFault, WriteFault, OutOfMemory}
 use Rattle.pbd_outcome.specs.Statuses.{status_line}
@@ -23,12 +23,9 @@ ends left source_faults written sink_faults source sink = record { left = left s
 
 -- the jobs that read their input
 abbrev pub Reads : Option Job → Type 0
-Reads (Some (Simulate width)) = Unit {0}
-Reads (Some (Record width)) = Unit {0}
-Reads (Some (Replay width)) = Unit {0}
-Reads (Some (Scramble seed)) = Unit {0}
-Reads (Some (Obj width)) = Unit {0}
-Reads _ = ⊥
+Reads None = ⊥
+Reads (Some (Large width number size)) = ⊥
+Reads (Some job) = Unit {0}
 
 -- the input is told, or the job doesn't read it
 abbrev pub IsInput : Option Job → Option (List ℕ) → List ℕ → Type 0

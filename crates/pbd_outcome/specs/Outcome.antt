@@ -23,10 +23,13 @@ use Rattle.pbd_session.specs.declared.ending.ReplayEnd.{ReplayEnd}
 use Rattle.pbd_session.specs.declared.ending.ReplayEnd.TheVariants as ends
 use Rattle.pbd_session.specs.Recording.{entries_of, log_bytes}
 use Rattle.pbd_session.specs.Replaying.{Replay, replayed}
+use Rattle.pbd_marks.specs.declared.command.MarkCommand.{MarkCommand}
+use Rattle.pbd_marks.specs.Marked.{Marked, marked_text, marked_refused_count, unmarked}
+use Rattle.pbd_marks.specs.Script.{mark_commands}
 use Rattle.pbd_outcome.specs.declared.job.Job.{Job}
 use Rattle.pbd_outcome.specs.declared.job.Job.TheVariants as jobs
 use Rattle.pbd_outcome.specs.declared.status.Status.{Status}
-use Rattle.pbd_outcome.specs.declared.status.Status.TheVariants.{Done, SomeRefused, Usage, InputTooLong, NoScript, SceneNotText, SceneNotToml, SceneRefused, LogRefused, Mismatch, NotBuilt, ObjRefused}
+use Rattle.pbd_outcome.specs.declared.status.Status.TheVariants.{Done, SomeRefused, Usage, InputTooLong, NoScript, SceneNotText, SceneNotToml, SceneRefused, LogRefused, Mismatch, ObjRefused}
 use Rattle.pbd_outcome.specs.Generated.{generated, summary}
 use Rattle.pbd_outcome.specs.ObjText.{obj_line, obj_session_text}
 use Rattle.pbd_outcome.specs.Split.{split}
@@ -130,6 +133,16 @@ meshed input = settled (do
   mesh ← mesh_in (read outer.0)
   whole ← mesh_in (with_mesh mesh parts)
   Ok (obj_outcome (length parts.particles) mesh (opened whole) (commands halves.1)))
+-- ---- a scene and a script with marks
+
+-- the replies to the commands
+abbrev pub marks_outcome : Marked → List MarkCommand → Outcome
+marks_outcome m cs = record { text = marked_text m cs; status = ends_as (marked_refused_count m cs); rest = [] }
+
+unfoldable pub simulated_with_marks : List ℕ → Outcome
+simulated_with_marks input = settled (do
+  halves ← halves_in (split input)
+  Ok (marks_outcome (unmarked (opened parts)) (mark_commands halves.1)))
 
 -- ---- a log
 
@@ -176,7 +189,7 @@ IsWithin limit IsWhole input o =
     ((limit < length input) × (o ≡ stops InputTooLong (drop (limit + 1) input)))
     ⊎ ((length input ≤ limit) × IsWhole o)
 
--- Words that are no form read nothing, nor does a form that isn't built.
+-- Words that are no form read nothing.
 abbrev pub IsOutcome : Option Job → List ℕ → Outcome → Type 0
 IsOutcome None input o = o ≡ stops Usage input
 IsOutcome (Some (jobs.Simulate width)) input o = IsWithin most (λ o. o ≡ simulated input) input o
@@ -185,4 +198,4 @@ IsOutcome (Some (jobs.Replay width)) input o = IsWithin most_of_log (IsReplayed 
 IsOutcome (Some (jobs.Large width number size)) input o = o ≡ large_outcome number size input
 IsOutcome (Some (jobs.Scramble seed)) input o = IsWithin most (λ o. o ≡ simulated input) input o
 IsOutcome (Some (jobs.Obj width)) input o = IsWithin most (λ o. o ≡ meshed input) input o
-IsOutcome (Some job) input o = o ≡ stops NotBuilt input
+IsOutcome (Some (jobs.Marks width)) input o = IsWithin most (λ o. o ≡ simulated_with_marks input) input o

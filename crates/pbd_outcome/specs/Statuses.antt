@@ -4,7 +4,7 @@ use Rattle.pbd_world.specs.Text.{line}
 use Rattle.pbd_scene.specs.Checks.{Broken}
 use Rattle.pbd_scene.specs.Keys.{key_text, table_text, rule_number, rule_text}
 use Rattle.pbd_outcome.specs.declared.status.Status.{Status}
-use Rattle.pbd_outcome.specs.declared.status.Status.TheVariants.{Done, Usage, ReadFault, WriteFault, InputTooLong, NoScript, SceneNotText, SceneNotToml, SceneRefused, LogRefused, Mismatch, SomeRefused, OutOfMemory, NotBuilt, ObjRefused}
+use Rattle.pbd_outcome.specs.declared.status.Status.TheVariants.{Done, Usage, ReadFault, WriteFault, InputTooLong, NoScript, SceneNotText, SceneNotToml, SceneRefused, LogRefused, Mismatch, SomeRefused, OutOfMemory, ObjRefused}
 
 abbrev pub status_number : Status → ℕ
 status_number Done = 0
@@ -20,7 +20,6 @@ status_number LogRefused = 9
 status_number Mismatch = 10
 status_number SomeRefused = 11
 status_number OutOfMemory = 12
-status_number NotBuilt = 13
 status_number ObjRefused = 14
 
 abbrev pub error_line : List (List ℕ) → List ℕ
@@ -34,7 +33,6 @@ status_line InputTooLong = error_line (codes "4" ∷ codes "InputTooLong" ∷ []
 status_line NoScript = error_line (codes "5" ∷ codes "NoScript" ∷ [])
 status_line SceneNotText = error_line (codes "6" ∷ codes "SceneNotText" ∷ [])
 status_line SceneNotToml = error_line (codes "7" ∷ codes "SceneNotToml" ∷ [])
-status_line NotBuilt = error_line (codes "13" ∷ codes "NotBuilt" ∷ [])
 status_line _ = []
 
 -- the rule that a scene breaks, and where

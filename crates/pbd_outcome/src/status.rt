@@ -33,8 +33,6 @@ pub enum Status {
     SomeRefused,
     /// Memory ran out before the first byte of output.
     OutOfMemory,
-    /// The form isn't built yet.
-    NotBuilt,
     /// The mesh has a fault, or can't be added to the scene.
     ObjRefused,
 }
@@ -60,7 +58,6 @@ impl Status {
             Status::Mismatch => 10,
             Status::SomeRefused => 11,
             Status::OutOfMemory => 12,
-            Status::NotBuilt => 13,
             Status::ObjRefused => 14,
         }
     }
@@ -77,7 +74,6 @@ pub fn status_line(status: Status) -> &'static str
         Status::NoScript => "error 5 NoScript\n",
         Status::SceneNotText => "error 6 SceneNotText\n",
         Status::SceneNotToml => "error 7 SceneNotToml\n",
-        Status::NotBuilt => "error 13 NotBuilt\n",
         _ => "",
     }
 }

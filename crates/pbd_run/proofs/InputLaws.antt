@@ -9,12 +9,12 @@ use Rattle.pbd_mesh.proofs.Facts.{limit_bounds}
 use Rattle.pbd_log.specs.Logs.{Log, IsVersion}
 use Rattle.pbd_outcome.specs.declared.status.Status.{Status}
 use Rattle.pbd_outcome.specs.declared.status.Status.TheVariants.{NoScript}
-use Rattle.pbd_outcome.specs.Outcome.{Outcome, log_outcome, range, recorded, scene_in, settled, simulated, stops}
+use Rattle.pbd_outcome.specs.Outcome.{Outcome, log_outcome, range, recorded, scene_in, settled, simulated, simulated_with_marks, stops}
 use Rattle.pbd_outcome.specs.Split.{split}
 use Rattle.pbd_outcome.proofs.OutcomeLaws.{log_is, settled_ok}
 use Rattle.pbd_run.specs.declared.scene.SceneStop.{SceneStop}
 use Rattle.pbd_run.specs.Calls.{Does, EndsForScene, HasHalves, IsRecordable, Stops, StopsAtHalves, on_halves}
-use Rattle.pbd_run.specs.Forms.{record_on, replay_on, simulate_on}
+use Rattle.pbd_run.specs.Forms.{marks_on, record_on, replay_on, simulate_on}
 use Rattle.pbd_run.proofs.SceneLaws.{its_limit, scene_ended}
 
 -- ---- halves
@@ -53,6 +53,20 @@ simulated_did input text parts script a b m n s has does = rw (simulated_is inpu
 
 pub simulated_stops : (input : List ℕ) (a b : Option (List ℕ)) (m n : ℕ) (s : Status) → StopsAtHalves input a b m n s → Does (simulated input) a b m n s
 simulated_stops input a b m n s stopped = rw (simulated_is input) (stopped simulate_with)
+
+marks_with : List ℕ → Parts → List ℕ → Outcome
+marks_with text parts script = marks_on parts script
+
+with_marks_is : (input : List ℕ) → simulated_with_marks input ≡ on_halves marks_with input
+unfolding simulated_with_marks marks_with marks_on
+with_marks_is input = refl
+
+pub marks_did : (input text : List ℕ) (parts : Parts) (script : List ℕ) (a b : Option (List ℕ)) (m n : ℕ) (s : Status) → HasHalves input text parts script → Does (marks_on parts script) a b m n s → Does (simulated_with_marks input) a b m n s
+unfolding marks_with
+marks_did input text parts script a b m n s has does = rw (with_marks_is input ∙ of_halves marks_with input text parts script has) does
+
+pub marks_stop : (input : List ℕ) (a b : Option (List ℕ)) (m n : ℕ) (s : Status) → StopsAtHalves input a b m n s → Does (simulated_with_marks input) a b m n s
+marks_stop input a b m n s stopped = rw (with_marks_is input) (stopped marks_with)
 
 recorded_is : (input : List ℕ) → recorded input ≡ on_halves record_on input
 unfolding recorded record_on

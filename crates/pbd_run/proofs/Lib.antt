@@ -4,6 +4,7 @@ pub mod InputLaws
 pub mod LargeLaws
 pub mod ObjLaws
 pub mod ObjTextLaws
+pub mod MarkedRuns
 pub mod RunLaws
 pub mod SceneLaws
 pub mod SessionLaws

@@ -10,12 +10,12 @@ use Rattle.pbd_outcome.specs.declared.job.Job.TheVariants.{Simulate, Record, Rep
 use Rattle.pbd_run.specs.declared.reading.ReadEnd.{ReadEnd}
 use Rattle.pbd_run.specs.declared.reading.ReadEnd.TheVariants as readings
 use Rattle.pbd_outcome.specs.declared.status.Status.{Status}
-use Rattle.pbd_outcome.specs.declared.status.Status.TheVariants.{Done, Usage, ReadFault, WriteFault, InputTooLong, NoScript, SceneNotText, SceneNotToml, SceneRefused, LogRefused, Mismatch, SomeRefused, OutOfMemory, NotBuilt, ObjRefused}
+use Rattle.pbd_outcome.specs.declared.status.Status.TheVariants.{Done, Usage, ReadFault, WriteFault, InputTooLong, NoScript, SceneNotText, SceneNotToml, SceneRefused, LogRefused, Mismatch, SomeRefused, OutOfMemory, ObjRefused}
 use Rattle.pbd_run.specs.Reading.{ReachesEnd, Overruns, ReadsAll}
-use Rattle.pbd_outcome.specs.Outcome.{Outcome, IsOutcome, IsWithin, large_outcome, stops}
+use Rattle.pbd_outcome.specs.Outcome.{Outcome, IsOutcome, IsWithin, large_outcome, stops, IsReplayed, most, most_of_log, recorded, simulated, simulated_with_marks}
 use Rattle.pbd_outcome.specs.Clauses.{Ends, IsInput, Promises, Reads}
 use Rattle.pbd_run.specs.Calls.{Does, DoesSome, EndsReading, IsOne, limit_of}
-use Rattle.pbd_run.proofs.WholeLaws.{IsWhole, large_read, large_rest, meshed_whole, simulated_whole, recorded_whole, replayed_whole}
+use Rattle.pbd_run.proofs.WholeLaws.{IsWhole, large_read, large_rest, meshed_whole, simulated_whole, recorded_whole, replayed_whole, marks_whole}
 
 -- ---- what a call did
 
@@ -33,7 +33,6 @@ does_settled o a b m n LogRefused does w m' = does
 does_settled o a b m n Mismatch does w m' = does
 does_settled o a b m n SomeRefused does w m' = does
 does_settled o a b m n OutOfMemory does w m' = absurd (m' refl)
-does_settled o a b m n NotBuilt does w m' = does
 does_settled o a b m n ObjRefused does w m' = does
 
 does_failed : (o : Outcome) (a b : Option (List ℕ)) (m n : ℕ) (s : Status) → Does o a b m n s → s ≡ WriteFault → HasRisen m n × AppendsPrefix a b o.text
@@ -81,19 +80,19 @@ forms (Replay w) reads = record { reads = tt; its = λ input o is. is; whole = r
 forms (Large w seed size) reads = absurd reads
 forms (Scramble seed) reads = record { reads = tt; its = λ input o is. is; whole = λ input o is. rw is (simulated_whole input) }
 forms (Obj w) reads = record { reads = tt; its = λ input o is. is; whole = λ input o is. rw is (meshed_whole input) }
-forms (Marks w) reads = absurd reads
+forms (Marks w) reads = record { reads = tt; its = λ input o is. is; whole = λ input o is. rw is (marks_whole input) }
 forms (Host w) reads = absurd reads
 
--- only these read
-pub reads_one : (job : Job) → Reads (Some job) → ((w : Width) → job ≡ Simulate w → ⊥) → ((w : Width) → job ≡ Record w → ⊥) → ((w : Width) → job ≡ Replay w → ⊥) → ((seed : ℕ) → job ≡ Scramble seed → ⊥) → ((w : Width) → job ≡ Obj w → ⊥) → ⊥
-reads_one (Simulate w) reads a b c d e = a w refl
-reads_one (Record w) reads a b c d e = b w refl
-reads_one (Replay w) reads a b c d e = c w refl
-reads_one (Large w seed size) reads a b c d e = reads
-reads_one (Scramble seed) reads a b c d e = d seed refl
-reads_one (Obj w) reads a b c d e = e w refl
-reads_one (Marks w) reads a b c d e = reads
-reads_one (Host w) reads a b c d e = reads
+-- every form but one reads
+pub reads_unless_large : (job : Job) → ((w : Width) (seed size : ℕ) → job ≡ Large w seed size → ⊥) → Reads (Some job)
+reads_unless_large (Simulate w) other = tt
+reads_unless_large (Record w) other = tt
+reads_unless_large (Replay w) other = tt
+reads_unless_large (Large w seed size) other = other w seed size refl
+reads_unless_large (Scramble seed) other = tt
+reads_unless_large (Obj w) other = tt
+reads_unless_large (Marks w) other = tt
+reads_unless_large (Host w) other = tt
 
 told_input : (job : Option Job) (left : Option (List ℕ)) (input : List ℕ) → Reads job → IsInput job left input → left ≡ Some input
 told_input job left input reads (inl unread) = absurd (unread reads)
@@ -171,21 +170,3 @@ unread_large w number size old new s does =
 -- words that are no form
 pub unread_usage : (old new : Ends) (s : Status) → s ≢ OutOfMemory → Does (stops Usage []) old.written new.written old.sink_faults new.sink_faults s → Promises None old new s
 unread_usage old new s some does = unread None old new (stops Usage []) s (λ r. r) (λ input. refl) (λ e. cc) (λ e. absurd (some e)) does
-
--- a form that isn't built
-pub record IsNotBuilt (job : Job) : Type 0 where
-  pub reads : Reads (Some job) → ⊥
-  pub its : (input : List ℕ) → IsOutcome (Some job) input (stops NotBuilt input)
-
-pub not_built : (job : Job) → ((w : Width) → job ≡ Simulate w → ⊥) → ((w : Width) → job ≡ Record w → ⊥) → ((w : Width) → job ≡ Replay w → ⊥) → ((seed : ℕ) → job ≡ Scramble seed → ⊥) → ((w : Width) (seed size : ℕ) → job ≡ Large w seed size → ⊥) → ((w : Width) → job ≡ Obj w → ⊥) → IsNotBuilt job
-not_built (Simulate w) a b c d e f = absurd (a w refl)
-not_built (Record w) a b c d e f = absurd (b w refl)
-not_built (Replay w) a b c d e f = absurd (c w refl)
-not_built (Large w seed size) a b c d e f = absurd (e w seed size refl)
-not_built (Scramble seed) a b c d e f = absurd (d seed refl)
-not_built (Obj w) a b c d e f = absurd (f w refl)
-not_built (Marks w) a b c d e f = record { reads = λ r. r; its = λ input. refl }
-not_built (Host w) a b c d e f = record { reads = λ r. r; its = λ input. refl }
-
-pub unread_form : (job : Job) (old new : Ends) (s : Status) → IsNotBuilt job → s ≢ OutOfMemory → Does (stops NotBuilt []) old.written new.written old.sink_faults new.sink_faults s → Promises (Some job) old new s
-unread_form job old new s form some does = unread (Some job) old new (stops NotBuilt []) s form.reads form.its (λ e. cc) (λ e f. cc) does

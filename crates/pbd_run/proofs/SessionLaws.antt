@@ -14,11 +14,14 @@ use Rattle.pbd_session.specs.declared.ending.ReplayEnd.{ReplayEnd}
 use Rattle.pbd_session.specs.declared.ending.ReplayEnd.TheVariants as ends
 use Rattle.pbd_session.specs.Recording.{entries_of, log_bytes}
 use Rattle.pbd_session.specs.Replaying.{replayed}
+use Rattle.pbd_marks.specs.declared.command.MarkCommand.{MarkCommand}
+use Rattle.pbd_marks.specs.Marked.{Marked, marked_refused_count, marked_text, unmarked}
+use Rattle.pbd_marks.specs.Script.{mark_commands}
 use Rattle.pbd_outcome.specs.declared.status.Status.{Status}
 use Rattle.pbd_outcome.specs.declared.status.Status.TheVariants.{Done, SomeRefused, WriteFault}
-use Rattle.pbd_outcome.specs.Outcome.{Outcome, ends_as, range, record_outcome, replay_outcome, replay_status, session_outcome}
+use Rattle.pbd_outcome.specs.Outcome.{Outcome, ends_as, marks_outcome, range, record_outcome, replay_outcome, replay_status, session_outcome}
 use Rattle.pbd_run.specs.Calls.{Does}
-use Rattle.pbd_run.specs.Forms.{record_on, replay_on, simulate_on}
+use Rattle.pbd_run.specs.Forms.{marks_on, record_on, replay_on, simulate_on}
 
 either : (z : Bool) (o : Outcome) (a b : Option (List ℕ)) (m n : ℕ) → o.status ≡ cond z Done SomeRefused → Appends a b o.text → Does o a b m n (cond z Done SomeRefused)
 either true o a b m n is wrote = (sym is, wrote)
@@ -44,6 +47,13 @@ script_ended_in v w cs k s a b m n is ends refused wrote =
 
 script_failed_in : (v w : World) (cs : List Command) (a b : Option (List ℕ)) (m n : ℕ) → v ≡ w → HasRisen m n → AppendsPrefix a b (session_text v cs) → Does (session_outcome w cs) a b m n WriteFault
 script_failed_in v w cs a b m n is rose wrote = subst (λ (x : World). Does (session_outcome x cs) a b m n WriteFault) is (rose, wrote)
+
+marks_ended_in : (v w : Marked) (cs : List MarkCommand) (k : ℕ) (s : Status) (a b : Option (List ℕ)) (m n : ℕ) → v ≡ w → s ≡ ends_as k → k ≡ marked_refused_count v cs → Appends a b (marked_text v cs) → Does (marks_outcome w cs) a b m n s
+marks_ended_in v w cs k s a b m n is ends refused wrote =
+    subst (λ (x : Marked). Does (marks_outcome x cs) a b m n s) is (ended k s (marks_outcome v cs) a b m n ends (ap ends_as (sym refused)) wrote)
+
+marks_failed_in : (v w : Marked) (cs : List MarkCommand) (a b : Option (List ℕ)) (m n : ℕ) → v ≡ w → HasRisen m n → AppendsPrefix a b (marked_text v cs) → Does (marks_outcome w cs) a b m n WriteFault
+marks_failed_in v w cs a b m n is rose wrote = subst (λ (x : Marked). Does (marks_outcome x cs) a b m n WriteFault) is (rose, wrote)
 
 -- a log whose limit is the range
 of_range : (limit : ℤ) (scene : List ℕ) (entries : List Entry) → limit ≡ range → log_bytes limit scene entries ≡ log_bytes range scene entries
@@ -77,6 +87,14 @@ script_ended v scene script k s a b m n is ends refused wrote = script_ended_in 
 pub script_failed : (v : World) (scene : Parts) (script : List ℕ) (a b : Option (List ℕ)) (m n : ℕ) → v ≡ opened scene → HasRisen m n → AppendsPrefix a b (session_text v (commands script)) → Does (simulate_on scene script) a b m n WriteFault
 unfolding simulate_on
 script_failed v scene script a b m n is rose wrote = script_failed_in v (opened scene) (commands script) a b m n is rose wrote
+
+pub marks_ended : (v : Marked) (scene : Parts) (script : List ℕ) (k : ℕ) (s : Status) (a b : Option (List ℕ)) (m n : ℕ) → v ≡ unmarked (opened scene) → s ≡ ends_as k → k ≡ marked_refused_count v (mark_commands script) → Appends a b (marked_text v (mark_commands script)) → Does (marks_on scene script) a b m n s
+unfolding marks_on
+marks_ended v scene script k s a b m n is ends refused wrote = marks_ended_in v (unmarked (opened scene)) (mark_commands script) k s a b m n is ends refused wrote
+
+pub marks_failed : (v : Marked) (scene : Parts) (script : List ℕ) (a b : Option (List ℕ)) (m n : ℕ) → v ≡ unmarked (opened scene) → HasRisen m n → AppendsPrefix a b (marked_text v (mark_commands script)) → Does (marks_on scene script) a b m n WriteFault
+unfolding marks_on
+marks_failed v scene script a b m n is rose wrote = marks_failed_in v (unmarked (opened scene)) (mark_commands script) a b m n is rose wrote
 
 pub record_ended : (v : World) (text : List ℕ) (scene : Parts) (script : List ℕ) (k : ℕ) (s : Status) (a b : Option (List ℕ)) (m n : ℕ) → v ≡ opened scene → scene.limit ≡ range → s ≡ ends_as k → k ≡ refused_count v (commands script) → Appends a b (log_bytes v.limit text (entries_of v (commands script))) → Does (record_on text scene script) a b m n s
 unfolding record_on

@@ -20,10 +20,12 @@ use Rattle.pbd_log.specs.Logs.{Log}
 use Rattle.pbd_session.specs.declared.ending.ReplayEnd.{ReplayEnd}
 use Rattle.pbd_session.specs.declared.ending.ReplayEnd.TheVariants as ends
 use Rattle.pbd_session.specs.Replaying.{replayed}
-use Rattle.pbd_outcome.specs.declared.status.Status.TheVariants.{Done, SomeRefused, ReadFault, SceneNotText}
+use Rattle.pbd_outcome.specs.declared.status.Status.TheVariants.{Done, SomeRefused, ReadFault, SceneNotText, NoScript}
 use Rattle.pbd_outcome.specs.Generated.{generated}
 use Rattle.pbd_outcome.specs.Split.{split}
-use Rattle.pbd_outcome.specs.Outcome.{IsReplayed, Outcome, halves_in, large_outcome, log_outcome, mesh_in, meshed, parts_in, range, recorded, replay_status, scene_in, settled, simulated, stops, summary_outcome, tree_in}
+use Rattle.pbd_outcome.specs.Outcome.{IsReplayed, Outcome, halves_in, large_outcome, log_outcome, mesh_in, meshed, parts_in, range, recorded, replay_status, scene_in, settled, simulated, stops, summary_outcome, tree_in, simulated_with_marks}
+use Rattle.pbd_marks.specs.Marked.{marked_refused_count, unmarked}
+use Rattle.pbd_marks.specs.Script.{mark_commands}
 
 -- an outcome that leaves nothing and is no fault of reading
 pub record IsWhole (o : Outcome) : Type 0 where
@@ -93,6 +95,11 @@ meshed_whole input =
     then_whole (mesh_in (read outer.0)) _ (mesh_whole (read outer.0)) (λ mesh.
     then_whole (mesh_in (with_mesh mesh parts)) _ (mesh_whole (with_mesh mesh parts)) (λ whole.
     record { rest = refl; read = no_read_fault (refused_count (opened whole) (commands h.1) == 0) })))))
+pub marks_whole : (input : List ℕ) → IsWhole (simulated_with_marks input)
+unfolding simulated_with_marks
+marks_whole input =
+    then_whole (halves_in (split input)) _ (halves_whole (split input)) (λ h.
+    record { rest = refl; read = no_read_fault (marked_refused_count (unmarked (opened parts)) (mark_commands h.1) == 0) }))
 
 log_whole : (log : Log) → IsWhole (log_outcome log)
 unfolding log_outcome

@@ -13,10 +13,10 @@ use Rattle.pbd_obj.specs.Meshes.{IsMesh}
 use Rattle.pbd_obj.specs.MeshLinks.{with_mesh}
 use Rattle.pbd_obj.specs.Reading.{read}
 use Rattle.pbd_outcome.specs.declared.job.Job.{Job}
-use Rattle.pbd_outcome.specs.declared.job.Job.TheVariants.{Simulate, Record, Replay, Scramble, Obj}
+use Rattle.pbd_outcome.specs.declared.job.Job.TheVariants.{Simulate, Record, Replay, Scramble, Obj, Marks}
 use Rattle.pbd_outcome.specs.declared.status.Status.{Status}
 use Rattle.pbd_outcome.specs.declared.status.Status.TheVariants.{ReadFault, WriteFault, InputTooLong, SceneNotText, SceneNotToml, OutOfMemory}
-use Rattle.pbd_outcome.specs.Outcome.{IsReplayed, Outcome, halves_in, meshed, most, most_of_log, obj_refused, range, recorded, scene_in, scene_refused, settled, simulated, stops}
+use Rattle.pbd_outcome.specs.Outcome.{IsReplayed, Outcome, halves_in, meshed, most, most_of_log, obj_refused, range, recorded, scene_in, scene_refused, settled, simulated, stops, simulated_with_marks}
 use Rattle.pbd_outcome.specs.Split.{split}
 use Rattle.pbd_run.specs.declared.reading.ReadEnd.{ReadEnd}
 use Rattle.pbd_run.specs.declared.reading.ReadEnd.TheVariants as readings
@@ -85,7 +85,8 @@ IsOne (Record width) input o = o ≡ recorded input
 IsOne (Replay width) input o = IsReplayed input o
 IsOne (Scramble seed) input o = o ≡ simulated input
 IsOne (Obj width) input o = o ≡ meshed input
-IsOne job input o = ⊥
+IsOne (Marks width) input o = o ≡ simulated_with_marks input
+IsOne (Large width number size) input o = ⊥
 
 -- ---- a scene and a script
 

@@ -6,7 +6,9 @@ use Rattle.pbd_script.specs.Commands.{commands}
 use Rattle.pbd_obj.specs.declared.mesh.ObjMesh.{ObjMesh}
 use Rattle.pbd_log.specs.declared.entry.Entry.{Entry}
 use Rattle.pbd_session.specs.Replaying.{replayed}
-use Rattle.pbd_outcome.specs.Outcome.{Outcome, obj_outcome, record_outcome, replay_outcome, session_outcome, summary_outcome}
+use Rattle.pbd_outcome.specs.Outcome.{Outcome, obj_outcome, record_outcome, replay_outcome, session_outcome, summary_outcome, marks_outcome}
+use Rattle.pbd_marks.specs.Marked.{unmarked}
+use Rattle.pbd_marks.specs.Script.{mark_commands}
 
 -- a script on a scene
 unfoldable pub simulate_on : Parts → List ℕ → Outcome
@@ -19,6 +21,9 @@ record_on text scene script = record_outcome text (opened scene) (commands scrip
 -- a script on a scene that has a mesh, whose first vertex is particle `base`
 unfoldable pub obj_on : ℕ → ObjMesh → Parts → List ℕ → Outcome
 obj_on base mesh scene script = obj_outcome base mesh (opened scene) (commands script)
+-- a script with marks on a scene
+unfoldable pub marks_on : Parts → List ℕ → Outcome
+marks_on scene script = marks_outcome (unmarked (opened scene)) (mark_commands script)
 
 -- the entries of a log on its scene
 unfoldable pub replay_on : Parts → List Entry → Outcome

@@ -6,6 +6,7 @@ ghost use Rattle.pbd_run.specs.Calls.{DoesSome, IsOne, limit_of};
 
 use crate::large::large_run;
 use crate::obj::obj_input;
+use crate::marks::marks_input;
 use crate::reading::read_all;
 use crate::record::record_input;
 use crate::replay::replay_input;
@@ -46,7 +47,8 @@ fn on_input<K: Sink>(alloc: Global, job: Job, input: &[u8], sink: &mut K) -> Sta
         Job::Replay(width) => replay_input(alloc, width, input, sink),
         Job::Scramble { seed } => scramble_input(alloc, seed, input, sink),
         Job::Obj(width) => obj_input(alloc, width, input, sink),
-        _ => unreachable!(),
+        Job::Marks(width) => marks_input(alloc, width, input, sink),
+        Job::Large { .. } => unreachable!(),
     }
 }
 
@@ -76,12 +78,7 @@ pub fn perform<S: Source, K: Sink>(
         return stop(Status::Usage, sink);
     };
     match job {
-        Job::Simulate(_)
-        | Job::Record(_)
-        | Job::Replay(_)
-        | Job::Scramble { .. }
-        | Job::Obj(_) => read_and_do(alloc, job, source, sink),
         Job::Large { width, seed, size } => large_run(alloc, width, seed, size, sink),
-        _ => stop(Status::NotBuilt, sink),
+        _ => read_and_do(alloc, job, source, sink),
     }
 }

@@ -9,6 +9,8 @@ mod large;
 mod line;
 mod obj;
 mod obj_text;
+mod marked;
+mod marks;
 mod reading;
 mod record;
 mod replay;

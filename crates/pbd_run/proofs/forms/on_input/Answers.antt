@@ -1,4 +1,4 @@
-use Rattle.pbd_outcome.specs.Outcome.{meshed, recorded, simulated}
+use Rattle.pbd_outcome.specs.Outcome.{meshed, recorded, simulated, simulated_with_marks}
 use Rattle.pbd_run.proofs.RunLaws.{did_one}
 use Rattle.pbd_run.proofs.forms.on_input.Goals as goal
 
@@ -13,3 +13,5 @@ returns-in-Scramble g c = rw c.in-Scramble.is (did_one (simulated c.args.input.n
 
 pub returns-in-Obj : goal.returns-in-Obj
 returns-in-Obj g c = rw c.in-Obj.is (did_one (meshed c.args.input.now) _ _ _ _ _ c.obj_input.ensures)
+pub returns-in-Marks : goal.returns-in-Marks
+returns-in-Marks g c = rw c.in-Marks.is (did_one (simulated_with_marks c.args.input.now) _ _ _ _ _ c.marks_input.ensures)

@@ -1,0 +1,4 @@
+mod Rows
+pub mod ScriptLemmas
+pub mod KeepingLemmas
+pub mod MarkedLaws

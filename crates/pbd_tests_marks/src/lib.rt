@@ -1,0 +1,7 @@
+//! Tests of marks and their scripts.
+#![tactic(auto)]
+
+#[cfg(test)]
+mod lines;
+#[cfg(test)]
+mod worlds;

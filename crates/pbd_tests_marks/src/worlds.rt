@@ -1,0 +1,252 @@
+//! A world that goes back to its marks: torn and cut links, held particles, gravity and refused steps are as they were.
+ghost use Rattle.std.specs.Prelude.{◌≡◌, ◌<◌, ◌≤◌};
+ghost use Rattle.pbd_world.specs.World.{AreOfOneScene};
+ghost use Rattle.pbd_marks.specs.Keeping.{IsOfScene};
+
+use pbd_marks::{MarkCommand, MarkRefusal, Marks};
+use pbd_num::{RANGE, Vec3};
+use pbd_pair::{LaneProjector, Projector};
+use pbd_step::Solver;
+use pbd_store::Steps;
+use pbd_world::{Command, Kind, Link, List, Particle, Parts, Phase, Refusal, Scene};
+use std::alloc::{AllocError, Global};
+use std::marker::Brand;
+use std::sync::ledger::{Blank, Ledger};
+use std::test::Fail;
+
+macro_rules! particle {
+    ($x:expr, $y:expr, $held:expr) => {
+        Particle {
+            at: Vec3 { x: $x, y: $y, z: 0 },
+            before: Vec3 { x: $x, y: $y, z: 0 },
+            weight: 1,
+            held: $held,
+        }
+    };
+}
+
+macro_rules! link {
+    ($b:expr, $tear:expr) => {
+        Link {
+            a: 0,
+            b: $b,
+            rest: 100,
+            k: 256,
+            tear: $tear,
+            kind: Kind::Plain,
+            live: true,
+        }
+    };
+}
+
+/// What a command is answered.
+#[derive(Clone, Copy, Debug, PartialEq, Eq)]
+enum Answer {
+    Done,
+    Refused(Refusal),
+    MarkRefused(MarkRefusal),
+}
+
+/// A command, its answer, and then the step count, the live links and the height of particle 0.
+type Row = (MarkCommand, Answer, u64, u32, i64);
+
+macro_rules! does {
+    ($command:expr) => {
+        MarkCommand::Plain($command)
+    };
+}
+
+const LEAVES: Answer = Answer::Refused(Refusal::LeavesRange {
+    step: 3,
+    phase: Phase::Predict,
+    element: 0,
+});
+
+const UP: Vec3 = Vec3 {
+    x: 0,
+    y: RANGE,
+    z: 0,
+};
+
+const NOWHERE: Vec3 = Vec3 { x: 0, y: 0, z: 0 };
+
+/// Two free particles fall by 10 a step and a step, and the link between them tears in the first one. The third is held.
+const ROWS: [Row; 28] = [
+    (MarkCommand::Rewind(1), Answer::MarkRefused(MarkRefusal::MarkEmpty), 0, 2, 1000),
+    (MarkCommand::Mark(1), Answer::Done, 0, 2, 1000),
+    (does!(Command::Step(2)), Answer::Done, 2, 1, 970),
+    (MarkCommand::Mark(7), Answer::Done, 2, 1, 970),
+    (does!(Command::Cut(1)), Answer::Done, 2, 0, 970),
+    (does!(Command::Pin(0)), Answer::Done, 2, 0, 970),
+    (does!(Command::Gravity(NOWHERE)), Answer::Done, 2, 0, 970),
+    (does!(Command::Step(1)), Answer::Done, 3, 0, 970),
+    (MarkCommand::Rewind(7), Answer::Done, 2, 1, 970),
+    (does!(Command::Step(1)), Answer::Done, 3, 1, 940),
+    (does!(Command::Cut(0)), Answer::Refused(Refusal::LinkGone), 3, 1, 940),
+    (MarkCommand::Rewind(1), Answer::Done, 0, 2, 1000),
+    (does!(Command::Cut(0)), Answer::Done, 0, 1, 1000),
+    (MarkCommand::Rewind(1), Answer::Done, 0, 2, 1000),
+    (does!(Command::Step(1)), Answer::Done, 1, 1, 990),
+    (MarkCommand::Rewind(7), Answer::Done, 2, 1, 970),
+    (does!(Command::Unpin(0)), Answer::Refused(Refusal::NotHeld), 2, 1, 970),
+    (does!(Command::Gravity(UP)), Answer::Done, 2, 1, 970),
+    (does!(Command::Step(5)), LEAVES, 2, 1, 970),
+    (MarkCommand::Mark(0), Answer::Done, 2, 1, 970),
+    (MarkCommand::Rewind(1), Answer::Done, 0, 2, 1000),
+    (does!(Command::Step(1)), Answer::Done, 1, 1, 990),
+    (MarkCommand::Rewind(0), Answer::Done, 2, 1, 970),
+    (does!(Command::Step(1)), LEAVES, 2, 1, 970),
+    (MarkCommand::Mark(8), Answer::MarkRefused(MarkRefusal::BadMark), 2, 1, 970),
+    (MarkCommand::Rewind(8), Answer::MarkRefused(MarkRefusal::BadMark), 2, 1, 970),
+    (MarkCommand::Rewind(6), Answer::MarkRefused(MarkRefusal::MarkEmpty), 2, 1, 970),
+    (MarkCommand::Rewind(1), Answer::Done, 0, 2, 1000),
+];
+
+fn falling(alloc: Global) -> Result<Parts, AllocError> {
+    let mut particles = List::new(alloc);
+    particles.push(particle!(0, 1000, false))?;
+    particles.push(particle!(101, 1000, false))?;
+    particles.push(particle!(0, 0, true))?;
+    let mut links = List::new(alloc);
+    links.push(link!(1, 100))?;
+    links.push(link!(2, 0))?;
+    Ok(Parts {
+        particles,
+        links,
+        planes: List::new(alloc),
+        spheres: List::new(alloc),
+        tracks: List::new(alloc),
+        gravity: Vec3 { x: 0, y: -10, z: 0 },
+        passes: 0,
+        damping: 0,
+        thickness: 0,
+        friction: 0,
+        limit: RANGE,
+    })
+}
+
+fn apply<const L: usize, P: Projector<L> + Drop, G: Ledger>(
+    solver: &mut Solver<L, P>,
+    command: Command,
+    steps: &mut Steps<G>,
+) -> Result<(), Refusal>
+    requires low { 0 < L }
+    requires high { L ≤ 16 }
+    ensures { AreOfOneScene solver.old.world solver.new.world }
+{
+    match command {
+        Command::Step(n) => solver.steps(n, steps),
+        Command::Pin(i) => solver.pin(i, steps),
+        Command::Unpin(i) => solver.unpin(i, steps),
+        Command::Cut(l) => solver.cut(l),
+        Command::Gravity(g) => solver.set_gravity(g),
+        _ => Err(Refusal::BadCommand),
+    }
+}
+
+fn refused(outcome: Result<(), Refusal>) -> Answer {
+    match outcome {
+        Ok(()) => Answer::Done,
+        Err(refusal) => Answer::Refused(refusal),
+    }
+}
+
+fn mark_refused(outcome: Result<(), MarkRefusal>) -> Answer {
+    match outcome {
+        Ok(()) => Answer::Done,
+        Err(refusal) => Answer::MarkRefused(refusal),
+    }
+}
+
+fn answer<const L: usize, P: Projector<L> + Drop, G: Ledger>(
+    command: MarkCommand,
+    marks: &mut Marks<L, P>,
+    solver: &mut Solver<L, P>,
+    steps: &mut Steps<G>,
+) -> Answer
+    requires low { 0 < L }
+    requires high { L ≤ 16 }
+    requires one_scene { IsOfScene marks.old.scene solver.old.world }
+    ensures { IsOfScene marks.new.scene solver.new.world }
+{
+    match command {
+        MarkCommand::Plain(command) => refused(apply(solver, command, steps)),
+        MarkCommand::Mark(k) => mark_refused(marks.set(k, solver)),
+        MarkCommand::Rewind(k) => mark_refused(marks.rewind(k, solver)),
+    }
+}
+
+fn height<const L: usize, P: Projector<L> + Drop, G: Ledger>(
+    solver: &Solver<L, P>,
+    steps: &mut Steps<G>,
+) -> i64
+    requires high { L ≤ 16 }
+{
+    if solver.particles() == 0 {
+        return 0;
+    }
+    solver.particle(0, steps).at.y
+}
+
+/// How many rows go as they say, up to the first that doesn't.
+fn all_answered<const L: usize, P: Projector<L> + Drop, G: Ledger>(
+    marks: &mut Marks<L, P>,
+    solver: &mut Solver<L, P>,
+    steps: &mut Steps<G>,
+) -> usize
+    requires low { 0 < L }
+    requires high { L ≤ 16 }
+    requires one_scene { IsOfScene marks.old.scene solver.old.world }
+{
+    for i in 0..ROWS.len() {
+        let (command, wanted, count, live, high) = ROWS[i];
+        let answered = answer(command, marks, solver, steps);
+        let seen = (solver.step_count(), solver.live(), height(solver, steps));
+        if answered != wanted || seen != (count, live, high) {
+            return i;
+        }
+    }
+    ROWS.len()
+}
+
+fn at_width<const L: usize, G: Ledger>(
+    alloc: Global,
+    scene: &Scene,
+    steps: &mut Steps<G>,
+) -> Result<usize, AllocError>
+    requires low { 0 < L }
+    requires high { L ≤ 16 }
+{
+    let mut marks = Marks::open(alloc, scene, LaneProjector::<L>::new())?;
+    let mut solver = Solver::open(alloc, scene, LaneProjector::<L>::new())?;
+    Ok(all_answered(&mut marks, &mut solver, steps))
+}
+
+fn counted<G: Ledger>(
+    alloc: Global,
+    blank: Blank,
+    scene: &Scene,
+) -> Result<[usize; 5], AllocError>
+    requires name { blank.name ≡ G.name }
+    requires parts { blank.parts ≡ G.parts }
+    requires some { 0 < blank.parts }
+{
+    let mut steps: Steps<G> = Steps::open(blank);
+    let one = at_width::<1, G>(alloc, scene, &mut steps)?;
+    let two = at_width::<2, G>(alloc, scene, &mut steps)?;
+    let four = at_width::<4, G>(alloc, scene, &mut steps)?;
+    let eight = at_width::<8, G>(alloc, scene, &mut steps)?;
+    let sixteen = at_width::<16, G>(alloc, scene, &mut steps)?;
+    Ok([one, two, four, eight, sixteen])
+}
+
+fn at_each_width(alloc: Global, scene: &Scene) -> Result<[usize; 5], AllocError> {
+    counted::<Brand>(alloc, Blank::new(1), scene)
+}
+
+#[test]
+fn worlds_go_back_to_their_marks(rt: HostRuntime) -> Result<(), Fail> {
+    let scene = Scene::from_parts(rt.alloc(), falling(rt.alloc())?)?;
+    assert_eq!(rt; at_each_width(rt.alloc(), &scene)?, [28; 5]);
+    Ok(())
+}
