@@ -39,7 +39,7 @@ sum_within m p h = record { x = omega (arith, h.x); y = omega (arith, h.y); z = 
 pub wide : (z : ℤ) → unsigned_abs z < 2 ^ 127 → FitsSigned w128 z
 wide z h = fits_signed_from_abs w128 z h
 
-both_within : (m n : ℕ) (s t : Sum) → SumWithin m s → SumWithin n t → SumWithin (m + n) (both_sums s t)
+pub both_within : (m n : ℕ) (s t : Sum) → SumWithin m s → SumWithin n t → SumWithin (m + n) (both_sums s t)
 both_within m n s t h k = record { x = omega (arith, size-add s.x t.x, h.x, k.x); y = omega (arith, size-add s.y t.y, h.y, k.y); z = omega (arith, size-add s.z t.z, h.z, k.z) }
 
 within_fits : (n : ℕ) (s : Sum) → n < 2 ^ 127 → SumWithin n s → SumFits s
