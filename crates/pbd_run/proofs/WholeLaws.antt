@@ -19,7 +19,7 @@ use Rattle.pbd_session.specs.declared.ending.ReplayEnd.TheVariants as ends
 use Rattle.pbd_session.specs.Replaying.{replayed}
 use Rattle.pbd_marks.specs.Marked.{marked_refused_count, unmarked}
 use Rattle.pbd_marks.specs.Script.{mark_commands}
-use Rattle.pbd_outcome.specs.declared.status.Status.TheVariants.{Done, SomeRefused, ReadFault, NoScript, SceneNotText}
+use Rattle.pbd_outcome.specs.declared.status.Status.TheVariants.{Done, SomeRefused, ReadFault, SceneNotText}
 use Rattle.pbd_outcome.specs.Generated.{generated}
 use Rattle.pbd_outcome.specs.Split.{split}
 use Rattle.pbd_outcome.specs.Outcome.{IsReplayed, Outcome, halves_in, large_outcome, log_outcome, parts_in, range, recorded, replay_status, scene_in, settled, simulated, simulated_with_marks, stops, summary_outcome, tree_in}
