@@ -12,7 +12,7 @@ use Rattle.pbd_run.specs.declared.reading.ReadEnd.TheVariants as readings
 use Rattle.pbd_outcome.specs.declared.status.Status.{Status}
 use Rattle.pbd_outcome.specs.declared.status.Status.TheVariants.{Done, Usage, ReadFault, WriteFault, InputTooLong, NoScript, SceneNotText, SceneNotToml, SceneRefused, LogRefused, Mismatch, SomeRefused, OutOfMemory, ObjRefused}
 use Rattle.pbd_run.specs.Reading.{ReachesEnd, Overruns, ReadsAll}
-use Rattle.pbd_outcome.specs.Outcome.{Outcome, IsOutcome, IsWithin, large_outcome, stops, IsReplayed, most, most_of_log, recorded, simulated, simulated_with_marks}
+use Rattle.pbd_outcome.specs.Outcome.{Outcome, IsOutcome, IsWithin, large_outcome, stops}
 use Rattle.pbd_outcome.specs.Clauses.{Ends, IsInput, Promises, Reads}
 use Rattle.pbd_run.specs.Calls.{Does, DoesSome, EndsReading, IsOne, limit_of}
 use Rattle.pbd_run.proofs.WholeLaws.{IsWhole, large_read, large_rest, meshed_whole, simulated_whole, recorded_whole, replayed_whole, marks_whole}

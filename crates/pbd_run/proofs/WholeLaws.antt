@@ -20,12 +20,12 @@ use Rattle.pbd_log.specs.Logs.{Log}
 use Rattle.pbd_session.specs.declared.ending.ReplayEnd.{ReplayEnd}
 use Rattle.pbd_session.specs.declared.ending.ReplayEnd.TheVariants as ends
 use Rattle.pbd_session.specs.Replaying.{replayed}
-use Rattle.pbd_outcome.specs.declared.status.Status.TheVariants.{Done, SomeRefused, ReadFault, SceneNotText, NoScript}
+use Rattle.pbd_marks.specs.Marked.{marked_refused_count, unmarked}
+use Rattle.pbd_marks.specs.Script.{mark_commands}
+use Rattle.pbd_outcome.specs.declared.status.Status.TheVariants.{Done, SomeRefused, ReadFault, SceneNotText}
 use Rattle.pbd_outcome.specs.Generated.{generated}
 use Rattle.pbd_outcome.specs.Split.{split}
 use Rattle.pbd_outcome.specs.Outcome.{IsReplayed, Outcome, halves_in, large_outcome, log_outcome, mesh_in, meshed, parts_in, range, recorded, replay_status, scene_in, settled, simulated, stops, summary_outcome, tree_in, simulated_with_marks}
-use Rattle.pbd_marks.specs.Marked.{marked_refused_count, unmarked}
-use Rattle.pbd_marks.specs.Script.{mark_commands}
 
 -- an outcome that leaves nothing and is no fault of reading
 pub record IsWhole (o : Outcome) : Type 0 where
