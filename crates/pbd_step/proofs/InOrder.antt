@@ -16,23 +16,17 @@ use Rattle.pbd_pair.specs.declared.bonds.Bonds.{Bonds}
 use Rattle.pbd_pair.specs.Bonds.{bond_of, bond_count, IsBond}
 use Rattle.pbd_pair.specs.Projecting.{ShareNone, IsBatch}
 use Rattle.pbd_world.proofs.Rooms.{room_at}
+use Rattle.pbd_pair.proofs.OneByOne.{in_turn-append}
 use Rattle.pbd_step.specs.Projecting.{AreBondsOf, parallel_from}
 
 -- ---- one list of items after another
 
-pub joined : {A S E : Type 0} (f : A → S → Result S E) (xs ys : List A) (s : S) → in_turn f (xs ++ ys) s ≡ (in_turn f xs s >>= in_turn f ys)
-joined f [] ys s = refl
-joined {A} {S} {E} f (x ∷ xs) ys s = after (λ t. joined f xs ys t) (f x s) where
-  after : ((t : S) → in_turn f (xs ++ ys) t ≡ (in_turn f xs t >>= in_turn f ys)) → (r : Result S E) → (r >>= in_turn f (xs ++ ys)) ≡ ((r >>= in_turn f xs) >>= in_turn f ys)
-  after h (Ok t) = h t
-  after h (Err e) = refl
-
 module _ {A S E : Type 0} (f : A → S → Result S E) (xs ys : List A) (s : S) where
   pub goes_on : (t : S) → in_turn f xs s ≡ Ok t → in_turn f ys t ≡ in_turn f (xs ++ ys) s
-  goes_on t e = sym (joined f xs ys s ∙ ap (λ (r : Result S E). r >>= in_turn f ys) e)
+  goes_on t e = sym (in_turn-append f xs ys s ∙ ap (λ (r : Result S E). r >>= in_turn f ys) e)
 
   pub stops : (n : E) → in_turn f xs s ≡ Err n → in_turn f (xs ++ ys) s ≡ Err n
-  stops n e = joined f xs ys s ∙ ap (λ (r : Result S E). r >>= in_turn f ys) e
+  stops n e = in_turn-append f xs ys s ∙ ap (λ (r : Result S E). r >>= in_turn f ys) e
 
 -- a list in two parts, where the first is done
 pub then_part : {limit l : ℤ} {whole : List ℕ} {r : Result Motion ℕ} (bond : ℕ → Bond) (xs ys : List ℕ) (start mid : Motion) → whole ≡ xs ++ ys → l ≡ limit → projected limit bond xs start ≡ Ok mid → projected l bond ys mid ≡ r → projected limit bond whole start ≡ r

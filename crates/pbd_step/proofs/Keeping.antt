@@ -127,7 +127,7 @@ links_in_range limit n links valid = λ k lt.
     let ends : Link → ℕ × ℕ = λ l. (l.a, l.b) in
     let l : k < length links = omega (arith, lt, length-mapped ends links) in
     let is = link_is_bond limit n (link_at links k) (AllPass-from_list_all (is_valid_link limit n) links (link_parts limit n links valid).1 k no_link l) in
-    subst (λ (pair : ℕ × ℕ). (pair.0 < n) × (pair.1 < n) × (pair.0 ≢ pair.1)) (sym (get_or-map ends links k _ _ l)) (is.first, is.second, is.apart)
+    subst (λ (pair : ℕ × ℕ). (pair.0 < n) × (pair.1 < n) × (pair.0 ≢ pair.1)) (sym (get_or-map ends links k _ _ l)) (is.first, is.second, is.different)
 
 -- so many particles and links as a world may have, the links between its particles
 pub record HasFit (ps : List Particle) (ls : List Link) : Type 0 where

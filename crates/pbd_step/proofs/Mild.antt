@@ -9,13 +9,9 @@ use Rattle.pbd_world.specs.declared.parts.Particle.{Particle}
 use Rattle.pbd_world.specs.Particles.{particle_at}
 use Rattle.pbd_world.specs.Valid.{is_between, is_valid_particle, is_well_formed}
 use Rattle.pbd_world.specs.World.{World, parts_of, IsSound}
+use Rattle.pbd_world.proofs.OtherParticle.{fit_at}
 use Rattle.pbd_world.proofs.WorldParts.{formed, limit_of, numbers_of, IsFit, all_fit}
 use Rattle.pbd_shape.specs.Rubbing.{AreWithin}
-
-fit_at : (limit : ℤ) (ps : List Particle) (i : ℕ) → AllByRecursion (IsFit limit) ps → i < length ps → IsFit limit (particle_at ps i)
-fit_at limit [] i f l = absurd (omega (arith, l))
-fit_at limit (p ∷ ps) zero f l = f.0
-fit_at limit (p ∷ ps) (suc i) f l = fit_at limit ps i f.1 (omega (arith, l))
 
 pub formed_within : (w : World) → IsTrue (is_well_formed (parts_of w)) → AreWithin w.limit w.particles
 formed_within w h =

@@ -7,13 +7,14 @@ use Rattle.std.proofs.lemmas.Bool.{and_parts, leb-true}
 use Rattle.pbd_num.specs.declared.Vec3.{Vec3}
 use Rattle.pbd_num.specs.Vectors.{Within}
 use Rattle.pbd_num.proofs.Ranges.{within_facts, wider}
-use Rattle.pbd_num.proofs.Sizes.{size-add, size_above, size_below, size_le}
+use Rattle.pbd_num.proofs.Sizes.{size_above, size_below, size_le}
 use Rattle.pbd_world.specs.declared.parts.Particle.{Particle}
-use Rattle.pbd_world.specs.Ledger.{Sum, zero_sum, both_sums, SumWithin, HaveRoom}
+use Rattle.pbd_world.specs.Ledger.{Sum, zero_sum, SumWithin, HaveRoom}
 use Rattle.pbd_world.specs.Particles.{velocity}
 use Rattle.pbd_world.specs.Momentum.{momentum}
 use Rattle.pbd_world.specs.Valid.{is_valid_particle}
 use Rattle.pbd_world.specs.World.{World, parts_of, IsSound}
+use Rattle.pbd_ledger.proofs.Adding.{both_within}
 use Rattle.pbd_world.proofs.MomentumLemmas.{part_by, part, momentum_cons}
 use Rattle.pbd_world.proofs.BetweenLemmas.{step_size}
 use Rattle.pbd_world.proofs.KeptLemmas.{IsLimit}
@@ -21,13 +22,6 @@ use Rattle.pbd_world.proofs.Rooms.{sum_grows, sum_wider}
 use Rattle.pbd_world.proofs.WorldParts.{formed, limit_of, IsFit, all_fit}
 
 -- ---- the momentum of particles within the limit
-
-both_within : (s t : Sum) (b c : ℕ) → SumWithin b s → SumWithin c t → SumWithin (b + c) (both_sums s t)
-both_within s t b c h k = record {
-  x = omega (arith, size-add s.x t.x, h.x, k.x);
-  y = omega (arith, size-add s.y t.y, h.y, k.y);
-  z = omega (arith, size-add s.z t.z, h.z, k.z);
-}
 
 part_within : (held : Bool) (v : Vec3) → Within (2 ^ 30) v → SumWithin (2 ^ 30) (part_by held v)
 part_within true v h = record { x = omega arith; y = omega arith; z = omega arith }
@@ -43,7 +37,7 @@ momentum_within limit [] lim fit = record { x = omega arith; y = omega arith; z 
 momentum_within limit (p ∷ ps) lim fit =
     let first = part_within p.held (velocity p) (velocity_within limit p lim fit.0) in
     let rest = momentum_within limit ps lim fit.1 in
-    let both : SumWithin (2 ^ 30 + length ps * 2 ^ 30) (momentum (p ∷ ps)) = subst (λ (s : Sum). SumWithin (2 ^ 30 + length ps * 2 ^ 30) s) (sym (momentum_cons p ps)) (both_within (part p) (momentum ps) (2 ^ 30) (length ps * 2 ^ 30) first rest) in
+    let both : SumWithin (2 ^ 30 + length ps * 2 ^ 30) (momentum (p ∷ ps)) = subst (λ (s : Sum). SumWithin (2 ^ 30 + length ps * 2 ^ 30) s) (sym (momentum_cons p ps)) (both_within (2 ^ 30) (length ps * 2 ^ 30) (part p) (momentum ps) first rest) in
     record { x = omega (arith, both.x); y = omega (arith, both.y); z = omega (arith, both.z) }
 
 -- ---- the one total that the others and the momentum bound

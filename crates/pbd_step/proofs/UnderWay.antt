@@ -53,7 +53,7 @@ link_is_bond limit n l valid =
     record {
       first = ltb-true l.a n p1.0;
       second = ltb-true l.b n p1.1;
-      apart = differ l.a l.b p2.1;
+      different = differ l.a l.b p2.1;
       drawn = record { rest_low = rest.0; rest_high = rest.1; k_low = omega (arith, ints); k_high = omega (arith, ints, stiff) };
     }
 
@@ -91,7 +91,7 @@ contact_bonds limit thickness n pairs bonds count is l t range =
       bond = λ k lt. subst (IsBond limit n) (sym (is k)) (record {
         first = (range k lt).0;
         second = (range k lt).1;
-        apart = (range k lt).2;
+        different = (range k lt).2;
         drawn = record { rest_low = thin.0; rest_high = thickness_fits limit thickness l thin.1; k_low = omega (arith, ints); k_high = omega (arith, ints) };
       });
     }

@@ -17,34 +17,13 @@ ghost use Rattle.pbd_step.specs.Staying.{IsMoved};
 ghost use Rattle.pbd_step.specs.Predicting.{unled, bare_world, predicted_from, Advanced};
 
 use crate::state::{Setting, State};
-use pbd_num::{Vec3, rdiv, within};
+use pbd_num::{Vec3, within};
 use pbd_store::{Block, Lanes3, Steps, Store};
 use pbd_track::place;
 use pbd_world::{Class, Left, Totals};
 use std::sync::ledger::Ledger;
 
-/// What damping takes of one axis of a velocity.
-fn lost(at: i64, before: i64, damping: i64) -> i64
-    requires at { unsigned_abs at ≤ 2 ^ 29 }
-    requires before { unsigned_abs before ≤ 2 ^ 29 }
-    requires damping { unsigned_abs damping ≤ 1024 }
-    ensures value { result ≡ rounded ((at -ℤ before) *ℤ damping) (pos 1024) }
-    ensures size { unsigned_abs result ≤ 2 ^ 30 }
-{
-    rdiv((at - before) * damping, 1024)
-}
-
-/// Where one axis goes in a step: on as far as it came, less what damping takes, and by gravity.
-fn flown_axis(at: i64, before: i64, loss: i64, pull: i64) -> i64
-    requires at { unsigned_abs at ≤ 2 ^ 29 }
-    requires before { unsigned_abs before ≤ 2 ^ 29 }
-    requires loss { unsigned_abs loss ≤ 2 ^ 30 }
-    requires pull { unsigned_abs pull ≤ 2 ^ 29 }
-    ensures { result ≡ (at +ℤ ((at -ℤ before) -ℤ loss)) +ℤ pull }
-{
-    at + (at - before - loss) + pull
-}
-
+/// What damping takes of the velocity.
 fn damped_away(at: Vec3, before: Vec3, damping: i64) -> Vec3
     requires at { Within (2 ^ 29) at }
     requires before { Within (2 ^ 29) before }
@@ -52,13 +31,10 @@ fn damped_away(at: Vec3, before: Vec3, damping: i64) -> Vec3
     ensures value { result ≡ damped_away damping (minus at before) }
     ensures size { Within (2 ^ 30) result }
 {
-    Vec3 {
-        x: lost(at.x, before.x, damping),
-        y: lost(at.y, before.y, damping),
-        z: lost(at.z, before.z, damping),
-    }
+    at.minus(before).scaled(damping, 1024)
 }
 
+/// Where a free place goes in a step: on as far as it came, less what damping takes, and by gravity.
 fn flown_to(at: Vec3, before: Vec3, loss: Vec3, gravity: Vec3) -> Vec3
     requires at { Within (2 ^ 29) at }
     requires before { Within (2 ^ 29) before }
@@ -66,23 +42,8 @@ fn flown_to(at: Vec3, before: Vec3, loss: Vec3, gravity: Vec3) -> Vec3
     requires gravity { Within (2 ^ 29) gravity }
     ensures { result ≡ plus (plus at (minus (minus at before) loss)) gravity }
 {
-    Vec3 {
-        x: flown_axis(at.x, before.x, loss.x, gravity.x),
-        y: flown_axis(at.y, before.y, loss.y, gravity.y),
-        z: flown_axis(at.z, before.z, loss.z, gravity.z),
-    }
-}
-
-fn opposite(v: Vec3) -> Vec3
-    requires { Within (2 ^ 30) v }
-    ensures value { result ≡ opposite v }
-    ensures size { Within (2 ^ 30) result }
-{
-    Vec3 {
-        x: -v.x,
-        y: -v.y,
-        z: -v.z,
-    }
+    let way = at.minus(before).minus(loss);
+    at.plus(way).plus(gravity)
 }
 
 /// Books what gravity and damping do to a free particle.
@@ -94,7 +55,7 @@ fn book(totals: &mut Totals, gravity: Vec3, loss: Vec3)
     ensures room { (n : ℕ) → HaveRoom n (ledger_of totals.old) → HaveRoom (n + 2 ^ 31) (ledger_of totals.new) }
 {
     totals.add(Class::Gravity, gravity);
-    totals.add(Class::Damping, opposite(loss));
+    totals.add(Class::Damping, loss.opposite());
 }
 
 /// Where a particle is and was, and whether it is held.

@@ -49,6 +49,24 @@ fn takes_whole_roots(rt: HostRuntime) -> Result<(), Fail> {
 }
 
 #[test]
+fn calculates_with_vectors(rt: HostRuntime) -> Result<(), Fail> {
+    for (a, b, sum, way, half, square, length) in [
+        (at(3, -4, 12), at(1, 2, -2), at(4, -2, 10), at(2, -6, 14), at(2, -2, 6), 169, 13),
+        (at(-RANGE, 0, 0), at(RANGE, 0, 0), Vec3::ZERO, at(-1 << 30, 0, 0), at(-1 << 28, 0, 0), 1 << 58, RANGE),
+    ] {
+        assert!(rt; inside(a));
+        assert!(rt; inside(b));
+        assert_eq!(rt; a.plus(b), sum);
+        assert_eq!(rt; a.minus(b), way);
+        assert_eq!(rt; b.minus(a), way.opposite());
+        assert_eq!(rt; a.scaled(1, 2), half);
+        assert_eq!(rt; a.squared_length(), square);
+        assert_eq!(rt; a.length(), length);
+    }
+    Ok(())
+}
+
+#[test]
 fn knows_the_range(rt: HostRuntime) -> Result<(), Fail> {
     assert!(rt; inside(at(RANGE, -RANGE, 0)));
     assert!(rt; !inside(at(0, 0, RANGE + 1)));
