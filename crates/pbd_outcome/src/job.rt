@@ -1,8 +1,9 @@
 ghost use Rattle.std.specs.Prelude.{◌≡◌, [], ◌∷◌, ◌≤◌, ◌<◌, ◌^◌, IfSome, IsTrue, length, map, string_bytes};
 ghost use Rattle.std.specs.List.{list_all};
-ghost use Rattle.pbd_script.specs.Lines.{is_digit, value};
+ghost use Rattle.pbd_script.specs.Lines.{is_digit};
 ghost use Rattle.pbd_outcome.specs.Job.{width, are_digits, number, size, with_width, large, job, IsSized};
 
+use pbd_script::lines;
 use pbd_world::Width;
 
 /// What the words ask for.
@@ -37,31 +38,12 @@ fn width_of(word: &str) -> Option<Width>
     }
 }
 
-fn are_all_digits(word: &[u8]) -> bool
-    ensures { result ≡ list_all is_digit word.now }
-{
-    word.iter().all(|b| 48 <= *b && *b <= 57)
-}
-
 fn are_digits(most: usize, word: &[u8]) -> bool
     ensures test { result ≡ are_digits most word.now }
     ensures digits { IsTrue result → IsTrue (list_all is_digit word.now) }
     ensures short { IsTrue result → length word.now ≤ most }
 {
-    1 <= word.len() && word.len() <= most && are_all_digits(word)
-}
-
-/// The value of at most 20 digits.
-fn value(digits: &[u8]) -> u128
-    requires digits { IsTrue (list_all is_digit digits.now) }
-    requires short { length digits.now ≤ 20 }
-    ensures { result ≡ value digits.now }
-{
-    let mut n: u128 = 0;
-    for b in digits {
-        n = n * 10 + u128::from(*b - b'0');
-    }
-    n
+    1 <= word.len() && word.len() <= most && lines::are_digits(word)
 }
 
 /// 1 to 20 digits that say at most 2^64 - 1.
@@ -72,7 +54,7 @@ fn number(word: &str) -> Option<u64>
     if !are_digits(20, word.as_bytes()) {
         return None;
     }
-    let n = value(word.as_bytes());
+    let n = lines::value_of(word.as_bytes());
     if n < 18_446_744_073_709_551_616 {
         Some(n as u64)
     } else {
@@ -90,7 +72,7 @@ fn size(word: &str) -> Option<u32>
     if !are_digits(3, word.as_bytes()) {
         return None;
     }
-    let n = value(word.as_bytes());
+    let n = lines::value_of(word.as_bytes());
     if 2 <= n && n <= 128 {
         Some(n as u32)
     } else {

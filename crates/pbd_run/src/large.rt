@@ -42,7 +42,7 @@ fn write_head<const L: usize, P: Projector<L> + Drop, K: Sink, G: Ledger>(
     ensures bytes { WritesPiece (K.written sink.old) (K.written sink.new) result (summary_head number size session.now reply.now) }
     ensures cause { HasCause (K.faults sink.old) (K.faults sink.new) result }
 {
-    if let Err(failed) = sink.write(large_line(number, size).as_str().as_bytes()) {
+    if let Err(failed) = sink.write(large_line(number, size).as_slice()) {
         return Err(failed);
     }
     session.write_reply(reply, sink, steps)
@@ -60,7 +60,7 @@ fn write_tail<const L: usize, P: Projector<L> + Drop, K: Sink, G: Ledger>(
     ensures cause { HasCause (K.faults sink.old) (K.faults sink.new) result }
 {
     let sums = session.frame_sums(steps);
-    if let Err(failed) = sink.write(sums_line(&sums).as_str().as_bytes()) {
+    if let Err(failed) = sink.write(sums_line(&sums).as_slice()) {
         return Err(failed);
     }
     session.write_reply(&Reply::Ledger, sink, steps)

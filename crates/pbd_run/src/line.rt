@@ -1,5 +1,5 @@
 //! Lines of what stops a run.
-ghost use Rattle.std.specs.Prelude.{◌≡◌, ◌+◌, ◌≤◌, ◌++◌, ◌∷◌, length, decimal};
+ghost use Rattle.std.specs.Prelude.{◌≡◌, ◌+◌, ◌≤◌, ◌++◌, ◌∷◌, length};
 ghost use Rattle.pbd_scene.specs.Keys.{rule_number, rule_text, table_text, key_text};
 ghost use Rattle.pbd_outcome.specs.Statuses.{log_line, refused_line};
 ghost use Rattle.std.specs.Fmt.{signed_decimal};
@@ -8,23 +8,10 @@ ghost use Rattle.pbd_session.specs.Replaying.{axis};
 ghost use Rattle.pbd_outcome.specs.Generated.{large_line, sums_line};
 ghost use Rattle.pbd_outcome.specs.ObjText.{comment, fault_name, fault_number, fault_place, obj_line};
 
-use arrayvec::ArrayString;
-use itoa::Buffer;
+use pbd_line::Line;
 use pbd_obj::ObjFault;
 use pbd_scene::{KeyName, SceneRule, TableName};
 use pbd_world::FrameSums;
-
-/// A line that is being written.
-pub type Line = ArrayString<512>;
-
-fn push_number(line: &mut Line, n: u64)
-    requires { length line.old.bytes ≤ 460 }
-    ensures bytes { line.new.bytes ≡ line.old.bytes ++ decimal n }
-    ensures len { length line.new.bytes ≤ length line.old.bytes + 40 }
-{
-    let mut buffer = Buffer::new();
-    line.push_str(buffer.format(n));
-}
 
 #[tactic(auto, using(pbd_outcome::proofs::LineLaws::rule_short))]
 fn rule_name(rule: SceneRule) -> &'static str
@@ -59,32 +46,32 @@ fn key_name(key: KeyName) -> &'static str
 /// The line of a scene that breaks a rule.
 #[tactic(auto, unfolding(pbd_outcome::specs::Statuses::refused_line))]
 pub fn refused_line(rule: SceneRule, table: TableName, position: u32, key: KeyName) -> Line
-    ensures { result.bytes ≡ refused_line (record { rule = rule; place = record { table = table; position = position }; key = key }) }
+    ensures { result ≡ refused_line (record { rule = rule; place = record { table = table; position = position }; key = key }) }
 {
     let mut line = Line::new();
-    line.push_str("error 8 SceneRefused ");
-    push_number(&mut line, rule_number(rule));
-    line.push_str(" ");
-    line.push_str(rule_name(rule));
-    line.push_str(" ");
-    line.push_str(table_name(table));
-    line.push_str(" ");
-    push_number(&mut line, u64::from(position));
-    line.push_str(" ");
-    line.push_str(key_name(key));
-    line.push_str("\n");
+    line.push("error 8 SceneRefused ");
+    line.push_number(rule_number(rule));
+    line.push(" ");
+    line.push(rule_name(rule));
+    line.push(" ");
+    line.push(table_name(table));
+    line.push(" ");
+    line.push_number(u64::from(position));
+    line.push(" ");
+    line.push(key_name(key));
+    line.push("\n");
     line
 }
 
 /// The line of bytes that are no log.
 #[tactic(auto, unfolding(pbd_outcome::specs::Statuses::log_line))]
 pub fn log_line(offset: u64) -> Line
-    ensures { result.bytes ≡ log_line offset }
+    ensures { result ≡ log_line offset }
 {
     let mut line = Line::new();
-    line.push_str("error 9 LogRefused offset ");
-    push_number(&mut line, offset);
-    line.push_str("\n");
+    line.push("error 9 LogRefused offset ");
+    line.push_number(offset);
+    line.push("\n");
     line
 }
 
@@ -169,53 +156,44 @@ pub fn comment_frame(steps: u64, particles: u32, live: u32, contacts: u32) -> Li
 /// The first line.
 #[tactic(auto, unfolding(pbd_outcome::specs::Generated::large_line))]
 pub fn large_line(number: u64, size: u32) -> Line
-    ensures { result.bytes ≡ large_line number size }
+    ensures { result ≡ large_line number size }
 {
     let mut line = Line::new();
-    line.push_str("large ");
-    push_number(&mut line, number);
-    line.push_str(" ");
-    push_number(&mut line, u64::from(size));
-    line.push_str("\n");
+    line.push("large ");
+    line.push_number(number);
+    line.push(" ");
+    line.push_number(u64::from(size));
+    line.push("\n");
     line
 }
 
-fn push_signed(line: &mut Line, n: i64)
-    requires { length line.old.bytes ≤ 460 }
-    ensures bytes { line.new.bytes ≡ line.old.bytes ++ signed_decimal n }
-    ensures len { length line.new.bytes ≤ length line.old.bytes + 40 }
-{
-    let mut buffer = Buffer::new();
-    line.push_str(buffer.format(n));
-}
-
 fn push_axes(line: &mut Line, axes: &[i64; 3])
-    requires { length line.old.bytes ≤ 330 }
-    ensures bytes { line.new.bytes ≡ line.old.bytes ++ 32 ∷ (signed_decimal (axis axes.now 0) ++ 32 ∷ (signed_decimal (axis axes.now 1) ++ 32 ∷ signed_decimal (axis axes.now 2))) }
-    ensures len { length line.new.bytes ≤ length line.old.bytes + 123 }
+    requires { length line.old ≤ 190 }
+    ensures bytes { line.new ≡ line.old ++ 32 ∷ (signed_decimal (axis axes.now 0) ++ 32 ∷ (signed_decimal (axis axes.now 1) ++ 32 ∷ signed_decimal (axis axes.now 2))) }
+    ensures len { length line.new ≤ length line.old + 63 }
 {
-    line.push_str(" ");
-    push_signed(line, axes[0]);
-    line.push_str(" ");
-    push_signed(line, axes[1]);
-    line.push_str(" ");
-    push_signed(line, axes[2]);
+    line.push(" ");
+    line.push_signed(axes[0]);
+    line.push(" ");
+    line.push_signed(axes[1]);
+    line.push(" ");
+    line.push_signed(axes[2]);
 }
 
 /// The line of the sums.
 #[tactic(auto, unfolding(pbd_outcome::specs::Generated::sums_line))]
 pub fn sums_line(sums: &FrameSums) -> Line
-    ensures { result.bytes ≡ sums_line sums.now }
+    ensures { result ≡ sums_line sums.now }
 {
     let mut line = Line::new();
-    line.push_str("sums ");
-    push_number(&mut line, sums.steps);
-    line.push_str(" ");
-    push_number(&mut line, u64::from(sums.live));
-    line.push_str(" ");
-    push_number(&mut line, u64::from(sums.contacts));
+    line.push("sums ");
+    line.push_number(sums.steps);
+    line.push(" ");
+    line.push_number(u64::from(sums.live));
+    line.push(" ");
+    line.push_number(u64::from(sums.contacts));
     push_axes(&mut line, &sums.at);
     push_axes(&mut line, &sums.before);
-    line.push_str("\n");
+    line.push("\n");
     line
 }

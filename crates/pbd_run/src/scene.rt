@@ -76,7 +76,7 @@ pub fn stop_scene<K: Sink>(why: SceneStop, sink: &mut K) -> Status
                 position,
                 key,
             },
-        ) => match sink.write(refused_line(rule, table, position, key).as_str().as_bytes()) {
+        ) => match sink.write(refused_line(rule, table, position, key).as_slice()) {
             Ok(()) => Status::SceneRefused,
             Err(Failed) => Status::WriteFault,
         },
@@ -87,7 +87,7 @@ pub fn stop_scene<K: Sink>(why: SceneStop, sink: &mut K) -> Status
 pub fn stop_log<K: Sink>(fault: LogFault, sink: &mut K) -> Status
     ensures { Does (log_refused fault.offset) (K.written sink.old) (K.written sink.new) (K.faults sink.old) (K.faults sink.new) result }
 {
-    match sink.write(log_line(fault.offset).as_str().as_bytes()) {
+    match sink.write(log_line(fault.offset).as_slice()) {
         Ok(()) => Status::LogRefused,
         Err(Failed) => Status::WriteFault,
     }

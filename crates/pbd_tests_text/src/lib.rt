@@ -1,8 +1,10 @@
-//! Tests of what reads and writes: sources and sinks, scripts, meshes, scenes, OBJ and logs.
+//! Tests of what reads and writes: sources and sinks, lines, scripts, meshes, scenes, OBJ and logs.
 #![tactic(auto)]
 
 #[cfg(test)]
 mod io;
+#[cfg(test)]
+mod line;
 #[cfg(test)]
 mod log;
 #[cfg(test)]

@@ -1,6 +1,8 @@
 //! Lines and the commands that they ask for.
 use pbd_num::Vec3;
-use pbd_script::lines::{count_of, first_line, next_word, number_of, only_count, without_return};
+use pbd_script::lines::{
+    are_digits, count_of, first_line, next_word, number_of, only_count, value_of, without_return,
+};
 use pbd_script::{Script, line_command};
 use pbd_world::Command;
 
@@ -98,8 +100,26 @@ fn words_and_numbers(rt: HostRuntime) {
     assert_eq!(rt; without_return(b"a\r\r"), &b"a\r"[..]);
     assert_eq!(rt; next_word(b" \tab c "), Some((&b"ab"[..], &b" c "[..])));
     assert_eq!(rt; next_word(b" \t"), None);
+    assert!(rt; are_digits(b"") && are_digits(b"0129") && !are_digits(b"12/"));
     assert_eq!(rt; count_of(b"0120"), Some(120));
     assert_eq!(rt; number_of(b"-0120"), Some(-120));
     assert_eq!(rt; only_count(b" 7 "), Some(7));
     assert_eq!(rt; only_count(b" 7 8"), None);
+}
+
+#[test]
+fn digits_and_their_value(rt: HostRuntime) {
+    let rows: [(&[u8], u128); 4] = [
+        (b"", 0),
+        (b"0120", 120),
+        (b"18446744073709551616", 18_446_744_073_709_551_616),
+        (
+            b"99999999999999999999999999999999999999",
+            99_999_999_999_999_999_999_999_999_999_999_999_999,
+        ),
+    ];
+    for (word, value) in rows {
+        assert!(rt; word.len() <= 38 && are_digits(word));
+        assert_eq!(rt; value_of(word), value, "of {word:?}");
+    }
 }

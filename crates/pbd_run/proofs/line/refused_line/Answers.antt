@@ -7,5 +7,5 @@ use Rattle.pbd_run.proofs.line.refused_line.Goals as goal
 pub returns : goal.returns
 unfolding refused_line
 returns c =
-    rw (c.push_str-9.ensures.bytes, c.push_str-8.ensures.bytes, c.push_str-7.ensures.bytes, c.push_number-2.ensures.bytes, c.push_str-6.ensures.bytes, c.push_str-5.ensures.bytes, c.push_str-4.ensures.bytes, c.push_str-3.ensures.bytes, c.push_str-2.ensures.bytes, c.push_number.ensures.bytes, c.push_str.ensures.bytes, c.new-line.ensures, c.rule_number.ensures, c.rule_name.ensures.name, c.table_name.ensures.name, c.key_name.ensures.name, c.from.ensures)
+    rw (c.push-9.ensures, c.push-8.ensures, c.push-7.ensures, c.push_number-2.ensures.bytes, c.push-6.ensures, c.push-5.ensures, c.push-4.ensures, c.push-3.ensures, c.push-2.ensures, c.push_number.ensures.bytes, c.push.ensures, c.new-line.ensures, c.rule_number.ensures, c.rule_name.ensures.name, c.table_name.ensures.name, c.key_name.ensures.name, c.from.ensures)
     (ap (λ t. codes "error 8 SceneRefused " ++ t) (joined (decimal (rule_number c.args.rule)) (rule_text c.args.rule) (table_text c.args.table) (decimal c.args.position) (key_text c.args.key)))

@@ -1,0 +1,42 @@
+//! Lines of bytes.
+use pbd_line::Line;
+
+#[test]
+fn numbers_in_a_line(rt: HostRuntime) {
+    let rows: [(u64, i64, i128, &[u8]); 4] = [
+        (0, 0, 0, b"0 0 0\n"),
+        (10, -1, -65_536, b"10 -1 -65536\n"),
+        (
+            u64::MAX,
+            i64::MIN,
+            i128::MIN,
+            b"18446744073709551615 -9223372036854775808 -170141183460469231731687303715884105728\n",
+        ),
+        (
+            9,
+            i64::MAX,
+            i128::MAX,
+            b"9 9223372036854775807 170141183460469231731687303715884105727\n",
+        ),
+    ];
+    for (number, signed, wide, bytes) in rows {
+        let mut line = Line::new();
+        line.push_number(number);
+        line.push(" ");
+        line.push_signed(signed);
+        line.push_bytes(b" ");
+        line.push_wide(wide);
+        line.push("\n");
+        assert_eq!(rt; line.as_slice(), bytes);
+    }
+}
+
+#[test]
+fn a_full_line(rt: HostRuntime) {
+    let mut line = Line::new();
+    line.push("ab");
+    assert_eq!(rt; line.room(), 254);
+    line.push_bytes(&[b'c'; 254]);
+    assert_eq!(rt; line.room(), 0);
+    assert_eq!(rt; line.as_slice()[..3], b"abc"[..]);
+}
