@@ -76,11 +76,8 @@ pub fn perform<S: Source, K: Sink>(
         return stop(Status::Usage, sink);
     };
     match job {
-        Job::Simulate(_)
-        | Job::Record(_)
-        | Job::Replay(_)
-        | Job::Scramble { .. }
-        | Job::Obj(_) => read_and_do(alloc, job, source, sink),
+        Job::Simulate(_) | Job::Record(_) | Job::Replay(_) | Job::Scramble { .. } | Job::Obj(_) =>
+            read_and_do(alloc, job, source, sink),
         Job::Large { width, seed, size } => large_run(alloc, width, seed, size, sink),
         _ => stop(Status::NotBuilt, sink),
     }
