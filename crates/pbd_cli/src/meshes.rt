@@ -57,7 +57,11 @@ fn a_mesh_is_looked_at_after_the_scene(rt: HostRuntime) -> Result<(), Fail> {
     let runs: [(&str, &str, Status); 10] = [
         ("", "error 5 NoScript", Status::NoScript),
         ("v 1 2; %%", "error 5 NoScript", Status::NoScript),
-        ("v 1 2; %%; = 1; %%", "error 7 SceneNotToml", Status::SceneNotToml),
+        (
+            "v 1 2; %%; = 1; %%",
+            "error 7 SceneNotToml",
+            Status::SceneNotToml,
+        ),
         (
             "v 1 2; %%; colour = 1; %%",
             "error 8 SceneRefused 2 UnknownKey scene 0 -",
@@ -138,9 +142,7 @@ fn a_frame_is_read_again_as_its_mesh(rt: HostRuntime) -> Result<(), Fail> {
     let first = run_on(alloc, "obj 1", net.as_str().as_bytes())?;
     assert_eq!(rt; first.0, Status::Done);
     assert!(rt;
-        first
-            .1
-            .starts_with(b"# frame 0 10000 39402 0\nv 0.5 0 0.001007080078125\nv 0.5 -1 ")
+        first.1.starts_with(b"# frame 0 10000 39402 0\nv 0.5 0 0.001007080078125\nv 0.5 -1 ")
     );
     assert!(rt; first.1.ends_with(b"\nf 9899 9900 10000 9999\n"));
     let mut input = first.1.to_vec(alloc)?;

@@ -120,34 +120,34 @@ fn fault_place(fault: ObjFault) -> u32
 /// The line of a mesh that is refused.
 #[tactic(auto, unfolding(pbd_outcome::specs::ObjText::obj_line))]
 pub fn obj_line(fault: ObjFault) -> Line
-    ensures { result.bytes ≡ obj_line fault }
+    ensures { result ≡ obj_line fault }
 {
     let mut line = Line::new();
-    line.push_str("error 14 ObjRefused ");
-    push_number(&mut line, fault_number(fault));
-    line.push_str(" ");
-    line.push_str(fault_name(fault));
-    line.push_str(" at ");
-    push_number(&mut line, u64::from(fault_place(fault)));
-    line.push_str("\n");
+    line.push("error 14 ObjRefused ");
+    line.push_number(fault_number(fault));
+    line.push(" ");
+    line.push(fault_name(fault));
+    line.push(" at ");
+    line.push_number(u64::from(fault_place(fault)));
+    line.push("\n");
     line
 }
 
 /// The first line of a frame, as a comment.
 #[tactic(auto, unfolding(pbd_session::specs::Printing::frame_header))]
 pub fn comment_frame(steps: u64, particles: u32, live: u32, contacts: u32) -> Line
-    ensures { result.bytes ≡ comment ++ frame_header steps particles live contacts }
+    ensures { result ≡ comment ++ frame_header steps particles live contacts }
 {
     let mut line = Line::new();
-    line.push_str("# frame ");
-    push_number(&mut line, steps);
-    line.push_str(" ");
-    push_number(&mut line, u64::from(particles));
-    line.push_str(" ");
-    push_number(&mut line, u64::from(live));
-    line.push_str(" ");
-    push_number(&mut line, u64::from(contacts));
-    line.push_str("\n");
+    line.push("# frame ");
+    line.push_number(steps);
+    line.push(" ");
+    line.push_number(u64::from(particles));
+    line.push(" ");
+    line.push_number(u64::from(live));
+    line.push(" ");
+    line.push_number(u64::from(contacts));
+    line.push("\n");
     line
 }
 

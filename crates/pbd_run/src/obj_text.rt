@@ -38,7 +38,7 @@ fn write_header<const L: usize, P: Projector<L> + Drop, K: Sink>(
     let live = solver.live();
     let contacts = solver.contacts();
     let header = comment_frame(steps, particles, live, contacts);
-    sink.write(header.as_str().as_bytes())
+    sink.write(header.as_slice())
 }
 
 /// Writes each particle as a vertex.

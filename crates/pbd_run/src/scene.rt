@@ -100,7 +100,7 @@ pub fn stop_mesh<K: Sink>(fault: ObjFault, sink: &mut K) -> Status
     if let ObjFault::OutOfMemory = fault {
         return Status::OutOfMemory;
     }
-    match sink.write(obj_line(fault).as_str().as_bytes()) {
+    match sink.write(obj_line(fault).as_slice()) {
         Ok(()) => Status::ObjRefused,
         Err(Failed) => Status::WriteFault,
     }

@@ -226,6 +226,69 @@ fn a_vertex_has_at_most_32_links(rt: HostRuntime) -> Result<(), Fail> {
 }
 
 #[test]
+fn files_of_other_programs_are_read(rt: HostRuntime) -> Result<(), Fail> {
+    // A text, and the sizes and the corners of its faces.
+    let texts: [(&[u8], &[u32], &[u32]); 6] = [
+        (
+            b"# Blender\r\nmtllib plane.mtl\r\no Plane\r\nv -1.000000 0.000000 1.000000\r\nv 1 0 1\r\nv 1 0 -1\r\nv -1 0 -1\r\nvn -0.0000 1.0000 -0.0000\r\nvt 0.0 1.0\r\ns 0\r\nusemtl None\r\nf 1/1/1 2/2/1 3/3/1 4/4/1\r\n",
+            &[4],
+            &[0, 1, 2, 3],
+        ),
+        (
+            b"v 0 0 0\nv 1 0 0\nv 1 1 0\nf -3 -2 -1\nv 2 2 0\nf -1 -2 -3\n",
+            &[3, 3],
+            &[0, 1, 2, 3, 2, 1],
+        ),
+        (
+            b"g hexagon\nv 1e0 0 0\nv 5E-1 .866 0\nv -5e-1 0.866 0.\nv -1e+00 0 0\nv -0.5 -.866 0\nv +.5 -.866 0\nf 6 5/1 4//1 3/1/1 2 1\n",
+            &[6],
+            &[5, 4, 3, 2, 1, 0],
+        ),
+        (
+            b"o first\nv 0 0 0\nv 1 0 0\nv 0 1 0\nf 1//1 2//1 3//1\no second\ng part\nv 0 0 1\nv 1 0 1\nv 0 1 1\nf 4 5 6\nf -3 2 -1\n",
+            &[3, 3, 3],
+            &[0, 1, 2, 3, 4, 5, 3, 1, 5],
+        ),
+        (b"v 0 0 0 1 0.5 0.25\nvp 1 2\np 1\nl 1 1\n", &[], &[]),
+        (b"\r\n\t\nfo 1 2 3\nV 1 2 x", &[], &[]),
+    ];
+    for (text, sizes, corners) in texts {
+        match read_obj(rt.alloc(), text) {
+            Ok(mesh) => {
+                assert_eq!(rt; mesh.sizes.as_slice(), sizes, "of {text:?}");
+                assert_eq!(rt; mesh.corners.as_slice(), corners, "of {text:?}");
+            }
+            Err(fault) => assert!(rt; false, "{fault:?} of {text:?}"),
+        }
+    }
+    Ok(())
+}
+
+/// So many vertices at one place.
+fn vertices(alloc: Global, count: u32) -> Result<String, Fail> {
+    let mut text = String::new(alloc);
+    for _ in 0..count {
+        text.push_str("v 0 0 0\n")?;
+    }
+    Ok(text)
+}
+
+#[test]
+fn a_mesh_has_at_most_65536_vertices(rt: HostRuntime) -> Result<(), Fail> {
+    for (count, want) in [(65_536, Ok(())), (65_537, Err(ObjFault::TooMany))] {
+        let text = vertices(rt.alloc(), count)?;
+        let text = text.as_bytes();
+        assert!(rt; text.len() < 1_000_000);
+        let mut parts = empty_parts(rt.alloc(), RANGE);
+        match read_obj(rt.alloc(), text) {
+            Ok(mesh) => assert_eq!(rt; add_mesh(rt.alloc(), &mesh, &mut parts), want),
+            Err(fault) => assert!(rt; false, "{fault:?}"),
+        }
+    }
+    Ok(())
+}
+
+#[test]
 fn lines_of_a_mesh(rt: HostRuntime) -> Result<(), Fail> {
     let places: [(Vec3, &[u8]); 4] = [
         (place(0, 65_536, -98_304), b"v 0 1 -1.5\n"),
