@@ -52,7 +52,11 @@ fn a_run_goes_back_to_its_marks_at_each_width(rt: HostRuntime) -> Result<(), Fai
             let mut sink = MemSink::open(alloc, 4096, Vec::new(alloc))?;
             let answer = run(alloc, &asked, &mut source, &mut sink);
             assert_eq!(rt; answer, status, "{words}: {input}");
-            assert_eq!(rt; sink.written(), wanted.as_str().as_bytes(), "{words}: {input}");
+            assert_eq!(rt;
+                sink.written(),
+                wanted.as_str().as_bytes(),
+                "{words}: {input}"
+            );
         }
     }
     Ok(())
@@ -67,7 +71,10 @@ fn each_line_of_a_mark_is_written_at_once(rt: HostRuntime) -> Result<(), Fail> {
     fails.push((2, 3))?;
     let mut source = SureSource::new(b"%%\nmark 1\nrewind 8\n");
     let mut sink = MemSink::open(alloc, 64, fails)?;
-    assert_eq!(rt; run(alloc, &words, &mut source, &mut sink), Status::WriteFault);
+    assert_eq!(rt;
+        run(alloc, &words, &mut source, &mut sink),
+        Status::WriteFault
+    );
     assert_eq!(rt; sink.written(), b"ok\nref".as_slice());
     Ok(())
 }
@@ -86,7 +93,10 @@ fn the_step_limit_counts_from_the_mark(rt: HostRuntime) -> Result<(), Fail> {
     )?;
     let mut source = SureSource::new(given.as_str().as_bytes());
     let mut sink = MemSink::open(alloc, 4096, Vec::new(alloc))?;
-    assert_eq!(rt; run(alloc, &words, &mut source, &mut sink), Status::SomeRefused);
+    assert_eq!(rt;
+        run(alloc, &words, &mut source, &mut sink),
+        Status::SomeRefused
+    );
     assert_eq!(rt; sink.written(), wanted.as_str().as_bytes());
     Ok(())
 }

@@ -23,10 +23,7 @@ const LINES: [(&[u8], Option<MarkCommand>); 24] = [
     (b"mark1", BAD),
     (b"m\xc3\xa4rk 1", BAD),
     (b"rewind 7", Some(MarkCommand::Rewind(7))),
-    (
-        b"# one\n\r\n rewind 007\n",
-        Some(MarkCommand::Rewind(7)),
-    ),
+    (b"# one\n\r\n rewind 007\n", Some(MarkCommand::Rewind(7))),
     (b"rewind", BAD),
     (b"rewind 1 2", BAD),
     (b"rewind +1", BAD),

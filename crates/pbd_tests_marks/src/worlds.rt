@@ -71,8 +71,14 @@ const UP: Vec3 = Vec3 {
 const NOWHERE: Vec3 = Vec3 { x: 0, y: 0, z: 0 };
 
 /// Two free particles fall by 10 a step and a step, and the link between them tears in the first one. The third is held.
-const ROWS: [Row; 28] = [
-    (MarkCommand::Rewind(1), Answer::MarkRefused(MarkRefusal::MarkEmpty), 0, 2, 1000),
+const ROWS: &[Row] = &[
+    (
+        MarkCommand::Rewind(1),
+        Answer::MarkRefused(MarkRefusal::MarkEmpty),
+        0,
+        2,
+        1000,
+    ),
     (MarkCommand::Mark(1), Answer::Done, 0, 2, 1000),
     (does!(Command::Step(2)), Answer::Done, 2, 1, 970),
     (MarkCommand::Mark(7), Answer::Done, 2, 1, 970),
@@ -82,13 +88,25 @@ const ROWS: [Row; 28] = [
     (does!(Command::Step(1)), Answer::Done, 3, 0, 970),
     (MarkCommand::Rewind(7), Answer::Done, 2, 1, 970),
     (does!(Command::Step(1)), Answer::Done, 3, 1, 940),
-    (does!(Command::Cut(0)), Answer::Refused(Refusal::LinkGone), 3, 1, 940),
+    (
+        does!(Command::Cut(0)),
+        Answer::Refused(Refusal::LinkGone),
+        3,
+        1,
+        940,
+    ),
     (MarkCommand::Rewind(1), Answer::Done, 0, 2, 1000),
     (does!(Command::Cut(0)), Answer::Done, 0, 1, 1000),
     (MarkCommand::Rewind(1), Answer::Done, 0, 2, 1000),
     (does!(Command::Step(1)), Answer::Done, 1, 1, 990),
     (MarkCommand::Rewind(7), Answer::Done, 2, 1, 970),
-    (does!(Command::Unpin(0)), Answer::Refused(Refusal::NotHeld), 2, 1, 970),
+    (
+        does!(Command::Unpin(0)),
+        Answer::Refused(Refusal::NotHeld),
+        2,
+        1,
+        970,
+    ),
     (does!(Command::Gravity(UP)), Answer::Done, 2, 1, 970),
     (does!(Command::Step(5)), LEAVES, 2, 1, 970),
     (MarkCommand::Mark(0), Answer::Done, 2, 1, 970),
@@ -96,9 +114,27 @@ const ROWS: [Row; 28] = [
     (does!(Command::Step(1)), Answer::Done, 1, 1, 990),
     (MarkCommand::Rewind(0), Answer::Done, 2, 1, 970),
     (does!(Command::Step(1)), LEAVES, 2, 1, 970),
-    (MarkCommand::Mark(8), Answer::MarkRefused(MarkRefusal::BadMark), 2, 1, 970),
-    (MarkCommand::Rewind(8), Answer::MarkRefused(MarkRefusal::BadMark), 2, 1, 970),
-    (MarkCommand::Rewind(6), Answer::MarkRefused(MarkRefusal::MarkEmpty), 2, 1, 970),
+    (
+        MarkCommand::Mark(8),
+        Answer::MarkRefused(MarkRefusal::BadMark),
+        2,
+        1,
+        970,
+    ),
+    (
+        MarkCommand::Rewind(8),
+        Answer::MarkRefused(MarkRefusal::BadMark),
+        2,
+        1,
+        970,
+    ),
+    (
+        MarkCommand::Rewind(6),
+        Answer::MarkRefused(MarkRefusal::MarkEmpty),
+        2,
+        1,
+        970,
+    ),
     (MarkCommand::Rewind(1), Answer::Done, 0, 2, 1000),
 ];
 
@@ -158,7 +194,7 @@ fn mark_refused(outcome: Result<(), MarkRefusal>) -> Answer {
     }
 }
 
-fn answer<const L: usize, P: Projector<L> + Drop, G: Ledger>(
+fn answer_of<const L: usize, P: Projector<L> + Drop, G: Ledger>(
     command: MarkCommand,
     marks: &mut Marks<L, P>,
     solver: &mut Solver<L, P>,
@@ -188,8 +224,26 @@ fn height<const L: usize, P: Projector<L> + Drop, G: Ledger>(
     solver.particle(0, steps).at.y
 }
 
+/// Whether a command goes as its row says.
+fn goes_so<const L: usize, P: Projector<L> + Drop, G: Ledger>(
+    row: &Row,
+    marks: &mut Marks<L, P>,
+    solver: &mut Solver<L, P>,
+    steps: &mut Steps<G>,
+) -> bool
+    requires low { 0 < L }
+    requires high { L ≤ 16 }
+    requires one_scene { IsOfScene marks.old.scene solver.old.world }
+    ensures { IsOfScene marks.new.scene solver.new.world }
+{
+    let answered = answer_of(row.0, marks, solver, steps);
+    let high = height(solver, steps);
+    answered == row.1 && solver.step_count() == row.2 && solver.live() == row.3 && high == row.4
+}
+
 /// How many rows go as they say, up to the first that doesn't.
-fn all_answered<const L: usize, P: Projector<L> + Drop, G: Ledger>(
+fn all_go_so<const L: usize, P: Projector<L> + Drop, G: Ledger>(
+    rows: &[Row],
     marks: &mut Marks<L, P>,
     solver: &mut Solver<L, P>,
     steps: &mut Steps<G>,
@@ -198,20 +252,18 @@ fn all_answered<const L: usize, P: Projector<L> + Drop, G: Ledger>(
     requires high { L ≤ 16 }
     requires one_scene { IsOfScene marks.old.scene solver.old.world }
 {
-    for i in 0..ROWS.len() {
-        let (command, wanted, count, live, high) = ROWS[i];
-        let answered = answer(command, marks, solver, steps);
-        let seen = (solver.step_count(), solver.live(), height(solver, steps));
-        if answered != wanted || seen != (count, live, high) {
+    for i in 0..rows.len() {
+        if !goes_so(&rows[i], marks, solver, steps) {
             return i;
         }
     }
-    ROWS.len()
+    rows.len()
 }
 
 fn at_width<const L: usize, G: Ledger>(
     alloc: Global,
     scene: &Scene,
+    rows: &[Row],
     steps: &mut Steps<G>,
 ) -> Result<usize, AllocError>
     requires low { 0 < L }
@@ -219,34 +271,35 @@ fn at_width<const L: usize, G: Ledger>(
 {
     let mut marks = Marks::open(alloc, scene, LaneProjector::<L>::new())?;
     let mut solver = Solver::open(alloc, scene, LaneProjector::<L>::new())?;
-    Ok(all_answered(&mut marks, &mut solver, steps))
+    Ok(all_go_so(rows, &mut marks, &mut solver, steps))
 }
 
 fn counted<G: Ledger>(
     alloc: Global,
     blank: Blank,
     scene: &Scene,
+    rows: &[Row],
 ) -> Result<[usize; 5], AllocError>
     requires name { blank.name ≡ G.name }
     requires parts { blank.parts ≡ G.parts }
     requires some { 0 < blank.parts }
 {
     let mut steps: Steps<G> = Steps::open(blank);
-    let one = at_width::<1, G>(alloc, scene, &mut steps)?;
-    let two = at_width::<2, G>(alloc, scene, &mut steps)?;
-    let four = at_width::<4, G>(alloc, scene, &mut steps)?;
-    let eight = at_width::<8, G>(alloc, scene, &mut steps)?;
-    let sixteen = at_width::<16, G>(alloc, scene, &mut steps)?;
+    let one = at_width::<1, G>(alloc, scene, rows, &mut steps)?;
+    let two = at_width::<2, G>(alloc, scene, rows, &mut steps)?;
+    let four = at_width::<4, G>(alloc, scene, rows, &mut steps)?;
+    let eight = at_width::<8, G>(alloc, scene, rows, &mut steps)?;
+    let sixteen = at_width::<16, G>(alloc, scene, rows, &mut steps)?;
     Ok([one, two, four, eight, sixteen])
 }
 
-fn at_each_width(alloc: Global, scene: &Scene) -> Result<[usize; 5], AllocError> {
-    counted::<Brand>(alloc, Blank::new(1), scene)
+fn at_each_width(alloc: Global, scene: &Scene, rows: &[Row]) -> Result<[usize; 5], AllocError> {
+    counted::<Brand>(alloc, Blank::new(1), scene, rows)
 }
 
 #[test]
 fn worlds_go_back_to_their_marks(rt: HostRuntime) -> Result<(), Fail> {
     let scene = Scene::from_parts(rt.alloc(), falling(rt.alloc())?)?;
-    assert_eq!(rt; at_each_width(rt.alloc(), &scene)?, [28; 5]);
+    assert_eq!(rt; at_each_width(rt.alloc(), &scene, ROWS)?, [28; 5]);
     Ok(())
 }

@@ -1,5 +1,5 @@
 use Rattle.pbd_marks.specs.Keeping.{IsOfScene}
-use Rattle.pbd_tests_marks.proofs.worlds.all_answered.Given as goal
+use Rattle.pbd_tests_marks.proofs.worlds.all_go_so.Given as goal
 
 -- the solver's world is of the marks' scene
 abbrev pub invariant-loop-i : goal.invariant-loop-i
