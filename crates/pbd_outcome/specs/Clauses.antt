@@ -5,7 +5,7 @@ use Rattle.pbd_io.specs.Causes.{HasRisen}
 use Rattle.pbd_io.specs.Pieces.{AppendsPrefix}
 use Rattle.pbd_world.specs.declared.command.Width.{Width}
 use Rattle.pbd_outcome.specs.declared.job.Job.{Job}
-use Rattle.pbd_outcome.specs.declared.job.Job.TheVariants.{Simulate, Record, Replay, Scramble}
+use Rattle.pbd_outcome.specs.declared.job.Job.TheVariants.{Simulate, Record, Replay, Scramble, Host}
 use Rattle.pbd_outcome.specs.declared.status.Status.{Status}
 use Rattle.pbd_outcome.specs.declared.status.Status.TheVariants.{ReadFault, WriteFault, OutOfMemory}
 use Rattle.pbd_outcome.specs.Statuses.{status_line}
@@ -27,6 +27,7 @@ Reads (Some (Simulate width)) = Unit {0}
 Reads (Some (Record width)) = Unit {0}
 Reads (Some (Replay width)) = Unit {0}
 Reads (Some (Scramble seed)) = Unit {0}
+Reads (Some (Host width)) = Unit {0}
 Reads _ = ⊥
 
 -- the input is told, or the job doesn't read it

@@ -1,11 +1,11 @@
 -- What a run writes and answers, by the job and the input. No width has a part in it.
-use Rattle.std.specs.Prelude.{◌≡◌, ◌⊎◌, ℕ, ◌+◌, ◌<◌, ◌≤◌, ◌==◌, ◌^◌, ℤ, pos, if◌then◌else◌, List, [], length, drop, Option, Some, None, Result, Ok, Err}
+use Rattle.std.specs.Prelude.{◌≡◌, ◌⊎◌, ℕ, ◌+◌, ◌<◌, ◌≤◌, ◌==◌, ◌^◌, ℤ, pos, if◌then◌else◌, nat_le, List, [], ◌∷◌, length, drop, map, Option, Some, None, Result, Ok, Err}
 use Rattle.std.specs.Str.{is_utf8}
 use Rattle.toml.specs.Data.{Members}
 use Rattle.toml.specs.Parse.{parse_document}
 use Rattle.pbd_world.specs.declared.parts.Parts.{Parts}
 use Rattle.pbd_world.specs.declared.command.Command.{Command}
-use Rattle.pbd_world.specs.Outcomes.{◌>>=◌}
+use Rattle.pbd_world.specs.Outcomes.{◌>>=◌, with_fault}
 use Rattle.pbd_world.specs.World.{World, opened}
 use Rattle.pbd_world.specs.declared.command.Command.TheVariants.{Step}
 use Rattle.pbd_world.specs.declared.command.Reply.{Reply}
@@ -14,6 +14,9 @@ use Rattle.pbd_world.specs.Session.{is_refused, session_text, refused_count}
 use Rattle.pbd_scene.specs.Checks.{Broken, Checked}
 use Rattle.pbd_scene.specs.Scene.{scene_of}
 use Rattle.pbd_script.specs.Commands.{commands}
+use Rattle.pbd_host.specs.declared.request.Request.{Request}
+use Rattle.pbd_host.specs.Hosted.{hosted_refused, hosted_text}
+use Rattle.pbd_host.specs.Tagged.{requests_of}
 use Rattle.pbd_log.specs.Logs.{Log, Spells, IsFault}
 use Rattle.pbd_session.specs.declared.ending.ReplayEnd.{ReplayEnd}
 use Rattle.pbd_session.specs.declared.ending.ReplayEnd.TheVariants as ends
@@ -22,10 +25,10 @@ use Rattle.pbd_session.specs.Replaying.{Replay, replayed}
 use Rattle.pbd_outcome.specs.declared.job.Job.{Job}
 use Rattle.pbd_outcome.specs.declared.job.Job.TheVariants as jobs
 use Rattle.pbd_outcome.specs.declared.status.Status.{Status}
-use Rattle.pbd_outcome.specs.declared.status.Status.TheVariants.{Done, SomeRefused, Usage, InputTooLong, NoScript, SceneNotText, SceneNotToml, SceneRefused, LogRefused, Mismatch, NotBuilt}
+use Rattle.pbd_outcome.specs.declared.status.Status.TheVariants.{Done, SomeRefused, Usage, InputTooLong, NoScript, SceneNotText, SceneNotToml, SceneRefused, LogRefused, Mismatch, NotBuilt, TooManyScenes}
 use Rattle.pbd_outcome.specs.Generated.{generated, summary}
-use Rattle.pbd_outcome.specs.Split.{split}
-use Rattle.pbd_outcome.specs.Statuses.{status_line, refused_line, log_line}
+use Rattle.pbd_outcome.specs.Split.{host_split, split}
+use Rattle.pbd_outcome.specs.Statuses.{status_line, refused_line, log_line, line_in}
 
 -- the text and the status of a run, and what it leaves of the input
 pub record Outcome : Type 0 where
@@ -126,6 +129,40 @@ IsReplayed input o =
     ((log : Log) × Spells input log.version log.limit log.scene log.entries × (o ≡ log_outcome log))
     ⊎ ((offset : ℕ) × IsFault input offset × (o ≡ log_refused offset))
 
+-- ---- several scenes, each with a session, and tagged lines
+
+-- the scenes' bytes and the tagged lines, or how the run stops
+abbrev pub host_halves_in : Option (List (List ℕ) × List (List ℕ)) → Result (List (List ℕ) × List (List ℕ)) Outcome
+host_halves_in (Some halves) = Ok halves
+host_halves_in None = Err (stops NoScript [])
+
+-- more than 16 scenes stop the run
+abbrev pub few_in : List (List ℕ) → Result (List (List ℕ)) Outcome
+few_in texts = if nat_le (length texts) 16 then Ok texts else Err (stops TooManyScenes [])
+
+-- how a run stops in scene n, which its line tells
+abbrev pub stops_in : ℕ → Outcome → Outcome
+stops_in n o = record o { text = line_in n o.text }
+
+-- the parts of the scenes from number n on, or how the run stops in the first that has none
+unfoldable pub scenes_in : ℕ → List (List ℕ) → Result (List Parts) Outcome
+scenes_in n [] = Ok []
+scenes_in n (text ∷ texts) = do
+  parts ← with_fault (stops_in n) (scene_in range text)
+  more ← scenes_in (n + 1) texts
+  Ok (parts ∷ more)
+
+-- the replies of the sessions
+abbrev pub host_outcome : List World → List Request → Outcome
+host_outcome ws rs = record { text = hosted_text ws rs; status = ends_as (hosted_refused ws rs); rest = [] }
+
+unfoldable pub hosted : List ℕ → Outcome
+hosted input = settled (do
+  halves ← host_halves_in (host_split input)
+  texts ← few_in halves.0
+  scenes ← scenes_in 0 texts
+  Ok (host_outcome (map opened scenes) (requests_of (length scenes) halves.1)))
+
 -- ---- a generated scene
 
 abbrev pub step_status : Reply → Status
@@ -154,4 +191,5 @@ IsOutcome (Some (jobs.Record width)) input o = IsWithin most (λ o. o ≡ record
 IsOutcome (Some (jobs.Replay width)) input o = IsWithin most_of_log (IsReplayed input) input o
 IsOutcome (Some (jobs.Large width number size)) input o = o ≡ large_outcome number size input
 IsOutcome (Some (jobs.Scramble seed)) input o = IsWithin most (λ o. o ≡ simulated input) input o
+IsOutcome (Some (jobs.Host width)) input o = IsWithin most (λ o. o ≡ hosted input) input o
 IsOutcome (Some job) input o = o ≡ stops NotBuilt input
