@@ -10,12 +10,12 @@ use Rattle.pbd_outcome.specs.declared.job.Job.TheVariants.{Simulate, Record, Rep
 use Rattle.pbd_run.specs.declared.reading.ReadEnd.{ReadEnd}
 use Rattle.pbd_run.specs.declared.reading.ReadEnd.TheVariants as readings
 use Rattle.pbd_outcome.specs.declared.status.Status.{Status}
-use Rattle.pbd_outcome.specs.declared.status.Status.TheVariants.{Done, Usage, ReadFault, WriteFault, InputTooLong, NoScript, SceneNotText, SceneNotToml, SceneRefused, LogRefused, Mismatch, SomeRefused, OutOfMemory, NotBuilt}
+use Rattle.pbd_outcome.specs.declared.status.Status.TheVariants.{Done, Usage, ReadFault, WriteFault, InputTooLong, NoScript, SceneNotText, SceneNotToml, SceneRefused, LogRefused, Mismatch, SomeRefused, OutOfMemory, NotBuilt, TooManyScenes}
 use Rattle.pbd_run.specs.Reading.{ReachesEnd, Overruns, ReadsAll}
-use Rattle.pbd_outcome.specs.Outcome.{Outcome, IsOutcome, IsReplayed, IsWithin, large_outcome, most, most_of_log, recorded, simulated, stops}
+use Rattle.pbd_outcome.specs.Outcome.{Outcome, IsOutcome, IsWithin, large_outcome, stops}
 use Rattle.pbd_outcome.specs.Clauses.{Ends, IsInput, Promises, Reads}
 use Rattle.pbd_run.specs.Calls.{Does, DoesSome, EndsReading, IsOne, limit_of}
-use Rattle.pbd_run.proofs.WholeLaws.{IsWhole, large_read, large_rest, simulated_whole, recorded_whole, replayed_whole}
+use Rattle.pbd_run.proofs.WholeLaws.{IsWhole, hosted_whole, large_read, large_rest, simulated_whole, recorded_whole, replayed_whole}
 
 -- ---- what a call did
 
@@ -34,6 +34,7 @@ does_settled o a b m n Mismatch does w m' = does
 does_settled o a b m n SomeRefused does w m' = does
 does_settled o a b m n OutOfMemory does w m' = absurd (m' refl)
 does_settled o a b m n NotBuilt does w m' = does
+does_settled o a b m n TooManyScenes does w m' = does
 
 does_failed : (o : Outcome) (a b : Option (List ℕ)) (m n : ℕ) (s : Status) → Does o a b m n s → s ≡ WriteFault → HasRisen m n × AppendsPrefix a b o.text
 does_failed o a b m n s does is = rw is at does
@@ -81,18 +82,18 @@ forms (Large w seed size) reads = absurd reads
 forms (Scramble seed) reads = record { reads = tt; its = λ input o is. is; whole = λ input o is. rw is (simulated_whole input) }
 forms (Obj w) reads = absurd reads
 forms (Marks w) reads = absurd reads
-forms (Host w) reads = absurd reads
+forms (Host w) reads = record { reads = tt; its = λ input o is. is; whole = λ input o is. rw is (hosted_whole input) }
 
 -- only these read
-pub reads_one : (job : Job) → Reads (Some job) → ((w : Width) → job ≡ Simulate w → ⊥) → ((w : Width) → job ≡ Record w → ⊥) → ((w : Width) → job ≡ Replay w → ⊥) → ((seed : ℕ) → job ≡ Scramble seed → ⊥) → ⊥
-reads_one (Simulate w) reads a b c d = a w refl
-reads_one (Record w) reads a b c d = b w refl
-reads_one (Replay w) reads a b c d = c w refl
-reads_one (Large w seed size) reads a b c d = reads
-reads_one (Scramble seed) reads a b c d = d seed refl
-reads_one (Obj w) reads a b c d = reads
-reads_one (Marks w) reads a b c d = reads
-reads_one (Host w) reads a b c d = reads
+pub reads_one : (job : Job) → Reads (Some job) → ((w : Width) → job ≡ Simulate w → ⊥) → ((w : Width) → job ≡ Record w → ⊥) → ((w : Width) → job ≡ Replay w → ⊥) → ((seed : ℕ) → job ≡ Scramble seed → ⊥) → ((w : Width) → job ≡ Host w → ⊥) → ⊥
+reads_one (Simulate w) reads a b c d e = a w refl
+reads_one (Record w) reads a b c d e = b w refl
+reads_one (Replay w) reads a b c d e = c w refl
+reads_one (Large w seed size) reads a b c d e = reads
+reads_one (Scramble seed) reads a b c d e = d seed refl
+reads_one (Obj w) reads a b c d e = reads
+reads_one (Marks w) reads a b c d e = reads
+reads_one (Host w) reads a b c d e = e w refl
 
 told_input : (job : Option Job) (left : Option (List ℕ)) (input : List ℕ) → Reads job → IsInput job left input → left ≡ Some input
 told_input job left input reads (inl unread) = absurd (unread reads)
@@ -176,15 +177,15 @@ pub record IsNotBuilt (job : Job) : Type 0 where
   pub reads : Reads (Some job) → ⊥
   pub its : (input : List ℕ) → IsOutcome (Some job) input (stops NotBuilt input)
 
-pub not_built : (job : Job) → ((w : Width) → job ≡ Simulate w → ⊥) → ((w : Width) → job ≡ Record w → ⊥) → ((w : Width) → job ≡ Replay w → ⊥) → ((seed : ℕ) → job ≡ Scramble seed → ⊥) → ((w : Width) (seed size : ℕ) → job ≡ Large w seed size → ⊥) → IsNotBuilt job
-not_built (Simulate w) a b c d e = absurd (a w refl)
-not_built (Record w) a b c d e = absurd (b w refl)
-not_built (Replay w) a b c d e = absurd (c w refl)
-not_built (Large w seed size) a b c d e = absurd (e w seed size refl)
-not_built (Scramble seed) a b c d e = absurd (d seed refl)
-not_built (Obj w) a b c d e = record { reads = λ r. r; its = λ input. refl }
-not_built (Marks w) a b c d e = record { reads = λ r. r; its = λ input. refl }
-not_built (Host w) a b c d e = record { reads = λ r. r; its = λ input. refl }
+pub not_built : (job : Job) → ((w : Width) → job ≡ Simulate w → ⊥) → ((w : Width) → job ≡ Record w → ⊥) → ((w : Width) → job ≡ Replay w → ⊥) → ((seed : ℕ) → job ≡ Scramble seed → ⊥) → ((w : Width) (seed size : ℕ) → job ≡ Large w seed size → ⊥) → ((w : Width) → job ≡ Host w → ⊥) → IsNotBuilt job
+not_built (Simulate w) a b c d e f = absurd (a w refl)
+not_built (Record w) a b c d e f = absurd (b w refl)
+not_built (Replay w) a b c d e f = absurd (c w refl)
+not_built (Large w seed size) a b c d e f = absurd (e w seed size refl)
+not_built (Scramble seed) a b c d e f = absurd (d seed refl)
+not_built (Obj w) a b c d e f = record { reads = λ r. r; its = λ input. refl }
+not_built (Marks w) a b c d e f = record { reads = λ r. r; its = λ input. refl }
+not_built (Host w) a b c d e f = absurd (f w refl)
 
 pub unread_form : (job : Job) (old new : Ends) (s : Status) → IsNotBuilt job → s ≢ OutOfMemory → Does (stops NotBuilt []) old.written new.written old.sink_faults new.sink_faults s → Promises (Some job) old new s
 unread_form job old new s form some does = unread (Some job) old new (stops NotBuilt []) s form.reads form.its (λ e. cc) (λ e f. cc) does

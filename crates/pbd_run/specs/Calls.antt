@@ -1,16 +1,16 @@
 -- What the calls below `run` do.
-use Rattle.std.specs.Prelude.{◌≡◌, ◌≢◌, ◌<◌, ◌≤◌, ◌^◌, ℕ, List, [], length, Option, Some, Result, Ok, Err}
+use Rattle.std.specs.Prelude.{◌≡◌, ◌≢◌, ◌<◌, ◌≤◌, ◌^◌, ℕ, List, [], ◌∷◌, ◌++◌, length, Option, Some, Result, Ok, Err}
 use Rattle.std.specs.Io.KnownBytes.{Appends, Keeps}
 use Rattle.pbd_io.specs.Causes.{HasRisen}
 use Rattle.pbd_io.specs.Pieces.{AppendsPrefix}
 use Rattle.pbd_world.specs.declared.parts.Parts.{Parts}
-use Rattle.pbd_world.specs.Outcomes.{◌>>=◌}
+use Rattle.pbd_world.specs.Outcomes.{◌>>=◌, with_fault}
 use Rattle.pbd_scene.specs.declared.fault.SceneFault.TheVariants as faults
 use Rattle.pbd_outcome.specs.declared.job.Job.{Job}
-use Rattle.pbd_outcome.specs.declared.job.Job.TheVariants.{Simulate, Record, Replay, Scramble}
+use Rattle.pbd_outcome.specs.declared.job.Job.TheVariants.{Simulate, Record, Replay, Scramble, Host}
 use Rattle.pbd_outcome.specs.declared.status.Status.{Status}
 use Rattle.pbd_outcome.specs.declared.status.Status.TheVariants.{ReadFault, WriteFault, InputTooLong, SceneNotText, SceneNotToml, OutOfMemory}
-use Rattle.pbd_outcome.specs.Outcome.{IsReplayed, Outcome, halves_in, most, most_of_log, range, recorded, scene_in, scene_refused, settled, simulated, stops}
+use Rattle.pbd_outcome.specs.Outcome.{IsReplayed, Outcome, halves_in, hosted, most, most_of_log, range, recorded, scene_in, scene_refused, scenes_in, settled, simulated, stops, stops_in}
 use Rattle.pbd_outcome.specs.Split.{split}
 use Rattle.pbd_run.specs.declared.reading.ReadEnd.{ReadEnd}
 use Rattle.pbd_run.specs.declared.reading.ReadEnd.TheVariants as readings
@@ -73,6 +73,7 @@ IsOne (Simulate width) input o = o ≡ simulated input
 IsOne (Record width) input o = o ≡ recorded input
 IsOne (Replay width) input o = IsReplayed input o
 IsOne (Scramble seed) input o = o ≡ simulated input
+IsOne (Host width) input o = o ≡ hosted input
 IsOne job input o = ⊥
 
 -- ---- a scene and a script
@@ -100,3 +101,32 @@ pub record IsRecordable (text : List ℕ) (parts : Parts) (script : List ℕ) : 
   pub short_text : length text < 2 ^ 32
   pub short_script : length script ≤ 2 ^ 31
   pub limit : parts.limit ≡ range
+
+-- ---- the scenes of a host
+
+-- what a call does that ends a run whose scene n gives no parts
+abbrev pub EndsForSceneIn : ℕ → SceneStop → Option (List ℕ) → Option (List ℕ) → ℕ → ℕ → Status → Type 0
+EndsForSceneIn n NotText old new before now status = Does (stops_in n (stops SceneNotText [])) old new before now status
+EndsForSceneIn n (Fault faults.NotToml) old new before now status = Does (stops_in n (stops SceneNotToml [])) old new before now status
+EndsForSceneIn n (Fault (faults.Refused rule table position key)) old new before now status = Does (stops_in n (scene_refused (record { rule = rule; place = record { table = table; position = position }; key = key }))) old new before now status
+EndsForSceneIn n (Fault faults.OutOfMemory) old new before now status = (status ≡ OutOfMemory) × Keeps old new
+
+-- the parts of one more scene stand behind those so far
+pub record AddsScene (text : List ℕ) (old new : List Parts) : Type 0 where
+  pub parts : Parts
+  pub accepted : scene_in range text ≡ Ok parts
+  pub added : new ≡ old ++ parts ∷ []
+
+-- a call ended a run whose scene n gives no parts, whatever it would have done with them
+abbrev pub StopsInScene : ℕ → List ℕ → Option (List ℕ) → Option (List ℕ) → ℕ → ℕ → Status → Type 0
+StopsInScene n text old new before now status = (then : Parts → Result Outcome Outcome) → Does (settled (with_fault (stops_in n) (scene_in range text) >>= then)) old new before now status
+
+-- a call ended a run of which some scene gives no parts
+abbrev pub StopsAtScenes : List (List ℕ) → Option (List ℕ) → Option (List ℕ) → ℕ → ℕ → Status → Type 0
+StopsAtScenes texts old new before now status = (then : List Parts → Result Outcome Outcome) → Does (settled (scenes_in 0 texts >>= then)) old new before now status
+
+-- what `host` asks of its scenes and its lines
+pub record IsHostable (scenes : List Parts) (lines : List ℕ) : Type 0 where
+  pub some : 0 < length scenes
+  pub few : length scenes ≤ 16
+  pub short : length lines ≤ 2 ^ 31

@@ -4,6 +4,7 @@ ghost use Rattle.pbd_outcome.specs.Job.{IsSized};
 ghost use Rattle.pbd_outcome.specs.Clauses.{Promises, Reads, ends};
 ghost use Rattle.pbd_run.specs.Calls.{DoesSome, IsOne, limit_of};
 
+use crate::host::host_input;
 use crate::large::large_run;
 use crate::reading::read_all;
 use crate::record::record_input;
@@ -44,6 +45,7 @@ fn on_input<K: Sink>(alloc: Global, job: Job, input: &[u8], sink: &mut K) -> Sta
         Job::Record(width) => record_input(alloc, width, input, sink),
         Job::Replay(width) => replay_input(alloc, width, input, sink),
         Job::Scramble { seed } => scramble_input(alloc, seed, input, sink),
+        Job::Host(width) => host_input(alloc, width, input, sink),
         _ => unreachable!(),
     }
 }
@@ -74,9 +76,8 @@ pub fn perform<S: Source, K: Sink>(
         return stop(Status::Usage, sink);
     };
     match job {
-        Job::Simulate(_) | Job::Record(_) | Job::Replay(_) | Job::Scramble { .. } => {
-            read_and_do(alloc, job, source, sink)
-        }
+        Job::Simulate(_) | Job::Record(_) | Job::Replay(_) | Job::Scramble { .. } | Job::Host(_) =>
+            read_and_do(alloc, job, source, sink),
         Job::Large { width, seed, size } => large_run(alloc, width, seed, size, sink),
         _ => stop(Status::NotBuilt, sink),
     }

@@ -1,4 +1,4 @@
-use Rattle.pbd_outcome.specs.Outcome.{recorded, simulated}
+use Rattle.pbd_outcome.specs.Outcome.{hosted, recorded, simulated}
 use Rattle.pbd_run.proofs.RunLaws.{did_one}
 use Rattle.pbd_run.proofs.forms.on_input.Goals as goal
 
@@ -10,3 +10,6 @@ returns-in-Record g c = rw c.in-Record.is (did_one (recorded c.args.input.now) _
 
 pub returns-in-Scramble : goal.returns-in-Scramble
 returns-in-Scramble g c = rw c.in-Scramble.is (did_one (simulated c.args.input.now) _ _ _ _ _ c.scramble_input.ensures)
+
+pub returns-in-Host : goal.returns-in-Host
+returns-in-Host g c = rw c.in-Host.is (did_one (hosted c.args.input.now) _ _ _ _ _ c.host_input.ensures)

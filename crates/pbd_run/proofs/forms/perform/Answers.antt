@@ -16,5 +16,5 @@ returns-in-Large-clause-promises g c =
 
 pub returns-in_default-job-clause-promises : goal.returns-in_default-job-clause-promises
 returns-in_default-job-clause-promises g c =
-    let form = not_built c.in-Some.job c.in_default-job.not-Simulate c.in_default-job.not-Record c.in_default-job.not-Replay c.in_default-job.not-Scramble c.in_default-job.not-Large in
+    let form = not_built c.in-Some.job c.in_default-job.not-Simulate c.in_default-job.not-Record c.in_default-job.not-Replay c.in_default-job.not-Scramble c.in_default-job.not-Large c.in_default-job.not-Host in
     rw c.in-Some.is (unread_form c.in-Some.job _ _ c.stop-in_default-job.result form c.stop-in_default-job.ensures.memory c.stop-in_default-job.ensures.does)
