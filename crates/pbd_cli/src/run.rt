@@ -3,6 +3,7 @@ ghost use Rattle.std.specs.Prelude.{◌≡◌, map, string_bytes};
 ghost use Rattle.pbd_outcome.specs.Job.{job};
 ghost use Rattle.pbd_outcome.specs.Clauses.{ends, Settles, ScramblesAlike, BlamesSource, BlamesSink, GivesUp, Reads};
 ghost use Rattle.pbd_outcome.specs.Headline.{KeepsHeadline};
+ghost use Rattle.pbd_outcome.specs.Hosting.{HostsApart};
 
 use pbd_io::{Sink, Source};
 use pbd_outcome::{Status, job_of};
@@ -23,6 +24,8 @@ pub fn run<S: Source, K: Sink>(
     ensures outcome { Settles (job (map string_bytes words.now)) (ends S.left S.faults K.written K.faults source.old sink.old) (ends S.left S.faults K.written K.faults source.new sink.new) result }
     // `scramble` does what `simulate` does, whatever its number.
     ensures scrambled { ScramblesAlike (job (map string_bytes words.now)) (ends S.left S.faults K.written K.faults source.old sink.old) (ends S.left S.faults K.written K.faults source.new sink.new) result }
+    // In `host`, each session writes what it writes alone, whatever is asked of the others.
+    ensures hosted { HostsApart (job (map string_bytes words.now)) (ends S.left S.faults K.written K.faults source.old sink.old) (ends S.left S.faults K.written K.faults source.new sink.new) result }
     // A fault of reading or writing is told only where the source or the sink failed.
     ensures read_fault { result ≡ Status.ReadFault → BlamesSource (job (map string_bytes words.now)) (ends S.left S.faults K.written K.faults source.old sink.old) (ends S.left S.faults K.written K.faults source.new sink.new) }
     ensures write_fault { result ≡ Status.WriteFault → BlamesSink (job (map string_bytes words.now)) (ends S.left S.faults K.written K.faults source.old sink.old) (ends S.left S.faults K.written K.faults source.new sink.new) }

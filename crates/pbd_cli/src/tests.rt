@@ -248,6 +248,77 @@ fn the_step_limit_stops_no_run(rt: HostRuntime) -> Result<(), Fail> {
 }
 
 #[test]
+fn hosts_serve_their_lines_at_every_width(rt: HostRuntime) -> Result<(), Fail> {
+    let alloc = rt.alloc();
+    let runs: [(&str, &str, Status); 11] = [
+        (
+            "gravity = [0, -10, 0]; [[particle]]; at = [0, 1000, 0]; %%; [[particle]]; at = [5, 0, 0]; velocity = [1, 0, 0]; %%%; 0 step 3; 1 step 1; 01 frame; 0 frame; 2 frame; 0 fly",
+            "session 0; ok; session 1; ok; session 1; frame 1 1 0 0; 6 0 0; session 0; frame 3 1 0 0; 0 940 0; session -; refused 15 BadTag; session 0; refused 1 BadCommand",
+            Status::SomeRefused,
+        ),
+        (
+            "gravity = [0, -10, 0]; [[particle]]; at = [0, 1000, 0]; %%; [[particle]]; at = [5, 0, 0]; velocity = [1, 0, 0]; %%%; 0 step 3; 0 frame; 2 frame; 0 fly",
+            "session 0; ok; session 0; frame 3 1 0 0; 0 940 0; session -; refused 15 BadTag; session 0; refused 1 BadCommand",
+            Status::SomeRefused,
+        ),
+        (
+            "%%; = 1; %%%",
+            "error 7 SceneNotToml in 1",
+            Status::SceneNotToml,
+        ),
+        (
+            "%%; %%; bend = 1; %%; = 1; %%%; 0 frame",
+            "error 8 SceneRefused 2 UnknownKey scene 0 - in 2",
+            Status::SceneRefused,
+        ),
+        (
+            "%%; %%; %%; %%; %%; %%; %%; %%; %%; %%; %%; %%; %%; %%; %%; %%; %%%",
+            "error 15 TooManyScenes",
+            Status::TooManyScenes,
+        ),
+        (
+            "= 1; %%; %%; %%; %%; %%; %%; %%; %%; %%; %%; %%; %%; %%; %%; %%; %%; %%%",
+            "error 15 TooManyScenes",
+            Status::TooManyScenes,
+        ),
+        (
+            "%%; %%; %%; %%; %%; %%; %%; %%; %%; %%; %%; %%; %%; %%; %%; %%%; 15 frame; 16 frame",
+            "session 15; frame 0 0 0 0; session -; refused 15 BadTag",
+            Status::SomeRefused,
+        ),
+        ("%%%", "", Status::Done),
+        ("%%; 0 frame", "error 5 NoScript", Status::NoScript),
+        (
+            "passes = 2\r; %%\r; %%%\r; 000000000000000001 frame\r; # 7 frame; 0000000000000000001 frame; %%; 0\r\r; 0",
+            "session 1; frame 0 0 0 0; session -; refused 15 BadTag; session -; refused 15 BadTag; session -; refused 15 BadTag; session 0; refused 1 BadCommand",
+            Status::SomeRefused,
+        ),
+        (
+            "%%%; 0 gravity 1 2 3; \t 0\tledger\r\r; ; \r; -0 frame",
+            "session 0; ok; session 0; ledger momentum 0 0 0; ledger opening 0 0 0; ledger gravity 0 0 0; ledger damping 0 0 0; ledger link 0 0 0; ledger contact 0 0 0; ledger pin 0 0 0; ledger shape 0 0 0; session -; refused 15 BadTag",
+            Status::SomeRefused,
+        ),
+    ];
+    for (input, output, status) in runs {
+        let given = lines_of(alloc, input)?;
+        let wanted = lines_of(alloc, output)?;
+        for words in ["host 1", "host 2", "host 4", "host 8", "host 16"] {
+            let asked = words_of(alloc, words)?;
+            let mut source = SureSource::new(given.as_str().as_bytes());
+            let mut sink = MemSink::open(alloc, 4096, Vec::new(alloc))?;
+            let answer = run(alloc, &asked, &mut source, &mut sink);
+            assert_eq!(rt; answer, status, "{words}: {input}");
+            assert_eq!(rt;
+                sink.written(),
+                wanted.as_str().as_bytes(),
+                "{words}: {input}"
+            );
+        }
+    }
+    Ok(())
+}
+
+#[test]
 fn a_run_that_stops_writes_one_line(rt: HostRuntime) -> Result<(), Fail> {
     let alloc = rt.alloc();
     let runs: [(&str, &str, &str, Status); 32] = [

@@ -1,5 +1,6 @@
 pub mod EntryFits
 pub mod HeadlineLaws
+pub mod HostLaws
 pub mod LineLaws
 pub mod OneOutcome
 pub mod OutcomeLaws

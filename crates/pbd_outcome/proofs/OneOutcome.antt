@@ -6,7 +6,7 @@ use Rattle.pbd_log.proofs.Logs.{one_reading_lem}
 use Rattle.pbd_log.proofs.Faults.{one_fault_lem, fault_spells_nothing}
 use Rattle.pbd_outcome.specs.declared.job.Job.{Job}
 use Rattle.pbd_outcome.specs.declared.job.Job.TheVariants.{Simulate, Record, Replay, Large, Scramble, Obj, Marks, Host}
-use Rattle.pbd_outcome.specs.Outcome.{IsOutcome, IsReplayed, IsWithin, Outcome, log_outcome, log_refused, meshed, most, most_of_log, recorded, simulated, simulated_with_marks}
+use Rattle.pbd_outcome.specs.Outcome.{IsOutcome, IsReplayed, IsWithin, Outcome, log_outcome, log_refused, meshed, most, most_of_log, recorded, simulated, simulated_with_marks, hosted}
 
 same_log : (l m : Log) → SameLog l.version m.version l.limit m.limit l.scene m.scene l.entries m.entries → l ≡ m
 same_log l m same = λ i. record { version = same.same_version i; limit = same.same_limit i; scene = same.same_scene i; entries = same.same_entries i }
@@ -33,4 +33,4 @@ one_outcome (Some (Large w number size)) input o p is was = is ∙ sym was
 one_outcome (Some (Scramble seed)) input o p is was = one_within most (λ o. o ≡ simulated input) input o p (λ e f. e ∙ sym f) is was
 one_outcome (Some (Obj w)) input o p is was = one_within most (λ o. o ≡ meshed input) input o p (λ e f. e ∙ sym f) is was
 one_outcome (Some (Marks w)) input o p is was = one_within most (λ o. o ≡ simulated_with_marks input) input o p (λ e f. e ∙ sym f) is was
-one_outcome (Some (Host w)) input o p is was = is ∙ sym was
+one_outcome (Some (Host w)) input o p is was = one_within most (λ o. o ≡ hosted input) input o p (λ e f. e ∙ sym f) is was

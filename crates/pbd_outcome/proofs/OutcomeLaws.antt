@@ -1,5 +1,5 @@
 -- What each form comes to, by what was read.
-use Rattle.std.proofs.Common.{◌≡◌, refl, ℕ, true, List, [], Option, Some, None, Result, Ok}
+use Rattle.std.proofs.Common.{◌≡◌, refl, ℕ, true, List, Some, Result, Ok}
 use Rattle.std.specs.Prelude.{ℤ}
 use Rattle.std.specs.Str.{is_utf8}
 use Rattle.toml.specs.Parse.{parse_document}

@@ -1,5 +1,5 @@
 -- `scramble` comes to what `simulate` comes to.
-use Rattle.std.proofs.Common.{◌≡◌, ℕ, List, Option, Some, subst}
+use Rattle.std.proofs.Common.{ℕ, List, Option, Some, subst}
 use Rattle.pbd_world.specs.declared.command.Width.{Width}
 use Rattle.pbd_outcome.specs.declared.job.Job.{Job}
 use Rattle.pbd_outcome.specs.declared.job.Job.TheVariants.{Simulate, Scramble}

@@ -19,7 +19,7 @@ use Rattle.toml.specs.Parse.{parse_document}
 use Rattle.pbd_session.specs.Recording.{entries_of, log_bytes}
 use Rattle.pbd_outcome.specs.declared.status.Status.TheVariants.{SceneNotText}
 use Rattle.pbd_outcome.specs.Outcome.{Outcome, halves_in, most, most_of_log, parts_in, range, record_outcome, recorded, scene_in, settled, stops, tree_in}
-use Rattle.pbd_outcome.specs.Split.{is_divider, split}
+use Rattle.pbd_outcome.specs.Split.{divider, is_line, split, split_at}
 use Rattle.pbd_outcome.specs.Statuses.{refused_line}
 use Rattle.pbd_outcome.proofs.LineLaws.{key_short, rule_short, table_short}
 use Rattle.pbd_outcome.proofs.ShortLines.{mapped, room, script_short, split_room}
@@ -43,9 +43,9 @@ around zero (part ∷ parts) = omega arith
 around (suc i) (part ∷ parts) = omega (arith, around i parts)
 
 pub halves_length : (input : List ℕ) (h : List ℕ × List ℕ) → split input ≡ Some h → length h.0 + length h.1 ≤ length input + 1
-unfolding split
+unfolding split_at
 halves_length input h is =
-    let at = mapped _ (position is_divider (pieces input)) h is in
+    let at = mapped _ (position (is_line divider) (pieces input)) h is in
     let ps : List (List ℕ) = pieces input in
     let first : length h.0 ≡ room (take at.0 ps) = ap (λ (q : List ℕ × List ℕ). length q.0) (sym at.2) ∙ front_length (take at.0 ps) in
     let second : length h.1 ≤ room (drop (at.0 + 1) ps) = omega (arith, ap (λ (q : List ℕ × List ℕ). length q.1) at.2, joined_length (drop (at.0 + 1) ps)) in

@@ -1,6 +1,7 @@
 pub mod Clauses
 pub mod Generated
 pub mod Headline
+pub mod Hosting
 pub mod Job
 pub mod ObjText
 pub mod Outcome

@@ -1,11 +1,11 @@
 -- What a run writes and answers, by the job and the input. No width has a part in it.
-use Rattle.std.specs.Prelude.{◌≡◌, ◌⊎◌, ℕ, ◌+◌, ◌<◌, ◌≤◌, ◌==◌, ◌^◌, ℤ, pos, if◌then◌else◌, List, [], length, drop, Option, Some, None, Result, Ok, Err}
+use Rattle.std.specs.Prelude.{◌≡◌, ◌⊎◌, ℕ, ◌+◌, ◌<◌, ◌≤◌, ◌==◌, ◌^◌, ℤ, pos, if◌then◌else◌, nat_le, List, [], ◌∷◌, length, drop, map, Option, Some, None, Result, Ok, Err}
 use Rattle.std.specs.Str.{is_utf8}
 use Rattle.toml.specs.Data.{Members}
 use Rattle.toml.specs.Parse.{parse_document}
 use Rattle.pbd_world.specs.declared.parts.Parts.{Parts}
 use Rattle.pbd_world.specs.declared.command.Command.{Command}
-use Rattle.pbd_world.specs.Outcomes.{◌>>=◌}
+use Rattle.pbd_world.specs.Outcomes.{◌>>=◌, with_fault}
 use Rattle.pbd_world.specs.World.{World, opened}
 use Rattle.pbd_world.specs.declared.command.Command.TheVariants.{Step}
 use Rattle.pbd_world.specs.declared.command.Reply.{Reply}
@@ -18,6 +18,9 @@ use Rattle.pbd_obj.specs.declared.mesh.ObjMesh.{ObjMesh}
 use Rattle.pbd_obj.specs.declared.mesh.ObjFault.{ObjFault}
 use Rattle.pbd_obj.specs.MeshLinks.{with_mesh}
 use Rattle.pbd_obj.specs.Reading.{read}
+use Rattle.pbd_host.specs.declared.request.Request.{Request}
+use Rattle.pbd_host.specs.Hosted.{hosted_refused, hosted_text}
+use Rattle.pbd_host.specs.Tagged.{requests_of}
 use Rattle.pbd_log.specs.Logs.{Log, Spells, IsFault}
 use Rattle.pbd_session.specs.declared.ending.ReplayEnd.{ReplayEnd}
 use Rattle.pbd_session.specs.declared.ending.ReplayEnd.TheVariants as ends
@@ -29,11 +32,11 @@ use Rattle.pbd_marks.specs.Script.{mark_commands}
 use Rattle.pbd_outcome.specs.declared.job.Job.{Job}
 use Rattle.pbd_outcome.specs.declared.job.Job.TheVariants as jobs
 use Rattle.pbd_outcome.specs.declared.status.Status.{Status}
-use Rattle.pbd_outcome.specs.declared.status.Status.TheVariants.{Done, SomeRefused, Usage, InputTooLong, NoScript, SceneNotText, SceneNotToml, SceneRefused, LogRefused, Mismatch, ObjRefused}
+use Rattle.pbd_outcome.specs.declared.status.Status.TheVariants.{Done, SomeRefused, Usage, InputTooLong, NoScript, SceneNotText, SceneNotToml, SceneRefused, LogRefused, Mismatch, ObjRefused, TooManyScenes}
 use Rattle.pbd_outcome.specs.Generated.{generated, summary}
 use Rattle.pbd_outcome.specs.ObjText.{obj_line, obj_session_text}
-use Rattle.pbd_outcome.specs.Split.{split}
-use Rattle.pbd_outcome.specs.Statuses.{status_line, refused_line, log_line}
+use Rattle.pbd_outcome.specs.Split.{split, host_split}
+use Rattle.pbd_outcome.specs.Statuses.{status_line, refused_line, log_line, line_in}
 
 -- the text and the status of a run, and what it leaves of the input
 pub record Outcome : Type 0 where
@@ -169,6 +172,40 @@ IsReplayed input o =
     ((log : Log) × Spells input log.version log.limit log.scene log.entries × (o ≡ log_outcome log))
     ⊎ ((offset : ℕ) × IsFault input offset × (o ≡ log_refused offset))
 
+-- ---- several scenes, each with a session, and tagged lines
+
+-- the scenes' bytes and the tagged lines, or how the run stops
+abbrev pub host_halves_in : Option (List (List ℕ) × List (List ℕ)) → Result (List (List ℕ) × List (List ℕ)) Outcome
+host_halves_in (Some halves) = Ok halves
+host_halves_in None = Err (stops NoScript [])
+
+-- more than 16 scenes stop the run
+abbrev pub few_in : List (List ℕ) → Result (List (List ℕ)) Outcome
+few_in texts = if nat_le (length texts) 16 then Ok texts else Err (stops TooManyScenes [])
+
+-- how a run stops in scene n, which its line tells
+abbrev pub stops_in : ℕ → Outcome → Outcome
+stops_in n o = record o { text = line_in n o.text }
+
+-- the parts of the scenes from number n on, or how the run stops in the first that has none
+unfoldable pub scenes_in : ℕ → List (List ℕ) → Result (List Parts) Outcome
+scenes_in n [] = Ok []
+scenes_in n (text ∷ texts) = do
+  parts ← with_fault (stops_in n) (scene_in range text)
+  more ← scenes_in (n + 1) texts
+  Ok (parts ∷ more)
+
+-- the replies of the sessions
+abbrev pub host_outcome : List World → List Request → Outcome
+host_outcome ws rs = record { text = hosted_text ws rs; status = ends_as (hosted_refused ws rs); rest = [] }
+
+unfoldable pub hosted : List ℕ → Outcome
+hosted input = settled (do
+  halves ← host_halves_in (host_split input)
+  texts ← few_in halves.0
+  scenes ← scenes_in 0 texts
+  Ok (host_outcome (map opened scenes) (requests_of (length scenes) halves.1)))
+
 -- ---- a generated scene
 
 abbrev pub step_status : Reply → Status
@@ -199,3 +236,4 @@ IsOutcome (Some (jobs.Large width number size)) input o = o ≡ large_outcome nu
 IsOutcome (Some (jobs.Scramble seed)) input o = IsWithin most (λ o. o ≡ simulated input) input o
 IsOutcome (Some (jobs.Obj width)) input o = IsWithin most (λ o. o ≡ meshed input) input o
 IsOutcome (Some (jobs.Marks width)) input o = IsWithin most (λ o. o ≡ simulated_with_marks input) input o
+IsOutcome (Some (jobs.Host width)) input o = IsWithin most (λ o. o ≡ hosted input) input o

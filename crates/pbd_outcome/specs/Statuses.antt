@@ -1,10 +1,10 @@
 -- The statuses of a run, and the lines of those that stop it.
-use Rattle.std.specs.Prelude.{ℕ, codes, decimal, List, [], ◌∷◌}
+use Rattle.std.specs.Prelude.{ℕ, ◌-◌, ◌++◌, codes, decimal, List, [], ◌∷◌, length, take}
 use Rattle.pbd_world.specs.Text.{line}
 use Rattle.pbd_scene.specs.Checks.{Broken}
 use Rattle.pbd_scene.specs.Keys.{key_text, table_text, rule_number, rule_text}
 use Rattle.pbd_outcome.specs.declared.status.Status.{Status}
-use Rattle.pbd_outcome.specs.declared.status.Status.TheVariants.{Done, Usage, ReadFault, WriteFault, InputTooLong, NoScript, SceneNotText, SceneNotToml, SceneRefused, LogRefused, Mismatch, SomeRefused, OutOfMemory, ObjRefused}
+use Rattle.pbd_outcome.specs.declared.status.Status.TheVariants.{Done, Usage, ReadFault, WriteFault, InputTooLong, NoScript, SceneNotText, SceneNotToml, SceneRefused, LogRefused, Mismatch, SomeRefused, OutOfMemory, ObjRefused, TooManyScenes}
 
 abbrev pub status_number : Status → ℕ
 status_number Done = 0
@@ -21,6 +21,7 @@ status_number Mismatch = 10
 status_number SomeRefused = 11
 status_number OutOfMemory = 12
 status_number ObjRefused = 14
+status_number TooManyScenes = 15
 
 abbrev pub error_line : List (List ℕ) → List ℕ
 error_line words = line (codes "error" ∷ words)
@@ -33,6 +34,7 @@ status_line InputTooLong = error_line (codes "4" ∷ codes "InputTooLong" ∷ []
 status_line NoScript = error_line (codes "5" ∷ codes "NoScript" ∷ [])
 status_line SceneNotText = error_line (codes "6" ∷ codes "SceneNotText" ∷ [])
 status_line SceneNotToml = error_line (codes "7" ∷ codes "SceneNotToml" ∷ [])
+status_line TooManyScenes = error_line (codes "15" ∷ codes "TooManyScenes" ∷ [])
 status_line _ = []
 
 -- the rule that a scene breaks, and where
@@ -42,3 +44,7 @@ refused_line b = error_line (codes "8" ∷ codes "SceneRefused" ∷ decimal (rul
 -- where a log goes wrong
 unfoldable pub log_line : ℕ → List ℕ
 log_line offset = error_line (codes "9" ∷ codes "LogRefused" ∷ codes "offset" ∷ decimal offset ∷ [])
+
+-- a line that tells before its newline of which scene it is
+unfoldable pub line_in : ℕ → List ℕ → List ℕ
+line_in n text = take (length text - 1) text ++ codes " in " ++ decimal n ++ 10 ∷ []

@@ -17,7 +17,7 @@ pub enum Status {
     WriteFault,
     /// The input is longer than the form allows.
     InputTooLong,
-    /// No line of the input is `%%`.
+    /// No line of the input is `%%`, or of a host's `%%%`.
     NoScript,
     /// The scene is no UTF-8.
     SceneNotText,
@@ -35,6 +35,8 @@ pub enum Status {
     OutOfMemory,
     /// The mesh has a fault, or can't be added to the scene.
     ObjRefused,
+    /// There are more than 16 scenes.
+    TooManyScenes,
 }
 
 impl Status {
@@ -59,6 +61,7 @@ impl Status {
             Status::SomeRefused => 11,
             Status::OutOfMemory => 12,
             Status::ObjRefused => 14,
+            Status::TooManyScenes => 15,
         }
     }
 }
@@ -74,6 +77,7 @@ pub fn status_line(status: Status) -> &'static str
         Status::NoScript => "error 5 NoScript\n",
         Status::SceneNotText => "error 6 SceneNotText\n",
         Status::SceneNotToml => "error 7 SceneNotToml\n",
+        Status::TooManyScenes => "error 15 TooManyScenes\n",
         _ => "",
     }
 }

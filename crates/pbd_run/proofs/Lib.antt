@@ -1,5 +1,6 @@
 pub mod GeneratedLaws
 pub mod GeneratedValid
+pub mod HostingLaws
 pub mod InputLaws
 pub mod LargeLaws
 pub mod ObjLaws

@@ -10,12 +10,12 @@ use Rattle.pbd_outcome.specs.declared.job.Job.TheVariants.{Simulate, Record, Rep
 use Rattle.pbd_run.specs.declared.reading.ReadEnd.{ReadEnd}
 use Rattle.pbd_run.specs.declared.reading.ReadEnd.TheVariants as readings
 use Rattle.pbd_outcome.specs.declared.status.Status.{Status}
-use Rattle.pbd_outcome.specs.declared.status.Status.TheVariants.{Done, Usage, ReadFault, WriteFault, InputTooLong, NoScript, SceneNotText, SceneNotToml, SceneRefused, LogRefused, Mismatch, SomeRefused, OutOfMemory, ObjRefused}
+use Rattle.pbd_outcome.specs.declared.status.Status.TheVariants.{Done, Usage, ReadFault, WriteFault, InputTooLong, NoScript, SceneNotText, SceneNotToml, SceneRefused, LogRefused, Mismatch, SomeRefused, OutOfMemory, ObjRefused, TooManyScenes}
 use Rattle.pbd_run.specs.Reading.{ReachesEnd, Overruns, ReadsAll}
 use Rattle.pbd_outcome.specs.Outcome.{Outcome, IsOutcome, IsWithin, large_outcome, stops}
 use Rattle.pbd_outcome.specs.Clauses.{Ends, IsInput, Promises, Reads}
 use Rattle.pbd_run.specs.Calls.{Does, DoesSome, EndsReading, IsOne, limit_of}
-use Rattle.pbd_run.proofs.WholeLaws.{IsWhole, large_read, large_rest, meshed_whole, simulated_whole, recorded_whole, replayed_whole, marks_whole}
+use Rattle.pbd_run.proofs.WholeLaws.{IsWhole, large_read, large_rest, meshed_whole, simulated_whole, recorded_whole, replayed_whole, marks_whole, hosted_whole}
 
 -- ---- what a call did
 
@@ -34,6 +34,7 @@ does_settled o a b m n Mismatch does w m' = does
 does_settled o a b m n SomeRefused does w m' = does
 does_settled o a b m n OutOfMemory does w m' = absurd (m' refl)
 does_settled o a b m n ObjRefused does w m' = does
+does_settled o a b m n TooManyScenes does w m' = does
 
 does_failed : (o : Outcome) (a b : Option (List ℕ)) (m n : ℕ) (s : Status) → Does o a b m n s → s ≡ WriteFault → HasRisen m n × AppendsPrefix a b o.text
 does_failed o a b m n s does is = rw is at does
@@ -81,7 +82,7 @@ forms (Large w seed size) reads = absurd reads
 forms (Scramble seed) reads = record { reads = tt; its = λ input o is. is; whole = λ input o is. rw is (simulated_whole input) }
 forms (Obj w) reads = record { reads = tt; its = λ input o is. is; whole = λ input o is. rw is (meshed_whole input) }
 forms (Marks w) reads = record { reads = tt; its = λ input o is. is; whole = λ input o is. rw is (marks_whole input) }
-forms (Host w) reads = absurd reads
+forms (Host w) reads = record { reads = tt; its = λ input o is. is; whole = λ input o is. rw is (hosted_whole input) }
 
 -- every form but one reads
 pub reads_unless_large : (job : Job) → ((w : Width) (seed size : ℕ) → job ≡ Large w seed size → ⊥) → Reads (Some job)

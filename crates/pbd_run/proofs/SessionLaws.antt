@@ -1,6 +1,7 @@
 -- How a session that ran to its end did.
 use Rattle.std.proofs.Common.{◌≡◌, ◌∙◌, sym, ap, subst, ℕ, Bool, true, false, cond, List, Option}
-use Rattle.std.specs.Prelude.{◌==◌, ℤ}
+use Rattle.std.specs.Prelude.{◌==◌, ℤ, length, map}
+use Rattle.std.proofs.lemmas.List.{length-map}
 use Rattle.std.specs.Io.KnownBytes.{Appends}
 use Rattle.pbd_io.specs.Causes.{HasRisen}
 use Rattle.pbd_io.specs.Pieces.{AppendsPrefix}
@@ -9,6 +10,10 @@ use Rattle.pbd_world.specs.Session.{refused_count, session_text}
 use Rattle.pbd_world.specs.World.{World, opened}
 use Rattle.pbd_world.specs.declared.parts.Parts.{Parts}
 use Rattle.pbd_script.specs.Commands.{commands}
+use Rattle.pbd_script.specs.Lines.{pieces}
+use Rattle.pbd_host.specs.declared.request.Request.{Request}
+use Rattle.pbd_host.specs.Hosted.{hosted_refused, hosted_text}
+use Rattle.pbd_host.specs.Tagged.{requests_of}
 use Rattle.pbd_log.specs.declared.entry.Entry.{Entry}
 use Rattle.pbd_session.specs.declared.ending.ReplayEnd.{ReplayEnd}
 use Rattle.pbd_session.specs.declared.ending.ReplayEnd.TheVariants as ends
@@ -19,9 +24,9 @@ use Rattle.pbd_marks.specs.Marked.{Marked, marked_refused_count, marked_text, un
 use Rattle.pbd_marks.specs.Script.{mark_commands}
 use Rattle.pbd_outcome.specs.declared.status.Status.{Status}
 use Rattle.pbd_outcome.specs.declared.status.Status.TheVariants.{Done, SomeRefused, WriteFault}
-use Rattle.pbd_outcome.specs.Outcome.{Outcome, ends_as, marks_outcome, range, record_outcome, replay_outcome, replay_status, session_outcome}
+use Rattle.pbd_outcome.specs.Outcome.{Outcome, ends_as, marks_outcome, range, record_outcome, replay_outcome, replay_status, session_outcome, host_outcome}
 use Rattle.pbd_run.specs.Calls.{Does}
-use Rattle.pbd_run.specs.Forms.{marks_on, record_on, replay_on, simulate_on}
+use Rattle.pbd_run.specs.Forms.{marks_on, record_on, replay_on, simulate_on, host_on}
 
 either : (z : Bool) (o : Outcome) (a b : Option (List ℕ)) (m n : ℕ) → o.status ≡ cond z Done SomeRefused → Appends a b o.text → Does o a b m n (cond z Done SomeRefused)
 either true o a b m n is wrote = (sym is, wrote)
@@ -111,3 +116,25 @@ replay_done v scene entries e s a b m n is status ends wrote = replay_done_in v 
 pub replay_failed : (v : World) (scene : Parts) (entries : List Entry) (a b : Option (List ℕ)) (m n : ℕ) → v ≡ opened scene → HasRisen m n → AppendsPrefix a b (replayed v entries).text → Does (replay_on scene entries) a b m n WriteFault
 unfolding replay_on
 replay_failed v scene entries a b m n is rose wrote = replay_failed_in v (opened scene) entries a b m n is rose wrote
+
+-- ---- hosted sessions
+
+host_ended_in : (vs ws : List World) (k : ℕ) (rs : ℕ → List Request) (refused : ℕ) (s : Status) (a b : Option (List ℕ)) (m n : ℕ) → vs ≡ ws → length ws ≡ k → s ≡ ends_as refused → refused ≡ hosted_refused vs (rs (length vs)) → Appends a b (hosted_text vs (rs (length vs))) → Does (host_outcome ws (rs k)) a b m n s
+host_ended_in vs ws k rs refused s a b m n is many ends count wrote =
+    subst (λ (j : ℕ). Does (host_outcome ws (rs j)) a b m n s) many (
+    subst (λ (x : List World). Does (host_outcome x (rs (length x))) a b m n s) is (ended refused s (host_outcome vs (rs (length vs))) a b m n ends (ap ends_as (sym count)) wrote))
+
+host_failed_in : (vs ws : List World) (k : ℕ) (rs : ℕ → List Request) (a b : Option (List ℕ)) (m n : ℕ) → vs ≡ ws → length ws ≡ k → HasRisen m n → AppendsPrefix a b (hosted_text vs (rs (length vs))) → Does (host_outcome ws (rs k)) a b m n WriteFault
+host_failed_in vs ws k rs a b m n is many rose wrote =
+    subst (λ (j : ℕ). Does (host_outcome ws (rs j)) a b m n WriteFault) many (
+    subst (λ (x : List World). Does (host_outcome x (rs (length x))) a b m n WriteFault) is (rose, wrote))
+
+pub host_ended : (vs : List World) (scenes : List Parts) (lines : List ℕ) (refused : ℕ) (s : Status) (a b : Option (List ℕ)) (m n : ℕ) → vs ≡ map opened scenes → s ≡ ends_as refused → refused ≡ hosted_refused vs (requests_of (length vs) (pieces lines)) → Appends a b (hosted_text vs (requests_of (length vs) (pieces lines))) → Does (host_on scenes lines) a b m n s
+unfolding host_on
+host_ended vs scenes lines refused s a b m n is ends count wrote =
+    host_ended_in vs (map opened scenes) (length scenes) (λ j. requests_of j (pieces lines)) refused s a b m n is (length-map {A = Parts} {B = World} scenes opened) ends count wrote
+
+pub host_failed : (vs : List World) (scenes : List Parts) (lines : List ℕ) (a b : Option (List ℕ)) (m n : ℕ) → vs ≡ map opened scenes → HasRisen m n → AppendsPrefix a b (hosted_text vs (requests_of (length vs) (pieces lines))) → Does (host_on scenes lines) a b m n WriteFault
+unfolding host_on
+host_failed vs scenes lines a b m n is rose wrote =
+    host_failed_in vs (map opened scenes) (length scenes) (λ j. requests_of j (pieces lines)) a b m n is (length-map {A = Parts} {B = World} scenes opened) rose wrote

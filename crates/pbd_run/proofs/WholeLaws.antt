@@ -1,13 +1,13 @@
 -- What each form comes to leaves nothing of what was read, and is never a fault of reading.
 use Rattle.std.proofs.Common.{◌≡◌, ◌≢◌, refl, ℕ, Bool, true, false, cond, List, [], Option, Some, None, Result, Ok, Err, inl, inr}
-use Rattle.std.specs.Prelude.{◌==◌, ℤ}
+use Rattle.std.specs.Prelude.{◌==◌, ◌+◌, ◌∷◌, ℤ, length, map, nat_le}
 use Rattle.std.specs.Str.{is_utf8}
 use Rattle.toml.specs.Data.{Members}
 use Rattle.toml.specs.Parse.{parse_document}
 use Rattle.pbd_world.specs.declared.parts.Parts.{Parts}
 use Rattle.pbd_world.specs.declared.command.Command.TheVariants.{Step}
 use Rattle.pbd_world.specs.Meaning.{reply}
-use Rattle.pbd_world.specs.Outcomes.{◌>>=◌}
+use Rattle.pbd_world.specs.Outcomes.{◌>>=◌, with_fault}
 use Rattle.pbd_world.specs.Session.{is_refused, refused_count}
 use Rattle.pbd_world.specs.World.{opened}
 use Rattle.pbd_scene.specs.Checks.{Checked}
@@ -16,16 +16,18 @@ use Rattle.pbd_script.specs.Commands.{commands}
 use Rattle.pbd_obj.specs.declared.mesh.ObjFault.{ObjFault}
 use Rattle.pbd_obj.specs.MeshLinks.{with_mesh}
 use Rattle.pbd_obj.specs.Reading.{read}
+use Rattle.pbd_host.specs.Hosted.{hosted_refused}
+use Rattle.pbd_host.specs.Tagged.{requests_of}
 use Rattle.pbd_log.specs.Logs.{Log}
 use Rattle.pbd_session.specs.declared.ending.ReplayEnd.{ReplayEnd}
 use Rattle.pbd_session.specs.declared.ending.ReplayEnd.TheVariants as ends
 use Rattle.pbd_session.specs.Replaying.{replayed}
 use Rattle.pbd_marks.specs.Marked.{marked_refused_count, unmarked}
 use Rattle.pbd_marks.specs.Script.{mark_commands}
-use Rattle.pbd_outcome.specs.declared.status.Status.TheVariants.{Done, SomeRefused, ReadFault, SceneNotText}
+use Rattle.pbd_outcome.specs.declared.status.Status.TheVariants.{Done, SomeRefused, ReadFault, SceneNotText, TooManyScenes}
 use Rattle.pbd_outcome.specs.Generated.{generated}
-use Rattle.pbd_outcome.specs.Split.{split}
-use Rattle.pbd_outcome.specs.Outcome.{IsReplayed, Outcome, halves_in, large_outcome, log_outcome, mesh_in, meshed, parts_in, range, recorded, replay_status, scene_in, settled, simulated, stops, summary_outcome, tree_in, simulated_with_marks}
+use Rattle.pbd_outcome.specs.Split.{split, host_split}
+use Rattle.pbd_outcome.specs.Outcome.{IsReplayed, Outcome, halves_in, large_outcome, log_outcome, mesh_in, meshed, parts_in, range, recorded, replay_status, scene_in, settled, simulated, stops, summary_outcome, tree_in, simulated_with_marks, few_in, host_halves_in, hosted, scenes_in, stops_in}
 
 -- an outcome that leaves nothing and is no fault of reading
 pub record IsWhole (o : Outcome) : Type 0 where
@@ -110,6 +112,42 @@ log_whole log =
 pub replayed_whole : (input : List ℕ) (o : Outcome) → IsReplayed input o → IsWhole o
 replayed_whole input o (inl (log, spells, is)) = rw is (log_whole log)
 replayed_whole input o (inr (offset, fault, is)) = rw is (record { rest = refl; read = λ e. cc })
+
+-- ---- several scenes
+
+host_halves_whole : (h : Option (List (List ℕ) × List (List ℕ))) → StopsWhole (host_halves_in h)
+host_halves_whole (Some h) = tt
+host_halves_whole None = record { rest = refl; read = λ e. cc }
+
+either_whole : {A : Type 0} (b : Bool) (r t : Result A Outcome) → StopsWhole r → StopsWhole t → StopsWhole (cond b r t)
+either_whole true r t first second = first
+either_whole false r t first second = second
+
+few_whole : (texts : List (List ℕ)) → StopsWhole (few_in texts)
+few_whole texts = either_whole (nat_le (length texts) 16) (Ok texts) (Err (stops TooManyScenes [])) tt (record { rest = refl; read = λ e. cc })
+
+told_whole : {A : Type 0} (n : ℕ) (r : Result A Outcome) → StopsWhole r → StopsWhole (with_fault (stops_in n) r)
+told_whole n (Ok a) whole = tt
+told_whole n (Err o) whole = record { rest = whole.rest; read = whole.read }
+
+more_whole : {A B : Type 0} (r : Result A Outcome) (then : A → Result B Outcome) → StopsWhole r → ((a : A) → StopsWhole (then a)) → StopsWhole (r >>= then)
+more_whole (Ok a) then stop whole = whole a
+more_whole (Err o) then stop whole = stop
+
+scenes_whole : (n : ℕ) (texts : List (List ℕ)) → StopsWhole (scenes_in n texts)
+unfolding scenes_in
+scenes_whole n [] = tt
+scenes_whole n (text ∷ texts) =
+    more_whole (with_fault (stops_in n) (scene_in range text)) _ (told_whole n (scene_in range text) (scene_whole range text)) (λ parts.
+    more_whole (scenes_in (n + 1) texts) _ (scenes_whole (n + 1) texts) (λ more. tt))
+
+pub hosted_whole : (input : List ℕ) → IsWhole (hosted input)
+unfolding hosted
+hosted_whole input =
+    then_whole (host_halves_in (host_split input)) _ (host_halves_whole (host_split input)) (λ h.
+    then_whole (few_in h.0) _ (few_whole h.0) (λ texts.
+    then_whole (scenes_in 0 texts) _ (scenes_whole 0 texts) (λ scenes.
+    record { rest = refl; read = no_read_fault (hosted_refused (map opened scenes) (requests_of (length scenes) h.1) == 0) })))
 
 -- ---- a generated scene
 

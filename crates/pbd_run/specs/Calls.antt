@@ -1,10 +1,10 @@
 -- What the calls below `run` do.
-use Rattle.std.specs.Prelude.{◌≡◌, ◌≢◌, ◌+◌, ◌<◌, ◌≤◌, ◌^◌, ℕ, List, [], length, Option, Some, Result, Ok, Err}
+use Rattle.std.specs.Prelude.{◌≡◌, ◌≢◌, ◌+◌, ◌<◌, ◌≤◌, ◌^◌, ℕ, List, [], length, Option, Some, Result, Ok, Err, ◌∷◌, ◌++◌}
 use Rattle.std.specs.Io.KnownBytes.{Appends, Keeps}
 use Rattle.pbd_io.specs.Causes.{HasRisen}
 use Rattle.pbd_io.specs.Pieces.{AppendsPrefix}
 use Rattle.pbd_world.specs.declared.parts.Parts.{Parts}
-use Rattle.pbd_world.specs.Outcomes.{◌>>=◌}
+use Rattle.pbd_world.specs.Outcomes.{◌>>=◌, with_fault}
 use Rattle.pbd_scene.specs.declared.fault.SceneFault.TheVariants as faults
 use Rattle.pbd_obj.specs.declared.mesh.ObjMesh.{ObjMesh}
 use Rattle.pbd_obj.specs.declared.mesh.ObjFault.{ObjFault}
@@ -13,10 +13,10 @@ use Rattle.pbd_obj.specs.Meshes.{IsMesh}
 use Rattle.pbd_obj.specs.MeshLinks.{with_mesh}
 use Rattle.pbd_obj.specs.Reading.{read}
 use Rattle.pbd_outcome.specs.declared.job.Job.{Job}
-use Rattle.pbd_outcome.specs.declared.job.Job.TheVariants.{Simulate, Record, Replay, Scramble, Obj, Marks}
+use Rattle.pbd_outcome.specs.declared.job.Job.TheVariants.{Simulate, Record, Replay, Scramble, Obj, Marks, Host}
 use Rattle.pbd_outcome.specs.declared.status.Status.{Status}
 use Rattle.pbd_outcome.specs.declared.status.Status.TheVariants.{ReadFault, WriteFault, InputTooLong, SceneNotText, SceneNotToml, OutOfMemory}
-use Rattle.pbd_outcome.specs.Outcome.{IsReplayed, Outcome, halves_in, meshed, most, most_of_log, obj_refused, range, recorded, scene_in, scene_refused, settled, simulated, stops, simulated_with_marks}
+use Rattle.pbd_outcome.specs.Outcome.{IsReplayed, Outcome, halves_in, meshed, most, most_of_log, obj_refused, range, recorded, scene_in, scene_refused, settled, simulated, stops, simulated_with_marks, hosted, scenes_in, stops_in}
 use Rattle.pbd_outcome.specs.Split.{split}
 use Rattle.pbd_run.specs.declared.reading.ReadEnd.{ReadEnd}
 use Rattle.pbd_run.specs.declared.reading.ReadEnd.TheVariants as readings
@@ -87,6 +87,7 @@ IsOne (Scramble seed) input o = o ≡ simulated input
 IsOne (Obj width) input o = o ≡ meshed input
 IsOne (Marks width) input o = o ≡ simulated_with_marks input
 IsOne (Large width number size) input o = ⊥
+IsOne (Host width) input o = o ≡ hosted input
 
 -- ---- a scene and a script
 
@@ -131,3 +132,31 @@ pub record HasMesh (text : List ℕ) (parts : Parts) (mesh : ObjMesh) (base : �
   pub first : base ≡ length parts.particles
   pub joined : with_mesh mesh parts ≡ Ok whole
   pub drawable : IsDrawable base mesh
+-- ---- the scenes of a host
+
+-- what a call does that ends a run whose scene n gives no parts
+abbrev pub EndsForSceneIn : ℕ → SceneStop → Option (List ℕ) → Option (List ℕ) → ℕ → ℕ → Status → Type 0
+EndsForSceneIn n NotText old new before now status = Does (stops_in n (stops SceneNotText [])) old new before now status
+EndsForSceneIn n (Fault faults.NotToml) old new before now status = Does (stops_in n (stops SceneNotToml [])) old new before now status
+EndsForSceneIn n (Fault (faults.Refused rule table position key)) old new before now status = Does (stops_in n (scene_refused (record { rule = rule; place = record { table = table; position = position }; key = key }))) old new before now status
+EndsForSceneIn n (Fault faults.OutOfMemory) old new before now status = (status ≡ OutOfMemory) × Keeps old new
+
+-- the parts of one more scene stand behind those so far
+pub record AddsScene (text : List ℕ) (old new : List Parts) : Type 0 where
+  pub parts : Parts
+  pub accepted : scene_in range text ≡ Ok parts
+  pub added : new ≡ old ++ parts ∷ []
+
+-- a call ended a run whose scene n gives no parts, whatever it would have done with them
+abbrev pub StopsInScene : ℕ → List ℕ → Option (List ℕ) → Option (List ℕ) → ℕ → ℕ → Status → Type 0
+StopsInScene n text old new before now status = (then : Parts → Result Outcome Outcome) → Does (settled (with_fault (stops_in n) (scene_in range text) >>= then)) old new before now status
+
+-- a call ended a run of which some scene gives no parts
+abbrev pub StopsAtScenes : List (List ℕ) → Option (List ℕ) → Option (List ℕ) → ℕ → ℕ → Status → Type 0
+StopsAtScenes texts old new before now status = (then : List Parts → Result Outcome Outcome) → Does (settled (scenes_in 0 texts >>= then)) old new before now status
+
+-- what `host` asks of its scenes and its lines
+pub record IsHostable (scenes : List Parts) (lines : List ℕ) : Type 0 where
+  pub some : 0 < length scenes
+  pub few : length scenes ≤ 16
+  pub short : length lines ≤ 2 ^ 31

@@ -4,6 +4,7 @@ ghost use Rattle.pbd_outcome.specs.Job.{IsSized};
 ghost use Rattle.pbd_outcome.specs.Clauses.{Promises, Reads, ends};
 ghost use Rattle.pbd_run.specs.Calls.{DoesSome, IsOne, limit_of};
 
+use crate::host::host_input;
 use crate::large::large_run;
 use crate::obj::obj_input;
 use crate::marks::marks_input;
@@ -48,6 +49,7 @@ fn on_input<K: Sink>(alloc: Global, job: Job, input: &[u8], sink: &mut K) -> Sta
         Job::Scramble { seed } => scramble_input(alloc, seed, input, sink),
         Job::Obj(width) => obj_input(alloc, width, input, sink),
         Job::Marks(width) => marks_input(alloc, width, input, sink),
+        Job::Host(width) => host_input(alloc, width, input, sink),
         Job::Large { .. } => unreachable!(),
     }
 }

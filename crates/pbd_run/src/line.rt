@@ -1,7 +1,7 @@
 //! Lines of what stops a run.
-ghost use Rattle.std.specs.Prelude.{◌≡◌, ◌+◌, ◌≤◌, ◌++◌, ◌∷◌, length};
+ghost use Rattle.std.specs.Prelude.{◌≡◌, ◌+◌, ◌≤◌, ◌++◌, [], ◌∷◌, length, decimal};
 ghost use Rattle.pbd_scene.specs.Keys.{rule_number, rule_text, table_text, key_text};
-ghost use Rattle.pbd_outcome.specs.Statuses.{log_line, refused_line};
+ghost use Rattle.pbd_outcome.specs.Statuses.{line_in, log_line, refused_line, status_line};
 ghost use Rattle.std.specs.Fmt.{signed_decimal};
 ghost use Rattle.pbd_session.specs.Printing.{frame_header};
 ghost use Rattle.pbd_session.specs.Replaying.{axis};
@@ -10,6 +10,7 @@ ghost use Rattle.pbd_outcome.specs.ObjText.{comment, fault_name, fault_number, f
 
 use pbd_line::Line;
 use pbd_obj::ObjFault;
+use pbd_outcome::Status;
 use pbd_scene::{KeyName, SceneRule, TableName};
 use pbd_world::FrameSums;
 
@@ -43,10 +44,10 @@ fn key_name(key: KeyName) -> &'static str
     key.name()
 }
 
-/// The line of a scene that breaks a rule.
-#[tactic(auto, unfolding(pbd_outcome::specs::Statuses::refused_line))]
-pub fn refused_line(rule: SceneRule, table: TableName, position: u32, key: KeyName) -> Line
-    ensures { result ≡ refused_line (record { rule = rule; place = record { table = table; position = position }; key = key }) }
+/// The line of a scene that breaks a rule, without its newline.
+fn refused_words(rule: SceneRule, table: TableName, position: u32, key: KeyName) -> Line
+    ensures bytes { result ++ 10 ∷ [] ≡ refused_line (record { rule = rule; place = record { table = table; position = position }; key = key }) }
+    ensures short { length result ≤ 200 }
 {
     let mut line = Line::new();
     line.push("error 8 SceneRefused ");
@@ -59,7 +60,60 @@ pub fn refused_line(rule: SceneRule, table: TableName, position: u32, key: KeyNa
     line.push_number(u64::from(position));
     line.push(" ");
     line.push(key_name(key));
+    line
+}
+
+/// The line of a scene that breaks a rule.
+pub fn refused_line(rule: SceneRule, table: TableName, position: u32, key: KeyName) -> Line
+    ensures { result ≡ refused_line (record { rule = rule; place = record { table = table; position = position }; key = key }) }
+{
+    let mut line = refused_words(rule, table, position, key);
     line.push("\n");
+    line
+}
+
+/// Ends a line with the number of its scene.
+fn push_in(line: &mut Line, n: u32)
+    requires { length line.old.bytes ≤ 200 }
+    ensures { line.new.bytes ≡ line_in n (line.old.bytes ++ 10 ∷ []) }
+{
+    line.push_str(" in ");
+    push_number(line, u64::from(n));
+    line.push_str("\n");
+}
+
+/// The same for scene n of a host.
+pub fn refused_line_in(
+    n: u32,
+    rule: SceneRule,
+    table: TableName,
+    position: u32,
+    key: KeyName,
+) -> Line
+    ensures { result.bytes ≡ line_in n (refused_line (record { rule = rule; place = record { table = table; position = position }; key = key })) }
+{
+    let mut line = refused_words(rule, table, position, key);
+    push_in(&mut line, n);
+    line
+}
+
+/// The line of a scene of a host that is no UTF-8.
+pub fn not_text_line_in(n: u32) -> Line
+    ensures { result.bytes ≡ line_in n (status_line Status.SceneNotText) }
+{
+    let mut line = Line::new();
+    line.push_str("error 6 SceneNotText");
+    push_in(&mut line, n);
+    line
+}
+
+/// The line of a scene of a host that is no TOML.
+pub fn not_toml_line_in(n: u32) -> Line
+    ensures { result.bytes ≡ line_in n (status_line Status.SceneNotToml) }
+{
+    let mut line = Line::new();
+    line.push_str("error 7 SceneNotToml");
+    push_in(&mut line, n);
     line
 }
 

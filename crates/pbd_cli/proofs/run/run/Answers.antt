@@ -1,6 +1,7 @@
 use Rattle.std.proofs.Common.{sym, map, string_bytes}
 use Rattle.pbd_outcome.specs.Job.{job}
 use Rattle.pbd_outcome.proofs.HeadlineLaws.{headline_of}
+use Rattle.pbd_outcome.proofs.HostLaws.{hosts_apart}
 use Rattle.pbd_outcome.proofs.ScrambleLaws.{scrambles_alike}
 use Rattle.pbd_cli.proofs.run.run.Goals as goal
 
@@ -12,3 +13,6 @@ returns-clause-headline g c = headline_of (job (map string_bytes c.args.words.no
 
 pub returns-clause-scrambled : goal.returns-clause-scrambled
 returns-clause-scrambled g c = scrambles_alike (job (map string_bytes c.args.words.now)) _ _ c.perform.result (rw (sym c.job_of.ensures.job) (c.perform.ensures.promises.outcome))
+
+pub returns-clause-hosted : goal.returns-clause-hosted
+returns-clause-hosted g c = hosts_apart (job (map string_bytes c.args.words.now)) _ _ c.perform.result (rw (sym c.job_of.ensures.job) (c.perform.ensures.promises.outcome))

@@ -1,0 +1,4 @@
+pub mod ApartLaws
+pub mod WritingLaws
+pub mod OpeningLaws
+pub mod ServingLaws

@@ -1,0 +1,19 @@
+-- The world of a session that isn't the first.
+use Rattle.std.proofs.Common.{◌≡◌, ◌∙◌, ap, refl, zero, suc, ℕ, ◌-◌, ◌<◌, List, ◌∷◌, length, get_or, slice_set, arith}
+use Rattle.std.proofs.lemmas.List.{get_or_default}
+use Rattle.pbd_world.specs.declared.command.Command.{Command}
+use Rattle.pbd_world.specs.Meaning.{after}
+use Rattle.pbd_world.specs.World.{World}
+use Rattle.pbd_host.specs.Hosted.{world_at}
+
+set_later : (x : World) (xs : List World) (n : ℕ) (w v : World) (c : Command) → (n ≡ 0 → ⊥) → n < length (x ∷ xs) → w ≡ get_or xs (n - 1) w → v ≡ after w c → x ∷ slice_set xs (n - 1) v ≡ slice_set (x ∷ xs) n (after (world_at (x ∷ xs) n) c)
+set_later x xs zero w v c test within at is = absurd (test refl)
+set_later x xs (suc k) w v c test within at is =
+    let e : suc k - 1 ≡ k = omega arith in
+    let there : w ≡ world_at (x ∷ xs) (suc k) = at ∙ ap (λ i. get_or xs i w) e ∙ get_or_default xs k w _ (omega (arith, within)) in
+    ap (λ i. x ∷ slice_set xs i v) e ∙ ap (λ (u : World). x ∷ slice_set xs k u) (is ∙ ap (λ (u : World). after u c) there)
+
+pub set_seen : (x : World) (xs seen : List World) (n : ℕ) (w v : World) (c : Command) → x ∷ xs ≡ seen → (n ≡ 0 → ⊥) → n < length seen → w ≡ get_or xs (n - 1) w → v ≡ after w c → x ∷ slice_set xs (n - 1) v ≡ slice_set seen n (after (world_at seen n) c)
+set_seen x xs seen n w v c seen_is test within at is =
+    let there : n < length (x ∷ xs) = omega (arith, within, ap length seen_is) in
+    set_later x xs n w v c test there at is ∙ ap (λ (us : List World). slice_set us n (after (world_at us n) c)) seen_is
