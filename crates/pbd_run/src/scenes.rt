@@ -4,10 +4,11 @@ ghost use Rattle.pbd_outcome.specs.Outcome.{scenes_in};
 ghost use Rattle.pbd_outcome.specs.Split.{scenes};
 ghost use Rattle.pbd_run.specs.Calls.{AddsScene, Does, EndsForSceneIn, IsPlain, StopsAtScenes, StopsInScene};
 
-use crate::line::{Line, not_text_line_in, not_toml_line_in, refused_line_in};
+use crate::line::{not_text_line_in, not_toml_line_in, refused_line_in};
 use crate::scene::{SceneStop, scene_in};
 use crate::split::split;
 use pbd_io::{Failed, Sink};
+use pbd_line::Line;
 use pbd_num::RANGE;
 use pbd_outcome::Status;
 use pbd_scene::SceneFault;
