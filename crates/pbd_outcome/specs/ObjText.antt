@@ -1,4 +1,4 @@
--- What `obj` reads and writes: a mesh before a scene, replies as OBJ text, and the line of a mesh that is refused.
+-- What `obj` writes: replies as OBJ text, and the line of a mesh that is refused.
 use Rattle.std.specs.Prelude.{ℕ, codes, decimal, List, [], ◌∷◌, ◌++◌}
 use Rattle.std.specs.List.{flat_map}
 use Rattle.pbd_world.specs.declared.command.Command.{Command}
