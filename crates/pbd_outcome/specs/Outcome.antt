@@ -136,6 +136,7 @@ meshed input = settled (do
   mesh ← mesh_in (read outer.0)
   whole ← mesh_in (with_mesh mesh parts)
   Ok (obj_outcome (length parts.particles) mesh (opened whole) (commands halves.1)))
+
 -- ---- a scene and a script with marks
 
 -- the replies to the commands
@@ -145,6 +146,7 @@ marks_outcome m cs = record { text = marked_text m cs; status = ends_as (marked_
 unfoldable pub simulated_with_marks : List ℕ → Outcome
 simulated_with_marks input = settled (do
   halves ← halves_in (split input)
+  parts ← scene_in range halves.0
   Ok (marks_outcome (unmarked (opened parts)) (mark_commands halves.1)))
 
 -- ---- a log

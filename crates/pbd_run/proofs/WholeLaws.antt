@@ -97,10 +97,12 @@ meshed_whole input =
     then_whole (mesh_in (read outer.0)) _ (mesh_whole (read outer.0)) (λ mesh.
     then_whole (mesh_in (with_mesh mesh parts)) _ (mesh_whole (with_mesh mesh parts)) (λ whole.
     record { rest = refl; read = no_read_fault (refused_count (opened whole) (commands h.1) == 0) })))))
+
 pub marks_whole : (input : List ℕ) → IsWhole (simulated_with_marks input)
 unfolding simulated_with_marks
 marks_whole input =
     then_whole (halves_in (split input)) _ (halves_whole (split input)) (λ h.
+    then_whole (scene_in range h.0) _ (scene_whole range h.0) (λ parts.
     record { rest = refl; read = no_read_fault (marked_refused_count (unmarked (opened parts)) (mark_commands h.1) == 0) }))
 
 log_whole : (log : Log) → IsWhole (log_outcome log)
