@@ -74,12 +74,12 @@ pub fn refused_line(rule: SceneRule, table: TableName, position: u32, key: KeyNa
 
 /// Ends a line with the number of its scene.
 fn push_in(line: &mut Line, n: u32)
-    requires { length line.old.bytes ≤ 200 }
-    ensures { line.new.bytes ≡ line_in n (line.old.bytes ++ 10 ∷ []) }
+    requires { length line.old ≤ 200 }
+    ensures { line.new ≡ line_in n (line.old ++ 10 ∷ []) }
 {
-    line.push_str(" in ");
-    push_number(line, u64::from(n));
-    line.push_str("\n");
+    line.push(" in ");
+    line.push_number(u64::from(n));
+    line.push("\n");
 }
 
 /// The same for scene n of a host.
@@ -90,7 +90,7 @@ pub fn refused_line_in(
     position: u32,
     key: KeyName,
 ) -> Line
-    ensures { result.bytes ≡ line_in n (refused_line (record { rule = rule; place = record { table = table; position = position }; key = key })) }
+    ensures { result ≡ line_in n (refused_line (record { rule = rule; place = record { table = table; position = position }; key = key })) }
 {
     let mut line = refused_words(rule, table, position, key);
     push_in(&mut line, n);
@@ -99,20 +99,20 @@ pub fn refused_line_in(
 
 /// The line of a scene of a host that is no UTF-8.
 pub fn not_text_line_in(n: u32) -> Line
-    ensures { result.bytes ≡ line_in n (status_line Status.SceneNotText) }
+    ensures { result ≡ line_in n (status_line Status.SceneNotText) }
 {
     let mut line = Line::new();
-    line.push_str("error 6 SceneNotText");
+    line.push("error 6 SceneNotText");
     push_in(&mut line, n);
     line
 }
 
 /// The line of a scene of a host that is no TOML.
 pub fn not_toml_line_in(n: u32) -> Line
-    ensures { result.bytes ≡ line_in n (status_line Status.SceneNotToml) }
+    ensures { result ≡ line_in n (status_line Status.SceneNotToml) }
 {
     let mut line = Line::new();
-    line.push_str("error 7 SceneNotToml");
+    line.push("error 7 SceneNotToml");
     push_in(&mut line, n);
     line
 }

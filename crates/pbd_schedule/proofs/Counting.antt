@@ -141,7 +141,7 @@ pub half_as_many : (limit : ℤ) (n : ℕ) (bonds : Bonds) (batch : List ℕ) �
 half_as_many limit n bonds batch h =
     let B : ℕ → Bond = λ k. bond_of bonds (get_or batch k 0) in
     let all = two_each B n (length batch) (λ k q. (h.bond k q).first) (λ k q. (h.bond k q).second) in
-    omega (arith, all, total_at_most (hits B (length batch)) n (λ i q. one_hit B (length batch) i (λ k r. (h.bond k r).apart) (λ k l p r. h.apart.each k l p r)))
+    omega (arith, all, total_at_most (hits B (length batch)) n (λ i q. one_hit B (length batch) i (λ k r. (h.bond k r).different) (λ k l p r. h.apart.each k l p r)))
 
 pub books_once : (e : Event) → bookings e ≤ 1
 books_once (Read k) = omega arith

@@ -6,9 +6,6 @@ use Rattle.pbd_run.proofs.forms.perform.Goals as goal
 pub returns-in_default-clause-promises : goal.returns-in_default-clause-promises
 returns-in_default-clause-promises g c = rw c.in_default.is (unread_usage _ _ c.stop.result c.stop.ensures.memory c.stop.ensures.does)
 
-pub returns-in-Simulate-clause-promises : goal.returns-in-Simulate-clause-promises
-returns-in-Simulate-clause-promises g c = rw c.in-Some.is c.read_and_do.ensures
-
 pub returns-in-Large-clause-promises : goal.returns-in-Large-clause-promises
 returns-in-Large-clause-promises g c =
     let e : c.args.job ≡ Some (Large c.in-Large.width c.in-Large.seed c.in-Large.size) = c.in-Some.is ∙ ap (λ j. Some j) c.in-Large.is in
