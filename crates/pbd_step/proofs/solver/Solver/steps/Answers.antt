@@ -10,13 +10,13 @@ use Rattle.pbd_step.proofs.solver.Solver.steps.Goals as goal
 
 pub returns-clause-outcome : goal.returns-clause-outcome
 returns-clause-outcome g c =
-    let goes = run_goes (world_of c.self.inside.setting c.self.inside.run.state) c.args.n (omega (arith, c.if-n-lt1.false)) (omega (arith, c.if-n-gt100000.false)) (omega (arith, c.if-count-n-gt1000000.false)) in
+    let goes = run_goes (world_of c.self.inside.setting c.self.inside.run.state) c.args.n (omega (arith, c.if-n-lt1.false)) (omega (arith, c.if-n-gt-MOST_STEPS.false)) (omega (arith, c.from.ensures, c.if-from-count.false)) in
     let seen = ap (λ (s : Solved g.row.P.Denot). s.world) c.self.view_is in
     answers_so c.run_whole.result (run_steps c.args.self.now.world c.args.n) (world_of c.self.inside.setting c.run_whole.new.run.state) (steps_of c.args.n (world_of c.self.inside.setting c.self.inside.run.state)) (ap (λ (v : World). run_steps v c.args.n) (sym seen) ∙ goes) c.run_whole.ensures.obeys.outcome
 
 pub returns-clause-one_scene : goal.returns-clause-one_scene
 returns-clause-one_scene g c =
-    let goes = run_goes (world_of c.self.inside.setting c.self.inside.run.state) c.args.n (omega (arith, c.if-n-lt1.false)) (omega (arith, c.if-n-gt100000.false)) (omega (arith, c.if-count-n-gt1000000.false)) in
+    let goes = run_goes (world_of c.self.inside.setting c.self.inside.run.state) c.args.n (omega (arith, c.if-n-lt1.false)) (omega (arith, c.if-n-gt-MOST_STEPS.false)) (omega (arith, c.from.ensures, c.if-from-count.false)) in
     let seen = ap (λ (s : Solved g.row.P.Denot). s.world) c.self.view_is in
     let told = answers_so c.run_whole.result (run_steps (world_of c.self.inside.setting c.self.inside.run.state) c.args.n) (world_of c.self.inside.setting c.run_whole.new.run.state) (steps_of c.args.n (world_of c.self.inside.setting c.self.inside.run.state)) goes c.run_whole.ensures.obeys.outcome in
     let led = obeyed {S = World} {world = λ v. v} {r = c.run_whole.result} {meant = run_steps (world_of c.self.inside.setting c.self.inside.run.state) c.args.n} {old = world_of c.self.inside.setting c.self.inside.run.state} {new = world_of c.self.inside.setting c.run_whole.new.run.state} (commands.Step c.args.n) (record { outcome = told; kept = c.run_whole.ensures.obeys.kept }) c.self.invariant.sound (steps_mean (world_of c.self.inside.setting c.self.inside.run.state) c.args.n) in
