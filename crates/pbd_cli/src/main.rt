@@ -3,9 +3,9 @@
 
 #[cfg(test)]
 mod examples;
+mod marks;
 #[cfg(test)]
 mod meshes;
-mod marks;
 mod run;
 #[cfg(test)]
 mod tests;

@@ -132,6 +132,7 @@ pub record HasMesh (text : List ℕ) (parts : Parts) (mesh : ObjMesh) (base : �
   pub first : base ≡ length parts.particles
   pub joined : with_mesh mesh parts ≡ Ok whole
   pub drawable : IsDrawable base mesh
+
 -- ---- the scenes of a host
 
 -- what a call does that ends a run whose scene n gives no parts

@@ -23,6 +23,7 @@ record_on text scene script = record_outcome text (opened scene) (commands scrip
 -- a script on a scene that has a mesh, whose first vertex is particle `base`
 unfoldable pub obj_on : ℕ → ObjMesh → Parts → List ℕ → Outcome
 obj_on base mesh scene script = obj_outcome base mesh (opened scene) (commands script)
+
 -- a script with marks on a scene
 unfoldable pub marks_on : Parts → List ℕ → Outcome
 marks_on scene script = marks_outcome (unmarked (opened scene)) (mark_commands script)

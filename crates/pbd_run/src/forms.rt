@@ -6,8 +6,8 @@ ghost use Rattle.pbd_run.specs.Calls.{DoesSome, IsOne, limit_of};
 
 use crate::host::host_input;
 use crate::large::large_run;
-use crate::obj::obj_input;
 use crate::marks::marks_input;
+use crate::obj::obj_input;
 use crate::reading::read_all;
 use crate::record::record_input;
 use crate::replay::replay_input;

@@ -51,8 +51,24 @@ fn takes_whole_roots(rt: HostRuntime) -> Result<(), Fail> {
 #[test]
 fn calculates_with_vectors(rt: HostRuntime) -> Result<(), Fail> {
     for (a, b, sum, way, half, square, length) in [
-        (at(3, -4, 12), at(1, 2, -2), at(4, -2, 10), at(2, -6, 14), at(2, -2, 6), 169, 13),
-        (at(-RANGE, 0, 0), at(RANGE, 0, 0), Vec3::ZERO, at(-1 << 30, 0, 0), at(-1 << 28, 0, 0), 1 << 58, RANGE),
+        (
+            at(3, -4, 12),
+            at(1, 2, -2),
+            at(4, -2, 10),
+            at(2, -6, 14),
+            at(2, -2, 6),
+            169,
+            13,
+        ),
+        (
+            at(-RANGE, 0, 0),
+            at(RANGE, 0, 0),
+            Vec3::ZERO,
+            at(-1 << 30, 0, 0),
+            at(-1 << 28, 0, 0),
+            1 << 58,
+            RANGE,
+        ),
     ] {
         assert!(rt; inside(a));
         assert!(rt; inside(b));

@@ -13,7 +13,9 @@ returns-in-Scramble g c = rw c.in-Scramble.is (did_one (simulated c.args.input.n
 
 pub returns-in-Obj : goal.returns-in-Obj
 returns-in-Obj g c = rw c.in-Obj.is (did_one (meshed c.args.input.now) _ _ _ _ _ c.obj_input.ensures)
+
 pub returns-in-Marks : goal.returns-in-Marks
 returns-in-Marks g c = rw c.in-Marks.is (did_one (simulated_with_marks c.args.input.now) _ _ _ _ _ c.marks_input.ensures)
+
 pub returns-in-Host : goal.returns-in-Host
 returns-in-Host g c = rw c.in-Host.is (did_one (hosted c.args.input.now) _ _ _ _ _ c.host_input.ensures)
