@@ -3,6 +3,7 @@
 
 #[cfg(test)]
 mod examples;
+#[cfg(test)]
 mod marks;
 #[cfg(test)]
 mod meshes;
