@@ -1,8 +1,8 @@
 //! Laws of the definitions, each the contract of a function that does nothing.
-ghost use Rattle.std.specs.Prelude.{◌≡◌, ℕ, ◌+◌, ◌*◌, ◌≤◌, ◌<◌, ℤ, pos, neg_ℤ, ◌<ℤ◌};
+ghost use Rattle.std.specs.Prelude.{◌≡◌, ℕ, ◌+◌, ◌*◌, ◌≤◌, ◌<◌, ℤ, pos, neg_ℤ, ◌<ℤ◌, unsigned_abs};
 ghost use Rattle.pbd_num.specs.declared.Vec3.{Vec3};
 ghost use Rattle.pbd_num.specs.Rounding.{rdiv, root};
-ghost use Rattle.pbd_num.specs.Vectors.{opposite};
+ghost use Rattle.pbd_num.specs.Vectors.{opposite, squared_length};
 ghost use Rattle.pbd_num.specs.PairMove.{pair_moves};
 
 /// Rounding treats both signs alike.
@@ -15,6 +15,13 @@ pub fn roots_are_greatest()
     ensures square { (n : ℕ) → root n * root n ≤ n }
     ensures next { (n : ℕ) → n < (root n + 1) * (root n + 1) }
     ensures only { (n r : ℕ) → r * r ≤ n → n < (r + 1) * (r + 1) → r ≡ root n }
+{}
+
+/// No axis of a vector is longer than the root of its vector's square.
+pub fn axes_are_within_the_length()
+    ensures x { (v : Vec3) → unsigned_abs v.x ≤ root (squared_length v) }
+    ensures y { (v : Vec3) → unsigned_abs v.y ≤ root (squared_length v) }
+    ensures z { (v : Vec3) → unsigned_abs v.z ≤ root (squared_length v) }
 {}
 
 /// Two ends of one weight move by opposite vectors.

@@ -9,7 +9,9 @@ ghost use Rattle.pbd_num.specs.PairMove.{share_of, along, corrections, shares, p
 mod laws;
 mod vectors;
 
-pub use laws::{equal_weights_move_oppositely, roots_are_greatest, rounding_is_odd};
+pub use laws::{
+    axes_are_within_the_length, equal_weights_move_oppositely, roots_are_greatest, rounding_is_odd,
+};
 pub use vectors::square;
 
 /// The greatest size of a coordinate, in units of 1/65,536 metre.
