@@ -1,7 +1,7 @@
 //! L whole numbers, or L truth values, side by side. L is one of 1, 2, 4, 8 and 16.
 #![tactic(auto)]
 
-ghost use Rattle.std.specs.Prelude.{◌≡◌, ℕ, ◌<◌, ◌≤◌, ◌^◌, pos, ◌+ℤ◌, ◌-ℤ◌, ◌*ℤ◌, ◌<ℤ◌, ◌≤ℤ◌, IsTrue, unsigned_abs, FitsSigned, int_lt, ◌&&◌, if◌then◌else◌, position};
+ghost use Rattle.std.specs.Prelude.{◌≡◌, ℕ, ◌<◌, ◌≤◌, ◌^◌, pos, ◌+ℤ◌, ◌-ℤ◌, ◌*ℤ◌, ◌<ℤ◌, ◌≤ℤ◌, IsTrue, unsigned_abs, FitsSigned, int_lt, ◌&&◌, if◌then◌else◌, position, IfSome};
 ghost use Rattle.std.specs.Int.{w64};
 ghost use Rattle.pbd_num.specs.Rounding.{rdiv as rounded, root as whole_root};
 ghost use Rattle.pbd_lanes.specs.Lane.{lane, is_set, lanes_of};
@@ -9,34 +9,38 @@ ghost use Rattle.pbd_lanes.specs.Lane.{lane, is_set, lanes_of};
 use pbd_num::{rdiv, root};
 use std::marker::Model;
 
-/// L numbers, which contracts see as a list.
+/// L numbers, which contracts see as a list of L.
 #[derive(Clone, Copy)]
 pub struct Lanes<const L: usize> {
     values: [i64; L],
 }
 
 impl<const L: usize> Model for Lanes<L> {
-    ghost use Rattle.std.specs.Prelude.{List, ℤ};
+    ghost use Rattle.std.specs.Prelude.{◌≡◌, List, ℤ, length};
 
     ghost Value = { List ℤ };
 
     ghost view = { λ a. a.values };
 
+    ghost invariant = { λ a. length a.values ≡ L };
+
     ghost inverse = { λ v. record { values = v } };
 }
 
-/// L truth values, which contracts see as a list.
+/// L truth values, which contracts see as a list of L.
 #[derive(Clone, Copy)]
 pub struct Mask<const L: usize> {
     set: [bool; L],
 }
 
 impl<const L: usize> Model for Mask<L> {
-    ghost use Rattle.std.specs.Prelude.{List, Bool};
+    ghost use Rattle.std.specs.Prelude.{◌≡◌, List, Bool, length};
 
     ghost Value = { List Bool };
 
     ghost view = { λ a. a.set };
+
+    ghost invariant = { λ a. length a.set ≡ L };
 
     ghost inverse = { λ v. record { set = v } };
 }
@@ -185,7 +189,8 @@ impl<const L: usize> Mask<L> {
 
     /// The least lane that is set, and `None` where none is.
     pub fn first(&self) -> Option<usize>
-        ensures { result ≡ position (λ b. b) self.now }
+        ensures value { result ≡ position (λ b. b) self.now }
+        ensures below { IfSome result (λ j. j < L) }
     {
         self.set.iter().position(|b| *b)
     }
