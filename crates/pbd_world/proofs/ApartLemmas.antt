@@ -21,7 +21,7 @@ end_counts true y a b n ns ls l h = ap suc h
 end_counts false true a b n ns ls l h = ap suc h
 end_counts false false a b n ns ls l h = h
 
-count_is : (i : ℕ) (ls : List Link) → length (neighbours i ls) ≡ links_at ls i
+pub count_is : (i : ℕ) (ls : List Link) → length (neighbours i ls) ≡ links_at ls i
 unfolding neighbours other_end
 count_is i [] = refl
 count_is i (l ∷ ls) = end_counts (l.a == i) (l.b == i) l.a l.b i (neighbours i ls) (filter (λ (m : Link). m.a == i || m.b == i) ls) l (count_is i ls)
@@ -51,7 +51,7 @@ end_joins m a b apart = elim (cases_eq m.a a) [
   ]
 ]
 
-among_is : (l : Link) (ls : List Link) → l.a ≢ l.b → is_among l.b (neighbours l.a ls) ≡ list_any (λ m. join_alike m l) ls
+pub among_is : (l : Link) (ls : List Link) → l.a ≢ l.b → is_among l.b (neighbours l.a ls) ≡ list_any (λ m. join_alike m l) ls
 unfolding neighbours
 among_is l [] apart = refl
 among_is l (m ∷ ls) apart =
@@ -96,6 +96,14 @@ few_ends i l n joined ns few first second = elim (cases_eq l.a i) [
   ]
 ]
 
+-- with a link more there are few still
+pub few_more : (i n : ℕ) (ls : List Link) (l : Link) → AreJoined n l → links_at ls i ≤ 32 → length (neighbours l.a ls) < 32 → length (neighbours l.b ls) < 32 → links_at (ls ++ l ∷ []) i ≤ 32
+few_more i n ls l joined few first second =
+    let counted : links_at (ls ++ l ∷ []) i ≡ length (neighbours i ls ++ other_end i l) = sym (count_is i (ls ++ l ∷ [])) ∙ ap length (neighbours_end i ls l) in
+    let some : length (neighbours i ls) ≤ 32 = omega (arith, count_is i ls, few) in
+    let most = few_ends i l n joined (neighbours i ls) some (λ q. rw q first) (λ q. rw q second) in
+    omega (arith, counted, most)
+
 alone_next : (count : ℕ) (links : List Link) (i : ℕ) (l : Link) (old now : List (List ℕ)) → i < length links → l ≡ get_or links i l → AreJoined count l → StandAlone count (take i links) old → is_room_for l.b (get_or old l.a []) (get_or old l.b []) ≡ true → AddsLink l old now → StandAlone count (take (i + 1) links) now
 alone_next count links i l old now h e joined alone room adds =
     let before = take i links in
@@ -106,11 +114,7 @@ alone_next count links i l old now h e joined alone room adds =
     record {
       holds = holds_more count links i l old now h e alone.holds adds;
       apart = twice_next join_alike links i l h e alone.apart (sym (among_is l before joined.apart) ∙ parts.2);
-      few = λ k u.
-          let counted : links_at (take (i + 1) links) k ≡ length (neighbours k before ++ other_end k l) = ap (λ ls. links_at ls k) next ∙ sym (count_is k (before ++ l ∷ [])) ∙ ap length (neighbours_end k before l) in
-          let some : length (neighbours k before) ≤ 32 = omega (arith, count_is k before, alone.few k u) in
-          let most = few_ends k l count joined (neighbours k before) some (λ q. rw q parts.0) (λ q. rw q parts.1) in
-          omega (arith, counted, most);
+      few = λ k u. rw next (few_more k count before l joined (alone.few k u) parts.0 parts.1);
     }
 
 pub alone_all : (count : ℕ) (links : List Link) (i : ℕ) (ends : List (List ℕ)) → length links ≤ i → StandAlone count (take i links) ends → are_apart count links ≡ true
@@ -128,7 +132,7 @@ neighbours-append i [] ys = refl
 neighbours-append i (x ∷ xs) ys = ap (λ ns. other_end i x ++ ns) (neighbours-append i xs ys) ∙ sym (append_assoc (other_end i x) (neighbours i xs) (neighbours i ys))
 
 -- link i comes on top of those before it
-one_above : (k : ℕ) (links : List Link) (i : ℕ) (l : Link) → i < length links → l ≡ get_or links i l → length (other_end k l) ≡ 1 → length (neighbours k (take i links)) + 1 ≤ links_at links k
+pub one_above : (k : ℕ) (links : List Link) (i : ℕ) (l : Link) → i < length links → l ≡ get_or links i l → length (other_end k l) ≡ 1 → length (neighbours k (take i links)) + 1 ≤ links_at links k
 one_above k links i l h e one =
     let before = take i links in
     let next : take (i + 1) links ≡ before ++ l ∷ [] = take_more links i l h ∙ ap (λ (m : Link). before ++ m ∷ []) (sym e) in

@@ -13,6 +13,9 @@ pub mod Neighbouring
 pub mod ValidLemmas
 pub mod TwiceLemmas
 pub mod ApartLemmas
+pub mod Every
+pub mod ValidLinks
+pub mod BatchLemmas
 pub mod TrackedLemmas
 pub mod WholeLemmas
 pub mod OrderLemmas

@@ -2,7 +2,7 @@
 use Rattle.std.proofs.Common.{◌≡◌, ◌∙◌, ap, sym, refl, ℕ, ◌<◌, ◌++◌, List, [], ◌∷◌, length, get_or, take, ◌+◌, ◌≤◌, append_assoc, append-nil, arith, inl, inr}
 use Rattle.std.specs.Prelude.{slice_set as set}
 use Rattle.std.proofs.lemmas.Bool.{eq-eqb, ne_eqb, cases_eq, cases_lt}
-use Rattle.std.proofs.lemmas.List.{get_or-set_same, get_or-set_other, length-set, length-append, get_or_append_left, take_more, take_all}
+use Rattle.std.proofs.lemmas.List.{get_or-set_same, get_or-set_other, length-set, length-append, get_or_append_left, take_more, take_all, get_or_default}
 use Rattle.std.proofs.Math.Seq.{get_or-append_seam}
 use Rattle.pbd_world.specs.declared.parts.Link.{Link}
 use Rattle.pbd_world.specs.Neighbours.{neighbours, other_end}
@@ -96,3 +96,7 @@ holds_more count links i l old now within same held adds = rw (take_more links i
 
 pub holds_all : (count : ℕ) (links : List Link) (i : ℕ) (ends : List (List ℕ)) → length links ≤ i → HoldsNeighbours count (take i links) ends → HoldsNeighbours count links ends
 holds_all count links i ends past held = let e : take i links ≡ links = take_all i links past in rw e at held
+
+-- the same of link i as it is read
+pub holds_read : (count : ℕ) (links : List Link) (i : ℕ) (d : Link) (old now : List (List ℕ)) → i < length links → HoldsNeighbours count (take i links) old → AddsLink (get_or links i d) old now → HoldsNeighbours count (take (i + 1) links) now
+holds_read count links i d old now within held adds = holds_more count links i (get_or links i d) old now within (get_or_default links i d (get_or links i d) within) held adds

@@ -23,7 +23,7 @@ more_tests true again same rest h k e = absurd (false≢true h)
 more_tests false again true rest h k e = absurd (false≢true (sym e))
 more_tests false again false rest h k e = k
 
-twice_more : {A : Type 0} (same : A → A → Bool) (xs : List A) (y : A) → none_twice same xs ≡ true → list_any (λ x. same x y) xs ≡ false → none_twice same (xs ++ y ∷ []) ≡ true
+pub twice_more : {A : Type 0} (same : A → A → Bool) (xs : List A) (y : A) → none_twice same xs ≡ true → list_any (λ x. same x y) xs ≡ false → none_twice same (xs ++ y ∷ []) ≡ true
 twice_more same [] y h k = refl
 twice_more same (x ∷ xs) y h k =
     let parts = and_parts (not (list_any (same x) xs)) (none_twice same xs) h in
@@ -71,3 +71,12 @@ range_fails test a (suc n) k l u h = elim (cases_eq a k) [
   | inl e ↦ ap (λ b. b && list_all test (range_with_len (a + 1) n)) (ap test e ∙ h)
   | inr d ↦ fails_later (test a) (list_all test (range_with_len (a + 1) n)) (range_fails test (a + 1) n k (omega (arith, l, d)) (omega (arith, u)) h)
 ]
+
+pub range_tells : (test : ℕ → Bool) (a n k : ℕ) → a ≤ k → k < a + n → list_all test (range_with_len a n) ≡ true → test k ≡ true
+range_tells test a zero k l u h = absurd (omega (arith, l, u))
+range_tells test a (suc n) k l u h =
+    let parts = and_parts (test a) (list_all test (range_with_len (a + 1) n)) h in
+    elim (cases_eq a k) [
+      | inl e ↦ ap test (sym e) ∙ parts.0
+      | inr d ↦ range_tells test (a + 1) n k (omega (arith, l, d)) (omega (arith, u)) parts.1
+    ]

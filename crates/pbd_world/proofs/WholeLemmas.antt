@@ -1,10 +1,10 @@
 -- Parts as a whole: what the tests of the single ones leave to look at.
-use Rattle.std.proofs.Common.{◌≡◌, ◌≢◌, refl, sym, ap, ◌∙◌, ℕ, ◌<◌, ◌≤◌, ◌^◌, true, false, not, ◌&&◌, List, length, arith, ℤ, pos, ◌≤ℤ◌, unsigned_abs, All, inl, inr}
+use Rattle.std.proofs.Common.{◌≡◌, refl, ap, ℕ, ◌<◌, ◌≤◌, ◌^◌, true, false, ◌&&◌, List, length, arith, ℤ, pos, ◌≤ℤ◌, unsigned_abs, All, inl, inr}
 use Rattle.std.specs.Prelude.{IsTrue, nat_le, ◌==◌}
 use Rattle.std.specs.List.{list_all, range_with_len}
 use Rattle.std.specs.Ordering.{int_eq}
 use Rattle.std.proofs.lemmas.Int.{ints}
-use Rattle.std.proofs.lemmas.Bool.{and_parts, cases_Bool, ltb-true, le-leb, false≢true, eq-eqb}
+use Rattle.std.proofs.lemmas.Bool.{and_parts, cases_Bool, ltb-true, le-leb}
 use Rattle.std.proofs.lemmas.Bool.Decides.{Decides-int_eq}
 use Rattle.std.proofs.lemmas.List.Elements.{All-weaker}
 use Rattle.std.proofs.lemmas.List.Sums.{AllPass-from_list_all}
@@ -12,6 +12,7 @@ use Rattle.pbd_world.specs.declared.parts.Link.{Link}
 use Rattle.pbd_world.specs.declared.parts.Track.{Track}
 use Rattle.pbd_world.specs.Valid.{is_limit, is_valid_link, are_valid_links, none_twice, join_alike, links_at, is_valid_track, are_valid_tracks}
 use Rattle.pbd_world.specs.Neighbours.{AreJoined, are_apart, name_apart}
+use Rattle.pbd_world.proofs.ValidLinks.{link_facts, joined_of}
 
 -- ---- the limit
 
@@ -29,13 +30,8 @@ limit_high n t = (limit_is n t).1
 
 -- ---- links
 
-differ : (a b : ℕ) → not (a == b) ≡ true → a ≢ b
-differ a b h e = false≢true (ap not (sym (eq-eqb a b e)) ∙ h)
-
 link_joined : (limit : ℤ) (n : ℕ) (l : Link) → is_valid_link limit n l ≡ true → AreJoined n l
-link_joined limit n l t =
-    let p5 = and_parts _ _ t in let p4 = and_parts _ _ p5.0 in let p3 = and_parts _ _ p4.0 in let p2 = and_parts _ _ p3.0 in let p1 = and_parts _ _ p2.0 in
-    record { first = ltb-true l.a n p1.0; second = ltb-true l.b n p1.1; apart = differ l.a l.b p2.1 }
+link_joined limit n l t = joined_of limit n l ((link_facts limit n l).0 t)
 
 pub links_joined : (limit : ℤ) (n : ℕ) (links : List Link) → list_all (is_valid_link limit n) links ≡ true → All (AreJoined n) links
 links_joined limit n links t = All-weaker (λ (l : Link). is_valid_link limit n l ≡ true) (AreJoined n) (λ l h. link_joined limit n l h) links (AllPass-from_list_all (is_valid_link limit n) links t)

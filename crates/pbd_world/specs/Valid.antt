@@ -1,8 +1,8 @@
 -- Which parts are a scene.
-use Rattle.std.specs.Prelude.{ℕ, ◌^◌, nat_le, nat_lt, ◌==◌, ℤ, pos, ◌+ℤ◌, ◌-ℤ◌, ◌*ℤ◌, int_le, Bool, true, not, ◌&&◌, ◌||◌, List, [], ◌∷◌, length, filter}
+use Rattle.std.specs.Prelude.{◌≢◌, ℕ, ◌^◌, ◌<◌, ◌≤◌, nat_le, nat_lt, ◌==◌, ℤ, pos, ◌≤ℤ◌, ◌+ℤ◌, ◌-ℤ◌, ◌*ℤ◌, int_le, Bool, true, not, ◌&&◌, ◌||◌, IsTrue, List, [], ◌∷◌, length, filter, All}
 use Rattle.std.specs.List.{list_all, list_any, range_with_len}
 use Rattle.std.specs.Ordering.{int_eq}
-use Rattle.pbd_num.specs.Vectors.{is_within, is_axis_within, squared_length, on_axes, plus, minus}
+use Rattle.pbd_num.specs.Vectors.{is_within, is_axis_within, squared_length, on_axes, plus, minus, zero_vector}
 use Rattle.pbd_world.specs.declared.parts.Particle.{Particle}
 use Rattle.pbd_world.specs.declared.parts.Link.{Link}
 use Rattle.pbd_world.specs.declared.parts.Plane.{Plane}
@@ -35,6 +35,17 @@ are_valid_particles limit ps = nat_le (length ps) 65536 && list_all (is_valid_pa
 abbrev pub is_valid_link : ℤ → ℕ → Link → Bool
 is_valid_link limit n l = nat_lt l.a n && nat_lt l.b n && not (l.a == l.b) && is_between (pos 0) (pos 4 *ℤ limit) l.rest && is_between (pos 0) (pos 4 *ℤ limit) l.tear && nat_le l.k 256
 
+-- the same as facts
+pub record ValidLink (limit : ℤ) (n : ℕ) (l : Link) : Type 0 where
+  pub first : l.a < n
+  pub second : l.b < n
+  pub apart : l.a ≢ l.b
+  pub rest_low : pos 0 ≤ℤ l.rest
+  pub rest_high : l.rest ≤ℤ (pos 4 *ℤ limit)
+  pub tear_low : pos 0 ≤ℤ l.tear
+  pub tear_high : l.tear ≤ℤ (pos 4 *ℤ limit)
+  pub stiffness : l.k ≤ 256
+
 -- two links join the same particles
 abbrev pub join_alike : Link → Link → Bool
 join_alike l m = l.a == m.a && l.b == m.b || l.a == m.b && l.b == m.a
@@ -46,6 +57,13 @@ links_at links i = length (filter (λ l. l.a == i || l.b == i) links)
 -- each is valid, at most one joins two particles, and at most 32 are at a particle
 abbrev pub are_valid_links : ℤ → ℕ → List Link → Bool
 are_valid_links limit n links = nat_le (length links) 524288 && list_all (is_valid_link limit n) links && none_twice join_alike links && list_all (λ i. nat_le (links_at links i) 32) (range_with_len 0 n)
+
+-- the same as facts
+pub record ValidLinks (limit : ℤ) (n : ℕ) (links : List Link) : Type 0 where
+  pub number : length links ≤ 524288
+  pub each : All (ValidLink limit n) links
+  pub once : IsTrue (none_twice join_alike links)
+  pub few : (i : ℕ) → i < n → links_at links i ≤ 32
 
 -- the normal isn't zero
 abbrev pub is_valid_plane : Plane → Bool
@@ -117,3 +135,19 @@ is_valid parts =
     && list_all (λ l. l.live) parts.links
     && list_all (λ p. not p.held || is_at_rest p) parts.particles
     && are_tracked_held parts.tracks parts.particles
+
+-- no parts yet: one pass of nothing, without gravity, damping, thickness and friction
+abbrev pub no_parts : ℤ → Parts
+no_parts limit = record {
+  particles = [];
+  links = [];
+  planes = [];
+  spheres = [];
+  tracks = [];
+  gravity = zero_vector;
+  passes = 1;
+  damping = pos 0;
+  thickness = pos 0;
+  friction = pos 0;
+  limit = limit;
+}

@@ -1,5 +1,5 @@
 //! Laws of the definitions, each the contract of a function that does nothing.
-ghost use Rattle.std.specs.Prelude.{◌≡◌, ◌<◌, ◌≤◌, ◌+◌, ◌^◌, ◌==◌, ℕ, ℤ, pos, List, Bool, false, IsTrue, length, count_by, Contains, AllPairs};
+ghost use Rattle.std.specs.Prelude.{◌≡◌, ◌<◌, ◌≤◌, ◌+◌, ◌^◌, ◌==◌, ℕ, ℤ, pos, List, [], Bool, false, IsTrue, length, count_by, Contains, AllPairs};
 ghost use Rattle.pbd_num.specs.declared.Vec3.{Vec3};
 ghost use Rattle.pbd_num.specs.Vectors.{Within};
 ghost use Rattle.pbd_world.specs.declared.command.Command.{Command};
@@ -8,12 +8,12 @@ ghost use Rattle.pbd_world.specs.declared.command.Reply.TheVariants as replies;
 ghost use Rattle.pbd_world.specs.declared.parts.Parts.{Parts};
 ghost use Rattle.pbd_world.specs.declared.totals.Class.{Class};
 ghost use Rattle.pbd_world.specs.Ledger.{Ledger, HaveRoom, SumFits, added, both_sums, sum_plus, total_of};
-ghost use Rattle.pbd_world.specs.Valid.{is_valid};
+ghost use Rattle.pbd_world.specs.Valid.{is_valid, is_valid_link, are_valid_links, ValidLink, ValidLinks};
 ghost use Rattle.pbd_world.specs.World.{World, opened, IsSound, AreOfOneScene, HaveWeight};
 ghost use Rattle.pbd_world.specs.declared.parts.Link.{Link};
 ghost use Rattle.pbd_world.specs.declared.parts.Particle.{Particle};
-ghost use Rattle.pbd_world.specs.Colours.{IsGreedy, IsEarlier, colour, order, live_at};
-ghost use Rattle.pbd_world.specs.Contacts.{AreInContact, IsBefore, contacts_of};
+ghost use Rattle.pbd_world.specs.Colours.{IsGreedy, IsEarlier, colour, of_colour, order, live_at};
+ghost use Rattle.pbd_world.specs.Contacts.{AreInContact, IsBefore, contacts_of, link_pairs, live_flags};
 ghost use Rattle.pbd_world.specs.Momentum.{IsBalanced, momentum};
 ghost use Rattle.pbd_world.specs.Meaning.{after, reply};
 ghost use Rattle.pbd_world.specs.Session.{last_world};
@@ -44,6 +44,19 @@ pub fn orders_hold_each_live_pair_once()
 /// The order of a list of pairs goes up by colours, and within a colour by numbers.
 pub fn orders_ascend()
     ensures { (pairs : List (ℕ × ℕ)) (live : List Bool) → AllPairs (IsEarlier pairs live) (order pairs live) }
+{}
+
+/// No link of a scene is ever serial, whatever was cut or torn: with at most 32 links at a particle, at most 62 others
+/// share a particle with a link, so that one of the 63 colours of batches is free for it. The last piece of the order,
+/// which holds the serial links, is empty.
+pub fn links_are_never_serial()
+    ensures coloured { (w : World) (i : ℕ) → IsSound w → i < length w.links
+        → colour (link_pairs w.links) (live_flags w.links) i < 63 }
+    ensures none_last { (w : World) → IsSound w
+        → of_colour (live_flags w.links) (colour (link_pairs w.links) (live_flags w.links)) (length w.links) 63 ≡ [] }
+    ensures ever { (parts : Parts) (commands : List Command) (i : ℕ) → IsTrue (is_valid parts)
+        → let w = last_world (opened parts) commands in i < length w.links
+        → colour (link_pairs w.links) (live_flags w.links) i < 63 }
 {}
 
 /// The contacts are exactly the pairs that touch each other, each once and in order.
@@ -100,4 +113,13 @@ pub fn commands_keep_worlds_sound()
     ensures sound { (w : World) (command : Command) → IsSound w → IsSound (after w command) }
     ensures one_scene { (w : World) (command : Command) → IsSound w
         → AreOfOneScene w (after w command) }
+{}
+
+/// The tests of links and the records of facts say the same.
+pub fn valid_links_are_facts()
+    ensures link { (limit : ℤ) (n : ℕ) (l : Link) → IsTrue (is_valid_link limit n l) → ValidLink limit n l }
+    ensures link_test { (limit : ℤ) (n : ℕ) (l : Link) → ValidLink limit n l → IsTrue (is_valid_link limit n l) }
+    ensures links { (limit : ℤ) (n : ℕ) (links : List Link) → IsTrue (are_valid_links limit n links) → ValidLinks limit n links }
+    ensures links_test { (limit : ℤ) (n : ℕ) (links : List Link) → ValidLinks limit n links
+        → IsTrue (are_valid_links limit n links) }
 {}

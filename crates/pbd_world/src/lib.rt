@@ -7,6 +7,7 @@ mod joined;
 mod laws;
 mod limits;
 mod list;
+mod neighbours;
 mod parts;
 mod room_list;
 mod scene;
@@ -19,14 +20,16 @@ pub use command::{Command, FrameSums, Left, Phase, Refusal, Reply, Width};
 pub use laws::{
     colours_are_determined, colours_are_greedy, commands_keep_the_balance,
     commands_keep_worlds_sound, contacts_are_the_touching_pairs, equal_weights_keep_momentum,
-    opened_worlds_are_sound, orders_ascend, orders_hold_each_live_pair_once,
-    refused_commands_change_nothing, sessions_stay_sound, totals_with_room_take_moves,
+    links_are_never_serial, opened_worlds_are_sound, orders_ascend,
+    orders_hold_each_live_pair_once, refused_commands_change_nothing, sessions_stay_sound,
+    totals_with_room_take_moves, valid_links_are_facts,
 };
 pub use limits::{
-    LAST_STEP, MOST_CONTACTS, MOST_LINKS, MOST_PARTICLES, MOST_STEPS, MOST_THICKNESS, MOST_TRACKS,
-    OLD_RANGE,
+    LAST_STEP, MOST_AT_PARTICLE, MOST_CONTACTS, MOST_LINKS, MOST_PARTICLES, MOST_STEPS,
+    MOST_THICKNESS, MOST_TRACKS, OLD_RANGE,
 };
 pub use list::List;
+pub use neighbours::NeighbourLists;
 pub use parts::{Key, Kind, Link, Particle, Parts, Plane, Sphere, Track};
 pub use room_list::{Full, RoomList};
 pub use scene::{PartsFault, Scene};

@@ -6,6 +6,9 @@ pub const MOST_PARTICLES: usize = 65_536;
 /// Links of a scene.
 pub const MOST_LINKS: usize = 524_288;
 
+/// Links at one particle.
+pub const MOST_AT_PARTICLE: usize = 32;
+
 /// Tracks of a scene.
 pub const MOST_TRACKS: usize = 4096;
 

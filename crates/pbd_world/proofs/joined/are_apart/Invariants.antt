@@ -3,4 +3,4 @@ use Rattle.pbd_world.proofs.ApartLemmas.{StandAlone}
 use Rattle.pbd_world.proofs.joined.are_apart.Given as goal
 
 abbrev pub invariant-loop-link : goal.invariant-loop-link
-invariant-loop-link l = StandAlone l.count (take l.link-index l.links) l.ends.items
+invariant-loop-link l = StandAlone l.count (take l.link-index l.links) l.lists
