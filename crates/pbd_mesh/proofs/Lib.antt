@@ -4,3 +4,4 @@ pub mod Every
 pub mod Facts
 pub mod Growing
 pub mod Meshes
+pub mod MeshLinks

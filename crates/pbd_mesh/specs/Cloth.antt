@@ -1,10 +1,11 @@
 -- A cloth, by row and column.
-use Rattle.std.specs.Prelude.{ℕ, ◌+◌, ◌*◌, ◌^◌, ◌<◌, ◌≤◌, nat_le, nat_lt, ℤ, pos, ◌*ℤ◌, Bool, true, false, ◌&&◌, if◌then◌else◌, List, [], ◌∷◌, ◌++◌}
+use Rattle.std.specs.Prelude.{ℕ, ◌+◌, ◌*◌, ◌^◌, ◌<◌, ◌≤◌, nat_le, nat_lt, ℤ, pos, ◌*ℤ◌, Bool, true, false, ◌&&◌, if◌then◌else◌, List, [], ◌∷◌, ◌++◌, length}
 use Rattle.pbd_num.specs.declared.Vec3.{Vec3}
 use Rattle.pbd_num.specs.Vectors.{plus, minus, on_axes, Within, is_within, length_of}
 use Rattle.pbd_world.specs.declared.parts.Particle.{Particle}
 use Rattle.pbd_world.specs.declared.parts.Link.{Link}
 use Rattle.pbd_world.specs.declared.parts.Kind.{Kind}
+use Rattle.pbd_world.specs.declared.parts.Parts.{Parts}
 use Rattle.pbd_world.specs.declared.parts.Kind.TheVariants.{Stretch, Shear, Bend, Plain}
 use Rattle.pbd_mesh.specs.Ranges.{is_between, is_length}
 use Rattle.pbd_mesh.specs.declared.spec.ClothSpec.{ClothSpec}
@@ -23,9 +24,13 @@ resting at weight = record { at = at; before = at; weight = weight; held = false
 unfoldable pub cloth_place : ClothSpec → ℕ → ℕ → Vec3
 cloth_place s r c = plus (plus s.origin (times c s.across)) (times r s.down)
 
+-- those of row r, column by column
+abbrev pub row_particles : ClothSpec → ℕ → List Particle
+row_particles s r = joined s.columns (λ c. resting (cloth_place s r c) s.weight ∷ [])
+
 -- row by row
 unfoldable pub cloth_particles : ClothSpec → List Particle
-cloth_particles s = joined s.rows (λ r. joined s.columns (λ c. resting (cloth_place s r c) s.weight ∷ []))
+cloth_particles s = joined s.rows (λ r. row_particles s r)
 
 abbrev pub is_in_cloth : ClothSpec → Cell → Bool
 is_in_cloth s cell = nat_lt cell.row s.rows && nat_lt cell.column s.columns
@@ -64,6 +69,10 @@ links_of_kind s base kind = joined s.rows (λ r. joined s.columns (λ c. links_o
 
 unfoldable pub cloth_links : ClothSpec → ℕ → List Link
 cloth_links s base = links_of_kind s base Stretch ++ links_of_kind s base Shear ++ links_of_kind s base Bend
+
+-- parts with a cloth after their own particles and links
+abbrev pub with_cloth : Parts → ClothSpec → Parts
+with_cloth parts s = record parts { particles = parts.particles ++ cloth_particles s; links = parts.links ++ cloth_links s (length parts.particles) }
 
 -- each number is in its range
 unfoldable pub cloth_vectors_fit : ℤ → ClothSpec → Bool

@@ -9,12 +9,14 @@ ghost use Rattle.pbd_mesh.specs.Meshes.{IsMesh};
 
 /// A cloth that fits is valid: no link stands twice, and few are at a particle.
 pub fn cloths_are_meshes()
-    ensures mesh { (limit : ℤ) (base : ℕ) (s : ClothSpec) → IsTrue (is_limit limit) → IsTrue (cloth_fits limit s) → IsMesh limit base (cloth_particles s) (cloth_links s base) }
+    ensures mesh { (limit : ℤ) (base : ℕ) (s : ClothSpec) → IsTrue (is_limit limit) → IsTrue (cloth_fits limit s)
+        → IsMesh limit base (cloth_particles s) (cloth_links s base) }
     ensures size { (s : ClothSpec) → length (cloth_particles s) ≡ s.rows * s.columns }
 {}
 
 /// A rope that fits is valid too.
 pub fn ropes_are_meshes()
-    ensures mesh { (limit : ℤ) (base : ℕ) (s : RopeSpec) → IsTrue (is_limit limit) → IsTrue (rope_fits limit s) → IsMesh limit base (rope_particles s) (rope_links s base) }
+    ensures mesh { (limit : ℤ) (base : ℕ) (s : RopeSpec) → IsTrue (is_limit limit) → IsTrue (rope_fits limit s)
+        → IsMesh limit base (rope_particles s) (rope_links s base) }
     ensures size { (s : RopeSpec) → length (rope_particles s) ≡ s.count }
 {}
