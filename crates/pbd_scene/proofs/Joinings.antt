@@ -1,11 +1,11 @@
 -- The links of entries, as they are joined one after another.
-use Rattle.std.proofs.Common.{◌≡◌, ◌∙◌, ap, sym, refl, ℕ, ◌+◌, ◌<◌, ◌≤◌, List, [], ◌∷◌, ◌++◌, length, get_or, take, drop, arith, append_assoc, append-nil}
+use Rattle.std.proofs.Common.{◌≡◌, ◌∙◌, ap, sym, refl, ℕ, ◌+◌, ◌<◌, ◌≤◌, List, [], ◌∷◌, ◌++◌, length, get_or, drop, arith, append_assoc, append-nil}
 use Rattle.std.specs.Prelude.{Ok}
 use Rattle.std.proofs.lemmas.List.{length-append, get_or_default}
 use Rattle.pbd_world.specs.declared.parts.Particle.{Particle}
 use Rattle.pbd_world.specs.declared.parts.Link.{Link}
 use Rattle.pbd_world.specs.Neighbours.{HoldsNeighbours, AddsLink}
-use Rattle.pbd_world.proofs.Neighbouring.{holds_next, holds_more}
+use Rattle.pbd_world.proofs.Neighbouring.{holds_next}
 use Rattle.pbd_scene.specs.declared.raw.LinkEntry.{LinkEntry}
 use Rattle.pbd_scene.specs.declared.fault.SceneFault.{SceneFault}
 use Rattle.pbd_scene.specs.Checks.{Fails, each}
@@ -59,9 +59,6 @@ links_end ps meshes entries i links ends past so_far =
     rw all (ap Ok (sym so_far.are))
 
 -- ---- the same of what the loop reads
-
-pub ends_more : (count : ℕ) (links : List Link) (i : ℕ) (d : Link) (old now : List (List ℕ)) → i < length links → HoldsNeighbours count (take i links) old → AddsLink (get_or links i d) old now → HoldsNeighbours count (take (i + 1) links) now
-ends_more count links i d old now within held adds = holds_more count links i (get_or links i d) old now within (get_or_default links i d (get_or links i d) within) held adds
 
 pub entry_more : (ps : List Particle) (meshes : List Link) (entries : List LinkEntry) (i : ℕ) (d : LinkEntry) (links now : List Link) (old ends : List (List ℕ)) (l : Link) → i < length entries → LinksSoFar ps meshes entries i links old → joined_link ps i links (get_or entries i d) ≡ Ok l → AddsLink l old ends → now ≡ links ++ l ∷ [] → LinksSoFar ps meshes entries (i + 1) now ends
 entry_more ps meshes entries i d links now old ends l within so_far is adds grown = links_more ps meshes entries i (get_or entries i d) links now old ends l within (get_or_default entries i d (get_or entries i d) within) so_far is adds grown

@@ -1,7 +1,7 @@
 pub mod Accepted
 pub mod Bounds
 pub mod Entering
-pub mod Graphs
+pub mod LiveLinks
 pub mod Flagged
 pub mod Joinings
 pub mod Meshing

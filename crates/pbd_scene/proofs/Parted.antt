@@ -17,7 +17,7 @@ use Rattle.pbd_world.specs.Valid.{is_limit}
 use Rattle.pbd_scene.specs.declared.raw.Tables.{Tables}
 use Rattle.pbd_scene.specs.Entries.{all_cloths_size, all_ropes_size}
 use Rattle.pbd_scene.specs.Scene.{with_cloth, with_rope}
-use Rattle.pbd_scene.proofs.Graphs.{within_at, graph_none}
+use Rattle.pbd_scene.proofs.LiveLinks.{within_at, live_none}
 use Rattle.pbd_scene.proofs.Validity.{TablesFit, Meshed, cloths_meshed, ropes_meshed}
 
 -- a test of all, as a fact of each
@@ -57,7 +57,7 @@ cloths_added limit t start now xs grown same lim fit is particles links =
       others = refl;
       particles = rw particles fit.particles;
       few = rw particles (omega (arith, fit.cloths.room));
-      graph = rw links (graph_none limit (length start.particles));
+      links = rw links (live_none limit (length start.particles));
       size = rw links (omega arith);
     } in
     let c = cloths_meshed limit start start t.cloths lim begins fit.cloths.fit (rw particles fit.cloths.room) in

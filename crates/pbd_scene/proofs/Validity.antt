@@ -23,8 +23,8 @@ use Rattle.pbd_world.specs.declared.parts.Link.{Link}
 use Rattle.pbd_world.specs.declared.parts.Track.{Track}
 use Rattle.pbd_world.specs.declared.parts.Parts.{Parts}
 use Rattle.pbd_world.specs.Neighbours.{is_among}
-use Rattle.pbd_world.specs.Valid.{is_limit, is_between, is_valid, is_well_formed, is_valid_particle, is_at_rest, is_valid_link, is_valid_plane, is_valid_sphere, is_valid_track, are_valid_keys, are_valid_particles, are_valid_links, are_valid_planes, are_valid_spheres, are_valid_tracks, are_tracked_held, are_valid_numbers, none_twice, links_at}
-use Rattle.pbd_world.proofs.TwiceLemmas.{range_all}
+use Rattle.pbd_world.specs.Valid.{is_limit, is_between, is_valid, is_well_formed, is_valid_particle, is_at_rest, is_valid_plane, is_valid_sphere, is_valid_track, are_valid_keys, are_valid_particles, are_valid_links, are_valid_planes, are_valid_spheres, are_valid_tracks, are_tracked_held, are_valid_numbers, none_twice}
+use Rattle.pbd_world.proofs.ValidLinks.{links_facts}
 use Rattle.pbd_scene.specs.declared.raw.TrackEntry.{TrackEntry}
 use Rattle.pbd_scene.specs.declared.raw.Settings.{Settings}
 use Rattle.pbd_scene.specs.declared.raw.Tables.{Tables}
@@ -39,7 +39,7 @@ use Rattle.pbd_scene.specs.Joining.{particle_number, all_links, pinned, placed_t
 use Rattle.pbd_scene.specs.Scene.{at_scene, pins_of, settings_of, particles_of, cloths_of, ropes_of, links_of, planes_of, spheres_of, tracks_of, tables_of, with_cloth, with_rope, plain_parts, with_meshes, named, joined_parts, scene_of}
 use Rattle.pbd_scene.proofs.Accepted.{through, same_ok, tested, integer_or_ok, count_or_ok, vector_or_ok, each_keeps_where, table_pass, table_keeps, each_count}
 use Rattle.pbd_scene.proofs.Entering.{at_rest, is_entry_particle, particle_passes, CloseCloths, CloseRopes, cloths_keep, ropes_keep, is_link_entry, link_passes, plane_passes, sphere_passes, has_keys, track_passes}
-use Rattle.pbd_scene.proofs.Graphs.{IsGraph, graph_none, graph_mesh, JoinedLinks, links_joined, number_ok}
+use Rattle.pbd_scene.proofs.LiveLinks.{LiveLinks, live_none, live_mesh, links_joined, number_ok}
 
 -- ---- the tables
 
@@ -127,7 +127,7 @@ pub record Meshed (limit : ℤ) (start parts : Parts) : Type 0 where
   pub others : parts ≡ record start { particles = parts.particles; links = parts.links }
   pub particles : list_all (is_entry_particle limit) parts.particles ≡ true
   pub few : length parts.particles ≤ 65536
-  pub graph : IsGraph limit (length parts.particles) parts.links
+  pub links : LiveLinks limit (length parts.particles) parts.links
   pub size : length parts.links ≤ 6 * length parts.particles
 
 free_passes : (limit : ℤ) (p : Particle) → is_free_and_valid limit p ≡ true → is_entry_particle limit p ≡ true
@@ -140,7 +140,7 @@ meshed_next limit start parts ps ls m mesh room = record {
   others = ap (λ (q : Parts). record q { particles = parts.particles ++ ps; links = parts.links ++ ls }) m.others;
   particles = list_all-append (is_entry_particle limit) parts.particles ps ∙ and_from _ _ m.particles (every_test (is_entry_particle limit) ps (every_more (λ p. IsTrue (is_free_and_valid limit p)) (λ p. IsTrue (is_entry_particle limit p)) ps (λ p t. free_passes limit p t) (every_from_test (is_free_and_valid limit) ps mesh.particles)));
   few = omega (arith, room, length-append parts.particles ps);
-  graph = rw (length-append parts.particles ps) (graph_mesh limit (length parts.particles) parts.links ls ps m.graph mesh);
+  links = rw (length-append parts.particles ps) (live_mesh limit (length parts.particles) parts.links ls ps (omega (arith, m.size, mesh.size, room)) m.links mesh);
   size = omega (arith, m.size, mesh.size, length-append parts.particles ps, length-append parts.links ls);
 }
 
@@ -170,7 +170,7 @@ plain_meshed limit s t fit = record {
   others = refl;
   particles = fit.particles;
   few = omega (arith, fit.cloths.room);
-  graph = graph_none limit (length t.particles);
+  links = live_none limit (length t.particles);
   size = omega arith;
 }
 
@@ -293,10 +293,8 @@ particles_asked limit ps t few =
     let s = split_all (is_valid_particle limit) (λ p. not p.held || is_at_rest p) ps t in
     (and_from _ _ (le_test (length ps) 65536 few) s.0, s.1)
 
-links_asked : (limit : ℤ) (n : ℕ) (ls : List Link) → JoinedLinks limit n ls → (are_valid_links limit n ls ≡ true) × (list_all {X = Link} (λ l. l.live) ls ≡ true)
-links_asked limit n ls j =
-    let s = split_all (λ (l : Link). l.live) (is_valid_link limit n) ls j.graph.links in
-    (and_from _ _ (and_from _ _ (and_from _ _ (le_test (length ls) 524288 j.size) s.1) j.graph.once) (range_all (λ i. nat_le (links_at ls i) 32) 0 n (λ k l u. le_test (links_at ls k) 32 (j.graph.few k))), s.0)
+links_asked : (limit : ℤ) (n : ℕ) (ls : List Link) → LiveLinks limit n ls → (are_valid_links limit n ls ≡ true) × (list_all {X = Link} (λ l. l.live) ls ≡ true)
+links_asked limit n ls j = ((links_facts limit n ls).1 j.valid, j.live)
 
 joined_valid : (limit : ℤ) (s : Settings) (t : Tables) (start m : Parts) (pins : List ℤ) (parts : Parts) → IsTrue (is_limit limit) → SettingsFit limit s → TablesFit limit t → start ≡ plain_parts limit s t → Meshed limit start m → joined_parts pins t.links t.tracks m ≡ Ok parts → is_valid parts ≡ true
 unfolding joined_parts
@@ -311,8 +309,7 @@ joined_valid limit s t start m pins parts lim sf tf plain mf is =
     let all : Parts = record m { particles = ps; links = links; tracks = tracks } in
     let same : m ≡ record (plain_parts limit s t) { particles = m.particles; links = m.links } = mf.others ∙ ap (λ (q : Parts). record q { particles = m.particles; links = m.links }) plain in
     let size : length ps ≡ n = holding_length names 0 m.particles in
-    let first : JoinedLinks limit n m.links = record { graph = mf.graph; size = omega (arith, mf.size, mf.few) } in
-    let joined = links_joined limit m.particles m.links t.links links low mf.particles tf.links first e1 in
+    let joined = links_joined limit m.particles m.links t.links links low mf.particles tf.links mf.links e1 in
     let placed = tracks_fit limit n t.tracks tracks tf.tracks e3 in
     let number = each_count (placed_track n) [] t.tracks tracks e3 in
     let p = particles_asked limit ps (holding_passes limit names 0 m.particles mf.particles) (omega (arith, size, mf.few)) in

@@ -32,6 +32,13 @@ length_between ps a b = pos (length_of (minus (particle_at ps a).at (particle_at
 unfoldable pub plain_link : ℕ → ℕ → ℤ → LinkEntry → Link
 plain_link a b rest l = record { a = a; b = b; rest = rest; k = l.k; tear = l.tear; kind = Plain; live = true }
 
+-- a link to b is no double and at most the 32nd at each of its ends, where these are the other ends of the links at both
+unfoldable pub room_for_link : Place → ℕ → List ℕ → List ℕ → Checked (Unit {0})
+room_for_link place b at_a at_b = do
+  _ ← expect (not (is_among b at_a)) DoubleLink place keys.NoKey
+  _ ← expect (nat_lt (length at_a) 32) TooManyAtParticle place keys.A
+  expect (nat_lt (length at_b) 32) TooManyAtParticle place keys.B
+
 -- the link of an entry, where so many entries and these links stand before it
 unfoldable pub joined_link : List Particle → ℕ → List Link → LinkEntry → Checked Link
 joined_link ps position earlier l =
@@ -40,9 +47,7 @@ joined_link ps position earlier l =
       a ← particle_number (length ps) place keys.A l.a
       b ← particle_number (length ps) place keys.B l.b
       _ ← expect (not (a == b)) SelfLink place keys.NoKey
-      _ ← expect (not (is_among b (neighbours a earlier))) DoubleLink place keys.NoKey
-      _ ← expect (nat_lt (length (neighbours a earlier)) 32) TooManyAtParticle place keys.A
-      _ ← expect (nat_lt (length (neighbours b earlier)) 32) TooManyAtParticle place keys.B
+      _ ← room_for_link place b (neighbours a earlier) (neighbours b earlier)
       Ok (plain_link a b (unwrap_or l.rest (length_between ps a b)) l)
 
 -- a link after those of the meshes and those of the entries before it

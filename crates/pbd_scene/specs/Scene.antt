@@ -7,10 +7,11 @@ use Rattle.pbd_world.specs.declared.parts.Plane.{Plane}
 use Rattle.pbd_world.specs.declared.parts.Sphere.{Sphere}
 use Rattle.pbd_world.specs.declared.parts.Track.{Track}
 use Rattle.pbd_world.specs.declared.parts.Parts.{Parts}
+use Rattle.pbd_world.specs.Valid.{no_parts}
 use Rattle.pbd_mesh.specs.declared.spec.ClothSpec.{ClothSpec}
 use Rattle.pbd_mesh.specs.declared.spec.RopeSpec.{RopeSpec}
-use Rattle.pbd_mesh.specs.Cloth.{cloth_particles, cloth_links}
-use Rattle.pbd_mesh.specs.Rope.{rope_particles, rope_links}
+pub use Rattle.pbd_mesh.specs.Cloth.{with_cloth}
+pub use Rattle.pbd_mesh.specs.Rope.{with_rope}
 use Rattle.pbd_scene.specs.declared.raw.LinkEntry.{LinkEntry}
 use Rattle.pbd_scene.specs.declared.raw.TrackEntry.{TrackEntry}
 use Rattle.pbd_scene.specs.declared.raw.Settings.{Settings}
@@ -83,27 +84,17 @@ tables_of limit ms = do
   tracks ← tracks_of limit ms
   Ok (record { particles = particles; cloths = cloths; ropes = ropes; links = links; planes = planes; spheres = spheres; tracks = tracks })
 
--- what a mesh adds
-abbrev pub with_cloth : Parts → ClothSpec → Parts
-with_cloth parts s = record parts { particles = parts.particles ++ cloth_particles s; links = parts.links ++ cloth_links s (length parts.particles) }
-
-abbrev pub with_rope : Parts → RopeSpec → Parts
-with_rope parts s = record parts { particles = parts.particles ++ rope_particles s; links = parts.links ++ rope_links s (length parts.particles) }
-
 -- the parts without meshes, links and tracks
 abbrev pub plain_parts : ℤ → Settings → Tables → Parts
-plain_parts limit s t = record {
+plain_parts limit s t = record (no_parts limit) {
   particles = t.particles;
-  links = [];
   planes = t.planes;
   spheres = t.spheres;
-  tracks = [];
   gravity = s.gravity;
   passes = s.passes;
   damping = s.damping;
   thickness = s.thickness;
   friction = s.friction;
-  limit = limit;
 }
 
 -- the same with the particles and links of the cloths and then of the ropes

@@ -1,21 +1,5 @@
-// Sums of lengths that stay small.
-ghost use Rattle.std.specs.Prelude.{◌≡◌, ◌≤◌, ◌^◌, ◌≤ℤ◌, ◌+ℤ◌, ◌-ℤ◌, ◌*ℤ◌, pos, unsigned_abs};
-
-pub fn axis_sum(a: i64, b: i64) -> i64
-    requires a { unsigned_abs a ≤ 2 ^ 30 }
-    requires b { unsigned_abs b ≤ 2 ^ 30 }
-    ensures { result ≡ a +ℤ b }
-{
-    a + b
-}
-
-pub fn axis_difference(a: i64, b: i64) -> i64
-    requires a { unsigned_abs a ≤ 2 ^ 30 }
-    requires b { unsigned_abs b ≤ 2 ^ 30 }
-    ensures { result ≡ a -ℤ b }
-{
-    a - b
-}
+// Multiples of the limit.
+ghost use Rattle.std.specs.Prelude.{◌≡◌, ◌≤◌, ◌^◌, ◌≤ℤ◌, ◌*ℤ◌, pos, unsigned_abs};
 
 pub fn twice(limit: i64) -> i64
     requires low { pos 0 ≤ℤ limit }

@@ -1,12 +1,11 @@
 // The `[[cloth]]` and `[[rope]]` entries.
-ghost use Rattle.std.specs.Prelude.{◌≡◌, if◌then◌else◌, ◌≤◌, ◌<◌, ◌+◌, ◌^◌, ◌≤ℤ◌, ◌+ℤ◌, ◌-ℤ◌, ◌*ℤ◌, ℕ, pos, length, map, unsigned_abs, nat_lt, true, IfOk, IsTrue, int_le, ◌&&◌, ◌*◌, negsuc};
+ghost use Rattle.std.specs.Prelude.{◌≡◌, ◌≤◌, ◌<◌, ◌+◌, ◌^◌, ◌≤ℤ◌, pos, length, unsigned_abs, true, IfOk, ◌*◌};
 ghost use Rattle.std.specs.List.{All};
 ghost use Rattle.toml.specs.View.{view};
-ghost use Rattle.pbd_num.specs.Vectors.{Within, minus, on_axes, is_within, squared_length};
 ghost use Rattle.pbd_mesh.specs.Cloth.{cloth_fits};
 ghost use Rattle.pbd_mesh.specs.Rope.{rope_fits};
 ghost use Rattle.pbd_scene.specs.Checks.{Gives};
-ghost use Rattle.pbd_scene.specs.Entries.{place_before, inside_before, fitting_cloth, fitting_rope, on_by, back_by, particle_of, cloth_size, all_cloths_size, all_ropes_size, room_for, cloth_of, rope_of, link_of, plane_of, reaches_within, sphere_of, row_of, step_number, key_of, step_of, steps_rise, track_of};
+ghost use Rattle.pbd_scene.specs.Entries.{fitting_cloth, fitting_rope, cloth_size, all_cloths_size, all_ropes_size, room_for, cloth_of, rope_of};
 
 use crate::arrays::members;
 use crate::axes::four_times;

@@ -1,5 +1,5 @@
 // The particles that pins and tracks name.
-ghost use Rattle.std.specs.Prelude.{◌≡◌, ◌≤◌, ◌<◌, ◌++◌, [], true, length, map, slice_set, if◌then◌else◌, IfOk, OnOk, false, replicate};
+ghost use Rattle.std.specs.Prelude.{◌≡◌, ◌≤◌, ◌<◌, [], true, length, slice_set, if◌then◌else◌, IfOk, OnOk, false, replicate};
 ghost use Rattle.pbd_world.specs.Neighbours.{HoldsTracked};
 ghost use Rattle.pbd_scene.specs.Marks.{Flags};
 ghost use Rattle.pbd_scene.specs.Checks.{Gives, each};

@@ -1,15 +1,12 @@
 // The `[[particle]]` entries.
-ghost use Rattle.std.specs.Prelude.{◌≡◌, if◌then◌else◌, ◌≤◌, ◌<◌, ◌+◌, ◌^◌, ◌≤ℤ◌, ◌+ℤ◌, ◌-ℤ◌, ◌*ℤ◌, ℕ, pos, length, map, unsigned_abs, nat_lt, true, IfOk, IsTrue, int_le, ◌&&◌, ◌*◌, negsuc};
-ghost use Rattle.std.specs.List.{All};
+ghost use Rattle.std.specs.Prelude.{◌≡◌, if◌then◌else◌, ◌≤◌, ◌<◌, ◌^◌, ◌≤ℤ◌, pos, length, unsigned_abs};
 ghost use Rattle.toml.specs.View.{view};
-ghost use Rattle.pbd_num.specs.Vectors.{Within, minus, on_axes, is_within, squared_length};
-ghost use Rattle.pbd_mesh.specs.Cloth.{cloth_fits};
-ghost use Rattle.pbd_mesh.specs.Rope.{rope_fits};
+ghost use Rattle.pbd_num.specs.Vectors.{Within};
 ghost use Rattle.pbd_scene.specs.Checks.{Gives};
-ghost use Rattle.pbd_scene.specs.Entries.{place_before, inside_before, fitting_cloth, fitting_rope, on_by, back_by, particle_of, cloth_size, all_cloths_size, all_ropes_size, room_for, cloth_of, rope_of, link_of, plane_of, reaches_within, sphere_of, row_of, step_number, key_of, step_of, steps_rise, track_of};
+ghost use Rattle.pbd_scene.specs.Entries.{place_before, inside_before, particle_of};
 
 use crate::arrays::members;
-use crate::axes::{axis_difference, twice};
+use crate::axes::twice;
 use crate::each::Reader;
 use crate::fault::{KeyName, Place, SceneFault, SceneRule, TableName};
 use crate::limit::Limit;
@@ -22,19 +19,6 @@ use toml::Value;
 #[derive(Clone, Copy)]
 pub struct Particles {
     pub limit: Limit,
-}
-
-#[tactic(auto, unfolding(crate::specs::Entries::place_before))]
-fn difference(a: Vec3, b: Vec3) -> Vec3
-    requires a { Within (2 ^ 30) a }
-    requires b { Within (2 ^ 30) b }
-    ensures { result ≡ place_before a b }
-{
-    Vec3 {
-        x: axis_difference(a.x, b.x),
-        y: axis_difference(a.y, b.y),
-        z: axis_difference(a.z, b.z),
-    }
 }
 
 fn if_held(held: bool, at: Vec3, gone: Vec3) -> Vec3
@@ -51,7 +35,7 @@ fn inside_before(limit: i64, place: Place, at: Vec3, velocity: Vec3) -> Result<V
     requires velocity { Within (2 ^ 30) velocity }
     ensures { Gives (λ v. v) result (inside_before limit place at velocity) }
 {
-    let gone = difference(at, velocity);
+    let gone = at.minus(velocity);
     expect(
         is_inside(gone, limit),
         SceneRule::OutOfRange,

@@ -1,5 +1,5 @@
 // The scene of a text.
-ghost use Rattle.std.specs.Prelude.{◌≡◌, ◌+◌, ◌≤◌, ◌≤ℤ◌, ◌^◌, ◌⊎◌, IsTrue, IfOk, Ok, true, pos, unsigned_abs, length};
+ghost use Rattle.std.specs.Prelude.{◌≤◌, ◌≤ℤ◌, ◌^◌, IsTrue, Ok, pos, unsigned_abs, length};
 ghost use Rattle.std.specs.List.{All};
 ghost use Rattle.toml.specs.View.{table_view};
 ghost use Rattle.toml.specs.Parse.{parse_document};
@@ -97,16 +97,14 @@ fn parts_of(alloc: Global, limit: i64, members: &Table) -> Result<Parts, SceneFa
     let tables = tables_of(alloc, limit, members)?;
     let mut parts = Parts {
         particles: tables.particles,
-        links: List::new(alloc),
         planes: tables.planes,
         spheres: tables.spheres,
-        tracks: List::new(alloc),
         gravity: settings.gravity,
         passes: settings.passes,
         damping: settings.damping,
         thickness: settings.thickness,
         friction: settings.friction,
-        limit,
+        ..Parts::empty(alloc, limit)
     };
     add_cloths(alloc, tables.cloths.as_slice(), &mut parts)?;
     add_ropes(alloc, tables.ropes.as_slice(), &mut parts)?;

@@ -1,15 +1,11 @@
 // The `[[plane]]` and `[[sphere]]` entries.
-ghost use Rattle.std.specs.Prelude.{◌≡◌, if◌then◌else◌, ◌≤◌, ◌<◌, ◌+◌, ◌^◌, ◌≤ℤ◌, ◌+ℤ◌, ◌-ℤ◌, ◌*ℤ◌, ℕ, pos, length, map, unsigned_abs, nat_lt, true, IfOk, IsTrue, int_le, ◌&&◌, ◌*◌, negsuc};
-ghost use Rattle.std.specs.List.{All};
+ghost use Rattle.std.specs.Prelude.{◌≡◌, ◌≤◌, ◌<◌, ◌^◌, ◌≤ℤ◌, pos, length, unsigned_abs, nat_lt, ◌&&◌};
 ghost use Rattle.toml.specs.View.{view};
-ghost use Rattle.pbd_num.specs.Vectors.{Within, minus, on_axes, is_within, squared_length};
-ghost use Rattle.pbd_mesh.specs.Cloth.{cloth_fits};
-ghost use Rattle.pbd_mesh.specs.Rope.{rope_fits};
+ghost use Rattle.pbd_num.specs.Vectors.{Within, squared_length};
 ghost use Rattle.pbd_scene.specs.Checks.{Gives};
-ghost use Rattle.pbd_scene.specs.Entries.{place_before, inside_before, fitting_cloth, fitting_rope, on_by, back_by, particle_of, cloth_size, all_cloths_size, all_ropes_size, room_for, cloth_of, rope_of, link_of, plane_of, reaches_within, sphere_of, row_of, step_number, key_of, step_of, steps_rise, track_of};
+ghost use Rattle.pbd_scene.specs.Entries.{on_by, back_by, plane_of, reaches_within, sphere_of};
 
 use crate::arrays::members;
-use crate::axes::{axis_difference, axis_sum};
 use crate::each::Reader;
 use crate::fault::{KeyName, Place, SceneFault, SceneRule, TableName};
 use crate::limit::Limit;
@@ -77,17 +73,22 @@ pub struct Spheres {
     pub limit: Limit,
 }
 
+/// The way by so much along each axis.
+fn on_each_axis(n: i64) -> Vec3
+    requires { unsigned_abs n ≤ 2 ^ 29 }
+    ensures value { result ≡ record { x = n; y = n; z = n } }
+    ensures size { Within (2 ^ 29) result }
+{
+    Vec3 { x: n, y: n, z: n }
+}
+
 #[tactic(auto, unfolding(crate::specs::Entries::on_by))]
 fn above(centre: Vec3, radius: i64) -> Vec3
     requires centre { Within (2 ^ 30) centre }
     requires radius { unsigned_abs radius ≤ 2 ^ 29 }
     ensures { result ≡ on_by radius centre }
 {
-    Vec3 {
-        x: axis_sum(centre.x, radius),
-        y: axis_sum(centre.y, radius),
-        z: axis_sum(centre.z, radius),
-    }
+    centre.plus(on_each_axis(radius))
 }
 
 #[tactic(auto, unfolding(crate::specs::Entries::back_by))]
@@ -96,11 +97,7 @@ fn below(centre: Vec3, radius: i64) -> Vec3
     requires radius { unsigned_abs radius ≤ 2 ^ 29 }
     ensures { result ≡ back_by radius centre }
 {
-    Vec3 {
-        x: axis_difference(centre.x, radius),
-        y: axis_difference(centre.y, radius),
-        z: axis_difference(centre.z, radius),
-    }
+    centre.minus(on_each_axis(radius))
 }
 
 #[tactic(auto, unfolding(crate::specs::Entries::reaches_within))]

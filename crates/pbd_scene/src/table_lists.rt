@@ -1,5 +1,5 @@
 // The entries of all tables.
-ghost use Rattle.std.specs.Prelude.{◌≡◌, ◌+◌, ◌≤◌, ◌≤ℤ◌, ◌^◌, IfOk, pos, unsigned_abs, length};
+ghost use Rattle.std.specs.Prelude.{◌+◌, ◌≤◌, ◌≤ℤ◌, ◌^◌, IfOk, pos, unsigned_abs, length};
 ghost use Rattle.toml.specs.View.{table_view};
 ghost use Rattle.pbd_scene.specs.Checks.{Gives};
 ghost use Rattle.pbd_scene.specs.Entries.{all_cloths_size};

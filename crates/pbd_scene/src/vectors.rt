@@ -1,13 +1,9 @@
 // Vectors: arrays of three integers.
-ghost use Rattle.std.specs.Prelude.{◌≡◌, [], IsTrue, ◌≤◌, ◌<◌, ◌^◌, ◌≤ℤ◌, pos, length, map, unsigned_abs, IfOk, option_map, string_bytes, Err};
-ghost use Rattle.std.specs.List.{list_all};
-ghost use Rattle.std.specs.BTreeMap.{keys};
-ghost use Rattle.toml.specs.View.{view, items_view, table_view};
-ghost use Rattle.toml.specs.Data.{get_member};
+ghost use Rattle.std.specs.Prelude.{◌≡◌, IsTrue, ◌≤◌, ◌^◌, ◌≤ℤ◌, pos, unsigned_abs, IfOk};
+ghost use Rattle.toml.specs.View.{view, table_view};
 ghost use Rattle.pbd_num.specs.Vectors.{Within, is_within, is_axis_within, zero_vector};
-ghost use Rattle.pbd_scene.specs.Checks.{Gives, broken, expect};
-ghost use Rattle.pbd_scene.specs.Keys.{key_text, table_text, is_key_of, is_table_of, is_known, all_known, known};
-ghost use Rattle.pbd_scene.specs.Values.{array_of, value_of, any_integer, integer, required_any_integer, required_integer, optional_integer, integer_or, required_count, count_or, boolean, boolean_or, three_integers, vector, required_vector, vector_or, integers, four_integers, row, required_array, members, entries, entries_of, table_of, integers_of};
+ghost use Rattle.pbd_scene.specs.Checks.{Gives, broken};
+ghost use Rattle.pbd_scene.specs.Values.{value_of, three_integers, vector, required_vector, vector_or, members};
 
 use crate::fault::{KeyName, Place, SceneFault, SceneRule};
 use crate::values::{broken, value_of};

@@ -2,4 +2,4 @@ use Rattle.pbd_scene.proofs.Joinings.{LinksSoFar}
 use Rattle.pbd_scene.proofs.joining.join_links.Given as goal
 
 abbrev pub invariant-loop-i : goal.invariant-loop-i
-invariant-loop-i l = LinksSoFar l.particles l.fn.links l.entries l.i l.links l.ends.items
+invariant-loop-i l = LinksSoFar l.particles l.fn.links l.entries l.i l.links l.lists

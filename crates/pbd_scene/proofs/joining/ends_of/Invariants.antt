@@ -1,7 +1,0 @@
-use Rattle.std.proofs.Common.{take}
-use Rattle.pbd_world.specs.Neighbours.{HoldsNeighbours}
-use Rattle.pbd_scene.proofs.joining.ends_of.Given as goal
-
--- the neighbours of the links so far
-abbrev pub invariant-loop-link : goal.invariant-loop-link
-invariant-loop-link l = HoldsNeighbours l.count (take l.link-index l.links) l.ends.items
