@@ -1,16 +1,15 @@
 -- What a world in a step gives to its parts: both places of each particle are within the limit, and the numbers are small.
-use Rattle.std.proofs.Common.{ℕ, zero, suc, ◌<◌, ◌≤◌, ◌^◌, ◌&&◌, List, [], ◌∷◌, length, arith, ℤ, pos, unsigned_abs}
+use Rattle.std.proofs.Common.{ℕ, ◌<◌, ◌≤◌, ◌^◌, ◌&&◌, length, pos, unsigned_abs}
 use Rattle.std.specs.Prelude.{IsTrue, nat_le}
-use Rattle.std.specs.List.{AllByRecursion, list_all}
+use Rattle.std.specs.List.{list_all}
 use Rattle.std.proofs.lemmas.Bool.{and_parts}
 use Rattle.pbd_num.specs.Vectors.{Within}
 use Rattle.pbd_num.proofs.Ranges.{within_facts, wider}
-use Rattle.pbd_world.specs.declared.parts.Particle.{Particle}
 use Rattle.pbd_world.specs.Particles.{particle_at}
 use Rattle.pbd_world.specs.Valid.{is_between, is_valid_particle, is_well_formed}
 use Rattle.pbd_world.specs.World.{World, parts_of, IsSound}
 use Rattle.pbd_world.proofs.OtherParticle.{fit_at}
-use Rattle.pbd_world.proofs.WorldParts.{formed, limit_of, numbers_of, IsFit, all_fit}
+use Rattle.pbd_world.proofs.WorldParts.{formed, limit_of, numbers_of, all_fit}
 use Rattle.pbd_shape.specs.Rubbing.{AreWithin}
 
 pub formed_within : (w : World) → IsTrue (is_well_formed (parts_of w)) → AreWithin w.limit w.particles

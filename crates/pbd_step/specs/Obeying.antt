@@ -5,6 +5,7 @@ use Rattle.pbd_world.specs.World.{World}
 
 -- a command on a part S of what makes up a world: it has led to the world that is meant, or it is refused as it is meant to be
 -- and the part is as it was
-pub record Obeys {S : Type 0} (world : S → World) (r : Result (Unit {0}) Refusal) (meant : Result World Refusal) (old new : S) : Type 0 where
+pub record Obeys {S : Type 0} (world : S → World) (r : Result (Unit {0}) Refusal)
+    (meant : Result World Refusal) (old new : S) : Type 0 where
   pub outcome : MatchResult r (λ _. meant ≡ Ok (world new)) (λ refusal. meant ≡ Err refusal)
   pub kept : OnErr r (new ≡ old)

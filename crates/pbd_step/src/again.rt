@@ -1,6 +1,6 @@
 // Taking over another state, with the colours of its links.
-ghost use Rattle.std.specs.Prelude.{◌≡◌, ◌<◌, ◌≤◌, length, IfOk};
-ghost use Rattle.pbd_world.specs.Contacts.{link_pairs, live_flags};
+ghost use Rattle.std.specs.Prelude.{◌≡◌, ◌≤◌, length, IfOk};
+ghost use Rattle.pbd_world.specs.Contacts.{link_pairs};
 ghost use Rattle.pbd_colour.specs.Pairs.{InRange};
 ghost use Rattle.pbd_step.specs.declared.state.Setting.{Setting};
 ghost use Rattle.pbd_step.specs.States.{world_of, HasLinks, HaveSpace};

@@ -39,13 +39,18 @@ fn project_colours<const L: usize, P: Projector<L>, G: Ledger>(
     requires room { HaveRoom (2 ^ 119) (ledger_of totals.old) }
     requires counted { P.count projector.old ≤ 2 ^ 64 - 1 }
     ensures outcome { MatchResult result
-        (λ _. projected store.old.limit (bond_of bonds.entry) (parallel_from colours.now.pairs colours.now.live 0) (motion_of store.old totals.old) ≡ Ok (motion_of store.new totals.new))
-        (λ left. projected store.old.limit (bond_of bonds.entry) (parallel_from colours.now.pairs colours.now.live 0) (motion_of store.old totals.old) ≡ Err left.element) }
+        (λ _. projected store.old.limit (bond_of bonds.entry) (parallel_from colours.now.pairs colours.now.live 0)
+        (motion_of store.old totals.old) ≡ Ok (motion_of store.new totals.new))
+        (λ left. projected store.old.limit (bond_of bonds.entry) (parallel_from colours.now.pairs colours.now.live 0)
+        (motion_of store.old totals.old) ≡ Err left.element) }
     ensures limit { store.new.limit ≡ store.old.limit }
     ensures fixed { fixed_parts store.new.particles ≡ fixed_parts store.old.particles }
     ensures inside { OnOk result (AreInside store.old.limit store.new.particles) }
-    ensures room { OnOk result ((n : ℕ) → HaveRoom n (ledger_of totals.old) → HaveRoom (n + length (parallel_from colours.now.pairs colours.now.live 0) * 2 ^ 32) (ledger_of totals.new)) }
-    ensures handed { OnOk result (P.count projector.new ≡ min (P.count projector.old + length (parallel_from colours.now.pairs colours.now.live 0)) (2 ^ 64 - 1)) }
+    ensures room { OnOk result
+        ((n : ℕ) → HaveRoom n (ledger_of totals.old)
+        → HaveRoom (n + length (parallel_from colours.now.pairs colours.now.live 0) * 2 ^ 32) (ledger_of totals.new)) }
+    ensures handed { OnOk result
+        (P.count projector.new ≡ min (P.count projector.old + length (parallel_from colours.now.pairs colours.now.live 0)) (2 ^ 64 - 1)) }
     ensures not_fallen { P.count projector.old ≤ P.count projector.new }
     ensures width { P.width projector.new ≡ P.width projector.old }
 {
@@ -75,13 +80,18 @@ fn project_serial<const L: usize, P: Projector<L>, G: Ledger>(
     requires room { HaveRoom (2 ^ 119 + 2 ^ 57) (ledger_of totals.old) }
     requires counted { P.count projector.old ≤ 2 ^ 64 - 1 }
     ensures outcome { MatchResult result
-        (λ _. projected store.old.limit (bond_of bonds.entry) (batch_of colours.now.pairs colours.now.live 63) (motion_of store.old totals.old) ≡ Ok (motion_of store.new totals.new))
-        (λ left. projected store.old.limit (bond_of bonds.entry) (batch_of colours.now.pairs colours.now.live 63) (motion_of store.old totals.old) ≡ Err left.element) }
+        (λ _. projected store.old.limit (bond_of bonds.entry) (batch_of colours.now.pairs colours.now.live 63)
+        (motion_of store.old totals.old) ≡ Ok (motion_of store.new totals.new))
+        (λ left. projected store.old.limit (bond_of bonds.entry) (batch_of colours.now.pairs colours.now.live 63)
+        (motion_of store.old totals.old) ≡ Err left.element) }
     ensures limit { store.new.limit ≡ store.old.limit }
     ensures fixed { fixed_parts store.new.particles ≡ fixed_parts store.old.particles }
     ensures inside { OnOk result (AreInside store.old.limit store.new.particles) }
-    ensures room { OnOk result ((n : ℕ) → HaveRoom n (ledger_of totals.old) → HaveRoom (n + length (batch_of colours.now.pairs colours.now.live 63) * 2 ^ 32) (ledger_of totals.new)) }
-    ensures handed { OnOk result (P.count projector.new ≡ min (P.count projector.old + length (batch_of colours.now.pairs colours.now.live 63)) (2 ^ 64 - 1)) }
+    ensures room { OnOk result
+        ((n : ℕ) → HaveRoom n (ledger_of totals.old)
+        → HaveRoom (n + length (batch_of colours.now.pairs colours.now.live 63) * 2 ^ 32) (ledger_of totals.new)) }
+    ensures handed { OnOk result
+        (P.count projector.new ≡ min (P.count projector.old + length (batch_of colours.now.pairs colours.now.live 63)) (2 ^ 64 - 1)) }
     ensures not_fallen { P.count projector.old ≤ P.count projector.new }
     ensures width { P.width projector.new ≡ P.width projector.old }
 {
@@ -112,13 +122,16 @@ pub(crate) fn project_all<const L: usize, P: Projector<L>, G: Ledger>(
     requires few { length colours.now.pairs ≤ 524288 }
     requires room { HaveRoom (2 ^ 119) (ledger_of totals.old) }
     ensures outcome { MatchResult result
-        (λ _. projected store.old.limit (bond_of bonds.entry) (order colours.now.pairs colours.now.live) (motion_of store.old totals.old) ≡ Ok (motion_of store.new totals.new))
-        (λ left. projected store.old.limit (bond_of bonds.entry) (order colours.now.pairs colours.now.live) (motion_of store.old totals.old) ≡ Err left.element) }
+        (λ _. projected store.old.limit (bond_of bonds.entry) (order colours.now.pairs colours.now.live) (motion_of store.old totals.old)
+        ≡ Ok (motion_of store.new totals.new))
+        (λ left. projected store.old.limit (bond_of bonds.entry) (order colours.now.pairs colours.now.live)
+        (motion_of store.old totals.old) ≡ Err left.element) }
     ensures limit { store.new.limit ≡ store.old.limit }
     ensures fixed { fixed_parts store.new.particles ≡ fixed_parts store.old.particles }
     ensures inside { OnOk result (AreInside store.old.limit store.new.particles) }
     ensures room { OnOk result ((n : ℕ) → HaveRoom n (ledger_of totals.old) → HaveRoom (n + 2 ^ 60) (ledger_of totals.new)) }
-    ensures handed { OnOk result (P.count projector.new ≡ min (P.count projector.old + length (order colours.now.pairs colours.now.live)) (2 ^ 64 - 1)) }
+    ensures handed { OnOk result
+        (P.count projector.new ≡ min (P.count projector.old + length (order colours.now.pairs colours.now.live)) (2 ^ 64 - 1)) }
     ensures not_fallen { P.count projector.old ≤ P.count projector.new }
     ensures width { P.width projector.new ≡ P.width projector.old }
 {

@@ -1,5 +1,5 @@
 // The commands that are no steps. After a refusal the state is as it was.
-ghost use Rattle.std.specs.Prelude.{◌≡◌, ◌+◌, ◌<◌, ◌≤◌, ◌^◌, ℕ, neg_ℤ, ◌-ℤ◌, unsigned_abs, length, IfSome, IfNone, false};
+ghost use Rattle.std.specs.Prelude.{◌≡◌, ◌<◌, ◌≤◌, ◌^◌, length, IfSome, IfNone, false};
 ghost use Rattle.pbd_world.specs.Meaning.{pin as pinned_world, unpin as unpinned_world, place_held as placed_world, cut as cut_world, set_gravity as pulled_world};
 ghost use Rattle.pbd_num.specs.Vectors.{Within, opposite};
 ghost use Rattle.pbd_world.specs.Particles.{velocity};
@@ -47,15 +47,6 @@ fn resting(at: Vec3, weight: u16, held: bool) -> Particle
     }
 }
 
-fn lost_axis(at: i64, before: i64) -> i64
-    requires at { unsigned_abs at ≤ 2 ^ 29 }
-    requires before { unsigned_abs before ≤ 2 ^ 29 }
-    ensures value { result ≡ neg_ℤ (at -ℤ before) }
-    ensures size { unsigned_abs result ≤ 2 ^ 30 }
-{
-    -(at - before)
-}
-
 /// What momentum gains where a particle is held: its velocity, turned round.
 fn lost(p: Particle) -> Vec3
     requires at { Within (2 ^ 29) p.at }
@@ -63,11 +54,7 @@ fn lost(p: Particle) -> Vec3
     ensures value { result ≡ opposite (velocity p) }
     ensures size { Within (2 ^ 30) result }
 {
-    Vec3 {
-        x: lost_axis(p.at.x, p.before.x),
-        y: lost_axis(p.at.y, p.before.y),
-        z: lost_axis(p.at.z, p.before.z),
-    }
+    p.at.minus(p.before).opposite()
 }
 
 /// Holds particle i where it is, and books its velocity to pin.

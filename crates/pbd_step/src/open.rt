@@ -6,6 +6,7 @@ ghost use Rattle.pbd_step.specs.States.{HasLinks, HaveSpace};
 
 use crate::again::open_colours;
 use crate::state::{Running, Setting, State, Tools};
+use pbd_colour::Colouring;
 use pbd_ledger::momentum_of;
 use pbd_pair::Projector;
 use pbd_self::SelfContacts;
@@ -36,7 +37,7 @@ fn copied_tracks(alloc: Global, tracks: &[Track]) -> Result<List<Track>, AllocEr
 }
 
 /// What no step changes of some parts.
-pub(crate) fn open_setting(alloc: Global, parts: &Parts) -> Result<Setting, AllocError>
+fn open_setting(alloc: Global, parts: &Parts) -> Result<Setting, AllocError>
     requires { length parts.now.particles ≤ 65536 }
     ensures { IfOk result (λ setting. AreCopied parts.now setting) }
 {
@@ -58,10 +59,7 @@ pub(crate) fn open_setting(alloc: Global, parts: &Parts) -> Result<Setting, Allo
 }
 
 /// What steps change of some parts, before the first.
-pub(crate) fn open_state<const L: usize>(
-    alloc: Global,
-    parts: &Parts,
-) -> Result<State<L>, AllocError>
+fn open_state<const L: usize>(alloc: Global, parts: &Parts) -> Result<State<L>, AllocError>
     requires lanes { L ≤ 16 }
     requires valid { IsTrue (is_valid parts.now) }
     ensures { IfOk result (λ state. IsFirst parts.now state) }
@@ -77,6 +75,44 @@ pub(crate) fn open_state<const L: usize>(
     })
 }
 
+/// What no step changes of some parts, and a second state of them before the first step.
+pub(crate) fn open_kept<const L: usize>(
+    alloc: Global,
+    parts: &Parts,
+) -> Result<(Setting, State<L>), AllocError>
+    requires lanes { L ≤ 16 }
+    requires valid { IsTrue (is_valid parts.now) }
+    ensures setting { IfOk result (λ both. AreCopied parts.now both.0) }
+    ensures state { IfOk result (λ both. IsFirst parts.now both.1) }
+{
+    let setting = open_setting(alloc, parts)?;
+    match open_state(alloc, parts) {
+        Ok(state) => Ok((setting, state)),
+        Err(AllocError) => {
+            drop(setting);
+            Err(AllocError)
+        }
+    }
+}
+
+// Lists of pairs and of numbers with room for so many links.
+fn open_lists(
+    alloc: Global,
+    links: u32,
+) -> Result<(RoomList<(u32, u32)>, RoomList<u32>), AllocError>
+    ensures pairs { IfOk result (λ lists. lists.0.room ≡ links) }
+    ensures numbers { IfOk result (λ lists. lists.1.room ≡ links) }
+{
+    let pairs = RoomList::open(alloc, links)?;
+    match RoomList::open(alloc, links) {
+        Ok(numbers) => Ok((pairs, numbers)),
+        Err(AllocError) => {
+            drop(pairs);
+            Err(AllocError)
+        }
+    }
+}
+
 // Tools of these contacts and flags, with room for so many links.
 fn with_room(
     alloc: Global,
@@ -87,25 +123,52 @@ fn with_room(
     requires { length touched ≡ found.particles }
     ensures { IfOk result (HaveSpace found.particles links) }
 {
-    let pairs = RoomList::open(alloc, links)?;
-    let numbers = RoomList::open(alloc, links)?;
-    Ok(Tools {
-        found,
-        touched,
-        pairs,
-        numbers,
-    })
+    match open_lists(alloc, links) {
+        Ok((pairs, numbers)) => Ok(Tools {
+            found,
+            touched,
+            pairs,
+            numbers,
+        }),
+        Err(AllocError) => {
+            drop(touched);
+            drop(found);
+            Err(AllocError)
+        }
+    }
 }
 
 /// Room for what a step works with.
-pub(crate) fn open_tools(alloc: Global, particles: u32, links: u32) -> Result<Tools, AllocError>
+fn open_tools(alloc: Global, particles: u32, links: u32) -> Result<Tools, AllocError>
     requires particles { particles ≤ 65536 }
     requires links { links ≤ 524288 }
     ensures { IfOk result (HaveSpace particles links) }
 {
     let found = SelfContacts::open(alloc, particles)?;
-    let touched = Touched::open(alloc, particles)?;
-    with_room(alloc, found, touched, links)
+    match Touched::open(alloc, particles) {
+        Ok(touched) => with_room(alloc, found, touched, links),
+        Err(AllocError) => {
+            drop(found);
+            Err(AllocError)
+        }
+    }
+}
+
+/// The colours of the links, and room for what a step works with.
+fn open_coloured(alloc: Global, parts: &Parts) -> Result<(Tools, Colouring), AllocError>
+    requires { IsTrue (is_valid parts.now) }
+    ensures links { IfOk result (λ both. HasLinks (length parts.now.particles) parts.now.links both.1) }
+    ensures space { IfOk result (λ both. HaveSpace (length parts.now.particles) (length parts.now.links) both.0) }
+{
+    let particles = parts.particles.len() as u32;
+    let mut tools = open_tools(alloc, particles, parts.links.len() as u32)?;
+    match open_colours(alloc, particles, parts.links.as_slice(), &mut tools) {
+        Ok(colours) => Ok((tools, colours)),
+        Err(AllocError) => {
+            drop(tools);
+            Err(AllocError)
+        }
+    }
 }
 
 /// A state before the first step, with what its steps work with.
@@ -121,14 +184,24 @@ pub(crate) fn open_running<const L: usize, P: Projector<L> + Drop>(
     ensures space { IfOk result (λ run. HaveSpace (length parts.now.particles) (length parts.now.links) run.tools) }
     ensures projector { IfOk result (λ run. run.projector ≡ projector) }
 {
-    let particles = parts.particles.len() as u32;
-    let state = open_state(alloc, parts)?;
-    let mut tools = open_tools(alloc, particles, parts.links.len() as u32)?;
-    let colours = open_colours(alloc, particles, parts.links.as_slice(), &mut tools)?;
-    Ok(Running {
-        state,
-        colours,
-        tools,
-        projector,
-    })
+    match open_coloured(alloc, parts) {
+        Ok((tools, colours)) => match open_state(alloc, parts) {
+            Ok(state) => Ok(Running {
+                state,
+                colours,
+                tools,
+                projector,
+            }),
+            Err(AllocError) => {
+                drop(colours);
+                drop(tools);
+                drop(projector);
+                Err(AllocError)
+            }
+        },
+        Err(AllocError) => {
+            drop(projector);
+            Err(AllocError)
+        }
+    }
 }

@@ -30,12 +30,17 @@ fn project_links<const L: usize, P: Projector<L> + Drop, G: Ledger>(
     requires links { HasLinks (length run.old.state.store.particles) run.old.state.links.items run.old.colours }
     requires movable { AreMovable (2 ^ 119) run.old.state.store.limit run.old.state.store.particles (ledger_of run.old.state.totals) }
     ensures outcome { MatchResult result
-        (λ _. projected run.old.state.store.limit (link_bond run.old.state.links.items) (link_order run.old.state.links.items) (now_of run.old.state) ≡ Ok (now_of run.new.state))
-        (λ left. projected run.old.state.store.limit (link_bond run.old.state.links.items) (link_order run.old.state.links.items) (now_of run.old.state) ≡ Err left.element) }
+        (λ _. projected run.old.state.store.limit (link_bond run.old.state.links.items)
+        (link_order run.old.state.links.items) (now_of run.old.state) ≡ Ok (now_of run.new.state))
+        (λ left. projected run.old.state.store.limit (link_bond run.old.state.links.items)
+        (link_order run.old.state.links.items) (now_of run.old.state) ≡ Err left.element) }
     ensures stays { StaysInPass P.count P.width run.old run.new }
     ensures tools { run.new.tools ≡ run.old.tools }
-    ensures movable { OnOk result ((n : ℕ) → AreMovable n run.old.state.store.limit run.old.state.store.particles (ledger_of run.old.state.totals) → AreMovable (n + 2 ^ 60) run.new.state.store.limit run.new.state.store.particles (ledger_of run.new.state.totals)) }
-    ensures handed { OnOk result (P.count run.new.projector ≡ min (P.count run.old.projector + live_count run.old.state.links.items) (2 ^ 64 - 1)) }
+    ensures movable { OnOk result
+        ((n : ℕ) → AreMovable n run.old.state.store.limit run.old.state.store.particles (ledger_of run.old.state.totals)
+        → AreMovable (n + 2 ^ 60) run.new.state.store.limit run.new.state.store.particles (ledger_of run.new.state.totals)) }
+    ensures handed { OnOk result
+        (P.count run.new.projector ≡ min (P.count run.old.projector + live_count run.old.state.links.items) (2 ^ 64 - 1)) }
 {
     project_all(
         &mut run.projector,
@@ -60,20 +65,26 @@ fn project_contacts<const L: usize, P: Projector<L> + Drop, G: Ledger>(
     requires found { run.old.tools.found.particles ≡ length run.old.state.store.particles }
     requires movable { AreMovable (2 ^ 119) run.old.state.store.limit run.old.state.store.particles (ledger_of run.old.state.totals) }
     ensures outcome { MatchResult result
-        (λ _. projected run.old.state.store.limit (contact_bond thickness run.old.tools.found.pairs) (contact_order run.old.tools.found.pairs) (now_of run.old.state) ≡ Ok (now_of run.new.state))
-        (λ left. projected run.old.state.store.limit (contact_bond thickness run.old.tools.found.pairs) (contact_order run.old.tools.found.pairs) (now_of run.old.state) ≡ Err left.element) }
+        (λ _. projected run.old.state.store.limit (contact_bond thickness run.old.tools.found.pairs)
+        (contact_order run.old.tools.found.pairs) (now_of run.old.state) ≡ Ok (now_of run.new.state))
+        (λ left. projected run.old.state.store.limit (contact_bond thickness run.old.tools.found.pairs)
+        (contact_order run.old.tools.found.pairs) (now_of run.old.state) ≡ Err left.element) }
     ensures stays { StaysInPass P.count P.width run.old run.new }
     ensures tools { run.new.tools ≡ run.old.tools }
-    ensures movable { OnOk result ((n : ℕ) → AreMovable n run.old.state.store.limit run.old.state.store.particles (ledger_of run.old.state.totals) → AreMovable (n + 2 ^ 60) run.new.state.store.limit run.new.state.store.particles (ledger_of run.new.state.totals)) }
-    ensures handed { OnOk result (P.count run.new.projector ≡ min (P.count run.old.projector + length run.old.tools.found.pairs) (2 ^ 64 - 1)) }
+    ensures movable { OnOk result
+        ((n : ℕ) → AreMovable n run.old.state.store.limit run.old.state.store.particles (ledger_of run.old.state.totals)
+        → AreMovable (n + 2 ^ 60) run.new.state.store.limit run.new.state.store.particles (ledger_of run.new.state.totals)) }
+    ensures handed { OnOk result
+        (P.count run.new.projector ≡ min (P.count run.old.projector + length run.old.tools.found.pairs) (2 ^ 64 - 1)) }
 {
+    let projector = &mut run.projector;
     let found = &run.tools.found;
     let bonds = Bonds::Contacts {
         pairs: found.pairs(),
         thickness,
     };
     project_all(
-        &mut run.projector,
+        projector,
         &mut run.state.store,
         bonds,
         found.colouring(),
@@ -95,8 +106,11 @@ fn project_once<const L: usize, P: Projector<L> + Drop, G: Ledger>(
         (λ _. passed (world_of setting.now run.old.state) run.old.tools.found.pairs (passing_of run.old) ≡ Ok (passing_of run.new))
         (λ refusal. passed (world_of setting.now run.old.state) run.old.tools.found.pairs (passing_of run.old) ≡ Err refusal) }
     ensures stays { StaysInPass P.count P.width run.old run.new }
-    ensures under_way { OnOk result ((n : ℕ) → IsUnderWay n (world_of setting.now run.old.state) → IsUnderWay (n + 2 ^ 62) (world_of setting.now run.new.state)) }
-    ensures handed { OnOk result (P.count run.new.projector ≡ min (P.count run.old.projector + (live_count run.old.state.links.items + length run.old.tools.found.pairs)) (2 ^ 64 - 1)) }
+    ensures under_way { OnOk result
+        ((n : ℕ) → IsUnderWay n (world_of setting.now run.old.state) → IsUnderWay (n + 2 ^ 62) (world_of setting.now run.new.state)) }
+    ensures handed { OnOk result
+        (P.count run.new.projector
+        ≡ min (P.count run.old.projector + (live_count run.old.state.links.items + length run.old.tools.found.pairs)) (2 ^ 64 - 1)) }
 {
     let taken = run.state.steps;
     if let Err(left) = project_links(run, steps) {
@@ -129,11 +143,16 @@ pub(crate) fn project_in_passes<const L: usize, P: Projector<L> + Drop, G: Ledge
     requires lanes_high { L ≤ 16 }
     requires going { IsGoing (2 ^ 100) setting.now run.old }
     ensures outcome { MatchResult result
-        (λ _. repeated setting.now.passes (passed (world_of setting.now run.old.state) run.old.tools.found.pairs) (passing_of run.old) ≡ Ok (passing_of run.new))
-        (λ refusal. repeated setting.now.passes (passed (world_of setting.now run.old.state) run.old.tools.found.pairs) (passing_of run.old) ≡ Err refusal) }
+        (λ _. repeated setting.now.passes (passed (world_of setting.now run.old.state) run.old.tools.found.pairs) (passing_of run.old)
+        ≡ Ok (passing_of run.new))
+        (λ refusal. repeated setting.now.passes (passed (world_of setting.now run.old.state) run.old.tools.found.pairs)
+        (passing_of run.old) ≡ Err refusal) }
     ensures stays { StaysInPass P.count P.width run.old run.new }
     ensures under_way { OnOk result (IsUnderWay (2 ^ 101) (world_of setting.now run.new.state)) }
-    ensures handed { OnOk result (P.count run.new.projector ≡ min (P.count run.old.projector + setting.now.passes * (live_count run.old.state.links.items + length run.old.tools.found.pairs)) (2 ^ 64 - 1)) }
+    ensures handed { OnOk result
+        (P.count run.new.projector
+        ≡ min (P.count run.old.projector + setting.now.passes * (live_count run.old.state.links.items + length run.old.tools.found.pairs))
+        (2 ^ 64 - 1)) }
 {
     counts(&run.projector);
     for _ in 0..setting.passes {

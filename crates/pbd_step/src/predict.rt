@@ -1,6 +1,5 @@
 // The start of a step: held particles are attached and free ones predicted.
-ghost use Rattle.std.specs.Prelude.{◌≡◌, ◌+◌, ◌-◌, ◌*◌, ◌<◌, ◌≤◌, ◌^◌, min, [], ◌∷◌, List, ℕ, pos, ◌+ℤ◌, ◌-ℤ◌, ◌*ℤ◌, ◌≤ℤ◌, unsigned_abs, length, slice_index_or, None, MatchOption, IfSome, OnOk, IfOk, MatchResult, Result, Ok, Err};
-ghost use Rattle.pbd_num.specs.Rounding.{rdiv as rounded};
+ghost use Rattle.std.specs.Prelude.{◌≡◌, ◌+◌, ◌-◌, ◌*◌, ◌<◌, ◌≤◌, ◌^◌, min, [], ◌∷◌, List, ℕ, pos, ◌≤ℤ◌, unsigned_abs, length, slice_index_or, None, MatchOption, IfSome, OnOk, IfOk, MatchResult, Result, Ok, Err};
 ghost use Rattle.pbd_num.specs.Vectors.{Within, zero_vector, plus, minus, opposite};
 ghost use Rattle.pbd_world.specs.declared.parts.Particle.{Particle};
 ghost use Rattle.pbd_world.specs.declared.totals.Class.TheVariants as classes;
@@ -51,7 +50,8 @@ fn book(totals: &mut Totals, gravity: Vec3, loss: Vec3)
     requires gravity { Within (2 ^ 29) gravity }
     requires loss { Within (2 ^ 30) loss }
     requires room { HaveRoom (2 ^ 120) (ledger_of totals.old) }
-    ensures totals { ledger_of totals.new ≡ booked (ledger_of totals.old) ((classes.Gravity, gravity) ∷ (classes.Damping, opposite loss) ∷ []) }
+    ensures totals { ledger_of totals.new
+        ≡ booked (ledger_of totals.old) ((classes.Gravity, gravity) ∷ (classes.Damping, opposite loss) ∷ []) }
     ensures room { (n : ℕ) → HaveRoom n (ledger_of totals.old) → HaveRoom (n + 2 ^ 31) (ledger_of totals.new) }
 {
     totals.add(Class::Gravity, gravity);
@@ -76,8 +76,11 @@ fn advance(setting: &Setting, limit: i64, flight: Flight, totals: &mut Totals) -
     requires gravity { Within (2 ^ 29) setting.now.gravity }
     requires room { HaveRoom (2 ^ 120) (ledger_of totals.old) }
     ensures outcome { (i weight : ℕ) → MatchOption result
-        (predicted (bare_world setting.now limit) i (record { at = flight.at; before = flight.before; weight = weight; held = flight.held }) ≡ None)
-        (λ place. Advanced (bare_world setting.now limit) i (record { at = flight.at; before = flight.before; weight = weight; held = flight.held }) place (ledger_of totals.old) (ledger_of totals.new)) }
+        (predicted (bare_world setting.now limit) i
+        (record { at = flight.at; before = flight.before; weight = weight; held = flight.held }) ≡ None)
+        (λ place. Advanced (bare_world setting.now limit) i
+        (record { at = flight.at; before = flight.before; weight = weight; held = flight.held }) place
+        (ledger_of totals.old) (ledger_of totals.new)) }
     ensures within { IfSome result (λ place. Within (unsigned_abs limit) place) }
     ensures room { (n : ℕ) → HaveRoom n (ledger_of totals.old) → HaveRoom (n + 2 ^ 31) (ledger_of totals.new) }
 {
@@ -105,20 +108,27 @@ fn advance_lanes<const L: usize>(
     requires lanes_low { 0 < L }
     requires lanes_high { L ≤ 16 }
     requires block { block < blocks_of (length store.now.particles) L }
-    requires at { (j : ℕ) → j < L → place_of lanes.now.at.x lanes.now.at.y lanes.now.at.z j ≡ (particle_at store.now.particles (block * L + j)).at }
-    requires before { (j : ℕ) → j < L → place_of lanes.now.before.x lanes.now.before.y lanes.now.before.z j ≡ (particle_at store.now.particles (block * L + j)).before }
+    requires at { (j : ℕ) → j < L → place_of lanes.now.at.x lanes.now.at.y lanes.now.at.z j
+        ≡ (particle_at store.now.particles (block * L + j)).at }
+    requires before { (j : ℕ) → j < L → place_of lanes.now.before.x lanes.now.before.y lanes.now.before.z j
+        ≡ (particle_at store.now.particles (block * L + j)).before }
     requires held { (j : ℕ) → j < L → is_set lanes.now.held j ≡ (particle_at store.now.particles (block * L + j)).held }
     requires within { AreWithin store.now.limit store.now.particles }
     requires damping { unsigned_abs setting.now.damping ≤ 1024 }
     requires gravity { Within (2 ^ 29) setting.now.gravity }
     requires room { HaveRoom (2 ^ 110) (ledger_of totals.old) }
     ensures outcome { MatchResult result
-        (λ places. (qs : List Particle) → Saved L (block * L) (filled_lanes L block store.now.particles) (λ j. slice_index_or places j zero_vector) (λ j. (particle_at store.now.particles (block * L + j)).at) store.now.particles qs
+        (λ places. (qs : List Particle)
+        → Saved L (block * L) (filled_lanes L block store.now.particles) (λ j. slice_index_or places j zero_vector)
+        (λ j. (particle_at store.now.particles (block * L + j)).at) store.now.particles qs
         → predicted_from (bare_world setting.now store.now.limit) (block * L + L) (record { particles = qs; totals = ledger_of totals.new })
         ≡ predicted_from (bare_world setting.now store.now.limit) (block * L) (motion_of store.now totals.old))
         (λ left. predicted_from (bare_world setting.now store.now.limit) (block * L) (motion_of store.now totals.old) ≡ Err left.element) }
-    ensures within { IfOk result (λ places. (j : ℕ) → j < L → block * L + j < length store.now.particles → Within (unsigned_abs store.now.limit) (slice_index_or places j zero_vector)) }
-    ensures room { (n : ℕ) → HaveRoom n (ledger_of totals.old) → HaveRoom (n + (min (block * L + L) (length store.now.particles) - block * L) * 2 ^ 31) (ledger_of totals.new) }
+    ensures within { IfOk result
+        (λ places. (j : ℕ) → j < L → block * L + j < length store.now.particles
+        → Within (unsigned_abs store.now.limit) (slice_index_or places j zero_vector)) }
+    ensures room { (n : ℕ) → HaveRoom n (ledger_of totals.old)
+        → HaveRoom (n + (min (block * L + L) (length store.now.particles) - block * L) * 2 ^ 31) (ledger_of totals.new) }
 {
     let limit = store.limit();
     let span = store.span(block);
@@ -156,11 +166,13 @@ fn advance_block<const L: usize, G: Ledger>(
     requires gravity { Within (2 ^ 29) setting.now.gravity }
     requires room { HaveRoom (2 ^ 110) (ledger_of state.old.totals) }
     ensures outcome { MatchResult result
-        (λ _. predicted_from (bare_world setting.now state.old.store.limit) (block * L + L) (now_of state.new) ≡ predicted_from (bare_world setting.now state.old.store.limit) (block * L) (now_of state.old))
+        (λ _. predicted_from (bare_world setting.now state.old.store.limit) (block * L + L) (now_of state.new)
+        ≡ predicted_from (bare_world setting.now state.old.store.limit) (block * L) (now_of state.old))
         (λ left. predicted_from (bare_world setting.now state.old.store.limit) (block * L) (now_of state.old) ≡ Err left.element) }
     ensures moved { IsMoved state.old state.new }
     ensures within { AreWithin state.old.store.limit state.new.store.particles }
-    ensures room { (n : ℕ) → HaveRoom n (ledger_of state.old.totals) → HaveRoom (n + (min (block * L + L) (length state.old.store.particles) - block * L) * 2 ^ 31) (ledger_of state.new.totals) }
+    ensures room { (n : ℕ) → HaveRoom n (ledger_of state.old.totals)
+        → HaveRoom (n + (min (block * L + L) (length state.old.store.particles) - block * L) * 2 ^ 31) (ledger_of state.new.totals) }
     ensures cost { steps.new ≤ steps.old + 2 }
 {
     let mut lanes = state.store.load(block, steps);

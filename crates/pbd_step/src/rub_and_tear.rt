@@ -1,11 +1,15 @@
 // The end of a step: friction, and the links that tear.
-ghost use Rattle.std.specs.Prelude.{◌≡◌, ◌<◌, ◌≤◌, ◌^◌, ℕ, length, slice_index};
+ghost use Rattle.std.specs.Prelude.{◌≡◌, ◌<◌, ◌≤◌, ◌^◌, ℕ, length, slice_index, IsTrue};
+ghost use Rattle.std.specs.List.Sorted.{IsStrictlyIncreasing};
+ghost use Rattle.pbd_world.specs.Colours.{live_at};
+ghost use Rattle.pbd_colour.specs.Pairs.{dropped};
 ghost use Rattle.pbd_world.specs.Step.{settled, rub as rubbed_motion};
 ghost use Rattle.pbd_step.specs.States.{world_of, HasLinks};
 ghost use Rattle.pbd_step.specs.Staying.{IsGoing, StaysInStep, passing_of};
 ghost use Rattle.pbd_step.specs.Settling.{LetGo};
 
 use crate::state::{Running, Setting};
+use pbd_colour::Colouring;
 use pbd_pair::Projector;
 use pbd_shape::rub;
 use pbd_store::Steps;
@@ -23,6 +27,18 @@ fn let_go(links: &mut Vec<Link>, numbers: &[u32])
     }
 }
 
+/// Lets the links of some numbers go together, and mends the colours of the others.
+fn tear(links: &mut Vec<Link>, colours: &mut Colouring, numbers: &[u32])
+    requires within { (k : ℕ) → k < length numbers.now → slice_index numbers.now k < length links.old.items }
+    requires increasing { IsStrictlyIncreasing numbers.now }
+    requires live { (k : ℕ) → k < length numbers.now → IsTrue (live_at colours.old.live (slice_index numbers.now k)) }
+    ensures links { LetGo numbers.now links.old.items links.new.items }
+    ensures colours { colours.new ≡ record colours.old { live = dropped numbers.now colours.old.live } }
+{
+    let_go(links, numbers);
+    colours.drop_pairs(numbers);
+}
+
 /// Slows the particles that shapes touched, lets all links that are too long go together, mends the colours of
 /// the others, and counts the step.
 pub(crate) fn rub_and_tear<const L: usize, P: Projector<L> + Drop, G: Ledger>(
@@ -33,7 +49,8 @@ pub(crate) fn rub_and_tear<const L: usize, P: Projector<L> + Drop, G: Ledger>(
     requires lanes_low { 0 < L }
     requires lanes_high { L ≤ 16 }
     requires going { IsGoing (2 ^ 102) setting.now run.old }
-    ensures world { world_of setting.now run.new.state ≡ settled (world_of setting.now run.old.state) run.old.tools.found.pairs (rubbed_motion setting.now.friction (passing_of run.old)) }
+    ensures world { world_of setting.now run.new.state
+        ≡ settled (world_of setting.now run.old.state) run.old.tools.found.pairs (rubbed_motion setting.now.friction (passing_of run.old)) }
     ensures links { HasLinks (length run.old.state.store.particles) run.new.state.links.items run.new.colours }
     ensures stays { StaysInStep P.count P.width run.old run.new }
     ensures projector { run.new.projector ≡ run.old.projector }
@@ -52,8 +69,11 @@ pub(crate) fn rub_and_tear<const L: usize, P: Projector<L> + Drop, G: Ledger>(
         &mut run.tools.numbers,
         steps,
     );
-    let_go(&mut run.state.links, run.tools.numbers.as_slice());
-    run.colours.drop_pairs(run.tools.numbers.as_slice());
+    tear(
+        &mut run.state.links,
+        &mut run.colours,
+        run.tools.numbers.as_slice(),
+    );
     run.state.steps += 1;
     run.state.contacts = contacts;
 }

@@ -1,4 +1,4 @@
-ghost use Rattle.std.specs.Prelude.{◌≡◌, ◌+◌, ◌-◌, ◌<◌, ◌≤◌, ◌^◌, ℕ, min, length, IfOk, OnOk, OnErr, MatchResult, Result, Ok, Err};
+ghost use Rattle.std.specs.Prelude.{◌≡◌, ◌+◌, ◌-◌, ◌<◌, ◌≤◌, ◌^◌, min, length, IfOk, OnOk, OnErr, MatchResult, Result, Ok, Err};
 ghost use Rattle.pbd_num.specs.Vectors.{Within};
 ghost use Rattle.pbd_world.specs.Ledger.{sum_of, ledger_of};
 ghost use Rattle.pbd_world.specs.Meaning.{run_steps, pin as pinned_world, unpin as unpinned_world, place_held as placed_world, cut as cut_world, set_gravity as pulled_world};
@@ -9,7 +9,7 @@ ghost use Rattle.pbd_step.specs.Solving.{bonds_over};
 
 use crate::again::restore;
 use crate::commands::{cut, pin, place_held, set_gravity, unpin};
-use crate::open::{open_running, open_setting, open_state};
+use crate::open::{open_kept, open_running};
 use crate::state::{Running, Setting, State};
 use crate::step::run_whole;
 use pbd_ledger::momentum;
@@ -52,12 +52,17 @@ impl<const L: usize, P: Projector<L> + Drop> Solver<L, P> {
         requires lanes_high { L ≤ 16 }
         ensures world { IfOk result (λ s. s.world ≡ opened scene.now) }
         ensures projector { IfOk result (λ s. s.projector ≡ projector) }
+        ensures sound { IfOk result (λ s. IsSound s.world) }
     {
         let parts = scene.parts();
-        let setting = open_setting(alloc, parts)?;
         let run = open_running(alloc, parts, projector)?;
-        let kept = open_state(alloc, parts)?;
-        Ok(Solver { setting, run, kept })
+        match open_kept(alloc, parts) {
+            Ok((setting, kept)) => Ok(Solver { setting, run, kept }),
+            Err(AllocError) => {
+                drop(run);
+                Err(AllocError)
+            }
+        }
     }
 
     /// Takes n steps, 1 to 100,000. A refusal keeps the world: `BadCount` where there are none or more, `StepLimit`
@@ -70,7 +75,8 @@ impl<const L: usize, P: Projector<L> + Drop> Solver<L, P> {
             (λ refusal. run_steps self.old.world n ≡ Err refusal) }
         ensures kept { OnErr result (self.new.world ≡ self.old.world) }
         // Each bond of each pass of each step was handed to the projector.
-        ensures handed { OnOk result (P.count self.new.projector ≡ min (P.count self.old.projector + bonds_over n self.old.world) (2 ^ 64 - 1)) }
+        ensures handed { OnOk result
+            (P.count self.new.projector ≡ min (P.count self.old.projector + bonds_over n self.old.world) (2 ^ 64 - 1)) }
         ensures not_fallen { P.count self.old.projector ≤ P.count self.new.projector }
         ensures width { P.width self.new.projector ≡ P.width self.old.projector }
         ensures sound { IsSound self.new.world }
@@ -177,6 +183,7 @@ impl<const L: usize, P: Projector<L> + Drop> Solver<L, P> {
         requires one_scene { AreOfOneScene self.old.world other.now.world }
         ensures world { self.new.world ≡ other.now.world }
         ensures projector { self.new.projector ≡ self.old.projector }
+        ensures sound { IsSound self.new.world }
     {
         self.setting.gravity = other.setting.gravity;
         restore(
@@ -238,6 +245,7 @@ impl<const L: usize, P: Projector<L> + Drop> Solver<L, P> {
     pub fn contacts(&self) -> u32
         requires lanes_high { L ≤ 16 }
         ensures value { result ≡ self.now.world.contacts }
+        ensures sound { IsSound self.now.world }
     {
         self.run.state.contacts
     }
@@ -246,14 +254,16 @@ impl<const L: usize, P: Projector<L> + Drop> Solver<L, P> {
     pub fn step_count(&self) -> u64
         requires lanes_high { L ≤ 16 }
         ensures value { result ≡ self.now.world.steps }
+        ensures sound { IsSound self.now.world }
     {
         self.run.state.steps
     }
 
-    /// The sums of all moves since opening, by what made them.
+    /// The sums of all moves since opening, by what made them: with the momentum at opening they are the momentum.
     pub fn totals(&self) -> &Totals
         requires lanes_high { L ≤ 16 }
-        ensures { ledger_of result.now ≡ self.now.world.totals }
+        ensures value { ledger_of result.now ≡ self.now.world.totals }
+        ensures sound { IsSound self.now.world }
     {
         &self.run.state.totals
     }
@@ -261,7 +271,8 @@ impl<const L: usize, P: Projector<L> + Drop> Solver<L, P> {
     /// The momentum at opening.
     pub fn opening(&self) -> &[i128; 3]
         requires lanes_high { L ≤ 16 }
-        ensures { sum_of result.now ≡ self.now.world.opening }
+        ensures value { sum_of result.now ≡ self.now.world.opening }
+        ensures sound { IsSound self.now.world }
     {
         &self.setting.opening
     }
@@ -269,7 +280,8 @@ impl<const L: usize, P: Projector<L> + Drop> Solver<L, P> {
     /// The sum of the velocities of the particles that are not held.
     pub fn momentum<G: Ledger>(&self, steps: &mut Steps<G>) -> [i128; 3]
         requires lanes_high { L ≤ 16 }
-        ensures { sum_of result ≡ momentum_of self.now.world.particles }
+        ensures value { sum_of result ≡ momentum_of self.now.world.particles }
+        ensures sound { IsSound self.now.world }
     {
         momentum(&self.run.state.store, steps)
     }

@@ -1,7 +1,7 @@
 // Steps of a world.
-ghost use Rattle.std.specs.Prelude.{◌≡◌, ◌+◌, ◌-◌, ◌*◌, ◌<◌, ◌≤◌, ◌^◌, ℕ, min, length, replicate, false, OnOk, MatchResult, Result, Ok, Err};
+ghost use Rattle.std.specs.Prelude.{◌≡◌, ◌+◌, ◌-◌, ◌*◌, ◌<◌, ◌≤◌, ◌^◌, min, length, OnOk, MatchResult, Result, Ok, Err};
 ghost use Rattle.pbd_world.specs.Meaning.{steps_of};
-ghost use Rattle.pbd_world.specs.Step.{step as stepped, leaves, predict as predicted_motion, after_contacts};
+ghost use Rattle.pbd_world.specs.Step.{step as stepped, leaves, predict as predicted_motion};
 ghost use Rattle.pbd_world.specs.Outcomes.{with_fault};
 ghost use Rattle.pbd_world.specs.World.{IsSound, live_count};
 ghost use Rattle.pbd_world.specs.declared.command.Phase.TheVariants as phases;
@@ -34,8 +34,10 @@ fn begin<const L: usize, G: Ledger>(
     requires lanes_high { L ≤ 16 }
     requires sound { IsSound (world_of setting.now state.old) }
     ensures outcome { MatchResult result
-        (λ _. with_fault (leaves (world_of setting.now state.old) phases.Predict) (predicted_motion (world_of setting.now state.old)) ≡ Ok (now_of state.new))
-        (λ refusal. with_fault (leaves (world_of setting.now state.old) phases.Predict) (predicted_motion (world_of setting.now state.old)) ≡ Err refusal) }
+        (λ _. with_fault (leaves (world_of setting.now state.old) phases.Predict) (predicted_motion (world_of setting.now state.old))
+        ≡ Ok (now_of state.new))
+        (λ refusal. with_fault (leaves (world_of setting.now state.old) phases.Predict)
+        (predicted_motion (world_of setting.now state.old)) ≡ Err refusal) }
     ensures moved { IsMoved state.old state.new }
     ensures under_way { OnOk result (IsUnderWay (2 ^ 100) (world_of setting.now state.new)) }
 {
@@ -56,12 +58,16 @@ fn finish<const L: usize, P: Projector<L> + Drop, G: Ledger>(
     requires lanes_high { L ≤ 16 }
     requires going { IsGoing (2 ^ 100) setting.now run.old }
     ensures outcome { MatchResult result
-        (λ _. finished (world_of setting.now run.old.state) run.old.tools.found.pairs (now_of run.old.state) ≡ Ok (world_of setting.now run.new.state))
+        (λ _. finished (world_of setting.now run.old.state) run.old.tools.found.pairs (now_of run.old.state)
+        ≡ Ok (world_of setting.now run.new.state))
         (λ refusal. finished (world_of setting.now run.old.state) run.old.tools.found.pairs (now_of run.old.state) ≡ Err refusal) }
     ensures contacts { OnOk result (run.new.state.contacts ≡ length run.old.tools.found.pairs) }
     ensures links { OnOk result (HasLinks (length run.old.state.store.particles) run.new.state.links.items run.new.colours) }
     ensures stays { StaysInStep P.count P.width run.old run.new }
-    ensures handed { OnOk result (P.count run.new.projector ≡ min (P.count run.old.projector + setting.now.passes * (live_count run.old.state.links.items + length run.old.tools.found.pairs)) (2 ^ 64 - 1)) }
+    ensures handed { OnOk result
+        (P.count run.new.projector
+        ≡ min (P.count run.old.projector + setting.now.passes * (live_count run.old.state.links.items + length run.old.tools.found.pairs))
+        (2 ^ 64 - 1)) }
 {
     run.tools.touched.clear();
     if let Err(refusal) = project_in_passes(setting, run, steps) {
@@ -87,7 +93,10 @@ fn step<const L: usize, P: Projector<L> + Drop, G: Ledger>(
         (λ refusal. stepped (world_of setting.now run.old.state) ≡ Err refusal) }
     ensures links { OnOk result (HasLinks (length run.old.state.store.particles) run.new.state.links.items run.new.colours) }
     ensures stays { StaysInStep P.count P.width run.old run.new }
-    ensures handed { OnOk result (P.count run.new.projector ≡ min (P.count run.old.projector + bonds_of (world_of setting.now run.old.state) (world_of setting.now run.new.state)) (2 ^ 64 - 1)) }
+    ensures handed { OnOk result
+        (P.count run.new.projector
+        ≡ min (P.count run.old.projector + bonds_of (world_of setting.now run.old.state) (world_of setting.now run.new.state))
+        (2 ^ 64 - 1)) }
 {
     if let Err(refusal) = begin(setting, &mut run.state, steps) {
         return Err(refusal);
@@ -114,7 +123,8 @@ fn take_steps<const L: usize, P: Projector<L> + Drop, G: Ledger>(
         (λ refusal. steps_of n (world_of setting.now run.old.state) ≡ Err refusal) }
     ensures ready { OnOk result (IsReady setting.now run.new) }
     ensures stays { StaysInStep P.count P.width run.old run.new }
-    ensures handed { OnOk result (P.count run.new.projector ≡ min (P.count run.old.projector + bonds_over n (world_of setting.now run.old.state)) (2 ^ 64 - 1)) }
+    ensures handed { OnOk result
+        (P.count run.new.projector ≡ min (P.count run.old.projector + bonds_over n (world_of setting.now run.old.state)) (2 ^ 64 - 1)) }
 {
     counts(&run.projector);
     for i in 0..n {
@@ -137,9 +147,11 @@ pub(crate) fn run_whole<const L: usize, P: Projector<L> + Drop, G: Ledger>(
     requires lanes_high { L ≤ 16 }
     requires kept { IsKept setting.now run.old.state kept.old run.old.colours run.old.tools }
     requires count { run.old.state.steps + n ≤ 1000000 }
-    ensures obeys { Obeys (λ w. w) result (steps_of n (world_of setting.now run.old.state)) (world_of setting.now run.old.state) (world_of setting.now run.new.state) }
+    ensures obeys { Obeys (λ w. w) result (steps_of n (world_of setting.now run.old.state))
+        (world_of setting.now run.old.state) (world_of setting.now run.new.state) }
     ensures kept { IsKept setting.now run.new.state kept.new run.new.colours run.new.tools }
-    ensures handed { OnOk result (P.count run.new.projector ≡ min (P.count run.old.projector + bonds_over n (world_of setting.now run.old.state)) (2 ^ 64 - 1)) }
+    ensures handed { OnOk result
+        (P.count run.new.projector ≡ min (P.count run.old.projector + bonds_over n (world_of setting.now run.old.state)) (2 ^ 64 - 1)) }
     ensures not_fallen { P.count run.old.projector ≤ P.count run.new.projector }
     ensures width { P.width run.new.projector ≡ P.width run.old.projector }
 {

@@ -1,11 +1,10 @@
-use Rattle.std.proofs.Common.{refl, ap, ℕ, arith}
-use Rattle.pbd_world.specs.Room.{Roomed}
+use Rattle.std.proofs.Common.{refl, arith}
 use Rattle.pbd_step.proofs.open.with_room.Goals as goal
 
-pub returns : goal.returns
-returns c = record {
+pub returns-in-Ok : goal.returns-in-Ok
+returns-in-Ok c = record {
   found = refl;
   touched = c.requires;
-  pairs = omega (arith, ap (λ (r : Roomed (ℕ × ℕ)). r.room) c.in_ok-pairs.ensures);
-  numbers = omega (arith, ap (λ (r : Roomed ℕ). r.room) c.in_ok-numbers.ensures);
+  pairs = omega (arith, c.in-Ok.ensures.pairs);
+  numbers = omega (arith, c.in-Ok.ensures.numbers);
 }

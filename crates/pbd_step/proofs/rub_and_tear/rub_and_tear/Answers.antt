@@ -29,11 +29,11 @@ torn-requires g c =
     let links = (formed (parts_of w) c.requires.going.under_way.well_formed).links in
     (omega arith, (rw (c.deref.ensures.value, c.rub.ensures.limit, many) links, (rw c.rub.ensures.limit (record { each = c.rub.ensures.within.at }), rw c.deref.ensures.value c.requires.going.space.numbers)))
 
-pub drop_pairs-requires-clause-live : goal.drop_pairs-requires-clause-live
-drop_pairs-requires-clause-live g c =
+pub tear-requires-clause-live : goal.tear-requires-clause-live
+tear-requires-clause-live g c =
     let ps = c.rub.new.store.particles in
     let links = c.args.run.now.state.links.items in
-    let numbers : c.as_slice-2.result.now ≡ torn_numbers ps links = c.as_slice-2.ensures ∙ ap (λ (o : Roomed ℕ). o.entries) c.torn.ensures.numbers ∙ ap (torn_numbers ps) c.deref.ensures.value in
+    let numbers : c.as_slice.result.now ≡ torn_numbers ps links = c.as_slice.ensures ∙ ap (λ (o : Roomed ℕ). o.entries) c.torn.ensures.numbers ∙ ap (torn_numbers ps) c.deref.ensures.value in
     rw (numbers, c.requires.going.links.live) (λ k lt. torn_live ps links k (torn_ascend ps links) lt)
 
 pub returns-clause-world : goal.returns-clause-world
@@ -41,11 +41,11 @@ returns-clause-world g c =
     let w = world_of c.args.setting.now c.args.run.now.state in
     let ps = c.rub.new.store.particles in
     let links = c.args.run.now.state.links.items in
-    let after = c.let_go.new.links.items in
+    let after = c.tear.new.links.items in
     let small = fits c.args.setting.now.friction (omega (arith, (numbers_of w (formed (parts_of w) c.requires.going.under_way.well_formed)).friction_high)) in
     let motion = simp to_z-of_z at c.rub.ensures.outcome in
     let numbers : c.as_slice.result.now ≡ torn_numbers ps links = c.as_slice.ensures ∙ ap (λ (o : Roomed ℕ). o.entries) c.torn.ensures.numbers ∙ ap (torn_numbers ps) c.deref.ensures.value in
-    let tears = let_go_tears ps links after (subst (λ (ns : List ℕ). LetGo ns links after) numbers c.let_go.ensures) in
+    let tears = let_go_tears ps links after (subst (λ (ns : List ℕ). LetGo ns links after) numbers c.tear.ensures.links) in
     let torn = tears ∙ (λ k. tear (motion k).particles links) in
     λ k. record (world_of c.args.setting.now c.args.run.now.state) {
       limit = c.rub.ensures.limit k;
@@ -60,20 +60,19 @@ pub returns-clause-links : goal.returns-clause-links
 returns-clause-links g c =
     let ps = c.rub.new.store.particles in
     let links = c.args.run.now.state.links.items in
-    let after = c.let_go.new.links.items in
-    let first : c.as_slice.result.now ≡ torn_numbers ps links = c.as_slice.ensures ∙ ap (λ (o : Roomed ℕ). o.entries) c.torn.ensures.numbers ∙ ap (torn_numbers ps) c.deref.ensures.value in
-    let second : c.as_slice-2.result.now ≡ torn_numbers ps links = c.as_slice-2.ensures ∙ ap (λ (o : Roomed ℕ). o.entries) c.torn.ensures.numbers ∙ ap (torn_numbers ps) c.deref.ensures.value in
-    let tears = let_go_tears ps links after (subst (λ (ns : List ℕ). LetGo ns links after) first c.let_go.ensures) in
-    let coloured = c.drop_pairs.ensures ∙ ap (λ (ns : List ℕ). record c.args.run.now.colours { live = dropped ns c.args.run.now.colours.live }) second in
-    torn_coloured (length c.args.run.now.state.store.particles) ps links after c.args.run.now.colours c.drop_pairs.new.self c.requires.going.links tears coloured
+    let after = c.tear.new.links.items in
+    let numbers : c.as_slice.result.now ≡ torn_numbers ps links = c.as_slice.ensures ∙ ap (λ (o : Roomed ℕ). o.entries) c.torn.ensures.numbers ∙ ap (torn_numbers ps) c.deref.ensures.value in
+    let tears = let_go_tears ps links after (subst (λ (ns : List ℕ). LetGo ns links after) numbers c.tear.ensures.links) in
+    let coloured = c.tear.ensures.colours ∙ ap (λ (ns : List ℕ). record c.args.run.now.colours { live = dropped ns c.args.run.now.colours.live }) numbers in
+    torn_coloured (length c.args.run.now.state.store.particles) ps links after c.args.run.now.colours c.tear.new.colours c.requires.going.links tears coloured
 
 pub returns-clause-stays : goal.returns-clause-stays
 returns-clause-stays g c =
     let room : c.torn.new.out.room ≡ c.args.run.now.tools.numbers.room = ap (λ (o : Roomed ℕ). o.room) c.torn.ensures.numbers in
-    let live = ap (λ (k : Coloured). k.live) c.drop_pairs.ensures in
+    let live = ap (λ (k : Coloured). k.live) c.tear.ensures.colours in
     record {
-      alike = record { particles = still_many c.rub.new.store.particles c.args.run.now.state.store.particles c.rub.ensures.settled; limit = c.rub.ensures.limit; links = c.let_go.ensures.whole };
-      pairs = c.drop_pairs.ensures ∙ (λ k. record c.args.run.now.colours { live = sym live k });
+      alike = record { particles = still_many c.rub.new.store.particles c.args.run.now.state.store.particles c.rub.ensures.settled; limit = c.rub.ensures.limit; links = c.tear.ensures.links.whole };
+      pairs = c.tear.ensures.colours ∙ (λ k. record c.args.run.now.colours { live = sym live k });
       space = λ n m h. record { found = h.found; touched = h.touched; pairs = h.pairs; numbers = omega (arith, room, h.numbers) };
       not_fallen = omega arith;
       width = refl;

@@ -40,3 +40,6 @@ returns-clause-world g c =
     let setting : Setting = record c.self.inside.setting { gravity = c.other.inside.setting.gravity } in
     let scene = subst (λ (v : World). AreOfOneScene v (world_of c.other.inside.setting other)) (sym (ap (λ (s : Solved g.row.P.Denot). s.world) c.self.view_is)) (subst (λ (v : World). AreOfOneScene c.args.self.now.world v) (sym (ap (λ (s : Solved g.row.P.Denot). s.world) c.other.view_is)) c.requires.one_scene) in
     c.restore.ensures.world setting ∙ scene_world c.self.inside.setting c.other.inside.setting mine other scene ∙ ap (λ (s : Solved g.row.P.Denot). s.world) c.other.view_is
+
+pub returns-clause-sound : goal.returns-clause-sound
+returns-clause-sound g c = (invariant_of-self g c).sound
