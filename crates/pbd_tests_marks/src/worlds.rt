@@ -1,6 +1,6 @@
 //! A world that goes back to its marks: torn and cut links, held particles, gravity and refused steps are as they were.
 ghost use Rattle.std.specs.Prelude.{◌≡◌, ◌<◌, ◌≤◌};
-ghost use Rattle.pbd_world.specs.World.{AreOfOneScene};
+ghost use Rattle.pbd_world.specs.World.{AreOfOneScene, opened, unchanging};
 ghost use Rattle.pbd_marks.specs.Keeping.{IsOfScene};
 
 use pbd_marks::{MarkCommand, MarkRefusal, Marks};
@@ -260,6 +260,28 @@ fn all_go_so<const L: usize, P: Projector<L> + Drop, G: Ledger>(
     rows.len()
 }
 
+/// Does the rows with a solver of its own, beside marks of the same scene.
+fn with_solver<const L: usize, G: Ledger>(
+    alloc: Global,
+    scene: &Scene,
+    rows: &[Row],
+    marks: &mut Marks<L, LaneProjector<L>>,
+    steps: &mut Steps<G>,
+) -> Result<usize, AllocError>
+    requires low { 0 < L }
+    requires high { L ≤ 16 }
+    requires scene { marks.old.scene ≡ unchanging (opened scene.now) }
+{
+    match Solver::open(alloc, scene, LaneProjector::<L>::new()) {
+        Ok(mut solver) => {
+            let count = all_go_so(rows, marks, &mut solver, steps);
+            drop(solver);
+            Ok(count)
+        }
+        Err(error) => Err(error),
+    }
+}
+
 fn at_width<const L: usize, G: Ledger>(
     alloc: Global,
     scene: &Scene,
@@ -269,9 +291,14 @@ fn at_width<const L: usize, G: Ledger>(
     requires low { 0 < L }
     requires high { L ≤ 16 }
 {
-    let mut marks = Marks::open(alloc, scene, LaneProjector::<L>::new())?;
-    let mut solver = Solver::open(alloc, scene, LaneProjector::<L>::new())?;
-    Ok(all_go_so(rows, &mut marks, &mut solver, steps))
+    match Marks::open(alloc, scene, LaneProjector::<L>::new()) {
+        Ok(mut marks) => {
+            let count = with_solver(alloc, scene, rows, &mut marks, steps);
+            drop(marks);
+            count
+        }
+        Err(error) => Err(error),
+    }
 }
 
 fn counted<G: Ledger>(
