@@ -1,15 +1,13 @@
 -- The sizes of sums, differences and parts of vectors.
-use Rattle.std.proofs.Common.{◌≡◌, ℕ, ◌+◌, ◌*◌, ◌<◌, ◌≤◌, ◌^◌, arith, ℤ, pos, ◌+ℤ◌, ◌-ℤ◌, ◌*ℤ◌, ◌<ℤ◌, unsigned_abs, w64, FitsSigned}
+use Rattle.std.proofs.Common.{◌≡◌, ℕ, ◌+◌, ◌*◌, ◌<◌, ◌≤◌, ◌^◌, arith, ℤ, pos, ◌+ℤ◌, ◌*ℤ◌, ◌<ℤ◌, unsigned_abs, w64, FitsSigned}
 use Rattle.std.proofs.lemmas.Int.{ints}
-use Rattle.std.proofs.Math.IntN.{*ℤ_comm}
 use Rattle.pbd_num.specs.declared.Vec3.{Vec3}
 use Rattle.pbd_num.specs.Rounding.{rdiv}
 use Rattle.std.proofs.Math.Nat.{mul-le-mul}
-use Rattle.pbd_num.specs.Vectors.{Within, plus, minus, zero_vector, scaled, squared_length, length_of}
-use Rattle.pbd_num.specs.PairMove.{corrections}
+use Rattle.pbd_num.specs.Vectors.{Within, plus, minus, zero_vector, squared_length}
 use Rattle.pbd_num.proofs.Sizes.{fits, size-add, size-sub, size-mul, positive_above}
 use Rattle.pbd_num.proofs.RoundingLemmas.{size-rdiv}
-use Rattle.pbd_num.proofs.Lengths.{squared_length_le, along_size, axes_le_length}
+use Rattle.pbd_num.proofs.Lengths.{squared_length_le}
 
 -- the axes of a vector fit 64 bits
 pub record FitAxes (v : Vec3) : Type 0 where
@@ -67,19 +65,3 @@ squares_fit v h = record {
   xy = fits _ (omega (arith, mul-le-mul h.x h.x, mul-le-mul h.y h.y));
   xyz = fits _ (omega (arith, squared_length_le v (2 ^ 30) h));
 }
-
--- the corrections of a vector are the part of its error in its length, and at most the error
-pub scaled_corrections : (d : Vec3) (rest : ℤ) → scaled (pos (length_of d) -ℤ rest) (pos (length_of d)) d ≡ corrections d rest
-scaled_corrections d rest =
-    let e = pos (length_of d) -ℤ rest in
-    let len = pos (length_of d) in
-    (λ i. record { x = rdiv (*ℤ_comm d.x e i) len; y = rdiv (*ℤ_comm d.y e i) len; z = rdiv (*ℤ_comm d.z e i) len })
-
-pub corrections_within : (d : Vec3) (rest : ℤ) → 0 < length_of d → unsigned_abs (pos (length_of d) -ℤ rest) ≤ 2 ^ 31 → Within (2 ^ 31) (corrections d rest)
-corrections_within d rest some h =
-    let axes = axes_le_length d in
-    record {
-      x = along_size (pos (length_of d) -ℤ rest) d.x (length_of d) (2 ^ 31) some axes.x h;
-      y = along_size (pos (length_of d) -ℤ rest) d.y (length_of d) (2 ^ 31) some axes.y h;
-      z = along_size (pos (length_of d) -ℤ rest) d.z (length_of d) (2 ^ 31) some axes.z h;
-    }

@@ -1,14 +1,19 @@
 //! Whole-number vectors, rounded division, square roots and the correction of one pair.
 #![tactic(auto)]
 
-ghost use Rattle.std.specs.Prelude.{◌≡◌, ◌↔◌, ◌≤◌, ◌<◌, ◌^◌, ◌+◌, ◌*◌, pos, ◌-ℤ◌, ◌<ℤ◌, ◌≤ℤ◌, IsTrue, unsigned_abs};
+ghost use Rattle.std.specs.Prelude.{◌≡◌, ◌↔◌, ◌≤◌, ◌<◌, ◌^◌, ◌+◌, ◌*◌, pos, ◌-ℤ◌, ◌*ℤ◌, ◌<ℤ◌, ◌≤ℤ◌, IsTrue, unsigned_abs};
 ghost use Rattle.pbd_num.specs.Rounding.{rdiv as rounded, root as whole_root};
 ghost use Rattle.pbd_num.specs.Vectors.{Within, minus, squared_length, length_of, opposite, is_axis_within, is_within};
 ghost use Rattle.pbd_num.specs.PairMove.{share_of, along, corrections, shares, pair_moves};
 
+mod guess;
 mod laws;
 mod vectors;
 
+pub use guess::{
+    Inverse, Raised, is_quotient, is_root, low, lowered, near_inverse_root, near_root, part_of_512,
+    raise, short, with_sign,
+};
 pub use laws::{
     axes_are_within_the_length, equal_weights_move_oppositely, roots_are_greatest, rounding_is_odd,
 };
@@ -43,27 +48,6 @@ pub fn rdiv(n: i64, d: i64) -> i64
     }
 }
 
-/// One step of Newton from `r` toward the root of `n`.
-fn newton_step(n: u64, r: u64) -> u64 {
-    r.wrapping_add(n / r.max(1)) / 2
-}
-
-/// A number near the root of `n`, mostly the root itself: a parabola over the 30 leading bits, right to
-/// 8 bits, and two steps of Newton. `root` mends what is wrong with it, so nothing is said of it but its
-/// size.
-fn near_root(n: u64) -> u64
-    ensures { result < 2 ^ 32 }
-{
-    let shift = n.leading_zeros() / 2 * 2;
-    let raised = n.wrapping_shl(shift);
-    let leading = raised >> 34;
-    let slope = 4_518_387_538u64.wrapping_sub(leading.wrapping_mul(1_358_586_802) >> 30);
-    let first = (leading.wrapping_mul(slope) >> 30).wrapping_add(1_113_587_882);
-    let second = newton_step(raised, first);
-    let third = newton_step(raised, second);
-    third.wrapping_shr(shift / 2).min(4_294_967_295)
-}
-
 /// The first number from `start` down whose square is at most `n`.
 fn stepped_down(n: u64, start: u64) -> u64
     requires { start < 2 ^ 32 }
@@ -90,13 +74,48 @@ fn stepped_up(n: u64, start: u64) -> u64
     r
 }
 
+/// A number near a root, and near the inverse of the root.
+#[derive(Clone, Copy)]
+struct Guessed {
+    root: u64,
+    inverse: Inverse,
+}
+
+fn guess_root(n: u64) -> Guessed
+    ensures { result.root < 2 ^ 32 }
+{
+    let raised = raise(n);
+    let inverse = near_inverse_root(raised.high, raised.seed);
+    Guessed {
+        root: low(near_root(raised.high, inverse).wrapping_shr(raised.half)),
+        inverse: Inverse {
+            scale: 1u64.wrapping_shl(raised.half),
+            inverse,
+        },
+    }
+}
+
+/// The root of a number, from a guess.
+fn mended_root(n: u64, guess: u64) -> u64
+    requires size { n < 2 ^ 63 }
+    requires guess { guess < 2 ^ 32 }
+    ensures value { result ≡ whole_root n }
+    ensures size { result < 2 ^ 32 }
+{
+    if is_root(n, guess) {
+        guess
+    } else {
+        stepped_up(n, stepped_down(n, guess))
+    }
+}
+
 /// The greatest whole number whose square is at most `n`.
 pub fn root(n: i64) -> i64
     requires { pos 0 ≤ℤ n }
     ensures { result ≡ pos (whole_root (unsigned_abs n)) }
 {
     let size = n.unsigned_abs();
-    stepped_up(size, stepped_down(size, near_root(size))) as i64
+    mended_root(size, guess_root(size).root) as i64
 }
 
 fn axis_within(n: i64, limit: i64) -> bool
@@ -133,7 +152,63 @@ pub fn inside(v: Vec3) -> bool
     within(v, RANGE)
 }
 
-fn correction(d: Vec3, len: i64, rest: i64) -> Vec3
+/// A length, and its inverse to guess quotients by.
+#[derive(Clone, Copy)]
+struct Measured {
+    len: i64,
+    inverse: Inverse,
+}
+
+fn measure(d: Vec3) -> Measured
+    requires { Within (2 ^ 30) d }
+    ensures value { result.len ≡ pos (length_of d) }
+    ensures size { length_of d < 2 ^ 31 }
+{
+    let square = d.squared_length().unsigned_abs();
+    let guess = guess_root(square);
+    let len = mended_root(square, guess.root);
+    Measured {
+        len: len as i64,
+        inverse: guess.inverse.nearer(len),
+    }
+}
+
+// e * d / len by a division.
+#[inline(never)]
+fn divided_part(e: i64, d: i64, len: i64) -> i64
+    requires error { unsigned_abs e ≤ 2 ^ 31 }
+    requires axis { unsigned_abs d ≤ 2 ^ 30 }
+    requires axis_in_length { unsigned_abs d ≤ unsigned_abs len }
+    requires length { pos 0 <ℤ len }
+    requires length_size { unsigned_abs len < 2 ^ 31 }
+    ensures value { result ≡ along e d (unsigned_abs len) }
+    ensures size { unsigned_abs result ≤ 2 ^ 31 }
+{
+    rdiv(e * d, len)
+}
+
+/// The part of an error `e` along an axis `d` of a vector of length `len`: a division only where the guess is wrong.
+fn part(e: i64, d: i64, len: i64, inverse: Inverse) -> i64
+    requires error { unsigned_abs e ≤ 2 ^ 31 }
+    requires axis { unsigned_abs d ≤ 2 ^ 30 }
+    requires axis_in_length { unsigned_abs d ≤ unsigned_abs len }
+    requires length { pos 0 <ℤ len }
+    requires length_size { unsigned_abs len < 2 ^ 31 }
+    ensures value { result ≡ along e d (unsigned_abs len) }
+    ensures size { unsigned_abs result ≤ 2 ^ 31 }
+{
+    let error = e.unsigned_abs();
+    let axis = d.unsigned_abs();
+    let whole = len.unsigned_abs();
+    let guess = inverse.quotient(error, axis, whole);
+    if is_quotient(error * axis, whole, guess) {
+        with_sign(e, d, guess)
+    } else {
+        divided_part(e, d, len)
+    }
+}
+
+fn correction(d: Vec3, len: i64, inverse: Inverse, rest: i64) -> Vec3
     requires size { Within (2 ^ 30) d }
     requires length { len ≡ pos (length_of d) }
     requires length_size { length_of d < 2 ^ 31 }
@@ -143,10 +218,17 @@ fn correction(d: Vec3, len: i64, rest: i64) -> Vec3
     ensures value { result ≡ corrections d rest }
     ensures size { Within (2 ^ 31) result }
 {
-    d.scaled(len - rest, len)
+    let e = len - rest;
+    Vec3 {
+        x: part(e, d.x, len, inverse),
+        y: part(e, d.y, len, inverse),
+        z: part(e, d.z, len, inverse),
+    }
 }
 
-fn share_axis(s: i64, k: i64, w: i64, total: i64) -> i64
+// s * k * w / (256 * total) by a division.
+#[inline(never)]
+fn divided_share(s: i64, k: i64, w: i64, total: i64) -> i64
     requires size { unsigned_abs s ≤ 2 ^ 31 }
     requires stiffness { unsigned_abs k ≤ 256 }
     requires weight { unsigned_abs w ≤ unsigned_abs total }
@@ -156,6 +238,27 @@ fn share_axis(s: i64, k: i64, w: i64, total: i64) -> i64
     ensures size { unsigned_abs result ≤ 2 ^ 31 }
 {
     rdiv(s * k * w, 256 * total)
+}
+
+/// The share of a correction: a division only where the weight is neither half of `total`, nor none or all of it.
+fn share_axis(s: i64, k: i64, w: i64, total: i64) -> i64
+    requires size { unsigned_abs s ≤ 2 ^ 31 }
+    requires stiffness { unsigned_abs k ≤ 256 }
+    requires weight { unsigned_abs w ≤ unsigned_abs total }
+    requires total_low { pos 0 <ℤ total }
+    requires total_high { unsigned_abs total ≤ 131070 }
+    ensures value { result ≡ share_of s k w (unsigned_abs total) }
+    ensures size { unsigned_abs result ≤ 2 ^ 31 }
+{
+    if 2 * w == total {
+        part_of_512(s, k)
+    } else if w == 0 {
+        0
+    } else if w == total {
+        part_of_512(s, 2 * k)
+    } else {
+        divided_share(s, k, w, total)
+    }
 }
 
 fn share(s: Vec3, k: i64, w: i64, total: i64) -> Vec3
@@ -193,12 +296,13 @@ pub fn pair_move(a: Vec3, b: Vec3, rest: i64, k: i64, wa: i64, wb: i64) -> (Vec3
     ensures second_size { Within (2 ^ 31) result.1 }
 {
     let d = a.minus(b);
-    let len = d.length();
+    let measured = measure(d);
+    let len = measured.len;
     let total = wa + wb;
     if len == 0 || total == 0 {
         return (Vec3::ZERO, Vec3::ZERO);
     }
-    let s = correction(d, len, rest);
+    let s = correction(d, len, measured.inverse, rest);
     (share(s, k, wa, total).opposite(), share(s, k, wb, total))
 }
 
