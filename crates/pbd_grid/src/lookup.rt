@@ -1,5 +1,5 @@
 //! Cells of places, and what is found by looking them up.
-ghost use Rattle.std.specs.Prelude.{◌≡◌, ◌+◌, ◌/◌, ◌%◌, ◌<◌, ◌≤◌, ◌^◌, ◌++◌, ◌&&◌, ◌==◌, ℕ, Bool, length, unsigned_abs};
+ghost use Rattle.std.specs.Prelude.{◌≡◌, ◌+◌, ◌/◌, ◌%◌, ◌<◌, ◌≤◌, ◌^◌, ◌++◌, ◌&&◌, ◌==◌, length, unsigned_abs};
 ghost use Rattle.pbd_num.specs.Vectors.{Within};
 ghost use Rattle.pbd_grid.specs.Near.{AllInside};
 ghost use Rattle.pbd_grid.specs.Blocks.{Below, axis_cell, corner_of, beside, cell_at, same_cell, slot_of, keep, picked, picked_one, all_picked, block_part};

@@ -1,5 +1,5 @@
 //! The near pairs of all particles.
-ghost use Rattle.std.specs.Prelude.{◌≡◌, ◌+◌, ◌<◌, ◌≤◌, [], ℕ, Bool, pos, ◌≤ℤ◌, ◌<ℤ◌, length, IfOk, OnOk, OnErr};
+ghost use Rattle.std.specs.Prelude.{◌≡◌, ◌+◌, ◌<◌, ◌≤◌, [], ℕ, Bool, pos, ◌≤ℤ◌, length, IfOk, OnOk, OnErr};
 ghost use Rattle.pbd_grid.specs.Blocks.{AreOnce};
 ghost use Rattle.pbd_grid.specs.Near.{AllInside, near_pairs};
 

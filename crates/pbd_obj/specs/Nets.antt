@@ -1,5 +1,5 @@
 -- Links that are found one by one, and how many are at each particle.
-use Rattle.std.specs.Prelude.{◌≡◌, ◌≢◌, ◌⊎◌, ℕ, ◌+◌, ◌-◌, ◌^◌, ◌<◌, ◌≤◌, min, max, ◌==◌, if◌then◌else◌, List, length, take, slice_index, All, Option, Some, None}
+use Rattle.std.specs.Prelude.{◌≡◌, ◌≢◌, ◌⊎◌, ℕ, ◌+◌, ◌-◌, ◌^◌, ◌<◌, ◌≤◌, min, max, ◌==◌, if◌then◌else◌, List, length, slice_index, All, Option, Some, None}
 use Rattle.std.specs.declared.cmp.Ordering.{Ordering}
 use Rattle.std.specs.Ordering.{nat_cmp, ordering_then}
 use Rattle.std.specs.List.{list_any}
@@ -7,7 +7,6 @@ use Rattle.std.specs.BTreeSet.{BTreeSet, contains}
 use Rattle.pbd_num.specs.declared.Vec3.{Vec3}
 use Rattle.pbd_num.specs.Vectors.{Within}
 use Rattle.pbd_world.specs.declared.parts.Link.{Link}
-use Rattle.pbd_world.specs.declared.parts.Parts.{Parts}
 use Rattle.pbd_world.specs.Valid.{join_alike, links_at}
 use Rattle.pbd_obj.specs.declared.mesh.ObjMesh.{ObjMesh}
 use Rattle.pbd_obj.specs.declared.mesh.ObjFault.{ObjFault}
@@ -87,9 +86,3 @@ pub record CountsLink (base : ℕ) (l : Link) (old now : List ℕ) : Type 0 wher
 -- a particle is one of so many from `base` on
 abbrev pub IsFrom : ℕ → ℕ → ℕ → Type 0
 IsFrom base count i = (base ≤ i) × (i < base + count)
-
--- what a broken growth leaves behind: the lists as they were, and perhaps more
-pub record WithFront (old now : Parts) : Type 0 where
-  pub particles : take (length old.particles) now.particles ≡ old.particles
-  pub links : take (length old.links) now.links ≡ old.links
-  pub others : now ≡ record old { particles = now.particles; links = now.links }

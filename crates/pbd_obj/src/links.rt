@@ -4,23 +4,20 @@ ghost use Rattle.pbd_num.specs.declared.Vec3.{Vec3};
 ghost use Rattle.pbd_world.specs.declared.parts.Particle.{Particle};
 ghost use Rattle.pbd_world.specs.declared.parts.Link.{Link};
 ghost use Rattle.pbd_world.specs.Valid.{is_valid};
+ghost use Rattle.pbd_mesh.specs.Appending.{WithFront};
 ghost use Rattle.pbd_obj.specs.Meshes.{IsMesh};
 ghost use Rattle.pbd_obj.specs.MeshLinks.{face_links, first_overfull, kind_links, link, mesh_links, particles, at_rest, with_all, with_mesh};
 ghost use Rattle.pbd_obj.specs.Reading.{IsFaultOf};
-ghost use Rattle.pbd_obj.specs.Nets.{counted_end, ordered, Adds, AreFew, CountsLink, FitsNet, HoldsJoined, IsFrom, IsFullAt, IsLinkFrom, IsStopped, Names, WithFront};
+ghost use Rattle.pbd_obj.specs.Nets.{counted_end, ordered, Adds, AreFew, CountsLink, FitsNet, HoldsJoined, IsFrom, IsFullAt, IsLinkFrom, IsStopped, Names};
 
 use crate::{ObjFault, ObjMesh};
 use pbd_mesh::resting;
 use pbd_num::{Vec3, distance};
-use pbd_world::{Kind, Link, List, Particle, Parts};
+use pbd_world::{Kind, Link, List, MOST_AT_PARTICLE, MOST_LINKS, MOST_PARTICLES, Particle, Parts};
 use std::alloc::{AllocError, Global};
 use std::collections::BTreeSet;
 
-const MOST_PARTICLES: usize = 65_536;
-
-const MOST_LINKS: usize = 524_288;
-
-const MOST_AT_ONE: u32 = 32;
+const MOST_AT_ONE: u32 = MOST_AT_PARTICLE as u32;
 
 /// Links that are found one by one, each once.
 #[derive(Drop)]

@@ -1,4 +1,4 @@
-use Rattle.std.proofs.Common.{◌≡◌, ◌∙◌, w64}
+use Rattle.std.proofs.Common.{◌∙◌, w64}
 use Rattle.std.proofs.lemmas.Int.{to_z-of_z}
 use Rattle.pbd_grid.proofs.Looking.{axis_left, axis_right}
 use Rattle.pbd_grid.proofs.lookup.on_axis.Goals as goal
