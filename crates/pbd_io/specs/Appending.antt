@@ -1,9 +1,10 @@
 -- What several calls of a source or a sink did together, where it tells what it holds.
-use Rattle.std.proofs.Common.{◌≡◌, ◌∙◌, sym, ap, refl, ℕ, ◌+◌, ◌≤◌, min, List, [], ◌∷◌, ◌++◌, length, take, drop, Option, Some, None, arith, append_assoc, append-nil, zero-add, suc}
+use Rattle.std.proofs.Common.{◌≡◌, ◌∙◌, sym, ap, refl, ℕ, ◌+◌, ◌<◌, ◌≤◌, min, List, [], ◌∷◌, ◌++◌, length, get_or, take, drop, Option, Some, None, Result, Ok, Err, arith, append_assoc, append-nil, zero-add, zero, suc}
 use Rattle.std.proofs.lemmas.List.{take_all, take-append-le, take_min, drop_at}
 use Rattle.std.specs.Io.KnownBytes.{Appends, Keeps, Consumes, IsAtEnd}
+use Rattle.std.specs.List.{flat_map}
 use Rattle.pbd_io.specs.Causes.{HasRisen}
-use Rattle.pbd_io.specs.Pieces.{AppendsPrefix}
+use Rattle.pbd_io.specs.Pieces.{AppendsPrefix, WritesPiece}
 
 pub appends_then : (a b c : Option (List ℕ)) (x y : List ℕ) → Appends a b x → Appends b c y → Appends a c (x ++ y)
 appends_then None b c x y first second = tt
@@ -53,12 +54,14 @@ consumes_nothing None = tt
 consumes_nothing (Some p) = refl
 
 -- what is told and consumed to the end is all that was told
-pub consumed_all : (input : List ℕ) (new : Option (List ℕ)) (bytes : List ℕ) → Consumes (Some input) new bytes → IsAtEnd new → (input ≡ bytes) × (new ≡ Some [])
+pub consumed_all : (input : List ℕ) (new : Option (List ℕ)) (bytes : List ℕ)
+    → Consumes (Some input) new bytes → IsAtEnd new → (input ≡ bytes) × (new ≡ Some [])
 consumed_all input None bytes consumed ended = absurd consumed
 consumed_all input (Some rest) bytes consumed ended = rw ended (rw ended at consumed ∙ append-nil bytes, refl)
 
 -- and what is left otherwise
-pub consumed_some : (input : List ℕ) (new : Option (List ℕ)) (bytes : List ℕ) → Consumes (Some input) new bytes → new ≡ Some (drop (length bytes) input)
+pub consumed_some : (input : List ℕ) (new : Option (List ℕ)) (bytes : List ℕ)
+    → Consumes (Some input) new bytes → new ≡ Some (drop (length bytes) input)
 consumed_some input None bytes consumed = absurd consumed
 consumed_some input (Some rest) bytes consumed = rw consumed (ap (λ t. Some t) (sym (drop_at bytes rest (length bytes) refl)))
 
@@ -96,3 +99,28 @@ nothing_front a b x same = (0, keeps_appends_nothing a b same)
     keeps_appends_nothing None b same = tt
     keeps_appends_nothing (Some p) None same = absurd same
     keeps_appends_nothing (Some p) (Some q) same = same ∙ sym (append-nil p)
+
+-- ---- a call after others that were done
+
+pub piece_then : {T E : Type 0} (a b c : Option (List ℕ)) (r : Result T E) (x y : List ℕ)
+    → Appends a b x → WritesPiece b c r y → WritesPiece a c r (x ++ y)
+piece_then a b c (Ok t) x y first second = appends_then a b c x y first second
+piece_then a b c (Err e) x y first second = prefix_then a b c x y first second
+
+-- ---- one piece for each item of a list
+
+pub flat_at : {X : Type 0} (f : X → List ℕ) (xs : List X) (i : ℕ) (d : X) (piece : List ℕ)
+    → i < length xs → piece ≡ f (get_or xs i d) → flat_map f xs ≡ flat_map f (take i xs) ++ (piece ++ flat_map f (drop (i + 1) xs))
+flat_at f [] i d piece lt is = absurd (omega arith)
+flat_at f (x ∷ xs) zero d piece lt is = rw is refl
+flat_at f (x ∷ xs) (suc i) d piece lt is =
+    let e : suc i + 1 ≡ suc (i + 1) = omega arith in
+    rw e (ap (λ t. f x ++ t) (flat_at f xs i d piece (omega (arith, lt)) is)
+    ∙ sym (append_assoc (f x) (flat_map f (take i xs)) (piece ++ flat_map f (drop (i + 1) xs))))
+
+-- the pieces of the items before i are written, and then some prefix of that of item i
+pub failed_next : {X : Type 0} (f : X → List ℕ) (xs : List X) (i : ℕ) (d : X) (piece : List ℕ) (old mid new : Option (List ℕ))
+    → Appends old mid (flat_map f (take i xs)) → i < length xs → piece ≡ f (get_or xs i d) → AppendsPrefix mid new piece
+    → AppendsPrefix old new (flat_map f xs)
+failed_next f xs i d piece old mid new before lt is failed =
+    rw (flat_at f xs i d piece lt is) (prefix_then _ _ _ _ _ before (prefix_longer _ _ piece _ failed))

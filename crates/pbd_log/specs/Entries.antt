@@ -53,7 +53,8 @@ answer_of (replies.Refused refusal) = refusal_answer refusal
 
 -- an answer in the log: 0 to 10 carry nothing, 11 has a phase from 1 to 4, and 12 has a step alone
 abbrev pub IsAnswer : Answer → Type 0
-IsAnswer a = ((a.number ≤ 10) × (a ≡ plain a.number)) ⊎ (((1 ≤ a.phase) × (a.phase ≤ 4) × (a ≡ leaves a.step a.phase a.element)) ⊎ (a ≡ too_many a.step))
+IsAnswer a = ((a.number ≤ 10) × (a ≡ plain a.number)) ⊎
+    (((1 ≤ a.phase) × (a.phase ≤ 4) × (a ≡ leaves a.step a.phase a.element)) ⊎ (a ≡ too_many a.step))
 
 -- ---- which entries there are
 

@@ -15,7 +15,8 @@ IsBytes bytes = (i : ℕ) → slice_index bytes i < 256
 
 -- no other n bytes have the value of these
 abbrev pub DifferentBytesDiffer : Type 0
-DifferentBytesDiffer = (n : ℕ) (xs ys : List ℕ) → IsBytes xs → IsBytes ys → length xs ≡ n → length ys ≡ n → big_number n xs ≡ big_number n ys → xs ≡ ys
+DifferentBytesDiffer = (n : ℕ) (xs ys : List ℕ) → IsBytes xs → IsBytes ys → length xs ≡ n → length ys ≡ n
+    → big_number n xs ≡ big_number n ys → xs ≡ ys
 
 -- the n bytes of a number are those whose big-endian reading it is
 abbrev pub FieldIsItsReading : Type 0
@@ -23,8 +24,10 @@ FieldIsItsReading = (n x : ℕ) (xs : List ℕ) → IsBytes xs → x < 256 ^ n �
 
 -- the parts that a writer writes, one after the other, spell their log
 abbrev pub PartsSpellTheirLog : Type 0
-PartsSpellTheirLog = (limit : ℤ) (scene : List ℕ) (entries : List Entry) → IsTrue (is_limit limit) → length scene < 2 ^ 32 → AllByRecursion IsEntry entries → length entries < 2 ^ 64 →
-    Spells ((header_bytes 2 limit (length scene) ++ scene) ++ flat_map entry_bytes entries ++ end_bytes (length entries)) 2 limit scene entries
+PartsSpellTheirLog = (limit : ℤ) (scene : List ℕ) (entries : List Entry) → IsTrue (is_limit limit)
+    → length scene < 2 ^ 32 → AllByRecursion IsEntry entries → length entries < 2 ^ 64 →
+    Spells ((header_bytes 2 limit (length scene) ++ scene) ++ flat_map entry_bytes entries ++ end_bytes (length entries))
+    2 limit scene entries
 
 -- bytes spell at most one log
 pub record SameLog (version version' : ℕ) (limit limit' : ℤ) (scene scene' : List ℕ) (entries entries' : List Entry) : Type 0 where
@@ -35,11 +38,13 @@ pub record SameLog (version version' : ℕ) (limit limit' : ℤ) (scene scene' :
 
 abbrev pub OneReading : Type 0
 OneReading = (bytes : List ℕ) (version version' : ℕ) (limit limit' : ℤ) (scene scene' : List ℕ) (entries entries' : List Entry) →
-    Spells bytes version limit scene entries → Spells bytes version' limit' scene' entries' → SameLog version version' limit limit' scene scene' entries entries'
+    Spells bytes version limit scene entries → Spells bytes version' limit' scene' entries'
+    → SameLog version version' limit limit' scene scene' entries entries'
 
 -- where the bytes of two entries begin alike they are the same entry
 abbrev pub NoEntryBeginsAnother : Type 0
-NoEntryBeginsAnother = (e f : Entry) (more rest : List ℕ) → IsEntry e → IsEntry f → entry_bytes e ++ more ≡ entry_bytes f ++ rest → (e ≡ f) × (more ≡ rest)
+NoEntryBeginsAnother = (e f : Entry) (more rest : List ℕ) → IsEntry e → IsEntry f
+    → entry_bytes e ++ more ≡ entry_bytes f ++ rest → (e ≡ f) × (more ≡ rest)
 
 -- so no entry's bytes are a proper prefix of another's
 abbrev pub NoProperPrefix : Type 0
@@ -58,4 +63,5 @@ abbrev pub KeptEntryIsGrammatical : Type 0
 KeptEntryIsGrammatical = (w : World) (command : Command) → IsGrammatical (entry_of (entry w command))
 
 abbrev pub LoggedEntriesAreGrammatical : Type 0
-LoggedEntriesAreGrammatical = (w : World) (commands : List Command) → AllByRecursion IsGrammatical (map {A = LogEntry} {B = Entry} entry_of (logged w commands))
+LoggedEntriesAreGrammatical = (w : World) (commands : List Command)
+    → AllByRecursion IsGrammatical (map {A = LogEntry} {B = Entry} entry_of (logged w commands))

@@ -171,7 +171,8 @@ pub record Head : Type 0 where
 unfoldable pub version_at : List ℕ → Option (ℕ × List ℕ)
 version_at bytes =
     if nat_lt (length bytes) 8 then None
-    else (if bytes_eq (take 7 bytes) name && (slice_index bytes 7 == 1 || slice_index bytes 7 == 2) then Some (slice_index bytes 7, drop 8 bytes) else None)
+    else (if bytes_eq (take 7 bytes) name && (slice_index bytes 7 == 1 || slice_index bytes 7 == 2)
+    then Some (slice_index bytes 7, drop 8 bytes) else None)
 
 -- the limit, which version 1 doesn't say
 unfoldable pub limit_at : ℕ → List ℕ → Option (ℤ × List ℕ)

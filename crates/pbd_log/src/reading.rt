@@ -1,4 +1,4 @@
-ghost use Rattle.std.specs.Prelude.{◌≡◌, ◌==◌, ◌≤◌, ℤ, List, length};
+ghost use Rattle.std.specs.Prelude.{◌≡◌, ◌==◌};
 ghost use Rattle.pbd_world.specs.declared.command.Command.TheVariants.{Step, Pin, Unpin, Cut};
 ghost use Rattle.pbd_log.specs.Entries.{has_sums};
 ghost use Rattle.pbd_log.specs.Laws.{IsBytes};

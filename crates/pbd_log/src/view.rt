@@ -1,4 +1,4 @@
-ghost use Rattle.std.specs.Prelude.{◌≡◌, ◌+◌, ◌≤◌, ◌<◌, ◌^◌, ◌++◌, ◌∷◌, [], ℕ, ℤ, List, length, IfOk, IfErr, IfSome, IfNone, OnErr, MatchResult, Result};
+ghost use Rattle.std.specs.Prelude.{◌≡◌, ◌≤◌, ◌<◌, ◌^◌, ◌++◌, ◌∷◌, [], List, length, IfOk, IfErr, IfSome, IfNone, OnErr, MatchResult, Result};
 ghost use Rattle.std.specs.List.{flat_map, AllByRecursion};
 ghost use Rattle.pbd_log.specs.declared.entry.Entry.{Entry};
 ghost use Rattle.pbd_log.specs.Entries.{entry_bytes, IsEntry};
@@ -64,7 +64,8 @@ fn scene_of(bytes: &[u8]) -> Option<(&[u8], &[u8])>
 
 #[tactic(auto, unfolding(crate::specs::Reading::head_at))]
 fn head_of(bytes: &[u8]) -> Result<Head<'_>, LogFault>
-    ensures { GivesOr (λ h. record { version = h.version; limit = h.limit; scene = h.scene.now; body = h.body.now }) (λ f. f.offset) result (head_at bytes.now) }
+    ensures { GivesOr (λ h. record { version = h.version; limit = h.limit; scene = h.scene.now; body = h.body.now })
+        (λ f. f.offset) result (head_at bytes.now) }
 {
     let Some((version, rest)) = version_of(bytes) else {
         return Err(LogFault { offset: 0 });
@@ -86,7 +87,8 @@ fn head_of(bytes: &[u8]) -> Result<Head<'_>, LogFault>
 
 /// How many entries stand at the front, and what follows them.
 fn skip_entries(body: &[u8]) -> (u64, &[u8])
-    ensures parts { (entries : List Entry) × AllByRecursion IsEntry entries × (body.now ≡ flat_map entry_bytes entries ++ result.1.now) × (length entries ≡ result.0) }
+    ensures parts { (entries : List Entry) × AllByRecursion IsEntry entries
+        × (body.now ≡ flat_map entry_bytes entries ++ result.1.now) × (length entries ≡ result.0) }
     ensures none { BeginsNoEntry result.1.now }
     ensures fits { result.0 < 2 ^ 64 }
 {

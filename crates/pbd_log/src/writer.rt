@@ -1,4 +1,4 @@
-ghost use Rattle.std.specs.Prelude.{◌≡◌, ◌+◌, ◌≤◌, ◌<◌, ◌^◌, ◌++◌, ◌∷◌, [], List, length, OnOk, OnErr, IfOk, IsTrue, pos};
+ghost use Rattle.std.specs.Prelude.{◌≡◌, ◌+◌, ◌≤◌, ◌<◌, ◌^◌, ◌++◌, [], length, OnOk, OnErr, IfOk, IsTrue};
 ghost use Rattle.pbd_io.specs.Causes.{HasCause};
 ghost use Rattle.pbd_io.specs.Pieces.{WritesPiece};
 ghost use Rattle.pbd_world.specs.Valid.{is_limit};
@@ -134,7 +134,8 @@ impl LogWriter {
     pub fn begin<K: Sink>(sink: &mut K, limit: i64, scene: &[u8]) -> Result<LogWriter, Failed>
         requires limit { IsTrue (is_limit limit) }
         requires scene { length scene.now < 2 ^ 32 }
-        ensures bytes { WritesPiece (K.written sink.old) (K.written sink.new) result (header_bytes 2 limit (length scene.now) ++ scene.now) }
+        ensures bytes { WritesPiece (K.written sink.old) (K.written sink.new) result
+            (header_bytes 2 limit (length scene.now) ++ scene.now) }
         ensures cause { HasCause (K.faults sink.old) (K.faults sink.new) result }
         ensures entries { IfOk result (λ writer. writer ≡ 0) }
     {
