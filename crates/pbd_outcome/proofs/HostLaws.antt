@@ -1,5 +1,5 @@
 -- What `host` comes to, and its sessions apart.
-use Rattle.std.proofs.Common.{◌≡◌, ◌∙◌, sym, ap, refl, ℕ, suc, ◌+◌, ◌≤◌, true, List, [], ◌∷◌, length, map, Option, Some, Result, Ok, Err, inr, arith}
+use Rattle.std.proofs.Common.{◌≡◌, ◌∙◌, sym, ap, refl, ℕ, suc, ◌+◌, ◌≤◌, true, List, [], ◌∷◌, length, map, Some, Result, Ok, Err, inr, arith}
 use Rattle.std.specs.Prelude.{nat_le}
 use Rattle.std.proofs.lemmas.Bool.Decides.{nat_tests}
 use Rattle.std.proofs.lemmas.List.{length-map}
@@ -8,9 +8,7 @@ use Rattle.pbd_world.specs.Outcomes.{◌>>=◌, with_fault}
 use Rattle.pbd_world.specs.World.{World, opened}
 use Rattle.pbd_host.specs.Tagged.{requests_of}
 use Rattle.pbd_host.proofs.ApartLaws.{text_apart}
-use Rattle.pbd_outcome.specs.declared.job.Job.{Job}
-use Rattle.pbd_outcome.specs.declared.status.Status.{Status}
-use Rattle.pbd_outcome.specs.Clauses.{Ends, Settles}
+use Rattle.pbd_outcome.specs.Clauses.{Run, Settles}
 use Rattle.pbd_outcome.specs.Hosting.{HostsApart}
 use Rattle.pbd_outcome.specs.Outcome.{IsOutcome, Outcome, few_in, host_outcome, hosted, range, scene_in, scenes_in, settled, stops_in}
 use Rattle.pbd_outcome.specs.Split.{host_split}
@@ -46,14 +44,14 @@ as_many n (text ∷ texts) scenes is = one_longer (with_fault (stops_in n) (scen
 
 -- ---- sessions apart
 
-pub hosts_apart : (job : Option Job) (old new : Ends) (status : Status) → Settles job old new status → HostsApart job old new status
-hosts_apart job old new status settles width input scenes lines is told has nr nw nm =
+pub hosts_apart : (run : Run) → Settles run → HostsApart run
+hosts_apart run settles width input scenes lines is told has nr nw nm =
     let ws : List World = map opened scenes in
     let o : Outcome = host_outcome ws (requests_of (length scenes) lines) in
     let all : hosted input ≡ o = hosted_on input (has.texts, lines) scenes has.halves has.few has.accepted in
-    let its : IsOutcome job input o = rw is (inr (has.short, sym all)) in
+    let its : IsOutcome run.job input o = rw is (inr (has.short, sym all)) in
     let went = settles nr nw nm input (inr told) in
-    let same : went.outcome ≡ o = one_outcome job input went.outcome o went.its its in
+    let same : went.outcome ≡ o = one_outcome run.job input went.outcome o went.its its in
     let few : length ws ≤ 16 = omega (arith, length-map {A = Parts} {B = World} scenes opened, as_many 0 has.texts scenes has.accepted, has.few) in
     record {
       bytes = rw same at went.text;

@@ -1,13 +1,17 @@
+pub mod EachLog
 pub mod EntryFits
 pub mod HeadlineLaws
 pub mod HostLaws
 pub mod LineLaws
+pub mod OldLogs
 pub mod OneOutcome
 pub mod OutcomeLaws
 pub mod RefusalFits
 pub mod ReplayedRecords
+pub mod SceneLimits
 pub mod ScrambleLaws
 pub mod ScriptFits
 pub mod ShortLines
 pub mod ShortLogs
 pub mod ShortRecords
+pub mod SomeOutcome

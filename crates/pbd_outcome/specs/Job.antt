@@ -1,6 +1,7 @@
 -- What the words ask for.
-use Rattle.std.specs.Prelude.{ℕ, ◌≤◌, ◌^◌, Bool, ◌&&◌, nat_le, nat_lt, codes, if◌then◌else◌, List, [], ◌∷◌, length, bytes_eq, Option, Some, None, option_map, option_and_then}
+use Rattle.std.specs.Prelude.{ℕ, ◌≤◌, ◌^◌, Bool, ◌&&◌, nat_le, nat_lt, codes, if◌then◌else◌, List, [], ◌∷◌, length, map, string_bytes, String, bytes_eq, Option, Some, None, option_map, option_and_then}
 use Rattle.std.specs.List.{list_all}
+use Rattle.std.specs.declared.alloc.Global.{Global}
 use Rattle.pbd_world.specs.declared.command.Width.{Width}
 use Rattle.pbd_world.specs.declared.command.Width.TheVariants.{W1, W2, W4, W8, W16}
 use Rattle.pbd_script.specs.Lines.{is_digit, value}
@@ -37,13 +38,20 @@ with_width form w =
     else (if bytes_eq form (codes "host") then Some (Host w) else None)))))
 
 abbrev pub large : List ℕ → List ℕ → List ℕ → Option Job
-large w seed side = option_and_then (λ w. option_and_then (λ seed. option_map (λ side. Large w seed side) (size side)) (number seed)) (width w)
+large w seed side =
+    option_and_then (λ w. option_and_then (λ seed. option_map (λ side. Large w seed side) (size side)) (number seed)) (width w)
 
 -- the job of the words, or nothing where they are no form
 abbrev pub job : List (List ℕ) → Option Job
-job (form ∷ word ∷ []) = if bytes_eq form (codes "scramble") then option_map (λ seed. Scramble seed) (number word) else option_and_then (with_width form) (width word)
+job (form ∷ word ∷ []) =
+    if bytes_eq form (codes "scramble") then option_map (λ seed. Scramble seed) (number word)
+    else option_and_then (with_width form) (width word)
 job (form ∷ w ∷ seed ∷ side ∷ []) = if bytes_eq form (codes "large") then large w seed side else None
 job _ = None
+
+-- what a caller's words ask for
+abbrev pub job_of : List (String Global) → Option Job
+job_of words = job (map string_bytes words)
 
 -- a generated scene has 2 to 128 rows
 abbrev pub IsSized : Job → Type 0

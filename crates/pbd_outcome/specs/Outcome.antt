@@ -56,6 +56,10 @@ most_of_log = 134217728
 abbrev pub range : ℤ
 range = pos (2 ^ 29)
 
+-- the limit of a log of version 1, which doesn't say it
+abbrev pub old_limit : ℤ
+old_limit = pos 268435456
+
 -- the run stops, with the line of its status
 abbrev pub stops : Status → List ℕ → Outcome
 stops status rest = record { text = status_line status; status = status; rest = rest }
@@ -215,7 +219,11 @@ step_status r = if is_refused r then SomeRefused else Done
 
 -- thirty steps of a world, and what came of them
 unfoldable pub summary_outcome : ℕ → ℕ → World → List ℕ → Outcome
-summary_outcome number size w rest = record { text = summary number size (after w (Step 30)) (reply w (Step 30)); status = step_status (reply w (Step 30)); rest = rest }
+summary_outcome number size w rest = record {
+  text = summary number size (after w (Step 30)) (reply w (Step 30));
+  status = step_status (reply w (Step 30));
+  rest = rest;
+}
 
 abbrev pub large_outcome : ℕ → ℕ → List ℕ → Outcome
 large_outcome number size rest = summary_outcome number size (opened (generated number size)) rest

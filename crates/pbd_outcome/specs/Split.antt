@@ -14,7 +14,9 @@ ended_lines lines = flat_map (λ piece. piece ++ 10 ∷ []) lines
 
 -- what stands before the first line that is this word, and what follows it
 unfoldable pub split_at : List ℕ → List ℕ → Option (List ℕ × List ℕ)
-split_at word bytes = option_map (λ i. (ended_lines (take i (pieces bytes)), join_with_byte 10 (drop (i + 1) (pieces bytes)))) (position (is_line word) (pieces bytes))
+split_at word bytes =
+    option_map (λ i. (ended_lines (take i (pieces bytes)), join_with_byte 10 (drop (i + 1) (pieces bytes))))
+    (position (is_line word) (pieces bytes))
 
 -- the line `%%`
 abbrev pub divider : List ℕ

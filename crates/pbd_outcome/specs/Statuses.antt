@@ -1,6 +1,9 @@
 -- The statuses of a run, and the lines of those that stop it.
 use Rattle.std.specs.Prelude.{ℕ, ◌-◌, ◌++◌, codes, decimal, List, [], ◌∷◌, length, take}
 use Rattle.pbd_world.specs.Text.{line}
+use Rattle.pbd_scene.specs.declared.fault.SceneRule.{SceneRule}
+use Rattle.pbd_scene.specs.declared.fault.TableName.{TableName}
+use Rattle.pbd_scene.specs.declared.fault.KeyName.{KeyName}
 use Rattle.pbd_scene.specs.Checks.{Broken}
 use Rattle.pbd_scene.specs.Keys.{key_text, table_text, rule_number, rule_text}
 use Rattle.pbd_outcome.specs.declared.status.Status.{Status}
@@ -37,9 +40,14 @@ status_line SceneNotToml = error_line (codes "7" ∷ codes "SceneNotToml" ∷ []
 status_line TooManyScenes = error_line (codes "15" ∷ codes "TooManyScenes" ∷ [])
 status_line _ = []
 
+-- a broken rule from its parts
+abbrev pub broken_at : SceneRule → TableName → ℕ → KeyName → Broken
+broken_at rule table position key = record { rule = rule; place = record { table = table; position = position }; key = key }
+
 -- the rule that a scene breaks, and where
 unfoldable pub refused_line : Broken → List ℕ
-refused_line b = error_line (codes "8" ∷ codes "SceneRefused" ∷ decimal (rule_number b.rule) ∷ rule_text b.rule ∷ table_text b.place.table ∷ decimal b.place.position ∷ key_text b.key ∷ [])
+refused_line b = error_line (codes "8" ∷ codes "SceneRefused" ∷ decimal (rule_number b.rule) ∷ rule_text b.rule
+    ∷ table_text b.place.table ∷ decimal b.place.position ∷ key_text b.key ∷ [])
 
 -- where a log goes wrong
 unfoldable pub log_line : ℕ → List ℕ

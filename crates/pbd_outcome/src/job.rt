@@ -1,7 +1,7 @@
-ghost use Rattle.std.specs.Prelude.{◌≡◌, [], ◌∷◌, ◌≤◌, ◌<◌, ◌^◌, IfSome, IsTrue, length, map, string_bytes};
+ghost use Rattle.std.specs.Prelude.{◌≡◌, [], ◌∷◌, ◌≤◌, ◌<◌, ◌^◌, IfSome, IsTrue, length};
 ghost use Rattle.std.specs.List.{list_all};
 ghost use Rattle.pbd_script.specs.Lines.{is_digit};
-ghost use Rattle.pbd_outcome.specs.Job.{width, are_digits, number, size, with_width, large, job, IsSized};
+ghost use Rattle.pbd_outcome.specs.Job.{width, are_digits, number, size, with_width, large, job, job_of, IsSized};
 
 use pbd_script::lines;
 use pbd_world::Width;
@@ -125,7 +125,7 @@ fn of_two(form: &str, word: &str) -> Option<Job>
 
 /// The job of the words, `None` exactly where they are no form.
 pub fn job_of(words: &[String]) -> Option<Job>
-    ensures job { result ≡ job (map string_bytes words.now) }
+    ensures job { result ≡ job_of words.now }
     ensures sized { IfSome result IsSized }
 {
     match words {

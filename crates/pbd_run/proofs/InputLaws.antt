@@ -12,10 +12,11 @@ use Rattle.pbd_outcome.specs.declared.status.Status.TheVariants.{NoScript}
 use Rattle.pbd_outcome.specs.Outcome.{Outcome, log_outcome, range, recorded, scene_in, settled, simulated, simulated_with_marks, stops}
 use Rattle.pbd_outcome.specs.Split.{split}
 use Rattle.pbd_outcome.proofs.OutcomeLaws.{log_is, settled_ok}
+use Rattle.pbd_outcome.proofs.SceneLimits.{its_limit}
 use Rattle.pbd_run.specs.declared.scene.SceneStop.{SceneStop}
 use Rattle.pbd_run.specs.Calls.{Does, EndsForScene, HasHalves, IsRecordable, Stops, StopsAtHalves, on_halves}
 use Rattle.pbd_run.specs.Forms.{marks_on, record_on, replay_on, simulate_on}
-use Rattle.pbd_run.proofs.SceneLaws.{its_limit, scene_ended}
+use Rattle.pbd_run.proofs.SceneLaws.{scene_ended}
 
 -- ---- halves
 

@@ -1,5 +1,5 @@
--- What each form comes to leaves nothing of what was read, and is never a fault of reading.
-use Rattle.std.proofs.Common.{◌≡◌, ◌≢◌, refl, ℕ, Bool, true, false, cond, List, [], Option, Some, None, Result, Ok, Err, inl, inr}
+-- What each form comes to leaves nothing of what was read, and is neither a fault of reading nor one of the words.
+use Rattle.std.proofs.Common.{◌≡◌, refl, ℕ, Bool, true, false, cond, List, [], Option, Some, None, Result, Ok, Err, inl, inr}
 use Rattle.std.specs.Prelude.{◌==◌, ◌+◌, ◌∷◌, ℤ, length, map, nat_le}
 use Rattle.std.specs.Str.{is_utf8}
 use Rattle.toml.specs.Data.{Members}
@@ -24,15 +24,22 @@ use Rattle.pbd_session.specs.declared.ending.ReplayEnd.TheVariants as ends
 use Rattle.pbd_session.specs.Replaying.{replayed}
 use Rattle.pbd_marks.specs.Marked.{marked_refused_count, unmarked}
 use Rattle.pbd_marks.specs.Script.{mark_commands}
-use Rattle.pbd_outcome.specs.declared.status.Status.TheVariants.{Done, SomeRefused, ReadFault, SceneNotText, TooManyScenes}
+use Rattle.pbd_outcome.specs.declared.status.Status.{Status}
+use Rattle.pbd_outcome.specs.declared.status.Status.TheVariants.{Done, Usage, SomeRefused, ReadFault, SceneNotText, TooManyScenes}
 use Rattle.pbd_outcome.specs.Generated.{generated}
 use Rattle.pbd_outcome.specs.Split.{split, host_split}
 use Rattle.pbd_outcome.specs.Outcome.{IsReplayed, Outcome, halves_in, large_outcome, log_outcome, mesh_in, meshed, parts_in, range, recorded, replay_status, scene_in, settled, simulated, stops, summary_outcome, tree_in, simulated_with_marks, few_in, host_halves_in, hosted, scenes_in, stops_in}
 
--- an outcome that leaves nothing and is no fault of reading
+-- a status that an input may lead to: neither a fault of reading nor one of the words
+abbrev pub IsEnd : Status → Type 0
+IsEnd ReadFault = ⊥
+IsEnd Usage = ⊥
+IsEnd _ = Unit {0}
+
+-- an outcome that leaves nothing and has such a status
 pub record IsWhole (o : Outcome) : Type 0 where
   pub rest : o.rest ≡ []
-  pub read : o.status ≢ ReadFault
+  pub ended : IsEnd o.status
 
 abbrev StopsWhole : {A : Type 0} → Result A Outcome → Type 0
 StopsWhole (Ok a) = Unit {0}
@@ -44,49 +51,49 @@ then_whole (Err o) then stop whole = stop
 
 halves_whole : (h : Option (List ℕ × List ℕ)) → StopsWhole (halves_in h)
 halves_whole (Some h) = tt
-halves_whole None = record { rest = refl; read = λ e. cc }
+halves_whole None = record { rest = refl; ended = tt }
 
 parts_whole : (c : Checked Parts) → StopsWhole (parts_in c)
 parts_whole (Ok parts) = tt
-parts_whole (Err b) = record { rest = refl; read = λ e. cc }
+parts_whole (Err b) = record { rest = refl; ended = tt }
 
 tree_whole : (limit : ℤ) (tree : Option Members) → StopsWhole (tree_in limit tree)
-tree_whole limit None = record { rest = refl; read = λ e. cc }
+tree_whole limit None = record { rest = refl; ended = tt }
 tree_whole limit (Some t) = parts_whole (scene_of limit t)
 
 text_whole : (b : Bool) (limit : ℤ) (tree : Option Members) → StopsWhole (cond b (tree_in limit tree) (Err (stops SceneNotText [])))
 text_whole true limit tree = tree_whole limit tree
-text_whole false limit tree = record { rest = refl; read = λ e. cc }
+text_whole false limit tree = record { rest = refl; ended = tt }
 
 scene_whole : (limit : ℤ) (bytes : List ℕ) → StopsWhole (scene_in limit bytes)
 unfolding scene_in
 scene_whole limit bytes = text_whole (is_utf8 bytes) limit (parse_document bytes)
 
-no_read_fault : (b : Bool) → cond b Done SomeRefused ≢ ReadFault
-no_read_fault true e = cc
-no_read_fault false e = cc
+either_ends : (b : Bool) → IsEnd (cond b Done SomeRefused)
+either_ends true = tt
+either_ends false = tt
 
-replay_read : (end : ReplayEnd) → replay_status end ≢ ReadFault
-replay_read (ends.Done refused) e = no_read_fault (refused == 0) e
-replay_read (ends.Mismatch entry field recorded found) e = cc
+replay_ends : (end : ReplayEnd) → IsEnd (replay_status end)
+replay_ends (ends.Done refused) = either_ends (refused == 0)
+replay_ends (ends.Mismatch entry field recorded found) = tt
 
 pub simulated_whole : (input : List ℕ) → IsWhole (simulated input)
 unfolding simulated
 simulated_whole input =
     then_whole (halves_in (split input)) _ (halves_whole (split input)) (λ h.
     then_whole (scene_in range h.0) _ (scene_whole range h.0) (λ parts.
-    record { rest = refl; read = no_read_fault (refused_count (opened parts) (commands h.1) == 0) }))
+    record { rest = refl; ended = either_ends (refused_count (opened parts) (commands h.1) == 0) }))
 
 pub recorded_whole : (input : List ℕ) → IsWhole (recorded input)
 unfolding recorded
 recorded_whole input =
     then_whole (halves_in (split input)) _ (halves_whole (split input)) (λ h.
     then_whole (scene_in range h.0) _ (scene_whole range h.0) (λ parts.
-    record { rest = refl; read = no_read_fault (refused_count (opened parts) (commands h.1) == 0) }))
+    record { rest = refl; ended = either_ends (refused_count (opened parts) (commands h.1) == 0) }))
 
 mesh_whole : {A : Type 0} (r : Result A ObjFault) → StopsWhole (mesh_in r)
 mesh_whole (Ok a) = tt
-mesh_whole (Err fault) = record { rest = refl; read = λ e. cc }
+mesh_whole (Err fault) = record { rest = refl; ended = tt }
 
 pub meshed_whole : (input : List ℕ) → IsWhole (meshed input)
 unfolding meshed
@@ -96,41 +103,41 @@ meshed_whole input =
     then_whole (scene_in range h.0) _ (scene_whole range h.0) (λ parts.
     then_whole (mesh_in (read outer.0)) _ (mesh_whole (read outer.0)) (λ mesh.
     then_whole (mesh_in (with_mesh mesh parts)) _ (mesh_whole (with_mesh mesh parts)) (λ whole.
-    record { rest = refl; read = no_read_fault (refused_count (opened whole) (commands h.1) == 0) })))))
+    record { rest = refl; ended = either_ends (refused_count (opened whole) (commands h.1) == 0) })))))
 
 pub marks_whole : (input : List ℕ) → IsWhole (simulated_with_marks input)
 unfolding simulated_with_marks
 marks_whole input =
     then_whole (halves_in (split input)) _ (halves_whole (split input)) (λ h.
     then_whole (scene_in range h.0) _ (scene_whole range h.0) (λ parts.
-    record { rest = refl; read = no_read_fault (marked_refused_count (unmarked (opened parts)) (mark_commands h.1) == 0) }))
+    record { rest = refl; ended = either_ends (marked_refused_count (unmarked (opened parts)) (mark_commands h.1) == 0) }))
 
 log_whole : (log : Log) → IsWhole (log_outcome log)
 unfolding log_outcome
 log_whole log =
     then_whole (scene_in log.limit log.scene) _ (scene_whole log.limit log.scene) (λ parts.
-    record { rest = refl; read = replay_read (replayed (opened parts) log.entries).ended })
+    record { rest = refl; ended = replay_ends (replayed (opened parts) log.entries).ended })
 
 pub replayed_whole : (input : List ℕ) (o : Outcome) → IsReplayed input o → IsWhole o
 replayed_whole input o (inl (log, spells, is)) = rw is (log_whole log)
-replayed_whole input o (inr (offset, fault, is)) = rw is (record { rest = refl; read = λ e. cc })
+replayed_whole input o (inr (offset, fault, is)) = rw is (record { rest = refl; ended = tt })
 
 -- ---- several scenes
 
 host_halves_whole : (h : Option (List (List ℕ) × List (List ℕ))) → StopsWhole (host_halves_in h)
 host_halves_whole (Some h) = tt
-host_halves_whole None = record { rest = refl; read = λ e. cc }
+host_halves_whole None = record { rest = refl; ended = tt }
 
 either_whole : {A : Type 0} (b : Bool) (r t : Result A Outcome) → StopsWhole r → StopsWhole t → StopsWhole (cond b r t)
 either_whole true r t first second = first
 either_whole false r t first second = second
 
 few_whole : (texts : List (List ℕ)) → StopsWhole (few_in texts)
-few_whole texts = either_whole (nat_le (length texts) 16) (Ok texts) (Err (stops TooManyScenes [])) tt (record { rest = refl; read = λ e. cc })
+few_whole texts = either_whole (nat_le (length texts) 16) (Ok texts) (Err (stops TooManyScenes [])) tt (record { rest = refl; ended = tt })
 
 told_whole : {A : Type 0} (n : ℕ) (r : Result A Outcome) → StopsWhole r → StopsWhole (with_fault (stops_in n) r)
 told_whole n (Ok a) whole = tt
-told_whole n (Err o) whole = record { rest = whole.rest; read = whole.read }
+told_whole n (Err o) whole = record { rest = whole.rest; ended = whole.ended }
 
 more_whole : {A B : Type 0} (r : Result A Outcome) (then : A → Result B Outcome) → StopsWhole r → ((a : A) → StopsWhole (then a)) → StopsWhole (r >>= then)
 more_whole (Ok a) then stop whole = whole a
@@ -149,7 +156,7 @@ hosted_whole input =
     then_whole (host_halves_in (host_split input)) _ (host_halves_whole (host_split input)) (λ h.
     then_whole (few_in h.0) _ (few_whole h.0) (λ texts.
     then_whole (scenes_in 0 texts) _ (scenes_whole 0 texts) (λ scenes.
-    record { rest = refl; read = no_read_fault (hosted_refused (map opened scenes) (requests_of (length scenes) h.1) == 0) })))
+    record { rest = refl; ended = either_ends (hosted_refused (map opened scenes) (requests_of (length scenes) h.1) == 0) })))
 
 -- ---- a generated scene
 
@@ -157,10 +164,10 @@ pub large_rest : (number size : ℕ) (input : List ℕ) → record (large_outcom
 unfolding summary_outcome
 large_rest number size input = refl
 
-step_read : (b : Bool) → cond b SomeRefused Done ≢ ReadFault
-step_read true e = cc
-step_read false e = cc
+step_ends : (b : Bool) → IsEnd (cond b SomeRefused Done)
+step_ends true = tt
+step_ends false = tt
 
-pub large_read : (number size : ℕ) → (large_outcome number size []).status ≢ ReadFault
+pub large_ends : (number size : ℕ) → IsEnd (large_outcome number size []).status
 unfolding summary_outcome
-large_read number size = step_read (is_refused (reply (opened (generated number size)) (Step 30)))
+large_ends number size = step_ends (is_refused (reply (opened (generated number size)) (Step 30)))

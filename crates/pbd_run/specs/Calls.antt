@@ -18,6 +18,7 @@ use Rattle.pbd_outcome.specs.declared.status.Status.{Status}
 use Rattle.pbd_outcome.specs.declared.status.Status.TheVariants.{ReadFault, WriteFault, InputTooLong, SceneNotText, SceneNotToml, OutOfMemory}
 use Rattle.pbd_outcome.specs.Outcome.{IsReplayed, Outcome, halves_in, meshed, most, most_of_log, obj_refused, range, recorded, scene_in, scene_refused, settled, simulated, stops, simulated_with_marks, hosted, scenes_in, stops_in}
 use Rattle.pbd_outcome.specs.Split.{split}
+use Rattle.pbd_outcome.specs.Statuses.{broken_at}
 use Rattle.pbd_run.specs.declared.reading.ReadEnd.{ReadEnd}
 use Rattle.pbd_run.specs.declared.reading.ReadEnd.TheVariants as readings
 use Rattle.pbd_run.specs.declared.scene.SceneStop.{SceneStop}
@@ -45,7 +46,7 @@ pub record DoesSome (IsOne : Outcome → Type 0) (old new : Option (List ℕ)) (
 abbrev pub Stops : SceneStop → Result Parts Outcome → Type 0
 Stops NotText r = r ≡ Err (stops SceneNotText [])
 Stops (Fault faults.NotToml) r = r ≡ Err (stops SceneNotToml [])
-Stops (Fault (faults.Refused rule table position key)) r = r ≡ Err (scene_refused (record { rule = rule; place = record { table = table; position = position }; key = key }))
+Stops (Fault (faults.Refused rule table position key)) r = r ≡ Err (scene_refused (broken_at rule table position key))
 Stops (Fault faults.OutOfMemory) r = Unit {0}
 
 -- the parts that a scene's bytes gave, or why they gave none
@@ -63,7 +64,8 @@ EndsReading readings.OutOfMemory old new before now status = (status ≡ OutOfMe
 abbrev pub EndsForScene : SceneStop → Option (List ℕ) → Option (List ℕ) → ℕ → ℕ → Status → Type 0
 EndsForScene NotText old new before now status = Does (stops SceneNotText []) old new before now status
 EndsForScene (Fault faults.NotToml) old new before now status = Does (stops SceneNotToml []) old new before now status
-EndsForScene (Fault (faults.Refused rule table position key)) old new before now status = Does (scene_refused (record { rule = rule; place = record { table = table; position = position }; key = key })) old new before now status
+EndsForScene (Fault (faults.Refused rule table position key)) old new before now status =
+    Does (scene_refused (broken_at rule table position key)) old new before now status
 EndsForScene (Fault faults.OutOfMemory) old new before now status = (status ≡ OutOfMemory) × Keeps old new
 
 -- what a call does that ends a run whose mesh is refused
@@ -107,7 +109,8 @@ on_halves outcome input = settled (do
 
 -- a call ended a run whose input has no such halves, whatever it would have done with them
 abbrev pub StopsAtHalves : List ℕ → Option (List ℕ) → Option (List ℕ) → ℕ → ℕ → Status → Type 0
-StopsAtHalves input old new before now status = (outcome : List ℕ → Parts → List ℕ → Outcome) → Does (on_halves outcome input) old new before now status
+StopsAtHalves input old new before now status =
+    (outcome : List ℕ → Parts → List ℕ → Outcome) → Does (on_halves outcome input) old new before now status
 
 -- what `record` asks of its scene and its script: that they can be written in a log
 pub record IsRecordable (text : List ℕ) (parts : Parts) (script : List ℕ) : Type 0 where
@@ -139,7 +142,8 @@ pub record HasMesh (text : List ℕ) (parts : Parts) (mesh : ObjMesh) (base : �
 abbrev pub EndsForSceneIn : ℕ → SceneStop → Option (List ℕ) → Option (List ℕ) → ℕ → ℕ → Status → Type 0
 EndsForSceneIn n NotText old new before now status = Does (stops_in n (stops SceneNotText [])) old new before now status
 EndsForSceneIn n (Fault faults.NotToml) old new before now status = Does (stops_in n (stops SceneNotToml [])) old new before now status
-EndsForSceneIn n (Fault (faults.Refused rule table position key)) old new before now status = Does (stops_in n (scene_refused (record { rule = rule; place = record { table = table; position = position }; key = key }))) old new before now status
+EndsForSceneIn n (Fault (faults.Refused rule table position key)) old new before now status =
+    Does (stops_in n (scene_refused (broken_at rule table position key))) old new before now status
 EndsForSceneIn n (Fault faults.OutOfMemory) old new before now status = (status ≡ OutOfMemory) × Keeps old new
 
 -- the parts of one more scene stand behind those so far
@@ -150,11 +154,13 @@ pub record AddsScene (text : List ℕ) (old new : List Parts) : Type 0 where
 
 -- a call ended a run whose scene n gives no parts, whatever it would have done with them
 abbrev pub StopsInScene : ℕ → List ℕ → Option (List ℕ) → Option (List ℕ) → ℕ → ℕ → Status → Type 0
-StopsInScene n text old new before now status = (then : Parts → Result Outcome Outcome) → Does (settled (with_fault (stops_in n) (scene_in range text) >>= then)) old new before now status
+StopsInScene n text old new before now status =
+    (then : Parts → Result Outcome Outcome) → Does (settled (with_fault (stops_in n) (scene_in range text) >>= then)) old new before now status
 
 -- a call ended a run of which some scene gives no parts
 abbrev pub StopsAtScenes : List (List ℕ) → Option (List ℕ) → Option (List ℕ) → ℕ → ℕ → Status → Type 0
-StopsAtScenes texts old new before now status = (then : List Parts → Result Outcome Outcome) → Does (settled (scenes_in 0 texts >>= then)) old new before now status
+StopsAtScenes texts old new before now status =
+    (then : List Parts → Result Outcome Outcome) → Does (settled (scenes_in 0 texts >>= then)) old new before now status
 
 -- what `host` asks of its scenes and its lines
 pub record IsHostable (scenes : List Parts) (lines : List ℕ) : Type 0 where

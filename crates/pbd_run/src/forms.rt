@@ -1,7 +1,7 @@
 //! The forms of the program: how much each reads, and what does it.
 ghost use Rattle.std.specs.Prelude.{◌≡◌, ◌≤◌, ◌^◌, length, Some, IfSome};
 ghost use Rattle.pbd_outcome.specs.Job.{IsSized};
-ghost use Rattle.pbd_outcome.specs.Clauses.{Promises, Reads, ends};
+ghost use Rattle.pbd_outcome.specs.Clauses.{Promises, Reads, run_of};
 ghost use Rattle.pbd_run.specs.Calls.{DoesSome, IsOne, limit_of};
 
 use crate::host::host_input;
@@ -57,7 +57,7 @@ fn on_input<K: Sink>(alloc: Global, job: Job, input: &[u8], sink: &mut K) -> Sta
 /// Reads the input of a job to its end, and does the job on it.
 fn read_and_do<S: Source, K: Sink>(alloc: Global, job: Job, source: &mut S, sink: &mut K) -> Status
     requires reads { Reads (Some job) }
-    ensures { Promises (Some job) (ends S.left S.faults K.written K.faults source.old sink.old) (ends S.left S.faults K.written K.faults source.new sink.new) result }
+    ensures { Promises (run_of S.Source K.Sink (Some job) source.old sink.old source.new sink.new result) }
 {
     match read_all(alloc, limit_of(job), source) {
         Ok(input) => on_input(alloc, job, &input, sink),
@@ -73,7 +73,7 @@ pub fn perform<S: Source, K: Sink>(
     sink: &mut K,
 ) -> Status
     requires { IfSome job IsSized }
-    ensures promises { Promises job (ends S.left S.faults K.written K.faults source.old sink.old) (ends S.left S.faults K.written K.faults source.new sink.new) result }
+    ensures promises { Promises (run_of S.Source K.Sink job source.old sink.old source.new sink.new result) }
     ensures unread { (Reads job → ⊥) → source.new ≡ source.old }
 {
     let Some(job) = job else {

@@ -33,28 +33,12 @@ fn velocity_of(words: &mut Lcg64Xsh32) -> Vec3
     Vec3 { x, y, z }
 }
 
-fn less(at: i64, speed: i64) -> i64
-    requires at { unsigned_abs at ≤ 2 ^ 29 }
-    requires speed { unsigned_abs speed ≤ 64 }
-    ensures { result ≡ at -ℤ speed }
-{
-    at - speed
-}
-
 fn before(held: bool, at: Vec3, velocity: Vec3) -> Vec3
     requires at { Within (2 ^ 29) at }
     requires velocity { Within 64 velocity }
     ensures { result ≡ (if held then at else minus at velocity) }
 {
-    if held {
-        at
-    } else {
-        Vec3 {
-            x: less(at.x, velocity.x),
-            y: less(at.y, velocity.y),
-            z: less(at.z, velocity.z),
-        }
-    }
+    if held { at } else { at.minus(velocity) }
 }
 
 fn set_off(held: bool, velocity: Vec3, p: &Particle) -> Particle

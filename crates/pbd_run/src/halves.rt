@@ -26,7 +26,8 @@ pub fn halves_of<'a, K: Sink>(
 ) -> Result<Halves<'a>, Status>
     ensures halves { IfOk result (λ halves. HasHalves input.now halves.text.now halves.scene halves.script.now) }
     ensures unwritten { OnOk result (sink.new ≡ sink.old) }
-    ensures stopped { IfErr result (StopsAtHalves input.now (K.written sink.old) (K.written sink.new) (K.faults sink.old) (K.faults sink.new)) }
+    ensures stopped { IfErr result (StopsAtHalves input.now
+        (K.written sink.old) (K.written sink.new) (K.faults sink.old) (K.faults sink.new)) }
 {
     let Some((text, script)) = split(input) else {
         return Err(stop(Status::NoScript, sink));

@@ -61,7 +61,8 @@ fn on_host<const L: usize, P: Projector<L> + Drop, G: Ledger, K: Sink>(
     requires lanes_high { L ≤ 16 }
     requires ready { IsHostable it.scenes.now it.lines.now }
     requires begins { host.old ≡ map opened it.scenes.now }
-    ensures { Does (host_on it.entry.scenes.now it.entry.lines.now) (K.written sink.old) (K.written sink.new) (K.faults sink.old) (K.faults sink.new) result }
+    ensures { Does (host_on it.entry.scenes.now it.entry.lines.now)
+        (K.written sink.old) (K.written sink.new) (K.faults sink.old) (K.faults sink.new) result }
 {
     match serve_all(host, it.lines, sink, steps) {
         Ok(refused) => ends_as(refused),
@@ -89,7 +90,8 @@ fn serve_all<const L: usize, P: Projector<L> + Drop, G: Ledger, K: Sink>(
     requires lanes_low { 0 < L }
     requires lanes_high { L ≤ 16 }
     requires short { length lines.now ≤ 2 ^ 31 }
-    ensures bytes { WritesPiece (K.written sink.old) (K.written sink.new) result (hosted_text host.old (requests_of (length host.old) (pieces lines.now))) }
+    ensures bytes { WritesPiece (K.written sink.old) (K.written sink.new) result
+        (hosted_text host.old (requests_of (length host.old) (pieces lines.now))) }
     ensures refused { IfOk result (λ n. n ≡ hosted_refused host.old (requests_of (length host.old) (pieces lines.now))) }
     ensures cause { HasCause (K.faults sink.old) (K.faults sink.new) result }
 {

@@ -125,7 +125,8 @@ fn on_session<const L: usize, P: Projector<L> + Drop, G: Ledger, K: Sink>(
     requires lanes_high { L ≤ 16 }
     requires ready { Unit {0} }
     requires begins { session.old ≡ opened it.scene.now }
-    ensures { Does (large_on it.entry.number it.entry.size it.entry.scene.now) (K.written sink.old) (K.written sink.new) (K.faults sink.old) (K.faults sink.new) result }
+    ensures { Does (large_on it.entry.number it.entry.size it.entry.scene.now)
+        (K.written sink.old) (K.written sink.new) (K.faults sink.old) (K.faults sink.new) result }
 {
     let reply = session.apply(&Command::Step(30), steps);
     match write_summary(session, it.number, it.size, &reply, sink, steps) {

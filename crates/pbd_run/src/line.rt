@@ -1,7 +1,7 @@
 //! Lines of what stops a run.
 ghost use Rattle.std.specs.Prelude.{◌≡◌, ◌+◌, ◌≤◌, ◌++◌, [], ◌∷◌, length, decimal};
 ghost use Rattle.pbd_scene.specs.Keys.{rule_number, rule_text, table_text, key_text};
-ghost use Rattle.pbd_outcome.specs.Statuses.{line_in, log_line, refused_line, status_line};
+ghost use Rattle.pbd_outcome.specs.Statuses.{broken_at, line_in, log_line, refused_line, status_line};
 ghost use Rattle.std.specs.Fmt.{signed_decimal};
 ghost use Rattle.pbd_session.specs.Printing.{frame_header};
 ghost use Rattle.pbd_session.specs.Replaying.{axis};
@@ -46,7 +46,7 @@ fn key_name(key: KeyName) -> &'static str
 
 /// The line of a scene that breaks a rule, without its newline.
 fn refused_words(rule: SceneRule, table: TableName, position: u32, key: KeyName) -> Line
-    ensures bytes { result ++ 10 ∷ [] ≡ refused_line (record { rule = rule; place = record { table = table; position = position }; key = key }) }
+    ensures bytes { result ++ 10 ∷ [] ≡ refused_line (broken_at rule table position key) }
     ensures short { length result ≤ 200 }
 {
     let mut line = Line::new();
@@ -65,7 +65,7 @@ fn refused_words(rule: SceneRule, table: TableName, position: u32, key: KeyName)
 
 /// The line of a scene that breaks a rule.
 pub fn refused_line(rule: SceneRule, table: TableName, position: u32, key: KeyName) -> Line
-    ensures { result ≡ refused_line (record { rule = rule; place = record { table = table; position = position }; key = key }) }
+    ensures { result ≡ refused_line (broken_at rule table position key) }
 {
     let mut line = refused_words(rule, table, position, key);
     line.push("\n");
@@ -90,7 +90,7 @@ pub fn refused_line_in(
     position: u32,
     key: KeyName,
 ) -> Line
-    ensures { result ≡ line_in n (refused_line (record { rule = rule; place = record { table = table; position = position }; key = key })) }
+    ensures { result ≡ line_in n (refused_line (broken_at rule table position key)) }
 {
     let mut line = refused_words(rule, table, position, key);
     push_in(&mut line, n);
@@ -223,7 +223,8 @@ pub fn large_line(number: u64, size: u32) -> Line
 
 fn push_axes(line: &mut Line, axes: &[i64; 3])
     requires { length line.old ≤ 190 }
-    ensures bytes { line.new ≡ line.old ++ 32 ∷ (signed_decimal (axis axes.now 0) ++ 32 ∷ (signed_decimal (axis axes.now 1) ++ 32 ∷ signed_decimal (axis axes.now 2))) }
+    ensures bytes { line.new ≡ line.old ++ 32 ∷ (signed_decimal (axis axes.now 0)
+        ++ 32 ∷ (signed_decimal (axis axes.now 1) ++ 32 ∷ signed_decimal (axis axes.now 2))) }
     ensures len { length line.new ≤ length line.old + 63 }
 {
     line.push(" ");

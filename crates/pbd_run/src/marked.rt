@@ -82,9 +82,16 @@ impl<const L: usize, P: Projector<L> + Drop> MarkedSession<L, P> {
         requires lanes_high { L ≤ 16 }
         ensures { IfOk result (λ marked. marked ≡ unmarked (opened scene.now)) }
     {
-        let session = Session::open(alloc, scene, projector)?;
-        let marks = Marks::open(alloc, scene, projector)?;
-        Ok(MarkedSession { session, marks })
+        match Session::open(alloc, scene, projector) {
+            Ok(session) => match Marks::open(alloc, scene, projector) {
+                Ok(marks) => Ok(MarkedSession { session, marks }),
+                Err(failed) => {
+                    drop(session);
+                    Err(failed)
+                }
+            },
+            Err(failed) => Err(failed),
+        }
     }
 
     /// Does a command. A refused command changes nothing.

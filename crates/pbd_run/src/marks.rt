@@ -47,7 +47,8 @@ impl<const L: usize> Form<L> for Marking<'_> {
 /// Runs the script with marks of an input on its scene.
 pub fn marks_input<K: Sink>(alloc: Global, width: Width, input: &[u8], sink: &mut K) -> Status
     requires { length input.now ≤ 2 ^ 31 }
-    ensures { Does (simulated_with_marks input.now) (K.written sink.old) (K.written sink.new) (K.faults sink.old) (K.faults sink.new) result }
+    ensures { Does (simulated_with_marks input.now)
+        (K.written sink.old) (K.written sink.new) (K.faults sink.old) (K.faults sink.new) result }
 {
     match halves_of(alloc, input, sink) {
         Ok(halves) => {

@@ -59,7 +59,8 @@ fn on_session<const L: usize, P: Projector<L> + Drop, G: Ledger, K: Sink>(
     requires drawable { IsDrawable it.base it.mesh.now }
     requires script { length it.script.now ≤ 2 ^ 31 }
     requires begins { session.old ≡ opened it.scene.now }
-    ensures { Does (obj_on it.entry.base it.entry.mesh.now it.entry.scene.now it.entry.script.now) (K.written sink.old) (K.written sink.new) (K.faults sink.old) (K.faults sink.new) result }
+    ensures { Does (obj_on it.entry.base it.entry.mesh.now it.entry.scene.now it.entry.script.now)
+        (K.written sink.old) (K.written sink.new) (K.faults sink.old) (K.faults sink.new) result }
 {
     let faces = Faces {
         mesh: it.mesh,

@@ -79,7 +79,8 @@ pub struct Faces<'a> {
 impl Faces<'_> {
     fn write_faces<K: Sink>(&self, sink: &mut K) -> Result<(), Failed>
         requires drawable { IsDrawable self.now.base self.now.mesh.now }
-        ensures bytes { WritesPiece (K.written sink.old) (K.written sink.new) result (flat_map (face_line self.now.base) (faces self.now.mesh.now)) }
+        ensures bytes { WritesPiece (K.written sink.old) (K.written sink.new) result
+            (flat_map (face_line self.now.base) (faces self.now.mesh.now)) }
         ensures cause { HasCause (K.faults sink.old) (K.faults sink.new) result }
     {
         let sizes = self.mesh.sizes.as_slice();
@@ -101,7 +102,8 @@ impl Faces<'_> {
     ) -> Result<(), Failed>
         requires lanes_high { L ≤ 16 }
         requires drawable { IsDrawable self.now.base self.now.mesh.now }
-        ensures bytes { WritesPiece (K.written sink.old) (K.written sink.new) result (flat_map particle_line session.now.particles ++ flat_map (face_line self.now.base) (faces self.now.mesh.now)) }
+        ensures bytes { WritesPiece (K.written sink.old) (K.written sink.new) result
+            (flat_map particle_line session.now.particles ++ flat_map (face_line self.now.base) (faces self.now.mesh.now)) }
         ensures cause { HasCause (K.faults sink.old) (K.faults sink.new) result }
     {
         write_particles(session, sink, steps)?;
@@ -116,7 +118,8 @@ impl Faces<'_> {
     ) -> Result<(), Failed>
         requires lanes_high { L ≤ 16 }
         requires drawable { IsDrawable self.now.base self.now.mesh.now }
-        ensures bytes { WritesPiece (K.written sink.old) (K.written sink.new) result (obj_frame self.now.base self.now.mesh.now session.now) }
+        ensures bytes { WritesPiece (K.written sink.old) (K.written sink.new) result
+            (obj_frame self.now.base self.now.mesh.now session.now) }
         ensures cause { HasCause (K.faults sink.old) (K.faults sink.new) result }
     {
         write_header(session, sink)?;
@@ -134,7 +137,8 @@ impl Faces<'_> {
     ) -> Result<(), Failed>
         requires lanes_high { L ≤ 16 }
         requires drawable { IsDrawable self.now.base self.now.mesh.now }
-        ensures bytes { WritesPiece (K.written sink.old) (K.written sink.new) result (obj_text self.now.base self.now.mesh.now session.now reply.now) }
+        ensures bytes { WritesPiece (K.written sink.old) (K.written sink.new) result
+            (obj_text self.now.base self.now.mesh.now session.now reply.now) }
         ensures cause { HasCause (K.faults sink.old) (K.faults sink.new) result }
     {
         match reply {
@@ -158,7 +162,8 @@ impl Faces<'_> {
         requires lanes_high { L ≤ 16 }
         requires drawable { IsDrawable self.now.base self.now.mesh.now }
         requires script { length script.now ≤ 2 ^ 31 }
-        ensures bytes { WritesPiece (K.written sink.old) (K.written sink.new) result (obj_session_text self.now.base self.now.mesh.now session.old (commands script.now)) }
+        ensures bytes { WritesPiece (K.written sink.old) (K.written sink.new) result
+            (obj_session_text self.now.base self.now.mesh.now session.old (commands script.now)) }
         ensures refused { IfOk result (λ end. end.refused ≡ refused_count session.old (commands script.now)) }
         ensures cause { HasCause (K.faults sink.old) (K.faults sink.new) result }
     {

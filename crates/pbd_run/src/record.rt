@@ -54,7 +54,8 @@ fn on_session<const L: usize, P: Projector<L> + Drop, G: Ledger, K: Sink>(
     requires lanes_high { L ≤ 16 }
     requires ready { IsRecordable it.text.now it.scene.now it.script.now }
     requires begins { session.old ≡ opened it.scene.now }
-    ensures { Does (record_on it.entry.text.now it.entry.scene.now it.entry.script.now) (K.written sink.old) (K.written sink.new) (K.faults sink.old) (K.faults sink.new) result }
+    ensures { Does (record_on it.entry.text.now it.entry.scene.now it.entry.script.now)
+        (K.written sink.old) (K.written sink.new) (K.faults sink.old) (K.faults sink.new) result }
 {
     match run_record(session, it.text, it.script, sink, steps) {
         Ok(end) => ends_as(end.refused),

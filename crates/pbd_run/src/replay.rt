@@ -54,7 +54,8 @@ fn on_session<const L: usize, P: Projector<L> + Drop, G: Ledger, K: Sink>(
     requires lanes_high { L ≤ 16 }
     requires ready { Unit {0} }
     requires begins { session.old ≡ opened it.scene.now }
-    ensures { Does (replay_on it.entry.scene.now it.entry.log.entries) (K.written sink.old) (K.written sink.new) (K.faults sink.old) (K.faults sink.new) result }
+    ensures { Does (replay_on it.entry.scene.now it.entry.log.entries)
+        (K.written sink.old) (K.written sink.new) (K.faults sink.old) (K.faults sink.new) result }
 {
     match run_replay(session, it.log, sink, steps) {
         Ok(end) => replay_status(end),

@@ -44,7 +44,8 @@ pub fn are_few(text: &[u8]) -> bool
 /// Writes a line, and ends with a status.
 fn end_with<K: Sink>(line: &Line, status: Status, sink: &mut K) -> Status
     requires plain { IsPlain status }
-    ensures { Does (record { text = line.now; status = status; rest = [] }) (K.written sink.old) (K.written sink.new) (K.faults sink.old) (K.faults sink.new) result }
+    ensures { Does (record { text = line.now; status = status; rest = [] })
+        (K.written sink.old) (K.written sink.new) (K.faults sink.old) (K.faults sink.new) result }
 {
     match sink.write(line.as_slice()) {
         Ok(()) => status,
@@ -86,7 +87,8 @@ fn add_scene<K: Sink>(
     requires few { length scenes.old.items < 2 ^ 32 }
     ensures added { OnOk result (AddsScene text.now scenes.old.items scenes.new.items) }
     ensures unwritten { OnOk result (sink.new ≡ sink.old) }
-    ensures stopped { IfErr result (StopsInScene (length scenes.old.items) text.now (K.written sink.old) (K.written sink.new) (K.faults sink.old) (K.faults sink.new)) }
+    ensures stopped { IfErr result (StopsInScene (length scenes.old.items) text.now
+        (K.written sink.old) (K.written sink.new) (K.faults sink.old) (K.faults sink.new)) }
 {
     match scene_in(alloc, text, RANGE) {
         Ok(scene) => match scenes.push(scene) {
@@ -102,7 +104,8 @@ pub fn read_scenes<K: Sink>(alloc: Global, text: &[u8], sink: &mut K) -> Result<
     requires few { length (scenes text.now) ≤ 16 }
     ensures scenes { IfOk result (λ read. scenes_in 0 (scenes text.now) ≡ Ok read.items) }
     ensures unwritten { OnOk result (sink.new ≡ sink.old) }
-    ensures stopped { IfErr result (StopsAtScenes (scenes text.now) (K.written sink.old) (K.written sink.new) (K.faults sink.old) (K.faults sink.new)) }
+    ensures stopped { IfErr result (StopsAtScenes (scenes text.now)
+        (K.written sink.old) (K.written sink.new) (K.faults sink.old) (K.faults sink.new)) }
 {
     let mut read = Vec::new(alloc);
     let mut rest = Some(text);

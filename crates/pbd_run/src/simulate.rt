@@ -53,7 +53,8 @@ pub(crate) fn on_session<const L: usize, P: Projector<L> + Drop, G: Ledger, K: S
     requires lanes_high { L ≤ 16 }
     requires ready { length it.script.now ≤ 2 ^ 31 }
     requires begins { session.old ≡ opened it.scene.now }
-    ensures { Does (simulate_on it.entry.scene.now it.entry.script.now) (K.written sink.old) (K.written sink.new) (K.faults sink.old) (K.faults sink.new) result }
+    ensures { Does (simulate_on it.entry.scene.now it.entry.script.now)
+        (K.written sink.old) (K.written sink.new) (K.faults sink.old) (K.faults sink.new) result }
 {
     match run_script(session, it.script, sink, steps) {
         Ok(end) => ends_as(end.refused),

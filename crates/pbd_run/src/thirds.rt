@@ -81,7 +81,8 @@ pub fn thirds_of<'a, K: Sink>(
     ensures drawable { IfOk result (λ thirds. IsDrawable thirds.base thirds.mesh) }
     ensures short { IfOk result (λ thirds. length thirds.script.now ≤ length input.now) }
     ensures unwritten { OnOk result (sink.new ≡ sink.old) }
-    ensures stopped { IfErr result (λ status. Does (meshed input.now) (K.written sink.old) (K.written sink.new) (K.faults sink.old) (K.faults sink.new) status) }
+    ensures stopped { IfErr result (λ status. Does (meshed input.now)
+        (K.written sink.old) (K.written sink.new) (K.faults sink.old) (K.faults sink.new) status) }
 {
     let Some((text, rest)) = split(input) else {
         return Err(stop(Status::NoScript, sink));

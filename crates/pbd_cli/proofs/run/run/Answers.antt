@@ -1,5 +1,4 @@
-use Rattle.std.proofs.Common.{sym, map, string_bytes}
-use Rattle.pbd_outcome.specs.Job.{job}
+use Rattle.std.proofs.Common.{sym}
 use Rattle.pbd_outcome.proofs.HeadlineLaws.{headline_of}
 use Rattle.pbd_outcome.proofs.HostLaws.{hosts_apart}
 use Rattle.pbd_outcome.proofs.ScrambleLaws.{scrambles_alike}
@@ -9,10 +8,10 @@ pub returns-clause-outcome : goal.returns-clause-outcome
 returns-clause-outcome g c = rw (sym c.job_of.ensures.job) (c.perform.ensures.promises.outcome)
 
 pub returns-clause-headline : goal.returns-clause-headline
-returns-clause-headline g c = headline_of (job (map string_bytes c.args.words.now)) _ _ c.perform.result (rw (sym c.job_of.ensures.job) (c.perform.ensures.promises.outcome))
+returns-clause-headline g c = headline_of _ (rw (sym c.job_of.ensures.job) (c.perform.ensures.promises.outcome))
 
 pub returns-clause-scrambled : goal.returns-clause-scrambled
-returns-clause-scrambled g c = scrambles_alike (job (map string_bytes c.args.words.now)) _ _ c.perform.result (rw (sym c.job_of.ensures.job) (c.perform.ensures.promises.outcome))
+returns-clause-scrambled g c = scrambles_alike _ (rw (sym c.job_of.ensures.job) (c.perform.ensures.promises.outcome))
 
 pub returns-clause-hosted : goal.returns-clause-hosted
-returns-clause-hosted g c = hosts_apart (job (map string_bytes c.args.words.now)) _ _ c.perform.result (rw (sym c.job_of.ensures.job) (c.perform.ensures.promises.outcome))
+returns-clause-hosted g c = hosts_apart _ (rw (sym c.job_of.ensures.job) (c.perform.ensures.promises.outcome))

@@ -1,6 +1,6 @@
 use Rattle.std.proofs.Common.{sym}
 use Rattle.pbd_outcome.specs.Outcome.{range}
-use Rattle.pbd_run.proofs.SceneLaws.{its_limit}
+use Rattle.pbd_outcome.proofs.SceneLimits.{its_limit}
 use Rattle.pbd_run.proofs.ThirdsLaws.{halves_stop, mesh_stops, no_outer, thirds_are}
 use Rattle.pbd_run.proofs.thirds.thirds_of.Goals as goal
 
