@@ -1,4 +1,3 @@
 pub mod ApartLaws
-pub mod WritingLaws
 pub mod OpeningLaws
 pub mod ServingLaws

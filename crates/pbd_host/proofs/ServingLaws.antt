@@ -1,10 +1,11 @@
 -- The world of a session that isn't the first.
 use Rattle.std.proofs.Common.{◌≡◌, ◌∙◌, ap, refl, zero, suc, ℕ, ◌-◌, ◌<◌, List, ◌∷◌, length, get_or, slice_set, arith}
-use Rattle.std.proofs.lemmas.List.{get_or_default}
+use Rattle.std.proofs.lemmas.List.{get_or_default, length-set}
+use Rattle.std.proofs.lemmas.List.Elements.{All-set}
 use Rattle.pbd_world.specs.declared.command.Command.{Command}
 use Rattle.pbd_world.specs.Meaning.{after}
-use Rattle.pbd_world.specs.World.{World}
-use Rattle.pbd_host.specs.Hosted.{world_at}
+use Rattle.pbd_world.specs.World.{World, IsSound}
+use Rattle.pbd_host.specs.Hosted.{AreHosted, world_at}
 
 set_later : (x : World) (xs : List World) (n : ℕ) (w v : World) (c : Command) → (n ≡ 0 → ⊥) → n < length (x ∷ xs) → w ≡ get_or xs (n - 1) w → v ≡ after w c → x ∷ slice_set xs (n - 1) v ≡ slice_set (x ∷ xs) n (after (world_at (x ∷ xs) n) c)
 set_later x xs zero w v c test within at is = absurd (test refl)
@@ -17,3 +18,11 @@ pub set_seen : (x : World) (xs seen : List World) (n : ℕ) (w v : World) (c : C
 set_seen x xs seen n w v c seen_is test within at is =
     let there : n < length (x ∷ xs) = omega (arith, within, ap length seen_is) in
     set_later x xs n w v c test there at is ∙ ap (λ (us : List World). slice_set us n (after (world_at us n) c)) seen_is
+
+-- one of the others has come to a sound world
+pub other_set : (first : World) (others : List World) (k : ℕ) (w : World) → AreHosted first others → IsSound w → AreHosted first (slice_set others k w)
+other_set first others k w are sound = record {
+  few = omega (arith, are.few, length-set others k w);
+  first = are.first;
+  others = All-set IsSound others k w sound are.others;
+}

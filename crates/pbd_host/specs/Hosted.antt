@@ -1,5 +1,5 @@
 -- Sessions side by side: what each request is answered with, what is printed for it, and what it makes of the worlds.
-use Rattle.std.specs.Prelude.{ℕ, ◌+◌, ◌==◌, pos, Bool, true, false, if◌then◌else◌, codes, decimal, List, [], ◌∷◌, ◌++◌, drop, filter_map, slice_index_or, slice_set, Option, Some, None}
+use Rattle.std.specs.Prelude.{ℕ, ◌+◌, ◌≤◌, ◌==◌, pos, Bool, true, false, if◌then◌else◌, codes, decimal, List, [], ◌∷◌, ◌++◌, length, drop, All, filter_map, slice_index_or, slice_set, Option, Some, None}
 use Rattle.std.specs.List.{position_or_len}
 use Rattle.pbd_num.specs.Vectors.{zero_vector}
 use Rattle.pbd_world.specs.declared.command.Command.{Command}
@@ -8,7 +8,7 @@ use Rattle.pbd_world.specs.declared.parts.Parts.{Parts}
 use Rattle.pbd_world.specs.Meaning.{after, reply}
 use Rattle.pbd_world.specs.Session.{is_refused}
 use Rattle.pbd_world.specs.Text.{line, text}
-use Rattle.pbd_world.specs.World.{World, opened}
+use Rattle.pbd_world.specs.World.{World, opened, IsSound}
 use Rattle.pbd_host.specs.declared.served.Served.{Served}
 use Rattle.pbd_host.specs.declared.served.Served.TheVariants as answers
 use Rattle.pbd_host.specs.declared.request.Request.{Request}
@@ -20,6 +20,12 @@ no_parts = record { particles = []; links = []; planes = []; spheres = []; track
 -- the world of session t
 abbrev pub world_at : List World → ℕ → World
 world_at ws t = slice_index_or ws t (opened no_parts)
+
+-- sound worlds of up to 16 sessions: that of the first, and those of the others
+pub record AreHosted (w : World) (ws : List World) : Type 0 where
+  pub few : length ws ≤ 15
+  pub first : IsSound w
+  pub others : All IsSound ws
 
 -- ---- one request
 

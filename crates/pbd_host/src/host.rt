@@ -1,10 +1,10 @@
 //! Sessions side by side.
-ghost use Rattle.std.specs.Prelude.{◌≡◌, ◌<◌, ◌≤◌, ◌++◌, map, length, IfOk};
+ghost use Rattle.std.specs.Prelude.{◌≡◌, ◌<◌, ◌≤◌, ◌++◌, map, length, All, IfOk};
 ghost use Rattle.pbd_io.specs.Causes.{HasCause};
 ghost use Rattle.pbd_io.specs.Pieces.{WritesPiece};
 ghost use Rattle.pbd_world.specs.Meaning.{after, reply};
 ghost use Rattle.pbd_world.specs.Text.{text};
-ghost use Rattle.pbd_world.specs.World.{opened};
+ghost use Rattle.pbd_world.specs.World.{opened, IsSound};
 ghost use Rattle.pbd_host.specs.Tagged.{request_of};
 ghost use Rattle.pbd_host.specs.Hosted.{bad_tag_text, command_text, request_text, served, served_as, session_line, worlds_after};
 
@@ -28,14 +28,15 @@ pub struct Host<const L: usize, P: Projector<L> + Drop> {
 }
 
 impl<const L: usize, P: Projector<L> + Drop> Model for Host<L, P> {
-    ghost use Rattle.std.specs.Prelude.{List, ◌∷◌, length, ◌≤◌};
+    ghost use Rattle.std.specs.Prelude.{List, ◌∷◌};
     ghost use Rattle.pbd_world.specs.World.{World};
+    ghost use Rattle.pbd_host.specs.Hosted.{AreHosted};
 
     ghost Value = { List World };
 
     ghost view = { λ h. h.first ∷ h.others.items };
 
-    ghost invariant = { λ h. length h.others.items ≤ 15 };
+    ghost invariant = { λ h. AreHosted h.first h.others.items };
 }
 
 impl<const L: usize, P: Projector<L> + Drop> Host<L, P> {
@@ -47,11 +48,17 @@ impl<const L: usize, P: Projector<L> + Drop> Host<L, P> {
         requires lanes_high { L ≤ 16 }
         requires some { 0 < length scenes.now }
         requires few { length scenes.now ≤ 16 }
-        ensures { IfOk result (λ host. host ≡ map opened scenes.now) }
+        ensures worlds { IfOk result (λ host. host ≡ map opened scenes.now) }
+        ensures sound { IfOk result (λ host. All IsSound host) }
     {
         let others = open_all(alloc, &scenes[1..], projector)?;
-        let first = Session::open(alloc, &scenes[0], projector)?;
-        Ok(Host { first, others })
+        match Session::open(alloc, &scenes[0], projector) {
+            Ok(first) => Ok(Host { first, others }),
+            Err(AllocError) => {
+                drop(others);
+                Err(AllocError)
+            }
+        }
     }
 
     /// Does a command of a session, and writes its number and the reply.
@@ -67,8 +74,10 @@ impl<const L: usize, P: Projector<L> + Drop> Host<L, P> {
         requires lanes_high { L ≤ 16 }
         requires among { number < length self.old }
         ensures served { IfOk result (λ it. it ≡ served self.old (Request.To number command.now)) }
-        ensures bytes { WritesPiece (K.written sink.old) (K.written sink.new) result (request_text self.old (Request.To number command.now)) }
+        ensures bytes { WritesPiece (K.written sink.old) (K.written sink.new) result
+            (request_text self.old (Request.To number command.now)) }
         ensures worlds { self.new ≡ worlds_after self.old (Request.To number command.now) }
+        ensures sound { All IsSound self.new }
         ensures cause { HasCause (K.faults sink.old) (K.faults sink.new) result }
     {
         let place = number as usize;
@@ -94,8 +103,10 @@ impl<const L: usize, P: Projector<L> + Drop> Host<L, P> {
         requires lanes_low { 0 < L }
         requires lanes_high { L ≤ 16 }
         ensures served { IfOk result (λ it. it ≡ served self.old (request_of (length self.old) line.now)) }
-        ensures bytes { WritesPiece (K.written sink.old) (K.written sink.new) result (request_text self.old (request_of (length self.old) line.now)) }
+        ensures bytes { WritesPiece (K.written sink.old) (K.written sink.new) result
+            (request_text self.old (request_of (length self.old) line.now)) }
         ensures worlds { self.new ≡ worlds_after self.old (request_of (length self.old) line.now) }
+        ensures sound { All IsSound self.new }
         ensures cause { HasCause (K.faults sink.old) (K.faults sink.new) result }
     {
         match request_of(1 + self.others.len(), line) {
@@ -114,7 +125,8 @@ fn open_all<const L: usize, P: Projector<L> + Copy + Drop>(
 ) -> Result<Vec<Session<L, P>>, AllocError>
     requires lanes_low { 0 < L }
     requires lanes_high { L ≤ 16 }
-    ensures { IfOk result (λ sessions. sessions.items ≡ map opened scenes.now) }
+    ensures worlds { IfOk result (λ sessions. sessions.items ≡ map opened scenes.now) }
+    ensures sound { IfOk result (λ sessions. All IsSound sessions.items) }
 {
     let mut sessions = Vec::new(alloc);
     for scene in scenes {
@@ -135,8 +147,10 @@ fn serve_in<const L: usize, P: Projector<L> + Drop, K: Sink, G: Ledger>(
     requires lanes_low { 0 < L }
     requires lanes_high { L ≤ 16 }
     ensures served { IfOk result (λ it. it ≡ served_as number (reply session.old command.now)) }
-    ensures bytes { WritesPiece (K.written sink.old) (K.written sink.new) result (session_line number ++ command_text session.old command.now) }
+    ensures bytes { WritesPiece (K.written sink.old) (K.written sink.new) result
+        (session_line number ++ command_text session.old command.now) }
     ensures world { session.new ≡ after session.old command.now }
+    ensures sound { IsSound session.new }
     ensures cause { HasCause (K.faults sink.old) (K.faults sink.new) result }
 {
     let reply = session.apply(command, steps);

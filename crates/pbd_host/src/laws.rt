@@ -13,7 +13,10 @@ pub fn a_line_changes_its_own_world_alone()
 /// Whatever requests of others come between: what is printed for session t, without the lines `session T`, is what it
 /// prints alone for its own commands from its own world; it refuses as many of them; and it ends in the same world.
 pub fn hosted_sessions_are_apart()
-    ensures text { (ws : List World) (t : ℕ) (rs : List Request) → length ws ≤ 16 → t < length ws → own_text t ws rs ≡ session_text (world_at ws t) (commands_to t rs) }
-    ensures refused { (ws : List World) (t : ℕ) (rs : List Request) → t < length ws → own_refused t ws rs ≡ refused_count (world_at ws t) (commands_to t rs) }
-    ensures world { (ws : List World) (t : ℕ) (rs : List Request) → t < length ws → world_at (last_worlds ws rs) t ≡ last_world (world_at ws t) (commands_to t rs) }
+    ensures text { (ws : List World) (t : ℕ) (rs : List Request) → length ws ≤ 16 → t < length ws
+        → own_text t ws rs ≡ session_text (world_at ws t) (commands_to t rs) }
+    ensures refused { (ws : List World) (t : ℕ) (rs : List Request) → t < length ws
+        → own_refused t ws rs ≡ refused_count (world_at ws t) (commands_to t rs) }
+    ensures world { (ws : List World) (t : ℕ) (rs : List Request) → t < length ws
+        → world_at (last_worlds ws rs) t ≡ last_world (world_at ws t) (commands_to t rs) }
 {}

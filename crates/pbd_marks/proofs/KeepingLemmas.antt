@@ -10,7 +10,7 @@ use Rattle.pbd_world.specs.World.{World, IsSound, AreOfOneScene, unchanging}
 use Rattle.pbd_step.specs.Solving.{Solved}
 use Rattle.pbd_marks.specs.declared.command.MarkRefusal.TheVariants.{BadMark, MarkEmpty}
 use Rattle.pbd_marks.specs.Marked.{no_marks, mark_at, set, kept, rewound}
-use Rattle.pbd_marks.specs.Keeping.{AreOpened, Kept, worlds_in, IsOfScene, IsMarkOf, AreMarks, FitTogether, scene_of, marked, kept_by}
+use Rattle.pbd_marks.specs.Keeping.{AreOpened, Kept, worlds_in, IsOfScene, IsMarkOf, AreMarks, FitTogether, scene_of, marked, kept_by, none_set}
 
 -- ---- the worlds of solvers
 
@@ -83,11 +83,13 @@ kept_set_there bs ws k w fit there sound of_scene = record {
   scene = scene_set ws k w of_scene;
 }
 
-pub kept_set : (kept : Kept) (bs : List Bool) (ws new : List World) (k : ℕ) (w : World) → kept_by bs ws ≡ kept → FitTogether bs ws → nat_lt 7 k ≡ false → IsSound w → IsOfScene kept.scene w → new ≡ slice_set ws k w → IsSet kept k w (slice_set bs k true) new
-kept_set kept bs ws new k w seen fit there sound of_scene is =
+pub kept_set : (kept : Kept) (bs cs : List Bool) (ws new : List World) (k : ℕ) (w : World) → kept_by bs ws ≡ kept → FitTogether bs ws → nat_lt 7 k ≡ false → IsSound w → IsOfScene kept.scene w → cs ≡ slice_set bs k true → new ≡ slice_set ws k w → IsSet kept k w cs new
+kept_set kept bs cs ws new k w seen fit there sound of_scene flags is =
+    subst (λ (ds : List Bool). IsSet kept k w ds new) (sym flags) (
     subst (λ (vs : List World). IsSet kept k w (slice_set bs k true) vs) (sym is) (
     subst (λ (s : Kept). IsSet s k w (slice_set bs k true) (slice_set ws k w)) seen (
     kept_set_there bs ws k w fit there sound (of_scene ∙ sym (ap (λ (s : Kept). s.scene) seen))
+    )
     )
     )
 
@@ -137,9 +139,6 @@ same_by_recursion x (y ∷ ys) all = ap (λ z. z ∷ ys) all.0 ∙ ap (λ zs. x 
 
 eight_alike : (w : World) (ws : List World) → AreOpened w 8 ws → ws ≡ replicate 8 w
 eight_alike w ws are = same_by_recursion w ws (recursion_from_All (λ v. v ≡ w) ws are.opened) ∙ ap (λ n. replicate n w) are.many
-
-abbrev pub none_set : List Bool
-none_set = false ∷ false ∷ false ∷ false ∷ false ∷ false ∷ false ∷ false ∷ []
 
 -- what eight empty marks are seen as
 pub record AreFirst (w : World) (ws : List World) : Type 0 where

@@ -1,5 +1,5 @@
 -- What callers see of eight marks, and what holds of them.
-use Rattle.std.specs.Prelude.{◌≡◌, pos, ℕ, Bool, if◌then◌else◌, List, [], ◌∷◌, length, map, Option, Some, None, All, IfSome}
+use Rattle.std.specs.Prelude.{◌≡◌, pos, ℕ, Bool, false, if◌then◌else◌, List, [], ◌∷◌, length, map, Option, Some, None, All, IfSome}
 use Rattle.pbd_num.specs.Vectors.{zero_vector}
 use Rattle.pbd_world.specs.declared.parts.Parts.{Parts}
 use Rattle.pbd_world.specs.World.{World, IsSound, opened, unchanging}
@@ -42,6 +42,9 @@ no_parts = record { particles = []; links = []; planes = []; spheres = []; track
 abbrev pub scene_of : List World → World
 scene_of [] = opened no_parts
 scene_of (w ∷ ws) = unchanging w
+
+abbrev pub none_set : List Bool
+none_set = false ∷ false ∷ false ∷ false ∷ false ∷ false ∷ false ∷ false ∷ []
 
 -- the worlds whose marks are set
 abbrev pub marked : List Bool → List World → List (Option World)

@@ -1,6 +1,5 @@
 //! Laws of marks, each the contract of a function that does nothing.
-ghost use Rattle.std.specs.Prelude.{◌≡◌, ◌≢◌, ◌≤◌, ℕ, List, Option, length};
-ghost use Rattle.pbd_world.specs.World.{World};
+ghost use Rattle.std.specs.Prelude.{◌≡◌, ◌≢◌, ◌≤◌, ℕ, List, length};
 ghost use Rattle.pbd_marks.specs.declared.command.MarkCommand.{MarkCommand};
 ghost use Rattle.pbd_marks.specs.declared.command.MarkCommand.TheVariants.{Mark, Rewind};
 ghost use Rattle.pbd_marks.specs.Marked.{mark_at, Marked, marked_after, LeavesMark, LeavesMarksOf, TakesBack};

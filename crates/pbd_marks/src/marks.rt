@@ -1,9 +1,9 @@
 //! Eight marked worlds.
-ghost use Rattle.std.specs.Prelude.{◌≡◌, ◌<◌, ◌≤◌, ◌+◌, ◌∷◌, nat_lt, All, length, slice_set, IfOk, OnErr, MatchResult, Ok, Err};
+ghost use Rattle.std.specs.Prelude.{◌≡◌, ◌<◌, ◌≤◌, ◌+◌, ◌∷◌, nat_lt, All, length, slice_set, true, IfOk, OnErr, MatchResult, Ok, Err};
 ghost use Rattle.std.specs.List.{slice_index_or};
 ghost use Rattle.pbd_world.specs.World.{opened, unchanging, IsSound, AreOfOneScene};
 ghost use Rattle.pbd_marks.specs.Marked.{no_marks, rewound, set};
-ghost use Rattle.pbd_marks.specs.Keeping.{AreMarks, AreOpened, IsOfScene, worlds_in};
+ghost use Rattle.pbd_marks.specs.Keeping.{AreMarks, AreOpened, IsOfScene, none_set, worlds_in};
 
 use crate::MarkRefusal;
 use pbd_pair::Projector;
@@ -54,7 +54,7 @@ impl<const L: usize, P: Projector<L> + Drop> Marks<L, P> {
         Ok(Marks {
             first,
             others,
-            are_set: [false; 8],
+            are_set: none_set(),
         })
     }
 
@@ -83,7 +83,7 @@ impl<const L: usize, P: Projector<L> + Drop> Marks<L, P> {
             return Err(MarkRefusal::BadMark);
         }
         take_over(&mut self.first, &mut self.others, k as usize, solver);
-        self.are_set[k as usize] = true;
+        self.are_set = with_set(self.are_set, k as usize);
         Ok(())
     }
 
@@ -98,8 +98,11 @@ impl<const L: usize, P: Projector<L> + Drop> Marks<L, P> {
         ensures kept { OnErr result (solver.new ≡ solver.old) }
         ensures projector { solver.new.projector ≡ solver.old.projector }
         ensures one_scene { AreOfOneScene solver.old.world solver.new.world }
+        ensures sound { IsSound solver.new.world }
         ensures marks { AreMarks self.now }
     {
+        // The limit is asked for what comes with it: the world is sound.
+        let _limit = solver.limit();
         if self.lacks(k) {
             return Err(MarkRefusal::BadMark);
         }
@@ -109,6 +112,23 @@ impl<const L: usize, P: Projector<L> + Drop> Marks<L, P> {
         solver.copy_from(solver_at(&self.first, &self.others, k as usize));
         Ok(())
     }
+}
+
+/// No mark is set.
+fn none_set() -> [bool; 8]
+    ensures { result ≡ none_set }
+{
+    [false; 8]
+}
+
+/// Mark k is set too.
+fn with_set(are_set: [bool; 8], k: usize) -> [bool; 8]
+    requires { k < 8 }
+    ensures { result ≡ slice_set are_set k true }
+{
+    let mut are_set = are_set;
+    are_set[k] = true;
+    are_set
 }
 
 /// The solvers of marks 1 to 7.

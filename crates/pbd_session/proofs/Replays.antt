@@ -4,7 +4,7 @@ use Rattle.std.specs.Prelude.{if◌then◌else◌, OnOk}
 use Rattle.std.specs.Io.KnownBytes.{Appends}
 use Rattle.std.specs.List.{Contains}
 use Rattle.pbd_io.specs.Pieces.{AppendsPrefix, WritesPiece}
-use Rattle.pbd_io.specs.Appending.{appends_nothing, appends_then, prefix_then, prefix_longer}
+use Rattle.pbd_io.specs.Appending.{appends_nothing, appends_then, piece_then, prefix_then, prefix_longer}
 use Rattle.pbd_world.specs.declared.command.Reply.{Reply}
 use Rattle.pbd_world.specs.World.{World}
 use Rattle.pbd_world.specs.Meaning.{after, reply}
@@ -17,7 +17,6 @@ use Rattle.pbd_session.specs.declared.ending.ReplayEnd.TheVariants as ends
 use Rattle.pbd_session.specs.Replaying.{commands_of, difference, found_now, mismatch_line, replayed, replayed_from, with_refused}
 use Rattle.pbd_session.proofs.Leading.{Leads, leads_begin, leads_on, leads_among}
 use Rattle.pbd_session.proofs.Running.{Does, one_more}
-use Rattle.pbd_session.proofs.Texts.{piece_then}
 
 -- From the world and the entries at the start, it has come to this world and these entries, of which the first has number n,
 -- having appended the texts of the replies.

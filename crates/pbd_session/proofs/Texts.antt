@@ -1,11 +1,6 @@
 -- Printed lines, and lines with something before each.
-use Rattle.std.proofs.Common.{◌≡◌, ◌∙◌, sym, ap, refl, ℕ, zero, suc, ◌+◌, ◌<◌, List, [], ◌∷◌, ◌++◌, length, get_or, take, drop, map, arith, append_assoc, append-nil, codes, Option, Result, Ok, Err}
-use Rattle.std.specs.Io.KnownBytes.{Appends}
+use Rattle.std.proofs.Common.{◌≡◌, ◌∙◌, sym, ap, refl, ℕ, List, [], ◌∷◌, ◌++◌, length, map, append_assoc, append-nil, codes}
 use Rattle.std.specs.List.{flat_map}
-use Rattle.std.proofs.lemmas.Grind.{flat_map-append}
-use Rattle.std.proofs.lemmas.List.{take_more}
-use Rattle.pbd_io.specs.Pieces.{AppendsPrefix, WritesPiece}
-use Rattle.pbd_io.specs.Appending.{appends_then, prefix_longer, prefix_then}
 use Rattle.pbd_world.specs.declared.command.Reply.{Reply}
 use Rattle.pbd_world.specs.declared.command.Reply.TheVariants as replies
 use Rattle.pbd_world.specs.Momentum.{momentum}
@@ -25,24 +20,6 @@ pieces9 a b c d e f g h i = simp append_assoc refl
 
 pub pieces8 : (a b c d e f g h : List ℕ) → ((((((a ++ b) ++ c) ++ d) ++ e) ++ f) ++ g) ++ h ≡ a ++ (b ++ (c ++ (d ++ (e ++ (f ++ (g ++ h))))))
 pieces8 a b c d e f g h = simp append_assoc refl
-
-pub flat_at : {X : Type 0} (f : X → List ℕ) (xs : List X) (i : ℕ) (d : X) (piece : List ℕ) → i < length xs → piece ≡ f (get_or xs i d) → flat_map f xs ≡ flat_map f (take i xs) ++ (piece ++ flat_map f (drop (i + 1) xs))
-flat_at f [] i d piece lt is = absurd (omega arith)
-flat_at f (x ∷ xs) zero d piece lt is = rw is refl
-flat_at f (x ∷ xs) (suc i) d piece lt is =
-    let e : suc i + 1 ≡ suc (i + 1) = omega arith in
-    rw e (ap (λ t. f x ++ t) (flat_at f xs i d piece (omega (arith, lt)) is) ∙ sym (append_assoc (f x) (flat_map f (take i xs)) (piece ++ flat_map f (drop (i + 1) xs))))
-
--- the pieces of the items before i are written, and then that of item i
-pub wrote_next : {X : Type 0} (f : X → List ℕ) (xs : List X) (i : ℕ) (d : X) (head piece : List ℕ) (old mid new : Option (List ℕ)) → Appends old mid (head ++ flat_map f (take i xs)) → i < length xs → piece ≡ f (get_or xs i d) → Appends mid new piece → Appends old new (head ++ flat_map f (take (i + 1) xs))
-wrote_next f xs i d head piece old mid new before lt is wrote =
-    let e : flat_map f (take (i + 1) xs) ≡ flat_map f (take i xs) ++ piece = ap (flat_map f) (take_more xs i d lt) ∙ (flat_map-append f (take i xs) (get_or xs i d ∷ []) ∙ ap (λ t. flat_map f (take i xs) ++ t) (append-nil (f (get_or xs i d)) ∙ sym is)) in
-    rw (e, ← append_assoc head (flat_map f (take i xs)) piece) (appends_then _ _ _ _ _ before wrote)
-
--- and some prefix of it
-pub failed_next : {X : Type 0} (f : X → List ℕ) (xs : List X) (i : ℕ) (d : X) (head piece : List ℕ) (old mid new : Option (List ℕ)) → Appends old mid (head ++ flat_map f (take i xs)) → i < length xs → piece ≡ f (get_or xs i d) → AppendsPrefix mid new piece → AppendsPrefix old new (head ++ flat_map f xs)
-failed_next f xs i d head piece old mid new before lt is failed =
-    rw (flat_at f xs i d piece lt is, ← append_assoc head (flat_map f (take i xs)) (piece ++ flat_map f (drop (i + 1) xs))) (prefix_then _ _ _ _ _ before (prefix_longer _ _ piece _ failed))
 
 pub header_is : (w : World) → header_line w ≡ frame_header w.steps (length w.particles) (live_count w.links) w.contacts
 unfolding header_line frame_header
@@ -70,11 +47,7 @@ nothing_before w replies.Ledger =
     (sym (pieces8 (sum_line (codes "momentum") (momentum w.particles)) (sum_line (codes "opening") w.opening) (sum_line (codes "gravity") w.totals.gravity) (sum_line (codes "damping") w.totals.damping) (sum_line (codes "link") w.totals.link) (sum_line (codes "contact") w.totals.contact) (sum_line (codes "pin") w.totals.pin) (sum_line (codes "shape") w.totals.shape)))
 nothing_before w (replies.Refused r) = append-nil _
 
--- ---- what two calls write
-
-pub piece_then : {T E : Type 0} (a b c : Option (List ℕ)) (r : Result T E) (x y : List ℕ) → Appends a b x → WritesPiece b c r y → WritesPiece a c r (x ++ y)
-piece_then a b c (Ok t) x y first second = appends_then _ _ _ _ _ first second
-piece_then a b c (Err e) x y first second = prefix_then _ _ _ _ _ first second
+-- ---- the sums of a ledger
 
 mapped_of : {X Y : Type 0} (g : X → Y) (f : Y → List ℕ) (xs : List X) → flat_map (λ x. f (g x)) xs ≡ flat_map f (map {A = X} {B = Y} g xs)
 mapped_of g f [] = refl

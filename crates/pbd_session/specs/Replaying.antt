@@ -111,13 +111,18 @@ found_now w e = entry_of (entry w e.command)
 -- A reply is printed where its entry agrees, and the rest follows; at a difference the replay ends with its line. The world
 -- is the one after the entry's command.
 abbrev pub goes_on : ℕ → World → Reply → Option Compared → Replay → Replay
-goes_on n w r None rest = record { text = text w r ++ rest.text; ended = with_refused (if is_refused r then 1 else 0) rest.ended; world = rest.world }
+goes_on n w r None rest = record {
+  text = text w r ++ rest.text;
+  ended = with_refused (if is_refused r then 1 else 0) rest.ended;
+  world = rest.world;
+}
 goes_on n w r (Some c) rest = record { text = mismatch_line n c; ended = Mismatch n c.field c.recorded c.found; world = w }
 
 -- the replay of entries of which the first has number n
 unfoldable pub replayed_from : ℕ → World → List Entry → Replay
 replayed_from n w [] = record { text = []; ended = Done 0; world = w }
-replayed_from n w (e ∷ es) = goes_on n (after w e.command) (reply w e.command) (difference e (found_now w e)) (replayed_from (n + 1) (after w e.command) es)
+replayed_from n w (e ∷ es) = goes_on n (after w e.command) (reply w e.command)
+    (difference e (found_now w e)) (replayed_from (n + 1) (after w e.command) es)
 
 -- the replay of a log's entries
 abbrev pub replayed : World → List Entry → Replay

@@ -1,5 +1,5 @@
 //! Printed lines.
-ghost use Rattle.std.specs.Prelude.{◌≡◌, ◌+◌, ◌≤◌, ◌++◌, length, pos, decimal, codes, ◌∷◌, []};
+ghost use Rattle.std.specs.Prelude.{◌≡◌, ◌≤◌, length, codes, ◌∷◌, []};
 ghost use Rattle.std.specs.Fmt.{signed_decimal};
 ghost use Rattle.pbd_world.specs.Ledger.{sum_of};
 ghost use Rattle.pbd_world.specs.Text.{line, place_line, sum_line, refusal_line, phase_name};

@@ -65,7 +65,8 @@ fn write_places<const L: usize, P: Projector<L> + Drop, K: Sink, G: Ledger>(
     steps: &mut Steps<G>,
 ) -> Result<(), Failed>
     requires lanes_high { L ≤ 16 }
-    ensures bytes { WritesPiece (K.written sink.old) (K.written sink.new) result (flat_map (place_after prefix.now) solver.now.world.particles) }
+    ensures bytes { WritesPiece (K.written sink.old) (K.written sink.new) result
+        (flat_map (place_after prefix.now) solver.now.world.particles) }
     ensures cause { HasCause (K.faults sink.old) (K.faults sink.new) result }
 {
     for i in 0..solver.particles() {
@@ -114,7 +115,8 @@ fn named_sums<const L: usize, P: Projector<L> + Drop, G: Ledger>(
 
 fn write_sums<K: Sink>(sums: &[NamedTotal], prefix: &[u8], sink: &mut K) -> Result<(), Failed>
     requires short { All IsShort sums.now }
-    ensures bytes { WritesPiece (K.written sink.old) (K.written sink.new) result (flat_map (λ s. sum_after prefix.now (named_of s)) sums.now) }
+    ensures bytes { WritesPiece (K.written sink.old) (K.written sink.new) result
+        (flat_map (λ s. sum_after prefix.now (named_of s)) sums.now) }
     ensures cause { HasCause (K.faults sink.old) (K.faults sink.new) result }
 {
     for sum in sums {

@@ -25,7 +25,8 @@ impl<const L: usize, P: Projector<L> + Drop> Session<L, P> {
     fn begin_log<K: Sink>(&self, scene: &[u8], sink: &mut K) -> Result<LogWriter, Failed>
         requires lanes_high { L ≤ 16 }
         requires scene { length scene.now < 2 ^ 32 }
-        ensures bytes { WritesPiece (K.written sink.old) (K.written sink.new) result (header_bytes 2 self.now.limit (length scene.now) ++ scene.now) }
+        ensures bytes { WritesPiece (K.written sink.old) (K.written sink.new) result
+            (header_bytes 2 self.now.limit (length scene.now) ++ scene.now) }
         ensures cause { HasCause (K.faults sink.old) (K.faults sink.new) result }
         ensures entries { IfOk result (λ writer. writer ≡ 0) }
         ensures known { IsTrue (is_limit self.now.limit) }
@@ -51,11 +52,18 @@ pub fn run_record<const L: usize, P: Projector<L> + Drop, K: Sink, G: Ledger>(
     requires lanes_high { L ≤ 16 }
     requires scene { length scene.now < 2 ^ 32 }
     requires script { length script.now ≤ 2 ^ 31 }
-    ensures bytes { WritesPiece (K.written sink.old) (K.written sink.new) result (log_bytes session.old.limit scene.now (entries_of session.old (commands script.now))) }
-    ensures spells { OnOk result (Spells (log_bytes session.old.limit scene.now (entries_of session.old (commands script.now))) 2 session.old.limit scene.now (entries_of session.old (commands script.now))) }
+    ensures bytes { WritesPiece (K.written sink.old) (K.written sink.new) result
+        (log_bytes session.old.limit scene.now (entries_of session.old (commands script.now))) }
+    ensures spells { OnOk result
+        (Spells (log_bytes session.old.limit scene.now (entries_of session.old (commands script.now))) 2 session.old.limit scene.now
+        (entries_of session.old (commands script.now))) }
     // What is written replays alike: those entries give the session's text, and no mismatch.
     ensures replays { replayed session.old (entries_of session.old (commands script.now))
-        ≡ record { text = session_text session.old (commands script.now); ended = ends.Done (refused_count session.old (commands script.now)); world = last_world session.old (commands script.now) } }
+        ≡ record {
+          text = session_text session.old (commands script.now);
+          ended = ends.Done (refused_count session.old (commands script.now));
+          world = last_world session.old (commands script.now);
+        } }
     ensures refused { IfOk result (λ end. end.refused ≡ refused_count session.old (commands script.now)) }
     ensures world { OnOk result (session.new ≡ last_world session.old (commands script.now)) }
     ensures one_of { OnErr result (Contains (worlds session.old (commands script.now)) session.new) }

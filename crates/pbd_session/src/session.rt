@@ -43,7 +43,8 @@ impl<const L: usize, P: Projector<L> + Drop> Session<L, P> {
     pub fn open(alloc: Global, scene: &Scene, projector: P) -> Result<Session<L, P>, AllocError>
         requires lanes_low { 0 < L }
         requires lanes_high { L ≤ 16 }
-        ensures { IfOk result (λ session. session ≡ opened scene.now) }
+        ensures world { IfOk result (λ session. session ≡ opened scene.now) }
+        ensures sound { IfOk result (λ session. IsSound session) }
     {
         let solver = Solver::open(alloc, scene, projector)?;
         Ok(Session { solver })

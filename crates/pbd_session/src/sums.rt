@@ -1,6 +1,6 @@
 //! The sums of a frame.
-ghost use Rattle.std.specs.Prelude.{◌≡◌, ◌+◌, ◌*◌, ◌<◌, ◌≤◌, ◌^◌, ◌+ℤ◌, unsigned_abs};
-ghost use Rattle.pbd_num.specs.Vectors.{Within, axes, plus};
+ghost use Rattle.std.specs.Prelude.{◌≡◌, ◌+◌, ◌≤◌};
+ghost use Rattle.pbd_num.specs.Vectors.{axes, plus};
 ghost use Rattle.pbd_world.specs.Replay.{frame_sums, sum_over};
 
 use crate::Session;
@@ -18,32 +18,6 @@ pub struct Sums {
     before: Vec3,
 }
 
-/// A sum of so many axes with one more.
-fn further(count: u32, sum: i64, axis: i64) -> i64
-    requires count { count ≤ 65536 }
-    requires sum { unsigned_abs sum ≤ count * 2 ^ 29 }
-    requires axis { unsigned_abs axis ≤ 2 ^ 29 }
-    ensures value { result ≡ sum +ℤ axis }
-    ensures size { unsigned_abs result ≤ (count + 1) * 2 ^ 29 }
-{
-    sum + axis
-}
-
-/// A sum of so many places with one more.
-fn plus(count: u32, sum: Vec3, place: Vec3) -> Vec3
-    requires count { count ≤ 65536 }
-    requires sum { Within (count * 2 ^ 29) sum }
-    requires place { Within (2 ^ 29) place }
-    ensures value { result ≡ plus sum place }
-    ensures size { Within ((count + 1) * 2 ^ 29) result }
-{
-    Vec3 {
-        x: further(count, sum.x, place.x),
-        y: further(count, sum.y, place.y),
-        z: further(count, sum.z, place.z),
-    }
-}
-
 /// The sums over all particles, of which there are at most 65,536, so that each axis is at most 2^45 in size.
 fn summed<const L: usize, P: Projector<L> + Drop, G: Ledger>(
     solver: &Solver<L, P>,
@@ -53,13 +27,12 @@ fn summed<const L: usize, P: Projector<L> + Drop, G: Ledger>(
     ensures at { result.at ≡ sum_over (λ p. p.at) solver.now.world.particles }
     ensures before { result.before ≡ sum_over (λ p. p.before) solver.now.world.particles }
 {
-    let zero = Vec3 { x: 0, y: 0, z: 0 };
-    let mut at = zero;
-    let mut before = zero;
+    let mut at = Vec3::ZERO;
+    let mut before = Vec3::ZERO;
     for i in 0..solver.particles() {
         let particle = solver.particle(i, steps);
-        at = plus(i, at, particle.at);
-        before = plus(i, before, particle.before);
+        at = at.plus(particle.at);
+        before = before.plus(particle.before);
     }
     Sums { at, before }
 }

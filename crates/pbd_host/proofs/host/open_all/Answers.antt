@@ -1,8 +1,11 @@
-use Rattle.std.proofs.Common.{◌∙◌, ap}
-use Rattle.pbd_world.specs.World.{opened}
+use Rattle.std.proofs.Common.{◌∙◌, ap, sym, subst, All, List}
+use Rattle.std.proofs.lemmas.List.Elements.{All-push}
+use Rattle.pbd_world.specs.World.{World, opened, IsSound}
 use Rattle.pbd_host.proofs.OpeningLaws.{one_more}
 use Rattle.pbd_host.proofs.host.open_all.Goals as goal
 
 pub loop-scene-preserved : goal.loop-scene-preserved
-loop-scene-preserved g c =
-    one_more c.args.scenes.now c.loop-scene.scene-index c.scene-item.result c.loop-scene.sessions.items c.push.new.self.items c.in_ok-session.session c.loop-scene.invariant c.loop-scene-test.true (c.in_ok-session.ensures ∙ ap opened c.scene-item.is) c.in_ok-push.ensures.items
+loop-scene-preserved g c = record {
+  worlds = one_more c.args.scenes.now c.loop-scene.scene-index c.scene-item.result c.loop-scene.sessions.items c.push.new.self.items c.in_ok-session.session c.loop-scene.invariant.worlds c.loop-scene-test.true (c.in_ok-session.ensures.world ∙ ap opened c.scene-item.is) c.in_ok-push.ensures.items;
+  sound = subst (λ (ws : List World). All IsSound ws) (sym c.in_ok-push.ensures.items) (All-push IsSound c.loop-scene.sessions.items c.in_ok-session.session c.loop-scene.invariant.sound c.in_ok-session.ensures.sound);
+}

@@ -1,7 +1,7 @@
 use Rattle.std.proofs.lemmas.Result.{err_from_is_err_and}
-use Rattle.pbd_io.specs.Appending.{prefix_longer}
+use Rattle.pbd_io.specs.Appending.{piece_then, prefix_longer}
 use Rattle.pbd_session.specs.Printing.{header_after}
-use Rattle.pbd_session.proofs.Texts.{frame_after, piece_then}
+use Rattle.pbd_session.proofs.Texts.{frame_after}
 use Rattle.pbd_session.proofs.printing.write_frame.Goals as goal
 
 pub returns-in_err-write_header-clause-bytes : goal.returns-in_err-write_header-clause-bytes

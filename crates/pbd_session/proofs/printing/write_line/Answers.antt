@@ -1,6 +1,5 @@
 use Rattle.std.proofs.lemmas.Result.{err_from_is_err_and}
-use Rattle.pbd_io.specs.Appending.{prefix_longer}
-use Rattle.pbd_session.proofs.Texts.{piece_then}
+use Rattle.pbd_io.specs.Appending.{piece_then, prefix_longer}
 use Rattle.pbd_session.proofs.printing.write_line.Goals as goal
 
 pub returns-in_err-write-clause-bytes : goal.returns-in_err-write-clause-bytes
