@@ -1,12 +1,6 @@
 //! Runs a simulation: a scene, a line `%%` and a script on standard input, and the replies on standard output.
 #![tactic(auto)]
 
-#[cfg(test)]
-mod examples;
-#[cfg(test)]
-mod marks;
-#[cfg(test)]
-mod meshes;
 mod run;
 #[cfg(test)]
 mod tests;

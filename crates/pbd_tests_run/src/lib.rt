@@ -1,0 +1,18 @@
+//! Tests of whole runs, from the words to the status and the bytes: tables of inputs, logs, meshes, marks and hosts, cloths,
+//! and sources and sinks that fail.
+#![tactic(auto)]
+
+#[cfg(test)]
+mod cloths;
+#[cfg(test)]
+mod generated;
+#[cfg(test)]
+mod logs;
+#[cfg(test)]
+mod meshes;
+#[cfg(test)]
+mod outside;
+#[cfg(test)]
+mod rows;
+#[cfg(test)]
+mod written;
