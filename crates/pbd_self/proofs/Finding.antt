@@ -1,5 +1,5 @@
 -- The near pairs that the grid finds are the pairs that touch.
-use Rattle.std.proofs.Common.{◌≡◌, ◌≢◌, ◌∙◌, refl, sym, ap, subst, ℕ, ◌+◌, ◌-◌, ◌*◌, ◌^◌, ◌<◌, ◌≤◌, ltb, ℤ, pos, unsigned_abs, Bool, true, false, not, ◌&&◌, cond, List, [], ◌∷◌, length, map, replicate, arith, Result, Ok, Err}
+use Rattle.std.proofs.Common.{◌≡◌, ◌∙◌, refl, sym, ap, subst, ℕ, ◌+◌, ◌-◌, ◌^◌, ◌<◌, ◌≤◌, ltb, ℤ, pos, unsigned_abs, Bool, true, false, not, ◌&&◌, List, [], ◌∷◌, length, map, replicate, arith, Result, Ok, Err}
 use Rattle.std.specs.Prelude.{filter}
 use Rattle.std.specs.Result.{OnOk, OnErr}
 use Rattle.std.specs.List.{AllByRecursion, range_with_len}
@@ -14,7 +14,7 @@ use Rattle.pbd_world.specs.declared.parts.Particle.{Particle}
 use Rattle.pbd_world.specs.declared.parts.Link.{Link}
 use Rattle.pbd_world.specs.Particles.{particle_at, no_particle}
 use Rattle.pbd_world.specs.Room.{Roomed}
-use Rattle.pbd_world.specs.Colours.{pair_at, joined}
+use Rattle.pbd_world.specs.Colours.{joined}
 use Rattle.pbd_world.specs.Contacts.{row, all_pairs, are_near, contacts_of, link_pairs, live_flags}
 use Rattle.pbd_world.proofs.KeepingOn.{all-flat, all-filter, all-map, all-range, all-at}
 use Rattle.pbd_colour.specs.Pairs.{Coloured, InRange}

@@ -6,7 +6,8 @@ use Rattle.pbd_colour.specs.Pairs.{Coloured}
 use Rattle.pbd_self.specs.Touching.{AreOrdered}
 
 -- the colouring has the pairs, all live, and there is room for the places and flags of the particles
-pub record IsReady (particles grid : ℕ) (pairs : Roomed (ℕ × ℕ)) (colouring : Coloured) (places : Roomed Vec3) (held : Roomed Bool) : Type 0 where
+pub record IsReady (particles grid : ℕ) (pairs : Roomed (ℕ × ℕ)) (colouring : Coloured)
+    (places : Roomed Vec3) (held : Roomed Bool) : Type 0 where
   pub few : particles ≤ 65536
   pub grid_size : grid ≡ particles
   pub fits : length pairs.entries ≤ 262144

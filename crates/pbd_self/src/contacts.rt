@@ -24,6 +24,43 @@ fn colour(colouring: &mut Colouring, pairs: &[(u32, u32)])
     colouring.refill(pairs);
 }
 
+// Room for the places of so many particles, and for whether they are held.
+fn open_copies(
+    alloc: Global,
+    particles: u32,
+) -> Result<(RoomList<Vec3>, RoomList<bool>), AllocError>
+    ensures places { IfOk result (λ lists. lists.0.room ≡ particles) }
+    ensures held { IfOk result (λ lists. lists.1.room ≡ particles) }
+{
+    let places = RoomList::open(alloc, particles)?;
+    match RoomList::open(alloc, particles) {
+        Ok(held) => Ok((places, held)),
+        Err(AllocError) => {
+            drop(places);
+            Err(AllocError)
+        }
+    }
+}
+
+// Room for contacts, of which there are none yet, and for their colours.
+fn open_pairs(
+    alloc: Global,
+    particles: u32,
+) -> Result<(RoomList<(u32, u32)>, Colouring), AllocError>
+    requires { particles ≤ 65536 }
+    ensures pairs { IfOk result (λ both. both.0 ≡ record { entries = []; room = 262144 }) }
+    ensures colouring { IfOk result (λ both. both.1 ≡ record { particles = particles; room = 262144; pairs = []; live = [] }) }
+{
+    let pairs = RoomList::open(alloc, MOST_CONTACTS)?;
+    match Colouring::open(alloc, particles, MOST_CONTACTS) {
+        Ok(colouring) => Ok((pairs, colouring)),
+        Err(AllocError) => {
+            drop(pairs);
+            Err(AllocError)
+        }
+    }
+}
+
 /// The pairs of particles that touch each other in a step, and their colours. Only opening takes memory.
 #[derive(Drop)]
 pub struct SelfContacts {
@@ -53,18 +90,28 @@ impl SelfContacts {
         ensures { IfOk result (λ c. c ≡ record { particles = particles; pairs = [] }) }
     {
         let grid = Grid::open(alloc, particles)?;
-        let pairs = RoomList::open(alloc, MOST_CONTACTS)?;
-        let colouring = Colouring::open(alloc, particles, MOST_CONTACTS)?;
-        let places = RoomList::open(alloc, particles)?;
-        let held = RoomList::open(alloc, particles)?;
-        Ok(SelfContacts {
-            particles,
-            grid,
-            pairs,
-            colouring,
-            places,
-            held,
-        })
+        match open_pairs(alloc, particles) {
+            Ok((pairs, colouring)) => match open_copies(alloc, particles) {
+                Ok((places, held)) => Ok(SelfContacts {
+                    particles,
+                    grid,
+                    pairs,
+                    colouring,
+                    places,
+                    held,
+                }),
+                Err(AllocError) => {
+                    drop(colouring);
+                    drop(pairs);
+                    drop(grid);
+                    Err(AllocError)
+                }
+            },
+            Err(AllocError) => {
+                drop(grid);
+                Err(AllocError)
+            }
+        }
     }
 
     // Forgets all pairs.

@@ -8,5 +8,6 @@ ghost use Rattle.pbd_self.specs.Touching.{touching};
 
 /// Where a colouring has the pairs of the links with their live flags, the pairs that touch are the contacts of the world.
 pub fn touching_pairs_are_contacts()
-    ensures { (thickness : ℤ) (links : List Link) (ps : List Particle) (c : Coloured) → c.pairs ≡ link_pairs links → c.live ≡ live_flags links → touching thickness c ps ≡ contacts_of thickness links ps }
+    ensures { (thickness : ℤ) (links : List Link) (ps : List Particle) (c : Coloured) → c.pairs ≡ link_pairs links
+        → c.live ≡ live_flags links → touching thickness c ps ≡ contacts_of thickness links ps }
 {}

@@ -1,8 +1,8 @@
-use Rattle.std.proofs.Common.{◌≡◌, ◌∙◌, sym, ap, refl, ℕ, ◌<◌, List, length, to_z, of_z, w64, arith, unsigned_abs}
+use Rattle.std.proofs.Common.{◌≡◌, ◌∙◌, ap, ℕ, List, length, to_z, of_z, w64, arith, unsigned_abs}
 use Rattle.std.proofs.lemmas.Int.{to_z-of_z}
 use Rattle.std.proofs.lemmas.Result.{on_ok_weaker, on_err_weaker}
 use Rattle.pbd_world.specs.Room.{Roomed}
-use Rattle.pbd_colour.specs.Pairs.{Coloured, InRange}
+use Rattle.pbd_colour.specs.Pairs.{Coloured}
 use Rattle.pbd_grid.specs.Near.{near_pairs}
 use Rattle.pbd_self.specs.Apart.{may_touch}
 use Rattle.pbd_self.specs.Touching.{Found, AreOrdered, touching}
