@@ -9,6 +9,11 @@ ghost use Rattle.pbd_lanes.specs.Lane.{lane, is_set, lanes_of};
 use pbd_num::{rdiv, root};
 use std::marker::Model;
 
+mod roots;
+mod shares;
+
+pub use roots::Roots;
+
 /// L numbers, which contracts see as a list of L.
 #[derive(Clone, Copy)]
 pub struct Lanes<const L: usize> {
