@@ -19,7 +19,8 @@ settled_parts ps = map {A = Particle} {B = Particle} (λ p. record p { before = 
 -- the particles from n on are rubbed, while those before n stay as they are
 unfoldable pub rubbed_from : ℤ → ℕ → Passing → Motion
 rubbed_from friction n s =
-    let ms = map {A = Particle × Bool} {B = Moved} (λ pair. rubbed friction pair.0 pair.1) (zip (drop n s.motion.particles) (drop n s.touched)) in
+    let ms = map {A = Particle × Bool} {B = Moved}
+    (λ pair. rubbed friction pair.0 pair.1) (zip (drop n s.motion.particles) (drop n s.touched)) in
     record {
       particles = take n s.motion.particles ++ map {A = Moved} {B = Particle} (λ m. m.particle) ms;
       totals = fold {A = Moved} {B = Ledger} (λ u m. booked u m.entries) s.motion.totals ms;

@@ -11,7 +11,8 @@ use Rattle.pbd_world.specs.Step.{Passing, all_shaped}
 
 -- particle by particle, up to the first that leaves the limit
 abbrev pub all_pushed : ℤ → List Plane → List Sphere → Passing → Result Passing ℕ
-all_pushed limit planes spheres s = each_from 0 (λ i p. shaped limit (shapes_of planes spheres) p) s.motion.particles >>= λ ss. Ok (all_shaped s ss)
+all_pushed limit planes spheres s = each_from 0
+    (λ i p. shaped limit (shapes_of planes spheres) p) s.motion.particles >>= λ ss. Ok (all_shaped s ss)
 
 -- the same of the particles from n on, while those before n stay as they are
 abbrev pub shaped_after : ℕ → Passing → List Shaped → Passing
@@ -22,8 +23,10 @@ shaped_after n s ss =
         particles = take n s.motion.particles ++ map {A = Moved} {B = Particle} (λ m. m.particle) ms;
         totals = fold {A = Moved} {B = Ledger} (λ u m. booked u m.entries) s.motion.totals ms;
       };
-      touched = take n s.touched ++ map {A = Bool × Bool} {B = Bool} (λ pair. pair.0 || pair.1) (zip (drop n s.touched) (map {A = Shaped} {B = Bool} (λ x. x.touched) ss));
+      touched = take n s.touched ++ map {A = Bool × Bool} {B = Bool}
+          (λ pair. pair.0 || pair.1) (zip (drop n s.touched) (map {A = Shaped} {B = Bool} (λ x. x.touched) ss));
     }
 
 unfoldable pub pushed_from : ℤ → List Plane → List Sphere → ℕ → Passing → Result Passing ℕ
-pushed_from limit planes spheres n s = each_from n (λ i p. shaped limit (shapes_of planes spheres) p) (drop n s.motion.particles) >>= λ ss. Ok (shaped_after n s ss)
+pushed_from limit planes spheres n s = each_from n
+    (λ i p. shaped limit (shapes_of planes spheres) p) (drop n s.motion.particles) >>= λ ss. Ok (shaped_after n s ss)

@@ -1,5 +1,5 @@
 // What a move by a shape or by friction leaves in the ledger and in the flags.
-ghost use Rattle.std.specs.Prelude.{◌≡◌, ℕ, ◌<◌, ◌≤◌, ◌^◌, ◌+◌, true, length, slice_set, if◌then◌else◌};
+ghost use Rattle.std.specs.Prelude.{◌≡◌, ℕ, ◌<◌, ◌^◌, ◌+◌, true, length, slice_set, if◌then◌else◌};
 ghost use Rattle.pbd_num.specs.Vectors.{Within};
 ghost use Rattle.pbd_world.specs.Ledger.{added, ledger_of, HaveRoom};
 ghost use Rattle.pbd_world.specs.declared.totals.Class.TheVariants as classes;

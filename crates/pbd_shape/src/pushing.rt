@@ -33,7 +33,9 @@ fn push_if_free(
     requires planes { IsTrue (are_valid_planes planes.now) }
     requires spheres { IsTrue (are_valid_spheres limit spheres.now) }
     requires place { Within (unsigned_abs limit) at }
-    ensures value { option_map way_of result ≡ (if held then Some (record { at = at; touched = false }) else way_through limit (shapes_of planes.now spheres.now) (record { at = at; touched = false })) }
+    ensures value { option_map way_of result
+        ≡ (if held then Some (record { at = at; touched = false }) else way_through limit (shapes_of planes.now spheres.now)
+        (record { at = at; touched = false })) }
     ensures within { IfSome result (λ way. Within (unsigned_abs limit) way.at) }
 {
     if held {
@@ -56,7 +58,8 @@ fn push_lanes<const L: usize>(
     requires lanes_low { 0 < L }
     requires lanes_high { L ≤ 16 }
     requires block { block < blocks_of (length store.now.particles) L }
-    requires at { (j : ℕ) → j < L → place_of lanes.now.at.x lanes.now.at.y lanes.now.at.z j ≡ (particle_at store.now.particles (block * L + j)).at }
+    requires at { (j : ℕ) → j < L → place_of lanes.now.at.x lanes.now.at.y lanes.now.at.z j
+        ≡ (particle_at store.now.particles (block * L + j)).at }
     requires held { (j : ℕ) → j < L → is_set lanes.now.held j ≡ (particle_at store.now.particles (block * L + j)).held }
     requires planes { IsTrue (are_valid_planes planes.now) }
     requires spheres { IsTrue (are_valid_spheres store.now.limit spheres.now) }
@@ -64,13 +67,21 @@ fn push_lanes<const L: usize>(
     requires flags { length touched.old ≡ length store.now.particles }
     requires room { HaveRoom (2 ^ 125) (ledger_of totals.old) }
     ensures outcome { MatchResult result
-        (λ places. (qs : List Particle) → Saved L (block * L) (filled_lanes L block store.now.particles) (λ j. slice_index_or places j zero_vector) (λ j. (particle_at store.now.particles (block * L + j)).before) store.now.particles qs
-        → pushed_from store.now.limit planes.now spheres.now (block * L + L) (record { motion = record { particles = qs; totals = ledger_of totals.new }; touched = touched.new })
-        ≡ pushed_from store.now.limit planes.now spheres.now (block * L) (record { motion = motion_of store.now totals.old; touched = touched.old }))
-        (λ left. pushed_from store.now.limit planes.now spheres.now (block * L) (record { motion = motion_of store.now totals.old; touched = touched.old }) ≡ Err left.element) }
-    ensures inside { IfOk result (λ places. (j : ℕ) → j < L → block * L + j < length store.now.particles → Within (unsigned_abs store.now.limit) (slice_index_or places j zero_vector)) }
+        (λ places. (qs : List Particle)
+        → Saved L (block * L) (filled_lanes L block store.now.particles) (λ j. slice_index_or places j zero_vector)
+        (λ j. (particle_at store.now.particles (block * L + j)).before) store.now.particles qs
+        → pushed_from store.now.limit planes.now spheres.now (block * L + L)
+        (record { motion = record { particles = qs; totals = ledger_of totals.new }; touched = touched.new })
+        ≡ pushed_from store.now.limit planes.now spheres.now (block * L)
+        (record { motion = motion_of store.now totals.old; touched = touched.old }))
+        (λ left. pushed_from store.now.limit planes.now spheres.now (block * L)
+        (record { motion = motion_of store.now totals.old; touched = touched.old }) ≡ Err left.element) }
+    ensures inside { IfOk result
+        (λ places. (j : ℕ) → j < L → block * L + j < length store.now.particles
+        → Within (unsigned_abs store.now.limit) (slice_index_or places j zero_vector)) }
     ensures flags { length touched.new ≡ length touched.old }
-    ensures room { (n : ℕ) → HaveRoom n (ledger_of totals.old) → HaveRoom (n + (min (block * L + L) (length store.now.particles) - block * L) * 2 ^ 31) (ledger_of totals.new) }
+    ensures room { (n : ℕ) → HaveRoom n (ledger_of totals.old)
+        → HaveRoom (n + (min (block * L + L) (length store.now.particles) - block * L) * 2 ^ 31) (ledger_of totals.new) }
 {
     let limit = store.limit();
     let span = store.span(block);
@@ -108,14 +119,18 @@ fn push_block<const L: usize, G: Ledger>(
     requires flags { length touched.old ≡ length store.old.particles }
     requires room { HaveRoom (2 ^ 125) (ledger_of totals.old) }
     ensures outcome { MatchResult result
-        (λ _. pushed_from store.old.limit planes.now spheres.now (block * L + L) (record { motion = motion_of store.new totals.new; touched = touched.new })
-        ≡ pushed_from store.old.limit planes.now spheres.now (block * L) (record { motion = motion_of store.old totals.old; touched = touched.old }))
-        (λ left. pushed_from store.old.limit planes.now spheres.now (block * L) (record { motion = motion_of store.old totals.old; touched = touched.old }) ≡ Err left.element) }
+        (λ _. pushed_from store.old.limit planes.now spheres.now (block * L + L)
+        (record { motion = motion_of store.new totals.new; touched = touched.new })
+        ≡ pushed_from store.old.limit planes.now spheres.now (block * L)
+        (record { motion = motion_of store.old totals.old; touched = touched.old }))
+        (λ left. pushed_from store.old.limit planes.now spheres.now (block * L)
+        (record { motion = motion_of store.old totals.old; touched = touched.old }) ≡ Err left.element) }
     ensures limit { store.new.limit ≡ store.old.limit }
     ensures fixed { fixed_parts store.new.particles ≡ fixed_parts store.old.particles }
     ensures flags { length touched.new ≡ length touched.old }
     ensures inside { AreInside store.old.limit store.new.particles }
-    ensures room { (n : ℕ) → HaveRoom n (ledger_of totals.old) → HaveRoom (n + (min (block * L + L) (length store.old.particles) - block * L) * 2 ^ 31) (ledger_of totals.new) }
+    ensures room { (n : ℕ) → HaveRoom n (ledger_of totals.old)
+        → HaveRoom (n + (min (block * L + L) (length store.old.particles) - block * L) * 2 ^ 31) (ledger_of totals.new) }
     ensures cost { steps.new ≤ steps.old + 2 }
 {
     let mut lanes = store.load(block, steps);
@@ -154,13 +169,17 @@ pub fn push_out<const L: usize, G: Ledger>(
     requires flags { length touched.old ≡ length store.old.particles }
     requires room { HaveRoom (2 ^ 120) (ledger_of totals.old) }
     ensures outcome { MatchResult result
-        (λ _. all_pushed store.old.limit planes.now spheres.now (record { motion = motion_of store.old totals.old; touched = touched.old }) ≡ Ok (record { motion = motion_of store.new totals.new; touched = touched.new }))
-        (λ left. all_pushed store.old.limit planes.now spheres.now (record { motion = motion_of store.old totals.old; touched = touched.old }) ≡ Err left.element) }
+        (λ _. all_pushed store.old.limit planes.now spheres.now
+        (record { motion = motion_of store.old totals.old; touched = touched.old })
+        ≡ Ok (record { motion = motion_of store.new totals.new; touched = touched.new }))
+        (λ left. all_pushed store.old.limit planes.now spheres.now
+        (record { motion = motion_of store.old totals.old; touched = touched.old }) ≡ Err left.element) }
     ensures limit { store.new.limit ≡ store.old.limit }
     ensures fixed { fixed_parts store.new.particles ≡ fixed_parts store.old.particles }
     ensures flags { length touched.new ≡ length touched.old }
     ensures inside { OnOk result (AreInside store.old.limit store.new.particles) }
-    ensures room { OnOk result ((n : ℕ) → HaveRoom n (ledger_of totals.old) → HaveRoom (n + length store.old.particles * 2 ^ 31) (ledger_of totals.new)) }
+    ensures room { OnOk result
+        ((n : ℕ) → HaveRoom n (ledger_of totals.old) → HaveRoom (n + length store.old.particles * 2 ^ 31) (ledger_of totals.new)) }
     ensures cost { steps.new ≤ steps.old + 2 * blocks_of (length store.old.particles) L }
 {
     // By it the totals have room.

@@ -1,6 +1,5 @@
 // Friction, block by block.
-ghost use Rattle.std.specs.Prelude.{◌≡◌, ℕ, ◌<◌, ◌≤◌, ◌^◌, ◌+◌, ◌-◌, ◌*◌, min, List, pos, ◌+ℤ◌, ◌*ℤ◌, not, false, ◌&&◌, unsigned_abs, length, slice_index_or, IsTrue, if◌then◌else◌};
-ghost use Rattle.pbd_num.specs.Rounding.{rdiv as rounded};
+ghost use Rattle.std.specs.Prelude.{◌≡◌, ℕ, ◌<◌, ◌≤◌, ◌^◌, ◌+◌, ◌-◌, ◌*◌, min, List, pos, not, false, ◌&&◌, unsigned_abs, length, slice_index_or, IsTrue, if◌then◌else◌};
 ghost use Rattle.pbd_num.specs.Vectors.{Within, zero_vector, minus, plus, opposite};
 ghost use Rattle.pbd_world.specs.declared.parts.Particle.{Particle};
 ghost use Rattle.pbd_world.specs.Ledger.{ledger_of, HaveRoom};
@@ -56,18 +55,25 @@ fn rub_lanes<const L: usize>(
     requires lanes_low { 0 < L }
     requires lanes_high { L ≤ 16 }
     requires block { block < blocks_of (length store.now.particles) L }
-    requires at { (j : ℕ) → j < L → place_of lanes.now.at.x lanes.now.at.y lanes.now.at.z j ≡ (particle_at store.now.particles (block * L + j)).at }
-    requires before { (j : ℕ) → j < L → place_of lanes.now.before.x lanes.now.before.y lanes.now.before.z j ≡ (particle_at store.now.particles (block * L + j)).before }
+    requires at { (j : ℕ) → j < L → place_of lanes.now.at.x lanes.now.at.y lanes.now.at.z j
+        ≡ (particle_at store.now.particles (block * L + j)).at }
+    requires before { (j : ℕ) → j < L → place_of lanes.now.before.x lanes.now.before.y lanes.now.before.z j
+        ≡ (particle_at store.now.particles (block * L + j)).before }
     requires held { (j : ℕ) → j < L → is_set lanes.now.held j ≡ (particle_at store.now.particles (block * L + j)).held }
     requires friction { IsTrue (is_between (pos 0) (pos 256) friction) }
     requires flags { length touched.now ≡ length store.now.particles }
     requires within { AreWithin store.now.limit store.now.particles }
     requires room { HaveRoom (2 ^ 125) (ledger_of totals.old) }
-    ensures outcome { (qs : List Particle) → Saved L (block * L) (filled_lanes L block store.now.particles) (λ j. (particle_at store.now.particles (block * L + j)).at) (λ j. slice_index_or result j zero_vector) store.now.particles qs
-        → rubbed_from friction (block * L + L) (record { motion = record { particles = qs; totals = ledger_of totals.new }; touched = touched.now })
+    ensures outcome { (qs : List Particle)
+        → Saved L (block * L) (filled_lanes L block store.now.particles) (λ j. (particle_at store.now.particles (block * L + j)).at)
+        (λ j. slice_index_or result j zero_vector) store.now.particles qs
+        → rubbed_from friction (block * L + L)
+        (record { motion = record { particles = qs; totals = ledger_of totals.new }; touched = touched.now })
         ≡ rubbed_from friction (block * L) (record { motion = motion_of store.now totals.old; touched = touched.now }) }
-    ensures within { (j : ℕ) → j < L → block * L + j < length store.now.particles → Within (unsigned_abs store.now.limit) (slice_index_or result j zero_vector) }
-    ensures room { (n : ℕ) → HaveRoom n (ledger_of totals.old) → HaveRoom (n + (min (block * L + L) (length store.now.particles) - block * L) * 2 ^ 31) (ledger_of totals.new) }
+    ensures within { (j : ℕ) → j < L → block * L + j < length store.now.particles
+        → Within (unsigned_abs store.now.limit) (slice_index_or result j zero_vector) }
+    ensures room { (n : ℕ) → HaveRoom n (ledger_of totals.old)
+        → HaveRoom (n + (min (block * L + L) (length store.now.particles) - block * L) * 2 ^ 31) (ledger_of totals.new) }
 {
     // By it the places are in the range of both limits.
     let _limit = store.limit();
@@ -104,7 +110,8 @@ fn rub_block<const L: usize, G: Ledger>(
     ensures limit { store.new.limit ≡ store.old.limit }
     ensures settled { settled_parts store.new.particles ≡ settled_parts store.old.particles }
     ensures within { AreWithin store.old.limit store.new.particles }
-    ensures room { (n : ℕ) → HaveRoom n (ledger_of totals.old) → HaveRoom (n + (min (block * L + L) (length store.old.particles) - block * L) * 2 ^ 31) (ledger_of totals.new) }
+    ensures room { (n : ℕ) → HaveRoom n (ledger_of totals.old)
+        → HaveRoom (n + (min (block * L + L) (length store.old.particles) - block * L) * 2 ^ 31) (ledger_of totals.new) }
     ensures cost { steps.new ≤ steps.old + 2 }
 {
     let mut lanes = store.load(block, steps);
@@ -130,7 +137,8 @@ pub fn rub<const L: usize, G: Ledger>(
     requires flags { length touched.now ≡ length store.old.particles }
     requires within { AreWithin store.old.limit store.old.particles }
     requires room { HaveRoom (2 ^ 120) (ledger_of totals.old) }
-    ensures outcome { motion_of store.new totals.new ≡ all_rubbed friction (record { motion = motion_of store.old totals.old; touched = touched.now }) }
+    ensures outcome { motion_of store.new totals.new
+        ≡ all_rubbed friction (record { motion = motion_of store.old totals.old; touched = touched.now }) }
     ensures limit { store.new.limit ≡ store.old.limit }
     ensures settled { settled_parts store.new.particles ≡ settled_parts store.old.particles }
     ensures within { AreWithin store.old.limit store.new.particles }

@@ -1,6 +1,5 @@
 // What a sphere does with a place.
-ghost use Rattle.std.specs.Prelude.{◌≡◌, ◌<◌, ◌≤◌, ◌*◌, ◌^◌, pos, ◌+ℤ◌, ◌-ℤ◌, ◌*ℤ◌, ◌≤ℤ◌, int_lt, unsigned_abs};
-ghost use Rattle.pbd_num.specs.Rounding.{rdiv as rounded};
+ghost use Rattle.std.specs.Prelude.{◌≡◌, ◌<◌, ◌^◌, pos, int_lt};
 ghost use Rattle.pbd_num.specs.Vectors.{Within, minus, squared_length, length_of};
 ghost use Rattle.pbd_world.specs.Shapes.{onto_sphere, sphere_shape};
 ghost use Rattle.pbd_shape.specs.Valid.{IsSphere};

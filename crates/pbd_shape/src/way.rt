@@ -1,5 +1,5 @@
 // The way of a place through all planes and spheres.
-ghost use Rattle.std.specs.Prelude.{◌≡◌, ◌≤◌, ◌^◌, false, map, IsTrue, unsigned_abs, option_map, IfSome};
+ghost use Rattle.std.specs.Prelude.{◌≡◌, false, map, IsTrue, unsigned_abs, option_map, IfSome};
 ghost use Rattle.pbd_num.specs.Vectors.{Within};
 ghost use Rattle.pbd_world.specs.Shapes.{past, plane_shape, sphere_shape, shapes_of, way_through};
 ghost use Rattle.pbd_world.specs.Valid.{are_valid_planes, are_valid_spheres};

@@ -24,5 +24,6 @@ place_of xs ys zs j = record { x = lane xs j; y = lane ys j; z = lane zs j }
 -- each of the n particles from `start` on whose lane is set has the places of its lane, and nothing else has changed
 pub record Saved (n start : ℕ) (set : List Bool) (at before : ℕ → Vec3) (old new : List Particle) : Type 0 where
   pub whole : length new ≡ length old
-  pub lanes : (j : ℕ) → j < n → start + j < length old → IsTrue (is_set set j) → particle_at new (start + j) ≡ record (particle_at old (start + j)) { at = at j; before = before j }
+  pub lanes : (j : ℕ) → j < n → start + j < length old → IsTrue (is_set set j) → particle_at new (start + j)
+      ≡ record (particle_at old (start + j)) { at = at j; before = before j }
   pub others : (i : ℕ) → ((j : ℕ) → j < n → IsTrue (is_set set j) → start + j ≡ i → ⊥) → particle_at new i ≡ particle_at old i

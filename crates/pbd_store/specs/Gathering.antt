@@ -20,5 +20,6 @@ NamesApart n is set = (j k : ℕ) → j < k → k < n → IsTrue (is_set set j) 
 -- each of the first n lanes that is set has placed its particle, and nothing else has changed
 pub record Scattered (n : ℕ) (is : List ℕ) (set : List Bool) (xs ys zs : List ℤ) (old new : List Particle) : Type 0 where
   pub whole : length new ≡ length old
-  pub lanes : (j : ℕ) → j < n → IsTrue (is_set set j) → particle_at new (index_at is j) ≡ record (particle_at old (index_at is j)) { at = place_of xs ys zs j }
+  pub lanes : (j : ℕ) → j < n → IsTrue (is_set set j) → particle_at new (index_at is j)
+      ≡ record (particle_at old (index_at is j)) { at = place_of xs ys zs j }
   pub others : (i : ℕ) → ((j : ℕ) → j < n → IsTrue (is_set set j) → index_at is j ≡ i → ⊥) → particle_at new i ≡ particle_at old i

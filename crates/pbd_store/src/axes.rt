@@ -1,8 +1,8 @@
 // Three columns: one number of each axis for each particle.
-ghost use Rattle.std.specs.Prelude.{◌≡◌, ℕ, ◌+◌, ◌++◌, ◌<◌, ◌≤◌, pos, ℤ, length, map, replicate, slice_set, IfOk, vec_len};
+ghost use Rattle.std.specs.Prelude.{◌≡◌, ◌+◌, ◌++◌, ◌<◌, ◌≤◌, pos, length, map, replicate, slice_set, IfOk, vec_len};
 ghost use Rattle.pbd_lanes.specs.Lane.{lane, lanes_of};
 ghost use Rattle.pbd_store.specs.Fields.{number_of};
-ghost use Rattle.pbd_store.specs.Listed.{place_at, AreLong};
+ghost use Rattle.pbd_store.specs.Listed.{place_at};
 
 use pbd_lanes::Lanes;
 use pbd_num::Vec3;

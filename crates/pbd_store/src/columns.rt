@@ -1,7 +1,6 @@
-ghost use Rattle.std.specs.Prelude.{◌≡◌, ℕ, ◌<◌, ◌≤◌, ◌+◌, ◌++◌, pos, false, ℤ, length, map, replicate, slice_index, slice_set, IfOk, IsTrue, vec_len, if◌then◌else◌, nat_lt};
+ghost use Rattle.std.specs.Prelude.{◌≡◌, ◌<◌, ◌≤◌, ◌+◌, ◌++◌, pos, false, length, map, replicate, slice_index, slice_set, IfOk, IsTrue, vec_len, if◌then◌else◌, nat_lt};
 ghost use Rattle.pbd_lanes.specs.Lane.{lanes_of};
 ghost use Rattle.pbd_world.specs.Particles.{particle_at, placed, effective_weight};
-ghost use Rattle.pbd_store.specs.Blocks.{place_of};
 ghost use Rattle.pbd_store.specs.Fields.{number_of};
 
 use crate::axes::{Axes, Field, column, lanes_from, padded};
@@ -92,11 +91,11 @@ impl<const L: usize> Columns<L> {
             y: before_y,
             z: before_z,
         };
-        Ok(Columns::joined(particles, at, before, weight, held))
+        Ok(Columns::put_together(particles, at, before, weight, held))
     }
 
     // The columns of a list.
-    fn joined(
+    fn put_together(
         particles: &[Particle],
         at: Axes,
         before: Axes,
@@ -195,7 +194,9 @@ impl<const L: usize> Columns<L> {
     }
 
     pub(crate) fn move_if(&mut self, i: usize, wanted: bool, at: Vec3, before: Vec3)
-        ensures { self.new ≡ (if wanted then (if nat_lt i (length self.old) then slice_set self.old i (record (particle_at self.old i) { at = at; before = before }) else self.old) else self.old) }
+        ensures { self.new ≡ (if wanted then
+            (if nat_lt i (length self.old) then slice_set self.old i
+            (record (particle_at self.old i) { at = at; before = before }) else self.old) else self.old) }
     {
         if wanted && i < self.len() {
             self.move_both(i, at, before);

@@ -1,4 +1,4 @@
-ghost use Rattle.std.specs.Prelude.{◌≡◌, ℕ, ◌<◌, ◌≤◌, ◌^◌, ◌+◌, ◌*◌, pos, ◌≤ℤ◌, ◌<ℤ◌, length, slice_set, IfOk, IsTrue, vec_len, if◌then◌else◌, unsigned_abs};
+ghost use Rattle.std.specs.Prelude.{◌≡◌, ℕ, ◌<◌, ◌≤◌, ◌^◌, ◌+◌, ◌*◌, pos, ◌≤ℤ◌, length, slice_set, IfOk, IsTrue, vec_len, unsigned_abs};
 ghost use Rattle.pbd_lanes.specs.Lane.{is_set};
 ghost use Rattle.pbd_world.specs.Particles.{particle_at, placed, effective_weight};
 ghost use Rattle.pbd_world.specs.Valid.{is_limit};

@@ -1,9 +1,8 @@
 //! Which links tear.
 #![tactic(auto)]
 
-ghost use Rattle.std.specs.Prelude.{◌≡◌, ◌+◌, ◌*◌, ◌<◌, ◌≤◌, ◌^◌, ◌++◌, ◌∷◌, [], pos, ◌-ℤ◌, unsigned_abs, nat_lt, int_lt, ◌&&◌, length, IsTrue, if◌then◌else◌};
+ghost use Rattle.std.specs.Prelude.{◌≡◌, ◌+◌, ◌*◌, ◌<◌, ◌≤◌, ◌^◌, ◌++◌, ◌∷◌, [], pos, unsigned_abs, nat_lt, int_lt, ◌&&◌, length, IsTrue, if◌then◌else◌};
 ghost use Rattle.pbd_num.specs.Vectors.{Within, minus, squared_length};
-ghost use Rattle.pbd_world.specs.Particles.{particle_at};
 ghost use Rattle.pbd_world.specs.Valid.{are_valid_links};
 ghost use Rattle.pbd_world.specs.Step.{is_torn};
 ghost use Rattle.pbd_store.specs.Moving.{AreInside};

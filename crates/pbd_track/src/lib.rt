@@ -1,8 +1,7 @@
 //! Where tracked particles are at a step.
 #![tactic(auto)]
 
-ghost use Rattle.std.specs.Prelude.{◌≡◌, ◌+◌, ◌<◌, ◌≤◌, ◌^◌, pos, ◌+ℤ◌, ◌-ℤ◌, ◌*ℤ◌, unsigned_abs, length, IsTrue, All};
-ghost use Rattle.pbd_num.specs.Rounding.{rdiv as rounded};
+ghost use Rattle.std.specs.Prelude.{◌≡◌, ◌+◌, ◌<◌, ◌≤◌, length, IsTrue, All};
 ghost use Rattle.pbd_world.specs.Tracks.{place_between, place_after, place_at};
 ghost use Rattle.pbd_world.specs.World.{is_tracked};
 ghost use Rattle.pbd_world.specs.Valid.{are_valid_tracks};

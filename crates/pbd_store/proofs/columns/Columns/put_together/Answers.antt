@@ -1,5 +1,5 @@
 use Rattle.pbd_store.proofs.Listing.{from_padded, from_listed}
-use Rattle.pbd_store.proofs.columns.Columns.joined.Goals as goal
+use Rattle.pbd_store.proofs.columns.Columns.put_together.Goals as goal
 
 pub invariant_of-result : goal.invariant_of-result
 invariant_of-result g c = from_padded c.args.particles.now g.row.L c.requires.few c.args.at c.args.before c.args.weight.items c.args.held.items c.requires.at_x c.requires.at_y c.requires.at_z c.requires.before_x c.requires.before_y c.requires.before_z c.requires.weight c.requires.held
