@@ -1,12 +1,7 @@
 -- What is written, piece by piece.
-use Rattle.std.proofs.Common.{◌≡◌, ◌∙◌, sym, ap, refl, ℕ, zero, suc, ◌+◌, ◌-◌, ◌*◌, ◌/◌, ◌%◌, ◌<◌, ◌≤◌, List, [], ◌∷◌, ◌++◌, length, get_or, take, drop, map, arith, append_assoc, append-nil, codes, decimal, Option, Result, Ok, Err, length-append, ℤ, unsigned_abs}
-use Rattle.std.specs.Io.KnownBytes.{Appends}
+use Rattle.std.proofs.Common.{◌≡◌, ◌∙◌, sym, ap, refl, ℕ, zero, suc, ◌+◌, ◌-◌, ◌*◌, ◌/◌, ◌%◌, ◌<◌, ◌≤◌, List, [], ◌∷◌, ◌++◌, length, map, arith, append_assoc, append-nil, codes, decimal, length-append, ℤ, unsigned_abs}
 use Rattle.std.specs.List.{flat_map}
 use Rattle.std.proofs.lemmas.Bool.{ne_eqb}
-use Rattle.std.proofs.lemmas.Grind.{flat_map-append}
-use Rattle.std.proofs.lemmas.List.{take_more}
-use Rattle.pbd_io.specs.Pieces.{AppendsPrefix, WritesPiece}
-use Rattle.pbd_io.specs.Appending.{appends_then, prefix_longer, prefix_then}
 use Rattle.pbd_num.specs.declared.Vec3.{Vec3}
 use Rattle.pbd_world.specs.Text.{line}
 use Rattle.pbd_obj.specs.Writing.{coordinate, corner_text, decimals, face_line, fraction, sign, vertex_line}
@@ -51,26 +46,6 @@ decimals_all_end n start now rest count so_far le =
     let none : 16 - count ≡ 0 = omega (arith, le) in
     sym (append-nil now) ∙ (ap (λ k. now ++ decimals k rest) (sym none) ∙ so_far.bytes)
 
--- ---- one piece for each item
-
-flat_at : {X : Type 0} (f : X → List ℕ) (xs : List X) (i : ℕ) (d : X) (piece : List ℕ) → i < length xs → piece ≡ f (get_or xs i d) → flat_map f xs ≡ flat_map f (take i xs) ++ (piece ++ flat_map f (drop (i + 1) xs))
-flat_at f [] i d piece lt is = absurd (omega arith)
-flat_at f (x ∷ xs) zero d piece lt is = rw is refl
-flat_at f (x ∷ xs) (suc i) d piece lt is =
-    let e : suc i + 1 ≡ suc (i + 1) = omega arith in
-    rw e (ap (λ t. f x ++ t) (flat_at f xs i d piece (omega (arith, lt)) is) ∙ sym (append_assoc (f x) (flat_map f (take i xs)) (piece ++ flat_map f (drop (i + 1) xs))))
-
--- the pieces of the items before i are written, and then that of item i
-pub wrote_next : {X : Type 0} (f : X → List ℕ) (xs : List X) (i : ℕ) (d : X) (piece : List ℕ) (old mid new : Option (List ℕ)) → Appends old mid (flat_map f (take i xs)) → i < length xs → piece ≡ f (get_or xs i d) → Appends mid new piece → Appends old new (flat_map f (take (i + 1) xs))
-wrote_next f xs i d piece old mid new before lt is wrote =
-    let e : flat_map f (take (i + 1) xs) ≡ flat_map f (take i xs) ++ piece = ap (flat_map f) (take_more xs i d lt) ∙ (flat_map-append f (take i xs) (get_or xs i d ∷ []) ∙ ap (λ t. flat_map f (take i xs) ++ t) (append-nil (f (get_or xs i d)) ∙ sym is)) in
-    rw e (appends_then _ _ _ _ _ before wrote)
-
--- and some prefix of it
-pub failed_next : {X : Type 0} (f : X → List ℕ) (xs : List X) (i : ℕ) (d : X) (piece : List ℕ) (old mid new : Option (List ℕ)) → Appends old mid (flat_map f (take i xs)) → i < length xs → piece ≡ f (get_or xs i d) → AppendsPrefix mid new piece → AppendsPrefix old new (flat_map f xs)
-failed_next f xs i d piece old mid new before lt is failed =
-    rw (flat_at f xs i d piece lt is) (prefix_then _ _ _ _ _ before (prefix_longer _ _ piece _ failed))
-
 -- ---- the line of a face
 
 mapped : {X : Type 0} (f : X → List ℕ) (xs : List X) → flat_map (λ w. 32 ∷ w) (map {A = X} {B = List ℕ} f xs) ≡ flat_map (λ x. 32 ∷ f x) xs
@@ -84,12 +59,6 @@ line_is w (next ∷ ws) = ap (λ t. w ++ 32 ∷ t) (line_is next ws ∙ sym (app
 pub face_line_is : (base : ℕ) (corners : List ℕ) → face_line base corners ≡ codes "f" ++ (flat_map (λ corner. corner_text (base + corner + 1)) corners ++ codes "\n")
 unfolding face_line
 face_line_is base corners = line_is (codes "f") (map (λ corner. decimal (base + corner + 1)) corners) ∙ ap (λ t. codes "f" ++ (t ++ codes "\n")) (mapped (λ corner. decimal (base + corner + 1)) corners)
-
--- ---- what two calls write
-
-pub piece_then : {T E : Type 0} (a b c : Option (List ℕ)) (r : Result T E) (x y : List ℕ) → Appends a b x → WritesPiece b c r y → WritesPiece a c r (x ++ y)
-piece_then a b c (Ok t) x y first second = appends_then _ _ _ _ _ first second
-piece_then a b c (Err e) x y first second = prefix_then _ _ _ _ _ first second
 
 -- ---- the line of a vertex
 

@@ -19,10 +19,6 @@ use Rattle.pbd_run.specs.Forms.{large_on}
 
 -- ---- one piece after another
 
-pub piece_then : {T E : Type 0} (a b c : Option (List ℕ)) (x y : List ℕ) (r : Result T E) → Appends a b x → WritesPiece b c r y → WritesPiece a c r (x ++ y)
-piece_then a b c x y (Ok t) first second = appends_then a b c x y first second
-piece_then a b c x y (Err e) first second = prefix_then a b c x y first second
-
 pub prefix_of_two : (a b : Option (List ℕ)) (x y : List ℕ) → AppendsPrefix a b x → AppendsPrefix a b (x ++ y)
 prefix_of_two a b x y front = prefix_longer a b x y front
 

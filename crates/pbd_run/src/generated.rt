@@ -142,11 +142,7 @@ fn bare_parts(alloc: Global, size: u32) -> Result<Parts, AllocError>
 {
     let spheres = middle_spheres(alloc, size)?;
     Ok(Parts {
-        particles: List::new(alloc),
-        links: List::new(alloc),
-        planes: List::new(alloc),
         spheres,
-        tracks: List::new(alloc),
         gravity: Vec3 {
             x: 0,
             y: -179,
@@ -155,8 +151,7 @@ fn bare_parts(alloc: Global, size: u32) -> Result<Parts, AllocError>
         passes: 8,
         damping: 10,
         thickness: 3000,
-        friction: 0,
-        limit: RANGE,
+        ..Parts::empty(alloc, RANGE)
     })
 }
 

@@ -29,7 +29,7 @@ pub struct Large<'a> {
 }
 
 /// Writes the first line, and the reply to the steps.
-#[tactic(auto, using(crate::proofs::LargeLaws::piece_then, crate::proofs::LargeLaws::cause_then, crate::proofs::LargeLaws::prefix_of_two))]
+#[tactic(auto, using(pbd_io::specs::Appending::piece_then, crate::proofs::LargeLaws::cause_then, crate::proofs::LargeLaws::prefix_of_two))]
 fn write_head<const L: usize, P: Projector<L> + Drop, K: Sink, G: Ledger>(
     session: &Session<L, P>,
     number: u64,
@@ -49,7 +49,7 @@ fn write_head<const L: usize, P: Projector<L> + Drop, K: Sink, G: Ledger>(
 }
 
 /// Writes the sums and the ledger.
-#[tactic(auto, using(crate::proofs::LargeLaws::piece_then, crate::proofs::LargeLaws::cause_then, crate::proofs::LargeLaws::prefix_of_two))]
+#[tactic(auto, using(pbd_io::specs::Appending::piece_then, crate::proofs::LargeLaws::cause_then, crate::proofs::LargeLaws::prefix_of_two))]
 fn write_tail<const L: usize, P: Projector<L> + Drop, K: Sink, G: Ledger>(
     session: &Session<L, P>,
     sink: &mut K,
@@ -67,7 +67,7 @@ fn write_tail<const L: usize, P: Projector<L> + Drop, K: Sink, G: Ledger>(
 }
 
 /// Writes the reply to the steps, with the sums and the ledger of the world after them.
-#[tactic(auto, unfolding(pbd_outcome::specs::Generated::summary), using(crate::proofs::LargeLaws::piece_then, crate::proofs::LargeLaws::cause_then, crate::proofs::LargeLaws::prefix_of_two))]
+#[tactic(auto, unfolding(pbd_outcome::specs::Generated::summary), using(pbd_io::specs::Appending::piece_then, crate::proofs::LargeLaws::cause_then, crate::proofs::LargeLaws::prefix_of_two))]
 fn write_summary<const L: usize, P: Projector<L> + Drop, K: Sink, G: Ledger>(
     session: &Session<L, P>,
     number: u64,

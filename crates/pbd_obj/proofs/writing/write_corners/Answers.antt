@@ -1,7 +1,7 @@
 use Rattle.std.proofs.Common.{◌∙◌, ◌+◌}
 use Rattle.std.proofs.lemmas.Result.{err_from_is_err_and}
 use Rattle.pbd_obj.specs.Writing.{corner_text}
-use Rattle.pbd_obj.proofs.WriteLemmas.{failed_next}
+use Rattle.pbd_io.specs.Appending.{failed_next}
 use Rattle.pbd_obj.proofs.writing.write_corners.Goals as goal
 
 pub returns-in_err-write-clause-bytes : goal.returns-in_err-write-clause-bytes

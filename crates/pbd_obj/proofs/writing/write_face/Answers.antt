@@ -1,9 +1,9 @@
 use Rattle.std.proofs.Common.{codes, ◌++◌, ◌+◌}
 use Rattle.std.specs.List.{flat_map}
 use Rattle.std.proofs.lemmas.Result.{err_from_is_err_and}
-use Rattle.pbd_io.specs.Appending.{prefix_longer, prefix_then}
+use Rattle.pbd_io.specs.Appending.{piece_then, prefix_longer, prefix_then}
 use Rattle.pbd_obj.specs.Writing.{corner_text}
-use Rattle.pbd_obj.proofs.WriteLemmas.{face_line_is, piece_then}
+use Rattle.pbd_obj.proofs.WriteLemmas.{face_line_is}
 use Rattle.pbd_obj.proofs.writing.write_face.Goals as goal
 
 pub returns-in_err-write-clause-bytes : goal.returns-in_err-write-clause-bytes

@@ -1,7 +1,7 @@
 use Rattle.std.proofs.Common.{ap, arith, ◌<◌, length}
 use Rattle.std.proofs.lemmas.Result.{err_from_is_err_and}
 use Rattle.pbd_outcome.specs.ObjText.{particle_line}
-use Rattle.pbd_obj.proofs.WriteLemmas.{failed_next}
+use Rattle.pbd_io.specs.Appending.{failed_next}
 use Rattle.pbd_run.proofs.obj_text.write_particles.Goals as goal
 
 pub returns-in_err-write_vertex-clause-bytes : goal.returns-in_err-write_vertex-clause-bytes

@@ -1,9 +1,8 @@
 use Rattle.std.proofs.Common.{◌++◌}
 use Rattle.std.proofs.lemmas.Result.{err_from_is_err_and}
-use Rattle.pbd_io.specs.Appending.{prefix_longer}
+use Rattle.pbd_io.specs.Appending.{piece_then, prefix_longer}
 use Rattle.pbd_world.specs.Text.{header_line}
 use Rattle.pbd_outcome.specs.ObjText.{comment}
-use Rattle.pbd_obj.proofs.WriteLemmas.{piece_then}
 use Rattle.pbd_run.proofs.ObjTextLaws.{frame_is}
 use Rattle.pbd_run.proofs.obj_text.Faces.write_frame.Goals as goal
 

@@ -1,8 +1,7 @@
 use Rattle.std.specs.List.{flat_map}
 use Rattle.std.proofs.lemmas.Result.{err_from_is_err_and}
-use Rattle.pbd_io.specs.Appending.{prefix_longer}
+use Rattle.pbd_io.specs.Appending.{piece_then, prefix_longer}
 use Rattle.pbd_outcome.specs.ObjText.{particle_line}
-use Rattle.pbd_obj.proofs.WriteLemmas.{piece_then}
 use Rattle.pbd_run.proofs.obj_text.Faces.write_mesh.Goals as goal
 
 pub returns-in_err-write_particles-clause-bytes : goal.returns-in_err-write_particles-clause-bytes
