@@ -5,8 +5,8 @@ use Rattle.std.proofs.Math.IntN.{+ℤ_idl}
 use Rattle.std.proofs.Math.Nat.{mul-le-mul}
 use Rattle.pbd_num.specs.declared.Vec3.{Vec3}
 use Rattle.pbd_num.specs.Rounding.{rdiv}
-use Rattle.pbd_num.specs.Vectors.{Within, zero_vector, is_axis_within, length_of}
-use Rattle.pbd_num.specs.PairMove.{along, share_of}
+use Rattle.pbd_num.specs.Vectors.{Within, scaled, zero_vector, is_axis_within, length_of}
+use Rattle.pbd_num.specs.PairMove.{along, share_of, shares}
 use Rattle.pbd_num.proofs.Sizes.{size-mul, size_at_most, positive_size, positive_above}
 use Rattle.pbd_num.proofs.Lengths.{along_size, share_size, length_below, axes_le_length, error_size}
 
@@ -23,6 +23,22 @@ size_where_set false x n h = omega arith
 pub place_where_set : (set : Bool) (v : Vec3) {x y z : ℤ} → x ≡ cond set v.x (pos 0) → y ≡ cond set v.y (pos 0) → z ≡ cond set v.z (pos 0) → ◌≡◌ {A = Vec3} (record { x = x; y = y; z = z }) (cond set v zero_vector)
 place_where_set true v ex ey ez = λ i. record { x = ex i; y = ey i; z = ez i }
 place_where_set false v ex ey ez = λ i. record { x = ex i; y = ey i; z = ez i }
+
+pub within_where_set : (set : Bool) (v : Vec3) (n : ℕ) → (set ≡ true → Within n v) → Within n (cond set v zero_vector)
+within_where_set true v n h = h refl
+within_where_set false v n h = record { x = omega arith; y = omega arith; z = omega arith }
+
+-- ---- shares by a factor of 512ths
+
+pub shared_lane : (set : Bool) (s : Vec3) (f k w : ℤ) (total : ℕ) → ((axis : ℤ) → rdiv (axis *ℤ f) (pos 512) ≡ cond set (share_of axis k w total) (pos 0)) → scaled f (pos 512) s ≡ cond set (shares s k w total) zero_vector
+shared_lane set s f k w total h = place_where_set set (shares s k w total) (h s.x) (h s.y) (h s.z)
+
+pub shares_within : (s : Vec3) (k w : ℤ) (total : ℕ) → 0 < total → Within (2 ^ 31) s → unsigned_abs k ≤ 256 → unsigned_abs w ≤ total → Within (2 ^ 31) (shares s k w total)
+shares_within s k w total some h hk hw = record {
+  x = share_size s.x k w total (2 ^ 31) some h.x hk hw;
+  y = share_size s.y k w total (2 ^ 31) some h.y hk hw;
+  z = share_size s.z k w total (2 ^ 31) some h.z hk hw;
+}
 
 -- ---- sizes
 

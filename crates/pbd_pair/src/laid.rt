@@ -8,7 +8,7 @@ ghost use Rattle.pbd_pair.specs.Bonds.{IsBound, IsDrawn, IsEnd, IsSoundShift};
 ghost use Rattle.pbd_pair.specs.Lanes.{end_in, bond_in, shift_in, place_in, Lays};
 
 use crate::wide::{above_zero, errors, gaps, lengths, moved, others, shares, stays, sums, turned};
-use pbd_lanes::{Lanes, Mask};
+use pbd_lanes::{Lanes, Mask, Roots};
 use pbd_store::{Ends, Lanes3};
 use pbd_world::Shift;
 
@@ -71,14 +71,14 @@ fn draw<const L: usize>(
     p: &Ends<L>,
     q: &Ends<L>,
     d: &Lanes3<L>,
-    len: &Lanes<L>,
+    len: &Roots<L>,
     drawn: &BondTargets<L>,
 ) -> Moves<L>
     requires lanes { L ≤ 16 }
     requires p { (j : ℕ) → j < L → IsEnd (pos (2 ^ 29)) (end_in p.now j) }
     requires q { (j : ℕ) → j < L → IsEnd (pos (2 ^ 29)) (end_in q.now j) }
     requires d { (j : ℕ) → j < L → place_in d.now j ≡ minus (place_in p.now.at j) (place_in q.now.at j) }
-    requires len { (j : ℕ) → j < L → lane len.now j ≡ pos (length_of (place_in d.now j)) }
+    requires len { (j : ℕ) → j < L → lane len.now.values j ≡ pos (length_of (place_in d.now j)) }
     requires drawn { (j : ℕ) → j < L → IsDrawn (pos (2 ^ 29)) (bond_in drawn.now j) }
     ensures first { (j : ℕ) → j < L → place_in result.first j ≡ (pair_moves (place_in p.now.at j) (place_in q.now.at j) (lane drawn.now.rest j) (lane drawn.now.k j) (lane p.now.weight j) (lane q.now.weight j)).0 }
     ensures second { (j : ℕ) → j < L → place_in result.second j ≡ (pair_moves (place_in p.now.at j) (place_in q.now.at j) (lane drawn.now.rest j) (lane drawn.now.k j) (lane p.now.weight j) (lane q.now.weight j)).1 }
@@ -86,7 +86,7 @@ fn draw<const L: usize>(
     ensures second_size { (j : ℕ) → j < L → Within (2 ^ 31) (place_in result.second j) }
 {
     let total = sums(&p.weight, &q.weight);
-    let can_move = above_zero(len).and(&above_zero(&total));
+    let can_move = above_zero(&len.values).and(&above_zero(&total));
     let s = errors(d, len, &drawn.rest, &can_move);
     let first = shares(&s, &drawn.k, &p.weight, &total, &can_move);
     let second = shares(&s, &drawn.k, &q.weight, &total, &can_move);
@@ -119,7 +119,7 @@ pub(crate) fn correct_lanes<const L: usize>(
 {
     let d = gaps(&p.at, &q.at);
     let len = lengths(&d);
-    let drawing = drawing(&len, drawn);
+    let drawing = drawing(&len.values, drawn);
     let moves = draw(p, q, &d, &len, drawn);
     let first = moved(&p.at, &moves.first);
     let second = moved(&q.at, &moves.second);

@@ -1,12 +1,12 @@
 // Numbers and places of L bonds, side by side. Each call says what it makes of each lane.
 ghost use Rattle.std.specs.Prelude.{◌≡◌, ℕ, ◌<◌, ◌≤◌, ◌^◌, ◌+◌, ◌*◌, pos, ◌+ℤ◌, ◌-ℤ◌, ◌*ℤ◌, ◌≤ℤ◌, ◌<ℤ◌, neg_ℤ, ◌&&◌, not, int_lt, IsTrue, unsigned_abs, if◌then◌else◌};
-ghost use Rattle.pbd_num.specs.Vectors.{Within, minus, plus, opposite, zero_vector, squared_length, length_of, is_axis_within, is_within};
+ghost use Rattle.pbd_num.specs.Vectors.{Within, minus, plus, opposite, scaled, zero_vector, squared_length, length_of, is_axis_within, is_within};
 ghost use Rattle.pbd_num.specs.PairMove.{along, share_of, corrections, shares as shares_of};
 ghost use Rattle.pbd_lanes.specs.Lane.{lane, is_set};
 ghost use Rattle.pbd_pair.specs.Bonds.{IsBound};
 ghost use Rattle.pbd_pair.specs.Lanes.{place_in};
 
-use pbd_lanes::{Lanes, Mask};
+use pbd_lanes::{Lanes, Mask, Roots};
 use pbd_store::Lanes3;
 
 /// The sums.
@@ -57,14 +57,14 @@ fn squared_lengths<const L: usize>(d: &Lanes3<L>) -> Lanes<L>
 }
 
 /// The lengths, rounded down.
-pub(crate) fn lengths<const L: usize>(d: &Lanes3<L>) -> Lanes<L>
+pub(crate) fn lengths<const L: usize>(d: &Lanes3<L>) -> Roots<L>
     requires lanes { L ≤ 16 }
     requires size { (j : ℕ) → j < L → Within (2 ^ 30) (place_in d.now j) }
-    ensures { (j : ℕ) → j < L → lane result j ≡ pos (length_of (place_in d.now j)) }
+    ensures { (j : ℕ) → j < L → lane result.values j ≡ pos (length_of (place_in d.now j)) }
 {
     let squared = squared_lengths(d);
     let all = Mask::from_array([true; L]);
-    Lanes::root_lanes(&squared, &all)
+    Roots::of(&squared, &all)
 }
 
 /// The ways from b to a.
@@ -83,39 +83,38 @@ pub(crate) fn gaps<const L: usize>(a: &Lanes3<L>, b: &Lanes3<L>) -> Lanes3<L>
 fn parts_of_axis<const L: usize>(
     e: &Lanes<L>,
     d: &Lanes<L>,
-    len: &Lanes<L>,
+    len: &Roots<L>,
     mask: &Mask<L>,
 ) -> Lanes<L>
     requires lanes { L ≤ 16 }
     requires e { (j : ℕ) → j < L → unsigned_abs (lane e.now j) ≤ 2 ^ 31 }
     requires d { (j : ℕ) → j < L → unsigned_abs (lane d.now j) ≤ 2 ^ 30 }
-    requires in_len { (j : ℕ) → j < L → unsigned_abs (lane d.now j) ≤ unsigned_abs (lane len.now j) }
-    requires len { (j : ℕ) → j < L → IsTrue (is_set mask.now j) → pos 0 <ℤ lane len.now j }
-    requires len_size { (j : ℕ) → j < L → unsigned_abs (lane len.now j) ≤ 2 ^ 40 }
-    ensures value { (j : ℕ) → j < L → lane result j ≡ (if is_set mask.now j then along (lane e.now j) (lane d.now j) (unsigned_abs (lane len.now j)) else pos 0) }
+    requires in_len { (j : ℕ) → j < L → unsigned_abs (lane d.now j) ≤ unsigned_abs (lane len.now.values j) }
+    requires len { (j : ℕ) → j < L → IsTrue (is_set mask.now j) → pos 0 <ℤ lane len.now.values j }
+    requires len_size { (j : ℕ) → j < L → unsigned_abs (lane len.now.values j) < 2 ^ 31 }
+    ensures value { (j : ℕ) → j < L → lane result j ≡ (if is_set mask.now j then along (lane e.now j) (lane d.now j) (unsigned_abs (lane len.now.values j)) else pos 0) }
     ensures size { (j : ℕ) → j < L → unsigned_abs (lane result j) ≤ 2 ^ 31 }
 {
-    let product = products(e, d);
-    Lanes::rdiv_lanes(&product, len, mask)
+    len.parts(e, d, mask)
 }
 
 /// How far each way is from its rest length, on each axis, where the mask is set, and 0 elsewhere.
 pub(crate) fn errors<const L: usize>(
     d: &Lanes3<L>,
-    len: &Lanes<L>,
+    len: &Roots<L>,
     rest: &Lanes<L>,
     mask: &Mask<L>,
 ) -> Lanes3<L>
     requires lanes { L ≤ 16 }
     requires d { (j : ℕ) → j < L → Within (2 ^ 30) (place_in d.now j) }
-    requires len { (j : ℕ) → j < L → lane len.now j ≡ pos (length_of (place_in d.now j)) }
-    requires some { (j : ℕ) → j < L → IsTrue (is_set mask.now j) → pos 0 <ℤ lane len.now j }
+    requires len { (j : ℕ) → j < L → lane len.now.values j ≡ pos (length_of (place_in d.now j)) }
+    requires some { (j : ℕ) → j < L → IsTrue (is_set mask.now j) → pos 0 <ℤ lane len.now.values j }
     requires rest_low { (j : ℕ) → j < L → pos 0 ≤ℤ lane rest.now j }
     requires rest_high { (j : ℕ) → j < L → lane rest.now j ≤ℤ pos (2 ^ 31) }
     ensures value { (j : ℕ) → j < L → place_in result j ≡ (if is_set mask.now j then corrections (place_in d.now j) (lane rest.now j) else zero_vector) }
     ensures size { (j : ℕ) → j < L → Within (2 ^ 31) (place_in result j) }
 {
-    let e = differences(len, rest);
+    let e = differences(&len.values, rest);
     let x = parts_of_axis(&e, &d.x, len, mask);
     let y = parts_of_axis(&e, &d.y, len, mask);
     let z = parts_of_axis(&e, &d.z, len, mask);
@@ -145,8 +144,9 @@ fn shares_of_axis<const L: usize>(
     Lanes::rdiv_lanes(&heavy, &whole, mask)
 }
 
-/// The share of each correction that stiffness k / 256 and weight w out of `total` give, where the mask is set, and 0 elsewhere.
-pub(crate) fn shares<const L: usize>(
+// The shares of each correction, by divisions.
+#[inline(never)]
+fn divided_shares<const L: usize>(
     s: &Lanes3<L>,
     k: &Lanes<L>,
     w: &Lanes<L>,
@@ -166,6 +166,46 @@ pub(crate) fn shares<const L: usize>(
     let y = shares_of_axis(&s.y, k, w, total, mask);
     let z = shares_of_axis(&s.z, k, w, total, mask);
     Lanes3 { x, y, z }
+}
+
+/// The parts f / 512 of each place, rounded.
+fn parts_of_512<const L: usize>(s: &Lanes3<L>, f: &Lanes<L>) -> Lanes3<L>
+    requires lanes { L ≤ 16 }
+    requires s { (j : ℕ) → j < L → Within (2 ^ 31) (place_in s.now j) }
+    requires f { (j : ℕ) → j < L → unsigned_abs (lane f.now j) ≤ 512 }
+    ensures { (j : ℕ) → j < L → place_in result j ≡ scaled (lane f.now j) (pos 512) (place_in s.now j) }
+{
+    let x = s.x.parts_of_512(f);
+    let y = s.y.parts_of_512(f);
+    let z = s.z.parts_of_512(f);
+    Lanes3 { x, y, z }
+}
+
+/// The share of each correction that stiffness k / 256 and weight w out of `total` give, where the mask is set, and 0
+/// elsewhere. Where no weight is other than half of its total, all or none of it, no lane divides.
+pub(crate) fn shares<const L: usize>(
+    s: &Lanes3<L>,
+    k: &Lanes<L>,
+    w: &Lanes<L>,
+    total: &Lanes<L>,
+    mask: &Mask<L>,
+) -> Lanes3<L>
+    requires lanes { L ≤ 16 }
+    requires s { (j : ℕ) → j < L → Within (2 ^ 31) (place_in s.now j) }
+    requires k { (j : ℕ) → j < L → unsigned_abs (lane k.now j) ≤ 256 }
+    requires w { (j : ℕ) → j < L → unsigned_abs (lane w.now j) ≤ unsigned_abs (lane total.now j) }
+    requires total { (j : ℕ) → j < L → IsTrue (is_set mask.now j) → pos 0 <ℤ lane total.now j }
+    requires total_size { (j : ℕ) → j < L → unsigned_abs (lane total.now j) ≤ 131070 }
+    ensures value { (j : ℕ) → j < L → place_in result j ≡ (if is_set mask.now j then shares_of (place_in s.now j) (lane k.now j) (lane w.now j) (unsigned_abs (lane total.now j)) else zero_vector) }
+    ensures size { (j : ℕ) → j < L → Within (2 ^ 31) (place_in result j) }
+{
+    let mut right = true;
+    let f = Lanes::factors(k, w, total, mask, &mut right);
+    if right {
+        parts_of_512(s, &f)
+    } else {
+        divided_shares(s, k, w, total, mask)
+    }
 }
 
 /// The other way.

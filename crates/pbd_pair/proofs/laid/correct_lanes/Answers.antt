@@ -119,7 +119,7 @@ returns-clause-lays g c = λ j h.
     let moving = lane_is false g.row.L (λ k. is_set c.drawing-drawing.result k && is_set c.and-stay.result k) j c.and.ensures h in
     let leaving = and_is (lane_is false g.row.L (λ k. is_set c.drawing-drawing.result k && is_set c.others-leave.result k) j c.and-2.ensures h) refl (c.others-leave.ensures j h) in
     let shift = shift-by_steps p q bond moves (place_in c.moved-first.result j) (place_in c.moved-second.result j) (λ i. (c.draw-moves.ensures.first j h i, c.draw-moves.ensures.second j h i)) (c.moved-first.ensures j h) (c.moved-second.ensures j h) in
-    let tight = slack_lane p q bond (place_in c.gaps-d.result j) (lane c.lengths-len.result j) draws (c.gaps-d.ensures j h) (c.lengths-len.ensures j h) (c.drawing-drawing.ensures j h) in
+    let tight = slack_lane p q bond (place_in c.gaps-d.result j) (lane c.lengths-len.result.values j) draws (c.gaps-d.ensures j h) (c.lengths-len.ensures j h) (c.drawing-drawing.ensures j h) in
     let t : Shift = record { first = place_in c.moved-first.result j; second = place_in c.moved-second.result j; first_move = moves.0; second_move = moves.1 } in
     lays_by_steps c.args.limit p q bond t draws stays (is_set c.and.result j) (is_set c.and-2.result j) tight both moving leaving shift
 

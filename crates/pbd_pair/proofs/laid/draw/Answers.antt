@@ -29,14 +29,17 @@ errors-s-requires g c = (
     (
       omega (arith, c.requires.lanes),
       (
-        c.requires.lanes,
+        omega (arith, c.requires.lanes),
         (
-          λ j p. gap_short (place_in c.args.p.now.at j) (place_in c.args.q.now.at j) (c.requires.d j p) (c.requires.p j p).at (c.requires.q j p).at,
+          c.requires.lanes,
           (
-            c.requires.len,
+            λ j p. gap_short (place_in c.args.p.now.at j) (place_in c.args.q.now.at j) (c.requires.d j p) (c.requires.p j p).at (c.requires.q j p).at,
             (
-              λ j p s. left_above (lane c.args.len.now j) (lane c.sums-total.result j) (and_is (lane_is false g.row.L (λ k. is_set c.above_zero.result k && is_set c.above_zero-2.result k) j c.and-can_move.ensures p) (c.above_zero.ensures j p) (c.above_zero-2.ensures j p)) s,
-              (λ j p. (c.requires.drawn j p).rest_low, λ j p. omega (arith, ints, (c.requires.drawn j p).rest_high)),
+              c.requires.len,
+              (
+                λ j p s. left_above (lane c.args.len.now.values j) (lane c.sums-total.result j) (and_is (lane_is false g.row.L (λ k. is_set c.above_zero.result k && is_set c.above_zero-2.result k) j c.and-can_move.ensures p) (c.above_zero.ensures j p) (c.above_zero-2.ensures j p)) s,
+                (λ j p. (c.requires.drawn j p).rest_low, λ j p. omega (arith, ints, (c.requires.drawn j p).rest_high)),
+              ),
             ),
           ),
         ),
@@ -61,7 +64,7 @@ shares-first-requires g c = (
             (
               λ j p. weight_in (lane c.args.p.now.weight j) (lane c.args.q.now.weight j) (c.sums-total.ensures j p) (c.requires.p j p).low (c.requires.q j p).low,
               (
-                λ j p s. right_above (lane c.args.len.now j) (lane c.sums-total.result j) (and_is (lane_is false g.row.L (λ k. is_set c.above_zero.result k && is_set c.above_zero-2.result k) j c.and-can_move.ensures p) (c.above_zero.ensures j p) (c.above_zero-2.ensures j p)) s,
+                λ j p s. right_above (lane c.args.len.now.values j) (lane c.sums-total.result j) (and_is (lane_is false g.row.L (λ k. is_set c.above_zero.result k && is_set c.above_zero-2.result k) j c.and-can_move.ensures p) (c.above_zero.ensures j p) (c.above_zero-2.ensures j p)) s,
                 λ j p. total_light (lane c.args.p.now.weight j) (lane c.args.q.now.weight j) (c.sums-total.ensures j p) (size_at_most (lane c.args.p.now.weight j) 65535 (c.requires.p j p).low (c.requires.p j p).high) (size_at_most (lane c.args.q.now.weight j) 65535 (c.requires.q j p).low (c.requires.q j p).high),
               ),
             ),
@@ -88,7 +91,7 @@ shares-second-requires g c = (
             (
               λ j p. other_weight_in (lane c.args.p.now.weight j) (lane c.args.q.now.weight j) (c.sums-total.ensures j p) (c.requires.p j p).low (c.requires.q j p).low,
               (
-                λ j p s. right_above (lane c.args.len.now j) (lane c.sums-total.result j) (and_is (lane_is false g.row.L (λ k. is_set c.above_zero.result k && is_set c.above_zero-2.result k) j c.and-can_move.ensures p) (c.above_zero.ensures j p) (c.above_zero-2.ensures j p)) s,
+                λ j p s. right_above (lane c.args.len.now.values j) (lane c.sums-total.result j) (and_is (lane_is false g.row.L (λ k. is_set c.above_zero.result k && is_set c.above_zero-2.result k) j c.and-can_move.ensures p) (c.above_zero.ensures j p) (c.above_zero-2.ensures j p)) s,
                 λ j p. total_light (lane c.args.p.now.weight j) (lane c.args.q.now.weight j) (c.sums-total.ensures j p) (size_at_most (lane c.args.p.now.weight j) 65535 (c.requires.p j p).low (c.requires.p j p).high) (size_at_most (lane c.args.q.now.weight j) 65535 (c.requires.q j p).low (c.requires.q j p).high),
               ),
             ),
@@ -108,10 +111,10 @@ returns-clause-first g c = λ j p.
     let b = place_in c.args.q.now.at j in
     let wa = lane c.args.p.now.weight j in
     let wb = lane c.args.q.now.weight j in
-    let can_move = (and_is (lane_is false g.row.L (λ k. is_set c.above_zero.result k && is_set c.above_zero-2.result k) j c.and-can_move.ensures p) (c.above_zero.ensures j p) (c.above_zero-2.ensures j p)) in
+    let apart = (and_is (lane_is false g.row.L (λ k. is_set c.above_zero.result k && is_set c.above_zero-2.result k) j c.and-can_move.ensures p) (c.above_zero.ensures j p) (c.above_zero-2.ensures j p)) in
     ap (λ (m : Vec3 × Vec3). m.0)
-    (moves_are a b (place_in c.args.d.now j) (place_in c.errors-s.result j) (place_in c.shares-first.result j) (place_in c.shares-second.result j) (place_in c.turned-first.result j) (lane c.args.drawn.now.rest j) (lane c.args.drawn.now.k j) wa wb (lane c.args.len.now j) (lane c.sums-total.result j) (is_set c.and-can_move.result j)
-    (c.requires.d j p) (c.requires.len j p) (c.sums-total.ensures j p) (c.requires.p j p).low (c.requires.q j p).low can_move (c.errors-s.ensures.value j p) (c.shares-first.ensures.value j p) (c.shares-second.ensures.value j p) (c.turned-first.ensures j p))
+    (moves_are a b (place_in c.args.d.now j) (place_in c.errors-s.result j) (place_in c.shares-first.result j) (place_in c.shares-second.result j) (place_in c.turned-first.result j) (lane c.args.drawn.now.rest j) (lane c.args.drawn.now.k j) wa wb (lane c.args.len.now.values j) (lane c.sums-total.result j) (is_set c.and-can_move.result j)
+    (c.requires.d j p) (c.requires.len j p) (c.sums-total.ensures j p) (c.requires.p j p).low (c.requires.q j p).low apart (c.errors-s.ensures.value j p) (c.shares-first.ensures.value j p) (c.shares-second.ensures.value j p) (c.turned-first.ensures j p))
 
 pub returns-clause-second : goal.returns-clause-second
 returns-clause-second g c = λ j p.
@@ -119,10 +122,10 @@ returns-clause-second g c = λ j p.
     let b = place_in c.args.q.now.at j in
     let wa = lane c.args.p.now.weight j in
     let wb = lane c.args.q.now.weight j in
-    let can_move = (and_is (lane_is false g.row.L (λ k. is_set c.above_zero.result k && is_set c.above_zero-2.result k) j c.and-can_move.ensures p) (c.above_zero.ensures j p) (c.above_zero-2.ensures j p)) in
+    let apart = (and_is (lane_is false g.row.L (λ k. is_set c.above_zero.result k && is_set c.above_zero-2.result k) j c.and-can_move.ensures p) (c.above_zero.ensures j p) (c.above_zero-2.ensures j p)) in
     ap (λ (m : Vec3 × Vec3). m.1)
-    (moves_are a b (place_in c.args.d.now j) (place_in c.errors-s.result j) (place_in c.shares-first.result j) (place_in c.shares-second.result j) (place_in c.turned-first.result j) (lane c.args.drawn.now.rest j) (lane c.args.drawn.now.k j) wa wb (lane c.args.len.now j) (lane c.sums-total.result j) (is_set c.and-can_move.result j)
-    (c.requires.d j p) (c.requires.len j p) (c.sums-total.ensures j p) (c.requires.p j p).low (c.requires.q j p).low can_move (c.errors-s.ensures.value j p) (c.shares-first.ensures.value j p) (c.shares-second.ensures.value j p) (c.turned-first.ensures j p))
+    (moves_are a b (place_in c.args.d.now j) (place_in c.errors-s.result j) (place_in c.shares-first.result j) (place_in c.shares-second.result j) (place_in c.turned-first.result j) (lane c.args.drawn.now.rest j) (lane c.args.drawn.now.k j) wa wb (lane c.args.len.now.values j) (lane c.sums-total.result j) (is_set c.and-can_move.result j)
+    (c.requires.d j p) (c.requires.len j p) (c.sums-total.ensures j p) (c.requires.p j p).low (c.requires.q j p).low apart (c.errors-s.ensures.value j p) (c.shares-first.ensures.value j p) (c.shares-second.ensures.value j p) (c.turned-first.ensures j p))
 
 pub returns-clause-first_size : goal.returns-clause-first_size
 returns-clause-first_size g c = λ j p. turned_short (place_in c.shares-first.result j) (c.turned-first.ensures j p) (c.shares-first.ensures.size j p)

@@ -23,16 +23,19 @@ parts_of_axis-x-requires g c = (
   (
     omega (arith, c.requires.lanes),
     (
-      c.requires.lanes,
+      omega (arith, c.requires.lanes),
       (
-        λ j p. error_fits (place_in c.args.d.now j) (lane c.args.rest.now j) (c.differences-e.ensures j p) (c.requires.len j p) (c.requires.d j p) (c.requires.rest_low j p) (c.requires.rest_high j p),
+        c.requires.lanes,
         (
-          λ j p. (c.requires.d j p).x,
+          λ j p. error_fits (place_in c.args.d.now j) (lane c.args.rest.now j) (c.differences-e.ensures j p) (c.requires.len j p) (c.requires.d j p) (c.requires.rest_low j p) (c.requires.rest_high j p),
           (
-            λ j p. (in_length (place_in c.args.d.now j) (c.requires.len j p)).x,
+            λ j p. (c.requires.d j p).x,
             (
-              c.requires.some,
-              λ j p. omega (arith, length_short (place_in c.args.d.now j) (c.requires.len j p) (c.requires.d j p)),
+              λ j p. (in_length (place_in c.args.d.now j) (c.requires.len j p)).x,
+              (
+                c.requires.some,
+                λ j p. omega (arith, length_short (place_in c.args.d.now j) (c.requires.len j p) (c.requires.d j p)),
+              ),
             ),
           ),
         ),
@@ -47,16 +50,19 @@ parts_of_axis-y-requires g c = (
   (
     omega (arith, c.requires.lanes),
     (
-      c.requires.lanes,
+      omega (arith, c.requires.lanes),
       (
-        λ j p. error_fits (place_in c.args.d.now j) (lane c.args.rest.now j) (c.differences-e.ensures j p) (c.requires.len j p) (c.requires.d j p) (c.requires.rest_low j p) (c.requires.rest_high j p),
+        c.requires.lanes,
         (
-          λ j p. (c.requires.d j p).y,
+          λ j p. error_fits (place_in c.args.d.now j) (lane c.args.rest.now j) (c.differences-e.ensures j p) (c.requires.len j p) (c.requires.d j p) (c.requires.rest_low j p) (c.requires.rest_high j p),
           (
-            λ j p. (in_length (place_in c.args.d.now j) (c.requires.len j p)).y,
+            λ j p. (c.requires.d j p).y,
             (
-              c.requires.some,
-              λ j p. omega (arith, length_short (place_in c.args.d.now j) (c.requires.len j p) (c.requires.d j p)),
+              λ j p. (in_length (place_in c.args.d.now j) (c.requires.len j p)).y,
+              (
+                c.requires.some,
+                λ j p. omega (arith, length_short (place_in c.args.d.now j) (c.requires.len j p) (c.requires.d j p)),
+              ),
             ),
           ),
         ),
@@ -71,16 +77,19 @@ parts_of_axis-z-requires g c = (
   (
     omega (arith, c.requires.lanes),
     (
-      c.requires.lanes,
+      omega (arith, c.requires.lanes),
       (
-        λ j p. error_fits (place_in c.args.d.now j) (lane c.args.rest.now j) (c.differences-e.ensures j p) (c.requires.len j p) (c.requires.d j p) (c.requires.rest_low j p) (c.requires.rest_high j p),
+        c.requires.lanes,
         (
-          λ j p. (c.requires.d j p).z,
+          λ j p. error_fits (place_in c.args.d.now j) (lane c.args.rest.now j) (c.differences-e.ensures j p) (c.requires.len j p) (c.requires.d j p) (c.requires.rest_low j p) (c.requires.rest_high j p),
           (
-            λ j p. (in_length (place_in c.args.d.now j) (c.requires.len j p)).z,
+            λ j p. (c.requires.d j p).z,
             (
-              c.requires.some,
-              λ j p. omega (arith, length_short (place_in c.args.d.now j) (c.requires.len j p) (c.requires.d j p)),
+              λ j p. (in_length (place_in c.args.d.now j) (c.requires.len j p)).z,
+              (
+                c.requires.some,
+                λ j p. omega (arith, length_short (place_in c.args.d.now j) (c.requires.len j p) (c.requires.d j p)),
+              ),
             ),
           ),
         ),

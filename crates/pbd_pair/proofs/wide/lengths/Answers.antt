@@ -10,12 +10,18 @@ use Rattle.pbd_pair.proofs.wide.lengths.Goals as goal
 pub squared_lengths-squared-requires : goal.squared_lengths-squared-requires
 squared_lengths-squared-requires g c = (omega (arith, c.requires.lanes), (omega (arith, c.requires.lanes), (c.requires.lanes, c.requires.size)))
 
-pub root_lanes-requires : goal.root_lanes-requires
-root_lanes-requires g c = (
+pub of-requires : goal.of-requires
+of-requires g c = (
   omega (arith, c.requires.lanes),
   (
     omega (arith, c.requires.lanes),
-    λ j p s. subst (λ (z : ℤ). pos 0 ≤ℤ z) (sym (c.squared_lengths-squared.ensures j p)) (omega (arith, ints)),
+    (
+      omega (arith, c.requires.lanes),
+      (
+        c.requires.lanes,
+        λ j p s. subst (λ (z : ℤ). pos 0 ≤ℤ z) (sym (c.squared_lengths-squared.ensures j p)) (omega (arith, ints)),
+      ),
+    ),
   ),
 )
 
@@ -23,6 +29,6 @@ pub returns : goal.returns
 returns g c = λ j p.
     let all : is_set c.from_array-all.result j ≡ true = ap (λ (v : List Bool). is_set v j) c.from_array-all.ensures ∙ get_or-replicate g.row.L j true false p in
     let roots = λ (k : ℕ). pos (root (unsigned_abs (lane c.squared_lengths-squared.result k))) in
-    lane_is (pos 0) g.row.L _ j c.root_lanes.ensures p
+    lane_is (pos 0) g.row.L _ j c.of.ensures p
     ∙ cond-true (is_set c.from_array-all.result j) (roots j) (pos 0) all
     ∙ ap (λ (z : ℤ). pos (root (unsigned_abs z))) (c.squared_lengths-squared.ensures j p)
