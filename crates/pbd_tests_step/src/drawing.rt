@@ -174,6 +174,12 @@ pub(crate) const NEAR_THE_EDGE: Drawing = Drawing {
     ..EMPTY
 };
 
+const CROWDED: Drawing = Drawing {
+    passes: 0,
+    thickness: 1000,
+    ..EMPTY
+};
+
 fn listed<T: Copy + Drop>(alloc: Global, items: &[T]) -> Result<List<T>, AllocError> {
     let mut list = List::new(alloc);
     for item in items {
@@ -208,4 +214,13 @@ pub(crate) fn parts(alloc: Global, drawing: &Drawing) -> Result<Parts, AllocErro
         friction: drawing.friction,
         limit: drawing.limit,
     })
+}
+
+/// So many particles in a row, each nearer to all others than the thickness.
+pub(crate) fn in_a_row(alloc: Global, count: u16) -> Result<Parts, AllocError> {
+    let mut row = parts(alloc, &CROWDED)?;
+    for x in 0..count {
+        row.particles.push(free!(i64::from(x), 0))?;
+    }
+    Ok(row)
 }

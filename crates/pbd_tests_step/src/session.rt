@@ -4,7 +4,7 @@ ghost use Rattle.std.specs.Prelude.{◌≡◌, ◌<◌, ◌≤◌};
 
 use crate::drawing::{
     AT_THE_EDGE, Drawing, EMPTY, FLIES, LED, NEAR_THE_EDGE, ON_A_SPHERE, PULLS,
-    PULLS_AT_A_HELD_ONE, PUSHES, TEARS, particle, parts, vector,
+    PULLS_AT_A_HELD_ONE, PUSHES, TEARS, in_a_row, particle, parts, vector,
 };
 use pbd_io::{Failed, MemSink};
 use pbd_log::read_log;
@@ -93,8 +93,14 @@ fn ends_one_by_one<const L: usize, G: Ledger>(
     requires low { 0 < L }
     requires high { L ≤ 16 }
 {
-    let mut session = Session::open(alloc, scene, Scalar::<L>::new())?;
-    Ok(ended(&mut session, job, sink, steps))
+    match Session::open(alloc, scene, Scalar::<L>::new()) {
+        Ok(mut session) => {
+            let end = ended(&mut session, job, sink, steps);
+            drop(session);
+            Ok(end)
+        }
+        Err(error) => Err(error),
+    }
 }
 
 /// How a job ends in a session whose bonds are projected in lanes.
@@ -108,14 +114,21 @@ fn ends_in_lanes<const L: usize, G: Ledger>(
     requires low { 0 < L }
     requires high { L ≤ 16 }
 {
-    let mut session = Session::open(alloc, scene, LaneProjector::<L>::new())?;
-    Ok(ended(&mut session, job, sink, steps))
+    match Session::open(alloc, scene, LaneProjector::<L>::new()) {
+        Ok(mut session) => {
+            let end = ended(&mut session, job, sink, steps);
+            drop(session);
+            Ok(end)
+        }
+        Err(error) => Err(error),
+    }
 }
 
 fn is_so(case: &Case<'_>, ends: Option<ReplayEnd>, written: &[u8]) -> bool {
     ends == case.ends && written.len() == case.len && case.text.starts_with(written)
 }
 
+/// Whether a case holds with bonds that are projected one by one.
 fn holds_one_by_one<const L: usize, G: Ledger>(
     alloc: Global,
     scene: &Scene,
@@ -125,12 +138,12 @@ fn holds_one_by_one<const L: usize, G: Ledger>(
     requires low { 0 < L }
     requires high { L ≤ 16 }
 {
-    let fails = case.fails.to_vec(alloc)?;
-    let mut sink = MemSink::open(alloc, 1000, fails)?;
+    let mut sink = MemSink::open(alloc, 1000, case.fails.to_vec(alloc)?)?;
     let ends = ends_one_by_one::<L, G>(alloc, scene, case.job, &mut sink, steps)?;
     Ok(is_so(case, ends, sink.written()))
 }
 
+/// Whether it does with bonds that are projected in lanes.
 fn holds_in_lanes<const L: usize, G: Ledger>(
     alloc: Global,
     scene: &Scene,
@@ -140,8 +153,7 @@ fn holds_in_lanes<const L: usize, G: Ledger>(
     requires low { 0 < L }
     requires high { L ≤ 16 }
 {
-    let fails = case.fails.to_vec(alloc)?;
-    let mut sink = MemSink::open(alloc, 1000, fails)?;
+    let mut sink = MemSink::open(alloc, 1000, case.fails.to_vec(alloc)?)?;
     let ends = ends_in_lanes::<L, G>(alloc, scene, case.job, &mut sink, steps)?;
     Ok(is_so(case, ends, sink.written()))
 }
@@ -204,6 +216,24 @@ fn at_one_width(alloc: Global, scene: &Scene, case: &Case<'_>) -> Result<bool, A
 }
 
 /// Whether a job on a sink that doesn't fail ends so, and writes this text.
+fn writes_on(
+    alloc: Global,
+    scene: &Scene,
+    job: Job<'_>,
+    ends: ReplayEnd,
+    text: &[u8],
+) -> Result<[bool; 5], AllocError> {
+    let case = Case {
+        job,
+        fails: &[],
+        ends: Some(ends),
+        text,
+        len: text.len(),
+    };
+    at_each_width(alloc, scene, &case)
+}
+
+/// The same on a drawing.
 fn writes(
     alloc: Global,
     drawing: &Drawing,
@@ -212,14 +242,7 @@ fn writes(
     text: &[u8],
 ) -> Result<[bool; 5], Fail> {
     let scene = Scene::from_parts(alloc, parts(alloc, drawing)?)?;
-    let case = Case {
-        job,
-        fails: &[],
-        ends: Some(ends),
-        text,
-        len: text.len(),
-    };
-    Ok(at_each_width(alloc, &scene, &case)?)
+    Ok(writes_on(alloc, &scene, job, ends, text)?)
 }
 
 /// Whether a job stops at a call that fails after some bytes, and leaves so many bytes of the text.
@@ -428,6 +451,17 @@ fn scripts_print_their_replies(rt: HostRuntime) -> Result<(), Fail> {
             "at {script:?}"
         );
     }
+    Ok(())
+}
+
+#[test]
+fn contacts_past_their_greatest_number_are_printed(rt: HostRuntime) -> Result<(), Fail> {
+    let alloc = rt.alloc();
+    let scene = Scene::from_parts(alloc, in_a_row(alloc, 725)?)?;
+    let job = Job::Script(b"step 1\nfly\n");
+    let text = b"refused 12 TooManyContacts step 1\nrefused 1 BadCommand\n";
+    let ends = ReplayEnd::Done { refused: 2 };
+    assert_eq!(rt; writes_on(alloc, &scene, job, ends, text)?, ALL);
     Ok(())
 }
 

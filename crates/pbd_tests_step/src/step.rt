@@ -1,7 +1,7 @@
 //! Worked steps and commands at each width: both projectors answer as the rows say, and leave the same worlds.
 ghost use Rattle.std.specs.Prelude.{◌≡◌, ◌<◌, ◌≤◌};
 
-use crate::drawing::parts;
+use crate::drawing::{in_a_row, parts};
 use crate::step_rows::{COMMANDS, CONTACTS_AND_SHAPES, LEAVING, LINKS, Row};
 use pbd_num::Vec3;
 use pbd_pair::{LaneProjector, Projector, Scalar};
@@ -112,8 +112,14 @@ fn do_one_by_one<const L: usize, G: Ledger>(
     requires low { 0 < L }
     requires high { L ≤ 16 }
 {
-    let mut solver = Solver::open(alloc, scene, Scalar::<L>::new())?;
-    do_all(&mut solver, script, trace, steps)
+    match Solver::open(alloc, scene, Scalar::<L>::new()) {
+        Ok(mut solver) => {
+            let done = do_all(&mut solver, script, trace, steps);
+            drop(solver);
+            done
+        }
+        Err(error) => Err(error),
+    }
 }
 
 fn do_in_lanes<const L: usize, G: Ledger>(
@@ -126,8 +132,14 @@ fn do_in_lanes<const L: usize, G: Ledger>(
     requires low { 0 < L }
     requires high { L ≤ 16 }
 {
-    let mut solver = Solver::open(alloc, scene, LaneProjector::<L>::new())?;
-    do_all(&mut solver, script, trace, steps)
+    match Solver::open(alloc, scene, LaneProjector::<L>::new()) {
+        Ok(mut solver) => {
+            let done = do_all(&mut solver, script, trace, steps);
+            drop(solver);
+            done
+        }
+        Err(error) => Err(error),
+    }
 }
 
 /// Whether the answers are those of the script.
@@ -150,55 +162,99 @@ fn are_at(particles: &[Particle], many: usize, places: &[Vec3]) -> bool {
     same
 }
 
+/// Commands with their answers, and where the first particles are then.
+#[derive(Clone, Copy)]
+struct Script<'a> {
+    commands: &'a [(Command, Result<(), Refusal>)],
+    particles: usize,
+    places: &'a [Vec3],
+}
+
+/// Whether a script was answered as it says, and came to its places.
+fn are_as_told(trace: &Trace, script: &Script<'_>) -> bool {
+    are_answers(&trace.answers, script.commands)
+        && are_at(&trace.particles, script.particles, script.places)
+}
+
+/// What both projectors did.
+#[derive(Drop)]
+struct Traces {
+    one: Trace,
+    other: Trace,
+}
+
 /// Whether both projectors answer the script as it says, leave worlds that are alike after each command, and come to
 /// these places.
-fn agree<const L: usize, G: Ledger>(
+fn agree_on<const L: usize, G: Ledger>(
     alloc: Global,
     scene: &Scene,
-    row: &Row,
+    script: &Script<'_>,
+    traces: &mut Traces,
     steps: &mut Steps<G>,
 ) -> Result<bool, AllocError>
     requires low { 0 < L }
     requires high { L ≤ 16 }
 {
-    let mut one = no_trace(alloc);
-    let mut other = no_trace(alloc);
-    do_one_by_one::<L, G>(alloc, scene, row.script, &mut one, steps)?;
-    do_in_lanes::<L, G>(alloc, scene, row.script, &mut other, steps)?;
-    Ok(
-        are_alike(&one, &other)
-            && are_answers(&one.answers, row.script)
-            && are_at(&one.particles, row.scene.particles.len(), row.places),
-    )
+    let commands = script.commands;
+    do_one_by_one::<L, G>(alloc, scene, commands, &mut traces.one, steps)?;
+    do_in_lanes::<L, G>(alloc, scene, commands, &mut traces.other, steps)?;
+    Ok(are_alike(&traces.one, &traces.other) && are_as_told(&traces.one, script))
+}
+
+fn agree<const L: usize, G: Ledger>(
+    alloc: Global,
+    scene: &Scene,
+    script: &Script<'_>,
+    steps: &mut Steps<G>,
+) -> Result<bool, AllocError>
+    requires low { 0 < L }
+    requires high { L ≤ 16 }
+{
+    let mut traces = Traces {
+        one: no_trace(alloc),
+        other: no_trace(alloc),
+    };
+    let alike = agree_on::<L, G>(alloc, scene, script, &mut traces, steps);
+    drop(traces);
+    alike
 }
 
 fn counted<G: Ledger>(
     alloc: Global,
     blank: Blank,
     scene: &Scene,
-    row: &Row,
+    script: &Script<'_>,
 ) -> Result<[bool; 5], AllocError>
     requires name { blank.name ≡ G.name }
     requires parts { blank.parts ≡ G.parts }
     requires some { 0 < blank.parts }
 {
     let mut steps: Steps<G> = Steps::open(blank);
-    let one = agree::<1, G>(alloc, scene, row, &mut steps)?;
-    let two = agree::<2, G>(alloc, scene, row, &mut steps)?;
-    let four = agree::<4, G>(alloc, scene, row, &mut steps)?;
-    let eight = agree::<8, G>(alloc, scene, row, &mut steps)?;
-    let sixteen = agree::<16, G>(alloc, scene, row, &mut steps)?;
+    let one = agree::<1, G>(alloc, scene, script, &mut steps)?;
+    let two = agree::<2, G>(alloc, scene, script, &mut steps)?;
+    let four = agree::<4, G>(alloc, scene, script, &mut steps)?;
+    let eight = agree::<8, G>(alloc, scene, script, &mut steps)?;
+    let sixteen = agree::<16, G>(alloc, scene, script, &mut steps)?;
     Ok([one, two, four, eight, sixteen])
 }
 
-fn at_each_width(alloc: Global, scene: &Scene, row: &Row) -> Result<[bool; 5], AllocError> {
-    counted::<Brand>(alloc, Blank::new(1), scene, row)
+fn at_each_width(
+    alloc: Global,
+    scene: &Scene,
+    script: &Script<'_>,
+) -> Result<[bool; 5], AllocError> {
+    counted::<Brand>(alloc, Blank::new(1), scene, script)
 }
 
 /// Whether a row holds at each width.
 fn holds(alloc: Global, row: &Row) -> Result<bool, Fail> {
     let scene = Scene::from_parts(alloc, parts(alloc, &row.scene)?)?;
-    Ok(at_each_width(alloc, &scene, row)? == [true; 5])
+    let script = Script {
+        commands: row.script,
+        particles: row.scene.particles.len(),
+        places: row.places,
+    };
+    Ok(at_each_width(alloc, &scene, &script)? == [true; 5])
 }
 
 #[test]
@@ -230,5 +286,22 @@ fn commands_change_or_keep_the_world(rt: HostRuntime) -> Result<(), Fail> {
     for row in &COMMANDS {
         assert!(rt; holds(rt.alloc(), row)?, "{}", row.name);
     }
+    Ok(())
+}
+
+#[test]
+fn contacts_past_their_greatest_number_are_refused(rt: HostRuntime) -> Result<(), Fail> {
+    let alloc = rt.alloc();
+    let scene = Scene::from_parts(alloc, in_a_row(alloc, 725)?)?;
+    let script = Script {
+        commands: &[
+            (Command::Step(1), Err(Refusal::TooManyContacts { step: 1 })),
+            (Command::Pin(0), Ok(())),
+            (Command::Step(7), Err(Refusal::TooManyContacts { step: 1 })),
+        ],
+        particles: 725,
+        places: &[Vec3 { x: 0, y: 0, z: 0 }, Vec3 { x: 1, y: 0, z: 0 }],
+    };
+    assert_eq!(rt; at_each_width(alloc, &scene, &script)?, [true; 5]);
     Ok(())
 }
