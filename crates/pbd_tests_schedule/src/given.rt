@@ -67,9 +67,33 @@ fn nothing_to_do<G: Ledger>(alloc: Global, steps: &mut Steps<G>) -> Result<bool,
     Ok(seen.answer == Ok(()) && seen.particles == particles)
 }
 
-/// Events as lanes go and mixed, of no bond at all, out of turn, cut short, of no bond of the batch, and of one that is
-/// done.
-fn worked_lists<G: Ledger>(alloc: Global, blank: Blank) -> Result<[bool; 7], AllocError>
+/// A batch of one bond, whose events end after its read: it stays as it was.
+fn cut_short<G: Ledger>(alloc: Global, steps: &mut Steps<G>) -> Result<bool, AllocError> {
+    let mut notes = Notes::open(alloc)?;
+    let particles = [
+        free!(0, 0, 1),
+        free!(105, 0, 1),
+        free!(0, 0, 1),
+        free!(0, 0, 1),
+        free!(0, 0, 1),
+        free!(0, 0, 1),
+    ];
+    let links = [link!(0, 1)];
+    let seen = by_events::<1, G>(
+        alloc,
+        steps,
+        &mut notes,
+        &particles,
+        Bonds::Links(&links),
+        &[0],
+        &[Event::Read(0)],
+    )?;
+    Ok(seen.answer == bad(1) && seen.particles == particles)
+}
+
+/// Events as lanes go and mixed, of no bond at all, of one bond that was only read, out of turn, cut short, of no bond
+/// of the batch, and of one that is done.
+fn worked_lists<G: Ledger>(alloc: Global, blank: Blank) -> Result<[bool; 8], AllocError>
     requires name { blank.name ≡ G.name }
     requires parts { blank.parts ≡ G.parts }
     requires some { 0 < blank.parts }
@@ -106,6 +130,7 @@ fn worked_lists<G: Ledger>(alloc: Global, blank: Blank) -> Result<[bool; 7], All
         comes_to(alloc, &mut steps, &as_lanes, Ok(()), pulled)?,
         comes_to(alloc, &mut steps, &mixed, Ok(()), pulled)?,
         nothing_to_do(alloc, &mut steps)?,
+        cut_short(alloc, &mut steps)?,
         comes_to(alloc, &mut steps, &early, bad(1), as_before)?,
         comes_to(alloc, &mut steps, &short, bad(2), as_before)?,
         comes_to(alloc, &mut steps, &elsewhere, bad(0), as_before)?,
@@ -117,7 +142,7 @@ fn worked_lists<G: Ledger>(alloc: Global, blank: Blank) -> Result<[bool; 7], All
 fn given_events(rt: HostRuntime) -> Result<(), Fail> {
     assert_eq!(rt;
         worked_lists::<Brand>(rt.alloc(), Blank::new(1))?,
-        [true; 7]
+        [true; 8]
     );
     Ok(())
 }
