@@ -33,6 +33,7 @@ fn coloured(
 ) -> Result<Colouring, AllocError>
     ensures pairs { IfOk result (λ c. c.pairs ≡ pairs.now) }
     ensures live { IfOk result (λ c. c.live ≡ replicate (length pairs.now) true) }
+    ensures particles { IfOk result (λ c. c.particles ≡ particles) }
     ensures few { length pairs.now ≤ 2415 }
 {
     assert!(rt; particles <= 70 && pairs.len() <= 2415);
@@ -45,7 +46,8 @@ fn coloured(
 // Drops some of the pairs, all of which are live.
 fn drop_some(rt: &impl Abort, colouring: &mut Colouring, count: u32, numbers: &[u32])
     requires { colouring.old.live ≡ replicate count true }
-    ensures { colouring.new.pairs ≡ colouring.old.pairs }
+    ensures pairs { colouring.new.pairs ≡ colouring.old.pairs }
+    ensures particles { colouring.new.particles ≡ colouring.old.particles }
 {
     assert!(rt; are_rising(numbers, count));
     colouring.drop_pairs(numbers);
@@ -78,6 +80,8 @@ struct Case {
     dropped: &'static [u32],
     mended: &'static [Option<u8>],
     first_batch: &'static [u32],
+    last_batch: (u8, &'static [u32]),
+    unlinked: (u32, u32),
 }
 
 fn try_case(rt: &impl Abort, alloc: Global, case: &Case) -> Result<(), AllocError> {
@@ -88,6 +92,12 @@ fn try_case(rt: &impl Abort, alloc: Global, case: &Case) -> Result<(), AllocErro
     drop_some(rt, &mut colouring, count as u32, case.dropped);
     assert!(rt; has_colours(&colouring, case.mended));
     assert_eq!(rt; colouring.batch(0), case.first_batch);
+    let (last, batch) = case.last_batch;
+    assert!(rt; last < 63);
+    assert_eq!(rt; colouring.batch(last), batch);
+    let (a, b) = case.unlinked;
+    assert!(rt; a < case.particles && b < case.particles);
+    assert!(rt; !colouring.linked(a, b));
     Ok(())
 }
 
@@ -100,6 +110,8 @@ fn colours_before_and_after_a_drop(rt: HostRuntime) -> Result<(), Fail> {
         dropped: &[1],
         mended: &[Some(0), None, Some(0), Some(1)],
         first_batch: &[0, 2],
+        last_batch: (1, &[3]),
+        unlinked: (1, 2),
     };
     try_case(&rt, rt.alloc(), &four)?;
     Ok(())
@@ -157,6 +169,8 @@ fn colours_of_a_cloth(rt: HostRuntime) -> Result<(), Fail> {
             Some(4),
         ],
         first_batch: &[1, 2, 6],
+        last_batch: (4, &[11, 12]),
+        unlinked: (4, 3),
     };
     try_case(&rt, rt.alloc(), &cloth)?;
     Ok(())
