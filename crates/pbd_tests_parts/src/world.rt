@@ -10,6 +10,20 @@ use pbd_world::{
 use std::alloc::{AllocError, Global};
 use std::test::Fail;
 
+/// One thing that is otherwise than in a cloth.
+#[derive(Clone, Copy)]
+enum Change<'a> {
+    Limit(i64),
+    Link(u32, u32),
+    Particle(Particle),
+    Plane(Plane),
+    Sphere(Sphere),
+    Passes(u32),
+    Gravity(Vec3),
+    /// Tracks of a held seventh particle or of another, each with a key at each of some steps.
+    Tracks(&'a [(u32, &'a [u32])]),
+}
+
 fn link(a: u32, b: u32, rest: i64) -> Link {
     Link {
         a,
@@ -126,20 +140,6 @@ fn changed(alloc: Global, change: &Change<'_>) -> Result<Option<bool>, AllocErro
             Err(error)
         }
     }
-}
-
-/// One thing that is otherwise than in a cloth.
-#[derive(Clone, Copy)]
-enum Change<'a> {
-    Limit(i64),
-    Link(u32, u32),
-    Particle(Particle),
-    Plane(Plane),
-    Sphere(Sphere),
-    Passes(u32),
-    Gravity(Vec3),
-    /// Tracks of a held seventh particle or of another, each with a key at each of some steps.
-    Tracks(&'a [(u32, &'a [u32])]),
 }
 
 fn push_keys(keys: &mut List<Key>, steps: &[u32]) -> Result<(), AllocError> {

@@ -1,4 +1,4 @@
-use Rattle.std.proofs.Common.{◌≡◌, ◌^◌, ap, arith, pos, length}
+use Rattle.std.proofs.Common.{◌≡◌, ◌^◌, arith, pos, length}
 use Rattle.std.proofs.lemmas.Int.{ints}
 use Rattle.pbd_world.specs.Ledger.{ledger_of}
 use Rattle.pbd_store.specs.Moving.{AreInside}
