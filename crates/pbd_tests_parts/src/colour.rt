@@ -33,6 +33,7 @@ fn coloured(
 ) -> Result<Colouring, AllocError>
     ensures pairs { IfOk result (λ c. c.pairs ≡ pairs.now) }
     ensures live { IfOk result (λ c. c.live ≡ replicate (length pairs.now) true) }
+    ensures particles { IfOk result (λ c. c.particles ≡ particles) }
     ensures few { length pairs.now ≤ 2415 }
 {
     assert!(rt; particles <= 70 && pairs.len() <= 2415);
@@ -45,7 +46,8 @@ fn coloured(
 // Drops some of the pairs, all of which are live.
 fn drop_some(rt: &impl Abort, colouring: &mut Colouring, count: u32, numbers: &[u32])
     requires { colouring.old.live ≡ replicate count true }
-    ensures { colouring.new.pairs ≡ colouring.old.pairs }
+    ensures pairs { colouring.new.pairs ≡ colouring.old.pairs }
+    ensures particles { colouring.new.particles ≡ colouring.old.particles }
 {
     assert!(rt; are_rising(numbers, count));
     colouring.drop_pairs(numbers);
@@ -69,6 +71,11 @@ fn has_colours(colouring: &Colouring, wanted: &[Option<u8>]) -> bool
     true
 }
 
+// Whether a colour below 63 has these pairs as its batch.
+fn has_batch(colouring: &Colouring, colour: u8, wanted: &[u32]) -> bool {
+    colour < 63 && colouring.batch(colour) == wanted
+}
+
 // Pairs, their colours, and the colours of those that are live after a drop.
 #[derive(Drop)]
 struct Case {
@@ -78,17 +85,39 @@ struct Case {
     dropped: &'static [u32],
     mended: &'static [Option<u8>],
     first_batch: &'static [u32],
+    last_batch: (u8, &'static [u32]),
+    unlinked: (u32, u32),
+}
+
+// Tries a colouring of a case's pairs, all of which are live: its colours before and after the drop, and then two
+// batches and two particles that aren't linked.
+fn try_colours(rt: &impl Abort, colouring: &mut Colouring, case: &Case)
+    requires pairs { colouring.old.pairs ≡ case.now.pairs.now }
+    requires live { colouring.old.live ≡ replicate (length case.now.pairs.now) true }
+    requires particles { colouring.old.particles ≡ case.now.particles }
+    requires few { length case.now.pairs.now ≤ 2415 }
+{
+    let count = case.pairs.len();
+    assert!(rt; case.colours.len() == count && case.mended.len() == count);
+    assert!(rt; has_colours(colouring, case.colours));
+    drop_some(rt, colouring, count as u32, case.dropped);
+    assert!(rt; has_colours(colouring, case.mended));
+    assert!(rt; has_batch(colouring, 0, case.first_batch));
+    assert!(rt; has_batch(colouring, case.last_batch.0, case.last_batch.1));
+    let (a, b) = case.unlinked;
+    assert!(rt; a < case.particles && b < case.particles);
+    assert!(rt; !colouring.linked(a, b));
 }
 
 fn try_case(rt: &impl Abort, alloc: Global, case: &Case) -> Result<(), AllocError> {
-    let count = case.pairs.len();
-    assert!(rt; case.colours.len() == count && case.mended.len() == count);
-    let mut colouring = coloured(rt, alloc, case.particles, case.pairs)?;
-    assert!(rt; has_colours(&colouring, case.colours));
-    drop_some(rt, &mut colouring, count as u32, case.dropped);
-    assert!(rt; has_colours(&colouring, case.mended));
-    assert_eq!(rt; colouring.batch(0), case.first_batch);
-    Ok(())
+    match coloured(rt, alloc, case.particles, case.pairs) {
+        Ok(mut colouring) => {
+            try_colours(rt, &mut colouring, case);
+            drop(colouring);
+            Ok(())
+        }
+        Err(error) => Err(error),
+    }
 }
 
 #[test]
@@ -100,6 +129,8 @@ fn colours_before_and_after_a_drop(rt: HostRuntime) -> Result<(), Fail> {
         dropped: &[1],
         mended: &[Some(0), None, Some(0), Some(1)],
         first_batch: &[0, 2],
+        last_batch: (1, &[3]),
+        unlinked: (1, 2),
     };
     try_case(&rt, rt.alloc(), &four)?;
     Ok(())
@@ -157,6 +188,8 @@ fn colours_of_a_cloth(rt: HostRuntime) -> Result<(), Fail> {
             Some(4),
         ],
         first_batch: &[1, 2, 6],
+        last_batch: (4, &[11, 12]),
+        unlinked: (4, 3),
     };
     try_case(&rt, rt.alloc(), &cloth)?;
     Ok(())
@@ -219,6 +252,40 @@ fn first_numbers() -> [u32; 69] {
     numbers
 }
 
+// Drops the pairs of the first particle from a colouring of all pairs, and compares it with one of the others.
+fn try_without_first(rt: &impl Abort, all: &mut Colouring, pairs: &[(u32, u32)], fewer: &Colouring)
+    requires pairs { all.old.pairs ≡ pairs.now }
+    requires live { all.old.live ≡ replicate (length pairs.now) true }
+    requires count { length pairs.now ≡ 2415 }
+    requires fewer { length fewer.now.pairs ≡ 2346 }
+{
+    assert!(rt; all.live_count() == 2415 && all.serial().len() == 384);
+    assert!(rt; has_known_colours(all, pairs));
+    drop_some(rt, all, pairs.len() as u32, &first_numbers());
+    assert!(rt; all.live_count() == 2346);
+    assert!(rt; has_colours_of(all, fewer));
+}
+
+// Compares all pairs with a colouring of the others.
+fn try_all(
+    rt: &impl Abort,
+    alloc: Global,
+    pairs: &[(u32, u32)],
+    fewer: &Colouring,
+) -> Result<(), AllocError>
+    requires count { length pairs.now ≡ 2415 }
+    requires fewer { length fewer.now.pairs ≡ 2346 }
+{
+    match coloured(rt, alloc, 70, pairs) {
+        Ok(mut all) => {
+            try_without_first(rt, &mut all, pairs, fewer);
+            drop(all);
+            Ok(())
+        }
+        Err(error) => Err(error),
+    }
+}
+
 // All pairs of seventy particles, and all but those of the first.
 fn try_seventy(
     rt: &impl Abort,
@@ -227,15 +294,14 @@ fn try_seventy(
     others: &[(u32, u32)],
 ) -> Result<(), AllocError> {
     assert!(rt; pairs.len() == 2415 && others.len() == 2346);
-    let fewer = coloured(rt, alloc, 70, others)?;
-    let mut all = coloured(rt, alloc, 70, pairs)?;
-    assert!(rt; all.live_count() == 2415 && all.serial().len() == 384);
-    assert!(rt; has_known_colours(&all, pairs));
-    let count = pairs.len() as u32;
-    drop_some(rt, &mut all, count, &first_numbers());
-    assert!(rt; all.live_count() == 2346);
-    assert!(rt; has_colours_of(&all, &fewer));
-    Ok(())
+    match coloured(rt, alloc, 70, others) {
+        Ok(fewer) => {
+            let tried = try_all(rt, alloc, pairs, &fewer);
+            drop(fewer);
+            tried
+        }
+        Err(error) => Err(error),
+    }
 }
 
 #[test]

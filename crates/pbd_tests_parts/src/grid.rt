@@ -1,5 +1,5 @@
 //! Near pairs by cells, beside those found by looking at all.
-ghost use Rattle.std.specs.Prelude.{◌≡◌, ◌≤◌, IsTrue, length};
+ghost use Rattle.std.specs.Prelude.{◌≡◌, ◌≤◌, ◌≤ℤ◌, IsTrue, pos, length};
 ghost use Rattle.pbd_grid.specs.Near.{AllInside};
 
 use crate::places::at;
@@ -11,7 +11,7 @@ use std::process::Abort;
 use std::test::Fail;
 
 // Keeps all pairs but one.
-#[derive(Drop)]
+#[derive(Clone, Copy, Drop)]
 struct AllBut {
     count: u32,
     first: u32,
@@ -76,28 +76,76 @@ fn near_of_all(
     Ok(pairs)
 }
 
-// The pairs that a grid finds with room for so many, or none where they are more.
-fn near_by_cells(
-    rt: &impl Abort,
-    alloc: Global,
-    places: &[Vec3],
+// Places and a thickness, with the pairs that are near and kept.
+#[derive(Clone, Copy)]
+struct Near<'a> {
+    places: &'a [Vec3],
     thickness: i64,
-    filter: &AllBut,
-    room: u32,
-) -> Result<Option<RoomList<(u32, u32)>>, AllocError> {
-    assert!(rt; places.len() <= 64 && filter.count as usize == places.len());
-    assert!(rt; are_inside(places));
-    assert!(rt; 1 <= thickness && thickness <= 1_048_576);
-    let mut grid = Grid::open(alloc, places.len() as u32)?;
-    let mut out = RoomList::open(alloc, room)?;
-    if grid.pairs(places, thickness, filter, &mut out).is_ok() {
-        return Ok(Some(out));
-    }
-    assert_eq!(rt; out.as_slice().len(), 0);
-    Ok(None)
+    filter: AllBut,
+    wanted: &'a [(u32, u32)],
 }
 
-// Compares a grid with all pairs, at a room that is just enough and at one too small.
+// Whether a grid finds the wanted pairs where there is room for them, and none where there isn't.
+fn finds(near: &Near<'_>, grid: &mut Grid, out: &mut RoomList<(u32, u32)>) -> bool
+    requires places { length near.now.places.now ≡ grid.old }
+    requires inside { AllInside near.now.places.now }
+    requires count { near.now.filter.count ≡ grid.old }
+    requires low { pos 1 ≤ℤ near.now.thickness }
+    requires high { near.now.thickness ≤ℤ pos 1048576 }
+    ensures { grid.new ≡ grid.old }
+{
+    let fits = grid
+        .pairs(near.places, near.thickness, &near.filter, out)
+        .is_ok();
+    if near.wanted.len() > out.room() as usize {
+        return !fits && out.as_slice().len() == 0;
+    }
+    fits && out.as_slice() == near.wanted
+}
+
+// The same with room for so many.
+fn finds_with(
+    alloc: Global,
+    near: &Near<'_>,
+    grid: &mut Grid,
+    room: u32,
+) -> Result<bool, AllocError>
+    requires places { length near.now.places.now ≡ grid.old }
+    requires inside { AllInside near.now.places.now }
+    requires count { near.now.filter.count ≡ grid.old }
+    requires low { pos 1 ≤ℤ near.now.thickness }
+    requires high { near.now.thickness ≤ℤ pos 1048576 }
+    ensures { grid.new ≡ grid.old }
+{
+    match RoomList::open(alloc, room) {
+        Ok(mut out) => {
+            let found = finds(near, grid, &mut out);
+            drop(out);
+            Ok(found)
+        }
+        Err(error) => Err(error),
+    }
+}
+
+// Compares a grid with the wanted pairs, at a room that is just enough and at one too small.
+fn try_near(rt: &impl Abort, alloc: Global, near: &Near<'_>) -> Result<bool, AllocError> {
+    assert!(rt; near.places.len() <= 64 && near.wanted.len() <= 64);
+    assert!(rt; near.filter.count as usize == near.places.len());
+    assert!(rt; are_inside(near.places));
+    assert!(rt; 1 <= near.thickness && near.thickness <= 1_048_576);
+    let room = near.wanted.len() as u32;
+    match Grid::open(alloc, near.places.len() as u32) {
+        Ok(mut grid) => {
+            let enough = finds_with(alloc, near, &mut grid, room);
+            let less = finds_with(alloc, near, &mut grid, room.saturating_sub(1));
+            drop(grid);
+            Ok(enough? && less?)
+        }
+        Err(error) => Err(error),
+    }
+}
+
+// Compares a grid with all pairs.
 fn try_places(
     rt: &impl Abort,
     alloc: Global,
@@ -113,15 +161,13 @@ fn try_places(
     };
     let expected = near_of_all(alloc, places, thickness, &filter)?;
     assert_eq!(rt; expected.len(), wanted);
-    let room = wanted as u32;
-    match near_by_cells(rt, alloc, places, thickness, &filter, room)? {
-        Some(found) => assert_eq!(rt; found.as_slice(), expected.as_slice()),
-        None => assert!(rt; false, "the room is enough"),
-    }
-    if room > 0 {
-        let less = near_by_cells(rt, alloc, places, thickness, &filter, room - 1)?;
-        assert!(rt; less.is_none());
-    }
+    let near = Near {
+        places,
+        thickness,
+        filter,
+        wanted: expected.as_slice(),
+    };
+    assert!(rt; try_near(rt, alloc, &near)?);
     Ok(())
 }
 

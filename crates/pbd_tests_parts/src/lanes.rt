@@ -6,7 +6,7 @@ ghost use Rattle.pbd_tests_parts.specs.Small.{is_small, is_divisor};
 use pbd_lanes::{Lanes, Mask};
 use std::test::Fail;
 
-#[derive(Drop)]
+#[derive(Clone, Copy, Drop, PartialEq)]
 struct Seen<const L: usize> {
     sum: [i64; L],
     difference: [i64; L],
@@ -47,48 +47,57 @@ fn see<const L: usize>(a: [i64; L], b: [i64; L], set: [bool; L]) -> Seen<L>
 #[test]
 fn width_1(rt: HostRuntime) -> Result<(), Fail> {
     let seen = see([-2], [4], [false]);
-    assert_eq!(rt; seen.sum, [2]);
-    assert_eq!(rt; seen.difference, [-6]);
-    assert_eq!(rt; seen.product, [-8]);
-    assert_eq!(rt; seen.less, [true]);
-    assert_eq!(rt; seen.chosen, [4]);
-    assert_eq!(rt; seen.quotient, [0]);
-    assert_eq!(rt; seen.root, [0]);
-    assert_eq!(rt; seen.both, [false]);
-    assert_eq!(rt; seen.first, None);
-    assert_eq!(rt; seen.ones, [1]);
+    let wanted = Seen {
+        sum: [2],
+        difference: [-6],
+        product: [-8],
+        less: [true],
+        chosen: [4],
+        quotient: [0],
+        root: [0],
+        both: [false],
+        first: None,
+        ones: [1],
+    };
+    assert!(rt; seen == wanted);
     Ok(())
 }
 
 #[test]
 fn width_2(rt: HostRuntime) -> Result<(), Fail> {
     let seen = see([6, -2], [5, 4], [true, true]);
-    assert_eq!(rt; seen.sum, [11, 2]);
-    assert_eq!(rt; seen.difference, [1, -6]);
-    assert_eq!(rt; seen.product, [30, -8]);
-    assert_eq!(rt; seen.less, [false, true]);
-    assert_eq!(rt; seen.chosen, [6, -2]);
-    assert_eq!(rt; seen.quotient, [1, -1]);
-    assert_eq!(rt; seen.root, [2, 2]);
-    assert_eq!(rt; seen.both, [false, true]);
-    assert_eq!(rt; seen.first, Some(1));
-    assert_eq!(rt; seen.ones, [1, 1]);
+    let wanted = Seen {
+        sum: [11, 2],
+        difference: [1, -6],
+        product: [30, -8],
+        less: [false, true],
+        chosen: [6, -2],
+        quotient: [1, -1],
+        root: [2, 2],
+        both: [false, true],
+        first: Some(1),
+        ones: [1, 1],
+    };
+    assert!(rt; seen == wanted);
     Ok(())
 }
 
 #[test]
 fn width_4(rt: HostRuntime) -> Result<(), Fail> {
     let seen = see([-9, 4, 6, -2], [6, 8, 5, 4], [false, false, true, true]);
-    assert_eq!(rt; seen.sum, [-3, 12, 11, 2]);
-    assert_eq!(rt; seen.difference, [-15, -4, 1, -6]);
-    assert_eq!(rt; seen.product, [-54, 32, 30, -8]);
-    assert_eq!(rt; seen.less, [true, true, false, true]);
-    assert_eq!(rt; seen.chosen, [6, 8, 6, -2]);
-    assert_eq!(rt; seen.quotient, [0, 0, 1, -1]);
-    assert_eq!(rt; seen.root, [0, 0, 2, 2]);
-    assert_eq!(rt; seen.both, [false, false, false, true]);
-    assert_eq!(rt; seen.first, Some(3));
-    assert_eq!(rt; seen.ones, [1, 1, 1, 1]);
+    let wanted = Seen {
+        sum: [-3, 12, 11, 2],
+        difference: [-15, -4, 1, -6],
+        product: [-54, 32, 30, -8],
+        less: [true, true, false, true],
+        chosen: [6, 8, 6, -2],
+        quotient: [0, 0, 1, -1],
+        root: [0, 0, 2, 2],
+        both: [false, false, false, true],
+        first: Some(3),
+        ones: [1, 1, 1, 1],
+    };
+    assert!(rt; seen == wanted);
     Ok(())
 }
 
@@ -99,22 +108,19 @@ fn width_8(rt: HostRuntime) -> Result<(), Fail> {
         [4, 7, 2, 3, 6, 8, 5, 4],
         [false, true, false, true, true, false, true, true],
     );
-    assert_eq!(rt; seen.sum, [6, 1, 9, 4, -3, 12, 11, 2]);
-    assert_eq!(rt; seen.difference, [-2, -13, 5, -2, -15, -4, 1, -6]);
-    assert_eq!(rt; seen.product, [8, -42, 14, 3, -54, 32, 30, -8]);
-    assert_eq!(rt;
-        seen.less,
-        [true, true, false, true, true, true, false, true]
-    );
-    assert_eq!(rt; seen.chosen, [4, -6, 2, 1, -9, 8, 6, -2]);
-    assert_eq!(rt; seen.quotient, [0, -1, 0, 0, -2, 0, 1, -1]);
-    assert_eq!(rt; seen.root, [0, 2, 0, 1, 2, 0, 2, 2]);
-    assert_eq!(rt;
-        seen.both,
-        [false, true, false, true, true, false, false, true]
-    );
-    assert_eq!(rt; seen.first, Some(1));
-    assert_eq!(rt; seen.ones, [1, 1, 1, 1, 1, 1, 1, 1]);
+    let wanted = Seen {
+        sum: [6, 1, 9, 4, -3, 12, 11, 2],
+        difference: [-2, -13, 5, -2, -15, -4, 1, -6],
+        product: [8, -42, 14, 3, -54, 32, 30, -8],
+        less: [true, true, false, true, true, true, false, true],
+        chosen: [4, -6, 2, 1, -9, 8, 6, -2],
+        quotient: [0, -1, 0, 0, -2, 0, 1, -1],
+        root: [0, 2, 0, 1, 2, 0, 2, 2],
+        both: [false, true, false, true, true, false, false, true],
+        first: Some(1),
+        ones: [1, 1, 1, 1, 1, 1, 1, 1],
+    };
+    assert!(rt; seen == wanted);
     Ok(())
 }
 
@@ -128,44 +134,26 @@ fn width_16(rt: HostRuntime) -> Result<(), Fail> {
             false, true, true,
         ],
     );
-    assert_eq!(rt;
-        seen.sum,
-        [-5, 8, 4, 11, 2, 13, 5, -1, 6, 1, 9, 4, -3, 12, 11, 2]
-    );
-    assert_eq!(rt;
-        seen.difference,
-        [-9, 2, -4, 7, -4, 3, 1, -7, -2, -13, 5, -2, -15, -4, 1, -6]
-    );
-    assert_eq!(rt;
-        seen.product,
-        [
-            -14, 15, 0, 18, -3, 40, 6, -12, 8, -42, 14, 3, -54, 32, 30, -8
-        ]
-    );
-    assert_eq!(rt;
-        seen.less,
-        [
+    let wanted = Seen {
+        sum: [-5, 8, 4, 11, 2, 13, 5, -1, 6, 1, 9, 4, -3, 12, 11, 2],
+        difference: [-9, 2, -4, 7, -4, 3, 1, -7, -2, -13, 5, -2, -15, -4, 1, -6],
+        product: [
+            -14, 15, 0, 18, -3, 40, 6, -12, 8, -42, 14, 3, -54, 32, 30, -8,
+        ],
+        less: [
             true, false, true, false, true, false, false, true, true, true, false, true, true,
-            true, false, true
-        ]
-    );
-    assert_eq!(rt;
-        seen.chosen,
-        [-7, 3, 0, 9, 3, 8, 3, 3, 4, -6, 2, 1, -9, 8, 6, -2]
-    );
-    assert_eq!(rt;
-        seen.quotient,
-        [-4, 0, 0, 5, 0, 2, 2, 0, 0, -1, 0, 0, -2, 0, 1, -1]
-    );
-    assert_eq!(rt; seen.root, [1, 0, 2, 1, 0, 2, 1, 0, 0, 2, 0, 1, 2, 0, 2, 2]);
-    assert_eq!(rt;
-        seen.both,
-        [
+            true, false, true,
+        ],
+        chosen: [-7, 3, 0, 9, 3, 8, 3, 3, 4, -6, 2, 1, -9, 8, 6, -2],
+        quotient: [-4, 0, 0, 5, 0, 2, 2, 0, 0, -1, 0, 0, -2, 0, 1, -1],
+        root: [1, 0, 2, 1, 0, 2, 1, 0, 0, 2, 0, 1, 2, 0, 2, 2],
+        both: [
             true, false, true, false, false, false, false, false, false, true, false, true, true,
-            false, false, true
-        ]
-    );
-    assert_eq!(rt; seen.first, Some(0));
-    assert_eq!(rt; seen.ones, [1, 1, 1, 1, 1, 1, 1, 1, 1, 1, 1, 1, 1, 1, 1, 1]);
+            false, false, true,
+        ],
+        first: Some(0),
+        ones: [1, 1, 1, 1, 1, 1, 1, 1, 1, 1, 1, 1, 1, 1, 1, 1],
+    };
+    assert!(rt; seen == wanted);
     Ok(())
 }

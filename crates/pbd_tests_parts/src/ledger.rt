@@ -17,8 +17,14 @@ fn sum_in<const L: usize, G: Ledger>(
 ) -> Result<[i128; 3], AllocError>
     requires { length particles.now ≤ 65536 }
 {
-    let store: Store<L> = Store::open(alloc, particles, RANGE)?;
-    Ok(momentum(&store, steps))
+    match Store::<L>::open(alloc, particles, RANGE) {
+        Ok(store) => {
+            let sum = momentum(&store, steps);
+            drop(store);
+            Ok(sum)
+        }
+        Err(error) => Err(error),
+    }
 }
 
 fn counted<G: Ledger>(

@@ -4,15 +4,13 @@ use pbd_num::{RANGE, Vec3, distance, inside, pair_move, rdiv, root, within};
 use std::process::Abort;
 use std::test::Fail;
 
-/// The moves of a pair that is in range.
-fn moves(rt: &impl Abort, a: Vec3, b: Vec3, rest: i64, k: i64, wa: i64, wb: i64) -> (Vec3, Vec3) {
+/// The moves of a pair that is in range. Each `u16` is an effective weight.
+fn moves(rt: &impl Abort, a: Vec3, b: Vec3, rest: u32, k: u16, wa: u16, wb: u16) -> (Vec3, Vec3) {
     assert!(rt; inside(a));
     assert!(rt; inside(b));
-    assert!(rt; 0 <= rest && rest <= 1 << 31);
-    assert!(rt; 0 <= k && k <= 256);
-    assert!(rt; 0 <= wa && wa <= 65_535);
-    assert!(rt; 0 <= wb && wb <= 65_535);
-    pair_move(a, b, rest, k, wa, wb)
+    assert!(rt; rest <= 1 << 31);
+    assert!(rt; k <= 256);
+    pair_move(a, b, rest as i64, k as i64, wa as i64, wb as i64)
 }
 
 /// The distance of places that are in range.

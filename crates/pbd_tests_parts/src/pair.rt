@@ -50,7 +50,7 @@ macro_rules! link {
 
 /// What a batch came to: the bond that left, the first and the last two places on x, how many are at 3 or 102
 /// on x, and the totals on x.
-#[derive(Drop)]
+#[derive(Clone, Copy, Drop, PartialEq, Eq)]
 struct Seen {
     left: Option<u32>,
     x: [i64; 4],
@@ -60,186 +60,101 @@ struct Seen {
     pin: i128,
 }
 
-/// How many places are at 3 or 102 on x.
-fn settled_places<G: Ledger, const L: usize>(store: &Store<L>, steps: &mut Steps<G>) -> u32 {
-    let mut count = 0u32;
-    for i in 0..store.len() {
-        let x = store.at(i, steps).at.x;
-        if x == 3 || x == 102 {
-            count = count.saturating_add(1);
+macro_rules! stays {
+    ($x:expr, $settled:expr, $link:expr, $contact:expr, $pin:expr) => {
+        Seen {
+            left: None,
+            x: $x,
+            settled: $settled,
+            link: $link,
+            contact: $contact,
+            pin: $pin,
         }
-    }
-    count
-}
-
-fn run<G: Ledger, P: Projector<L>, const L: usize>(
-    alloc: Global,
-    steps: &mut Steps<G>,
-    projector: &mut P,
-    particles: &[Particle],
-    bonds: Bonds<'_>,
-    batch: &[u32],
-) -> Result<Seen, AllocError>
-    requires low { 0 < L }
-    requires high { L ≤ 16 }
-    requires two { 2 ≤ length particles.now }
-    requires size { length particles.now ≤ 65536 }
-    requires placed { IsTrue (list_all (is_placed (pos (2 ^ 29))) particles.now) }
-    requires batch { IsTrue (is_batch (pos (2 ^ 29)) (length particles.now) bonds batch.now) }
-{
-    let mut store: Store<L> = Store::open(alloc, particles, RANGE)?;
-    let mut totals = Totals::zero();
-    let outcome = projector.project(&mut store, bonds, batch, &mut totals, steps);
-    let last = store.len() - 1;
-    let x = [
-        store.at(0, steps).at.x,
-        store.at(1, steps).at.x,
-        store.at(last - 1, steps).at.x,
-        store.at(last, steps).at.x,
-    ];
-    let left = match outcome {
-        Ok(()) => None,
-        Err(left) => Some(left.element),
     };
-    let settled = settled_places(&store, steps);
-    Ok(Seen {
-        left,
-        x,
-        settled,
-        link: totals.link[0],
-        contact: totals.contact[0],
-        pin: totals.pin[0],
-    })
 }
 
-fn one_link<G: Ledger, P: Projector<L>, const L: usize>(
-    alloc: Global,
-    steps: &mut Steps<G>,
-    projector: &mut P,
-) -> Result<bool, AllocError>
-    requires low { 0 < L }
-    requires high { L ≤ 16 }
-{
-    let mut good = true;
-    let links = [link!(0, 1, 100)];
-    let bonds = Bonds::Links(&links);
-    let pulled = run(
-        alloc,
-        steps,
-        projector,
-        &[free!(0, 0, 1), free!(105, 0, 1)],
-        bonds,
-        &[0],
-    )?;
-    good = good && pulled.left == None;
-    good = good && pulled.x == [3, 102, 3, 102];
-    good = good && [pulled.link, pulled.contact, pulled.pin] == [0, 0, 0];
-    let pinned = run(
-        alloc,
-        steps,
-        projector,
-        &[held!(0, 0), free!(105, 0, 1)],
-        bonds,
-        &[0],
-    )?;
-    good = good && pinned.x == [0, 100, 0, 100];
-    good = good && [pinned.link, pinned.contact, pinned.pin] == [0, 0, -5];
-    let fixed = run(
-        alloc,
-        steps,
-        projector,
-        &[held!(0, 0), held!(105, 0)],
-        bonds,
-        &[0],
-    )?;
-    good = good && fixed.x == [0, 105, 0, 105];
-    good = good && [fixed.link, fixed.contact, fixed.pin] == [0, 0, 0];
-    let weighed = run(
-        alloc,
-        steps,
-        projector,
-        &[free!(0, 0, 1), free!(105, 0, 2)],
-        bonds,
-        &[0],
-    )?;
-    good = good && weighed.x == [2, 102, 2, 102];
-    good = good && [weighed.link, weighed.contact, weighed.pin] == [-1, 0, 0];
-    Ok(good)
+macro_rules! leaves {
+    ($element:expr) => {
+        Seen {
+            left: Some($element),
+            ..stays!([0; 4], 0, 0, 0, 0)
+        }
+    };
 }
 
-fn far_link<G: Ledger, P: Projector<L>, const L: usize>(
-    alloc: Global,
-    steps: &mut Steps<G>,
-    projector: &mut P,
-) -> Result<bool, AllocError>
-    requires low { 0 < L }
-    requires high { L ≤ 16 }
-{
-    let mut good = true;
-    let links = [link!(0, 1, 0)];
-    let ends = [free!(-536870912, 0, 65535), free!(536870912, 0, 1)];
-    let far = run(alloc, steps, projector, &ends, Bonds::Links(&links), &[0])?;
-    good = good && far.x == [536854528, 536854528, 536854528, 536854528];
-    good = good && [far.link, far.contact, far.pin] == [1073709056, 0, 0];
-    Ok(good)
+/// Particles, a batch of bonds, and what it is to come to.
+#[derive(Clone, Copy)]
+struct Case {
+    particles: &'static [Particle],
+    bonds: Bonds<'static>,
+    batch: &'static [u32],
+    seen: Seen,
 }
 
-fn contacts<G: Ledger, P: Projector<L>, const L: usize>(
-    alloc: Global,
-    steps: &mut Steps<G>,
-    projector: &mut P,
-) -> Result<bool, AllocError>
-    requires low { 0 < L }
-    requires high { L ≤ 16 }
-{
-    let mut good = true;
-    let pairs = [(0, 1)];
-    let bonds = Bonds::Contacts {
-        pairs: &pairs,
+const ONE: Bonds<'static> = Bonds::Links(&[link!(0, 1, 100)]);
+
+const PULLED: Case = Case {
+    particles: &[free!(0, 0, 1), free!(105, 0, 1)],
+    bonds: ONE,
+    batch: &[0],
+    seen: stays!([3, 102, 3, 102], 2, 0, 0, 0),
+};
+
+const PINNED: Case = Case {
+    particles: &[held!(0, 0), free!(105, 0, 1)],
+    seen: stays!([0, 100, 0, 100], 0, 0, 0, -5),
+    ..PULLED
+};
+
+const FIXED: Case = Case {
+    particles: &[held!(0, 0), held!(105, 0)],
+    seen: stays!([0, 105, 0, 105], 0, 0, 0, 0),
+    ..PULLED
+};
+
+const WEIGHED: Case = Case {
+    particles: &[free!(0, 0, 1), free!(105, 0, 2)],
+    seen: stays!([2, 102, 2, 102], 1, -1, 0, 0),
+    ..PULLED
+};
+
+const FAR: Case = Case {
+    particles: &[free!(-536870912, 0, 65535), free!(536870912, 0, 1)],
+    bonds: Bonds::Links(&[link!(0, 1, 0)]),
+    batch: &[0],
+    seen: stays!(
+        [536854528, 536854528, 536854528, 536854528],
+        0,
+        1073709056,
+        0,
+        0
+    ),
+};
+
+const APART: Case = Case {
+    particles: &[free!(0, 0, 1), free!(100, 0, 1)],
+    bonds: Bonds::Contacts {
+        pairs: &[(0, 1)],
         thickness: 100,
-    };
-    let long = run(
-        alloc,
-        steps,
-        projector,
-        &[free!(0, 0, 1), free!(100, 0, 1)],
-        bonds,
-        &[0],
-    )?;
-    good = good && long.x == [0, 100, 0, 100];
-    let near = run(
-        alloc,
-        steps,
-        projector,
-        &[free!(0, 0, 1), free!(95, 0, 2)],
-        bonds,
-        &[0],
-    )?;
-    good = good && near.x == [-2, 98, -2, 98];
-    good = good && [near.link, near.contact, near.pin] == [0, 1, 0];
-    let edge = [free!(536870912, 0, 1), free!(536870911, 0, 1)];
-    let gone = run(alloc, steps, projector, &edge, bonds, &[0])?;
-    good = good && gone.left == Some(0);
-    Ok(good)
-}
+    },
+    batch: &[0],
+    seen: stays!([0, 100, 0, 100], 0, 0, 0, 0),
+};
 
-fn five_links<G: Ledger, P: Projector<L>, const L: usize>(
-    alloc: Global,
-    steps: &mut Steps<G>,
-    projector: &mut P,
-) -> Result<bool, AllocError>
-    requires low { 0 < L }
-    requires high { L ≤ 16 }
-{
-    let mut good = true;
-    let links = [
-        link!(0, 1, 100),
-        link!(2, 3, 100),
-        link!(4, 5, 100),
-        link!(6, 7, 100),
-        link!(8, 9, 100),
-    ];
-    let staying = [
+const NEAR: Case = Case {
+    particles: &[free!(0, 0, 1), free!(95, 0, 2)],
+    seen: stays!([-2, 98, -2, 98], 0, 0, 1, 0),
+    ..APART
+};
+
+const AT_THE_EDGE: Case = Case {
+    particles: &[free!(536870912, 0, 1), free!(536870911, 0, 1)],
+    seen: leaves!(0),
+    ..APART
+};
+
+const FIVE: Case = Case {
+    particles: &[
         free!(0, 0, 1),
         free!(105, 0, 1),
         free!(0, 10, 1),
@@ -250,18 +165,20 @@ fn five_links<G: Ledger, P: Projector<L>, const L: usize>(
         free!(105, 30, 1),
         free!(0, 40, 1),
         free!(110, 40, 1),
-    ];
-    let all = run(
-        alloc,
-        steps,
-        projector,
-        &staying,
-        Bonds::Links(&links),
-        &[4, 0, 3, 1, 2],
-    )?;
-    good = good && all.left == None;
-    good = good && all.x == [3, 102, 5, 105];
-    let leaving = [
+    ],
+    bonds: Bonds::Links(&[
+        link!(0, 1, 100),
+        link!(2, 3, 100),
+        link!(4, 5, 100),
+        link!(6, 7, 100),
+        link!(8, 9, 100),
+    ]),
+    batch: &[4, 0, 3, 1, 2],
+    seen: stays!([3, 102, 5, 105], 8, 0, 0, 0),
+};
+
+const TWO_OF_FIVE_LEAVE: Case = Case {
+    particles: &[
         free!(0, 0, 1),
         free!(105, 0, 1),
         free!(536870912, 10, 1),
@@ -272,47 +189,13 @@ fn five_links<G: Ledger, P: Projector<L>, const L: usize>(
         free!(536870911, 30, 1),
         free!(0, 40, 1),
         free!(110, 40, 1),
-    ];
-    let gone = run(
-        alloc,
-        steps,
-        projector,
-        &leaving,
-        Bonds::Links(&links),
-        &[4, 0, 3, 1, 2],
-    )?;
-    good = good && gone.left == Some(3);
-    Ok(good)
-}
+    ],
+    seen: leaves!(3),
+    ..FIVE
+};
 
-fn seventeen_links<G: Ledger, P: Projector<L>, const L: usize>(
-    alloc: Global,
-    steps: &mut Steps<G>,
-    projector: &mut P,
-) -> Result<bool, AllocError>
-    requires low { 0 < L }
-    requires high { L ≤ 16 }
-{
-    let links = [
-        link!(0, 1, 100),
-        link!(2, 3, 100),
-        link!(4, 5, 100),
-        link!(6, 7, 100),
-        link!(8, 9, 100),
-        link!(10, 11, 100),
-        link!(12, 13, 100),
-        link!(14, 15, 100),
-        link!(16, 17, 100),
-        link!(18, 19, 100),
-        link!(20, 21, 100),
-        link!(22, 23, 100),
-        link!(24, 25, 100),
-        link!(26, 27, 100),
-        link!(28, 29, 100),
-        link!(30, 31, 100),
-        link!(32, 33, 100),
-    ];
-    let particles = [
+const SEVENTEEN: Case = Case {
+    particles: &[
         free!(0, 0, 1),
         free!(105, 0, 1),
         free!(0, 1000, 1),
@@ -347,17 +230,121 @@ fn seventeen_links<G: Ledger, P: Projector<L>, const L: usize>(
         free!(105, 15000, 1),
         free!(0, 16000, 1),
         free!(105, 16000, 1),
+    ],
+    bonds: Bonds::Links(&[
+        link!(0, 1, 100),
+        link!(2, 3, 100),
+        link!(4, 5, 100),
+        link!(6, 7, 100),
+        link!(8, 9, 100),
+        link!(10, 11, 100),
+        link!(12, 13, 100),
+        link!(14, 15, 100),
+        link!(16, 17, 100),
+        link!(18, 19, 100),
+        link!(20, 21, 100),
+        link!(22, 23, 100),
+        link!(24, 25, 100),
+        link!(26, 27, 100),
+        link!(28, 29, 100),
+        link!(30, 31, 100),
+        link!(32, 33, 100),
+    ]),
+    batch: &[0, 1, 2, 3, 4, 5, 6, 7, 8, 9, 10, 11, 12, 13, 14, 15, 16],
+    seen: stays!([3, 102, 3, 102], 34, 0, 0, 0),
+};
+
+/// How many places are at 3 or 102 on x.
+fn settled_places<G: Ledger, const L: usize>(store: &Store<L>, steps: &mut Steps<G>) -> u32 {
+    let mut count = 0u32;
+    for i in 0..store.len() {
+        let x = store.at(i, steps).at.x;
+        if x == 3 || x == 102 {
+            count = count.saturating_add(1);
+        }
+    }
+    count
+}
+
+/// What a batch comes to in a store.
+fn projected<G: Ledger, P: Projector<L>, const L: usize>(
+    steps: &mut Steps<G>,
+    projector: &mut P,
+    store: &mut Store<L>,
+    bonds: Bonds<'_>,
+    batch: &[u32],
+) -> Seen
+    requires low { 0 < L }
+    requires high { L ≤ 16 }
+    requires limit { store.old.limit ≡ pos (2 ^ 29) }
+    requires two { 2 ≤ length store.old.particles }
+    requires placed { IsTrue (list_all (is_placed (pos (2 ^ 29))) store.old.particles) }
+    requires batch { IsTrue (is_batch (pos (2 ^ 29)) (length store.old.particles) bonds batch.now) }
+{
+    let mut totals = Totals::zero();
+    let outcome = projector.project(store, bonds, batch, &mut totals, steps);
+    let last = store.len() - 1;
+    let x = [
+        store.at(0, steps).at.x,
+        store.at(1, steps).at.x,
+        store.at(last - 1, steps).at.x,
+        store.at(last, steps).at.x,
     ];
-    let all = run(
-        alloc,
-        steps,
-        projector,
-        &particles,
-        Bonds::Links(&links),
-        &[0, 1, 2, 3, 4, 5, 6, 7, 8, 9, 10, 11, 12, 13, 14, 15, 16],
-    )?;
-    let still = [all.link, all.contact, all.pin] == [0, 0, 0];
-    Ok(all.left == None && all.x == [3, 102, 3, 102] && all.settled == 34 && still)
+    let left = match outcome {
+        Ok(()) => None,
+        Err(left) => Some(left.element),
+    };
+    Seen {
+        left,
+        x,
+        settled: settled_places(store, steps),
+        link: totals.link[0],
+        contact: totals.contact[0],
+        pin: totals.pin[0],
+    }
+}
+
+/// Whether a case comes to what it says. What is left behind where a bond leaves isn't looked at.
+fn holds<G: Ledger, P: Projector<L>, const L: usize>(
+    alloc: Global,
+    steps: &mut Steps<G>,
+    projector: &mut P,
+    case: &Case,
+) -> Result<bool, AllocError>
+    requires low { 0 < L }
+    requires high { L ≤ 16 }
+    requires two { 2 ≤ length case.now.particles.now }
+    requires size { length case.now.particles.now ≤ 65536 }
+    requires placed { IsTrue (list_all (is_placed (pos (2 ^ 29))) case.now.particles.now) }
+    requires batch { IsTrue (is_batch (pos (2 ^ 29)) (length case.now.particles.now) case.now.bonds case.now.batch.now) }
+{
+    match Store::<L>::open(alloc, case.particles, RANGE) {
+        Ok(mut store) => {
+            let seen = projected(steps, projector, &mut store, case.bonds, case.batch);
+            drop(store);
+            Ok(seen.left == case.seen.left && (seen.left.is_some() || seen == case.seen))
+        }
+        Err(error) => Err(error),
+    }
+}
+
+fn one_bond<G: Ledger, P: Projector<L>, const L: usize>(
+    alloc: Global,
+    steps: &mut Steps<G>,
+    projector: &mut P,
+) -> Result<bool, AllocError>
+    requires low { 0 < L }
+    requires high { L ≤ 16 }
+{
+    let pulled = holds(alloc, steps, projector, &PULLED)?;
+    let pinned = holds(alloc, steps, projector, &PINNED)?;
+    let fixed = holds(alloc, steps, projector, &FIXED)?;
+    let weighed = holds(alloc, steps, projector, &WEIGHED)?;
+    let far = holds(alloc, steps, projector, &FAR)?;
+    let apart = holds(alloc, steps, projector, &APART)?;
+    let near = holds(alloc, steps, projector, &NEAR)?;
+    let edge = holds(alloc, steps, projector, &AT_THE_EDGE)?;
+    Ok(pulled && pinned && fixed && weighed && far && apart && near && edge)
 }
 
 fn batches<G: Ledger, P: Projector<L>, const L: usize>(
@@ -368,14 +355,11 @@ fn batches<G: Ledger, P: Projector<L>, const L: usize>(
     requires low { 0 < L }
     requires high { L ≤ 16 }
 {
-    let mut good = true;
-    good = good && one_link(alloc, steps, projector)?;
-    good = good && far_link(alloc, steps, projector)?;
-    good = good && contacts(alloc, steps, projector)?;
-    good = good && five_links(alloc, steps, projector)?;
-    good = good && seventeen_links(alloc, steps, projector)?;
-    good = good && projector.handed() == 35;
-    Ok(good)
+    let ones = one_bond(alloc, steps, projector)?;
+    let five = holds(alloc, steps, projector, &FIVE)?;
+    let left = holds(alloc, steps, projector, &TWO_OF_FIVE_LEAVE)?;
+    let seventeen = holds(alloc, steps, projector, &SEVENTEEN)?;
+    Ok(ones && five && left && seventeen && projector.handed() == 35)
 }
 
 fn scalars<G: Ledger>(alloc: Global, blank: Blank) -> Result<bool, AllocError>

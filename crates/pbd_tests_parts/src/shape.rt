@@ -59,6 +59,43 @@ fn flag_of(touched: &Touched, len: u32, i: u32) -> bool
     i < len && touched.is_set(i)
 }
 
+/// Pushes the particles of a store out, with flags that are clear.
+fn pushed_by<const L: usize, G: Ledger>(
+    store: &mut Store<L>,
+    planes: &[Plane],
+    spheres: &[Sphere],
+    touched: &mut Touched,
+    steps: &mut Steps<G>,
+) -> Seen
+    requires low { 0 < L }
+    requires high { L ≤ 16 }
+    requires planes { IsTrue (are_valid_planes planes.now) }
+    requires spheres { IsTrue (are_valid_spheres store.old.limit spheres.now) }
+    requires inside { AreInside store.old.limit store.old.particles }
+    requires flags { length touched.old ≡ length store.old.particles }
+{
+    let len = store.len();
+    let mut totals = Totals::zero();
+    let done = push_out(store, planes, spheres, touched, &mut totals, steps);
+    Seen {
+        places: [
+            particle_of(store, 0, steps).at,
+            particle_of(store, 1, steps).at,
+            particle_of(store, 2, steps).at,
+        ],
+        touched: [
+            flag_of(touched, len, 0),
+            flag_of(touched, len, 1),
+            flag_of(touched, len, 2),
+        ],
+        shape: totals.shape,
+        left: match done {
+            Ok(()) => None,
+            Err(left) => Some(left.element),
+        },
+    }
+}
+
 fn pushed_in<const L: usize, G: Ledger>(
     alloc: Global,
     particles: &[Particle],
@@ -73,35 +110,15 @@ fn pushed_in<const L: usize, G: Ledger>(
     requires spheres { IsTrue (are_valid_spheres (pos (2 ^ 29)) spheres.now) }
     requires inside { AreInside (pos (2 ^ 29)) particles.now }
 {
-    let len = particles.len() as u32;
-    let mut store: Store<L> = Store::open(alloc, particles, RANGE)?;
-    let mut touched = Touched::open(alloc, len)?;
-    let mut totals = Totals::zero();
-    let done = push_out(
-        &mut store,
-        planes,
-        spheres,
-        &mut touched,
-        &mut totals,
-        steps,
-    );
-    Ok(Seen {
-        places: [
-            particle_of(&store, 0, steps).at,
-            particle_of(&store, 1, steps).at,
-            particle_of(&store, 2, steps).at,
-        ],
-        touched: [
-            flag_of(&touched, len, 0),
-            flag_of(&touched, len, 1),
-            flag_of(&touched, len, 2),
-        ],
-        shape: totals.shape,
-        left: match done {
-            Ok(()) => None,
-            Err(left) => Some(left.element),
-        },
-    })
+    let mut touched = Touched::open(alloc, particles.len() as u32)?;
+    match Store::<L>::open(alloc, particles, RANGE) {
+        Ok(mut store) => {
+            let seen = pushed_by(&mut store, planes, spheres, &mut touched, steps);
+            drop(store);
+            Ok(seen)
+        }
+        Err(error) => Err(error),
+    }
 }
 
 fn pushed_at_each<G: Ledger>(
@@ -144,6 +161,34 @@ fn pushed(
     pushed_at_each::<Brand>(alloc, Blank::new(1), particles, planes, spheres)
 }
 
+/// The places before after friction, in a store of three particles.
+fn rubbed_by<const L: usize, G: Ledger>(
+    store: &mut Store<L>,
+    friction: i64,
+    touched: &Touched,
+    steps: &mut Steps<G>,
+) -> Seen
+    requires low { 0 < L }
+    requires high { L ≤ 16 }
+    requires friction { IsTrue (is_between (pos 0) (pos 256) friction) }
+    requires within { AreWithin store.old.limit store.old.particles }
+    requires three { length store.old.particles ≡ 3 }
+    requires flags { length touched.now ≡ 3 }
+{
+    let mut totals = Totals::zero();
+    rub(store, friction, touched, &mut totals, steps);
+    Seen {
+        places: [
+            particle_of(store, 0, steps).before,
+            particle_of(store, 1, steps).before,
+            particle_of(store, 2, steps).before,
+        ],
+        touched: [touched.is_set(0), touched.is_set(1), touched.is_set(2)],
+        shape: totals.shape,
+        left: None,
+    }
+}
+
 /// The places before after friction, where a shape touched the first two of three particles.
 fn rubbed_in<const L: usize, G: Ledger>(
     alloc: Global,
@@ -156,22 +201,17 @@ fn rubbed_in<const L: usize, G: Ledger>(
     requires friction { IsTrue (is_between (pos 0) (pos 256) friction) }
     requires within { AreWithin (pos (2 ^ 29)) particles.now }
 {
-    let mut store: Store<L> = Store::open(alloc, particles, RANGE)?;
     let mut touched = Touched::open(alloc, 3)?;
     touched.set(0);
     touched.set(1);
-    let mut totals = Totals::zero();
-    rub(&mut store, friction, &touched, &mut totals, steps);
-    Ok(Seen {
-        places: [
-            particle_of(&store, 0, steps).before,
-            particle_of(&store, 1, steps).before,
-            particle_of(&store, 2, steps).before,
-        ],
-        touched: [true, true, touched.is_set(2)],
-        shape: totals.shape,
-        left: None,
-    })
+    match Store::<L>::open(alloc, particles, RANGE) {
+        Ok(mut store) => {
+            let seen = rubbed_by(&mut store, friction, &touched, steps);
+            drop(store);
+            Ok(seen)
+        }
+        Err(error) => Err(error),
+    }
 }
 
 fn rubbed_at_each<G: Ledger>(

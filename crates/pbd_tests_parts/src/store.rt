@@ -1,5 +1,5 @@
 //! A store at each width.
-ghost use Rattle.std.specs.Prelude.{◌≡◌, ℕ, ◌<◌, ◌≤◌, ◌+◌, IsTrue};
+ghost use Rattle.std.specs.Prelude.{◌≡◌, ℕ, ◌<◌, ◌≤◌, ◌+◌, IsTrue, length};
 ghost use Rattle.pbd_lanes.specs.Lane.{is_set};
 ghost use Rattle.pbd_store.specs.Gathering.{index_at};
 
@@ -36,6 +36,77 @@ struct Seen {
     x: [i64; 5],
 }
 
+fn walk_in<G: Ledger, const L: usize>(
+    store: &mut Store<L>,
+    copy: &mut Store<L>,
+    steps: &mut Steps<G>,
+) -> Option<Seen>
+    requires low { 0 < L }
+    requires high { L ≤ 16 }
+    requires five { length store.old.particles ≡ 5 }
+{
+    store.put(1, at(70), steps);
+    store.set(4, particle(40), steps);
+    let blocks = store.blocks();
+    if blocks == 0 {
+        return None;
+    }
+    let mut values = store.load(blocks - 1, steps);
+    let loaded = values.at.x.to_array().iter().max().copied().unwrap_or(-1);
+    let filled = values
+        .filled
+        .to_array()
+        .iter()
+        .filter(|lane| **lane)
+        .count();
+    values.at.x = Lanes::splat(9);
+    let mask = values.filled;
+    store.save(blocks - 1, &values, &mask, steps);
+    if copy.len() != store.len() || copy.limit() != store.limit() {
+        return None;
+    }
+    copy.copy_from(store);
+    if copy.len() != 5 {
+        return None;
+    }
+    let x = [
+        copy.at(0, steps).at.x,
+        copy.at(1, steps).at.x,
+        copy.at(2, steps).at.x,
+        copy.at(3, steps).at.x,
+        copy.at(4, steps).at.x,
+    ];
+    Some(Seen {
+        blocks,
+        limit: copy.limit(),
+        loaded,
+        filled,
+        x,
+    })
+}
+
+/// The same with a copy of its own.
+fn walk_with<G: Ledger, const L: usize>(
+    alloc: Global,
+    store: &mut Store<L>,
+    particles: &[Particle],
+    steps: &mut Steps<G>,
+) -> Result<Option<Seen>, AllocError>
+    requires low { 0 < L }
+    requires high { L ≤ 16 }
+    requires five { length store.old.particles ≡ 5 }
+    requires few { length particles.now ≤ 65536 }
+{
+    match Store::<L>::open(alloc, particles, 1 << 29) {
+        Ok(mut copy) => {
+            let seen = walk_in(store, &mut copy, steps);
+            drop(copy);
+            Ok(seen)
+        }
+        Err(error) => Err(error),
+    }
+}
+
 fn walk<G: Ledger, const L: usize>(
     alloc: Global,
     steps: &mut Steps<G>,
@@ -50,46 +121,14 @@ fn walk<G: Ledger, const L: usize>(
         particle(3),
         particle(4),
     ];
-    let mut store: Store<L> = Store::open(alloc, &particles, 1 << 29)?;
-    let mut copy: Store<L> = Store::open(alloc, &particles, 1 << 29)?;
-    store.put(1, at(70), steps);
-    store.set(4, particle(40), steps);
-    let blocks = store.blocks();
-    if blocks == 0 {
-        return Ok(None);
+    match Store::<L>::open(alloc, &particles, 1 << 29) {
+        Ok(mut store) => {
+            let seen = walk_with(alloc, &mut store, &particles, steps);
+            drop(store);
+            seen
+        }
+        Err(error) => Err(error),
     }
-    let mut values = store.load(blocks - 1, steps);
-    let loaded = values.at.x.to_array().iter().max().copied().unwrap_or(-1);
-    let filled = values
-        .filled
-        .to_array()
-        .iter()
-        .filter(|lane| **lane)
-        .count();
-    values.at.x = Lanes::splat(9);
-    let mask = values.filled;
-    store.save(blocks - 1, &values, &mask, steps);
-    if copy.len() != store.len() || copy.limit() != store.limit() {
-        return Ok(None);
-    }
-    copy.copy_from(&store);
-    if copy.len() != 5 {
-        return Ok(None);
-    }
-    let x = [
-        copy.at(0, steps).at.x,
-        copy.at(1, steps).at.x,
-        copy.at(2, steps).at.x,
-        copy.at(3, steps).at.x,
-        copy.at(4, steps).at.x,
-    ];
-    Ok(Some(Seen {
-        blocks,
-        limit: copy.limit(),
-        loaded,
-        filled,
-        x,
-    }))
 }
 
 /// The last lane alone.
@@ -114,6 +153,35 @@ fn last_index<const L: usize>() -> [u32; L]
 
 /// The places on x after the last lane alone was scattered, and before them how many numbers that were
 /// gathered aren't 0, and the greatest of them.
+fn one_lane_in<G: Ledger, const L: usize>(store: &mut Store<L>, steps: &mut Steps<G>) -> [i64; 7]
+    requires low { 0 < L }
+    requires high { L ≤ 16 }
+    requires five { length store.old.particles ≡ 5 }
+{
+    let mask = last_lane::<L>();
+    let indices = last_index::<L>();
+    let ends = store.gather(&indices, &mask, steps);
+    let places = ends.at.x.to_array();
+    let count = places.iter().filter(|x| **x != 0).count();
+    let greatest = places.iter().max().copied().unwrap_or(-1);
+    let values = Lanes3 {
+        x: Lanes::splat(50),
+        y: Lanes::splat(5),
+        z: Lanes::splat(-5),
+    };
+    store.scatter(&indices, &mask, &values, steps);
+    [
+        count.min(100) as i64,
+        greatest,
+        store.at(0, steps).at.x,
+        store.at(1, steps).at.x,
+        store.at(2, steps).at.x,
+        store.at(3, steps).at.x,
+        store.at(4, steps).at.x,
+    ]
+}
+
+/// The same of five particles.
 fn one_lane<G: Ledger, const L: usize>(
     alloc: Global,
     steps: &mut Steps<G>,
@@ -128,28 +196,14 @@ fn one_lane<G: Ledger, const L: usize>(
         particle(13),
         particle(14),
     ];
-    let mut store: Store<L> = Store::open(alloc, &particles, 1 << 29)?;
-    let mask = last_lane::<L>();
-    let indices = last_index::<L>();
-    let ends = store.gather(&indices, &mask, steps);
-    let places = ends.at.x.to_array();
-    let count = places.iter().filter(|x| **x != 0).count();
-    let greatest = places.iter().max().copied().unwrap_or(-1);
-    let values = Lanes3 {
-        x: Lanes::splat(50),
-        y: Lanes::splat(5),
-        z: Lanes::splat(-5),
-    };
-    store.scatter(&indices, &mask, &values, steps);
-    Ok([
-        count.min(100) as i64,
-        greatest,
-        store.at(0, steps).at.x,
-        store.at(1, steps).at.x,
-        store.at(2, steps).at.x,
-        store.at(3, steps).at.x,
-        store.at(4, steps).at.x,
-    ])
+    match Store::<L>::open(alloc, &particles, 1 << 29) {
+        Ok(mut store) => {
+            let seen = one_lane_in(&mut store, steps);
+            drop(store);
+            Ok(seen)
+        }
+        Err(error) => Err(error),
+    }
 }
 
 fn last_lanes<G: Ledger>(alloc: Global, blank: Blank) -> Result<[[i64; 7]; 5], AllocError>

@@ -108,8 +108,54 @@ fn holds(contacts: &SelfContacts, wanted: &[(u32, u32)]) -> bool {
         && contacts.colouring().live_count() as usize == wanted.len()
 }
 
-// Whether the contacts at a width are the wanted ones where these fit, and none where they don't.
-// Before these others are found.
+// Whether contacts are the wanted ones where these fit, and none where they don't. Before these others are found.
+fn are_found<const L: usize, G: Ledger>(
+    contacts: &mut SelfContacts,
+    store: &Store<L>,
+    links: &Colouring,
+    thickness: i64,
+    wanted: &[(u32, u32)],
+    steps: &mut Steps<G>,
+) -> bool
+    requires contacts { contacts.old.particles ≡ length store.now.particles }
+    requires inside { AreInside store.now.limit store.now.particles }
+    requires links { links.now.particles ≡ length store.now.particles }
+    requires low { pos 0 ≤ℤ thickness }
+    requires high { thickness ≤ℤ pos 1048576 }
+{
+    let _ = contacts.detect(store, links, 8, steps);
+    let found = contacts.detect(store, links, thickness, steps);
+    if wanted.len() > 262_144 {
+        return found.is_err() && holds(contacts, &[]);
+    }
+    found.is_ok() && holds(contacts, wanted)
+}
+
+// The same with contacts of its own.
+fn finds_in<const L: usize, G: Ledger>(
+    alloc: Global,
+    store: &Store<L>,
+    links: &Colouring,
+    thickness: i64,
+    wanted: &[(u32, u32)],
+    steps: &mut Steps<G>,
+) -> Result<bool, AllocError>
+    requires inside { AreInside store.now.limit store.now.particles }
+    requires links { links.now.particles ≡ length store.now.particles }
+    requires low { pos 0 ≤ℤ thickness }
+    requires high { thickness ≤ℤ pos 1048576 }
+{
+    match SelfContacts::open(alloc, store.len()) {
+        Ok(mut contacts) => {
+            let found = are_found(&mut contacts, store, links, thickness, wanted, steps);
+            drop(contacts);
+            Ok(found)
+        }
+        Err(error) => Err(error),
+    }
+}
+
+// The same in a store of a width.
 fn finds<const L: usize, G: Ledger>(
     alloc: Global,
     particles: &[Particle],
@@ -124,14 +170,14 @@ fn finds<const L: usize, G: Ledger>(
     requires low { pos 0 ≤ℤ thickness }
     requires high { thickness ≤ℤ pos 1048576 }
 {
-    let store: Store<L> = Store::open(alloc, particles, RANGE)?;
-    let mut contacts = SelfContacts::open(alloc, particles.len() as u32)?;
-    let _ = contacts.detect(&store, links, 8, steps);
-    let found = contacts.detect(&store, links, thickness, steps);
-    if wanted.len() > 262_144 {
-        return Ok(found.is_err() && holds(&contacts, &[]));
+    match Store::<L>::open(alloc, particles, RANGE) {
+        Ok(store) => {
+            let found = finds_in(alloc, &store, links, thickness, wanted, steps);
+            drop(store);
+            found
+        }
+        Err(error) => Err(error),
     }
-    Ok(found.is_ok() && holds(&contacts, wanted))
 }
 
 // The same, after what it asks for was seen to.
@@ -148,8 +194,14 @@ fn finds_safely<const L: usize, G: Ledger>(
     assert!(rt; particles.len() <= 1024);
     assert!(rt; are_inside(particles));
     assert!(rt; 0 <= thickness && thickness <= 1_048_576);
-    let colouring = linked(rt, alloc, particles.len() as u32, links)?;
-    finds::<L, G>(alloc, particles, &colouring, thickness, wanted, steps)
+    match linked(rt, alloc, particles.len() as u32, links) {
+        Ok(colouring) => {
+            let found = finds::<L, G>(alloc, particles, &colouring, thickness, wanted, steps);
+            drop(colouring);
+            found
+        }
+        Err(error) => Err(error),
+    }
 }
 
 fn finds_counted<G: Ledger>(

@@ -1,5 +1,6 @@
 //! Tracked particles at each width, step by step.
-ghost use Rattle.std.specs.Prelude.{◌≡◌, ◌<◌, [], ◌∷◌, pos, negsuc, IfOk};
+ghost use Rattle.std.specs.Prelude.{◌≡◌, ◌<◌, ◌^◌, [], ◌∷◌, pos, negsuc, IfOk, IsTrue};
+ghost use Rattle.pbd_world.specs.Valid.{are_valid_tracks};
 
 use pbd_num::{RANGE, Vec3};
 use pbd_store::{Steps, Store};
@@ -62,37 +63,50 @@ fn resting(x: i64) -> Particle {
 /// The places of three particles at step t, of which two are tracked.
 fn places_in<const L: usize, G: Ledger>(
     alloc: Global,
+    tracks: &[Track],
     t: u32,
     steps: &mut Steps<G>,
-) -> Result<[i64; 4], AllocError> {
-    let mut store: Store<L> = Store::open(alloc, &[resting(0), resting(1), resting(9)], RANGE)?;
-    let way = one_way(alloc)?;
-    let alone = one_place(alloc)?;
-    place(&[way, alone], t, &mut store, steps);
-    let first = store.at(0, steps).at;
-    let second = store.at(1, steps).at;
-    let third = store.at(2, steps).at;
-    Ok([first.x, first.y, second.x, third.x])
+) -> Result<[i64; 4], AllocError>
+    requires { IsTrue (are_valid_tracks (pos (2 ^ 29)) 3 tracks.now) }
+{
+    match Store::<L>::open(alloc, &[resting(0), resting(1), resting(9)], RANGE) {
+        Ok(mut store) => {
+            place(tracks, t, &mut store, steps);
+            let first = store.at(0, steps).at;
+            let second = store.at(1, steps).at;
+            let third = store.at(2, steps).at;
+            drop(store);
+            Ok([first.x, first.y, second.x, third.x])
+        }
+        Err(error) => Err(error),
+    }
 }
 
-fn counted<G: Ledger>(alloc: Global, blank: Blank, t: u32) -> Result<[[i64; 4]; 5], AllocError>
+fn counted<G: Ledger>(
+    alloc: Global,
+    blank: Blank,
+    tracks: &[Track],
+    t: u32,
+) -> Result<[[i64; 4]; 5], AllocError>
     requires name { blank.name ≡ G.name }
     requires parts { blank.parts ≡ G.parts }
     requires some { 0 < blank.parts }
+    requires tracks { IsTrue (are_valid_tracks (pos (2 ^ 29)) 3 tracks.now) }
 {
     let mut steps: Steps<G> = Steps::open(blank);
     Ok([
-        places_in::<1, G>(alloc, t, &mut steps)?,
-        places_in::<2, G>(alloc, t, &mut steps)?,
-        places_in::<4, G>(alloc, t, &mut steps)?,
-        places_in::<8, G>(alloc, t, &mut steps)?,
-        places_in::<16, G>(alloc, t, &mut steps)?,
+        places_in::<1, G>(alloc, tracks, t, &mut steps)?,
+        places_in::<2, G>(alloc, tracks, t, &mut steps)?,
+        places_in::<4, G>(alloc, tracks, t, &mut steps)?,
+        places_in::<8, G>(alloc, tracks, t, &mut steps)?,
+        places_in::<16, G>(alloc, tracks, t, &mut steps)?,
     ])
 }
 
 /// The places at each width.
 fn places(alloc: Global, t: u32) -> Result<[[i64; 4]; 5], AllocError> {
-    counted::<Brand>(alloc, Blank::new(1), t)
+    let tracks = [one_way(alloc)?, one_place(alloc)?];
+    counted::<Brand>(alloc, Blank::new(1), &tracks, t)
 }
 
 #[test]

@@ -1,4 +1,6 @@
 //! Scenes that are valid and others that aren't, lists, totals, lanes and numbers of refusals.
+ghost use Rattle.std.specs.Prelude.{◌<◌, ◌≤◌};
+
 use crate::places::{at, resting};
 use pbd_num::Vec3;
 use pbd_world::{
@@ -7,6 +9,20 @@ use pbd_world::{
 };
 use std::alloc::{AllocError, Global};
 use std::test::Fail;
+
+/// One thing that is otherwise than in a cloth.
+#[derive(Clone, Copy)]
+enum Change<'a> {
+    Limit(i64),
+    Link(u32, u32),
+    Particle(Particle),
+    Plane(Plane),
+    Sphere(Sphere),
+    Passes(u32),
+    Gravity(Vec3),
+    /// Tracks of a held seventh particle or of another, each with a key at each of some steps.
+    Tracks(&'a [(u32, &'a [u32])]),
+}
 
 fn link(a: u32, b: u32, rest: i64) -> Link {
     Link {
@@ -36,142 +52,238 @@ fn no_parts(alloc: Global) -> Parts {
     }
 }
 
+fn push_particles(parts: &mut Parts, places: &[Vec3]) -> Result<(), AllocError> {
+    for place in places {
+        parts.particles.push(resting(*place))?;
+    }
+    Ok(())
+}
+
+fn push_links(parts: &mut Parts, links: &[(u32, u32, i64)]) -> Result<(), AllocError> {
+    for (a, b, rest) in links {
+        parts.links.push(link(*a, *b, *rest))?;
+    }
+    Ok(())
+}
+
 /// Two rows of three particles with all their links.
-fn small_cloth(alloc: Global) -> Result<Parts, AllocError> {
-    let mut parts = no_parts(alloc);
-    for place in [
-        at(0, 0, 0),
-        at(100, 0, 0),
-        at(200, 0, 0),
-        at(0, 0, 100),
-        at(100, 0, 100),
-        at(200, 0, 100),
-    ] {
-        parts.particles.push(resting(place))?;
+fn push_cloth(parts: &mut Parts) -> Result<(), AllocError> {
+    push_particles(
+        parts,
+        &[
+            at(0, 0, 0),
+            at(100, 0, 0),
+            at(200, 0, 0),
+            at(0, 0, 100),
+            at(100, 0, 100),
+            at(200, 0, 100),
+        ],
+    )?;
+    push_links(
+        parts,
+        &[
+            (0, 1, 100),
+            (0, 3, 100),
+            (1, 2, 100),
+            (1, 4, 100),
+            (2, 5, 100),
+            (3, 4, 100),
+            (4, 5, 100),
+            (0, 4, 141),
+            (1, 3, 141),
+            (1, 5, 141),
+            (2, 4, 141),
+            (0, 2, 200),
+            (3, 5, 200),
+        ],
+    )
+}
+
+/// Whether parts are a scene. Nothing where they aren't for want of memory.
+fn are_scene(alloc: Global, parts: Parts) -> Option<bool> {
+    match Scene::from_parts(alloc, parts) {
+        Ok(scene) => {
+            drop(scene);
+            Some(true)
+        }
+        Err(PartsFault::NotValid) => Some(false),
+        Err(PartsFault::OutOfMemory) => None,
     }
-    for (a, b, rest) in [
-        (0, 1, 100),
-        (0, 3, 100),
-        (1, 2, 100),
-        (1, 4, 100),
-        (2, 5, 100),
-        (3, 4, 100),
-        (4, 5, 100),
-        (0, 4, 141),
-        (1, 3, 141),
-        (1, 5, 141),
-        (2, 4, 141),
-        (0, 2, 200),
-        (3, 5, 200),
-    ] {
-        parts.links.push(link(a, b, rest))?;
-    }
-    Ok(parts)
+}
+
+/// How many particles and links the scene of the cloth has, and how many particles its parts have again.
+fn counts(scene: Scene) -> (usize, usize, usize) {
+    let particles = scene.parts().particles.len();
+    let links = scene.parts().links.len();
+    let parts = scene.into_parts();
+    let again = parts.particles.len();
+    drop(parts);
+    (particles, links, again)
 }
 
 #[test]
 fn takes_valid_parts(rt: HostRuntime) -> Result<(), Fail> {
-    let scene = Scene::from_parts(rt.alloc(), small_cloth(rt.alloc())?)?;
-    assert_eq!(rt; scene.parts().links.len(), 13);
-    let parts = scene.into_parts();
-    assert_eq!(rt; parts.particles.len(), 6);
+    let mut parts = no_parts(rt.alloc());
+    push_cloth(&mut parts)?;
+    let scene = Scene::from_parts(rt.alloc(), parts)?;
+    assert_eq!(rt; counts(scene), (6, 13, 6));
     Ok(())
 }
 
-#[test]
-fn refuses_a_double_link(rt: HostRuntime) -> Result<(), Fail> {
-    for (a, b) in [(0, 1), (1, 0), (5, 3)] {
-        let mut parts = small_cloth(rt.alloc())?;
-        parts.links.push(link(a, b, 100))?;
-        let answer = Scene::from_parts(rt.alloc(), parts);
-        assert!(rt; matches!(answer, Err(PartsFault::NotValid)));
-    }
-    Ok(())
-}
-
-#[test]
-fn refuses_other_parts(rt: HostRuntime) -> Result<(), Fail> {
-    for case in 0..9_u8 {
-        let mut parts = small_cloth(rt.alloc())?;
-        match case {
-            0 => parts.limit = 1000,
-            1 => parts.links.push(link(2, 2, 100))?,
-            2 => parts.links.push(link(2, 6, 100))?,
-            3 => parts.particles.push(Particle {
-                weight: 0,
-                ..resting(at(0, 0, 0))
-            })?,
-            4 => parts.particles.push(Particle {
-                held: true,
-                before: at(0, 1, 0),
-                ..resting(at(0, 0, 0))
-            })?,
-            5 => parts.planes.push(Plane {
-                normal: Vec3::ZERO,
-                offset: 0,
-            })?,
-            6 => parts.spheres.push(Sphere {
-                centre: at(pbd_num::RANGE, 0, 0),
-                radius: 1,
-            })?,
-            7 => parts.passes = 65,
-            _ => parts.gravity = at(0, -pbd_num::RANGE - 1, 0),
+/// What a change makes of the parts of a cloth.
+fn changed(alloc: Global, change: &Change<'_>) -> Result<Option<bool>, AllocError> {
+    let mut parts = no_parts(alloc);
+    match change_cloth(alloc, change, &mut parts) {
+        Ok(()) => Ok(are_scene(alloc, parts)),
+        Err(error) => {
+            drop(parts);
+            Err(error)
         }
-        let answer = Scene::from_parts(rt.alloc(), parts);
-        assert!(rt; matches!(answer, Err(PartsFault::NotValid)), "case {case}");
     }
-    Ok(())
 }
 
-fn with_track(alloc: Global, particle: u32, steps: &[u32]) -> Result<Parts, AllocError> {
-    let mut parts = small_cloth(alloc)?;
-    parts.particles.push(Particle {
-        held: true,
-        ..resting(at(0, 9, 0))
-    })?;
-    let mut keys = List::new(alloc);
+fn push_keys(keys: &mut List<Key>, steps: &[u32]) -> Result<(), AllocError> {
     for step in steps {
         keys.push(Key {
             step: *step,
             place: at(0, 9, 0),
         })?;
     }
-    parts.tracks.push(Track { particle, keys })?;
-    Ok(parts)
+    Ok(())
+}
+
+fn track_of(alloc: Global, particle: u32, steps: &[u32]) -> Result<Track, AllocError> {
+    let mut keys = List::new(alloc);
+    match push_keys(&mut keys, steps) {
+        Ok(()) => Ok(Track { particle, keys }),
+        Err(error) => {
+            drop(keys);
+            Err(error)
+        }
+    }
+}
+
+fn push_tracks(
+    alloc: Global,
+    parts: &mut Parts,
+    tracks: &[(u32, &[u32])],
+) -> Result<(), AllocError> {
+    parts.particles.push(Particle {
+        held: true,
+        ..resting(at(0, 9, 0))
+    })?;
+    for (particle, steps) in tracks {
+        parts.tracks.push(track_of(alloc, *particle, steps)?)?;
+    }
+    Ok(())
+}
+
+fn change_cloth(alloc: Global, change: &Change<'_>, parts: &mut Parts) -> Result<(), AllocError> {
+    push_cloth(parts)?;
+    match change {
+        Change::Limit(limit) => parts.limit = *limit,
+        Change::Link(a, b) => parts.links.push(link(*a, *b, 100))?,
+        Change::Particle(particle) => parts.particles.push(*particle)?,
+        Change::Plane(plane) => parts.planes.push(*plane)?,
+        Change::Sphere(sphere) => parts.spheres.push(*sphere)?,
+        Change::Passes(passes) => parts.passes = *passes,
+        Change::Gravity(gravity) => parts.gravity = *gravity,
+        Change::Tracks(tracks) => push_tracks(alloc, parts, tracks)?,
+    }
+    Ok(())
+}
+
+#[test]
+fn refuses_a_double_link(rt: HostRuntime) -> Result<(), Fail> {
+    for (a, b) in [(0, 1), (1, 0), (5, 3)] {
+        assert_eq!(rt; changed(rt.alloc(), &Change::Link(a, b))?, Some(false));
+    }
+    Ok(())
+}
+
+#[test]
+fn refuses_other_parts(rt: HostRuntime) -> Result<(), Fail> {
+    let changes = [
+        Change::Limit(1000),
+        Change::Link(2, 2),
+        Change::Link(2, 6),
+        Change::Particle(Particle {
+            weight: 0,
+            ..resting(at(0, 0, 0))
+        }),
+        Change::Particle(Particle {
+            held: true,
+            before: at(0, 1, 0),
+            ..resting(at(0, 0, 0))
+        }),
+        Change::Plane(Plane {
+            normal: Vec3::ZERO,
+            offset: 0,
+        }),
+        Change::Sphere(Sphere {
+            centre: at(pbd_num::RANGE, 0, 0),
+            radius: 1,
+        }),
+        Change::Passes(65),
+        Change::Gravity(at(0, -pbd_num::RANGE - 1, 0)),
+    ];
+    for (case, change) in changes.iter().enumerate() {
+        assert_eq!(rt; changed(rt.alloc(), change)?, Some(false), "case {case}");
+    }
+    Ok(())
 }
 
 #[test]
 fn looks_at_tracks(rt: HostRuntime) -> Result<(), Fail> {
-    let alloc = rt.alloc();
-    assert!(rt; Scene::from_parts(alloc, with_track(alloc, 6, &[3, 4, 1_000_000])?).is_ok());
-    assert!(rt; Scene::from_parts(alloc, with_track(alloc, 0, &[3])?).is_err());
-    assert!(rt; Scene::from_parts(alloc, with_track(alloc, 6, &[3, 3])?).is_err());
-    assert!(rt; Scene::from_parts(alloc, with_track(alloc, 6, &[])?).is_err());
-    assert!(rt; Scene::from_parts(alloc, with_track(alloc, 6, &[1_000_001])?).is_err());
-    let mut twice = with_track(alloc, 6, &[3])?;
-    let mut keys = List::new(alloc);
-    keys.push(Key {
-        step: 0,
-        place: Vec3::ZERO,
-    })?;
-    twice.tracks.push(Track { particle: 6, keys })?;
-    assert!(rt; Scene::from_parts(alloc, twice).is_err());
+    let rows: [(&[(u32, &[u32])], bool); 6] = [
+        (&[(6, &[3, 4, 1_000_000])], true),
+        (&[(0, &[3])], false),
+        (&[(6, &[3, 3])], false),
+        (&[(6, &[])], false),
+        (&[(6, &[1_000_001])], false),
+        (&[(6, &[3]), (6, &[0])], false),
+    ];
+    for (tracks, fits) in rows {
+        let found = changed(rt.alloc(), &Change::Tracks(tracks))?;
+        assert_eq!(rt; found, Some(fits), "{tracks:?}");
+    }
+    Ok(())
+}
+
+/// So many particles in a row, each with links to so many behind it, round the end.
+fn push_ring(parts: &mut Parts, particles: u32, links: u32) -> Result<(), AllocError>
+    requires some { 0 < particles }
+    requires size { particles ≤ 65536 }
+    requires few { links ≤ 8 }
+{
+    for i in 0..particles {
+        parts.particles.push(resting(at(i as i64, 0, 0)))?;
+    }
+    for i in 0..particles {
+        for far in 0..links {
+            parts.links.push(link(i, (i + far + 1) % particles, 1))?;
+        }
+    }
     Ok(())
 }
 
 #[test]
 fn takes_as_many_links_as_there_may_be(rt: HostRuntime) -> Result<(), Fail> {
     let mut parts = no_parts(rt.alloc());
-    for i in 0..65_536_i64 {
+    push_ring(&mut parts, 65_536, 8)?;
+    assert_eq!(rt; parts.links.len(), 524_288);
+    assert_eq!(rt; are_scene(rt.alloc(), parts), Some(true));
+    Ok(())
+}
+
+/// Forty particles, and so many links of the last one.
+fn push_star(parts: &mut Parts, links: u32) -> Result<(), AllocError> {
+    for i in 0..40_i64 {
         parts.particles.push(resting(at(i, 0, 0)))?;
     }
-    for i in 0..65_536_u32 {
-        for far in 1..9_u32 {
-            parts.links.push(link(i, (i + far) % 65_536, 1))?;
-        }
+    for i in 0..links {
+        parts.links.push(link(39, i, 1))?;
     }
-    assert_eq!(rt; parts.links.len(), 524_288);
-    assert!(rt; Scene::from_parts(rt.alloc(), parts).is_ok());
     Ok(())
 }
 
@@ -179,13 +291,8 @@ fn takes_as_many_links_as_there_may_be(rt: HostRuntime) -> Result<(), Fail> {
 fn refuses_a_thirty_third_link(rt: HostRuntime) -> Result<(), Fail> {
     for (count, fits) in [(32_u32, true), (33, false)] {
         let mut parts = no_parts(rt.alloc());
-        for i in 0..40_i64 {
-            parts.particles.push(resting(at(i, 0, 0)))?;
-        }
-        for i in 0..count {
-            parts.links.push(link(39, i, 1))?;
-        }
-        assert_eq!(rt; Scene::from_parts(rt.alloc(), parts).is_ok(), fits);
+        push_star(&mut parts, count)?;
+        assert_eq!(rt; are_scene(rt.alloc(), parts), Some(fits));
     }
     Ok(())
 }
