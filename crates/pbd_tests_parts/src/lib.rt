@@ -1,4 +1,4 @@
-//! Tests of numbers, lanes, lists and containers, and of the parts of a step.
+//! Tests of numbers, lanes, lists and scenes, and of chains, colours, cells and contacts.
 #![tactic(auto)]
 
 #[cfg(test)]
@@ -10,24 +10,12 @@ mod grid;
 #[cfg(test)]
 mod lanes;
 #[cfg(test)]
-mod ledger;
-#[cfg(test)]
 mod num;
-#[cfg(test)]
-mod pair;
 #[cfg(test)]
 mod pairs;
 #[cfg(test)]
 mod places;
 #[cfg(test)]
-mod shape;
-#[cfg(test)]
-mod store;
-#[cfg(test)]
-mod tear;
-#[cfg(test)]
 mod touching;
-#[cfg(test)]
-mod track;
 #[cfg(test)]
 mod world;

@@ -1,0 +1,132 @@
+//! Tracked particles at each width, step by step.
+ghost use Rattle.std.specs.Prelude.{◌≡◌, ◌<◌, ◌^◌, [], ◌∷◌, pos, negsuc, IfOk, IsTrue};
+ghost use Rattle.pbd_world.specs.Valid.{are_valid_tracks};
+
+use pbd_num::{RANGE, Vec3};
+use pbd_store::{Steps, Store};
+use pbd_track::{is_tracked, place, track_at};
+use pbd_world::{Key, List, Particle, Track};
+use std::alloc::{AllocError, Global};
+use std::marker::Brand;
+use std::sync::ledger::{Blank, Ledger};
+use std::test::Fail;
+
+const START: Key = Key {
+    step: 0,
+    place: Vec3::ZERO,
+};
+
+const END: Key = Key {
+    step: 3,
+    place: Vec3 {
+        x: 10,
+        y: -10,
+        z: 0,
+    },
+};
+
+const ALONE: Key = Key {
+    step: 2,
+    place: Vec3 { x: 5, y: 0, z: 0 },
+};
+
+fn one_way(alloc: Global) -> Result<Track, AllocError>
+    ensures { IfOk result (λ track. track ≡ record {
+      particle = 0;
+      keys = record { step = 0; place = record { x = pos 0; y = pos 0; z = pos 0 } }
+        ∷ record { step = 3; place = record { x = pos 10; y = negsuc 9; z = pos 0 } } ∷ [];
+    }) }
+{
+    let mut keys = List::new(alloc);
+    keys.push(START)?;
+    keys.push(END)?;
+    Ok(Track { particle: 0, keys })
+}
+
+fn one_place(alloc: Global) -> Result<Track, AllocError>
+    ensures { IfOk result (λ track. track ≡ record {
+      particle = 1;
+      keys = record { step = 2; place = record { x = pos 5; y = pos 0; z = pos 0 } } ∷ [];
+    }) }
+{
+    let mut keys = List::new(alloc);
+    keys.push(ALONE)?;
+    Ok(Track { particle: 1, keys })
+}
+
+fn resting(x: i64) -> Particle {
+    let place = Vec3 { x, y: 0, z: 0 };
+    Particle {
+        at: place,
+        before: place,
+        weight: 1,
+        held: true,
+    }
+}
+
+/// The places of three particles at step t, of which two are tracked.
+fn places_in<const L: usize, G: Ledger>(
+    alloc: Global,
+    tracks: &[Track],
+    t: u32,
+    steps: &mut Steps<G>,
+) -> Result<[i64; 4], AllocError>
+    requires { IsTrue (are_valid_tracks (pos (2 ^ 29)) 3 tracks.now) }
+{
+    match Store::<L>::open(alloc, &[resting(0), resting(1), resting(9)], RANGE) {
+        Ok(mut store) => {
+            place(tracks, t, &mut store, steps);
+            let first = store.at(0, steps).at;
+            let second = store.at(1, steps).at;
+            let third = store.at(2, steps).at;
+            drop(store);
+            Ok([first.x, first.y, second.x, third.x])
+        }
+        Err(error) => Err(error),
+    }
+}
+
+fn counted<G: Ledger>(
+    alloc: Global,
+    blank: Blank,
+    tracks: &[Track],
+    t: u32,
+) -> Result<[[i64; 4]; 5], AllocError>
+    requires name { blank.name ≡ G.name }
+    requires parts { blank.parts ≡ G.parts }
+    requires some { 0 < blank.parts }
+    requires tracks { IsTrue (are_valid_tracks (pos (2 ^ 29)) 3 tracks.now) }
+{
+    let mut steps: Steps<G> = Steps::open(blank);
+    Ok([
+        places_in::<1, G>(alloc, tracks, t, &mut steps)?,
+        places_in::<2, G>(alloc, tracks, t, &mut steps)?,
+        places_in::<4, G>(alloc, tracks, t, &mut steps)?,
+        places_in::<8, G>(alloc, tracks, t, &mut steps)?,
+        places_in::<16, G>(alloc, tracks, t, &mut steps)?,
+    ])
+}
+
+/// The places at each width.
+fn places(alloc: Global, t: u32) -> Result<[[i64; 4]; 5], AllocError> {
+    let tracks = [one_way(alloc)?, one_place(alloc)?];
+    counted::<Brand>(alloc, Blank::new(1), &tracks, t)
+}
+
+#[test]
+fn tracks_move_at_every_width(rt: HostRuntime) -> Result<(), Fail> {
+    for (t, first, second) in [(0, 0, 5), (1, 3, 5), (2, 7, 5), (3, 10, 5), (4, 10, 5)] {
+        assert_eq!(rt; places(rt.alloc(), t)?, [[first, -first, second, 9]; 5]);
+    }
+    Ok(())
+}
+
+#[test]
+fn tracks_name_particles(rt: HostRuntime) -> Result<(), Fail> {
+    let track = one_place(rt.alloc())?;
+    assert_eq!(rt; track_at(&track, 7).x, 5);
+    let tracks = [track];
+    assert!(rt; is_tracked(&tracks, 1));
+    assert!(rt; !is_tracked(&tracks, 0));
+    Ok(())
+}
