@@ -34,7 +34,7 @@ fn one_way(alloc: Global) -> Result<Track, AllocError>
     ensures { IfOk result (λ track. track ≡ record {
       particle = 0;
       keys = record { step = 0; place = record { x = pos 0; y = pos 0; z = pos 0 } }
-        ∷ record { step = 3; place = record { x = pos 10; y = negsuc 9; z = pos 0 } } ∷ [];
+          ∷ record { step = 3; place = record { x = pos 10; y = negsuc 9; z = pos 0 } } ∷ [];
     }) }
 {
     let mut keys = List::new(alloc);
