@@ -6,7 +6,7 @@ use Rattle.pbd_store.specs.Moving.{motion_of}
 use Rattle.pbd_colour.specs.Pairs.{InRange}
 use Rattle.pbd_pair.specs.declared.bonds.Bonds.TheVariants.{Contacts}
 use Rattle.pbd_step.specs.Projecting.{AreBondsOf}
-use Rattle.pbd_step.proofs.Counting.{contacts_count}
+use Rattle.pbd_world.proofs.OrderCounts.{contacts_count}
 use Rattle.pbd_step.proofs.Staying.{part_in_pass}
 use Rattle.pbd_step.proofs.UnderWay.{contact_bonds, ok_both, still_movable}
 use Rattle.pbd_step.proofs.pass.project_contacts.Goals as goal

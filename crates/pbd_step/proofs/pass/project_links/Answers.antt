@@ -9,7 +9,7 @@ use Rattle.pbd_store.specs.Moving.{motion_of}
 use Rattle.pbd_pair.specs.declared.bonds.Bonds.{Bonds}
 use Rattle.pbd_pair.specs.declared.bonds.Bonds.TheVariants.{Links}
 use Rattle.pbd_step.specs.Projecting.{AreBondsOf}
-use Rattle.pbd_step.proofs.Counting.{links_count}
+use Rattle.pbd_world.proofs.OrderCounts.{links_count}
 use Rattle.pbd_step.proofs.Staying.{part_in_pass}
 use Rattle.pbd_step.proofs.UnderWay.{link_bonds, few_links, ok_both, still_movable}
 use Rattle.pbd_step.proofs.pass.project_links.Goals as goal
