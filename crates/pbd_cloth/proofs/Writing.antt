@@ -1,8 +1,8 @@
 -- As much of a list as there is room for, written over another, item by item.
-use Rattle.std.proofs.Common.{◌≡◌, ◌∙◌, refl, sym, ap, subst, zero, suc, ℕ, ◌+◌, ◌<◌, ◌≤◌, min, nat_lt, Bool, true, false, cond, List, [], ◌∷◌, ◌++◌, length, get_or, take, map, filter, slice_set, arith, append-nil}
+use Rattle.std.proofs.Common.{◌≡◌, ◌∙◌, refl, sym, ap, subst, zero, suc, ℕ, ◌+◌, ◌<◌, ◌≤◌, min, nat_lt, Bool, true, false, cond, List, [], ◌∷◌, ◌++◌, length, get_or, take, map, filter, slice_set, arith}
 use Rattle.std.specs.List.{range_with_len}
 use Rattle.std.proofs.lemmas.Bool.{ltb-true, ltb-false}
-use Rattle.std.proofs.lemmas.List.{take_all, append-nil}
+use Rattle.std.proofs.lemmas.List.{take_all, append-nil, get_or-map, length-map, length-append}
 use Rattle.std.proofs.lemmas.List.Elements.{filter-append}
 use Rattle.pbd_world.specs.Lending.{overwritten}
 
@@ -42,6 +42,21 @@ over_end (x ∷ xs) [] zero all = refl
 over_end (x ∷ xs) [] (suc n) all = refl
 over_end (x ∷ xs) (q ∷ qs) zero all = absurd (omega (arith, all))
 over_end (x ∷ xs) (q ∷ qs) (suc n) all = ap (λ ys. q ∷ ys) (over_end xs qs n (omega (arith, all)))
+
+-- the same for what is made of each item of a list
+
+pub mapped_none : {S T : Type 0} (f : S → T) (ps : List S) (xs : List T) → xs ≡ overwritten xs (take 0 (map f ps))
+mapped_none f ps xs = sym (over_none xs)
+
+pub mapped_next : {S T : Type 0} (f : S → T) (ps : List S) (xs into : List T) (i : ℕ) (d : S) (p : T) → into ≡ overwritten xs (take i (map f ps)) → p ≡ f (get_or ps i d) → i < length xs → i < length ps
+    → slice_set into i p ≡ overwritten xs (take (i + 1) (map f ps))
+mapped_next {S = S} {T = T} f ps xs into i d p so_far is room lt =
+    ap (λ (ys : List T). slice_set ys i p) so_far
+    ∙ ap (λ (q : T). slice_set (overwritten xs (take i (map f ps))) i q) (is ∙ sym (get_or-map {X = S} {Y = T} f ps i d p lt))
+    ∙ over_next xs (map f ps) i p room (omega (arith, lt, length-map {A = S} {B = T} ps f))
+
+pub mapped_end : {S T : Type 0} (f : S → T) (ps : List S) (xs into : List T) (i : ℕ) → into ≡ overwritten xs (take i (map f ps)) → min (length xs) (length ps) ≤ i → into ≡ overwritten xs (map f ps)
+mapped_end {S = S} {T = T} f ps xs into i so_far all = so_far ∙ over_end xs (map f ps) i (omega (arith, all, length-map {A = S} {B = T} ps f))
 
 -- ---- the numbers that pass a test
 

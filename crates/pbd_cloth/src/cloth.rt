@@ -10,7 +10,7 @@ use pbd_pair::LaneProjector;
 use pbd_session::Session;
 use pbd_step::Saved;
 use pbd_store::Steps;
-use pbd_world::{Command, FrameSums, Reply, Scene};
+use pbd_world::{Command, FrameSums, Reply, Scene, refused_commands_change_nothing};
 use std::alloc::{AllocError, Global};
 use std::marker::{Brand, Model};
 use std::sync::ledger::{Blank, Ledger};
@@ -63,6 +63,7 @@ impl Cloth {
         ensures cloth { self.new ≡ played self.old command.now }
         ensures kept { IsTrue (is_refused result) → self.new ≡ self.old }
     {
+        refused_commands_change_nothing();
         apply_counted::<Brand>(Blank::new(1), &mut self.playing, command)
     }
 

@@ -6,7 +6,7 @@ use Rattle.pbd_step.specs.declared.state.Setting.{Setting}
 use Rattle.pbd_step.specs.States.{world_of, HasLinks, HaveSpace}
 use Rattle.pbd_step.specs.Solving.{Solved, AreAlike}
 use Rattle.pbd_step.proofs.Keeping.{formed_fit, scene_alike, scene_world, alike_join, kept_moved}
-use Rattle.pbd_step.proofs.saved.Solver.go_back.Goals as goal
+use Rattle.pbd_step.proofs.solver.Solver.go_back.Goals as goal
 
 pub restore-requires : goal.restore-requires
 restore-requires g c =
