@@ -28,8 +28,8 @@ use std::sync::ledger::Ledger;
 /// particles, colours, contacts and the second state that a refused command goes back to are its inside.
 #[derive(Drop)]
 pub struct Solver<const L: usize, P: Projector<L> + Drop> {
-    setting: Setting,
-    run: Running<L, P>,
+    pub(crate) setting: Setting,
+    pub(crate) run: Running<L, P>,
     kept: State<L>,
 }
 

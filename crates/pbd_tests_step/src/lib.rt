@@ -4,6 +4,8 @@
 #[cfg(test)]
 mod accesses;
 #[cfg(test)]
+mod cloth;
+#[cfg(test)]
 mod drawing;
 #[cfg(test)]
 mod session;
