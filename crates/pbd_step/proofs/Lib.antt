@@ -14,3 +14,4 @@ pub mod InOrder
 pub mod Settling
 pub mod Keeping
 pub mod Staying
+pub mod Costing

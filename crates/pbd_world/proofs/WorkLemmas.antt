@@ -7,14 +7,19 @@ use Rattle.std.proofs.lemmas.Bool.{le-ltb}
 use Rattle.std.proofs.lemmas.List.{length-map}
 use Rattle.std.proofs.lemmas.List.Sums.{sum_by-cons}
 use Rattle.pbd_num.specs.Vectors.{minus, squared_length}
+use Rattle.pbd_world.specs.declared.command.Command.{Command}
+use Rattle.pbd_world.specs.declared.command.Command.TheVariants as commands
+use Rattle.pbd_world.specs.declared.command.Refusal.{Refusal}
 use Rattle.pbd_world.specs.declared.parts.Link.{Link}
 use Rattle.pbd_world.specs.declared.parts.Particle.{Particle}
 use Rattle.pbd_world.specs.Colours.{colour, of_colour, order}
 use Rattle.pbd_world.specs.Contacts.{contacts_of, is_contact, all_pairs, are_near, link_pairs, live_flags}
 use Rattle.pbd_world.specs.Particles.{Motion, particle_at}
-use Rattle.pbd_world.specs.Step.{predict}
+use Rattle.pbd_world.specs.Meaning.{after, refusals}
+use Rattle.pbd_world.specs.Outcomes.{unless}
+use Rattle.pbd_world.specs.Step.{predict, step}
 use Rattle.pbd_world.specs.World.{World, IsSound, live_count}
-use Rattle.pbd_world.specs.Work.{blocks_in, of_colour_count, colour_work, colours_work, bonds_work, links_work, contacts_work, colours_used, beginning_work, finding_work, shapes_work, pass_work, friction_work, tearable_count, settling_work, finishing_work, step_work, found_after, found_in}
+use Rattle.pbd_world.specs.Work.{blocks_in, of_colour_count, colour_work, colours_work, bonds_work, links_work, contacts_work, colours_used, beginning_work, finding_work, shapes_work, pass_work, friction_work, tearable_count, settling_work, finishing_work, step_work, found_after, found_in, work_from, work_over, steps_work, command_work, session_work}
 use Rattle.pbd_world.proofs.BatchLemmas.{sound-none_last}
 use Rattle.pbd_world.proofs.OrderCounts.{total, flat_total, kept_more, links_count, contacts_count}
 use Rattle.pbd_world.proofs.PieceLemmas.{pieces_fewer, pieces_each, pieces_half, pieces_some, whole_pieces, some_of}
@@ -172,6 +177,34 @@ step_wider width lanes wider_width more_lanes w contacts some wide any more =
       friction,
       passes,
     )
+
+module _ (width lanes wider_width more_lanes : ℕ) (some : 0 < width) (wide : width ≤ wider_width) (any : 0 < lanes) (more : lanes ≤ more_lanes) where
+  from_wider : (f g : World → ℕ) (r : Result World Refusal) → ((v : World) → f v ≤ g v) → work_from f r ≤ work_from g r
+  from_wider f g (Ok v) h = h v
+  from_wider f g (Err refusal) h = omega arith
+
+  over_wider : (n : ℕ) (w : World) → work_over wider_width more_lanes n w ≤ work_over width lanes n w
+  unfolding work_over
+  over_wider zero w = omega arith
+  over_wider (suc n) w =
+      omega (arith, step_wider width lanes wider_width more_lanes w (found_in w) some wide any more, from_wider (work_over wider_width more_lanes n) (work_over width lanes n) (step w) (over_wider n))
+
+  pub command_wider : (w : World) (command : Command) → command_work wider_width more_lanes w command ≤ command_work width lanes w command
+  unfolding command_work steps_work
+  command_wider w (commands.Step n) = from_wider (work_over wider_width more_lanes n) (work_over width lanes n) (unless (refusals w (commands.Step n)) w) (over_wider n)
+  command_wider w commands.Frame = omega arith
+  command_wider w (commands.Pin i) = omega arith
+  command_wider w (commands.Unpin i) = omega arith
+  command_wider w (commands.Move i to) = omega arith
+  command_wider w (commands.Cut n) = omega arith
+  command_wider w (commands.Gravity g) = omega arith
+  command_wider w commands.Ledger = omega arith
+  command_wider w commands.Bad = omega arith
+
+  pub session_wider : (w : World) (cs : List Command) → session_work wider_width more_lanes w cs ≤ session_work width lanes w cs
+  unfolding session_work
+  session_wider w [] = omega arith
+  session_wider w (command ∷ cs) = omega (arith, command_wider w command, session_wider (after w command) cs)
 
 -- ---- at most
 

@@ -17,7 +17,7 @@ ghost use Rattle.pbd_world.specs.Contacts.{AreInContact, IsBefore, contacts_of, 
 ghost use Rattle.pbd_world.specs.Momentum.{IsBalanced, momentum};
 ghost use Rattle.pbd_world.specs.Meaning.{after, reply};
 ghost use Rattle.pbd_world.specs.Session.{last_world};
-ghost use Rattle.pbd_world.specs.Work.{step_work, finding_work, links_work, contacts_work, colours_used, blocks_in, tearable_count, found_in};
+ghost use Rattle.pbd_world.specs.Work.{step_work, command_work, session_work, finding_work, links_work, contacts_work, colours_used, blocks_in, tearable_count, found_in};
 
 /// Each pair has the least colour that no earlier live pair which shares a particle with it has.
 pub fn colours_are_greedy()
@@ -125,22 +125,26 @@ pub fn valid_links_are_facts()
         → IsTrue (are_valid_links limit n links) }
 {}
 
-/// A step may cost no more at a greater width, and with more bonds side by side.
+/// Steps, commands and sessions may cost no more at a greater width, and with more bonds side by side.
 pub fn wider_steps_cost_no_more()
-    ensures { (width lanes wider more : ℕ) (w : World) (contacts : List (ℕ × ℕ)) → 0 < width → width ≤ wider
+    ensures step { (width lanes wider more : ℕ) (w : World) (contacts : List (ℕ × ℕ)) → 0 < width → width ≤ wider
         → 0 < lanes → lanes ≤ more → step_work wider more w contacts ≤ step_work width lanes w contacts }
+    ensures command { (width lanes wider more : ℕ) (w : World) (command : Command) → 0 < width → width ≤ wider
+        → 0 < lanes → lanes ≤ more → command_work wider more w command ≤ command_work width lanes w command }
+    ensures session { (width lanes wider more : ℕ) (w : World) (commands : List Command) → 0 < width → width ≤ wider
+        → 0 < lanes → lanes ≤ more → session_work wider more w commands ≤ session_work width lanes w commands }
 {}
 
-/// With twice as many bonds side by side, the links of a pass are read and written at most half as often, but for four
-/// accesses in each colour.
+/// With twice as many bonds side by side, the links of a pass may cost at most half as much, but for two accesses in each
+/// colour that they have.
 pub fn twice_the_lanes_halve_the_links()
     ensures { (lanes : ℕ) (w : World) → 0 < lanes → IsSound w
         → 2 * links_work (2 * lanes) w.links ≤ links_work lanes w.links + 4 * colours_used w.links }
 {}
 
-/// Nothing in a step grows with a square: four accesses for each block, and in each pass for each block, each piece of
-/// links, each colour of links and each contact; and one for each track, for each particle where there is a thickness, and
-/// for each end of a live link that may tear.
+/// Nothing in a step grows with a square: it may cost four accesses for each block, and in each pass for each block, each
+/// whole piece of links, each colour of links and each contact; and one for each track, for each particle where there is a
+/// thickness, and for each end of a live link that may tear.
 pub fn steps_cost_a_sum()
     ensures { (width lanes : ℕ) (w : World) (contacts : List (ℕ × ℕ)) → 0 < lanes → IsSound w
         → step_work width lanes w contacts
