@@ -52,6 +52,7 @@ impl<const L: usize> Model for Mask<L> {
 
 impl<const L: usize> Lanes<L> {
     /// One number in each lane.
+    #[inline(always)]
     pub fn splat(value: i64) -> Lanes<L>
         ensures { result ≡ lanes_of L (λ _. value) }
     {
@@ -59,6 +60,7 @@ impl<const L: usize> Lanes<L> {
     }
 
     /// The numbers of an array.
+    #[inline(always)]
     pub fn from_array(values: [i64; L]) -> Lanes<L>
         ensures { result ≡ values.entry }
     {
@@ -66,6 +68,7 @@ impl<const L: usize> Lanes<L> {
     }
 
     /// The numbers as an array.
+    #[inline(always)]
     pub fn to_array(&self) -> [i64; L]
         ensures { result ≡ self.now }
     {
@@ -73,6 +76,7 @@ impl<const L: usize> Lanes<L> {
     }
 
     /// The sums, lane by lane. Each has to fit 64 bits.
+    #[inline(always)]
     pub fn add(&self, other: &Lanes<L>) -> Lanes<L>
         requires { (j : ℕ) → j < L → FitsSigned w64 (lane self.now j +ℤ lane other.now j) }
         ensures { result ≡ lanes_of L (λ j. lane self.now j +ℤ lane other.now j) }
@@ -85,6 +89,7 @@ impl<const L: usize> Lanes<L> {
     }
 
     /// The differences, lane by lane. Each has to fit 64 bits.
+    #[inline(always)]
     pub fn sub(&self, other: &Lanes<L>) -> Lanes<L>
         requires { (j : ℕ) → j < L → FitsSigned w64 (lane self.now j -ℤ lane other.now j) }
         ensures { result ≡ lanes_of L (λ j. lane self.now j -ℤ lane other.now j) }
@@ -97,6 +102,7 @@ impl<const L: usize> Lanes<L> {
     }
 
     /// The products, lane by lane. Each has to fit 64 bits.
+    #[inline(always)]
     pub fn mul(&self, other: &Lanes<L>) -> Lanes<L>
         requires { (j : ℕ) → j < L → FitsSigned w64 (lane self.now j *ℤ lane other.now j) }
         ensures { result ≡ lanes_of L (λ j. lane self.now j *ℤ lane other.now j) }
@@ -109,6 +115,7 @@ impl<const L: usize> Lanes<L> {
     }
 
     /// Where this is less than the other.
+    #[inline(always)]
     pub fn less(&self, other: &Lanes<L>) -> Mask<L>
         ensures { result ≡ lanes_of L (λ j. int_lt (lane self.now j) (lane other.now j)) }
     {
@@ -120,6 +127,7 @@ impl<const L: usize> Lanes<L> {
     }
 
     /// The lanes of `yes` where the mask is set, and of `no` elsewhere.
+    #[inline(always)]
     pub fn select(mask: &Mask<L>, yes: &Lanes<L>, no: &Lanes<L>) -> Lanes<L>
         ensures { result ≡ lanes_of L (λ j. if is_set mask.now j then lane yes.now j else lane no.now j) }
     {
@@ -136,6 +144,7 @@ impl<const L: usize> Lanes<L> {
 
     /// The quotients, rounded with halves away from zero, where the mask is set, and 0 elsewhere.
     /// There the divisor is in 1..=2^40 and the dividend at most 2^61 in size.
+    #[inline(always)]
     pub fn rdiv_lanes(n: &Lanes<L>, d: &Lanes<L>, mask: &Mask<L>) -> Lanes<L>
         requires divisor { (j : ℕ) → j < L → IsTrue (is_set mask.now j) → pos 0 <ℤ lane d.now j }
         requires divisor_size { (j : ℕ) → j < L → IsTrue (is_set mask.now j) → unsigned_abs (lane d.now j) ≤ 2 ^ 40 }
@@ -152,6 +161,7 @@ impl<const L: usize> Lanes<L> {
     }
 
     /// The square roots, rounded down, where the mask is set, and 0 elsewhere. There the number isn't below 0.
+    #[inline(always)]
     pub fn root_lanes(n: &Lanes<L>, mask: &Mask<L>) -> Lanes<L>
         requires { (j : ℕ) → j < L → IsTrue (is_set mask.now j) → pos 0 ≤ℤ lane n.now j }
         ensures { result ≡ lanes_of L (λ j. if is_set mask.now j then pos (whole_root (unsigned_abs (lane n.now j))) else pos 0) }
@@ -168,6 +178,7 @@ impl<const L: usize> Lanes<L> {
 
 impl<const L: usize> Mask<L> {
     /// The truth values of an array.
+    #[inline(always)]
     pub fn from_array(set: [bool; L]) -> Mask<L>
         ensures { result ≡ set.entry }
     {
@@ -175,6 +186,7 @@ impl<const L: usize> Mask<L> {
     }
 
     /// The truth values as an array.
+    #[inline(always)]
     pub fn to_array(&self) -> [bool; L]
         ensures { result ≡ self.now }
     {
@@ -182,6 +194,7 @@ impl<const L: usize> Mask<L> {
     }
 
     /// Where both masks are set.
+    #[inline(always)]
     pub fn and(&self, other: &Mask<L>) -> Mask<L>
         ensures { result ≡ lanes_of L (λ j. is_set self.now j && is_set other.now j) }
     {
@@ -193,6 +206,7 @@ impl<const L: usize> Mask<L> {
     }
 
     /// The least lane that is set, and `None` where none is.
+    #[inline(always)]
     pub fn first(&self) -> Option<usize>
         ensures value { result ≡ position (λ b. b) self.now }
         ensures below { IfSome result (λ j. j < L) }

@@ -17,6 +17,7 @@ pub struct Roots<const L: usize> {
     inverse: [u64; L],
 }
 
+#[inline(always)]
 fn size_if(n: i64, set: bool) -> u64
     ensures { result ≡ (if set then unsigned_abs n else 0) }
 {
@@ -24,6 +25,7 @@ fn size_if(n: i64, set: bool) -> u64
 }
 
 // The sizes where the mask is set, and 0 elsewhere.
+#[inline(always)]
 fn sizes<const L: usize>(n: &[i64; L], set: &[bool; L]) -> [u64; L]
     ensures { (j : ℕ) → j < L → slice_index_or result j 0 ≡ (if is_set set.now j then unsigned_abs (lane n.now j) else 0) }
 {
@@ -42,6 +44,7 @@ struct Guesses<const L: usize> {
 }
 
 // Numbers near the roots, and near their inverses.
+#[inline(always)]
 fn guessed<const L: usize>(n: &[u64; L]) -> Guesses<L>
     requires lanes { L ≤ 16 }
 {
@@ -75,6 +78,7 @@ fn guessed<const L: usize>(n: &[u64; L]) -> Guesses<L>
     }
 }
 
+#[inline(always)]
 fn still(right: bool, n: u64, guess: u64) -> bool
     requires { guess < 2 ^ 32 }
     ensures right { IsTrue result → IsTrue right }
@@ -84,6 +88,7 @@ fn still(right: bool, n: u64, guess: u64) -> bool
 }
 
 // The guesses, and whether they are the roots.
+#[inline(always)]
 fn tried_roots<const L: usize>(n: &[u64; L], guesses: &[u64; L], right: &mut bool) -> [i64; L]
     ensures len { length result ≡ L }
     ensures root { IsTrue right.new → (j : ℕ) → j < L → slice_index_or result j (pos 0) ≡ pos (whole_root (slice_index_or n.now j 0)) }
@@ -99,6 +104,7 @@ fn tried_roots<const L: usize>(n: &[u64; L], guesses: &[u64; L], right: &mut boo
     values
 }
 
+#[inline(always)]
 fn roots_of<const L: usize>(
     n: &Lanes<L>,
     mask: &Mask<L>,
@@ -120,6 +126,7 @@ fn roots_of<const L: usize>(
 }
 
 // A guess with the sign of e * d, and whether it is right so far.
+#[inline(always)]
 fn tried_part(e: i64, d: i64, len: i64, near: Inverse, right: &mut bool) -> i64
     requires e { unsigned_abs e ≤ 2 ^ 31 }
     requires d { unsigned_abs d ≤ 2 ^ 30 }
@@ -137,6 +144,7 @@ fn tried_part(e: i64, d: i64, len: i64, near: Inverse, right: &mut bool) -> i64
     with_sign(e, d, guess)
 }
 
+#[inline(always)]
 fn kept_number(n: i64, set: bool, other: i64) -> i64
     ensures { result ≡ (if set then n else other) }
 {
@@ -144,6 +152,7 @@ fn kept_number(n: i64, set: bool, other: i64) -> i64
 }
 
 // The numbers where the mask is set, and another one elsewhere.
+#[inline(always)]
 fn kept<const L: usize>(n: &[i64; L], set: &[bool; L], other: i64) -> [i64; L]
     ensures { (j : ℕ) → j < L → slice_index_or result j (pos 0) ≡ (if is_set set.now j then slice_index_or n.now j (pos 0) else other) }
 {
@@ -154,6 +163,7 @@ fn kept<const L: usize>(n: &[i64; L], set: &[bool; L], other: i64) -> [i64; L]
     values
 }
 
+#[inline(always)]
 fn tried_quotients<const L: usize>(
     len: &[i64; L],
     e: &[i64; L],
@@ -182,6 +192,7 @@ fn tried_quotients<const L: usize>(
     values
 }
 
+#[inline(always)]
 fn divided_part(e: i64, d: i64, len: i64, set: bool) -> i64
     requires e { unsigned_abs e ≤ 2 ^ 31 }
     requires d { unsigned_abs d ≤ 2 ^ 30 }
@@ -192,6 +203,7 @@ fn divided_part(e: i64, d: i64, len: i64, set: bool) -> i64
     if set { rdiv(e * d, len) } else { 0 }
 }
 
+#[inline(always)]
 fn tried_parts<const L: usize>(
     len: &Lanes<L>,
     e: &Lanes<L>,
@@ -237,6 +249,7 @@ fn divided_parts<const L: usize>(
 
 impl<const L: usize> Roots<L> {
     /// The square roots, rounded down, where the mask is set, and 0 elsewhere. There the number isn't below 0.
+    #[inline(always)]
     pub fn of(n: &Lanes<L>, mask: &Mask<L>) -> Roots<L>
         requires lanes { L ≤ 16 }
         requires low { (j : ℕ) → j < L → IsTrue (is_set mask.now j) → pos 0 ≤ℤ lane n.now j }
@@ -254,6 +267,7 @@ impl<const L: usize> Roots<L> {
 
     /// The quotients of e * d by the roots, rounded with halves away from zero, where the mask is set, and 0
     /// elsewhere.
+    #[inline(always)]
     pub fn parts(&self, e: &Lanes<L>, d: &Lanes<L>, mask: &Mask<L>) -> Lanes<L>
         requires lanes { L ≤ 16 }
         requires e { (j : ℕ) → j < L → unsigned_abs (lane e.now j) ≤ 2 ^ 31 }

@@ -8,6 +8,7 @@ use crate::{Lanes, Mask};
 use pbd_num::part_of_512;
 
 // The factor f by which the share of any number s is s * f / 512, where there is one.
+#[inline(always)]
 fn factor(k: i64, w: i64, total: i64, set: bool, right: &mut bool) -> i64
     requires k { unsigned_abs k ≤ 256 }
     requires total { IsTrue set → pos 0 <ℤ total }
@@ -35,6 +36,7 @@ impl<const L: usize> Lanes<L> {
     /// The factors f by which the shares that stiffness k / 256 and weight w out of `total` give of any number s are
     /// s * f / 512, and 0 where the mask isn't set, if `right` is true after: where each such weight is half of all,
     /// all or none of it.
+    #[inline(always)]
     pub fn factors(
         k: &Lanes<L>,
         w: &Lanes<L>,
@@ -67,6 +69,7 @@ impl<const L: usize> Lanes<L> {
     }
 
     /// The parts f / 512 of the numbers, rounded.
+    #[inline(always)]
     pub fn parts_of_512(&self, f: &Lanes<L>) -> Lanes<L>
         requires lanes { L ≤ 16 }
         requires numbers { (j : ℕ) → j < L → unsigned_abs (lane self.now j) ≤ 2 ^ 31 }

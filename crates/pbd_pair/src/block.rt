@@ -19,6 +19,7 @@ use pbd_store::{Steps, Store};
 use pbd_world::{Bond, Left, Shift, Totals};
 use std::sync::ledger::Ledger;
 
+#[inline(always)]
 fn name_block<const L: usize>(bonds: &Bonds<'_>, block: &[u32]) -> BlockBonds<L>
     requires lanes { L ≤ 16 }
     requires short { length block.now ≤ L }
@@ -60,6 +61,7 @@ fn name_block<const L: usize>(bonds: &Bonds<'_>, block: &[u32]) -> BlockBonds<L>
 }
 
 // Adds the moves of a bond that moves its ends to the totals.
+#[inline(always)]
 fn book_if_moving(
     totals: &mut Totals,
     moving: bool,
@@ -79,6 +81,7 @@ fn book_if_moving(
     }
 }
 
+#[inline(always)]
 fn book_block<const L: usize>(
     totals: &mut Totals,
     bonds: &Bonds<'_>,
@@ -121,6 +124,7 @@ struct LaidBlock<const L: usize> {
 }
 
 // Lays a block of at most L bonds: two gathers, and the corrections.
+#[inline(always)]
 fn lay_bonds<const L: usize, G: Ledger>(
     store: &Store<L>,
     bonds: &Bonds<'_>,

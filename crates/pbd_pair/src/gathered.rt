@@ -24,6 +24,7 @@ pub(crate) struct BlockBonds<const L: usize> {
 }
 
 /// What the bonds of a block do with their ends as they stand. A lane without a bond does nothing.
+#[inline(always)]
 pub(crate) fn lay_block<const L: usize, G: Ledger>(
     store: &Store<L>,
     named: &BlockBonds<L>,

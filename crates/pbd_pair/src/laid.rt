@@ -36,6 +36,7 @@ pub(crate) struct BlockMoves<const L: usize> {
 
 impl<const L: usize> BlockMoves<L> {
     /// The shift in lane j.
+    #[inline(always)]
     pub(crate) fn shift(&self, j: usize) -> Shift
         requires { j < L }
         ensures { result ≡ shift_in self.now j }
@@ -57,6 +58,7 @@ struct Moves<const L: usize> {
 }
 
 /// Where a bond moves its ends: not where a contact is long enough.
+#[inline(always)]
 fn drawing<const L: usize>(len: &Lanes<L>, drawn: &BondTargets<L>) -> Mask<L>
     requires { (j : ℕ) → j < L → lane len.now j <ℤ pos (2 ^ 31) }
     ensures { (j : ℕ) → j < L → is_set result j ≡ not (is_set drawn.now.contact j && int_le (lane drawn.now.rest j) (lane len.now j)) }
@@ -67,6 +69,7 @@ fn drawing<const L: usize>(len: &Lanes<L>, drawn: &BondTargets<L>) -> Mask<L>
 }
 
 /// The moves of the ends of L bonds, whose difference is `d`, `len` long: none where that is 0 or both weights are.
+#[inline(always)]
 fn draw<const L: usize>(
     p: &Ends<L>,
     q: &Ends<L>,
@@ -94,6 +97,7 @@ fn draw<const L: usize>(
     Moves { first, second }
 }
 
+#[inline(always)]
 fn free<const L: usize>(ends: &Ends<L>) -> Mask<L>
     ensures { (j : ℕ) → j < L → is_set result j ≡ int_lt (pos 0) (end_in ends.now j).weight }
 {
@@ -101,6 +105,7 @@ fn free<const L: usize>(ends: &Ends<L>) -> Mask<L>
 }
 
 /// What L bonds do with their ends.
+#[inline(always)]
 pub(crate) fn correct_lanes<const L: usize>(
     limit: i64,
     p: &Ends<L>,

@@ -10,6 +10,7 @@ use pbd_lanes::{Lanes, Mask, Roots};
 use pbd_store::Lanes3;
 
 /// The sums.
+#[inline(always)]
 pub(crate) fn sums<const L: usize>(a: &Lanes<L>, b: &Lanes<L>) -> Lanes<L>
     requires lanes { L ≤ 16 }
     requires a { (j : ℕ) → j < L → unsigned_abs (lane a.now j) ≤ 2 ^ 61 }
@@ -19,6 +20,7 @@ pub(crate) fn sums<const L: usize>(a: &Lanes<L>, b: &Lanes<L>) -> Lanes<L>
     a.add(b)
 }
 
+#[inline(always)]
 fn differences<const L: usize>(a: &Lanes<L>, b: &Lanes<L>) -> Lanes<L>
     requires lanes { L ≤ 16 }
     requires a { (j : ℕ) → j < L → unsigned_abs (lane a.now j) ≤ 2 ^ 61 }
@@ -28,6 +30,7 @@ fn differences<const L: usize>(a: &Lanes<L>, b: &Lanes<L>) -> Lanes<L>
     a.sub(b)
 }
 
+#[inline(always)]
 fn products<const L: usize>(a: &Lanes<L>, b: &Lanes<L>) -> Lanes<L>
     requires lanes { L ≤ 16 }
     requires size { (j : ℕ) → j < L → unsigned_abs (lane a.now j) * unsigned_abs (lane b.now j) < 2 ^ 63 }
@@ -36,6 +39,7 @@ fn products<const L: usize>(a: &Lanes<L>, b: &Lanes<L>) -> Lanes<L>
     a.mul(b)
 }
 
+#[inline(always)]
 fn squares<const L: usize>(a: &Lanes<L>) -> Lanes<L>
     requires lanes { L ≤ 16 }
     requires size { (j : ℕ) → j < L → unsigned_abs (lane a.now j) ≤ 2 ^ 30 }
@@ -44,6 +48,7 @@ fn squares<const L: usize>(a: &Lanes<L>) -> Lanes<L>
     products(a, a)
 }
 
+#[inline(always)]
 fn squared_lengths<const L: usize>(d: &Lanes3<L>) -> Lanes<L>
     requires lanes { L ≤ 16 }
     requires size { (j : ℕ) → j < L → Within (2 ^ 30) (place_in d.now j) }
@@ -57,6 +62,7 @@ fn squared_lengths<const L: usize>(d: &Lanes3<L>) -> Lanes<L>
 }
 
 /// The lengths, rounded down.
+#[inline(always)]
 pub(crate) fn lengths<const L: usize>(d: &Lanes3<L>) -> Roots<L>
     requires lanes { L ≤ 16 }
     requires size { (j : ℕ) → j < L → Within (2 ^ 30) (place_in d.now j) }
@@ -68,6 +74,7 @@ pub(crate) fn lengths<const L: usize>(d: &Lanes3<L>) -> Roots<L>
 }
 
 /// The ways from b to a.
+#[inline(always)]
 pub(crate) fn gaps<const L: usize>(a: &Lanes3<L>, b: &Lanes3<L>) -> Lanes3<L>
     requires lanes { L ≤ 16 }
     requires a { (j : ℕ) → j < L → Within (2 ^ 29) (place_in a.now j) }
@@ -80,6 +87,7 @@ pub(crate) fn gaps<const L: usize>(a: &Lanes3<L>, b: &Lanes3<L>) -> Lanes3<L>
     Lanes3 { x, y, z }
 }
 
+#[inline(always)]
 fn parts_of_axis<const L: usize>(
     e: &Lanes<L>,
     d: &Lanes<L>,
@@ -99,6 +107,7 @@ fn parts_of_axis<const L: usize>(
 }
 
 /// How far each way is from its rest length, on each axis, where the mask is set, and 0 elsewhere.
+#[inline(always)]
 pub(crate) fn errors<const L: usize>(
     d: &Lanes3<L>,
     len: &Roots<L>,
@@ -121,6 +130,7 @@ pub(crate) fn errors<const L: usize>(
     Lanes3 { x, y, z }
 }
 
+#[inline(always)]
 fn shares_of_axis<const L: usize>(
     s: &Lanes<L>,
     k: &Lanes<L>,
@@ -169,6 +179,7 @@ fn divided_shares<const L: usize>(
 }
 
 /// The parts f / 512 of each place, rounded.
+#[inline(always)]
 fn parts_of_512<const L: usize>(s: &Lanes3<L>, f: &Lanes<L>) -> Lanes3<L>
     requires lanes { L ≤ 16 }
     requires s { (j : ℕ) → j < L → Within (2 ^ 31) (place_in s.now j) }
@@ -183,6 +194,7 @@ fn parts_of_512<const L: usize>(s: &Lanes3<L>, f: &Lanes<L>) -> Lanes3<L>
 
 /// The share of each correction that stiffness k / 256 and weight w out of `total` give, where the mask is set, and 0
 /// elsewhere. Where no weight is other than half of its total, all or none of it, no lane divides.
+#[inline(always)]
 pub(crate) fn shares<const L: usize>(
     s: &Lanes3<L>,
     k: &Lanes<L>,
@@ -209,6 +221,7 @@ pub(crate) fn shares<const L: usize>(
 }
 
 /// The other way.
+#[inline(always)]
 pub(crate) fn turned<const L: usize>(v: &Lanes3<L>) -> Lanes3<L>
     requires lanes { L ≤ 16 }
     requires size { (j : ℕ) → j < L → Within (2 ^ 31) (place_in v.now j) }
@@ -222,6 +235,7 @@ pub(crate) fn turned<const L: usize>(v: &Lanes3<L>) -> Lanes3<L>
 }
 
 /// The places to which the moves lead.
+#[inline(always)]
 pub(crate) fn moved<const L: usize>(p: &Lanes3<L>, by: &Lanes3<L>) -> Lanes3<L>
     requires lanes { L ≤ 16 }
     requires p { (j : ℕ) → j < L → Within (2 ^ 29) (place_in p.now j) }
@@ -235,6 +249,7 @@ pub(crate) fn moved<const L: usize>(p: &Lanes3<L>, by: &Lanes3<L>) -> Lanes3<L>
 }
 
 // The greatest number below -limit..=limit, and the least above.
+#[inline(always)]
 fn around(limit: i64) -> (i64, i64)
     requires { IsBound limit }
     ensures under { result.0 ≡ neg_ℤ limit -ℤ pos 1 }
@@ -243,6 +258,7 @@ fn around(limit: i64) -> (i64, i64)
     (-limit - 1, limit + 1)
 }
 
+#[inline(always)]
 fn axis_stays<const L: usize>(limit: i64, n: &Lanes<L>) -> Mask<L>
     requires { IsBound limit }
     ensures { (j : ℕ) → j < L → is_set result j ≡ is_axis_within limit (lane n.now j) }
@@ -254,6 +270,7 @@ fn axis_stays<const L: usize>(limit: i64, n: &Lanes<L>) -> Mask<L>
 }
 
 /// Where a place is within the limit.
+#[inline(always)]
 pub(crate) fn stays<const L: usize>(limit: i64, v: &Lanes3<L>) -> Mask<L>
     requires { IsBound limit }
     ensures { (j : ℕ) → j < L → is_set result j ≡ is_within limit (place_in v.now j) }
@@ -265,6 +282,7 @@ pub(crate) fn stays<const L: usize>(limit: i64, v: &Lanes3<L>) -> Mask<L>
 }
 
 /// Where the mask is not set.
+#[inline(always)]
 pub(crate) fn others<const L: usize>(mask: &Mask<L>) -> Mask<L>
     requires { L ≤ 16 }
     ensures { (j : ℕ) → j < L → is_set result j ≡ not (is_set mask.now j) }
@@ -275,6 +293,7 @@ pub(crate) fn others<const L: usize>(mask: &Mask<L>) -> Mask<L>
 }
 
 /// Where a number is above 0.
+#[inline(always)]
 pub(crate) fn above_zero<const L: usize>(n: &Lanes<L>) -> Mask<L>
     ensures { (j : ℕ) → j < L → is_set result j ≡ int_lt (pos 0) (lane n.now j) }
 {

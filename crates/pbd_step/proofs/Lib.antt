@@ -12,7 +12,7 @@ pub mod Predicting
 pub mod Advancing
 pub mod Leading
 pub mod InOrder
-pub mod Counting
 pub mod Settling
 pub mod Keeping
 pub mod Staying
+pub mod Costing

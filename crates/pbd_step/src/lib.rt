@@ -11,8 +11,11 @@ mod open;
 mod pass;
 mod predict;
 mod rub_and_tear;
+mod saved;
 mod solver;
 mod state;
 mod step;
+mod views;
 
+pub use saved::Saved;
 pub use solver::Solver;

@@ -13,7 +13,7 @@ use Rattle.std.proofs.lemmas.List.{length-map}
 -- ---- sums over a range
 
 -- f a, and f of the next number, and so on, of n numbers
-abbrev total : (ℕ → ℕ) → ℕ → ℕ → ℕ
+abbrev pub total : (ℕ → ℕ) → ℕ → ℕ → ℕ
 total f a zero = 0
 total f a (suc n) = f a + total f (a + 1) n
 
@@ -35,7 +35,7 @@ total_one f k a (suc n) h l u = elim (cases_eq a k) [
   | inr d ↦ omega (arith, h a d, total_one f k (a + 1) n h (omega (arith, l, d)) (omega (arith, u)))
 ]
 
-flat_total : (f : ℕ → List ℕ) (a n : ℕ) → length (flat_map f (range_with_len a n)) ≡ total (λ c. length (f c)) a n
+pub flat_total : (f : ℕ → List ℕ) (a n : ℕ) → length (flat_map f (range_with_len a n)) ≡ total (λ c. length (f c)) a n
 flat_total f a zero = refl
 flat_total f a (suc n) = omega (arith, length-append (f a) (flat_map f (range_with_len (a + 1) n)), flat_total f (a + 1) n)
 
