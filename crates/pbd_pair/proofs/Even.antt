@@ -1,9 +1,9 @@
 -- Ends of even weights: one is held, or both move oppositely.
-use Rattle.std.proofs.Common.{◌≡◌, ℕ, zero, suc, ◌+◌, ◌<◌, ◌≤◌, ◌⊎◌, ℤ, pos, negsuc, neg_ℤ, ◌+ℤ◌, ◌*ℤ◌, ◌≤ℤ◌, ◌<ℤ◌, int_lt, int_le, Bool, true, false, not, ◌&&◌, cond, inl, inr, refl, ap, sym, ◌∙◌, arith, unsigned_abs}
+use Rattle.std.proofs.Common.{◌≡◌, ℕ, ◌+◌, ◌<◌, ℤ, pos, ◌≤ℤ◌, ◌<ℤ◌, int_lt, int_le, Bool, true, false, not, ◌&&◌, refl, ap, sym, ◌∙◌, arith, unsigned_abs}
 use Rattle.std.proofs.lemmas.Int.{ints}
 use Rattle.pbd_num.specs.declared.Vec3.{Vec3}
 use Rattle.pbd_num.specs.Vectors.{opposite, zero_vector}
-use Rattle.pbd_num.specs.PairMove.{share_of, shares}
+use Rattle.pbd_num.specs.PairMove.{shares}
 use Rattle.pbd_num.proofs.Signs.{share_none}
 use Rattle.pbd_num.proofs.Sizes.{positive_above}
 use Rattle.pbd_world.specs.declared.bond.Shift.{Shift}

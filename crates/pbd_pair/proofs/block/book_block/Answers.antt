@@ -1,4 +1,4 @@
-use Rattle.std.proofs.Common.{ℕ, ◌+◌, ◌*◌, ◌<◌, ◌^◌, ◌≡◌, arith, ap, sym, ◌∙◌, subst, not, length, get_or}
+use Rattle.std.proofs.Common.{ℕ, ◌<◌, ◌≡◌, arith, ap, sym, ◌∙◌, length, get_or}
 use Rattle.pbd_num.specs.declared.Vec3.{Vec3}
 use Rattle.pbd_world.specs.declared.totals.Class.TheVariants as classes
 use Rattle.pbd_world.specs.Ledger.{ledger_of, added}
@@ -6,7 +6,7 @@ use Rattle.pbd_world.specs.Bonds.{class_of}
 use Rattle.pbd_world.proofs.Rooms.{room_at}
 use Rattle.pbd_lanes.specs.Lane.{is_set}
 use Rattle.pbd_pair.specs.Bonds.{bond_of}
-use Rattle.pbd_pair.specs.Lanes.{shift_in, moved_in}
+use Rattle.pbd_pair.specs.Lanes.{shift_in}
 use Rattle.pbd_pair.proofs.Pinning.{pinned_all, moved_is, moved_below}
 use Rattle.pbd_pair.proofs.block.book_block.Goals as goal
 

@@ -1,14 +1,13 @@
-use Rattle.std.proofs.Common.{◌≡◌, ◌&&◌, ◌∙◌, ◌+◌, true, refl, ap, sym, arith, w64, FitsSigned, unsigned_abs, pos, not}
-use Rattle.std.proofs.lemmas.Int.{to_z-of_z, ints}
+use Rattle.std.proofs.Common.{◌≡◌, ◌&&◌, true, sym, arith, w64, FitsSigned}
+use Rattle.std.proofs.lemmas.Int.{to_z-of_z}
 use Rattle.std.proofs.lemmas.Bool.{and_parts}
 use Rattle.pbd_num.specs.declared.Vec3.{Vec3}
 use Rattle.pbd_num.specs.Vectors.{is_within}
 use Rattle.pbd_num.proofs.Sizes.{size_at_most}
-use Rattle.pbd_world.specs.declared.bond.Shift.{Shift}
 use Rattle.pbd_lanes.specs.Lane.{lane, is_set}
 use Rattle.pbd_pair.specs.Lanes.{place_in, end_in, bond_in, shift_in}
 use Rattle.pbd_pair.proofs.Steps.{shift-by_steps}
-use Rattle.pbd_pair.proofs.Even.{even_total, drawing, opposed_by_weights}
+use Rattle.pbd_pair.proofs.Even.{drawing, opposed_by_weights}
 use Rattle.pbd_pair.proofs.Drawing.{lays_by_steps, slack_lane, sound_by_steps, end_fits, drawn_fits, gap_short}
 use Rattle.pbd_pair.proofs.SideMoves.{pair_in_lane, errors_within}
 use Rattle.pbd_pair.proofs.laid.correct_lanes.Goals as goal

@@ -1,4 +1,4 @@
-use Rattle.std.proofs.Common.{◌≡◌, ◌∙◌, ◌<◌, ap, sym, subst, arith, below_more, w64, FitsSigned, List, Bool, pos}
+use Rattle.std.proofs.Common.{◌≡◌, ◌∙◌, ap, sym, subst, arith, below_more, w64, FitsSigned, List, Bool}
 use Rattle.std.proofs.lemmas.Int.{to_z-of_z}
 use Rattle.std.proofs.lemmas.List.{length-replicate}
 use Rattle.pbd_world.specs.declared.bond.End.{End}
@@ -7,7 +7,7 @@ use Rattle.pbd_world.specs.declared.bond.Correction.{Correction}
 use Rattle.pbd_world.specs.Bonds.{correction_of}
 use Rattle.pbd_lanes.specs.Lane.{is_set}
 use Rattle.pbd_pair.specs.Bonds.{IsEnd, IsDrawn, IsSound}
-use Rattle.pbd_pair.specs.Lanes.{end_in, bond_in, shift_in}
+use Rattle.pbd_pair.specs.Lanes.{end_in, bond_in}
 use Rattle.pbd_pair.proofs.EachLane.{same_lane, laid_more, moved_is_sound}
 use Rattle.pbd_pair.proofs.laid.corrected_each.Goals as goal
 

@@ -1,12 +1,5 @@
-use Rattle.std.proofs.Common.{◌∙◌, ◌+◌, arith, ap, sym, pos, ℕ, List, Bool, true, false, unsigned_abs}
-use Rattle.std.proofs.lemmas.List.{get_or-replicate}
-use Rattle.pbd_num.specs.declared.Vec3.{Vec3}
-use Rattle.pbd_num.specs.Vectors.{opposite}
-use Rattle.pbd_num.specs.PairMove.{shares as shares_of}
-use Rattle.pbd_lanes.specs.Lane.{lane, is_set}
-use Rattle.pbd_pair.specs.Lanes.{place_in}
+use Rattle.std.proofs.Common.{arith}
 use Rattle.pbd_pair.proofs.Even.{even_turned}
-use Rattle.pbd_pair.proofs.Drawing.{turned_short}
 use Rattle.pbd_pair.proofs.laid.move_all.Goals as goal
 
 pub shares-first-requires : goal.shares-first-requires

@@ -1,4 +1,4 @@
-use Rattle.std.proofs.Common.{w64, FitsSigned, arith, refl}
+use Rattle.std.proofs.Common.{w64, FitsSigned, refl}
 use Rattle.std.proofs.lemmas.Int.{to_z-of_z}
 use Rattle.std.proofs.lemmas.Bool.{and_parts}
 use Rattle.pbd_pair.proofs.wide.all_within.Goals as goal

@@ -1,4 +1,4 @@
-use Rattle.std.proofs.Common.{◌∙◌, ◌+◌, ◌<◌, ◌^◌, arith, subst, sym, unsigned_abs, pos}
+use Rattle.std.proofs.Common.{◌∙◌, ◌+◌, ◌^◌, arith, subst, sym, unsigned_abs}
 use Rattle.pbd_num.specs.declared.Vec3.{Vec3}
 use Rattle.pbd_num.specs.Vectors.{Within}
 use Rattle.pbd_lanes.specs.Lane.{lane}

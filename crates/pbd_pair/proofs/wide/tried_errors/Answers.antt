@@ -1,6 +1,5 @@
-use Rattle.std.proofs.Common.{◌∙◌, arith, pos, ap, ℤ, ◌≡◌, Bool, ◌&&◌, true}
+use Rattle.std.proofs.Common.{◌∙◌, arith, ℤ}
 use Rattle.std.proofs.lemmas.Bool.{and_parts}
-use Rattle.pbd_num.specs.PairMove.{corrections}
 use Rattle.pbd_lanes.specs.Lane.{lane}
 use Rattle.pbd_pair.specs.Lanes.{place_in}
 use Rattle.pbd_pair.proofs.LaneSteps.{length_short, rest_size, error_fits, error_part}
