@@ -1,4 +1,4 @@
--- The cells round a cell, with coordinates from 1 on so that none is below 0.
+-- The cells round a place: two on each axis.
 use Rattle.std.proofs.Common.{◌≡◌, ℕ, zero, ◌+◌, ◌*◌, ◌≤◌, ◌&&◌, Bool, true, false, cond, eqb, List, [], ◌∷◌, ◌++◌, refl, ◌∙◌, arith}
 use Rattle.std.proofs.lemmas.Bool.Decides.{nat_tests}
 use Rattle.std.specs.List.{flat_map}
@@ -12,11 +12,11 @@ pub passing-append : {X : Type 0} (p : X → Bool) (xs ys : List X) → passing 
 passing-append p [] ys = omega arith
 passing-append p (x ∷ xs) ys = omega (arith, passing-append p xs ys)
 
--- one below, the number itself and one above, each plus 1
+-- a number and the next
 abbrev pub axis : ℕ → List ℕ
-axis a = (a + 0) ∷ (a + 1) ∷ (a + 2) ∷ []
+axis a = (a + 0) ∷ (a + 1) ∷ []
 
-pub passing-axis : (a b : ℕ) → a ≤ b + 1 → b ≤ a + 1 → passing (λ d. eqb d (b + 1)) (axis a) ≡ 1
+pub passing-axis : (a b : ℕ) → a ≤ b → b ≤ a + 1 → passing (λ d. eqb d b) (axis a) ≡ 1
 passing-axis a b h k = grind (arith, nat_tests)
 
 abbrev pub map_pair : {X Y : Type 0} → X → List Y → List (X × Y)
@@ -49,13 +49,13 @@ passing-product {X = X} {Y = Y} p q (x ∷ xs) ys = passing-append (λ z. p z.0 
     go true r s = omega (arith, r, s)
     go false r s = omega (arith, r, s)
 
--- the 27 cells
+-- the eight cells
 abbrev pub around : ℕ → ℕ → ℕ → List ((ℕ × ℕ) × ℕ)
 around a b c = flat_map (λ w. map_pair w (axis c)) (flat_map (λ x. map_pair x (axis b)) (axis a))
 
--- exactly one of the 27 is a cell that is at most one apart on each axis
-pub passing-around : (a b c a' b' c' : ℕ) → a ≤ a' + 1 → a' ≤ a + 1 → b ≤ b' + 1 → b' ≤ b + 1 → c ≤ c' + 1 → c' ≤ c + 1
-    → passing (λ (z : (ℕ × ℕ) × ℕ). eqb z.0.0 (a' + 1) && eqb z.0.1 (b' + 1) && eqb z.1 (c' + 1)) (around a b c) ≡ 1
+-- exactly one of the eight is a cell that is the corner or the next on each axis
+pub passing-around : (a b c a' b' c' : ℕ) → a ≤ a' → a' ≤ a + 1 → b ≤ b' → b' ≤ b + 1 → c ≤ c' → c' ≤ c + 1
+    → passing (λ (z : (ℕ × ℕ) × ℕ). eqb z.0.0 a' && eqb z.0.1 b' && eqb z.1 c') (around a b c) ≡ 1
 passing-around a b c a' b' c' h h' k k' l l' =
-    passing-product (λ (w : ℕ × ℕ). eqb w.0 (a' + 1) && eqb w.1 (b' + 1)) (λ e. eqb e (c' + 1)) (flat_map (λ x. map_pair x (axis b)) (axis a)) (axis c)
-    ∙ rw (passing-product (λ d. eqb d (a' + 1)) (λ e. eqb e (b' + 1)) (axis a) (axis b), passing-axis a a' h h', passing-axis b b' k k', passing-axis c c' l l') refl
+    passing-product (λ (w : ℕ × ℕ). eqb w.0 a' && eqb w.1 b') (λ e. eqb e c') (flat_map (λ x. map_pair x (axis b)) (axis a)) (axis c)
+    ∙ rw (passing-product (λ d. eqb d a') (λ e. eqb e b') (axis a) (axis b), passing-axis a a' h h', passing-axis b b' k k', passing-axis c c' l l') refl

@@ -1,15 +1,17 @@
 -- Lists of near pairs by cells.
-use Rattle.std.proofs.Common.{◌≡◌, ◌≢◌, ℕ, zero, suc, ◌+◌, ◌*◌, ◌<◌, ◌≤◌, ◌&&◌, Bool, true, false, not, cond, eqb, ltb, pos, ◌-ℤ◌, unsigned_abs, List, [], ◌∷◌, length, map, set, refl, sym, ap, ◌∙◌, arith, inl, inr, ◌⊎◌}
+use Rattle.std.proofs.Common.{◌≡◌, ◌≢◌, ℕ, zero, suc, ◌+◌, ◌*◌, ◌<◌, ◌≤◌, ◌&&◌, Bool, true, false, not, cond, eqb, ltb, pos, ◌-ℤ◌, unsigned_abs, List, [], ◌∷◌, ◌++◌, length, map, take, set, refl, sym, ap, ◌∙◌, subst, arith, inl, inr, ◌⊎◌}
 use Rattle.std.proofs.lemmas.Bool.{cases_eq, eq-eqb, ne_eqb}
 use Rattle.std.proofs.lemmas.Bool.Decides.{nat_tests}
-use Rattle.std.proofs.lemmas.List.{get_or-set_same, get_or-set_other, length-set}
+use Rattle.std.proofs.lemmas.List.{get_or-set_same, get_or-set_other, length-set, map_more, length-map, length-take-le, take_all}
 use Rattle.std.specs.List.{filter}
 use Rattle.pbd_chain.specs.Linked.{Linked, is_in, is_linked, chain_at}
 use Rattle.pbd_chain.proofs.Walks.{not_linked}
 use Rattle.pbd_num.specs.declared.Vec3.{Vec3}
-use Rattle.pbd_num.specs.Vectors.{minus, squared_length}
-use Rattle.pbd_grid.specs.Near.{is_near}
-use Rattle.pbd_grid.specs.Blocks.{count, cell_at, slot_of}
+use Rattle.pbd_num.specs.Vectors.{zero_vector, minus, squared_length}
+use Rattle.pbd_grid.specs.Near.{AllInside, is_near}
+use Rattle.pbd_world.specs.Room.{Roomed}
+use Rattle.pbd_grid.specs.declared.lookup.Cell.{Cell}
+use Rattle.pbd_grid.specs.Blocks.{AreLaid, IsFalling, count, cube_of, cube_at, cell_at, slot_of}
 use Rattle.pbd_grid.proofs.Cells.{count-filter, root_below}
 
 -- ---- the filling of the chains
@@ -32,6 +34,17 @@ pub record AreLinked (side : ℕ) (places : List Vec3) (n : ℕ) (old now : Link
   pub count_of : length now.chains ≡ n
   pub once : (q : ℕ) → q < i → count q (chain_at now.chains (slot_of n (cell_at side places q))) ≡ 1
   pub none : (q c : ℕ) → i ≤ q → count q (chain_at now.chains c) ≡ 0
+  pub falling : (c : ℕ) → IsFalling i (chain_at now.chains c)
+
+falling_more : (i : ℕ) (xs : List ℕ) → IsFalling i xs → IsFalling (i + 1) xs
+falling_more i [] h = tt
+falling_more i (x ∷ xs) h = (omega (arith, h.0), h.1)
+
+falling_linked : (i : ℕ) (xss : List (List ℕ)) (c : ℕ) → c < length xss → ((p : ℕ) → IsFalling i (chain_at xss p)) → (p : ℕ) → IsFalling (i + 1) (chain_at (set xss c (i ∷ chain_at xss c)) p)
+falling_linked i xss c l h p = elim (cases_eq c p) [
+  | inl e ↦ subst (IsFalling (i + 1)) (sym (ap (chain_at (set xss c (i ∷ chain_at xss c))) (sym e) ∙ get_or-set_same xss c (i ∷ chain_at xss c) [] l)) (omega arith, h c)
+  | inr ne ↦ subst (IsFalling (i + 1)) (sym (get_or-set_other xss c p (i ∷ chain_at xss c) [] (λ e. ne (sym e)))) (falling_more i (chain_at xss p) (h p))
+]
 
 abbrev empty_list : List ℕ
 empty_list = []
@@ -41,12 +54,17 @@ empty_count [] q c = refl
 empty_count (xs ∷ xss) q zero = refl
 empty_count (xs ∷ xss) q (suc c) = empty_count xss q c
 
+empty_falling : (xss : List (List ℕ)) (i c : ℕ) → IsFalling i (chain_at (map (λ _. []) xss) c)
+empty_falling [] i c = tt
+empty_falling (xs ∷ xss) i zero = tt
+empty_falling (xs ∷ xss) i (suc c) = empty_falling xss i c
+
 length-emptied : (xss : List (List ℕ)) → length (map (λ (xs : List ℕ). empty_list) xss) ≡ length xss
 length-emptied [] = refl
 length-emptied (xs ∷ xss) = ap suc (length-emptied xss)
 
 pub AreLinked-none : (side : ℕ) (places : List Vec3) (n : ℕ) (old now : Linked) → length old.chains ≡ n → now ≡ record old { chains = map (λ _. []) old.chains } → AreLinked side places n old now 0
-AreLinked-none side places n old now size e = rw e (record { items = refl; count_of = length-emptied old.chains ∙ size; once = λ q l. absurd (omega arith); none = λ q c l. empty_count old.chains q c })
+AreLinked-none side places n old now size e = rw e (record { items = refl; count_of = length-emptied old.chains ∙ size; once = λ q l. absurd (omega arith); none = λ q c l. empty_count old.chains q c; falling = empty_falling old.chains 0 })
 
 module _ {side : ℕ} {places : List Vec3} {n : ℕ} {old now : Linked} (i : ℕ) (h : AreLinked side places n old now i) where
   pub next_free : is_linked now.chains i ≡ false
@@ -64,11 +82,42 @@ module _ {side : ℕ} {places : List Vec3} {n : ℕ} {old now : Linked} (i : ℕ
           | inr ne ↦ more q (slot_of n (cell_at side places q)) ∙ rw (ne_eqb i q ne) (skip (eqb c (slot_of n (cell_at side places q))) (count q (chain_at now.chains (slot_of n (cell_at side places q)))) ∙ h.once q (omega arith))
         ];
         none = λ q p l. more q p ∙ rw (ne_eqb i q (λ s. absurd (omega arith))) (skip (eqb c p) (count q (chain_at now.chains p)) ∙ h.none q p (omega arith));
+        falling = λ p. subst (λ (l : Linked). IsFalling (i + 1) (chain_at l.chains p)) (sym e) (falling_linked i now.chains c (omega (arith, h.count_of, lc)) h.falling p);
       }
     where
       skip : (b : Bool) (m : ℕ) → cond (b && false) 1 0 + m ≡ m
       skip true m = omega arith
       skip false m = omega arith
+
+-- ---- the cubes
+-- the cubes of the first i places
+abbrev pub HasCubes : ℕ → List Vec3 → ℕ → Roomed Cell → Roomed Cell → Type 0
+HasCubes side places i start now = now ≡ record start { entries = map (cube_of side) (take i places) }
+
+module _ (side : ℕ) (places : List Vec3) (start now : Roomed Cell) where
+  pub HasCubes-more : (i : ℕ) (new : Roomed Cell) (c : Cell) → i < length places → length places ≤ start.room → HasCubes side places i start now → c ≡ cube_at side places i
+      → (length now.entries < now.room → new ≡ record now { entries = now.entries ++ c ∷ [] }) → HasCubes side places (i + 1) start new
+  HasCubes-more i new c lt room is value push =
+      let size : length now.entries ≡ i = ap (λ (r : Roomed Cell). length r.entries) is ∙ length-map (take i places) (cube_of side) ∙ length-take-le i places (omega (arith, lt)) in
+      let kept : now.room ≡ start.room = ap (λ (r : Roomed Cell). r.room) is in
+      push (omega (arith, size, kept, lt, room))
+      ∙ ap (λ (r : Roomed Cell). record r { entries = r.entries ++ c ∷ [] }) is
+      ∙ ap (λ (ys : List Cell). record start { entries = ys }) (ap (λ d. map (cube_of side) (take i places) ++ d ∷ []) value ∙ sym (map_more (cube_of side) places i zero_vector lt))
+
+-- all are in their chains
+pub are_laid : (side : ℕ) (places : List Vec3) (n : ℕ) (old now : Linked) (start cubes : Roomed Cell) (i : ℕ) → 0 < side → side ≤ 1048576 → length places ≤ 65536 → AllInside places → 0 < n
+    → AreLinked side places n old now i → HasCubes side places i start cubes → i ≡ length places → AreLaid now.chains n cubes.entries places side
+are_laid side places n old now start cubes i low high few inside some h is e = record {
+  low = low;
+  high = high;
+  few = few;
+  inside = inside;
+  cubes_are = ap (λ (r : Roomed Cell). r.entries) is ∙ ap (map (cube_of side)) (take_all i places (omega (arith, e)));
+  some = some;
+  counted = h.count_of;
+  once = λ q l. ap (λ (m : ℕ). count q (chain_at now.chains (slot_of m (cell_at side places q)))) h.count_of ∙ h.once q (omega (arith, l, e));
+  falling = λ c. subst (λ (m : ℕ). IsFalling m (chain_at now.chains c)) e (h.falling c);
+}
 
 -- ---- near particles are in cells next to each other
 part_lt : (d t a b : ℕ) → d * d + a + b < t * t → d < t

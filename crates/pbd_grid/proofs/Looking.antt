@@ -1,5 +1,7 @@
 -- What a look-up of cells needs of numbers.
-use Rattle.std.proofs.Common.{◌≡◌, ◌∙◌, sym, ap, ℕ, suc, ◌+◌, ◌-◌, ◌*◌, ◌/◌, ◌<◌, ◌≤◌, ◌^◌, ◌&&◌, ltb, Bool, true, false, ℤ, pos, negsuc, ◌+ℤ◌, ◌-ℤ◌, ◌*ℤ◌, unsigned_abs, List, arith}
+use Rattle.std.proofs.Common.{◌≡◌, ◌∙◌, sym, ap, ℕ, suc, ◌+◌, ◌-◌, ◌*◌, ◌/◌, ◌<◌, ◌≤◌, ◌^◌, ◌&&◌, ltb, Bool, true, false, ℤ, pos, negsuc, ◌+ℤ◌, ◌-ℤ◌, ◌*ℤ◌, unsigned_abs, List, length, map, get_or, refl, arith}
+use Rattle.std.proofs.lemmas.List.{get_or-map}
+use Rattle.pbd_num.specs.Vectors.{zero_vector}
 use Rattle.std.specs.Prelude.{int_lt}
 use Rattle.std.proofs.lemmas.Bool.{false≢true}
 use Rattle.std.proofs.lemmas.Bool.Decides.{nat_tests}
@@ -8,7 +10,8 @@ use Rattle.std.proofs.lemmas.Nat.{div_below, div-mul-add}
 use Rattle.std.proofs.Math.Nat.{add-mul-div_right, div-mul-le_self, lt-div-mul-add}
 use Rattle.pbd_num.specs.declared.Vec3.{Vec3}
 use Rattle.pbd_grid.specs.declared.lookup.Cell.{Cell}
-use Rattle.pbd_grid.specs.Blocks.{axis_cell, cell_at, same_cell, keep}
+use Rattle.pbd_grid.specs.Near.{AllInside, place_at, is_near}
+use Rattle.pbd_grid.specs.Blocks.{Below, axis_cell, cube_of, cube_at, cell_at, same_cell, keep}
 use Rattle.pbd_grid.proofs.Cells.{cells_near}
 
 shifted_above : (side n : ℕ) → unsigned_abs (pos n +ℤ pos 536870912 *ℤ pos side) ≡ n + 536870912 * side
@@ -71,9 +74,37 @@ pub axis_near : (side : ℕ) (x y : ℤ) → unsigned_abs x ≤ 536870912 → un
 unfolding axis_cell
 axis_near side x y h k low l = cells_near side (unsigned_abs (x +ℤ pos 536870912 *ℤ pos side)) (unsigned_abs (y +ℤ pos 536870912 *ℤ pos side)) low (shifted_near side x y h k low l)
 
+-- in cubes at most one apart, the one is in the least cell round the other or in the next
+pub home_from : (a b : ℕ) → a ≤ b + 1 → a / 2 ≤ (b + 1) / 2
+home_from a b h = omega (arith, h)
+
+pub home_to : (a b : ℕ) → b ≤ a + 1 → (b + 1) / 2 ≤ a / 2 + 1
+home_to a b h = omega (arith, h)
+
 pub gap_turn : (x y : ℤ) → unsigned_abs (x -ℤ y) ≡ unsigned_abs (y -ℤ x)
 gap_turn x y = search (arith, ints)
+
+-- a place's cube by its column
+pub cube_read : (side : ℕ) (places : List Vec3) (cubes : List Cell) (i : ℕ) (c : Cell) → cubes ≡ map (cube_of side) places → i < length places → get_or cubes i c ≡ cube_at side places i
+cube_read side places cubes i c is l = ap (λ (cs : List Cell). get_or cs i c) is ∙ get_or-map (cube_of side) places i zero_vector c l
+
+pub cube_below : (side : ℕ) (places : List Vec3) → AllInside places → 0 < side → (i : ℕ) → i < length places → Below 1073741825 (cube_at side places i)
+cube_below side places inside low i l = let h = inside i l in record {
+  x = axis_small side (place_at places i).x (omega (arith, h.x)) low;
+  y = axis_small side (place_at places i).y (omega (arith, h.y)) low;
+  z = axis_small side (place_at places i).z (omega (arith, h.z)) low;
+}
 
 -- the test of a look-up
 abbrev pub finds : List Vec3 → ℕ → (ℕ → ℕ → Bool) → ℕ → Cell → ℕ → Bool
 finds places t test i c j = same_cell c (cell_at t places j) && keep places t test i j
+
+-- nothing up to i is found with it
+pub finds_behind : (places : List Vec3) (t : ℕ) (test : ℕ → ℕ → Bool) (i : ℕ) (c : Cell) (j : ℕ) → j ≤ i → finds places t test i c j ≡ false
+finds_behind places t test i c j le = let no : ltb i j ≡ false = grind (arith, nat_tests) in
+    rw no (none (same_cell c (cell_at t places j)) (ltb j (length places)) (is_near (pos t) (place_at places i) (place_at places j)) (test i j))
+  where
+    none : (a b d e : Bool) → (a && (((b && false) && d) && e)) ≡ false
+    none true true d e = refl
+    none true false d e = refl
+    none false b d e = refl

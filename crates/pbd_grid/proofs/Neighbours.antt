@@ -10,11 +10,11 @@ use Rattle.pbd_chain.specs.Linked.{chain_at}
 use Rattle.pbd_num.specs.declared.Vec3.{Vec3}
 use Rattle.pbd_grid.specs.declared.lookup.Cell.{Cell}
 use Rattle.pbd_grid.specs.Near.{place_at, AllInside, is_near, near_pairs}
-use Rattle.pbd_grid.specs.Blocks.{count, axis_cell, corner_of, cell_at, same_cell, slot_of, keep, kept_row, all_picked, block_part, AreOnce}
+use Rattle.pbd_grid.specs.Blocks.{count, axis_cell, cube_of, cube_at, home_of, corner_of, cell_at, same_cell, slot_of, keep, kept_row, all_picked, block_part, AreOnce}
 use Rattle.pbd_grid.proofs.Cells.{tally, count-kept, row_is}
 use Rattle.pbd_grid.proofs.Around.{passing, around, passing-around}
 use Rattle.pbd_grid.proofs.Finding.{keeps, rows, part, rows_more, found_le, IsFoundRows}
-use Rattle.pbd_grid.proofs.Looking.{axis_near, gap_turn}
+use Rattle.pbd_grid.proofs.Looking.{axis_near, home_from, home_to, gap_turn}
 use Rattle.pbd_grid.proofs.Behind.{near_x, near_y, near_z, few_numbers, lt_of}
 
 cell_parts : (c d : Cell) → c.x ≡ d.x → c.y ≡ d.y → c.z ≡ d.z → c ≡ d
@@ -23,15 +23,15 @@ cell_parts c d e f g = let whole : ℕ → ℕ → ℕ → Cell = λ x y z. reco
 
 cell_same : (c d : Cell) → same_cell c d ≡ true → c ≡ d
 cell_same c d h =
-    let u = and_parts (eqb c.x d.x && eqb c.y d.y) (eqb c.z d.z) h in let v = and_parts (eqb c.x d.x) (eqb c.y d.y) u.0 in
-    cell_parts c d (eqb-true c.x d.x v.0) (eqb-true c.y d.y v.1) (eqb-true c.z d.z u.1)
+    let u = and_parts (eqb c.z d.z && eqb c.y d.y) (eqb c.x d.x) h in let v = and_parts (eqb c.z d.z) (eqb c.y d.y) u.0 in
+    cell_parts c d (eqb-true c.x d.x u.1) (eqb-true c.y d.y v.1) (eqb-true c.z d.z v.0)
 
 abbrev to_cells : List ((ℕ × ℕ) × ℕ) → List Cell
 to_cells [] = []
-to_cells (z ∷ zs) = record { x = z.0.0; y = z.0.1; z = z.1 } ∷ to_cells zs
+to_cells (z ∷ zs) = record { x = z.1; y = z.0.1; z = z.0.0 } ∷ to_cells zs
 
--- the 27 cells from a corner on are those round it
-block_is : (c : Cell) → block_part c 27 ≡ to_cells (around c.x c.y c.z)
+-- the eight cells from a corner on are those round it
+block_is : (c : Cell) → block_part c 8 ≡ to_cells (around c.z c.y c.x)
 block_is c = refl
 
 module _ (chains : List (List ℕ)) (side : ℕ) (places : List Vec3) (test : ℕ → ℕ → Bool) (i : ℕ) where
@@ -39,9 +39,9 @@ module _ (chains : List (List ℕ)) (side : ℕ) (places : List Vec3) (test : �
   chain_for c = chain_at chains (slot_of (length chains) c)
 
   tally_passing : (q : ℕ) (zs : List ((ℕ × ℕ) × ℕ)) → tally same_cell (cell_at side places) chain_for (keep places side test i) q (to_cells zs)
-      ≡ passing (λ (z : (ℕ × ℕ) × ℕ). eqb z.0.0 (axis_cell side (place_at places q).x + 1) && eqb z.0.1 (axis_cell side (place_at places q).y + 1) && eqb z.1 (axis_cell side (place_at places q).z + 1)) zs
+      ≡ passing (λ (z : (ℕ × ℕ) × ℕ). eqb z.0.0 (cell_at side places q).z && eqb z.0.1 (cell_at side places q).y && eqb z.1 (cell_at side places q).x) zs
   tally_passing q [] = refl
-  tally_passing q (z ∷ zs) = ap (λ (n : ℕ). cond (eqb z.0.0 (axis_cell side (place_at places q).x + 1) && eqb z.0.1 (axis_cell side (place_at places q).y + 1) && eqb z.1 (axis_cell side (place_at places q).z + 1)) 1 0 + n) (tally_passing q zs)
+  tally_passing q (z ∷ zs) = ap (λ (n : ℕ). cond (eqb z.0.0 (cell_at side places q).z && eqb z.0.1 (cell_at side places q).y && eqb z.1 (cell_at side places q).x) 1 0 + n) (tally_passing q zs)
 
   kept_parts : (q : ℕ) → keep places side test i q ≡ true → (q < length places) × (i < q) × (is_near (pos side) (place_at places i) (place_at places q) ≡ true)
   kept_parts q e =
@@ -55,7 +55,7 @@ module _ (chains : List (List ℕ)) (side : ℕ) (places : List Vec3) (test : �
     once_in q e c s = ap (λ (d : Cell). count q (chain_for d)) (cell_same c (cell_at side places q) s) ∙ once q (kept_parts q e).0
 
     adjacent : (q : ℕ) → keep places side test i q ≡ true
-        → tally same_cell (cell_at side places) chain_for (keep places side test i) q (block_part (corner_of side (place_at places i)) 27) ≡ 1
+        → tally same_cell (cell_at side places) chain_for (keep places side test i) q (block_part (corner_of (cube_at side places i)) 8) ≡ 1
     adjacent q e =
         let k = kept_parts q e in
         let a : Vec3 = place_at places i in let b : Vec3 = place_at places q in
@@ -66,29 +66,30 @@ module _ (chains : List (List ℕ)) (side : ℕ) (places : List Vec3) (test : �
         let ex : unsigned_abs (b.x -ℤ a.x) < side = subst (λ (n : ℕ). n < side) (gap_turn a.x b.x) dx in
         let ey : unsigned_abs (b.y -ℤ a.y) < side = subst (λ (n : ℕ). n < side) (gap_turn a.y b.y) dy in
         let ez : unsigned_abs (b.z -ℤ a.z) < side = subst (λ (n : ℕ). n < side) (gap_turn a.z b.z) dz in
-        ap (tally same_cell (cell_at side places) chain_for (keep places side test i) q) (block_is (corner_of side a))
-        ∙ tally_passing q (around (axis_cell side a.x) (axis_cell side a.y) (axis_cell side a.z))
-        ∙ passing-around (axis_cell side a.x) (axis_cell side a.y) (axis_cell side a.z) (axis_cell side b.x) (axis_cell side b.y) (axis_cell side b.z)
-        (axis_near side a.x b.x ia.x ib.x low dx) (axis_near side b.x a.x ib.x ia.x low ex)
-        (axis_near side a.y b.y ia.y ib.y low dy) (axis_near side b.y a.y ib.y ia.y low ey)
-        (axis_near side a.z b.z ia.z ib.z low dz) (axis_near side b.z a.z ib.z ia.z low ez)
+        let around_a = corner_of (cube_of side a) in let home_b = home_of (cube_of side b) in
+        ap (tally same_cell (cell_at side places) chain_for (keep places side test i) q) (block_is around_a)
+        ∙ tally_passing q (around around_a.z around_a.y around_a.x)
+        ∙ passing-around around_a.z around_a.y around_a.x home_b.z home_b.y home_b.x
+        (home_from (axis_cell side a.z) (axis_cell side b.z) (axis_near side a.z b.z ia.z ib.z low dz)) (home_to (axis_cell side a.z) (axis_cell side b.z) (axis_near side b.z a.z ib.z ia.z low ez))
+        (home_from (axis_cell side a.y) (axis_cell side b.y) (axis_near side a.y b.y ia.y ib.y low dy)) (home_to (axis_cell side a.y) (axis_cell side b.y) (axis_near side b.y a.y ib.y ia.y low ey))
+        (home_from (axis_cell side a.x) (axis_cell side b.x) (axis_near side a.x b.x ia.x ib.x low dx)) (home_to (axis_cell side a.x) (axis_cell side b.x) (axis_near side b.x a.x ib.x ia.x low ex))
 
     in_range : (q : ℕ) → keep places side test i q ≡ true → (i + 1 ≤ q) × (q < i + 1 + (length places - (i + 1)))
     in_range q e = let k = kept_parts q e in (omega (arith, k.1), omega (arith, k.0, k.1))
 
-    pub row_of : (ys : List ℕ) → IsPermutation (all_picked chains places side test i (block_part (corner_of side (place_at places i)) 27)) ys
+    pub row_of : (ys : List ℕ) → IsPermutation (all_picked chains places side test i (block_part (corner_of (cube_at side places i)) 8)) ys
         → ((j k : ℕ) → j ≤ k → k < length ys → get_or ys j 0 ≤ get_or ys k 0) → ys ≡ kept_row places side test i
     unfolding all_picked
     row_of ys moved sorted = row_is same_cell (cell_at side places) chain_for (keep places side test i)
-        (block_part (corner_of side (place_at places i)) 27) (i + 1) (length places - (i + 1)) once_in adjacent in_range ys moved sorted
+        (block_part (corner_of (cube_at side places i)) 8) (i + 1) (length places - (i + 1)) once_in adjacent in_range ys moved sorted
 
-    counted : (q : ℕ) → count q (all_picked chains places side test i (block_part (corner_of side (place_at places i)) 27)) ≡ cond (keep places side test i q) 1 0
+    counted : (q : ℕ) → count q (all_picked chains places side test i (block_part (corner_of (cube_at side places i)) 8)) ≡ cond (keep places side test i q) 1 0
     unfolding all_picked
     counted q = count-kept same_cell (cell_at side places) chain_for (keep places side test i)
-        (block_part (corner_of side (place_at places i)) 27) (i + 1) (length places - (i + 1)) once_in adjacent in_range q
+        (block_part (corner_of (cube_at side places i)) 8) (i + 1) (length places - (i + 1)) once_in adjacent in_range q
 
-    pub row_fits : length (all_picked chains places side test i (block_part (corner_of side (place_at places i)) 27)) ≤ length places
-    row_fits = few_numbers (length places) (all_picked chains places side test i (block_part (corner_of side (place_at places i)) 27))
+    pub row_fits : length (all_picked chains places side test i (block_part (corner_of (cube_at side places i)) 8)) ≤ length places
+    row_fits = few_numbers (length places) (all_picked chains places side test i (block_part (corner_of (cube_at side places i)) 8))
         (λ q. omega (arith, counted q, at_most (keep places side test i q)))
         (λ q l. counted q ∙ none (keep places side test i q) (λ e. absurd (let k = kept_parts q e in omega (arith, k.0, l))))
       where

@@ -1,5 +1,5 @@
 -- A walk along a chain that keeps what passes.
-use Rattle.std.proofs.Common.{◌≡◌, ℕ, zero, suc, ◌+◌, ◌-◌, ◌/◌, ◌%◌, map, ◌<◌, ◌≤◌, Bool, true, false, cond, List, [], ◌∷◌, ◌++◌, length, take, Option, Some, slice_get, sym, ap, ◌∙◌, arith, add-one, length-append, append_assoc}
+use Rattle.std.proofs.Common.{◌≡◌, ℕ, zero, suc, ◌+◌, ◌-◌, ◌/◌, ◌%◌, map, ◌<◌, ◌≤◌, Bool, true, false, cond, List, [], ◌∷◌, ◌++◌, length, take, Option, Some, slice_get, refl, sym, ap, ◌∙◌, arith, add-one, length-append, append_assoc}
 use Rattle.std.proofs.lemmas.List.{take_all, append-nil, map-append}
 use Rattle.std.proofs.lemmas.List.Elements.{filter-append}
 use Rattle.std.proofs.lemmas.List.Concat.{flat_map-append}
@@ -8,7 +8,7 @@ use Rattle.pbd_world.specs.Room.{Roomed}
 use Rattle.pbd_chain.proofs.Walks.{take_get}
 use Rattle.pbd_num.specs.declared.Vec3.{Vec3}
 use Rattle.pbd_grid.specs.declared.lookup.Cell.{Cell}
-use Rattle.pbd_grid.specs.Blocks.{beside, block_part, picked, all_picked}
+use Rattle.pbd_grid.specs.Blocks.{IsFalling, beside, block_part, picked, all_picked}
 use Rattle.pbd_grid.proofs.Finding.{range_more}
 
 filter_take_le : (p : ℕ → Bool) (xs : List ℕ) (k : ℕ) → length (filter p (take k xs)) ≤ length (filter p xs)
@@ -56,6 +56,23 @@ module _ {test : ℕ → Bool} {chain : List ℕ} {at : Option ℕ} {k : ℕ} {o
   pub IsKept-all : length chain ≤ k → now ≡ record old { entries = old.entries ++ filter test chain }
   IsKept-all l = h.entries ∙ ap (λ (xs : List ℕ). record old { entries = old.entries ++ filter test xs }) (take_all k chain l)
 
+-- ---- an end before that of a falling chain
+-- where no number up to i passes
+module _ (test : ℕ → Bool) (i : ℕ) (fails : (x : ℕ) → x ≤ i → test x ≡ false) where
+  none_behind : (high : ℕ) (xs : List ℕ) → high ≤ i + 1 → IsFalling high xs → filter test xs ≡ []
+  none_behind high [] le h = refl
+  none_behind high (x ∷ xs) le h = rw (fails x (omega (arith, le, h.0))) (none_behind x xs (omega (arith, le, h.0)) h.1)
+
+  all_before : (high : ℕ) (xs : List ℕ) (k j : ℕ) → IsFalling high xs → slice_get xs k ≡ Some j → j ≤ i → filter test (take k xs) ≡ filter test xs
+  all_before high [] k j h e le = absurd (let no : ⊥ = cc in no)
+  all_before high (x ∷ xs) zero j h e le = let s : x ≡ j = cc in sym (none_behind (x + 1) (x ∷ xs) (omega (arith, s, le)) (omega arith, h.1))
+  all_before high (x ∷ xs) (suc k) j h e le = ap (λ (ys : List ℕ). cond (test x) (x ∷ ys) ys) (all_before x xs k j h.1 e le)
+
+  pub IsKept-behind : {chain : List ℕ} {at : Option ℕ} {k : ℕ} {old now : Roomed ℕ} → IsKept test chain at k old now → (high j : ℕ) → IsFalling high chain → at ≡ Some j → j ≤ i
+      → now ≡ record old { entries = old.entries ++ filter test chain }
+  IsKept-behind {chain = chain} {k = k} {old = old} h high j falls e le = h.entries
+      ∙ ap (λ (xs : List ℕ). record old { entries = old.entries ++ xs }) (all_before high chain k j falls (sym h.next ∙ e) le)
+
 -- ---- look-ups of several cells
 module _ (chains : List (List ℕ)) (places : List Vec3) (t : ℕ) (test : ℕ → ℕ → Bool) (i : ℕ) (from : Cell) where
   -- what the first k cells of the block give
@@ -63,7 +80,7 @@ module _ (chains : List (List ℕ)) (places : List Vec3) (t : ℕ) (test : ℕ �
   parts k = all_picked chains places t test i (block_part from k)
 
   abbrev cell_of : ℕ → Cell
-  cell_of n = beside from (n / 9) (n / 3 % 3) (n % 3)
+  cell_of n = beside from (n % 2) (n / 2 % 2) (n / 4)
 
   parts_more : (k : ℕ) → parts (k + 1) ≡ parts k ++ picked chains places t test i (cell_of k)
   unfolding all_picked
@@ -86,17 +103,17 @@ module _ (chains : List (List ℕ)) (places : List Vec3) (t : ℕ) (test : ℕ �
   IsRound-none old = record { entries = ap (λ (xs : List ℕ). record old { entries = xs }) (sym (append-nil old.entries)) }
 
   module _ {old now : Roomed ℕ} {k : ℕ} (h : IsRound old now k) where
-    pub round_fits : k < 27 → length old.entries + length (parts 27) ≤ old.room → (c : Cell) → c ≡ cell_of k → length now.entries + length (picked chains places t test i c) ≤ now.room
+    pub round_fits : k < 8 → length old.entries + length (parts 8) ≤ old.room → (c : Cell) → c ≡ cell_of k → length now.entries + length (picked chains places t test i c) ≤ now.room
     round_fits l fits c is =
-        let last : k + 1 + (27 - (k + 1)) ≡ 27 = omega arith in
-        let whole : length (parts (k + 1 + (27 - (k + 1)))) ≡ length (parts 27) = ap (λ (n : ℕ). length (parts n)) last in
+        let last : k + 1 + (8 - (k + 1)) ≡ 8 = omega arith in
+        let whole : length (parts (k + 1 + (8 - (k + 1)))) ≡ length (parts 8) = ap (λ (n : ℕ). length (parts n)) last in
         let same : length (picked chains places t test i c) ≡ length (picked chains places t test i (cell_of k)) = ap (λ (d : Cell). length (picked chains places t test i d)) is in
         omega (
           arith,
           fits,
           whole,
           same,
-          parts_le (k + 1) (27 - (k + 1)),
+          parts_le (k + 1) (8 - (k + 1)),
           ap length (parts_more k),
           length-append (parts k) (picked chains places t test i (cell_of k)),
           ap (λ (r : Roomed ℕ). r.room) h.entries,

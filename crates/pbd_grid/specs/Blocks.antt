@@ -1,10 +1,10 @@
--- Cells of places: cubes of edge t, and the 27 cells round a cell.
-use Rattle.std.specs.Prelude.{◌≡◌, ℕ, ◌<◌, ◌+◌, ◌-◌, ◌*◌, ◌/◌, ◌%◌, ◌==◌, ◌&&◌, nat_lt, Bool, if◌then◌else◌, ℤ, pos, ◌+ℤ◌, ◌*ℤ◌, unsigned_abs, List, [], ◌∷◌, length, map, filter}
+-- Cells of places: cubes of edge 2 t, each of eight cubes of edge t, and the eight cells that hold what is near a place.
+use Rattle.std.specs.Prelude.{◌≡◌, ℕ, ◌<◌, ◌≤◌, ◌+◌, ◌-◌, ◌*◌, ◌/◌, ◌%◌, ◌==◌, ◌&&◌, nat_lt, bit_and, ⊤, Bool, if◌then◌else◌, ℤ, pos, ◌+ℤ◌, ◌*ℤ◌, unsigned_abs, List, [], ◌∷◌, length, map, filter}
 use Rattle.std.specs.List.{flat_map, range_with_len}
 use Rattle.pbd_chain.specs.Linked.{chain_at}
 use Rattle.pbd_num.specs.declared.Vec3.{Vec3}
 use Rattle.pbd_grid.specs.declared.lookup.Cell.{Cell}
-use Rattle.pbd_grid.specs.Near.{place_at, is_near}
+use Rattle.pbd_grid.specs.Near.{place_at, AllInside, is_near}
 
 -- how often a number stands in a list
 abbrev pub count : ℕ → List ℕ → ℕ
@@ -15,19 +15,31 @@ count q (x ∷ xs) = (if x == q then 1 else 0) + count q xs
 unfoldable pub axis_cell : ℕ → ℤ → ℕ
 axis_cell t x = unsigned_abs (x +ℤ pos 536870912 *ℤ pos t) / t
 
--- the floors of a place's axes
-abbrev pub corner_of : ℕ → Vec3 → Cell
-corner_of t place = record { x = axis_cell t place.x; y = axis_cell t place.y; z = axis_cell t place.z }
+-- the cube of edge t that a place is in
+abbrev pub cube_of : ℕ → Vec3 → Cell
+cube_of t place = record { x = axis_cell t place.x; y = axis_cell t place.y; z = axis_cell t place.z }
+
+-- the cell that a cube is in
+abbrev pub home_of : Cell → Cell
+home_of c = record { x = (c.x + 1) / 2; y = (c.y + 1) / 2; z = (c.z + 1) / 2 }
+
+-- the least of the cells that a place less than t from a place of a cube can be in, of which each axis has two
+abbrev pub corner_of : Cell → Cell
+corner_of c = record { x = c.x / 2; y = c.y / 2; z = c.z / 2 }
 
 abbrev pub beside : Cell → ℕ → ℕ → ℕ → Cell
 beside c i j k = record { x = c.x + i; y = c.y + j; z = c.z + k }
 
--- the cell of a particle: one above the floors, so that no neighbour is below 0
+-- the cube of a particle
+abbrev pub cube_at : ℕ → List Vec3 → ℕ → Cell
+cube_at t places j = cube_of t (place_at places j)
+
+-- the cell of a particle
 abbrev pub cell_at : ℕ → List Vec3 → ℕ → Cell
-cell_at t places j = beside (corner_of t (place_at places j)) 1 1 1
+cell_at t places j = home_of (cube_at t places j)
 
 abbrev pub same_cell : Cell → Cell → Bool
-same_cell c d = c.x == d.x && c.y == d.y && c.z == d.z
+same_cell c d = c.z == d.z && c.y == d.y && c.x == d.x
 
 -- each axis of a cell is below n
 pub record Below (n : ℕ) (c : Cell) : Type 0 where
@@ -35,9 +47,9 @@ pub record Below (n : ℕ) (c : Cell) : Type 0 where
   pub y : c.y < n
   pub z : c.z < n
 
--- the number of the chain for a cell
+-- the number of the chain for a cell, of n: cells beside each other on x have chains beside each other
 unfoldable pub slot_of : ℕ → Cell → ℕ
-slot_of n c = (c.x * 3432918353 + c.y * 2654435769 + c.z * 2246822507) % 4294967296 % n
+slot_of n c = bit_and ((c.y * 2654435769 + c.z * 2246822507) % 4294967296 / 2048 + c.x) (n - 1)
 
 -- j stands behind i, is near it, and the test keeps the pair
 abbrev pub keep : List Vec3 → ℕ → (ℕ → ℕ → Bool) → ℕ → ℕ → Bool
@@ -54,13 +66,30 @@ picked chains places t test i c = filter (λ j. same_cell c (cell_at t places j)
 unfoldable pub all_picked : List (List ℕ) → List Vec3 → ℕ → (ℕ → ℕ → Bool) → ℕ → List Cell → List ℕ
 all_picked chains places t test i cells = flat_map (picked chains places t test i) cells
 
--- the first k of the 27 cells from a corner on
+-- the first k of the eight cells from a corner on
 abbrev pub block_part : Cell → ℕ → List Cell
-block_part corner k = map (λ n. beside corner (n / 9) (n / 3 % 3) (n % 3)) (range_with_len 0 k)
+block_part corner k = map (λ n. beside corner (n % 2) (n / 2 % 2) (n / 4)) (range_with_len 0 k)
 
 -- each particle stands once in the chain for its cell
 abbrev pub AreOnce : List (List ℕ) → ℕ → List Vec3 → Type 0
 AreOnce chains t places = (q : ℕ) → q < length places → count q (chain_at chains (slot_of (length chains) (cell_at t places q))) ≡ 1
+
+-- the numbers fall, and are below a number
+abbrev pub IsFalling : ℕ → List ℕ → Type 0
+IsFalling high [] = ⊤
+IsFalling high (x ∷ xs) = (x < high) × IsFalling x xs
+
+-- what look-ups rest on: the places and their cubes, and so many chains that hold the particles by their cells, falling
+pub record AreLaid (chains : List (List ℕ)) (count : ℕ) (cubes : List Cell) (places : List Vec3) (t : ℕ) : Type 0 where
+  pub low : 0 < t
+  pub high : t ≤ 1048576
+  pub few : length places ≤ 65536
+  pub inside : AllInside places
+  pub cubes_are : cubes ≡ map (cube_of t) places
+  pub some : 0 < count
+  pub counted : length chains ≡ count
+  pub once : AreOnce chains t places
+  pub falling : (c : ℕ) → IsFalling (length places) (chain_at chains c)
 
 -- the numbers behind i that are kept with it
 abbrev pub kept_row : List Vec3 → ℕ → (ℕ → ℕ → Bool) → ℕ → List ℕ

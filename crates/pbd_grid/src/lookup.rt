@@ -1,8 +1,9 @@
 //! Cells of places, and what is found by looking them up.
-ghost use Rattle.std.specs.Prelude.{◌≡◌, ◌+◌, ◌/◌, ◌%◌, ◌<◌, ◌≤◌, ◌^◌, ◌++◌, ◌&&◌, ◌==◌, length, unsigned_abs};
+ghost use Rattle.std.specs.Prelude.{◌≡◌, ◌+◌, ◌/◌, ◌%◌, ◌<◌, ◌≤◌, ◌^◌, ◌++◌, ◌&&◌, ◌==◌, length, map, unsigned_abs};
 ghost use Rattle.pbd_num.specs.Vectors.{Within};
 ghost use Rattle.pbd_grid.specs.Near.{AllInside};
-ghost use Rattle.pbd_grid.specs.Blocks.{Below, axis_cell, corner_of, beside, cell_at, same_cell, slot_of, keep, picked, picked_one, all_picked, block_part};
+ghost use Rattle.pbd_grid.specs.Blocks.{Below, AreLaid, axis_cell, cube_of, home_of, corner_of, beside, cell_at, same_cell, slot_of};
+ghost use Rattle.pbd_grid.specs.Blocks.{keep, picked, picked_one, all_picked, block_part};
 
 use crate::near::near;
 use crate::pairs::PairFilter;
@@ -10,16 +11,16 @@ use pbd_chain::Chains;
 use pbd_num::Vec3;
 use pbd_world::RoomList;
 
-/// A cube of the grid, by its number on each axis.
+/// A cube of the grid, by its number on each axis: one of the thickness, or a cell of twice that.
 #[derive(Clone, Copy)]
 pub(crate) struct Cell {
-    x: u64,
-    y: u64,
-    z: u64,
+    x: u32,
+    y: u32,
+    z: u32,
 }
 
 // The number of the cube of a coordinate, by a division of 32 bits, which is much faster than one of 64.
-fn on_axis(x: i64, side: u32) -> u64
+fn on_axis(x: i64, side: u32) -> u32
     requires x { unsigned_abs x ≤ 2 ^ 29 }
     requires low { 0 < side }
     requires high { side ≤ 1048576 }
@@ -28,18 +29,18 @@ fn on_axis(x: i64, side: u32) -> u64
 {
     let far = x.unsigned_abs() as u32;
     if x < 0 {
-        u64::from(536_870_911 - (far - 1) / side)
+        536_870_911 - (far - 1) / side
     } else {
-        u64::from(536_870_912 + far / side)
+        536_870_912 + far / side
     }
 }
 
-// The least of the 27 cells round a place.
-pub(crate) fn corner(place: Vec3, side: u32) -> Cell
+// The cube that a place is in.
+pub(crate) fn cube(place: Vec3, side: u32) -> Cell
     requires inside { Within (2 ^ 29) place }
     requires low { 0 < side }
     requires high { side ≤ 1048576 }
-    ensures value { result ≡ corner_of side place }
+    ensures value { result ≡ cube_of side place }
     ensures bounded { Below 1073741825 result }
 {
     Cell {
@@ -49,71 +50,93 @@ pub(crate) fn corner(place: Vec3, side: u32) -> Cell
     }
 }
 
-// The cell so many cubes away.
-pub(crate) fn step(cell: Cell, x: u64, y: u64, z: u64) -> Cell
-    requires cell { Below 1073741825 cell }
-    requires x { x < 3 }
-    requires y { y < 3 }
-    requires z { z < 3 }
-    ensures value { result ≡ beside cell x y z }
-    ensures bounded { Below 2147483648 result }
+// The cell that a cube is in.
+pub(crate) fn home(cube: Cell) -> Cell
+    requires { Below 1073741825 cube }
+    ensures value { result ≡ home_of cube }
+    ensures bounded { Below 1073741825 result }
 {
     Cell {
-        x: cell.x + x,
-        y: cell.y + y,
-        z: cell.z + z,
+        x: (cube.x + 1) / 2,
+        y: (cube.y + 1) / 2,
+        z: (cube.z + 1) / 2,
     }
 }
 
-// One of the 27 cells from a corner on.
-fn part_of_block(from: Cell, n: u64) -> Cell
-    requires from { Below 1073741825 from }
-    requires n { n < 27 }
-    ensures value { result ≡ beside from (n / 9) (n / 3 % 3) (n % 3) }
-    ensures bounded { Below 2147483648 result }
+// The least of the eight cells that what is near a place of a cube is in.
+pub(crate) fn corner(cube: Cell) -> Cell
+    requires { Below 1073741825 cube }
+    ensures value { result ≡ corner_of cube }
+    ensures bounded { Below 536870913 result }
 {
-    step(from, n / 9, n / 3 % 3, n % 3)
+    Cell {
+        x: cube.x / 2,
+        y: cube.y / 2,
+        z: cube.z / 2,
+    }
 }
 
-// The chain for a cell: its axes, spread over 32 bits and shared out among the chains.
+// One of the eight cells from a corner on.
+fn part_of_block(from: Cell, n: u32) -> Cell
+    requires from { Below 536870913 from }
+    requires n { n < 8 }
+    ensures value { result ≡ beside from (n % 2) (n / 2 % 2) (n / 4) }
+    ensures bounded { Below 1073741825 result }
+{
+    Cell {
+        x: from.x + n % 2,
+        y: from.y + n / 2 % 2,
+        z: from.z + n / 4,
+    }
+}
+
+// The chain for a cell, of a number that is a power of two: the upper bits of y and z spread over 32 bits, plus x.
 #[tactic(auto, unfolding(crate::specs::Blocks::slot_of))]
 pub(crate) fn slot(cell: Cell, count: u32) -> u32
-    requires cell { Below 2147483648 cell }
+    requires cell { Below 1073741825 cell }
     requires count { 0 < count }
     ensures value { result ≡ slot_of count cell }
     ensures below { result < count }
 {
-    let spread = cell.x * 3_432_918_353 + cell.y * 2_654_435_769 + cell.z * 2_246_822_507;
-    (spread % 4_294_967_296) as u32 % count
+    let spread = u64::from(cell.y) * 2_654_435_769 + u64::from(cell.z) * 2_246_822_507;
+    ((spread % 4_294_967_296) as u32 / 2048 + cell.x) & (count - 1)
 }
 
-// Whether a place is in a cell.
-fn is_in(place: Vec3, side: u32, cell: Cell) -> bool
-    requires inside { Within (2 ^ 29) place }
-    requires low { 0 < side }
-    requires high { side ≤ 1048576 }
-    ensures { result ≡ same_cell cell (beside (corner_of side place) 1 1 1) }
+// Whether a cube is in a cell.
+fn is_in(cube: Cell, cell: Cell) -> bool
+    requires { Below 1073741825 cube }
+    ensures { result ≡ same_cell cell (home_of cube) }
 {
-    let own = step(corner(place, side), 1, 1, 1);
-    cell.x == own.x && cell.y == own.y && cell.z == own.z
+    let own = home(cube);
+    cell.z == own.z && cell.y == own.y && cell.x == own.x
 }
 
-// Whether j is to be found with i in a cell.
-fn wanted<F: PairFilter>(places: &[Vec3], side: u32, filter: &F, i: u32, cell: Cell, j: u32) -> bool
-    requires inside { AllInside places.now }
-    requires filter { F.particles filter.now ≡ length places.now }
+// Whether j, behind i, is to be found with i in a cell.
+fn wanted<F: PairFilter>(
+    cubes: &[Cell],
+    places: &[Vec3],
+    side: u32,
+    filter: &F,
+    i: u32,
+    cell: Cell,
+    j: u32,
+) -> bool
     requires low { 0 < side }
     requires high { side ≤ 1048576 }
+    requires inside { AllInside places.now }
+    requires cubes { cubes.now ≡ map (cube_of side) places.now }
+    requires filter { F.particles filter.now ≡ length places.now }
     requires i { i < length places.now }
+    requires behind { i < j }
     ensures { result ≡ (same_cell cell (cell_at side places.now j) && keep places.now side (F.test filter.now) i j) }
 {
-    if j as usize >= places.len() || j <= i {
+    if j as usize >= places.len() {
         return false;
     }
     if !near(places[i as usize], places[j as usize], side) {
         return false;
     }
-    if !is_in(places[j as usize], side, cell) {
+    if !is_in(cubes[j as usize], cell) {
         return false;
     }
     filter.keeps(i, j)
@@ -129,9 +152,11 @@ fn push_if(found: &mut RoomList<u32>, is_wanted: bool, j: u32)
     }
 }
 
-// Finds what is wanted with i in one cell.
+// Finds what is wanted with i in one cell. What stands behind i comes first in each chain.
 fn look_up<F: PairFilter>(
     chains: &Chains,
+    count: u32,
+    cubes: &[Cell],
     places: &[Vec3],
     side: u32,
     filter: &F,
@@ -139,30 +164,35 @@ fn look_up<F: PairFilter>(
     cell: Cell,
     found: &mut RoomList<u32>,
 )
-    requires chains { length chains.now.chains ≡ length places.now + 1 }
-    requires few { length places.now ≤ 65536 }
-    requires inside { AllInside places.now }
+    requires laid { AreLaid chains.now.chains count cubes.now places.now side }
     requires filter { F.particles filter.now ≡ length places.now }
-    requires low { 0 < side }
-    requires high { side ≤ 1048576 }
     requires i { i < length places.now }
-    requires cell { Below 2147483648 cell }
-    requires room { length found.old.entries + length (picked chains.now.chains places.now side (F.test filter.now) i cell) ≤ found.old.room }
-    ensures { found.new ≡ record found.old { entries = found.old.entries ++ picked chains.now.chains places.now side (F.test filter.now) i cell } }
+    requires cell { Below 1073741825 cell }
+    requires room { length found.old.entries + length (picked chains.now.chains places.now side (F.test filter.now) i cell)
+        ≤ found.old.room }
+    ensures { found.new ≡ record found.old {
+      entries = found.old.entries
+          ++ picked chains.now.chains places.now side (F.test filter.now) i cell;
+    } }
 {
-    let mut at = chains.first(slot(cell, places.len() as u32 + 1));
+    let mut at = chains.first(slot(cell, count));
     for _ in 0..chains.items() {
         let Some(j) = at else {
             break;
         };
-        push_if(found, wanted(places, side, filter, i, cell, j), j);
+        if j <= i {
+            break;
+        }
+        push_if(found, wanted(cubes, places, side, filter, i, cell, j), j);
         at = chains.next(j);
     }
 }
 
-// Finds what is wanted with i in the 27 cells from a corner on.
+// Finds what is wanted with i in the eight cells from a corner on.
 pub(crate) fn look_round<F: PairFilter>(
     chains: &Chains,
+    count: u32,
+    cubes: &[Cell],
     places: &[Vec3],
     side: u32,
     filter: &F,
@@ -170,19 +200,19 @@ pub(crate) fn look_round<F: PairFilter>(
     from: Cell,
     found: &mut RoomList<u32>,
 )
-    requires chains { length chains.now.chains ≡ length places.now + 1 }
-    requires few { length places.now ≤ 65536 }
-    requires inside { AllInside places.now }
+    requires laid { AreLaid chains.now.chains count cubes.now places.now side }
     requires filter { F.particles filter.now ≡ length places.now }
-    requires low { 0 < side }
-    requires high { side ≤ 1048576 }
     requires i { i < length places.now }
-    requires from { Below 1073741825 from }
-    requires room { length found.old.entries + length (all_picked chains.now.chains places.now side (F.test filter.now) i (block_part from 27)) ≤ found.old.room }
-    ensures { found.new ≡ record found.old { entries = found.old.entries ++ all_picked chains.now.chains places.now side (F.test filter.now) i (block_part from 27) } }
+    requires from { Below 536870913 from }
+    requires room { length found.old.entries
+        + length (all_picked chains.now.chains places.now side (F.test filter.now) i (block_part from 8)) ≤ found.old.room }
+    ensures { found.new ≡ record found.old {
+      entries = found.old.entries
+          ++ all_picked chains.now.chains places.now side (F.test filter.now) i (block_part from 8);
+    } }
 {
-    for n in 0..27 {
+    for n in 0..8 {
         let cell = part_of_block(from, n);
-        look_up(chains, places, side, filter, i, cell, found);
+        look_up(chains, count, cubes, places, side, filter, i, cell, found);
     }
 }

@@ -1,8 +1,9 @@
 //! The near pairs of all particles.
 ghost use Rattle.std.specs.Prelude.{◌≡◌, ◌+◌, ◌<◌, ◌≤◌, [], ℕ, Bool, pos, ◌≤ℤ◌, length, IfOk, OnOk, OnErr};
-ghost use Rattle.pbd_grid.specs.Blocks.{AreOnce};
+ghost use Rattle.pbd_grid.specs.Blocks.{AreLaid};
 ghost use Rattle.pbd_grid.specs.Near.{AllInside, near_pairs};
 
+use crate::lookup::Cell;
 use crate::rows::{append_row, find_row, link_all};
 use pbd_chain::Chains;
 use pbd_num::Vec3;
@@ -30,6 +31,9 @@ pub trait PairFilter {
 pub struct Grid {
     particles: u32,
     chains: Chains,
+    /// The number of the chains.
+    count: u32,
+    cubes: RoomList<Cell>,
     found: RoomList<u32>,
 }
 
@@ -41,25 +45,31 @@ impl Model for Grid {
 
     ghost view = { λ s. s.particles };
 
-    ghost invariant = { λ s. IsReady s.particles s.chains s.found };
+    ghost invariant = { λ s. IsReady s.particles s.chains s.count s.cubes s.found };
+}
+
+// The number of chains for so many particles: a power of two, four or more for each.
+fn chains_for(particles: u32) -> u32
+    requires { particles ≤ 65536 }
+    ensures some { 0 < result }
+    ensures few { result ≤ 2097152 }
+{
+    (4 * particles.max(1)).next_power_of_two()
 }
 
 // Lists the near pairs row by row, from chains that hold each particle once.
 fn find_pairs<F: PairFilter>(
     chains: &Chains,
+    count: u32,
+    cubes: &[Cell],
     places: &[Vec3],
     side: u32,
     filter: &F,
     found: &mut RoomList<u32>,
     out: &mut RoomList<(u32, u32)>,
 ) -> Result<(), Full>
-    requires chains { length chains.now.chains ≡ length places.now + 1 }
-    requires few { length places.now ≤ 65536 }
-    requires once { AreOnce chains.now.chains side places.now }
-    requires inside { AllInside places.now }
+    requires laid { AreLaid chains.now.chains count cubes.now places.now side }
     requires filter { F.particles filter.now ≡ length places.now }
-    requires low { 0 < side }
-    requires high { side ≤ 1048576 }
     requires space { length places.now ≤ found.old.room }
     ensures kept { found.new.room ≡ found.old.room }
     ensures room { out.new.room ≡ out.old.room }
@@ -70,7 +80,7 @@ fn find_pairs<F: PairFilter>(
 {
     out.clear();
     for i in 0..places.len() as u32 {
-        find_row(chains, places, side, filter, i, found);
+        find_row(chains, count, cubes, places, side, filter, i, found);
         if append_row(i, found.as_slice(), out).is_err() {
             out.clear();
             return Err(Full);
@@ -85,11 +95,15 @@ impl Grid {
         requires { particles ≤ 65536 }
         ensures { IfOk result (λ g. g ≡ particles) }
     {
-        let chains = Chains::open(alloc, particles + 1, particles)?;
+        let count = chains_for(particles);
+        let chains = Chains::open(alloc, count, particles)?;
+        let cubes = RoomList::open(alloc, particles)?;
         let found = RoomList::open(alloc, particles)?;
         Ok(Grid {
             particles,
             chains,
+            count,
+            cubes,
             found,
         })
     }
@@ -118,9 +132,18 @@ impl Grid {
         ensures full { OnErr result (out.old.room < length (near_pairs places.now thickness (F.test filter.now))) }
         ensures emptied { OnErr result (out.new.entries ≡ []) }
     {
-        // Places less than the thickness apart are in cells of that edge that touch.
+        // What is less than the thickness from a place is in two cells an axis, of twice that edge.
         let side = thickness as u32;
-        link_all(&mut self.chains, places, side);
-        find_pairs(&self.chains, places, side, filter, &mut self.found, out)
+        link_all(&mut self.chains, self.count, &mut self.cubes, places, side);
+        find_pairs(
+            &self.chains,
+            self.count,
+            self.cubes.as_slice(),
+            places,
+            side,
+            filter,
+            &mut self.found,
+            out,
+        )
     }
 }

@@ -162,7 +162,7 @@ impl SelfContacts {
     /// The store has so many particles, all within its limit, and the colouring of the links is over
     /// as many. The thickness is 0 to 1,048,576, in units of 1/65,536 metre; at 0 there are no
     /// contacts. `Full` comes exactly where the contacts are more than 262,144, and none are held
-    /// then. The store is reached at most once for each particle.
+    /// then. The store is reached at most once for each particle, and not at all where the thickness is 0.
     pub fn detect<const L: usize, G: Ledger>(
         &mut self,
         store: &Store<L>,
@@ -180,6 +180,7 @@ impl SelfContacts {
         ensures full { OnErr result (262144 < length (touching thickness links.now store.now.particles)) }
         ensures emptied { OnErr result (self.new ≡ record self.old { pairs = [] }) }
         ensures cost { steps.new ≤ steps.old + self.old.particles }
+        ensures free { thickness ≡ pos 0 → steps.new ≡ steps.old }
     {
         if thickness == 0 {
             self.clear();

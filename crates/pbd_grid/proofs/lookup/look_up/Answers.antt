@@ -2,7 +2,8 @@ use Rattle.std.proofs.Common.{◌≡◌, ◌∙◌, ℕ, length, sym, ap, arith}
 use Rattle.pbd_chain.specs.Linked.{chain_at}
 use Rattle.pbd_chain.proofs.Walks.{chain_linked, get_in, get_none}
 use Rattle.pbd_grid.specs.Blocks.{slot_of}
-use Rattle.pbd_grid.proofs.Walking.{kept_fits, IsKept-more, IsKept-all}
+use Rattle.pbd_grid.proofs.Looking.{finds, finds_behind}
+use Rattle.pbd_grid.proofs.Walking.{kept_fits, IsKept-more, IsKept-all, IsKept-behind}
 use Rattle.pbd_grid.proofs.lookup.look_up.Goals as goal
 
 pub push_if-requires : goal.push_if-requires
@@ -10,8 +11,8 @@ push_if-requires g c = kept_fits c.loop.invariant c.in-Some.j c.wanted.result c.
 
 pub next-at-requires : goal.next-at-requires
 next-at-requires g c =
-    let e : slot_of (length c.args.chains.now.chains) c.args.cell ≡ c.slot.result = ap (λ (n : ℕ). slot_of n c.args.cell) c.requires.chains ∙ sym c.slot.ensures.value in
-    chain_linked c.args.chains.now.chains (slot_of (length c.args.chains.now.chains) c.args.cell) c.in-Some.j (omega (arith, e, c.slot.ensures.below, c.requires.chains))
+    let e : slot_of (length c.args.chains.now.chains) c.args.cell ≡ c.slot.result = ap (λ (n : ℕ). slot_of n c.args.cell) c.requires.laid.counted ∙ sym c.slot.ensures.value in
+    chain_linked c.args.chains.now.chains (slot_of (length c.args.chains.now.chains) c.args.cell) c.in-Some.j (omega (arith, e, c.slot.ensures.below, c.requires.laid.counted))
     (get_in (chain_at c.args.chains.now.chains (slot_of (length c.args.chains.now.chains) c.args.cell)) c.loop.counter c.in-Some.j (sym c.loop.invariant.next ∙ c.in-Some.is))
 
 pub loop-preserved : goal.loop-preserved
@@ -20,3 +21,9 @@ loop-preserved g c = IsKept-more c.loop.invariant c.in-Some.j c.wanted.result c.
 
 pub returns-in_default : goal.returns-in_default
 returns-in_default g c = IsKept-all c.loop.invariant (get_none (chain_at c.args.chains.now.chains (slot_of (length c.args.chains.now.chains) c.args.cell)) c.loop.counter (sym c.loop.invariant.next ∙ c.in_default.is))
+
+pub returns-then-j-i : goal.returns-then-j-i
+returns-then-j-i g c =
+    IsKept-behind (finds c.args.places.now c.args.side (g.F.PairFilter.test c.args.filter.now) c.args.i c.args.cell) c.args.i
+    (finds_behind c.args.places.now c.args.side (g.F.PairFilter.test c.args.filter.now) c.args.i c.args.cell)
+    c.loop.invariant (length c.args.places.now) c.in-Some.j (c.requires.laid.falling (slot_of (length c.args.chains.now.chains) c.args.cell)) c.in-Some.is (omega (arith, c.if-j-i.true))
