@@ -118,10 +118,10 @@ written_next test i old count new wanted count' new' so_far is counted put =
     record {
       count = counted ∙ ap (λ (b : Bool). cond b (count + 1) count) is ∙ ap (λ (k : ℕ). cond (test i) (k + 1) k) so_far.count ∙ count_if (test i) (passing test i) i ∙ ap (λ (xs : List ℕ). length xs) (sym (passing_next test i));
       written = put ∙ ap (λ (b : Bool). cond b (cond (nat_lt count (length new)) (slice_set new count i) new) new) is
-        ∙ ap (λ (m : ℕ). cond (test i) (cond (nat_lt count m) (slice_set new count i) new) new) long
-        ∙ ap (λ (k : ℕ). cond (test i) (cond (nat_lt k (length old)) (slice_set new k i) new) new) so_far.count
-        ∙ ap (λ (xs : List ℕ). cond (test i) (cond (nat_lt (length (passing test i)) (length old)) (slice_set xs (length (passing test i)) i) xs) xs) so_far.written
-        ∙ written_if (test i) old (passing test i) i ∙ ap (λ (xs : List ℕ). overwritten old xs) (sym (passing_next test i));
+          ∙ ap (λ (m : ℕ). cond (test i) (cond (nat_lt count m) (slice_set new count i) new) new) long
+          ∙ ap (λ (k : ℕ). cond (test i) (cond (nat_lt k (length old)) (slice_set new k i) new) new) so_far.count
+          ∙ ap (λ (xs : List ℕ). cond (test i) (cond (nat_lt (length (passing test i)) (length old)) (slice_set xs (length (passing test i)) i) xs) xs) so_far.written
+          ∙ written_if (test i) old (passing test i) i ∙ ap (λ (xs : List ℕ). overwritten old xs) (sym (passing_next test i));
       few = subst (λ (k : ℕ). k ≤ i + 1) (sym counted) (few_if wanted count i so_far.few);
     }
 

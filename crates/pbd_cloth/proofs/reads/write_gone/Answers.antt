@@ -1,4 +1,4 @@
-use Rattle.std.proofs.Common.{arith, ap, ◌∙◌, sym, length}
+use Rattle.std.proofs.Common.{arith, length}
 use Rattle.pbd_cloth.specs.Reading.{has_gone, gone_numbers}
 use Rattle.pbd_cloth.proofs.Writing.{written_none, written_next, written_all}
 use Rattle.pbd_cloth.proofs.reads.write_gone.Goals as goal
