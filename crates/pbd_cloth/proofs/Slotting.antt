@@ -1,14 +1,15 @@
 -- What becomes of worlds in slots.
-use Rattle.std.proofs.Common.{◌≡◌, ◌≢◌, ◌∙◌, refl, sym, ap, subst, ℕ, ◌+◌, ◌<◌, ◌≤◌, List, [], ◌∷◌, ◌++◌, length, get_or, replicate, slice_set, All, IsTrue, arith}
+use Rattle.std.proofs.Common.{◌≡◌, ◌≢◌, ◌∙◌, refl, sym, ap, subst, ℕ, ◌+◌, ◌<◌, ◌≤◌, List, [], ◌∷◌, ◌++◌, length, get_or, replicate, slice_set, IsTrue, arith}
 use Rattle.std.proofs.lemmas.Bool.{false≢true}
 use Rattle.std.proofs.lemmas.List.{get_or-set_same, get_or-set_other, length-set, length-replicate, replicate-append-replicate}
-use Rattle.std.proofs.lemmas.List.Elements.{All-set, All-replicate, All-get_or}
+use Rattle.std.proofs.lemmas.List.Elements.{All-set, All-replicate}
 use Rattle.pbd_world.specs.declared.command.Command.{Command}
 use Rattle.pbd_world.specs.declared.command.Reply.{Reply}
 use Rattle.pbd_world.specs.declared.command.Reply.TheVariants.{Done, Frame, Ledger, Refused}
 use Rattle.pbd_world.specs.World.{World, IsSound, AreOfOneScene, unchanging}
 use Rattle.pbd_world.specs.Meaning.{after, reply}
 use Rattle.pbd_world.specs.Session.{is_refused}
+use Rattle.pbd_store.proofs.Listing.{any_default}
 use Rattle.pbd_cloth.specs.Slots.{Slotted, slot_at, played, saved, restored, last_played, begun, IsSlotOf, AreSlots}
 
 -- ---- opening
@@ -51,6 +52,28 @@ slot_saved w ws k are = record {
   sound = are.sound;
   slots = All-set (IsSlotOf w) ws k w (record { sound = are.sound; one_scene = refl }) are.slots;
 }
+
+-- ---- a world that is kept, and one that is gone back to
+
+pub slots_saved : (w : World) (ws : List World) (k : ℕ) (new : List World) → AreSlots w ws → new ≡ slice_set ws k w → AreSlots w new
+slots_saved w ws k new are is = subst (λ (us : List World). AreSlots w us) (sym is) (slot_saved w ws k are)
+
+pub record IsRestored (c : Slotted) (k : ℕ) (w : World) : Type 0 where
+  pub fit : AreSlots w c.slots
+  pub seen : record c { world = w } ≡ restored c k
+
+pub is_restored : (c : Slotted) (k : ℕ) (w v : World) → AreSlots c.world c.slots → k < length c.slots → v ≡ get_or c.slots k v → w ≡ v → IsSound w → IsRestored c k w
+is_restored c k w v are within at is sound =
+    let there : w ≡ slot_at c k = is ∙ at ∙ any_default c.slots k v c.world within in
+    record {
+      fit = slots_stay c.world w c.slots are sound (slot_scene c.world c.slots k c.world are within ∙ ap (λ (u : World). unchanging u) (sym there));
+      seen = λ i. record { world = there i; slots = c.slots };
+    }
+
+pub slot_is : (c : Slotted) (k : ℕ) (v : World) → AreSlots c.world c.slots → k < length c.slots → v ≡ get_or c.slots k v → AreOfOneScene c.world v
+slot_is c k v are within at = subst (λ (u : World). AreOfOneScene c.world u) (sym at) (slot_scene c.world c.slots k v are within)
+
+-- ---- refused commands
 
 -- a refused command keeps the world
 pub refused_keeps : (kept : (w : World) (command : Command) (refusal : _) → reply w command ≡ Refused refusal → after w command ≡ w)

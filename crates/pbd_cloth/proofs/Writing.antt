@@ -85,10 +85,10 @@ passing_next test n =
     ∙ filter-append test (range_with_len 0 n) (n ∷ []) ∙ filter_one test (passing test n) n
 
 -- so many pass below i, and as many of them as there is room for are written over the list
-pub record Written (test : ℕ → Bool) (i : ℕ) (old : List ℕ) (count : ℕ) (new : List ℕ) : Type 0 where
-  pub count : count ≡ length (passing test i)
+pub record Written (test : ℕ → Bool) (i : ℕ) (old : List ℕ) (n : ℕ) (new : List ℕ) : Type 0 where
+  pub count : n ≡ length (passing test i)
   pub written : new ≡ overwritten old (passing test i)
-  pub few : count ≤ i
+  pub few : n ≤ i
 
 pub written_none : (test : ℕ → Bool) (old : List ℕ) → Written test 0 old 0 old
 written_none test old = record { count = refl; written = sym (over_none old); few = omega arith }
@@ -118,9 +118,12 @@ written_next test i old count new wanted count' new' so_far is counted put =
     record {
       count = counted ∙ ap (λ (b : Bool). cond b (count + 1) count) is ∙ ap (λ (k : ℕ). cond (test i) (k + 1) k) so_far.count ∙ count_if (test i) (passing test i) i ∙ ap (λ (xs : List ℕ). length xs) (sym (passing_next test i));
       written = put ∙ ap (λ (b : Bool). cond b (cond (nat_lt count (length new)) (slice_set new count i) new) new) is
-        ∙ ap (λ (m : ℕ). cond (test i) (cond (nat_lt count m) (slice_set new count i) new) new) long
-        ∙ ap (λ (k : ℕ). cond (test i) (cond (nat_lt k (length old)) (slice_set new k i) new) new) so_far.count
-        ∙ ap (λ (xs : List ℕ). cond (test i) (cond (nat_lt (length (passing test i)) (length old)) (slice_set xs (length (passing test i)) i) xs) xs) so_far.written
-        ∙ written_if (test i) old (passing test i) i ∙ ap (λ (xs : List ℕ). overwritten old xs) (sym (passing_next test i));
+          ∙ ap (λ (m : ℕ). cond (test i) (cond (nat_lt count m) (slice_set new count i) new) new) long
+          ∙ ap (λ (k : ℕ). cond (test i) (cond (nat_lt k (length old)) (slice_set new k i) new) new) so_far.count
+          ∙ ap (λ (xs : List ℕ). cond (test i) (cond (nat_lt (length (passing test i)) (length old)) (slice_set xs (length (passing test i)) i) xs) xs) so_far.written
+          ∙ written_if (test i) old (passing test i) i ∙ ap (λ (xs : List ℕ). overwritten old xs) (sym (passing_next test i));
       few = subst (λ (k : ℕ). k ≤ i + 1) (sym counted) (few_if wanted count i so_far.few);
     }
+
+pub written_all : (test : ℕ → Bool) (i n : ℕ) (old : List ℕ) (count : ℕ) (new : List ℕ) → i ≡ n → Written test i old count new → Written test n old count new
+written_all test i n old count new all so_far = subst (λ (k : ℕ). Written test k old count new) all so_far

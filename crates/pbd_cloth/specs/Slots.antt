@@ -41,7 +41,7 @@ pub record IsSlotOf (w v : World) : Type 0 where
   pub one_scene : AreOfOneScene w v
 
 -- a sound world, and up to 16 of one scene with it
-pub record AreSlots (w : World) (slots : List World) : Type 0 where
-  pub few : length slots ≤ 16
+pub record AreSlots (w : World) (ws : List World) : Type 0 where
+  pub few : length ws ≤ 16
   pub sound : IsSound w
-  pub slots : All (IsSlotOf w) slots
+  pub slots : All (IsSlotOf w) ws

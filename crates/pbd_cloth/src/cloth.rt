@@ -134,11 +134,7 @@ fn sums_counted<G: Ledger>(
     playing.frame_sums(&mut steps)
 }
 
-fn keep(
-    kept: &mut Vec<Saved<LANES>>,
-    slot: usize,
-    playing: &Session<LANES, LaneProjector<LANES>>,
-)
+fn keep(kept: &mut Vec<Saved<LANES>>, slot: usize, playing: &Session<LANES, LaneProjector<LANES>>)
     requires within { slot < length kept.old.items }
     requires slots { AreSlots playing.now kept.old.items }
     ensures { kept.new.items ≡ slice_set kept.old.items slot playing.now }

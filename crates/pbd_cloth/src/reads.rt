@@ -1,5 +1,5 @@
 //! What a cloth shows, copied into a caller's memory.
-ghost use Rattle.std.specs.Prelude.{◌≡◌, ◌<◌, ◌≤◌, if◌then◌else◌, length, map, nat_lt, slice_set, IsTrue};
+ghost use Rattle.std.specs.Prelude.{◌≡◌, ◌+◌, ◌<◌, ◌≤◌, if◌then◌else◌, length, map, nat_lt, slice_set, IsTrue};
 ghost use Rattle.pbd_world.specs.Bonds.{link_at};
 ghost use Rattle.pbd_world.specs.Lending.{overwritten};
 ghost use Rattle.pbd_world.specs.Particles.{particle_at};

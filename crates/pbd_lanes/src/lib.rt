@@ -1,12 +1,13 @@
 //! L whole numbers, or L truth values, side by side. L is one of 1, 2, 4, 8 and 16.
 #![tactic(auto)]
 
-ghost use Rattle.std.specs.Prelude.{◌≡◌, ℕ, ◌<◌, ◌≤◌, ◌^◌, pos, ◌+ℤ◌, ◌-ℤ◌, ◌*ℤ◌, ◌<ℤ◌, ◌≤ℤ◌, IsTrue, unsigned_abs, FitsSigned, int_lt, ◌&&◌, if◌then◌else◌, position, IfSome};
+ghost use Rattle.std.specs.Prelude.{◌≡◌, ℕ, ◌+◌, ◌*◌, ◌<◌, ◌≤◌, ◌^◌, pos, ◌+ℤ◌, ◌-ℤ◌, ◌*ℤ◌, ◌<ℤ◌, ◌≤ℤ◌, IsTrue, unsigned_abs, FitsSigned, int_lt, ◌&&◌, if◌then◌else◌, position, IfSome};
 ghost use Rattle.std.specs.Int.{w64};
 ghost use Rattle.pbd_num.specs.Rounding.{rdiv as rounded, root as whole_root};
-ghost use Rattle.pbd_lanes.specs.Lane.{lane, is_set, lanes_of};
+ghost use Rattle.pbd_num.specs.Vectors.{is_axis_within};
+ghost use Rattle.pbd_lanes.specs.Lane.{lane, is_set, lanes_of, sum_below};
 
-use pbd_num::{rdiv, root};
+use pbd_num::{axis_within, rdiv, root};
 use std::marker::Model;
 
 mod roots;
@@ -48,6 +49,35 @@ impl<const L: usize> Model for Mask<L> {
     ghost invariant = { λ a. length a.set ≡ L };
 
     ghost inverse = { λ v. record { set = v } };
+}
+
+#[inline(always)]
+fn still_within(right: bool, n: i64, limit: i64) -> bool
+    requires low { pos 0 ≤ℤ limit }
+    requires high { unsigned_abs limit ≤ 2 ^ 29 }
+    ensures right { IsTrue result → IsTrue right }
+    ensures within { IsTrue result → IsTrue (is_axis_within limit n) }
+{
+    right & axis_within(n, limit)
+}
+
+#[inline(always)]
+fn still_less(right: bool, a: i64, b: i64, set: bool) -> bool
+    ensures right { IsTrue result → IsTrue right }
+    ensures less { IsTrue result → IsTrue set → a <ℤ b }
+{
+    right & ((a < b) | !set)
+}
+
+#[inline(always)]
+fn with_both(sum: i64, a: i64, b: i64) -> i64
+    requires sum { unsigned_abs sum ≤ 2 ^ 40 }
+    requires a { unsigned_abs a ≤ 2 ^ 31 }
+    requires b { unsigned_abs b ≤ 2 ^ 31 }
+    ensures value { result ≡ sum +ℤ (a +ℤ b) }
+    ensures size { unsigned_abs result ≤ unsigned_abs sum + 2 ^ 32 }
+{
+    sum + (a + b)
 }
 
 impl<const L: usize> Lanes<L> {
@@ -173,6 +203,48 @@ impl<const L: usize> Lanes<L> {
             }
         }
         Lanes { values }
+    }
+
+    /// Whether each number lies in `-limit..=limit`.
+    #[inline(always)]
+    pub fn are_within(&self, limit: i64) -> bool
+        requires low { pos 0 ≤ℤ limit }
+        requires high { unsigned_abs limit ≤ 2 ^ 29 }
+        ensures { IsTrue result → (j : ℕ) → j < L → IsTrue (is_axis_within limit (lane self.now j)) }
+    {
+        let mut all = true;
+        for j in 0..L {
+            all = still_within(all, self.values[j], limit);
+        }
+        all
+    }
+
+    /// Whether each number is less than the other where the mask is set.
+    #[inline(always)]
+    pub fn are_less(&self, other: &Lanes<L>, mask: &Mask<L>) -> bool
+        ensures { IsTrue result → (j : ℕ) → j < L → IsTrue (is_set mask.now j) → lane self.now j <ℤ lane other.now j }
+    {
+        let mut all = true;
+        for j in 0..L {
+            all = still_less(all, self.values[j], other.values[j], mask.set[j]);
+        }
+        all
+    }
+
+    /// The sum of these numbers and others.
+    #[inline(always)]
+    pub fn sum_with(&self, other: &Lanes<L>) -> i64
+        requires lanes { L ≤ 16 }
+        requires first { (j : ℕ) → j < L → unsigned_abs (lane self.now j) ≤ 2 ^ 31 }
+        requires second { (j : ℕ) → j < L → unsigned_abs (lane other.now j) ≤ 2 ^ 31 }
+        ensures value { result ≡ sum_below (λ j. lane self.now j +ℤ lane other.now j) L }
+        ensures size { unsigned_abs result ≤ L * 2 ^ 32 }
+    {
+        let mut sum = 0;
+        for j in 0..L {
+            sum = with_both(sum, self.values[j], other.values[j]);
+        }
+        sum
     }
 }
 

@@ -1,22 +1,24 @@
 // One block of bonds, side by side.
-ghost use Rattle.std.specs.Prelude.{◌≡◌, ℕ, ◌<◌, ◌≤◌, ◌^◌, ◌+◌, ◌*◌, ◌-◌, pos, length, MatchResult, Result, Ok, Err, slice_index_or, nat_lt, not, true, Bool, if◌then◌else◌};
+ghost use Rattle.std.specs.Prelude.{◌≡◌, ℕ, ◌<◌, ◌≤◌, ◌^◌, ◌+◌, ◌*◌, ◌-◌, pos, length, MatchResult, Result, Ok, Err, slice_index_or, nat_lt, not, true, Bool, IsTrue, if◌then◌else◌};
 ghost use Rattle.pbd_num.specs.Vectors.{Within};
-ghost use Rattle.pbd_world.specs.Ledger.{ledger_of, booked, HaveRoom};
+ghost use Rattle.pbd_world.specs.Ledger.{ledger_of, added, booked, HaveRoom};
 ghost use Rattle.pbd_world.specs.Bonds.{projected, entries_of, class_of};
 ghost use Rattle.pbd_store.specs.Gathering.{index_at};
 ghost use Rattle.pbd_lanes.specs.Lane.{lane, is_set};
 ghost use Rattle.pbd_pair.specs.Bonds.{bond_of, bond_count};
 ghost use Rattle.pbd_store.specs.Moving.{motion_of, fixed_parts, AreInside, Weigh};
 ghost use Rattle.pbd_pair.specs.Projecting.{IsBatch};
-ghost use Rattle.pbd_pair.specs.Lanes.{shift_in, settled, IsLaid};
+ghost use Rattle.pbd_pair.specs.Lanes.{shift_in, moved_in, settled, IsLaid, Opposed};
+ghost use Rattle.pbd_world.specs.declared.totals.Class.TheVariants as classes;
 
 use crate::bonds::Bonds;
 use crate::book::book;
 use crate::gathered::{BlockBonds, lay_block};
 use crate::laid::{BlockMoves, BondTargets};
 use pbd_lanes::{Lanes, Mask};
+use pbd_num::Vec3;
 use pbd_store::{Steps, Store};
-use pbd_world::{Bond, Left, Shift, Totals};
+use pbd_world::{Bond, Class, Left, Shift, Totals};
 use std::sync::ledger::Ledger;
 
 #[inline(always)]
@@ -82,7 +84,7 @@ fn book_if_moving(
 }
 
 #[inline(always)]
-fn book_block<const L: usize>(
+fn book_each<const L: usize>(
     totals: &mut Totals,
     bonds: &Bonds<'_>,
     block: &[u32],
@@ -112,6 +114,60 @@ fn book_block<const L: usize>(
             bond,
             laid.shift(j),
         );
+    }
+}
+
+// Adds what all lanes move to the total of pins.
+#[inline(always)]
+fn book_pins<const L: usize>(totals: &mut Totals, laid: &BlockMoves<L>)
+    requires lanes { L ≤ 16 }
+    requires room { HaveRoom (2 ^ 124) (ledger_of totals.old) }
+    requires first { (j : ℕ) → j < L → Within (2 ^ 31) (shift_in laid.now j).first_move }
+    requires second { (j : ℕ) → j < L → Within (2 ^ 31) (shift_in laid.now j).second_move }
+    ensures value { ledger_of totals.new ≡ added (ledger_of totals.old) classes.Pin (moved_in laid.now) }
+    ensures room { (n : ℕ) → HaveRoom n (ledger_of totals.old) → HaveRoom (n + L * 2 ^ 32) (ledger_of totals.new) }
+{
+    let x = laid.first_move.x.sum_with(&laid.second_move.x);
+    let y = laid.first_move.y.sum_with(&laid.second_move.y);
+    let z = laid.first_move.z.sum_with(&laid.second_move.z);
+    totals.add(Class::Pin, Vec3 { x, y, z });
+}
+
+#[inline(always)]
+fn is_whole(opposed: bool, len: usize, lanes: usize) -> bool
+    ensures opposed { IsTrue result → IsTrue opposed }
+    ensures whole { IsTrue result → len ≡ lanes }
+{
+    opposed & (len == lanes)
+}
+
+// Adds the moves of a block to the totals. Where all its lanes move, and two free ends oppositely, what free ends move
+// sums to nothing, and only the ends beside held ones are left.
+#[inline(always)]
+fn book_block<const L: usize>(
+    totals: &mut Totals,
+    bonds: &Bonds<'_>,
+    block: &[u32],
+    laid: &BlockMoves<L>,
+)
+    requires lanes { L ≤ 16 }
+    requires short { length block.now ≤ L }
+    requires numbers { (j : ℕ) → j < length block.now → slice_index_or block.now j 0 < bond_count bonds.now }
+    requires room { HaveRoom (2 ^ 124) (ledger_of totals.old) }
+    requires first { (j : ℕ) → j < length block.now → is_set laid.now.moving j ≡ true → Within (2 ^ 31) (shift_in laid.now j).first_move }
+    requires second { (j : ℕ) → j < length block.now → is_set laid.now.moving j ≡ true → Within (2 ^ 31) (shift_in laid.now j).second_move }
+    requires all_move { IsTrue laid.now.opposed → (j : ℕ) → j < length block.now → is_set laid.now.moving j ≡ true }
+    requires opposed { IsTrue laid.now.opposed → (j : ℕ) → j < length block.now → Opposed (is_set laid.now.first_free j) (is_set laid.now.second_free j) (shift_in laid.now j) }
+    ensures value { ledger_of totals.new ≡ settled (λ j. is_set laid.now.moving j)
+        (λ j. entries_of (not (is_set laid.now.first_free j)) (not (is_set laid.now.second_free j)) (class_of (bond_of bonds.now (slice_index_or block.now j 0))) (shift_in laid.now j))
+        (length block.now) (ledger_of totals.old) }
+    ensures room { (n : ℕ) → HaveRoom n (ledger_of totals.old) → HaveRoom (n + length block.now * 2 ^ 32) (ledger_of totals.new) }
+{
+    let whole = is_whole(laid.opposed, block.len(), L);
+    if whole {
+        book_pins(totals, laid);
+    } else {
+        book_each(totals, bonds, block, laid);
     }
 }
 

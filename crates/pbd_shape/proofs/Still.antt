@@ -1,15 +1,17 @@
 -- Particles that no shape moves, and that lose nothing to friction.
-use Rattle.std.proofs.Common.{◌≡◌, refl, sym, ap, ◌∙◌, ℕ, zero, suc, ◌+◌, ◌<◌, ◌≤◌, ◌==◌, Bool, true, false, cond, not, ◌&&◌, List, [], ◌∷◌, length, get_or, slice_set, arith, ℤ, pos, ◌+ℤ◌, ◌-ℤ◌, ◌*ℤ◌, int_lt, IsTrue, Some, Ok, inl, inr}
+use Rattle.std.proofs.Common.{◌≡◌, refl, sym, ap, ◌∙◌, ℕ, zero, suc, ◌+◌, ◌<◌, ◌≤◌, ◌==◌, Bool, true, false, cond, not, ◌&&◌, List, [], ◌∷◌, length, get_or, slice_set, arith, ℤ, pos, unsigned_abs, subst, ◌*◌, ◌^◌, ◌+ℤ◌, ◌-ℤ◌, ◌*ℤ◌, int_lt, IsTrue, Some, Ok, inl, inr}
 use Rattle.std.specs.List.{list_any}
 use Rattle.std.proofs.lemmas.Int.{ints}
 use Rattle.std.proofs.lemmas.Bool.{cases_lt, cases_Bool, false≢true, eqb-true}
 use Rattle.std.proofs.lemmas.Bool.Decides.{nat_tests}
-use Rattle.std.proofs.lemmas.List.{set-get_or}
+use Rattle.std.proofs.lemmas.List.{set-get_or, get_or_past}
 use Rattle.std.proofs.lemmas.List.Folds.{list_any_at}
 use Rattle.std.proofs.Math.Bool.{or-false}
 use Rattle.pbd_num.specs.declared.Vec3.{Vec3}
 use Rattle.pbd_num.specs.Rounding.{rdiv}
-use Rattle.pbd_num.specs.Vectors.{zero_vector, plus, minus, opposite}
+use Rattle.pbd_num.specs.Vectors.{Within, zero_vector, plus, minus, opposite}
+use Rattle.pbd_num.proofs.Ranges.{wider}
+use Rattle.pbd_store.specs.Moving.{AreInside}
 use Rattle.pbd_num.proofs.VectorSizes.{plus_nothing}
 use Rattle.pbd_world.specs.declared.parts.Particle.{Particle}
 use Rattle.pbd_world.specs.declared.parts.Plane.{Plane}
@@ -17,11 +19,12 @@ use Rattle.pbd_world.specs.declared.parts.Sphere.{Sphere}
 use Rattle.pbd_world.specs.declared.totals.Class.TheVariants as classes
 use Rattle.pbd_world.specs.Ledger.{Ledger, booked}
 use Rattle.pbd_world.specs.Particles.{particle_at, no_particle}
-use Rattle.pbd_world.specs.Shapes.{Shape, Way, way_through, shaped, shapes_of, rubbed_away}
+use Rattle.pbd_world.specs.Shapes.{Shape, way_through, shaped, shapes_of, rubbed_away}
 use Rattle.pbd_world.specs.Step.{Passing, rub}
 use Rattle.pbd_world.specs.Valid.{is_between}
 use Rattle.pbd_shape.specs.Shaping.{all_pushed, pushed_from}
 use Rattle.pbd_shape.specs.Rubbing.{rubbed_from}
+use Rattle.pbd_shape.specs.Way.{starting, IsStill}
 use Rattle.pbd_shape.proofs.Continuing.{shaped_to, shaped_is, one_shaped, pushed_on, pushed_all, pushed_begins, one_rubbed, rubbed_by, rubbed_on, rubbed_all, rubbed_begins}
 use Rattle.pbd_shape.proofs.Steps.{loss_of, rubbed_is}
 
@@ -41,14 +44,6 @@ books_nothing t true v e = (λ i. booked t ((classes.Shape, e i) ∷ [])) ∙ (�
 books_nothing t false v e = refl
 
 -- ---- shapes
-
--- a place before its way
-abbrev pub starting : Vec3 → Way
-starting at = record { at = at; touched = false }
-
--- no shape moves a place
-abbrev pub IsStill : ℤ → List Shape → Vec3 → Type 0
-IsStill limit shapes at = way_through limit shapes (starting at) ≡ Some (starting at)
 
 nowhere : (v : Vec3) → minus v v ≡ zero_vector
 nowhere v = λ i. record { x = none v.x i; y = none v.y i; z = none v.z i }
@@ -94,6 +89,13 @@ module _ (limit : ℤ) (planes : List Plane) (spheres : List Sphere) (s : Passin
       sym (pushed_begins limit planes spheres s)
       ∙ sym (pushed_still 0 many (λ j lt within. h (0 + j) within))
       ∙ pushed_all limit planes spheres (0 + many) s (omega arith) (omega (arith, flags))
+
+-- the place in a lane is in the range of both limits, also where there is no particle
+pub lane_within : (n block j : ℕ) (limit : ℤ) (ps : List Particle) {v : Vec3} → unsigned_abs limit ≤ 2 ^ 29 → AreInside limit ps → v ≡ (particle_at ps (block * n + j)).at → Within (2 ^ 29) v
+lane_within n block j limit ps high inside e = subst (Within (2 ^ 29)) (sym e) (elim (cases_lt (block * n + j) (length ps)) [
+  | inl p ↦ wider _ (unsigned_abs limit) (2 ^ 29) high (inside.each (block * n + j) p)
+  | inr q ↦ subst (λ (p : Particle). Within (2 ^ 29) p.at) (sym (get_or_past ps (block * n + j) no_particle q)) (record { x = omega arith; y = omega arith; z = omega arith })
+])
 
 -- no shape at all
 no_shapes : (planes : List Plane) (spheres : List Sphere) → length planes + length spheres ≡ 0 → shapes_of planes spheres ≡ []

@@ -14,6 +14,7 @@ ghost use Rattle.pbd_shape.specs.Way.{way_of};
 ghost use Rattle.pbd_shape.specs.Shaping.{all_pushed, push_cost, pushed_from};
 
 use crate::book::{book_if, touch_if};
+use crate::glance::any_touches;
 use crate::touched::Touched;
 use crate::way::{Pushed, push};
 use pbd_num::Vec3;
@@ -100,7 +101,8 @@ fn push_lanes<const L: usize>(
     Ok(places)
 }
 
-// Pushes the particles of a block: one access reads them, and another writes them, unless one leaves the limit.
+// Pushes the particles of a block: one access reads them, and another writes them, where a shape touches one and none
+// leaves the limit.
 fn push_block<const L: usize, G: Ledger>(
     store: &mut Store<L>,
     block: u32,
@@ -134,6 +136,10 @@ fn push_block<const L: usize, G: Ledger>(
     ensures cost { steps.new ≤ steps.old + 2 }
 {
     let mut lanes = store.load(block, steps);
+    let limit = store.limit();
+    if !any_touches(limit, planes, spheres, &lanes.at) {
+        return Ok(());
+    }
     match push_lanes(store, block, &lanes, planes, spheres, touched, totals) {
         Err(left) => Err(left),
         Ok(places) => {

@@ -6,6 +6,7 @@ pub mod Finding
 pub mod Stepping
 pub mod Running
 pub mod Flying
+pub mod Flights
 pub mod Mild
 pub mod Predicting
 pub mod Advancing

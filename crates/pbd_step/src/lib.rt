@@ -5,6 +5,7 @@ mod again;
 mod bonds;
 mod commands;
 mod contacts;
+mod flight;
 mod leaving;
 mod open;
 mod pass;

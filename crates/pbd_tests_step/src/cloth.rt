@@ -52,7 +52,15 @@ fn a_cloth_goes_back_to_its_slots(rt: HostRuntime) -> Result<(), Fail> {
     let mut cloth = Cloth::open(rt.alloc(), &scene, 2)?;
     let (replies, told) = played(&mut cloth);
     drop(cloth);
-    assert_eq!(rt; replies, [Reply::Done, Reply::Done, Reply::Refused(Refusal::LinkGone), Reply::Done]);
+    assert_eq!(rt;
+        replies,
+        [
+            Reply::Done,
+            Reply::Done,
+            Reply::Refused(Refusal::LinkGone),
+            Reply::Done
+        ]
+    );
     assert_eq!(rt; told[0], ([1, 0, 0, 7], [1, 2], 2, 2000, 1));
     assert_eq!(rt; told[1], ([0, 0, 0, 7], [0, 1], 3, 2003, 2));
     assert_eq!(rt; told[2], told[0]);
