@@ -55,15 +55,8 @@ slot_saved w ws k are = record {
 
 -- ---- a world that is kept, and one that is gone back to
 
-pub record IsSaved (c : Slotted) (k : ℕ) (ws : List World) : Type 0 where
-  pub fit : AreSlots c.world ws
-  pub seen : record c { slots = ws } ≡ saved c k
-
-pub is_saved : (c : Slotted) (k : ℕ) (ws : List World) → AreSlots c.world c.slots → ws ≡ slice_set c.slots k c.world → IsSaved c k ws
-is_saved c k ws are is = record {
-  fit = subst (λ (us : List World). AreSlots c.world us) (sym is) (slot_saved c.world c.slots k are);
-  seen = λ i. record { world = c.world; slots = is i };
-}
+pub slots_saved : (w : World) (ws : List World) (k : ℕ) (new : List World) → AreSlots w ws → new ≡ slice_set ws k w → AreSlots w new
+slots_saved w ws k new are is = subst (λ (us : List World). AreSlots w us) (sym is) (slot_saved w ws k are)
 
 pub record IsRestored (c : Slotted) (k : ℕ) (w : World) : Type 0 where
   pub fit : AreSlots w c.slots

@@ -130,7 +130,9 @@ fn tried_quotients<const L: usize>(
     requires d { (j : ℕ) → j < L → unsigned_abs (slice_index_or d.now j (pos 0)) ≤ 2 ^ 30 }
     requires root { (j : ℕ) → j < L → pos 0 <ℤ slice_index_or len.now j (pos 0) }
     requires root_size { (j : ℕ) → j < L → unsigned_abs (slice_index_or len.now j (pos 0)) < 2 ^ 31 }
-    ensures { IsTrue right.new → (j : ℕ) → j < L → slice_index_or result j (pos 0) ≡ rounded (slice_index_or e.now j (pos 0) *ℤ slice_index_or d.now j (pos 0)) (pos (unsigned_abs (slice_index_or len.now j (pos 0)))) }
+    ensures { IsTrue right.new → (j : ℕ) → j < L → slice_index_or result j (pos 0)
+        ≡ rounded (slice_index_or e.now j (pos 0) *ℤ slice_index_or d.now j (pos 0))
+        (pos (unsigned_abs (slice_index_or len.now j (pos 0)))) }
 {
     let mut values = [0; L];
     let mut all = true;
@@ -171,7 +173,8 @@ impl<const L: usize> Roots<L> {
         requires d { (j : ℕ) → j < L → unsigned_abs (lane d.now j) ≤ 2 ^ 30 }
         requires root { (j : ℕ) → j < L → pos 0 <ℤ lane self.now.values j }
         requires root_size { (j : ℕ) → j < L → unsigned_abs (lane self.now.values j) < 2 ^ 31 }
-        ensures { IsTrue right.new → (j : ℕ) → j < L → lane result j ≡ rounded (lane e.now j *ℤ lane d.now j) (pos (unsigned_abs (lane self.now.values j))) }
+        ensures { IsTrue right.new → (j : ℕ) → j < L → lane result j
+            ≡ rounded (lane e.now j *ℤ lane d.now j) (pos (unsigned_abs (lane self.now.values j))) }
     {
         let values = tried_quotients(
             &self.values.values,

@@ -60,7 +60,8 @@ impl<const L: usize> Lanes<L> {
         requires k { (j : ℕ) → j < L → unsigned_abs (lane k.now j) ≤ 256 }
         requires even { (j : ℕ) → j < L → AreEven (lane w.now j) (lane other.now j) }
         ensures size { (j : ℕ) → j < L → unsigned_abs (lane result j) ≤ 512 }
-        ensures value { (j : ℕ) → j < L → (s : ℤ) → rounded (s *ℤ lane result j) (pos 512) ≡ share_of s (lane k.now j) (lane w.now j) (unsigned_abs (lane w.now j) + unsigned_abs (lane other.now j)) }
+        ensures value { (j : ℕ) → j < L → (s : ℤ) → rounded (s *ℤ lane result j) (pos 512)
+            ≡ share_of s (lane k.now j) (lane w.now j) (unsigned_abs (lane w.now j) + unsigned_abs (lane other.now j)) }
     {
         let mut values = [0; L];
         for j in 0..L {

@@ -30,7 +30,8 @@ fn name_block<const L: usize>(bonds: &Bonds<'_>, block: &[u32]) -> BlockBonds<L>
     ensures b { (j : ℕ) → j < length block.now → index_at result.b j ≡ (bond_of bonds.now (slice_index_or block.now j 0)).b }
     ensures rest { (j : ℕ) → j < length block.now → lane result.drawn.rest j ≡ (bond_of bonds.now (slice_index_or block.now j 0)).rest }
     ensures k { (j : ℕ) → j < length block.now → lane result.drawn.k j ≡ (bond_of bonds.now (slice_index_or block.now j 0)).k }
-    ensures contact { (j : ℕ) → j < length block.now → is_set result.drawn.contact j ≡ (bond_of bonds.now (slice_index_or block.now j 0)).contact }
+    ensures contact { (j : ℕ) → j < length block.now → is_set result.drawn.contact j
+        ≡ (bond_of bonds.now (slice_index_or block.now j 0)).contact }
     ensures no_rest { (j : ℕ) → length block.now ≤ j → lane result.drawn.rest j ≡ pos 0 }
     ensures no_k { (j : ℕ) → length block.now ≤ j → lane result.drawn.k j ≡ pos 0 }
     ensures filled { (j : ℕ) → j < L → is_set result.filled j ≡ nat_lt j (length block.now) }
@@ -75,7 +76,9 @@ fn book_if_moving(
     requires room { HaveRoom (2 ^ 125) (ledger_of totals.old) }
     requires first { moving ≡ true → Within (2 ^ 31) shift.first_move }
     requires second { moving ≡ true → Within (2 ^ 31) shift.second_move }
-    ensures value { ledger_of totals.new ≡ (if moving then booked (ledger_of totals.old) (entries_of first_held second_held (class_of bond) shift) else ledger_of totals.old) }
+    ensures value { ledger_of totals.new
+        ≡ (if moving then booked (ledger_of totals.old) (entries_of first_held second_held (class_of bond) shift) else ledger_of
+        totals.old) }
     ensures room { (n : ℕ) → HaveRoom n (ledger_of totals.old) → HaveRoom (n + 2 ^ 32) (ledger_of totals.new) }
 {
     if moving {
@@ -157,7 +160,8 @@ fn book_block<const L: usize>(
     requires first { (j : ℕ) → j < length block.now → is_set laid.now.moving j ≡ true → Within (2 ^ 31) (shift_in laid.now j).first_move }
     requires second { (j : ℕ) → j < length block.now → is_set laid.now.moving j ≡ true → Within (2 ^ 31) (shift_in laid.now j).second_move }
     requires all_move { IsTrue laid.now.opposed → (j : ℕ) → j < length block.now → is_set laid.now.moving j ≡ true }
-    requires opposed { IsTrue laid.now.opposed → (j : ℕ) → j < length block.now → Opposed (is_set laid.now.first_free j) (is_set laid.now.second_free j) (shift_in laid.now j) }
+    requires opposed { IsTrue laid.now.opposed → (j : ℕ) → j < length block.now
+        → Opposed (is_set laid.now.first_free j) (is_set laid.now.second_free j) (shift_in laid.now j) }
     ensures value { ledger_of totals.new ≡ settled (λ j. is_set laid.now.moving j)
         (λ j. entries_of (not (is_set laid.now.first_free j)) (not (is_set laid.now.second_free j)) (class_of (bond_of bonds.now (slice_index_or block.now j 0))) (shift_in laid.now j))
         (length block.now) (ledger_of totals.old) }

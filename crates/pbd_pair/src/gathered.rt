@@ -38,15 +38,21 @@ pub(crate) fn lay_block<const L: usize, G: Ledger>(
     requires no_k { (j : ℕ) → j < L → is_set named.now.filled j ≡ false → (bond_in named.now.drawn j).k ≡ pos 0 }
     requires inside { AreInside store.now.limit store.now.particles }
     requires weights { Weigh store.now.particles }
-    ensures lays { (j : ℕ) → j < L → IsTrue (is_set named.now.filled j) → Lays (correction_of store.now.limit (end_of (particle_at store.now.particles (index_at named.now.a j))) (end_of (particle_at store.now.particles (index_at named.now.b j))) (bond_in named.now.drawn j)) (is_set result.moving j) (is_set result.leaving j) (shift_in result j) }
+    ensures lays { (j : ℕ) → j < L → IsTrue (is_set named.now.filled j)
+        → Lays (correction_of store.now.limit (end_of (particle_at store.now.particles (index_at named.now.a j)))
+        (end_of (particle_at store.now.particles (index_at named.now.b j))) (bond_in named.now.drawn j)) (is_set result.moving j)
+        (is_set result.leaving j) (shift_in result j) }
     ensures not_moving { (j : ℕ) → j < L → is_set named.now.filled j ≡ false → is_set result.moving j ≡ false }
     ensures not_leaving { (j : ℕ) → j < L → is_set named.now.filled j ≡ false → is_set result.leaving j ≡ false }
     ensures leaving_len { length result.leaving ≡ L }
     ensures sound { (j : ℕ) → j < L → is_set result.moving j ≡ true → IsSoundShift store.now.limit (shift_in result j) }
-    ensures first_free { (j : ℕ) → j < L → IsTrue (is_set named.now.filled j) → is_set result.first_free j ≡ not (particle_at store.now.particles (index_at named.now.a j)).held }
-    ensures second_free { (j : ℕ) → j < L → IsTrue (is_set named.now.filled j) → is_set result.second_free j ≡ not (particle_at store.now.particles (index_at named.now.b j)).held }
+    ensures first_free { (j : ℕ) → j < L → IsTrue (is_set named.now.filled j) → is_set result.first_free j
+        ≡ not (particle_at store.now.particles (index_at named.now.a j)).held }
+    ensures second_free { (j : ℕ) → j < L → IsTrue (is_set named.now.filled j) → is_set result.second_free j
+        ≡ not (particle_at store.now.particles (index_at named.now.b j)).held }
     ensures all_move { IsTrue result.opposed → (j : ℕ) → j < L → IsTrue (is_set named.now.filled j) → is_set result.moving j ≡ true }
-    ensures opposed { IsTrue result.opposed → (j : ℕ) → j < L → Opposed (is_set result.first_free j) (is_set result.second_free j) (shift_in result j) }
+    ensures opposed { IsTrue result.opposed → (j : ℕ) → j < L
+        → Opposed (is_set result.first_free j) (is_set result.second_free j) (shift_in result j) }
     ensures cost { steps.new ≡ steps.old + 2 }
 {
     let limit = limit_of(store);

@@ -139,7 +139,8 @@ fn corrected_each<const L: usize>(
     requires p { (j : ℕ) → j < L → IsEnd limit (end_in p.now j) }
     requires q { (j : ℕ) → j < L → IsEnd limit (end_in q.now j) }
     requires drawn { (j : ℕ) → j < L → IsDrawn limit (bond_in drawn.now j) }
-    ensures lays { (j : ℕ) → j < L → Lays (correction_of limit (end_in p.now j) (end_in q.now j) (bond_in drawn.now j)) (is_set result.moving j) (is_set result.leaving j) (shift_in result j) }
+    ensures lays { (j : ℕ) → j < L → Lays (correction_of limit (end_in p.now j) (end_in q.now j) (bond_in drawn.now j))
+        (is_set result.moving j) (is_set result.leaving j) (shift_in result j) }
     ensures sound { (j : ℕ) → j < L → is_set result.moving j ≡ true → IsSoundShift limit (shift_in result j) }
     ensures first_free { (j : ℕ) → j < L → is_set result.first_free j ≡ int_lt (pos 0) (end_in p.now j).weight }
     ensures second_free { (j : ℕ) → j < L → is_set result.second_free j ≡ int_lt (pos 0) (end_in q.now j).weight }
@@ -190,8 +191,12 @@ fn move_all<const L: usize>(p: &Ends<L>, q: &Ends<L>, k: &Lanes<L>, s: &Lanes3<L
     ensures leaving { (j : ℕ) → j < L → is_set result.leaving j ≡ false }
     ensures first { (j : ℕ) → j < L → place_in result.first j ≡ plus (place_in p.now.at j) (place_in result.first_move j) }
     ensures second { (j : ℕ) → j < L → place_in result.second j ≡ plus (place_in q.now.at j) (place_in result.second_move j) }
-    ensures first_move { (j : ℕ) → j < L → place_in result.first_move j ≡ opposite (shares_of (place_in s.now j) (lane k.now j) (lane p.now.weight j) (unsigned_abs (lane p.now.weight j) + unsigned_abs (lane q.now.weight j))) }
-    ensures second_move { (j : ℕ) → j < L → place_in result.second_move j ≡ shares_of (place_in s.now j) (lane k.now j) (lane q.now.weight j) (unsigned_abs (lane p.now.weight j) + unsigned_abs (lane q.now.weight j)) }
+    ensures first_move { (j : ℕ) → j < L → place_in result.first_move j
+        ≡ opposite (shares_of (place_in s.now j) (lane k.now j) (lane p.now.weight j)
+        (unsigned_abs (lane p.now.weight j) + unsigned_abs (lane q.now.weight j))) }
+    ensures second_move { (j : ℕ) → j < L → place_in result.second_move j
+        ≡ shares_of (place_in s.now j) (lane k.now j) (lane q.now.weight j)
+        (unsigned_abs (lane p.now.weight j) + unsigned_abs (lane q.now.weight j)) }
     ensures first_size { (j : ℕ) → j < L → Within (2 ^ 31) (place_in result.first_move j) }
     ensures second_size { (j : ℕ) → j < L → Within (2 ^ 31) (place_in result.second_move j) }
     ensures first_free { (j : ℕ) → j < L → is_set result.first_free j ≡ int_lt (pos 0) (lane p.now.weight j) }
@@ -227,12 +232,14 @@ pub(crate) fn correct_lanes<const L: usize>(
     requires p { (j : ℕ) → j < L → IsEnd limit (end_in p.now j) }
     requires q { (j : ℕ) → j < L → IsEnd limit (end_in q.now j) }
     requires drawn { (j : ℕ) → j < L → IsDrawn limit (bond_in drawn.now j) }
-    ensures lays { (j : ℕ) → j < L → Lays (correction_of limit (end_in p.now j) (end_in q.now j) (bond_in drawn.now j)) (is_set result.moving j) (is_set result.leaving j) (shift_in result j) }
+    ensures lays { (j : ℕ) → j < L → Lays (correction_of limit (end_in p.now j) (end_in q.now j) (bond_in drawn.now j))
+        (is_set result.moving j) (is_set result.leaving j) (shift_in result j) }
     ensures sound { (j : ℕ) → j < L → is_set result.moving j ≡ true → IsSoundShift limit (shift_in result j) }
     ensures first_free { (j : ℕ) → j < L → is_set result.first_free j ≡ int_lt (pos 0) (end_in p.now j).weight }
     ensures second_free { (j : ℕ) → j < L → is_set result.second_free j ≡ int_lt (pos 0) (end_in q.now j).weight }
     ensures all_move { IsTrue result.opposed → (j : ℕ) → j < L → is_set result.moving j ≡ true }
-    ensures opposed { IsTrue result.opposed → (j : ℕ) → j < L → Opposed (is_set result.first_free j) (is_set result.second_free j) (shift_in result j) }
+    ensures opposed { IsTrue result.opposed → (j : ℕ) → j < L
+        → Opposed (is_set result.first_free j) (is_set result.second_free j) (shift_in result j) }
 {
     let d = gaps(&p.at, &q.at);
     let mut measured = false;

@@ -140,7 +140,8 @@ pub(crate) fn shares<const L: usize>(
     requires s { (j : ℕ) → j < L → Within (2 ^ 31) (place_in s.now j) }
     requires k { (j : ℕ) → j < L → unsigned_abs (lane k.now j) ≤ 256 }
     requires even { (j : ℕ) → j < L → AreEven (lane w.now j) (lane other.now j) }
-    ensures value { (j : ℕ) → j < L → place_in result j ≡ shares_of (place_in s.now j) (lane k.now j) (lane w.now j) (unsigned_abs (lane w.now j) + unsigned_abs (lane other.now j)) }
+    ensures value { (j : ℕ) → j < L → place_in result j
+        ≡ shares_of (place_in s.now j) (lane k.now j) (lane w.now j) (unsigned_abs (lane w.now j) + unsigned_abs (lane other.now j)) }
     ensures size { (j : ℕ) → j < L → Within (2 ^ 31) (place_in result j) }
 {
     let f = Lanes::factors(k, w, other);
