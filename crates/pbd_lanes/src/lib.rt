@@ -1,12 +1,13 @@
 //! L whole numbers, or L truth values, side by side. L is one of 1, 2, 4, 8 and 16.
 #![tactic(auto)]
 
-ghost use Rattle.std.specs.Prelude.{◌≡◌, ℕ, ◌<◌, ◌≤◌, ◌^◌, pos, ◌+ℤ◌, ◌-ℤ◌, ◌*ℤ◌, ◌<ℤ◌, ◌≤ℤ◌, IsTrue, unsigned_abs, FitsSigned, int_lt, ◌&&◌, if◌then◌else◌, position, IfSome};
+ghost use Rattle.std.specs.Prelude.{◌≡◌, ℕ, ◌+◌, ◌*◌, ◌<◌, ◌≤◌, ◌^◌, pos, ◌+ℤ◌, ◌-ℤ◌, ◌*ℤ◌, ◌<ℤ◌, ◌≤ℤ◌, IsTrue, unsigned_abs, FitsSigned, int_lt, ◌&&◌, if◌then◌else◌, position, IfSome};
 ghost use Rattle.std.specs.Int.{w64};
 ghost use Rattle.pbd_num.specs.Rounding.{rdiv as rounded, root as whole_root};
-ghost use Rattle.pbd_lanes.specs.Lane.{lane, is_set, lanes_of};
+ghost use Rattle.pbd_num.specs.Vectors.{is_axis_within};
+ghost use Rattle.pbd_lanes.specs.Lane.{lane, is_set, lanes_of, sum_below};
 
-use pbd_num::{rdiv, root};
+use pbd_num::{axis_within, rdiv, root};
 use std::marker::Model;
 
 mod roots;
@@ -50,8 +51,38 @@ impl<const L: usize> Model for Mask<L> {
     ghost inverse = { λ v. record { set = v } };
 }
 
+#[inline(always)]
+fn still_within(right: bool, n: i64, limit: i64) -> bool
+    requires low { pos 0 ≤ℤ limit }
+    requires high { unsigned_abs limit ≤ 2 ^ 29 }
+    ensures right { IsTrue result → IsTrue right }
+    ensures within { IsTrue result → IsTrue (is_axis_within limit n) }
+{
+    right & axis_within(n, limit)
+}
+
+#[inline(always)]
+fn still_less(right: bool, a: i64, b: i64, set: bool) -> bool
+    ensures right { IsTrue result → IsTrue right }
+    ensures less { IsTrue result → IsTrue set → a <ℤ b }
+{
+    right & ((a < b) | !set)
+}
+
+#[inline(always)]
+fn with_both(sum: i64, a: i64, b: i64) -> i64
+    requires sum { unsigned_abs sum ≤ 2 ^ 40 }
+    requires a { unsigned_abs a ≤ 2 ^ 31 }
+    requires b { unsigned_abs b ≤ 2 ^ 31 }
+    ensures value { result ≡ sum +ℤ (a +ℤ b) }
+    ensures size { unsigned_abs result ≤ unsigned_abs sum + 2 ^ 32 }
+{
+    sum + (a + b)
+}
+
 impl<const L: usize> Lanes<L> {
     /// One number in each lane.
+    #[inline(always)]
     pub fn splat(value: i64) -> Lanes<L>
         ensures { result ≡ lanes_of L (λ _. value) }
     {
@@ -59,6 +90,7 @@ impl<const L: usize> Lanes<L> {
     }
 
     /// The numbers of an array.
+    #[inline(always)]
     pub fn from_array(values: [i64; L]) -> Lanes<L>
         ensures { result ≡ values.entry }
     {
@@ -66,6 +98,7 @@ impl<const L: usize> Lanes<L> {
     }
 
     /// The numbers as an array.
+    #[inline(always)]
     pub fn to_array(&self) -> [i64; L]
         ensures { result ≡ self.now }
     {
@@ -73,6 +106,7 @@ impl<const L: usize> Lanes<L> {
     }
 
     /// The sums, lane by lane. Each has to fit 64 bits.
+    #[inline(always)]
     pub fn add(&self, other: &Lanes<L>) -> Lanes<L>
         requires { (j : ℕ) → j < L → FitsSigned w64 (lane self.now j +ℤ lane other.now j) }
         ensures { result ≡ lanes_of L (λ j. lane self.now j +ℤ lane other.now j) }
@@ -85,6 +119,7 @@ impl<const L: usize> Lanes<L> {
     }
 
     /// The differences, lane by lane. Each has to fit 64 bits.
+    #[inline(always)]
     pub fn sub(&self, other: &Lanes<L>) -> Lanes<L>
         requires { (j : ℕ) → j < L → FitsSigned w64 (lane self.now j -ℤ lane other.now j) }
         ensures { result ≡ lanes_of L (λ j. lane self.now j -ℤ lane other.now j) }
@@ -97,6 +132,7 @@ impl<const L: usize> Lanes<L> {
     }
 
     /// The products, lane by lane. Each has to fit 64 bits.
+    #[inline(always)]
     pub fn mul(&self, other: &Lanes<L>) -> Lanes<L>
         requires { (j : ℕ) → j < L → FitsSigned w64 (lane self.now j *ℤ lane other.now j) }
         ensures { result ≡ lanes_of L (λ j. lane self.now j *ℤ lane other.now j) }
@@ -109,6 +145,7 @@ impl<const L: usize> Lanes<L> {
     }
 
     /// Where this is less than the other.
+    #[inline(always)]
     pub fn less(&self, other: &Lanes<L>) -> Mask<L>
         ensures { result ≡ lanes_of L (λ j. int_lt (lane self.now j) (lane other.now j)) }
     {
@@ -120,6 +157,7 @@ impl<const L: usize> Lanes<L> {
     }
 
     /// The lanes of `yes` where the mask is set, and of `no` elsewhere.
+    #[inline(always)]
     pub fn select(mask: &Mask<L>, yes: &Lanes<L>, no: &Lanes<L>) -> Lanes<L>
         ensures { result ≡ lanes_of L (λ j. if is_set mask.now j then lane yes.now j else lane no.now j) }
     {
@@ -136,6 +174,7 @@ impl<const L: usize> Lanes<L> {
 
     /// The quotients, rounded with halves away from zero, where the mask is set, and 0 elsewhere.
     /// There the divisor is in 1..=2^40 and the dividend at most 2^61 in size.
+    #[inline(always)]
     pub fn rdiv_lanes(n: &Lanes<L>, d: &Lanes<L>, mask: &Mask<L>) -> Lanes<L>
         requires divisor { (j : ℕ) → j < L → IsTrue (is_set mask.now j) → pos 0 <ℤ lane d.now j }
         requires divisor_size { (j : ℕ) → j < L → IsTrue (is_set mask.now j) → unsigned_abs (lane d.now j) ≤ 2 ^ 40 }
@@ -152,6 +191,7 @@ impl<const L: usize> Lanes<L> {
     }
 
     /// The square roots, rounded down, where the mask is set, and 0 elsewhere. There the number isn't below 0.
+    #[inline(always)]
     pub fn root_lanes(n: &Lanes<L>, mask: &Mask<L>) -> Lanes<L>
         requires { (j : ℕ) → j < L → IsTrue (is_set mask.now j) → pos 0 ≤ℤ lane n.now j }
         ensures { result ≡ lanes_of L (λ j. if is_set mask.now j then pos (whole_root (unsigned_abs (lane n.now j))) else pos 0) }
@@ -164,10 +204,53 @@ impl<const L: usize> Lanes<L> {
         }
         Lanes { values }
     }
+
+    /// Whether each number lies in `-limit..=limit`.
+    #[inline(always)]
+    pub fn are_within(&self, limit: i64) -> bool
+        requires low { pos 0 ≤ℤ limit }
+        requires high { unsigned_abs limit ≤ 2 ^ 29 }
+        ensures { IsTrue result → (j : ℕ) → j < L → IsTrue (is_axis_within limit (lane self.now j)) }
+    {
+        let mut all = true;
+        for j in 0..L {
+            all = still_within(all, self.values[j], limit);
+        }
+        all
+    }
+
+    /// Whether each number is less than the other where the mask is set.
+    #[inline(always)]
+    pub fn are_less(&self, other: &Lanes<L>, mask: &Mask<L>) -> bool
+        ensures { IsTrue result → (j : ℕ) → j < L → IsTrue (is_set mask.now j) → lane self.now j <ℤ lane other.now j }
+    {
+        let mut all = true;
+        for j in 0..L {
+            all = still_less(all, self.values[j], other.values[j], mask.set[j]);
+        }
+        all
+    }
+
+    /// The sum of these numbers and others.
+    #[inline(always)]
+    pub fn sum_with(&self, other: &Lanes<L>) -> i64
+        requires lanes { L ≤ 16 }
+        requires first { (j : ℕ) → j < L → unsigned_abs (lane self.now j) ≤ 2 ^ 31 }
+        requires second { (j : ℕ) → j < L → unsigned_abs (lane other.now j) ≤ 2 ^ 31 }
+        ensures value { result ≡ sum_below (λ j. lane self.now j +ℤ lane other.now j) L }
+        ensures size { unsigned_abs result ≤ L * 2 ^ 32 }
+    {
+        let mut sum = 0;
+        for j in 0..L {
+            sum = with_both(sum, self.values[j], other.values[j]);
+        }
+        sum
+    }
 }
 
 impl<const L: usize> Mask<L> {
     /// The truth values of an array.
+    #[inline(always)]
     pub fn from_array(set: [bool; L]) -> Mask<L>
         ensures { result ≡ set.entry }
     {
@@ -175,6 +258,7 @@ impl<const L: usize> Mask<L> {
     }
 
     /// The truth values as an array.
+    #[inline(always)]
     pub fn to_array(&self) -> [bool; L]
         ensures { result ≡ self.now }
     {
@@ -182,6 +266,7 @@ impl<const L: usize> Mask<L> {
     }
 
     /// Where both masks are set.
+    #[inline(always)]
     pub fn and(&self, other: &Mask<L>) -> Mask<L>
         ensures { result ≡ lanes_of L (λ j. is_set self.now j && is_set other.now j) }
     {
@@ -193,6 +278,7 @@ impl<const L: usize> Mask<L> {
     }
 
     /// The least lane that is set, and `None` where none is.
+    #[inline(always)]
     pub fn first(&self) -> Option<usize>
         ensures value { result ≡ position (λ b. b) self.now }
         ensures below { IfSome result (λ j. j < L) }

@@ -1,11 +1,11 @@
-// Roots of L numbers and quotients by them, guessed side by side. Where one guess isn't right, all lanes go the plain way.
-ghost use Rattle.std.specs.Prelude.{◌≡◌, ℕ, ◌+◌, ◌*◌, ◌/◌, ◌<◌, ◌≤◌, ◌^◌, pos, ◌*ℤ◌, ◌<ℤ◌, ◌≤ℤ◌, IsTrue, unsigned_abs, if◌then◌else◌, slice_index_or, length};
+// Roots of L numbers and quotients by them, guessed side by side, and each guess tested.
+ghost use Rattle.std.specs.Prelude.{◌≡◌, ℕ, ◌+◌, ◌*◌, ◌/◌, ◌<◌, ◌≤◌, ◌^◌, pos, ◌*ℤ◌, ◌<ℤ◌, IsTrue, unsigned_abs, slice_index_or, length};
 ghost use Rattle.pbd_num.specs.Rounding.{rdiv as rounded, root as whole_root};
-ghost use Rattle.pbd_lanes.specs.Lane.{lane, is_set, lanes_of};
+ghost use Rattle.pbd_lanes.specs.Lane.{lane};
 
-use crate::{Lanes, Mask};
+use crate::Lanes;
 use pbd_num::{
-    Inverse, is_quotient, is_root, low, lowered, near_inverse_root, near_root, raise, rdiv, short,
+    Inverse, is_quotient, is_root, low, lowered, near_inverse_root, near_root, raise, short,
     with_sign,
 };
 
@@ -17,19 +17,13 @@ pub struct Roots<const L: usize> {
     inverse: [u64; L],
 }
 
-fn size_if(n: i64, set: bool) -> u64
-    ensures { result ≡ (if set then unsigned_abs n else 0) }
-{
-    if set { n.unsigned_abs() } else { 0 }
-}
-
-// The sizes where the mask is set, and 0 elsewhere.
-fn sizes<const L: usize>(n: &[i64; L], set: &[bool; L]) -> [u64; L]
-    ensures { (j : ℕ) → j < L → slice_index_or result j 0 ≡ (if is_set set.now j then unsigned_abs (lane n.now j) else 0) }
+#[inline(always)]
+fn sizes<const L: usize>(n: &[i64; L]) -> [u64; L]
+    ensures { (j : ℕ) → j < L → slice_index_or result j 0 ≡ unsigned_abs (lane n.now j) }
 {
     let mut sizes = [0; L];
     for j in 0..L {
-        sizes[j] = size_if(n[j], set[j]);
+        sizes[j] = n[j].unsigned_abs();
     }
     sizes
 }
@@ -42,6 +36,7 @@ struct Guesses<const L: usize> {
 }
 
 // Numbers near the roots, and near their inverses.
+#[inline(always)]
 fn guessed<const L: usize>(n: &[u64; L]) -> Guesses<L>
     requires lanes { L ≤ 16 }
 {
@@ -75,18 +70,21 @@ fn guessed<const L: usize>(n: &[u64; L]) -> Guesses<L>
     }
 }
 
+#[inline(always)]
 fn still(right: bool, n: u64, guess: u64) -> bool
     requires { guess < 2 ^ 32 }
     ensures right { IsTrue result → IsTrue right }
     ensures root { IsTrue result → guess ≡ whole_root n }
+    ensures some { IsTrue result → 0 < guess }
 {
-    right & is_root(n, guess)
+    right & (guess != 0) & is_root(n, guess)
 }
 
-// The guesses, and whether they are the roots.
+// The guesses, and whether they are the roots, and none of them 0.
+#[inline(always)]
 fn tried_roots<const L: usize>(n: &[u64; L], guesses: &[u64; L], right: &mut bool) -> [i64; L]
-    ensures len { length result ≡ L }
     ensures root { IsTrue right.new → (j : ℕ) → j < L → slice_index_or result j (pos 0) ≡ pos (whole_root (slice_index_or n.now j 0)) }
+    ensures some { IsTrue right.new → (j : ℕ) → j < L → pos 0 <ℤ slice_index_or result j (pos 0) }
 {
     let mut values = [0; L];
     let mut all = true;
@@ -99,27 +97,8 @@ fn tried_roots<const L: usize>(n: &[u64; L], guesses: &[u64; L], right: &mut boo
     values
 }
 
-fn roots_of<const L: usize>(
-    n: &Lanes<L>,
-    mask: &Mask<L>,
-    sizes: &[u64; L],
-    guesses: &[u64; L],
-) -> Lanes<L>
-    requires lanes { L ≤ 16 }
-    requires low { (j : ℕ) → j < L → IsTrue (is_set mask.now j) → pos 0 ≤ℤ lane n.now j }
-    requires sizes { (j : ℕ) → j < L → slice_index_or sizes.now j 0 ≡ (if is_set mask.now j then unsigned_abs (lane n.now j) else 0) }
-    ensures { result ≡ lanes_of L (λ j. if is_set mask.now j then pos (whole_root (unsigned_abs (lane n.now j))) else pos 0) }
-{
-    let mut right = false;
-    let values = tried_roots(sizes, guesses, &mut right);
-    if right {
-        Lanes::from_array(values)
-    } else {
-        Lanes::root_lanes(n, mask)
-    }
-}
-
 // A guess with the sign of e * d, and whether it is right so far.
+#[inline(always)]
 fn tried_part(e: i64, d: i64, len: i64, near: Inverse, right: &mut bool) -> i64
     requires e { unsigned_abs e ≤ 2 ^ 31 }
     requires d { unsigned_abs d ≤ 2 ^ 30 }
@@ -137,23 +116,7 @@ fn tried_part(e: i64, d: i64, len: i64, near: Inverse, right: &mut bool) -> i64
     with_sign(e, d, guess)
 }
 
-fn kept_number(n: i64, set: bool, other: i64) -> i64
-    ensures { result ≡ (if set then n else other) }
-{
-    if set { n } else { other }
-}
-
-// The numbers where the mask is set, and another one elsewhere.
-fn kept<const L: usize>(n: &[i64; L], set: &[bool; L], other: i64) -> [i64; L]
-    ensures { (j : ℕ) → j < L → slice_index_or result j (pos 0) ≡ (if is_set set.now j then slice_index_or n.now j (pos 0) else other) }
-{
-    let mut values = [0; L];
-    for j in 0..L {
-        values[j] = kept_number(n[j], set[j], other);
-    }
-    values
-}
-
+#[inline(always)]
 fn tried_quotients<const L: usize>(
     len: &[i64; L],
     e: &[i64; L],
@@ -167,7 +130,9 @@ fn tried_quotients<const L: usize>(
     requires d { (j : ℕ) → j < L → unsigned_abs (slice_index_or d.now j (pos 0)) ≤ 2 ^ 30 }
     requires root { (j : ℕ) → j < L → pos 0 <ℤ slice_index_or len.now j (pos 0) }
     requires root_size { (j : ℕ) → j < L → unsigned_abs (slice_index_or len.now j (pos 0)) < 2 ^ 31 }
-    ensures { IsTrue right.new → (j : ℕ) → j < L → slice_index_or result j (pos 0) ≡ rounded (slice_index_or e.now j (pos 0) *ℤ slice_index_or d.now j (pos 0)) (pos (unsigned_abs (slice_index_or len.now j (pos 0)))) }
+    ensures { IsTrue right.new → (j : ℕ) → j < L → slice_index_or result j (pos 0)
+        ≡ rounded (slice_index_or e.now j (pos 0) *ℤ slice_index_or d.now j (pos 0))
+        (pos (unsigned_abs (slice_index_or len.now j (pos 0)))) }
 {
     let mut values = [0; L];
     let mut all = true;
@@ -182,100 +147,43 @@ fn tried_quotients<const L: usize>(
     values
 }
 
-fn divided_part(e: i64, d: i64, len: i64, set: bool) -> i64
-    requires e { unsigned_abs e ≤ 2 ^ 31 }
-    requires d { unsigned_abs d ≤ 2 ^ 30 }
-    requires len { unsigned_abs len < 2 ^ 31 }
-    requires some { IsTrue set → pos 0 <ℤ len }
-    ensures { result ≡ (if set then rounded (e *ℤ d) (pos (unsigned_abs len)) else pos 0) }
-{
-    if set { rdiv(e * d, len) } else { 0 }
-}
-
-fn tried_parts<const L: usize>(
-    len: &Lanes<L>,
-    e: &Lanes<L>,
-    d: &Lanes<L>,
-    mask: &Mask<L>,
-    scale: &[u64; L],
-    inverse: &[u64; L],
-    right: &mut bool,
-) -> Lanes<L>
-    requires lanes { L ≤ 16 }
-    requires e { (j : ℕ) → j < L → unsigned_abs (lane e.now j) ≤ 2 ^ 31 }
-    requires d { (j : ℕ) → j < L → unsigned_abs (lane d.now j) ≤ 2 ^ 30 }
-    requires root { (j : ℕ) → j < L → IsTrue (is_set mask.now j) → pos 0 <ℤ lane len.now j }
-    requires root_size { (j : ℕ) → j < L → unsigned_abs (lane len.now j) < 2 ^ 31 }
-    ensures { IsTrue right.new → (j : ℕ) → j < L → lane result j ≡ (if is_set mask.now j then rounded (lane e.now j *ℤ lane d.now j) (pos (unsigned_abs (lane len.now j))) else pos 0) }
-{
-    let errors = kept(&e.values, &mask.set, 0);
-    let lens = kept(&len.values, &mask.set, 1);
-    let values = tried_quotients(&lens, &errors, &d.values, scale, inverse, right);
-    Lanes { values }
-}
-
-#[inline(never)]
-fn divided_parts<const L: usize>(
-    len: &Lanes<L>,
-    e: &Lanes<L>,
-    d: &Lanes<L>,
-    mask: &Mask<L>,
-) -> Lanes<L>
-    requires lanes { L ≤ 16 }
-    requires e { (j : ℕ) → j < L → unsigned_abs (lane e.now j) ≤ 2 ^ 31 }
-    requires d { (j : ℕ) → j < L → unsigned_abs (lane d.now j) ≤ 2 ^ 30 }
-    requires root { (j : ℕ) → j < L → IsTrue (is_set mask.now j) → pos 0 <ℤ lane len.now j }
-    requires root_size { (j : ℕ) → j < L → unsigned_abs (lane len.now j) < 2 ^ 31 }
-    ensures { (j : ℕ) → j < L → lane result j ≡ (if is_set mask.now j then rounded (lane e.now j *ℤ lane d.now j) (pos (unsigned_abs (lane len.now j))) else pos 0) }
-{
-    let mut values = [0; L];
-    for j in 0..L {
-        values[j] = divided_part(e.values[j], d.values[j], len.values[j], mask.set[j]);
-    }
-    Lanes { values }
-}
-
 impl<const L: usize> Roots<L> {
-    /// The square roots, rounded down, where the mask is set, and 0 elsewhere. There the number isn't below 0.
-    pub fn of(n: &Lanes<L>, mask: &Mask<L>) -> Roots<L>
+    /// The square roots, rounded down, of numbers of these sizes, all above 0, if `right` is true after.
+    #[inline(always)]
+    pub fn tried(n: &Lanes<L>, right: &mut bool) -> Roots<L>
         requires lanes { L ≤ 16 }
-        requires low { (j : ℕ) → j < L → IsTrue (is_set mask.now j) → pos 0 ≤ℤ lane n.now j }
-        ensures { result.values ≡ lanes_of L (λ j. if is_set mask.now j then pos (whole_root (unsigned_abs (lane n.now j))) else pos 0) }
+        ensures root { IsTrue right.new → (j : ℕ) → j < L → lane result.values j ≡ pos (whole_root (unsigned_abs (lane n.now j))) }
+        ensures some { IsTrue right.new → (j : ℕ) → j < L → pos 0 <ℤ lane result.values j }
     {
-        let sizes = sizes(&n.values, &mask.set);
+        let sizes = sizes(&n.values);
         let guesses = guessed(&sizes);
-        let values = roots_of(n, mask, &sizes, &guesses.roots);
+        let values = tried_roots(&sizes, &guesses.roots, right);
         Roots {
-            values,
+            values: Lanes { values },
             scale: guesses.scale,
             inverse: guesses.inverse,
         }
     }
 
-    /// The quotients of e * d by the roots, rounded with halves away from zero, where the mask is set, and 0
-    /// elsewhere.
-    pub fn parts(&self, e: &Lanes<L>, d: &Lanes<L>, mask: &Mask<L>) -> Lanes<L>
+    /// The quotients of e * d by the roots, rounded with halves away from zero, if `right` is true after.
+    #[inline(always)]
+    pub fn tried_parts(&self, e: &Lanes<L>, d: &Lanes<L>, right: &mut bool) -> Lanes<L>
         requires lanes { L ≤ 16 }
         requires e { (j : ℕ) → j < L → unsigned_abs (lane e.now j) ≤ 2 ^ 31 }
         requires d { (j : ℕ) → j < L → unsigned_abs (lane d.now j) ≤ 2 ^ 30 }
-        requires root { (j : ℕ) → j < L → IsTrue (is_set mask.now j) → pos 0 <ℤ lane self.now.values j }
+        requires root { (j : ℕ) → j < L → pos 0 <ℤ lane self.now.values j }
         requires root_size { (j : ℕ) → j < L → unsigned_abs (lane self.now.values j) < 2 ^ 31 }
-        ensures { (j : ℕ) → j < L → lane result j ≡ (if is_set mask.now j then rounded (lane e.now j *ℤ lane d.now j) (pos (unsigned_abs (lane self.now.values j))) else pos 0) }
+        ensures { IsTrue right.new → (j : ℕ) → j < L → lane result j
+            ≡ rounded (lane e.now j *ℤ lane d.now j) (pos (unsigned_abs (lane self.now.values j))) }
     {
-        let mut right = true;
-        let parts = tried_parts(
-            &self.values,
-            e,
-            d,
-            mask,
+        let values = tried_quotients(
+            &self.values.values,
+            &e.values,
+            &d.values,
             &self.scale,
             &self.inverse,
-            &mut right,
+            right,
         );
-        if right {
-            parts
-        } else {
-            divided_parts(&self.values, e, d, mask)
-        }
+        Lanes { values }
     }
 }

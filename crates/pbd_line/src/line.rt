@@ -22,6 +22,7 @@ impl Model for Line {
 
 impl Line {
     /// An empty line.
+    #[inline]
     pub fn new() -> Line
         ensures { result ≡ [] }
     {
@@ -31,6 +32,7 @@ impl Line {
     }
 
     /// Its bytes.
+    #[inline]
     pub fn as_slice(&self) -> &[u8]
         ensures { result.now ≡ self.now }
     {
@@ -38,6 +40,7 @@ impl Line {
     }
 
     /// How many more bytes fit.
+    #[inline]
     pub fn room(&self) -> usize
         ensures { result + length self.now ≡ 256 }
     {
@@ -45,6 +48,7 @@ impl Line {
     }
 
     /// Appends a text.
+    #[inline]
     pub fn push(&mut self, text: &str)
         requires { length self.old + length text.now ≤ 256 }
         ensures { self.new ≡ self.old ++ text.now }
@@ -53,6 +57,7 @@ impl Line {
     }
 
     /// Appends bytes.
+    #[inline]
     pub fn push_bytes(&mut self, piece: &[u8])
         requires { length self.old + length piece.now ≤ 256 }
         ensures { self.new ≡ self.old ++ piece.now }
@@ -61,6 +66,7 @@ impl Line {
     }
 
     /// Appends the decimal of a number, at most 20 bytes.
+    #[inline]
     pub fn push_number(&mut self, n: u64)
         requires { length self.old + 20 ≤ 256 }
         ensures bytes { self.new ≡ self.old ++ decimal n }
@@ -71,6 +77,7 @@ impl Line {
     }
 
     /// Appends the decimal of a number, with a minus below zero, at most 20 bytes.
+    #[inline]
     pub fn push_signed(&mut self, n: i64)
         requires { length self.old + 20 ≤ 256 }
         ensures bytes { self.new ≡ self.old ++ signed_decimal n }
@@ -81,6 +88,7 @@ impl Line {
     }
 
     /// Appends the decimal of a wide number, with a minus below zero, at most 40 bytes.
+    #[inline]
     pub fn push_wide(&mut self, n: i128)
         requires { length self.old + 40 ≤ 256 }
         ensures bytes { self.new ≡ self.old ++ signed_decimal n }

@@ -42,6 +42,7 @@ pub struct Inverse {
 }
 
 /// The low 32 bits.
+#[inline(always)]
 pub fn low(n: u64) -> u64
     ensures { result < 2 ^ 32 }
 {
@@ -49,6 +50,7 @@ pub fn low(n: u64) -> u64
 }
 
 /// The number itself, masked so that the compiler knows it is short: a product of two is then one of 32 bits.
+#[inline(always)]
 pub fn short(n: u64) -> u64
     requires { n < 2 ^ 32 }
     ensures { result ≡ n }
@@ -56,11 +58,13 @@ pub fn short(n: u64) -> u64
     n & 4_294_967_295
 }
 
+#[inline(always)]
 fn low_product(a: u64, b: u64) -> u64 {
     low(a).wrapping_mul(low(b))
 }
 
 /// `n`, or 1 in the place of 0, raised.
+#[inline(always)]
 pub fn raise(n: u64) -> Raised {
     let shift = (n | 1).leading_zeros() & 62;
     let high = (n | 1).wrapping_shl(shift) >> 32;
@@ -72,6 +76,7 @@ pub fn raise(n: u64) -> Raised {
 }
 
 // One step of Newton from `inverse` toward 2^46 / root(high).
+#[inline(always)]
 fn nearer_inverse_root(high: u64, inverse: u64) -> u64 {
     let square = low_product(inverse, inverse) >> 30;
     let product = low_product(square, high) >> 32;
@@ -79,16 +84,19 @@ fn nearer_inverse_root(high: u64, inverse: u64) -> u64 {
 }
 
 /// A number near 2^46 / root(high).
+#[inline(always)]
 pub fn near_inverse_root(high: u64, seed: u64) -> u64 {
     nearer_inverse_root(high, nearer_inverse_root(high, seed))
 }
 
 /// A number near root(high * 2^32), and not below it.
+#[inline(always)]
 pub fn near_root(high: u64, inverse: u64) -> u64 {
     (low_product(high, inverse) >> 30).wrapping_add(32)
 }
 
 /// `guess`, or one less where its square is above `n`.
+#[inline(always)]
 pub fn lowered(n: u64, guess: u64) -> u64
     ensures { result < 2 ^ 32 }
 {
@@ -98,6 +106,7 @@ pub fn lowered(n: u64, guess: u64) -> u64
 
 impl Inverse {
     /// One step of Newton from here toward the inverse of `root`.
+    #[inline(always)]
     pub fn nearer(self, root: u64) -> Inverse {
         let product = low_product(low_product(root, self.scale), self.inverse) >> 32;
         Inverse {
@@ -107,6 +116,7 @@ impl Inverse {
     }
 
     /// A number near `e * d / root`, rounded.
+    #[inline(always)]
     pub fn quotient(self, e: u64, d: u64, root: u64) -> u64
         ensures { result < 2 ^ 32 }
     {
@@ -127,6 +137,7 @@ impl Inverse {
 }
 
 /// Whether `r` is the root of `n`.
+#[inline(always)]
 pub fn is_root(n: u64, r: u64) -> bool
     requires { r < 2 ^ 32 }
     ensures { IsTrue result → r ≡ whole_root n }
@@ -136,6 +147,7 @@ pub fn is_root(n: u64, r: u64) -> bool
 }
 
 /// Whether `q` is `n / d`, rounded.
+#[inline(always)]
 pub fn is_quotient(n: u64, d: u64, q: u64) -> bool
     requires n { n ≤ 2 ^ 62 }
     requires d { d < 2 ^ 31 }
@@ -149,6 +161,7 @@ pub fn is_quotient(n: u64, d: u64, q: u64) -> bool
 }
 
 /// The number of size `q` with the sign of `e * d`: their rounded quotient, where `q` is the size of that.
+#[inline(always)]
 pub fn with_sign(e: i64, d: i64, q: u64) -> i64
     requires { q < 2 ^ 32 }
     ensures size { unsigned_abs result ≡ q }
@@ -165,6 +178,7 @@ pub fn with_sign(e: i64, d: i64, q: u64) -> i64
 }
 
 /// `s * f / 512`, rounded.
+#[inline(always)]
 pub fn part_of_512(s: i64, f: i64) -> i64
     requires s { unsigned_abs s ≤ 2 ^ 31 }
     requires f { unsigned_abs f ≤ 512 }

@@ -118,12 +118,14 @@ pub fn root(n: i64) -> i64
     mended_root(size, guess_root(size).root) as i64
 }
 
-fn axis_within(n: i64, limit: i64) -> bool
+/// Whether a number lies in `-limit..=limit`.
+#[inline(always)]
+pub fn axis_within(n: i64, limit: i64) -> bool
     requires low { pos 0 ≤ℤ limit }
     requires high { unsigned_abs limit ≤ 2 ^ 29 }
     ensures { result ≡ is_axis_within limit n }
 {
-    -limit <= n && n <= limit
+    (-limit <= n) & (n <= limit)
 }
 
 fn axes_within(v: Vec3, limit: i64) -> bool

@@ -12,4 +12,8 @@ pub mod Blocks
 pub mod LaneSteps
 pub mod Drawing
 pub mod Examples
+pub mod Even
+pub mod Pinning
+pub mod EachLane
+pub mod SideMoves
 pub mod LaidBlocks

@@ -1,6 +1,7 @@
 -- Bonds side by side, lane by lane.
-use Rattle.std.specs.Prelude.{◌≡◌, ℕ, zero, suc, ◌<◌, ◌≤◌, ℤ, Bool, true, false, not, if◌then◌else◌, List, length, slice_index_or}
-use Rattle.pbd_lanes.specs.Lane.{lane, is_set}
+use Rattle.std.specs.Prelude.{◌≡◌, ℕ, zero, suc, ◌<◌, ◌≤◌, ℤ, ◌+ℤ◌, Bool, true, false, IsTrue, not, if◌then◌else◌, List, length, slice_index_or}
+use Rattle.pbd_lanes.specs.Lane.{lane, is_set, sum_below}
+use Rattle.pbd_num.specs.Vectors.{opposite, zero_vector}
 use Rattle.pbd_num.specs.declared.Vec3.{Vec3}
 use Rattle.pbd_world.specs.declared.parts.Particle.{Particle}
 use Rattle.pbd_world.specs.declared.bond.Bond.{Bond}
@@ -51,6 +52,20 @@ abbrev pub settled : (ℕ → Bool) → (ℕ → List Entry) → ℕ → Ledger 
 settled moving entries zero t = t
 settled moving entries (suc n) t = if moving n then booked (settled moving entries n t) (entries n) else settled moving entries n t
 
+-- both ends of a lane that moves: two free ends move oppositely, and a held one stays
+pub record Opposed (first_free second_free : Bool) (t : Shift) : Type 0 where
+  pub both_free : first_free ≡ true → second_free ≡ true → t.first_move ≡ opposite t.second_move
+  pub first_held : first_free ≡ false → t.first_move ≡ zero_vector
+  pub second_held : second_free ≡ false → t.second_move ≡ zero_vector
+
+-- what the ends of all l lanes move together
+abbrev pub moved_in : {l : ℕ} → BlockMoves l → Vec3
+moved_in {l} m = record {
+  x = sum_below (λ k. lane m.first_move.x k +ℤ lane m.second_move.x k) l;
+  y = sum_below (λ k. lane m.first_move.y k +ℤ lane m.second_move.y k) l;
+  z = sum_below (λ k. lane m.first_move.z k +ℤ lane m.second_move.z k) l;
+}
+
 -- a block of bonds in l lanes: lane k names the ends of bond k and holds its correction, and a lane without a bond does nothing
 pub record IsLaid {l : ℕ} (limit : ℤ) (ps : List Particle) (bond : ℕ → Bond) (block : List ℕ) (firsts seconds : List ℕ) (moves : BlockMoves l) : Type 0 where
   pub first : (k : ℕ) → k < length block → index_at firsts k ≡ (bond (slice_index_or block k 0)).a
@@ -62,3 +77,5 @@ pub record IsLaid {l : ℕ} (limit : ℤ) (ps : List Particle) (bond : ℕ → B
   pub not_moving : (k : ℕ) → length block ≤ k → k < l → is_set moves.moving k ≡ false
   pub not_leaving : (k : ℕ) → length block ≤ k → k < l → is_set moves.leaving k ≡ false
   pub lanes : length moves.leaving ≡ l
+  pub all_move : IsTrue moves.opposed → (k : ℕ) → k < length block → is_set moves.moving k ≡ true
+  pub opposed : IsTrue moves.opposed → (k : ℕ) → k < length block → Opposed (is_set moves.first_free k) (is_set moves.second_free k) (shift_in moves k)

@@ -6,7 +6,7 @@ ghost use Rattle.pbd_world.specs.Particles.{particle_at};
 ghost use Rattle.pbd_store.specs.Gathering.{index_at};
 ghost use Rattle.pbd_pair.specs.Bonds.{IsDrawn, IsSoundShift};
 ghost use Rattle.pbd_store.specs.Moving.{AreInside, Weigh};
-ghost use Rattle.pbd_pair.specs.Lanes.{bond_in, shift_in, Lays};
+ghost use Rattle.pbd_pair.specs.Lanes.{bond_in, shift_in, Lays, Opposed};
 
 use crate::correct::limit_of;
 use crate::laid::{BlockMoves, BondTargets, correct_lanes};
@@ -24,6 +24,7 @@ pub(crate) struct BlockBonds<const L: usize> {
 }
 
 /// What the bonds of a block do with their ends as they stand. A lane without a bond does nothing.
+#[inline(always)]
 pub(crate) fn lay_block<const L: usize, G: Ledger>(
     store: &Store<L>,
     named: &BlockBonds<L>,
@@ -37,13 +38,21 @@ pub(crate) fn lay_block<const L: usize, G: Ledger>(
     requires no_k { (j : ℕ) → j < L → is_set named.now.filled j ≡ false → (bond_in named.now.drawn j).k ≡ pos 0 }
     requires inside { AreInside store.now.limit store.now.particles }
     requires weights { Weigh store.now.particles }
-    ensures lays { (j : ℕ) → j < L → IsTrue (is_set named.now.filled j) → Lays (correction_of store.now.limit (end_of (particle_at store.now.particles (index_at named.now.a j))) (end_of (particle_at store.now.particles (index_at named.now.b j))) (bond_in named.now.drawn j)) (is_set result.moving j) (is_set result.leaving j) (shift_in result j) }
+    ensures lays { (j : ℕ) → j < L → IsTrue (is_set named.now.filled j)
+        → Lays (correction_of store.now.limit (end_of (particle_at store.now.particles (index_at named.now.a j)))
+        (end_of (particle_at store.now.particles (index_at named.now.b j))) (bond_in named.now.drawn j)) (is_set result.moving j)
+        (is_set result.leaving j) (shift_in result j) }
     ensures not_moving { (j : ℕ) → j < L → is_set named.now.filled j ≡ false → is_set result.moving j ≡ false }
     ensures not_leaving { (j : ℕ) → j < L → is_set named.now.filled j ≡ false → is_set result.leaving j ≡ false }
     ensures leaving_len { length result.leaving ≡ L }
     ensures sound { (j : ℕ) → j < L → is_set result.moving j ≡ true → IsSoundShift store.now.limit (shift_in result j) }
-    ensures first_free { (j : ℕ) → j < L → IsTrue (is_set named.now.filled j) → is_set result.first_free j ≡ not (particle_at store.now.particles (index_at named.now.a j)).held }
-    ensures second_free { (j : ℕ) → j < L → IsTrue (is_set named.now.filled j) → is_set result.second_free j ≡ not (particle_at store.now.particles (index_at named.now.b j)).held }
+    ensures first_free { (j : ℕ) → j < L → IsTrue (is_set named.now.filled j) → is_set result.first_free j
+        ≡ not (particle_at store.now.particles (index_at named.now.a j)).held }
+    ensures second_free { (j : ℕ) → j < L → IsTrue (is_set named.now.filled j) → is_set result.second_free j
+        ≡ not (particle_at store.now.particles (index_at named.now.b j)).held }
+    ensures all_move { IsTrue result.opposed → (j : ℕ) → j < L → IsTrue (is_set named.now.filled j) → is_set result.moving j ≡ true }
+    ensures opposed { IsTrue result.opposed → (j : ℕ) → j < L
+        → Opposed (is_set result.first_free j) (is_set result.second_free j) (shift_in result j) }
     ensures cost { steps.new ≡ steps.old + 2 }
 {
     let limit = limit_of(store);
@@ -59,5 +68,6 @@ pub(crate) fn lay_block<const L: usize, G: Ledger>(
         second_move: laid.second_move,
         first_free: laid.first_free,
         second_free: laid.second_free,
+        opposed: laid.opposed,
     }
 }

@@ -1,8 +1,8 @@
 // Numbers and places of L bonds, side by side. Each call says what it makes of each lane.
-ghost use Rattle.std.specs.Prelude.{◌≡◌, ℕ, ◌<◌, ◌≤◌, ◌^◌, ◌+◌, ◌*◌, pos, ◌+ℤ◌, ◌-ℤ◌, ◌*ℤ◌, ◌≤ℤ◌, ◌<ℤ◌, neg_ℤ, ◌&&◌, not, int_lt, IsTrue, unsigned_abs, if◌then◌else◌};
-ghost use Rattle.pbd_num.specs.Vectors.{Within, minus, plus, opposite, scaled, zero_vector, squared_length, length_of, is_axis_within, is_within};
-ghost use Rattle.pbd_num.specs.PairMove.{along, share_of, corrections, shares as shares_of};
-ghost use Rattle.pbd_lanes.specs.Lane.{lane, is_set};
+ghost use Rattle.std.specs.Prelude.{◌≡◌, ℕ, ◌<◌, ◌≤◌, ◌^◌, ◌+◌, ◌*◌, pos, ◌+ℤ◌, ◌-ℤ◌, ◌*ℤ◌, ◌≤ℤ◌, ◌<ℤ◌, int_lt, IsTrue, unsigned_abs};
+ghost use Rattle.pbd_num.specs.Vectors.{Within, minus, plus, opposite, scaled, squared_length, length_of, is_within};
+ghost use Rattle.pbd_num.specs.PairMove.{corrections, shares as shares_of};
+ghost use Rattle.pbd_lanes.specs.Lane.{lane, is_set, AreEven};
 ghost use Rattle.pbd_pair.specs.Bonds.{IsBound};
 ghost use Rattle.pbd_pair.specs.Lanes.{place_in};
 
@@ -10,6 +10,7 @@ use pbd_lanes::{Lanes, Mask, Roots};
 use pbd_store::Lanes3;
 
 /// The sums.
+#[inline(always)]
 pub(crate) fn sums<const L: usize>(a: &Lanes<L>, b: &Lanes<L>) -> Lanes<L>
     requires lanes { L ≤ 16 }
     requires a { (j : ℕ) → j < L → unsigned_abs (lane a.now j) ≤ 2 ^ 61 }
@@ -19,6 +20,7 @@ pub(crate) fn sums<const L: usize>(a: &Lanes<L>, b: &Lanes<L>) -> Lanes<L>
     a.add(b)
 }
 
+#[inline(always)]
 fn differences<const L: usize>(a: &Lanes<L>, b: &Lanes<L>) -> Lanes<L>
     requires lanes { L ≤ 16 }
     requires a { (j : ℕ) → j < L → unsigned_abs (lane a.now j) ≤ 2 ^ 61 }
@@ -28,6 +30,7 @@ fn differences<const L: usize>(a: &Lanes<L>, b: &Lanes<L>) -> Lanes<L>
     a.sub(b)
 }
 
+#[inline(always)]
 fn products<const L: usize>(a: &Lanes<L>, b: &Lanes<L>) -> Lanes<L>
     requires lanes { L ≤ 16 }
     requires size { (j : ℕ) → j < L → unsigned_abs (lane a.now j) * unsigned_abs (lane b.now j) < 2 ^ 63 }
@@ -36,6 +39,7 @@ fn products<const L: usize>(a: &Lanes<L>, b: &Lanes<L>) -> Lanes<L>
     a.mul(b)
 }
 
+#[inline(always)]
 fn squares<const L: usize>(a: &Lanes<L>) -> Lanes<L>
     requires lanes { L ≤ 16 }
     requires size { (j : ℕ) → j < L → unsigned_abs (lane a.now j) ≤ 2 ^ 30 }
@@ -44,6 +48,7 @@ fn squares<const L: usize>(a: &Lanes<L>) -> Lanes<L>
     products(a, a)
 }
 
+#[inline(always)]
 fn squared_lengths<const L: usize>(d: &Lanes3<L>) -> Lanes<L>
     requires lanes { L ≤ 16 }
     requires size { (j : ℕ) → j < L → Within (2 ^ 30) (place_in d.now j) }
@@ -56,18 +61,20 @@ fn squared_lengths<const L: usize>(d: &Lanes3<L>) -> Lanes<L>
     sums(&xy, &z)
 }
 
-/// The lengths, rounded down.
-pub(crate) fn lengths<const L: usize>(d: &Lanes3<L>) -> Roots<L>
+/// The lengths, rounded down, all above 0, if `right` is true after.
+#[inline(always)]
+pub(crate) fn tried_lengths<const L: usize>(d: &Lanes3<L>, right: &mut bool) -> Roots<L>
     requires lanes { L ≤ 16 }
     requires size { (j : ℕ) → j < L → Within (2 ^ 30) (place_in d.now j) }
-    ensures { (j : ℕ) → j < L → lane result.values j ≡ pos (length_of (place_in d.now j)) }
+    ensures value { IsTrue right.new → (j : ℕ) → j < L → lane result.values j ≡ pos (length_of (place_in d.now j)) }
+    ensures some { IsTrue right.new → (j : ℕ) → j < L → pos 0 <ℤ lane result.values j }
 {
     let squared = squared_lengths(d);
-    let all = Mask::from_array([true; L]);
-    Roots::of(&squared, &all)
+    Roots::tried(&squared, right)
 }
 
 /// The ways from b to a.
+#[inline(always)]
 pub(crate) fn gaps<const L: usize>(a: &Lanes3<L>, b: &Lanes3<L>) -> Lanes3<L>
     requires lanes { L ≤ 16 }
     requires a { (j : ℕ) → j < L → Within (2 ^ 29) (place_in a.now j) }
@@ -80,95 +87,35 @@ pub(crate) fn gaps<const L: usize>(a: &Lanes3<L>, b: &Lanes3<L>) -> Lanes3<L>
     Lanes3 { x, y, z }
 }
 
-fn parts_of_axis<const L: usize>(
-    e: &Lanes<L>,
-    d: &Lanes<L>,
-    len: &Roots<L>,
-    mask: &Mask<L>,
-) -> Lanes<L>
-    requires lanes { L ≤ 16 }
-    requires e { (j : ℕ) → j < L → unsigned_abs (lane e.now j) ≤ 2 ^ 31 }
-    requires d { (j : ℕ) → j < L → unsigned_abs (lane d.now j) ≤ 2 ^ 30 }
-    requires in_len { (j : ℕ) → j < L → unsigned_abs (lane d.now j) ≤ unsigned_abs (lane len.now.values j) }
-    requires len { (j : ℕ) → j < L → IsTrue (is_set mask.now j) → pos 0 <ℤ lane len.now.values j }
-    requires len_size { (j : ℕ) → j < L → unsigned_abs (lane len.now.values j) < 2 ^ 31 }
-    ensures value { (j : ℕ) → j < L → lane result j ≡ (if is_set mask.now j then along (lane e.now j) (lane d.now j) (unsigned_abs (lane len.now.values j)) else pos 0) }
-    ensures size { (j : ℕ) → j < L → unsigned_abs (lane result j) ≤ 2 ^ 31 }
-{
-    len.parts(e, d, mask)
-}
-
-/// How far each way is from its rest length, on each axis, where the mask is set, and 0 elsewhere.
-pub(crate) fn errors<const L: usize>(
+/// How far each way is from its rest length, on each axis, if `right` is true after.
+#[inline(always)]
+pub(crate) fn tried_errors<const L: usize>(
     d: &Lanes3<L>,
     len: &Roots<L>,
     rest: &Lanes<L>,
-    mask: &Mask<L>,
+    right: &mut bool,
 ) -> Lanes3<L>
     requires lanes { L ≤ 16 }
     requires d { (j : ℕ) → j < L → Within (2 ^ 30) (place_in d.now j) }
     requires len { (j : ℕ) → j < L → lane len.now.values j ≡ pos (length_of (place_in d.now j)) }
-    requires some { (j : ℕ) → j < L → IsTrue (is_set mask.now j) → pos 0 <ℤ lane len.now.values j }
+    requires some { (j : ℕ) → j < L → pos 0 <ℤ lane len.now.values j }
     requires rest_low { (j : ℕ) → j < L → pos 0 ≤ℤ lane rest.now j }
     requires rest_high { (j : ℕ) → j < L → lane rest.now j ≤ℤ pos (2 ^ 31) }
-    ensures value { (j : ℕ) → j < L → place_in result j ≡ (if is_set mask.now j then corrections (place_in d.now j) (lane rest.now j) else zero_vector) }
-    ensures size { (j : ℕ) → j < L → Within (2 ^ 31) (place_in result j) }
+    ensures { IsTrue right.new → (j : ℕ) → j < L → place_in result j ≡ corrections (place_in d.now j) (lane rest.now j) }
 {
     let e = differences(&len.values, rest);
-    let x = parts_of_axis(&e, &d.x, len, mask);
-    let y = parts_of_axis(&e, &d.y, len, mask);
-    let z = parts_of_axis(&e, &d.z, len, mask);
-    Lanes3 { x, y, z }
-}
-
-fn shares_of_axis<const L: usize>(
-    s: &Lanes<L>,
-    k: &Lanes<L>,
-    w: &Lanes<L>,
-    total: &Lanes<L>,
-    mask: &Mask<L>,
-) -> Lanes<L>
-    requires lanes { L ≤ 16 }
-    requires s { (j : ℕ) → j < L → unsigned_abs (lane s.now j) ≤ 2 ^ 31 }
-    requires k { (j : ℕ) → j < L → unsigned_abs (lane k.now j) ≤ 256 }
-    requires w { (j : ℕ) → j < L → unsigned_abs (lane w.now j) ≤ unsigned_abs (lane total.now j) }
-    requires total { (j : ℕ) → j < L → IsTrue (is_set mask.now j) → pos 0 <ℤ lane total.now j }
-    requires total_size { (j : ℕ) → j < L → unsigned_abs (lane total.now j) ≤ 131070 }
-    ensures value { (j : ℕ) → j < L → lane result j ≡ (if is_set mask.now j then share_of (lane s.now j) (lane k.now j) (lane w.now j) (unsigned_abs (lane total.now j)) else pos 0) }
-    ensures size { (j : ℕ) → j < L → unsigned_abs (lane result j) ≤ 2 ^ 31 }
-{
-    let stiff = products(s, k);
-    let heavy = products(&stiff, w);
-    let parts = Lanes::splat(256);
-    let whole = products(&parts, total);
-    Lanes::rdiv_lanes(&heavy, &whole, mask)
-}
-
-// The shares of each correction, by divisions.
-#[inline(never)]
-fn divided_shares<const L: usize>(
-    s: &Lanes3<L>,
-    k: &Lanes<L>,
-    w: &Lanes<L>,
-    total: &Lanes<L>,
-    mask: &Mask<L>,
-) -> Lanes3<L>
-    requires lanes { L ≤ 16 }
-    requires s { (j : ℕ) → j < L → Within (2 ^ 31) (place_in s.now j) }
-    requires k { (j : ℕ) → j < L → unsigned_abs (lane k.now j) ≤ 256 }
-    requires w { (j : ℕ) → j < L → unsigned_abs (lane w.now j) ≤ unsigned_abs (lane total.now j) }
-    requires total { (j : ℕ) → j < L → IsTrue (is_set mask.now j) → pos 0 <ℤ lane total.now j }
-    requires total_size { (j : ℕ) → j < L → unsigned_abs (lane total.now j) ≤ 131070 }
-    ensures value { (j : ℕ) → j < L → place_in result j ≡ (if is_set mask.now j then shares_of (place_in s.now j) (lane k.now j) (lane w.now j) (unsigned_abs (lane total.now j)) else zero_vector) }
-    ensures size { (j : ℕ) → j < L → Within (2 ^ 31) (place_in result j) }
-{
-    let x = shares_of_axis(&s.x, k, w, total, mask);
-    let y = shares_of_axis(&s.y, k, w, total, mask);
-    let z = shares_of_axis(&s.z, k, w, total, mask);
+    let mut x_right = false;
+    let mut y_right = false;
+    let mut z_right = false;
+    let x = len.tried_parts(&e, &d.x, &mut x_right);
+    let y = len.tried_parts(&e, &d.y, &mut y_right);
+    let z = len.tried_parts(&e, &d.z, &mut z_right);
+    *right = x_right & y_right & z_right;
     Lanes3 { x, y, z }
 }
 
 /// The parts f / 512 of each place, rounded.
+#[inline(always)]
 fn parts_of_512<const L: usize>(s: &Lanes3<L>, f: &Lanes<L>) -> Lanes3<L>
     requires lanes { L ≤ 16 }
     requires s { (j : ℕ) → j < L → Within (2 ^ 31) (place_in s.now j) }
@@ -181,34 +128,28 @@ fn parts_of_512<const L: usize>(s: &Lanes3<L>, f: &Lanes<L>) -> Lanes3<L>
     Lanes3 { x, y, z }
 }
 
-/// The share of each correction that stiffness k / 256 and weight w out of `total` give, where the mask is set, and 0
-/// elsewhere. Where no weight is other than half of its total, all or none of it, no lane divides.
+/// The share of each correction that stiffness k / 256 and weight w beside another give.
+#[inline(always)]
 pub(crate) fn shares<const L: usize>(
     s: &Lanes3<L>,
     k: &Lanes<L>,
     w: &Lanes<L>,
-    total: &Lanes<L>,
-    mask: &Mask<L>,
+    other: &Lanes<L>,
 ) -> Lanes3<L>
     requires lanes { L ≤ 16 }
     requires s { (j : ℕ) → j < L → Within (2 ^ 31) (place_in s.now j) }
     requires k { (j : ℕ) → j < L → unsigned_abs (lane k.now j) ≤ 256 }
-    requires w { (j : ℕ) → j < L → unsigned_abs (lane w.now j) ≤ unsigned_abs (lane total.now j) }
-    requires total { (j : ℕ) → j < L → IsTrue (is_set mask.now j) → pos 0 <ℤ lane total.now j }
-    requires total_size { (j : ℕ) → j < L → unsigned_abs (lane total.now j) ≤ 131070 }
-    ensures value { (j : ℕ) → j < L → place_in result j ≡ (if is_set mask.now j then shares_of (place_in s.now j) (lane k.now j) (lane w.now j) (unsigned_abs (lane total.now j)) else zero_vector) }
+    requires even { (j : ℕ) → j < L → AreEven (lane w.now j) (lane other.now j) }
+    ensures value { (j : ℕ) → j < L → place_in result j
+        ≡ shares_of (place_in s.now j) (lane k.now j) (lane w.now j) (unsigned_abs (lane w.now j) + unsigned_abs (lane other.now j)) }
     ensures size { (j : ℕ) → j < L → Within (2 ^ 31) (place_in result j) }
 {
-    let mut right = true;
-    let f = Lanes::factors(k, w, total, mask, &mut right);
-    if right {
-        parts_of_512(s, &f)
-    } else {
-        divided_shares(s, k, w, total, mask)
-    }
+    let f = Lanes::factors(k, w, other);
+    parts_of_512(s, &f)
 }
 
 /// The other way.
+#[inline(always)]
 pub(crate) fn turned<const L: usize>(v: &Lanes3<L>) -> Lanes3<L>
     requires lanes { L ≤ 16 }
     requires size { (j : ℕ) → j < L → Within (2 ^ 31) (place_in v.now j) }
@@ -222,6 +163,7 @@ pub(crate) fn turned<const L: usize>(v: &Lanes3<L>) -> Lanes3<L>
 }
 
 /// The places to which the moves lead.
+#[inline(always)]
 pub(crate) fn moved<const L: usize>(p: &Lanes3<L>, by: &Lanes3<L>) -> Lanes3<L>
     requires lanes { L ≤ 16 }
     requires p { (j : ℕ) → j < L → Within (2 ^ 29) (place_in p.now j) }
@@ -234,47 +176,20 @@ pub(crate) fn moved<const L: usize>(p: &Lanes3<L>, by: &Lanes3<L>) -> Lanes3<L>
     Lanes3 { x, y, z }
 }
 
-// The greatest number below -limit..=limit, and the least above.
-fn around(limit: i64) -> (i64, i64)
+/// Whether each place is within the limit.
+#[inline(always)]
+pub(crate) fn all_within<const L: usize>(limit: i64, v: &Lanes3<L>) -> bool
     requires { IsBound limit }
-    ensures under { result.0 ≡ neg_ℤ limit -ℤ pos 1 }
-    ensures over { result.1 ≡ limit +ℤ pos 1 }
+    ensures { IsTrue result → (j : ℕ) → j < L → IsTrue (is_within limit (place_in v.now j)) }
 {
-    (-limit - 1, limit + 1)
-}
-
-fn axis_stays<const L: usize>(limit: i64, n: &Lanes<L>) -> Mask<L>
-    requires { IsBound limit }
-    ensures { (j : ℕ) → j < L → is_set result j ≡ is_axis_within limit (lane n.now j) }
-{
-    let (under, over) = around(limit);
-    let above = Lanes::splat(under).less(n);
-    let below = n.less(&Lanes::splat(over));
-    above.and(&below)
-}
-
-/// Where a place is within the limit.
-pub(crate) fn stays<const L: usize>(limit: i64, v: &Lanes3<L>) -> Mask<L>
-    requires { IsBound limit }
-    ensures { (j : ℕ) → j < L → is_set result j ≡ is_within limit (place_in v.now j) }
-{
-    let x = axis_stays(limit, &v.x);
-    let y = axis_stays(limit, &v.y);
-    let z = axis_stays(limit, &v.z);
-    x.and(&y).and(&z)
-}
-
-/// Where the mask is not set.
-pub(crate) fn others<const L: usize>(mask: &Mask<L>) -> Mask<L>
-    requires { L ≤ 16 }
-    ensures { (j : ℕ) → j < L → is_set result j ≡ not (is_set mask.now j) }
-{
-    let zero = Lanes::splat(0);
-    let unset = Lanes::select(mask, &zero, &Lanes::splat(1));
-    zero.less(&unset)
+    let x = v.x.are_within(limit);
+    let y = v.y.are_within(limit);
+    let z = v.z.are_within(limit);
+    x & y & z
 }
 
 /// Where a number is above 0.
+#[inline(always)]
 pub(crate) fn above_zero<const L: usize>(n: &Lanes<L>) -> Mask<L>
     ensures { (j : ℕ) → j < L → is_set result j ≡ int_lt (pos 0) (lane n.now j) }
 {

@@ -28,9 +28,8 @@ use Rattle.pbd_scene.specs.declared.fault.Place.{Place}
 use Rattle.pbd_scene.specs.declared.fault.KeyName.TheVariants as keys
 use Rattle.pbd_scene.specs.declared.fault.TableName.TheVariants as tables
 use Rattle.pbd_scene.specs.Checks.{expect, each}
-use Rattle.pbd_scene.specs.Keys.{known}
-use Rattle.pbd_scene.specs.Values.{at, members, required_vector, vector_or, required_integer, required_any_integer, optional_integer, integer_or, required_count, count_or, boolean_or, row, required_array}
-use Rattle.pbd_scene.specs.Entries.{particle_of, inside_before, place_before, cloth_of, rope_of, fitting_cloth, fitting_rope, room_for, cloth_size, all_cloths_size, all_ropes_size, link_of, plane_of, sphere_of, reaches_within, on_by, back_by, row_of, key_of, step_number, step_of, steps_rise, track_of}
+use Rattle.pbd_scene.specs.Values.{at, entry, required_vector, vector_or, required_integer, required_any_integer, optional_integer, integer_or, count_or, boolean_or, row, required_array}
+use Rattle.pbd_scene.specs.Entries.{particle_of, inside_before, place_before, cloth_spec_of, cloth_of, rope_particles_of, rope_links_of, rope_with, rope_of, fitting_cloth, fitting_rope, room_for, cloth_size, all_cloths_size, all_ropes_size, link_of, plane_of, sphere_of, reaches_within, on_by, back_by, row_of, key_of, step_number, step_of, steps_rise, few_rows, rising_path, path_of, track_of}
 use Rattle.pbd_scene.proofs.Accepted.{through, expect_ok, same_ok, tested, optional_some, between, required_integer_ok, integer_or_ok, count_or_ok, required_vector_ok, each_pass, each_count}
 
 -- ---- particles
@@ -63,17 +62,16 @@ pub particle_passes : (limit : ℤ) (before : List Particle) (d : Data) (p : Par
 unfolding particle_of
 particle_passes limit before d p is =
     let place = at tables.Particle (length before) in
-    through (members place d) _ p is (λ ms e1 is1.
-    through (known place ms) _ p is1 (λ u e2 is2.
-    through (required_vector place keys.At limit ms) _ p is2 (λ here e3 is3.
-    through (vector_or place keys.Velocity (pos 2 *ℤ limit) zero_vector ms) _ p is3 (λ velocity e4 is4.
-    through (count_or place keys.Weight 1 65535 1 ms) _ p is4 (λ weight e5 is5.
-    through (boolean_or place keys.Held false ms) _ p is5 (λ held e6 is6.
-    through (inside_before limit place here velocity) _ p is6 (λ gone e7 is7.
-    let w = count_or_ok place keys.Weight 1 65535 1 ms weight (omega arith) (omega arith) e5 in
+    through (entry place d) _ p is (λ ms e1 is1.
+    through (required_vector place keys.At limit ms) _ p is1 (λ here e2 is2.
+    through (vector_or place keys.Velocity (pos 2 *ℤ limit) zero_vector ms) _ p is2 (λ velocity e3 is3.
+    through (count_or place keys.Weight 1 65535 1 ms) _ p is3 (λ weight e4 is4.
+    through (boolean_or place keys.Held false ms) _ p is4 (λ held e5 is5.
+    through (inside_before limit place here velocity) _ p is5 (λ gone e6 is6.
+    let w = count_or_ok place keys.Weight 1 65535 1 ms weight (omega arith) (omega arith) e4 in
     let all : Particle = record { at = here; before = if held then here else gone; weight = weight; held = held } in
-    let same : all ≡ p = same_ok all p is7 in
-    rw (← same) (particle_tests limit here gone weight held (required_vector_ok place keys.At limit ms here e3) (inside_before_ok limit place here velocity gone e7) (le_test 1 weight w.0) (le_test weight 65535 w.1)))))))))
+    let same : all ≡ p = same_ok all p is6 in
+    rw (← same) (particle_tests limit here gone weight held (required_vector_ok place keys.At limit ms here e2) (inside_before_ok limit place here velocity gone e6) (le_test 1 weight w.0) (le_test weight 65535 w.1))))))))
 
 -- ---- meshes
 
@@ -111,37 +109,18 @@ cloth_ok : (limit : ℤ) (count : ℕ) (before : List ClothSpec) (d : Data) (s :
 unfolding cloth_of
 cloth_ok limit count before d s is =
     let place = at tables.Cloth (length before) in
-    through (members place d) _ s is (λ ms e1 is1.
-    through (known place ms) _ s is1 (λ u e2 is2.
-    through (required_vector place keys.Origin limit ms) _ s is2 (λ x3 e3 is3.
-    through (required_vector place keys.Across limit ms) _ s is3 (λ x4 e4 is4.
-    through (required_vector place keys.Down limit ms) _ s is4 (λ x5 e5 is5.
-    through (required_count place keys.Rows 1 256 ms) _ s is5 (λ x6 e6 is6.
-    through (required_count place keys.Columns 1 256 ms) _ s is6 (λ x7 e7 is7.
-    through (count_or place keys.Weight 1 65535 1 ms) _ s is7 (λ x8 e8 is8.
-    through (count_or place keys.Stretch 0 256 256 ms) _ s is8 (λ x9 e9 is9.
-    through (count_or place keys.Shear 0 256 256 ms) _ s is9 (λ x10 e10 is10.
-    through (count_or place keys.Bend 0 256 64 ms) _ s is10 (λ x11 e11 is11.
-    through (integer_or place keys.StretchTear (pos 0) (pos 4 *ℤ limit) (pos 0) ms) _ s is11 (λ x12 e12 is12.
-    through (integer_or place keys.ShearTear (pos 0) (pos 4 *ℤ limit) (pos 0) ms) _ s is12 (λ x13 e13 is13.
-    through (integer_or place keys.BendTear (pos 0) (pos 4 *ℤ limit) (pos 0) ms) _ s is13 (λ x14 e14 is14.
-    fitting_cloth_ok limit count before place (record { origin = x3; across = x4; down = x5; rows = x6; columns = x7; weight = x8; stretch = x9; shear = x10; bend = x11; stretch_tear = x12; shear_tear = x13; bend_tear = x14 }) s is14))))))))))))))
+    through (entry place d) _ s is (λ ms e1 is1.
+    through (cloth_spec_of place limit ms) _ s is1 (λ spec e2 is2.
+    fitting_cloth_ok limit count before place spec s is2))
 
 rope_ok : (limit : ℤ) (count : ℕ) (before : List RopeSpec) (d : Data) (s : RopeSpec) → rope_of limit count before d ≡ Ok s → (rope_fits limit s ≡ true) × (count + all_ropes_size before + s.count ≤ 65536)
 unfolding rope_of
 rope_ok limit count before d s is =
     let place = at tables.Rope (length before) in
-    through (members place d) _ s is (λ ms e1 is1.
-    through (known place ms) _ s is1 (λ u e2 is2.
-    through (required_vector place keys.Origin limit ms) _ s is2 (λ x3 e3 is3.
-    through (required_vector place keys.Spacing limit ms) _ s is3 (λ x4 e4 is4.
-    through (required_count place keys.Count 1 4096 ms) _ s is4 (λ x5 e5 is5.
-    through (count_or place keys.Weight 1 65535 1 ms) _ s is5 (λ x6 e6 is6.
-    through (count_or place keys.Stretch 0 256 256 ms) _ s is6 (λ x7 e7 is7.
-    through (count_or place keys.Bend 0 256 64 ms) _ s is7 (λ x8 e8 is8.
-    through (integer_or place keys.StretchTear (pos 0) (pos 4 *ℤ limit) (pos 0) ms) _ s is8 (λ x9 e9 is9.
-    through (integer_or place keys.BendTear (pos 0) (pos 4 *ℤ limit) (pos 0) ms) _ s is9 (λ x10 e10 is10.
-    fitting_rope_ok limit count before place (record { origin = x3; spacing = x4; count = x5; weight = x6; stretch = x7; bend = x8; stretch_tear = x9; bend_tear = x10 }) s is10))))))))))
+    through (entry place d) _ s is (λ ms e1 is1.
+    through (rope_particles_of place limit ms) _ s is1 (λ particles e2 is2.
+    through (rope_links_of place limit ms) _ s is2 (λ links e3 is3.
+    fitting_rope_ok limit count before place (rope_with particles links) s is3)))
 
 pub cloths_keep : (limit : ℤ) (count : ℕ) (before : List ClothSpec) (d : Data) (s : ClothSpec) → CloseCloths limit count before → cloth_of limit count before d ≡ Ok s → CloseCloths limit count (before ++ s ∷ [])
 cloths_keep limit count before d s held is =
@@ -186,16 +165,15 @@ pub link_passes : (limit : ℤ) → pos 0 ≤ℤ limit → (before : List LinkEn
 unfolding link_of
 link_passes limit low before d l is =
     let place = at tables.Link (length before) in
-    through (members place d) _ l is (λ ms e1 is1.
-    through (known place ms) _ l is1 (λ u e2 is2.
-    through (required_any_integer place keys.A ms) _ l is2 (λ a e3 is3.
-    through (required_any_integer place keys.B ms) _ l is3 (λ b e4 is4.
-    through (optional_integer place keys.Rest (pos 0) (pos 4 *ℤ limit) ms) _ l is4 (λ rest e5 is5.
-    through (count_or place keys.Stiffness 0 256 256 ms) _ l is5 (λ k e6 is6.
-    through (integer_or place keys.Tear (pos 0) (pos 4 *ℤ limit) (pos 0) ms) _ l is6 (λ tear e7 is7.
+    through (entry place d) _ l is (λ ms e1 is1.
+    through (required_any_integer place keys.A ms) _ l is1 (λ a e2 is2.
+    through (required_any_integer place keys.B ms) _ l is2 (λ b e3 is3.
+    through (optional_integer place keys.Rest (pos 0) (pos 4 *ℤ limit) ms) _ l is3 (λ rest e4 is4.
+    through (count_or place keys.Stiffness 0 256 256 ms) _ l is4 (λ k e5 is5.
+    through (integer_or place keys.Tear (pos 0) (pos 4 *ℤ limit) (pos 0) ms) _ l is5 (λ tear e6 is6.
     let all : LinkEntry = record { a = a; b = b; rest = rest; k = k; tear = tear } in
-    let stiff = count_or_ok place keys.Stiffness 0 256 256 ms k (omega arith) (omega arith) e6 in
-    rw (← same_ok all l is7) (rw (rest_ok limit place ms rest e5, integer_or_ok place keys.Tear (pos 0) (pos 4 *ℤ limit) (pos 0) ms tear (zero_length limit low) e7, le_test k 256 stiff.1) refl))))))))
+    let stiff = count_or_ok place keys.Stiffness 0 256 256 ms k (omega arith) (omega arith) e5 in
+    rw (← same_ok all l is6) (rw (rest_ok limit place ms rest e4, integer_or_ok place keys.Tear (pos 0) (pos 4 *ℤ limit) (pos 0) ms tear (zero_length limit low) e6, le_test k 256 stiff.1) refl)))))))
 
 -- ---- shapes
 
@@ -203,14 +181,13 @@ pub plane_passes : (before : List Plane) (d : Data) (p : Plane) → plane_of bef
 unfolding plane_of
 plane_passes before d p is =
     let place = at tables.Plane (length before) in
-    through (members place d) _ p is (λ ms e1 is1.
-    through (known place ms) _ p is1 (λ u e2 is2.
-    through (required_vector place keys.Normal (pos 1024) ms) _ p is2 (λ normal e3 is3.
-    through (required_integer place keys.Offset (negsuc 1099511627775) (pos 1099511627776) ms) _ p is3 (λ offset e4 is4.
+    through (entry place d) _ p is (λ ms e1 is1.
+    through (required_vector place keys.Normal (pos 1024) ms) _ p is1 (λ normal e2 is2.
+    through (required_integer place keys.Offset (negsuc 1099511627775) (pos 1099511627776) ms) _ p is2 (λ offset e3 is3.
     let all : Plane = record { normal = normal; offset = offset } in
-    let t = tested (nat_lt 0 (squared_length normal)) OutOfRange place keys.Normal all p is4 in
-    let far : is_axis_within (pos (2 ^ 40)) offset ≡ true = required_integer_ok place keys.Offset (negsuc 1099511627775) (pos 1099511627776) ms offset e4 in
-    rw (← t.1) (and_from _ _ (and_from _ _ (required_vector_ok place keys.Normal (pos 1024) ms normal e3) t.0) far)))))
+    let t = tested (nat_lt 0 (squared_length normal)) OutOfRange place keys.Normal all p is3 in
+    let far : is_axis_within (pos (2 ^ 40)) offset ≡ true = required_integer_ok place keys.Offset (negsuc 1099511627775) (pos 1099511627776) ms offset e3 in
+    rw (← t.1) (and_from _ _ (and_from _ _ (required_vector_ok place keys.Normal (pos 1024) ms normal e2) t.0) far))))
 
 reach_parts : (limit : ℤ) (centre : Vec3) (radius : ℤ) → reaches_within limit centre radius ≡ true → (is_within limit (on_by radius centre) ≡ true) × (is_within limit (back_by radius centre) ≡ true)
 unfolding reaches_within
@@ -227,14 +204,13 @@ pub sphere_passes : (limit : ℤ) (before : List Sphere) (d : Data) (s : Sphere)
 unfolding sphere_of
 sphere_passes limit before d s is =
     let place = at tables.Sphere (length before) in
-    through (members place d) _ s is (λ ms e1 is1.
-    through (known place ms) _ s is1 (λ u e2 is2.
-    through (required_vector place keys.Centre limit ms) _ s is2 (λ centre e3 is3.
-    through (required_integer place keys.Radius (pos 1) limit ms) _ s is3 (λ radius e4 is4.
+    through (entry place d) _ s is (λ ms e1 is1.
+    through (required_vector place keys.Centre limit ms) _ s is1 (λ centre e2 is2.
+    through (required_integer place keys.Radius (pos 1) limit ms) _ s is2 (λ radius e3 is3.
     let all : Sphere = record { centre = centre; radius = radius } in
-    let t = tested (reaches_within limit centre radius) OutOfRange place keys.Radius all s is4 in
+    let t = tested (reaches_within limit centre radius) OutOfRange place keys.Radius all s is3 in
     let reach = reach_parts limit centre radius t.0 in
-    rw (← t.1) (sphere_tests limit centre radius (at_least_one limit radius (required_integer_ok place keys.Radius (pos 1) limit ms radius e4)) reach.0 reach.1)))))
+    rw (← t.1) (sphere_tests limit centre radius (at_least_one limit radius (required_integer_ok place keys.Radius (pos 1) limit ms radius e3)) reach.0 reach.1))))
 
 -- ---- tracks
 
@@ -286,22 +262,36 @@ has_keys limit path = nat_le 1 (length path) && nat_le (length path) 1024 && are
 some_keys : (m : ℕ) → nat_lt 0 m ≡ true → nat_le 1 m ≡ true
 some_keys m t = grind (arith, nat_tests)
 
+track_path : (limit : ℤ) (place : Place) (ds : List Data) (path : List Key) → length ds ≤ 1024 → rising_path place limit ds ≡ Ok path → has_keys limit path ≡ true
+unfolding rising_path
+track_path limit place ds path few is =
+    through (each (key_of place limit) [] ds) _ path is (λ made e1 is1.
+    let last = tested (nat_lt 0 (length made) && steps_rise made) BadTrack place keys.Keys made path is1 in
+    let ends = and_parts (nat_lt 0 (length made)) (steps_rise made) last.0 in
+    let pass = each_pass (key_of place limit) (is_key limit) (λ front d k e. key_passes place limit front d k e) ds made e1 in
+    let number = each_count (key_of place limit) [] ds made e1 in
+    rw (← last.1) (and_from _ _ (and_from _ _ (some_keys (length made) ends.0) (le_test (length made) 1024 (omega (arith, few, number))))
+    (rising_begins limit made ∙ rising_keys limit 0 made pass (λ some. omega arith) (rises_at made ends.1))))
+
+rows_few : (place : Place) (ds : List Data) (u : Unit {0}) → few_rows place ds ≡ Ok u → length ds ≤ 1024
+unfolding few_rows
+rows_few place ds u is =
+    through (each (row_of place) [] ds) _ u is (λ rows e1 is1.
+    at_most (length ds) 1024 (expect_ok (nat_le (length ds) 1024) TooMany place keys.Keys u is1))
+
+path_passes : (limit : ℤ) (place : Place) (ms : Members) (path : List Key) → path_of place limit ms ≡ Ok path → has_keys limit path ≡ true
+unfolding path_of
+path_passes limit place ms path is =
+    through (required_array place keys.Keys ms) _ path is (λ ds e1 is1.
+    through (few_rows place ds) _ path is1 (λ u e2 is2.
+    track_path limit place ds path (rows_few place ds u e2) is2))
+
 pub track_passes : (limit : ℤ) (before : List TrackEntry) (d : Data) (t : TrackEntry) → track_of limit before d ≡ Ok t → has_keys limit t.keys ≡ true
 unfolding track_of
 track_passes limit before d t is =
     let place = at tables.Track (length before) in
-    through (members place d) _ t is (λ ms e1 is1.
-    through (known place ms) _ t is1 (λ u e2 is2.
-    through (required_any_integer place keys.Particle ms) _ t is2 (λ particle e3 is3.
-    through (required_array place keys.Keys ms) _ t is3 (λ ds e4 is4.
-    through (each (row_of place) [] ds) _ t is4 (λ rows e5 is5.
-    through (expect (nat_le (length ds) 1024) TooMany place keys.Keys) _ t is5 (λ v e6 is6.
-    through (each (key_of place limit) [] ds) _ t is6 (λ path e7 is7.
+    through (entry place d) _ t is (λ ms e1 is1.
+    through (required_any_integer place keys.Particle ms) _ t is1 (λ particle e2 is2.
+    through (path_of place limit ms) _ t is2 (λ path e3 is3.
     let all : TrackEntry = record { particle = particle; keys = path } in
-    let last = tested (nat_lt 0 (length path) && steps_rise path) BadTrack place keys.Keys all t is7 in
-    let ends = and_parts (nat_lt 0 (length path)) (steps_rise path) last.0 in
-    let pass = each_pass (key_of place limit) (is_key limit) (λ front d k e. key_passes place limit front d k e) ds path e7 in
-    let few = at_most (length ds) 1024 (expect_ok (nat_le (length ds) 1024) TooMany place keys.Keys v e6) in
-    let number = each_count (key_of place limit) [] ds path e7 in
-    rw (← last.1) (and_from _ _ (and_from _ _ (some_keys (length path) ends.0) (le_test (length path) 1024 (omega (arith, few, number))))
-    (rising_begins limit path ∙ rising_keys limit 0 path pass (λ some. omega arith) (rises_at path ends.1))))))))))
+    rw (← same_ok all t is3) (path_passes limit place ms path e3))))

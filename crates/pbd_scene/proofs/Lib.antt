@@ -5,6 +5,7 @@ pub mod LiveLinks
 pub mod Flagged
 pub mod Joinings
 pub mod Meshing
+pub mod MeshSizes
 pub mod Parted
 pub mod Reading
 pub mod Sums

@@ -1,24 +1,28 @@
 -- What the tables of a tree give, while its parts are put together.
-use Rattle.std.proofs.Common.{◌≡◌, ◌∙◌, ap, refl, ℕ, zero, suc, ◌+◌, ◌≤◌, ◌<◌, ◌^◌, List, [], ◌∷◌, length, Bool, true, arith, pos, ℤ, All, get_or}
+use Rattle.std.proofs.Common.{◌≡◌, refl, ℕ, zero, suc, ◌+◌, ◌≤◌, ◌<◌, ◌^◌, List, [], ◌∷◌, length, Bool, true, arith, pos, ℤ, All, get_or}
 use Rattle.std.specs.Prelude.{IsTrue, fold}
 use Rattle.std.specs.List.{list_all}
 use Rattle.std.proofs.lemmas.Bool.{and_parts}
+use Rattle.std.proofs.lemmas.List.{length-append}
 use Rattle.std.proofs.lemmas.List.Elements.{All-from_get_or}
+use Rattle.std.proofs.lemmas.List.Sums.{sum_by-cons}
 use Rattle.pbd_num.specs.Vectors.{Within, is_within, zero_vector}
 use Rattle.pbd_num.proofs.Ranges.{within_facts}
 use Rattle.pbd_mesh.specs.declared.spec.ClothSpec.{ClothSpec}
 use Rattle.pbd_mesh.specs.declared.spec.RopeSpec.{RopeSpec}
-use Rattle.pbd_mesh.specs.Cloth.{cloth_fits}
+use Rattle.pbd_mesh.specs.Cloth.{cloth_fits, cloth_particles}
 use Rattle.pbd_mesh.specs.Rope.{rope_fits}
 use Rattle.pbd_mesh.proofs.Facts.{limit_bounds}
+use Rattle.pbd_mesh.proofs.Meshes.{cloth_size}
 use Rattle.pbd_world.specs.declared.parts.Particle.{Particle}
 use Rattle.pbd_world.specs.declared.parts.Parts.{Parts}
 use Rattle.pbd_world.specs.Valid.{is_limit}
+use Rattle.pbd_scene.specs.declared.raw.Settings.{Settings}
 use Rattle.pbd_scene.specs.declared.raw.Tables.{Tables}
-use Rattle.pbd_scene.specs.Entries.{all_cloths_size, all_ropes_size}
-use Rattle.pbd_scene.specs.Scene.{with_cloth, with_rope}
-use Rattle.pbd_scene.proofs.LiveLinks.{within_at, live_none}
-use Rattle.pbd_scene.proofs.Validity.{TablesFit, Meshed, cloths_meshed, ropes_meshed}
+use Rattle.pbd_scene.specs.Entries.{cloth_size as size_of_cloth, all_cloths_size, all_ropes_size}
+use Rattle.pbd_scene.specs.Scene.{with_cloth, with_rope, plain_parts, with_meshes}
+use Rattle.pbd_scene.proofs.LiveLinks.{within_at}
+use Rattle.pbd_scene.proofs.Validity.{TablesFit, Meshed, meshes_fit}
 
 -- a test of all, as a fact of each
 at : {A : Type 0} (test : A → Bool) (xs : List A) (i : ℕ) (d : A) → list_all test xs ≡ true → i < length xs → test (get_or xs i d) ≡ true
@@ -42,42 +46,25 @@ no_particle = record { at = zero_vector; before = zero_vector; weight = 0; held 
 pub cloths_fit : (limit m : ℤ) (t : Tables) (xs : List ClothSpec) → xs ≡ t.cloths → m ≡ limit → TablesFit limit t → All (λ s. cloth_fits m s ≡ true) xs
 cloths_fit limit m t xs same is fit = rw (same, is) (each_of (cloth_fits limit) no_cloth t.cloths fit.cloths.fit)
 
-pub cloths_room : (limit : ℤ) (t : Tables) (xs : List ClothSpec) → xs ≡ t.cloths → TablesFit limit t → length t.particles + all_cloths_size xs ≤ 65536
-cloths_room limit t xs same fit = rw same fit.cloths.room
+-- ---- parts to which the cloths are added, and then the ropes
 
--- parts to which the cloths were added, and then the ropes
-pub record WithCloths (limit : ℤ) (t : Tables) (start now : Parts) : Type 0 where
-  pub meshed : Meshed limit start now
-  pub size : length now.particles ≡ length t.particles + all_cloths_size t.cloths
-  pub limit_is : now.limit ≡ limit
+pub cloths_keep_limit : (parts : Parts) (cloths : List ClothSpec) → (fold with_cloth parts cloths).limit ≡ parts.limit
+cloths_keep_limit parts [] = refl
+cloths_keep_limit parts (s ∷ ss) = cloths_keep_limit (with_cloth parts s) ss
 
-pub cloths_added : (limit : ℤ) (t : Tables) (start now : Parts) (xs : List ClothSpec) → now ≡ fold with_cloth start xs → xs ≡ t.cloths → IsTrue (is_limit limit) → TablesFit limit t → start.limit ≡ limit → start.particles ≡ t.particles → start.links ≡ [] → WithCloths limit t start now
-cloths_added limit t start now xs grown same lim fit is particles links =
-    let begins : Meshed limit start start = record {
-      others = refl;
-      particles = rw particles fit.particles;
-      few = rw particles (omega (arith, fit.cloths.room));
-      links = rw links (live_none limit (length start.particles));
-      size = rw links (omega arith);
-    } in
-    let c = cloths_meshed limit start start t.cloths lim begins fit.cloths.fit (rw particles fit.cloths.room) in
-    let all : now ≡ fold with_cloth start t.cloths = rw (← same) grown in
-    rw all (record {
-      meshed = c.0;
-      size = c.1 ∙ ap (λ (ps : List Particle). length ps + all_cloths_size t.cloths) particles;
-      limit_is = ap (λ (q : Parts). q.limit) c.0.others ∙ is;
-    })
+pub cloths_grow : (parts : Parts) (cloths : List ClothSpec) → length (fold with_cloth parts cloths).particles ≡ length parts.particles + all_cloths_size cloths
+cloths_grow parts [] = omega arith
+cloths_grow parts (s ∷ ss) = omega (arith, cloths_grow (with_cloth parts s) ss, length-append parts.particles (cloth_particles s), cloth_size s, sum_by-cons size_of_cloth s ss)
 
-pub ropes_fit : (limit : ℤ) (t : Tables) (start now : Parts) (ys : List RopeSpec) → ys ≡ t.ropes → TablesFit limit t → WithCloths limit t start now → All (λ s. rope_fits now.limit s ≡ true) ys
-ropes_fit limit t start now ys same fit with = rw (same, with.limit_is) (each_of (rope_fits limit) no_rope t.ropes fit.ropes.fit)
+pub ropes_fit : (limit m : ℤ) (t : Tables) (ys : List RopeSpec) → ys ≡ t.ropes → m ≡ limit → TablesFit limit t → All (λ s. rope_fits m s ≡ true) ys
+ropes_fit limit m t ys same is fit = rw (same, is) (each_of (rope_fits limit) no_rope t.ropes fit.ropes.fit)
 
-pub ropes_room : (limit : ℤ) (t : Tables) (start now : Parts) (ys : List RopeSpec) → ys ≡ t.ropes → TablesFit limit t → WithCloths limit t start now → length now.particles + all_ropes_size ys ≤ 65536
-ropes_room limit t start now ys same fit with = rw (same, with.size) fit.ropes.room
+pub meshes_room : (limit : ℤ) (t : Tables) (xs : List ClothSpec) (ys : List RopeSpec) → xs ≡ t.cloths → ys ≡ t.ropes → TablesFit limit t → length t.particles + all_cloths_size xs + all_ropes_size ys ≤ 65536
+meshes_room limit t xs ys same its fit = rw (same, its) fit.ropes.room
 
-pub ropes_added : (limit : ℤ) (t : Tables) (start now last : Parts) (ys : List RopeSpec) → last ≡ fold with_rope now ys → ys ≡ t.ropes → IsTrue (is_limit limit) → TablesFit limit t → WithCloths limit t start now → Meshed limit start last
-ropes_added limit t start now last ys grown same lim fit with =
-    let all : last ≡ fold with_rope now t.ropes = rw (← same) grown in
-    rw all (ropes_meshed limit start now t.ropes lim with.meshed fit.ropes.fit (rw with.size fit.ropes.room))
+pub meshed_now : (limit : ℤ) (s : Settings) (t : Tables) (now : Parts) (xs : List ClothSpec) (ys : List RopeSpec) → now ≡ fold with_rope (fold with_cloth (plain_parts limit s t) xs) ys → xs ≡ t.cloths → ys ≡ t.ropes → IsTrue (is_limit limit) → TablesFit limit t → Meshed limit (plain_parts limit s t) now
+unfolding with_meshes
+meshed_now limit s t now xs ys is same its lim fit = rw (is, same, its) (meshes_fit limit s t lim fit)
 
 within_range : (limit : ℤ) (p : Particle) → IsTrue (is_limit limit) → is_within limit p.at ≡ true → Within (2 ^ 29) p.at
 within_range limit p lim t =

@@ -26,6 +26,7 @@ use Rattle.pbd_world.specs.Neighbours.{is_among}
 use Rattle.pbd_world.specs.Valid.{is_limit, is_between, is_valid, is_well_formed, is_valid_particle, is_at_rest, is_valid_plane, is_valid_sphere, is_valid_track, are_valid_keys, are_valid_particles, are_valid_links, are_valid_planes, are_valid_spheres, are_valid_tracks, are_tracked_held, are_valid_numbers, none_twice}
 use Rattle.pbd_world.proofs.ValidLinks.{links_facts}
 use Rattle.pbd_scene.specs.declared.raw.TrackEntry.{TrackEntry}
+use Rattle.pbd_scene.specs.declared.raw.Numbers.{Numbers}
 use Rattle.pbd_scene.specs.declared.raw.Settings.{Settings}
 use Rattle.pbd_scene.specs.declared.raw.Tables.{Tables}
 use Rattle.pbd_scene.specs.declared.fault.SceneRule.TheVariants.{BadTrack}
@@ -36,7 +37,7 @@ use Rattle.pbd_scene.specs.Keys.{known}
 use Rattle.pbd_scene.specs.Values.{at, vector_or, count_or, integer_or}
 use Rattle.pbd_scene.specs.Entries.{cloth_of, rope_of, particle_of, link_of, plane_of, sphere_of, track_of, cloth_size as size_of_cloth, all_cloths_size, all_ropes_size}
 use Rattle.pbd_scene.specs.Joining.{particle_number, all_links, pinned, placed_track, held_still, holding}
-use Rattle.pbd_scene.specs.Scene.{at_scene, pins_of, settings_of, particles_of, cloths_of, ropes_of, links_of, planes_of, spheres_of, tracks_of, tables_of, with_cloth, with_rope, plain_parts, with_meshes, named, joined_parts, scene_of}
+use Rattle.pbd_scene.specs.Scene.{at_scene, pins_of, numbers_of, settings_of, particles_of, cloths_of, ropes_of, links_of, planes_of, spheres_of, tracks_of, tables_of, with_cloth, with_rope, plain_parts, with_meshes, named, tracked_parts, held_parts, joined_parts, parts_with, scene_of}
 use Rattle.pbd_scene.proofs.Accepted.{through, same_ok, tested, integer_or_ok, count_or_ok, vector_or_ok, each_keeps_where, table_pass, table_keeps, each_count}
 use Rattle.pbd_scene.proofs.Entering.{at_rest, is_entry_particle, particle_passes, CloseCloths, CloseRopes, cloths_keep, ropes_keep, is_link_entry, link_passes, plane_passes, sphere_passes, has_keys, track_passes}
 use Rattle.pbd_scene.proofs.LiveLinks.{LiveLinks, live_none, live_mesh, links_joined, number_ok}
@@ -100,26 +101,47 @@ lt_test m n h = grind (arith, nat_tests)
 zero_within : (limit : ℤ) → IsTrue (is_limit limit) → is_within limit zero_vector ≡ true
 zero_within limit is = (within_facts limit zero_vector (limit_bounds limit is).0).1 (record { x = omega arith; y = omega arith; z = omega arith })
 
+-- the numbers in their ranges
+record NumbersFit (n : Numbers) : Type 0 where
+  pub passes : nat_le n.passes 64 ≡ true
+  pub damping : is_between (pos 0) (pos 1024) n.damping ≡ true
+  pub thickness : is_between (pos 0) (pos 1048576) n.thickness ≡ true
+  pub friction : is_between (pos 0) (pos 256) n.friction ≡ true
+
+numbers_fit : (ms : Members) (n : Numbers) → numbers_of ms ≡ Ok n → NumbersFit n
+unfolding numbers_of
+numbers_fit ms n is =
+    through (count_or at_scene keys.Passes 0 64 1 ms) _ n is (λ passes e1 is1.
+    through (integer_or at_scene keys.Damping (pos 0) (pos 1024) (pos 0) ms) _ n is1 (λ damping e2 is2.
+    through (integer_or at_scene keys.Thickness (pos 0) (pos 1048576) (pos 0) ms) _ n is2 (λ thickness e3 is3.
+    through (integer_or at_scene keys.Friction (pos 0) (pos 256) (pos 0) ms) _ n is3 (λ friction e4 is4.
+    let all : Numbers = record { passes = passes; damping = damping; thickness = thickness; friction = friction } in
+    let few = count_or_ok at_scene keys.Passes 0 64 1 ms passes (omega arith) (omega arith) e1 in
+    let fit : NumbersFit all = record {
+      passes = le_test passes 64 few.1;
+      damping = integer_or_ok at_scene keys.Damping (pos 0) (pos 1024) (pos 0) ms damping refl e2;
+      thickness = integer_or_ok at_scene keys.Thickness (pos 0) (pos 1048576) (pos 0) ms thickness refl e3;
+      friction = integer_or_ok at_scene keys.Friction (pos 0) (pos 256) (pos 0) ms friction refl e4;
+    } in
+    rw (← same_ok all n is4) fit))))
+
 pub settings_fit : (limit : ℤ) (ms : Members) (s : Settings) → IsTrue (is_limit limit) → settings_of limit ms ≡ Ok s → SettingsFit limit s
 unfolding settings_of
 settings_fit limit ms s lim is =
     through (known at_scene ms) _ s is (λ u e1 is1.
     through (vector_or at_scene keys.Gravity limit zero_vector ms) _ s is1 (λ gravity e2 is2.
-    through (count_or at_scene keys.Passes 0 64 1 ms) _ s is2 (λ passes e3 is3.
-    through (integer_or at_scene keys.Damping (pos 0) (pos 1024) (pos 0) ms) _ s is3 (λ damping e4 is4.
-    through (integer_or at_scene keys.Thickness (pos 0) (pos 1048576) (pos 0) ms) _ s is4 (λ thickness e5 is5.
-    through (integer_or at_scene keys.Friction (pos 0) (pos 256) (pos 0) ms) _ s is5 (λ friction e6 is6.
-    through (pins_of ms) _ s is6 (λ pins e7 is7.
-    let all : Settings = record { gravity = gravity; passes = passes; damping = damping; thickness = thickness; friction = friction; pins = pins } in
-    let n = count_or_ok at_scene keys.Passes 0 64 1 ms passes (omega arith) (omega arith) e3 in
+    through (numbers_of ms) _ s is2 (λ n e3 is3.
+    through (pins_of ms) _ s is3 (λ pins e4 is4.
+    let all : Settings = record { gravity = gravity; passes = n.passes; damping = n.damping; thickness = n.thickness; friction = n.friction; pins = pins } in
+    let ranges = numbers_fit ms n e3 in
     let fit : SettingsFit limit all = record {
       gravity = vector_or_ok at_scene keys.Gravity limit zero_vector ms gravity (zero_within limit lim) e2;
-      passes = le_test passes 64 n.1;
-      damping = integer_or_ok at_scene keys.Damping (pos 0) (pos 1024) (pos 0) ms damping refl e4;
-      thickness = integer_or_ok at_scene keys.Thickness (pos 0) (pos 1048576) (pos 0) ms thickness refl e5;
-      friction = integer_or_ok at_scene keys.Friction (pos 0) (pos 256) (pos 0) ms friction refl e6;
+      passes = ranges.passes;
+      damping = ranges.damping;
+      thickness = ranges.thickness;
+      friction = ranges.friction;
     } in
-    rw (← same_ok all s is7) fit)))))))
+    rw (← same_ok all s is4) fit))))
 
 -- ---- the meshes
 
@@ -297,7 +319,7 @@ links_asked : (limit : ℤ) (n : ℕ) (ls : List Link) → LiveLinks limit n ls 
 links_asked limit n ls j = ((links_facts limit n ls).1 j.valid, j.live)
 
 joined_valid : (limit : ℤ) (s : Settings) (t : Tables) (start m : Parts) (pins : List ℤ) (parts : Parts) → IsTrue (is_limit limit) → SettingsFit limit s → TablesFit limit t → start ≡ plain_parts limit s t → Meshed limit start m → joined_parts pins t.links t.tracks m ≡ Ok parts → is_valid parts ≡ true
-unfolding joined_parts
+unfolding joined_parts held_parts tracked_parts
 joined_valid limit s t start m pins parts lim sf tf plain mf is =
     let low = (limit_bounds limit lim).0 in
     let n = length m.particles in
@@ -339,7 +361,7 @@ joined_valid limit s t start m pins parts lim sf tf plain mf is =
     rw (← same_ok all parts is3) checked)))
 
 pub scene_valid : (limit : ℤ) (tree : Members) (parts : Parts) → IsTrue (is_limit limit) → scene_of limit tree ≡ Ok parts → IsTrue (is_valid parts)
-unfolding scene_of
+unfolding scene_of parts_with
 scene_valid limit tree parts lim is =
     let low = (limit_bounds limit lim).0 in
     through (settings_of limit tree) _ parts is (λ s e1 is1.

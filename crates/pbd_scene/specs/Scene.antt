@@ -14,6 +14,7 @@ pub use Rattle.pbd_mesh.specs.Cloth.{with_cloth}
 pub use Rattle.pbd_mesh.specs.Rope.{with_rope}
 use Rattle.pbd_scene.specs.declared.raw.LinkEntry.{LinkEntry}
 use Rattle.pbd_scene.specs.declared.raw.TrackEntry.{TrackEntry}
+use Rattle.pbd_scene.specs.declared.raw.Numbers.{Numbers}
 use Rattle.pbd_scene.specs.declared.raw.Settings.{Settings}
 use Rattle.pbd_scene.specs.declared.raw.Tables.{Tables}
 use Rattle.pbd_scene.specs.declared.fault.SceneRule.TheVariants.{TooMany}
@@ -38,17 +39,23 @@ pins_of ms = do
   _ ← expect (nat_le (length ns) 65536) TooMany at_scene keys.Pins
   Ok ns
 
+-- the scene's own numbers
+unfoldable pub numbers_of : Members → Checked Numbers
+numbers_of ms = do
+  passes ← count_or at_scene keys.Passes 0 64 1 ms
+  damping ← integer_or at_scene keys.Damping (pos 0) (pos 1024) (pos 0) ms
+  thickness ← integer_or at_scene keys.Thickness (pos 0) (pos 1048576) (pos 0) ms
+  friction ← integer_or at_scene keys.Friction (pos 0) (pos 256) (pos 0) ms
+  Ok (record { passes = passes; damping = damping; thickness = thickness; friction = friction })
+
 -- the scene's own keys
 unfoldable pub settings_of : ℤ → Members → Checked Settings
 settings_of limit ms = do
   _ ← known at_scene ms
   gravity ← vector_or at_scene keys.Gravity limit zero_vector ms
-  passes ← count_or at_scene keys.Passes 0 64 1 ms
-  damping ← integer_or at_scene keys.Damping (pos 0) (pos 1024) (pos 0) ms
-  thickness ← integer_or at_scene keys.Thickness (pos 0) (pos 1048576) (pos 0) ms
-  friction ← integer_or at_scene keys.Friction (pos 0) (pos 256) (pos 0) ms
+  numbers ← numbers_of ms
   pins ← pins_of ms
-  Ok (record { gravity = gravity; passes = passes; damping = damping; thickness = thickness; friction = friction; pins = pins })
+  Ok (record { gravity = gravity; passes = numbers.passes; damping = numbers.damping; thickness = numbers.thickness; friction = numbers.friction; pins = pins })
 
 -- the entries of each table, where so many particles stand before the meshes of a table
 unfoldable pub particles_of : ℤ → Members → Checked (List Particle)
@@ -105,19 +112,33 @@ with_meshes limit s t = fold with_rope (fold with_cloth (plain_parts limit s t) 
 abbrev pub named : List ℕ → List Track → List ℕ
 named pins tracks = pins ++ map (λ t. t.particle) tracks
 
+-- the parts with the tracks of the entries, where the particles of the tracks and these stay where they are
+unfoldable pub tracked_parts : List ℕ → List TrackEntry → Parts → Checked Parts
+tracked_parts held track_entries parts = do
+  tracks ← each (placed_track (length parts.particles)) [] track_entries
+  Ok (record parts { particles = holding (named held tracks) 0 parts.particles; tracks = tracks })
+
+unfoldable pub held_parts : List ℤ → List TrackEntry → Parts → Checked Parts
+held_parts pins track_entries parts = do
+  held ← each (pinned (length parts.particles)) [] pins
+  tracked_parts held track_entries parts
+
 -- the links, pins and tracks that the entries name are looked at last
 unfoldable pub joined_parts : List ℤ → List LinkEntry → List TrackEntry → Parts → Checked Parts
 joined_parts pins link_entries track_entries parts = do
   links ← all_links parts.particles parts.links link_entries
-  held ← each (pinned (length parts.particles)) [] pins
-  tracks ← each (placed_track (length parts.particles)) [] track_entries
-  Ok (record parts { particles = holding (named held tracks) 0 parts.particles; links = links; tracks = tracks })
+  held_parts pins track_entries (record parts { links = links })
+
+-- the scene of the tables, with these settings
+unfoldable pub parts_with : ℤ → Settings → Members → Checked Parts
+parts_with limit s ms = do
+  t ← tables_of limit ms
+  joined_parts s.pins t.links t.tracks (with_meshes limit s t)
 
 unfoldable pub scene_of : ℤ → Members → Checked Parts
 scene_of limit ms = do
   s ← settings_of limit ms
-  t ← tables_of limit ms
-  joined_parts s.pins t.links t.tracks (with_meshes limit s t)
+  parts_with limit s ms
 
 -- What `read_scene` returns of a text that reads as this tree: no scene but that of the tree, and no fault but the first
 -- broken rule, or that there is no tree, unless memory ran out.

@@ -2,12 +2,12 @@
 ghost use Rattle.std.specs.Prelude.{◌≡◌, [], ◌≤◌, ◌^◌, length, map, IfOk, option_map};
 ghost use Rattle.toml.specs.View.{view, table_view};
 ghost use Rattle.pbd_scene.specs.Checks.{Gives, broken};
-ghost use Rattle.pbd_scene.specs.Values.{array_of, value_of, any_integer, integers, four_integers, row, required_array, members, entries, entries_of, table_of, integers_of};
+ghost use Rattle.pbd_scene.specs.Values.{array_of, value_of, any_integer, integers, four_integers, row, required_array, members, entry, entries, entries_of, table_of, integers_of};
 
 use crate::each::{Reader, read_each};
 use crate::fault::{KeyName, Place, SceneFault, SceneRule, TableName};
 use crate::raw::Row;
-use crate::values::{any_integer, broken, find, value_of};
+use crate::values::{any_integer, broken, find, known, value_of};
 use pbd_num::Vec3;
 use pbd_world::List;
 use std::alloc::Global;
@@ -121,13 +121,23 @@ pub fn required_array<'a>(
 // ---- tables
 
 /// The members of an entry.
-pub fn members(place: Place, value: &Value) -> Result<&Table, SceneFault>
+fn members(place: Place, value: &Value) -> Result<&Table, SceneFault>
     ensures { Gives (λ t. table_view t.now) result (members place (view value.now)) }
 {
     match value.as_table() {
         Some(table) => Ok(table),
         None => broken(SceneRule::WrongType, place, KeyName::NoKey),
     }
+}
+
+/// The members of an entry that has no keys but those of its table.
+#[tactic(auto, unfolding(crate::specs::Values::entry))]
+pub fn entry(place: Place, value: &Value) -> Result<&Table, SceneFault>
+    ensures { Gives (λ t. table_view t.now) result (entry place (view value.now)) }
+{
+    let table = members(place, value)?;
+    known(place, table)?;
+    Ok(table)
 }
 
 fn entries(table: TableName, most: usize, value: &Value) -> Result<&[Value], SceneFault>

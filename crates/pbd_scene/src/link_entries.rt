@@ -4,13 +4,13 @@ ghost use Rattle.toml.specs.View.{view};
 ghost use Rattle.pbd_scene.specs.Checks.{Gives};
 ghost use Rattle.pbd_scene.specs.Entries.{link_of};
 
-use crate::arrays::members;
+use crate::arrays::entry;
 use crate::axes::four_times;
 use crate::each::Reader;
 use crate::fault::{KeyName, Place, SceneFault, TableName};
 use crate::limit::Limit;
 use crate::raw::LinkEntry;
-use crate::values::{count_or, integer_or, known, optional_integer, required_any_integer};
+use crate::values::{count_or, integer_or, optional_integer, required_any_integer};
 use toml::Value;
 
 #[derive(Clone, Copy)]
@@ -30,8 +30,7 @@ fn link_of(limit: i64, before: &[LinkEntry], value: &Value) -> Result<LinkEntry,
         table: TableName::Link,
         position: before.len() as u32,
     };
-    let table = members(place, value)?;
-    known(place, table)?;
+    let table = entry(place, value)?;
     let a = required_any_integer(place, KeyName::A, table)?;
     let b = required_any_integer(place, KeyName::B, table)?;
     let rest = optional_integer(place, KeyName::Rest, 0, longest, table)?;

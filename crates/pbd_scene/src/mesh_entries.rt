@@ -1,22 +1,23 @@
 // The `[[cloth]]` and `[[rope]]` entries.
 ghost use Rattle.std.specs.Prelude.{◌≡◌, ◌≤◌, ◌<◌, ◌+◌, ◌^◌, ◌≤ℤ◌, pos, length, unsigned_abs, true, IfOk, ◌*◌};
 ghost use Rattle.std.specs.List.{All};
-ghost use Rattle.toml.specs.View.{view};
+ghost use Rattle.toml.specs.View.{view, table_view};
 ghost use Rattle.pbd_mesh.specs.Cloth.{cloth_fits};
 ghost use Rattle.pbd_mesh.specs.Rope.{rope_fits};
 ghost use Rattle.pbd_scene.specs.Checks.{Gives};
-ghost use Rattle.pbd_scene.specs.Entries.{fitting_cloth, fitting_rope, cloth_size, all_cloths_size, all_ropes_size, room_for, cloth_of, rope_of};
+ghost use Rattle.pbd_scene.specs.Entries.{fitting_cloth, fitting_rope, cloth_size, all_cloths_size, all_ropes_size, room_for, cloth_vectors_of, cloth_counts_of, cloth_stiffness_of, cloth_tears_of, cloth_with, cloth_spec_of, cloth_of, rope_particles_of, rope_links_of, rope_with, rope_of};
 
-use crate::arrays::members;
+use crate::arrays::entry;
 use crate::axes::four_times;
 use crate::each::Reader;
 use crate::fault::{KeyName, Place, SceneFault, SceneRule, TableName};
 use crate::limit::Limit;
-use crate::values::{count_or, expect, integer_or, known, required_count};
+use crate::raw::{ClothCounts, ClothStiffness, ClothTears, ClothVectors, RopeLinks, RopeParticles};
+use crate::values::{count_or, expect, integer_or, required_count};
 use crate::vectors::required_vector;
 use pbd_mesh::{ClothSpec, RopeSpec};
 use pbd_world::MOST_PARTICLES;
-use toml::Value;
+use toml::{Table, Value};
 
 // ---- cloths
 
@@ -62,8 +63,6 @@ fn fitting_cloth(
     requires low { pos 0 ≤ℤ limit }
     requires high { unsigned_abs limit ≤ 2 ^ 29 }
     requires room { count + all_cloths_size before.now ≤ 65536 }
-    requires rows { spec.rows ≤ 256 }
-    requires columns { spec.columns ≤ 256 }
     ensures value { Gives (λ s. s) result (fitting_cloth limit count before.now place spec) }
     ensures fits { IfOk result (λ s. cloth_fits limit s ≡ true) }
     ensures room { IfOk result (λ s. count + all_cloths_size before.now + cloth_size s ≤ 65536) }
@@ -81,6 +80,105 @@ fn fitting_cloth(
     Ok(spec)
 }
 
+#[tactic(auto, unfolding(crate::specs::Entries::cloth_vectors_of))]
+fn cloth_vectors_of(place: Place, limit: i64, table: &Table) -> Result<ClothVectors, SceneFault>
+    requires low { pos 0 ≤ℤ limit }
+    requires high { unsigned_abs limit ≤ 2 ^ 29 }
+    ensures { Gives (λ v. v) result (cloth_vectors_of place limit (table_view table.now)) }
+{
+    let origin = required_vector(place, KeyName::Origin, limit, table)?;
+    let across = required_vector(place, KeyName::Across, limit, table)?;
+    let down = required_vector(place, KeyName::Down, limit, table)?;
+    Ok(ClothVectors {
+        origin,
+        across,
+        down,
+    })
+}
+
+#[tactic(auto, unfolding(crate::specs::Entries::cloth_counts_of))]
+fn cloth_counts_of(place: Place, table: &Table) -> Result<ClothCounts, SceneFault>
+    ensures { Gives (λ n. n) result (cloth_counts_of place (table_view table.now)) }
+{
+    let rows = required_count(place, KeyName::Rows, 1, 256, table)?;
+    let columns = required_count(place, KeyName::Columns, 1, 256, table)?;
+    let weight = count_or(place, KeyName::Weight, 1, 65_535, 1, table)?;
+    Ok(ClothCounts {
+        rows,
+        columns,
+        weight: weight as u16,
+    })
+}
+
+#[tactic(auto, unfolding(crate::specs::Entries::cloth_stiffness_of))]
+fn cloth_stiffness_of(place: Place, table: &Table) -> Result<ClothStiffness, SceneFault>
+    ensures { Gives (λ k. k) result (cloth_stiffness_of place (table_view table.now)) }
+{
+    let stretch = count_or(place, KeyName::Stretch, 0, 256, 256, table)?;
+    let shear = count_or(place, KeyName::Shear, 0, 256, 256, table)?;
+    let bend = count_or(place, KeyName::Bend, 0, 256, 64, table)?;
+    Ok(ClothStiffness {
+        stretch: stretch as u16,
+        shear: shear as u16,
+        bend: bend as u16,
+    })
+}
+
+#[tactic(auto, unfolding(crate::specs::Entries::cloth_tears_of))]
+fn cloth_tears_of(place: Place, limit: i64, table: &Table) -> Result<ClothTears, SceneFault>
+    requires low { pos 0 ≤ℤ limit }
+    requires high { unsigned_abs limit ≤ 2 ^ 29 }
+    ensures { Gives (λ t. t) result (cloth_tears_of place limit (table_view table.now)) }
+{
+    let longest = four_times(limit);
+    let stretch = integer_or(place, KeyName::StretchTear, 0, longest, 0, table)?;
+    let shear = integer_or(place, KeyName::ShearTear, 0, longest, 0, table)?;
+    let bend = integer_or(place, KeyName::BendTear, 0, longest, 0, table)?;
+    Ok(ClothTears {
+        stretch,
+        shear,
+        bend,
+    })
+}
+
+#[tactic(auto, unfolding(crate::specs::Entries::cloth_with))]
+fn cloth_with(
+    vectors: ClothVectors,
+    counts: ClothCounts,
+    stiffness: ClothStiffness,
+    tears: ClothTears,
+) -> ClothSpec
+    ensures { result ≡ cloth_with vectors counts stiffness tears }
+{
+    ClothSpec {
+        origin: vectors.origin,
+        across: vectors.across,
+        down: vectors.down,
+        rows: counts.rows,
+        columns: counts.columns,
+        weight: counts.weight,
+        stretch: stiffness.stretch,
+        shear: stiffness.shear,
+        bend: stiffness.bend,
+        stretch_tear: tears.stretch,
+        shear_tear: tears.shear,
+        bend_tear: tears.bend,
+    }
+}
+
+#[tactic(auto, unfolding(crate::specs::Entries::cloth_spec_of))]
+fn cloth_spec_of(place: Place, limit: i64, table: &Table) -> Result<ClothSpec, SceneFault>
+    requires low { pos 0 ≤ℤ limit }
+    requires high { unsigned_abs limit ≤ 2 ^ 29 }
+    ensures { Gives (λ s. s) result (cloth_spec_of place limit (table_view table.now)) }
+{
+    let vectors = cloth_vectors_of(place, limit, table)?;
+    let counts = cloth_counts_of(place, table)?;
+    let stiffness = cloth_stiffness_of(place, table)?;
+    let tears = cloth_tears_of(place, limit, table)?;
+    Ok(cloth_with(vectors, counts, stiffness, tears))
+}
+
 #[tactic(auto, unfolding(crate::specs::Entries::cloth_of))]
 fn cloth_of(
     limit: i64,
@@ -96,39 +194,12 @@ fn cloth_of(
     ensures fits { IfOk result (λ s. cloth_fits limit s ≡ true) }
     ensures room { IfOk result (λ s. count + all_cloths_size before.now + cloth_size s ≤ 65536) }
 {
-    let longest = four_times(limit);
     let place = Place {
         table: TableName::Cloth,
         position: before.len() as u32,
     };
-    let table = members(place, value)?;
-    known(place, table)?;
-    let origin = required_vector(place, KeyName::Origin, limit, table)?;
-    let across = required_vector(place, KeyName::Across, limit, table)?;
-    let down = required_vector(place, KeyName::Down, limit, table)?;
-    let rows = required_count(place, KeyName::Rows, 1, 256, table)?;
-    let columns = required_count(place, KeyName::Columns, 1, 256, table)?;
-    let weight = count_or(place, KeyName::Weight, 1, 65_535, 1, table)?;
-    let stretch = count_or(place, KeyName::Stretch, 0, 256, 256, table)?;
-    let shear = count_or(place, KeyName::Shear, 0, 256, 256, table)?;
-    let bend = count_or(place, KeyName::Bend, 0, 256, 64, table)?;
-    let stretch_tear = integer_or(place, KeyName::StretchTear, 0, longest, 0, table)?;
-    let shear_tear = integer_or(place, KeyName::ShearTear, 0, longest, 0, table)?;
-    let bend_tear = integer_or(place, KeyName::BendTear, 0, longest, 0, table)?;
-    let spec = ClothSpec {
-        origin,
-        across,
-        down,
-        rows,
-        columns,
-        weight: weight as u16,
-        stretch: stretch as u16,
-        shear: shear as u16,
-        bend: bend as u16,
-        stretch_tear,
-        shear_tear,
-        bend_tear,
-    };
+    let table = entry(place, value)?;
+    let spec = cloth_spec_of(place, limit, table)?;
     fitting_cloth(limit, count, before, place, spec)
 }
 
@@ -177,7 +248,6 @@ fn fitting_rope(
     requires low { pos 0 ≤ℤ limit }
     requires high { unsigned_abs limit ≤ 2 ^ 29 }
     requires room { count + all_ropes_size before.now ≤ 65536 }
-    requires number { spec.count ≤ 4096 }
     ensures value { Gives (λ s. s) result (fitting_rope limit count before.now place spec) }
     ensures fits { IfOk result (λ s. rope_fits limit s ≡ true) }
     ensures room { IfOk result (λ s. count + all_ropes_size before.now + s.count ≤ 65536) }
@@ -190,6 +260,59 @@ fn fitting_rope(
     )?;
     room_for(place, count + all_ropes_size(before) + spec.count)?;
     Ok(spec)
+}
+
+#[tactic(auto, unfolding(crate::specs::Entries::rope_particles_of))]
+fn rope_particles_of(place: Place, limit: i64, table: &Table) -> Result<RopeParticles, SceneFault>
+    requires low { pos 0 ≤ℤ limit }
+    requires high { unsigned_abs limit ≤ 2 ^ 29 }
+    ensures { Gives (λ p. p) result (rope_particles_of place limit (table_view table.now)) }
+{
+    let origin = required_vector(place, KeyName::Origin, limit, table)?;
+    let spacing = required_vector(place, KeyName::Spacing, limit, table)?;
+    let count = required_count(place, KeyName::Count, 1, 4096, table)?;
+    let weight = count_or(place, KeyName::Weight, 1, 65_535, 1, table)?;
+    Ok(RopeParticles {
+        origin,
+        spacing,
+        count,
+        weight: weight as u16,
+    })
+}
+
+#[tactic(auto, unfolding(crate::specs::Entries::rope_links_of))]
+fn rope_links_of(place: Place, limit: i64, table: &Table) -> Result<RopeLinks, SceneFault>
+    requires low { pos 0 ≤ℤ limit }
+    requires high { unsigned_abs limit ≤ 2 ^ 29 }
+    ensures { Gives (λ l. l) result (rope_links_of place limit (table_view table.now)) }
+{
+    let longest = four_times(limit);
+    let stretch = count_or(place, KeyName::Stretch, 0, 256, 256, table)?;
+    let bend = count_or(place, KeyName::Bend, 0, 256, 64, table)?;
+    let stretch_tear = integer_or(place, KeyName::StretchTear, 0, longest, 0, table)?;
+    let bend_tear = integer_or(place, KeyName::BendTear, 0, longest, 0, table)?;
+    Ok(RopeLinks {
+        stretch: stretch as u16,
+        bend: bend as u16,
+        stretch_tear,
+        bend_tear,
+    })
+}
+
+#[tactic(auto, unfolding(crate::specs::Entries::rope_with))]
+fn rope_with(particles: RopeParticles, links: RopeLinks) -> RopeSpec
+    ensures { result ≡ rope_with particles links }
+{
+    RopeSpec {
+        origin: particles.origin,
+        spacing: particles.spacing,
+        count: particles.count,
+        weight: particles.weight,
+        stretch: links.stretch,
+        bend: links.bend,
+        stretch_tear: links.stretch_tear,
+        bend_tear: links.bend_tear,
+    }
 }
 
 #[tactic(auto, unfolding(crate::specs::Entries::rope_of))]
@@ -207,32 +330,14 @@ fn rope_of(
     ensures fits { IfOk result (λ s. rope_fits limit s ≡ true) }
     ensures room { IfOk result (λ s. count + all_ropes_size before.now + s.count ≤ 65536) }
 {
-    let longest = four_times(limit);
     let place = Place {
         table: TableName::Rope,
         position: before.len() as u32,
     };
-    let table = members(place, value)?;
-    known(place, table)?;
-    let origin = required_vector(place, KeyName::Origin, limit, table)?;
-    let spacing = required_vector(place, KeyName::Spacing, limit, table)?;
-    let number = required_count(place, KeyName::Count, 1, 4096, table)?;
-    let weight = count_or(place, KeyName::Weight, 1, 65_535, 1, table)?;
-    let stretch = count_or(place, KeyName::Stretch, 0, 256, 256, table)?;
-    let bend = count_or(place, KeyName::Bend, 0, 256, 64, table)?;
-    let stretch_tear = integer_or(place, KeyName::StretchTear, 0, longest, 0, table)?;
-    let bend_tear = integer_or(place, KeyName::BendTear, 0, longest, 0, table)?;
-    let spec = RopeSpec {
-        origin,
-        spacing,
-        count: number,
-        weight: weight as u16,
-        stretch: stretch as u16,
-        bend: bend as u16,
-        stretch_tear,
-        bend_tear,
-    };
-    fitting_rope(limit, count, before, place, spec)
+    let table = entry(place, value)?;
+    let particles = rope_particles_of(place, limit, table)?;
+    let links = rope_links_of(place, limit, table)?;
+    fitting_rope(limit, count, before, place, rope_with(particles, links))
 }
 
 impl Reader for Ropes {

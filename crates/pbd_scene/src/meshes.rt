@@ -11,7 +11,7 @@ use pbd_mesh::{ClothSpec, RopeSpec, cloth, cloths_are_meshes, rope, ropes_are_me
 use pbd_world::Parts;
 use std::alloc::{AllocError, Global};
 
-pub fn add_cloths(alloc: Global, cloths: &[ClothSpec], parts: &mut Parts) -> Result<(), AllocError>
+fn add_cloths(alloc: Global, cloths: &[ClothSpec], parts: &mut Parts) -> Result<(), AllocError>
     requires limit { IsTrue (is_limit parts.old.limit) }
     requires fit { All (λ s. cloth_fits parts.old.limit s ≡ true) cloths.now }
     requires room { length parts.old.particles + all_cloths_size cloths.now ≤ 65536 }
@@ -24,7 +24,7 @@ pub fn add_cloths(alloc: Global, cloths: &[ClothSpec], parts: &mut Parts) -> Res
     Ok(())
 }
 
-pub fn add_ropes(alloc: Global, ropes: &[RopeSpec], parts: &mut Parts) -> Result<(), AllocError>
+fn add_ropes(alloc: Global, ropes: &[RopeSpec], parts: &mut Parts) -> Result<(), AllocError>
     requires limit { IsTrue (is_limit parts.old.limit) }
     requires fit { All (λ s. rope_fits parts.old.limit s ≡ true) ropes.now }
     requires room { length parts.old.particles + all_ropes_size ropes.now ≤ 65536 }
@@ -35,4 +35,22 @@ pub fn add_ropes(alloc: Global, ropes: &[RopeSpec], parts: &mut Parts) -> Result
         rope(alloc, s, parts)?;
     }
     Ok(())
+}
+
+/// Adds the cloths and then the ropes.
+#[tactic(auto, using(crate::proofs::Parted::cloths_keep_limit, crate::proofs::Parted::cloths_grow))]
+pub fn add_meshes(
+    alloc: Global,
+    cloths: &[ClothSpec],
+    ropes: &[RopeSpec],
+    parts: &mut Parts,
+) -> Result<(), AllocError>
+    requires limit { IsTrue (is_limit parts.old.limit) }
+    requires cloths { All (λ s. cloth_fits parts.old.limit s ≡ true) cloths.now }
+    requires ropes { All (λ s. rope_fits parts.old.limit s ≡ true) ropes.now }
+    requires room { length parts.old.particles + all_cloths_size cloths.now + all_ropes_size ropes.now ≤ 65536 }
+    ensures { OnOk result (parts.new ≡ fold with_rope (fold with_cloth parts.old cloths.now) ropes.now) }
+{
+    add_cloths(alloc, cloths, parts)?;
+    add_ropes(alloc, ropes, parts)
 }

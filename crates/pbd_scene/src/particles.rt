@@ -5,12 +5,12 @@ ghost use Rattle.pbd_num.specs.Vectors.{Within};
 ghost use Rattle.pbd_scene.specs.Checks.{Gives};
 ghost use Rattle.pbd_scene.specs.Entries.{place_before, inside_before, particle_of};
 
-use crate::arrays::members;
+use crate::arrays::entry;
 use crate::axes::twice;
 use crate::each::Reader;
 use crate::fault::{KeyName, Place, SceneFault, SceneRule, TableName};
 use crate::limit::Limit;
-use crate::values::{boolean_or, count_or, expect, known};
+use crate::values::{boolean_or, count_or, expect};
 use crate::vectors::{is_inside, required_vector, vector_or_zero};
 use pbd_num::Vec3;
 use pbd_world::Particle;
@@ -56,8 +56,7 @@ fn particle_of(limit: i64, before: &[Particle], value: &Value) -> Result<Particl
         table: TableName::Particle,
         position: before.len() as u32,
     };
-    let table = members(place, value)?;
-    known(place, table)?;
+    let table = entry(place, value)?;
     let at = required_vector(place, KeyName::At, limit, table)?;
     let velocity = vector_or_zero(place, KeyName::Velocity, twice(limit), table)?;
     let weight = count_or(place, KeyName::Weight, 1, 65_535, 1, table)?;

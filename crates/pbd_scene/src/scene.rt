@@ -1,24 +1,24 @@
 // The scene of a text.
-ghost use Rattle.std.specs.Prelude.{◌≤◌, ◌≤ℤ◌, ◌^◌, IsTrue, Ok, pos, unsigned_abs, length};
+ghost use Rattle.std.specs.Prelude.{◌≡◌, ◌≤◌, ◌≤ℤ◌, ◌^◌, IsTrue, Ok, pos, unsigned_abs, length};
 ghost use Rattle.std.specs.List.{All};
 ghost use Rattle.toml.specs.View.{table_view};
 ghost use Rattle.toml.specs.Parse.{parse_document};
 ghost use Rattle.pbd_num.specs.Vectors.{Within};
-ghost use Rattle.pbd_world.specs.Valid.{is_limit, is_valid};
+ghost use Rattle.pbd_world.specs.Valid.{is_limit, is_valid, no_parts};
 ghost use Rattle.pbd_scene.specs.Checks.{Gives};
-ghost use Rattle.pbd_scene.specs.Scene.{pins_of, settings_of, joined_parts, scene_of, Reads};
+ghost use Rattle.pbd_scene.specs.Scene.{pins_of, numbers_of, settings_of, tracked_parts, held_parts, joined_parts, parts_with, scene_of, Reads};
 
 use crate::arrays::integers_of;
 use crate::fault::{KeyName, Place, SceneFault, SceneRule, TableName};
 use crate::joining::join_links;
-use crate::meshes::{add_cloths, add_ropes};
+use crate::meshes::add_meshes;
 use crate::naming::{add_tracked, holding, pinned_particles, place_tracks};
-use crate::raw::{LinkEntry, Settings, TrackEntry};
+use crate::raw::{LinkEntry, Numbers, Settings, Shapes, TrackEntry};
 use crate::table_lists::tables_of;
 use crate::values::{count_or, expect, integer_or, known};
 use crate::vectors::vector_or_zero;
-use pbd_world::{List, MOST_PARTICLES, MOST_THICKNESS, Parts, PartsFault, Scene};
-use std::alloc::Global;
+use pbd_world::{List, MOST_PARTICLES, MOST_THICKNESS, Particle, Parts, PartsFault, Scene};
+use std::alloc::{AllocError, Global};
 use toml::Table;
 
 const AT_SCENE: Place = Place {
@@ -40,6 +40,22 @@ fn pins_of(alloc: Global, members: &Table) -> Result<List<i64>, SceneFault>
     Ok(pins)
 }
 
+#[tactic(auto, unfolding(crate::specs::Scene::numbers_of))]
+fn numbers_of(members: &Table) -> Result<Numbers, SceneFault>
+    ensures { Gives (λ n. n) result (numbers_of (table_view members.now)) }
+{
+    let passes = count_or(AT_SCENE, KeyName::Passes, 0, 64, 1, members)?;
+    let damping = integer_or(AT_SCENE, KeyName::Damping, 0, 1024, 0, members)?;
+    let thickness = integer_or(AT_SCENE, KeyName::Thickness, 0, MOST_THICKNESS, 0, members)?;
+    let friction = integer_or(AT_SCENE, KeyName::Friction, 0, 256, 0, members)?;
+    Ok(Numbers {
+        passes,
+        damping,
+        thickness,
+        friction,
+    })
+}
+
 #[tactic(auto, unfolding(crate::specs::Scene::settings_of))]
 fn settings_of(alloc: Global, limit: i64, members: &Table) -> Result<Settings, SceneFault>
     requires low { pos 0 ≤ℤ limit }
@@ -48,73 +64,195 @@ fn settings_of(alloc: Global, limit: i64, members: &Table) -> Result<Settings, S
 {
     known(AT_SCENE, members)?;
     let gravity = vector_or_zero(AT_SCENE, KeyName::Gravity, limit, members)?;
-    let passes = count_or(AT_SCENE, KeyName::Passes, 0, 64, 1, members)?;
-    let damping = integer_or(AT_SCENE, KeyName::Damping, 0, 1024, 0, members)?;
-    let thickness = integer_or(AT_SCENE, KeyName::Thickness, 0, MOST_THICKNESS, 0, members)?;
-    let friction = integer_or(AT_SCENE, KeyName::Friction, 0, 256, 0, members)?;
+    let numbers = numbers_of(members)?;
     let pins = pins_of(alloc, members)?;
     Ok(Settings {
         gravity,
-        passes,
-        damping,
-        thickness,
-        friction,
+        passes: numbers.passes,
+        damping: numbers.damping,
+        thickness: numbers.thickness,
+        friction: numbers.friction,
         pins,
     })
 }
 
-/// The parts with the links, pins and tracks that the entries name.
+/// Places the tracks of the entries, and holds their particles and those that are named already.
+#[tactic(auto, unfolding(crate::specs::Scene::tracked_parts))]
+fn place_and_hold(
+    alloc: Global,
+    tracks: &[TrackEntry],
+    names: &mut List<u32>,
+    parts: &mut Parts,
+) -> Result<(), SceneFault>
+    requires few { length parts.old.particles ≤ 65536 }
+    requires tracks { length tracks.now ≤ 4096 }
+    ensures { Gives (λ _. parts.new) result (tracked_parts names.old tracks.now parts.old) }
+{
+    let count = parts.particles.len() as u32;
+    parts.tracks = place_tracks(alloc, count, tracks)?;
+    add_tracked(parts.tracks.as_slice(), names)?;
+    parts.particles = holding(alloc, names.as_slice(), parts.particles.as_slice())?;
+    Ok(())
+}
+
+/// Places the tracks of the entries, and holds their particles and those that `pins` names.
+#[tactic(auto, unfolding(crate::specs::Scene::held_parts))]
+fn hold_named(
+    alloc: Global,
+    pins: &[i64],
+    tracks: &[TrackEntry],
+    parts: &mut Parts,
+) -> Result<(), SceneFault>
+    requires few { length parts.old.particles ≤ 65536 }
+    requires tracks { length tracks.now ≤ 4096 }
+    ensures { Gives (λ _. parts.new) result (held_parts pins.now tracks.now parts.old) }
+{
+    let count = parts.particles.len() as u32;
+    match pinned_particles(alloc, count, pins) {
+        Ok(mut names) => {
+            let held = place_and_hold(alloc, tracks, &mut names, parts);
+            drop(names);
+            held
+        }
+        Err(fault) => Err(fault),
+    }
+}
+
+/// Adds the links, pins and tracks that the entries name.
 #[tactic(auto, unfolding(crate::specs::Scene::joined_parts))]
-fn joined_parts(
+fn join_parts(
     alloc: Global,
     pins: &[i64],
     links: &[LinkEntry],
     tracks: &[TrackEntry],
-    mut parts: Parts,
-) -> Result<Parts, SceneFault>
-    requires few { length parts.particles ≤ 65536 }
-    requires places { All (λ p. Within (2 ^ 29) p.at) parts.particles }
+    parts: &mut Parts,
+) -> Result<(), SceneFault>
+    requires few { length parts.old.particles ≤ 65536 }
+    requires places { All (λ p. Within (2 ^ 29) p.at) parts.old.particles }
     requires links { length links.now ≤ 524288 }
     requires tracks { length tracks.now ≤ 4096 }
-    ensures { Gives (λ p. p) result (joined_parts pins.now links.now tracks.now parts) }
+    ensures { Gives (λ _. parts.new) result (joined_parts pins.now links.now tracks.now parts.old) }
 {
     join_links(alloc, parts.particles.as_slice(), links, &mut parts.links)?;
-    let count = parts.particles.len() as u32;
-    let mut names = pinned_particles(alloc, count, pins)?;
-    parts.tracks = place_tracks(alloc, count, tracks)?;
-    add_tracked(parts.tracks.as_slice(), &mut names)?;
-    parts.particles = holding(alloc, names.as_slice(), parts.particles.as_slice())?;
-    Ok(parts)
+    hold_named(alloc, pins, tracks, parts)
 }
 
-/// The parts of a tree.
-#[tactic(auto, unfolding(crate::specs::Scene::scene_of, crate::specs::Scene::with_meshes))]
-fn parts_of(alloc: Global, limit: i64, members: &Table) -> Result<Parts, SceneFault>
-    requires { IsTrue (is_limit limit) }
-    ensures { Gives (λ parts. parts) result (scene_of limit (table_view members.now)) }
+/// The parts without meshes, links and tracks.
+fn plain_parts(
+    alloc: Global,
+    limit: i64,
+    settings: &Settings,
+    particles: List<Particle>,
+    shapes: Shapes,
+) -> Parts
+    ensures { result ≡ record (no_parts limit) {
+      particles = particles;
+      planes = shapes.planes;
+      spheres = shapes.spheres;
+      gravity = settings.now.gravity;
+      passes = settings.now.passes;
+      damping = settings.now.damping;
+      thickness = settings.now.thickness;
+      friction = settings.now.friction;
+    } }
 {
-    let settings = settings_of(alloc, limit, members)?;
-    let tables = tables_of(alloc, limit, members)?;
-    let mut parts = Parts {
-        particles: tables.particles,
-        planes: tables.planes,
-        spheres: tables.spheres,
+    Parts {
+        particles,
+        links: List::new(alloc),
+        planes: shapes.planes,
+        spheres: shapes.spheres,
+        tracks: List::new(alloc),
         gravity: settings.gravity,
         passes: settings.passes,
         damping: settings.damping,
         thickness: settings.thickness,
         friction: settings.friction,
-        ..Parts::empty(alloc, limit)
+        limit,
+    }
+}
+
+/// Adds the links, pins and tracks that the entries name to parts, and drops the entries.
+fn parts_joined(
+    alloc: Global,
+    pins: &[i64],
+    links: List<LinkEntry>,
+    tracks: List<TrackEntry>,
+    mut parts: Parts,
+) -> Result<Parts, SceneFault>
+    requires few { length parts.particles ≤ 65536 }
+    requires places { All (λ p. Within (2 ^ 29) p.at) parts.particles }
+    requires links { length links ≤ 524288 }
+    requires tracks { length tracks ≤ 4096 }
+    ensures { Gives (λ p. p) result (joined_parts pins.now links tracks parts) }
+{
+    let joined = join_parts(alloc, pins, links.as_slice(), tracks.as_slice(), &mut parts);
+    drop(links);
+    drop(tracks);
+    match joined {
+        Ok(()) => Ok(parts),
+        Err(fault) => {
+            drop(parts);
+            Err(fault)
+        }
+    }
+}
+
+/// The parts of the tables, with these settings.
+#[tactic(auto, unfolding(crate::specs::Scene::parts_with, crate::specs::Scene::with_meshes))]
+fn parts_with(
+    alloc: Global,
+    limit: i64,
+    settings: &Settings,
+    members: &Table,
+) -> Result<Parts, SceneFault>
+    requires { IsTrue (is_limit limit) }
+    ensures { Gives (λ parts. parts) result (parts_with limit settings.now (table_view members.now)) }
+{
+    let tables = tables_of(alloc, limit, members)?;
+    let shapes = Shapes {
+        planes: tables.planes,
+        spheres: tables.spheres,
     };
-    add_cloths(alloc, tables.cloths.as_slice(), &mut parts)?;
-    add_ropes(alloc, tables.ropes.as_slice(), &mut parts)?;
-    joined_parts(
+    let mut parts = plain_parts(alloc, limit, settings, tables.particles, shapes);
+    let meshed = add_meshes(
         alloc,
-        settings.pins.as_slice(),
-        tables.links.as_slice(),
-        tables.tracks.as_slice(),
-        parts,
-    )
+        tables.cloths.as_slice(),
+        tables.ropes.as_slice(),
+        &mut parts,
+    );
+    drop(tables.cloths);
+    drop(tables.ropes);
+    match meshed {
+        Ok(()) => parts_joined(
+            alloc,
+            settings.pins.as_slice(),
+            tables.links,
+            tables.tracks,
+            parts,
+        ),
+        Err(AllocError) => {
+            drop(tables.links);
+            drop(tables.tracks);
+            drop(parts);
+            Err(SceneFault::OutOfMemory)
+        }
+    }
+}
+
+/// The parts of a tree.
+#[tactic(auto, unfolding(crate::specs::Scene::scene_of))]
+fn parts_of(alloc: Global, limit: i64, members: &Table) -> Result<Parts, SceneFault>
+    requires { IsTrue (is_limit limit) }
+    ensures { Gives (λ parts. parts) result (scene_of limit (table_view members.now)) }
+{
+    match settings_of(alloc, limit, members) {
+        Ok(settings) => {
+            let parts = parts_with(alloc, limit, &settings, members);
+            drop(settings);
+            parts
+        }
+        Err(fault) => Err(fault),
+    }
 }
 
 fn scene_of_parts(alloc: Global, parts: Parts) -> Result<Scene, SceneFault>

@@ -5,11 +5,11 @@ ghost use Rattle.pbd_num.specs.Vectors.{Within, squared_length};
 ghost use Rattle.pbd_scene.specs.Checks.{Gives};
 ghost use Rattle.pbd_scene.specs.Entries.{on_by, back_by, plane_of, reaches_within, sphere_of};
 
-use crate::arrays::members;
+use crate::arrays::entry;
 use crate::each::Reader;
 use crate::fault::{KeyName, Place, SceneFault, SceneRule, TableName};
 use crate::limit::Limit;
-use crate::values::{expect, known, required_integer};
+use crate::values::{expect, required_integer};
 use crate::vectors::{is_inside, required_vector};
 use pbd_num::Vec3;
 use pbd_world::{Plane, Sphere};
@@ -35,8 +35,7 @@ fn plane_of(before: &[Plane], value: &Value) -> Result<Plane, SceneFault>
         table: TableName::Plane,
         position: before.len() as u32,
     };
-    let table = members(place, value)?;
-    known(place, table)?;
+    let table = entry(place, value)?;
     let normal = required_vector(place, KeyName::Normal, 1024, table)?;
     let offset = required_integer(
         place,
@@ -122,8 +121,7 @@ fn sphere_of(limit: i64, before: &[Sphere], value: &Value) -> Result<Sphere, Sce
         table: TableName::Sphere,
         position: before.len() as u32,
     };
-    let table = members(place, value)?;
-    known(place, table)?;
+    let table = entry(place, value)?;
     let centre = required_vector(place, KeyName::Centre, limit, table)?;
     let radius = required_integer(place, KeyName::Radius, 1, limit, table)?;
     expect(

@@ -1,19 +1,19 @@
 // The `[[track]]` entries, before it is looked at which particles they name.
 ghost use Rattle.std.specs.Prelude.{[], ◌≡◌, ◌≤◌, ◌<◌, ◌+◌, ◌^◌, ◌≤ℤ◌, pos, length, map, unsigned_abs, nat_lt, true, ◌&&◌};
-ghost use Rattle.toml.specs.View.{view};
+ghost use Rattle.toml.specs.View.{view, table_view};
 ghost use Rattle.pbd_scene.specs.Checks.{Gives, each};
-ghost use Rattle.pbd_scene.specs.Entries.{row_of, step_number, key_of, step_of, steps_rise, track_of};
+ghost use Rattle.pbd_scene.specs.Entries.{row_of, step_number, key_of, step_of, steps_rise, few_rows, rising_path, path_of, track_of};
 
-use crate::arrays::{members, required_array, row};
+use crate::arrays::{entry, required_array, row};
 use crate::each::{Reader, read_each};
 use crate::fault::{KeyName, Place, SceneFault, SceneRule, TableName};
 use crate::limit::Limit;
 use crate::raw::{Row, TrackEntry};
-use crate::values::{broken, expect, known, required_any_integer};
+use crate::values::{broken, expect, required_any_integer};
 use crate::vectors::is_inside;
 use pbd_world::{Key, LAST_STEP, List};
 use std::alloc::Global;
-use toml::Value;
+use toml::{Table, Value};
 
 #[derive(Clone, Copy)]
 pub struct Tracks {
@@ -106,6 +106,21 @@ fn steps_rise(keys: &[Key]) -> bool
     true
 }
 
+/// Refuses keys that are not all rows, or too many.
+#[tactic(auto, unfolding(crate::specs::Entries::few_rows))]
+fn few_rows(alloc: Global, place: Place, values: &[Value]) -> Result<(), SceneFault>
+    ensures { Gives (λ x. x) result (few_rows place (map view values.now)) }
+{
+    let rows = read_each(alloc, &Rows { place }, values)?;
+    drop(rows);
+    expect(
+        values.len() <= 1024,
+        SceneRule::TooMany,
+        place,
+        KeyName::Keys,
+    )
+}
+
 /// The keys of a track, each in its range.
 fn keys_of(
     alloc: Global,
@@ -115,11 +130,43 @@ fn keys_of(
 ) -> Result<List<Key>, SceneFault>
     requires low { pos 0 ≤ℤ limit }
     requires high { unsigned_abs limit ≤ 2 ^ 29 }
-    requires few { length values.now ≤ 1024 }
     ensures { Gives (λ ks. ks) result (each (key_of place limit) [] (map view values.now)) }
 {
     let limit = Limit { units: limit };
     read_each(alloc, &Keys { place, limit }, values)
+}
+
+/// The same, where there is at least one, and each step is below the next.
+#[tactic(auto, unfolding(crate::specs::Entries::rising_path))]
+fn rising_path(
+    alloc: Global,
+    place: Place,
+    limit: i64,
+    values: &[Value],
+) -> Result<List<Key>, SceneFault>
+    requires low { pos 0 ≤ℤ limit }
+    requires high { unsigned_abs limit ≤ 2 ^ 29 }
+    ensures { Gives (λ ks. ks) result (rising_path place limit (map view values.now)) }
+{
+    let keys = keys_of(alloc, place, limit, values)?;
+    expect(
+        0 < keys.len() && steps_rise(keys.as_slice()),
+        SceneRule::BadTrack,
+        place,
+        KeyName::Keys,
+    )?;
+    Ok(keys)
+}
+
+#[tactic(auto, unfolding(crate::specs::Entries::path_of))]
+fn path_of(alloc: Global, place: Place, limit: i64, table: &Table) -> Result<List<Key>, SceneFault>
+    requires low { pos 0 ≤ℤ limit }
+    requires high { unsigned_abs limit ≤ 2 ^ 29 }
+    ensures { Gives (λ ks. ks) result (path_of place limit (table_view table.now)) }
+{
+    let values = required_array(place, KeyName::Keys, table)?;
+    few_rows(alloc, place, values)?;
+    rising_path(alloc, place, limit, values)
 }
 
 #[tactic(auto, unfolding(crate::specs::Entries::track_of))]
@@ -138,24 +185,9 @@ fn track_of(
         table: TableName::Track,
         position: before.len() as u32,
     };
-    let table = members(place, value)?;
-    known(place, table)?;
+    let table = entry(place, value)?;
     let particle = required_any_integer(place, KeyName::Particle, table)?;
-    let values = required_array(place, KeyName::Keys, table)?;
-    read_each(alloc, &Rows { place }, values)?;
-    expect(
-        values.len() <= 1024,
-        SceneRule::TooMany,
-        place,
-        KeyName::Keys,
-    )?;
-    let keys = keys_of(alloc, place, limit, values)?;
-    expect(
-        0 < keys.len() && steps_rise(keys.as_slice()),
-        SceneRule::BadTrack,
-        place,
-        KeyName::Keys,
-    )?;
+    let keys = path_of(alloc, place, limit, table)?;
     Ok(TrackEntry { particle, keys })
 }
 

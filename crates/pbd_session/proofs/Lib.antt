@@ -1,6 +1,7 @@
 mod Texts
 mod Leading
 mod Running
+mod Paying
 mod Recorded
 mod Comparing
 mod Replays

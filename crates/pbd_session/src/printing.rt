@@ -1,9 +1,10 @@
 //! Replies, line by line, each line by one call of the sink's `write` unless its prefix is long.
-ghost use Rattle.std.specs.Prelude.{◌≡◌, ◌≤◌, ◌++◌, map, All};
+ghost use Rattle.std.specs.Prelude.{◌≡◌, ◌+◌, ◌≤◌, ◌++◌, length, map, All};
 ghost use Rattle.std.specs.List.{flat_map};
 ghost use Rattle.pbd_io.specs.Causes.{HasCause};
 ghost use Rattle.pbd_io.specs.Pieces.{WritesPiece};
 ghost use Rattle.pbd_world.specs.Text.{text};
+ghost use Rattle.pbd_world.specs.Work.{reply_work};
 ghost use Rattle.pbd_session.specs.declared.printing.NamedTotal.{NamedTotal};
 ghost use Rattle.pbd_session.specs.Printing.{NamedSum, header_after, ledger_sums, place_after, sum_after, text_after};
 ghost use Rattle.pbd_session.specs.Naming.{IsShort, named_of};
@@ -25,8 +26,8 @@ pub struct NamedTotal {
     sum: [i128; 3],
 }
 
-/// Writes a line with a prefix before it, in one call where both fit in a line.
-fn write_line<K: Sink>(prefix: &[u8], line: &Line, sink: &mut K) -> Result<(), Failed>
+/// Writes a prefix and a line, in one call where both fit in a line.
+fn write_both<K: Sink>(prefix: &[u8], line: &Line, sink: &mut K) -> Result<(), Failed>
     ensures bytes { WritesPiece (K.written sink.old) (K.written sink.new) result (prefix.now ++ line.now) }
     ensures cause { HasCause (K.faults sink.old) (K.faults sink.new) result }
 {
@@ -38,6 +39,17 @@ fn write_line<K: Sink>(prefix: &[u8], line: &Line, sink: &mut K) -> Result<(), F
     }
     sink.write(prefix)?;
     sink.write(line.as_slice())
+}
+
+/// Writes a line with a prefix before it, in one call where both fit in a line.
+fn write_line<K: Sink>(prefix: &[u8], line: &Line, sink: &mut K) -> Result<(), Failed>
+    ensures bytes { WritesPiece (K.written sink.old) (K.written sink.new) result (prefix.now ++ line.now) }
+    ensures cause { HasCause (K.faults sink.old) (K.faults sink.new) result }
+{
+    if prefix.is_empty() {
+        return sink.write(line.as_slice());
+    }
+    write_both(prefix, line, sink)
 }
 
 #[tactic(auto, using(crate::proofs::Texts::header_is))]
@@ -68,6 +80,7 @@ fn write_places<const L: usize, P: Projector<L> + Drop, K: Sink, G: Ledger>(
     ensures bytes { WritesPiece (K.written sink.old) (K.written sink.new) result
         (flat_map (place_after prefix.now) solver.now.world.particles) }
     ensures cause { HasCause (K.faults sink.old) (K.faults sink.new) result }
+    ensures cost { steps.new ≤ steps.old + length solver.now.world.particles }
 {
     for i in 0..solver.particles() {
         let place = place_line(&solver.particle(i, steps));
@@ -85,6 +98,7 @@ fn write_frame<const L: usize, P: Projector<L> + Drop, K: Sink, G: Ledger>(
     requires lanes_high { L ≤ 16 }
     ensures bytes { WritesPiece (K.written sink.old) (K.written sink.new) result (text_after prefix.now solver.now.world Reply.Frame) }
     ensures cause { HasCause (K.faults sink.old) (K.faults sink.new) result }
+    ensures cost { steps.new ≤ steps.old + length solver.now.world.particles }
 {
     write_header(solver, prefix, sink)?;
     write_places(solver, prefix, sink, steps)
@@ -98,6 +112,7 @@ fn named_sums<const L: usize, P: Projector<L> + Drop, G: Ledger>(
     requires lanes_high { L ≤ 16 }
     ensures sums { map {A = NamedTotal} {B = NamedSum} named_of result ≡ ledger_sums solver.now.world }
     ensures short { All IsShort result }
+    ensures cost { steps.new ≡ steps.old + length solver.now.world.particles }
 {
     let totals = *solver.totals();
     let named = |name, sum| NamedTotal { name, sum };
@@ -135,6 +150,7 @@ fn write_ledger<const L: usize, P: Projector<L> + Drop, K: Sink, G: Ledger>(
     requires lanes_high { L ≤ 16 }
     ensures bytes { WritesPiece (K.written sink.old) (K.written sink.new) result (text_after prefix.now solver.now.world Reply.Ledger) }
     ensures cause { HasCause (K.faults sink.old) (K.faults sink.new) result }
+    ensures cost { steps.new ≤ steps.old + length solver.now.world.particles }
 {
     write_sums(&named_sums(solver, steps), prefix, sink)
 }
@@ -152,13 +168,15 @@ impl<const L: usize, P: Projector<L> + Drop> Session<L, P> {
         requires lanes_high { L ≤ 16 }
         ensures bytes { WritesPiece (K.written sink.old) (K.written sink.new) result (text self.now reply.now) }
         ensures cause { HasCause (K.faults sink.old) (K.faults sink.new) result }
+        // A frame reads each particle once, and so does the momentum of a ledger.
+        ensures cost { steps.new ≤ steps.old + reply_work self.now reply.now }
     {
         self.write_after(&[], reply, sink, steps)
     }
 
     /// Writes the lines of a reply, each with the prefix before it.
     /// `Failed` is as for `write_reply`.
-    #[tactic(auto, unfolding(crate::specs::Printing::text_after))]
+    #[tactic(auto, unfolding(crate::specs::Printing::text_after, pbd_world::specs::Work::reply_work))]
     pub fn write_after<K: Sink, G: Ledger>(
         &self,
         prefix: &[u8],
@@ -169,6 +187,7 @@ impl<const L: usize, P: Projector<L> + Drop> Session<L, P> {
         requires lanes_high { L ≤ 16 }
         ensures bytes { WritesPiece (K.written sink.old) (K.written sink.new) result (text_after prefix.now self.now reply.now) }
         ensures cause { HasCause (K.faults sink.old) (K.faults sink.new) result }
+        ensures cost { steps.new ≤ steps.old + reply_work self.now reply.now }
     {
         match reply {
             Reply::Done => write_line(prefix, &done_line(), sink),

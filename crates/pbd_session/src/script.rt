@@ -1,10 +1,11 @@
 //! A script, run on a session.
-ghost use Rattle.std.specs.Prelude.{◌≡◌, ◌<◌, ◌≤◌, ◌^◌, length, IfOk, OnErr, OnOk, if◌then◌else◌};
+ghost use Rattle.std.specs.Prelude.{◌≡◌, ◌+◌, ◌<◌, ◌≤◌, ◌^◌, ℕ, length, IfOk, OnErr, OnOk, if◌then◌else◌};
 ghost use Rattle.std.specs.List.{Contains};
 ghost use Rattle.pbd_io.specs.Causes.{HasCause};
 ghost use Rattle.pbd_io.specs.Pieces.{WritesPiece};
 ghost use Rattle.pbd_script.specs.Commands.{commands};
 ghost use Rattle.pbd_world.specs.Session.{is_refused, last_world, refused_count, session_text, worlds};
+ghost use Rattle.pbd_world.specs.Work.{session_work};
 
 use crate::{RunEnd, Session};
 use pbd_io::{Failed, Sink};
@@ -42,6 +43,9 @@ pub fn run_script<const L: usize, P: Projector<L> + Drop, K: Sink, G: Ledger>(
     ensures world { OnOk result (session.new ≡ last_world session.old (commands script.now)) }
     ensures one_of { OnErr result (Contains (worlds session.old (commands script.now)) session.new) }
     ensures cause { HasCause (K.faults sink.old) (K.faults sink.new) result }
+    // The particles are reached at most as often as the commands' work and that of printing say, also where the sink fails.
+    ensures cost { (lanes : ℕ) → 0 < lanes → ((projector : P) → lanes ≤ P.width projector)
+        → steps.new ≤ steps.old + session_work L lanes session.old (commands script.now) }
 {
     let mut script = Script::new(script);
     let mut refused = 0;

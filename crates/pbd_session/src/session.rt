@@ -1,8 +1,9 @@
 //! A solver that takes commands.
-ghost use Rattle.std.specs.Prelude.{◌≡◌, ◌≤◌, ◌<◌, IfOk, IsTrue, MatchResult};
+ghost use Rattle.std.specs.Prelude.{◌≡◌, ◌+◌, ◌≤◌, ◌<◌, ℕ, IfOk, IsTrue, MatchResult};
 ghost use Rattle.std.specs.Borrow.{sem};
 ghost use Rattle.pbd_world.specs.Meaning.{after, reply};
 ghost use Rattle.pbd_world.specs.Valid.{is_limit};
+ghost use Rattle.pbd_world.specs.Work.{command_work};
 ghost use Rattle.pbd_world.specs.World.{opened, IsSound, AreOfOneScene};
 ghost use Rattle.pbd_session.specs.Lending.{LendsSolver};
 
@@ -71,7 +72,7 @@ impl<const L: usize, P: Projector<L> + Drop> Session<L, P> {
     }
 
     /// Does a command. A refused command changes nothing.
-    #[tactic(auto, unfolding(pbd_world::specs::Meaning::meaning))]
+    #[tactic(auto, unfolding(pbd_world::specs::Meaning::meaning, pbd_world::specs::Work::command_work))]
     pub fn apply<G: Ledger>(&mut self, command: &Command, steps: &mut Steps<G>) -> Reply
         requires lanes_low { 0 < L }
         requires lanes_high { L ≤ 16 }
@@ -79,6 +80,10 @@ impl<const L: usize, P: Projector<L> + Drop> Session<L, P> {
         ensures world { self.new ≡ after self.old command.now }
         ensures sound { IsSound self.new }
         ensures one_scene { AreOfOneScene self.old self.new }
+        // The particles are reached at most as often as the command's work says, for as many bonds side by side as each
+        // projector of its type projects, also where it is refused.
+        ensures cost { (lanes : ℕ) → 0 < lanes → ((projector : P) → lanes ≤ P.width projector)
+            → steps.new ≤ steps.old + command_work L lanes self.old command.now }
     {
         match command {
             Command::Step(n) => replied(self.solver.steps(*n, steps)),

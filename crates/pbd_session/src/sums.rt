@@ -1,5 +1,5 @@
 //! The sums of a frame.
-ghost use Rattle.std.specs.Prelude.{◌≡◌, ◌+◌, ◌≤◌};
+ghost use Rattle.std.specs.Prelude.{◌≡◌, ◌+◌, ◌≤◌, length};
 ghost use Rattle.pbd_num.specs.Vectors.{axes, plus};
 ghost use Rattle.pbd_world.specs.Replay.{frame_sums, sum_over};
 
@@ -26,6 +26,7 @@ fn summed<const L: usize, P: Projector<L> + Drop, G: Ledger>(
     requires lanes_high { L ≤ 16 }
     ensures at { result.at ≡ sum_over (λ p. p.at) solver.now.world.particles }
     ensures before { result.before ≡ sum_over (λ p. p.before) solver.now.world.particles }
+    ensures cost { steps.new ≡ steps.old + length solver.now.world.particles }
 {
     let mut at = Vec3::ZERO;
     let mut before = Vec3::ZERO;
@@ -47,7 +48,8 @@ impl<const L: usize, P: Projector<L> + Drop> Session<L, P> {
     /// What a log keeps of the world: counts, and the sums of the places over all particles.
     pub fn frame_sums<G: Ledger>(&self, steps: &mut Steps<G>) -> FrameSums
         requires lanes_high { L ≤ 16 }
-        ensures { result ≡ frame_sums self.now }
+        ensures value { result ≡ frame_sums self.now }
+        ensures cost { steps.new ≡ steps.old + length self.now.particles }
     {
         let solver = self.solver();
         let sums = summed(solver, steps);

@@ -1,5 +1,6 @@
 -- Friction, which follows the passes of a step.
-use Rattle.std.specs.Prelude.{ℕ, ◌<◌, ℤ, unsigned_abs, List, ◌++◌, length, map, zip, fold, take, drop, Bool}
+use Rattle.std.specs.Prelude.{ℕ, ◌*◌, ◌<◌, ℤ, pos, int_lt, unsigned_abs, List, ◌++◌, length, map, zip, fold, take, drop, Bool, ◌&&◌, if◌then◌else◌}
+use Rattle.std.specs.List.{list_any}
 use Rattle.pbd_num.specs.Vectors.{Within, zero_vector}
 use Rattle.pbd_world.specs.declared.parts.Particle.{Particle}
 use Rattle.pbd_world.specs.Ledger.{Ledger, booked}
@@ -15,6 +16,10 @@ pub record AreWithin (limit : ℤ) (ps : List Particle) : Type 0 where
 -- all but the places before
 abbrev pub settled_parts : List Particle → List Particle
 settled_parts ps = map {A = Particle} {B = Particle} (λ p. record p { before = zero_vector }) ps
+
+-- how often friction reaches a store at most: twice for each block, where there is friction and a particle is touched
+abbrev pub rub_cost : ℤ → List Bool → ℕ → ℕ
+rub_cost friction touched blocks = if int_lt (pos 0) friction && list_any (λ t. t) touched then 2 * blocks else 0
 
 -- the particles from n on are rubbed, while those before n stay as they are
 unfoldable pub rubbed_from : ℤ → ℕ → Passing → Motion

@@ -1,5 +1,5 @@
 -- The shape part of a pass.
-use Rattle.std.specs.Prelude.{ℕ, ℤ, List, ◌++◌, map, zip, fold, take, drop, Bool, ◌||◌, Result, Ok}
+use Rattle.std.specs.Prelude.{ℕ, ◌+◌, ◌*◌, ◌==◌, ℤ, List, ◌++◌, length, map, zip, fold, take, drop, Bool, ◌||◌, if◌then◌else◌, Result, Ok}
 use Rattle.pbd_world.specs.declared.parts.Particle.{Particle}
 use Rattle.pbd_world.specs.declared.parts.Plane.{Plane}
 use Rattle.pbd_world.specs.declared.parts.Sphere.{Sphere}
@@ -13,6 +13,10 @@ use Rattle.pbd_world.specs.Step.{Passing, all_shaped}
 abbrev pub all_pushed : ℤ → List Plane → List Sphere → Passing → Result Passing ℕ
 all_pushed limit planes spheres s = each_from 0
     (λ i p. shaped limit (shapes_of planes spheres) p) s.motion.particles >>= λ ss. Ok (all_shaped s ss)
+
+-- how often the shape part reaches a store at most: twice for each block, where there is a shape
+abbrev pub push_cost : List Plane → List Sphere → ℕ → ℕ
+push_cost planes spheres blocks = if length planes + length spheres == 0 then 0 else 2 * blocks
 
 -- the same of the particles from n on, while those before n stay as they are
 abbrev pub shaped_after : ℕ → Passing → List Shaped → Passing

@@ -1,6 +1,16 @@
 -- The way of a place through the shapes, as the code holds it.
-use Rattle.pbd_world.specs.Shapes.{Way}
+use Rattle.std.specs.Prelude.{◌≡◌, ℤ, List, false, Some}
+use Rattle.pbd_num.specs.declared.Vec3.{Vec3}
+use Rattle.pbd_world.specs.Shapes.{Shape, Way, way_through}
 use Rattle.pbd_shape.specs.declared.way.Pushed.{Pushed}
 
 abbrev pub way_of : Pushed → Way
 way_of w = record { at = w.at; touched = w.touched }
+
+-- a place at the start of its way
+abbrev pub starting : Vec3 → Way
+starting at = record { at = at; touched = false }
+
+-- no shape touches a place
+abbrev pub IsStill : ℤ → List Shape → Vec3 → Type 0
+IsStill limit shapes at = way_through limit shapes (starting at) ≡ Some (starting at)

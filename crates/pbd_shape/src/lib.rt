@@ -2,10 +2,12 @@
 #![tactic(auto)]
 
 mod book;
+mod glance;
 mod laws;
 mod plane;
 mod pushing;
 mod rubbing;
+mod short;
 mod sphere;
 mod touched;
 mod way;

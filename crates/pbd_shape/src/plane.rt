@@ -5,6 +5,7 @@ ghost use Rattle.pbd_num.specs.Vectors.{Within, dot as dot_product};
 ghost use Rattle.pbd_world.specs.Shapes.{plane_shape};
 ghost use Rattle.pbd_shape.specs.Valid.{IsPlane};
 
+use crate::short::short;
 use pbd_num::{Vec3, rdiv};
 use pbd_world::Plane;
 
@@ -14,10 +15,10 @@ fn product(a: i64, b: i64) -> i64
     ensures value { result ≡ a *ℤ b }
     ensures size { unsigned_abs result ≤ 2 ^ 39 }
 {
-    a * b
+    short(a) * short(b)
 }
 
-fn dot(n: Vec3, p: Vec3) -> i64
+pub(crate) fn dot(n: Vec3, p: Vec3) -> i64
     requires n { Within (2 ^ 10) n }
     requires p { Within (2 ^ 29) p }
     ensures value { result ≡ dot_product n p }
@@ -38,7 +39,7 @@ fn axis_out(from: i64, lack: i64, axis: i64, square: i64) -> i64
     from + rdiv(lack * axis, square)
 }
 
-fn is_behind(lack: i64) -> bool
+pub(crate) fn is_behind(lack: i64) -> bool
     ensures { result ≡ int_lt (pos 0) lack }
 {
     0 < lack

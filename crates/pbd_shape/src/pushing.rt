@@ -1,5 +1,5 @@
 // The shape part of a pass, block by block.
-ghost use Rattle.std.specs.Prelude.{◌≡◌, ℕ, ◌<◌, ◌≤◌, ◌^◌, ◌+◌, ◌-◌, ◌*◌, min, List, false, unsigned_abs, length, slice_index_or, IsTrue, if◌then◌else◌, option_map, Some, IfSome, MatchResult, OnOk, IfOk, Result, Ok, Err};
+ghost use Rattle.std.specs.Prelude.{◌≡◌, ℕ, ◌<◌, ◌≤◌, ◌^◌, ◌+◌, ◌-◌, ◌*◌, ◌==◌, min, List, false, unsigned_abs, length, slice_index_or, IsTrue, if◌then◌else◌, option_map, Some, IfSome, MatchResult, OnOk, IfOk, Result, Ok, Err};
 ghost use Rattle.pbd_num.specs.Vectors.{Within, zero_vector};
 ghost use Rattle.pbd_world.specs.Ledger.{ledger_of, HaveRoom};
 ghost use Rattle.pbd_world.specs.declared.parts.Particle.{Particle};
@@ -11,9 +11,10 @@ ghost use Rattle.pbd_store.specs.Blocks.{blocks_of, filled_lanes, place_of, Save
 ghost use Rattle.pbd_store.specs.Moving.{motion_of, fixed_parts, AreInside};
 ghost use Rattle.pbd_shape.specs.Valid.{IsLimit};
 ghost use Rattle.pbd_shape.specs.Way.{way_of};
-ghost use Rattle.pbd_shape.specs.Shaping.{all_pushed, pushed_from};
+ghost use Rattle.pbd_shape.specs.Shaping.{all_pushed, push_cost, pushed_from};
 
 use crate::book::{book_if, touch_if};
+use crate::glance::any_touches;
 use crate::touched::Touched;
 use crate::way::{Pushed, push};
 use pbd_num::Vec3;
@@ -100,7 +101,8 @@ fn push_lanes<const L: usize>(
     Ok(places)
 }
 
-// Pushes the particles of a block: one access reads them, and another writes them, unless one leaves the limit.
+// Pushes the particles of a block: one access reads them, and another writes them, where a shape touches one and none
+// leaves the limit.
 fn push_block<const L: usize, G: Ledger>(
     store: &mut Store<L>,
     block: u32,
@@ -134,6 +136,10 @@ fn push_block<const L: usize, G: Ledger>(
     ensures cost { steps.new ≤ steps.old + 2 }
 {
     let mut lanes = store.load(block, steps);
+    let limit = store.limit();
+    if !any_touches(limit, planes, spheres, &lanes.at) {
+        return Ok(());
+    }
     match push_lanes(store, block, &lanes, planes, spheres, touched, totals) {
         Err(left) => Err(left),
         Ok(places) => {
@@ -145,6 +151,13 @@ fn push_block<const L: usize, G: Ledger>(
     }
 }
 
+// Whether there is no shape.
+fn are_none(planes: &[Plane], spheres: &[Sphere]) -> bool
+    ensures { result ≡ (length planes.now + length spheres.now == 0) }
+{
+    planes.is_empty() && spheres.is_empty()
+}
+
 /// The shape part of a pass: each free particle in turn goes through the planes in order and then the spheres in
 /// order. A plane pushes a place behind it out along its normal, and a sphere pushes a place in it out from its centre.
 /// Each move is added to the total of shapes, and each particle that a shape touches is flagged, also where
@@ -152,7 +165,7 @@ fn push_block<const L: usize, G: Ledger>(
 ///
 /// `Left` has the number of the first particle whose way leaves the store's limit. The places, the totals and the
 /// flags are then any, and all else is as it was.
-/// It reaches the store at most twice for each block.
+/// It reaches the store at most twice for each block, and not at all where there is no shape.
 pub fn push_out<const L: usize, G: Ledger>(
     store: &mut Store<L>,
     planes: &[Plane],
@@ -180,10 +193,13 @@ pub fn push_out<const L: usize, G: Ledger>(
     ensures inside { OnOk result (AreInside store.old.limit store.new.particles) }
     ensures room { OnOk result
         ((n : ℕ) → HaveRoom n (ledger_of totals.old) → HaveRoom (n + length store.old.particles * 2 ^ 31) (ledger_of totals.new)) }
-    ensures cost { steps.new ≤ steps.old + 2 * blocks_of (length store.old.particles) L }
+    ensures cost { steps.new ≤ steps.old + push_cost planes.now spheres.now (blocks_of (length store.old.particles) L) }
 {
     // By it the totals have room.
     let _len = store.len();
+    if are_none(planes, spheres) {
+        return Ok(());
+    }
     for block in 0..store.blocks() {
         if let Err(left) = push_block(store, block, planes, spheres, touched, totals, steps) {
             return Err(left);

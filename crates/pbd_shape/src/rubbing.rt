@@ -1,5 +1,6 @@
 // Friction, block by block.
-ghost use Rattle.std.specs.Prelude.{◌≡◌, ℕ, ◌<◌, ◌≤◌, ◌^◌, ◌+◌, ◌-◌, ◌*◌, min, List, pos, not, false, ◌&&◌, unsigned_abs, length, slice_index_or, IsTrue, if◌then◌else◌};
+ghost use Rattle.std.specs.Prelude.{◌≡◌, ℕ, ◌<◌, ◌≤◌, ◌^◌, ◌+◌, ◌-◌, ◌*◌, min, List, pos, int_lt, not, false, ◌&&◌, unsigned_abs, length, slice_index_or, IsTrue, if◌then◌else◌};
+ghost use Rattle.std.specs.List.{list_any};
 ghost use Rattle.pbd_num.specs.Vectors.{Within, zero_vector, minus, plus, opposite};
 ghost use Rattle.pbd_world.specs.declared.parts.Particle.{Particle};
 ghost use Rattle.pbd_world.specs.Ledger.{ledger_of, HaveRoom};
@@ -10,7 +11,7 @@ ghost use Rattle.pbd_world.specs.Valid.{is_between};
 ghost use Rattle.pbd_lanes.specs.Lane.{is_set};
 ghost use Rattle.pbd_store.specs.Blocks.{blocks_of, filled_lanes, place_of, Saved};
 ghost use Rattle.pbd_store.specs.Moving.{motion_of};
-ghost use Rattle.pbd_shape.specs.Rubbing.{AreWithin, settled_parts, rubbed_from};
+ghost use Rattle.pbd_shape.specs.Rubbing.{AreWithin, settled_parts, rub_cost, rubbed_from};
 
 use crate::book::book_if;
 use crate::touched::Touched;
@@ -121,9 +122,17 @@ fn rub_block<const L: usize, G: Ledger>(
     store.save(block, &lanes, &filled, steps);
 }
 
+// Whether friction takes anything of any particle.
+fn rubs_any(friction: i64, touched: &Touched) -> bool
+    ensures { result ≡ (int_lt (pos 0) friction && list_any (λ t. t) touched.now) }
+{
+    0 < friction && touched.any()
+}
+
 /// Friction, which follows the passes of a step: each free particle that a shape touched loses the part friction / 256
-/// of its velocity, rounded axis by axis, and what it loses is added to the total of shapes with the other sign. Its place before moves, and
-/// its place stays. It reaches the store at most twice for each block.
+/// of its velocity, rounded axis by axis, and what it loses is added to the total of shapes with the other sign. Its
+/// place before moves, and its place stays. It reaches the store at most twice for each block, and not at all where
+/// friction is 0 or no particle was touched.
 pub fn rub<const L: usize, G: Ledger>(
     store: &mut Store<L>,
     friction: i64,
@@ -143,10 +152,13 @@ pub fn rub<const L: usize, G: Ledger>(
     ensures settled { settled_parts store.new.particles ≡ settled_parts store.old.particles }
     ensures within { AreWithin store.old.limit store.new.particles }
     ensures room { (n : ℕ) → HaveRoom n (ledger_of totals.old) → HaveRoom (n + length store.old.particles * 2 ^ 31) (ledger_of totals.new) }
-    ensures cost { steps.new ≤ steps.old + 2 * blocks_of (length store.old.particles) L }
+    ensures cost { steps.new ≤ steps.old + rub_cost friction touched.now (blocks_of (length store.old.particles) L) }
 {
     // By it the totals have room.
     let _len = store.len();
+    if !rubs_any(friction, touched) {
+        return;
+    }
     for block in 0..store.blocks() {
         rub_block(store, block, friction, touched, totals, steps);
     }

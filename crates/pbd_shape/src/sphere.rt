@@ -4,16 +4,17 @@ ghost use Rattle.pbd_num.specs.Vectors.{Within, minus, squared_length, length_of
 ghost use Rattle.pbd_world.specs.Shapes.{onto_sphere, sphere_shape};
 ghost use Rattle.pbd_shape.specs.Valid.{IsSphere};
 
+use crate::short::short_axes;
 use pbd_num::{Vec3, square};
 use pbd_world::Sphere;
 
-// Whether a place is in a sphere. Squares tell it, so that only places that are pay for a root.
-fn holds(sphere: Sphere, p: Vec3) -> bool
+/// Whether a place is in a sphere. Squares tell it, so that only places that are pay for a root.
+pub(crate) fn holds(sphere: Sphere, p: Vec3) -> bool
     requires sphere { IsSphere sphere }
     requires place { Within (2 ^ 29) p }
     ensures { result ≡ int_lt (pos (length_of (minus p sphere.centre))) sphere.radius }
 {
-    p.minus(sphere.centre).squared_length() < square(sphere.radius)
+    short_axes(p.minus(sphere.centre)).squared_length() < square(sphere.radius)
 }
 
 fn up(radius: i64) -> Vec3

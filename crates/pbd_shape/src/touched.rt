@@ -1,3 +1,4 @@
+ghost use Rattle.std.specs.List.{list_any};
 ghost use Rattle.std.specs.Prelude.{◌≡◌, ◌<◌, ◌≤◌, false, true, length, replicate, slice_index_or, slice_set, IfOk};
 
 use std::alloc::{AllocError, Global};
@@ -40,6 +41,13 @@ impl Touched {
         ensures { result ≡ slice_index_or self.now i false }
     {
         self.flags[i as usize]
+    }
+
+    /// Whether any particle is touched.
+    pub fn any(&self) -> bool
+        ensures { result ≡ list_any (λ t. t) self.now }
+    {
+        self.flags.iter().any(|flag| *flag)
     }
 
     /// Particle i is touched.

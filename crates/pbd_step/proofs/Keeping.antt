@@ -9,7 +9,7 @@ use Rattle.pbd_world.specs.declared.command.Command.TheVariants as commands
 use Rattle.pbd_world.specs.declared.command.Refusal.{Refusal}
 use Rattle.pbd_num.specs.declared.Vec3.{Vec3}
 use Rattle.pbd_world.specs.declared.command.Reply.{Reply}
-use Rattle.pbd_world.specs.Meaning.{steps_of, meaning, after, done_or_refused, run_steps, pin, unpin, place_held, cut, set_gravity}
+use Rattle.pbd_world.specs.Meaning.{steps_of, meaning, after, done_or_refused, run_steps, pin, unpin, place_held, cut, set_gravity, refusals as world_refusals}
 use Rattle.pbd_world.specs.World.{World, IsSound, AreOfOneScene, live_count, opened, parts_of}
 use Rattle.pbd_world.proofs.CommandSound.{command-sound, command-scene}
 use Rattle.pbd_world.proofs.KeepingOn.{length-mapped}
@@ -162,14 +162,17 @@ flags_count links = sym (length-filter (λ b. b) (live_flags links)) ∙ flags_l
 -- ---- steps of a command
 
 -- a count in its range that stays below the step limit
-pub run_goes : (w : World) (n : ℕ) → 1 ≤ n → n ≤ 100000 → w.steps + n ≤ 1000000 → run_steps w n ≡ steps_of n w
-run_goes w n low high few = by (nat_le 1 n) (nat_le n 100000) (nat_lt 1000000 (w.steps + n)) (le-leb 1 n low) (le-leb n 100000 high) (le-ltb 1000000 (w.steps + n) few)
+pub goes_on : (w : World) (n : ℕ) → 1 ≤ n → n ≤ 100000 → w.steps + n ≤ 1000000 → unless (world_refusals w (commands.Step n)) w ≡ Ok w
+goes_on w n low high few = by (nat_le 1 n) (nat_le n 100000) (nat_lt 1000000 (w.steps + n)) (le-leb 1 n low) (le-leb n 100000 high) (le-ltb 1000000 (w.steps + n) few)
   where
-    by : (a b c : Bool) → a ≡ true → b ≡ true → c ≡ false → (unless ((not (a && b), refusals.BadCount) ∷ (c, refusals.StepLimit) ∷ []) w >>= steps_of n) ≡ steps_of n w
+    by : (a b c : Bool) → a ≡ true → b ≡ true → c ≡ false → unless ((not (a && b), refusals.BadCount) ∷ (c, refusals.StepLimit) ∷ []) w ≡ Ok w
     by true true false e f g = refl
     by true true true e f g = absurd (false≢true (sym g))
     by true false c e f g = absurd (false≢true f)
     by false b c e f g = absurd (false≢true e)
+
+pub run_goes : (w : World) (n : ℕ) → 1 ≤ n → n ≤ 100000 → w.steps + n ≤ 1000000 → run_steps w n ≡ steps_of n w
+run_goes w n low high few = ap (λ (r : Result World Refusal). r >>= steps_of n) (goes_on w n low high few)
 
 -- ---- another world of one scene
 

@@ -6,12 +6,13 @@ pub mod Finding
 pub mod Stepping
 pub mod Running
 pub mod Flying
+pub mod Flights
 pub mod Mild
 pub mod Predicting
 pub mod Advancing
 pub mod Leading
 pub mod InOrder
-pub mod Counting
 pub mod Settling
 pub mod Keeping
 pub mod Staying
+pub mod Costing

@@ -3,6 +3,7 @@ ghost use Rattle.std.specs.Prelude.{◌≡◌, ◌+◌, ◌-◌, ◌*◌, ◌<�
 ghost use Rattle.pbd_world.specs.Bonds.{projected};
 ghost use Rattle.pbd_world.specs.Colours.{order};
 ghost use Rattle.pbd_world.specs.Ledger.{ledger_of, HaveRoom};
+ghost use Rattle.pbd_world.specs.Work.{bonds_work, colours_work};
 ghost use Rattle.pbd_store.specs.Moving.{motion_of, fixed_parts, AreInside, Weigh};
 ghost use Rattle.pbd_colour.specs.Pairs.{batch_of};
 ghost use Rattle.pbd_pair.specs.Bonds.{bond_of};
@@ -53,6 +54,7 @@ fn project_colours<const L: usize, P: Projector<L>, G: Ledger>(
         (P.count projector.new ≡ min (P.count projector.old + length (parallel_from colours.now.pairs colours.now.live 0)) (2 ^ 64 - 1)) }
     ensures not_fallen { P.count projector.old ≤ P.count projector.new }
     ensures width { P.width projector.new ≡ P.width projector.old }
+    ensures cost { steps.new ≤ steps.old + colours_work (P.width projector.old) colours.now.pairs colours.now.live 0 63 }
 {
     for c in 0..63 {
         if let Err(left) = projector.project(store, bonds, colours.batch(c), totals, steps) {
@@ -94,6 +96,7 @@ fn project_serial<const L: usize, P: Projector<L>, G: Ledger>(
         (P.count projector.new ≡ min (P.count projector.old + length (batch_of colours.now.pairs colours.now.live 63)) (2 ^ 64 - 1)) }
     ensures not_fallen { P.count projector.old ≤ P.count projector.new }
     ensures width { P.width projector.new ≡ P.width projector.old }
+    ensures cost { steps.new ≤ steps.old + 4 * length (batch_of colours.now.pairs colours.now.live 63) }
 {
     for n in colours.serial() {
         if let Err(left) = projector.project(store, bonds, &[*n], totals, steps) {
@@ -134,6 +137,7 @@ pub(crate) fn project_all<const L: usize, P: Projector<L>, G: Ledger>(
         (P.count projector.new ≡ min (P.count projector.old + length (order colours.now.pairs colours.now.live)) (2 ^ 64 - 1)) }
     ensures not_fallen { P.count projector.old ≤ P.count projector.new }
     ensures width { P.width projector.new ≡ P.width projector.old }
+    ensures cost { steps.new ≤ steps.old + bonds_work (P.width projector.old) colours.now.pairs colours.now.live }
 {
     counts(projector);
     if let Err(left) = project_colours(projector, store, bonds, colours, totals, steps) {

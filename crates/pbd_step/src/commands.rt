@@ -1,5 +1,5 @@
 // The commands that are no steps. After a refusal the state is as it was.
-ghost use Rattle.std.specs.Prelude.{◌≡◌, ◌<◌, ◌≤◌, ◌^◌, length, IfSome, IfNone, false};
+ghost use Rattle.std.specs.Prelude.{◌≡◌, ◌+◌, ◌<◌, ◌≤◌, ◌^◌, length, IfSome, IfNone, false};
 ghost use Rattle.pbd_world.specs.Meaning.{pin as pinned_world, unpin as unpinned_world, place_held as placed_world, cut as cut_world, set_gravity as pulled_world};
 ghost use Rattle.pbd_num.specs.Vectors.{Within, opposite};
 ghost use Rattle.pbd_world.specs.Particles.{velocity};
@@ -68,6 +68,7 @@ pub(crate) fn pin<const L: usize, G: Ledger>(
     requires sound { IsSound (world_of setting.now state.old) }
     ensures obeys { Obeys (λ s. world_of setting.now s) result (pinned_world (world_of setting.now state.old) i) state.old state.new }
     ensures same { state.new ≡ record state.old { store = state.new.store; totals = state.new.totals } }
+    ensures cost { steps.new ≤ steps.old + 2 }
 {
     let Some(n) = number_of(&state.store, i) else {
         return Err(Refusal::NoParticle);
@@ -92,6 +93,7 @@ pub(crate) fn unpin<const L: usize, G: Ledger>(
     requires lanes { L ≤ 16 }
     ensures obeys { Obeys (λ s. world_of setting.now s) result (unpinned_world (world_of setting.now state.old) i) state.old state.new }
     ensures same { state.new ≡ record state.old { store = state.new.store } }
+    ensures cost { steps.new ≤ steps.old + 2 }
 {
     let Some(n) = number_of(&state.store, i) else {
         return Err(Refusal::NoParticle);
@@ -118,6 +120,7 @@ pub(crate) fn place_held<const L: usize, G: Ledger>(
     requires lanes { L ≤ 16 }
     ensures obeys { Obeys (λ s. world_of setting.now s) result (placed_world (world_of setting.now state.old) i to) state.old state.new }
     ensures same { state.new ≡ record state.old { store = state.new.store } }
+    ensures cost { steps.new ≤ steps.old + 2 }
 {
     let Some(n) = number_of(&state.store, i) else {
         return Err(Refusal::NoParticle);

@@ -2,6 +2,8 @@
 ghost use Rattle.std.specs.Prelude.{◌≡◌, ⊤, ◌+◌, ◌<◌, ◌≤◌, ◌^◌, length, OnOk, MatchResult};
 ghost use Rattle.pbd_world.specs.Contacts.{contacts_of};
 ghost use Rattle.pbd_world.specs.declared.command.Refusal.TheVariants as refusals;
+ghost use Rattle.pbd_world.specs.Work.{finding_work};
+ghost use Rattle.pbd_step.specs.States.{world_of};
 ghost use Rattle.pbd_step.specs.Staying.{IsGoing};
 
 use crate::state::{Running, Setting};
@@ -29,6 +31,7 @@ pub(crate) fn find<const L: usize, P: Projector<L> + Drop, G: Ledger>(
         × (refusal ≡ refusals.TooManyContacts (run.old.state.steps + 1))) }
     ensures particles { run.new.tools.found.particles ≡ run.old.tools.found.particles }
     ensures stays { run.new ≡ record run.old { tools = record run.old.tools { found = run.new.tools.found } } }
+    ensures cost { steps.new ≤ steps.old + finding_work (world_of setting.now run.old.state) }
 {
     touching_pairs_are_contacts();
     match run

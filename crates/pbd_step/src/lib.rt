@@ -5,13 +5,17 @@ mod again;
 mod bonds;
 mod commands;
 mod contacts;
+mod flight;
 mod leaving;
 mod open;
 mod pass;
 mod predict;
 mod rub_and_tear;
+mod saved;
 mod solver;
 mod state;
 mod step;
+mod views;
 
+pub use saved::Saved;
 pub use solver::Solver;

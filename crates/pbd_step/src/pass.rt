@@ -5,6 +5,7 @@ ghost use Rattle.pbd_world.specs.Ledger.{ledger_of};
 ghost use Rattle.pbd_world.specs.Outcomes.{repeated};
 ghost use Rattle.pbd_world.specs.Step.{pass as passed, link_order, contact_order};
 ghost use Rattle.pbd_world.specs.Valid.{is_between, is_limit, are_valid_links};
+ghost use Rattle.pbd_world.specs.Work.{contacts_work, links_work, pass_work};
 ghost use Rattle.pbd_world.specs.World.{live_count};
 ghost use Rattle.pbd_step.specs.Projecting.{AreMovable};
 ghost use Rattle.pbd_step.specs.States.{world_of, now_of, HasLinks, IsUnderWay};
@@ -41,6 +42,7 @@ fn project_links<const L: usize, P: Projector<L> + Drop, G: Ledger>(
         → AreMovable (n + 2 ^ 60) run.new.state.store.limit run.new.state.store.particles (ledger_of run.new.state.totals)) }
     ensures handed { OnOk result
         (P.count run.new.projector ≡ min (P.count run.old.projector + live_count run.old.state.links.items) (2 ^ 64 - 1)) }
+    ensures cost { steps.new ≤ steps.old + links_work (P.width run.old.projector) run.old.state.links.items }
 {
     project_all(
         &mut run.projector,
@@ -76,6 +78,7 @@ fn project_contacts<const L: usize, P: Projector<L> + Drop, G: Ledger>(
         → AreMovable (n + 2 ^ 60) run.new.state.store.limit run.new.state.store.particles (ledger_of run.new.state.totals)) }
     ensures handed { OnOk result
         (P.count run.new.projector ≡ min (P.count run.old.projector + length run.old.tools.found.pairs) (2 ^ 64 - 1)) }
+    ensures cost { steps.new ≤ steps.old + contacts_work (P.width run.old.projector) run.old.tools.found.pairs }
 {
     let projector = &mut run.projector;
     let found = &run.tools.found;
@@ -111,6 +114,8 @@ fn project_once<const L: usize, P: Projector<L> + Drop, G: Ledger>(
     ensures handed { OnOk result
         (P.count run.new.projector
         ≡ min (P.count run.old.projector + (live_count run.old.state.links.items + length run.old.tools.found.pairs)) (2 ^ 64 - 1)) }
+    ensures cost { steps.new
+        ≤ steps.old + pass_work L (P.width run.old.projector) (world_of setting.now run.old.state) run.old.tools.found.pairs }
 {
     let taken = run.state.steps;
     if let Err(left) = project_links(run, steps) {
@@ -153,6 +158,8 @@ pub(crate) fn project_in_passes<const L: usize, P: Projector<L> + Drop, G: Ledge
         (P.count run.new.projector
         ≡ min (P.count run.old.projector + setting.now.passes * (live_count run.old.state.links.items + length run.old.tools.found.pairs))
         (2 ^ 64 - 1)) }
+    ensures cost { steps.new ≤ steps.old
+        + setting.now.passes * pass_work L (P.width run.old.projector) (world_of setting.now run.old.state) run.old.tools.found.pairs }
 {
     counts(&run.projector);
     for _ in 0..setting.passes {

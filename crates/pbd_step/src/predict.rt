@@ -3,7 +3,7 @@ ghost use Rattle.std.specs.Prelude.{◌≡◌, ◌+◌, ◌-◌, ◌*◌, ◌<�
 ghost use Rattle.pbd_num.specs.Vectors.{Within, zero_vector, plus, minus, opposite};
 ghost use Rattle.pbd_world.specs.declared.parts.Particle.{Particle};
 ghost use Rattle.pbd_world.specs.declared.totals.Class.TheVariants as classes;
-ghost use Rattle.pbd_world.specs.Ledger.{ledger_of, booked, HaveRoom};
+ghost use Rattle.pbd_world.specs.Ledger.{ledger_of, added, booked, HaveRoom};
 ghost use Rattle.pbd_world.specs.Particles.{particle_at};
 ghost use Rattle.pbd_world.specs.Step.{damped_away, predicted, predict as predicted_motion};
 ghost use Rattle.pbd_world.specs.World.{IsSound};
@@ -15,6 +15,7 @@ ghost use Rattle.pbd_step.specs.States.{world_of, now_of, IsUnderWay};
 ghost use Rattle.pbd_step.specs.Staying.{IsMoved};
 ghost use Rattle.pbd_step.specs.Predicting.{unled, bare_world, predicted_from, Advanced};
 
+use crate::flight::{Air, fly, flying};
 use crate::state::{Setting, State};
 use pbd_num::{Vec3, within};
 use pbd_store::{Block, Lanes3, Steps, Store};
@@ -151,7 +152,19 @@ fn advance_lanes<const L: usize>(
     Ok(places)
 }
 
+/// Books what gravity and damping do to the free particles of a block, all at once.
+fn book_sums(totals: &mut Totals, pulled: Vec3, lost: Vec3)
+    requires pulled { Within (2 ^ 34) pulled }
+    requires lost { Within (2 ^ 34) lost }
+    requires room { HaveRoom (2 ^ 120) (ledger_of totals.old) }
+    ensures { ledger_of totals.new ≡ added (added (ledger_of totals.old) classes.Gravity pulled) classes.Damping (opposite lost) }
+{
+    totals.add(Class::Gravity, pulled);
+    totals.add(Class::Damping, lost.opposite());
+}
+
 // Advances the particles of a block: one access reads them, and another writes them, unless one would leave the limit.
+// All go side by side, and lane by lane only where one would leave: then the first of them is told.
 fn advance_block<const L: usize, G: Ledger>(
     setting: &Setting,
     state: &mut State<L>,
@@ -176,6 +189,21 @@ fn advance_block<const L: usize, G: Ledger>(
     ensures cost { steps.new ≤ steps.old + 2 }
 {
     let mut lanes = state.store.load(block, steps);
+    let air = Air {
+        damping: setting.damping,
+        gravity: setting.gravity,
+        limit: state.store.limit(),
+    };
+    let flies = flying(&lanes.held.to_array(), &lanes.filled.to_array());
+    let flown = fly(air, &flies, &lanes);
+    if flown.within {
+        book_sums(&mut state.totals, flown.pulled, flown.lost);
+        lanes.before = lanes.at;
+        lanes.at = flown.to;
+        let filled = lanes.filled;
+        state.store.save(block, &lanes, &filled, steps);
+        return Ok(());
+    }
     match advance_lanes(setting, &state.store, block, &lanes, &mut state.totals) {
         Err(left) => Err(left),
         Ok(places) => {

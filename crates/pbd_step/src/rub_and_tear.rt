@@ -1,9 +1,10 @@
 // The end of a step: friction, and the links that tear.
-ghost use Rattle.std.specs.Prelude.{◌≡◌, ◌<◌, ◌≤◌, ◌^◌, ℕ, length, slice_index, IsTrue};
+ghost use Rattle.std.specs.Prelude.{◌≡◌, ◌+◌, ◌<◌, ◌≤◌, ◌^◌, ℕ, length, slice_index, IsTrue};
 ghost use Rattle.std.specs.List.Sorted.{IsStrictlyIncreasing};
 ghost use Rattle.pbd_world.specs.Colours.{live_at};
 ghost use Rattle.pbd_colour.specs.Pairs.{dropped};
 ghost use Rattle.pbd_world.specs.Step.{settled, rub as rubbed_motion};
+ghost use Rattle.pbd_world.specs.Work.{settling_work};
 ghost use Rattle.pbd_step.specs.States.{world_of, HasLinks};
 ghost use Rattle.pbd_step.specs.Staying.{IsGoing, StaysInStep, passing_of};
 ghost use Rattle.pbd_step.specs.Settling.{LetGo};
@@ -54,6 +55,7 @@ pub(crate) fn rub_and_tear<const L: usize, P: Projector<L> + Drop, G: Ledger>(
     ensures links { HasLinks (length run.old.state.store.particles) run.new.state.links.items run.new.colours }
     ensures stays { StaysInStep P.count P.width run.old run.new }
     ensures projector { run.new.projector ≡ run.old.projector }
+    ensures cost { steps.new ≤ steps.old + settling_work L (world_of setting.now run.old.state) }
 {
     let contacts = run.tools.found.count();
     rub(

@@ -4,6 +4,7 @@ ghost use Rattle.pbd_world.specs.Ledger.{sum_of, ledger_of};
 ghost use Rattle.pbd_world.specs.Meaning.{run_steps, pin as pinned_world, unpin as unpinned_world, place_held as placed_world, cut as cut_world, set_gravity as pulled_world};
 ghost use Rattle.pbd_world.specs.Momentum.{momentum as momentum_of};
 ghost use Rattle.pbd_world.specs.Particles.{particle_at};
+ghost use Rattle.pbd_world.specs.Work.{steps_work};
 ghost use Rattle.pbd_world.specs.World.{opened, live_count, IsSound, AreOfOneScene};
 ghost use Rattle.pbd_step.specs.Solving.{bonds_over};
 
@@ -27,8 +28,8 @@ use std::sync::ledger::Ledger;
 /// particles, colours, contacts and the second state that a refused command goes back to are its inside.
 #[derive(Drop)]
 pub struct Solver<const L: usize, P: Projector<L> + Drop> {
-    setting: Setting,
-    run: Running<L, P>,
+    pub(crate) setting: Setting,
+    pub(crate) run: Running<L, P>,
     kept: State<L>,
 }
 
@@ -81,6 +82,8 @@ impl<const L: usize, P: Projector<L> + Drop> Solver<L, P> {
         ensures width { P.width self.new.projector ≡ P.width self.old.projector }
         ensures sound { IsSound self.new.world }
         ensures one_scene { AreOfOneScene self.old.world self.new.world }
+        // The particles are reached at most as often as the work of the steps says, also where one is refused.
+        ensures cost { steps.new ≤ steps.old + steps_work L (P.width self.old.projector) n self.old.world }
     {
         let count = self.run.state.steps;
         if n < 1 || MOST_STEPS < n {
@@ -104,6 +107,7 @@ impl<const L: usize, P: Projector<L> + Drop> Solver<L, P> {
         ensures projector { self.new.projector ≡ self.old.projector }
         ensures sound { IsSound self.new.world }
         ensures one_scene { AreOfOneScene self.old.world self.new.world }
+        ensures cost { steps.new ≤ steps.old + 2 }
     {
         pin(&self.setting, &mut self.run.state, i, steps)
     }
@@ -120,6 +124,7 @@ impl<const L: usize, P: Projector<L> + Drop> Solver<L, P> {
         ensures projector { self.new.projector ≡ self.old.projector }
         ensures sound { IsSound self.new.world }
         ensures one_scene { AreOfOneScene self.old.world self.new.world }
+        ensures cost { steps.new ≤ steps.old + 2 }
     {
         unpin(&self.setting, &mut self.run.state, i, steps)
     }
@@ -141,6 +146,7 @@ impl<const L: usize, P: Projector<L> + Drop> Solver<L, P> {
         ensures projector { self.new.projector ≡ self.old.projector }
         ensures sound { IsSound self.new.world }
         ensures one_scene { AreOfOneScene self.old.world self.new.world }
+        ensures cost { steps.new ≤ steps.old + 2 }
     {
         place_held(&self.setting, &mut self.run.state, i, to, steps)
     }
@@ -220,6 +226,7 @@ impl<const L: usize, P: Projector<L> + Drop> Solver<L, P> {
         ensures value { result ≡ particle_at self.now.world.particles i }
         ensures at { Within (2 ^ 29) result.at }
         ensures before { Within (2 ^ 29) result.before }
+        ensures cost { steps.new ≡ steps.old + 1 }
     {
         self.run.state.store.at(i, steps)
     }
@@ -282,6 +289,7 @@ impl<const L: usize, P: Projector<L> + Drop> Solver<L, P> {
         requires lanes_high { L ≤ 16 }
         ensures value { sum_of result ≡ momentum_of self.now.world.particles }
         ensures sound { IsSound self.now.world }
+        ensures cost { steps.new ≡ steps.old + length self.now.world.particles }
     {
         momentum(&self.run.state.store, steps)
     }

@@ -3,6 +3,7 @@ ghost use Rattle.std.specs.Prelude.{◌≡◌, ◌+◌, ◌-◌, ◌*◌, ◌<�
 ghost use Rattle.pbd_world.specs.Meaning.{steps_of};
 ghost use Rattle.pbd_world.specs.Step.{step as stepped, leaves, predict as predicted_motion};
 ghost use Rattle.pbd_world.specs.Outcomes.{with_fault};
+ghost use Rattle.pbd_world.specs.Work.{beginning_work, finishing_work, step_work, found_in, work_over};
 ghost use Rattle.pbd_world.specs.World.{IsSound, live_count};
 ghost use Rattle.pbd_world.specs.declared.command.Phase.TheVariants as phases;
 ghost use Rattle.pbd_step.specs.States.{world_of, now_of, HasLinks, IsUnderWay};
@@ -40,6 +41,7 @@ fn begin<const L: usize, G: Ledger>(
         (predicted_motion (world_of setting.now state.old)) ≡ Err refusal) }
     ensures moved { IsMoved state.old state.new }
     ensures under_way { OnOk result (IsUnderWay (2 ^ 100) (world_of setting.now state.new)) }
+    ensures cost { steps.new ≤ steps.old + beginning_work L (world_of setting.now state.old) }
 {
     let taken = state.steps;
     match predict(setting, state, steps) {
@@ -68,6 +70,8 @@ fn finish<const L: usize, P: Projector<L> + Drop, G: Ledger>(
         (P.count run.new.projector
         ≡ min (P.count run.old.projector + setting.now.passes * (live_count run.old.state.links.items + length run.old.tools.found.pairs))
         (2 ^ 64 - 1)) }
+    ensures cost { steps.new
+        ≤ steps.old + finishing_work L (P.width run.old.projector) (world_of setting.now run.old.state) run.old.tools.found.pairs }
 {
     run.tools.touched.clear();
     if let Err(refusal) = project_in_passes(setting, run, steps) {
@@ -97,6 +101,8 @@ fn step<const L: usize, P: Projector<L> + Drop, G: Ledger>(
         (P.count run.new.projector
         ≡ min (P.count run.old.projector + bonds_of (world_of setting.now run.old.state) (world_of setting.now run.new.state))
         (2 ^ 64 - 1)) }
+    ensures cost { steps.new ≤ steps.old
+        + step_work L (P.width run.old.projector) (world_of setting.now run.old.state) (found_in (world_of setting.now run.old.state)) }
 {
     if let Err(refusal) = begin(setting, &mut run.state, steps) {
         return Err(refusal);
@@ -125,6 +131,7 @@ fn take_steps<const L: usize, P: Projector<L> + Drop, G: Ledger>(
     ensures stays { StaysInStep P.count P.width run.old run.new }
     ensures handed { OnOk result
         (P.count run.new.projector ≡ min (P.count run.old.projector + bonds_over n (world_of setting.now run.old.state)) (2 ^ 64 - 1)) }
+    ensures cost { steps.new ≤ steps.old + work_over L (P.width run.old.projector) n (world_of setting.now run.old.state) }
 {
     counts(&run.projector);
     for i in 0..n {
@@ -154,6 +161,7 @@ pub(crate) fn run_whole<const L: usize, P: Projector<L> + Drop, G: Ledger>(
         (P.count run.new.projector ≡ min (P.count run.old.projector + bonds_over n (world_of setting.now run.old.state)) (2 ^ 64 - 1)) }
     ensures not_fallen { P.count run.old.projector ≤ P.count run.new.projector }
     ensures width { P.width run.new.projector ≡ P.width run.old.projector }
+    ensures cost { steps.new ≤ steps.old + work_over L (P.width run.old.projector) n (world_of setting.now run.old.state) }
 {
     take_over(kept, &run.state);
     if let Err(refusal) = take_steps(setting, run, n, steps) {

@@ -91,6 +91,7 @@ pub(crate) fn lanes_from<const L: usize>(column: &[i64], start: usize) -> Lanes<
 
 impl Axes {
     /// The place at i.
+    #[inline(always)]
     pub(crate) fn place(&self, i: usize) -> Vec3
         requires x { i < length self.now.x.items }
         requires y { i < length self.now.y.items }
@@ -105,6 +106,7 @@ impl Axes {
     }
 
     /// Puts another place at i.
+    #[inline(always)]
     pub(crate) fn set(&mut self, i: usize, place: Vec3)
         requires x { i < length self.old.x.items }
         requires y { i < length self.old.y.items }

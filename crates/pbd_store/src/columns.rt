@@ -129,6 +129,7 @@ impl<const L: usize> Columns<L> {
         self.count
     }
 
+    #[inline(always)]
     pub(crate) fn get(&self, i: usize) -> Particle
         requires { i < length self.now }
         ensures { result ≡ particle_at self.now i }
@@ -142,6 +143,7 @@ impl<const L: usize> Columns<L> {
     }
 
     // The place and the effective weight of a particle that is wanted, else zeros.
+    #[inline(always)]
     pub(crate) fn end_if(&self, i: u32, wanted: bool) -> (Vec3, i64)
         requires { IsTrue wanted → i < length self.now }
         ensures x { result.0.x ≡ (if wanted then (particle_at self.now i).at.x else pos 0) }
@@ -159,6 +161,7 @@ impl<const L: usize> Columns<L> {
         (particle.at, i64::from(particle.weight))
     }
 
+    #[inline(always)]
     pub(crate) fn place(&mut self, i: usize, place: Vec3)
         requires { i < length self.old }
         ensures { self.new ≡ placed self.old i place }
@@ -166,6 +169,7 @@ impl<const L: usize> Columns<L> {
         self.at.set(i, place);
     }
 
+    #[inline(always)]
     pub(crate) fn place_if(&mut self, i: u32, wanted: bool, place: Vec3)
         requires { IsTrue wanted → i < length self.old }
         ensures { self.new ≡ (if wanted then placed self.old i place else self.old) }

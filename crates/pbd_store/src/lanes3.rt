@@ -44,6 +44,7 @@ impl<const L: usize> Lanes3<L> {
     }
 
     /// The place in lane j.
+    #[inline(always)]
     pub fn place(&self, j: usize) -> Vec3
         requires { j < L }
         ensures { result ≡ place_of self.now.x self.now.y self.now.z j }

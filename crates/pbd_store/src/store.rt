@@ -206,6 +206,7 @@ impl<const L: usize> Store<L> {
     }
 
     /// The places and effective weights of the particles that the set lanes name. Other lanes give 0.
+    #[inline(always)]
     pub fn gather<G: Ledger>(
         &self,
         indices: &[u32; L],
@@ -243,6 +244,7 @@ impl<const L: usize> Store<L> {
     }
 
     /// Moves the particles that the set lanes name, each to the place of its lane.
+    #[inline(always)]
     pub fn scatter<G: Ledger>(
         &mut self,
         indices: &[u32; L],

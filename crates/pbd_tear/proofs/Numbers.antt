@@ -1,5 +1,5 @@
 -- Torn numbers one by one, and valid links.
-use Rattle.std.proofs.Common.{◌≡◌, refl, sym, ap, ◌∙◌, ℕ, zero, suc, ◌+◌, ◌-◌, ◌*◌, ◌<◌, ◌≤◌, ◌^◌, ◌==◌, nat_lt, not, ◌&&◌, Bool, true, false, cond, List, [], ◌∷◌, ◌++◌, length, filter, get_or, arith, ℤ, pos, ◌≤ℤ◌, ◌*ℤ◌, int_lt, unsigned_abs, IsTrue, inl, inr, append_assoc}
+use Rattle.std.proofs.Common.{◌≡◌, refl, sym, ap, ◌∙◌, ℕ, zero, suc, ◌+◌, ◌-◌, ◌*◌, ◌<◌, ◌≤◌, ◌^◌, ◌==◌, nat_lt, not, ◌&&◌, Bool, true, false, cond, List, [], ◌∷◌, ◌++◌, length, filter, get_or, drop, arith, ℤ, pos, ◌≤ℤ◌, ◌*ℤ◌, int_lt, unsigned_abs, IsTrue, inl, inr, append_assoc}
 use Rattle.std.specs.List.{list_any, range_with_len, AllByRecursion}
 use Rattle.std.specs.List.Sorted.{IsStrictlyIncreasing}
 use Rattle.std.proofs.lemmas.List.Kept.{IsStrictlyIncreasing-filter}
@@ -8,7 +8,7 @@ use Rattle.pbd_world.proofs.KeepingOn.{all-at}
 use Rattle.std.proofs.lemmas.Int.{ints}
 use Rattle.std.proofs.lemmas.Bool.{and_parts, leb-true, ltb-true, cases_eq, eq-eqb, ne_eqb}
 use Rattle.std.proofs.lemmas.Bool.Decides.{nat_tests}
-use Rattle.std.proofs.lemmas.List.{get_or-map, append-nil, length-append}
+use Rattle.std.proofs.lemmas.List.{get_or-map, append-nil, length-append, at_drop_more}
 use Rattle.std.proofs.lemmas.List.Sums.{AllPass-from_list_all}
 use Rattle.pbd_num.specs.Vectors.{minus, squared_length}
 use Rattle.pbd_world.specs.declared.parts.Particle.{Particle}
@@ -17,6 +17,7 @@ use Rattle.pbd_world.specs.Room.{Roomed}
 use Rattle.pbd_world.specs.Particles.{particle_at}
 use Rattle.pbd_world.specs.Bonds.{link_at}
 use Rattle.pbd_world.specs.Step.{is_torn, tear}
+use Rattle.pbd_world.specs.Work.{tearable_count}
 use Rattle.pbd_world.specs.Valid.{is_limit, is_between, is_valid_link, are_valid_links}
 use Rattle.pbd_store.proofs.Limits.{limit_size}
 use Rattle.pbd_store.proofs.Listing.{any_default}
@@ -56,6 +57,17 @@ torn_by ps l a b may ea eb =
 -- a link that may not tear
 pub never_torn : (ps : List Particle) (l : Link) → (l.live && int_lt (pos 0) l.tear) ≡ false → false ≡ is_torn ps l
 never_torn ps l may = sym (ap (λ (t : Bool). t && nat_lt (unsigned_abs l.tear * unsigned_abs l.tear) (squared_length (minus (particle_at ps l.a).at (particle_at ps l.b).at))) may)
+
+-- of the links from i on, link i may tear, or not, and then the others
+tearable_more : (links : List Link) (i : ℕ) (d : Link) → i < length links → 2 * tearable_count (drop i links) ≡ cond ((get_or links i d).live && int_lt (pos 0) (get_or links i d).tear) 2 0 + 2 * tearable_count (drop (i + 1) links)
+tearable_more links i d lt = at_drop_more (λ ls. 2 * tearable_count ls) links i d lt ∙ by ((get_or links i d).live && int_lt (pos 0) (get_or links i d).tear) (filter {X = Link} (λ l. l.live && int_lt (pos 0) l.tear) (drop (i + 1) links))
+  where
+    by : (b : Bool) (rest : List Link) → 2 * length (cond b (get_or links i d ∷ rest) rest) ≡ cond b 2 0 + 2 * length rest
+    by true rest = omega arith
+    by false rest = omega arith
+
+pub cost_more : (begun old new : ℕ) (links : List Link) (i : ℕ) (d : Link) → i < length links → new ≤ old + cond ((get_or links i d).live && int_lt (pos 0) (get_or links i d).tear) 2 0 → old + 2 * tearable_count (drop i links) ≤ begun + 2 * tearable_count links → new + 2 * tearable_count (drop (i + 1) links) ≤ begun + 2 * tearable_count links
+cost_more begun old new links i d lt cost so_far = omega (arith, tearable_more links i d lt, cost, so_far)
 
 -- ---- numbers that pass a test, one by one
 

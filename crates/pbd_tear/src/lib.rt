@@ -5,6 +5,7 @@ ghost use Rattle.std.specs.Prelude.{◌≡◌, ◌+◌, ◌*◌, ◌<◌, ◌≤
 ghost use Rattle.pbd_num.specs.Vectors.{Within, minus, squared_length};
 ghost use Rattle.pbd_world.specs.Valid.{are_valid_links};
 ghost use Rattle.pbd_world.specs.Step.{is_torn};
+ghost use Rattle.pbd_world.specs.Work.{tearable_count};
 ghost use Rattle.pbd_store.specs.Moving.{AreInside};
 ghost use Rattle.pbd_tear.specs.Tearing.{IsLink, AscendTo, torn_numbers, gone_numbers};
 
@@ -37,7 +38,7 @@ fn is_torn<const L: usize, G: Ledger>(store: &Store<L>, link: Link, steps: &mut 
     requires link { IsLink (length store.now.particles) link }
     requires inside { AreInside (pos (2 ^ 29)) store.now.particles }
     ensures value { result ≡ is_torn store.now.particles link }
-    ensures cost { steps.new ≤ steps.old + 2 }
+    ensures cost { steps.new ≤ steps.old + (if link.live && int_lt (pos 0) link.tear then 2 else 0) }
 {
     if !may_tear(link) {
         return false;
@@ -58,7 +59,7 @@ fn push_if(out: &mut RoomList<u32>, number: u32, wanted: bool)
 
 /// Leaves in `out` exactly the numbers of the live links that tear, ascending: those that may tear and
 /// are longer than their tear length. What `out` held before is dropped.
-/// It reaches the store at most twice for each link.
+/// It reaches the store at most twice for each link that may tear, and not at all for the others.
 pub fn torn<const L: usize, G: Ledger>(
     store: &Store<L>,
     links: &[Link],
@@ -70,7 +71,7 @@ pub fn torn<const L: usize, G: Ledger>(
     requires room { length links.now ≤ out.old.room }
     ensures numbers { out.new ≡ record out.old { entries = torn_numbers store.now.particles links.now } }
     ensures ascending { AscendTo (length links.now) out.new.entries }
-    ensures cost { steps.new ≤ steps.old + 2 * length links.now }
+    ensures cost { steps.new ≤ steps.old + 2 * tearable_count links.now }
 {
     // By it the links and the places are in the range of both limits.
     let _limit = store.limit();

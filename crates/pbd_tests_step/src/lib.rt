@@ -2,6 +2,10 @@
 #![tactic(auto)]
 
 #[cfg(test)]
+mod accesses;
+#[cfg(test)]
+mod cloth;
+#[cfg(test)]
 mod drawing;
 #[cfg(test)]
 mod session;

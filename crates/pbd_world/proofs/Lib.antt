@@ -1,4 +1,5 @@
 mod Rows
+mod WorkRows
 pub mod GreedyLemmas
 pub mod KeepingLemmas
 pub mod OpenedLemmas
@@ -33,3 +34,6 @@ pub mod SessionSound
 pub mod WorldParts
 pub mod OtherParticle
 pub mod RisingLemmas
+pub mod OrderCounts
+pub mod PieceLemmas
+pub mod WorkLemmas

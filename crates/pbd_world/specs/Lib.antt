@@ -17,3 +17,4 @@ pub mod Meaning
 pub mod Text
 pub mod Session
 pub mod Replay
+pub mod Work

@@ -1,5 +1,5 @@
 //! Laws of the definitions, each the contract of a function that does nothing.
-ghost use Rattle.std.specs.Prelude.{◌≡◌, ◌<◌, ◌≤◌, ◌+◌, ◌^◌, ◌==◌, ℕ, ℤ, pos, List, [], Bool, false, IsTrue, length, count_by, Contains, AllPairs};
+ghost use Rattle.std.specs.Prelude.{◌≡◌, ◌<◌, ◌≤◌, ◌+◌, ◌*◌, ◌/◌, ◌^◌, ◌==◌, ℕ, ℤ, pos, List, [], Bool, false, IsTrue, length, count_by, Contains, AllPairs};
 ghost use Rattle.pbd_num.specs.declared.Vec3.{Vec3};
 ghost use Rattle.pbd_num.specs.Vectors.{Within};
 ghost use Rattle.pbd_world.specs.declared.command.Command.{Command};
@@ -9,7 +9,7 @@ ghost use Rattle.pbd_world.specs.declared.parts.Parts.{Parts};
 ghost use Rattle.pbd_world.specs.declared.totals.Class.{Class};
 ghost use Rattle.pbd_world.specs.Ledger.{Ledger, HaveRoom, SumFits, added, both_sums, sum_plus, total_of};
 ghost use Rattle.pbd_world.specs.Valid.{is_valid, is_valid_link, are_valid_links, ValidLink, ValidLinks};
-ghost use Rattle.pbd_world.specs.World.{World, opened, IsSound, AreOfOneScene, HaveWeight};
+ghost use Rattle.pbd_world.specs.World.{World, opened, live_count, IsSound, AreOfOneScene, HaveWeight};
 ghost use Rattle.pbd_world.specs.declared.parts.Link.{Link};
 ghost use Rattle.pbd_world.specs.declared.parts.Particle.{Particle};
 ghost use Rattle.pbd_world.specs.Colours.{IsGreedy, IsEarlier, colour, of_colour, order, live_at};
@@ -17,6 +17,7 @@ ghost use Rattle.pbd_world.specs.Contacts.{AreInContact, IsBefore, contacts_of, 
 ghost use Rattle.pbd_world.specs.Momentum.{IsBalanced, momentum};
 ghost use Rattle.pbd_world.specs.Meaning.{after, reply};
 ghost use Rattle.pbd_world.specs.Session.{last_world};
+ghost use Rattle.pbd_world.specs.Work.{step_work, command_work, session_work, finding_work, links_work, contacts_work, colours_used, blocks_in, tearable_count, found_in};
 
 /// Each pair has the least colour that no earlier live pair which shares a particle with it has.
 pub fn colours_are_greedy()
@@ -122,4 +123,38 @@ pub fn valid_links_are_facts()
     ensures links { (limit : ℤ) (n : ℕ) (links : List Link) → IsTrue (are_valid_links limit n links) → ValidLinks limit n links }
     ensures links_test { (limit : ℤ) (n : ℕ) (links : List Link) → ValidLinks limit n links
         → IsTrue (are_valid_links limit n links) }
+{}
+
+/// Steps, commands and sessions may cost no more at a greater width, and with more bonds side by side.
+pub fn wider_steps_cost_no_more()
+    ensures step { (width lanes wider more : ℕ) (w : World) (contacts : List (ℕ × ℕ)) → 0 < width → width ≤ wider
+        → 0 < lanes → lanes ≤ more → step_work wider more w contacts ≤ step_work width lanes w contacts }
+    ensures command { (width lanes wider more : ℕ) (w : World) (command : Command) → 0 < width → width ≤ wider
+        → 0 < lanes → lanes ≤ more → command_work wider more w command ≤ command_work width lanes w command }
+    ensures session { (width lanes wider more : ℕ) (w : World) (commands : List Command) → 0 < width → width ≤ wider
+        → 0 < lanes → lanes ≤ more → session_work wider more w commands ≤ session_work width lanes w commands }
+{}
+
+/// With twice as many bonds side by side, the links of a pass may cost at most half as much, but for two accesses in each
+/// colour that they have.
+pub fn twice_the_lanes_halve_the_links()
+    ensures { (lanes : ℕ) (w : World) → 0 < lanes → IsSound w
+        → 2 * links_work (2 * lanes) w.links ≤ links_work lanes w.links + 4 * colours_used w.links }
+{}
+
+/// Nothing in a step grows with a square: it may cost four accesses for each block, and in each pass for each block, each
+/// whole piece of links, each colour of links and each contact; and one for each track, for each particle where there is a
+/// thickness, and for each end of a live link that may tear.
+pub fn steps_cost_a_sum()
+    ensures { (width lanes : ℕ) (w : World) (contacts : List (ℕ × ℕ)) → 0 < lanes → IsSound w
+        → step_work width lanes w contacts
+        ≤ 4 * (blocks_in width w + w.passes * (live_count w.links / lanes + colours_used w.links + length contacts + blocks_in width w))
+        + length w.tracks + finding_work w + 2 * tearable_count w.links }
+{}
+
+/// Without a thickness nothing is paid for contacts: none are looked for, none are found, and none are projected.
+pub fn without_thickness_contacts_are_free()
+    ensures looked { (w : World) → w.thickness ≡ pos 0 → finding_work w ≡ 0 }
+    ensures found { (w : World) → w.thickness ≡ pos 0 → found_in w ≡ [] }
+    ensures projected { (lanes : ℕ) (w : World) → 0 < lanes → w.thickness ≡ pos 0 → contacts_work lanes (found_in w) ≡ 0 }
 {}

@@ -22,7 +22,8 @@ pub use laws::{
     commands_keep_worlds_sound, contacts_are_the_touching_pairs, equal_weights_keep_momentum,
     links_are_never_serial, opened_worlds_are_sound, orders_ascend,
     orders_hold_each_live_pair_once, refused_commands_change_nothing, sessions_stay_sound,
-    totals_with_room_take_moves, valid_links_are_facts,
+    steps_cost_a_sum, totals_with_room_take_moves, twice_the_lanes_halve_the_links,
+    valid_links_are_facts, wider_steps_cost_no_more, without_thickness_contacts_are_free,
 };
 pub use limits::{
     LAST_STEP, MOST_AT_PARTICLE, MOST_CONTACTS, MOST_LINKS, MOST_PARTICLES, MOST_STEPS,

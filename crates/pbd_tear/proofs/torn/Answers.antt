@@ -3,7 +3,7 @@ use Rattle.pbd_world.specs.Room.{Roomed}
 use Rattle.pbd_world.specs.Valid.{is_limit}
 use Rattle.pbd_tear.specs.Tearing.{AscendTo, torn_numbers}
 use Rattle.pbd_store.proofs.Limits.{inside_both}
-use Rattle.pbd_tear.proofs.Numbers.{link_is, TornSoFar, torn_none, torn_more, torn_all, few_more, list_is, torn_ascend}
+use Rattle.pbd_tear.proofs.Numbers.{link_is, cost_more, TornSoFar, torn_none, torn_more, torn_all, few_more, list_is, torn_ascend}
 use Rattle.pbd_tear.proofs.torn.Goals as goal
 
 pub is_torn-tears-requires : goal.is_torn-tears-requires
@@ -21,7 +21,7 @@ loop-i-preserved g c =
       so_far = subst (λ (xs : List ℕ). TornSoFar c.args.store.now.particles c.args.links.now (c.loop-i.i + 1) xs) (sym entries) (torn_more c.args.store.now.particles c.args.links.now c.loop-i.i c.loop-i.out.entries c.is_torn-tears.result _ c.loop-i-test.true c.is_torn-tears.ensures.value c.loop-i.invariant.so_far);
       few = subst (λ (xs : List ℕ). length xs ≤ c.loop-i.i + 1) (sym entries) (few_more c.is_torn-tears.result c.loop-i.i c.loop-i.out.entries c.loop-i.invariant.few);
       room = ap (λ (o : Roomed ℕ). o.room) c.push_if.ensures ∙ c.loop-i.invariant.room;
-      cost = omega (arith, c.is_torn-tears.ensures.cost, c.loop-i.invariant.cost);
+      cost = cost_more _ _ _ c.args.links.now c.loop-i.i _ c.loop-i-test.true c.is_torn-tears.ensures.cost c.loop-i.invariant.cost;
     }
 
 pub returns-clause-numbers : goal.returns-clause-numbers

@@ -81,4 +81,6 @@ returns-clause-laid g c =
       not_moving = λ k q p. laid.not_moving k p (empty_at named k q p);
       not_leaving = λ k q p. laid.not_leaving k p (empty_at named k q p);
       lanes = laid.leaving_len;
+      all_move = λ o k p. laid.all_move o k (in_lanes k p) (filled_at named k p);
+      opposed = λ o k p. laid.opposed o k (in_lanes k p);
     }

@@ -68,3 +68,9 @@ returns-clause-second_free g c = λ j h t.
     let i = index_at c.args.named.now.b j in
     let p = end_gathered c.gather-second.result ps c.args.named.now.b c.args.named.now.filled j h c.gather-second.ensures.x c.gather-second.ensures.y c.gather-second.ensures.z c.gather-second.ensures.weight t in
     c.correct_lanes-laid.ensures.second_free j h ∙ free_end (particle_at ps i) (end_in c.gather-second.result j) p (c.requires.weights.low i (c.requires.b j h t))
+
+pub returns-clause-all_move : goal.returns-clause-all_move
+returns-clause-all_move g c = λ o j h t. masked g.row.L c.and.result c.correct_lanes-laid.result.moving c.args.named.now.filled j c.and.ensures h t ∙ c.correct_lanes-laid.ensures.all_move o j h
+
+pub returns-clause-opposed : goal.returns-clause-opposed
+returns-clause-opposed g c = c.correct_lanes-laid.ensures.opposed

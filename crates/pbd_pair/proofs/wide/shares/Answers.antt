@@ -1,41 +1,27 @@
-use Rattle.std.proofs.Common.{◌∙◌, ◌^◌, arith, subst, sym, unsigned_abs}
+use Rattle.std.proofs.Common.{◌∙◌, ◌+◌, ◌^◌, arith, subst, sym, unsigned_abs}
 use Rattle.pbd_num.specs.declared.Vec3.{Vec3}
 use Rattle.pbd_num.specs.Vectors.{Within}
-use Rattle.pbd_num.proofs.Sizes.{positive_above}
-use Rattle.pbd_lanes.specs.Lane.{lane, is_set}
+use Rattle.pbd_lanes.specs.Lane.{lane}
 use Rattle.pbd_pair.specs.Lanes.{place_in}
-use Rattle.pbd_pair.proofs.LaneSteps.{shared_lane, within_where_set, shares_within}
+use Rattle.pbd_pair.proofs.LaneSteps.{shares_within}
+use Rattle.pbd_pair.proofs.Even.{even_total}
 use Rattle.pbd_pair.proofs.wide.shares.Goals as goal
 
 pub factors-f-requires : goal.factors-f-requires
-factors-f-requires g c = (
-  omega (arith, c.requires.lanes),
-  (
-    omega (arith, c.requires.lanes),
-    (c.requires.lanes, (c.requires.k, (c.requires.total, ((λ j p. omega (arith, c.requires.w j p, c.requires.total_size j p)), c.requires.total_size)))),
-  ),
-)
+factors-f-requires g c = (omega (arith, c.requires.lanes), (c.requires.lanes, (c.requires.k, c.requires.even)))
 
 pub parts_of_512-requires : goal.parts_of_512-requires
 parts_of_512-requires g c = (omega (arith, c.requires.lanes), (omega (arith, c.requires.lanes), (c.requires.lanes, (c.requires.s, c.factors-f.ensures.size))))
 
-pub divided_shares-requires : goal.divided_shares-requires
-divided_shares-requires g c = (
-  omega (arith, c.requires.lanes),
-  (
-    omega (arith, c.requires.lanes),
-    (omega (arith, c.requires.lanes), (c.requires.lanes, (c.requires.s, (c.requires.k, (c.requires.w, (c.requires.total, c.requires.total_size)))))),
-  ),
-)
+pub returns-clause-value : goal.returns-clause-value
+returns-clause-value g c = λ j p.
+    let s = place_in c.args.s.now j in
+    let e = c.factors-f.ensures.value j p in
+    c.parts_of_512.ensures j p ∙ (λ i. record { x = e s.x i; y = e s.y i; z = e s.z i })
 
-pub returns-then-right-clause-value : goal.returns-then-right-clause-value
-returns-then-right-clause-value g c = λ j p.
-    c.parts_of_512.ensures j p
-    ∙ shared_lane (is_set c.args.mask.now j) (place_in c.args.s.now j) (lane c.factors-f.result j) (lane c.args.k.now j) (lane c.args.w.now j) (unsigned_abs (lane c.args.total.now j)) (c.factors-f.ensures.value c.if-right.true j p)
-
-pub returns-then-right-clause-size : goal.returns-then-right-clause-size
-returns-then-right-clause-size g c = λ j p.
-    let total = lane c.args.total.now j in
-    subst (λ (v : Vec3). Within (2 ^ 31) v) (sym (returns-then-right-clause-value g c j p))
-    (within_where_set (is_set c.args.mask.now j) _ (2 ^ 31)
-    (λ t. shares_within (place_in c.args.s.now j) (lane c.args.k.now j) (lane c.args.w.now j) (unsigned_abs total) (positive_above total (c.requires.total j p t)) (c.requires.s j p) (c.requires.k j p) (c.requires.w j p)))
+pub returns-clause-size : goal.returns-clause-size
+returns-clause-size g c = λ j p.
+    let w = lane c.args.w.now j in
+    let v = lane c.args.other.now j in
+    subst (λ (x : Vec3). Within (2 ^ 31) x) (sym (returns-clause-value g c j p))
+    (shares_within (place_in c.args.s.now j) (lane c.args.k.now j) w (unsigned_abs w + unsigned_abs v) (even_total w v (c.requires.even j p)) (c.requires.s j p) (c.requires.k j p) (omega arith))

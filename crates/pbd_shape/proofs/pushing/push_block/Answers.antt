@@ -1,11 +1,52 @@
-use Rattle.std.proofs.Common.{◌≡◌, refl, ◌*◌, arith, unsigned_abs}
+use Rattle.std.proofs.Common.{◌≡◌, refl, sym, ◌*◌, ◌^◌, ℤ, arith, subst, unsigned_abs, ◌≤◌, IsTrue, w64, FitsSigned}
+use Rattle.std.proofs.lemmas.Int.{to_z-of_z}
 use Rattle.pbd_num.specs.Vectors.{Within, zero_vector}
 use Rattle.pbd_world.specs.declared.parts.Particle.{Particle}
 use Rattle.pbd_world.specs.Particles.{particle_at}
 use Rattle.pbd_store.specs.Blocks.{filled_lanes}
 use Rattle.pbd_store.proofs.Saves.{place_loaded, held_loaded, block_saved, saved_each, same_parts}
 use Rattle.pbd_store.proofs.Places.{place_in, before_of}
+use Rattle.pbd_world.specs.Shapes.{shapes_of}
+use Rattle.pbd_world.specs.Step.{Passing}
+use Rattle.pbd_world.specs.Valid.{are_valid_spheres}
+use Rattle.pbd_store.specs.Moving.{motion_of}
+use Rattle.pbd_shape.specs.Way.{IsStill}
+use Rattle.pbd_shape.proofs.Still.{lane_within, pushed_still}
 use Rattle.pbd_shape.proofs.pushing.push_block.Goals as goal
+
+pub any_touches-requires : goal.any_touches-requires
+any_touches-requires g c =
+    let f : FitsSigned w64 c.limit-limit.result = record { sfits = c.limit-limit.type_inv } in
+    let e = c.load-lanes.ensures in
+    let r = c.requires in
+    let ps = c.args.store.now.particles in
+    let limit = c.limit-limit.ensures in
+    let size = r.lanes_high in (
+      omega (arith, size),
+      (
+        r.lanes_high,
+        (
+          simp to_z-of_z (record { low = limit.low; high = limit.high }),
+          (
+            r.planes,
+            (
+              simp to_z-of_z (subst (λ (l : ℤ). IsTrue (are_valid_spheres l c.args.spheres.now)) (sym limit.value) r.spheres),
+              λ j h. lane_within g.row.L c.args.block j c.args.store.now.limit ps (subst (λ (l : ℤ). unsigned_abs l ≤ 2 ^ 29) limit.value limit.high) r.inside (place_loaded (λ p. p.at) g.row.L c.args.block j ps e.at_x e.at_y e.at_z h),
+            ),
+          ),
+        ),
+      ),
+    )
+
+pub returns-then-not-any_touches-clause-outcome : goal.returns-then-not-any_touches-clause-outcome
+returns-then-not-any_touches-clause-outcome g c =
+    let e = c.load-lanes.ensures in
+    let limit = c.args.store.now.limit in
+    let ps = c.args.store.now.particles in
+    let shapes = shapes_of c.args.planes.now c.args.spheres.now in
+    let s : Passing = record { motion = motion_of c.args.store.now c.args.totals.now; touched = c.args.touched.now } in
+    pushed_still limit c.args.planes.now c.args.spheres.now s c.requires.flags (c.args.block * g.row.L) g.row.L
+    (λ j h within. subst (IsStill limit shapes) (place_loaded (λ p. p.at) g.row.L c.args.block j ps e.at_x e.at_y e.at_z h) (c.any_touches.ensures c.if-not-any_touches.true limit j h))
 
 pub push_lanes-requires : goal.push_lanes-requires
 push_lanes-requires g c =

@@ -10,6 +10,7 @@ use Rattle.pbd_shape.proofs.Continuing.{pushed_begins, pushed_all}
 use Rattle.pbd_store.proofs.Fixed.{same_length}
 use Rattle.pbd_world.proofs.Rooms.{room_at}
 use Rattle.pbd_shape.proofs.Steps.{room_enough}
+use Rattle.pbd_shape.proofs.Still.{unless_cost, pushed_by_none}
 use Rattle.pbd_shape.proofs.pushing.push_out.Goals as goal
 
 none : (n : ℕ) → 0 * n ≡ 0
@@ -26,6 +27,9 @@ loop-block-init g c = record {
   room = λ n h. room_at _ (omega arith) h;
   cost = omega arith;
 }
+
+pub returns-then-are_none-clause-outcome : goal.returns-then-are_none-clause-outcome
+returns-then-are_none-clause-outcome g c = pushed_by_none c.args.store.now.limit c.args.planes.now c.args.spheres.now _ c.requires.flags (sym c.are_none.ensures ∙ c.if-are_none.true)
 
 pub push_block-requires : goal.push_block-requires
 push_block-requires g c =
@@ -96,7 +100,7 @@ returns-in-Err g c =
       flags = e.flags ∙ inv.flags;
       inside = tt;
       room = tt;
-      cost = omega (arith, e.cost, inv.cost, c.blocks-block-end.ensures, c.loop-block-test.true);
+      cost = unless_cost _ _ _ _ (sym c.are_none.ensures ∙ c.if-are_none.false) (omega (arith, e.cost, inv.cost, c.blocks-block-end.ensures, c.loop-block-test.true));
     }
 
 pub returns : goal.returns
@@ -114,5 +118,5 @@ returns g c =
       flags = inv.flags;
       inside = inv.inside;
       room = λ n h. room_at _ (room_whole n start (length c.args.store.now.particles)) (inv.room n h);
-      cost = omega (arith, inv.cost, c.blocks-block-end.ensures, c.loop-block.auto.block-end);
+      cost = unless_cost _ _ _ _ (sym c.are_none.ensures ∙ c.if-are_none.false) (omega (arith, inv.cost, c.blocks-block-end.ensures, c.loop-block.auto.block-end));
     }

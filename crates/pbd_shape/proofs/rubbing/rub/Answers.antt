@@ -12,6 +12,7 @@ use Rattle.pbd_shape.proofs.Continuing.{rubbed_begins, rubbed_all}
 use Rattle.pbd_store.proofs.Fixed.{same_length_by}
 use Rattle.pbd_world.proofs.Rooms.{room_at}
 use Rattle.pbd_shape.proofs.Steps.{room_enough}
+use Rattle.pbd_shape.proofs.Still.{where_cost, rubbed_by_none}
 use Rattle.pbd_shape.proofs.rubbing.rub.Goals as goal
 
 abbrev settled : Particle → Particle
@@ -32,6 +33,13 @@ loop-block-init g c =
       room = λ n h. room_at _ (omega arith) h;
       cost = omega arith;
     }
+
+pub returns-then-not-rubs_any-clause-outcome : goal.returns-then-not-rubs_any-clause-outcome
+returns-then-not-rubs_any-clause-outcome g c =
+    let f = c.ranges.friction in
+    let rubs = simp to_z-of_z at c.rubs_any.ensures in
+    let s : Passing = record { motion = motion_of c.args.store.now c.args.totals.now; touched = c.args.touched.now } in
+    rubbed_by_none c.args.friction s c.requires.flags c.requires.friction (sym rubs ∙ c.if-not-rubs_any.true)
 
 pub rub_block-requires : goal.rub_block-requires
 rub_block-requires g c =
@@ -93,11 +101,12 @@ returns g c =
     let len : length ps ≡ length c.args.store.now.particles = same_length_by settled ps c.args.store.now.particles inv.settled in
     let whole : length c.args.store.now.particles ≤ start = all_held c.loop-block.block (length c.args.store.now.particles) g.row.L c.requires.lanes_low (omega (arith, c.blocks-block-end.ensures, c.loop-block-test.false)) in
     let rest = simp to_z-of_z at inv.rest in
+    let rubs = simp to_z-of_z at c.rubs_any.ensures in
     record {
       outcome = sym (rubbed_all c.args.friction start now (omega (arith, len, whole))) ∙ rest;
       limit = inv.limit;
       settled = inv.settled;
       within = inv.within;
       room = λ n h. room_at _ (room_whole n start (length c.args.store.now.particles)) (inv.room n h);
-      cost = omega (arith, inv.cost, c.blocks-block-end.ensures, c.loop-block.auto.block-end);
+      cost = where_cost _ _ _ _ (sym rubs ∙ c.if-not-rubs_any.false) (omega (arith, inv.cost, c.blocks-block-end.ensures, c.loop-block.auto.block-end));
     }

@@ -9,6 +9,7 @@ use Rattle.pbd_store.proofs.Fixed.{same_length}
 use Rattle.pbd_pair.proofs.Blocks.{weigh_same}
 use Rattle.pbd_step.specs.Projecting.{AreBondsOf, parallel_from}
 use Rattle.pbd_step.proofs.InOrder.{both_parts, order_parts, parts_length, stops, then_part}
+use Rattle.pbd_world.proofs.WorkLemmas.{bonds_are}
 use Rattle.pbd_step.proofs.bonds.project_all.Goals as goal
 
 pub returns-in-Err-clause-outcome : goal.returns-in-Err-clause-outcome
@@ -54,3 +55,15 @@ returns-clause-handed g c =
     let pairs = c.args.colours.now.pairs in
     let live = c.args.colours.now.live in
     omega (arith, order_parts pairs live, c.in_default.ensures.handed, c.in_default-project_serial.ensures.handed)
+
+pub returns-in-Err-clause-cost : goal.returns-in-Err-clause-cost
+returns-in-Err-clause-cost g c =
+    omega (arith, c.project_colours.ensures.cost, bonds_are (g.P.Projector.width c.args.projector.now) c.args.colours.now.pairs c.args.colours.now.live)
+
+pub returns-in-Err-project_serial-clause-cost : goal.returns-in-Err-project_serial-clause-cost
+returns-in-Err-project_serial-clause-cost g c =
+    omega (arith, c.project_colours.ensures.cost, c.project_serial.ensures.cost, bonds_are (g.P.Projector.width c.args.projector.now) c.args.colours.now.pairs c.args.colours.now.live)
+
+pub returns-clause-cost : goal.returns-clause-cost
+returns-clause-cost g c =
+    omega (arith, c.project_colours.ensures.cost, c.project_serial.ensures.cost, bonds_are (g.P.Projector.width c.args.projector.now) c.args.colours.now.pairs c.args.colours.now.live)

@@ -5,6 +5,7 @@ use Rattle.pbd_step.specs.Projecting.{parallel_from}
 use Rattle.pbd_store.proofs.Fixed.{same_length}
 use Rattle.pbd_pair.proofs.Blocks.{weigh_same}
 use Rattle.pbd_step.proofs.InOrder.{batch_is, parallel_next, parallel_none, parts_length, none_so_far, more_so_far, stops_so_far, whole_so_far, room_so_far}
+use Rattle.pbd_step.proofs.Costing.{colour_paid, colours_left}
 use Rattle.pbd_step.proofs.bonds.project_colours.Goals as goal
 
 pub project-requires : goal.project-requires
@@ -27,8 +28,15 @@ returns-in-Err-clause-outcome g c =
     let parts : parallel_from pairs live c.loop-c.c ≡ c.batch.result.now ++ parallel_from pairs live (c.loop-c.c + 1) = rw c.batch.ensures.value (parallel_next pairs live c.loop-c.c (omega arith)) in
     stops_so_far _ _ parts inv.limit inv.so_far c.in-Err.left.element c.in-Err.ensures.outcome
 
+pub returns-in-Err-clause-cost : goal.returns-in-Err-clause-cost
+returns-in-Err-clause-cost g c =
+    let inv = c.loop-c.invariant in
+    let pairs = c.args.colours.now.pairs in
+    let live = c.args.colours.now.live in
+    omega (arith, inv.cost, c.project.ensures.cost, colour_paid pairs live c.loop-c.c c.batch.ensures.value inv.width, colours_left (g.P.Projector.width c.args.projector.now) pairs live c.loop-c.c (omega arith))
+
 pub loop-c-init : goal.loop-c-init
-loop-c-init g c = record { so_far = none_so_far _ _ _ _ _ c.requires.inside c.requires.counted; limit = refl; width = refl }
+loop-c-init g c = record { so_far = none_so_far _ _ _ _ _ c.requires.inside c.requires.counted; limit = refl; width = refl; cost = omega arith }
 
 pub loop-c-preserved : goal.loop-c-preserved
 loop-c-preserved g c =
@@ -40,6 +48,7 @@ loop-c-preserved g c =
       so_far = more_so_far c.batch.result.now (parallel_from pairs live (c.loop-c.c + 1)) parts inv.limit inv.so_far (motion_of c.project.new.store c.project.new.totals) _ c.in_default.ensures.outcome c.project.ensures.fixed c.in_default.ensures.inside c.in_default.ensures.room c.project.ensures.handed;
       limit = c.project.ensures.limit ∙ inv.limit;
       width = c.project.ensures.width ∙ inv.width;
+      cost = omega (arith, inv.cost, c.project.ensures.cost, colour_paid pairs live c.loop-c.c c.batch.ensures.value inv.width, colours_left (g.P.Projector.width c.args.projector.now) pairs live c.loop-c.c (omega arith));
     }
 
 pub returns-clause-outcome : goal.returns-clause-outcome
@@ -50,3 +59,6 @@ returns-clause-room g c = (whole_so_far c.loop-c.invariant.so_far (parallel_none
 
 pub returns-clause-handed : goal.returns-clause-handed
 returns-clause-handed g c = (whole_so_far c.loop-c.invariant.so_far (parallel_none c.args.colours.now.pairs c.args.colours.now.live c.loop-c.c (omega arith))).count
+
+pub returns-clause-cost : goal.returns-clause-cost
+returns-clause-cost g c = omega (arith, c.loop-c.invariant.cost)

@@ -1,4 +1,5 @@
-use Rattle.std.proofs.Common.{◌≡◌}
+use Rattle.std.proofs.Common.{◌≡◌, ◌+◌, ◌-◌, ◌≤◌}
+use Rattle.pbd_world.specs.Work.{colours_work}
 use Rattle.pbd_store.specs.Moving.{motion_of}
 use Rattle.pbd_pair.specs.Bonds.{bond_of}
 use Rattle.pbd_step.specs.Projecting.{parallel_from}
@@ -11,4 +12,6 @@ invariant-loop-c g l = record {
       (motion_of l.initial.store l.initial.totals) (motion_of l.store l.totals) (g.P.Projector.count l.initial.projector) (g.P.Projector.count l.projector);
   limit : l.store.limit ≡ l.initial.store.limit;
   width : g.P.Projector.width l.projector ≡ g.P.Projector.width l.initial.projector;
+  cost : l.steps + colours_work (g.P.Projector.width l.initial.projector) l.colours.pairs l.colours.live l.c (63 - l.c)
+      ≤ l.initial.steps + colours_work (g.P.Projector.width l.initial.projector) l.colours.pairs l.colours.live 0 63;
 }

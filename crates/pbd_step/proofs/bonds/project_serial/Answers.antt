@@ -5,6 +5,7 @@ use Rattle.pbd_colour.specs.Pairs.{batch_of}
 use Rattle.pbd_store.proofs.Fixed.{same_length}
 use Rattle.pbd_pair.proofs.Blocks.{weigh_same}
 use Rattle.pbd_step.proofs.InOrder.{single_is, serial_next, parts_length, more_so_far, whole_so_far, room_so_far}
+use Rattle.pbd_step.proofs.Costing.{one_paid}
 use Rattle.pbd_step.proofs.bonds.project_serial.Goals as goal
 
 pub project-requires : goal.project-requires
@@ -32,7 +33,14 @@ loop-n-preserved g c =
       so_far = more_so_far (get_or c.serial-n-items.result.now c.loop-n.n-index 0 ∷ []) (drop (c.loop-n.n-index + 1) numbers) parts inv.limit inv.so_far (motion_of c.project.new.store c.project.new.totals) _ c.in_default.ensures.outcome c.project.ensures.fixed c.in_default.ensures.inside c.in_default.ensures.room c.project.ensures.handed;
       limit = c.project.ensures.limit ∙ inv.limit;
       width = c.project.ensures.width ∙ inv.width;
+      cost = omega (arith, inv.cost, c.project.ensures.cost, one_paid (g.P.Projector.width c.loop-n.projector) numbers c.loop-n.n-index within);
     }
 
 pub returns-clause-room : goal.returns-clause-room
 returns-clause-room g c = (whole_so_far c.loop-n.invariant.so_far (drop_of_length-le (batch_of c.args.colours.now.pairs c.args.colours.now.live 63) (rw (sym c.serial-n-items.ensures.value) (omega arith)))).grows
+
+pub returns-in-Err-clause-cost : goal.returns-in-Err-clause-cost
+returns-in-Err-clause-cost g c =
+    let numbers : List ℕ = batch_of c.args.colours.now.pairs c.args.colours.now.live 63 in
+    let within : c.loop-n.n-index < length numbers = rw (sym c.serial-n-items.ensures.value) (omega arith) in
+    omega (arith, c.loop-n.invariant.cost, c.project.ensures.cost, one_paid (g.P.Projector.width c.loop-n.projector) numbers c.loop-n.n-index within)

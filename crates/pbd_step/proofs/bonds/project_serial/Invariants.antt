@@ -1,4 +1,4 @@
-use Rattle.std.proofs.Common.{◌≡◌, drop}
+use Rattle.std.proofs.Common.{◌≡◌, ◌+◌, ◌*◌, ◌≤◌, drop, length}
 use Rattle.pbd_store.specs.Moving.{motion_of}
 use Rattle.pbd_colour.specs.Pairs.{batch_of}
 use Rattle.pbd_pair.specs.Bonds.{bond_of}
@@ -11,4 +11,5 @@ invariant-loop-n g l = record {
       (motion_of l.initial.store l.initial.totals) (motion_of l.store l.totals) (g.P.Projector.count l.initial.projector) (g.P.Projector.count l.projector);
   limit : l.store.limit ≡ l.initial.store.limit;
   width : g.P.Projector.width l.projector ≡ g.P.Projector.width l.initial.projector;
+  cost : l.steps + 4 * length (drop l.n-index (batch_of l.colours.pairs l.colours.live 63)) ≤ l.initial.steps + 4 * length (batch_of l.colours.pairs l.colours.live 63);
 }

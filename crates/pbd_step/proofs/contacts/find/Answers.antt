@@ -4,6 +4,7 @@ use Rattle.std.proofs.lemmas.Int.{to_z-of_z}
 use Rattle.pbd_self.specs.Touching.{Found}
 use Rattle.pbd_step.specs.States.{world_of}
 use Rattle.pbd_step.proofs.Finding.{thickness_range, places_inside}
+use Rattle.pbd_step.proofs.Costing.{looked_at}
 use Rattle.pbd_step.proofs.contacts.find.Goals as goal
 
 pub detect-requires : goal.detect-requires
@@ -33,3 +34,15 @@ returns-in-Err-clause-full g c =
     let full = simp to_z-of_z at c.in-Err.ensures.full in
     let same = c.touching_pairs_are_contacts.ensures c.args.setting.now.thickness c.args.run.now.state.links.items c.args.run.now.state.store.particles c.args.run.now.colours c.requires.going.links.pairs c.requires.going.links.live in
     (subst (λ (pairs : List (ℕ × ℕ)). 262144 < length pairs) same full, refl)
+
+pub returns-in-Ok-clause-cost : goal.returns-in-Ok-clause-cost
+returns-in-Ok-clause-cost g c =
+    let f : FitsSigned w64 c.args.setting.now.thickness = search rules in
+    let free = simp to_z-of_z at c.detect.ensures.free in
+    looked_at (world_of c.args.setting.now c.args.run.now.state) c.args.steps.now c.detect.new.steps c.requires.going.space.found c.detect.ensures.cost free
+
+pub returns-in-Err-clause-cost : goal.returns-in-Err-clause-cost
+returns-in-Err-clause-cost g c =
+    let f : FitsSigned w64 c.args.setting.now.thickness = search rules in
+    let free = simp to_z-of_z at c.detect.ensures.free in
+    looked_at (world_of c.args.setting.now c.args.run.now.state) c.args.steps.now c.detect.new.steps c.requires.going.space.found c.detect.ensures.cost free

@@ -1,12 +1,13 @@
-use Rattle.std.proofs.Common.{◌≡◌, ◌+◌, ◌-◌, ◌^◌, ℕ, min, length, OnOk, MatchResult, Ok, Err, FitsSigned, to_z, of_z, w64, arith, refl, sym, ap, ◌∙◌, subst}
+use Rattle.std.proofs.Common.{◌≡◌, ◌+◌, ◌-◌, ◌^◌, ◌≤◌, ℕ, min, length, OnOk, MatchResult, Ok, Err, FitsSigned, to_z, of_z, w64, arith, refl, sym, ap, ◌∙◌, subst}
 use Rattle.std.proofs.lemmas.Int.{to_z-of_z}
 use Rattle.pbd_world.specs.Bonds.{projected, contact_bond}
 use Rattle.pbd_world.specs.Colours.{order}
+use Rattle.pbd_world.specs.Work.{bonds_work}
 use Rattle.pbd_store.specs.Moving.{motion_of}
 use Rattle.pbd_colour.specs.Pairs.{InRange}
 use Rattle.pbd_pair.specs.declared.bonds.Bonds.TheVariants.{Contacts}
 use Rattle.pbd_step.specs.Projecting.{AreBondsOf}
-use Rattle.pbd_step.proofs.Counting.{contacts_count}
+use Rattle.pbd_world.proofs.OrderCounts.{contacts_count}
 use Rattle.pbd_step.proofs.Staying.{part_in_pass}
 use Rattle.pbd_step.proofs.UnderWay.{contact_bonds, ok_both, still_movable}
 use Rattle.pbd_step.proofs.pass.project_contacts.Goals as goal
@@ -54,3 +55,7 @@ returns-clause-handed g c =
     let after = g.P.Projector.count c.project_all.new.projector in
     let same : length (order c.colouring.result.now.pairs c.colouring.result.now.live) ≡ length c.args.run.now.tools.found.pairs = (λ i. length (order (c.colouring.ensures.pairs i) (c.colouring.ensures.live i))) ∙ contacts_count c.args.run.now.tools.found.pairs in
     subst (λ (k : ℕ). OnOk c.project_all.result (after ≡ min (before + k) (2 ^ 64 - 1))) same c.project_all.ensures.handed
+
+pub returns-clause-cost : goal.returns-clause-cost
+returns-clause-cost g c =
+    coe 0 1 (i. c.project_all.new.steps ≤ c.args.steps.now + bonds_work (g.P.Projector.width c.args.run.now.projector) (c.colouring.ensures.pairs i) (c.colouring.ensures.live i)) c.project_all.ensures.cost

@@ -1,6 +1,8 @@
-use Rattle.std.proofs.Common.{◌≡◌, ◌+◌, ◌-◌, ◌*◌, ◌^◌, ℕ, min, List, length, arith, sym, ap, ◌∙◌}
+use Rattle.std.proofs.Common.{◌≡◌, ◌+◌, ◌-◌, ◌*◌, ◌^◌, ◌≤◌, ℕ, min, List, length, arith, sym, ap, ◌∙◌}
+use Rattle.std.proofs.Math.Nat.{mul-le-mul_right}
 use Rattle.pbd_world.specs.Ledger.{ledger_of}
 use Rattle.pbd_world.specs.Step.{Passing, pass}
+use Rattle.pbd_world.specs.Work.{pass_work}
 use Rattle.pbd_world.specs.World.{World, live_count}
 use Rattle.pbd_step.specs.declared.state.State.{State}
 use Rattle.pbd_step.specs.declared.state.Tools.{Tools}
@@ -9,6 +11,7 @@ use Rattle.pbd_step.specs.Staying.{passing_of}
 use Rattle.pbd_step.proofs.Passes.{same_pass, pass_on, pass_out, passes_done, passes_begin, counts_on}
 use Rattle.pbd_step.proofs.Staying.{none_in_pass, both_in_pass, pass_goes}
 use Rattle.pbd_step.proofs.UnderWay.{moved_world, more_under_way, passes_few}
+use Rattle.pbd_step.proofs.Costing.{pass_same}
 use Rattle.pbd_step.proofs.pass.project_in_passes.Goals as goal
 
 pub loop-init : goal.loop-init
@@ -19,6 +22,7 @@ loop-init g c =
       stays = none_in_pass run;
       under_way = more_under_way _ (omega arith) c.requires.going.under_way;
       rest = passes_begin (pass (world_of c.args.setting.now run.state) run.tools.found.pairs) c.args.setting.now.passes (passing_of run);
+      cost = omega arith;
       handed = omega (arith, c.counts.ensures);
     }
 
@@ -64,11 +68,14 @@ loop-preserved g c =
     let before : ℕ = g.P.Projector.count c.args.run.now.projector in
     let given : ℕ = g.P.Projector.count c.loop.run.projector in
     let next : ℕ = g.P.Projector.count c.project_once.new.run.projector in
+    let moved = moved_world c.args.setting.now old now stays.moved.same stays.moved.limit in
+    let paid = pass_same g.row.L w v now.store.particles (ledger_of now.totals) moved stays.moved.whole stays.width found in
     record {
       within = omega arith;
       stays = both_in_pass c.args.run.now c.loop.run c.project_once.new.run stays c.project_once.ensures.stays;
       under_way = more_under_way _ (omega arith) (c.in_default.ensures.under_way (2 ^ 100 + i * 2 ^ 62) inv.under_way);
       rest = pass_on (pass w pairs) c.args.setting.now.passes i (omega arith) s t (sym same ∙ c.in_default.ensures.outcome) ∙ inv.rest;
+      cost = omega (arith, inv.cost, c.project_once.ensures.cost, paid);
       handed = counts_on before given next k i inv.handed (c.in_default.ensures.handed ∙ (λ i. min (given + (links i + length (found i))) (2 ^ 64 - 1)));
     }
 
@@ -87,3 +94,23 @@ returns-clause-handed g c =
     let all : c.loop.counter ≡ c.args.setting.now.passes = omega (arith, c.loop.invariant.within) in
     let k : ℕ = live_count c.args.run.now.state.links.items + length c.args.run.now.tools.found.pairs in
     c.loop.invariant.handed ∙ ap (λ (n : ℕ). min (g.P.Projector.count c.args.run.now.projector + n * k) (2 ^ 64 - 1)) all
+
+pub returns-in-Err-clause-cost : goal.returns-in-Err-clause-cost
+returns-in-Err-clause-cost g c =
+    let stays = c.loop.invariant.stays in
+    let old : State g.row.L = c.args.run.now.state in
+    let now : State g.row.L = c.loop.run.state in
+    let w : World = world_of c.args.setting.now old in
+    let pairs = c.args.run.now.tools.found.pairs in
+    let found : c.loop.run.tools.found.pairs ≡ pairs = ap (λ (t : Tools). t.found.pairs) stays.tools in
+    let moved = moved_world c.args.setting.now old now stays.moved.same stays.moved.limit in
+    let paid = pass_same g.row.L w (world_of c.args.setting.now now) now.store.particles (ledger_of now.totals) moved stays.moved.whole stays.width found in
+    let one : ℕ = pass_work g.row.L (g.P.Projector.width c.args.run.now.projector) w pairs in
+    let more : (c.loop.counter + 1) * one ≤ c.args.setting.now.passes * one = mul-le-mul_right {m = c.loop.counter + 1} one (omega arith) in
+    omega (arith, c.loop.invariant.cost, c.project_once.ensures.cost, paid, more)
+
+pub returns-clause-cost : goal.returns-clause-cost
+returns-clause-cost g c =
+    let one : ℕ = pass_work g.row.L (g.P.Projector.width c.args.run.now.projector) (world_of c.args.setting.now c.args.run.now.state) c.args.run.now.tools.found.pairs in
+    let all : c.loop.counter * one ≤ c.args.setting.now.passes * one = mul-le-mul_right {m = c.loop.counter} one c.loop.invariant.within in
+    omega (arith, c.loop.invariant.cost, all)

@@ -1,6 +1,7 @@
 use Rattle.std.proofs.Common.{◌≡◌, ◌+◌, ◌-◌, ◌*◌, ◌^◌, ◌≤◌, min, length}
 use Rattle.pbd_world.specs.Outcomes.{repeated}
 use Rattle.pbd_world.specs.Step.{pass}
+use Rattle.pbd_world.specs.Work.{pass_work}
 use Rattle.pbd_world.specs.World.{live_count}
 use Rattle.pbd_step.specs.States.{world_of, IsUnderWay}
 use Rattle.pbd_step.specs.Staying.{StaysInPass, passing_of}
@@ -13,5 +14,6 @@ invariant-loop g l = record {
   under_way : IsUnderWay (2 ^ 100 + l.counter * 2 ^ 62) (world_of l.setting l.run.state);
   rest : repeated (l.setting.passes - l.counter) (pass (world_of l.setting l.initial.run.state) l.initial.run.tools.found.pairs) (passing_of l.run)
       ≡ repeated l.setting.passes (pass (world_of l.setting l.initial.run.state) l.initial.run.tools.found.pairs) (passing_of l.initial.run);
+  cost : l.steps ≤ l.initial.steps + l.counter * pass_work g.row.L (g.P.Projector.width l.initial.run.projector) (world_of l.setting l.initial.run.state) l.initial.run.tools.found.pairs;
   handed : g.P.Projector.count l.run.projector ≡ min (g.P.Projector.count l.initial.run.projector + l.counter * (live_count l.initial.run.state.links.items + length l.initial.run.tools.found.pairs)) (2 ^ 64 - 1);
 }

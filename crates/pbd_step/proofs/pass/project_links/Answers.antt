@@ -1,15 +1,16 @@
-use Rattle.std.proofs.Common.{◌≡◌, ◌+◌, ◌-◌, ◌^◌, ℕ, min, length, List, OnOk, MatchResult, Ok, Err, IsTrue, arith, refl, sym, ap, ◌∙◌, subst}
+use Rattle.std.proofs.Common.{◌≡◌, ◌+◌, ◌-◌, ◌^◌, ◌≤◌, ℕ, min, length, List, OnOk, MatchResult, Ok, Err, IsTrue, arith, refl, sym, ap, ◌∙◌, subst}
 use Rattle.pbd_world.specs.declared.parts.Link.{Link}
 use Rattle.pbd_world.specs.Bonds.{projected, link_bond}
 use Rattle.pbd_world.specs.Colours.{order}
 use Rattle.pbd_world.specs.Contacts.{link_pairs}
 use Rattle.pbd_world.specs.Valid.{are_valid_links}
+use Rattle.pbd_world.specs.Work.{bonds_work}
 use Rattle.pbd_world.specs.World.{live_count}
 use Rattle.pbd_store.specs.Moving.{motion_of}
 use Rattle.pbd_pair.specs.declared.bonds.Bonds.{Bonds}
 use Rattle.pbd_pair.specs.declared.bonds.Bonds.TheVariants.{Links}
 use Rattle.pbd_step.specs.Projecting.{AreBondsOf}
-use Rattle.pbd_step.proofs.Counting.{links_count}
+use Rattle.pbd_world.proofs.OrderCounts.{links_count}
 use Rattle.pbd_step.proofs.Staying.{part_in_pass}
 use Rattle.pbd_step.proofs.UnderWay.{link_bonds, few_links, ok_both, still_movable}
 use Rattle.pbd_step.proofs.pass.project_links.Goals as goal
@@ -58,3 +59,8 @@ returns-clause-handed g c =
     let after = g.P.Projector.count c.project_all.new.projector in
     let same : length (order colours.pairs colours.live) ≡ live_count links = (λ i. length (order (has.pairs i) (has.live i))) ∙ links_count links in
     subst (λ (k : ℕ). OnOk c.project_all.result (after ≡ min (before + k) (2 ^ 64 - 1))) same c.project_all.ensures.handed
+
+pub returns-clause-cost : goal.returns-clause-cost
+returns-clause-cost g c =
+    let has = c.requires.links in
+    coe 0 1 (i. c.project_all.new.steps ≤ c.args.steps.now + bonds_work (g.P.Projector.width c.args.run.now.projector) (has.pairs i) (has.live i)) c.project_all.ensures.cost

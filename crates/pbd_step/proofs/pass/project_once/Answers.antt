@@ -4,7 +4,11 @@ use Rattle.pbd_world.specs.Ledger.{ledger_of, HaveRoom}
 use Rattle.pbd_world.specs.Step.{Passing, contact_part}
 use Rattle.pbd_world.specs.Valid.{is_limit, is_between, are_valid_planes, are_valid_spheres}
 use Rattle.pbd_world.specs.World.{World, parts_of}
+use Rattle.pbd_world.specs.Work.{contacts_work, shapes_work}
+use Rattle.pbd_world.proofs.WorkLemmas.{pass_is}
 use Rattle.pbd_world.proofs.WorldParts.{formed}
+use Rattle.pbd_store.specs.Blocks.{blocks_of}
+use Rattle.pbd_shape.specs.Shaping.{push_cost}
 use Rattle.pbd_store.specs.Moving.{AreInside}
 use Rattle.pbd_world.proofs.Rooms.{room_at}
 use Rattle.pbd_step.specs.declared.state.State.{State}
@@ -151,3 +155,41 @@ returns-clause-under_way g c = λ n u.
 pub returns-clause-handed : goal.returns-clause-handed
 returns-clause-handed g c =
     omega (arith, c.in_default.ensures.handed, c.in_default-project_contacts.ensures.handed, ap (λ (t : Tools). length t.found.pairs) c.project_links.ensures.tools)
+
+-- ---- what it costs
+
+pub returns-in-Err-clause-cost : goal.returns-in-Err-clause-cost
+returns-in-Err-clause-cost g c =
+    omega (arith, c.project_links.ensures.cost, pass_is g.row.L (g.P.Projector.width c.args.run.now.projector) (world_of c.args.setting.now c.args.run.now.state) c.args.run.now.tools.found.pairs)
+
+pub returns-in-Err-project_contacts-clause-cost : goal.returns-in-Err-project_contacts-clause-cost
+returns-in-Err-project_contacts-clause-cost g c =
+    let lanes = g.P.Projector.width in
+    let run = c.args.run.now in
+    let contacts : contacts_work (lanes c.project_links.new.run.projector) c.project_links.new.run.tools.found.pairs ≡ contacts_work (lanes run.projector) run.tools.found.pairs =
+    λ i. contacts_work (c.project_links.ensures.stays.width i) (c.project_links.ensures.tools i).found.pairs in
+    omega (arith, c.project_links.ensures.cost, c.project_contacts.ensures.cost, contacts, pass_is g.row.L (lanes run.projector) (world_of c.args.setting.now run.state) run.tools.found.pairs)
+
+pub returns-in-Err-push_out-clause-cost : goal.returns-in-Err-push_out-clause-cost
+returns-in-Err-push_out-clause-cost g c =
+    let lanes = g.P.Projector.width in
+    let run = c.args.run.now in
+    let w : World = world_of c.args.setting.now run.state in
+    let two = c.project_contacts.new.run.state.store in
+    let contacts : contacts_work (lanes c.project_links.new.run.projector) c.project_links.new.run.tools.found.pairs ≡ contacts_work (lanes run.projector) run.tools.found.pairs =
+    λ i. contacts_work (c.project_links.ensures.stays.width i) (c.project_links.ensures.tools i).found.pairs in
+    let shapes : push_cost c.as_slice.result.now c.as_slice-2.result.now (blocks_of (length two.particles) g.row.L) ≡ shapes_work g.row.L w =
+    λ i. push_cost (c.as_slice.ensures i) (c.as_slice-2.ensures i) (blocks_of ((c.project_contacts.ensures.stays.moved.whole ∙ c.project_links.ensures.stays.moved.whole) i) g.row.L) in
+    omega (arith, c.project_links.ensures.cost, c.project_contacts.ensures.cost, c.push_out.ensures.cost, contacts, shapes, pass_is g.row.L (lanes run.projector) w run.tools.found.pairs)
+
+pub returns-clause-cost : goal.returns-clause-cost
+returns-clause-cost g c =
+    let lanes = g.P.Projector.width in
+    let run = c.args.run.now in
+    let w : World = world_of c.args.setting.now run.state in
+    let two = c.project_contacts.new.run.state.store in
+    let contacts : contacts_work (lanes c.project_links.new.run.projector) c.project_links.new.run.tools.found.pairs ≡ contacts_work (lanes run.projector) run.tools.found.pairs =
+    λ i. contacts_work (c.project_links.ensures.stays.width i) (c.project_links.ensures.tools i).found.pairs in
+    let shapes : push_cost c.as_slice.result.now c.as_slice-2.result.now (blocks_of (length two.particles) g.row.L) ≡ shapes_work g.row.L w =
+    λ i. push_cost (c.as_slice.ensures i) (c.as_slice-2.ensures i) (blocks_of ((c.project_contacts.ensures.stays.moved.whole ∙ c.project_links.ensures.stays.moved.whole) i) g.row.L) in
+    omega (arith, c.project_links.ensures.cost, c.project_contacts.ensures.cost, c.push_out.ensures.cost, contacts, shapes, pass_is g.row.L (lanes run.projector) w run.tools.found.pairs)

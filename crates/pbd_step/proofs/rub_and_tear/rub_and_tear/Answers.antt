@@ -2,7 +2,10 @@ use Rattle.std.proofs.Common.{◌∙◌, ◌≡◌, ◌+◌, ◌^◌, ℕ, List,
 use Rattle.std.proofs.lemmas.Int.{to_z-of_z}
 use Rattle.pbd_num.proofs.Sizes.{fits}
 use Rattle.pbd_world.specs.Step.{tear}
+use Rattle.pbd_world.specs.declared.parts.Link.{Link}
+use Rattle.pbd_world.specs.Work.{blocks_in, tearable_count}
 use Rattle.pbd_world.specs.World.{parts_of}
+use Rattle.pbd_world.proofs.WorkLemmas.{settling_is}
 use Rattle.pbd_world.proofs.WorldParts.{formed, numbers_of}
 use Rattle.pbd_colour.specs.Pairs.{Coloured, dropped}
 use Rattle.pbd_world.proofs.Rooms.{room_at}
@@ -13,6 +16,7 @@ use Rattle.pbd_step.specs.States.{world_of}
 use Rattle.pbd_step.specs.Settling.{LetGo}
 use Rattle.pbd_step.proofs.Mild.{formed_within, formed_friction}
 use Rattle.pbd_step.proofs.Settling.{let_go_tears, torn_live, torn_coloured, still_many}
+use Rattle.pbd_step.proofs.Costing.{rubs_less}
 use Rattle.pbd_step.proofs.rub_and_tear.rub_and_tear.Goals as goal
 
 pub rub-requires : goal.rub-requires
@@ -77,3 +81,11 @@ returns-clause-stays g c =
       not_fallen = omega arith;
       width = refl;
     }
+
+pub returns-clause-cost : goal.returns-clause-cost
+returns-clause-cost g c =
+    let w = world_of c.args.setting.now c.args.run.now.state in
+    let small = fits c.args.setting.now.friction (omega (arith, (numbers_of w (formed (parts_of w) c.requires.going.under_way.well_formed)).friction_high)) in
+    let rubbed = simp to_z-of_z at c.rub.ensures.cost in
+    let links : tearable_count c.deref.result.now ≡ tearable_count w.links = ap (λ (ls : List Link). tearable_count ls) c.deref.ensures.value in
+    omega (arith, rubbed, c.torn.ensures.cost, links, rubs_less w.friction c.args.run.now.tools.touched (blocks_in g.row.L w), settling_is g.row.L w)

@@ -1,13 +1,16 @@
 use Rattle.std.proofs.Common.{arith, sym, ap, ◌∙◌, subst, ℕ, length, List, Bool, Ok, Err}
 use Rattle.std.proofs.lemmas.List.{length-replicate}
 use Rattle.pbd_world.specs.Step.{settled, rub}
+use Rattle.pbd_world.specs.Ledger.{ledger_of}
 use Rattle.pbd_world.specs.World.{World}
+use Rattle.pbd_world.proofs.WorkLemmas.{finishing_is}
 use Rattle.pbd_step.specs.declared.state.Tools.{Tools}
 use Rattle.pbd_step.specs.States.{world_of, now_of, HasLinks}
 use Rattle.pbd_step.specs.Staying.{passing_of}
 use Rattle.pbd_step.proofs.Staying.{cleared, tools_go, tools_in_step, pass_in_step, both_in_step, pass_goes}
 use Rattle.pbd_step.proofs.Stepping.{no_flags, finished_is}
 use Rattle.pbd_step.proofs.UnderWay.{moved_world, more_under_way}
+use Rattle.pbd_step.proofs.Costing.{settling_same}
 use Rattle.pbd_step.proofs.step.finish.Goals as goal
 
 pub project_in_passes-requires : goal.project_in_passes-requires
@@ -68,3 +71,17 @@ returns-clause-contacts g c = ap (λ (w : World). w.contacts) c.rub_and_tear.ens
 
 pub returns-clause-handed : goal.returns-clause-handed
 returns-clause-handed g c = ap g.P.Projector.count c.rub_and_tear.ensures.projector ∙ c.in_default.ensures.handed
+
+pub returns-in-Err-clause-cost : goal.returns-in-Err-clause-cost
+returns-in-Err-clause-cost g c =
+    let run = c.args.run.now in
+    omega (arith, c.project_in_passes.ensures.cost, finishing_is g.row.L (g.P.Projector.width run.projector) (world_of c.args.setting.now run.state) run.tools.found.pairs)
+
+pub returns-clause-cost : goal.returns-clause-cost
+returns-clause-cost g c =
+    let run = c.args.run.now in
+    let w = world_of c.args.setting.now run.state in
+    let then = c.project_in_passes.new.run.state in
+    let stays = c.project_in_passes.ensures.stays in
+    let settled = settling_same g.row.L w (world_of c.args.setting.now then) then.store.particles (ledger_of then.totals) (moved_world c.args.setting.now run.state then stays.moved.same stays.moved.limit) stays.moved.whole in
+    omega (arith, c.project_in_passes.ensures.cost, c.rub_and_tear.ensures.cost, settled, finishing_is g.row.L (g.P.Projector.width run.projector) w run.tools.found.pairs)

@@ -1,6 +1,9 @@
 use Rattle.std.proofs.Common.{◌≡◌, ◌+◌, ◌-◌, ◌*◌, ◌^◌, min, arith, ap, sym, ◌∙◌, subst, ℕ, OnOk, length}
 use Rattle.pbd_world.specs.Step.{step}
+use Rattle.pbd_world.specs.Ledger.{ledger_of}
+use Rattle.pbd_world.specs.Work.{found_in}
 use Rattle.pbd_world.specs.World.{live_count}
+use Rattle.pbd_world.proofs.WorkLemmas.{step_is}
 use Rattle.pbd_step.specs.declared.state.State.{State}
 use Rattle.pbd_step.specs.declared.state.Running.{Running}
 use Rattle.pbd_step.specs.States.{world_of, now_of, HasLinks}
@@ -9,6 +12,7 @@ use Rattle.pbd_step.specs.Stepping.{finished}
 use Rattle.pbd_step.proofs.Staying.{move_in_step, tools_in_step, both_in_step, begun_goes, tools_go, refound}
 use Rattle.pbd_step.proofs.Stepping.{step_leaves, step_crowds, step_finishes, answers_so}
 use Rattle.pbd_step.proofs.UnderWay.{moved_world, more_under_way, ok_both}
+use Rattle.pbd_step.proofs.Costing.{finding_same, finishing_same, found_begun}
 use Rattle.pbd_step.proofs.step.step.Goals as goal
 
 pub find-requires : goal.find-requires
@@ -84,3 +88,34 @@ returns-clause-handed g c =
     ok_both c.finish.result (λ (contacts : c.finish.new.run.state.contacts ≡ length c.find.new.run.tools.found.pairs) (handed : count c.finish.new.run.projector ≡ min (count c.find.new.run.projector + c.args.setting.now.passes * (live_count c.find.new.run.state.links.items + length c.find.new.run.tools.found.pairs)) (2 ^ 64 - 1)).
     handed ∙ (λ i. min (given i + c.args.setting.now.passes * (links i + sym contacts i)) (2 ^ 64 - 1)))
     c.finish.ensures.contacts c.finish.ensures.handed
+
+pub returns-in-Err-clause-cost : goal.returns-in-Err-clause-cost
+returns-in-Err-clause-cost g c =
+    let w = world_of c.args.setting.now c.args.run.now.state in
+    omega (arith, c.begin.ensures.cost, step_is g.row.L (g.P.Projector.width c.args.run.now.projector) w (found_in w))
+
+pub returns-in-Err-find-clause-cost : goal.returns-in-Err-find-clause-cost
+returns-in-Err-find-clause-cost g c =
+    let setting = c.args.setting.now in
+    let w = world_of setting c.args.run.now.state in
+    let then = c.begin.new.state in
+    let moved = c.begin.ensures.moved in
+    let found = finding_same g.row.L w (world_of setting then) then.store.particles (ledger_of then.totals) (moved_world setting c.args.run.now.state then moved.same moved.limit) moved.whole in
+    omega (arith, c.begin.ensures.cost, c.find.ensures.cost, found, step_is g.row.L (g.P.Projector.width c.args.run.now.projector) w (found_in w))
+
+pub returns-clause-cost : goal.returns-clause-cost
+returns-clause-cost g c =
+    let setting = c.args.setting.now in
+    let lanes = g.P.Projector.width in
+    let run = c.args.run.now in
+    let w = world_of setting run.state in
+    let then = c.begin.new.state in
+    let moved = c.begin.ensures.moved in
+    let goes = moved_world setting run.state then moved.same moved.limit in
+    let begun : c.find.new.run.state ≡ then = ap (λ (r : Running g.row.L g.row.P.Denot). r.state) c.find.ensures.stays in
+    let width : lanes c.find.new.run.projector ≡ lanes run.projector = ap (λ (r : Running g.row.L g.row.P.Denot). lanes r.projector) c.find.ensures.stays in
+    let links : then.links.items ≡ w.links = ap (λ (s : State g.row.L). s.links.items) moved.same in
+    let pairs : c.find.new.run.tools.found.pairs ≡ found_in w = c.in_default-find.ensures.found ∙ sym (found_begun w (now_of then) then.links.items c.in_default.ensures.outcome links) in
+    let found = finding_same g.row.L w (world_of setting then) then.store.particles (ledger_of then.totals) goes moved.whole in
+    let finished = finishing_same g.row.L w (world_of setting c.find.new.run.state) then.store.particles (ledger_of then.totals) (ap (λ (s : State g.row.L). world_of setting s) begun ∙ goes) moved.whole width pairs in
+    omega (arith, c.begin.ensures.cost, c.find.ensures.cost, c.finish.ensures.cost, found, finished, step_is g.row.L (lanes run.projector) w (found_in w))

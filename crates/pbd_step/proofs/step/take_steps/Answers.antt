@@ -1,7 +1,9 @@
-use Rattle.std.proofs.Common.{arith, subst, ℕ}
+use Rattle.std.proofs.Common.{◌+◌, ◌≤◌, arith, subst, ℕ}
+use Rattle.pbd_world.specs.Work.{step_work, found_in}
 use Rattle.pbd_step.specs.States.{world_of, HasLinks}
 use Rattle.pbd_step.proofs.Running.{runs_none, runs_more, runs_out, runs_all, handed_none, handed_more, handed_all}
 use Rattle.pbd_step.proofs.Staying.{none_in_step, both_in_step, ready_on}
+use Rattle.pbd_step.proofs.Costing.{spent_none, spent_more, spent_out}
 use Rattle.pbd_step.proofs.step.take_steps.Goals as goal
 
 pub loop-i-init : goal.loop-i-init
@@ -10,6 +12,7 @@ loop-i-init g c =
     record {
       running = runs_none c.args.n (world_of c.args.setting.now run.state) c.requires.ready.sound;
       handed = handed_none c.args.n (world_of c.args.setting.now run.state) (g.P.Projector.count run.projector) (omega (arith, c.counts.ensures));
+      spent = spent_none g.row.L (g.P.Projector.width run.projector) c.args.n (world_of c.args.setting.now run.state) c.args.steps.now;
       links = c.requires.ready.links;
       stays = none_in_step run;
     }
@@ -33,9 +36,12 @@ loop-i-preserved g c =
     let next = world_of c.args.setting.now c.step.new.run.state in
     let inv = c.loop-i.invariant in
     let did = c.in_default.ensures in
+    let lanes : ℕ = g.P.Projector.width c.args.run.now.projector in
+    let paid : c.step.new.steps ≤ c.loop-i.steps + step_work g.row.L lanes now (found_in now) = subst (λ (k : ℕ). c.step.new.steps ≤ c.loop-i.steps + step_work g.row.L k now (found_in now)) inv.stays.width c.step.ensures.cost in
     record {
       running = runs_more c.args.n c.loop-i.i start now next c.loop-i-test.true c.requires.count inv.running did.outcome;
       handed = handed_more c.args.n c.loop-i.i start now next (g.P.Projector.count c.args.run.now.projector) (g.P.Projector.count c.loop-i.run.projector) (g.P.Projector.count c.step.new.run.projector) c.loop-i-test.true did.outcome inv.handed did.handed;
+      spent = spent_more g.row.L lanes c.args.n c.loop-i.i start now next c.args.steps.now c.loop-i.steps c.step.new.steps c.loop-i-test.true did.outcome inv.spent paid;
       links = subst (λ (n : ℕ). HasLinks n c.step.new.run.state.links.items c.step.new.run.colours) inv.stays.alike.particles did.links;
       stays = both_in_step c.args.run.now c.loop-i.run c.step.new.run inv.stays did.stays;
     }
@@ -52,3 +58,15 @@ returns-clause-ready g c =
 pub returns-clause-handed : goal.returns-clause-handed
 returns-clause-handed g c =
     handed_all c.args.n c.loop-i.i (world_of c.args.setting.now c.args.run.now.state) (world_of c.args.setting.now c.loop-i.run.state) (g.P.Projector.count c.args.run.now.projector) (g.P.Projector.count c.loop-i.run.projector) (omega (arith, c.loop-i-test.false)) c.loop-i.invariant.handed
+
+pub returns-in-Err-clause-cost : goal.returns-in-Err-clause-cost
+returns-in-Err-clause-cost g c =
+    let start = world_of c.args.setting.now c.args.run.now.state in
+    let now = world_of c.args.setting.now c.loop-i.run.state in
+    let inv = c.loop-i.invariant in
+    let lanes : ℕ = g.P.Projector.width c.args.run.now.projector in
+    let paid : c.step.new.steps ≤ c.loop-i.steps + step_work g.row.L lanes now (found_in now) = subst (λ (k : ℕ). c.step.new.steps ≤ c.loop-i.steps + step_work g.row.L k now (found_in now)) inv.stays.width c.step.ensures.cost in
+    spent_out g.row.L lanes c.args.n c.loop-i.i start now c.args.steps.now c.loop-i.steps c.step.new.steps c.loop-i-test.true inv.spent paid
+
+pub returns-clause-cost : goal.returns-clause-cost
+returns-clause-cost g c = omega (arith, c.loop-i.invariant.spent)

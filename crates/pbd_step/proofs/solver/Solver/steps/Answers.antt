@@ -1,11 +1,13 @@
 use Rattle.std.proofs.Common.{sym, ap, ◌∙◌, arith, subst}
 use Rattle.pbd_world.specs.declared.command.Command.TheVariants as commands
 use Rattle.pbd_world.specs.Meaning.{run_steps, steps_of}
+use Rattle.pbd_world.specs.Work.{steps_work}
 use Rattle.pbd_world.specs.World.{World, AreOfOneScene}
 use Rattle.pbd_step.specs.States.{world_of}
 use Rattle.pbd_step.specs.Solving.{Solved}
 use Rattle.pbd_step.proofs.Stepping.{answers_so}
 use Rattle.pbd_step.proofs.Keeping.{obeyed, steps_mean, run_goes}
+use Rattle.pbd_step.proofs.Costing.{steps_paid}
 use Rattle.pbd_step.proofs.solver.Solver.steps.Goals as goal
 
 pub returns-clause-outcome : goal.returns-clause-outcome
@@ -21,3 +23,12 @@ returns-clause-one_scene g c =
     let told = answers_so c.run_whole.result (run_steps (world_of c.self.inside.setting c.self.inside.run.state) c.args.n) (world_of c.self.inside.setting c.run_whole.new.run.state) (steps_of c.args.n (world_of c.self.inside.setting c.self.inside.run.state)) goes c.run_whole.ensures.obeys.outcome in
     let led = obeyed {S = World} {world = λ v. v} {r = c.run_whole.result} {meant = run_steps (world_of c.self.inside.setting c.self.inside.run.state) c.args.n} {old = world_of c.self.inside.setting c.self.inside.run.state} {new = world_of c.self.inside.setting c.run_whole.new.run.state} (commands.Step c.args.n) (record { outcome = told; kept = c.run_whole.ensures.obeys.kept }) c.self.invariant.sound (steps_mean (world_of c.self.inside.setting c.self.inside.run.state) c.args.n) in
     subst (λ (v : World). AreOfOneScene v (world_of c.self.inside.setting c.run_whole.new.run.state)) seen led.1
+
+pub returns-clause-cost : goal.returns-clause-cost
+returns-clause-cost g c =
+    let run = c.self.inside.run in
+    let w = world_of c.self.inside.setting run.state in
+    let lanes = g.P.Projector.width in
+    let goes = steps_paid g.row.L (lanes run.projector) w c.args.n (omega (arith, c.if-n-lt1.false)) (omega (arith, c.if-n-gt-MOST_STEPS.false)) (omega (arith, c.from.ensures, c.if-from-count.false)) in
+    let seen = ap (λ (s : Solved g.row.P.Denot). steps_work g.row.L (lanes s.projector) c.args.n s.world) c.self.view_is in
+    omega (arith, c.run_whole.ensures.cost, goes, seen)

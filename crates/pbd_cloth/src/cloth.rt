@@ -1,0 +1,151 @@
+//! A session with slots.
+ghost use Rattle.std.specs.Prelude.{◌≡◌, ◌<◌, ◌≤◌, length, replicate, slice_set, IfOk, IsTrue};
+ghost use Rattle.pbd_world.specs.Meaning.{after, reply};
+ghost use Rattle.pbd_world.specs.Replay.{frame_sums};
+ghost use Rattle.pbd_world.specs.Session.{is_refused};
+ghost use Rattle.pbd_world.specs.World.{opened, AreOfOneScene, IsSound};
+ghost use Rattle.pbd_cloth.specs.Slots.{begun, played, saved, restored, AreSlots};
+
+use pbd_pair::LaneProjector;
+use pbd_session::Session;
+use pbd_step::Saved;
+use pbd_store::Steps;
+use pbd_world::{Command, FrameSums, Reply, Scene, refused_commands_change_nothing};
+use std::alloc::{AllocError, Global};
+use std::marker::{Brand, Model};
+use std::sync::ledger::{Blank, Ledger};
+
+/// How many bonds are projected side by side. What a cloth does is the same at every width.
+pub const LANES: usize = 8;
+
+/// How many slots there can be.
+pub const MOST_SLOTS: u32 = 16;
+
+/// A session, and slots that each keep a whole world of its scene. Only opening takes memory.
+///
+/// Clauses see the world, and the list of the worlds in the slots.
+#[derive(Drop)]
+pub struct Cloth {
+    pub(crate) playing: Session<LANES, LaneProjector<LANES>>,
+    pub(crate) kept: Vec<Saved<LANES>>,
+}
+
+impl Model for Cloth {
+    ghost use Rattle.pbd_cloth.specs.Slots.{Slotted, AreSlots};
+
+    ghost Value = { Slotted };
+
+    ghost view = { λ c. record { world = c.playing; slots = c.kept.items } };
+
+    ghost invariant = { λ c. AreSlots c.playing c.kept.items };
+}
+
+impl Cloth {
+    /// The world of a scene before its first command, which is in each of up to 16 slots too. The only call that takes
+    /// memory.
+    pub fn open(alloc: Global, scene: &Scene, slots: u32) -> Result<Cloth, AllocError>
+        requires { slots ≤ 16 }
+        ensures { IfOk result (λ cloth. cloth ≡ begun (opened scene.now) slots) }
+    {
+        let kept = open_slots(alloc, scene, slots)?;
+        match Session::open(alloc, scene, LaneProjector::<LANES>::new()) {
+            Ok(playing) => Ok(Cloth { playing, kept }),
+            Err(AllocError) => {
+                drop(kept);
+                Err(AllocError)
+            }
+        }
+    }
+
+    /// Does a command. It changes no slot, and a refused one changes nothing.
+    pub fn apply(&mut self, command: &Command) -> Reply
+        ensures reply { result ≡ reply self.old.world command.now }
+        ensures cloth { self.new ≡ played self.old command.now }
+        ensures kept { IsTrue (is_refused result) → self.new ≡ self.old }
+    {
+        refused_commands_change_nothing();
+        apply_counted::<Brand>(Blank::new(1), &mut self.playing, command)
+    }
+
+    /// Keeps the world in a slot, and changes no other slot.
+    pub fn save(&mut self, slot: u32)
+        requires { slot < length self.old.slots }
+        ensures { self.new ≡ saved self.old slot }
+    {
+        keep(&mut self.kept, slot as usize, &self.playing);
+    }
+
+    /// Goes back to the world in a slot, and changes no slot.
+    pub fn restore(&mut self, slot: u32)
+        requires { slot < length self.old.slots }
+        ensures { self.new ≡ restored self.old slot }
+    {
+        go_back(&mut self.playing, &self.kept[slot as usize]);
+    }
+
+    /// What a log keeps of the world: counts, and the sums of the places over all particles.
+    pub fn sums(&self) -> FrameSums
+        ensures { result ≡ frame_sums self.now.world }
+    {
+        sums_counted::<Brand>(Blank::new(1), &self.playing)
+    }
+}
+
+/// So many slots with the world of a scene before its first command.
+fn open_slots(alloc: Global, scene: &Scene, n: u32) -> Result<Vec<Saved<LANES>>, AllocError>
+    ensures { IfOk result (λ kept. kept.items ≡ replicate n (opened scene.now)) }
+{
+    let mut kept = Vec::new(alloc);
+    for _ in 0..n {
+        let saved = Saved::open(alloc, scene)?;
+        kept.push(saved)?;
+    }
+    Ok(kept)
+}
+
+// Does a command with a count of its own, which nobody sees.
+fn apply_counted<G: Ledger>(
+    blank: Blank,
+    playing: &mut Session<LANES, LaneProjector<LANES>>,
+    command: &Command,
+) -> Reply
+    requires name { blank.name ≡ G.name }
+    requires parts { blank.parts ≡ G.parts }
+    requires some { 0 < blank.parts }
+    ensures reply { result ≡ reply playing.old command.now }
+    ensures world { playing.new ≡ after playing.old command.now }
+    ensures sound { IsSound playing.new }
+    ensures one_scene { AreOfOneScene playing.old playing.new }
+{
+    let mut steps: Steps<G> = Steps::open(blank);
+    playing.apply(command, &mut steps)
+}
+
+fn sums_counted<G: Ledger>(
+    blank: Blank,
+    playing: &Session<LANES, LaneProjector<LANES>>,
+) -> FrameSums
+    requires name { blank.name ≡ G.name }
+    requires parts { blank.parts ≡ G.parts }
+    requires some { 0 < blank.parts }
+    ensures { result ≡ frame_sums playing.now }
+{
+    let mut steps: Steps<G> = Steps::open(blank);
+    playing.frame_sums(&mut steps)
+}
+
+fn keep(kept: &mut Vec<Saved<LANES>>, slot: usize, playing: &Session<LANES, LaneProjector<LANES>>)
+    requires within { slot < length kept.old.items }
+    requires slots { AreSlots playing.now kept.old.items }
+    ensures { kept.new.items ≡ slice_set kept.old.items slot playing.now }
+{
+    kept[slot].keep(playing.solver());
+}
+
+fn go_back(playing: &mut Session<LANES, LaneProjector<LANES>>, saved: &Saved<LANES>)
+    requires { AreOfOneScene playing.old saved.now }
+    ensures world { playing.new ≡ saved.now }
+    ensures sound { IsSound playing.new }
+{
+    playing.solver_mut().go_back(saved);
+}

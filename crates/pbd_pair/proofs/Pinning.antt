@@ -1,0 +1,101 @@
+-- What a block moves whose free ends move oppositely.
+use Rattle.std.proofs.Common.{◌≡◌, ℕ, zero, suc, ◌<◌, ℤ, pos, neg_ℤ, ◌+ℤ◌, List, Bool, true, false, not, refl, ap, sym, ◌∙◌, arith}
+use Rattle.std.proofs.lemmas.Int.{ints}
+use Rattle.std.proofs.lemmas.Bool.{cond-true}
+use Rattle.pbd_num.specs.declared.Vec3.{Vec3}
+use Rattle.pbd_num.specs.Vectors.{plus, opposite, zero_vector}
+use Rattle.pbd_world.specs.declared.bond.Shift.{Shift}
+use Rattle.pbd_world.specs.declared.totals.Class.{Class}
+use Rattle.pbd_world.specs.declared.totals.Class.TheVariants as classes
+use Rattle.pbd_world.specs.Ledger.{Sum, Ledger, Entry, sum_plus, added, booked}
+use Rattle.pbd_world.specs.Bonds.{entries_of}
+use Rattle.pbd_lanes.specs.Lane.{sum_below}
+use Rattle.pbd_pair.specs.Lanes.{settled, Opposed}
+
+then_both : (s v w : ℤ) → (s +ℤ v) +ℤ w ≡ s +ℤ (v +ℤ w)
+then_both s v w = omega (arith, ints)
+
+then_none : (s : ℤ) → s +ℤ pos 0 ≡ s
+then_none s = omega (arith, ints)
+
+none_left : (s v : ℤ) → (s +ℤ neg_ℤ v) +ℤ v ≡ s
+none_left s v = omega (arith, ints)
+
+sum_then : (s : Sum) (v w : Vec3) → sum_plus (sum_plus s v) w ≡ sum_plus s (plus v w)
+sum_then s v w = λ i. record { x = then_both s.x v.x w.x i; y = then_both s.y v.y w.y i; z = then_both s.z v.z w.z i }
+
+sum_none : (s : Sum) → sum_plus s zero_vector ≡ s
+sum_none s = λ i. record { x = then_none s.x i; y = then_none s.y i; z = then_none s.z i }
+
+sum_left : (s : Sum) (v : Vec3) → sum_plus (sum_plus s (opposite v)) v ≡ s
+sum_left s v = λ i. record { x = none_left s.x v.x i; y = none_left s.y v.y i; z = none_left s.z v.z i }
+
+-- opposite moves of one class
+nothing_left : (t : Ledger) (class : Class) (v : Vec3) → added (added t class (opposite v)) class v ≡ t
+nothing_left t classes.Gravity v = ap (λ (s : Sum). record t { gravity = s }) (sum_left t.gravity v)
+nothing_left t classes.Damping v = ap (λ (s : Sum). record t { damping = s }) (sum_left t.damping v)
+nothing_left t classes.Link v = ap (λ (s : Sum). record t { link = s }) (sum_left t.link v)
+nothing_left t classes.Contact v = ap (λ (s : Sum). record t { contact = s }) (sum_left t.contact v)
+nothing_left t classes.Pin v = ap (λ (s : Sum). record t { pin = s }) (sum_left t.pin v)
+nothing_left t classes.Shape v = ap (λ (s : Sum). record t { shape = s }) (sum_left t.shape v)
+
+plus_opposite : (s v : Vec3) → plus s (plus (opposite v) v) ≡ s
+plus_opposite s v = λ i. record { x = back s.x v.x i; y = back s.y v.y i; z = back s.z v.z i } where
+  back : (a b : ℤ) → a +ℤ (neg_ℤ b +ℤ b) ≡ a
+  back a b = omega (arith, ints)
+
+first_alone : (s v : Vec3) → plus s (plus v zero_vector) ≡ plus s v
+first_alone s v = λ i. record { x = back s.x v.x i; y = back s.y v.y i; z = back s.z v.z i } where
+  back : (a b : ℤ) → a +ℤ (b +ℤ pos 0) ≡ a +ℤ b
+  back a b = omega (arith, ints)
+
+second_alone : (s v : Vec3) → plus s (plus zero_vector v) ≡ plus s v
+second_alone s v = λ i. record { x = back s.x v.x i; y = back s.y v.y i; z = back s.z v.z i } where
+  back : (a b : ℤ) → a +ℤ (pos 0 +ℤ b) ≡ a +ℤ b
+  back a b = omega (arith, ints)
+
+both_none : (s : Vec3) → plus s (plus zero_vector zero_vector) ≡ s
+both_none s = λ i. record { x = back s.x i; y = back s.y i; z = back s.z i } where
+  back : (a : ℤ) → a +ℤ (pos 0 +ℤ pos 0) ≡ a
+  back a = omega (arith, ints)
+
+abbrev pinned : Ledger → Vec3 → Ledger
+pinned t v = record t { pin = sum_plus t.pin v }
+
+pinned_then : (t : Ledger) (s v : Vec3) → added (pinned t s) classes.Pin v ≡ pinned t (plus s v)
+pinned_then t s v = ap (λ (x : Sum). record t { pin = x }) (sum_then t.pin s v)
+
+-- one bond
+pinned_more : (t : Ledger) (s : Vec3) (class : Class) (p q : Bool) (m : Shift) → Opposed p q m → booked (pinned t s) (entries_of (not p) (not q) class m) ≡ pinned t (plus s (plus m.first_move m.second_move))
+pinned_more t s class true true m h =
+    let e = h.both_free refl refl in
+    ap (λ (v : Vec3). added (added (pinned t s) class v) class m.second_move) e ∙ nothing_left (pinned t s) class m.second_move
+    ∙ ap (pinned t) (sym (ap (λ (v : Vec3). plus s (plus v m.second_move)) e ∙ plus_opposite s m.second_move))
+pinned_more t s class true false m h =
+    pinned_then t s m.first_move ∙ ap (pinned t) (sym (ap (λ (v : Vec3). plus s (plus m.first_move v)) (h.second_held refl) ∙ first_alone s m.first_move))
+pinned_more t s class false true m h =
+    pinned_then t s m.second_move ∙ ap (pinned t) (sym (ap (λ (v : Vec3). plus s (plus v m.second_move)) (h.first_held refl) ∙ second_alone s m.second_move))
+pinned_more t s class false false m h =
+    ap (pinned t) (sym ((λ i. plus s (plus (h.first_held refl i) (h.second_held refl i))) ∙ both_none s))
+
+-- what the first n bonds move together
+abbrev pub moved_below : (ℕ → Shift) → ℕ → Vec3
+moved_below m zero = zero_vector
+moved_below m (suc n) = plus (moved_below m n) (plus (m n).first_move (m n).second_move)
+
+pub pinned_all : (t : Ledger) (class : ℕ → Class) (moving p q : ℕ → Bool) (m : ℕ → Shift) (n : ℕ) → ((k : ℕ) → k < n → moving k ≡ true) → ((k : ℕ) → k < n → Opposed (p k) (q k) (m k)) → settled moving (λ k. entries_of (not (p k)) (not (q k)) (class k) (m k)) n t ≡ added t classes.Pin (moved_below m n)
+pinned_all t class moving p q m zero h o = sym (ap (λ (s : Sum). record t { pin = s }) (sum_none t.pin))
+pinned_all t class moving p q m (suc n) h o =
+    let entries : ℕ → List Entry = λ k. entries_of (not (p k)) (not (q k)) (class k) (m k) in
+    let before : settled moving entries n t ≡ pinned t (moved_below m n) = pinned_all t class moving p q m n (λ k l. h k (omega arith)) (λ k l. o k (omega arith)) in
+    cond-true (moving n) (booked (settled moving entries n t) (entries n)) (settled moving entries n t) (h n (omega arith))
+    ∙ ap (λ (u : Ledger). booked u (entries n)) before
+    ∙ pinned_more t (moved_below m n) (class n) (p n) (q n) (m n) (o n (omega arith))
+
+pub moved_is : (m : ℕ → Shift) (n : ℕ) → moved_below m n ≡ record {
+  x = sum_below (λ k. (m k).first_move.x +ℤ (m k).second_move.x) n;
+  y = sum_below (λ k. (m k).first_move.y +ℤ (m k).second_move.y) n;
+  z = sum_below (λ k. (m k).first_move.z +ℤ (m k).second_move.z) n;
+}
+moved_is m zero = refl
+moved_is m (suc n) = ap (λ (v : Vec3). plus v (plus (m n).first_move (m n).second_move)) (moved_is m n)

@@ -1,0 +1,10 @@
+use Rattle.std.proofs.Common.{arith}
+use Rattle.std.proofs.lemmas.Int.{to_z-of_z}
+use Rattle.pbd_scene.proofs.MeshSizes.{rope_count}
+use Rattle.pbd_scene.proofs.mesh_entries.fitting_rope.Goals as goal
+
+pub overflow_add-count-2 : goal.overflow_add-count-2
+overflow_add-count-2 c =
+    let fits = c.ranges.limit in
+    let test = simp to_z-of_z at c.fits.ensures in
+    omega (arith, rope_count c.args.limit c.args.spec c.requires.low c.requires.high (rw (← test) c.in_ok-expect.ensures.holds))

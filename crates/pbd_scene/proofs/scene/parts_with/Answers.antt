@@ -1,0 +1,73 @@
+use Rattle.std.proofs.Common.{ap, w64, FitsSigned}
+use Rattle.std.proofs.lemmas.Int.{to_z-of_z}
+use Rattle.std.proofs.lemmas.Result.{IfOk-at_ok}
+use Rattle.toml.specs.View.{table_view}
+use Rattle.pbd_world.specs.declared.parts.Parts.{Parts}
+use Rattle.pbd_mesh.proofs.Facts.{limit_bounds}
+use Rattle.pbd_scene.proofs.Validity.{tables_fit}
+use Rattle.pbd_scene.proofs.Parted.{cloths_fit, ropes_fit, meshes_room, meshed_now, places_within}
+use Rattle.pbd_scene.proofs.scene.parts_with.Goals as goal
+
+pub add_meshes-meshed-requires-clause-limit : goal.add_meshes-meshed-requires-clause-limit
+add_meshes-meshed-requires-clause-limit c =
+    let fits = c.ranges.limit in
+    let its = simp to_z-of_z at (ap (λ (p : Parts). p.limit) c.plain_parts-parts.ensures) in
+    let room : FitsSigned w64 c.plain_parts-parts.result.limit = rw its fits in
+    rw its c.requires
+
+pub add_meshes-meshed-requires-clause-cloths : goal.add_meshes-meshed-requires-clause-cloths
+add_meshes-meshed-requires-clause-cloths c =
+    let fits = c.ranges.limit in
+    let its = simp to_z-of_z at (ap (λ (p : Parts). p.limit) c.plain_parts-parts.ensures) in
+    let room : FitsSigned w64 c.plain_parts-parts.result.limit = rw its fits in
+    let is = simp to_z-of_z at c.in_ok-tables.ensures in
+    let fit = tables_fit c.args.limit (table_view c.args.members.now) c.in_ok-tables.tables (limit_bounds c.args.limit c.requires).0 is in
+    cloths_fit c.args.limit _ c.in_ok-tables.tables c.as_slice.result.now c.as_slice.ensures its fit
+
+pub add_meshes-meshed-requires-clause-ropes : goal.add_meshes-meshed-requires-clause-ropes
+add_meshes-meshed-requires-clause-ropes c =
+    let fits = c.ranges.limit in
+    let its = simp to_z-of_z at (ap (λ (p : Parts). p.limit) c.plain_parts-parts.ensures) in
+    let room : FitsSigned w64 c.plain_parts-parts.result.limit = rw its fits in
+    let is = simp to_z-of_z at c.in_ok-tables.ensures in
+    let fit = tables_fit c.args.limit (table_view c.args.members.now) c.in_ok-tables.tables (limit_bounds c.args.limit c.requires).0 is in
+    ropes_fit c.args.limit _ c.in_ok-tables.tables c.as_slice-2.result.now c.as_slice-2.ensures its fit
+
+pub add_meshes-meshed-requires-clause-room : goal.add_meshes-meshed-requires-clause-room
+add_meshes-meshed-requires-clause-room c =
+    let fits = c.ranges.limit in
+    let is = simp to_z-of_z at c.in_ok-tables.ensures in
+    let fit = tables_fit c.args.limit (table_view c.args.members.now) c.in_ok-tables.tables (limit_bounds c.args.limit c.requires).0 is in
+    rw (ap (λ (p : Parts). p.particles) c.plain_parts-parts.ensures) (meshes_room c.args.limit c.in_ok-tables.tables c.as_slice.result.now c.as_slice-2.result.now c.as_slice.ensures c.as_slice-2.ensures fit)
+
+pub parts_joined-requires-clause-few : goal.parts_joined-requires-clause-few
+parts_joined-requires-clause-few c =
+    let fits = c.ranges.limit in
+    let is = simp to_z-of_z at c.in_ok-tables.ensures in
+    let fit = tables_fit c.args.limit (table_view c.args.members.now) c.in_ok-tables.tables (limit_bounds c.args.limit c.requires).0 is in
+    let grown = simp (to_z-of_z, c.plain_parts-parts.ensures) at (IfOk-at_ok _ c.in-Ok.is c.add_meshes-meshed.ensures) in
+    let meshed = meshed_now c.args.limit c.args.settings.now c.in_ok-tables.tables c.add_meshes-meshed.new.parts c.as_slice.result.now c.as_slice-2.result.now grown c.as_slice.ensures c.as_slice-2.ensures c.requires fit in
+    meshed.few
+
+pub parts_joined-requires-clause-places : goal.parts_joined-requires-clause-places
+parts_joined-requires-clause-places c =
+    let fits = c.ranges.limit in
+    let is = simp to_z-of_z at c.in_ok-tables.ensures in
+    let fit = tables_fit c.args.limit (table_view c.args.members.now) c.in_ok-tables.tables (limit_bounds c.args.limit c.requires).0 is in
+    let grown = simp (to_z-of_z, c.plain_parts-parts.ensures) at (IfOk-at_ok _ c.in-Ok.is c.add_meshes-meshed.ensures) in
+    let meshed = meshed_now c.args.limit c.args.settings.now c.in_ok-tables.tables c.add_meshes-meshed.new.parts c.as_slice.result.now c.as_slice-2.result.now grown c.as_slice.ensures c.as_slice-2.ensures c.requires fit in
+    places_within c.args.limit _ c.add_meshes-meshed.new.parts c.requires meshed
+
+pub parts_joined-requires-clause-links : goal.parts_joined-requires-clause-links
+parts_joined-requires-clause-links c =
+    let fits = c.ranges.limit in
+    let is = simp to_z-of_z at c.in_ok-tables.ensures in
+    let fit = tables_fit c.args.limit (table_view c.args.members.now) c.in_ok-tables.tables (limit_bounds c.args.limit c.requires).0 is in
+    fit.few_links
+
+pub parts_joined-requires-clause-tracks : goal.parts_joined-requires-clause-tracks
+parts_joined-requires-clause-tracks c =
+    let fits = c.ranges.limit in
+    let is = simp to_z-of_z at c.in_ok-tables.ensures in
+    let fit = tables_fit c.args.limit (table_view c.args.members.now) c.in_ok-tables.tables (limit_bounds c.args.limit c.requires).0 is in
+    fit.few_tracks

@@ -1,0 +1,34 @@
+use Rattle.std.proofs.Common.{sym, ap, ◌∙◌, arith, subst}
+use Rattle.pbd_world.specs.World.{World, IsSound, AreOfOneScene}
+use Rattle.pbd_step.specs.declared.state.Setting.{Setting}
+use Rattle.pbd_step.specs.States.{world_of}
+use Rattle.pbd_step.specs.Solving.{Solved}
+use Rattle.pbd_step.proofs.Keeping.{scene_alike, scene_world}
+use Rattle.pbd_step.proofs.saved.Saved.keep.Goals as goal
+
+pub take_over-requires : goal.take_over-requires
+take_over-requires g c =
+    let mine = c.self.inside.state in
+    let other = c.solver.inside.run.state in
+    let scene = subst (λ (v : World). AreOfOneScene v (world_of c.solver.inside.setting other)) (sym c.self.view_is) (subst (λ (v : World). AreOfOneScene c.args.self.now v) (sym (ap (λ (s : Solved g.row.P.Denot). s.world) c.solver.view_is)) c.requires.one_scene) in
+    (omega arith, (c.requires.lanes_high, scene_alike c.self.inside.setting c.solver.inside.setting mine other scene))
+
+pub invariant_of-self : goal.invariant_of-self
+invariant_of-self g c =
+    let mine = c.self.inside.state in
+    let other = c.solver.inside.run.state in
+    let setting : Setting = record c.self.inside.setting { gravity = c.solver.inside.setting.gravity } in
+    let scene = subst (λ (v : World). AreOfOneScene v (world_of c.solver.inside.setting other)) (sym c.self.view_is) (subst (λ (v : World). AreOfOneScene c.args.self.now v) (sym (ap (λ (s : Solved g.row.P.Denot). s.world) c.solver.view_is)) c.requires.one_scene) in
+    let same = c.take_over.ensures.world setting ∙ scene_world c.self.inside.setting c.solver.inside.setting mine other scene in
+    subst (λ (w : World). IsSound w) (sym same) c.solver.invariant.sound
+
+pub returns-clause-world : goal.returns-clause-world
+returns-clause-world g c =
+    let mine = c.self.inside.state in
+    let other = c.solver.inside.run.state in
+    let setting : Setting = record c.self.inside.setting { gravity = c.solver.inside.setting.gravity } in
+    let scene = subst (λ (v : World). AreOfOneScene v (world_of c.solver.inside.setting other)) (sym c.self.view_is) (subst (λ (v : World). AreOfOneScene c.args.self.now v) (sym (ap (λ (s : Solved g.row.P.Denot). s.world) c.solver.view_is)) c.requires.one_scene) in
+    c.take_over.ensures.world setting ∙ scene_world c.self.inside.setting c.solver.inside.setting mine other scene ∙ ap (λ (s : Solved g.row.P.Denot). s.world) c.solver.view_is
+
+pub returns-clause-sound : goal.returns-clause-sound
+returns-clause-sound g c = invariant_of-self g c

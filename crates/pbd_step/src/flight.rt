@@ -1,0 +1,250 @@
+// L particles at the start of a step, side by side: axis by axis, where the free ones fly.
+ghost use Rattle.std.specs.Prelude.{◌≡◌, ℕ, ◌+◌, ◌<◌, ◌≤◌, ◌^◌, ℤ, pos, ◌+ℤ◌, ◌*ℤ◌, ◌≤ℤ◌, unsigned_abs, true, false, not, ◌&&◌, slice_index_or, if◌then◌else◌};
+ghost use Rattle.pbd_num.specs.Rounding.{rdiv as rounded};
+ghost use Rattle.pbd_num.specs.Vectors.{Within};
+ghost use Rattle.pbd_lanes.specs.Lane.{lane, is_set};
+ghost use Rattle.pbd_store.specs.Blocks.{place_of};
+ghost use Rattle.pbd_step.specs.Predicting.{loss_at, flown_at, pull_at, losses_at, places_at, pulls_at, sum_below, sums_below};
+
+use pbd_lanes::Lanes;
+use pbd_num::{Vec3, short, with_sign};
+use pbd_store::{Block, Lanes3};
+
+/// What acts on particles: damping in 1/1,024, gravity, and the limit of places.
+#[derive(Clone, Copy)]
+pub(crate) struct Air {
+    pub(crate) damping: i64,
+    pub(crate) gravity: Vec3,
+    pub(crate) limit: i64,
+}
+
+// The same on one axis.
+#[derive(Clone, Copy)]
+struct Pull {
+    damping: i64,
+    gravity: i64,
+    limit: i64,
+}
+
+// Where L particles come to on one axis, the sums of what gravity adds and of what damping takes, and whether all are
+// within the limit.
+#[derive(Clone, Copy)]
+struct Axis<const L: usize> {
+    to: [i64; L],
+    pulled: i64,
+    lost: i64,
+    within: bool,
+}
+
+/// The same on all three axes.
+#[derive(Clone, Copy)]
+pub(crate) struct Flown<const L: usize> {
+    pub(crate) to: Lanes3<L>,
+    pub(crate) pulled: Vec3,
+    pub(crate) lost: Vec3,
+    pub(crate) within: bool,
+}
+
+// `s * f / 1024`, rounded, with no division.
+fn part_of_1024(s: i64, f: i64) -> i64
+    requires s { unsigned_abs s ≤ 2 ^ 30 }
+    requires f { unsigned_abs f ≤ 1024 }
+    ensures { result ≡ rounded (s *ℤ f) (pos 1024) }
+{
+    let size = short(s.unsigned_abs()) * short(f.unsigned_abs());
+    with_sign(s, f, (size + 512) / 1024)
+}
+
+fn kept_if(flies: bool, n: i64) -> i64
+    ensures { result ≡ (if flies then n else pos 0) }
+{
+    if flies { n } else { 0 }
+}
+
+fn loss_if(flies: bool, at: i64, before: i64, damping: i64) -> i64
+    requires at { unsigned_abs at ≤ 2 ^ 29 }
+    requires before { unsigned_abs before ≤ 2 ^ 29 }
+    requires damping { unsigned_abs damping ≤ 1024 }
+    ensures value { result ≡ loss_at damping flies at before }
+    ensures size { unsigned_abs result ≤ 2 ^ 30 }
+{
+    kept_if(flies, part_of_1024(at - before, damping))
+}
+
+fn flown_if(flies: bool, at: i64, before: i64, loss: i64, gravity: i64) -> i64
+    requires at { unsigned_abs at ≤ 2 ^ 29 }
+    requires before { unsigned_abs before ≤ 2 ^ 29 }
+    requires loss { unsigned_abs loss ≤ 2 ^ 30 }
+    requires gravity { unsigned_abs gravity ≤ 2 ^ 29 }
+    ensures { (damping : ℤ) → loss ≡ loss_at damping flies at before → result ≡ flown_at damping gravity flies at before }
+{
+    let to = at + (at - before - loss) + gravity;
+    if flies { to } else { at }
+}
+
+fn sum(sum: i64, n: i64) -> i64
+    requires sum { unsigned_abs sum ≤ 2 ^ 40 }
+    requires n { unsigned_abs n ≤ 2 ^ 30 }
+    ensures value { result ≡ sum +ℤ n }
+    ensures size { (m : ℕ) → unsigned_abs sum ≤ m → unsigned_abs result ≤ m + 2 ^ 30 }
+{
+    sum + n
+}
+
+fn still_within(so_far: bool, n: i64, limit: i64) -> bool
+    requires low { pos 0 ≤ℤ limit }
+    requires high { unsigned_abs limit ≤ 2 ^ 29 }
+    ensures before { result ≡ true → so_far ≡ true }
+    ensures now { result ≡ true → unsigned_abs n ≤ unsigned_abs limit }
+{
+    so_far & (-limit <= n) & (n <= limit)
+}
+
+// One axis of L particles, of which some fly and the others stay.
+fn fly_axis<const L: usize>(
+    pull: Pull,
+    flies: &[bool; L],
+    at: &[i64; L],
+    before: &[i64; L],
+) -> Axis<L>
+    requires lanes { L ≤ 16 }
+    requires low { pos 0 ≤ℤ pull.limit }
+    requires high { unsigned_abs pull.limit ≤ 2 ^ 29 }
+    requires damping { unsigned_abs pull.damping ≤ 1024 }
+    requires gravity { unsigned_abs pull.gravity ≤ 2 ^ 29 }
+    requires at { (j : ℕ) → j < L → unsigned_abs (lane at.now j) ≤ 2 ^ 29 }
+    requires before { (j : ℕ) → j < L → unsigned_abs (lane before.now j) ≤ 2 ^ 29 }
+    ensures to { (j : ℕ) → j < L → lane result.to j
+        ≡ flown_at pull.damping pull.gravity (is_set flies.now j) (lane at.now j) (lane before.now j) }
+    ensures pulled { result.pulled ≡ sum_below (λ j. pull_at pull.gravity (is_set flies.now j)) L }
+    ensures lost { result.lost
+        ≡ sum_below (λ j. loss_at pull.damping (is_set flies.now j) (lane at.now j) (lane before.now j)) L }
+    ensures pulled_size { unsigned_abs result.pulled ≤ 2 ^ 34 }
+    ensures lost_size { unsigned_abs result.lost ≤ 2 ^ 34 }
+    ensures within { result.within ≡ true → (j : ℕ) → j < L
+        → unsigned_abs (lane result.to j) ≤ unsigned_abs pull.limit }
+{
+    let mut to = [0; L];
+    let mut pulled = 0;
+    let mut lost = 0;
+    let mut within = true;
+    for j in 0..L {
+        let loss = loss_if(flies[j], at[j], before[j], pull.damping);
+        let place = flown_if(flies[j], at[j], before[j], loss, pull.gravity);
+        to[j] = place;
+        pulled = sum(pulled, kept_if(flies[j], pull.gravity));
+        lost = sum(lost, loss);
+        within = still_within(within, place, pull.limit);
+    }
+    Axis {
+        to,
+        pulled,
+        lost,
+        within,
+    }
+}
+
+fn flies_in(held: bool, filled: bool) -> bool
+    ensures { result ≡ (not held && filled) }
+{
+    !held & filled
+}
+
+/// Which lanes have a free particle.
+pub(crate) fn flying<const L: usize>(held: &[bool; L], filled: &[bool; L]) -> [bool; L]
+    requires lanes { L ≤ 16 }
+    ensures { (j : ℕ) → j < L → is_set result j ≡ (not (is_set held.now j) && is_set filled.now j) }
+{
+    let mut flies = [false; L];
+    for j in 0..L {
+        flies[j] = flies_in(held[j], filled[j]);
+    }
+    flies
+}
+
+/// Where the particles of a block come to, of which some fly and the others stay, with the sums of what is to be booked.
+pub(crate) fn fly<const L: usize>(air: Air, flies: &[bool; L], lanes: &Block<L>) -> Flown<L>
+    requires lanes { L ≤ 16 }
+    requires low { pos 0 ≤ℤ air.limit }
+    requires high { unsigned_abs air.limit ≤ 2 ^ 29 }
+    requires damping { unsigned_abs air.damping ≤ 1024 }
+    requires gravity { Within (2 ^ 29) air.gravity }
+    requires at { (j : ℕ) → j < L → Within (2 ^ 29) (place_of lanes.now.at.x lanes.now.at.y lanes.now.at.z j) }
+    requires before { (j : ℕ) → j < L → Within (2 ^ 29) (place_of lanes.now.before.x lanes.now.before.y lanes.now.before.z j) }
+    ensures to { (j : ℕ) → j < L → place_of result.to.x result.to.y result.to.z j
+        ≡ places_at air.damping air.gravity (is_set flies.now j) (place_of lanes.now.at.x lanes.now.at.y lanes.now.at.z j)
+        (place_of lanes.now.before.x lanes.now.before.y lanes.now.before.z j) }
+    ensures pulled { result.pulled ≡ sums_below (λ j. pulls_at air.gravity (is_set flies.now j)) L }
+    ensures lost { result.lost ≡ sums_below (λ j. losses_at air.damping (is_set flies.now j)
+        (place_of lanes.now.at.x lanes.now.at.y lanes.now.at.z j)
+        (place_of lanes.now.before.x lanes.now.before.y lanes.now.before.z j)) L }
+    ensures pulled_size { Within (2 ^ 34) result.pulled }
+    ensures lost_size { Within (2 ^ 34) result.lost }
+    ensures within { result.within ≡ true → (j : ℕ) → j < L
+        → Within (unsigned_abs air.limit) (place_of result.to.x result.to.y result.to.z j) }
+{
+    let Air {
+        damping,
+        gravity,
+        limit,
+    } = air;
+    let pull_x = Pull {
+        damping,
+        gravity: gravity.x,
+        limit,
+    };
+    let pull_y = Pull {
+        damping,
+        gravity: gravity.y,
+        limit,
+    };
+    let pull_z = Pull {
+        damping,
+        gravity: gravity.z,
+        limit,
+    };
+    let x = fly_axis(
+        pull_x,
+        flies,
+        &lanes.at.x.to_array(),
+        &lanes.before.x.to_array(),
+    );
+    let y = fly_axis(
+        pull_y,
+        flies,
+        &lanes.at.y.to_array(),
+        &lanes.before.y.to_array(),
+    );
+    let z = fly_axis(
+        pull_z,
+        flies,
+        &lanes.at.z.to_array(),
+        &lanes.before.z.to_array(),
+    );
+    Flown {
+        to: Lanes3 {
+            x: Lanes::from_array(x.to),
+            y: Lanes::from_array(y.to),
+            z: Lanes::from_array(z.to),
+        },
+        pulled: Vec3 {
+            x: x.pulled,
+            y: y.pulled,
+            z: z.pulled,
+        },
+        lost: Vec3 {
+            x: x.lost,
+            y: y.lost,
+            z: z.lost,
+        },
+        within: all(x.within, y.within, z.within),
+    }
+}
+
+fn all(x: bool, y: bool, z: bool) -> bool
+    ensures x { result ≡ true → x ≡ true }
+    ensures y { result ≡ true → y ≡ true }
+    ensures z { result ≡ true → z ≡ true }
+{
+    x & y & z
+}

@@ -1,0 +1,85 @@
+//! Worlds kept beside a solver, to go back to.
+ghost use Rattle.std.specs.Prelude.{◌≡◌, ◌<◌, ◌≤◌, IfOk, length};
+ghost use Rattle.pbd_world.specs.World.{opened, AreOfOneScene, IsSound};
+
+use crate::Solver;
+use crate::again::{restore, take_over};
+use crate::open::open_kept;
+use crate::state::{Setting, State};
+use pbd_pair::Projector;
+use pbd_world::{Link, Scene};
+use std::alloc::{AllocError, Global};
+use std::marker::Model;
+
+/// A world that a solver was in, without what its steps work with. Only opening takes memory.
+#[derive(Drop)]
+pub struct Saved<const L: usize> {
+    setting: Setting,
+    state: State<L>,
+}
+
+impl<const L: usize> Model for Saved<L> {
+    ghost use Rattle.pbd_world.specs.World.{World, IsSound};
+    ghost use Rattle.pbd_step.specs.States.{world_of};
+
+    ghost Value = { World };
+
+    ghost view = { λ s. world_of s.setting s.state };
+
+    ghost invariant = { λ s. IsSound (world_of s.setting s.state) };
+}
+
+impl<const L: usize> Saved<L> {
+    /// The world of a scene before its first command. The only call that takes memory.
+    pub fn open(alloc: Global, scene: &Scene) -> Result<Saved<L>, AllocError>
+        requires lanes_high { L ≤ 16 }
+        ensures world { IfOk result (λ saved. saved ≡ opened scene.now) }
+        ensures sound { IfOk result (λ saved. IsSound saved) }
+    {
+        let parts = scene.parts();
+        match open_kept(alloc, parts) {
+            Ok((setting, state)) => Ok(Saved { setting, state }),
+            Err(AllocError) => Err(AllocError),
+        }
+    }
+
+    /// Keeps the world of a solver of one scene.
+    pub fn keep<P: Projector<L> + Drop>(&mut self, solver: &Solver<L, P>)
+        requires lanes_high { L ≤ 16 }
+        requires one_scene { AreOfOneScene self.old solver.now.world }
+        ensures world { self.new ≡ solver.now.world }
+        ensures sound { IsSound self.new }
+    {
+        self.setting.gravity = solver.setting.gravity;
+        take_over(&mut self.state, &solver.run.state);
+    }
+
+    /// The links, live ones and others.
+    pub fn links(&self) -> &[Link]
+        requires lanes_high { L ≤ 16 }
+        ensures value { result.now ≡ self.now.links }
+        ensures size { length result.now ≤ 524288 }
+    {
+        &self.state.links
+    }
+}
+
+impl<const L: usize, P: Projector<L> + Drop> Solver<L, P> {
+    /// Goes back to the world that was kept of a solver of one scene.
+    pub fn go_back(&mut self, saved: &Saved<L>)
+        requires lanes_low { 0 < L }
+        requires lanes_high { L ≤ 16 }
+        requires one_scene { AreOfOneScene self.old.world saved.now }
+        ensures world { self.new.world ≡ saved.now }
+        ensures projector { self.new.projector ≡ self.old.projector }
+        ensures sound { IsSound self.new.world }
+    {
+        self.setting.gravity = saved.setting.gravity;
+        restore(
+            &mut self.run.state,
+            &saved.state,
+            &mut self.run.colours,
+            &mut self.run.tools,
+        );
+    }
+}

@@ -1,0 +1,203 @@
+//! What steps hand to a projector, colour by colour: how often their bonds may reach the store, at each width.
+ghost use Rattle.std.specs.Prelude.{◌≡◌, ◌<◌, ◌≤◌};
+
+use crate::drawing::{Drawing, EMPTY, free, link, parts};
+use pbd_pair::{Bonds, LaneProjector, Projector};
+use pbd_step::Solver;
+use pbd_store::{Steps, Store};
+use pbd_world::{Left, Scene, Totals};
+use std::alloc::{AllocError, Global};
+use std::marker::Brand;
+use std::sync::ledger::{Blank, Ledger};
+use std::test::Fail;
+
+/// A projector, and what the batches that it was handed may cost: four accesses for each piece of as many bonds as it
+/// projects side by side.
+#[derive(Drop)]
+struct Counting<P: Drop> {
+    inner: P,
+    accesses: usize,
+}
+
+impl<const L: usize, P: Projector<L> + Drop> Projector<L> for Counting<P> {
+    ghost width = { λ s. P.width s.inner };
+
+    ghost count = { λ s. P.count s.inner };
+
+    fn lanes(&self) -> usize {
+        self.inner.lanes()
+    }
+
+    fn handed(&self) -> u64 {
+        self.inner.handed()
+    }
+
+    fn project<G: Ledger>(
+        &mut self,
+        store: &mut Store<L>,
+        bonds: Bonds<'_>,
+        batch: &[u32],
+        totals: &mut Totals,
+        steps: &mut Steps<G>,
+    ) -> Result<(), Left> {
+        let pieces = batch.len().div_ceil(self.inner.lanes());
+        self.accesses = self.accesses.saturating_add(pieces.saturating_mul(4));
+        self.inner.project(store, bonds, batch, totals, steps)
+    }
+}
+
+/// Ten pairs with a link each, all of one colour.
+const PAIRS: Drawing = Drawing {
+    particles: &[
+        free!(0, 0),
+        free!(5, 0),
+        free!(100, 0),
+        free!(105, 0),
+        free!(200, 0),
+        free!(205, 0),
+        free!(300, 0),
+        free!(305, 0),
+        free!(400, 0),
+        free!(405, 0),
+        free!(500, 0),
+        free!(505, 0),
+        free!(600, 0),
+        free!(605, 0),
+        free!(700, 0),
+        free!(705, 0),
+        free!(800, 0),
+        free!(805, 0),
+        free!(900, 0),
+        free!(905, 0),
+    ],
+    links: &[
+        link!(0, 1, 6, 0),
+        link!(2, 3, 6, 0),
+        link!(4, 5, 6, 0),
+        link!(6, 7, 6, 0),
+        link!(8, 9, 6, 0),
+        link!(10, 11, 6, 0),
+        link!(12, 13, 6, 0),
+        link!(14, 15, 6, 0),
+        link!(16, 17, 6, 0),
+        link!(18, 19, 6, 0),
+    ],
+    passes: 3,
+    ..EMPTY
+};
+
+/// Five particles in a line: links of the colours 0, 1, 0, 1.
+const LINE: Drawing = Drawing {
+    particles: &[
+        free!(0, 0),
+        free!(10, 0),
+        free!(20, 0),
+        free!(30, 0),
+        free!(40, 0),
+    ],
+    links: &[
+        link!(0, 1, 10, 0),
+        link!(1, 2, 10, 0),
+        link!(2, 3, 10, 0),
+        link!(3, 4, 10, 0),
+    ],
+    passes: 2,
+    ..EMPTY
+};
+
+/// Three particles that touch each other: three colours of one contact each.
+const CORNER: Drawing = Drawing {
+    particles: &[free!(0, 0), free!(200, 0), free!(0, 200)],
+    thickness: 400,
+    ..EMPTY
+};
+
+/// A scene, how many steps it takes, and what its bonds may cost in them at the widths 1, 2, 4, 8 and 16.
+#[derive(Clone, Copy)]
+struct Row {
+    name: &'static str,
+    scene: Drawing,
+    steps: u64,
+    accesses: [usize; 5],
+}
+
+const ROWS: [Row; 3] = [
+    // Two steps of three passes: in each ten links one by one, or 5, 3, 2 and 1 pieces of them.
+    Row {
+        name: "pairs",
+        scene: PAIRS,
+        steps: 2,
+        accesses: [240, 120, 72, 48, 24],
+    },
+    // Two passes: four links one by one, or two colours of one piece each.
+    Row {
+        name: "line",
+        scene: LINE,
+        steps: 1,
+        accesses: [32, 16, 16, 16, 16],
+    },
+    // One pass: a piece for each contact.
+    Row {
+        name: "corner",
+        scene: CORNER,
+        steps: 1,
+        accesses: [12, 12, 12, 12, 12],
+    },
+];
+
+fn accesses<const L: usize, G: Ledger>(
+    alloc: Global,
+    scene: &Scene,
+    n: u64,
+    steps: &mut Steps<G>,
+) -> Result<usize, AllocError>
+    requires low { 0 < L }
+    requires high { L ≤ 16 }
+{
+    let projector = Counting {
+        inner: LaneProjector::<L>::new(),
+        accesses: 0,
+    };
+    match Solver::open(alloc, scene, projector) {
+        Ok(mut solver) => {
+            let _ = solver.steps(n, steps);
+            let accesses = solver.projector().accesses;
+            drop(solver);
+            Ok(accesses)
+        }
+        Err(error) => Err(error),
+    }
+}
+
+fn counted<G: Ledger>(
+    alloc: Global,
+    blank: Blank,
+    scene: &Scene,
+    n: u64,
+) -> Result<[usize; 5], AllocError>
+    requires name { blank.name ≡ G.name }
+    requires parts { blank.parts ≡ G.parts }
+    requires some { 0 < blank.parts }
+{
+    let mut steps: Steps<G> = Steps::open(blank);
+    let one = accesses::<1, G>(alloc, scene, n, &mut steps)?;
+    let two = accesses::<2, G>(alloc, scene, n, &mut steps)?;
+    let four = accesses::<4, G>(alloc, scene, n, &mut steps)?;
+    let eight = accesses::<8, G>(alloc, scene, n, &mut steps)?;
+    let sixteen = accesses::<16, G>(alloc, scene, n, &mut steps)?;
+    Ok([one, two, four, eight, sixteen])
+}
+
+fn at_each_width(alloc: Global, scene: &Scene, n: u64) -> Result<[usize; 5], AllocError> {
+    counted::<Brand>(alloc, Blank::new(1), scene, n)
+}
+
+#[test]
+fn bonds_reach_the_store_as_often_as_their_work_says(rt: HostRuntime) -> Result<(), Fail> {
+    for row in &ROWS {
+        let alloc = rt.alloc();
+        let scene = Scene::from_parts(alloc, parts(alloc, &row.scene)?)?;
+        assert_eq!(rt; at_each_width(alloc, &scene, row.steps)?, row.accesses, "{}", row.name);
+    }
+    Ok(())
+}
