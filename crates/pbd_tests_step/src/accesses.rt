@@ -197,7 +197,12 @@ fn bonds_reach_the_store_as_often_as_their_work_says(rt: HostRuntime) -> Result<
     for row in &ROWS {
         let alloc = rt.alloc();
         let scene = Scene::from_parts(alloc, parts(alloc, &row.scene)?)?;
-        assert_eq!(rt; at_each_width(alloc, &scene, row.steps)?, row.accesses, "{}", row.name);
+        assert_eq!(rt;
+            at_each_width(alloc, &scene, row.steps)?,
+            row.accesses,
+            "{}",
+            row.name
+        );
     }
     Ok(())
 }
