@@ -44,7 +44,7 @@ typedef struct {
     int64_t x, y, z;
 } lak_place;
 
-/* The first rule that a scene breaks, and where: see lak_open. All are 0 where another answer was given. */
+/* The first rule that a scene breaks, and where: see lak_open. */
 typedef struct {
     uint32_t position; /* in the array of the table, from 0 */
     uint8_t rule;      /* 2 to 11: see lak_rule_name */
@@ -118,7 +118,7 @@ enum {
  * Opens the scene of a TOML text of `length` bytes (docs/FORMATS.md has its keys), with `slots` slots for lak_save, at most 16.
  * Each slot has the opened world at first. The only call on a handle that takes memory. The text isn't kept.
  *
- * LAK_DONE: the handle holds the world of the scene, before its first command.
+ * LAK_DONE: the handle holds the world of the scene, before its first command. `fault` is left as it was.
  * LAK_IN_USE: the handle keeps what it holds, and `fault` is left as it was.
  * LAK_NO_SLOT, LAK_SCENE_NOT_TEXT, LAK_SCENE_NOT_TOML, LAK_SCENE_REFUSED, LAK_OUT_OF_MEMORY: the handle stays closed, and
  * `fault` has the rule, the table, the position and the key of LAK_SCENE_REFUSED, or zeros.
@@ -186,8 +186,8 @@ int32_t lak_gone_since(lak_cloth *cloth, uint32_t slot, uint32_t *into, size_t r
  * ---- a whole run, from bytes to bytes
  *
  * Runs a script (docs/FORMATS.md has its lines) on the scene of a TOML text, each of at most 2^24 bytes, and writes the log of
- * the session into `output`, which is `room` bytes long; `written` says how many bytes it has. It is the log that the program's
- * `record` writes, which `replay` takes at every width.
+ * the session into `output`, which is `room` bytes long; `written` says how many bytes it has. It is a log as the program's
+ * `record` writes.
  *
  * LAK_DONE, LAK_SOME_REFUSED: the log is written. LAK_NO_LOG_ROOM, LAK_TOO_LONG, LAK_SCENE_NOT_TEXT, LAK_SCENE_NOT_TOML,
  * LAK_SCENE_REFUSED, LAK_OUT_OF_MEMORY: `written` is 0, and what `output` has is not told.
