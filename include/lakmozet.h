@@ -8,7 +8,7 @@
  *
  * What no call ever does: it starts no thread, uses no lock, no locale, no file, no clock and no floating point, and it writes
  * nowhere but through its arguments and into what the handle holds. After lak_open no call on a handle takes memory, until
- * lak_close gives it back.
+ * lak_close gives it back. lak_record, which has no handle, takes memory and gives it back before it returns.
  *
  * What a caller owes, and nothing checks:
  *   - A handle is all zero bytes ({0} in C, {} in C++) or what the last call left. It may be moved, and is never copied and
@@ -101,11 +101,14 @@ enum {
     LAK_TOO_MANY_CONTACTS = 12 /* in a step there were more than 262,144 contacts */
 };
 
-/* What lak_open answers where the scene can't be opened: the program's statuses. */
+/* What lak_open and lak_record answer beside: the program's statuses. */
 enum {
+    LAK_NO_LOG_ROOM = 3,    /* lak_record: the output is too short */
+    LAK_TOO_LONG = 4,       /* lak_record: the scene or the script is longer than 2^24 bytes */
     LAK_SCENE_NOT_TEXT = 6, /* the scene is no UTF-8 */
     LAK_SCENE_NOT_TOML = 7, /* the scene is no TOML */
     LAK_SCENE_REFUSED = 8,  /* the scene breaks a rule, which is told */
+    LAK_SOME_REFUSED = 11,  /* lak_record: all went well, but a command was refused */
     LAK_OUT_OF_MEMORY = 12  /* there was no memory */
 };
 
@@ -178,6 +181,19 @@ int32_t lak_live(lak_cloth *cloth, uint8_t *into, size_t room, uint32_t *count);
 
 /* The numbers, ascending, of the links that are live in a slot's world and are so no longer. Answers LAK_NO_SLOT too. */
 int32_t lak_gone_since(lak_cloth *cloth, uint32_t slot, uint32_t *into, size_t room, uint32_t *count);
+
+/*
+ * ---- a whole run, from bytes to bytes
+ *
+ * Runs a script (docs/FORMATS.md has its lines) on the scene of a TOML text, each of at most 2^24 bytes, and writes the log of
+ * the session into `output`, which is `room` bytes long; `written` says how many bytes it has. It is the log that the program's
+ * `record` writes, which `replay` takes at every width.
+ *
+ * LAK_DONE, LAK_SOME_REFUSED: the log is written. LAK_NO_LOG_ROOM, LAK_TOO_LONG, LAK_SCENE_NOT_TEXT, LAK_SCENE_NOT_TOML,
+ * LAK_SCENE_REFUSED, LAK_OUT_OF_MEMORY: `written` is 0, and what `output` has is not told.
+ */
+int32_t lak_record(const uint8_t *scene, size_t scene_length, const uint8_t *script, size_t script_length, uint8_t *output,
+                   size_t room, size_t *written);
 
 /* ---- names, as the program prints them */
 

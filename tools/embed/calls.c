@@ -115,6 +115,21 @@ static void reading(lak_cloth *cloth)
     MUST(lak_live(cloth, live, 1, &count) == LAK_NO_ROOM && count == counts.links);
 }
 
+static void records(void)
+{
+    static const char text[] = "[[particle]]\nat = [0, 1000, 0]\n", script[] = "step 2\nframe\n", refused[] = "cut 5\n";
+    static uint8_t log[4096];
+    size_t written = 7, more = 7;
+    const uint8_t *bytes = (const uint8_t *)text, *lines = (const uint8_t *)script;
+    MUST(lak_record(bytes, strlen(text), lines, strlen(script), log, sizeof log, &written) == LAK_DONE);
+    MUST(written > strlen(text) && memcmp(log, "PBDSLOG", 7) == 0);
+    MUST(lak_record(bytes, strlen(text), lines, strlen(script), log, written, &more) == LAK_DONE && more == written);
+    MUST(lak_record(bytes, strlen(text), lines, strlen(script), log, written - 1, &more) == LAK_NO_LOG_ROOM && more == 0);
+    MUST(lak_record(bytes, strlen(text), (const uint8_t *)refused, strlen(refused), log, sizeof log, &more) == LAK_SOME_REFUSED);
+    MUST(lak_record(bytes, 3, lines, strlen(script), log, sizeof log, &more) == LAK_SCENE_NOT_TOML && more == 0);
+    MUST(lak_record((const uint8_t *)"\xff", 1, lines, strlen(script), log, sizeof log, &more) == LAK_SCENE_NOT_TEXT);
+}
+
 int main(void)
 {
     lak_cloth cloth;
@@ -127,6 +142,7 @@ int main(void)
     commands(&cloth);
     reading(&cloth);
     slots(&cloth);
+    records();
     lak_close(&cloth);
     lak_close(&cloth);
     MUST(lak_pin(&cloth, 0) == LAK_CLOSED);

@@ -168,11 +168,22 @@ static void read_some(tracked *it)
     must(same(sums_of(it), it->sums), "reading changes the sums");
 }
 
+static void record_some(void)
+{
+    static char text[2048], script[64];
+    static uint8_t log[65536];
+    size_t length = scene(text, sizeof text), written = 7, room = draw() % 4 == 0 ? draw() % 2048 : sizeof log;
+    size_t lines = (size_t)snprintf(script, sizeof script, "step %d\nframe\ncut %d\n", (int)(draw() % 5), (int)(draw() % 40));
+    int32_t status = lak_record((const uint8_t *)text, length, (const uint8_t *)script, lines, log, room, &written);
+    must(status == 0 || status == 3 || (6 <= status && status <= 8) || status == 11, "a record answers something else");
+    must(written <= room && (written > 0) == (status == 0 || status == 11), "the length of a log");
+}
+
 static void call(void)
 {
     tracked *it = &handles[draw() % HANDLES];
     lak_left left;
-    uint64_t kind = draw() % 31;
+    uint64_t kind = draw() % 32;
     calls++;
     if (kind < 2)
         open_some(it);
@@ -192,8 +203,10 @@ static void call(void)
         after_command(it, lak_gravity(&it->cloth, draw() % 4 ? (lak_place) {0, -(int64_t)(draw() % 300), 0} : place()));
     else if (kind < 26)
         save_or_restore(it);
-    else
+    else if (kind < 31)
         read_some(it);
+    else if (draw() % 8 == 0)
+        record_some();
 }
 
 int main(int argc, char **argv)

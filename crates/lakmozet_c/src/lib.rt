@@ -8,6 +8,7 @@ mod open;
 mod opening;
 mod plain;
 mod reads;
+mod recording;
 mod slots;
 
 pub use handle::Handle;

@@ -34,7 +34,7 @@ fn boxed(alloc: Global, scene: &Scene, slots: u32) -> Result<Box<Cloth>, AllocEr
 }
 
 #[tactic(auto, using(crate::proofs::Reading::read_as))]
-fn scene_of(alloc: Global, text: &str) -> Result<Scene, SceneFault>
+pub(crate) fn scene_of(alloc: Global, text: &str) -> Result<Scene, SceneFault>
     ensures { MatchResult result (λ parts. IsScene (parse_document text.now) parts) (λ fault. IsFault (parse_document text.now) fault) }
 {
     read_scene(alloc, text, RANGE)
