@@ -8,3 +8,5 @@ pub mod Placing
 pub mod Batches
 pub mod Mending
 pub mod Meeting
+pub mod Telling
+pub mod Marking

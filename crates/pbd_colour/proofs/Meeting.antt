@@ -12,16 +12,9 @@ use Rattle.pbd_colour.specs.Mended.{is_later, meets, least_unheld}
 use Rattle.pbd_colour.specs.Swept.{ArePainted, IsSwept}
 use Rattle.pbd_colour.proofs.Batches.{share_turn}
 use Rattle.pbd_colour.proofs.Holding.{chain-tells}
+use Rattle.pbd_colour.proofs.Telling.{or_left, or_right}
 use Rattle.pbd_colour.proofs.Mending.{chains_tell}
 use Rattle.pbd_colour.proofs.Sweeping.{IsSwept-none, IsSwept-more_same, IsSwept-more_changed}
-
-or_left : (a b : Bool) → a ≡ true → (a || b) ≡ true
-or_left true b e = refl
-or_left false b e = absurd (false≢true e)
-
-or_right : (a b : Bool) → b ≡ true → (a || b) ≡ true
-or_right true b e = refl
-or_right false b e = e
 
 neither : (a b : Bool) → (a || b) ≡ false → (a ≡ false) × (b ≡ false)
 neither true b e = absurd (false≢true (sym e))

@@ -6,3 +6,5 @@ pub mod Kept
 pub mod Batch
 pub mod Mended
 pub mod Swept
+pub mod Toward
+pub mod Marked

@@ -1,18 +1,22 @@
 //! A list of pairs with live flags, its greedy colours, and the chain of each particle's pairs.
-ghost use Rattle.std.specs.Prelude.{◌≡◌, ◌<◌, ◌≤◌, ◌++◌, [], ℕ, length, slice_index, replicate, IfOk, slice_range, ◌+◌, ◌*◌, IsTrue, true, count_by};
+ghost use Rattle.std.specs.Prelude.{◌≡◌, ◌<◌, ◌≤◌, ◌++◌, [], ℕ, length, slice_index, replicate, IfOk, slice_range};
+ghost use Rattle.std.specs.Prelude.{◌+◌, ◌*◌, IsTrue, IsFalse, true, count_by};
 ghost use Rattle.std.specs.List.Sorted.{IsStrictlyIncreasing};
 ghost use Rattle.pbd_world.specs.Colours.{live_at, colour, joined, joins};
 ghost use Rattle.pbd_colour.specs.Pairs.{InRange, batch_of, dropped};
 ghost use Rattle.pbd_colour.specs.Batch.{AreApart, AreLive};
 ghost use Rattle.pbd_colour.specs.Coloured.{IsColoured};
 ghost use Rattle.pbd_colour.specs.Held.{Holds};
+ghost use Rattle.pbd_colour.specs.Marked.{AreBlocked};
 ghost use Rattle.pbd_colour.specs.Swept.{ArePainted};
 
 use crate::gather::gather;
 use crate::held::{hold_instead, leads};
 use crate::lists::{copy_pairs, fill};
+use crate::marks::unmark_all;
 use crate::mend::mend;
 use crate::paint::paint;
+use crate::toward::{may_lead, tell_all};
 use pbd_chain::Chains;
 use pbd_world::RoomList;
 use std::alloc::{AllocError, Global};
@@ -31,8 +35,10 @@ pub struct Colouring {
     pairs: RoomList<(u32, u32)>,
     live: RoomList<bool>,
     marks: RoomList<bool>,
+    blocks: RoomList<bool>,
     colours: RoomList<u8>,
     used: RoomList<u64>,
+    toward: RoomList<u64>,
     order: RoomList<u32>,
     starts: RoomList<u32>,
     chains: Chains,
@@ -47,7 +53,8 @@ impl Model for Colouring {
 
     ghost view = { λ s. record { particles = s.particles; room = s.room; pairs = s.pairs.entries; live = s.live.entries } };
 
-    ghost invariant = { λ s. IsKept s.particles s.room s.pairs s.live s.marks s.colours s.used s.order s.starts s.chains };
+    ghost invariant = { λ s. IsKept s.particles s.room s.pairs s.live s.marks s.blocks
+        s.colours s.used s.toward s.order s.starts s.chains };
 }
 
 // The numbers from the start of the c-th piece to that of the next.
@@ -89,6 +96,7 @@ fn recolour_without(
     chains: &mut Chains,
     colours: &mut [u8],
     marks: &mut [bool],
+    blocks: &mut [bool],
     order: &mut RoomList<u32>,
     starts: &mut [u32],
     numbers: &[u32],
@@ -103,12 +111,15 @@ fn recolour_without(
     requires held { Holds (live_at live.old) (length chains.old.chains) chains.old.items pairs.now chains.old }
     requires painted { ArePainted pairs.now live.old colours.old }
     requires in_range { (k : ℕ) → k < length numbers.now → slice_index numbers.now k < length live.old }
+    requires blocked { AreBlocked marks.old blocks.old }
     ensures live { live.new ≡ dropped numbers.now live.old }
+    ensures unmarked { (k : ℕ) → IsFalse (live_at marks.new k) }
+    ensures blocked { AreBlocked marks.new blocks.new }
     ensures held { Holds (live_at live.new) (length chains.old.chains) chains.old.items pairs.now chains.new }
     ensures room { order.new.room ≡ order.old.room }
     ensures coloured { IsColoured pairs.now live.new colours.new order.new.entries starts.new }
 {
-    mend(pairs, live, chains, colours, marks, numbers);
+    mend(pairs, live, chains, colours, marks, blocks, numbers);
     gather(live, colours, order, starts);
 }
 
@@ -123,12 +134,16 @@ impl Colouring {
         let pairs = RoomList::open(alloc, room)?;
         let live = RoomList::open(alloc, room)?;
         let marks = RoomList::open(alloc, room)?;
+        let mut blocks = RoomList::open(alloc, room / 256 + 1)?;
         let mut colours = RoomList::open(alloc, room)?;
         let mut used = RoomList::open(alloc, particles)?;
+        let mut toward = RoomList::open(alloc, particles)?;
         let mut order = RoomList::open(alloc, room)?;
         let mut starts = RoomList::open(alloc, 65)?;
         let chains = Chains::open(alloc, particles, 2 * room)?;
+        fill(&mut blocks, false, 1);
         fill(&mut used, 0, particles);
+        fill(&mut toward, 0, particles);
         fill(&mut starts, 0, 65);
         recolour(
             pairs.as_slice(),
@@ -144,8 +159,10 @@ impl Colouring {
             pairs,
             live,
             marks,
+            blocks,
             colours,
             used,
+            toward,
             order,
             starts,
             chains,
@@ -166,8 +183,10 @@ impl Colouring {
             pairs,
         );
         copy_pairs(&mut self.pairs, pairs);
+        tell_all(self.toward.as_mut_slice(), pairs);
         let count = pairs.len() as u32;
         fill(&mut self.live, true, count);
+        unmark_all(&mut self.marks, &mut self.blocks, count);
         fill(&mut self.colours, 0, count);
         recolour(
             self.pairs.as_slice(),
@@ -186,13 +205,13 @@ impl Colouring {
         requires live { (k : ℕ) → k < length sorted.now → IsTrue (live_at self.old.live (slice_index sorted.now k)) }
         ensures { self.new ≡ record self.old { live = dropped sorted.now self.old.live } }
     {
-        fill(&mut self.marks, false, self.pairs.as_slice().len() as u32);
         recolour_without(
             self.pairs.as_slice(),
             self.live.as_mut_slice(),
             &mut self.chains,
             self.colours.as_mut_slice(),
             self.marks.as_mut_slice(),
+            self.blocks.as_mut_slice(),
             &mut self.order,
             self.starts.as_mut_slice(),
             sorted,
@@ -232,6 +251,9 @@ impl Colouring {
         requires j_in { j < self.now.particles }
         ensures { result ≡ joined self.now.pairs self.now.live i j }
     {
+        if !may_lead(self.toward.as_slice(), i, j) {
+            return false;
+        }
         leads(self.pairs.as_slice(), &self.chains, i, j)
     }
 

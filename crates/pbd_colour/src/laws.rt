@@ -17,5 +17,6 @@ pub fn batches_are_apart()
 
 /// The batches joined, and the serial pairs after them, are the order.
 pub fn batches_make_order()
-    ensures { (pairs : List (ℕ × ℕ)) (live : List Bool) → order pairs live ≡ flat_map (batch_of pairs live) (range_with_len 0 63) ++ batch_of pairs live 63 }
+    ensures { (pairs : List (ℕ × ℕ)) (live : List Bool) → order pairs live
+        ≡ flat_map (batch_of pairs live) (range_with_len 0 63) ++ batch_of pairs live 63 }
 {}

@@ -6,9 +6,11 @@ mod gather;
 mod held;
 mod laws;
 mod lists;
+mod marks;
 mod mend;
 mod neighbours;
 mod paint;
+mod toward;
 
 pub use colouring::Colouring;
 pub use laws::{batches_are_apart, batches_are_live, batches_make_order};

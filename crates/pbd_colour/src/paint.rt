@@ -5,7 +5,7 @@ ghost use Rattle.pbd_colour.specs.Pairs.{InRange};
 ghost use Rattle.pbd_colour.specs.Used.{has, AreSmall};
 
 // Puts colour c into the set of particle p.
-fn mark(used: &mut [u64], p: u32, c: u32)
+pub(crate) fn mark(used: &mut [u64], p: u32, c: u32)
     requires in_range { p < length used.old }
     requires colour { c < 63 }
     requires small { AreSmall used.old }
@@ -27,7 +27,7 @@ fn least_unused(used: &[u64], p: u32, q: u32) -> u32
 }
 
 // Empties each set.
-fn clear(used: &mut [u64])
+pub(crate) fn clear(used: &mut [u64])
     ensures { (p : ℕ) → p < length used.new → slice_index used.new p ≡ 0 }
 {
     for set in used.iter_mut() {

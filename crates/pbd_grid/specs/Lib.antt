@@ -1,3 +1,4 @@
 pub mod Near
 pub mod Blocks
 pub mod Ready
+pub mod Crowds

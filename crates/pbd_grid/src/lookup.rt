@@ -1,9 +1,9 @@
 //! Cells of places, and what is found by looking them up.
-ghost use Rattle.std.specs.Prelude.{◌≡◌, ◌+◌, ◌/◌, ◌%◌, ◌<◌, ◌≤◌, ◌^◌, ◌++◌, ◌&&◌, ◌==◌, length, map, unsigned_abs};
+ghost use Rattle.std.specs.Prelude.{◌≡◌, ◌+◌, ◌/◌, ◌%◌, ◌<◌, ◌≤◌, ◌^◌, ◌++◌, ◌&&◌, ◌==◌, length, unsigned_abs};
 ghost use Rattle.pbd_num.specs.Vectors.{Within};
-ghost use Rattle.pbd_grid.specs.Near.{AllInside};
-ghost use Rattle.pbd_grid.specs.Blocks.{Below, AreLaid, axis_cell, cube_of, home_of, corner_of, beside, cell_at, same_cell, slot_of};
-ghost use Rattle.pbd_grid.specs.Blocks.{keep, picked, picked_one, all_picked, block_part};
+ghost use Rattle.pbd_grid.specs.Blocks.{Below, axis_cell, cube_of, home_of, corner_of, beside, cell_at, same_cell, slot_of};
+ghost use Rattle.pbd_grid.specs.Blocks.{keep, picked_one};
+ghost use Rattle.pbd_grid.specs.Crowds.{IsLaid, picked_in, picked_round};
 
 use crate::near::near;
 use crate::pairs::PairFilter;
@@ -17,6 +17,17 @@ pub(crate) struct Cell {
     x: u32,
     y: u32,
     z: u32,
+}
+
+/// What is searched: places, their cubes of a side, and chains that hold the numbers of those in each cell.
+#[derive(Drop)]
+pub(crate) struct Crowd<'a> {
+    pub(crate) chains: &'a Chains,
+    /// The number of the chains.
+    pub(crate) count: u32,
+    pub(crate) cubes: &'a [Cell],
+    pub(crate) places: &'a [Vec3],
+    pub(crate) side: u32,
 }
 
 // The number of the cube of a coordinate, by a division of 32 bits, which is much faster than one of 64.
@@ -112,31 +123,25 @@ fn is_in(cube: Cell, cell: Cell) -> bool
 }
 
 // Whether j, behind i, is to be found with i in a cell.
-fn wanted<F: PairFilter>(
-    cubes: &[Cell],
-    places: &[Vec3],
-    side: u32,
-    filter: &F,
-    i: u32,
-    cell: Cell,
-    j: u32,
-) -> bool
-    requires low { 0 < side }
-    requires high { side ≤ 1048576 }
-    requires inside { AllInside places.now }
-    requires cubes { cubes.now ≡ map (cube_of side) places.now }
-    requires filter { F.particles filter.now ≡ length places.now }
-    requires i { i < length places.now }
+fn wanted<F: PairFilter>(crowd: &Crowd, filter: &F, i: u32, cell: Cell, j: u32) -> bool
+    requires laid { IsLaid crowd.now }
+    requires filter { F.particles filter.now ≡ length crowd.now.places.now }
+    requires i { i < length crowd.now.places.now }
     requires behind { i < j }
-    ensures { result ≡ (same_cell cell (cell_at side places.now j) && keep places.now side (F.test filter.now) i j) }
+    ensures { result ≡ (same_cell cell (cell_at crowd.now.side crowd.now.places.now j)
+        && keep crowd.now.places.now crowd.now.side (F.test filter.now) i j) }
 {
-    if j as usize >= places.len() {
+    if j as usize >= crowd.places.len() {
         return false;
     }
-    if !near(places[i as usize], places[j as usize], side) {
+    if !near(
+        crowd.places[i as usize],
+        crowd.places[j as usize],
+        crowd.side,
+    ) {
         return false;
     }
-    if !is_in(cubes[j as usize], cell) {
+    if !is_in(crowd.cubes[j as usize], cell) {
         return false;
     }
     filter.keeps(i, j)
@@ -153,66 +158,44 @@ fn push_if(found: &mut RoomList<u32>, is_wanted: bool, j: u32)
 }
 
 // Finds what is wanted with i in one cell. What stands behind i comes first in each chain.
-fn look_up<F: PairFilter>(
-    chains: &Chains,
-    count: u32,
-    cubes: &[Cell],
-    places: &[Vec3],
-    side: u32,
-    filter: &F,
-    i: u32,
-    cell: Cell,
-    found: &mut RoomList<u32>,
-)
-    requires laid { AreLaid chains.now.chains count cubes.now places.now side }
-    requires filter { F.particles filter.now ≡ length places.now }
-    requires i { i < length places.now }
+fn look_up<F: PairFilter>(crowd: &Crowd, filter: &F, i: u32, cell: Cell, found: &mut RoomList<u32>)
+    requires laid { IsLaid crowd.now }
+    requires filter { F.particles filter.now ≡ length crowd.now.places.now }
+    requires i { i < length crowd.now.places.now }
     requires cell { Below 1073741825 cell }
-    requires room { length found.old.entries + length (picked chains.now.chains places.now side (F.test filter.now) i cell)
-        ≤ found.old.room }
-    ensures { found.new ≡ record found.old {
-      entries = found.old.entries
-          ++ picked chains.now.chains places.now side (F.test filter.now) i cell;
-    } }
+    requires room { length found.old.entries + length (picked_in crowd.now (F.test filter.now) i cell) ≤ found.old.room }
+    ensures { found.new ≡ record found.old { entries = found.old.entries ++ picked_in crowd.now (F.test filter.now) i cell } }
 {
-    let mut at = chains.first(slot(cell, count));
-    for _ in 0..chains.items() {
+    let mut at = crowd.chains.first(slot(cell, crowd.count));
+    for _ in 0..crowd.chains.items() {
         let Some(j) = at else {
             break;
         };
         if j <= i {
             break;
         }
-        push_if(found, wanted(cubes, places, side, filter, i, cell, j), j);
-        at = chains.next(j);
+        push_if(found, wanted(crowd, filter, i, cell, j), j);
+        at = crowd.chains.next(j);
     }
 }
 
 // Finds what is wanted with i in the eight cells from a corner on.
 pub(crate) fn look_round<F: PairFilter>(
-    chains: &Chains,
-    count: u32,
-    cubes: &[Cell],
-    places: &[Vec3],
-    side: u32,
+    crowd: &Crowd,
     filter: &F,
     i: u32,
     from: Cell,
     found: &mut RoomList<u32>,
 )
-    requires laid { AreLaid chains.now.chains count cubes.now places.now side }
-    requires filter { F.particles filter.now ≡ length places.now }
-    requires i { i < length places.now }
+    requires laid { IsLaid crowd.now }
+    requires filter { F.particles filter.now ≡ length crowd.now.places.now }
+    requires i { i < length crowd.now.places.now }
     requires from { Below 536870913 from }
-    requires room { length found.old.entries
-        + length (all_picked chains.now.chains places.now side (F.test filter.now) i (block_part from 8)) ≤ found.old.room }
-    ensures { found.new ≡ record found.old {
-      entries = found.old.entries
-          ++ all_picked chains.now.chains places.now side (F.test filter.now) i (block_part from 8);
-    } }
+    requires room { length found.old.entries + length (picked_round crowd.now (F.test filter.now) i from) ≤ found.old.room }
+    ensures { found.new ≡ record found.old { entries = found.old.entries ++ picked_round crowd.now (F.test filter.now) i from } }
 {
     for n in 0..8 {
         let cell = part_of_block(from, n);
-        look_up(chains, count, cubes, places, side, filter, i, cell, found);
+        look_up(crowd, filter, i, cell, found);
     }
 }

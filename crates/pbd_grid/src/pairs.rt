@@ -1,9 +1,9 @@
 //! The near pairs of all particles.
 ghost use Rattle.std.specs.Prelude.{◌≡◌, ◌+◌, ◌<◌, ◌≤◌, [], ℕ, Bool, pos, ◌≤ℤ◌, length, IfOk, OnOk, OnErr};
-ghost use Rattle.pbd_grid.specs.Blocks.{AreLaid};
+ghost use Rattle.pbd_grid.specs.Crowds.{IsLaid};
 ghost use Rattle.pbd_grid.specs.Near.{AllInside, near_pairs};
 
-use crate::lookup::Cell;
+use crate::lookup::{Cell, Crowd};
 use crate::rows::{append_row, find_row, link_all};
 use pbd_chain::Chains;
 use pbd_num::Vec3;
@@ -59,28 +59,24 @@ fn chains_for(particles: u32) -> u32
 
 // Lists the near pairs row by row, from chains that hold each particle once.
 fn find_pairs<F: PairFilter>(
-    chains: &Chains,
-    count: u32,
-    cubes: &[Cell],
-    places: &[Vec3],
-    side: u32,
+    crowd: &Crowd,
     filter: &F,
     found: &mut RoomList<u32>,
     out: &mut RoomList<(u32, u32)>,
 ) -> Result<(), Full>
-    requires laid { AreLaid chains.now.chains count cubes.now places.now side }
-    requires filter { F.particles filter.now ≡ length places.now }
-    requires space { length places.now ≤ found.old.room }
+    requires laid { IsLaid crowd.now }
+    requires filter { F.particles filter.now ≡ length crowd.now.places.now }
+    requires space { length crowd.now.places.now ≤ found.old.room }
     ensures kept { found.new.room ≡ found.old.room }
     ensures room { out.new.room ≡ out.old.room }
-    ensures pairs { OnOk result (out.new.entries ≡ near_pairs places.now (pos side) (F.test filter.now)) }
-    ensures fits { OnOk result (length (near_pairs places.now (pos side) (F.test filter.now)) ≤ out.old.room) }
-    ensures full { OnErr result (out.old.room < length (near_pairs places.now (pos side) (F.test filter.now))) }
+    ensures pairs { OnOk result (out.new.entries ≡ near_pairs crowd.now.places.now (pos crowd.now.side) (F.test filter.now)) }
+    ensures fits { OnOk result (length (near_pairs crowd.now.places.now (pos crowd.now.side) (F.test filter.now)) ≤ out.old.room) }
+    ensures full { OnErr result (out.old.room < length (near_pairs crowd.now.places.now (pos crowd.now.side) (F.test filter.now))) }
     ensures emptied { OnErr result (out.new.entries ≡ []) }
 {
     out.clear();
-    for i in 0..places.len() as u32 {
-        find_row(chains, count, cubes, places, side, filter, i, found);
+    for i in 0..crowd.places.len() as u32 {
+        find_row(crowd, filter, i, found);
         if append_row(i, found.as_slice(), out).is_err() {
             out.clear();
             return Err(Full);
@@ -135,15 +131,13 @@ impl Grid {
         // What is less than the thickness from a place is in two cells an axis, of twice that edge.
         let side = thickness as u32;
         link_all(&mut self.chains, self.count, &mut self.cubes, places, side);
-        find_pairs(
-            &self.chains,
-            self.count,
-            self.cubes.as_slice(),
+        let crowd = Crowd {
+            chains: &self.chains,
+            count: self.count,
+            cubes: self.cubes.as_slice(),
             places,
             side,
-            filter,
-            &mut self.found,
-            out,
-        )
+        };
+        find_pairs(&crowd, filter, &mut self.found, out)
     }
 }

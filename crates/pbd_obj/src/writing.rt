@@ -102,7 +102,8 @@ fn corner_text(n: u32) -> Line
 
 fn write_corners<K: Sink>(corners: &[u32], base: u32, sink: &mut K) -> Result<(), Failed>
     requires { All (λ corner. base + corner ≤ 2 ^ 32 - 2) corners.now }
-    ensures bytes { WritesPiece (K.written sink.old) (K.written sink.new) result (flat_map (λ corner. corner_text (base + corner + 1)) corners.now) }
+    ensures bytes { WritesPiece (K.written sink.old) (K.written sink.new) result
+        (flat_map (λ corner. corner_text (base + corner + 1)) corners.now) }
     ensures cause { HasCause (K.faults sink.old) (K.faults sink.new) result }
 {
     for corner in corners {

@@ -7,5 +7,6 @@ ghost use Rattle.pbd_scene.specs.Scene.{scene_of};
 
 /// The parts of a tree that breaks no rule are valid.
 pub fn accepted_scenes_are_valid()
-    ensures { (limit : ℤ) (tree : Members) (parts : Parts) → IsTrue (is_limit limit) → scene_of limit tree ≡ Ok parts → IsTrue (is_valid parts) }
+    ensures { (limit : ℤ) (tree : Members) (parts : Parts) → IsTrue (is_limit limit) → scene_of limit tree ≡ Ok parts
+        → IsTrue (is_valid parts) }
 {}

@@ -26,7 +26,8 @@ pub fn drawn_events_are_legal()
 pub fn legal_interleavings_agree_with_the_drawn_one()
     ensures { (limit : ℤ) (bonds : Bonds) (batch : List ℕ) (before : Motion) → IsBatch limit (length before.particles) bonds batch
         → (words : Lcg) (events : List Event) → IsLegal (length batch) events
-        → interleaved limit (bond_of bonds) batch events before ≡ interleaved limit (bond_of bonds) batch (drawn words (length batch)) before }
+        → interleaved limit (bond_of bonds) batch events before
+        ≡ interleaved limit (bond_of bonds) batch (drawn words (length batch)) before }
 {}
 
 /// All reads, then all writes of first ends, then all writes of second ends: the order of lanes is legal.

@@ -26,7 +26,8 @@ fn write_first<const L: usize, G: Ledger>(
     requires bond { IsBond store.old.limit (length store.old.particles) bond }
     requires sound { IsSound store.old.limit note.correction }
     requires inside { AreInside store.old.limit store.old.particles }
-    ensures value { (t : Books) → (ns : List Jotting) → mix_of store.new.particles t ns ≡ first_written bond note.correction (mix_of store.old.particles t ns) }
+    ensures value { (t : Books) → (ns : List Jotting) → mix_of store.new.particles t ns
+        ≡ first_written bond note.correction (mix_of store.old.particles t ns) }
     ensures limit { store.new.limit ≡ store.old.limit }
     ensures inside { AreInside store.old.limit store.new.particles }
     ensures fixed { fixed_parts store.new.particles ≡ fixed_parts store.old.particles }
@@ -49,7 +50,8 @@ fn write_second<const L: usize, G: Ledger>(
     requires sound { IsSound store.old.limit note.correction }
     requires inside { AreInside store.old.limit store.old.particles }
     requires room { HaveRoom (2 ^ 125) (ledger_of totals.old) }
-    ensures value { (ns : List Jotting) → mix_of store.new.particles (ledger_of totals.new) ns ≡ second_written bond note note.correction (mix_of store.old.particles (ledger_of totals.old) ns) }
+    ensures value { (ns : List Jotting) → mix_of store.new.particles (ledger_of totals.new) ns
+        ≡ second_written bond note note.correction (mix_of store.old.particles (ledger_of totals.old) ns) }
     ensures limit { store.new.limit ≡ store.old.limit }
     ensures inside { AreInside store.old.limit store.new.particles }
     ensures fixed { fixed_parts store.new.particles ≡ fixed_parts store.old.particles }
@@ -78,7 +80,9 @@ fn happen<const L: usize, G: Ledger>(
     requires sound { AreSound store.old.limit notes.old }
     requires inside { AreInside store.old.limit store.old.particles }
     requires room { HaveRoom (2 ^ 125) (ledger_of totals.old) }
-    ensures value { mix_of store.new.particles (ledger_of totals.new) notes.new ≡ happened store.old.limit (bond_at (bond_of bonds.now) batch.now) event (mix_of store.old.particles (ledger_of totals.old) notes.old) }
+    ensures value { mix_of store.new.particles (ledger_of totals.new) notes.new
+        ≡ happened store.old.limit (bond_at (bond_of bonds.now) batch.now) event
+        (mix_of store.old.particles (ledger_of totals.old) notes.old) }
     ensures notes { length notes.new ≡ length notes.old }
     ensures sound { AreSound store.old.limit notes.new }
     ensures limit { store.new.limit ≡ store.old.limit }
@@ -113,7 +117,9 @@ pub(crate) fn mix<const L: usize, G: Ledger>(
     requires sound { AreSound store.old.limit notes.old }
     requires inside { AreInside store.old.limit store.old.particles }
     requires room { HaveRoom (2 ^ 120) (ledger_of totals.old) }
-    ensures value { mix_of store.new.particles (ledger_of totals.new) notes.new ≡ mixed store.old.limit (bond_at (bond_of bonds.now) batch.now) events.now (mix_of store.old.particles (ledger_of totals.old) notes.old) }
+    ensures value { mix_of store.new.particles (ledger_of totals.new) notes.new
+        ≡ mixed store.old.limit (bond_at (bond_of bonds.now) batch.now) events.now
+        (mix_of store.old.particles (ledger_of totals.old) notes.old) }
     ensures notes { length notes.new ≡ length notes.old }
     ensures sound { AreSound store.old.limit notes.new }
     ensures limit { store.new.limit ≡ store.old.limit }

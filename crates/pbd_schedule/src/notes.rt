@@ -100,12 +100,15 @@ pub fn run_events<const L: usize, G: Ledger>(
     requires room { HaveRoom (2 ^ 120) (ledger_of totals.old) }
     requires few { length events.now < 2 ^ 32 }
     ensures outcome { MatchResult result
-        (λ _. ComeTo store.old.limit (bond_of bonds.entry) batch.now events.now (motion_of store.old totals.old) (Ok (motion_of store.new totals.new)))
-        (λ fault. Faults store.old.limit (bond_of bonds.entry) batch.now events.now (motion_of store.old totals.old) ((store.new ≡ store.old) × (totals.new ≡ totals.old)) fault) }
+        (λ _. ComeTo store.old.limit (bond_of bonds.entry) batch.now events.now (motion_of store.old totals.old)
+        (Ok (motion_of store.new totals.new)))
+        (λ fault. Faults store.old.limit (bond_of bonds.entry) batch.now events.now (motion_of store.old totals.old)
+        ((store.new ≡ store.old) × (totals.new ≡ totals.old)) fault) }
     ensures limit { store.new.limit ≡ store.old.limit }
     ensures fixed { fixed_parts store.new.particles ≡ fixed_parts store.old.particles }
     ensures inside { OnOk result (AreInside store.old.limit store.new.particles) }
-    ensures room { OnOk result ((n : ℕ) → HaveRoom n (ledger_of totals.old) → HaveRoom (n + length batch.now * 2 ^ 32) (ledger_of totals.new)) }
+    ensures room { OnOk result ((n : ℕ) → HaveRoom n (ledger_of totals.old)
+        → HaveRoom (n + length batch.now * 2 ^ 32) (ledger_of totals.new)) }
     ensures cost { steps.new ≤ steps.old + 4 * length batch.now }
 {
     notes.begin(count_bonds(store, bonds, batch));

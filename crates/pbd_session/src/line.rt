@@ -10,6 +10,7 @@ use crate::Compared;
 use pbd_line::Line;
 use pbd_world::{Particle, Phase, Refusal};
 
+#[inline]
 pub fn done_line() -> Line
     ensures { result ≡ line (codes "ok" ∷ []) }
 {
@@ -32,6 +33,7 @@ fn numbers_line(x: i64, y: i64, z: i64) -> Line
 }
 
 #[tactic(auto, unfolding(pbd_world::specs::Text::place_line))]
+#[inline]
 pub fn place_line(p: &Particle) -> Line
     ensures { result ≡ place_line p.now }
 {
@@ -40,6 +42,7 @@ pub fn place_line(p: &Particle) -> Line
 
 /// The first line of a frame.
 #[tactic(auto, unfolding(crate::specs::Printing::frame_header))]
+#[inline]
 pub fn header_line(steps: u64, particles: u32, live: u32, contacts: u32) -> Line
     ensures { result ≡ frame_header steps particles live contacts }
 {
@@ -75,6 +78,7 @@ fn wide_line(name: &str, x: i128, y: i128, z: i128) -> Line
 }
 
 /// A line of a ledger. An axis has at most 40 bytes.
+#[inline]
 pub fn sum_line(name: &str, sum: &[i128; 3]) -> Line
     requires { length name.now ≤ 8 }
     ensures { result ≡ sum_line name.now (sum_of sum.now) }
@@ -110,6 +114,7 @@ fn leaves_line(step: u64, phase: Phase, element: u32) -> Line
 }
 
 #[tactic(auto, unfolding(pbd_world::specs::Text::refusal_line))]
+#[inline]
 pub fn refusal_line(refusal: &Refusal) -> Line
     ensures { result ≡ refusal_line refusal.now }
 {

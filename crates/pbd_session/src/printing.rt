@@ -26,8 +26,8 @@ pub struct NamedTotal {
     sum: [i128; 3],
 }
 
-/// Writes a line with a prefix before it, in one call where both fit in a line.
-fn write_line<K: Sink>(prefix: &[u8], line: &Line, sink: &mut K) -> Result<(), Failed>
+/// Writes a prefix and a line, in one call where both fit in a line.
+fn write_both<K: Sink>(prefix: &[u8], line: &Line, sink: &mut K) -> Result<(), Failed>
     ensures bytes { WritesPiece (K.written sink.old) (K.written sink.new) result (prefix.now ++ line.now) }
     ensures cause { HasCause (K.faults sink.old) (K.faults sink.new) result }
 {
@@ -39,6 +39,17 @@ fn write_line<K: Sink>(prefix: &[u8], line: &Line, sink: &mut K) -> Result<(), F
     }
     sink.write(prefix)?;
     sink.write(line.as_slice())
+}
+
+/// Writes a line with a prefix before it, in one call where both fit in a line.
+fn write_line<K: Sink>(prefix: &[u8], line: &Line, sink: &mut K) -> Result<(), Failed>
+    ensures bytes { WritesPiece (K.written sink.old) (K.written sink.new) result (prefix.now ++ line.now) }
+    ensures cause { HasCause (K.faults sink.old) (K.faults sink.new) result }
+{
+    if prefix.is_empty() {
+        return sink.write(line.as_slice());
+    }
+    write_both(prefix, line, sink)
 }
 
 #[tactic(auto, using(crate::proofs::Texts::header_is))]

@@ -130,8 +130,9 @@ fn rubs_any(friction: i64, touched: &Touched) -> bool
 }
 
 /// Friction, which follows the passes of a step: each free particle that a shape touched loses the part friction / 256
-/// of its velocity, rounded axis by axis, and what it loses is added to the total of shapes with the other sign. Its place before moves, and
-/// its place stays. It reaches the store at most twice for each block, and not at all where friction is 0 or no particle was touched.
+/// of its velocity, rounded axis by axis, and what it loses is added to the total of shapes with the other sign. Its
+/// place before moves, and its place stays. It reaches the store at most twice for each block, and not at all where
+/// friction is 0 or no particle was touched.
 pub fn rub<const L: usize, G: Ledger>(
     store: &mut Store<L>,
     friction: i64,

@@ -22,7 +22,7 @@ use Rattle.pbd_store.proofs.Saving.{saved_none}
 use Rattle.pbd_store.proofs.Saves.{filled_is, saved_as, saved_on, saved_rest, saved_not_yet, saved_once}
 use Rattle.pbd_store.proofs.Places.{at_of}
 use Rattle.pbd_step.specs.declared.state.Setting.{Setting}
-use Rattle.pbd_step.specs.Predicting.{bare_world, Advanced, predicted_from, loss_at, flown_at, pull_at, losses_at, places_at, pulls_at, sum_below, sums_below}
+use Rattle.pbd_step.specs.Predicting.{bare_world, Advanced, predicted_from, loss_at, losses_at, places_at, pulls_at, sum_below, sums_below}
 use Rattle.pbd_step.proofs.Predicting.{one_moved, rests, flies, predicted_on, predicted_all}
 use Rattle.pbd_step.proofs.Flying.{entries_room}
 

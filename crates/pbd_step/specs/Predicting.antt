@@ -68,7 +68,11 @@ pull_at gravity flies = if flies then gravity else pos 0
 
 -- the same of three axes
 abbrev pub losses_at : ℤ → Bool → Vec3 → Vec3 → Vec3
-losses_at damping flies at before = record { x = loss_at damping flies at.x before.x; y = loss_at damping flies at.y before.y; z = loss_at damping flies at.z before.z }
+losses_at damping flies at before = record {
+  x = loss_at damping flies at.x before.x;
+  y = loss_at damping flies at.y before.y;
+  z = loss_at damping flies at.z before.z;
+}
 
 abbrev pub places_at : ℤ → Vec3 → Bool → Vec3 → Vec3 → Vec3
 places_at damping gravity flies at before = record {

@@ -114,12 +114,15 @@ fn fly_axis<const L: usize>(
     requires gravity { unsigned_abs pull.gravity ≤ 2 ^ 29 }
     requires at { (j : ℕ) → j < L → unsigned_abs (lane at.now j) ≤ 2 ^ 29 }
     requires before { (j : ℕ) → j < L → unsigned_abs (lane before.now j) ≤ 2 ^ 29 }
-    ensures to { (j : ℕ) → j < L → lane result.to j ≡ flown_at pull.damping pull.gravity (is_set flies.now j) (lane at.now j) (lane before.now j) }
+    ensures to { (j : ℕ) → j < L → lane result.to j
+        ≡ flown_at pull.damping pull.gravity (is_set flies.now j) (lane at.now j) (lane before.now j) }
     ensures pulled { result.pulled ≡ sum_below (λ j. pull_at pull.gravity (is_set flies.now j)) L }
-    ensures lost { result.lost ≡ sum_below (λ j. loss_at pull.damping (is_set flies.now j) (lane at.now j) (lane before.now j)) L }
+    ensures lost { result.lost
+        ≡ sum_below (λ j. loss_at pull.damping (is_set flies.now j) (lane at.now j) (lane before.now j)) L }
     ensures pulled_size { unsigned_abs result.pulled ≤ 2 ^ 34 }
     ensures lost_size { unsigned_abs result.lost ≤ 2 ^ 34 }
-    ensures within { result.within ≡ true → (j : ℕ) → j < L → unsigned_abs (lane result.to j) ≤ unsigned_abs pull.limit }
+    ensures within { result.within ≡ true → (j : ℕ) → j < L
+        → unsigned_abs (lane result.to j) ≤ unsigned_abs pull.limit }
 {
     let mut to = [0; L];
     let mut pulled = 0;

@@ -17,10 +17,11 @@ use Rattle.pbd_world.specs.Room.{Roomed}
 use Rattle.pbd_world.specs.Particles.{particle_at}
 use Rattle.pbd_world.specs.Bonds.{link_at}
 use Rattle.pbd_world.specs.Step.{is_torn, tear}
+use Rattle.pbd_world.specs.Work.{tearable_count}
 use Rattle.pbd_world.specs.Valid.{is_limit, is_between, is_valid_link, are_valid_links}
 use Rattle.pbd_store.proofs.Limits.{limit_size}
 use Rattle.pbd_store.proofs.Listing.{any_default}
-use Rattle.pbd_tear.specs.Tearing.{IsLink, AscendTo, torn_numbers, tearable_count, gone_numbers}
+use Rattle.pbd_tear.specs.Tearing.{IsLink, AscendTo, torn_numbers, gone_numbers}
 
 -- ---- limits and links
 

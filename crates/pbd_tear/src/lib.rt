@@ -5,8 +5,9 @@ ghost use Rattle.std.specs.Prelude.{◌≡◌, ◌+◌, ◌*◌, ◌<◌, ◌≤
 ghost use Rattle.pbd_num.specs.Vectors.{Within, minus, squared_length};
 ghost use Rattle.pbd_world.specs.Valid.{are_valid_links};
 ghost use Rattle.pbd_world.specs.Step.{is_torn};
+ghost use Rattle.pbd_world.specs.Work.{tearable_count};
 ghost use Rattle.pbd_store.specs.Moving.{AreInside};
-ghost use Rattle.pbd_tear.specs.Tearing.{IsLink, AscendTo, torn_numbers, tearable_count, gone_numbers};
+ghost use Rattle.pbd_tear.specs.Tearing.{IsLink, AscendTo, torn_numbers, gone_numbers};
 
 use pbd_num::{Vec3, square};
 use pbd_store::{Steps, Store};

@@ -1,11 +1,12 @@
 //! What steps hand to a projector, colour by colour: how often their bonds may reach the store, at each width.
 ghost use Rattle.std.specs.Prelude.{◌≡◌, ◌<◌, ◌≤◌};
 
-use crate::drawing::{Drawing, EMPTY, free, link, parts};
+use crate::drawing::{Drawing, EMPTY, free, link, particle, parts, vector};
+use pbd_num::Vec3;
 use pbd_pair::{Bonds, LaneProjector, Projector};
 use pbd_step::Solver;
 use pbd_store::{Steps, Store};
-use pbd_world::{Left, Scene, Totals};
+use pbd_world::{Kind, Left, Link, Particle, Scene, Totals};
 use std::alloc::{AllocError, Global};
 use std::marker::Brand;
 use std::sync::ledger::{Blank, Ledger};
@@ -197,7 +198,12 @@ fn bonds_reach_the_store_as_often_as_their_work_says(rt: HostRuntime) -> Result<
     for row in &ROWS {
         let alloc = rt.alloc();
         let scene = Scene::from_parts(alloc, parts(alloc, &row.scene)?)?;
-        assert_eq!(rt; at_each_width(alloc, &scene, row.steps)?, row.accesses, "{}", row.name);
+        assert_eq!(rt;
+            at_each_width(alloc, &scene, row.steps)?,
+            row.accesses,
+            "{}",
+            row.name
+        );
     }
     Ok(())
 }

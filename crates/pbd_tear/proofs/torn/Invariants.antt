@@ -1,5 +1,5 @@
 use Rattle.std.proofs.Common.{◌≡◌, ◌+◌, ◌*◌, ◌≤◌, length, drop}
-use Rattle.pbd_tear.specs.Tearing.{tearable_count}
+use Rattle.pbd_world.specs.Work.{tearable_count}
 use Rattle.pbd_tear.proofs.Numbers.{TornSoFar}
 use Rattle.pbd_tear.proofs.torn.Given as goal
 

@@ -13,4 +13,4 @@ sweep-requires-clause-swept c =
     = subst (λ (flags : List Bool). Holds (live_at flags) (length c.args.chains.now.chains) c.args.chains.now.items c.args.pairs.now c.take_out.new.chains) e c.take_out.ensures.held in
     let len : length (dropped c.args.numbers.now c.args.live.now) ≡ length c.args.pairs.now = ap length (sym e) ∙ omega (arith, c.take_out.auto.live, c.requires.length) in
     subst (λ (flags : List Bool). IsSwept c.args.pairs.now flags c.args.colours.now c.mark_all.new.marks 0) (sym e)
-    (IsSwept-begun c.args.pairs.now c.args.live.now c.args.numbers.now c.args.colours.now c.mark_all.new.marks c.take_out.new.chains c.requires.painted held len c.requires.pairs c.mark_all.ensures)
+    (IsSwept-begun c.args.pairs.now c.args.live.now c.args.numbers.now c.args.colours.now c.mark_all.new.marks c.take_out.new.chains c.requires.painted held len c.requires.pairs c.mark_all.ensures.marked)

@@ -11,19 +11,19 @@ push_if-requires g c = kept_fits c.loop.invariant c.in-Some.j c.wanted.result c.
 
 pub next-at-requires : goal.next-at-requires
 next-at-requires g c =
-    let e : slot_of (length c.args.chains.now.chains) c.args.cell ≡ c.slot.result = ap (λ (n : ℕ). slot_of n c.args.cell) c.requires.laid.counted ∙ sym c.slot.ensures.value in
-    chain_linked c.args.chains.now.chains (slot_of (length c.args.chains.now.chains) c.args.cell) c.in-Some.j (omega (arith, e, c.slot.ensures.below, c.requires.laid.counted))
-    (get_in (chain_at c.args.chains.now.chains (slot_of (length c.args.chains.now.chains) c.args.cell)) c.loop.counter c.in-Some.j (sym c.loop.invariant.next ∙ c.in-Some.is))
+    let e : slot_of (length c.args.crowd.now.chains.now.chains) c.args.cell ≡ c.slot.result = ap (λ (n : ℕ). slot_of n c.args.cell) c.requires.laid.counted ∙ sym c.slot.ensures.value in
+    chain_linked c.args.crowd.now.chains.now.chains (slot_of (length c.args.crowd.now.chains.now.chains) c.args.cell) c.in-Some.j (omega (arith, e, c.slot.ensures.below, c.requires.laid.counted))
+    (get_in (chain_at c.args.crowd.now.chains.now.chains (slot_of (length c.args.crowd.now.chains.now.chains) c.args.cell)) c.loop.counter c.in-Some.j (sym c.loop.invariant.next ∙ c.in-Some.is))
 
 pub loop-preserved : goal.loop-preserved
 loop-preserved g c = IsKept-more c.loop.invariant c.in-Some.j c.wanted.result c.push_if.new.found c.next-at.result c.in-Some.is c.wanted.ensures c.push_if.ensures
-    (c.next-at.ensures (slot_of (length c.args.chains.now.chains) c.args.cell) c.loop.counter (sym c.loop.invariant.next ∙ c.in-Some.is))
+    (c.next-at.ensures (slot_of (length c.args.crowd.now.chains.now.chains) c.args.cell) c.loop.counter (sym c.loop.invariant.next ∙ c.in-Some.is))
 
 pub returns-in_default : goal.returns-in_default
-returns-in_default g c = IsKept-all c.loop.invariant (get_none (chain_at c.args.chains.now.chains (slot_of (length c.args.chains.now.chains) c.args.cell)) c.loop.counter (sym c.loop.invariant.next ∙ c.in_default.is))
+returns-in_default g c = IsKept-all c.loop.invariant (get_none (chain_at c.args.crowd.now.chains.now.chains (slot_of (length c.args.crowd.now.chains.now.chains) c.args.cell)) c.loop.counter (sym c.loop.invariant.next ∙ c.in_default.is))
 
 pub returns-then-j-i : goal.returns-then-j-i
 returns-then-j-i g c =
-    IsKept-behind (finds c.args.places.now c.args.side (g.F.PairFilter.test c.args.filter.now) c.args.i c.args.cell) c.args.i
-    (finds_behind c.args.places.now c.args.side (g.F.PairFilter.test c.args.filter.now) c.args.i c.args.cell)
-    c.loop.invariant (length c.args.places.now) c.in-Some.j (c.requires.laid.falling (slot_of (length c.args.chains.now.chains) c.args.cell)) c.in-Some.is (omega (arith, c.if-j-i.true))
+    IsKept-behind (finds c.args.crowd.now.places.now c.args.crowd.now.side (g.F.PairFilter.test c.args.filter.now) c.args.i c.args.cell) c.args.i
+    (finds_behind c.args.crowd.now.places.now c.args.crowd.now.side (g.F.PairFilter.test c.args.filter.now) c.args.i c.args.cell)
+    c.loop.invariant (length c.args.crowd.now.places.now) c.in-Some.j (c.requires.laid.falling (slot_of (length c.args.crowd.now.chains.now.chains) c.args.cell)) c.in-Some.is (omega (arith, c.if-j-i.true))

@@ -6,4 +6,4 @@ use Rattle.pbd_grid.proofs.Walking.{IsKept}
 use Rattle.pbd_grid.proofs.lookup.look_up.Given as goal
 
 abbrev pub invariant-loop : goal.invariant-loop
-invariant-loop g l = IsKept (finds l.places l.side (g.F.PairFilter.test l.filter) l.i l.cell) (chain_at l.chains.chains (slot_of (length l.chains.chains) l.cell)) l.at l.counter l.fn.found l.found
+invariant-loop g l = IsKept (finds l.crowd.places.now l.crowd.side (g.F.PairFilter.test l.filter) l.i l.cell) (chain_at l.crowd.chains.now.chains (slot_of (length l.crowd.chains.now.chains) l.cell)) l.at l.counter l.fn.found l.found

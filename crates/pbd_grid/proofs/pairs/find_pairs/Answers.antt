@@ -15,13 +15,13 @@ at_ok (Err x) e h = absurd (false≢true (sym e))
 
 pub returns-then-is_err-clause-full : goal.returns-then-is_err-clause-full
 returns-then-is_err-clause-full g c =
-    row_full c.args.places.now c.args.side (g.F.PairFilter.test c.args.filter.now) c.loop-i.i c.args.out.now c.loop-i.out c.as_slice.result.now (omega arith) c.loop-i.invariant.rows
+    row_full c.args.crowd.now.places.now c.args.crowd.now.side (g.F.PairFilter.test c.args.filter.now) c.loop-i.i c.args.out.now c.loop-i.out c.as_slice.result.now (omega arith) c.loop-i.invariant.rows
     (c.as_slice.ensures ∙ ap (λ (l : Roomed ℕ). l.entries) c.find_row.ensures)
     (at_err c.append_row.result (sym c.is_err.ensures.value ∙ c.if-is_err.true) c.append_row.ensures.full)
 
 pub loop-i-preserved : goal.loop-i-preserved
 loop-i-preserved g c = record {
-  rows = IsFoundRows-row c.args.places.now c.args.side (g.F.PairFilter.test c.args.filter.now) c.loop-i.i c.args.out.now c.loop-i.out c.append_row.new.out c.as_slice.result.now c.loop-i.invariant.rows
+  rows = IsFoundRows-row c.args.crowd.now.places.now c.args.crowd.now.side (g.F.PairFilter.test c.args.filter.now) c.loop-i.i c.args.out.now c.loop-i.out c.append_row.new.out c.as_slice.result.now c.loop-i.invariant.rows
       (c.as_slice.ensures ∙ ap (λ (l : Roomed ℕ). l.entries) c.find_row.ensures)
       (at_ok c.append_row.result (sym c.is_err.ensures.value ∙ c.if-is_err.false) c.append_row.ensures.ok)
       (at_ok c.append_row.result (sym c.is_err.ensures.value ∙ c.if-is_err.false) c.append_row.ensures.fits);

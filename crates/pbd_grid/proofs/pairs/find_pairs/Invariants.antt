@@ -4,6 +4,6 @@ use Rattle.pbd_grid.proofs.pairs.find_pairs.Given as goal
 
 abbrev pub invariant-loop-i : goal.invariant-loop-i
 invariant-loop-i g l = record {
-  rows : IsFoundRows l.places (pos l.side) (g.F.PairFilter.test l.filter) l.i l.fn.out l.out;
+  rows : IsFoundRows l.crowd.places.now (pos l.crowd.side) (g.F.PairFilter.test l.filter) l.i l.fn.out l.out;
   kept : l.found.room ≡ l.fn.found.room;
 }

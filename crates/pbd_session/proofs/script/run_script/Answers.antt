@@ -16,7 +16,7 @@ loop-command-preserved g c =
     let does : Does c.loop-command.session c.apply-reply.new.self c.in-Some.command c.apply-reply.result = record { world = c.apply-reply.ensures.world; reply = c.apply-reply.ensures.reply } in
     record {
       ran = rw c.refusals-refused.ensures (ran_next _ _ _ _ _ _ _ _ _ _ _ _ c.loop-command.invariant.ran c.in-Some.ensures does c.in_ok-write_reply.ensures.bytes);
-      spent = λ lanes some all. paid_next g.row.L lanes _ _ _ _ _ _ _ _ _ c.in-Some.ensures does (c.loop-command.invariant.spent lanes some all) (c.apply-reply.ensures.cost lanes some all) c.write_reply.ensures.cost;
+      spent = λ lanes some all. paid_next g.row.L lanes _ _ _ _ _ _ _ _ _ _ c.in-Some.ensures does (c.loop-command.invariant.spent lanes some all) (c.apply-reply.ensures.cost lanes some all) c.write_reply.ensures.cost;
       later = omega (arith, c.loop-command.invariant.later, c.write_reply.ensures.cause);
     }
 
@@ -44,7 +44,7 @@ returns-clause-world g c = rw (← c.new-script.ensures.all) ((ran_ends _ _ _ _ 
 pub returns-in_err-write_reply-clause-cost : goal.returns-in_err-write_reply-clause-cost
 returns-in_err-write_reply-clause-cost g c = λ lanes some all.
     let does : Does c.loop-command.session c.apply-reply.new.self c.in-Some.command c.apply-reply.result = record { world = c.apply-reply.ensures.world; reply = c.apply-reply.ensures.reply } in
-    let paid = paid_next g.row.L lanes _ _ _ _ _ _ _ _ _ c.in-Some.ensures does (c.loop-command.invariant.spent lanes some all) (c.apply-reply.ensures.cost lanes some all) c.write_reply.ensures.cost in
+    let paid = paid_next g.row.L lanes _ _ _ _ _ _ _ _ _ _ c.in-Some.ensures does (c.loop-command.invariant.spent lanes some all) (c.apply-reply.ensures.cost lanes some all) c.write_reply.ensures.cost in
     rw (← c.new-script.ensures.all) (omega (arith, paid))
 
 pub returns-clause-cost : goal.returns-clause-cost

@@ -1,4 +1,4 @@
-use Rattle.std.proofs.Common.{arith, ◌∙◌, sym, ◌^◌, ◌+ℤ◌, ◌-ℤ◌, w64, FitsSigned}
+use Rattle.std.proofs.Common.{arith, ◌∙◌, sym, ◌+ℤ◌, ◌-ℤ◌}
 use Rattle.std.proofs.lemmas.Int.{to_z-of_z}
 use Rattle.std.proofs.lemmas.Bool.{cond-true}
 use Rattle.pbd_num.proofs.Sizes.{fits, size-sub, size-add}

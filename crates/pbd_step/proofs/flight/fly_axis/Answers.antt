@@ -1,4 +1,4 @@
-use Rattle.std.proofs.Common.{◌∙◌, sym, ap, arith, rules, ◌<◌, ◌≤◌, ◌+◌, ◌*◌, ◌≢◌, ◌^◌, w64, FitsSigned, ℤ, pos, get_or, length, refl, below_more, get_or-set_other, get_or-set_same, false, unsigned_abs}
+use Rattle.std.proofs.Common.{arith, rules, ◌<◌, ◌≤◌, ◌+◌, ◌*◌, ◌≢◌, ◌^◌, w64, FitsSigned, pos, get_or, length, below_more, get_or-set_other, get_or-set_same, false, unsigned_abs}
 use Rattle.std.proofs.lemmas.Int.{to_z-of_z}
 use Rattle.std.proofs.lemmas.List.{length-replicate}
 use Rattle.pbd_num.proofs.Sizes.{fits}

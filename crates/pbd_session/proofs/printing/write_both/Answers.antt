@@ -1,6 +1,6 @@
 use Rattle.std.proofs.lemmas.Result.{err_from_is_err_and}
 use Rattle.pbd_io.specs.Appending.{piece_then, prefix_longer}
-use Rattle.pbd_session.proofs.printing.write_line.Goals as goal
+use Rattle.pbd_session.proofs.printing.write_both.Goals as goal
 
 pub returns-in_err-write-clause-bytes : goal.returns-in_err-write-clause-bytes
 returns-in_err-write-clause-bytes g c =

@@ -1,0 +1,168 @@
+//! A cloth from the text of a scene, or why there is none.
+ghost use Rattle.std.specs.Prelude.{◌≡◌, ◌≤◌, IfOk, MatchResult, pos};
+ghost use Rattle.toml.specs.Parse.{parse_document};
+ghost use Rattle.pbd_world.specs.World.{opened};
+ghost use Rattle.pbd_cloth.specs.Slots.{begun};
+ghost use Rattle.pbd_scene.specs.declared.fault.SceneFault.TheVariants.{OutOfMemory};
+ghost use Rattle.lakmozet_c.specs.declared.opening.NoCloth.TheVariants.{NoScene};
+ghost use Rattle.lakmozet_c.specs.Faults.{fault_of, key_number, stop_number, table_number, IsFault, IsOpened, IsScene, IsWhy};
+
+use crate::numbers::NO_SLOT;
+use crate::plain::Fault;
+use pbd_cloth::{Cloth, MOST_SLOTS};
+use pbd_num::RANGE;
+use pbd_scene::{KeyName, SceneFault, TableName, read_scene};
+use pbd_world::Scene;
+use std::alloc::{AllocError, Global};
+
+/// Why nothing was opened.
+#[derive(Clone, Copy)]
+pub enum NoCloth {
+    TooManySlots,
+    /// The bytes are no UTF-8.
+    NotText,
+    /// They are no TOML, or they break a rule, or memory ran out.
+    NoScene(SceneFault),
+}
+
+fn boxed(alloc: Global, scene: &Scene, slots: u32) -> Result<Box<Cloth>, AllocError>
+    requires { slots ≤ 16 }
+    ensures { IfOk result (λ cloth. cloth.value ≡ begun (opened scene.now) slots) }
+{
+    let cloth = Cloth::open(alloc, scene, slots)?;
+    Ok(Box::new(alloc, cloth)?)
+}
+
+#[tactic(auto, using(crate::proofs::Reading::read_as))]
+pub(crate) fn scene_of(alloc: Global, text: &str) -> Result<Scene, SceneFault>
+    ensures { MatchResult result (λ parts. IsScene (parse_document text.now) parts) (λ fault. IsFault (parse_document text.now) fault) }
+{
+    read_scene(alloc, text, RANGE)
+}
+
+/// The cloth of a scene, which is let go.
+fn cloth_on(alloc: Global, scene: Scene, slots: u32) -> Result<Box<Cloth>, NoCloth>
+    requires { slots ≤ 16 }
+    ensures { MatchResult result (λ cloth. cloth.value ≡ begun (opened scene) slots)
+        (λ why. why ≡ NoScene OutOfMemory) }
+{
+    let outcome = boxed(alloc, &scene, slots);
+    drop(scene);
+    match outcome {
+        Ok(cloth) => Ok(cloth),
+        Err(AllocError) => Err(NoCloth::NoScene(SceneFault::OutOfMemory)),
+    }
+}
+
+/// The cloth of a scene's text.
+pub(crate) fn cloth_of(alloc: Global, toml: &[u8], slots: u32) -> Result<Box<Cloth>, NoCloth>
+    ensures { MatchResult result (λ cloth. IsOpened toml.now slots cloth.value) (λ why. IsWhy toml.now slots why) }
+{
+    if MOST_SLOTS < slots {
+        return Err(NoCloth::TooManySlots);
+    }
+    match str::from_utf8(toml) {
+        Ok(text) => match scene_of(alloc, text) {
+            Ok(scene) => cloth_on(alloc, scene, slots),
+            Err(fault) => Err(NoCloth::NoScene(fault)),
+        },
+        Err(_) => Err(NoCloth::NotText),
+    }
+}
+
+fn table_number(table: TableName) -> u8
+    ensures { result ≡ table_number table }
+{
+    match table {
+        TableName::Scene => 0,
+        TableName::Particle => 1,
+        TableName::Cloth => 2,
+        TableName::Rope => 3,
+        TableName::Link => 4,
+        TableName::Plane => 5,
+        TableName::Sphere => 6,
+        TableName::Track => 7,
+    }
+}
+
+fn key_number(key: KeyName) -> u8
+    ensures { result ≡ key_number key }
+{
+    match key {
+        KeyName::NoKey => 0,
+        KeyName::Gravity => 1,
+        KeyName::Passes => 2,
+        KeyName::Damping => 3,
+        KeyName::Thickness => 4,
+        KeyName::Friction => 5,
+        KeyName::Pins => 6,
+        KeyName::At => 7,
+        KeyName::Velocity => 8,
+        KeyName::Weight => 9,
+        KeyName::Held => 10,
+        KeyName::Origin => 11,
+        KeyName::Across => 12,
+        KeyName::Down => 13,
+        KeyName::Rows => 14,
+        KeyName::Columns => 15,
+        KeyName::Stretch => 16,
+        KeyName::Shear => 17,
+        KeyName::Bend => 18,
+        KeyName::StretchTear => 19,
+        KeyName::ShearTear => 20,
+        KeyName::BendTear => 21,
+        KeyName::Spacing => 22,
+        KeyName::Count => 23,
+        KeyName::A => 24,
+        KeyName::B => 25,
+        KeyName::Rest => 26,
+        KeyName::Stiffness => 27,
+        KeyName::Tear => 28,
+        KeyName::Normal => 29,
+        KeyName::Offset => 30,
+        KeyName::Centre => 31,
+        KeyName::Radius => 32,
+        KeyName::Particle => 33,
+        KeyName::Keys => 34,
+    }
+}
+
+/// The number of a reason, a status of the program's where it has one.
+pub(crate) fn stop_number(why: &NoCloth) -> i32
+    ensures { result ≡ pos (stop_number why.now) }
+{
+    match why {
+        NoCloth::TooManySlots => NO_SLOT,
+        NoCloth::NotText => 6,
+        NoCloth::NoScene(SceneFault::NotToml) => 7,
+        NoCloth::NoScene(SceneFault::Refused { .. }) => 8,
+        NoCloth::NoScene(SceneFault::OutOfMemory) => 12,
+    }
+}
+
+/// The rule that the scene breaks, if that is the reason.
+pub(crate) fn fault_of(why: &NoCloth) -> Fault
+    ensures { result ≡ fault_of why.now }
+{
+    match *why {
+        NoCloth::NoScene(
+            SceneFault::Refused {
+                rule,
+                table,
+                position,
+                key,
+            },
+        ) => Fault {
+            position,
+            rule: rule.number(),
+            table: table_number(table),
+            key: key_number(key),
+        },
+        _ => Fault {
+            position: 0,
+            rule: 0,
+            table: 0,
+            key: 0,
+        },
+    }
+}

@@ -1,0 +1,45 @@
+//! What crosses to a C program in its own memory.
+
+/// Where a refused step left the range: the step, from 1, the part of it (1 predict, 2 link, 3 contact, 4 shape), and the
+/// particle, link or contact. All are 0 where an answer says no such thing.
+#[repr(C)]
+#[derive(Clone, Copy)]
+pub struct Left {
+    pub step: u64,
+    pub element: u32,
+    pub phase: u8,
+}
+
+/// The first rule that a scene breaks, 2 to 11, and where: the number of its table, the position in it from 0, and the
+/// number of its key. All are 0 where no rule is broken.
+#[repr(C)]
+#[derive(Clone, Copy)]
+pub struct Fault {
+    pub position: u32,
+    pub rule: u8,
+    pub table: u8,
+    pub key: u8,
+}
+
+/// What a log keeps of a world: counts, and the sums of the places over all particles, in units of 1/65,536 metre.
+#[repr(C)]
+#[derive(Clone, Copy)]
+pub struct Sums {
+    pub steps: u64,
+    pub live: u32,
+    pub contacts: u32,
+    pub at: [i64; 3],
+    pub before: [i64; 3],
+}
+
+/// How many there are.
+#[repr(C)]
+#[derive(Clone, Copy)]
+pub struct Counts {
+    pub steps: u64,
+    pub particles: u32,
+    pub links: u32,
+    pub live: u32,
+    pub contacts: u32,
+    pub slots: u32,
+}

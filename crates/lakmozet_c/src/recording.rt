@@ -1,0 +1,182 @@
+//! A script on a scene, recorded into a log, from bytes to bytes.
+ghost use Rattle.std.specs.Prelude.{◌≡◌, ◌⊎◌, ◌≤◌, ◌<◌, ◌^◌, [], Some, IfOk, MatchResult, length, pos, take};
+ghost use Rattle.std.specs.Str.{IsUtf8};
+ghost use Rattle.toml.specs.Parse.{parse_document};
+ghost use Rattle.pbd_io.specs.Pieces.{WritesPiece};
+ghost use Rattle.pbd_script.specs.Commands.{commands};
+ghost use Rattle.pbd_world.specs.Session.{refused_count};
+ghost use Rattle.pbd_world.specs.World.{opened};
+ghost use Rattle.lakmozet_c.specs.Faults.{IsScene};
+ghost use Rattle.lakmozet_c.specs.declared.recording.NoLog.TheVariants.{NoRoom};
+ghost use Rattle.lakmozet_c.specs.Logs.{end_number, log_of, no_log_number, IsLog, IsNotRecorded, IsRecorded, IsWhyNot};
+
+use crate::opening::{NoCloth, scene_of, stop_number};
+use pbd_cloth::LANES;
+use pbd_io::{Failed, MemSink};
+use pbd_pair::LaneProjector;
+use pbd_session::{RunEnd, Session, run_record};
+use pbd_store::Steps;
+use pbd_world::Scene;
+use std::alloc::{AllocError, Global};
+use std::marker::Brand;
+use std::sync::ledger::{Blank, Ledger};
+
+/// How many bytes a scene and a script may have.
+const MOST: usize = 16_777_216;
+
+/// Why there is no log.
+#[derive(Clone, Copy)]
+pub enum NoLog {
+    NoScene(NoCloth),
+    /// The caller's memory is too short.
+    NoRoom,
+    /// The scene or the script is longer than 2^24 bytes.
+    TooLong,
+    NoMemory,
+}
+
+// Records with a count of accesses of its own, which nobody sees.
+fn record_counted<G: Ledger>(
+    blank: Blank,
+    session: &mut Session<LANES, LaneProjector<LANES>>,
+    scene: &[u8],
+    script: &[u8],
+    sink: &mut MemSink,
+) -> Result<RunEnd, Failed>
+    requires name { blank.name ≡ G.name }
+    requires parts { blank.parts ≡ G.parts }
+    requires some { 0 < blank.parts }
+    requires scene { length scene.now < 2 ^ 32 }
+    requires script { length script.now ≤ 2 ^ 31 }
+    ensures bytes { WritesPiece (Some sink.old.bytes) (Some sink.new.bytes) result (log_of session.old scene.now script.now) }
+    ensures refused { IfOk result (λ end. end.refused ≡ refused_count session.old (commands script.now)) }
+{
+    let mut steps: Steps<G> = Steps::open(blank);
+    run_record(session, scene, script, sink, &mut steps)
+}
+
+/// Records the script on a session of the scene, which is let go.
+fn log_on(
+    alloc: Global,
+    scene: Scene,
+    text: &[u8],
+    script: &[u8],
+    sink: &mut MemSink,
+) -> Result<u64, NoLog>
+    requires text { length text.now < 2 ^ 32 }
+    requires script { length script.now ≤ 2 ^ 31 }
+    requires empty { sink.old.bytes ≡ [] }
+    ensures log { IfOk result (λ _. sink.new.bytes ≡ log_of (opened scene) text.now script.now) }
+    ensures count { IfOk result (λ refused. refused ≡ refused_count (opened scene) (commands script.now)) }
+    ensures none { MatchResult result (λ _. Unit {0}) (λ why. IsWhyNot text.now why) }
+{
+    let outcome = Session::open(alloc, &scene, LaneProjector::<LANES>::new());
+    drop(scene);
+    match outcome {
+        Ok(mut session) => {
+            let end = record_counted::<Brand>(Blank::new(1), &mut session, text, script, sink);
+            drop(session);
+            match end {
+                Ok(end) => Ok(end.refused),
+                Err(Failed) => Err(NoLog::NoRoom),
+            }
+        }
+        Err(AllocError) => Err(NoLog::NoMemory),
+    }
+}
+
+/// Records the script on the scene of a text.
+fn logged(alloc: Global, scene: &[u8], script: &[u8], sink: &mut MemSink) -> Result<u64, NoLog>
+    requires scene { length scene.now < 2 ^ 32 }
+    requires script { length script.now ≤ 2 ^ 31 }
+    requires empty { sink.old.bytes ≡ [] }
+    ensures { MatchResult result (λ refused. IsLog scene.now script.now sink.new.bytes refused) (λ why. IsWhyNot scene.now why) }
+{
+    match str::from_utf8(scene) {
+        Ok(text) => match scene_of(alloc, text) {
+            Ok(parts) => log_on(alloc, parts, scene, script, sink),
+            Err(fault) => Err(NoLog::NoScene(NoCloth::NoScene(fault))),
+        },
+        Err(_) => Err(NoLog::NoScene(NoCloth::NotText)),
+    }
+}
+
+fn no_log_number(why: &NoLog) -> i32
+    ensures { result ≡ pos (no_log_number why.now) }
+{
+    match why {
+        NoLog::NoRoom => 3,
+        NoLog::TooLong => 4,
+        NoLog::NoScene(why) => stop_number(why),
+        NoLog::NoMemory => 12,
+    }
+}
+
+fn end_number(refused: u64) -> i32
+    ensures { result ≡ pos (end_number refused) }
+{
+    if refused == 0 { 0 } else { 11 }
+}
+
+/// Copies the bytes where there is room for them, and answers how many there are.
+fn copied(bytes: &[u8], output: &mut [u8]) -> Result<usize, NoLog>
+    ensures { MatchResult result (λ count. (count ≤ length output.new) × (take count output.new ≡ bytes.now))
+        (λ why. why ≡ NoRoom) }
+{
+    if output.len() < bytes.len() {
+        return Err(NoLog::NoRoom);
+    }
+    output[..bytes.len()].copy_from_slice(bytes);
+    Ok(bytes.len())
+}
+
+/// The log of the script on the scene of a text, in the caller's memory: how many bytes it has, and how many commands were
+/// refused.
+fn recorded(
+    alloc: Global,
+    scene: &[u8],
+    script: &[u8],
+    output: &mut [u8],
+) -> Result<(usize, u64), NoLog>
+    ensures { MatchResult result
+        (λ end. (end.0 ≤ length output.new) × IsLog scene.now script.now (take end.0 output.new) end.1)
+        (λ why. IsWhyNot scene.now why) }
+{
+    if MOST < scene.len() || MOST < script.len() {
+        return Err(NoLog::TooLong);
+    }
+    match MemSink::open(alloc, output.len(), Vec::new(alloc)) {
+        Ok(mut sink) => match logged(alloc, scene, script, &mut sink) {
+            Ok(refused) => match copied(sink.written(), output) {
+                Ok(count) => Ok((count, refused)),
+                Err(why) => Err(why),
+            },
+            Err(why) => Err(why),
+        },
+        Err(AllocError) => Err(NoLog::NoMemory),
+    }
+}
+
+/// Runs a script on the scene of a TOML text, and writes the log of the session.
+#[unsafe(no_mangle)]
+pub extern "C" fn lak_record(
+    alloc: Global,
+    scene: &[u8],
+    script: &[u8],
+    output: &mut [u8],
+    written: &mut usize,
+) -> i32
+    ensures within { written.new ≤ length output.new }
+    ensures outcome { IsRecorded scene.now script.now result (take written.new output.new) ⊎ IsNotRecorded scene.now result written.new }
+{
+    match recorded(alloc, scene, script, output) {
+        Ok((count, refused)) => {
+            *written = count;
+            end_number(refused)
+        }
+        Err(why) => {
+            *written = 0;
+            no_log_number(&why)
+        }
+    }
+}

@@ -1,0 +1,62 @@
+//! Saving and restoring whole worlds.
+ghost use Rattle.std.specs.Prelude.{◌≡◌, pos};
+ghost use Rattle.lakmozet_c.specs.Calls.{answered, done_to, has_slot, restored_from, saved_in};
+
+use crate::handle::Handle;
+use crate::numbers::{CLOSED, NO_SLOT};
+use pbd_cloth::Cloth;
+use std::alloc::Global;
+
+fn save(cloth: &mut Cloth, slot: u32) -> i32
+    ensures cloth { cloth.new ≡ saved_in cloth.old slot }
+    ensures answer { result ≡ pos (has_slot cloth.old slot) }
+{
+    if slot < cloth.slots() {
+        cloth.save(slot);
+        return 0;
+    }
+    NO_SLOT
+}
+
+fn restore(cloth: &mut Cloth, slot: u32) -> i32
+    ensures cloth { cloth.new ≡ restored_from cloth.old slot }
+    ensures answer { result ≡ pos (has_slot cloth.old slot) }
+{
+    if slot < cloth.slots() {
+        cloth.restore(slot);
+        return 0;
+    }
+    NO_SLOT
+}
+
+/// Keeps the world in a slot, and changes no other slot.
+#[unsafe(no_mangle)]
+pub extern "C" fn lak_save(alloc: Global, handle: &mut Handle, slot: u32) -> i32
+    ensures held { handle.new.held ≡ done_to (λ c. saved_in c slot) handle.old.held }
+    ensures answer { result ≡ pos (answered handle.old.held (λ c. has_slot c slot)) }
+{
+    match handle.take(alloc) {
+        Some(mut cloth) => {
+            let answer = save(&mut cloth, slot);
+            handle.put(alloc, cloth);
+            answer
+        }
+        None => CLOSED,
+    }
+}
+
+/// Goes back to the world in a slot, and changes no slot.
+#[unsafe(no_mangle)]
+pub extern "C" fn lak_restore(alloc: Global, handle: &mut Handle, slot: u32) -> i32
+    ensures held { handle.new.held ≡ done_to (λ c. restored_from c slot) handle.old.held }
+    ensures answer { result ≡ pos (answered handle.old.held (λ c. has_slot c slot)) }
+{
+    match handle.take(alloc) {
+        Some(mut cloth) => {
+            let answer = restore(&mut cloth, slot);
+            handle.put(alloc, cloth);
+            answer
+        }
+        None => CLOSED,
+    }
+}

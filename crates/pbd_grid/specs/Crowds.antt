@@ -1,0 +1,17 @@
+-- What is searched, and what look-ups of it find.
+use Rattle.std.specs.Prelude.{ℕ, Bool, List}
+use Rattle.pbd_grid.specs.declared.lookup.Cell.{Cell}
+use Rattle.pbd_grid.specs.declared.lookup.Crowd.{Crowd}
+use Rattle.pbd_grid.specs.Blocks.{AreLaid, picked, all_picked, block_part}
+
+-- the chains, the cubes and the side are those of the places
+abbrev pub IsLaid : Crowd → Type 0
+IsLaid crowd = AreLaid crowd.chains.now.chains crowd.count crowd.cubes.now crowd.places.now crowd.side
+
+-- what the look-up of a cell finds
+abbrev pub picked_in : Crowd → (ℕ → ℕ → Bool) → ℕ → Cell → List ℕ
+picked_in crowd test i cell = picked crowd.chains.now.chains crowd.places.now crowd.side test i cell
+
+-- what the look-ups of the eight cells from a corner on find
+abbrev pub picked_round : Crowd → (ℕ → ℕ → Bool) → ℕ → Cell → List ℕ
+picked_round crowd test i from = all_picked crowd.chains.now.chains crowd.places.now crowd.side test i (block_part from 8)

@@ -1,0 +1,226 @@
+/*
+ * Lakmozet for programs in C and C++: cloth and ropes that are the same, to the bit, on every machine.
+ *
+ * Link the archive liblakmozet_c.a, and behind it liblibc_c.a of the toolchain; docs/EMBEDDING.md has the commands.
+ *
+ * Every call is total: no argument of its type breaks it, none aborts, and each answers a number. What the exports promise is
+ * proved; that these lines agree with the archive is tested by tools/embed-check.
+ *
+ * What no call ever does: it starts no thread, uses no lock, no locale, no file, no clock and no floating point, and it writes
+ * nowhere but through its arguments and into what the handle holds. After lak_open no call on a handle takes memory, until
+ * lak_close gives it back. lak_record, which has no handle, takes memory and gives it back before it returns.
+ *
+ * What a caller owes, and nothing checks:
+ *   - A handle is all zero bytes ({0} in C, {} in C++) or what the last call left. It may be moved, and is never copied and
+ *     used twice. Its members are not for use.
+ *   - A handle is used by one call at a time, and on the thread that opened it.
+ *   - Pointers are not null, also where a length is 0; they have room for what their type and length say, and are aligned.
+ *   - Arguments of one call don't overlap.
+ *   - malloc, realloc and free are one allocator's, whose blocks are aligned as C asks. No call is made from a signal handler,
+ *     or in the forked child of a process with threads.
+ *
+ * Lengths are in units of 1/65,536 metre; velocities are per step, and gravity is per step squared. There is no time step: at
+ * 60 steps a second, 9.81 m/s2 is 179.
+ */
+#ifndef LAKMOZET_H
+#define LAKMOZET_H
+
+#include <stdbool.h>
+#include <stddef.h>
+#include <stdint.h>
+
+#ifdef __cplusplus
+extern "C" {
+#endif
+
+/* A cloth in memory of the library's, or nothing. */
+typedef struct {
+    void *at;
+    bool full;
+} lak_cloth;
+
+/* A place or a vector. Places are within 2^29 = 536,870,912 on each axis, 8,192 metres. */
+typedef struct {
+    int64_t x, y, z;
+} lak_place;
+
+/* The first rule that a scene breaks, and where: see lak_open. */
+typedef struct {
+    uint32_t position; /* in the array of the table, from 0 */
+    uint8_t rule;      /* 2 to 11: see lak_rule_name */
+    uint8_t table;     /* 0 to 7: see lak_table_name */
+    uint8_t key;       /* 0 to 34: see lak_key_name */
+} lak_fault;
+
+/* Where a step was refused: see lak_step. */
+typedef struct {
+    uint64_t step;    /* counted from opening: the step that would have been reached */
+    uint32_t element; /* which particle, link or contact of the phase, as the program's reply tells it */
+    uint8_t phase;    /* 1 predict, 2 link, 3 contact, 4 shape */
+} lak_left;
+
+/* What two machines compare: equal worlds have equal sums. */
+typedef struct {
+    uint64_t steps;             /* taken so far, at most 1,000,000 */
+    uint32_t live, contacts;    /* live links, and contacts that the last step found */
+    int64_t at[3], before[3];   /* the sums of all places, and of all places of one step before */
+} lak_sums_of_world;
+
+/* How many of everything there are. */
+typedef struct {
+    uint64_t steps;     /* taken so far, at most 1,000,000 */
+    uint32_t particles; /* at most 65,536 */
+    uint32_t links;     /* live ones and others, at most 524,288 */
+    uint32_t live;      /* live links */
+    uint32_t contacts;  /* that the last step found, at most 262,144 */
+    uint32_t slots;     /* at most 16 */
+} lak_counts_of_world;
+
+/* What every call on a handle may answer beside its own answers. */
+enum {
+    LAK_DONE = 0,
+    LAK_CLOSED = 64,  /* the handle holds nothing; nothing was done, and nothing written but zeros into `left` */
+    LAK_IN_USE = 65,  /* lak_open: the handle holds a cloth, which it keeps */
+    LAK_NO_SLOT = 66, /* there is no such slot; lak_open: more than 16 slots */
+    LAK_NO_ROOM = 67  /* not all was written, since the memory is too short; the count says how much there is */
+};
+
+/* Refusals of commands, as the program numbers them. After one of these the world is exactly what it was. */
+enum {
+    LAK_BAD_COMMAND = 1,       /* never comes from these calls */
+    LAK_NO_PARTICLE = 2,       /* no particle has this number */
+    LAK_NO_LINK = 3,           /* no link has this number */
+    LAK_LINK_GONE = 4,         /* the link was cut or torn before */
+    LAK_OUT_OF_RANGE = 5,      /* the place or the gravity is outside the limit */
+    LAK_NOT_HELD = 6,          /* the particle is free */
+    LAK_HELD = 7,              /* the particle is held already */
+    LAK_TRACKED = 8,           /* a track leads the particle */
+    LAK_BAD_COUNT = 9,         /* no steps, or more than 100,000 */
+    LAK_STEP_LIMIT = 10,       /* the world would come past step 1,000,000 */
+    LAK_LEAVES_RANGE = 11,     /* in a step a place left the range */
+    LAK_TOO_MANY_CONTACTS = 12 /* in a step there were more than 262,144 contacts */
+};
+
+/* What lak_open and lak_record answer beside: the program's statuses. */
+enum {
+    LAK_NO_LOG_ROOM = 3,    /* lak_record: the output is too short */
+    LAK_TOO_LONG = 4,       /* lak_record: the scene or the script is longer than 2^24 bytes */
+    LAK_SCENE_NOT_TEXT = 6, /* the scene is no UTF-8 */
+    LAK_SCENE_NOT_TOML = 7, /* the scene is no TOML */
+    LAK_SCENE_REFUSED = 8,  /* the scene breaks a rule, which is told */
+    LAK_SOME_REFUSED = 11,  /* lak_record: all went well, but a command was refused */
+    LAK_OUT_OF_MEMORY = 12  /* there was no memory */
+};
+
+/* ---- opening and closing */
+
+/*
+ * Opens the scene of a TOML text of `length` bytes (docs/FORMATS.md has its keys), with `slots` slots for lak_save, at most 16.
+ * Each slot has the opened world at first. The only call on a handle that takes memory. The text isn't kept.
+ *
+ * LAK_DONE: the handle holds the world of the scene, before its first command. `fault` is left as it was.
+ * LAK_IN_USE: the handle keeps what it holds, and `fault` is left as it was.
+ * LAK_NO_SLOT, LAK_SCENE_NOT_TEXT, LAK_SCENE_NOT_TOML, LAK_SCENE_REFUSED, LAK_OUT_OF_MEMORY: the handle stays closed, and
+ * `fault` has the rule, the table, the position and the key of LAK_SCENE_REFUSED, or zeros.
+ */
+int32_t lak_open(lak_cloth *cloth, const uint8_t *toml, size_t length, uint32_t slots, lak_fault *fault);
+
+/* Gives all memory back. The handle is closed then; a closed one stays closed. */
+void lak_close(lak_cloth *cloth);
+
+/* ---- commands: LAK_DONE, LAK_CLOSED, or a refusal, after which nothing is changed. No command changes a slot. */
+
+/*
+ * Takes n steps, 1 to 100,000, or none at all. Answers LAK_BAD_COUNT, LAK_STEP_LIMIT, LAK_LEAVES_RANGE (`left` says in which
+ * step, phase and element) or LAK_TOO_MANY_CONTACTS (`left` says in which step). `left` has zeros where an answer says no such
+ * thing.
+ */
+int32_t lak_step(lak_cloth *cloth, uint64_t n, lak_left *left);
+
+/* Holds a particle where it is. Answers LAK_NO_PARTICLE or LAK_HELD. */
+int32_t lak_pin(lak_cloth *cloth, uint64_t particle);
+
+/* Frees a particle, at rest. Answers LAK_NO_PARTICLE, LAK_NOT_HELD or LAK_TRACKED. */
+int32_t lak_unpin(lak_cloth *cloth, uint64_t particle);
+
+/* Puts a held particle at a place. Answers LAK_NO_PARTICLE, LAK_OUT_OF_RANGE, LAK_NOT_HELD or LAK_TRACKED. */
+int32_t lak_move(lak_cloth *cloth, uint64_t particle, lak_place to);
+
+/* Lets a link go. Answers LAK_NO_LINK or LAK_LINK_GONE. */
+int32_t lak_cut(lak_cloth *cloth, uint64_t link);
+
+/* Sets gravity, within 2^29 on each axis. Answers LAK_OUT_OF_RANGE. */
+int32_t lak_gravity(lak_cloth *cloth, lak_place gravity);
+
+/* ---- slots: LAK_DONE, LAK_CLOSED, or LAK_NO_SLOT, after which nothing is changed */
+
+/* Keeps the whole world in a slot, from 0. No other slot changes. Takes no memory, and always succeeds where there is a slot. */
+int32_t lak_save(lak_cloth *cloth, uint32_t slot);
+
+/* Goes back to the world in a slot: all that follows is what followed after lak_save. No slot changes. */
+int32_t lak_restore(lak_cloth *cloth, uint32_t slot);
+
+/* ---- reading: LAK_DONE or LAK_CLOSED. No reading call changes what the handle holds. */
+
+int32_t lak_counts(lak_cloth *cloth, lak_counts_of_world *counts);
+int32_t lak_sums(lak_cloth *cloth, lak_sums_of_world *sums);
+
+/*
+ * Lists: these write as many as there is room for, in `count` how many there are, and leave what stands behind them. They
+ * answer LAK_NO_ROOM where not all fit. Where they answer LAK_CLOSED or LAK_NO_SLOT they write nothing.
+ */
+
+/* The places of all particles, in the order of their numbers. */
+int32_t lak_places(lak_cloth *cloth, lak_place *into, size_t room, uint32_t *count);
+
+/* Their places one step before: the difference is a particle's velocity. */
+int32_t lak_places_before(lak_cloth *cloth, lak_place *into, size_t room, uint32_t *count);
+
+/* A 1 for each live link and a 0 for each other, in the order of their numbers. */
+int32_t lak_live(lak_cloth *cloth, uint8_t *into, size_t room, uint32_t *count);
+
+/* The numbers, ascending, of the links that are live in a slot's world and are so no longer. Answers LAK_NO_SLOT too. */
+int32_t lak_gone_since(lak_cloth *cloth, uint32_t slot, uint32_t *into, size_t room, uint32_t *count);
+
+/*
+ * ---- a whole run, from bytes to bytes
+ *
+ * Runs a script (docs/FORMATS.md has its lines) on the scene of a TOML text, each of at most 2^24 bytes, and writes the log of
+ * the session into `output`, which is `room` bytes long; `written` says how many bytes it has. It is a log as the program's
+ * `record` writes.
+ *
+ * LAK_DONE, LAK_SOME_REFUSED: the log is written. LAK_NO_LOG_ROOM, LAK_TOO_LONG, LAK_SCENE_NOT_TEXT, LAK_SCENE_NOT_TOML,
+ * LAK_SCENE_REFUSED, LAK_OUT_OF_MEMORY: `written` is 0, and what `output` has is not told.
+ */
+int32_t lak_record(const uint8_t *scene, size_t scene_length, const uint8_t *script, size_t script_length, uint8_t *output,
+                   size_t room, size_t *written);
+
+/* ---- names, as the program prints them */
+
+static inline const char *lak_rule_name(uint8_t rule)
+{
+    static const char *const names[] = {"UnknownKey", "MissingKey", "WrongType", "OutOfRange", "TooMany",
+                                        "BadIndex", "SelfLink", "DoubleLink", "TooManyAtParticle", "BadTrack"};
+    return 2 <= rule && rule <= 11 ? names[rule - 2] : "-";
+}
+
+static inline const char *lak_table_name(uint8_t table)
+{
+    static const char *const names[] = {"scene", "particle", "cloth", "rope", "link", "plane", "sphere", "track"};
+    return table <= 7 ? names[table] : "-";
+}
+
+static inline const char *lak_key_name(uint8_t key)
+{
+    static const char *const names[] = {
+        "-", "gravity", "passes", "damping", "thickness", "friction", "pins", "at", "velocity", "weight", "held", "origin",
+        "across", "down", "rows", "columns", "stretch", "shear", "bend", "stretch_tear", "shear_tear", "bend_tear", "spacing",
+        "count", "a", "b", "rest", "stiffness", "tear", "normal", "offset", "centre", "radius", "particle", "keys"};
+    return key <= 34 ? names[key] : "-";
+}
+
+#ifdef __cplusplus
+}
+#endif
+
+#endif

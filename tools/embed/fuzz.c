@@ -1,0 +1,223 @@
+/*
+ * Calls functions with random arguments on a few handles: fuzz SECONDS SEED. After each call it looks at what the header says
+ * of it: a closed handle answers so, an answer other than LAK_DONE changes nothing, reading changes nothing, and a restored
+ * world has the sums of the saved one.
+ */
+#include "lakmozet.h"
+
+#include <inttypes.h>
+#include <stdio.h>
+#include <stdlib.h>
+#include <string.h>
+#include <time.h>
+
+enum { HANDLES = 4, MOST_SLOTS = 16, ROOM = 4096 };
+
+typedef struct {
+    lak_cloth cloth;
+    bool open;
+    uint32_t slots;
+    lak_sums_of_world sums, saved[MOST_SLOTS];
+} tracked;
+
+static tracked handles[HANDLES];
+static uint64_t calls, opened, state;
+
+static uint64_t draw(void)
+{
+    state ^= state << 13;
+    state ^= state >> 7;
+    state ^= state << 17;
+    return state;
+}
+
+static void fail(const char *what)
+{
+    printf("fuzz: after %" PRIu64 " calls: %s\n", calls, what);
+    exit(1);
+}
+
+static void must(bool test, const char *what)
+{
+    if (!test)
+        fail(what);
+}
+
+/* A number that is small, or near a limit, or any. */
+static uint64_t number(void)
+{
+    static const uint64_t some[] = {0, 1, 2, 7, 15, 16, 17, 63, 64, 100000, 100001, 536870912, 536870913, UINT32_MAX, INT64_MAX, UINT64_MAX};
+    switch (draw() % 4) {
+    case 0:
+        return some[draw() % (sizeof some / sizeof *some)];
+    case 1:
+        return draw();
+    default:
+        return draw() % 40;
+    }
+}
+
+static lak_place place(void)
+{
+    lak_place it = {(int64_t)(draw() % 400001) - 200000, (int64_t)(draw() % 400001) - 200000, (int64_t)(draw() % 400001) - 200000};
+    if (draw() % 8 == 0)
+        it.x = (int64_t)number();
+    if (draw() % 8 == 0)
+        it.z = -(int64_t)(number() >> 1);
+    return it;
+}
+
+static lak_sums_of_world sums_of(tracked *it)
+{
+    lak_sums_of_world sums;
+    memset(&sums, 0, sizeof sums);
+    must(lak_sums(&it->cloth, &sums) == (it->open ? LAK_DONE : LAK_CLOSED), "lak_sums answers something else");
+    return sums;
+}
+
+static bool same(lak_sums_of_world a, lak_sums_of_world b)
+{
+    return memcmp(&a, &b, sizeof a) == 0;
+}
+
+/* A scene with random parts, now and then with random bytes in it. */
+static size_t scene(char *text, size_t room)
+{
+    size_t length = (size_t)snprintf(text, room,
+        "gravity = [%d, %d, 0]\npasses = %d\nthickness = %d\nfriction = %d\ndamping = %d\n"
+        "[[cloth]]\norigin = [0, %d, 0]\nacross = [6554, 0, 0]\ndown = [0, 0, 6554]\nrows = %d\ncolumns = %d\nstretch_tear = %d\n"
+        "[[rope]]\norigin = [0, 200000, 0]\nspacing = [0, 6554, 0]\ncount = %d\n[[sphere]]\ncentre = [20000, 0, 20000]\nradius = 30000\n",
+        (int)(draw() % 21) - 10, -(int)(draw() % 400), (int)(draw() % 9), (int)(draw() % 8000), (int)(draw() % 257), (int)(draw() % 1025),
+        (int)(draw() % 131072), 2 + (int)(draw() % 6), 2 + (int)(draw() % 6), 7000 + (int)(draw() % 4000), 2 + (int)(draw() % 8));
+    if (draw() % 4 == 0)
+        text[draw() % length] = (char)draw();
+    return draw() % 16 == 0 ? draw() % length : length;
+}
+
+static void open_some(tracked *it)
+{
+    static char text[2048];
+    lak_fault fault;
+    size_t length = scene(text, sizeof text);
+    uint32_t slots = draw() % 8 == 0 ? (uint32_t)number() : (uint32_t)(draw() % 5);
+    int32_t answer = lak_open(&it->cloth, (const uint8_t *)text, length, slots, &fault);
+    if (it->open) {
+        must(answer == LAK_IN_USE, "an open handle is opened");
+        return;
+    }
+    must(answer == LAK_DONE || answer == LAK_NO_SLOT || (6 <= answer && answer <= 8), "lak_open answers something else");
+    must((answer == LAK_SCENE_REFUSED) == (answer != LAK_DONE && fault.rule != 0), "a fault without a refusal");
+    it->open = answer == LAK_DONE;
+    if (it->open) {
+        opened++;
+        it->slots = slots;
+        it->sums = sums_of(it);
+        for (uint32_t k = 0; k < slots; k++)
+            it->saved[k] = it->sums;
+    }
+}
+
+static void close_one(tracked *it)
+{
+    lak_close(&it->cloth);
+    it->open = false;
+    memset(&it->sums, 0, sizeof it->sums);
+    must(it->cloth.at == NULL && !it->cloth.full, "a closed handle is not zeros");
+}
+
+/* After a command: refused ones change nothing. */
+static void after_command(tracked *it, int32_t answer)
+{
+    lak_sums_of_world now = sums_of(it);
+    must((answer == LAK_CLOSED) == !it->open, "a command of a closed handle");
+    must((0 <= answer && answer <= 12) || answer == LAK_CLOSED, "a command answers something else");
+    must(answer == LAK_DONE || same(now, it->sums), "a refused command changes the sums");
+    it->sums = now;
+}
+
+static void save_or_restore(tracked *it)
+{
+    uint32_t slot = draw() % 4 == 0 ? (uint32_t)number() : (uint32_t)(draw() % 4);
+    bool saves = draw() % 2;
+    int32_t answer = saves ? lak_save(&it->cloth, slot) : lak_restore(&it->cloth, slot);
+    must(answer == (!it->open ? LAK_CLOSED : slot < it->slots ? LAK_DONE : LAK_NO_SLOT), "a slot answers something else");
+    if (answer == LAK_DONE && saves)
+        it->saved[slot] = it->sums;
+    if (answer == LAK_DONE && !saves)
+        it->sums = it->saved[slot];
+    must(same(sums_of(it), it->sums), "the sums after a save or a restore");
+}
+
+static void read_some(tracked *it)
+{
+    static lak_place places[ROOM];
+    static uint8_t live[ROOM];
+    static uint32_t gone[ROOM];
+    lak_counts_of_world counts = {0, 0, 0, 0, 0, 0};
+    size_t room = draw() % 3 == 0 ? draw() % 40 : ROOM;
+    uint32_t count = 0, slot = (uint32_t)(draw() % 5);
+    int32_t full = it->open ? LAK_DONE : LAK_CLOSED;
+    must(lak_counts(&it->cloth, &counts) == full, "lak_counts answers something else");
+    int32_t answer = draw() % 2 ? lak_places(&it->cloth, places, room, &count) : lak_places_before(&it->cloth, places, room, &count);
+    must(answer == (it->open && room < counts.particles ? LAK_NO_ROOM : full) && count == counts.particles, "the places");
+    count = 0;
+    answer = lak_live(&it->cloth, live, room, &count);
+    must(answer == (it->open && room < counts.links ? LAK_NO_ROOM : full) && count == counts.links, "the live links");
+    answer = lak_gone_since(&it->cloth, slot, gone, room, &count);
+    must(!it->open || answer == (slot < it->slots ? (room < count ? LAK_NO_ROOM : LAK_DONE) : LAK_NO_SLOT), "the links that went");
+    must(same(sums_of(it), it->sums), "reading changes the sums");
+}
+
+static void record_some(void)
+{
+    static char text[2048], script[64];
+    static uint8_t log[65536];
+    size_t length = scene(text, sizeof text), written = 7, room = draw() % 4 == 0 ? draw() % 2048 : sizeof log;
+    size_t lines = (size_t)snprintf(script, sizeof script, "step %d\nframe\ncut %d\n", (int)(draw() % 5), (int)(draw() % 40));
+    int32_t status = lak_record((const uint8_t *)text, length, (const uint8_t *)script, lines, log, room, &written);
+    must(status == 0 || status == 3 || (6 <= status && status <= 8) || status == 11, "a record answers something else");
+    must(written <= room && (written > 0) == (status == 0 || status == 11), "the length of a log");
+}
+
+static void call(void)
+{
+    tracked *it = &handles[draw() % HANDLES];
+    lak_left left;
+    uint64_t kind = draw() % 32;
+    calls++;
+    if (kind < 2)
+        open_some(it);
+    else if (kind == 2 && draw() % 8 == 0)
+        close_one(it);
+    else if (kind < 8)
+        after_command(it, lak_step(&it->cloth, draw() % 4 == 0 ? number() % 300 : 1 + draw() % 3, &left));
+    else if (kind < 10)
+        after_command(it, lak_pin(&it->cloth, number()));
+    else if (kind < 12)
+        after_command(it, lak_unpin(&it->cloth, number()));
+    else if (kind < 16)
+        after_command(it, lak_move(&it->cloth, number(), place()));
+    else if (kind < 18)
+        after_command(it, lak_cut(&it->cloth, number()));
+    else if (kind < 20)
+        after_command(it, lak_gravity(&it->cloth, draw() % 4 ? (lak_place) {0, -(int64_t)(draw() % 300), 0} : place()));
+    else if (kind < 26)
+        save_or_restore(it);
+    else if (kind < 31)
+        read_some(it);
+    else if (draw() % 8 == 0)
+        record_some();
+}
+
+int main(int argc, char **argv)
+{
+    time_t end = time(NULL) + (argc > 1 ? atoi(argv[1]) : 1);
+    state = argc > 2 ? strtoull(argv[2], NULL, 10) | 1 : 88172645463325252u;
+    while (time(NULL) < end)
+        for (int i = 0; i < 100; i++)
+            call();
+    for (int i = 0; i < HANDLES; i++)
+        lak_close(&handles[i].cloth);
+    printf("fuzz: %" PRIu64 " calls, %" PRIu64 " worlds opened\n", calls, opened);
+    return 0;
+}

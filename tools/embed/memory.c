@@ -1,0 +1,135 @@
+/*
+ * What takes memory, and what happens where there is none. Linked with -Wl,--wrap=malloc,--wrap=realloc,--wrap=free, so that each
+ * request can be counted, and made to fail: opening and recording have each of theirs fail in turn, and must give back what they
+ * took; no other call makes one.
+ */
+#include "lakmozet.h"
+
+#include <stdio.h>
+#include <stdlib.h>
+#include <string.h>
+
+void *__real_malloc(size_t size);
+void *__real_realloc(void *at, size_t size);
+void __real_free(void *at);
+void *__wrap_malloc(size_t size);
+void *__wrap_realloc(void *at, size_t size);
+void __wrap_free(void *at);
+
+static unsigned long requests, fails_at;
+static long blocks;
+
+void *__wrap_malloc(size_t size)
+{
+    void *at = ++requests == fails_at ? NULL : __real_malloc(size);
+    blocks += at != NULL;
+    return at;
+}
+
+void *__wrap_realloc(void *at, size_t size)
+{
+    void *now = ++requests == fails_at ? NULL : __real_realloc(at, size);
+    blocks += now != NULL && at == NULL;
+    return now;
+}
+
+void __wrap_free(void *at)
+{
+    blocks -= at != NULL;
+    __real_free(at);
+}
+
+static void must(bool test, const char *what)
+{
+    if (!test) {
+        printf("memory: not so: %s\n", what);
+        exit(1);
+    }
+}
+
+static const char scene[] =
+    "gravity = [0, -179, 0]\npasses = 4\nthickness = 3000\npins = [0, 7]\n"
+    "[[cloth]]\norigin = [0, 65536, 0]\nacross = [6554, 0, 0]\ndown = [0, 0, 6554]\nrows = 8\ncolumns = 8\nstretch_tear = 9000\n"
+    "[[sphere]]\ncentre = [20000, 0, 20000]\nradius = 40000\n";
+static const char script[] = "step 3\nframe\ncut 5\n";
+
+static int32_t open_it(lak_cloth *cloth)
+{
+    lak_fault fault;
+    return lak_open(cloth, (const uint8_t *)scene, strlen(scene), 4, &fault);
+}
+
+static int32_t record_it(size_t *written)
+{
+    static uint8_t log[65536];
+    return lak_record((const uint8_t *)scene, strlen(scene), (const uint8_t *)script, strlen(script), log, sizeof log, written);
+}
+
+/* Each request of opening fails once: the handle stays closed, and all is given back. Returns how many there are. */
+static unsigned long open_without_memory(void)
+{
+    lak_cloth cloth = {0};
+    for (unsigned long n = 1;; n++) {
+        requests = 0, fails_at = n;
+        int32_t answer = open_it(&cloth);
+        fails_at = 0;
+        if (answer == LAK_DONE) {
+            lak_close(&cloth);
+            must(blocks == 0, "closing gives all back");
+            return n - 1;
+        }
+        must(answer == LAK_OUT_OF_MEMORY && !cloth.full && blocks == 0, "a failed opening leaves nothing");
+    }
+}
+
+static unsigned long record_without_memory(void)
+{
+    for (unsigned long n = 1;; n++) {
+        size_t written = 7;
+        requests = 0, fails_at = n;
+        int32_t answer = record_it(&written);
+        fails_at = 0;
+        must(blocks == 0, "recording gives all back");
+        if (answer == LAK_DONE)
+            return n - 1;
+        must(answer == LAK_OUT_OF_MEMORY && written == 0, "a failed record writes nothing");
+    }
+}
+
+/* No call on an open handle makes a request. */
+static void play_without_memory(void)
+{
+    static lak_place places[64];
+    static uint8_t live[4096];
+    static uint32_t gone[4096];
+    lak_cloth cloth = {0};
+    lak_left left;
+    lak_sums_of_world sums;
+    lak_counts_of_world counts;
+    uint32_t count;
+    must(open_it(&cloth) == LAK_DONE, "it opens");
+    requests = 0;
+    for (int i = 0; i < 60; i++) {
+        must(lak_save(&cloth, (uint32_t)i % 4) == LAK_DONE && lak_step(&cloth, 3, &left) == LAK_DONE, "it steps");
+        must(lak_move(&cloth, 0, (lak_place) {i * 300, 65536 + i * 100, 0}) == LAK_DONE, "it moves");
+        lak_cut(&cloth, (uint64_t)i * 5);
+        must(lak_pin(&cloth, 20) == LAK_DONE && lak_unpin(&cloth, 20) == LAK_DONE, "it pins");
+        must(lak_gravity(&cloth, (lak_place) {i, -179, 0}) == LAK_DONE && lak_sums(&cloth, &sums) == LAK_DONE, "it reads");
+        must(lak_counts(&cloth, &counts) == LAK_DONE && lak_places(&cloth, places, 64, &count) == LAK_DONE, "it reads");
+        must(lak_live(&cloth, live, 4096, &count) == LAK_DONE && lak_gone_since(&cloth, 0, gone, 4096, &count) == LAK_DONE, "it reads");
+        must(lak_places_before(&cloth, places, 64, &count) == LAK_DONE, "it reads");
+        if (i % 7 == 0)
+            must(lak_restore(&cloth, (uint32_t)i % 4) == LAK_DONE, "it goes back");
+    }
+    must(requests == 0, "no call on an open handle takes memory");
+    lak_close(&cloth);
+    must(blocks == 0, "closing gives all back");
+}
+
+int main(void)
+{
+    unsigned long opening = open_without_memory(), recording = record_without_memory();
+    play_without_memory();
+    printf("memory: %lu requests of an opening and %lu of a record failed in turn; the other calls make none\n", opening, recording);
+    return 0;
+}

@@ -1,0 +1,87 @@
+/*
+ * Plays a scene's script by calls on a handle, and prints what `simulate` prints. The lines `ledger` of a script, which have no
+ * call, are left out. Lines are taken as the examples have them: a word, and numbers behind it.
+ */
+#include "lakmozet.h"
+
+#include <inttypes.h>
+#include <stdio.h>
+#include <stdlib.h>
+#include <string.h>
+
+static const char *const refusals[] = {"", "BadCommand", "NoParticle", "NoLink", "LinkGone", "OutOfRange", "NotHeld", "Held",
+                                       "Tracked", "BadCount", "StepLimit"};
+static const char *const phases[] = {"", "predict", "link", "contact", "shape"};
+static uint8_t text[1 << 24];
+static lak_place places[65536];
+
+static void print_reply(int32_t answer, const lak_left *left)
+{
+    if (answer == LAK_DONE)
+        puts("ok");
+    else if (answer == LAK_LEAVES_RANGE)
+        printf("refused 11 LeavesRange step %" PRIu64 " phase %s element %" PRIu32 "\n", left->step, phases[left->phase], left->element);
+    else if (answer == LAK_TOO_MANY_CONTACTS)
+        printf("refused 12 TooManyContacts step %" PRIu64 "\n", left->step);
+    else
+        printf("refused %" PRId32 " %s\n", answer, answer <= 10 ? refusals[answer] : "?");
+}
+
+static void print_frame(lak_cloth *cloth)
+{
+    lak_counts_of_world counts;
+    uint32_t count;
+    lak_counts(cloth, &counts);
+    lak_places(cloth, places, 65536, &count);
+    printf("frame %" PRIu64 " %" PRIu32 " %" PRIu32 " %" PRIu32 "\n", counts.steps, counts.particles, counts.live, counts.contacts);
+    for (uint32_t i = 0; i < count; i++)
+        printf("%" PRId64 " %" PRId64 " %" PRId64 "\n", places[i].x, places[i].y, places[i].z);
+}
+
+static void play(lak_cloth *cloth, const char *line)
+{
+    char word[16] = "";
+    int64_t n[4] = {0, 0, 0, 0};
+    lak_left left = {0, 0, 0};
+    int found = sscanf(line, "%15s %" SCNd64 " %" SCNd64 " %" SCNd64 " %" SCNd64, word, &n[0], &n[1], &n[2], &n[3]);
+    if (found < 1 || word[0] == '#' || strcmp(word, "ledger") == 0)
+        return;
+    if (strcmp(word, "step") == 0 && found == 2)
+        print_reply(lak_step(cloth, (uint64_t)n[0], &left), &left);
+    else if (strcmp(word, "frame") == 0 && found == 1)
+        print_frame(cloth);
+    else if (strcmp(word, "pin") == 0 && found == 2)
+        print_reply(lak_pin(cloth, (uint64_t)n[0]), &left);
+    else if (strcmp(word, "unpin") == 0 && found == 2)
+        print_reply(lak_unpin(cloth, (uint64_t)n[0]), &left);
+    else if (strcmp(word, "move") == 0 && found == 5)
+        print_reply(lak_move(cloth, (uint64_t)n[0], (lak_place) {n[1], n[2], n[3]}), &left);
+    else if (strcmp(word, "cut") == 0 && found == 2)
+        print_reply(lak_cut(cloth, (uint64_t)n[0]), &left);
+    else if (strcmp(word, "gravity") == 0 && found == 4)
+        print_reply(lak_gravity(cloth, (lak_place) {n[0], n[1], n[2]}), &left);
+    else
+        print_reply(LAK_BAD_COMMAND, &left);
+}
+
+int main(void)
+{
+    lak_cloth cloth = {0};
+    lak_fault fault;
+    size_t length = fread(text, 1, sizeof text - 1, stdin);
+    char *script = strstr((char *)text, "\n%%\n");
+    int32_t answer;
+    (void)length;
+    if (!script)
+        return 5;
+    answer = lak_open(&cloth, text, (size_t)(script + 1 - (char *)text), 0, &fault);
+    if (answer == LAK_SCENE_REFUSED)
+        printf("error 8 SceneRefused %u %s %s %" PRIu32 " %s\n", fault.rule, lak_rule_name(fault.rule), lak_table_name(fault.table),
+               fault.position, lak_key_name(fault.key));
+    if (answer != LAK_DONE)
+        return answer;
+    for (char *line = strtok(script + 4, "\n"); line; line = strtok(NULL, "\n"))
+        play(&cloth, line);
+    lak_close(&cloth);
+    return 0;
+}
