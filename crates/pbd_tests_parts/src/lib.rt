@@ -8,6 +8,8 @@ mod colour;
 #[cfg(test)]
 mod grid;
 #[cfg(test)]
+mod hard;
+#[cfg(test)]
 mod lanes;
 #[cfg(test)]
 mod num;

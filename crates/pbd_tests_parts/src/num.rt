@@ -5,7 +5,15 @@ use std::process::Abort;
 use std::test::Fail;
 
 /// The moves of a pair that is in range. Each `u16` is an effective weight.
-fn moves(rt: &impl Abort, a: Vec3, b: Vec3, rest: u32, k: u16, wa: u16, wb: u16) -> (Vec3, Vec3) {
+pub(crate) fn moves(
+    rt: &impl Abort,
+    a: Vec3,
+    b: Vec3,
+    rest: u32,
+    k: u16,
+    wa: u16,
+    wb: u16,
+) -> (Vec3, Vec3) {
     assert!(rt; inside(a));
     assert!(rt; inside(b));
     assert!(rt; rest <= 1 << 31);
