@@ -1,81 +1,47 @@
--- `into_box` calls `from_raw` with its pointer and its allocator.
-use Rattle.std.proofs.Common.{◌≡◌, List, [], ◌∷◌, ◌++◌, refl, sym, ap, subst}
-use mir.Syntax.{Args, Fn, a_type, dcons, dnil}
-use mir.Val.{Val, vptr}
-use mir.MapTy.{inst_fn}
-use base.Logic.{SProp, ent, id⊢}
-use base.Fml.{ftrue, flft}
-use prog.Wp.{WpFn}
-use types.Kit.{‵, raw, ◌⊛◌, some, later, at_ret, ◌$◌, ◌∵◌, !, qed, by, move, keep, drop, split, split3, join, fsplit, fjoin, pick, suffices, use1, await, rewrite, feq_i}
-use types.Run.{stop, fld, of_opd, no_more, and_then, first, blocks, exec, returns, enter}
-use types.ByLocal.{alloc_all, pass_all, free_all, look_at, get, get_in, sets, lands_last, env}
-use types.Part.{sub, whole}
-use contract.Monad.{fact}
+-- `into_box`: the struct's two words and its memory go into `Box::from_raw`, which makes the box.
+use base.Fml.{ftrue}
 use contract.BorrowLft.{◌⊑◌}
-use contract.Running.{tables}
-use denote.Exit.{no}
-use denote.RattleType.{RattleType, owns}
-use denote.Signature.{Slot, types_at, plain}
-use denote.RawPtr.{block_ptr}
-use denote.Steps.{nothing, only}
-use denote.Param.{param, layout, bounded}
-use denote.Param.Laws.{param_laws}
-use denote.Triple.Clauses.{Lasts, lasts}
-use denote.Triple.Spec.{triple_of}
+use denote.Laws.{Is, shows}
+use denote.RattleType.{owns}
+use denote.Signature.{types_at}
+use denote.Steps.{peeks}
 use denote.Triple.Call.{calls_at_last}
-use denote.Triple.Walked.{Stays, stay_dropped, walk_of}
-use Rattle.core.proofs.alloc.Calls.{Goes-blank}
+use types.ByLocal.{lands_last, env}
+use types.Kit.{at_ret}
+use types.Run.{first, blocks, exec}
 use Rattle.core.proofs.alloc.Shapes.{after}
-use Rattle.core.proofs.atomic.Steps.{fm}
-use Rattle.core.proofs.cell.Inside.{Good}
-use Rattle.std_alloc.proofs.BoxSteps.Form as box
-use Rattle.std_alloc.proofs.BoxSteps.Steps.{box_out, box_in}
-use Rattle.std.proofs.raw_atomic.Walks.{proved_at, leaves}
-use Rattle.pbd_loose.proofs.Values.{beside, Apart, fits_beside, apart_opens}
-use Rattle.std_alloc.specs.contracts.boxed.Box.from_raw as callee
-use Rattle.std_alloc.proofs.boxed.Box.from_raw.Met.{met}
-use Rattle.pbd_loose.specs.contracts.Loose.into_box.{ended, clauses}
-use Rattle.pbd_loose.specs.contracts.Loose.into_box.Key.{name as #self}
+use Rattle.std_alloc.specs.contracts.boxed.Box.from_raw as makes
+use Rattle.std_alloc.proofs.boxed.Box.from_raw.Met as makes_met
+use Rattle.pbd_loose.proofs.Values.{◌≡◌, List, [], ◌∷◌, ◌++◌, refl, Fn, inst_fn, Val, SProp, emp, id⊢, WpFn, ‵, raw, ◌⊛◌, some, later, prop, ◌$◌, ◌∵◌, !, qed, by, move, keep, drop, use0, use1, split, split3, join, fsplit, fjoin, feq_i, pick, await, regoal, enter, of_opd, stop, fld, and_then, no_more, returns, alloc_all, pass_all, free_all, look_at, get, get_in, sets, sub, whole, fact, fact_i, tables, no, ptr_val, plain, nothing, heard, Lasts, lasts, alive, triple_of, framed, Stays, stay_dropped, walk_of, Al, Goes-blank, proved_at, leaves, box_allocator, ptr_good, Row, Boxed, args, word_good, boxed_typed, opens_loose}
+use Rattle.pbd_loose.specs.contracts.Loose.into_box as f
 use Rattle.pbd_loose.proofs.Loose.into_box.Statement.{statement}
 use Rattle.pbd_loose.proofs.Loose.into_box.Code as code
 
 pub into_box_spec : {M : Type 1} → statement M
-into_box_spec 𝓤 𝓛 𝓜 𝓡 wired T A L LA g d dx dd allocator glue glued =
-    -- the rows, the code at them, and what the walk is about
-    let E : box.Bx = record { row = T; laws = L; al = record { row = A; laws = LA; g = g; d = d; drops = dd } } in let B : RattleType = box.B E in
-    let R : RattleType = param 0 T in let Z : RattleType = param 1 A in let LZ = param_laws 1 A LA in
-    let at : Args = bounded (a_type ∷ a_type ∷ []) (T, (A, tt)) (dcons d (dcons dx (dcons dd dnil))) in let fn : Fn = inst_fn at code.function in
-    let 𝓣 = tables 𝓤 𝓛.H 𝓜 𝓡 𝓡.env in let En = ended T A g d dx dd in let c = clauses T A g d dx dd 𝓛 𝓜.mem 𝓡.returns in
-    let given : Slot 2 = plain (λ _. Apart R Z LZ g) in
-    let hs : Stays En.signature.params En.kept = (stay_dropped given no, tt) in
-    proved_at 𝓛 En hs c 𝓜 𝓡 (Goes-blank 𝓛 2 given no (λ κs x f. tt), tt) (#self at) fn (code.unfolded 𝓤 𝓛.H 𝓜 𝓡 wired (T, (A, tt)) d dx dd) (λ y are.
-    let κs = y.0.0 in let qs = y.0.1 in let v = y.0.3.0 in let a = v.alloc in
-    let Post : Val → SProp 𝓤 = (walk_of 𝓛 En hs c).post y in let Runs : List Val → SProp 𝓤 = λ ws. WpFn 𝓤 𝓛.H 𝓣.C 𝓣.Λ fn ws Post in
-    let alive = ‵ (flft κs.0 qs.0) ⊛ ‵ (flft κs.1.0 qs.1.0) ⊛ ‵ ftrue in let asked = raw ((c κs y.0.3).requires y.1) in
-    qed 𝓛 ((alive ⊛ ‵ (owns (types_at En.signature.params κs) y.0.3 y.0.4)) ∷ asked ∷ []) ∵ split ! $ move ! (1 ∷ []) $ fsplit ! $
-    apart_opens R Z LZ g ! v y.0.4.0 (λ b o h there words fits.
-    let w : Val = beside (vptr b o) h in let typed = fits_beside R Z LZ g b o h fits in
-    let k = triple_of 𝓛 (callee.signature T A g d dd) (callee.spec T A g d dd 𝓛 𝓜.mem 𝓡.returns) in
-    let z : k.Ghost = ((κs, qs, tt, (a, (block_ptr b o, tt)), (h ∷ [], (vptr b o ∷ [], tt))), v.value) in
-    -- [the memory; the handle; no more parameters; the tokens; that both types live]
-    move ! (4 ∷ []) $ use1 𝓛 (raw (fact 𝓤 (κs.0 ⊑ T.lives)) ⊛ raw (fact 𝓤 (κs.1.0 ⊑ A.lives)) ⊛ ‵ ftrue) (id⊢ 𝓤 _) $ split3 ! $
-    move ! (2 ∷ []) $ drop ! $ move ! (1 ∷ 2 ∷ []) $ join ! $ move ! (1 ∷ 0 ∷ []) $ join ! $
-    move ! (2 ∷ []) $ feq_i ! (List Val) (vptr b o ∷ []) (vptr b o ∷ []) refl $ fjoin ! $ move ! (2 ∷ 0 ∷ []) $ fjoin ! $ move ! (2 ∷ 0 ∷ []) $ join ! $ join ! $
-    use1 𝓛 (raw (k.pre z)) (id⊢ 𝓤 _) $
-    suffices ! (Runs (w ∷ [])) (subst (λ (us : List Val). ent 𝓤 (Runs (w ∷ [])) (Runs us)) (sym (λ i. words i ++ [])) (id⊢ 𝓤 (Runs (w ∷ [])))) $
-    enter ! 𝓣.C 𝓣.Λ fn (w ∷ []) Post $ alloc_all ! (λ l. pass_all ! refl (typed, tt) $ let locals = env fn.locals l in
-    sets ! (of_opd ! (get_in ! (fld ! refl (stop !)) (sub ! 0 refl (whole !)))) refl (tt, tt) $
-    sets ! (of_opd ! (get_in ! (fld ! refl (stop !)) (sub ! 1 refl (whole !)))) refl fits $
+into_box_spec 𝓤 𝓛 𝓜 𝓡 wired T A LT LA g d dT dA allocates drops_T drops_A =
+    let 𝓣 = tables 𝓤 𝓛.H 𝓜 𝓡 𝓡.env in let E : Al = record { row = A; laws = LA; g = g; d = d; drops = dA } in
+    let En = f.ended T A g d dT dA in let c = f.clauses T A g d dT dA 𝓛 𝓜.mem 𝓡.returns in let fn : Fn = inst_fn (args T E dT) code.function in
+    let hs : Stays En.signature.params En.kept = (stay_dropped (plain (λ _. Row T E)) no, tt) in
+    proved_at 𝓛 En hs c 𝓜 𝓡 (Goes-blank 𝓛 2 (plain (λ _. Row T E)) no (λ κs x w. tt), tt) (f.Key.name (args T E dT)) fn (code.unfolded 𝓤 𝓛.H 𝓜 𝓡 wired (T, (A, tt)) d dT dA) (λ z are.
+    let κs = z.0.0 in let s = z.0.3.0 in let Post : Val → SProp 𝓤 = (walk_of 𝓛 En hs c).post z in
+    let Gn = makes.ended T A g d dA in let G = triple_of 𝓛 Gn.signature (makes.spec T A g d dA 𝓛 𝓜.mem 𝓡.returns) in
+    -- the struct is opened: its pointer and its allocator's machine value, what the allocator owns, and the box's memory
+    qed 𝓛 ((raw (alive 𝓛 En.signature κs z.0.1) ⊛ ‵ (owns (types_at En.signature.params κs) z.0.3 z.0.4)) ∷ (raw (fact 𝓤 (κs.0 ⊑ T.lives)) ⊛ raw (fact 𝓤 (κs.1.0 ⊑ A.lives)) ⊛ ‵ ftrue) ∷ []) ∵
+    split ! $ move ! (1 ∷ []) $ fsplit ! $ opens_loose T E ! s z.0.4.0 (λ h is fits. regoal ! (λ (us : List Val). prop (WpFn 𝓤 𝓛.H 𝓣.C 𝓣.Λ fn (us ++ []) Post)) is refl $
+    -- the call asks for the tokens, the two arguments, and behind the two bounds the memory
+    let y : G.Ghost = ((κs, z.0.1, tt, (s.alloc, (s.at, tt)), (h ∷ [], (ptr_val s.at ∷ [], tt))), s.value) in
+    move ! (4 ∷ []) $ split3 ! $ move ! (1 ∷ 4 ∷ []) $ join ! $ move ! (1 ∷ 0 ∷ []) $ join ! $ move ! (3 ∷ []) $ feq_i ! (List Val) (ptr_val s.at ∷ []) (ptr_val s.at ∷ []) refl $
+    fjoin ! $ move ! (3 ∷ 0 ∷ []) $ fjoin ! $ move ! (3 ∷ 0 ∷ []) $ join ! $ join ! $ keep ! (0 ∷ []) $ use1 𝓛 (raw (G.pre y)) (id⊢ 𝓤 _) $
+    enter ! _ _ _ _ _ $ alloc_all ! (λ l. pass_all ! refl (word_good T E s.at h fits, tt) $
+    sets ! (of_opd ! (get_in ! (fld ! refl (stop !)) (sub ! 0 refl (whole !)))) refl (ptr_good s.at) $ sets ! (of_opd ! (get_in ! (fld ! refl (stop !)) (sub ! 1 refl (whole !)))) refl fits $
     first ! $ blocks ! $ sets ! (of_opd ! (get ! refl)) refl fits $
-    calls_at_last ! (fm 𝓛 𝓜 𝓡) k (met 𝓤 𝓛 𝓜 𝓡 (code.calls-std_alloc::boxed::Box::from_raw 𝓡.env wired) T A L LA g d dd allocator glued) z (and_then ! (get ! refl) (and_then ! (get ! refl) (no_more !))) (λ u.
-    -- what the call gave: the box, of the same value
-    use1 𝓛 (later (some (λ (r : B.Denot). (alive ⊛ ‵ (B.own_val r (u ∷ []))) ⊛ some (λ (ls : Lasts (callee.ended T A g d dd) κs z.0.3).
-    ‵ (lasts (callee.ended T A g d dd) κs z.0.3 ls) ⊛ (raw (fact 𝓤 (r.value ≡ v.value)) ⊛ raw (fact 𝓤 (r.alloc ≡ a))))))) (id⊢ 𝓤 (k.post z u)) $
-    await ! tt $ pick ! (λ r. split ! $ move ! (1 ∷ []) $ pick ! (λ _. split3 ! $ drop ! $ move ! (2 ∷ []) $ split ! $ move ! (1 ∷ []) $
-    box_out E ! r (u ∷ []) (λ b' o' h' there' answer fits'. box_in E ! r b' o' r.value there' refl $
-    rewrite ! 0 (λ (us : List Val). ‵ (B.own_val r us)) (sym answer) refl $
-    let typed' : Good (layout B) u = subst (Good (layout B)) (sym (ap only answer)) (fits_beside R Z LZ g b' o' h' fits') in
-    lands_last ! refl typed' $ exec ! 𝓣.C 𝓣.Λ locals (after 3 fn.body) (at_ret locals Post) $
-    sets ! (of_opd ! (get ! refl)) refl typed' $ nothing ! $ nothing ! $ fjoin ! $
-    returns ! (look_at ! 0 refl) $ free_all ! refl $ keep ! (2 ∷ 0 ∷ 1 ∷ 3 ∷ []) $
-    by ! (leaves 𝓛 En hs c y u r ((tt, (tt, tt)), tt) (tt, tt)))))))))
+    calls_at_last ! (framed 𝓤 𝓛.H 𝓜 𝓣) G (makes_met.met 𝓤 𝓛 𝓜 𝓡 (code.calls-std_alloc::boxed::Box::from_raw 𝓡.env wired) T A LT LA g d dA allocates drops_A) y (and_then ! (get ! refl) (and_then ! (get ! refl) (no_more !))) (λ v.
+    use1 𝓛 (later (some (λ (r : (Boxed T E).Denot). (raw (alive 𝓛 En.signature κs z.0.1) ⊛ ‵ ((Boxed T E).own_val r (v ∷ []))) ⊛
+    some (λ (ws : Lasts Gn κs y.0.3). ‵ (lasts Gn κs y.0.3 ws) ⊛ raw (fact 𝓤 (r.value ≡ s.value)) ⊛ raw (fact 𝓤 (box_allocator r ≡ s.alloc)))))) (id⊢ 𝓤 _) $
+    await ! tt $ pick ! (λ r. split ! $ move ! (1 ∷ []) $ pick ! (λ ws. split3 ! $ drop ! $ heard ! _ (λ same. drop ! $ split ! $ move ! (1 ∷ []) $
+    -- [the box; the tokens]
+    peeks ! (Boxed T E) (Is (Boxed T E)) (shows 𝓛 (Boxed T E)) r (v ∷ []) (λ box. let good = (boxed_typed T E LT 𝓛 r (v ∷ []) box).0 in
+    lands_last ! refl good $ exec ! 𝓣.C 𝓣.Λ (env fn.locals l) (after 3 fn.body) (at_ret _ Post) $ sets ! (of_opd ! (get ! refl)) refl good $
+    returns ! (look_at ! 0 refl) $ free_all ! refl $
+    use0 𝓛 (raw (fact 𝓤 (r.value ≡ s.value))) (fact_i 𝓤 _ (emp 𝓤) same) $ nothing ! $ nothing ! $ fjoin ! $ keep ! (3 ∷ 0 ∷ 2 ∷ 1 ∷ []) $
+    by ! (leaves 𝓛 En hs c z v r ((tt, (tt, tt)), tt) (tt, tt))))))))))

@@ -1,87 +1,41 @@
--- `of` calls `into_raw_with_allocator`, whose pair it takes apart and keeps.
-use Rattle.std.proofs.Common.{◌≡◌, List, [], ◌∷◌, ◌++◌, refl, sym, ap, ◌∙◌, subst}
-use mir.Syntax.{Args, Fn, a_type, dcons, dnil}
-use mir.Raw.{raw as bare}
-use mir.Val.{Val, vptr, vstruct, of_list}
-use mir.MapTy.{inst_fn}
-use base.Logic.{SProp, ent, emp, never, id⊢, fst∗}
-use base.Fml.{ftrue, fsep, flft}
-use prog.Wp.{WpFn}
-use types.Logic.{sem}
-use types.Kit.{‵, raw, ◌⊛◌, some, later, ◌$◌, ◌∵◌, !, qed, by, move, keep, drop, split, split3, join, fsplit, fjoin, fpick, pick, suffices, use0, use1, await, rewrite, feq_l}
-use types.Run.{stop, fld, of_opd, no_more, and_then, returns, enter}
-use types.ByLocal.{alloc_all, pass_all, free_all, look_at, get, get_in, sets, lands_as}
-use types.Part.{agg, sub, whole}
-use contract.Monad.{fact, fact_i}
-use contract.Running.{tables}
-use denote.Exit.{no}
-use denote.RattleType.{RattleType, owns}
-use denote.Signature.{Slot, types_at, plain}
-use denote.Builtin.{RawPtr}
-use denote.RawPtr.{Ptr, block_ptr, null_ptr, ptr_val, in_a_block}
-use denote.Steps.{nothing, only, heard}
-use denote.Param.{param, layout, bounded}
-use denote.Param.Laws.{param_laws}
-use denote.Struct.Tuple.{Tuple}
-use denote.Triple.Spec.{triple_of}
+-- `of`: `Box::into_raw_with_allocator` takes the box apart, and the struct is made of what it gives.
+use Rattle.core.proofs.cell.Inside.{one}
+use denote.Signature.{type_at}
+use denote.Steps.{only}
 use denote.Triple.Call.{calls_at}
-use denote.Triple.Walked.{Stays, stay_dropped, walk_of}
-use Rattle.core.proofs.alloc.Calls.{Goes-blank, handle_tells}
-use Rattle.core.proofs.atomic.Steps.{fm}
-use Rattle.std_alloc.specs.Box.Ownership.{box_owns}
-use Rattle.std_alloc.proofs.BoxSteps.Form as box
-use Rattle.std_alloc.proofs.BoxSteps.Steps.{box_out, box_in}
-use Rattle.std.proofs.raw_atomic.Walks.{proved_at, leaves}
-use Rattle.pbd_loose.proofs.Values.{beside, fits_beside, apart_closes}
-use Rattle.std_alloc.specs.contracts.boxed.Box.into_raw_with_allocator as callee
-use Rattle.std_alloc.proofs.boxed.Box.into_raw_with_allocator.Met.{met}
-use Rattle.pbd_loose.specs.contracts.Loose.of.{ended, clauses}
-use Rattle.pbd_loose.specs.contracts.Loose.of.Key.{name as #self}
+use types.ByLocal.{lands_as}
+use types.Part.{agg}
+use Rattle.std_alloc.specs.contracts.boxed.Box.into_raw_with_allocator as parts
+use Rattle.std_alloc.proofs.boxed.Box.into_raw_with_allocator.Met as parts_met
+use Rattle.pbd_loose.proofs.Values.{◌≡◌, List, [], ◌∷◌, ◌++◌, refl, ap, Fn, inst_fn, Val, SProp, emp, id⊢, WpFn, ‵, raw, ◌⊛◌, some, later, prop, ◌$◌, ◌∵◌, !, qed, by, move, keep, drop, use0, use1, split, split3, fjoin, pick, await, rewrite, regoal, enter, of_opd, stop, fld, and_then, no_more, returns, alloc_all, pass_all, free_all, look_at, get, get_in, sets, sub, whole, fact, fact_i, tables, no, layout, RattleType, plain, nothing, heard, Lasts, lasts, alive, triple_of, framed, Stays, stay_dropped, walk_of, Al, Goes-blank, proved_at, leaves, box_allocator, word, ptr_good, Row, Boxed, args, memory, word_good, boxed_typed, opens_pair, closes_loose}
+use Rattle.pbd_loose.specs.contracts.Loose.of as f
 use Rattle.pbd_loose.proofs.Loose.of.Statement.{statement}
 use Rattle.pbd_loose.proofs.Loose.of.Code as code
 
 pub of_spec : {M : Type 1} → statement M
-of_spec 𝓤 𝓛 𝓜 𝓡 wired T A L LA g d dx dd allocator glue glued =
-    -- the rows, the code at them, and what the walk is about
-    let E : box.Bx = record { row = T; laws = L; al = record { row = A; laws = LA; g = g; d = d; drops = dd } } in
-    let R : RattleType = param 0 T in let Z : RattleType = param 1 A in let LZ = param_laws 1 A LA in
-    let at : Args = bounded (a_type ∷ a_type ∷ []) (T, (A, tt)) (dcons d (dcons dx (dcons dd dnil))) in let fn : Fn = inst_fn at code.function in
-    let 𝓣 = tables 𝓤 𝓛.H 𝓜 𝓡 𝓡.env in let En = ended T A g d dx dd in let c = clauses T A g d dx dd 𝓛 𝓜.mem 𝓡.returns in
-    let given : Slot 2 = plain (λ _. box.B E) in
-    let hs : Stays En.signature.params En.kept = (stay_dropped given no, tt) in
-    proved_at 𝓛 En hs c 𝓜 𝓡 (Goes-blank 𝓛 2 given no (λ κs x f. tt), tt) (#self at) fn (code.unfolded 𝓤 𝓛.H 𝓜 𝓡 wired (T, (A, tt)) d dx dd) (λ y are.
-    let κs = y.0.0 in let qs = y.0.1 in let v = y.0.3.0 in let a = v.alloc in
-    let Post : Val → SProp 𝓤 = (walk_of 𝓛 En hs c).post y in let Runs : List Val → SProp 𝓤 = λ ws. WpFn 𝓤 𝓛.H 𝓣.C 𝓣.Λ fn ws Post in
-    let alive = ‵ (flft κs.0 qs.0) ⊛ ‵ (flft κs.1.0 qs.1.0) ⊛ ‵ ftrue in let asked = raw ((c κs y.0.3).requires y.1) in
-    qed 𝓛 ((alive ⊛ ‵ (owns (types_at En.signature.params κs) y.0.3 y.0.4)) ∷ asked ∷ []) ∵ split ! $ move ! (1 ∷ []) $ fsplit ! $
-    -- the box at its one machine value
-    box_out E ! v y.0.4.0 (λ b o h there words fits. box_in E ! v b o v.value there refl $
-    let w : Val = box.word E h b o in let typed = fits_beside R Z LZ g b o h fits in
-    let k = triple_of 𝓛 (callee.signature T A g d dd dx) (callee.spec T A g d dd dx 𝓛 𝓜.mem 𝓡.returns) in
-    let z : k.Ghost = ((κs, qs, tt, (v, tt), (w ∷ [], tt)), tt) in let Pair : RattleType = Tuple (RawPtr ∷ Z ∷ []) in
-    fjoin ! $ move ! (1 ∷ 0 ∷ []) $ join ! $ join ! $ use1 𝓛 (raw (k.pre z)) (id⊢ 𝓤 _) $
-    suffices ! (Runs (w ∷ [])) (subst (λ (us : List Val). ent 𝓤 (Runs (w ∷ [])) (Runs us)) (sym (λ i. words i ++ [])) (id⊢ 𝓤 (Runs (w ∷ [])))) $
-    enter ! 𝓣.C 𝓣.Λ fn (w ∷ []) Post $ alloc_all ! (λ l. pass_all ! refl (typed, tt) $
-    sets ! (of_opd ! (get ! refl)) refl typed $
-    calls_at ! (fm 𝓛 𝓜 𝓡) k (met 𝓤 𝓛 𝓜 𝓡 (code.calls-std_alloc::boxed::Box::into_raw_with_allocator 𝓡.env wired) T A L LA g d dd dx allocator glued glue) z (and_then ! (get ! refl) (no_more !)) (λ u.
-    -- what the call gave: the pair of the pointer and the handle, and the memory at the pointer
-    use1 𝓛 (later (some (λ (r : Ptr × A.Denot). (alive ⊛ ‵ (Pair.own_val r (u ∷ []))) ⊛ some (λ (_ : (Unit {0} × (Unit {0} × Unit {0})) × Unit {0}).
-    ‵ (fsep (fsep ftrue (fsep ftrue ftrue)) ftrue) ⊛ (raw (fact 𝓤 (r.1 ≡ a)) ⊛ ‵ (box_owns (g.dealloc_token a) R r.0 v.value)))))) (id⊢ 𝓤 _) $
-    await ! tt $ pick ! (λ r. split ! $ move ! (1 ∷ []) $ pick ! (λ _. split3 ! $ drop ! $ heard ! (r.1 ≡ a) (λ same.
-    in_a_block ! r.0 (λ p. box_owns (g.dealloc_token a) R p v.value) (fst∗ 𝓤 (never 𝓤) (sem 𝓛 (g.dealloc_token a (bare (layout T)) null_ptr))) (λ b' o' there'.
-    -- [the memory; the tokens with the pair]
-    move ! (1 ∷ []) $ split ! $ move ! (1 ∷ []) $ fpick ! (λ parts. fsplit ! $ feq_l ! (λ both. fsplit ! $ feq_l ! (λ pointer. fsplit ! $
-    rewrite ! 0 (λ (s : A.Denot). ‵ (A.own_val s parts.1.0)) same refl $ handle_tells E.al ! a parts.1.0 (λ h' bits fits'.
-    let w' : Val = beside (vptr b' o') h' in let typed' = fits_beside R Z LZ g b' o' h' fits' in
-    let pointer' : parts.0 ≡ vptr b' o' ∷ [] = pointer ∙ ap (λ (p : Ptr). ptr_val p ∷ []) there' in
-    let answer : u ∷ [] ≡ w' ∷ [] = both ∙ (λ i. vstruct (of_list (pointer' i ++ (bits i ++ []))) ∷ []) in
-    lands_as ! (ap only answer) refl typed' $
-    sets ! (of_opd ! (get_in ! (fld ! refl (stop !)) (sub ! 0 refl (whole !)))) refl (tt, tt) $
-    sets ! (of_opd ! (get_in ! (fld ! refl (stop !)) (sub ! 1 refl (whole !)))) refl fits' $
-    sets ! (of_opd ! (get ! refl)) refl fits' $
-    sets ! (agg ! (and_then ! (get ! refl) (and_then ! (get ! refl) (no_more !)))) refl typed' $
-    move ! (3 ∷ 0 ∷ []) $ apart_closes R Z LZ g ! b' o' h' a v.value $
-    -- [what is returned; ..; the clause; nothing is left of the parameter; no more]
-    use0 𝓛 (raw (fact 𝓤 (v.value ≡ v.value))) (fact_i 𝓤 (v.value ≡ v.value) (emp 𝓤) refl) $ nothing ! $ nothing ! $ fjoin ! $
-    returns ! (look_at ! 0 refl) $ free_all ! refl $ keep ! (4 ∷ 0 ∷ 2 ∷ 1 ∷ []) $
-    by ! (leaves 𝓛 En hs c y w' (record { at = block_ptr b' o'; alloc = a; value = v.value }) ((tt, (tt, tt)), tt) (tt, tt))))))))))))))
+of_spec 𝓤 𝓛 𝓜 𝓡 wired T A LT LA g d dT dA allocates drops_T drops_A =
+    let 𝓣 = tables 𝓤 𝓛.H 𝓜 𝓡 𝓡.env in let E : Al = record { row = A; laws = LA; g = g; d = d; drops = dA } in
+    let En = f.ended T A g d dT dA in let c = f.clauses T A g d dT dA 𝓛 𝓜.mem 𝓡.returns in let fn : Fn = inst_fn (args T E dT) code.function in
+    let hs : Stays En.signature.params En.kept = (stay_dropped (plain (λ _. Boxed T E)) no, tt) in
+    proved_at 𝓛 En hs c 𝓜 𝓡 (Goes-blank 𝓛 2 (plain (λ _. Boxed T E)) no (λ κs x w. tt), tt) (f.Key.name (args T E dT)) fn (code.unfolded 𝓤 𝓛.H 𝓜 𝓡 wired (T, (A, tt)) d dT dA) (λ z are.
+    let κs = z.0.0 in let b = z.0.3.0 in let Post : Val → SProp 𝓤 = (walk_of 𝓛 En hs c).post z in
+    let Gn = parts.ended T A g d dA dT in let G = triple_of 𝓛 Gn.signature (parts.spec T A g d dA dT 𝓛 𝓜.mem 𝓡.returns) in
+    let Parts : RattleType = type_at Gn.signature.result κs in let y : List Val → G.Ghost = λ us. ((κs, z.0.1, tt, (b, tt), (us, tt)), tt) in
+    -- the box is one machine value. All that is owned at entry goes into the call
+    let box = one (layout (Boxed T E)) z.0.4.0 (boxed_typed T E LT 𝓛 b z.0.4.0 are.0) in
+    qed 𝓛 (raw (G.pre (y z.0.4.0)) ∷ []) ∵ rewrite ! 0 (λ (us : List Val). raw (G.pre (y us))) box.1 refl $ regoal ! (λ (us : List Val). prop (WpFn 𝓤 𝓛.H 𝓣.C 𝓣.Λ fn (us ++ []) Post)) box.1 refl $
+    enter ! _ _ _ _ _ $ alloc_all ! (λ l. pass_all ! refl (box.2, tt) $ sets ! (of_opd ! (get ! refl)) refl box.2 $
+    calls_at ! (framed 𝓤 𝓛.H 𝓜 𝓣) G (parts_met.met 𝓤 𝓛 𝓜 𝓡 (code.calls-std_alloc::boxed::Box::into_raw_with_allocator 𝓡.env wired) T A LT LA g d dA dT allocates drops_A drops_T) (y (box.0 ∷ [])) (and_then ! (get ! refl) (no_more !)) (λ v.
+    use1 𝓛 (later (some (λ (r : Parts.Denot). (raw (alive 𝓛 En.signature κs z.0.1) ⊛ ‵ (Parts.own_val r (v ∷ []))) ⊛
+    some (λ (ws : Lasts Gn κs (b, tt)). ‵ (lasts Gn κs (b, tt) ws) ⊛ raw (fact 𝓤 (r.1 ≡ box_allocator b)) ⊛ ‵ (memory T E r.0 (box_allocator b) b.value))))) (id⊢ 𝓤 _) $
+    await ! tt $ pick ! (λ r. split ! $ move ! (1 ∷ []) $ pick ! (λ ws. split3 ! $ drop ! $ heard ! _ (λ same. move ! (1 ∷ []) $ split ! $ move ! (1 ∷ []) $
+    -- [the pointer and the allocator; the tokens; the box's memory]
+    opens_pair T E ! r.0 r.1 (v ∷ []) (λ h is fits. rewrite ! 0 (λ (a : A.Denot). ‵ (A.own_val a (h ∷ []))) same refl $
+    lands_as ! (ap only is) refl (word_good T E r.0 h fits) $
+    sets ! (of_opd ! (get_in ! (fld ! refl (stop !)) (sub ! 0 refl (whole !)))) refl (ptr_good r.0) $ sets ! (of_opd ! (get_in ! (fld ! refl (stop !)) (sub ! 1 refl (whole !)))) refl fits $
+    sets ! (of_opd ! (get ! refl)) refl fits $ sets ! (agg ! (and_then ! (get ! refl) (and_then ! (get ! refl) (no_more !)))) refl (word_good T E r.0 h fits) $
+    returns ! (look_at ! 0 refl) $ free_all ! refl $
+    -- the struct closes over its fields and the memory
+    let made : (Row T E).Denot = record { at = r.0; alloc = box_allocator b; value = b.value } in keep ! (0 ∷ 2 ∷ 1 ∷ []) $ closes_loose T E ! made h $
+    use0 𝓛 (raw (fact 𝓤 (b.value ≡ b.value))) (fact_i 𝓤 _ (emp 𝓤) refl) $ nothing ! $ nothing ! $ fjoin ! $ keep ! (3 ∷ 0 ∷ 2 ∷ 1 ∷ []) $
+    by ! (leaves 𝓛 En hs c z (word r.0 h) made ((tt, (tt, tt)), tt) (tt, tt)))))))))
