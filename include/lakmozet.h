@@ -8,7 +8,7 @@
  *
  * What no call ever does: it starts no thread, uses no lock, no locale, no file, no clock and no floating point, and it writes
  * nowhere but through its arguments and into what the handle holds. After lak_open no call on a handle takes memory, until
- * lak_close gives it back. lak_record, which has no handle, takes memory and gives it back before it returns.
+ * lak_close gives it back. lak_record and lak_replay, which have no handle, take memory and give it back before they return.
  *
  * What a caller owes, and nothing checks:
  *   - A handle is all zero bytes ({0} in C, {} in C++) or what the last call left. It may be moved, and is never copied and
@@ -66,6 +66,13 @@ typedef struct {
     int64_t at[3], before[3];   /* the sums of all places, and of all places of one step before */
 } lak_sums_of_world;
 
+/* Where a replay stopped: see lak_replay. */
+typedef struct {
+    uint64_t offset; /* how many bytes stand before the part that can't be read */
+    uint64_t entry;  /* the first that differs, from 1 */
+    uint8_t field;   /* 1 to 13: see lak_field_name */
+} lak_stop;
+
 /* How many of everything there are. */
 typedef struct {
     uint64_t steps;     /* taken so far, at most 1,000,000 */
@@ -101,14 +108,16 @@ enum {
     LAK_TOO_MANY_CONTACTS = 12 /* in a step there were more than 262,144 contacts */
 };
 
-/* What lak_open and lak_record answer beside: the program's statuses. */
+/* What lak_open, lak_record and lak_replay answer beside: the program's statuses. */
 enum {
-    LAK_NO_LOG_ROOM = 3,    /* lak_record: the output is too short */
-    LAK_TOO_LONG = 4,       /* lak_record: the scene or the script is longer than 2^24 bytes */
+    LAK_NO_LOG_ROOM = 3,    /* lak_record, lak_replay: the output is too short */
+    LAK_TOO_LONG = 4,       /* lak_record: the scene or the script is longer than 2^24 bytes; lak_replay: the log than 2^27 */
     LAK_SCENE_NOT_TEXT = 6, /* the scene is no UTF-8 */
     LAK_SCENE_NOT_TOML = 7, /* the scene is no TOML */
     LAK_SCENE_REFUSED = 8,  /* the scene breaks a rule, which is told */
-    LAK_SOME_REFUSED = 11,  /* lak_record: all went well, but a command was refused */
+    LAK_LOG_REFUSED = 9,    /* lak_replay: the bytes are no log; where they stop being one is told */
+    LAK_MISMATCH = 10,      /* lak_replay: an entry differs, which is told */
+    LAK_SOME_REFUSED = 11,  /* lak_record, lak_replay: all went well, but a command was refused */
     LAK_OUT_OF_MEMORY = 12  /* there was no memory */
 };
 
@@ -182,9 +191,9 @@ int32_t lak_live(lak_cloth *cloth, uint8_t *into, size_t room, uint32_t *count);
 /* The numbers, ascending, of the links that are live in a slot's world and are so no longer. Answers LAK_NO_SLOT too. */
 int32_t lak_gone_since(lak_cloth *cloth, uint32_t slot, uint32_t *into, size_t room, uint32_t *count);
 
+/* ---- whole runs, from bytes to bytes */
+
 /*
- * ---- a whole run, from bytes to bytes
- *
  * Runs a script (docs/FORMATS.md has its lines) on the scene of a TOML text, each of at most 2^24 bytes, and writes the log of
  * the session into `output`, which is `room` bytes long; `written` says how many bytes it has. It is a log as the program's
  * `record` writes.
@@ -194,6 +203,19 @@ int32_t lak_gone_since(lak_cloth *cloth, uint32_t slot, uint32_t *into, size_t r
  */
 int32_t lak_record(const uint8_t *scene, size_t scene_length, const uint8_t *script, size_t script_length, uint8_t *output,
                    size_t room, size_t *written);
+
+/*
+ * Replays a log of version 1 or 2, of at most 2^27 bytes, and writes text into `output`, which is `room` bytes long; `written`
+ * says how many bytes it has. It is the text that the program's `replay` writes of that log: the replies of its commands, and
+ * where an entry differs from what the session answers, those before it and the line of the mismatch.
+ *
+ * LAK_DONE, LAK_SOME_REFUSED: the text is written, and all entries agree. LAK_MISMATCH: the text is written, and `stop` has the
+ * first entry that differs, from 1, and its first field that does. LAK_LOG_REFUSED: `written` is 0, and `stop` has the offset.
+ * LAK_NO_LOG_ROOM, LAK_TOO_LONG, LAK_SCENE_NOT_TEXT, LAK_SCENE_NOT_TOML, LAK_SCENE_REFUSED (of the scene in the log),
+ * LAK_OUT_OF_MEMORY: `written` is 0. What an answer doesn't tell is 0 in `stop`, and where `written` is 0, what `output` has is
+ * not told.
+ */
+int32_t lak_replay(const uint8_t *log, size_t length, uint8_t *output, size_t room, size_t *written, lak_stop *stop);
 
 /* ---- names, as the program prints them */
 
@@ -217,6 +239,13 @@ static inline const char *lak_key_name(uint8_t key)
         "across", "down", "rows", "columns", "stretch", "shear", "bend", "stretch_tear", "shear_tear", "bend_tear", "spacing",
         "count", "a", "b", "rest", "stiffness", "tear", "normal", "offset", "centre", "radius", "particle", "keys"};
     return key <= 34 ? names[key] : "-";
+}
+
+static inline const char *lak_field_name(uint8_t field)
+{
+    static const char *const names[] = {"answer", "step", "phase", "element", "steps", "live", "contacts",
+                                        "x", "y", "z", "before-x", "before-y", "before-z"};
+    return 1 <= field && field <= 13 ? names[field - 1] : "-";
 }
 
 #ifdef __cplusplus

@@ -130,6 +130,33 @@ static void records(void)
     MUST(lak_record((const uint8_t *)"\xff", 1, lines, strlen(script), log, sizeof log, &more) == LAK_SCENE_NOT_TEXT);
 }
 
+static void replays(void)
+{
+    static const char text[] = "[[particle]]\nat = [0, 1000, 0]\n", script[] = "step 2\nframe\ncut 5\n";
+    static const char replies[] = "ok\nframe 2 1 0 0\n0 1000 0\nrefused 3 NoLink\n";
+    static const char differs[] = "ok\nerror 10 Mismatch record 2 field answer recorded 1 found 0\n";
+    static uint8_t log[4096], output[4096];
+    size_t length = 0, written = 7, entry = 20 + strlen(text) + 74;
+    lak_stop stop = {7, 7, 7};
+    lak_record((const uint8_t *)text, strlen(text), (const uint8_t *)script, strlen(script), log, sizeof log, &length);
+    MUST(lak_replay(log, length, output, sizeof output, &written, &stop) == LAK_SOME_REFUSED);
+    MUST(written == strlen(replies) && memcmp(output, replies, written) == 0);
+    MUST(stop.offset == 0 && stop.entry == 0 && stop.field == 0);
+    MUST(lak_replay(log, length, output, written - 1, &written, &stop) == LAK_NO_LOG_ROOM && written == 0);
+    MUST(lak_replay(log, length - 1, output, sizeof output, &written, &stop) == LAK_LOG_REFUSED && written == 0);
+    MUST(stop.offset == length - 9 && stop.entry == 0 && stop.field == 0);
+    MUST(lak_replay(log, 0, output, sizeof output, &written, &stop) == LAK_LOG_REFUSED && stop.offset == 0);
+    MUST(log[entry] == 2 && log[entry + 1] == 0);
+    log[entry + 1] = 1;
+    MUST(lak_replay(log, length, output, sizeof output, &written, &stop) == LAK_MISMATCH && stop.offset == 0);
+    MUST(stop.entry == 2 && strcmp(lak_field_name(stop.field), "answer") == 0);
+    MUST(written == strlen(differs) && memcmp(output, differs, written) == 0);
+    log[entry + 1] = 0, log[20] = '=';
+    MUST(lak_replay(log, length, output, sizeof output, &written, &stop) == LAK_SCENE_NOT_TOML && written == 0 && stop.entry == 0);
+    log[20] = 0xff;
+    MUST(lak_replay(log, length, output, sizeof output, &written, &stop) == LAK_SCENE_NOT_TEXT && written == 0);
+}
+
 int main(void)
 {
     lak_cloth cloth;
@@ -143,6 +170,7 @@ int main(void)
     reading(&cloth);
     slots(&cloth);
     records();
+    replays();
     lak_close(&cloth);
     lak_close(&cloth);
     MUST(lak_pin(&cloth, 0) == LAK_CLOSED);

@@ -168,6 +168,22 @@ static void read_some(tracked *it)
     must(same(sums_of(it), it->sums), "reading changes the sums");
 }
 
+/* A log replays with the status of its recording; with one byte changed it answers something that it may, within the room. */
+static void replay_some(uint8_t *log, size_t length, int32_t recorded)
+{
+    static uint8_t output[65536];
+    size_t written = 7, room = draw() % 4 == 0 ? draw() % 2048 : sizeof output;
+    lak_stop stop;
+    int32_t status = lak_replay(log, length, output, sizeof output, &written, &stop);
+    must(status == recorded && stop.offset == 0 && stop.entry == 0 && stop.field == 0, "a log replays as it was recorded");
+    log[draw() % length] = (uint8_t)draw();
+    status = lak_replay(log, length, output, room, &written, &stop);
+    must(status == 0 || status == 3 || (6 <= status && status <= 11), "a replay answers something else");
+    must(written <= room && (written > 0) == (status == 0 || 10 <= status), "the length of a replay's text");
+    must((status == 10) == (stop.entry > 0) && (status == 10) == (stop.field > 0) && stop.field <= 13, "where a replay stopped");
+    must(stop.offset <= length && (status == 9 || stop.offset == 0), "where a log goes wrong");
+}
+
 static void record_some(void)
 {
     static char text[2048], script[64];
@@ -177,6 +193,8 @@ static void record_some(void)
     int32_t status = lak_record((const uint8_t *)text, length, (const uint8_t *)script, lines, log, room, &written);
     must(status == 0 || status == 3 || (6 <= status && status <= 8) || status == 11, "a record answers something else");
     must(written <= room && (written > 0) == (status == 0 || status == 11), "the length of a log");
+    if (written > 0)
+        replay_some(log, written, status);
 }
 
 static void call(void)

@@ -1,7 +1,7 @@
 /*
  * What takes memory, and what happens where there is none. Linked with -Wl,--wrap=malloc,--wrap=realloc,--wrap=free, so that each
- * request can be counted, and made to fail: opening and recording have each of theirs fail in turn, and must give back what they
- * took; no other call makes one.
+ * request can be counted, and made to fail: opening, recording and replaying have each of theirs fail in turn, and must give back
+ * what they took; no other call makes one.
  */
 #include "lakmozet.h"
 
@@ -15,6 +15,8 @@ void __real_free(void *at);
 void *__wrap_malloc(size_t size);
 void *__wrap_realloc(void *at, size_t size);
 void __wrap_free(void *at);
+
+enum { LOG_ROOM = 65536 };
 
 static unsigned long requests, fails_at;
 static long blocks;
@@ -59,10 +61,9 @@ static int32_t open_it(lak_cloth *cloth)
     return lak_open(cloth, (const uint8_t *)scene, strlen(scene), 4, &fault);
 }
 
-static int32_t record_it(size_t *written)
+static int32_t record_it(uint8_t *log, size_t *written)
 {
-    static uint8_t log[65536];
-    return lak_record((const uint8_t *)scene, strlen(scene), (const uint8_t *)script, strlen(script), log, sizeof log, written);
+    return lak_record((const uint8_t *)scene, strlen(scene), (const uint8_t *)script, strlen(script), log, LOG_ROOM, written);
 }
 
 /* Each request of opening fails once: the handle stays closed, and all is given back. Returns how many there are. */
@@ -84,15 +85,36 @@ static unsigned long open_without_memory(void)
 
 static unsigned long record_without_memory(void)
 {
+    static uint8_t log[LOG_ROOM];
     for (unsigned long n = 1;; n++) {
         size_t written = 7;
         requests = 0, fails_at = n;
-        int32_t answer = record_it(&written);
+        int32_t answer = record_it(log, &written);
         fails_at = 0;
         must(blocks == 0, "recording gives all back");
         if (answer == LAK_DONE)
             return n - 1;
         must(answer == LAK_OUT_OF_MEMORY && written == 0, "a failed record writes nothing");
+    }
+}
+
+/* Each request of a replay fails once: nothing is written, and all is given back. Returns how many there are. */
+static unsigned long replay_without_memory(void)
+{
+    static uint8_t log[LOG_ROOM], output[65536];
+    size_t length, written;
+    lak_stop stop;
+    requests = 0;
+    must(record_it(log, &length) == LAK_DONE, "it records");
+    for (unsigned long n = 1;; n++) {
+        written = 7;
+        requests = 0, fails_at = n;
+        int32_t answer = lak_replay(log, length, output, sizeof output, &written, &stop);
+        fails_at = 0;
+        must(blocks == 0, "replaying gives all back");
+        if (answer == LAK_DONE)
+            return n - 1;
+        must(answer == LAK_OUT_OF_MEMORY && written == 0, "a failed replay writes nothing");
     }
 }
 
@@ -128,8 +150,9 @@ static void play_without_memory(void)
 
 int main(void)
 {
-    unsigned long opening = open_without_memory(), recording = record_without_memory();
+    unsigned long opening = open_without_memory(), recording = record_without_memory(), replaying = replay_without_memory();
     play_without_memory();
-    printf("memory: %lu requests of an opening and %lu of a record failed in turn; the other calls make none\n", opening, recording);
+    printf("memory: %lu requests of an opening, %lu of a record and %lu of a replay failed in turn; the other calls make none\n",
+           opening, recording, replaying);
     return 0;
 }

@@ -85,24 +85,32 @@ fault_of (NoScene (Refused rule table position key)) =
     record { position = position; rule = rule_number rule; table = table_number table; key = key_number key }
 fault_of why = record { position = 0; rule = 0; table = 0; key = 0 }
 
--- the parts of the scene that a text is, which reads as this tree
+-- the parts of the scene that a text is, read with a limit, which reads as this tree
+abbrev pub IsSceneIn : ℤ → Option Members → Parts → Type 0
+IsSceneIn limit (Some tree) parts = scene_of limit tree ≡ Ok parts
+IsSceneIn limit None parts = ⊥
+
+-- read with the limit 2^29, as wherever no log says another
 abbrev pub IsScene : Option Members → Parts → Type 0
-IsScene (Some tree) parts = scene_of (pos (2 ^ 29)) tree ≡ Ok parts
-IsScene None parts = ⊥
+IsScene tree parts = IsSceneIn (pos (2 ^ 29)) tree parts
 
--- why a text that reads as this tree, or as none, is no scene: the first broken rule
-abbrev pub IsFault : Option Members → SceneFault → Type 0
-IsFault (Some tree) (Refused rule table position key) =
-    scene_of (pos (2 ^ 29)) tree ≡ broken rule (record { table = table; position = position }) key
-IsFault None NotToml = ⊤
-IsFault tree OutOfMemory = ⊤
-IsFault tree fault = ⊥
+-- why a text, read with a limit, which reads as this tree, or as none, is no scene: the first broken rule
+abbrev pub IsFaultIn : ℤ → Option Members → SceneFault → Type 0
+IsFaultIn limit (Some tree) (Refused rule table position key) =
+    scene_of limit tree ≡ broken rule (record { table = table; position = position }) key
+IsFaultIn limit None NotToml = ⊤
+IsFaultIn limit tree OutOfMemory = ⊤
+IsFaultIn limit tree fault = ⊥
 
--- the reason holds of these bytes and slots
+-- the reason holds of these bytes, read with a limit, and slots
+abbrev pub IsWhyIn : ℤ → List ℕ → ℕ → NoCloth → Type 0
+IsWhyIn limit bytes slots TooManySlots = 16 < slots
+IsWhyIn limit bytes slots NotText = IsUtf8 bytes → ⊥
+IsWhyIn limit bytes slots (NoScene fault) = IsUtf8 bytes × IsFaultIn limit (parse_document bytes) fault
+
+-- read with the limit 2^29
 abbrev pub IsWhy : List ℕ → ℕ → NoCloth → Type 0
-IsWhy bytes slots TooManySlots = 16 < slots
-IsWhy bytes slots NotText = IsUtf8 bytes → ⊥
-IsWhy bytes slots (NoScene fault) = IsUtf8 bytes × IsFault (parse_document bytes) fault
+IsWhy bytes slots why = IsWhyIn (pos (2 ^ 29)) bytes slots why
 
 -- ---- what opening does
 

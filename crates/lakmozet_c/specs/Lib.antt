@@ -2,3 +2,5 @@ pub mod Calls
 pub mod Faults
 pub mod Kept
 pub mod Logs
+pub mod Replays
+pub mod Runs

@@ -9,7 +9,9 @@ mod opening;
 mod plain;
 mod reads;
 mod recording;
+mod replaying;
+mod runs;
 mod slots;
 
 pub use handle::Handle;
-pub use plain::{Counts, Fault, Left, Sums};
+pub use plain::{Counts, Fault, Left, Stop, Sums};

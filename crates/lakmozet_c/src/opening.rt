@@ -1,11 +1,13 @@
 //! A cloth from the text of a scene, or why there is none.
-ghost use Rattle.std.specs.Prelude.{◌≡◌, ◌≤◌, IfOk, MatchResult, pos};
+ghost use Rattle.std.specs.Prelude.{◌≡◌, ◌≤◌, IfOk, IsTrue, MatchResult, pos};
+ghost use Rattle.std.specs.Str.{IsUtf8};
 ghost use Rattle.toml.specs.Parse.{parse_document};
+ghost use Rattle.pbd_world.specs.Valid.{is_limit};
 ghost use Rattle.pbd_world.specs.World.{opened};
 ghost use Rattle.pbd_cloth.specs.Slots.{begun};
 ghost use Rattle.pbd_scene.specs.declared.fault.SceneFault.TheVariants.{OutOfMemory};
 ghost use Rattle.lakmozet_c.specs.declared.opening.NoCloth.TheVariants.{NoScene};
-ghost use Rattle.lakmozet_c.specs.Faults.{fault_of, key_number, stop_number, table_number, IsFault, IsOpened, IsScene, IsWhy};
+ghost use Rattle.lakmozet_c.specs.Faults.{fault_of, key_number, stop_number, table_number, IsFaultIn, IsOpened, IsSceneIn, IsWhy, IsWhyIn};
 
 use crate::numbers::NO_SLOT;
 use crate::plain::Fault;
@@ -34,10 +36,27 @@ fn boxed(alloc: Global, scene: &Scene, slots: u32) -> Result<Box<Cloth>, AllocEr
 }
 
 #[tactic(auto, using(crate::proofs::Reading::read_as))]
-pub(crate) fn scene_of(alloc: Global, text: &str) -> Result<Scene, SceneFault>
-    ensures { MatchResult result (λ parts. IsScene (parse_document text.now) parts) (λ fault. IsFault (parse_document text.now) fault) }
+fn scene_of(alloc: Global, text: &str, limit: i64) -> Result<Scene, SceneFault>
+    requires { IsTrue (is_limit limit) }
+    ensures { MatchResult result (λ parts. IsSceneIn limit (parse_document text.now) parts)
+        (λ fault. IsFaultIn limit (parse_document text.now) fault) }
 {
-    read_scene(alloc, text, RANGE)
+    read_scene(alloc, text, limit)
+}
+
+/// The scene of a text's bytes, read with a limit.
+pub(crate) fn scene_in(alloc: Global, bytes: &[u8], limit: i64) -> Result<Scene, NoCloth>
+    requires { IsTrue (is_limit limit) }
+    ensures { MatchResult result (λ parts. IsUtf8 bytes.now × IsSceneIn limit (parse_document bytes.now) parts)
+        (λ why. IsWhyIn limit bytes.now 0 why) }
+{
+    match str::from_utf8(bytes) {
+        Ok(text) => match scene_of(alloc, text, limit) {
+            Ok(scene) => Ok(scene),
+            Err(fault) => Err(NoCloth::NoScene(fault)),
+        },
+        Err(_) => Err(NoCloth::NotText),
+    }
 }
 
 /// The cloth of a scene, which is let go.
@@ -55,18 +74,16 @@ fn cloth_on(alloc: Global, scene: Scene, slots: u32) -> Result<Box<Cloth>, NoClo
 }
 
 /// The cloth of a scene's text.
+#[tactic(auto, using(crate::proofs::Reading::with_any_slots))]
 pub(crate) fn cloth_of(alloc: Global, toml: &[u8], slots: u32) -> Result<Box<Cloth>, NoCloth>
     ensures { MatchResult result (λ cloth. IsOpened toml.now slots cloth.value) (λ why. IsWhy toml.now slots why) }
 {
     if MOST_SLOTS < slots {
         return Err(NoCloth::TooManySlots);
     }
-    match str::from_utf8(toml) {
-        Ok(text) => match scene_of(alloc, text) {
-            Ok(scene) => cloth_on(alloc, scene, slots),
-            Err(fault) => Err(NoCloth::NoScene(fault)),
-        },
-        Err(_) => Err(NoCloth::NotText),
+    match scene_in(alloc, toml, RANGE) {
+        Ok(scene) => cloth_on(alloc, scene, slots),
+        Err(why) => Err(why),
     }
 }
 

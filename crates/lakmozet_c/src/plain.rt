@@ -21,6 +21,16 @@ pub struct Fault {
     pub key: u8,
 }
 
+/// Where a replay stopped: how many bytes stand before the part that can't be read, where they are no log; the first entry
+/// that differs, from 1, and the number of its field, 1 to 13 in the order of the comparison. All are 0 where nothing is wrong.
+#[repr(C)]
+#[derive(Clone, Copy)]
+pub struct Stop {
+    pub offset: u64,
+    pub entry: u64,
+    pub field: u8,
+}
+
 /// What a log keeps of a world: counts, and the sums of the places over all particles, in units of 1/65,536 metre.
 #[repr(C)]
 #[derive(Clone, Copy)]

@@ -1,18 +1,16 @@
 //! A script on a scene, recorded into a log, from bytes to bytes.
-ghost use Rattle.std.specs.Prelude.{◌≡◌, ◌⊎◌, ◌≤◌, ◌<◌, ◌^◌, [], Some, IfOk, MatchResult, length, pos, take};
-ghost use Rattle.std.specs.Str.{IsUtf8};
-ghost use Rattle.toml.specs.Parse.{parse_document};
+ghost use Rattle.std.specs.Prelude.{◌≡◌, ◌⊎◌, ◌≤◌, ◌<◌, ◌^◌, [], Some, IfOk, MatchResult, length, take};
 ghost use Rattle.pbd_io.specs.Pieces.{WritesPiece};
 ghost use Rattle.pbd_script.specs.Commands.{commands};
 ghost use Rattle.pbd_world.specs.Session.{refused_count};
 ghost use Rattle.pbd_world.specs.World.{opened};
-ghost use Rattle.lakmozet_c.specs.Faults.{IsScene};
-ghost use Rattle.lakmozet_c.specs.declared.recording.NoLog.TheVariants.{NoRoom};
-ghost use Rattle.lakmozet_c.specs.Logs.{end_number, log_of, no_log_number, IsLog, IsNotRecorded, IsRecorded, IsWhyNot};
+ghost use Rattle.lakmozet_c.specs.Logs.{log_of, IsLog, IsNotRecorded, IsRecorded, IsWhyNot};
 
-use crate::opening::{NoCloth, scene_of, stop_number};
+use crate::opening::scene_in;
+use crate::runs::{NoRun, copied, end_number, no_run_number};
 use pbd_cloth::LANES;
 use pbd_io::{Failed, MemSink};
+use pbd_num::RANGE;
 use pbd_pair::LaneProjector;
 use pbd_session::{RunEnd, Session, run_record};
 use pbd_store::Steps;
@@ -23,17 +21,6 @@ use std::sync::ledger::{Blank, Ledger};
 
 /// How many bytes a scene and a script may have.
 const MOST: usize = 16_777_216;
-
-/// Why there is no log.
-#[derive(Clone, Copy)]
-pub enum NoLog {
-    NoScene(NoCloth),
-    /// The caller's memory is too short.
-    NoRoom,
-    /// The scene or the script is longer than 2^24 bytes.
-    TooLong,
-    NoMemory,
-}
 
 // Records with a count of accesses of its own, which nobody sees.
 fn record_counted<G: Ledger>(
@@ -62,7 +49,7 @@ fn log_on(
     text: &[u8],
     script: &[u8],
     sink: &mut MemSink,
-) -> Result<u64, NoLog>
+) -> Result<u64, NoRun>
     requires text { length text.now < 2 ^ 32 }
     requires script { length script.now ≤ 2 ^ 31 }
     requires empty { sink.old.bytes ≡ [] }
@@ -78,56 +65,24 @@ fn log_on(
             drop(session);
             match end {
                 Ok(end) => Ok(end.refused),
-                Err(Failed) => Err(NoLog::NoRoom),
+                Err(Failed) => Err(NoRun::NoRoom),
             }
         }
-        Err(AllocError) => Err(NoLog::NoMemory),
+        Err(AllocError) => Err(NoRun::NoMemory),
     }
 }
 
 /// Records the script on the scene of a text.
-fn logged(alloc: Global, scene: &[u8], script: &[u8], sink: &mut MemSink) -> Result<u64, NoLog>
+fn logged(alloc: Global, scene: &[u8], script: &[u8], sink: &mut MemSink) -> Result<u64, NoRun>
     requires scene { length scene.now < 2 ^ 32 }
     requires script { length script.now ≤ 2 ^ 31 }
     requires empty { sink.old.bytes ≡ [] }
     ensures { MatchResult result (λ refused. IsLog scene.now script.now sink.new.bytes refused) (λ why. IsWhyNot scene.now why) }
 {
-    match str::from_utf8(scene) {
-        Ok(text) => match scene_of(alloc, text) {
-            Ok(parts) => log_on(alloc, parts, scene, script, sink),
-            Err(fault) => Err(NoLog::NoScene(NoCloth::NoScene(fault))),
-        },
-        Err(_) => Err(NoLog::NoScene(NoCloth::NotText)),
+    match scene_in(alloc, scene, RANGE) {
+        Ok(parts) => log_on(alloc, parts, scene, script, sink),
+        Err(why) => Err(NoRun::NoScene(why)),
     }
-}
-
-fn no_log_number(why: &NoLog) -> i32
-    ensures { result ≡ pos (no_log_number why.now) }
-{
-    match why {
-        NoLog::NoRoom => 3,
-        NoLog::TooLong => 4,
-        NoLog::NoScene(why) => stop_number(why),
-        NoLog::NoMemory => 12,
-    }
-}
-
-fn end_number(refused: u64) -> i32
-    ensures { result ≡ pos (end_number refused) }
-{
-    if refused == 0 { 0 } else { 11 }
-}
-
-/// Copies the bytes where there is room for them, and answers how many there are.
-fn copied(bytes: &[u8], output: &mut [u8]) -> Result<usize, NoLog>
-    ensures { MatchResult result (λ count. (count ≤ length output.new) × (take count output.new ≡ bytes.now))
-        (λ why. why ≡ NoRoom) }
-{
-    if output.len() < bytes.len() {
-        return Err(NoLog::NoRoom);
-    }
-    output[..bytes.len()].copy_from_slice(bytes);
-    Ok(bytes.len())
 }
 
 /// The log of the script on the scene of a text, in the caller's memory: how many bytes it has, and how many commands were
@@ -137,13 +92,13 @@ fn recorded(
     scene: &[u8],
     script: &[u8],
     output: &mut [u8],
-) -> Result<(usize, u64), NoLog>
+) -> Result<(usize, u64), NoRun>
     ensures { MatchResult result
         (λ end. (end.0 ≤ length output.new) × IsLog scene.now script.now (take end.0 output.new) end.1)
         (λ why. IsWhyNot scene.now why) }
 {
     if MOST < scene.len() || MOST < script.len() {
-        return Err(NoLog::TooLong);
+        return Err(NoRun::TooLong);
     }
     match MemSink::open(alloc, output.len(), Vec::new(alloc)) {
         Ok(mut sink) => match logged(alloc, scene, script, &mut sink) {
@@ -153,7 +108,7 @@ fn recorded(
             },
             Err(why) => Err(why),
         },
-        Err(AllocError) => Err(NoLog::NoMemory),
+        Err(AllocError) => Err(NoRun::NoMemory),
     }
 }
 
@@ -176,7 +131,7 @@ pub extern "C" fn lak_record(
         }
         Err(why) => {
             *written = 0;
-            no_log_number(&why)
+            no_run_number(&why)
         }
     }
 }

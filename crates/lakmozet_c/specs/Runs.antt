@@ -1,0 +1,16 @@
+-- What whole runs answer, from bytes to bytes.
+use Rattle.std.specs.Prelude.{◌==◌, if◌then◌else◌, ℕ}
+use Rattle.lakmozet_c.specs.declared.runs.NoRun.{NoRun}
+use Rattle.lakmozet_c.specs.declared.runs.NoRun.TheVariants.{NoScene, NoRoom, TooLong, NoMemory}
+use Rattle.lakmozet_c.specs.Faults.{stop_number}
+
+-- the status of the program's for so many refused commands
+abbrev pub end_number : ℕ → ℕ
+end_number refused = if refused == 0 then 0 else 11
+
+-- the status of the program's for a run that wrote nothing
+abbrev pub no_run_number : NoRun → ℕ
+no_run_number NoRoom = 3
+no_run_number TooLong = 4
+no_run_number (NoScene why) = stop_number why
+no_run_number NoMemory = 12

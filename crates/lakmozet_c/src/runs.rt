@@ -1,0 +1,46 @@
+//! What whole runs share, from bytes to bytes.
+ghost use Rattle.std.specs.Prelude.{◌≡◌, ◌≤◌, MatchResult, length, pos, take};
+ghost use Rattle.lakmozet_c.specs.declared.runs.NoRun.TheVariants.{NoRoom};
+ghost use Rattle.lakmozet_c.specs.Runs.{end_number, no_run_number};
+
+use crate::opening::{NoCloth, stop_number};
+
+/// Why a run wrote nothing.
+#[derive(Clone, Copy)]
+pub enum NoRun {
+    NoScene(NoCloth),
+    /// The caller's memory is too short.
+    NoRoom,
+    /// What it was given is longer than it may be.
+    TooLong,
+    NoMemory,
+}
+
+pub(crate) fn no_run_number(why: &NoRun) -> i32
+    ensures { result ≡ pos (no_run_number why.now) }
+{
+    match why {
+        NoRun::NoRoom => 3,
+        NoRun::TooLong => 4,
+        NoRun::NoScene(why) => stop_number(why),
+        NoRun::NoMemory => 12,
+    }
+}
+
+pub(crate) fn end_number(refused: u64) -> i32
+    ensures { result ≡ pos (end_number refused) }
+{
+    if refused == 0 { 0 } else { 11 }
+}
+
+/// Copies the bytes where there is room for them, and answers how many there are.
+pub(crate) fn copied(bytes: &[u8], output: &mut [u8]) -> Result<usize, NoRun>
+    ensures { MatchResult result (λ count. (count ≤ length output.new) × (take count output.new ≡ bytes.now))
+        (λ why. why ≡ NoRoom) }
+{
+    if output.len() < bytes.len() {
+        return Err(NoRun::NoRoom);
+    }
+    output[..bytes.len()].copy_from_slice(bytes);
+    Ok(bytes.len())
+}
