@@ -5,9 +5,9 @@ ghost use Rattle.toml.specs.View.{table_view};
 ghost use Rattle.toml.specs.Parse.{parse_document};
 ghost use Rattle.pbd_num.specs.Vectors.{Within};
 ghost use Rattle.pbd_world.specs.Valid.{is_limit, is_valid, no_parts};
-ghost use Rattle.pbd_scene.specs.Checks.{◌>>=◌, each, Gives};
-ghost use Rattle.pbd_scene.specs.Naming.{pinned, placed_track};
-ghost use Rattle.pbd_scene.specs.Scene.{pins_of, numbers_of, settings_of, tables_of, with_meshes, with_tracks, with_entries, scene_of, Reads};
+ghost use Rattle.pbd_scene.specs.Calls.{from_tracks, from_pins, from_tables};
+ghost use Rattle.pbd_scene.specs.Checks.{Gives};
+ghost use Rattle.pbd_scene.specs.Scene.{pins_of, numbers_of, settings_of, with_entries, scene_of, Reads};
 
 use crate::arrays::integers_of;
 use crate::fault::{KeyName, Place, SceneFault, SceneRule, TableName};
@@ -78,6 +78,7 @@ fn settings_of(alloc: Global, limit: i64, members: &Table) -> Result<Settings, S
 }
 
 /// Places the tracks of the entries, and holds their particles and those that are named already.
+#[tactic(auto, unfolding(crate::specs::Calls::from_tracks))]
 fn place_and_hold(
     alloc: Global,
     tracks: &[TrackEntry],
@@ -86,8 +87,7 @@ fn place_and_hold(
 ) -> Result<(), SceneFault>
     requires few { length parts.old.particles ≤ 65536 }
     requires tracks { length tracks.now ≤ 4096 }
-    ensures { Gives (λ _. parts.new) result
-        (each (placed_track (length parts.old.particles)) [] tracks.now >>= λ placed. Ok (with_tracks names.old parts.old placed)) }
+    ensures { Gives (λ _. parts.new) result (from_tracks names.old tracks.now parts.old) }
 {
     let count = parts.particles.len() as u32;
     parts.tracks = place_tracks(alloc, count, tracks)?;
@@ -97,6 +97,7 @@ fn place_and_hold(
 }
 
 /// Places the tracks of the entries, and holds their particles and those that `pins` names.
+#[tactic(auto, unfolding(crate::specs::Calls::from_pins))]
 fn hold_named(
     alloc: Global,
     pins: &[i64],
@@ -105,9 +106,7 @@ fn hold_named(
 ) -> Result<(), SceneFault>
     requires few { length parts.old.particles ≤ 65536 }
     requires tracks { length tracks.now ≤ 4096 }
-    ensures { Gives (λ _. parts.new) result
-        (each (pinned (length parts.old.particles)) [] pins.now >>= λ held.
-        each (placed_track (length parts.old.particles)) [] tracks.now >>= λ placed. Ok (with_tracks held parts.old placed)) }
+    ensures { Gives (λ _. parts.new) result (from_pins pins.now tracks.now parts.old) }
 {
     let count = parts.particles.len() as u32;
     match pinned_particles(alloc, count, pins) {
@@ -121,7 +120,7 @@ fn hold_named(
 }
 
 /// Adds the links, pins and tracks that the entries name.
-#[tactic(auto, unfolding(crate::specs::Scene::with_entries))]
+#[tactic(auto, unfolding(crate::specs::Scene::with_entries, crate::specs::Calls::from_pins, crate::specs::Calls::from_tracks))]
 fn add_entries(
     alloc: Global,
     pins: &[i64],
@@ -200,7 +199,7 @@ fn with_entries(
 }
 
 /// The parts of the tables, with these settings.
-#[tactic(auto, unfolding(crate::specs::Scene::with_meshes))]
+#[tactic(auto, unfolding(crate::specs::Calls::from_tables, crate::specs::Scene::with_meshes))]
 fn parts_with(
     alloc: Global,
     limit: i64,
@@ -208,8 +207,7 @@ fn parts_with(
     members: &Table,
 ) -> Result<Parts, SceneFault>
     requires { IsTrue (is_limit limit) }
-    ensures { Gives (λ parts. parts) result (tables_of limit (table_view members.now) >>= λ tables.
-        with_entries settings.now.pins tables.links tables.tracks (with_meshes limit settings.now tables)) }
+    ensures { Gives (λ parts. parts) result (from_tables limit settings.now (table_view members.now)) }
 {
     let tables = tables_of(alloc, limit, members)?;
     let shapes = Shapes {
@@ -243,7 +241,7 @@ fn parts_with(
 }
 
 /// The parts of a tree.
-#[tactic(auto, unfolding(crate::specs::Scene::scene_of))]
+#[tactic(auto, unfolding(crate::specs::Scene::scene_of, crate::specs::Calls::from_tables))]
 fn parts_of(alloc: Global, limit: i64, members: &Table) -> Result<Parts, SceneFault>
     requires { IsTrue (is_limit limit) }
     ensures { Gives (λ parts. parts) result (scene_of limit (table_view members.now)) }
