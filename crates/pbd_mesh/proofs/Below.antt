@@ -2,7 +2,7 @@
 use Rattle.std.proofs.Common.{◌≡◌, refl, sym, ◌∙◌, false, true, ◌<◌, ◌≤◌, Bool, arith, ℕ, ◌+◌, zero, suc, inl, inr}
 use Rattle.std.specs.Prelude.{IsTrue}
 use Rattle.std.proofs.lemmas.Bool.{and_parts, cases_lt, cases_Bool, false≢true}
-use Rattle.pbd_mesh.specs.Joined.{all_below}
+use Rattle.pbd_mesh.specs.Numbered.{all_below}
 
 -- a test of each number below n says so of each
 pub below : (n : ℕ) (f : ℕ → Bool) (i : ℕ) → IsTrue (all_below n f) → i < n → IsTrue (f i)

@@ -12,13 +12,13 @@ use Rattle.pbd_num.specs.Vectors.{Within, is_within}
 use Rattle.pbd_num.proofs.Ranges.{within_facts}
 use Rattle.pbd_mesh.specs.declared.spec.ClothSpec.{ClothSpec}
 use Rattle.pbd_mesh.specs.declared.spec.RopeSpec.{RopeSpec}
-use Rattle.pbd_mesh.specs.Joined.{all_below}
+use Rattle.pbd_mesh.specs.Numbered.{all_below}
 use Rattle.pbd_mesh.proofs.Below.{below}
-use Rattle.pbd_mesh.specs.Ranges.{is_between}
+use Rattle.pbd_mesh.specs.Ranges.{is_count_between}
 use Rattle.pbd_mesh.specs.Cloth.{cloth_vectors_fit, cloth_counts_fit, cloth_settings_fit, cloth_tears_fit, cloth_in_ranges, cloth_is_inside, cloth_place, is_in_cloth, cloth_fits, ClothBounds, ClothFacts}
 use Rattle.pbd_mesh.specs.Rope.{rope_counts_fit, rope_settings_fit, rope_in_ranges, rope_is_inside, rope_place, rope_fits, RopeBounds, RopeFacts}
 
-at_most : (low high n : ℕ) → IsTrue (is_between low high n) → n ≤ high
+at_most : (low high n : ℕ) → IsTrue (is_count_between low high n) → n ≤ high
 at_most low high n t = grind (arith, nat_tests)
 
 inside_range : (limit : ℤ) (v : Vec3) → pos 0 ≤ℤ limit → unsigned_abs limit ≤ 2 ^ 29 → IsTrue (is_within limit v) → Within (2 ^ 29) v
@@ -32,8 +32,8 @@ cloth_bounds limit s low high t =
     let t1 = and_parts (cloth_vectors_fit limit s) (cloth_counts_fit s) t2.0 in
     let v2 = and_parts (is_within limit s.origin && is_within limit s.across) (is_within limit s.down) t1.0 in
     let v1 = and_parts (is_within limit s.origin) (is_within limit s.across) v2.0 in
-    let c2 = and_parts (is_between 1 256 s.rows && is_between 1 256 s.columns) (is_between 1 65535 s.weight) t1.1 in
-    let c1 = and_parts (is_between 1 256 s.rows) (is_between 1 256 s.columns) c2.0 in
+    let c2 = and_parts (is_count_between 1 256 s.rows && is_count_between 1 256 s.columns) (is_count_between 1 65535 s.weight) t1.1 in
+    let c1 = and_parts (is_count_between 1 256 s.rows) (is_count_between 1 256 s.columns) c2.0 in
     record {
       rows = at_most 1 256 s.rows c1.0;
       columns = at_most 1 256 s.columns c1.1;
@@ -48,7 +48,7 @@ rope_bounds limit s low high t =
     let t3 = and_parts (is_within limit s.origin && is_within limit s.spacing && rope_counts_fit s) (rope_settings_fit limit s) t in
     let t2 = and_parts (is_within limit s.origin && is_within limit s.spacing) (rope_counts_fit s) t3.0 in
     let t1 = and_parts (is_within limit s.origin) (is_within limit s.spacing) t2.0 in
-    let c = and_parts (is_between 1 4096 s.count) (is_between 1 65535 s.weight) t2.1 in
+    let c = and_parts (is_count_between 1 4096 s.count) (is_count_between 1 65535 s.weight) t2.1 in
     record {
       count = at_most 1 4096 s.count c.0;
       origin = inside_range limit s.origin low high t1.0;

@@ -1,32 +1,29 @@
 -- Lists that grow by f 0, f 1, ..
 use Rattle.std.proofs.Common.{◌≡◌, ◌∙◌, ap, sym, refl, ℕ, zero, suc, ◌+◌, ◌≤◌, List, [], ◌∷◌, ◌++◌, length, take, append_assoc, append-nil, arith}
-use Rattle.std.proofs.Math.Seq.{take-append_seam, take-length}
+use Rattle.std.proofs.Math.Seq.{take-append_seam}
 use Rattle.std.proofs.lemmas.List.{length-append}
-use Rattle.pbd_mesh.specs.Joined.{joined}
+use Rattle.pbd_mesh.specs.Numbered.{concatenated}
 
-pub joined_next : {A : Type 0} (n : ℕ) (f : ℕ → List A) → joined (n + 1) f ≡ joined n f ++ f n
-unfolding joined
-joined_next n f = let e : n + 1 ≡ suc n = omega arith in rw e refl
+pub concatenated_next : {A : Type 0} (n : ℕ) (f : ℕ → List A) → concatenated (n + 1) f ≡ concatenated n f ++ f n
+unfolding concatenated
+concatenated_next n f = let e : n + 1 ≡ suc n = omega arith in rw e refl
 
 -- nothing yet
-pub grown_none : {A : Type 0} (old : List A) (f : ℕ → List A) → old ≡ old ++ joined 0 f
-unfolding joined
+pub grown_none : {A : Type 0} (old : List A) (f : ℕ → List A) → old ≡ old ++ concatenated 0 f
+unfolding concatenated
 grown_none old f = sym (append-nil old)
 
 -- one more
-pub grown_next : {A : Type 0} (old mid now : List A) (n : ℕ) (f : ℕ → List A) → mid ≡ old ++ joined n f → now ≡ mid ++ f n → now ≡ old ++ joined (n + 1) f
-grown_next old mid now n f so_far this = rw (joined_next n f, this, so_far) (append_assoc old (joined n f) (f n))
+pub grown_next : {A : Type 0} (old mid now : List A) (n : ℕ) (f : ℕ → List A) → mid ≡ old ++ concatenated n f → now ≡ mid ++ f n → now ≡ old ++ concatenated (n + 1) f
+grown_next old mid now n f so_far this = rw (concatenated_next n f, this, so_far) (append_assoc old (concatenated n f) (f n))
 
 -- all
-pub grown_all : {A : Type 0} (old now : List A) (n i : ℕ) (f : ℕ → List A) → i ≤ n → n ≤ i → now ≡ old ++ joined i f → now ≡ old ++ joined n f
+pub grown_all : {A : Type 0} (old now : List A) (n i : ℕ) (f : ℕ → List A) → i ≤ n → n ≤ i → now ≡ old ++ concatenated i f → now ≡ old ++ concatenated n f
 grown_all old now n i f low high so_far = let e : n ≡ i = omega arith in rw e so_far
 
 -- what stood in front still does
 pub front_of_append : {A : Type 0} (old now more : List A) → now ≡ old ++ more → take (length old) now ≡ old
 front_of_append old now more is = rw is (take-append_seam old more)
-
-pub front_same : {A : Type 0} (old now : List A) → now ≡ old → take (length old) now ≡ old
-front_same old now is = rw is (take-length old)
 
 take_less : {A : Type 0} (m n : ℕ) (xs : List A) → m ≤ n → take m (take n xs) ≡ take m xs
 take_less zero n xs le = refl

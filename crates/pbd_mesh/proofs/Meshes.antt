@@ -20,13 +20,13 @@ use Rattle.pbd_mesh.specs.declared.spec.ClothSpec.{ClothSpec}
 use Rattle.pbd_mesh.specs.declared.spec.RopeSpec.{RopeSpec}
 use Rattle.pbd_mesh.specs.declared.spec.Cell.{Cell}
 use Rattle.pbd_mesh.specs.declared.spec.KindSettings.{KindSettings}
-use Rattle.pbd_mesh.specs.Joined.{joined, all_below}
+use Rattle.pbd_mesh.specs.Numbered.{concatenated, all_below}
 use Rattle.pbd_mesh.specs.Cloth.{cell, cell_link, cloth_fits, cloth_in_ranges, cloth_counts_fit, cloth_settings_fit, cloth_tears_fit, cloth_vectors_fit, cloth_is_inside, cloth_links, cloth_particles, cloth_place, cloth_settings, is_in_cloth, links_of_cell, links_of_kind, number, resting}
 use Rattle.pbd_mesh.specs.Rope.{rope_chain, rope_counts_fit, rope_fits, rope_in_ranges, rope_is_inside, rope_link, rope_links, rope_particles, rope_place, rope_settings_fit}
 use Rattle.pbd_mesh.specs.Meshes.{is_free_and_valid, is_mesh_link, IsMesh}
 use Rattle.pbd_mesh.proofs.Below.{below}
 use Rattle.pbd_mesh.proofs.Corners.{Shaped, Corner, row_before, cell_of, same_shape, other_corners, other_totals, diagonal_not_bend, other_rows, other_columns}
-use Rattle.pbd_mesh.proofs.Every.{Every, every_none, every_one, every_both, every_more, every_joined, every_test, Apart, apart_from, apart_both, once_none, once_one, once_both, once_joined, count_both, count_none, count_joined, length_joined, joined_most}
+use Rattle.pbd_mesh.proofs.Every.{Every, every_none, every_one, every_both, every_more, every_concatenated, every_test, Apart, apart_from, apart_both, once_none, once_one, once_both, once_concatenated, count_both, count_none, count_concatenated, length_concatenated, concatenated_most}
 use Rattle.pbd_mesh.proofs.Facts.{limit_bounds, in_cloth}
 
 -- ---- the corners of a cloth's links
@@ -153,45 +153,45 @@ none_before W base total span i ls before corners = count_none (λ l. l.a == i |
 some : (W base total span r c : ℕ) (l : Link) → Corner W base total span r c l → SomeCorner W base total span l
 some W base total span r c l p = record { row = r; column = c; corner = p }
 
-row_corners : (s : ClothSpec) (base : ℕ) (kind : Kind) (total span r : ℕ) → ((r c : ℕ) → CellFacts s base kind total span r c) → Every (SomeCorner s.columns base total span) (joined s.columns (λ c. links_of_cell s base kind r c))
-row_corners s base kind total span r cells = every_joined (SomeCorner s.columns base total span) s.columns (λ c. links_of_cell s base kind r c) (λ c w. every_more (Corner s.columns base total span r c) (SomeCorner s.columns base total span) (links_of_cell s base kind r c) (some s.columns base total span r c) ((cells r c).corners))
+row_corners : (s : ClothSpec) (base : ℕ) (kind : Kind) (total span r : ℕ) → ((r c : ℕ) → CellFacts s base kind total span r c) → Every (SomeCorner s.columns base total span) (concatenated s.columns (λ c. links_of_cell s base kind r c))
+row_corners s base kind total span r cells = every_concatenated (SomeCorner s.columns base total span) s.columns (λ c. links_of_cell s base kind r c) (λ c w. every_more (Corner s.columns base total span r c) (SomeCorner s.columns base total span) (links_of_cell s base kind r c) (some s.columns base total span r c) ((cells r c).corners))
 
 kind_corners : (s : ClothSpec) (base : ℕ) (kind : Kind) (total span : ℕ) → ((r c : ℕ) → CellFacts s base kind total span r c) → Every (SomeCorner s.columns base total span) (links_of_kind s base kind)
 unfolding links_of_kind
-kind_corners s base kind total span cells = every_joined (SomeCorner s.columns base total span) s.rows (λ r. joined s.columns (λ c. links_of_cell s base kind r c)) (λ r w. row_corners s base kind total span r cells)
+kind_corners s base kind total span cells = every_concatenated (SomeCorner s.columns base total span) s.rows (λ r. concatenated s.columns (λ c. links_of_cell s base kind r c)) (λ r w. row_corners s base kind total span r cells)
 
 -- the corners of a row
 record InRow (W base total span r : ℕ) (l : Link) : Type 0 where
   pub column : ℕ
   pub corner : Corner W base total span r column l
 
-in_row : (s : ClothSpec) (base : ℕ) (kind : Kind) (total span r : ℕ) → ((r c : ℕ) → CellFacts s base kind total span r c) → Every (InRow s.columns base total span r) (joined s.columns (λ c. links_of_cell s base kind r c))
-in_row s base kind total span r cells = every_joined (InRow s.columns base total span r) s.columns (λ c. links_of_cell s base kind r c) (λ c w. every_more (Corner s.columns base total span r c) (InRow s.columns base total span r) (links_of_cell s base kind r c) (λ l p. record { column = c; corner = p }) ((cells r c).corners))
+in_row : (s : ClothSpec) (base : ℕ) (kind : Kind) (total span r : ℕ) → ((r c : ℕ) → CellFacts s base kind total span r c) → Every (InRow s.columns base total span r) (concatenated s.columns (λ c. links_of_cell s base kind r c))
+in_row s base kind total span r cells = every_concatenated (InRow s.columns base total span r) s.columns (λ c. links_of_cell s base kind r c) (λ c w. every_more (Corner s.columns base total span r c) (InRow s.columns base total span r) (links_of_cell s base kind r c) (λ l p. record { column = c; corner = p }) ((cells r c).corners))
 
 kind_once : (s : ClothSpec) (base : ℕ) (kind : Kind) (total span : ℕ) → ((r c : ℕ) → CellFacts s base kind total span r c) → IsTrue (none_twice join_alike (links_of_kind s base kind))
 unfolding links_of_kind
-kind_once s base kind total span cells = once_joined join_alike s.rows (λ r. joined s.columns (λ c. links_of_cell s base kind r c))
-    (λ r w. once_joined join_alike s.columns (λ c. links_of_cell s base kind r c)
+kind_once s base kind total span cells = once_concatenated join_alike s.rows (λ r. concatenated s.columns (λ c. links_of_cell s base kind r c))
+    (λ r w. once_concatenated join_alike s.columns (λ c. links_of_cell s base kind r c)
     (λ c v. (cells r c).once)
     (λ c d before v. apart_from join_alike (Corner s.columns base total span r c) (Corner s.columns base total span r d) (links_of_cell s base kind r c) (links_of_cell s base kind r d) (λ l m p t. other_corners s.columns base total span r c r d l m (λ e f. omega (arith, before, f)) p t) ((cells r c).corners) ((cells r d).corners)))
-    (λ r q before v. apart_from join_alike (InRow s.columns base total span r) (InRow s.columns base total span q) (joined s.columns (λ c. links_of_cell s base kind r c)) (joined s.columns (λ c. links_of_cell s base kind q c)) (λ l m p t. other_corners s.columns base total span r p.column q t.column l m (λ e f. omega (arith, before, e)) p.corner t.corner) (in_row s base kind total span r cells) (in_row s base kind total span q cells))
+    (λ r q before v. apart_from join_alike (InRow s.columns base total span r) (InRow s.columns base total span q) (concatenated s.columns (λ c. links_of_cell s base kind r c)) (concatenated s.columns (λ c. links_of_cell s base kind q c)) (λ l m p t. other_corners s.columns base total span r p.column q t.column l m (λ e f. omega (arith, before, e)) p.corner t.corner) (in_row s base kind total span r cells) (in_row s base kind total span q cells))
 
 at_most_length : (test : Link → Bool) (ls : List Link) → length (filter test ls) ≤ length ls
 at_most_length test [] = omega arith
 at_most_length test (l ∷ ls) = elim (cases_Bool (test l)) [ inl e ↦ rw e (omega (arith, at_most_length test ls)) | inr e ↦ rw e (omega (arith, at_most_length test ls)) ]
 
-row_few : (s : ClothSpec) (base : ℕ) (kind : Kind) (total span r x y i : ℕ) → ((r c : ℕ) → CellFacts s base kind total span r c) → y < s.columns → i ≡ base + x * s.columns + y → links_at (joined s.columns (λ c. links_of_cell s base kind r c)) i ≤ 4
+row_few : (s : ClothSpec) (base : ℕ) (kind : Kind) (total span r x y i : ℕ) → ((r c : ℕ) → CellFacts s base kind total span r c) → y < s.columns → i ≡ base + x * s.columns + y → links_at (concatenated s.columns (λ c. links_of_cell s base kind r c)) i ≤ 4
 row_few s base kind total span r x y i cells within is =
-    count_joined (λ l. l.a == i || l.b == i) s.columns (λ c. links_of_cell s base kind r c) 2 y (y - span)
+    count_concatenated (λ l. l.a == i || l.b == i) s.columns (λ c. links_of_cell s base kind r c) 2 y (y - span)
     (λ c w. omega (arith, at_most_length (λ l. l.a == i || l.b == i) (links_of_cell s base kind r c), (cells r c).most))
     (λ c w here before. count_none (λ l. l.a == i || l.b == i) (links_of_cell s base kind r c) (every_more (Corner s.columns base total span r c) (λ l. (l.a == i || l.b == i) ≡ false) (links_of_cell s base kind r c) (λ l p. other_columns s.columns base total span r c x y i l p within is here before) ((cells r c).corners)))
 
 kind_few_at : (s : ClothSpec) (base : ℕ) (kind : Kind) (total span x y i : ℕ) → ((r c : ℕ) → CellFacts s base kind total span r c) → y < s.columns → i ≡ base + x * s.columns + y → links_at (links_of_kind s base kind) i ≤ 8
 unfolding links_of_kind
 kind_few_at s base kind total span x y i cells within is =
-    count_joined (λ l. l.a == i || l.b == i) s.rows (λ r. joined s.columns (λ c. links_of_cell s base kind r c)) 4 x (x - span)
+    count_concatenated (λ l. l.a == i || l.b == i) s.rows (λ r. concatenated s.columns (λ c. links_of_cell s base kind r c)) 4 x (x - span)
     (λ r w. row_few s base kind total span r x y i cells within is)
-    (λ r w here before. count_none (λ l. l.a == i || l.b == i) (joined s.columns (λ c. links_of_cell s base kind r c)) (every_more (InRow s.columns base total span r) (λ l. (l.a == i || l.b == i) ≡ false) (joined s.columns (λ c. links_of_cell s base kind r c)) (λ l p. other_rows s.columns base total span r p.column x y i l p.corner within is here before) (in_row s base kind total span r cells)))
+    (λ r w here before. count_none (λ l. l.a == i || l.b == i) (concatenated s.columns (λ c. links_of_cell s base kind r c)) (every_more (InRow s.columns base total span r) (λ l. (l.a == i || l.b == i) ≡ false) (concatenated s.columns (λ c. links_of_cell s base kind r c)) (λ l p. other_rows s.columns base total span r p.column x y i l p.corner within is here before) (in_row s base kind total span r cells)))
 
 -- the row and column of a particle's number
 placed : (W base i : ℕ) → 0 < W → base ≤ i → i ≡ base + ((i - base) / W) * W + (i - base) % W
@@ -323,7 +323,7 @@ cell_valid limit s base t r h c d q tests settings is ordered = cell_every (λ l
 
 kind_valid : (limit : ℤ) (s : ClothSpec) (base : ℕ) (kind : Kind) → ((r c : ℕ) → Every (λ l. IsTrue (is_mesh_link limit base (base + s.rows * s.columns) l)) (links_of_cell s base kind r c)) → Every (λ l. IsTrue (is_mesh_link limit base (base + s.rows * s.columns) l)) (links_of_kind s base kind)
 unfolding links_of_kind
-kind_valid limit s base kind cells = let P = λ (l : Link). IsTrue (is_mesh_link limit base (base + s.rows * s.columns) l) in every_joined P s.rows (λ r. joined s.columns (λ c. links_of_cell s base kind r c)) (λ r w. every_joined P s.columns (λ c. links_of_cell s base kind r c) (λ c v. cells r c))
+kind_valid limit s base kind cells = let P = λ (l : Link). IsTrue (is_mesh_link limit base (base + s.rows * s.columns) l) in every_concatenated P s.rows (λ r. concatenated s.columns (λ c. links_of_cell s base kind r c)) (λ r w. every_concatenated P s.columns (λ c. links_of_cell s base kind r c) (λ c v. cells r c))
 
 cloth_valid : (limit : ℤ) (s : ClothSpec) (base : ℕ) → ClothTests limit s → Every (λ l. IsTrue (is_mesh_link limit base (base + s.rows * s.columns) l)) (cloth_links s base)
 unfolding cloth_links links_of_cell
@@ -343,15 +343,15 @@ cloth_valid limit s base tests =
 
 pub cloth_size : (s : ClothSpec) → length (cloth_particles s) ≡ s.rows * s.columns
 unfolding cloth_particles
-cloth_size s = length_joined s.rows s.columns (λ r. joined s.columns (λ c. resting (cloth_place s r c) s.weight ∷ [])) (λ r w. omega (arith, length_joined s.columns 1 (λ c. resting (cloth_place s r c) s.weight ∷ []) (λ c v. refl)))
+cloth_size s = length_concatenated s.rows s.columns (λ r. concatenated s.columns (λ c. resting (cloth_place s r c) s.weight ∷ [])) (λ r w. omega (arith, length_concatenated s.columns 1 (λ c. resting (cloth_place s r c) s.weight ∷ []) (λ c v. refl)))
 
 kind_size : (s : ClothSpec) (base : ℕ) (kind : Kind) (total span : ℕ) → ((r c : ℕ) → CellFacts s base kind total span r c) → length (links_of_kind s base kind) ≤ s.rows * (s.columns * 2)
 unfolding links_of_kind
-kind_size s base kind total span cells = joined_most s.rows (s.columns * 2) (λ r. joined s.columns (λ c. links_of_cell s base kind r c)) (λ r w. joined_most s.columns 2 (λ c. links_of_cell s base kind r c) (λ c v. (cells r c).most))
+kind_size s base kind total span cells = concatenated_most s.rows (s.columns * 2) (λ r. concatenated s.columns (λ c. links_of_cell s base kind r c)) (λ r w. concatenated_most s.columns 2 (λ c. links_of_cell s base kind r c) (λ c v. (cells r c).most))
 
 cloth_particles_valid : (limit : ℤ) (s : ClothSpec) → ClothTests limit s → Every (λ p. IsTrue (is_free_and_valid limit p)) (cloth_particles s)
 unfolding cloth_particles
-cloth_particles_valid limit s tests = let P = λ (p : Particle). IsTrue (is_free_and_valid limit p) in every_joined P s.rows (λ r. joined s.columns (λ c. resting (cloth_place s r c) s.weight ∷ [])) (λ r w. every_joined P s.columns (λ c. resting (cloth_place s r c) s.weight ∷ []) (λ c v. every_one P (resting (cloth_place s r c) s.weight) (free_particle limit (cloth_place s r c) s.weight (tests.inside r c w v) tests.weight_low tests.weight_high)))
+cloth_particles_valid limit s tests = let P = λ (p : Particle). IsTrue (is_free_and_valid limit p) in every_concatenated P s.rows (λ r. concatenated s.columns (λ c. resting (cloth_place s r c) s.weight ∷ [])) (λ r w. every_concatenated P s.columns (λ c. resting (cloth_place s r c) s.weight ∷ []) (λ c v. every_one P (resting (cloth_place s r c) s.weight) (free_particle limit (cloth_place s r c) s.weight (tests.inside r c w v) tests.weight_low tests.weight_high)))
 
 -- the links of two kinds are not alike
 kinds_apart : (W base total span sum reach : ℕ) (xs ys : List Link) → (total ≡ sum → ⊥) → Every (SomeCorner W base total span) xs → Every (SomeCorner W base sum reach) ys → Apart join_alike xs ys
@@ -427,11 +427,11 @@ rope_corner s base t step i moves within = record { h = 0; w = step; first = i; 
 
 chain_corners : (s : RopeSpec) (base : ℕ) (t : KindSettings) (step : ℕ) → 0 < step → Every (SomeCorner s.count base step step) (rope_chain s base t step)
 unfolding rope_chain
-chain_corners s base t step moves = every_joined (SomeCorner s.count base step step) (s.count - step) (λ i. rope_link s base t step i ∷ []) (λ i w. every_one (SomeCorner s.count base step step) (rope_link s base t step i) (some s.count base step step 0 i (rope_link s base t step i) (rope_corner s base t step i moves (omega arith))))
+chain_corners s base t step moves = every_concatenated (SomeCorner s.count base step step) (s.count - step) (λ i. rope_link s base t step i ∷ []) (λ i w. every_one (SomeCorner s.count base step step) (rope_link s base t step i) (some s.count base step step 0 i (rope_link s base t step i) (rope_corner s base t step i moves (omega arith))))
 
 chain_once : (s : RopeSpec) (base : ℕ) (t : KindSettings) (step : ℕ) → 0 < step → IsTrue (none_twice join_alike (rope_chain s base t step))
 unfolding rope_chain
-chain_once s base t step moves = once_joined join_alike (s.count - step) (λ i. rope_link s base t step i ∷ [])
+chain_once s base t step moves = once_concatenated join_alike (s.count - step) (λ i. rope_link s base t step i ∷ [])
     (λ i w. once_one join_alike (rope_link s base t step i))
     (λ i j before w.
     let P = Corner s.count base step step 0 i in
@@ -444,7 +444,7 @@ chain_once s base t step moves = once_joined join_alike (s.count - step) (λ i. 
 chain_few_at : (s : RopeSpec) (base : ℕ) (t : KindSettings) (step x y i : ℕ) → 0 < step → y < s.count → i ≡ base + x * s.count + y → links_at (rope_chain s base t step) i ≤ 2
 unfolding rope_chain
 chain_few_at s base t step x y i moves within is =
-    count_joined (λ l. l.a == i || l.b == i) (s.count - step) (λ i. rope_link s base t step i ∷ []) 1 y (y - step)
+    count_concatenated (λ l. l.a == i || l.b == i) (s.count - step) (λ i. rope_link s base t step i ∷ []) 1 y (y - step)
     (λ j w. omega (arith, at_most_length (λ l. l.a == i || l.b == i) (rope_link s base t step j ∷ [])))
     (λ j w here before. count_none (λ l. l.a == i || l.b == i) (rope_link s base t step j ∷ []) (every_one (λ (l : Link). (l.a == i || l.b == i) ≡ false) (rope_link s base t step j) (other_columns s.count base step step 0 j x y i (rope_link s base t step j) (rope_corner s base t step j moves (omega arith)) within is here before)))
 
@@ -463,19 +463,19 @@ rope_link_valid limit s base t step i tests settings moves within =
 
 chain_valid : (limit : ℤ) (s : RopeSpec) (base : ℕ) (t : KindSettings) (step : ℕ) → RopeTests limit s → AreSettings limit t → 0 < step → Every (λ l. IsTrue (is_mesh_link limit base (base + s.count) l)) (rope_chain s base t step)
 unfolding rope_chain
-chain_valid limit s base t step tests settings moves = let P = λ (l : Link). IsTrue (is_mesh_link limit base (base + s.count) l) in every_joined P (s.count - step) (λ i. rope_link s base t step i ∷ []) (λ i w. every_one P (rope_link s base t step i) (rope_link_valid limit s base t step i tests settings moves (omega arith)))
+chain_valid limit s base t step tests settings moves = let P = λ (l : Link). IsTrue (is_mesh_link limit base (base + s.count) l) in every_concatenated P (s.count - step) (λ i. rope_link s base t step i ∷ []) (λ i w. every_one P (rope_link s base t step i) (rope_link_valid limit s base t step i tests settings moves (omega arith)))
 
 chain_size : (s : RopeSpec) (base : ℕ) (t : KindSettings) (step : ℕ) → length (rope_chain s base t step) ≤ s.count
 unfolding rope_chain
-chain_size s base t step = omega (arith, joined_most (s.count - step) 1 (λ i. rope_link s base t step i ∷ []) (λ i w. omega arith))
+chain_size s base t step = omega (arith, concatenated_most (s.count - step) 1 (λ i. rope_link s base t step i ∷ []) (λ i w. omega arith))
 
 pub rope_size : (s : RopeSpec) → length (rope_particles s) ≡ s.count
 unfolding rope_particles
-rope_size s = omega (arith, length_joined s.count 1 (λ i. resting (rope_place s i) s.weight ∷ []) (λ i w. refl))
+rope_size s = omega (arith, length_concatenated s.count 1 (λ i. resting (rope_place s i) s.weight ∷ []) (λ i w. refl))
 
 rope_particles_valid : (limit : ℤ) (s : RopeSpec) → RopeTests limit s → Every (λ p. IsTrue (is_free_and_valid limit p)) (rope_particles s)
 unfolding rope_particles
-rope_particles_valid limit s tests = let P = λ (p : Particle). IsTrue (is_free_and_valid limit p) in every_joined P s.count (λ i. resting (rope_place s i) s.weight ∷ []) (λ i w. every_one P (resting (rope_place s i) s.weight) (free_particle limit (rope_place s i) s.weight (tests.inside i w) tests.weight_low tests.weight_high))
+rope_particles_valid limit s tests = let P = λ (p : Particle). IsTrue (is_free_and_valid limit p) in every_concatenated P s.count (λ i. resting (rope_place s i) s.weight ∷ []) (λ i w. every_one P (resting (rope_place s i) s.weight) (free_particle limit (rope_place s i) s.weight (tests.inside i w) tests.weight_low tests.weight_high))
 
 pub rope_mesh : (limit : ℤ) (base : ℕ) (s : RopeSpec) → IsTrue (is_limit limit) → IsTrue (rope_fits limit s) → IsMesh limit base (rope_particles s) (rope_links s base)
 unfolding rope_links

@@ -7,11 +7,11 @@ use Rattle.pbd_world.specs.declared.parts.Link.{Link}
 use Rattle.pbd_world.specs.declared.parts.Kind.{Kind}
 use Rattle.pbd_world.specs.declared.parts.Parts.{Parts}
 use Rattle.pbd_world.specs.declared.parts.Kind.TheVariants.{Stretch, Shear, Bend, Plain}
-use Rattle.pbd_mesh.specs.Ranges.{is_between, is_length}
+use Rattle.pbd_mesh.specs.Ranges.{is_count_between, is_length}
 use Rattle.pbd_mesh.specs.declared.spec.ClothSpec.{ClothSpec}
 use Rattle.pbd_mesh.specs.declared.spec.Cell.{Cell}
 use Rattle.pbd_mesh.specs.declared.spec.KindSettings.{KindSettings}
-use Rattle.pbd_mesh.specs.Joined.{joined, all_below}
+use Rattle.pbd_mesh.specs.Numbered.{concatenated, all_below}
 
 abbrev pub times : ℕ → Vec3 → Vec3
 times n v = on_axes (λ axis. pos n *ℤ axis) v
@@ -26,11 +26,11 @@ cloth_place s r c = plus (plus s.origin (times c s.across)) (times r s.down)
 
 -- those of row r, column by column
 abbrev pub row_particles : ClothSpec → ℕ → List Particle
-row_particles s r = joined s.columns (λ c. resting (cloth_place s r c) s.weight ∷ [])
+row_particles s r = concatenated s.columns (λ c. resting (cloth_place s r c) s.weight ∷ [])
 
 -- row by row
 unfoldable pub cloth_particles : ClothSpec → List Particle
-cloth_particles s = joined s.rows (λ r. row_particles s r)
+cloth_particles s = concatenated s.rows (λ r. row_particles s r)
 
 abbrev pub is_in_cloth : ClothSpec → Cell → Bool
 is_in_cloth s cell = nat_lt cell.row s.rows && nat_lt cell.column s.columns
@@ -65,7 +65,7 @@ links_of_cell s base Plain r c = []
 
 -- row by row
 unfoldable pub links_of_kind : ClothSpec → ℕ → Kind → List Link
-links_of_kind s base kind = joined s.rows (λ r. joined s.columns (λ c. links_of_cell s base kind r c))
+links_of_kind s base kind = concatenated s.rows (λ r. concatenated s.columns (λ c. links_of_cell s base kind r c))
 
 unfoldable pub cloth_links : ClothSpec → ℕ → List Link
 cloth_links s base = links_of_kind s base Stretch ++ links_of_kind s base Shear ++ links_of_kind s base Bend
@@ -79,7 +79,7 @@ unfoldable pub cloth_vectors_fit : ℤ → ClothSpec → Bool
 cloth_vectors_fit limit s = is_within limit s.origin && is_within limit s.across && is_within limit s.down
 
 unfoldable pub cloth_counts_fit : ClothSpec → Bool
-cloth_counts_fit s = is_between 1 256 s.rows && is_between 1 256 s.columns && is_between 1 65535 s.weight
+cloth_counts_fit s = is_count_between 1 256 s.rows && is_count_between 1 256 s.columns && is_count_between 1 65535 s.weight
 
 unfoldable pub cloth_settings_fit : ClothSpec → Bool
 cloth_settings_fit s = nat_le s.stretch 256 && nat_le s.shear 256 && nat_le s.bend 256

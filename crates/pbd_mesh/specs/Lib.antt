@@ -1,4 +1,4 @@
-pub mod Joined
+pub mod Numbered
 pub mod Ranges
 pub mod Cloth
 pub mod Rope

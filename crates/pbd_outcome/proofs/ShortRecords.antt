@@ -31,10 +31,10 @@ front_length : (parts : List (List ℕ)) → length (flat_map (λ piece. piece +
 front_length [] = refl
 front_length (part ∷ parts) = omega (arith, length-append (part ++ 10 ∷ []) (flat_map (λ piece. piece ++ 10 ∷ []) parts), length-append part (10 ∷ []), front_length parts)
 
-joined_length : (parts : List (List ℕ)) → length (join_with_byte 10 parts) ≤ room parts
-joined_length [] = omega arith
-joined_length (part ∷ []) = omega arith
-joined_length (part ∷ next ∷ parts) = omega (arith, length-append part (10 ∷ join_with_byte 10 (next ∷ parts)), joined_length (next ∷ parts))
+lines_length : (parts : List (List ℕ)) → length (join_with_byte 10 parts) ≤ room parts
+lines_length [] = omega arith
+lines_length (part ∷ []) = omega arith
+lines_length (part ∷ next ∷ parts) = omega (arith, length-append part (10 ∷ join_with_byte 10 (next ∷ parts)), lines_length (next ∷ parts))
 
 around : (i : ℕ) (parts : List (List ℕ)) → room (take i parts) + room (drop (suc i) parts) ≤ room parts
 around zero [] = omega arith
@@ -48,7 +48,7 @@ halves_length input h is =
     let at = mapped _ (position (is_line divider) (pieces input)) h is in
     let ps : List (List ℕ) = pieces input in
     let first : length h.0 ≡ room (take at.0 ps) = ap (λ (q : List ℕ × List ℕ). length q.0) (sym at.2) ∙ front_length (take at.0 ps) in
-    let second : length h.1 ≤ room (drop (at.0 + 1) ps) = omega (arith, ap (λ (q : List ℕ × List ℕ). length q.1) at.2, joined_length (drop (at.0 + 1) ps)) in
+    let second : length h.1 ≤ room (drop (at.0 + 1) ps) = omega (arith, ap (λ (q : List ℕ × List ℕ). length q.1) at.2, lines_length (drop (at.0 + 1) ps)) in
     let all : room (take at.0 ps) + room (drop (at.0 + 1) ps) ≤ room ps = rw add-one (around at.0 ps) in
     omega (arith, first, second, all, split_room (λ b. b == 10) input)
 

@@ -11,9 +11,9 @@ use Rattle.rand_pcg.specs.Pcg.{pcg32}
 use Rattle.pbd_num.specs.Vectors.{Within, is_within}
 use Rattle.pbd_num.proofs.Ranges.{within_facts}
 use Rattle.pbd_world.specs.declared.parts.Particle.{Particle}
-use Rattle.pbd_mesh.specs.Joined.{all_below}
+use Rattle.pbd_mesh.specs.Numbered.{all_below}
 use Rattle.pbd_mesh.proofs.Meshes.{cloth_size}
-use Rattle.pbd_mesh.proofs.Every.{every_joined, every_one, every_test}
+use Rattle.pbd_mesh.proofs.Every.{every_concatenated, every_one, every_test}
 use Rattle.pbd_mesh.specs.Cloth.{cloth_particles, cloth_place, cloth_fits, cloth_in_ranges, cloth_vectors_fit, cloth_counts_fit, cloth_settings_fit, cloth_tears_fit, cloth_is_inside}
 use Rattle.pbd_outcome.specs.Generated.{all_set_off, after_three, is_hung, is_near, level_cloth, set_off, speed, vector, velocity_of}
 
@@ -103,8 +103,8 @@ three_words g a b c u v w x y z one two three ex ey ez =
 pub all_near : (size : ℕ) → size ≤ 128 → IsTrue (list_all is_near (cloth_particles (level_cloth size)))
 unfolding cloth_particles
 all_near size high =
-    every_test is_near _ (every_joined (λ (p : Particle). IsTrue (is_near p)) size _ (λ r wr.
-    every_joined (λ (p : Particle). IsTrue (is_near p)) size _ (λ c wc.
+    every_test is_near _ (every_concatenated (λ (p : Particle). IsTrue (is_near p)) size _ (λ r wr.
+    every_concatenated (λ (p : Particle). IsTrue (is_near p)) size _ (λ c wc.
     every_one (λ (p : Particle). IsTrue (is_near p)) _ ((within_facts (pos (2 ^ 29)) (cloth_place (level_cloth size) r c) positive).1 (near_place size r c (omega (arith, wr)) (omega (arith, wc)))))))
 
 -- and they are few

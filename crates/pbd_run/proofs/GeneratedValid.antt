@@ -16,7 +16,7 @@ use Rattle.pbd_world.specs.Valid.{are_valid_links, is_at_rest, is_valid, is_vali
 use Rattle.pbd_world.proofs.TwiceLemmas.{range_all}
 use Rattle.pbd_mesh.specs.Cloth.{cloth_links, cloth_particles, cloth_place}
 use Rattle.pbd_mesh.specs.Meshes.{IsMesh, is_mesh_link}
-use Rattle.pbd_mesh.proofs.Every.{every_from_test, every_joined, every_more, every_one, every_test}
+use Rattle.pbd_mesh.proofs.Every.{every_from_test, every_concatenated, every_more, every_one, every_test}
 use Rattle.pbd_mesh.proofs.Meshes.{cloth_mesh, cloth_size}
 use Rattle.pbd_outcome.specs.Generated.{after_three, all_set_off, generated, is_hung, level_cloth, middle_sphere, set_off, speed, velocity_of, words_of}
 use Rattle.pbd_run.proofs.GeneratedLaws.{close_place, few, level_fits}
@@ -53,8 +53,8 @@ middle = omega (arith, ints)
 all_calm : (size : ℕ) → size ≤ 128 → IsTrue (list_all is_calm (cloth_particles (level_cloth size)))
 unfolding cloth_particles
 all_calm size small =
-    every_test is_calm _ (every_joined (λ (p : Particle). IsTrue (is_calm p)) size _ (λ r wr.
-    every_joined (λ (p : Particle). IsTrue (is_calm p)) size _ (λ c wc.
+    every_test is_calm _ (every_concatenated (λ (p : Particle). IsTrue (is_calm p)) size _ (λ r wr.
+    every_concatenated (λ (p : Particle). IsTrue (is_calm p)) size _ (λ c wc.
     every_one (λ (p : Particle). IsTrue (is_calm p)) _ (calm_place size r c (omega (arith, wr)) (omega (arith, wc)))))) where
       calm_place : (size r c : ℕ) → r ≤ 128 → c ≤ 128 → IsTrue (is_within (pos (2 ^ 21)) (cloth_place (level_cloth size) r c) && nat_le 1 1 && nat_le 1 65535)
       calm_place size r c lr lc = rw ((within_facts (pos (2 ^ 21)) (cloth_place (level_cloth size) r c) middle).1 (close_place size r c lr lc)) refl

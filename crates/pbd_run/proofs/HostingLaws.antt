@@ -178,12 +178,6 @@ told n r o then a b m k s is does = rw is does
 out_of_memory : (o : Outcome) (a b : Option (List ℕ)) (m n : ℕ) (s : Status) → s ≡ OutOfMemory → Keeps a b → Does o a b m n s
 out_of_memory o a b m n s is keeps = rw is keeps
 
-pub scene_stops : (n : ℕ) (text : List ℕ) (why : SceneStop) (a b : Option (List ℕ)) (m k : ℕ) (s : Status) → Stops why (scene_in range text) → EndsForSceneIn n why a b m k s → StopsInScene n text a b m k s
-scene_stops n text NotText a b m k s stops does = λ then. told n (scene_in range text) _ then a b m k s stops does
-scene_stops n text (Fault faults.NotToml) a b m k s stops does = λ then. told n (scene_in range text) _ then a b m k s stops does
-scene_stops n text (Fault (faults.Refused rule table position key)) a b m k s stops does = λ then. told n (scene_in range text) _ then a b m k s stops does
-scene_stops n text (Fault faults.OutOfMemory) a b m k s stops does = λ then. out_of_memory (settled (with_fault (stops_in n) (scene_in range text) >>= then)) a b m k s does.0 does.1
-
 -- ---- the lines, one after another
 
 abbrev pub lines_of : Option (List ℕ) → List (List ℕ)
@@ -263,9 +257,6 @@ hosted_did input text lines ps a b m n s is few read does =
 pub hosted_stops : (input text lines : List ℕ) (a b : Option (List ℕ)) (m n : ℕ) (s : Status) → split_at (codes "%%%") input ≡ Some (text, lines) → nat_le (length (scenes text)) 16 ≡ true → StopsAtScenes (scenes text) a b m n s → Does (hosted input) a b m n s
 hosted_stops input text lines a b m n s is few stops =
     rw (hosted_scenes input (scenes text, pieces lines) (split_host input text lines is) (few_from (length (scenes text)) few)) (stops _)
-
-pub few_scenes : (n : ℕ) → nat_le n 16 ≡ true → n ≤ 16
-few_scenes n test = few_from n test
 
 pub hostable : (input text lines : List ℕ) (ps : List Parts) → nat_le (length (scenes text)) 16 ≡ true → scenes_in 0 (scenes text) ≡ Ok ps → length lines ≤ length input → length input ≤ 2 ^ 31 → IsHostable ps lines
 hostable input text lines ps few read within short =

@@ -123,17 +123,6 @@ forms (Obj w) reads = record { reads = tt; its = λ input o is. is; whole = λ i
 forms (Marks w) reads = record { reads = tt; its = λ input o is. is; whole = λ input o is. rw is (marks_whole input) }
 forms (Host w) reads = record { reads = tt; its = λ input o is. is; whole = λ input o is. rw is (hosted_whole input) }
 
--- every form but one reads
-pub reads_unless_large : (job : Job) → ((w : Width) (seed size : ℕ) → job ≡ Large w seed size → ⊥) → Reads (Some job)
-reads_unless_large (Simulate w) other = tt
-reads_unless_large (Record w) other = tt
-reads_unless_large (Replay w) other = tt
-reads_unless_large (Large w seed size) other = other w seed size refl
-reads_unless_large (Scramble seed) other = tt
-reads_unless_large (Obj w) other = tt
-reads_unless_large (Marks w) other = tt
-reads_unless_large (Host w) other = tt
-
 told_input : (job : Option Job) (left : Option (List ℕ)) (input : List ℕ) → Reads job → IsInput job left input → left ≡ Some input
 told_input job left input reads (inl unread) = absurd (unread reads)
 told_input job left input reads (inr told) = told

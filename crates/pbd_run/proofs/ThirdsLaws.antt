@@ -76,7 +76,7 @@ mesh_stops input text rest scene parts script fault a b m n s is has of does =
 
 text_gave : (text scene : List ℕ) (parts : Parts) (script : List ℕ) (mesh : ObjMesh) (base : ℕ) (whole : Parts) → HasMesh text parts mesh base whole → on_text text scene parts script ≡ obj_on base mesh whole script
 unfolding on_text
-text_gave text scene parts script mesh base whole has = rw (has.gives, has.joined, has.first) refl
+text_gave text scene parts script mesh base whole has = rw (has.gives, has.makes, has.first) refl
 
 pub thirds_are : (input text rest scene : List ℕ) (parts : Parts) (script : List ℕ) (mesh : ObjMesh) (base : ℕ) (whole : Parts) → split input ≡ Some (text, rest) → HasHalves rest scene parts script → HasMesh text parts mesh base whole → meshed input ≡ obj_on base mesh whole script
 thirds_are input text rest scene parts script mesh base whole is has gave =

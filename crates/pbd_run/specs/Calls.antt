@@ -133,7 +133,7 @@ pub record IsDrawable (base : ℕ) (mesh : ObjMesh) : Type 0 where
 pub record HasMesh (text : List ℕ) (parts : Parts) (mesh : ObjMesh) (base : ℕ) (whole : Parts) : Type 0 where
   pub gives : read text ≡ Ok mesh
   pub first : base ≡ length parts.particles
-  pub joined : with_mesh mesh parts ≡ Ok whole
+  pub makes : with_mesh mesh parts ≡ Ok whole
   pub drawable : IsDrawable base mesh
 
 -- ---- the scenes of a host

@@ -11,7 +11,7 @@ use Rattle.pbd_world.specs.Neighbours.{is_among, HoldsTracked}
 use Rattle.pbd_scene.specs.declared.raw.TrackEntry.{TrackEntry}
 use Rattle.pbd_scene.specs.declared.fault.SceneFault.{SceneFault}
 use Rattle.pbd_scene.specs.Checks.{Fails, each}
-use Rattle.pbd_scene.specs.Joining.{placed_track, held_still, holding}
+use Rattle.pbd_scene.specs.Naming.{placed_track, held_still, holding}
 use Rattle.pbd_scene.specs.Marks.{Flags}
 use Rattle.pbd_scene.proofs.Reading.{next_ok, next_fails, last_ok}
 

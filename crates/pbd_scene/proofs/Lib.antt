@@ -3,7 +3,7 @@ pub mod Bounds
 pub mod Entering
 pub mod LiveLinks
 pub mod Flagged
-pub mod Joinings
+pub mod EntryLinks
 pub mod Meshing
 pub mod MeshSizes
 pub mod Parted

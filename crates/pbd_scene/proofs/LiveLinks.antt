@@ -24,7 +24,7 @@ use Rattle.pbd_scene.specs.declared.fault.KeyName.TheVariants as keys
 use Rattle.pbd_scene.specs.declared.fault.TableName.TheVariants as tables
 use Rattle.pbd_scene.specs.Checks.{expect, each}
 use Rattle.pbd_scene.specs.Values.{at}
-use Rattle.pbd_scene.specs.Joining.{particle_number, plain_link, length_between, room_for_link, joined_link, link_after, all_links}
+use Rattle.pbd_scene.specs.Naming.{particle_number, plain_link, length_between, room_for_link, entry_link, link_after, all_links}
 use Rattle.pbd_scene.proofs.Accepted.{through, expect_ok, same_ok, tested, each_keeps_where}
 use Rattle.pbd_scene.proofs.Entering.{is_entry_particle, is_link_entry, rest_or, is_rest}
 
@@ -81,9 +81,9 @@ room_ok place b at_a at_b u is =
 not_same : (a b : ℕ) → not (a == b) ≡ true → a ≢ b
 not_same a b t e = false≢true (ap not (sym (eq-eqb a b e)) ∙ t)
 
-joined_next : (limit : ℤ) (ps : List Particle) (position : ℕ) (ls : List Link) (entry : LinkEntry) (l : Link) → pos 0 ≤ℤ limit → list_all (is_entry_particle limit) ps ≡ true → is_link_entry limit entry ≡ true → LiveLinks limit (length ps) ls → joined_link ps position ls entry ≡ Ok l → LiveLinks limit (length ps) (ls ++ l ∷ [])
-unfolding joined_link plain_link
-joined_next limit ps position ls entry l low all passes g is =
+link_next : (limit : ℤ) (ps : List Particle) (position : ℕ) (ls : List Link) (entry : LinkEntry) (l : Link) → pos 0 ≤ℤ limit → list_all (is_entry_particle limit) ps ≡ true → is_link_entry limit entry ≡ true → LiveLinks limit (length ps) ls → entry_link ps position ls entry ≡ Ok l → LiveLinks limit (length ps) (ls ++ l ∷ [])
+unfolding entry_link plain_link
+link_next limit ps position ls entry l low all passes g is =
     let place = at tables.Link position in
     through (expect (nat_lt (length ls) 524288) TooMany place keys.NoKey) _ l is (λ u1 e1 is1.
     through (particle_number (length ps) place keys.A entry.a) _ l is1 (λ a e2 is2.
@@ -116,11 +116,11 @@ joined_next limit ps position ls entry l low all passes g is =
     } in
     rw (← same_ok made l is5) grown)))))
 
-pub links_joined : (limit : ℤ) (ps : List Particle) (meshes : List Link) (entries : List LinkEntry) (links : List Link) → pos 0 ≤ℤ limit → list_all (is_entry_particle limit) ps ≡ true → list_all (is_link_entry limit) entries ≡ true → LiveLinks limit (length ps) meshes → all_links ps meshes entries ≡ Ok links → LiveLinks limit (length ps) links
+pub links_fit : (limit : ℤ) (ps : List Particle) (meshes : List Link) (entries : List LinkEntry) (links : List Link) → pos 0 ≤ℤ limit → list_all (is_entry_particle limit) ps ≡ true → list_all (is_link_entry limit) entries ≡ true → LiveLinks limit (length ps) meshes → all_links ps meshes entries ≡ Ok links → LiveLinks limit (length ps) links
 unfolding all_links
-links_joined limit ps meshes entries links low all pass g is =
+links_fit limit ps meshes entries links low all pass g is =
     through (each (link_after ps meshes) [] entries) _ links is (λ made e1 is1.
     let start : LiveLinks limit (length ps) (meshes ++ []) = rw (append-nil meshes) g in
     let end = each_keeps_where (link_after ps meshes) (is_link_entry limit) (λ front. LiveLinks limit (length ps) (meshes ++ front))
-    (λ front x y ok held e. let next = joined_next limit ps (length front) (meshes ++ front) x y low all ok held e in rw append_assoc at next) [] entries made pass start e1 in
+    (λ front x y ok held e. let next = link_next limit ps (length front) (meshes ++ front) x y low all ok held e in rw append_assoc at next) [] entries made pass start e1 in
     rw (← same_ok (meshes ++ made) links is1) end)

@@ -36,11 +36,11 @@ use Rattle.pbd_scene.specs.Checks.{each}
 use Rattle.pbd_scene.specs.Keys.{known}
 use Rattle.pbd_scene.specs.Values.{at, vector_or, count_or, integer_or}
 use Rattle.pbd_scene.specs.Entries.{cloth_of, rope_of, particle_of, link_of, plane_of, sphere_of, track_of, cloth_size as size_of_cloth, all_cloths_size, all_ropes_size}
-use Rattle.pbd_scene.specs.Joining.{particle_number, all_links, pinned, placed_track, held_still, holding}
-use Rattle.pbd_scene.specs.Scene.{at_scene, pins_of, numbers_of, settings_of, particles_of, cloths_of, ropes_of, links_of, planes_of, spheres_of, tracks_of, tables_of, with_cloth, with_rope, plain_parts, with_meshes, named, tracked_parts, held_parts, joined_parts, parts_with, scene_of}
+use Rattle.pbd_scene.specs.Naming.{particle_number, all_links, pinned, placed_track, held_still, holding}
+use Rattle.pbd_scene.specs.Scene.{at_scene, pins_of, numbers_of, settings_of, particles_of, cloths_of, ropes_of, links_of, planes_of, spheres_of, tracks_of, tables_of, with_cloth, with_rope, plain_parts, with_meshes, named, with_entries, scene_of}
 use Rattle.pbd_scene.proofs.Accepted.{through, same_ok, tested, integer_or_ok, count_or_ok, vector_or_ok, each_keeps_where, table_pass, table_keeps, each_count}
 use Rattle.pbd_scene.proofs.Entering.{at_rest, is_entry_particle, particle_passes, CloseCloths, CloseRopes, cloths_keep, ropes_keep, is_link_entry, link_passes, plane_passes, sphere_passes, has_keys, track_passes}
-use Rattle.pbd_scene.proofs.LiveLinks.{LiveLinks, live_none, live_mesh, links_joined, number_ok}
+use Rattle.pbd_scene.proofs.LiveLinks.{LiveLinks, live_none, live_mesh, links_fit, number_ok}
 
 -- ---- the tables
 
@@ -318,9 +318,9 @@ particles_asked limit ps t few =
 links_asked : (limit : ℤ) (n : ℕ) (ls : List Link) → LiveLinks limit n ls → (are_valid_links limit n ls ≡ true) × (list_all {X = Link} (λ l. l.live) ls ≡ true)
 links_asked limit n ls j = ((links_facts limit n ls).1 j.valid, j.live)
 
-joined_valid : (limit : ℤ) (s : Settings) (t : Tables) (start m : Parts) (pins : List ℤ) (parts : Parts) → IsTrue (is_limit limit) → SettingsFit limit s → TablesFit limit t → start ≡ plain_parts limit s t → Meshed limit start m → joined_parts pins t.links t.tracks m ≡ Ok parts → is_valid parts ≡ true
-unfolding joined_parts held_parts tracked_parts
-joined_valid limit s t start m pins parts lim sf tf plain mf is =
+entries_valid : (limit : ℤ) (s : Settings) (t : Tables) (start m : Parts) (pins : List ℤ) (parts : Parts) → IsTrue (is_limit limit) → SettingsFit limit s → TablesFit limit t → start ≡ plain_parts limit s t → Meshed limit start m → with_entries pins t.links t.tracks m ≡ Ok parts → is_valid parts ≡ true
+unfolding with_entries
+entries_valid limit s t start m pins parts lim sf tf plain mf is =
     let low = (limit_bounds limit lim).0 in
     let n = length m.particles in
     through (all_links m.particles m.links t.links) _ parts is (λ links e1 is1.
@@ -331,11 +331,11 @@ joined_valid limit s t start m pins parts lim sf tf plain mf is =
     let all : Parts = record m { particles = ps; links = links; tracks = tracks } in
     let same : m ≡ record (plain_parts limit s t) { particles = m.particles; links = m.links } = mf.others ∙ ap (λ (q : Parts). record q { particles = m.particles; links = m.links }) plain in
     let size : length ps ≡ n = holding_length names 0 m.particles in
-    let joined = links_joined limit m.particles m.links t.links links low mf.particles tf.links mf.links e1 in
+    let live = links_fit limit m.particles m.links t.links links low mf.particles tf.links mf.links e1 in
     let placed = tracks_fit limit n t.tracks tracks tf.tracks e3 in
     let number = each_count (placed_track n) [] t.tracks tracks e3 in
     let p = particles_asked limit ps (holding_passes limit names 0 m.particles mf.particles) (omega (arith, size, mf.few)) in
-    let l = links_asked limit n links joined in
+    let l = links_asked limit n links live in
     let its_limit : m.limit ≡ limit = ap (λ (q : Parts). q.limit) same in
     let its_planes : m.planes ≡ t.planes = ap (λ (q : Parts). q.planes) same in
     let its_spheres : m.spheres ≡ t.spheres = ap (λ (q : Parts). q.spheres) same in
@@ -361,11 +361,11 @@ joined_valid limit s t start m pins parts lim sf tf plain mf is =
     rw (← same_ok all parts is3) checked)))
 
 pub scene_valid : (limit : ℤ) (tree : Members) (parts : Parts) → IsTrue (is_limit limit) → scene_of limit tree ≡ Ok parts → IsTrue (is_valid parts)
-unfolding scene_of parts_with
+unfolding scene_of
 scene_valid limit tree parts lim is =
     let low = (limit_bounds limit lim).0 in
     through (settings_of limit tree) _ parts is (λ s e1 is1.
     through (tables_of limit tree) _ parts is1 (λ t e2 is2.
     let sf = settings_fit limit tree s lim e1 in
     let tf = tables_fit limit tree t low e2 in
-    joined_valid limit s t (plain_parts limit s t) (with_meshes limit s t) s.pins parts lim sf tf refl (meshes_fit limit s t lim tf) is2))
+    entries_valid limit s t (plain_parts limit s t) (with_meshes limit s t) s.pins parts lim sf tf refl (meshes_fit limit s t lim tf) is2))

@@ -27,7 +27,7 @@ use Rattle.pbd_scene.specs.Keys.{known}
 use Rattle.pbd_scene.specs.Checks.{Checked, expect, ◌>>=◌, each, Gives}
 use Rattle.pbd_scene.specs.Values.{at, integers_of, vector_or, count_or, integer_or, table_of}
 use Rattle.pbd_scene.specs.Entries.{particle_of, cloth_of, rope_of, link_of, plane_of, sphere_of, track_of, all_cloths_size}
-use Rattle.pbd_scene.specs.Joining.{all_links, pinned, placed_track, holding}
+use Rattle.pbd_scene.specs.Naming.{all_links, pinned, placed_track, holding}
 
 abbrev pub at_scene : Place
 at_scene = at tables.Scene 0
@@ -112,33 +112,24 @@ with_meshes limit s t = fold with_rope (fold with_cloth (plain_parts limit s t) 
 abbrev pub named : List ℕ → List Track → List ℕ
 named pins tracks = pins ++ map (λ t. t.particle) tracks
 
--- the parts with the tracks of the entries, where the particles of the tracks and these stay where they are
-unfoldable pub tracked_parts : List ℕ → List TrackEntry → Parts → Checked Parts
-tracked_parts held track_entries parts = do
-  tracks ← each (placed_track (length parts.particles)) [] track_entries
-  Ok (record parts { particles = holding (named held tracks) 0 parts.particles; tracks = tracks })
+-- the parts with these tracks, where the particles that `pins` and the tracks name stay where they are
+abbrev pub with_tracks : List ℕ → Parts → List Track → Parts
+with_tracks held parts tracks = record parts { particles = holding (named held tracks) 0 parts.particles; tracks = tracks }
 
-unfoldable pub held_parts : List ℤ → List TrackEntry → Parts → Checked Parts
-held_parts pins track_entries parts = do
-  held ← each (pinned (length parts.particles)) [] pins
-  tracked_parts held track_entries parts
-
--- the links, pins and tracks that the entries name are looked at last
-unfoldable pub joined_parts : List ℤ → List LinkEntry → List TrackEntry → Parts → Checked Parts
-joined_parts pins link_entries track_entries parts = do
+-- the links that the entries name, then the pins, and then the tracks
+unfoldable pub with_entries : List ℤ → List LinkEntry → List TrackEntry → Parts → Checked Parts
+with_entries pins link_entries track_entries parts = do
   links ← all_links parts.particles parts.links link_entries
-  held_parts pins track_entries (record parts { links = links })
+  held ← each (pinned (length parts.particles)) [] pins
+  tracks ← each (placed_track (length parts.particles)) [] track_entries
+  Ok (with_tracks held (record parts { links = links }) tracks)
 
--- the scene of the tables, with these settings
-unfoldable pub parts_with : ℤ → Settings → Members → Checked Parts
-parts_with limit s ms = do
-  t ← tables_of limit ms
-  joined_parts s.pins t.links t.tracks (with_meshes limit s t)
-
+-- the scene's own keys, its tables, and at last what their entries name
 unfoldable pub scene_of : ℤ → Members → Checked Parts
 scene_of limit ms = do
   s ← settings_of limit ms
-  parts_with limit s ms
+  t ← tables_of limit ms
+  with_entries s.pins t.links t.tracks (with_meshes limit s t)
 
 -- What `read_scene` returns of a text that reads as this tree: no scene but that of the tree, and no fault but the first
 -- broken rule, or that there is no tree, unless memory ran out.

@@ -3,11 +3,11 @@ ghost use Rattle.std.specs.Prelude.{◌≡◌, ◌≤◌, ◌<◌, [], true, len
 ghost use Rattle.pbd_world.specs.Neighbours.{HoldsTracked};
 ghost use Rattle.pbd_scene.specs.Marks.{Flags};
 ghost use Rattle.pbd_scene.specs.Checks.{Gives, each};
-ghost use Rattle.pbd_scene.specs.Joining.{pinned, placed_track, held_still, holding};
+ghost use Rattle.pbd_scene.specs.Naming.{pinned, placed_track, held_still, holding};
 ghost use Rattle.pbd_scene.specs.Scene.{named};
 
 use crate::fault::{KeyName, Place, SceneFault, SceneRule, TableName};
-use crate::joining::particle_number;
+use crate::linking::particle_number;
 use crate::raw::TrackEntry;
 use crate::values::expect;
 use pbd_world::{Key, List, Particle, Track};
@@ -15,7 +15,7 @@ use std::alloc::{AllocError, Global};
 
 // ---- pins
 
-#[tactic(auto, unfolding(crate::specs::Joining::pinned))]
+#[tactic(auto, unfolding(crate::specs::Naming::pinned))]
 fn pinned(count: u32, before: &[u32], n: &i64) -> Result<u32, SceneFault>
     ensures { Gives (λ n. n) result (pinned count before.now n.now) }
 {
@@ -47,7 +47,7 @@ fn no_flags(alloc: Global, count: usize) -> Result<Vec<bool>, AllocError>
 }
 
 /// The track of an entry, where these tracks stand before it.
-#[tactic(auto, unfolding(crate::specs::Joining::placed_track))]
+#[tactic(auto, unfolding(crate::specs::Naming::placed_track))]
 fn placed_track(
     alloc: Global,
     count: u32,

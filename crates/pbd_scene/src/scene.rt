@@ -5,12 +5,13 @@ ghost use Rattle.toml.specs.View.{table_view};
 ghost use Rattle.toml.specs.Parse.{parse_document};
 ghost use Rattle.pbd_num.specs.Vectors.{Within};
 ghost use Rattle.pbd_world.specs.Valid.{is_limit, is_valid, no_parts};
+ghost use Rattle.pbd_scene.specs.Calls.{from_tracks, from_pins, from_tables};
 ghost use Rattle.pbd_scene.specs.Checks.{Gives};
-ghost use Rattle.pbd_scene.specs.Scene.{pins_of, numbers_of, settings_of, tracked_parts, held_parts, joined_parts, parts_with, scene_of, Reads};
+ghost use Rattle.pbd_scene.specs.Scene.{pins_of, numbers_of, settings_of, with_entries, scene_of, Reads};
 
 use crate::arrays::integers_of;
 use crate::fault::{KeyName, Place, SceneFault, SceneRule, TableName};
-use crate::joining::join_links;
+use crate::linking::add_links;
 use crate::meshes::add_meshes;
 use crate::naming::{add_tracked, holding, pinned_particles, place_tracks};
 use crate::raw::{LinkEntry, Numbers, Settings, Shapes, TrackEntry};
@@ -77,7 +78,7 @@ fn settings_of(alloc: Global, limit: i64, members: &Table) -> Result<Settings, S
 }
 
 /// Places the tracks of the entries, and holds their particles and those that are named already.
-#[tactic(auto, unfolding(crate::specs::Scene::tracked_parts))]
+#[tactic(auto, unfolding(crate::specs::Calls::from_tracks))]
 fn place_and_hold(
     alloc: Global,
     tracks: &[TrackEntry],
@@ -86,7 +87,7 @@ fn place_and_hold(
 ) -> Result<(), SceneFault>
     requires few { length parts.old.particles ≤ 65536 }
     requires tracks { length tracks.now ≤ 4096 }
-    ensures { Gives (λ _. parts.new) result (tracked_parts names.old tracks.now parts.old) }
+    ensures { Gives (λ _. parts.new) result (from_tracks names.old tracks.now parts.old) }
 {
     let count = parts.particles.len() as u32;
     parts.tracks = place_tracks(alloc, count, tracks)?;
@@ -96,7 +97,7 @@ fn place_and_hold(
 }
 
 /// Places the tracks of the entries, and holds their particles and those that `pins` names.
-#[tactic(auto, unfolding(crate::specs::Scene::held_parts))]
+#[tactic(auto, unfolding(crate::specs::Calls::from_pins))]
 fn hold_named(
     alloc: Global,
     pins: &[i64],
@@ -105,7 +106,7 @@ fn hold_named(
 ) -> Result<(), SceneFault>
     requires few { length parts.old.particles ≤ 65536 }
     requires tracks { length tracks.now ≤ 4096 }
-    ensures { Gives (λ _. parts.new) result (held_parts pins.now tracks.now parts.old) }
+    ensures { Gives (λ _. parts.new) result (from_pins pins.now tracks.now parts.old) }
 {
     let count = parts.particles.len() as u32;
     match pinned_particles(alloc, count, pins) {
@@ -119,8 +120,8 @@ fn hold_named(
 }
 
 /// Adds the links, pins and tracks that the entries name.
-#[tactic(auto, unfolding(crate::specs::Scene::joined_parts))]
-fn join_parts(
+#[tactic(auto, unfolding(crate::specs::Scene::with_entries, crate::specs::Calls::from_pins, crate::specs::Calls::from_tracks))]
+fn add_entries(
     alloc: Global,
     pins: &[i64],
     links: &[LinkEntry],
@@ -131,9 +132,9 @@ fn join_parts(
     requires places { All (λ p. Within (2 ^ 29) p.at) parts.old.particles }
     requires links { length links.now ≤ 524288 }
     requires tracks { length tracks.now ≤ 4096 }
-    ensures { Gives (λ _. parts.new) result (joined_parts pins.now links.now tracks.now parts.old) }
+    ensures { Gives (λ _. parts.new) result (with_entries pins.now links.now tracks.now parts.old) }
 {
-    join_links(alloc, parts.particles.as_slice(), links, &mut parts.links)?;
+    add_links(alloc, parts.particles.as_slice(), links, &mut parts.links)?;
     hold_named(alloc, pins, tracks, parts)
 }
 
@@ -172,7 +173,7 @@ fn plain_parts(
 }
 
 /// Adds the links, pins and tracks that the entries name to parts, and drops the entries.
-fn parts_joined(
+fn with_entries(
     alloc: Global,
     pins: &[i64],
     links: List<LinkEntry>,
@@ -183,12 +184,12 @@ fn parts_joined(
     requires places { All (λ p. Within (2 ^ 29) p.at) parts.particles }
     requires links { length links ≤ 524288 }
     requires tracks { length tracks ≤ 4096 }
-    ensures { Gives (λ p. p) result (joined_parts pins.now links tracks parts) }
+    ensures { Gives (λ p. p) result (with_entries pins.now links tracks parts) }
 {
-    let joined = join_parts(alloc, pins, links.as_slice(), tracks.as_slice(), &mut parts);
+    let added = add_entries(alloc, pins, links.as_slice(), tracks.as_slice(), &mut parts);
     drop(links);
     drop(tracks);
-    match joined {
+    match added {
         Ok(()) => Ok(parts),
         Err(fault) => {
             drop(parts);
@@ -198,7 +199,7 @@ fn parts_joined(
 }
 
 /// The parts of the tables, with these settings.
-#[tactic(auto, unfolding(crate::specs::Scene::parts_with, crate::specs::Scene::with_meshes))]
+#[tactic(auto, unfolding(crate::specs::Calls::from_tables, crate::specs::Scene::with_meshes))]
 fn parts_with(
     alloc: Global,
     limit: i64,
@@ -206,7 +207,7 @@ fn parts_with(
     members: &Table,
 ) -> Result<Parts, SceneFault>
     requires { IsTrue (is_limit limit) }
-    ensures { Gives (λ parts. parts) result (parts_with limit settings.now (table_view members.now)) }
+    ensures { Gives (λ parts. parts) result (from_tables limit settings.now (table_view members.now)) }
 {
     let tables = tables_of(alloc, limit, members)?;
     let shapes = Shapes {
@@ -223,7 +224,7 @@ fn parts_with(
     drop(tables.cloths);
     drop(tables.ropes);
     match meshed {
-        Ok(()) => parts_joined(
+        Ok(()) => with_entries(
             alloc,
             settings.pins.as_slice(),
             tables.links,
@@ -240,7 +241,7 @@ fn parts_with(
 }
 
 /// The parts of a tree.
-#[tactic(auto, unfolding(crate::specs::Scene::scene_of))]
+#[tactic(auto, unfolding(crate::specs::Scene::scene_of, crate::specs::Calls::from_tables))]
 fn parts_of(alloc: Global, limit: i64, members: &Table) -> Result<Parts, SceneFault>
     requires { IsTrue (is_limit limit) }
     ensures { Gives (λ parts. parts) result (scene_of limit (table_view members.now)) }

@@ -94,7 +94,7 @@ fn rises_at(keys: &[Key], i: usize) -> bool
     keys[i].step < keys[i + 1].step
 }
 
-#[tactic(auto, unfolding(crate::specs::Entries::steps_rise, pbd_mesh::specs::Joined::all_below), using(pbd_mesh::proofs::Below::below_next, pbd_mesh::proofs::Below::not_below, pbd_mesh::proofs::Below::below_all))]
+#[tactic(auto, unfolding(crate::specs::Entries::steps_rise, pbd_mesh::specs::Numbered::all_below), using(pbd_mesh::proofs::Below::below_next, pbd_mesh::proofs::Below::not_below, pbd_mesh::proofs::Below::below_all))]
 fn steps_rise(keys: &[Key]) -> bool
     ensures { result ≡ steps_rise keys.now }
 {

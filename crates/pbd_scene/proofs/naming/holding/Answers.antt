@@ -1,4 +1,4 @@
-use Rattle.pbd_scene.specs.Joining.{holding}
+use Rattle.pbd_scene.specs.Naming.{holding}
 use Rattle.pbd_scene.proofs.Flagged.{held_at, held_all}
 use Rattle.pbd_scene.proofs.naming.holding.Goals as goal
 

@@ -1,5 +1,5 @@
 use Rattle.std.proofs.Common.{◌≡◌, ◌++◌, drop}
-use Rattle.pbd_scene.specs.Joining.{holding}
+use Rattle.pbd_scene.specs.Naming.{holding}
 use Rattle.pbd_scene.proofs.naming.holding.Given as goal
 
 abbrev pub invariant-loop-i : goal.invariant-loop-i

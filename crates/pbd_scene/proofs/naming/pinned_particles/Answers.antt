@@ -1,7 +1,7 @@
 use Rattle.std.proofs.Common.{[]}
 use Rattle.std.proofs.lemmas.Result.{err_from_is_err_and}
 use Rattle.pbd_scene.specs.Checks.{each}
-use Rattle.pbd_scene.specs.Joining.{pinned}
+use Rattle.pbd_scene.specs.Naming.{pinned}
 use Rattle.pbd_scene.proofs.Reading.{item_ok, item_fails, last_ok}
 use Rattle.pbd_scene.proofs.naming.pinned_particles.Goals as goal
 

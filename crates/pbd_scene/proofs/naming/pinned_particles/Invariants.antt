@@ -1,6 +1,6 @@
 use Rattle.std.proofs.Common.{◌≡◌, [], drop}
 use Rattle.pbd_scene.specs.Checks.{each}
-use Rattle.pbd_scene.specs.Joining.{pinned}
+use Rattle.pbd_scene.specs.Naming.{pinned}
 use Rattle.pbd_scene.proofs.naming.pinned_particles.Given as goal
 
 -- what is read of all, with what was read so far

@@ -40,8 +40,8 @@ add_meshes-meshed-requires-clause-room c =
     let fit = tables_fit c.args.limit (table_view c.args.members.now) c.in_ok-tables.tables (limit_bounds c.args.limit c.requires).0 is in
     rw (ap (λ (p : Parts). p.particles) c.plain_parts-parts.ensures) (meshes_room c.args.limit c.in_ok-tables.tables c.as_slice.result.now c.as_slice-2.result.now c.as_slice.ensures c.as_slice-2.ensures fit)
 
-pub parts_joined-requires-clause-few : goal.parts_joined-requires-clause-few
-parts_joined-requires-clause-few c =
+pub with_entries-requires-clause-few : goal.with_entries-requires-clause-few
+with_entries-requires-clause-few c =
     let fits = c.ranges.limit in
     let is = simp to_z-of_z at c.in_ok-tables.ensures in
     let fit = tables_fit c.args.limit (table_view c.args.members.now) c.in_ok-tables.tables (limit_bounds c.args.limit c.requires).0 is in
@@ -49,8 +49,8 @@ parts_joined-requires-clause-few c =
     let meshed = meshed_now c.args.limit c.args.settings.now c.in_ok-tables.tables c.add_meshes-meshed.new.parts c.as_slice.result.now c.as_slice-2.result.now grown c.as_slice.ensures c.as_slice-2.ensures c.requires fit in
     meshed.few
 
-pub parts_joined-requires-clause-places : goal.parts_joined-requires-clause-places
-parts_joined-requires-clause-places c =
+pub with_entries-requires-clause-places : goal.with_entries-requires-clause-places
+with_entries-requires-clause-places c =
     let fits = c.ranges.limit in
     let is = simp to_z-of_z at c.in_ok-tables.ensures in
     let fit = tables_fit c.args.limit (table_view c.args.members.now) c.in_ok-tables.tables (limit_bounds c.args.limit c.requires).0 is in
@@ -58,15 +58,15 @@ parts_joined-requires-clause-places c =
     let meshed = meshed_now c.args.limit c.args.settings.now c.in_ok-tables.tables c.add_meshes-meshed.new.parts c.as_slice.result.now c.as_slice-2.result.now grown c.as_slice.ensures c.as_slice-2.ensures c.requires fit in
     places_within c.args.limit _ c.add_meshes-meshed.new.parts c.requires meshed
 
-pub parts_joined-requires-clause-links : goal.parts_joined-requires-clause-links
-parts_joined-requires-clause-links c =
+pub with_entries-requires-clause-links : goal.with_entries-requires-clause-links
+with_entries-requires-clause-links c =
     let fits = c.ranges.limit in
     let is = simp to_z-of_z at c.in_ok-tables.ensures in
     let fit = tables_fit c.args.limit (table_view c.args.members.now) c.in_ok-tables.tables (limit_bounds c.args.limit c.requires).0 is in
     fit.few_links
 
-pub parts_joined-requires-clause-tracks : goal.parts_joined-requires-clause-tracks
-parts_joined-requires-clause-tracks c =
+pub with_entries-requires-clause-tracks : goal.with_entries-requires-clause-tracks
+with_entries-requires-clause-tracks c =
     let fits = c.ranges.limit in
     let is = simp to_z-of_z at c.in_ok-tables.ensures in
     let fit = tables_fit c.args.limit (table_view c.args.members.now) c.in_ok-tables.tables (limit_bounds c.args.limit c.requires).0 is in

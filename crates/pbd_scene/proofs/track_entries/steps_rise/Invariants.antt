@@ -1,5 +1,5 @@
 use Rattle.std.specs.Prelude.{◌+◌, nat_lt, IsTrue}
-use Rattle.pbd_mesh.specs.Joined.{all_below}
+use Rattle.pbd_mesh.specs.Numbered.{all_below}
 use Rattle.pbd_scene.specs.Entries.{step_of}
 use Rattle.pbd_scene.proofs.track_entries.steps_rise.Given as goal
 

@@ -40,8 +40,8 @@ room_for_link place b at_a at_b = do
   expect (nat_lt (length at_b) 32) TooManyAtParticle place keys.B
 
 -- the link of an entry, where so many entries and these links stand before it
-unfoldable pub joined_link : List Particle → ℕ → List Link → LinkEntry → Checked Link
-joined_link ps position earlier l =
+unfoldable pub entry_link : List Particle → ℕ → List Link → LinkEntry → Checked Link
+entry_link ps position earlier l =
     let place = at tables.Link position in do
       _ ← expect (nat_lt (length earlier) 524288) TooMany place keys.NoKey
       a ← particle_number (length ps) place keys.A l.a
@@ -52,7 +52,7 @@ joined_link ps position earlier l =
 
 -- a link after those of the meshes and those of the entries before it
 abbrev pub link_after : List Particle → List Link → List Link → LinkEntry → Checked Link
-link_after ps meshes before l = joined_link ps (length before) (meshes ++ before) l
+link_after ps meshes before l = entry_link ps (length before) (meshes ++ before) l
 
 -- the links of the meshes and then those of the entries
 unfoldable pub all_links : List Particle → List Link → List LinkEntry → Checked (List Link)

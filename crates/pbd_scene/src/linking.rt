@@ -4,7 +4,7 @@ ghost use Rattle.std.specs.List.{All};
 ghost use Rattle.pbd_num.specs.Vectors.{Within};
 ghost use Rattle.pbd_world.specs.Neighbours.{HoldsNeighbours};
 ghost use Rattle.pbd_scene.specs.Checks.{Gives};
-ghost use Rattle.pbd_scene.specs.Joining.{particle_number, plain_link, room_for_link, joined_link, length_between, all_links};
+ghost use Rattle.pbd_scene.specs.Naming.{particle_number, plain_link, room_for_link, entry_link, length_between, all_links};
 
 use crate::fault::{KeyName, Place, SceneFault, SceneRule, TableName};
 use crate::raw::LinkEntry;
@@ -14,7 +14,7 @@ use pbd_world::{Kind, Link, List, MOST_AT_PARTICLE, MOST_LINKS, NeighbourLists, 
 use std::alloc::Global;
 
 /// A number that names one of `count` particles.
-#[tactic(auto, unfolding(crate::specs::Joining::particle_number))]
+#[tactic(auto, unfolding(crate::specs::Naming::particle_number))]
 pub fn particle_number(count: u32, place: Place, key: KeyName, n: i64) -> Result<u32, SceneFault>
     ensures number { Gives (λ n. n) result (particle_number count place key n) }
     ensures low { IfOk result (λ n. n < count) }
@@ -24,7 +24,7 @@ pub fn particle_number(count: u32, place: Place, key: KeyName, n: i64) -> Result
 }
 
 /// The rest that is given, or the distance of two particles.
-#[tactic(auto, unfolding(crate::specs::Joining::length_between))]
+#[tactic(auto, unfolding(crate::specs::Naming::length_between))]
 fn rest_of(particles: &[Particle], a: u32, b: u32, rest: Option<i64>) -> i64
     requires places { All (λ p. Within (2 ^ 29) p.at) particles.now }
     requires a { a < length particles.now }
@@ -37,7 +37,7 @@ fn rest_of(particles: &[Particle], a: u32, b: u32, rest: Option<i64>) -> i64
     }
 }
 
-#[tactic(auto, unfolding(crate::specs::Joining::plain_link))]
+#[tactic(auto, unfolding(crate::specs::Naming::plain_link))]
 fn plain_link(a: u32, b: u32, rest: i64, l: LinkEntry) -> Link
     ensures { result ≡ plain_link a b rest l }
 {
@@ -53,7 +53,7 @@ fn plain_link(a: u32, b: u32, rest: i64, l: LinkEntry) -> Link
 }
 
 /// Refuses a link from `a` to `b` that is a double, or the 33rd at one of them.
-#[tactic(auto, unfolding(crate::specs::Joining::room_for_link))]
+#[tactic(auto, unfolding(crate::specs::Naming::room_for_link))]
 fn room_for_link(place: Place, lists: &NeighbourLists, a: u32, b: u32) -> Result<(), SceneFault>
     requires a { a < length lists.now }
     requires b { b < length lists.now }
@@ -80,8 +80,8 @@ fn room_for_link(place: Place, lists: &NeighbourLists, a: u32, b: u32) -> Result
 }
 
 /// The link of an entry, where `position` entries and these links stand before it.
-#[tactic(auto, unfolding(crate::specs::Joining::joined_link))]
-fn joined_link(
+#[tactic(auto, unfolding(crate::specs::Naming::entry_link))]
+fn entry_link(
     particles: &[Particle],
     position: u32,
     links: &[Link],
@@ -91,7 +91,7 @@ fn joined_link(
     requires few { length particles.now ≤ 65536 }
     requires places { All (λ p. Within (2 ^ 29) p.at) particles.now }
     requires lists { HoldsNeighbours (length particles.now) links.now lists.now }
-    ensures { Gives (λ l. l) result (joined_link particles.now position links.now l) }
+    ensures { Gives (λ l. l) result (entry_link particles.now position links.now l) }
 {
     let place = Place {
         table: TableName::Link,
@@ -112,7 +112,7 @@ fn joined_link(
 }
 
 /// Adds the links of the entries to those of the meshes, or answers the first rule that an entry breaks.
-pub fn join_links(
+pub fn add_links(
     alloc: Global,
     particles: &[Particle],
     entries: &[LinkEntry],
@@ -125,7 +125,7 @@ pub fn join_links(
 {
     let mut lists = NeighbourLists::of(alloc, particles.len(), links.as_slice())?;
     for (i, entry) in entries.iter().enumerate() {
-        let link = joined_link(particles, i as u32, links.as_slice(), &lists, *entry)?;
+        let link = entry_link(particles, i as u32, links.as_slice(), &lists, *entry)?;
         lists.add(&link)?;
         links.push(link)?;
     }

@@ -1,6 +1,6 @@
 use Rattle.std.proofs.lemmas.Result.{err_from_is_err_and}
-use Rattle.pbd_scene.proofs.Joinings.{entry_more, entry_stops, links_end}
-use Rattle.pbd_scene.proofs.joining.join_links.Goals as goal
+use Rattle.pbd_scene.proofs.EntryLinks.{entry_more, entry_stops, links_end}
+use Rattle.pbd_scene.proofs.linking.add_links.Goals as goal
 
 pub returns-in_err-link : goal.returns-in_err-link
 returns-in_err-link c =
