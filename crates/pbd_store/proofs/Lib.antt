@@ -2,6 +2,7 @@ pub mod Limits
 pub mod Filling
 pub mod Listing
 pub mod Scattering
+pub mod Writing
 pub mod Saving
 pub mod Starts
 pub mod Fixed

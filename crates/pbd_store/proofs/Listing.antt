@@ -1,13 +1,14 @@
 -- Columns seen as a list of particles: what a read gives, and what a write makes of the list.
-use Rattle.std.proofs.Common.{◌≡◌, ℕ, ◌+◌, ◌++◌, ◌<◌, ◌≤◌, ℤ, pos, List, [], ◌∷◌, zero, suc, length, get_or, map, replicate, slice_set, Bool, false, refl, sym, ◌∙◌, ap, arith, inl, inr}
-use Rattle.std.proofs.lemmas.Bool.{cases_lt, cases_eq}
+use Rattle.std.proofs.Common.{◌≡◌, ℕ, ◌+◌, ◌++◌, ◌<◌, ◌≤◌, ℤ, pos, List, [], ◌∷◌, zero, suc, length, get_or, map, replicate, slice_set, Bool, ◌&&◌, true, false, cond, IsTrue, nat_lt, refl, sym, ◌∙◌, ap, arith, inl, inr}
+use Rattle.std.proofs.lemmas.Bool.{cases_lt, cases_eq, and_parts, and_from, ltb-true, lt-ltb}
 use Rattle.std.proofs.lemmas.List.{get_or-set_same, get_or-set_other, get_or_past, get_or-replicate, length-set, length-map, length-append, length-replicate}
 use Rattle.std.proofs.lemmas.List.FromFn.{fill_by_all, get_or-map-range_with_len, length-map-range_with_len}
 use Rattle.pbd_num.specs.declared.Vec3.{Vec3}
 use Rattle.pbd_lanes.specs.Lane.{lane, is_set, lanes_of}
 use Rattle.pbd_world.specs.declared.parts.Particle.{Particle}
-use Rattle.pbd_world.specs.Particles.{particle_at, placed, no_particle}
-use Rattle.pbd_store.specs.Blocks.{place_of}
+use Rattle.pbd_world.specs.Particles.{particle_at, placed, effective_weight, no_particle}
+use Rattle.pbd_store.specs.Blocks.{place_of, Saved}
+use Rattle.pbd_store.specs.Writing.{WrittenWhere}
 use Rattle.pbd_store.specs.declared.axes.Axes.{Axes}
 use Rattle.pbd_store.specs.Listed.{place_at, row, listed, AreLong, ArePadded}
 
@@ -78,6 +79,15 @@ module _ (n spare : ℕ) (at before : Axes) (weight : List ℕ) (held : List Boo
     pub padded_set : AreLong (n + spare) at' → AreLong (n + spare) before' → length weight' ≡ n + spare → length held' ≡ n + spare → ArePadded n spare at' before' weight' held'
     padded_set la lb lw lh = record { size = h.size; places = la; befores = lb; weights = lw; flags = lh; padding = λ k q. other k (λ e. absurd (omega arith)) ∙ h.padding k q }
 
+-- what f gives of a particle that is wanted, or of no particle
+pub row_or_none : {A : Type 0} (f : Particle → A) (ps : List Particle) (i : ℕ) (b : Bool) → f (particle_at ps (cond b i (length ps))) ≡ cond b (f (particle_at ps i)) (f no_particle)
+row_or_none f ps i true = refl
+row_or_none f ps i false = ap f (get_or_past ps (length ps) no_particle (omega arith))
+
+pub row_within : (i n : ℕ) (b : Bool) → (IsTrue b → i < n) → cond b i n ≤ n
+row_within i n true h = omega (arith, h refl)
+row_within i n false h = omega arith
+
 -- the columns of a list
 pub listed_from : (ps : List Particle) (at before : Axes) (weight : List ℕ) (held : List Bool) → ((k : ℕ) → row at before weight held k ≡ particle_at ps k) → listed (length ps) at before weight held ≡ ps
 listed_from ps at before weight held is = sym (fill_by_all (row at before weight held) ps (length ps) no_particle refl (λ k p. sym (is k)))
@@ -87,6 +97,10 @@ any_default [] i d e h = absurd (omega arith)
 any_default (x ∷ xs) zero d e h = refl
 any_default (x ∷ xs) (suc i) d e h = any_default xs i d e (omega arith)
 
+held_or : (b : Bool) (w : ℕ) → cond b (pos 0) (pos w) ≡ pos (cond b 0 w)
+held_or true w = refl
+held_or false w = refl
+
 -- ---- the list that clauses see
 
 module _ (n spare : ℕ) (at before : Axes) (weight : List ℕ) (held : List Bool) (h : ArePadded n spare at before weight held) (ps : List Particle) (e : listed n at before weight held ≡ ps) where
@@ -95,6 +109,13 @@ module _ (n spare : ℕ) (at before : Axes) (weight : List ℕ) (held : List Boo
 
   pub row_is : (k : ℕ) → particle_at ps k ≡ row at before weight held k
   row_is k = ap (λ (qs : List Particle). particle_at qs k) (sym e) ∙ shown n spare at before weight held h k
+
+  -- what a row gives, be it of a particle that is wanted or the first of zeros
+  pub end_is : {A : Type 0} (f : Particle → A) (i k : ℕ) (b : Bool) → k ≡ cond b i (length ps) → f (row at before weight held k) ≡ cond b (f (particle_at ps i)) (f no_particle)
+  end_is f i k b is = ap f (sym (row_is k)) ∙ ap (λ (m : ℕ). f (particle_at ps m)) is ∙ row_or_none f ps i b
+
+  pub effective_is : (k : ℕ) → cond (is_set held k) (pos 0) (pos (get_or weight k 0)) ≡ pos (effective_weight (particle_at ps k))
+  effective_is k = held_or (is_set held k) (get_or weight k 0) ∙ ap (λ (q : Particle). pos (effective_weight q)) (sym (row_is k))
 
   -- another place
   module _ (at' : Axes) (i : ℕ) (v : Vec3) (within : i < length ps) (ex : at'.x.items ≡ slice_set at.x.items i v.x) (ey : at'.y.items ≡ slice_set at.y.items i v.y) (ez : at'.z.items ≡ slice_set at.z.items i v.z) where
@@ -115,23 +136,8 @@ module _ (n spare : ℕ) (at before : Axes) (weight : List ℕ) (held : List Boo
         listed_set n spare at before weight held h at' before weight held i near other_place (record (particle_at ps i) { at = v }) now
         ∙ ap (λ (qs : List Particle). slice_set qs i (record (particle_at ps i) { at = v })) e
 
-    -- and another place before
+    -- and another place before, weight and flag
     module _ (before' : Axes) (b : Vec3) (bx : before'.x.items ≡ slice_set before.x.items i b.x) (by : before'.y.items ≡ slice_set before.y.items i b.y) (bz : before'.z.items ≡ slice_set before.z.items i b.z) where
-      other_both : (k : ℕ) → (k ≡ i → ⊥) → row at' before' weight held k ≡ row at before weight held k
-      other_both k d = λ t. record { at = place_other at at' i v ex ey ez k d t; before = place_other before before' i b bx by bz k d t; weight = get_or weight k 0; held = is_set held k }
-
-      pub both_padded : ArePadded n spare at' before' weight held
-      both_padded = padded_set n spare at before weight held h at' before' weight held i near other_both (places_long at at' i v ex ey ez (n + spare) h.places) (places_long before before' i b bx by bz (n + spare) h.befores) h.weights h.flags
-
-      pub both_listed : listed n at' before' weight held ≡ slice_set ps i (record (particle_at ps i) { at = v; before = b })
-      both_listed =
-          let now : row at' before' weight held i ≡ record (particle_at ps i) { at = v; before = b } =
-          (λ t. record { at = place_same at at' i v ex ey ez (n + spare) h.places (omega (arith, near)) t; before = place_same before before' i b bx by bz (n + spare) h.befores (omega (arith, near)) t; weight = get_or weight i 0; held = is_set held i })
-          ∙ ap (λ (q : Particle). record q { at = v; before = b }) (sym (row_is i)) in
-          listed_set n spare at before weight held h at' before' weight held i near other_both (record (particle_at ps i) { at = v; before = b }) now
-          ∙ ap (λ (qs : List Particle). slice_set qs i (record (particle_at ps i) { at = v; before = b })) e
-
-      -- and another weight and flag
       module _ (weight' : List ℕ) (w : ℕ) (ew : weight' ≡ slice_set weight i w) (held' : List Bool) (f : Bool) (eh : held' ≡ slice_set held i f) where
         other_all : (k : ℕ) → (k ≡ i → ⊥) → row at' before' weight' held' k ≡ row at before weight held k
         other_all k d =
@@ -151,6 +157,46 @@ module _ (n spare : ℕ) (at before : Axes) (weight : List ℕ) (held : List Boo
             λ t. record { at = place_same at at' i v ex ey ez (n + spare) h.places (omega (arith, near)) t; before = place_same before before' i b bx by bz (n + spare) h.befores (omega (arith, near)) t; weight = ws t; held = hs t } in
             listed_set n spare at before weight held h at' before' weight' held' i near other_all (record { at = v; before = b; weight = w; held = f }) now
             ∙ ap (λ (qs : List Particle). slice_set qs i (record { at = v; before = b; weight = w; held = f })) e
+
+  -- other places in those of m lanes from `start` on that are set and have a particle
+  module _ (m start : ℕ) (set filled own : List Bool) (at' before' : Axes) (px py pz bx by bz : List ℤ) (ef : filled ≡ lanes_of m (λ (j : ℕ). nat_lt (start + j) (length ps))) (eo : own ≡ lanes_of m (λ (j : ℕ). is_set set j && is_set filled j)) (ax : WrittenWhere m start own px at.x.items at'.x.items) (ay : WrittenWhere m start own py at.y.items at'.y.items) (az : WrittenWhere m start own pz at.z.items at'.z.items) (cx : WrittenWhere m start own bx before.x.items before'.x.items) (cy : WrittenWhere m start own by before.y.items before'.y.items) (cz : WrittenWhere m start own bz before.z.items before'.z.items) where
+    filled_at : (j : ℕ) → j < m → is_set filled j ≡ nat_lt (start + j) (length ps)
+    filled_at j p = ap (λ (bs : List Bool). is_set bs j) ef ∙ get_or-map-range_with_len (λ (k : ℕ). nat_lt (start + k) (length ps)) 0 m j j false p (omega arith)
+
+    own_at : (j : ℕ) → j < m → is_set own j ≡ (is_set set j && is_set filled j)
+    own_at j p = ap (λ (bs : List Bool). is_set bs j) eo ∙ get_or-map-range_with_len (λ (k : ℕ). is_set set k && is_set filled k) 0 m j j false p (omega arith)
+
+    set_of : (j : ℕ) → j < m → IsTrue (is_set own j) → IsTrue (is_set set j)
+    set_of j p s = (and_parts (is_set set j) (is_set filled j) (sym (own_at j p) ∙ s)).0
+
+    below : (j : ℕ) → j < m → IsTrue (is_set own j) → start + j < length ps
+    below j p s = ltb-true (start + j) (length ps) (sym (filled_at j p) ∙ (and_parts (is_set set j) (is_set filled j) (sym (own_at j p) ∙ s)).1)
+
+    own_of : (j : ℕ) → j < m → IsTrue (is_set set j) → start + j < length ps → IsTrue (is_set own j)
+    own_of j p s l = own_at j p ∙ and_from (is_set set j) (is_set filled j) s (filled_at j p ∙ lt-ltb (start + j) (length ps) l)
+
+    row_there : (j : ℕ) → j < m → IsTrue (is_set own j) → row at' before' weight held (start + j) ≡ record (row at before weight held (start + j)) { at = place_of px py pz j; before = place_of bx by bz j }
+    row_there j p s = λ t. record { at = record { x = ax.lanes j p s t; y = ay.lanes j p s t; z = az.lanes j p s t }; before = record { x = cx.lanes j p s t; y = cy.lanes j p s t; z = cz.lanes j p s t }; weight = get_or weight (start + j) 0; held = is_set held (start + j) }
+
+    row_elsewhere : (i : ℕ) → ((j : ℕ) → j < m → IsTrue (is_set own j) → start + j ≡ i → ⊥) → row at' before' weight held i ≡ row at before weight held i
+    row_elsewhere i f = λ t. record { at = record { x = ax.others i f t; y = ay.others i f t; z = az.others i f t }; before = record { x = cx.others i f t; y = cy.others i f t; z = cz.others i f t }; weight = get_or weight i 0; held = is_set held i }
+
+    pub moved_padded : ArePadded n spare at' before' weight held
+    moved_padded = record {
+      size = h.size;
+      places = record { x = ax.whole ∙ h.places.x; y = ay.whole ∙ h.places.y; z = az.whole ∙ h.places.z };
+      befores = record { x = cx.whole ∙ h.befores.x; y = cy.whole ∙ h.befores.y; z = cz.whole ∙ h.befores.z };
+      weights = h.weights;
+      flags = h.flags;
+      padding = λ k q. row_elsewhere k (λ j p s f. absurd (omega (arith, count_is, below j p s))) ∙ h.padding k q;
+    }
+
+    pub moved_saved : Saved m start set (place_of px py pz) (place_of bx by bz) ps (listed n at' before' weight held)
+    moved_saved = record {
+      whole = listed_long n spare at' before' weight held moved_padded ∙ count_is;
+      lanes = λ j p l s. shown n spare at' before' weight held moved_padded (start + j) ∙ row_there j p (own_of j p s l) ∙ ap (λ (q : Particle). record q { at = place_of px py pz j; before = place_of bx by bz j }) (sym (row_is (start + j)));
+      others = λ i f. shown n spare at' before' weight held moved_padded i ∙ row_elsewhere i (λ j p s g. f j p (set_of j p s) g) ∙ sym (row_is i);
+    }
 
   -- the same columns once more
   module _ (n' : ℕ) (en : n' ≡ n) (at' before' : Axes) (weight' : List ℕ) (held' : List Bool) (ax : at'.x.items ≡ at.x.items) (ay : at'.y.items ≡ at.y.items) (az : at'.z.items ≡ at.z.items) (bx : before'.x.items ≡ before.x.items) (by : before'.y.items ≡ before.y.items) (bz : before'.z.items ≡ before.z.items) (ew : weight' ≡ weight) (eh : held' ≡ held) where

@@ -1,13 +1,14 @@
 -- Blocks of neighbouring particles, read and written together.
-use Rattle.std.specs.Prelude.{◌≡◌, ℕ, ◌+◌, ◌-◌, ◌*◌, ◌/◌, ◌<◌, ℤ, List, length, Bool, IsTrue, nat_lt}
+use Rattle.std.specs.Prelude.{◌≡◌, ℕ, ◌+◌, ◌*◌, ◌<◌, ℤ, List, length, Bool, IsTrue, nat_lt}
 use Rattle.pbd_num.specs.declared.Vec3.{Vec3}
 use Rattle.pbd_lanes.specs.Lane.{lane, is_set, lanes_of}
 use Rattle.pbd_world.specs.declared.parts.Particle.{Particle}
 use Rattle.pbd_world.specs.Particles.{particle_at}
+use Rattle.pbd_world.specs.Work.{pieces_of}
 
 -- how many blocks of n hold m
 abbrev pub blocks_of : ℕ → ℕ → ℕ
-blocks_of m n = (m + n - 1) / n
+blocks_of m n = pieces_of m n
 
 -- what f gives of the n particles of a block: past the last particle of the list, of no particle, whose numbers are 0
 abbrev pub loaded : {A : Type 0} → ℕ → ℕ → (Particle → A) → List Particle → List A

@@ -3,4 +3,5 @@ pub mod Blocks
 pub mod Gathering
 pub mod Fields
 pub mod Listed
+pub mod Writing
 pub mod Moving

@@ -3,8 +3,10 @@ ghost use Rattle.std.specs.Prelude.{◌≡◌, ◌+◌, ◌++◌, ◌<◌, ◌�
 ghost use Rattle.pbd_lanes.specs.Lane.{lane, lanes_of};
 ghost use Rattle.pbd_store.specs.Fields.{number_of};
 ghost use Rattle.pbd_store.specs.Listed.{place_at};
+ghost use Rattle.pbd_store.specs.Writing.{Written, WrittenWhere};
 
-use pbd_lanes::Lanes;
+use crate::lanes3::Lanes3;
+use pbd_lanes::{Lanes, Mask};
 use pbd_num::Vec3;
 use pbd_world::Particle;
 use std::alloc::{AllocError, Global};
@@ -89,6 +91,35 @@ pub(crate) fn lanes_from<const L: usize>(column: &[i64], start: usize) -> Lanes<
     Lanes::from_array(values)
 }
 
+// Writes L numbers from `start` on.
+#[inline(always)]
+fn write<const L: usize>(column: &mut [i64], start: usize, values: [i64; L])
+    requires lanes { L ≤ 16 }
+    requires room { start + L ≤ length column.old }
+    ensures { Written L start values.entry column.old column.new }
+{
+    for j in 0..L {
+        column[start + j] = values[j];
+    }
+}
+
+// Writes those of L numbers from `start` on whose lanes are set.
+#[inline(always)]
+fn write_where<const L: usize>(
+    column: &mut Vec<i64>,
+    start: usize,
+    set: &Mask<L>,
+    values: &Lanes<L>,
+)
+    requires lanes { L ≤ 16 }
+    requires room { start + L ≤ length column.old.items }
+    ensures { WrittenWhere L start set.now values.now column.old.items column.new.items }
+{
+    let old = lanes_from(column, start);
+    let mixed = Lanes::select(set, values, &old);
+    write(column.as_mut_slice(), start, mixed.to_array());
+}
+
 impl Axes {
     /// The place at i.
     #[inline(always)]
@@ -118,6 +149,27 @@ impl Axes {
         self.x[i] = place.x;
         self.y[i] = place.y;
         self.z[i] = place.z;
+    }
+
+    /// Puts other places to those of L from `start` on whose lanes are set.
+    #[inline(always)]
+    pub(crate) fn set_where<const L: usize>(
+        &mut self,
+        start: usize,
+        set: &Mask<L>,
+        places: &Lanes3<L>,
+    )
+        requires lanes { L ≤ 16 }
+        requires x { start + L ≤ length self.old.x.items }
+        requires y { start + L ≤ length self.old.y.items }
+        requires z { start + L ≤ length self.old.z.items }
+        ensures x { WrittenWhere L start set.now places.now.x self.old.x.items self.new.x.items }
+        ensures y { WrittenWhere L start set.now places.now.y self.old.y.items self.new.y.items }
+        ensures z { WrittenWhere L start set.now places.now.z self.old.z.items self.new.z.items }
+    {
+        write_where(&mut self.x, start, set, &places.x);
+        write_where(&mut self.y, start, set, &places.y);
+        write_where(&mut self.z, start, set, &places.z);
     }
 
     /// Takes over the numbers of columns of the same length.

@@ -1,9 +1,11 @@
 ghost use Rattle.std.specs.Prelude.{◌≡◌, ◌<◌, ◌≤◌, ◌+◌, ◌++◌, pos, false, length, map, replicate, slice_index, slice_set, IfOk, IsTrue, vec_len, if◌then◌else◌, nat_lt};
 ghost use Rattle.pbd_lanes.specs.Lane.{lanes_of};
 ghost use Rattle.pbd_world.specs.Particles.{particle_at, placed, effective_weight};
+ghost use Rattle.pbd_store.specs.Blocks.{place_of, Saved};
 ghost use Rattle.pbd_store.specs.Fields.{number_of};
 
 use crate::axes::{Axes, Field, column, lanes_from, padded};
+use crate::lanes3::Lanes3;
 use pbd_lanes::{Lanes, Mask};
 use pbd_num::Vec3;
 use pbd_world::Particle;
@@ -50,6 +52,12 @@ fn weight_at(column: &[u16], i: usize) -> i64
     ensures { result ≡ pos (slice_index column.now i) }
 {
     i64::from(column[i])
+}
+
+fn weight_unless(held: bool, weight: i64) -> i64
+    ensures { result ≡ (if held then pos 0 else weight) }
+{
+    if held { 0 } else { weight }
 }
 
 fn set_weight(column: &mut Vec<u16>, i: usize, weight: u16)
@@ -142,23 +150,37 @@ impl<const L: usize> Columns<L> {
         }
     }
 
+    // The row of a particle that is wanted, else the first row of zeros.
+    #[inline(always)]
+    fn row_if(&self, i: u32, wanted: bool) -> usize
+        requires { IsTrue wanted → i < length self.now }
+        ensures { result ≡ (if wanted then i else length self.now) }
+    {
+        if wanted { i as usize } else { self.count }
+    }
+
+    // The weight that the particle of a row has, if it isn't held.
+    #[inline(always)]
+    fn effective_weight(&self, row: usize) -> i64
+        requires some { 0 < L }
+        requires row { row ≤ length self.now }
+        ensures { result ≡ pos (effective_weight (particle_at self.now row)) }
+    {
+        weight_unless(self.held[row], weight_at(&self.weight, row))
+    }
+
     // The place and the effective weight of a particle that is wanted, else zeros.
     #[inline(always)]
     pub(crate) fn end_if(&self, i: u32, wanted: bool) -> (Vec3, i64)
-        requires { IsTrue wanted → i < length self.now }
+        requires some { 0 < L }
+        requires within { IsTrue wanted → i < length self.now }
         ensures x { result.0.x ≡ (if wanted then (particle_at self.now i).at.x else pos 0) }
         ensures y { result.0.y ≡ (if wanted then (particle_at self.now i).at.y else pos 0) }
         ensures z { result.0.z ≡ (if wanted then (particle_at self.now i).at.z else pos 0) }
         ensures weight { result.1 ≡ (if wanted then pos (effective_weight (particle_at self.now i)) else pos 0) }
     {
-        if !wanted {
-            return (Vec3::ZERO, 0);
-        }
-        let particle = self.get(i as usize);
-        if particle.held {
-            return (particle.at, 0);
-        }
-        (particle.at, i64::from(particle.weight))
+        let row = self.row_if(i, wanted);
+        (self.at.place(row), self.effective_weight(row))
     }
 
     #[inline(always)]
@@ -189,22 +211,23 @@ impl<const L: usize> Columns<L> {
         set_flag(&mut self.held, i, particle.held);
     }
 
-    fn move_both(&mut self, i: usize, at: Vec3, before: Vec3)
-        requires { i < length self.old }
-        ensures { self.new ≡ slice_set self.old i (record (particle_at self.old i) { at = at; before = before }) }
+    /// Moves those of L particles from `start` on whose lanes are set.
+    pub(crate) fn move_where(
+        &mut self,
+        start: usize,
+        set: &Mask<L>,
+        at: &Lanes3<L>,
+        before: &Lanes3<L>,
+    )
+        requires start { start ≤ length self.old }
+        requires lanes { L ≤ 16 }
+        ensures { Saved L start set.now (place_of at.now.x at.now.y at.now.z)
+            (place_of before.now.x before.now.y before.now.z) self.old self.new }
     {
-        self.at.set(i, at);
-        self.before.set(i, before);
-    }
-
-    pub(crate) fn move_if(&mut self, i: usize, wanted: bool, at: Vec3, before: Vec3)
-        ensures { self.new ≡ (if wanted then
-            (if nat_lt i (length self.old) then slice_set self.old i
-            (record (particle_at self.old i) { at = at; before = before }) else self.old) else self.old) }
-    {
-        if wanted && i < self.len() {
-            self.move_both(i, at, before);
-        }
+        let filled = self.filled(start);
+        let own = set.and(&filled);
+        self.at.set_where(start, &own, at);
+        self.before.set_where(start, &own, before);
     }
 
     pub(crate) fn copy_from(&mut self, other: &Columns<L>)

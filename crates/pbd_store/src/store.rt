@@ -197,12 +197,8 @@ impl<const L: usize> Store<L> {
     {
         steps.tick();
         let start = start_of(block, L, self.len());
-        let set = mask.to_array();
-        for j in 0..L {
-            let at = values.at.place(j);
-            let before = values.before.place(j);
-            self.columns.move_if(start + j, set[j], at, before);
-        }
+        self.columns
+            .move_where(start, mask, &values.at, &values.before);
     }
 
     /// The places and effective weights of the particles that the set lanes name. Other lanes give 0.
