@@ -1,30 +1,20 @@
 -- A block of bonds whose corrections lie in lanes.
 use Rattle.std.proofs.Common.{◌≡◌, ℕ, zero, suc, ◌+◌, ◌-◌, ◌/◌, ◌<◌, ◌≤◌, ℤ, List, [], ◌∷◌, length, get_or, take, drop, Bool, true, false, IsTrue, cond, not, nat_lt, refl, ap, sym, ◌∙◌, arith, subst, inl, inr, min}
-use Rattle.std.proofs.lemmas.Bool.{cases_lt, lt-ltb, le-ltb, ltb-true, ltb-false}
+use Rattle.std.proofs.lemmas.Bool.{cases_lt}
 use Rattle.std.proofs.lemmas.List.{get_or-take, get_or-drop, length-take, length-drop}
 use Rattle.std.proofs.lemmas.Nat.{le-div}
 use Rattle.std.proofs.Math.Nat.{add-div_right, div-eq_of_lt}
 use Rattle.pbd_num.specs.Vectors.{zero_vector}
 use Rattle.pbd_world.specs.declared.parts.Particle.{Particle}
-use Rattle.pbd_world.specs.declared.bond.Bond.{Bond}
-use Rattle.pbd_world.specs.declared.bond.End.{End}
 use Rattle.pbd_world.specs.Ledger.{Ledger, Entry, booked}
 use Rattle.pbd_world.specs.Particles.{particle_at}
-use Rattle.pbd_world.specs.Bonds.{correction_of, is_slack, shift_of}
-use Rattle.pbd_lanes.specs.Lane.{is_set}
-use Rattle.pbd_store.specs.Gathering.{index_at}
 use Rattle.pbd_store.specs.Blocks.{blocks_of}
 use Rattle.pbd_pair.specs.declared.bonds.Bonds.{Bonds}
 use Rattle.pbd_pair.specs.Bonds.{bond_of, bond_count, IsBond}
 use Rattle.pbd_store.specs.Moving.{fixed_parts, Weigh}
 use Rattle.pbd_pair.specs.Projecting.{IsBatch, ShareNone}
-use Rattle.pbd_pair.specs.Lanes.{settled}
+use Rattle.pbd_pair.specs.Lanes.{settled, number_in}
 use Rattle.pbd_store.proofs.Fixed.{same_length}
-
--- a correction doesn't depend on which particles a bond names
-pub same_drawn : (limit : ℤ) (p q : End) (b c : Bond) → b.rest ≡ c.rest → b.k ≡ c.k → b.contact ≡ c.contact → correction_of limit p q b ≡ correction_of limit p q c
-unfolding correction_of is_slack shift_of
-same_drawn limit p q b c er ek ec = λ i. correction_of limit p q (record { a = b.a; b = b.b; rest = er i; k = ek i; contact = ec i })
 
 -- equal entries make equal ledgers
 pub settled_same : (moving : ℕ → Bool) (e f : ℕ → List Entry) (n : ℕ) (t : Ledger) → ((k : ℕ) → k < n → e k ≡ f k) → settled moving e n t ≡ settled moving f n t
@@ -85,32 +75,16 @@ weigh_same ps qs e h = record {
 
 -- ---- a block in lanes
 
--- lane k of a block of l lanes is named by its bond
-pub record IsNamed (l : ℕ) (block : List ℕ) (B : ℕ → Bond) (is js : List ℕ) (set : List Bool) : Type 0 where
-  pub short : length block ≤ l
-  pub a : (k : ℕ) → k < length block → index_at is k ≡ (B k).a
-  pub b : (k : ℕ) → k < length block → index_at js k ≡ (B k).b
-  pub filled : (k : ℕ) → k < l → is_set set k ≡ nat_lt k (length block)
+module _ {limit : ℤ} {n : ℕ} {bonds : Bonds} {block : List ℕ} (some : 0 < length block) (h : IsBatch limit n bonds block) where
+  -- a lane with a bond of its own
+  pub own_number : (j : ℕ) → j < length block → number_in block j ≡ get_or block j 0
+  own_number j p = let e : min j (length block - 1) ≡ j = omega arith in ap (λ k. get_or block k 0) e
 
-module _ {l : ℕ} {block : List ℕ} {B : ℕ → Bond} {a b : List ℕ} {filled : List Bool} (h : IsNamed l block B a b filled) where
-  pub filled_below : (k : ℕ) → k < l → IsTrue (is_set filled k) → k < length block
-  filled_below k p t = ltb-true k (length block) (sym (h.filled k p) ∙ t)
+  pub number_known : (j : ℕ) → number_in block j < bond_count bonds
+  number_known j = h.numbers (min j (length block - 1)) (omega arith)
 
-  pub filled_at : (k : ℕ) → k < length block → is_set filled k ≡ true
-  filled_at k p = h.filled k (omega (arith, h.short)) ∙ lt-ltb k (length block) p
-
-  pub empty_at : (k : ℕ) → length block ≤ k → k < l → is_set filled k ≡ false
-  empty_at k q p = h.filled k p ∙ le-ltb k (length block) q
-
-  pub le_of_unset : (k : ℕ) → k < l → is_set filled k ≡ false → length block ≤ k
-  le_of_unset k p t = ltb-false k (length block) (sym (h.filled k p) ∙ t)
-
-  -- what the gathers ask
-  pub firsts_within : (size : ℕ) → ((k : ℕ) → k < length block → (B k).a < size) → (k : ℕ) → k < l → k < length block → index_at a k < size
-  firsts_within size f k p q = omega (arith, h.a k q, f k q)
-
-  pub seconds_within : (size : ℕ) → ((k : ℕ) → k < length block → (B k).b < size) → (k : ℕ) → k < l → k < length block → index_at b k < size
-  seconds_within size f k p q = omega (arith, h.b k q, f k q)
+  pub bond_known : (j : ℕ) → IsBond limit n (bond_of bonds (number_in block j))
+  bond_known j = h.bond (min j (length block - 1)) (omega arith)
 
 pub not_not : (b : Bool) → not (not b) ≡ b
 not_not true = refl

@@ -55,11 +55,11 @@ moved_lane : (s t : Shift) (stays within m o : Bool) → stays ≡ within → m 
 moved_lane s t stays true m o ew em eo et = (em ∙ ew, (eo ∙ ap not ew, et))
 moved_lane s t stays false m o ew em eo et = (em ∙ ew, eo ∙ ap not ew)
 
-drawn_lane : (limit : ℤ) (s t : Shift) (slack draws stays m o : Bool) → draws ≡ not slack → stays ≡ (is_within limit t.first && is_within limit t.second) → m ≡ (draws && stays) → o ≡ (draws && not stays) → t ≡ s → Lays (cond slack Slack (cond (is_within limit s.first && is_within limit s.second) (Moves s) Leaves)) m o t
+drawn_lane : (limit : ℤ) (s t : Shift) (slack draws stays m o : Bool) → draws ≡ not slack → stays ≡ (is_within limit t.first && is_within limit t.second) → m ≡ (draws && stays) → o ≡ (draws && not stays) → (draws ≡ true → t ≡ s) → Lays (cond slack Slack (cond (is_within limit s.first && is_within limit s.second) (Moves s) Leaves)) m o t
 drawn_lane limit s t true draws stays m o ed es em eo et = (em ∙ ap (λ (x : Bool). x && stays) ed, eo ∙ ap (λ (x : Bool). x && not stays) ed)
-drawn_lane limit s t false draws stays m o ed es em eo et = moved_lane s t stays (is_within limit s.first && is_within limit s.second) m o (es ∙ ap (λ (x : Shift). is_within limit x.first && is_within limit x.second) et) (em ∙ ap (λ (x : Bool). x && stays) ed) (eo ∙ ap (λ (x : Bool). x && not stays) ed) et
+drawn_lane limit s t false draws stays m o ed es em eo et = moved_lane s t stays (is_within limit s.first && is_within limit s.second) m o (es ∙ ap (λ (x : Shift). is_within limit x.first && is_within limit x.second) (et ed)) (em ∙ ap (λ (x : Bool). x && stays) ed) (eo ∙ ap (λ (x : Bool). x && not stays) ed) (et ed)
 
-pub lays_by_steps : (limit : ℤ) (p q : End) (b : Bond) (t : Shift) (draws stays m o : Bool) → draws ≡ not (is_slack p q b) → stays ≡ (is_within limit t.first && is_within limit t.second) → m ≡ (draws && stays) → o ≡ (draws && not stays) → t ≡ shift_of p q b → Lays (correction_of limit p q b) m o t
+pub lays_by_steps : (limit : ℤ) (p q : End) (b : Bond) (t : Shift) (draws stays m o : Bool) → draws ≡ not (is_slack p q b) → stays ≡ (is_within limit t.first && is_within limit t.second) → m ≡ (draws && stays) → o ≡ (draws && not stays) → (draws ≡ true → t ≡ shift_of p q b) → Lays (correction_of limit p q b) m o t
 unfolding correction_of
 lays_by_steps limit p q b t draws stays m o ed es em eo et = drawn_lane limit (shift_of p q b) t (is_slack p q b) draws stays m o ed es em eo et
 
@@ -67,16 +67,13 @@ pub slack_lane : (p q : End) (b : Bond) (d : Vec3) (len : ℤ) (draws : Bool) �
 unfolding is_slack
 slack_lane p q b d len draws ed el e = e ∙ (λ i. not (b.contact && int_le b.rest ((el ∙ ap (λ (v : Vec3). pos (length_of v)) ed) i)))
 
-pub sound_by_steps : (limit : ℤ) (t : Shift) (draws stays m : Bool) → pos 0 ≤ℤ limit → stays ≡ (is_within limit t.first && is_within limit t.second) → m ≡ (draws && stays) → Within (2 ^ 31) t.first_move → Within (2 ^ 31) t.second_move → m ≡ true → IsSoundShift limit t
-sound_by_steps limit t draws stays m low es em h1 h2 is =
-    let kept = and_parts draws stays (sym em ∙ is) in
-    let both = and_parts (is_within limit t.first) (is_within limit t.second) (sym es ∙ kept.1) in
-    record {
-      first = (within_facts limit t.first low).0 both.0;
-      second = (within_facts limit t.second low).0 both.1;
-      first_move = h1;
-      second_move = h2;
-    }
+pub sound_within : (limit : ℤ) (t : Shift) → pos 0 ≤ℤ limit → is_within limit t.first ≡ true → is_within limit t.second ≡ true → Within (2 ^ 31) t.first_move → Within (2 ^ 31) t.second_move → IsSoundShift limit t
+sound_within limit t low e1 e2 h1 h2 = record {
+  first = (within_facts limit t.first low).0 e1;
+  second = (within_facts limit t.second low).0 e2;
+  first_move = h1;
+  second_move = h2;
+}
 
 -- ---- the widest limit
 
@@ -122,3 +119,7 @@ turned_short v e h = subst (λ (w : Vec3). Within (2 ^ 31) w) (sym e) (record {
 
 pub length_under : {len : ℤ} (d : Vec3) → len ≡ pos (length_of d) → Within (2 ^ 30) d → len <ℤ pos (2 ^ 31)
 length_under d e h = subst (λ (z : ℤ). z <ℤ pos (2 ^ 31)) (sym e) (omega (arith, ints, length_below d h))
+
+-- no length is below 0
+pub never_below : (len : ℤ) → pos 0 <ℤ len → int_lt len (pos 0) ≡ false
+never_below len h = grind (arith, ints, h)

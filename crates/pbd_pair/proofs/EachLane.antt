@@ -1,8 +1,9 @@
 -- Lanes filled one by one with corrections.
-use Rattle.std.proofs.Common.{◌≡◌, ℕ, ◌+◌, ◌<◌, ℤ, List, length, get_or, Bool, true, false, refl, sym, ◌∙◌, arith, inl, inr, subst}
+use Rattle.std.proofs.Common.{◌≡◌, ℕ, ◌+◌, ◌<◌, ℤ, List, length, get_or, replicate, Bool, true, false, refl, sym, ◌∙◌, arith, inl, inr, subst}
 use Rattle.std.specs.Prelude.{slice_set}
-use Rattle.std.proofs.lemmas.Bool.{false≢true}
-use Rattle.std.proofs.lemmas.List.{get_or-set_same, get_or-set_other, length-set}
+use Rattle.std.proofs.lemmas.Bool.{cases_lt, false≢true}
+use Rattle.std.proofs.lemmas.List.{get_or-set_same, get_or-set_other, get_or-replicate, length-set, length-replicate}
+use Rattle.std.proofs.Math.ListN.{get_or-eq_default}
 use Rattle.pbd_num.specs.declared.Vec3.{Vec3}
 use Rattle.pbd_num.specs.Vectors.{zero_vector}
 use Rattle.pbd_world.specs.declared.bond.Shift.{Shift}
@@ -65,3 +66,10 @@ pub moved_is_sound : (limit : ℤ) (c : Correction) (m o : Bool) (t : Shift) →
 moved_is_sound limit Slack m o t l s e = absurd (false≢true (sym l.0 ∙ e))
 moved_is_sound limit Leaves m o t l s e = absurd (false≢true (sym l.0 ∙ e))
 moved_is_sound limit (Moves v) m o t l s e = subst (λ (x : Shift). IsSoundShift limit x) (sym l.1.1) s
+
+-- a mask that isn't set anywhere
+pub none_yet : (n k : ℕ) → is_set (replicate n false) k ≡ false
+none_yet n k = elim (cases_lt k n) [
+  | inl p ↦ get_or-replicate n k false false p
+  | inr q ↦ get_or-eq_default (replicate n false) false (omega (arith, length-replicate n false))
+]

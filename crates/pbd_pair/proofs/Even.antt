@@ -1,14 +1,15 @@
 -- Ends of even weights: one is held, or both move oppositely.
-use Rattle.std.proofs.Common.{◌≡◌, ℕ, ◌+◌, ◌<◌, ℤ, pos, ◌≤ℤ◌, ◌<ℤ◌, int_lt, int_le, Bool, true, false, not, ◌&&◌, refl, ap, sym, ◌∙◌, arith, unsigned_abs}
+use Rattle.std.proofs.Common.{◌≡◌, ℕ, ◌+◌, ◌*◌, ◌<◌, ℤ, pos, ◌*ℤ◌, ◌≤ℤ◌, ◌<ℤ◌, int_lt, Bool, true, false, refl, ap, sym, ◌∙◌, arith, unsigned_abs}
 use Rattle.std.proofs.lemmas.Int.{ints}
 use Rattle.pbd_num.specs.declared.Vec3.{Vec3}
 use Rattle.pbd_num.specs.Vectors.{opposite, zero_vector}
-use Rattle.pbd_num.specs.PairMove.{shares}
+use Rattle.pbd_num.specs.Rounding.{rdiv}
+use Rattle.pbd_num.specs.PairMove.{share_of, shares}
 use Rattle.pbd_num.proofs.Signs.{share_none}
 use Rattle.pbd_num.proofs.Sizes.{positive_above}
 use Rattle.pbd_world.specs.declared.bond.Shift.{Shift}
 use Rattle.pbd_lanes.specs.Lane.{AreEven}
-use Rattle.pbd_pair.specs.Lanes.{Opposed}
+use Rattle.pbd_pair.specs.Lanes.{Opposed, Rests}
 
 above : (z : ℤ) → int_lt (pos 0) z ≡ true → pos 0 <ℤ z
 above z t = grind (arith, ints, t)
@@ -53,7 +54,28 @@ opposed_by_weights s k w v p q t h ep eq e1 e2 =
       second_held = λ g. e2 ∙ held_share s k v total h.second_low some (sym eq ∙ g);
     }
 
--- a bond that draws
-pub drawing : (contact : Bool) (rest len : ℤ) → (contact ≡ true → len <ℤ rest) → true ≡ not (contact && int_le rest len)
-drawing true rest len h = let l = h refl in grind (arith, ints, l)
-drawing false rest len h = refl
+-- ends that are drawn by no stiffness
+
+zero_times : (z : ℤ) → pos 0 *ℤ z ≡ pos 0
+zero_times z = omega (arith, ints)
+
+times_zero : (z : ℤ) → z *ℤ pos 0 ≡ pos 0
+times_zero z = omega (arith, ints)
+
+idle_product : (s w : ℤ) → (s *ℤ pos 0) *ℤ w ≡ (s *ℤ pos 0) *ℤ pos 0
+idle_product s w = ap (λ x. x *ℤ w) (times_zero s) ∙ zero_times w ∙ sym (times_zero (s *ℤ pos 0))
+
+idle_share : (s w : ℤ) (total : ℕ) → 0 < total → share_of s (pos 0) w total ≡ pos 0
+idle_share s w total h = ap (λ x. rdiv x (pos (256 * total))) (idle_product s w) ∙ share_none s (pos 0) total h
+
+idle_shares : (s : Vec3) (w : ℤ) (total : ℕ) → 0 < total → shares s (pos 0) w total ≡ zero_vector
+idle_shares s w total h = λ i. record { x = idle_share s.x w total h i; y = idle_share s.y w total h i; z = idle_share s.z w total h i }
+
+pub rests_by_stiffness : (s : Vec3) (k w v : ℤ) (t : Shift) → AreEven w v → k ≡ pos 0 → t.first_move ≡ opposite (shares s k w (unsigned_abs w + unsigned_abs v)) → t.second_move ≡ shares s k v (unsigned_abs w + unsigned_abs v) → Rests t
+rests_by_stiffness s k w v t h ek e1 e2 =
+    let total = unsigned_abs w + unsigned_abs v in
+    let some = even_total w v h in
+    record {
+      first = e1 ∙ ap opposite (ap (λ x. shares s x w total) ek ∙ idle_shares s w total some);
+      second = e2 ∙ ap (λ x. shares s x v total) ek ∙ idle_shares s v total some;
+    }

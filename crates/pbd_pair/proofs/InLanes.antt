@@ -50,59 +50,24 @@ module _ {l : ℕ} (ends : Ends l) (ps : List Particle) (is : List ℕ) (set : L
       let w = axis (λ p. pos (effective_weight p)) ew ∙ cond-true (is_set set j) (pos (effective_weight p)) (pos 0) t in
       λ i. record { at = record { x = x i; y = y i; z = z i }; weight = w i }
 
-  -- and in any other
-  end_empty : is_set set j ≡ false → ◌≡◌ {A = End} (end_in ends j) (record { at = zero_vector; weight = pos 0 })
-  end_empty t =
-      let p = particle_at ps (index_at is j) in
-      let x = axis (λ p. p.at.x) ex ∙ cond-false (is_set set j) p.at.x (pos 0) t in
-      let y = axis (λ p. p.at.y) ey ∙ cond-false (is_set set j) p.at.y (pos 0) t in
-      let z = axis (λ p. p.at.z) ez ∙ cond-false (is_set set j) p.at.z (pos 0) t in
-      let w = axis (λ p. pos (effective_weight p)) ew ∙ cond-false (is_set set j) (pos (effective_weight p)) (pos 0) t in
-      λ i. record { at = record { x = x i; y = y i; z = z i }; weight = w i }
-
-  pub is_end_in : (limit : ℤ) → (IsTrue (is_set set j) → index_at is j < length ps) → AreInside limit ps → Weigh ps → IsEnd limit (end_in ends j)
-  is_end_in limit within inside weights = by_case (is_set set j) refl where
-    by_case : (b : Bool) → is_set set j ≡ b → IsEnd limit (end_in ends j)
-    by_case true t =
-        let i = index_at is j in
-        subst (λ (e : End). IsEnd limit e) (sym (end_gathered t)) (record {
-          at = inside.each i (within t);
-          low = omega (arith, ints);
-          high = omega (arith, ints, light_case (particle_at ps i).held (particle_at ps i).weight (weights.high i (within t)));
-        })
-    by_case false t =
-        subst (λ (e : End). IsEnd limit e) (sym (end_empty t)) (record {
-          at = record { x = omega arith; y = omega arith; z = omega arith };
-          low = omega (arith, ints);
-          high = omega (arith, ints);
-        })
+-- a particle as an end
+pub end_sound : (limit : ℤ) (ps : List Particle) (i : ℕ) {e : End} → e ≡ end_of (particle_at ps i) → i < length ps → AreInside limit ps → Weigh ps → IsEnd limit e
+end_sound limit ps i ee within inside weights =
+    subst (λ (x : End). IsEnd limit x) (sym ee) (record {
+      at = inside.each i within;
+      low = omega (arith, ints);
+      high = omega (arith, ints, light_case (particle_at ps i).held (particle_at ps i).weight (weights.high i within));
+    })
 
 -- ---- masks
 
-and_true : (b : Bool) → (b && true) ≡ b
-and_true true = refl
-and_true false = refl
+pub and_set : (b : Bool) → (b && true) ≡ b
+and_set true = refl
+and_set false = refl
 
-and_false : (b : Bool) → (b && false) ≡ false
-and_false true = refl
-and_false false = refl
-
-both_left : (a b : Bool) → (a && b) ≡ true → a ≡ true
-both_left true b e = refl
-both_left false b e = e
-
-module _ (n : ℕ) (xs ys zs : List Bool) (j : ℕ) (e : xs ≡ lanes_of n (λ k. is_set ys k && is_set zs k)) (h : j < n) where
-  both : is_set xs j ≡ (is_set ys j && is_set zs j)
-  both = lane_is false n (λ k. is_set ys k && is_set zs k) j e h
-
-  pub masked : is_set zs j ≡ true → is_set xs j ≡ is_set ys j
-  masked t = both ∙ ap (λ (b : Bool). is_set ys j && b) t ∙ and_true (is_set ys j)
-
-  pub unmasked : is_set zs j ≡ false → is_set xs j ≡ false
-  unmasked t = both ∙ ap (λ (b : Bool). is_set ys j && b) t ∙ and_false (is_set ys j)
-
-  pub set_in : is_set xs j ≡ true → is_set ys j ≡ true
-  set_in t = both_left (is_set ys j) (is_set zs j) (sym both ∙ t)
+pub and_unset : (b : Bool) → (b && false) ≡ false
+and_unset true = refl
+and_unset false = refl
 
 -- ---- what a lane holds
 
@@ -114,28 +79,6 @@ pub lays_sound : (limit : ℤ) (c : Correction) (m o : Bool) (t : Shift) → Lay
 lays_sound limit Slack m o t l h = tt
 lays_sound limit Leaves m o t l h = tt
 lays_sound limit (Moves s) m o t l h = subst (λ (x : Shift). IsSoundShift limit x) l.1.1 (h l.0)
-
--- ---- what a lane's bond is drawn to
-
-pub drawn_same : (limit : ℤ) (b c : Bond) → b.rest ≡ c.rest → b.k ≡ c.k → IsDrawn limit c → IsDrawn limit b
-drawn_same limit b c er ek d = record {
-  rest_low = subst (λ (z : ℤ). pos 0 ≤ℤ z) (sym er) d.rest_low;
-  rest_high = subst (λ (z : ℤ). z ≤ℤ (pos 4 *ℤ limit)) (sym er) d.rest_high;
-  k_low = subst (λ (z : ℤ). pos 0 ≤ℤ z) (sym ek) d.k_low;
-  k_high = subst (λ (z : ℤ). z ≤ℤ pos 256) (sym ek) d.k_high;
-}
-
-drawn_none : (limit : ℤ) (b : Bond) → pos 0 ≤ℤ limit → b.rest ≡ pos 0 → b.k ≡ pos 0 → IsDrawn limit b
-drawn_none limit b h er ek = record {
-  rest_low = subst (λ (z : ℤ). pos 0 ≤ℤ z) (sym er) (omega (arith, ints));
-  rest_high = subst (λ (z : ℤ). z ≤ℤ (pos 4 *ℤ limit)) (sym er) (omega (arith, ints, h));
-  k_low = subst (λ (z : ℤ). pos 0 ≤ℤ z) (sym ek) (omega (arith, ints));
-  k_high = subst (λ (z : ℤ). z ≤ℤ pos 256) (sym ek) (omega (arith, ints));
-}
-
-pub drawn_in : (limit : ℤ) (b : Bond) (filled : Bool) → pos 0 ≤ℤ limit → (IsTrue filled → IsDrawn limit b) → (filled ≡ false → b.rest ≡ pos 0) → (filled ≡ false → b.k ≡ pos 0) → IsDrawn limit b
-drawn_in limit b true h d r k = d refl
-drawn_in limit b false h d r k = drawn_none limit b h (r refl) (k refl)
 
 -- ---- the first lane
 

@@ -1,16 +1,17 @@
 -- What a block moves whose free ends move oppositely.
-use Rattle.std.proofs.Common.{◌≡◌, ℕ, zero, suc, ◌<◌, ℤ, pos, neg_ℤ, ◌+ℤ◌, List, Bool, true, false, not, refl, ap, sym, ◌∙◌, arith}
+use Rattle.std.proofs.Common.{◌≡◌, ℕ, zero, suc, ◌*◌, ◌<◌, ◌≤◌, ◌^◌, ℤ, pos, neg_ℤ, ◌+ℤ◌, List, Bool, true, false, not, cond, refl, ap, sym, ◌∙◌, arith, inl, inr}
 use Rattle.std.proofs.lemmas.Int.{ints}
-use Rattle.std.proofs.lemmas.Bool.{cond-true}
+use Rattle.std.proofs.lemmas.Bool.{cases_lt, cond-false}
 use Rattle.pbd_num.specs.declared.Vec3.{Vec3}
-use Rattle.pbd_num.specs.Vectors.{plus, opposite, zero_vector}
+use Rattle.pbd_num.specs.Vectors.{Within, plus, opposite, zero_vector}
+use Rattle.pbd_num.proofs.Sizes.{size-add}
 use Rattle.pbd_world.specs.declared.bond.Shift.{Shift}
 use Rattle.pbd_world.specs.declared.totals.Class.{Class}
 use Rattle.pbd_world.specs.declared.totals.Class.TheVariants as classes
 use Rattle.pbd_world.specs.Ledger.{Sum, Ledger, Entry, sum_plus, added, booked}
 use Rattle.pbd_world.specs.Bonds.{entries_of}
 use Rattle.pbd_lanes.specs.Lane.{sum_below}
-use Rattle.pbd_pair.specs.Lanes.{settled, Opposed}
+use Rattle.pbd_pair.specs.Lanes.{settled, Opposed, Rests}
 
 then_both : (s v w : ℤ) → (s +ℤ v) +ℤ w ≡ s +ℤ (v +ℤ w)
 then_both s v w = omega (arith, ints)
@@ -83,14 +84,50 @@ abbrev pub moved_below : (ℕ → Shift) → ℕ → Vec3
 moved_below m zero = zero_vector
 moved_below m (suc n) = plus (moved_below m n) (plus (m n).first_move (m n).second_move)
 
-pub pinned_all : (t : Ledger) (class : ℕ → Class) (moving p q : ℕ → Bool) (m : ℕ → Shift) (n : ℕ) → ((k : ℕ) → k < n → moving k ≡ true) → ((k : ℕ) → k < n → Opposed (p k) (q k) (m k)) → settled moving (λ k. entries_of (not (p k)) (not (q k)) (class k) (m k)) n t ≡ added t classes.Pin (moved_below m n)
-pinned_all t class moving p q m zero h o = sym (ap (λ (s : Sum). record t { pin = s }) (sum_none t.pin))
-pinned_all t class moving p q m (suc n) h o =
-    let entries : ℕ → List Entry = λ k. entries_of (not (p k)) (not (q k)) (class k) (m k) in
-    let before : settled moving entries n t ≡ pinned t (moved_below m n) = pinned_all t class moving p q m n (λ k l. h k (omega arith)) (λ k l. o k (omega arith)) in
-    cond-true (moving n) (booked (settled moving entries n t) (entries n)) (settled moving entries n t) (h n (omega arith))
-    ∙ ap (λ (u : Ledger). booked u (entries n)) before
-    ∙ pinned_more t (moved_below m n) (class n) (p n) (q n) (m n) (o n (omega arith))
+-- one bond more, which rests where it doesn't move
+pinned_next : (t u : Ledger) (s : Vec3) (class : Class) (p q : Bool) (m : Shift) (moves : Bool) → u ≡ pinned t s → Opposed p q m → (moves ≡ false → Rests m) → cond moves (booked u (entries_of (not p) (not q) class m)) u ≡ pinned t (plus s (plus m.first_move m.second_move))
+pinned_next t u s class p q m true e o r = ap (λ (x : Ledger). booked x (entries_of (not p) (not q) class m)) e ∙ pinned_more t s class p q m o
+pinned_next t u s class p q m false e o r =
+    let h = r refl in
+    e ∙ ap (pinned t) (sym ((λ i. plus s (plus (h.first i) (h.second i))) ∙ both_none s))
+
+-- all of them
+pub pinned_all : (t : Ledger) (class : ℕ → Class) (moving p q : ℕ → Bool) (m : ℕ → Shift) (n : ℕ) → ((k : ℕ) → k < n → Opposed (p k) (q k) (m k)) → ((k : ℕ) → k < n → moving k ≡ false → Rests (m k)) → settled moving (λ k. entries_of (not (p k)) (not (q k)) (class k) (m k)) n t ≡ added t classes.Pin (moved_below m n)
+pinned_all t class moving p q m zero o r = sym (ap (λ (s : Sum). record t { pin = s }) (sum_none t.pin))
+pinned_all t class moving p q m (suc n) o r =
+    pinned_next t (settled moving (λ k. entries_of (not (p k)) (not (q k)) (class k) (m k)) n t) (moved_below m n) (class n) (p n) (q n) (m n) (moving n)
+    (pinned_all t class moving p q m n (λ k l. o k (omega arith)) (λ k l. r k (omega arith))) (o n (omega arith)) (r n (omega arith))
+
+-- lanes that don't move add nothing
+pub settled_past : (moving : ℕ → Bool) (entries : ℕ → List Entry) (n m : ℕ) (t : Ledger) → n ≤ m → ((k : ℕ) → n ≤ k → k < m → moving k ≡ false) → settled moving entries m t ≡ settled moving entries n t
+settled_past moving entries n zero t l h = let z : n ≡ 0 = omega arith in ap (λ x. settled moving entries x t) (sym z)
+settled_past moving entries n (suc m) t l h = elim (cases_lt n (suc m)) [
+  | inl q ↦ cond-false (moving m) (booked (settled moving entries m t) (entries m)) (settled moving entries m t) (h m (omega arith) (omega arith)) ∙ settled_past moving entries n m t (omega arith) (λ k a b. h k a (omega arith))
+  | inr q ↦ (let z : n ≡ suc m = omega arith in ap (λ x. settled moving entries x t) (sym z))
+]
+
+pub moved_past : (m : ℕ → Shift) (n l : ℕ) → n ≤ l → ((k : ℕ) → n ≤ k → k < l → Rests (m k)) → moved_below m l ≡ moved_below m n
+moved_past m n zero p h = let z : n ≡ 0 = omega arith in ap (moved_below m) (sym z)
+moved_past m n (suc l) p h = elim (cases_lt n (suc l)) [
+  | inl q ↦ (let r = h l (omega arith) (omega arith) in (λ i. plus (moved_below m l) (plus (r.first i) (r.second i))) ∙ both_none (moved_below m l) ∙ moved_past m n l (omega arith) (λ k a b. h k a (omega arith)))
+  | inr q ↦ (let z : n ≡ suc l = omega arith in ap (moved_below m) (sym z))
+]
+
+-- how much n bonds move at most
+pub moved_short : (m : ℕ → Shift) (n : ℕ) → ((k : ℕ) → k < n → Within (2 ^ 31) (m k).first_move) → ((k : ℕ) → k < n → Within (2 ^ 31) (m k).second_move) → Within (n * 2 ^ 32) (moved_below m n)
+moved_short m zero h1 h2 = record { x = omega arith; y = omega arith; z = omega arith }
+moved_short m (suc n) h1 h2 =
+    let before = moved_short m n (λ k p. h1 k (omega arith)) (λ k p. h2 k (omega arith)) in
+    let s = moved_below m n in
+    let v = (m n).first_move in
+    let w = (m n).second_move in
+    let f = h1 n (omega arith) in
+    let g = h2 n (omega arith) in
+    record {
+      x = omega (arith, size-add s.x (v.x +ℤ w.x), size-add v.x w.x, before.x, f.x, g.x);
+      y = omega (arith, size-add s.y (v.y +ℤ w.y), size-add v.y w.y, before.y, f.y, g.y);
+      z = omega (arith, size-add s.z (v.z +ℤ w.z), size-add v.z w.z, before.z, f.z, g.z);
+    }
 
 pub moved_is : (m : ℕ → Shift) (n : ℕ) → moved_below m n ≡ record {
   x = sum_below (λ k. (m k).first_move.x +ℤ (m k).second_move.x) n;
@@ -99,3 +136,6 @@ pub moved_is : (m : ℕ → Shift) (n : ℕ) → moved_below m n ≡ record {
 }
 moved_is m zero = refl
 moved_is m (suc n) = ap (λ (v : Vec3). plus v (plus (m n).first_move (m n).second_move)) (moved_is m n)
+
+pub plus_zero : (v : Vec3) → plus v zero_vector ≡ v
+plus_zero v = λ i. record { x = then_none v.x i; y = then_none v.y i; z = then_none v.z i }

@@ -1,5 +1,5 @@
 -- Two scatters of a block leave what its bonds leave one by one.
-use Rattle.std.proofs.Common.{◌≡◌, ℕ, zero, suc, ◌<◌, ◌≤◌, ◌⊎◌, ℤ, List, length, Bool, true, false, IsTrue, ap, sym, ◌∙◌, arith, inl, inr, subst}
+use Rattle.std.proofs.Common.{◌≡◌, ℕ, zero, suc, ◌<◌, ◌≤◌, ◌⊎◌, ℤ, List, length, Bool, true, false, IsTrue, refl, ap, sym, ◌∙◌, arith, inl, inr, subst}
 use Rattle.std.proofs.lemmas.Bool.{cases_eq, cases_lt, false≢true}
 use Rattle.std.proofs.lemmas.List.{ext_get_or}
 use Rattle.pbd_num.specs.declared.Vec3.{Vec3}
@@ -50,19 +50,25 @@ module _ (f : ℕ → ℕ) (n l : ℕ) (is : List ℕ) (set : List Bool) (xs ys 
   pub no_lane : (i : ℕ) → ((k : ℕ) → k < n → f k ≡ i → ⊥) → particle_at new i ≡ particle_at old i
   no_lane i g = s.others i (λ j p t e. g j (below j p t) (sym (named j (below j p t)) ∙ e))
 
--- what one end becomes
-first_of_lays : (c : Correction) (set out : Bool) (t : Shift) (p q : Particle) → Lays c set out t → (set ≡ true → q ≡ record p { at = t.first }) → (set ≡ false → q ≡ p) → q ≡ first_by c p
-first_of_lays Slack set out t p q l hit miss = miss l.0
-first_of_lays Leaves set out t p q l hit miss = miss l.0
-first_of_lays (Moves s) set out t p q l hit miss = hit l.0 ∙ ap (λ (x : Shift). record p { at = x.first }) l.1.1
+-- what one end becomes, where a lane that is written and doesn't move is written as it is
+first_of_lays : (c : Correction) (moves out w : Bool) (t : Shift) (p q : Particle) → Lays c moves out t → (w ≡ true → q ≡ record p { at = t.first }) → (w ≡ false → q ≡ p) → (w ≡ false → moves ≡ false) → (moves ≡ false → w ≡ true → t.first ≡ p.at) → q ≡ first_by c p
+first_of_lays Slack moves out true t p q l hit miss all still = hit refl ∙ ap (λ (x : Vec3). record p { at = x }) (still l.0 refl)
+first_of_lays Slack moves out false t p q l hit miss all still = miss refl
+first_of_lays Leaves moves out true t p q l hit miss all still = hit refl ∙ ap (λ (x : Vec3). record p { at = x }) (still l.0 refl)
+first_of_lays Leaves moves out false t p q l hit miss all still = miss refl
+first_of_lays (Moves s) moves out true t p q l hit miss all still = hit refl ∙ ap (λ (x : Shift). record p { at = x.first }) l.1.1
+first_of_lays (Moves s) moves out false t p q l hit miss all still = absurd (false≢true (sym (all refl) ∙ l.0))
 
-second_of_lays : (c : Correction) (set out : Bool) (t : Shift) (p q : Particle) → Lays c set out t → (set ≡ true → q ≡ record p { at = t.second }) → (set ≡ false → q ≡ p) → q ≡ second_by c p
-second_of_lays Slack set out t p q l hit miss = miss l.0
-second_of_lays Leaves set out t p q l hit miss = miss l.0
-second_of_lays (Moves s) set out t p q l hit miss = hit l.0 ∙ ap (λ (x : Shift). record p { at = x.second }) l.1.1
+second_of_lays : (c : Correction) (moves out w : Bool) (t : Shift) (p q : Particle) → Lays c moves out t → (w ≡ true → q ≡ record p { at = t.second }) → (w ≡ false → q ≡ p) → (w ≡ false → moves ≡ false) → (moves ≡ false → w ≡ true → t.second ≡ p.at) → q ≡ second_by c p
+second_of_lays Slack moves out true t p q l hit miss all still = hit refl ∙ ap (λ (x : Vec3). record p { at = x }) (still l.0 refl)
+second_of_lays Slack moves out false t p q l hit miss all still = miss refl
+second_of_lays Leaves moves out true t p q l hit miss all still = hit refl ∙ ap (λ (x : Vec3). record p { at = x }) (still l.0 refl)
+second_of_lays Leaves moves out false t p q l hit miss all still = miss refl
+second_of_lays (Moves s) moves out true t p q l hit miss all still = hit refl ∙ ap (λ (x : Shift). record p { at = x.second }) l.1.1
+second_of_lays (Moves s) moves out false t p q l hit miss all still = absurd (false≢true (sym (all refl) ∙ l.0))
 
 -- two scatters of a block leave what its bonds leave one by one
-module _ (limit : ℤ) (B : ℕ → Bond) (n l : ℕ) (ps qs mid new : List Particle) (is js : List ℕ) (set : List Bool) (xs ys zs us vs ws : List ℤ) (out : ℕ → Bool) (shift : ℕ → Shift) (short : n ≤ l) (bonds : (k : ℕ) → k < n → IsBond limit (length ps) (B k)) (apart : (i k : ℕ) → i < k → k < n → ShareNone (B i) (B k)) (firsts : (k : ℕ) → k < n → index_at is k ≡ (B k).a) (seconds : (k : ℕ) → k < n → index_at js k ≡ (B k).b) (unset : (k : ℕ) → n ≤ k → k < l → is_set set k ≡ false) (at_first : (k : ℕ) → (shift k).first ≡ place_of xs ys zs k) (at_second : (k : ℕ) → (shift k).second ≡ place_of us vs ws k) (lays : (k : ℕ) → k < n → Lays (correction_at limit ps (B k)) (is_set set k) (out k) (shift k)) (s : Scattered l is set xs ys zs ps mid) (t : Scattered l js set us vs ws mid new) (g : Together limit B n ps qs) where
+module _ (limit : ℤ) (B : ℕ → Bond) (n l : ℕ) (ps qs mid new : List Particle) (is js : List ℕ) (set : List Bool) (xs ys zs us vs ws : List ℤ) (moves out : ℕ → Bool) (shift : ℕ → Shift) (short : n ≤ l) (bonds : (k : ℕ) → k < n → IsBond limit (length ps) (B k)) (apart : (i k : ℕ) → i < k → k < n → ShareNone (B i) (B k)) (firsts : (k : ℕ) → k < n → index_at is k ≡ (B k).a) (seconds : (k : ℕ) → k < n → index_at js k ≡ (B k).b) (unset : (k : ℕ) → n ≤ k → k < l → is_set set k ≡ false) (at_first : (k : ℕ) → (shift k).first ≡ place_of xs ys zs k) (at_second : (k : ℕ) → (shift k).second ≡ place_of us vs ws k) (lays : (k : ℕ) → k < n → Lays (correction_at limit ps (B k)) (moves k) (out k) (shift k)) (all : (k : ℕ) → k < n → is_set set k ≡ false → moves k ≡ false) (first_still : (k : ℕ) → k < n → moves k ≡ false → is_set set k ≡ true → (shift k).first ≡ (particle_at ps (B k).a).at) (second_still : (k : ℕ) → k < n → moves k ≡ false → is_set set k ≡ true → (shift k).second ≡ (particle_at ps (B k).b).at) (s : Scattered l is set xs ys zs ps mid) (t : Scattered l js set us vs ws mid new) (g : Together limit B n ps qs) where
   -- the ends of two of the bonds differ
   cross : (i k : ℕ) → i < n → k < n → (B i).b ≡ (B k).a → ⊥
   cross i k h p e = elim (cases_eq i k) [
@@ -71,17 +77,21 @@ module _ (limit : ℤ) (B : ℕ → Bond) (n l : ℕ) (ps qs mid new : List Part
   ]
 
   mid_first : (k : ℕ) → k < n → particle_at mid (B k).a ≡ first_by (correction_at limit ps (B k)) (particle_at ps (B k).a)
-  mid_first k h = first_of_lays (correction_at limit ps (B k)) (is_set set k) (out k) (shift k) (particle_at ps (B k).a) (particle_at mid (B k).a) (lays k h)
+  mid_first k h = first_of_lays (correction_at limit ps (B k)) (moves k) (out k) (is_set set k) (shift k) (particle_at ps (B k).a) (particle_at mid (B k).a) (lays k h)
       (λ e. lane_set (λ m. (B m).a) n l is set xs ys zs ps mid short firsts (λ i j p q. (apart i j p q).aa) unset s k h e ∙ ap (λ (x : Vec3). record (particle_at ps (B k).a) { at = x }) (sym (at_first k)))
       (λ e. lane_unset (λ m. (B m).a) n l is set xs ys zs ps mid short firsts (λ i j p q. (apart i j p q).aa) unset s k h e)
+      (all k h)
+      (first_still k h)
 
   mid_other : (i : ℕ) → ((k : ℕ) → k < n → (B k).a ≡ i → ⊥) → particle_at mid i ≡ particle_at ps i
   mid_other i f = no_lane (λ m. (B m).a) n l is set xs ys zs ps mid short firsts (λ i j p q. (apart i j p q).aa) unset s i f
 
   new_second : (k : ℕ) → k < n → particle_at new (B k).b ≡ second_by (correction_at limit ps (B k)) (particle_at mid (B k).b)
-  new_second k h = second_of_lays (correction_at limit ps (B k)) (is_set set k) (out k) (shift k) (particle_at mid (B k).b) (particle_at new (B k).b) (lays k h)
+  new_second k h = second_of_lays (correction_at limit ps (B k)) (moves k) (out k) (is_set set k) (shift k) (particle_at mid (B k).b) (particle_at new (B k).b) (lays k h)
       (λ e. lane_set (λ m. (B m).b) n l js set us vs ws mid new short seconds (λ i j p q. (apart i j p q).bb) unset t k h e ∙ ap (λ (x : Vec3). record (particle_at mid (B k).b) { at = x }) (sym (at_second k)))
       (λ e. lane_unset (λ m. (B m).b) n l js set us vs ws mid new short seconds (λ i j p q. (apart i j p q).bb) unset t k h e)
+      (all k h)
+      (λ m e. second_still k h m e ∙ ap (λ (x : Particle). x.at) (sym (mid_other (B k).b (λ i p e. cross k i h p (sym e)))))
 
   new_other : (i : ℕ) → ((k : ℕ) → k < n → (B k).b ≡ i → ⊥) → particle_at new i ≡ particle_at mid i
   new_other i f = no_lane (λ m. (B m).b) n l js set us vs ws mid new short seconds (λ i j p q. (apart i j p q).bb) unset t i f

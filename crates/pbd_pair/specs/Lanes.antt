@@ -1,7 +1,7 @@
 -- Bonds side by side, lane by lane.
-use Rattle.std.specs.Prelude.{◌≡◌, ℕ, zero, suc, ◌<◌, ◌≤◌, ℤ, ◌+ℤ◌, Bool, true, false, IsTrue, not, if◌then◌else◌, List, length, slice_index_or}
+use Rattle.std.specs.Prelude.{◌≡◌, ℕ, zero, suc, ◌<◌, ◌≤◌, ◌-◌, ◌^◌, min, ℤ, pos, ◌+ℤ◌, Bool, true, false, int_lt, nat_lt, not, if◌then◌else◌, List, length, slice_index_or}
 use Rattle.pbd_lanes.specs.Lane.{lane, is_set, sum_below}
-use Rattle.pbd_num.specs.Vectors.{opposite, zero_vector}
+use Rattle.pbd_num.specs.Vectors.{plus, opposite, zero_vector}
 use Rattle.pbd_num.specs.declared.Vec3.{Vec3}
 use Rattle.pbd_world.specs.declared.parts.Particle.{Particle}
 use Rattle.pbd_world.specs.declared.bond.Bond.{Bond}
@@ -11,13 +11,14 @@ use Rattle.pbd_world.specs.declared.bond.Correction.{Correction}
 use Rattle.pbd_world.specs.declared.bond.Correction.TheVariants.{Slack, Leaves, Moves}
 use Rattle.pbd_world.specs.Ledger.{Ledger, Entry, booked}
 use Rattle.pbd_world.specs.Particles.{particle_at}
-use Rattle.pbd_world.specs.Bonds.{correction_at}
+use Rattle.pbd_world.specs.Bonds.{correction_at, correction_of, end_of}
 use Rattle.pbd_store.specs.Blocks.{place_of}
 use Rattle.pbd_store.specs.Gathering.{index_at}
 use Rattle.pbd_store.specs.declared.lanes3.Ends.{Ends}
 use Rattle.pbd_store.specs.declared.lanes3.Lanes3.{Lanes3}
 use Rattle.pbd_pair.specs.Bonds.{IsSoundShift}
-use Rattle.pbd_pair.specs.declared.laid.BondTargets.{BondTargets}
+use Rattle.pbd_pair.specs.declared.named.BlockBonds.{BlockBonds}
+use Rattle.pbd_pair.specs.declared.laid.BlockEnds.{BlockEnds}
 use Rattle.pbd_pair.specs.declared.laid.BlockMoves.{BlockMoves}
 
 -- the place in lane j
@@ -28,9 +29,30 @@ place_in v j = place_of v.x v.y v.z j
 abbrev pub end_in : {l : ℕ} → Ends l → ℕ → End
 end_in ends j = record { at = place_of ends.at.x ends.at.y ends.at.z j; weight = lane ends.weight j }
 
--- the bond in lane j, without its particles
-abbrev pub bond_in : {l : ℕ} → BondTargets l → ℕ → Bond
-bond_in d j = record { a = 0; b = 0; rest = lane d.rest j; k = lane d.k j; contact = is_set d.contact j }
+-- the number of lane j in a block: its own, or the last
+abbrev pub number_in : List ℕ → ℕ → ℕ
+number_in block j = slice_index_or block (min j (length block - 1)) 0
+
+-- the length from which on a bond does nothing: no length is 2^31
+abbrev pub reach_of : Bool → Bond → ℤ
+reach_of own b = if own then (if b.contact then b.rest else pos (2 ^ 31)) else pos 0
+
+-- lane j has what a bond is drawn to, and its reach, if it is the lane's own
+pub record Holds {l : ℕ} (named : BlockBonds l) (j : ℕ) (own : Bool) (b : Bond) : Type 0 where
+  pub rest : lane named.rest j ≡ b.rest
+  pub k : lane named.k j ≡ b.k
+  pub reach : lane named.reach j ≡ reach_of own b
+
+-- the lanes of a block: lane j names the ends of its bond and holds it
+pub record IsNamed {l : ℕ} (bond : ℕ → Bond) (block : List ℕ) (named : BlockBonds l) : Type 0 where
+  pub first : (j : ℕ) → j < l → index_at named.a j ≡ (bond (number_in block j)).a
+  pub second : (j : ℕ) → j < l → index_at named.b j ≡ (bond (number_in block j)).b
+  pub holds : (j : ℕ) → j < l → Holds named j (nat_lt j (length block)) (bond (number_in block j))
+
+-- the ends of the bonds of a block, in their lanes
+pub record AreGathered {l : ℕ} (ps : List Particle) (bond : ℕ → Bond) (block : List ℕ) (ends : BlockEnds l) : Type 0 where
+  pub first : (j : ℕ) → j < l → end_in ends.first j ≡ end_of (particle_at ps (bond (number_in block j)).a)
+  pub second : (j : ℕ) → j < l → end_in ends.second j ≡ end_of (particle_at ps (bond (number_in block j)).b)
 
 -- the shift in lane j
 abbrev pub shift_in : {l : ℕ} → BlockMoves l → ℕ → Shift
@@ -52,11 +74,38 @@ abbrev pub settled : (ℕ → Bool) → (ℕ → List Entry) → ℕ → Ledger 
 settled moving entries zero t = t
 settled moving entries (suc n) t = if moving n then booked (settled moving entries n t) (entries n) else settled moving entries n t
 
--- both ends of a lane that moves: two free ends move oppositely, and a held one stays
+-- both ends of a lane: two free ends move oppositely, and a held one stays
 pub record Opposed (first_free second_free : Bool) (t : Shift) : Type 0 where
   pub both_free : first_free ≡ true → second_free ≡ true → t.first_move ≡ opposite t.second_move
   pub first_held : first_free ≡ false → t.first_move ≡ zero_vector
   pub second_held : second_free ≡ false → t.second_move ≡ zero_vector
+
+-- both ends stay
+pub record Rests (t : Shift) : Type 0 where
+  pub first : t.first_move ≡ zero_vector
+  pub second : t.second_move ≡ zero_vector
+
+-- lanes that do what the bonds of a block do with these ends. Those without a bond do nothing
+pub record AreEach {l : ℕ} (limit : ℤ) (ends : BlockEnds l) (bond : ℕ → Bond) (block : List ℕ) (moves : BlockMoves l) : Type 0 where
+  pub lays : (k : ℕ) → k < length block → Lays (correction_of limit (end_in ends.first k) (end_in ends.second k) (bond (slice_index_or block k 0))) (is_set moves.moving k) (is_set moves.leaving k) (shift_in moves k)
+  pub sound : (k : ℕ) → k < length block → is_set moves.moving k ≡ true → IsSoundShift limit (shift_in moves k)
+  pub not_moving : (k : ℕ) → length block ≤ k → is_set moves.moving k ≡ false
+  pub not_leaving : (k : ℕ) → length block ≤ k → is_set moves.leaving k ≡ false
+  pub first_free : (k : ℕ) → k < l → is_set moves.first_free k ≡ int_lt (pos 0) (end_in ends.first k).weight
+  pub second_free : (k : ℕ) → k < l → is_set moves.second_free k ≡ int_lt (pos 0) (end_in ends.second k).weight
+
+-- lanes that do what their bonds do with these ends, where no bond would leave the limit
+pub record AreTogether {l : ℕ} (limit : ℤ) (ends : BlockEnds l) (named : BlockBonds l) (moves : BlockMoves l) : Type 0 where
+  pub lays : (j : ℕ) (b : Bond) → j < l → Holds named j true b → Lays (correction_of limit (end_in ends.first j) (end_in ends.second j) b) (is_set moves.moving j) (is_set moves.leaving j) (shift_in moves j)
+  pub not_moving : (j : ℕ) (b : Bond) → j < l → Holds named j false b → is_set moves.moving j ≡ false
+  pub not_leaving : (j : ℕ) → j < l → is_set moves.leaving j ≡ false
+  pub sound : (j : ℕ) → j < l → IsSoundShift limit (shift_in moves j)
+  pub first_free : (j : ℕ) → j < l → is_set moves.first_free j ≡ int_lt (pos 0) (end_in ends.first j).weight
+  pub second_free : (j : ℕ) → j < l → is_set moves.second_free j ≡ int_lt (pos 0) (end_in ends.second j).weight
+  pub first : (j : ℕ) → j < l → (shift_in moves j).first ≡ plus (end_in ends.first j).at (shift_in moves j).first_move
+  pub second : (j : ℕ) → j < l → (shift_in moves j).second ≡ plus (end_in ends.second j).at (shift_in moves j).second_move
+  pub rests : (j : ℕ) → j < l → is_set moves.moving j ≡ false → Rests (shift_in moves j)
+  pub opposed : (j : ℕ) → j < l → Opposed (is_set moves.first_free j) (is_set moves.second_free j) (shift_in moves j)
 
 -- what the ends of all l lanes move together
 abbrev pub moved_in : {l : ℕ} → BlockMoves l → Vec3
@@ -71,11 +120,8 @@ pub record IsLaid {l : ℕ} (limit : ℤ) (ps : List Particle) (bond : ℕ → B
   pub first : (k : ℕ) → k < length block → index_at firsts k ≡ (bond (slice_index_or block k 0)).a
   pub second : (k : ℕ) → k < length block → index_at seconds k ≡ (bond (slice_index_or block k 0)).b
   pub lays : (k : ℕ) → k < length block → Lays (correction_at limit ps (bond (slice_index_or block k 0))) (is_set moves.moving k) (is_set moves.leaving k) (shift_in moves k)
-  pub sound : (k : ℕ) → k < l → is_set moves.moving k ≡ true → IsSoundShift limit (shift_in moves k)
+  pub sound : (k : ℕ) → k < length block → is_set moves.moving k ≡ true → IsSoundShift limit (shift_in moves k)
   pub first_held : (k : ℕ) → k < length block → not (is_set moves.first_free k) ≡ (particle_at ps (bond (slice_index_or block k 0)).a).held
   pub second_held : (k : ℕ) → k < length block → not (is_set moves.second_free k) ≡ (particle_at ps (bond (slice_index_or block k 0)).b).held
   pub not_moving : (k : ℕ) → length block ≤ k → k < l → is_set moves.moving k ≡ false
   pub not_leaving : (k : ℕ) → length block ≤ k → k < l → is_set moves.leaving k ≡ false
-  pub lanes : length moves.leaving ≡ l
-  pub all_move : IsTrue moves.opposed → (k : ℕ) → k < length block → is_set moves.moving k ≡ true
-  pub opposed : IsTrue moves.opposed → (k : ℕ) → k < length block → Opposed (is_set moves.first_free k) (is_set moves.second_free k) (shift_in moves k)

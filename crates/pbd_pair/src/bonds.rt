@@ -16,6 +16,7 @@ impl Bonds<'_> {
     ghost use Rattle.pbd_pair.specs.Bonds.{bond_of, bond_count};
 
     /// Bond n.
+    #[inline(always)]
     pub fn get(&self, n: u32) -> Bond
         requires { n < bond_count self.now }
         ensures { result ≡ bond_of self.now n }

@@ -5,13 +5,15 @@ mod block;
 mod bonds;
 mod book;
 mod correct;
-mod gathered;
+mod each;
 mod laid;
 mod lanes;
+mod named;
 mod one;
 mod parts;
 mod projector;
 mod scalar;
+mod tried;
 mod wide;
 
 pub use bonds::Bonds;

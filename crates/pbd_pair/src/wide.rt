@@ -1,5 +1,5 @@
 // Numbers and places of L bonds, side by side. Each call says what it makes of each lane.
-ghost use Rattle.std.specs.Prelude.{◌≡◌, ℕ, ◌<◌, ◌≤◌, ◌^◌, ◌+◌, ◌*◌, pos, ◌+ℤ◌, ◌-ℤ◌, ◌*ℤ◌, ◌≤ℤ◌, ◌<ℤ◌, int_lt, IsTrue, unsigned_abs};
+ghost use Rattle.std.specs.Prelude.{◌≡◌, ℕ, ◌<◌, ◌≤◌, ◌^◌, ◌+◌, ◌*◌, pos, ◌+ℤ◌, ◌-ℤ◌, ◌*ℤ◌, ◌≤ℤ◌, ◌<ℤ◌, int_lt, IsTrue, unsigned_abs, if◌then◌else◌};
 ghost use Rattle.pbd_num.specs.Vectors.{Within, minus, plus, opposite, scaled, squared_length, length_of, is_within};
 ghost use Rattle.pbd_num.specs.PairMove.{corrections, shares as shares_of};
 ghost use Rattle.pbd_lanes.specs.Lane.{lane, is_set, AreEven};
@@ -194,4 +194,20 @@ pub(crate) fn above_zero<const L: usize>(n: &Lanes<L>) -> Mask<L>
     ensures { (j : ℕ) → j < L → is_set result j ≡ int_lt (pos 0) (lane n.now j) }
 {
     Lanes::splat(0).less(n)
+}
+
+/// Where a number is less than the other.
+#[inline(always)]
+pub(crate) fn less<const L: usize>(a: &Lanes<L>, b: &Lanes<L>) -> Mask<L>
+    ensures { (j : ℕ) → j < L → is_set result j ≡ int_lt (lane a.now j) (lane b.now j) }
+{
+    a.less(b)
+}
+
+/// The numbers where the mask is set, and 0 elsewhere.
+#[inline(always)]
+pub(crate) fn kept<const L: usize>(mask: &Mask<L>, n: &Lanes<L>) -> Lanes<L>
+    ensures { (j : ℕ) → j < L → lane result j ≡ (if is_set mask.now j then lane n.now j else pos 0) }
+{
+    Lanes::select(mask, n, &Lanes::splat(0))
 }

@@ -1,0 +1,102 @@
+// The bonds of a block, in lanes.
+ghost use Rattle.std.specs.Prelude.{◌≡◌, ℕ, ◌<◌, ◌≤◌, true, length, nat_lt};
+ghost use Rattle.pbd_lanes.specs.Lane.{is_set};
+ghost use Rattle.pbd_pair.specs.Bonds.{bond_of, bond_count};
+ghost use Rattle.pbd_pair.specs.Lanes.{number_in, reach_of, IsNamed};
+
+use crate::bonds::Bonds;
+use pbd_lanes::{Lanes, Mask};
+use pbd_world::Bond;
+
+/// The bonds of a block: their ends, what they are drawn to, and the lengths from which on they do nothing. A lane
+/// without a bond of its own has the block's last one, which does nothing at any length.
+#[derive(Drop)]
+pub(crate) struct BlockBonds<const L: usize> {
+    pub(crate) a: [u32; L],
+    pub(crate) b: [u32; L],
+    pub(crate) rest: Lanes<L>,
+    pub(crate) k: Lanes<L>,
+    pub(crate) reach: Lanes<L>,
+}
+
+// The number of the bond in lane j.
+#[inline(always)]
+fn number_at(block: &[u32], j: usize) -> u32
+    requires { 0 < length block.now }
+    ensures { result ≡ number_in block.now j }
+{
+    block[j.min(block.len() - 1)]
+}
+
+// The length from which on a bond does nothing. No length is 2^31.
+#[inline(always)]
+fn reach(bond: Bond, own: bool) -> i64
+    ensures { result ≡ reach_of own bond }
+{
+    if own {
+        if bond.contact {
+            bond.rest
+        } else {
+            2_147_483_648
+        }
+    } else {
+        0
+    }
+}
+
+/// All lanes.
+#[inline(always)]
+pub(crate) fn every_lane<const L: usize>() -> Mask<L>
+    ensures { (j : ℕ) → j < L → is_set result j ≡ true }
+{
+    Mask::from_array([true; L])
+}
+
+/// The first lanes.
+#[inline(always)]
+pub(crate) fn first_lanes<const L: usize>(count: usize) -> Mask<L>
+    ensures { (j : ℕ) → j < L → is_set result j ≡ nat_lt j count }
+{
+    let mut set = [false; L];
+    for j in 0..L {
+        set[j] = j < count;
+    }
+    Mask::from_array(set)
+}
+
+/// Lays the bonds of a block in lanes, of which those in `own` have a bond of their own.
+#[inline(always)]
+pub(crate) fn name_block<const L: usize>(
+    bonds: &Bonds<'_>,
+    block: &[u32],
+    own: &Mask<L>,
+) -> BlockBonds<L>
+    requires lanes { L ≤ 16 }
+    requires some { 0 < length block.now }
+    requires own { (j : ℕ) → j < L → is_set own.now j ≡ nat_lt j (length block.now) }
+    requires numbers { (j : ℕ) → j < L → number_in block.now j < bond_count bonds.now }
+    ensures { IsNamed (bond_of bonds.now) block.now result }
+{
+    let set = own.to_array();
+    let mut a = [0; L];
+    let mut b = [0; L];
+    let mut rest = [0; L];
+    let mut k = [0; L];
+    let mut reaches = [0; L];
+    for j in 0..L {
+        let n = number_at(block, j);
+        let bond = bonds.get(n);
+        a[j] = bond.a;
+        b[j] = bond.b;
+        rest[j] = bond.rest;
+        k[j] = bond.k;
+        reaches[j] = reach(bond, set[j]);
+    }
+    BlockBonds {
+        a,
+        b,
+        rest: Lanes::from_array(rest),
+        k: Lanes::from_array(k),
+        reach: Lanes::from_array(reaches),
+    }
+}
