@@ -1,5 +1,6 @@
 //! Each source and sink through its trait, with calls that fail once in mid-stream.
 use pbd_io::{Failed, MemSink, MemSource, Sink, Source, StdSink, StdSource, SureSink, SureSource};
+use std::alloc::{AllocError, Global};
 use std::io::{self, ErrorKind, Read, Write};
 use std::test::Fail;
 
@@ -51,10 +52,15 @@ impl<T: Write> Write for Halting<T> {
     }
 }
 
+/// A sink with room for 8 bytes that fails its second and its fourth call.
+fn failing_sink(alloc: Global) -> Result<MemSink, AllocError> {
+    let fails = [(2, 1), (4, 9), (2, 5)].to_vec(alloc)?;
+    MemSink::open(alloc, 8, fails)
+}
+
 #[test]
 fn a_sink_in_memory_fails_where_it_is_told(rt: HostRuntime) -> Result<(), Fail> {
-    let fails = [(2, 1), (4, 9), (2, 5)].to_vec(rt.alloc())?;
-    let mut sink = MemSink::open(rt.alloc(), 8, fails)?;
+    let mut sink = failing_sink(rt.alloc())?;
     let calls: [(&[u8], Result<(), Failed>, &[u8]); 8] = [
         (b"abc", Ok(()), b"abc"),
         (b"de", Err(Failed), b"abcd"),
@@ -69,14 +75,25 @@ fn a_sink_in_memory_fails_where_it_is_told(rt: HostRuntime) -> Result<(), Fail> 
         assert_eq!(rt; put(&mut sink, piece), answer, "at {piece:?}");
         assert_eq!(rt; sink.written(), holds, "after {piece:?}");
     }
+    drop(sink);
     Ok(())
+}
+
+/// A source of seven bytes, at most three a call, that fails its second and its fifth call.
+fn failing_source(alloc: Global) -> Result<MemSource, AllocError> {
+    let bytes = b"abcdefg".to_vec(alloc)?;
+    match [2, 5].to_vec(alloc) {
+        Ok(fails) => Ok(MemSource::new(bytes, 3, fails)),
+        Err(error) => {
+            drop(bytes);
+            Err(error)
+        }
+    }
 }
 
 #[test]
 fn a_source_in_memory_fails_where_it_is_told(rt: HostRuntime) -> Result<(), Fail> {
-    let bytes = b"abcdefg".to_vec(rt.alloc())?;
-    let fails = [2, 5].to_vec(rt.alloc())?;
-    let mut source = MemSource::new(bytes, 3, fails);
+    let mut source = failing_source(rt.alloc())?;
     let calls: [(usize, Result<usize, Failed>, &[u8]); 7] = [
         (4, Ok(3), b"abc."),
         (4, Err(Failed), b"...."),
@@ -95,6 +112,7 @@ fn a_source_in_memory_fails_where_it_is_told(rt: HostRuntime) -> Result<(), Fail
         );
         assert_eq!(rt; into.as_slice(), given, "into {room}");
     }
+    drop(source);
     Ok(())
 }
 

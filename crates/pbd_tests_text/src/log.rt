@@ -10,6 +10,8 @@ use pbd_io::{Failed, MemSink, Sink};
 use pbd_log::{Entry, LogWriter, answer_of, read_log};
 use pbd_num::Vec3;
 use pbd_world::{Command, FrameSums, Phase, Refusal, Reply};
+use std::alloc::{AllocError, Global};
+use std::process::Abort;
 use std::test::*;
 
 const SCENE: [u8; 53] = [
@@ -115,23 +117,51 @@ fn write_log<K: Sink>(
     writer.finish(sink)
 }
 
-#[test]
-fn writes_the_examples(rt: HostRuntime) -> Result<(), Fail> {
-    let mut sink = MemSink::open(rt.alloc(), 31, Vec::new(rt.alloc()))?;
-    write_log(&mut sink, 536_870_912, &[], &[frame()])
-        .ok()
-        .ok_or("small")?;
-    assert_eq!(rt; sink.written(), SMALL.as_slice());
-    let mut sink = MemSink::open(rt.alloc(), 158, Vec::new(rt.alloc()))?;
-    write_log(&mut sink, 536_870_912, &SCENE, &[step(), frame()])
-        .ok()
-        .ok_or("long")?;
-    assert_eq!(rt; sink.written(), LONG.as_slice());
-    Ok(())
+/// A sink with so much room, of which a call fails after so many bytes.
+fn failing(alloc: Global, room: usize, call: u64, taken: usize) -> Result<MemSink, AllocError> {
+    let fails = Vec::from_array(alloc, [(call, taken)])?;
+    MemSink::open(alloc, room, fails)
+}
+
+/// Whether writing a log comes to its end, or else fails, and the sink holds these bytes then.
+fn writes(mut sink: MemSink, scene: &[u8], entries: &[Entry], ends: bool, held: &[u8]) -> bool
+    requires scene { length scene.now < 2 ^ 32 }
+    requires grammar { All IsGrammatical entries.now }
+    requires room { length entries.now < 2 ^ 32 }
+{
+    let ended = write_log(&mut sink, 536_870_912, scene, entries).is_ok();
+    let same = ended == ends && sink.written() == held;
+    drop(sink);
+    same
 }
 
 #[test]
-fn reads_the_examples(rt: HostRuntime) -> Result<(), Fail> {
+fn writes_the_examples(rt: HostRuntime) -> Result<(), Fail> {
+    let sink = MemSink::open(rt.alloc(), 31, Vec::new(rt.alloc()))?;
+    assert!(rt; writes(sink, &[], &[frame()], true, SMALL.as_slice()));
+    let sink = MemSink::open(rt.alloc(), 158, Vec::new(rt.alloc()))?;
+    assert!(rt; writes(sink, &SCENE, &[step(), frame()], true, LONG.as_slice()));
+    Ok(())
+}
+
+/// Compares what is read of bytes with a version, a limit, a scene and the entries.
+fn compare_log(rt: &impl Abort, bytes: &[u8], head: (u8, i64), scene: &[u8], entries: &[Entry]) {
+    match read_log(bytes) {
+        Ok(mut view) => {
+            assert_eq!(rt; (view.version(), view.limit()), head);
+            assert_eq!(rt; view.scene(), scene);
+            for entry in entries {
+                assert_eq!(rt; view.next(), Some(*entry));
+            }
+            assert_eq!(rt; view.next(), None);
+            assert_eq!(rt; view.next(), None);
+        }
+        Err(fault) => assert!(rt; false, "refused at {}", fault.offset),
+    }
+}
+
+#[test]
+fn reads_the_examples(rt: HostRuntime) {
     let bad_count = Reply::Refused(Refusal::BadCount);
     let leaves = Reply::Refused(Refusal::LeavesRange {
         step: 1,
@@ -139,30 +169,16 @@ fn reads_the_examples(rt: HostRuntime) -> Result<(), Fail> {
         element: 0,
     });
     let whole = [step(), frame()];
-    let only_frame = [frame()];
     let refused_count = [kept(Command::Step(u64::MAX), &bad_count, STEP_SUMS)];
     let refused_step = [kept(Command::Step(1), &leaves, STEP_SUMS)];
-    let none: &[u8] = &[];
-    let table: [(&[u8], u8, i64, &[u8], &[Entry]); 6] = [
-        (&LONG, 2, 536_870_912, &SCENE, &whole),
-        (&SMALL, 2, 536_870_912, none, &only_frame),
-        (&OLD, 1, 268_435_456, &SCENE, &whole),
-        (&OLD_SMALL, 1, 268_435_456, none, &only_frame),
-        (&OLD_BAD_COUNT, 1, 268_435_456, none, &refused_count),
-        (&OLD_LEAVES, 1, 268_435_456, none, &refused_step),
-    ];
-    for (bytes, version, limit, scene, entries) in table {
-        let mut view = read_log(bytes).ok().ok_or("it is a log")?;
-        assert_eq!(rt; view.version(), version);
-        assert_eq!(rt; view.limit(), limit);
-        assert_eq!(rt; view.scene(), scene);
-        for entry in entries {
-            assert_eq!(rt; view.next(), Some(*entry));
-        }
-        assert_eq!(rt; view.next(), None);
-        assert_eq!(rt; view.next(), None);
-    }
-    Ok(())
+    let new = (2, 536_870_912);
+    let old = (1, 268_435_456);
+    compare_log(&rt, &LONG, new, &SCENE, &whole);
+    compare_log(&rt, &SMALL, new, &[], &[frame()]);
+    compare_log(&rt, &OLD, old, &SCENE, &whole);
+    compare_log(&rt, &OLD_SMALL, old, &[], &[frame()]);
+    compare_log(&rt, &OLD_BAD_COUNT, old, &[], &refused_count);
+    compare_log(&rt, &OLD_LEAVES, old, &[], &refused_step);
 }
 
 fn offset_of(bytes: &[u8]) -> Option<u64> {
@@ -265,19 +281,12 @@ fn refuses_bytes_after_the_end(rt: HostRuntime) {
     assert_eq!(rt; offset_of(&longer), Some(23));
 }
 
-#[test]
-fn reads_back_what_it_wrote(rt: HostRuntime) -> Result<(), Fail> {
+/// Each command, and a reply to it.
+fn commands_and_replies() -> [(Command, Reply); 13] {
     let to = Vec3 {
         x: i64::MIN,
         y: -1,
         z: i64::MAX,
-    };
-    let sums = FrameSums {
-        steps: u64::MAX,
-        live: u32::MAX,
-        contacts: 65_536,
-        at: [i64::MIN, -256, 1],
-        before: [i64::MAX, 0, -1],
     };
     let leaves = Refusal::LeavesRange {
         step: 1_000_000,
@@ -285,7 +294,7 @@ fn reads_back_what_it_wrote(rt: HostRuntime) -> Result<(), Fail> {
         element: 65_535,
     };
     let many = Refusal::TooManyContacts { step: u64::MAX };
-    let table: [(Command, Reply); 13] = [
+    [
         (Command::Step(u64::MAX), Reply::Refused(Refusal::BadCount)),
         (Command::Step(1), Reply::Done),
         (Command::Step(1), Reply::Refused(leaves)),
@@ -302,21 +311,49 @@ fn reads_back_what_it_wrote(rt: HostRuntime) -> Result<(), Fail> {
         (Command::Gravity(to), Reply::Done),
         (Command::Ledger, Reply::Ledger),
         (Command::Bad, Reply::Refused(Refusal::BadCommand)),
-    ];
+    ]
+}
+
+const FAR_SUMS: FrameSums = FrameSums {
+    steps: u64::MAX,
+    live: u32::MAX,
+    contacts: 65_536,
+    at: [i64::MIN, -256, 1],
+    before: [i64::MAX, 0, -1],
+};
+
+/// Writes a log of these commands and replies.
+fn write_replies<K: Sink>(sink: &mut K, table: &[(Command, Reply)]) -> Result<(), Failed>
+    requires { length table.now < 2 ^ 32 }
+{
+    let mut writer = LogWriter::begin(sink, 268_435_456, &[])?;
+    for (command, reply) in table {
+        let _ = writer.append(sink, &kept(*command, reply, FAR_SUMS));
+    }
+    writer.finish(sink)
+}
+
+/// Compares what is read of bytes with these commands and replies.
+fn compare_replies(rt: &impl Abort, bytes: &[u8], table: &[(Command, Reply)]) {
+    match read_log(bytes) {
+        Ok(mut view) => {
+            assert_eq!(rt; view.limit(), 268_435_456);
+            for (command, reply) in table {
+                assert_eq!(rt; view.next(), Some(kept(*command, reply, FAR_SUMS)));
+            }
+            assert_eq!(rt; view.next(), None);
+        }
+        Err(fault) => assert!(rt; false, "refused at {}", fault.offset),
+    }
+}
+
+#[test]
+fn reads_back_what_it_wrote(rt: HostRuntime) -> Result<(), Fail> {
+    let table = commands_and_replies();
     let mut sink = MemSink::open(rt.alloc(), 1000, Vec::new(rt.alloc()))?;
-    let mut writer = LogWriter::begin(&mut sink, 268_435_456, &[])
-        .ok()
-        .ok_or("begin")?;
-    for (command, reply) in &table {
-        let _ = writer.append(&mut sink, &kept(*command, reply, sums));
-    }
-    writer.finish(&mut sink).ok().ok_or("finish")?;
-    let mut view = read_log(sink.written()).ok().ok_or("it is a log")?;
-    assert_eq!(rt; view.limit(), 268_435_456);
-    for (command, reply) in &table {
-        assert_eq!(rt; view.next(), Some(kept(*command, reply, sums)));
-    }
-    assert_eq!(rt; view.next(), None);
+    assert!(rt; write_replies(&mut sink, &table).is_ok());
+    compare_replies(&rt, sink.written(), &table);
+    drop(sink);
     Ok(())
 }
 
@@ -333,32 +370,44 @@ fn stops_at_the_call_that_fails(rt: HostRuntime) -> Result<(), Fail> {
         (4, 2, 149),
         (5, 8, 157),
     ] {
-        let fails = Vec::from_array(rt.alloc(), [(call, taken)])?;
-        let mut sink = MemSink::open(rt.alloc(), 158, fails)?;
-        let result = write_log(&mut sink, 536_870_912, &SCENE, &[step(), frame()]);
-        assert!(rt; result.is_err(), "call {call}");
-        assert_eq!(rt; sink.written(), &LONG[..held], "call {call}");
-    }
-    for (call, held) in [(1, 0), (2, 20), (3, 22)] {
-        let fails = Vec::from_array(rt.alloc(), [(call, 0)])?;
-        let mut sink = MemSink::open(rt.alloc(), 31, fails)?;
-        assert!(rt; write_log(&mut sink, 536_870_912, &[], &[frame()]).is_err());
-        assert_eq!(rt; sink.written(), &SMALL[..held], "empty scene, call {call}");
+        let sink = failing(rt.alloc(), 158, call, taken)?;
+        let entries = [step(), frame()];
+        assert!(rt;
+            writes(sink, &SCENE, &entries, false, &LONG[..held]),
+            "call {call}"
+        );
     }
     Ok(())
+}
+
+#[test]
+fn stops_at_the_call_that_fails_of_an_empty_scene(rt: HostRuntime) -> Result<(), Fail> {
+    for (call, held) in [(1, 0), (2, 20), (3, 22)] {
+        let sink = failing(rt.alloc(), 31, call, 0)?;
+        assert!(rt;
+            writes(sink, &[], &[frame()], false, &SMALL[..held]),
+            "call {call}"
+        );
+    }
+    Ok(())
+}
+
+/// Writes a frame again whose first append fails.
+fn append_again<K: Sink>(sink: &mut K) -> Result<(), Failed> {
+    let mut writer = LogWriter::begin(sink, 536_870_912, &[])?;
+    if writer.append(sink, &frame()).is_ok() {
+        return Err(Failed);
+    }
+    writer.append(sink, &frame())?;
+    writer.finish(sink)
 }
 
 // After an append that failed the end has the number of the entries that were written.
 #[test]
 fn goes_on_after_a_failed_append(rt: HostRuntime) -> Result<(), Fail> {
-    let fails = Vec::from_array(rt.alloc(), [(2, 0)])?;
-    let mut sink = MemSink::open(rt.alloc(), 31, fails)?;
-    let mut writer = LogWriter::begin(&mut sink, 536_870_912, &[])
-        .ok()
-        .ok_or("begin")?;
-    assert!(rt; writer.append(&mut sink, &frame()).is_err());
-    writer.append(&mut sink, &frame()).ok().ok_or("append")?;
-    writer.finish(&mut sink).ok().ok_or("finish")?;
+    let mut sink = failing(rt.alloc(), 31, 2, 0)?;
+    assert!(rt; append_again(&mut sink).is_ok());
     assert_eq!(rt; sink.written(), SMALL.as_slice());
+    drop(sink);
     Ok(())
 }

@@ -3,7 +3,6 @@ use crate::parts::{compare_links, empty_parts};
 use pbd_mesh::{ClothSpec, RopeSpec, cloth, rope};
 use pbd_num::Vec3;
 use pbd_world::Kind;
-use std::test::Fail;
 
 const LIMIT: i64 = 268_435_456;
 
@@ -34,10 +33,10 @@ const CORD: RopeSpec = RopeSpec {
 };
 
 #[test]
-fn cloth_has_the_links_of_its_kinds_in_order(rt: HostRuntime) -> Result<(), Fail> {
+fn cloth_has_the_links_of_its_kinds_in_order(rt: HostRuntime) {
     let mut parts = empty_parts(rt.alloc(), LIMIT);
     assert!(rt; SQUARE.fits(LIMIT));
-    cloth(rt.alloc(), &SQUARE, &mut parts)?;
+    assert_eq!(rt; cloth(rt.alloc(), &SQUARE, &mut parts), Ok(()));
     assert_eq!(rt; parts.particles.len(), 6);
     let wanted = [
         (Kind::Stretch, 0, 1, 100, 256, 7),
@@ -55,14 +54,14 @@ fn cloth_has_the_links_of_its_kinds_in_order(rt: HostRuntime) -> Result<(), Fail
         (Kind::Bend, 3, 5, 200, 64, 9),
     ];
     compare_links(&rt, parts.links.as_slice(), &wanted);
-    Ok(())
+    drop(parts);
 }
 
 #[test]
-fn rope_has_its_stretch_and_then_its_bend_links(rt: HostRuntime) -> Result<(), Fail> {
+fn rope_has_its_stretch_and_then_its_bend_links(rt: HostRuntime) {
     let mut parts = empty_parts(rt.alloc(), LIMIT);
     assert!(rt; CORD.fits(LIMIT));
-    rope(rt.alloc(), &CORD, &mut parts)?;
+    assert_eq!(rt; rope(rt.alloc(), &CORD, &mut parts), Ok(()));
     assert_eq!(rt; parts.particles.len(), 3);
     let wanted = [
         (Kind::Stretch, 0, 1, 100, 256, 0),
@@ -70,7 +69,7 @@ fn rope_has_its_stretch_and_then_its_bend_links(rt: HostRuntime) -> Result<(), F
         (Kind::Bend, 0, 2, 200, 64, 5),
     ];
     compare_links(&rt, parts.links.as_slice(), &wanted);
-    Ok(())
+    drop(parts);
 }
 
 fn with_reach(origin: i64, across: i64) -> ClothSpec {

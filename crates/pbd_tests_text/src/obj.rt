@@ -1,12 +1,15 @@
 //! Texts and their meshes, meshes and their links, and lines.
-ghost use Rattle.std.specs.Prelude.{◌≤◌};
+ghost use Rattle.std.specs.Prelude.{◌≡◌, ◌≤◌, ◌<◌, IsTrue, length, pos};
+ghost use Rattle.pbd_world.specs.Valid.{is_valid};
 
 use crate::parts::{compare_links, empty_parts};
 use pbd_io::MemSink;
 use pbd_num::{RANGE, Vec3, inside};
 use pbd_obj::{ObjFault, add_mesh, read_obj, write_face, write_vertex};
-use pbd_world::Kind;
-use std::alloc::Global;
+use pbd_world::{Kind, Parts};
+use std::alloc::{AllocError, Global};
+use std::fmt::Write;
+use std::process::Abort;
 use std::test::Fail;
 
 const SQUARE: &[u8] = b"v 0 0 0\nv 1 0 0\nv 1 1 0\nv 0 1 0\nf 1 2/7 -2//3 4\n";
@@ -15,8 +18,20 @@ fn place(x: i64, y: i64, z: i64) -> Vec3 {
     Vec3 { x, y, z }
 }
 
+/// The fault of a short text.
+fn fault_of(rt: &impl Abort, alloc: Global, text: &[u8]) -> Option<ObjFault> {
+    assert!(rt; text.len() < 1_000);
+    match read_obj(alloc, text) {
+        Ok(mesh) => {
+            drop(mesh);
+            None
+        }
+        Err(fault) => Some(fault),
+    }
+}
+
 #[test]
-fn texts_with_a_bad_vertex(rt: HostRuntime) -> Result<(), Fail> {
+fn texts_with_a_bad_vertex(rt: HostRuntime) {
     let texts: [(&[u8], ObjFault); 19] = [
         (b"v 1 2", ObjFault::BadNumber { line: 1 }),
         (b"v", ObjFault::BadNumber { line: 1 }),
@@ -45,16 +60,12 @@ fn texts_with_a_bad_vertex(rt: HostRuntime) -> Result<(), Fail> {
         ),
     ];
     for (text, fault) in texts {
-        match read_obj(rt.alloc(), text) {
-            Ok(_) => assert!(rt; false, "no fault of {text:?}"),
-            Err(found) => assert_eq!(rt; found, fault, "of {text:?}"),
-        }
+        assert_eq!(rt; fault_of(&rt, rt.alloc(), text), Some(fault), "of {text:?}");
     }
-    Ok(())
 }
 
 #[test]
-fn texts_with_a_bad_face(rt: HostRuntime) -> Result<(), Fail> {
+fn texts_with_a_bad_face(rt: HostRuntime) {
     let texts: [(&[u8], ObjFault); 13] = [
         (
             b"v 0 0 0\nv 0 0 9e3\nf 1 2 3",
@@ -104,16 +115,24 @@ fn texts_with_a_bad_face(rt: HostRuntime) -> Result<(), Fail> {
         ),
     ];
     for (text, fault) in texts {
-        match read_obj(rt.alloc(), text) {
-            Ok(_) => assert!(rt; false, "no fault of {text:?}"),
-            Err(found) => assert_eq!(rt; found, fault, "of {text:?}"),
-        }
+        assert_eq!(rt; fault_of(&rt, rt.alloc(), text), Some(fault), "of {text:?}");
     }
-    Ok(())
+}
+
+/// Compares the places that a short text gives.
+fn compare_places(rt: &impl Abort, alloc: Global, text: &[u8], places: &[Vec3]) {
+    assert!(rt; text.len() < 1_000);
+    match read_obj(alloc, text) {
+        Ok(mesh) => {
+            assert_eq!(rt; mesh.places.as_slice(), places, "of {text:?}");
+            drop(mesh);
+        }
+        Err(fault) => assert!(rt; false, "{fault:?} of {text:?}"),
+    }
 }
 
 #[test]
-fn decimals_and_their_units(rt: HostRuntime) -> Result<(), Fail> {
+fn decimals_and_their_units(rt: HostRuntime) {
     let texts: [(&[u8], i64); 20] = [
         (b"v 0.1 0 0", 6554),
         (b"v 1e-1 0 0", 6554),
@@ -137,39 +156,50 @@ fn decimals_and_their_units(rt: HostRuntime) -> Result<(), Fail> {
         (b"v 000000000000000000000001 0 0", 65_536),
     ];
     for (text, units) in texts {
-        match read_obj(rt.alloc(), text) {
-            Ok(mesh) => assert_eq!(rt;
-                mesh.places.as_slice(),
-                &[place(units, 0, 0)][..],
-                "of {text:?}"
-            ),
-            Err(fault) => assert!(rt; false, "{fault:?} of {text:?}"),
-        }
+        compare_places(&rt, rt.alloc(), text, &[place(units, 0, 0)]);
     }
-    Ok(())
 }
 
 #[test]
-fn a_square_is_read(rt: HostRuntime) -> Result<(), Fail> {
+fn a_square_is_read(rt: HostRuntime) {
     let places = [
         place(0, 0, 0),
         place(65_536, 0, 0),
         place(65_536, 65_536, 0),
         place(0, 65_536, 0),
     ];
-    match read_obj(rt.alloc(), SQUARE) {
+    compare_places(&rt, rt.alloc(), SQUARE, &places);
+    compare_faces(&rt, rt.alloc(), SQUARE, &[4], &[0, 1, 2, 3]);
+}
+
+/// What becomes of parts to which the mesh of a text is added.
+fn added(alloc: Global, text: &[u8], parts: &mut Parts) -> Result<(), ObjFault>
+    requires text { length text.now < 1000000 }
+    requires valid { IsTrue (is_valid parts.old) }
+    requires limit { parts.old.limit ≡ pos 536870912 }
+{
+    match read_obj(alloc, text) {
         Ok(mesh) => {
-            assert_eq!(rt; mesh.places.as_slice(), &places[..]);
-            assert_eq!(rt; mesh.sizes.as_slice(), &[4][..]);
-            assert_eq!(rt; mesh.corners.as_slice(), &[0, 1, 2, 3][..]);
+            let added = add_mesh(alloc, &mesh, parts);
+            drop(mesh);
+            added
         }
-        Err(fault) => assert!(rt; false, "{fault:?}"),
+        Err(fault) => Err(fault),
     }
-    Ok(())
+}
+
+/// The same of parts with nothing in them.
+fn added_alone(alloc: Global, text: &[u8]) -> Result<(), ObjFault>
+    requires { length text.now < 1000000 }
+{
+    let mut parts = empty_parts(alloc, RANGE);
+    let outcome = added(alloc, text, &mut parts);
+    drop(parts);
+    outcome
 }
 
 #[test]
-fn a_mesh_is_added_face_by_face(rt: HostRuntime) -> Result<(), Fail> {
+fn a_mesh_is_added_face_by_face(rt: HostRuntime) {
     let text = b"v 0 0 0\nv 1 0 0\nv 1 1 0\nv 0 1 0\nv 0.5 2 0\nf 1 2 3 4\nf 4 3 5\n";
     let wanted = [
         (Kind::Stretch, 0, 1, 65_536, 256, 0),
@@ -182,51 +212,66 @@ fn a_mesh_is_added_face_by_face(rt: HostRuntime) -> Result<(), Fail> {
         (Kind::Shear, 1, 3, 92_681, 256, 0),
     ];
     let mut parts = empty_parts(rt.alloc(), RANGE);
-    match read_obj(rt.alloc(), text) {
-        Ok(mesh) => assert_eq!(rt; add_mesh(rt.alloc(), &mesh, &mut parts), Ok(())),
-        Err(fault) => assert!(rt; false, "{fault:?}"),
-    }
+    assert_eq!(rt; added(rt.alloc(), text, &mut parts), Ok(()));
     assert_eq!(rt; parts.particles.len(), 5);
     compare_links(&rt, parts.links.as_slice(), &wanted);
-    Ok(())
+    drop(parts);
 }
 
-/// A fan of triangles round vertex 1: so many links meet there as it has outer vertices.
-fn fan(alloc: Global, outer: u32) -> Result<String, Fail>
+/// Writes a fan of triangles round vertex 1: so many links meet there as it has outer vertices.
+fn write_fan(text: &mut String, outer: u32) -> Result<(), AllocError>
     requires { outer ≤ 100 }
 {
-    let mut text = String::new(alloc);
     for _ in 0..=outer {
         text.push_str("v 0 0 0\n")?;
     }
     for i in 1..outer {
-        let second = i + 1;
-        let third = i + 2;
-        text.push_str(format!(in alloc; "f 1 {second} {third}\n")?.as_str())?;
-    }
-    Ok(text)
-}
-
-#[test]
-fn a_vertex_has_at_most_32_links(rt: HostRuntime) -> Result<(), Fail> {
-    for (outer, want) in [
-        (32, Ok(())),
-        (33, Err(ObjFault::TooManyAtParticle { vertex: 1 })),
-    ] {
-        let text = fan(rt.alloc(), outer)?;
-        let text = text.as_bytes();
-        assert!(rt; text.len() < 10_000);
-        let mut parts = empty_parts(rt.alloc(), RANGE);
-        match read_obj(rt.alloc(), text) {
-            Ok(mesh) => assert_eq!(rt; add_mesh(rt.alloc(), &mesh, &mut parts), want),
-            Err(fault) => assert!(rt; false, "{fault:?}"),
-        }
+        write!(text, "f 1 {} {}\n", i + 1, i + 2)?;
     }
     Ok(())
 }
 
+/// What becomes of no parts to which a fan is added.
+fn fan_added(rt: &impl Abort, alloc: Global, outer: u32) -> Result<(), ObjFault>
+    requires { outer ≤ 100 }
+{
+    let mut text = String::new(alloc);
+    let outcome = match write_fan(&mut text, outer) {
+        Ok(()) => {
+            let bytes = text.as_bytes();
+            assert!(rt; bytes.len() < 10_000);
+            added_alone(alloc, bytes)
+        }
+        Err(AllocError) => Err(ObjFault::OutOfMemory),
+    };
+    drop(text);
+    outcome
+}
+
 #[test]
-fn files_of_other_programs_are_read(rt: HostRuntime) -> Result<(), Fail> {
+fn a_vertex_has_at_most_32_links(rt: HostRuntime) {
+    assert_eq!(rt; fan_added(&rt, rt.alloc(), 32), Ok(()));
+    assert_eq!(rt;
+        fan_added(&rt, rt.alloc(), 33),
+        Err(ObjFault::TooManyAtParticle { vertex: 1 })
+    );
+}
+
+/// Compares the sizes and the corners that a short text gives.
+fn compare_faces(rt: &impl Abort, alloc: Global, text: &[u8], sizes: &[u32], corners: &[u32]) {
+    assert!(rt; text.len() < 1_000);
+    match read_obj(alloc, text) {
+        Ok(mesh) => {
+            assert_eq!(rt; mesh.sizes.as_slice(), sizes, "of {text:?}");
+            assert_eq!(rt; mesh.corners.as_slice(), corners, "of {text:?}");
+            drop(mesh);
+        }
+        Err(fault) => assert!(rt; false, "{fault:?} of {text:?}"),
+    }
+}
+
+#[test]
+fn files_of_other_programs_are_read(rt: HostRuntime) {
     // A text, and the sizes and the corners of its faces.
     let texts: [(&[u8], &[u32], &[u32]); 6] = [
         (
@@ -253,39 +298,39 @@ fn files_of_other_programs_are_read(rt: HostRuntime) -> Result<(), Fail> {
         (b"\r\n\t\nfo 1 2 3\nV 1 2 x", &[], &[]),
     ];
     for (text, sizes, corners) in texts {
-        match read_obj(rt.alloc(), text) {
-            Ok(mesh) => {
-                assert_eq!(rt; mesh.sizes.as_slice(), sizes, "of {text:?}");
-                assert_eq!(rt; mesh.corners.as_slice(), corners, "of {text:?}");
-            }
-            Err(fault) => assert!(rt; false, "{fault:?} of {text:?}"),
-        }
+        compare_faces(&rt, rt.alloc(), text, sizes, corners);
     }
-    Ok(())
 }
 
-/// So many vertices at one place.
-fn vertices(alloc: Global, count: u32) -> Result<String, Fail> {
-    let mut text = String::new(alloc);
-    for _ in 0..count {
-        text.push_str("v 0 0 0\n")?;
+/// What becomes of no parts to which so many vertices at one place are added.
+fn vertices_added(rt: &impl Abort, alloc: Global, count: usize) -> Result<(), ObjFault> {
+    match "v 0 0 0\n".repeat(alloc, count) {
+        Ok(text) => {
+            let bytes = text.as_bytes();
+            assert!(rt; bytes.len() < 1_000_000);
+            let outcome = added_alone(alloc, bytes);
+            drop(text);
+            outcome
+        }
+        Err(_) => Err(ObjFault::OutOfMemory),
     }
-    Ok(text)
 }
 
 #[test]
-fn a_mesh_has_at_most_65536_vertices(rt: HostRuntime) -> Result<(), Fail> {
-    for (count, want) in [(65_536, Ok(())), (65_537, Err(ObjFault::TooMany))] {
-        let text = vertices(rt.alloc(), count)?;
-        let text = text.as_bytes();
-        assert!(rt; text.len() < 1_000_000);
-        let mut parts = empty_parts(rt.alloc(), RANGE);
-        match read_obj(rt.alloc(), text) {
-            Ok(mesh) => assert_eq!(rt; add_mesh(rt.alloc(), &mesh, &mut parts), want),
-            Err(fault) => assert!(rt; false, "{fault:?}"),
-        }
-    }
-    Ok(())
+fn a_mesh_has_at_most_65536_vertices(rt: HostRuntime) {
+    assert_eq!(rt; vertices_added(&rt, rt.alloc(), 65_536), Ok(()));
+    assert_eq!(rt;
+        vertices_added(&rt, rt.alloc(), 65_537),
+        Err(ObjFault::TooMany)
+    );
+}
+
+/// The line of a vertex, as it is written, compared with what it should be.
+fn compare_vertex(rt: &impl Abort, mut sink: MemSink, place: Vec3, line: &[u8]) {
+    assert!(rt; inside(place));
+    assert_eq!(rt; write_vertex(place, &mut sink), Ok(()));
+    assert_eq!(rt; sink.written(), line);
+    drop(sink);
 }
 
 #[test]
@@ -303,14 +348,18 @@ fn lines_of_a_mesh(rt: HostRuntime) -> Result<(), Fail> {
         (place(32_768, 655_360, 8), b"v 0.5 10 0.0001220703125\n"),
     ];
     for (place, line) in places {
-        let mut sink = MemSink::open(rt.alloc(), 100, Vec::new(rt.alloc()))?;
-        assert!(rt; inside(place));
-        assert_eq!(rt; write_vertex(place, &mut sink), Ok(()));
-        assert_eq!(rt; sink.written(), line);
+        let sink = MemSink::open(rt.alloc(), 100, Vec::new(rt.alloc()))?;
+        compare_vertex(&rt, sink, place, line);
     }
+    Ok(())
+}
+
+#[test]
+fn lines_of_faces(rt: HostRuntime) -> Result<(), Fail> {
     let mut sink = MemSink::open(rt.alloc(), 100, Vec::new(rt.alloc()))?;
     assert_eq!(rt; write_face(&[0, 3, 99], 0, &mut sink), Ok(()));
     assert_eq!(rt; write_face(&[0, 1, 2, 3], 10, &mut sink), Ok(()));
     assert_eq!(rt; sink.written(), &b"f 1 4 100\nf 11 12 13 14\n"[..]);
+    drop(sink);
     Ok(())
 }

@@ -2,8 +2,7 @@
 ghost use Rattle.std.specs.Prelude.{◌≡◌, [], IsTrue};
 ghost use Rattle.pbd_world.specs.Valid.{is_valid, is_limit};
 
-use pbd_num::Vec3;
-use pbd_world::{Kind, Link, List, Parts};
+use pbd_world::{Kind, Link, Parts};
 use std::alloc::Global;
 use std::process::Abort;
 
@@ -15,19 +14,7 @@ pub fn empty_parts(alloc: Global, limit: i64) -> Parts
     ensures limit { result.limit ≡ limit }
     ensures particles { result.particles ≡ [] }
 {
-    Parts {
-        particles: List::new(alloc),
-        links: List::new(alloc),
-        planes: List::new(alloc),
-        spheres: List::new(alloc),
-        tracks: List::new(alloc),
-        gravity: Vec3::ZERO,
-        passes: 1,
-        damping: 0,
-        thickness: 0,
-        friction: 0,
-        limit,
-    }
+    Parts::empty(alloc, limit)
 }
 
 /// Compares kind, ends, rest, stiffness and tear.

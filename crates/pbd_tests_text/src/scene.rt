@@ -1,9 +1,11 @@
 //! Scenes, each with the first rule that it breaks, and what an accepted one holds.
+use crate::parts::compare_links;
 use crate::scene_keys::key_cases;
 use pbd_scene::{SceneFault, read_scene};
-use pbd_world::Scene;
+use pbd_world::{Kind, Parts};
 use std::alloc::{AllocError, Global};
 use std::fmt::Write;
+use std::process::Abort;
 use std::test::Fail;
 
 const LIMIT: i64 = 536_870_912;
@@ -89,34 +91,60 @@ track=1; sphere=[2] => 4 sphere 0 -
 track=1 => 4 track 0 -"
 }
 
-fn told(alloc: Global, read: &Result<Scene, SceneFault>) -> Result<String, AllocError> {
-    match read {
-        Ok(_) => String::from_str(alloc, "ok"),
-        Err(SceneFault::NotToml) => String::from_str(alloc, "not toml"),
-        Err(SceneFault::OutOfMemory) => String::from_str(alloc, "out of memory"),
-        Err(
-            SceneFault::Refused {
-                rule,
-                table,
-                position,
-                key,
-            },
-        ) => format!(in alloc; "{} {} {} {}", rule.number(), table, position, key),
+/// What is told of a fault.
+fn told(alloc: Global, fault: SceneFault) -> Result<String, AllocError> {
+    match fault {
+        SceneFault::NotToml => String::from_str(alloc, "not toml"),
+        SceneFault::OutOfMemory => String::from_str(alloc, "out of memory"),
+        SceneFault::Refused {
+            rule,
+            table,
+            position,
+            key,
+        } => format!(in alloc; "{} {} {} {}", rule.number(), table, position, key),
     }
 }
 
-/// What is read of a scene whose lines end with `;`.
-fn found(alloc: Global, scene: &str) -> Result<String, AllocError> {
-    let text = scene.replace(alloc, ";", "\n")?;
-    let read = read_scene(alloc, text.as_str(), LIMIT);
-    told(alloc, &read)
+/// What is told of a text.
+fn told_of(alloc: Global, text: &str) -> Result<String, AllocError> {
+    match read_scene(alloc, text, LIMIT) {
+        Ok(scene) => {
+            drop(scene);
+            String::from_str(alloc, "ok")
+        }
+        Err(fault) => told(alloc, fault),
+    }
+}
+
+/// Whether this is told of a text.
+fn answers(alloc: Global, text: &str, answer: &str) -> Result<bool, AllocError> {
+    match told_of(alloc, text) {
+        Ok(told) => {
+            let same = told.as_str() == answer;
+            drop(told);
+            Ok(same)
+        }
+        Err(error) => Err(error),
+    }
+}
+
+/// Whether this is told of a scene whose lines end with `;`.
+fn answers_lines(alloc: Global, scene: &str, answer: &str) -> Result<bool, AllocError> {
+    match scene.replace(alloc, ";", "\n") {
+        Ok(text) => {
+            let same = answers(alloc, text.as_str(), answer);
+            drop(text);
+            same
+        }
+        Err(error) => Err(error),
+    }
 }
 
 #[test]
 fn the_first_broken_rule_is_told(rt: HostRuntime) -> Result<(), Fail> {
     for line in cases().lines() {
         let (scene, answer) = line.split_once(" => ").unwrap_or((line, "no answer"));
-        assert_eq!(rt; found(rt.alloc(), scene)?.as_str(), answer, "{scene}");
+        assert!(rt; answers_lines(rt.alloc(), scene, answer)?, "{line}");
     }
     Ok(())
 }
@@ -125,121 +153,180 @@ fn the_first_broken_rule_is_told(rt: HostRuntime) -> Result<(), Fail> {
 fn each_key_has_its_rules(rt: HostRuntime) -> Result<(), Fail> {
     for line in key_cases().lines() {
         let (scene, answer) = line.split_once(" => ").unwrap_or((line, "no answer"));
-        assert_eq!(rt; found(rt.alloc(), scene)?.as_str(), answer, "{scene}");
+        assert!(rt; answers_lines(rt.alloc(), scene, answer)?, "{line}");
     }
     Ok(())
 }
 
-/// A table with so many empty entries.
-fn empty_entries(alloc: Global, table: &str, count: u32) -> Result<String, AllocError> {
-    let mut text = String::from_str(alloc, table)?;
-    text.push_str("=[")?;
+/// Writes an array: its beginning, so many times an item, and its end.
+fn write_array(text: &mut String, begins: &str, item: &str, count: u32) -> Result<(), AllocError> {
+    text.push_str(begins)?;
     for _ in 0..count {
-        text.push_str("{},")?;
+        text.push_str(item)?;
     }
-    text.push_str("]")?;
-    Ok(text)
+    text.push_str("]")
+}
+
+/// What is told of a scene with such an array.
+fn array_answers(
+    alloc: Global,
+    begins: &str,
+    item: &str,
+    count: u32,
+    answer: &str,
+) -> Result<bool, AllocError> {
+    let mut text = String::new(alloc);
+    let same = match write_array(&mut text, begins, item, count) {
+        Ok(()) => answers(alloc, text.as_str(), answer),
+        Err(error) => Err(error),
+    };
+    drop(text);
+    same
 }
 
 #[test]
 fn entries_past_the_greatest_number_are_refused(rt: HostRuntime) -> Result<(), Fail> {
-    let tables = [
-        ("particle", 65_536, "6 particle 0 -"),
-        ("cloth", 64, "6 cloth 0 -"),
-        ("rope", 64, "6 rope 0 -"),
-        ("link", 524_288, "6 link 0 -"),
-        ("plane", 256, "6 plane 0 -"),
-        ("sphere", 256, "6 sphere 0 -"),
-        ("track", 4_096, "6 track 0 -"),
-    ];
-    for (table, most, answer) in tables {
-        let text = empty_entries(rt.alloc(), table, most + 1)?;
-        assert_eq!(rt;
-            found(rt.alloc(), text.as_str())?.as_str(),
-            answer,
-            "{table}"
+    for (begins, item, count, answer) in [
+        ("particle=[", "{},", 65_537, "6 particle 0 -"),
+        ("cloth=[", "{},", 65, "6 cloth 0 -"),
+        ("rope=[", "{},", 65, "6 rope 0 -"),
+        ("link=[", "{},", 524_289, "6 link 0 -"),
+        ("plane=[", "{},", 257, "6 plane 0 -"),
+        ("sphere=[", "{},", 257, "6 sphere 0 -"),
+        ("track=[", "{},", 4_097, "6 track 0 -"),
+        ("pins=[", "0,", 65_537, "6 scene 0 pins"),
+    ] {
+        assert!(rt;
+            array_answers(rt.alloc(), begins, item, count, answer)?,
+            "{begins}"
         );
     }
-    let mut pins = String::from_str(rt.alloc(), "pins=[")?;
-    for _ in 0..65_537 {
-        pins.push_str("0,")?;
-    }
-    pins.push_str("]")?;
-    assert_eq!(rt;
-        found(rt.alloc(), pins.as_str())?.as_str(),
-        "6 scene 0 pins"
-    );
     Ok(())
 }
 
-/// A particle, and a second track with so many keys, one at each step from 0 on.
-fn many_keys(alloc: Global, count: u32) -> Result<String, AllocError> {
-    let mut text = String::from_str(
-        alloc,
-        "particle=[{at=[0,0,0]},{at=[0,0,0]}]\ntrack=[{particle=0,keys=[[0,0,0,0]]},{particle=1,keys=[",
-    )?;
+/// Writes two particles, and a second track with so many keys, one at each step from 0 on.
+fn write_keys(text: &mut String, count: u32) -> Result<(), AllocError> {
+    text.push_str("particle=[{at=[0,0,0]},{at=[0,0,0]}]\n")?;
+    text.push_str("track=[{particle=0,keys=[[0,0,0,0]]},{particle=1,keys=[")?;
     for step in 0..count {
         write!(text, "[{step},0,0,0],")?;
     }
-    text.push_str("]}]")?;
-    Ok(text)
+    text.push_str("]}]")
+}
+
+/// Whether this is told of a scene with so many keys.
+fn keys_answer(alloc: Global, count: u32, answer: &str) -> Result<bool, AllocError> {
+    let mut text = String::new(alloc);
+    let same = match write_keys(&mut text, count) {
+        Ok(()) => answers(alloc, text.as_str(), answer),
+        Err(error) => Err(error),
+    };
+    drop(text);
+    same
 }
 
 #[test]
 fn keys_past_the_greatest_number_are_refused(rt: HostRuntime) -> Result<(), Fail> {
-    for (count, answer) in [(1_024, "ok"), (1_025, "6 track 1 keys")] {
-        let text = many_keys(rt.alloc(), count)?;
-        assert_eq!(rt; found(rt.alloc(), text.as_str())?.as_str(), answer);
+    assert!(rt; keys_answer(rt.alloc(), 1_024, "ok")?);
+    assert!(rt; keys_answer(rt.alloc(), 1_025, "6 track 1 keys")?);
+    Ok(())
+}
+
+/// Writes links from each of the first particles to the one so many numbers on.
+fn write_links(text: &mut String, apart: u32, count: u16) -> Result<(), AllocError> {
+    for i in 0..count {
+        write!(text, "{{a={i},b={}}},", u32::from(i).saturating_add(apart))?;
     }
     Ok(())
 }
 
-/// A cloth of 390,658 links, and 133,630 links more, or one more than that.
-fn many_links(alloc: Global, last: u16) -> Result<String, AllocError> {
-    let mut text = String::from_str(
-        alloc,
+/// Writes a cloth of 390,658 links, and 131,064 links more and then so many.
+fn write_cloth_and_links(text: &mut String, last: u16) -> Result<(), AllocError> {
+    text.push_str(
         "cloth=[{origin=[0,0,0],across=[9,0,0],down=[0,0,9],rows=256,columns=256}]\nlink=[",
     )?;
-    for (apart, count) in [(3u16, 65_533u16), (5, 65_531), (7, last)] {
-        for i in 0..count {
-            write!(text, "{{a={i},b={}}},", u32::from(i) + u32::from(apart))?;
-        }
-    }
-    text.push_str("]")?;
-    Ok(text)
+    write_links(text, 3, 65_533)?;
+    write_links(text, 5, 65_531)?;
+    write_links(text, 7, last)?;
+    text.push_str("]")
+}
+
+/// Whether this is told of a scene with so many links more.
+fn links_answer(alloc: Global, last: u16, answer: &str) -> Result<bool, AllocError> {
+    let mut text = String::new(alloc);
+    let same = match write_cloth_and_links(&mut text, last) {
+        Ok(()) => answers(alloc, text.as_str(), answer),
+        Err(error) => Err(error),
+    };
+    drop(text);
+    same
 }
 
 #[test]
 fn links_of_meshes_and_entries_count_together(rt: HostRuntime) -> Result<(), Fail> {
-    let text = many_links(rt.alloc(), 2_566)?;
-    assert_eq!(rt; found(rt.alloc(), text.as_str())?.as_str(), "ok");
-    let text = many_links(rt.alloc(), 2_567)?;
-    assert_eq!(rt;
-        found(rt.alloc(), text.as_str())?.as_str(),
-        "6 link 133630 -"
-    );
+    assert!(rt; links_answer(rt.alloc(), 2_566, "ok")?);
+    assert!(rt; links_answer(rt.alloc(), 2_567, "6 link 133630 -")?);
     Ok(())
 }
 
-#[test]
-fn the_thirty_third_link_is_refused(rt: HostRuntime) -> Result<(), Fail> {
-    let mut text = String::new(rt.alloc());
+/// Writes 34 particles, 32 links to particle 0, and what follows them.
+fn write_hub(text: &mut String, last: &str) -> Result<(), AllocError> {
     for i in 0..34 {
         write!(text, "[[particle]]\nat = [{i}, 0, 0]\n")?;
     }
     for i in 1..33 {
         write!(text, "[[link]]\na = {i}\nb = 0\n")?;
     }
-    assert_eq!(rt; found(rt.alloc(), text.as_str())?.as_str(), "ok");
-    let mut turned = text.clone()?;
-    write!(text, "[[link]]\na = 33\nb = 0\n")?;
-    assert_eq!(rt; found(rt.alloc(), text.as_str())?.as_str(), "10 link 32 b");
-    write!(turned, "[[link]]\na = 0\nb = 33\n")?;
-    assert_eq!(rt;
-        found(rt.alloc(), turned.as_str())?.as_str(),
-        "10 link 32 a"
-    );
+    text.push_str(last)
+}
+
+/// Whether this is told of a scene that ends so.
+fn hub_answers(alloc: Global, last: &str, answer: &str) -> Result<bool, AllocError> {
+    let mut text = String::new(alloc);
+    let same = match write_hub(&mut text, last) {
+        Ok(()) => answers(alloc, text.as_str(), answer),
+        Err(error) => Err(error),
+    };
+    drop(text);
+    same
+}
+
+#[test]
+fn the_thirty_third_link_is_refused(rt: HostRuntime) -> Result<(), Fail> {
+    for (last, answer) in [
+        ("", "ok"),
+        ("[[link]]\na = 33\nb = 0\n", "10 link 32 b"),
+        ("[[link]]\na = 0\nb = 33\n", "10 link 32 a"),
+    ] {
+        assert!(rt; hub_answers(rt.alloc(), last, answer)?, "{answer}");
+    }
     Ok(())
+}
+
+/// Compares the links and the particles of the scene below.
+fn compare_entries(rt: &impl Abort, parts: &Parts) {
+    compare_links(
+        rt,
+        parts.links.as_slice(),
+        &[(Kind::Plain, 1, 0, 5, 256, 0)],
+    );
+    let wanted = [(0, 1, false), (2, 7, false), (9, 1, true), (5, 1, true)];
+    let particles = parts.particles.as_slice();
+    assert_eq!(rt; particles.len(), wanted.len());
+    for (particle, want) in particles.iter().zip(wanted.iter()) {
+        let told = (particle.before.x, particle.weight, particle.held);
+        assert_eq!(rt; told, *want);
+    }
+}
+
+/// Compares the scene's own numbers with what they are where a scene has gravity alone.
+fn compare_defaults(rt: &impl Abort, parts: &Parts) {
+    assert_eq!(rt; parts.gravity.y, -10);
+    assert_eq!(rt;
+        (parts.passes, parts.damping, parts.thickness, parts.friction),
+        (1, 0, 0, 0)
+    );
+    assert_eq!(rt; parts.limit, LIMIT);
 }
 
 #[test]
@@ -251,47 +338,20 @@ fn defaults_and_what_is_held(rt: HostRuntime) -> Result<(), Fail> {
         link = [{a=1,b=0}]
         track = [{particle=3,keys=[[4,1,2,3]]}]
     ";
-    let Ok(scene) = read_scene(rt.alloc(), text, LIMIT) else {
-        assert!(rt; false);
-        return Ok(());
-    };
-    let parts = scene.parts();
-    let links = parts.links.as_slice();
-    assert_eq!(rt; links.len(), 1);
-    assert_eq!(rt;
-        (
-            links[0].a,
-            links[0].b,
-            links[0].rest,
-            links[0].k,
-            links[0].tear
-        ),
-        (1, 0, 5, 256, 0)
-    );
-    let particles = parts.particles.as_slice();
-    assert_eq!(rt; particles.len(), 4);
-    assert_eq!(rt;
-        (
-            particles[1].before.x,
-            particles[1].weight,
-            particles[1].held
-        ),
-        (2, 7, false)
-    );
-    assert_eq!(rt; (particles[2].before.x, particles[2].held), (9, true));
-    assert!(rt; particles[3].held);
-    assert_eq!(rt; parts.gravity.y, -10);
-    assert_eq!(rt;
-        (parts.passes, parts.damping, parts.thickness, parts.friction),
-        (1, 0, 0, 0)
-    );
-    assert_eq!(rt; parts.limit, LIMIT);
+    match read_scene(rt.alloc(), text, LIMIT) {
+        Ok(scene) => {
+            compare_entries(&rt, scene.parts());
+            compare_defaults(&rt, scene.parts());
+            drop(scene);
+        }
+        Err(fault) => assert!(rt; false, "{fault:?}"),
+    }
     Ok(())
 }
 
 #[test]
 fn the_largest_cloth_is_read(rt: HostRuntime) -> Result<(), Fail> {
     let text = "cloth=[{origin=[0,0,0],across=[9,0,0],down=[0,0,9],rows=256,columns=256}]";
-    assert_eq!(rt; found(rt.alloc(), text)?.as_str(), "ok");
+    assert!(rt; answers(rt.alloc(), text, "ok")?);
     Ok(())
 }
