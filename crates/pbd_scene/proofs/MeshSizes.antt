@@ -1,5 +1,5 @@
 -- How large a mesh that fits is.
-use Rattle.std.proofs.Common.{ℕ, ℤ, pos, ◌*◌, ◌≤◌, ◌≤ℤ◌, ◌^◌, unsigned_abs, arith}
+use Rattle.std.proofs.Common.{ℤ, pos, ◌*◌, ◌≤◌, ◌≤ℤ◌, ◌^◌, unsigned_abs, arith}
 use Rattle.std.specs.Prelude.{IsTrue}
 use Rattle.std.proofs.Math.Nat.{mul-le-mul_left}
 use Rattle.std.proofs.lemmas.Bool.{and_parts}
