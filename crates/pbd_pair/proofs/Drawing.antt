@@ -16,39 +16,6 @@ use Rattle.pbd_world.specs.Bonds.{correction_of, is_slack, shift_of}
 use Rattle.pbd_pair.specs.Bonds.{IsBound, IsDrawn, IsEnd, IsSoundShift}
 use Rattle.pbd_pair.specs.Lanes.{Lays}
 
--- ---- the moves of two ends
-
-sum_is : (a b : ℤ) → pos 0 ≤ℤ a → pos 0 ≤ℤ b → a +ℤ b ≡ pos (unsigned_abs a + unsigned_abs b)
-sum_is (pos a) (pos b) h k = refl
-sum_is (pos a) (negsuc b) h k = absurd (omega (arith, ints))
-sum_is (negsuc a) b h k = absurd (omega (arith, ints))
-
-both_above : (n m : ℕ) → true ≡ (int_lt (pos 0) (pos n) && int_lt (pos 0) (pos m)) → (0 < n) × (0 < m)
-both_above n m e = let t = and_parts (nat_lt 0 n) (nat_lt 0 m) (sym e) in (ltb-true 0 n t.0, ltb-true 0 m t.1)
-
-one_zero : (n m : ℕ) → false ≡ (int_lt (pos 0) (pos n) && int_lt (pos 0) (pos m)) → (n ≡ 0) ⊎ (m ≡ 0)
-one_zero zero m e = inl refl
-one_zero (suc n) zero e = inr refl
-one_zero (suc n) (suc m) e = absurd (false≢true (e ∙ (λ i. lt-ltb 0 (suc n) (omega arith) i && lt-ltb 0 (suc m) (omega arith) i)))
-
--- both moves, where the mask is set exactly where the length is not 0 and one end is free
-pub moves_are : (a b d s first second turned : Vec3) (rest k wa wb len total : ℤ) (set : Bool) → d ≡ minus a b → len ≡ pos (length_of d) → total ≡ wa +ℤ wb → pos 0 ≤ℤ wa → pos 0 ≤ℤ wb → set ≡ (int_lt (pos 0) len && int_lt (pos 0) total) → s ≡ cond set (corrections d rest) zero_vector → first ≡ cond set (shares s k wa (unsigned_abs total)) zero_vector → second ≡ cond set (shares s k wb (unsigned_abs total)) zero_vector → turned ≡ opposite first → ◌≡◌ {A = Vec3 × Vec3} (turned, second) (pair_moves a b rest k wa wb)
-moves_are a b d s first second turned rest k wa wb len total set hd hl ht la lb es hs h1 h2 h3 = by_case set told hs h1 h2 where
-  sum : total ≡ pos (unsigned_abs wa + unsigned_abs wb)
-  sum = ht ∙ sum_is wa wb la lb
-
-  told : set ≡ (int_lt (pos 0) (pos (length_of d)) && int_lt (pos 0) (pos (unsigned_abs wa + unsigned_abs wb)))
-  told = es ∙ (λ i. int_lt (pos 0) (hl i) && int_lt (pos 0) (sum i))
-
-  by_case : (b' : Bool) → b' ≡ (int_lt (pos 0) (pos (length_of d)) && int_lt (pos 0) (pos (unsigned_abs wa + unsigned_abs wb))) → s ≡ cond b' (corrections d rest) zero_vector → first ≡ cond b' (shares s k wa (unsigned_abs total)) zero_vector → second ≡ cond b' (shares s k wb (unsigned_abs total)) zero_vector → ◌≡◌ {A = Vec3 × Vec3} (turned, second) (pair_moves a b rest k wa wb)
-  by_case true e ks k1 k2 =
-      let above = both_above (length_of d) (unsigned_abs wa + unsigned_abs wb) e in
-      let size : unsigned_abs total ≡ unsigned_abs wa + unsigned_abs wb = ap unsigned_abs sum in
-      pair_moves-by_steps a b d s first second turned rest k wa wb (unsigned_abs total) hd ks k1 k2 h3 size above.0 (subst (λ (n : ℕ). 0 < n) (sym size) above.1)
-  by_case false e ks k1 k2 =
-      let none = one_zero (length_of d) (unsigned_abs wa + unsigned_abs wb) e in
-      (λ i. ((h3 ∙ ap opposite k1) i, k2 i)) ∙ sym (pair_moves-none a b rest k wa wb (elim none [ inl z ↦ inl (ap length_of (sym hd) ∙ z) | inr z ↦ inr z ]))
-
 -- ---- what a bond comes to
 
 moved_lane : (s t : Shift) (stays within m o : Bool) → stays ≡ within → m ≡ stays → o ≡ not stays → t ≡ s → Lays (cond within (Moves s) Leaves) m o t
@@ -80,9 +47,6 @@ sound_within limit t low e1 e2 h1 h2 = record {
 pub end_fits : (limit : ℤ) (e : End) → IsBound limit → IsEnd limit e → IsEnd (pos (2 ^ 29)) e
 end_fits limit e b h = record { at = wider e.at (unsigned_abs limit) (2 ^ 29) b.size h.at; low = h.low; high = h.high }
 
-pub drawn_fits : (limit : ℤ) (d : Bond) → IsBound limit → IsDrawn limit d → IsDrawn (pos (2 ^ 29)) d
-drawn_fits limit d b h = record { rest_low = h.rest_low; rest_high = omega (arith, ints, h.rest_high, b.high); k_low = h.k_low; k_high = h.k_high }
-
 -- ---- what the steps ask
 
 pub gap_short : {d : Vec3} (a b : Vec3) → d ≡ minus a b → Within (2 ^ 29) a → Within (2 ^ 29) b → Within (2 ^ 30) d
@@ -91,24 +55,6 @@ gap_short a b e h k = subst (λ (v : Vec3). Within (2 ^ 30) v) (sym e) (record {
   y = omega (arith, size-sub a.y b.y, h.y, k.y);
   z = omega (arith, size-sub a.z b.z, h.z, k.z);
 })
-
-pub weight_in : {total : ℤ} (wa wb : ℤ) → total ≡ wa +ℤ wb → pos 0 ≤ℤ wa → pos 0 ≤ℤ wb → unsigned_abs wa ≤ unsigned_abs total
-weight_in wa wb e la lb = omega (arith, ap unsigned_abs (e ∙ sum_is wa wb la lb))
-
-pub other_weight_in : {total : ℤ} (wa wb : ℤ) → total ≡ wa +ℤ wb → pos 0 ≤ℤ wa → pos 0 ≤ℤ wb → unsigned_abs wb ≤ unsigned_abs total
-other_weight_in wa wb e la lb = omega (arith, ap unsigned_abs (e ∙ sum_is wa wb la lb))
-
-pub total_light : {total : ℤ} (wa wb : ℤ) → total ≡ wa +ℤ wb → unsigned_abs wa ≤ 65535 → unsigned_abs wb ≤ 65535 → unsigned_abs total ≤ 131070
-total_light wa wb e h k = subst (λ (z : ℤ). unsigned_abs z ≤ 131070) (sym e) (omega (arith, size-add wa wb, h, k))
-
-above_of : (z : ℤ) → int_lt (pos 0) z ≡ true → pos 0 <ℤ z
-above_of z t = grind (arith, ints, t)
-
-pub left_above : (x y : ℤ) {set : Bool} → set ≡ (int_lt (pos 0) x && int_lt (pos 0) y) → set ≡ true → pos 0 <ℤ x
-left_above x y e t = above_of x (and_parts (int_lt (pos 0) x) (int_lt (pos 0) y) (sym e ∙ t)).0
-
-pub right_above : (x y : ℤ) {set : Bool} → set ≡ (int_lt (pos 0) x && int_lt (pos 0) y) → set ≡ true → pos 0 <ℤ y
-right_above x y e t = above_of y (and_parts (int_lt (pos 0) x) (int_lt (pos 0) y) (sym e ∙ t)).1
 
 pub turned_short : {t : Vec3} (v : Vec3) → t ≡ opposite v → Within (2 ^ 31) v → Within (2 ^ 31) t
 turned_short v e h = subst (λ (w : Vec3). Within (2 ^ 31) w) (sym e) (record {

@@ -16,10 +16,3 @@ laying_more {A} {d} {n} {f} {i} {xs} v h p e = record {
   below = λ k q. rw e (fill_by_more f xs i d (omega (arith, h.whole)) h.below k q);
   above = λ k q. get_or-set_other xs i k v d (λ s. absurd (omega arith)) ∙ h.above k (omega arith);
 }
-
--- the lanes that are filled
-pub laying_filled : {n : ℕ} (i : ℕ) {xs : List Bool} → Laying false n (λ k. true) i xs → (k : ℕ) → get_or xs k false ≡ nat_lt k i
-laying_filled i h k = elim (cases_lt k i) [
-  | inl q ↦ h.below k q ∙ sym (lt-ltb k i q)
-  | inr q ↦ h.above k q ∙ sym (le-ltb k i q)
-]
