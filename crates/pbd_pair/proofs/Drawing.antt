@@ -1,19 +1,17 @@
 -- What both ends of a lane's bond do, from what each step answers.
-use Rattle.std.proofs.Common.{◌≡◌, ℕ, zero, suc, ◌+◌, ◌<◌, ◌≤◌, ◌^◌, ◌⊎◌, ℤ, pos, negsuc, ◌+ℤ◌, ◌≤ℤ◌, ◌<ℤ◌, int_lt, int_le, Bool, true, false, not, ◌&&◌, nat_lt, cond, inl, inr, refl, ap, sym, ◌∙◌, arith, subst, unsigned_abs}
+use Rattle.std.proofs.Common.{◌≡◌, ◌^◌, ℤ, pos, ◌≤ℤ◌, ◌<ℤ◌, int_lt, int_le, Bool, true, false, not, ◌&&◌, cond, ap, sym, ◌∙◌, arith, subst, unsigned_abs}
 use Rattle.std.proofs.lemmas.Int.{ints}
-use Rattle.std.proofs.lemmas.Bool.{and_parts, ltb-true, lt-ltb, false≢true}
 use Rattle.pbd_num.specs.declared.Vec3.{Vec3}
-use Rattle.pbd_num.specs.Vectors.{Within, zero_vector, minus, opposite, length_of, is_within}
-use Rattle.pbd_num.specs.PairMove.{corrections, shares, pair_moves}
-use Rattle.pbd_num.proofs.Sizes.{size-add, size-sub, size-neg}
+use Rattle.pbd_num.specs.Vectors.{Within, minus, opposite, length_of, is_within}
+use Rattle.pbd_num.proofs.Sizes.{size-sub, size-neg}
 use Rattle.pbd_num.proofs.Ranges.{within_facts, wider}
-use Rattle.pbd_num.proofs.Lengths.{length_below, pair_moves-none, pair_moves-by_steps}
+use Rattle.pbd_num.proofs.Lengths.{length_below}
 use Rattle.pbd_world.specs.declared.bond.Bond.{Bond}
 use Rattle.pbd_world.specs.declared.bond.End.{End}
 use Rattle.pbd_world.specs.declared.bond.Shift.{Shift}
 use Rattle.pbd_world.specs.declared.bond.Correction.TheVariants.{Slack, Leaves, Moves}
 use Rattle.pbd_world.specs.Bonds.{correction_of, is_slack, shift_of}
-use Rattle.pbd_pair.specs.Bonds.{IsBound, IsDrawn, IsEnd, IsSoundShift}
+use Rattle.pbd_pair.specs.Bonds.{IsBound, IsEnd, IsSoundShift}
 use Rattle.pbd_pair.specs.Lanes.{Lays}
 
 -- ---- what a bond comes to

@@ -1,13 +1,11 @@
 -- What a gather has in a lane.
-use Rattle.std.proofs.Common.{◌≡◌, ℕ, ◌<◌, ◌≤◌, ℤ, pos, ◌≤ℤ◌, List, [], ◌∷◌, zero, suc, length, get_or, nat_lt, Some, None, ◌*ℤ◌, IsTrue, Bool, true, false, cond, not, ◌&&◌, refl, ap, sym, ◌∙◌, arith, subst, int_lt}
+use Rattle.std.proofs.Common.{◌≡◌, ℕ, ◌<◌, ◌≤◌, ℤ, pos, List, [], ◌∷◌, zero, suc, length, get_or, nat_lt, Some, None, Bool, true, false, cond, not, ◌&&◌, refl, ap, sym, ◌∙◌, arith, subst, int_lt}
 use Rattle.std.specs.List.{position, position_or_len}
-use Rattle.std.proofs.lemmas.Bool.{cond-true, cond-false, false≢true, lt-ltb}
+use Rattle.std.proofs.lemmas.Bool.{cond-true, false≢true, lt-ltb}
 use Rattle.std.proofs.lemmas.Int.{ints}
 use Rattle.std.proofs.lemmas.List.FromFn.{get_or-map-range_with_len}
-use Rattle.pbd_num.specs.Vectors.{zero_vector}
 use Rattle.pbd_world.specs.declared.parts.Particle.{Particle}
 use Rattle.pbd_world.specs.declared.bond.End.{End}
-use Rattle.pbd_world.specs.declared.bond.Bond.{Bond}
 use Rattle.pbd_world.specs.declared.bond.Shift.{Shift}
 use Rattle.pbd_world.specs.declared.bond.Correction.{Correction}
 use Rattle.pbd_world.specs.declared.bond.Correction.TheVariants.{Slack, Leaves, Moves}
@@ -16,7 +14,7 @@ use Rattle.pbd_world.specs.Bonds.{end_of}
 use Rattle.pbd_lanes.specs.Lane.{lane, is_set, lanes_of}
 use Rattle.pbd_store.specs.Gathering.{index_at, gathered}
 use Rattle.pbd_store.specs.declared.lanes3.Ends.{Ends}
-use Rattle.pbd_pair.specs.Bonds.{IsEnd, IsDrawn, IsSound, IsSoundShift}
+use Rattle.pbd_pair.specs.Bonds.{IsEnd, IsSound, IsSoundShift}
 use Rattle.pbd_store.specs.Moving.{AreInside, Weigh}
 use Rattle.pbd_pair.specs.Lanes.{end_in, Lays}
 

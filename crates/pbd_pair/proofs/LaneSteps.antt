@@ -1,14 +1,14 @@
 -- Numbers and places side by side: what one lane of each comes to.
-use Rattle.std.proofs.Common.{◌≡◌, ℕ, ◌*◌, ◌<◌, ◌≤◌, ◌^◌, ℤ, pos, neg_ℤ, ◌+ℤ◌, ◌-ℤ◌, ◌*ℤ◌, ◌<ℤ◌, ◌≤ℤ◌, int_lt, int_le, Bool, true, false, not, ◌&&◌, cond, refl, ap, sym, ◌∙◌, arith, subst, unsigned_abs}
+use Rattle.std.proofs.Common.{◌≡◌, ℕ, ◌*◌, ◌<◌, ◌≤◌, ◌^◌, ℤ, pos, neg_ℤ, ◌-ℤ◌, ◌*ℤ◌, ◌<ℤ◌, ◌≤ℤ◌, int_lt, int_le, Bool, true, false, not, ◌&&◌, cond, refl, ap, sym, ◌∙◌, arith, subst, unsigned_abs}
 use Rattle.std.proofs.lemmas.Int.{ints}
 use Rattle.std.proofs.Math.IntN.{+ℤ_idl}
 use Rattle.std.proofs.Math.Nat.{mul-le-mul}
 use Rattle.pbd_num.specs.declared.Vec3.{Vec3}
 use Rattle.pbd_num.specs.Rounding.{rdiv}
-use Rattle.pbd_num.specs.Vectors.{Within, scaled, zero_vector, is_axis_within, length_of}
-use Rattle.pbd_num.specs.PairMove.{along, share_of, shares}
-use Rattle.pbd_num.proofs.Sizes.{size-mul, size_at_most, positive_size, positive_above}
-use Rattle.pbd_num.proofs.Lengths.{along_size, share_size, length_below, axes_le_length, error_size}
+use Rattle.pbd_num.specs.Vectors.{Within, length_of}
+use Rattle.pbd_num.specs.PairMove.{along, shares}
+use Rattle.pbd_num.proofs.Sizes.{size_at_most, positive_size, positive_above}
+use Rattle.pbd_num.proofs.Lengths.{along_size, share_size, length_below, error_size}
 
 -- ---- what a mask leaves out
 

@@ -1,5 +1,4 @@
-use Rattle.std.proofs.Common.{◌≡◌, ◌∙◌, ap, arith, true, List, Bool}
-use Rattle.pbd_lanes.specs.Lane.{is_set}
+use Rattle.std.proofs.Common.{arith}
 use Rattle.pbd_pair.proofs.InLanes.{end_gathered}
 use Rattle.pbd_pair.proofs.block.gather_ends.Goals as goal
 

@@ -1,11 +1,10 @@
-use Rattle.std.proofs.Common.{◌≡◌, ℕ, ◌<◌, ◌≤◌, ◌∙◌, Bool, false, sym, subst, arith, length, ℤ, rules, w64, FitsSigned}
+use Rattle.std.proofs.Common.{ℕ, ◌<◌, ◌∙◌, Bool, false, sym, subst, arith, length, ℤ, rules, w64, FitsSigned}
 use Rattle.std.proofs.lemmas.Int.{to_z-of_z}
 use Rattle.std.proofs.lemmas.List.Quantifiers.{position-Some}
 use Rattle.pbd_world.specs.Ledger.{ledger_of}
 use Rattle.pbd_pair.specs.Bonds.{IsDrawn, IsEnd, bond_of}
 use Rattle.pbd_pair.specs.Lanes.{end_in}
 use Rattle.pbd_pair.proofs.InLanes.{none_set}
-use Rattle.pbd_pair.proofs.Blocks.{number_known}
 use Rattle.pbd_pair.proofs.Reaching.{nth}
 use Rattle.pbd_pair.proofs.LaidBlocks.{leaving_below, moving_below, firsts_within, seconds_within, firsts_differ, seconds_differ, first_ends, second_ends, laid_each, laid_leaves, moved_done}
 use Rattle.pbd_pair.proofs.block.project_each.Goals as goal

@@ -1,10 +1,9 @@
 use Rattle.std.proofs.lemmas.Bool.{false≢true}
-use Rattle.std.proofs.Common.{◌≡◌, ℕ, ◌<◌, ◌≤◌, ◌∙◌, sym, subst, arith, length, ℤ, rules, w64, FitsSigned}
+use Rattle.std.proofs.Common.{ℕ, ◌<◌, ◌∙◌, sym, subst, arith, ℤ, rules, w64, FitsSigned}
 use Rattle.std.proofs.lemmas.Int.{to_z-of_z}
 use Rattle.pbd_world.specs.Ledger.{ledger_of}
-use Rattle.pbd_pair.specs.Bonds.{IsBound, IsEnd, bond_of}
+use Rattle.pbd_pair.specs.Bonds.{IsBound, IsEnd}
 use Rattle.pbd_pair.specs.Lanes.{end_in}
-use Rattle.pbd_pair.proofs.Blocks.{number_known}
 use Rattle.pbd_pair.proofs.LaidBlocks.{firsts_within, seconds_within, firsts_differ, seconds_differ, first_known, second_known, first_ends, second_ends, rests_low, rests_high, stiff, gathered_ends, laid_together, laid_done, first_stays, second_stays, own_below, own_unset, own_set, at_limit, settled_together, moved_little}
 use Rattle.pbd_pair.proofs.block.project_lanes.Goals as goal
 

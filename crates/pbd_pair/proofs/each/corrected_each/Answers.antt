@@ -1,4 +1,4 @@
-use Rattle.std.proofs.Common.{◌≡◌, ℕ, ◌<◌, ◌≤◌, ◌∙◌, ap, sym, subst, arith, below_more, w64, FitsSigned, List, Bool, false, length, get_or}
+use Rattle.std.proofs.Common.{◌≡◌, ℕ, ◌<◌, ◌∙◌, ap, sym, subst, arith, below_more, w64, FitsSigned, List, Bool, false, length, get_or}
 use Rattle.std.proofs.lemmas.Int.{to_z-of_z}
 use Rattle.std.proofs.lemmas.List.{length-replicate, get_or-set_other}
 use Rattle.pbd_world.specs.declared.bond.End.{End}

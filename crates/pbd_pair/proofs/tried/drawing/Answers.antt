@@ -1,4 +1,3 @@
-use Rattle.std.proofs.Common.{sym, subst, ℤ, unsigned_abs, ◌≤◌}
 use Rattle.pbd_lanes.specs.Lane.{lane, is_set}
 use Rattle.pbd_pair.proofs.LaneSteps.{size_at, size_where_set}
 use Rattle.pbd_pair.proofs.tried.drawing.Goals as goal

@@ -1,11 +1,11 @@
-use Rattle.std.proofs.Common.{◌≡◌, ◌&&◌, ◌∙◌, ℕ, ◌<◌, ◌^◌, true, false, ap, sym, arith, pos, ℤ, int_lt, cond, not, w64, FitsSigned, Bool, List, ◌+◌, unsigned_abs}
-use Rattle.std.proofs.lemmas.Int.{to_z-of_z, ints}
+use Rattle.std.proofs.Common.{◌≡◌, ◌&&◌, ◌∙◌, true, ap, sym, arith, pos, ℤ, int_lt, w64, FitsSigned, Bool, List, ◌+◌, unsigned_abs}
+use Rattle.std.proofs.lemmas.Int.{to_z-of_z}
 use Rattle.std.proofs.lemmas.Bool.{and_parts, cond-true, cond-false}
 use Rattle.pbd_num.specs.declared.Vec3.{Vec3}
-use Rattle.pbd_num.specs.Vectors.{Within, is_within, opposite}
+use Rattle.pbd_num.specs.Vectors.{is_within, opposite}
 use Rattle.pbd_num.specs.PairMove.{corrections, shares}
 use Rattle.pbd_lanes.specs.Lane.{lane, is_set}
-use Rattle.pbd_pair.specs.Lanes.{place_in, end_in, shift_in, reach_of}
+use Rattle.pbd_pair.specs.Lanes.{place_in, end_in, shift_in}
 use Rattle.pbd_pair.proofs.Steps.{shift-by_steps}
 use Rattle.pbd_pair.proofs.Even.{opposed_by_weights, rests_by_stiffness}
 use Rattle.pbd_pair.proofs.LaneSteps.{drawn_lane}
