@@ -6,11 +6,6 @@ use Rattle.std.proofs.Math.ListN.{get_or-map}
 use Rattle.std.specs.List.{list_any}
 use Rattle.pbd_chain.specs.Linked.{is_in, is_linked, chain_at, without}
 
-pub get_within : (xs : List ℕ) (k x : ℕ) → slice_get xs k ≡ Some x → k < length xs
-get_within [] k x e = absurd (let h = e in let no : ⊥ = cc in no)
-get_within (y ∷ ys) zero x e = omega arith
-get_within (y ∷ ys) (suc k) x e = omega (arith, get_within ys k x e)
-
 pub get_none : (xs : List ℕ) (k : ℕ) → slice_get xs k ≡ None → length xs ≤ k
 get_none [] k e = omega arith
 get_none (y ∷ ys) zero e = absurd (let no : ⊥ = cc in no)

@@ -1,5 +1,5 @@
 -- Chains as lists.
-use Rattle.std.specs.Prelude.{◌≡◌, ℕ, ◌<◌, ◌≤◌, ◌==◌, Bool, not, IsTrue, List, [], Option, Some, length, map, filter, slice_index_or}
+use Rattle.std.specs.Prelude.{◌≡◌, ℕ, ◌<◌, ◌≤◌, ◌==◌, Bool, not, IsTrue, List, [], ◌∷◌, Option, Some, length, map, filter, slice_get, slice_index_or, slice_set}
 use Rattle.std.specs.List.{range_with_len, list_any}
 use Rattle.pbd_chain.specs.declared.links.Slot.{Slot}
 use Rattle.pbd_chain.specs.declared.links.Slot.TheVariants.{Head}
@@ -12,6 +12,14 @@ pub record Linked : Type 0 where
 
 abbrev pub chain_at : List (List ℕ) → ℕ → List ℕ
 chain_at chains c = slice_index_or chains c []
+
+-- item k of a chain, or none behind its last
+abbrev pub item_at : List (List ℕ) → ℕ → ℕ → Option ℕ
+item_at chains c k = slice_get (chain_at chains c) k
+
+-- the chains with an item before the first of one
+abbrev pub with_front : List (List ℕ) → ℕ → ℕ → List (List ℕ)
+with_front chains c x = slice_set chains c (x ∷ chain_at chains c)
 
 -- an item is in a chain
 abbrev pub is_in : ℕ → List ℕ → Bool

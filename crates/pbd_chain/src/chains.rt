@@ -1,6 +1,6 @@
 //! Lists of items by index, seen as a list of lists.
-ghost use Rattle.std.specs.Prelude.{◌≡◌, ◌+◌, ◌<◌, ◌≤◌, [], ◌∷◌, ℕ, IsTrue, IfOk, IsFalse, Some, length, map, replicate, slice_index_or, None, slice_get, slice_set};
-ghost use Rattle.pbd_chain.specs.Linked.{Shows, chain_at, chains_of, is_linked, without};
+ghost use Rattle.std.specs.Prelude.{◌≡◌, ◌+◌, ◌<◌, ◌≤◌, [], ℕ, IsTrue, IfOk, IsFalse, Some, length, map, replicate, slice_index_or, None};
+ghost use Rattle.pbd_chain.specs.Linked.{Shows, chain_at, chains_of, is_linked, item_at, with_front, without};
 
 use crate::links::{Slot, link, unlink};
 use std::alloc::{AllocError, Global};
@@ -59,7 +59,7 @@ fn link_shown(
     requires chain { chain < length heads.old }
     requires item { item < length next.old }
     requires free { IsFalse (is_linked (chains_of heads.old next.old) item) }
-    ensures { Shows heads.new next.new back.new (slice_set (chains_of heads.old next.old) chain (item ∷ chain_at (chains_of heads.old next.old) chain)) }
+    ensures { Shows heads.new next.new back.new (with_front (chains_of heads.old next.old) chain item) }
 {
     link(heads, next, back, chain, item);
 }
@@ -106,7 +106,7 @@ impl Chains {
         requires chain { chain < length self.old.chains }
         requires item { item < self.old.items }
         requires free { IsFalse (is_linked self.old.chains item) }
-        ensures { self.new ≡ record self.old { chains = slice_set self.old.chains chain (item ∷ chain_at self.old.chains chain) } }
+        ensures { self.new ≡ record self.old { chains = with_front self.old.chains chain item } }
     {
         link_shown(
             self.heads.as_mut_slice(),
@@ -133,7 +133,7 @@ impl Chains {
     /// The first item of a chain, and none exactly where the chain is empty.
     pub fn first(&self, chain: u32) -> Option<u32>
         requires { chain < length self.now.chains }
-        ensures value { result ≡ slice_get (chain_at self.now.chains chain) 0 }
+        ensures value { result ≡ item_at self.now.chains chain 0 }
         ensures bounded { length (chain_at self.now.chains chain) ≤ self.now.items }
     {
         self.heads[chain as usize]
@@ -142,7 +142,7 @@ impl Chains {
     /// The item behind another, and none exactly behind the last of a chain.
     pub fn next(&self, item: u32) -> Option<u32>
         requires { IsTrue (is_linked self.now.chains item) }
-        ensures { (c k : ℕ) → slice_get (chain_at self.now.chains c) k ≡ Some item → result ≡ slice_get (chain_at self.now.chains c) (k + 1) }
+        ensures { (c k : ℕ) → item_at self.now.chains c k ≡ Some item → result ≡ item_at self.now.chains c (k + 1) }
     {
         self.next[item as usize]
     }
@@ -157,7 +157,7 @@ impl Chains {
 
     /// Each item stands at one place of one chain.
     pub fn items_stand_once(&self)
-        ensures { (c d j k x : ℕ) → slice_get (chain_at self.now.chains c) j ≡ Some x → slice_get (chain_at self.now.chains d) k ≡ Some x → (c ≡ d) × (j ≡ k) }
+        ensures { (c d j k x : ℕ) → item_at self.now.chains c j ≡ Some x → item_at self.now.chains d k ≡ Some x → (c ≡ d) × (j ≡ k) }
     {
         let _heads = self.heads.len();
     }

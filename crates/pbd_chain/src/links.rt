@@ -56,7 +56,8 @@ pub(crate) fn unlink(
     requires back { length back.old ≡ length next.old }
     requires slot { (s : Slot) → back_of back.old item ≡ Some s → IsSlot (length heads.old) (length next.old) s }
     requires behind { (z : ℕ) → slice_index_or next.old item None ≡ Some z → z < length back.old }
-    ensures { (s : Slot) → back_of back.old item ≡ Some s → Unlinks (at heads.old next.old) (at heads.new next.new) (back_of back.old) (back_of back.new) item s }
+    ensures { (s : Slot) → back_of back.old item ≡ Some s
+        → Unlinks (at heads.old next.old) (at heads.new next.new) (back_of back.old) (back_of back.new) item s }
 {
     let behind = next[item as usize];
     if let Some(slot) = back[item as usize] {
