@@ -8,9 +8,10 @@ use Rattle.pbd_lanes.specs.Lane.{lane, is_set, lanes_of}
 use Rattle.pbd_world.specs.declared.parts.Particle.{Particle}
 use Rattle.pbd_world.specs.Particles.{particle_at, placed, effective_weight, no_particle}
 use Rattle.pbd_store.specs.Blocks.{place_of, Saved}
+use Rattle.pbd_store.specs.Gathering.{index_at, gathered}
 use Rattle.pbd_store.specs.Writing.{WrittenWhere}
 use Rattle.pbd_store.specs.declared.axes.Axes.{Axes}
-use Rattle.pbd_store.specs.Listed.{place_at, row, listed, AreLong, ArePadded}
+use Rattle.pbd_store.specs.Listed.{place_at, row, listed, AreLong, ArePadded, AreKept}
 
 -- ---- a list that a function gives, with one element set
 
@@ -97,9 +98,9 @@ any_default [] i d e h = absurd (omega arith)
 any_default (x ∷ xs) zero d e h = refl
 any_default (x ∷ xs) (suc i) d e h = any_default xs i d e (omega arith)
 
-held_or : (b : Bool) (w : ℕ) → cond b (pos 0) (pos w) ≡ pos (cond b 0 w)
-held_or true w = refl
-held_or false w = refl
+-- lists of which each lane is alike
+pub lanes_alike : {A : Type 0} (n : ℕ) (f g : ℕ → A) → ((j : ℕ) → j < n → f j ≡ g j) → lanes_of n f ≡ lanes_of n g
+lanes_alike n f g h = fill_by_all g (lanes_of n f) n (g 0) (length-map-range_with_len f 0 n) (λ j p. get_or-map-range_with_len f 0 n j j (g 0) p (omega arith) ∙ h j p)
 
 -- ---- the list that clauses see
 
@@ -114,8 +115,17 @@ module _ (n spare : ℕ) (at before : Axes) (weight : List ℕ) (held : List Boo
   pub end_is : {A : Type 0} (f : Particle → A) (i k : ℕ) (b : Bool) → k ≡ cond b i (length ps) → f (row at before weight held k) ≡ cond b (f (particle_at ps i)) (f no_particle)
   end_is f i k b is = ap f (sym (row_is k)) ∙ ap (λ (m : ℕ). f (particle_at ps m)) is ∙ row_or_none f ps i b
 
-  pub effective_is : (k : ℕ) → cond (is_set held k) (pos 0) (pos (get_or weight k 0)) ≡ pos (effective_weight (particle_at ps k))
-  effective_is k = held_or (is_set held k) (get_or weight k 0) ∙ ap (λ (q : Particle). pos (effective_weight q)) (sym (row_is k))
+  -- what a column gives of the rows that the set lanes name
+  pub gathered_is : (l : ℕ) (is : List ℕ) (set : List Bool) (rows : List ℕ) → rows ≡ lanes_of l (λ (j : ℕ). cond (is_set set j) (index_at is j) (length ps)) → (f : Particle → ℤ) → f no_particle ≡ pos 0 → (g : ℕ → ℤ) → ((k : ℕ) → g k ≡ f (row at before weight held k)) → lanes_of l (λ (j : ℕ). g (index_at rows j)) ≡ gathered l f ps is set
+  gathered_is l is set rows er f z g eg = lanes_alike l (λ (j : ℕ). g (index_at rows j)) (λ (j : ℕ). cond (is_set set j) (f (particle_at ps (index_at is j))) (pos 0)) (λ j p.
+      let at_row : index_at rows j ≡ cond (is_set set j) (index_at is j) (length ps) = ap (λ (ks : List ℕ). index_at ks j) er ∙ get_or-map-range_with_len (λ (k : ℕ). cond (is_set set k) (index_at is k) (length ps)) 0 l j j 0 p (omega arith) in
+      eg (index_at rows j) ∙ end_is f (index_at is j) (index_at rows j) (is_set set j) at_row ∙ ap (λ (d : ℤ). cond (is_set set j) (f (particle_at ps (index_at is j))) d) z)
+
+  -- and these rows are rows of a column
+  pub row_near : (l : ℕ) (is : List ℕ) (set : List Bool) (rows : List ℕ) → rows ≡ lanes_of l (λ (j : ℕ). cond (is_set set j) (index_at is j) (length ps)) → ((j : ℕ) → j < l → IsTrue (is_set set j) → index_at is j < length ps) → (j : ℕ) → j < l → index_at rows j ≤ n
+  row_near l is set rows er within j p =
+      let at_row : index_at rows j ≡ cond (is_set set j) (index_at is j) (length ps) = ap (λ (ks : List ℕ). index_at ks j) er ∙ get_or-map-range_with_len (λ (k : ℕ). cond (is_set set k) (index_at is k) (length ps)) 0 l j j 0 p (omega arith) in
+      omega (arith, at_row, count_is, row_within (index_at is j) (length ps) (is_set set j) (within j p))
 
   -- another place
   module _ (at' : Axes) (i : ℕ) (v : Vec3) (within : i < length ps) (ex : at'.x.items ≡ slice_set at.x.items i v.x) (ey : at'.y.items ≡ slice_set at.y.items i v.y) (ez : at'.z.items ≡ slice_set at.z.items i v.z) where
@@ -145,35 +155,46 @@ module _ (n spare : ℕ) (at before : Axes) (weight : List ℕ) (held : List Boo
             let hs = ap (λ (xs : List Bool). is_set xs k) eh ∙ get_or-set_other held i k f false d in
             λ t. record { at = place_other at at' i v ex ey ez k d t; before = place_other before before' i b bx by bz k d t; weight = ws t; held = hs t }
 
+        all_now : row at' before' weight' held' i ≡ record { at = v; before = b; weight = w; held = f }
+        all_now =
+            let ws = ap (λ (xs : List ℕ). get_or xs i 0) ew ∙ get_or-set_same weight i w 0 (omega (arith, near, h.weights)) in
+            let hs = ap (λ (xs : List Bool). is_set xs i) eh ∙ get_or-set_same held i f false (omega (arith, near, h.flags)) in
+            λ t. record { at = place_same at at' i v ex ey ez (n + spare) h.places (omega (arith, near)) t; before = place_same before before' i b bx by bz (n + spare) h.befores (omega (arith, near)) t; weight = ws t; held = hs t }
+
         pub all_padded : ArePadded n spare at' before' weight' held'
         all_padded = padded_set n spare at before weight held h at' before' weight' held' i near other_all (places_long at at' i v ex ey ez (n + spare) h.places) (places_long before before' i b bx by bz (n + spare) h.befores)
             (ap (λ (xs : List ℕ). length xs) ew ∙ length-set weight i w ∙ h.weights) (ap (λ (xs : List Bool). length xs) eh ∙ length-set held i f ∙ h.flags)
 
+        pub all_kept : (light light' : List ℕ) → length light ≡ n + spare → ((k : ℕ) → get_or light k 0 ≡ effective_weight (row at before weight held k)) → light' ≡ slice_set light i (effective_weight (record { at = v; before = b; weight = w; held = f })) → AreKept n spare at' before' weight' held' light'
+        all_kept light light' long weighs el = record {
+          padded = all_padded;
+          long = ap (λ (xs : List ℕ). length xs) el ∙ length-set light i (effective_weight (record { at = v; before = b; weight = w; held = f })) ∙ long;
+          weighs = λ k. ap (λ (xs : List ℕ). get_or xs k 0) el ∙ elim (cases_eq k i) [
+            | inl e ↦ ap (λ (m : ℕ). get_or (slice_set light i (effective_weight (record { at = v; before = b; weight = w; held = f }))) m 0) e
+                ∙ get_or-set_same light i (effective_weight (record { at = v; before = b; weight = w; held = f })) 0 (omega (arith, near, long))
+                ∙ ap (λ (q : Particle). effective_weight q) (sym all_now) ∙ ap (λ (m : ℕ). effective_weight (row at' before' weight' held' m)) (sym e)
+            | inr d ↦ get_or-set_other light i k (effective_weight (record { at = v; before = b; weight = w; held = f })) 0 d ∙ weighs k ∙ ap (λ (q : Particle). effective_weight q) (sym (other_all k d))
+          ];
+        }
+
         pub all_listed : listed n at' before' weight' held' ≡ slice_set ps i (record { at = v; before = b; weight = w; held = f })
         all_listed =
-            let ws = ap (λ (xs : List ℕ). get_or xs i 0) ew ∙ get_or-set_same weight i w 0 (omega (arith, near, h.weights)) in
-            let hs = ap (λ (xs : List Bool). is_set xs i) eh ∙ get_or-set_same held i f false (omega (arith, near, h.flags)) in
-            let now : row at' before' weight' held' i ≡ record { at = v; before = b; weight = w; held = f } =
-            λ t. record { at = place_same at at' i v ex ey ez (n + spare) h.places (omega (arith, near)) t; before = place_same before before' i b bx by bz (n + spare) h.befores (omega (arith, near)) t; weight = ws t; held = hs t } in
-            listed_set n spare at before weight held h at' before' weight' held' i near other_all (record { at = v; before = b; weight = w; held = f }) now
+            listed_set n spare at before weight held h at' before' weight' held' i near other_all (record { at = v; before = b; weight = w; held = f }) all_now
             ∙ ap (λ (qs : List Particle). slice_set qs i (record { at = v; before = b; weight = w; held = f })) e
 
   -- other places in those of m lanes from `start` on that are set and have a particle
-  module _ (m start : ℕ) (set filled own : List Bool) (at' before' : Axes) (px py pz bx by bz : List ℤ) (ef : filled ≡ lanes_of m (λ (j : ℕ). nat_lt (start + j) (length ps))) (eo : own ≡ lanes_of m (λ (j : ℕ). is_set set j && is_set filled j)) (ax : WrittenWhere m start own px at.x.items at'.x.items) (ay : WrittenWhere m start own py at.y.items at'.y.items) (az : WrittenWhere m start own pz at.z.items at'.z.items) (cx : WrittenWhere m start own bx before.x.items before'.x.items) (cy : WrittenWhere m start own by before.y.items before'.y.items) (cz : WrittenWhere m start own bz before.z.items before'.z.items) where
-    filled_at : (j : ℕ) → j < m → is_set filled j ≡ nat_lt (start + j) (length ps)
-    filled_at j p = ap (λ (bs : List Bool). is_set bs j) ef ∙ get_or-map-range_with_len (λ (k : ℕ). nat_lt (start + k) (length ps)) 0 m j j false p (omega arith)
-
-    own_at : (j : ℕ) → j < m → is_set own j ≡ (is_set set j && is_set filled j)
-    own_at j p = ap (λ (bs : List Bool). is_set bs j) eo ∙ get_or-map-range_with_len (λ (k : ℕ). is_set set k && is_set filled k) 0 m j j false p (omega arith)
+  module _ (m start : ℕ) (set own : List Bool) (at' before' : Axes) (px py pz bx by bz : List ℤ) (eo : own ≡ lanes_of m (λ (j : ℕ). is_set set j && nat_lt (start + j) (length ps))) (ax : WrittenWhere m start own px at.x.items at'.x.items) (ay : WrittenWhere m start own py at.y.items at'.y.items) (az : WrittenWhere m start own pz at.z.items at'.z.items) (cx : WrittenWhere m start own bx before.x.items before'.x.items) (cy : WrittenWhere m start own by before.y.items before'.y.items) (cz : WrittenWhere m start own bz before.z.items before'.z.items) where
+    own_at : (j : ℕ) → j < m → is_set own j ≡ (is_set set j && nat_lt (start + j) (length ps))
+    own_at j p = ap (λ (bs : List Bool). is_set bs j) eo ∙ get_or-map-range_with_len (λ (k : ℕ). is_set set k && nat_lt (start + k) (length ps)) 0 m j j false p (omega arith)
 
     set_of : (j : ℕ) → j < m → IsTrue (is_set own j) → IsTrue (is_set set j)
-    set_of j p s = (and_parts (is_set set j) (is_set filled j) (sym (own_at j p) ∙ s)).0
+    set_of j p s = (and_parts (is_set set j) (nat_lt (start + j) (length ps)) (sym (own_at j p) ∙ s)).0
 
     below : (j : ℕ) → j < m → IsTrue (is_set own j) → start + j < length ps
-    below j p s = ltb-true (start + j) (length ps) (sym (filled_at j p) ∙ (and_parts (is_set set j) (is_set filled j) (sym (own_at j p) ∙ s)).1)
+    below j p s = ltb-true (start + j) (length ps) (and_parts (is_set set j) (nat_lt (start + j) (length ps)) (sym (own_at j p) ∙ s)).1
 
     own_of : (j : ℕ) → j < m → IsTrue (is_set set j) → start + j < length ps → IsTrue (is_set own j)
-    own_of j p s l = own_at j p ∙ and_from (is_set set j) (is_set filled j) s (filled_at j p ∙ lt-ltb (start + j) (length ps) l)
+    own_of j p s l = own_at j p ∙ and_from (is_set set j) (nat_lt (start + j) (length ps)) s (lt-ltb (start + j) (length ps) l)
 
     row_there : (j : ℕ) → j < m → IsTrue (is_set own j) → row at' before' weight held (start + j) ≡ record (row at before weight held (start + j)) { at = place_of px py pz j; before = place_of bx by bz j }
     row_there j p s = λ t. record { at = record { x = ax.lanes j p s t; y = ay.lanes j p s t; z = az.lanes j p s t }; before = record { x = cx.lanes j p s t; y = cy.lanes j p s t; z = cz.lanes j p s t }; weight = get_or weight (start + j) 0; held = is_set held (start + j) }
@@ -216,6 +237,13 @@ module _ (n spare : ℕ) (at before : Axes) (weight : List ℕ) (held : List Boo
       padding = λ k q. same_row k ∙ h.padding k (omega arith);
     }
 
+    pub copied_kept : (light light' : List ℕ) → length light ≡ n + spare → ((k : ℕ) → get_or light k 0 ≡ effective_weight (row at before weight held k)) → light' ≡ light → AreKept n' spare at' before' weight' held' light'
+    copied_kept light light' l weighs el = record {
+      padded = copied_padded;
+      long = long el l;
+      weighs = λ k. ap (λ (xs : List ℕ). get_or xs k 0) el ∙ weighs k ∙ ap (λ (q : Particle). effective_weight q) (sym (same_row k));
+    }
+
     pub copied_listed : listed n' at' before' weight' held' ≡ ps
     copied_listed = (λ t. lanes_of (en t) (λ (k : ℕ). same_row k t)) ∙ e
 
@@ -248,6 +276,13 @@ module _ (ps : List Particle) (spare : ℕ) (few : length ps ≤ 65536) (at befo
     weights = long_as (λ (p : Particle). p.weight) 0 ew;
     flags = long_as (λ (p : Particle). p.held) false eh;
     padding = λ k q. from_row k ∙ get_or_past ps k no_particle q;
+  }
+
+  pub from_kept : (light : List ℕ) → light ≡ map (λ (p : Particle). effective_weight p) ps ++ replicate spare 0 → AreKept (length ps) spare at before weight held light
+  from_kept light el = record {
+    padded = from_padded;
+    long = long_as (λ (p : Particle). effective_weight p) 0 el;
+    weighs = λ k. ap (λ (xs : List ℕ). get_or xs k 0) el ∙ column_is (λ (p : Particle). effective_weight p) ps spare k ∙ ap (λ (q : Particle). effective_weight q) (sym (from_row k));
   }
 
   pub from_listed : listed (length ps) at before weight held ≡ ps

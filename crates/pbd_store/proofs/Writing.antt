@@ -1,4 +1,4 @@
-use Rattle.std.proofs.Common.{◌≡◌, ℕ, ◌+◌, ◌-◌, ◌<◌, ℤ, pos, List, ◌++◌, length, take, drop, slice_set, Bool, false, cond, refl, sym, ◌∙◌, ap, arith, inl, inr, subst}
+use Rattle.std.proofs.Common.{◌≡◌, ℕ, ◌+◌, ◌-◌, ◌<◌, ℤ, pos, List, ◌++◌, length, take, drop, slice_set, Bool, IsTrue, false, cond, refl, sym, ◌∙◌, ap, arith, inl, inr, subst}
 use Rattle.std.proofs.lemmas.Bool.{cases_Bool, cases_lt, cond-true, cond-false}
 use Rattle.std.proofs.lemmas.List.{get_or-set_same, get_or-set_other, length-set}
 use Rattle.std.proofs.lemmas.List.FromFn.{get_or-map-range_with_len}
@@ -55,3 +55,9 @@ module _ (n start : ℕ) (set : List Bool) (values old read lent before mixed ne
       ]
     ];
   }
+
+-- numbers of which all are written
+pub written_whole : (n start : ℕ) (set : List Bool) (values meant old lent new : List ℤ) → ((j : ℕ) → j < n → IsTrue (is_set set j)) → values ≡ meant → lent ≡ old → Written n start values lent new → WrittenWhere n start set meant old new
+written_whole n start set values meant old lent new all ev el w =
+    let h : Written n start meant old new = coe 0 1 (i. Written n start (ev i) (el i) new) w in
+    record { whole = h.whole; lanes = λ j p s. h.lanes j p; others = λ i f. h.others i (λ j p e. f j p (all j p) e) }

@@ -3,7 +3,7 @@ use Rattle.std.specs.Prelude.{◌≡◌, ℕ, ◌+◌, ◌≤◌, List, length, 
 use Rattle.pbd_num.specs.declared.Vec3.{Vec3}
 use Rattle.pbd_lanes.specs.Lane.{is_set, lanes_of}
 use Rattle.pbd_world.specs.declared.parts.Particle.{Particle}
-use Rattle.pbd_world.specs.Particles.{no_particle}
+use Rattle.pbd_world.specs.Particles.{no_particle, effective_weight}
 use Rattle.pbd_store.specs.Blocks.{place_of}
 use Rattle.pbd_store.specs.declared.axes.Axes.{Axes}
 
@@ -33,3 +33,9 @@ pub record ArePadded (n spare : ℕ) (at before : Axes) (weight : List ℕ) (hel
   pub weights : length weight ≡ n + spare
   pub flags : length held ≡ n + spare
   pub padding : (k : ℕ) → n ≤ k → row at before weight held k ≡ no_particle
+
+-- the same, and a column of the effective weights, so that one read gives a row's
+pub record AreKept (n spare : ℕ) (at before : Axes) (weight : List ℕ) (held : List Bool) (effective : List ℕ) : Type 0 where
+  pub padded : ArePadded n spare at before weight held
+  pub long : length effective ≡ n + spare
+  pub weighs : (k : ℕ) → slice_index_or effective k 0 ≡ effective_weight (row at before weight held k)

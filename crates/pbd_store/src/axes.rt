@@ -1,7 +1,8 @@
 // Three columns: one number of each axis for each particle.
-ghost use Rattle.std.specs.Prelude.{◌≡◌, ◌+◌, ◌++◌, ◌<◌, ◌≤◌, pos, length, map, replicate, slice_set, IfOk, vec_len};
-ghost use Rattle.pbd_lanes.specs.Lane.{lane, lanes_of};
+ghost use Rattle.std.specs.Prelude.{◌≡◌, ℕ, ◌+◌, ◌++◌, ◌<◌, ◌≤◌, pos, length, map, replicate, slice_set, IfOk, IsTrue, vec_len};
+ghost use Rattle.pbd_lanes.specs.Lane.{lane, is_set, lanes_of};
 ghost use Rattle.pbd_store.specs.Fields.{number_of};
+ghost use Rattle.pbd_store.specs.Gathering.{index_at};
 ghost use Rattle.pbd_store.specs.Listed.{place_at};
 ghost use Rattle.pbd_store.specs.Writing.{Written, WrittenWhere};
 
@@ -91,6 +92,26 @@ pub(crate) fn lanes_from<const L: usize>(column: &[i64], start: usize) -> Lanes<
     Lanes::from_array(values)
 }
 
+// The numbers of a column at L rows.
+#[inline(always)]
+fn picked<const L: usize>(column: &[i64], rows: [usize; L]) -> [i64; L]
+    requires { (j : ℕ) → j < L → index_at rows j < length column.now }
+    ensures { result ≡ lanes_of L (λ j. lane column.now (index_at rows.entry j)) }
+{
+    let mut values = [0; L];
+    for j in 0..L {
+        values[j] = column[rows[j]];
+    }
+    values
+}
+
+/// The lanes that are to be written, and whether these are all.
+#[derive(Clone, Copy)]
+pub(crate) struct Chosen<const L: usize> {
+    pub(crate) set: Mask<L>,
+    pub(crate) whole: bool,
+}
+
 // Writes L numbers from `start` on.
 #[inline(always)]
 fn write<const L: usize>(column: &mut [i64], start: usize, values: [i64; L])
@@ -103,20 +124,25 @@ fn write<const L: usize>(column: &mut [i64], start: usize, values: [i64; L])
     }
 }
 
-// Writes those of L numbers from `start` on whose lanes are set.
+// Writes those of L numbers from `start` on whose lanes are chosen.
 #[inline(always)]
 fn write_where<const L: usize>(
     column: &mut Vec<i64>,
     start: usize,
-    set: &Mask<L>,
+    chosen: &Chosen<L>,
     values: &Lanes<L>,
 )
     requires lanes { L ≤ 16 }
     requires room { start + L ≤ length column.old.items }
-    ensures { WrittenWhere L start set.now values.now column.old.items column.new.items }
+    requires whole { IsTrue chosen.now.whole → (j : ℕ) → j < L → IsTrue (is_set chosen.now.set j) }
+    ensures { WrittenWhere L start chosen.now.set values.now column.old.items column.new.items }
 {
+    if chosen.whole {
+        write(column.as_mut_slice(), start, values.to_array());
+        return;
+    }
     let old = lanes_from(column, start);
-    let mixed = Lanes::select(set, values, &old);
+    let mixed = Lanes::select(&chosen.set, values, &old);
     write(column.as_mut_slice(), start, mixed.to_array());
 }
 
@@ -136,6 +162,23 @@ impl Axes {
         }
     }
 
+    /// The places at L rows.
+    #[inline(always)]
+    pub(crate) fn picked<const L: usize>(&self, rows: [usize; L]) -> Lanes3<L>
+        requires x { (j : ℕ) → j < L → index_at rows j < length self.now.x.items }
+        requires y { (j : ℕ) → j < L → index_at rows j < length self.now.y.items }
+        requires z { (j : ℕ) → j < L → index_at rows j < length self.now.z.items }
+        ensures x { result.x ≡ lanes_of L (λ j. lane self.now.x.items (index_at rows.entry j)) }
+        ensures y { result.y ≡ lanes_of L (λ j. lane self.now.y.items (index_at rows.entry j)) }
+        ensures z { result.z ≡ lanes_of L (λ j. lane self.now.z.items (index_at rows.entry j)) }
+    {
+        Lanes3 {
+            x: Lanes::from_array(picked(&self.x, rows)),
+            y: Lanes::from_array(picked(&self.y, rows)),
+            z: Lanes::from_array(picked(&self.z, rows)),
+        }
+    }
+
     /// Puts another place at i.
     #[inline(always)]
     pub(crate) fn set(&mut self, i: usize, place: Vec3)
@@ -151,25 +194,26 @@ impl Axes {
         self.z[i] = place.z;
     }
 
-    /// Puts other places to those of L from `start` on whose lanes are set.
+    /// Puts other places to those of L from `start` on whose lanes are chosen.
     #[inline(always)]
     pub(crate) fn set_where<const L: usize>(
         &mut self,
         start: usize,
-        set: &Mask<L>,
+        chosen: &Chosen<L>,
         places: &Lanes3<L>,
     )
         requires lanes { L ≤ 16 }
         requires x { start + L ≤ length self.old.x.items }
         requires y { start + L ≤ length self.old.y.items }
         requires z { start + L ≤ length self.old.z.items }
-        ensures x { WrittenWhere L start set.now places.now.x self.old.x.items self.new.x.items }
-        ensures y { WrittenWhere L start set.now places.now.y self.old.y.items self.new.y.items }
-        ensures z { WrittenWhere L start set.now places.now.z self.old.z.items self.new.z.items }
+        requires whole { IsTrue chosen.now.whole → (j : ℕ) → j < L → IsTrue (is_set chosen.now.set j) }
+        ensures x { WrittenWhere L start chosen.now.set places.now.x self.old.x.items self.new.x.items }
+        ensures y { WrittenWhere L start chosen.now.set places.now.y self.old.y.items self.new.y.items }
+        ensures z { WrittenWhere L start chosen.now.set places.now.z self.old.z.items self.new.z.items }
     {
-        write_where(&mut self.x, start, set, &places.x);
-        write_where(&mut self.y, start, set, &places.y);
-        write_where(&mut self.z, start, set, &places.z);
+        write_where(&mut self.x, start, chosen, &places.x);
+        write_where(&mut self.y, start, chosen, &places.y);
+        write_where(&mut self.z, start, chosen, &places.z);
     }
 
     /// Takes over the numbers of columns of the same length.

@@ -1,11 +1,12 @@
-ghost use Rattle.std.specs.Prelude.{◌≡◌, ◌<◌, ◌≤◌, ◌+◌, ◌++◌, pos, false, length, map, replicate, slice_index, slice_set, IfOk, IsTrue, vec_len, if◌then◌else◌, nat_lt};
-ghost use Rattle.pbd_lanes.specs.Lane.{lanes_of};
+ghost use Rattle.std.specs.Prelude.{◌≡◌, ℕ, ◌<◌, ◌≤◌, ◌+◌, ◌++◌, ◌&&◌, pos, false, length, map, replicate, slice_index, slice_index_or, slice_set, IfOk, IsTrue, vec_len, if◌then◌else◌, nat_lt};
+ghost use Rattle.pbd_lanes.specs.Lane.{is_set, lanes_of};
 ghost use Rattle.pbd_world.specs.Particles.{particle_at, placed, effective_weight};
 ghost use Rattle.pbd_store.specs.Blocks.{place_of, Saved};
 ghost use Rattle.pbd_store.specs.Fields.{number_of};
+ghost use Rattle.pbd_store.specs.Gathering.{index_at, gathered};
 
-use crate::axes::{Axes, Field, column, lanes_from, padded};
-use crate::lanes3::Lanes3;
+use crate::axes::{Axes, Chosen, Field, column, lanes_from, padded};
+use crate::lanes3::{Ends, Lanes3};
 use pbd_lanes::{Lanes, Mask};
 use pbd_num::Vec3;
 use pbd_world::Particle;
@@ -21,18 +22,20 @@ pub(crate) struct Columns<const L: usize> {
     before: Axes,
     weight: Vec<u16>,
     held: Vec<bool>,
+    /// The weight, and 0 where the particle is held.
+    effective: Vec<u16>,
 }
 
 impl<const L: usize> Model for Columns<L> {
     ghost use Rattle.std.specs.Prelude.{List};
     ghost use Rattle.pbd_world.specs.declared.parts.Particle.{Particle};
-    ghost use Rattle.pbd_store.specs.Listed.{listed, ArePadded};
+    ghost use Rattle.pbd_store.specs.Listed.{listed, AreKept};
 
     ghost Value = { List Particle };
 
     ghost view = { λ s. listed s.count s.at s.before s.weight.items s.held.items };
 
-    ghost invariant = { λ s. ArePadded s.count L s.at s.before s.weight.items s.held.items };
+    ghost invariant = { λ s. AreKept s.count L s.at s.before s.weight.items s.held.items s.effective.items };
 }
 
 fn weights_of(alloc: Global, particles: &[Particle]) -> Result<Vec<u16>, AllocError>
@@ -47,6 +50,21 @@ fn flags_of(alloc: Global, particles: &[Particle]) -> Result<Vec<bool>, AllocErr
     particles.iter().map(|p| p.held).collect(alloc)
 }
 
+fn effective_weight_of(particle: Particle) -> u16
+    ensures { result ≡ effective_weight particle }
+{
+    if particle.held { 0 } else { particle.weight }
+}
+
+fn effective_weights_of(alloc: Global, particles: &[Particle]) -> Result<Vec<u16>, AllocError>
+    ensures { IfOk result (λ v. v.items ≡ map effective_weight particles.now) }
+{
+    particles
+        .iter()
+        .map(|p| effective_weight_of(*p))
+        .collect(alloc)
+}
+
 fn weight_at(column: &[u16], i: usize) -> i64
     requires { i < length column.now }
     ensures { result ≡ pos (slice_index column.now i) }
@@ -54,10 +72,36 @@ fn weight_at(column: &[u16], i: usize) -> i64
     i64::from(column[i])
 }
 
-fn weight_unless(held: bool, weight: i64) -> i64
-    ensures { result ≡ (if held then pos 0 else weight) }
+// The weights of a column at L rows.
+#[inline(always)]
+fn picked_weights<const L: usize>(column: &[u16], rows: [usize; L]) -> [i64; L]
+    requires { (j : ℕ) → j < L → index_at rows j < length column.now }
+    ensures { result ≡ lanes_of L (λ j. pos (slice_index_or column.now (index_at rows.entry j) 0)) }
 {
-    if held { 0 } else { weight }
+    let mut values = [0; L];
+    for j in 0..L {
+        values[j] = weight_at(column, rows[j]);
+    }
+    values
+}
+
+fn still(all: bool, set: bool) -> bool
+    ensures all { IsTrue result → IsTrue all }
+    ensures set { IsTrue result → IsTrue set }
+{
+    all & set
+}
+
+// Whether each of L lanes is set.
+#[inline(always)]
+fn are_all<const L: usize>(set: [bool; L]) -> bool
+    ensures { IsTrue result → (j : ℕ) → j < L → IsTrue (is_set set.entry j) }
+{
+    let mut all = true;
+    for j in 0..L {
+        all = still(all, set[j]);
+    }
+    all
 }
 
 fn set_weight(column: &mut Vec<u16>, i: usize, weight: u16)
@@ -89,6 +133,8 @@ impl<const L: usize> Columns<L> {
         let weight = padded(weights, L, 0)?;
         let flags = flags_of(alloc, particles)?;
         let held = padded(flags, L, false)?;
+        let effective_weights = effective_weights_of(alloc, particles)?;
+        let effective = padded(effective_weights, L, 0)?;
         let at = Axes {
             x: at_x,
             y: at_y,
@@ -99,7 +145,7 @@ impl<const L: usize> Columns<L> {
             y: before_y,
             z: before_z,
         };
-        Ok(Columns::put_together(particles, at, before, weight, held))
+        Ok(Columns::put_together(particles, at, before, weight, held, effective))
     }
 
     // The columns of a list.
@@ -109,6 +155,7 @@ impl<const L: usize> Columns<L> {
         before: Axes,
         weight: Vec<u16>,
         held: Vec<bool>,
+        effective: Vec<u16>,
     ) -> Columns<L>
         requires few { length particles.now ≤ 65536 }
         requires at_x { at.x.items ≡ map (number_of Field.AtX) particles.now ++ replicate L (pos 0) }
@@ -119,6 +166,7 @@ impl<const L: usize> Columns<L> {
         requires before_z { before.z.items ≡ map (number_of Field.BeforeZ) particles.now ++ replicate L (pos 0) }
         requires weight { weight.items ≡ map (λ p. p.weight) particles.now ++ replicate L 0 }
         requires held { held.items ≡ map (λ p. p.held) particles.now ++ replicate L false }
+        requires effective { effective.items ≡ map effective_weight particles.now ++ replicate L 0 }
         ensures { result ≡ particles.now }
     {
         Columns {
@@ -127,6 +175,7 @@ impl<const L: usize> Columns<L> {
             before,
             weight,
             held,
+            effective,
         }
     }
 
@@ -159,28 +208,33 @@ impl<const L: usize> Columns<L> {
         if wanted { i as usize } else { self.count }
     }
 
-    // The weight that the particle of a row has, if it isn't held.
+    // The rows of the particles that the set lanes name, and elsewhere the first row of zeros.
     #[inline(always)]
-    fn effective_weight(&self, row: usize) -> i64
-        requires some { 0 < L }
-        requires row { row ≤ length self.now }
-        ensures { result ≡ pos (effective_weight (particle_at self.now row)) }
+    fn rows(&self, indices: &[u32; L], set: &[bool; L]) -> [usize; L]
+        requires { (j : ℕ) → j < L → IsTrue (is_set set.now j) → index_at indices.now j < length self.now }
+        ensures { result ≡ lanes_of L (λ j. if is_set set.now j then index_at indices.now j else length self.now) }
     {
-        weight_unless(self.held[row], weight_at(&self.weight, row))
+        let mut rows = [0; L];
+        for j in 0..L {
+            rows[j] = self.row_if(indices[j], set[j]);
+        }
+        rows
     }
 
-    // The place and the effective weight of a particle that is wanted, else zeros.
+    /// The places and effective weights of the particles that the set lanes name, and zeros elsewhere.
     #[inline(always)]
-    pub(crate) fn end_if(&self, i: u32, wanted: bool) -> (Vec3, i64)
-        requires some { 0 < L }
-        requires within { IsTrue wanted → i < length self.now }
-        ensures x { result.0.x ≡ (if wanted then (particle_at self.now i).at.x else pos 0) }
-        ensures y { result.0.y ≡ (if wanted then (particle_at self.now i).at.y else pos 0) }
-        ensures z { result.0.z ≡ (if wanted then (particle_at self.now i).at.z else pos 0) }
-        ensures weight { result.1 ≡ (if wanted then pos (effective_weight (particle_at self.now i)) else pos 0) }
+    pub(crate) fn ends(&self, indices: &[u32; L], set: &[bool; L]) -> Ends<L>
+        requires { (j : ℕ) → j < L → IsTrue (is_set set.now j) → index_at indices.now j < length self.now }
+        ensures x { result.at.x ≡ gathered L (λ p. p.at.x) self.now indices.now set.now }
+        ensures y { result.at.y ≡ gathered L (λ p. p.at.y) self.now indices.now set.now }
+        ensures z { result.at.z ≡ gathered L (λ p. p.at.z) self.now indices.now set.now }
+        ensures weight { result.weight ≡ gathered L (λ p. pos (effective_weight p)) self.now indices.now set.now }
     {
-        let row = self.row_if(i, wanted);
-        (self.at.place(row), self.effective_weight(row))
+        let rows = self.rows(indices, set);
+        Ends {
+            at: self.at.picked(rows),
+            weight: Lanes::from_array(picked_weights(&self.effective, rows)),
+        }
     }
 
     #[inline(always)]
@@ -209,6 +263,23 @@ impl<const L: usize> Columns<L> {
         self.before.set(i, particle.before);
         set_weight(&mut self.weight, i, particle.weight);
         set_flag(&mut self.held, i, particle.held);
+        set_weight(&mut self.effective, i, effective_weight_of(particle));
+    }
+
+    // Those of L lanes from `start` on that are set and have a particle.
+    #[inline(always)]
+    fn own(&self, start: usize, set: &[bool; L]) -> Mask<L>
+        requires start { start ≤ length self.now }
+        requires lanes { L ≤ 16 }
+        ensures { result ≡ lanes_of L (λ j. is_set set.now j && nat_lt (start + j) (length self.now)) }
+    {
+        let count = self.len();
+        let mask = Mask::from_array(*set);
+        if start + L <= count {
+            return mask;
+        }
+        let filled = self.filled(start);
+        mask.and(&filled)
     }
 
     /// Moves those of L particles from `start` on whose lanes are set.
@@ -224,10 +295,11 @@ impl<const L: usize> Columns<L> {
         ensures { Saved L start set.now (place_of at.now.x at.now.y at.now.z)
             (place_of before.now.x before.now.y before.now.z) self.old self.new }
     {
-        let filled = self.filled(start);
-        let own = set.and(&filled);
-        self.at.set_where(start, &own, at);
-        self.before.set_where(start, &own, before);
+        let own = self.own(start, &set.to_array());
+        let whole = are_all(own.to_array());
+        let chosen = Chosen { set: own, whole };
+        self.at.set_where(start, &chosen, at);
+        self.before.set_where(start, &chosen, before);
     }
 
     pub(crate) fn copy_from(&mut self, other: &Columns<L>)
@@ -238,6 +310,7 @@ impl<const L: usize> Columns<L> {
         self.before.copy_from(&other.before);
         self.weight.copy_from_slice(&other.weight);
         self.held.copy_from_slice(&other.held);
+        self.effective.copy_from_slice(&other.effective);
     }
 
     // One number of the L particles from `start` on.
@@ -286,6 +359,9 @@ impl<const L: usize> Columns<L> {
         ensures { result ≡ lanes_of L (λ j. nat_lt (start + j) (length self.now)) }
     {
         let count = self.len();
+        if start + L <= count {
+            return Mask::from_array([true; L]);
+        }
         let mut set = [false; L];
         for j in 0..L {
             set[j] = start + j < count;

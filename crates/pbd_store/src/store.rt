@@ -217,26 +217,7 @@ impl<const L: usize> Store<L> {
         ensures cost { steps.new ≡ steps.old + 1 }
     {
         steps.tick();
-        let set = mask.to_array();
-        let mut x = [0; L];
-        let mut y = [0; L];
-        let mut z = [0; L];
-        let mut weight = [0; L];
-        for j in 0..L {
-            let (place, w) = self.columns.end_if(indices[j], set[j]);
-            x[j] = place.x;
-            y[j] = place.y;
-            z[j] = place.z;
-            weight[j] = w;
-        }
-        Ends {
-            at: Lanes3 {
-                x: Lanes::from_array(x),
-                y: Lanes::from_array(y),
-                z: Lanes::from_array(z),
-            },
-            weight: Lanes::from_array(weight),
-        }
+        self.columns.ends(indices, &mask.to_array())
     }
 
     /// Moves the particles that the set lanes name, each to the place of its lane.
