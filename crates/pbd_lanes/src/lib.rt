@@ -105,6 +105,25 @@ impl<const L: usize> Lanes<L> {
         self.values
     }
 
+    /// The number of lane j.
+    #[inline(always)]
+    pub fn at(&self, j: usize) -> i64
+        requires { j < L }
+        ensures { result ≡ lane self.now j }
+    {
+        self.values[j]
+    }
+
+    /// Puts another number into lane j.
+    #[inline(always)]
+    pub fn put(&mut self, j: usize, value: i64)
+        requires { j < L }
+        ensures here { lane self.new j ≡ value }
+        ensures others { (k : ℕ) → (k ≡ j → ⊥) → lane self.new k ≡ lane self.old k }
+    {
+        self.values[j] = value;
+    }
+
     /// The sums, lane by lane. Each has to fit 64 bits.
     #[inline(always)]
     pub fn add(&self, other: &Lanes<L>) -> Lanes<L>
@@ -263,6 +282,33 @@ impl<const L: usize> Mask<L> {
         ensures { result ≡ self.now }
     {
         self.set
+    }
+
+    /// One truth value in each lane.
+    #[inline(always)]
+    pub fn splat(value: bool) -> Mask<L>
+        ensures { result ≡ lanes_of L (λ _. value) }
+    {
+        Mask { set: [value; L] }
+    }
+
+    /// Whether lane j is set.
+    #[inline(always)]
+    pub fn at(&self, j: usize) -> bool
+        requires { j < L }
+        ensures { result ≡ is_set self.now j }
+    {
+        self.set[j]
+    }
+
+    /// Puts another truth value into lane j.
+    #[inline(always)]
+    pub fn put(&mut self, j: usize, value: bool)
+        requires { j < L }
+        ensures here { is_set self.new j ≡ value }
+        ensures others { (k : ℕ) → (k ≡ j → ⊥) → is_set self.new k ≡ is_set self.old k }
+    {
+        self.set[j] = value;
     }
 
     /// Where both masks are set.

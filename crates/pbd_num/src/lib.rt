@@ -128,15 +128,20 @@ pub fn axis_within(n: i64, limit: i64) -> bool
     (-limit <= n) & (n <= limit)
 }
 
+#[inline(always)]
 fn axes_within(v: Vec3, limit: i64) -> bool
     requires low { pos 0 ≤ℤ limit }
     requires high { unsigned_abs limit ≤ 2 ^ 29 }
     ensures { result ≡ is_within limit v }
 {
-    axis_within(v.x, limit) && axis_within(v.y, limit) && axis_within(v.z, limit)
+    let x = axis_within(v.x, limit);
+    let y = axis_within(v.y, limit);
+    let z = axis_within(v.z, limit);
+    x & y & z
 }
 
 /// Whether each axis lies in `-limit..=limit`.
+#[inline(always)]
 pub fn within(v: Vec3, limit: i64) -> bool
     requires low { pos 0 ≤ℤ limit }
     requires high { unsigned_abs limit ≤ 2 ^ 29 }

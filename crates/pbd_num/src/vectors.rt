@@ -28,6 +28,7 @@ fn scaled_axis(axis: i64, part: i64, whole: i64) -> i64
 
 impl Vec3 {
     /// The sum of two vectors: the place to which the way `other` leads from this place.
+    #[inline(always)]
     pub fn plus(self, other: Vec3) -> Vec3
         requires first { Within (2 ^ 61) self }
         requires second { Within (2 ^ 61) other }

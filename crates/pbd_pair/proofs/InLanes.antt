@@ -57,16 +57,6 @@ end_sound limit ps i ee within inside weights =
       high = omega (arith, ints, light_case (particle_at ps i).held (particle_at ps i).weight (weights.high i within));
     })
 
--- ---- masks
-
-pub and_set : (b : Bool) → (b && true) ≡ b
-and_set true = refl
-and_set false = refl
-
-pub and_unset : (b : Bool) → (b && false) ≡ false
-and_unset true = refl
-and_unset false = refl
-
 -- ---- what a lane holds
 
 pub same_lays : {c d : Correction} {m m' o o' : Bool} (t : Shift) → c ≡ d → m' ≡ m → o' ≡ o → Lays c m o t → Lays d m' o' t

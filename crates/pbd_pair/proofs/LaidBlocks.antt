@@ -8,30 +8,28 @@ use Rattle.pbd_world.specs.declared.parts.Particle.{Particle}
 use Rattle.pbd_world.specs.declared.bond.Bond.{Bond}
 use Rattle.pbd_world.specs.declared.bond.Shift.{Shift}
 use Rattle.pbd_world.specs.declared.totals.Class.TheVariants as classes
-use Rattle.pbd_world.specs.Ledger.{Ledger, Entry, added}
+use Rattle.pbd_world.specs.Ledger.{Ledger, ledger_of, added}
 use Rattle.pbd_world.specs.Particles.{Motion, particle_at}
 use Rattle.pbd_world.specs.Bonds.{projected, correction_at, correction_of, end_of, entries_of, class_of}
 use Rattle.pbd_store.specs.Gathering.{index_at, NamesApart, Scattered}
-use Rattle.pbd_store.specs.Moving.{fixed_parts, AreInside, Weigh}
+use Rattle.pbd_store.specs.Moving.{motion_of, fixed_parts, AreInside, Weigh}
 use Rattle.pbd_pair.specs.declared.bonds.Bonds.{Bonds}
 use Rattle.pbd_pair.specs.declared.named.BlockBonds.{BlockBonds}
 use Rattle.pbd_pair.specs.declared.laid.BlockEnds.{BlockEnds}
 use Rattle.pbd_pair.specs.declared.laid.BlockMoves.{BlockMoves}
+use Rattle.pbd_pair.specs.declared.laid.LaneMove.{LaneMove}
 use Rattle.pbd_pair.specs.Bonds.{bond_of, IsBound, IsEnd, IsSound, IsSoundShift}
-use Rattle.pbd_pair.specs.Projecting.{IsBatch, ShareNone}
-use Rattle.pbd_pair.specs.Lanes.{end_in, shift_in, moved_in, number_in, settled, Holds, Lays, AreGathered, AreEach, IsNamed, AreTogether, IsLaid}
+use Rattle.pbd_store.specs.Stored.{Stored}
+use Rattle.pbd_world.specs.declared.totals.Totals.{Totals}
+use Rattle.pbd_pair.specs.Projecting.{IsBatch, ShareNone, CanProject}
+use Rattle.pbd_pair.specs.Lanes.{end_in, lane_entries, shift_in, moved_in, number_in, settled, drawn_in, Holds, Lays, AreGathered, AreEach, IsNamed, AreTogether, IsLaid}
 use Rattle.pbd_pair.proofs.InLanes.{end_sound, free_end, same_lays, lays_sound}
-use Rattle.pbd_pair.proofs.LaneSteps.{size_at}
 use Rattle.pbd_pair.proofs.Ranges.{rest_fits}
 use Rattle.pbd_num.proofs.Sizes.{size_at_most}
 use Rattle.pbd_pair.proofs.Reaching.{nth, books, reached, reached_leaves, reached_all}
 use Rattle.pbd_pair.proofs.SideBySide.{side_by_side}
 use Rattle.pbd_pair.proofs.Blocks.{settled_same, own_number, bond_known, not_not}
 use Rattle.pbd_pair.proofs.Pinning.{pinned_all, settled_past, moved_is, moved_past, moved_short, plus_zero}
-
--- the entries of lane k
-abbrev pub lane_entries : {l : ℕ} → Bonds → List ℕ → BlockMoves l → ℕ → List Entry
-lane_entries bonds block moves k = entries_of (not (is_set moves.first_free k)) (not (is_set moves.second_free k)) (class_of (nth (bond_of bonds) block k)) (shift_in moves k)
 
 -- all bonds of a block are done
 pub record AreDone (limit : ℤ) (bonds : Bonds) (block : List ℕ) (m : Motion) (ps : List Particle) (t : Ledger) : Type 0 where
@@ -113,7 +111,7 @@ module _ {l : ℕ} {limit : ℤ} {size : ℕ} {bonds : Bonds} {block : List ℕ}
   pub stiff : (k : ℕ) → k < l → unsigned_abs (lane named.k k) ≤ 256
   stiff k p =
       let d = (bond_known some batch k).drawn in
-      size_at 256 (n.holds k p).k (size_at_most (bond_of bonds (number_in block k)).k 256 d.k_low d.k_high)
+      subst (λ (z : ℤ). unsigned_abs z ≤ 256) (sym (n.holds k p).k) (size_at_most (bond_of bonds (number_in block k)).k 256 d.k_low d.k_high)
 
 -- what the corrections ask of gathered ends
 module _ {l : ℕ} {limit : ℤ} {ps : List Particle} {bonds : Bonds} {block : List ℕ} {ends : BlockEnds l} (some : 0 < length block) (batch : IsBatch limit (length ps) bonds block) (weights : Weigh ps) (g : AreGathered ps (bond_of bonds) block ends) where
@@ -147,7 +145,7 @@ module _ {l : ℕ} {limit : ℤ} {ps : List Particle} {bonds : Bonds} {block : L
       ∙ not_not (particle_at ps i).held ∙ ap (λ (b : Bond). (particle_at ps b.b).held) (own k p)
 
   -- from what the bonds do with these ends
-  pub laid_by : ((k : ℕ) → k < length block → Lays (correction_of limit (end_in ends.first k) (end_in ends.second k) (nth (bond_of bonds) block k)) (is_set moves.moving k) (is_set moves.leaving k) (shift_in moves k)) → ((k : ℕ) → k < length block → is_set moves.moving k ≡ true → IsSoundShift limit (shift_in moves k)) → ((k : ℕ) → length block ≤ k → k < l → is_set moves.moving k ≡ false) → ((k : ℕ) → length block ≤ k → k < l → is_set moves.leaving k ≡ false) → ((k : ℕ) → k < l → is_set moves.first_free k ≡ int_lt (pos 0) (end_in ends.first k).weight) → ((k : ℕ) → k < l → is_set moves.second_free k ≡ int_lt (pos 0) (end_in ends.second k).weight) → IsLaid limit ps (bond_of bonds) block named.a named.b moves
+  pub laid_by : ((k : ℕ) → k < length block → Lays (correction_of limit (end_in ends.first k) (end_in ends.second k) (nth (bond_of bonds) block k)) (is_set moves.moving k) (is_set moves.leaving k) (shift_in moves k)) → ((k : ℕ) → k < length block → is_set moves.moving k ≡ true → IsSoundShift limit (shift_in moves k)) → ((k : ℕ) → length block ≤ k → k < l → is_set moves.moving k ≡ false) → ((k : ℕ) → length block ≤ k → k < l → is_set moves.leaving k ≡ false) → ((k : ℕ) → k < length block → is_set moves.first_free k ≡ int_lt (pos 0) (end_in ends.first k).weight) → ((k : ℕ) → k < length block → is_set moves.second_free k ≡ int_lt (pos 0) (end_in ends.second k).weight) → IsLaid limit ps (bond_of bonds) block named.a named.b moves
   laid_by lays sound not_moving not_leaving first_free second_free = record {
     first = λ k p. n.first k (in_lanes k p) ∙ ap (λ (b : Bond). b.a) (own k p);
     second = λ k p. n.second k (in_lanes k p) ∙ ap (λ (b : Bond). b.b) (own k p);
@@ -156,15 +154,15 @@ module _ {l : ℕ} {limit : ℤ} {ps : List Particle} {bonds : Bonds} {block : L
         ∙ (λ i. correction_of limit (end_of (particle_at ps (own k p i).a)) (end_of (particle_at ps (own k p i).b)) (nth (bond_of bonds) block k)))
         refl refl (lays k p);
     sound = sound;
-    first_held = λ k p. first_held k p (first_free k (in_lanes k p));
-    second_held = λ k p. second_held k p (second_free k (in_lanes k p));
+    first_held = λ k p. first_held k p (first_free k p);
+    second_held = λ k p. second_held k p (second_free k p);
     not_moving = not_moving;
     not_leaving = not_leaving;
   }
 
   -- one by one, at an equal limit
   pub laid_each : {m : ℤ} → m ≡ limit → AreEach m ends (bond_of bonds) block moves → IsLaid limit ps (bond_of bonds) block named.a named.b moves
-  laid_each em each = let e = subst (λ (x : ℤ). AreEach x ends (bond_of bonds) block moves) em each in laid_by e.lays e.sound (λ k p q. e.not_moving k p) (λ k p q. e.not_leaving k p) e.first_free e.second_free
+  laid_each em each = let e = subst (λ (x : ℤ). AreEach x ends (bond_of bonds) block moves) em each in laid_by (λ k p. (e.lanes k p).lays) e.sound (λ k p q. ap (λ (x : LaneMove). x.moving) (e.idle k p q)) (λ k p q. ap (λ (x : LaneMove). x.leaving) (e.idle k p q)) (λ k p. (e.lanes k p).first_free) (λ k p. (e.lanes k p).second_free)
 
   -- side by side
   pub laid_together : {m : ℤ} → m ≡ limit → AreTogether m ends named moves → IsLaid limit ps (bond_of bonds) block named.a named.b moves
@@ -172,23 +170,23 @@ module _ {l : ℕ} {limit : ℤ} {ps : List Particle} {bonds : Bonds} {block : L
       let t = subst (λ (x : ℤ). AreTogether x ends named moves) em together in
       let B : ℕ → Bond = λ k. bond_of bonds (number_in block k) in
       laid_by
-      (λ k p. let q = in_lanes k p in subst (λ (b : Bond). Lays (correction_of limit (end_in ends.first k) (end_in ends.second k) b) (is_set moves.moving k) (is_set moves.leaving k) (shift_in moves k)) (own k p) (t.lays k (B k) q (subst (λ (x : Bool). Holds named k x (B k)) (lt-ltb k (length block) p) (n.holds k q))))
-      (λ k p e. t.sound k (in_lanes k p))
-      (λ k p q. t.not_moving k (B k) q (subst (λ (x : Bool). Holds named k x (B k)) (le-ltb k (length block) p) (n.holds k q)))
-      (λ k p q. t.not_leaving k q)
-      t.first_free
-      t.second_free
+      (λ k p. let q = in_lanes k p in subst (λ (b : Bond). Lays (correction_of limit (end_in ends.first k) (end_in ends.second k) b) (is_set moves.moving k) (is_set moves.leaving k) (shift_in moves k)) (own k p) ((t.each k q).lays (B k) (subst (λ (x : Bool). Holds (drawn_in named k) x (B k)) (lt-ltb k (length block) p) (n.holds k q))))
+      (λ k p e. (t.each k (in_lanes k p)).sound)
+      (λ k p q. (t.each k q).not_moving (B k) (subst (λ (x : Bool). Holds (drawn_in named k) x (B k)) (le-ltb k (length block) p) (n.holds k q)))
+      (λ k p q. (t.each k q).not_leaving)
+      (λ k p. (t.each k (in_lanes k p)).first_free)
+      (λ k p. (t.each k (in_lanes k p)).second_free)
 
   -- a lane that doesn't move stays where it is
   pub first_stays : AreTogether limit ends named moves → (k : ℕ) → k < length block → is_set moves.moving k ≡ false → (shift_in moves k).first ≡ (particle_at ps (nth (bond_of bonds) block k).a).at
   first_stays t k p e =
       let q = in_lanes k p in
-      t.first k q ∙ (λ i. plus (g.first k q i).at ((t.rests k q e).first i)) ∙ plus_zero (particle_at ps (bond_of bonds (number_in block k)).a).at ∙ ap (λ (b : Bond). (particle_at ps b.a).at) (own k p)
+      (t.each k q).first ∙ (λ i. plus (g.first k q i).at (((t.each k q).rests e).first i)) ∙ plus_zero (particle_at ps (bond_of bonds (number_in block k)).a).at ∙ ap (λ (b : Bond). (particle_at ps b.a).at) (own k p)
 
   pub second_stays : AreTogether limit ends named moves → (k : ℕ) → k < length block → is_set moves.moving k ≡ false → (shift_in moves k).second ≡ (particle_at ps (nth (bond_of bonds) block k).b).at
   second_stays t k p e =
       let q = in_lanes k p in
-      t.second k q ∙ (λ i. plus (g.second k q i).at ((t.rests k q e).second i)) ∙ plus_zero (particle_at ps (bond_of bonds (number_in block k)).b).at ∙ ap (λ (b : Bond). (particle_at ps b.b).at) (own k p)
+      (t.each k q).second ∙ (λ i. plus (g.second k q i).at (((t.each k q).rests e).second i)) ∙ plus_zero (particle_at ps (bond_of bonds (number_in block k)).b).at ∙ ap (λ (b : Bond). (particle_at ps b.b).at) (own k p)
 
 pub at_limit : {l : ℕ} {m limit : ℤ} {ends : BlockEnds l} {named : BlockBonds l} {moves : BlockMoves l} → m ≡ limit → AreTogether m ends named moves → AreTogether limit ends named moves
 at_limit {l} {m} {limit} {ends} {named} {moves} e t = subst (λ (x : ℤ). AreTogether x ends named moves) e t
@@ -218,12 +216,35 @@ module _ {l : ℕ} {limit : ℤ} {named : BlockBonds l} {ends : BlockEnds l} {mo
   pub settled_together : added u classes.Pin (moved_in moves) ≡ settled (λ (k : ℕ). is_set moves.moving k) (lane_entries bonds block moves) (length block) u
   settled_together =
       ap (λ (v : Vec3). added u classes.Pin v) (sym (moved_is (λ k. shift_in moves k) l))
-      ∙ sym (pinned_all u (λ k. class_of (nth (bond_of bonds) block k)) (λ k. is_set moves.moving k) (λ k. is_set moves.first_free k) (λ k. is_set moves.second_free k) (λ k. shift_in moves k) l t.opposed t.rests)
+      ∙ sym (pinned_all u (λ k. class_of (nth (bond_of bonds) block k)) (λ k. is_set moves.moving k) (λ k. is_set moves.first_free k) (λ k. is_set moves.second_free k) (λ k. shift_in moves k) l (λ k p. (t.each k p).opposed) (λ k p. (t.each k p).rests))
       ∙ settled_past (λ k. is_set moves.moving k) (lane_entries bonds block moves) (length block) l u short not_moving
 
   pub moved_little : Within (length block * 2 ^ 32) (moved_in moves)
   moved_little =
       let shift : ℕ → Shift = λ k. shift_in moves k in
       subst (λ (v : Vec3). Within (length block * 2 ^ 32) v)
-      (sym (moved_past shift (length block) l short (λ k p q. t.rests k q (not_moving k p q))) ∙ moved_is shift l)
-      (moved_short shift (length block) (λ k p. (t.sound k (omega (arith, short))).first_move) (λ k p. (t.sound k (omega (arith, short))).second_move))
+      (sym (moved_past shift (length block) l short (λ k p q. (t.each k q).rests (not_moving k p q))) ∙ moved_is shift l)
+      (moved_short shift (length block) (λ k p. (t.each k (omega (arith, short))).sound.first_move) (λ k p. (t.each k (omega (arith, short))).sound.second_move))
+
+-- ---- a block that goes side by side
+
+module _ {l : ℕ} {bonds : Bonds} {block : List ℕ} {store : Stored} {totals : Totals} {named : BlockBonds l} {ends : BlockEnds l} {moves : BlockMoves l} (can : CanProject l bonds block store totals) (n : IsNamed (bond_of bonds) block named) (g : AreGathered store.particles (bond_of bonds) block ends) (t : AreTogether store.limit ends named moves) (set : List Bool) (own_is : (k : ℕ) → k < l → is_set set k ≡ nat_lt k (length block)) where
+  laid : IsLaid store.limit store.particles (bond_of bonds) block named.a named.b moves
+  laid = laid_together can.some can.short can.batch can.weights n g moves refl t
+
+  pub together_firsts : ((k : ℕ) → k < l → IsTrue (is_set set k) → index_at named.a k < length store.particles) × NamesApart l named.a set
+  together_firsts = (firsts_within can.short can.batch laid set (own_below block set own_is), firsts_differ can.short can.batch laid set (own_below block set own_is))
+
+  pub together_seconds : ((k : ℕ) → k < l → IsTrue (is_set set k) → index_at named.b k < length store.particles) × NamesApart l named.b set
+  together_seconds = (seconds_within can.short can.batch laid set (own_below block set own_is), seconds_differ can.short can.batch laid set (own_below block set own_is))
+
+  pub together_done : (mid new : List Particle) → Scattered l named.a set moves.first.x moves.first.y moves.first.z store.particles mid → Scattered l named.b set moves.second.x moves.second.y moves.second.z mid new → (v : Ledger) → v ≡ added (ledger_of totals) classes.Pin (moved_in moves) → AreDone store.limit bonds block (motion_of store totals) new v
+  together_done mid new one two v pins =
+      laid_done can.short can.batch laid (ledger_of totals) can.inside (λ k p. (t.each k (omega (arith, can.short))).not_leaving) set (own_unset block set own_is)
+      (λ k p e. absurd (false≢true (sym e ∙ own_set block set own_is can.short k p)))
+      (λ k p m e. first_stays can.some can.short can.batch can.weights n g moves t k p m)
+      (λ k p m e. second_stays can.some can.short can.batch can.weights n g moves t k p m)
+      mid new one two v (pins ∙ settled_together bonds block (ledger_of totals) can.short laid.not_moving t)
+
+  pub together_little : Within (length block * 2 ^ 32) (moved_in moves)
+  together_little = moved_little bonds block (ledger_of totals) can.short laid.not_moving t

@@ -4,16 +4,13 @@ pub mod Correcting
 pub mod Single
 pub mod OneByOne
 pub mod Laying
+pub mod Filling
 pub mod Together
 pub mod SideBySide
 pub mod Reaching
 pub mod InLanes
 pub mod Blocks
-pub mod LaneSteps
 pub mod Drawing
 pub mod Examples
-pub mod Even
 pub mod Pinning
-pub mod EachLane
-pub mod SideMoves
 pub mod LaidBlocks

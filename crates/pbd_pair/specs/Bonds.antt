@@ -1,6 +1,7 @@
 -- The bonds of a list, and their ranges.
 use Rattle.std.specs.Prelude.{◌≢◌, ℕ, ◌<◌, ◌≤◌, ◌^◌, ℤ, pos, ◌≤ℤ◌, ◌*ℤ◌, length, unsigned_abs}
-use Rattle.pbd_num.specs.Vectors.{Within}
+use Rattle.pbd_num.specs.declared.Vec3.{Vec3}
+use Rattle.pbd_num.specs.Vectors.{Within, plus}
 use Rattle.pbd_world.specs.declared.bond.Bond.{Bond}
 use Rattle.pbd_world.specs.declared.bond.End.{End}
 use Rattle.pbd_world.specs.declared.bond.Shift.{Shift}
@@ -45,6 +46,10 @@ pub record IsEnd (limit : ℤ) (e : End) : Type 0 where
   pub at : Within (unsigned_abs limit) e.at
   pub low : pos 0 ≤ℤ e.weight
   pub high : e.weight ≤ℤ pos 65535
+
+-- two moves, and the places to which they lead
+abbrev pub shift_by : End → End → Vec3 → Vec3 → Shift
+shift_by p q first second = record { first = plus p.at first; second = plus q.at second; first_move = first; second_move = second }
 
 -- the new places are within the limit, and the moves short
 pub record IsSoundShift (limit : ℤ) (s : Shift) : Type 0 where

@@ -3,6 +3,7 @@ use Rattle.std.specs.Prelude.{◌≡◌, ℕ, zero, suc, ◌<◌, ◌≤◌, ◌
 use Rattle.pbd_lanes.specs.Lane.{lane, is_set, sum_below}
 use Rattle.pbd_num.specs.Vectors.{plus, opposite, zero_vector}
 use Rattle.pbd_num.specs.declared.Vec3.{Vec3}
+use Rattle.pbd_num.specs.declared.tried.Draw.{Draw}
 use Rattle.pbd_world.specs.declared.parts.Particle.{Particle}
 use Rattle.pbd_world.specs.declared.bond.Bond.{Bond}
 use Rattle.pbd_world.specs.declared.bond.End.{End}
@@ -11,15 +12,17 @@ use Rattle.pbd_world.specs.declared.bond.Correction.{Correction}
 use Rattle.pbd_world.specs.declared.bond.Correction.TheVariants.{Slack, Leaves, Moves}
 use Rattle.pbd_world.specs.Ledger.{Ledger, Entry, booked}
 use Rattle.pbd_world.specs.Particles.{particle_at}
-use Rattle.pbd_world.specs.Bonds.{correction_at, correction_of, end_of}
+use Rattle.pbd_world.specs.Bonds.{correction_at, correction_of, end_of, entries_of, class_of}
 use Rattle.pbd_store.specs.Blocks.{place_of}
 use Rattle.pbd_store.specs.Gathering.{index_at}
 use Rattle.pbd_store.specs.declared.lanes3.Ends.{Ends}
 use Rattle.pbd_store.specs.declared.lanes3.Lanes3.{Lanes3}
-use Rattle.pbd_pair.specs.Bonds.{IsSoundShift}
+use Rattle.pbd_pair.specs.declared.bonds.Bonds.{Bonds}
+use Rattle.pbd_pair.specs.Bonds.{bond_of, IsSoundShift}
 use Rattle.pbd_pair.specs.declared.named.BlockBonds.{BlockBonds}
 use Rattle.pbd_pair.specs.declared.laid.BlockEnds.{BlockEnds}
 use Rattle.pbd_pair.specs.declared.laid.BlockMoves.{BlockMoves}
+use Rattle.pbd_pair.specs.declared.laid.LaneMove.{LaneMove}
 
 -- the place in lane j
 abbrev pub place_in : {l : ℕ} → Lanes3 l → ℕ → Vec3
@@ -37,17 +40,21 @@ number_in block j = slice_index_or block (min j (length block - 1)) 0
 abbrev pub reach_of : Bool → Bond → ℤ
 reach_of own b = if own then (if b.contact then b.rest else pos (2 ^ 31)) else pos 0
 
--- lane j has what a bond is drawn to, and its reach, if it is the lane's own
-pub record Holds {l : ℕ} (named : BlockBonds l) (j : ℕ) (own : Bool) (b : Bond) : Type 0 where
-  pub rest : lane named.rest j ≡ b.rest
-  pub k : lane named.k j ≡ b.k
-  pub reach : lane named.reach j ≡ reach_of own b
+-- what the bond in lane j is drawn to
+abbrev pub drawn_in : {l : ℕ} → BlockBonds l → ℕ → Draw
+drawn_in named j = record { rest = lane named.rest j; k = lane named.k j; reach = lane named.reach j }
+
+-- what a bond is drawn to, and its reach, if it is the lane's own
+pub record Holds (draw : Draw) (own : Bool) (b : Bond) : Type 0 where
+  pub rest : draw.rest ≡ b.rest
+  pub k : draw.k ≡ b.k
+  pub reach : draw.reach ≡ reach_of own b
 
 -- the lanes of a block: lane j names the ends of its bond and holds it
 pub record IsNamed {l : ℕ} (bond : ℕ → Bond) (block : List ℕ) (named : BlockBonds l) : Type 0 where
   pub first : (j : ℕ) → j < l → index_at named.a j ≡ (bond (number_in block j)).a
   pub second : (j : ℕ) → j < l → index_at named.b j ≡ (bond (number_in block j)).b
-  pub holds : (j : ℕ) → j < l → Holds named j (nat_lt j (length block)) (bond (number_in block j))
+  pub holds : (j : ℕ) → j < l → Holds (drawn_in named j) (nat_lt j (length block)) (bond (number_in block j))
 
 -- the ends of the bonds of a block, in their lanes
 pub record AreGathered {l : ℕ} (ps : List Particle) (bond : ℕ → Bond) (block : List ℕ) (ends : BlockEnds l) : Type 0 where
@@ -63,6 +70,26 @@ shift_in l j = record {
   second_move = place_of l.second_move.x l.second_move.y l.second_move.z j;
 }
 
+-- what the bond in lane j comes to
+abbrev pub lane_in : {l : ℕ} → BlockMoves l → ℕ → LaneMove
+lane_in m j = record {
+  moving = is_set m.moving j;
+  leaving = is_set m.leaving j;
+  shift = shift_in m j;
+  first_free = is_set m.first_free j;
+  second_free = is_set m.second_free j;
+}
+
+-- nothing moves
+abbrev pub idle_lane : LaneMove
+idle_lane = record {
+  moving = false;
+  leaving = false;
+  shift = record { first = zero_vector; second = zero_vector; first_move = zero_vector; second_move = zero_vector };
+  first_free = false;
+  second_free = false;
+}
+
 -- a lane holds a correction: whether it moves, whether it leaves the limit, and the shift of one that moves
 abbrev pub Lays : Correction → Bool → Bool → Shift → Type 0
 Lays Slack moving leaving t = (moving ≡ false) × (leaving ≡ false)
@@ -73,6 +100,10 @@ Lays (Moves s) moving leaving t = (moving ≡ true) × ((leaving ≡ false) × (
 abbrev pub settled : (ℕ → Bool) → (ℕ → List Entry) → ℕ → Ledger → Ledger
 settled moving entries zero t = t
 settled moving entries (suc n) t = if moving n then booked (settled moving entries n t) (entries n) else settled moving entries n t
+
+-- the entries of the bond in lane k
+abbrev pub lane_entries : {l : ℕ} → Bonds → List ℕ → BlockMoves l → ℕ → List Entry
+lane_entries bonds block moves k = entries_of (not (is_set moves.first_free k)) (not (is_set moves.second_free k)) (class_of (bond_of bonds (slice_index_or block k 0))) (shift_in moves k)
 
 -- both ends of a lane: two free ends move oppositely, and a held one stays
 pub record Opposed (first_free second_free : Bool) (t : Shift) : Type 0 where
@@ -85,27 +116,35 @@ pub record Rests (t : Shift) : Type 0 where
   pub first : t.first_move ≡ zero_vector
   pub second : t.second_move ≡ zero_vector
 
+-- a lane holds what a correction of two ends comes to
+pub record IsLane (c : Correction) (p q : End) (lane : LaneMove) : Type 0 where
+  pub lays : Lays c lane.moving lane.leaving lane.shift
+  pub first_free : lane.first_free ≡ int_lt (pos 0) p.weight
+  pub second_free : lane.second_free ≡ int_lt (pos 0) q.weight
+
 -- lanes that do what the bonds of a block do with these ends. Those without a bond do nothing
 pub record AreEach {l : ℕ} (limit : ℤ) (ends : BlockEnds l) (bond : ℕ → Bond) (block : List ℕ) (moves : BlockMoves l) : Type 0 where
-  pub lays : (k : ℕ) → k < length block → Lays (correction_of limit (end_in ends.first k) (end_in ends.second k) (bond (slice_index_or block k 0))) (is_set moves.moving k) (is_set moves.leaving k) (shift_in moves k)
+  pub lanes : (k : ℕ) → k < length block
+      → IsLane (correction_of limit (end_in ends.first k) (end_in ends.second k) (bond (slice_index_or block k 0))) (end_in ends.first k) (end_in ends.second k) (lane_in moves k)
   pub sound : (k : ℕ) → k < length block → is_set moves.moving k ≡ true → IsSoundShift limit (shift_in moves k)
-  pub not_moving : (k : ℕ) → length block ≤ k → is_set moves.moving k ≡ false
-  pub not_leaving : (k : ℕ) → length block ≤ k → is_set moves.leaving k ≡ false
-  pub first_free : (k : ℕ) → k < l → is_set moves.first_free k ≡ int_lt (pos 0) (end_in ends.first k).weight
-  pub second_free : (k : ℕ) → k < l → is_set moves.second_free k ≡ int_lt (pos 0) (end_in ends.second k).weight
+  pub idle : (k : ℕ) → length block ≤ k → k < l → lane_in moves k ≡ idle_lane
+
+-- a lane does what its bond does with these ends, where that leaves neither out of the limit
+pub record Does (limit : ℤ) (p q : End) (draw : Draw) (lane : LaneMove) : Type 0 where
+  pub lays : (b : Bond) → Holds draw true b → Lays (correction_of limit p q b) lane.moving lane.leaving lane.shift
+  pub not_moving : (b : Bond) → Holds draw false b → lane.moving ≡ false
+  pub not_leaving : lane.leaving ≡ false
+  pub sound : IsSoundShift limit lane.shift
+  pub first_free : lane.first_free ≡ int_lt (pos 0) p.weight
+  pub second_free : lane.second_free ≡ int_lt (pos 0) q.weight
+  pub first : lane.shift.first ≡ plus p.at lane.shift.first_move
+  pub second : lane.shift.second ≡ plus q.at lane.shift.second_move
+  pub rests : lane.moving ≡ false → Rests lane.shift
+  pub opposed : Opposed lane.first_free lane.second_free lane.shift
 
 -- lanes that do what their bonds do with these ends, where no bond would leave the limit
 pub record AreTogether {l : ℕ} (limit : ℤ) (ends : BlockEnds l) (named : BlockBonds l) (moves : BlockMoves l) : Type 0 where
-  pub lays : (j : ℕ) (b : Bond) → j < l → Holds named j true b → Lays (correction_of limit (end_in ends.first j) (end_in ends.second j) b) (is_set moves.moving j) (is_set moves.leaving j) (shift_in moves j)
-  pub not_moving : (j : ℕ) (b : Bond) → j < l → Holds named j false b → is_set moves.moving j ≡ false
-  pub not_leaving : (j : ℕ) → j < l → is_set moves.leaving j ≡ false
-  pub sound : (j : ℕ) → j < l → IsSoundShift limit (shift_in moves j)
-  pub first_free : (j : ℕ) → j < l → is_set moves.first_free j ≡ int_lt (pos 0) (end_in ends.first j).weight
-  pub second_free : (j : ℕ) → j < l → is_set moves.second_free j ≡ int_lt (pos 0) (end_in ends.second j).weight
-  pub first : (j : ℕ) → j < l → (shift_in moves j).first ≡ plus (end_in ends.first j).at (shift_in moves j).first_move
-  pub second : (j : ℕ) → j < l → (shift_in moves j).second ≡ plus (end_in ends.second j).at (shift_in moves j).second_move
-  pub rests : (j : ℕ) → j < l → is_set moves.moving j ≡ false → Rests (shift_in moves j)
-  pub opposed : (j : ℕ) → j < l → Opposed (is_set moves.first_free j) (is_set moves.second_free j) (shift_in moves j)
+  pub each : (j : ℕ) → j < l → Does limit (end_in ends.first j) (end_in ends.second j) (drawn_in named j) (lane_in moves j)
 
 -- what the ends of all l lanes move together
 abbrev pub moved_in : {l : ℕ} → BlockMoves l → Vec3

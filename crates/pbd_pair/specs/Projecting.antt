@@ -1,6 +1,12 @@
 -- Batches of bonds.
-use Rattle.std.specs.Prelude.{◌≡◌, ℕ, ◌<◌, ℤ, List, length, slice_index_or}
+use Rattle.std.specs.Prelude.{◌≡◌, ℕ, ◌+◌, ◌*◌, ◌^◌, ◌<◌, ◌≤◌, ℤ, List, length, slice_index_or, Result}
 use Rattle.pbd_world.specs.declared.bond.Bond.{Bond}
+use Rattle.pbd_world.specs.declared.totals.Totals.{Totals}
+use Rattle.pbd_world.specs.Ledger.{ledger_of, HaveRoom}
+use Rattle.pbd_world.specs.Particles.{Motion}
+use Rattle.pbd_world.specs.Bonds.{projected}
+use Rattle.pbd_store.specs.Stored.{Stored}
+use Rattle.pbd_store.specs.Moving.{motion_of, fixed_parts, AreInside, Weigh}
 use Rattle.pbd_pair.specs.declared.bonds.Bonds.{Bonds}
 use Rattle.pbd_pair.specs.Bonds.{bond_of, bond_count, IsBond}
 
@@ -20,3 +26,23 @@ pub record IsBatch (limit : ℤ) (n : ℕ) (bonds : Bonds) (batch : List ℕ) : 
   pub numbers : (i : ℕ) → i < length batch → slice_index_or batch i 0 < bond_count bonds
   pub bond : (i : ℕ) → i < length batch → IsBond limit n (bond_of bonds (slice_index_or batch i 0))
   pub apart : AreApart (bond_of bonds) batch
+
+-- 1 to l bonds can be projected together: no two have a common particle, the store is sound, and the ledger has room
+pub record CanProject (l : ℕ) (bonds : Bonds) (block : List ℕ) (s : Stored) (t : Totals) : Type 0 where
+  pub short : length block ≤ l
+  pub some : 0 < length block
+  pub batch : IsBatch s.limit (length s.particles) bonds block
+  pub inside : AreInside s.limit s.particles
+  pub weights : Weigh s.particles
+  pub room : HaveRoom (2 ^ 124) (ledger_of t)
+
+-- what the bonds of a block come to one by one
+abbrev pub projected_block : Bonds → List ℕ → Stored → Totals → Result Motion ℕ
+projected_block bonds block s t = projected s.limit (bond_of bonds) block (motion_of s t)
+
+-- what n bonds leave as it was, and how much they add to the ledger
+pub record LeavesRest (n : ℕ) (old new : Stored) (t u : Totals) : Type 0 where
+  pub limit : new.limit ≡ old.limit
+  pub inside : AreInside old.limit new.particles
+  pub fixed : fixed_parts new.particles ≡ fixed_parts old.particles
+  pub room : (k : ℕ) → HaveRoom k (ledger_of t) → HaveRoom (k + n * 2 ^ 32) (ledger_of u)

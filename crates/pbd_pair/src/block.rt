@@ -3,82 +3,63 @@ ghost use Rattle.std.specs.Prelude.{◌≡◌, ℕ, ◌<◌, ◌≤◌, ◌^◌,
 ghost use Rattle.pbd_num.specs.Vectors.{Within};
 ghost use Rattle.pbd_world.specs.Ledger.{ledger_of, added, booked, HaveRoom};
 ghost use Rattle.pbd_world.specs.Particles.{particle_at};
-ghost use Rattle.pbd_world.specs.Bonds.{projected, entries_of, class_of, end_of};
+ghost use Rattle.pbd_world.specs.Bonds.{entries_of, class_of, end_of};
 ghost use Rattle.pbd_store.specs.Gathering.{index_at};
+ghost use Rattle.pbd_store.specs.Moving.{motion_of};
 ghost use Rattle.pbd_lanes.specs.Lane.{is_set};
 ghost use Rattle.pbd_pair.specs.Bonds.{bond_of, bond_count};
-ghost use Rattle.pbd_store.specs.Moving.{motion_of, fixed_parts, AreInside, Weigh};
-ghost use Rattle.pbd_pair.specs.Projecting.{IsBatch};
-ghost use Rattle.pbd_pair.specs.Lanes.{end_in, shift_in, moved_in, settled, AreGathered};
+ghost use Rattle.pbd_pair.specs.Projecting.{projected_block, CanProject, LeavesRest};
+ghost use Rattle.pbd_pair.specs.Lanes.{end_in, lane_entries, shift_in, moved_in, settled, AreGathered};
 ghost use Rattle.pbd_world.specs.declared.totals.Class.TheVariants as classes;
 
-use crate::bonds::Bonds;
 use crate::book::book;
 use crate::correct::limit_of;
 use crate::each::corrected_each;
-use crate::laid::{BlockEnds, BlockMoves};
-use crate::named::{BlockBonds, every_lane, first_lanes, name_block};
+use crate::laid::{BlockEnds, BlockMoves, LaneMove};
+use crate::named::{Block, BlockBonds, every_lane, first_lanes, name_block};
 use crate::tried::tried_moves;
 use pbd_lanes::Mask;
 use pbd_num::Vec3;
 use pbd_store::{Steps, Store};
-use pbd_world::{Bond, Class, Left, Shift, Totals};
+use pbd_world::{Bond, Class, Left, Totals};
 use std::sync::ledger::Ledger;
 
 // Adds the moves of a bond that moves its ends to the totals.
 #[inline(always)]
-fn book_if_moving(
-    totals: &mut Totals,
-    moving: bool,
-    first_held: bool,
-    second_held: bool,
-    bond: Bond,
-    shift: Shift,
-)
+fn book_if_moving(totals: &mut Totals, bond: Bond, lane: LaneMove)
     requires room { HaveRoom (2 ^ 125) (ledger_of totals.old) }
-    requires first { moving ≡ true → Within (2 ^ 31) shift.first_move }
-    requires second { moving ≡ true → Within (2 ^ 31) shift.second_move }
+    requires first { lane.moving ≡ true → Within (2 ^ 31) lane.shift.first_move }
+    requires second { lane.moving ≡ true → Within (2 ^ 31) lane.shift.second_move }
     ensures value { ledger_of totals.new
-        ≡ (if moving then booked (ledger_of totals.old) (entries_of first_held second_held (class_of bond) shift) else ledger_of
+        ≡ (if lane.moving then booked (ledger_of totals.old) (entries_of (not lane.first_free) (not lane.second_free) (class_of bond) lane.shift) else ledger_of
         totals.old) }
     ensures room { (n : ℕ) → HaveRoom n (ledger_of totals.old) → HaveRoom (n + 2 ^ 32) (ledger_of totals.new) }
 {
-    if moving {
-        book(totals, first_held, second_held, bond, shift);
+    if lane.moving {
+        book(
+            totals,
+            !lane.first_free,
+            !lane.second_free,
+            bond,
+            lane.shift,
+        );
     }
 }
 
 #[inline(always)]
-fn book_each<const L: usize>(
-    totals: &mut Totals,
-    bonds: &Bonds<'_>,
-    block: &[u32],
-    laid: &BlockMoves<L>,
-)
+fn book_each<const L: usize>(totals: &mut Totals, block: &Block<'_>, laid: &BlockMoves<L>)
     requires lanes { L ≤ 16 }
-    requires short { length block.now ≤ L }
-    requires numbers { (j : ℕ) → j < length block.now → slice_index_or block.now j 0 < bond_count bonds.now }
+    requires short { length block.now.numbers.now ≤ L }
+    requires numbers { (j : ℕ) → j < length block.now.numbers.now → slice_index_or block.now.numbers.now j 0 < bond_count block.now.bonds }
     requires room { HaveRoom (2 ^ 124) (ledger_of totals.old) }
-    requires first { (j : ℕ) → j < length block.now → is_set laid.now.moving j ≡ true → Within (2 ^ 31) (shift_in laid.now j).first_move }
-    requires second { (j : ℕ) → j < length block.now → is_set laid.now.moving j ≡ true → Within (2 ^ 31) (shift_in laid.now j).second_move }
+    requires first { (j : ℕ) → j < length block.now.numbers.now → is_set laid.now.moving j ≡ true → Within (2 ^ 31) (shift_in laid.now j).first_move }
+    requires second { (j : ℕ) → j < length block.now.numbers.now → is_set laid.now.moving j ≡ true → Within (2 ^ 31) (shift_in laid.now j).second_move }
     ensures value { ledger_of totals.new ≡ settled (λ j. is_set laid.now.moving j)
-        (λ j. entries_of (not (is_set laid.now.first_free j)) (not (is_set laid.now.second_free j)) (class_of (bond_of bonds.now (slice_index_or block.now j 0))) (shift_in laid.now j))
-        (length block.now) (ledger_of totals.old) }
-    ensures room { (n : ℕ) → HaveRoom n (ledger_of totals.old) → HaveRoom (n + length block.now * 2 ^ 32) (ledger_of totals.new) }
+        (lane_entries block.now.bonds block.now.numbers.now laid.now) (length block.now.numbers.now) (ledger_of totals.old) }
+    ensures room { (n : ℕ) → HaveRoom n (ledger_of totals.old) → HaveRoom (n + length block.now.numbers.now * 2 ^ 32) (ledger_of totals.new) }
 {
-    let moving = laid.moving.to_array();
-    let first_free = laid.first_free.to_array();
-    let second_free = laid.second_free.to_array();
-    for (j, n) in block.iter().enumerate() {
-        let bond = bonds.get(*n);
-        book_if_moving(
-            totals,
-            moving[j],
-            !first_free[j],
-            !second_free[j],
-            bond,
-            laid.shift(j),
-        );
+    for (j, n) in block.numbers.iter().enumerate() {
+        book_if_moving(totals, block.bonds.get(*n), laid.lane(j));
     }
 }
 
@@ -123,37 +104,30 @@ fn gather_ends<const L: usize, G: Ledger>(
 #[inline(never)]
 fn project_each<const L: usize, G: Ledger>(
     store: &mut Store<L>,
-    bonds: &Bonds<'_>,
-    block: &[u32],
-    ends: BlockEnds<L>,
+    block: &Block<'_>,
+    ends: &BlockEnds<L>,
     totals: &mut Totals,
     steps: &mut Steps<G>,
 ) -> Result<(), Left>
     requires lanes { L ≤ 16 }
-    requires short { length block.now ≤ L }
-    requires some { 0 < length block.now }
-    requires block { IsBatch store.old.limit (length store.old.particles) bonds.now block.now }
-    requires ends { AreGathered store.old.particles (bond_of bonds.now) block.now ends }
-    requires inside { AreInside store.old.limit store.old.particles }
-    requires weights { Weigh store.old.particles }
-    requires room { HaveRoom (2 ^ 124) (ledger_of totals.old) }
+    requires can { CanProject L block.now.bonds block.now.numbers.now store.old totals.old }
+    requires ends { AreGathered store.old.particles (bond_of block.now.bonds) block.now.numbers.now ends.now }
     ensures outcome { MatchResult result
-        (λ _. projected store.old.limit (bond_of bonds.now) block.now (motion_of store.old totals.old) ≡ Ok (motion_of store.new totals.new))
-        (λ left. projected store.old.limit (bond_of bonds.now) block.now (motion_of store.old totals.old) ≡ Err left.element) }
-    ensures limit { store.new.limit ≡ store.old.limit }
-    ensures inside { AreInside store.old.limit store.new.particles }
-    ensures fixed { fixed_parts store.new.particles ≡ fixed_parts store.old.particles }
-    ensures room { (n : ℕ) → HaveRoom n (ledger_of totals.old) → HaveRoom (n + length block.now * 2 ^ 32) (ledger_of totals.new) }
+        (λ _. projected_block block.now.bonds block.now.numbers.now store.old totals.old ≡ Ok (motion_of store.new totals.new))
+        (λ left. projected_block block.now.bonds block.now.numbers.now store.old totals.old ≡ Err left.element) }
+    ensures rest { LeavesRest (length block.now.numbers.now) store.old store.new totals.old totals.new }
     ensures cost { steps.new ≤ steps.old + 2 }
 {
     let limit = limit_of(store);
-    let own = first_lanes(block.len());
-    let named: BlockBonds<L> = name_block(bonds, block, &own);
-    let moves = corrected_each(limit, &ends, bonds, block);
+    let own = first_lanes(block.numbers.len());
+    let named: BlockBonds<L> = name_block(block, &own);
+    let moves = corrected_each(limit, ends, block);
     if let Some(j) = moves.leaving.first() {
-        return Err(Left { element: block[j] });
+        return Err(Left {
+            element: block.numbers[j],
+        });
     }
-    book_each(totals, bonds, block, &moves);
+    book_each(totals, block, &moves);
     store.scatter(&named.a, &moves.moving, &moves.first, steps);
     store.scatter(&named.b, &moves.moving, &moves.second, steps);
     Ok(())
@@ -164,31 +138,22 @@ fn project_each<const L: usize, G: Ledger>(
 #[inline(always)]
 fn project_lanes<const L: usize, G: Ledger>(
     store: &mut Store<L>,
-    bonds: &Bonds<'_>,
-    block: &[u32],
+    block: &Block<'_>,
     own: &Mask<L>,
     totals: &mut Totals,
     steps: &mut Steps<G>,
 ) -> Result<(), Left>
     requires lanes { L ≤ 16 }
-    requires short { length block.now ≤ L }
-    requires some { 0 < length block.now }
-    requires own { (j : ℕ) → j < L → is_set own.now j ≡ nat_lt j (length block.now) }
-    requires block { IsBatch store.old.limit (length store.old.particles) bonds.now block.now }
-    requires inside { AreInside store.old.limit store.old.particles }
-    requires weights { Weigh store.old.particles }
-    requires room { HaveRoom (2 ^ 124) (ledger_of totals.old) }
+    requires can { CanProject L block.now.bonds block.now.numbers.now store.old totals.old }
+    requires own { (j : ℕ) → j < L → is_set own.now j ≡ nat_lt j (length block.now.numbers.now) }
     ensures outcome { MatchResult result
-        (λ _. projected store.old.limit (bond_of bonds.now) block.now (motion_of store.old totals.old) ≡ Ok (motion_of store.new totals.new))
-        (λ left. projected store.old.limit (bond_of bonds.now) block.now (motion_of store.old totals.old) ≡ Err left.element) }
-    ensures limit { store.new.limit ≡ store.old.limit }
-    ensures inside { AreInside store.old.limit store.new.particles }
-    ensures fixed { fixed_parts store.new.particles ≡ fixed_parts store.old.particles }
-    ensures room { (n : ℕ) → HaveRoom n (ledger_of totals.old) → HaveRoom (n + length block.now * 2 ^ 32) (ledger_of totals.new) }
+        (λ _. projected_block block.now.bonds block.now.numbers.now store.old totals.old ≡ Ok (motion_of store.new totals.new))
+        (λ left. projected_block block.now.bonds block.now.numbers.now store.old totals.old ≡ Err left.element) }
+    ensures rest { LeavesRest (length block.now.numbers.now) store.old store.new totals.old totals.new }
     ensures cost { steps.new ≤ steps.old + 4 }
 {
     let limit = limit_of(store);
-    let named: BlockBonds<L> = name_block(bonds, block, own);
+    let named: BlockBonds<L> = name_block(block, own);
     let ends = gather_ends(store, &named, steps);
     let mut right = false;
     let moves = tried_moves(limit, &ends, &named, &mut right);
@@ -198,44 +163,29 @@ fn project_lanes<const L: usize, G: Ledger>(
         store.scatter(&named.b, own, &moves.second, steps);
         return Ok(());
     }
-    project_each(store, bonds, block, ends, totals, steps)
+    project_each(store, block, &ends, totals, steps)
 }
 
 /// Projects a block of 1 to L bonds. A whole one has code of its own, without masks.
 #[inline(always)]
 pub(crate) fn project_block<const L: usize, G: Ledger>(
     store: &mut Store<L>,
-    bonds: &Bonds<'_>,
-    block: &[u32],
+    block: &Block<'_>,
     totals: &mut Totals,
     steps: &mut Steps<G>,
 ) -> Result<(), Left>
     requires lanes { L ≤ 16 }
-    requires short { length block.now ≤ L }
-    requires some { 0 < length block.now }
-    requires block { IsBatch store.old.limit (length store.old.particles) bonds.now block.now }
-    requires inside { AreInside store.old.limit store.old.particles }
-    requires weights { Weigh store.old.particles }
-    requires room { HaveRoom (2 ^ 124) (ledger_of totals.old) }
+    requires can { CanProject L block.now.bonds block.now.numbers.now store.old totals.old }
     ensures outcome { MatchResult result
-        (λ _. projected store.old.limit (bond_of bonds.now) block.now (motion_of store.old totals.old) ≡ Ok (motion_of store.new totals.new))
-        (λ left. projected store.old.limit (bond_of bonds.now) block.now (motion_of store.old totals.old) ≡ Err left.element) }
-    ensures limit { store.new.limit ≡ store.old.limit }
-    ensures inside { AreInside store.old.limit store.new.particles }
-    ensures fixed { fixed_parts store.new.particles ≡ fixed_parts store.old.particles }
-    ensures room { (n : ℕ) → HaveRoom n (ledger_of totals.old) → HaveRoom (n + length block.now * 2 ^ 32) (ledger_of totals.new) }
+        (λ _. projected_block block.now.bonds block.now.numbers.now store.old totals.old ≡ Ok (motion_of store.new totals.new))
+        (λ left. projected_block block.now.bonds block.now.numbers.now store.old totals.old ≡ Err left.element) }
+    ensures rest { LeavesRest (length block.now.numbers.now) store.old store.new totals.old totals.new }
     ensures cost { steps.new ≤ steps.old + 4 }
 {
-    if block.len() == L {
-        project_lanes(store, bonds, block, &every_lane(), totals, steps)
+    if block.numbers.len() == L {
+        project_lanes(store, block, &every_lane(), totals, steps)
     } else {
-        project_lanes(
-            store,
-            bonds,
-            block,
-            &first_lanes(block.len()),
-            totals,
-            steps,
-        )
+        let own = first_lanes(block.numbers.len());
+        project_lanes(store, block, &own, totals, steps)
     }
 }

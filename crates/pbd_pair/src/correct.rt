@@ -3,7 +3,7 @@ ghost use Rattle.std.specs.Prelude.{◌≡◌, ◌≤◌, ◌^◌, pos, unsigned
 ghost use Rattle.pbd_num.specs.Vectors.{Within, plus, is_within};
 ghost use Rattle.pbd_world.specs.Particles.{effective_weight};
 ghost use Rattle.pbd_world.specs.Bonds.{end_of, is_slack, shift_of, correction_of};
-ghost use Rattle.pbd_pair.specs.Bonds.{IsBound, IsDrawn, IsEnd, IsSound};
+ghost use Rattle.pbd_pair.specs.Bonds.{IsBound, IsDrawn, IsEnd, IsSound, shift_by};
 
 use pbd_num::{Vec3, distance, pair_move, within};
 use pbd_store::Store;
@@ -46,6 +46,23 @@ fn slack(p: End, q: End, bond: Bond) -> bool
     bond.contact && bond.rest <= distance(p.at, q.at)
 }
 
+/// Two moves, and the places to which they lead.
+#[inline(always)]
+pub(crate) fn moved(p: End, q: End, first_move: Vec3, second_move: Vec3) -> Shift
+    requires p { Within (2 ^ 29) p.at }
+    requires q { Within (2 ^ 29) q.at }
+    requires first { Within (2 ^ 31) first_move }
+    requires second { Within (2 ^ 31) second_move }
+    ensures { result ≡ shift_by p q first_move second_move }
+{
+    Shift {
+        first: p.at.plus(first_move),
+        second: q.at.plus(second_move),
+        first_move,
+        second_move,
+    }
+}
+
 #[tactic(auto, unfolding(pbd_world::specs::Bonds::shift_of))]
 fn shifted(p: End, q: End, bond: Bond) -> Shift
     requires p { Within (2 ^ 29) p.at }
@@ -63,22 +80,20 @@ fn shifted(p: End, q: End, bond: Bond) -> Shift
     ensures second { Within (2 ^ 31) result.second_move }
 {
     let (first_move, second_move) = pair_move(p.at, q.at, bond.rest, bond.k, p.weight, q.weight);
-    Shift {
-        first: p.at.plus(first_move),
-        second: q.at.plus(second_move),
-        first_move,
-        second_move,
-    }
+    moved(p, q, first_move, second_move)
 }
 
-// Whether both new places are within the limit.
-fn stays(shift: Shift, limit: i64) -> bool
+/// Whether both new places are within the limit.
+#[inline(always)]
+pub(crate) fn stays(shift: Shift, limit: i64) -> bool
     requires { IsBound limit }
     ensures test { result ≡ (is_within limit shift.first && is_within limit shift.second) }
     ensures first { IsTrue result → Within (unsigned_abs limit) shift.first }
     ensures second { IsTrue result → Within (unsigned_abs limit) shift.second }
 {
-    within(shift.first, limit) && within(shift.second, limit)
+    let first = within(shift.first, limit);
+    let second = within(shift.second, limit);
+    first & second
 }
 
 /// What a bond does with its two ends: nothing where a contact is long enough. Else each end moves its

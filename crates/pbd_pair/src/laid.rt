@@ -1,10 +1,12 @@
 // What the bonds of a block come to, in lanes.
-ghost use Rattle.std.specs.Prelude.{◌≡◌, ◌<◌};
-ghost use Rattle.pbd_pair.specs.Lanes.{shift_in};
+ghost use Rattle.std.specs.Prelude.{◌≡◌, ℕ, ◌<◌, ◌≤◌};
+ghost use Rattle.pbd_num.specs.Vectors.{zero_vector};
+ghost use Rattle.pbd_pair.specs.Lanes.{end_in, idle_lane, lane_in, place_in};
 
-use pbd_lanes::Mask;
+use pbd_lanes::{Lanes, Mask};
+use pbd_num::Vec3;
 use pbd_store::{Ends, Lanes3};
-use pbd_world::Shift;
+use pbd_world::{End, Shift};
 
 /// The ends of L bonds.
 #[derive(Clone, Copy)]
@@ -13,8 +15,18 @@ pub(crate) struct BlockEnds<const L: usize> {
     pub(crate) second: Ends<L>,
 }
 
-/// What L bonds come to: those that move their ends, those that would move one out of the limit, the new places
-/// and the moves of those that move, and which ends are free.
+/// What one bond comes to: whether it moves its ends, whether it would move one out of the limit, the new places
+/// and the moves, and which ends are free.
+#[derive(Clone, Copy)]
+pub(crate) struct LaneMove {
+    pub(crate) moving: bool,
+    pub(crate) leaving: bool,
+    pub(crate) shift: Shift,
+    pub(crate) first_free: bool,
+    pub(crate) second_free: bool,
+}
+
+/// What L bonds come to, each number in an array of its own.
 #[derive(Clone, Copy)]
 pub(crate) struct BlockMoves<const L: usize> {
     pub(crate) moving: Mask<L>,
@@ -27,18 +39,98 @@ pub(crate) struct BlockMoves<const L: usize> {
     pub(crate) second_free: Mask<L>,
 }
 
+/// The end in lane j.
+#[inline(always)]
+pub(crate) fn end_at<const L: usize>(ends: &Ends<L>, j: usize) -> End
+    requires lanes { L ≤ 16 }
+    requires within { j < L }
+    ensures { result ≡ end_in ends.now j }
+{
+    End {
+        at: ends.at.place(j),
+        weight: ends.weight.at(j),
+    }
+}
+
+#[inline(always)]
+fn origins<const L: usize>() -> Lanes3<L>
+    requires { L ≤ 16 }
+    ensures { (j : ℕ) → j < L → place_in result j ≡ zero_vector }
+{
+    Lanes3 {
+        x: Lanes::splat(0),
+        y: Lanes::splat(0),
+        z: Lanes::splat(0),
+    }
+}
+
+#[inline(always)]
+fn put_place<const L: usize>(places: &mut Lanes3<L>, j: usize, place: Vec3)
+    requires lanes { L ≤ 16 }
+    requires within { j < L }
+    ensures here { place_in places.new j ≡ place }
+    ensures others { (k : ℕ) → (k ≡ j → ⊥) → place_in places.new k ≡ place_in places.old k }
+{
+    places.x.put(j, place.x);
+    places.y.put(j, place.y);
+    places.z.put(j, place.z);
+}
+
 impl<const L: usize> BlockMoves<L> {
-    /// The shift in lane j.
+    /// No bond moves.
     #[inline(always)]
-    pub(crate) fn shift(&self, j: usize) -> Shift
-        requires { j < L }
-        ensures { result ≡ shift_in self.now j }
+    pub(crate) fn none() -> BlockMoves<L>
+        requires { L ≤ 16 }
+        ensures { (j : ℕ) → j < L → lane_in result j ≡ idle_lane }
     {
-        Shift {
-            first: self.first.place(j),
-            second: self.second.place(j),
-            first_move: self.first_move.place(j),
-            second_move: self.second_move.place(j),
+        BlockMoves {
+            moving: Mask::splat(false),
+            leaving: Mask::splat(false),
+            first: origins(),
+            second: origins(),
+            first_move: origins(),
+            second_move: origins(),
+            first_free: Mask::splat(false),
+            second_free: Mask::splat(false),
+        }
+    }
+
+    /// Puts what a bond comes to into lane j.
+    #[inline(always)]
+    pub(crate) fn put(&mut self, j: usize, lane: LaneMove)
+        requires lanes { L ≤ 16 }
+        requires within { j < L }
+        ensures here { lane_in self.new j ≡ lane }
+        ensures others { (k : ℕ) → (k ≡ j → ⊥) → lane_in self.new k ≡ lane_in self.old k }
+    {
+        self.moving.put(j, lane.moving);
+        self.leaving.put(j, lane.leaving);
+        put_place(&mut self.first, j, lane.shift.first);
+        put_place(&mut self.second, j, lane.shift.second);
+        put_place(&mut self.first_move, j, lane.shift.first_move);
+        put_place(&mut self.second_move, j, lane.shift.second_move);
+        self.first_free.put(j, lane.first_free);
+        self.second_free.put(j, lane.second_free);
+    }
+
+    /// What the bond in lane j comes to.
+    #[inline(always)]
+    pub(crate) fn lane(&self, j: usize) -> LaneMove
+        requires lanes { L ≤ 16 }
+        requires within { j < L }
+        ensures { result ≡ lane_in self.now j }
+    {
+        LaneMove {
+            moving: self.moving.at(j),
+            leaving: self.leaving.at(j),
+            shift: Shift {
+                first: self.first.place(j),
+                second: self.second.place(j),
+                first_move: self.first_move.place(j),
+                second_move: self.second_move.place(j),
+            },
+            first_free: self.first_free.at(j),
+            second_free: self.second_free.at(j),
         }
     }
 }

@@ -2,6 +2,7 @@ ghost use Rattle.std.specs.Prelude.{◌≡◌};
 
 use crate::block::project_block;
 use crate::bonds::Bonds;
+use crate::named::Block;
 use crate::projector::Projector;
 use pbd_store::{Steps, Store};
 use pbd_world::{Left, Totals};
@@ -46,8 +47,9 @@ impl<const L: usize> Projector<L> for LaneProjector<L> {
         let mut rest = batch;
         'steps_on: while !rest.is_empty() {
             let size = rest.len().min(L);
-            let (block, after) = rest.split_at(size);
-            if let Err(left) = project_block(store, &bonds, block, totals, steps) {
+            let (numbers, after) = rest.split_at(size);
+            let block = Block { bonds, numbers };
+            if let Err(left) = project_block(store, &block, totals, steps) {
                 return Err(left);
             }
             rest = after;

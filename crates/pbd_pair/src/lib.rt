@@ -14,7 +14,6 @@ mod parts;
 mod projector;
 mod scalar;
 mod tried;
-mod wide;
 
 pub use bonds::Bonds;
 pub use lanes::LaneProjector;

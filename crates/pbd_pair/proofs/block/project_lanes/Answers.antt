@@ -1,14 +1,16 @@
-use Rattle.std.proofs.lemmas.Bool.{false≢true}
 use Rattle.std.proofs.Common.{ℕ, ◌<◌, ◌∙◌, sym, subst, arith, ℤ, rules, w64, FitsSigned}
 use Rattle.std.proofs.lemmas.Int.{to_z-of_z}
-use Rattle.pbd_world.specs.Ledger.{ledger_of}
 use Rattle.pbd_pair.specs.Bonds.{IsBound, IsEnd}
 use Rattle.pbd_pair.specs.Lanes.{end_in}
-use Rattle.pbd_pair.proofs.LaidBlocks.{firsts_within, seconds_within, firsts_differ, seconds_differ, first_known, second_known, first_ends, second_ends, rests_low, rests_high, stiff, gathered_ends, laid_together, laid_done, first_stays, second_stays, own_below, own_unset, own_set, at_limit, settled_together, moved_little}
+use Rattle.pbd_pair.proofs.Blocks.{number_known}
+use Rattle.pbd_pair.proofs.LaidBlocks.{first_known, second_known, first_ends, second_ends, rests_low, rests_high, stiff, gathered_ends, at_limit, together_firsts, together_seconds, together_done, together_little}
 use Rattle.pbd_pair.proofs.block.project_lanes.Goals as goal
 
+pub name_block-named-requires : goal.name_block-named-requires
+name_block-named-requires g c = (omega (arith, c.requires.lanes), (omega (arith, c.requires.lanes), (c.requires.lanes, (c.requires.can.some, (c.requires.own, λ j p. number_known c.requires.can.some c.requires.can.batch j)))))
+
 pub gather_ends-ends-requires : goal.gather_ends-ends-requires
-gather_ends-ends-requires g c = (omega arith, (omega (arith, c.requires.lanes), (omega (arith, c.requires.lanes), (c.requires.lanes, (first_known c.requires.some c.requires.block c.name_block-named.ensures, second_known c.requires.some c.requires.block c.name_block-named.ensures)))))
+gather_ends-ends-requires g c = (omega arith, (omega (arith, c.requires.lanes), (omega (arith, c.requires.lanes), (c.requires.lanes, (first_known c.requires.can.some c.requires.can.batch c.name_block-named.ensures, second_known c.requires.can.some c.requires.can.batch c.name_block-named.ensures)))))
 
 pub tried_moves-moves-requires : goal.tried_moves-moves-requires
 tried_moves-moves-requires g c =
@@ -17,17 +19,17 @@ tried_moves-moves-requires g c =
     let named = c.name_block-named.ensures in
     let ends = gathered_ends c.gather_ends-ends.ensures.first c.gather_ends-ends.ensures.second named in
     let first : (k : ℕ) → k < g.row.L → IsEnd c.limit_of-limit.result (end_in c.gather_ends-ends.result.first k) =
-    λ k p. subst (λ (x : ℤ). IsEnd x (end_in c.gather_ends-ends.result.first k)) (sym same) (first_ends c.requires.some c.requires.block c.requires.weights ends c.requires.inside k p) in
+    λ k p. subst (λ (x : ℤ). IsEnd x (end_in c.gather_ends-ends.result.first k)) (sym same) (first_ends c.requires.can.some c.requires.can.batch c.requires.can.weights ends c.requires.can.inside k p) in
     let second : (k : ℕ) → k < g.row.L → IsEnd c.limit_of-limit.result (end_in c.gather_ends-ends.result.second k) =
-    λ k p. subst (λ (x : ℤ). IsEnd x (end_in c.gather_ends-ends.result.second k)) (sym same) (second_ends c.requires.some c.requires.block c.requires.weights ends c.requires.inside k p) in
+    λ k p. subst (λ (x : ℤ). IsEnd x (end_in c.gather_ends-ends.result.second k)) (sym same) (second_ends c.requires.can.some c.requires.can.batch c.requires.can.weights ends c.requires.can.inside k p) in
     let bound = subst (λ (x : ℤ). IsBound x) same c.limit_of-limit.ensures.bound in
-    simp to_z-of_z (omega (arith, c.requires.lanes), (omega (arith, c.requires.lanes), (omega (arith, c.requires.lanes), (c.requires.lanes, (c.limit_of-limit.ensures.bound, (first, (second, (rests_low c.requires.some c.requires.block named, (rests_high c.requires.some c.requires.block named bound, stiff c.requires.some c.requires.block named)))))))))
+    simp to_z-of_z (omega (arith, c.requires.lanes), (omega (arith, c.requires.lanes), (omega (arith, c.requires.lanes), (c.requires.lanes, (c.limit_of-limit.ensures.bound, (first, (second, (rests_low c.requires.can.some c.requires.can.batch named, (rests_high c.requires.can.some c.requires.can.batch named bound, stiff c.requires.can.some c.requires.can.batch named)))))))))
 
 pub book_pins-requires : goal.book_pins-requires
 book_pins-requires g c =
     let f : FitsSigned w64 c.limit_of-limit.result = search rules in
     let together = simp to_z-of_z at (c.tried_moves-moves.ensures c.if-right.true) in
-    (omega (arith, c.requires.lanes), (c.requires.lanes, (c.requires.room, (λ j p. (together.sound j p).first_move, λ j p. (together.sound j p).second_move))))
+    (omega (arith, c.requires.lanes), (c.requires.lanes, (c.requires.can.room, (λ j p. (together.each j p).sound.first_move, λ j p. (together.each j p).sound.second_move))))
 
 pub scatter-requires : goal.scatter-requires
 scatter-requires g c =
@@ -35,8 +37,7 @@ scatter-requires g c =
     let f : FitsSigned w64 c.limit_of-limit.result = search rules in
     let together = simp to_z-of_z at (c.tried_moves-moves.ensures c.if-right.true) in
     let ends = gathered_ends c.gather_ends-ends.ensures.first c.gather_ends-ends.ensures.second c.name_block-named.ensures in
-    let laid = laid_together c.requires.some c.requires.short c.requires.block c.requires.weights c.name_block-named.ensures ends c.tried_moves-moves.result c.limit_of-limit.ensures.value together in
-    (omega arith, (omega (arith, size), (omega (arith, size), (omega (arith, size), (firsts_within c.requires.short c.requires.block laid c.args.own.now (own_below c.args.block.now c.args.own.now c.requires.own), firsts_differ c.requires.short c.requires.block laid c.args.own.now (own_below c.args.block.now c.args.own.now c.requires.own))))))
+    (omega arith, (omega (arith, size), (omega (arith, size), (omega (arith, size), together_firsts c.requires.can c.name_block-named.ensures ends (at_limit c.limit_of-limit.ensures.value together) c.args.own.now c.requires.own))))
 
 pub scatter-requires-then-right : goal.scatter-requires-then-right
 scatter-requires-then-right g c =
@@ -44,45 +45,31 @@ scatter-requires-then-right g c =
     let f : FitsSigned w64 c.limit_of-limit.result = search rules in
     let together = simp to_z-of_z at (c.tried_moves-moves.ensures c.if-right.true) in
     let ends = gathered_ends c.gather_ends-ends.ensures.first c.gather_ends-ends.ensures.second c.name_block-named.ensures in
-    let laid = laid_together c.requires.some c.requires.short c.requires.block c.requires.weights c.name_block-named.ensures ends c.tried_moves-moves.result c.limit_of-limit.ensures.value together in
-    (omega arith, (omega (arith, size), (omega (arith, size), (omega (arith, size), ((λ j p t. rw c.scatter.ensures.particles.whole (seconds_within c.requires.short c.requires.block laid c.args.own.now (own_below c.args.block.now c.args.own.now c.requires.own) j p t)), seconds_differ c.requires.short c.requires.block laid c.args.own.now (own_below c.args.block.now c.args.own.now c.requires.own))))))
+    let seconds = together_seconds c.requires.can c.name_block-named.ensures ends (at_limit c.limit_of-limit.ensures.value together) c.args.own.now c.requires.own in
+    (omega arith, (omega (arith, size), (omega (arith, size), (omega (arith, size), ((λ j p t. rw c.scatter.ensures.particles.whole (seconds.0 j p t)), seconds.1)))))
 
 pub returns-then-right-clause-outcome : goal.returns-then-right-clause-outcome
 returns-then-right-clause-outcome g c =
     let f : FitsSigned w64 c.limit_of-limit.result = search rules in
     let together = simp to_z-of_z at (c.tried_moves-moves.ensures c.if-right.true) in
     let ends = gathered_ends c.gather_ends-ends.ensures.first c.gather_ends-ends.ensures.second c.name_block-named.ensures in
-    let laid = laid_together c.requires.some c.requires.short c.requires.block c.requires.weights c.name_block-named.ensures ends c.tried_moves-moves.result c.limit_of-limit.ensures.value together in
-    let ledger = c.book_pins.ensures.value ∙ settled_together c.args.bonds.now c.args.block.now (ledger_of c.args.totals.now) c.requires.short laid.not_moving together in
-    (laid_done c.requires.short c.requires.block laid (ledger_of c.args.totals.now) c.requires.inside (λ k p. together.not_leaving k (omega (arith, c.requires.short))) c.args.own.now (own_unset c.args.block.now c.args.own.now c.requires.own) (λ k p e. absurd (false≢true (sym e ∙ own_set c.args.block.now c.args.own.now c.requires.own c.requires.short k p))) (λ k p m e. first_stays c.requires.some c.requires.short c.requires.block c.requires.weights c.name_block-named.ensures ends c.tried_moves-moves.result (at_limit c.limit_of-limit.ensures.value together) k p m) (λ k p m e. second_stays c.requires.some c.requires.short c.requires.block c.requires.weights c.name_block-named.ensures ends c.tried_moves-moves.result (at_limit c.limit_of-limit.ensures.value together) k p m) _ _ c.scatter.ensures.particles c.scatter-then-right.ensures.particles _ ledger).outcome
+    (together_done c.requires.can c.name_block-named.ensures ends (at_limit c.limit_of-limit.ensures.value together) c.args.own.now c.requires.own _ _ c.scatter.ensures.particles c.scatter-then-right.ensures.particles _ c.book_pins.ensures.value).outcome
 
-pub returns-then-right-clause-inside : goal.returns-then-right-clause-inside
-returns-then-right-clause-inside g c =
+pub returns-then-right-clause-rest : goal.returns-then-right-clause-rest
+returns-then-right-clause-rest g c =
     let f : FitsSigned w64 c.limit_of-limit.result = search rules in
     let together = simp to_z-of_z at (c.tried_moves-moves.ensures c.if-right.true) in
     let ends = gathered_ends c.gather_ends-ends.ensures.first c.gather_ends-ends.ensures.second c.name_block-named.ensures in
-    let laid = laid_together c.requires.some c.requires.short c.requires.block c.requires.weights c.name_block-named.ensures ends c.tried_moves-moves.result c.limit_of-limit.ensures.value together in
-    let ledger = c.book_pins.ensures.value ∙ settled_together c.args.bonds.now c.args.block.now (ledger_of c.args.totals.now) c.requires.short laid.not_moving together in
-    (laid_done c.requires.short c.requires.block laid (ledger_of c.args.totals.now) c.requires.inside (λ k p. together.not_leaving k (omega (arith, c.requires.short))) c.args.own.now (own_unset c.args.block.now c.args.own.now c.requires.own) (λ k p e. absurd (false≢true (sym e ∙ own_set c.args.block.now c.args.own.now c.requires.own c.requires.short k p))) (λ k p m e. first_stays c.requires.some c.requires.short c.requires.block c.requires.weights c.name_block-named.ensures ends c.tried_moves-moves.result (at_limit c.limit_of-limit.ensures.value together) k p m) (λ k p m e. second_stays c.requires.some c.requires.short c.requires.block c.requires.weights c.name_block-named.ensures ends c.tried_moves-moves.result (at_limit c.limit_of-limit.ensures.value together) k p m) _ _ c.scatter.ensures.particles c.scatter-then-right.ensures.particles _ ledger).inside
-
-pub returns-then-right-clause-fixed : goal.returns-then-right-clause-fixed
-returns-then-right-clause-fixed g c =
-    let f : FitsSigned w64 c.limit_of-limit.result = search rules in
-    let together = simp to_z-of_z at (c.tried_moves-moves.ensures c.if-right.true) in
-    let ends = gathered_ends c.gather_ends-ends.ensures.first c.gather_ends-ends.ensures.second c.name_block-named.ensures in
-    let laid = laid_together c.requires.some c.requires.short c.requires.block c.requires.weights c.name_block-named.ensures ends c.tried_moves-moves.result c.limit_of-limit.ensures.value together in
-    let ledger = c.book_pins.ensures.value ∙ settled_together c.args.bonds.now c.args.block.now (ledger_of c.args.totals.now) c.requires.short laid.not_moving together in
-    (laid_done c.requires.short c.requires.block laid (ledger_of c.args.totals.now) c.requires.inside (λ k p. together.not_leaving k (omega (arith, c.requires.short))) c.args.own.now (own_unset c.args.block.now c.args.own.now c.requires.own) (λ k p e. absurd (false≢true (sym e ∙ own_set c.args.block.now c.args.own.now c.requires.own c.requires.short k p))) (λ k p m e. first_stays c.requires.some c.requires.short c.requires.block c.requires.weights c.name_block-named.ensures ends c.tried_moves-moves.result (at_limit c.limit_of-limit.ensures.value together) k p m) (λ k p m e. second_stays c.requires.some c.requires.short c.requires.block c.requires.weights c.name_block-named.ensures ends c.tried_moves-moves.result (at_limit c.limit_of-limit.ensures.value together) k p m) _ _ c.scatter.ensures.particles c.scatter-then-right.ensures.particles _ ledger).fixed
-
-pub returns-then-right-clause-room : goal.returns-then-right-clause-room
-returns-then-right-clause-room g c = λ n h.
-    let f : FitsSigned w64 c.limit_of-limit.result = search rules in
-    let together = simp to_z-of_z at (c.tried_moves-moves.ensures c.if-right.true) in
-    let ends = gathered_ends c.gather_ends-ends.ensures.first c.gather_ends-ends.ensures.second c.name_block-named.ensures in
-    let laid = laid_together c.requires.some c.requires.short c.requires.block c.requires.weights c.name_block-named.ensures ends c.tried_moves-moves.result c.limit_of-limit.ensures.value together in
-    c.book_pins.ensures.room n _ (moved_little c.args.bonds.now c.args.block.now (ledger_of c.args.totals.now) c.requires.short laid.not_moving together) h
+    let at = at_limit c.limit_of-limit.ensures.value together in
+    let done = together_done c.requires.can c.name_block-named.ensures ends at c.args.own.now c.requires.own _ _ c.scatter.ensures.particles c.scatter-then-right.ensures.particles _ c.book_pins.ensures.value in
+    record {
+      limit = c.scatter-then-right.ensures.limit ∙ c.scatter.ensures.limit;
+      inside = done.inside;
+      fixed = done.fixed;
+      room = λ n h. c.book_pins.ensures.room n _ (together_little c.requires.can c.name_block-named.ensures ends at c.args.own.now c.requires.own) h;
+    }
 
 pub project_each-requires : goal.project_each-requires
 project_each-requires g c =
     let ends = gathered_ends c.gather_ends-ends.ensures.first c.gather_ends-ends.ensures.second c.name_block-named.ensures in
-    (omega arith, (omega (arith, c.requires.lanes), (c.requires.lanes, (c.requires.short, (c.requires.some, (c.requires.block, (ends, (c.requires.inside, (c.requires.weights, c.requires.room)))))))))
+    (omega arith, (omega (arith, c.requires.lanes), (c.requires.lanes, (c.requires.can, ends))))

@@ -1,7 +1,6 @@
-use Rattle.std.proofs.Common.{◌<◌, ap, ◌∙◌, arith, rules, w64, FitsSigned, List, Bool}
+use Rattle.std.proofs.Common.{◌<◌, ap, ◌∙◌, arith, rules, w64, FitsSigned}
 use Rattle.std.proofs.lemmas.Int.{to_z-of_z}
 use Rattle.pbd_world.specs.declared.bond.Bond.{Bond}
-use Rattle.pbd_lanes.specs.Lane.{is_set}
 use Rattle.pbd_pair.specs.Bonds.{bond_of}
 use Rattle.pbd_pair.specs.Lanes.{reach_of}
 use Rattle.pbd_pair.proofs.Laying.{laying_more}
@@ -10,9 +9,9 @@ use Rattle.pbd_pair.proofs.named.name_block.Goals as goal
 pub loop-j-preserved : goal.loop-j-preserved
 loop-j-preserved g c =
     let inv = c.loop-j.invariant in
-    let e = c.get-bond.ensures ∙ ap (bond_of c.args.bonds.now) c.number_at-n.ensures in
+    let e = c.get-bond.ensures ∙ ap (bond_of c.args.block.now.bonds) c.number_at-n.ensures in
     let p : c.loop-j.j < g.row.L = omega arith in
-    let own = ap (λ (v : List Bool). is_set v c.loop-j.j) c.to_array-set.ensures ∙ c.requires.own c.loop-j.j p in
+    let own = c.at.ensures ∙ c.requires.own c.loop-j.j p in
     let fr : FitsSigned w64 c.get-bond.result.rest = search rules in
     let fk : FitsSigned w64 c.get-bond.result.k = search rules in
     let fx : FitsSigned w64 c.reach.result = record { sfits = c.reach.type_inv } in

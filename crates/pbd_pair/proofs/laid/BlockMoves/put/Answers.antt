@@ -1,0 +1,29 @@
+use Rattle.pbd_pair.proofs.laid.BlockMoves.put.Goals as goal
+
+pub returns-clause-here : goal.returns-clause-here
+returns-clause-here g c = λ i. record {
+  moving = c.put.ensures.here i;
+  leaving = c.put-2.ensures.here i;
+  shift = record {
+    first = c.put_place.ensures.here i;
+    second = c.put_place-2.ensures.here i;
+    first_move = c.put_place-3.ensures.here i;
+    second_move = c.put_place-4.ensures.here i;
+  };
+  first_free = c.put-3.ensures.here i;
+  second_free = c.put-4.ensures.here i;
+}
+
+pub returns-clause-others : goal.returns-clause-others
+returns-clause-others g c = λ k h i. record {
+  moving = c.put.ensures.others k h i;
+  leaving = c.put-2.ensures.others k h i;
+  shift = record {
+    first = c.put_place.ensures.others k h i;
+    second = c.put_place-2.ensures.others k h i;
+    first_move = c.put_place-3.ensures.others k h i;
+    second_move = c.put_place-4.ensures.others k h i;
+  };
+  first_free = c.put-3.ensures.others k h i;
+  second_free = c.put-4.ensures.others k h i;
+}
