@@ -128,12 +128,7 @@ fn tracks_of(alloc: Global, limit: i64, members: &Table) -> Result<List<TrackEnt
 
 /// Reads the entries of all tables in place of those that are there.
 #[tactic(auto, unfolding(crate::specs::Scene::tables_of))]
-fn fill(
-    alloc: Global,
-    limit: i64,
-    members: &Table,
-    tables: &mut Tables,
-) -> Result<(), SceneFault>
+fn fill(alloc: Global, limit: i64, members: &Table, tables: &mut Tables) -> Result<(), SceneFault>
     requires low { pos 0 ≤ℤ limit }
     requires high { unsigned_abs limit ≤ 2 ^ 29 }
     ensures { Gives (λ _. tables.new) result (tables_of limit (table_view members.now)) }
