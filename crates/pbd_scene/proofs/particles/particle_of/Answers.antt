@@ -55,3 +55,14 @@ returns-in_err-gone c =
     let is_velocity = rw is_twice at (simp to_z-of_z at c.in_ok-velocity.ensures.value) in
     let fails = simp to_z-of_z at c.in_err-gone.ensures in
     rw (c.in_ok-table.ensures, is_at, is_velocity, c.in_ok-weight.ensures.value, c.in_ok-held.ensures) (stops _ _ _ _ _ c.from_residual-in_err-gone.ensures.1 fails)
+
+pub returns : goal.returns
+unfolding particle_of
+returns c =
+    let fits = c.ranges.limit in
+    let wide : FitsSigned w64 c.twice.result = record { sfits = c.twice.type_inv } in
+    let is_twice = simp to_z-of_z at c.twice.ensures.value in
+    let is_at = simp to_z-of_z at c.in_ok-at.ensures.value in
+    let is_velocity = rw is_twice at (simp to_z-of_z at c.in_ok-velocity.ensures.value) in
+    let is_gone = simp to_z-of_z at c.in_ok-gone.ensures in
+    rw (c.in_ok-table.ensures, is_at, is_velocity, c.in_ok-weight.ensures.value, c.in_ok-held.ensures, is_gone) (cc (c.if_held.ensures))
