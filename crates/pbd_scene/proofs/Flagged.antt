@@ -137,3 +137,6 @@ track_more count entries i d tracks now old flags t within so_far is raised grow
 
 pub track_stops : (count : ℕ) (entries : List TrackEntry) (i : ℕ) (d : TrackEntry) (tracks : List Track) (old : List Bool) (e : SceneFault) → i < length entries → TracksSoFar count entries i tracks old → Fails e (placed_track count tracks (get_or entries i d)) → Fails e (each (placed_track count) [] entries)
 track_stops count entries i d tracks old e within so_far fails = tracks_stop count entries i (get_or entries i d) tracks old e within (get_or_default entries i d (get_or entries i d) within) so_far fails
+
+pub flag_more : (count : ℕ) (names : List ℕ) (index d : ℕ) (old now : List Bool) → index < length names → Flags count (take index names) old → now ≡ set old (get_or names index d) true → Flags count (take (index + 1) names) now
+flag_more count names index d old now within held is = flags_more count names index (get_or names index d) old now within (get_or_default names index d (get_or names index d) within) held is

@@ -1,9 +1,13 @@
 -- A list of values that is read one after another.
 use Rattle.std.proofs.Common.{◌≡◌, ◌∙◌, ap, sym, refl, ℕ, ◌+◌, ◌<◌, ◌≤◌, List, [], ◌∷◌, ◌++◌, length, get_or, drop, map, Ok, Err, arith}
+use Rattle.std.specs.Prelude.{Result, IfOk, IsErrAnd}
+use Rattle.std.specs.List.{All, sum_by}
 use Rattle.std.proofs.lemmas.List.{drop_more, drop_all, length-append, get_or_default}
+use Rattle.std.proofs.lemmas.List.Elements.{All-append, All-cons, All-nil}
+use Rattle.std.proofs.lemmas.List.Sums.{sum_by_push}
 use Rattle.pbd_scene.specs.declared.fault.SceneFault.{SceneFault}
 use Rattle.pbd_scene.specs.declared.fault.SceneFault.TheVariants as faults
-use Rattle.pbd_scene.specs.Checks.{Broken, Checked, ◌>>=◌, each, Fails}
+use Rattle.pbd_scene.specs.Checks.{Broken, Checked, ◌>>=◌, each, Fails, Gives}
 
 -- one more
 pub each_more : {X A : Type 0} (read : List A → X → Checked A) (before : List A) (x : X) (xs : List X) (y : A) → read before x ≡ Ok y → each read before (x ∷ xs) ≡ each read (before ++ y ∷ []) xs
@@ -73,3 +77,14 @@ pub bind_fails : {A B : Type 0} (e : SceneFault) (r : Checked A) (f : A → Chec
 bind_fails faults.NotToml r f fails = absurd fails
 bind_fails (faults.Refused rule table position key) r f fails = rw fails refl
 bind_fails faults.OutOfMemory r f fails = tt
+
+-- the exit of a `?`
+pub stops : {T A B : Type 0} (view : T → B) (result : Result T SceneFault) (e : SceneFault) (r : Checked A) (f : A → Checked B) → IsErrAnd result (λ y. y ≡ e) → Fails e r → Gives view result (r >>= f)
+stops view (Ok x) e r f is fails = absurd is
+stops view (Err y) e r f is fails = rw is (bind_fails e r f fails)
+
+-- ---- items of which each fits, and for which there is room together
+
+pub one_more : {A : Type 0} (fits : A → Type 0) (size : A → ℕ) (count : ℕ) (before : List A) (r : Result A SceneFault) → All fits before → IfOk r fits → IfOk r (λ x. count + sum_by size before + size x ≤ 65536) → IfOk r (λ x. (count + sum_by size (before ++ x ∷ []) ≤ 65536) × All fits (before ++ x ∷ []))
+one_more fits size count before (Ok x) all fit room = (omega (arith, room, sum_by_push size before x), All-append fits before (x ∷ []) all (All-cons fits x [] fit (All-nil fits)))
+one_more fits size count before (Err e) all fit room = tt

@@ -234,7 +234,7 @@ impl<T: Drop> From<AllocFailed<T>> for SceneFault {
 }
 
 /// A table of the scene and the position of an entry in it.
-#[derive(Clone, Copy, Debug, PartialEq, Eq)]
+#[derive(Clone, Copy)]
 pub struct Place {
     pub table: TableName,
     pub position: u32,

@@ -115,7 +115,6 @@ fn mark(i: u32, flags: &mut Vec<bool>)
     }
 }
 
-#[tactic(auto, using(crate::proofs::Flagged::no_flags_yet, crate::proofs::Flagged::flags_all))]
 fn flags_of(alloc: Global, count: usize, names: &[u32]) -> Result<Vec<bool>, AllocError>
     ensures { IfOk result (λ flags. Flags count names.now flags.items) }
 {

@@ -126,28 +126,45 @@ fn tracks_of(alloc: Global, limit: i64, members: &Table) -> Result<List<TrackEnt
     )
 }
 
+/// Reads the entries of all tables in place of those that are there.
 #[tactic(auto, unfolding(crate::specs::Scene::tables_of))]
+fn fill(alloc: Global, limit: i64, members: &Table, tables: &mut Tables) -> Result<(), SceneFault>
+    requires low { pos 0 ≤ℤ limit }
+    requires high { unsigned_abs limit ≤ 2 ^ 29 }
+    ensures { Gives (λ _. tables.new) result (tables_of limit (table_view members.now)) }
+{
+    tables.particles = particles_of(alloc, limit, members)?;
+    let count = tables.particles.len() as u32;
+    tables.cloths = cloths_of(alloc, limit, count, members)?;
+    let count = count + all_cloths_size(tables.cloths.as_slice());
+    tables.ropes = ropes_of(alloc, limit, count, members)?;
+    tables.links = links_of(alloc, limit, members)?;
+    tables.planes = planes_of(alloc, members)?;
+    tables.spheres = spheres_of(alloc, limit, members)?;
+    tables.tracks = tracks_of(alloc, limit, members)?;
+    Ok(())
+}
+
+/// The entries of all tables.
 pub fn tables_of(alloc: Global, limit: i64, members: &Table) -> Result<Tables, SceneFault>
     requires low { pos 0 ≤ℤ limit }
     requires high { unsigned_abs limit ≤ 2 ^ 29 }
     ensures { Gives (λ t. t) result (tables_of limit (table_view members.now)) }
 {
-    let particles = particles_of(alloc, limit, members)?;
-    let count = particles.len() as u32;
-    let cloths = cloths_of(alloc, limit, count, members)?;
-    let count = count + all_cloths_size(cloths.as_slice());
-    let ropes = ropes_of(alloc, limit, count, members)?;
-    let links = links_of(alloc, limit, members)?;
-    let planes = planes_of(alloc, members)?;
-    let spheres = spheres_of(alloc, limit, members)?;
-    let tracks = tracks_of(alloc, limit, members)?;
-    Ok(Tables {
-        particles,
-        cloths,
-        ropes,
-        links,
-        planes,
-        spheres,
-        tracks,
-    })
+    let mut tables = Tables {
+        particles: List::new(alloc),
+        cloths: List::new(alloc),
+        ropes: List::new(alloc),
+        links: List::new(alloc),
+        planes: List::new(alloc),
+        spheres: List::new(alloc),
+        tracks: List::new(alloc),
+    };
+    match fill(alloc, limit, members, &mut tables) {
+        Ok(()) => Ok(tables),
+        Err(fault) => {
+            drop(tables);
+            Err(fault)
+        }
+    }
 }

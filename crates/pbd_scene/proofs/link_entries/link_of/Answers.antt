@@ -1,0 +1,45 @@
+use Rattle.std.proofs.Common.{w64, FitsSigned}
+use Rattle.std.proofs.lemmas.Int.{to_z-of_z}
+use Rattle.pbd_scene.specs.Entries.{link_of}
+use Rattle.pbd_scene.proofs.Reading.{stops}
+use Rattle.pbd_scene.proofs.link_entries.link_of.Goals as goal
+
+pub returns-in_err-table : goal.returns-in_err-table
+unfolding link_of
+returns-in_err-table c = stops _ _ _ _ _ c.from_residual.ensures.1 c.in_err-table.ensures
+
+pub returns-in_err-a : goal.returns-in_err-a
+unfolding link_of
+returns-in_err-a c = rw c.in_ok-table.ensures (stops _ _ _ _ _ c.from_residual-in_err-a.ensures.1 c.in_err-a.ensures)
+
+pub returns-in_err-b : goal.returns-in_err-b
+unfolding link_of
+returns-in_err-b c = rw (c.in_ok-table.ensures, c.in_ok-a.ensures) (stops _ _ _ _ _ c.from_residual-in_err-b.ensures.1 c.in_err-b.ensures)
+
+pub returns-in_err-rest : goal.returns-in_err-rest
+unfolding link_of
+returns-in_err-rest c =
+    let fits = c.ranges.limit in
+    let wide : FitsSigned w64 c.four_times-longest.result = record { sfits = c.four_times-longest.type_inv } in
+    let is_longest = simp to_z-of_z at c.four_times-longest.ensures.value in
+    let fails = rw is_longest at (simp to_z-of_z at c.in_err-rest.ensures) in
+    rw (c.in_ok-table.ensures, c.in_ok-a.ensures, c.in_ok-b.ensures) (stops _ _ _ _ _ c.from_residual-in_err-rest.ensures.1 fails)
+
+pub returns-in_err-k : goal.returns-in_err-k
+unfolding link_of
+returns-in_err-k c =
+    let fits = c.ranges.limit in
+    let wide : FitsSigned w64 c.four_times-longest.result = record { sfits = c.four_times-longest.type_inv } in
+    let is_longest = simp to_z-of_z at c.four_times-longest.ensures.value in
+    let is_rest = rw is_longest at (simp to_z-of_z at c.in_ok-rest.ensures) in
+    rw (c.in_ok-table.ensures, c.in_ok-a.ensures, c.in_ok-b.ensures, is_rest) (stops _ _ _ _ _ c.from_residual-in_err-k.ensures.1 c.in_err-k.ensures.value)
+
+pub returns-in_err-tear : goal.returns-in_err-tear
+unfolding link_of
+returns-in_err-tear c =
+    let fits = c.ranges.limit in
+    let wide : FitsSigned w64 c.four_times-longest.result = record { sfits = c.four_times-longest.type_inv } in
+    let is_longest = simp to_z-of_z at c.four_times-longest.ensures.value in
+    let is_rest = rw is_longest at (simp to_z-of_z at c.in_ok-rest.ensures) in
+    let fails = rw is_longest at (simp to_z-of_z at c.in_err-tear.ensures.value) in
+    rw (c.in_ok-table.ensures, c.in_ok-a.ensures, c.in_ok-b.ensures, is_rest, c.in_ok-k.ensures.value) (stops _ _ _ _ _ c.from_residual-in_err-tear.ensures.1 fails)

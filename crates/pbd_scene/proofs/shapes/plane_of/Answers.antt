@@ -1,0 +1,15 @@
+use Rattle.pbd_scene.specs.Entries.{plane_of}
+use Rattle.pbd_scene.proofs.Reading.{stops}
+use Rattle.pbd_scene.proofs.shapes.plane_of.Goals as goal
+
+pub returns-in_err-table : goal.returns-in_err-table
+unfolding plane_of
+returns-in_err-table c = stops _ _ _ _ _ c.from_residual.ensures.1 c.in_err-table.ensures
+
+pub returns-in_err-normal : goal.returns-in_err-normal
+unfolding plane_of
+returns-in_err-normal c = rw c.in_ok-table.ensures (stops _ _ _ _ _ c.from_residual-in_err-normal.ensures.1 c.in_err-normal.ensures.value)
+
+pub returns-in_err-offset : goal.returns-in_err-offset
+unfolding plane_of
+returns-in_err-offset c = rw (c.in_ok-table.ensures, c.in_ok-normal.ensures.value) (stops _ _ _ _ _ c.from_residual-in_err-offset.ensures.1 c.in_err-offset.ensures.value)
