@@ -205,6 +205,9 @@ impl Colouring {
         requires live { (k : ℕ) → k < length sorted.now → IsTrue (live_at self.old.live (slice_index sorted.now k)) }
         ensures { self.new ≡ record self.old { live = dropped sorted.now self.old.live } }
     {
+        if sorted.is_empty() {
+            return;
+        }
         recolour_without(
             self.pairs.as_slice(),
             self.live.as_mut_slice(),
