@@ -1,6 +1,6 @@
 -- What holds of each mesh that is read.
 use Rattle.std.proofs.Common.{◌≡◌, ◌∙◌, sym, ap, refl, ℕ, suc, ◌+◌, ◌-◌, ◌*◌, ◌<◌, ◌≤◌, ◌^◌, Bool, true, false, not, ◌&&◌, List, [], ◌∷◌, ◌++◌, length, take, drop, Option, Some, None, Result, Ok, Err, nat_le, arith, length-append, pos, filter}
-use Rattle.std.specs.Prelude.{◌==◌, cond, All, IsTrue, IfOk, sum, bytes_eq, codes, slice_index_or}
+use Rattle.std.specs.Prelude.{◌==◌, cond, All, IsTrue, IfOk, OnOk, sum, bytes_eq, codes, slice_index_or}
 use Rattle.std.specs.List.{enumerate_from, slice_split, before_first, AllByRecursion}
 use Rattle.std.specs.Option.{option_map, option_and_then}
 use Rattle.std.specs.Str.Lines.{strip_carriage_return}
@@ -84,6 +84,16 @@ pub line_places : (n : ℕ) (line : List ℕ) (mesh new : ObjMesh) → with_line
 unfolding with_line
 line_places n line mesh new is =
     words_exact n mesh new (words (strip_carriage_return line)) (length line) (omega (arith, words_few (strip_carriage_return line), strip_few line)) is
+
+-- the same of a line that was added or not
+pub line_few : (n : ℕ) (line : List ℕ) (mesh new : ObjMesh) (r : Result (Unit {0}) ObjFault) → OnOk r (with_line (n, line) mesh ≡ Ok new) → OnOk r (3 * length new.places ≤ 3 * length mesh.places + length line)
+line_few n line mesh new (Ok u) is = line_places n line mesh new is
+line_few n line mesh new (Err f) none = tt
+
+-- what a line adds goes by its words, without its return
+pub line_is : (n : ℕ) (line stripped : List ℕ) (mesh : ObjMesh) (ws : List (List ℕ)) → stripped ≡ strip_carriage_return line → words stripped ≡ ws → with_line (n, line) mesh ≡ with_words n mesh ws
+unfolding with_line
+line_is n line stripped mesh ws is are = ap (λ xs. with_words n mesh xs) (ap words (sym is) ∙ are)
 
 -- ---- faces
 

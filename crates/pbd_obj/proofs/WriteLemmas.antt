@@ -1,5 +1,6 @@
 -- What is written, piece by piece.
 use Rattle.std.proofs.Common.{◌≡◌, ◌∙◌, sym, ap, refl, ℕ, zero, suc, ◌+◌, ◌-◌, ◌*◌, ◌/◌, ◌%◌, ◌<◌, ◌≤◌, List, [], ◌∷◌, ◌++◌, length, map, arith, append_assoc, append-nil, codes, decimal, length-append, ℤ, unsigned_abs}
+use Rattle.std.specs.Prelude.{◌==◌, if◌then◌else◌}
 use Rattle.std.specs.List.{flat_map}
 use Rattle.std.proofs.lemmas.Bool.{ne_eqb}
 use Rattle.pbd_num.specs.declared.Vec3.{Vec3}
@@ -7,6 +8,16 @@ use Rattle.pbd_world.specs.Text.{line}
 use Rattle.pbd_obj.specs.Writing.{coordinate, corner_text, decimals, face_line, fraction, sign, vertex_line}
 
 -- ---- decimals
+
+some_digits : (old mid new digits : List ℕ) (n : ℕ) → 0 < n → mid ≡ old ++ 46 ∷ [] → new ≡ mid ++ digits → new ≡ old ++ (if n == 0 then [] else 46 ∷ digits)
+some_digits old mid new digits n some point rest = rw (ne_eqb n 0 (λ (e : n ≡ 0). absurd (omega (arith, some, e)))) (rest ∙ ap (λ m. m ++ digits) point ∙ append_assoc old (46 ∷ []) digits)
+
+-- a point and the decimals, where there are any
+pub fraction_some : (old mid new : List ℕ) (n : ℕ) → 0 < n → mid ≡ old ++ 46 ∷ [] → new ≡ mid ++ decimals 16 n → new ≡ old ++ fraction n
+fraction_some old mid new n some point rest = some_digits old mid new (decimals 16 n) n some point rest
+
+pub fraction_none : (old : List ℕ) (n : ℕ) → n ≤ 0 → old ≡ old ++ fraction n
+fraction_none old n none = let e : n ≡ 0 = omega (arith, none) in rw e (sym (append-nil old))
 
 -- the decimals of n so far, and those that are left of the rest
 pub record DecimalsSoFar (n : ℕ) (start now : List ℕ) (rest count : ℕ) : Type 0 where

@@ -2,7 +2,9 @@
 ghost use Rattle.std.specs.Prelude.{◌≡◌, ◌+◌, ◌*◌, ◌≤◌, ◌<◌, ◌^◌, ◌==◌, ◌∷◌, length, position, IfOk, OnOk, IfErr, Ok};
 ghost use Rattle.std.specs.List.{position_or_len};
 ghost use Rattle.std.specs.Option.{option_map};
+ghost use Rattle.pbd_script.specs.Commands.{vector_of};
 ghost use Rattle.pbd_script.specs.Lines.{words};
+ghost use Rattle.pbd_obj.specs.Decimals.{units_of};
 ghost use Rattle.pbd_obj.specs.Meshes.{IsMesh};
 ghost use Rattle.pbd_obj.specs.Sizes.{capped_axes};
 ghost use Rattle.pbd_obj.specs.Reading.{corner, face, is_slash, kth_vertex, named_by, no_mesh, read, vertex, with_face, with_line, with_vertex, with_words, IsFaultOf, PushesFace};
@@ -21,17 +23,23 @@ const MOST_DIGITS: usize = 9;
 
 // ---- vertices
 
+fn place_of(x: &[u8], y: &[u8], z: &[u8]) -> Option<Vec3>
+    ensures { result ≡ option_map capped_axes (vector_of (units_of x.now) (units_of y.now) (units_of z.now)) }
+{
+    Some(Vec3 {
+        x: units_of(x)?,
+        y: units_of(y)?,
+        z: units_of(z)?,
+    })
+}
+
 fn vertex(rest: &[u8]) -> Option<Vec3>
     ensures { result ≡ option_map capped_axes (vertex (words rest.now)) }
 {
     let (x, rest) = next_word(rest)?;
     let (y, rest) = next_word(rest)?;
     let (z, _) = next_word(rest)?;
-    Some(Vec3 {
-        x: units_of(x)?,
-        y: units_of(y)?,
-        z: units_of(z)?,
-    })
+    place_of(x, y, z)
 }
 
 fn add_vertex(line: u32, rest: &[u8], mesh: &mut ObjMesh) -> Result<(), ObjFault>
@@ -154,7 +162,6 @@ fn add_words(
     }
 }
 
-#[tactic(auto, unfolding(crate::specs::Reading::with_line), using(crate::proofs::MeshLemmas::line_places))]
 fn add_line(alloc: Global, number: u32, line: &[u8], mesh: &mut ObjMesh) -> Result<(), ObjFault>
     requires line { length line.now ≤ 2 ^ 31 }
     requires places { length mesh.old.places < 2 ^ 32 }

@@ -13,15 +13,17 @@ use Rattle.std.proofs.lemmas.List.{length-map}
 -- ---- sums over a range
 
 -- f a, and f of the next number, and so on, of n numbers
-abbrev pub total : (ℕ → ℕ) → ℕ → ℕ → ℕ
+unfoldable pub total : (ℕ → ℕ) → ℕ → ℕ → ℕ
 total f a zero = 0
 total f a (suc n) = f a + total f (a + 1) n
 
 total_both : (f g h : ℕ → ℕ) (a n : ℕ) → ((c : ℕ) → f c ≡ g c + h c) → total f a n ≡ total g a n + total h a n
+unfolding total
 total_both f g h a zero e = refl
 total_both f g h a (suc n) e = omega (arith, e a, total_both f g h (a + 1) n e)
 
 total_none : (f : ℕ → ℕ) (k a n : ℕ) → ((c : ℕ) → c ≢ k → f c ≡ 0) → (k < a) ⊎ (a + n ≤ k) → total f a n ≡ 0
+unfolding total
 total_none f k a zero h out = refl
 total_none f k a (suc n) h out =
     let other : a ≢ k = λ (e : a ≡ k). elim out [ inl l ↦ absurd (omega (arith, l, e)) | inr l ↦ absurd (omega (arith, l, e)) ] in
@@ -29,13 +31,20 @@ total_none f k a (suc n) h out =
     omega (arith, h a other, total_none f k (a + 1) n h rest)
 
 total_one : (f : ℕ → ℕ) (k a n : ℕ) → ((c : ℕ) → c ≢ k → f c ≡ 0) → a ≤ k → k < a + n → total f a n ≡ f k
+unfolding total
 total_one f k a zero h l u = absurd (omega (arith, l, u))
 total_one f k a (suc n) h l u = elim (cases_eq a k) [
   | inl e ↦ (let here : f a ≡ f k = ap f e in omega (arith, here, total_none f k (a + 1) n h (inl (omega (arith, e)))))
   | inr d ↦ omega (arith, h a d, total_one f k (a + 1) n h (omega (arith, l, d)) (omega (arith, u)))
 ]
 
+total_zeros : (a n : ℕ) → total (λ c. 0) a n ≡ 0
+unfolding total
+total_zeros a zero = refl
+total_zeros a (suc n) = omega (arith, total_zeros (a + 1) n)
+
 pub flat_total : (f : ℕ → List ℕ) (a n : ℕ) → length (flat_map f (range_with_len a n)) ≡ total (λ c. length (f c)) a n
+unfolding total
 flat_total f a zero = refl
 flat_total f a (suc n) = omega (arith, length-append (f a) (flat_map f (range_with_len (a + 1) n)), flat_total f (a + 1) n)
 
@@ -48,16 +57,16 @@ kept_more {A} test x xs = by (test x) where
   by false = omega arith
 
 -- each number that is kept has one colour
-by_colour : (test : ℕ → Bool) (colour_of : ℕ → ℕ) → ((i : ℕ) → colour_of i ≤ 63) → (xs : List ℕ) → total (λ c. length (filter (λ i. test i && colour_of i == c) xs)) 0 64 ≡ length (filter test xs)
-by_colour test colour_of low [] = refl
-by_colour test colour_of low (i ∷ xs) =
+by_colour : (test : ℕ → Bool) (colour_of : ℕ → ℕ) (n : ℕ) → ((i : ℕ) → colour_of i < n) → (xs : List ℕ) → total (λ c. length (filter (λ i. test i && colour_of i == c) xs)) 0 n ≡ length (filter test xs)
+by_colour test colour_of n low [] = total_zeros 0 n
+by_colour test colour_of n low (i ∷ xs) =
     let here : ℕ → ℕ = λ c. cond (test i && colour_of i == c) 1 0 in
     let rest : ℕ → ℕ = λ c. length (filter (λ j. test j && colour_of j == c) xs) in
     let whole : ℕ → ℕ = λ c. length (filter (λ j. test j && colour_of j == c) (i ∷ xs)) in
-    let both : total whole 0 64 ≡ total here 0 64 + total rest 0 64 = total_both whole here rest 0 64 (λ c. kept_more (λ j. test j && colour_of j == c) i xs) in
-    let one : total here 0 64 ≡ here (colour_of i) = total_one here (colour_of i) 0 64 (λ c d. no (test i) c d) (omega arith) (omega (arith, low i)) in
+    let both : total whole 0 n ≡ total here 0 n + total rest 0 n = total_both whole here rest 0 n (λ c. kept_more (λ j. test j && colour_of j == c) i xs) in
+    let one : total here 0 n ≡ here (colour_of i) = total_one here (colour_of i) 0 n (λ c d. no (test i) c d) (omega arith) (omega (arith, low i)) in
     let this : here (colour_of i) ≡ cond (test i) 1 0 = yes (test i) in
-    omega (arith, both, one, this, by_colour test colour_of low xs, kept_more test i xs)
+    both ∙ ap (λ k. k + total rest 0 n) (one ∙ this) ∙ ap (λ k. cond (test i) 1 0 + k) (by_colour test colour_of n low xs) ∙ sym (kept_more test i xs)
   where
     no : (b : Bool) (c : ℕ) → c ≢ colour_of i → cond {A = ℕ} (b && colour_of i == c) 1 0 ≡ 0
     no true c d = ap (λ (b : Bool). cond {A = ℕ} b 1 0) (ne_eqb (colour_of i) c (λ e. d (sym e)))
@@ -74,13 +83,13 @@ by_flags test a (b ∷ flags) h =
     let first : test a ≡ b = (let e : a + 0 ≡ a = omega arith in sym (ap test e) ∙ h 0 (omega arith)) in
     let here : cond {A = ℕ} (test a) 1 0 ≡ cond b 1 0 = ap (λ (t : Bool). cond {A = ℕ} t 1 0) first in
     let rest = by_flags test (a + 1) flags (λ k lt. (let e : a + 1 + k ≡ a + suc k = omega arith in ap test e ∙ h (suc k) (omega (arith, lt)))) in
-    omega (arith, kept_more test a (range_with_len (a + 1) (length flags)), here, rest, kept_more {A = Bool} (λ t. t) b flags)
+    kept_more test a (range_with_len (a + 1) (length flags)) ∙ ap (λ k. k + length (filter test (range_with_len (a + 1) (length flags)))) here ∙ ap (λ k. cond b 1 0 + k) rest ∙ sym (kept_more {A = Bool} (λ t. t) b flags)
 
 order_count : (pairs : List (ℕ × ℕ)) (live : List Bool) → length live ≡ length pairs → length (order pairs live) ≡ length (filter (λ b. b) live)
 unfolding order
 order_count pairs live same =
     flat_total (of_colour live (colour pairs live) (length pairs)) 0 64
-    ∙ by_colour (live_at live) (colour pairs live) (λ i. (colour-is_greedy pairs live i).within) (range_with_len 0 (length pairs))
+    ∙ by_colour (live_at live) (colour pairs live) 64 (λ i. let h = (colour-is_greedy pairs live i).within in omega (arith, h)) (range_with_len 0 (length pairs))
     ∙ ap (λ (n : ℕ). length (filter (live_at live) (range_with_len 0 n))) (sym same)
     ∙ by_flags (live_at live) 0 live (λ k lt. ap (live_at live) (plus_none k))
   where

@@ -56,16 +56,19 @@ module _ (pairs : List (ℕ × ℕ)) (live : List Bool) (lanes : ℕ) (some : 0 
   half c (suc n) = omega (arith, colours_next (2 * lanes) pairs live c n, colours_next lanes pairs live c n, used_next pairs live c n, pieces_half (of_colour_count pairs live c) lanes some, half (c + 1) n)
 
   each : (c n : ℕ) → colours_work lanes pairs live c n ≤ 4 * total (of_colour_count pairs live) c n
+  unfolding total
   each c zero = omega (arith, colours_none lanes pairs live c)
   each c (suc n) = omega (arith, colours_next lanes pairs live c n, pieces_each (of_colour_count pairs live c) lanes some, each (c + 1) n)
 
   few : (c n : ℕ) → colours_work lanes pairs live c n ≤ 4 * (total (of_colour_count pairs live) c n / lanes + used pairs live c n)
+  unfolding total
   few c zero = omega (arith, colours_none lanes pairs live c)
   few c (suc n) =
       let k : ℕ = of_colour_count pairs live c in
       omega (arith, colours_next lanes pairs live c n, used_next pairs live c n, pieces_some k lanes some, few (c + 1) n, whole_pieces k (total (of_colour_count pairs live) (c + 1) n) lanes some)
 
 total_last : (f : ℕ → ℕ) (a n : ℕ) → total f a (suc n) ≡ total f a n + f (a + n)
+unfolding total
 total_last f a zero = (let e : a + 0 ≡ a = omega arith in omega (arith, ap f e))
 total_last f a (suc n) = (let e : a + 1 + n ≡ a + suc n = omega arith in omega (arith, ap f e, total_last f (a + 1) n))
 
