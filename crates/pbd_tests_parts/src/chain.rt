@@ -5,19 +5,29 @@ use std::test::Fail;
 #[test]
 fn two_chains(rt: HostRuntime) -> Result<(), Fail> {
     let mut chains = Chains::open(rt.alloc(), 2, 4)?;
-    assert_eq!(rt; chains.first(1), None);
+    let empty = chains.first(1);
     chains.link_front(0, 1);
     chains.link_front(0, 3);
     chains.link_front(1, 2);
-    assert_eq!(rt; chains.first(0), Some(3));
-    assert_eq!(rt; chains.next(3), Some(1));
-    assert_eq!(rt; chains.next(1), None);
-    assert_eq!(rt; chains.first(1), Some(2));
+    let linked = [
+        chains.first(0),
+        chains.next(3),
+        chains.next(1),
+        chains.first(1),
+    ];
     chains.unlink(3);
-    assert_eq!(rt; chains.first(0), Some(1));
-    assert_eq!(rt; chains.next(1), None);
-    assert!(rt; !chains.is_linked(3));
+    let unlinked = (chains.first(0), chains.next(1), chains.is_linked(3));
     chains.clear();
-    assert_eq!(rt; chains.first(1), None);
+    let cleared = chains.first(1);
+    drop(chains);
+    assert_eq!(rt;
+        (empty, linked, unlinked, cleared),
+        (
+            None,
+            [Some(3), Some(1), None, Some(2)],
+            (Some(1), None, false),
+            None
+        )
+    );
     Ok(())
 }

@@ -77,7 +77,7 @@ fn has_batch(colouring: &Colouring, colour: u8, wanted: &[u32]) -> bool {
 }
 
 // Pairs, their colours, and the colours of those that are live after a drop.
-#[derive(Drop)]
+#[derive(Clone, Copy)]
 struct Case {
     particles: u32,
     pairs: &'static [(u32, u32)],
@@ -121,7 +121,7 @@ fn try_case(rt: &impl Abort, alloc: Global, case: &Case) -> Result<(), AllocErro
 }
 
 #[test]
-fn colours_before_and_after_a_drop(rt: HostRuntime) -> Result<(), Fail> {
+fn colours_before_and_after_a_drop(rt: HostRuntime) {
     let four = Case {
         particles: 4,
         pairs: &[(0, 1), (1, 2), (2, 3), (0, 2)],
@@ -132,12 +132,11 @@ fn colours_before_and_after_a_drop(rt: HostRuntime) -> Result<(), Fail> {
         last_batch: (1, &[3]),
         unlinked: (1, 2),
     };
-    try_case(&rt, rt.alloc(), &four)?;
-    Ok(())
+    assert_eq!(rt; try_case(&rt, rt.alloc(), &four), Ok(()));
 }
 
 #[test]
-fn colours_of_a_cloth(rt: HostRuntime) -> Result<(), Fail> {
+fn colours_of_a_cloth(rt: HostRuntime) {
     // Two rows and three columns: the sides, the diagonals, and the links over two particles.
     let cloth = Case {
         particles: 6,
@@ -191,8 +190,7 @@ fn colours_of_a_cloth(rt: HostRuntime) -> Result<(), Fail> {
         last_batch: (4, &[11, 12]),
         unlinked: (4, 3),
     };
-    try_case(&rt, rt.alloc(), &cloth)?;
-    Ok(())
+    assert_eq!(rt; try_case(&rt, rt.alloc(), &cloth), Ok(()));
 }
 
 // The pairs i < j of seventy particles, from i on.
@@ -304,10 +302,23 @@ fn try_seventy(
     }
 }
 
+// The same with the others listed here.
+fn try_others(rt: &impl Abort, alloc: Global, pairs: &[(u32, u32)]) -> Result<(), AllocError> {
+    match pairs_from(alloc, 1) {
+        Ok(others) => {
+            let tried = try_seventy(rt, alloc, pairs, others.as_slice());
+            drop(others);
+            tried
+        }
+        Err(error) => Err(error),
+    }
+}
+
 #[test]
 fn seventy_particles(rt: HostRuntime) -> Result<(), Fail> {
     let pairs = pairs_from(rt.alloc(), 0)?;
-    let others = pairs_from(rt.alloc(), 1)?;
-    try_seventy(&rt, rt.alloc(), pairs.as_slice(), others.as_slice())?;
+    let tried = try_others(&rt, rt.alloc(), pairs.as_slice());
+    drop(pairs);
+    assert_eq!(rt; tried, Ok(()));
     Ok(())
 }

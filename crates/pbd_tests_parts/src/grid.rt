@@ -8,7 +8,6 @@ use pbd_num::{Vec3, inside};
 use pbd_world::RoomList;
 use std::alloc::{AllocError, Global};
 use std::process::Abort;
-use std::test::Fail;
 
 // Keeps all pairs but one.
 #[derive(Clone, Copy, Drop)]
@@ -128,18 +127,31 @@ fn finds_with(
 }
 
 // Compares a grid with the wanted pairs, at a room that is just enough and at one too small.
-fn try_near(rt: &impl Abort, alloc: Global, near: &Near<'_>) -> Result<bool, AllocError> {
+fn finds_both(alloc: Global, near: &Near<'_>, grid: &mut Grid) -> Result<[bool; 2], AllocError>
+    requires places { length near.now.places.now ≡ grid.old }
+    requires inside { AllInside near.now.places.now }
+    requires count { near.now.filter.count ≡ grid.old }
+    requires low { pos 1 ≤ℤ near.now.thickness }
+    requires high { near.now.thickness ≤ℤ pos 1048576 }
+    requires few { length near.now.wanted.now ≤ 64 }
+{
+    let room = near.wanted.len() as u32;
+    let enough = finds_with(alloc, near, grid, room)?;
+    let less = finds_with(alloc, near, grid, room.saturating_sub(1))?;
+    Ok([enough, less])
+}
+
+// The same with a grid of its own.
+fn try_near(rt: &impl Abort, alloc: Global, near: &Near<'_>) -> Result<[bool; 2], AllocError> {
     assert!(rt; near.places.len() <= 64 && near.wanted.len() <= 64);
     assert!(rt; near.filter.count as usize == near.places.len());
     assert!(rt; are_inside(near.places));
     assert!(rt; 1 <= near.thickness && near.thickness <= 1_048_576);
-    let room = near.wanted.len() as u32;
     match Grid::open(alloc, near.places.len() as u32) {
         Ok(mut grid) => {
-            let enough = finds_with(alloc, near, &mut grid, room);
-            let less = finds_with(alloc, near, &mut grid, room.saturating_sub(1));
+            let found = finds_both(alloc, near, &mut grid);
             drop(grid);
-            Ok(enough? && less?)
+            found
         }
         Err(error) => Err(error),
     }
@@ -152,39 +164,35 @@ fn try_places(
     thickness: i64,
     places: &[Vec3],
     wanted: usize,
-) -> Result<(), AllocError> {
+) -> Result<[bool; 2], AllocError> {
     assert!(rt; places.len() <= 64 && wanted <= 64);
     let filter = AllBut {
         count: places.len() as u32,
         first: 0,
         second: 2,
     };
-    let expected = near_of_all(alloc, places, thickness, &filter)?;
-    assert_eq!(rt; expected.len(), wanted);
-    let near = Near {
-        places,
-        thickness,
-        filter,
-        wanted: expected.as_slice(),
-    };
-    assert!(rt; try_near(rt, alloc, &near)?);
-    Ok(())
+    match near_of_all(alloc, places, thickness, &filter) {
+        Ok(expected) => {
+            assert_eq!(rt; expected.len(), wanted);
+            let near = Near {
+                places,
+                thickness,
+                filter,
+                wanted: expected.as_slice(),
+            };
+            let found = try_near(rt, alloc, &near);
+            drop(expected);
+            found
+        }
+        Err(error) => Err(error),
+    }
 }
 
 #[test]
-fn near_pairs_are_those_of_all(rt: HostRuntime) -> Result<(), Fail> {
-    let alloc = rt.alloc();
+fn near_pairs_are_those_of_all(rt: HostRuntime) {
     let far = 536_870_912;
-    // Three in a line: 100 apart isn't nearer than 100.
-    try_places(
-        &rt,
-        alloc,
-        100,
-        &[at(0, 0, 0), at(99, 0, 0), at(100, 0, 0)],
-        2,
-    )?;
-    // On both sides of 0, and round a corner where eight cells meet.
-    try_places(&rt, alloc, 2, &[at(-1, 0, 0), at(0, 0, 0)], 1)?;
+    let line = [at(0, 0, 0), at(99, 0, 0), at(100, 0, 0)];
+    let beside_zero = [at(-1, 0, 0), at(0, 0, 0)];
     let corner = [
         at(-1, -1, -1),
         at(-1, -1, 0),
@@ -195,11 +203,7 @@ fn near_pairs_are_those_of_all(rt: HostRuntime) -> Result<(), Fail> {
         at(0, 0, -1),
         at(0, 0, 0),
     ];
-    try_places(&rt, alloc, 2, &corner, 27)?;
-    // Equal places are near at thickness 1, others aren't.
     let few = [at(5, -7, 9), at(5, -7, 9), at(5, -7, 10), at(5, -7, 9)];
-    try_places(&rt, alloc, 1, &few, 3)?;
-    // The greatest thickness, at the ends of the range and on the edges of cells.
     let wide = [
         at(far, -far, far),
         at(far - 1_048_575, -far, far),
@@ -209,6 +213,22 @@ fn near_pairs_are_those_of_all(rt: HostRuntime) -> Result<(), Fail> {
         at(0, 1_048_576, 0),
         at(0, 1_048_575, 0),
     ];
-    try_places(&rt, alloc, 1_048_576, &wide, 4)?;
-    Ok(())
+    let cases: [(i64, &[Vec3], usize); 5] = [
+        // Three in a line: 100 apart isn't nearer than 100.
+        (100, &line, 2),
+        // On both sides of 0, and round a corner where eight cells meet.
+        (2, &beside_zero, 1),
+        (2, &corner, 27),
+        // Equal places are near at thickness 1, others aren't.
+        (1, &few, 3),
+        // The greatest thickness, at the ends of the range and on the edges of cells.
+        (1_048_576, &wide, 4),
+    ];
+    for (thickness, places, wanted) in cases {
+        assert_eq!(rt;
+            try_places(&rt, rt.alloc(), thickness, places, wanted),
+            Ok([true; 2]),
+            "{places:?}"
+        );
+    }
 }

@@ -4,7 +4,6 @@ ghost use Rattle.std.specs.List.{list_all};
 ghost use Rattle.pbd_tests_parts.specs.Small.{is_small, is_divisor};
 
 use pbd_lanes::{Lanes, Mask};
-use std::test::Fail;
 
 #[derive(Clone, Copy, Drop, PartialEq)]
 struct Seen<const L: usize> {
@@ -45,7 +44,7 @@ fn see<const L: usize>(a: [i64; L], b: [i64; L], set: [bool; L]) -> Seen<L>
 }
 
 #[test]
-fn width_1(rt: HostRuntime) -> Result<(), Fail> {
+fn width_1(rt: HostRuntime) {
     let seen = see([-2], [4], [false]);
     let wanted = Seen {
         sum: [2],
@@ -60,11 +59,10 @@ fn width_1(rt: HostRuntime) -> Result<(), Fail> {
         ones: [1],
     };
     assert!(rt; seen == wanted);
-    Ok(())
 }
 
 #[test]
-fn width_2(rt: HostRuntime) -> Result<(), Fail> {
+fn width_2(rt: HostRuntime) {
     let seen = see([6, -2], [5, 4], [true, true]);
     let wanted = Seen {
         sum: [11, 2],
@@ -79,11 +77,10 @@ fn width_2(rt: HostRuntime) -> Result<(), Fail> {
         ones: [1, 1],
     };
     assert!(rt; seen == wanted);
-    Ok(())
 }
 
 #[test]
-fn width_4(rt: HostRuntime) -> Result<(), Fail> {
+fn width_4(rt: HostRuntime) {
     let seen = see([-9, 4, 6, -2], [6, 8, 5, 4], [false, false, true, true]);
     let wanted = Seen {
         sum: [-3, 12, 11, 2],
@@ -98,11 +95,10 @@ fn width_4(rt: HostRuntime) -> Result<(), Fail> {
         ones: [1, 1, 1, 1],
     };
     assert!(rt; seen == wanted);
-    Ok(())
 }
 
 #[test]
-fn width_8(rt: HostRuntime) -> Result<(), Fail> {
+fn width_8(rt: HostRuntime) {
     let seen = see(
         [2, -6, 7, 1, -9, 4, 6, -2],
         [4, 7, 2, 3, 6, 8, 5, 4],
@@ -121,11 +117,10 @@ fn width_8(rt: HostRuntime) -> Result<(), Fail> {
         ones: [1, 1, 1, 1, 1, 1, 1, 1],
     };
     assert!(rt; seen == wanted);
-    Ok(())
 }
 
 #[test]
-fn width_16(rt: HostRuntime) -> Result<(), Fail> {
+fn width_16(rt: HostRuntime) {
     let seen = see(
         [-7, 5, 0, 9, -1, 8, 3, -4, 2, -6, 7, 1, -9, 4, 6, -2],
         [2, 3, 4, 2, 3, 5, 2, 3, 4, 7, 2, 3, 6, 8, 5, 4],
@@ -155,5 +150,4 @@ fn width_16(rt: HostRuntime) -> Result<(), Fail> {
         ones: [1, 1, 1, 1, 1, 1, 1, 1, 1, 1, 1, 1, 1, 1, 1, 1],
     };
     assert!(rt; seen == wanted);
-    Ok(())
 }

@@ -18,6 +18,8 @@ mod pairs;
 #[cfg(test)]
 mod places;
 #[cfg(test)]
+mod roots;
+#[cfg(test)]
 mod touching;
 #[cfg(test)]
 mod world;

@@ -13,7 +13,6 @@ use std::alloc::{AllocError, Global};
 use std::marker::Brand;
 use std::process::Abort;
 use std::sync::ledger::{Blank, Ledger};
-use std::test::Fail;
 
 fn free(x: i64, y: i64, z: i64) -> Particle {
     resting(at(x, y, z))
@@ -27,7 +26,7 @@ fn held(x: i64, y: i64, z: i64) -> Particle {
 }
 
 // Particles and links, a thickness, and how many contacts there are.
-#[derive(Drop)]
+#[derive(Clone, Copy)]
 struct Case<'a> {
     particles: &'a [Particle],
     links: &'a [(u32, u32)],
@@ -204,6 +203,22 @@ fn finds_safely<const L: usize, G: Ledger>(
     }
 }
 
+fn finds_at_widths<G: Ledger>(
+    rt: &impl Abort,
+    alloc: Global,
+    case: &Case<'_>,
+    wanted: &[(u32, u32)],
+    steps: &mut Steps<G>,
+) -> Result<[bool; 5], AllocError> {
+    Ok([
+        finds_safely::<1, G>(rt, alloc, case, wanted, steps)?,
+        finds_safely::<2, G>(rt, alloc, case, wanted, steps)?,
+        finds_safely::<4, G>(rt, alloc, case, wanted, steps)?,
+        finds_safely::<8, G>(rt, alloc, case, wanted, steps)?,
+        finds_safely::<16, G>(rt, alloc, case, wanted, steps)?,
+    ])
+}
+
 fn finds_counted<G: Ledger>(
     rt: &impl Abort,
     alloc: Global,
@@ -216,33 +231,40 @@ fn finds_counted<G: Ledger>(
     requires some { 0 < blank.parts }
 {
     let mut steps: Steps<G> = Steps::open(blank);
-    Ok([
-        finds_safely::<1, G>(rt, alloc, case, wanted, &mut steps)?,
-        finds_safely::<2, G>(rt, alloc, case, wanted, &mut steps)?,
-        finds_safely::<4, G>(rt, alloc, case, wanted, &mut steps)?,
-        finds_safely::<8, G>(rt, alloc, case, wanted, &mut steps)?,
-        finds_safely::<16, G>(rt, alloc, case, wanted, &mut steps)?,
-    ])
+    let found = finds_at_widths(rt, alloc, case, wanted, &mut steps);
+    drop(steps);
+    found
 }
 
-// Whether the wanted contacts are found at each width.
+// Whether the wanted contacts are found, at each width.
 fn finds_at_each_width(
     rt: &impl Abort,
     alloc: Global,
     case: &Case<'_>,
     wanted: &[(u32, u32)],
-) -> Result<bool, AllocError> {
-    let found = finds_counted::<Brand>(rt, alloc, Blank::new(1), case, wanted)?;
-    Ok(found == [true; 5])
+) -> Result<[bool; 5], AllocError> {
+    finds_counted::<Brand>(rt, alloc, Blank::new(1), case, wanted)
 }
 
 // Compares what is found at each width with all pairs, of which so many touch.
-fn try_case(rt: &impl Abort, alloc: Global, case: &Case<'_>) -> Result<(), AllocError> {
+fn try_case(rt: &impl Abort, alloc: Global, case: &Case<'_>) -> Result<[bool; 5], AllocError> {
     assert!(rt; case.particles.len() <= 1024);
-    let wanted = touching_of_all(alloc, case.particles, case.links, case.thickness)?;
-    assert_eq!(rt; wanted.len(), case.contacts);
-    assert!(rt; finds_at_each_width(rt, alloc, case, wanted.as_slice())?);
-    Ok(())
+    match touching_of_all(alloc, case.particles, case.links, case.thickness) {
+        Ok(wanted) => {
+            assert_eq!(rt; wanted.len(), case.contacts);
+            let found = finds_at_each_width(rt, alloc, case, wanted.as_slice());
+            drop(wanted);
+            found
+        }
+        Err(error) => Err(error),
+    }
+}
+
+// Tries some cases.
+fn try_cases(rt: &impl Abort, alloc: Global, cases: &[Case<'_>]) {
+    for (number, case) in cases.iter().enumerate() {
+        assert_eq!(rt; try_case(rt, alloc, case), Ok([true; 5]), "case {number}");
+    }
 }
 
 // So many particles in a row.
@@ -261,128 +283,68 @@ fn try_row(
     count: u32,
     thickness: i64,
     contacts: usize,
-) -> Result<(), AllocError> {
-    let particles = row(alloc, count)?;
-    let case = Case {
-        particles: particles.as_slice(),
-        links: &[],
+) -> Result<[bool; 5], AllocError> {
+    match row(alloc, count) {
+        Ok(particles) => {
+            let case = Case {
+                particles: particles.as_slice(),
+                links: &[],
+                thickness,
+                contacts,
+            };
+            let found = try_case(rt, alloc, &case);
+            drop(particles);
+            found
+        }
+        Err(error) => Err(error),
+    }
+}
+
+fn case_of<'a>(
+    particles: &'a [Particle],
+    links: &'a [(u32, u32)],
+    thickness: i64,
+    contacts: usize,
+) -> Case<'a> {
+    Case {
+        particles,
+        links,
         thickness,
         contacts,
-    };
-    try_case(rt, alloc, &case)
+    }
 }
 
 #[test]
-fn few_particles(rt: HostRuntime) -> Result<(), Fail> {
-    let alloc = rt.alloc();
-    // 100 apart isn't nearer than 100.
+fn few_particles(rt: HostRuntime) {
     let line = [free(0, 0, 0), free(99, 0, 0), free(100, 0, 0)];
-    try_case(
-        &rt,
-        alloc,
-        &Case {
-            particles: &line,
-            links: &[],
-            thickness: 100,
-            contacts: 2,
-        },
-    )?;
-    try_case(
-        &rt,
-        alloc,
-        &Case {
-            particles: &line,
-            links: &[(1, 0)],
-            thickness: 100,
-            contacts: 1,
-        },
-    )?;
-    try_case(
-        &rt,
-        alloc,
-        &Case {
-            particles: &line,
-            links: &[(0, 2)],
-            thickness: 100,
-            contacts: 2,
-        },
-    )?;
-    try_case(
-        &rt,
-        alloc,
-        &Case {
-            particles: &line,
-            links: &[],
-            thickness: 0,
-            contacts: 0,
-        },
-    )?;
-    // On both sides of 0.
-    try_case(
-        &rt,
-        alloc,
-        &Case {
-            particles: &[free(-1, 0, 0), free(0, 0, 0)],
-            links: &[],
-            thickness: 2,
-            contacts: 1,
-        },
-    )?;
-    // Two held ones don't touch, a held and a free one do.
+    let beside_zero = [free(-1, 0, 0), free(0, 0, 0)];
     let pinned = [held(0, 5, 0), free(3, 5, 0), held(5, 5, 0), held(0, 5, 3)];
-    try_case(
-        &rt,
-        alloc,
-        &Case {
-            particles: &pinned,
-            links: &[],
-            thickness: 6,
-            contacts: 3,
-        },
-    )?;
-    try_case(
-        &rt,
-        alloc,
-        &Case {
-            particles: &pinned,
-            links: &[(2, 1), (0, 3)],
-            thickness: 6,
-            contacts: 2,
-        },
-    )?;
-    // Equal places are near at thickness 1, others aren't, and none is at 0.
     let equal = [
         free(5, -7, 9),
         free(5, -7, 9),
         free(5, -7, 10),
         free(5, -7, 9),
     ];
-    try_case(
-        &rt,
-        alloc,
-        &Case {
-            particles: &equal,
-            links: &[],
-            thickness: 1,
-            contacts: 3,
-        },
-    )?;
-    try_case(
-        &rt,
-        alloc,
-        &Case {
-            particles: &equal,
-            links: &[],
-            thickness: 0,
-            contacts: 0,
-        },
-    )?;
-    Ok(())
+    let cases = [
+        // 100 apart isn't nearer than 100.
+        case_of(&line, &[], 100, 2),
+        case_of(&line, &[(1, 0)], 100, 1),
+        case_of(&line, &[(0, 2)], 100, 2),
+        case_of(&line, &[], 0, 0),
+        // On both sides of 0.
+        case_of(&beside_zero, &[], 2, 1),
+        // Two held ones don't touch, a held and a free one do.
+        case_of(&pinned, &[], 6, 3),
+        case_of(&pinned, &[(2, 1), (0, 3)], 6, 2),
+        // Equal places are near at thickness 1, others aren't, and none is at 0.
+        case_of(&equal, &[], 1, 3),
+        case_of(&equal, &[], 0, 0),
+    ];
+    try_cases(&rt, rt.alloc(), &cases);
 }
 
 #[test]
-fn edges_of_cells_and_of_the_range(rt: HostRuntime) -> Result<(), Fail> {
-    let alloc = rt.alloc();
+fn edges_of_cells_and_of_the_range(rt: HostRuntime) {
     // Round a corner where eight cells meet.
     let corner = [
         free(-1, -1, -1),
@@ -394,16 +356,6 @@ fn edges_of_cells_and_of_the_range(rt: HostRuntime) -> Result<(), Fail> {
         free(0, 0, -1),
         free(0, 0, 0),
     ];
-    try_case(
-        &rt,
-        alloc,
-        &Case {
-            particles: &corner,
-            links: &[],
-            thickness: 2,
-            contacts: 28,
-        },
-    )?;
     // The greatest thickness, at the ends of the range and on the edges of cells.
     let far = 536_870_912;
     let wide = [
@@ -415,33 +367,24 @@ fn edges_of_cells_and_of_the_range(rt: HostRuntime) -> Result<(), Fail> {
         free(0, 1_048_576, 0),
         free(0, 1_048_575, 0),
     ];
-    try_case(
-        &rt,
-        alloc,
-        &Case {
-            particles: &wide,
-            links: &[],
-            thickness: 1_048_576,
-            contacts: 4,
-        },
-    )?;
-    Ok(())
+    let cases = [
+        case_of(&corner, &[], 2, 28),
+        case_of(&wide, &[], 1_048_576, 4),
+    ];
+    try_cases(&rt, rt.alloc(), &cases);
 }
 
 #[test]
-fn seventy_particles_all_touch(rt: HostRuntime) -> Result<(), Fail> {
-    try_row(&rt, rt.alloc(), 70, 100, 2415)?;
-    Ok(())
+fn seventy_particles_all_touch(rt: HostRuntime) {
+    assert_eq!(rt; try_row(&rt, rt.alloc(), 70, 100, 2415), Ok([true; 5]));
 }
 
 #[test]
-fn just_as_many_as_there_is_room_for(rt: HostRuntime) -> Result<(), Fail> {
-    try_row(&rt, rt.alloc(), 724, 1000, 261_726)?;
-    Ok(())
+fn just_as_many_as_there_is_room_for(rt: HostRuntime) {
+    assert_eq!(rt; try_row(&rt, rt.alloc(), 724, 1000, 261_726), Ok([true; 5]));
 }
 
 #[test]
-fn more_than_there_is_room_for(rt: HostRuntime) -> Result<(), Fail> {
-    try_row(&rt, rt.alloc(), 725, 1000, 262_450)?;
-    Ok(())
+fn more_than_there_is_room_for(rt: HostRuntime) {
+    assert_eq!(rt; try_row(&rt, rt.alloc(), 725, 1000, 262_450), Ok([true; 5]));
 }

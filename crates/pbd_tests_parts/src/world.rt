@@ -2,7 +2,7 @@
 ghost use Rattle.std.specs.Prelude.{◌<◌, ◌≤◌};
 
 use crate::places::{at, resting};
-use pbd_num::Vec3;
+use pbd_num::{RANGE, Vec3};
 use pbd_world::{
     Class, Full, Key, Kind, Link, List, Particle, Parts, PartsFault, Phase, Plane, Refusal,
     RoomList, Scene, Sphere, Totals, Track, Width,
@@ -33,22 +33,6 @@ fn link(a: u32, b: u32, rest: i64) -> Link {
         tear: 0,
         kind: Kind::Stretch,
         live: true,
-    }
-}
-
-fn no_parts(alloc: Global) -> Parts {
-    Parts {
-        particles: List::new(alloc),
-        links: List::new(alloc),
-        planes: List::new(alloc),
-        spheres: List::new(alloc),
-        tracks: List::new(alloc),
-        gravity: Vec3::ZERO,
-        passes: 1,
-        damping: 0,
-        thickness: 0,
-        friction: 0,
-        limit: pbd_num::RANGE,
     }
 }
 
@@ -99,9 +83,24 @@ fn push_cloth(parts: &mut Parts) -> Result<(), AllocError> {
     )
 }
 
+/// The scene of parts, where all went into them.
+fn scene_of(
+    alloc: Global,
+    parts: Parts,
+    pushed: Result<(), AllocError>,
+) -> Result<Scene, PartsFault> {
+    match pushed {
+        Ok(()) => Scene::from_parts(alloc, parts),
+        Err(_) => {
+            drop(parts);
+            Err(PartsFault::OutOfMemory)
+        }
+    }
+}
+
 /// Whether parts are a scene. Nothing where they aren't for want of memory.
-fn are_scene(alloc: Global, parts: Parts) -> Option<bool> {
-    match Scene::from_parts(alloc, parts) {
+fn are_scene(alloc: Global, parts: Parts, pushed: Result<(), AllocError>) -> Option<bool> {
+    match scene_of(alloc, parts, pushed) {
         Ok(scene) => {
             drop(scene);
             Some(true)
@@ -122,24 +121,20 @@ fn counts(scene: Scene) -> (usize, usize, usize) {
 }
 
 #[test]
-fn takes_valid_parts(rt: HostRuntime) -> Result<(), Fail> {
-    let mut parts = no_parts(rt.alloc());
-    push_cloth(&mut parts)?;
-    let scene = Scene::from_parts(rt.alloc(), parts)?;
-    assert_eq!(rt; counts(scene), (6, 13, 6));
-    Ok(())
+fn takes_valid_parts(rt: HostRuntime) {
+    let mut parts = Parts::empty(rt.alloc(), RANGE);
+    let pushed = push_cloth(&mut parts);
+    match scene_of(rt.alloc(), parts, pushed) {
+        Ok(scene) => assert_eq!(rt; counts(scene), (6, 13, 6)),
+        Err(fault) => assert!(rt; false, "{fault:?}"),
+    }
 }
 
-/// What a change makes of the parts of a cloth.
-fn changed(alloc: Global, change: &Change<'_>) -> Result<Option<bool>, AllocError> {
-    let mut parts = no_parts(alloc);
-    match change_cloth(alloc, change, &mut parts) {
-        Ok(()) => Ok(are_scene(alloc, parts)),
-        Err(error) => {
-            drop(parts);
-            Err(error)
-        }
-    }
+/// Whether what a change makes of the parts of a cloth is a scene.
+fn changed(alloc: Global, change: &Change<'_>) -> Option<bool> {
+    let mut parts = Parts::empty(alloc, RANGE);
+    let pushed = change_cloth(alloc, change, &mut parts);
+    are_scene(alloc, parts, pushed)
 }
 
 fn push_keys(keys: &mut List<Key>, steps: &[u32]) -> Result<(), AllocError> {
@@ -194,15 +189,14 @@ fn change_cloth(alloc: Global, change: &Change<'_>, parts: &mut Parts) -> Result
 }
 
 #[test]
-fn refuses_a_double_link(rt: HostRuntime) -> Result<(), Fail> {
+fn refuses_a_double_link(rt: HostRuntime) {
     for (a, b) in [(0, 1), (1, 0), (5, 3)] {
-        assert_eq!(rt; changed(rt.alloc(), &Change::Link(a, b))?, Some(false));
+        assert_eq!(rt; changed(rt.alloc(), &Change::Link(a, b)), Some(false));
     }
-    Ok(())
 }
 
 #[test]
-fn refuses_other_parts(rt: HostRuntime) -> Result<(), Fail> {
+fn refuses_other_parts(rt: HostRuntime) {
     let changes = [
         Change::Limit(1000),
         Change::Link(2, 2),
@@ -221,20 +215,19 @@ fn refuses_other_parts(rt: HostRuntime) -> Result<(), Fail> {
             offset: 0,
         }),
         Change::Sphere(Sphere {
-            centre: at(pbd_num::RANGE, 0, 0),
+            centre: at(RANGE, 0, 0),
             radius: 1,
         }),
         Change::Passes(65),
-        Change::Gravity(at(0, -pbd_num::RANGE - 1, 0)),
+        Change::Gravity(at(0, -RANGE - 1, 0)),
     ];
     for (case, change) in changes.iter().enumerate() {
-        assert_eq!(rt; changed(rt.alloc(), change)?, Some(false), "case {case}");
+        assert_eq!(rt; changed(rt.alloc(), change), Some(false), "case {case}");
     }
-    Ok(())
 }
 
 #[test]
-fn looks_at_tracks(rt: HostRuntime) -> Result<(), Fail> {
+fn looks_at_tracks(rt: HostRuntime) {
     let rows: [(&[(u32, &[u32])], bool); 6] = [
         (&[(6, &[3, 4, 1_000_000])], true),
         (&[(0, &[3])], false),
@@ -244,10 +237,9 @@ fn looks_at_tracks(rt: HostRuntime) -> Result<(), Fail> {
         (&[(6, &[3]), (6, &[0])], false),
     ];
     for (tracks, fits) in rows {
-        let found = changed(rt.alloc(), &Change::Tracks(tracks))?;
+        let found = changed(rt.alloc(), &Change::Tracks(tracks));
         assert_eq!(rt; found, Some(fits), "{tracks:?}");
     }
-    Ok(())
 }
 
 /// So many particles in a row, each with links to so many behind it, round the end.
@@ -268,12 +260,11 @@ fn push_ring(parts: &mut Parts, particles: u32, links: u32) -> Result<(), AllocE
 }
 
 #[test]
-fn takes_as_many_links_as_there_may_be(rt: HostRuntime) -> Result<(), Fail> {
-    let mut parts = no_parts(rt.alloc());
-    push_ring(&mut parts, 65_536, 8)?;
+fn takes_as_many_links_as_there_may_be(rt: HostRuntime) {
+    let mut parts = Parts::empty(rt.alloc(), RANGE);
+    let pushed = push_ring(&mut parts, 65_536, 8);
     assert_eq!(rt; parts.links.len(), 524_288);
-    assert_eq!(rt; are_scene(rt.alloc(), parts), Some(true));
-    Ok(())
+    assert_eq!(rt; are_scene(rt.alloc(), parts, pushed), Some(true));
 }
 
 /// Forty particles, and so many links of the last one.
@@ -287,47 +278,56 @@ fn push_star(parts: &mut Parts, links: u32) -> Result<(), AllocError> {
     Ok(())
 }
 
-#[test]
-fn refuses_a_thirty_third_link(rt: HostRuntime) -> Result<(), Fail> {
-    for (count, fits) in [(32_u32, true), (33, false)] {
-        let mut parts = no_parts(rt.alloc());
-        push_star(&mut parts, count)?;
-        assert_eq!(rt; are_scene(rt.alloc(), parts), Some(fits));
-    }
-    Ok(())
+/// Whether they are a scene.
+fn star_is_scene(alloc: Global, links: u32) -> Option<bool> {
+    let mut parts = Parts::empty(alloc, RANGE);
+    let pushed = push_star(&mut parts, links);
+    are_scene(alloc, parts, pushed)
 }
 
 #[test]
-fn keeps_lists(rt: HostRuntime) -> Result<(), Fail> {
+fn refuses_a_thirty_third_link(rt: HostRuntime) {
+    assert_eq!(rt; star_is_scene(rt.alloc(), 32), Some(true));
+    assert_eq!(rt; star_is_scene(rt.alloc(), 33), Some(false));
+}
+
+#[test]
+fn keeps_lists(rt: HostRuntime) {
     let mut list = List::new(rt.alloc());
-    for n in [3_u8, 1, 4] {
-        list.push(n)?;
-    }
-    assert_eq!(rt; list.len(), 3);
+    let pushed = [list.push(3_u8), list.push(1), list.push(4)];
+    let long = list.len();
     list.truncate(2);
     list.truncate(5);
-    assert_eq!(rt; list.as_slice(), [3_u8, 1].as_slice());
-    Ok(())
+    let short = list.as_slice() == [3, 1].as_slice();
+    drop(list);
+    assert_eq!(rt; (pushed, long, short), ([Ok(()); 3], 3, true));
+}
+
+/// Sets the items to 1, and says whether the list is two ones then.
+fn becomes_ones(list: &mut RoomList<u8>) -> bool {
+    for n in list.as_mut_slice() {
+        *n = 1;
+    }
+    list.as_slice() == [1, 1].as_slice()
 }
 
 #[test]
 fn keeps_room_lists(rt: HostRuntime) -> Result<(), Fail> {
     let mut list = RoomList::open(rt.alloc(), 2)?;
-    assert!(rt; list.push(7_u8).is_ok());
-    assert!(rt; list.push(8).is_ok());
-    assert_eq!(rt; list.push(9), Err(Full));
-    for n in list.as_mut_slice() {
-        *n = 1;
-    }
-    assert_eq!(rt; list.as_slice(), [1_u8, 1].as_slice());
+    let pushed = [list.push(7), list.push(8), list.push(9)];
+    let ones = becomes_ones(&mut list);
     list.clear();
-    assert_eq!(rt; list.as_slice().len(), 0);
-    assert_eq!(rt; list.room(), 2);
+    let left = (list.as_slice().len(), list.room());
+    drop(list);
+    assert_eq!(rt;
+        (pushed, ones, left),
+        ([Ok(()), Ok(()), Err(Full)], true, (0, 2))
+    );
     Ok(())
 }
 
 #[test]
-fn adds_to_one_total(rt: HostRuntime) -> Result<(), Fail> {
+fn adds_to_one_total(rt: HostRuntime) {
     let mut totals = Totals::zero();
     totals.add(Class::Pin, at(1, -2, 3));
     assert_eq!(rt;
@@ -343,31 +343,28 @@ fn adds_to_one_total(rt: HostRuntime) -> Result<(), Fail> {
     };
     totals.add(Class::Link, Vec3 { x: 1, y: 0, z: -1 });
     assert_eq!(rt; totals.link, [i128::MAX, 0, i128::MIN]);
-    Ok(())
 }
 
 #[test]
-fn counts_lanes_and_refusals(rt: HostRuntime) -> Result<(), Fail> {
-    for (width, lanes) in [
-        (Width::W1, 1),
-        (Width::W2, 2),
-        (Width::W4, 4),
-        (Width::W8, 8),
-        (Width::W16, 16),
-    ] {
-        assert_eq!(rt; width.lanes(), lanes);
-    }
-    assert_eq!(rt; Refusal::BadCommand.number(), 1);
-    assert_eq!(rt; Refusal::StepLimit.number(), 10);
-    assert_eq!(rt;
-        Refusal::LeavesRange {
-            step: 1,
-            phase: Phase::Link,
-            element: 0
-        }
-        .number(),
-        11
-    );
-    assert_eq!(rt; Refusal::TooManyContacts { step: 1 }.number(), 12);
-    Ok(())
+fn counts_lanes_and_refusals(rt: HostRuntime) {
+    let lanes = [
+        Width::W1.lanes(),
+        Width::W2.lanes(),
+        Width::W4.lanes(),
+        Width::W8.lanes(),
+        Width::W16.lanes(),
+    ];
+    assert_eq!(rt; lanes, [1, 2, 4, 8, 16]);
+    let leaves = Refusal::LeavesRange {
+        step: 1,
+        phase: Phase::Link,
+        element: 0,
+    };
+    let numbers = [
+        Refusal::BadCommand.number(),
+        Refusal::StepLimit.number(),
+        leaves.number(),
+        Refusal::TooManyContacts { step: 1 }.number(),
+    ];
+    assert_eq!(rt; numbers, [1, 10, 11, 12]);
 }
