@@ -53,11 +53,11 @@ rdiv-cancel (negsuc a) c d h k =
     first_below (negsuc a) (pos c) (d * c) some (omega (arith, ints)) (omega (arith, ints)) ∙ ap (λ x. neg_ℤ (pos x)) (rw e (quotient_cancel (a + 1) c d h))
 
 -- the rounded quotient of 0
-rdiv_zero : (d : ℕ) → 0 < d → rdiv (pos 0) (pos d) ≡ pos 0
+pub rdiv_zero : (d : ℕ) → 0 < d → rdiv (pos 0) (pos d) ≡ pos 0
 unfolding rdiv
 rdiv_zero d h = ap pos (quotient_of_zero d h)
 
-times_zero : (z : ℤ) → z *ℤ pos 0 ≡ pos 0
+pub times_zero : (z : ℤ) → z *ℤ pos 0 ≡ pos 0
 times_zero z = omega (arith, ints)
 
 turned_twice : (x : ℕ) → neg_ℤ (pos x) *ℤ pos 2 ≡ neg_ℤ (pos (x * 2))

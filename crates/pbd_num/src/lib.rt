@@ -8,6 +8,8 @@ ghost use Rattle.pbd_num.specs.PairMove.{share_of, along, corrections, shares, p
 
 mod guess;
 mod laws;
+mod near;
+mod tried;
 mod vectors;
 
 pub use guess::{
@@ -17,6 +19,7 @@ pub use guess::{
 pub use laws::{
     axes_are_within_the_length, equal_weights_move_oppositely, roots_are_greatest, rounding_is_odd,
 };
+pub use tried::{Draw, TriedMoves, Weights, try_moves};
 pub use vectors::square;
 
 /// The greatest size of a coordinate, in units of 1/65,536 metre.
