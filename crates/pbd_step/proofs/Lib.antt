@@ -16,3 +16,4 @@ pub mod Settling
 pub mod Keeping
 pub mod Staying
 pub mod Costing
+pub mod Parting

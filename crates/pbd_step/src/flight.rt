@@ -1,5 +1,5 @@
 // L particles at the start of a step, side by side: axis by axis, where the free ones fly.
-ghost use Rattle.std.specs.Prelude.{◌≡◌, ℕ, ◌+◌, ◌<◌, ◌≤◌, ◌^◌, ℤ, pos, ◌+ℤ◌, ◌*ℤ◌, ◌≤ℤ◌, unsigned_abs, true, false, not, ◌&&◌, slice_index_or, if◌then◌else◌};
+ghost use Rattle.std.specs.Prelude.{◌≡◌, ℕ, ◌+◌, ◌<◌, ◌≤◌, ◌^◌, ℤ, pos, ◌+ℤ◌, ◌-ℤ◌, ◌*ℤ◌, ◌≤ℤ◌, Bool, unsigned_abs, true, false, not, ◌&&◌, slice_index_or, if◌then◌else◌};
 ghost use Rattle.pbd_num.specs.Rounding.{rdiv as rounded};
 ghost use Rattle.pbd_num.specs.Vectors.{Within};
 ghost use Rattle.pbd_lanes.specs.Lane.{lane, is_set};
@@ -7,7 +7,7 @@ ghost use Rattle.pbd_store.specs.Blocks.{place_of};
 ghost use Rattle.pbd_step.specs.Predicting.{loss_at, flown_at, pull_at, losses_at, places_at, pulls_at, sum_below, sums_below};
 
 use pbd_lanes::Lanes;
-use pbd_num::{Vec3, short, with_sign};
+use pbd_num::Vec3;
 use pbd_store::{Block, Lanes3};
 
 /// What acts on particles: damping in 1/1,024, gravity, and the limit of places.
@@ -45,43 +45,94 @@ pub(crate) struct Flown<const L: usize> {
     pub(crate) within: bool,
 }
 
-// `s * f / 1024`, rounded, with no division.
+// The product of two numbers that are raised above 0 first, so that it is one of 32 bits by 32 bits with no sign.
+#[inline(always)]
+fn product_of_raised(s: i64, f: i64) -> i64
+    requires s { unsigned_abs s ≤ 2 ^ 30 }
+    requires f { unsigned_abs f ≤ 1024 }
+    ensures value { result ≡ s *ℤ f +ℤ pos 1024 *ℤ s +ℤ pos 2147483648 *ℤ f +ℤ pos 2199023255552 }
+    ensures size { unsigned_abs result < 2 ^ 45 }
+{
+    (u64::from((s + 2_147_483_648) as u32) * u64::from((f + 1024) as u32)) as i64
+}
+
+// `s * f`, raised by 2^41.
+#[inline(always)]
+fn raised_product(s: i64, f: i64) -> u64
+    requires s { unsigned_abs s ≤ 2 ^ 30 }
+    requires f { unsigned_abs f ≤ 1024 }
+    ensures { pos result ≡ s *ℤ f +ℤ pos 2199023255552 }
+{
+    (product_of_raised(s, f) - 1024 * s - 2_147_483_648 * f) as u64
+}
+
+// `s * f / 1024`, rounded, by divisions of numbers that are not below 0: a product is below 0 where it is raised to less
+// than 2^41.
+#[inline(always)]
 fn part_of_1024(s: i64, f: i64) -> i64
     requires s { unsigned_abs s ≤ 2 ^ 30 }
     requires f { unsigned_abs f ≤ 1024 }
     ensures { result ≡ rounded (s *ℤ f) (pos 1024) }
 {
-    let size = short(s.unsigned_abs()) * short(f.unsigned_abs());
-    with_sign(s, f, (size + 512) / 1024)
+    let raised = raised_product(s, f);
+    let half = 511 + raised / 2_199_023_255_552;
+    ((raised + half) / 1024) as i64 - 2_147_483_648
 }
 
+#[inline(always)]
 fn kept_if(flies: bool, n: i64) -> i64
     ensures { result ≡ (if flies then n else pos 0) }
 {
     if flies { n } else { 0 }
 }
 
-fn loss_if(flies: bool, at: i64, before: i64, damping: i64) -> i64
+// The way of a particle that flies.
+#[inline(always)]
+fn way_if(flies: bool, at: i64, before: i64) -> i64
     requires at { unsigned_abs at ≤ 2 ^ 29 }
     requires before { unsigned_abs before ≤ 2 ^ 29 }
-    requires damping { unsigned_abs damping ≤ 1024 }
-    ensures value { result ≡ loss_at damping flies at before }
+    ensures value { result ≡ (if flies then at -ℤ before else pos 0) }
     ensures size { unsigned_abs result ≤ 2 ^ 30 }
 {
-    kept_if(flies, part_of_1024(at - before, damping))
+    kept_if(flies, at - before)
 }
 
-fn flown_if(flies: bool, at: i64, before: i64, loss: i64, gravity: i64) -> i64
-    requires at { unsigned_abs at ≤ 2 ^ 29 }
-    requires before { unsigned_abs before ≤ 2 ^ 29 }
-    requires loss { unsigned_abs loss ≤ 2 ^ 30 }
-    requires gravity { unsigned_abs gravity ≤ 2 ^ 29 }
-    ensures { (damping : ℤ) → loss ≡ loss_at damping flies at before → result ≡ flown_at damping gravity flies at before }
+// What gravity adds to it.
+#[inline(always)]
+fn pull_if(flies: bool, gravity: i64) -> i64
+    requires { unsigned_abs gravity ≤ 2 ^ 29 }
+    ensures value { result ≡ pull_at gravity flies }
+    ensures size { unsigned_abs result ≤ 2 ^ 29 }
 {
-    let to = at + (at - before - loss) + gravity;
-    if flies { to } else { at }
+    kept_if(flies, gravity)
 }
 
+// What damping takes of it.
+#[inline(always)]
+fn loss_of(way: i64, damping: i64) -> i64
+    requires way { unsigned_abs way ≤ 2 ^ 30 }
+    requires damping { unsigned_abs damping ≤ 1024 }
+    ensures value { (flies : Bool) (at before : ℤ) → way ≡ (if flies then at -ℤ before else pos 0)
+        → result ≡ loss_at damping flies at before }
+    ensures size { unsigned_abs result ≤ 2 ^ 30 }
+{
+    part_of_1024(way, damping)
+}
+
+#[inline(always)]
+fn flown_by(at: i64, way: i64, loss: i64, pull: i64) -> i64
+    requires at { unsigned_abs at ≤ 2 ^ 29 }
+    requires way { unsigned_abs way ≤ 2 ^ 30 }
+    requires loss { unsigned_abs loss ≤ 2 ^ 30 }
+    requires pull { unsigned_abs pull ≤ 2 ^ 29 }
+    ensures value { (flies : Bool) (damping gravity before : ℤ) → way ≡ (if flies then at -ℤ before else pos 0)
+        → loss ≡ loss_at damping flies at before → pull ≡ pull_at gravity flies → result ≡ flown_at damping gravity flies at before }
+    ensures size { unsigned_abs result ≤ 2 ^ 32 }
+{
+    at + (way - loss) + pull
+}
+
+#[inline(always)]
 fn sum(sum: i64, n: i64) -> i64
     requires sum { unsigned_abs sum ≤ 2 ^ 40 }
     requires n { unsigned_abs n ≤ 2 ^ 30 }
@@ -91,13 +142,26 @@ fn sum(sum: i64, n: i64) -> i64
     sum + n
 }
 
-fn still_within(so_far: bool, n: i64, limit: i64) -> bool
+// At least 2^40 where a number is above a limit.
+#[inline(always)]
+fn reach(n: i64, limit: i64) -> u64
+    requires n { unsigned_abs n ≤ 2 ^ 32 }
+    requires limit { unsigned_abs limit ≤ 2 ^ 29 }
+    ensures { result < 2 ^ 40 → n ≤ℤ limit }
+{
+    (1_099_511_627_775 - limit + n) as u64
+}
+
+// The bits of the reaches of all numbers and of their opposites, below 2^40 only where all are in `-limit..=limit`.
+#[inline(always)]
+fn with_reaches(reached: u64, n: i64, limit: i64) -> u64
+    requires n { unsigned_abs n ≤ 2 ^ 32 }
     requires low { pos 0 ≤ℤ limit }
     requires high { unsigned_abs limit ≤ 2 ^ 29 }
-    ensures before { result ≡ true → so_far ≡ true }
-    ensures now { result ≡ true → unsigned_abs n ≤ unsigned_abs limit }
+    ensures before { result < 2 ^ 40 → reached < 2 ^ 40 }
+    ensures now { result < 2 ^ 40 → unsigned_abs n ≤ unsigned_abs limit }
 {
-    so_far & (-limit <= n) & (n <= limit)
+    reached | reach(n, limit) | reach(-n, limit)
 }
 
 // One axis of L particles, of which some fly and the others stay.
@@ -127,20 +191,22 @@ fn fly_axis<const L: usize>(
     let mut to = [0; L];
     let mut pulled = 0;
     let mut lost = 0;
-    let mut within = true;
+    let mut reached = 0;
     for j in 0..L {
-        let loss = loss_if(flies[j], at[j], before[j], pull.damping);
-        let place = flown_if(flies[j], at[j], before[j], loss, pull.gravity);
+        let way = way_if(flies[j], at[j], before[j]);
+        let loss = loss_of(way, pull.damping);
+        let gains = pull_if(flies[j], pull.gravity);
+        let place = flown_by(at[j], way, loss, gains);
         to[j] = place;
-        pulled = sum(pulled, kept_if(flies[j], pull.gravity));
+        pulled = sum(pulled, gains);
         lost = sum(lost, loss);
-        within = still_within(within, place, pull.limit);
+        reached = with_reaches(reached, place, pull.limit);
     }
     Axis {
         to,
         pulled,
         lost,
-        within,
+        within: reached < 1_099_511_627_776,
     }
 }
 

@@ -4,7 +4,7 @@ use Rattle.std.proofs.lemmas.List.{length-replicate}
 use Rattle.pbd_num.proofs.Sizes.{fits}
 use Rattle.pbd_store.proofs.Filling.{filled_more}
 use Rattle.pbd_step.specs.Predicting.{loss_at, pull_at}
-use Rattle.pbd_step.proofs.Flights.{kept_size, sum_none, sum_more}
+use Rattle.pbd_step.proofs.Flights.{sum_none, sum_more}
 use Rattle.pbd_step.proofs.flight.fly_axis.Goals as goal
 
 pub loop-j-init : goal.loop-j-init
@@ -17,45 +17,41 @@ loop-j-init g c = record {
   within = λ e k h. absurd (omega arith);
 }
 
-pub sum-pulled-requires-clause-n : goal.sum-pulled-requires-clause-n
-sum-pulled-requires-clause-n g c =
-    let f : FitsSigned w64 c.kept_if.result = record { sfits = c.kept_if.type_inv } in
-    let p = fits c.args.pull.gravity (omega (arith, c.requires.gravity)) in
-    let kept = simp to_z-of_z at c.kept_if.ensures in
-    simp to_z-of_z (kept_size (get_or c.args.flies.now c.loop-j.j false) c.args.pull.gravity c.kept_if.result (2 ^ 30) kept (omega (arith, c.requires.gravity)))
-
 pub loop-j-preserved : goal.loop-j-preserved
 loop-j-preserved g c =
     let inv = c.loop-j.invariant in
     let j = c.loop-j.j in
     let a : FitsSigned w64 (get_or c.args.at.now j (pos 0)) = search rules in
     let b : FitsSigned w64 (get_or c.args.before.now j (pos 0)) = search rules in
-    let l : FitsSigned w64 c.loss_if-loss.result = record { sfits = c.loss_if-loss.type_inv } in
-    let p : FitsSigned w64 c.flown_if-place.result = record { sfits = c.flown_if-place.type_inv } in
-    let k : FitsSigned w64 c.kept_if.result = record { sfits = c.kept_if.type_inv } in
+    let w : FitsSigned w64 c.way_if-way.result = record { sfits = c.way_if-way.type_inv } in
+    let l : FitsSigned w64 c.loss_of-loss.result = record { sfits = c.loss_of-loss.type_inv } in
+    let p : FitsSigned w64 c.flown_by-place.result = record { sfits = c.flown_by-place.type_inv } in
+    let k : FitsSigned w64 c.pull_if-gains.result = record { sfits = c.pull_if-gains.type_inv } in
     let fd = fits c.args.pull.damping (omega (arith, c.requires.damping)) in
     let fg = fits c.args.pull.gravity (omega (arith, c.requires.gravity)) in
     let fp : FitsSigned w64 c.loop-j.pulled = search rules in
     let fl : FitsSigned w64 c.loop-j.lost = search rules in
     let sp : FitsSigned w64 c.sum-pulled.result = record { sfits = c.sum-pulled.type_inv } in
     let sl : FitsSigned w64 c.sum-lost.result = record { sfits = c.sum-lost.type_inv } in
-    let loss = simp to_z-of_z at c.loss_if-loss.ensures.value in
-    let flown = simp to_z-of_z at c.flown_if-place.ensures in
-    let place = flown c.args.pull.damping loss in
-    let kept = simp to_z-of_z at c.kept_if.ensures in
+    let flies = get_or c.args.flies.now j false in
+    let before = get_or c.args.before.now j (pos 0) in
+    let way = simp to_z-of_z at c.way_if-way.ensures.value in
+    let loss = (simp to_z-of_z at c.loss_of-loss.ensures.value) flies (get_or c.args.at.now j (pos 0)) before way in
+    let gains = simp to_z-of_z at c.pull_if-gains.ensures.value in
+    let place = (simp to_z-of_z at c.flown_by-place.ensures.value) flies c.args.pull.damping c.args.pull.gravity before way loss gains in
     let pulled = simp to_z-of_z at c.sum-pulled.ensures.value in
     let lost = simp to_z-of_z at c.sum-lost.ensures.value in
     let pulled_size : unsigned_abs c.sum-pulled.result ≤ (j + 1) * 2 ^ 30 = omega (arith, c.sum-pulled.ensures.size (j * 2 ^ 30) inv.pulled_size) in
     let lost_size : unsigned_abs c.sum-lost.result ≤ (j + 1) * 2 ^ 30 = omega (arith, c.sum-lost.ensures.size (j * 2 ^ 30) inv.lost_size) in
     let fm = fits c.args.pull.limit (omega (arith, c.requires.high)) in
-    let now = simp to_z-of_z at c.still_within-within.ensures.now in
+    let now = simp to_z-of_z at c.with_reaches-reached.ensures.now in
     record {
       to = simp to_z-of_z (filled_more _ inv.to (omega arith) place);
-      pulled = simp to_z-of_z (sum_more (λ k. pull_at c.args.pull.gravity (get_or c.args.flies.now k false)) j pulled inv.pulled kept);
+      pulled = simp to_z-of_z (sum_more (λ k. pull_at c.args.pull.gravity (get_or c.args.flies.now k false)) j pulled inv.pulled gains);
       lost = simp to_z-of_z (sum_more (λ k. loss_at c.args.pull.damping (get_or c.args.flies.now k false) (get_or c.args.at.now k (pos 0)) (get_or c.args.before.now k (pos 0))) j lost inv.lost loss);
       pulled_size = simp to_z-of_z pulled_size;
       lost_size = simp to_z-of_z lost_size;
       within = λ e. below_more _ _
-          (λ k h. let ne : k ≢ j = omega arith in rw get_or-set_other (inv.within (c.still_within-within.ensures.before e) k h))
+          (λ k h. let ne : k ≢ j = omega arith in rw get_or-set_other (inv.within (c.with_reaches-reached.ensures.before e) k h))
           (let room : j < length c.loop-j.to = omega (arith, inv.to.whole) in rw get_or-set_same (simp to_z-of_z (now e)));
     }

@@ -1,4 +1,4 @@
-use Rattle.std.proofs.Common.{◌≡◌, ℕ, ◌<◌, ◌≤◌, ◌*◌, ◌^◌, pos, get_or, true, false, unsigned_abs}
+use Rattle.std.proofs.Common.{◌≡◌, ℕ, ◌<◌, ◌≤◌, ◌*◌, ◌^◌, pos, get_or, false, unsigned_abs}
 use Rattle.pbd_store.proofs.Filling.{Filled}
 use Rattle.pbd_step.specs.Predicting.{loss_at, flown_at, pull_at, sum_below}
 use Rattle.pbd_step.proofs.flight.fly_axis.Given as goal
@@ -11,5 +11,5 @@ invariant-loop-j g l = record {
   lost : l.lost ≡ sum_below (λ k. loss_at l.fn.pull.damping (get_or l.flies k false) (get_or l.at k (pos 0)) (get_or l.before k (pos 0))) l.j;
   pulled_size : unsigned_abs l.pulled ≤ l.j * 2 ^ 30;
   lost_size : unsigned_abs l.lost ≤ l.j * 2 ^ 30;
-  within : l.within ≡ true → (k : ℕ) → k < l.j → unsigned_abs (get_or l.to k (pos 0)) ≤ unsigned_abs l.fn.pull.limit;
+  within : l.reached < 2 ^ 40 → (k : ℕ) → k < l.j → unsigned_abs (get_or l.to k (pos 0)) ≤ unsigned_abs l.fn.pull.limit;
 }
