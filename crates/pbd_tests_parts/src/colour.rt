@@ -120,77 +120,79 @@ fn try_case(rt: &impl Abort, alloc: Global, case: &Case) -> Result<(), AllocErro
     }
 }
 
+static FOUR_PAIRS: Case = Case {
+    particles: 4,
+    pairs: &[(0, 1), (1, 2), (2, 3), (0, 2)],
+    colours: &[Some(0), Some(1), Some(0), Some(2)],
+    dropped: &[1],
+    mended: &[Some(0), None, Some(0), Some(1)],
+    first_batch: &[0, 2],
+    last_batch: (1, &[3]),
+    unlinked: (1, 2),
+};
+
 #[test]
 fn colours_before_and_after_a_drop(rt: HostRuntime) {
-    let four = Case {
-        particles: 4,
-        pairs: &[(0, 1), (1, 2), (2, 3), (0, 2)],
-        colours: &[Some(0), Some(1), Some(0), Some(2)],
-        dropped: &[1],
-        mended: &[Some(0), None, Some(0), Some(1)],
-        first_batch: &[0, 2],
-        last_batch: (1, &[3]),
-        unlinked: (1, 2),
-    };
-    assert_eq!(rt; try_case(&rt, rt.alloc(), &four), Ok(()));
+    assert_eq!(rt; try_case(&rt, rt.alloc(), &FOUR_PAIRS), Ok(()));
 }
+
+// Two rows and three columns: the sides, the diagonals, and the links over two particles.
+static CLOTH: Case = Case {
+    particles: 6,
+    pairs: &[
+        (0, 1),
+        (0, 3),
+        (1, 2),
+        (1, 4),
+        (2, 5),
+        (3, 4),
+        (4, 5),
+        (0, 4),
+        (1, 3),
+        (1, 5),
+        (2, 4),
+        (0, 2),
+        (3, 5),
+    ],
+    colours: &[
+        Some(0),
+        Some(1),
+        Some(1),
+        Some(2),
+        Some(0),
+        Some(0),
+        Some(1),
+        Some(3),
+        Some(3),
+        Some(4),
+        Some(4),
+        Some(2),
+        Some(2),
+    ],
+    dropped: &[0, 5],
+    mended: &[
+        None,
+        Some(0),
+        Some(0),
+        Some(1),
+        Some(1),
+        None,
+        Some(0),
+        Some(2),
+        Some(2),
+        Some(3),
+        Some(3),
+        Some(4),
+        Some(4),
+    ],
+    first_batch: &[1, 2, 6],
+    last_batch: (4, &[11, 12]),
+    unlinked: (4, 3),
+};
 
 #[test]
 fn colours_of_a_cloth(rt: HostRuntime) {
-    // Two rows and three columns: the sides, the diagonals, and the links over two particles.
-    let cloth = Case {
-        particles: 6,
-        pairs: &[
-            (0, 1),
-            (0, 3),
-            (1, 2),
-            (1, 4),
-            (2, 5),
-            (3, 4),
-            (4, 5),
-            (0, 4),
-            (1, 3),
-            (1, 5),
-            (2, 4),
-            (0, 2),
-            (3, 5),
-        ],
-        colours: &[
-            Some(0),
-            Some(1),
-            Some(1),
-            Some(2),
-            Some(0),
-            Some(0),
-            Some(1),
-            Some(3),
-            Some(3),
-            Some(4),
-            Some(4),
-            Some(2),
-            Some(2),
-        ],
-        dropped: &[0, 5],
-        mended: &[
-            None,
-            Some(0),
-            Some(0),
-            Some(1),
-            Some(1),
-            None,
-            Some(0),
-            Some(2),
-            Some(2),
-            Some(3),
-            Some(3),
-            Some(4),
-            Some(4),
-        ],
-        first_batch: &[1, 2, 6],
-        last_batch: (4, &[11, 12]),
-        unlinked: (4, 3),
-    };
-    assert_eq!(rt; try_case(&rt, rt.alloc(), &cloth), Ok(()));
+    assert_eq!(rt; try_case(&rt, rt.alloc(), &CLOTH), Ok(()));
 }
 
 // The pairs i < j of seventy particles, from i on.

@@ -226,19 +226,21 @@ fn refuses_other_parts(rt: HostRuntime) {
     }
 }
 
+/// A particle with the steps of its keys each, and whether such tracks fit a cloth.
+static TRACKS: [(&[(u32, &[u32])], bool); 6] = [
+    (&[(6, &[3, 4, 1_000_000])], true),
+    (&[(0, &[3])], false),
+    (&[(6, &[3, 3])], false),
+    (&[(6, &[])], false),
+    (&[(6, &[1_000_001])], false),
+    (&[(6, &[3]), (6, &[0])], false),
+];
+
 #[test]
 fn looks_at_tracks(rt: HostRuntime) {
-    let rows: [(&[(u32, &[u32])], bool); 6] = [
-        (&[(6, &[3, 4, 1_000_000])], true),
-        (&[(0, &[3])], false),
-        (&[(6, &[3, 3])], false),
-        (&[(6, &[])], false),
-        (&[(6, &[1_000_001])], false),
-        (&[(6, &[3]), (6, &[0])], false),
-    ];
-    for (tracks, fits) in rows {
+    for (tracks, fits) in &TRACKS {
         let found = changed(rt.alloc(), &Change::Tracks(tracks));
-        assert_eq!(rt; found, Some(fits), "{tracks:?}");
+        assert_eq!(rt; found, Some(*fits), "{tracks:?}");
     }
 }
 

@@ -1,16 +1,15 @@
 //! What steps hand to a projector, colour by colour: how often their bonds may reach the store, at each width.
 ghost use Rattle.std.specs.Prelude.{◌≡◌, ◌<◌, ◌≤◌};
 
-use crate::drawing::{Drawing, EMPTY, free, link, particle, parts, vector};
+use crate::drawing::{Drawing, EMPTY, free, link, particle, scene, vector};
 use pbd_num::Vec3;
 use pbd_pair::{Bonds, LaneProjector, Projector};
 use pbd_step::Solver;
 use pbd_store::{Steps, Store};
-use pbd_world::{Kind, Left, Link, Particle, Scene, Totals};
+use pbd_world::{Kind, Left, Link, Particle, PartsFault, Scene, Totals};
 use std::alloc::{AllocError, Global};
 use std::marker::Brand;
 use std::sync::ledger::{Blank, Ledger};
-use std::test::Fail;
 
 /// A projector, and what the batches that it was handed may cost: four accesses for each piece of as many bonds as it
 /// projects side by side.
@@ -122,7 +121,7 @@ struct Row {
     accesses: [usize; 5],
 }
 
-const ROWS: [Row; 3] = [
+static ROWS: [Row; 3] = [
     // Two steps of three passes: in each ten links one by one, or 5, 3, 2 and 1 pieces of them.
     Row {
         name: "pairs",
@@ -170,6 +169,20 @@ fn accesses<const L: usize, G: Ledger>(
     }
 }
 
+fn accesses_at_each_width<G: Ledger>(
+    alloc: Global,
+    scene: &Scene,
+    n: u64,
+    steps: &mut Steps<G>,
+) -> Result<[usize; 5], AllocError> {
+    let one = accesses::<1, G>(alloc, scene, n, steps)?;
+    let two = accesses::<2, G>(alloc, scene, n, steps)?;
+    let four = accesses::<4, G>(alloc, scene, n, steps)?;
+    let eight = accesses::<8, G>(alloc, scene, n, steps)?;
+    let sixteen = accesses::<16, G>(alloc, scene, n, steps)?;
+    Ok([one, two, four, eight, sixteen])
+}
+
 fn counted<G: Ledger>(
     alloc: Global,
     blank: Blank,
@@ -181,29 +194,30 @@ fn counted<G: Ledger>(
     requires some { 0 < blank.parts }
 {
     let mut steps: Steps<G> = Steps::open(blank);
-    let one = accesses::<1, G>(alloc, scene, n, &mut steps)?;
-    let two = accesses::<2, G>(alloc, scene, n, &mut steps)?;
-    let four = accesses::<4, G>(alloc, scene, n, &mut steps)?;
-    let eight = accesses::<8, G>(alloc, scene, n, &mut steps)?;
-    let sixteen = accesses::<16, G>(alloc, scene, n, &mut steps)?;
-    Ok([one, two, four, eight, sixteen])
+    let told = accesses_at_each_width(alloc, scene, n, &mut steps);
+    drop(steps);
+    told
 }
 
 fn at_each_width(alloc: Global, scene: &Scene, n: u64) -> Result<[usize; 5], AllocError> {
     counted::<Brand>(alloc, Blank::new(1), scene, n)
 }
 
-#[test]
-fn bonds_reach_the_store_as_often_as_their_work_says(rt: HostRuntime) -> Result<(), Fail> {
-    for row in &ROWS {
-        let alloc = rt.alloc();
-        let scene = Scene::from_parts(alloc, parts(alloc, &row.scene)?)?;
-        assert_eq!(rt;
-            at_each_width(alloc, &scene, row.steps)?,
-            row.accesses,
-            "{}",
-            row.name
-        );
+/// What the bonds of a row may cost, at each width.
+fn cost(alloc: Global, row: &Row) -> Result<[usize; 5], PartsFault> {
+    match scene(alloc, &row.scene) {
+        Ok(scene) => {
+            let told = at_each_width(alloc, &scene, row.steps);
+            drop(scene);
+            told.or(Err(PartsFault::OutOfMemory))
+        }
+        Err(fault) => Err(fault),
     }
-    Ok(())
+}
+
+#[test]
+fn bonds_reach_the_store_as_often_as_their_work_says(rt: HostRuntime) {
+    for row in &ROWS {
+        assert_eq!(rt; cost(rt.alloc(), row), Ok(row.accesses), "{}", row.name);
+    }
 }

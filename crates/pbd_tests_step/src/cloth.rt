@@ -1,11 +1,14 @@
 //! A cloth whose links tear and are cut, and that goes back to what its slots keep.
 ghost use Rattle.std.specs.Prelude.{◌≤◌, length};
 
-use crate::drawing::{TEARS, parts};
+use crate::drawing::{Drawing, TEARS, scene};
 use pbd_cloth::{Cloth, Place};
 use pbd_num::Vec3;
-use pbd_world::{Command, Refusal, Reply, Scene};
+use pbd_world::{Command, PartsFault, Refusal, Reply, Scene};
+use std::alloc::{AllocError, Global};
 use std::test::Fail;
+
+static TEARING: Drawing = TEARS;
 
 const NOWHERE: Place = Place { x: 0, y: 0, z: 0 };
 
@@ -46,12 +49,33 @@ fn played(cloth: &mut Cloth) -> ([Reply; 4], [Seen; 4])
     ([step, cut, refused, pulled], [torn, all, again, first])
 }
 
+/// The same in a cloth of its own, with two slots.
+fn played_in(alloc: Global, scene: &Scene) -> Result<([Reply; 4], [Seen; 4]), AllocError> {
+    match Cloth::open(alloc, scene, 2) {
+        Ok(mut cloth) => {
+            let told = played(&mut cloth);
+            drop(cloth);
+            Ok(told)
+        }
+        Err(error) => Err(error),
+    }
+}
+
+/// The same on a drawing.
+fn played_on(alloc: Global, drawing: &Drawing) -> Result<([Reply; 4], [Seen; 4]), PartsFault> {
+    match scene(alloc, drawing) {
+        Ok(scene) => {
+            let told = played_in(alloc, &scene);
+            drop(scene);
+            told.or(Err(PartsFault::OutOfMemory))
+        }
+        Err(fault) => Err(fault),
+    }
+}
+
 #[test]
 fn a_cloth_goes_back_to_its_slots(rt: HostRuntime) -> Result<(), Fail> {
-    let scene = Scene::from_parts(rt.alloc(), parts(rt.alloc(), &TEARS)?)?;
-    let mut cloth = Cloth::open(rt.alloc(), &scene, 2)?;
-    let (replies, told) = played(&mut cloth);
-    drop(cloth);
+    let (replies, told) = played_on(rt.alloc(), &TEARING)?;
     assert_eq!(rt;
         replies,
         [
@@ -61,9 +85,15 @@ fn a_cloth_goes_back_to_its_slots(rt: HostRuntime) -> Result<(), Fail> {
             Reply::Done
         ]
     );
-    assert_eq!(rt; told[0], ([1, 0, 0, 7], [1, 2], 2, 2000, 1));
-    assert_eq!(rt; told[1], ([0, 0, 0, 7], [0, 1], 3, 2003, 2));
-    assert_eq!(rt; told[2], told[0]);
-    assert_eq!(rt; told[3], ([1, 1, 1, 7], [9, 9], 0, 2000, 0));
+    let torn = ([1, 0, 0, 7], [1, 2], 2, 2000, 1);
+    assert_eq!(rt;
+        told,
+        [
+            torn,
+            ([0, 0, 0, 7], [0, 1], 3, 2003, 2),
+            torn,
+            ([1, 1, 1, 7], [9, 9], 0, 2000, 0)
+        ]
+    );
     Ok(())
 }

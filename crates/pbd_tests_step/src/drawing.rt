@@ -1,6 +1,6 @@
 //! Scenes as they are drawn for the tests of steps and sessions.
 use pbd_num::{RANGE, Vec3};
-use pbd_world::{Key, Kind, Link, List, Particle, Parts, Plane, Sphere, Track};
+use pbd_world::{Key, Kind, Link, List, Particle, Parts, PartsFault, Plane, Scene, Sphere, Track};
 use std::alloc::{AllocError, Global};
 
 macro_rules! vector {
@@ -180,47 +180,86 @@ const CROWDED: Drawing = Drawing {
     ..EMPTY
 };
 
-fn listed<T: Copy + Drop>(alloc: Global, items: &[T]) -> Result<List<T>, AllocError> {
-    let mut list = List::new(alloc);
+fn push_all<T: Copy + Drop>(list: &mut List<T>, items: &[T]) -> Result<(), AllocError> {
     for item in items {
         list.push(*item)?;
     }
-    Ok(list)
+    Ok(())
 }
 
-fn tracks(alloc: Global, tracks: &[(u32, &[Key])]) -> Result<List<Track>, AllocError> {
+fn track(alloc: Global, particle: u32, keys: &[Key]) -> Result<Track, AllocError> {
     let mut list = List::new(alloc);
-    for (particle, keys) in tracks {
-        list.push(Track {
-            particle: *particle,
-            keys: listed(alloc, keys)?,
-        })?;
+    match push_all(&mut list, keys) {
+        Ok(()) => Ok(Track {
+            particle,
+            keys: list,
+        }),
+        Err(error) => {
+            drop(list);
+            Err(error)
+        }
     }
-    Ok(list)
 }
 
-/// A drawing as the parts of a scene.
-pub(crate) fn parts(alloc: Global, drawing: &Drawing) -> Result<Parts, AllocError> {
-    Ok(Parts {
-        particles: listed(alloc, drawing.particles)?,
-        links: listed(alloc, drawing.links)?,
-        planes: listed(alloc, drawing.planes)?,
-        spheres: listed(alloc, drawing.spheres)?,
-        tracks: tracks(alloc, drawing.tracks)?,
-        gravity: drawing.gravity,
-        passes: drawing.passes,
-        damping: drawing.damping,
-        thickness: drawing.thickness,
-        friction: drawing.friction,
-        limit: drawing.limit,
-    })
+fn push_tracks(
+    alloc: Global,
+    list: &mut List<Track>,
+    tracks: &[(u32, &[Key])],
+) -> Result<(), AllocError> {
+    for (particle, keys) in tracks {
+        list.push(track(alloc, *particle, keys)?)?;
+    }
+    Ok(())
+}
+
+/// Adds what a drawing consists of to parts.
+fn draw(alloc: Global, drawing: &Drawing, parts: &mut Parts) -> Result<(), AllocError> {
+    push_all(&mut parts.particles, drawing.particles)?;
+    push_all(&mut parts.links, drawing.links)?;
+    push_all(&mut parts.planes, drawing.planes)?;
+    push_all(&mut parts.spheres, drawing.spheres)?;
+    push_tracks(alloc, &mut parts.tracks, drawing.tracks)?;
+    parts.gravity = drawing.gravity;
+    parts.passes = drawing.passes;
+    parts.damping = drawing.damping;
+    parts.thickness = drawing.thickness;
+    parts.friction = drawing.friction;
+    Ok(())
+}
+
+/// The scene of parts, where all went into them.
+fn scene_of(
+    alloc: Global,
+    parts: Parts,
+    drawn: Result<(), AllocError>,
+) -> Result<Scene, PartsFault> {
+    match drawn {
+        Ok(()) => Scene::from_parts(alloc, parts),
+        Err(_) => {
+            drop(parts);
+            Err(PartsFault::OutOfMemory)
+        }
+    }
+}
+
+/// A drawing as a scene.
+pub(crate) fn scene(alloc: Global, drawing: &Drawing) -> Result<Scene, PartsFault> {
+    let mut parts = Parts::empty(alloc, drawing.limit);
+    let drawn = draw(alloc, drawing, &mut parts);
+    scene_of(alloc, parts, drawn)
+}
+
+fn draw_row(alloc: Global, count: u16, parts: &mut Parts) -> Result<(), AllocError> {
+    draw(alloc, &CROWDED, parts)?;
+    for x in 0..count {
+        parts.particles.push(free!(i64::from(x), 0))?;
+    }
+    Ok(())
 }
 
 /// So many particles in a row, each nearer to all others than the thickness.
-pub(crate) fn in_a_row(alloc: Global, count: u16) -> Result<Parts, AllocError> {
-    let mut row = parts(alloc, &CROWDED)?;
-    for x in 0..count {
-        row.particles.push(free!(i64::from(x), 0))?;
-    }
-    Ok(row)
+pub(crate) fn in_a_row(alloc: Global, count: u16) -> Result<Scene, PartsFault> {
+    let mut parts = Parts::empty(alloc, CROWDED.limit);
+    let drawn = draw_row(alloc, count, &mut parts);
+    scene_of(alloc, parts, drawn)
 }

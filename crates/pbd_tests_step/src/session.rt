@@ -4,7 +4,7 @@ ghost use Rattle.std.specs.Prelude.{◌≡◌, ◌<◌, ◌≤◌};
 
 use crate::drawing::{
     AT_THE_EDGE, Drawing, EMPTY, FLIES, LED, NEAR_THE_EDGE, ON_A_SPHERE, PULLS,
-    PULLS_AT_A_HELD_ONE, PUSHES, TEARS, in_a_row, particle, parts, vector,
+    PULLS_AT_A_HELD_ONE, PUSHES, TEARS, in_a_row, particle, scene, vector,
 };
 use pbd_io::{Failed, MemSink};
 use pbd_log::read_log;
@@ -12,11 +12,10 @@ use pbd_num::Vec3;
 use pbd_pair::{LaneProjector, Projector, Scalar};
 use pbd_session::{Field, ReplayEnd, RunEnd, Session, run_record, run_replay, run_script};
 use pbd_store::Steps;
-use pbd_world::{Particle, Scene};
+use pbd_world::{Particle, PartsFault, Scene};
 use std::alloc::{AllocError, Global};
 use std::marker::Brand;
 use std::sync::ledger::{Blank, Ledger};
-use std::test::Fail;
 
 const FALLS: Drawing = Drawing {
     particles: &[particle!(0, 1000, 0, 1, false)],
@@ -28,6 +27,12 @@ const RUBS: Drawing = Drawing {
     friction: 128,
     ..ON_A_SPHERE
 };
+
+static FALLING: Drawing = FALLS;
+
+static FLYING: Drawing = FLIES;
+
+static LEAVING: Drawing = AT_THE_EDGE;
 
 /// What a session is to do.
 #[derive(Clone, Copy)]
@@ -124,8 +129,23 @@ fn ends_in_lanes<const L: usize, G: Ledger>(
     }
 }
 
-fn is_so(case: &Case<'_>, ends: Option<ReplayEnd>, written: &[u8]) -> bool {
-    ends == case.ends && written.len() == case.len && case.text.starts_with(written)
+/// Whether a job ended and wrote as a case says.
+fn is_so(
+    case: &Case<'_>,
+    ends: Result<Option<ReplayEnd>, AllocError>,
+    written: &[u8],
+) -> Result<bool, AllocError> {
+    match ends {
+        Ok(ends) => Ok(
+            ends == case.ends && written.len() == case.len && case.text.starts_with(written),
+        ),
+        Err(error) => Err(error),
+    }
+}
+
+/// A sink with these failures.
+fn failing(alloc: Global, fails: &[(u64, usize)]) -> Result<MemSink, AllocError> {
+    MemSink::open(alloc, 1000, fails.to_vec(alloc)?)
 }
 
 /// Whether a case holds with bonds that are projected one by one.
@@ -138,9 +158,15 @@ fn holds_one_by_one<const L: usize, G: Ledger>(
     requires low { 0 < L }
     requires high { L ≤ 16 }
 {
-    let mut sink = MemSink::open(alloc, 1000, case.fails.to_vec(alloc)?)?;
-    let ends = ends_one_by_one::<L, G>(alloc, scene, case.job, &mut sink, steps)?;
-    Ok(is_so(case, ends, sink.written()))
+    match failing(alloc, case.fails) {
+        Ok(mut sink) => {
+            let ends = ends_one_by_one::<L, G>(alloc, scene, case.job, &mut sink, steps);
+            let so = is_so(case, ends, sink.written());
+            drop(sink);
+            so
+        }
+        Err(error) => Err(error),
+    }
 }
 
 /// Whether it does with bonds that are projected in lanes.
@@ -153,9 +179,15 @@ fn holds_in_lanes<const L: usize, G: Ledger>(
     requires low { 0 < L }
     requires high { L ≤ 16 }
 {
-    let mut sink = MemSink::open(alloc, 1000, case.fails.to_vec(alloc)?)?;
-    let ends = ends_in_lanes::<L, G>(alloc, scene, case.job, &mut sink, steps)?;
-    Ok(is_so(case, ends, sink.written()))
+    match failing(alloc, case.fails) {
+        Ok(mut sink) => {
+            let ends = ends_in_lanes::<L, G>(alloc, scene, case.job, &mut sink, steps);
+            let so = is_so(case, ends, sink.written());
+            drop(sink);
+            so
+        }
+        Err(error) => Err(error),
+    }
 }
 
 fn holds<const L: usize, G: Ledger>(
@@ -172,6 +204,20 @@ fn holds<const L: usize, G: Ledger>(
     Ok(one_by_one && in_lanes)
 }
 
+fn holds_at_each_width<G: Ledger>(
+    alloc: Global,
+    scene: &Scene,
+    case: &Case<'_>,
+    steps: &mut Steps<G>,
+) -> Result<[bool; 5], AllocError> {
+    let one = holds::<1, G>(alloc, scene, case, steps)?;
+    let two = holds::<2, G>(alloc, scene, case, steps)?;
+    let four = holds::<4, G>(alloc, scene, case, steps)?;
+    let eight = holds::<8, G>(alloc, scene, case, steps)?;
+    let sixteen = holds::<16, G>(alloc, scene, case, steps)?;
+    Ok([one, two, four, eight, sixteen])
+}
+
 fn counted<G: Ledger>(
     alloc: Global,
     blank: Blank,
@@ -183,12 +229,9 @@ fn counted<G: Ledger>(
     requires some { 0 < blank.parts }
 {
     let mut steps: Steps<G> = Steps::open(blank);
-    let one = holds::<1, G>(alloc, scene, case, &mut steps)?;
-    let two = holds::<2, G>(alloc, scene, case, &mut steps)?;
-    let four = holds::<4, G>(alloc, scene, case, &mut steps)?;
-    let eight = holds::<8, G>(alloc, scene, case, &mut steps)?;
-    let sixteen = holds::<16, G>(alloc, scene, case, &mut steps)?;
-    Ok([one, two, four, eight, sixteen])
+    let told = holds_at_each_width(alloc, scene, case, &mut steps);
+    drop(steps);
+    told
 }
 
 /// Whether a case holds with both projectors, at each width.
@@ -207,7 +250,9 @@ fn counted_once<G: Ledger>(
     requires some { 0 < blank.parts }
 {
     let mut steps: Steps<G> = Steps::open(blank);
-    holds_in_lanes::<4, G>(alloc, scene, case, &mut steps)
+    let told = holds_in_lanes::<4, G>(alloc, scene, case, &mut steps);
+    drop(steps);
+    told
 }
 
 /// Whether a case holds at one width.
@@ -240,9 +285,15 @@ fn writes(
     job: Job<'_>,
     ends: ReplayEnd,
     text: &[u8],
-) -> Result<[bool; 5], Fail> {
-    let scene = Scene::from_parts(alloc, parts(alloc, drawing)?)?;
-    Ok(writes_on(alloc, &scene, job, ends, text)?)
+) -> Result<[bool; 5], PartsFault> {
+    match scene(alloc, drawing) {
+        Ok(scene) => {
+            let told = writes_on(alloc, &scene, job, ends, text);
+            drop(scene);
+            told.or(Err(PartsFault::OutOfMemory))
+        }
+        Err(fault) => Err(fault),
+    }
 }
 
 /// Whether a job stops at a call that fails after some bytes, and leaves so many bytes of the text.
@@ -291,19 +342,18 @@ fn stops_in(
 }
 
 /// Whether a job writes this text by one call for each of the lengths, and stops at each call that fails.
-fn stops_at_each_call(
+fn stops_at_calls(
     alloc: Global,
-    drawing: &Drawing,
+    scene: &Scene,
     job: Job<'_>,
     text: &[u8],
     lengths: &[usize],
-) -> Result<bool, Fail> {
-    let scene = Scene::from_parts(alloc, parts(alloc, drawing)?)?;
+) -> Result<bool, AllocError> {
     let mut call: u64 = 0;
     let mut before: usize = 0;
     for len in lengths {
         call = call.saturating_add(1);
-        if !stops_in(alloc, &scene, job, text, call, (before, *len))? {
+        if !stops_in(alloc, scene, job, text, call, (before, *len))? {
             return Ok(false);
         }
         before = before.saturating_add(*len);
@@ -311,21 +361,46 @@ fn stops_at_each_call(
     Ok(before == text.len())
 }
 
+/// The same on a drawing.
+fn stops_at_each_call(
+    alloc: Global,
+    drawing: &Drawing,
+    job: Job<'_>,
+    text: &[u8],
+    lengths: &[usize],
+) -> Result<bool, PartsFault> {
+    match scene(alloc, drawing) {
+        Ok(scene) => {
+            let told = stops_at_calls(alloc, &scene, job, text, lengths);
+            drop(scene);
+            told.or(Err(PartsFault::OutOfMemory))
+        }
+        Err(fault) => Err(fault),
+    }
+}
+
 /// A byte of a log, its wrong value, how the replay ends and what it prints.
 type Wrong<'a> = (usize, u8, ReplayEnd, &'a [u8]);
 
-/// Whether the replay of a log with each wrong byte ends and prints so.
-fn differ(alloc: Global, drawing: &Drawing, log: &[u8], rows: &[Wrong<'_>]) -> Result<bool, Fail> {
-    for (offset, byte, ends, text) in rows {
-        let mut wrong = log.to_vec(alloc)?;
-        if *offset < wrong.len() {
-            wrong[*offset] = *byte;
+/// Whether the replay of a log with a wrong byte ends and prints so.
+fn differs(
+    alloc: Global,
+    drawing: &Drawing,
+    log: &[u8],
+    row: &Wrong<'_>,
+) -> Result<[bool; 5], PartsFault> {
+    let (offset, byte, ends, text) = *row;
+    match log.to_vec(alloc) {
+        Ok(mut wrong) => {
+            if offset < wrong.len() {
+                wrong[offset] = byte;
+            }
+            let told = writes(alloc, drawing, Job::Replay(&wrong), ends, text);
+            drop(wrong);
+            told
         }
-        if writes(alloc, drawing, Job::Replay(&wrong), *ends, text)? != [true; 5] {
-            return Ok(false);
-        }
+        Err(_) => Err(PartsFault::OutOfMemory),
     }
-    Ok(true)
 }
 
 macro_rules! mismatch {
@@ -389,263 +464,280 @@ const NONE_REFUSED: ReplayEnd = ReplayEnd::Done { refused: 0 };
 
 const ONE_REFUSED: ReplayEnd = ReplayEnd::Done { refused: 1 };
 
+static SCRIPTS: [(Drawing, &[u8], u64, &[u8]); 10] = [
+    (EMPTY, b"\n \nframe\n", 0, b"frame 0 0 0 0\n"),
+    (FALLS, SCRIPT, 0, TEXT),
+    (
+        AT_THE_EDGE,
+        b"step 1\nframe\n",
+        1,
+        b"refused 11 LeavesRange step 1 phase predict element 0\nframe 0 1 0 0\n536870912 0 0\n",
+    ),
+    (
+        NEAR_THE_EDGE,
+        b"step 10\nframe\n",
+        1,
+        b"refused 11 LeavesRange step 7 phase predict element 0\nframe 0 1 0 0\n536870906 0 0\n",
+    ),
+    (
+        PULLS,
+        b"step 1\nframe\n",
+        0,
+        b"ok\nframe 1 2 1 0\n3 0 0\n102 0 0\n",
+    ),
+    (
+        PULLS_AT_A_HELD_ONE,
+        b"step 1\nledger\n",
+        0,
+        b"ok\nledger momentum -5 0 0\nledger opening 0 0 0\nledger gravity 0 0 0\nledger damping 0 0 0\nledger link 0 0 0\nledger contact 0 0 0\nledger pin -5 0 0\nledger shape 0 0 0\n",
+    ),
+    (
+        TEARS,
+        b"step 1\nframe\ncut 1\n",
+        1,
+        b"ok\nframe 1 6 1 0\n0 0 0\n100 0 0\n0 1000 0\n101 1000 0\n0 2000 0\n102 2000 0\nrefused 4 LinkGone\n",
+    ),
+    (
+        PUSHES,
+        b"step 1\nframe\n",
+        0,
+        b"ok\nframe 1 3 0 2\n-1 0 0\n100 0 0\n100 0 0\n",
+    ),
+    (
+        RUBS,
+        b"step 1\nframe\nstep 1\nframe\n",
+        0,
+        b"ok\nframe 1 3 0 0\n6 8 0\n0 10 0\n10 0 0\nok\nframe 2 3 0 0\n7 10 0\n0 15 0\n10 0 0\n",
+    ),
+    (
+        LED,
+        b"step 1\nstep 1\nframe\nstep 1\nframe\nunpin 0\n",
+        1,
+        b"ok\nok\nframe 2 2 0 0\n7 0 0\n5 0 0\nok\nframe 3 2 0 0\n10 0 0\n5 0 0\nrefused 8 Tracked\n",
+    ),
+];
+
 #[test]
-fn scripts_print_their_replies(rt: HostRuntime) -> Result<(), Fail> {
-    let rows: [(Drawing, &[u8], u64, &[u8]); 10] = [
-        (EMPTY, b"\n \nframe\n", 0, b"frame 0 0 0 0\n"),
-        (FALLS, SCRIPT, 0, TEXT),
-        (
-            AT_THE_EDGE,
-            b"step 1\nframe\n",
-            1,
-            b"refused 11 LeavesRange step 1 phase predict element 0\nframe 0 1 0 0\n536870912 0 0\n",
-        ),
-        (
-            NEAR_THE_EDGE,
-            b"step 10\nframe\n",
-            1,
-            b"refused 11 LeavesRange step 7 phase predict element 0\nframe 0 1 0 0\n536870906 0 0\n",
-        ),
-        (
-            PULLS,
-            b"step 1\nframe\n",
-            0,
-            b"ok\nframe 1 2 1 0\n3 0 0\n102 0 0\n",
-        ),
-        (
-            PULLS_AT_A_HELD_ONE,
-            b"step 1\nledger\n",
-            0,
-            b"ok\nledger momentum -5 0 0\nledger opening 0 0 0\nledger gravity 0 0 0\nledger damping 0 0 0\nledger link 0 0 0\nledger contact 0 0 0\nledger pin -5 0 0\nledger shape 0 0 0\n",
-        ),
-        (
-            TEARS,
-            b"step 1\nframe\ncut 1\n",
-            1,
-            b"ok\nframe 1 6 1 0\n0 0 0\n100 0 0\n0 1000 0\n101 1000 0\n0 2000 0\n102 2000 0\nrefused 4 LinkGone\n",
-        ),
-        (
-            PUSHES,
-            b"step 1\nframe\n",
-            0,
-            b"ok\nframe 1 3 0 2\n-1 0 0\n100 0 0\n100 0 0\n",
-        ),
-        (
-            RUBS,
-            b"step 1\nframe\nstep 1\nframe\n",
-            0,
-            b"ok\nframe 1 3 0 0\n6 8 0\n0 10 0\n10 0 0\nok\nframe 2 3 0 0\n7 10 0\n0 15 0\n10 0 0\n",
-        ),
-        (
-            LED,
-            b"step 1\nstep 1\nframe\nstep 1\nframe\nunpin 0\n",
-            1,
-            b"ok\nok\nframe 2 2 0 0\n7 0 0\n5 0 0\nok\nframe 3 2 0 0\n10 0 0\n5 0 0\nrefused 8 Tracked\n",
-        ),
-    ];
-    for (drawing, script, refused, text) in rows {
-        let ends = ReplayEnd::Done { refused };
+fn scripts_print_their_replies(rt: HostRuntime) {
+    for (drawing, script, refused, text) in &SCRIPTS {
+        let ends = ReplayEnd::Done { refused: *refused };
         assert_eq!(rt;
-            writes(rt.alloc(), &drawing, Job::Script(script), ends, text)?,
-            ALL,
+            writes(rt.alloc(), drawing, Job::Script(script), ends, text),
+            Ok(ALL),
             "at {script:?}"
         );
     }
-    Ok(())
 }
 
 #[test]
-fn contacts_past_their_greatest_number_are_printed(rt: HostRuntime) -> Result<(), Fail> {
-    let alloc = rt.alloc();
-    let scene = Scene::from_parts(alloc, in_a_row(alloc, 725)?)?;
+fn contacts_past_their_greatest_number_are_printed(rt: HostRuntime) {
     let job = Job::Script(b"step 1\nfly\n");
     let text = b"refused 12 TooManyContacts step 1\nrefused 1 BadCommand\n";
     let ends = ReplayEnd::Done { refused: 2 };
-    assert_eq!(rt; writes_on(alloc, &scene, job, ends, text)?, ALL);
-    Ok(())
+    match in_a_row(rt.alloc(), 725) {
+        Ok(scene) => {
+            let told = writes_on(rt.alloc(), &scene, job, ends, text);
+            drop(scene);
+            assert_eq!(rt; told, Ok(ALL));
+        }
+        Err(fault) => assert!(rt; false, "{fault:?}"),
+    }
 }
 
 #[test]
-fn refused_commands_are_counted(rt: HostRuntime) -> Result<(), Fail> {
+fn refused_commands_are_counted(rt: HostRuntime) {
     let script =
         b"pin 0\n\npin 0\nmove 0 1 2 3\nunpin 0\nunpin 0\npin 9\ncut 0\ngravity 536870913 0 0\nstep 0\nfly\n \nframe\n";
     let text =
         b"ok\nrefused 7 Held\nok\nok\nrefused 6 NotHeld\nrefused 2 NoParticle\nrefused 3 NoLink\nrefused 5 OutOfRange\nrefused 9 BadCount\nrefused 1 BadCommand\nframe 0 1 0 0\n1 2 3\n";
     let ends = ReplayEnd::Done { refused: 7 };
     assert_eq!(rt;
-        writes(rt.alloc(), &FLIES, Job::Script(script), ends, text)?,
-        ALL
+        writes(rt.alloc(), &FLYING, Job::Script(script), ends, text),
+        Ok(ALL)
     );
-    Ok(())
 }
 
-#[test]
-fn each_line_is_one_call(rt: HostRuntime) -> Result<(), Fail> {
-    let alloc = rt.alloc();
-    assert!(rt; stops_at_each_call(alloc, &FALLS, Job::Script(SCRIPT), TEXT, &[3, 14, 8])?);
-    assert!(rt; stops_at_each_call(alloc, &FALLS, Job::Replay(&LONG), TEXT, &[3, 14, 8])?);
-    let ledger =
-        b"ledger momentum 0 0 0\nledger opening 0 0 0\nledger gravity 0 0 0\nledger damping 0 0 0\nledger link 0 0 0\nledger contact 0 0 0\nledger pin 0 0 0\nledger shape 0 0 0\nrefused 1 BadCommand\n";
-    assert!(rt;
-        stops_at_each_call(
-            alloc,
-            &FALLS,
-            Job::Script(b"ledger\nfly\n"),
-            ledger,
-            &[22, 21, 21, 21, 18, 21, 17, 19, 21]
-        )?
-    );
-    let mismatch = b"error 10 Mismatch record 1 field answer recorded 11 found 0\n";
-    assert!(rt; stops_at_each_call(alloc, &FALLS, Job::Replay(&LEAVES), mismatch, &[60])?);
-    Ok(())
-}
+const LEDGER: &[u8] =
+    b"ledger momentum 0 0 0\nledger opening 0 0 0\nledger gravity 0 0 0\nledger damping 0 0 0\nledger link 0 0 0\nledger contact 0 0 0\nledger pin 0 0 0\nledger shape 0 0 0\nrefused 1 BadCommand\n";
+
+const MISMATCH: &[u8] = b"error 10 Mismatch record 1 field answer recorded 11 found 0\n";
+
+/// A job, its text, and the length of each line.
+static LINES: [(Job<'static>, &[u8], &[usize]); 4] = [
+    (Job::Script(SCRIPT), TEXT, &[3, 14, 8]),
+    (Job::Replay(&LONG), TEXT, &[3, 14, 8]),
+    (
+        Job::Script(b"ledger\nfly\n"),
+        LEDGER,
+        &[22, 21, 21, 21, 18, 21, 17, 19, 21],
+    ),
+    (Job::Replay(&LEAVES), MISMATCH, &[60]),
+];
 
 #[test]
-fn each_part_of_a_log_is_one_call(rt: HostRuntime) -> Result<(), Fail> {
-    let alloc = rt.alloc();
-    let rows: [(Drawing, Job<'_>, u64, &[u8]); 3] = [
-        (FALLS, Job::Record(SCENE, SCRIPT), 0, &LONG),
-        (EMPTY, Job::Record(b"", b"frame\n"), 0, &SMALL),
-        (AT_THE_EDGE, Job::Record(b"", b"step 1\n"), 1, &LEAVES),
-    ];
-    for (drawing, job, refused, log) in rows {
+fn each_line_is_one_call(rt: HostRuntime) {
+    for (job, text, lengths) in &LINES {
         assert_eq!(rt;
-            writes(alloc, &drawing, job, ReplayEnd::Done { refused }, log)?,
-            ALL
-        );
-    }
-    assert!(rt;
-        stops_at_each_call(
-            alloc,
-            &FALLS,
-            Job::Record(SCENE, SCRIPT),
-            &LONG,
-            &[20, 53, 74, 2, 9]
-        )?
-    );
-    Ok(())
-}
-
-#[test]
-fn logs_replay_alike(rt: HostRuntime) -> Result<(), Fail> {
-    let rows: [(Drawing, &[u8], ReplayEnd, &[u8]); 6] = [
-        (FALLS, &LONG, NONE_REFUSED, TEXT),
-        (FALLS, &OLD, NONE_REFUSED, TEXT),
-        (EMPTY, &SMALL, NONE_REFUSED, b"frame 0 0 0 0\n"),
-        (EMPTY, &OLD_BAD_COUNT, ONE_REFUSED, b"refused 9 BadCount\n"),
-        (
-            AT_THE_EDGE,
-            &LEAVES,
-            ONE_REFUSED,
-            b"refused 11 LeavesRange step 1 phase predict element 0\n",
-        ),
-        (
-            FALLS,
-            &LEAVES,
-            mismatch!(1, Answer, 11, 0),
-            b"error 10 Mismatch record 1 field answer recorded 11 found 0\n",
-        ),
-    ];
-    for (drawing, log, ends, text) in rows {
-        assert_eq!(rt;
-            writes(rt.alloc(), &drawing, Job::Replay(log), ends, text)?,
-            ALL,
+            stops_at_each_call(rt.alloc(), &FALLING, *job, text, lengths),
+            Ok(true),
             "at {text:?}"
         );
     }
-    Ok(())
 }
 
-#[test]
-fn each_answer_can_differ(rt: HostRuntime) -> Result<(), Fail> {
-    let rows: [Wrong<'_>; 3] = [
-        (
-            37,
-            2,
-            mismatch!(1, Step, 2, 1),
-            b"error 10 Mismatch record 1 field step recorded 2 found 1\n",
-        ),
-        (
-            38,
-            3,
-            mismatch!(1, Phase, 3, 1),
-            b"error 10 Mismatch record 1 field phase recorded 3 found 1\n",
-        ),
-        (
-            42,
-            6,
-            mismatch!(1, Element, 6, 0),
-            b"error 10 Mismatch record 1 field element recorded 6 found 0\n",
-        ),
-    ];
-    assert!(rt; differ(rt.alloc(), &AT_THE_EDGE, &LEAVES, &rows)?);
-    Ok(())
-}
+static RECORDS: [(Drawing, Job<'static>, u64, &[u8]); 3] = [
+    (FALLS, Job::Record(SCENE, SCRIPT), 0, &LONG),
+    (EMPTY, Job::Record(b"", b"frame\n"), 0, &SMALL),
+    (AT_THE_EDGE, Job::Record(b"", b"step 1\n"), 1, &LEAVES),
+];
 
 #[test]
-fn each_sum_can_differ(rt: HostRuntime) -> Result<(), Fail> {
-    let rows: [Wrong<'_>; 10] = [
-        (
-            90,
-            4,
-            mismatch!(1, Steps, 4, 3),
-            b"error 10 Mismatch record 1 field steps recorded 4 found 3\n",
-        ),
-        (
-            94,
-            1,
-            mismatch!(1, Live, 1, 0),
-            b"error 10 Mismatch record 1 field live recorded 1 found 0\n",
-        ),
-        (
-            98,
-            2,
-            mismatch!(1, Contacts, 2, 0),
-            b"error 10 Mismatch record 1 field contacts recorded 2 found 0\n",
-        ),
-        (
-            106,
-            5,
-            mismatch!(1, X, 5, 0),
-            b"error 10 Mismatch record 1 field x recorded 5 found 0\n",
-        ),
-        (
-            114,
-            173,
-            mismatch!(1, Y, 941, 940),
-            b"error 10 Mismatch record 1 field y recorded 941 found 940\n",
-        ),
-        (
-            122,
-            7,
-            mismatch!(1, Z, 7, 0),
-            b"error 10 Mismatch record 1 field z recorded 7 found 0\n",
-        ),
-        (
-            130,
-            8,
-            mismatch!(1, BeforeX, 8, 0),
-            b"error 10 Mismatch record 1 field before-x recorded 8 found 0\n",
-        ),
-        (
-            138,
-            203,
-            mismatch!(1, BeforeY, 971, 970),
-            b"error 10 Mismatch record 1 field before-y recorded 971 found 970\n",
-        ),
-        (
-            146,
-            9,
-            mismatch!(1, BeforeZ, 9, 0),
-            b"error 10 Mismatch record 1 field before-z recorded 9 found 0\n",
-        ),
-        (
-            148,
-            2,
-            mismatch!(2, Answer, 2, 0),
-            b"ok\nerror 10 Mismatch record 2 field answer recorded 2 found 0\n",
-        ),
-    ];
-    assert!(rt; differ(rt.alloc(), &FALLS, &LONG, &rows)?);
-    Ok(())
+fn each_part_of_a_log_is_one_call(rt: HostRuntime) {
+    for (drawing, job, refused, log) in &RECORDS {
+        let ends = ReplayEnd::Done { refused: *refused };
+        assert_eq!(rt; writes(rt.alloc(), drawing, *job, ends, log), Ok(ALL));
+    }
+    let job = Job::Record(SCENE, SCRIPT);
+    assert_eq!(rt;
+        stops_at_each_call(rt.alloc(), &FALLING, job, &LONG, &[20, 53, 74, 2, 9]),
+        Ok(true)
+    );
+}
+
+static REPLAYS: [(Drawing, &[u8], ReplayEnd, &[u8]); 6] = [
+    (FALLS, &LONG, NONE_REFUSED, TEXT),
+    (FALLS, &OLD, NONE_REFUSED, TEXT),
+    (EMPTY, &SMALL, NONE_REFUSED, b"frame 0 0 0 0\n"),
+    (EMPTY, &OLD_BAD_COUNT, ONE_REFUSED, b"refused 9 BadCount\n"),
+    (
+        AT_THE_EDGE,
+        &LEAVES,
+        ONE_REFUSED,
+        b"refused 11 LeavesRange step 1 phase predict element 0\n",
+    ),
+    (
+        FALLS,
+        &LEAVES,
+        mismatch!(1, Answer, 11, 0),
+        b"error 10 Mismatch record 1 field answer recorded 11 found 0\n",
+    ),
+];
+
+#[test]
+fn logs_replay_alike(rt: HostRuntime) {
+    for (drawing, log, ends, text) in &REPLAYS {
+        assert_eq!(rt;
+            writes(rt.alloc(), drawing, Job::Replay(log), *ends, text),
+            Ok(ALL),
+            "at {text:?}"
+        );
+    }
+}
+
+static WRONG_ANSWERS: [Wrong<'static>; 3] = [
+    (
+        37,
+        2,
+        mismatch!(1, Step, 2, 1),
+        b"error 10 Mismatch record 1 field step recorded 2 found 1\n",
+    ),
+    (
+        38,
+        3,
+        mismatch!(1, Phase, 3, 1),
+        b"error 10 Mismatch record 1 field phase recorded 3 found 1\n",
+    ),
+    (
+        42,
+        6,
+        mismatch!(1, Element, 6, 0),
+        b"error 10 Mismatch record 1 field element recorded 6 found 0\n",
+    ),
+];
+
+#[test]
+fn each_answer_can_differ(rt: HostRuntime) {
+    for row in &WRONG_ANSWERS {
+        assert_eq!(rt;
+            differs(rt.alloc(), &LEAVING, &LEAVES, row),
+            Ok(ALL),
+            "at {}",
+            row.0
+        );
+    }
+}
+
+static WRONG_SUMS: [Wrong<'static>; 10] = [
+    (
+        90,
+        4,
+        mismatch!(1, Steps, 4, 3),
+        b"error 10 Mismatch record 1 field steps recorded 4 found 3\n",
+    ),
+    (
+        94,
+        1,
+        mismatch!(1, Live, 1, 0),
+        b"error 10 Mismatch record 1 field live recorded 1 found 0\n",
+    ),
+    (
+        98,
+        2,
+        mismatch!(1, Contacts, 2, 0),
+        b"error 10 Mismatch record 1 field contacts recorded 2 found 0\n",
+    ),
+    (
+        106,
+        5,
+        mismatch!(1, X, 5, 0),
+        b"error 10 Mismatch record 1 field x recorded 5 found 0\n",
+    ),
+    (
+        114,
+        173,
+        mismatch!(1, Y, 941, 940),
+        b"error 10 Mismatch record 1 field y recorded 941 found 940\n",
+    ),
+    (
+        122,
+        7,
+        mismatch!(1, Z, 7, 0),
+        b"error 10 Mismatch record 1 field z recorded 7 found 0\n",
+    ),
+    (
+        130,
+        8,
+        mismatch!(1, BeforeX, 8, 0),
+        b"error 10 Mismatch record 1 field before-x recorded 8 found 0\n",
+    ),
+    (
+        138,
+        203,
+        mismatch!(1, BeforeY, 971, 970),
+        b"error 10 Mismatch record 1 field before-y recorded 971 found 970\n",
+    ),
+    (
+        146,
+        9,
+        mismatch!(1, BeforeZ, 9, 0),
+        b"error 10 Mismatch record 1 field before-z recorded 9 found 0\n",
+    ),
+    (
+        148,
+        2,
+        mismatch!(2, Answer, 2, 0),
+        b"ok\nerror 10 Mismatch record 2 field answer recorded 2 found 0\n",
+    ),
+];
+
+#[test]
+fn each_sum_can_differ(rt: HostRuntime) {
+    for row in &WRONG_SUMS {
+        assert_eq!(rt;
+            differs(rt.alloc(), &FALLING, &LONG, row),
+            Ok(ALL),
+            "at {}",
+            row.0
+        );
+    }
 }

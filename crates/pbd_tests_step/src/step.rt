@@ -1,17 +1,17 @@
 //! Worked steps and commands at each width: both projectors answer as the rows say, and leave the same worlds.
 ghost use Rattle.std.specs.Prelude.{◌≡◌, ◌<◌, ◌≤◌};
 
-use crate::drawing::{in_a_row, parts};
+use crate::drawing::{in_a_row, scene};
 use crate::step_rows::{COMMANDS, CONTACTS_AND_SHAPES, LEAVING, LINKS, Row};
 use pbd_num::Vec3;
 use pbd_pair::{LaneProjector, Projector, Scalar};
 use pbd_step::Solver;
 use pbd_store::Steps;
-use pbd_world::{Command, Particle, Refusal, Scene, Totals};
+use pbd_world::{Command, Particle, PartsFault, Refusal, Scene, Totals};
 use std::alloc::{AllocError, Global};
 use std::marker::Brand;
+use std::process::Abort;
 use std::sync::ledger::{Blank, Ledger};
-use std::test::Fail;
 
 fn apply<const L: usize, P: Projector<L> + Drop, G: Ledger>(
     solver: &mut Solver<L, P>,
@@ -219,6 +219,20 @@ fn agree<const L: usize, G: Ledger>(
     alike
 }
 
+fn agree_at_each_width<G: Ledger>(
+    alloc: Global,
+    scene: &Scene,
+    script: &Script<'_>,
+    steps: &mut Steps<G>,
+) -> Result<[bool; 5], AllocError> {
+    let one = agree::<1, G>(alloc, scene, script, steps)?;
+    let two = agree::<2, G>(alloc, scene, script, steps)?;
+    let four = agree::<4, G>(alloc, scene, script, steps)?;
+    let eight = agree::<8, G>(alloc, scene, script, steps)?;
+    let sixteen = agree::<16, G>(alloc, scene, script, steps)?;
+    Ok([one, two, four, eight, sixteen])
+}
+
 fn counted<G: Ledger>(
     alloc: Global,
     blank: Blank,
@@ -230,12 +244,9 @@ fn counted<G: Ledger>(
     requires some { 0 < blank.parts }
 {
     let mut steps: Steps<G> = Steps::open(blank);
-    let one = agree::<1, G>(alloc, scene, script, &mut steps)?;
-    let two = agree::<2, G>(alloc, scene, script, &mut steps)?;
-    let four = agree::<4, G>(alloc, scene, script, &mut steps)?;
-    let eight = agree::<8, G>(alloc, scene, script, &mut steps)?;
-    let sixteen = agree::<16, G>(alloc, scene, script, &mut steps)?;
-    Ok([one, two, four, eight, sixteen])
+    let told = agree_at_each_width(alloc, scene, script, &mut steps);
+    drop(steps);
+    told
 }
 
 fn at_each_width(
@@ -246,62 +257,68 @@ fn at_each_width(
     counted::<Brand>(alloc, Blank::new(1), scene, script)
 }
 
-/// Whether a row holds at each width.
-fn holds(alloc: Global, row: &Row) -> Result<bool, Fail> {
-    let scene = Scene::from_parts(alloc, parts(alloc, &row.scene)?)?;
+/// Whether a row holds, at each width.
+fn holds(alloc: Global, row: &Row) -> Result<[bool; 5], PartsFault> {
     let script = Script {
         commands: row.script,
         particles: row.scene.particles.len(),
         places: row.places,
     };
-    Ok(at_each_width(alloc, &scene, &script)? == [true; 5])
-}
-
-#[test]
-fn links_pull_and_tear(rt: HostRuntime) -> Result<(), Fail> {
-    for row in &LINKS {
-        assert!(rt; holds(rt.alloc(), row)?, "{}", row.name);
+    match scene(alloc, &row.scene) {
+        Ok(scene) => {
+            let told = at_each_width(alloc, &scene, &script);
+            drop(scene);
+            told.or(Err(PartsFault::OutOfMemory))
+        }
+        Err(fault) => Err(fault),
     }
-    Ok(())
 }
 
-#[test]
-fn contacts_and_shapes_push(rt: HostRuntime) -> Result<(), Fail> {
-    for row in &CONTACTS_AND_SHAPES {
-        assert!(rt; holds(rt.alloc(), row)?, "{}", row.name);
+/// Whether each row holds.
+fn all_hold(rt: &impl Abort, alloc: Global, rows: &[Row]) {
+    for row in rows {
+        assert_eq!(rt; holds(alloc, row), Ok([true; 5]), "{}", row.name);
     }
-    Ok(())
 }
 
 #[test]
-fn what_leaves_the_range_is_refused(rt: HostRuntime) -> Result<(), Fail> {
-    for row in &LEAVING {
-        assert!(rt; holds(rt.alloc(), row)?, "{}", row.name);
+fn links_pull_and_tear(rt: HostRuntime) {
+    all_hold(&rt, rt.alloc(), &LINKS);
+}
+
+#[test]
+fn contacts_and_shapes_push(rt: HostRuntime) {
+    all_hold(&rt, rt.alloc(), &CONTACTS_AND_SHAPES);
+}
+
+#[test]
+fn what_leaves_the_range_is_refused(rt: HostRuntime) {
+    all_hold(&rt, rt.alloc(), &LEAVING);
+}
+
+#[test]
+fn commands_change_or_keep_the_world(rt: HostRuntime) {
+    all_hold(&rt, rt.alloc(), &COMMANDS);
+}
+
+static TOO_MANY_TOUCH: Script<'static> = Script {
+    commands: &[
+        (Command::Step(1), Err(Refusal::TooManyContacts { step: 1 })),
+        (Command::Pin(0), Ok(())),
+        (Command::Step(7), Err(Refusal::TooManyContacts { step: 1 })),
+    ],
+    particles: 725,
+    places: &[Vec3 { x: 0, y: 0, z: 0 }, Vec3 { x: 1, y: 0, z: 0 }],
+};
+
+#[test]
+fn contacts_past_their_greatest_number_are_refused(rt: HostRuntime) {
+    match in_a_row(rt.alloc(), 725) {
+        Ok(scene) => {
+            let told = at_each_width(rt.alloc(), &scene, &TOO_MANY_TOUCH);
+            drop(scene);
+            assert_eq!(rt; told, Ok([true; 5]));
+        }
+        Err(fault) => assert!(rt; false, "{fault:?}"),
     }
-    Ok(())
-}
-
-#[test]
-fn commands_change_or_keep_the_world(rt: HostRuntime) -> Result<(), Fail> {
-    for row in &COMMANDS {
-        assert!(rt; holds(rt.alloc(), row)?, "{}", row.name);
-    }
-    Ok(())
-}
-
-#[test]
-fn contacts_past_their_greatest_number_are_refused(rt: HostRuntime) -> Result<(), Fail> {
-    let alloc = rt.alloc();
-    let scene = Scene::from_parts(alloc, in_a_row(alloc, 725)?)?;
-    let script = Script {
-        commands: &[
-            (Command::Step(1), Err(Refusal::TooManyContacts { step: 1 })),
-            (Command::Pin(0), Ok(())),
-            (Command::Step(7), Err(Refusal::TooManyContacts { step: 1 })),
-        ],
-        particles: 725,
-        places: &[Vec3 { x: 0, y: 0, z: 0 }, Vec3 { x: 1, y: 0, z: 0 }],
-    };
-    assert_eq!(rt; at_each_width(alloc, &scene, &script)?, [true; 5]);
-    Ok(())
 }

@@ -118,7 +118,7 @@ pub(crate) struct Row {
     pub(crate) places: &'static [Vec3],
 }
 
-pub(crate) const LINKS: [Row; 5] = [
+pub(crate) static LINKS: [Row; 5] = [
     Row {
         name: "a link pulls",
         scene: PULLS,
@@ -171,7 +171,7 @@ pub(crate) const LINKS: [Row; 5] = [
     },
 ];
 
-pub(crate) const CONTACTS_AND_SHAPES: [Row; 6] = [
+pub(crate) static CONTACTS_AND_SHAPES: [Row; 6] = [
     Row {
         name: "contacts push",
         scene: PUSHES,
@@ -216,7 +216,7 @@ pub(crate) const CONTACTS_AND_SHAPES: [Row; 6] = [
     },
 ];
 
-pub(crate) const LEAVING: [Row; 9] = [
+pub(crate) static LEAVING: [Row; 9] = [
     Row {
         name: "a prediction leaves",
         scene: AT_THE_EDGE,
@@ -295,7 +295,7 @@ pub(crate) const LEAVING: [Row; 9] = [
     },
 ];
 
-pub(crate) const COMMANDS: [Row; 4] = [
+pub(crate) static COMMANDS: [Row; 4] = [
     Row {
         name: "commands are refused",
         scene: FLIES,

@@ -58,22 +58,28 @@ fn failing_sink(alloc: Global) -> Result<MemSink, AllocError> {
     MemSink::open(alloc, 8, fails)
 }
 
+/// What is written, the answer, and what the sink holds then.
+const WRITES: [(&[u8], Result<(), Failed>, &[u8]); 8] = [
+    (b"abc", Ok(()), b"abc"),
+    (b"de", Err(Failed), b"abcd"),
+    (b"efghi", Err(Failed), b"abcd"),
+    (b"xy", Err(Failed), b"abcdxy"),
+    (b"", Ok(()), b"abcdxy"),
+    (b"zw", Ok(()), b"abcdxyzw"),
+    (b"q", Err(Failed), b"abcdxyzw"),
+    (b"", Ok(()), b"abcdxyzw"),
+];
+
 #[test]
 fn a_sink_in_memory_fails_where_it_is_told(rt: HostRuntime) -> Result<(), Fail> {
     let mut sink = failing_sink(rt.alloc())?;
-    let calls: [(&[u8], Result<(), Failed>, &[u8]); 8] = [
-        (b"abc", Ok(()), b"abc"),
-        (b"de", Err(Failed), b"abcd"),
-        (b"efghi", Err(Failed), b"abcd"),
-        (b"xy", Err(Failed), b"abcdxy"),
-        (b"", Ok(()), b"abcdxy"),
-        (b"zw", Ok(()), b"abcdxyzw"),
-        (b"q", Err(Failed), b"abcdxyzw"),
-        (b"", Ok(()), b"abcdxyzw"),
-    ];
-    for (piece, answer, holds) in calls {
-        assert_eq!(rt; put(&mut sink, piece), answer, "at {piece:?}");
-        assert_eq!(rt; sink.written(), holds, "after {piece:?}");
+    for (piece, answer, holds) in &WRITES {
+        let answered = put(&mut sink, piece);
+        assert_eq!(rt;
+            (answered, sink.written()),
+            (*answer, *holds),
+            "at {piece:?}"
+        );
     }
     drop(sink);
     Ok(())
@@ -91,26 +97,28 @@ fn failing_source(alloc: Global) -> Result<MemSource, AllocError> {
     }
 }
 
+/// How much is read at most, the answer, and what the buffer holds then.
+const READS: [(usize, Result<usize, Failed>, &[u8]); 7] = [
+    (4, Ok(3), b"abc."),
+    (4, Err(Failed), b"...."),
+    (2, Ok(2), b"de.."),
+    (0, Ok(0), b"...."),
+    (4, Err(Failed), b"...."),
+    (4, Ok(2), b"fg.."),
+    (4, Ok(0), b"...."),
+];
+
 #[test]
 fn a_source_in_memory_fails_where_it_is_told(rt: HostRuntime) -> Result<(), Fail> {
     let mut source = failing_source(rt.alloc())?;
-    let calls: [(usize, Result<usize, Failed>, &[u8]); 7] = [
-        (4, Ok(3), b"abc."),
-        (4, Err(Failed), b"...."),
-        (2, Ok(2), b"de.."),
-        (0, Ok(0), b"...."),
-        (4, Err(Failed), b"...."),
-        (4, Ok(2), b"fg.."),
-        (4, Ok(0), b"...."),
-    ];
-    for (room, answer, given) in calls {
+    for (room, answer, given) in &READS {
         let mut into = [b'.'; 4];
+        let answered = get(&mut source, &mut into[..(*room).min(4)]);
         assert_eq!(rt;
-            get(&mut source, &mut into[..room.min(4)]),
-            answer,
+            (answered, into.as_slice()),
+            (*answer, *given),
             "into {room}"
         );
-        assert_eq!(rt; into.as_slice(), given, "into {room}");
     }
     drop(source);
     Ok(())
@@ -120,14 +128,17 @@ fn a_source_in_memory_fails_where_it_is_told(rt: HostRuntime) -> Result<(), Fail
 fn the_sure_ones_never_fail(rt: HostRuntime) {
     let mut source = SureSource::new(b"abc");
     let mut into = [b'.'; 2];
-    assert_eq!(rt; get(&mut source, &mut into), Ok(2));
-    assert_eq!(rt; get(&mut source, &mut into), Ok(1));
-    assert_eq!(rt; into.as_slice(), b"cb".as_slice());
-    assert_eq!(rt; get(&mut source, &mut into), Ok(0));
+    let first = get(&mut source, &mut into);
+    let second = get(&mut source, &mut into);
+    let given = into;
+    let third = get(&mut source, &mut into);
+    assert_eq!(rt;
+        ([first, second, third], given),
+        ([Ok(2), Ok(1), Ok(0)], *b"cb")
+    );
     let mut sink = SureSink::new();
-    assert_eq!(rt; put(&mut sink, b"abc"), Ok(()));
-    assert_eq!(rt; put(&mut sink, b"de"), Ok(()));
-    assert_eq!(rt; sink.taken(), 5);
+    let written = [put(&mut sink, b"abc"), put(&mut sink, b"de")];
+    assert_eq!(rt; (written, sink.taken()), ([Ok(()), Ok(())], 5));
 }
 
 #[test]
@@ -145,8 +156,8 @@ fn a_reader_of_std_goes_on_after_a_fault(rt: HostRuntime) {
     ];
     for (answer, given) in calls {
         let mut into = [b'.'; 3];
-        assert_eq!(rt; get(&mut source, &mut into), answer);
-        assert_eq!(rt; into.as_slice(), given);
+        let answered = get(&mut source, &mut into);
+        assert_eq!(rt; (answered, into.as_slice()), (answer, given));
     }
 }
 

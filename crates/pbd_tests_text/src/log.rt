@@ -148,13 +148,12 @@ fn writes_the_examples(rt: HostRuntime) -> Result<(), Fail> {
 fn compare_log(rt: &impl Abort, bytes: &[u8], head: (u8, i64), scene: &[u8], entries: &[Entry]) {
     match read_log(bytes) {
         Ok(mut view) => {
-            assert_eq!(rt; (view.version(), view.limit()), head);
-            assert_eq!(rt; view.scene(), scene);
+            let found = ((view.version(), view.limit()), view.scene());
+            assert_eq!(rt; found, (head, scene));
             for entry in entries {
                 assert_eq!(rt; view.next(), Some(*entry));
             }
-            assert_eq!(rt; view.next(), None);
-            assert_eq!(rt; view.next(), None);
+            assert_eq!(rt; [view.next(), view.next()], [None, None]);
         }
         Err(fault) => assert!(rt; false, "refused at {}", fault.offset),
     }
@@ -226,49 +225,62 @@ fn offset_with<const N: usize>(bytes: &[u8; N], at: usize, byte: u8) -> Option<u
     offset_of(&changed)
 }
 
+/// A byte of a log, its wrong value, and the offset at which the log is refused then.
+type Wrong = (usize, u8, Option<u64>);
+
+/// Compares what becomes of a log with each wrong byte.
+fn compare_wrong<const N: usize>(rt: &impl Abort, bytes: &[u8; N], rows: &[Wrong]) {
+    for (at, byte, offset) in rows {
+        assert_eq!(rt; offset_with(bytes, *at, *byte), *offset, "{byte} at {at}");
+    }
+}
+
+const SMALL_CHANGED: [Wrong; 17] = [
+    (0, 81, Some(0)),
+    (6, 103, Some(0)),
+    (7, 0, Some(0)),
+    (7, 3, Some(0)),
+    (8, 1, Some(8)),
+    (12, 16, None),
+    (12, 48, Some(8)),
+    (15, 1, Some(8)),
+    (16, 255, Some(16)),
+    (19, 12, Some(16)),
+    (20, 0, Some(29)),
+    (20, 10, Some(20)),
+    (21, 2, None),
+    (21, 13, Some(20)),
+    (22, 10, Some(22)),
+    (23, 1, Some(22)),
+    (30, 2, Some(22)),
+];
+
 #[test]
 fn looks_at_each_field(rt: HostRuntime) {
-    for (at, byte, offset) in [
-        (0, 81, Some(0)),
-        (6, 103, Some(0)),
-        (7, 0, Some(0)),
-        (7, 3, Some(0)),
-        (8, 1, Some(8)),
-        (12, 16, None),
-        (12, 48, Some(8)),
-        (15, 1, Some(8)),
-        (16, 255, Some(16)),
-        (19, 12, Some(16)),
-        (20, 0, Some(29)),
-        (20, 10, Some(20)),
-        (21, 2, None),
-        (21, 13, Some(20)),
-        (22, 10, Some(22)),
-        (23, 1, Some(22)),
-        (30, 2, Some(22)),
-    ] {
-        assert_eq!(rt; offset_with(&SMALL, at, byte), offset, "{byte} at {at}");
-    }
-    for (at, byte, offset) in [
-        (11, 12, Some(8)),
-        (12, 10, Some(12)),
-        (13, 13, Some(12)),
-        (22, 2, Some(14)),
-    ] {
-        assert_eq!(rt; offset_with(&OLD_SMALL, at, byte), offset, "{byte} at {at}");
-    }
-    for (phase, offset) in [(0, Some(12)), (1, None), (4, None), (5, Some(12))] {
-        assert_eq!(rt;
-            offset_with(&OLD_LEAVES, 30, phase),
-            offset,
-            "phase {phase}"
-        );
-    }
-    assert_eq!(rt; offset_with(&OLD_LEAVES, 21, 0), Some(12));
-    assert_eq!(rt;
-        offset_of(&[80, 66, 68, 83, 76, 79, 71, 1, 255, 255, 255, 255]),
-        Some(8)
-    );
+    compare_wrong(&rt, &SMALL, &SMALL_CHANGED);
+}
+
+const OLD_SMALL_CHANGED: [Wrong; 4] = [
+    (11, 12, Some(8)),
+    (12, 10, Some(12)),
+    (13, 13, Some(12)),
+    (22, 2, Some(14)),
+];
+
+const OLD_LEAVES_CHANGED: [Wrong; 5] = [
+    (21, 0, Some(12)),
+    (30, 0, Some(12)),
+    (30, 1, None),
+    (30, 4, None),
+    (30, 5, Some(12)),
+];
+
+#[test]
+fn looks_at_each_field_of_version_1(rt: HostRuntime) {
+    compare_wrong(&rt, &OLD_SMALL, &OLD_SMALL_CHANGED);
+    compare_wrong(&rt, &OLD_LEAVES, &OLD_LEAVES_CHANGED);
+    let long_scene = [80, 66, 68, 83, 76, 79, 71, 1, 255, 255, 255, 255];
+    assert_eq!(rt; offset_of(&long_scene), Some(8));
 }
 
 #[test]

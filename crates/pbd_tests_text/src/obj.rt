@@ -30,92 +30,102 @@ fn fault_of(rt: &impl Abort, alloc: Global, text: &[u8]) -> Option<ObjFault> {
     }
 }
 
+const BAD_VERTICES: [(&[u8], ObjFault); 19] = [
+    (b"v 1 2", ObjFault::BadNumber { line: 1 }),
+    (b"v", ObjFault::BadNumber { line: 1 }),
+    (b"#\n\n v 1 2 x\r\n", ObjFault::BadNumber { line: 3 }),
+    (b"v 1 2 .", ObjFault::BadNumber { line: 1 }),
+    (b"v 1 2 1..", ObjFault::BadNumber { line: 1 }),
+    (b"v 1 2 --3", ObjFault::BadNumber { line: 1 }),
+    (b"v 1 2 3e", ObjFault::BadNumber { line: 1 }),
+    (b"v 1 2 3e+", ObjFault::BadNumber { line: 1 }),
+    (b"v 1 2 3e123", ObjFault::BadNumber { line: 1 }),
+    (b"v 1 2 3e1.5", ObjFault::BadNumber { line: 1 }),
+    (b"v 1 2 e5", ObjFault::BadNumber { line: 1 }),
+    (b"v 1 2 0x3", ObjFault::BadNumber { line: 1 }),
+    (b"v 1 2 nan", ObjFault::BadNumber { line: 1 }),
+    (
+        b"v 1 2 0000000000000000000000003",
+        ObjFault::BadNumber { line: 1 },
+    ),
+    (b"v 9999 2 x", ObjFault::BadNumber { line: 1 }),
+    (b"v 8193 0 0", ObjFault::OutOfRange { line: 1 }),
+    (b"v 0 -8192.0001 0", ObjFault::OutOfRange { line: 1 }),
+    (b"v 0 0 1e99", ObjFault::OutOfRange { line: 1 }),
+    (
+        b"v 0 0 999999999999999999999999e99",
+        ObjFault::OutOfRange { line: 1 },
+    ),
+];
+
 #[test]
 fn texts_with_a_bad_vertex(rt: HostRuntime) {
-    let texts: [(&[u8], ObjFault); 19] = [
-        (b"v 1 2", ObjFault::BadNumber { line: 1 }),
-        (b"v", ObjFault::BadNumber { line: 1 }),
-        (b"#\n\n v 1 2 x\r\n", ObjFault::BadNumber { line: 3 }),
-        (b"v 1 2 .", ObjFault::BadNumber { line: 1 }),
-        (b"v 1 2 1..", ObjFault::BadNumber { line: 1 }),
-        (b"v 1 2 --3", ObjFault::BadNumber { line: 1 }),
-        (b"v 1 2 3e", ObjFault::BadNumber { line: 1 }),
-        (b"v 1 2 3e+", ObjFault::BadNumber { line: 1 }),
-        (b"v 1 2 3e123", ObjFault::BadNumber { line: 1 }),
-        (b"v 1 2 3e1.5", ObjFault::BadNumber { line: 1 }),
-        (b"v 1 2 e5", ObjFault::BadNumber { line: 1 }),
-        (b"v 1 2 0x3", ObjFault::BadNumber { line: 1 }),
-        (b"v 1 2 nan", ObjFault::BadNumber { line: 1 }),
-        (
-            b"v 1 2 0000000000000000000000003",
-            ObjFault::BadNumber { line: 1 },
-        ),
-        (b"v 9999 2 x", ObjFault::BadNumber { line: 1 }),
-        (b"v 8193 0 0", ObjFault::OutOfRange { line: 1 }),
-        (b"v 0 -8192.0001 0", ObjFault::OutOfRange { line: 1 }),
-        (b"v 0 0 1e99", ObjFault::OutOfRange { line: 1 }),
-        (
-            b"v 0 0 999999999999999999999999e99",
-            ObjFault::OutOfRange { line: 1 },
-        ),
-    ];
-    for (text, fault) in texts {
-        assert_eq!(rt; fault_of(&rt, rt.alloc(), text), Some(fault), "of {text:?}");
+    for (text, fault) in &BAD_VERTICES {
+        assert_eq!(rt;
+            fault_of(&rt, rt.alloc(), text),
+            Some(*fault),
+            "of {text:?}"
+        );
     }
 }
 
+const BAD_FACES: [(&[u8], ObjFault); 13] = [
+    (
+        b"v 0 0 0\nv 0 0 9e3\nf 1 2 3",
+        ObjFault::OutOfRange { line: 2 },
+    ),
+    (b"f 1 2 3", ObjFault::BadFace { line: 1 }),
+    (b"v 0 0 0\nv 0 0 0\nf 1 2\n", ObjFault::BadFace { line: 3 }),
+    (
+        b"v 0 0 0\nv 0 0 0\nv 0 0 0\nf 1 2 1\n",
+        ObjFault::BadFace { line: 4 },
+    ),
+    (
+        b"v 0 0 0\nv 0 0 0\nv 0 0 0\nf 1 2 -2\n",
+        ObjFault::BadFace { line: 4 },
+    ),
+    (
+        b"v 0 0 0\nv 0 0 0\nv 0 0 0\nf 1 2 4\n",
+        ObjFault::BadFace { line: 4 },
+    ),
+    (
+        b"v 0 0 0\nv 0 0 0\nv 0 0 0\nf 1 2 -4\n",
+        ObjFault::BadFace { line: 4 },
+    ),
+    (
+        b"v 0 0 0\nv 0 0 0\nv 0 0 0\nf 1 2 0\n",
+        ObjFault::BadFace { line: 4 },
+    ),
+    (
+        b"v 0 0 0\nv 0 0 0\nv 0 0 0\nf 1 2 +3\n",
+        ObjFault::BadFace { line: 4 },
+    ),
+    (
+        b"v 0 0 0\nv 0 0 0\nv 0 0 0\nf 1 2 /3\n",
+        ObjFault::BadFace { line: 4 },
+    ),
+    (
+        b"v 0 0 0\nv 0 0 0\nv 0 0 0\nf 1 2 3 # three\n",
+        ObjFault::BadFace { line: 4 },
+    ),
+    (
+        b"v 0 0 0\nv 0 0 0\nv 0 0 0\nf 1 2 0000000003\n",
+        ObjFault::BadFace { line: 4 },
+    ),
+    (
+        b"v 0 0 0\nv 0 0 0\nf 1 2 3\nv 0 0 0\n",
+        ObjFault::BadFace { line: 3 },
+    ),
+];
+
 #[test]
 fn texts_with_a_bad_face(rt: HostRuntime) {
-    let texts: [(&[u8], ObjFault); 13] = [
-        (
-            b"v 0 0 0\nv 0 0 9e3\nf 1 2 3",
-            ObjFault::OutOfRange { line: 2 },
-        ),
-        (b"f 1 2 3", ObjFault::BadFace { line: 1 }),
-        (b"v 0 0 0\nv 0 0 0\nf 1 2\n", ObjFault::BadFace { line: 3 }),
-        (
-            b"v 0 0 0\nv 0 0 0\nv 0 0 0\nf 1 2 1\n",
-            ObjFault::BadFace { line: 4 },
-        ),
-        (
-            b"v 0 0 0\nv 0 0 0\nv 0 0 0\nf 1 2 -2\n",
-            ObjFault::BadFace { line: 4 },
-        ),
-        (
-            b"v 0 0 0\nv 0 0 0\nv 0 0 0\nf 1 2 4\n",
-            ObjFault::BadFace { line: 4 },
-        ),
-        (
-            b"v 0 0 0\nv 0 0 0\nv 0 0 0\nf 1 2 -4\n",
-            ObjFault::BadFace { line: 4 },
-        ),
-        (
-            b"v 0 0 0\nv 0 0 0\nv 0 0 0\nf 1 2 0\n",
-            ObjFault::BadFace { line: 4 },
-        ),
-        (
-            b"v 0 0 0\nv 0 0 0\nv 0 0 0\nf 1 2 +3\n",
-            ObjFault::BadFace { line: 4 },
-        ),
-        (
-            b"v 0 0 0\nv 0 0 0\nv 0 0 0\nf 1 2 /3\n",
-            ObjFault::BadFace { line: 4 },
-        ),
-        (
-            b"v 0 0 0\nv 0 0 0\nv 0 0 0\nf 1 2 3 # three\n",
-            ObjFault::BadFace { line: 4 },
-        ),
-        (
-            b"v 0 0 0\nv 0 0 0\nv 0 0 0\nf 1 2 0000000003\n",
-            ObjFault::BadFace { line: 4 },
-        ),
-        (
-            b"v 0 0 0\nv 0 0 0\nf 1 2 3\nv 0 0 0\n",
-            ObjFault::BadFace { line: 3 },
-        ),
-    ];
-    for (text, fault) in texts {
-        assert_eq!(rt; fault_of(&rt, rt.alloc(), text), Some(fault), "of {text:?}");
+    for (text, fault) in &BAD_FACES {
+        assert_eq!(rt;
+            fault_of(&rt, rt.alloc(), text),
+            Some(*fault),
+            "of {text:?}"
+        );
     }
 }
 
@@ -131,32 +141,33 @@ fn compare_places(rt: &impl Abort, alloc: Global, text: &[u8], places: &[Vec3]) 
     }
 }
 
+const DECIMALS: [(&[u8], i64); 20] = [
+    (b"v 0.1 0 0", 6554),
+    (b"v 1e-1 0 0", 6554),
+    (b"\tv\t1E-01\t0\t0 7 colour\r\n", 6554),
+    (b"v 0.00000762939453125 0 0", 1),
+    (b"v -0.00000762939453125 0 0", -1),
+    (b"v 0.000007629394531249 0 0", 0),
+    (b"v 762939453125e-17 0 0", 1),
+    (b"v 762939453124e-17 0 0", 0),
+    (b"v -0 0 0", 0),
+    (b"v +1. 0 0", 65_536),
+    (b"v .5 0 0", 32_768),
+    (b"v -8192 0 0", -536_870_912),
+    (b"v 8192.000007 0 0", 536_870_912),
+    (b"v 0.00008192e8 0 0", 536_870_912),
+    (b"v 81920000000000000000000e-19 0 0", 536_870_912),
+    (b"v 0e99 0 0", 0),
+    (b"v 1e-99 0 0", 0),
+    (b"v 999999999999999999999999e-29 0 0", 1),
+    (b"v 999999999999999999999999e-30 0 0", 0),
+    (b"v 000000000000000000000001 0 0", 65_536),
+];
+
 #[test]
 fn decimals_and_their_units(rt: HostRuntime) {
-    let texts: [(&[u8], i64); 20] = [
-        (b"v 0.1 0 0", 6554),
-        (b"v 1e-1 0 0", 6554),
-        (b"\tv\t1E-01\t0\t0 7 colour\r\n", 6554),
-        (b"v 0.00000762939453125 0 0", 1),
-        (b"v -0.00000762939453125 0 0", -1),
-        (b"v 0.000007629394531249 0 0", 0),
-        (b"v 762939453125e-17 0 0", 1),
-        (b"v 762939453124e-17 0 0", 0),
-        (b"v -0 0 0", 0),
-        (b"v +1. 0 0", 65_536),
-        (b"v .5 0 0", 32_768),
-        (b"v -8192 0 0", -536_870_912),
-        (b"v 8192.000007 0 0", 536_870_912),
-        (b"v 0.00008192e8 0 0", 536_870_912),
-        (b"v 81920000000000000000000e-19 0 0", 536_870_912),
-        (b"v 0e99 0 0", 0),
-        (b"v 1e-99 0 0", 0),
-        (b"v 999999999999999999999999e-29 0 0", 1),
-        (b"v 999999999999999999999999e-30 0 0", 0),
-        (b"v 000000000000000000000001 0 0", 65_536),
-    ];
-    for (text, units) in texts {
-        compare_places(&rt, rt.alloc(), text, &[place(units, 0, 0)]);
+    for (text, units) in &DECIMALS {
+        compare_places(&rt, rt.alloc(), text, &[place(*units, 0, 0)]);
     }
 }
 
@@ -262,42 +273,43 @@ fn compare_faces(rt: &impl Abort, alloc: Global, text: &[u8], sizes: &[u32], cor
     assert!(rt; text.len() < 1_000);
     match read_obj(alloc, text) {
         Ok(mesh) => {
-            assert_eq!(rt; mesh.sizes.as_slice(), sizes, "of {text:?}");
-            assert_eq!(rt; mesh.corners.as_slice(), corners, "of {text:?}");
+            let faces = (mesh.sizes.as_slice(), mesh.corners.as_slice());
+            assert_eq!(rt; faces, (sizes, corners), "of {text:?}");
             drop(mesh);
         }
         Err(fault) => assert!(rt; false, "{fault:?} of {text:?}"),
     }
 }
 
+/// Texts, and the sizes and the corners of their faces.
+const OTHER_PROGRAMS: [(&[u8], &[u32], &[u32]); 6] = [
+    (
+        b"# Blender\r\nmtllib plane.mtl\r\no Plane\r\nv -1.000000 0.000000 1.000000\r\nv 1 0 1\r\nv 1 0 -1\r\nv -1 0 -1\r\nvn -0.0000 1.0000 -0.0000\r\nvt 0.0 1.0\r\ns 0\r\nusemtl None\r\nf 1/1/1 2/2/1 3/3/1 4/4/1\r\n",
+        &[4],
+        &[0, 1, 2, 3],
+    ),
+    (
+        b"v 0 0 0\nv 1 0 0\nv 1 1 0\nf -3 -2 -1\nv 2 2 0\nf -1 -2 -3\n",
+        &[3, 3],
+        &[0, 1, 2, 3, 2, 1],
+    ),
+    (
+        b"g hexagon\nv 1e0 0 0\nv 5E-1 .866 0\nv -5e-1 0.866 0.\nv -1e+00 0 0\nv -0.5 -.866 0\nv +.5 -.866 0\nf 6 5/1 4//1 3/1/1 2 1\n",
+        &[6],
+        &[5, 4, 3, 2, 1, 0],
+    ),
+    (
+        b"o first\nv 0 0 0\nv 1 0 0\nv 0 1 0\nf 1//1 2//1 3//1\no second\ng part\nv 0 0 1\nv 1 0 1\nv 0 1 1\nf 4 5 6\nf -3 2 -1\n",
+        &[3, 3, 3],
+        &[0, 1, 2, 3, 4, 5, 3, 1, 5],
+    ),
+    (b"v 0 0 0 1 0.5 0.25\nvp 1 2\np 1\nl 1 1\n", &[], &[]),
+    (b"\r\n\t\nfo 1 2 3\nV 1 2 x", &[], &[]),
+];
+
 #[test]
 fn files_of_other_programs_are_read(rt: HostRuntime) {
-    // A text, and the sizes and the corners of its faces.
-    let texts: [(&[u8], &[u32], &[u32]); 6] = [
-        (
-            b"# Blender\r\nmtllib plane.mtl\r\no Plane\r\nv -1.000000 0.000000 1.000000\r\nv 1 0 1\r\nv 1 0 -1\r\nv -1 0 -1\r\nvn -0.0000 1.0000 -0.0000\r\nvt 0.0 1.0\r\ns 0\r\nusemtl None\r\nf 1/1/1 2/2/1 3/3/1 4/4/1\r\n",
-            &[4],
-            &[0, 1, 2, 3],
-        ),
-        (
-            b"v 0 0 0\nv 1 0 0\nv 1 1 0\nf -3 -2 -1\nv 2 2 0\nf -1 -2 -3\n",
-            &[3, 3],
-            &[0, 1, 2, 3, 2, 1],
-        ),
-        (
-            b"g hexagon\nv 1e0 0 0\nv 5E-1 .866 0\nv -5e-1 0.866 0.\nv -1e+00 0 0\nv -0.5 -.866 0\nv +.5 -.866 0\nf 6 5/1 4//1 3/1/1 2 1\n",
-            &[6],
-            &[5, 4, 3, 2, 1, 0],
-        ),
-        (
-            b"o first\nv 0 0 0\nv 1 0 0\nv 0 1 0\nf 1//1 2//1 3//1\no second\ng part\nv 0 0 1\nv 1 0 1\nv 0 1 1\nf 4 5 6\nf -3 2 -1\n",
-            &[3, 3, 3],
-            &[0, 1, 2, 3, 4, 5, 3, 1, 5],
-        ),
-        (b"v 0 0 0 1 0.5 0.25\nvp 1 2\np 1\nl 1 1\n", &[], &[]),
-        (b"\r\n\t\nfo 1 2 3\nV 1 2 x", &[], &[]),
-    ];
-    for (text, sizes, corners) in texts {
+    for (text, sizes, corners) in &OTHER_PROGRAMS {
         compare_faces(&rt, rt.alloc(), text, sizes, corners);
     }
 }
