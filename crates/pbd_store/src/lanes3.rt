@@ -50,9 +50,9 @@ impl<const L: usize> Lanes3<L> {
         ensures { result ≡ place_of self.now.x self.now.y self.now.z j }
     {
         Vec3 {
-            x: self.x.to_array()[j],
-            y: self.y.to_array()[j],
-            z: self.z.to_array()[j],
+            x: self.x.at(j),
+            y: self.y.at(j),
+            z: self.z.at(j),
         }
     }
 }
