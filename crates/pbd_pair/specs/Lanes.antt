@@ -103,7 +103,9 @@ settled moving entries (suc n) t = if moving n then booked (settled moving entri
 
 -- the entries of the bond in lane k
 abbrev pub lane_entries : {l : ℕ} → Bonds → List ℕ → BlockMoves l → ℕ → List Entry
-lane_entries bonds block moves k = entries_of (not (is_set moves.first_free k)) (not (is_set moves.second_free k)) (class_of (bond_of bonds (slice_index_or block k 0))) (shift_in moves k)
+lane_entries bonds block moves k =
+    entries_of (not (is_set moves.first_free k)) (not (is_set moves.second_free k))
+    (class_of (bond_of bonds (slice_index_or block k 0))) (shift_in moves k)
 
 -- both ends of a lane: two free ends move oppositely, and a held one stays
 pub record Opposed (first_free second_free : Bool) (t : Shift) : Type 0 where
@@ -125,7 +127,8 @@ pub record IsLane (c : Correction) (p q : End) (lane : LaneMove) : Type 0 where
 -- lanes that do what the bonds of a block do with these ends. Those without a bond do nothing
 pub record AreEach {l : ℕ} (limit : ℤ) (ends : BlockEnds l) (bond : ℕ → Bond) (block : List ℕ) (moves : BlockMoves l) : Type 0 where
   pub lanes : (k : ℕ) → k < length block
-      → IsLane (correction_of limit (end_in ends.first k) (end_in ends.second k) (bond (slice_index_or block k 0))) (end_in ends.first k) (end_in ends.second k) (lane_in moves k)
+      → IsLane (correction_of limit (end_in ends.first k) (end_in ends.second k) (bond (slice_index_or block k 0)))
+      (end_in ends.first k) (end_in ends.second k) (lane_in moves k)
   pub sound : (k : ℕ) → k < length block → is_set moves.moving k ≡ true → IsSoundShift limit (shift_in moves k)
   pub idle : (k : ℕ) → length block ≤ k → k < l → lane_in moves k ≡ idle_lane
 

@@ -31,8 +31,9 @@ fn book_if_moving(totals: &mut Totals, bond: Bond, lane: LaneMove)
     requires first { lane.moving ≡ true → Within (2 ^ 31) lane.shift.first_move }
     requires second { lane.moving ≡ true → Within (2 ^ 31) lane.shift.second_move }
     ensures value { ledger_of totals.new
-        ≡ (if lane.moving then booked (ledger_of totals.old) (entries_of (not lane.first_free) (not lane.second_free) (class_of bond) lane.shift) else ledger_of
-        totals.old) }
+        ≡ (if lane.moving
+        then booked (ledger_of totals.old) (entries_of (not lane.first_free) (not lane.second_free) (class_of bond) lane.shift)
+        else ledger_of totals.old) }
     ensures room { (n : ℕ) → HaveRoom n (ledger_of totals.old) → HaveRoom (n + 2 ^ 32) (ledger_of totals.new) }
 {
     if lane.moving {
@@ -50,13 +51,17 @@ fn book_if_moving(totals: &mut Totals, bond: Bond, lane: LaneMove)
 fn book_each<const L: usize>(totals: &mut Totals, block: &Block<'_>, laid: &BlockMoves<L>)
     requires lanes { L ≤ 16 }
     requires short { length block.now.numbers.now ≤ L }
-    requires numbers { (j : ℕ) → j < length block.now.numbers.now → slice_index_or block.now.numbers.now j 0 < bond_count block.now.bonds }
+    requires numbers { (j : ℕ) → j < length block.now.numbers.now
+        → slice_index_or block.now.numbers.now j 0 < bond_count block.now.bonds }
     requires room { HaveRoom (2 ^ 124) (ledger_of totals.old) }
-    requires first { (j : ℕ) → j < length block.now.numbers.now → is_set laid.now.moving j ≡ true → Within (2 ^ 31) (shift_in laid.now j).first_move }
-    requires second { (j : ℕ) → j < length block.now.numbers.now → is_set laid.now.moving j ≡ true → Within (2 ^ 31) (shift_in laid.now j).second_move }
+    requires first { (j : ℕ) → j < length block.now.numbers.now → is_set laid.now.moving j ≡ true
+        → Within (2 ^ 31) (shift_in laid.now j).first_move }
+    requires second { (j : ℕ) → j < length block.now.numbers.now → is_set laid.now.moving j ≡ true
+        → Within (2 ^ 31) (shift_in laid.now j).second_move }
     ensures value { ledger_of totals.new ≡ settled (λ j. is_set laid.now.moving j)
         (lane_entries block.now.bonds block.now.numbers.now laid.now) (length block.now.numbers.now) (ledger_of totals.old) }
-    ensures room { (n : ℕ) → HaveRoom n (ledger_of totals.old) → HaveRoom (n + length block.now.numbers.now * 2 ^ 32) (ledger_of totals.new) }
+    ensures room { (n : ℕ) → HaveRoom n (ledger_of totals.old)
+        → HaveRoom (n + length block.now.numbers.now * 2 ^ 32) (ledger_of totals.new) }
 {
     for (j, n) in block.numbers.iter().enumerate() {
         book_if_moving(totals, block.bonds.get(*n), laid.lane(j));

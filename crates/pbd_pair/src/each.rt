@@ -46,7 +46,8 @@ pub(crate) fn corrected_each<const L: usize>(
     requires numbers { (j : ℕ) → j < length block.now.numbers.now → slice_index_or block.now.numbers.now j 0 < bond_count block.now.bonds }
     requires first { (j : ℕ) → j < length block.now.numbers.now → IsEnd limit (end_in ends.now.first j) }
     requires second { (j : ℕ) → j < length block.now.numbers.now → IsEnd limit (end_in ends.now.second j) }
-    requires drawn { (j : ℕ) → j < length block.now.numbers.now → IsDrawn limit (bond_of block.now.bonds (slice_index_or block.now.numbers.now j 0)) }
+    requires drawn { (j : ℕ) → j < length block.now.numbers.now
+        → IsDrawn limit (bond_of block.now.bonds (slice_index_or block.now.numbers.now j 0)) }
     ensures { AreEach limit ends.now (bond_of block.now.bonds) block.now.numbers.now result }
 {
     let mut moves = BlockMoves::none();
