@@ -12,7 +12,7 @@ use std::alloc::{AllocError, Global};
 use std::sync::ledger::Ledger;
 
 /// What a batch came to: the answer, the particles and the totals.
-#[derive(Drop)]
+#[derive(Clone, Copy)]
 pub(crate) struct Seen {
     pub(crate) answer: Result<(), EventFault>,
     pub(crate) particles: [Particle; 6],
@@ -40,7 +40,34 @@ fn all_particles<const L: usize, G: Ledger>(store: &Store<L>, steps: &mut Steps<
     ]
 }
 
-/// What a batch comes to by events.
+/// What a batch comes to by events, in a store.
+fn run_in<const L: usize, G: Ledger>(
+    steps: &mut Steps<G>,
+    notes: &mut Notes,
+    store: &mut Store<L>,
+    bonds: Bonds<'_>,
+    batch: &[u32],
+    events: &[Event],
+) -> Seen
+    requires low { 0 < L }
+    requires high { L ≤ 16 }
+    requires limit { store.old.limit ≡ pos (2 ^ 29) }
+    requires six { length store.old.particles ≡ 6 }
+    requires placed { IsTrue (list_all (is_placed (pos (2 ^ 29))) store.old.particles) }
+    requires batch { IsTrue (is_batch (pos (2 ^ 29)) 6 bonds batch.now) }
+    requires few { length events.now < 2 ^ 32 }
+{
+    let mut totals = Totals::zero();
+    let answer = run_events(notes, store, bonds, batch, events, &mut totals, steps);
+    let particles = all_particles(store, steps);
+    Seen {
+        answer,
+        particles,
+        totals,
+    }
+}
+
+/// The same in a store of its own.
 pub(crate) fn by_events<const L: usize, G: Ledger>(
     alloc: Global,
     steps: &mut Steps<G>,
@@ -57,18 +84,74 @@ pub(crate) fn by_events<const L: usize, G: Ledger>(
     requires batch { IsTrue (is_batch (pos (2 ^ 29)) 6 bonds batch.now) }
     requires few { length events.now < 2 ^ 32 }
 {
-    let mut store: Store<L> = Store::open(alloc, particles, RANGE)?;
+    match Store::<L>::open(alloc, particles, RANGE) {
+        Ok(mut store) => {
+            let seen = run_in(steps, notes, &mut store, bonds, batch, events);
+            drop(store);
+            Ok(seen)
+        }
+        Err(error) => Err(error),
+    }
+}
+
+/// The same with notes of its own.
+pub(crate) fn by_own_events<const L: usize, G: Ledger>(
+    alloc: Global,
+    steps: &mut Steps<G>,
+    particles: &[Particle],
+    bonds: Bonds<'_>,
+    batch: &[u32],
+    events: &[Event],
+) -> Result<Seen, AllocError>
+    requires low { 0 < L }
+    requires high { L ≤ 16 }
+    requires six { length particles.now ≡ 6 }
+    requires placed { IsTrue (list_all (is_placed (pos (2 ^ 29))) particles.now) }
+    requires batch { IsTrue (is_batch (pos (2 ^ 29)) 6 bonds batch.now) }
+    requires few { length events.now < 2 ^ 32 }
+{
+    match Notes::open(alloc) {
+        Ok(mut notes) => {
+            let seen = by_events::<L, G>(alloc, steps, &mut notes, particles, bonds, batch, events);
+            drop(notes);
+            seen
+        }
+        Err(error) => Err(error),
+    }
+}
+
+/// What a batch comes to by a projector, in a store.
+fn project_in<const L: usize, P: Projector<L>, G: Ledger>(
+    steps: &mut Steps<G>,
+    projector: &mut P,
+    store: &mut Store<L>,
+    bonds: Bonds<'_>,
+    batch: &[u32],
+) -> Seen
+    requires low { 0 < L }
+    requires high { L ≤ 16 }
+    requires limit { store.old.limit ≡ pos (2 ^ 29) }
+    requires six { length store.old.particles ≡ 6 }
+    requires placed { IsTrue (list_all (is_placed (pos (2 ^ 29))) store.old.particles) }
+    requires batch { IsTrue (is_batch (pos (2 ^ 29)) 6 bonds batch.now) }
+{
     let mut totals = Totals::zero();
-    let answer = run_events(notes, &mut store, bonds, batch, events, &mut totals, steps);
-    let particles = all_particles(&store, steps);
-    Ok(Seen {
+    let outcome = projector.project(store, bonds, batch, &mut totals, steps);
+    let particles = all_particles(store, steps);
+    let answer = match outcome {
+        Ok(()) => Ok(()),
+        Err(left) => Err(EventFault::Left {
+            element: left.element,
+        }),
+    };
+    Seen {
         answer,
         particles,
         totals,
-    })
+    }
 }
 
-/// What a batch comes to by a projector.
+/// The same in a store of its own.
 pub(crate) fn by_projector<const L: usize, P: Projector<L>, G: Ledger>(
     alloc: Global,
     steps: &mut Steps<G>,
@@ -83,19 +166,12 @@ pub(crate) fn by_projector<const L: usize, P: Projector<L>, G: Ledger>(
     requires placed { IsTrue (list_all (is_placed (pos (2 ^ 29))) particles.now) }
     requires batch { IsTrue (is_batch (pos (2 ^ 29)) 6 bonds batch.now) }
 {
-    let mut store: Store<L> = Store::open(alloc, particles, RANGE)?;
-    let mut totals = Totals::zero();
-    let outcome = projector.project(&mut store, bonds, batch, &mut totals, steps);
-    let particles = all_particles(&store, steps);
-    let answer = match outcome {
-        Ok(()) => Ok(()),
-        Err(left) => Err(EventFault::Left {
-            element: left.element,
-        }),
-    };
-    Ok(Seen {
-        answer,
-        particles,
-        totals,
-    })
+    match Store::<L>::open(alloc, particles, RANGE) {
+        Ok(mut store) => {
+            let seen = project_in(steps, projector, &mut store, bonds, batch);
+            drop(store);
+            Ok(seen)
+        }
+        Err(error) => Err(error),
+    }
 }

@@ -48,15 +48,13 @@ const AND_THEN: [Event; 6] = [
     Event::WriteB(0),
 ];
 
-/// A seed draws these events for three bonds, and they come to what the scalar projector does.
-fn draws<G: Ledger>(
+/// A projector draws these events for three bonds, and they come to what the scalar projector does.
+fn draws_with<G: Ledger>(
     alloc: Global,
     steps: &mut Steps<G>,
-    seed: u64,
+    projector: &mut ScrambleProjector,
     events: &[Event],
 ) -> Result<bool, AllocError> {
-    let mut projector = ScrambleProjector::open(alloc, seed)?;
-    let mut plain: Scalar<1> = Scalar::new();
     let none_yet = projector.last_events().is_empty() && projector.handed() == 0;
     let particles = [
         free!(0, 0, 1),
@@ -69,20 +67,40 @@ fn draws<G: Ledger>(
     let links = [link!(0, 1), link!(2, 3), link!(4, 5)];
     let bonds = Bonds::Links(&links);
     let batch = [2, 0, 1];
-    let seen = by_projector(alloc, steps, &mut projector, &particles, bonds, &batch)?;
+    let seen = by_projector::<1, ScrambleProjector, G>(
+        alloc, steps, projector, &particles, bonds, &batch,
+    )?;
+    let mut plain: Scalar<1> = Scalar::new();
     let wanted = by_projector(alloc, steps, &mut plain, &particles, bonds, &batch)?;
     let moved = seen.answer == Ok(()) && seen.particles[0].at.x == 3;
     let drawn = projector.last_events() == events && projector.handed() == 3;
     Ok(none_yet && moved && are_alike(&seen, &wanted) && drawn)
 }
 
-/// The next batch goes on with the words, also where the one before it left.
-fn goes_on<G: Ledger>(
+/// A seed draws them.
+fn draws<G: Ledger>(
     alloc: Global,
     steps: &mut Steps<G>,
+    seed: u64,
     events: &[Event],
 ) -> Result<bool, AllocError> {
-    let mut projector = ScrambleProjector::open(alloc, 7)?;
+    match ScrambleProjector::open(alloc, seed) {
+        Ok(mut projector) => {
+            let told = draws_with(alloc, steps, &mut projector, events);
+            drop(projector);
+            told
+        }
+        Err(error) => Err(error),
+    }
+}
+
+/// The next batch goes on with the words, also where the one before it left.
+fn goes_on_with<G: Ledger>(
+    alloc: Global,
+    steps: &mut Steps<G>,
+    projector: &mut ScrambleProjector,
+    events: &[Event],
+) -> Result<bool, AllocError> {
     let particles = [
         free!(0, 0, 1),
         free!(105, 0, 1),
@@ -93,11 +111,49 @@ fn goes_on<G: Ledger>(
     ];
     let links = [link!(0, 1), link!(2, 3), link!(4, 5)];
     let bonds = Bonds::Links(&links);
-    let first = by_projector(alloc, steps, &mut projector, &particles, bonds, &[0, 2, 1])?;
+    let first = by_projector::<1, ScrambleProjector, G>(
+        alloc,
+        steps,
+        projector,
+        &particles,
+        bonds,
+        &[0, 2, 1],
+    )?;
     let left = first.answer == Err(EventFault::Left { element: 2 });
-    let next = by_projector(alloc, steps, &mut projector, &particles, bonds, &[1, 0])?;
+    let next = by_projector::<1, ScrambleProjector, G>(
+        alloc,
+        steps,
+        projector,
+        &particles,
+        bonds,
+        &[1, 0],
+    )?;
     let drawn = projector.last_events() == events && projector.handed() == 5;
     Ok(left && next.answer == Ok(()) && drawn)
+}
+
+/// The words of the seed 7 go on so.
+fn goes_on<G: Ledger>(
+    alloc: Global,
+    steps: &mut Steps<G>,
+    events: &[Event],
+) -> Result<bool, AllocError> {
+    match ScrambleProjector::open(alloc, 7) {
+        Ok(mut projector) => {
+            let told = goes_on_with(alloc, steps, &mut projector, events);
+            drop(projector);
+            told
+        }
+        Err(error) => Err(error),
+    }
+}
+
+fn all_seeds<G: Ledger>(alloc: Global, steps: &mut Steps<G>) -> Result<[bool; 3], AllocError> {
+    Ok([
+        draws(alloc, steps, 7, &FROM_SEVEN)?,
+        draws(alloc, steps, 8, &FROM_EIGHT)?,
+        goes_on(alloc, steps, &AND_THEN)?,
+    ])
 }
 
 fn seeds<G: Ledger>(alloc: Global, blank: Blank) -> Result<[bool; 3], AllocError>
@@ -106,11 +162,9 @@ fn seeds<G: Ledger>(alloc: Global, blank: Blank) -> Result<[bool; 3], AllocError
     requires some { 0 < blank.parts }
 {
     let mut steps: Steps<G> = Steps::open(blank);
-    Ok([
-        draws(alloc, &mut steps, 7, &FROM_SEVEN)?,
-        draws(alloc, &mut steps, 8, &FROM_EIGHT)?,
-        goes_on(alloc, &mut steps, &AND_THEN)?,
-    ])
+    let told = all_seeds(alloc, &mut steps);
+    drop(steps);
+    told
 }
 
 #[test]

@@ -1,10 +1,10 @@
 //! Worked lists of events.
 ghost use Rattle.std.specs.Prelude.{◌≡◌, ◌<◌, ◌^◌, length};
 
-use crate::batches::by_events;
+use crate::batches::by_own_events;
 use pbd_num::Vec3;
 use pbd_pair::Bonds;
-use pbd_schedule::{Event, EventFault, Notes};
+use pbd_schedule::{Event, EventFault};
 use pbd_store::Steps;
 use pbd_world::{Kind, Link, Particle};
 use std::alloc::{AllocError, Global};
@@ -27,7 +27,6 @@ fn comes_to<G: Ledger>(
 ) -> Result<bool, AllocError>
     requires few { length events.now < 2 ^ 32 }
 {
-    let mut notes = Notes::open(alloc)?;
     let particles = [
         free!(0, 0, 1),
         free!(105, 0, 1),
@@ -37,10 +36,9 @@ fn comes_to<G: Ledger>(
         free!(105, 2000, 1),
     ];
     let links = [link!(0, 1), link!(2, 3)];
-    let seen = by_events::<1, G>(
+    let seen = by_own_events::<1, G>(
         alloc,
         steps,
-        &mut notes,
         &particles,
         Bonds::Links(&links),
         &[0, 1],
@@ -53,23 +51,13 @@ fn comes_to<G: Ledger>(
 
 /// A batch of no bonds has one legal list of events, the empty one.
 fn nothing_to_do<G: Ledger>(alloc: Global, steps: &mut Steps<G>) -> Result<bool, AllocError> {
-    let mut notes = Notes::open(alloc)?;
     let particles = [free!(0, 0, 1); 6];
-    let seen = by_events::<1, G>(
-        alloc,
-        steps,
-        &mut notes,
-        &particles,
-        Bonds::Links(&[]),
-        &[],
-        &[],
-    )?;
+    let seen = by_own_events::<1, G>(alloc, steps, &particles, Bonds::Links(&[]), &[], &[])?;
     Ok(seen.answer == Ok(()) && seen.particles == particles)
 }
 
 /// A batch of one bond, whose events end after its read: it stays as it was.
 fn cut_short<G: Ledger>(alloc: Global, steps: &mut Steps<G>) -> Result<bool, AllocError> {
-    let mut notes = Notes::open(alloc)?;
     let particles = [
         free!(0, 0, 1),
         free!(105, 0, 1),
@@ -79,10 +67,9 @@ fn cut_short<G: Ledger>(alloc: Global, steps: &mut Steps<G>) -> Result<bool, All
         free!(0, 0, 1),
     ];
     let links = [link!(0, 1)];
-    let seen = by_events::<1, G>(
+    let seen = by_own_events::<1, G>(
         alloc,
         steps,
-        &mut notes,
         &particles,
         Bonds::Links(&links),
         &[0],
@@ -91,14 +78,25 @@ fn cut_short<G: Ledger>(alloc: Global, steps: &mut Steps<G>) -> Result<bool, All
     Ok(seen.answer == bad(1) && seen.particles == particles)
 }
 
-/// Events as lanes go and mixed, of no bond at all, of one bond that was only read, out of turn, cut short, of no bond
-/// of the batch, and of one that is done.
-fn worked_lists<G: Ledger>(alloc: Global, blank: Blank) -> Result<[bool; 8], AllocError>
-    requires name { blank.name ≡ G.name }
-    requires parts { blank.parts ≡ G.parts }
-    requires some { 0 < blank.parts }
-{
-    let mut steps: Steps<G> = Steps::open(blank);
+/// Events, and the answer and the places on x that two bonds come to by them.
+type Row<'a> = (&'a [Event], Result<(), EventFault>, [i64; 6]);
+
+/// Whether lists of at most six events come to what their rows say.
+fn all_come_to<G: Ledger>(
+    alloc: Global,
+    steps: &mut Steps<G>,
+    rows: &[Row<'_>],
+) -> Result<bool, AllocError> {
+    for (events, answer, places) in rows {
+        if events.len() > 6 || !comes_to(alloc, steps, events, *answer, *places)? {
+            return Ok(false);
+        }
+    }
+    Ok(true)
+}
+
+/// Events as lanes go and mixed, out of turn, cut short, of no bond of the batch, and of one that is done.
+fn two_bonds<G: Ledger>(alloc: Global, steps: &mut Steps<G>) -> Result<bool, AllocError> {
     let pulled = [3, 102, 3, 102, 0, 105];
     let as_before = [0, 105, 0, 105, 0, 105];
     let as_lanes = [
@@ -119,30 +117,48 @@ fn worked_lists<G: Ledger>(alloc: Global, blank: Blank) -> Result<[bool; 8], All
     ];
     let early = [Event::Read(0), Event::WriteB(0)];
     let short = [Event::Read(0), Event::WriteA(0)];
-    let elsewhere = [Event::Read(2)];
     let again = [
         Event::Read(0),
         Event::WriteA(0),
         Event::WriteB(0),
         Event::Read(0),
     ];
+    let rows: [Row<'_>; 6] = [
+        (&as_lanes, Ok(()), pulled),
+        (&mixed, Ok(()), pulled),
+        (&early, bad(1), as_before),
+        (&short, bad(2), as_before),
+        (&[Event::Read(2)], bad(0), as_before),
+        (&again, bad(3), as_before),
+    ];
+    all_come_to(alloc, steps, &rows)
+}
+
+/// Two bonds by several lists, no bond at all, and one bond that was only read.
+fn all_lists<G: Ledger>(alloc: Global, steps: &mut Steps<G>) -> Result<[bool; 3], AllocError> {
     Ok([
-        comes_to(alloc, &mut steps, &as_lanes, Ok(()), pulled)?,
-        comes_to(alloc, &mut steps, &mixed, Ok(()), pulled)?,
-        nothing_to_do(alloc, &mut steps)?,
-        cut_short(alloc, &mut steps)?,
-        comes_to(alloc, &mut steps, &early, bad(1), as_before)?,
-        comes_to(alloc, &mut steps, &short, bad(2), as_before)?,
-        comes_to(alloc, &mut steps, &elsewhere, bad(0), as_before)?,
-        comes_to(alloc, &mut steps, &again, bad(3), as_before)?,
+        two_bonds(alloc, steps)?,
+        nothing_to_do(alloc, steps)?,
+        cut_short(alloc, steps)?,
     ])
+}
+
+fn worked_lists<G: Ledger>(alloc: Global, blank: Blank) -> Result<[bool; 3], AllocError>
+    requires name { blank.name ≡ G.name }
+    requires parts { blank.parts ≡ G.parts }
+    requires some { 0 < blank.parts }
+{
+    let mut steps: Steps<G> = Steps::open(blank);
+    let told = all_lists(alloc, &mut steps);
+    drop(steps);
+    told
 }
 
 #[test]
 fn given_events(rt: HostRuntime) -> Result<(), Fail> {
     assert_eq!(rt;
         worked_lists::<Brand>(rt.alloc(), Blank::new(1))?,
-        [true; 8]
+        [true; 3]
     );
     Ok(())
 }

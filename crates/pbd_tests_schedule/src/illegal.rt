@@ -16,7 +16,7 @@ use std::test::Fail;
 
 /// How many lists ran, how many were refused where they had to be, with the particles as before, and how many
 /// came to something else.
-#[derive(Drop)]
+#[derive(Clone, Copy)]
 struct Tally {
     ran: u32,
     refused: u32,
@@ -79,6 +79,42 @@ fn wanted(events: &[Event]) -> Result<(), EventFault> {
 }
 
 /// Runs all lists of a length. There are as many as `numbers`.
+fn all_lists_with<G: Ledger>(
+    alloc: Global,
+    steps: &mut Steps<G>,
+    notes: &mut Notes,
+    particles: &[Particle],
+    bonds: Bonds<'_>,
+    batch: &[u32],
+    size: usize,
+    numbers: u32,
+) -> Result<Tally, AllocError>
+    requires six { length particles.now ≡ 6 }
+    requires placed { IsTrue (list_all (is_placed (pos (2 ^ 29))) particles.now) }
+    requires batch { IsTrue (is_batch (pos (2 ^ 29)) 6 bonds batch.now) }
+    requires size { size ≤ 7 }
+{
+    let mut tally = Tally {
+        ran: 0,
+        refused: 0,
+        wrong: 0,
+    };
+    for number in 0..numbers {
+        let events = events_named(number);
+        let events = &events[..size];
+        let seen = by_events::<1, G>(alloc, steps, notes, particles, bonds, batch, events)?;
+        if seen.answer != wanted(events) {
+            tally.wrong = tally.wrong.saturating_add(1);
+        } else if seen.answer.is_ok() {
+            tally.ran = tally.ran.saturating_add(1);
+        } else if seen.particles.as_slice() == particles {
+            tally.refused = tally.refused.saturating_add(1);
+        }
+    }
+    Ok(tally)
+}
+
+/// The same with notes of its own.
 fn all_lists<G: Ledger>(
     alloc: Global,
     steps: &mut Steps<G>,
@@ -93,34 +129,20 @@ fn all_lists<G: Ledger>(
     requires batch { IsTrue (is_batch (pos (2 ^ 29)) 6 bonds batch.now) }
     requires size { size ≤ 7 }
 {
-    let mut notes = Notes::open(alloc)?;
-    let mut tally = Tally {
-        ran: 0,
-        refused: 0,
-        wrong: 0,
-    };
-    for number in 0..numbers {
-        let events = events_named(number);
-        let events = &events[..size];
-        let seen = by_events::<1, G>(alloc, steps, &mut notes, particles, bonds, batch, events)?;
-        if seen.answer != wanted(events) {
-            tally.wrong = tally.wrong.saturating_add(1);
-        } else if seen.answer.is_ok() {
-            tally.ran = tally.ran.saturating_add(1);
-        } else if seen.particles.as_slice() == particles {
-            tally.refused = tally.refused.saturating_add(1);
+    match Notes::open(alloc) {
+        Ok(mut notes) => {
+            let tally = all_lists_with(
+                alloc, steps, &mut notes, particles, bonds, batch, size, numbers,
+            );
+            drop(notes);
+            tally
         }
+        Err(error) => Err(error),
     }
-    Ok(tally)
 }
 
 /// Lists of up to seven events, by their length. Of the 335,923 the 20 legal ones have six events.
-fn lists<G: Ledger>(alloc: Global, blank: Blank) -> Result<bool, AllocError>
-    requires name { blank.name ≡ G.name }
-    requires parts { blank.parts ≡ G.parts }
-    requires some { 0 < blank.parts }
-{
-    let mut steps: Steps<G> = Steps::open(blank);
+fn all_lengths<G: Ledger>(alloc: Global, steps: &mut Steps<G>) -> Result<bool, AllocError> {
     let links = [link!(0, 1), link!(2, 3)];
     let bonds = Bonds::Links(&links);
     let particles = [
@@ -135,12 +157,23 @@ fn lists<G: Ledger>(alloc: Global, blank: Blank) -> Result<bool, AllocError>
     let mut good = true;
     for size in 0..8 {
         let many = numbers[size];
-        let tally = all_lists(alloc, &mut steps, &particles, bonds, &[0, 1], size, many)?;
+        let tally = all_lists(alloc, steps, &particles, bonds, &[0, 1], size, many)?;
         let legal = if size == 6 { 20 } else { 0 };
         good = good && tally.ran == legal && tally.wrong == 0;
         good = good && tally.refused.saturating_add(legal) == many;
     }
     Ok(good)
+}
+
+fn lists<G: Ledger>(alloc: Global, blank: Blank) -> Result<bool, AllocError>
+    requires name { blank.name ≡ G.name }
+    requires parts { blank.parts ≡ G.parts }
+    requires some { 0 < blank.parts }
+{
+    let mut steps: Steps<G> = Steps::open(blank);
+    let told = all_lengths(alloc, &mut steps);
+    drop(steps);
+    told
 }
 
 #[test]

@@ -3,7 +3,7 @@ ghost use Rattle.std.specs.Prelude.{◌≡◌, ◌<◌, ◌≤◌, ◌^◌, pos,
 ghost use Rattle.std.specs.List.{list_all};
 ghost use Rattle.pbd_pair.specs.Examples.{is_placed, is_batch};
 
-use crate::batches::{are_alike, by_events, by_projector};
+use crate::batches::{Seen, are_alike, by_events, by_projector};
 use pbd_num::Vec3;
 use pbd_pair::{Bonds, Scalar};
 use pbd_schedule::{Event, EventFault, Notes};
@@ -15,7 +15,7 @@ use std::sync::ledger::{Blank, Ledger};
 use std::test::Fail;
 
 /// How many interleavings there were, how many of them came to what the scalar projector does, and its answer.
-#[derive(Drop)]
+#[derive(Clone, Copy)]
 struct Tally {
     all: u32,
     alike: u32,
@@ -49,7 +49,44 @@ fn interleaving(number: u32, bonds: u32) -> Option<[Event; 9]>
     Some(events)
 }
 
-/// All interleavings of a batch. `numbers` is its length as often multiplied by itself as it has events.
+/// All interleavings of a batch that is to come to what is wanted. `numbers` is its length as often multiplied by itself
+/// as it has events.
+fn interleavings_with<const L: usize, G: Ledger>(
+    alloc: Global,
+    steps: &mut Steps<G>,
+    notes: &mut Notes,
+    particles: &[Particle],
+    bonds: Bonds<'_>,
+    batch: &[u32],
+    numbers: u32,
+    wanted: &Seen,
+) -> Result<Tally, AllocError>
+    requires low { 0 < L }
+    requires high { L ≤ 16 }
+    requires six { length particles.now ≡ 6 }
+    requires placed { IsTrue (list_all (is_placed (pos (2 ^ 29))) particles.now) }
+    requires batch { IsTrue (is_batch (pos (2 ^ 29)) 6 bonds batch.now) }
+    requires some { 0 < length batch.now }
+    requires few { length batch.now ≤ 3 }
+{
+    let mut all = 0u32;
+    let mut alike = 0u32;
+    for number in 0..numbers {
+        if let Some(events) = interleaving(number, batch.len() as u32) {
+            let events = &events[..3 * batch.len()];
+            let seen = by_events::<L, G>(alloc, steps, notes, particles, bonds, batch, events)?;
+            all = all.saturating_add(1);
+            alike = alike.saturating_add(u32::from(are_alike(&seen, wanted)));
+        }
+    }
+    Ok(Tally {
+        all,
+        alike,
+        answer: wanted.answer,
+    })
+}
+
+/// The same with notes of its own, and with what the scalar projector comes to.
 fn all_interleavings<const L: usize, G: Ledger>(
     alloc: Global,
     steps: &mut Steps<G>,
@@ -66,26 +103,18 @@ fn all_interleavings<const L: usize, G: Ledger>(
     requires some { 0 < length batch.now }
     requires few { length batch.now ≤ 3 }
 {
-    let mut notes = Notes::open(alloc)?;
     let mut plain: Scalar<L> = Scalar::new();
     let wanted = by_projector(alloc, steps, &mut plain, particles, bonds, batch)?;
-    let mut all = 0u32;
-    let mut alike = 0u32;
-    for number in 0..numbers {
-        if let Some(events) = interleaving(number, batch.len() as u32) {
-            let events = &events[..3 * batch.len()];
-            let seen = by_events::<L, G>(
-                alloc, steps, &mut notes, particles, bonds, batch, events,
-            )?;
-            all = all.saturating_add(1);
-            alike = alike.saturating_add(u32::from(are_alike(&seen, &wanted)));
+    match Notes::open(alloc) {
+        Ok(mut notes) => {
+            let tally = interleavings_with::<L, G>(
+                alloc, steps, &mut notes, particles, bonds, batch, numbers, &wanted,
+            );
+            drop(notes);
+            tally
         }
+        Err(error) => Err(error),
     }
-    Ok(Tally {
-        all,
-        alike,
-        answer: wanted.answer,
-    })
 }
 
 /// Two bonds: 20 interleavings, of bonds that move and with one that leaves.
@@ -175,20 +204,26 @@ fn two_of_three_leave<const L: usize, G: Ledger>(
 }
 
 /// All of them, each at two widths.
+fn at_two_widths<G: Ledger>(alloc: Global, steps: &mut Steps<G>) -> Result<[bool; 6], AllocError> {
+    Ok([
+        two_bonds::<1, G>(alloc, steps)?,
+        two_bonds::<4, G>(alloc, steps)?,
+        three_bonds::<1, G>(alloc, steps)?,
+        three_bonds::<16, G>(alloc, steps)?,
+        two_of_three_leave::<1, G>(alloc, steps)?,
+        two_of_three_leave::<8, G>(alloc, steps)?,
+    ])
+}
+
 fn interleavings<G: Ledger>(alloc: Global, blank: Blank) -> Result<[bool; 6], AllocError>
     requires name { blank.name ≡ G.name }
     requires parts { blank.parts ≡ G.parts }
     requires some { 0 < blank.parts }
 {
     let mut steps: Steps<G> = Steps::open(blank);
-    Ok([
-        two_bonds::<1, G>(alloc, &mut steps)?,
-        two_bonds::<4, G>(alloc, &mut steps)?,
-        three_bonds::<1, G>(alloc, &mut steps)?,
-        three_bonds::<16, G>(alloc, &mut steps)?,
-        two_of_three_leave::<1, G>(alloc, &mut steps)?,
-        two_of_three_leave::<8, G>(alloc, &mut steps)?,
-    ])
+    let told = at_two_widths(alloc, &mut steps);
+    drop(steps);
+    told
 }
 
 #[test]
