@@ -1,34 +1,16 @@
 -- Rounded quotients of products, by sizes and signs.
-use Rattle.std.proofs.Common.{◌≡◌, ℕ, suc, ◌+◌, ◌*◌, ◌/◌, ◌<◌, refl, ap, ◌∙◌, sym, arith, pos, negsuc, ℤ, neg_ℤ, ◌*ℤ◌, ◌<ℤ◌, ◌≤ℤ◌, unsigned_abs}
+use Rattle.std.proofs.Common.{◌≡◌, ℕ, suc, ◌+◌, ◌*◌, ◌/◌, ◌<◌, ap, ◌∙◌, sym, arith, pos, negsuc, ℤ, neg_ℤ, ◌*ℤ◌, ◌<ℤ◌, ◌≤ℤ◌, unsigned_abs}
 use Rattle.std.proofs.lemmas.Int.{ints}
 use Rattle.std.proofs.Math.Nat.{mul-div-mul_right, mul-le-mul}
 use Rattle.pbd_num.specs.Rounding.{rdiv}
 use Rattle.pbd_num.specs.PairMove.{share_of}
 use Rattle.pbd_num.proofs.RoundingLemmas.{rdiv-neg, quotient_of_zero}
 
-pub same_signs : (e d : ℤ) (len : ℕ) → pos 0 ≤ℤ e → pos 0 ≤ℤ d → rdiv (e *ℤ d) (pos len) ≡ pos ((2 * (unsigned_abs e * unsigned_abs d) + len) / (2 * len))
-unfolding rdiv
-same_signs (pos a) (pos b) len h k = refl
-same_signs (pos a) (negsuc b) len h k = absurd (omega (arith, ints))
-same_signs (negsuc a) d len h k = absurd (omega (arith, ints))
-
-pub both_below : (e d : ℤ) (len : ℕ) → e <ℤ pos 0 → d <ℤ pos 0 → rdiv (e *ℤ d) (pos len) ≡ pos ((2 * (unsigned_abs e * unsigned_abs d) + len) / (2 * len))
-unfolding rdiv
-both_below (negsuc a) (negsuc b) len h k = refl
-both_below (negsuc a) (pos b) len h k = absurd (omega (arith, ints))
-both_below (pos a) d len h k = absurd (omega (arith, ints))
-
 turned_second : (a b : ℕ) → pos a *ℤ negsuc b ≡ neg_ℤ (pos (a * suc b))
 turned_second a b = omega (arith, ints)
 
 turned_first : (a b : ℕ) → negsuc a *ℤ pos b ≡ neg_ℤ (pos (suc a * b))
 turned_first a b = omega (arith, ints)
-
-pub second_below : (e d : ℤ) (len : ℕ) → 0 < len → pos 0 ≤ℤ e → d <ℤ pos 0 → rdiv (e *ℤ d) (pos len) ≡ neg_ℤ (pos ((2 * (unsigned_abs e * unsigned_abs d) + len) / (2 * len)))
-unfolding rdiv
-second_below (pos a) (negsuc b) len l h k = ap (λ z. rdiv z (pos len)) (turned_second a b) ∙ rdiv-neg (pos (a * suc b)) (pos len) l
-second_below (pos a) (pos b) len l h k = absurd (omega (arith, ints))
-second_below (negsuc a) d len l h k = absurd (omega (arith, ints))
 
 pub first_below : (e d : ℤ) (len : ℕ) → 0 < len → e <ℤ pos 0 → pos 0 ≤ℤ d → rdiv (e *ℤ d) (pos len) ≡ neg_ℤ (pos ((2 * (unsigned_abs e * unsigned_abs d) + len) / (2 * len)))
 unfolding rdiv
@@ -89,7 +71,3 @@ share_all s k w total h e =
 
 pub share_none : (s k : ℤ) (total : ℕ) → 0 < total → share_of s k (pos 0) total ≡ pos 0
 share_none s k total h = ap (λ x. rdiv x (pos (256 * total))) (times_zero (s *ℤ k)) ∙ rdiv_zero (256 * total) (omega arith)
-
--- a quotient by 512
-pub by_512 : (a : ℕ) → (a + 256) / 512 ≡ (2 * a + 512) / (2 * 512)
-by_512 a = omega arith

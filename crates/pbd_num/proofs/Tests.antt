@@ -1,12 +1,10 @@
 -- What the exact tests of guesses say.
-use Rattle.std.proofs.Common.{◌≡◌, ℕ, suc, zero, ◌+◌, ◌*◌, ◌/◌, ◌-◌, ◌<◌, ◌≤◌, ◌^◌, refl, ap, ◌∙◌, sym, arith, pos, negsuc, ℤ, neg_ℤ, ◌+ℤ◌, ◌-ℤ◌, ◌*ℤ◌, ◌<ℤ◌, ◌≤ℤ◌, unsigned_abs}
+use Rattle.std.proofs.Common.{◌≡◌, ℕ, suc, zero, ◌+◌, ◌*◌, ◌/◌, ◌-◌, ◌<◌, ◌≤◌, ◌^◌, ap, sym, arith, pos, negsuc, ℤ, neg_ℤ, ◌+ℤ◌, ◌-ℤ◌, ◌*ℤ◌, ◌<ℤ◌, ◌≤ℤ◌, unsigned_abs}
 use Rattle.std.specs.Prelude.{IsTrue, int_le, int_lt}
 use Rattle.std.proofs.lemmas.Bool.Decides.{nat_tests}
 use Rattle.std.proofs.lemmas.Int.{ints}
 use Rattle.std.proofs.lemmas.Nat.{div-mul-add}
-use Rattle.std.proofs.Math.Nat.{mul-le-mul}
 use Rattle.pbd_num.specs.Rounding.{rdiv, root}
-use Rattle.pbd_num.proofs.Sizes.{square_of}
 use Rattle.pbd_num.proofs.RoundingLemmas.{root_is, rdiv-neg}
 
 -- what tests say

@@ -6,19 +6,16 @@ ghost use Rattle.pbd_num.specs.Rounding.{rdiv as rounded, root as whole_root};
 ghost use Rattle.pbd_num.specs.Vectors.{Within, minus, squared_length, length_of, opposite, is_axis_within, is_within};
 ghost use Rattle.pbd_num.specs.PairMove.{share_of, along, corrections, shares, pair_moves};
 
-mod guess;
 mod laws;
 mod near;
 mod tried;
 mod vectors;
 
-pub use guess::{
-    Inverse, Raised, is_quotient, is_root, low, lowered, near_inverse_root, near_root, part_of_512,
-    raise, short, with_sign,
-};
 pub use laws::{
     axes_are_within_the_length, equal_weights_move_oppositely, roots_are_greatest, rounding_is_odd,
 };
+use near::near_root;
+use tried::is_root;
 pub use tried::{Draw, TriedMoves, Weights, try_moves};
 pub use vectors::square;
 
@@ -77,39 +74,27 @@ fn stepped_up(n: u64, start: u64) -> u64
     r
 }
 
-/// A number near a root, and near the inverse of the root.
-#[derive(Clone, Copy)]
-struct Guessed {
-    root: u64,
-    inverse: Inverse,
-}
-
-fn guess_root(n: u64) -> Guessed
-    ensures { result.root < 2 ^ 32 }
-{
-    let raised = raise(n);
-    let inverse = near_inverse_root(raised.high, raised.seed);
-    Guessed {
-        root: low(near_root(raised.high, inverse).wrapping_shr(raised.half)),
-        inverse: Inverse {
-            scale: 1u64.wrapping_shl(raised.half),
-            inverse,
-        },
-    }
-}
-
-/// The root of a number, from a guess.
-fn mended_root(n: u64, guess: u64) -> u64
+/// The root of a number, by steps from a guess.
+#[inline(never)]
+fn stepped_root(n: u64, guess: u64) -> u64
     requires size { n < 2 ^ 63 }
     requires guess { guess < 2 ^ 32 }
     ensures value { result ≡ whole_root n }
     ensures size { result < 2 ^ 32 }
 {
-    if is_root(n, guess) {
-        guess
+    stepped_up(n, stepped_down(n, guess))
+}
+
+/// A number near a root: from 2^62 up, where [`near_root`] guesses none, twice that of a fourth.
+fn guess_root(n: i64) -> u64
+    ensures { result < 2 ^ 32 }
+{
+    let near = if n < 4_611_686_018_427_387_904 {
+        near_root(n).root
     } else {
-        stepped_up(n, stepped_down(n, guess))
-    }
+        2 * near_root(n / 4).root
+    };
+    near.unsigned_abs()
 }
 
 /// The greatest whole number whose square is at most `n`.
@@ -117,8 +102,12 @@ pub fn root(n: i64) -> i64
     requires { pos 0 ≤ℤ n }
     ensures { result ≡ pos (whole_root (unsigned_abs n)) }
 {
-    let size = n.unsigned_abs();
-    mended_root(size, guess_root(size).root) as i64
+    let near = near_root(n).root;
+    if is_root(n, near) {
+        near
+    } else {
+        stepped_root(n.unsigned_abs(), guess_root(n)) as i64
+    }
 }
 
 /// Whether a number lies in `-limit..=limit`.
@@ -162,30 +151,8 @@ pub fn inside(v: Vec3) -> bool
     within(v, RANGE)
 }
 
-/// A length, and its inverse to guess quotients by.
-#[derive(Clone, Copy)]
-struct Measured {
-    len: i64,
-    inverse: Inverse,
-}
-
-fn measure(d: Vec3) -> Measured
-    requires { Within (2 ^ 30) d }
-    ensures value { result.len ≡ pos (length_of d) }
-    ensures size { length_of d < 2 ^ 31 }
-{
-    let square = d.squared_length().unsigned_abs();
-    let guess = guess_root(square);
-    let len = mended_root(square, guess.root);
-    Measured {
-        len: len as i64,
-        inverse: guess.inverse.nearer(len),
-    }
-}
-
-// e * d / len by a division.
-#[inline(never)]
-fn divided_part(e: i64, d: i64, len: i64) -> i64
+/// The part of an error `e` along an axis `d` of a vector of length `len`.
+fn part(e: i64, d: i64, len: i64) -> i64
     requires error { unsigned_abs e ≤ 2 ^ 31 }
     requires axis { unsigned_abs d ≤ 2 ^ 30 }
     requires axis_in_length { unsigned_abs d ≤ unsigned_abs len }
@@ -197,28 +164,7 @@ fn divided_part(e: i64, d: i64, len: i64) -> i64
     rdiv(e * d, len)
 }
 
-/// The part of an error `e` along an axis `d` of a vector of length `len`: a division only where the guess is wrong.
-fn part(e: i64, d: i64, len: i64, inverse: Inverse) -> i64
-    requires error { unsigned_abs e ≤ 2 ^ 31 }
-    requires axis { unsigned_abs d ≤ 2 ^ 30 }
-    requires axis_in_length { unsigned_abs d ≤ unsigned_abs len }
-    requires length { pos 0 <ℤ len }
-    requires length_size { unsigned_abs len < 2 ^ 31 }
-    ensures value { result ≡ along e d (unsigned_abs len) }
-    ensures size { unsigned_abs result ≤ 2 ^ 31 }
-{
-    let error = e.unsigned_abs();
-    let axis = d.unsigned_abs();
-    let whole = len.unsigned_abs();
-    let guess = inverse.quotient(error, axis, whole);
-    if is_quotient(error * axis, whole, guess) {
-        with_sign(e, d, guess)
-    } else {
-        divided_part(e, d, len)
-    }
-}
-
-fn correction(d: Vec3, len: i64, inverse: Inverse, rest: i64) -> Vec3
+fn correction(d: Vec3, len: i64, rest: i64) -> Vec3
     requires size { Within (2 ^ 30) d }
     requires length { len ≡ pos (length_of d) }
     requires length_size { length_of d < 2 ^ 31 }
@@ -230,27 +176,13 @@ fn correction(d: Vec3, len: i64, inverse: Inverse, rest: i64) -> Vec3
 {
     let e = len - rest;
     Vec3 {
-        x: part(e, d.x, len, inverse),
-        y: part(e, d.y, len, inverse),
-        z: part(e, d.z, len, inverse),
+        x: part(e, d.x, len),
+        y: part(e, d.y, len),
+        z: part(e, d.z, len),
     }
 }
 
-// s * k * w / (256 * total) by a division.
-#[inline(never)]
-fn divided_share(s: i64, k: i64, w: i64, total: i64) -> i64
-    requires size { unsigned_abs s ≤ 2 ^ 31 }
-    requires stiffness { unsigned_abs k ≤ 256 }
-    requires weight { unsigned_abs w ≤ unsigned_abs total }
-    requires total_low { pos 0 <ℤ total }
-    requires total_high { unsigned_abs total ≤ 131070 }
-    ensures value { result ≡ share_of s k w (unsigned_abs total) }
-    ensures size { unsigned_abs result ≤ 2 ^ 31 }
-{
-    rdiv(s * k * w, 256 * total)
-}
-
-/// The share of a correction: a division only where the weight is neither half of `total`, nor none or all of it.
+/// The share of a correction `s` that stiffness k / 256 and weight `w` out of `total` give.
 fn share_axis(s: i64, k: i64, w: i64, total: i64) -> i64
     requires size { unsigned_abs s ≤ 2 ^ 31 }
     requires stiffness { unsigned_abs k ≤ 256 }
@@ -260,15 +192,7 @@ fn share_axis(s: i64, k: i64, w: i64, total: i64) -> i64
     ensures value { result ≡ share_of s k w (unsigned_abs total) }
     ensures size { unsigned_abs result ≤ 2 ^ 31 }
 {
-    if 2 * w == total {
-        part_of_512(s, k)
-    } else if w == 0 {
-        0
-    } else if w == total {
-        part_of_512(s, 2 * k)
-    } else {
-        divided_share(s, k, w, total)
-    }
+    rdiv(s * k * w, 256 * total)
 }
 
 fn share(s: Vec3, k: i64, w: i64, total: i64) -> Vec3
@@ -305,14 +229,26 @@ pub fn pair_move(a: Vec3, b: Vec3, rest: i64, k: i64, wa: i64, wb: i64) -> (Vec3
     ensures first_size { Within (2 ^ 31) result.0 }
     ensures second_size { Within (2 ^ 31) result.1 }
 {
+    let draw = Draw {
+        rest,
+        k,
+        reach: 2_147_483_648,
+    };
+    let weights = Weights {
+        first: wa,
+        second: wb,
+    };
+    let tried = try_moves(a, b, draw, weights);
+    if tried.right {
+        return (tried.first, tried.second);
+    }
     let d = a.minus(b);
-    let measured = measure(d);
-    let len = measured.len;
+    let len = d.length();
     let total = wa + wb;
     if len == 0 || total == 0 {
         return (Vec3::ZERO, Vec3::ZERO);
     }
-    let s = correction(d, len, measured.inverse, rest);
+    let s = correction(d, len, rest);
     (share(s, k, wa, total).opposite(), share(s, k, wb, total))
 }
 

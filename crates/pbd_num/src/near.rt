@@ -15,7 +15,7 @@ fn product(a: u64, b: u64) -> u64 {
     low(a).wrapping_mul(low(b))
 }
 
-/// A number shifted left by an even count to 2^60 and above, 2 to the half of that count, and 2^32 over this.
+/// A number shifted left by an even count to 2^60 and above, 2 to the half of that count, and 2^31 over this.
 #[derive(Clone, Copy)]
 struct Raised {
     number: i64,
@@ -29,7 +29,7 @@ fn raise(n: i64) -> Raised {
     Raised {
         number: n.wrapping_shl(half.wrapping_mul(2)),
         scale: 1u64.wrapping_shl(half),
-        down: 4_294_967_296u64.wrapping_shr(half),
+        down: 2_147_483_648u64.wrapping_shr(half),
     }
 }
 
@@ -79,7 +79,7 @@ pub(crate) fn near_root(n: i64) -> NearRoot
     let high = (raised.number >> 30).cast_unsigned();
     let near = near_inverse_root(high);
     let whole = (product(high, near) >> 30).wrapping_add(16);
-    let root = lowered(n, product(whole, raised.down) >> 32);
+    let root = lowered(n, product(whole, raised.down) >> 31);
     let over = product(root.cast_unsigned().wrapping_mul(raised.scale), near) >> 29;
     NearRoot {
         root,

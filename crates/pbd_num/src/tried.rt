@@ -76,7 +76,11 @@ fn half_of(length: i64, n: i64) -> i64
     ensures below { n <ℤ pos 0 → pos 0 <ℤ length → result ≡ pos ((unsigned_abs length - 1) / 2) }
     ensures size { unsigned_abs result < 2 ^ 31 }
 {
-    if n < 0 { (length + 1) / 2 - 1 } else { length / 2 }
+    if n < 0 {
+        (length + 1) / 2 - 1
+    } else {
+        length / 2
+    }
 }
 
 /// Whether `q` is `n / length`, rounded.
@@ -100,7 +104,11 @@ fn raise(p: i64) -> i64
     ensures low { pos 0 ≤ℤ result }
     ensures high { unsigned_abs result ≤ 2 ^ 42 }
 {
-    p + if p < 0 { 2_199_023_255_807 } else { 2_199_023_255_808 }
+    p + if p < 0 {
+        2_199_023_255_807
+    } else {
+        2_199_023_255_808
+    }
 }
 
 /// `p / 512`, rounded.

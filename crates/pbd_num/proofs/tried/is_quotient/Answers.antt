@@ -1,5 +1,5 @@
-use Rattle.std.proofs.Common.{arith, ap, ◌*ℤ◌, ◌+ℤ◌, ◌^◌, unsigned_abs, w64, FitsSigned}
-use Rattle.std.proofs.lemmas.Int.{ints, to_z-of_z}
+use Rattle.std.proofs.Common.{arith, ap, ◌+ℤ◌, w64, FitsSigned}
+use Rattle.std.proofs.lemmas.Int.{to_z-of_z}
 use Rattle.std.proofs.lemmas.Bool.{and_parts}
 use Rattle.pbd_num.proofs.Sizes.{fits, size-add}
 use Rattle.pbd_num.proofs.Tests.{at_most, less, quotient_by_rest}

@@ -1,8 +1,8 @@
-use Rattle.std.proofs.Common.{arith, ◌*◌, ◌*ℤ◌, ◌-ℤ◌, ◌^◌, ◌≤◌, ◌<◌, pos, unsigned_abs}
+use Rattle.std.proofs.Common.{arith, ◌*◌, ◌*ℤ◌, ◌-ℤ◌, ◌^◌, ◌<◌, pos, unsigned_abs}
 use Rattle.std.proofs.lemmas.Int.{ints, to_z-of_z}
 use Rattle.std.proofs.lemmas.Bool.{and_parts}
 use Rattle.std.proofs.Math.Nat.{mul-le-mul}
-use Rattle.pbd_num.proofs.Sizes.{fits, size-sub, square_of, size_at_most}
+use Rattle.pbd_num.proofs.Sizes.{fits, square_of, size_at_most}
 use Rattle.pbd_num.proofs.Tests.{at_most, root_by_rest}
 use Rattle.pbd_num.proofs.tried.is_root.Goals as goal
 

@@ -1,6 +1,5 @@
-use Rattle.std.proofs.Common.{arith, to_z, w64, ◌-ℤ◌, ◌/◌, ◌<◌, ◌≤◌, ◌^◌, pos, unsigned_abs, ◌⊎◌, inl, inr, ◌≤ℤ◌, ◌<ℤ◌, ℤ, negsuc, ◌≡◌, ◌∙◌}
+use Rattle.std.proofs.Common.{arith, to_z, w64, ◌-ℤ◌, ◌/◌, ◌≤◌, ◌^◌, pos, unsigned_abs, ◌≡◌}
 use Rattle.std.proofs.lemmas.Int.{ints, to_z-of_z}
-use Rattle.pbd_num.specs.Rounding.{rdiv}
 use Rattle.pbd_num.proofs.Sizes.{fits}
 use Rattle.pbd_num.proofs.RoundingLemmas.{size-rdiv}
 use Rattle.pbd_num.proofs.Tests.{part_by_raised}

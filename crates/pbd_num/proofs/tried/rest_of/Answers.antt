@@ -1,4 +1,4 @@
-use Rattle.std.proofs.Common.{arith, ◌*ℤ◌, ◌-ℤ◌, ◌*◌, ◌-◌, ◌^◌, ◌≤◌, unsigned_abs}
+use Rattle.std.proofs.Common.{arith, ◌*ℤ◌, ◌-ℤ◌, ◌-◌, ◌^◌, ◌≤◌, unsigned_abs}
 use Rattle.std.proofs.lemmas.Int.{ints, to_z-of_z}
 use Rattle.pbd_num.proofs.Sizes.{fits, size-sub, size-mul, size_le}
 use Rattle.pbd_num.proofs.tried.rest_of.Goals as goal

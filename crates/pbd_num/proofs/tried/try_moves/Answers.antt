@@ -1,8 +1,7 @@
-use Rattle.std.proofs.Common.{arith, ◌≡◌, ◌∙◌, ap, sym, refl, ◌^◌, ◌+◌, ◌*◌, ◌<◌, ◌≤◌, pos, ℤ, ◌-ℤ◌, ◌*ℤ◌, ◌<ℤ◌, ◌≤ℤ◌, unsigned_abs, w32, w64, FitsSigned}
-use Rattle.std.specs.Prelude.{IsTrue}
+use Rattle.std.proofs.Common.{arith, ◌≡◌, ◌∙◌, ap, sym, refl, ◌^◌, pos, ◌*ℤ◌, ◌<ℤ◌, w32}
 use Rattle.std.proofs.lemmas.Int.{ints, to_z-of_z, fits_signed_from_abs}
 use Rattle.std.proofs.lemmas.Bool.{and_parts}
-use Rattle.pbd_num.specs.Vectors.{Within, minus, opposite, length_of, zero_vector}
+use Rattle.pbd_num.specs.Vectors.{minus, opposite, length_of, zero_vector}
 use Rattle.pbd_num.specs.declared.Vec3.{Vec3}
 use Rattle.pbd_num.proofs.Sizes.{fits, size_at_most}
 use Rattle.pbd_num.proofs.Ends.{Even, parts_of, same_axes, both_moves, no_move, part_of_none}

@@ -1,4 +1,4 @@
-use Rattle.std.proofs.Common.{arith, ◌*◌, ◌+◌, ◌^◌, ◌≤◌, pos, unsigned_abs, w32, ◌≡◌, ◌∙◌}
+use Rattle.std.proofs.Common.{arith, ◌*◌, ◌+◌, pos, unsigned_abs, w32, ◌∙◌}
 use Rattle.std.proofs.lemmas.Int.{to_z-of_z, fits_signed_from_abs}
 use Rattle.std.proofs.Math.Nat.{mul-le-mul}
 use Rattle.pbd_num.proofs.Sizes.{fits, square_of}
