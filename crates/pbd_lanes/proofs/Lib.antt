@@ -1,2 +1,1 @@
-pub mod Evens
 pub mod Summing

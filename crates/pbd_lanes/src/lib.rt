@@ -1,19 +1,10 @@
 //! L whole numbers, or L truth values, side by side. L is one of 1, 2, 4, 8 and 16.
 #![tactic(auto)]
 
-ghost use Rattle.std.specs.Prelude.{◌≡◌, ℕ, ◌+◌, ◌*◌, ◌<◌, ◌≤◌, ◌^◌, pos, ◌+ℤ◌, ◌-ℤ◌, ◌*ℤ◌, ◌<ℤ◌, ◌≤ℤ◌, IsTrue, unsigned_abs, FitsSigned, int_lt, ◌&&◌, if◌then◌else◌, position, IfSome};
-ghost use Rattle.std.specs.Int.{w64};
-ghost use Rattle.pbd_num.specs.Rounding.{rdiv as rounded, root as whole_root};
-ghost use Rattle.pbd_num.specs.Vectors.{is_axis_within};
+ghost use Rattle.std.specs.Prelude.{◌≡◌, ℕ, ◌+◌, ◌*◌, ◌<◌, ◌≤◌, ◌^◌, ◌+ℤ◌, unsigned_abs, ◌&&◌, if◌then◌else◌, position, IfSome};
 ghost use Rattle.pbd_lanes.specs.Lane.{lane, is_set, lanes_of, sum_below};
 
-use pbd_num::{axis_within, rdiv, root};
 use std::marker::Model;
-
-mod roots;
-mod shares;
-
-pub use roots::Roots;
 
 /// L numbers, which contracts see as a list of L.
 #[derive(Clone, Copy)]
@@ -49,24 +40,6 @@ impl<const L: usize> Model for Mask<L> {
     ghost invariant = { λ a. length a.set ≡ L };
 
     ghost inverse = { λ v. record { set = v } };
-}
-
-#[inline(always)]
-fn still_within(right: bool, n: i64, limit: i64) -> bool
-    requires low { pos 0 ≤ℤ limit }
-    requires high { unsigned_abs limit ≤ 2 ^ 29 }
-    ensures right { IsTrue result → IsTrue right }
-    ensures within { IsTrue result → IsTrue (is_axis_within limit n) }
-{
-    right & axis_within(n, limit)
-}
-
-#[inline(always)]
-fn still_less(right: bool, a: i64, b: i64, set: bool) -> bool
-    ensures right { IsTrue result → IsTrue right }
-    ensures less { IsTrue result → IsTrue set → a <ℤ b }
-{
-    right & ((a < b) | !set)
 }
 
 #[inline(always)]
@@ -124,57 +97,6 @@ impl<const L: usize> Lanes<L> {
         self.values[j] = value;
     }
 
-    /// The sums, lane by lane. Each has to fit 64 bits.
-    #[inline(always)]
-    pub fn add(&self, other: &Lanes<L>) -> Lanes<L>
-        requires { (j : ℕ) → j < L → FitsSigned w64 (lane self.now j +ℤ lane other.now j) }
-        ensures { result ≡ lanes_of L (λ j. lane self.now j +ℤ lane other.now j) }
-    {
-        let mut values = [0; L];
-        for j in 0..L {
-            values[j] = self.values[j] + other.values[j];
-        }
-        Lanes { values }
-    }
-
-    /// The differences, lane by lane. Each has to fit 64 bits.
-    #[inline(always)]
-    pub fn sub(&self, other: &Lanes<L>) -> Lanes<L>
-        requires { (j : ℕ) → j < L → FitsSigned w64 (lane self.now j -ℤ lane other.now j) }
-        ensures { result ≡ lanes_of L (λ j. lane self.now j -ℤ lane other.now j) }
-    {
-        let mut values = [0; L];
-        for j in 0..L {
-            values[j] = self.values[j] - other.values[j];
-        }
-        Lanes { values }
-    }
-
-    /// The products, lane by lane. Each has to fit 64 bits.
-    #[inline(always)]
-    pub fn mul(&self, other: &Lanes<L>) -> Lanes<L>
-        requires { (j : ℕ) → j < L → FitsSigned w64 (lane self.now j *ℤ lane other.now j) }
-        ensures { result ≡ lanes_of L (λ j. lane self.now j *ℤ lane other.now j) }
-    {
-        let mut values = [0; L];
-        for j in 0..L {
-            values[j] = self.values[j] * other.values[j];
-        }
-        Lanes { values }
-    }
-
-    /// Where this is less than the other.
-    #[inline(always)]
-    pub fn less(&self, other: &Lanes<L>) -> Mask<L>
-        ensures { result ≡ lanes_of L (λ j. int_lt (lane self.now j) (lane other.now j)) }
-    {
-        let mut set = [false; L];
-        for j in 0..L {
-            set[j] = self.values[j] < other.values[j];
-        }
-        Mask { set }
-    }
-
     /// The lanes of `yes` where the mask is set, and of `no` elsewhere.
     #[inline(always)]
     pub fn select(mask: &Mask<L>, yes: &Lanes<L>, no: &Lanes<L>) -> Lanes<L>
@@ -189,65 +111,6 @@ impl<const L: usize> Lanes<L> {
             };
         }
         Lanes { values }
-    }
-
-    /// The quotients, rounded with halves away from zero, where the mask is set, and 0 elsewhere.
-    /// There the divisor is in 1..=2^40 and the dividend at most 2^61 in size.
-    #[inline(always)]
-    pub fn rdiv_lanes(n: &Lanes<L>, d: &Lanes<L>, mask: &Mask<L>) -> Lanes<L>
-        requires divisor { (j : ℕ) → j < L → IsTrue (is_set mask.now j) → pos 0 <ℤ lane d.now j }
-        requires divisor_size { (j : ℕ) → j < L → IsTrue (is_set mask.now j) → unsigned_abs (lane d.now j) ≤ 2 ^ 40 }
-        requires size { (j : ℕ) → j < L → IsTrue (is_set mask.now j) → unsigned_abs (lane n.now j) ≤ 2 ^ 61 }
-        ensures { result ≡ lanes_of L (λ j. if is_set mask.now j then rounded (lane n.now j) (lane d.now j) else pos 0) }
-    {
-        let mut values = [0; L];
-        for j in 0..L {
-            if mask.set[j] {
-                values[j] = rdiv(n.values[j], d.values[j]);
-            }
-        }
-        Lanes { values }
-    }
-
-    /// The square roots, rounded down, where the mask is set, and 0 elsewhere. There the number isn't below 0.
-    #[inline(always)]
-    pub fn root_lanes(n: &Lanes<L>, mask: &Mask<L>) -> Lanes<L>
-        requires { (j : ℕ) → j < L → IsTrue (is_set mask.now j) → pos 0 ≤ℤ lane n.now j }
-        ensures { result ≡ lanes_of L (λ j. if is_set mask.now j then pos (whole_root (unsigned_abs (lane n.now j))) else pos 0) }
-    {
-        let mut values = [0; L];
-        for j in 0..L {
-            if mask.set[j] {
-                values[j] = root(n.values[j]);
-            }
-        }
-        Lanes { values }
-    }
-
-    /// Whether each number lies in `-limit..=limit`.
-    #[inline(always)]
-    pub fn are_within(&self, limit: i64) -> bool
-        requires low { pos 0 ≤ℤ limit }
-        requires high { unsigned_abs limit ≤ 2 ^ 29 }
-        ensures { IsTrue result → (j : ℕ) → j < L → IsTrue (is_axis_within limit (lane self.now j)) }
-    {
-        let mut all = true;
-        for j in 0..L {
-            all = still_within(all, self.values[j], limit);
-        }
-        all
-    }
-
-    /// Whether each number is less than the other where the mask is set.
-    #[inline(always)]
-    pub fn are_less(&self, other: &Lanes<L>, mask: &Mask<L>) -> bool
-        ensures { IsTrue result → (j : ℕ) → j < L → IsTrue (is_set mask.now j) → lane self.now j <ℤ lane other.now j }
-    {
-        let mut all = true;
-        for j in 0..L {
-            all = still_less(all, self.values[j], other.values[j], mask.set[j]);
-        }
-        all
     }
 
     /// The sum of these numbers and others.
