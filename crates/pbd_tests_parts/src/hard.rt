@@ -1,7 +1,7 @@
 //! Hard pairs: short lengths, quotients at halves, all weights.
 use crate::num::moves;
 use crate::places::at;
-use pbd_num::Vec3;
+use pbd_num::{Draw, Vec3, Weights, inside, try_moves};
 use std::process::Abort;
 
 fn place(axes: [i64; 3]) -> Vec3 {
@@ -147,11 +147,37 @@ const HARD_PAIRS: [HardPair; 30] = [
     ),
 ];
 
+fn axes(moves: (Vec3, Vec3)) -> [[i64; 3]; 2] {
+    let (first, second) = moves;
+    [[first.x, first.y, first.z], [second.x, second.y, second.z]]
+}
+
 /// The moves of a pair that is in range, by axes.
 fn moves_by_axes(rt: &impl Abort, pair: &HardPair) -> [[i64; 3]; 2] {
     let (a, b, rest, k, wa, wb, _) = *pair;
-    let (first, second) = moves(rt, place(a), place(b), rest, k, wa, wb);
-    [[first.x, first.y, first.z], [second.x, second.y, second.z]]
+    axes(moves(rt, place(a), place(b), rest, k, wa, wb))
+}
+
+/// The same, guessed, where the pair is nearer than `reach`, if the guess is right.
+fn tried_by_axes(rt: &impl Abort, pair: &HardPair, reach: i64) -> Option<[[i64; 3]; 2]> {
+    let (a, b, rest, k, wa, wb, _) = *pair;
+    let (first, second) = (place(a), place(b));
+    assert!(rt; inside(first) && inside(second) && rest <= 1 << 31 && k <= 256);
+    let draw = Draw {
+        rest: rest as i64,
+        k: k as i64,
+        reach,
+    };
+    let weights = Weights {
+        first: wa as i64,
+        second: wb as i64,
+    };
+    let tried = try_moves(first, second, draw, weights);
+    if tried.right {
+        Some(axes((tried.first, tried.second)))
+    } else {
+        None
+    }
 }
 
 #[test]
@@ -159,4 +185,20 @@ fn moves_hard_pairs(rt: HostRuntime) {
     for pair in &HARD_PAIRS {
         assert_eq!(rt; moves_by_axes(&rt, pair), pair.6, "{pair:?}");
     }
+}
+
+// No guess is right where there is no length, or neither weight is 0 and they differ; and few are where a length is above 2^27.
+#[test]
+fn tries_hard_pairs(rt: HostRuntime) {
+    let mut right = 0u32;
+    for pair in &hard_pairs() {
+        if let Some(by) = tried_by_axes(&rt, pair, 1 << 31) {
+            assert_eq!(rt; by, pair.6, "{pair:?}");
+            right = right.wrapping_add(1);
+        }
+        if let Some(by) = tried_by_axes(&rt, pair, 0) {
+            assert_eq!(rt; by, [[0; 3]; 2], "{pair:?}");
+        }
+    }
+    assert_eq!(rt; right, 16);
 }

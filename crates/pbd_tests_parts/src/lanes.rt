@@ -1,59 +1,64 @@
 //! Each call at each width, over whole arrays.
-ghost use Rattle.std.specs.Prelude.{◌≡◌, ◌≤◌, IsTrue, length};
+ghost use Rattle.std.specs.Prelude.{◌≡◌, ◌<◌, ◌≤◌, IsTrue};
 ghost use Rattle.std.specs.List.{list_all};
-ghost use Rattle.pbd_tests_parts.specs.Small.{is_small, is_divisor};
+ghost use Rattle.pbd_tests_parts.specs.Small.{is_small};
 
 use pbd_lanes::{Lanes, Mask};
 
 #[derive(Clone, Copy, Drop, PartialEq)]
 struct Seen<const L: usize> {
-    sum: [i64; L],
-    difference: [i64; L],
-    product: [i64; L],
-    less: [bool; L],
+    sum: i64,
     chosen: [i64; L],
-    quotient: [i64; L],
-    root: [i64; L],
     both: [bool; L],
     first: Option<usize>,
     ones: [i64; L],
 }
 
-fn see<const L: usize>(a: [i64; L], b: [i64; L], set: [bool; L]) -> Seen<L>
+fn see<const L: usize>(a: [i64; L], b: [i64; L], set: [bool; L], other: [bool; L]) -> Seen<L>
     requires lanes { L ≤ 16 }
-    requires wide { length b ≡ L }
     requires a { IsTrue (list_all is_small a) }
-    requires b { IsTrue (list_all is_divisor b) }
+    requires b { IsTrue (list_all is_small b) }
 {
     let x = Lanes::from_array(a);
     let y = Lanes::from_array(b);
     let mask = Mask::from_array(set);
-    let less = x.less(&y);
+    let both = mask.and(&Mask::from_array(other));
     Seen {
-        sum: x.add(&y).to_array(),
-        difference: x.sub(&y).to_array(),
-        product: x.mul(&y).to_array(),
-        less: less.to_array(),
+        sum: x.sum_with(&y),
         chosen: Lanes::select(&mask, &x, &y).to_array(),
-        quotient: Lanes::rdiv_lanes(&x, &y, &mask).to_array(),
-        root: Lanes::root_lanes(&y, &mask).to_array(),
-        both: mask.and(&less).to_array(),
-        first: less.and(&mask).first(),
+        both: both.to_array(),
+        first: both.first(),
         ones: Lanes::splat(1).to_array(),
     }
 }
 
+/// Four lanes, what was put into one of them, and what one of them has.
+fn changed(put: usize, seen: usize) -> ([i64; 4], [bool; 4], i64, bool)
+    requires put { put < 4 }
+    requires seen { seen < 4 }
+{
+    let mut numbers: Lanes<4> = Lanes::splat(3);
+    let mut mask: Mask<4> = Mask::splat(false);
+    numbers.put(put, 8);
+    mask.put(put, true);
+    let (number, set) = (numbers.at(seen), mask.at(seen));
+    (numbers.to_array(), mask.to_array(), number, set)
+}
+
+#[test]
+fn puts_into_one_lane(rt: HostRuntime) {
+    let first = ([8, 3, 3, 3], [true, false, false, false], 3, false);
+    let third = ([3, 3, 8, 3], [false, false, true, false], 8, true);
+    assert!(rt; changed(0, 3) == first);
+    assert!(rt; changed(2, 2) == third);
+}
+
 #[test]
 fn width_1(rt: HostRuntime) {
-    let seen = see([-2], [4], [false]);
+    let seen = see([-2], [4], [false], [true]);
     let wanted = Seen {
-        sum: [2],
-        difference: [-6],
-        product: [-8],
-        less: [true],
+        sum: 2,
         chosen: [4],
-        quotient: [0],
-        root: [0],
         both: [false],
         first: None,
         ones: [1],
@@ -63,15 +68,10 @@ fn width_1(rt: HostRuntime) {
 
 #[test]
 fn width_2(rt: HostRuntime) {
-    let seen = see([6, -2], [5, 4], [true, true]);
+    let seen = see([6, -2], [5, 4], [true, true], [false, true]);
     let wanted = Seen {
-        sum: [11, 2],
-        difference: [1, -6],
-        product: [30, -8],
-        less: [false, true],
+        sum: 13,
         chosen: [6, -2],
-        quotient: [1, -1],
-        root: [2, 2],
         both: [false, true],
         first: Some(1),
         ones: [1, 1],
@@ -81,15 +81,15 @@ fn width_2(rt: HostRuntime) {
 
 #[test]
 fn width_4(rt: HostRuntime) {
-    let seen = see([-9, 4, 6, -2], [6, 8, 5, 4], [false, false, true, true]);
+    let seen = see(
+        [-9, 4, 6, -2],
+        [6, 8, 5, 4],
+        [false, false, true, true],
+        [true, true, false, true],
+    );
     let wanted = Seen {
-        sum: [-3, 12, 11, 2],
-        difference: [-15, -4, 1, -6],
-        product: [-54, 32, 30, -8],
-        less: [true, true, false, true],
+        sum: 22,
         chosen: [6, 8, 6, -2],
-        quotient: [0, 0, 1, -1],
-        root: [0, 0, 2, 2],
         both: [false, false, false, true],
         first: Some(3),
         ones: [1, 1, 1, 1],
@@ -103,15 +103,11 @@ fn width_8(rt: HostRuntime) {
         [2, -6, 7, 1, -9, 4, 6, -2],
         [4, 7, 2, 3, 6, 8, 5, 4],
         [false, true, false, true, true, false, true, true],
+        [true, true, false, true, true, true, false, true],
     );
     let wanted = Seen {
-        sum: [6, 1, 9, 4, -3, 12, 11, 2],
-        difference: [-2, -13, 5, -2, -15, -4, 1, -6],
-        product: [8, -42, 14, 3, -54, 32, 30, -8],
-        less: [true, true, false, true, true, true, false, true],
+        sum: 42,
         chosen: [4, -6, 2, 1, -9, 8, 6, -2],
-        quotient: [0, -1, 0, 0, -2, 0, 1, -1],
-        root: [0, 2, 0, 1, 2, 0, 2, 2],
         both: [false, true, false, true, true, false, false, true],
         first: Some(1),
         ones: [1, 1, 1, 1, 1, 1, 1, 1],
@@ -128,20 +124,14 @@ fn width_16(rt: HostRuntime) {
             true, false, true, true, false, true, true, false, false, true, false, true, true,
             false, true, true,
         ],
-    );
-    let wanted = Seen {
-        sum: [-5, 8, 4, 11, 2, 13, 5, -1, 6, 1, 9, 4, -3, 12, 11, 2],
-        difference: [-9, 2, -4, 7, -4, 3, 1, -7, -2, -13, 5, -2, -15, -4, 1, -6],
-        product: [
-            -14, 15, 0, 18, -3, 40, 6, -12, 8, -42, 14, 3, -54, 32, 30, -8,
-        ],
-        less: [
+        [
             true, false, true, false, true, false, false, true, true, true, false, true, true,
             true, false, true,
         ],
+    );
+    let wanted = Seen {
+        sum: 79,
         chosen: [-7, 3, 0, 9, 3, 8, 3, 3, 4, -6, 2, 1, -9, 8, 6, -2],
-        quotient: [-4, 0, 0, 5, 0, 2, 2, 0, 0, -1, 0, 0, -2, 0, 1, -1],
-        root: [1, 0, 2, 1, 0, 2, 1, 0, 0, 2, 0, 1, 2, 0, 2, 2],
         both: [
             true, false, true, false, false, false, false, false, false, true, false, true, true,
             false, false, true,
