@@ -191,7 +191,7 @@ fn moves_hard_pairs(rt: HostRuntime) {
 #[test]
 fn tries_hard_pairs(rt: HostRuntime) {
     let mut right = 0u32;
-    for pair in &hard_pairs() {
+    for pair in &HARD_PAIRS {
         if let Some(by) = tried_by_axes(&rt, pair, 1 << 31) {
             assert_eq!(rt; by, pair.6, "{pair:?}");
             right = right.wrapping_add(1);
