@@ -172,7 +172,8 @@ impl Way {
         requires x { unsigned_abs self.x ≤ 2 ^ 30 }
         requires y { unsigned_abs self.y ≤ 2 ^ 30 }
         requires z { unsigned_abs self.z ≤ 2 ^ 30 }
-        ensures { result ≡ pos (unsigned_abs self.x * unsigned_abs self.x + unsigned_abs self.y * unsigned_abs self.y + unsigned_abs self.z * unsigned_abs self.z) }
+        ensures { result ≡ pos (unsigned_abs self.x * unsigned_abs self.x + unsigned_abs self.y * unsigned_abs self.y
+            + unsigned_abs self.z * unsigned_abs self.z) }
     {
         product(self.x, self.x) + product(self.y, self.y) + product(self.z, self.z)
     }
@@ -184,7 +185,8 @@ impl Way {
         requires y { unsigned_abs self.y ≤ 2 ^ 30 }
         requires z { unsigned_abs self.z ≤ 2 ^ 30 }
         ensures value { IsTrue result.right → result.length
-            ≡ pos (whole_root (unsigned_abs self.x * unsigned_abs self.x + unsigned_abs self.y * unsigned_abs self.y + unsigned_abs self.z * unsigned_abs self.z)) }
+            ≡ pos (whole_root (unsigned_abs self.x * unsigned_abs self.x + unsigned_abs self.y * unsigned_abs self.y
+            + unsigned_abs self.z * unsigned_abs self.z)) }
         ensures some { IsTrue result.right → pos 0 <ℤ result.length }
         ensures low { pos 0 ≤ℤ result.length }
         ensures high { result.length <ℤ pos (2 ^ 31) }

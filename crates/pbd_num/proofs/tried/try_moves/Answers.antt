@@ -1,11 +1,137 @@
-use Rattle.std.proofs.Common.{arith, ◌≡◌, ◌∙◌, ap, sym, refl, ◌^◌, pos, ◌*ℤ◌, ◌<ℤ◌, w32}
+use Rattle.std.proofs.Common.{arith, ◌≡◌, ◌∙◌, ap, sym, refl, ◌^◌, pos, ◌*ℤ◌, ◌<ℤ◌, w32, IsTrue, Bool, ◌&&◌, FitsSigned, w64, ◌≤ℤ◌}
 use Rattle.std.proofs.lemmas.Int.{ints, to_z-of_z, fits_signed_from_abs}
 use Rattle.std.proofs.lemmas.Bool.{and_parts}
 use Rattle.pbd_num.specs.Vectors.{minus, opposite, length_of, zero_vector}
 use Rattle.pbd_num.specs.declared.Vec3.{Vec3}
 use Rattle.pbd_num.proofs.Sizes.{fits, size_at_most}
+use Rattle.pbd_num.proofs.VectorSizes.{FitAxes, fit_axes}
 use Rattle.pbd_num.proofs.Ends.{Even, parts_of, same_axes, both_moves, no_move, part_of_none}
 use Rattle.pbd_num.proofs.tried.try_moves.Goals as goal
+
+-- the parts as they are guessed, and whether all is right
+abbrev guessed : goal.After-struct_told-12-1 → Vec3
+guessed c = record { x = c.try_part-x.result.part; y = c.try_part-y.result.part; z = c.try_part-z.result.part }
+
+abbrev all_right : goal.After-struct_told-12-1 → Bool
+all_right c = c.try_length-tried.result.right && c.are_even.result && c.try_part-x.result.right && c.try_part-y.result.right && c.try_part-z.result.right
+
+record Right (c : goal.After-struct_told-12-1) : Type 0 where
+  length : IsTrue c.try_length-tried.result.right
+  even : IsTrue c.are_even.result
+  x : IsTrue c.try_part-x.result.right
+  y : IsTrue c.try_part-y.result.right
+  z : IsTrue c.try_part-z.result.right
+
+each_right : (c : goal.After-struct_told-12-1) → IsTrue (all_right c) → Right c
+each_right c right =
+    let to_y = and_parts _ _ right in
+    let to_x = and_parts _ _ to_y.0 in
+    let to_even = and_parts _ _ to_x.0 in
+    let to_length = and_parts _ _ to_even.0 in
+    record { length = to_length.0; even = to_length.1; x = to_even.1; y = to_x.1; z = to_y.1 }
+
+-- what fits
+length_fits : (c : goal.After-struct_told-12-1) → FitsSigned w64 c.try_length-tried.result.length
+length_fits c = fits _ (omega (arith, size_at_most c.try_length-tried.result.length (2 ^ 31) c.try_length-tried.ensures.low (omega (arith, ints))))
+
+first_fits : (c : goal.After-struct_told-12-1) → FitsSigned w64 c.args.weights.first
+first_fits c = fits _ (omega (arith, size_at_most c.args.weights.first 65535 c.requires.first_low c.requires.first_high))
+
+second_fits : (c : goal.After-struct_told-12-1) → FitsSigned w64 c.args.weights.second
+second_fits c = fits _ (omega (arith, size_at_most c.args.weights.second 65535 c.requires.second_low c.requires.second_high))
+
+parts_fit : (c : goal.After-struct_told-12-1) → FitAxes (guessed c)
+parts_fit c = fit_axes (guessed c) (2 ^ 31) (omega arith) (record { x = c.try_part-x.ensures.size; y = c.try_part-y.ensures.size; z = c.try_part-z.ensures.size })
+
+-- the length
+length_is : (c : goal.After-struct_told-12-1) → Right c → c.try_length-tried.result.length ≡ pos (length_of (minus c.args.a c.args.b))
+length_is c right =
+    let same = c.way_between-way.ensures in
+    c.try_length-tried.ensures.value right.length ∙ rw (same.x, same.y, same.z) refl
+
+-- the parts
+parted : (c : goal.After-struct_told-12-1) → Right c → guessed c ≡ parts_of (minus c.args.a c.args.b) c.try_length-tried.result.length c.args.draw.rest c.factor-factor.result
+parted c right =
+    let l_fits = length_fits c in
+    let axes = parts_fit c in
+    let x_fits = axes.x in
+    let y_fits = axes.y in
+    let z_fits = axes.z in
+    let rest_fits = fits c.args.draw.rest (omega (arith, size_at_most c.args.draw.rest (2 ^ 31) c.requires.rest_low c.requires.rest_high)) in
+    let f_fits = fits_signed_from_abs w32 c.factor-factor.result (omega (arith, c.factor-factor.ensures.size)) in
+    let way_x = fits_signed_from_abs w32 c.way_between-way.result.x (omega (arith, c.way_between-way.ensures.x_size)) in
+    let way_y = fits_signed_from_abs w32 c.way_between-way.result.y (omega (arith, c.way_between-way.ensures.y_size)) in
+    let way_z = fits_signed_from_abs w32 c.way_between-way.result.z (omega (arith, c.way_between-way.ensures.z_size)) in
+    let long = simp to_z-of_z at c.pull_of-pull.ensures.length in
+    let error = simp to_z-of_z at c.pull_of-pull.ensures.error in
+    let some : pos 0 <ℤ c.pull_of-pull.result.length = rw long (c.try_length-tried.ensures.some right.length) in
+    let vx = simp to_z-of_z at (c.try_part-x.ensures.value right.x some) in
+    let vy = simp to_z-of_z at (c.try_part-y.ensures.value right.y some) in
+    let vz = simp to_z-of_z at (c.try_part-z.ensures.value right.z some) in
+    let same = c.way_between-way.ensures in
+    same_axes _ _ (vx ∙ rw (error, long, same.x) refl) (vy ∙ rw (error, long, same.y) refl) (vz ∙ rw (error, long, same.z) refl)
+
+turned : (c : goal.After-struct_told-12-1) → c.opposite.result ≡ opposite (guessed c)
+turned c =
+    let axes = parts_fit c in
+    let x = axes.x in
+    let y = axes.y in
+    let z = axes.z in
+    simp to_z-of_z at c.opposite.ensures.value
+
+-- what the ends do
+record Moves (c : goal.After-struct_told-12-1) : Type 0 where
+  first_free : pos 0 <ℤ c.args.weights.first → c.moved.result ≡ c.opposite.result
+  first_held : c.args.weights.first ≤ℤ pos 0 → c.moved.result ≡ zero_vector
+  second_free : pos 0 <ℤ c.args.weights.second → c.moved-2.result ≡ guessed c
+  second_held : c.args.weights.second ≤ℤ pos 0 → c.moved-2.result ≡ zero_vector
+
+moves_are : (c : goal.After-struct_told-12-1) → Moves c
+moves_are c =
+    let first = first_fits c in
+    let second = second_fits c in
+    let axes = parts_fit c in
+    let x = axes.x in
+    let y = axes.y in
+    let z = axes.z in
+    record {
+      first_free = simp to_z-of_z at c.moved.ensures.free;
+      first_held = simp to_z-of_z at c.moved.ensures.held;
+      second_free = simp to_z-of_z at c.moved-2.ensures.free;
+      second_held = simp to_z-of_z at c.moved-2.ensures.held;
+    }
+
+-- what the factor is
+even_factor : (c : goal.After-struct_told-12-1) → Right c → c.try_length-tried.result.length <ℤ c.args.draw.reach → Even c.args.weights.first c.args.weights.second c.args.draw.k c.factor-factor.result
+even_factor c right near =
+    let l_fits = length_fits c in
+    let first = first_fits c in
+    let second = second_fits c in
+    let k_fits = fits c.drawn.result (omega (arith, c.drawn.ensures.size)) in
+    let drawn = simp to_z-of_z at c.drawn.ensures.near in
+    let k_is = drawn near in
+    let both = simp to_z-of_z at c.factor-factor.ensures.both in
+    let by_first = simp to_z-of_z at c.factor-factor.ensures.first in
+    let by_second = simp to_z-of_z at c.factor-factor.ensures.second in
+    record {
+      first_low = c.requires.first_low;
+      second_low = c.requires.second_low;
+      some = c.are_even.ensures.some right.even;
+      even = c.are_even.ensures.even right.even;
+      both = (λ p q. both p q ∙ k_is);
+      by_first = (λ e. by_first e ∙ ap (λ k. pos 2 *ℤ k) k_is);
+      by_second = (λ e. by_second e ∙ ap (λ k. pos 2 *ℤ k) k_is);
+    }
+
+no_parts : (c : goal.After-struct_told-12-1) → Right c → c.args.draw.reach ≤ℤ c.try_length-tried.result.length → guessed c ≡ zero_vector
+no_parts c right far =
+    let l_fits = length_fits c in
+    let k_fits = fits c.drawn.result (omega (arith, c.drawn.ensures.size)) in
+    let none = simp to_z-of_z at c.factor-factor.ensures.none in
+    let undrawn = simp to_z-of_z at c.drawn.ensures.far in
+    let f_is = none (undrawn far) in
+    let is = parted c right in
+    same_axes _ _ (part_of_none _ _ _ f_is (ap (λ v. v.x) is)) (part_of_none _ _ _ f_is (ap (λ v. v.y) is)) (part_of_none _ _ _ f_is (ap (λ v. v.z) is))
 
 pub moved-requires : goal.moved-requires
 moved-requires c =
@@ -17,162 +143,45 @@ moved-requires c =
 
 pub returns-clause-length : goal.returns-clause-length
 returns-clause-length c right =
-    let l = size_at_most c.try_length-tried.result.length (2 ^ 31) c.try_length-tried.ensures.low (omega (arith, ints)) in
-    let l_fits = fits c.try_length-tried.result.length (omega arith) in
-    let to_y = and_parts _ _ right in
-    let to_x = and_parts _ _ to_y.0 in
-    let to_even = and_parts _ _ to_x.0 in
-    let to_length = and_parts _ _ to_even.0 in
-    let is = c.try_length-tried.ensures.value to_length.0 in
-    let same = c.way_between-way.ensures in
-    simp to_z-of_z (is ∙ rw (same.x, same.y, same.z) refl)
+    let l_fits = length_fits c in
+    simp to_z-of_z (length_is c (each_right c right))
 
 pub returns-clause-moves : goal.returns-clause-moves
 returns-clause-moves c right near =
-    let w1 = fits c.args.weights.first (omega (arith, size_at_most c.args.weights.first 65535 c.requires.first_low c.requires.first_high)) in
-    let w2 = fits c.args.weights.second (omega (arith, size_at_most c.args.weights.second 65535 c.requires.second_low c.requires.second_high)) in
-    let x_fits = fits c.try_part-x.result.part (omega (arith, c.try_part-x.ensures.size)) in
-    let y_fits = fits c.try_part-y.result.part (omega (arith, c.try_part-y.ensures.size)) in
-    let z_fits = fits c.try_part-z.result.part (omega (arith, c.try_part-z.ensures.size)) in
-    let parts : Vec3 = record { x = c.try_part-x.result.part; y = c.try_part-y.result.part; z = c.try_part-z.result.part } in
-    let turned = simp to_z-of_z at c.opposite.ensures.value in
-    let l = size_at_most c.try_length-tried.result.length (2 ^ 31) c.try_length-tried.ensures.low (omega (arith, ints)) in
-    let l_fits = fits c.try_length-tried.result.length (omega arith) in
-    let to_y = and_parts _ _ right in
-    let to_x = and_parts _ _ to_y.0 in
-    let to_even = and_parts _ _ to_x.0 in
-    let to_length = and_parts _ _ to_even.0 in
-    let rest_fits = fits c.args.draw.rest (omega (arith, size_at_most c.args.draw.rest (2 ^ 31) c.requires.rest_low c.requires.rest_high)) in
-    let f_fits = fits_signed_from_abs w32 c.factor-factor.result (omega (arith, c.factor-factor.ensures.size)) in
-    let way_x = fits_signed_from_abs w32 c.way_between-way.result.x (omega (arith, c.way_between-way.ensures.x_size)) in
-    let way_y = fits_signed_from_abs w32 c.way_between-way.result.y (omega (arith, c.way_between-way.ensures.y_size)) in
-    let way_z = fits_signed_from_abs w32 c.way_between-way.result.z (omega (arith, c.way_between-way.ensures.z_size)) in
-    let long = simp to_z-of_z at c.pull_of-pull.ensures.length in
-    let some = c.try_length-tried.ensures.some to_length.0 in
-    let some' : pos 0 <ℤ c.pull_of-pull.result.length = rw long some in
-    let vx = simp to_z-of_z at (c.try_part-x.ensures.value to_even.1 some') in
-    let vy = simp to_z-of_z at (c.try_part-y.ensures.value to_x.1 some') in
-    let vz = simp to_z-of_z at (c.try_part-z.ensures.value to_y.1 some') in
-    let k_fits = fits c.drawn.result (omega (arith, c.drawn.ensures.size)) in
-    let free_a = simp to_z-of_z at c.moved.ensures.free in
-    let held_a = simp to_z-of_z at c.moved.ensures.held in
-    let free_b = simp to_z-of_z at c.moved-2.ensures.free in
-    let held_b = simp to_z-of_z at c.moved-2.ensures.held in
-    let same = c.way_between-way.ensures in
-    let is : c.try_length-tried.result.length ≡ pos (length_of (minus c.args.a c.args.b)) = c.try_length-tried.ensures.value to_length.0 ∙ rw (same.x, same.y, same.z) refl in
-    let error = simp to_z-of_z at c.pull_of-pull.ensures.error in
-    let parted : parts ≡ parts_of (minus c.args.a c.args.b) c.try_length-tried.result.length c.args.draw.rest c.factor-factor.result = same_axes _ _ (vx ∙ rw (error, long, same.x) refl) (vy ∙ rw (error, long, same.y) refl) (vz ∙ rw (error, long, same.z) refl) in
+    let l_fits = length_fits c in
     let near' = simp to_z-of_z at near in
-    let drawn = simp to_z-of_z at c.drawn.ensures.near in
-    let k_is = drawn near' in
-    let both = simp to_z-of_z at c.factor-factor.ensures.both in
-    let by_first = simp to_z-of_z at c.factor-factor.ensures.first in
-    let by_second = simp to_z-of_z at c.factor-factor.ensures.second in
-    let even : Even c.args.weights.first c.args.weights.second c.args.draw.k c.factor-factor.result = record {
-      first_low = c.requires.first_low;
-      second_low = c.requires.second_low;
-      some = c.are_even.ensures.some to_length.1;
-      even = c.are_even.ensures.even to_length.1;
-      both = (λ p q. both p q ∙ k_is);
-      by_first = (λ e. by_first e ∙ ap (λ k. pos 2 *ℤ k) k_is);
-      by_second = (λ e. by_second e ∙ ap (λ k. pos 2 *ℤ k) k_is);
-    } in
-    both_moves c.args.a c.args.b parts c.opposite.result c.moved.result c.moved-2.result c.try_length-tried.result.length c.args.draw.rest c.args.weights.first c.args.weights.second c.args.draw.k c.factor-factor.result is some even parted turned free_a held_a free_b held_b
+    let all = each_right c right in
+    let moves = moves_are c in
+    both_moves c.args.a c.args.b (guessed c) c.opposite.result c.moved.result c.moved-2.result c.try_length-tried.result.length c.args.draw.rest c.args.weights.first c.args.weights.second c.args.draw.k c.factor-factor.result
+    (length_is c all) (c.try_length-tried.ensures.some all.length) (even_factor c all near') (parted c all) (turned c) moves.first_free moves.first_held moves.second_free moves.second_held
 
 pub returns-clause-first_rests : goal.returns-clause-first_rests
 returns-clause-first_rests c right far =
-    let w1 = fits c.args.weights.first (omega (arith, size_at_most c.args.weights.first 65535 c.requires.first_low c.requires.first_high)) in
-    let w2 = fits c.args.weights.second (omega (arith, size_at_most c.args.weights.second 65535 c.requires.second_low c.requires.second_high)) in
-    let x_fits = fits c.try_part-x.result.part (omega (arith, c.try_part-x.ensures.size)) in
-    let y_fits = fits c.try_part-y.result.part (omega (arith, c.try_part-y.ensures.size)) in
-    let z_fits = fits c.try_part-z.result.part (omega (arith, c.try_part-z.ensures.size)) in
-    let parts : Vec3 = record { x = c.try_part-x.result.part; y = c.try_part-y.result.part; z = c.try_part-z.result.part } in
-    let turned = simp to_z-of_z at c.opposite.ensures.value in
-    let l = size_at_most c.try_length-tried.result.length (2 ^ 31) c.try_length-tried.ensures.low (omega (arith, ints)) in
-    let l_fits = fits c.try_length-tried.result.length (omega arith) in
-    let to_y = and_parts _ _ right in
-    let to_x = and_parts _ _ to_y.0 in
-    let to_even = and_parts _ _ to_x.0 in
-    let to_length = and_parts _ _ to_even.0 in
-    let rest_fits = fits c.args.draw.rest (omega (arith, size_at_most c.args.draw.rest (2 ^ 31) c.requires.rest_low c.requires.rest_high)) in
-    let f_fits = fits_signed_from_abs w32 c.factor-factor.result (omega (arith, c.factor-factor.ensures.size)) in
-    let way_x = fits_signed_from_abs w32 c.way_between-way.result.x (omega (arith, c.way_between-way.ensures.x_size)) in
-    let way_y = fits_signed_from_abs w32 c.way_between-way.result.y (omega (arith, c.way_between-way.ensures.y_size)) in
-    let way_z = fits_signed_from_abs w32 c.way_between-way.result.z (omega (arith, c.way_between-way.ensures.z_size)) in
-    let long = simp to_z-of_z at c.pull_of-pull.ensures.length in
-    let some = c.try_length-tried.ensures.some to_length.0 in
-    let some' : pos 0 <ℤ c.pull_of-pull.result.length = rw long some in
-    let vx = simp to_z-of_z at (c.try_part-x.ensures.value to_even.1 some') in
-    let vy = simp to_z-of_z at (c.try_part-y.ensures.value to_x.1 some') in
-    let vz = simp to_z-of_z at (c.try_part-z.ensures.value to_y.1 some') in
-    let k_fits = fits c.drawn.result (omega (arith, c.drawn.ensures.size)) in
-    let free = simp to_z-of_z at c.moved.ensures.free in
-    let held = simp to_z-of_z at c.moved.ensures.held in
-    let none = simp to_z-of_z at c.factor-factor.ensures.none in
+    let l_fits = length_fits c in
     let far' = simp to_z-of_z at far in
-    let undrawn = simp to_z-of_z at c.drawn.ensures.far in
-    let f_is = none (undrawn far') in
-    let nothing : parts ≡ zero_vector = same_axes parts zero_vector (part_of_none _ _ _ f_is vx) (part_of_none _ _ _ f_is vy) (part_of_none _ _ _ f_is vz) in
-    no_move c.opposite.result c.moved.result c.args.weights.first c.requires.first_low (turned ∙ ap opposite nothing) free held
+    let moves = moves_are c in
+    no_move c.opposite.result c.moved.result c.args.weights.first c.requires.first_low (turned c ∙ ap opposite (no_parts c (each_right c right) far')) moves.first_free moves.first_held
 
 pub returns-clause-second_rests : goal.returns-clause-second_rests
 returns-clause-second_rests c right far =
-    let w1 = fits c.args.weights.first (omega (arith, size_at_most c.args.weights.first 65535 c.requires.first_low c.requires.first_high)) in
-    let w2 = fits c.args.weights.second (omega (arith, size_at_most c.args.weights.second 65535 c.requires.second_low c.requires.second_high)) in
-    let x_fits = fits c.try_part-x.result.part (omega (arith, c.try_part-x.ensures.size)) in
-    let y_fits = fits c.try_part-y.result.part (omega (arith, c.try_part-y.ensures.size)) in
-    let z_fits = fits c.try_part-z.result.part (omega (arith, c.try_part-z.ensures.size)) in
-    let parts : Vec3 = record { x = c.try_part-x.result.part; y = c.try_part-y.result.part; z = c.try_part-z.result.part } in
-    let l = size_at_most c.try_length-tried.result.length (2 ^ 31) c.try_length-tried.ensures.low (omega (arith, ints)) in
-    let l_fits = fits c.try_length-tried.result.length (omega arith) in
-    let to_y = and_parts _ _ right in
-    let to_x = and_parts _ _ to_y.0 in
-    let to_even = and_parts _ _ to_x.0 in
-    let to_length = and_parts _ _ to_even.0 in
-    let rest_fits = fits c.args.draw.rest (omega (arith, size_at_most c.args.draw.rest (2 ^ 31) c.requires.rest_low c.requires.rest_high)) in
-    let f_fits = fits_signed_from_abs w32 c.factor-factor.result (omega (arith, c.factor-factor.ensures.size)) in
-    let way_x = fits_signed_from_abs w32 c.way_between-way.result.x (omega (arith, c.way_between-way.ensures.x_size)) in
-    let way_y = fits_signed_from_abs w32 c.way_between-way.result.y (omega (arith, c.way_between-way.ensures.y_size)) in
-    let way_z = fits_signed_from_abs w32 c.way_between-way.result.z (omega (arith, c.way_between-way.ensures.z_size)) in
-    let long = simp to_z-of_z at c.pull_of-pull.ensures.length in
-    let some = c.try_length-tried.ensures.some to_length.0 in
-    let some' : pos 0 <ℤ c.pull_of-pull.result.length = rw long some in
-    let vx = simp to_z-of_z at (c.try_part-x.ensures.value to_even.1 some') in
-    let vy = simp to_z-of_z at (c.try_part-y.ensures.value to_x.1 some') in
-    let vz = simp to_z-of_z at (c.try_part-z.ensures.value to_y.1 some') in
-    let k_fits = fits c.drawn.result (omega (arith, c.drawn.ensures.size)) in
-    let free = simp to_z-of_z at c.moved-2.ensures.free in
-    let held = simp to_z-of_z at c.moved-2.ensures.held in
-    let none = simp to_z-of_z at c.factor-factor.ensures.none in
+    let l_fits = length_fits c in
     let far' = simp to_z-of_z at far in
-    let undrawn = simp to_z-of_z at c.drawn.ensures.far in
-    let f_is = none (undrawn far') in
-    let nothing : parts ≡ zero_vector = same_axes parts zero_vector (part_of_none _ _ _ f_is vx) (part_of_none _ _ _ f_is vy) (part_of_none _ _ _ f_is vz) in
-    no_move parts c.moved-2.result c.args.weights.second c.requires.second_low nothing free held
+    let moves = moves_are c in
+    no_move (guessed c) c.moved-2.result c.args.weights.second c.requires.second_low (no_parts c (each_right c right) far') moves.second_free moves.second_held
 
 pub returns-clause-first_held : goal.returns-clause-first_held
 returns-clause-first_held c e =
-    let w1 = fits c.args.weights.first (omega (arith, size_at_most c.args.weights.first 65535 c.requires.first_low c.requires.first_high)) in
-    let w2 = fits c.args.weights.second (omega (arith, size_at_most c.args.weights.second 65535 c.requires.second_low c.requires.second_high)) in
-    let held = simp to_z-of_z at c.moved.ensures.held in
-    held (omega (arith, ints))
+    let first = first_fits c in
+    let moves = moves_are c in
+    moves.first_held (omega (arith, ints))
 
 pub returns-clause-second_held : goal.returns-clause-second_held
 returns-clause-second_held c e =
-    let w1 = fits c.args.weights.first (omega (arith, size_at_most c.args.weights.first 65535 c.requires.first_low c.requires.first_high)) in
-    let w2 = fits c.args.weights.second (omega (arith, size_at_most c.args.weights.second 65535 c.requires.second_low c.requires.second_high)) in
-    let held = simp to_z-of_z at c.moved-2.ensures.held in
-    held (omega (arith, ints))
+    let second = second_fits c in
+    let moves = moves_are c in
+    moves.second_held (omega (arith, ints))
 
 pub returns-clause-opposed : goal.returns-clause-opposed
 returns-clause-opposed c first second =
-    let w1 = fits c.args.weights.first (omega (arith, size_at_most c.args.weights.first 65535 c.requires.first_low c.requires.first_high)) in
-    let w2 = fits c.args.weights.second (omega (arith, size_at_most c.args.weights.second 65535 c.requires.second_low c.requires.second_high)) in
-    let x_fits = fits c.try_part-x.result.part (omega (arith, c.try_part-x.ensures.size)) in
-    let y_fits = fits c.try_part-y.result.part (omega (arith, c.try_part-y.ensures.size)) in
-    let z_fits = fits c.try_part-z.result.part (omega (arith, c.try_part-z.ensures.size)) in
-    let parts : Vec3 = record { x = c.try_part-x.result.part; y = c.try_part-y.result.part; z = c.try_part-z.result.part } in
-    let turned = simp to_z-of_z at c.opposite.ensures.value in
-    let free_a = simp to_z-of_z at c.moved.ensures.free in
-    let free_b = simp to_z-of_z at c.moved-2.ensures.free in
-    free_a first ∙ turned ∙ ap opposite (sym (free_b second))
+    let moves = moves_are c in
+    moves.first_free first ∙ turned c ∙ ap opposite (sym (moves.second_free second))
