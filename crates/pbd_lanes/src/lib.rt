@@ -1,8 +1,8 @@
 //! L whole numbers, or L truth values, side by side. L is one of 1, 2, 4, 8 and 16.
 #![tactic(auto)]
 
-ghost use Rattle.std.specs.Prelude.{◌≡◌, ℕ, ◌+◌, ◌*◌, ◌<◌, ◌≤◌, ◌^◌, ◌+ℤ◌, unsigned_abs, ◌&&◌, if◌then◌else◌, position, IfSome};
-ghost use Rattle.pbd_lanes.specs.Lane.{lane, is_set, lanes_of, sum_below};
+ghost use Rattle.std.specs.Prelude.{◌≡◌, ℕ, ◌<◌, ◌&&◌, if◌then◌else◌, position, IfSome};
+ghost use Rattle.pbd_lanes.specs.Lane.{lane, is_set, lanes_of};
 
 use std::marker::Model;
 
@@ -40,17 +40,6 @@ impl<const L: usize> Model for Mask<L> {
     ghost invariant = { λ a. length a.set ≡ L };
 
     ghost inverse = { λ v. record { set = v } };
-}
-
-#[inline(always)]
-fn with_both(sum: i64, a: i64, b: i64) -> i64
-    requires sum { unsigned_abs sum ≤ 2 ^ 40 }
-    requires a { unsigned_abs a ≤ 2 ^ 31 }
-    requires b { unsigned_abs b ≤ 2 ^ 31 }
-    ensures value { result ≡ sum +ℤ (a +ℤ b) }
-    ensures size { unsigned_abs result ≤ unsigned_abs sum + 2 ^ 32 }
-{
-    sum + (a + b)
 }
 
 impl<const L: usize> Lanes<L> {
@@ -111,22 +100,6 @@ impl<const L: usize> Lanes<L> {
             };
         }
         Lanes { values }
-    }
-
-    /// The sum of these numbers and others.
-    #[inline(always)]
-    pub fn sum_with(&self, other: &Lanes<L>) -> i64
-        requires lanes { L ≤ 16 }
-        requires first { (j : ℕ) → j < L → unsigned_abs (lane self.now j) ≤ 2 ^ 31 }
-        requires second { (j : ℕ) → j < L → unsigned_abs (lane other.now j) ≤ 2 ^ 31 }
-        ensures value { result ≡ sum_below (λ j. lane self.now j +ℤ lane other.now j) L }
-        ensures size { unsigned_abs result ≤ L * 2 ^ 32 }
-    {
-        let mut sum = 0;
-        for j in 0..L {
-            sum = with_both(sum, self.values[j], other.values[j]);
-        }
-        sum
     }
 }
 
