@@ -15,7 +15,7 @@ use Rattle.pbd_world.specs.declared.bond.Shift.{Shift}
 use Rattle.pbd_world.specs.declared.bond.Correction.TheVariants.{Slack, Leaves, Moves}
 use Rattle.pbd_world.specs.Bonds.{correction_of, is_slack, shift_of}
 use Rattle.pbd_pair.specs.Bonds.{IsBound, IsEnd, shift_by}
-use Rattle.pbd_pair.specs.Lanes.{Holds, Lays, Does}
+use Rattle.pbd_pair.specs.Lanes.{draws, drawn_lane, drawn_shift, Holds, Lays, Does}
 use Rattle.pbd_pair.proofs.Steps.{shift_of_moves}
 
 -- ---- what a bond comes to
@@ -27,6 +27,10 @@ moves_case s t false m ew em et = absurd (false≢true ew)
 lays_case : (limit : ℤ) (s t : Shift) (slack draws : Bool) → draws ≡ not slack → (is_within limit t.first && is_within limit t.second) ≡ true → (draws ≡ true → t ≡ s) → Lays (cond slack Slack (cond (is_within limit s.first && is_within limit s.second) (Moves s) Leaves)) draws false t
 lays_case limit s t true draws ed ew et = (ed, refl)
 lays_case limit s t false draws ed ew et = moves_case s t (is_within limit s.first && is_within limit s.second) draws (ap (λ (x : Shift). is_within limit x.first && is_within limit x.second) (sym (et ed)) ∙ ew) ed (et ed)
+
+shift_case : (m : Bool) (s t u : Shift) → (m ≡ true → s ≡ t) → (m ≡ false → s ≡ u) → s ≡ cond m t u
+shift_case true s t u near far = near refl
+shift_case false s t u near far = far refl
 
 lays_drawn : (limit : ℤ) (p q : End) (b : Bond) (t : Shift) (draws : Bool) → draws ≡ not (is_slack p q b) → (is_within limit t.first && is_within limit t.second) ≡ true → (draws ≡ true → t ≡ shift_of p q b) → Lays (correction_of limit p q b) draws false t
 unfolding correction_of
@@ -89,7 +93,7 @@ module _ (limit : ℤ) (p q : End) (draw : Draw) (first second : Vec3) (len : �
   none_own b h = ap (λ (z : ℤ). int_lt len z) h.reach ∙ never_below len (minus p.at q.at) el
 
   -- where the other facts of the guess hold too
-  pub does_lane : Within (unsigned_abs limit) s.first → Within (unsigned_abs limit) s.second → Within (2 ^ 31) first → Within (2 ^ 31) second → (draw.reach ≤ℤ len → first ≡ zero_vector) → (draw.reach ≤ℤ len → second ≡ zero_vector) → (p.weight ≡ pos 0 → first ≡ zero_vector) → (q.weight ≡ pos 0 → second ≡ zero_vector) → (pos 0 <ℤ p.weight → pos 0 <ℤ q.weight → first ≡ opposite second) → Does limit p q draw (record { moving = int_lt len draw.reach; leaving = false; shift = s; first_free = int_lt (pos 0) p.weight; second_free = int_lt (pos 0) q.weight })
+  does_lane : Within (unsigned_abs limit) s.first → Within (unsigned_abs limit) s.second → Within (2 ^ 31) first → Within (2 ^ 31) second → (draw.reach ≤ℤ len → first ≡ zero_vector) → (draw.reach ≤ℤ len → second ≡ zero_vector) → (p.weight ≡ pos 0 → first ≡ zero_vector) → (q.weight ≡ pos 0 → second ≡ zero_vector) → (pos 0 <ℤ p.weight → pos 0 <ℤ q.weight → first ≡ opposite second) → Does limit p q draw (record { moving = int_lt len draw.reach; leaving = false; shift = s; first_free = int_lt (pos 0) p.weight; second_free = int_lt (pos 0) q.weight })
   does_lane in1 in2 short1 short2 rests1 rests2 held1 held2 opposed =
       let m1 = ap (λ (x : Shift). x.first_move) es in
       let m2 = ap (λ (x : Shift). x.second_move) es in
@@ -114,3 +118,17 @@ module _ (limit : ℤ) (p q : End) (draw : Draw) (first second : Vec3) (len : �
           second_held = λ g. m2 ∙ held2 (zero_of q.weight qe.low g);
         };
       }
+
+  -- the shift is the draw's
+  pub shift_drawn : (draw.reach ≤ℤ len → first ≡ zero_vector) → (draw.reach ≤ℤ len → second ≡ zero_vector) → s ≡ drawn_shift p q draw
+  shift_drawn rests1 rests2 =
+      let near : draws p q draw ≡ int_lt len draw.reach = ap (λ (z : ℤ). int_lt z draw.reach) (sym el) in
+      es ∙ shift_case (draws p q draw) (shift_by p q first second) _ _
+      (λ e. let m = moves (below len draw.reach (sym near ∙ e)) in λ i. shift_by p q (m i).0 (m i).1)
+      (λ e. let far = not_below len draw.reach (sym near ∙ e) in λ i. shift_by p q (rests1 far i) (rests2 far i))
+
+  pub does_drawn : Within (unsigned_abs limit) s.first → Within (unsigned_abs limit) s.second → Within (2 ^ 31) first → Within (2 ^ 31) second → (draw.reach ≤ℤ len → first ≡ zero_vector) → (draw.reach ≤ℤ len → second ≡ zero_vector) → (p.weight ≡ pos 0 → first ≡ zero_vector) → (q.weight ≡ pos 0 → second ≡ zero_vector) → (pos 0 <ℤ p.weight → pos 0 <ℤ q.weight → first ≡ opposite second) → Does limit p q draw (drawn_lane p q draw)
+  does_drawn in1 in2 short1 short2 rests1 rests2 held1 held2 opposed =
+      let drawn = shift_drawn rests1 rests2 in
+      coe 0 1 (i. Does limit p q draw (record { moving = int_lt (el i) draw.reach; leaving = false; shift = drawn i; first_free = int_lt (pos 0) p.weight; second_free = int_lt (pos 0) q.weight }))
+      (does_lane in1 in2 short1 short2 rests1 rests2 held1 held2 opposed)

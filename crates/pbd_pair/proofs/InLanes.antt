@@ -1,5 +1,5 @@
 -- What a gather has in a lane.
-use Rattle.std.proofs.Common.{◌≡◌, ℕ, ◌<◌, ◌≤◌, ℤ, pos, List, [], ◌∷◌, zero, suc, length, get_or, nat_lt, Some, None, Bool, true, false, cond, not, ◌&&◌, refl, ap, sym, ◌∙◌, arith, subst, int_lt}
+use Rattle.std.proofs.Common.{◌≡◌, ℕ, ◌<◌, ◌≤◌, ℤ, pos, List, [], ◌∷◌, zero, suc, length, get_or, nat_lt, Some, None, Bool, true, false, cond, not, refl, ap, sym, ◌∙◌, arith, subst, int_lt}
 use Rattle.std.specs.List.{position, position_or_len}
 use Rattle.std.proofs.lemmas.Bool.{cond-true, false≢true, lt-ltb}
 use Rattle.std.proofs.lemmas.Int.{ints}

@@ -3,7 +3,7 @@ use Rattle.std.proofs.Common.{◌≡◌, ℕ, ◌*◌, ◌<◌, ◌≤◌, ◌^�
 use Rattle.std.proofs.lemmas.Bool.{cases_lt, false≢true, lt-ltb, le-ltb, ltb-true}
 use Rattle.pbd_num.specs.declared.Vec3.{Vec3}
 use Rattle.pbd_num.specs.Vectors.{Within, plus}
-use Rattle.pbd_lanes.specs.Lane.{lane, is_set}
+use Rattle.pbd_lanes.specs.Lane.{lane, is_set, lanes_of}
 use Rattle.pbd_world.specs.declared.parts.Particle.{Particle}
 use Rattle.pbd_world.specs.declared.bond.Bond.{Bond}
 use Rattle.pbd_world.specs.declared.bond.Shift.{Shift}
@@ -17,19 +17,24 @@ use Rattle.pbd_pair.specs.declared.bonds.Bonds.{Bonds}
 use Rattle.pbd_pair.specs.declared.named.BlockBonds.{BlockBonds}
 use Rattle.pbd_pair.specs.declared.laid.BlockEnds.{BlockEnds}
 use Rattle.pbd_pair.specs.declared.laid.BlockMoves.{BlockMoves}
+use Rattle.pbd_pair.specs.declared.laid.BlockPlaces.{BlockPlaces}
 use Rattle.pbd_pair.specs.declared.laid.LaneMove.{LaneMove}
 use Rattle.pbd_pair.specs.Bonds.{bond_of, IsBound, IsEnd, IsSound, IsSoundShift}
 use Rattle.pbd_store.specs.Stored.{Stored}
 use Rattle.pbd_world.specs.declared.totals.Totals.{Totals}
 use Rattle.pbd_pair.specs.Projecting.{IsBatch, ShareNone, CanProject}
-use Rattle.pbd_pair.specs.Lanes.{end_in, lane_entries, shift_in, moved_in, number_in, settled, drawn_in, Holds, Lays, AreGathered, AreEach, IsNamed, AreTogether, IsLaid}
-use Rattle.pbd_pair.proofs.InLanes.{end_sound, free_end, same_lays, lays_sound}
+use Rattle.pbd_pair.specs.Lanes.{end_in, lane_entries, lane_in, shift_in, moved_below, number_in, settled, drawn_in, drawn_lane_in, Holds, Lays, Does, AreGathered, AreEach, IsNamed, AreTogether, IsLaid}
+use Rattle.pbd_pair.proofs.InLanes.{end_sound, free_end, lane_is, same_lays, lays_sound}
 use Rattle.pbd_pair.proofs.Ranges.{rest_fits}
 use Rattle.pbd_num.proofs.Sizes.{size_at_most}
 use Rattle.pbd_pair.proofs.Reaching.{nth, books, reached, reached_leaves, reached_all}
 use Rattle.pbd_pair.proofs.SideBySide.{side_by_side}
 use Rattle.pbd_pair.proofs.Blocks.{settled_same, own_number, bond_known, not_not}
-use Rattle.pbd_pair.proofs.Pinning.{pinned_all, settled_past, moved_is, moved_past, moved_short, plus_zero}
+use Rattle.pbd_pair.proofs.Pinning.{pinned_all, settled_past, moved_same, moved_past, moved_short, plus_zero}
+
+-- lanes that do what their bonds do with these ends
+pub record DoEach {l : ℕ} (limit : ℤ) (ends : BlockEnds l) (named : BlockBonds l) (moves : BlockMoves l) : Type 0 where
+  pub each : (j : ℕ) → j < l → Does limit (end_in ends.first j) (end_in ends.second j) (drawn_in named j) (lane_in moves j)
 
 -- all bonds of a block are done
 pub record AreDone (limit : ℤ) (bonds : Bonds) (block : List ℕ) (m : Motion) (ps : List Particle) (t : Ledger) : Type 0 where
@@ -165,9 +170,9 @@ module _ {l : ℕ} {limit : ℤ} {ps : List Particle} {bonds : Bonds} {block : L
   laid_each em each = let e = subst (λ (x : ℤ). AreEach x ends (bond_of bonds) block moves) em each in laid_by (λ k p. (e.lanes k p).lays) e.sound (λ k p q. ap (λ (x : LaneMove). x.moving) (e.idle k p q)) (λ k p q. ap (λ (x : LaneMove). x.leaving) (e.idle k p q)) (λ k p. (e.lanes k p).first_free) (λ k p. (e.lanes k p).second_free)
 
   -- side by side
-  pub laid_together : {m : ℤ} → m ≡ limit → AreTogether m ends named moves → IsLaid limit ps (bond_of bonds) block named.a named.b moves
+  pub laid_together : {m : ℤ} → m ≡ limit → DoEach m ends named moves → IsLaid limit ps (bond_of bonds) block named.a named.b moves
   laid_together em together =
-      let t = subst (λ (x : ℤ). AreTogether x ends named moves) em together in
+      let t = subst (λ (x : ℤ). DoEach x ends named moves) em together in
       let B : ℕ → Bond = λ k. bond_of bonds (number_in block k) in
       laid_by
       (λ k p. let q = in_lanes k p in subst (λ (b : Bond). Lays (correction_of limit (end_in ends.first k) (end_in ends.second k) b) (is_set moves.moving k) (is_set moves.leaving k) (shift_in moves k)) (own k p) ((t.each k q).lays (B k) (subst (λ (x : Bool). Holds (drawn_in named k) x (B k)) (lt-ltb k (length block) p) (n.holds k q))))
@@ -178,18 +183,18 @@ module _ {l : ℕ} {limit : ℤ} {ps : List Particle} {bonds : Bonds} {block : L
       (λ k p. (t.each k (in_lanes k p)).second_free)
 
   -- a lane that doesn't move stays where it is
-  pub first_stays : AreTogether limit ends named moves → (k : ℕ) → k < length block → is_set moves.moving k ≡ false → (shift_in moves k).first ≡ (particle_at ps (nth (bond_of bonds) block k).a).at
+  pub first_stays : DoEach limit ends named moves → (k : ℕ) → k < length block → is_set moves.moving k ≡ false → (shift_in moves k).first ≡ (particle_at ps (nth (bond_of bonds) block k).a).at
   first_stays t k p e =
       let q = in_lanes k p in
       (t.each k q).first ∙ (λ i. plus (g.first k q i).at (((t.each k q).rests e).first i)) ∙ plus_zero (particle_at ps (bond_of bonds (number_in block k)).a).at ∙ ap (λ (b : Bond). (particle_at ps b.a).at) (own k p)
 
-  pub second_stays : AreTogether limit ends named moves → (k : ℕ) → k < length block → is_set moves.moving k ≡ false → (shift_in moves k).second ≡ (particle_at ps (nth (bond_of bonds) block k).b).at
+  pub second_stays : DoEach limit ends named moves → (k : ℕ) → k < length block → is_set moves.moving k ≡ false → (shift_in moves k).second ≡ (particle_at ps (nth (bond_of bonds) block k).b).at
   second_stays t k p e =
       let q = in_lanes k p in
       (t.each k q).second ∙ (λ i. plus (g.second k q i).at (((t.each k q).rests e).second i)) ∙ plus_zero (particle_at ps (bond_of bonds (number_in block k)).b).at ∙ ap (λ (b : Bond). (particle_at ps b.b).at) (own k p)
 
-pub at_limit : {l : ℕ} {m limit : ℤ} {ends : BlockEnds l} {named : BlockBonds l} {moves : BlockMoves l} → m ≡ limit → AreTogether m ends named moves → AreTogether limit ends named moves
-at_limit {l} {m} {limit} {ends} {named} {moves} e t = subst (λ (x : ℤ). AreTogether x ends named moves) e t
+pub at_limit : {l : ℕ} {m limit : ℤ} {ends : BlockEnds l} {named : BlockBonds l} {places : BlockPlaces l} → m ≡ limit → AreTogether m ends named places → AreTogether limit ends named places
+at_limit {l} {m} {limit} {ends} {named} {places} e t = subst (λ (x : ℤ). AreTogether x ends named places) e t
 
 -- ---- the lanes that have bonds of their own
 
@@ -212,25 +217,77 @@ gathered_ends {l} {ps} f s n = record {
 
 -- ---- the ledger of lanes side by side
 
-module _ {l : ℕ} {limit : ℤ} {named : BlockBonds l} {ends : BlockEnds l} {moves : BlockMoves l} (bonds : Bonds) (block : List ℕ) (u : Ledger) (short : length block ≤ l) (not_moving : (k : ℕ) → length block ≤ k → k < l → is_set moves.moving k ≡ false) (t : AreTogether limit ends named moves) where
-  pub settled_together : added u classes.Pin (moved_in moves) ≡ settled (λ (k : ℕ). is_set moves.moving k) (lane_entries bonds block moves) (length block) u
+module _ {l : ℕ} {limit : ℤ} {named : BlockBonds l} {ends : BlockEnds l} {moves : BlockMoves l} (bonds : Bonds) (block : List ℕ) (u : Ledger) (short : length block ≤ l) (not_moving : (k : ℕ) → length block ≤ k → k < l → is_set moves.moving k ≡ false) (t : DoEach limit ends named moves) where
+  pub settled_together : added u classes.Pin (moved_below (shift_in moves) l) ≡ settled (λ (k : ℕ). is_set moves.moving k) (lane_entries bonds block moves) (length block) u
   settled_together =
-      ap (λ (v : Vec3). added u classes.Pin v) (sym (moved_is (λ k. shift_in moves k) l))
-      ∙ sym (pinned_all u (λ k. class_of (nth (bond_of bonds) block k)) (λ k. is_set moves.moving k) (λ k. is_set moves.first_free k) (λ k. is_set moves.second_free k) (λ k. shift_in moves k) l (λ k p. (t.each k p).opposed) (λ k p. (t.each k p).rests))
+      sym (pinned_all u (λ k. class_of (nth (bond_of bonds) block k)) (λ k. is_set moves.moving k) (λ k. is_set moves.first_free k) (λ k. is_set moves.second_free k) (λ k. shift_in moves k) l (λ k p. (t.each k p).opposed) (λ k p. (t.each k p).rests))
       ∙ settled_past (λ k. is_set moves.moving k) (lane_entries bonds block moves) (length block) l u short not_moving
 
-  pub moved_little : Within (length block * 2 ^ 32) (moved_in moves)
+  pub moved_little : Within (length block * 2 ^ 32) (moved_below (shift_in moves) l)
   moved_little =
       let shift : ℕ → Shift = λ k. shift_in moves k in
       subst (λ (v : Vec3). Within (length block * 2 ^ 32) v)
-      (sym (moved_past shift (length block) l short (λ k p q. (t.each k q).rests (not_moving k p q))) ∙ moved_is shift l)
+      (sym (moved_past shift (length block) l short (λ k p q. (t.each k q).rests (not_moving k p q))))
       (moved_short shift (length block) (λ k p. (t.each k (omega (arith, short))).sound.first_move) (λ k p. (t.each k (omega (arith, short))).sound.second_move))
+
+-- ---- the places of lanes side by side
+
+-- the lanes of drawn bonds as a block, with these places
+abbrev pub drawn_block : {l : ℕ} → BlockEnds l → BlockBonds l → BlockPlaces l → BlockMoves l
+drawn_block {l} ends named places = record {
+  moving = lanes_of l (λ k. (drawn_lane_in ends named k).moving);
+  leaving = lanes_of l (λ k. (drawn_lane_in ends named k).leaving);
+  first = places.first;
+  second = places.second;
+  first_move = record {
+    x = lanes_of l (λ k. (drawn_lane_in ends named k).shift.first_move.x);
+    y = lanes_of l (λ k. (drawn_lane_in ends named k).shift.first_move.y);
+    z = lanes_of l (λ k. (drawn_lane_in ends named k).shift.first_move.z);
+  };
+  second_move = record {
+    x = lanes_of l (λ k. (drawn_lane_in ends named k).shift.second_move.x);
+    y = lanes_of l (λ k. (drawn_lane_in ends named k).shift.second_move.y);
+    z = lanes_of l (λ k. (drawn_lane_in ends named k).shift.second_move.z);
+  };
+  first_free = lanes_of l (λ k. (drawn_lane_in ends named k).first_free);
+  second_free = lanes_of l (λ k. (drawn_lane_in ends named k).second_free);
+}
+
+module _ {l : ℕ} {limit : ℤ} {ends : BlockEnds l} {named : BlockBonds l} {places : BlockPlaces l} (t : AreTogether limit ends named places) where
+  flag : (f : LaneMove → Bool) (k : ℕ) → k < l → is_set (lanes_of l (λ j. f (drawn_lane_in ends named j))) k ≡ f (drawn_lane_in ends named k)
+  flag f k p = lane_is false l (λ j. f (drawn_lane_in ends named j)) k refl p
+
+  number : (f : LaneMove → ℤ) (k : ℕ) → k < l → lane (lanes_of l (λ j. f (drawn_lane_in ends named j))) k ≡ f (drawn_lane_in ends named k)
+  number f k p = lane_is (pos 0) l (λ j. f (drawn_lane_in ends named j)) k refl p
+
+  lane_drawn : (k : ℕ) → k < l → lane_in (drawn_block ends named places) k ≡ drawn_lane_in ends named k
+  lane_drawn k p = λ i. record {
+    moving = flag (λ m. m.moving) k p i;
+    leaving = flag (λ m. m.leaving) k p i;
+    shift = record {
+      first = t.first k p i;
+      second = t.second k p i;
+      first_move = record { x = number (λ m. m.shift.first_move.x) k p i; y = number (λ m. m.shift.first_move.y) k p i; z = number (λ m. m.shift.first_move.z) k p i };
+      second_move = record { x = number (λ m. m.shift.second_move.x) k p i; y = number (λ m. m.shift.second_move.y) k p i; z = number (λ m. m.shift.second_move.z) k p i };
+    };
+    first_free = flag (λ m. m.first_free) k p i;
+    second_free = flag (λ m. m.second_free) k p i;
+  }
+
+  pub do_each : DoEach limit ends named (drawn_block ends named places)
+  do_each = record { each = λ k p. subst (λ (m : LaneMove). Does limit (end_in ends.first k) (end_in ends.second k) (drawn_in named k) m) (sym (lane_drawn k p)) (t.does k p) }
+
+  pub moved_drawn : places.moved ≡ moved_below (shift_in (drawn_block ends named places)) l
+  moved_drawn = t.moved ∙ moved_same (λ j. (drawn_lane_in ends named j).shift) (shift_in (drawn_block ends named places)) l (λ k p. ap (λ (m : LaneMove). m.shift) (sym (lane_drawn k p)))
 
 -- ---- a block that goes side by side
 
-module _ {l : ℕ} {bonds : Bonds} {block : List ℕ} {store : Stored} {totals : Totals} {named : BlockBonds l} {ends : BlockEnds l} {moves : BlockMoves l} (can : CanProject l bonds block store totals) (n : IsNamed (bond_of bonds) block named) (g : AreGathered store.particles (bond_of bonds) block ends) (t : AreTogether store.limit ends named moves) (set : List Bool) (own_is : (k : ℕ) → k < l → is_set set k ≡ nat_lt k (length block)) where
-  laid : IsLaid store.limit store.particles (bond_of bonds) block named.a named.b moves
-  laid = laid_together can.some can.short can.batch can.weights n g moves refl t
+module _ {l : ℕ} {bonds : Bonds} {block : List ℕ} {store : Stored} {totals : Totals} {named : BlockBonds l} {ends : BlockEnds l} {places : BlockPlaces l} (can : CanProject l bonds block store totals) (n : IsNamed (bond_of bonds) block named) (g : AreGathered store.particles (bond_of bonds) block ends) (t : AreTogether store.limit ends named places) (set : List Bool) (own_is : (k : ℕ) → k < l → is_set set k ≡ nat_lt k (length block)) where
+  each : DoEach store.limit ends named (drawn_block ends named places)
+  each = do_each t
+
+  laid : IsLaid store.limit store.particles (bond_of bonds) block named.a named.b (drawn_block ends named places)
+  laid = laid_together can.some can.short can.batch can.weights n g (drawn_block ends named places) refl each
 
   pub together_firsts : ((k : ℕ) → k < l → IsTrue (is_set set k) → index_at named.a k < length store.particles) × NamesApart l named.a set
   together_firsts = (firsts_within can.short can.batch laid set (own_below block set own_is), firsts_differ can.short can.batch laid set (own_below block set own_is))
@@ -238,13 +295,13 @@ module _ {l : ℕ} {bonds : Bonds} {block : List ℕ} {store : Stored} {totals :
   pub together_seconds : ((k : ℕ) → k < l → IsTrue (is_set set k) → index_at named.b k < length store.particles) × NamesApart l named.b set
   together_seconds = (seconds_within can.short can.batch laid set (own_below block set own_is), seconds_differ can.short can.batch laid set (own_below block set own_is))
 
-  pub together_done : (mid new : List Particle) → Scattered l named.a set moves.first.x moves.first.y moves.first.z store.particles mid → Scattered l named.b set moves.second.x moves.second.y moves.second.z mid new → (v : Ledger) → v ≡ added (ledger_of totals) classes.Pin (moved_in moves) → AreDone store.limit bonds block (motion_of store totals) new v
+  pub together_done : (mid new : List Particle) → Scattered l named.a set places.first.x places.first.y places.first.z store.particles mid → Scattered l named.b set places.second.x places.second.y places.second.z mid new → (v : Ledger) → v ≡ added (ledger_of totals) classes.Pin places.moved → AreDone store.limit bonds block (motion_of store totals) new v
   together_done mid new one two v pins =
-      laid_done can.short can.batch laid (ledger_of totals) can.inside (λ k p. (t.each k (omega (arith, can.short))).not_leaving) set (own_unset block set own_is)
+      laid_done can.short can.batch laid (ledger_of totals) can.inside (λ k p. (each.each k (omega (arith, can.short))).not_leaving) set (own_unset block set own_is)
       (λ k p e. absurd (false≢true (sym e ∙ own_set block set own_is can.short k p)))
-      (λ k p m e. first_stays can.some can.short can.batch can.weights n g moves t k p m)
-      (λ k p m e. second_stays can.some can.short can.batch can.weights n g moves t k p m)
-      mid new one two v (pins ∙ settled_together bonds block (ledger_of totals) can.short laid.not_moving t)
+      (λ k p m e. first_stays can.some can.short can.batch can.weights n g (drawn_block ends named places) each k p m)
+      (λ k p m e. second_stays can.some can.short can.batch can.weights n g (drawn_block ends named places) each k p m)
+      mid new one two v (pins ∙ ap (added (ledger_of totals) classes.Pin) (moved_drawn t) ∙ settled_together bonds block (ledger_of totals) can.short laid.not_moving each)
 
-  pub together_little : Within (length block * 2 ^ 32) (moved_in moves)
-  together_little = moved_little bonds block (ledger_of totals) can.short laid.not_moving t
+  pub together_little : Within (length block * 2 ^ 32) places.moved
+  together_little = subst (λ (v : Vec3). Within (length block * 2 ^ 32) v) (sym (moved_drawn t)) (moved_little bonds block (ledger_of totals) can.short laid.not_moving each)

@@ -10,8 +10,7 @@ use Rattle.pbd_world.specs.declared.totals.Class.{Class}
 use Rattle.pbd_world.specs.declared.totals.Class.TheVariants as classes
 use Rattle.pbd_world.specs.Ledger.{Sum, Ledger, Entry, sum_plus, added, booked}
 use Rattle.pbd_world.specs.Bonds.{entries_of}
-use Rattle.pbd_lanes.specs.Lane.{sum_below}
-use Rattle.pbd_pair.specs.Lanes.{settled, Opposed, Rests}
+use Rattle.pbd_pair.specs.Lanes.{settled, moved_below, Opposed, Rests}
 
 then_both : (s v w : ℤ) → (s +ℤ v) +ℤ w ≡ s +ℤ (v +ℤ w)
 then_both s v w = omega (arith, ints)
@@ -79,11 +78,6 @@ pinned_more t s class false true m h =
 pinned_more t s class false false m h =
     ap (pinned t) (sym ((λ i. plus s (plus (h.first_held refl i) (h.second_held refl i))) ∙ both_none s))
 
--- what the first n bonds move together
-abbrev pub moved_below : (ℕ → Shift) → ℕ → Vec3
-moved_below m zero = zero_vector
-moved_below m (suc n) = plus (moved_below m n) (plus (m n).first_move (m n).second_move)
-
 -- one bond more, which rests where it doesn't move
 pinned_next : (t u : Ledger) (s : Vec3) (class : Class) (p q : Bool) (m : Shift) (moves : Bool) → u ≡ pinned t s → Opposed p q m → (moves ≡ false → Rests m) → cond moves (booked u (entries_of (not p) (not q) class m)) u ≡ pinned t (plus s (plus m.first_move m.second_move))
 pinned_next t u s class p q m true e o r = ap (λ (x : Ledger). booked x (entries_of (not p) (not q) class m)) e ∙ pinned_more t s class p q m o
@@ -129,13 +123,12 @@ moved_short m (suc n) h1 h2 =
       z = omega (arith, size-add s.z (v.z +ℤ w.z), size-add v.z w.z, before.z, f.z, g.z);
     }
 
-pub moved_is : (m : ℕ → Shift) (n : ℕ) → moved_below m n ≡ record {
-  x = sum_below (λ k. (m k).first_move.x +ℤ (m k).second_move.x) n;
-  y = sum_below (λ k. (m k).first_move.y +ℤ (m k).second_move.y) n;
-  z = sum_below (λ k. (m k).first_move.z +ℤ (m k).second_move.z) n;
-}
-moved_is m zero = refl
-moved_is m (suc n) = ap (λ (v : Vec3). plus v (plus (m n).first_move (m n).second_move)) (moved_is m n)
+pub moved_same : (m k : ℕ → Shift) (n : ℕ) → ((j : ℕ) → j < n → m j ≡ k j) → moved_below m n ≡ moved_below k n
+moved_same m k zero e = refl
+moved_same m k (suc n) e =
+    let before = moved_same m k n (λ j p. e j (omega arith)) in
+    let here = e n (omega arith) in
+    λ i. plus (before i) (plus (here i).first_move (here i).second_move)
 
 pub plus_zero : (v : Vec3) → plus v zero_vector ≡ v
 plus_zero v = λ i. record { x = then_none v.x i; y = then_none v.y i; z = then_none v.z i }

@@ -1,7 +1,8 @@
 -- Bonds side by side, lane by lane.
-use Rattle.std.specs.Prelude.{◌≡◌, ℕ, zero, suc, ◌<◌, ◌≤◌, ◌-◌, ◌^◌, min, ℤ, pos, ◌+ℤ◌, Bool, true, false, int_lt, nat_lt, not, if◌then◌else◌, List, length, slice_index_or}
-use Rattle.pbd_lanes.specs.Lane.{lane, is_set, sum_below}
-use Rattle.pbd_num.specs.Vectors.{plus, opposite, zero_vector}
+use Rattle.std.specs.Prelude.{◌≡◌, ℕ, zero, suc, ◌<◌, ◌≤◌, ◌-◌, ◌^◌, min, ℤ, pos, Bool, true, false, int_lt, nat_lt, not, if◌then◌else◌, List, length, slice_index_or}
+use Rattle.pbd_lanes.specs.Lane.{lane, is_set}
+use Rattle.pbd_num.specs.PairMove.{pair_moves}
+use Rattle.pbd_num.specs.Vectors.{plus, minus, opposite, length_of, zero_vector}
 use Rattle.pbd_num.specs.declared.Vec3.{Vec3}
 use Rattle.pbd_num.specs.declared.tried.Draw.{Draw}
 use Rattle.pbd_world.specs.declared.parts.Particle.{Particle}
@@ -18,10 +19,11 @@ use Rattle.pbd_store.specs.Gathering.{index_at}
 use Rattle.pbd_store.specs.declared.lanes3.Ends.{Ends}
 use Rattle.pbd_store.specs.declared.lanes3.Lanes3.{Lanes3}
 use Rattle.pbd_pair.specs.declared.bonds.Bonds.{Bonds}
-use Rattle.pbd_pair.specs.Bonds.{bond_of, IsSoundShift}
+use Rattle.pbd_pair.specs.Bonds.{bond_of, shift_by, IsSoundShift}
 use Rattle.pbd_pair.specs.declared.named.BlockBonds.{BlockBonds}
 use Rattle.pbd_pair.specs.declared.laid.BlockEnds.{BlockEnds}
 use Rattle.pbd_pair.specs.declared.laid.BlockMoves.{BlockMoves}
+use Rattle.pbd_pair.specs.declared.laid.BlockPlaces.{BlockPlaces}
 use Rattle.pbd_pair.specs.declared.laid.LaneMove.{LaneMove}
 
 -- the place in lane j
@@ -145,17 +147,41 @@ pub record Does (limit : ℤ) (p q : End) (draw : Draw) (lane : LaneMove) : Type
   pub rests : lane.moving ≡ false → Rests lane.shift
   pub opposed : Opposed lane.first_free lane.second_free lane.shift
 
--- lanes that do what their bonds do with these ends, where no bond would leave the limit
-pub record AreTogether {l : ℕ} (limit : ℤ) (ends : BlockEnds l) (named : BlockBonds l) (moves : BlockMoves l) : Type 0 where
-  pub each : (j : ℕ) → j < l → Does limit (end_in ends.first j) (end_in ends.second j) (drawn_in named j) (lane_in moves j)
+-- whether two ends are near enough that a draw moves them
+abbrev pub draws : End → End → Draw → Bool
+draws p q draw = int_lt (pos (length_of (minus p.at q.at))) draw.reach
 
--- what the ends of all l lanes move together
-abbrev pub moved_in : {l : ℕ} → BlockMoves l → Vec3
-moved_in {l} m = record {
-  x = sum_below (λ k. lane m.first_move.x k +ℤ lane m.second_move.x k) l;
-  y = sum_below (λ k. lane m.first_move.y k +ℤ lane m.second_move.y k) l;
-  z = sum_below (λ k. lane m.first_move.z k +ℤ lane m.second_move.z k) l;
+-- where a draw moves two ends
+abbrev pub drawn_shift : End → End → Draw → Shift
+drawn_shift p q draw = if draws p q draw
+    then shift_by p q (pair_moves p.at q.at draw.rest draw.k p.weight q.weight).0 (pair_moves p.at q.at draw.rest draw.k p.weight q.weight).1
+    else shift_by p q zero_vector zero_vector
+
+-- what a draw does with two ends, where that leaves neither out of the limit
+abbrev pub drawn_lane : End → End → Draw → LaneMove
+drawn_lane p q draw = record {
+  moving = draws p q draw;
+  leaving = false;
+  shift = drawn_shift p q draw;
+  first_free = int_lt (pos 0) p.weight;
+  second_free = int_lt (pos 0) q.weight;
 }
+
+-- the same of the bond in lane j
+abbrev pub drawn_lane_in : {l : ℕ} → BlockEnds l → BlockBonds l → ℕ → LaneMove
+drawn_lane_in ends named j = drawn_lane (end_in ends.first j) (end_in ends.second j) (drawn_in named j)
+
+-- what n bonds move their ends together
+abbrev pub moved_below : (ℕ → Shift) → ℕ → Vec3
+moved_below shift zero = zero_vector
+moved_below shift (suc n) = plus (moved_below shift n) (plus (shift n).first_move (shift n).second_move)
+
+-- where the bonds in all l lanes lead their ends, and what they move together, where no bond would leave the limit
+pub record AreTogether {l : ℕ} (limit : ℤ) (ends : BlockEnds l) (named : BlockBonds l) (places : BlockPlaces l) : Type 0 where
+  pub does : (j : ℕ) → j < l → Does limit (end_in ends.first j) (end_in ends.second j) (drawn_in named j) (drawn_lane_in ends named j)
+  pub first : (j : ℕ) → j < l → place_in places.first j ≡ (drawn_lane_in ends named j).shift.first
+  pub second : (j : ℕ) → j < l → place_in places.second j ≡ (drawn_lane_in ends named j).shift.second
+  pub moved : places.moved ≡ moved_below (λ j. (drawn_lane_in ends named j).shift) l
 
 -- a block of bonds in l lanes: lane k names the ends of bond k and holds its correction, and a lane without a bond does nothing
 pub record IsLaid {l : ℕ} (limit : ℤ) (ps : List Particle) (bond : ℕ → Bond) (block : List ℕ) (firsts seconds : List ℕ) (moves : BlockMoves l) : Type 0 where

@@ -9,7 +9,7 @@ ghost use Rattle.pbd_store.specs.Moving.{motion_of};
 ghost use Rattle.pbd_lanes.specs.Lane.{is_set};
 ghost use Rattle.pbd_pair.specs.Bonds.{bond_of, bond_count};
 ghost use Rattle.pbd_pair.specs.Projecting.{projected_block, CanProject, LeavesRest};
-ghost use Rattle.pbd_pair.specs.Lanes.{end_in, lane_entries, shift_in, moved_in, settled, AreGathered};
+ghost use Rattle.pbd_pair.specs.Lanes.{end_in, lane_entries, shift_in, settled, AreGathered};
 ghost use Rattle.pbd_world.specs.declared.totals.Class.TheVariants as classes;
 
 use crate::book::book;
@@ -17,7 +17,7 @@ use crate::correct::limit_of;
 use crate::each::corrected_each;
 use crate::laid::{BlockEnds, BlockMoves, LaneMove};
 use crate::named::{Block, BlockBonds, every_lane, first_lanes, name_block};
-use crate::tried::tried_moves;
+use crate::tried::tried_places;
 use pbd_lanes::Mask;
 use pbd_num::Vec3;
 use pbd_store::{Steps, Store};
@@ -68,20 +68,15 @@ fn book_each<const L: usize>(totals: &mut Totals, block: &Block<'_>, laid: &Bloc
     }
 }
 
-// Adds what all lanes move to the total of pins.
+// Adds what the ends of a block move together to the total of pins.
 #[inline(always)]
-fn book_pins<const L: usize>(totals: &mut Totals, laid: &BlockMoves<L>)
-    requires lanes { L ≤ 16 }
+fn book_pins(totals: &mut Totals, moved: Vec3)
     requires room { HaveRoom (2 ^ 124) (ledger_of totals.old) }
-    requires first { (j : ℕ) → j < L → Within (2 ^ 31) (shift_in laid.now j).first_move }
-    requires second { (j : ℕ) → j < L → Within (2 ^ 31) (shift_in laid.now j).second_move }
-    ensures value { ledger_of totals.new ≡ added (ledger_of totals.old) classes.Pin (moved_in laid.now) }
-    ensures room { (n m : ℕ) → Within m (moved_in laid.now) → HaveRoom n (ledger_of totals.old) → HaveRoom (n + m) (ledger_of totals.new) }
+    requires size { Within (2 ^ 36) moved }
+    ensures value { ledger_of totals.new ≡ added (ledger_of totals.old) classes.Pin moved }
+    ensures room { (n m : ℕ) → Within m moved → HaveRoom n (ledger_of totals.old) → HaveRoom (n + m) (ledger_of totals.new) }
 {
-    let x = laid.first_move.x.sum_with(&laid.second_move.x);
-    let y = laid.first_move.y.sum_with(&laid.second_move.y);
-    let z = laid.first_move.z.sum_with(&laid.second_move.z);
-    totals.add(Class::Pin, Vec3 { x, y, z });
+    totals.add(Class::Pin, moved);
 }
 
 // The ends of a block's bonds: two gathers.
@@ -161,11 +156,11 @@ fn project_lanes<const L: usize, G: Ledger>(
     let named: BlockBonds<L> = name_block(block, own);
     let ends = gather_ends(store, &named, steps);
     let mut right = false;
-    let moves = tried_moves(limit, &ends, &named, &mut right);
+    let places = tried_places(limit, &ends, &named, &mut right);
     if right {
-        book_pins(totals, &moves);
-        store.scatter(&named.a, own, &moves.first, steps);
-        store.scatter(&named.b, own, &moves.second, steps);
+        book_pins(totals, places.moved);
+        store.scatter(&named.a, own, &places.first, steps);
+        store.scatter(&named.b, own, &places.second, steps);
         return Ok(());
     }
     project_each(store, block, &ends, totals, steps)

@@ -39,6 +39,14 @@ pub(crate) struct BlockMoves<const L: usize> {
     pub(crate) second_free: Mask<L>,
 }
 
+/// Where L bonds lead their ends, each number in an array of its own, and what all of them move together.
+#[derive(Clone, Copy)]
+pub(crate) struct BlockPlaces<const L: usize> {
+    pub(crate) first: Lanes3<L>,
+    pub(crate) second: Lanes3<L>,
+    pub(crate) moved: Vec3,
+}
+
 /// The end in lane j.
 #[inline(always)]
 pub(crate) fn end_at<const L: usize>(ends: &Ends<L>, j: usize) -> End
@@ -74,6 +82,34 @@ fn put_place<const L: usize>(places: &mut Lanes3<L>, j: usize, place: Vec3)
     places.x.put(j, place.x);
     places.y.put(j, place.y);
     places.z.put(j, place.z);
+}
+
+impl<const L: usize> BlockPlaces<L> {
+    /// All at the origin.
+    #[inline(always)]
+    pub(crate) fn origins() -> BlockPlaces<L>
+        requires { L ≤ 16 }
+    {
+        BlockPlaces {
+            first: origins(),
+            second: origins(),
+            moved: Vec3::ZERO,
+        }
+    }
+
+    /// Puts where a bond leads its ends into lane j.
+    #[inline(always)]
+    pub(crate) fn put(&mut self, j: usize, shift: Shift)
+        requires lanes { L ≤ 16 }
+        requires within { j < L }
+        ensures first { place_in self.new.first j ≡ shift.first }
+        ensures second { place_in self.new.second j ≡ shift.second }
+        ensures other_firsts { (k : ℕ) → (k ≡ j → ⊥) → place_in self.new.first k ≡ place_in self.old.first k }
+        ensures other_seconds { (k : ℕ) → (k ≡ j → ⊥) → place_in self.new.second k ≡ place_in self.old.second k }
+    {
+        put_place(&mut self.first, j, shift.first);
+        put_place(&mut self.second, j, shift.second);
+    }
 }
 
 impl<const L: usize> BlockMoves<L> {

@@ -1,32 +1,36 @@
 // The bonds of a block, corrected side by side.
-ghost use Rattle.std.specs.Prelude.{◌≡◌, ℕ, ◌<◌, ◌≤◌, ◌^◌, pos, ◌≤ℤ◌, IsTrue, unsigned_abs};
+ghost use Rattle.std.specs.Prelude.{◌≡◌, ℕ, ◌+◌, ◌<◌, ◌≤◌, ◌^◌, pos, ◌+ℤ◌, ◌≤ℤ◌, IsTrue, unsigned_abs};
+ghost use Rattle.pbd_num.specs.Vectors.{Within, plus};
 ghost use Rattle.pbd_lanes.specs.Lane.{lane};
 ghost use Rattle.pbd_pair.specs.Bonds.{IsBound, IsEnd};
-ghost use Rattle.pbd_pair.specs.Lanes.{end_in, drawn_in, Does, AreTogether};
+ghost use Rattle.pbd_pair.specs.Lanes.{end_in, drawn_lane, drawn_shift, Does, AreTogether};
 
 use crate::correct::{moved, stays};
-use crate::laid::{BlockEnds, BlockMoves, LaneMove, end_at};
+use crate::laid::{BlockEnds, BlockPlaces, end_at};
 use crate::named::BlockBonds;
-use pbd_num::{Draw, Weights, try_moves};
-use pbd_world::End;
+use pbd_num::{Draw, Vec3, Weights, try_moves};
+use pbd_world::{End, Shift};
 
-/// What a bond does with its ends, guessed: what it is only where `right` is true.
+/// Where a bond leads its ends, guessed: what it is only where `right` is true.
 #[derive(Clone, Copy)]
-struct TriedLane {
-    lane: LaneMove,
+struct TriedShift {
+    shift: Shift,
     right: bool,
 }
 
 // It has no branches, so that the loop over the lanes of a block is one of vectors.
 #[inline(always)]
-fn try_lane(limit: i64, first: End, second: End, draw: Draw) -> TriedLane
+fn try_shift(limit: i64, first: End, second: End, draw: Draw) -> TriedShift
     requires limit { IsBound limit }
     requires first { IsEnd limit first }
     requires second { IsEnd limit second }
     requires rest_low { pos 0 ≤ℤ draw.rest }
     requires rest_high { draw.rest ≤ℤ pos (2 ^ 31) }
     requires stiffness { unsigned_abs draw.k ≤ 256 }
-    ensures { IsTrue result.right → Does limit first second draw result.lane }
+    ensures does { IsTrue result.right → Does limit first second draw (drawn_lane first second draw) }
+    ensures shift { IsTrue result.right → result.shift ≡ drawn_shift first second draw }
+    ensures first_move { Within (2 ^ 31) result.shift.first_move }
+    ensures second_move { Within (2 ^ 31) result.shift.second_move }
 {
     let weights = Weights {
         first: first.weight,
@@ -35,27 +39,47 @@ fn try_lane(limit: i64, first: End, second: End, draw: Draw) -> TriedLane
     let tried = try_moves(first.at, second.at, draw, weights);
     let shift = moved(first, second, tried.first, tried.second);
     let inside = stays(shift, limit);
-    let lane = LaneMove {
-        moving: tried.length < draw.reach,
-        leaving: false,
+    TriedShift {
         shift,
-        first_free: 0 < first.weight,
-        second_free: 0 < second.weight,
-    };
-    TriedLane {
-        lane,
         right: tried.right & inside,
     }
 }
 
-/// What the bonds of a block do with their ends, if `right` is true after.
 #[inline(always)]
-pub(crate) fn tried_moves<const L: usize>(
+fn with_both(sum: i64, a: i64, b: i64) -> i64
+    requires sum { unsigned_abs sum ≤ 2 ^ 40 }
+    requires a { unsigned_abs a ≤ 2 ^ 31 }
+    requires b { unsigned_abs b ≤ 2 ^ 31 }
+    ensures value { result ≡ sum +ℤ (a +ℤ b) }
+    ensures size { (n : ℕ) → unsigned_abs sum ≤ n → unsigned_abs result ≤ n + 2 ^ 32 }
+{
+    sum + (a + b)
+}
+
+// A sum of moves, and the moves of both ends of a bond more.
+#[inline(always)]
+fn with_moves(sum: Vec3, first: Vec3, second: Vec3) -> Vec3
+    requires sum { Within (2 ^ 40) sum }
+    requires first { Within (2 ^ 31) first }
+    requires second { Within (2 ^ 31) second }
+    ensures value { result ≡ plus sum (plus first second) }
+    ensures size { (n : ℕ) → Within n sum → Within (n + 2 ^ 32) result }
+{
+    Vec3 {
+        x: with_both(sum.x, first.x, second.x),
+        y: with_both(sum.y, first.y, second.y),
+        z: with_both(sum.z, first.z, second.z),
+    }
+}
+
+/// Where the bonds of a block lead their ends, if `right` is true after.
+#[inline(always)]
+pub(crate) fn tried_places<const L: usize>(
     limit: i64,
     ends: &BlockEnds<L>,
     named: &BlockBonds<L>,
     right: &mut bool,
-) -> BlockMoves<L>
+) -> BlockPlaces<L>
     requires lanes { L ≤ 16 }
     requires limit { IsBound limit }
     requires first { (j : ℕ) → j < L → IsEnd limit (end_in ends.now.first j) }
@@ -63,17 +87,21 @@ pub(crate) fn tried_moves<const L: usize>(
     requires rest_low { (j : ℕ) → j < L → pos 0 ≤ℤ lane named.now.rest j }
     requires rest_high { (j : ℕ) → j < L → lane named.now.rest j ≤ℤ pos (2 ^ 31) }
     requires k { (j : ℕ) → j < L → unsigned_abs (lane named.now.k j) ≤ 256 }
-    ensures { IsTrue right.new → AreTogether limit ends.now named.now result }
+    ensures places { IsTrue right.new → AreTogether limit ends.now named.now result }
+    ensures size { Within (2 ^ 36) result.moved }
 {
-    let mut moves = BlockMoves::none();
+    let mut places = BlockPlaces::origins();
+    let mut sum = Vec3::ZERO;
     let mut all = true;
     for j in 0..L {
         let first = end_at(&ends.first, j);
         let second = end_at(&ends.second, j);
-        let tried = try_lane(limit, first, second, named.draw(j));
+        let tried = try_shift(limit, first, second, named.draw(j));
         all = all & tried.right;
-        moves.put(j, tried.lane);
+        places.put(j, tried.shift);
+        sum = with_moves(sum, tried.shift.first_move, tried.shift.second_move);
     }
     *right = all;
-    moves
+    places.moved = sum;
+    places
 }

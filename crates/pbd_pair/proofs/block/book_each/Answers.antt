@@ -1,4 +1,4 @@
-use Rattle.std.proofs.Common.{◌≡◌, ℕ, ◌^◌, ◌+◌, ◌*◌, ◌≤◌, add-one, ap, sym, ◌∙◌, arith, not, cond, length, get_or, true, subst}
+use Rattle.std.proofs.Common.{◌≡◌, ℕ, ◌^◌, add-one, ap, sym, ◌∙◌, arith, not, cond, length, get_or, true, subst}
 use Rattle.pbd_lanes.specs.Lane.{is_set}
 use Rattle.pbd_num.specs.Vectors.{Within}
 use Rattle.pbd_world.specs.Ledger.{Ledger, ledger_of, booked}

@@ -12,8 +12,8 @@ name_block-named-requires g c = (omega (arith, c.requires.lanes), (omega (arith,
 pub gather_ends-ends-requires : goal.gather_ends-ends-requires
 gather_ends-ends-requires g c = (omega arith, (omega (arith, c.requires.lanes), (omega (arith, c.requires.lanes), (c.requires.lanes, (first_known c.requires.can.some c.requires.can.batch c.name_block-named.ensures, second_known c.requires.can.some c.requires.can.batch c.name_block-named.ensures)))))
 
-pub tried_moves-moves-requires : goal.tried_moves-moves-requires
-tried_moves-moves-requires g c =
+pub tried_places-places-requires : goal.tried_places-places-requires
+tried_places-places-requires g c =
     let f : FitsSigned w64 c.limit_of-limit.result = search rules in
     let same = c.limit_of-limit.ensures.value in
     let named = c.name_block-named.ensures in
@@ -26,16 +26,13 @@ tried_moves-moves-requires g c =
     simp to_z-of_z (omega (arith, c.requires.lanes), (omega (arith, c.requires.lanes), (omega (arith, c.requires.lanes), (c.requires.lanes, (c.limit_of-limit.ensures.bound, (first, (second, (rests_low c.requires.can.some c.requires.can.batch named, (rests_high c.requires.can.some c.requires.can.batch named bound, stiff c.requires.can.some c.requires.can.batch named)))))))))
 
 pub book_pins-requires : goal.book_pins-requires
-book_pins-requires g c =
-    let f : FitsSigned w64 c.limit_of-limit.result = search rules in
-    let together = simp to_z-of_z at (c.tried_moves-moves.ensures c.if-right.true) in
-    (omega (arith, c.requires.lanes), (c.requires.lanes, (c.requires.can.room, (λ j p. (together.each j p).sound.first_move, λ j p. (together.each j p).sound.second_move))))
+book_pins-requires g c = record { room = c.requires.can.room; size = c.tried_places-places.ensures.size }
 
 pub scatter-requires : goal.scatter-requires
 scatter-requires g c =
     let size = c.requires.lanes in
     let f : FitsSigned w64 c.limit_of-limit.result = search rules in
-    let together = simp to_z-of_z at (c.tried_moves-moves.ensures c.if-right.true) in
+    let together = simp to_z-of_z at (c.tried_places-places.ensures.places c.if-right.true) in
     let ends = gathered_ends c.gather_ends-ends.ensures.first c.gather_ends-ends.ensures.second c.name_block-named.ensures in
     (omega arith, (omega (arith, size), (omega (arith, size), (omega (arith, size), together_firsts c.requires.can c.name_block-named.ensures ends (at_limit c.limit_of-limit.ensures.value together) c.args.own.now c.requires.own))))
 
@@ -43,7 +40,7 @@ pub scatter-requires-then-right : goal.scatter-requires-then-right
 scatter-requires-then-right g c =
     let size = c.requires.lanes in
     let f : FitsSigned w64 c.limit_of-limit.result = search rules in
-    let together = simp to_z-of_z at (c.tried_moves-moves.ensures c.if-right.true) in
+    let together = simp to_z-of_z at (c.tried_places-places.ensures.places c.if-right.true) in
     let ends = gathered_ends c.gather_ends-ends.ensures.first c.gather_ends-ends.ensures.second c.name_block-named.ensures in
     let seconds = together_seconds c.requires.can c.name_block-named.ensures ends (at_limit c.limit_of-limit.ensures.value together) c.args.own.now c.requires.own in
     (omega arith, (omega (arith, size), (omega (arith, size), (omega (arith, size), ((λ j p t. rw c.scatter.ensures.particles.whole (seconds.0 j p t)), seconds.1)))))
@@ -51,14 +48,14 @@ scatter-requires-then-right g c =
 pub returns-then-right-clause-outcome : goal.returns-then-right-clause-outcome
 returns-then-right-clause-outcome g c =
     let f : FitsSigned w64 c.limit_of-limit.result = search rules in
-    let together = simp to_z-of_z at (c.tried_moves-moves.ensures c.if-right.true) in
+    let together = simp to_z-of_z at (c.tried_places-places.ensures.places c.if-right.true) in
     let ends = gathered_ends c.gather_ends-ends.ensures.first c.gather_ends-ends.ensures.second c.name_block-named.ensures in
     (together_done c.requires.can c.name_block-named.ensures ends (at_limit c.limit_of-limit.ensures.value together) c.args.own.now c.requires.own _ _ c.scatter.ensures.particles c.scatter-then-right.ensures.particles _ c.book_pins.ensures.value).outcome
 
 pub returns-then-right-clause-rest : goal.returns-then-right-clause-rest
 returns-then-right-clause-rest g c =
     let f : FitsSigned w64 c.limit_of-limit.result = search rules in
-    let together = simp to_z-of_z at (c.tried_moves-moves.ensures c.if-right.true) in
+    let together = simp to_z-of_z at (c.tried_places-places.ensures.places c.if-right.true) in
     let ends = gathered_ends c.gather_ends-ends.ensures.first c.gather_ends-ends.ensures.second c.name_block-named.ensures in
     let at = at_limit c.limit_of-limit.ensures.value together in
     let done = together_done c.requires.can c.name_block-named.ensures ends at c.args.own.now c.requires.own _ _ c.scatter.ensures.particles c.scatter-then-right.ensures.particles _ c.book_pins.ensures.value in
