@@ -1,8 +1,8 @@
 // Arrays of integers, and the arrays of tables.
 ghost use Rattle.std.specs.Prelude.{◌≡◌, [], ◌≤◌, ◌^◌, length, map, IfOk, option_map};
-ghost use Rattle.toml.specs.View.{view, table_view};
+ghost use Rattle.toml.specs.View.{view, table_view, items_view};
 ghost use Rattle.pbd_scene.specs.Checks.{Gives, broken};
-ghost use Rattle.pbd_scene.specs.Values.{array_of, value_of, any_integer, integers, four_integers, row, required_array, members, entry, entries, entries_of, table_of, integers_of};
+ghost use Rattle.pbd_scene.specs.Values.{array_of, value_of, any_integer, integers, four_of, four_integers, row, required_array, members, entry, entries, entries_of, table_of, integers_of};
 
 use crate::each::{Reader, read_each};
 use crate::fault::{KeyName, Place, SceneFault, SceneRule, TableName};
@@ -72,22 +72,31 @@ pub fn integers_of(
     }
 }
 
-#[tactic(auto, using(crate::proofs::Views::four_of_other))]
+fn four_of(items: &[Value]) -> Option<Row>
+    ensures { result ≡ four_of (items_view items.now) }
+{
+    match items {
+        [step, x, y, z] => {
+            let step = step.as_integer()?;
+            let x = x.as_integer()?;
+            let y = y.as_integer()?;
+            let z = z.as_integer()?;
+            Some(Row {
+                step,
+                place: Vec3 { x, y, z },
+            })
+        }
+        _ => None,
+    }
+}
+
 fn four_integers(value: &Value) -> Option<Row>
     ensures { result ≡ four_integers (view value.now) }
 {
-    let items = value.as_array()?;
-    if items.len() != 4 {
-        return None;
+    match value.as_array() {
+        Some(items) => four_of(items.as_slice()),
+        None => None,
     }
-    let step = items[0].as_integer()?;
-    let x = items[1].as_integer()?;
-    let y = items[2].as_integer()?;
-    let z = items[3].as_integer()?;
-    Some(Row {
-        step,
-        place: Vec3 { x, y, z },
-    })
 }
 
 /// A step and a place.

@@ -20,18 +20,15 @@ use std::alloc::Global;
 use toml::Table;
 
 #[tactic(auto, unfolding(crate::specs::Scene::particles_of))]
-fn particles_of(alloc: Global, limit: i64, members: &Table) -> Result<List<Particle>, SceneFault>
-    requires low { pos 0 ≤ℤ limit }
-    requires high { unsigned_abs limit ≤ 2 ^ 29 }
-    ensures value { Gives (λ xs. xs) result (particles_of limit (table_view members.now)) }
+fn particles_of(alloc: Global, limit: &Limit, members: &Table) -> Result<List<Particle>, SceneFault>
+    ensures value { Gives (λ xs. xs) result (particles_of limit.now.units (table_view members.now)) }
     ensures few { IfOk result (λ xs. length xs ≤ 65536) }
 {
-    let limit = Limit { units: limit };
     read_table(
         alloc,
         TableName::Particle,
         MOST_PARTICLES,
-        &Particles { limit },
+        &Particles { limit: *limit },
         members,
     )
 }
@@ -40,22 +37,22 @@ fn particles_of(alloc: Global, limit: i64, members: &Table) -> Result<List<Parti
 #[tactic(auto, unfolding(crate::specs::Scene::cloths_of))]
 fn cloths_of(
     alloc: Global,
-    limit: i64,
+    limit: &Limit,
     count: u32,
     members: &Table,
 ) -> Result<List<ClothSpec>, SceneFault>
-    requires low { pos 0 ≤ℤ limit }
-    requires high { unsigned_abs limit ≤ 2 ^ 29 }
     requires room { count ≤ 65536 }
-    ensures value { Gives (λ xs. xs) result (cloths_of limit count (table_view members.now)) }
+    ensures value { Gives (λ xs. xs) result (cloths_of limit.now.units count (table_view members.now)) }
     ensures room { IfOk result (λ xs. count + all_cloths_size xs ≤ 65536) }
 {
-    let limit = Limit { units: limit };
     read_table(
         alloc,
         TableName::Cloth,
         64,
-        &Cloths { limit, count },
+        &Cloths {
+            limit: *limit,
+            count,
+        },
         members,
     )
 }
@@ -64,31 +61,34 @@ fn cloths_of(
 #[tactic(auto, unfolding(crate::specs::Scene::ropes_of))]
 fn ropes_of(
     alloc: Global,
-    limit: i64,
+    limit: &Limit,
     count: u32,
     members: &Table,
 ) -> Result<List<RopeSpec>, SceneFault>
-    requires low { pos 0 ≤ℤ limit }
-    requires high { unsigned_abs limit ≤ 2 ^ 29 }
     requires room { count ≤ 65536 }
-    ensures value { Gives (λ xs. xs) result (ropes_of limit count (table_view members.now)) }
+    ensures value { Gives (λ xs. xs) result (ropes_of limit.now.units count (table_view members.now)) }
 {
-    let limit = Limit { units: limit };
-    read_table(alloc, TableName::Rope, 64, &Ropes { limit, count }, members)
+    read_table(
+        alloc,
+        TableName::Rope,
+        64,
+        &Ropes {
+            limit: *limit,
+            count,
+        },
+        members,
+    )
 }
 
 #[tactic(auto, unfolding(crate::specs::Scene::links_of))]
-fn links_of(alloc: Global, limit: i64, members: &Table) -> Result<List<LinkEntry>, SceneFault>
-    requires low { pos 0 ≤ℤ limit }
-    requires high { unsigned_abs limit ≤ 2 ^ 29 }
-    ensures value { Gives (λ xs. xs) result (links_of limit (table_view members.now)) }
+fn links_of(alloc: Global, limit: &Limit, members: &Table) -> Result<List<LinkEntry>, SceneFault>
+    ensures value { Gives (λ xs. xs) result (links_of limit.now.units (table_view members.now)) }
 {
-    let limit = Limit { units: limit };
     read_table(
         alloc,
         TableName::Link,
         MOST_LINKS,
-        &Links { limit },
+        &Links { limit: *limit },
         members,
     )
 }
@@ -101,37 +101,43 @@ fn planes_of(alloc: Global, members: &Table) -> Result<List<Plane>, SceneFault>
 }
 
 #[tactic(auto, unfolding(crate::specs::Scene::spheres_of))]
-fn spheres_of(alloc: Global, limit: i64, members: &Table) -> Result<List<Sphere>, SceneFault>
-    requires low { pos 0 ≤ℤ limit }
-    requires high { unsigned_abs limit ≤ 2 ^ 29 }
-    ensures value { Gives (λ xs. xs) result (spheres_of limit (table_view members.now)) }
+fn spheres_of(alloc: Global, limit: &Limit, members: &Table) -> Result<List<Sphere>, SceneFault>
+    ensures value { Gives (λ xs. xs) result (spheres_of limit.now.units (table_view members.now)) }
 {
-    let limit = Limit { units: limit };
-    read_table(alloc, TableName::Sphere, 256, &Spheres { limit }, members)
+    read_table(
+        alloc,
+        TableName::Sphere,
+        256,
+        &Spheres { limit: *limit },
+        members,
+    )
 }
 
 #[tactic(auto, unfolding(crate::specs::Scene::tracks_of))]
-fn tracks_of(alloc: Global, limit: i64, members: &Table) -> Result<List<TrackEntry>, SceneFault>
-    requires low { pos 0 ≤ℤ limit }
-    requires high { unsigned_abs limit ≤ 2 ^ 29 }
-    ensures value { Gives (λ xs. xs) result (tracks_of limit (table_view members.now)) }
+fn tracks_of(alloc: Global, limit: &Limit, members: &Table) -> Result<List<TrackEntry>, SceneFault>
+    ensures value { Gives (λ xs. xs) result (tracks_of limit.now.units (table_view members.now)) }
 {
-    let limit = Limit { units: limit };
     read_table(
         alloc,
         TableName::Track,
         MOST_TRACKS,
-        &Tracks { limit, alloc },
+        &Tracks {
+            limit: *limit,
+            alloc,
+        },
         members,
     )
 }
 
 /// Reads the entries of all tables in place of those that are there.
 #[tactic(auto, unfolding(crate::specs::Scene::tables_of))]
-fn fill(alloc: Global, limit: i64, members: &Table, tables: &mut Tables) -> Result<(), SceneFault>
-    requires low { pos 0 ≤ℤ limit }
-    requires high { unsigned_abs limit ≤ 2 ^ 29 }
-    ensures { Gives (λ _. tables.new) result (tables_of limit (table_view members.now)) }
+fn fill(
+    alloc: Global,
+    limit: &Limit,
+    members: &Table,
+    tables: &mut Tables,
+) -> Result<(), SceneFault>
+    ensures { Gives (λ _. tables.new) result (tables_of limit.now.units (table_view members.now)) }
 {
     tables.particles = particles_of(alloc, limit, members)?;
     let count = tables.particles.len() as u32;
@@ -160,7 +166,8 @@ pub fn tables_of(alloc: Global, limit: i64, members: &Table) -> Result<Tables, S
         spheres: List::new(alloc),
         tracks: List::new(alloc),
     };
-    match fill(alloc, limit, members, &mut tables) {
+    let limit = Limit { units: limit };
+    match fill(alloc, &limit, members, &mut tables) {
         Ok(()) => Ok(tables),
         Err(fault) => {
             drop(tables);

@@ -1,5 +1,5 @@
 // The `[[track]]` entries, before it is looked at which particles they name.
-ghost use Rattle.std.specs.Prelude.{[], ◌≡◌, ◌≤◌, ◌<◌, ◌+◌, ◌^◌, ◌≤ℤ◌, pos, length, map, unsigned_abs, nat_lt, true, ◌&&◌};
+ghost use Rattle.std.specs.Prelude.{[], ◌≡◌, ◌≤◌, ◌<◌, ◌+◌, ◌^◌, length, map, nat_lt, true, ◌&&◌};
 ghost use Rattle.toml.specs.View.{view, table_view};
 ghost use Rattle.pbd_scene.specs.Checks.{Gives, each};
 ghost use Rattle.pbd_scene.specs.Entries.{row_of, step_number, key_of, step_of, steps_rise, few_rows, rising_path, path_of, track_of};
@@ -56,15 +56,13 @@ fn step_number(place: Place, n: i64) -> Result<u32, SceneFault>
 }
 
 #[tactic(auto, unfolding(crate::specs::Entries::key_of))]
-fn key_of(place: Place, limit: i64, _before: &[Key], value: &Value) -> Result<Key, SceneFault>
-    requires low { pos 0 ≤ℤ limit }
-    requires high { unsigned_abs limit ≤ 2 ^ 29 }
-    ensures { Gives (λ k. k) result (key_of place limit _before.now (view value.now)) }
+fn key_of(place: Place, limit: &Limit, _before: &[Key], value: &Value) -> Result<Key, SceneFault>
+    ensures { Gives (λ k. k) result (key_of place limit.now.units _before.now (view value.now)) }
 {
     let row = row(place, KeyName::Keys, value)?;
     let step = step_number(place, row.step)?;
     expect(
-        is_inside(row.place, limit),
+        is_inside(row.place, limit.units),
         SceneRule::OutOfRange,
         place,
         KeyName::Keys,
@@ -83,7 +81,7 @@ impl Reader for Keys {
     ghost reads = { λ s before d. key_of s.place s.limit.units before d };
 
     fn read(&self, before: &[Key], value: &Value) -> Result<Key, SceneFault> {
-        key_of(self.place, self.limit.units, before, value)
+        key_of(self.place, &self.limit, before, value)
     }
 }
 
@@ -125,15 +123,16 @@ fn few_rows(alloc: Global, place: Place, values: &[Value]) -> Result<(), SceneFa
 fn keys_of(
     alloc: Global,
     place: Place,
-    limit: i64,
+    limit: &Limit,
     values: &[Value],
 ) -> Result<List<Key>, SceneFault>
-    requires low { pos 0 ≤ℤ limit }
-    requires high { unsigned_abs limit ≤ 2 ^ 29 }
-    ensures { Gives (λ ks. ks) result (each (key_of place limit) [] (map view values.now)) }
+    ensures { Gives (λ ks. ks) result (each (key_of place limit.now.units) [] (map view values.now)) }
 {
-    let limit = Limit { units: limit };
-    read_each(alloc, &Keys { place, limit }, values)
+    let keys = Keys {
+        place,
+        limit: *limit,
+    };
+    read_each(alloc, &keys, values)
 }
 
 /// The same, where there is at least one, and each step is below the next.
@@ -141,12 +140,10 @@ fn keys_of(
 fn rising_path(
     alloc: Global,
     place: Place,
-    limit: i64,
+    limit: &Limit,
     values: &[Value],
 ) -> Result<List<Key>, SceneFault>
-    requires low { pos 0 ≤ℤ limit }
-    requires high { unsigned_abs limit ≤ 2 ^ 29 }
-    ensures { Gives (λ ks. ks) result (rising_path place limit (map view values.now)) }
+    ensures { Gives (λ ks. ks) result (rising_path place limit.now.units (map view values.now)) }
 {
     let keys = keys_of(alloc, place, limit, values)?;
     expect(
@@ -159,10 +156,13 @@ fn rising_path(
 }
 
 #[tactic(auto, unfolding(crate::specs::Entries::path_of))]
-fn path_of(alloc: Global, place: Place, limit: i64, table: &Table) -> Result<List<Key>, SceneFault>
-    requires low { pos 0 ≤ℤ limit }
-    requires high { unsigned_abs limit ≤ 2 ^ 29 }
-    ensures { Gives (λ ks. ks) result (path_of place limit (table_view table.now)) }
+fn path_of(
+    alloc: Global,
+    place: Place,
+    limit: &Limit,
+    table: &Table,
+) -> Result<List<Key>, SceneFault>
+    ensures { Gives (λ ks. ks) result (path_of place limit.now.units (table_view table.now)) }
 {
     let values = required_array(place, KeyName::Keys, table)?;
     few_rows(alloc, place, values)?;
@@ -172,14 +172,12 @@ fn path_of(alloc: Global, place: Place, limit: i64, table: &Table) -> Result<Lis
 #[tactic(auto, unfolding(crate::specs::Entries::track_of))]
 fn track_of(
     alloc: Global,
-    limit: i64,
+    limit: &Limit,
     before: &[TrackEntry],
     value: &Value,
 ) -> Result<TrackEntry, SceneFault>
-    requires low { pos 0 ≤ℤ limit }
-    requires high { unsigned_abs limit ≤ 2 ^ 29 }
     requires few { length before.now < 4096 }
-    ensures { Gives (λ t. t) result (track_of limit before.now (view value.now)) }
+    ensures { Gives (λ t. t) result (track_of limit.now.units before.now (view value.now)) }
 {
     let place = Place {
         table: TableName::Track,
@@ -199,6 +197,6 @@ impl Reader for Tracks {
     ghost reads = { λ s before d. track_of s.limit.units before d };
 
     fn read(&self, before: &[TrackEntry], value: &Value) -> Result<TrackEntry, SceneFault> {
-        track_of(self.alloc, self.limit.units, before, value)
+        track_of(self.alloc, &self.limit, before, value)
     }
 }

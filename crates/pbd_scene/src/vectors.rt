@@ -1,27 +1,36 @@
 // Vectors: arrays of three integers.
 ghost use Rattle.std.specs.Prelude.{◌≡◌, IsTrue, ◌≤◌, ◌^◌, ◌≤ℤ◌, pos, unsigned_abs, IfOk};
-ghost use Rattle.toml.specs.View.{view, table_view};
+ghost use Rattle.toml.specs.View.{view, table_view, items_view};
 ghost use Rattle.pbd_num.specs.Vectors.{Within, is_within, is_axis_within, zero_vector};
 ghost use Rattle.pbd_scene.specs.Checks.{Gives, broken};
-ghost use Rattle.pbd_scene.specs.Values.{value_of, three_integers, vector, required_vector, vector_or, members};
+ghost use Rattle.pbd_scene.specs.Values.{value_of, three_of, three_integers, vector, required_vector, vector_or, members};
 
 use crate::fault::{KeyName, Place, SceneFault, SceneRule};
 use crate::values::{broken, value_of};
 use pbd_num::Vec3;
 use toml::{Table, Value};
 
-#[tactic(auto, using(crate::proofs::Views::three_of_other))]
+fn three_of(items: &[Value]) -> Option<Vec3>
+    ensures { result ≡ three_of (items_view items.now) }
+{
+    match items {
+        [x, y, z] => {
+            let x = x.as_integer()?;
+            let y = y.as_integer()?;
+            let z = z.as_integer()?;
+            Some(Vec3 { x, y, z })
+        }
+        _ => None,
+    }
+}
+
 fn three_integers(value: &Value) -> Option<Vec3>
     ensures { result ≡ three_integers (view value.now) }
 {
-    let items = value.as_array()?;
-    if items.len() != 3 {
-        return None;
+    match value.as_array() {
+        Some(items) => three_of(items.as_slice()),
+        None => None,
     }
-    let x = items[0].as_integer()?;
-    let y = items[1].as_integer()?;
-    let z = items[2].as_integer()?;
-    Some(Vec3 { x, y, z })
 }
 
 fn vector(place: Place, key: KeyName, limit: i64, value: &Value) -> Result<Vec3, SceneFault>

@@ -1,84 +1,56 @@
 use Rattle.std.proofs.Common.{refl}
-use Rattle.std.proofs.lemmas.Int.{to_z-of_z}
 use Rattle.pbd_scene.specs.Scene.{tables_of}
 use Rattle.pbd_scene.proofs.Reading.{stops}
 use Rattle.pbd_scene.proofs.table_lists.fill.Goals as goal
 
 pub returns-in_err-tables : goal.returns-in_err-tables
 unfolding tables_of
-returns-in_err-tables c =
-    let fits = c.ranges.limit in
-    let fails = simp to_z-of_z at c.in_err-tables.ensures.value in
-    stops _ _ _ _ _ c.from_residual.ensures.1 fails
+returns-in_err-tables c = stops _ _ _ _ _ c.from_residual.ensures.1 c.in_err-tables.ensures.value
 
 pub returns-in_err-tables-2 : goal.returns-in_err-tables-2
 unfolding tables_of
 returns-in_err-tables-2 c =
-    let fits = c.ranges.limit in
-    let particles = simp to_z-of_z at c.in_ok-tables.ensures.value in
-    let fails = simp (to_z-of_z, c.len-count.ensures) at c.in_err-tables-2.ensures.value in
-    rw particles (stops _ _ _ _ _ c.from_residual-in_err-tables-2.ensures.1 fails)
+    let fails = simp c.len-count.ensures at c.in_err-tables-2.ensures.value in
+    rw c.in_ok-tables.ensures.value (stops _ _ _ _ _ c.from_residual-in_err-tables-2.ensures.1 fails)
 
 pub returns-in_err-tables-3 : goal.returns-in_err-tables-3
 unfolding tables_of
 returns-in_err-tables-3 c =
-    let fits = c.ranges.limit in
-    let particles = simp to_z-of_z at c.in_ok-tables.ensures.value in
-    let cloths = simp (to_z-of_z, c.len-count.ensures) at c.in_ok-tables-2.ensures.value in
-    let fails = simp (to_z-of_z, c.len-count.ensures, c.all_cloths_size.ensures, c.as_slice.ensures) at c.in_err-tables-3.ensures.value in
-    rw (particles, cloths) (stops _ _ _ _ _ c.from_residual-in_err-tables-3.ensures.1 fails)
+    let cloths = simp c.len-count.ensures at c.in_ok-tables-2.ensures.value in
+    let fails = simp (c.len-count.ensures, c.all_cloths_size.ensures, c.as_slice.ensures) at c.in_err-tables-3.ensures.value in
+    rw (c.in_ok-tables.ensures.value, cloths) (stops _ _ _ _ _ c.from_residual-in_err-tables-3.ensures.1 fails)
 
 pub returns-in_err-tables-4 : goal.returns-in_err-tables-4
 unfolding tables_of
 returns-in_err-tables-4 c =
-    let fits = c.ranges.limit in
-    let particles = simp to_z-of_z at c.in_ok-tables.ensures.value in
-    let cloths = simp (to_z-of_z, c.len-count.ensures) at c.in_ok-tables-2.ensures.value in
-    let ropes = simp (to_z-of_z, c.len-count.ensures, c.all_cloths_size.ensures, c.as_slice.ensures) at c.in_ok-tables-3.ensures.value in
-    let fails = simp to_z-of_z at c.in_err-tables-4.ensures.value in
-    rw (particles, cloths, ropes) (stops _ _ _ _ _ c.from_residual-in_err-tables-4.ensures.1 fails)
+    let cloths = simp c.len-count.ensures at c.in_ok-tables-2.ensures.value in
+    let ropes = simp (c.len-count.ensures, c.all_cloths_size.ensures, c.as_slice.ensures) at c.in_ok-tables-3.ensures.value in
+    rw (c.in_ok-tables.ensures.value, cloths, ropes) (stops _ _ _ _ _ c.from_residual-in_err-tables-4.ensures.1 c.in_err-tables-4.ensures.value)
 
 pub returns-in_err-tables-5 : goal.returns-in_err-tables-5
 unfolding tables_of
 returns-in_err-tables-5 c =
-    let fits = c.ranges.limit in
-    let particles = simp to_z-of_z at c.in_ok-tables.ensures.value in
-    let cloths = simp (to_z-of_z, c.len-count.ensures) at c.in_ok-tables-2.ensures.value in
-    let ropes = simp (to_z-of_z, c.len-count.ensures, c.all_cloths_size.ensures, c.as_slice.ensures) at c.in_ok-tables-3.ensures.value in
-    let links = simp to_z-of_z at c.in_ok-tables-4.ensures.value in
-    rw (particles, cloths, ropes, links) (stops _ _ _ _ _ c.from_residual-in_err-tables-5.ensures.1 c.in_err-tables-5.ensures.value)
+    let cloths = simp c.len-count.ensures at c.in_ok-tables-2.ensures.value in
+    let ropes = simp (c.len-count.ensures, c.all_cloths_size.ensures, c.as_slice.ensures) at c.in_ok-tables-3.ensures.value in
+    rw (c.in_ok-tables.ensures.value, cloths, ropes, c.in_ok-tables-4.ensures.value) (stops _ _ _ _ _ c.from_residual-in_err-tables-5.ensures.1 c.in_err-tables-5.ensures.value)
 
 pub returns-in_err-tables-6 : goal.returns-in_err-tables-6
 unfolding tables_of
 returns-in_err-tables-6 c =
-    let fits = c.ranges.limit in
-    let particles = simp to_z-of_z at c.in_ok-tables.ensures.value in
-    let cloths = simp (to_z-of_z, c.len-count.ensures) at c.in_ok-tables-2.ensures.value in
-    let ropes = simp (to_z-of_z, c.len-count.ensures, c.all_cloths_size.ensures, c.as_slice.ensures) at c.in_ok-tables-3.ensures.value in
-    let links = simp to_z-of_z at c.in_ok-tables-4.ensures.value in
-    let fails = simp to_z-of_z at c.in_err-tables-6.ensures.value in
-    rw (particles, cloths, ropes, links, c.in_ok-tables-5.ensures.value) (stops _ _ _ _ _ c.from_residual-in_err-tables-6.ensures.1 fails)
+    let cloths = simp c.len-count.ensures at c.in_ok-tables-2.ensures.value in
+    let ropes = simp (c.len-count.ensures, c.all_cloths_size.ensures, c.as_slice.ensures) at c.in_ok-tables-3.ensures.value in
+    rw (c.in_ok-tables.ensures.value, cloths, ropes, c.in_ok-tables-4.ensures.value, c.in_ok-tables-5.ensures.value) (stops _ _ _ _ _ c.from_residual-in_err-tables-6.ensures.1 c.in_err-tables-6.ensures.value)
 
 pub returns-in_err-tables-7 : goal.returns-in_err-tables-7
 unfolding tables_of
 returns-in_err-tables-7 c =
-    let fits = c.ranges.limit in
-    let particles = simp to_z-of_z at c.in_ok-tables.ensures.value in
-    let cloths = simp (to_z-of_z, c.len-count.ensures) at c.in_ok-tables-2.ensures.value in
-    let ropes = simp (to_z-of_z, c.len-count.ensures, c.all_cloths_size.ensures, c.as_slice.ensures) at c.in_ok-tables-3.ensures.value in
-    let links = simp to_z-of_z at c.in_ok-tables-4.ensures.value in
-    let spheres = simp to_z-of_z at c.in_ok-tables-6.ensures.value in
-    let fails = simp to_z-of_z at c.in_err-tables-7.ensures.value in
-    rw (particles, cloths, ropes, links, c.in_ok-tables-5.ensures.value, spheres) (stops _ _ _ _ _ c.from_residual-in_err-tables-7.ensures.1 fails)
+    let cloths = simp c.len-count.ensures at c.in_ok-tables-2.ensures.value in
+    let ropes = simp (c.len-count.ensures, c.all_cloths_size.ensures, c.as_slice.ensures) at c.in_ok-tables-3.ensures.value in
+    rw (c.in_ok-tables.ensures.value, cloths, ropes, c.in_ok-tables-4.ensures.value, c.in_ok-tables-5.ensures.value, c.in_ok-tables-6.ensures.value) (stops _ _ _ _ _ c.from_residual-in_err-tables-7.ensures.1 c.in_err-tables-7.ensures.value)
 
 pub returns : goal.returns
 unfolding tables_of
 returns c =
-    let fits = c.ranges.limit in
-    let particles = simp to_z-of_z at c.in_ok-tables.ensures.value in
-    let cloths = simp (to_z-of_z, c.len-count.ensures) at c.in_ok-tables-2.ensures.value in
-    let ropes = simp (to_z-of_z, c.len-count.ensures, c.all_cloths_size.ensures, c.as_slice.ensures) at c.in_ok-tables-3.ensures.value in
-    let links = simp to_z-of_z at c.in_ok-tables-4.ensures.value in
-    let spheres = simp to_z-of_z at c.in_ok-tables-6.ensures.value in
-    let tracks = simp to_z-of_z at c.in_ok-tables-7.ensures.value in
-    rw (particles, cloths, ropes, links, c.in_ok-tables-5.ensures.value, spheres, tracks) refl
+    let cloths = simp c.len-count.ensures at c.in_ok-tables-2.ensures.value in
+    let ropes = simp (c.len-count.ensures, c.all_cloths_size.ensures, c.as_slice.ensures) at c.in_ok-tables-3.ensures.value in
+    rw (c.in_ok-tables.ensures.value, cloths, ropes, c.in_ok-tables-4.ensures.value, c.in_ok-tables-5.ensures.value, c.in_ok-tables-6.ensures.value, c.in_ok-tables-7.ensures.value) refl

@@ -1,4 +1,3 @@
-use Rattle.std.proofs.lemmas.Int.{to_z-of_z}
 use Rattle.pbd_scene.specs.Entries.{track_of}
 use Rattle.pbd_scene.proofs.Reading.{stops}
 use Rattle.pbd_scene.proofs.track_entries.track_of.Goals as goal
@@ -13,7 +12,4 @@ returns-in_err-particle c = rw c.in_ok-table.ensures (stops _ _ _ _ _ c.from_res
 
 pub returns-in_err-keys : goal.returns-in_err-keys
 unfolding track_of
-returns-in_err-keys c =
-    let fits = c.ranges.limit in
-    let fails = simp to_z-of_z at c.in_err-keys.ensures in
-    rw (c.in_ok-table.ensures, c.in_ok-particle.ensures) (stops _ _ _ _ _ c.from_residual-in_err-keys.ensures.1 fails)
+returns-in_err-keys c = rw (c.in_ok-table.ensures, c.in_ok-particle.ensures) (stops _ _ _ _ _ c.from_residual-in_err-keys.ensures.1 c.in_err-keys.ensures)

@@ -1,0 +1,9 @@
+use Rattle.std.proofs.Common.{arith, sym}
+use Rattle.pbd_scene.proofs.Views.{three_of_other}
+use Rattle.pbd_scene.proofs.vectors.three_of.Goals as goal
+
+pub returns-in_default : goal.returns-in_default
+returns-in_default c = sym (three_of_other c.args.items.now (λ same. omega (arith, same, c.in_default.len_below)))
+
+pub returns-in_default-2 : goal.returns-in_default-2
+returns-in_default-2 c = sym (three_of_other c.args.items.now (λ same. omega (arith, same, c.in_default.len_at_least)))
