@@ -74,7 +74,6 @@ fn write_mismatch<K: Sink>(
 }
 
 /// The first field in which a recorded entry and a found one differ.
-#[tactic(auto, unfolding(crate::specs::Replaying::difference))]
 fn difference(recorded: &Entry, found: &Entry) -> Option<Compared>
     ensures { result ≡ difference recorded.now found.now }
 {
