@@ -1,9 +1,12 @@
 -- What a colouring keeps tells its batches.
-use Rattle.std.proofs.Common.{◌≡◌, inl, inr, false, ℕ, ◌+◌, ◌<◌, ◌≤◌, Bool, true, List, get_or, length, sym, ap, ◌∙◌, arith, slice_range}
+use Rattle.std.proofs.Common.{◌≡◌, inl, inr, false, ℕ, ◌+◌, ◌/◌, ◌&&◌, eqb, ◌<◌, ◌≤◌, Bool, true, List, [], replicate, get_or, length, sym, ap, subst, ◌∙◌, arith, slice_range}
 use Rattle.std.proofs.lemmas.Bool.{cases_lt, false≢true}
-use Rattle.std.proofs.lemmas.List.{get_or_past}
+use Rattle.std.proofs.lemmas.List.{get_or_past, get_or-replicate}
+use Rattle.pbd_chain.specs.Linked.{Linked, is_in, chain_at}
 use Rattle.pbd_world.specs.Colours.{live_at, colour}
-use Rattle.pbd_colour.specs.Pairs.{batch_of}
+use Rattle.pbd_colour.specs.Pairs.{InRange, batch_of}
+use Rattle.pbd_colour.specs.Held.{Holds, end_at}
+use Rattle.pbd_colour.specs.Marked.{AreBlocked}
 use Rattle.pbd_colour.specs.Coloured.{by_colour}
 use Rattle.pbd_colour.specs.Coloured.{IsColoured}
 use Rattle.pbd_colour.specs.Swept.{ArePainted}
@@ -47,3 +50,26 @@ live_below live k a = elim (cases_lt k (length live)) [
   | inl l ↦ l
   | inr l ↦ absurd (false≢true (sym (get_or_past live k false (omega (arith, l))) ∙ a))
 ]
+
+-- empty chains
+pub no_items : (live : List Bool) (n : ℕ) (pairs : List (ℕ × ℕ)) (p x : ℕ) → live_at live (x / 2) ≡ false → p < n → is_in x (chain_at (replicate n []) p) ≡ (live_at live (x / 2) && eqb (end_at pairs x) p)
+no_items live n pairs p x dead l = ap (is_in x) (get_or-replicate n p [] [] l) ∙ ap (λ (b : Bool). b && eqb (end_at pairs x) p) (sym dead)
+
+-- the same of equal lists
+
+pub InRange-as : {n m : ℕ} {pairs others : List (ℕ × ℕ)} → n ≡ m → pairs ≡ others → InRange n pairs → InRange m others
+InRange-as {n} {m} {pairs} {others} count e h = subst (λ (ps : List (ℕ × ℕ)). InRange m ps) e (subst (λ (k : ℕ). InRange k pairs) count h)
+
+pub ArePainted-as : {pairs pairs' : List (ℕ × ℕ)} {live live' : List Bool} {colours colours' : List ℕ} → pairs ≡ pairs' → live ≡ live' → colours ≡ colours' → ArePainted pairs live colours → ArePainted pairs' live' colours'
+ArePainted-as {pairs} {pairs'} {live} {live'} {colours} p l c h = subst (λ (cs : List ℕ). ArePainted pairs' live' cs) c (subst (λ (bs : List Bool). ArePainted pairs' bs colours) l (subst (λ (ps : List (ℕ × ℕ)). ArePainted ps live colours) p h))
+
+pub IsColoured-as : {pairs pairs' : List (ℕ × ℕ)} {live live' : List Bool} {colours colours' numbers starts starts' : List ℕ} → pairs ≡ pairs' → live ≡ live' → colours ≡ colours' → starts ≡ starts' → IsColoured pairs live colours numbers starts → IsColoured pairs' live' colours' numbers starts'
+IsColoured-as {pairs} {pairs'} {live} {live'} {colours} {colours'} {numbers} {starts} p l c s h = subst (λ (ss : List ℕ). IsColoured pairs' live' colours' numbers ss) s (subst (λ (cs : List ℕ). IsColoured pairs' live' cs numbers starts) c
+    (subst (λ (bs : List Bool). IsColoured pairs' bs colours numbers starts) l (subst (λ (ps : List (ℕ × ℕ)). IsColoured ps live colours numbers starts) p h)))
+
+pub AreBlocked-as : {marks marks' blocks blocks' : List Bool} → marks ≡ marks' → blocks ≡ blocks' → AreBlocked marks blocks → AreBlocked marks' blocks'
+AreBlocked-as {marks} {marks'} {blocks} m b h = subst (λ (bs : List Bool). AreBlocked marks' bs) b (subst (λ (ms : List Bool). AreBlocked ms blocks) m h)
+
+pub Holds-as : {live live' : List Bool} {count count' room room' : ℕ} {pairs pairs' : List (ℕ × ℕ)} {chains : Linked} → live ≡ live' → count ≡ count' → room ≡ room' → pairs ≡ pairs' → Holds (live_at live) count room pairs chains → Holds (live_at live') count' room' pairs' chains
+Holds-as {live} {live'} {count} {count'} {room} {room'} {pairs} {pairs'} {chains} l n r p h = subst (λ (bs : List Bool). Holds (live_at bs) count' room' pairs' chains) l (subst (λ (k : ℕ). Holds (live_at live) k room' pairs' chains) n
+    (subst (λ (k : ℕ). Holds (live_at live) count k pairs' chains) r (subst (λ (ps : List (ℕ × ℕ)). Holds (live_at live) count room ps chains) p h)))

@@ -119,3 +119,7 @@ module _ (n block : ℕ) {set : List Bool} {at before : ℕ → Vec3} (at' befor
   -- what a save of a block's own lanes has done, by the places that were meant
   pub block_saved : Saved n (block * n) set at before old new → Saved n (block * n) (filled_lanes n block old) at' before' old new
   block_saved h = subst (λ (s : List Bool). Saved n (block * n) s at' before' old new) es (saved_as ea eb h)
+
+-- the same from an equal number on, of an equal list
+pub saved_of : {n start first : ℕ} {set : List Bool} {at before : ℕ → Vec3} {old ps new : List Particle} → start ≡ first → old ≡ ps → Saved n start set at before old new → Saved n first set at before ps new
+saved_of {n} {start} {first} {set} {at} {before} {old} {ps} {new} e v h = subst (λ (qs : List Particle). Saved n first set at before qs new) v (subst (λ (k : ℕ). Saved n k set at before old new) e h)

@@ -1,9 +1,9 @@
-use Rattle.std.proofs.Common.{arith, ap, ◌∙◌, ◌≡◌, ℕ, ◌+◌, ◌*◌, pos, List, length, nat_lt}
+use Rattle.std.proofs.Common.{arith, ap, sym, subst, ◌∙◌, ◌≡◌, ◌<◌, ℕ, ◌+◌, ◌*◌, pos, List, length, nat_lt}
 use Rattle.pbd_world.specs.declared.parts.Particle.{Particle}
 use Rattle.pbd_world.specs.Particles.{particle_at}
 use Rattle.pbd_lanes.specs.Lane.{lanes_of}
 use Rattle.pbd_store.specs.Stored.{Stored}
-use Rattle.pbd_store.specs.Blocks.{loaded, filled_lanes}
+use Rattle.pbd_store.specs.Blocks.{blocks_of, loaded, filled_lanes}
 use Rattle.pbd_store.proofs.store.Store.load.Goals as goal
 
 -- the particles from a block's first on
@@ -12,6 +12,16 @@ from n f block e v = λ i. lanes_of n (λ j. f (particle_at (v i) (e i + j)))
 
 filled_from : (n : ℕ) (block : ℕ) {start : ℕ} {ps qs : List Particle} → start ≡ block * n → ps ≡ qs → lanes_of n (λ j. nat_lt (start + j) (length ps)) ≡ filled_lanes n block qs
 filled_from n block e v = λ i. lanes_of n (λ j. nat_lt (e i + j) (length (v i)))
+
+pub start_of-start-requires : goal.start_of-start-requires
+start_of-start-requires g c = record {
+  some = c.requires.some_lanes;
+  size = c.len.ensures.size;
+  within = subst (λ (n : ℕ). c.args.block < blocks_of n g.row.L) (sym c.len.ensures.value) c.requires.within;
+}
+
+pub returns-clause-cost : goal.returns-clause-cost
+returns-clause-cost g c = c.tick.ensures
 
 pub numbers-requires : goal.numbers-requires
 numbers-requires g c = (omega (arith, c.requires.lanes), (omega (arith, c.requires.lanes), (omega (arith, c.start_of-start.ensures.within, c.len.ensures.value, ap (λ (s : Stored). length s.particles) c.self.view_is), c.requires.lanes)))
