@@ -59,7 +59,7 @@ fn failing_sink(alloc: Global) -> Result<MemSink, AllocError> {
 }
 
 /// What is written, the answer, and what the sink holds then.
-const WRITES: [(&[u8], Result<(), Failed>, &[u8]); 8] = [
+static WRITES: [(&[u8], Result<(), Failed>, &[u8]); 8] = [
     (b"abc", Ok(()), b"abc"),
     (b"de", Err(Failed), b"abcd"),
     (b"efghi", Err(Failed), b"abcd"),
@@ -98,7 +98,7 @@ fn failing_source(alloc: Global) -> Result<MemSource, AllocError> {
 }
 
 /// How much is read at most, the answer, and what the buffer holds then.
-const READS: [(usize, Result<usize, Failed>, &[u8]); 7] = [
+static READS: [(usize, Result<usize, Failed>, &[u8]); 7] = [
     (4, Ok(3), b"abc."),
     (4, Err(Failed), b"...."),
     (2, Ok(2), b"de.."),
@@ -141,6 +141,14 @@ fn the_sure_ones_never_fail(rt: HostRuntime) {
     assert_eq!(rt; (written, sink.taken()), ([Ok(()), Ok(())], 5));
 }
 
+/// What four reads into three bytes answer and give.
+static STD_READS: [(Result<usize, Failed>, &[u8]); 4] = [
+    (Ok(2), b"ab."),
+    (Err(Failed), b"..."),
+    (Ok(1), b"c.."),
+    (Ok(0), b"..."),
+];
+
 #[test]
 fn a_reader_of_std_goes_on_after_a_fault(rt: HostRuntime) {
     let text: &[u8] = b"abc";
@@ -148,18 +156,21 @@ fn a_reader_of_std_goes_on_after_a_fault(rt: HostRuntime) {
         inner: text,
         calls: 0,
     });
-    let calls: [(Result<usize, Failed>, &[u8]); 4] = [
-        (Ok(2), b"ab."),
-        (Err(Failed), b"..."),
-        (Ok(1), b"c.."),
-        (Ok(0), b"..."),
-    ];
-    for (answer, given) in calls {
+    for (answer, given) in &STD_READS {
         let mut into = [b'.'; 3];
         let answered = get(&mut source, &mut into);
-        assert_eq!(rt; (answered, into.as_slice()), (answer, given));
+        assert_eq!(rt; (answered, into.as_slice()), (*answer, *given));
     }
 }
+
+/// What is written, and the answer.
+static STD_WRITES: [(&[u8], Result<(), Failed>); 5] = [
+    (b"abc", Err(Failed)),
+    (b"defg", Err(Failed)),
+    (b"hij", Ok(())),
+    (b"", Ok(())),
+    (b"k", Err(Failed)),
+];
 
 #[test]
 fn a_writer_of_std_fails_and_goes_on(rt: HostRuntime) {
@@ -168,15 +179,8 @@ fn a_writer_of_std_fails_and_goes_on(rt: HostRuntime) {
         inner: &mut held,
         calls: 0,
     });
-    let calls: [(&[u8], Result<(), Failed>); 5] = [
-        (b"abc", Err(Failed)),
-        (b"defg", Err(Failed)),
-        (b"hij", Ok(())),
-        (b"", Ok(())),
-        (b"k", Err(Failed)),
-    ];
-    for (piece, answer) in calls {
-        assert_eq!(rt; put(&mut sink, piece), answer, "at {piece:?}");
+    for (piece, answer) in &STD_WRITES {
+        assert_eq!(rt; put(&mut sink, piece), *answer, "at {piece:?}");
     }
     assert_eq!(rt; held.as_slice(), b"abdehijk".as_slice());
 }

@@ -1,33 +1,35 @@
 //! Lines of bytes.
 use pbd_line::Line;
 
+/// Numbers of three kinds, and a line with them.
+static NUMBERS: [(u64, i64, i128, &[u8]); 4] = [
+    (0, 0, 0, b"0 0 0\n"),
+    (10, -1, -65_536, b"10 -1 -65536\n"),
+    (
+        u64::MAX,
+        i64::MIN,
+        i128::MIN,
+        b"18446744073709551615 -9223372036854775808 -170141183460469231731687303715884105728\n",
+    ),
+    (
+        9,
+        i64::MAX,
+        i128::MAX,
+        b"9 9223372036854775807 170141183460469231731687303715884105727\n",
+    ),
+];
+
 #[test]
 fn numbers_in_a_line(rt: HostRuntime) {
-    let rows: [(u64, i64, i128, &[u8]); 4] = [
-        (0, 0, 0, b"0 0 0\n"),
-        (10, -1, -65_536, b"10 -1 -65536\n"),
-        (
-            u64::MAX,
-            i64::MIN,
-            i128::MIN,
-            b"18446744073709551615 -9223372036854775808 -170141183460469231731687303715884105728\n",
-        ),
-        (
-            9,
-            i64::MAX,
-            i128::MAX,
-            b"9 9223372036854775807 170141183460469231731687303715884105727\n",
-        ),
-    ];
-    for (number, signed, wide, bytes) in rows {
+    for (number, signed, wide, bytes) in &NUMBERS {
         let mut line = Line::new();
-        line.push_number(number);
+        line.push_number(*number);
         line.push(" ");
-        line.push_signed(signed);
+        line.push_signed(*signed);
         line.push_bytes(b" ");
-        line.push_wide(wide);
+        line.push_wide(*wide);
         line.push("\n");
-        assert_eq!(rt; line.as_slice(), bytes);
+        assert_eq!(rt; line.as_slice(), *bytes);
     }
 }
 

@@ -14,7 +14,7 @@ use std::alloc::{AllocError, Global};
 use std::process::Abort;
 use std::test::*;
 
-const SCENE: [u8; 53] = [
+static SCENE: [u8; 53] = [
     103, 114, 97, 118, 105, 116, 121, 32, 61, 32, 91, 48, 44, 32, 45, 49, 48, 44, 32, 48, 93, 10,
     91, 91, 112, 97, 114, 116, 105, 99, 108, 101, 93, 93, 10, 97, 116, 32, 61, 32, 91, 48, 44, 32,
     49, 48, 48, 48, 44, 32, 48, 93, 10,
@@ -50,13 +50,13 @@ const OLD_SMALL: [u8; 23] = [
 ];
 
 // The greatest number of steps, refused with 9.
-const OLD_BAD_COUNT: [u8; 31] = [
+static OLD_BAD_COUNT: [u8; 31] = [
     80, 66, 68, 83, 76, 79, 71, 1, 0, 0, 0, 0, 1, 255, 255, 255, 255, 255, 255, 255, 255, 9, 0, 0,
     0, 0, 0, 0, 0, 0, 1,
 ];
 
 // One step, refused with 11: step 1, predict, element 0.
-const OLD_LEAVES: [u8; 44] = [
+static OLD_LEAVES: [u8; 44] = [
     80, 66, 68, 83, 76, 79, 71, 1, 0, 0, 0, 0, 1, 0, 0, 0, 0, 0, 0, 0, 1, 11, 0, 0, 0, 0, 0, 0, 0,
     1, 1, 0, 0, 0, 0, 0, 0, 0, 0, 0, 0, 0, 0, 1,
 ];
@@ -197,19 +197,20 @@ fn expected_at(n: usize, rows: &[(usize, u64)]) -> Option<u64> {
     None
 }
 
+/// Logs, and the offset at which each cut of them is refused, by the last of the cuts that have it.
+static CUTS: [(&[u8], &[(usize, u64)]); 4] = [
+    (
+        &LONG,
+        &[(7, 0), (15, 8), (72, 16), (146, 73), (148, 147), (157, 149)],
+    ),
+    (&OLD, &[(7, 0), (64, 8), (138, 65), (140, 139), (149, 141)]),
+    (&SMALL, &[(7, 0), (15, 8), (19, 16), (21, 20), (30, 22)]),
+    (&OLD_SMALL, &[(7, 0), (11, 8), (13, 12), (22, 14)]),
+];
+
 #[test]
 fn refuses_each_cut(rt: HostRuntime) {
-    let long: [(usize, u64); 6] = [(7, 0), (15, 8), (72, 16), (146, 73), (148, 147), (157, 149)];
-    let old: [(usize, u64); 5] = [(7, 0), (64, 8), (138, 65), (140, 139), (149, 141)];
-    let small: [(usize, u64); 5] = [(7, 0), (15, 8), (19, 16), (21, 20), (30, 22)];
-    let old_small: [(usize, u64); 4] = [(7, 0), (11, 8), (13, 12), (22, 14)];
-    let table: [(&[u8], &[(usize, u64)]); 4] = [
-        (&LONG, &long),
-        (&OLD, &old),
-        (&SMALL, &small),
-        (&OLD_SMALL, &old_small),
-    ];
-    for (bytes, rows) in table {
+    for (bytes, rows) in &CUTS {
         for n in 0..=bytes.len() {
             assert_eq!(rt; offset_of(&bytes[..n]), expected_at(n, rows), "cut to {n}");
         }
@@ -235,7 +236,7 @@ fn compare_wrong<const N: usize>(rt: &impl Abort, bytes: &[u8; N], rows: &[Wrong
     }
 }
 
-const SMALL_CHANGED: [Wrong; 17] = [
+static SMALL_CHANGED: [Wrong; 17] = [
     (0, 81, Some(0)),
     (6, 103, Some(0)),
     (7, 0, Some(0)),
@@ -260,14 +261,14 @@ fn looks_at_each_field(rt: HostRuntime) {
     compare_wrong(&rt, &SMALL, &SMALL_CHANGED);
 }
 
-const OLD_SMALL_CHANGED: [Wrong; 4] = [
+static OLD_SMALL_CHANGED: [Wrong; 4] = [
     (11, 12, Some(8)),
     (12, 10, Some(12)),
     (13, 13, Some(12)),
     (22, 2, Some(14)),
 ];
 
-const OLD_LEAVES_CHANGED: [Wrong; 5] = [
+static OLD_LEAVES_CHANGED: [Wrong; 5] = [
     (21, 0, Some(12)),
     (30, 0, Some(12)),
     (30, 1, None),
@@ -275,12 +276,14 @@ const OLD_LEAVES_CHANGED: [Wrong; 5] = [
     (30, 5, Some(12)),
 ];
 
+// A header of version 1 with the greatest length of a scene.
+static LONG_SCENE: [u8; 12] = [80, 66, 68, 83, 76, 79, 71, 1, 255, 255, 255, 255];
+
 #[test]
 fn looks_at_each_field_of_version_1(rt: HostRuntime) {
     compare_wrong(&rt, &OLD_SMALL, &OLD_SMALL_CHANGED);
     compare_wrong(&rt, &OLD_LEAVES, &OLD_LEAVES_CHANGED);
-    let long_scene = [80, 66, 68, 83, 76, 79, 71, 1, 255, 255, 255, 255];
-    assert_eq!(rt; offset_of(&long_scene), Some(8));
+    assert_eq!(rt; offset_of(&LONG_SCENE), Some(8));
 }
 
 #[test]
@@ -293,38 +296,50 @@ fn refuses_bytes_after_the_end(rt: HostRuntime) {
     assert_eq!(rt; offset_of(&longer), Some(23));
 }
 
+const FAR: Vec3 = Vec3 {
+    x: i64::MIN,
+    y: -1,
+    z: i64::MAX,
+};
+
 /// Each command, and a reply to it.
-fn commands_and_replies() -> [(Command, Reply); 13] {
-    let to = Vec3 {
-        x: i64::MIN,
-        y: -1,
-        z: i64::MAX,
-    };
-    let leaves = Refusal::LeavesRange {
-        step: 1_000_000,
-        phase: Phase::Shape,
-        element: 65_535,
-    };
-    let many = Refusal::TooManyContacts { step: u64::MAX };
-    [
-        (Command::Step(u64::MAX), Reply::Refused(Refusal::BadCount)),
-        (Command::Step(1), Reply::Done),
-        (Command::Step(1), Reply::Refused(leaves)),
-        (Command::Step(256), Reply::Refused(many)),
-        (Command::Frame, Reply::Frame),
-        (Command::Pin(7), Reply::Done),
-        (Command::Unpin(65_536), Reply::Refused(Refusal::NotHeld)),
-        (Command::Move { particle: 3, to }, Reply::Done),
-        (
-            Command::Move { particle: 4, to },
-            Reply::Refused(Refusal::OutOfRange),
-        ),
-        (Command::Cut(0), Reply::Refused(Refusal::NoLink)),
-        (Command::Gravity(to), Reply::Done),
-        (Command::Ledger, Reply::Ledger),
-        (Command::Bad, Reply::Refused(Refusal::BadCommand)),
-    ]
-}
+static REPLIES: [(Command, Reply); 13] = [
+    (Command::Step(u64::MAX), Reply::Refused(Refusal::BadCount)),
+    (Command::Step(1), Reply::Done),
+    (
+        Command::Step(1),
+        Reply::Refused(Refusal::LeavesRange {
+            step: 1_000_000,
+            phase: Phase::Shape,
+            element: 65_535,
+        }),
+    ),
+    (
+        Command::Step(256),
+        Reply::Refused(Refusal::TooManyContacts { step: u64::MAX }),
+    ),
+    (Command::Frame, Reply::Frame),
+    (Command::Pin(7), Reply::Done),
+    (Command::Unpin(65_536), Reply::Refused(Refusal::NotHeld)),
+    (
+        Command::Move {
+            particle: 3,
+            to: FAR,
+        },
+        Reply::Done,
+    ),
+    (
+        Command::Move {
+            particle: 4,
+            to: FAR,
+        },
+        Reply::Refused(Refusal::OutOfRange),
+    ),
+    (Command::Cut(0), Reply::Refused(Refusal::NoLink)),
+    (Command::Gravity(FAR), Reply::Done),
+    (Command::Ledger, Reply::Ledger),
+    (Command::Bad, Reply::Refused(Refusal::BadCommand)),
+];
 
 const FAR_SUMS: FrameSums = FrameSums {
     steps: u64::MAX,
@@ -361,31 +376,38 @@ fn compare_replies(rt: &impl Abort, bytes: &[u8], table: &[(Command, Reply)]) {
 
 #[test]
 fn reads_back_what_it_wrote(rt: HostRuntime) -> Result<(), Fail> {
-    let table = commands_and_replies();
     let mut sink = MemSink::open(rt.alloc(), 1000, Vec::new(rt.alloc()))?;
-    assert!(rt; write_replies(&mut sink, &table).is_ok());
-    compare_replies(&rt, sink.written(), &table);
+    assert!(rt; write_replies(&mut sink, &REPLIES).is_ok());
+    compare_replies(&rt, sink.written(), &REPLIES);
     drop(sink);
     Ok(())
+}
+
+/// Calls that fail, how many bytes they take, and how many the sink holds then.
+static FAILING_CALLS: [(u64, usize, usize); 8] = [
+    (1, 0, 0),
+    (1, 19, 19),
+    (2, 0, 20),
+    (2, 52, 72),
+    (3, 1, 74),
+    (4, 0, 147),
+    (4, 2, 149),
+    (5, 8, 157),
+];
+
+/// The first bytes of the long log.
+fn beginning(held: usize) -> &'static [u8] {
+    &LONG[..held.min(158)]
 }
 
 // The header, the scene, each entry and the end are one call each.
 #[test]
 fn stops_at_the_call_that_fails(rt: HostRuntime) -> Result<(), Fail> {
-    for (call, taken, held) in [
-        (1, 0, 0),
-        (1, 19, 19),
-        (2, 0, 20),
-        (2, 52, 72),
-        (3, 1, 74),
-        (4, 0, 147),
-        (4, 2, 149),
-        (5, 8, 157),
-    ] {
-        let sink = failing(rt.alloc(), 158, call, taken)?;
+    for (call, taken, held) in &FAILING_CALLS {
+        let sink = failing(rt.alloc(), 158, *call, *taken)?;
         let entries = [step(), frame()];
         assert!(rt;
-            writes(sink, &SCENE, &entries, false, &LONG[..held]),
+            writes(sink, &SCENE, &entries, false, beginning(*held)),
             "call {call}"
         );
     }

@@ -32,30 +32,37 @@ const CORD: RopeSpec = RopeSpec {
     bend_tear: 5,
 };
 
+static CLOTH_LINKS: [(Kind, u32, u32, i64, u16, i64); 13] = [
+    (Kind::Stretch, 0, 1, 100, 256, 7),
+    (Kind::Stretch, 0, 3, 100, 256, 7),
+    (Kind::Stretch, 1, 2, 100, 256, 7),
+    (Kind::Stretch, 1, 4, 100, 256, 7),
+    (Kind::Stretch, 2, 5, 100, 256, 7),
+    (Kind::Stretch, 3, 4, 100, 256, 7),
+    (Kind::Stretch, 4, 5, 100, 256, 7),
+    (Kind::Shear, 0, 4, 141, 255, 8),
+    (Kind::Shear, 1, 3, 141, 255, 8),
+    (Kind::Shear, 1, 5, 141, 255, 8),
+    (Kind::Shear, 2, 4, 141, 255, 8),
+    (Kind::Bend, 0, 2, 200, 64, 9),
+    (Kind::Bend, 3, 5, 200, 64, 9),
+];
+
 #[test]
 fn cloth_has_the_links_of_its_kinds_in_order(rt: HostRuntime) {
     let mut parts = empty_parts(rt.alloc(), LIMIT);
     assert!(rt; SQUARE.fits(LIMIT));
     assert_eq!(rt; cloth(rt.alloc(), &SQUARE, &mut parts), Ok(()));
     assert_eq!(rt; parts.particles.len(), 6);
-    let wanted = [
-        (Kind::Stretch, 0, 1, 100, 256, 7),
-        (Kind::Stretch, 0, 3, 100, 256, 7),
-        (Kind::Stretch, 1, 2, 100, 256, 7),
-        (Kind::Stretch, 1, 4, 100, 256, 7),
-        (Kind::Stretch, 2, 5, 100, 256, 7),
-        (Kind::Stretch, 3, 4, 100, 256, 7),
-        (Kind::Stretch, 4, 5, 100, 256, 7),
-        (Kind::Shear, 0, 4, 141, 255, 8),
-        (Kind::Shear, 1, 3, 141, 255, 8),
-        (Kind::Shear, 1, 5, 141, 255, 8),
-        (Kind::Shear, 2, 4, 141, 255, 8),
-        (Kind::Bend, 0, 2, 200, 64, 9),
-        (Kind::Bend, 3, 5, 200, 64, 9),
-    ];
-    compare_links(&rt, parts.links.as_slice(), &wanted);
+    compare_links(&rt, parts.links.as_slice(), &CLOTH_LINKS);
     drop(parts);
 }
+
+static ROPE_LINKS: [(Kind, u32, u32, i64, u16, i64); 3] = [
+    (Kind::Stretch, 0, 1, 100, 256, 0),
+    (Kind::Stretch, 1, 2, 100, 256, 0),
+    (Kind::Bend, 0, 2, 200, 64, 5),
+];
 
 #[test]
 fn rope_has_its_stretch_and_then_its_bend_links(rt: HostRuntime) {
@@ -63,150 +70,154 @@ fn rope_has_its_stretch_and_then_its_bend_links(rt: HostRuntime) {
     assert!(rt; CORD.fits(LIMIT));
     assert_eq!(rt; rope(rt.alloc(), &CORD, &mut parts), Ok(()));
     assert_eq!(rt; parts.particles.len(), 3);
-    let wanted = [
-        (Kind::Stretch, 0, 1, 100, 256, 0),
-        (Kind::Stretch, 1, 2, 100, 256, 0),
-        (Kind::Bend, 0, 2, 200, 64, 5),
-    ];
-    compare_links(&rt, parts.links.as_slice(), &wanted);
+    compare_links(&rt, parts.links.as_slice(), &ROPE_LINKS);
     drop(parts);
 }
 
-fn with_reach(origin: i64, across: i64) -> ClothSpec {
-    ClothSpec {
-        origin: Vec3 {
-            x: origin,
-            y: 0,
-            z: 0,
-        },
-        across: Vec3 {
-            x: across,
-            y: 0,
-            z: 0,
-        },
-        ..SQUARE
-    }
+/// The square with its origin and the way across along one axis.
+macro_rules! with_reach {
+    ($origin:expr, $across:expr) => {
+        ClothSpec {
+            origin: Vec3 {
+                x: $origin,
+                y: 0,
+                z: 0,
+            },
+            across: Vec3 {
+                x: $across,
+                y: 0,
+                z: 0,
+            },
+            ..SQUARE
+        }
+    };
 }
+
+/// Cloths, and whether they fit.
+static CLOTHS: [(ClothSpec, bool); 12] = [
+    // The last column is at the limit, and one past it.
+    (with_reach!(LIMIT - 200, 100), true),
+    (with_reach!(LIMIT - 199, 100), false),
+    (with_reach!(-LIMIT, LIMIT), true),
+    (with_reach!(-LIMIT, LIMIT + 1), false),
+    (
+        ClothSpec {
+            rows: 256,
+            columns: 256,
+            weight: 65_535,
+            ..SQUARE
+        },
+        true,
+    ),
+    (
+        ClothSpec {
+            rows: 257,
+            ..SQUARE
+        },
+        false,
+    ),
+    (
+        ClothSpec {
+            columns: 0,
+            ..SQUARE
+        },
+        false,
+    ),
+    (
+        ClothSpec {
+            weight: 0,
+            ..SQUARE
+        },
+        false,
+    ),
+    (
+        ClothSpec {
+            shear: 257,
+            ..SQUARE
+        },
+        false,
+    ),
+    (
+        ClothSpec {
+            bend_tear: 4 * LIMIT,
+            ..SQUARE
+        },
+        true,
+    ),
+    (
+        ClothSpec {
+            bend_tear: 4 * LIMIT + 1,
+            ..SQUARE
+        },
+        false,
+    ),
+    (
+        ClothSpec {
+            stretch_tear: -1,
+            ..SQUARE
+        },
+        false,
+    ),
+];
 
 #[test]
 fn cloths_fit_up_to_the_limit(rt: HostRuntime) {
-    for (spec, want) in [
-        // The last column is at the limit, and one past it.
-        (with_reach(LIMIT - 200, 100), true),
-        (with_reach(LIMIT - 199, 100), false),
-        (with_reach(-LIMIT, LIMIT), true),
-        (with_reach(-LIMIT, LIMIT + 1), false),
-        (
-            ClothSpec {
-                rows: 256,
-                columns: 256,
-                weight: 65_535,
-                ..SQUARE
-            },
-            true,
-        ),
-        (
-            ClothSpec {
-                rows: 257,
-                ..SQUARE
-            },
-            false,
-        ),
-        (
-            ClothSpec {
-                columns: 0,
-                ..SQUARE
-            },
-            false,
-        ),
-        (
-            ClothSpec {
-                weight: 0,
-                ..SQUARE
-            },
-            false,
-        ),
-        (
-            ClothSpec {
-                shear: 257,
-                ..SQUARE
-            },
-            false,
-        ),
-        (
-            ClothSpec {
-                bend_tear: 4 * LIMIT,
-                ..SQUARE
-            },
-            true,
-        ),
-        (
-            ClothSpec {
-                bend_tear: 4 * LIMIT + 1,
-                ..SQUARE
-            },
-            false,
-        ),
-        (
-            ClothSpec {
-                stretch_tear: -1,
-                ..SQUARE
-            },
-            false,
-        ),
-    ] {
-        assert_eq!(rt; spec.fits(LIMIT), want, "{spec:?}");
+    for (spec, want) in &CLOTHS {
+        assert_eq!(rt; spec.fits(LIMIT), *want, "{spec:?}");
     }
 }
 
+/// Ropes, and whether they fit.
+static ROPES: [(RopeSpec, bool); 6] = [
+    (
+        RopeSpec {
+            origin: Vec3 {
+                x: 0,
+                y: LIMIT - 200,
+                z: 0,
+            },
+            ..CORD
+        },
+        true,
+    ),
+    (
+        RopeSpec {
+            origin: Vec3 {
+                x: 0,
+                y: LIMIT - 199,
+                z: 0,
+            },
+            ..CORD
+        },
+        false,
+    ),
+    (
+        RopeSpec {
+            count: 4096,
+            ..CORD
+        },
+        true,
+    ),
+    (
+        RopeSpec {
+            count: 4097,
+            ..CORD
+        },
+        false,
+    ),
+    (RopeSpec { count: 0, ..CORD }, false),
+    (
+        RopeSpec {
+            stretch_tear: 4 * LIMIT + 1,
+            ..CORD
+        },
+        false,
+    ),
+];
+
 #[test]
 fn ropes_fit_up_to_the_limit(rt: HostRuntime) {
-    for (spec, want) in [
-        (
-            RopeSpec {
-                origin: Vec3 {
-                    x: 0,
-                    y: LIMIT - 200,
-                    z: 0,
-                },
-                ..CORD
-            },
-            true,
-        ),
-        (
-            RopeSpec {
-                origin: Vec3 {
-                    x: 0,
-                    y: LIMIT - 199,
-                    z: 0,
-                },
-                ..CORD
-            },
-            false,
-        ),
-        (
-            RopeSpec {
-                count: 4096,
-                ..CORD
-            },
-            true,
-        ),
-        (
-            RopeSpec {
-                count: 4097,
-                ..CORD
-            },
-            false,
-        ),
-        (RopeSpec { count: 0, ..CORD }, false),
-        (
-            RopeSpec {
-                stretch_tear: 4 * LIMIT + 1,
-                ..CORD
-            },
-            false,
-        ),
-    ] {
-        assert_eq!(rt; spec.fits(LIMIT), want, "{spec:?}");
+    for (spec, want) in &ROPES {
+        assert_eq!(rt; spec.fits(LIMIT), *want, "{spec:?}");
     }
 }

@@ -14,8 +14,14 @@ use std::test::Fail;
 
 const SQUARE: &[u8] = b"v 0 0 0\nv 1 0 0\nv 1 1 0\nv 0 1 0\nf 1 2/7 -2//3 4\n";
 
-fn place(x: i64, y: i64, z: i64) -> Vec3 {
-    Vec3 { x, y, z }
+macro_rules! place {
+    ($x:expr, $y:expr, $z:expr) => {
+        Vec3 {
+            x: $x,
+            y: $y,
+            z: $z,
+        }
+    };
 }
 
 /// The fault of a short text.
@@ -30,7 +36,7 @@ fn fault_of(rt: &impl Abort, alloc: Global, text: &[u8]) -> Option<ObjFault> {
     }
 }
 
-const BAD_VERTICES: [(&[u8], ObjFault); 19] = [
+static BAD_VERTICES: [(&[u8], ObjFault); 19] = [
     (b"v 1 2", ObjFault::BadNumber { line: 1 }),
     (b"v", ObjFault::BadNumber { line: 1 }),
     (b"#\n\n v 1 2 x\r\n", ObjFault::BadNumber { line: 3 }),
@@ -69,7 +75,7 @@ fn texts_with_a_bad_vertex(rt: HostRuntime) {
     }
 }
 
-const BAD_FACES: [(&[u8], ObjFault); 13] = [
+static BAD_FACES: [(&[u8], ObjFault); 13] = [
     (
         b"v 0 0 0\nv 0 0 9e3\nf 1 2 3",
         ObjFault::OutOfRange { line: 2 },
@@ -141,7 +147,7 @@ fn compare_places(rt: &impl Abort, alloc: Global, text: &[u8], places: &[Vec3]) 
     }
 }
 
-const DECIMALS: [(&[u8], i64); 20] = [
+static DECIMALS: [(&[u8], i64); 20] = [
     (b"v 0.1 0 0", 6554),
     (b"v 1e-1 0 0", 6554),
     (b"\tv\t1E-01\t0\t0 7 colour\r\n", 6554),
@@ -167,19 +173,20 @@ const DECIMALS: [(&[u8], i64); 20] = [
 #[test]
 fn decimals_and_their_units(rt: HostRuntime) {
     for (text, units) in &DECIMALS {
-        compare_places(&rt, rt.alloc(), text, &[place(*units, 0, 0)]);
+        compare_places(&rt, rt.alloc(), text, &[place!(*units, 0, 0)]);
     }
 }
 
+static SQUARE_PLACES: [Vec3; 4] = [
+    place!(0, 0, 0),
+    place!(65_536, 0, 0),
+    place!(65_536, 65_536, 0),
+    place!(0, 65_536, 0),
+];
+
 #[test]
 fn a_square_is_read(rt: HostRuntime) {
-    let places = [
-        place(0, 0, 0),
-        place(65_536, 0, 0),
-        place(65_536, 65_536, 0),
-        place(0, 65_536, 0),
-    ];
-    compare_places(&rt, rt.alloc(), SQUARE, &places);
+    compare_places(&rt, rt.alloc(), SQUARE, &SQUARE_PLACES);
     compare_faces(&rt, rt.alloc(), SQUARE, &[4], &[0, 1, 2, 3]);
 }
 
@@ -209,23 +216,24 @@ fn added_alone(alloc: Global, text: &[u8]) -> Result<(), ObjFault>
     outcome
 }
 
+static TWO_FACES: [(Kind, u32, u32, i64, u16, i64); 8] = [
+    (Kind::Stretch, 0, 1, 65_536, 256, 0),
+    (Kind::Stretch, 1, 2, 65_536, 256, 0),
+    (Kind::Stretch, 2, 3, 65_536, 256, 0),
+    (Kind::Stretch, 3, 0, 65_536, 256, 0),
+    (Kind::Stretch, 2, 4, 73_271, 256, 0),
+    (Kind::Stretch, 4, 3, 73_271, 256, 0),
+    (Kind::Shear, 0, 2, 92_681, 256, 0),
+    (Kind::Shear, 1, 3, 92_681, 256, 0),
+];
+
 #[test]
 fn a_mesh_is_added_face_by_face(rt: HostRuntime) {
     let text = b"v 0 0 0\nv 1 0 0\nv 1 1 0\nv 0 1 0\nv 0.5 2 0\nf 1 2 3 4\nf 4 3 5\n";
-    let wanted = [
-        (Kind::Stretch, 0, 1, 65_536, 256, 0),
-        (Kind::Stretch, 1, 2, 65_536, 256, 0),
-        (Kind::Stretch, 2, 3, 65_536, 256, 0),
-        (Kind::Stretch, 3, 0, 65_536, 256, 0),
-        (Kind::Stretch, 2, 4, 73_271, 256, 0),
-        (Kind::Stretch, 4, 3, 73_271, 256, 0),
-        (Kind::Shear, 0, 2, 92_681, 256, 0),
-        (Kind::Shear, 1, 3, 92_681, 256, 0),
-    ];
     let mut parts = empty_parts(rt.alloc(), RANGE);
     assert_eq!(rt; added(rt.alloc(), text, &mut parts), Ok(()));
     assert_eq!(rt; parts.particles.len(), 5);
-    compare_links(&rt, parts.links.as_slice(), &wanted);
+    compare_links(&rt, parts.links.as_slice(), &TWO_FACES);
     drop(parts);
 }
 
@@ -282,7 +290,7 @@ fn compare_faces(rt: &impl Abort, alloc: Global, text: &[u8], sizes: &[u32], cor
 }
 
 /// Texts, and the sizes and the corners of their faces.
-const OTHER_PROGRAMS: [(&[u8], &[u32], &[u32]); 6] = [
+static OTHER_PROGRAMS: [(&[u8], &[u32], &[u32]); 6] = [
     (
         b"# Blender\r\nmtllib plane.mtl\r\no Plane\r\nv -1.000000 0.000000 1.000000\r\nv 1 0 1\r\nv 1 0 -1\r\nv -1 0 -1\r\nvn -0.0000 1.0000 -0.0000\r\nvt 0.0 1.0\r\ns 0\r\nusemtl None\r\nf 1/1/1 2/2/1 3/3/1 4/4/1\r\n",
         &[4],
@@ -345,23 +353,25 @@ fn compare_vertex(rt: &impl Abort, mut sink: MemSink, place: Vec3, line: &[u8]) 
     drop(sink);
 }
 
+/// Places and their lines.
+static VERTICES: [(Vec3, &[u8]); 4] = [
+    (place!(0, 65_536, -98_304), b"v 0 1 -1.5\n"),
+    (
+        place!(6554, 1, -1),
+        b"v 0.100006103515625 0.0000152587890625 -0.0000152587890625\n",
+    ),
+    (
+        place!(536_870_912, -536_870_912, 536_870_911),
+        b"v 8192 -8192 8191.9999847412109375\n",
+    ),
+    (place!(32_768, 655_360, 8), b"v 0.5 10 0.0001220703125\n"),
+];
+
 #[test]
 fn lines_of_a_mesh(rt: HostRuntime) -> Result<(), Fail> {
-    let places: [(Vec3, &[u8]); 4] = [
-        (place(0, 65_536, -98_304), b"v 0 1 -1.5\n"),
-        (
-            place(6554, 1, -1),
-            b"v 0.100006103515625 0.0000152587890625 -0.0000152587890625\n",
-        ),
-        (
-            place(536_870_912, -536_870_912, 536_870_911),
-            b"v 8192 -8192 8191.9999847412109375\n",
-        ),
-        (place(32_768, 655_360, 8), b"v 0.5 10 0.0001220703125\n"),
-    ];
-    for (place, line) in places {
+    for (place, line) in &VERTICES {
         let sink = MemSink::open(rt.alloc(), 100, Vec::new(rt.alloc()))?;
-        compare_vertex(&rt, sink, place, line);
+        compare_vertex(&rt, sink, *place, line);
     }
     Ok(())
 }

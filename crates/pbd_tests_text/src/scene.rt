@@ -184,20 +184,23 @@ fn array_answers(
     same
 }
 
+/// The beginning of an array, an item, how many of it are too many, and what is told.
+static TOO_MANY: [(&str, &str, u32, &str); 8] = [
+    ("particle=[", "{},", 65_537, "6 particle 0 -"),
+    ("cloth=[", "{},", 65, "6 cloth 0 -"),
+    ("rope=[", "{},", 65, "6 rope 0 -"),
+    ("link=[", "{},", 524_289, "6 link 0 -"),
+    ("plane=[", "{},", 257, "6 plane 0 -"),
+    ("sphere=[", "{},", 257, "6 sphere 0 -"),
+    ("track=[", "{},", 4_097, "6 track 0 -"),
+    ("pins=[", "0,", 65_537, "6 scene 0 pins"),
+];
+
 #[test]
 fn entries_past_the_greatest_number_are_refused(rt: HostRuntime) -> Result<(), Fail> {
-    for (begins, item, count, answer) in [
-        ("particle=[", "{},", 65_537, "6 particle 0 -"),
-        ("cloth=[", "{},", 65, "6 cloth 0 -"),
-        ("rope=[", "{},", 65, "6 rope 0 -"),
-        ("link=[", "{},", 524_289, "6 link 0 -"),
-        ("plane=[", "{},", 257, "6 plane 0 -"),
-        ("sphere=[", "{},", 257, "6 sphere 0 -"),
-        ("track=[", "{},", 4_097, "6 track 0 -"),
-        ("pins=[", "0,", 65_537, "6 scene 0 pins"),
-    ] {
+    for (begins, item, count, answer) in &TOO_MANY {
         assert!(rt;
-            array_answers(rt.alloc(), begins, item, count, answer)?,
+            array_answers(rt.alloc(), begins, item, *count, answer)?,
             "{begins}"
         );
     }
@@ -291,17 +294,23 @@ fn hub_answers(alloc: Global, last: &str, answer: &str) -> Result<bool, AllocErr
     same
 }
 
+/// Ends of the scene, and what is told of it.
+static HUB_ENDS: [(&str, &str); 3] = [
+    ("", "ok"),
+    ("[[link]]\na = 33\nb = 0\n", "10 link 32 b"),
+    ("[[link]]\na = 0\nb = 33\n", "10 link 32 a"),
+];
+
 #[test]
 fn the_thirty_third_link_is_refused(rt: HostRuntime) -> Result<(), Fail> {
-    for (last, answer) in [
-        ("", "ok"),
-        ("[[link]]\na = 33\nb = 0\n", "10 link 32 b"),
-        ("[[link]]\na = 0\nb = 33\n", "10 link 32 a"),
-    ] {
+    for (last, answer) in &HUB_ENDS {
         assert!(rt; hub_answers(rt.alloc(), last, answer)?, "{answer}");
     }
     Ok(())
 }
+
+/// Where the particles of the scene below were before along x, their weights, and whether they are held.
+static ENTRIES: [(i64, u16, bool); 4] = [(0, 1, false), (2, 7, false), (9, 1, true), (5, 1, true)];
 
 /// Compares the links and the particles of the scene below.
 fn compare_entries(rt: &impl Abort, parts: &Parts) {
@@ -310,10 +319,9 @@ fn compare_entries(rt: &impl Abort, parts: &Parts) {
         parts.links.as_slice(),
         &[(Kind::Plain, 1, 0, 5, 256, 0)],
     );
-    let wanted = [(0, 1, false), (2, 7, false), (9, 1, true), (5, 1, true)];
     let particles = parts.particles.as_slice();
-    assert_eq!(rt; particles.len(), wanted.len());
-    for (particle, want) in particles.iter().zip(wanted.iter()) {
+    assert_eq!(rt; particles.len(), ENTRIES.len());
+    for (particle, want) in particles.iter().zip(ENTRIES.iter()) {
         let told = (particle.before.x, particle.weight, particle.held);
         assert_eq!(rt; told, *want);
     }

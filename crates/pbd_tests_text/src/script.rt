@@ -12,7 +12,7 @@ const TO: Vec3 = Vec3 {
     z: -60,
 };
 
-const LINES: [(&[u8], Command); 12] = [
+static LINES: [(&[u8], Command); 12] = [
     (b"step 12", Command::Step(12)),
     (b"\t step\t\t0012 \t\r", Command::Step(12)),
     (
@@ -43,7 +43,7 @@ fn lines_and_their_commands(rt: HostRuntime) {
     }
 }
 
-const BAD_LINES: [&[u8]; 27] = [
+static BAD_LINES: [&[u8]; 27] = [
     b"step 0000000000000000007",
     b"step",
     b"step 1 2",
@@ -80,7 +80,7 @@ fn lines_that_ask_for_nothing_known(rt: HostRuntime) {
     }
 }
 
-const EMPTY_LINES: [&[u8]; 5] = [b"\r", b" \t ", b"# step 1", b" #\xC3\xA9", b"##frame"];
+static EMPTY_LINES: [&[u8]; 5] = [b"\r", b" \t ", b"# step 1", b" #\xC3\xA9", b"##frame"];
 
 #[test]
 fn lines_that_ask_for_nothing(rt: HostRuntime) {
@@ -89,28 +89,30 @@ fn lines_that_ask_for_nothing(rt: HostRuntime) {
     }
 }
 
+/// Scripts and their first three commands.
+static SCRIPTS: [(&[u8], [Option<Command>; 3]); 5] = [
+    (b"", [None, None, None]),
+    (b"\n\r\n# none\n", [None, None, None]),
+    (
+        b"frame\r\n\nledger\n",
+        [Some(Command::Frame), Some(Command::Ledger), None],
+    ),
+    (
+        b"frame\n#\nstep 2",
+        [Some(Command::Frame), Some(Command::Step(2)), None],
+    ),
+    (
+        b"frame\rledger\ncut 1\n",
+        [Some(Command::Bad), Some(Command::Cut(1)), None],
+    ),
+];
+
 #[test]
 fn a_script_is_its_lines(rt: HostRuntime) {
-    let scripts: [(&[u8], [Option<Command>; 3]); 5] = [
-        (b"", [None, None, None]),
-        (b"\n\r\n# none\n", [None, None, None]),
-        (
-            b"frame\r\n\nledger\n",
-            [Some(Command::Frame), Some(Command::Ledger), None],
-        ),
-        (
-            b"frame\n#\nstep 2",
-            [Some(Command::Frame), Some(Command::Step(2)), None],
-        ),
-        (
-            b"frame\rledger\ncut 1\n",
-            [Some(Command::Bad), Some(Command::Cut(1)), None],
-        ),
-    ];
-    for (bytes, commands) in scripts {
-        let mut script = Script::new(bytes);
+    for (bytes, commands) in &SCRIPTS {
+        let mut script = Script::new(*bytes);
         for command in commands {
-            assert_eq!(rt; script.next(), command, "in {bytes:?}");
+            assert_eq!(rt; script.next(), *command, "in {bytes:?}");
         }
     }
 }
@@ -138,19 +140,20 @@ fn words_and_numbers(rt: HostRuntime) {
     assert_eq!(rt; numbers, (Some(120), Some(-120), Some(7), None));
 }
 
+static VALUES: [(&[u8], u128); 4] = [
+    (b"", 0),
+    (b"0120", 120),
+    (b"18446744073709551616", 18_446_744_073_709_551_616),
+    (
+        b"99999999999999999999999999999999999999",
+        99_999_999_999_999_999_999_999_999_999_999_999_999,
+    ),
+];
+
 #[test]
 fn digits_and_their_value(rt: HostRuntime) {
-    let rows: [(&[u8], u128); 4] = [
-        (b"", 0),
-        (b"0120", 120),
-        (b"18446744073709551616", 18_446_744_073_709_551_616),
-        (
-            b"99999999999999999999999999999999999999",
-            99_999_999_999_999_999_999_999_999_999_999_999_999,
-        ),
-    ];
-    for (word, value) in rows {
+    for (word, value) in &VALUES {
         assert!(rt; word.len() <= 38 && are_digits(word));
-        assert_eq!(rt; value_of(word), value, "of {word:?}");
+        assert_eq!(rt; value_of(word), *value, "of {word:?}");
     }
 }
