@@ -1,4 +1,4 @@
-use Rattle.std.proofs.Common.{◌≡◌, ℕ, ◌-◌, ◌<◌, ◌≤◌, min, length, List, ap, sym, ◌∙◌, arith, subst, ℤ}
+use Rattle.std.proofs.Common.{◌≡◌, ℕ, ◌-◌, ◌^◌, rules, ◌<◌, ◌≤◌, min, length, List, ap, sym, ◌∙◌, arith, subst, ℤ}
 use Rattle.std.proofs.lemmas.Bool.{eqb-false}
 use Rattle.pbd_world.specs.Bonds.{projected}
 use Rattle.pbd_pair.specs.Bonds.{bond_of}
@@ -7,7 +7,7 @@ use Rattle.pbd_pair.specs.Projecting.{IsBatch}
 use Rattle.pbd_world.proofs.Rooms.{room_at}
 use Rattle.pbd_store.proofs.Fixed.{same_length}
 use Rattle.pbd_pair.proofs.OneByOne.{block_done, block_leaves}
-use Rattle.pbd_pair.proofs.Blocks.{back_batch, fewer_blocks, weigh_same}
+use Rattle.pbd_pair.proofs.Blocks.{back_batch, front_batch, fewer_blocks, weigh_same}
 use Rattle.pbd_pair.proofs.lanes.LaneProjectorProjector.project.Goals as goal
 
 pub returns-in-Err-clause-outcome : goal.returns-in-Err-clause-outcome
@@ -53,3 +53,21 @@ steps_on-preserved g c =
 
 pub returns-clause-room : goal.returns-clause-room
 returns-clause-room g c = λ n h. room_at _ (omega arith) (c.steps_on.invariant.grows n h)
+
+pub project_block-requires : goal.project_block-requires
+project_block-requires g c =
+    let rest = c.steps_on.rest.now in
+    let k = c.min-size.result in
+    let inv = c.steps_on.invariant in
+    let size : k ≡ min (length rest) g.row.L = c.min-size.ensures in
+    let fits : k ≤ length rest = omega arith in
+    let ne = eqb-false (length rest) 0 (sym c.is_empty.ensures ∙ c.steps_on-test.true) in
+    let front : length c.split_at.result.0.now ≡ k = c.split_at.ensures.front_len in
+    (omega arith, (c.requires.lanes_high, record {
+      short = omega (arith, front);
+      some = omega (arith, front, ne, c.requires.lanes_low);
+      batch = rw c.split_at.ensures.front (front_batch c.steps_on.store.limit (length c.steps_on.store.particles) c.args.bonds rest k fits inv.batch);
+      inside = inv.inside;
+      weights = inv.weights;
+      room = room_at (2 ^ 124) (search rules) inv.room;
+    }))
