@@ -17,3 +17,4 @@ pub mod Keeping
 pub mod Staying
 pub mod Costing
 pub mod Parting
+pub mod Placing

@@ -1,4 +1,5 @@
 use Rattle.std.proofs.Common.{◌∙◌, ◌≡◌, ◌+◌, ◌^◌, ℕ, List, length, refl, sym, ap, arith, subst}
+use Rattle.std.specs.List.Sorted.{IsStrictlyIncreasing}
 use Rattle.std.proofs.lemmas.Int.{to_z-of_z}
 use Rattle.pbd_num.proofs.Sizes.{fits}
 use Rattle.pbd_world.specs.Step.{tear}
@@ -9,7 +10,7 @@ use Rattle.pbd_world.proofs.WorkLemmas.{settling_is}
 use Rattle.pbd_world.proofs.WorldParts.{formed, numbers_of}
 use Rattle.pbd_colour.specs.Pairs.{Coloured, dropped}
 use Rattle.pbd_world.proofs.Rooms.{room_at}
-use Rattle.pbd_tear.specs.Tearing.{torn_numbers}
+use Rattle.pbd_tear.specs.Tearing.{AscendTo, torn_numbers}
 use Rattle.pbd_tear.proofs.Numbers.{torn_ascend}
 use Rattle.pbd_world.specs.Room.{Roomed}
 use Rattle.pbd_step.specs.States.{world_of}
@@ -32,6 +33,15 @@ torn-requires g c =
     let many = still_many c.rub.new.store.particles c.args.run.now.state.store.particles c.rub.ensures.settled in
     let links = (formed (parts_of w) c.requires.going.under_way.well_formed).links in
     (omega arith, (rw (c.deref.ensures.value, c.rub.ensures.limit, many) links, (rw c.rub.ensures.limit (record { each = c.rub.ensures.within.at }), rw c.deref.ensures.value c.requires.going.space.numbers)))
+
+pub tear-requires-clause-within : goal.tear-requires-clause-within
+tear-requires-clause-within g c =
+    let links = c.args.run.now.state.links.items in
+    let all = subst (λ (ls : List Link). AscendTo (length ls) c.torn.new.out.entries) c.deref.ensures.value c.torn.ensures.ascending in
+    (subst (λ (ns : List ℕ). AscendTo (length links) ns) (sym c.as_slice.ensures) all).within
+
+pub tear-requires-clause-increasing : goal.tear-requires-clause-increasing
+tear-requires-clause-increasing g c = subst (λ (ns : List ℕ). IsStrictlyIncreasing ns) (sym c.as_slice.ensures) c.torn.ensures.ascending.rising
 
 pub tear-requires-clause-live : goal.tear-requires-clause-live
 tear-requires-clause-live g c =

@@ -31,6 +31,11 @@ restore-requires g c =
     let space = coe 0 1 (i. HaveSpace (taken.particles i) (taken.links i) c.take_steps.new.run.tools) (stays.space (length state.store.particles) (length state.links.items) c.requires.kept.space) in
     (omega arith, (c.requires.lanes_high, (alike, (fit.links, (fit.in_range, (colours, (room, space)))))))
 
+pub returns-in-Err-clause-obeys : goal.returns-in-Err-clause-obeys
+returns-in-Err-clause-obeys g c =
+    let setting = c.args.setting.now in
+    record { outcome = c.in-Err.ensures.outcome; kept = c.restore.ensures.world setting ∙ c.take_over.ensures.world setting }
+
 pub returns-in-Err-clause-kept : goal.returns-in-Err-clause-kept
 returns-in-Err-clause-kept g c =
     let kept = c.take_over.new.state in

@@ -1,0 +1,32 @@
+-- What putting a held particle at a place is refused for.
+use Rattle.std.proofs.Common.{◌≡◌, ℕ, ◌<◌, ◌≤◌, Bool, true, false, not, List, [], ◌∷◌, length, arith, nat_le, Ok, Err}
+use Rattle.std.proofs.lemmas.Bool.{le-leb}
+use Rattle.std.proofs.lemmas.Bool.Decides.{nat_tests}
+use Rattle.pbd_num.specs.declared.Vec3.{Vec3}
+use Rattle.pbd_num.specs.Vectors.{is_within}
+use Rattle.pbd_world.specs.declared.command.Refusal.TheVariants as refusals
+use Rattle.pbd_world.specs.Meaning.{place_held, put_at, is_outside, is_free_already, is_on_track}
+use Rattle.pbd_world.specs.Outcomes.{unless}
+use Rattle.pbd_world.specs.Particles.{particle_at}
+use Rattle.pbd_world.specs.World.{World, is_tracked}
+
+module _ (w : World) (i : ℕ) (to : Vec3) where
+  pub place_missing : length w.particles ≤ i → place_held w i to ≡ Err refusals.NoParticle
+  place_missing le =
+      let none : nat_le (length w.particles) i ≡ true = le-leb (length w.particles) i le in
+      λ k. unless ((none k, refusals.NoParticle) ∷ is_outside w to ∷ is_free_already w i ∷ is_on_track w i ∷ []) (put_at w i (particle_at w.particles i) to)
+
+  some : i < length w.particles → nat_le (length w.particles) i ≡ false
+  some lt = grind (arith, nat_tests)
+
+  pub place_outside : i < length w.particles → is_within w.limit to ≡ false → place_held w i to ≡ Err refusals.OutOfRange
+  place_outside lt within =
+      λ k. unless ((some lt k, refusals.NoParticle) ∷ (not (within k), refusals.OutOfRange) ∷ is_free_already w i ∷ is_on_track w i ∷ []) (put_at w i (particle_at w.particles i) to)
+
+  pub place_free : i < length w.particles → is_within w.limit to ≡ true → not (particle_at w.particles i).held ≡ true → place_held w i to ≡ Err refusals.NotHeld
+  place_free lt within free =
+      λ k. unless ((some lt k, refusals.NoParticle) ∷ (not (within k), refusals.OutOfRange) ∷ (free k, refusals.NotHeld) ∷ is_on_track w i ∷ []) (put_at w i (particle_at w.particles i) to)
+
+  pub place_led : i < length w.particles → is_within w.limit to ≡ true → not (particle_at w.particles i).held ≡ false → is_tracked w.tracks i ≡ true → place_held w i to ≡ Err refusals.Tracked
+  place_led lt within free led =
+      λ k. unless ((some lt k, refusals.NoParticle) ∷ (not (within k), refusals.OutOfRange) ∷ (free k, refusals.NotHeld) ∷ (led k, refusals.Tracked) ∷ []) (put_at w i (particle_at w.particles i) to)

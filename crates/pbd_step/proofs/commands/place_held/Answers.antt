@@ -1,0 +1,42 @@
+use Rattle.std.proofs.Common.{◌≡◌, ℕ, ℤ, Bool, not, refl, sym, ap, ◌∙◌, arith}
+use Rattle.std.proofs.lemmas.Int.{to_z-of_z}
+use Rattle.pbd_num.specs.Vectors.{is_within}
+use Rattle.pbd_num.proofs.Sizes.{fits}
+use Rattle.pbd_world.specs.declared.parts.Particle.{Particle}
+use Rattle.pbd_world.specs.Particles.{particle_at}
+use Rattle.pbd_world.specs.World.{is_tracked}
+use Rattle.pbd_step.specs.States.{world_of}
+use Rattle.pbd_step.proofs.Placing.{place_missing, place_outside, place_free, place_led}
+use Rattle.pbd_step.proofs.commands.place_held.Goals as goal
+
+pub returns-in_default-clause-obeys : goal.returns-in_default-clause-obeys
+returns-in_default-clause-obeys g c = record { outcome = place_missing (world_of c.args.setting.now c.args.state.now) c.args.i c.args.to c.in_default.ensures.missing; kept = refl }
+
+pub returns-then-not-within-clause-obeys : goal.returns-then-not-within-clause-obeys
+returns-then-not-within-clause-obeys g c =
+    let w = world_of c.args.setting.now c.args.state.now in
+    let limit = fits c.limit.result (omega (arith, c.limit.ensures.high)) in
+    let test = simp to_z-of_z at c.within.ensures.test in
+    let within = sym (test ∙ ap (λ (l : ℤ). is_within l c.args.to) c.limit.ensures.value) ∙ c.if-not-within.true in
+    record { outcome = place_outside w c.args.i c.args.to c.in-Some.ensures.there.1 within; kept = refl }
+
+pub returns-then-not-p-clause-obeys : goal.returns-then-not-p-clause-obeys
+returns-then-not-p-clause-obeys g c =
+    let w = world_of c.args.setting.now c.args.state.now in
+    let there = c.in-Some.ensures.there in
+    let limit = fits c.limit.result (omega (arith, c.limit.ensures.high)) in
+    let test = simp to_z-of_z at c.within.ensures.test in
+    let within = sym (test ∙ ap (λ (l : ℤ). is_within l c.args.to) c.limit.ensures.value) ∙ c.if-not-within.false in
+    let read : c.at-p.result ≡ particle_at w.particles c.args.i = c.at-p.ensures.value ∙ ap (λ (n : ℕ). particle_at w.particles n) there.0 in
+    record { outcome = place_free w c.args.i c.args.to there.1 within (sym (ap (λ (p : Particle). not p.held) read) ∙ c.if-not-p.true); kept = refl }
+
+pub returns-then-is_led-clause-obeys : goal.returns-then-is_led-clause-obeys
+returns-then-is_led-clause-obeys g c =
+    let w = world_of c.args.setting.now c.args.state.now in
+    let there = c.in-Some.ensures.there in
+    let limit = fits c.limit.result (omega (arith, c.limit.ensures.high)) in
+    let test = simp to_z-of_z at c.within.ensures.test in
+    let within = sym (test ∙ ap (λ (l : ℤ). is_within l c.args.to) c.limit.ensures.value) ∙ c.if-not-within.false in
+    let read : c.at-p.result ≡ particle_at w.particles c.args.i = c.at-p.ensures.value ∙ ap (λ (n : ℕ). particle_at w.particles n) there.0 in
+    let led = sym (c.is_led.ensures ∙ ap (λ (n : ℕ). is_tracked w.tracks n) there.0) ∙ c.if-is_led.true in
+    record { outcome = place_led w c.args.i c.args.to there.1 within (sym (ap (λ (p : Particle). not p.held) read) ∙ c.if-not-p.false) led; kept = refl }
