@@ -1,5 +1,5 @@
 //! The scene that a number and a size give.
-ghost use Rattle.std.specs.Prelude.{◌≡◌, ◌≤◌, ◌<◌, ◌^◌, ◌-ℤ◌, unsigned_abs, if◌then◌else◌, length, IfOk, IsTrue};
+ghost use Rattle.std.specs.Prelude.{◌≡◌, ◌≤◌, ◌<◌, ◌^◌, ◌-ℤ◌, unsigned_abs, if◌then◌else◌, length, IfOk, OnOk, IsTrue};
 ghost use Rattle.std.specs.List.{list_all};
 ghost use Rattle.pbd_num.specs.Vectors.{Within, minus};
 ghost use Rattle.pbd_world.specs.Valid.{is_valid};
@@ -155,8 +155,19 @@ fn bare_parts(alloc: Global, size: u32) -> Result<Parts, AllocError>
     })
 }
 
+/// Gives the bare parts their cloth, whose particles are set off.
+fn hang_cloth(alloc: Global, number: u64, size: u32, parts: &mut Parts) -> Result<(), AllocError>
+    requires low { 2 ≤ size }
+    requires high { size ≤ 128 }
+    requires bare { parts.old ≡ bare_parts size }
+    ensures { OnOk result (parts.new ≡ generated number size) }
+{
+    cloth(alloc, &level_cloth(size), parts)?;
+    parts.particles = all_set_off(alloc, number, size, parts.particles.as_slice())?;
+    Ok(())
+}
+
 /// The parts of a number and a size.
-#[tactic(auto, unfolding(pbd_outcome::specs::Generated::generated), using(crate::proofs::GeneratedLaws::few, crate::proofs::GeneratedLaws::level_fits, crate::proofs::GeneratedLaws::all_near, crate::proofs::GeneratedLaws::few_particles, crate::proofs::GeneratedValid::generated_valid))]
 pub fn generated(alloc: Global, number: u64, size: u32) -> Result<Parts, AllocError>
     requires low { 2 ≤ size }
     requires high { size ≤ 128 }
@@ -164,7 +175,11 @@ pub fn generated(alloc: Global, number: u64, size: u32) -> Result<Parts, AllocEr
     ensures valid { IfOk result (λ parts. IsTrue (is_valid parts)) }
 {
     let mut parts = bare_parts(alloc, size)?;
-    cloth(alloc, &level_cloth(size), &mut parts)?;
-    parts.particles = all_set_off(alloc, number, size, parts.particles.as_slice())?;
-    Ok(parts)
+    match hang_cloth(alloc, number, size, &mut parts) {
+        Ok(()) => Ok(parts),
+        Err(failed) => {
+            drop(parts);
+            Err(failed)
+        }
+    }
 }

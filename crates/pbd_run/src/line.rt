@@ -172,7 +172,6 @@ fn fault_place(fault: ObjFault) -> u32
 }
 
 /// The line of a mesh that is refused.
-#[tactic(auto, unfolding(pbd_outcome::specs::ObjText::obj_line))]
 pub fn obj_line(fault: ObjFault) -> Line
     ensures { result ≡ obj_line fault }
 {
@@ -188,7 +187,6 @@ pub fn obj_line(fault: ObjFault) -> Line
 }
 
 /// The first line of a frame, as a comment.
-#[tactic(auto, unfolding(pbd_session::specs::Printing::frame_header))]
 pub fn comment_frame(steps: u64, particles: u32, live: u32, contacts: u32) -> Line
     ensures { result ≡ comment ++ frame_header steps particles live contacts }
 {
@@ -236,7 +234,6 @@ fn push_axes(line: &mut Line, axes: &[i64; 3])
 }
 
 /// The line of the sums.
-#[tactic(auto, unfolding(pbd_outcome::specs::Generated::sums_line))]
 pub fn sums_line(sums: &FrameSums) -> Line
     ensures { result ≡ sums_line sums.now }
 {
