@@ -62,12 +62,17 @@ project_block-requires g c =
     let size : k ≡ min (length rest) g.row.L = c.min-size.ensures in
     let fits : k ≤ length rest = omega arith in
     let ne = eqb-false (length rest) 0 (sym c.is_empty.ensures ∙ c.steps_on-test.true) in
-    let front : length c.split_at.result.0.now ≡ k = c.split_at.ensures.front_len in
-    (omega arith, (c.requires.lanes_high, record {
-      short = omega (arith, front);
-      some = omega (arith, front, ne, c.requires.lanes_low);
-      batch = rw c.split_at.ensures.front (front_batch c.steps_on.store.limit (length c.steps_on.store.particles) c.args.bonds rest k fits inv.batch);
-      inside = inv.inside;
-      weights = inv.weights;
-      room = room_at (2 ^ 124) (search rules) inv.room;
-    }))
+    let front : length c.split_at.result.0.now ≡ k = c.split_at.ensures.front_len in (
+      omega arith,
+      (
+        c.requires.lanes_high,
+        record {
+          short = omega (arith, front);
+          some = omega (arith, front, ne, c.requires.lanes_low);
+          batch = rw c.split_at.ensures.front (front_batch c.steps_on.store.limit (length c.steps_on.store.particles) c.args.bonds rest k fits inv.batch);
+          inside = inv.inside;
+          weights = inv.weights;
+          room = room_at (2 ^ 124) (search rules) inv.room;
+        },
+      ),
+    )
