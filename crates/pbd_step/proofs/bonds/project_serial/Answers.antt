@@ -47,8 +47,14 @@ returns-in-Err-clause-outcome g c =
     let parts : drop c.loop-n.n-index numbers ≡ (get_or c.serial-n-items.result.now c.loop-n.n-index 0 ∷ []) ++ drop (c.loop-n.n-index + 1) numbers = rw same (serial_next numbers c.loop-n.n-index within) in
     stops_so_far (get_or c.serial-n-items.result.now c.loop-n.n-index 0 ∷ []) (drop (c.loop-n.n-index + 1) numbers) parts c.loop-n.invariant.limit c.loop-n.invariant.so_far c.in-Err.left.element c.in-Err.ensures.outcome
 
+pub returns-clause-outcome : goal.returns-clause-outcome
+returns-clause-outcome g c = (whole_so_far c.loop-n.invariant.so_far (drop_of_length-le (batch_of c.args.colours.now.pairs c.args.colours.now.live 63) (rw (sym c.serial-n-items.ensures.value) (omega arith)))).same
+
 pub returns-clause-room : goal.returns-clause-room
 returns-clause-room g c = (whole_so_far c.loop-n.invariant.so_far (drop_of_length-le (batch_of c.args.colours.now.pairs c.args.colours.now.live 63) (rw (sym c.serial-n-items.ensures.value) (omega arith)))).grows
+
+pub returns-clause-handed : goal.returns-clause-handed
+returns-clause-handed g c = (whole_so_far c.loop-n.invariant.so_far (drop_of_length-le (batch_of c.args.colours.now.pairs c.args.colours.now.live 63) (rw (sym c.serial-n-items.ensures.value) (omega arith)))).count
 
 pub returns-in-Err-clause-cost : goal.returns-in-Err-clause-cost
 returns-in-Err-clause-cost g c =
