@@ -1,9 +1,11 @@
 -- Lists of bonds that belong to the pairs of a colouring.
-use Rattle.std.specs.Prelude.{◌≡◌, ℕ, ◌-◌, ◌<◌, ℤ, Bool, List, length}
+use Rattle.std.specs.Prelude.{◌≡◌, ℕ, ◌-◌, ◌<◌, ◌≤◌, ℤ, Bool, List, length}
 use Rattle.std.specs.List.{range_with_len, flat_map}
 use Rattle.pbd_world.specs.declared.parts.Particle.{Particle}
-use Rattle.pbd_world.specs.Ledger.{Ledger, HaveRoom}
+use Rattle.pbd_world.specs.declared.totals.Totals.{Totals}
+use Rattle.pbd_world.specs.Ledger.{Ledger, ledger_of, HaveRoom}
 use Rattle.pbd_world.specs.Colours.{pair_at}
+use Rattle.pbd_store.specs.Stored.{Stored}
 use Rattle.pbd_store.specs.Moving.{AreInside, Weigh}
 use Rattle.pbd_colour.specs.Pairs.{batch_of}
 use Rattle.pbd_pair.specs.declared.bonds.Bonds.{Bonds}
@@ -25,3 +27,10 @@ pub record AreMovable (bound : ℕ) (limit : ℤ) (ps : List Particle) (totals :
   pub inside : AreInside limit ps
   pub weights : Weigh ps
   pub room : HaveRoom bound totals
+
+-- the bonds of all pairs of a colouring can be projected one after another: each pair has its bond, there are at most 2^19 of
+-- them, the particles of the store can be moved, and the totals have grown no further than to `bound`
+pub record CanProjectAll (bound : ℕ) (bonds : Bonds) (pairs : List (ℕ × ℕ)) (s : Stored) (t : Totals) : Type 0 where
+  pub fit : AreBondsOf s.limit (length s.particles) bonds pairs
+  pub few : length pairs ≤ 524288
+  pub movable : AreMovable bound s.limit s.particles (ledger_of t)

@@ -4,10 +4,10 @@ ghost use Rattle.pbd_world.specs.Bonds.{projected};
 ghost use Rattle.pbd_world.specs.Colours.{order};
 ghost use Rattle.pbd_world.specs.Ledger.{ledger_of, HaveRoom};
 ghost use Rattle.pbd_world.specs.Work.{bonds_work, colours_work};
-ghost use Rattle.pbd_store.specs.Moving.{motion_of, fixed_parts, AreInside, Weigh};
+ghost use Rattle.pbd_store.specs.Moving.{motion_of, fixed_parts, AreInside};
 ghost use Rattle.pbd_colour.specs.Pairs.{batch_of};
 ghost use Rattle.pbd_pair.specs.Bonds.{bond_of};
-ghost use Rattle.pbd_step.specs.Projecting.{AreBondsOf, parallel_from};
+ghost use Rattle.pbd_step.specs.Projecting.{CanProjectAll, parallel_from};
 
 use pbd_colour::Colouring;
 use pbd_pair::{Bonds, Projector};
@@ -33,11 +33,7 @@ fn project_colours<const L: usize, P: Projector<L>, G: Ledger>(
 ) -> Result<(), Left>
     requires lanes_low { 0 < L }
     requires lanes_high { L ≤ 16 }
-    requires bonds { AreBondsOf store.old.limit (length store.old.particles) bonds colours.now.pairs }
-    requires inside { AreInside store.old.limit store.old.particles }
-    requires weights { Weigh store.old.particles }
-    requires few { length colours.now.pairs ≤ 524288 }
-    requires room { HaveRoom (2 ^ 119) (ledger_of totals.old) }
+    requires can { CanProjectAll (2 ^ 119) bonds colours.now.pairs store.old totals.old }
     requires counted { P.count projector.old ≤ 2 ^ 64 - 1 }
     ensures outcome { MatchResult result
         (λ _. projected store.old.limit (bond_of bonds.entry) (parallel_from colours.now.pairs colours.now.live 0)
@@ -75,11 +71,7 @@ fn project_serial<const L: usize, P: Projector<L>, G: Ledger>(
 ) -> Result<(), Left>
     requires lanes_low { 0 < L }
     requires lanes_high { L ≤ 16 }
-    requires bonds { AreBondsOf store.old.limit (length store.old.particles) bonds colours.now.pairs }
-    requires inside { AreInside store.old.limit store.old.particles }
-    requires weights { Weigh store.old.particles }
-    requires few { length colours.now.pairs ≤ 524288 }
-    requires room { HaveRoom (2 ^ 119 + 2 ^ 57) (ledger_of totals.old) }
+    requires can { CanProjectAll (2 ^ 119 + 2 ^ 57) bonds colours.now.pairs store.old totals.old }
     requires counted { P.count projector.old ≤ 2 ^ 64 - 1 }
     ensures outcome { MatchResult result
         (λ _. projected store.old.limit (bond_of bonds.entry) (batch_of colours.now.pairs colours.now.live 63)
@@ -119,11 +111,7 @@ pub(crate) fn project_all<const L: usize, P: Projector<L>, G: Ledger>(
 ) -> Result<(), Left>
     requires lanes_low { 0 < L }
     requires lanes_high { L ≤ 16 }
-    requires bonds { AreBondsOf store.old.limit (length store.old.particles) bonds colours.now.pairs }
-    requires inside { AreInside store.old.limit store.old.particles }
-    requires weights { Weigh store.old.particles }
-    requires few { length colours.now.pairs ≤ 524288 }
-    requires room { HaveRoom (2 ^ 119) (ledger_of totals.old) }
+    requires can { CanProjectAll (2 ^ 119) bonds colours.now.pairs store.old totals.old }
     ensures outcome { MatchResult result
         (λ _. projected store.old.limit (bond_of bonds.entry) (order colours.now.pairs colours.now.live) (motion_of store.old totals.old)
         ≡ Ok (motion_of store.new totals.new))

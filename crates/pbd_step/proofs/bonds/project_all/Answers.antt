@@ -7,7 +7,7 @@ use Rattle.pbd_pair.specs.Bonds.{bond_of}
 use Rattle.pbd_world.proofs.Rooms.{room_at}
 use Rattle.pbd_store.proofs.Fixed.{same_length}
 use Rattle.pbd_pair.proofs.Blocks.{weigh_same}
-use Rattle.pbd_step.specs.Projecting.{AreBondsOf, parallel_from}
+use Rattle.pbd_step.specs.Projecting.{AreBondsOf, CanProjectAll, parallel_from}
 use Rattle.pbd_step.proofs.InOrder.{both_parts, order_parts, parts_length, stops, then_part}
 use Rattle.pbd_world.proofs.WorkLemmas.{bonds_are}
 use Rattle.pbd_step.proofs.bonds.project_all.Goals as goal
@@ -27,11 +27,16 @@ project_serial-requires g c =
     let fixed = c.project_colours.ensures.fixed in
     let whole = same_length now.particles c.args.store.now.particles fixed in
     let pairs = c.args.colours.now.pairs in
-    let bonds : AreBondsOf now.limit (length now.particles) c.args.bonds pairs = rw (limit, whole) c.requires.bonds in
+    let bonds : AreBondsOf now.limit (length now.particles) c.args.bonds pairs = rw (limit, whole) c.requires.can.fit in
     let inside : AreInside now.limit now.particles = rw limit c.in_default.ensures.inside in
-    let weights = weigh_same c.args.store.now.particles now.particles fixed c.requires.weights in
-    let room : HaveRoom (2 ^ 119 + 2 ^ 57) (ledger_of c.project_colours.new.totals) = room_at _ (omega (arith, parts_length pairs c.args.colours.now.live, c.requires.few)) (c.in_default.ensures.room (2 ^ 119) c.requires.room) in
-    (omega arith, (c.requires.lanes_low, (c.requires.lanes_high, (bonds, (inside, (weights, (c.requires.few, (room, omega (arith, c.in_default.ensures.handed)))))))))
+    let weights = weigh_same c.args.store.now.particles now.particles fixed c.requires.can.movable.weights in
+    let room : HaveRoom (2 ^ 119 + 2 ^ 57) (ledger_of c.project_colours.new.totals) = room_at _ (omega (arith, parts_length pairs c.args.colours.now.live, c.requires.can.few)) (c.in_default.ensures.room (2 ^ 119) c.requires.can.movable.room) in
+    let can : CanProjectAll (2 ^ 119 + 2 ^ 57) c.args.bonds pairs now c.project_colours.new.totals = record {
+      fit = bonds;
+      few = c.requires.can.few;
+      movable = record { inside = inside; weights = weights; room = room };
+    } in
+    (omega arith, (c.requires.lanes_low, (c.requires.lanes_high, (can, omega (arith, c.in_default.ensures.handed)))))
 
 pub returns-in-Err-project_serial-clause-outcome : goal.returns-in-Err-project_serial-clause-outcome
 returns-in-Err-project_serial-clause-outcome g c =
@@ -48,7 +53,7 @@ returns-clause-outcome g c =
 pub returns-clause-room : goal.returns-clause-room
 returns-clause-room g c =
     λ n h.
-    room_at _ (omega (arith, parts_length c.args.colours.now.pairs c.args.colours.now.live, c.requires.few)) (c.in_default-project_serial.ensures.room _ (c.in_default.ensures.room n h))
+    room_at _ (omega (arith, parts_length c.args.colours.now.pairs c.args.colours.now.live, c.requires.can.few)) (c.in_default-project_serial.ensures.room _ (c.in_default.ensures.room n h))
 
 pub returns-clause-handed : goal.returns-clause-handed
 returns-clause-handed g c =

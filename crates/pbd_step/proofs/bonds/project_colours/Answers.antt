@@ -14,10 +14,10 @@ project-requires g c =
     let pairs = c.args.colours.now.pairs in
     let live = c.args.colours.now.live in
     let whole : length c.loop-c.store.particles ≡ length c.args.store.now.particles = same_length c.loop-c.store.particles c.args.store.now.particles inv.so_far.fixed in
-    let batch : IsBatch c.loop-c.store.limit (length c.loop-c.store.particles) c.args.bonds c.batch.result.now = rw (inv.limit, whole) (batch_is c.args.store.now.limit (length c.args.store.now.particles) c.args.bonds pairs c.requires.bonds live c.batch.result.now c.batch.ensures.live c.batch.ensures.apart) in
+    let batch : IsBatch c.loop-c.store.limit (length c.loop-c.store.particles) c.args.bonds c.batch.result.now = rw (inv.limit, whole) (batch_is c.args.store.now.limit (length c.args.store.now.particles) c.args.bonds pairs c.requires.can.fit live c.batch.result.now c.batch.ensures.live c.batch.ensures.apart) in
     let inside : AreInside c.loop-c.store.limit c.loop-c.store.particles = rw inv.limit inv.so_far.inside in
-    let weights = weigh_same c.args.store.now.particles c.loop-c.store.particles inv.so_far.fixed c.requires.weights in
-    let room = room_so_far inv.so_far (2 ^ 119) (2 ^ 120) (omega (arith, parts_length pairs live, c.requires.few)) c.requires.room in
+    let weights = weigh_same c.args.store.now.particles c.loop-c.store.particles inv.so_far.fixed c.requires.can.movable.weights in
+    let room = room_so_far inv.so_far (2 ^ 119) (2 ^ 120) (omega (arith, parts_length pairs live, c.requires.can.few)) c.requires.can.movable.room in
     (omega arith, (c.requires.lanes_low, (c.requires.lanes_high, (batch, (inside, (weights, room))))))
 
 pub returns-in-Err-clause-outcome : goal.returns-in-Err-clause-outcome
@@ -36,7 +36,7 @@ returns-in-Err-clause-cost g c =
     omega (arith, inv.cost, c.project.ensures.cost, colour_paid pairs live c.loop-c.c c.batch.ensures.value inv.width, colours_left (g.P.Projector.width c.args.projector.now) pairs live c.loop-c.c (omega arith))
 
 pub loop-c-init : goal.loop-c-init
-loop-c-init g c = record { so_far = none_so_far _ _ _ _ _ c.requires.inside c.requires.counted; limit = refl; width = refl; cost = omega arith }
+loop-c-init g c = record { so_far = none_so_far _ _ _ _ _ c.requires.can.movable.inside c.requires.counted; limit = refl; width = refl; cost = omega arith }
 
 pub loop-c-preserved : goal.loop-c-preserved
 loop-c-preserved g c =

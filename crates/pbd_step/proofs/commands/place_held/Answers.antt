@@ -1,4 +1,4 @@
-use Rattle.std.proofs.Common.{◌≡◌, ℕ, ℤ, Bool, not, refl, sym, ap, ◌∙◌, arith}
+use Rattle.std.proofs.Common.{◌≡◌, ℕ, ℤ, true, not, slice_set, refl, sym, ap, ◌∙◌, arith}
 use Rattle.std.proofs.lemmas.Int.{to_z-of_z}
 use Rattle.pbd_num.specs.Vectors.{is_within}
 use Rattle.pbd_num.proofs.Sizes.{fits}
@@ -6,7 +6,7 @@ use Rattle.pbd_world.specs.declared.parts.Particle.{Particle}
 use Rattle.pbd_world.specs.Particles.{particle_at}
 use Rattle.pbd_world.specs.World.{is_tracked}
 use Rattle.pbd_step.specs.States.{world_of}
-use Rattle.pbd_step.proofs.Placing.{place_missing, place_outside, place_free, place_led}
+use Rattle.pbd_step.proofs.Placing.{place_missing, place_outside, place_free, place_led, place_done, set_down}
 use Rattle.pbd_step.proofs.commands.place_held.Goals as goal
 
 pub returns-in_default-clause-obeys : goal.returns-in_default-clause-obeys
@@ -40,3 +40,16 @@ returns-then-is_led-clause-obeys g c =
     let read : c.at-p.result ≡ particle_at w.particles c.args.i = c.at-p.ensures.value ∙ ap (λ (n : ℕ). particle_at w.particles n) there.0 in
     let led = sym (c.is_led.ensures ∙ ap (λ (n : ℕ). is_tracked w.tracks n) there.0) ∙ c.if-is_led.true in
     record { outcome = place_led w c.args.i c.args.to there.1 within (sym (ap (λ (p : Particle). not p.held) read) ∙ c.if-not-p.false) led; kept = refl }
+
+pub returns-clause-obeys : goal.returns-clause-obeys
+returns-clause-obeys g c =
+    let w = world_of c.args.setting.now c.args.state.now in
+    let there = c.in-Some.ensures.there in
+    let limit = fits c.limit.result (omega (arith, c.limit.ensures.high)) in
+    let test = simp to_z-of_z at c.within.ensures.test in
+    let within = sym (test ∙ ap (λ (l : ℤ). is_within l c.args.to) c.limit.ensures.value) ∙ c.if-not-within.false in
+    let read : c.at-p.result ≡ particle_at w.particles c.args.i = c.at-p.ensures.value ∙ ap (λ (n : ℕ). particle_at w.particles n) there.0 in
+    let led = sym (c.is_led.ensures ∙ ap (λ (n : ℕ). is_tracked w.tracks n) there.0) ∙ c.if-is_led.false in
+    let down : c.resting.result ≡ set_down w c.args.i c.args.to = c.resting.ensures ∙ ap (λ (p : Particle). record { at = c.args.to; before = c.args.to; weight = p.weight; held = true }) read in
+    let set = c.set.ensures.particles ∙ (λ k. slice_set w.particles (there.0 k) (down k)) in
+    record { outcome = place_done w c.args.i c.args.to c.set.new.self.limit c.set.new.self.particles there.1 within (sym (ap (λ (p : Particle). not p.held) read) ∙ c.if-not-p.false) led c.set.ensures.limit set; kept = search }

@@ -35,6 +35,12 @@ returns-in-Err-clause-full g c =
     let same = c.touching_pairs_are_contacts.ensures c.args.setting.now.thickness c.args.run.now.state.links.items c.args.run.now.state.store.particles c.args.run.now.colours c.requires.going.links.pairs c.requires.going.links.live in
     (subst (λ (pairs : List (ℕ × ℕ)). 262144 < length pairs) same full, refl)
 
+pub returns-in-Ok-clause-particles : goal.returns-in-Ok-clause-particles
+returns-in-Ok-clause-particles g c = ap (λ (f : Found). f.particles) c.in-Ok.ensures.found
+
+pub returns-in-Err-clause-particles : goal.returns-in-Err-clause-particles
+returns-in-Err-clause-particles g c = ap (λ (f : Found). f.particles) c.in-Err.ensures.emptied
+
 pub returns-in-Ok-clause-cost : goal.returns-in-Ok-clause-cost
 returns-in-Ok-clause-cost g c =
     let f : FitsSigned w64 c.args.setting.now.thickness = search rules in

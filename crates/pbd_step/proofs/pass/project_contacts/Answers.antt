@@ -6,7 +6,7 @@ use Rattle.pbd_world.specs.Work.{bonds_work}
 use Rattle.pbd_store.specs.Moving.{motion_of}
 use Rattle.pbd_colour.specs.Pairs.{InRange}
 use Rattle.pbd_pair.specs.declared.bonds.Bonds.TheVariants.{Contacts}
-use Rattle.pbd_step.specs.Projecting.{AreBondsOf}
+use Rattle.pbd_step.specs.Projecting.{AreBondsOf, CanProjectAll}
 use Rattle.pbd_world.proofs.OrderCounts.{contacts_count}
 use Rattle.pbd_step.proofs.Staying.{part_in_pass}
 use Rattle.pbd_step.proofs.UnderWay.{contact_bonds, ok_both, still_movable}
@@ -23,8 +23,12 @@ project_all-requires g c =
     let these : pairs ≡ c.colouring.result.now.pairs = c.pairs.ensures.value ∙ sym c.colouring.ensures.pairs in
     let fits = contact_bonds limit c.args.thickness n pairs (Contacts c.pairs.result c.args.thickness) refl (λ k. refl) c.requires.limit c.requires.thickness range in
     let bonds : AreBondsOf limit n (Contacts c.pairs.result (to_z w64 (of_z w64 c.args.thickness))) c.colouring.result.now.pairs = coe 0 1 (i. AreBondsOf limit n (Contacts c.pairs.result (sym same i)) (these i)) fits in
-    let movable = c.requires.movable in
-    (omega arith, (c.requires.lanes_low, (c.requires.lanes_high, (bonds, (movable.inside, (movable.weights, (omega (arith, ap length these, c.pairs.ensures.few), movable.room)))))))
+    let can : CanProjectAll (2 ^ 119) (Contacts c.pairs.result (to_z w64 (of_z w64 c.args.thickness))) c.colouring.result.now.pairs c.args.run.now.state.store c.args.run.now.state.totals = record {
+      fit = bonds;
+      few = omega (arith, ap length these, c.pairs.ensures.few);
+      movable = c.requires.movable;
+    } in
+    (omega arith, (c.requires.lanes_low, (c.requires.lanes_high, can)))
 
 pub returns-clause-outcome : goal.returns-clause-outcome
 returns-clause-outcome g c =

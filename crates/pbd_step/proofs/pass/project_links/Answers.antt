@@ -9,7 +9,7 @@ use Rattle.pbd_world.specs.World.{live_count}
 use Rattle.pbd_store.specs.Moving.{motion_of}
 use Rattle.pbd_pair.specs.declared.bonds.Bonds.{Bonds}
 use Rattle.pbd_pair.specs.declared.bonds.Bonds.TheVariants.{Links}
-use Rattle.pbd_step.specs.Projecting.{AreBondsOf}
+use Rattle.pbd_step.specs.Projecting.{AreBondsOf, CanProjectAll}
 use Rattle.pbd_world.proofs.OrderCounts.{links_count}
 use Rattle.pbd_step.proofs.Staying.{part_in_pass}
 use Rattle.pbd_step.proofs.UnderWay.{link_bonds, few_links, ok_both, still_movable}
@@ -26,8 +26,12 @@ project_all-requires g c =
     let has = c.requires.links in
     let valid : IsTrue (are_valid_links limit n links) = subst (λ (ls : List Link). IsTrue (are_valid_links limit n ls)) (sym same) c.requires.valid in
     let fits : AreBondsOf limit n bonds c.args.run.now.colours.pairs = subst (λ (pairs : List (ℕ × ℕ)). AreBondsOf limit n bonds pairs) (ap (λ (ls : List Link). link_pairs ls) same ∙ sym has.pairs) (link_bonds limit n links bonds refl (λ k. refl) valid) in
-    let movable = c.requires.movable in
-    (omega arith, (c.requires.lanes_low, (c.requires.lanes_high, (fits, (movable.inside, (movable.weights, (omega (arith, ap length has.pairs, few_links limit n state.links.items c.requires.valid), movable.room)))))))
+    let can : CanProjectAll (2 ^ 119) bonds c.args.run.now.colours.pairs state.store state.totals = record {
+      fit = fits;
+      few = omega (arith, ap length has.pairs, few_links limit n state.links.items c.requires.valid);
+      movable = c.requires.movable;
+    } in
+    (omega arith, (c.requires.lanes_low, (c.requires.lanes_high, can)))
 
 pub returns-clause-outcome : goal.returns-clause-outcome
 returns-clause-outcome g c =

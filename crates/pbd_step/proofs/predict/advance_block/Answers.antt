@@ -70,6 +70,15 @@ returns-in-Ok-clause-within g c =
       before = λ i h. saved_each start filled places (at_of g.row.L block ps) ps (λ i p. Within limit p.before) g.row.L qs saved (λ j h k. within.at (start + j) k) within.before i (omega (arith, h, saved.whole));
     }
 
+pub returns-in-Ok-clause-room : goal.returns-in-Ok-clause-room
+returns-in-Ok-clause-room g c = c.advance_lanes.ensures.room
+
+pub returns-in-Err-clause-within : goal.returns-in-Err-clause-within
+returns-in-Err-clause-within g c = c.requires.within
+
+pub returns-in-Err-clause-room : goal.returns-in-Err-clause-room
+returns-in-Err-clause-room g c = c.advance_lanes.ensures.room
+
 pub fly-flown-requires : goal.fly-flown-requires
 fly-flown-requires g c =
     let e = c.load-lanes.ensures in

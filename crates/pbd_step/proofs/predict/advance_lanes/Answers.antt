@@ -31,6 +31,16 @@ returns-clause-room g c =
     let span = c.span-span.ensures in
     λ n h. room_at _ (omega (arith, span.first, span.count, span.within, c.loop-j-test.false, c.loop-j.auto.j-end)) (c.loop-j.invariant.room n h)
 
+pub advance-requires-clause-low : goal.advance-requires-clause-low
+advance-requires-clause-low g c =
+    let f : FitsSigned w64 c.limit-limit.result = record { sfits = c.limit-limit.type_inv } in
+    simp to_z-of_z c.limit-limit.ensures.low
+
+pub advance-requires-clause-high : goal.advance-requires-clause-high
+advance-requires-clause-high g c =
+    let f : FitsSigned w64 c.limit-limit.result = record { sfits = c.limit-limit.type_inv } in
+    simp to_z-of_z c.limit-limit.ensures.high
+
 pub advance-requires-clause-at : goal.advance-requires-clause-at
 advance-requires-clause-at g c =
     let f : FitsSigned w64 c.limit-limit.result = record { sfits = c.limit-limit.type_inv } in
