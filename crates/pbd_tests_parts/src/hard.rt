@@ -11,7 +11,7 @@ fn place(axes: [i64; 3]) -> Vec3 {
 /// Two places, a length, a stiffness, two effective weights, and how both places move.
 type HardPair = ([i64; 3], [i64; 3], u32, u16, u16, u16, [[i64; 3]; 2]);
 
-const HARD_PAIRS: [HardPair; 30] = [
+static HARD_PAIRS: [HardPair; 30] = [
     ([0, 0, 0], [0, 0, 0], 0, 256, 1, 1, [[0, 0, 0], [0, 0, 0]]),
     ([0, 0, 0], [0, 0, 0], 2, 256, 1, 1, [[0, 0, 0], [0, 0, 0]]),
     ([0, 0, 0], [0, 0, 0], 5, 256, 1, 1, [[0, 0, 0], [0, 0, 0]]),
