@@ -1,7 +1,7 @@
 //! Hard pairs: short lengths, quotients at halves, all weights.
-use crate::num::moves;
+use crate::num::{is_pair, moves};
 use crate::places::at;
-use pbd_num::{Draw, Vec3, Weights, inside, try_moves};
+use pbd_num::{Draw, Vec3, Weights, try_moves};
 use std::process::Abort;
 
 fn place(axes: [i64; 3]) -> Vec3 {
@@ -162,7 +162,7 @@ fn moves_by_axes(rt: &impl Abort, pair: &HardPair) -> [[i64; 3]; 2] {
 fn tried_by_axes(rt: &impl Abort, pair: &HardPair, reach: i64) -> Option<[[i64; 3]; 2]> {
     let (a, b, rest, k, wa, wb, _) = *pair;
     let (first, second) = (place(a), place(b));
-    assert!(rt; inside(first) && inside(second) && rest <= 1 << 31 && k <= 256);
+    assert!(rt; is_pair(first, second, rest, k));
     let draw = Draw {
         rest: rest as i64,
         k: k as i64,

@@ -1,7 +1,36 @@
 //! Quotients, roots, the range, and the moves of a pair.
+ghost use Rattle.std.specs.Prelude.{◌≤◌, ◌^◌, IsTrue};
+ghost use Rattle.pbd_num.specs.Vectors.{Within};
+
 use crate::places::{at, place};
 use pbd_num::{RANGE, Vec3, distance, inside, pair_move, rdiv, root, within};
 use std::process::Abort;
+
+fn both_inside(a: Vec3, b: Vec3) -> bool
+    ensures first { IsTrue result → Within (2 ^ 29) a }
+    ensures second { IsTrue result → Within (2 ^ 29) b }
+{
+    if !inside(a) {
+        return false;
+    }
+    inside(b)
+}
+
+/// Whether the places, the length and the stiffness of a pair are in range.
+pub(crate) fn is_pair(a: Vec3, b: Vec3, rest: u32, k: u16) -> bool
+    ensures first { IsTrue result → Within (2 ^ 29) a }
+    ensures second { IsTrue result → Within (2 ^ 29) b }
+    ensures rest { IsTrue result → rest ≤ 2 ^ 31 }
+    ensures stiffness { IsTrue result → k ≤ 256 }
+{
+    if !both_inside(a, b) {
+        return false;
+    }
+    if rest > 1 << 31 {
+        return false;
+    }
+    k <= 256
+}
 
 /// The moves of a pair that is in range. Each `u16` is an effective weight.
 pub(crate) fn moves(
@@ -13,13 +42,13 @@ pub(crate) fn moves(
     wa: u16,
     wb: u16,
 ) -> (Vec3, Vec3) {
-    assert!(rt; inside(a) && inside(b) && rest <= 1 << 31 && k <= 256);
+    assert!(rt; is_pair(a, b, rest, k));
     pair_move(a, b, rest as i64, k as i64, wa as i64, wb as i64)
 }
 
 /// The distance of places that are in range.
 fn apart(rt: &impl Abort, a: Vec3, b: Vec3) -> i64 {
-    assert!(rt; inside(a) && inside(b));
+    assert!(rt; both_inside(a, b));
     distance(a, b)
 }
 
