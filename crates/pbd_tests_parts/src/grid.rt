@@ -2,9 +2,9 @@
 ghost use Rattle.std.specs.Prelude.{◌≡◌, ◌≤◌, ◌≤ℤ◌, IsTrue, pos, length};
 ghost use Rattle.pbd_grid.specs.Near.{AllInside};
 
-use crate::places::at;
+use crate::places::place;
 use pbd_grid::{Grid, PairFilter};
-use pbd_num::{Vec3, inside};
+use pbd_num::{RANGE, Vec3, inside};
 use pbd_world::RoomList;
 use std::alloc::{AllocError, Global};
 use std::process::Abort;
@@ -188,45 +188,58 @@ fn try_places(
     }
 }
 
+const FAR: i64 = RANGE;
+
+const LINE: [Vec3; 3] = [place!(0, 0, 0), place!(99, 0, 0), place!(100, 0, 0)];
+
+const BESIDE_ZERO: [Vec3; 2] = [place!(-1, 0, 0), place!(0, 0, 0)];
+
+const CORNER: [Vec3; 8] = [
+    place!(-1, -1, -1),
+    place!(-1, -1, 0),
+    place!(-1, 0, -1),
+    place!(-1, 0, 0),
+    place!(0, -1, -1),
+    place!(0, -1, 0),
+    place!(0, 0, -1),
+    place!(0, 0, 0),
+];
+
+const EQUAL: [Vec3; 4] = [
+    place!(5, -7, 9),
+    place!(5, -7, 9),
+    place!(5, -7, 10),
+    place!(5, -7, 9),
+];
+
+const WIDE: [Vec3; 7] = [
+    place!(FAR, -FAR, FAR),
+    place!(FAR - 1_048_575, -FAR, FAR),
+    place!(FAR - 1_048_576, -FAR, FAR),
+    place!(-FAR, -FAR, -FAR),
+    place!(-FAR, -FAR + 1_048_575, -FAR),
+    place!(0, 1_048_576, 0),
+    place!(0, 1_048_575, 0),
+];
+
+/// A thickness, places, and how many pairs are near.
+static PLACES: [(i64, &[Vec3], usize); 5] = [
+    // Three in a line: 100 apart isn't nearer than 100.
+    (100, &LINE, 2),
+    // On both sides of 0, and round a corner where eight cells meet.
+    (2, &BESIDE_ZERO, 1),
+    (2, &CORNER, 27),
+    // Equal places are near at thickness 1, others aren't.
+    (1, &EQUAL, 3),
+    // The greatest thickness, at the ends of the range and on the edges of cells.
+    (1_048_576, &WIDE, 4),
+];
+
 #[test]
 fn near_pairs_are_those_of_all(rt: HostRuntime) {
-    let far = 536_870_912;
-    let line = [at(0, 0, 0), at(99, 0, 0), at(100, 0, 0)];
-    let beside_zero = [at(-1, 0, 0), at(0, 0, 0)];
-    let corner = [
-        at(-1, -1, -1),
-        at(-1, -1, 0),
-        at(-1, 0, -1),
-        at(-1, 0, 0),
-        at(0, -1, -1),
-        at(0, -1, 0),
-        at(0, 0, -1),
-        at(0, 0, 0),
-    ];
-    let few = [at(5, -7, 9), at(5, -7, 9), at(5, -7, 10), at(5, -7, 9)];
-    let wide = [
-        at(far, -far, far),
-        at(far - 1_048_575, -far, far),
-        at(far - 1_048_576, -far, far),
-        at(-far, -far, -far),
-        at(-far, -far + 1_048_575, -far),
-        at(0, 1_048_576, 0),
-        at(0, 1_048_575, 0),
-    ];
-    let cases: [(i64, &[Vec3], usize); 5] = [
-        // Three in a line: 100 apart isn't nearer than 100.
-        (100, &line, 2),
-        // On both sides of 0, and round a corner where eight cells meet.
-        (2, &beside_zero, 1),
-        (2, &corner, 27),
-        // Equal places are near at thickness 1, others aren't.
-        (1, &few, 3),
-        // The greatest thickness, at the ends of the range and on the edges of cells.
-        (1_048_576, &wide, 4),
-    ];
-    for (thickness, places, wanted) in cases {
+    for (thickness, places, wanted) in &PLACES {
         assert_eq!(rt;
-            try_places(&rt, rt.alloc(), thickness, places, wanted),
+            try_places(&rt, rt.alloc(), *thickness, places, *wanted),
             Ok([true; 2]),
             "{places:?}"
         );

@@ -1,7 +1,7 @@
 //! Hard pairs: short lengths, quotients at halves, all weights.
-use crate::num::moves;
+use crate::num::{is_pair, moves};
 use crate::places::at;
-use pbd_num::{Draw, Vec3, Weights, inside, try_moves};
+use pbd_num::{Draw, Vec3, Weights, try_moves};
 use std::process::Abort;
 
 fn place(axes: [i64; 3]) -> Vec3 {
@@ -11,7 +11,7 @@ fn place(axes: [i64; 3]) -> Vec3 {
 /// Two places, a length, a stiffness, two effective weights, and how both places move.
 type HardPair = ([i64; 3], [i64; 3], u32, u16, u16, u16, [[i64; 3]; 2]);
 
-const HARD_PAIRS: [HardPair; 30] = [
+static HARD_PAIRS: [HardPair; 30] = [
     ([0, 0, 0], [0, 0, 0], 0, 256, 1, 1, [[0, 0, 0], [0, 0, 0]]),
     ([0, 0, 0], [0, 0, 0], 2, 256, 1, 1, [[0, 0, 0], [0, 0, 0]]),
     ([0, 0, 0], [0, 0, 0], 5, 256, 1, 1, [[0, 0, 0], [0, 0, 0]]),
@@ -162,7 +162,7 @@ fn moves_by_axes(rt: &impl Abort, pair: &HardPair) -> [[i64; 3]; 2] {
 fn tried_by_axes(rt: &impl Abort, pair: &HardPair, reach: i64) -> Option<[[i64; 3]; 2]> {
     let (a, b, rest, k, wa, wb, _) = *pair;
     let (first, second) = (place(a), place(b));
-    assert!(rt; inside(first) && inside(second) && rest <= 1 << 31 && k <= 256);
+    assert!(rt; is_pair(first, second, rest, k));
     let draw = Draw {
         rest: rest as i64,
         k: k as i64,

@@ -21,3 +21,16 @@ pub fn resting(place: Vec3) -> Particle
         held: false,
     }
 }
+
+/// The same as a constant.
+macro_rules! place {
+    ($x:expr, $y:expr, $z:expr) => {
+        Vec3 {
+            x: $x,
+            y: $y,
+            z: $z,
+        }
+    };
+}
+
+pub(crate) use place;

@@ -3,9 +3,9 @@ ghost use Rattle.std.specs.Prelude.{◌≡◌, ◌<◌, ◌≤◌, IsTrue, IfOk,
 ghost use Rattle.pbd_store.specs.Moving.{AreInside};
 
 use crate::pairs::are_in_range;
-use crate::places::{at, resting};
+use crate::places::{at, place, resting};
 use pbd_colour::Colouring;
-use pbd_num::{RANGE, inside};
+use pbd_num::{RANGE, Vec3, inside};
 use pbd_self::SelfContacts;
 use pbd_store::{Steps, Store};
 use pbd_world::Particle;
@@ -13,17 +13,6 @@ use std::alloc::{AllocError, Global};
 use std::marker::Brand;
 use std::process::Abort;
 use std::sync::ledger::{Blank, Ledger};
-
-fn free(x: i64, y: i64, z: i64) -> Particle {
-    resting(at(x, y, z))
-}
-
-fn held(x: i64, y: i64, z: i64) -> Particle {
-    Particle {
-        held: true,
-        ..free(x, y, z)
-    }
-}
 
 // Particles and links, a thickness, and how many contacts there are.
 #[derive(Clone, Copy)]
@@ -271,7 +260,7 @@ fn try_cases(rt: &impl Abort, alloc: Global, cases: &[Case<'_>]) {
 fn row(alloc: Global, count: u32) -> Result<Vec<Particle>, AllocError> {
     let mut particles = Vec::new(alloc);
     for x in 0..count {
-        particles.push(free(x as i64, 0, 0))?;
+        particles.push(resting(at(x as i64, 0, 0)))?;
     }
     Ok(particles)
 }
@@ -300,78 +289,106 @@ fn try_row(
     }
 }
 
-fn case_of<'a>(
-    particles: &'a [Particle],
-    links: &'a [(u32, u32)],
-    thickness: i64,
-    contacts: usize,
-) -> Case<'a> {
-    Case {
-        particles,
-        links,
-        thickness,
-        contacts,
-    }
+macro_rules! free {
+    ($x:expr, $y:expr, $z:expr) => {
+        Particle {
+            at: place!($x, $y, $z),
+            before: place!($x, $y, $z),
+            weight: 1,
+            held: false,
+        }
+    };
 }
+
+macro_rules! held {
+    ($x:expr, $y:expr, $z:expr) => {
+        Particle {
+            at: place!($x, $y, $z),
+            before: place!($x, $y, $z),
+            weight: 1,
+            held: true,
+        }
+    };
+}
+
+macro_rules! case {
+    ($particles:expr, $links:expr, $thickness:expr, $contacts:expr) => {
+        Case {
+            particles: $particles,
+            links: $links,
+            thickness: $thickness,
+            contacts: $contacts,
+        }
+    };
+}
+
+const LINE: [Particle; 3] = [free!(0, 0, 0), free!(99, 0, 0), free!(100, 0, 0)];
+
+const BESIDE_ZERO: [Particle; 2] = [free!(-1, 0, 0), free!(0, 0, 0)];
+
+const PINNED: [Particle; 4] = [
+    held!(0, 5, 0),
+    free!(3, 5, 0),
+    held!(5, 5, 0),
+    held!(0, 5, 3),
+];
+
+const EQUAL: [Particle; 4] = [
+    free!(5, -7, 9),
+    free!(5, -7, 9),
+    free!(5, -7, 10),
+    free!(5, -7, 9),
+];
+
+static FEW: [Case<'static>; 9] = [
+    // 100 apart isn't nearer than 100.
+    case!(&LINE, &[], 100, 2),
+    case!(&LINE, &[(1, 0)], 100, 1),
+    case!(&LINE, &[(0, 2)], 100, 2),
+    case!(&LINE, &[], 0, 0),
+    // On both sides of 0.
+    case!(&BESIDE_ZERO, &[], 2, 1),
+    // Two held ones don't touch, a held and a free one do.
+    case!(&PINNED, &[], 6, 3),
+    case!(&PINNED, &[(2, 1), (0, 3)], 6, 2),
+    // Equal places are near at thickness 1, others aren't, and none is at 0.
+    case!(&EQUAL, &[], 1, 3),
+    case!(&EQUAL, &[], 0, 0),
+];
 
 #[test]
 fn few_particles(rt: HostRuntime) {
-    let line = [free(0, 0, 0), free(99, 0, 0), free(100, 0, 0)];
-    let beside_zero = [free(-1, 0, 0), free(0, 0, 0)];
-    let pinned = [held(0, 5, 0), free(3, 5, 0), held(5, 5, 0), held(0, 5, 3)];
-    let equal = [
-        free(5, -7, 9),
-        free(5, -7, 9),
-        free(5, -7, 10),
-        free(5, -7, 9),
-    ];
-    let cases = [
-        // 100 apart isn't nearer than 100.
-        case_of(&line, &[], 100, 2),
-        case_of(&line, &[(1, 0)], 100, 1),
-        case_of(&line, &[(0, 2)], 100, 2),
-        case_of(&line, &[], 0, 0),
-        // On both sides of 0.
-        case_of(&beside_zero, &[], 2, 1),
-        // Two held ones don't touch, a held and a free one do.
-        case_of(&pinned, &[], 6, 3),
-        case_of(&pinned, &[(2, 1), (0, 3)], 6, 2),
-        // Equal places are near at thickness 1, others aren't, and none is at 0.
-        case_of(&equal, &[], 1, 3),
-        case_of(&equal, &[], 0, 0),
-    ];
-    try_cases(&rt, rt.alloc(), &cases);
+    try_cases(&rt, rt.alloc(), &FEW);
 }
+
+// Round a corner where eight cells meet.
+const CORNER: [Particle; 8] = [
+    free!(-1, -1, -1),
+    free!(-1, -1, 0),
+    free!(-1, 0, -1),
+    free!(-1, 0, 0),
+    free!(0, -1, -1),
+    free!(0, -1, 0),
+    free!(0, 0, -1),
+    free!(0, 0, 0),
+];
+
+// For the greatest thickness, at the ends of the range and on the edges of cells.
+const WIDE: [Particle; 7] = [
+    free!(RANGE, -RANGE, RANGE),
+    free!(RANGE - 1_048_575, -RANGE, RANGE),
+    free!(RANGE - 1_048_576, -RANGE, RANGE),
+    free!(-RANGE, -RANGE, -RANGE),
+    free!(-RANGE, 1_048_575 - RANGE, -RANGE),
+    free!(0, 1_048_576, 0),
+    free!(0, 1_048_575, 0),
+];
+
+static EDGES: [Case<'static>; 2] = [case!(&CORNER, &[], 2, 28), case!(&WIDE, &[], 1_048_576, 4)];
 
 #[test]
 fn edges_of_cells_and_of_the_range(rt: HostRuntime) {
-    // Round a corner where eight cells meet.
-    let corner = [
-        free(-1, -1, -1),
-        free(-1, -1, 0),
-        free(-1, 0, -1),
-        free(-1, 0, 0),
-        free(0, -1, -1),
-        free(0, -1, 0),
-        free(0, 0, -1),
-        free(0, 0, 0),
-    ];
-    // The greatest thickness, at the ends of the range and on the edges of cells.
-    let far = 536_870_912;
-    let wide = [
-        free(far, -far, far),
-        free(far - 1_048_575, -far, far),
-        free(far - 1_048_576, -far, far),
-        free(-far, -far, -far),
-        free(-far, 1_048_575 - far, -far),
-        free(0, 1_048_576, 0),
-        free(0, 1_048_575, 0),
-    ];
-    let cases = [
-        case_of(&corner, &[], 2, 28),
-        case_of(&wide, &[], 1_048_576, 4),
-    ];
-    try_cases(&rt, rt.alloc(), &cases);
+    try_cases(&rt, rt.alloc(), &EDGES);
 }
 
 #[test]

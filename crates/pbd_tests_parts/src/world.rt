@@ -1,7 +1,7 @@
 //! Scenes that are valid and others that aren't, lists, totals, lanes and numbers of refusals.
 ghost use Rattle.std.specs.Prelude.{◌<◌, ◌≤◌};
 
-use crate::places::{at, resting};
+use crate::places::{at, place, resting};
 use pbd_num::{RANGE, Vec3};
 use pbd_world::{
     Class, Full, Key, Kind, Link, List, Particle, Parts, PartsFault, Phase, Plane, Refusal,
@@ -50,37 +50,36 @@ fn push_links(parts: &mut Parts, links: &[(u32, u32, i64)]) -> Result<(), AllocE
     Ok(())
 }
 
+static CLOTH_PLACES: [Vec3; 6] = [
+    place!(0, 0, 0),
+    place!(100, 0, 0),
+    place!(200, 0, 0),
+    place!(0, 0, 100),
+    place!(100, 0, 100),
+    place!(200, 0, 100),
+];
+
+/// The ends of its links and their lengths at rest.
+static CLOTH_LINKS: [(u32, u32, i64); 13] = [
+    (0, 1, 100),
+    (0, 3, 100),
+    (1, 2, 100),
+    (1, 4, 100),
+    (2, 5, 100),
+    (3, 4, 100),
+    (4, 5, 100),
+    (0, 4, 141),
+    (1, 3, 141),
+    (1, 5, 141),
+    (2, 4, 141),
+    (0, 2, 200),
+    (3, 5, 200),
+];
+
 /// Two rows of three particles with all their links.
 fn push_cloth(parts: &mut Parts) -> Result<(), AllocError> {
-    push_particles(
-        parts,
-        &[
-            at(0, 0, 0),
-            at(100, 0, 0),
-            at(200, 0, 0),
-            at(0, 0, 100),
-            at(100, 0, 100),
-            at(200, 0, 100),
-        ],
-    )?;
-    push_links(
-        parts,
-        &[
-            (0, 1, 100),
-            (0, 3, 100),
-            (1, 2, 100),
-            (1, 4, 100),
-            (2, 5, 100),
-            (3, 4, 100),
-            (4, 5, 100),
-            (0, 4, 141),
-            (1, 3, 141),
-            (1, 5, 141),
-            (2, 4, 141),
-            (0, 2, 200),
-            (3, 5, 200),
-        ],
-    )
+    push_particles(parts, &CLOTH_PLACES)?;
+    push_links(parts, &CLOTH_LINKS)
 }
 
 /// The scene of parts, where all went into them.
@@ -195,33 +194,38 @@ fn refuses_a_double_link(rt: HostRuntime) {
     }
 }
 
+/// Changes after which a cloth is no scene.
+static CHANGES: [Change<'static>; 9] = [
+    Change::Limit(1000),
+    Change::Link(2, 2),
+    Change::Link(2, 6),
+    Change::Particle(Particle {
+        at: Vec3::ZERO,
+        before: Vec3::ZERO,
+        weight: 0,
+        held: false,
+    }),
+    Change::Particle(Particle {
+        at: Vec3::ZERO,
+        before: place!(0, 1, 0),
+        weight: 1,
+        held: true,
+    }),
+    Change::Plane(Plane {
+        normal: Vec3::ZERO,
+        offset: 0,
+    }),
+    Change::Sphere(Sphere {
+        centre: place!(RANGE, 0, 0),
+        radius: 1,
+    }),
+    Change::Passes(65),
+    Change::Gravity(place!(0, -RANGE - 1, 0)),
+];
+
 #[test]
 fn refuses_other_parts(rt: HostRuntime) {
-    let changes = [
-        Change::Limit(1000),
-        Change::Link(2, 2),
-        Change::Link(2, 6),
-        Change::Particle(Particle {
-            weight: 0,
-            ..resting(at(0, 0, 0))
-        }),
-        Change::Particle(Particle {
-            held: true,
-            before: at(0, 1, 0),
-            ..resting(at(0, 0, 0))
-        }),
-        Change::Plane(Plane {
-            normal: Vec3::ZERO,
-            offset: 0,
-        }),
-        Change::Sphere(Sphere {
-            centre: at(RANGE, 0, 0),
-            radius: 1,
-        }),
-        Change::Passes(65),
-        Change::Gravity(at(0, -RANGE - 1, 0)),
-    ];
-    for (case, change) in changes.iter().enumerate() {
+    for (case, change) in CHANGES.iter().enumerate() {
         assert_eq!(rt; changed(rt.alloc(), change), Some(false), "case {case}");
     }
 }

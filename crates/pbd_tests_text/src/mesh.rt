@@ -1,8 +1,8 @@
 //! Cloths and ropes: their links in order, and which fit.
-use crate::parts::{compare_links, empty_parts};
+use crate::parts::{compare_links, empty_parts, link};
 use pbd_mesh::{ClothSpec, RopeSpec, cloth, rope};
 use pbd_num::Vec3;
-use pbd_world::Kind;
+use pbd_world::{Kind, Link};
 
 const LIMIT: i64 = 268_435_456;
 
@@ -32,20 +32,20 @@ const CORD: RopeSpec = RopeSpec {
     bend_tear: 5,
 };
 
-static CLOTH_LINKS: [(Kind, u32, u32, i64, u16, i64); 13] = [
-    (Kind::Stretch, 0, 1, 100, 256, 7),
-    (Kind::Stretch, 0, 3, 100, 256, 7),
-    (Kind::Stretch, 1, 2, 100, 256, 7),
-    (Kind::Stretch, 1, 4, 100, 256, 7),
-    (Kind::Stretch, 2, 5, 100, 256, 7),
-    (Kind::Stretch, 3, 4, 100, 256, 7),
-    (Kind::Stretch, 4, 5, 100, 256, 7),
-    (Kind::Shear, 0, 4, 141, 255, 8),
-    (Kind::Shear, 1, 3, 141, 255, 8),
-    (Kind::Shear, 1, 5, 141, 255, 8),
-    (Kind::Shear, 2, 4, 141, 255, 8),
-    (Kind::Bend, 0, 2, 200, 64, 9),
-    (Kind::Bend, 3, 5, 200, 64, 9),
+static CLOTH_LINKS: [Link; 13] = [
+    link!(Kind::Stretch, 0, 1, 100, 256, 7),
+    link!(Kind::Stretch, 0, 3, 100, 256, 7),
+    link!(Kind::Stretch, 1, 2, 100, 256, 7),
+    link!(Kind::Stretch, 1, 4, 100, 256, 7),
+    link!(Kind::Stretch, 2, 5, 100, 256, 7),
+    link!(Kind::Stretch, 3, 4, 100, 256, 7),
+    link!(Kind::Stretch, 4, 5, 100, 256, 7),
+    link!(Kind::Shear, 0, 4, 141, 255, 8),
+    link!(Kind::Shear, 1, 3, 141, 255, 8),
+    link!(Kind::Shear, 1, 5, 141, 255, 8),
+    link!(Kind::Shear, 2, 4, 141, 255, 8),
+    link!(Kind::Bend, 0, 2, 200, 64, 9),
+    link!(Kind::Bend, 3, 5, 200, 64, 9),
 ];
 
 #[test]
@@ -58,10 +58,10 @@ fn cloth_has_the_links_of_its_kinds_in_order(rt: HostRuntime) {
     drop(parts);
 }
 
-static ROPE_LINKS: [(Kind, u32, u32, i64, u16, i64); 3] = [
-    (Kind::Stretch, 0, 1, 100, 256, 0),
-    (Kind::Stretch, 1, 2, 100, 256, 0),
-    (Kind::Bend, 0, 2, 200, 64, 5),
+static ROPE_LINKS: [Link; 3] = [
+    link!(Kind::Stretch, 0, 1, 100, 256, 0),
+    link!(Kind::Stretch, 1, 2, 100, 256, 0),
+    link!(Kind::Bend, 0, 2, 200, 64, 5),
 ];
 
 #[test]

@@ -2,11 +2,11 @@
 ghost use Rattle.std.specs.Prelude.{◌≡◌, ◌≤◌, ◌<◌, IsTrue, length, pos};
 ghost use Rattle.pbd_world.specs.Valid.{is_valid};
 
-use crate::parts::{compare_links, empty_parts};
+use crate::parts::{compare_links, empty_parts, link};
 use pbd_io::MemSink;
 use pbd_num::{RANGE, Vec3, inside};
 use pbd_obj::{ObjFault, add_mesh, read_obj, write_face, write_vertex};
-use pbd_world::{Kind, Parts};
+use pbd_world::{Kind, Link, Parts};
 use std::alloc::{AllocError, Global};
 use std::fmt::Write;
 use std::process::Abort;
@@ -216,15 +216,15 @@ fn added_alone(alloc: Global, text: &[u8]) -> Result<(), ObjFault>
     outcome
 }
 
-static TWO_FACES: [(Kind, u32, u32, i64, u16, i64); 8] = [
-    (Kind::Stretch, 0, 1, 65_536, 256, 0),
-    (Kind::Stretch, 1, 2, 65_536, 256, 0),
-    (Kind::Stretch, 2, 3, 65_536, 256, 0),
-    (Kind::Stretch, 3, 0, 65_536, 256, 0),
-    (Kind::Stretch, 2, 4, 73_271, 256, 0),
-    (Kind::Stretch, 4, 3, 73_271, 256, 0),
-    (Kind::Shear, 0, 2, 92_681, 256, 0),
-    (Kind::Shear, 1, 3, 92_681, 256, 0),
+static TWO_FACES: [Link; 8] = [
+    link!(Kind::Stretch, 0, 1, 65_536, 256, 0),
+    link!(Kind::Stretch, 1, 2, 65_536, 256, 0),
+    link!(Kind::Stretch, 2, 3, 65_536, 256, 0),
+    link!(Kind::Stretch, 3, 0, 65_536, 256, 0),
+    link!(Kind::Stretch, 2, 4, 73_271, 256, 0),
+    link!(Kind::Stretch, 4, 3, 73_271, 256, 0),
+    link!(Kind::Shear, 0, 2, 92_681, 256, 0),
+    link!(Kind::Shear, 1, 3, 92_681, 256, 0),
 ];
 
 #[test]

@@ -2,7 +2,7 @@
 ghost use Rattle.std.specs.Prelude.{◌≡◌, [], IsTrue};
 ghost use Rattle.pbd_world.specs.Valid.{is_valid, is_limit};
 
-use pbd_world::{Kind, Link, Parts};
+use pbd_world::{Link, Parts};
 use std::alloc::Global;
 use std::process::Abort;
 
@@ -17,11 +17,24 @@ pub fn empty_parts(alloc: Global, limit: i64) -> Parts
     Parts::empty(alloc, limit)
 }
 
-/// Compares kind, ends, rest, stiffness and tear.
-pub fn compare_links(rt: &impl Abort, links: &[Link], wanted: &[(Kind, u32, u32, i64, u16, i64)]) {
-    assert_eq!(rt; links.len(), wanted.len());
-    for (link, want) in links.iter().zip(wanted.iter()) {
-        let told = (link.kind, link.a, link.b, link.rest, link.k, link.tear);
-        assert_eq!(rt; told, *want);
-    }
+/// A live link: its kind, ends, rest, stiffness and tear.
+macro_rules! link {
+    ($kind:expr, $a:expr, $b:expr, $rest:expr, $k:expr, $tear:expr) => {
+        Link {
+            a: $a,
+            b: $b,
+            rest: $rest,
+            k: $k,
+            tear: $tear,
+            kind: $kind,
+            live: true,
+        }
+    };
+}
+
+pub(crate) use link;
+
+/// Compares links with those of a table.
+pub fn compare_links(rt: &impl Abort, links: &[Link], wanted: &[Link]) {
+    assert_eq!(rt; links, wanted);
 }

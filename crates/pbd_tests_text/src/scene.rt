@@ -1,8 +1,9 @@
 //! Scenes, each with the first rule that it breaks, and what an accepted one holds.
-use crate::parts::compare_links;
+use crate::parts::{compare_links, link};
 use crate::scene_keys::key_cases;
+use pbd_num::Vec3;
 use pbd_scene::{SceneFault, read_scene};
-use pbd_world::{Kind, Parts};
+use pbd_world::{Kind, Link, Particle, Parts};
 use std::alloc::{AllocError, Global};
 use std::fmt::Write;
 use std::process::Abort;
@@ -309,22 +310,40 @@ fn the_thirty_third_link_is_refused(rt: HostRuntime) -> Result<(), Fail> {
     Ok(())
 }
 
-/// Where the particles of the scene below were before along x, their weights, and whether they are held.
-static ENTRIES: [(i64, u16, bool); 4] = [(0, 1, false), (2, 7, false), (9, 1, true), (5, 1, true)];
+macro_rules! vector {
+    ($x:expr, $y:expr, $z:expr) => {
+        Vec3 {
+            x: $x,
+            y: $y,
+            z: $z,
+        }
+    };
+}
+
+static ENTRY_LINKS: [Link; 1] = [link!(Kind::Plain, 1, 0, 5, 256, 0)];
+
+macro_rules! particle {
+    ($at:expr, $before:expr, $weight:expr, $held:expr) => {
+        Particle {
+            at: $at,
+            before: $before,
+            weight: $weight,
+            held: $held,
+        }
+    };
+}
+
+static ENTRIES: [Particle; 4] = [
+    particle!(vector!(0, 0, 0), vector!(0, 0, 0), 1, false),
+    particle!(vector!(3, 4, 0), vector!(2, 3, -1), 7, false),
+    particle!(vector!(9, 9, 9), vector!(9, 9, 9), 1, true),
+    particle!(vector!(5, 5, 5), vector!(5, 5, 5), 1, true),
+];
 
 /// Compares the links and the particles of the scene below.
 fn compare_entries(rt: &impl Abort, parts: &Parts) {
-    compare_links(
-        rt,
-        parts.links.as_slice(),
-        &[(Kind::Plain, 1, 0, 5, 256, 0)],
-    );
-    let particles = parts.particles.as_slice();
-    assert_eq!(rt; particles.len(), ENTRIES.len());
-    for (particle, want) in particles.iter().zip(ENTRIES.iter()) {
-        let told = (particle.before.x, particle.weight, particle.held);
-        assert_eq!(rt; told, *want);
-    }
+    compare_links(rt, parts.links.as_slice(), &ENTRY_LINKS);
+    assert_eq!(rt; parts.particles.as_slice(), ENTRIES.as_slice());
 }
 
 /// Compares the scene's own numbers with what they are where a scene has gravity alone.
