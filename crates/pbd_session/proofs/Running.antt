@@ -1,5 +1,5 @@
 -- A script's text, one command after another.
-use Rattle.std.proofs.Common.{◌≡◌, ◌∙◌, sym, refl, ℕ, ◌+◌, ◌≤◌, List, [], ◌∷◌, ◌++◌, length, Option, arith, append_assoc, append-nil, zero-add}
+use Rattle.std.proofs.Common.{◌≡◌, ◌∙◌, sym, refl, ℕ, ◌+◌, ◌<◌, ◌≤◌, List, [], ◌∷◌, ◌++◌, length, Option, arith, append_assoc, append-nil, zero-add}
 use Rattle.std.specs.Prelude.{if◌then◌else◌}
 use Rattle.std.specs.Io.KnownBytes.{Appends}
 use Rattle.std.specs.List.{Contains}
@@ -27,6 +27,10 @@ one_more replies.Done = omega arith
 one_more replies.Frame = omega arith
 one_more replies.Ledger = omega arith
 one_more (replies.Refused refusal) = omega arith
+
+-- what is left is shorter by one
+pub one_fewer : {X : Type 0} (left : List X) (x : X) (xs : List X) → left ≡ x ∷ xs → length xs < length left
+one_fewer left x xs is = rw is (omega arith)
 
 pub counted_on : (start : World) (all : List Command) (w : World) (c : Command) (cs : List Command) (refused : ℕ) → Counted start all w (c ∷ cs) refused → Counted start all (after w c) cs (refused + (if is_refused (reply w c) then 1 else 0))
 unfolding refused_count

@@ -1,8 +1,11 @@
 -- Printed lines, and lines with something before each.
-use Rattle.std.proofs.Common.{◌+◌, ◌≡◌, ◌∙◌, sym, ap, refl, ℕ, List, [], ◌∷◌, ◌++◌, length, map, append_assoc, append-nil, codes}
+use Rattle.std.proofs.Common.{◌+◌, ◌<◌, ◌≤◌, ◌≡◌, ◌∙◌, sym, ap, refl, ℕ, zero, suc, List, [], ◌∷◌, ◌++◌, length, get_or, take, map, Option, arith, append_assoc, append-nil, codes}
+use Rattle.std.specs.Io.KnownBytes.{Appends}
 use Rattle.std.specs.List.{flat_map}
-use Rattle.std.proofs.lemmas.List.{length-append}
+use Rattle.std.proofs.lemmas.List.{length-append, take_all}
+use Rattle.pbd_io.specs.Appending.{appends_then}
 use Rattle.pbd_world.specs.declared.command.Reply.{Reply}
+use Rattle.pbd_world.specs.declared.parts.Particle.{Particle}
 use Rattle.pbd_world.specs.declared.command.Reply.TheVariants as replies
 use Rattle.pbd_world.specs.Momentum.{momentum}
 use Rattle.pbd_world.specs.World.{World, live_count}
@@ -30,6 +33,11 @@ pub header_is : (w : World) → header_line w ≡ frame_header w.steps (length w
 unfolding header_line frame_header
 header_is w = refl
 
+pub header_parts : (w : World) (steps particles live contacts : ℕ) (header : List ℕ) → header ≡ frame_header steps particles live contacts
+    → steps ≡ w.steps → particles ≡ length w.particles → live ≡ live_count w.links → contacts ≡ w.contacts → header ≡ header_line w
+header_parts w steps particles live contacts header is same_steps same_particles same_live same_contacts =
+    is ∙ rw (same_steps, same_particles, same_live, same_contacts) (sym (header_is w))
+
 -- lines made of items
 each_of : {X : Type 0} (prefix : List ℕ) (f : X → List ℕ) (xs : List X) → each_after prefix (map {A = X} {B = List ℕ} f xs) ≡ flat_map (λ x. prefix ++ f x) xs
 each_of prefix f [] = refl
@@ -51,6 +59,30 @@ nothing_before w replies.Ledger =
     rw (append-nil (sum_line (codes "shape") w.totals.shape))
     (sym (pieces8 (sum_line (codes "momentum") (momentum w.particles)) (sum_line (codes "opening") w.opening) (sum_line (codes "gravity") w.totals.gravity) (sum_line (codes "damping") w.totals.damping) (sum_line (codes "link") w.totals.link) (sum_line (codes "contact") w.totals.contact) (sum_line (codes "pin") w.totals.pin) (sum_line (codes "shape") w.totals.shape)))
 nothing_before w (replies.Refused r) = append-nil _
+
+-- ---- one piece for each item of a list
+
+flat_more : {X : Type 0} (f : X → List ℕ) (xs : List X) (i : ℕ) (d : X) (piece : List ℕ)
+    → i < length xs → piece ≡ f (get_or xs i d) → flat_map f (take (i + 1) xs) ≡ flat_map f (take i xs) ++ piece
+flat_more f [] i d piece lt is = absurd (omega arith)
+flat_more f (x ∷ xs) zero d piece lt is = rw is (append-nil (f x))
+flat_more f (x ∷ xs) (suc i) d piece lt is =
+    let e : suc i + 1 ≡ suc (i + 1) = omega arith in
+    rw e (ap (λ t. f x ++ t) (flat_more f xs i d piece (omega (arith, lt)) is) ∙ sym (append_assoc (f x) (flat_map f (take i xs)) piece))
+
+-- the pieces of the items before i are written, and then that of item i
+pub written_next : {X : Type 0} (f : X → List ℕ) (xs : List X) (i : ℕ) (d : X) (piece : List ℕ) (old mid new : Option (List ℕ))
+    → Appends old mid (flat_map f (take i xs)) → i < length xs → piece ≡ f (get_or xs i d) → Appends mid new piece
+    → Appends old new (flat_map f (take (i + 1) xs))
+written_next f xs i d piece old mid new before lt is wrote =
+    rw (flat_more f xs i d piece lt is) (appends_then _ _ _ _ _ before wrote)
+
+pub written_all : {X : Type 0} (f : X → List ℕ) (xs : List X) (i : ℕ) (old new : Option (List ℕ))
+    → Appends old new (flat_map f (take i xs)) → length xs ≤ i → Appends old new (flat_map f xs)
+written_all f xs i old new wrote all = rw (take_all i xs all) at wrote
+
+pub place_is : (prefix line : List ℕ) (p q : Particle) → line ≡ place_line p → p ≡ q → prefix ++ line ≡ place_after prefix q
+place_is prefix line p q is same = rw (is, same) refl
 
 -- ---- the sums of a ledger
 

@@ -52,7 +52,6 @@ fn write_line<K: Sink>(prefix: &[u8], line: &Line, sink: &mut K) -> Result<(), F
     write_both(prefix, line, sink)
 }
 
-#[tactic(auto, using(crate::proofs::Texts::header_is))]
 fn write_header<const L: usize, P: Projector<L> + Drop, K: Sink>(
     solver: &Solver<L, P>,
     prefix: &[u8],
@@ -158,7 +157,6 @@ fn write_ledger<const L: usize, P: Projector<L> + Drop, K: Sink, G: Ledger>(
 impl<const L: usize, P: Projector<L> + Drop> Session<L, P> {
     /// Writes the lines of a reply, with frames and ledgers read from the world as it is now.
     /// `Failed` comes only where the sink's count of faults rose, and then a prefix of these bytes was appended.
-    #[tactic(auto, using(crate::proofs::Texts::nothing_before))]
     pub fn write_reply<K: Sink, G: Ledger>(
         &self,
         reply: &Reply,

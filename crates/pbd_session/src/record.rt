@@ -40,7 +40,6 @@ impl<const L: usize, P: Projector<L> + Drop> Session<L, P> {
 ///
 /// `Failed` comes only where the sink's count of faults rose. Then a prefix of the log was appended, and the session's
 /// world is one of those that the commands lead through.
-#[tactic(auto, using(crate::proofs::Comparing::alike))]
 pub fn run_record<const L: usize, P: Projector<L> + Drop, K: Sink, G: Ledger>(
     session: &mut Session<L, P>,
     scene: &[u8],

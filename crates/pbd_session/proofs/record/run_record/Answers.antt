@@ -1,6 +1,8 @@
 use Rattle.std.proofs.Common.{◌<◌, ◌^◌, arith, rules, length}
 use Rattle.std.proofs.lemmas.Result.{err_from_is_err_and}
-use Rattle.pbd_session.proofs.Running.{Does, one_more}
+use Rattle.pbd_script.specs.Commands.{commands}
+use Rattle.pbd_session.proofs.Comparing.{alike}
+use Rattle.pbd_session.proofs.Running.{Does, one_fewer, one_more}
 use Rattle.pbd_session.proofs.Recorded.{logged_begins, logged_next, begin_failed, logged_failed, finish_failed, logged_ends, is_entry, is_grammatical, has_room}
 use Rattle.pbd_session.proofs.record.run_record.Goals as goal
 
@@ -78,3 +80,23 @@ pub returns-clause-refused : goal.returns-clause-refused
 returns-clause-refused g c =
     let few : length c.new-script.result < 2 ^ 64 = omega (arith, c.new-script.ensures.few, c.requires.script) in
     rw (← c.new-script.ensures.all) ((logged_ends _ _ _ _ _ _ _ _ _ _ _ c.loop-command.invariant.logged c.in_default.ensures.0 c.in_ok-finish.ensures.bytes c.begin_log.ensures.known c.requires.scene few).count)
+
+pub returns-in_err-writer-clause-replays : goal.returns-in_err-writer-clause-replays
+returns-in_err-writer-clause-replays g c = alike 1 c.args.session.now (commands c.args.script.now)
+
+pub returns-in_err-append-clause-replays : goal.returns-in_err-append-clause-replays
+returns-in_err-append-clause-replays g c = alike 1 c.args.session.now (commands c.args.script.now)
+
+pub returns-in_err-finish-clause-replays : goal.returns-in_err-finish-clause-replays
+returns-in_err-finish-clause-replays g c = alike 1 c.args.session.now (commands c.args.script.now)
+
+pub returns-clause-replays : goal.returns-clause-replays
+returns-clause-replays g c = alike 1 c.args.session.now (commands c.args.script.now)
+
+pub returns-clause-world : goal.returns-clause-world
+returns-clause-world g c =
+    let few : length c.new-script.result < 2 ^ 64 = omega (arith, c.new-script.ensures.few, c.requires.script) in
+    rw (← c.new-script.ensures.all) ((logged_ends _ _ _ _ _ _ _ _ _ _ _ c.loop-command.invariant.logged c.in_default.ensures.0 c.in_ok-finish.ensures.bytes c.begin_log.ensures.known c.requires.scene few).world)
+
+pub loop-command-smaller : goal.loop-command-smaller
+loop-command-smaller g c = one_fewer _ _ _ c.in-Some.ensures

@@ -2,7 +2,7 @@ use Rattle.std.proofs.Common.{◌∙◌, sym, arith, rules, ap}
 use Rattle.std.proofs.lemmas.Result.{err_from_is_err_and}
 use Rattle.pbd_log.specs.Logs.{Log}
 use Rattle.pbd_session.specs.Replaying.{difference}
-use Rattle.pbd_session.proofs.Running.{Does}
+use Rattle.pbd_session.proofs.Running.{Does, one_more}
 use Rattle.pbd_session.proofs.Recorded.{is_entry}
 use Rattle.pbd_session.proofs.Replays.{agreed_begins, agreed_next, agreed_failed, agreed_ends, differs_piece, does_one_of, differs_ended, differs_world}
 use Rattle.pbd_session.proofs.replay.run_replay.Goals as goal
@@ -80,3 +80,8 @@ returns-clause-world g c = (agreed_ends _ _ _ _ _ _ _ _ c.loop-entry.invariant.a
 
 pub returns-clause-one_of : goal.returns-clause-one_of
 returns-clause-one_of g c = (agreed_ends _ _ _ _ _ _ _ _ c.loop-entry.invariant.agreed c.in_default.ensures.ended).one_of
+
+pub overflow_add-refused : goal.overflow_add-refused
+overflow_add-refused g c =
+    let more = one_more c.apply-reply.result in
+    record { fits = omega (arith, c.loop-entry.invariant.agreed.few, c.loop-entry.invariant.agreed.numbers, c.bytes_left-bytes.ensures.few, c.bytes_left-bytes.ensures.short, c.refusals-refused.ensures, more) }

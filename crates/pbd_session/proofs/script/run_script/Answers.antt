@@ -1,6 +1,6 @@
 use Rattle.std.proofs.Common.{arith, rules}
 use Rattle.std.proofs.lemmas.Result.{err_from_is_err_and}
-use Rattle.pbd_session.proofs.Running.{Does, ran_begins, ran_next, ran_failed, ran_ends}
+use Rattle.pbd_session.proofs.Running.{Does, one_fewer, one_more, ran_begins, ran_next, ran_failed, ran_ends}
 use Rattle.pbd_session.proofs.Paying.{paid_next}
 use Rattle.pbd_session.proofs.script.run_script.Goals as goal
 
@@ -49,3 +49,11 @@ returns-in_err-write_reply-clause-cost g c = λ lanes some all.
 
 pub returns-clause-cost : goal.returns-clause-cost
 returns-clause-cost g c = λ lanes some all. rw (← c.new-script.ensures.all) (omega (arith, c.loop-command.invariant.spent lanes some all))
+
+pub overflow_add-refused : goal.overflow_add-refused
+overflow_add-refused g c =
+    let more = one_more c.apply-reply.result in
+    record { fits = omega (arith, c.loop-command.invariant.ran.counted.few, c.new-script.ensures.few, c.requires.script, c.refusals-refused.ensures, more) }
+
+pub loop-command-smaller : goal.loop-command-smaller
+loop-command-smaller g c = one_fewer _ _ _ c.in-Some.ensures
