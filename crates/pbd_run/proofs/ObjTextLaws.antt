@@ -3,7 +3,7 @@ use Rattle.std.proofs.Common.{◌≡◌, ◌∙◌, sym, ap, refl, subst, ℕ, �
 use Rattle.std.specs.Prelude.{All, sum}
 use Rattle.std.specs.Io.KnownBytes.{Appends}
 use Rattle.std.specs.List.{flat_map}
-use Rattle.std.proofs.lemmas.List.{drop_more, length-drop}
+use Rattle.std.proofs.lemmas.List.{drop_more, length-drop, flat_map_more, take_all, take_more}
 use Rattle.std.proofs.lemmas.List.Sums.{sum_by-cons}
 use Rattle.std.proofs.lemmas.List.Elements.{All-head, All-tail, All-weaker}
 use Rattle.pbd_io.specs.Pieces.{AppendsPrefix}
@@ -28,6 +28,18 @@ header_of v w steps particles live contacts same a b c d = rw (a, b, c, d, same)
 pub frame_is : (base : ℕ) (mesh : ObjMesh) (w : World) → obj_frame base mesh w ≡ (comment ++ header_line w) ++ (flat_map particle_line w.particles ++ flat_map (face_line base) (faces mesh))
 unfolding obj_frame
 frame_is base mesh w = refl
+
+-- ---- one piece for each item
+
+-- the piece of item i follows those of the items before it
+pub piece_next : {X : Type 0} (f : X → List ℕ) (xs : List X) (i : ℕ) (d : X) (piece : List ℕ) (old mid new : Option (List ℕ)) → Appends old mid (flat_map f (take i xs)) → i < length xs → piece ≡ f (get_or xs i d) → Appends mid new piece → Appends old new (flat_map f (take (i + 1) xs))
+piece_next f xs i d piece old mid new before lt is wrote =
+    let e : flat_map f (take (i + 1) xs) ≡ flat_map f (take i xs) ++ piece = ap (flat_map f) (take_more xs i d lt) ∙ (sym (flat_map_more f [] (take i xs) (get_or xs i d)) ∙ ap (λ t. flat_map f (take i xs) ++ t) (sym is)) in
+    rw e (appends_then old mid new (flat_map f (take i xs)) piece before wrote)
+
+-- the pieces of all items are written
+pub pieces_end : {X : Type 0} (f : X → List ℕ) (xs : List X) (i : ℕ) (old new : Option (List ℕ)) → Appends old new (flat_map f (take i xs)) → length xs ≤ i → Appends old new (flat_map f xs)
+pieces_end f xs i old new so_far le = rw (take_all i xs le) at so_far
 
 -- ---- faces
 

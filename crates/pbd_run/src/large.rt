@@ -29,7 +29,6 @@ pub struct Large<'a> {
 }
 
 /// Writes the first line, and the reply to the steps.
-#[tactic(auto, using(pbd_io::specs::Appending::piece_then, crate::proofs::LargeLaws::cause_then, crate::proofs::LargeLaws::prefix_of_two))]
 fn write_head<const L: usize, P: Projector<L> + Drop, K: Sink, G: Ledger>(
     session: &Session<L, P>,
     number: u64,
@@ -49,7 +48,6 @@ fn write_head<const L: usize, P: Projector<L> + Drop, K: Sink, G: Ledger>(
 }
 
 /// Writes the sums and the ledger.
-#[tactic(auto, using(pbd_io::specs::Appending::piece_then, crate::proofs::LargeLaws::cause_then, crate::proofs::LargeLaws::prefix_of_two))]
 fn write_tail<const L: usize, P: Projector<L> + Drop, K: Sink, G: Ledger>(
     session: &Session<L, P>,
     sink: &mut K,
@@ -67,7 +65,6 @@ fn write_tail<const L: usize, P: Projector<L> + Drop, K: Sink, G: Ledger>(
 }
 
 /// Writes the reply to the steps, with the sums and the ledger of the world after them.
-#[tactic(auto, unfolding(pbd_outcome::specs::Generated::summary), using(pbd_io::specs::Appending::piece_then, crate::proofs::LargeLaws::cause_then, crate::proofs::LargeLaws::prefix_of_two))]
 fn write_summary<const L: usize, P: Projector<L> + Drop, K: Sink, G: Ledger>(
     session: &Session<L, P>,
     number: u64,

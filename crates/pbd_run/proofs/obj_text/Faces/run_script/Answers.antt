@@ -1,6 +1,6 @@
 use Rattle.std.proofs.Common.{arith, rules}
 use Rattle.std.proofs.lemmas.Result.{err_from_is_err_and}
-use Rattle.pbd_run.proofs.ObjLaws.{DoesOne, ran_begins, ran_next, ran_failed, ran_ends}
+use Rattle.pbd_run.proofs.ObjLaws.{DoesOne, one_more, ran_begins, ran_next, ran_failed, ran_ends}
 use Rattle.pbd_run.proofs.obj_text.Faces.run_script.Goals as goal
 
 pub loop-command-init : goal.loop-command-init
@@ -28,3 +28,8 @@ returns-clause-bytes g c = rw (← c.new-script.ensures.all) ((ran_ends _ _ _ _ 
 
 pub returns-clause-refused : goal.returns-clause-refused
 returns-clause-refused g c = rw (← c.new-script.ensures.all) ((ran_ends _ _ _ _ _ _ _ _ _ c.loop-command.invariant.ran c.in_default.ensures.0).count)
+
+pub overflow_add-refused : goal.overflow_add-refused
+overflow_add-refused g c =
+    let more = one_more c.apply-reply.result in
+    record { fits = omega (arith, c.loop-command.invariant.ran.few, c.new-script.ensures.few, c.requires.script, c.refusals-refused.ensures, more) }

@@ -1,0 +1,47 @@
+use Rattle.std.proofs.Common.{◌≡◌, refl, rules, w64, ℕ, ◌+◌, List, [], ◌∷◌, ◌++◌, length, append_assoc, arith}
+use Rattle.std.specs.Prelude.{ℤ}
+use Rattle.std.proofs.lemmas.Int.{to_z-of_z}
+use Rattle.std.proofs.lemmas.List.{length_push}
+use Rattle.pbd_session.specs.Replaying.{axis}
+use Rattle.std.specs.Fmt.{signed_decimal}
+use Rattle.pbd_run.proofs.line.push_axes.Goals as goal
+
+one_longer : (old new : List ℕ) → new ≡ old ++ 32 ∷ [] → length new ≡ length old + 1
+one_longer old new is = rw is (length_push old 32)
+
+grouped : (l x y z : List ℕ) → (((((l ++ 32 ∷ []) ++ x) ++ 32 ∷ []) ++ y) ++ 32 ∷ []) ++ z ≡ l ++ 32 ∷ (x ++ 32 ∷ (y ++ 32 ∷ z))
+grouped l x y z = simp append_assoc refl
+
+axes_pushed : (l l1 l2 l3 l4 l5 l6 : List ℕ) (a b c x y z : ℤ) → l1 ≡ l ++ 32 ∷ [] → l2 ≡ l1 ++ signed_decimal a → l3 ≡ l2 ++ 32 ∷ [] → l4 ≡ l3 ++ signed_decimal b → l5 ≡ l4 ++ 32 ∷ [] → l6 ≡ l5 ++ signed_decimal c → a ≡ x → b ≡ y → c ≡ z → l6 ≡ l ++ 32 ∷ (signed_decimal x ++ 32 ∷ (signed_decimal y ++ 32 ∷ signed_decimal z))
+axes_pushed l l1 l2 l3 l4 l5 l6 a b c x y z e1 e2 e3 e4 e5 e6 ax by cz = rw (e6, e5, e4, e3, e2, e1, ax, by, cz) (grouped l (signed_decimal x) (signed_decimal y) (signed_decimal z))
+
+pub returns-clause-bytes : goal.returns-clause-bytes
+returns-clause-bytes c =
+    axes_pushed c.args.line.now _ _ _ _ _ _ _ _ _ _ _ _ c.push.ensures c.push_signed.ensures.bytes c.push-2.ensures c.push_signed-2.ensures.bytes c.push-3.ensures c.push_signed-3.ensures.bytes
+    (to_z-of_z w64 (axis c.args.axes.now 0) (search rules)) (to_z-of_z w64 (axis c.args.axes.now 1) (search rules)) (to_z-of_z w64 (axis c.args.axes.now 2) (search rules))
+
+pub push-requires-3 : goal.push-requires-3
+push-requires-3 c =
+    let a = one_longer _ _ c.push.ensures in
+    let b = one_longer _ _ c.push-2.ensures in
+    omega (arith, c.requires, a, c.push_signed.ensures.len, b, c.push_signed-2.ensures.len)
+
+pub push_signed-requires-2 : goal.push_signed-requires-2
+push_signed-requires-2 c =
+    let a = one_longer _ _ c.push.ensures in
+    let b = one_longer _ _ c.push-2.ensures in
+    omega (arith, c.requires, a, c.push_signed.ensures.len, b)
+
+pub push_signed-requires-3 : goal.push_signed-requires-3
+push_signed-requires-3 c =
+    let a = one_longer _ _ c.push.ensures in
+    let b = one_longer _ _ c.push-2.ensures in
+    let d = one_longer _ _ c.push-3.ensures in
+    omega (arith, c.requires, a, c.push_signed.ensures.len, b, c.push_signed-2.ensures.len, d)
+
+pub returns-clause-len : goal.returns-clause-len
+returns-clause-len c =
+    let a = one_longer _ _ c.push.ensures in
+    let b = one_longer _ _ c.push-2.ensures in
+    let d = one_longer _ _ c.push-3.ensures in
+    omega (arith, a, c.push_signed.ensures.len, b, c.push_signed-2.ensures.len, d, c.push_signed-3.ensures.len)
