@@ -1,5 +1,5 @@
 use Rattle.std.proofs.lemmas.Result.{err_from_is_err_and}
-use Rattle.pbd_io.specs.Appending.{prefix_longer, prefix_then}
+use Rattle.pbd_io.specs.Appending.{appends_then, prefix_longer, prefix_then}
 use Rattle.pbd_world.specs.Text.{text}
 use Rattle.pbd_host.proofs.host.write_answer.Goals as goal
 
@@ -12,3 +12,6 @@ pub returns-in_err-write_reply-clause-bytes : goal.returns-in_err-write_reply-cl
 returns-in_err-write_reply-clause-bytes g c =
     let p = err_from_is_err_and c.from_residual-in_err-write_reply.result c.from_residual-in_err-write_reply.ensures.1 in
     rw (p.1, ← c.session_line.ensures, ← c.as_slice.ensures) (prefix_then _ _ _ _ _ c.in_ok-write.ensures.bytes c.in_err-write_reply.ensures.bytes)
+
+pub returns-clause-bytes : goal.returns-clause-bytes
+returns-clause-bytes g c = rw (← c.session_line.ensures, ← c.as_slice.ensures) (appends_then _ _ _ _ _ c.in_ok-write.ensures.bytes c.in_ok-write_reply.ensures.bytes)
