@@ -1,6 +1,6 @@
-use Rattle.std.proofs.Common.{◌≡◌, refl, rules, w64, ℕ, ◌+◌, List, [], ◌∷◌, ◌++◌, length, append_assoc, arith}
+use Rattle.std.proofs.Common.{◌≡◌, refl, rules, w64, FitsSigned, ℕ, ◌+◌, List, [], ◌∷◌, ◌++◌, length, append_assoc, arith}
 use Rattle.std.specs.Prelude.{ℤ}
-use Rattle.std.proofs.lemmas.Int.{to_z-of_z}
+use Rattle.std.proofs.lemmas.Int.{ints, to_z-of_z}
 use Rattle.std.proofs.lemmas.List.{length_push}
 use Rattle.pbd_session.specs.Replaying.{axis}
 use Rattle.std.specs.Fmt.{signed_decimal}
@@ -17,8 +17,9 @@ axes_pushed l l1 l2 l3 l4 l5 l6 a b c x y z e1 e2 e3 e4 e5 e6 ax by cz = rw (e6,
 
 pub returns-clause-bytes : goal.returns-clause-bytes
 returns-clause-bytes c =
+    let f : FitsSigned w64 (axis c.args.axes.now 0) = search rules in
     axes_pushed c.args.line.now _ _ _ _ _ _ _ _ _ _ _ _ c.push.ensures c.push_signed.ensures.bytes c.push-2.ensures c.push_signed-2.ensures.bytes c.push-3.ensures c.push_signed-3.ensures.bytes
-    (to_z-of_z w64 (axis c.args.axes.now 0) (search rules)) (to_z-of_z w64 (axis c.args.axes.now 1) (search rules)) (to_z-of_z w64 (axis c.args.axes.now 2) (search rules))
+    (to_z-of_z w64 (axis c.args.axes.now 0) f) (search (rules, to_z-of_z)) (search (arith, ints, to_z-of_z))
 
 pub push-requires-3 : goal.push-requires-3
 push-requires-3 c =
