@@ -1,13 +1,10 @@
 //! Each call at each width, over whole arrays.
-ghost use Rattle.std.specs.Prelude.{◌≡◌, ◌<◌, ◌≤◌, IsTrue};
-ghost use Rattle.std.specs.List.{list_all};
-ghost use Rattle.pbd_tests_parts.specs.Small.{is_small};
+ghost use Rattle.std.specs.Prelude.{◌<◌, ◌≤◌};
 
 use pbd_lanes::{Lanes, Mask};
 
 #[derive(Clone, Copy, Drop, PartialEq)]
 struct Seen<const L: usize> {
-    sum: i64,
     chosen: [i64; L],
     both: [bool; L],
     first: Option<usize>,
@@ -15,16 +12,13 @@ struct Seen<const L: usize> {
 }
 
 fn see<const L: usize>(a: [i64; L], b: [i64; L], set: [bool; L], other: [bool; L]) -> Seen<L>
-    requires lanes { L ≤ 16 }
-    requires a { IsTrue (list_all is_small a) }
-    requires b { IsTrue (list_all is_small b) }
+    requires { L ≤ 16 }
 {
     let x = Lanes::from_array(a);
     let y = Lanes::from_array(b);
     let mask = Mask::from_array(set);
     let both = mask.and(&Mask::from_array(other));
     Seen {
-        sum: x.sum_with(&y),
         chosen: Lanes::select(&mask, &x, &y).to_array(),
         both: both.to_array(),
         first: both.first(),
@@ -57,7 +51,6 @@ fn puts_into_one_lane(rt: HostRuntime) {
 fn width_1(rt: HostRuntime) {
     let seen = see([-2], [4], [false], [true]);
     let wanted = Seen {
-        sum: 2,
         chosen: [4],
         both: [false],
         first: None,
@@ -70,7 +63,6 @@ fn width_1(rt: HostRuntime) {
 fn width_2(rt: HostRuntime) {
     let seen = see([6, -2], [5, 4], [true, true], [false, true]);
     let wanted = Seen {
-        sum: 13,
         chosen: [6, -2],
         both: [false, true],
         first: Some(1),
@@ -88,7 +80,6 @@ fn width_4(rt: HostRuntime) {
         [true, true, false, true],
     );
     let wanted = Seen {
-        sum: 22,
         chosen: [6, 8, 6, -2],
         both: [false, false, false, true],
         first: Some(3),
@@ -106,7 +97,6 @@ fn width_8(rt: HostRuntime) {
         [true, true, false, true, true, true, false, true],
     );
     let wanted = Seen {
-        sum: 42,
         chosen: [4, -6, 2, 1, -9, 8, 6, -2],
         both: [false, true, false, true, true, false, false, true],
         first: Some(1),
@@ -130,7 +120,6 @@ fn width_16(rt: HostRuntime) {
         ],
     );
     let wanted = Seen {
-        sum: 79,
         chosen: [-7, 3, 0, 9, 3, 8, 3, 3, 4, -6, 2, 1, -9, 8, 6, -2],
         both: [
             true, false, true, false, false, false, false, false, false, true, false, true, true,
