@@ -4,7 +4,7 @@ ghost use Rattle.pbd_num.specs.Rounding.{rdiv as rounded};
 ghost use Rattle.pbd_num.specs.Vectors.{Within};
 ghost use Rattle.pbd_lanes.specs.Lane.{lane, is_set};
 ghost use Rattle.pbd_store.specs.Blocks.{place_of};
-ghost use Rattle.pbd_step.specs.Predicting.{loss_at, flown_at, pull_at, losses_at, places_at, pulls_at, sum_below, sums_below};
+ghost use Rattle.pbd_step.specs.Predicting.{IsSmall, loss_at, flown_at, pull_at, losses_at, places_at, pulls_at, sum_below, sums_below};
 
 use pbd_lanes::Lanes;
 use pbd_num::Vec3;
@@ -172,10 +172,7 @@ fn fly_axis<const L: usize>(
     before: &[i64; L],
 ) -> Axis<L>
     requires lanes { L ≤ 16 }
-    requires low { pos 0 ≤ℤ pull.limit }
-    requires high { unsigned_abs pull.limit ≤ 2 ^ 29 }
-    requires damping { unsigned_abs pull.damping ≤ 1024 }
-    requires gravity { unsigned_abs pull.gravity ≤ 2 ^ 29 }
+    requires pull { IsSmall pull }
     requires at { (j : ℕ) → j < L → unsigned_abs (lane at.now j) ≤ 2 ^ 29 }
     requires before { (j : ℕ) → j < L → unsigned_abs (lane before.now j) ≤ 2 ^ 29 }
     ensures to { (j : ℕ) → j < L → lane result.to j
@@ -228,6 +225,22 @@ pub(crate) fn flying<const L: usize>(held: &[bool; L], filled: &[bool; L]) -> [b
     flies
 }
 
+// What acts along one axis.
+fn pull_along(air: Air, gravity: i64) -> Pull
+    requires low { pos 0 ≤ℤ air.limit }
+    requires high { unsigned_abs air.limit ≤ 2 ^ 29 }
+    requires damping { unsigned_abs air.damping ≤ 1024 }
+    requires gravity { unsigned_abs gravity ≤ 2 ^ 29 }
+    ensures value { result ≡ record { damping = air.damping; gravity = gravity; limit = air.limit } }
+    ensures small { IsSmall result }
+{
+    Pull {
+        damping: air.damping,
+        gravity,
+        limit: air.limit,
+    }
+}
+
 /// Where the particles of a block come to, of which some fly and the others stay, with the sums of what is to be booked.
 pub(crate) fn fly<const L: usize>(air: Air, flies: &[bool; L], lanes: &Block<L>) -> Flown<L>
     requires lanes { L ≤ 16 }
@@ -249,40 +262,20 @@ pub(crate) fn fly<const L: usize>(air: Air, flies: &[bool; L], lanes: &Block<L>)
     ensures within { result.within ≡ true → (j : ℕ) → j < L
         → Within (unsigned_abs air.limit) (place_of result.to.x result.to.y result.to.z j) }
 {
-    let Air {
-        damping,
-        gravity,
-        limit,
-    } = air;
-    let pull_x = Pull {
-        damping,
-        gravity: gravity.x,
-        limit,
-    };
-    let pull_y = Pull {
-        damping,
-        gravity: gravity.y,
-        limit,
-    };
-    let pull_z = Pull {
-        damping,
-        gravity: gravity.z,
-        limit,
-    };
     let x = fly_axis(
-        pull_x,
+        pull_along(air, air.gravity.x),
         flies,
         &lanes.at.x.to_array(),
         &lanes.before.x.to_array(),
     );
     let y = fly_axis(
-        pull_y,
+        pull_along(air, air.gravity.y),
         flies,
         &lanes.at.y.to_array(),
         &lanes.before.y.to_array(),
     );
     let z = fly_axis(
-        pull_z,
+        pull_along(air, air.gravity.z),
         flies,
         &lanes.at.z.to_array(),
         &lanes.before.z.to_array(),

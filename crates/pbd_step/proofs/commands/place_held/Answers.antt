@@ -7,7 +7,19 @@ use Rattle.pbd_world.specs.Particles.{particle_at}
 use Rattle.pbd_world.specs.World.{is_tracked}
 use Rattle.pbd_step.specs.States.{world_of}
 use Rattle.pbd_step.proofs.Placing.{place_missing, place_outside, place_free, place_led, place_done, set_down}
+use Rattle.pbd_step.proofs.commands.place_held.Goals.{After-within, After-at-p}
 use Rattle.pbd_step.proofs.commands.place_held.Goals as goal
+
+-- whether the place is within the limit of the world
+tested : (g : _) (c : After-within g) → c.within.result ≡ is_within c.args.state.now.store.limit c.args.to
+tested g c =
+    let limit = fits c.limit.result (omega (arith, c.limit.ensures.high)) in
+    let test : c.within.result ≡ is_within c.limit.result c.args.to = simp to_z-of_z at c.within.ensures.test in
+    test ∙ ap (λ (l : ℤ). is_within l c.args.to) c.limit.ensures.value
+
+-- the particle of the number, as the world has it
+read : (g : _) (c : After-at-p g) → c.at-p.result ≡ particle_at c.args.state.now.store.particles c.args.i
+read g c = c.at-p.ensures.value ∙ ap (λ (n : ℕ). particle_at c.args.state.now.store.particles n) c.in-Some.ensures.there.0
 
 pub returns-in_default-clause-obeys : goal.returns-in_default-clause-obeys
 returns-in_default-clause-obeys g c = record { outcome = place_missing (world_of c.args.setting.now c.args.state.now) c.args.i c.args.to c.in_default.ensures.missing; kept = refl }
@@ -15,41 +27,33 @@ returns-in_default-clause-obeys g c = record { outcome = place_missing (world_of
 pub returns-then-not-within-clause-obeys : goal.returns-then-not-within-clause-obeys
 returns-then-not-within-clause-obeys g c =
     let w = world_of c.args.setting.now c.args.state.now in
-    let limit = fits c.limit.result (omega (arith, c.limit.ensures.high)) in
-    let test = simp to_z-of_z at c.within.ensures.test in
-    let within = sym (test ∙ ap (λ (l : ℤ). is_within l c.args.to) c.limit.ensures.value) ∙ c.if-not-within.true in
+    let within = sym (tested g (goal.at.returns-then-not-within-clause-obeys g c).After-within) ∙ c.if-not-within.true in
     record { outcome = place_outside w c.args.i c.args.to c.in-Some.ensures.there.1 within; kept = refl }
 
 pub returns-then-not-p-clause-obeys : goal.returns-then-not-p-clause-obeys
 returns-then-not-p-clause-obeys g c =
     let w = world_of c.args.setting.now c.args.state.now in
     let there = c.in-Some.ensures.there in
-    let limit = fits c.limit.result (omega (arith, c.limit.ensures.high)) in
-    let test = simp to_z-of_z at c.within.ensures.test in
-    let within = sym (test ∙ ap (λ (l : ℤ). is_within l c.args.to) c.limit.ensures.value) ∙ c.if-not-within.false in
-    let read : c.at-p.result ≡ particle_at w.particles c.args.i = c.at-p.ensures.value ∙ ap (λ (n : ℕ). particle_at w.particles n) there.0 in
-    record { outcome = place_free w c.args.i c.args.to there.1 within (sym (ap (λ (p : Particle). not p.held) read) ∙ c.if-not-p.true); kept = refl }
+    let within = sym (tested g (goal.at.returns-then-not-p-clause-obeys g c).After-within) ∙ c.if-not-within.false in
+    let p_is = read g (goal.at.returns-then-not-p-clause-obeys g c).After-at-p in
+    record { outcome = place_free w c.args.i c.args.to there.1 within (sym (ap (λ (p : Particle). not p.held) p_is) ∙ c.if-not-p.true); kept = refl }
 
 pub returns-then-is_led-clause-obeys : goal.returns-then-is_led-clause-obeys
 returns-then-is_led-clause-obeys g c =
     let w = world_of c.args.setting.now c.args.state.now in
     let there = c.in-Some.ensures.there in
-    let limit = fits c.limit.result (omega (arith, c.limit.ensures.high)) in
-    let test = simp to_z-of_z at c.within.ensures.test in
-    let within = sym (test ∙ ap (λ (l : ℤ). is_within l c.args.to) c.limit.ensures.value) ∙ c.if-not-within.false in
-    let read : c.at-p.result ≡ particle_at w.particles c.args.i = c.at-p.ensures.value ∙ ap (λ (n : ℕ). particle_at w.particles n) there.0 in
+    let within = sym (tested g (goal.at.returns-then-is_led-clause-obeys g c).After-within) ∙ c.if-not-within.false in
+    let p_is = read g (goal.at.returns-then-is_led-clause-obeys g c).After-at-p in
     let led = sym (c.is_led.ensures ∙ ap (λ (n : ℕ). is_tracked w.tracks n) there.0) ∙ c.if-is_led.true in
-    record { outcome = place_led w c.args.i c.args.to there.1 within (sym (ap (λ (p : Particle). not p.held) read) ∙ c.if-not-p.false) led; kept = refl }
+    record { outcome = place_led w c.args.i c.args.to there.1 within (sym (ap (λ (p : Particle). not p.held) p_is) ∙ c.if-not-p.false) led; kept = refl }
 
 pub returns-clause-obeys : goal.returns-clause-obeys
 returns-clause-obeys g c =
     let w = world_of c.args.setting.now c.args.state.now in
     let there = c.in-Some.ensures.there in
-    let limit = fits c.limit.result (omega (arith, c.limit.ensures.high)) in
-    let test = simp to_z-of_z at c.within.ensures.test in
-    let within = sym (test ∙ ap (λ (l : ℤ). is_within l c.args.to) c.limit.ensures.value) ∙ c.if-not-within.false in
-    let read : c.at-p.result ≡ particle_at w.particles c.args.i = c.at-p.ensures.value ∙ ap (λ (n : ℕ). particle_at w.particles n) there.0 in
+    let within = sym (tested g (goal.at.returns-clause-obeys g c).After-within) ∙ c.if-not-within.false in
+    let p_is = read g (goal.at.returns-clause-obeys g c).After-at-p in
     let led = sym (c.is_led.ensures ∙ ap (λ (n : ℕ). is_tracked w.tracks n) there.0) ∙ c.if-is_led.false in
-    let down : c.resting.result ≡ set_down w c.args.i c.args.to = c.resting.ensures ∙ ap (λ (p : Particle). record { at = c.args.to; before = c.args.to; weight = p.weight; held = true }) read in
+    let down : c.resting.result ≡ set_down w c.args.i c.args.to = c.resting.ensures ∙ ap (λ (p : Particle). record { at = c.args.to; before = c.args.to; weight = p.weight; held = true }) p_is in
     let set = c.set.ensures.particles ∙ (λ k. slice_set w.particles (there.0 k) (down k)) in
-    record { outcome = place_done w c.args.i c.args.to c.set.new.self.limit c.set.new.self.particles there.1 within (sym (ap (λ (p : Particle). not p.held) read) ∙ c.if-not-p.false) led c.set.ensures.limit set; kept = search }
+    record { outcome = place_done w c.args.i c.args.to c.set.new.self.limit c.set.new.self.particles there.1 within (sym (ap (λ (p : Particle). not p.held) p_is) ∙ c.if-not-p.false) led c.set.ensures.limit set; kept = search }

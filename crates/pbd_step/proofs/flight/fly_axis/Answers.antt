@@ -27,8 +27,8 @@ loop-j-preserved g c =
     let l : FitsSigned w64 c.loss_of-loss.result = record { sfits = c.loss_of-loss.type_inv } in
     let p : FitsSigned w64 c.flown_by-place.result = record { sfits = c.flown_by-place.type_inv } in
     let k : FitsSigned w64 c.pull_if-gains.result = record { sfits = c.pull_if-gains.type_inv } in
-    let fd = fits c.args.pull.damping (omega (arith, c.requires.damping)) in
-    let fg = fits c.args.pull.gravity (omega (arith, c.requires.gravity)) in
+    let fd = fits c.args.pull.damping (omega (arith, c.requires.pull.damping)) in
+    let fg = fits c.args.pull.gravity (omega (arith, c.requires.pull.gravity)) in
     let fp : FitsSigned w64 c.loop-j.pulled = search rules in
     let fl : FitsSigned w64 c.loop-j.lost = search rules in
     let sp : FitsSigned w64 c.sum-pulled.result = record { sfits = c.sum-pulled.type_inv } in
@@ -43,7 +43,7 @@ loop-j-preserved g c =
     let lost = simp to_z-of_z at c.sum-lost.ensures.value in
     let pulled_size : unsigned_abs c.sum-pulled.result ≤ (j + 1) * 2 ^ 30 = omega (arith, c.sum-pulled.ensures.size (j * 2 ^ 30) inv.pulled_size) in
     let lost_size : unsigned_abs c.sum-lost.result ≤ (j + 1) * 2 ^ 30 = omega (arith, c.sum-lost.ensures.size (j * 2 ^ 30) inv.lost_size) in
-    let fm = fits c.args.pull.limit (omega (arith, c.requires.high)) in
+    let fm = fits c.args.pull.limit (omega (arith, c.requires.pull.high)) in
     let now = simp to_z-of_z at c.with_reaches-reached.ensures.now in
     record {
       to = simp to_z-of_z (filled_more _ inv.to (omega arith) place);
