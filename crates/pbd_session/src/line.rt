@@ -1,12 +1,12 @@
 //! Printed lines.
-ghost use Rattle.std.specs.Prelude.{◌≡◌, ◌≤◌, length, codes, ◌∷◌, []};
-ghost use Rattle.std.specs.Fmt.{signed_decimal};
+ghost use Rattle.std.specs.Prelude.{◌≡◌, ◌+◌, ◌≤◌, length, codes, ◌∷◌, ◌++◌, []};
+ghost use Rattle.std.specs.Fmt.{decimal, signed_decimal};
 ghost use Rattle.pbd_world.specs.Ledger.{sum_of};
 ghost use Rattle.pbd_world.specs.Text.{line, place_line, sum_line, refusal_line, phase_name};
 ghost use Rattle.pbd_session.specs.Printing.{frame_header};
-ghost use Rattle.pbd_session.specs.Replaying.{mismatch_line};
+ghost use Rattle.pbd_session.specs.Replaying.{field_name, mismatch_line};
 
-use crate::Compared;
+use crate::{Compared, Field};
 use pbd_line::Line;
 use pbd_world::{Particle, Phase, Refusal};
 
@@ -59,20 +59,36 @@ pub fn header_line(steps: u64, particles: u32, live: u32, contacts: u32) -> Line
     line
 }
 
+// A word, with what parts it from what stands before, and a value.
+fn push_value(line: &mut Line, word: &str, value: i128)
+    requires { length line.old + length word.now ≤ 216 }
+    ensures bytes { line.new ≡ (line.old ++ word.now) ++ signed_decimal value }
+    ensures len { length line.new ≤ length line.old + length word.now + 40 }
+{
+    line.push(word);
+    line.push_wide(value);
+}
+
+fn ledger_line(name: &str) -> Line
+    requires { length name.now ≤ 8 }
+    ensures bytes { result ≡ codes "ledger " ++ name.now }
+    ensures short { length result ≤ 15 }
+{
+    let mut line = Line::new();
+    line.push("ledger ");
+    line.push(name);
+    line
+}
+
 #[tactic(auto, unfolding(pbd_world::specs::Text::sum_line))]
 fn wide_line(name: &str, x: i128, y: i128, z: i128) -> Line
     requires { length name.now ≤ 8 }
     ensures { result ≡ sum_line name.now (record { x = x; y = y; z = z }) }
 {
-    let mut line = Line::new();
-    line.push("ledger ");
-    line.push(name);
-    line.push(" ");
-    line.push_wide(x);
-    line.push(" ");
-    line.push_wide(y);
-    line.push(" ");
-    line.push_wide(z);
+    let mut line = ledger_line(name);
+    push_value(&mut line, " ", x);
+    push_value(&mut line, " ", y);
+    push_value(&mut line, " ", z);
     line.push("\n");
     line
 }
@@ -144,20 +160,26 @@ pub fn refusal_line(refusal: &Refusal) -> Line
     line
 }
 
-/// The line of a replay's mismatch, for the entry with this number.
-#[tactic(auto, unfolding(crate::specs::Replaying::mismatch_line), using(crate::proofs::Texts::pieces9))]
-pub fn mismatch_line(entry: u64, compared: &Compared) -> Line
-    ensures { result ≡ mismatch_line entry compared.now }
+fn mismatch_at(entry: u64, field: Field) -> Line
+    ensures bytes { result ≡ ((codes "error 10 Mismatch record " ++ decimal entry) ++ codes " field ") ++ field_name field }
+    ensures short { length result ≤ 60 }
 {
     let mut line = Line::new();
     line.push("error 10 Mismatch record ");
     line.push_number(entry);
     line.push(" field ");
-    line.push(compared.field.name());
-    line.push(" recorded ");
-    line.push_wide(compared.recorded);
-    line.push(" found ");
-    line.push_wide(compared.found);
+    line.push(field.name());
+    line
+}
+
+/// The line of a replay's mismatch, for the entry with this number.
+#[tactic(auto, unfolding(crate::specs::Replaying::mismatch_line))]
+pub fn mismatch_line(entry: u64, compared: &Compared) -> Line
+    ensures { result ≡ mismatch_line entry compared.now }
+{
+    let mut line = mismatch_at(entry, compared.field);
+    push_value(&mut line, " recorded ", compared.recorded);
+    push_value(&mut line, " found ", compared.found);
     line.push("\n");
     line
 }
