@@ -144,6 +144,11 @@ pull_of-pull-requires c =
       rest_high = simp to_z-of_z c.requires.rest_high;
     }
 
+pub factor-factor-requires : goal.factor-factor-requires
+factor-factor-requires c =
+    let k_fits = fits c.drawn.result (omega (arith, c.drawn.ensures.size)) in
+    record { k = simp to_z-of_z c.drawn.ensures.size }
+
 pub try_part-x-requires : goal.try_part-x-requires
 try_part-x-requires c =
     let l_fits = fits_from_zero c.try_length-tried.result.length c.try_length-tried.ensures.low c.try_length-tried.ensures.high in
