@@ -1,11 +1,11 @@
 -- The sizes of sums, differences and parts of vectors.
-use Rattle.std.proofs.Common.{◌≡◌, ℕ, ◌+◌, ◌*◌, ◌<◌, ◌≤◌, ◌^◌, arith, ℤ, pos, ◌+ℤ◌, ◌*ℤ◌, ◌<ℤ◌, unsigned_abs, w64, FitsSigned}
+use Rattle.std.proofs.Common.{◌≡◌, ℕ, ◌+◌, ◌*◌, ◌<◌, ◌≤◌, ◌^◌, arith, ℤ, pos, neg_ℤ, ◌+ℤ◌, ◌-ℤ◌, ◌*ℤ◌, ◌<ℤ◌, unsigned_abs, w64, FitsSigned}
 use Rattle.std.proofs.lemmas.Int.{ints}
 use Rattle.pbd_num.specs.declared.Vec3.{Vec3}
 use Rattle.pbd_num.specs.Rounding.{rdiv}
 use Rattle.std.proofs.Math.Nat.{mul-le-mul}
-use Rattle.pbd_num.specs.Vectors.{Within, plus, minus, zero_vector, squared_length}
-use Rattle.pbd_num.proofs.Sizes.{fits, size-add, size-sub, size-mul, positive_above}
+use Rattle.pbd_num.specs.Vectors.{Within, plus, minus, opposite, zero_vector, squared_length}
+use Rattle.pbd_num.proofs.Sizes.{fits, size-add, size-sub, size-neg, size-mul, positive_above}
 use Rattle.pbd_num.proofs.RoundingLemmas.{size-rdiv}
 use Rattle.pbd_num.proofs.Lengths.{squared_length_le}
 
@@ -32,12 +32,22 @@ minus_within a b m n h k = record {
   z = omega (arith, size-sub a.z b.z, h.z, k.z);
 }
 
+pub opposite_within : (v : Vec3) (n : ℕ) → Within n v → Within n (opposite v)
+opposite_within v n h = record { x = omega (arith, size-neg v.x, h.x); y = omega (arith, size-neg v.y, h.y); z = omega (arith, size-neg v.z, h.z) }
+
 plus_zero : (a : ℤ) → a +ℤ pos 0 ≡ a
 plus_zero a = omega (arith, ints)
 
 -- the vector 0 adds nothing
 pub plus_nothing : (v : Vec3) → plus v zero_vector ≡ v
 plus_nothing v = λ i. record { x = plus_zero v.x i; y = plus_zero v.y i; z = plus_zero v.z i }
+
+zero_minus : (a : ℤ) → pos 0 -ℤ a ≡ neg_ℤ a
+zero_minus a = omega (arith, ints)
+
+-- nothing less a vector is its opposite
+pub nothing_minus : (v : Vec3) → minus zero_vector v ≡ opposite v
+nothing_minus v = λ i. record { x = zero_minus v.x i; y = zero_minus v.y i; z = zero_minus v.z i }
 
 -- a part of an axis is at most the axis, and in any case at most the product
 pub scaled_axis_size : (axis part whole : ℤ) (n : ℕ) → pos 0 <ℤ whole → unsigned_abs part ≤ unsigned_abs whole → unsigned_abs axis ≤ n → unsigned_abs (rdiv (axis *ℤ part) whole) ≤ n

@@ -1,13 +1,14 @@
 -- How far a plane and a sphere move a place.
-use Rattle.std.proofs.Common.{◌≡◌, refl, sym, ap, ◌∙◌, ℕ, ◌+◌, ◌*◌, ◌<◌, ◌≤◌, ◌^◌, true, false, arith, ℤ, pos, negsuc, ◌+ℤ◌, ◌-ℤ◌, ◌*ℤ◌, ◌<ℤ◌, ◌≤ℤ◌, int_lt, unsigned_abs, inl, inr, ◌⊎◌, Some, None, ltb}
+use Rattle.std.proofs.Common.{◌≡◌, refl, sym, ap, ◌∙◌, ℕ, ◌+◌, ◌*◌, ◌<◌, ◌≤◌, ◌^◌, true, false, ◌==◌, arith, ℤ, pos, negsuc, ◌+ℤ◌, ◌-ℤ◌, ◌*ℤ◌, ◌<ℤ◌, ◌≤ℤ◌, int_lt, unsigned_abs, inl, inr, ◌⊎◌, Some, None, ltb}
 use Rattle.std.proofs.lemmas.Int.{ints}
-use Rattle.std.proofs.lemmas.Bool.{cond-true, cond-false, cases_lt, lt-ltb, le-ltb}
+use Rattle.std.proofs.lemmas.Bool.{cond-true, cond-false, cases_lt, lt-ltb, le-ltb, ne_eqb}
 use Rattle.std.proofs.Math.Nat.{mul-le-mul, lt_of_lt_of_le}
 use Rattle.pbd_num.specs.declared.Vec3.{Vec3}
 use Rattle.pbd_num.specs.Rounding.{rdiv, root}
-use Rattle.pbd_num.specs.Vectors.{Within, on_axes, plus, dot, squared_length}
+use Rattle.pbd_num.specs.Vectors.{Within, on_axes, plus, minus, scaled, dot, squared_length, length_of}
 use Rattle.pbd_world.specs.declared.parts.Plane.{Plane}
-use Rattle.pbd_world.specs.Shapes.{plane_shape}
+use Rattle.pbd_world.specs.declared.parts.Sphere.{Sphere}
+use Rattle.pbd_world.specs.Shapes.{plane_shape, onto_sphere}
 use Rattle.pbd_num.proofs.Sizes.{size-mul, positive_above, square_of}
 use Rattle.pbd_num.proofs.RoundingLemmas.{size-rdiv, root-square, root-next}
 use Rattle.pbd_num.proofs.Lengths.{squared_length_le}
@@ -59,3 +60,11 @@ plane_touches plane p {lack} {square} {x} {y} {z} el es behind ex ey ez =
 pub plane_clears : (plane : Plane) (p : Vec3) {lack : ℤ} → lack ≡ plane.offset -ℤ dot plane.normal p → int_lt (pos 0) lack ≡ false → None ≡ plane_shape plane p
 unfolding plane_shape
 plane_clears plane p el clear = sym (cond-false (int_lt (pos 0) (plane.offset -ℤ dot plane.normal p)) _ None (ap (int_lt (pos 0)) (sym el) ∙ clear))
+
+-- a place away from the centre comes onto the sphere along its way from there
+pub onto_away : (sphere : Sphere) (p way moved : Vec3) (length : ℤ) → way ≡ minus p sphere.centre → length ≡ pos (length_of way) → 0 < unsigned_abs length → moved ≡ scaled sphere.radius length way → plus sphere.centre moved ≡ onto_sphere sphere p
+onto_away sphere p way moved length way_is length_is apart moved_is =
+    let d = minus p sphere.centre in
+    let far : 0 < length_of d = omega (arith, ap unsigned_abs length_is, ap length_of way_is, apart) in
+    ap (plus sphere.centre) (moved_is ∙ ap (λ (l : ℤ). scaled sphere.radius l way) length_is ∙ ap (λ (v : Vec3). scaled sphere.radius (pos (length_of v)) v) way_is)
+    ∙ sym (cond-false (length_of d == 0) _ _ (ne_eqb (length_of d) 0 (λ (e : length_of d ≡ 0). absurd (omega arith))))

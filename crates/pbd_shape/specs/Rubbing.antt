@@ -1,12 +1,14 @@
 -- Friction, which follows the passes of a step.
-use Rattle.std.specs.Prelude.{ℕ, ◌*◌, ◌<◌, ℤ, pos, int_lt, unsigned_abs, List, ◌++◌, length, map, zip, fold, take, drop, Bool, ◌&&◌, if◌then◌else◌}
+use Rattle.std.specs.Prelude.{◌≡◌, ℕ, ◌*◌, ◌^◌, ◌<◌, ◌≤◌, ℤ, pos, int_lt, unsigned_abs, List, ◌++◌, length, map, zip, fold, take, drop, Bool, ◌&&◌, IsTrue, if◌then◌else◌}
 use Rattle.std.specs.List.{list_any}
 use Rattle.pbd_num.specs.Vectors.{Within, zero_vector}
 use Rattle.pbd_world.specs.declared.parts.Particle.{Particle}
-use Rattle.pbd_world.specs.Ledger.{Ledger, booked}
+use Rattle.pbd_world.specs.Ledger.{Ledger, booked, HaveRoom}
 use Rattle.pbd_world.specs.Particles.{Motion, Moved, particle_at}
 use Rattle.pbd_world.specs.Shapes.{rubbed}
 use Rattle.pbd_world.specs.Step.{Passing}
+use Rattle.pbd_world.specs.Valid.{is_between}
+use Rattle.pbd_store.specs.Blocks.{blocks_of}
 
 -- every place and every place before is within the limit
 pub record AreWithin (limit : ℤ) (ps : List Particle) : Type 0 where
@@ -30,3 +32,13 @@ rubbed_from friction n s =
       particles = take n s.motion.particles ++ map {A = Moved} {B = Particle} (λ m. m.particle) ms;
       totals = fold {A = Moved} {B = Ledger} (λ u m. booked u m.entries) s.motion.totals ms;
     }
+
+-- what has to hold so that the particles of a block of so many lanes can be rubbed
+pub record CanRub (width number : ℕ) (part limit : ℤ) (particles : List Particle) (marks : List Bool) (totals : Ledger) : Type 0 where
+  pub lanes_low : 0 < width
+  pub lanes_high : width ≤ 16
+  pub block : number < blocks_of (length particles) width
+  pub friction : IsTrue (is_between (pos 0) (pos 256) part)
+  pub flags : length marks ≡ length particles
+  pub within : AreWithin limit particles
+  pub room : HaveRoom (2 ^ 125) totals

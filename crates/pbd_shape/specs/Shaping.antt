@@ -1,13 +1,16 @@
 -- The shape part of a pass.
-use Rattle.std.specs.Prelude.{ℕ, ◌+◌, ◌*◌, ◌==◌, ℤ, List, ◌++◌, length, map, zip, fold, take, drop, Bool, ◌||◌, if◌then◌else◌, Result, Ok}
+use Rattle.std.specs.Prelude.{◌≡◌, ℕ, ◌+◌, ◌*◌, ◌^◌, ◌<◌, ◌≤◌, ◌==◌, ℤ, List, ◌++◌, length, map, zip, fold, take, drop, Bool, ◌||◌, IsTrue, if◌then◌else◌, Result, Ok}
 use Rattle.pbd_world.specs.declared.parts.Particle.{Particle}
 use Rattle.pbd_world.specs.declared.parts.Plane.{Plane}
 use Rattle.pbd_world.specs.declared.parts.Sphere.{Sphere}
 use Rattle.pbd_world.specs.Outcomes.{◌>>=◌, each_from}
-use Rattle.pbd_world.specs.Ledger.{Ledger, booked}
+use Rattle.pbd_world.specs.Ledger.{Ledger, booked, HaveRoom}
 use Rattle.pbd_world.specs.Particles.{Moved}
 use Rattle.pbd_world.specs.Shapes.{Shaped, shaped, shapes_of}
 use Rattle.pbd_world.specs.Step.{Passing, all_shaped}
+use Rattle.pbd_world.specs.Valid.{are_valid_planes, are_valid_spheres}
+use Rattle.pbd_store.specs.Blocks.{blocks_of}
+use Rattle.pbd_store.specs.Moving.{AreInside}
 
 -- particle by particle, up to the first that leaves the limit
 abbrev pub all_pushed : ℤ → List Plane → List Sphere → Passing → Result Passing ℕ
@@ -34,3 +37,14 @@ shaped_after n s ss =
 unfoldable pub pushed_from : ℤ → List Plane → List Sphere → ℕ → Passing → Result Passing ℕ
 pushed_from limit planes spheres n s = each_from n
     (λ i p. shaped limit (shapes_of planes spheres) p) (drop n s.motion.particles) >>= λ ss. Ok (shaped_after n s ss)
+
+-- what has to hold so that the particles of a block of so many lanes can be pushed
+pub record CanPush (width number : ℕ) (limit : ℤ) (particles : List Particle) (walls : List Plane) (balls : List Sphere) (marks : List Bool) (totals : Ledger) : Type 0 where
+  pub lanes_low : 0 < width
+  pub lanes_high : width ≤ 16
+  pub block : number < blocks_of (length particles) width
+  pub planes : IsTrue (are_valid_planes walls)
+  pub spheres : IsTrue (are_valid_spheres limit balls)
+  pub inside : AreInside limit particles
+  pub flags : length marks ≡ length particles
+  pub room : HaveRoom (2 ^ 125) totals

@@ -11,7 +11,7 @@ ghost use Rattle.pbd_store.specs.Blocks.{blocks_of, filled_lanes, place_of, Save
 ghost use Rattle.pbd_store.specs.Moving.{motion_of, fixed_parts, AreInside};
 ghost use Rattle.pbd_shape.specs.Valid.{IsLimit};
 ghost use Rattle.pbd_shape.specs.Way.{way_of};
-ghost use Rattle.pbd_shape.specs.Shaping.{all_pushed, push_cost, pushed_from};
+ghost use Rattle.pbd_shape.specs.Shaping.{CanPush, all_pushed, push_cost, pushed_from};
 
 use crate::book::{book_if, touch_if};
 use crate::glance::any_touches;
@@ -56,17 +56,10 @@ fn push_lanes<const L: usize>(
     touched: &mut Touched,
     totals: &mut Totals,
 ) -> Result<[Vec3; L], Left>
-    requires lanes_low { 0 < L }
-    requires lanes_high { L ≤ 16 }
-    requires block { block < blocks_of (length store.now.particles) L }
+    requires ready { CanPush L block store.now.limit store.now.particles planes.now spheres.now touched.old (ledger_of totals.old) }
     requires at { (j : ℕ) → j < L → place_of lanes.now.at.x lanes.now.at.y lanes.now.at.z j
         ≡ (particle_at store.now.particles (block * L + j)).at }
     requires held { (j : ℕ) → j < L → is_set lanes.now.held j ≡ (particle_at store.now.particles (block * L + j)).held }
-    requires planes { IsTrue (are_valid_planes planes.now) }
-    requires spheres { IsTrue (are_valid_spheres store.now.limit spheres.now) }
-    requires inside { AreInside store.now.limit store.now.particles }
-    requires flags { length touched.old ≡ length store.now.particles }
-    requires room { HaveRoom (2 ^ 125) (ledger_of totals.old) }
     ensures outcome { MatchResult result
         (λ places. (qs : List Particle)
         → Saved L (block * L) (filled_lanes L block store.now.particles) (λ j. slice_index_or places j zero_vector)
@@ -112,14 +105,7 @@ fn push_block<const L: usize, G: Ledger>(
     totals: &mut Totals,
     steps: &mut Steps<G>,
 ) -> Result<(), Left>
-    requires lanes_low { 0 < L }
-    requires lanes_high { L ≤ 16 }
-    requires block { block < blocks_of (length store.old.particles) L }
-    requires planes { IsTrue (are_valid_planes planes.now) }
-    requires spheres { IsTrue (are_valid_spheres store.old.limit spheres.now) }
-    requires inside { AreInside store.old.limit store.old.particles }
-    requires flags { length touched.old ≡ length store.old.particles }
-    requires room { HaveRoom (2 ^ 125) (ledger_of totals.old) }
+    requires { CanPush L block store.old.limit store.old.particles planes.now spheres.now touched.old (ledger_of totals.old) }
     ensures outcome { MatchResult result
         (λ _. pushed_from store.old.limit planes.now spheres.now (block * L + L)
         (record { motion = motion_of store.new totals.new; touched = touched.new })

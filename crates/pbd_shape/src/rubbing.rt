@@ -11,7 +11,7 @@ ghost use Rattle.pbd_world.specs.Valid.{is_between};
 ghost use Rattle.pbd_lanes.specs.Lane.{is_set};
 ghost use Rattle.pbd_store.specs.Blocks.{blocks_of, filled_lanes, place_of, Saved};
 ghost use Rattle.pbd_store.specs.Moving.{motion_of};
-ghost use Rattle.pbd_shape.specs.Rubbing.{AreWithin, settled_parts, rub_cost, rubbed_from};
+ghost use Rattle.pbd_shape.specs.Rubbing.{AreWithin, CanRub, settled_parts, rub_cost, rubbed_from};
 
 use crate::book::book_if;
 use crate::touched::Touched;
@@ -53,18 +53,12 @@ fn rub_lanes<const L: usize>(
     touched: &Touched,
     totals: &mut Totals,
 ) -> [Vec3; L]
-    requires lanes_low { 0 < L }
-    requires lanes_high { L ≤ 16 }
-    requires block { block < blocks_of (length store.now.particles) L }
+    requires ready { CanRub L block friction store.now.limit store.now.particles touched.now (ledger_of totals.old) }
     requires at { (j : ℕ) → j < L → place_of lanes.now.at.x lanes.now.at.y lanes.now.at.z j
         ≡ (particle_at store.now.particles (block * L + j)).at }
     requires before { (j : ℕ) → j < L → place_of lanes.now.before.x lanes.now.before.y lanes.now.before.z j
         ≡ (particle_at store.now.particles (block * L + j)).before }
     requires held { (j : ℕ) → j < L → is_set lanes.now.held j ≡ (particle_at store.now.particles (block * L + j)).held }
-    requires friction { IsTrue (is_between (pos 0) (pos 256) friction) }
-    requires flags { length touched.now ≡ length store.now.particles }
-    requires within { AreWithin store.now.limit store.now.particles }
-    requires room { HaveRoom (2 ^ 125) (ledger_of totals.old) }
     ensures outcome { (qs : List Particle)
         → Saved L (block * L) (filled_lanes L block store.now.particles) (λ j. (particle_at store.now.particles (block * L + j)).at)
         (λ j. slice_index_or result j zero_vector) store.now.particles qs
@@ -99,13 +93,7 @@ fn rub_block<const L: usize, G: Ledger>(
     totals: &mut Totals,
     steps: &mut Steps<G>,
 )
-    requires lanes_low { 0 < L }
-    requires lanes_high { L ≤ 16 }
-    requires block { block < blocks_of (length store.old.particles) L }
-    requires friction { IsTrue (is_between (pos 0) (pos 256) friction) }
-    requires flags { length touched.now ≡ length store.old.particles }
-    requires within { AreWithin store.old.limit store.old.particles }
-    requires room { HaveRoom (2 ^ 125) (ledger_of totals.old) }
+    requires { CanRub L block friction store.old.limit store.old.particles touched.now (ledger_of totals.old) }
     ensures outcome { rubbed_from friction (block * L + L) (record { motion = motion_of store.new totals.new; touched = touched.now })
         ≡ rubbed_from friction (block * L) (record { motion = motion_of store.old totals.old; touched = touched.now }) }
     ensures limit { store.new.limit ≡ store.old.limit }

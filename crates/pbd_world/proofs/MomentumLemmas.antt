@@ -70,11 +70,23 @@ momentum_set (p ∷ ps) (suc i) q h =
 
 -- ---- the ledger
 
+-- a move in one of two sums moves both together
+move_first : (s t : Sum) (v : Vec3) → both_sums (sum_plus s v) t ≡ sum_plus (both_sums s t) v
+move_first s t v = same_sum (both_sums (sum_plus s v) t) (sum_plus (both_sums s t) v) (omega (arith, ints)) (omega (arith, ints)) (omega (arith, ints))
+
+shift_terms : (a b c : ℤ) → a +ℤ (b +ℤ c) ≡ (a +ℤ b) +ℤ c
+shift_terms a b c = omega (arith, ints)
+
+move_second : (s t now : Sum) (v : Vec3) → now ≡ sum_plus t v → both_sums s now ≡ sum_plus (both_sums s t) v
+move_second s t now v is =
+    ap (both_sums s) is
+    ∙ same_sum (both_sums s (sum_plus t v)) (sum_plus (both_sums s t) v) (shift_terms s.x t.x v.x) (shift_terms s.y t.y v.y) (shift_terms s.z t.z v.z)
+
 -- an entry raises all totals together by its move
 pub added_all : (t : Ledger) (c : Class) (v : Vec3) → all_totals (added t c v) ≡ sum_plus (all_totals t) v
-added_all t classes.Gravity v = same_sum (all_totals (added t classes.Gravity v)) (sum_plus (all_totals t) v) (omega (arith, ints)) (omega (arith, ints)) (omega (arith, ints))
-added_all t classes.Damping v = same_sum (all_totals (added t classes.Damping v)) (sum_plus (all_totals t) v) (omega (arith, ints)) (omega (arith, ints)) (omega (arith, ints))
-added_all t classes.Link v = same_sum (all_totals (added t classes.Link v)) (sum_plus (all_totals t) v) (omega (arith, ints)) (omega (arith, ints)) (omega (arith, ints))
-added_all t classes.Contact v = same_sum (all_totals (added t classes.Contact v)) (sum_plus (all_totals t) v) (omega (arith, ints)) (omega (arith, ints)) (omega (arith, ints))
-added_all t classes.Pin v = same_sum (all_totals (added t classes.Pin v)) (sum_plus (all_totals t) v) (omega (arith, ints)) (omega (arith, ints)) (omega (arith, ints))
-added_all t classes.Shape v = same_sum (all_totals (added t classes.Shape v)) (sum_plus (all_totals t) v) (omega (arith, ints)) (omega (arith, ints)) (omega (arith, ints))
+added_all t classes.Gravity v = move_first t.gravity _ v
+added_all t classes.Damping v = move_second t.gravity _ _ v (move_first t.damping _ v)
+added_all t classes.Link v = move_second t.gravity _ _ v (move_second t.damping _ _ v (move_first t.link _ v))
+added_all t classes.Contact v = move_second t.gravity _ _ v (move_second t.damping _ _ v (move_second t.link _ _ v (move_first t.contact _ v)))
+added_all t classes.Pin v = move_second t.gravity _ _ v (move_second t.damping _ _ v (move_second t.link _ _ v (move_second t.contact _ _ v (move_first t.pin t.shape v))))
+added_all t classes.Shape v = move_second t.gravity _ _ v (move_second t.damping _ _ v (move_second t.link _ _ v (move_second t.contact _ _ v (move_second t.pin t.shape _ v refl))))

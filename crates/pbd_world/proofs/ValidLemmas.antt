@@ -1,5 +1,5 @@
 -- Validity, as the tests of single parts find it.
-use Rattle.std.proofs.Common.{◌≡◌, refl, sym, ap, ◌∙◌, ℕ, zero, suc, ◌+◌, ◌*◌, ◌≤◌, Bool, true, false, ◌&&◌, List, [], ◌∷◌, arith, ℤ, pos, ◌+ℤ◌, ◌-ℤ◌, ◌≤ℤ◌, unsigned_abs}
+use Rattle.std.proofs.Common.{◌≡◌, refl, sym, ap, ◌∙◌, ℕ, zero, suc, ◌+◌, ◌*◌, ◌<◌, ◌≤◌, Bool, true, false, ◌&&◌, List, [], ◌∷◌, length, get_or, drop, drop-cons, arith, ℤ, pos, ◌+ℤ◌, ◌-ℤ◌, ◌≤ℤ◌, unsigned_abs}
 use Rattle.std.specs.Prelude.{IsTrue, nat_le, nat_lt, int_le}
 use Rattle.std.specs.List.{list_all}
 use Rattle.std.proofs.lemmas.Int.{ints}
@@ -87,6 +87,18 @@ rise_is limit low (key ∷ keys) =
 
 pub rising_begins : (limit : ℤ) (keys : List Key) → are_valid_keys limit keys ≡ rising limit 0 keys
 rising_begins limit keys = sym (rise_is limit 0 keys ∙ ap (λ x. x && are_valid_keys limit keys) (from_zero keys))
+
+-- the first key that may not stand where it does
+pub rising_stops : (limit : ℤ) (low : ℕ) (keys : List Key) (i : ℕ) (d : Key) → i < length keys → are_valid_keys limit keys ≡ rising limit low (drop i keys) → is_next_key limit low (get_or keys i d) ≡ false → false ≡ are_valid_keys limit keys
+rising_stops limit low keys i d within is stops =
+    sym (is ∙ ap (rising limit low) (drop-cons keys i d within) ∙ ap (λ x. x && rising limit ((get_or keys i d).step + 1) (drop (suc i) keys)) stops)
+
+-- a key that may
+pub rising_goes : (limit : ℤ) (low : ℕ) (keys : List Key) (i : ℕ) (d : Key) → i < length keys → are_valid_keys limit keys ≡ rising limit low (drop i keys) → is_next_key limit low (get_or keys i d) ≡ true → are_valid_keys limit keys ≡ rising limit ((get_or keys i d).step + 1) (drop (i + 1) keys)
+rising_goes limit low keys i d within is goes =
+    let next : suc i ≡ i + 1 = omega arith in
+    is ∙ ap (rising limit low) (drop-cons keys i d within) ∙ ap (λ x. x && rising limit ((get_or keys i d).step + 1) (drop (suc i) keys)) goes
+    ∙ ap (λ n. rising limit ((get_or keys i d).step + 1) (drop n keys)) next
 
 -- ---- rest
 

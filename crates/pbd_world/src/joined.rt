@@ -46,7 +46,6 @@ fn no_flags(alloc: Global, count: usize) -> Result<Vec<bool>, AllocError>
 }
 
 /// Whether no two tracks name one particle.
-#[tactic(auto, using(crate::proofs::TrackedLemmas::tracked_begins, crate::proofs::TrackedLemmas::tracked_all))]
 pub fn name_apart(alloc: Global, count: usize, tracks: &[Track]) -> Result<bool, AllocError>
     requires { All (λ t. t.particle < count) tracks.now }
     ensures { IfOk result (λ apart. apart ≡ name_apart tracks.now) }

@@ -18,3 +18,6 @@ returns-clause-value c =
     let y = d.y in
     let z = d.z in
     simp to_z-of_z
+
+pub returns-clause-size : goal.returns-clause-size
+returns-clause-size c = λ m n h k. rw (returns-clause-value c) (minus_within c.args.self c.args.other m n h k)

@@ -3,7 +3,7 @@ use Rattle.std.proofs.lemmas.Int.{ints, to_z-of_z, fits_signed_from_abs}
 use Rattle.std.proofs.lemmas.Bool.{and_parts}
 use Rattle.pbd_num.specs.Vectors.{minus, opposite, length_of, zero_vector}
 use Rattle.pbd_num.specs.declared.Vec3.{Vec3}
-use Rattle.pbd_num.proofs.Sizes.{fits, size_at_most}
+use Rattle.pbd_num.proofs.Sizes.{fits, fits_from_zero, size_at_most}
 use Rattle.pbd_num.proofs.VectorSizes.{FitAxes, fit_axes}
 use Rattle.pbd_num.proofs.Ends.{Even, parts_of, same_axes, both_moves, no_move, part_of_none}
 use Rattle.pbd_num.proofs.tried.try_moves.Goals as goal
@@ -32,7 +32,7 @@ each_right c right =
 
 -- what fits
 length_fits : (c : goal.After-struct_told-12-1) → FitsSigned w64 c.try_length-tried.result.length
-length_fits c = fits _ (omega (arith, size_at_most c.try_length-tried.result.length (2 ^ 31) c.try_length-tried.ensures.low (omega (arith, ints))))
+length_fits c = fits_from_zero c.try_length-tried.result.length c.try_length-tried.ensures.low c.try_length-tried.ensures.high
 
 first_fits : (c : goal.After-struct_told-12-1) → FitsSigned w64 c.args.weights.first
 first_fits c = fits _ (omega (arith, size_at_most c.args.weights.first 65535 c.requires.first_low c.requires.first_high))
@@ -133,6 +133,71 @@ no_parts c right far =
     let is = parted c right in
     same_axes _ _ (part_of_none _ _ _ f_is (ap (λ v. v.x) is)) (part_of_none _ _ _ f_is (ap (λ v. v.y) is)) (part_of_none _ _ _ f_is (ap (λ v. v.z) is))
 
+pub pull_of-pull-requires : goal.pull_of-pull-requires
+pull_of-pull-requires c =
+    let l_fits = fits_from_zero c.try_length-tried.result.length c.try_length-tried.ensures.low c.try_length-tried.ensures.high in
+    let rest_fits = fits c.args.draw.rest (omega (arith, size_at_most c.args.draw.rest (2 ^ 31) c.requires.rest_low c.requires.rest_high)) in
+    record {
+      low = simp to_z-of_z c.try_length-tried.ensures.low;
+      high = simp to_z-of_z c.try_length-tried.ensures.high;
+      rest_low = simp to_z-of_z c.requires.rest_low;
+      rest_high = simp to_z-of_z c.requires.rest_high;
+    }
+
+pub factor-factor-requires : goal.factor-factor-requires
+factor-factor-requires c =
+    let k_fits = fits c.drawn.result (omega (arith, c.drawn.ensures.size)) in
+    record { k = simp to_z-of_z c.drawn.ensures.size }
+
+pub try_part-x-requires : goal.try_part-x-requires
+try_part-x-requires c =
+    let l_fits = fits_from_zero c.try_length-tried.result.length c.try_length-tried.ensures.low c.try_length-tried.ensures.high in
+    let axis_fits = fits_signed_from_abs w32 c.way_between-way.result.x (omega (arith, c.way_between-way.ensures.x_size)) in
+    let f_fits = fits_signed_from_abs w32 c.factor-factor.result (omega (arith, c.factor-factor.ensures.size)) in
+    let is = simp to_z-of_z at c.pull_of-pull.ensures.length in
+    record {
+      low = rw is c.try_length-tried.ensures.low;
+      high = rw is c.try_length-tried.ensures.high;
+      error = c.pull_of-pull.ensures.fits;
+      axis = simp to_z-of_z c.way_between-way.ensures.x_size;
+      f = simp to_z-of_z c.factor-factor.ensures.size;
+    }
+
+pub try_part-y-requires : goal.try_part-y-requires
+try_part-y-requires c =
+    let l_fits = fits_from_zero c.try_length-tried.result.length c.try_length-tried.ensures.low c.try_length-tried.ensures.high in
+    let axis_fits = fits_signed_from_abs w32 c.way_between-way.result.y (omega (arith, c.way_between-way.ensures.y_size)) in
+    let f_fits = fits_signed_from_abs w32 c.factor-factor.result (omega (arith, c.factor-factor.ensures.size)) in
+    let is = simp to_z-of_z at c.pull_of-pull.ensures.length in
+    record {
+      low = rw is c.try_length-tried.ensures.low;
+      high = rw is c.try_length-tried.ensures.high;
+      error = c.pull_of-pull.ensures.fits;
+      axis = simp to_z-of_z c.way_between-way.ensures.y_size;
+      f = simp to_z-of_z c.factor-factor.ensures.size;
+    }
+
+pub try_part-z-requires : goal.try_part-z-requires
+try_part-z-requires c =
+    let l_fits = fits_from_zero c.try_length-tried.result.length c.try_length-tried.ensures.low c.try_length-tried.ensures.high in
+    let axis_fits = fits_signed_from_abs w32 c.way_between-way.result.z (omega (arith, c.way_between-way.ensures.z_size)) in
+    let f_fits = fits_signed_from_abs w32 c.factor-factor.result (omega (arith, c.factor-factor.ensures.size)) in
+    let is = simp to_z-of_z at c.pull_of-pull.ensures.length in
+    record {
+      low = rw is c.try_length-tried.ensures.low;
+      high = rw is c.try_length-tried.ensures.high;
+      error = c.pull_of-pull.ensures.fits;
+      axis = simp to_z-of_z c.way_between-way.ensures.z_size;
+      f = simp to_z-of_z c.factor-factor.ensures.size;
+    }
+
+pub opposite-requires : goal.opposite-requires
+opposite-requires c =
+    let x = fits c.try_part-x.result.part (omega (arith, c.try_part-x.ensures.size)) in
+    let y = fits c.try_part-y.result.part (omega (arith, c.try_part-y.ensures.size)) in
+    let z = fits c.try_part-z.result.part (omega (arith, c.try_part-z.ensures.size)) in
+    simp to_z-of_z (record { x = omega (arith, c.try_part-x.ensures.size); y = omega (arith, c.try_part-y.ensures.size); z = omega (arith, c.try_part-z.ensures.size) })
+
 pub moved-requires : goal.moved-requires
 moved-requires c =
     let x = fits c.try_part-x.result.part (omega (arith, c.try_part-x.ensures.size)) in
@@ -140,6 +205,13 @@ moved-requires c =
     let z = fits c.try_part-z.result.part (omega (arith, c.try_part-z.ensures.size)) in
     let size = simp to_z-of_z at c.opposite.ensures.size in
     size (2 ^ 31) (record { x = c.try_part-x.ensures.size; y = c.try_part-y.ensures.size; z = c.try_part-z.ensures.size })
+
+pub moved-requires-2 : goal.moved-requires-2
+moved-requires-2 c =
+    let x = fits c.try_part-x.result.part (omega (arith, c.try_part-x.ensures.size)) in
+    let y = fits c.try_part-y.result.part (omega (arith, c.try_part-y.ensures.size)) in
+    let z = fits c.try_part-z.result.part (omega (arith, c.try_part-z.ensures.size)) in
+    simp to_z-of_z (record { x = c.try_part-x.ensures.size; y = c.try_part-y.ensures.size; z = c.try_part-z.ensures.size })
 
 pub returns-clause-length : goal.returns-clause-length
 returns-clause-length c right =

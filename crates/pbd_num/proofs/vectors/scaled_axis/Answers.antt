@@ -4,6 +4,20 @@ use Rattle.pbd_num.proofs.Sizes.{fits, size-mul}
 use Rattle.pbd_num.proofs.VectorSizes.{scaled_axis_fits, scaled_axis_size}
 use Rattle.pbd_num.proofs.vectors.scaled_axis.Goals as goal
 
+pub overflow_mul-axis : goal.overflow_mul-axis
+overflow_mul-axis c =
+    let axis = c.ranges.axis in
+    let part = c.ranges.part in
+    simp to_z-of_z (fits (c.args.axis *ℤ c.args.part) (omega (arith, size-mul c.args.axis c.args.part (2 ^ 30) (2 ^ 31) c.requires.axis c.requires.part)))
+
+pub rdiv-requires-clause-size : goal.rdiv-requires-clause-size
+rdiv-requires-clause-size c =
+    let axis = c.ranges.axis in
+    let part = c.ranges.part in
+    let size = size-mul c.args.axis c.args.part (2 ^ 30) (2 ^ 31) c.requires.axis c.requires.part in
+    let product = fits (c.args.axis *ℤ c.args.part) (omega (arith, size)) in
+    simp to_z-of_z size
+
 pub returns-clause-value : goal.returns-clause-value
 returns-clause-value c =
     let axis = c.ranges.axis in

@@ -4,6 +4,20 @@ use Rattle.pbd_num.proofs.Sizes.{fits, size-add, size-mul}
 use Rattle.pbd_shape.proofs.Moves.{plane_move}
 use Rattle.pbd_shape.proofs.plane.axis_out.Goals as goal
 
+pub overflow_mul-lack : goal.overflow_mul-lack
+overflow_mul-lack c =
+    let lack = c.ranges.lack in
+    let axis = c.ranges.axis in
+    simp to_z-of_z (fits (c.args.lack *ℤ c.args.axis) (omega (arith, size-mul c.args.lack c.args.axis (2 ^ 42) (2 ^ 10) c.requires.lack c.requires.axis)))
+
+pub rdiv-requires-clause-size : goal.rdiv-requires-clause-size
+rdiv-requires-clause-size c =
+    let lack = c.ranges.lack in
+    let axis = c.ranges.axis in
+    let size = size-mul c.args.lack c.args.axis (2 ^ 42) (2 ^ 10) c.requires.lack c.requires.axis in
+    let product = fits (c.args.lack *ℤ c.args.axis) (omega (arith, size)) in
+    simp to_z-of_z (omega (arith, size))
+
 pub overflow_add-result : goal.overflow_add-result
 overflow_add-result c =
     let from = c.ranges.from in

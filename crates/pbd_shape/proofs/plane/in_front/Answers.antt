@@ -1,38 +1,62 @@
-use Rattle.std.proofs.Common.{arith, w64, FitsSigned, ◌-ℤ◌, sym, ap, ◌∙◌, ℤ}
+use Rattle.std.proofs.Common.{arith, w64, FitsSigned, ◌-ℤ◌, ◌≤◌, ◌^◌, unsigned_abs, sym, ap, ◌∙◌, ℤ}
 use Rattle.std.proofs.lemmas.Int.{to_z-of_z}
 use Rattle.pbd_num.proofs.Sizes.{fits, size-sub}
 use Rattle.pbd_shape.proofs.Moves.{plane_touches, plane_clears, square_low, square_high}
 use Rattle.pbd_shape.proofs.plane.in_front.Goals as goal
 
-pub axis_out-requires-clause-square : goal.axis_out-requires-clause-square
-axis_out-requires-clause-square c =
-    let q : FitsSigned w64 c.dot-square.result = record { sfits = c.dot-square.type_inv } in
-    simp to_z-of_z (rw c.dot-square.ensures.value (square_low c.args.plane.normal c.requires.plane.some))
+lack_size : (offset dot : ℤ) → unsigned_abs offset ≤ 2 ^ 40 → unsigned_abs dot ≤ 2 ^ 41 → unsigned_abs (offset -ℤ dot) ≤ 2 ^ 42
+lack_size offset dot h k = omega (arith, size-sub offset dot, h, k)
 
-pub axis_out-requires-clause-square_size : goal.axis_out-requires-clause-square_size
-axis_out-requires-clause-square_size c =
+pub axis_out-requires : goal.axis_out-requires
+axis_out-requires c =
+    let offset = fits c.args.plane.offset (omega (arith, c.requires.plane.offset)) in
+    let axis = fits c.args.plane.normal.x (omega (arith, c.requires.plane.normal.x)) in
+    let place = fits c.args.p.x (omega (arith, c.requires.place.x)) in
+    let d : FitsSigned w64 c.dot.result = record { sfits = c.dot.type_inv } in
     let q : FitsSigned w64 c.dot-square.result = record { sfits = c.dot-square.type_inv } in
-    simp to_z-of_z (rw c.dot-square.ensures.value (square_high c.args.plane.normal c.requires.plane.normal))
+    let size = lack_size c.args.plane.offset c.dot.result c.requires.plane.offset c.dot.ensures.size in
+    let lack = fits (c.args.plane.offset -ℤ c.dot.result) (omega (arith, size)) in
+    record {
+      from = simp to_z-of_z c.requires.place.x;
+      lack = simp to_z-of_z size;
+      axis = simp to_z-of_z c.requires.plane.normal.x;
+      square = simp to_z-of_z (rw c.dot-square.ensures.value (square_low c.args.plane.normal c.requires.plane.some));
+      square_size = simp to_z-of_z (rw c.dot-square.ensures.value (square_high c.args.plane.normal c.requires.plane.normal));
+    }
 
-pub axis_out-requires-2-clause-square : goal.axis_out-requires-2-clause-square
-axis_out-requires-2-clause-square c =
+pub axis_out-requires-2 : goal.axis_out-requires-2
+axis_out-requires-2 c =
+    let offset = fits c.args.plane.offset (omega (arith, c.requires.plane.offset)) in
+    let axis = fits c.args.plane.normal.y (omega (arith, c.requires.plane.normal.y)) in
+    let place = fits c.args.p.y (omega (arith, c.requires.place.y)) in
+    let d : FitsSigned w64 c.dot.result = record { sfits = c.dot.type_inv } in
     let q : FitsSigned w64 c.dot-square.result = record { sfits = c.dot-square.type_inv } in
-    simp to_z-of_z (rw c.dot-square.ensures.value (square_low c.args.plane.normal c.requires.plane.some))
+    let size = lack_size c.args.plane.offset c.dot.result c.requires.plane.offset c.dot.ensures.size in
+    let lack = fits (c.args.plane.offset -ℤ c.dot.result) (omega (arith, size)) in
+    record {
+      from = simp to_z-of_z c.requires.place.y;
+      lack = simp to_z-of_z size;
+      axis = simp to_z-of_z c.requires.plane.normal.y;
+      square = simp to_z-of_z (rw c.dot-square.ensures.value (square_low c.args.plane.normal c.requires.plane.some));
+      square_size = simp to_z-of_z (rw c.dot-square.ensures.value (square_high c.args.plane.normal c.requires.plane.normal));
+    }
 
-pub axis_out-requires-2-clause-square_size : goal.axis_out-requires-2-clause-square_size
-axis_out-requires-2-clause-square_size c =
+pub axis_out-requires-3 : goal.axis_out-requires-3
+axis_out-requires-3 c =
+    let offset = fits c.args.plane.offset (omega (arith, c.requires.plane.offset)) in
+    let axis = fits c.args.plane.normal.z (omega (arith, c.requires.plane.normal.z)) in
+    let place = fits c.args.p.z (omega (arith, c.requires.place.z)) in
+    let d : FitsSigned w64 c.dot.result = record { sfits = c.dot.type_inv } in
     let q : FitsSigned w64 c.dot-square.result = record { sfits = c.dot-square.type_inv } in
-    simp to_z-of_z (rw c.dot-square.ensures.value (square_high c.args.plane.normal c.requires.plane.normal))
-
-pub axis_out-requires-3-clause-square : goal.axis_out-requires-3-clause-square
-axis_out-requires-3-clause-square c =
-    let q : FitsSigned w64 c.dot-square.result = record { sfits = c.dot-square.type_inv } in
-    simp to_z-of_z (rw c.dot-square.ensures.value (square_low c.args.plane.normal c.requires.plane.some))
-
-pub axis_out-requires-3-clause-square_size : goal.axis_out-requires-3-clause-square_size
-axis_out-requires-3-clause-square_size c =
-    let q : FitsSigned w64 c.dot-square.result = record { sfits = c.dot-square.type_inv } in
-    simp to_z-of_z (rw c.dot-square.ensures.value (square_high c.args.plane.normal c.requires.plane.normal))
+    let size = lack_size c.args.plane.offset c.dot.result c.requires.plane.offset c.dot.ensures.size in
+    let lack = fits (c.args.plane.offset -ℤ c.dot.result) (omega (arith, size)) in
+    record {
+      from = simp to_z-of_z c.requires.place.z;
+      lack = simp to_z-of_z size;
+      axis = simp to_z-of_z c.requires.plane.normal.z;
+      square = simp to_z-of_z (rw c.dot-square.ensures.value (square_low c.args.plane.normal c.requires.plane.some));
+      square_size = simp to_z-of_z (rw c.dot-square.ensures.value (square_high c.args.plane.normal c.requires.plane.normal));
+    }
 
 pub returns-then-not-is_behind : goal.returns-then-not-is_behind
 returns-then-not-is_behind c =

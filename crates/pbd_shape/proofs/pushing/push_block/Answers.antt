@@ -51,28 +51,18 @@ returns-then-not-any_touches-clause-outcome g c =
 pub push_lanes-requires : goal.push_lanes-requires
 push_lanes-requires g c =
     let e = c.load-lanes.ensures in
-    let r = c.requires in
     let ps = c.args.store.now.particles in
-    let size = r.lanes_high in (
+    let size = c.requires.lanes_high in (
       omega arith,
       (
         omega (arith, size),
         (
           omega (arith, size),
           (
-            r.lanes_low,
+            c.requires,
             (
-              r.lanes_high,
-              (
-                r.block,
-                (
-                  (λ j h. place_loaded (λ p. p.at) g.row.L c.args.block j ps e.at_x e.at_y e.at_z h),
-                  (
-                    (λ j h. held_loaded g.row.L c.args.block j ps e.held h),
-                    (r.planes, (r.spheres, (r.inside, (r.flags, r.room)))),
-                  ),
-                ),
-              ),
+              (λ j h. place_loaded (λ p. p.at) g.row.L c.args.block j ps e.at_x e.at_y e.at_z h),
+              (λ j h. held_loaded g.row.L c.args.block j ps e.held h),
             ),
           ),
         ),
@@ -103,3 +93,15 @@ returns-in-Ok-clause-inside g c =
     let saved = block_saved g.row.L c.args.block (place_in c.in-Ok.places) (before_of g.row.L c.args.block ps) ps qs e.filled c.from_places-lanes.ensures (λ j h. place_loaded (λ p. p.before) g.row.L c.args.block j ps e.before_x e.before_y e.before_z h) c.save.ensures.particles in
     let each = saved_each (c.args.block * g.row.L) (filled_lanes g.row.L c.args.block ps) (place_in c.in-Ok.places) (before_of g.row.L c.args.block ps) ps (λ i p. Within (unsigned_abs c.args.store.now.limit) p.at) g.row.L qs saved c.in-Ok.ensures.inside c.requires.inside.each in
     record { each = λ i h. each i (omega (arith, h, saved.whole)) }
+
+pub returns-in-Ok-clause-room : goal.returns-in-Ok-clause-room
+returns-in-Ok-clause-room g c = c.push_lanes.ensures.room
+
+pub returns-in-Err-clause-room : goal.returns-in-Err-clause-room
+returns-in-Err-clause-room g c = c.push_lanes.ensures.room
+
+pub returns-in-Err-clause-inside : goal.returns-in-Err-clause-inside
+returns-in-Err-clause-inside g c = c.requires.inside
+
+pub returns-then-not-any_touches-clause-inside : goal.returns-then-not-any_touches-clause-inside
+returns-then-not-any_touches-clause-inside g c = c.requires.inside

@@ -22,6 +22,12 @@ loop-j-init g c = record {
   room = λ n h. room_at _ (omega arith) h;
 }
 
+pub push_if_free-requires-clause-limit : goal.push_if_free-requires-clause-limit
+push_if_free-requires-clause-limit g c =
+    let f : FitsSigned w64 c.limit-limit.result = record { sfits = c.limit-limit.type_inv } in
+    let limit = c.limit-limit.ensures in
+    simp to_z-of_z (record { low = limit.low; high = limit.high })
+
 pub push_if_free-requires-clause-place : goal.push_if_free-requires-clause-place
 push_if_free-requires-clause-place g c =
     let f : FitsSigned w64 c.limit-limit.result = record { sfits = c.limit-limit.type_inv } in
@@ -29,7 +35,7 @@ push_if_free-requires-clause-place g c =
     let span = c.span-span.ensures in
     let lane : j < g.row.L = omega (arith, span.count, c.loop-j-test.true) in
     let lt : c.args.block * g.row.L + j < length c.args.store.now.particles = omega (arith, span.first, span.within, c.loop-j-test.true) in
-    simp to_z-of_z (within_at (ap unsigned_abs c.limit-limit.ensures.value) (c.place-from.ensures ∙ c.requires.at j lane) (c.requires.inside.each _ lt))
+    simp to_z-of_z (within_at (ap unsigned_abs c.limit-limit.ensures.value) (c.place-from.ensures ∙ c.requires.at j lane) (c.requires.ready.inside.each _ lt))
 
 pub returns-in_default-clause-outcome : goal.returns-in_default-clause-outcome
 returns-in_default-clause-outcome g c =
@@ -62,7 +68,7 @@ minus-requires-clause-second g c =
     let span = c.span-span.ensures in
     let lane : j < g.row.L = omega (arith, span.count, c.loop-j-test.true) in
     let lt : c.args.block * g.row.L + j < length c.args.store.now.particles = omega (arith, span.first, span.within, c.loop-j-test.true) in
-    wider _ _ (2 ^ 61) (omega (arith, c.limit-limit.ensures.high)) (within_at (ap unsigned_abs c.limit-limit.ensures.value) (c.place-from.ensures ∙ c.requires.at j lane) (c.requires.inside.each _ lt))
+    wider _ _ (2 ^ 61) (omega (arith, c.limit-limit.ensures.high)) (within_at (ap unsigned_abs c.limit-limit.ensures.value) (c.place-from.ensures ∙ c.requires.at j lane) (c.requires.ready.inside.each _ lt))
 
 pub book_if-requires-clause-short : goal.book_if-requires-clause-short
 book_if-requires-clause-short g c =
@@ -72,13 +78,13 @@ book_if-requires-clause-short g c =
     let lane : j < g.row.L = omega (arith, span.count, c.loop-j-test.true) in
     let lt : c.args.block * g.row.L + j < length c.args.store.now.particles = omega (arith, span.first, span.within, c.loop-j-test.true) in
     let to = wider _ _ (2 ^ 29) c.limit-limit.ensures.high (simp to_z-of_z at c.in-Some.ensures.within) in
-    let from = wider _ _ (2 ^ 29) c.limit-limit.ensures.high (within_at (ap unsigned_abs c.limit-limit.ensures.value) (c.place-from.ensures ∙ c.requires.at j lane) (c.requires.inside.each _ lt)) in
+    let from = wider _ _ (2 ^ 29) c.limit-limit.ensures.high (within_at (ap unsigned_abs c.limit-limit.ensures.value) (c.place-from.ensures ∙ c.requires.at j lane) (c.requires.ready.inside.each _ lt)) in
     wider _ (2 ^ 30) (2 ^ 31) (omega arith) (c.minus.ensures.size (2 ^ 29) (2 ^ 29) to from)
 
 pub book_if-requires-clause-room : goal.book_if-requires-clause-room
 book_if-requires-clause-room g c =
     let span = c.span-span.ensures in
-    room_at (2 ^ 126) (omega (arith, span.count, c.requires.lanes_high, c.loop-j-test.true)) (c.loop-j.invariant.room (2 ^ 125) c.requires.room)
+    room_at (2 ^ 126) (omega (arith, span.count, c.requires.ready.lanes_high, c.loop-j-test.true)) (c.loop-j.invariant.room (2 ^ 125) c.requires.ready.room)
 
 pub loop-j-preserved : goal.loop-j-preserved
 loop-j-preserved g c =
@@ -103,7 +109,7 @@ loop-j-preserved g c =
     let flags = c.touch_if.ensures ∙ ap (λ (m : ℕ). cond next.touched (slice_set us (m + j) true) us) span.first in
     let room : j < length c.loop-j.places = omega (arith, inv.whole) in
     record {
-      some = pushing_on c.args.store.now.limit c.args.planes.now c.args.spheres.now g.row.L c.args.block ps _ _ j c.loop-j.places u us inv.some lane lt (way_of next) _ _ (inv.flags ∙ c.requires.flags) room way books flags;
+      some = pushing_on c.args.store.now.limit c.args.planes.now c.args.spheres.now g.row.L c.args.block ps _ _ j c.loop-j.places u us inv.some lane lt (way_of next) _ _ (inv.flags ∙ c.requires.ready.flags) room way books flags;
       whole = length-set c.loop-j.places j next.at ∙ inv.whole;
       flags = ap length c.touch_if.ensures ∙ flagged_length next.touched us _ ∙ inv.flags;
       inside = inside_more _ c.loop-j.places j next.at room inv.inside (within_at (ap unsigned_abs (sym c.limit-limit.ensures.value)) refl within);
@@ -114,7 +120,7 @@ pub returns-clause-outcome : goal.returns-clause-outcome
 returns-clause-outcome g c =
     let span = c.span-span.ensures in
     let inv = c.loop-j.invariant in
-    pushing_all c.args.store.now.limit c.args.planes.now c.args.spheres.now g.row.L c.args.block c.args.store.now.particles _ _ c.loop-j.j c.loop-j.places _ _ inv.some (inv.flags ∙ c.requires.flags) (omega (arith, span.count, c.loop-j-test.false, c.loop-j.auto.j-end)) (λ p. omega (arith, span.first, c.loop-j-test.false, c.loop-j.auto.j-end, span.last (omega (arith, c.loop-j-test.false, c.loop-j.auto.j-end))))
+    pushing_all c.args.store.now.limit c.args.planes.now c.args.spheres.now g.row.L c.args.block c.args.store.now.particles _ _ c.loop-j.j c.loop-j.places _ _ inv.some (inv.flags ∙ c.requires.ready.flags) (omega (arith, span.count, c.loop-j-test.false, c.loop-j.auto.j-end)) (λ p. omega (arith, span.first, c.loop-j-test.false, c.loop-j.auto.j-end, span.last (omega (arith, c.loop-j-test.false, c.loop-j.auto.j-end))))
 
 pub returns-clause-inside : goal.returns-clause-inside
 returns-clause-inside g c =

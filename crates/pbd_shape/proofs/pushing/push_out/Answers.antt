@@ -39,28 +39,16 @@ push_block-requires g c =
     let len : length ps ≡ length c.args.store.now.particles = same_length ps c.args.store.now.particles inv.fixed in
     let block : c.loop-block.block < blocks_of (length c.args.store.now.particles) g.row.L = omega (arith, c.blocks-block-end.ensures, c.loop-block-test.true) in (
       omega arith,
-      (
-        r.lanes_low,
-        (
-          r.lanes_high,
-          (
-            subst (λ (m : ℕ). c.loop-block.block < blocks_of m g.row.L) (sym len) block,
-            (
-              r.planes,
-              (
-                subst (λ (l : ℤ). IsTrue (are_valid_spheres l c.args.spheres.now)) (sym inv.limit) r.spheres,
-                (
-                  subst (λ (l : ℤ). AreInside l ps) (sym inv.limit) inv.inside,
-                  (
-                    inv.flags ∙ r.flags ∙ sym len,
-                    room_at (2 ^ 125) (room_enough (c.loop-block.block * g.row.L) (length c.args.store.now.particles) (omega (arith, c.len-len.ensures.value, c.len-len.ensures.size))) (inv.room (2 ^ 120) r.room),
-                  ),
-                ),
-              ),
-            ),
-          ),
-        ),
-      ),
+      record {
+        lanes_low = r.lanes_low;
+        lanes_high = r.lanes_high;
+        block = subst (λ (m : ℕ). c.loop-block.block < blocks_of m g.row.L) (sym len) block;
+        planes = r.planes;
+        spheres = subst (λ (l : ℤ). IsTrue (are_valid_spheres l c.args.spheres.now)) (sym inv.limit) r.spheres;
+        inside = subst (λ (l : ℤ). AreInside l ps) (sym inv.limit) inv.inside;
+        flags = inv.flags ∙ r.flags ∙ sym len;
+        room = room_at (2 ^ 125) (room_enough (c.loop-block.block * g.row.L) (length c.args.store.now.particles) (omega (arith, c.len-len.ensures.value, c.len-len.ensures.size))) (inv.room (2 ^ 120) r.room);
+      },
     )
 
 pub loop-block-preserved : goal.loop-block-preserved

@@ -50,25 +50,15 @@ rub_block-requires g c =
     let len : length ps ≡ length c.args.store.now.particles = same_length_by settled ps c.args.store.now.particles inv.settled in
     let block : c.loop-block.block < blocks_of (length c.args.store.now.particles) g.row.L = omega (arith, c.blocks-block-end.ensures, c.loop-block-test.true) in (
       omega arith,
-      (
-        r.lanes_low,
-        (
-          r.lanes_high,
-          (
-            subst (λ (m : ℕ). c.loop-block.block < blocks_of m g.row.L) (sym len) block,
-            (
-              (simp to_z-of_z r.friction),
-              (
-                r.flags ∙ sym len,
-                (
-                  subst (λ (l : ℤ). AreWithin l ps) (sym inv.limit) inv.within,
-                  room_at (2 ^ 125) (room_enough (c.loop-block.block * g.row.L) (length c.args.store.now.particles) (omega (arith, c.len-len.ensures.value, c.len-len.ensures.size))) (inv.room (2 ^ 120) r.room),
-                ),
-              ),
-            ),
-          ),
-        ),
-      ),
+      record {
+        lanes_low = r.lanes_low;
+        lanes_high = r.lanes_high;
+        block = subst (λ (m : ℕ). c.loop-block.block < blocks_of m g.row.L) (sym len) block;
+        friction = simp to_z-of_z r.friction;
+        flags = r.flags ∙ sym len;
+        within = subst (λ (l : ℤ). AreWithin l ps) (sym inv.limit) inv.within;
+        room = room_at (2 ^ 125) (room_enough (c.loop-block.block * g.row.L) (length c.args.store.now.particles) (omega (arith, c.len-len.ensures.value, c.len-len.ensures.size))) (inv.room (2 ^ 120) r.room);
+      },
     )
 
 pub loop-block-preserved : goal.loop-block-preserved
@@ -110,3 +100,6 @@ returns g c =
       room = λ n h. room_at _ (room_whole n start (length c.args.store.now.particles)) (inv.room n h);
       cost = where_cost _ _ _ _ (sym rubs ∙ c.if-not-rubs_any.false) (omega (arith, inv.cost, c.blocks-block-end.ensures, c.loop-block.auto.block-end));
     }
+
+pub returns-then-not-rubs_any-clause-within : goal.returns-then-not-rubs_any-clause-within
+returns-then-not-rubs_any-clause-within g c = c.requires.within

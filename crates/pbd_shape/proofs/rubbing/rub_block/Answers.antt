@@ -12,30 +12,20 @@ pub rub_lanes-places-requires : goal.rub_lanes-places-requires
 rub_lanes-places-requires g c =
     let f = c.ranges.friction in
     let e = c.load-lanes.ensures in
-    let r = c.requires in
     let ps = c.args.store.now.particles in
-    let size = r.lanes_high in (
+    let size = c.requires.lanes_high in (
       omega arith,
       (
         omega (arith, size),
         (
           omega (arith, size),
           (
-            r.lanes_low,
+            simp to_z-of_z c.requires,
             (
-              r.lanes_high,
+              (λ j h. place_loaded (λ p. p.at) g.row.L c.args.block j ps e.at_x e.at_y e.at_z h),
               (
-                r.block,
-                (
-                  (λ j h. place_loaded (λ p. p.at) g.row.L c.args.block j ps e.at_x e.at_y e.at_z h),
-                  (
-                    (λ j h. place_loaded (λ p. p.before) g.row.L c.args.block j ps e.before_x e.before_y e.before_z h),
-                    (
-                      (λ j h. held_loaded g.row.L c.args.block j ps e.held h),
-                      ((simp to_z-of_z r.friction), (r.flags, (r.within, r.room))),
-                    ),
-                  ),
-                ),
+                (λ j h. place_loaded (λ p. p.before) g.row.L c.args.block j ps e.before_x e.before_y e.before_z h),
+                (λ j h. held_loaded g.row.L c.args.block j ps e.held h),
               ),
             ),
           ),

@@ -26,7 +26,7 @@ loop-j-init g c =
 pub is_rubbed-rubs-requires : goal.is_rubbed-rubs-requires
 is_rubbed-rubs-requires g c =
     let span = c.span-span.ensures in
-    omega (arith, span.within, c.requires.flags, c.loop-j-test.true)
+    omega (arith, span.within, c.requires.ready.flags, c.loop-j-test.true)
 
 -- a place, and the place before, in the range of both limits
 pub minus-requires : goal.minus-requires
@@ -37,8 +37,8 @@ minus-requires g c =
     let lt : c.args.block * g.row.L + j < length c.args.store.now.particles = omega (arith, span.first, span.within, c.loop-j-test.true) in
     let wide : unsigned_abs c.limit-limit.result ≤ 2 ^ 61 = omega (arith, c.limit-limit.ensures.high) in
     record {
-      first = wider _ _ (2 ^ 61) wide (within_at (ap unsigned_abs c.limit-limit.ensures.value) (c.place.ensures ∙ c.requires.at j lane) (c.requires.within.at _ lt));
-      second = wider _ _ (2 ^ 61) wide (within_at (ap unsigned_abs c.limit-limit.ensures.value) (c.place-before.ensures ∙ c.requires.before j lane) (c.requires.within.before _ lt));
+      first = wider _ _ (2 ^ 61) wide (within_at (ap unsigned_abs c.limit-limit.ensures.value) (c.place.ensures ∙ c.requires.at j lane) (c.requires.ready.within.at _ lt));
+      second = wider _ _ (2 ^ 61) wide (within_at (ap unsigned_abs c.limit-limit.ensures.value) (c.place-before.ensures ∙ c.requires.before j lane) (c.requires.ready.within.before _ lt));
     }
 
 pub lost_if-loss-requires : goal.lost_if-loss-requires
@@ -48,9 +48,9 @@ lost_if-loss-requires g c =
     let span = c.span-span.ensures in
     let lane : j < g.row.L = omega (arith, span.count, c.loop-j-test.true) in
     let lt : c.args.block * g.row.L + j < length c.args.store.now.particles = omega (arith, span.first, span.within, c.loop-j-test.true) in
-    let at = wider _ _ (2 ^ 29) c.limit-limit.ensures.high (within_at (ap unsigned_abs c.limit-limit.ensures.value) (c.place.ensures ∙ c.requires.at j lane) (c.requires.within.at _ lt)) in
-    let before = wider _ _ (2 ^ 29) c.limit-limit.ensures.high (within_at (ap unsigned_abs c.limit-limit.ensures.value) (c.place-before.ensures ∙ c.requires.before j lane) (c.requires.within.before _ lt)) in
-    record { friction = simp to_z-of_z c.requires.friction; velocity = c.minus.ensures.size (2 ^ 29) (2 ^ 29) at before }
+    let at = wider _ _ (2 ^ 29) c.limit-limit.ensures.high (within_at (ap unsigned_abs c.limit-limit.ensures.value) (c.place.ensures ∙ c.requires.at j lane) (c.requires.ready.within.at _ lt)) in
+    let before = wider _ _ (2 ^ 29) c.limit-limit.ensures.high (within_at (ap unsigned_abs c.limit-limit.ensures.value) (c.place-before.ensures ∙ c.requires.before j lane) (c.requires.ready.within.before _ lt)) in
+    record { friction = simp to_z-of_z c.requires.ready.friction; velocity = c.minus.ensures.size (2 ^ 29) (2 ^ 29) at before }
 
 pub opposite-requires : goal.opposite-requires
 opposite-requires g c = wider _ (2 ^ 30) (2 ^ 61) (omega arith) c.lost_if-loss.ensures.size
@@ -59,7 +59,7 @@ pub book_if-requires : goal.book_if-requires
 book_if-requires g c =
     let span = c.span-span.ensures in
     record {
-      room = room_at (2 ^ 126) (omega (arith, span.count, c.requires.lanes_high, c.loop-j-test.true)) (c.loop-j.invariant.room (2 ^ 125) c.requires.room);
+      room = room_at (2 ^ 126) (omega (arith, span.count, c.requires.ready.lanes_high, c.loop-j-test.true)) (c.loop-j.invariant.room (2 ^ 125) c.requires.ready.room);
       short = wider _ (2 ^ 30) (2 ^ 31) (omega arith) (c.opposite.ensures.size (2 ^ 30) c.lost_if-loss.ensures.size);
     }
 
@@ -70,7 +70,7 @@ plus-requires g c =
     let lane : j < g.row.L = omega (arith, span.count, c.loop-j-test.true) in
     let lt : c.args.block * g.row.L + j < length c.args.store.now.particles = omega (arith, span.first, span.within, c.loop-j-test.true) in
     record {
-      first = wider _ _ (2 ^ 61) (omega (arith, c.limit-limit.ensures.high)) (within_at (ap unsigned_abs c.limit-limit.ensures.value) (c.place-before.ensures ∙ c.requires.before j lane) (c.requires.within.before _ lt));
+      first = wider _ _ (2 ^ 61) (omega (arith, c.limit-limit.ensures.high)) (within_at (ap unsigned_abs c.limit-limit.ensures.value) (c.place-before.ensures ∙ c.requires.before j lane) (c.requires.ready.within.before _ lt));
       second = wider _ (2 ^ 30) (2 ^ 61) (omega arith) c.lost_if-loss.ensures.size;
     }
 
@@ -101,9 +101,9 @@ loop-j-preserved g c =
     let books = c.book_if.ensures.value ∙ ap (λ (v : Vec3). cond made (added u classes.Shape v) u) c.opposite.ensures.value in
     let room : j < length c.loop-j.places = omega (arith, inv.whole) in
     let some = simp to_z-of_z at inv.some in
-    let stays = within_at refl (comes ∙ ap (plus p.before) loses) (loss_within friction made p.before p.at (unsigned_abs c.args.store.now.limit) (part_low friction c.requires.friction) (part_high friction c.requires.friction) (c.requires.within.before i lt) (c.requires.within.at i lt)) in
+    let stays = within_at refl (comes ∙ ap (plus p.before) loses) (loss_within friction made p.before p.at (unsigned_abs c.args.store.now.limit) (part_low friction c.requires.ready.friction) (part_high friction c.requires.ready.friction) (c.requires.ready.within.before i lt) (c.requires.ready.within.at i lt)) in
     record {
-      some = simp to_z-of_z (rubbing_on friction g.row.L c.args.block ps _ ts j c.loop-j.places u some lane lt c.requires.flags room made loss c.plus.result _ makes loses comes books);
+      some = simp to_z-of_z (rubbing_on friction g.row.L c.args.block ps _ ts j c.loop-j.places u some lane lt c.requires.ready.flags room made loss c.plus.result _ makes loses comes books);
       whole = length-set c.loop-j.places j c.plus.result ∙ inv.whole;
       within = inside_more _ c.loop-j.places j c.plus.result room inv.within stays;
       room = λ n h. room_at _ (omega arith) (c.book_if.ensures.room _ (inv.room n h));
