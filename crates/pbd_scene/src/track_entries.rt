@@ -61,16 +61,14 @@ fn key_of(place: Place, limit: &Limit, _before: &[Key], value: &Value) -> Result
 {
     let row = row(place, KeyName::Keys, value)?;
     let step = step_number(place, row.step)?;
-    expect(
-        is_inside(row.place, limit.units),
-        SceneRule::OutOfRange,
-        place,
-        KeyName::Keys,
-    )?;
-    Ok(Key {
-        step,
-        place: row.place,
-    })
+    if is_inside(row.place, limit.units) {
+        Ok(Key {
+            step,
+            place: row.place,
+        })
+    } else {
+        broken(SceneRule::OutOfRange, place, KeyName::Keys)
+    }
 }
 
 impl Reader for Keys {
