@@ -12,6 +12,11 @@ pub returns-in_err-at : goal.returns-in_err-at
 unfolding particle_of
 returns-in_err-at c = rw c.in_ok-table.ensures (stops _ _ _ _ _ c.from_residual-in_err-at.ensures.1 c.in_err-at.ensures.value)
 
+pub vector_or_zero-requires : goal.vector_or_zero-requires
+vector_or_zero-requires c =
+    let wide : FitsSigned w64 c.twice.result = record { sfits = c.twice.type_inv } in
+    record { low = simp to_z-of_z c.twice.ensures.low; high = simp to_z-of_z c.twice.ensures.size }
+
 pub returns-in_err-velocity : goal.returns-in_err-velocity
 unfolding particle_of
 returns-in_err-velocity c =

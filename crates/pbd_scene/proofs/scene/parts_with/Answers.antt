@@ -8,6 +8,12 @@ use Rattle.pbd_scene.proofs.Validity.{tables_fit}
 use Rattle.pbd_scene.proofs.Parted.{cloths_fit, ropes_fit, meshes_room, meshed_now, places_within}
 use Rattle.pbd_scene.proofs.scene.parts_with.Goals as goal
 
+pub tables_of-requires : goal.tables_of-requires
+tables_of-requires c =
+    let fits = c.ranges.limit in
+    let bounds = limit_bounds c.args.limit c.requires in
+    record { low = simp to_z-of_z bounds.0; high = simp to_z-of_z bounds.1 }
+
 pub add_meshes-meshed-requires-clause-limit : goal.add_meshes-meshed-requires-clause-limit
 add_meshes-meshed-requires-clause-limit c =
     let fits = c.ranges.limit in

@@ -11,3 +11,15 @@ returns-then-is_inside c =
       value = rw (← c.in-Some.ensures, ← inside) refl;
       within = within_limit c.args.limit c.in-Some.v c.requires.low c.requires.high (sym inside);
     }
+
+pub returns-else-is_inside : goal.returns-else-is_inside
+returns-else-is_inside c =
+    let fits = c.ranges.limit in
+    let outside = simp to_z-of_z at c.if-is_inside.ensures in
+    record {
+      value = rw (c.broken-else-is_inside.ensures, ← c.in-Some.ensures, ← outside) refl;
+      within = rw c.broken-else-is_inside.ensures tt;
+    }
+
+pub returns-in-None : goal.returns-in-None
+returns-in-None c = record { value = rw (c.broken.ensures, ← c.in-None.ensures) refl; within = rw c.broken.ensures tt }
