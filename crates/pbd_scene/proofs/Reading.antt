@@ -83,6 +83,11 @@ pub stops : {T A B : Type 0} (view : T → B) (result : Result T SceneFault) (e 
 stops view (Ok x) e r f is fails = absurd is
 stops view (Err y) e r f is fails = rw is (bind_fails e r f fails)
 
+-- the exit of a `?` behind which nothing is looked at
+pub fails_so : {T B : Type 0} (view : T → B) (result : Result T SceneFault) (e : SceneFault) (r : Checked B) → IsErrAnd result (λ y. y ≡ e) → Fails e r → Gives view result r
+fails_so view (Ok x) e r is fails = absurd is
+fails_so view (Err y) e r is fails = rw is fails
+
 -- ---- items of which each fits, and for which there is room together
 
 pub one_more : {A : Type 0} (fits : A → Type 0) (size : A → ℕ) (count : ℕ) (before : List A) (r : Result A SceneFault) → All fits before → IfOk r fits → IfOk r (λ x. count + sum_by size before + size x ≤ 65536) → IfOk r (λ x. (count + sum_by size (before ++ x ∷ []) ≤ 65536) × All fits (before ++ x ∷ []))

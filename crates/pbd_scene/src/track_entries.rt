@@ -144,13 +144,11 @@ fn rising_path(
     ensures { Gives (λ ks. ks) result (rising_path place limit.now.units (map view values.now)) }
 {
     let keys = keys_of(alloc, place, limit, values)?;
-    expect(
-        0 < keys.len() && steps_rise(keys.as_slice()),
-        SceneRule::BadTrack,
-        place,
-        KeyName::Keys,
-    )?;
-    Ok(keys)
+    if 0 < keys.len() && steps_rise(keys.as_slice()) {
+        Ok(keys)
+    } else {
+        broken(SceneRule::BadTrack, place, KeyName::Keys)
+    }
 }
 
 #[tactic(auto, unfolding(crate::specs::Entries::path_of))]

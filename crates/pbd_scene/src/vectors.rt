@@ -70,7 +70,10 @@ pub fn is_inside(v: Vec3, limit: i64) -> bool
     requires low { pos 0 ≤ℤ limit }
     ensures { result ≡ is_within limit v }
 {
-    is_axis_within(v.x, limit) && is_axis_within(v.y, limit) && is_axis_within(v.z, limit)
+    let x = is_axis_within(v.x, limit);
+    let y = is_axis_within(v.y, limit);
+    let z = is_axis_within(v.z, limit);
+    x & y & z
 }
 
 /// The vector of a key that must be there.
