@@ -67,19 +67,13 @@ fn are_known(table: TableName, members: &Table) -> bool
     members.keys().all(|name| is_known(table, name.as_str()))
 }
 
-fn all_known(table: TableName, members: &Table) -> bool
-    ensures { result ≡ all_known table (table_view members.now) }
-{
-    are_known(table, members)
-}
-
 /// Refuses a table with a key that it may not have.
 #[tactic(auto, unfolding(crate::specs::Keys::known))]
 pub fn known(place: Place, members: &Table) -> Result<(), SceneFault>
     ensures { Gives (λ x. x) result (known place (table_view members.now)) }
 {
     expect(
-        all_known(place.table, members),
+        are_known(place.table, members),
         SceneRule::UnknownKey,
         place,
         KeyName::NoKey,
