@@ -1,9 +1,9 @@
 -- Flags that tell which numbers are named, and the particles and tracks of these numbers.
-use Rattle.std.proofs.Common.{◌≡◌, ◌∙◌, ap, sym, refl, ℕ, ◌+◌, ◌<◌, ◌≤◌, Bool, true, false, ◌||◌, List, [], ◌∷◌, ◌++◌, length, get_or, take, drop, arith, inl, inr, append_assoc, append-nil}
+use Rattle.std.proofs.Common.{◌≡◌, ◌∙◌, ap, sym, refl, ℕ, ◌+◌, ◌<◌, ◌≤◌, Bool, true, false, ◌||◌, List, [], ◌∷◌, ◌++◌, length, get_or, take, drop, map, arith, inl, inr, append_assoc, append-nil}
 use Rattle.std.specs.Prelude.{slice_set as set, replicate, ◌==◌, if◌then◌else◌, Ok}
 use Rattle.std.specs.List.{list_any}
 use Rattle.std.proofs.lemmas.Bool.{cases_eq, eq-eqb, ne_eqb}
-use Rattle.std.proofs.lemmas.List.{get_or-set_same, get_or-set_other, length-set, take_all, take_more, drop_more, drop_all, length-append, length-replicate, get_or-replicate, get_or_default}
+use Rattle.std.proofs.lemmas.List.{map-append, get_or-set_same, get_or-set_other, length-set, take_all, take_more, drop_more, drop_all, length-append, length-replicate, get_or-replicate, get_or_default}
 use Rattle.std.proofs.lemmas.List.Folds.{list_any-append}
 use Rattle.pbd_world.specs.declared.parts.Particle.{Particle}
 use Rattle.pbd_world.specs.declared.parts.Track.{Track}
@@ -13,6 +13,7 @@ use Rattle.pbd_scene.specs.declared.fault.SceneFault.{SceneFault}
 use Rattle.pbd_scene.specs.Checks.{Fails, each}
 use Rattle.pbd_scene.specs.Naming.{placed_track, held_still, holding}
 use Rattle.pbd_scene.specs.Marks.{Flags}
+use Rattle.pbd_scene.specs.Scene.{named}
 use Rattle.pbd_scene.proofs.Reading.{next_ok, next_fails, last_ok}
 
 or_true : (b : Bool) → (b || (true || false)) ≡ true
@@ -55,6 +56,11 @@ flags_more count names index i old now within same held is = rw (take_more names
 
 pub flags_all : (count : ℕ) (names : List ℕ) (index : ℕ) (flags : List Bool) → length names ≤ index → Flags count (take index names) flags → Flags count names flags
 flags_all count names index flags past held = let e : take index names ≡ names = take_all index names past in rw e at held
+
+-- ---- the particles that tracks name
+
+pub named_more : (names : List ℕ) (tracks : List Track) (i : ℕ) (t : Track) (old now : List ℕ) → i < length tracks → t ≡ get_or tracks i t → old ≡ named names (take i tracks) → now ≡ old ++ t.particle ∷ [] → now ≡ named names (take (i + 1) tracks)
+named_more names tracks i t old now within same so_far is = rw (take_more tracks i t within, ← same, map-append, is, so_far) (append_assoc names (map (λ (u : Track). u.particle) (take i tracks)) (t.particle ∷ []))
 
 -- ---- particles that stay
 

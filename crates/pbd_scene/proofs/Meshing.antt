@@ -2,7 +2,7 @@
 use Rattle.std.proofs.Common.{◌≡◌, ◌∙◌, ap, sym, refl, ℕ, ◌+◌, ◌<◌, ◌≤◌, List, [], ◌∷◌, length, get_or, drop, arith}
 use Rattle.std.specs.Prelude.{fold}
 use Rattle.std.specs.List.{sum_by}
-use Rattle.std.proofs.lemmas.List.{drop_more, drop_all}
+use Rattle.std.proofs.lemmas.List.{drop_more, drop_all, get_or_default}
 use Rattle.std.proofs.lemmas.List.Sums.{sum_by-cons}
 use Rattle.pbd_world.specs.declared.parts.Parts.{Parts}
 
@@ -39,3 +39,8 @@ meshes_more add size start meshes i now next s within same so_far is limit grown
 
 pub meshes_end : {S : Type 0} (add : Parts → S → Parts) (size : S → ℕ) (start : Parts) (meshes : List S) (i : ℕ) (now : Parts) → length meshes ≤ i → MeshesSoFar add size start meshes i now → now ≡ fold add start meshes
 meshes_end add size start meshes i now past so_far = sym (ap (fold add now) (drop_all i meshes past)) ∙ so_far.rest
+
+-- ---- the same of what the loops read
+
+pub mesh_more : {S : Type 0} (add : Parts → S → Parts) (size : S → ℕ) (start : Parts) (meshes : List S) (i : ℕ) (d : S) (now next : Parts) → i < length meshes → MeshesSoFar add size start meshes i now → next ≡ add now (get_or meshes i d) → (add now (get_or meshes i d)).limit ≡ now.limit → length (add now (get_or meshes i d)).particles ≡ length now.particles + size (get_or meshes i d) → MeshesSoFar add size start meshes (i + 1) next
+mesh_more add size start meshes i d now next within so_far is limit grown = meshes_more add size start meshes i now next (get_or meshes i d) within (get_or_default meshes i d (get_or meshes i d) within) so_far is limit grown

@@ -11,9 +11,9 @@ use Rattle.pbd_num.proofs.Ranges.{within_facts}
 use Rattle.pbd_mesh.specs.declared.spec.ClothSpec.{ClothSpec}
 use Rattle.pbd_mesh.specs.declared.spec.RopeSpec.{RopeSpec}
 use Rattle.pbd_mesh.specs.Cloth.{cloth_fits, cloth_particles}
-use Rattle.pbd_mesh.specs.Rope.{rope_fits}
+use Rattle.pbd_mesh.specs.Rope.{rope_fits, rope_particles}
 use Rattle.pbd_mesh.proofs.Facts.{limit_bounds}
-use Rattle.pbd_mesh.proofs.Meshes.{cloth_size}
+use Rattle.pbd_mesh.proofs.Meshes.{cloth_size, rope_size}
 use Rattle.pbd_world.specs.declared.parts.Particle.{Particle}
 use Rattle.pbd_world.specs.declared.parts.Parts.{Parts}
 use Rattle.pbd_world.specs.Valid.{is_limit}
@@ -47,6 +47,12 @@ pub cloths_fit : (limit m : ℤ) (t : Tables) (xs : List ClothSpec) → xs ≡ t
 cloths_fit limit m t xs same is fit = rw (same, is) (each_of (cloth_fits limit) no_cloth t.cloths fit.cloths.fit)
 
 -- ---- parts to which the cloths are added, and then the ropes
+
+pub cloth_grows : (parts : Parts) (s : ClothSpec) → length (with_cloth parts s).particles ≡ length parts.particles + size_of_cloth s
+cloth_grows parts s = omega (arith, length-append parts.particles (cloth_particles s), cloth_size s)
+
+pub rope_grows : (parts : Parts) (s : RopeSpec) → length (with_rope parts s).particles ≡ length parts.particles + s.count
+rope_grows parts s = omega (arith, length-append parts.particles (rope_particles s), rope_size s)
 
 pub cloths_keep_limit : (parts : Parts) (cloths : List ClothSpec) → (fold with_cloth parts cloths).limit ≡ parts.limit
 cloths_keep_limit parts [] = refl

@@ -1,6 +1,6 @@
 -- A list of values that is read one after another.
 use Rattle.std.proofs.Common.{◌≡◌, ◌∙◌, ap, sym, refl, ℕ, ◌+◌, ◌<◌, ◌≤◌, List, [], ◌∷◌, ◌++◌, length, get_or, drop, map, Ok, Err, arith}
-use Rattle.std.specs.Prelude.{Result, IfOk, IsErrAnd}
+use Rattle.std.specs.Prelude.{Result, IfOk, IsErrAnd, Some, unwrap_or}
 use Rattle.std.specs.List.{All, sum_by}
 use Rattle.std.proofs.lemmas.List.{drop_more, drop_all, length-append, get_or_default}
 use Rattle.std.proofs.lemmas.List.Elements.{All-append, All-cons, All-nil}
@@ -82,6 +82,16 @@ bind_fails faults.OutOfMemory r f fails = tt
 pub stops : {T A B : Type 0} (view : T → B) (result : Result T SceneFault) (e : SceneFault) (r : Checked A) (f : A → Checked B) → IsErrAnd result (λ y. y ≡ e) → Fails e r → Gives view result (r >>= f)
 stops view (Ok x) e r f is fails = absurd is
 stops view (Err y) e r f is fails = rw is (bind_fails e r f fails)
+
+-- the exit of a `?` behind which nothing is looked at
+pub fails_so : {T B : Type 0} (view : T → B) (result : Result T SceneFault) (e : SceneFault) (r : Checked B) → IsErrAnd result (λ y. y ≡ e) → Fails e r → Gives view result r
+fails_so view (Ok x) e r is fails = absurd is
+fails_so view (Err y) e r is fails = rw is fails
+
+-- a value that is there, where another stands for one that is not
+pub found_gives : {T A : Type 0} (view : T → A) (result : Result T SceneFault) (r : Checked A) (default : A) → Gives view result r → Gives view result (r >>= (λ x. Ok (Some x)) >>= λ v. Ok (unwrap_or v default))
+found_gives view (Ok x) r default is = rw is refl
+found_gives view (Err e) r default fails = bind_fails e (r >>= λ x. Ok (Some x)) _ (bind_fails e r _ fails)
 
 -- ---- items of which each fits, and for which there is room together
 

@@ -8,7 +8,7 @@ use crate::each::{Reader, read_each};
 use crate::fault::{KeyName, Place, SceneFault, SceneRule, TableName};
 use crate::raw::Row;
 use crate::values::{any_integer, broken, find, known, value_of};
-use pbd_num::Vec3;
+use crate::vectors::axes_of;
 use pbd_world::List;
 use std::alloc::Global;
 use toml::{Table, Value};
@@ -42,20 +42,6 @@ impl Reader for IntegerOf {
     }
 }
 
-fn integers(
-    alloc: Global,
-    place: Place,
-    key: KeyName,
-    value: &Value,
-) -> Result<List<i64>, SceneFault>
-    ensures { Gives (λ ns. ns) result (integers place key (view value.now)) }
-{
-    match array_of(value) {
-        None => broken(SceneRule::WrongType, place, key),
-        Some(items) => read_each(alloc, &IntegerOf { place, key }, items),
-    }
-}
-
 /// The array of integers of a key, or none.
 #[tactic(auto, unfolding(crate::specs::Values::integers_of))]
 pub fn integers_of(
@@ -68,7 +54,10 @@ pub fn integers_of(
 {
     match value_of(key, members) {
         None => Ok(List::new(alloc)),
-        Some(value) => integers(alloc, place, key, value),
+        Some(value) => match array_of(value) {
+            None => broken(SceneRule::WrongType, place, key),
+            Some(items) => read_each(alloc, &IntegerOf { place, key }, items),
+        },
     }
 }
 
@@ -78,13 +67,8 @@ fn four_of(items: &[Value]) -> Option<Row>
     match items {
         [step, x, y, z] => {
             let step = step.as_integer()?;
-            let x = x.as_integer()?;
-            let y = y.as_integer()?;
-            let z = z.as_integer()?;
-            Some(Row {
-                step,
-                place: Vec3 { x, y, z },
-            })
+            let place = axes_of(x, y, z)?;
+            Some(Row { step, place })
         }
         _ => None,
     }
@@ -129,24 +113,18 @@ pub fn required_array<'a>(
 
 // ---- tables
 
-/// The members of an entry.
-fn members(place: Place, value: &Value) -> Result<&Table, SceneFault>
-    ensures { Gives (λ t. table_view t.now) result (members place (view value.now)) }
-{
-    match value.as_table() {
-        Some(table) => Ok(table),
-        None => broken(SceneRule::WrongType, place, KeyName::NoKey),
-    }
-}
-
 /// The members of an entry that has no keys but those of its table.
 #[tactic(auto, unfolding(crate::specs::Values::entry))]
 pub fn entry(place: Place, value: &Value) -> Result<&Table, SceneFault>
     ensures { Gives (λ t. table_view t.now) result (entry place (view value.now)) }
 {
-    let table = members(place, value)?;
-    known(place, table)?;
-    Ok(table)
+    match value.as_table() {
+        None => broken(SceneRule::WrongType, place, KeyName::NoKey),
+        Some(table) => {
+            known(place, table)?;
+            Ok(table)
+        }
+    }
 }
 
 fn entries(table: TableName, most: usize, value: &Value) -> Result<&[Value], SceneFault>

@@ -2,7 +2,6 @@
 #![tactic(auto)]
 
 mod arrays;
-mod axes;
 mod each;
 mod fault;
 mod laws;

@@ -5,12 +5,11 @@ ghost use Rattle.pbd_scene.specs.Checks.{Gives};
 ghost use Rattle.pbd_scene.specs.Entries.{link_of};
 
 use crate::arrays::entry;
-use crate::axes::four_times;
 use crate::each::Reader;
 use crate::fault::{KeyName, Place, SceneFault, TableName};
 use crate::limit::Limit;
 use crate::raw::LinkEntry;
-use crate::values::{count_or, integer_or, optional_integer, required_any_integer};
+use crate::values::{count_or, length_or_zero, optional_integer, required_any_integer};
 use toml::Value;
 
 #[derive(Clone, Copy)]
@@ -19,13 +18,10 @@ pub struct Links {
 }
 
 #[tactic(auto, unfolding(crate::specs::Entries::link_of))]
-fn link_of(limit: i64, before: &[LinkEntry], value: &Value) -> Result<LinkEntry, SceneFault>
-    requires low { pos 0 ≤ℤ limit }
-    requires high { unsigned_abs limit ≤ 2 ^ 29 }
+fn link_of(limit: &Limit, before: &[LinkEntry], value: &Value) -> Result<LinkEntry, SceneFault>
     requires few { length before.now < 524288 }
-    ensures { Gives (λ l. l) result (link_of limit before.now (view value.now)) }
+    ensures { Gives (λ l. l) result (link_of limit.now.units before.now (view value.now)) }
 {
-    let longest = four_times(limit);
     let place = Place {
         table: TableName::Link,
         position: before.len() as u32,
@@ -33,14 +29,14 @@ fn link_of(limit: i64, before: &[LinkEntry], value: &Value) -> Result<LinkEntry,
     let table = entry(place, value)?;
     let a = required_any_integer(place, KeyName::A, table)?;
     let b = required_any_integer(place, KeyName::B, table)?;
-    let rest = optional_integer(place, KeyName::Rest, 0, longest, table)?;
+    let rest = optional_integer(place, KeyName::Rest, 0, limit.four_times(), table)?;
     let k = count_or(place, KeyName::Stiffness, 0, 256, 256, table)?;
-    let tear = integer_or(place, KeyName::Tear, 0, longest, 0, table)?;
+    let tear = length_or_zero(place, KeyName::Tear, limit, table)?;
     Ok(LinkEntry {
         a,
         b,
         rest,
-        k: k as u16,
+        k,
         tear,
     })
 }
@@ -53,6 +49,6 @@ impl Reader for Links {
     ghost reads = { λ s before d. link_of s.limit.units before d };
 
     fn read(&self, before: &[LinkEntry], value: &Value) -> Result<LinkEntry, SceneFault> {
-        link_of(self.limit.units, before, value)
+        link_of(&self.limit, before, value)
     }
 }

@@ -8,7 +8,7 @@ ghost use Rattle.pbd_scene.specs.Naming.{particle_number, plain_link, room_for_l
 
 use crate::fault::{KeyName, Place, SceneFault, SceneRule, TableName};
 use crate::raw::LinkEntry;
-use crate::values::expect;
+use crate::values::{broken, expect};
 use pbd_num::distance;
 use pbd_world::{Kind, Link, List, MOST_AT_PARTICLE, MOST_LINKS, NeighbourLists, Particle};
 use std::alloc::Global;
@@ -19,8 +19,11 @@ pub fn particle_number(count: u32, place: Place, key: KeyName, n: i64) -> Result
     ensures number { Gives (λ n. n) result (particle_number count place key n) }
     ensures low { IfOk result (λ n. n < count) }
 {
-    expect(0 <= n && n < count as i64, SceneRule::BadIndex, place, key)?;
-    Ok(n as u32)
+    if 0 <= n && n < count as i64 {
+        Ok(n as u32)
+    } else {
+        broken(SceneRule::BadIndex, place, key)
+    }
 }
 
 /// The rest that is given, or the distance of two particles.

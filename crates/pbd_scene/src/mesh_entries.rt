@@ -8,12 +8,11 @@ ghost use Rattle.pbd_scene.specs.Checks.{Gives};
 ghost use Rattle.pbd_scene.specs.Entries.{fitting_cloth, fitting_rope, cloth_size, all_cloths_size, all_ropes_size, room_for, cloth_vectors_of, cloth_counts_of, cloth_stiffness_of, cloth_tears_of, cloth_with, cloth_spec_of, cloth_of, rope_particles_of, rope_links_of, rope_with, rope_of};
 
 use crate::arrays::entry;
-use crate::axes::four_times;
 use crate::each::Reader;
 use crate::fault::{KeyName, Place, SceneFault, SceneRule, TableName};
 use crate::limit::Limit;
 use crate::raw::{ClothCounts, ClothStiffness, ClothTears, ClothVectors, RopeLinks, RopeParticles};
-use crate::values::{count_or, expect, integer_or, required_count};
+use crate::values::{broken, count_or, expect, length_or_zero, required_count};
 use crate::vectors::required_vector;
 use pbd_mesh::{ClothSpec, RopeSpec};
 use pbd_world::MOST_PARTICLES;
@@ -54,37 +53,31 @@ fn room_for(place: Place, n: u32) -> Result<(), SceneFault>
 
 #[tactic(auto, unfolding(crate::specs::Entries::fitting_cloth))]
 fn fitting_cloth(
-    limit: i64,
+    limit: &Limit,
     count: u32,
     before: &[ClothSpec],
     place: Place,
     spec: ClothSpec,
 ) -> Result<ClothSpec, SceneFault>
-    requires low { pos 0 ≤ℤ limit }
-    requires high { unsigned_abs limit ≤ 2 ^ 29 }
     requires room { count + all_cloths_size before.now ≤ 65536 }
-    ensures value { Gives (λ s. s) result (fitting_cloth limit count before.now place spec) }
-    ensures fits { IfOk result (λ s. cloth_fits limit s ≡ true) }
+    ensures value { Gives (λ s. s) result (fitting_cloth limit.now.units count before.now place spec) }
+    ensures fits { IfOk result (λ s. cloth_fits limit.now.units s ≡ true) }
     ensures room { IfOk result (λ s. count + all_cloths_size before.now + cloth_size s ≤ 65536) }
 {
-    expect(
-        spec.fits(limit),
-        SceneRule::OutOfRange,
-        place,
-        KeyName::NoKey,
-    )?;
-    room_for(
-        place,
-        count + all_cloths_size(before) + spec.rows * spec.columns,
-    )?;
-    Ok(spec)
+    if spec.fits(limit.units) {
+        room_for(
+            place,
+            count + all_cloths_size(before) + spec.rows * spec.columns,
+        )?;
+        Ok(spec)
+    } else {
+        broken(SceneRule::OutOfRange, place, KeyName::NoKey)
+    }
 }
 
 #[tactic(auto, unfolding(crate::specs::Entries::cloth_vectors_of))]
-fn cloth_vectors_of(place: Place, limit: i64, table: &Table) -> Result<ClothVectors, SceneFault>
-    requires low { pos 0 ≤ℤ limit }
-    requires high { unsigned_abs limit ≤ 2 ^ 29 }
-    ensures { Gives (λ v. v) result (cloth_vectors_of place limit (table_view table.now)) }
+fn cloth_vectors_of(place: Place, limit: &Limit, table: &Table) -> Result<ClothVectors, SceneFault>
+    ensures { Gives (λ v. v) result (cloth_vectors_of place limit.now.units (table_view table.now)) }
 {
     let origin = required_vector(place, KeyName::Origin, limit, table)?;
     let across = required_vector(place, KeyName::Across, limit, table)?;
@@ -106,7 +99,7 @@ fn cloth_counts_of(place: Place, table: &Table) -> Result<ClothCounts, SceneFaul
     Ok(ClothCounts {
         rows,
         columns,
-        weight: weight as u16,
+        weight,
     })
 }
 
@@ -118,22 +111,19 @@ fn cloth_stiffness_of(place: Place, table: &Table) -> Result<ClothStiffness, Sce
     let shear = count_or(place, KeyName::Shear, 0, 256, 256, table)?;
     let bend = count_or(place, KeyName::Bend, 0, 256, 64, table)?;
     Ok(ClothStiffness {
-        stretch: stretch as u16,
-        shear: shear as u16,
-        bend: bend as u16,
+        stretch,
+        shear,
+        bend,
     })
 }
 
 #[tactic(auto, unfolding(crate::specs::Entries::cloth_tears_of))]
-fn cloth_tears_of(place: Place, limit: i64, table: &Table) -> Result<ClothTears, SceneFault>
-    requires low { pos 0 ≤ℤ limit }
-    requires high { unsigned_abs limit ≤ 2 ^ 29 }
-    ensures { Gives (λ t. t) result (cloth_tears_of place limit (table_view table.now)) }
+fn cloth_tears_of(place: Place, limit: &Limit, table: &Table) -> Result<ClothTears, SceneFault>
+    ensures { Gives (λ t. t) result (cloth_tears_of place limit.now.units (table_view table.now)) }
 {
-    let longest = four_times(limit);
-    let stretch = integer_or(place, KeyName::StretchTear, 0, longest, 0, table)?;
-    let shear = integer_or(place, KeyName::ShearTear, 0, longest, 0, table)?;
-    let bend = integer_or(place, KeyName::BendTear, 0, longest, 0, table)?;
+    let stretch = length_or_zero(place, KeyName::StretchTear, limit, table)?;
+    let shear = length_or_zero(place, KeyName::ShearTear, limit, table)?;
+    let bend = length_or_zero(place, KeyName::BendTear, limit, table)?;
     Ok(ClothTears {
         stretch,
         shear,
@@ -167,10 +157,8 @@ fn cloth_with(
 }
 
 #[tactic(auto, unfolding(crate::specs::Entries::cloth_spec_of))]
-fn cloth_spec_of(place: Place, limit: i64, table: &Table) -> Result<ClothSpec, SceneFault>
-    requires low { pos 0 ≤ℤ limit }
-    requires high { unsigned_abs limit ≤ 2 ^ 29 }
-    ensures { Gives (λ s. s) result (cloth_spec_of place limit (table_view table.now)) }
+fn cloth_spec_of(place: Place, limit: &Limit, table: &Table) -> Result<ClothSpec, SceneFault>
+    ensures { Gives (λ s. s) result (cloth_spec_of place limit.now.units (table_view table.now)) }
 {
     let vectors = cloth_vectors_of(place, limit, table)?;
     let counts = cloth_counts_of(place, table)?;
@@ -181,17 +169,15 @@ fn cloth_spec_of(place: Place, limit: i64, table: &Table) -> Result<ClothSpec, S
 
 #[tactic(auto, unfolding(crate::specs::Entries::cloth_of))]
 fn cloth_of(
-    limit: i64,
+    limit: &Limit,
     count: u32,
     before: &[ClothSpec],
     value: &Value,
 ) -> Result<ClothSpec, SceneFault>
-    requires low { pos 0 ≤ℤ limit }
-    requires high { unsigned_abs limit ≤ 2 ^ 29 }
     requires few { length before.now < 64 }
     requires room { count + all_cloths_size before.now ≤ 65536 }
-    ensures value { Gives (λ s. s) result (cloth_of limit count before.now (view value.now)) }
-    ensures fits { IfOk result (λ s. cloth_fits limit s ≡ true) }
+    ensures value { Gives (λ s. s) result (cloth_of limit.now.units count before.now (view value.now)) }
+    ensures fits { IfOk result (λ s. cloth_fits limit.now.units s ≡ true) }
     ensures room { IfOk result (λ s. count + all_cloths_size before.now + cloth_size s ≤ 65536) }
 {
     let place = Place {
@@ -213,7 +199,7 @@ impl Reader for Cloths {
     ghost reads = { λ s before d. cloth_of s.limit.units s.count before d };
 
     fn read(&self, before: &[ClothSpec], value: &Value) -> Result<ClothSpec, SceneFault> {
-        cloth_of(self.limit.units, self.count, before, value)
+        cloth_of(&self.limit, self.count, before, value)
     }
 }
 
@@ -239,34 +225,32 @@ fn all_ropes_size(ropes: &[RopeSpec]) -> u32
 
 #[tactic(auto, unfolding(crate::specs::Entries::fitting_rope))]
 fn fitting_rope(
-    limit: i64,
+    limit: &Limit,
     count: u32,
     before: &[RopeSpec],
     place: Place,
     spec: RopeSpec,
 ) -> Result<RopeSpec, SceneFault>
-    requires low { pos 0 ≤ℤ limit }
-    requires high { unsigned_abs limit ≤ 2 ^ 29 }
     requires room { count + all_ropes_size before.now ≤ 65536 }
-    ensures value { Gives (λ s. s) result (fitting_rope limit count before.now place spec) }
-    ensures fits { IfOk result (λ s. rope_fits limit s ≡ true) }
+    ensures value { Gives (λ s. s) result (fitting_rope limit.now.units count before.now place spec) }
+    ensures fits { IfOk result (λ s. rope_fits limit.now.units s ≡ true) }
     ensures room { IfOk result (λ s. count + all_ropes_size before.now + s.count ≤ 65536) }
 {
-    expect(
-        spec.fits(limit),
-        SceneRule::OutOfRange,
-        place,
-        KeyName::NoKey,
-    )?;
-    room_for(place, count + all_ropes_size(before) + spec.count)?;
-    Ok(spec)
+    if spec.fits(limit.units) {
+        room_for(place, count + all_ropes_size(before) + spec.count)?;
+        Ok(spec)
+    } else {
+        broken(SceneRule::OutOfRange, place, KeyName::NoKey)
+    }
 }
 
 #[tactic(auto, unfolding(crate::specs::Entries::rope_particles_of))]
-fn rope_particles_of(place: Place, limit: i64, table: &Table) -> Result<RopeParticles, SceneFault>
-    requires low { pos 0 ≤ℤ limit }
-    requires high { unsigned_abs limit ≤ 2 ^ 29 }
-    ensures { Gives (λ p. p) result (rope_particles_of place limit (table_view table.now)) }
+fn rope_particles_of(
+    place: Place,
+    limit: &Limit,
+    table: &Table,
+) -> Result<RopeParticles, SceneFault>
+    ensures { Gives (λ p. p) result (rope_particles_of place limit.now.units (table_view table.now)) }
 {
     let origin = required_vector(place, KeyName::Origin, limit, table)?;
     let spacing = required_vector(place, KeyName::Spacing, limit, table)?;
@@ -276,24 +260,21 @@ fn rope_particles_of(place: Place, limit: i64, table: &Table) -> Result<RopePart
         origin,
         spacing,
         count,
-        weight: weight as u16,
+        weight,
     })
 }
 
 #[tactic(auto, unfolding(crate::specs::Entries::rope_links_of))]
-fn rope_links_of(place: Place, limit: i64, table: &Table) -> Result<RopeLinks, SceneFault>
-    requires low { pos 0 ≤ℤ limit }
-    requires high { unsigned_abs limit ≤ 2 ^ 29 }
-    ensures { Gives (λ l. l) result (rope_links_of place limit (table_view table.now)) }
+fn rope_links_of(place: Place, limit: &Limit, table: &Table) -> Result<RopeLinks, SceneFault>
+    ensures { Gives (λ l. l) result (rope_links_of place limit.now.units (table_view table.now)) }
 {
-    let longest = four_times(limit);
     let stretch = count_or(place, KeyName::Stretch, 0, 256, 256, table)?;
     let bend = count_or(place, KeyName::Bend, 0, 256, 64, table)?;
-    let stretch_tear = integer_or(place, KeyName::StretchTear, 0, longest, 0, table)?;
-    let bend_tear = integer_or(place, KeyName::BendTear, 0, longest, 0, table)?;
+    let stretch_tear = length_or_zero(place, KeyName::StretchTear, limit, table)?;
+    let bend_tear = length_or_zero(place, KeyName::BendTear, limit, table)?;
     Ok(RopeLinks {
-        stretch: stretch as u16,
-        bend: bend as u16,
+        stretch,
+        bend,
         stretch_tear,
         bend_tear,
     })
@@ -317,17 +298,15 @@ fn rope_with(particles: RopeParticles, links: RopeLinks) -> RopeSpec
 
 #[tactic(auto, unfolding(crate::specs::Entries::rope_of))]
 fn rope_of(
-    limit: i64,
+    limit: &Limit,
     count: u32,
     before: &[RopeSpec],
     value: &Value,
 ) -> Result<RopeSpec, SceneFault>
-    requires low { pos 0 ≤ℤ limit }
-    requires high { unsigned_abs limit ≤ 2 ^ 29 }
     requires few { length before.now < 64 }
     requires room { count + all_ropes_size before.now ≤ 65536 }
-    ensures value { Gives (λ s. s) result (rope_of limit count before.now (view value.now)) }
-    ensures fits { IfOk result (λ s. rope_fits limit s ≡ true) }
+    ensures value { Gives (λ s. s) result (rope_of limit.now.units count before.now (view value.now)) }
+    ensures fits { IfOk result (λ s. rope_fits limit.now.units s ≡ true) }
     ensures room { IfOk result (λ s. count + all_ropes_size before.now + s.count ≤ 65536) }
 {
     let place = Place {
@@ -350,6 +329,6 @@ impl Reader for Ropes {
     ghost reads = { λ s before d. rope_of s.limit.units s.count before d };
 
     fn read(&self, before: &[RopeSpec], value: &Value) -> Result<RopeSpec, SceneFault> {
-        rope_of(self.limit.units, self.count, before, value)
+        rope_of(&self.limit, self.count, before, value)
     }
 }

@@ -9,7 +9,7 @@ ghost use Rattle.pbd_scene.specs.Scene.{named};
 use crate::fault::{KeyName, Place, SceneFault, SceneRule, TableName};
 use crate::linking::particle_number;
 use crate::raw::TrackEntry;
-use crate::values::expect;
+use crate::values::broken;
 use pbd_world::{Key, List, Particle, Track};
 use std::alloc::{AllocError, Global};
 
@@ -65,12 +65,9 @@ fn placed_track(
         position: before.len() as u32,
     };
     let particle = particle_number(count, place, KeyName::Particle, entry.particle)?;
-    expect(
-        !tracked[particle as usize],
-        SceneRule::BadTrack,
-        place,
-        KeyName::Particle,
-    )?;
+    if tracked[particle as usize] {
+        return broken(SceneRule::BadTrack, place, KeyName::Particle);
+    }
     let keys = List::copied(alloc, entry.keys.as_slice())?;
     Ok(Track { particle, keys })
 }

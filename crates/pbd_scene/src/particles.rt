@@ -6,11 +6,10 @@ ghost use Rattle.pbd_scene.specs.Checks.{Gives};
 ghost use Rattle.pbd_scene.specs.Entries.{place_before, inside_before, particle_of};
 
 use crate::arrays::entry;
-use crate::axes::twice;
 use crate::each::Reader;
 use crate::fault::{KeyName, Place, SceneFault, SceneRule, TableName};
 use crate::limit::Limit;
-use crate::values::{boolean_or, count_or, expect};
+use crate::values::{boolean_or, broken, count_or};
 use crate::vectors::{is_inside, required_vector, vector_or_zero};
 use pbd_num::Vec3;
 use pbd_world::Particle;
@@ -28,29 +27,23 @@ fn if_held(held: bool, at: Vec3, gone: Vec3) -> Vec3
 }
 
 #[tactic(auto, unfolding(crate::specs::Entries::inside_before))]
-fn inside_before(limit: i64, place: Place, at: Vec3, velocity: Vec3) -> Result<Vec3, SceneFault>
-    requires low { pos 0 ≤ℤ limit }
-    requires high { unsigned_abs limit ≤ 2 ^ 29 }
+fn inside_before(limit: &Limit, place: Place, at: Vec3, velocity: Vec3) -> Result<Vec3, SceneFault>
     requires at { Within (2 ^ 30) at }
     requires velocity { Within (2 ^ 30) velocity }
-    ensures { Gives (λ v. v) result (inside_before limit place at velocity) }
+    ensures { Gives (λ v. v) result (inside_before limit.now.units place at velocity) }
 {
     let gone = at.minus(velocity);
-    expect(
-        is_inside(gone, limit),
-        SceneRule::OutOfRange,
-        place,
-        KeyName::Velocity,
-    )?;
-    Ok(gone)
+    if is_inside(gone, limit.units) {
+        Ok(gone)
+    } else {
+        broken(SceneRule::OutOfRange, place, KeyName::Velocity)
+    }
 }
 
 #[tactic(auto, unfolding(crate::specs::Entries::particle_of))]
-fn particle_of(limit: i64, before: &[Particle], value: &Value) -> Result<Particle, SceneFault>
-    requires low { pos 0 ≤ℤ limit }
-    requires high { unsigned_abs limit ≤ 2 ^ 29 }
+fn particle_of(limit: &Limit, before: &[Particle], value: &Value) -> Result<Particle, SceneFault>
     requires few { length before.now < 65536 }
-    ensures { Gives (λ p. p) result (particle_of limit before.now (view value.now)) }
+    ensures { Gives (λ p. p) result (particle_of limit.now.units before.now (view value.now)) }
 {
     let place = Place {
         table: TableName::Particle,
@@ -58,14 +51,14 @@ fn particle_of(limit: i64, before: &[Particle], value: &Value) -> Result<Particl
     };
     let table = entry(place, value)?;
     let at = required_vector(place, KeyName::At, limit, table)?;
-    let velocity = vector_or_zero(place, KeyName::Velocity, twice(limit), table)?;
+    let velocity = vector_or_zero(place, KeyName::Velocity, limit.twice(), table)?;
     let weight = count_or(place, KeyName::Weight, 1, 65_535, 1, table)?;
     let held = boolean_or(place, KeyName::Held, false, table)?;
     let gone = inside_before(limit, place, at, velocity)?;
     Ok(Particle {
         at,
         before: if_held(held, at, gone),
-        weight: weight as u16,
+        weight,
         held,
     })
 }
@@ -78,6 +71,6 @@ impl Reader for Particles {
     ghost reads = { λ s before d. particle_of s.limit.units before d };
 
     fn read(&self, before: &[Particle], value: &Value) -> Result<Particle, SceneFault> {
-        particle_of(self.limit.units, before, value)
+        particle_of(&self.limit, before, value)
     }
 }

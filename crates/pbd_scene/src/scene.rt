@@ -16,7 +16,7 @@ use crate::meshes::add_meshes;
 use crate::naming::{add_tracked, holding, pinned_particles, place_tracks};
 use crate::raw::{LinkEntry, Numbers, Settings, Shapes, TrackEntry};
 use crate::table_lists::tables_of;
-use crate::values::{count_or, expect, integer_or, known};
+use crate::values::{broken, count_or, integer_or, known};
 use crate::vectors::vector_or_zero;
 use pbd_world::{List, MOST_PARTICLES, MOST_THICKNESS, Particle, Parts, PartsFault, Scene};
 use std::alloc::{AllocError, Global};
@@ -32,13 +32,11 @@ fn pins_of(alloc: Global, members: &Table) -> Result<List<i64>, SceneFault>
     ensures { Gives (λ ns. ns) result (pins_of (table_view members.now)) }
 {
     let pins = integers_of(alloc, AT_SCENE, KeyName::Pins, members)?;
-    expect(
-        pins.len() <= MOST_PARTICLES,
-        SceneRule::TooMany,
-        AT_SCENE,
-        KeyName::Pins,
-    )?;
-    Ok(pins)
+    if pins.len() <= MOST_PARTICLES {
+        Ok(pins)
+    } else {
+        broken(SceneRule::TooMany, AT_SCENE, KeyName::Pins)
+    }
 }
 
 #[tactic(auto, unfolding(crate::specs::Scene::numbers_of))]
@@ -50,7 +48,7 @@ fn numbers_of(members: &Table) -> Result<Numbers, SceneFault>
     let thickness = integer_or(AT_SCENE, KeyName::Thickness, 0, MOST_THICKNESS, 0, members)?;
     let friction = integer_or(AT_SCENE, KeyName::Friction, 0, 256, 0, members)?;
     Ok(Numbers {
-        passes,
+        passes: passes as u32,
         damping,
         thickness,
         friction,

@@ -9,7 +9,7 @@ use crate::arrays::entry;
 use crate::each::Reader;
 use crate::fault::{KeyName, Place, SceneFault, SceneRule, TableName};
 use crate::limit::Limit;
-use crate::values::{expect, required_integer};
+use crate::values::{broken, required_integer};
 use crate::vectors::{is_inside, required_vector};
 use pbd_num::Vec3;
 use pbd_world::{Plane, Sphere};
@@ -36,7 +36,8 @@ fn plane_of(before: &[Plane], value: &Value) -> Result<Plane, SceneFault>
         position: before.len() as u32,
     };
     let table = entry(place, value)?;
-    let normal = required_vector(place, KeyName::Normal, 1024, table)?;
+    let most = Limit { units: 1024 };
+    let normal = required_vector(place, KeyName::Normal, &most, table)?;
     let offset = required_integer(
         place,
         KeyName::Offset,
@@ -44,13 +45,11 @@ fn plane_of(before: &[Plane], value: &Value) -> Result<Plane, SceneFault>
         1_099_511_627_776,
         table,
     )?;
-    expect(
-        has_length(normal),
-        SceneRule::OutOfRange,
-        place,
-        KeyName::Normal,
-    )?;
-    Ok(Plane { normal, offset })
+    if has_length(normal) {
+        Ok(Plane { normal, offset })
+    } else {
+        broken(SceneRule::OutOfRange, place, KeyName::Normal)
+    }
 }
 
 impl Reader for Planes {
@@ -100,22 +99,18 @@ fn below(centre: Vec3, radius: i64) -> Vec3
 }
 
 #[tactic(auto, unfolding(crate::specs::Entries::reaches_within))]
-fn reaches_within(limit: i64, centre: Vec3, radius: i64) -> bool
-    requires low { pos 0 ≤ℤ limit }
-    requires high { unsigned_abs limit ≤ 2 ^ 29 }
+fn reaches_within(limit: &Limit, centre: Vec3, radius: i64) -> bool
     requires centre { Within (2 ^ 30) centre }
     requires radius { unsigned_abs radius ≤ 2 ^ 29 }
-    ensures { result ≡ reaches_within limit centre radius }
+    ensures { result ≡ reaches_within limit.now.units centre radius }
 {
-    is_inside(above(centre, radius), limit) && is_inside(below(centre, radius), limit)
+    is_inside(above(centre, radius), limit.units) && is_inside(below(centre, radius), limit.units)
 }
 
 #[tactic(auto, unfolding(crate::specs::Entries::sphere_of))]
-fn sphere_of(limit: i64, before: &[Sphere], value: &Value) -> Result<Sphere, SceneFault>
-    requires low { pos 0 ≤ℤ limit }
-    requires high { unsigned_abs limit ≤ 2 ^ 29 }
+fn sphere_of(limit: &Limit, before: &[Sphere], value: &Value) -> Result<Sphere, SceneFault>
     requires few { length before.now < 256 }
-    ensures { Gives (λ s. s) result (sphere_of limit before.now (view value.now)) }
+    ensures { Gives (λ s. s) result (sphere_of limit.now.units before.now (view value.now)) }
 {
     let place = Place {
         table: TableName::Sphere,
@@ -123,14 +118,12 @@ fn sphere_of(limit: i64, before: &[Sphere], value: &Value) -> Result<Sphere, Sce
     };
     let table = entry(place, value)?;
     let centre = required_vector(place, KeyName::Centre, limit, table)?;
-    let radius = required_integer(place, KeyName::Radius, 1, limit, table)?;
-    expect(
-        reaches_within(limit, centre, radius),
-        SceneRule::OutOfRange,
-        place,
-        KeyName::Radius,
-    )?;
-    Ok(Sphere { centre, radius })
+    let radius = required_integer(place, KeyName::Radius, 1, limit.units, table)?;
+    if reaches_within(limit, centre, radius) {
+        Ok(Sphere { centre, radius })
+    } else {
+        broken(SceneRule::OutOfRange, place, KeyName::Radius)
+    }
 }
 
 impl Reader for Spheres {
@@ -141,6 +134,6 @@ impl Reader for Spheres {
     ghost reads = { λ s before d. sphere_of s.limit.units before d };
 
     fn read(&self, before: &[Sphere], value: &Value) -> Result<Sphere, SceneFault> {
-        sphere_of(self.limit.units, before, value)
+        sphere_of(&self.limit, before, value)
     }
 }

@@ -1,5 +1,5 @@
 // The entries of all tables.
-ghost use Rattle.std.specs.Prelude.{◌+◌, ◌≤◌, ◌≤ℤ◌, ◌^◌, IfOk, pos, unsigned_abs, length};
+ghost use Rattle.std.specs.Prelude.{◌≡◌, ◌+◌, ◌≤◌, ◌≤ℤ◌, ◌^◌, IfOk, pos, unsigned_abs, length};
 ghost use Rattle.toml.specs.View.{table_view};
 ghost use Rattle.pbd_scene.specs.Checks.{Gives};
 ghost use Rattle.pbd_scene.specs.Entries.{all_cloths_size};
@@ -129,6 +129,27 @@ fn tracks_of(alloc: Global, limit: &Limit, members: &Table) -> Result<List<Track
     )
 }
 
+/// Reads the links, shapes and tracks in place of those that are there, where the tables before them are read.
+#[tactic(auto, unfolding(crate::specs::Scene::tables_of))]
+fn fill_from_links(
+    alloc: Global,
+    limit: &Limit,
+    members: &Table,
+    tables: &mut Tables,
+) -> Result<(), SceneFault>
+    requires particles { particles_of limit.now.units (table_view members.now) ≡ Ok tables.old.particles }
+    requires cloths { cloths_of limit.now.units (length tables.old.particles) (table_view members.now) ≡ Ok tables.old.cloths }
+    requires ropes { ropes_of limit.now.units (length tables.old.particles + all_cloths_size tables.old.cloths) (table_view members.now)
+        ≡ Ok tables.old.ropes }
+    ensures { Gives (λ _. tables.new) result (tables_of limit.now.units (table_view members.now)) }
+{
+    tables.links = links_of(alloc, limit, members)?;
+    tables.planes = planes_of(alloc, members)?;
+    tables.spheres = spheres_of(alloc, limit, members)?;
+    tables.tracks = tracks_of(alloc, limit, members)?;
+    Ok(())
+}
+
 /// Reads the entries of all tables in place of those that are there.
 #[tactic(auto, unfolding(crate::specs::Scene::tables_of))]
 fn fill(
@@ -144,11 +165,7 @@ fn fill(
     tables.cloths = cloths_of(alloc, limit, count, members)?;
     let count = count + all_cloths_size(tables.cloths.as_slice());
     tables.ropes = ropes_of(alloc, limit, count, members)?;
-    tables.links = links_of(alloc, limit, members)?;
-    tables.planes = planes_of(alloc, members)?;
-    tables.spheres = spheres_of(alloc, limit, members)?;
-    tables.tracks = tracks_of(alloc, limit, members)?;
-    Ok(())
+    fill_from_links(alloc, limit, members, tables)
 }
 
 /// The entries of all tables.

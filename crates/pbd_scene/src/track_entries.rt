@@ -61,16 +61,14 @@ fn key_of(place: Place, limit: &Limit, _before: &[Key], value: &Value) -> Result
 {
     let row = row(place, KeyName::Keys, value)?;
     let step = step_number(place, row.step)?;
-    expect(
-        is_inside(row.place, limit.units),
-        SceneRule::OutOfRange,
-        place,
-        KeyName::Keys,
-    )?;
-    Ok(Key {
-        step,
-        place: row.place,
-    })
+    if is_inside(row.place, limit.units) {
+        Ok(Key {
+            step,
+            place: row.place,
+        })
+    } else {
+        broken(SceneRule::OutOfRange, place, KeyName::Keys)
+    }
 }
 
 impl Reader for Keys {
@@ -146,13 +144,11 @@ fn rising_path(
     ensures { Gives (λ ks. ks) result (rising_path place limit.now.units (map view values.now)) }
 {
     let keys = keys_of(alloc, place, limit, values)?;
-    expect(
-        0 < keys.len() && steps_rise(keys.as_slice()),
-        SceneRule::BadTrack,
-        place,
-        KeyName::Keys,
-    )?;
-    Ok(keys)
+    if 0 < keys.len() && steps_rise(keys.as_slice()) {
+        Ok(keys)
+    } else {
+        broken(SceneRule::BadTrack, place, KeyName::Keys)
+    }
 }
 
 #[tactic(auto, unfolding(crate::specs::Entries::path_of))]

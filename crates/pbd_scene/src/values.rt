@@ -1,5 +1,5 @@
 // The keys of a table, and the kinds of single values that they take.
-ghost use Rattle.std.specs.Prelude.{◌≡◌, IsTrue, ◌≤◌, ◌≤ℤ◌, IfOk, option_map, string_bytes, Err};
+ghost use Rattle.std.specs.Prelude.{◌≡◌, IsTrue, ◌≤◌, ◌≤ℤ◌, ◌*ℤ◌, pos, IfOk, option_map, string_bytes, Err};
 ghost use Rattle.std.specs.List.{list_all};
 ghost use Rattle.std.specs.BTreeMap.{keys};
 ghost use Rattle.toml.specs.View.{view, table_view};
@@ -9,6 +9,7 @@ ghost use Rattle.pbd_scene.specs.Keys.{is_key_of, is_table_of, is_known, all_kno
 ghost use Rattle.pbd_scene.specs.Values.{value_of, any_integer, integer, required_any_integer, required_integer, optional_integer, integer_or, required_count, count_or, boolean, boolean_or, members};
 
 use crate::fault::{KeyName, Place, SceneFault, SceneRule, TableName};
+use crate::limit::Limit;
 use crate::tables::{all_tables, entry_keys};
 use toml::{Table, Value};
 
@@ -66,19 +67,13 @@ fn are_known(table: TableName, members: &Table) -> bool
     members.keys().all(|name| is_known(table, name.as_str()))
 }
 
-fn all_known(table: TableName, members: &Table) -> bool
-    ensures { result ≡ all_known table (table_view members.now) }
-{
-    are_known(table, members)
-}
-
 /// Refuses a table with a key that it may not have.
 #[tactic(auto, unfolding(crate::specs::Keys::known))]
 pub fn known(place: Place, members: &Table) -> Result<(), SceneFault>
     ensures { Gives (λ x. x) result (known place (table_view members.now)) }
 {
     expect(
-        all_known(place.table, members),
+        are_known(place.table, members),
         SceneRule::UnknownKey,
         place,
         KeyName::NoKey,
@@ -213,30 +208,33 @@ pub fn required_count(
 pub fn count_or(
     place: Place,
     key: KeyName,
-    low: u32,
-    high: u32,
-    default: u32,
+    low: u16,
+    high: u16,
+    default: u16,
     members: &Table,
-) -> Result<u32, SceneFault>
+) -> Result<u16, SceneFault>
     requires low { low ≤ default }
     requires high { default ≤ high }
     ensures value { Gives (λ n. n) result (count_or place key low high default (table_view members.now)) }
     ensures high { IfOk result (λ n. n ≤ high) }
 {
     let n = integer_or(place, key, low as i64, high as i64, default as i64, members)?;
-    Ok(n as u32)
+    Ok(n as u16)
+}
+
+/// A length of at most four limits, or 0.
+pub fn length_or_zero(
+    place: Place,
+    key: KeyName,
+    limit: &Limit,
+    members: &Table,
+) -> Result<i64, SceneFault>
+    ensures { Gives (λ n. n) result (integer_or place key (pos 0) (pos 4 *ℤ limit.now.units) (pos 0) (table_view members.now)) }
+{
+    integer_or(place, key, 0, limit.four_times(), 0, members)
 }
 
 // ---- true or false
-
-fn boolean(place: Place, key: KeyName, value: &Value) -> Result<bool, SceneFault>
-    ensures { Gives (λ b. b) result (boolean place key (view value.now)) }
-{
-    match value.as_bool() {
-        Some(b) => Ok(b),
-        None => broken(SceneRule::WrongType, place, key),
-    }
-}
 
 #[tactic(auto, unfolding(crate::specs::Values::boolean_or))]
 pub fn boolean_or(
@@ -249,6 +247,9 @@ pub fn boolean_or(
 {
     match value_of(key, members) {
         None => Ok(default),
-        Some(value) => boolean(place, key, value),
+        Some(value) => match value.as_bool() {
+            None => broken(SceneRule::WrongType, place, key),
+            Some(b) => Ok(b),
+        },
     }
 }

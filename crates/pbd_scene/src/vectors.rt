@@ -1,25 +1,32 @@
 // Vectors: arrays of three integers.
 ghost use Rattle.std.specs.Prelude.{◌≡◌, IsTrue, ◌≤◌, ◌^◌, ◌≤ℤ◌, pos, unsigned_abs, IfOk};
+ghost use Rattle.toml.specs.Data.{item, no_items};
 ghost use Rattle.toml.specs.View.{view, table_view, items_view};
 ghost use Rattle.pbd_num.specs.Vectors.{Within, is_within, is_axis_within, zero_vector};
 ghost use Rattle.pbd_scene.specs.Checks.{Gives, broken};
 ghost use Rattle.pbd_scene.specs.Values.{value_of, three_of, three_integers, vector, required_vector, vector_or, members};
 
 use crate::fault::{KeyName, Place, SceneFault, SceneRule};
+use crate::limit::Limit;
 use crate::values::{broken, value_of};
 use pbd_num::Vec3;
 use toml::{Table, Value};
+
+/// The vector of these axes, where all are integers.
+pub fn axes_of(x: &Value, y: &Value, z: &Value) -> Option<Vec3>
+    ensures { result ≡ three_of (item (view x.now) (item (view y.now) (item (view z.now) no_items))) }
+{
+    let x = x.as_integer()?;
+    let y = y.as_integer()?;
+    let z = z.as_integer()?;
+    Some(Vec3 { x, y, z })
+}
 
 fn three_of(items: &[Value]) -> Option<Vec3>
     ensures { result ≡ three_of (items_view items.now) }
 {
     match items {
-        [x, y, z] => {
-            let x = x.as_integer()?;
-            let y = y.as_integer()?;
-            let z = z.as_integer()?;
-            Some(Vec3 { x, y, z })
-        }
+        [x, y, z] => axes_of(x, y, z),
         _ => None,
     }
 }
@@ -42,7 +49,7 @@ fn vector(place: Place, key: KeyName, limit: i64, value: &Value) -> Result<Vec3,
     match three_integers(value) {
         None => broken(SceneRule::WrongType, place, key),
         Some(v) => {
-            if is_within(v, limit) {
+            if is_inside(v, limit) {
                 Ok(v)
             } else {
                 broken(SceneRule::OutOfRange, place, key)
@@ -63,17 +70,10 @@ pub fn is_inside(v: Vec3, limit: i64) -> bool
     requires low { pos 0 ≤ℤ limit }
     ensures { result ≡ is_within limit v }
 {
-    is_axis_within(v.x, limit) && is_axis_within(v.y, limit) && is_axis_within(v.z, limit)
-}
-
-/// The same, with the facts.
-fn is_within(v: Vec3, limit: i64) -> bool
-    requires low { pos 0 ≤ℤ limit }
-    requires high { unsigned_abs limit ≤ 2 ^ 30 }
-    ensures test { result ≡ is_within limit v }
-    ensures facts { IsTrue result → Within (2 ^ 30) v }
-{
-    is_inside(v, limit)
+    let x = is_axis_within(v.x, limit);
+    let y = is_axis_within(v.y, limit);
+    let z = is_axis_within(v.z, limit);
+    x & y & z
 }
 
 /// The vector of a key that must be there.
@@ -81,17 +81,15 @@ fn is_within(v: Vec3, limit: i64) -> bool
 pub fn required_vector(
     place: Place,
     key: KeyName,
-    limit: i64,
+    limit: &Limit,
     members: &Table,
 ) -> Result<Vec3, SceneFault>
-    requires low { pos 0 ≤ℤ limit }
-    requires high { unsigned_abs limit ≤ 2 ^ 30 }
-    ensures value { Gives (λ v. v) result (required_vector place key limit (table_view members.now)) }
+    ensures value { Gives (λ v. v) result (required_vector place key limit.now.units (table_view members.now)) }
     ensures within { IfOk result (λ v. Within (2 ^ 30) v) }
 {
     match value_of(key, members) {
         None => broken(SceneRule::MissingKey, place, key),
-        Some(value) => vector(place, key, limit, value),
+        Some(value) => vector(place, key, limit.units, value),
     }
 }
 

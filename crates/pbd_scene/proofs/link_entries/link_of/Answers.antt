@@ -19,27 +19,20 @@ returns-in_err-b c = rw (c.in_ok-table.ensures, c.in_ok-a.ensures) (stops _ _ _ 
 pub returns-in_err-rest : goal.returns-in_err-rest
 unfolding link_of
 returns-in_err-rest c =
-    let fits = c.ranges.limit in
-    let wide : FitsSigned w64 c.four_times-longest.result = record { sfits = c.four_times-longest.type_inv } in
-    let is_longest = simp to_z-of_z at c.four_times-longest.ensures.value in
-    let fails = rw is_longest at (simp to_z-of_z at c.in_err-rest.ensures) in
+    let wide : FitsSigned w64 c.four_times.result = record { sfits = c.four_times.type_inv } in
+    let fails = rw c.four_times.ensures.value at (simp to_z-of_z at c.in_err-rest.ensures) in
     rw (c.in_ok-table.ensures, c.in_ok-a.ensures, c.in_ok-b.ensures) (stops _ _ _ _ _ c.from_residual-in_err-rest.ensures.1 fails)
 
 pub returns-in_err-k : goal.returns-in_err-k
 unfolding link_of
 returns-in_err-k c =
-    let fits = c.ranges.limit in
-    let wide : FitsSigned w64 c.four_times-longest.result = record { sfits = c.four_times-longest.type_inv } in
-    let is_longest = simp to_z-of_z at c.four_times-longest.ensures.value in
-    let is_rest = rw is_longest at (simp to_z-of_z at c.in_ok-rest.ensures) in
+    let wide : FitsSigned w64 c.four_times.result = record { sfits = c.four_times.type_inv } in
+    let is_rest = rw c.four_times.ensures.value at (simp to_z-of_z at c.in_ok-rest.ensures) in
     rw (c.in_ok-table.ensures, c.in_ok-a.ensures, c.in_ok-b.ensures, is_rest) (stops _ _ _ _ _ c.from_residual-in_err-k.ensures.1 c.in_err-k.ensures.value)
 
 pub returns-in_err-tear : goal.returns-in_err-tear
 unfolding link_of
 returns-in_err-tear c =
-    let fits = c.ranges.limit in
-    let wide : FitsSigned w64 c.four_times-longest.result = record { sfits = c.four_times-longest.type_inv } in
-    let is_longest = simp to_z-of_z at c.four_times-longest.ensures.value in
-    let is_rest = rw is_longest at (simp to_z-of_z at c.in_ok-rest.ensures) in
-    let fails = rw is_longest at (simp to_z-of_z at c.in_err-tear.ensures.value) in
-    rw (c.in_ok-table.ensures, c.in_ok-a.ensures, c.in_ok-b.ensures, is_rest, c.in_ok-k.ensures.value) (stops _ _ _ _ _ c.from_residual-in_err-tear.ensures.1 fails)
+    let wide : FitsSigned w64 c.four_times.result = record { sfits = c.four_times.type_inv } in
+    let is_rest = rw c.four_times.ensures.value at (simp to_z-of_z at c.in_ok-rest.ensures) in
+    rw (c.in_ok-table.ensures, c.in_ok-a.ensures, c.in_ok-b.ensures, is_rest, c.in_ok-k.ensures.value) (stops _ _ _ _ _ c.from_residual-in_err-tear.ensures.1 c.in_err-tear.ensures)

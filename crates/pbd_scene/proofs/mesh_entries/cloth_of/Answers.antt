@@ -1,4 +1,3 @@
-use Rattle.std.proofs.lemmas.Int.{to_z-of_z}
 use Rattle.std.proofs.lemmas.Result.{IfOk-from_err}
 use Rattle.pbd_scene.specs.Entries.{cloth_of}
 use Rattle.pbd_scene.proofs.Reading.{stops}
@@ -16,10 +15,8 @@ returns-in_err-table c =
 pub returns-in_err-spec : goal.returns-in_err-spec
 unfolding cloth_of
 returns-in_err-spec c =
-    let fits = c.ranges.limit in
-    let fails = simp to_z-of_z at c.in_err-spec.ensures in
     record {
-      value = rw c.in_ok-table.ensures (stops _ _ _ _ _ c.from_residual-in_err-spec.ensures.1 fails);
+      value = rw c.in_ok-table.ensures (stops _ _ _ _ _ c.from_residual-in_err-spec.ensures.1 c.in_err-spec.ensures);
       fits = IfOk-from_err _ _ c.from_residual-in_err-spec.ensures.0;
       room = IfOk-from_err _ _ c.from_residual-in_err-spec.ensures.0;
     }
@@ -27,11 +24,8 @@ returns-in_err-spec c =
 pub returns : goal.returns
 unfolding cloth_of
 returns c =
-    let fits = c.ranges.limit in
-    let is_spec = simp to_z-of_z at c.in_ok-spec.ensures in
-    let is = simp to_z-of_z at c.fitting_cloth.ensures.value in
     record {
-      value = rw (c.in_ok-table.ensures, is_spec) is;
-      fits = simp to_z-of_z at c.fitting_cloth.ensures.fits;
+      value = rw (c.in_ok-table.ensures, c.in_ok-spec.ensures) c.fitting_cloth.ensures.value;
+      fits = c.fitting_cloth.ensures.fits;
       room = c.fitting_cloth.ensures.room;
     }

@@ -1,25 +1,49 @@
-use Rattle.std.proofs.Common.{arith}
+use Rattle.std.proofs.Common.{arith, sym, refl}
 use Rattle.std.proofs.lemmas.Int.{to_z-of_z}
 use Rattle.std.proofs.lemmas.Result.{IfOk-from_err}
 use Rattle.pbd_scene.specs.Entries.{fitting_rope}
 use Rattle.pbd_scene.proofs.Reading.{stops}
+use Rattle.pbd_scene.proofs.Bounds.{limit_fits}
 use Rattle.pbd_scene.proofs.MeshSizes.{rope_count}
 use Rattle.pbd_scene.proofs.mesh_entries.fitting_rope.Goals as goal
 
-pub overflow_add-count-2 : goal.overflow_add-count-2
-overflow_add-count-2 c =
-    let fits = c.ranges.limit in
-    let test = simp to_z-of_z at c.fits.ensures in
-    omega (arith, rope_count c.args.limit c.args.spec c.requires.low c.requires.high (rw (← test) c.in_ok-expect.ensures.holds))
+pub overflow_add-count-then-fits : goal.overflow_add-count-then-fits
+overflow_add-count-then-fits c =
+    let wide = limit_fits c.args.limit.now.units c.args.limit.now.high in
+    let test = simp to_z-of_z at c.if-fits.ensures in
+    omega (arith, rope_count c.args.limit.now.units c.args.spec c.args.limit.now.low c.args.limit.now.high (sym test))
 
-pub returns-in_err-expect : goal.returns-in_err-expect
+pub returns-in_err-room_for : goal.returns-in_err-room_for
 unfolding fitting_rope
-returns-in_err-expect c =
-    let fits = c.ranges.limit in
-    let test = simp to_z-of_z at c.fits.ensures in
-    let fails = rw test at c.in_err-expect.ensures.value in
+returns-in_err-room_for c =
+    let wide = limit_fits c.args.limit.now.units c.args.limit.now.high in
+    let test = simp to_z-of_z at c.if-fits.ensures in
+    let fails = rw c.all_ropes_size.ensures at c.in_err-room_for.ensures.value in
     record {
-      value = stops _ _ _ _ _ c.from_residual.ensures.1 fails;
+      value = rw (← test) (stops _ _ _ _ _ c.from_residual.ensures.1 fails);
       fits = IfOk-from_err _ _ c.from_residual.ensures.0;
       room = IfOk-from_err _ _ c.from_residual.ensures.0;
+    }
+
+pub returns-in_ok-room_for : goal.returns-in_ok-room_for
+unfolding fitting_rope
+returns-in_ok-room_for c =
+    let wide = limit_fits c.args.limit.now.units c.args.limit.now.high in
+    let test = simp to_z-of_z at c.if-fits.ensures in
+    let has_room = rw c.all_ropes_size.ensures at c.in_ok-room_for.ensures.value in
+    record {
+      value = rw (← test, has_room) refl;
+      fits = sym test;
+      room = rw c.all_ropes_size.ensures at c.in_ok-room_for.ensures.room;
+    }
+
+pub returns-else-fits : goal.returns-else-fits
+unfolding fitting_rope
+returns-else-fits c =
+    let wide = limit_fits c.args.limit.now.units c.args.limit.now.high in
+    let test = simp to_z-of_z at c.if-fits.ensures in
+    record {
+      value = rw (c.broken.ensures, ← test) refl;
+      fits = rw c.broken.ensures tt;
+      room = rw c.broken.ensures tt;
     }

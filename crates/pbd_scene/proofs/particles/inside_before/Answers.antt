@@ -1,20 +1,18 @@
 use Rattle.std.proofs.lemmas.Int.{to_z-of_z}
-use Rattle.std.proofs.lemmas.Result.{err_from_is_err_and}
 use Rattle.pbd_scene.specs.Entries.{place_before}
-use Rattle.pbd_scene.proofs.Bounds.{before_inside, before_outside}
+use Rattle.pbd_scene.proofs.Bounds.{limit_fits, before_inside, before_outside}
 use Rattle.pbd_scene.proofs.particles.inside_before.Goals as goal
 
-pub returns-in_err-expect : goal.returns-in_err-expect
+pub returns-then-is_inside : goal.returns-then-is_inside
 unfolding place_before
-returns-in_err-expect c =
-    let fits = c.ranges.limit in
+returns-then-is_inside c =
+    let wide = limit_fits c.args.limit.now.units c.args.limit.now.high in
     let test = simp to_z-of_z at c.is_inside.ensures in
-    let p = err_from_is_err_and c.from_residual.result c.from_residual.ensures.1 in
-    rw (p.1, p.2) (before_outside c.args.limit c.args.place c.args.at c.args.velocity c.minus-gone.result c.is_inside.result c.in_err-expect.field-0.0 c.minus-gone.ensures.value test c.in_err-expect.ensures.value)
+    before_inside c.args.limit.now.units c.args.place c.args.at c.args.velocity c.minus-gone.result c.is_inside.result c.minus-gone.ensures.value test c.if-is_inside.true
 
-pub returns : goal.returns
+pub returns-else-is_inside : goal.returns-else-is_inside
 unfolding place_before
-returns c =
-    let fits = c.ranges.limit in
+returns-else-is_inside c =
+    let wide = limit_fits c.args.limit.now.units c.args.limit.now.high in
     let test = simp to_z-of_z at c.is_inside.ensures in
-    before_inside c.args.limit c.args.place c.args.at c.args.velocity c.minus-gone.result c.is_inside.result c.minus-gone.ensures.value test c.in_ok-expect.ensures.holds
+    before_outside c.args.limit.now.units c.args.place c.args.at c.args.velocity c.minus-gone.result c.is_inside.result c.broken.result c.minus-gone.ensures.value test c.if-is_inside.false c.broken.ensures

@@ -4,9 +4,17 @@ use Rattle.std.proofs.lemmas.Result.{IfOk-at_ok}
 use Rattle.toml.specs.View.{table_view}
 use Rattle.pbd_world.specs.declared.parts.Parts.{Parts}
 use Rattle.pbd_mesh.proofs.Facts.{limit_bounds}
+use Rattle.pbd_scene.specs.Calls.{from_tables}
+use Rattle.pbd_scene.proofs.Reading.{stops}
 use Rattle.pbd_scene.proofs.Validity.{tables_fit}
 use Rattle.pbd_scene.proofs.Parted.{cloths_fit, ropes_fit, meshes_room, meshed_now, places_within}
 use Rattle.pbd_scene.proofs.scene.parts_with.Goals as goal
+
+pub tables_of-requires : goal.tables_of-requires
+tables_of-requires c =
+    let fits = c.ranges.limit in
+    let bounds = limit_bounds c.args.limit c.requires in
+    record { low = simp to_z-of_z bounds.0; high = simp to_z-of_z bounds.1 }
 
 pub add_meshes-meshed-requires-clause-limit : goal.add_meshes-meshed-requires-clause-limit
 add_meshes-meshed-requires-clause-limit c =
@@ -71,3 +79,10 @@ with_entries-requires-clause-tracks c =
     let is = simp to_z-of_z at c.in_ok-tables.ensures in
     let fit = tables_fit c.args.limit (table_view c.args.members.now) c.in_ok-tables.tables (limit_bounds c.args.limit c.requires).0 is in
     fit.few_tracks
+
+pub returns-in_err-tables : goal.returns-in_err-tables
+unfolding from_tables
+returns-in_err-tables c =
+    let fits = c.ranges.limit in
+    let fails = simp to_z-of_z at c.in_err-tables.ensures in
+    stops _ _ _ _ _ c.from_residual.ensures.1 fails

@@ -1,4 +1,3 @@
-use Rattle.std.proofs.Common.{refl}
 use Rattle.pbd_scene.specs.Scene.{tables_of}
 use Rattle.pbd_scene.proofs.Reading.{stops}
 use Rattle.pbd_scene.proofs.table_lists.fill.Goals as goal
@@ -20,37 +19,9 @@ returns-in_err-tables-3 c =
     let fails = simp (c.len-count.ensures, c.all_cloths_size.ensures, c.as_slice.ensures) at c.in_err-tables-3.ensures.value in
     rw (c.in_ok-tables.ensures.value, cloths) (stops _ _ _ _ _ c.from_residual-in_err-tables-3.ensures.1 fails)
 
-pub returns-in_err-tables-4 : goal.returns-in_err-tables-4
-unfolding tables_of
-returns-in_err-tables-4 c =
-    let cloths = simp c.len-count.ensures at c.in_ok-tables-2.ensures.value in
-    let ropes = simp (c.len-count.ensures, c.all_cloths_size.ensures, c.as_slice.ensures) at c.in_ok-tables-3.ensures.value in
-    rw (c.in_ok-tables.ensures.value, cloths, ropes) (stops _ _ _ _ _ c.from_residual-in_err-tables-4.ensures.1 c.in_err-tables-4.ensures.value)
-
-pub returns-in_err-tables-5 : goal.returns-in_err-tables-5
-unfolding tables_of
-returns-in_err-tables-5 c =
-    let cloths = simp c.len-count.ensures at c.in_ok-tables-2.ensures.value in
-    let ropes = simp (c.len-count.ensures, c.all_cloths_size.ensures, c.as_slice.ensures) at c.in_ok-tables-3.ensures.value in
-    rw (c.in_ok-tables.ensures.value, cloths, ropes, c.in_ok-tables-4.ensures.value) (stops _ _ _ _ _ c.from_residual-in_err-tables-5.ensures.1 c.in_err-tables-5.ensures.value)
-
-pub returns-in_err-tables-6 : goal.returns-in_err-tables-6
-unfolding tables_of
-returns-in_err-tables-6 c =
-    let cloths = simp c.len-count.ensures at c.in_ok-tables-2.ensures.value in
-    let ropes = simp (c.len-count.ensures, c.all_cloths_size.ensures, c.as_slice.ensures) at c.in_ok-tables-3.ensures.value in
-    rw (c.in_ok-tables.ensures.value, cloths, ropes, c.in_ok-tables-4.ensures.value, c.in_ok-tables-5.ensures.value) (stops _ _ _ _ _ c.from_residual-in_err-tables-6.ensures.1 c.in_err-tables-6.ensures.value)
-
-pub returns-in_err-tables-7 : goal.returns-in_err-tables-7
-unfolding tables_of
-returns-in_err-tables-7 c =
-    let cloths = simp c.len-count.ensures at c.in_ok-tables-2.ensures.value in
-    let ropes = simp (c.len-count.ensures, c.all_cloths_size.ensures, c.as_slice.ensures) at c.in_ok-tables-3.ensures.value in
-    rw (c.in_ok-tables.ensures.value, cloths, ropes, c.in_ok-tables-4.ensures.value, c.in_ok-tables-5.ensures.value, c.in_ok-tables-6.ensures.value) (stops _ _ _ _ _ c.from_residual-in_err-tables-7.ensures.1 c.in_err-tables-7.ensures.value)
-
-pub returns : goal.returns
-unfolding tables_of
-returns c =
-    let cloths = simp c.len-count.ensures at c.in_ok-tables-2.ensures.value in
-    let ropes = simp (c.len-count.ensures, c.all_cloths_size.ensures, c.as_slice.ensures) at c.in_ok-tables-3.ensures.value in
-    rw (c.in_ok-tables.ensures.value, cloths, ropes, c.in_ok-tables-4.ensures.value, c.in_ok-tables-5.ensures.value, c.in_ok-tables-6.ensures.value, c.in_ok-tables-7.ensures.value) refl
+pub fill_from_links-requires : goal.fill_from_links-requires
+fill_from_links-requires c = record {
+  particles = c.in_ok-tables.ensures.value;
+  cloths = simp c.len-count.ensures at c.in_ok-tables-2.ensures.value;
+  ropes = simp (c.len-count.ensures, c.all_cloths_size.ensures, c.as_slice.ensures) at c.in_ok-tables-3.ensures.value;
+}

@@ -1,6 +1,4 @@
-use Rattle.std.proofs.Common.{◌≡◌, true, arith, w64, FitsSigned}
-use Rattle.std.proofs.lemmas.Int.{to_z-of_z}
-use Rattle.pbd_num.proofs.Sizes.{fits}
+use Rattle.std.proofs.Common.{◌≡◌, true}
 use Rattle.pbd_mesh.specs.declared.spec.ClothSpec.{ClothSpec}
 use Rattle.pbd_mesh.specs.Cloth.{cloth_fits}
 use Rattle.pbd_scene.specs.Entries.{cloth_size}
@@ -10,6 +8,4 @@ use Rattle.pbd_scene.proofs.mesh_entries.ClothsReader.read.Goals as goal
 pub returns-clause-keeps : goal.returns-clause-keeps
 returns-clause-keeps c =
     let s = c.args.self.now in
-    let wide : FitsSigned w64 s.limit.units = fits _ (omega arith) in
-    let fit = simp to_z-of_z at c.cloth_of.ensures.fits in
-    one_more {A = ClothSpec} (λ x. cloth_fits s.limit.units x ≡ true) cloth_size s.count c.args.before.now c.cloth_of.result c.requires.so_far.1 fit c.cloth_of.ensures.room
+    one_more {A = ClothSpec} (λ x. cloth_fits s.limit.units x ≡ true) cloth_size s.count c.args.before.now c.cloth_of.result c.requires.so_far.1 c.cloth_of.ensures.fits c.cloth_of.ensures.room
