@@ -1,5 +1,5 @@
 -- What a colouring keeps tells its batches.
-use Rattle.std.proofs.Common.{◌≡◌, inl, inr, false, ℕ, ◌+◌, ◌/◌, ◌&&◌, eqb, ◌<◌, ◌≤◌, Bool, true, List, [], replicate, get_or, length, sym, ap, subst, ◌∙◌, arith, slice_range}
+use Rattle.std.proofs.Common.{◌≡◌, refl, inl, inr, false, ℕ, ◌+◌, ◌/◌, ◌&&◌, eqb, ◌<◌, ◌≤◌, Bool, true, List, [], ◌∷◌, replicate, get_or, length, sym, ap, subst, ◌∙◌, arith, slice_range}
 use Rattle.std.proofs.lemmas.Bool.{cases_lt, false≢true}
 use Rattle.std.proofs.lemmas.List.{get_or_past, get_or-replicate}
 use Rattle.pbd_chain.specs.Linked.{Linked, is_in, chain_at}
@@ -11,11 +11,15 @@ use Rattle.pbd_colour.specs.Coloured.{by_colour}
 use Rattle.pbd_colour.specs.Coloured.{IsColoured}
 use Rattle.pbd_colour.specs.Swept.{ArePainted}
 use Rattle.pbd_world.proofs.GreedyLemmas.{colour-is_greedy}
-use Rattle.pbd_colour.proofs.Gathering.{by_colour-agree, order_is, begins_within, piece_is}
+use Rattle.pbd_colour.proofs.Gathering.{by_colour-agree, length-by_colour_le, order_is, begins_within, piece_is}
 
 -- colours that are right are below 64
 pub painted_within : (pairs : List (ℕ × ℕ)) (live : List Bool) (colours : List ℕ) → ArePainted pairs live colours → length live ≡ length pairs → (i : ℕ) → i < length live → live_at live i ≡ true → get_or colours i 0 < 64
 painted_within pairs live colours painted len i l a = let w = colour-is_greedy pairs live i in omega (arith, painted i (omega (arith, len, l)) a, w.within)
+
+no_more : (xs : List ℕ) → length xs ≤ 0 → xs ≡ []
+no_more [] l = refl
+no_more (x ∷ xs) l = absurd (omega (arith, l))
 
 -- what `gather` lists by colours that are right
 pub IsColoured-gathered : (pairs : List (ℕ × ℕ)) (live : List Bool) (colours numbers starts : List ℕ) → length live ≡ length pairs
@@ -27,6 +31,15 @@ IsColoured-gathered pairs live colours numbers starts len painted listed started
     let same : (m : ℕ) → by_colour live (λ k. get_or colours k 0) (length live) m ≡ by_colour live (colour pairs live) (length pairs) m =
     λ m. by_colour-agree live _ (colour pairs live) (length live) (λ i l a. painted i (omega (arith, len, l)) a) m ∙ ap (λ (n : ℕ). by_colour live (colour pairs live) n m) len in
     record { painted = painted; ordered = listed ∙ same 64 ∙ order_is pairs live; started = λ c l. started c l ∙ ap length (same c) }
+
+IsColoured-none : (starts : List ℕ) → ((c : ℕ) → c < 65 → get_or starts c 0 ≡ 0) → IsColoured [] [] [] [] starts
+IsColoured-none starts none =
+    let listed : (m : ℕ) → by_colour [] (λ k. get_or [] k 0) 0 m ≡ [] = λ m. no_more _ (length-by_colour_le [] (λ k. get_or [] k 0) 0 m) in
+    IsColoured-gathered [] [] [] [] starts refl (λ i l a. absurd (omega (arith, l))) (sym (listed 64)) (λ c l. none c l ∙ sym (ap length (listed c)))
+
+-- where there are no pairs yet
+pub IsColoured-opened : {pairs : List (ℕ × ℕ)} {live : List Bool} {colours numbers starts : List ℕ} → pairs ≡ [] → live ≡ [] → colours ≡ [] → numbers ≡ [] → starts ≡ replicate 65 0 → IsColoured pairs live colours numbers starts
+IsColoured-opened {starts = starts} p l c n s = rw (p, l, c, n) (IsColoured-none starts (λ d q. ap (λ (ss : List ℕ). get_or ss d 0) s ∙ get_or-replicate 65 d 0 0 q))
 
 module _ {pairs : List (ℕ × ℕ)} {live : List Bool} {colours numbers starts : List ℕ} (h : IsColoured pairs live colours numbers starts) where
   whole : numbers ≡ by_colour live (colour pairs live) (length pairs) 64

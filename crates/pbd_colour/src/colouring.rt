@@ -10,10 +10,10 @@ ghost use Rattle.pbd_colour.specs.Held.{Holds};
 ghost use Rattle.pbd_colour.specs.Marked.{AreBlocked};
 ghost use Rattle.pbd_colour.specs.Swept.{ArePainted};
 
-use crate::gather::gather;
+use crate::gather::{gather, open_order};
 use crate::held::{hold_instead, leads};
-use crate::lists::{copy_pairs, fill};
-use crate::marks::unmark_all;
+use crate::lists::{copy_pairs, fill, open_filled};
+use crate::marks::{open_marks, unmark_all};
 use crate::mend::mend;
 use crate::paint::paint;
 use crate::toward::{may_lead, tell_all};
@@ -55,6 +55,16 @@ impl Model for Colouring {
 
     ghost invariant = { λ s. IsKept s.particles s.room s.pairs s.live s.marks s.blocks
         s.colours s.used s.toward s.order s.starts s.chains };
+}
+
+// Two empty sets for each particle: of the colours of its pairs, and of where they lead.
+fn open_sets(alloc: Global, particles: u32) -> Result<(RoomList<u64>, RoomList<u64>), AllocError>
+    ensures used { IfOk result (λ both. both.0.entries ≡ replicate particles 0) }
+    ensures toward { IfOk result (λ both. both.1.entries ≡ replicate particles 0) }
+{
+    let used = open_filled(alloc, particles, 0, particles)?;
+    let toward = open_filled(alloc, particles, 0, particles)?;
+    Ok((used, toward))
 }
 
 // The numbers from the start of the c-th piece to that of the next.
@@ -131,28 +141,13 @@ impl Colouring {
         requires room { room ≤ 524288 }
         ensures { IfOk result (λ c. c ≡ record { particles = particles; room = room; pairs = []; live = [] }) }
     {
+        let chains = Chains::open(alloc, particles, 2 * room)?;
         let pairs = RoomList::open(alloc, room)?;
         let live = RoomList::open(alloc, room)?;
-        let marks = RoomList::open(alloc, room)?;
-        let mut blocks = RoomList::open(alloc, room / 256 + 1)?;
-        let mut colours = RoomList::open(alloc, room)?;
-        let mut used = RoomList::open(alloc, particles)?;
-        let mut toward = RoomList::open(alloc, particles)?;
-        let mut order = RoomList::open(alloc, room)?;
-        let mut starts = RoomList::open(alloc, 65)?;
-        let chains = Chains::open(alloc, particles, 2 * room)?;
-        fill(&mut blocks, false, 1);
-        fill(&mut used, 0, particles);
-        fill(&mut toward, 0, particles);
-        fill(&mut starts, 0, 65);
-        recolour(
-            pairs.as_slice(),
-            live.as_slice(),
-            used.as_mut_slice(),
-            colours.as_mut_slice(),
-            &mut order,
-            starts.as_mut_slice(),
-        );
+        let colours = RoomList::open(alloc, room)?;
+        let (marks, blocks) = open_marks(alloc, room)?;
+        let (used, toward) = open_sets(alloc, particles)?;
+        let (order, starts) = open_order(alloc, room)?;
         Ok(Colouring {
             particles,
             room,

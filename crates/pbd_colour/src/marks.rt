@@ -1,10 +1,24 @@
 //! Marks on numbers, of which the next is found without a look at each number: a block of 256 numbers has a mark of its own.
-ghost use Rattle.std.specs.Prelude.{◌≡◌, ◌+◌, ◌*◌, ◌/◌, ◌<◌, ◌≤◌, ◌||◌, ℕ, IsTrue, IsFalse, length, slice_set};
+ghost use Rattle.std.specs.Prelude.{◌≡◌, ◌+◌, ◌*◌, ◌/◌, ◌<◌, ◌≤◌, ◌||◌, [], ℕ, IfOk, IsTrue, IsFalse, false, length, replicate, slice_set};
 ghost use Rattle.pbd_world.specs.Colours.{live_at};
 ghost use Rattle.pbd_colour.specs.Marked.{AreBlocked, AreUnmarked};
 
-use crate::lists::fill;
+use crate::lists::{fill, open_filled};
 use pbd_world::RoomList;
+use std::alloc::{AllocError, Global};
+
+// Room for the marks of so many numbers, and for those of their blocks. There are no numbers yet, and one block.
+pub(crate) fn open_marks(
+    alloc: Global,
+    room: u32,
+) -> Result<(RoomList<bool>, RoomList<bool>), AllocError>
+    ensures marks { IfOk result (λ both. both.0 ≡ record { entries = []; room = room }) }
+    ensures blocks { IfOk result (λ both. both.1 ≡ record { entries = replicate 1 false; room = room / 256 + 1 }) }
+{
+    let marks = RoomList::open(alloc, room)?;
+    let blocks = open_filled(alloc, room / 256 + 1, false, 1)?;
+    Ok((marks, blocks))
+}
 
 // Whether one of the two holds.
 fn either(a: bool, b: bool) -> bool

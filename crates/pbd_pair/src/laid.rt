@@ -119,15 +119,23 @@ impl<const L: usize> BlockMoves<L> {
         requires { L ≤ 16 }
         ensures { (j : ℕ) → j < L → lane_in result j ≡ idle_lane }
     {
+        let moving = Mask::splat(false);
+        let leaving = moving;
+        let first_free = moving;
+        let second_free = moving;
+        let first = origins();
+        let second = first;
+        let first_move = first;
+        let second_move = first;
         BlockMoves {
-            moving: Mask::splat(false),
-            leaving: Mask::splat(false),
-            first: origins(),
-            second: origins(),
-            first_move: origins(),
-            second_move: origins(),
-            first_free: Mask::splat(false),
-            second_free: Mask::splat(false),
+            moving,
+            leaving,
+            first,
+            second,
+            first_move,
+            second_move,
+            first_free,
+            second_free,
         }
     }
 

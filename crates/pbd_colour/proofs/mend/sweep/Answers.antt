@@ -41,3 +41,12 @@ returns c =
       unmarked = none;
       blocked = none_blocked c.loop-i.marks c.forget.new.blocks (omega (arith, c.forget.auto.blocks, c.loop-i.invariant.blocked.count)) none;
     }
+
+pub overflow_cast-marks : goal.overflow_cast-marks
+overflow_cast-marks c = record { fits = omega (arith, c.loop-i-test.true, c.requires.few) }
+
+pub look_again-requires-clause-pairs : goal.look_again-requires-clause-pairs
+look_again-requires-clause-pairs c = c.requires.pairs
+
+pub look_again-requires-clause-swept : goal.look_again-requires-clause-swept
+look_again-requires-clause-swept c = c.loop-i.invariant.swept

@@ -1,4 +1,4 @@
-use Rattle.std.proofs.Common.{◌≡◌, ℕ, ◌^◌, add-one, ap, sym, ◌∙◌, arith, not, cond, length, get_or, true, subst}
+use Rattle.std.proofs.Common.{◌≡◌, ℕ, ◌^◌, add-one, refl, ap, sym, ◌∙◌, arith, not, cond, length, get_or, true, subst}
 use Rattle.pbd_lanes.specs.Lane.{is_set}
 use Rattle.pbd_num.specs.Vectors.{Within}
 use Rattle.pbd_world.specs.Ledger.{Ledger, ledger_of, booked}
@@ -40,3 +40,9 @@ returns-clause-value g c =
 
 pub returns-clause-room : goal.returns-clause-room
 returns-clause-room g c = λ n h. room_at _ (omega arith) (c.loop-j.invariant.room n h)
+
+pub loop-j-init : goal.loop-j-init
+loop-j-init g c = record { value = refl; room = λ n h. room_at _ (omega arith) h }
+
+pub get-requires : goal.get-requires
+get-requires g c = c.requires.numbers c.loop-j.j (omega arith)

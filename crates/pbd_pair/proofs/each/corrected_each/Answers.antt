@@ -57,3 +57,15 @@ returns g c =
       sound = λ k p m. moved_is_sound c.args.limit (C k) _ _ _ (inv.lanes k (omega arith)).lays (inv.sound k (omega arith)) m;
       idle = λ k q p. inv.idle k (omega arith) p;
     }
+
+pub correct-correction-requires-clause-limit : goal.correct-correction-requires-clause-limit
+correct-correction-requires-clause-limit g c =
+    let f : FitsSigned w64 c.args.limit = c.ranges.limit in
+    simp to_z-of_z c.requires.limit
+
+pub loop-j-init : goal.loop-j-init
+loop-j-init g c = record {
+  lanes = λ k p. absurd (omega (arith, p));
+  sound = λ k p. absurd (omega (arith, p));
+  idle = λ k q p. c.none-moves.ensures k p;
+}

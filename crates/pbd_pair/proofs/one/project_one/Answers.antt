@@ -4,7 +4,7 @@ use Rattle.pbd_world.specs.declared.bond.Correction.{Correction}
 use Rattle.pbd_world.specs.declared.bond.Correction.TheVariants.{Moves}
 use Rattle.pbd_world.specs.Ledger.{ledger_of}
 use Rattle.pbd_world.specs.Bonds.{corrected, end_of}
-use Rattle.pbd_pair.specs.Bonds.{IsSound}
+use Rattle.pbd_pair.specs.Bonds.{IsDrawn, IsSound}
 use Rattle.pbd_store.specs.Moving.{motion_of}
 use Rattle.pbd_pair.proofs.Single.{is_end, same_correction, moves_outcome}
 use Rattle.pbd_pair.proofs.Correcting.{inside-placed_by, fixed-placed_by}
@@ -47,3 +47,25 @@ returns-in-Moves-clause-inside g c =
 
 pub returns-in-Moves-clause-fixed : goal.returns-in-Moves-clause-fixed
 returns-in-Moves-clause-fixed g c = rw (c.put-in-Moves.ensures.particles, c.put.ensures.particles) (fixed-placed_by c.args.store.now.particles c.args.bond (Moves c.in-Moves.shift))
+
+pub returns-in-Slack-clause-inside : goal.returns-in-Slack-clause-inside
+returns-in-Slack-clause-inside g c = c.requires.inside
+
+pub returns-in-Leaves-clause-inside : goal.returns-in-Leaves-clause-inside
+returns-in-Leaves-clause-inside g c = c.requires.inside
+
+pub returns-in-Moves-clause-room : goal.returns-in-Moves-clause-room
+returns-in-Moves-clause-room g c = c.book.ensures.room
+
+pub returns-in-Moves-clause-limit : goal.returns-in-Moves-clause-limit
+returns-in-Moves-clause-limit g c = c.put-in-Moves.ensures.limit ∙ c.put.ensures.limit
+
+pub correct-requires-clause-limit : goal.correct-requires-clause-limit
+correct-requires-clause-limit g c =
+    let f : FitsSigned w64 c.limit_of-limit.result = search rules in
+    simp to_z-of_z c.limit_of-limit.ensures.bound
+
+pub correct-requires-clause-drawn : goal.correct-requires-clause-drawn
+correct-requires-clause-drawn g c =
+    let f : FitsSigned w64 c.limit_of-limit.result = search rules in
+    simp to_z-of_z (subst (λ (l : ℤ). IsDrawn l c.args.bond) (sym c.limit_of-limit.ensures.value) c.requires.bond.drawn)

@@ -1,4 +1,4 @@
-use Rattle.std.proofs.Common.{◌≡◌, ℕ, pos, ◌+◌, ◌*◌, ◌≤◌, ◌^◌, ◌≤ℤ◌, IsTrue, add-one, arith, ap, subst, sym, ◌∙◌, unsigned_abs, w64, FitsSigned}
+use Rattle.std.proofs.Common.{◌≡◌, ℕ, pos, ◌+◌, ◌*◌, ◌≤◌, ◌^◌, ◌≤ℤ◌, IsTrue, add-one, arith, refl, ap, subst, sym, ◌∙◌, unsigned_abs, w64, FitsSigned}
 use Rattle.std.proofs.lemmas.Int.{to_z-of_z}
 use Rattle.std.proofs.lemmas.Bool.{and_parts}
 use Rattle.pbd_num.specs.declared.tried.Draw.{Draw}
@@ -69,3 +69,17 @@ returns-clause-places g c = λ r.
 
 pub returns-clause-size : goal.returns-clause-size
 returns-clause-size g c = wider c.loop-j.sum (c.loop-j.j * 2 ^ 32) (2 ^ 36) (omega (arith, c.requires.lanes)) c.loop-j.invariant.size
+
+pub try_shift-tried-requires-clause-limit : goal.try_shift-tried-requires-clause-limit
+try_shift-tried-requires-clause-limit g c =
+    let f : FitsSigned w64 c.args.limit = c.ranges.limit in
+    simp to_z-of_z c.requires.limit
+
+pub loop-j-init : goal.loop-j-init
+loop-j-init g c = record {
+  does = λ r k p. absurd (omega (arith, p));
+  first = λ r k p. absurd (omega (arith, p));
+  second = λ r k p. absurd (omega (arith, p));
+  moved = λ r. refl;
+  size = record { x = omega arith; y = omega arith; z = omega arith };
+}

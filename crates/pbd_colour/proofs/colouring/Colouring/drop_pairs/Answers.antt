@@ -1,7 +1,7 @@
 use Rattle.std.proofs.Common.{◌≡◌, ◌∙◌, ◌<◌, sym, ap, subst, Bool, List, get_or, length, arith}
 use Rattle.pbd_world.specs.Lending.{overwritten_is}
 use Rattle.pbd_world.specs.Colours.{live_at}
-use Rattle.pbd_colour.specs.Pairs.{Coloured}
+use Rattle.pbd_colour.specs.Pairs.{Coloured, dropped}
 use Rattle.pbd_colour.proofs.KeptLemmas.{live_below, InRange-as, ArePainted-as, IsColoured-as, AreBlocked-as, Holds-as}
 use Rattle.pbd_colour.proofs.colouring.Colouring.drop_pairs.Goals as goal
 
@@ -61,3 +61,10 @@ recolour_without-requires c =
           (live_below c.self.inside.live.entries n (ap (λ (s : Coloured). live_at s.live n) c.self.view_is ∙ c.requires.live k l));
       blocked = AreBlocked-as marks blocks c.self.invariant.blocked;
     }
+
+pub returns : goal.returns
+returns c =
+    let size : length c.recolour_without.new.live ≡ length c.self.inside.live.entries = c.recolour_without.auto.live ∙ ap length c.as_mut_slice.ensures.value in
+    let live = overwritten_is c.self.inside.live.entries c.recolour_without.new.live size ∙ c.recolour_without.ensures.live ∙ ap (dropped c.args.sorted.now) c.as_mut_slice.ensures.value in
+    let colouring : List Bool → Coloured = λ bs. record { particles = c.self.inside.particles; room = c.self.inside.room; pairs = c.self.inside.pairs.entries; live = bs } in
+    ap colouring live ∙ ap (λ (s : Coloured). record s { live = dropped c.args.sorted.now s.live }) c.self.view_is

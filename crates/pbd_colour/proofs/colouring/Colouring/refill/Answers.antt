@@ -1,11 +1,12 @@
-use Rattle.std.proofs.Common.{rules, ◌≡◌, ◌∙◌, ◌/◌, ◌&&◌, eqb, sym, ap, subst, true, Bool, ℕ, List, length, arith}
+use Rattle.std.proofs.Common.{◌≡◌, ◌∙◌, ◌/◌, ◌&&◌, eqb, sym, ap, subst, true, Bool, ℕ, List, length, arith}
 use Rattle.std.proofs.lemmas.List.{length-replicate}
 use Rattle.pbd_world.specs.Room.{Roomed}
 use Rattle.pbd_world.specs.Lending.{overwritten, overwritten_is}
 use Rattle.pbd_world.specs.Colours.{live_at}
-use Rattle.pbd_colour.specs.Coloured.{IsColoured}
 use Rattle.pbd_colour.specs.Held.{end_at}
+use Rattle.pbd_colour.specs.Pairs.{Coloured}
 use Rattle.pbd_colour.specs.Toward.{AreTold}
+use Rattle.pbd_colour.proofs.KeptLemmas.{InRange-as, IsColoured-as}
 use Rattle.pbd_colour.proofs.Marking.{before_live}
 use Rattle.pbd_colour.proofs.colouring.Colouring.refill.Goals as goal
 
@@ -23,27 +24,23 @@ invariant_of-self c =
     let starts = overwritten_is c.self.inside.starts.entries c.recolour.new.starts starts_size in
     record {
       few = c.self.invariant.few;
-      within = search rules;
-      pairs_room = search rules;
-      live_room = search rules;
-      marks_room = search rules;
-      blocks_room = search rules;
-      colours_room = search rules;
-      order_room = search rules;
+      within = omega (arith, ap length pairs, c.requires.fits, ap (λ (s : Coloured). s.room) c.self.view_is);
+      pairs_room = ap (λ (r : Roomed (ℕ × ℕ)). r.room) c.copy_pairs.ensures ∙ c.self.invariant.pairs_room;
+      live_room = ap (λ (r : Roomed Bool). r.room) c.fill.ensures ∙ c.self.invariant.live_room;
+      marks_room = c.unmark_all.ensures.marks_room ∙ c.self.invariant.marks_room;
+      blocks_room = c.unmark_all.ensures.blocks_room ∙ c.self.invariant.blocks_room;
+      colours_room = ap (λ (r : Roomed ℕ). r.room) c.fill-2.ensures ∙ c.self.invariant.colours_room;
+      order_room = c.recolour.ensures.room ∙ c.self.invariant.order_room;
       live_length = ap length live ∙ length-replicate (length c.args.pairs.now) true ∙ sym (ap length pairs);
-      marks_length = search rules;
+      marks_length = c.unmark_all.ensures.count ∙ sym (ap length pairs);
       unmarked = c.unmark_all.ensures.unmarked;
       blocked = c.unmark_all.ensures.blocked;
       colours_length = ap length colours ∙ colours_size ∙ ap (λ (r : Roomed ℕ). length r.entries) c.fill-2.ensures ∙ length-replicate (length c.args.pairs.now) 0 ∙ sym (ap length pairs);
       used_length = ap length used ∙ used_size ∙ c.self.invariant.used_length;
       toward_length = ap length sets ∙ sets_size ∙ c.self.invariant.toward_length;
       starts_length = ap length starts ∙ starts_size ∙ c.self.invariant.starts_length;
-      in_range = search rules;
-      coloured =
-          subst (λ (ss : List ℕ). IsColoured c.copy_pairs.new.list.entries c.fill.new.list.entries (overwritten c.fill-2.new.list.entries c.recolour.new.colours) c.recolour.new.order.entries ss) (sym starts)
-          (subst (λ (cs : List ℕ). IsColoured c.copy_pairs.new.list.entries c.fill.new.list.entries cs c.recolour.new.order.entries c.recolour.new.starts) (sym colours)
-          (subst (λ (bs : List Bool). IsColoured c.copy_pairs.new.list.entries bs c.recolour.new.colours c.recolour.new.order.entries c.recolour.new.starts) c.as_slice-3.ensures
-          (subst (λ (ps : List (ℕ × ℕ)). IsColoured ps c.as_slice-3.result.now c.recolour.new.colours c.recolour.new.order.entries c.recolour.new.starts) c.as_slice-2.ensures c.recolour.ensures.coloured)));
+      in_range = InRange-as (sym (ap (λ (s : Coloured). s.particles) c.self.view_is)) (sym pairs) c.requires.in_range;
+      coloured = IsColoured-as c.as_slice-2.ensures c.as_slice-3.ensures (sym colours) (sym starts) c.recolour.ensures.coloured;
       told = subst (λ (ps : List (ℕ × ℕ)). AreTold ps (overwritten c.self.inside.toward.entries c.tell_all.new.sets)) (sym pairs)
           (subst (AreTold c.args.pairs.now) (sym sets) c.tell_all.ensures);
       held = record {
@@ -54,3 +51,21 @@ invariant_of-self c =
             ∙ ap (λ (ps : List (ℕ × ℕ)). live_at c.fill.new.list.entries (x / 2) && eqb (end_at ps x) p) (sym pairs);
       };
     }
+
+pub recolour-requires : goal.recolour-requires
+recolour-requires c =
+    let pairs : c.as_slice-2.result.now ≡ c.args.pairs.now = c.as_slice-2.ensures ∙ ap (λ (r : Roomed (ℕ × ℕ)). r.entries) c.copy_pairs.ensures in
+    let count : length c.args.pairs.now ≡ length c.as_slice-2.result.now = sym (ap length pairs) in
+    let live : length c.as_slice-3.result.now ≡ length c.args.pairs.now = ap length (c.as_slice-3.ensures ∙ ap (λ (r : Roomed Bool). r.entries) c.fill.ensures) ∙ length-replicate (length c.args.pairs.now) true in
+    let room = ap (λ (s : Coloured). s.room) c.self.view_is in
+    record {
+      pairs = InRange-as (sym (ap length c.as_mut_slice-3.ensures.value ∙ c.self.invariant.used_length ∙ ap (λ (s : Coloured). s.particles) c.self.view_is)) (sym pairs) c.requires.in_range;
+      live = live ∙ count;
+      colours = ap length c.as_mut_slice-4.ensures.value ∙ ap (λ (r : Roomed ℕ). length r.entries) c.fill-2.ensures ∙ length-replicate (length c.args.pairs.now) 0 ∙ count;
+      few = omega (arith, live, c.requires.fits, room, c.self.invariant.few);
+      numbers = omega (arith, live, c.requires.fits, room, c.self.invariant.order_room);
+      starts = ap length c.as_mut_slice-5.ensures.value ∙ c.self.invariant.starts_length;
+    }
+
+pub fill-requires-2 : goal.fill-requires-2
+fill-requires-2 c = omega (arith, c.requires.fits, ap (λ (s : Coloured). s.room) c.self.view_is, c.self.invariant.colours_room)

@@ -1,5 +1,6 @@
-use Rattle.std.proofs.Common.{◌≡◌, ℕ, ◌-◌, ◌^◌, rules, ◌<◌, ◌≤◌, min, length, List, ap, sym, ◌∙◌, arith, subst, ℤ}
-use Rattle.std.proofs.lemmas.Bool.{eqb-false}
+use Rattle.std.proofs.Common.{◌≡◌, ℕ, ◌-◌, ◌^◌, rules, refl, ◌<◌, ◌≤◌, min, length, List, ap, sym, ◌∙◌, arith, subst, ℤ}
+use Rattle.std.proofs.lemmas.Bool.{eqb-false, eqb-true}
+use Rattle.std.proofs.lemmas.List.{nil_from_length}
 use Rattle.pbd_world.specs.Bonds.{projected}
 use Rattle.pbd_pair.specs.Bonds.{bond_of}
 use Rattle.pbd_store.specs.Moving.{motion_of, AreInside}
@@ -76,3 +77,30 @@ project_block-requires g c =
         },
       ),
     )
+
+pub steps_on-init : goal.steps_on-init
+steps_on-init g c = record {
+  batch = c.requires.batch;
+  inside = c.requires.inside;
+  weights = c.requires.weights;
+  room = room_at _ (omega arith) c.requires.room;
+  grows = λ n h. room_at _ (omega arith) h;
+  shorter = omega arith;
+  same = refl;
+  limit = refl;
+  fixed = refl;
+  cost = omega arith;
+}
+
+pub returns-in-Err-clause-cost : goal.returns-in-Err-clause-cost
+returns-in-Err-clause-cost g c =
+    let rest = c.steps_on.rest.now in
+    let size : c.min-size.result ≡ min (length rest) g.row.L = c.min-size.ensures in
+    let ne = eqb-false (length rest) 0 (sym c.is_empty.ensures ∙ c.steps_on-test.true) in
+    let some : 0 < length rest = omega (arith, ne) in
+    omega (arith, fewer_blocks (length rest) c.min-size.result g.row.L c.requires.lanes_low some size, c.steps_on.invariant.cost, c.project_block.ensures.cost)
+
+pub returns-clause-outcome : goal.returns-clause-outcome
+returns-clause-outcome g c =
+    let none = nil_from_length c.steps_on.rest.now (eqb-true (length c.steps_on.rest.now) 0 (sym c.is_empty.ensures ∙ c.steps_on-test.false)) in
+    sym c.steps_on.invariant.same ∙ ap (λ (b : List ℕ). projected c.steps_on.store.limit (bond_of c.args.bonds) b (motion_of c.steps_on.store c.steps_on.totals)) none

@@ -1,4 +1,7 @@
-use Rattle.std.proofs.Common.{arith, refl, ◌∙◌, sym, subst, ℤ, get_or, Ok, Err}
+use Rattle.std.proofs.Common.{arith, refl, ◌∙◌, sym, subst, ℕ, ℤ, List, get_or, Result, Ok, Err}
+use Rattle.std.proofs.lemmas.List.{at_drop_all}
+use Rattle.pbd_world.specs.Particles.{Motion}
+use Rattle.pbd_world.specs.Bonds.{projected}
 use Rattle.pbd_pair.specs.Bonds.{bond_of}
 use Rattle.pbd_store.specs.Moving.{motion_of, AreInside}
 use Rattle.pbd_world.proofs.Rooms.{room_at}
@@ -50,3 +53,8 @@ loop-n-init g c = record {
 
 pub returns-clause-room : goal.returns-clause-room
 returns-clause-room g c = λ n h. room_at _ (omega (arith, c.loop-n-test.false)) (c.loop-n.invariant.grows n h)
+
+pub returns-clause-outcome : goal.returns-clause-outcome
+returns-clause-outcome g c =
+    let left : List ℕ → Result Motion ℕ = λ b. projected c.args.store.now.limit (bond_of c.args.bonds) b (motion_of c.loop-n.store c.loop-n.totals) in
+    sym c.loop-n.invariant.same ∙ at_drop_all left c.args.batch.now c.loop-n.n-index (omega (arith, c.loop-n-test.false))
