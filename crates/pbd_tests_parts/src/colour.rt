@@ -36,7 +36,8 @@ fn coloured(
     ensures particles { IfOk result (λ c. c.particles ≡ particles) }
     ensures few { length pairs.now ≤ 2415 }
 {
-    assert!(rt; particles <= 70 && pairs.len() <= 2415);
+    assert!(rt; particles <= 70);
+    assert!(rt; pairs.len() <= 2415);
     assert!(rt; are_in_range(pairs, particles));
     let mut colouring = Colouring::open(alloc, particles, pairs.len() as u32)?;
     colouring.refill(pairs);
@@ -98,14 +99,16 @@ fn try_colours(rt: &impl Abort, colouring: &mut Colouring, case: &Case)
     requires few { length case.now.pairs.now ≤ 2415 }
 {
     let count = case.pairs.len();
-    assert!(rt; case.colours.len() == count && case.mended.len() == count);
+    assert!(rt; case.colours.len() == count);
+    assert!(rt; case.mended.len() == count);
     assert!(rt; has_colours(colouring, case.colours));
     drop_some(rt, colouring, count as u32, case.dropped);
     assert!(rt; has_colours(colouring, case.mended));
     assert!(rt; has_batch(colouring, 0, case.first_batch));
     assert!(rt; has_batch(colouring, case.last_batch.0, case.last_batch.1));
     let (a, b) = case.unlinked;
-    assert!(rt; a < case.particles && b < case.particles);
+    assert!(rt; a < case.particles);
+    assert!(rt; b < case.particles);
     assert!(rt; !colouring.linked(a, b));
 }
 
@@ -259,7 +262,8 @@ fn try_without_first(rt: &impl Abort, all: &mut Colouring, pairs: &[(u32, u32)],
     requires count { length pairs.now ≡ 2415 }
     requires fewer { length fewer.now.pairs ≡ 2346 }
 {
-    assert!(rt; all.live_count() == 2415 && all.serial().len() == 384);
+    assert!(rt; all.live_count() == 2415);
+    assert!(rt; all.serial().len() == 384);
     assert!(rt; has_known_colours(all, pairs));
     drop_some(rt, all, pairs.len() as u32, &first_numbers());
     assert!(rt; all.live_count() == 2346);
@@ -293,7 +297,8 @@ fn try_seventy(
     pairs: &[(u32, u32)],
     others: &[(u32, u32)],
 ) -> Result<(), AllocError> {
-    assert!(rt; pairs.len() == 2415 && others.len() == 2346);
+    assert!(rt; pairs.len() == 2415);
+    assert!(rt; others.len() == 2346);
     match coloured(rt, alloc, 70, others) {
         Ok(fewer) => {
             let tried = try_all(rt, alloc, pairs, &fewer);
