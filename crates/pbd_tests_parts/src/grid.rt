@@ -175,7 +175,7 @@ fn try_places(
     };
     match near_of_all(alloc, places, thickness, &filter) {
         Ok(expected) => {
-            assert_eq!(rt; expected.len(), wanted);
+            assert!(rt; expected.len() == wanted);
             let near = Near {
                 places,
                 thickness,
@@ -240,9 +240,8 @@ static PLACES: [(i64, &[Vec3], usize); 5] = [
 #[test]
 fn near_pairs_are_those_of_all(rt: HostRuntime) {
     for (thickness, places, wanted) in &PLACES {
-        assert_eq!(rt;
-            try_places(&rt, rt.alloc(), *thickness, places, *wanted),
-            [Ok(true); 2],
+        assert!(rt;
+            try_places(&rt, rt.alloc(), *thickness, places, *wanted) == [Ok(true); 2],
             "{places:?}"
         );
     }
