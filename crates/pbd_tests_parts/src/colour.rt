@@ -6,7 +6,6 @@ use crate::pairs::are_in_range;
 use pbd_colour::Colouring;
 use std::alloc::{AllocError, Global};
 use std::process::Abort;
-use std::test::Fail;
 
 // Whether numbers below n rise.
 fn are_rising(numbers: &[u32], n: u32) -> bool
@@ -36,7 +35,8 @@ fn coloured(
     ensures particles { IfOk result (λ c. c.particles ≡ particles) }
     ensures few { length pairs.now ≤ 2415 }
 {
-    assert!(rt; particles <= 70 && pairs.len() <= 2415);
+    assert!(rt; particles <= 70);
+    assert!(rt; pairs.len() <= 2415);
     assert!(rt; are_in_range(pairs, particles));
     let mut colouring = Colouring::open(alloc, particles, pairs.len() as u32)?;
     colouring.refill(pairs);
@@ -98,14 +98,16 @@ fn try_colours(rt: &impl Abort, colouring: &mut Colouring, case: &Case)
     requires few { length case.now.pairs.now ≤ 2415 }
 {
     let count = case.pairs.len();
-    assert!(rt; case.colours.len() == count && case.mended.len() == count);
+    assert!(rt; case.colours.len() == count);
+    assert!(rt; case.mended.len() == count);
     assert!(rt; has_colours(colouring, case.colours));
     drop_some(rt, colouring, count as u32, case.dropped);
     assert!(rt; has_colours(colouring, case.mended));
     assert!(rt; has_batch(colouring, 0, case.first_batch));
     assert!(rt; has_batch(colouring, case.last_batch.0, case.last_batch.1));
     let (a, b) = case.unlinked;
-    assert!(rt; a < case.particles && b < case.particles);
+    assert!(rt; a < case.particles);
+    assert!(rt; b < case.particles);
     assert!(rt; !colouring.linked(a, b));
 }
 
@@ -133,7 +135,7 @@ static FOUR_PAIRS: Case = Case {
 
 #[test]
 fn colours_before_and_after_a_drop(rt: HostRuntime) {
-    assert_eq!(rt; try_case(&rt, rt.alloc(), &FOUR_PAIRS), Ok(()));
+    assert!(rt; try_case(&rt, rt.alloc(), &FOUR_PAIRS) == Ok(()));
 }
 
 // Two rows and three columns: the sides, the diagonals, and the links over two particles.
@@ -192,7 +194,7 @@ static CLOTH: Case = Case {
 
 #[test]
 fn colours_of_a_cloth(rt: HostRuntime) {
-    assert_eq!(rt; try_case(&rt, rt.alloc(), &CLOTH), Ok(()));
+    assert!(rt; try_case(&rt, rt.alloc(), &CLOTH) == Ok(()));
 }
 
 // The pairs i < j of seventy particles, from i on.
@@ -259,7 +261,8 @@ fn try_without_first(rt: &impl Abort, all: &mut Colouring, pairs: &[(u32, u32)],
     requires count { length pairs.now ≡ 2415 }
     requires fewer { length fewer.now.pairs ≡ 2346 }
 {
-    assert!(rt; all.live_count() == 2415 && all.serial().len() == 384);
+    assert!(rt; all.live_count() == 2415);
+    assert!(rt; all.serial().len() == 384);
     assert!(rt; has_known_colours(all, pairs));
     drop_some(rt, all, pairs.len() as u32, &first_numbers());
     assert!(rt; all.live_count() == 2346);
@@ -293,7 +296,8 @@ fn try_seventy(
     pairs: &[(u32, u32)],
     others: &[(u32, u32)],
 ) -> Result<(), AllocError> {
-    assert!(rt; pairs.len() == 2415 && others.len() == 2346);
+    assert!(rt; pairs.len() == 2415);
+    assert!(rt; others.len() == 2346);
     match coloured(rt, alloc, 70, others) {
         Ok(fewer) => {
             let tried = try_all(rt, alloc, pairs, &fewer);
@@ -317,10 +321,9 @@ fn try_others(rt: &impl Abort, alloc: Global, pairs: &[(u32, u32)]) -> Result<()
 }
 
 #[test]
-fn seventy_particles(rt: HostRuntime) -> Result<(), Fail> {
-    let pairs = pairs_from(rt.alloc(), 0)?;
+fn seventy_particles(rt: HostRuntime) {
+    let pairs = pairs_from(rt.alloc(), 0).expect(&rt, "no memory");
     let tried = try_others(&rt, rt.alloc(), pairs.as_slice());
     drop(pairs);
-    assert_eq!(rt; tried, Ok(()));
-    Ok(())
+    assert!(rt; tried == Ok(()));
 }

@@ -102,13 +102,11 @@ fn finds(near: &Near<'_>, grid: &mut Grid, out: &mut RoomList<(u32, u32)>) -> bo
     fits && out.as_slice() == near.wanted
 }
 
+// Whether it does, unless there is no memory.
+type Found = Result<bool, AllocError>;
+
 // The same with room for so many.
-fn finds_with(
-    alloc: Global,
-    near: &Near<'_>,
-    grid: &mut Grid,
-    room: u32,
-) -> Result<bool, AllocError>
+fn finds_with(alloc: Global, near: &Near<'_>, grid: &mut Grid, room: u32) -> Found
     requires places { length near.now.places.now ≡ grid.old }
     requires inside { AllInside near.now.places.now }
     requires count { near.now.filter.count ≡ grid.old }
@@ -127,7 +125,7 @@ fn finds_with(
 }
 
 // Compares a grid with the wanted pairs, at a room that is just enough and at one too small.
-fn finds_both(alloc: Global, near: &Near<'_>, grid: &mut Grid) -> Result<[bool; 2], AllocError>
+fn finds_both(alloc: Global, near: &Near<'_>, grid: &mut Grid) -> [Found; 2]
     requires places { length near.now.places.now ≡ grid.old }
     requires inside { AllInside near.now.places.now }
     requires count { near.now.filter.count ≡ grid.old }
@@ -136,24 +134,27 @@ fn finds_both(alloc: Global, near: &Near<'_>, grid: &mut Grid) -> Result<[bool; 
     requires few { length near.now.wanted.now ≤ 64 }
 {
     let room = near.wanted.len() as u32;
-    let enough = finds_with(alloc, near, grid, room)?;
-    let less = finds_with(alloc, near, grid, room.saturating_sub(1))?;
-    Ok([enough, less])
+    [
+        finds_with(alloc, near, grid, room),
+        finds_with(alloc, near, grid, room.saturating_sub(1)),
+    ]
 }
 
 // The same with a grid of its own.
-fn try_near(rt: &impl Abort, alloc: Global, near: &Near<'_>) -> Result<[bool; 2], AllocError> {
-    assert!(rt; near.places.len() <= 64 && near.wanted.len() <= 64);
+fn try_near(rt: &impl Abort, alloc: Global, near: &Near<'_>) -> [Found; 2] {
+    assert!(rt; near.places.len() <= 64);
+    assert!(rt; near.wanted.len() <= 64);
     assert!(rt; near.filter.count as usize == near.places.len());
     assert!(rt; are_inside(near.places));
-    assert!(rt; 1 <= near.thickness && near.thickness <= 1_048_576);
+    assert!(rt; 1 <= near.thickness);
+    assert!(rt; near.thickness <= 1_048_576);
     match Grid::open(alloc, near.places.len() as u32) {
         Ok(mut grid) => {
             let found = finds_both(alloc, near, &mut grid);
             drop(grid);
             found
         }
-        Err(error) => Err(error),
+        Err(error) => [Err(error); 2],
     }
 }
 
@@ -164,8 +165,9 @@ fn try_places(
     thickness: i64,
     places: &[Vec3],
     wanted: usize,
-) -> Result<[bool; 2], AllocError> {
-    assert!(rt; places.len() <= 64 && wanted <= 64);
+) -> [Found; 2] {
+    assert!(rt; places.len() <= 64);
+    assert!(rt; wanted <= 64);
     let filter = AllBut {
         count: places.len() as u32,
         first: 0,
@@ -173,7 +175,7 @@ fn try_places(
     };
     match near_of_all(alloc, places, thickness, &filter) {
         Ok(expected) => {
-            assert_eq!(rt; expected.len(), wanted);
+            assert!(rt; expected.len() == wanted);
             let near = Near {
                 places,
                 thickness,
@@ -184,7 +186,7 @@ fn try_places(
             drop(expected);
             found
         }
-        Err(error) => Err(error),
+        Err(error) => [Err(error); 2],
     }
 }
 
@@ -238,9 +240,8 @@ static PLACES: [(i64, &[Vec3], usize); 5] = [
 #[test]
 fn near_pairs_are_those_of_all(rt: HostRuntime) {
     for (thickness, places, wanted) in &PLACES {
-        assert_eq!(rt;
-            try_places(&rt, rt.alloc(), *thickness, places, *wanted),
-            Ok([true; 2]),
+        assert!(rt;
+            try_places(&rt, rt.alloc(), *thickness, places, *wanted) == [Ok(true); 2],
             "{places:?}"
         );
     }

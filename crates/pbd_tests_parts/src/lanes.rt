@@ -11,19 +11,30 @@ struct Seen<const L: usize> {
     ones: [i64; L],
 }
 
-fn see<const L: usize>(a: [i64; L], b: [i64; L], set: [bool; L], other: [bool; L]) -> Seen<L>
+/// Numbers, which of their lanes are set in two masks, and what is seen of them.
+struct Case<const L: usize> {
+    x: [i64; L],
+    y: [i64; L],
+    set: [bool; L],
+    other: [bool; L],
+    seen: Seen<L>,
+}
+
+/// Whether a case is seen so.
+fn holds<const L: usize>(case: &Case<L>) -> bool
     requires { L ≤ 16 }
 {
-    let x = Lanes::from_array(a);
-    let y = Lanes::from_array(b);
-    let mask = Mask::from_array(set);
-    let both = mask.and(&Mask::from_array(other));
-    Seen {
+    let x = Lanes::from_array(case.x);
+    let y = Lanes::from_array(case.y);
+    let mask = Mask::from_array(case.set);
+    let both = mask.and(&Mask::from_array(case.other));
+    let seen = Seen {
         chosen: Lanes::select(&mask, &x, &y).to_array(),
         both: both.to_array(),
         first: both.first(),
         ones: Lanes::splat(1).to_array(),
-    }
+    };
+    seen == case.seen
 }
 
 /// Four lanes, what was put into one of them, and what one of them has.
@@ -41,85 +52,78 @@ fn changed(put: usize, seen: usize) -> ([i64; 4], [bool; 4], i64, bool)
 
 #[test]
 fn puts_into_one_lane(rt: HostRuntime) {
-    let first = ([8, 3, 3, 3], [true, false, false, false], 3, false);
-    let third = ([3, 3, 8, 3], [false, false, true, false], 8, true);
-    assert!(rt; changed(0, 3) == first);
-    assert!(rt; changed(2, 2) == third);
+    let four = [changed(0, 3), changed(2, 2)];
+    let wanted = [
+        ([8, 3, 3, 3], [true, false, false, false], 3, false),
+        ([3, 3, 8, 3], [false, false, true, false], 8, true),
+    ];
+    assert!(rt; four == wanted);
 }
 
-#[test]
-fn width_1(rt: HostRuntime) {
-    let seen = see([-2], [4], [false], [true]);
-    let wanted = Seen {
+static ONE: Case<1> = Case {
+    x: [-2],
+    y: [4],
+    set: [false],
+    other: [true],
+    seen: Seen {
         chosen: [4],
         both: [false],
         first: None,
         ones: [1],
-    };
-    assert!(rt; seen == wanted);
-}
+    },
+};
 
-#[test]
-fn width_2(rt: HostRuntime) {
-    let seen = see([6, -2], [5, 4], [true, true], [false, true]);
-    let wanted = Seen {
+static TWO: Case<2> = Case {
+    x: [6, -2],
+    y: [5, 4],
+    set: [true, true],
+    other: [false, true],
+    seen: Seen {
         chosen: [6, -2],
         both: [false, true],
         first: Some(1),
         ones: [1, 1],
-    };
-    assert!(rt; seen == wanted);
-}
+    },
+};
 
-#[test]
-fn width_4(rt: HostRuntime) {
-    let seen = see(
-        [-9, 4, 6, -2],
-        [6, 8, 5, 4],
-        [false, false, true, true],
-        [true, true, false, true],
-    );
-    let wanted = Seen {
+static FOUR: Case<4> = Case {
+    x: [-9, 4, 6, -2],
+    y: [6, 8, 5, 4],
+    set: [false, false, true, true],
+    other: [true, true, false, true],
+    seen: Seen {
         chosen: [6, 8, 6, -2],
         both: [false, false, false, true],
         first: Some(3),
         ones: [1, 1, 1, 1],
-    };
-    assert!(rt; seen == wanted);
-}
+    },
+};
 
-#[test]
-fn width_8(rt: HostRuntime) {
-    let seen = see(
-        [2, -6, 7, 1, -9, 4, 6, -2],
-        [4, 7, 2, 3, 6, 8, 5, 4],
-        [false, true, false, true, true, false, true, true],
-        [true, true, false, true, true, true, false, true],
-    );
-    let wanted = Seen {
+static EIGHT: Case<8> = Case {
+    x: [2, -6, 7, 1, -9, 4, 6, -2],
+    y: [4, 7, 2, 3, 6, 8, 5, 4],
+    set: [false, true, false, true, true, false, true, true],
+    other: [true, true, false, true, true, true, false, true],
+    seen: Seen {
         chosen: [4, -6, 2, 1, -9, 8, 6, -2],
         both: [false, true, false, true, true, false, false, true],
         first: Some(1),
         ones: [1, 1, 1, 1, 1, 1, 1, 1],
-    };
-    assert!(rt; seen == wanted);
-}
+    },
+};
 
-#[test]
-fn width_16(rt: HostRuntime) {
-    let seen = see(
-        [-7, 5, 0, 9, -1, 8, 3, -4, 2, -6, 7, 1, -9, 4, 6, -2],
-        [2, 3, 4, 2, 3, 5, 2, 3, 4, 7, 2, 3, 6, 8, 5, 4],
-        [
-            true, false, true, true, false, true, true, false, false, true, false, true, true,
-            false, true, true,
-        ],
-        [
-            true, false, true, false, true, false, false, true, true, true, false, true, true,
-            true, false, true,
-        ],
-    );
-    let wanted = Seen {
+static SIXTEEN: Case<16> = Case {
+    x: [-7, 5, 0, 9, -1, 8, 3, -4, 2, -6, 7, 1, -9, 4, 6, -2],
+    y: [2, 3, 4, 2, 3, 5, 2, 3, 4, 7, 2, 3, 6, 8, 5, 4],
+    set: [
+        true, false, true, true, false, true, true, false, false, true, false, true, true, false,
+        true, true,
+    ],
+    other: [
+        true, false, true, false, true, false, false, true, true, true, false, true, true, true,
+        false, true,
+    ],
+    seen: Seen {
         chosen: [-7, 3, 0, 9, 3, 8, 3, 3, 4, -6, 2, 1, -9, 8, 6, -2],
         both: [
             true, false, true, false, false, false, false, false, false, true, false, true, true,
@@ -127,6 +131,17 @@ fn width_16(rt: HostRuntime) {
         ],
         first: Some(0),
         ones: [1, 1, 1, 1, 1, 1, 1, 1, 1, 1, 1, 1, 1, 1, 1, 1],
-    };
-    assert!(rt; seen == wanted);
+    },
+};
+
+#[test]
+fn each_width(rt: HostRuntime) {
+    let told = [
+        holds(&ONE),
+        holds(&TWO),
+        holds(&FOUR),
+        holds(&EIGHT),
+        holds(&SIXTEEN),
+    ];
+    assert!(rt; told == [true; 5]);
 }

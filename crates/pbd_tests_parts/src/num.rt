@@ -66,10 +66,7 @@ fn rounds_halves_away_from_zero(rt: HostRuntime) {
         rdiv(-(1 << 39), 1 << 40),
         rdiv((1 << 39) - 1, 1 << 40),
     ];
-    assert_eq!(rt;
-        near_halves,
-        [3, -3, 1, -1, 0, 1 << 61, -2_097_152, 1, -1, 0]
-    );
+    assert!(rt; near_halves == [3, -3, 1, -1, 0, 1 << 61, -2_097_152, 1, -1, 0]);
 }
 
 #[test]
@@ -82,7 +79,7 @@ fn takes_whole_roots(rt: HostRuntime) {
         root(3 << 60),
         root(i64::MAX),
     ];
-    assert_eq!(rt; roots, [0, 1, 4, 5, 1_859_775_393, 3_037_000_499]);
+    assert!(rt; roots == [0, 1, 4, 5, 1_859_775_393, 3_037_000_499]);
 }
 
 /// The sum of places that are in range, and the ways from the second to the first and back.
@@ -132,9 +129,9 @@ static CALCULATED: [Calculated; 2] = [
 #[test]
 fn calculates_with_vectors(rt: HostRuntime) {
     for (a, b, (sum, way, back), half, lengths) in &CALCULATED {
-        assert_eq!(rt; sum_and_ways(&rt, *a, *b), [*sum, *way, *back]);
-        assert_eq!(rt; opposite(&rt, *way), *back);
-        assert_eq!(rt; measured(&rt, *a), (*lengths, *half));
+        assert!(rt; sum_and_ways(&rt, *a, *b) == [*sum, *way, *back]);
+        assert!(rt; opposite(&rt, *way) == *back);
+        assert!(rt; measured(&rt, *a) == (*lengths, *half));
     }
 }
 
@@ -148,12 +145,12 @@ fn knows_the_range(rt: HostRuntime) {
         within(at(5, -6, 5), 5),
         within(Vec3::ZERO, 0),
     ];
-    assert_eq!(rt; tests, [true, false, false, true, false, true]);
+    assert!(rt; tests == [true, false, false, true, false, true]);
     let lengths = [
         apart(&rt, at(0, 3, 0), at(4, 0, 0)),
         apart(&rt, at(RANGE, RANGE, RANGE), at(-RANGE, -RANGE, -RANGE)),
     ];
-    assert_eq!(rt; lengths, [5, 1_859_775_393]);
+    assert!(rt; lengths == [5, 1_859_775_393]);
 }
 
 /// The first place on x, a stiffness, two effective weights, and how both places move on x.
@@ -171,7 +168,7 @@ fn moves_pairs(rt: HostRuntime) {
     for (x, k, wa, wb, first, second) in &MOVES {
         let wanted = (at(*first, 0, 0), at(*second, 0, 0));
         let found = moves(&rt, at(*x, 0, 0), at(105, 0, 0), 100, *k, *wa, *wb);
-        assert_eq!(rt; found, wanted);
+        assert!(rt; found == wanted);
     }
 }
 
@@ -217,6 +214,6 @@ static FAR_MOVES: [(Vec3, Vec3, u32, u16, u16, u16, (Vec3, Vec3)); 4] = [
 #[test]
 fn moves_pairs_at_the_ends_of_the_range(rt: HostRuntime) {
     for (a, b, rest, k, wa, wb, both) in &FAR_MOVES {
-        assert_eq!(rt; moves(&rt, *a, *b, *rest, *k, *wa, *wb), *both);
+        assert!(rt; moves(&rt, *a, *b, *rest, *k, *wa, *wb) == *both);
     }
 }

@@ -83,7 +83,8 @@ fn linked(
     requires { particles ≤ 1024 }
     ensures { IfOk result (λ c. c.particles ≡ particles) }
 {
-    assert!(rt; links.len() <= 64 && are_in_range(links, particles));
+    assert!(rt; links.len() <= 64);
+    assert!(rt; are_in_range(links, particles));
     let mut colouring = Colouring::open(alloc, particles, 64)?;
     colouring.refill(links);
     Ok(colouring)
@@ -181,7 +182,8 @@ fn finds_safely<const L: usize, G: Ledger>(
     let thickness = case.thickness;
     assert!(rt; particles.len() <= 1024);
     assert!(rt; are_inside(particles));
-    assert!(rt; 0 <= thickness && thickness <= 1_048_576);
+    assert!(rt; 0 <= thickness);
+    assert!(rt; thickness <= 1_048_576);
     match linked(rt, alloc, particles.len() as u32, links) {
         Ok(colouring) => {
             let found = finds::<L, G>(alloc, particles, &colouring, thickness, wanted, steps);
@@ -192,21 +194,8 @@ fn finds_safely<const L: usize, G: Ledger>(
     }
 }
 
-fn finds_at_widths<G: Ledger>(
-    rt: &impl Abort,
-    alloc: Global,
-    case: &Case<'_>,
-    wanted: &[(u32, u32)],
-    steps: &mut Steps<G>,
-) -> Result<[bool; 5], AllocError> {
-    Ok([
-        finds_safely::<1, G>(rt, alloc, case, wanted, steps)?,
-        finds_safely::<2, G>(rt, alloc, case, wanted, steps)?,
-        finds_safely::<4, G>(rt, alloc, case, wanted, steps)?,
-        finds_safely::<8, G>(rt, alloc, case, wanted, steps)?,
-        finds_safely::<16, G>(rt, alloc, case, wanted, steps)?,
-    ])
-}
+// Whether contacts are found, unless there is no memory.
+type Found = Result<bool, AllocError>;
 
 fn finds_counted<G: Ledger>(
     rt: &impl Abort,
@@ -214,13 +203,19 @@ fn finds_counted<G: Ledger>(
     blank: Blank,
     case: &Case<'_>,
     wanted: &[(u32, u32)],
-) -> Result<[bool; 5], AllocError>
+) -> [Found; 5]
     requires name { blank.name ≡ G.name }
     requires parts { blank.parts ≡ G.parts }
     requires some { 0 < blank.parts }
 {
     let mut steps: Steps<G> = Steps::open(blank);
-    let found = finds_at_widths(rt, alloc, case, wanted, &mut steps);
+    let found = [
+        finds_safely::<1, G>(rt, alloc, case, wanted, &mut steps),
+        finds_safely::<2, G>(rt, alloc, case, wanted, &mut steps),
+        finds_safely::<4, G>(rt, alloc, case, wanted, &mut steps),
+        finds_safely::<8, G>(rt, alloc, case, wanted, &mut steps),
+        finds_safely::<16, G>(rt, alloc, case, wanted, &mut steps),
+    ];
     drop(steps);
     found
 }
@@ -231,28 +226,28 @@ fn finds_at_each_width(
     alloc: Global,
     case: &Case<'_>,
     wanted: &[(u32, u32)],
-) -> Result<[bool; 5], AllocError> {
+) -> [Found; 5] {
     finds_counted::<Brand>(rt, alloc, Blank::new(1), case, wanted)
 }
 
 // Compares what is found at each width with all pairs, of which so many touch.
-fn try_case(rt: &impl Abort, alloc: Global, case: &Case<'_>) -> Result<[bool; 5], AllocError> {
+fn try_case(rt: &impl Abort, alloc: Global, case: &Case<'_>) -> [Found; 5] {
     assert!(rt; case.particles.len() <= 1024);
     match touching_of_all(alloc, case.particles, case.links, case.thickness) {
         Ok(wanted) => {
-            assert_eq!(rt; wanted.len(), case.contacts);
+            assert!(rt; wanted.len() == case.contacts);
             let found = finds_at_each_width(rt, alloc, case, wanted.as_slice());
             drop(wanted);
             found
         }
-        Err(error) => Err(error),
+        Err(error) => [Err(error); 5],
     }
 }
 
 // Tries some cases.
 fn try_cases(rt: &impl Abort, alloc: Global, cases: &[Case<'_>]) {
     for (number, case) in cases.iter().enumerate() {
-        assert_eq!(rt; try_case(rt, alloc, case), Ok([true; 5]), "case {number}");
+        assert!(rt; try_case(rt, alloc, case) == [Ok(true); 5], "case {number}");
     }
 }
 
@@ -272,7 +267,7 @@ fn try_row(
     count: u32,
     thickness: i64,
     contacts: usize,
-) -> Result<[bool; 5], AllocError> {
+) -> [Found; 5] {
     match row(alloc, count) {
         Ok(particles) => {
             let case = Case {
@@ -285,7 +280,7 @@ fn try_row(
             drop(particles);
             found
         }
-        Err(error) => Err(error),
+        Err(error) => [Err(error); 5],
     }
 }
 
@@ -393,15 +388,15 @@ fn edges_of_cells_and_of_the_range(rt: HostRuntime) {
 
 #[test]
 fn seventy_particles_all_touch(rt: HostRuntime) {
-    assert_eq!(rt; try_row(&rt, rt.alloc(), 70, 100, 2415), Ok([true; 5]));
+    assert!(rt; try_row(&rt, rt.alloc(), 70, 100, 2415) == [Ok(true); 5]);
 }
 
 #[test]
 fn just_as_many_as_there_is_room_for(rt: HostRuntime) {
-    assert_eq!(rt; try_row(&rt, rt.alloc(), 724, 1000, 261_726), Ok([true; 5]));
+    assert!(rt; try_row(&rt, rt.alloc(), 724, 1000, 261_726) == [Ok(true); 5]);
 }
 
 #[test]
 fn more_than_there_is_room_for(rt: HostRuntime) {
-    assert_eq!(rt; try_row(&rt, rt.alloc(), 725, 1000, 262_450), Ok([true; 5]));
+    assert!(rt; try_row(&rt, rt.alloc(), 725, 1000, 262_450) == [Ok(true); 5]);
 }

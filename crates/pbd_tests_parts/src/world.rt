@@ -8,7 +8,6 @@ use pbd_world::{
     RoomList, Scene, Sphere, Totals, Track, Width,
 };
 use std::alloc::{AllocError, Global};
-use std::test::Fail;
 
 /// One thing that is otherwise than in a cloth.
 #[derive(Clone, Copy)]
@@ -124,7 +123,7 @@ fn takes_valid_parts(rt: HostRuntime) {
     let mut parts = Parts::empty(rt.alloc(), RANGE);
     let pushed = push_cloth(&mut parts);
     match scene_of(rt.alloc(), parts, pushed) {
-        Ok(scene) => assert_eq!(rt; counts(scene), (6, 13, 6)),
+        Ok(scene) => assert!(rt; counts(scene) == (6, 13, 6)),
         Err(fault) => assert!(rt; false, "{fault:?}"),
     }
 }
@@ -190,7 +189,7 @@ fn change_cloth(alloc: Global, change: &Change<'_>, parts: &mut Parts) -> Result
 #[test]
 fn refuses_a_double_link(rt: HostRuntime) {
     for (a, b) in [(0, 1), (1, 0), (5, 3)] {
-        assert_eq!(rt; changed(rt.alloc(), &Change::Link(a, b)), Some(false));
+        assert!(rt; changed(rt.alloc(), &Change::Link(a, b)) == Some(false));
     }
 }
 
@@ -226,7 +225,7 @@ static CHANGES: [Change<'static>; 9] = [
 #[test]
 fn refuses_other_parts(rt: HostRuntime) {
     for (case, change) in CHANGES.iter().enumerate() {
-        assert_eq!(rt; changed(rt.alloc(), change), Some(false), "case {case}");
+        assert!(rt; changed(rt.alloc(), change) == Some(false), "case {case}");
     }
 }
 
@@ -244,7 +243,7 @@ static TRACKS: [(&[(u32, &[u32])], bool); 6] = [
 fn looks_at_tracks(rt: HostRuntime) {
     for (tracks, fits) in &TRACKS {
         let found = changed(rt.alloc(), &Change::Tracks(tracks));
-        assert_eq!(rt; found, Some(*fits), "{tracks:?}");
+        assert!(rt; found == Some(*fits), "{tracks:?}");
     }
 }
 
@@ -269,8 +268,8 @@ fn push_ring(parts: &mut Parts, particles: u32, links: u32) -> Result<(), AllocE
 fn takes_as_many_links_as_there_may_be(rt: HostRuntime) {
     let mut parts = Parts::empty(rt.alloc(), RANGE);
     let pushed = push_ring(&mut parts, 65_536, 8);
-    assert_eq!(rt; parts.links.len(), 524_288);
-    assert_eq!(rt; are_scene(rt.alloc(), parts, pushed), Some(true));
+    assert!(rt; parts.links.len() == 524_288);
+    assert!(rt; are_scene(rt.alloc(), parts, pushed) == Some(true));
 }
 
 /// Forty particles, and so many links of the last one.
@@ -293,8 +292,8 @@ fn star_is_scene(alloc: Global, links: u32) -> Option<bool> {
 
 #[test]
 fn refuses_a_thirty_third_link(rt: HostRuntime) {
-    assert_eq!(rt; star_is_scene(rt.alloc(), 32), Some(true));
-    assert_eq!(rt; star_is_scene(rt.alloc(), 33), Some(false));
+    assert!(rt; star_is_scene(rt.alloc(), 32) == Some(true));
+    assert!(rt; star_is_scene(rt.alloc(), 33) == Some(false));
 }
 
 #[test]
@@ -306,7 +305,7 @@ fn keeps_lists(rt: HostRuntime) {
     list.truncate(5);
     let short = list.as_slice() == [3, 1].as_slice();
     drop(list);
-    assert_eq!(rt; (pushed, long, short), ([Ok(()); 3], 3, true));
+    assert!(rt; (pushed, long, short) == ([Ok(()); 3], 3, true));
 }
 
 /// Sets the items to 1, and says whether the list is two ones then.
@@ -318,37 +317,33 @@ fn becomes_ones(list: &mut RoomList<u8>) -> bool {
 }
 
 #[test]
-fn keeps_room_lists(rt: HostRuntime) -> Result<(), Fail> {
-    let mut list = RoomList::open(rt.alloc(), 2)?;
+fn keeps_room_lists(rt: HostRuntime) {
+    let mut list = RoomList::open(rt.alloc(), 2).expect(&rt, "no memory");
     let pushed = [list.push(7), list.push(8), list.push(9)];
     let ones = becomes_ones(&mut list);
     list.clear();
     let left = (list.as_slice().len(), list.room());
     drop(list);
-    assert_eq!(rt;
-        (pushed, ones, left),
-        ([Ok(()), Ok(()), Err(Full)], true, (0, 2))
-    );
-    Ok(())
+    assert!(rt; (pushed, ones, left) == ([Ok(()), Ok(()), Err(Full)], true, (0, 2)));
 }
 
 #[test]
 fn adds_to_one_total(rt: HostRuntime) {
     let mut totals = Totals::zero();
     totals.add(Class::Pin, at(1, -2, 3));
-    assert_eq!(rt;
-        totals,
-        Totals {
-            pin: [1, -2, 3],
-            ..Totals::zero()
-        }
+    assert!(rt;
+        totals
+            == Totals {
+                pin: [1, -2, 3],
+                ..Totals::zero()
+            }
     );
     let mut totals = Totals {
         link: [i128::MAX - 1, 0, i128::MIN + 1],
         ..Totals::zero()
     };
     totals.add(Class::Link, Vec3 { x: 1, y: 0, z: -1 });
-    assert_eq!(rt; totals.link, [i128::MAX, 0, i128::MIN]);
+    assert!(rt; totals.link == [i128::MAX, 0, i128::MIN]);
 }
 
 #[test]
@@ -360,7 +355,7 @@ fn counts_lanes_and_refusals(rt: HostRuntime) {
         Width::W8.lanes(),
         Width::W16.lanes(),
     ];
-    assert_eq!(rt; lanes, [1, 2, 4, 8, 16]);
+    assert!(rt; lanes == [1, 2, 4, 8, 16]);
     let leaves = Refusal::LeavesRange {
         step: 1,
         phase: Phase::Link,
@@ -372,5 +367,5 @@ fn counts_lanes_and_refusals(rt: HostRuntime) {
         leaves.number(),
         Refusal::TooManyContacts { step: 1 }.number(),
     ];
-    assert_eq!(rt; numbers, [1, 10, 11, 12]);
+    assert!(rt; numbers == [1, 10, 11, 12]);
 }

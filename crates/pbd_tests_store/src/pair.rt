@@ -7,10 +7,9 @@ use pbd_num::{RANGE, Vec3};
 use pbd_pair::{Bonds, LaneProjector, Projector, Scalar};
 use pbd_store::{Steps, Store};
 use pbd_world::{Kind, Link, Particle, Totals};
-use std::alloc::{AllocError, Global};
+use std::alloc::Global;
 use std::marker::Brand;
 use std::sync::ledger::{Blank, Ledger};
-use std::test::Fail;
 
 macro_rules! free {
     ($x:expr, $y:expr, $weight:expr) => {
@@ -93,32 +92,34 @@ struct Case {
 
 const ONE: Bonds<'static> = Bonds::Links(&[link!(0, 1, 100)]);
 
-const PULLED: Case = Case {
+const PULLS: Case = Case {
     particles: &[free!(0, 0, 1), free!(105, 0, 1)],
     bonds: ONE,
     batch: &[0],
     seen: stays!([3, 102, 3, 102], 2, 0, 0, 0),
 };
 
-const PINNED: Case = Case {
+static PULLED: Case = PULLS;
+
+static PINNED: Case = Case {
     particles: &[held!(0, 0), free!(105, 0, 1)],
     seen: stays!([0, 100, 0, 100], 0, 0, 0, -5),
-    ..PULLED
+    ..PULLS
 };
 
-const FIXED: Case = Case {
+static FIXED: Case = Case {
     particles: &[held!(0, 0), held!(105, 0)],
     seen: stays!([0, 105, 0, 105], 0, 0, 0, 0),
-    ..PULLED
+    ..PULLS
 };
 
-const WEIGHED: Case = Case {
+static WEIGHED: Case = Case {
     particles: &[free!(0, 0, 1), free!(105, 0, 2)],
     seen: stays!([2, 102, 2, 102], 1, -1, 0, 0),
-    ..PULLED
+    ..PULLS
 };
 
-const FAR: Case = Case {
+static FAR: Case = Case {
     particles: &[free!(-536870912, 0, 65535), free!(536870912, 0, 1)],
     bonds: Bonds::Links(&[link!(0, 1, 0)]),
     batch: &[0],
@@ -131,7 +132,7 @@ const FAR: Case = Case {
     ),
 };
 
-const APART: Case = Case {
+const TOUCHES: Case = Case {
     particles: &[free!(0, 0, 1), free!(100, 0, 1)],
     bonds: Bonds::Contacts {
         pairs: &[(0, 1)],
@@ -141,19 +142,21 @@ const APART: Case = Case {
     seen: stays!([0, 100, 0, 100], 0, 0, 0, 0),
 };
 
-const NEAR: Case = Case {
+static APART: Case = TOUCHES;
+
+static NEAR: Case = Case {
     particles: &[free!(0, 0, 1), free!(95, 0, 2)],
     seen: stays!([-2, 98, -2, 98], 0, 0, 1, 0),
-    ..APART
+    ..TOUCHES
 };
 
-const AT_THE_EDGE: Case = Case {
+static AT_THE_EDGE: Case = Case {
     particles: &[free!(536870912, 0, 1), free!(536870911, 0, 1)],
     seen: leaves!(0),
-    ..APART
+    ..TOUCHES
 };
 
-const FIVE: Case = Case {
+const FIVE_PULL: Case = Case {
     particles: &[
         free!(0, 0, 1),
         free!(105, 0, 1),
@@ -177,7 +180,9 @@ const FIVE: Case = Case {
     seen: stays!([3, 102, 5, 105], 8, 0, 0, 0),
 };
 
-const TWO_OF_FIVE_LEAVE: Case = Case {
+static FIVE: Case = FIVE_PULL;
+
+static TWO_OF_FIVE_LEAVE: Case = Case {
     particles: &[
         free!(0, 0, 1),
         free!(105, 0, 1),
@@ -191,10 +196,10 @@ const TWO_OF_FIVE_LEAVE: Case = Case {
         free!(110, 40, 1),
     ],
     seen: leaves!(3),
-    ..FIVE
+    ..FIVE_PULL
 };
 
-const SEVENTEEN: Case = Case {
+static SEVENTEEN: Case = Case {
     particles: &[
         free!(0, 0, 1),
         free!(105, 0, 1),
@@ -266,6 +271,19 @@ fn settled_places<G: Ledger, const L: usize>(store: &Store<L>, steps: &mut Steps
     count
 }
 
+/// The first and the last two places on x.
+fn ends_on_x<G: Ledger, const L: usize>(store: &Store<L>, steps: &mut Steps<G>) -> [i64; 4]
+    requires { 2 ≤ length store.now.particles }
+{
+    let last = store.len() - 1;
+    [
+        store.at(0, steps).at.x,
+        store.at(1, steps).at.x,
+        store.at(last - 1, steps).at.x,
+        store.at(last, steps).at.x,
+    ]
+}
+
 /// What a batch comes to in a store.
 fn projected<G: Ledger, P: Projector<L>, const L: usize>(
     steps: &mut Steps<G>,
@@ -283,13 +301,7 @@ fn projected<G: Ledger, P: Projector<L>, const L: usize>(
 {
     let mut totals = Totals::zero();
     let outcome = projector.project(store, bonds, batch, &mut totals, steps);
-    let last = store.len() - 1;
-    let x = [
-        store.at(0, steps).at.x,
-        store.at(1, steps).at.x,
-        store.at(last - 1, steps).at.x,
-        store.at(last, steps).at.x,
-    ];
+    let x = ends_on_x(store, steps);
     let left = match outcome {
         Ok(()) => None,
         Err(left) => Some(left.element),
@@ -310,7 +322,7 @@ fn holds<G: Ledger, P: Projector<L>, const L: usize>(
     steps: &mut Steps<G>,
     projector: &mut P,
     case: &Case,
-) -> Result<bool, AllocError>
+) -> bool
     requires low { 0 < L }
     requires high { L ≤ 16 }
     requires two { 2 ≤ length case.now.particles.now }
@@ -322,118 +334,105 @@ fn holds<G: Ledger, P: Projector<L>, const L: usize>(
         Ok(mut store) => {
             let seen = projected(steps, projector, &mut store, case.bonds, case.batch);
             drop(store);
-            Ok(seen.left == case.seen.left && (seen.left.is_some() || seen == case.seen))
+            seen.left == case.seen.left && (seen.left.is_some() || seen == case.seen)
         }
-        Err(error) => Err(error),
+        Err(_) => false,
     }
 }
 
-fn one_link<G: Ledger, P: Projector<L>, const L: usize>(
+fn links<G: Ledger, P: Projector<L>, const L: usize>(
     alloc: Global,
     steps: &mut Steps<G>,
     projector: &mut P,
-) -> Result<bool, AllocError>
+) -> [bool; 7]
     requires low { 0 < L }
     requires high { L ≤ 16 }
 {
-    let pulled = holds(alloc, steps, projector, &PULLED)?;
-    let pinned = holds(alloc, steps, projector, &PINNED)?;
-    let fixed = holds(alloc, steps, projector, &FIXED)?;
-    let weighed = holds(alloc, steps, projector, &WEIGHED)?;
-    Ok(pulled && pinned && fixed && weighed)
+    [
+        holds(alloc, steps, projector, &PULLED),
+        holds(alloc, steps, projector, &PINNED),
+        holds(alloc, steps, projector, &FIXED),
+        holds(alloc, steps, projector, &WEIGHED),
+        holds(alloc, steps, projector, &FIVE),
+        holds(alloc, steps, projector, &TWO_OF_FIVE_LEAVE),
+        holds(alloc, steps, projector, &SEVENTEEN),
+    ]
 }
 
-fn one_contact<G: Ledger, P: Projector<L>, const L: usize>(
+fn contacts_and_ends<G: Ledger, P: Projector<L>, const L: usize>(
     alloc: Global,
     steps: &mut Steps<G>,
     projector: &mut P,
-) -> Result<bool, AllocError>
+) -> [bool; 4]
     requires low { 0 < L }
     requires high { L ≤ 16 }
 {
-    let apart = holds(alloc, steps, projector, &APART)?;
-    let near = holds(alloc, steps, projector, &NEAR)?;
-    Ok(apart && near)
+    [
+        holds(alloc, steps, projector, &APART),
+        holds(alloc, steps, projector, &NEAR),
+        holds(alloc, steps, projector, &FAR),
+        holds(alloc, steps, projector, &AT_THE_EDGE),
+    ]
 }
 
-fn ends_of_the_range<G: Ledger, P: Projector<L>, const L: usize>(
-    alloc: Global,
-    steps: &mut Steps<G>,
-    projector: &mut P,
-) -> Result<bool, AllocError>
-    requires low { 0 < L }
-    requires high { L ≤ 16 }
-{
-    let far = holds(alloc, steps, projector, &FAR)?;
-    let edge = holds(alloc, steps, projector, &AT_THE_EDGE)?;
-    Ok(far && edge)
-}
-
-fn five_links<G: Ledger, P: Projector<L>, const L: usize>(
-    alloc: Global,
-    steps: &mut Steps<G>,
-    projector: &mut P,
-) -> Result<bool, AllocError>
-    requires low { 0 < L }
-    requires high { L ≤ 16 }
-{
-    let staying = holds(alloc, steps, projector, &FIVE)?;
-    let leaving = holds(alloc, steps, projector, &TWO_OF_FIVE_LEAVE)?;
-    Ok(staying && leaving)
-}
+/// Which cases hold, and how many bonds their projector was handed then.
+type Told = ([bool; 7], [bool; 4], u64);
 
 fn batches<G: Ledger, P: Projector<L>, const L: usize>(
     alloc: Global,
     steps: &mut Steps<G>,
     projector: &mut P,
-) -> Result<bool, AllocError>
+) -> Told
     requires low { 0 < L }
     requires high { L ≤ 16 }
 {
-    let link = one_link(alloc, steps, projector)?;
-    let contact = one_contact(alloc, steps, projector)?;
-    let ends = ends_of_the_range(alloc, steps, projector)?;
-    let five = five_links(alloc, steps, projector)?;
-    let seventeen = holds(alloc, steps, projector, &SEVENTEEN)?;
-    Ok(link && contact && ends && five && seventeen && projector.handed() == 35)
+    let links = links(alloc, steps, projector);
+    let others = contacts_and_ends(alloc, steps, projector);
+    (links, others, projector.handed())
 }
 
-fn scalars<G: Ledger>(alloc: Global, blank: Blank) -> Result<bool, AllocError>
+/// The eleven cases hand over 35 bonds.
+const ALL_HOLD: Told = ([true; 7], [true; 4], 35);
+
+fn scalars<G: Ledger>(alloc: Global, blank: Blank) -> [Told; 2]
     requires name { blank.name ≡ G.name }
     requires parts { blank.parts ≡ G.parts }
     requires some { 0 < blank.parts }
 {
     let mut steps: Steps<G> = Steps::open(blank);
-    let narrow = batches(alloc, &mut steps, &mut Scalar::<1>::new())?;
-    let wide = batches(alloc, &mut steps, &mut Scalar::<16>::new())?;
-    Ok(narrow && wide)
+    let told = [
+        batches(alloc, &mut steps, &mut Scalar::<1>::new()),
+        batches(alloc, &mut steps, &mut Scalar::<16>::new()),
+    ];
+    drop(steps);
+    told
 }
 
-fn widths<G: Ledger>(alloc: Global, blank: Blank) -> Result<[bool; 5], AllocError>
+fn widths<G: Ledger>(alloc: Global, blank: Blank) -> [Told; 5]
     requires name { blank.name ≡ G.name }
     requires parts { blank.parts ≡ G.parts }
     requires some { 0 < blank.parts }
 {
     let mut steps: Steps<G> = Steps::open(blank);
-    Ok([
-        batches(alloc, &mut steps, &mut LaneProjector::<1>::new())?,
-        batches(alloc, &mut steps, &mut LaneProjector::<2>::new())?,
-        batches(alloc, &mut steps, &mut LaneProjector::<4>::new())?,
-        batches(alloc, &mut steps, &mut LaneProjector::<8>::new())?,
-        batches(alloc, &mut steps, &mut LaneProjector::<16>::new())?,
-    ])
+    let told = [
+        batches(alloc, &mut steps, &mut LaneProjector::<1>::new()),
+        batches(alloc, &mut steps, &mut LaneProjector::<2>::new()),
+        batches(alloc, &mut steps, &mut LaneProjector::<4>::new()),
+        batches(alloc, &mut steps, &mut LaneProjector::<8>::new()),
+        batches(alloc, &mut steps, &mut LaneProjector::<16>::new()),
+    ];
+    drop(steps);
+    told
 }
 
 #[test]
-fn one_by_one(rt: HostRuntime) -> Result<(), Fail> {
-    assert!(rt; scalars::<Brand>(rt.alloc(), Blank::new(1))?);
+fn one_by_one(rt: HostRuntime) {
+    assert_eq!(rt; scalars::<Brand>(rt.alloc(), Blank::new(1)), [ALL_HOLD; 2]);
     assert_eq!(rt; Scalar::<4>::new().lanes(), 1);
-    Ok(())
 }
 
 #[test]
-fn side_by_side(rt: HostRuntime) -> Result<(), Fail> {
-    assert_eq!(rt; widths::<Brand>(rt.alloc(), Blank::new(1))?, [true; 5]);
+fn side_by_side(rt: HostRuntime) {
+    assert_eq!(rt; widths::<Brand>(rt.alloc(), Blank::new(1)), [ALL_HOLD; 5]);
     assert_eq!(rt; LaneProjector::<4>::new().lanes(), 4);
-    Ok(())
 }

@@ -4,7 +4,7 @@ ghost use Rattle.pbd_world.specs.Valid.{is_between, are_valid_planes, are_valid_
 ghost use Rattle.pbd_store.specs.Moving.{AreInside};
 ghost use Rattle.pbd_shape.specs.Rubbing.{AreWithin};
 
-use crate::places::{at, moved, resting};
+use crate::places::{moved, place, resting};
 use pbd_num::{RANGE, Vec3};
 use pbd_shape::{Touched, push_out, rub};
 use pbd_store::{Steps, Store};
@@ -14,28 +14,30 @@ use std::marker::Brand;
 use std::sync::ledger::{Blank, Ledger};
 use std::test::Fail;
 
-fn plane(x: i64, y: i64, z: i64, offset: i64) -> Plane
-    ensures { result ≡ record { normal = record { x = x; y = y; z = z }; offset = offset } }
-{
-    Plane {
-        normal: Vec3 { x, y, z },
-        offset,
-    }
+macro_rules! plane {
+    ($x:expr, $y:expr, $z:expr, $offset:expr) => {
+        Plane {
+            normal: place!($x, $y, $z),
+            offset: $offset,
+        }
+    };
 }
 
-fn ball(radius: i64) -> Sphere
-    ensures { result ≡ record { centre = record { x = pos 0; y = pos 0; z = pos 0 }; radius = radius } }
-{
-    Sphere {
-        centre: Vec3::ZERO,
-        radius,
-    }
+macro_rules! ball {
+    ($radius:expr) => {
+        Sphere {
+            centre: Vec3::ZERO,
+            radius: $radius,
+        }
+    };
 }
+
+const NOWHERE: Particle = resting!(0, 0, 0);
 
 /// Three places, now or before, three flags, the total of shapes, and the particle that left.
-#[derive(Clone, Copy, Debug, PartialEq, Eq)]
+#[derive(Clone, Copy, PartialEq)]
 struct Seen {
-    places: [Vec3; 3],
+    places: [[i64; 3]; 3],
     touched: [bool; 3],
     shape: [i128; 3],
     left: Option<u32>,
@@ -49,8 +51,12 @@ fn particle_of<const L: usize, G: Ledger>(
     if i < store.len() {
         store.at(i, steps)
     } else {
-        moved(Vec3::ZERO, Vec3::ZERO)
+        NOWHERE
     }
+}
+
+fn axes(place: Vec3) -> [i64; 3] {
+    [place.x, place.y, place.z]
 }
 
 fn flag_of(touched: &Touched, len: u32, i: u32) -> bool
@@ -79,9 +85,9 @@ fn pushed_by<const L: usize, G: Ledger>(
     let done = push_out(store, planes, spheres, touched, &mut totals, steps);
     Seen {
         places: [
-            particle_of(store, 0, steps).at,
-            particle_of(store, 1, steps).at,
-            particle_of(store, 2, steps).at,
+            axes(particle_of(store, 0, steps).at),
+            axes(particle_of(store, 1, steps).at),
+            axes(particle_of(store, 2, steps).at),
         ],
         touched: [
             flag_of(touched, len, 0),
@@ -96,6 +102,7 @@ fn pushed_by<const L: usize, G: Ledger>(
     }
 }
 
+/// The same in a store of its own.
 fn pushed_in<const L: usize, G: Ledger>(
     alloc: Global,
     particles: &[Particle],
@@ -111,14 +118,16 @@ fn pushed_in<const L: usize, G: Ledger>(
     requires inside { AreInside (pos (2 ^ 29)) particles.now }
 {
     let mut touched = Touched::open(alloc, particles.len() as u32)?;
-    match Store::<L>::open(alloc, particles, RANGE) {
+    let seen = match Store::<L>::open(alloc, particles, RANGE) {
         Ok(mut store) => {
             let seen = pushed_by(&mut store, planes, spheres, &mut touched, steps);
             drop(store);
             Ok(seen)
         }
         Err(error) => Err(error),
-    }
+    };
+    drop(touched);
+    seen
 }
 
 fn pushed_at_each<G: Ledger>(
@@ -127,7 +136,7 @@ fn pushed_at_each<G: Ledger>(
     particles: &[Particle],
     planes: &[Plane],
     spheres: &[Sphere],
-) -> Result<[Seen; 5], AllocError>
+) -> [Result<Seen, AllocError>; 5]
     requires name { blank.name ≡ G.name }
     requires parts { blank.parts ≡ G.parts }
     requires some { 0 < blank.parts }
@@ -137,13 +146,15 @@ fn pushed_at_each<G: Ledger>(
     requires inside { AreInside (pos (2 ^ 29)) particles.now }
 {
     let mut steps: Steps<G> = Steps::open(blank);
-    Ok([
-        pushed_in::<1, G>(alloc, particles, planes, spheres, &mut steps)?,
-        pushed_in::<2, G>(alloc, particles, planes, spheres, &mut steps)?,
-        pushed_in::<4, G>(alloc, particles, planes, spheres, &mut steps)?,
-        pushed_in::<8, G>(alloc, particles, planes, spheres, &mut steps)?,
-        pushed_in::<16, G>(alloc, particles, planes, spheres, &mut steps)?,
-    ])
+    let seen = [
+        pushed_in::<1, G>(alloc, particles, planes, spheres, &mut steps),
+        pushed_in::<2, G>(alloc, particles, planes, spheres, &mut steps),
+        pushed_in::<4, G>(alloc, particles, planes, spheres, &mut steps),
+        pushed_in::<8, G>(alloc, particles, planes, spheres, &mut steps),
+        pushed_in::<16, G>(alloc, particles, planes, spheres, &mut steps),
+    ];
+    drop(steps);
+    seen
 }
 
 /// What is seen at each width.
@@ -152,7 +163,7 @@ fn pushed(
     particles: &[Particle],
     planes: &[Plane],
     spheres: &[Sphere],
-) -> Result<[Seen; 5], AllocError>
+) -> [Result<Seen, AllocError>; 5]
     requires few { length particles.now ≤ 65536 }
     requires planes { IsTrue (are_valid_planes planes.now) }
     requires spheres { IsTrue (are_valid_spheres (pos (2 ^ 29)) spheres.now) }
@@ -179,9 +190,9 @@ fn rubbed_by<const L: usize, G: Ledger>(
     rub(store, friction, touched, &mut totals, steps);
     Seen {
         places: [
-            particle_of(store, 0, steps).before,
-            particle_of(store, 1, steps).before,
-            particle_of(store, 2, steps).before,
+            axes(particle_of(store, 0, steps).before),
+            axes(particle_of(store, 1, steps).before),
+            axes(particle_of(store, 2, steps).before),
         ],
         touched: [touched.is_set(0), touched.is_set(1), touched.is_set(2)],
         shape: totals.shape,
@@ -204,14 +215,16 @@ fn rubbed_in<const L: usize, G: Ledger>(
     let mut touched = Touched::open(alloc, 3)?;
     touched.set(0);
     touched.set(1);
-    match Store::<L>::open(alloc, particles, RANGE) {
+    let seen = match Store::<L>::open(alloc, particles, RANGE) {
         Ok(mut store) => {
             let seen = rubbed_by(&mut store, friction, &touched, steps);
             drop(store);
             Ok(seen)
         }
         Err(error) => Err(error),
-    }
+    };
+    drop(touched);
+    seen
 }
 
 fn rubbed_at_each<G: Ledger>(
@@ -219,7 +232,7 @@ fn rubbed_at_each<G: Ledger>(
     blank: Blank,
     particles: &[Particle; 3],
     friction: i64,
-) -> Result<[Seen; 5], AllocError>
+) -> [Result<Seen, AllocError>; 5]
     requires name { blank.name ≡ G.name }
     requires parts { blank.parts ≡ G.parts }
     requires some { 0 < blank.parts }
@@ -227,123 +240,139 @@ fn rubbed_at_each<G: Ledger>(
     requires within { AreWithin (pos (2 ^ 29)) particles.now }
 {
     let mut steps: Steps<G> = Steps::open(blank);
-    Ok([
-        rubbed_in::<1, G>(alloc, particles, friction, &mut steps)?,
-        rubbed_in::<2, G>(alloc, particles, friction, &mut steps)?,
-        rubbed_in::<4, G>(alloc, particles, friction, &mut steps)?,
-        rubbed_in::<8, G>(alloc, particles, friction, &mut steps)?,
-        rubbed_in::<16, G>(alloc, particles, friction, &mut steps)?,
-    ])
+    let seen = [
+        rubbed_in::<1, G>(alloc, particles, friction, &mut steps),
+        rubbed_in::<2, G>(alloc, particles, friction, &mut steps),
+        rubbed_in::<4, G>(alloc, particles, friction, &mut steps),
+        rubbed_in::<8, G>(alloc, particles, friction, &mut steps),
+        rubbed_in::<16, G>(alloc, particles, friction, &mut steps),
+    ];
+    drop(steps);
+    seen
 }
 
 /// What is seen at each width.
-fn rubbed(alloc: Global, particles: &[Particle; 3], friction: i64) -> Result<[Seen; 5], AllocError>
+fn rubbed(alloc: Global, particles: &[Particle; 3], friction: i64) -> [Result<Seen, AllocError>; 5]
     requires friction { IsTrue (is_between (pos 0) (pos 256) friction) }
     requires within { AreWithin (pos (2 ^ 29)) particles.now }
 {
     rubbed_at_each::<Brand>(alloc, Blank::new(1), particles, friction)
 }
 
-fn expected(places: [Vec3; 3], touched: [bool; 3], shape: [i128; 3], left: Option<u32>) -> Seen {
-    Seen {
-        places,
-        touched,
-        shape,
-        left,
-    }
+macro_rules! seen {
+    ($places:expr, $touched:expr, $shape:expr) => {
+        Ok(Seen {
+            places: $places,
+            touched: $touched,
+            shape: $shape,
+            left: None,
+        })
+    };
 }
 
-fn alone(at: Vec3, touched: bool, by: [i128; 3]) -> [Seen; 5] {
-    [expected(
-        [at, Vec3::ZERO, Vec3::ZERO],
-        [touched, false, false],
-        by,
-        None,
-    ); 5]
+/// What is seen of one particle.
+macro_rules! alone {
+    ($at:expr, $touched:expr, $by:expr) => {
+        seen!([$at, [0; 3], [0; 3]], [$touched, false, false], $by)
+    };
 }
+
+static THREE: [Particle; 3] = [resting!(3, 4, 0), resting!(0, 0, 0), resting!(10, 0, 0)];
+
+static AT_ZERO: [Particle; 1] = [resting!(0, 0, 0)];
+
+static BESIDE_ZERO: [Particle; 1] = [resting!(1, 0, 0)];
+
+static BELOW_ZERO: [Particle; 1] = [resting!(0, -3, 0)];
+
+static AHEAD: [Plane; 1] = [plane!(1, 2, 2, 20)];
+
+static JUST_AHEAD: [Plane; 1] = [plane!(3, 0, 0, 1)];
+
+static FLOOR: [Plane; 1] = [plane!(0, 1, 0, 5)];
+
+static BALL_OF_TEN: [Sphere; 1] = [ball!(10)];
+
+static GREATEST_BALL: [Sphere; 1] = [ball!(536870912)];
+
+/// What is seen at each width of three in a ball, of one behind a plane, of one so near that it stays, of one that goes
+/// to the edge of the range, and of one that planes push before a ball does.
+static PUSHED: [[Result<Seen, AllocError>; 5]; 5] = [
+    [seen!(
+        [[6, 8, 0], [0, 10, 0], [10, 0, 0]],
+        [true, true, false],
+        [3, 14, 0]
+    ); 5],
+    [alone!([2, 4, 4], true, [2, 4, 4]); 5],
+    [alone!([0, 0, 0], true, [0, 0, 0]); 5],
+    [alone!([536870912, 0, 0], true, [536870911, 0, 0]); 5],
+    [alone!([0, 10, 0], true, [0, 13, 0]); 5],
+];
 
 #[test]
-fn shapes_push_places_out(rt: HostRuntime) -> Result<(), Fail> {
+fn shapes_push_places_out(rt: HostRuntime) {
     let alloc = rt.alloc();
-    let ball_of_ten = ball(10);
-    let three = [
-        resting(at(3, 4, 0)),
-        resting(at(0, 0, 0)),
-        resting(at(10, 0, 0)),
+    let seen = [
+        pushed(alloc, &THREE, &[], &BALL_OF_TEN),
+        pushed(alloc, &AT_ZERO, &AHEAD, &[]),
+        pushed(alloc, &AT_ZERO, &JUST_AHEAD, &[]),
+        pushed(alloc, &BESIDE_ZERO, &[], &GREATEST_BALL),
+        pushed(alloc, &BELOW_ZERO, &FLOOR, &BALL_OF_TEN),
     ];
-    let three_out = expected(
-        [at(6, 8, 0), at(0, 10, 0), at(10, 0, 0)],
-        [true, true, false],
-        [3, 14, 0],
-        None,
-    );
-    assert_eq!(rt; pushed(alloc, &three, &[], &[ball_of_ten])?, [three_out; 5]);
-    let behind = pushed(alloc, &[resting(at(0, 0, 0))], &[plane(1, 2, 2, 20)], &[])?;
-    assert_eq!(rt; behind, alone(at(2, 4, 4), true, [2, 4, 4]));
-    let just_behind = pushed(alloc, &[resting(at(0, 0, 0))], &[plane(3, 0, 0, 1)], &[])?;
-    assert_eq!(rt; just_behind, alone(at(0, 0, 0), true, [0, 0, 0]));
-    let to_edge = pushed(alloc, &[resting(at(1, 0, 0))], &[], &[ball(536870912)])?;
-    assert_eq!(rt;
-        to_edge,
-        alone(at(536870912, 0, 0), true, [536870911, 0, 0])
-    );
-    let planes_first = pushed(
-        alloc,
-        &[resting(at(0, -3, 0))],
-        &[plane(0, 1, 0, 5)],
-        &[ball_of_ten],
-    )?;
-    assert_eq!(rt; planes_first, alone(at(0, 10, 0), true, [0, 13, 0]));
-    Ok(())
+    assert!(rt; seen == PUSHED);
 }
+
+static AT_THE_EDGE: [Particle; 2] = [resting!(536870912, 2, 0), resting!(536870912, 0, 0)];
+
+static BEHIND_THE_EDGE: [Plane; 3] = [
+    plane!(1, 1, 0, 536870914),
+    plane!(0, 1, 0, -5),
+    plane!(1, 0, 1, 536870914),
+];
 
 #[test]
 fn the_first_particle_leaves(rt: HostRuntime) -> Result<(), Fail> {
-    let alloc = rt.alloc();
-    let two = [resting(at(536870912, 2, 0)), resting(at(536870912, 0, 0))];
-    let planes = [
-        plane(1, 1, 0, 536870914),
-        plane(0, 1, 0, -5),
-        plane(1, 0, 1, 536870914),
-    ];
-    for seen in pushed(alloc, &two, &planes, &[])?.iter() {
-        assert_eq!(rt; seen.left, Some(0));
+    for seen in pushed(rt.alloc(), &AT_THE_EDGE, &BEHIND_THE_EDGE, &[]) {
+        assert_eq!(rt; seen?.left, Some(0));
     }
     Ok(())
 }
 
+static MOVING: [Particle; 3] = [
+    moved!((6, 8, 0), (3, 4, 0)),
+    moved!((0, 10, 0), (0, 0, 0)),
+    moved!((10, 0, 0), (9, 0, 0)),
+];
+
+/// What is seen at each width at half of the greatest friction and at all of it.
+static RUBBED: [[Result<Seen, AllocError>; 5]; 2] = [
+    [seen!(
+        [[5, 6, 0], [0, 5, 0], [9, 0, 0]],
+        [true, true, false],
+        [-2, -7, 0]
+    ); 5],
+    [seen!(
+        [[6, 8, 0], [0, 10, 0], [9, 0, 0]],
+        [true, true, false],
+        [-3, -14, 0]
+    ); 5],
+];
+
 #[test]
-fn friction_takes_of_velocities(rt: HostRuntime) -> Result<(), Fail> {
+fn friction_takes_of_velocities(rt: HostRuntime) {
     let alloc = rt.alloc();
-    let three = [
-        moved(at(6, 8, 0), at(3, 4, 0)),
-        moved(at(0, 10, 0), at(0, 0, 0)),
-        moved(at(10, 0, 0), at(9, 0, 0)),
-    ];
-    let half = expected(
-        [at(5, 6, 0), at(0, 5, 0), at(9, 0, 0)],
-        [true, true, false],
-        [-2, -7, 0],
-        None,
-    );
-    assert_eq!(rt; rubbed(alloc, &three, 128)?, [half; 5]);
-    let whole = expected(
-        [at(6, 8, 0), at(0, 10, 0), at(9, 0, 0)],
-        [true, true, false],
-        [-3, -14, 0],
-        None,
-    );
-    assert_eq!(rt; rubbed(alloc, &three, 256)?, [whole; 5]);
-    Ok(())
+    let seen = [rubbed(alloc, &MOVING, 128), rubbed(alloc, &MOVING, 256)];
+    assert!(rt; seen == RUBBED);
 }
 
 #[test]
 fn flags_are_set_and_cleared(rt: HostRuntime) -> Result<(), Fail> {
     let mut touched = Touched::open(rt.alloc(), 3)?;
     touched.set(1);
-    assert!(rt; touched.is_set(1));
-    assert!(rt; !touched.is_set(0));
+    let set = [touched.is_set(1), touched.is_set(0)];
     touched.clear();
-    assert!(rt; !touched.is_set(1));
+    let cleared = touched.is_set(1);
+    drop(touched);
+    assert_eq!(rt; (set, cleared), ([true, false], false));
     Ok(())
 }

@@ -3,6 +3,7 @@ ghost use Rattle.std.specs.Prelude.{◌≡◌, ℕ, ◌<◌, ◌≤◌, ◌+◌,
 ghost use Rattle.pbd_lanes.specs.Lane.{is_set};
 ghost use Rattle.pbd_store.specs.Gathering.{index_at};
 
+use crate::places::place;
 use pbd_lanes::{Lanes, Mask};
 use pbd_num::Vec3;
 use pbd_store::{Lanes3, Steps, Store};
@@ -10,19 +11,16 @@ use pbd_world::Particle;
 use std::alloc::{AllocError, Global};
 use std::marker::Brand;
 use std::sync::ledger::{Blank, Ledger};
-use std::test::Fail;
 
-fn at(x: i64) -> Vec3 {
-    Vec3 { x, y: 5, z: -5 }
-}
-
-fn particle(x: i64) -> Particle {
-    Particle {
-        at: at(x),
-        before: at(1),
-        weight: 3,
-        held: false,
-    }
+macro_rules! particle {
+    ($x:expr) => {
+        Particle {
+            at: place!($x, 5, -5),
+            before: place!(1, 5, -5),
+            weight: 3,
+            held: false,
+        }
+    };
 }
 
 /// What the last block of five particles holds after a move and a replacement, and the places on x after its
@@ -36,6 +34,19 @@ struct Seen {
     x: [i64; 5],
 }
 
+/// The five places on x.
+fn places_on_x<G: Ledger, const L: usize>(store: &Store<L>, steps: &mut Steps<G>) -> [i64; 5]
+    requires { length store.now.particles ≡ 5 }
+{
+    [
+        store.at(0, steps).at.x,
+        store.at(1, steps).at.x,
+        store.at(2, steps).at.x,
+        store.at(3, steps).at.x,
+        store.at(4, steps).at.x,
+    ]
+}
+
 fn walk_in<G: Ledger, const L: usize>(
     store: &mut Store<L>,
     copy: &mut Store<L>,
@@ -45,8 +56,8 @@ fn walk_in<G: Ledger, const L: usize>(
     requires high { L ≤ 16 }
     requires five { length store.old.particles ≡ 5 }
 {
-    store.put(1, at(70), steps);
-    store.set(4, particle(40), steps);
+    store.put(1, place!(70, 5, -5), steps);
+    store.set(4, particle!(40), steps);
     let blocks = store.blocks();
     if blocks == 0 {
         return None;
@@ -69,44 +80,24 @@ fn walk_in<G: Ledger, const L: usize>(
     if copy.len() != 5 {
         return None;
     }
-    let x = [
-        copy.at(0, steps).at.x,
-        copy.at(1, steps).at.x,
-        copy.at(2, steps).at.x,
-        copy.at(3, steps).at.x,
-        copy.at(4, steps).at.x,
-    ];
     Some(Seen {
         blocks,
         limit: copy.limit(),
         loaded,
         filled,
-        x,
+        x: places_on_x(copy, steps),
     })
 }
 
-/// The same with a copy of its own.
-fn walk_with<G: Ledger, const L: usize>(
-    alloc: Global,
-    store: &mut Store<L>,
-    particles: &[Particle],
-    steps: &mut Steps<G>,
-) -> Result<Option<Seen>, AllocError>
-    requires low { 0 < L }
-    requires high { L ≤ 16 }
-    requires five { length store.old.particles ≡ 5 }
-    requires few { length particles.now ≤ 65536 }
-{
-    match Store::<L>::open(alloc, particles, 1 << 29) {
-        Ok(mut copy) => {
-            let seen = walk_in(store, &mut copy, steps);
-            drop(copy);
-            Ok(seen)
-        }
-        Err(error) => Err(error),
-    }
-}
+static WALKING: [Particle; 5] = [
+    particle!(0),
+    particle!(1),
+    particle!(2),
+    particle!(3),
+    particle!(4),
+];
 
+/// The same in two stores of its own.
 fn walk<G: Ledger, const L: usize>(
     alloc: Global,
     steps: &mut Steps<G>,
@@ -114,21 +105,17 @@ fn walk<G: Ledger, const L: usize>(
     requires low { 0 < L }
     requires high { L ≤ 16 }
 {
-    let particles = [
-        particle(0),
-        particle(1),
-        particle(2),
-        particle(3),
-        particle(4),
-    ];
-    match Store::<L>::open(alloc, &particles, 1 << 29) {
+    let mut copy = Store::<L>::open(alloc, &WALKING, 1 << 29)?;
+    let seen = match Store::<L>::open(alloc, &WALKING, 1 << 29) {
         Ok(mut store) => {
-            let seen = walk_with(alloc, &mut store, &particles, steps);
+            let seen = walk_in(&mut store, &mut copy, steps);
             drop(store);
-            seen
+            Ok(seen)
         }
         Err(error) => Err(error),
-    }
+    };
+    drop(copy);
+    seen
 }
 
 /// The last lane alone.
@@ -170,16 +157,18 @@ fn one_lane_in<G: Ledger, const L: usize>(store: &mut Store<L>, steps: &mut Step
         z: Lanes::splat(-5),
     };
     store.scatter(&indices, &mask, &values, steps);
-    [
-        count.min(100) as i64,
-        greatest,
-        store.at(0, steps).at.x,
-        store.at(1, steps).at.x,
-        store.at(2, steps).at.x,
-        store.at(3, steps).at.x,
-        store.at(4, steps).at.x,
-    ]
+    let [first, second, third, fourth, fifth] = places_on_x(store, steps);
+    let count = count.min(100) as i64;
+    [count, greatest, first, second, third, fourth, fifth]
 }
+
+static STANDING: [Particle; 5] = [
+    particle!(10),
+    particle!(11),
+    particle!(12),
+    particle!(13),
+    particle!(14),
+];
 
 /// The same of five particles.
 fn one_lane<G: Ledger, const L: usize>(
@@ -189,14 +178,7 @@ fn one_lane<G: Ledger, const L: usize>(
     requires low { 0 < L }
     requires high { L ≤ 16 }
 {
-    let particles = [
-        particle(10),
-        particle(11),
-        particle(12),
-        particle(13),
-        particle(14),
-    ];
-    match Store::<L>::open(alloc, &particles, 1 << 29) {
+    match Store::<L>::open(alloc, &STANDING, 1 << 29) {
         Ok(mut store) => {
             let seen = one_lane_in(&mut store, steps);
             drop(store);
@@ -206,63 +188,71 @@ fn one_lane<G: Ledger, const L: usize>(
     }
 }
 
-fn last_lanes<G: Ledger>(alloc: Global, blank: Blank) -> Result<[[i64; 7]; 5], AllocError>
+fn last_lanes<G: Ledger>(alloc: Global, blank: Blank) -> [Result<[i64; 7], AllocError>; 5]
     requires name { blank.name ≡ G.name }
     requires parts { blank.parts ≡ G.parts }
     requires some { 0 < blank.parts }
 {
     let mut steps: Steps<G> = Steps::open(blank);
-    Ok([
-        one_lane::<G, 1>(alloc, &mut steps)?,
-        one_lane::<G, 2>(alloc, &mut steps)?,
-        one_lane::<G, 4>(alloc, &mut steps)?,
-        one_lane::<G, 8>(alloc, &mut steps)?,
-        one_lane::<G, 16>(alloc, &mut steps)?,
-    ])
-}
-
-fn widths<G: Ledger>(alloc: Global, blank: Blank) -> Result<[Option<Seen>; 5], AllocError>
-    requires name { blank.name ≡ G.name }
-    requires parts { blank.parts ≡ G.parts }
-    requires some { 0 < blank.parts }
-{
-    let mut steps: Steps<G> = Steps::open(blank);
-    let one = walk::<G, 1>(alloc, &mut steps)?;
-    let two = walk::<G, 2>(alloc, &mut steps)?;
-    let four = walk::<G, 4>(alloc, &mut steps)?;
-    let eight = walk::<G, 8>(alloc, &mut steps)?;
-    let sixteen = walk::<G, 16>(alloc, &mut steps)?;
-    Ok([one, two, four, eight, sixteen])
-}
-
-#[test]
-fn keeps_its_particles(rt: HostRuntime) -> Result<(), Fail> {
-    let seen = widths::<Brand>(rt.alloc(), Blank::new(1))?;
-    let wanted = [
-        (5, 40, 1, [0, 70, 2, 3, 9]),
-        (3, 40, 1, [0, 70, 2, 3, 9]),
-        (2, 40, 1, [0, 70, 2, 3, 9]),
-        (1, 70, 5, [9, 9, 9, 9, 9]),
-        (1, 70, 5, [9, 9, 9, 9, 9]),
+    let seen = [
+        one_lane::<G, 1>(alloc, &mut steps),
+        one_lane::<G, 2>(alloc, &mut steps),
+        one_lane::<G, 4>(alloc, &mut steps),
+        one_lane::<G, 8>(alloc, &mut steps),
+        one_lane::<G, 16>(alloc, &mut steps),
     ];
-    for (seen, (blocks, loaded, filled, x)) in seen.iter().zip(wanted.iter()) {
-        let wanted = Seen {
-            blocks: *blocks,
+    drop(steps);
+    seen
+}
+
+fn widths<G: Ledger>(alloc: Global, blank: Blank) -> [Result<Option<Seen>, AllocError>; 5]
+    requires name { blank.name ≡ G.name }
+    requires parts { blank.parts ≡ G.parts }
+    requires some { 0 < blank.parts }
+{
+    let mut steps: Steps<G> = Steps::open(blank);
+    let seen = [
+        walk::<G, 1>(alloc, &mut steps),
+        walk::<G, 2>(alloc, &mut steps),
+        walk::<G, 4>(alloc, &mut steps),
+        walk::<G, 8>(alloc, &mut steps),
+        walk::<G, 16>(alloc, &mut steps),
+    ];
+    drop(steps);
+    seen
+}
+
+/// How many blocks there are, the greatest place that was loaded, how many lanes were filled, and the places then.
+macro_rules! walked {
+    ($blocks:expr, $loaded:expr, $filled:expr, $x:expr) => {
+        Ok(Some(Seen {
+            blocks: $blocks,
             limit: 536870912,
-            loaded: *loaded,
-            filled: *filled,
-            x: *x,
-        };
-        assert!(rt; *seen == Some(wanted));
-    }
-    Ok(())
+            loaded: $loaded,
+            filled: $filled,
+            x: $x,
+        }))
+    };
+}
+
+/// What is seen at each width.
+static WALKED: [Result<Option<Seen>, AllocError>; 5] = [
+    walked!(5, 40, 1, [0, 70, 2, 3, 9]),
+    walked!(3, 40, 1, [0, 70, 2, 3, 9]),
+    walked!(2, 40, 1, [0, 70, 2, 3, 9]),
+    walked!(1, 70, 5, [9, 9, 9, 9, 9]),
+    walked!(1, 70, 5, [9, 9, 9, 9, 9]),
+];
+
+#[test]
+fn keeps_its_particles(rt: HostRuntime) {
+    assert!(rt; widths::<Brand>(rt.alloc(), Blank::new(1)) == WALKED);
 }
 
 #[test]
-fn leaves_lanes_out(rt: HostRuntime) -> Result<(), Fail> {
-    let seen = last_lanes::<Brand>(rt.alloc(), Blank::new(1))?;
-    for places in seen {
-        assert_eq!(rt; places, [1, 13, 10, 11, 12, 50, 14]);
-    }
-    Ok(())
+fn leaves_lanes_out(rt: HostRuntime) {
+    assert_eq!(rt;
+        last_lanes::<Brand>(rt.alloc(), Blank::new(1)),
+        [Ok([1, 13, 10, 11, 12, 50, 14]); 5]
+    );
 }

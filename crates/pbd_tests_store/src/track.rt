@@ -54,15 +54,21 @@ fn one_place(alloc: Global) -> Result<Track, AllocError>
     Ok(Track { particle: 1, keys })
 }
 
-fn resting(x: i64) -> Particle {
-    let place = Vec3 { x, y: 0, z: 0 };
-    Particle {
-        at: place,
-        before: place,
-        weight: 1,
-        held: true,
-    }
+macro_rules! held {
+    ($x:expr) => {
+        Particle {
+            at: Vec3 { x: $x, y: 0, z: 0 },
+            before: Vec3 { x: $x, y: 0, z: 0 },
+            weight: 1,
+            held: true,
+        }
+    };
 }
+
+static THREE: [Particle; 3] = [held!(0), held!(1), held!(9)];
+
+/// The places of three particles on x, and between them that of the first on y, unless there is no memory.
+type Places = Result<[i64; 4], AllocError>;
 
 /// The places of three particles at step t, of which two are tracked.
 fn places_in<const L: usize, G: Ledger>(
@@ -70,10 +76,10 @@ fn places_in<const L: usize, G: Ledger>(
     tracks: &[Track],
     t: u32,
     steps: &mut Steps<G>,
-) -> Result<[i64; 4], AllocError>
+) -> Places
     requires { IsTrue (are_valid_tracks (pos (2 ^ 29)) 3 tracks.now) }
 {
-    match Store::<L>::open(alloc, &[resting(0), resting(1), resting(9)], RANGE) {
+    match Store::<L>::open(alloc, &THREE, RANGE) {
         Ok(mut store) => {
             place(tracks, t, &mut store, steps);
             let first = store.at(0, steps).at;
@@ -86,47 +92,73 @@ fn places_in<const L: usize, G: Ledger>(
     }
 }
 
-fn counted<G: Ledger>(
-    alloc: Global,
-    blank: Blank,
-    tracks: &[Track],
-    t: u32,
-) -> Result<[[i64; 4]; 5], AllocError>
+fn counted<G: Ledger>(alloc: Global, blank: Blank, tracks: &[Track], t: u32) -> [Places; 5]
     requires name { blank.name ≡ G.name }
     requires parts { blank.parts ≡ G.parts }
     requires some { 0 < blank.parts }
     requires tracks { IsTrue (are_valid_tracks (pos (2 ^ 29)) 3 tracks.now) }
 {
     let mut steps: Steps<G> = Steps::open(blank);
-    Ok([
-        places_in::<1, G>(alloc, tracks, t, &mut steps)?,
-        places_in::<2, G>(alloc, tracks, t, &mut steps)?,
-        places_in::<4, G>(alloc, tracks, t, &mut steps)?,
-        places_in::<8, G>(alloc, tracks, t, &mut steps)?,
-        places_in::<16, G>(alloc, tracks, t, &mut steps)?,
-    ])
+    let places = [
+        places_in::<1, G>(alloc, tracks, t, &mut steps),
+        places_in::<2, G>(alloc, tracks, t, &mut steps),
+        places_in::<4, G>(alloc, tracks, t, &mut steps),
+        places_in::<8, G>(alloc, tracks, t, &mut steps),
+        places_in::<16, G>(alloc, tracks, t, &mut steps),
+    ];
+    drop(steps);
+    places
+}
+
+/// Both tracks.
+fn two_tracks(alloc: Global) -> Result<[Track; 2], AllocError>
+    ensures { IfOk result (λ tracks. IsTrue (are_valid_tracks (pos (2 ^ 29)) 3 tracks)) }
+{
+    let first = one_way(alloc)?;
+    match one_place(alloc) {
+        Ok(second) => Ok([first, second]),
+        Err(error) => {
+            drop(first);
+            Err(error)
+        }
+    }
 }
 
 /// The places at each width.
-fn places(alloc: Global, t: u32) -> Result<[[i64; 4]; 5], AllocError> {
-    let tracks = [one_way(alloc)?, one_place(alloc)?];
-    counted::<Brand>(alloc, Blank::new(1), &tracks, t)
+fn places(alloc: Global, t: u32) -> [Places; 5] {
+    match two_tracks(alloc) {
+        Ok(tracks) => {
+            let places = counted::<Brand>(alloc, Blank::new(1), &tracks, t);
+            drop(tracks);
+            places
+        }
+        Err(error) => [Err(error); 5],
+    }
 }
 
+/// A step, and the places of the three particles.
+static PLACES: [(u32, [i64; 4]); 5] = [
+    (0, [0, 0, 5, 9]),
+    (1, [3, -3, 5, 9]),
+    (2, [7, -7, 5, 9]),
+    (3, [10, -10, 5, 9]),
+    (4, [10, -10, 5, 9]),
+];
+
 #[test]
-fn tracks_move_at_every_width(rt: HostRuntime) -> Result<(), Fail> {
-    for (t, first, second) in [(0, 0, 5), (1, 3, 5), (2, 7, 5), (3, 10, 5), (4, 10, 5)] {
-        assert_eq!(rt; places(rt.alloc(), t)?, [[first, -first, second, 9]; 5]);
+fn tracks_move_at_every_width(rt: HostRuntime) {
+    for (t, wanted) in &PLACES {
+        assert_eq!(rt; places(rt.alloc(), *t), [Ok(*wanted); 5]);
     }
-    Ok(())
 }
 
 #[test]
 fn tracks_name_particles(rt: HostRuntime) -> Result<(), Fail> {
     let track = one_place(rt.alloc())?;
-    assert_eq!(rt; track_at(&track, 7).x, 5);
+    let place = track_at(&track, 7);
     let tracks = [track];
-    assert!(rt; is_tracked(&tracks, 1));
-    assert!(rt; !is_tracked(&tracks, 0));
+    let tracked = [is_tracked(&tracks, 1), is_tracked(&tracks, 0)];
+    drop(tracks);
+    assert_eq!(rt; (place.x, tracked), (5, [true, false]));
     Ok(())
 }

@@ -2,7 +2,6 @@
 use pbd_io::{Failed, MemSink, MemSource, Sink, Source, StdSink, StdSource, SureSink, SureSource};
 use std::alloc::{AllocError, Global};
 use std::io::{self, ErrorKind, Read, Write};
-use std::test::Fail;
 
 fn put<K: Sink>(sink: &mut K, piece: &[u8]) -> Result<(), Failed> {
     sink.write(piece)
@@ -71,18 +70,16 @@ static WRITES: [(&[u8], Result<(), Failed>, &[u8]); 8] = [
 ];
 
 #[test]
-fn a_sink_in_memory_fails_where_it_is_told(rt: HostRuntime) -> Result<(), Fail> {
-    let mut sink = failing_sink(rt.alloc())?;
+fn a_sink_in_memory_fails_where_it_is_told(rt: HostRuntime) {
+    let mut sink = failing_sink(rt.alloc()).expect(&rt, "no memory");
     for (piece, answer, holds) in &WRITES {
         let answered = put(&mut sink, piece);
-        assert_eq!(rt;
-            (answered, sink.written()),
-            (*answer, *holds),
+        assert!(rt;
+            (answered, sink.written()) == (*answer, *holds),
             "at {piece:?}"
         );
     }
     drop(sink);
-    Ok(())
 }
 
 /// A source of seven bytes, at most three a call, that fails its second and its fifth call.
@@ -109,19 +106,17 @@ static READS: [(usize, Result<usize, Failed>, &[u8]); 7] = [
 ];
 
 #[test]
-fn a_source_in_memory_fails_where_it_is_told(rt: HostRuntime) -> Result<(), Fail> {
-    let mut source = failing_source(rt.alloc())?;
+fn a_source_in_memory_fails_where_it_is_told(rt: HostRuntime) {
+    let mut source = failing_source(rt.alloc()).expect(&rt, "no memory");
     for (room, answer, given) in &READS {
         let mut into = [b'.'; 4];
         let answered = get(&mut source, &mut into[..(*room).min(4)]);
-        assert_eq!(rt;
-            (answered, into.as_slice()),
-            (*answer, *given),
+        assert!(rt;
+            (answered, into.as_slice()) == (*answer, *given),
             "into {room}"
         );
     }
     drop(source);
-    Ok(())
 }
 
 #[test]
@@ -132,13 +127,10 @@ fn the_sure_ones_never_fail(rt: HostRuntime) {
     let second = get(&mut source, &mut into);
     let given = into;
     let third = get(&mut source, &mut into);
-    assert_eq!(rt;
-        ([first, second, third], given),
-        ([Ok(2), Ok(1), Ok(0)], *b"cb")
-    );
+    assert!(rt; ([first, second, third], given) == ([Ok(2), Ok(1), Ok(0)], *b"cb"));
     let mut sink = SureSink::new();
     let written = [put(&mut sink, b"abc"), put(&mut sink, b"de")];
-    assert_eq!(rt; (written, sink.taken()), ([Ok(()), Ok(())], 5));
+    assert!(rt; (written, sink.taken()) == ([Ok(()), Ok(())], 5));
 }
 
 /// What four reads into three bytes answer and give.
@@ -159,7 +151,7 @@ fn a_reader_of_std_goes_on_after_a_fault(rt: HostRuntime) {
     for (answer, given) in &STD_READS {
         let mut into = [b'.'; 3];
         let answered = get(&mut source, &mut into);
-        assert_eq!(rt; (answered, into.as_slice()), (*answer, *given));
+        assert!(rt; (answered, into.as_slice()) == (*answer, *given));
     }
 }
 
@@ -180,7 +172,7 @@ fn a_writer_of_std_fails_and_goes_on(rt: HostRuntime) {
         calls: 0,
     });
     for (piece, answer) in &STD_WRITES {
-        assert_eq!(rt; put(&mut sink, piece), *answer, "at {piece:?}");
+        assert!(rt; put(&mut sink, piece) == *answer, "at {piece:?}");
     }
-    assert_eq!(rt; held.as_slice(), b"abdehijk".as_slice());
+    assert!(rt; held.as_slice() == b"abdehijk".as_slice());
 }

@@ -12,9 +12,8 @@ use pbd_num::Vec3;
 use pbd_world::{Command, FrameSums, Phase, Refusal, Reply};
 use std::alloc::{AllocError, Global};
 use std::process::Abort;
-use std::test::*;
 
-static SCENE: [u8; 53] = [
+const SCENE: [u8; 53] = [
     103, 114, 97, 118, 105, 116, 121, 32, 61, 32, 91, 48, 44, 32, 45, 49, 48, 44, 32, 48, 93, 10,
     91, 91, 112, 97, 114, 116, 105, 99, 108, 101, 93, 93, 10, 97, 116, 32, 61, 32, 91, 48, 44, 32,
     49, 48, 48, 48, 44, 32, 48, 93, 10,
@@ -50,13 +49,13 @@ const OLD_SMALL: [u8; 23] = [
 ];
 
 // The greatest number of steps, refused with 9.
-static OLD_BAD_COUNT: [u8; 31] = [
+const OLD_BAD_COUNT: [u8; 31] = [
     80, 66, 68, 83, 76, 79, 71, 1, 0, 0, 0, 0, 1, 255, 255, 255, 255, 255, 255, 255, 255, 9, 0, 0,
     0, 0, 0, 0, 0, 0, 1,
 ];
 
 // One step, refused with 11: step 1, predict, element 0.
-static OLD_LEAVES: [u8; 44] = [
+const OLD_LEAVES: [u8; 44] = [
     80, 66, 68, 83, 76, 79, 71, 1, 0, 0, 0, 0, 1, 0, 0, 0, 0, 0, 0, 0, 1, 11, 0, 0, 0, 0, 0, 0, 0,
     1, 1, 0, 0, 0, 0, 0, 0, 0, 0, 0, 0, 0, 0, 1,
 ];
@@ -136,56 +135,99 @@ fn writes(mut sink: MemSink, scene: &[u8], entries: &[Entry], ends: bool, held: 
 }
 
 #[test]
-fn writes_the_examples(rt: HostRuntime) -> Result<(), Fail> {
-    let sink = MemSink::open(rt.alloc(), 31, Vec::new(rt.alloc()))?;
+fn writes_the_examples(rt: HostRuntime) {
+    let sink = MemSink::open(rt.alloc(), 31, Vec::new(rt.alloc())).expect(&rt, "no memory");
     assert!(rt; writes(sink, &[], &[frame()], true, SMALL.as_slice()));
-    let sink = MemSink::open(rt.alloc(), 158, Vec::new(rt.alloc()))?;
+    let sink = MemSink::open(rt.alloc(), 158, Vec::new(rt.alloc())).expect(&rt, "no memory");
     assert!(rt; writes(sink, &SCENE, &[step(), frame()], true, LONG.as_slice()));
-    Ok(())
 }
 
-/// Whether a log goes on with just these entries.
-fn has_entries(view: &mut LogView<'_>, entries: &[Entry]) -> bool {
-    for entry in entries {
-        if view.next() != Some(*entry) {
+/// Whether a log goes on with just these commands and replies, and with these sums where sums stand.
+fn has_replies(view: &mut LogView<'_>, replies: &[(Command, Reply)], sums: &FrameSums) -> bool {
+    for (command, reply) in replies {
+        if view.next() != Some(kept(*command, reply, *sums)) {
             return false;
         }
     }
     view.next().is_none() && view.next().is_none()
 }
 
-/// Compares what is read of bytes with a version, a limit, a scene and the entries.
-fn compare_log(rt: &impl Abort, bytes: &[u8], head: (u8, i64), scene: &[u8], entries: &[Entry]) {
+/// What a log holds: its version and its limit, its scene, the commands with their replies, and the sums of its steps.
+struct Held {
+    head: (u8, i64),
+    scene: &'static [u8],
+    replies: &'static [(Command, Reply)],
+    sums: FrameSums,
+}
+
+/// Compares what is read of bytes with what they hold.
+fn compare_log(rt: &impl Abort, bytes: &[u8], held: &Held) {
     match read_log(bytes) {
         Ok(mut view) => {
-            let found = (view.version(), view.limit());
-            let same = view.scene() == scene;
-            let all = has_entries(&mut view, entries);
-            assert_eq!(rt; (found, same, all), (head, true, true));
+            let head = (view.version(), view.limit());
+            let same = view.scene() == held.scene;
+            let all = has_replies(&mut view, held.replies, &held.sums);
+            assert!(rt; (head, same, all) == (held.head, true, true));
         }
         Err(fault) => assert!(rt; false, "refused at {}", fault.offset),
     }
 }
 
+macro_rules! held {
+    ($version:expr, $limit:expr, $scene:expr, $replies:expr) => {
+        Held {
+            head: ($version, $limit),
+            scene: $scene,
+            replies: $replies,
+            sums: STEP_SUMS,
+        }
+    };
+}
+
+const STEP_AND_FRAME: &[(Command, Reply)] = &[
+    (Command::Step(3), Reply::Done),
+    (Command::Frame, Reply::Frame),
+];
+
+const FRAME: &[(Command, Reply)] = &[(Command::Frame, Reply::Frame)];
+
+static EXAMPLES: [(&[u8], Held); 6] = [
+    (&LONG, held!(2, 536_870_912, &SCENE, STEP_AND_FRAME)),
+    (&SMALL, held!(2, 536_870_912, &[], FRAME)),
+    (&OLD, held!(1, 268_435_456, &SCENE, STEP_AND_FRAME)),
+    (&OLD_SMALL, held!(1, 268_435_456, &[], FRAME)),
+    (
+        &OLD_BAD_COUNT,
+        held!(
+            1,
+            268_435_456,
+            &[],
+            &[(Command::Step(u64::MAX), Reply::Refused(Refusal::BadCount))]
+        ),
+    ),
+    (
+        &OLD_LEAVES,
+        held!(
+            1,
+            268_435_456,
+            &[],
+            &[(
+                Command::Step(1),
+                Reply::Refused(Refusal::LeavesRange {
+                    step: 1,
+                    phase: Phase::Predict,
+                    element: 0,
+                })
+            )]
+        ),
+    ),
+];
+
 #[test]
 fn reads_the_examples(rt: HostRuntime) {
-    let bad_count = Reply::Refused(Refusal::BadCount);
-    let leaves = Reply::Refused(Refusal::LeavesRange {
-        step: 1,
-        phase: Phase::Predict,
-        element: 0,
-    });
-    let whole = [step(), frame()];
-    let refused_count = [kept(Command::Step(u64::MAX), &bad_count, STEP_SUMS)];
-    let refused_step = [kept(Command::Step(1), &leaves, STEP_SUMS)];
-    let new = (2, 536_870_912);
-    let old = (1, 268_435_456);
-    compare_log(&rt, &LONG, new, &SCENE, &whole);
-    compare_log(&rt, &SMALL, new, &[], &[frame()]);
-    compare_log(&rt, &OLD, old, &SCENE, &whole);
-    compare_log(&rt, &OLD_SMALL, old, &[], &[frame()]);
-    compare_log(&rt, &OLD_BAD_COUNT, old, &[], &refused_count);
-    compare_log(&rt, &OLD_LEAVES, old, &[], &refused_step);
+    for (bytes, held) in &EXAMPLES {
+        compare_log(&rt, bytes, held);
+    }
 }
 
 fn offset_of(bytes: &[u8]) -> Option<u64> {
@@ -229,7 +271,7 @@ fn first_wrong_cut(bytes: &[u8], rows: &[(usize, u64)]) -> Option<usize> {
 #[test]
 fn refuses_each_cut(rt: HostRuntime) {
     for (bytes, rows) in &CUTS {
-        assert_eq!(rt; first_wrong_cut(bytes, rows), None);
+        assert!(rt; first_wrong_cut(bytes, rows) == None);
     }
 }
 
@@ -248,7 +290,7 @@ type Wrong = (usize, u8, Option<u64>);
 /// Compares what becomes of a log with each wrong byte.
 fn compare_wrong<const N: usize>(rt: &impl Abort, bytes: &[u8; N], rows: &[Wrong]) {
     for (at, byte, offset) in rows {
-        assert_eq!(rt; offset_with(bytes, *at, *byte), *offset, "{byte} at {at}");
+        assert!(rt; offset_with(bytes, *at, *byte) == *offset, "{byte} at {at}");
     }
 }
 
@@ -299,17 +341,17 @@ static LONG_SCENE: [u8; 12] = [80, 66, 68, 83, 76, 79, 71, 1, 255, 255, 255, 255
 fn looks_at_each_field_of_version_1(rt: HostRuntime) {
     compare_wrong(&rt, &OLD_SMALL, &OLD_SMALL_CHANGED);
     compare_wrong(&rt, &OLD_LEAVES, &OLD_LEAVES_CHANGED);
-    assert_eq!(rt; offset_of(&LONG_SCENE), Some(8));
+    assert!(rt; offset_of(&LONG_SCENE) == Some(8));
 }
 
 #[test]
 fn refuses_bytes_after_the_end(rt: HostRuntime) {
     let mut longer = [0; 32];
     longer[..31].copy_from_slice(SMALL.as_slice());
-    assert_eq!(rt; offset_of(&longer), Some(31));
+    assert!(rt; offset_of(&longer) == Some(31));
     let mut longer = [2; 40];
     longer[..23].copy_from_slice(OLD_SMALL.as_slice());
-    assert_eq!(rt; offset_of(&longer), Some(23));
+    assert!(rt; offset_of(&longer) == Some(23));
 }
 
 const FAR: Vec3 = Vec3 {
@@ -319,7 +361,7 @@ const FAR: Vec3 = Vec3 {
 };
 
 /// Each command, and a reply to it.
-static REPLIES: [(Command, Reply); 13] = [
+const REPLIES: [(Command, Reply); 13] = [
     (Command::Step(u64::MAX), Reply::Refused(Refusal::BadCount)),
     (Command::Step(1), Reply::Done),
     (
@@ -365,6 +407,13 @@ const FAR_SUMS: FrameSums = FrameSums {
     before: [i64::MAX, 0, -1],
 };
 
+static WRITTEN: Held = Held {
+    head: (2, 268_435_456),
+    scene: &[],
+    replies: &REPLIES,
+    sums: FAR_SUMS,
+};
+
 /// Writes a log of these commands and replies.
 fn write_replies<K: Sink>(sink: &mut K, table: &[(Command, Reply)]) -> Result<(), Failed>
     requires { length table.now < 2 ^ 32 }
@@ -376,35 +425,12 @@ fn write_replies<K: Sink>(sink: &mut K, table: &[(Command, Reply)]) -> Result<()
     writer.finish(sink)
 }
 
-/// Whether a log goes on with just these commands and replies.
-fn has_replies(view: &mut LogView<'_>, table: &[(Command, Reply)]) -> bool {
-    for (command, reply) in table {
-        if view.next() != Some(kept(*command, reply, FAR_SUMS)) {
-            return false;
-        }
-    }
-    view.next().is_none()
-}
-
-/// Compares what is read of bytes with these commands and replies.
-fn compare_replies(rt: &impl Abort, bytes: &[u8], table: &[(Command, Reply)]) {
-    match read_log(bytes) {
-        Ok(mut view) => {
-            let limit = view.limit();
-            let all = has_replies(&mut view, table);
-            assert_eq!(rt; (limit, all), (268_435_456, true));
-        }
-        Err(fault) => assert!(rt; false, "refused at {}", fault.offset),
-    }
-}
-
 #[test]
-fn reads_back_what_it_wrote(rt: HostRuntime) -> Result<(), Fail> {
-    let mut sink = MemSink::open(rt.alloc(), 1000, Vec::new(rt.alloc()))?;
+fn reads_back_what_it_wrote(rt: HostRuntime) {
+    let mut sink = MemSink::open(rt.alloc(), 1000, Vec::new(rt.alloc())).expect(&rt, "no memory");
     assert!(rt; write_replies(&mut sink, &REPLIES).is_ok());
-    compare_replies(&rt, sink.written(), &REPLIES);
+    compare_log(&rt, sink.written(), &WRITTEN);
     drop(sink);
-    Ok(())
 }
 
 /// Calls that fail, how many bytes they take, and how many the sink holds then.
@@ -426,28 +452,26 @@ fn beginning(held: usize) -> &'static [u8] {
 
 // The header, the scene, each entry and the end are one call each.
 #[test]
-fn stops_at_the_call_that_fails(rt: HostRuntime) -> Result<(), Fail> {
+fn stops_at_the_call_that_fails(rt: HostRuntime) {
     for (call, taken, held) in &FAILING_CALLS {
-        let sink = failing(rt.alloc(), 158, *call, *taken)?;
+        let sink = failing(rt.alloc(), 158, *call, *taken).expect(&rt, "no memory");
         let entries = [step(), frame()];
         assert!(rt;
             writes(sink, &SCENE, &entries, false, beginning(*held)),
             "call {call}"
         );
     }
-    Ok(())
 }
 
 #[test]
-fn stops_at_the_call_that_fails_of_an_empty_scene(rt: HostRuntime) -> Result<(), Fail> {
+fn stops_at_the_call_that_fails_of_an_empty_scene(rt: HostRuntime) {
     for (call, held) in [(1, 0), (2, 20), (3, 22)] {
-        let sink = failing(rt.alloc(), 31, call, 0)?;
+        let sink = failing(rt.alloc(), 31, call, 0).expect(&rt, "no memory");
         assert!(rt;
             writes(sink, &[], &[frame()], false, &SMALL[..held]),
             "call {call}"
         );
     }
-    Ok(())
 }
 
 /// Writes a frame again whose first append fails.
@@ -462,10 +486,9 @@ fn append_again<K: Sink>(sink: &mut K) -> Result<(), Failed> {
 
 // After an append that failed the end has the number of the entries that were written.
 #[test]
-fn goes_on_after_a_failed_append(rt: HostRuntime) -> Result<(), Fail> {
-    let mut sink = failing(rt.alloc(), 31, 2, 0)?;
+fn goes_on_after_a_failed_append(rt: HostRuntime) {
+    let mut sink = failing(rt.alloc(), 31, 2, 0).expect(&rt, "no memory");
     assert!(rt; append_again(&mut sink).is_ok());
-    assert_eq!(rt; sink.written(), SMALL.as_slice());
+    assert!(rt; sink.written() == SMALL.as_slice());
     drop(sink);
-    Ok(())
 }

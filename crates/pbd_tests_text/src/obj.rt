@@ -10,7 +10,6 @@ use pbd_world::{Kind, Link, Parts};
 use std::alloc::{AllocError, Global};
 use std::fmt::Write;
 use std::process::Abort;
-use std::test::Fail;
 
 const SQUARE: &[u8] = b"v 0 0 0\nv 1 0 0\nv 1 1 0\nv 0 1 0\nf 1 2/7 -2//3 4\n";
 
@@ -67,9 +66,8 @@ static BAD_VERTICES: [(&[u8], ObjFault); 19] = [
 #[test]
 fn texts_with_a_bad_vertex(rt: HostRuntime) {
     for (text, fault) in &BAD_VERTICES {
-        assert_eq!(rt;
-            fault_of(&rt, rt.alloc(), text),
-            Some(*fault),
+        assert!(rt;
+            fault_of(&rt, rt.alloc(), text) == Some(*fault),
             "of {text:?}"
         );
     }
@@ -127,9 +125,8 @@ static BAD_FACES: [(&[u8], ObjFault); 13] = [
 #[test]
 fn texts_with_a_bad_face(rt: HostRuntime) {
     for (text, fault) in &BAD_FACES {
-        assert_eq!(rt;
-            fault_of(&rt, rt.alloc(), text),
-            Some(*fault),
+        assert!(rt;
+            fault_of(&rt, rt.alloc(), text) == Some(*fault),
             "of {text:?}"
         );
     }
@@ -140,7 +137,7 @@ fn compare_places(rt: &impl Abort, alloc: Global, text: &[u8], places: &[Vec3]) 
     assert!(rt; text.len() < 1_000);
     match read_obj(alloc, text) {
         Ok(mesh) => {
-            assert_eq!(rt; mesh.places.as_slice(), places, "of {text:?}");
+            assert!(rt; mesh.places.as_slice() == places, "of {text:?}");
             drop(mesh);
         }
         Err(fault) => assert!(rt; false, "{fault:?} of {text:?}"),
@@ -231,8 +228,8 @@ static TWO_FACES: [Link; 8] = [
 fn a_mesh_is_added_face_by_face(rt: HostRuntime) {
     let text = b"v 0 0 0\nv 1 0 0\nv 1 1 0\nv 0 1 0\nv 0.5 2 0\nf 1 2 3 4\nf 4 3 5\n";
     let mut parts = empty_parts(rt.alloc(), RANGE);
-    assert_eq!(rt; added(rt.alloc(), text, &mut parts), Ok(()));
-    assert_eq!(rt; parts.particles.len(), 5);
+    assert!(rt; added(rt.alloc(), text, &mut parts) == Ok(()));
+    assert!(rt; parts.particles.len() == 5);
     compare_links(&rt, parts.links.as_slice(), &TWO_FACES);
     drop(parts);
 }
@@ -269,11 +266,8 @@ fn fan_added(rt: &impl Abort, alloc: Global, outer: u32) -> Result<(), ObjFault>
 
 #[test]
 fn a_vertex_has_at_most_32_links(rt: HostRuntime) {
-    assert_eq!(rt; fan_added(&rt, rt.alloc(), 32), Ok(()));
-    assert_eq!(rt;
-        fan_added(&rt, rt.alloc(), 33),
-        Err(ObjFault::TooManyAtParticle { vertex: 1 })
-    );
+    assert!(rt; fan_added(&rt, rt.alloc(), 32) == Ok(()));
+    assert!(rt; fan_added(&rt, rt.alloc(), 33) == Err(ObjFault::TooManyAtParticle { vertex: 1 }));
 }
 
 /// Compares the sizes and the corners that a short text gives.
@@ -282,7 +276,7 @@ fn compare_faces(rt: &impl Abort, alloc: Global, text: &[u8], sizes: &[u32], cor
     match read_obj(alloc, text) {
         Ok(mesh) => {
             let faces = (mesh.sizes.as_slice(), mesh.corners.as_slice());
-            assert_eq!(rt; faces, (sizes, corners), "of {text:?}");
+            assert!(rt; faces == (sizes, corners), "of {text:?}");
             drop(mesh);
         }
         Err(fault) => assert!(rt; false, "{fault:?} of {text:?}"),
@@ -338,18 +332,15 @@ fn vertices_added(rt: &impl Abort, alloc: Global, count: usize) -> Result<(), Ob
 
 #[test]
 fn a_mesh_has_at_most_65536_vertices(rt: HostRuntime) {
-    assert_eq!(rt; vertices_added(&rt, rt.alloc(), 65_536), Ok(()));
-    assert_eq!(rt;
-        vertices_added(&rt, rt.alloc(), 65_537),
-        Err(ObjFault::TooMany)
-    );
+    assert!(rt; vertices_added(&rt, rt.alloc(), 65_536) == Ok(()));
+    assert!(rt; vertices_added(&rt, rt.alloc(), 65_537) == Err(ObjFault::TooMany));
 }
 
 /// The line of a vertex, as it is written, compared with what it should be.
 fn compare_vertex(rt: &impl Abort, mut sink: MemSink, place: Vec3, line: &[u8]) {
     assert!(rt; inside(place));
-    assert_eq!(rt; write_vertex(place, &mut sink), Ok(()));
-    assert_eq!(rt; sink.written(), line);
+    assert!(rt; write_vertex(place, &mut sink) == Ok(()));
+    assert!(rt; sink.written() == line);
     drop(sink);
 }
 
@@ -368,20 +359,18 @@ static VERTICES: [(Vec3, &[u8]); 4] = [
 ];
 
 #[test]
-fn lines_of_a_mesh(rt: HostRuntime) -> Result<(), Fail> {
+fn lines_of_a_mesh(rt: HostRuntime) {
     for (place, line) in &VERTICES {
-        let sink = MemSink::open(rt.alloc(), 100, Vec::new(rt.alloc()))?;
+        let sink = MemSink::open(rt.alloc(), 100, Vec::new(rt.alloc())).expect(&rt, "no memory");
         compare_vertex(&rt, sink, *place, line);
     }
-    Ok(())
 }
 
 #[test]
-fn lines_of_faces(rt: HostRuntime) -> Result<(), Fail> {
-    let mut sink = MemSink::open(rt.alloc(), 100, Vec::new(rt.alloc()))?;
-    assert_eq!(rt; write_face(&[0, 3, 99], 0, &mut sink), Ok(()));
-    assert_eq!(rt; write_face(&[0, 1, 2, 3], 10, &mut sink), Ok(()));
-    assert_eq!(rt; sink.written(), &b"f 1 4 100\nf 11 12 13 14\n"[..]);
+fn lines_of_faces(rt: HostRuntime) {
+    let mut sink = MemSink::open(rt.alloc(), 100, Vec::new(rt.alloc())).expect(&rt, "no memory");
+    assert!(rt; write_face(&[0, 3, 99], 0, &mut sink) == Ok(()));
+    assert!(rt; write_face(&[0, 1, 2, 3], 10, &mut sink) == Ok(()));
+    assert!(rt; sink.written() == &b"f 1 4 100\nf 11 12 13 14\n"[..]);
     drop(sink);
-    Ok(())
 }

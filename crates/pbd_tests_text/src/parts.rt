@@ -36,5 +36,5 @@ pub(crate) use link;
 
 /// Compares links with those of a table.
 pub fn compare_links(rt: &impl Abort, links: &[Link], wanted: &[Link]) {
-    assert_eq!(rt; links, wanted);
+    assert!(rt; links == wanted);
 }

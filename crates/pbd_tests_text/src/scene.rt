@@ -7,7 +7,6 @@ use pbd_world::{Kind, Link, Particle, Parts};
 use std::alloc::{AllocError, Global};
 use std::fmt::Write;
 use std::process::Abort;
-use std::test::Fail;
 
 const LIMIT: i64 = 536_870_912;
 
@@ -142,21 +141,25 @@ fn answers_lines(alloc: Global, scene: &str, answer: &str) -> Result<bool, Alloc
 }
 
 #[test]
-fn the_first_broken_rule_is_told(rt: HostRuntime) -> Result<(), Fail> {
+fn the_first_broken_rule_is_told(rt: HostRuntime) {
     for line in cases().lines() {
         let (scene, answer) = line.split_once(" => ").unwrap_or((line, "no answer"));
-        assert!(rt; answers_lines(rt.alloc(), scene, answer)?, "{line}");
+        assert!(rt;
+            answers_lines(rt.alloc(), scene, answer) == Ok(true),
+            "{line}"
+        );
     }
-    Ok(())
 }
 
 #[test]
-fn each_key_has_its_rules(rt: HostRuntime) -> Result<(), Fail> {
+fn each_key_has_its_rules(rt: HostRuntime) {
     for line in key_cases().lines() {
         let (scene, answer) = line.split_once(" => ").unwrap_or((line, "no answer"));
-        assert!(rt; answers_lines(rt.alloc(), scene, answer)?, "{line}");
+        assert!(rt;
+            answers_lines(rt.alloc(), scene, answer) == Ok(true),
+            "{line}"
+        );
     }
-    Ok(())
 }
 
 /// Writes an array: its beginning, so many times an item, and its end.
@@ -198,14 +201,13 @@ static TOO_MANY: [(&str, &str, u32, &str); 8] = [
 ];
 
 #[test]
-fn entries_past_the_greatest_number_are_refused(rt: HostRuntime) -> Result<(), Fail> {
+fn entries_past_the_greatest_number_are_refused(rt: HostRuntime) {
     for (begins, item, count, answer) in &TOO_MANY {
         assert!(rt;
-            array_answers(rt.alloc(), begins, item, *count, answer)?,
+            array_answers(rt.alloc(), begins, item, *count, answer) == Ok(true),
             "{begins}"
         );
     }
-    Ok(())
 }
 
 /// Writes two particles, and a second track with so many keys, one at each step from 0 on.
@@ -230,10 +232,9 @@ fn keys_answer(alloc: Global, count: u32, answer: &str) -> Result<bool, AllocErr
 }
 
 #[test]
-fn keys_past_the_greatest_number_are_refused(rt: HostRuntime) -> Result<(), Fail> {
-    assert!(rt; keys_answer(rt.alloc(), 1_024, "ok")?);
-    assert!(rt; keys_answer(rt.alloc(), 1_025, "6 track 1 keys")?);
-    Ok(())
+fn keys_past_the_greatest_number_are_refused(rt: HostRuntime) {
+    assert!(rt; keys_answer(rt.alloc(), 1_024, "ok") == Ok(true));
+    assert!(rt; keys_answer(rt.alloc(), 1_025, "6 track 1 keys") == Ok(true));
 }
 
 /// Writes links from each of the first particles to the one so many numbers on.
@@ -267,10 +268,9 @@ fn links_answer(alloc: Global, last: u16, answer: &str) -> Result<bool, AllocErr
 }
 
 #[test]
-fn links_of_meshes_and_entries_count_together(rt: HostRuntime) -> Result<(), Fail> {
-    assert!(rt; links_answer(rt.alloc(), 2_566, "ok")?);
-    assert!(rt; links_answer(rt.alloc(), 2_567, "6 link 133630 -")?);
-    Ok(())
+fn links_of_meshes_and_entries_count_together(rt: HostRuntime) {
+    assert!(rt; links_answer(rt.alloc(), 2_566, "ok") == Ok(true));
+    assert!(rt; links_answer(rt.alloc(), 2_567, "6 link 133630 -") == Ok(true));
 }
 
 /// Writes 34 particles, 32 links to particle 0, and what follows them.
@@ -303,11 +303,13 @@ static HUB_ENDS: [(&str, &str); 3] = [
 ];
 
 #[test]
-fn the_thirty_third_link_is_refused(rt: HostRuntime) -> Result<(), Fail> {
+fn the_thirty_third_link_is_refused(rt: HostRuntime) {
     for (last, answer) in &HUB_ENDS {
-        assert!(rt; hub_answers(rt.alloc(), last, answer)?, "{answer}");
+        assert!(rt;
+            hub_answers(rt.alloc(), last, answer) == Ok(true),
+            "{answer}"
+        );
     }
-    Ok(())
 }
 
 macro_rules! vector {
@@ -343,21 +345,18 @@ static ENTRIES: [Particle; 4] = [
 /// Compares the links and the particles of the scene below.
 fn compare_entries(rt: &impl Abort, parts: &Parts) {
     compare_links(rt, parts.links.as_slice(), &ENTRY_LINKS);
-    assert_eq!(rt; parts.particles.as_slice(), ENTRIES.as_slice());
+    assert!(rt; parts.particles.as_slice() == ENTRIES.as_slice());
 }
 
 /// Compares the scene's own numbers with what they are where a scene has gravity alone.
 fn compare_defaults(rt: &impl Abort, parts: &Parts) {
-    assert_eq!(rt; parts.gravity.y, -10);
-    assert_eq!(rt;
-        (parts.passes, parts.damping, parts.thickness, parts.friction),
-        (1, 0, 0, 0)
-    );
-    assert_eq!(rt; parts.limit, LIMIT);
+    assert!(rt; parts.gravity.y == -10);
+    assert!(rt; (parts.passes, parts.damping, parts.thickness, parts.friction) == (1, 0, 0, 0));
+    assert!(rt; parts.limit == LIMIT);
 }
 
 #[test]
-fn defaults_and_what_is_held(rt: HostRuntime) -> Result<(), Fail> {
+fn defaults_and_what_is_held(rt: HostRuntime) {
     let text = "
         gravity = [0, -10, 0]
         pins = [2]
@@ -373,12 +372,10 @@ fn defaults_and_what_is_held(rt: HostRuntime) -> Result<(), Fail> {
         }
         Err(fault) => assert!(rt; false, "{fault:?}"),
     }
-    Ok(())
 }
 
 #[test]
-fn the_largest_cloth_is_read(rt: HostRuntime) -> Result<(), Fail> {
+fn the_largest_cloth_is_read(rt: HostRuntime) {
     let text = "cloth=[{origin=[0,0,0],across=[9,0,0],down=[0,0,9],rows=256,columns=256}]";
-    assert!(rt; answers(rt.alloc(), text, "ok")?);
-    Ok(())
+    assert!(rt; answers(rt.alloc(), text, "ok") == Ok(true));
 }

@@ -39,7 +39,7 @@ static LINES: [(&[u8], Command); 12] = [
 #[test]
 fn lines_and_their_commands(rt: HostRuntime) {
     for (line, command) in &LINES {
-        assert_eq!(rt; line_command(line), Some(*command), "of {line:?}");
+        assert!(rt; line_command(line) == Some(*command), "of {line:?}");
     }
 }
 
@@ -76,7 +76,7 @@ static BAD_LINES: [&[u8]; 27] = [
 #[test]
 fn lines_that_ask_for_nothing_known(rt: HostRuntime) {
     for line in &BAD_LINES {
-        assert_eq!(rt; line_command(line), Some(Command::Bad), "of {line:?}");
+        assert!(rt; line_command(line) == Some(Command::Bad), "of {line:?}");
     }
 }
 
@@ -85,7 +85,7 @@ static EMPTY_LINES: [&[u8]; 5] = [b"\r", b" \t ", b"# step 1", b" #\xC3\xA9", b"
 #[test]
 fn lines_that_ask_for_nothing(rt: HostRuntime) {
     for line in &EMPTY_LINES {
-        assert_eq!(rt; line_command(line), None, "of {line:?}");
+        assert!(rt; line_command(line) == None, "of {line:?}");
     }
 }
 
@@ -112,7 +112,7 @@ fn a_script_is_its_lines(rt: HostRuntime) {
     for (bytes, commands) in &SCRIPTS {
         let mut script = Script::new(*bytes);
         for command in commands {
-            assert_eq!(rt; script.next(), *command, "in {bytes:?}");
+            assert!(rt; script.next() == *command, "in {bytes:?}");
         }
     }
 }
@@ -120,16 +120,13 @@ fn a_script_is_its_lines(rt: HostRuntime) {
 #[test]
 fn words_and_numbers(rt: HostRuntime) {
     let lines = [first_line(b"a\r\n\nb"), first_line(b"a\r")];
-    assert_eq!(rt;
-        lines,
-        [(&b"a\r"[..], Some(&b"\nb"[..])), (&b"a\r"[..], None)]
-    );
+    assert!(rt; lines == [(&b"a\r"[..], Some(&b"\nb"[..])), (&b"a\r"[..], None)]);
     let words = (
         without_return(b"a\r\r"),
         next_word(b" \tab c "),
         next_word(b" \t"),
     );
-    assert_eq!(rt; words, (&b"a\r"[..], Some((&b"ab"[..], &b" c "[..])), None));
+    assert!(rt; words == (&b"a\r"[..], Some((&b"ab"[..], &b" c "[..])), None));
     assert!(rt; are_digits(b"") && are_digits(b"0129") && !are_digits(b"12/"));
     let numbers = (
         count_of(b"0120"),
@@ -137,7 +134,7 @@ fn words_and_numbers(rt: HostRuntime) {
         only_count(b" 7 "),
         only_count(b" 7 8"),
     );
-    assert_eq!(rt; numbers, (Some(120), Some(-120), Some(7), None));
+    assert!(rt; numbers == (Some(120), Some(-120), Some(7), None));
 }
 
 static VALUES: [(&[u8], u128); 4] = [
@@ -154,6 +151,6 @@ static VALUES: [(&[u8], u128); 4] = [
 fn digits_and_their_value(rt: HostRuntime) {
     for (word, value) in &VALUES {
         assert!(rt; word.len() <= 38 && are_digits(word));
-        assert_eq!(rt; value_of(word), *value, "of {word:?}");
+        assert!(rt; value_of(word) == *value, "of {word:?}");
     }
 }

@@ -30,7 +30,7 @@ project-outcome-requires g c =
       ),
     )
 
-pub overflow_sub-last-2 : goal.overflow_sub-last-2
-overflow_sub-last-2 g c =
+pub ends_on_x-x-requires : goal.ends_on_x-x-requires
+ends_on_x-x-requires g c =
     let as_many = same_length c.project-outcome.new.store.particles c.args.store.now.particles c.project-outcome.ensures.fixed in
-    omega (arith, c.requires.two, c.len-last.ensures.value, as_many)
+    omega (arith, c.requires.two, as_many)

@@ -8,8 +8,8 @@ use Rattle.pbd_tests_store.proofs.tear.first_torn.Goals as goal
 pub torn-requires : goal.torn-requires
 torn-requires g c =
     let ps = c.args.particles.now in
-    let limit : c.in_ok-store.store.limit ≡ pos (2 ^ 29) = c.in_ok-store.ensures.limit in
-    let same : c.in_ok-store.store.particles ≡ ps = c.in_ok-store.ensures.particles in (
+    let limit : c.in-Ok.store.limit ≡ pos (2 ^ 29) = c.in-Ok.ensures.limit in
+    let same : c.in-Ok.store.particles ≡ ps = c.in-Ok.ensures.particles in (
       omega arith,
       (
         coe 1 0 (i. IsTrue (are_valid_links (limit i) (length (same i)) c.args.links.now)) c.requires.links,
