@@ -1,23 +1,33 @@
 //! Sixteen sessions in one host, whose commands come in a hundred orders that a generator draws: each prints what it
 //! prints alone.
-use crate::written::{hosted, simulated};
-use pbd_outcome::Status;
+use crate::written::{Outcome, outcome_of, push_each};
+use pbd_outcome::{Job, Status};
 use pbd_world::Width;
 use std::alloc::{AllocError, Global};
 use std::test::Fail;
 
 /// What each session is asked in turn. Session t begins with entry t mod 4.
-const COMMANDS: [&str; 4] = ["step 1", "frame", "fly", "gravity 0 -3 0"];
+static COMMANDS: [&str; 4] = ["step 1", "frame", "fly", "gravity 0 -3 0"];
+
+/// The numbers of the sessions.
+static NUMBERS: [&str; 16] = [
+    "0", "1", "2", "3", "4", "5", "6", "7", "8", "9", "10", "11", "12", "13", "14", "15",
+];
 
 /// How often the four commands of all sessions come, each time in another order.
 const ORDERS: usize = 100;
 
-/// A free particle that falls as fast as its session's number says.
-fn push_scene(alloc: Global, input: &mut String, session: usize) -> Result<(), AllocError> {
-    let scene = format!(in alloc;
-        "gravity = [0, -{session}, 0]\n[[particle]]\nat = [{session}, 1000, 0]\n"
-    )?;
-    input.push_str(scene.as_str())
+/// A free particle that falls as fast as its session's number says, behind a text.
+fn push_scene(input: &mut String, before: &str, number: &str) -> Result<(), AllocError> {
+    let pieces = [
+        before,
+        "gravity = [0, -",
+        number,
+        ", 0]\n[[particle]]\nat = [",
+        number,
+        ", 1000, 0]\n",
+    ];
+    push_each(input, &pieces)
 }
 
 /// Four lines for each of sixteen sessions, in an order of their sessions that is drawn.
@@ -35,77 +45,105 @@ fn drawn_order(state: &mut u64) -> [usize; 64] {
     order
 }
 
-fn push_order(alloc: Global, input: &mut String, state: &mut u64) -> Result<(), AllocError> {
-    let mut next = [0; 16];
-    for (session, place) in next.iter_mut().enumerate() {
-        *place = session % 4;
-    }
+fn push_order(input: &mut String, state: &mut u64) -> Result<(), AllocError> {
+    let mut next: [usize; 16] = [0, 1, 2, 3, 0, 1, 2, 3, 0, 1, 2, 3, 0, 1, 2, 3];
     for session in drawn_order(state) {
         let session = session % 16;
-        let command = COMMANDS[next[session] % 4];
-        next[session] = (next[session] % 4) + 1;
-        let line = format!(in alloc; "{session} {command}\n")?;
-        input.push_str(line.as_str())?;
+        let command = next[session] % 4;
+        next[session] = command + 1;
+        push_each(input, &[NUMBERS[session], " ", COMMANDS[command], "\n"])?;
     }
     Ok(())
 }
 
-fn host_input(alloc: Global) -> Result<String, AllocError> {
-    let mut input = String::new(alloc);
-    push_scene(alloc, &mut input, 0)?;
-    for session in 1..16 {
-        input.push_str("%%\n")?;
-        push_scene(alloc, &mut input, session)?;
+fn push_scenes(input: &mut String) -> Result<(), AllocError> {
+    let mut before = "";
+    for number in &NUMBERS {
+        push_scene(input, before, *number)?;
+        before = "%%\n";
     }
-    input.push_str("%%%\n")?;
+    input.push_str("%%%\n")
+}
+
+fn push_host_input(input: &mut String) -> Result<(), AllocError> {
+    push_scenes(input)?;
     let mut state = 7;
     for _ in 0..ORDERS {
-        push_order(alloc, &mut input, &mut state)?;
+        push_order(input, &mut state)?;
     }
-    Ok(input)
+    Ok(())
 }
 
 /// The scene and the commands of one session.
-fn own_input(alloc: Global, session: usize) -> Result<String, AllocError> {
-    let mut input = String::new(alloc);
-    push_scene(alloc, &mut input, session)?;
+fn push_own_input(input: &mut String, session: usize) -> Result<(), AllocError> {
+    push_scene(input, "", NUMBERS[session % 16])?;
     input.push_str("%%\n")?;
     for place in 0..4 * ORDERS {
-        input.push_str(COMMANDS[(session % 4 + place) % 4])?;
-        input.push_str("\n")?;
+        push_each(input, &[COMMANDS[(session % 4 + place) % 4], "\n"])?;
     }
-    Ok(input)
+    Ok(())
 }
 
-/// What a host printed for a session, without the lines that name it.
-fn own_text(alloc: Global, written: &str, session: usize) -> Result<String, AllocError> {
-    let name = format!(in alloc; "session {session}")?;
-    let mut text = String::new(alloc);
+/// What a host printed for the session of a number, without the lines that name it.
+fn push_own_text(text: &mut String, written: &str, number: &str) -> Result<(), AllocError> {
     let mut is_own = false;
     for line in written.split('\n') {
-        if line.starts_with("session") {
-            is_own = line == name.as_str();
+        if let Some(named) = line.strip_prefix("session ") {
+            is_own = named == number;
         } else if is_own && !line.is_empty() {
-            text.push_str(line)?;
-            text.push_str("\n")?;
+            push_each(text, &[line, "\n"])?;
         }
     }
-    Ok(text)
+    Ok(())
+}
+
+/// Whether a host printed for the session of a number what it prints alone, which is something.
+fn is_printed(alloc: Global, written: &str, number: &str, alone: Outcome) -> bool {
+    match alone {
+        Ok((_, alone)) => {
+            let mut text = String::new(alloc);
+            let made = push_own_text(&mut text, written, number).is_ok();
+            let same = text.as_str().as_bytes() == alone.as_slice() && !alone.is_empty();
+            drop(text);
+            drop(alone);
+            same && made
+        }
+        Err(_) => false,
+    }
+}
+
+/// The first session that isn't printed as alone.
+fn first_other(alloc: Global, written: &[u8]) -> Option<usize> {
+    let written = str::from_utf8(written).unwrap_or("");
+    for session in 0..16usize {
+        if !is_apart(alloc, written, session) {
+            return Some(session);
+        }
+    }
+    None
+}
+
+fn is_apart(alloc: Global, written: &str, session: usize) -> bool {
+    let mut input = String::new(alloc);
+    let made = push_own_input(&mut input, session).is_ok();
+    let alone = outcome_of(
+        alloc,
+        Job::Simulate(Width::W1),
+        input.as_str().as_bytes(),
+    );
+    drop(input);
+    is_printed(alloc, written, NUMBERS[session % 16], alone) && made
 }
 
 #[test]
 fn sixteen_sessions_print_what_each_prints_alone(rt: HostRuntime) -> Result<(), Fail> {
-    let alloc = rt.alloc();
-    let input = host_input(alloc)?;
-    let (answer, written) = hosted(alloc, Width::W4, input.as_str().as_bytes())?;
-    assert_eq!(rt; answer, Status::SomeRefused);
-    let written = str::from_utf8(&written).unwrap_or("");
-    for session in 0..16 {
-        let own = own_input(alloc, session)?;
-        let (_, alone) = simulated(alloc, own.as_str().as_bytes())?;
-        let text = own_text(alloc, written, session)?;
-        assert!(rt; !alone.is_empty());
-        assert_eq!(rt; text.as_str().as_bytes(), alone.as_slice(), "{session}");
-    }
+    let mut input = String::new(rt.alloc());
+    let made = push_host_input(&mut input).is_ok();
+    let outcome = outcome_of(rt.alloc(), Job::Host(Width::W4), input.as_str().as_bytes());
+    drop(input);
+    let (answer, written) = outcome?;
+    let other = first_other(rt.alloc(), &written);
+    drop(written);
+    assert_eq!(rt; (made, answer, other), (true, Status::SomeRefused, None));
     Ok(())
 }

@@ -1,27 +1,31 @@
 //! What jobs write.
+ghost use Rattle.pbd_outcome.specs.Job.{IsSized};
+
 use pbd_io::{MemSink, SureSource};
 use pbd_outcome::{Job, Status};
 use pbd_run::perform;
-use pbd_world::Width;
 use std::alloc::{AllocError, Global};
 
-/// What a host of this width answers and writes, at most a million bytes.
-pub fn hosted(alloc: Global, width: Width, input: &[u8]) -> Result<(Status, Vec<u8>), AllocError> {
-    let mut source = SureSource::new(input);
+/// What a job answers and writes.
+pub type Outcome = Result<(Status, Vec<u8>), AllocError>;
+
+/// What a job answers and writes on this input, at most a million bytes.
+pub fn outcome_of(alloc: Global, job: Job, input: &[u8]) -> Outcome
+    requires { IsSized job }
+{
     let mut sink = MemSink::open(alloc, 1_000_000, Vec::new(alloc))?;
-    let status = perform(alloc, Some(Job::Host(width)), &mut source, &mut sink);
-    Ok((status, sink.written().to_vec(alloc)?))
+    let mut source = SureSource::new(input);
+    let status = perform(alloc, Some(job), &mut source, &mut sink);
+    let written = sink.written().to_vec(alloc);
+    drop(source);
+    drop(sink);
+    Ok((status, written?))
 }
 
-/// What a session alone answers and writes, one lane wide.
-pub fn simulated(alloc: Global, input: &[u8]) -> Result<(Status, Vec<u8>), AllocError> {
-    let mut source = SureSource::new(input);
-    let mut sink = MemSink::open(alloc, 1_000_000, Vec::new(alloc))?;
-    let status = perform(
-        alloc,
-        Some(Job::Simulate(Width::W1)),
-        &mut source,
-        &mut sink,
-    );
-    Ok((status, sink.written().to_vec(alloc)?))
+/// Adds each of some texts.
+pub fn push_each(text: &mut String, pieces: &[&str]) -> Result<(), AllocError> {
+    for piece in pieces {
+        text.push_str(*piece)?;
+    }
+    Ok(())
 }

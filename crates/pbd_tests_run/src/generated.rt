@@ -1,125 +1,157 @@
 //! Inputs that are generated: particles in a row, links side by side, and links that meet at one particle.
-ghost use Rattle.std.specs.Prelude.{◌≤◌};
-
-use crate::written::{first_other, run_on};
-use pbd_outcome::Status;
+use crate::written::{all_of, are_alike, push_line, writes};
 use std::alloc::{AllocError, Global};
-use std::fmt::Write;
 use std::test::Fail;
 
-/// So many particles in a row, and one step.
-fn in_a_row(alloc: Global, count: u32, thickness: u32, passes: u32) -> Result<String, AllocError> {
-    let mut text = format!(in alloc; "thickness = {thickness}\npasses = {passes}\n")?;
-    for x in 0..count {
-        write!(text, "[[particle]]\nat = [{x}, 0, 0]\n")?;
+/// A line for each number from the first on and below the second, which stands at each `#` of it.
+type Lines = (u32, u32, &'static str);
+
+fn push_each(text: &mut String, lines: &Lines) -> Result<(), AllocError> {
+    let (from, to, line) = *lines;
+    for number in from..to {
+        push_line(text, line, &[number, number])?;
     }
-    text.push_str("%%\nstep 1\nframe\n")?;
-    Ok(text)
+    Ok(())
 }
 
-/// What a run writes that ends with a frame of particles which stay in a row.
-fn a_row_that_stays(alloc: Global, head: &str, count: u32) -> Result<String, AllocError> {
-    let mut text = String::from_str(alloc, head)?;
-    for x in 0..count {
-        write!(text, "{x} 0 0\n")?;
+fn push_all(text: &mut String, parts: &[Lines]) -> Result<(), AllocError> {
+    for lines in parts {
+        push_each(text, lines)?;
     }
-    Ok(text)
+    Ok(())
 }
+
+fn text_of(alloc: Global, parts: &[Lines]) -> Result<String, AllocError> {
+    let mut text = String::new(alloc);
+    match push_all(&mut text, parts) {
+        Ok(()) => Ok(text),
+        Err(error) => {
+            drop(text);
+            Err(error)
+        }
+    }
+}
+
+const PARTICLE: &str = "[[particle]]\nat = [#, 0, 0]\n";
+
+static SEVENTY: [Lines; 3] = [
+    (0, 1, "thickness = 100\npasses = 1\n"),
+    (0, 70, PARTICLE),
+    (0, 1, "%%\nstep 1\nframe\n"),
+];
 
 #[test]
 fn seventy_contacts_are_the_same_at_every_width(rt: HostRuntime) -> Result<(), Fail> {
-    let alloc = rt.alloc();
-    let input = in_a_row(alloc, 70, 100, 1)?;
-    let first = run_on(alloc, "simulate 1", input.as_str().as_bytes())?;
-    assert_eq!(rt; first.0, Status::Done);
-    assert!(rt; first.1.starts_with(b"ok\nframe 1 70 0 2415\n"));
-    for words in ["simulate 2", "simulate 4", "simulate 8", "simulate 16"] {
-        let other = run_on(alloc, words, input.as_str().as_bytes())?;
-        assert!(rt; other == first, "{words}");
-    }
+    let input = text_of(rt.alloc(), &SEVENTY)?;
+    let alike = are_alike(
+        rt.alloc(),
+        "simulate 1",
+        &["simulate 2", "simulate 4", "simulate 8", "simulate 16"],
+        &all_of(input.as_str().as_bytes()),
+        &[(0, b"ok\nframe 1 70 0 2415\n")],
+    );
+    drop(input);
+    assert!(rt; alike);
     Ok(())
+}
+
+/// Links of length 105 and of rest length 100, side by side.
+const SEVENTEEN_LINKS: &str =
+    "[[link]]\na = 0\nb = 1\nrest = 100\n[[link]]\na = 2\nb = 3\nrest = 100\n[[link]]\na = 4\nb = 5\nrest = 100\n[[link]]\na = 6\nb = 7\nrest = 100\n[[link]]\na = 8\nb = 9\nrest = 100\n[[link]]\na = 10\nb = 11\nrest = 100\n[[link]]\na = 12\nb = 13\nrest = 100\n[[link]]\na = 14\nb = 15\nrest = 100\n[[link]]\na = 16\nb = 17\nrest = 100\n[[link]]\na = 18\nb = 19\nrest = 100\n[[link]]\na = 20\nb = 21\nrest = 100\n[[link]]\na = 22\nb = 23\nrest = 100\n[[link]]\na = 24\nb = 25\nrest = 100\n[[link]]\na = 26\nb = 27\nrest = 100\n[[link]]\na = 28\nb = 29\nrest = 100\n[[link]]\na = 30\nb = 31\nrest = 100\n[[link]]\na = 32\nb = 33\nrest = 100\n";
+
+/// Words, an input, the number of a status, and what is written.
+static ROWS: [(&str, &[Lines], u8, &[Lines]); 5] = [
+    (
+        "simulate *",
+        &[
+            (0, 1, "thickness = 1000\npasses = 0\n"),
+            (0, 724, PARTICLE),
+            (0, 1, "%%\nstep 1\nframe\n"),
+        ],
+        0,
+        &[(0, 1, "ok\nframe 1 724 0 261726\n"), (0, 724, "# 0 0\n")],
+    ),
+    (
+        "simulate *",
+        &[
+            (0, 1, "thickness = 1000\npasses = 0\n"),
+            (0, 725, PARTICLE),
+            (0, 1, "%%\nstep 1\nframe\n"),
+        ],
+        11,
+        &[
+            (0, 1, "refused 12 TooManyContacts step 1\nframe 0 725 0 0\n"),
+            (0, 725, "# 0 0\n"),
+        ],
+    ),
+    (
+        "simulate *",
+        &[
+            (0, 1, "passes = 1\n"),
+            (
+                0,
+                1,
+                "[[particle]]\nat = [0, 0, 0]\n[[particle]]\nat = [105, 0, 0]\n",
+            ),
+            (
+                1,
+                17,
+                "[[particle]]\nat = [0, #000, 0]\n[[particle]]\nat = [105, #000, 0]\n",
+            ),
+            (0, 1, SEVENTEEN_LINKS),
+            (0, 1, "%%\nstep 1\nframe\n"),
+        ],
+        0,
+        &[
+            (0, 1, "ok\nframe 1 34 17 0\n3 0 0\n102 0 0\n"),
+            (1, 17, "3 #000 0\n102 #000 0\n"),
+        ],
+    ),
+    (
+        "simulate 1",
+        &[
+            (0, 34, PARTICLE),
+            (1, 33, "[[link]]\na = 0\nb = #\n"),
+            (0, 1, "%%\n"),
+        ],
+        0,
+        &[],
+    ),
+    (
+        "simulate 1",
+        &[
+            (0, 34, PARTICLE),
+            (1, 34, "[[link]]\na = 0\nb = #\n"),
+            (0, 1, "%%\n"),
+        ],
+        8,
+        &[(
+            0,
+            1,
+            "error 8 SceneRefused 10 TooManyAtParticle link 32 a\n",
+        )],
+    ),
+];
+
+fn holds(alloc: Global, words: &str, input: &[Lines], number: u8, output: &[Lines]) -> bool {
+    let Ok(input) = text_of(alloc, input) else {
+        return false;
+    };
+    let Ok(output) = text_of(alloc, output) else {
+        drop(input);
+        return false;
+    };
+    let (given, wanted) = (input.as_str().as_bytes(), output.as_str().as_bytes());
+    let so = writes(alloc, words, given, number, wanted);
+    drop(input);
+    drop(output);
+    so
 }
 
 #[test]
-fn contacts_past_their_greatest_number_are_refused(rt: HostRuntime) -> Result<(), Fail> {
-    let alloc = rt.alloc();
-    for (count, status, head) in [
-        (724, "0", "ok\nframe 1 724 0 261726\n"),
-        (
-            725,
-            "11",
-            "refused 12 TooManyContacts step 1\nframe 0 725 0 0\n",
-        ),
-    ] {
-        let input = in_a_row(alloc, count, 1000, 0)?;
-        let output = a_row_that_stays(alloc, head, count)?;
-        let (input, output) = (input.as_str().as_bytes(), output.as_str().as_bytes());
-        let other = first_other(alloc, "simulate *", input, status, output)?;
-        assert!(rt; other.is_none(), "{head}");
+fn runs_on_many_particles_and_links_end_and_write_as_their_rows_say(rt: HostRuntime) {
+    for (words, input, number, output) in &ROWS {
+        let so = holds(rt.alloc(), words, input, *number, output);
+        assert!(rt; so, "{words} {number}");
     }
-    Ok(())
-}
-
-/// Links of length 105 and of rest length 100, side by side, and one step.
-fn links_side_by_side(alloc: Global, count: u32) -> Result<String, AllocError>
-    requires { count ≤ 1000 }
-{
-    let mut text = String::from_str(alloc, "passes = 1\n")?;
-    for i in 0..count {
-        let y = 1000 * i;
-        write!(
-            text,
-            "[[particle]]\nat = [0, {y}, 0]\n[[particle]]\nat = [105, {y}, 0]\n"
-        )?;
-    }
-    for i in 0..count {
-        let a = 2 * i;
-        let b = a + 1;
-        write!(text, "[[link]]\na = {a}\nb = {b}\nrest = 100\n")?;
-    }
-    text.push_str("%%\nstep 1\nframe\n")?;
-    Ok(text)
-}
-
-#[test]
-fn seventeen_links_settle_at_every_width(rt: HostRuntime) -> Result<(), Fail> {
-    let alloc = rt.alloc();
-    let input = links_side_by_side(alloc, 17)?;
-    let mut output = String::from_str(alloc, "ok\nframe 1 34 17 0\n")?;
-    for i in 0..17u32 {
-        let y = 1000 * i;
-        write!(output, "3 {y} 0\n102 {y} 0\n")?;
-    }
-    let (input, output) = (input.as_str().as_bytes(), output.as_str().as_bytes());
-    assert!(rt; first_other(alloc, "simulate *", input, "0", output)?.is_none());
-    Ok(())
-}
-
-/// So many particles, and so many links of the first to those behind it.
-fn links_at_one(alloc: Global, particles: u32, links: u32) -> Result<String, AllocError>
-    requires { links ≤ 1000 }
-{
-    let mut text = String::new(alloc);
-    for x in 0..particles {
-        write!(text, "[[particle]]\nat = [{x}, 0, 0]\n")?;
-    }
-    for i in 0..links {
-        let b = i + 1;
-        write!(text, "[[link]]\na = 0\nb = {b}\n")?;
-    }
-    text.push_str("%%\n")?;
-    Ok(text)
-}
-
-#[test]
-fn a_thirty_third_link_stops_a_run(rt: HostRuntime) -> Result<(), Fail> {
-    let alloc = rt.alloc();
-    let input = links_at_one(alloc, 34, 32)?;
-    let fits = first_other(alloc, "simulate 1", input.as_str().as_bytes(), "0", b"")?;
-    assert!(rt; fits.is_none());
-    let input = links_at_one(alloc, 34, 33)?;
-    let line = b"error 8 SceneRefused 10 TooManyAtParticle link 32 a\n";
-    let stops = first_other(alloc, "simulate 1", input.as_str().as_bytes(), "8", line)?;
-    assert!(rt; stops.is_none());
-    Ok(())
 }

@@ -1,8 +1,7 @@
 //! Logs: written, replayed, changed and cut, as this version and the one before it wrote them.
-use crate::written::{first_other, run_on};
+use crate::written::writes;
 use pbd_outcome::Status;
-use std::alloc::{AllocError, Global};
-use std::test::Fail;
+use std::alloc::Global;
 
 /// The log of a particle that falls for three steps, and a frame.
 pub(crate) const LOG: &[u8] =
@@ -13,7 +12,7 @@ pub(crate) const OLD_LOG: &[u8] =
     b"PBDSLOG\x01\x00\x00\x005gravity = [0, -10, 0]\n[[particle]]\nat = [0, 1000, 0]\n\x01\x00\x00\x00\x00\x00\x00\x00\x03\x00\x00\x00\x00\x00\x00\x00\x00\x03\x00\x00\x00\x00\x00\x00\x00\x00\x00\x00\x00\x00\x00\x00\x00\x00\x00\x00\x00\x00\x00\x00\x03\xac\x00\x00\x00\x00\x00\x00\x00\x00\x00\x00\x00\x00\x00\x00\x00\x00\x00\x00\x00\x00\x00\x00\x03\xca\x00\x00\x00\x00\x00\x00\x00\x00\x02\x00\x00\x00\x00\x00\x00\x00\x00\x00\x02";
 
 /// Words, an input, what is written, and the status.
-const LOGS: [(&str, &[u8], &[u8], Status); 17] = [
+static LOGS: [(&str, &[u8], &[u8], Status); 17] = [
     (
         "record 4",
         b"%%\nframe\n",
@@ -119,56 +118,64 @@ const LOGS: [(&str, &[u8], &[u8], Status); 17] = [
 ];
 
 #[test]
-fn a_log_is_written_and_replayed(rt: HostRuntime) -> Result<(), Fail> {
+fn a_log_is_written_and_replayed(rt: HostRuntime) {
     for (words, input, output, status) in &LOGS {
-        let (answer, written) = run_on(rt.alloc(), words, input)?;
-        assert_eq!(rt; answer, *status, "{words}");
-        assert_eq!(rt; written.as_slice(), *output, "{words}");
+        let so = writes(rt.alloc(), words, input, status.code(), output);
+        assert!(rt; so, "{words} {output:?}");
     }
-    Ok(())
 }
 
-/// The place of the fault in a log that is cut to this length: that of the last row which begins at or before it.
-fn fault_of(len: usize, places: &[(usize, &'static str)]) -> &'static str {
-    let mut place = "";
-    for (from, offset) in places {
+/// From which length on a log that is cut to it is refused how: each line from there up to the length of the next.
+type Refusals = &'static [(usize, &'static [u8])];
+
+static CUTS: [(&[u8], Refusals); 2] = [
+    (
+        LOG,
+        &[
+            (0, b"error 9 LogRefused offset 0\n"),
+            (8, b"error 9 LogRefused offset 8\n"),
+            (16, b"error 9 LogRefused offset 16\n"),
+            (73, b"error 9 LogRefused offset 73\n"),
+            (147, b"error 9 LogRefused offset 147\n"),
+            (149, b"error 9 LogRefused offset 149\n"),
+        ],
+    ),
+    (
+        OLD_LOG,
+        &[
+            (0, b"error 9 LogRefused offset 0\n"),
+            (8, b"error 9 LogRefused offset 8\n"),
+            (65, b"error 9 LogRefused offset 65\n"),
+            (139, b"error 9 LogRefused offset 139\n"),
+            (141, b"error 9 LogRefused offset 141\n"),
+        ],
+    ),
+];
+
+/// The line of a log that is cut to this length: that of the last row which begins at or before it.
+fn line_of(len: usize, refusals: Refusals) -> &'static [u8] {
+    let mut found: &[u8] = b"";
+    for (from, line) in refusals {
         if *from <= len {
-            place = *offset;
+            found = *line;
         }
     }
-    place
+    found
 }
 
-/// The first length to which a log is cut and isn't refused where it goes wrong. From which length on the offset is which.
-fn first_wrong_cut(
-    alloc: Global,
-    log: &[u8],
-    places: &[(usize, &'static str)],
-) -> Result<Option<usize>, AllocError> {
+/// The first length to which a log is cut and isn't refused where it goes wrong.
+fn first_wrong_cut(alloc: Global, log: &[u8], refusals: Refusals) -> Option<usize> {
     for len in 0..log.len() {
-        let place = fault_of(len, places);
-        let line = format!(in alloc; "error 9 LogRefused offset {place}\n")?;
-        let line = line.as_str().as_bytes();
-        if first_other(alloc, "replay 1", &log[..len], "9", line)?.is_some() {
-            return Ok(Some(len));
+        if !writes(alloc, "replay 1", &log[..len], 9, line_of(len, refusals)) {
+            return Some(len);
         }
     }
-    Ok(None)
+    None
 }
 
 #[test]
-fn a_log_that_is_cut_is_refused_where_it_goes_wrong(rt: HostRuntime) -> Result<(), Fail> {
-    let alloc = rt.alloc();
-    let places = [
-        (0, "0"),
-        (8, "8"),
-        (16, "16"),
-        (73, "73"),
-        (147, "147"),
-        (149, "149"),
-    ];
-    assert_eq!(rt; first_wrong_cut(alloc, LOG, &places)?, None);
-    let places = [(0, "0"), (8, "8"), (65, "65"), (139, "139"), (141, "141")];
-    assert_eq!(rt; first_wrong_cut(alloc, OLD_LOG, &places)?, None);
-    Ok(())
+fn a_log_that_is_cut_is_refused_where_it_goes_wrong(rt: HostRuntime) {
+    for (log, refusals) in &CUTS {
+        assert_eq!(rt; first_wrong_cut(rt.alloc(), *log, *refusals), None);
+    }
 }

@@ -1,5 +1,5 @@
 //! Runs of `obj`.
-use crate::written::{Failing, first_other, first_wrong, run_failing, run_on};
+use crate::written::{all_of, comes_to, first_wrong, push_line, run, writes};
 use pbd_outcome::Status;
 use std::alloc::{AllocError, Global};
 use std::test::Fail;
@@ -25,76 +25,63 @@ obj 2 < v 0 0 0; %%; [[cloth]]; origin = [0, 0, 0]; across = [0, 0, 0]; down = [
 obj 2 < v 0 0 0; v 0 0 0; v 0 0 0; v 0 0 0; v 0 0 0; v 0 0 0; v 0 0 0; v 0 0 0; v 0 0 0; v 0 0 0; v 0 0 0; v 0 0 0; v 0 0 0; v 0 0 0; v 0 0 0; v 0 0 0; v 0 0 0; v 0 0 0; v 0 0 0; v 0 0 0; v 0 0 0; v 0 0 0; v 0 0 0; v 0 0 0; v 0 0 0; v 0 0 0; v 0 0 0; v 0 0 0; v 0 0 0; v 0 0 0; v 0 0 0; v 0 0 0; v 0 0 0; v 0 0 0; v 0 0 0; f 1 2 3; f 1 4 5; f 1 6 7; f 1 8 9; f 1 10 11; f 1 12 13; f 1 14 15; f 1 16 17; f 1 18 19; f 1 20 21; f 1 22 23; f 1 24 25; f 1 26 27; f 1 28 29; f 1 30 31; f 1 32 33; f 1 34 35; %%; [[particle]]; at = [0, 0, 0]; %% => 14 error 14 ObjRefused 5 TooManyAtParticle at 1";
 
 #[test]
-fn a_mesh_is_written_at_every_width(rt: HostRuntime) -> Result<(), Fail> {
-    assert_eq!(rt; first_wrong(rt.alloc(), MESHES)?, None);
-    Ok(())
+fn a_mesh_is_written_at_every_width(rt: HostRuntime) {
+    assert_eq!(rt; first_wrong(rt.alloc(), MESHES), None);
 }
 
 #[test]
-fn a_mesh_is_looked_at_after_the_scene(rt: HostRuntime) -> Result<(), Fail> {
-    let alloc = rt.alloc();
-    assert_eq!(rt; first_wrong(alloc, REFUSED)?, None);
+fn a_mesh_is_looked_at_after_the_scene(rt: HostRuntime) {
+    assert_eq!(rt; first_wrong(rt.alloc(), REFUSED), None);
     let line = b"error 6 SceneNotText\n";
-    let other = first_other(alloc, "obj 4", b"v 1 2\n%%\n\xff\n%%\n", "6", line)?;
-    assert!(rt; other.is_none());
-    Ok(())
+    assert!(rt; writes(rt.alloc(), "obj 4", b"v 1 2\n%%\n\xff\n%%\n", 6, line));
 }
 
 /// The vertices of a net of 100 by 100.
-fn push_vertices(alloc: Global, text: &mut String) -> Result<(), AllocError> {
+fn push_vertices(text: &mut String) -> Result<(), AllocError> {
     for n in 0..10_000u32 {
-        let row = n / 100;
-        let column = n % 100;
-        text.push_str(format!(in alloc; "v {row}.5 -{column} 1e-3\n")?.as_str())?;
+        push_line(text, "v #.5 -# 1e-3\n", &[n / 100, n % 100])?;
     }
     Ok(())
 }
 
-/// A face between each four neighbours of that net.
-fn push_faces(alloc: Global, text: &mut String) -> Result<(), AllocError> {
+/// A net of 100 by 100 with a face between each four neighbours, and a frame of it.
+fn push_net(text: &mut String) -> Result<(), AllocError> {
+    push_vertices(text)?;
     for n in 0..9_801u32 {
         let first = 100 * (n / 99) + n % 99 + 1;
         let below = first + 100;
-        let line = format!(in alloc; "f {first} {} {} {below}\n", first + 1, below + 1)?;
-        text.push_str(line.as_str())?;
+        push_line(text, "f # # # #\n", &[first, first + 1, below + 1, below])?;
     }
-    Ok(())
+    text.push_str("%%\n%%\nframe\n")
+}
+
+/// Whether a frame comes to itself where it is read as a mesh.
+fn is_its_mesh(alloc: Global, frame: &[u8]) -> bool {
+    let Ok(mut input) = frame.to_vec(alloc) else {
+        return false;
+    };
+    let made = input.extend_from_slice(b"%%\n%%\nframe\n").is_ok();
+    let outcome = run(alloc, "obj 16", &all_of(&input));
+    drop(input);
+    comes_to(outcome, 0, frame) && made
 }
 
 #[test]
 fn a_frame_is_read_again_as_its_mesh(rt: HostRuntime) -> Result<(), Fail> {
-    let alloc = rt.alloc();
-    let mut net = String::new(alloc);
-    push_vertices(alloc, &mut net)?;
-    push_faces(alloc, &mut net)?;
-    net.push_str("%%\n%%\nframe\n")?;
-    let first = run_on(alloc, "obj 1", net.as_str().as_bytes())?;
-    assert_eq!(rt; first.0, Status::Done);
-    assert!(rt;
-        first.1.starts_with(b"# frame 0 10000 39402 0\nv 0.5 0 0.001007080078125\nv 0.5 -1 ")
+    let mut net = String::new(rt.alloc());
+    let made = push_net(&mut net).is_ok();
+    let outcome = run(rt.alloc(), "obj 1", &all_of(net.as_str().as_bytes()));
+    drop(net);
+    let (answer, frame) = outcome?;
+    let begins = frame.starts_with(
+        b"# frame 0 10000 39402 0\nv 0.5 0 0.001007080078125\nv 0.5 -1 ",
     );
-    assert!(rt; first.1.ends_with(b"\nf 9899 9900 10000 9999\n"));
-    let mut input = first.1.to_vec(alloc)?;
-    input.extend_from_slice(b"%%\n%%\nframe\n")?;
-    let second = run_on(alloc, "obj 16", &input)?;
-    assert!(rt; second == first);
-    Ok(())
-}
-
-#[test]
-fn each_failed_write_of_a_frame_ends_a_run(rt: HostRuntime) -> Result<(), Fail> {
-    let alloc = rt.alloc();
-    let input = b"v 0 0 0\nv 1 0 0\nv 1 1 0\nf 1 2 3\n%%\n%%\nframe\n";
-    let (_, whole) = run_on(alloc, "obj 8", input)?;
-    for call in 1..=9u64 {
-        let failing = Failing {
-            piece: 4096,
-            reads: &[],
-            writes: &[(call, 1)],
-        };
-        let (answer, written) = run_failing(alloc, "obj 8", input, failing)?;
-        assert_eq!(rt; answer, Status::WriteFault, "{call}");
-        assert!(rt; whole.starts_with(&written), "{call}");
-    }
+    let ends = frame.ends_with(b"\nf 9899 9900 10000 9999\n");
+    let again = is_its_mesh(rt.alloc(), &frame);
+    drop(frame);
+    assert_eq!(rt;
+        (made, answer, begins, ends, again),
+        (true, Status::Done, true, true, true)
+    );
     Ok(())
 }

@@ -1,122 +1,81 @@
 //! Sources and sinks that fail at each call, and inputs that are no text or too long.
 use crate::logs::{LOG, OLD_LOG};
-use crate::written::{Failing, first_other, run_failing, run_on};
-use pbd_outcome::Status;
-use std::alloc::{AllocError, Global};
-use std::test::Fail;
+use crate::written::{Given, comes_to, run, writes};
+use std::alloc::Global;
 
 const FALLS: &[u8] = b"gravity = [0, -10, 0]\n[[particle]]\nat = [0, 1000, 0]\n%%\nstep 3\nframe\n";
 
-const READ_FAULT: &[u8] = b"error 2 ReadFault\n";
+const TEXT: &[u8] = b"ok\nframe 3 1 0 0\n0 940 0\n";
 
-/// What a run answers and writes where one read of at most `piece` bytes fails.
-fn without_read(
-    alloc: Global,
-    words: &str,
-    input: &[u8],
-    piece: usize,
-    call: u64,
-) -> Result<(Status, Vec<u8>), AllocError> {
-    let failing = Failing {
+/// Words, an input, and what is written where no read fails.
+static READERS: [(&str, &[u8], &[u8]); 7] = [
+    ("simulate 1", FALLS, TEXT),
+    ("record 2", FALLS, LOG),
+    ("replay 4", LOG, TEXT),
+    ("scramble 7", FALLS, TEXT),
+    ("marks 8", FALLS, TEXT),
+    (
+        "obj 16",
+        b"v 0 0 0\n%%\n%%\nframe\n",
+        b"# frame 0 1 0 0\nv 0 0 0\n",
+    ),
+    (
+        "host 1",
+        b"%%\n%%%\n1 frame\n",
+        b"session 1\nframe 0 0 0 0\n",
+    ),
+];
+
+/// Whether a run ends with a fault where the read of this number fails, of at most so many bytes each.
+fn ends_at_read(alloc: Global, words: &str, input: &[u8], piece: usize, call: u64) -> bool {
+    let given = Given {
+        input,
         piece,
         reads: &[call],
         writes: &[],
     };
-    run_failing(alloc, words, input, failing)
+    comes_to(run(alloc, words, &given), 2, b"error 2 ReadFault\n")
 }
 
 /// Whether a run whose source gives a byte a call ends with a fault at whichever read fails, of all that it makes.
-fn ends_at_each_read(alloc: Global, words: &str, input: &[u8]) -> Result<bool, AllocError> {
-    let calls = (input.len() as u64).saturating_add(1);
-    for call in 1..=calls {
-        let (answer, written) = without_read(alloc, words, input, 1, call)?;
-        if answer != Status::ReadFault || written.as_slice() != READ_FAULT {
-            return Ok(false);
+fn ends_at_each_read(alloc: Global, words: &str, input: &[u8], output: &[u8]) -> bool {
+    let past = (input.len() as u64).saturating_add(2);
+    for call in 1..past {
+        if !ends_at_read(alloc, words, input, 1, call) {
+            return false;
         }
     }
     // The read after the last one isn't made.
-    let whole = run_on(alloc, words, input)?;
-    Ok(without_read(alloc, words, input, 1, calls.saturating_add(1))? == whole)
+    let given = Given {
+        input,
+        piece: 1,
+        reads: &[past],
+        writes: &[],
+    };
+    comes_to(run(alloc, words, &given), 0, output)
 }
 
 #[test]
-fn each_failed_read_ends_a_run(rt: HostRuntime) -> Result<(), Fail> {
-    let alloc = rt.alloc();
-    let runs: [(&str, &[u8]); 7] = [
-        ("simulate 1", FALLS),
-        ("record 2", FALLS),
-        ("replay 4", LOG),
-        ("scramble 7", FALLS),
-        ("marks 8", FALLS),
-        ("obj 16", b"v 0 0 0\n%%\n%%\nframe\n"),
-        ("host 1", b"%%\n%%%\n1 frame\n"),
-    ];
-    for (words, input) in runs {
-        assert!(rt; ends_at_each_read(alloc, words, input)?, "{words}");
-        let (answer, written) = without_read(alloc, words, input, 4096, 1)?;
-        assert_eq!(rt; answer, Status::ReadFault, "{words}");
-        assert_eq!(rt; written.as_slice(), READ_FAULT, "{words}");
-        let both = Failing {
+fn each_failed_read_ends_a_run(rt: HostRuntime) {
+    for (words, input, output) in &READERS {
+        let both = Given {
+            input: *input,
             piece: 4096,
             reads: &[1],
             writes: &[(1, 7)],
         };
-        let (answer, written) = run_failing(alloc, words, input, both)?;
-        assert_eq!(rt; answer, Status::WriteFault, "{words}");
-        assert_eq!(rt; written.as_slice(), b"error 2".as_slice(), "{words}");
+        let each = ends_at_each_read(rt.alloc(), words, input, output);
+        let first = ends_at_read(rt.alloc(), words, input, 4096, 1);
+        let twice = comes_to(run(rt.alloc(), words, &both), 3, b"error 2");
+        assert_eq!(rt; (each, first, twice), (true, true, true), "{words}");
     }
-    Ok(())
 }
 
-/// Whether a run ends at the call of `write` that fails, wherever in its piece, which has so many bytes before it.
-fn ends_at_write(
-    alloc: Global,
-    words: &str,
-    input: &[u8],
-    call: u64,
-    whole: &[u8],
-    piece: (usize, usize),
-) -> Result<bool, AllocError> {
-    let (before, len) = piece;
-    for count in 0..=14usize {
-        let failing = Failing {
-            piece: 4096,
-            reads: &[],
-            writes: &[(call, count)],
-        };
-        let (answer, written) = run_failing(alloc, words, input, failing)?;
-        let wanted = before.saturating_add(count.min(len));
-        if answer != Status::WriteFault || written.len() != wanted || !whole.starts_with(&written) {
-            return Ok(false);
-        }
-    }
-    Ok(true)
-}
+/// Words, an input, what is written, and how many bytes each call of `write` is handed: each line of a reply or a mark by
+/// one, and a face corner by corner.
+type Writer = (&'static str, &'static [u8], &'static [u8], &'static [usize]);
 
-/// Whether a run hands on this text by one call for each of the lengths, and ends at each of them that fails.
-fn ends_at_each_write(
-    alloc: Global,
-    words: &str,
-    input: &[u8],
-    whole: &[u8],
-    lengths: &[usize],
-) -> Result<bool, AllocError> {
-    let mut call: u64 = 0;
-    let mut before: usize = 0;
-    for len in lengths {
-        call = call.saturating_add(1);
-        if !ends_at_write(alloc, words, input, call, whole, (before, *len))? {
-            return Ok(false);
-        }
-        before = before.saturating_add(*len);
-    }
-    Ok(true)
-}
-
-const TEXT: &[u8] = b"ok\nframe 3 1 0 0\n0 940 0\n";
-
-/// Words, an input, what is written, and how many bytes each call of `write` is handed.
-const PIECES: [(&str, &[u8], &[u8], &[usize]); 13] = [
+static WRITERS: [Writer; 14] = [
     ("simulate 1", FALLS, TEXT, &[3, 14, 8]),
     ("simulate 2", FALLS, TEXT, &[3, 14, 8]),
     ("simulate 4", FALLS, TEXT, &[3, 14, 8]),
@@ -140,55 +99,84 @@ const PIECES: [(&str, &[u8], &[u8], &[usize]); 13] = [
         &[10, 14],
     ),
     ("simulate 16", b"", b"error 5 NoScript\n", &[17]),
+    (
+        "obj 8",
+        b"v 0 0 0\nv 1 0 0\nv 1 1 0\nf 1 2 3\n%%\n%%\nframe\n",
+        b"# frame 0 3 3 0\nv 0 0 0\nv 1 0 0\nv 1 1 0\nf 1 2 3\n",
+        &[16, 8, 8, 8, 1, 2, 2, 2, 1],
+    ),
 ];
 
-#[test]
-fn each_failed_write_ends_a_run(rt: HostRuntime) -> Result<(), Fail> {
-    for (words, input, whole, lengths) in &PIECES {
-        assert!(rt;
-            ends_at_each_write(rt.alloc(), words, input, whole, lengths)?,
-            "{words}"
-        );
+/// Whether a run ends at the call of `write` that fails, wherever in its piece, which has so many bytes before it.
+fn ends_at_write(alloc: Global, writer: &Writer, call: u64, before: usize, len: usize) -> bool {
+    let (words, input, output, _) = *writer;
+    for count in 0..15usize {
+        let Some(front) = output.get(..before.saturating_add(count.min(len))) else {
+            return false;
+        };
+        let given = Given {
+            input,
+            piece: 4096,
+            reads: &[],
+            writes: &[(call, count)],
+        };
+        if !comes_to(run(alloc, words, &given), 3, front) {
+            return false;
+        }
     }
-    Ok(())
+    true
 }
 
-/// Each line is one call of `write`: where the second call fails, the first line is there, and what that call took.
-#[test]
-fn each_line_of_a_mark_is_written_at_once(rt: HostRuntime) -> Result<(), Fail> {
-    let failing = Failing {
-        piece: 4096,
-        reads: &[],
-        writes: &[(2, 3)],
-    };
-    let input = b"%%\nmark 1\nrewind 8\n";
-    let (answer, written) = run_failing(rt.alloc(), "marks 4", input, failing)?;
-    assert_eq!(rt; answer, Status::WriteFault);
-    assert_eq!(rt; written.as_slice(), b"ok\nref".as_slice());
-    Ok(())
+/// Whether a run hands on its text by one call for each of the lengths, and ends at each of them that fails.
+fn ends_at_each_write(alloc: Global, writer: &Writer) -> bool {
+    let mut call: u64 = 0;
+    let mut before: usize = 0;
+    for len in writer.3 {
+        call = call.saturating_add(1);
+        if !ends_at_write(alloc, writer, call, before, *len) {
+            return false;
+        }
+        before = before.saturating_add(*len);
+    }
+    true
 }
 
 #[test]
-fn bytes_that_are_no_text_and_an_input_too_long_stop_a_run(rt: HostRuntime) -> Result<(), Fail> {
-    let alloc = rt.alloc();
+fn each_failed_write_ends_a_run(rt: HostRuntime) {
+    for writer in &WRITERS {
+        assert!(rt; ends_at_each_write(rt.alloc(), writer), "{}", writer.0);
+    }
+}
+
+#[test]
+fn bytes_that_are_no_text_stop_a_run(rt: HostRuntime) {
     let line = b"error 6 SceneNotText\n";
-    assert!(rt; first_other(alloc, "simulate *", b"\xff\n%%\n", "6", line)?.is_none());
-    let line = b"error 4 InputTooLong\n";
-    let spaces = vec![in alloc; b' '; 16_777_217]?;
-    for words in [
-        "simulate 16",
-        "record 1",
-        "scramble 0",
-        "obj 2",
-        "marks 4",
-        "host 8",
-    ] {
-        assert!(rt;
-            first_other(alloc, words, &spaces, "4", line)?.is_none(),
-            "{words}"
-        );
+    assert!(rt; writes(rt.alloc(), "simulate *", b"\xff\n%%\n", 6, line));
+}
+
+/// Words, and so many of a byte that they are too long an input.
+static TOO_LONG: [(&str, u8, usize); 7] = [
+    ("simulate 16", b' ', 16_777_217),
+    ("record 1", b' ', 16_777_217),
+    ("scramble 0", b' ', 16_777_217),
+    ("obj 2", b' ', 16_777_217),
+    ("marks 4", b' ', 16_777_217),
+    ("host 8", b' ', 16_777_217),
+    ("replay 1", 0, 134_217_729),
+];
+
+fn is_too_long(alloc: Global, words: &str, byte: u8, count: usize) -> bool {
+    let Ok(input) = vec![in alloc; byte; count] else {
+        return false;
+    };
+    let so = writes(alloc, words, &input, 4, b"error 4 InputTooLong\n");
+    drop(input);
+    so
+}
+
+#[test]
+fn an_input_too_long_stops_a_run(rt: HostRuntime) {
+    for (words, byte, count) in &TOO_LONG {
+        assert!(rt; is_too_long(rt.alloc(), words, *byte, *count), "{words}");
     }
-    let zeros = vec![in alloc; 0; 134_217_729]?;
-    assert!(rt; first_other(alloc, "replay 1", &zeros, "4", line)?.is_none());
-    Ok(())
 }

@@ -1,6 +1,5 @@
 //! Inputs beside what is written, of `simulate`, `marks` and `host`, and runs that stop before the first reply.
 use crate::written::first_wrong;
-use std::test::Fail;
 
 /// Steps, frames, refusals and ledgers.
 const RUNS: &str =
@@ -107,38 +106,11 @@ large 1 7 129 <  => 1 error 1 Usage
 large 1 7 1 <  => 1 error 1 Usage
 large 1 7 0002 <  => 1 error 1 Usage";
 
-#[test]
-fn a_run_writes_its_replies_at_every_width(rt: HostRuntime) -> Result<(), Fail> {
-    assert_eq!(rt; first_wrong(rt.alloc(), RUNS)?, None);
-    Ok(())
-}
+static TABLES: [&str; 6] = [RUNS, STEP_LIMIT, STEP_LIMIT_OF_A_MARK, HOSTS, MARKS, STOPS];
 
 #[test]
-fn the_step_limit_stops_no_run(rt: HostRuntime) -> Result<(), Fail> {
-    assert_eq!(rt; first_wrong(rt.alloc(), STEP_LIMIT)?, None);
-    Ok(())
-}
-
-#[test]
-fn the_step_limit_counts_from_the_mark(rt: HostRuntime) -> Result<(), Fail> {
-    assert_eq!(rt; first_wrong(rt.alloc(), STEP_LIMIT_OF_A_MARK)?, None);
-    Ok(())
-}
-
-#[test]
-fn hosts_serve_their_lines_at_every_width(rt: HostRuntime) -> Result<(), Fail> {
-    assert_eq!(rt; first_wrong(rt.alloc(), HOSTS)?, None);
-    Ok(())
-}
-
-#[test]
-fn a_run_goes_back_to_its_marks_at_each_width(rt: HostRuntime) -> Result<(), Fail> {
-    assert_eq!(rt; first_wrong(rt.alloc(), MARKS)?, None);
-    Ok(())
-}
-
-#[test]
-fn a_run_that_stops_writes_one_line(rt: HostRuntime) -> Result<(), Fail> {
-    assert_eq!(rt; first_wrong(rt.alloc(), STOPS)?, None);
-    Ok(())
+fn runs_end_and_write_as_their_rows_say(rt: HostRuntime) {
+    for table in &TABLES {
+        assert_eq!(rt; first_wrong(rt.alloc(), *table), None);
+    }
 }

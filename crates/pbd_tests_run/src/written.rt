@@ -1,95 +1,135 @@
 //! What runs answer and write, and rows of tables that say what they are to write.
-ghost use Rattle.std.specs.Prelude.{◌≤◌};
+ghost use Rattle.std.specs.Prelude.{IfOk, IfSome};
+ghost use Rattle.pbd_outcome.specs.Job.{IsSized};
 
-use pbd_io::{MemSink, MemSource, Source, SureSource};
-use pbd_outcome::{Status, job_of};
+use pbd_io::{MemSink, MemSource};
+use pbd_outcome::{Job, Status, job_of};
 use pbd_run::perform;
 use std::alloc::{AllocError, Global};
+use std::fmt::Write;
 
 /// How many bytes a run may write here.
 const ROOM: usize = 1_048_576;
 
-pub(crate) fn words_of(alloc: Global, text: &str) -> Result<Vec<String>, AllocError> {
-    let mut words = Vec::new(alloc);
-    for word in text.split(' ') {
-        words.push(String::from_str(alloc, word)?)?;
-    }
-    Ok(words)
-}
+/// What a run answers and writes.
+pub(crate) type Outcome = Result<(Status, Vec<u8>), AllocError>;
 
-/// A text whose lines are written with `; ` between them.
-pub(crate) fn lines_of(alloc: Global, text: &str) -> Result<String, AllocError> {
-    let mut lines = text.replace(alloc, "; ", "\n")?;
-    if !text.is_empty() {
-        lines.push_str("\n")?;
-    }
-    Ok(lines)
-}
-
-/// What the program answers to some words.
-fn answer<S: Source>(
-    alloc: Global,
-    words: &[String],
-    source: &mut S,
-    sink: &mut MemSink,
-) -> Status {
-    perform(alloc, job_of(words), source, sink)
-}
-
-/// What a run answers and writes, where nothing fails.
-pub(crate) fn run_on(
-    alloc: Global,
-    words: &str,
-    input: &[u8],
-) -> Result<(Status, Vec<u8>), AllocError> {
-    let words = words_of(alloc, words)?;
-    let mut source = SureSource::new(input);
-    let mut sink = MemSink::open(alloc, ROOM, Vec::new(alloc))?;
-    let status = answer(alloc, &words, &mut source, &mut sink);
-    Ok((status, sink.written().to_vec(alloc)?))
-}
-
-/// The reads of at most so many bytes that fail, by their number, and the writes that fail, each after some bytes.
+/// The bytes that a run reads, at most so many of them a call, the reads that fail, by their number, and the writes that
+/// fail, each after some bytes.
 #[derive(Clone, Copy)]
-pub(crate) struct Failing<'a> {
+pub(crate) struct Given<'a> {
+    pub(crate) input: &'a [u8],
     pub(crate) piece: usize,
     pub(crate) reads: &'a [u64],
     pub(crate) writes: &'a [(u64, usize)],
 }
 
-/// A piece of a byte at least.
-fn some(piece: usize) -> usize
-    ensures { 1 ≤ result }
+/// An input of which no read fails, and no write.
+pub(crate) fn all_of(input: &[u8]) -> Given<'_> {
+    Given {
+        input,
+        piece: 65_536,
+        reads: &[],
+        writes: &[],
+    }
+}
+
+fn push_words(alloc: Global, text: &str, words: &mut Vec<String>) -> Result<(), AllocError> {
+    for word in text.split(' ') {
+        words.push(String::from_str(alloc, word)?)?;
+    }
+    Ok(())
+}
+
+/// What the words of a text ask for.
+fn job_in(alloc: Global, text: &str) -> Result<Option<Job>, AllocError>
+    ensures { IfOk result (λ job. IfSome job IsSized) }
 {
-    if piece == 0 { 1 } else { piece }
+    let mut words = Vec::new(alloc);
+    let pushed = push_words(alloc, text, &mut words);
+    let job = job_of(&words);
+    drop(words);
+    match pushed {
+        Ok(()) => Ok(job),
+        Err(error) => Err(error),
+    }
 }
 
-/// What a run answers and writes, where some reads and writes fail.
-pub(crate) fn run_failing(
-    alloc: Global,
-    words: &str,
-    input: &[u8],
-    failing: Failing<'_>,
-) -> Result<(Status, Vec<u8>), AllocError> {
-    let words = words_of(alloc, words)?;
-    let input = input.to_vec(alloc)?;
-    let mut source = MemSource::new(input, some(failing.piece), failing.reads.to_vec(alloc)?);
-    let mut sink = MemSink::open(alloc, ROOM, failing.writes.to_vec(alloc)?)?;
-    let status = answer(alloc, &words, &mut source, &mut sink);
-    Ok((status, sink.written().to_vec(alloc)?))
+fn source_of(alloc: Global, given: &Given<'_>) -> Result<MemSource, AllocError> {
+    let bytes = given.input.to_vec(alloc)?;
+    match given.reads.to_vec(alloc) {
+        Ok(reads) => Ok(MemSource::new(bytes, given.piece.max(1), reads)),
+        Err(error) => {
+            drop(bytes);
+            Err(error)
+        }
+    }
 }
 
-/// Whether a run ends with a status, by its number, and writes this.
-fn writes(
+/// What a run answers and writes to the words of a text.
+pub(crate) fn run(alloc: Global, words: &str, given: &Given<'_>) -> Outcome {
+    let job = job_in(alloc, words)?;
+    let mut source = source_of(alloc, given)?;
+    match sink_of(alloc, given) {
+        Ok(mut sink) => {
+            let status = perform(alloc, job, &mut source, &mut sink);
+            let written = sink.written().to_vec(alloc);
+            drop(sink);
+            drop(source);
+            Ok((status, written?))
+        }
+        Err(error) => {
+            drop(source);
+            Err(error)
+        }
+    }
+}
+
+fn sink_of(alloc: Global, given: &Given<'_>) -> Result<MemSink, AllocError> {
+    MemSink::open(alloc, ROOM, given.writes.to_vec(alloc)?)
+}
+
+/// Whether a run ended with the status of this number, and wrote this.
+pub(crate) fn comes_to(outcome: Outcome, number: u8, output: &[u8]) -> bool {
+    match outcome {
+        Ok((answer, written)) => {
+            let same = answer.code() == number && written.as_slice() == output;
+            drop(written);
+            same
+        }
+        Err(_) => false,
+    }
+}
+
+/// Whether one of the ends, each a status by its number and the beginning of a text, is that of a run.
+fn is_among(ends: &[(u8, &[u8])], number: u8, written: &[u8]) -> bool {
+    for (end, front) in ends {
+        if *end == number && written.starts_with(*front) {
+            return true;
+        }
+    }
+    false
+}
+
+/// Whether a run has one of the ends, and those to other words come to the same.
+pub(crate) fn are_alike(
     alloc: Global,
     words: &str,
-    input: &[u8],
-    status: &str,
-    output: &[u8],
-) -> Result<bool, AllocError> {
-    let (answer, written) = run_on(alloc, words, input)?;
-    let number = format!(in alloc; "{}", answer.code())?;
-    Ok(number.as_str() == status && written.as_slice() == output)
+    others: &[&str],
+    given: &Given<'_>,
+    ends: &[(u8, &[u8])],
+) -> bool {
+    match run(alloc, words, given) {
+        Ok((answer, written)) => {
+            let mut alike = is_among(ends, answer.code(), &written);
+            for words in others {
+                alike = alike && comes_to(run(alloc, *words, given), answer.code(), &written);
+            }
+            drop(written);
+            alike
+        }
+        Err(_) => false,
+    }
 }
 
 /// The widths that stand for a `*` in some words.
@@ -101,50 +141,80 @@ fn widths_of(words: &str) -> &'static [&'static str] {
     }
 }
 
-/// The first words by which a run ends otherwise, or writes something else, with each width in place of a `*`.
-pub(crate) fn first_other(
-    alloc: Global,
-    words: &str,
-    input: &[u8],
-    status: &str,
-    output: &[u8],
-) -> Result<Option<String>, AllocError> {
+/// Whether a run ends with the status of this number and writes this, with each width in place of a `*` in the words.
+pub(crate) fn writes(alloc: Global, words: &str, input: &[u8], number: u8, output: &[u8]) -> bool {
     for width in widths_of(words) {
-        let words = words.replace(alloc, "*", *width)?;
-        if !writes(alloc, words.as_str(), input, status, output)? {
-            return Ok(Some(words));
+        let Ok(words) = words.replace(alloc, "*", *width) else {
+            return false;
+        };
+        let outcome = run(alloc, words.as_str(), &all_of(input));
+        drop(words);
+        if !comes_to(outcome, number, output) {
+            return false;
         }
     }
-    Ok(None)
+    true
+}
+
+/// A text whose lines are written with `; ` between them.
+fn lines_of(alloc: Global, text: &str) -> Result<String, AllocError> {
+    let end = if text.is_empty() { "" } else { "\n" };
+    let mut lines = text.replace(alloc, "; ", "\n")?;
+    match lines.push_str(end) {
+        Ok(()) => Ok(lines),
+        Err(error) => {
+            drop(lines);
+            Err(error)
+        }
+    }
 }
 
 /// The parts of a row `WORDS < INPUT => STATUS OUTPUT`.
-fn parts_of(row: &str) -> Option<(&str, &str, &str, &str)> {
+fn parts_of(row: &str) -> Option<(&str, &str, u8, &str)> {
     let (words, rest) = row.split_once(" < ")?;
     let (input, answer) = rest.split_once(" => ")?;
     let (status, output) = answer.split_once(' ').unwrap_or((answer, ""));
-    Some((words, input, status, output))
+    let number = status.parse::<u8>().ok()?;
+    Some((words, input, number, output))
 }
 
-fn holds(alloc: Global, row: &str) -> Result<bool, AllocError> {
-    match parts_of(row) {
-        None => Ok(false),
-        Some((words, input, status, output)) => {
-            let input = lines_of(alloc, input)?;
-            let output = lines_of(alloc, output)?;
-            let (input, output) = (input.as_str().as_bytes(), output.as_str().as_bytes());
-            Ok(first_other(alloc, words, input, status, output)?.is_none())
-        }
-    }
+fn holds(alloc: Global, row: &str) -> bool {
+    let Some((words, input, number, output)) = parts_of(row) else {
+        return false;
+    };
+    let Ok(input) = lines_of(alloc, input) else {
+        return false;
+    };
+    let Ok(output) = lines_of(alloc, output) else {
+        drop(input);
+        return false;
+    };
+    let (given, wanted) = (input.as_str().as_bytes(), output.as_str().as_bytes());
+    let so = writes(alloc, words, given, number, wanted);
+    drop(input);
+    drop(output);
+    so
 }
 
 /// The first line of a table that is no row or doesn't hold. In a row `WORDS < INPUT => STATUS OUTPUT`, a `*` in the words
 /// stands for each width, and `; ` for the end of a line.
-pub(crate) fn first_wrong(alloc: Global, table: &str) -> Result<Option<&str>, AllocError> {
+pub(crate) fn first_wrong(alloc: Global, table: &str) -> Option<&str> {
     for row in table.split('\n') {
-        if !holds(alloc, row)? {
-            return Ok(Some(row));
+        if !holds(alloc, row) {
+            return Some(row);
         }
     }
-    Ok(None)
+    None
+}
+
+/// Adds a line, in which the next number stands for each `#`.
+pub(crate) fn push_line(text: &mut String, line: &str, numbers: &[u32]) -> Result<(), AllocError> {
+    let mut rest = line;
+    for number in numbers {
+        if let Some((before, behind)) = rest.split_once('#') {
+            write!(text, "{before}{number}")?;
+            rest = behind;
+        }
+    }
+    text.push_str(rest)
 }
