@@ -52,3 +52,25 @@ returns-clause-lost g c =
       y = (y ∙ (λ k. sum_below (λ j. loss_at d (get_or flies j false) (get_or (c.to_array-3.ensures k) j (pos 0)) (get_or (c.to_array-4.ensures k) j (pos 0))) g.row.L)) i;
       z = (z ∙ (λ k. sum_below (λ j. loss_at d (get_or flies j false) (get_or (c.to_array-5.ensures k) j (pos 0)) (get_or (c.to_array-6.ensures k) j (pos 0))) g.row.L)) i;
     })
+
+pub returns-clause-pulled_size : goal.returns-clause-pulled_size
+returns-clause-pulled_size g c =
+    let fx = fits c.fly_axis-x.result.pulled (omega (arith, c.fly_axis-x.ensures.pulled_size)) in
+    let fy = fits c.fly_axis-y.result.pulled (omega (arith, c.fly_axis-y.ensures.pulled_size)) in
+    let fz = fits c.fly_axis-z.result.pulled (omega (arith, c.fly_axis-z.ensures.pulled_size)) in
+    simp to_z-of_z (record { x = c.fly_axis-x.ensures.pulled_size; y = c.fly_axis-y.ensures.pulled_size; z = c.fly_axis-z.ensures.pulled_size })
+
+pub returns-clause-lost_size : goal.returns-clause-lost_size
+returns-clause-lost_size g c =
+    let fx = fits c.fly_axis-x.result.lost (omega (arith, c.fly_axis-x.ensures.lost_size)) in
+    let fy = fits c.fly_axis-y.result.lost (omega (arith, c.fly_axis-y.ensures.lost_size)) in
+    let fz = fits c.fly_axis-z.result.lost (omega (arith, c.fly_axis-z.ensures.lost_size)) in
+    simp to_z-of_z (record { x = c.fly_axis-x.ensures.lost_size; y = c.fly_axis-y.ensures.lost_size; z = c.fly_axis-z.ensures.lost_size })
+
+pub returns-clause-within : goal.returns-clause-within
+returns-clause-within g c = λ e j h.
+    let limit = fits c.args.air.limit (omega (arith, c.requires.high)) in
+    let x = simp to_z-of_z at (c.fly_axis-x.ensures.within (c.all.ensures.x e)) in
+    let y = simp to_z-of_z at (c.fly_axis-y.ensures.within (c.all.ensures.y e)) in
+    let z = simp to_z-of_z at (c.fly_axis-z.ensures.within (c.all.ensures.z e)) in
+    record { x = rw c.from_array.ensures (x j h); y = rw c.from_array-2.ensures (y j h); z = rw c.from_array-3.ensures (z j h) }
