@@ -15,7 +15,6 @@ use Rattle.pbd_io.specs.Pieces.{AppendsPrefix}
 use Rattle.pbd_world.specs.declared.parts.Parts.{Parts}
 use Rattle.pbd_world.specs.Outcomes.{◌>>=◌, with_fault}
 use Rattle.pbd_world.specs.World.{World, opened}
-use Rattle.pbd_scene.specs.declared.fault.SceneFault.TheVariants as faults
 use Rattle.pbd_host.specs.declared.request.Request.{Request}
 use Rattle.pbd_host.specs.declared.served.Served.{Served}
 use Rattle.pbd_host.specs.Hosted.{hosted_refused, hosted_text, is_refusal, request_text, served, worlds_after}
@@ -27,9 +26,7 @@ use Rattle.pbd_outcome.specs.Outcome.{Outcome, host_outcome, hosted, range, scen
 use Rattle.pbd_outcome.specs.Split.{divider, ended_lines, host_split, is_line, scenes, split_at, texts}
 use Rattle.pbd_outcome.specs.Statuses.{line_in}
 use Rattle.pbd_outcome.proofs.HostLaws.{as_many, hosted_halves, hosted_on, hosted_scenes}
-use Rattle.pbd_run.specs.declared.scene.SceneStop.{SceneStop}
-use Rattle.pbd_run.specs.declared.scene.SceneStop.TheVariants.{NotText, Fault}
-use Rattle.pbd_run.specs.Calls.{AddsScene, Does, EndsForSceneIn, IsHostable, Stops, StopsAtScenes, StopsInScene}
+use Rattle.pbd_run.specs.Calls.{AddsScene, Does, IsHostable, StopsAtScenes, StopsInScene}
 use Rattle.pbd_run.specs.Forms.{host_on}
 
 -- ---- the end of a line

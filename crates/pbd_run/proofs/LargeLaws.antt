@@ -2,8 +2,8 @@
 use Rattle.std.proofs.Common.{◌≡◌, ◌∙◌, sym, ap, subst, refl, ℕ, ◌≤◌, Bool, true, false, cond, List, [], ◌++◌, Option, Result, Ok, Err, arith}
 use Rattle.std.specs.Io.KnownBytes.{Appends}
 use Rattle.pbd_io.specs.Causes.{HasCause, HasRisen}
-use Rattle.pbd_io.specs.Pieces.{AppendsPrefix, WritesPiece}
-use Rattle.pbd_io.specs.Appending.{appends_then, prefix_longer, prefix_then, rose_later}
+use Rattle.pbd_io.specs.Pieces.{AppendsPrefix}
+use Rattle.pbd_io.specs.Appending.{prefix_longer, rose_later}
 use Rattle.pbd_world.specs.declared.command.Command.TheVariants.{Step}
 use Rattle.pbd_world.specs.declared.command.Reply.{Reply}
 use Rattle.pbd_world.specs.Meaning.{after, reply}

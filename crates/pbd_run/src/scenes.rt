@@ -91,10 +91,12 @@ fn add_scene<K: Sink>(
         (K.written sink.old) (K.written sink.new) (K.faults sink.old) (K.faults sink.new)) }
 {
     match scene_in(alloc, text, RANGE) {
-        Ok(scene) => match scenes.push(scene) {
-            Ok(()) => Ok(()),
-            Err(_) => Err(Status::OutOfMemory),
-        },
+        Ok(scene) => {
+            if scenes.push(scene).is_err() {
+                return Err(Status::OutOfMemory);
+            }
+            Ok(())
+        }
         Err(why) => Err(stop_in(scenes.len() as u32, why, sink)),
     }
 }

@@ -34,7 +34,10 @@ fn with_mesh(alloc: Global, mesh: &ObjMesh, scene: Scene) -> Result<Scene, ObjFa
     ensures err { IfErr result (λ fault. IsFaultOf (with_mesh mesh.now scene) fault) }
 {
     let mut parts = scene.into_parts();
-    add_mesh(alloc, mesh, &mut parts)?;
+    if let Err(fault) = add_mesh(alloc, mesh, &mut parts) {
+        drop(parts);
+        return Err(fault);
+    }
     meshes_are_added_validly();
     match Scene::from_parts(alloc, parts) {
         Ok(whole) => Ok(whole),
@@ -59,15 +62,27 @@ fn in_scene<'a>(alloc: Global, text: &[u8], halves: Halves<'a>) -> Result<Thirds
     ensures script { IfOk result (λ thirds. thirds.script ≡ halves.entry.script) }
     ensures err { IfErr result (λ fault. IsFaultOf (with_text text.now halves.entry.scene) fault) }
 {
-    let mesh = read_obj(alloc, text)?;
-    let base = count(&halves.scene);
-    let scene = with_mesh(alloc, &mesh, halves.scene)?;
-    Ok(Thirds {
-        mesh,
-        base,
-        scene,
-        script: halves.script,
-    })
+    match read_obj(alloc, text) {
+        Ok(mesh) => {
+            let base = count(&halves.scene);
+            match with_mesh(alloc, &mesh, halves.scene) {
+                Ok(scene) => Ok(Thirds {
+                    mesh,
+                    base,
+                    scene,
+                    script: halves.script,
+                }),
+                Err(fault) => {
+                    drop(mesh);
+                    Err(fault)
+                }
+            }
+        }
+        Err(fault) => {
+            drop(halves);
+            Err(fault)
+        }
+    }
 }
 
 /// The thirds of an input. Where it has none, the line of that is written, and the status is the answer.

@@ -3,12 +3,15 @@ use Rattle.std.proofs.Common.{◌≡◌, ℕ, suc, ◌+◌, ◌-◌, ◌*◌, �
 use Rattle.std.proofs.lemmas.Bool.Decides.{nat_tests}
 use Rattle.pbd_world.specs.declared.bond.Bond.{Bond}
 use Rattle.pbd_world.specs.Outcomes.{◌>>=◌, in_turn}
+use Rattle.pbd_world.specs.declared.totals.Totals.{Totals}
 use Rattle.pbd_world.specs.Ledger.{HaveRoom}
 use Rattle.pbd_world.specs.Particles.{Motion}
 use Rattle.pbd_world.specs.Bonds.{projected}
 use Rattle.pbd_world.specs.Colours.{pair_at, share, order}
 use Rattle.pbd_world.proofs.CountingOn.{order_length}
-use Rattle.pbd_store.specs.Moving.{fixed_parts, AreInside}
+use Rattle.pbd_store.specs.Stored.{Stored}
+use Rattle.pbd_store.specs.Moving.{motion_of, fixed_parts, AreInside}
+use Rattle.pbd_store.proofs.Fixed.{same_length}
 use Rattle.pbd_colour.specs.Pairs.{batch_of}
 use Rattle.pbd_colour.specs.Batch.{AreLive, AreApart}
 use Rattle.pbd_colour.proofs.Batches.{order-batches}
@@ -17,7 +20,8 @@ use Rattle.pbd_pair.specs.Bonds.{bond_of, bond_count, IsBond}
 use Rattle.pbd_pair.specs.Projecting.{ShareNone, IsBatch}
 use Rattle.pbd_world.proofs.Rooms.{room_at}
 use Rattle.pbd_pair.proofs.OneByOne.{in_turn-append}
-use Rattle.pbd_step.specs.Projecting.{AreBondsOf, parallel_from}
+use Rattle.pbd_pair.proofs.Blocks.{weigh_same}
+use Rattle.pbd_step.specs.Projecting.{AreBondsOf, CanProjectAll, CanProjectBatch, parallel_from}
 
 -- ---- one list of items after another
 
@@ -146,3 +150,33 @@ module _ {limit : ℤ} {bond : ℕ → Bond} {whole left : List ℕ} {start now 
 
   pub room_so_far : (n m : ℕ) → n + length whole * 2 ^ 32 ≤ m → HaveRoom n start.totals → HaveRoom m now.totals
   room_so_far n m le h = room_at _ (omega (arith, le, s.shorter)) (s.grows n h)
+
+-- where a part is done, the bonds of other numbers can be projected as a batch, and those of all pairs one after another
+module _ {n before count : ℕ} {bonds : Bonds} {pairs : List (ℕ × ℕ)} {old : Stored} {t : Totals} {whole left : List ℕ} (new : Stored) (u : Totals) (can : CanProjectAll n bonds pairs old t) (same : new.limit ≡ old.limit) (so : SoFar old.limit (bond_of bonds) whole left (motion_of old t) (motion_of new u) before count) where
+  many : length new.particles ≡ length old.particles
+  many = same_length new.particles old.particles so.fixed
+
+  one_batch : (numbers : List ℕ) → n + length whole * 2 ^ 32 ≤ 2 ^ 120 → IsBatch old.limit (length old.particles) bonds numbers → CanProjectBatch bonds numbers new u
+  one_batch numbers few is = record {
+    batch = rw (same, many) is;
+    inside = rw same so.inside;
+    weights = weigh_same old.particles new.particles so.fixed can.movable.weights;
+    room = room_so_far so n (2 ^ 120) few can.movable.room;
+  }
+
+  pub batch_goes : n + length whole * 2 ^ 32 ≤ 2 ^ 120 → (live : List Bool) (numbers : List ℕ) → AreLive pairs live numbers → AreApart pairs numbers → CanProjectBatch bonds numbers new u
+  batch_goes few live numbers alive apart = one_batch numbers few (batch_is old.limit (length old.particles) bonds pairs can.fit live numbers alive apart)
+
+  pub single_goes : n + length whole * 2 ^ 32 ≤ 2 ^ 120 → (k : ℕ) → k < length pairs → CanProjectBatch bonds (k ∷ []) new u
+  single_goes few k h = one_batch (k ∷ []) few (single_is old.limit (length old.particles) bonds pairs can.fit k h)
+
+  pub all_go : (m : ℕ) → n + length whole * 2 ^ 32 ≤ m → CanProjectAll m bonds pairs new u
+  all_go m few = record {
+    fit = rw (same, many) can.fit;
+    few = can.few;
+    movable = record {
+      inside = rw same so.inside;
+      weights = weigh_same old.particles new.particles so.fixed can.movable.weights;
+      room = room_so_far so n m few can.movable.room;
+    };
+  }

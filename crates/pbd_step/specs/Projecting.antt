@@ -1,5 +1,5 @@
 -- Lists of bonds that belong to the pairs of a colouring.
-use Rattle.std.specs.Prelude.{◌≡◌, ℕ, ◌-◌, ◌<◌, ◌≤◌, ℤ, Bool, List, length}
+use Rattle.std.specs.Prelude.{◌≡◌, ℕ, ◌-◌, ◌<◌, ◌≤◌, ◌^◌, ℤ, Bool, List, length}
 use Rattle.std.specs.List.{range_with_len, flat_map}
 use Rattle.pbd_world.specs.declared.parts.Particle.{Particle}
 use Rattle.pbd_world.specs.declared.totals.Totals.{Totals}
@@ -10,6 +10,7 @@ use Rattle.pbd_store.specs.Moving.{AreInside, Weigh}
 use Rattle.pbd_colour.specs.Pairs.{batch_of}
 use Rattle.pbd_pair.specs.declared.bonds.Bonds.{Bonds}
 use Rattle.pbd_pair.specs.Bonds.{bond_of, bond_count, IsBond}
+use Rattle.pbd_pair.specs.Projecting.{IsBatch}
 
 -- bond k joins the particles of pair k, and is one of n particles in the ranges of the limit
 pub record AreBondsOf (limit : ℤ) (n : ℕ) (bonds : Bonds) (pairs : List (ℕ × ℕ)) : Type 0 where
@@ -27,6 +28,13 @@ pub record AreMovable (bound : ℕ) (limit : ℤ) (ps : List Particle) (totals :
   pub inside : AreInside limit ps
   pub weights : Weigh ps
   pub room : HaveRoom bound totals
+
+-- the bonds of some numbers can be projected as one batch
+pub record CanProjectBatch (bonds : Bonds) (numbers : List ℕ) (s : Stored) (t : Totals) : Type 0 where
+  pub batch : IsBatch s.limit (length s.particles) bonds numbers
+  pub inside : AreInside s.limit s.particles
+  pub weights : Weigh s.particles
+  pub room : HaveRoom (2 ^ 120) (ledger_of t)
 
 -- the bonds of all pairs of a colouring can be projected one after another: each pair has its bond, there are at most 2^19 of
 -- them, the particles of the store can be moved, and the totals have grown no further than to `bound`

@@ -7,7 +7,8 @@ ghost use Rattle.pbd_world.specs.Work.{bonds_work, colours_work};
 ghost use Rattle.pbd_store.specs.Moving.{motion_of, fixed_parts, AreInside};
 ghost use Rattle.pbd_colour.specs.Pairs.{batch_of};
 ghost use Rattle.pbd_pair.specs.Bonds.{bond_of};
-ghost use Rattle.pbd_step.specs.Projecting.{CanProjectAll, parallel_from};
+ghost use Rattle.pbd_store.specs.Blocks.{blocks_of};
+ghost use Rattle.pbd_step.specs.Projecting.{CanProjectAll, CanProjectBatch, parallel_from};
 
 use pbd_colour::Colouring;
 use pbd_pair::{Bonds, Projector};
@@ -20,6 +21,32 @@ pub(crate) fn counts<const L: usize, P: Projector<L>>(projector: &P)
     ensures { P.count projector.now ≤ 2 ^ 64 - 1 }
 {
     let _count = projector.handed();
+}
+
+// Bonds of which no two share a particle, as one batch.
+fn project_batch<const L: usize, P: Projector<L>, G: Ledger>(
+    projector: &mut P,
+    store: &mut Store<L>,
+    bonds: Bonds<'_>,
+    batch: &[u32],
+    totals: &mut Totals,
+    steps: &mut Steps<G>,
+) -> Result<(), Left>
+    requires lanes_low { 0 < L }
+    requires lanes_high { L ≤ 16 }
+    requires can { CanProjectBatch bonds batch.now store.old totals.old }
+    ensures outcome { MatchResult result
+        (λ _. projected store.old.limit (bond_of bonds.entry) batch.now (motion_of store.old totals.old) ≡ Ok (motion_of store.new totals.new))
+        (λ left. projected store.old.limit (bond_of bonds.entry) batch.now (motion_of store.old totals.old) ≡ Err left.element) }
+    ensures limit { store.new.limit ≡ store.old.limit }
+    ensures fixed { fixed_parts store.new.particles ≡ fixed_parts store.old.particles }
+    ensures inside { OnOk result (AreInside store.old.limit store.new.particles) }
+    ensures room { OnOk result ((n : ℕ) → HaveRoom n (ledger_of totals.old) → HaveRoom (n + length batch.now * 2 ^ 32) (ledger_of totals.new)) }
+    ensures handed { P.count projector.new ≡ min (P.count projector.old + length batch.now) (2 ^ 64 - 1) }
+    ensures width { P.width projector.new ≡ P.width projector.old }
+    ensures cost { steps.new ≤ steps.old + 4 * blocks_of (length batch.now) (P.width projector.old) }
+{
+    projector.project(store, bonds, batch, totals, steps)
 }
 
 // The live pairs of the colours below 63, each colour as one batch.
@@ -48,12 +75,13 @@ fn project_colours<const L: usize, P: Projector<L>, G: Ledger>(
         → HaveRoom (n + length (parallel_from colours.now.pairs colours.now.live 0) * 2 ^ 32) (ledger_of totals.new)) }
     ensures handed { OnOk result
         (P.count projector.new ≡ min (P.count projector.old + length (parallel_from colours.now.pairs colours.now.live 0)) (2 ^ 64 - 1)) }
+    ensures can { OnOk result (CanProjectAll (2 ^ 119 + 2 ^ 57) bonds.entry colours.now.pairs store.new totals.new) }
     ensures not_fallen { P.count projector.old ≤ P.count projector.new }
     ensures width { P.width projector.new ≡ P.width projector.old }
     ensures cost { steps.new ≤ steps.old + colours_work (P.width projector.old) colours.now.pairs colours.now.live 0 63 }
 {
     for c in 0..63 {
-        if let Err(left) = projector.project(store, bonds, colours.batch(c), totals, steps) {
+        if let Err(left) = project_batch(projector, store, bonds, colours.batch(c), totals, steps) {
             return Err(left);
         }
     }
@@ -91,7 +119,7 @@ fn project_serial<const L: usize, P: Projector<L>, G: Ledger>(
     ensures cost { steps.new ≤ steps.old + 4 * length (batch_of colours.now.pairs colours.now.live 63) }
 {
     for n in colours.serial() {
-        if let Err(left) = projector.project(store, bonds, &[*n], totals, steps) {
+        if let Err(left) = project_batch(projector, store, bonds, &[*n], totals, steps) {
             return Err(left);
         }
     }

@@ -1,24 +1,14 @@
-use Rattle.std.proofs.Common.{◌≡◌, ◌+◌, ◌^◌, ◌++◌, arith, refl, ◌∙◌, length}
-use Rattle.pbd_store.specs.Moving.{motion_of, AreInside}
-use Rattle.pbd_pair.specs.Projecting.{IsBatch}
+use Rattle.std.proofs.Common.{◌≡◌, ◌+◌, ◌^◌, ◌++◌, arith, refl, ◌∙◌}
+use Rattle.pbd_store.specs.Moving.{motion_of}
 use Rattle.pbd_step.specs.Projecting.{parallel_from}
-use Rattle.pbd_store.proofs.Fixed.{same_length}
-use Rattle.pbd_pair.proofs.Blocks.{weigh_same}
-use Rattle.pbd_step.proofs.InOrder.{batch_is, parallel_next, parallel_none, parts_length, none_so_far, more_so_far, stops_so_far, whole_so_far, room_so_far}
+use Rattle.pbd_step.proofs.InOrder.{all_go, batch_goes, parallel_next, parallel_none, parts_length, none_so_far, more_so_far, stops_so_far, whole_so_far}
 use Rattle.pbd_step.proofs.Costing.{colour_paid, colours_left}
 use Rattle.pbd_step.proofs.bonds.project_colours.Goals as goal
 
-pub project-requires : goal.project-requires
-project-requires g c =
+pub project_batch-requires : goal.project_batch-requires
+project_batch-requires g c =
     let inv = c.loop-c.invariant in
-    let pairs = c.args.colours.now.pairs in
-    let live = c.args.colours.now.live in
-    let whole : length c.loop-c.store.particles ≡ length c.args.store.now.particles = same_length c.loop-c.store.particles c.args.store.now.particles inv.so_far.fixed in
-    let batch : IsBatch c.loop-c.store.limit (length c.loop-c.store.particles) c.args.bonds c.batch.result.now = rw (inv.limit, whole) (batch_is c.args.store.now.limit (length c.args.store.now.particles) c.args.bonds pairs c.requires.can.fit live c.batch.result.now c.batch.ensures.live c.batch.ensures.apart) in
-    let inside : AreInside c.loop-c.store.limit c.loop-c.store.particles = rw inv.limit inv.so_far.inside in
-    let weights = weigh_same c.args.store.now.particles c.loop-c.store.particles inv.so_far.fixed c.requires.can.movable.weights in
-    let room = room_so_far inv.so_far (2 ^ 119) (2 ^ 120) (omega (arith, parts_length pairs live, c.requires.can.few)) c.requires.can.movable.room in
-    (omega arith, (c.requires.lanes_low, (c.requires.lanes_high, (batch, (inside, (weights, room))))))
+    (omega arith, (c.requires.lanes_low, (c.requires.lanes_high, batch_goes c.loop-c.store c.loop-c.totals c.requires.can inv.limit inv.so_far (omega (arith, parts_length c.args.colours.now.pairs c.args.colours.now.live, c.requires.can.few)) c.args.colours.now.live c.batch.result.now c.batch.ensures.live c.batch.ensures.apart)))
 
 pub returns-in-Err-clause-outcome : goal.returns-in-Err-clause-outcome
 returns-in-Err-clause-outcome g c =
@@ -33,7 +23,7 @@ returns-in-Err-clause-cost g c =
     let inv = c.loop-c.invariant in
     let pairs = c.args.colours.now.pairs in
     let live = c.args.colours.now.live in
-    omega (arith, inv.cost, c.project.ensures.cost, colour_paid pairs live c.loop-c.c c.batch.ensures.value inv.width, colours_left (g.P.Projector.width c.args.projector.now) pairs live c.loop-c.c (omega arith))
+    omega (arith, inv.cost, c.project_batch.ensures.cost, colour_paid pairs live c.loop-c.c c.batch.ensures.value inv.width, colours_left (g.P.Projector.width c.args.projector.now) pairs live c.loop-c.c (omega arith))
 
 pub loop-c-init : goal.loop-c-init
 loop-c-init g c = record { so_far = none_so_far _ _ _ _ _ c.requires.can.movable.inside c.requires.counted; limit = refl; width = refl; cost = omega arith }
@@ -45,10 +35,10 @@ loop-c-preserved g c =
     let live = c.args.colours.now.live in
     let parts : parallel_from pairs live c.loop-c.c ≡ c.batch.result.now ++ parallel_from pairs live (c.loop-c.c + 1) = rw c.batch.ensures.value (parallel_next pairs live c.loop-c.c (omega arith)) in
     record {
-      so_far = more_so_far c.batch.result.now (parallel_from pairs live (c.loop-c.c + 1)) parts inv.limit inv.so_far (motion_of c.project.new.store c.project.new.totals) _ c.in_default.ensures.outcome c.project.ensures.fixed c.in_default.ensures.inside c.in_default.ensures.room c.project.ensures.handed;
-      limit = c.project.ensures.limit ∙ inv.limit;
-      width = c.project.ensures.width ∙ inv.width;
-      cost = omega (arith, inv.cost, c.project.ensures.cost, colour_paid pairs live c.loop-c.c c.batch.ensures.value inv.width, colours_left (g.P.Projector.width c.args.projector.now) pairs live c.loop-c.c (omega arith));
+      so_far = more_so_far c.batch.result.now (parallel_from pairs live (c.loop-c.c + 1)) parts inv.limit inv.so_far (motion_of c.project_batch.new.store c.project_batch.new.totals) _ c.in_default.ensures.outcome c.project_batch.ensures.fixed c.in_default.ensures.inside c.in_default.ensures.room c.project_batch.ensures.handed;
+      limit = c.project_batch.ensures.limit ∙ inv.limit;
+      width = c.project_batch.ensures.width ∙ inv.width;
+      cost = omega (arith, inv.cost, c.project_batch.ensures.cost, colour_paid pairs live c.loop-c.c c.batch.ensures.value inv.width, colours_left (g.P.Projector.width c.args.projector.now) pairs live c.loop-c.c (omega arith));
     }
 
 pub returns-clause-outcome : goal.returns-clause-outcome
@@ -62,3 +52,6 @@ returns-clause-handed g c = (whole_so_far c.loop-c.invariant.so_far (parallel_no
 
 pub returns-clause-cost : goal.returns-clause-cost
 returns-clause-cost g c = omega (arith, c.loop-c.invariant.cost)
+
+pub returns-clause-can : goal.returns-clause-can
+returns-clause-can g c = all_go c.loop-c.store c.loop-c.totals c.requires.can c.loop-c.invariant.limit c.loop-c.invariant.so_far (2 ^ 119 + 2 ^ 57) (omega (arith, parts_length c.args.colours.now.pairs c.args.colours.now.live, c.requires.can.few))

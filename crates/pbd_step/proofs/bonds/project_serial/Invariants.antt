@@ -1,7 +1,8 @@
-use Rattle.std.proofs.Common.{◌≡◌, ◌+◌, ◌*◌, ◌≤◌, drop, length}
+use Rattle.std.proofs.Common.{◌≡◌, ◌+◌, ◌*◌, ◌<◌, ◌≤◌, ℕ, [], ◌∷◌, drop, length}
 use Rattle.pbd_store.specs.Moving.{motion_of}
 use Rattle.pbd_colour.specs.Pairs.{batch_of}
 use Rattle.pbd_pair.specs.Bonds.{bond_of}
+use Rattle.pbd_step.specs.Projecting.{CanProjectBatch}
 use Rattle.pbd_step.proofs.InOrder.{SoFar}
 use Rattle.pbd_step.proofs.bonds.project_serial.Given as goal
 
@@ -9,6 +10,7 @@ abbrev pub invariant-loop-n : goal.invariant-loop-n
 invariant-loop-n g l = record {
   so_far : SoFar l.initial.store.limit (bond_of l.bonds) (batch_of l.colours.pairs l.colours.live 63) (drop l.n-index (batch_of l.colours.pairs l.colours.live 63))
       (motion_of l.initial.store l.initial.totals) (motion_of l.store l.totals) (g.P.Projector.count l.initial.projector) (g.P.Projector.count l.projector);
+  can : (k : ℕ) → k < length l.colours.pairs → CanProjectBatch l.bonds (k ∷ []) l.store l.totals;
   limit : l.store.limit ≡ l.initial.store.limit;
   width : g.P.Projector.width l.projector ≡ g.P.Projector.width l.initial.projector;
   cost : l.steps + 4 * length (drop l.n-index (batch_of l.colours.pairs l.colours.live 63)) ≤ l.initial.steps + 4 * length (batch_of l.colours.pairs l.colours.live 63);

@@ -53,6 +53,20 @@ returns-clause-lost g c =
       z = (z ∙ (λ k. sum_below (λ j. loss_at d (get_or flies j false) (get_or (c.to_array-5.ensures k) j (pos 0)) (get_or (c.to_array-6.ensures k) j (pos 0))) g.row.L)) i;
     })
 
+pub returns-clause-pulled_size : goal.returns-clause-pulled_size
+returns-clause-pulled_size g c =
+    let fx = fits c.fly_axis-x.result.pulled (omega (arith, c.fly_axis-x.ensures.pulled_size)) in
+    let fy = fits c.fly_axis-y.result.pulled (omega (arith, c.fly_axis-y.ensures.pulled_size)) in
+    let fz = fits c.fly_axis-z.result.pulled (omega (arith, c.fly_axis-z.ensures.pulled_size)) in
+    simp to_z-of_z (record { x = c.fly_axis-x.ensures.pulled_size; y = c.fly_axis-y.ensures.pulled_size; z = c.fly_axis-z.ensures.pulled_size })
+
+pub returns-clause-lost_size : goal.returns-clause-lost_size
+returns-clause-lost_size g c =
+    let fx = fits c.fly_axis-x.result.lost (omega (arith, c.fly_axis-x.ensures.lost_size)) in
+    let fy = fits c.fly_axis-y.result.lost (omega (arith, c.fly_axis-y.ensures.lost_size)) in
+    let fz = fits c.fly_axis-z.result.lost (omega (arith, c.fly_axis-z.ensures.lost_size)) in
+    simp to_z-of_z (record { x = c.fly_axis-x.ensures.lost_size; y = c.fly_axis-y.ensures.lost_size; z = c.fly_axis-z.ensures.lost_size })
+
 pub returns-clause-to : goal.returns-clause-to
 returns-clause-to g c j h =
     let fx = fits c.args.air.gravity.x (omega (arith, c.requires.gravity.x)) in

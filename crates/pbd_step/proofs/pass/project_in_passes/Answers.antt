@@ -6,7 +6,7 @@ use Rattle.pbd_world.specs.Work.{pass_work}
 use Rattle.pbd_world.specs.World.{World, live_count}
 use Rattle.pbd_step.specs.declared.state.State.{State}
 use Rattle.pbd_step.specs.declared.state.Tools.{Tools}
-use Rattle.pbd_step.specs.States.{world_of}
+use Rattle.pbd_step.specs.States.{world_of, IsUnderWay}
 use Rattle.pbd_step.specs.Staying.{passing_of}
 use Rattle.pbd_step.proofs.Passes.{same_pass, pass_on, pass_out, passes_done, passes_begin, counts_on}
 use Rattle.pbd_step.proofs.Staying.{none_in_pass, both_in_pass, pass_goes}
@@ -24,14 +24,8 @@ loop-init g c =
       rest = passes_begin (pass (world_of c.args.setting.now run.state) run.tools.found.pairs) c.args.setting.now.passes (passing_of run);
       cost = omega arith;
       handed = omega (arith, c.counts.ensures);
+      going = pass_goes {count = g.P.Projector.count} {lanes = g.P.Projector.width} (2 ^ 118) c.args.setting.now run run c.requires.going (none_in_pass run) (more_under_way (2 ^ 118) (omega arith) c.requires.going.under_way);
     }
-
-pub project_once-requires : goal.project_once-requires
-project_once-requires g c =
-    let inv = c.loop.invariant in
-    let few = passes_few (world_of c.args.setting.now c.args.run.now.state) c.requires.going.under_way in
-    let under_way = more_under_way (2 ^ 118) (omega (arith, few, inv.within)) inv.under_way in
-    (omega arith, (c.requires.lanes_low, (c.requires.lanes_high, pass_goes (2 ^ 118) c.args.setting.now c.args.run.now c.loop.run c.requires.going inv.stays under_way)))
 
 pub returns-in-Err-clause-outcome : goal.returns-in-Err-clause-outcome
 returns-in-Err-clause-outcome g c =
@@ -70,10 +64,15 @@ loop-preserved g c =
     let next : ℕ = g.P.Projector.count c.project_once.new.run.projector in
     let moved = moved_world c.args.setting.now old now stays.moved.same stays.moved.limit in
     let paid = pass_same g.row.L w v now.store.particles (ledger_of now.totals) moved stays.moved.whole stays.width found in
+    let within : i + 1 ≤ c.args.setting.now.passes = omega arith in
+    let still = both_in_pass c.args.run.now c.loop.run c.project_once.new.run stays c.project_once.ensures.stays in
+    let under_way : IsUnderWay (2 ^ 100 + (i + 1) * 2 ^ 62) (world_of c.args.setting.now c.project_once.new.run.state) = more_under_way _ (omega arith) (c.in_default.ensures.under_way (2 ^ 100 + i * 2 ^ 62) inv.under_way) in
+    let few = passes_few w c.requires.going.under_way in
     record {
-      within = omega arith;
-      stays = both_in_pass c.args.run.now c.loop.run c.project_once.new.run stays c.project_once.ensures.stays;
-      under_way = more_under_way _ (omega arith) (c.in_default.ensures.under_way (2 ^ 100 + i * 2 ^ 62) inv.under_way);
+      within = within;
+      stays = still;
+      under_way = under_way;
+      going = pass_goes (2 ^ 118) c.args.setting.now c.args.run.now c.project_once.new.run c.requires.going still (more_under_way (2 ^ 118) (omega (arith, few, within)) under_way);
       rest = pass_on (pass w pairs) c.args.setting.now.passes i (omega arith) s t (sym same ∙ c.in_default.ensures.outcome) ∙ inv.rest;
       cost = omega (arith, inv.cost, c.project_once.ensures.cost, paid);
       handed = counts_on before given next k i inv.handed (c.in_default.ensures.handed ∙ (λ i. min (given + (links i + length (found i))) (2 ^ 64 - 1)));

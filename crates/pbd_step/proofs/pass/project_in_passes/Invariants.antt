@@ -4,7 +4,7 @@ use Rattle.pbd_world.specs.Step.{pass}
 use Rattle.pbd_world.specs.Work.{pass_work}
 use Rattle.pbd_world.specs.World.{live_count}
 use Rattle.pbd_step.specs.States.{world_of, IsUnderWay}
-use Rattle.pbd_step.specs.Staying.{StaysInPass, passing_of}
+use Rattle.pbd_step.specs.Staying.{IsGoing, StaysInPass, passing_of}
 use Rattle.pbd_step.proofs.pass.project_in_passes.Given as goal
 
 abbrev pub invariant-loop : goal.invariant-loop
@@ -16,4 +16,5 @@ invariant-loop g l = record {
       ≡ repeated l.setting.passes (pass (world_of l.setting l.initial.run.state) l.initial.run.tools.found.pairs) (passing_of l.initial.run);
   cost : l.steps ≤ l.initial.steps + l.counter * pass_work g.row.L (g.P.Projector.width l.initial.run.projector) (world_of l.setting l.initial.run.state) l.initial.run.tools.found.pairs;
   handed : g.P.Projector.count l.run.projector ≡ min (g.P.Projector.count l.initial.run.projector + l.counter * (live_count l.initial.run.state.links.items + length l.initial.run.tools.found.pairs)) (2 ^ 64 - 1);
+  going : IsGoing (2 ^ 118) l.setting l.run;
 }

@@ -27,30 +27,11 @@ loop-block-init g c =
       within = formed_within w c.requires.sound.well_formed;
       room = room_at _ (omega arith) (sound_room w c.requires.sound);
       cost = omega arith;
+      count = refl;
+      inside = formed_within w c.requires.sound.well_formed;
+      mild = sound_mild w c.requires.sound;
+      space = room_at (2 ^ 110) (omega arith) (sound_room w c.requires.sound);
     }
-
-pub advance_block-requires : goal.advance_block-requires
-advance_block-requires g c =
-    let inv = c.loop-block.invariant in
-    let r = c.requires in
-    let old = c.args.state.now.store in
-    let mild = sound_mild (world_of c.args.setting.now c.args.state.now) r.sound in
-    let block : c.loop-block.block < blocks_of (length old.particles) g.row.L = omega (arith, c.blocks-block-end.ensures, c.loop-block-test.true) in (
-      omega arith,
-      (
-        r.lanes_low,
-        (
-          r.lanes_high,
-          (
-            subst (λ (m : ℕ). c.loop-block.block < blocks_of m g.row.L) (sym inv.moved.whole) block,
-            (
-              subst (λ (l : ℤ). AreWithin l c.loop-block.state.store.particles) (sym inv.moved.limit) inv.within,
-              (mild.damping, (mild.gravity, room_at (2 ^ 110) (omega (arith, c.len-len.ensures.value, c.len-len.ensures.size)) inv.room)),
-            ),
-          ),
-        ),
-      ),
-    )
 
 pub loop-block-preserved : goal.loop-block-preserved
 loop-block-preserved g c =
@@ -62,12 +43,18 @@ loop-block-preserved g c =
     let then = c.advance_block.new.state in
     let begins : start < many = block_begins c.loop-block.block many g.row.L c.requires.lanes_low (omega (arith, c.blocks-block-end.ensures, c.loop-block-test.true)) in
     let did = subst (λ (l : ℤ). predicted_from (bare_world setting l) (start + g.row.L) (now_of then) ≡ predicted_from (bare_world setting l) start (now_of c.loop-block.state)) inv.moved.limit done.outcome in
+    let moved = both_moved c.args.state.now c.loop-block.state then inv.moved done.moved in
+    let room : HaveRoom (2 ^ 99 + min ((c.loop-block.block + 1) * g.row.L) many * 2 ^ 31) (ledger_of then.totals) = room_at _ (room_more (2 ^ 99) start _ many g.row.L begins (next_start c.loop-block.block g.row.L)) (subst (λ (m : ℕ). HaveRoom (2 ^ 99 + min start many * 2 ^ 31 + (min (start + g.row.L) m - start) * 2 ^ 31) (ledger_of then.totals)) inv.moved.whole (done.room _ inv.room)) in
     record {
       rest = ap (λ (m : ℕ). predicted_from (bare_world setting c.args.state.now.store.limit) m (now_of then)) (next_start c.loop-block.block g.row.L) ∙ did ∙ inv.rest;
-      moved = both_moved c.args.state.now c.loop-block.state then inv.moved done.moved;
+      moved = moved;
       within = subst (λ (l : ℤ). AreWithin l then.store.particles) inv.moved.limit done.within;
-      room = room_at _ (room_more (2 ^ 99) start _ many g.row.L begins (next_start c.loop-block.block g.row.L)) (subst (λ (m : ℕ). HaveRoom (2 ^ 99 + min start many * 2 ^ 31 + (min (start + g.row.L) m - start) * 2 ^ 31) (ledger_of then.totals)) inv.moved.whole (done.room _ inv.room));
+      room = room;
       cost = omega (arith, done.cost, inv.cost);
+      count = ap (λ (m : ℕ). blocks_of m g.row.L) moved.whole;
+      inside = subst (λ (l : ℤ). AreWithin l then.store.particles) (sym done.moved.limit) done.within;
+      mild = inv.mild;
+      space = room_at (2 ^ 110) (omega (arith, c.len-len.ensures.value, c.len-len.ensures.size)) room;
     }
 
 pub returns-in_err-advance_block-clause-outcome : goal.returns-in_err-advance_block-clause-outcome

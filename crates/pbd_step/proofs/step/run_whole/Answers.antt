@@ -8,11 +8,6 @@ use Rattle.pbd_step.specs.Solving.{AreAlike}
 use Rattle.pbd_step.proofs.Keeping.{formed_fit, taken_fit, same_alike, alike_join, kept_moved}
 use Rattle.pbd_step.proofs.step.run_whole.Goals as goal
 
-pub take_steps-requires : goal.take_steps-requires
-take_steps-requires g c =
-    let kept = c.requires.kept in
-    (omega arith, (c.requires.lanes_low, (c.requires.lanes_high, (record { sound = kept.sound; links = kept.links; space = kept.space }, c.requires.count))))
-
 pub restore-requires : goal.restore-requires
 restore-requires g c =
     let kept = c.take_over.new.state in

@@ -15,12 +15,8 @@ loop-i-init g c =
       spent = spent_none g.row.L (g.P.Projector.width run.projector) c.args.n (world_of c.args.setting.now run.state) c.args.steps.now;
       links = c.requires.ready.links;
       stays = none_in_step run;
+      ready = c.requires.ready;
     }
-
-pub step-requires : goal.step-requires
-step-requires g c =
-    let inv = c.loop-i.invariant in
-    (omega arith, (c.requires.lanes_low, (c.requires.lanes_high, (ready_on c.args.setting.now c.args.run.now c.loop-i.run c.requires.ready inv.stays inv.running.sound inv.links, omega (arith, inv.running.steps, c.requires.count, c.loop-i-test.true)))))
 
 pub returns-in-Err-clause-outcome : goal.returns-in-Err-clause-outcome
 returns-in-Err-clause-outcome g c =
@@ -38,12 +34,16 @@ loop-i-preserved g c =
     let did = c.in_default.ensures in
     let lanes : ℕ = g.P.Projector.width c.args.run.now.projector in
     let paid : c.step.new.steps ≤ c.loop-i.steps + step_work g.row.L lanes now (found_in now) = subst (λ (k : ℕ). c.step.new.steps ≤ c.loop-i.steps + step_work g.row.L k now (found_in now)) inv.stays.width c.step.ensures.cost in
+    let running = runs_more c.args.n c.loop-i.i start now next c.loop-i-test.true c.requires.count inv.running did.outcome in
+    let links = subst (λ (n : ℕ). HasLinks n c.step.new.run.state.links.items c.step.new.run.colours) inv.stays.alike.particles did.links in
+    let stays = both_in_step c.args.run.now c.loop-i.run c.step.new.run inv.stays did.stays in
     record {
-      running = runs_more c.args.n c.loop-i.i start now next c.loop-i-test.true c.requires.count inv.running did.outcome;
+      running = running;
       handed = handed_more c.args.n c.loop-i.i start now next (g.P.Projector.count c.args.run.now.projector) (g.P.Projector.count c.loop-i.run.projector) (g.P.Projector.count c.step.new.run.projector) c.loop-i-test.true did.outcome inv.handed did.handed;
       spent = spent_more g.row.L lanes c.args.n c.loop-i.i start now next c.args.steps.now c.loop-i.steps c.step.new.steps c.loop-i-test.true did.outcome inv.spent paid;
-      links = subst (λ (n : ℕ). HasLinks n c.step.new.run.state.links.items c.step.new.run.colours) inv.stays.alike.particles did.links;
-      stays = both_in_step c.args.run.now c.loop-i.run c.step.new.run inv.stays did.stays;
+      links = links;
+      stays = stays;
+      ready = ready_on c.args.setting.now c.args.run.now c.step.new.run c.requires.ready stays running.sound links;
     }
 
 pub returns-clause-outcome : goal.returns-clause-outcome
@@ -51,9 +51,7 @@ returns-clause-outcome g c =
     runs_all c.args.n c.loop-i.i (world_of c.args.setting.now c.args.run.now.state) (world_of c.args.setting.now c.loop-i.run.state) (omega (arith, c.loop-i-test.false)) c.loop-i.invariant.running
 
 pub returns-clause-ready : goal.returns-clause-ready
-returns-clause-ready g c =
-    let inv = c.loop-i.invariant in
-    ready_on c.args.setting.now c.args.run.now c.loop-i.run c.requires.ready inv.stays inv.running.sound inv.links
+returns-clause-ready g c = c.loop-i.invariant.ready
 
 pub returns-clause-handed : goal.returns-clause-handed
 returns-clause-handed g c =

@@ -4,6 +4,7 @@ use Rattle.pbd_io.specs.Appending.{piece_then, prefix_longer}
 use Rattle.pbd_world.specs.Text.{header_line}
 use Rattle.pbd_outcome.specs.ObjText.{comment}
 use Rattle.pbd_run.proofs.ObjTextLaws.{frame_is}
+use Rattle.pbd_run.proofs.LargeLaws.{cause_then}
 use Rattle.pbd_run.proofs.obj_text.Faces.write_frame.Goals as goal
 
 pub returns-in_err-write_header-clause-bytes : goal.returns-in_err-write_header-clause-bytes
@@ -14,3 +15,6 @@ returns-in_err-write_header-clause-bytes g c =
 pub returns-clause-bytes : goal.returns-clause-bytes
 returns-clause-bytes g c =
     rw (frame_is c.args.self.now.base c.args.self.now.mesh.now c.args.session.now) (piece_then _ _ _ c.write_mesh.result _ _ c.in_ok-write_header.ensures.bytes c.write_mesh.ensures.bytes)
+
+pub returns-clause-cause : goal.returns-clause-cause
+returns-clause-cause g c = cause_then _ _ _ c.write_mesh.result c.write_header.ensures.cause.later c.write_mesh.ensures.cause

@@ -10,9 +10,6 @@ use Rattle.pbd_step.proofs.Keeping.{obeyed, steps_mean, run_goes}
 use Rattle.pbd_step.proofs.Costing.{steps_paid}
 use Rattle.pbd_step.proofs.solver.Solver.steps.Goals as goal
 
-pub run_whole-requires : goal.run_whole-requires
-run_whole-requires g c = (omega (arith, c.requires.lanes_high), (omega arith, (c.requires.lanes_low, (c.requires.lanes_high, (c.self.invariant, omega (arith, c.from.ensures, c.if-from-count.false))))))
-
 pub returns-clause-outcome : goal.returns-clause-outcome
 returns-clause-outcome g c =
     let goes = run_goes (world_of c.self.inside.setting c.self.inside.run.state) c.args.n (omega (arith, c.if-n-lt1.false)) (omega (arith, c.if-n-gt-MOST_STEPS.false)) (omega (arith, c.from.ensures, c.if-from-count.false)) in
