@@ -65,14 +65,19 @@ fn open_state<const L: usize>(alloc: Global, parts: &Parts) -> Result<State<L>, 
     ensures { IfOk result (λ state. IsFirst parts.now state) }
 {
     let store = Store::open(alloc, parts.particles.as_slice(), parts.limit)?;
-    let links = parts.links.as_slice().to_vec(alloc)?;
-    Ok(State {
-        store,
-        links,
-        totals: Totals::zero(),
-        steps: 0,
-        contacts: 0,
-    })
+    match parts.links.as_slice().to_vec(alloc) {
+        Ok(links) => Ok(State {
+            store,
+            links,
+            totals: Totals::zero(),
+            steps: 0,
+            contacts: 0,
+        }),
+        Err(AllocError) => {
+            drop(store);
+            Err(AllocError)
+        }
+    }
 }
 
 /// What no step changes of some parts, and a second state of them before the first step.
