@@ -126,11 +126,7 @@ fn first_other(alloc: Global, written: &[u8]) -> Option<usize> {
 fn is_apart(alloc: Global, written: &str, session: usize) -> bool {
     let mut input = String::new(alloc);
     let made = push_own_input(&mut input, session).is_ok();
-    let alone = outcome_of(
-        alloc,
-        Job::Simulate(Width::W1),
-        input.as_str().as_bytes(),
-    );
+    let alone = outcome_of(alloc, Job::Simulate(Width::W1), input.as_str().as_bytes());
     drop(input);
     is_printed(alloc, written, NUMBERS[session % 16], alone) && made
 }
