@@ -112,13 +112,16 @@ const CORNER: Drawing = Drawing {
     ..EMPTY
 };
 
+/// How many accesses there may be, unless there is no memory.
+type Accesses = Result<usize, AllocError>;
+
 /// A scene, how many steps it takes, and what its bonds may cost in them at the widths 1, 2, 4, 8 and 16.
 #[derive(Clone, Copy)]
 struct Row {
     name: &'static str,
     scene: Drawing,
     steps: u64,
-    accesses: [usize; 5],
+    accesses: [Accesses; 5],
 }
 
 static ROWS: [Row; 3] = [
@@ -127,21 +130,21 @@ static ROWS: [Row; 3] = [
         name: "pairs",
         scene: PAIRS,
         steps: 2,
-        accesses: [240, 120, 72, 48, 24],
+        accesses: [Ok(240), Ok(120), Ok(72), Ok(48), Ok(24)],
     },
     // Two passes: four links one by one, or two colours of one piece each.
     Row {
         name: "line",
         scene: LINE,
         steps: 1,
-        accesses: [32, 16, 16, 16, 16],
+        accesses: [Ok(32), Ok(16), Ok(16), Ok(16), Ok(16)],
     },
     // One pass: a piece for each contact.
     Row {
         name: "corner",
         scene: CORNER,
         steps: 1,
-        accesses: [12, 12, 12, 12, 12],
+        accesses: [Ok(12); 5],
     },
 ];
 
@@ -150,7 +153,7 @@ fn accesses<const L: usize, G: Ledger>(
     scene: &Scene,
     n: u64,
     steps: &mut Steps<G>,
-) -> Result<usize, AllocError>
+) -> Accesses
     requires low { 0 < L }
     requires high { L ≤ 16 }
 {
@@ -169,47 +172,34 @@ fn accesses<const L: usize, G: Ledger>(
     }
 }
 
-fn accesses_at_each_width<G: Ledger>(
-    alloc: Global,
-    scene: &Scene,
-    n: u64,
-    steps: &mut Steps<G>,
-) -> Result<[usize; 5], AllocError> {
-    let one = accesses::<1, G>(alloc, scene, n, steps)?;
-    let two = accesses::<2, G>(alloc, scene, n, steps)?;
-    let four = accesses::<4, G>(alloc, scene, n, steps)?;
-    let eight = accesses::<8, G>(alloc, scene, n, steps)?;
-    let sixteen = accesses::<16, G>(alloc, scene, n, steps)?;
-    Ok([one, two, four, eight, sixteen])
-}
-
-fn counted<G: Ledger>(
-    alloc: Global,
-    blank: Blank,
-    scene: &Scene,
-    n: u64,
-) -> Result<[usize; 5], AllocError>
+fn counted<G: Ledger>(alloc: Global, blank: Blank, scene: &Scene, n: u64) -> [Accesses; 5]
     requires name { blank.name ≡ G.name }
     requires parts { blank.parts ≡ G.parts }
     requires some { 0 < blank.parts }
 {
     let mut steps: Steps<G> = Steps::open(blank);
-    let told = accesses_at_each_width(alloc, scene, n, &mut steps);
+    let told = [
+        accesses::<1, G>(alloc, scene, n, &mut steps),
+        accesses::<2, G>(alloc, scene, n, &mut steps),
+        accesses::<4, G>(alloc, scene, n, &mut steps),
+        accesses::<8, G>(alloc, scene, n, &mut steps),
+        accesses::<16, G>(alloc, scene, n, &mut steps),
+    ];
     drop(steps);
     told
 }
 
-fn at_each_width(alloc: Global, scene: &Scene, n: u64) -> Result<[usize; 5], AllocError> {
+fn at_each_width(alloc: Global, scene: &Scene, n: u64) -> [Accesses; 5] {
     counted::<Brand>(alloc, Blank::new(1), scene, n)
 }
 
 /// What the bonds of a row may cost, at each width.
-fn cost(alloc: Global, row: &Row) -> Result<[usize; 5], PartsFault> {
+fn cost(alloc: Global, row: &Row) -> Result<[Accesses; 5], PartsFault> {
     match scene(alloc, &row.scene) {
         Ok(scene) => {
             let told = at_each_width(alloc, &scene, row.steps);
             drop(scene);
-            told.or(Err(PartsFault::OutOfMemory))
+            Ok(told)
         }
         Err(fault) => Err(fault),
     }
@@ -218,6 +208,6 @@ fn cost(alloc: Global, row: &Row) -> Result<[usize; 5], PartsFault> {
 #[test]
 fn bonds_reach_the_store_as_often_as_their_work_says(rt: HostRuntime) {
     for row in &ROWS {
-        assert_eq!(rt; cost(rt.alloc(), row), Ok(row.accesses), "{}", row.name);
+        assert!(rt; cost(rt.alloc(), row) == Ok(row.accesses), "{}", row.name);
     }
 }

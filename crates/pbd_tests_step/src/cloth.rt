@@ -6,7 +6,6 @@ use pbd_cloth::{Cloth, Place};
 use pbd_num::Vec3;
 use pbd_world::{Command, PartsFault, Refusal, Reply, Scene};
 use std::alloc::{AllocError, Global};
-use std::test::Fail;
 
 static TEARING: Drawing = TEARS;
 
@@ -73,27 +72,27 @@ fn played_on(alloc: Global, drawing: &Drawing) -> Result<([Reply; 4], [Seen; 4])
     }
 }
 
+/// The answers to a step that tears two links, to a cut, to the same cut again, and to gravity.
+static REPLIES: [Reply; 4] = [
+    Reply::Done,
+    Reply::Done,
+    Reply::Refused(Refusal::LinkGone),
+    Reply::Done,
+];
+
+const TORN: Seen = ([1, 0, 0, 7], [1, 2], 2, 2000, 1);
+
+/// What is seen with two links torn, with all gone, and back in the slots 1 and 0.
+static TOLD: [Seen; 4] = [
+    TORN,
+    ([0, 0, 0, 7], [0, 1], 3, 2003, 2),
+    TORN,
+    ([1, 1, 1, 7], [9, 9], 0, 2000, 0),
+];
+
 #[test]
-fn a_cloth_goes_back_to_its_slots(rt: HostRuntime) -> Result<(), Fail> {
-    let (replies, told) = played_on(rt.alloc(), &TEARING)?;
-    assert_eq!(rt;
-        replies,
-        [
-            Reply::Done,
-            Reply::Done,
-            Reply::Refused(Refusal::LinkGone),
-            Reply::Done
-        ]
-    );
-    let torn = ([1, 0, 0, 7], [1, 2], 2, 2000, 1);
-    assert_eq!(rt;
-        told,
-        [
-            torn,
-            ([0, 0, 0, 7], [0, 1], 3, 2003, 2),
-            torn,
-            ([1, 1, 1, 7], [9, 9], 0, 2000, 0)
-        ]
-    );
-    Ok(())
+fn a_cloth_goes_back_to_its_slots(rt: HostRuntime) {
+    let (replies, told) = played_on(rt.alloc(), &TEARING).expect(&rt, "no scene");
+    assert!(rt; replies == REPLIES);
+    assert!(rt; told == TOLD);
 }

@@ -190,52 +190,43 @@ fn holds_in_lanes<const L: usize, G: Ledger>(
     }
 }
 
-fn holds<const L: usize, G: Ledger>(
+/// Whether it does one by one and in lanes, unless there is no memory.
+type Both = [Result<bool, AllocError>; 2];
+
+fn both_hold<const L: usize, G: Ledger>(
     alloc: Global,
     scene: &Scene,
     case: &Case<'_>,
     steps: &mut Steps<G>,
-) -> Result<bool, AllocError>
+) -> Both
     requires low { 0 < L }
     requires high { L ≤ 16 }
 {
-    let one_by_one = holds_one_by_one::<L, G>(alloc, scene, case, steps)?;
-    let in_lanes = holds_in_lanes::<L, G>(alloc, scene, case, steps)?;
-    Ok(one_by_one && in_lanes)
+    [
+        holds_one_by_one::<L, G>(alloc, scene, case, steps),
+        holds_in_lanes::<L, G>(alloc, scene, case, steps),
+    ]
 }
 
-fn holds_at_each_width<G: Ledger>(
-    alloc: Global,
-    scene: &Scene,
-    case: &Case<'_>,
-    steps: &mut Steps<G>,
-) -> Result<[bool; 5], AllocError> {
-    let one = holds::<1, G>(alloc, scene, case, steps)?;
-    let two = holds::<2, G>(alloc, scene, case, steps)?;
-    let four = holds::<4, G>(alloc, scene, case, steps)?;
-    let eight = holds::<8, G>(alloc, scene, case, steps)?;
-    let sixteen = holds::<16, G>(alloc, scene, case, steps)?;
-    Ok([one, two, four, eight, sixteen])
-}
-
-fn counted<G: Ledger>(
-    alloc: Global,
-    blank: Blank,
-    scene: &Scene,
-    case: &Case<'_>,
-) -> Result<[bool; 5], AllocError>
+fn counted<G: Ledger>(alloc: Global, blank: Blank, scene: &Scene, case: &Case<'_>) -> [Both; 5]
     requires name { blank.name ≡ G.name }
     requires parts { blank.parts ≡ G.parts }
     requires some { 0 < blank.parts }
 {
     let mut steps: Steps<G> = Steps::open(blank);
-    let told = holds_at_each_width(alloc, scene, case, &mut steps);
+    let told = [
+        both_hold::<1, G>(alloc, scene, case, &mut steps),
+        both_hold::<2, G>(alloc, scene, case, &mut steps),
+        both_hold::<4, G>(alloc, scene, case, &mut steps),
+        both_hold::<8, G>(alloc, scene, case, &mut steps),
+        both_hold::<16, G>(alloc, scene, case, &mut steps),
+    ];
     drop(steps);
     told
 }
 
 /// Whether a case holds with both projectors, at each width.
-fn at_each_width(alloc: Global, scene: &Scene, case: &Case<'_>) -> Result<[bool; 5], AllocError> {
+fn at_each_width(alloc: Global, scene: &Scene, case: &Case<'_>) -> [Both; 5] {
     counted::<Brand>(alloc, Blank::new(1), scene, case)
 }
 
@@ -267,7 +258,7 @@ fn writes_on(
     job: Job<'_>,
     ends: ReplayEnd,
     text: &[u8],
-) -> Result<[bool; 5], AllocError> {
+) -> [Both; 5] {
     let case = Case {
         job,
         fails: &[],
@@ -285,12 +276,12 @@ fn writes(
     job: Job<'_>,
     ends: ReplayEnd,
     text: &[u8],
-) -> Result<[bool; 5], PartsFault> {
+) -> Result<[Both; 5], PartsFault> {
     match scene(alloc, drawing) {
         Ok(scene) => {
             let told = writes_on(alloc, &scene, job, ends, text);
             drop(scene);
-            told.or(Err(PartsFault::OutOfMemory))
+            Ok(told)
         }
         Err(fault) => Err(fault),
     }
@@ -388,7 +379,7 @@ fn differs(
     drawing: &Drawing,
     log: &[u8],
     row: &Wrong<'_>,
-) -> Result<[bool; 5], PartsFault> {
+) -> Result<[Both; 5], PartsFault> {
     let (offset, byte, ends, text) = *row;
     match log.to_vec(alloc) {
         Ok(mut wrong) => {
@@ -458,7 +449,7 @@ const OLD_BAD_COUNT: [u8; 31] = [
     0, 0, 0, 0, 0, 0, 1,
 ];
 
-const ALL: [bool; 5] = [true; 5];
+const ALL: [Both; 5] = [[Ok(true); 2]; 5];
 
 const NONE_REFUSED: ReplayEnd = ReplayEnd::Done { refused: 0 };
 
@@ -521,9 +512,8 @@ static SCRIPTS: [(Drawing, &[u8], u64, &[u8]); 10] = [
 fn scripts_print_their_replies(rt: HostRuntime) {
     for (drawing, script, refused, text) in &SCRIPTS {
         let ends = ReplayEnd::Done { refused: *refused };
-        assert_eq!(rt;
-            writes(rt.alloc(), drawing, Job::Script(script), ends, text),
-            Ok(ALL),
+        assert!(rt;
+            writes(rt.alloc(), drawing, Job::Script(script), ends, text) == Ok(ALL),
             "at {script:?}"
         );
     }
@@ -534,14 +524,10 @@ fn contacts_past_their_greatest_number_are_printed(rt: HostRuntime) {
     let job = Job::Script(b"step 1\nfly\n");
     let text = b"refused 12 TooManyContacts step 1\nrefused 1 BadCommand\n";
     let ends = ReplayEnd::Done { refused: 2 };
-    match in_a_row(rt.alloc(), 725) {
-        Ok(scene) => {
-            let told = writes_on(rt.alloc(), &scene, job, ends, text);
-            drop(scene);
-            assert_eq!(rt; told, Ok(ALL));
-        }
-        Err(fault) => assert!(rt; false, "{fault:?}"),
-    }
+    let scene = in_a_row(rt.alloc(), 725).expect(&rt, "no scene");
+    let told = writes_on(rt.alloc(), &scene, job, ends, text);
+    drop(scene);
+    assert!(rt; told == ALL);
 }
 
 #[test]
@@ -551,10 +537,7 @@ fn refused_commands_are_counted(rt: HostRuntime) {
     let text =
         b"ok\nrefused 7 Held\nok\nok\nrefused 6 NotHeld\nrefused 2 NoParticle\nrefused 3 NoLink\nrefused 5 OutOfRange\nrefused 9 BadCount\nrefused 1 BadCommand\nframe 0 1 0 0\n1 2 3\n";
     let ends = ReplayEnd::Done { refused: 7 };
-    assert_eq!(rt;
-        writes(rt.alloc(), &FLYING, Job::Script(script), ends, text),
-        Ok(ALL)
-    );
+    assert!(rt; writes(rt.alloc(), &FLYING, Job::Script(script), ends, text) == Ok(ALL));
 }
 
 const LEDGER: &[u8] =
@@ -577,9 +560,8 @@ static LINES: [(Job<'static>, &[u8], &[usize]); 4] = [
 #[test]
 fn each_line_is_one_call(rt: HostRuntime) {
     for (job, text, lengths) in &LINES {
-        assert_eq!(rt;
-            stops_at_each_call(rt.alloc(), &FALLING, *job, text, lengths),
-            Ok(true),
+        assert!(rt;
+            stops_at_each_call(rt.alloc(), &FALLING, *job, text, lengths) == Ok(true),
             "at {text:?}"
         );
     }
@@ -595,12 +577,11 @@ static RECORDS: [(Drawing, Job<'static>, u64, &[u8]); 3] = [
 fn each_part_of_a_log_is_one_call(rt: HostRuntime) {
     for (drawing, job, refused, log) in &RECORDS {
         let ends = ReplayEnd::Done { refused: *refused };
-        assert_eq!(rt; writes(rt.alloc(), drawing, *job, ends, log), Ok(ALL));
+        assert!(rt; writes(rt.alloc(), drawing, *job, ends, log) == Ok(ALL));
     }
     let job = Job::Record(SCENE, SCRIPT);
-    assert_eq!(rt;
-        stops_at_each_call(rt.alloc(), &FALLING, job, &LONG, &[20, 53, 74, 2, 9]),
-        Ok(true)
+    assert!(rt;
+        stops_at_each_call(rt.alloc(), &FALLING, job, &LONG, &[20, 53, 74, 2, 9]) == Ok(true)
     );
 }
 
@@ -626,9 +607,8 @@ static REPLAYS: [(Drawing, &[u8], ReplayEnd, &[u8]); 6] = [
 #[test]
 fn logs_replay_alike(rt: HostRuntime) {
     for (drawing, log, ends, text) in &REPLAYS {
-        assert_eq!(rt;
-            writes(rt.alloc(), drawing, Job::Replay(log), *ends, text),
-            Ok(ALL),
+        assert!(rt;
+            writes(rt.alloc(), drawing, Job::Replay(log), *ends, text) == Ok(ALL),
             "at {text:?}"
         );
     }
@@ -658,9 +638,8 @@ static WRONG_ANSWERS: [Wrong<'static>; 3] = [
 #[test]
 fn each_answer_can_differ(rt: HostRuntime) {
     for row in &WRONG_ANSWERS {
-        assert_eq!(rt;
-            differs(rt.alloc(), &LEAVING, &LEAVES, row),
-            Ok(ALL),
+        assert!(rt;
+            differs(rt.alloc(), &LEAVING, &LEAVES, row) == Ok(ALL),
             "at {}",
             row.0
         );
@@ -733,9 +712,8 @@ static WRONG_SUMS: [Wrong<'static>; 10] = [
 #[test]
 fn each_sum_can_differ(rt: HostRuntime) {
     for row in &WRONG_SUMS {
-        assert_eq!(rt;
-            differs(rt.alloc(), &FALLING, &LONG, row),
-            Ok(ALL),
+        assert!(rt;
+            differs(rt.alloc(), &FALLING, &LONG, row) == Ok(ALL),
             "at {}",
             row.0
         );

@@ -427,12 +427,12 @@ fn widths<G: Ledger>(alloc: Global, blank: Blank) -> [Told; 5]
 
 #[test]
 fn one_by_one(rt: HostRuntime) {
-    assert_eq!(rt; scalars::<Brand>(rt.alloc(), Blank::new(1)), [ALL_HOLD; 2]);
-    assert_eq!(rt; Scalar::<4>::new().lanes(), 1);
+    assert!(rt; scalars::<Brand>(rt.alloc(), Blank::new(1)) == [ALL_HOLD; 2]);
+    assert!(rt; Scalar::<4>::new().lanes() == 1);
 }
 
 #[test]
 fn side_by_side(rt: HostRuntime) {
-    assert_eq!(rt; widths::<Brand>(rt.alloc(), Blank::new(1)), [ALL_HOLD; 5]);
-    assert_eq!(rt; LaneProjector::<4>::new().lanes(), 4);
+    assert!(rt; widths::<Brand>(rt.alloc(), Blank::new(1)) == [ALL_HOLD; 5]);
+    assert!(rt; LaneProjector::<4>::new().lanes() == 4);
 }

@@ -12,7 +12,6 @@ use pbd_world::{Particle, Plane, Sphere, Totals};
 use std::alloc::{AllocError, Global};
 use std::marker::Brand;
 use std::sync::ledger::{Blank, Ledger};
-use std::test::Fail;
 
 macro_rules! plane {
     ($x:expr, $y:expr, $z:expr, $offset:expr) => {
@@ -331,11 +330,10 @@ static BEHIND_THE_EDGE: [Plane; 3] = [
 ];
 
 #[test]
-fn the_first_particle_leaves(rt: HostRuntime) -> Result<(), Fail> {
+fn the_first_particle_leaves(rt: HostRuntime) {
     for seen in pushed(rt.alloc(), &AT_THE_EDGE, &BEHIND_THE_EDGE, &[]) {
-        assert_eq!(rt; seen?.left, Some(0));
+        assert!(rt; seen.expect(&rt, "no memory").left == Some(0));
     }
-    Ok(())
 }
 
 static MOVING: [Particle; 3] = [
@@ -366,13 +364,12 @@ fn friction_takes_of_velocities(rt: HostRuntime) {
 }
 
 #[test]
-fn flags_are_set_and_cleared(rt: HostRuntime) -> Result<(), Fail> {
-    let mut touched = Touched::open(rt.alloc(), 3)?;
+fn flags_are_set_and_cleared(rt: HostRuntime) {
+    let mut touched = Touched::open(rt.alloc(), 3).expect(&rt, "no memory");
     touched.set(1);
     let set = [touched.is_set(1), touched.is_set(0)];
     touched.clear();
     let cleared = touched.is_set(1);
     drop(touched);
-    assert_eq!(rt; (set, cleared), ([true, false], false));
-    Ok(())
+    assert!(rt; (set, cleared) == ([true, false], false));
 }

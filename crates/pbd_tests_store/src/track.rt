@@ -9,7 +9,6 @@ use pbd_world::{Key, List, Particle, Track};
 use std::alloc::{AllocError, Global};
 use std::marker::Brand;
 use std::sync::ledger::{Blank, Ledger};
-use std::test::Fail;
 
 const START: Key = Key {
     step: 0,
@@ -148,17 +147,16 @@ static PLACES: [(u32, [i64; 4]); 5] = [
 #[test]
 fn tracks_move_at_every_width(rt: HostRuntime) {
     for (t, wanted) in &PLACES {
-        assert_eq!(rt; places(rt.alloc(), *t), [Ok(*wanted); 5]);
+        assert!(rt; places(rt.alloc(), *t) == [Ok(*wanted); 5]);
     }
 }
 
 #[test]
-fn tracks_name_particles(rt: HostRuntime) -> Result<(), Fail> {
-    let track = one_place(rt.alloc())?;
+fn tracks_name_particles(rt: HostRuntime) {
+    let track = one_place(rt.alloc()).expect(&rt, "no memory");
     let place = track_at(&track, 7);
     let tracks = [track];
     let tracked = [is_tracked(&tracks, 1), is_tracked(&tracks, 0)];
     drop(tracks);
-    assert_eq!(rt; (place.x, tracked), (5, [true, false]));
-    Ok(())
+    assert!(rt; (place.x, tracked) == (5, [true, false]));
 }
