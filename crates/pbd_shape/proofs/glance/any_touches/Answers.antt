@@ -1,9 +1,19 @@
-use Rattle.std.proofs.Common.{◌∙◌, ap, map}
+use Rattle.std.proofs.Common.{◌∙◌, ap, map, arith}
+use Rattle.std.proofs.lemmas.Int.{to_z-of_z}
 use Rattle.pbd_world.specs.Shapes.{plane_shape, sphere_shape, way_through}
 use Rattle.pbd_store.specs.Blocks.{place_of}
 use Rattle.pbd_shape.specs.Way.{starting}
 use Rattle.pbd_shape.proofs.Ways.{then_on, ways_joined}
 use Rattle.pbd_shape.proofs.glance.any_touches.Goals as goal
+
+pub spheres_touch-requires : goal.spheres_touch-requires
+spheres_touch-requires g c =
+    let limit = c.ranges.limit in
+    let r = c.requires in
+    let size = r.lanes in (
+      omega (arith, size),
+      (r.lanes, (simp to_z-of_z r.limit, (simp to_z-of_z r.spheres, r.places))),
+    )
 
 pub returns-else-planes_touch : goal.returns-else-planes_touch
 returns-else-planes_touch g c =

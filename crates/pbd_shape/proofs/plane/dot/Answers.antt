@@ -3,6 +3,24 @@ use Rattle.std.proofs.lemmas.Int.{to_z-of_z}
 use Rattle.pbd_num.proofs.Sizes.{fits, size-add}
 use Rattle.pbd_shape.proofs.plane.dot.Goals as goal
 
+pub product-requires : goal.product-requires
+product-requires c =
+    let n = fits c.args.n.x (omega (arith, c.requires.n.x)) in
+    let p = fits c.args.p.x (omega (arith, c.requires.p.x)) in
+    record { a = simp to_z-of_z c.requires.n.x; b = simp to_z-of_z c.requires.p.x }
+
+pub product-requires-2 : goal.product-requires-2
+product-requires-2 c =
+    let n = fits c.args.n.y (omega (arith, c.requires.n.y)) in
+    let p = fits c.args.p.y (omega (arith, c.requires.p.y)) in
+    record { a = simp to_z-of_z c.requires.n.y; b = simp to_z-of_z c.requires.p.y }
+
+pub product-requires-3 : goal.product-requires-3
+product-requires-3 c =
+    let n = fits c.args.n.z (omega (arith, c.requires.n.z)) in
+    let p = fits c.args.p.z (omega (arith, c.requires.p.z)) in
+    record { a = simp to_z-of_z c.requires.n.z; b = simp to_z-of_z c.requires.p.z }
+
 pub overflow_add-result : goal.overflow_add-result
 overflow_add-result c =
     let a : FitsSigned w64 c.product.result = record { sfits = c.product.type_inv } in

@@ -7,6 +7,12 @@ use Rattle.pbd_shape.proofs.plane.in_front.Goals as goal
 lack_size : (offset dot : ℤ) → unsigned_abs offset ≤ 2 ^ 40 → unsigned_abs dot ≤ 2 ^ 41 → unsigned_abs (offset -ℤ dot) ≤ 2 ^ 42
 lack_size offset dot h k = omega (arith, size-sub offset dot, h, k)
 
+pub overflow_sub-lack : goal.overflow_sub-lack
+overflow_sub-lack c =
+    let offset = fits c.args.plane.offset (omega (arith, c.requires.plane.offset)) in
+    let d : FitsSigned w64 c.dot.result = record { sfits = c.dot.type_inv } in
+    simp to_z-of_z (fits (c.args.plane.offset -ℤ c.dot.result) (omega (arith, lack_size c.args.plane.offset c.dot.result c.requires.plane.offset c.dot.ensures.size)))
+
 pub axis_out-requires : goal.axis_out-requires
 axis_out-requires c =
     let offset = fits c.args.plane.offset (omega (arith, c.requires.plane.offset)) in

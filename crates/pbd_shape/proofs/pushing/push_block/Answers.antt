@@ -105,3 +105,12 @@ returns-in-Err-clause-inside g c = c.requires.inside
 
 pub returns-then-not-any_touches-clause-inside : goal.returns-then-not-any_touches-clause-inside
 returns-then-not-any_touches-clause-inside g c = c.requires.inside
+
+pub returns-in-Ok-clause-flags : goal.returns-in-Ok-clause-flags
+returns-in-Ok-clause-flags g c = c.push_lanes.ensures.flags
+
+pub returns-in-Err-clause-flags : goal.returns-in-Err-clause-flags
+returns-in-Err-clause-flags g c = c.push_lanes.ensures.flags
+
+pub returns-in-Ok-clause-limit : goal.returns-in-Ok-clause-limit
+returns-in-Ok-clause-limit g c = c.save.ensures.limit

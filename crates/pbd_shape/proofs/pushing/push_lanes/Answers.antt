@@ -13,6 +13,15 @@ use Rattle.pbd_store.proofs.Places.{inside_more, within_at, below_count}
 use Rattle.pbd_shape.proofs.Steps.{pushing_none, pushing_out, pushing_on, pushing_all, way_is, flagged_length}
 use Rattle.pbd_shape.proofs.pushing.push_lanes.Goals as goal
 
+pub span-span-requires : goal.span-span-requires
+span-span-requires g c =
+    let ready = c.requires.ready in (omega arith, (ready.lanes_low, (ready.lanes_high, ready.block)))
+
+pub place-from-requires : goal.place-from-requires
+place-from-requires g c =
+    let span = c.span-span.ensures in
+    let size = c.requires.ready.lanes_high in (omega (arith, size), omega (arith, span.count, c.loop-j-test.true))
+
 pub loop-j-init : goal.loop-j-init
 loop-j-init g c = record {
   some = pushing_none _ _ _ _ _ _ _ _ _;

@@ -13,6 +13,20 @@ use Rattle.pbd_store.proofs.Places.{inside_more, within_at, below_count}
 use Rattle.pbd_shape.proofs.Steps.{rubbing_none, rubbing_on, rubbing_all, loss_of, loss_within, part_low, part_high}
 use Rattle.pbd_shape.proofs.rubbing.rub_lanes.Goals as goal
 
+pub span-span-requires : goal.span-span-requires
+span-span-requires g c =
+    let ready = c.requires.ready in (omega arith, (ready.lanes_low, (ready.lanes_high, ready.block)))
+
+pub place-requires : goal.place-requires
+place-requires g c =
+    let span = c.span-span.ensures in
+    let size = c.requires.ready.lanes_high in (omega (arith, size), omega (arith, span.count, c.loop-j-test.true))
+
+pub place-before-requires : goal.place-before-requires
+place-before-requires g c =
+    let span = c.span-span.ensures in
+    let size = c.requires.ready.lanes_high in (omega (arith, size), omega (arith, span.count, c.loop-j-test.true))
+
 pub loop-j-init : goal.loop-j-init
 loop-j-init g c =
     let f = c.ranges.friction in

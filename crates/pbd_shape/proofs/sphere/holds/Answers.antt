@@ -1,10 +1,16 @@
-use Rattle.std.proofs.Common.{ap, pos, arith, w64, FitsSigned, ◌∙◌, int_lt}
+use Rattle.std.proofs.Common.{ap, pos, arith, w64, FitsSigned, ◌^◌, ◌∙◌, int_lt}
 use Rattle.std.proofs.lemmas.Int.{to_z-of_z}
 use Rattle.pbd_num.specs.declared.Vec3.{Vec3}
 use Rattle.pbd_num.specs.Vectors.{minus, squared_length}
 use Rattle.pbd_num.proofs.Sizes.{fits}
 use Rattle.pbd_shape.proofs.Moves.{in_by_squares}
 use Rattle.pbd_shape.proofs.sphere.holds.Goals as goal
+
+pub short_axes-requires : goal.short_axes-requires
+short_axes-requires c = c.minus.ensures.size (2 ^ 29) (2 ^ 29) c.requires.place c.requires.sphere.centre
+
+pub squared_length-requires : goal.squared_length-requires
+squared_length-requires c = rw c.short_axes.ensures (c.minus.ensures.size (2 ^ 29) (2 ^ 29) c.requires.place c.requires.sphere.centre)
 
 pub returns : goal.returns
 returns c =
