@@ -12,3 +12,4 @@ pub mod SessionLaws
 pub mod SplitLaws
 pub mod ThirdsLaws
 pub mod WholeLaws
+pub mod LineSizes

@@ -1,13 +1,9 @@
-use Rattle.std.proofs.Common.{◌≡◌, ap, ℕ, ◌+◌, List, ◌++◌, length, codes, decimal, arith}
-use Rattle.std.proofs.lemmas.List.{length-append}
+use Rattle.std.proofs.Common.{◌≡◌, ap, ◌+◌, ◌++◌, length, codes, decimal, arith}
 use Rattle.pbd_scene.specs.Keys.{rule_number, rule_text, table_text, key_text}
 use Rattle.pbd_outcome.specs.Statuses.{refused_line}
 use Rattle.pbd_outcome.proofs.LineLaws.{regrouped}
+use Rattle.pbd_run.proofs.LineSizes.{longer}
 use Rattle.pbd_run.proofs.line.refused_words.Goals as goal
-
--- how long a line is after a piece
-longer : (old new piece : List ℕ) → new ≡ old ++ piece → length new ≡ length old + length piece
-longer old new piece is = rw is (length-append old piece)
 
 pub returns-clause-bytes : goal.returns-clause-bytes
 unfolding refused_line
