@@ -35,7 +35,8 @@ fn fault_of(rt: &impl Abort, alloc: Global, text: &[u8]) -> Option<ObjFault> {
     }
 }
 
-static BAD_VERTICES: [(&[u8], ObjFault); 19] = [
+/// Texts with a bad vertex or a bad face.
+static BAD_TEXTS: [(&[u8], ObjFault); 32] = [
     (b"v 1 2", ObjFault::BadNumber { line: 1 }),
     (b"v", ObjFault::BadNumber { line: 1 }),
     (b"#\n\n v 1 2 x\r\n", ObjFault::BadNumber { line: 3 }),
@@ -61,19 +62,6 @@ static BAD_VERTICES: [(&[u8], ObjFault); 19] = [
         b"v 0 0 999999999999999999999999e99",
         ObjFault::OutOfRange { line: 1 },
     ),
-];
-
-#[test]
-fn texts_with_a_bad_vertex(rt: HostRuntime) {
-    for (text, fault) in &BAD_VERTICES {
-        assert!(rt;
-            fault_of(&rt, rt.alloc(), text) == Some(*fault),
-            "of {text:?}"
-        );
-    }
-}
-
-static BAD_FACES: [(&[u8], ObjFault); 13] = [
     (
         b"v 0 0 0\nv 0 0 9e3\nf 1 2 3",
         ObjFault::OutOfRange { line: 2 },
@@ -123,8 +111,8 @@ static BAD_FACES: [(&[u8], ObjFault); 13] = [
 ];
 
 #[test]
-fn texts_with_a_bad_face(rt: HostRuntime) {
-    for (text, fault) in &BAD_FACES {
+fn texts_with_a_bad_vertex_or_face(rt: HostRuntime) {
+    for (text, fault) in &BAD_TEXTS {
         assert!(rt;
             fault_of(&rt, rt.alloc(), text) == Some(*fault),
             "of {text:?}"

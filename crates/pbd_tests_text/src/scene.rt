@@ -1,6 +1,6 @@
 //! Scenes, each with the first rule that it breaks, and what an accepted one holds.
 use crate::parts::{compare_links, link};
-use crate::scene_keys::key_cases;
+use crate::scene_keys::KEY_CASES;
 use pbd_num::Vec3;
 use pbd_scene::{SceneFault, read_scene};
 use pbd_world::{Kind, Link, Particle, Parts};
@@ -11,8 +11,7 @@ use std::process::Abort;
 const LIMIT: i64 = 536_870_912;
 
 /// Scenes, each with the number, table, position and key of the first rule that it breaks. `;` ends a line of a scene.
-fn cases() -> &'static str {
-    " => ok
+static CASES: &str = " => ok
 gravity=[0,-10,0]; particle=[{at=[0,1000,0]}] => ok
 = 1 => not toml
 zebra=1; cloth=[{}] => 2 scene 0 -
@@ -88,8 +87,7 @@ particle=[{at=[0,0,0]}]; track=[{particle=0,keys=[[0,0,0,0]]},{particle=0,keys=[
 particle=[{at=[0,0,0]}]; pins=[7]; track=[{particle=1,keys=[[0,0,0,0]]}] => 7 scene 0 pins
 particle=[{at=[0,0,0]}]; track=[{particle=0,keys=[[3,5,6,7],[4,1,1,1]]}] => ok
 track=1; sphere=[2] => 4 sphere 0 -
-track=1 => 4 track 0 -"
-}
+track=1 => 4 track 0 -";
 
 /// What is told of a fault.
 fn told(alloc: Global, fault: SceneFault) -> Result<String, AllocError> {
@@ -140,26 +138,22 @@ fn answers_lines(alloc: Global, scene: &str, answer: &str) -> Result<bool, Alloc
     }
 }
 
-#[test]
-fn the_first_broken_rule_is_told(rt: HostRuntime) {
-    for line in cases().lines() {
+/// Looks at what is told of each case.
+fn tell_of(rt: &impl Abort, alloc: Global, cases: &str) {
+    for line in cases.lines() {
         let (scene, answer) = line.split_once(" => ").unwrap_or((line, "no answer"));
-        assert!(rt;
-            answers_lines(rt.alloc(), scene, answer) == Ok(true),
-            "{line}"
-        );
+        assert!(rt; answers_lines(alloc, scene, answer) == Ok(true), "{line}");
     }
 }
 
 #[test]
+fn the_first_broken_rule_is_told(rt: HostRuntime) {
+    tell_of(&rt, rt.alloc(), CASES);
+}
+
+#[test]
 fn each_key_has_its_rules(rt: HostRuntime) {
-    for line in key_cases().lines() {
-        let (scene, answer) = line.split_once(" => ").unwrap_or((line, "no answer"));
-        assert!(rt;
-            answers_lines(rt.alloc(), scene, answer) == Ok(true),
-            "{line}"
-        );
-    }
+    tell_of(&rt, rt.alloc(), KEY_CASES);
 }
 
 /// Writes an array: its beginning, so many times an item, and its end.

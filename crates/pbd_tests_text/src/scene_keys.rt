@@ -2,8 +2,7 @@
 
 /// Each known table with one key left out, of another kind, or out of its range on either side, and pairs of keys of
 /// which the earlier is told. Written as the cases beside it.
-pub fn key_cases() -> &'static str {
-    "gravity=1 => 4 scene 0 gravity
+pub static KEY_CASES: &str = "gravity=1 => 4 scene 0 gravity
 damping=true => 4 scene 0 damping
 thickness=[1] => 4 scene 0 thickness
 friction=1.0 => 4 scene 0 friction
@@ -161,5 +160,4 @@ particle=[{at=[0,0,0]},{at=[3,4,0]}]; track=[{particle=true,keys=[[0,0,0,0]]}] =
 particle=[{at=[0,0,0]},{at=[3,4,0]}]; track=[{particle=0}] => 3 track 0 keys
 particle=[{at=[0,0,0]},{at=[3,4,0]}]; track=[{particle=0,keys=2}] => 4 track 0 keys
 particle=[{at=[0,0,0]},{at=[3,4,0]}]; track=[{particle=0,keys=[[0,536870913,0,0]]}] => 5 track 0 keys
-particle=[{at=[0,0,0]},{at=[3,4,0]}]; track=[{particle='x',keys='x'}] => 4 track 0 particle"
-}
+particle=[{at=[0,0,0]},{at=[3,4,0]}]; track=[{particle='x',keys='x'}] => 4 track 0 particle";

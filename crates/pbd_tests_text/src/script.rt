@@ -12,80 +12,67 @@ const TO: Vec3 = Vec3 {
     z: -60,
 };
 
-static LINES: [(&[u8], Command); 12] = [
-    (b"step 12", Command::Step(12)),
-    (b"\t step\t\t0012 \t\r", Command::Step(12)),
+/// Lines and the commands that they ask for: known ones, others, and none.
+static LINES: [(&[u8], Option<Command>); 44] = [
+    (b"step 12", Some(Command::Step(12))),
+    (b"\t step\t\t0012 \t\r", Some(Command::Step(12))),
     (
         b"step 999999999999999999",
-        Command::Step(999_999_999_999_999_999),
+        Some(Command::Step(999_999_999_999_999_999)),
     ),
-    (b"step 000000000000000007", Command::Step(7)),
-    (b"frame", Command::Frame),
-    (b"pin 3", Command::Pin(3)),
-    (b"unpin 4", Command::Unpin(4)),
+    (b"step 000000000000000007", Some(Command::Step(7))),
+    (b"frame", Some(Command::Frame)),
+    (b"pin 3", Some(Command::Pin(3))),
+    (b"unpin 4", Some(Command::Unpin(4))),
     (
         b"move 9 -4 5 -060",
-        Command::Move {
+        Some(Command::Move {
             particle: 9,
             to: TO,
-        },
+        }),
     ),
-    (b"cut 5", Command::Cut(5)),
-    (b"gravity -4 5 -60", Command::Gravity(TO)),
-    (b"gravity -0 00 0", Command::Gravity(Vec3::ZERO)),
-    (b"ledger", Command::Ledger),
+    (b"cut 5", Some(Command::Cut(5))),
+    (b"gravity -4 5 -60", Some(Command::Gravity(TO))),
+    (b"gravity -0 00 0", Some(Command::Gravity(Vec3::ZERO))),
+    (b"ledger", Some(Command::Ledger)),
+    (b"step 0000000000000000007", Some(Command::Bad)),
+    (b"step", Some(Command::Bad)),
+    (b"step 1 2", Some(Command::Bad)),
+    (b"step -1", Some(Command::Bad)),
+    (b"step +1", Some(Command::Bad)),
+    (b"step 1\r\r", Some(Command::Bad)),
+    (b"step 1 # one", Some(Command::Bad)),
+    (b"step1", Some(Command::Bad)),
+    (b"Step 1", Some(Command::Bad)),
+    (b"frame 1", Some(Command::Bad)),
+    (b"pin", Some(Command::Bad)),
+    (b"unpin x", Some(Command::Bad)),
+    (b"move -9 -4 5 -60", Some(Command::Bad)),
+    (b"move 9 -4 5", Some(Command::Bad)),
+    (b"move 9 -4 5 -60 7", Some(Command::Bad)),
+    (b"move 9 -4 5 --60", Some(Command::Bad)),
+    (b"move 9 -4 5 -", Some(Command::Bad)),
+    (b"move", Some(Command::Bad)),
+    (b"cut 0x5", Some(Command::Bad)),
+    (b"gravity -4 5", Some(Command::Bad)),
+    (b"gravity -4 5 -60 1", Some(Command::Bad)),
+    (b"gravity 1 2 -1234567890123456789", Some(Command::Bad)),
+    (b"ledger 0", Some(Command::Bad)),
+    (b"mark 1", Some(Command::Bad)),
+    (b"fr\xC3\xA9me", Some(Command::Bad)),
+    (b"frame\x0B", Some(Command::Bad)),
+    (b"\rframe", Some(Command::Bad)),
+    (b"\r", None),
+    (b" \t ", None),
+    (b"# step 1", None),
+    (b" #\xC3\xA9", None),
+    (b"##frame", None),
 ];
 
 #[test]
 fn lines_and_their_commands(rt: HostRuntime) {
     for (line, command) in &LINES {
-        assert!(rt; line_command(line) == Some(*command), "of {line:?}");
-    }
-}
-
-static BAD_LINES: [&[u8]; 27] = [
-    b"step 0000000000000000007",
-    b"step",
-    b"step 1 2",
-    b"step -1",
-    b"step +1",
-    b"step 1\r\r",
-    b"step 1 # one",
-    b"step1",
-    b"Step 1",
-    b"frame 1",
-    b"pin",
-    b"unpin x",
-    b"move -9 -4 5 -60",
-    b"move 9 -4 5",
-    b"move 9 -4 5 -60 7",
-    b"move 9 -4 5 --60",
-    b"move 9 -4 5 -",
-    b"move",
-    b"cut 0x5",
-    b"gravity -4 5",
-    b"gravity -4 5 -60 1",
-    b"gravity 1 2 -1234567890123456789",
-    b"ledger 0",
-    b"mark 1",
-    b"fr\xC3\xA9me",
-    b"frame\x0B",
-    b"\rframe",
-];
-
-#[test]
-fn lines_that_ask_for_nothing_known(rt: HostRuntime) {
-    for line in &BAD_LINES {
-        assert!(rt; line_command(line) == Some(Command::Bad), "of {line:?}");
-    }
-}
-
-static EMPTY_LINES: [&[u8]; 5] = [b"\r", b" \t ", b"# step 1", b" #\xC3\xA9", b"##frame"];
-
-#[test]
-fn lines_that_ask_for_nothing(rt: HostRuntime) {
-    for line in &EMPTY_LINES {
-        assert!(rt; line_command(line) == None, "of {line:?}");
+        assert!(rt; line_command(line) == *command, "of {line:?}");
     }
 }
 
