@@ -2,7 +2,7 @@
 ghost use Rattle.std.specs.Prelude.{◌≡◌, [], ◌≤◌, ◌^◌, length, map, IfOk, option_map};
 ghost use Rattle.toml.specs.View.{view, table_view, items_view};
 ghost use Rattle.pbd_scene.specs.Checks.{Gives, broken};
-ghost use Rattle.pbd_scene.specs.Values.{array_of, value_of, any_integer, integers, four_of, four_integers, row, required_array, members, entry, entries, entries_of, table_of, integers_of};
+ghost use Rattle.pbd_scene.specs.Values.{array_of, value_of, any_integer, four_of, four_integers, row, required_array, members, entry, entries, entries_of, table_of, integers_of};
 
 use crate::each::{Reader, read_each};
 use crate::fault::{KeyName, Place, SceneFault, SceneRule, TableName};

@@ -1,5 +1,5 @@
 // The `[[link]]` entries, before it is looked at which particles they name.
-ghost use Rattle.std.specs.Prelude.{◌≤◌, ◌<◌, ◌^◌, ◌≤ℤ◌, pos, length, unsigned_abs};
+ghost use Rattle.std.specs.Prelude.{◌<◌, length};
 ghost use Rattle.toml.specs.View.{view};
 ghost use Rattle.pbd_scene.specs.Checks.{Gives};
 ghost use Rattle.pbd_scene.specs.Entries.{link_of};

@@ -1,5 +1,5 @@
 // The `[[cloth]]` and `[[rope]]` entries.
-ghost use Rattle.std.specs.Prelude.{◌≡◌, ◌≤◌, ◌<◌, ◌+◌, ◌^◌, ◌≤ℤ◌, pos, length, unsigned_abs, true, IfOk, ◌*◌};
+ghost use Rattle.std.specs.Prelude.{◌≡◌, ◌≤◌, ◌<◌, ◌+◌, length, true, IfOk, ◌*◌};
 ghost use Rattle.std.specs.List.{All};
 ghost use Rattle.toml.specs.View.{view, table_view};
 ghost use Rattle.pbd_mesh.specs.Cloth.{cloth_fits};

@@ -1,9 +1,9 @@
 // The `[[particle]]` entries.
-ghost use Rattle.std.specs.Prelude.{◌≡◌, if◌then◌else◌, ◌≤◌, ◌<◌, ◌^◌, ◌≤ℤ◌, pos, length, unsigned_abs};
+ghost use Rattle.std.specs.Prelude.{◌≡◌, if◌then◌else◌, ◌<◌, ◌^◌, length};
 ghost use Rattle.toml.specs.View.{view};
 ghost use Rattle.pbd_num.specs.Vectors.{Within};
 ghost use Rattle.pbd_scene.specs.Checks.{Gives};
-ghost use Rattle.pbd_scene.specs.Entries.{place_before, inside_before, particle_of};
+ghost use Rattle.pbd_scene.specs.Entries.{inside_before, particle_of};
 
 use crate::arrays::entry;
 use crate::each::Reader;

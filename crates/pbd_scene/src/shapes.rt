@@ -1,5 +1,5 @@
 // The `[[plane]]` and `[[sphere]]` entries.
-ghost use Rattle.std.specs.Prelude.{◌≡◌, ◌≤◌, ◌<◌, ◌^◌, ◌≤ℤ◌, pos, length, unsigned_abs, nat_lt, ◌&&◌};
+ghost use Rattle.std.specs.Prelude.{◌≡◌, ◌≤◌, ◌<◌, ◌^◌, length, unsigned_abs, nat_lt, ◌&&◌};
 ghost use Rattle.toml.specs.View.{view};
 ghost use Rattle.pbd_num.specs.Vectors.{Within, squared_length};
 ghost use Rattle.pbd_scene.specs.Checks.{Gives};

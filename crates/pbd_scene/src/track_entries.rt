@@ -1,5 +1,5 @@
 // The `[[track]]` entries, before it is looked at which particles they name.
-ghost use Rattle.std.specs.Prelude.{[], ◌≡◌, ◌≤◌, ◌<◌, ◌+◌, ◌^◌, length, map, nat_lt, true, ◌&&◌};
+ghost use Rattle.std.specs.Prelude.{[], ◌≡◌, ◌<◌, ◌+◌, ◌^◌, length, map, nat_lt, true, ◌&&◌};
 ghost use Rattle.toml.specs.View.{view, table_view};
 ghost use Rattle.pbd_scene.specs.Checks.{Gives, each};
 ghost use Rattle.pbd_scene.specs.Entries.{row_of, step_number, key_of, step_of, steps_rise, few_rows, rising_path, path_of, track_of};

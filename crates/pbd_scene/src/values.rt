@@ -5,8 +5,8 @@ ghost use Rattle.std.specs.BTreeMap.{keys};
 ghost use Rattle.toml.specs.View.{view, table_view};
 ghost use Rattle.toml.specs.Data.{get_member};
 ghost use Rattle.pbd_scene.specs.Checks.{Gives, broken, expect};
-ghost use Rattle.pbd_scene.specs.Keys.{is_key_of, is_table_of, is_known, all_known, known};
-ghost use Rattle.pbd_scene.specs.Values.{value_of, any_integer, integer, required_any_integer, required_integer, optional_integer, integer_or, required_count, count_or, boolean, boolean_or, members};
+ghost use Rattle.pbd_scene.specs.Keys.{is_key_of, is_table_of, is_known, known};
+ghost use Rattle.pbd_scene.specs.Values.{value_of, any_integer, integer, required_any_integer, required_integer, optional_integer, integer_or, required_count, count_or, boolean_or, members};
 
 use crate::fault::{KeyName, Place, SceneFault, SceneRule, TableName};
 use crate::limit::Limit;

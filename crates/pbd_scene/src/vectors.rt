@@ -1,5 +1,5 @@
 // Vectors: arrays of three integers.
-ghost use Rattle.std.specs.Prelude.{◌≡◌, IsTrue, ◌≤◌, ◌^◌, ◌≤ℤ◌, pos, unsigned_abs, IfOk};
+ghost use Rattle.std.specs.Prelude.{◌≡◌, ◌≤◌, ◌^◌, ◌≤ℤ◌, pos, unsigned_abs, IfOk};
 ghost use Rattle.toml.specs.Data.{item, no_items};
 ghost use Rattle.toml.specs.View.{view, table_view, items_view};
 ghost use Rattle.pbd_num.specs.Vectors.{Within, is_within, is_axis_within, zero_vector};
