@@ -1,5 +1,5 @@
 //! Lines of what stops a run.
-ghost use Rattle.std.specs.Prelude.{◌≡◌, ◌+◌, ◌≤◌, ◌++◌, [], ◌∷◌, length, decimal};
+ghost use Rattle.std.specs.Prelude.{◌≡◌, ◌+◌, ◌≤◌, ◌++◌, [], ◌∷◌, length, codes, decimal};
 ghost use Rattle.pbd_scene.specs.Keys.{rule_number, rule_text, table_text, key_text};
 ghost use Rattle.pbd_outcome.specs.Statuses.{broken_at, line_in, log_line, refused_line, status_line};
 ghost use Rattle.std.specs.Fmt.{signed_decimal};
@@ -44,6 +44,16 @@ fn key_name(key: KeyName) -> &'static str
     key.name()
 }
 
+// A blank and a word.
+fn push_word(line: &mut Line, word: &str)
+    requires { length line.old + length word.now ≤ 255 }
+    ensures bytes { line.new ≡ (line.old ++ codes " ") ++ word.now }
+    ensures len { length line.new ≡ length line.old + 1 + length word.now }
+{
+    line.push(" ");
+    line.push(word);
+}
+
 /// The line of a scene that breaks a rule, without its newline.
 fn refused_words(rule: SceneRule, table: TableName, position: u32, key: KeyName) -> Line
     ensures bytes { result ++ 10 ∷ [] ≡ refused_line (broken_at rule table position key) }
@@ -52,14 +62,11 @@ fn refused_words(rule: SceneRule, table: TableName, position: u32, key: KeyName)
     let mut line = Line::new();
     line.push("error 8 SceneRefused ");
     line.push_number(rule_number(rule));
-    line.push(" ");
-    line.push(rule_name(rule));
-    line.push(" ");
-    line.push(table_name(table));
+    push_word(&mut line, rule_name(rule));
+    push_word(&mut line, table_name(table));
     line.push(" ");
     line.push_number(u64::from(position));
-    line.push(" ");
-    line.push(key_name(key));
+    push_word(&mut line, key_name(key));
     line
 }
 
