@@ -12,4 +12,3 @@ pub mod SessionLaws
 pub mod SplitLaws
 pub mod ThirdsLaws
 pub mod WholeLaws
-pub mod LineSizes
