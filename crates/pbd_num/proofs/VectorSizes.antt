@@ -1,6 +1,6 @@
 -- The sizes of sums, differences and parts of vectors.
-use Rattle.std.proofs.Common.{◌≡◌, ℕ, ◌+◌, ◌*◌, ◌<◌, ◌≤◌, ◌^◌, arith, ℤ, pos, neg_ℤ, ◌+ℤ◌, ◌-ℤ◌, ◌*ℤ◌, ◌<ℤ◌, unsigned_abs, w64, FitsSigned}
-use Rattle.std.proofs.lemmas.Int.{ints}
+use Rattle.std.proofs.Common.{◌≡◌, ℕ, ◌+◌, ◌*◌, ◌<◌, ◌≤◌, ◌^◌, arith, ℤ, pos, neg_ℤ, ◌+ℤ◌, ◌-ℤ◌, ◌*ℤ◌, ◌<ℤ◌, unsigned_abs, w64, FitsSigned, to_z, of_z}
+use Rattle.std.proofs.lemmas.Int.{ints, to_z-of_z}
 use Rattle.pbd_num.specs.declared.Vec3.{Vec3}
 use Rattle.pbd_num.specs.Rounding.{rdiv}
 use Rattle.std.proofs.Math.Nat.{mul-le-mul}
@@ -17,6 +17,21 @@ pub record FitAxes (v : Vec3) : Type 0 where
 
 pub fit_axes : (v : Vec3) (n : ℕ) → n < 2 ^ 63 → Within n v → FitAxes v
 fit_axes v n l h = record { x = fits v.x (omega (arith, l, h.x)); y = fits v.y (omega (arith, l, h.y)); z = fits v.z (omega (arith, l, h.z)) }
+
+-- a number as it stands in 64 bits, and the axes of a vector
+abbrev pub word : ℤ → ℤ
+word n = to_z w64 (of_z w64 n)
+
+abbrev pub words : Vec3 → Vec3
+words v = record { x = word v.x; y = word v.y; z = word v.z }
+
+pub words_within : (v : Vec3) (n : ℕ) → n < 2 ^ 63 → Within n v → Within n (words v)
+words_within v n small h =
+    let fit = fit_axes v n small h in
+    let x = fit.x in
+    let y = fit.y in
+    let z = fit.z in
+    simp to_z-of_z h
 
 pub plus_within : (a b : Vec3) (m n : ℕ) → Within m a → Within n b → Within (m + n) (plus a b)
 plus_within a b m n h k = record {

@@ -1,12 +1,13 @@
-use Rattle.std.proofs.Common.{arith, ◌≡◌, ◌∙◌, ap, sym, refl, ◌^◌, pos, ◌*ℤ◌, ◌<ℤ◌, w32, IsTrue, Bool, ◌&&◌, FitsSigned, w64, ◌≤ℤ◌}
+use Rattle.std.proofs.Common.{arith, ◌≡◌, ◌∙◌, ap, sym, refl, ◌^◌, pos, ◌*ℤ◌, ◌<ℤ◌, w32, IsTrue, Bool, ◌&&◌, FitsSigned, w64, ◌≤ℤ◌, ◌≤◌, ℤ, unsigned_abs, to_z, of_z}
 use Rattle.std.proofs.lemmas.Int.{ints, to_z-of_z, fits_signed_from_abs}
 use Rattle.std.proofs.lemmas.Bool.{and_parts}
-use Rattle.pbd_num.specs.Vectors.{minus, opposite, length_of, zero_vector}
+use Rattle.pbd_num.specs.Vectors.{Within, minus, opposite, length_of, zero_vector}
 use Rattle.pbd_num.specs.declared.Vec3.{Vec3}
 use Rattle.pbd_num.proofs.Sizes.{fits, fits_from_zero, size_at_most}
-use Rattle.pbd_num.proofs.VectorSizes.{FitAxes, fit_axes}
+use Rattle.pbd_num.proofs.VectorSizes.{FitAxes, fit_axes, words_within}
 use Rattle.pbd_num.proofs.Ends.{Even, parts_of, same_axes, both_moves, no_move, part_of_none}
 use Rattle.pbd_num.proofs.tried.try_moves.Goals as goal
+use Rattle.pbd_num.proofs.tried.try_moves.Goals.{After-factor-factor}
 
 -- the parts as they are guessed, and whether all is right
 abbrev guessed : goal.After-struct_told-12-1 → Vec3
@@ -149,69 +150,58 @@ factor-factor-requires c =
     let k_fits = fits c.drawn.result (omega (arith, c.drawn.ensures.size)) in
     record { k = simp to_z-of_z c.drawn.ensures.size }
 
-pub try_part-x-requires : goal.try_part-x-requires
-try_part-x-requires c =
+-- what the part of one axis asks
+pulled : (c : After-factor-factor) (axis : ℤ) → unsigned_abs axis ≤ 2 ^ 30 → record {
+  low : pos 0 ≤ℤ c.pull_of-pull.result.length;
+  high : c.pull_of-pull.result.length <ℤ pos (2 ^ 31);
+  error : FitsSigned w32 c.pull_of-pull.result.error;
+  axis : unsigned_abs (to_z w32 (of_z w32 axis)) ≤ 2 ^ 30;
+  f : unsigned_abs (to_z w32 (of_z w32 c.factor-factor.result)) ≤ 512;
+}
+pulled c axis size =
     let l_fits = fits_from_zero c.try_length-tried.result.length c.try_length-tried.ensures.low c.try_length-tried.ensures.high in
-    let axis_fits = fits_signed_from_abs w32 c.way_between-way.result.x (omega (arith, c.way_between-way.ensures.x_size)) in
+    let axis_fits = fits_signed_from_abs w32 axis (omega (arith, size)) in
     let f_fits = fits_signed_from_abs w32 c.factor-factor.result (omega (arith, c.factor-factor.ensures.size)) in
     let is = simp to_z-of_z at c.pull_of-pull.ensures.length in
     record {
       low = rw is c.try_length-tried.ensures.low;
       high = rw is c.try_length-tried.ensures.high;
       error = c.pull_of-pull.ensures.fits;
-      axis = simp to_z-of_z c.way_between-way.ensures.x_size;
+      axis = simp to_z-of_z size;
       f = simp to_z-of_z c.factor-factor.ensures.size;
     }
+
+pub try_part-x-requires : goal.try_part-x-requires
+try_part-x-requires c =
+    pulled (goal.at.try_part-x-requires c).After-factor-factor c.way_between-way.result.x c.way_between-way.ensures.x_size
 
 pub try_part-y-requires : goal.try_part-y-requires
 try_part-y-requires c =
-    let l_fits = fits_from_zero c.try_length-tried.result.length c.try_length-tried.ensures.low c.try_length-tried.ensures.high in
-    let axis_fits = fits_signed_from_abs w32 c.way_between-way.result.y (omega (arith, c.way_between-way.ensures.y_size)) in
-    let f_fits = fits_signed_from_abs w32 c.factor-factor.result (omega (arith, c.factor-factor.ensures.size)) in
-    let is = simp to_z-of_z at c.pull_of-pull.ensures.length in
-    record {
-      low = rw is c.try_length-tried.ensures.low;
-      high = rw is c.try_length-tried.ensures.high;
-      error = c.pull_of-pull.ensures.fits;
-      axis = simp to_z-of_z c.way_between-way.ensures.y_size;
-      f = simp to_z-of_z c.factor-factor.ensures.size;
-    }
+    pulled (goal.at.try_part-y-requires c).After-factor-factor c.way_between-way.result.y c.way_between-way.ensures.y_size
 
 pub try_part-z-requires : goal.try_part-z-requires
 try_part-z-requires c =
-    let l_fits = fits_from_zero c.try_length-tried.result.length c.try_length-tried.ensures.low c.try_length-tried.ensures.high in
-    let axis_fits = fits_signed_from_abs w32 c.way_between-way.result.z (omega (arith, c.way_between-way.ensures.z_size)) in
-    let f_fits = fits_signed_from_abs w32 c.factor-factor.result (omega (arith, c.factor-factor.ensures.size)) in
-    let is = simp to_z-of_z at c.pull_of-pull.ensures.length in
-    record {
-      low = rw is c.try_length-tried.ensures.low;
-      high = rw is c.try_length-tried.ensures.high;
-      error = c.pull_of-pull.ensures.fits;
-      axis = simp to_z-of_z c.way_between-way.ensures.z_size;
-      f = simp to_z-of_z c.factor-factor.ensures.size;
-    }
+    pulled (goal.at.try_part-z-requires c).After-factor-factor c.way_between-way.result.z c.way_between-way.ensures.z_size
 
 pub opposite-requires : goal.opposite-requires
 opposite-requires c =
-    let x = fits c.try_part-x.result.part (omega (arith, c.try_part-x.ensures.size)) in
-    let y = fits c.try_part-y.result.part (omega (arith, c.try_part-y.ensures.size)) in
-    let z = fits c.try_part-z.result.part (omega (arith, c.try_part-z.ensures.size)) in
-    simp to_z-of_z (record { x = omega (arith, c.try_part-x.ensures.size); y = omega (arith, c.try_part-y.ensures.size); z = omega (arith, c.try_part-z.ensures.size) })
+    words_within (record { x = c.try_part-x.result.part; y = c.try_part-y.result.part; z = c.try_part-z.result.part }) (2 ^ 61) (omega arith)
+    (record { x = omega (arith, c.try_part-x.ensures.size); y = omega (arith, c.try_part-y.ensures.size); z = omega (arith, c.try_part-z.ensures.size) })
 
 pub moved-requires : goal.moved-requires
 moved-requires c =
-    let x = fits c.try_part-x.result.part (omega (arith, c.try_part-x.ensures.size)) in
-    let y = fits c.try_part-y.result.part (omega (arith, c.try_part-y.ensures.size)) in
-    let z = fits c.try_part-z.result.part (omega (arith, c.try_part-z.ensures.size)) in
+    let sizes : Within (2 ^ 31) (record { x = c.try_part-x.result.part; y = c.try_part-y.result.part; z = c.try_part-z.result.part }) = record { x = c.try_part-x.ensures.size; y = c.try_part-y.ensures.size; z = c.try_part-z.ensures.size } in
+    let fit = fit_axes (record { x = c.try_part-x.result.part; y = c.try_part-y.result.part; z = c.try_part-z.result.part }) (2 ^ 31) (omega arith) sizes in
+    let x = fit.x in
+    let y = fit.y in
+    let z = fit.z in
     let size = simp to_z-of_z at c.opposite.ensures.size in
-    size (2 ^ 31) (record { x = c.try_part-x.ensures.size; y = c.try_part-y.ensures.size; z = c.try_part-z.ensures.size })
+    size (2 ^ 31) sizes
 
 pub moved-requires-2 : goal.moved-requires-2
 moved-requires-2 c =
-    let x = fits c.try_part-x.result.part (omega (arith, c.try_part-x.ensures.size)) in
-    let y = fits c.try_part-y.result.part (omega (arith, c.try_part-y.ensures.size)) in
-    let z = fits c.try_part-z.result.part (omega (arith, c.try_part-z.ensures.size)) in
-    simp to_z-of_z (record { x = c.try_part-x.ensures.size; y = c.try_part-y.ensures.size; z = c.try_part-z.ensures.size })
+    words_within (record { x = c.try_part-x.result.part; y = c.try_part-y.result.part; z = c.try_part-z.result.part }) (2 ^ 31) (omega arith)
+    (record { x = c.try_part-x.ensures.size; y = c.try_part-y.ensures.size; z = c.try_part-z.ensures.size })
 
 pub returns-clause-length : goal.returns-clause-length
 returns-clause-length c right =
