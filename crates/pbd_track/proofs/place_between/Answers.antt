@@ -32,7 +32,7 @@ returns c =
     let fits_whole : FitsSigned w64 c.from-2.result = record { sfits = c.from-2.type_inv } in
     let way = minus c.args.l.place c.args.k.place in
     let share = (simp to_z-of_z at c.scaled.ensures.value)
-        ∙ ap (λ (v : Vec3). scaled c.from.result c.from-2.result v) c.minus-way.ensures.value
-        ∙ ap (λ (part : ℤ). scaled part c.from-2.result way) c.from.ensures
-        ∙ ap (λ (whole : ℤ). scaled (pos (c.args.t - c.args.k.step)) whole way) c.from-2.ensures in
+    ∙ ap (λ (v : Vec3). scaled c.from.result c.from-2.result v) c.minus-way.ensures.value
+    ∙ ap (λ (part : ℤ). scaled part c.from-2.result way) c.from.ensures
+    ∙ ap (λ (whole : ℤ). scaled (pos (c.args.t - c.args.k.step)) whole way) c.from-2.ensures in
     c.plus.ensures.value ∙ ap (λ (v : Vec3). plus c.args.k.place v) share
