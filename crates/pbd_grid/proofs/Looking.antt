@@ -1,7 +1,8 @@
 -- What a look-up of cells needs of numbers.
-use Rattle.std.proofs.Common.{◌≡◌, ◌∙◌, sym, ap, ℕ, suc, ◌+◌, ◌-◌, ◌*◌, ◌/◌, ◌<◌, ◌≤◌, ◌^◌, ◌&&◌, ltb, Bool, true, false, ℤ, pos, negsuc, ◌+ℤ◌, ◌-ℤ◌, ◌*ℤ◌, unsigned_abs, List, length, map, get_or, refl, arith}
+use Rattle.std.proofs.Common.{◌≡◌, ◌∙◌, sym, ap, ℕ, suc, ◌+◌, ◌-◌, ◌*◌, ◌/◌, ◌<◌, ◌≤◌, ◌^◌, ◌&&◌, ltb, Bool, true, false, ℤ, pos, negsuc, ◌+ℤ◌, ◌-ℤ◌, ◌*ℤ◌, ◌≤ℤ◌, unsigned_abs, List, length, map, get_or, refl, arith}
 use Rattle.std.proofs.lemmas.List.{get_or-map}
 use Rattle.pbd_num.specs.Vectors.{zero_vector}
+use Rattle.pbd_num.proofs.Sizes.{pos_size}
 use Rattle.std.specs.Prelude.{int_lt}
 use Rattle.std.proofs.lemmas.Bool.{false≢true}
 use Rattle.std.proofs.lemmas.Bool.Decides.{nat_tests}
@@ -83,6 +84,10 @@ home_to a b h = omega (arith, h)
 
 pub gap_turn : (x y : ℤ) → unsigned_abs (x -ℤ y) ≡ unsigned_abs (y -ℤ x)
 gap_turn x y = search (arith, ints)
+
+-- a thickness as the side of cubes
+pub side_is : (t u : ℤ) → pos 1 ≤ℤ t → u ≡ t → pos (unsigned_abs u) ≡ t
+side_is t u low same = rw same (sym (pos_size t (grind (arith, ints))))
 
 -- a place's cube by its column
 pub cube_read : (side : ℕ) (places : List Vec3) (cubes : List Cell) (i : ℕ) (c : Cell) → cubes ≡ map (cube_of side) places → i < length places → get_or cubes i c ≡ cube_at side places i

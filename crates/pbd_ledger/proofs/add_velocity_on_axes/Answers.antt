@@ -7,6 +7,21 @@ use Rattle.pbd_num.specs.Vectors.{minus}
 use Rattle.pbd_ledger.proofs.Adding.{wide}
 use Rattle.pbd_ledger.proofs.add_velocity_on_axes.Goals as goal
 
+pub add_velocity-requires : goal.add_velocity-requires
+add_velocity-requires c =
+    let fits = wide (sum_of c.args.sum).x (omega arith) in
+    simp to_z-of_z c.requires.x
+
+pub add_velocity-requires-2 : goal.add_velocity-requires-2
+add_velocity-requires-2 c =
+    let fits = wide (sum_of c.args.sum).y (omega arith) in
+    simp to_z-of_z c.requires.y
+
+pub add_velocity-requires-3 : goal.add_velocity-requires-3
+add_velocity-requires-3 c =
+    let fits = wide (sum_of c.args.sum).z (omega arith) in
+    simp to_z-of_z c.requires.z
+
 pub returns-clause-value : goal.returns-clause-value
 returns-clause-value c =
     let ax : FitsSigned w64 c.args.at.x = search rules in

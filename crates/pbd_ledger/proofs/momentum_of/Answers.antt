@@ -1,5 +1,4 @@
-use Rattle.std.proofs.Common.{◌∙◌, sym, ap, arith, ◌^◌}
-use Rattle.pbd_world.specs.Ledger.{sum_of}
+use Rattle.std.proofs.Common.{◌∙◌, sym, arith, ◌^◌}
 use Rattle.pbd_ledger.proofs.Adding.{part_more, part_all, sum_within}
 use Rattle.pbd_ledger.proofs.momentum_of.Goals as goal
 

@@ -1,4 +1,4 @@
-use Rattle.std.proofs.Common.{◌∙◌, sym, arith}
+use Rattle.std.proofs.Common.{◌∙◌, ◌≡◌, ◌+◌, ◌≤◌, ℕ, Bool, true, cond, sym, arith}
 use Rattle.std.proofs.lemmas.Int.{to_z-of_z}
 use Rattle.pbd_num.proofs.Sizes.{fits}
 use Rattle.pbd_tear.proofs.Numbers.{torn_by, never_torn}
@@ -7,14 +7,28 @@ use Rattle.pbd_tear.proofs.is_torn.Goals as goal
 pub returns-then-not-may_tear-clause-value : goal.returns-then-not-may_tear-clause-value
 returns-then-not-may_tear-clause-value g c = never_torn c.args.store.now.particles c.args.link (sym c.may_tear.ensures ∙ c.if-not-may_tear.true)
 
+pub returns-then-not-may_tear-clause-cost : goal.returns-then-not-may_tear-clause-cost
+returns-then-not-may_tear-clause-cost g c = omega arith
+
 pub are_farther-requires-clause-a : goal.are_farther-requires-clause-a
 are_farther-requires-clause-a g c = rw c.at-a.ensures.value (c.requires.inside.each c.args.link.a c.requires.link.a)
 
 pub are_farther-requires-clause-b : goal.are_farther-requires-clause-b
 are_farther-requires-clause-b g c = rw c.at-b.ensures.value (c.requires.inside.each c.args.link.b c.requires.link.b)
 
+pub are_farther-requires-clause-length : goal.are_farther-requires-clause-length
+are_farther-requires-clause-length g c =
+    let tear = fits c.args.link.tear (omega (arith, c.requires.link.tear)) in
+    simp to_z-of_z c.requires.link.tear
+
 pub returns-clause-value : goal.returns-clause-value
 returns-clause-value g c =
     let tear = fits c.args.link.tear (omega (arith, c.requires.link.tear)) in
     let farther = simp to_z-of_z at c.are_farther.ensures in
     farther ∙ torn_by c.args.store.now.particles c.args.link c.at-a.result c.at-b.result (sym c.may_tear.ensures ∙ c.if-not-may_tear.false) c.at-a.ensures.value c.at-b.ensures.value
+
+two_more : (may : Bool) (old new : ℕ) → may ≡ true → new ≤ old + 2 → new ≤ old + cond may 2 0
+two_more may old new e h = rw e h
+
+pub returns-clause-cost : goal.returns-clause-cost
+returns-clause-cost g c = two_more _ c.args.steps.now c.at-b.new.steps (sym c.may_tear.ensures ∙ c.if-not-may_tear.false) (omega (arith, c.at-a.ensures.cost, c.at-b.ensures.cost))

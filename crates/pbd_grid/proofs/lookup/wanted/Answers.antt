@@ -1,7 +1,11 @@
-use Rattle.std.proofs.Common.{sym, subst}
-use Rattle.pbd_grid.specs.Blocks.{Below}
+use Rattle.std.proofs.Common.{sym, ap, subst, length, arith}
+use Rattle.std.proofs.lemmas.List.{length-map}
+use Rattle.pbd_grid.specs.Blocks.{Below, cube_of}
 use Rattle.pbd_grid.proofs.Looking.{cube_read, cube_below}
 use Rattle.pbd_grid.proofs.lookup.wanted.Goals as goal
+
+pub bounds-crowd-j-2 : goal.bounds-crowd-j-2
+bounds-crowd-j-2 g c = omega (arith, ap length c.requires.laid.cubes_are, length-map c.args.crowd.now.places.now (cube_of c.args.crowd.now.side), c.if-j-crowd.false)
 
 pub is_in-requires : goal.is_in-requires
 is_in-requires g c =
