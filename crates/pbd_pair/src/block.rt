@@ -102,6 +102,7 @@ fn gather_ends<const L: usize, G: Ledger>(
 // Projects the bonds of a block one by one, from their ends: the corrections, and two scatters. A bond that would
 // leave the limit is found before the scatters.
 #[inline(never)]
+#[tactic(none)]
 fn project_each<const L: usize, G: Ledger>(
     store: &mut Store<L>,
     block: &Block<'_>,

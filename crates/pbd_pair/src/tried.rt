@@ -1,5 +1,5 @@
 // The bonds of a block, corrected side by side.
-ghost use Rattle.std.specs.Prelude.{◌≡◌, ℕ, ◌+◌, ◌<◌, ◌≤◌, ◌^◌, pos, ◌+ℤ◌, ◌≤ℤ◌, IsTrue, unsigned_abs};
+ghost use Rattle.std.specs.Prelude.{◌≡◌, ℕ, ◌+◌, ◌<◌, ◌≤◌, ◌^◌, pos, ◌≤ℤ◌, IsTrue, unsigned_abs};
 ghost use Rattle.pbd_num.specs.Vectors.{Within, plus};
 ghost use Rattle.pbd_lanes.specs.Lane.{lane};
 ghost use Rattle.pbd_pair.specs.Bonds.{IsBound, IsEnd};
@@ -45,17 +45,6 @@ fn try_shift(limit: i64, first: End, second: End, draw: Draw) -> TriedShift
     }
 }
 
-#[inline(always)]
-fn with_both(sum: i64, a: i64, b: i64) -> i64
-    requires sum { unsigned_abs sum ≤ 2 ^ 40 }
-    requires a { unsigned_abs a ≤ 2 ^ 31 }
-    requires b { unsigned_abs b ≤ 2 ^ 31 }
-    ensures value { result ≡ sum +ℤ (a +ℤ b) }
-    ensures size { (n : ℕ) → unsigned_abs sum ≤ n → unsigned_abs result ≤ n + 2 ^ 32 }
-{
-    sum + (a + b)
-}
-
 // A sum of moves, and the moves of both ends of a bond more.
 #[inline(always)]
 fn with_moves(sum: Vec3, first: Vec3, second: Vec3) -> Vec3
@@ -65,11 +54,7 @@ fn with_moves(sum: Vec3, first: Vec3, second: Vec3) -> Vec3
     ensures value { result ≡ plus sum (plus first second) }
     ensures size { (n : ℕ) → Within n sum → Within (n + 2 ^ 32) result }
 {
-    Vec3 {
-        x: with_both(sum.x, first.x, second.x),
-        y: with_both(sum.y, first.y, second.y),
-        z: with_both(sum.z, first.z, second.z),
-    }
+    sum.plus(first.plus(second))
 }
 
 /// Where the bonds of a block lead their ends, if `right` is true after.

@@ -34,11 +34,11 @@ rubbed_from friction n s =
     }
 
 -- what has to hold so that the particles of a block of so many lanes can be rubbed
-pub record CanRub (width number : ℕ) (part limit : ℤ) (particles : List Particle) (marks : List Bool) (totals : Ledger) : Type 0 where
+pub record CanRub (width number : ℕ) (friction limit : ℤ) (particles : List Particle) (touched : List Bool) (totals : Ledger) : Type 0 where
   pub lanes_low : 0 < width
   pub lanes_high : width ≤ 16
   pub block : number < blocks_of (length particles) width
-  pub friction : IsTrue (is_between (pos 0) (pos 256) part)
-  pub flags : length marks ≡ length particles
+  pub valid_friction : IsTrue (is_between (pos 0) (pos 256) friction)
+  pub flags : length touched ≡ length particles
   pub within : AreWithin limit particles
   pub room : HaveRoom (2 ^ 125) totals

@@ -39,12 +39,12 @@ pushed_from limit planes spheres n s = each_from n
     (λ i p. shaped limit (shapes_of planes spheres) p) (drop n s.motion.particles) >>= λ ss. Ok (shaped_after n s ss)
 
 -- what has to hold so that the particles of a block of so many lanes can be pushed
-pub record CanPush (width number : ℕ) (limit : ℤ) (particles : List Particle) (walls : List Plane) (balls : List Sphere) (marks : List Bool) (totals : Ledger) : Type 0 where
+pub record CanPush (width number : ℕ) (limit : ℤ) (particles : List Particle) (planes : List Plane) (spheres : List Sphere) (touched : List Bool) (totals : Ledger) : Type 0 where
   pub lanes_low : 0 < width
   pub lanes_high : width ≤ 16
   pub block : number < blocks_of (length particles) width
-  pub planes : IsTrue (are_valid_planes walls)
-  pub spheres : IsTrue (are_valid_spheres limit balls)
+  pub valid_planes : IsTrue (are_valid_planes planes)
+  pub valid_spheres : IsTrue (are_valid_spheres limit spheres)
   pub inside : AreInside limit particles
-  pub flags : length marks ≡ length particles
+  pub flags : length touched ≡ length particles
   pub room : HaveRoom (2 ^ 125) totals

@@ -46,3 +46,6 @@ loop-j-init g c = record { value = refl; room = λ n h. room_at _ (omega arith) 
 
 pub get-requires : goal.get-requires
 get-requires g c = c.requires.numbers c.loop-j.j (omega arith)
+
+pub lane-requires : goal.lane-requires
+lane-requires g c = (omega (arith, c.requires.lanes), (c.requires.lanes, omega (arith, c.requires.short)))

@@ -90,3 +90,21 @@ returns-clause-rest g c =
 
 pub returns-in-Some-clause-rest : goal.returns-in-Some-clause-rest
 returns-in-Some-clause-rest g c = record { limit = refl; inside = c.requires.can.inside; fixed = refl; room = λ n h. room_at _ (omega arith) h }
+
+pub limit_of-limit-requires : goal.limit_of-limit-requires
+limit_of-limit-requires g c = search rules
+
+pub first_lanes-own-requires : goal.first_lanes-own-requires
+first_lanes-own-requires g c = search rules
+
+pub first-requires : goal.first-requires
+first-requires g c = search rules
+
+pub offset_bounds-block-j : goal.offset_bounds-block-j
+offset_bounds-block-j g c = search rules
+
+pub returns-clause-cost : goal.returns-clause-cost
+returns-clause-cost g c = omega (arith, c.scatter.ensures.cost, c.scatter-2.ensures.cost)
+
+pub returns-in-Some-clause-cost : goal.returns-in-Some-clause-cost
+returns-in-Some-clause-cost g c = omega arith

@@ -69,3 +69,15 @@ loop-j-init g c = record {
   sound = λ k p. absurd (omega (arith, p));
   idle = λ k q p. c.none-moves.ensures k p;
 }
+
+pub none-moves-requires : goal.none-moves-requires
+none-moves-requires g c = (omega (arith, c.requires.lanes), c.requires.lanes)
+
+pub end_at-first-requires : goal.end_at-first-requires
+end_at-first-requires g c = (omega (arith, c.requires.lanes), (c.requires.lanes, omega (arith, c.requires.short)))
+
+pub end_at-second-requires : goal.end_at-second-requires
+end_at-second-requires g c = (omega (arith, c.requires.lanes), (c.requires.lanes, omega (arith, c.requires.short)))
+
+pub put-requires : goal.put-requires
+put-requires g c = (omega (arith, c.requires.lanes), (c.requires.lanes, omega (arith, c.requires.short)))

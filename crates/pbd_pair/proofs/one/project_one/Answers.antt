@@ -1,4 +1,4 @@
-use Rattle.std.proofs.Common.{ap, sym, ◌∙◌, w64, FitsSigned, rules, subst, ℤ}
+use Rattle.std.proofs.Common.{ap, sym, ◌∙◌, w64, FitsSigned, rules, subst, ℤ, arith, length}
 use Rattle.std.proofs.lemmas.Int.{to_z-of_z}
 use Rattle.pbd_world.specs.declared.bond.Correction.{Correction}
 use Rattle.pbd_world.specs.declared.bond.Correction.TheVariants.{Moves}
@@ -8,6 +8,7 @@ use Rattle.pbd_pair.specs.Bonds.{IsDrawn, IsSound}
 use Rattle.pbd_store.specs.Moving.{motion_of}
 use Rattle.pbd_pair.proofs.Single.{is_end, same_correction, moves_outcome}
 use Rattle.pbd_pair.proofs.Correcting.{inside-placed_by, fixed-placed_by}
+use Rattle.pbd_store.proofs.Scattering.{length-placed}
 use Rattle.pbd_pair.proofs.one.project_one.Goals as goal
 
 pub correct-requires-clause-p : goal.correct-requires-clause-p
@@ -69,3 +70,9 @@ pub correct-requires-clause-drawn : goal.correct-requires-clause-drawn
 correct-requires-clause-drawn g c =
     let f : FitsSigned w64 c.limit_of-limit.result = search rules in
     simp to_z-of_z (subst (λ (l : ℤ). IsDrawn l c.args.bond) (sym c.limit_of-limit.ensures.value) c.requires.bond.drawn)
+
+pub put-requires-in-Moves : goal.put-requires-in-Moves
+put-requires-in-Moves g c = (
+  omega arith,
+  omega (arith, c.requires.bond.second, ap length c.put.ensures.particles, length-placed c.args.store.now.particles c.args.bond.a c.in-Moves.shift.first),
+)

@@ -83,3 +83,18 @@ loop-j-init g c = record {
   moved = λ r. refl;
   size = record { x = omega arith; y = omega arith; z = omega arith };
 }
+
+pub origins-places-requires : goal.origins-places-requires
+origins-places-requires g c = (omega (arith, c.requires.lanes), c.requires.lanes)
+
+pub end_at-first-requires : goal.end_at-first-requires
+end_at-first-requires g c = (omega (arith, c.requires.lanes), (c.requires.lanes, omega arith))
+
+pub end_at-second-requires : goal.end_at-second-requires
+end_at-second-requires g c = (omega (arith, c.requires.lanes), (c.requires.lanes, omega arith))
+
+pub draw-requires : goal.draw-requires
+draw-requires g c = (omega (arith, c.requires.lanes), (c.requires.lanes, omega arith))
+
+pub put-requires : goal.put-requires
+put-requires g c = (omega (arith, c.requires.lanes), (c.requires.lanes, omega arith))

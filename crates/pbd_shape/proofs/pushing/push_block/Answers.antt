@@ -28,9 +28,9 @@ any_touches-requires g c =
         (
           simp to_z-of_z (record { low = limit.low; high = limit.high }),
           (
-            r.planes,
+            r.valid_planes,
             (
-              simp to_z-of_z (subst (λ (l : ℤ). IsTrue (are_valid_spheres l c.args.spheres.now)) (sym limit.value) r.spheres),
+              simp to_z-of_z (subst (λ (l : ℤ). IsTrue (are_valid_spheres l c.args.spheres.now)) (sym limit.value) r.valid_spheres),
               λ j h. lane_within g.row.L c.args.block j c.args.store.now.limit ps (subst (λ (l : ℤ). unsigned_abs l ≤ 2 ^ 29) limit.value limit.high) r.inside (place_loaded (λ p. p.at) g.row.L c.args.block j ps e.at_x e.at_y e.at_z h),
             ),
           ),

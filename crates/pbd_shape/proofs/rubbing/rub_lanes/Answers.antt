@@ -64,7 +64,7 @@ lost_if-loss-requires g c =
     let lt : c.args.block * g.row.L + j < length c.args.store.now.particles = omega (arith, span.first, span.within, c.loop-j-test.true) in
     let at = wider _ _ (2 ^ 29) c.limit-limit.ensures.high (within_at (ap unsigned_abs c.limit-limit.ensures.value) (c.place.ensures ∙ c.requires.at j lane) (c.requires.ready.within.at _ lt)) in
     let before = wider _ _ (2 ^ 29) c.limit-limit.ensures.high (within_at (ap unsigned_abs c.limit-limit.ensures.value) (c.place-before.ensures ∙ c.requires.before j lane) (c.requires.ready.within.before _ lt)) in
-    record { friction = simp to_z-of_z c.requires.ready.friction; velocity = c.minus.ensures.size (2 ^ 29) (2 ^ 29) at before }
+    record { friction = simp to_z-of_z c.requires.ready.valid_friction; velocity = c.minus.ensures.size (2 ^ 29) (2 ^ 29) at before }
 
 pub opposite-requires : goal.opposite-requires
 opposite-requires g c = wider _ (2 ^ 30) (2 ^ 61) (omega arith) c.lost_if-loss.ensures.size
@@ -115,7 +115,7 @@ loop-j-preserved g c =
     let books = c.book_if.ensures.value ∙ ap (λ (v : Vec3). cond made (added u classes.Shape v) u) c.opposite.ensures.value in
     let room : j < length c.loop-j.places = omega (arith, inv.whole) in
     let some = simp to_z-of_z at inv.some in
-    let stays = within_at refl (comes ∙ ap (plus p.before) loses) (loss_within friction made p.before p.at (unsigned_abs c.args.store.now.limit) (part_low friction c.requires.ready.friction) (part_high friction c.requires.ready.friction) (c.requires.ready.within.before i lt) (c.requires.ready.within.at i lt)) in
+    let stays = within_at refl (comes ∙ ap (plus p.before) loses) (loss_within friction made p.before p.at (unsigned_abs c.args.store.now.limit) (part_low friction c.requires.ready.valid_friction) (part_high friction c.requires.ready.valid_friction) (c.requires.ready.within.before i lt) (c.requires.ready.within.at i lt)) in
     record {
       some = simp to_z-of_z (rubbing_on friction g.row.L c.args.block ps _ ts j c.loop-j.places u some lane lt c.requires.ready.flags room made loss c.plus.result _ makes loses comes books);
       whole = length-set c.loop-j.places j c.plus.result ∙ inv.whole;

@@ -1,4 +1,4 @@
-use Rattle.std.proofs.Common.{ℕ, false}
+use Rattle.std.proofs.Common.{ℕ, false, arith}
 use Rattle.pbd_pair.proofs.InLanes.{lane_is}
 use Rattle.pbd_pair.proofs.laid.BlockMoves.none.Goals as goal
 
@@ -13,3 +13,6 @@ returns g c = λ j p.
       first_free = unset i;
       second_free = unset i;
     }
+
+pub origins-first-requires : goal.origins-first-requires
+origins-first-requires g c = (omega (arith, c.requires), c.requires)

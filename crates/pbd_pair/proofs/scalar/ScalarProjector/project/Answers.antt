@@ -1,8 +1,8 @@
-use Rattle.std.proofs.Common.{arith, refl, ◌∙◌, sym, subst, ℕ, ℤ, List, get_or, Result, Ok, Err}
+use Rattle.std.proofs.Common.{◌^◌, arith, rules, refl, ◌∙◌, sym, subst, ℕ, ℤ, List, get_or, Result, Ok, Err}
 use Rattle.std.proofs.lemmas.List.{at_drop_all}
 use Rattle.pbd_world.specs.Particles.{Motion}
 use Rattle.pbd_world.specs.Bonds.{projected}
-use Rattle.pbd_pair.specs.Bonds.{bond_of}
+use Rattle.pbd_pair.specs.Bonds.{bond_of, IsBond}
 use Rattle.pbd_store.specs.Moving.{motion_of, AreInside}
 use Rattle.pbd_world.proofs.Rooms.{room_at}
 use Rattle.pbd_store.proofs.Fixed.{same_length}
@@ -58,3 +58,20 @@ pub returns-clause-outcome : goal.returns-clause-outcome
 returns-clause-outcome g c =
     let left : List ℕ → Result Motion ℕ = λ b. projected c.args.store.now.limit (bond_of c.args.bonds) b (motion_of c.loop-n.store c.loop-n.totals) in
     sym c.loop-n.invariant.same ∙ at_drop_all left c.args.batch.now c.loop-n.n-index (omega (arith, c.loop-n-test.false))
+
+pub project_one-requires : goal.project_one-requires
+project_one-requires g c =
+    let inv = c.loop-n.invariant in
+    let inside = subst (λ (l : ℤ). AreInside l c.loop-n.store.particles) (sym inv.limit) inv.inside in (
+      omega arith,
+      (
+        coe 1 0 (i. IsBond (inv.limit i) (inv.whole i) (c.get.ensures i)) (c.requires.batch.bond c.loop-n.n-index (omega arith)),
+        (inside, room_at (2 ^ 125) (search rules) inv.room),
+      ),
+    )
+
+pub returns-clause-handed : goal.returns-clause-handed
+returns-clause-handed g c = c.saturating_add-self.ensures
+
+pub returns-in-Err-clause-handed : goal.returns-in-Err-clause-handed
+returns-in-Err-clause-handed g c = c.saturating_add-self.ensures
