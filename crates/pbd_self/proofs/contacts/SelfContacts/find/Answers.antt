@@ -1,6 +1,9 @@
-use Rattle.std.proofs.Common.{◌≡◌, ◌∙◌, ap, ℕ, List, length, to_z, of_z, w64, arith, unsigned_abs}
+use Rattle.std.proofs.Common.{◌≡◌, ◌∙◌, sym, ap, ℕ, List, length, to_z, of_z, w64, arith, unsigned_abs}
 use Rattle.std.proofs.lemmas.Int.{to_z-of_z}
+use Rattle.std.proofs.lemmas.List.{length-map}
 use Rattle.std.proofs.lemmas.Result.{on_ok_weaker, on_err_weaker}
+use Rattle.pbd_num.specs.declared.Vec3.{Vec3}
+use Rattle.pbd_world.specs.declared.parts.Particle.{Particle}
 use Rattle.pbd_world.specs.Room.{Roomed}
 use Rattle.pbd_colour.specs.Pairs.{Coloured}
 use Rattle.pbd_grid.specs.Near.{near_pairs}
@@ -8,6 +11,12 @@ use Rattle.pbd_self.specs.Apart.{may_touch}
 use Rattle.pbd_self.specs.Touching.{Found, AreOrdered, touching}
 use Rattle.pbd_self.proofs.Finding.{places_inside, grid_finds, touching_ordered, ordered_in_range, recoloured, result_ordered, result_fits}
 use Rattle.pbd_self.proofs.contacts.SelfContacts.find.Goals as goal
+
+pub find_apart-found-requires-clause-places : goal.find_apart-found-requires-clause-places
+find_apart-found-requires-clause-places g c =
+    let size : length c.args.store.now.particles ≡ c.self.inside.particles = rw (← c.self.view_is) at c.requires.len in
+    ap length c.as_slice.ensures ∙ ap (λ (r : Roomed Vec3). length r.entries) c.copy_particles.ensures.places
+    ∙ length-map c.args.store.now.particles (λ (p : Particle). p.at) ∙ size ∙ sym c.self.invariant.grid_size
 
 pub find_apart-found-requires-clause-inside : goal.find_apart-found-requires-clause-inside
 find_apart-found-requires-clause-inside g c =
