@@ -1,9 +1,9 @@
 -- Where a particle comes to on one axis, in 64 bits: parts of 1,024 of a product, by numbers that are raised above 0, and sums.
-use Rattle.std.proofs.Common.{◌≡◌, ℕ, suc, ◌+◌, ◌-◌, ◌*◌, ◌/◌, ◌<◌, ◌≤◌, ◌^◌, ap, ◌∙◌, arith, pos, negsuc, ℤ, ◌+ℤ◌, ◌-ℤ◌, ◌*ℤ◌, ◌≤ℤ◌, unsigned_abs, Bool, true, false, cond, FitsSigned, to_z, of_z, w64}
+use Rattle.std.proofs.Common.{◌≡◌, ℕ, suc, ◌+◌, ◌-◌, ◌*◌, ◌/◌, ◌<◌, ◌≤◌, ◌^◌, ap, ◌∙◌, arith, pos, negsuc, ℤ, ◌+ℤ◌, ◌-ℤ◌, ◌*ℤ◌, ◌≤ℤ◌, unsigned_abs, Bool, true, false, cond, to_z, of_z, w64}
 use Rattle.std.proofs.lemmas.Int.{ints, to_z-of_z}
 use Rattle.std.proofs.Math.Nat.{mul-le-mul}
 use Rattle.pbd_num.specs.Rounding.{rdiv}
-use Rattle.pbd_num.proofs.Sizes.{fits, size-add, size-mul, size-sub, size_above, size_below}
+use Rattle.pbd_num.proofs.Sizes.{fits, size-add, size-mul, size-sub, size_below}
 use Rattle.pbd_num.proofs.RoundingLemmas.{size-rdiv}
 use Rattle.pbd_step.specs.Predicting.{loss_at, flown_at, pull_at}
 

@@ -1,4 +1,4 @@
-use Rattle.std.proofs.Common.{◌≤◌, sym, ap, ◌∙◌, arith, subst}
+use Rattle.std.proofs.Common.{◌≤◌, ap, ◌∙◌, arith, subst}
 use Rattle.pbd_world.specs.declared.command.Command.TheVariants as commands
 use Rattle.pbd_world.specs.Meaning.{run_steps, steps_of}
 use Rattle.pbd_world.specs.Work.{steps_work}
