@@ -6,3 +6,4 @@ mod Recorded
 mod Comparing
 mod Replays
 mod Summing
+mod Applying

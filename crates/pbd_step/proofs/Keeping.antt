@@ -1,5 +1,5 @@
 -- What a solver keeps over its commands.
-use Rattle.std.proofs.Common.{◌≡◌, refl, sym, ap, ◌∙◌, ℕ, ◌<◌, ◌≤◌, List, [], ◌∷◌, Bool, true, false, length, map, ◌≢◌, arith, subst, cond, suc, ◌+◌, ℤ, MatchResult, OnErr, Result, Ok, Err}
+use Rattle.std.proofs.Common.{◌≡◌, refl, sym, ap, ◌∙◌, ℕ, ◌<◌, ◌≤◌, List, [], ◌∷◌, Bool, true, false, length, map, ◌≢◌, arith, subst, cond, suc, ◌+◌, ℤ, MatchResult, OnErr, Result, Ok, Err, ◌⊎◌, inl, inr}
 use Rattle.pbd_num.specs.Vectors.{zero_vector}
 use Rattle.pbd_world.specs.declared.parts.Particle.{Particle}
 use Rattle.pbd_world.specs.declared.parts.Link.{Link}
@@ -18,7 +18,7 @@ use Rattle.pbd_step.specs.declared.state.Setting.{Setting}
 use Rattle.pbd_step.specs.declared.state.State.{State}
 use Rattle.pbd_step.specs.declared.state.Tools.{Tools}
 use Rattle.std.specs.Prelude.{IsTrue, count_by, filter, nat_le, nat_lt, not, ◌&&◌}
-use Rattle.std.proofs.lemmas.Bool.{false≢true, le-leb, le-ltb}
+use Rattle.std.proofs.lemmas.Bool.{le-leb, lt-leb, le-ltb, lt-ltb}
 use Rattle.std.proofs.lemmas.List.Sums.{length-filter}
 use Rattle.pbd_world.specs.declared.command.Refusal.TheVariants as refusals
 use Rattle.pbd_world.specs.Outcomes.{◌>>=◌, unless}
@@ -33,21 +33,30 @@ use Rattle.pbd_step.proofs.UnderWay.{link_is_bond, link_parts}
 use Rattle.pbd_step.specs.States.{world_of, HasLinks, HaveSpace}
 use Rattle.pbd_world.proofs.OpenedLemmas.{opened-is_sound}
 use Rattle.pbd_step.specs.Opening.{AreCopied, IsFirst}
-use Rattle.pbd_step.specs.Solving.{AreAlike, IsKept}
-use Rattle.pbd_step.specs.Obeying.{Obeys}
+use Rattle.pbd_step.specs.Solving.{AreAlike, IsKept, Solved}
+use Rattle.pbd_step.specs.Obeying.{Obeys, Commanded}
 
 -- ---- what a command leads to
 
--- a command leads from a sound world to a sound world of the same scene
-pub obeyed : {S : Type 0} {world : S → World} {r : Result (Unit {0}) Refusal} {meant : Result World Refusal} {old new : S} (c : Command) → Obeys world r meant old new → IsSound (world old) → meaning (world old) c ≡ done_or_refused (world old) meant
-    → IsSound (world new) × AreOfOneScene (world old) (world new)
-obeyed {S} {world} {r} {meant} {old} {new} c h sound is = by r h.outcome h.kept
+-- a command that a part obeys leads from a sound world to a sound world of the same scene
+pub commanded : {S : Type 0} {world : S → World} {r : Result (Unit {0}) Refusal} {meant : Result World Refusal} {old new : S} (c : Command) → Obeys world r meant old new → IsSound (world old) → meaning (world old) c ≡ done_or_refused (world old) meant
+    → Commanded r meant (world old) (world new)
+commanded {S} {world} {r} {meant} {old} {new} c h sound is = by r h.outcome h.kept
   where
-    by : (r : Result (Unit {0}) Refusal) → MatchResult r (λ x. meant ≡ Ok (world new)) (λ refusal. meant ≡ Err refusal) → OnErr r (new ≡ old) → IsSound (world new) × AreOfOneScene (world old) (world new)
+    by : (r : Result (Unit {0}) Refusal) → MatchResult r (λ x. meant ≡ Ok (world new)) (λ refusal. meant ≡ Err refusal) → OnErr r (new ≡ old) → Commanded r meant (world old) (world new)
     by (Ok x) e kept =
         let there : after (world old) c ≡ world new = ap (λ (p : World × Reply). p.0) is ∙ ap (λ (s : Result World Refusal). (done_or_refused (world old) s).0) e in
-        (subst IsSound there (command-sound (world old) c sound), subst (AreOfOneScene (world old)) there (command-scene (world old) c sound))
-    by (Err refusal) e kept = (subst IsSound (sym (ap world kept)) sound, subst (AreOfOneScene (world old)) (sym (ap world kept)) refl)
+        record { obeys = record { outcome = e; kept = kept }; sound = subst IsSound there (command-sound (world old) c sound); one_scene = subst (AreOfOneScene (world old)) there (command-scene (world old) c sound) }
+    by (Err refusal) e kept =
+        record { obeys = record { outcome = e; kept = ap world kept }; sound = subst IsSound (sym (ap world kept)) sound; one_scene = subst (AreOfOneScene (world old)) (sym (ap world kept)) refl }
+
+-- the same of the world as callers see it
+pub seen_commanded : {P : Type 0} {inside seen : Solved P} {r : Result (Unit {0}) Refusal} {new : World} (means : World → Result World Refusal) → inside ≡ seen → Commanded r (means inside.world) inside.world new → Commanded r (means seen.world) seen.world new
+seen_commanded {P} {inside} {seen} {r} {new} means is h = subst (λ (s : Solved P). Commanded r (means s.world) s.world new) is h
+
+-- a refusal leaves it as it was
+pub refused : {P : Type 0} {inside seen : Solved P} {refusal : Refusal} (means : World → Result World Refusal) → inside ≡ seen → IsSound inside.world → means inside.world ≡ Err refusal → Commanded (Err refusal) (means seen.world) seen.world seen.world
+refused {P} {inside} {seen} {refusal} means is sound e = subst (λ (s : Solved P). Commanded (Err refusal) (means s.world) s.world s.world) is (record { obeys = record { outcome = e; kept = refl }; sound = sound; one_scene = refl })
 
 pub steps_mean : (w : World) (n : ℕ) → meaning w (commands.Step n) ≡ done_or_refused w (run_steps w n)
 unfolding meaning
@@ -116,9 +125,15 @@ kept_moved setting old new kept colours tools sound same alike links space = rec
   alike = alike_join kept old new alike same;
 }
 
-pub kept_now : {l : ℕ} (setting setting' : Setting) (old new kept : State l) (colours : Coloured) (tools : Tools) → IsSound (world_of setting' new) → AreOfOneScene (world_of setting old) (world_of setting' new)
-    → AreAlike kept old → HasLinks (length old.store.particles) new.links.items colours → HaveSpace (length old.store.particles) (length old.links.items) tools → IsKept setting' new kept colours tools
-kept_now setting setting' old new kept colours tools sound scene alike links space = kept_moved setting' old new kept colours tools sound (scene_alike setting setting' old new scene) alike links space
+-- the same is kept where a command has left particles and links of as many, with their colours
+pub kept_commanded : {l : ℕ} {setting setting' : Setting} {old new kept : State l} {colours colours' : Coloured} {tools : Tools} {r : Result (Unit {0}) Refusal} {meant : Result World Refusal} → IsKept setting old kept colours tools
+    → Commanded r meant (world_of setting old) (world_of setting' new) → HasLinks (length old.store.particles) new.links.items colours' → IsKept setting' new kept colours' tools
+kept_commanded {l} {setting} {setting'} {old} {new} {kept} {colours} {colours'} {tools} h done links = kept_moved setting' old new kept colours' tools done.sound (scene_alike setting setting' old new done.one_scene) h.alike links h.space
+
+-- the same where it has left the links as they were
+pub kept_linked : {l : ℕ} {setting : Setting} {old new kept : State l} {colours : Coloured} {tools : Tools} {r : Result (Unit {0}) Refusal} {meant : Result World Refusal} → IsKept setting old kept colours tools
+    → Commanded r meant (world_of setting old) (world_of setting new) → new.links.items ≡ old.links.items → IsKept setting new kept colours tools
+kept_linked {l} {setting} {old} {new} {kept} {colours} h done same = kept_commanded h done (subst (λ (ls : List Link). HasLinks (length old.store.particles) ls colours) (sym same) h.links)
 
 -- ---- links in range
 
@@ -161,18 +176,31 @@ flags_count links = sym (length-filter (λ b. b) (live_flags links)) ∙ flags_l
 
 -- ---- steps of a command
 
+-- what the tests of a count come to
+tests_are : (w : World) (n : ℕ) (some few late : Bool) → nat_le 1 n ≡ some → nat_le n 100000 ≡ few → nat_lt 1000000 (w.steps + n) ≡ late
+    → unless (world_refusals w (commands.Step n)) w ≡ unless ((not (some && few), refusals.BadCount) ∷ (late, refusals.StepLimit) ∷ []) w
+tests_are w n some few late e f g = λ i. unless ((not (e i && f i), refusals.BadCount) ∷ (g i, refusals.StepLimit) ∷ []) w
+
+-- what the steps come to where the tests do
+run_is : (w : World) (n : ℕ) (r : Result World Refusal) → unless (world_refusals w (commands.Step n)) w ≡ r → run_steps w n ≡ (r >>= steps_of n)
+run_is w n r e = ap (λ (s : Result World Refusal). s >>= steps_of n) e
+
 -- a count in its range that stays below the step limit
 pub goes_on : (w : World) (n : ℕ) → 1 ≤ n → n ≤ 100000 → w.steps + n ≤ 1000000 → unless (world_refusals w (commands.Step n)) w ≡ Ok w
-goes_on w n low high few = by (nat_le 1 n) (nat_le n 100000) (nat_lt 1000000 (w.steps + n)) (le-leb 1 n low) (le-leb n 100000 high) (le-ltb 1000000 (w.steps + n) few)
-  where
-    by : (a b c : Bool) → a ≡ true → b ≡ true → c ≡ false → unless ((not (a && b), refusals.BadCount) ∷ (c, refusals.StepLimit) ∷ []) w ≡ Ok w
-    by true true false e f g = refl
-    by true true true e f g = absurd (false≢true (sym g))
-    by true false c e f g = absurd (false≢true f)
-    by false b c e f g = absurd (false≢true e)
+goes_on w n low high few = tests_are w n true true false (le-leb 1 n low) (le-leb n 100000 high) (le-ltb 1000000 (w.steps + n) few)
 
 pub run_goes : (w : World) (n : ℕ) → 1 ≤ n → n ≤ 100000 → w.steps + n ≤ 1000000 → run_steps w n ≡ steps_of n w
-run_goes w n low high few = ap (λ (r : Result World Refusal). r >>= steps_of n) (goes_on w n low high few)
+run_goes w n low high few = run_is w n (Ok w) (goes_on w n low high few)
+
+-- counts that are refused
+pub run_uncounted : (w : World) (n : ℕ) → (n < 1) ⊎ ((1 ≤ n) × (100000 < n)) → run_steps w n ≡ Err refusals.BadCount
+run_uncounted w n out = elim out [
+  | inl none ↦ run_is w n (Err refusals.BadCount) (tests_are w n false (nat_le n 100000) (nat_lt 1000000 (w.steps + n)) (lt-leb 1 n none) refl refl)
+  | inr both ↦ run_is w n (Err refusals.BadCount) (tests_are w n true false (nat_lt 1000000 (w.steps + n)) (le-leb 1 n both.0) (lt-leb n 100000 both.1) refl)
+]
+
+pub run_late : (w : World) (n : ℕ) → 1 ≤ n → n ≤ 100000 → 1000000 < w.steps + n → run_steps w n ≡ Err refusals.StepLimit
+run_late w n low high late = run_is w n (Err refusals.StepLimit) (tests_are w n true true true (le-leb 1 n low) (le-leb n 100000 high) (lt-ltb 1000000 (w.steps + n) late))
 
 -- ---- another world of one scene
 

@@ -1,12 +1,14 @@
 -- Lists of bonds that belong to the pairs of a colouring.
-use Rattle.std.specs.Prelude.{◌≡◌, ℕ, ◌-◌, ◌<◌, ◌≤◌, ◌^◌, ℤ, Bool, List, length}
+use Rattle.std.specs.Prelude.{◌≡◌, ℕ, ◌+◌, ◌-◌, ◌<◌, ◌≤◌, ◌^◌, ℤ, Bool, List, length, MatchResult, OnOk, Result, Ok, Err}
 use Rattle.std.specs.List.{range_with_len, flat_map}
 use Rattle.pbd_world.specs.declared.parts.Particle.{Particle}
 use Rattle.pbd_world.specs.declared.totals.Totals.{Totals}
+use Rattle.pbd_world.specs.declared.command.Left.{Left}
 use Rattle.pbd_world.specs.Ledger.{Ledger, ledger_of, HaveRoom}
+use Rattle.pbd_world.specs.Bonds.{projected}
 use Rattle.pbd_world.specs.Colours.{pair_at}
 use Rattle.pbd_store.specs.Stored.{Stored}
-use Rattle.pbd_store.specs.Moving.{AreInside, Weigh}
+use Rattle.pbd_store.specs.Moving.{motion_of, fixed_parts, AreInside, Weigh}
 use Rattle.pbd_colour.specs.Pairs.{batch_of}
 use Rattle.pbd_pair.specs.declared.bonds.Bonds.{Bonds}
 use Rattle.pbd_pair.specs.Bonds.{bond_of, bond_count, IsBond}
@@ -42,3 +44,15 @@ pub record CanProjectAll (bound : ℕ) (bonds : Bonds) (pairs : List (ℕ × ℕ
   pub fit : AreBondsOf s.limit (length s.particles) bonds pairs
   pub few : length pairs ≤ 524288
   pub movable : AreMovable bound s.limit s.particles (ledger_of t)
+
+-- the bonds of some numbers were projected one after another, or the first that would leave the limit is told: of the particles
+-- the places alone were changed, and the totals have grown by no more than `grown`
+pub record AreProjected (r : Result (Unit {0}) Left) (bonds : Bonds) (numbers : List ℕ) (grown : ℕ)
+    (s new : Stored) (t u : Totals) : Type 0 where
+  pub outcome : MatchResult r
+      (λ _. projected s.limit (bond_of bonds) numbers (motion_of s t) ≡ Ok (motion_of new u))
+      (λ left. projected s.limit (bond_of bonds) numbers (motion_of s t) ≡ Err left.element)
+  pub limit : new.limit ≡ s.limit
+  pub fixed : fixed_parts new.particles ≡ fixed_parts s.particles
+  pub inside : OnOk r (AreInside s.limit new.particles)
+  pub room : OnOk r ((n : ℕ) → HaveRoom n (ledger_of t) → HaveRoom (n + grown) (ledger_of u))

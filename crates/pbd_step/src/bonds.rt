@@ -1,14 +1,10 @@
 // All live bonds of a list, projected colour by colour.
-ghost use Rattle.std.specs.Prelude.{◌≡◌, ◌+◌, ◌-◌, ◌*◌, ◌<◌, ◌≤◌, ◌^◌, ℕ, min, length, OnOk, MatchResult, Result, Ok, Err};
-ghost use Rattle.pbd_world.specs.Bonds.{projected};
+ghost use Rattle.std.specs.Prelude.{◌≡◌, ◌+◌, ◌-◌, ◌*◌, ◌<◌, ◌≤◌, ◌^◌, min, length, OnOk};
 ghost use Rattle.pbd_world.specs.Colours.{order};
-ghost use Rattle.pbd_world.specs.Ledger.{ledger_of, HaveRoom};
 ghost use Rattle.pbd_world.specs.Work.{bonds_work, colours_work};
-ghost use Rattle.pbd_store.specs.Moving.{motion_of, fixed_parts, AreInside};
 ghost use Rattle.pbd_colour.specs.Pairs.{batch_of};
-ghost use Rattle.pbd_pair.specs.Bonds.{bond_of};
 ghost use Rattle.pbd_store.specs.Blocks.{blocks_of};
-ghost use Rattle.pbd_step.specs.Projecting.{CanProjectAll, CanProjectBatch, parallel_from};
+ghost use Rattle.pbd_step.specs.Projecting.{AreProjected, CanProjectAll, CanProjectBatch, parallel_from};
 
 use pbd_colour::Colouring;
 use pbd_pair::{Bonds, Projector};
@@ -35,13 +31,7 @@ fn project_batch<const L: usize, P: Projector<L>, G: Ledger>(
     requires lanes_low { 0 < L }
     requires lanes_high { L ≤ 16 }
     requires can { CanProjectBatch bonds batch.now store.old totals.old }
-    ensures outcome { MatchResult result
-        (λ _. projected store.old.limit (bond_of bonds.entry) batch.now (motion_of store.old totals.old) ≡ Ok (motion_of store.new totals.new))
-        (λ left. projected store.old.limit (bond_of bonds.entry) batch.now (motion_of store.old totals.old) ≡ Err left.element) }
-    ensures limit { store.new.limit ≡ store.old.limit }
-    ensures fixed { fixed_parts store.new.particles ≡ fixed_parts store.old.particles }
-    ensures inside { OnOk result (AreInside store.old.limit store.new.particles) }
-    ensures room { OnOk result ((n : ℕ) → HaveRoom n (ledger_of totals.old) → HaveRoom (n + length batch.now * 2 ^ 32) (ledger_of totals.new)) }
+    ensures done { AreProjected result bonds.entry batch.now (length batch.now * 2 ^ 32) store.old store.new totals.old totals.new }
     ensures handed { P.count projector.new ≡ min (P.count projector.old + length batch.now) (2 ^ 64 - 1) }
     ensures width { P.width projector.new ≡ P.width projector.old }
     ensures cost { steps.new ≤ steps.old + 4 * blocks_of (length batch.now) (P.width projector.old) }
@@ -62,17 +52,8 @@ fn project_colours<const L: usize, P: Projector<L>, G: Ledger>(
     requires lanes_high { L ≤ 16 }
     requires can { CanProjectAll (2 ^ 119) bonds colours.now.pairs store.old totals.old }
     requires counted { P.count projector.old ≤ 2 ^ 64 - 1 }
-    ensures outcome { MatchResult result
-        (λ _. projected store.old.limit (bond_of bonds.entry) (parallel_from colours.now.pairs colours.now.live 0)
-        (motion_of store.old totals.old) ≡ Ok (motion_of store.new totals.new))
-        (λ left. projected store.old.limit (bond_of bonds.entry) (parallel_from colours.now.pairs colours.now.live 0)
-        (motion_of store.old totals.old) ≡ Err left.element) }
-    ensures limit { store.new.limit ≡ store.old.limit }
-    ensures fixed { fixed_parts store.new.particles ≡ fixed_parts store.old.particles }
-    ensures inside { OnOk result (AreInside store.old.limit store.new.particles) }
-    ensures room { OnOk result
-        ((n : ℕ) → HaveRoom n (ledger_of totals.old)
-        → HaveRoom (n + length (parallel_from colours.now.pairs colours.now.live 0) * 2 ^ 32) (ledger_of totals.new)) }
+    ensures done { AreProjected result bonds.entry (parallel_from colours.now.pairs colours.now.live 0)
+        (length (parallel_from colours.now.pairs colours.now.live 0) * 2 ^ 32) store.old store.new totals.old totals.new }
     ensures handed { OnOk result
         (P.count projector.new ≡ min (P.count projector.old + length (parallel_from colours.now.pairs colours.now.live 0)) (2 ^ 64 - 1)) }
     ensures can { OnOk result (CanProjectAll (2 ^ 119 + 2 ^ 57) bonds.entry colours.now.pairs store.new totals.new) }
@@ -101,17 +82,8 @@ fn project_serial<const L: usize, P: Projector<L>, G: Ledger>(
     requires lanes_high { L ≤ 16 }
     requires can { CanProjectAll (2 ^ 119 + 2 ^ 57) bonds colours.now.pairs store.old totals.old }
     requires counted { P.count projector.old ≤ 2 ^ 64 - 1 }
-    ensures outcome { MatchResult result
-        (λ _. projected store.old.limit (bond_of bonds.entry) (batch_of colours.now.pairs colours.now.live 63)
-        (motion_of store.old totals.old) ≡ Ok (motion_of store.new totals.new))
-        (λ left. projected store.old.limit (bond_of bonds.entry) (batch_of colours.now.pairs colours.now.live 63)
-        (motion_of store.old totals.old) ≡ Err left.element) }
-    ensures limit { store.new.limit ≡ store.old.limit }
-    ensures fixed { fixed_parts store.new.particles ≡ fixed_parts store.old.particles }
-    ensures inside { OnOk result (AreInside store.old.limit store.new.particles) }
-    ensures room { OnOk result
-        ((n : ℕ) → HaveRoom n (ledger_of totals.old)
-        → HaveRoom (n + length (batch_of colours.now.pairs colours.now.live 63) * 2 ^ 32) (ledger_of totals.new)) }
+    ensures done { AreProjected result bonds.entry (batch_of colours.now.pairs colours.now.live 63)
+        (length (batch_of colours.now.pairs colours.now.live 63) * 2 ^ 32) store.old store.new totals.old totals.new }
     ensures handed { OnOk result
         (P.count projector.new ≡ min (P.count projector.old + length (batch_of colours.now.pairs colours.now.live 63)) (2 ^ 64 - 1)) }
     ensures not_fallen { P.count projector.old ≤ P.count projector.new }
@@ -140,15 +112,8 @@ pub(crate) fn project_all<const L: usize, P: Projector<L>, G: Ledger>(
     requires lanes_low { 0 < L }
     requires lanes_high { L ≤ 16 }
     requires can { CanProjectAll (2 ^ 119) bonds colours.now.pairs store.old totals.old }
-    ensures outcome { MatchResult result
-        (λ _. projected store.old.limit (bond_of bonds.entry) (order colours.now.pairs colours.now.live) (motion_of store.old totals.old)
-        ≡ Ok (motion_of store.new totals.new))
-        (λ left. projected store.old.limit (bond_of bonds.entry) (order colours.now.pairs colours.now.live)
-        (motion_of store.old totals.old) ≡ Err left.element) }
-    ensures limit { store.new.limit ≡ store.old.limit }
-    ensures fixed { fixed_parts store.new.particles ≡ fixed_parts store.old.particles }
-    ensures inside { OnOk result (AreInside store.old.limit store.new.particles) }
-    ensures room { OnOk result ((n : ℕ) → HaveRoom n (ledger_of totals.old) → HaveRoom (n + 2 ^ 60) (ledger_of totals.new)) }
+    ensures done { AreProjected result bonds.entry (order colours.now.pairs colours.now.live)
+        (2 ^ 60) store.old store.new totals.old totals.new }
     ensures handed { OnOk result
         (P.count projector.new ≡ min (P.count projector.old + length (order colours.now.pairs colours.now.live)) (2 ^ 64 - 1)) }
     ensures not_fallen { P.count projector.old ≤ P.count projector.new }

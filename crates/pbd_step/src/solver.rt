@@ -1,4 +1,4 @@
-ghost use Rattle.std.specs.Prelude.{◌≡◌, ◌+◌, ◌-◌, ◌<◌, ◌≤◌, ◌^◌, min, length, IfOk, OnOk, OnErr, MatchResult, Result, Ok, Err};
+ghost use Rattle.std.specs.Prelude.{◌≡◌, ◌+◌, ◌-◌, ◌<◌, ◌≤◌, ◌^◌, min, length, IfOk, OnOk};
 ghost use Rattle.pbd_num.specs.Vectors.{Within};
 ghost use Rattle.pbd_world.specs.Ledger.{sum_of, ledger_of};
 ghost use Rattle.pbd_world.specs.Meaning.{run_steps, pin as pinned_world, unpin as unpinned_world, place_held as placed_world, cut as cut_world, set_gravity as pulled_world};
@@ -7,6 +7,7 @@ ghost use Rattle.pbd_world.specs.Particles.{particle_at};
 ghost use Rattle.pbd_world.specs.Work.{steps_work};
 ghost use Rattle.pbd_world.specs.World.{opened, live_count, IsSound, AreOfOneScene};
 ghost use Rattle.pbd_step.specs.Solving.{bonds_over};
+ghost use Rattle.pbd_step.specs.Obeying.{Commanded};
 
 use crate::again::restore;
 use crate::commands::{cut, pin, place_held, set_gravity, unpin};
@@ -71,17 +72,12 @@ impl<const L: usize, P: Projector<L> + Drop> Solver<L, P> {
     pub fn steps<G: Ledger>(&mut self, n: u64, steps: &mut Steps<G>) -> Result<(), Refusal>
         requires lanes_low { 0 < L }
         requires lanes_high { L ≤ 16 }
-        ensures outcome { MatchResult result
-            (λ _. run_steps self.old.world n ≡ Ok self.new.world)
-            (λ refusal. run_steps self.old.world n ≡ Err refusal) }
-        ensures kept { OnErr result (self.new.world ≡ self.old.world) }
+        ensures commanded { Commanded result (run_steps self.old.world n) self.old.world self.new.world }
         // Each bond of each pass of each step was handed to the projector.
         ensures handed { OnOk result
             (P.count self.new.projector ≡ min (P.count self.old.projector + bonds_over n self.old.world) (2 ^ 64 - 1)) }
         ensures not_fallen { P.count self.old.projector ≤ P.count self.new.projector }
         ensures width { P.width self.new.projector ≡ P.width self.old.projector }
-        ensures sound { IsSound self.new.world }
-        ensures one_scene { AreOfOneScene self.old.world self.new.world }
         // The particles are reached at most as often as the work of the steps says, also where one is refused.
         ensures cost { steps.new ≤ steps.old + steps_work L (P.width self.old.projector) n self.old.world }
     {
@@ -100,13 +96,8 @@ impl<const L: usize, P: Projector<L> + Drop> Solver<L, P> {
     pub fn pin<G: Ledger>(&mut self, i: u64, steps: &mut Steps<G>) -> Result<(), Refusal>
         requires lanes_low { 0 < L }
         requires lanes_high { L ≤ 16 }
-        ensures outcome { MatchResult result
-            (λ _. pinned_world self.old.world i ≡ Ok self.new.world)
-            (λ refusal. pinned_world self.old.world i ≡ Err refusal) }
-        ensures kept { OnErr result (self.new.world ≡ self.old.world) }
+        ensures commanded { Commanded result (pinned_world self.old.world i) self.old.world self.new.world }
         ensures projector { self.new.projector ≡ self.old.projector }
-        ensures sound { IsSound self.new.world }
-        ensures one_scene { AreOfOneScene self.old.world self.new.world }
         ensures cost { steps.new ≤ steps.old + 2 }
     {
         pin(&self.setting, &mut self.run.state, i, steps)
@@ -117,13 +108,8 @@ impl<const L: usize, P: Projector<L> + Drop> Solver<L, P> {
     pub fn unpin<G: Ledger>(&mut self, i: u64, steps: &mut Steps<G>) -> Result<(), Refusal>
         requires lanes_low { 0 < L }
         requires lanes_high { L ≤ 16 }
-        ensures outcome { MatchResult result
-            (λ _. unpinned_world self.old.world i ≡ Ok self.new.world)
-            (λ refusal. unpinned_world self.old.world i ≡ Err refusal) }
-        ensures kept { OnErr result (self.new.world ≡ self.old.world) }
+        ensures commanded { Commanded result (unpinned_world self.old.world i) self.old.world self.new.world }
         ensures projector { self.new.projector ≡ self.old.projector }
-        ensures sound { IsSound self.new.world }
-        ensures one_scene { AreOfOneScene self.old.world self.new.world }
         ensures cost { steps.new ≤ steps.old + 2 }
     {
         unpin(&self.setting, &mut self.run.state, i, steps)
@@ -139,13 +125,8 @@ impl<const L: usize, P: Projector<L> + Drop> Solver<L, P> {
     ) -> Result<(), Refusal>
         requires lanes_low { 0 < L }
         requires lanes_high { L ≤ 16 }
-        ensures outcome { MatchResult result
-            (λ _. placed_world self.old.world i to ≡ Ok self.new.world)
-            (λ refusal. placed_world self.old.world i to ≡ Err refusal) }
-        ensures kept { OnErr result (self.new.world ≡ self.old.world) }
+        ensures commanded { Commanded result (placed_world self.old.world i to) self.old.world self.new.world }
         ensures projector { self.new.projector ≡ self.old.projector }
-        ensures sound { IsSound self.new.world }
-        ensures one_scene { AreOfOneScene self.old.world self.new.world }
         ensures cost { steps.new ≤ steps.old + 2 }
     {
         place_held(&self.setting, &mut self.run.state, i, to, steps)
@@ -156,13 +137,8 @@ impl<const L: usize, P: Projector<L> + Drop> Solver<L, P> {
     pub fn cut(&mut self, l: u64) -> Result<(), Refusal>
         requires lanes_low { 0 < L }
         requires lanes_high { L ≤ 16 }
-        ensures outcome { MatchResult result
-            (λ _. cut_world self.old.world l ≡ Ok self.new.world)
-            (λ refusal. cut_world self.old.world l ≡ Err refusal) }
-        ensures kept { OnErr result (self.new.world ≡ self.old.world) }
+        ensures commanded { Commanded result (cut_world self.old.world l) self.old.world self.new.world }
         ensures projector { self.new.projector ≡ self.old.projector }
-        ensures sound { IsSound self.new.world }
-        ensures one_scene { AreOfOneScene self.old.world self.new.world }
     {
         cut(&self.setting, &mut self.run.state, &mut self.run.colours, l)
     }
@@ -171,13 +147,8 @@ impl<const L: usize, P: Projector<L> + Drop> Solver<L, P> {
     pub fn set_gravity(&mut self, g: Vec3) -> Result<(), Refusal>
         requires lanes_low { 0 < L }
         requires lanes_high { L ≤ 16 }
-        ensures outcome { MatchResult result
-            (λ _. pulled_world self.old.world g ≡ Ok self.new.world)
-            (λ refusal. pulled_world self.old.world g ≡ Err refusal) }
-        ensures kept { OnErr result (self.new.world ≡ self.old.world) }
+        ensures commanded { Commanded result (pulled_world self.old.world g) self.old.world self.new.world }
         ensures projector { self.new.projector ≡ self.old.projector }
-        ensures sound { IsSound self.new.world }
-        ensures one_scene { AreOfOneScene self.old.world self.new.world }
     {
         set_gravity(&mut self.setting, &self.run.state, g)
     }

@@ -1,6 +1,6 @@
-use Rattle.std.proofs.Common.{ℕ, List, arith, ap, ◌∙◌}
+use Rattle.std.proofs.Common.{ℕ, ℤ, List, arith, ap, ◌∙◌, subst}
 use Rattle.pbd_world.specs.Bonds.{projected}
-use Rattle.pbd_store.specs.Moving.{motion_of}
+use Rattle.pbd_store.specs.Moving.{motion_of, AreInside}
 use Rattle.pbd_colour.specs.Pairs.{batch_of}
 use Rattle.pbd_pair.specs.Bonds.{bond_of}
 use Rattle.pbd_world.proofs.Rooms.{room_at}
@@ -9,30 +9,47 @@ use Rattle.pbd_step.proofs.InOrder.{both_parts, order_parts, parts_length, stops
 use Rattle.pbd_world.proofs.WorkLemmas.{bonds_are}
 use Rattle.pbd_step.proofs.bonds.project_all.Goals as goal
 
-pub returns-in-Err-clause-outcome : goal.returns-in-Err-clause-outcome
-returns-in-Err-clause-outcome g c =
+pub returns-in-Err-clause-done : goal.returns-in-Err-clause-done
+returns-in-Err-clause-done g c =
     let pairs = c.args.colours.now.pairs in
     let live = c.args.colours.now.live in
     let start = motion_of c.args.store.now c.args.totals.now in
-    ap (λ (xs : List ℕ). projected c.args.store.now.limit (bond_of c.args.bonds) xs start) (both_parts pairs live)
-    ∙ stops _ (parallel_from pairs live 0) (batch_of pairs live 63) start c.in-Err.left.element c.in-Err.ensures.outcome
+    record {
+      outcome = ap (λ (xs : List ℕ). projected c.args.store.now.limit (bond_of c.args.bonds) xs start) (both_parts pairs live)
+          ∙ stops _ (parallel_from pairs live 0) (batch_of pairs live 63) start c.in-Err.left.element c.in-Err.ensures.done.outcome;
+      limit = c.project_colours.ensures.done.limit;
+      fixed = c.project_colours.ensures.done.fixed;
+      inside = tt;
+      room = tt;
+    }
 
-pub returns-in-Err-project_serial-clause-outcome : goal.returns-in-Err-project_serial-clause-outcome
-returns-in-Err-project_serial-clause-outcome g c =
+pub returns-in-Err-project_serial-clause-done : goal.returns-in-Err-project_serial-clause-done
+returns-in-Err-project_serial-clause-done g c =
     let pairs = c.args.colours.now.pairs in
     let live = c.args.colours.now.live in
-    then_part (bond_of c.args.bonds) (parallel_from pairs live 0) (batch_of pairs live 63) (motion_of c.args.store.now c.args.totals.now) (motion_of c.project_colours.new.store c.project_colours.new.totals) (both_parts pairs live) c.project_colours.ensures.limit c.in_default.ensures.outcome c.in-Err-project_serial.ensures.outcome
+    let first = c.project_colours.ensures.done in
+    let second = c.project_serial.ensures.done in
+    record {
+      outcome = then_part (bond_of c.args.bonds) (parallel_from pairs live 0) (batch_of pairs live 63) (motion_of c.args.store.now c.args.totals.now) (motion_of c.project_colours.new.store c.project_colours.new.totals) (both_parts pairs live) first.limit c.in_default.ensures.done.outcome c.in-Err-project_serial.ensures.done.outcome;
+      limit = second.limit ∙ first.limit;
+      fixed = second.fixed ∙ first.fixed;
+      inside = tt;
+      room = tt;
+    }
 
-pub returns-clause-outcome : goal.returns-clause-outcome
-returns-clause-outcome g c =
+pub returns-clause-done : goal.returns-clause-done
+returns-clause-done g c =
     let pairs = c.args.colours.now.pairs in
     let live = c.args.colours.now.live in
-    then_part (bond_of c.args.bonds) (parallel_from pairs live 0) (batch_of pairs live 63) (motion_of c.args.store.now c.args.totals.now) (motion_of c.project_colours.new.store c.project_colours.new.totals) (both_parts pairs live) c.project_colours.ensures.limit c.in_default.ensures.outcome c.in_default-project_serial.ensures.outcome
-
-pub returns-clause-room : goal.returns-clause-room
-returns-clause-room g c =
-    λ n h.
-    room_at _ (omega (arith, parts_length c.args.colours.now.pairs c.args.colours.now.live, c.requires.can.few)) (c.in_default-project_serial.ensures.room _ (c.in_default.ensures.room n h))
+    let first = c.in_default.ensures.done in
+    let second = c.in_default-project_serial.ensures.done in
+    record {
+      outcome = then_part (bond_of c.args.bonds) (parallel_from pairs live 0) (batch_of pairs live 63) (motion_of c.args.store.now c.args.totals.now) (motion_of c.project_colours.new.store c.project_colours.new.totals) (both_parts pairs live) first.limit first.outcome second.outcome;
+      limit = second.limit ∙ first.limit;
+      fixed = second.fixed ∙ first.fixed;
+      inside = subst (λ (k : ℤ). AreInside k c.project_serial.new.store.particles) first.limit second.inside;
+      room = λ n h. room_at _ (omega (arith, parts_length pairs live, c.requires.can.few)) (second.room _ (first.room n h));
+    }
 
 pub returns-clause-handed : goal.returns-clause-handed
 returns-clause-handed g c =

@@ -10,13 +10,19 @@ project_batch-requires g c =
     let inv = c.loop-c.invariant in
     (omega arith, (c.requires.lanes_low, (c.requires.lanes_high, batch_goes c.loop-c.store c.loop-c.totals c.requires.can inv.limit inv.so_far (omega (arith, parts_length c.args.colours.now.pairs c.args.colours.now.live, c.requires.can.few)) c.args.colours.now.live c.batch.result.now c.batch.ensures.live c.batch.ensures.apart)))
 
-pub returns-in-Err-clause-outcome : goal.returns-in-Err-clause-outcome
-returns-in-Err-clause-outcome g c =
+pub returns-in-Err-clause-done : goal.returns-in-Err-clause-done
+returns-in-Err-clause-done g c =
     let inv = c.loop-c.invariant in
     let pairs = c.args.colours.now.pairs in
     let live = c.args.colours.now.live in
     let parts : parallel_from pairs live c.loop-c.c ≡ c.batch.result.now ++ parallel_from pairs live (c.loop-c.c + 1) = rw c.batch.ensures.value (parallel_next pairs live c.loop-c.c (omega arith)) in
-    stops_so_far _ _ parts inv.limit inv.so_far c.in-Err.left.element c.in-Err.ensures.outcome
+    record {
+      outcome = stops_so_far _ _ parts inv.limit inv.so_far c.in-Err.left.element c.in-Err.ensures.done.outcome;
+      limit = c.project_batch.ensures.done.limit ∙ inv.limit;
+      fixed = c.project_batch.ensures.done.fixed ∙ inv.so_far.fixed;
+      inside = tt;
+      room = tt;
+    }
 
 pub returns-in-Err-clause-cost : goal.returns-in-Err-clause-cost
 returns-in-Err-clause-cost g c =
@@ -35,17 +41,17 @@ loop-c-preserved g c =
     let live = c.args.colours.now.live in
     let parts : parallel_from pairs live c.loop-c.c ≡ c.batch.result.now ++ parallel_from pairs live (c.loop-c.c + 1) = rw c.batch.ensures.value (parallel_next pairs live c.loop-c.c (omega arith)) in
     record {
-      so_far = more_so_far c.batch.result.now (parallel_from pairs live (c.loop-c.c + 1)) parts inv.limit inv.so_far (motion_of c.project_batch.new.store c.project_batch.new.totals) _ c.in_default.ensures.outcome c.project_batch.ensures.fixed c.in_default.ensures.inside c.in_default.ensures.room c.project_batch.ensures.handed;
-      limit = c.project_batch.ensures.limit ∙ inv.limit;
+      so_far = more_so_far c.batch.result.now (parallel_from pairs live (c.loop-c.c + 1)) parts inv.limit inv.so_far (motion_of c.project_batch.new.store c.project_batch.new.totals) _ c.in_default.ensures.done.outcome c.project_batch.ensures.done.fixed c.in_default.ensures.done.inside c.in_default.ensures.done.room c.project_batch.ensures.handed;
+      limit = c.project_batch.ensures.done.limit ∙ inv.limit;
       width = c.project_batch.ensures.width ∙ inv.width;
       cost = omega (arith, inv.cost, c.project_batch.ensures.cost, colour_paid pairs live c.loop-c.c c.batch.ensures.value inv.width, colours_left (g.P.Projector.width c.args.projector.now) pairs live c.loop-c.c (omega arith));
     }
 
-pub returns-clause-outcome : goal.returns-clause-outcome
-returns-clause-outcome g c = (whole_so_far c.loop-c.invariant.so_far (parallel_none c.args.colours.now.pairs c.args.colours.now.live c.loop-c.c (omega arith))).same
-
-pub returns-clause-room : goal.returns-clause-room
-returns-clause-room g c = (whole_so_far c.loop-c.invariant.so_far (parallel_none c.args.colours.now.pairs c.args.colours.now.live c.loop-c.c (omega arith))).grows
+pub returns-clause-done : goal.returns-clause-done
+returns-clause-done g c =
+    let so_far = c.loop-c.invariant.so_far in
+    let whole = whole_so_far so_far (parallel_none c.args.colours.now.pairs c.args.colours.now.live c.loop-c.c (omega arith)) in
+    record { outcome = whole.same; limit = c.loop-c.invariant.limit; fixed = so_far.fixed; inside = so_far.inside; room = whole.grows }
 
 pub returns-clause-handed : goal.returns-clause-handed
 returns-clause-handed g c = (whole_so_far c.loop-c.invariant.so_far (parallel_none c.args.colours.now.pairs c.args.colours.now.live c.loop-c.c (omega arith))).count

@@ -25,8 +25,8 @@ loop-n-preserved g c =
     let same = c.serial-n-items.ensures.value in
     let within : c.loop-n.n-index < length numbers = rw (sym same) (omega arith) in
     let parts : drop c.loop-n.n-index numbers ≡ (get_or c.serial-n-items.result.now c.loop-n.n-index 0 ∷ []) ++ drop (c.loop-n.n-index + 1) numbers = rw same (serial_next numbers c.loop-n.n-index within) in
-    let so = more_so_far (get_or c.serial-n-items.result.now c.loop-n.n-index 0 ∷ []) (drop (c.loop-n.n-index + 1) numbers) parts inv.limit inv.so_far (motion_of c.project_batch.new.store c.project_batch.new.totals) _ c.in_default.ensures.outcome c.project_batch.ensures.fixed c.in_default.ensures.inside c.in_default.ensures.room c.project_batch.ensures.handed in
-    let limit = c.project_batch.ensures.limit ∙ inv.limit in
+    let so = more_so_far (get_or c.serial-n-items.result.now c.loop-n.n-index 0 ∷ []) (drop (c.loop-n.n-index + 1) numbers) parts inv.limit inv.so_far (motion_of c.project_batch.new.store c.project_batch.new.totals) _ c.in_default.ensures.done.outcome c.project_batch.ensures.done.fixed c.in_default.ensures.done.inside c.in_default.ensures.done.room c.project_batch.ensures.handed in
+    let limit = c.project_batch.ensures.done.limit ∙ inv.limit in
     record {
       so_far = so;
       can = single_goes c.project_batch.new.store c.project_batch.new.totals c.requires.can limit so (omega (arith, parts_length c.args.colours.now.pairs c.args.colours.now.live, c.requires.can.few));
@@ -35,19 +35,26 @@ loop-n-preserved g c =
       cost = omega (arith, inv.cost, c.project_batch.ensures.cost, one_paid (g.P.Projector.width c.loop-n.projector) numbers c.loop-n.n-index within);
     }
 
-pub returns-in-Err-clause-outcome : goal.returns-in-Err-clause-outcome
-returns-in-Err-clause-outcome g c =
+pub returns-in-Err-clause-done : goal.returns-in-Err-clause-done
+returns-in-Err-clause-done g c =
+    let inv = c.loop-n.invariant in
     let numbers : List ℕ = batch_of c.args.colours.now.pairs c.args.colours.now.live 63 in
     let same = c.serial-n-items.ensures.value in
     let within : c.loop-n.n-index < length numbers = rw (sym same) (omega arith) in
     let parts : drop c.loop-n.n-index numbers ≡ (get_or c.serial-n-items.result.now c.loop-n.n-index 0 ∷ []) ++ drop (c.loop-n.n-index + 1) numbers = rw same (serial_next numbers c.loop-n.n-index within) in
-    stops_so_far (get_or c.serial-n-items.result.now c.loop-n.n-index 0 ∷ []) (drop (c.loop-n.n-index + 1) numbers) parts c.loop-n.invariant.limit c.loop-n.invariant.so_far c.in-Err.left.element c.in-Err.ensures.outcome
+    record {
+      outcome = stops_so_far (get_or c.serial-n-items.result.now c.loop-n.n-index 0 ∷ []) (drop (c.loop-n.n-index + 1) numbers) parts inv.limit inv.so_far c.in-Err.left.element c.in-Err.ensures.done.outcome;
+      limit = c.project_batch.ensures.done.limit ∙ inv.limit;
+      fixed = c.project_batch.ensures.done.fixed ∙ inv.so_far.fixed;
+      inside = tt;
+      room = tt;
+    }
 
-pub returns-clause-outcome : goal.returns-clause-outcome
-returns-clause-outcome g c = (whole_so_far c.loop-n.invariant.so_far (drop_of_length-le (batch_of c.args.colours.now.pairs c.args.colours.now.live 63) (rw (sym c.serial-n-items.ensures.value) (omega arith)))).same
-
-pub returns-clause-room : goal.returns-clause-room
-returns-clause-room g c = (whole_so_far c.loop-n.invariant.so_far (drop_of_length-le (batch_of c.args.colours.now.pairs c.args.colours.now.live 63) (rw (sym c.serial-n-items.ensures.value) (omega arith)))).grows
+pub returns-clause-done : goal.returns-clause-done
+returns-clause-done g c =
+    let so_far = c.loop-n.invariant.so_far in
+    let whole = whole_so_far so_far (drop_of_length-le (batch_of c.args.colours.now.pairs c.args.colours.now.live 63) (rw (sym c.serial-n-items.ensures.value) (omega arith))) in
+    record { outcome = whole.same; limit = c.loop-n.invariant.limit; fixed = so_far.fixed; inside = so_far.inside; room = whole.grows }
 
 pub returns-clause-handed : goal.returns-clause-handed
 returns-clause-handed g c = (whole_so_far c.loop-n.invariant.so_far (drop_of_length-le (batch_of c.args.colours.now.pairs c.args.colours.now.live 63) (rw (sym c.serial-n-items.ensures.value) (omega arith)))).count

@@ -1,8 +1,18 @@
-use Rattle.std.proofs.Common.{◌∙◌, arith, get_or, false, pos}
+use Rattle.std.proofs.Common.{◌∙◌, ◌^◌, arith, get_or, false, pos}
 use Rattle.std.proofs.lemmas.Int.{to_z-of_z}
 use Rattle.pbd_num.proofs.Sizes.{fits}
 use Rattle.pbd_step.specs.Predicting.{loss_at, sum_below}
+use Rattle.pbd_step.proofs.Parting.{held_size}
 use Rattle.pbd_step.proofs.flight.fly.Goals as goal
+
+pub pull_along-requires-clause-gravity : goal.pull_along-requires-clause-gravity
+pull_along-requires-clause-gravity g c = held_size c.args.air.gravity.x (2 ^ 29) (omega arith) c.requires.gravity.x
+
+pub pull_along-requires-2-clause-gravity : goal.pull_along-requires-2-clause-gravity
+pull_along-requires-2-clause-gravity g c = held_size c.args.air.gravity.y (2 ^ 29) (omega arith) c.requires.gravity.y
+
+pub pull_along-requires-3-clause-gravity : goal.pull_along-requires-3-clause-gravity
+pull_along-requires-3-clause-gravity g c = held_size c.args.air.gravity.z (2 ^ 29) (omega arith) c.requires.gravity.z
 
 pub fly_axis-x-requires : goal.fly_axis-x-requires
 fly_axis-x-requires g c =

@@ -5,6 +5,7 @@ use Rattle.pbd_num.proofs.Sizes.{fits}
 use Rattle.pbd_store.proofs.Filling.{filled_more}
 use Rattle.pbd_step.specs.Predicting.{loss_at, pull_at}
 use Rattle.pbd_step.proofs.Flights.{sum_none, sum_more}
+use Rattle.pbd_step.proofs.Parting.{held_size}
 use Rattle.pbd_step.proofs.flight.fly_axis.Goals as goal
 
 pub loop-j-init : goal.loop-j-init
@@ -57,67 +58,40 @@ loop-j-preserved g c =
     }
 
 pub way_if-way-requires-clause-at : goal.way_if-way-requires-clause-at
-way_if-way-requires-clause-at g c =
-    let h = c.requires.at c.loop-j.j (omega arith) in
-    let a : FitsSigned w64 (get_or c.args.at.now c.loop-j.j (pos 0)) = fits _ (omega (arith, h)) in
-    simp to_z-of_z h
+way_if-way-requires-clause-at g c = held_size (get_or c.args.at.now c.loop-j.j (pos 0)) (2 ^ 29) (omega arith) (c.requires.at c.loop-j.j (omega arith))
 
 pub way_if-way-requires-clause-before : goal.way_if-way-requires-clause-before
-way_if-way-requires-clause-before g c =
-    let h = c.requires.before c.loop-j.j (omega arith) in
-    let b : FitsSigned w64 (get_or c.args.before.now c.loop-j.j (pos 0)) = fits _ (omega (arith, h)) in
-    simp to_z-of_z h
+way_if-way-requires-clause-before g c = held_size (get_or c.args.before.now c.loop-j.j (pos 0)) (2 ^ 29) (omega arith) (c.requires.before c.loop-j.j (omega arith))
 
 pub loss_of-loss-requires-clause-way : goal.loss_of-loss-requires-clause-way
-loss_of-loss-requires-clause-way g c =
-    let w : FitsSigned w64 c.way_if-way.result = record { sfits = c.way_if-way.type_inv } in
-    simp to_z-of_z c.way_if-way.ensures.size
+loss_of-loss-requires-clause-way g c = held_size c.way_if-way.result (2 ^ 30) (omega arith) c.way_if-way.ensures.size
 
 pub loss_of-loss-requires-clause-damping : goal.loss_of-loss-requires-clause-damping
-loss_of-loss-requires-clause-damping g c =
-    let d = fits c.args.pull.damping (omega (arith, c.requires.pull.damping)) in
-    simp to_z-of_z c.requires.pull.damping
+loss_of-loss-requires-clause-damping g c = held_size c.args.pull.damping 1024 (omega arith) c.requires.pull.damping
 
 pub pull_if-gains-requires : goal.pull_if-gains-requires
-pull_if-gains-requires g c =
-    let k = fits c.args.pull.gravity (omega (arith, c.requires.pull.gravity)) in
-    simp to_z-of_z c.requires.pull.gravity
+pull_if-gains-requires g c = held_size c.args.pull.gravity (2 ^ 29) (omega arith) c.requires.pull.gravity
 
 pub flown_by-place-requires-clause-at : goal.flown_by-place-requires-clause-at
-flown_by-place-requires-clause-at g c =
-    let h = c.requires.at c.loop-j.j (omega arith) in
-    let a : FitsSigned w64 (get_or c.args.at.now c.loop-j.j (pos 0)) = fits _ (omega (arith, h)) in
-    simp to_z-of_z h
+flown_by-place-requires-clause-at g c = held_size (get_or c.args.at.now c.loop-j.j (pos 0)) (2 ^ 29) (omega arith) (c.requires.at c.loop-j.j (omega arith))
 
 pub flown_by-place-requires-clause-way : goal.flown_by-place-requires-clause-way
-flown_by-place-requires-clause-way g c =
-    let w : FitsSigned w64 c.way_if-way.result = record { sfits = c.way_if-way.type_inv } in
-    simp to_z-of_z c.way_if-way.ensures.size
+flown_by-place-requires-clause-way g c = held_size c.way_if-way.result (2 ^ 30) (omega arith) c.way_if-way.ensures.size
 
 pub flown_by-place-requires-clause-loss : goal.flown_by-place-requires-clause-loss
-flown_by-place-requires-clause-loss g c =
-    let l : FitsSigned w64 c.loss_of-loss.result = record { sfits = c.loss_of-loss.type_inv } in
-    simp to_z-of_z c.loss_of-loss.ensures.size
+flown_by-place-requires-clause-loss g c = held_size c.loss_of-loss.result (2 ^ 30) (omega arith) c.loss_of-loss.ensures.size
 
 pub flown_by-place-requires-clause-pull : goal.flown_by-place-requires-clause-pull
-flown_by-place-requires-clause-pull g c =
-    let k : FitsSigned w64 c.pull_if-gains.result = record { sfits = c.pull_if-gains.type_inv } in
-    simp to_z-of_z c.pull_if-gains.ensures.size
+flown_by-place-requires-clause-pull g c = held_size c.pull_if-gains.result (2 ^ 29) (omega arith) c.pull_if-gains.ensures.size
 
 pub sum-pulled-requires-clause-n : goal.sum-pulled-requires-clause-n
-sum-pulled-requires-clause-n g c =
-    let k : FitsSigned w64 c.pull_if-gains.result = record { sfits = c.pull_if-gains.type_inv } in
-    simp to_z-of_z (omega (arith, c.pull_if-gains.ensures.size))
+sum-pulled-requires-clause-n g c = held_size c.pull_if-gains.result (2 ^ 30) (omega arith) (omega (arith, c.pull_if-gains.ensures.size))
 
 pub sum-lost-requires-clause-n : goal.sum-lost-requires-clause-n
-sum-lost-requires-clause-n g c =
-    let l : FitsSigned w64 c.loss_of-loss.result = record { sfits = c.loss_of-loss.type_inv } in
-    simp to_z-of_z c.loss_of-loss.ensures.size
+sum-lost-requires-clause-n g c = held_size c.loss_of-loss.result (2 ^ 30) (omega arith) c.loss_of-loss.ensures.size
 
 pub with_reaches-reached-requires-clause-n : goal.with_reaches-reached-requires-clause-n
-with_reaches-reached-requires-clause-n g c =
-    let p : FitsSigned w64 c.flown_by-place.result = record { sfits = c.flown_by-place.type_inv } in
-    simp to_z-of_z c.flown_by-place.ensures.size
+with_reaches-reached-requires-clause-n g c = held_size c.flown_by-place.result (2 ^ 32) (omega arith) c.flown_by-place.ensures.size
 
 pub with_reaches-reached-requires-clause-low : goal.with_reaches-reached-requires-clause-low
 with_reaches-reached-requires-clause-low g c =
@@ -125,6 +99,4 @@ with_reaches-reached-requires-clause-low g c =
     simp to_z-of_z c.requires.pull.low
 
 pub with_reaches-reached-requires-clause-high : goal.with_reaches-reached-requires-clause-high
-with_reaches-reached-requires-clause-high g c =
-    let m = fits c.args.pull.limit (omega (arith, c.requires.pull.high)) in
-    simp to_z-of_z c.requires.pull.high
+with_reaches-reached-requires-clause-high g c = held_size c.args.pull.limit (2 ^ 29) (omega arith) c.requires.pull.high

@@ -43,15 +43,15 @@ returns-clause-outcome g c =
     coe 0 1 (i. MatchResult c.project_all.result
     (λ _. projected limit (contact_bond (same i) (value i)) (order (pairs i) (live i)) start ≡ Ok now)
     (λ left. projected limit (contact_bond (same i) (value i)) (order (pairs i) (live i)) start ≡ Err left.element))
-    c.project_all.ensures.outcome
+    c.project_all.ensures.done.outcome
 
 pub returns-clause-stays : goal.returns-clause-stays
 returns-clause-stays g c =
     let run = c.args.run.now in
-    part_in_pass run (record run.state { store = c.project_all.new.store; totals = c.project_all.new.totals }) run.tools.touched c.project_all.new.projector refl c.project_all.ensures.limit c.project_all.ensures.fixed refl c.project_all.ensures.not_fallen c.project_all.ensures.width
+    part_in_pass run (record run.state { store = c.project_all.new.store; totals = c.project_all.new.totals }) run.tools.touched c.project_all.new.projector refl c.project_all.ensures.done.limit c.project_all.ensures.done.fixed refl c.project_all.ensures.not_fallen c.project_all.ensures.width
 
 pub returns-clause-movable : goal.returns-clause-movable
-returns-clause-movable g c = ok_both c.project_all.result (still_movable (2 ^ 60) c.project_all.ensures.limit c.project_all.ensures.fixed) c.project_all.ensures.inside c.project_all.ensures.room
+returns-clause-movable g c = ok_both c.project_all.result (still_movable (2 ^ 60) c.project_all.ensures.done.limit c.project_all.ensures.done.fixed) c.project_all.ensures.done.inside c.project_all.ensures.done.room
 
 pub returns-clause-handed : goal.returns-clause-handed
 returns-clause-handed g c =

@@ -1,26 +1,19 @@
-use Rattle.std.proofs.Common.{sym, ap, subst, length}
+use Rattle.std.proofs.Common.{ap}
+use Rattle.pbd_world.specs.Meaning.{place_held}
+use Rattle.pbd_world.specs.World.{World}
 use Rattle.pbd_world.specs.declared.command.Command.TheVariants as commands
-use Rattle.pbd_world.specs.World.{World, AreOfOneScene}
+use Rattle.pbd_step.specs.States.{world_of}
 use Rattle.pbd_step.specs.declared.state.State.{State}
-use Rattle.pbd_step.specs.Solving.{Solved}
-use Rattle.pbd_step.specs.States.{world_of, HasLinks}
-use Rattle.pbd_step.proofs.Keeping.{obeyed, place_means, kept_now}
+use Rattle.pbd_step.proofs.Keeping.{commanded, seen_commanded, place_means, kept_linked}
 use Rattle.pbd_step.proofs.solver.Solver.place_held.Goals as goal
 
 pub invariant_of-self : goal.invariant_of-self
 invariant_of-self g c =
-    let setting = c.self.inside.setting in
-    let run = c.self.inside.run in
-    let led = obeyed (commands.Move c.args.i c.args.to) c.place_held.ensures.obeys c.self.invariant.sound (place_means (world_of setting run.state) c.args.i c.args.to) in
-    let links = ap (λ (s : State g.row.L). s.links.items) c.place_held.ensures.same in
-    kept_now setting setting run.state c.place_held.new.state c.self.inside.kept run.colours run.tools led.0 led.1 c.self.invariant.alike
-    (subst (λ (ls : _). HasLinks (length run.state.store.particles) ls run.colours) (sym links) c.self.invariant.links) c.self.invariant.space
+    let w = world_of c.self.inside.setting c.self.inside.run.state in
+    let done = commanded (commands.Move c.args.i c.args.to) c.place_held.ensures.obeys c.self.invariant.sound (place_means w c.args.i c.args.to) in
+    kept_linked c.self.invariant done (ap (λ (s : State g.row.L). s.links.items) c.place_held.ensures.same)
 
-pub returns-clause-sound : goal.returns-clause-sound
-returns-clause-sound g c = (invariant_of-self g c).sound
-
-pub returns-clause-one_scene : goal.returns-clause-one_scene
-returns-clause-one_scene g c =
-    let setting = c.self.inside.setting in
-    let led = obeyed (commands.Move c.args.i c.args.to) c.place_held.ensures.obeys c.self.invariant.sound (place_means (world_of setting c.self.inside.run.state) c.args.i c.args.to) in
-    subst (λ (v : World). AreOfOneScene v (world_of setting c.place_held.new.state)) (ap (λ (s : Solved g.row.P.Denot). s.world) c.self.view_is) led.1
+pub returns-clause-commanded : goal.returns-clause-commanded
+returns-clause-commanded g c =
+    let w = world_of c.self.inside.setting c.self.inside.run.state in
+    seen_commanded (λ (v : World). place_held v c.args.i c.args.to) c.self.view_is (commanded (commands.Move c.args.i c.args.to) c.place_held.ensures.obeys c.self.invariant.sound (place_means w c.args.i c.args.to))
