@@ -153,6 +153,7 @@ fn a_reader_of_std_goes_on_after_a_fault(rt: HostRuntime) {
         let answered = get(&mut source, &mut into);
         assert!(rt; (answered, into.as_slice()) == (*answer, *given));
     }
+    drop(source);
 }
 
 /// What is written, and the answer.
@@ -174,5 +175,7 @@ fn a_writer_of_std_fails_and_goes_on(rt: HostRuntime) {
     for (piece, answer) in &STD_WRITES {
         assert!(rt; put(&mut sink, piece) == *answer, "at {piece:?}");
     }
+    drop(sink);
     assert!(rt; held.as_slice() == b"abdehijk".as_slice());
+    drop(held);
 }

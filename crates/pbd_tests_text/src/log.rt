@@ -122,26 +122,6 @@ fn failing(alloc: Global, room: usize, call: u64, taken: usize) -> Result<MemSin
     MemSink::open(alloc, room, fails)
 }
 
-/// Whether writing a log comes to its end, or else fails, and the sink holds these bytes then.
-fn writes(mut sink: MemSink, scene: &[u8], entries: &[Entry], ends: bool, held: &[u8]) -> bool
-    requires scene { length scene.now < 2 ^ 32 }
-    requires grammar { All IsGrammatical entries.now }
-    requires room { length entries.now < 2 ^ 32 }
-{
-    let ended = write_log(&mut sink, 536_870_912, scene, entries).is_ok();
-    let same = ended == ends && sink.written() == held;
-    drop(sink);
-    same
-}
-
-#[test]
-fn writes_the_examples(rt: HostRuntime) {
-    let sink = MemSink::open(rt.alloc(), 31, Vec::new(rt.alloc())).expect(&rt, "no memory");
-    assert!(rt; writes(sink, &[], &[frame()], true, SMALL.as_slice()));
-    let sink = MemSink::open(rt.alloc(), 158, Vec::new(rt.alloc())).expect(&rt, "no memory");
-    assert!(rt; writes(sink, &SCENE, &[step(), frame()], true, LONG.as_slice()));
-}
-
 /// Whether a log goes on with just these commands and replies, and with these sums where sums stand.
 fn has_replies(view: &mut LogView<'_>, replies: &[(Command, Reply)], sums: &FrameSums) -> bool {
     for (command, reply) in replies {
@@ -269,9 +249,12 @@ fn first_wrong_cut(bytes: &[u8], rows: &[(usize, u64)]) -> Option<usize> {
 }
 
 #[test]
-fn refuses_each_cut(rt: HostRuntime) {
+fn refuses_each_cut_and_what_is_too_long(rt: HostRuntime) {
     for (bytes, rows) in &CUTS {
         assert!(rt; first_wrong_cut(bytes, rows) == None);
+    }
+    for (bytes, offset) in &TOO_LONG {
+        assert!(rt; offset_of(bytes) == Some(*offset));
     }
 }
 
@@ -314,11 +297,6 @@ static SMALL_CHANGED: [Wrong; 17] = [
     (30, 2, Some(22)),
 ];
 
-#[test]
-fn looks_at_each_field(rt: HostRuntime) {
-    compare_wrong(&rt, &SMALL, &SMALL_CHANGED);
-}
-
 static OLD_SMALL_CHANGED: [Wrong; 4] = [
     (11, 12, Some(8)),
     (12, 10, Some(12)),
@@ -334,25 +312,31 @@ static OLD_LEAVES_CHANGED: [Wrong; 5] = [
     (30, 5, Some(12)),
 ];
 
-// A header of version 1 with the greatest length of a scene.
-static LONG_SCENE: [u8; 12] = [80, 66, 68, 83, 76, 79, 71, 1, 255, 255, 255, 255];
-
 #[test]
-fn looks_at_each_field_of_version_1(rt: HostRuntime) {
+fn looks_at_each_field(rt: HostRuntime) {
+    compare_wrong(&rt, &SMALL, &SMALL_CHANGED);
     compare_wrong(&rt, &OLD_SMALL, &OLD_SMALL_CHANGED);
     compare_wrong(&rt, &OLD_LEAVES, &OLD_LEAVES_CHANGED);
-    assert!(rt; offset_of(&LONG_SCENE) == Some(8));
 }
 
-#[test]
-fn refuses_bytes_after_the_end(rt: HostRuntime) {
-    let mut longer = [0; 32];
-    longer[..31].copy_from_slice(SMALL.as_slice());
-    assert!(rt; offset_of(&longer) == Some(31));
-    let mut longer = [2; 40];
-    longer[..23].copy_from_slice(OLD_SMALL.as_slice());
-    assert!(rt; offset_of(&longer) == Some(23));
-}
+/// A header of version 1 with the greatest length of a scene, logs with bytes after the end, and where they are refused.
+static TOO_LONG: [(&[u8], u64); 3] = [
+    (&[80, 66, 68, 83, 76, 79, 71, 1, 255, 255, 255, 255], 8),
+    (
+        &[
+            80, 66, 68, 83, 76, 79, 71, 2, 0, 0, 0, 0, 32, 0, 0, 0, 0, 0, 0, 0, 2, 0, 0, 0, 0, 0,
+            0, 0, 0, 0, 1, 0,
+        ],
+        31,
+    ),
+    (
+        &[
+            80, 66, 68, 83, 76, 79, 71, 1, 0, 0, 0, 0, 2, 0, 0, 0, 0, 0, 0, 0, 0, 0, 1, 2, 2, 2, 2,
+            2, 2, 2, 2, 2, 2, 2, 2, 2, 2, 2, 2, 2,
+        ],
+        23,
+    ),
+];
 
 const FAR: Vec3 = Vec3 {
     x: i64::MIN,
@@ -433,8 +417,11 @@ fn reads_back_what_it_wrote(rt: HostRuntime) {
     drop(sink);
 }
 
-/// Calls that fail, how many bytes they take, and how many the sink holds then.
-static FAILING_CALLS: [(u64, usize, usize); 8] = [
+/// A call that fails, how many bytes it takes, and how many the sink holds then. No call has the number 0.
+type Cut = (u64, usize, usize);
+
+static LONG_CUTS: [Cut; 9] = [
+    (0, 0, 158),
     (1, 0, 0),
     (1, 19, 19),
     (2, 0, 20),
@@ -445,32 +432,35 @@ static FAILING_CALLS: [(u64, usize, usize); 8] = [
     (5, 8, 157),
 ];
 
-/// The first bytes of the long log.
-fn beginning(held: usize) -> &'static [u8] {
-    &LONG[..held.min(158)]
+static SMALL_CUTS: [Cut; 4] = [(0, 0, 31), (1, 0, 0), (2, 0, 20), (3, 0, 22)];
+
+/// Whether a log of a scene and entries is this one, up to the call that fails.
+fn writes(alloc: Global, scene: &[u8], entries: &[Entry], log: &[u8], cut: &Cut) -> bool
+    requires scene { length scene.now < 2 ^ 32 }
+    requires grammar { All IsGrammatical entries.now }
+    requires room { length entries.now < 2 ^ 32 }
+{
+    let (call, taken, held) = *cut;
+    match failing(alloc, log.len(), call, taken) {
+        Ok(mut sink) => {
+            let ended = write_log(&mut sink, 536_870_912, scene, entries).is_ok();
+            let same = sink.written().len() == held && log.starts_with(sink.written());
+            drop(sink);
+            same && ended == (call == 0)
+        }
+        Err(_) => false,
+    }
 }
 
 // The header, the scene, each entry and the end are one call each.
 #[test]
 fn stops_at_the_call_that_fails(rt: HostRuntime) {
-    for (call, taken, held) in &FAILING_CALLS {
-        let sink = failing(rt.alloc(), 158, *call, *taken).expect(&rt, "no memory");
+    for cut in &LONG_CUTS {
         let entries = [step(), frame()];
-        assert!(rt;
-            writes(sink, &SCENE, &entries, false, beginning(*held)),
-            "call {call}"
-        );
+        assert!(rt; writes(rt.alloc(), &SCENE, &entries, &LONG, cut), "{cut:?}");
     }
-}
-
-#[test]
-fn stops_at_the_call_that_fails_of_an_empty_scene(rt: HostRuntime) {
-    for (call, held) in [(1, 0), (2, 20), (3, 22)] {
-        let sink = failing(rt.alloc(), 31, call, 0).expect(&rt, "no memory");
-        assert!(rt;
-            writes(sink, &[], &[frame()], false, &SMALL[..held]),
-            "call {call}"
-        );
+    for cut in &SMALL_CUTS {
+        assert!(rt; writes(rt.alloc(), &[], &[frame()], &SMALL, cut), "{cut:?}");
     }
 }
 

@@ -2,13 +2,12 @@
 ghost use Rattle.std.specs.Prelude.{◌≡◌, ◌≤◌, ◌<◌, IsTrue, length, pos};
 ghost use Rattle.pbd_world.specs.Valid.{is_valid};
 
-use crate::parts::{compare_links, empty_parts, link};
+use crate::parts::{empty_parts, link, push_repeated};
 use pbd_io::MemSink;
 use pbd_num::{RANGE, Vec3, inside};
 use pbd_obj::{ObjFault, add_mesh, read_obj, write_face, write_vertex};
 use pbd_world::{Kind, Link, Parts};
-use std::alloc::{AllocError, Global};
-use std::fmt::Write;
+use std::alloc::Global;
 use std::process::Abort;
 
 const SQUARE: &[u8] = b"v 0 0 0\nv 1 0 0\nv 1 1 0\nv 0 1 0\nf 1 2/7 -2//3 4\n";
@@ -132,47 +131,47 @@ fn compare_places(rt: &impl Abort, alloc: Global, text: &[u8], places: &[Vec3]) 
     }
 }
 
-static DECIMALS: [(&[u8], i64); 20] = [
-    (b"v 0.1 0 0", 6554),
-    (b"v 1e-1 0 0", 6554),
-    (b"\tv\t1E-01\t0\t0 7 colour\r\n", 6554),
-    (b"v 0.00000762939453125 0 0", 1),
-    (b"v -0.00000762939453125 0 0", -1),
-    (b"v 0.000007629394531249 0 0", 0),
-    (b"v 762939453125e-17 0 0", 1),
-    (b"v 762939453124e-17 0 0", 0),
-    (b"v -0 0 0", 0),
-    (b"v +1. 0 0", 65_536),
-    (b"v .5 0 0", 32_768),
-    (b"v -8192 0 0", -536_870_912),
-    (b"v 8192.000007 0 0", 536_870_912),
-    (b"v 0.00008192e8 0 0", 536_870_912),
-    (b"v 81920000000000000000000e-19 0 0", 536_870_912),
-    (b"v 0e99 0 0", 0),
-    (b"v 1e-99 0 0", 0),
-    (b"v 999999999999999999999999e-29 0 0", 1),
-    (b"v 999999999999999999999999e-30 0 0", 0),
-    (b"v 000000000000000000000001 0 0", 65_536),
+/// Texts and the places of their vertices.
+static PLACES: [(&[u8], &[Vec3]); 21] = [
+    (b"v 0.1 0 0", &[place!(6554, 0, 0)]),
+    (b"v 1e-1 0 0", &[place!(6554, 0, 0)]),
+    (b"\tv\t1E-01\t0\t0 7 colour\r\n", &[place!(6554, 0, 0)]),
+    (b"v 0.00000762939453125 0 0", &[place!(1, 0, 0)]),
+    (b"v -0.00000762939453125 0 0", &[place!(-1, 0, 0)]),
+    (b"v 0.000007629394531249 0 0", &[place!(0, 0, 0)]),
+    (b"v 762939453125e-17 0 0", &[place!(1, 0, 0)]),
+    (b"v 762939453124e-17 0 0", &[place!(0, 0, 0)]),
+    (b"v -0 0 0", &[place!(0, 0, 0)]),
+    (b"v +1. 0 0", &[place!(65_536, 0, 0)]),
+    (b"v .5 0 0", &[place!(32_768, 0, 0)]),
+    (b"v -8192 0 0", &[place!(-536_870_912, 0, 0)]),
+    (b"v 8192.000007 0 0", &[place!(536_870_912, 0, 0)]),
+    (b"v 0.00008192e8 0 0", &[place!(536_870_912, 0, 0)]),
+    (
+        b"v 81920000000000000000000e-19 0 0",
+        &[place!(536_870_912, 0, 0)],
+    ),
+    (b"v 0e99 0 0", &[place!(0, 0, 0)]),
+    (b"v 1e-99 0 0", &[place!(0, 0, 0)]),
+    (b"v 999999999999999999999999e-29 0 0", &[place!(1, 0, 0)]),
+    (b"v 999999999999999999999999e-30 0 0", &[place!(0, 0, 0)]),
+    (b"v 000000000000000000000001 0 0", &[place!(65_536, 0, 0)]),
+    (
+        SQUARE,
+        &[
+            place!(0, 0, 0),
+            place!(65_536, 0, 0),
+            place!(65_536, 65_536, 0),
+            place!(0, 65_536, 0),
+        ],
+    ),
 ];
 
 #[test]
 fn decimals_and_their_units(rt: HostRuntime) {
-    for (text, units) in &DECIMALS {
-        compare_places(&rt, rt.alloc(), text, &[place!(*units, 0, 0)]);
+    for (text, places) in &PLACES {
+        compare_places(&rt, rt.alloc(), text, places);
     }
-}
-
-static SQUARE_PLACES: [Vec3; 4] = [
-    place!(0, 0, 0),
-    place!(65_536, 0, 0),
-    place!(65_536, 65_536, 0),
-    place!(0, 65_536, 0),
-];
-
-#[test]
-fn a_square_is_read(rt: HostRuntime) {
-    compare_places(&rt, rt.alloc(), SQUARE, &SQUARE_PLACES);
-    compare_faces(&rt, rt.alloc(), SQUARE, &[4], &[0, 1, 2, 3]);
 }
 
 /// What becomes of parts to which the mesh of a text is added.
@@ -218,44 +217,41 @@ fn a_mesh_is_added_face_by_face(rt: HostRuntime) {
     let mut parts = empty_parts(rt.alloc(), RANGE);
     assert!(rt; added(rt.alloc(), text, &mut parts) == Ok(()));
     assert!(rt; parts.particles.len() == 5);
-    compare_links(&rt, parts.links.as_slice(), &TWO_FACES);
+    assert!(rt; parts.links.as_slice() == TWO_FACES.as_slice());
     drop(parts);
 }
 
-/// Writes a fan of triangles round vertex 1: so many links meet there as it has outer vertices.
-fn write_fan(text: &mut String, outer: u32) -> Result<(), AllocError>
-    requires { outer ≤ 100 }
-{
-    for _ in 0..=outer {
-        text.push_str("v 0 0 0\n")?;
-    }
-    for i in 1..outer {
-        write!(text, "f 1 {} {}\n", i + 1, i + 2)?;
-    }
-    Ok(())
-}
+/// A text, another that comes so many times behind it, and what becomes of no parts to which they are added.
+type Repeated = (&'static str, &'static str, u32, Result<(), ObjFault>);
 
-/// What becomes of no parts to which a fan is added.
-fn fan_added(rt: &impl Abort, alloc: Global, outer: u32) -> Result<(), ObjFault>
-    requires { outer ≤ 100 }
-{
-    let mut text = String::new(alloc);
-    let outcome = match write_fan(&mut text, outer) {
-        Ok(()) => {
-            let bytes = text.as_bytes();
-            assert!(rt; bytes.len() < 10_000);
-            added_alone(alloc, bytes)
-        }
-        Err(AllocError) => Err(ObjFault::OutOfMemory),
-    };
-    drop(text);
-    outcome
-}
+/// The first two vertices of a fan, and what each further one is: so many links meet at the first as there are others.
+const FAN: &str = "v 0 0 0\nv 0 0 0\n";
+
+const TRIANGLE: &str = "v 0 0 0\nf 1 -2 -1\n";
+
+static LIMITS: [Repeated; 4] = [
+    (FAN, TRIANGLE, 31, Ok(())),
+    (
+        FAN,
+        TRIANGLE,
+        32,
+        Err(ObjFault::TooManyAtParticle { vertex: 1 }),
+    ),
+    ("", "v 0 0 0\n", 65_536, Ok(())),
+    ("", "v 0 0 0\n", 65_537, Err(ObjFault::TooMany)),
+];
 
 #[test]
-fn a_vertex_has_at_most_32_links(rt: HostRuntime) {
-    assert!(rt; fan_added(&rt, rt.alloc(), 32) == Ok(()));
-    assert!(rt; fan_added(&rt, rt.alloc(), 33) == Err(ObjFault::TooManyAtParticle { vertex: 1 }));
+fn a_mesh_has_at_most_32_links_at_a_vertex_and_65536_vertices(rt: HostRuntime) {
+    for (first, piece, count, outcome) in &LIMITS {
+        let mut text = String::new(rt.alloc());
+        assert!(rt; push_repeated(&mut text, first, piece, *count, ""));
+        let bytes = text.as_bytes();
+        assert!(rt; bytes.len() < 1_000_000);
+        let added = added_alone(rt.alloc(), bytes);
+        drop(text);
+        assert!(rt; added == *outcome, "{count} times");
+    }
 }
 
 /// Compares the sizes and the corners that a short text gives.
@@ -272,7 +268,8 @@ fn compare_faces(rt: &impl Abort, alloc: Global, text: &[u8], sizes: &[u32], cor
 }
 
 /// Texts, and the sizes and the corners of their faces.
-static OTHER_PROGRAMS: [(&[u8], &[u32], &[u32]); 6] = [
+static OTHER_PROGRAMS: [(&[u8], &[u32], &[u32]); 7] = [
+    (SQUARE, &[4], &[0, 1, 2, 3]),
     (
         b"# Blender\r\nmtllib plane.mtl\r\no Plane\r\nv -1.000000 0.000000 1.000000\r\nv 1 0 1\r\nv 1 0 -1\r\nv -1 0 -1\r\nvn -0.0000 1.0000 -0.0000\r\nvt 0.0 1.0\r\ns 0\r\nusemtl None\r\nf 1/1/1 2/2/1 3/3/1 4/4/1\r\n",
         &[4],
@@ -304,61 +301,26 @@ fn files_of_other_programs_are_read(rt: HostRuntime) {
     }
 }
 
-/// What becomes of no parts to which so many vertices at one place are added.
-fn vertices_added(rt: &impl Abort, alloc: Global, count: usize) -> Result<(), ObjFault> {
-    match "v 0 0 0\n".repeat(alloc, count) {
-        Ok(text) => {
-            let bytes = text.as_bytes();
-            assert!(rt; bytes.len() < 1_000_000);
-            let outcome = added_alone(alloc, bytes);
-            drop(text);
-            outcome
-        }
-        Err(_) => Err(ObjFault::OutOfMemory),
-    }
-}
-
-#[test]
-fn a_mesh_has_at_most_65536_vertices(rt: HostRuntime) {
-    assert!(rt; vertices_added(&rt, rt.alloc(), 65_536) == Ok(()));
-    assert!(rt; vertices_added(&rt, rt.alloc(), 65_537) == Err(ObjFault::TooMany));
-}
-
-/// The line of a vertex, as it is written, compared with what it should be.
-fn compare_vertex(rt: &impl Abort, mut sink: MemSink, place: Vec3, line: &[u8]) {
-    assert!(rt; inside(place));
-    assert!(rt; write_vertex(place, &mut sink) == Ok(()));
-    assert!(rt; sink.written() == line);
-    drop(sink);
-}
-
-/// Places and their lines.
-static VERTICES: [(Vec3, &[u8]); 4] = [
-    (place!(0, 65_536, -98_304), b"v 0 1 -1.5\n"),
-    (
-        place!(6554, 1, -1),
-        b"v 0.100006103515625 0.0000152587890625 -0.0000152587890625\n",
-    ),
-    (
-        place!(536_870_912, -536_870_912, 536_870_911),
-        b"v 8192 -8192 8191.9999847412109375\n",
-    ),
-    (place!(32_768, 655_360, 8), b"v 0.5 10 0.0001220703125\n"),
+/// Places, whose lines are the first of those below.
+static VERTICES: [Vec3; 4] = [
+    place!(0, 65_536, -98_304),
+    place!(6554, 1, -1),
+    place!(536_870_912, -536_870_912, 536_870_911),
+    place!(32_768, 655_360, 8),
 ];
+
+static LINES: &[u8] =
+    b"v 0 1 -1.5\nv 0.100006103515625 0.0000152587890625 -0.0000152587890625\nv 8192 -8192 8191.9999847412109375\nv 0.5 10 0.0001220703125\nf 1 4 100\nf 11 12 13 14\n";
 
 #[test]
 fn lines_of_a_mesh(rt: HostRuntime) {
-    for (place, line) in &VERTICES {
-        let sink = MemSink::open(rt.alloc(), 100, Vec::new(rt.alloc())).expect(&rt, "no memory");
-        compare_vertex(&rt, sink, *place, line);
+    let mut sink = MemSink::open(rt.alloc(), 200, Vec::new(rt.alloc())).expect(&rt, "no memory");
+    for place in &VERTICES {
+        assert!(rt; inside(*place));
+        assert!(rt; write_vertex(*place, &mut sink) == Ok(()));
     }
-}
-
-#[test]
-fn lines_of_faces(rt: HostRuntime) {
-    let mut sink = MemSink::open(rt.alloc(), 100, Vec::new(rt.alloc())).expect(&rt, "no memory");
     assert!(rt; write_face(&[0, 3, 99], 0, &mut sink) == Ok(()));
     assert!(rt; write_face(&[0, 1, 2, 3], 10, &mut sink) == Ok(()));
-    assert!(rt; sink.written() == &b"f 1 4 100\nf 11 12 13 14\n"[..]);
+    assert!(rt; sink.written() == LINES);
     drop(sink);
 }

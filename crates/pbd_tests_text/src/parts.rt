@@ -4,7 +4,6 @@ ghost use Rattle.pbd_world.specs.Valid.{is_valid, is_limit};
 
 use pbd_world::{Link, Parts};
 use std::alloc::Global;
-use std::process::Abort;
 
 /// No particles, links, shapes or tracks.
 #[tactic(auto, unfolding(pbd_world::specs::Valid::is_valid, pbd_world::specs::Valid::is_well_formed))]
@@ -34,7 +33,15 @@ macro_rules! link {
 
 pub(crate) use link;
 
-/// Compares links with those of a table.
-pub fn compare_links(rt: &impl Abort, links: &[Link], wanted: &[Link]) {
-    assert!(rt; links == wanted);
+/// Adds a text, so many times another, and a last one, where there is memory.
+pub fn push_repeated(text: &mut String, first: &str, piece: &str, count: u32, last: &str) -> bool {
+    if text.push_str(first).is_err() {
+        return false;
+    }
+    for _ in 0..count {
+        if text.push_str(piece).is_err() {
+            return false;
+        }
+    }
+    text.push_str(last).is_ok()
 }

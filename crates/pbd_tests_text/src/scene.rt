@@ -1,5 +1,5 @@
 //! Scenes, each with the first rule that it breaks, and what an accepted one holds.
-use crate::parts::{compare_links, link};
+use crate::parts::link;
 use crate::scene_keys::KEY_CASES;
 use pbd_num::Vec3;
 use pbd_scene::{SceneFault, read_scene};
@@ -42,6 +42,7 @@ particle=[{at=[536870912,0,0],velocity=[-1,0,0]}] => 5 particle 0 velocity
 particle=[{at=[536870912,0,0],velocity=[-1,0,0],weight=0}] => 5 particle 0 weight
 particle=[{at=[536870912,0,0],velocity=[1073741824,0,0],held=true}] => ok
 cloth=[{}] => 3 cloth 0 origin
+cloth=[{origin=[0,0,0],across=[9,0,0],down=[0,0,9],rows=256,columns=256}] => ok
 cloth=[{origin=[0,0,0],across=[1,0,0],down=[0,0,1],rows=0,columns=257}] => 5 cloth 0 rows
 cloth=[{origin=[0,0,0],across=[1,0,0],down=[0,0,1],rows=2,columns=257}] => 5 cloth 0 columns
 cloth=[{origin=[0,0,0],across=[1,0,0],down=[0,0,1],rows=2,columns=2,bend=257}] => 5 cloth 0 bend
@@ -89,52 +90,48 @@ particle=[{at=[0,0,0]}]; track=[{particle=0,keys=[[3,5,6,7],[4,1,1,1]]}] => ok
 track=1; sphere=[2] => 4 sphere 0 -
 track=1 => 4 track 0 -";
 
-/// What is told of a fault.
-fn told(alloc: Global, fault: SceneFault) -> Result<String, AllocError> {
+/// Whether a fault is the one of an answer: its rule, table, position and key.
+fn is_told(fault: SceneFault, answer: &str) -> bool {
     match fault {
-        SceneFault::NotToml => String::from_str(alloc, "not toml"),
-        SceneFault::OutOfMemory => String::from_str(alloc, "out of memory"),
+        SceneFault::NotToml => answer == "not toml",
+        SceneFault::OutOfMemory => false,
         SceneFault::Refused {
             rule,
             table,
             position,
             key,
-        } => format!(in alloc; "{} {} {} {}", rule.number(), table, position, key),
-    }
-}
-
-/// What is told of a text.
-fn told_of(alloc: Global, text: &str) -> Result<String, AllocError> {
-    match read_scene(alloc, text, LIMIT) {
-        Ok(scene) => {
-            drop(scene);
-            String::from_str(alloc, "ok")
+        } => {
+            let (number, rest) = answer.split_once(' ').unwrap_or(("", ""));
+            let (name, rest) = rest.split_once(' ').unwrap_or(("", ""));
+            let (place, last) = rest.split_once(' ').unwrap_or(("", ""));
+            number.parse::<u8>().ok() == Some(rule.number())
+                && name == table.name()
+                && place.parse::<u32>().ok() == Some(position)
+                && last == key.name()
         }
-        Err(fault) => told(alloc, fault),
     }
 }
 
 /// Whether this is told of a text.
-fn answers(alloc: Global, text: &str, answer: &str) -> Result<bool, AllocError> {
-    match told_of(alloc, text) {
-        Ok(told) => {
-            let same = told.as_str() == answer;
-            drop(told);
-            Ok(same)
+fn answers(alloc: Global, text: &str, answer: &str) -> bool {
+    match read_scene(alloc, text, LIMIT) {
+        Ok(scene) => {
+            drop(scene);
+            answer == "ok"
         }
-        Err(error) => Err(error),
+        Err(fault) => is_told(fault, answer),
     }
 }
 
 /// Whether this is told of a scene whose lines end with `;`.
-fn answers_lines(alloc: Global, scene: &str, answer: &str) -> Result<bool, AllocError> {
+fn answers_lines(alloc: Global, scene: &str, answer: &str) -> bool {
     match scene.replace(alloc, ";", "\n") {
         Ok(text) => {
             let same = answers(alloc, text.as_str(), answer);
             drop(text);
             same
         }
-        Err(error) => Err(error),
+        Err(_) => false,
     }
 }
 
@@ -142,167 +139,163 @@ fn answers_lines(alloc: Global, scene: &str, answer: &str) -> Result<bool, Alloc
 fn tell_of(rt: &impl Abort, alloc: Global, cases: &str) {
     for line in cases.lines() {
         let (scene, answer) = line.split_once(" => ").unwrap_or((line, "no answer"));
-        assert!(rt; answers_lines(alloc, scene, answer) == Ok(true), "{line}");
+        assert!(rt; answers_lines(alloc, scene, answer), "{line}");
     }
 }
 
 #[test]
 fn the_first_broken_rule_is_told(rt: HostRuntime) {
     tell_of(&rt, rt.alloc(), CASES);
-}
-
-#[test]
-fn each_key_has_its_rules(rt: HostRuntime) {
     tell_of(&rt, rt.alloc(), KEY_CASES);
 }
 
-/// Writes an array: its beginning, so many times an item, and its end.
-fn write_array(text: &mut String, begins: &str, item: &str, count: u32) -> Result<(), AllocError> {
-    text.push_str(begins)?;
-    for _ in 0..count {
-        text.push_str(item)?;
+/// A text for each number from the first on and below the second: its beginning, and texts with a number before each, which is
+/// so much more.
+type Lines = (u32, u32, &'static str, &'static [(u32, &'static str)]);
+
+fn push_number(text: &mut String, number: u32, behind: &str) -> Result<(), AllocError> {
+    write!(text, "{number}")?;
+    text.push_str(behind)
+}
+
+fn push_line(text: &mut String, number: u32, lines: &Lines) -> bool {
+    if text.push_str(lines.2).is_err() {
+        return false;
     }
-    text.push_str("]")
+    for (more, behind) in lines.3 {
+        if push_number(text, number.saturating_add(*more), behind).is_err() {
+            return false;
+        }
+    }
+    true
 }
 
-/// What is told of a scene with such an array.
-fn array_answers(
-    alloc: Global,
-    begins: &str,
-    item: &str,
-    count: u32,
-    answer: &str,
-) -> Result<bool, AllocError> {
-    let mut text = String::new(alloc);
-    let same = match write_array(&mut text, begins, item, count) {
-        Ok(()) => answers(alloc, text.as_str(), answer),
-        Err(error) => Err(error),
-    };
-    drop(text);
-    same
+fn push_lines(text: &mut String, lines: &Lines) -> bool {
+    for number in lines.0..lines.1 {
+        if !push_line(text, number, lines) {
+            return false;
+        }
+    }
+    true
 }
 
-/// The beginning of an array, an item, how many of it are too many, and what is told.
-static TOO_MANY: [(&str, &str, u32, &str); 8] = [
-    ("particle=[", "{},", 65_537, "6 particle 0 -"),
-    ("cloth=[", "{},", 65, "6 cloth 0 -"),
-    ("rope=[", "{},", 65, "6 rope 0 -"),
-    ("link=[", "{},", 524_289, "6 link 0 -"),
-    ("plane=[", "{},", 257, "6 plane 0 -"),
-    ("sphere=[", "{},", 257, "6 sphere 0 -"),
-    ("track=[", "{},", 4_097, "6 track 0 -"),
-    ("pins=[", "0,", 65_537, "6 scene 0 pins"),
+fn push_all(text: &mut String, parts: &[Lines]) -> bool {
+    for lines in parts {
+        if !push_lines(text, lines) {
+            return false;
+        }
+    }
+    true
+}
+
+const TWO: Lines = (
+    0,
+    1,
+    "particle=[{at=[0,0,0]},{at=[0,0,0]}]\ntrack=[{particle=0,keys=[[0,0,0,0]]},{particle=1,keys=[",
+    &[],
+);
+
+/// 390,658 links.
+const WIDE: Lines = (
+    0,
+    1,
+    "cloth=[{origin=[0,0,0],across=[9,0,0],down=[0,0,9],rows=256,columns=256}]\nlink=[",
+    &[],
+);
+
+/// Links to the particle three numbers on, and to that five numbers on: 131,064.
+const BY_THREE: Lines = (0, 65_533, "{a=", &[(0, ",b="), (3, "},")]);
+
+const BY_FIVE: Lines = (0, 65_531, "{a=", &[(0, ",b="), (5, "},")]);
+
+const HUB: Lines = (0, 34, "[[particle]]\nat = [", &[(0, ", 0, 0]\n")]);
+
+const SPOKES: Lines = (1, 33, "[[link]]\na = ", &[(0, "\nb = 0\n")]);
+
+const END: Lines = (0, 1, "]", &[]);
+
+/// Scenes, and what is told of them: entries, keys, links of meshes and entries, and links of one particle up to their greatest
+/// numbers and past them.
+static LIMITS: [(&[Lines], &str); 15] = [
+    (
+        &[(0, 1, "particle=[", &[]), (0, 65_537, "{},", &[]), END],
+        "6 particle 0 -",
+    ),
+    (
+        &[(0, 1, "cloth=[", &[]), (0, 65, "{},", &[]), END],
+        "6 cloth 0 -",
+    ),
+    (
+        &[(0, 1, "rope=[", &[]), (0, 65, "{},", &[]), END],
+        "6 rope 0 -",
+    ),
+    (
+        &[(0, 1, "link=[", &[]), (0, 524_289, "{},", &[]), END],
+        "6 link 0 -",
+    ),
+    (
+        &[(0, 1, "plane=[", &[]), (0, 257, "{},", &[]), END],
+        "6 plane 0 -",
+    ),
+    (
+        &[(0, 1, "sphere=[", &[]), (0, 257, "{},", &[]), END],
+        "6 sphere 0 -",
+    ),
+    (
+        &[(0, 1, "track=[", &[]), (0, 4_097, "{},", &[]), END],
+        "6 track 0 -",
+    ),
+    (
+        &[(0, 1, "pins=[", &[]), (0, 65_537, "0,", &[]), END],
+        "6 scene 0 pins",
+    ),
+    (
+        &[TWO, (0, 1_024, "[", &[(0, ",0,0,0],")]), (0, 1, "]}]", &[])],
+        "ok",
+    ),
+    (
+        &[TWO, (0, 1_025, "[", &[(0, ",0,0,0],")]), (0, 1, "]}]", &[])],
+        "6 track 1 keys",
+    ),
+    (
+        &[
+            WIDE,
+            BY_THREE,
+            BY_FIVE,
+            (0, 2_566, "{a=", &[(0, ",b="), (7, "},")]),
+            END,
+        ],
+        "ok",
+    ),
+    (
+        &[
+            WIDE,
+            BY_THREE,
+            BY_FIVE,
+            (0, 2_567, "{a=", &[(0, ",b="), (7, "},")]),
+            END,
+        ],
+        "6 link 133630 -",
+    ),
+    (&[HUB, SPOKES], "ok"),
+    (
+        &[HUB, SPOKES, (0, 1, "[[link]]\na = 33\nb = 0\n", &[])],
+        "10 link 32 b",
+    ),
+    (
+        &[HUB, SPOKES, (0, 1, "[[link]]\na = 0\nb = 33\n", &[])],
+        "10 link 32 a",
+    ),
 ];
 
 #[test]
-fn entries_past_the_greatest_number_are_refused(rt: HostRuntime) {
-    for (begins, item, count, answer) in &TOO_MANY {
-        assert!(rt;
-            array_answers(rt.alloc(), begins, item, *count, answer) == Ok(true),
-            "{begins}"
-        );
-    }
-}
-
-/// Writes two particles, and a second track with so many keys, one at each step from 0 on.
-fn write_keys(text: &mut String, count: u32) -> Result<(), AllocError> {
-    text.push_str("particle=[{at=[0,0,0]},{at=[0,0,0]}]\n")?;
-    text.push_str("track=[{particle=0,keys=[[0,0,0,0]]},{particle=1,keys=[")?;
-    for step in 0..count {
-        write!(text, "[{step},0,0,0],")?;
-    }
-    text.push_str("]}]")
-}
-
-/// Whether this is told of a scene with so many keys.
-fn keys_answer(alloc: Global, count: u32, answer: &str) -> Result<bool, AllocError> {
-    let mut text = String::new(alloc);
-    let same = match write_keys(&mut text, count) {
-        Ok(()) => answers(alloc, text.as_str(), answer),
-        Err(error) => Err(error),
-    };
-    drop(text);
-    same
-}
-
-#[test]
-fn keys_past_the_greatest_number_are_refused(rt: HostRuntime) {
-    assert!(rt; keys_answer(rt.alloc(), 1_024, "ok") == Ok(true));
-    assert!(rt; keys_answer(rt.alloc(), 1_025, "6 track 1 keys") == Ok(true));
-}
-
-/// Writes links from each of the first particles to the one so many numbers on.
-fn write_links(text: &mut String, apart: u32, count: u16) -> Result<(), AllocError> {
-    for i in 0..count {
-        write!(text, "{{a={i},b={}}},", u32::from(i).saturating_add(apart))?;
-    }
-    Ok(())
-}
-
-/// Writes a cloth of 390,658 links, and 131,064 links more and then so many.
-fn write_cloth_and_links(text: &mut String, last: u16) -> Result<(), AllocError> {
-    text.push_str(
-        "cloth=[{origin=[0,0,0],across=[9,0,0],down=[0,0,9],rows=256,columns=256}]\nlink=[",
-    )?;
-    write_links(text, 3, 65_533)?;
-    write_links(text, 5, 65_531)?;
-    write_links(text, 7, last)?;
-    text.push_str("]")
-}
-
-/// Whether this is told of a scene with so many links more.
-fn links_answer(alloc: Global, last: u16, answer: &str) -> Result<bool, AllocError> {
-    let mut text = String::new(alloc);
-    let same = match write_cloth_and_links(&mut text, last) {
-        Ok(()) => answers(alloc, text.as_str(), answer),
-        Err(error) => Err(error),
-    };
-    drop(text);
-    same
-}
-
-#[test]
-fn links_of_meshes_and_entries_count_together(rt: HostRuntime) {
-    assert!(rt; links_answer(rt.alloc(), 2_566, "ok") == Ok(true));
-    assert!(rt; links_answer(rt.alloc(), 2_567, "6 link 133630 -") == Ok(true));
-}
-
-/// Writes 34 particles, 32 links to particle 0, and what follows them.
-fn write_hub(text: &mut String, last: &str) -> Result<(), AllocError> {
-    for i in 0..34 {
-        write!(text, "[[particle]]\nat = [{i}, 0, 0]\n")?;
-    }
-    for i in 1..33 {
-        write!(text, "[[link]]\na = {i}\nb = 0\n")?;
-    }
-    text.push_str(last)
-}
-
-/// Whether this is told of a scene that ends so.
-fn hub_answers(alloc: Global, last: &str, answer: &str) -> Result<bool, AllocError> {
-    let mut text = String::new(alloc);
-    let same = match write_hub(&mut text, last) {
-        Ok(()) => answers(alloc, text.as_str(), answer),
-        Err(error) => Err(error),
-    };
-    drop(text);
-    same
-}
-
-/// Ends of the scene, and what is told of it.
-static HUB_ENDS: [(&str, &str); 3] = [
-    ("", "ok"),
-    ("[[link]]\na = 33\nb = 0\n", "10 link 32 b"),
-    ("[[link]]\na = 0\nb = 33\n", "10 link 32 a"),
-];
-
-#[test]
-fn the_thirty_third_link_is_refused(rt: HostRuntime) {
-    for (last, answer) in &HUB_ENDS {
-        assert!(rt;
-            hub_answers(rt.alloc(), last, answer) == Ok(true),
-            "{answer}"
-        );
+fn what_is_past_the_greatest_numbers_is_refused(rt: HostRuntime) {
+    for (parts, answer) in &LIMITS {
+        let mut text = String::new(rt.alloc());
+        assert!(rt; push_all(&mut text, parts));
+        let told = answers(rt.alloc(), text.as_str(), answer);
+        drop(text);
+        assert!(rt; told, "{answer}");
     }
 }
 
@@ -336,14 +329,10 @@ static ENTRIES: [Particle; 4] = [
     particle!(vector!(5, 5, 5), vector!(5, 5, 5), 1, true),
 ];
 
-/// Compares the links and the particles of the scene below.
+/// Compares the links and the particles of the scene below, and its own numbers with what they are where it has gravity alone.
 fn compare_entries(rt: &impl Abort, parts: &Parts) {
-    compare_links(rt, parts.links.as_slice(), &ENTRY_LINKS);
+    assert!(rt; parts.links.as_slice() == ENTRY_LINKS.as_slice());
     assert!(rt; parts.particles.as_slice() == ENTRIES.as_slice());
-}
-
-/// Compares the scene's own numbers with what they are where a scene has gravity alone.
-fn compare_defaults(rt: &impl Abort, parts: &Parts) {
     assert!(rt; parts.gravity.y == -10);
     assert!(rt; (parts.passes, parts.damping, parts.thickness, parts.friction) == (1, 0, 0, 0));
     assert!(rt; parts.limit == LIMIT);
@@ -361,15 +350,8 @@ fn defaults_and_what_is_held(rt: HostRuntime) {
     match read_scene(rt.alloc(), text, LIMIT) {
         Ok(scene) => {
             compare_entries(&rt, scene.parts());
-            compare_defaults(&rt, scene.parts());
             drop(scene);
         }
         Err(fault) => assert!(rt; false, "{fault:?}"),
     }
-}
-
-#[test]
-fn the_largest_cloth_is_read(rt: HostRuntime) {
-    let text = "cloth=[{origin=[0,0,0],across=[9,0,0],down=[0,0,9],rows=256,columns=256}]";
-    assert!(rt; answers(rt.alloc(), text, "ok") == Ok(true));
 }
