@@ -30,11 +30,11 @@ macro_rules! link {
 type Numbers = Result<[Option<u32>; 3], AllocError>;
 
 fn first_three(numbers: &[u32]) -> [Option<u32>; 3] {
-    let mut first = [None; 3];
-    for (place, number) in first.iter_mut().zip(numbers) {
-        *place = Some(*number);
-    }
-    first
+    [
+        numbers.first().copied(),
+        numbers.get(1).copied(),
+        numbers.get(2).copied(),
+    ]
 }
 
 /// The first three torn numbers of four links.
