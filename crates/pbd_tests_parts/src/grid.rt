@@ -2,7 +2,7 @@
 ghost use Rattle.std.specs.Prelude.{◌≡◌, ◌≤◌, ◌≤ℤ◌, IsTrue, pos, length};
 ghost use Rattle.pbd_grid.specs.Near.{AllInside};
 
-use crate::places::place;
+use crate::places::{place, squared_distance};
 use pbd_grid::{Grid, PairFilter};
 use pbd_num::{RANGE, Vec3, inside};
 use pbd_world::RoomList;
@@ -41,38 +41,22 @@ fn are_inside(places: &[Vec3]) -> bool
     true
 }
 
-// The square of the distance of two places that are in range.
-fn squared_distance(a: Vec3, b: Vec3) -> i64 {
-    let x = a.x.wrapping_sub(b.x);
-    let y = a.y.wrapping_sub(b.y);
-    let z = a.z.wrapping_sub(b.z);
-    (x.wrapping_mul(x))
-        .wrapping_add(y.wrapping_mul(y))
-        .wrapping_add(z.wrapping_mul(z))
-}
-
-// The near pairs that are kept, by looking at all.
-fn near_of_all(
-    alloc: Global,
-    places: &[Vec3],
-    thickness: i64,
-    filter: &AllBut,
-) -> Result<Vec<(u32, u32)>, AllocError>
+// Adds the near pairs that are kept, by looking at all.
+fn push_near(pairs: &mut Vec<(u32, u32)>, places: &[Vec3], thickness: i64, filter: &AllBut) -> bool
     requires { length places.now ≤ 64 }
 {
-    let mut pairs = Vec::new(alloc);
     let bound = thickness.wrapping_mul(thickness);
     let count = places.len() as u32;
     for i in 0..count {
         for j in i + 1..count {
             let squared = squared_distance(places[i as usize], places[j as usize]);
             let is_left_out = i == filter.first && j == filter.second;
-            if squared < bound && !is_left_out {
-                pairs.push((i, j))?;
+            if squared < bound && !is_left_out && pairs.push((i, j)).is_err() {
+                return false;
             }
         }
     }
-    Ok(pairs)
+    true
 }
 
 // Places and a thickness, with the pairs that are near and kept.
@@ -173,21 +157,18 @@ fn try_places(
         first: 0,
         second: 2,
     };
-    match near_of_all(alloc, places, thickness, &filter) {
-        Ok(expected) => {
-            assert!(rt; expected.len() == wanted);
-            let near = Near {
-                places,
-                thickness,
-                filter,
-                wanted: expected.as_slice(),
-            };
-            let found = try_near(rt, alloc, &near);
-            drop(expected);
-            found
-        }
-        Err(error) => [Err(error); 2],
-    }
+    let mut expected = Vec::new(alloc);
+    assert!(rt; push_near(&mut expected, places, thickness, &filter));
+    assert!(rt; expected.len() == wanted);
+    let near = Near {
+        places,
+        thickness,
+        filter,
+        wanted: expected.as_slice(),
+    };
+    let found = try_near(rt, alloc, &near);
+    drop(expected);
+    found
 }
 
 const FAR: i64 = RANGE;

@@ -1,17 +1,20 @@
-//! Hard pairs: short lengths, quotients at halves, all weights.
-use crate::num::{is_pair, moves};
-use crate::places::at;
-use pbd_num::{Draw, Vec3, Weights, try_moves};
+//! The moves of pairs, among them hard ones: short lengths, quotients at halves, all weights.
+use crate::num::is_pair;
+use crate::places::{axes, place};
+use pbd_num::{Draw, RANGE, Vec3, Weights, pair_move, try_moves};
 use std::process::Abort;
 
-fn place(axes: [i64; 3]) -> Vec3 {
-    at(axes[0], axes[1], axes[2])
+fn place_of(axes: [i64; 3]) -> Vec3 {
+    place!(axes[0], axes[1], axes[2])
 }
 
 /// Two places, a length, a stiffness, two effective weights, and how both places move.
-type HardPair = ([i64; 3], [i64; 3], u32, u16, u16, u16, [[i64; 3]; 2]);
+type Pair = ([i64; 3], [i64; 3], u32, u16, u16, u16, [[i64; 3]; 2]);
 
-static HARD_PAIRS: [HardPair; 30] = [
+/// How many of the pairs, from the first on, are hard ones.
+const HARD: usize = 30;
+
+static PAIRS: [Pair; 40] = [
     ([0, 0, 0], [0, 0, 0], 0, 256, 1, 1, [[0, 0, 0], [0, 0, 0]]),
     ([0, 0, 0], [0, 0, 0], 2, 256, 1, 1, [[0, 0, 0], [0, 0, 0]]),
     ([0, 0, 0], [0, 0, 0], 5, 256, 1, 1, [[0, 0, 0], [0, 0, 0]]),
@@ -145,23 +148,114 @@ static HARD_PAIRS: [HardPair; 30] = [
         1,
         [[1_073_741_824, 0, 0], [-1_073_741_824, 0, 0]],
     ),
+    // Behind the hard ones: on one axis, and at the ends of the range.
+    (
+        [0, 0, 0],
+        [105, 0, 0],
+        100,
+        256,
+        1,
+        1,
+        [[3, 0, 0], [-3, 0, 0]],
+    ),
+    (
+        [0, 0, 0],
+        [105, 0, 0],
+        100,
+        256,
+        0,
+        1,
+        [[0, 0, 0], [-5, 0, 0]],
+    ),
+    (
+        [0, 0, 0],
+        [105, 0, 0],
+        100,
+        256,
+        1,
+        2,
+        [[2, 0, 0], [-3, 0, 0]],
+    ),
+    ([0, 0, 0], [105, 0, 0], 100, 0, 1, 1, [[0, 0, 0], [0, 0, 0]]),
+    (
+        [0, 0, 0],
+        [105, 0, 0],
+        100,
+        256,
+        0,
+        0,
+        [[0, 0, 0], [0, 0, 0]],
+    ),
+    (
+        [105, 0, 0],
+        [105, 0, 0],
+        100,
+        256,
+        1,
+        1,
+        [[0, 0, 0], [0, 0, 0]],
+    ),
+    (
+        [RANGE, RANGE, RANGE],
+        [-RANGE, -RANGE, -RANGE],
+        0,
+        256,
+        1,
+        1,
+        [[-RANGE, -RANGE, -RANGE], [RANGE, RANGE, RANGE]],
+    ),
+    (
+        [RANGE, RANGE, RANGE],
+        [-RANGE, -RANGE, -RANGE],
+        1 << 31,
+        256,
+        65_535,
+        0,
+        [[166_108_439, 166_108_439, 166_108_439], [0, 0, 0]],
+    ),
+    (
+        [-RANGE, RANGE, -RANGE],
+        [RANGE, -RANGE, RANGE],
+        1 << 31,
+        128,
+        65_535,
+        65_535,
+        [
+            [-41_527_110, 41_527_110, -41_527_110],
+            [41_527_110, -41_527_110, 41_527_110],
+        ],
+    ),
+    (
+        [RANGE, 0, 0],
+        [-RANGE, 0, 0],
+        0,
+        1,
+        1,
+        65_535,
+        [[-64, 0, 0], [4_194_240, 0, 0]],
+    ),
 ];
 
-fn axes(moves: (Vec3, Vec3)) -> [[i64; 3]; 2] {
-    let (first, second) = moves;
-    [[first.x, first.y, first.z], [second.x, second.y, second.z]]
-}
-
 /// The moves of a pair that is in range, by axes.
-fn moves_by_axes(rt: &impl Abort, pair: &HardPair) -> [[i64; 3]; 2] {
+fn moves_by_axes(rt: &impl Abort, pair: &Pair) -> [[i64; 3]; 2] {
     let (a, b, rest, k, wa, wb, _) = *pair;
-    axes(moves(rt, place(a), place(b), rest, k, wa, wb))
+    let (first, second) = (place_of(a), place_of(b));
+    assert!(rt; is_pair(first, second, rest, k));
+    let (by_first, by_second) = pair_move(
+        first,
+        second,
+        rest as i64,
+        k as i64,
+        wa as i64,
+        wb as i64,
+    );
+    [axes(by_first), axes(by_second)]
 }
 
 /// The same, guessed, where the pair is nearer than `reach`, if the guess is right.
-fn tried_by_axes(rt: &impl Abort, pair: &HardPair, reach: i64) -> Option<[[i64; 3]; 2]> {
+fn tried_by_axes(rt: &impl Abort, pair: &Pair, reach: i64) -> Option<[[i64; 3]; 2]> {
     let (a, b, rest, k, wa, wb, _) = *pair;
-    let (first, second) = (place(a), place(b));
+    let (first, second) = (place_of(a), place_of(b));
     assert!(rt; is_pair(first, second, rest, k));
     let draw = Draw {
         rest: rest as i64,
@@ -174,15 +268,15 @@ fn tried_by_axes(rt: &impl Abort, pair: &HardPair, reach: i64) -> Option<[[i64; 
     };
     let tried = try_moves(first, second, draw, weights);
     if tried.right {
-        Some(axes((tried.first, tried.second)))
+        Some([axes(tried.first), axes(tried.second)])
     } else {
         None
     }
 }
 
 #[test]
-fn moves_hard_pairs(rt: HostRuntime) {
-    for pair in &HARD_PAIRS {
+fn moves_pairs(rt: HostRuntime) {
+    for pair in &PAIRS {
         assert!(rt; moves_by_axes(&rt, pair) == pair.6, "{pair:?}");
     }
 }
@@ -191,7 +285,7 @@ fn moves_hard_pairs(rt: HostRuntime) {
 #[test]
 fn tries_hard_pairs(rt: HostRuntime) {
     let mut right = 0u32;
-    for pair in &HARD_PAIRS {
+    for pair in &PAIRS[..HARD] {
         if let Some(by) = tried_by_axes(&rt, pair, 1 << 31) {
             assert!(rt; by == pair.6, "{pair:?}");
             right = right.wrapping_add(1);

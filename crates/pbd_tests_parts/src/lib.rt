@@ -1,4 +1,5 @@
-//! Tests of numbers, lanes, lists and scenes, and of chains, colours, cells and contacts.
+//! Tests of numbers, lanes, lists and scenes, of chains, colours, cells and contacts, and of stores and of what a step
+//! does to one: bonds, shapes, tracks, tears, and the momentum.
 #![tactic(auto)]
 
 #[cfg(test)]
@@ -12,7 +13,11 @@ mod hard;
 #[cfg(test)]
 mod lanes;
 #[cfg(test)]
+mod ledger;
+#[cfg(test)]
 mod num;
+#[cfg(test)]
+mod pair;
 #[cfg(test)]
 mod pairs;
 #[cfg(test)]
@@ -20,6 +25,14 @@ mod places;
 #[cfg(test)]
 mod roots;
 #[cfg(test)]
+mod shape;
+#[cfg(test)]
+mod store;
+#[cfg(test)]
+mod tear;
+#[cfg(test)]
 mod touching;
+#[cfg(test)]
+mod track;
 #[cfg(test)]
 mod world;

@@ -1,9 +1,9 @@
-//! Quotients, roots, the range, and the moves of a pair.
+//! Quotients, vectors and the range.
 ghost use Rattle.std.specs.Prelude.{◌≤◌, ◌^◌, IsTrue};
 ghost use Rattle.pbd_num.specs.Vectors.{Within};
 
-use crate::places::{at, place};
-use pbd_num::{RANGE, Vec3, distance, inside, pair_move, rdiv, root, within};
+use crate::places::place;
+use pbd_num::{RANGE, Vec3, distance, inside, rdiv, within};
 use std::process::Abort;
 
 fn both_inside(a: Vec3, b: Vec3) -> bool
@@ -32,20 +32,6 @@ pub(crate) fn is_pair(a: Vec3, b: Vec3, rest: u32, k: u16) -> bool
     k <= 256
 }
 
-/// The moves of a pair that is in range. Each `u16` is an effective weight.
-pub(crate) fn moves(
-    rt: &impl Abort,
-    a: Vec3,
-    b: Vec3,
-    rest: u32,
-    k: u16,
-    wa: u16,
-    wb: u16,
-) -> (Vec3, Vec3) {
-    assert!(rt; is_pair(a, b, rest, k));
-    pair_move(a, b, rest as i64, k as i64, wa as i64, wb as i64)
-}
-
 /// The distance of places that are in range.
 fn apart(rt: &impl Abort, a: Vec3, b: Vec3) -> i64 {
     assert!(rt; both_inside(a, b));
@@ -69,32 +55,17 @@ fn rounds_halves_away_from_zero(rt: HostRuntime) {
     assert!(rt; near_halves == [3, -3, 1, -1, 0, 1 << 61, -2_097_152, 1, -1, 0]);
 }
 
-#[test]
-fn takes_whole_roots(rt: HostRuntime) {
-    let roots = [
-        root(0),
-        root(3),
-        root(24),
-        root(25),
-        root(3 << 60),
-        root(i64::MAX),
-    ];
-    assert!(rt; roots == [0, 1, 4, 5, 1_859_775_393, 3_037_000_499]);
-}
-
 /// The sum of places that are in range, and the ways from the second to the first and back.
 fn sum_and_ways(rt: &impl Abort, a: Vec3, b: Vec3) -> [Vec3; 3] {
-    assert!(rt; inside(a) && inside(b));
+    assert!(rt; both_inside(a, b));
     [a.plus(b), a.minus(b), b.minus(a)]
 }
 
 /// The opposite of a vector whose axes aren't above 2^30.
 fn opposite(rt: &impl Abort, v: Vec3) -> Vec3 {
-    assert!(rt;
-        v.x.unsigned_abs() <= 1 << 30
-            && v.y.unsigned_abs() <= 1 << 30
-            && v.z.unsigned_abs() <= 1 << 30
-    );
+    assert!(rt; v.x.unsigned_abs() <= 1 << 30);
+    assert!(rt; v.y.unsigned_abs() <= 1 << 30);
+    assert!(rt; v.z.unsigned_abs() <= 1 << 30);
     v.opposite()
 }
 
@@ -138,82 +109,21 @@ fn calculates_with_vectors(rt: HostRuntime) {
 #[test]
 fn knows_the_range(rt: HostRuntime) {
     let tests = [
-        inside(at(RANGE, -RANGE, 0)),
-        inside(at(0, 0, RANGE + 1)),
-        inside(at(i64::MIN, 0, 0)),
-        within(at(5, -5, 5), 5),
-        within(at(5, -6, 5), 5),
+        inside(place!(RANGE, -RANGE, 0)),
+        inside(place!(0, 0, RANGE + 1)),
+        inside(place!(i64::MIN, 0, 0)),
+        within(place!(5, -5, 5), 5),
+        within(place!(5, -6, 5), 5),
         within(Vec3::ZERO, 0),
     ];
     assert!(rt; tests == [true, false, false, true, false, true]);
     let lengths = [
-        apart(&rt, at(0, 3, 0), at(4, 0, 0)),
-        apart(&rt, at(RANGE, RANGE, RANGE), at(-RANGE, -RANGE, -RANGE)),
+        apart(&rt, place!(0, 3, 0), place!(4, 0, 0)),
+        apart(
+            &rt,
+            place!(RANGE, RANGE, RANGE),
+            place!(-RANGE, -RANGE, -RANGE),
+        ),
     ];
     assert!(rt; lengths == [5, 1_859_775_393]);
-}
-
-/// The first place on x, a stiffness, two effective weights, and how both places move on x.
-static MOVES: [(i64, u16, u16, u16, i64, i64); 6] = [
-    (0, 256, 1, 1, 3, -3),
-    (0, 256, 0, 1, 0, -5),
-    (0, 256, 1, 2, 2, -3),
-    (0, 0, 1, 1, 0, 0),
-    (0, 256, 0, 0, 0, 0),
-    (105, 256, 1, 1, 0, 0),
-];
-
-#[test]
-fn moves_pairs(rt: HostRuntime) {
-    for (x, k, wa, wb, first, second) in &MOVES {
-        let wanted = (at(*first, 0, 0), at(*second, 0, 0));
-        let found = moves(&rt, at(*x, 0, 0), at(105, 0, 0), 100, *k, *wa, *wb);
-        assert!(rt; found == wanted);
-    }
-}
-
-const HIGH: Vec3 = place!(RANGE, RANGE, RANGE);
-
-const LOW: Vec3 = place!(-RANGE, -RANGE, -RANGE);
-
-/// Two places, a length, a stiffness, two effective weights, and how both places move.
-static FAR_MOVES: [(Vec3, Vec3, u32, u16, u16, u16, (Vec3, Vec3)); 4] = [
-    (HIGH, LOW, 0, 256, 1, 1, (LOW, HIGH)),
-    (
-        HIGH,
-        LOW,
-        1 << 31,
-        256,
-        65_535,
-        0,
-        (place!(166_108_439, 166_108_439, 166_108_439), Vec3::ZERO),
-    ),
-    (
-        place!(-RANGE, RANGE, -RANGE),
-        place!(RANGE, -RANGE, RANGE),
-        1 << 31,
-        128,
-        65_535,
-        65_535,
-        (
-            place!(-41_527_110, 41_527_110, -41_527_110),
-            place!(41_527_110, -41_527_110, 41_527_110),
-        ),
-    ),
-    (
-        place!(RANGE, 0, 0),
-        place!(-RANGE, 0, 0),
-        0,
-        1,
-        1,
-        65_535,
-        (place!(-64, 0, 0), place!(4_194_240, 0, 0)),
-    ),
-];
-
-#[test]
-fn moves_pairs_at_the_ends_of_the_range(rt: HostRuntime) {
-    for (a, b, rest, k, wa, wb, both) in &FAR_MOVES {
-        assert!(rt; moves(&rt, *a, *b, *rest, *k, *wa, *wb) == *both);
-    }
 }

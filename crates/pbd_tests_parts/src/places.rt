@@ -1,28 +1,21 @@
 //! Places and particles.
-ghost use Rattle.std.specs.Prelude.{◌≡◌, false};
-
 use pbd_num::Vec3;
-use pbd_world::Particle;
 
-pub fn at(x: i64, y: i64, z: i64) -> Vec3
-    ensures { result ≡ record { x = x; y = y; z = z } }
-{
-    Vec3 { x, y, z }
+/// The numbers of a place, axis by axis.
+pub fn axes(place: Vec3) -> [i64; 3] {
+    [place.x, place.y, place.z]
 }
 
-/// A free particle of weight 1 that doesn't move.
-pub fn resting(place: Vec3) -> Particle
-    ensures { result ≡ record { at = place; before = place; weight = 1; held = false } }
-{
-    Particle {
-        at: place,
-        before: place,
-        weight: 1,
-        held: false,
-    }
+/// The square of the distance of two places that are in range.
+pub fn squared_distance(a: Vec3, b: Vec3) -> i64 {
+    let x = a.x.wrapping_sub(b.x);
+    let y = a.y.wrapping_sub(b.y);
+    let z = a.z.wrapping_sub(b.z);
+    (x.wrapping_mul(x))
+        .wrapping_add(y.wrapping_mul(y))
+        .wrapping_add(z.wrapping_mul(z))
 }
 
-/// The same as a constant.
 macro_rules! place {
     ($x:expr, $y:expr, $z:expr) => {
         Vec3 {
@@ -33,4 +26,38 @@ macro_rules! place {
     };
 }
 
+/// A free particle of weight 1.
+macro_rules! moved {
+    (($x:expr, $y:expr, $z:expr), ($before_x:expr, $before_y:expr, $before_z:expr)) => {
+        Particle {
+            at: place!($x, $y, $z),
+            before: place!($before_x, $before_y, $before_z),
+            weight: 1,
+            held: false,
+        }
+    };
+}
+
+/// A free particle of weight 1 that doesn't move.
+macro_rules! resting {
+    ($x:expr, $y:expr, $z:expr) => {
+        moved!(($x, $y, $z), ($x, $y, $z))
+    };
+}
+
+/// The same, held.
+macro_rules! held {
+    ($x:expr, $y:expr, $z:expr) => {
+        Particle {
+            at: place!($x, $y, $z),
+            before: place!($x, $y, $z),
+            weight: 1,
+            held: true,
+        }
+    };
+}
+
+pub(crate) use held;
+pub(crate) use moved;
 pub(crate) use place;
+pub(crate) use resting;

@@ -3,7 +3,7 @@ ghost use Rattle.std.specs.Prelude.{◌≡◌, ◌<◌, ◌≤◌, IsTrue, IfOk,
 ghost use Rattle.pbd_store.specs.Moving.{AreInside};
 
 use crate::pairs::are_in_range;
-use crate::places::{at, place, resting};
+use crate::places::{held, moved, place, resting, squared_distance};
 use pbd_colour::Colouring;
 use pbd_num::{RANGE, Vec3, inside};
 use pbd_self::SelfContacts;
@@ -35,42 +35,40 @@ fn are_inside(particles: &[Particle]) -> bool
     true
 }
 
-fn square(n: i64) -> i64 {
-    n.wrapping_mul(n)
-}
-
 // Whether two particles touch, where links don't join them.
 fn may_touch(a: &Particle, b: &Particle, thickness: i64) -> bool {
-    let far = square(a.at.x.wrapping_sub(b.at.x))
-        .wrapping_add(square(a.at.y.wrapping_sub(b.at.y)))
-        .wrapping_add(square(a.at.z.wrapping_sub(b.at.z)));
-    far < square(thickness) && !(a.held && b.held)
+    let near = squared_distance(a.at, b.at) < thickness.wrapping_mul(thickness);
+    near && !(a.held && b.held)
 }
 
 fn joins(links: &[(u32, u32)], i: u32, j: u32) -> bool {
-    links.iter().any(|link| *link == (i, j) || *link == (j, i))
+    for link in links {
+        if *link == (i, j) || *link == (j, i) {
+            return true;
+        }
+    }
+    false
 }
 
-// The contacts, by looking at all pairs.
-fn touching_of_all(
-    alloc: Global,
-    particles: &[Particle],
-    links: &[(u32, u32)],
-    thickness: i64,
-) -> Result<Vec<(u32, u32)>, AllocError>
-    requires { length particles.now ≤ 1024 }
+// Adds the contacts, by looking at all pairs.
+fn push_touching(pairs: &mut Vec<(u32, u32)>, case: &Case<'_>) -> bool
+    requires { length case.now.particles.now ≤ 1024 }
 {
-    let mut pairs = Vec::new(alloc);
+    let particles = case.particles;
     let count = particles.len() as u32;
     for i in 0..count {
         for j in i + 1..count {
-            let near = may_touch(&particles[i as usize], &particles[j as usize], thickness);
-            if near && !joins(links, i, j) {
-                pairs.push((i, j))?;
+            let near = may_touch(
+                &particles[i as usize],
+                &particles[j as usize],
+                case.thickness,
+            );
+            if near && !joins(case.links, i, j) && pairs.push((i, j)).is_err() {
+                return false;
             }
         }
     }
-    Ok(pairs)
+    true
 }
 
 // The live links of so many particles.
@@ -197,6 +195,7 @@ fn finds_safely<const L: usize, G: Ledger>(
 // Whether contacts are found, unless there is no memory.
 type Found = Result<bool, AllocError>;
 
+// Whether the wanted contacts are found, at each width.
 fn finds_counted<G: Ledger>(
     rt: &impl Abort,
     alloc: Global,
@@ -220,44 +219,25 @@ fn finds_counted<G: Ledger>(
     found
 }
 
-// Whether the wanted contacts are found, at each width.
-fn finds_at_each_width(
-    rt: &impl Abort,
-    alloc: Global,
-    case: &Case<'_>,
-    wanted: &[(u32, u32)],
-) -> [Found; 5] {
-    finds_counted::<Brand>(rt, alloc, Blank::new(1), case, wanted)
-}
-
 // Compares what is found at each width with all pairs, of which so many touch.
 fn try_case(rt: &impl Abort, alloc: Global, case: &Case<'_>) -> [Found; 5] {
     assert!(rt; case.particles.len() <= 1024);
-    match touching_of_all(alloc, case.particles, case.links, case.thickness) {
-        Ok(wanted) => {
-            assert!(rt; wanted.len() == case.contacts);
-            let found = finds_at_each_width(rt, alloc, case, wanted.as_slice());
-            drop(wanted);
-            found
-        }
-        Err(error) => [Err(error); 5],
-    }
+    let mut wanted = Vec::new(alloc);
+    assert!(rt; push_touching(&mut wanted, case));
+    assert!(rt; wanted.len() == case.contacts);
+    let found = finds_counted::<Brand>(rt, alloc, Blank::new(1), case, wanted.as_slice());
+    drop(wanted);
+    found
 }
 
-// Tries some cases.
-fn try_cases(rt: &impl Abort, alloc: Global, cases: &[Case<'_>]) {
-    for (number, case) in cases.iter().enumerate() {
-        assert!(rt; try_case(rt, alloc, case) == [Ok(true); 5], "case {number}");
-    }
-}
-
-// So many particles in a row.
-fn row(alloc: Global, count: u32) -> Result<Vec<Particle>, AllocError> {
-    let mut particles = Vec::new(alloc);
+// Adds so many particles in a row.
+fn push_row(particles: &mut Vec<Particle>, count: u32) -> bool {
     for x in 0..count {
-        particles.push(resting(at(x as i64, 0, 0)))?;
+        if particles.push(resting!(x as i64, 0, 0)).is_err() {
+            return false;
+        }
     }
-    Ok(particles)
+    true
 }
 
 // Tries particles in a row, with no links.
@@ -268,42 +248,17 @@ fn try_row(
     thickness: i64,
     contacts: usize,
 ) -> [Found; 5] {
-    match row(alloc, count) {
-        Ok(particles) => {
-            let case = Case {
-                particles: particles.as_slice(),
-                links: &[],
-                thickness,
-                contacts,
-            };
-            let found = try_case(rt, alloc, &case);
-            drop(particles);
-            found
-        }
-        Err(error) => [Err(error); 5],
-    }
-}
-
-macro_rules! free {
-    ($x:expr, $y:expr, $z:expr) => {
-        Particle {
-            at: place!($x, $y, $z),
-            before: place!($x, $y, $z),
-            weight: 1,
-            held: false,
-        }
+    let mut particles = Vec::new(alloc);
+    assert!(rt; push_row(&mut particles, count));
+    let case = Case {
+        particles: particles.as_slice(),
+        links: &[],
+        thickness,
+        contacts,
     };
-}
-
-macro_rules! held {
-    ($x:expr, $y:expr, $z:expr) => {
-        Particle {
-            at: place!($x, $y, $z),
-            before: place!($x, $y, $z),
-            weight: 1,
-            held: true,
-        }
-    };
+    let found = try_case(rt, alloc, &case);
+    drop(particles);
+    found
 }
 
 macro_rules! case {
@@ -317,25 +272,48 @@ macro_rules! case {
     };
 }
 
-const LINE: [Particle; 3] = [free!(0, 0, 0), free!(99, 0, 0), free!(100, 0, 0)];
+const LINE: [Particle; 3] = [resting!(0, 0, 0), resting!(99, 0, 0), resting!(100, 0, 0)];
 
-const BESIDE_ZERO: [Particle; 2] = [free!(-1, 0, 0), free!(0, 0, 0)];
+const BESIDE_ZERO: [Particle; 2] = [resting!(-1, 0, 0), resting!(0, 0, 0)];
 
 const PINNED: [Particle; 4] = [
     held!(0, 5, 0),
-    free!(3, 5, 0),
+    resting!(3, 5, 0),
     held!(5, 5, 0),
     held!(0, 5, 3),
 ];
 
 const EQUAL: [Particle; 4] = [
-    free!(5, -7, 9),
-    free!(5, -7, 9),
-    free!(5, -7, 10),
-    free!(5, -7, 9),
+    resting!(5, -7, 9),
+    resting!(5, -7, 9),
+    resting!(5, -7, 10),
+    resting!(5, -7, 9),
 ];
 
-static FEW: [Case<'static>; 9] = [
+// Round a corner where eight cells meet.
+const CORNER: [Particle; 8] = [
+    resting!(-1, -1, -1),
+    resting!(-1, -1, 0),
+    resting!(-1, 0, -1),
+    resting!(-1, 0, 0),
+    resting!(0, -1, -1),
+    resting!(0, -1, 0),
+    resting!(0, 0, -1),
+    resting!(0, 0, 0),
+];
+
+// For the greatest thickness, at the ends of the range and on the edges of cells.
+const WIDE: [Particle; 7] = [
+    resting!(RANGE, -RANGE, RANGE),
+    resting!(RANGE - 1_048_575, -RANGE, RANGE),
+    resting!(RANGE - 1_048_576, -RANGE, RANGE),
+    resting!(-RANGE, -RANGE, -RANGE),
+    resting!(-RANGE, 1_048_575 - RANGE, -RANGE),
+    resting!(0, 1_048_576, 0),
+    resting!(0, 1_048_575, 0),
+];
+
+static CASES: [Case<'static>; 11] = [
     // 100 apart isn't nearer than 100.
     case!(&LINE, &[], 100, 2),
     case!(&LINE, &[(1, 0)], 100, 1),
@@ -349,54 +327,29 @@ static FEW: [Case<'static>; 9] = [
     // Equal places are near at thickness 1, others aren't, and none is at 0.
     case!(&EQUAL, &[], 1, 3),
     case!(&EQUAL, &[], 0, 0),
+    // On the edges of cells, and at the ends of the range.
+    case!(&CORNER, &[], 2, 28),
+    case!(&WIDE, &[], 1_048_576, 4),
 ];
 
 #[test]
 fn few_particles(rt: HostRuntime) {
-    try_cases(&rt, rt.alloc(), &FEW);
+    for (number, case) in CASES.iter().enumerate() {
+        assert!(rt;
+            try_case(&rt, rt.alloc(), case) == [Ok(true); 5],
+            "case {number}"
+        );
+    }
 }
 
-// Round a corner where eight cells meet.
-const CORNER: [Particle; 8] = [
-    free!(-1, -1, -1),
-    free!(-1, -1, 0),
-    free!(-1, 0, -1),
-    free!(-1, 0, 0),
-    free!(0, -1, -1),
-    free!(0, -1, 0),
-    free!(0, 0, -1),
-    free!(0, 0, 0),
-];
-
-// For the greatest thickness, at the ends of the range and on the edges of cells.
-const WIDE: [Particle; 7] = [
-    free!(RANGE, -RANGE, RANGE),
-    free!(RANGE - 1_048_575, -RANGE, RANGE),
-    free!(RANGE - 1_048_576, -RANGE, RANGE),
-    free!(-RANGE, -RANGE, -RANGE),
-    free!(-RANGE, 1_048_575 - RANGE, -RANGE),
-    free!(0, 1_048_576, 0),
-    free!(0, 1_048_575, 0),
-];
-
-static EDGES: [Case<'static>; 2] = [case!(&CORNER, &[], 2, 28), case!(&WIDE, &[], 1_048_576, 4)];
+/// So many particles in a row, a thickness, and how many contacts there are: all pairs, just as many as there is room for,
+/// and more.
+static ROWS: [(u32, i64, usize); 3] = [(70, 100, 2415), (724, 1000, 261_726), (725, 1000, 262_450)];
 
 #[test]
-fn edges_of_cells_and_of_the_range(rt: HostRuntime) {
-    try_cases(&rt, rt.alloc(), &EDGES);
-}
-
-#[test]
-fn seventy_particles_all_touch(rt: HostRuntime) {
-    assert!(rt; try_row(&rt, rt.alloc(), 70, 100, 2415) == [Ok(true); 5]);
-}
-
-#[test]
-fn just_as_many_as_there_is_room_for(rt: HostRuntime) {
-    assert!(rt; try_row(&rt, rt.alloc(), 724, 1000, 261_726) == [Ok(true); 5]);
-}
-
-#[test]
-fn more_than_there_is_room_for(rt: HostRuntime) {
-    assert!(rt; try_row(&rt, rt.alloc(), 725, 1000, 262_450) == [Ok(true); 5]);
+fn particles_in_a_row(rt: HostRuntime) {
+    for (count, thickness, contacts) in &ROWS {
+        let found = try_row(&rt, rt.alloc(), *count, *thickness, *contacts);
+        assert!(rt; found == [Ok(true); 5], "{count} in a row");
+    }
 }

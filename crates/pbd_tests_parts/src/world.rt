@@ -1,115 +1,262 @@
 //! Scenes that are valid and others that aren't, lists, totals, lanes and numbers of refusals.
 ghost use Rattle.std.specs.Prelude.{◌<◌, ◌≤◌};
 
-use crate::places::{at, place, resting};
+use crate::places::{held, moved, place, resting};
 use pbd_num::{RANGE, Vec3};
 use pbd_world::{
     Class, Full, Key, Kind, Link, List, Particle, Parts, PartsFault, Phase, Plane, Refusal,
     RoomList, Scene, Sphere, Totals, Track, Width,
 };
-use std::alloc::{AllocError, Global};
+use std::alloc::Global;
 
-/// One thing that is otherwise than in a cloth.
+/// A link of a length at rest.
+macro_rules! link {
+    ($a:expr, $b:expr, $rest:expr) => {
+        Link {
+            a: $a,
+            b: $b,
+            rest: $rest,
+            k: 256,
+            tear: 0,
+            kind: Kind::Stretch,
+            live: true,
+        }
+    };
+}
+
+/// Two rows of three particles.
+static CLOTH_PARTICLES: [Particle; 6] = [
+    resting!(0, 0, 0),
+    resting!(100, 0, 0),
+    resting!(200, 0, 0),
+    resting!(0, 0, 100),
+    resting!(100, 0, 100),
+    resting!(200, 0, 100),
+];
+
+/// All their links.
+static CLOTH_LINKS: [Link; 13] = [
+    link!(0, 1, 100),
+    link!(0, 3, 100),
+    link!(1, 2, 100),
+    link!(1, 4, 100),
+    link!(2, 5, 100),
+    link!(3, 4, 100),
+    link!(4, 5, 100),
+    link!(0, 4, 141),
+    link!(1, 3, 141),
+    link!(1, 5, 141),
+    link!(2, 4, 141),
+    link!(0, 2, 200),
+    link!(3, 5, 200),
+];
+
+/// What a scene has beside a cloth, and whether it is one.
 #[derive(Clone, Copy)]
-enum Change<'a> {
-    Limit(i64),
-    Link(u32, u32),
-    Particle(Particle),
-    Plane(Plane),
-    Sphere(Sphere),
-    Passes(u32),
-    Gravity(Vec3),
-    /// Tracks of a held seventh particle or of another, each with a key at each of some steps.
-    Tracks(&'a [(u32, &'a [u32])]),
+struct Beside {
+    name: &'static str,
+    particles: &'static [Particle],
+    links: &'static [Link],
+    planes: &'static [Plane],
+    spheres: &'static [Sphere],
+    /// A particle with the steps of its keys each.
+    tracks: &'static [(u32, &'static [u32])],
+    gravity: Vec3,
+    passes: u32,
+    limit: i64,
+    fits: bool,
 }
 
-fn link(a: u32, b: u32, rest: i64) -> Link {
-    Link {
-        a,
-        b,
-        rest,
-        k: 256,
-        tear: 0,
-        kind: Kind::Stretch,
-        live: true,
-    }
-}
+/// The cloth alone.
+const CLOTH: Beside = Beside {
+    name: "the cloth",
+    particles: &[],
+    links: &[],
+    planes: &[],
+    spheres: &[],
+    tracks: &[],
+    gravity: Vec3::ZERO,
+    passes: 1,
+    limit: RANGE,
+    fits: true,
+};
 
-fn push_particles(parts: &mut Parts, places: &[Vec3]) -> Result<(), AllocError> {
-    for place in places {
-        parts.particles.push(resting(*place))?;
-    }
-    Ok(())
-}
+/// One thing that makes it no scene.
+const BROKEN: Beside = Beside {
+    fits: false,
+    ..CLOTH
+};
 
-fn push_links(parts: &mut Parts, links: &[(u32, u32, i64)]) -> Result<(), AllocError> {
-    for (a, b, rest) in links {
-        parts.links.push(link(*a, *b, *rest))?;
-    }
-    Ok(())
-}
+/// A held seventh particle, whose tracks make it no scene.
+const MISLED: Beside = Beside {
+    particles: &[held!(0, 9, 0)],
+    ..BROKEN
+};
 
-static CLOTH_PLACES: [Vec3; 6] = [
-    place!(0, 0, 0),
-    place!(100, 0, 0),
-    place!(200, 0, 0),
-    place!(0, 0, 100),
-    place!(100, 0, 100),
-    place!(200, 0, 100),
+static SCENES: [Beside; 19] = [
+    CLOTH,
+    Beside {
+        name: "a double link",
+        links: &[link!(0, 1, 100)],
+        ..BROKEN
+    },
+    Beside {
+        name: "a double link the other way round",
+        links: &[link!(1, 0, 100)],
+        ..BROKEN
+    },
+    Beside {
+        name: "a double link at the end",
+        links: &[link!(5, 3, 100)],
+        ..BROKEN
+    },
+    Beside {
+        name: "a limit of 1000",
+        limit: 1000,
+        ..BROKEN
+    },
+    Beside {
+        name: "a link to its own particle",
+        links: &[link!(2, 2, 100)],
+        ..BROKEN
+    },
+    Beside {
+        name: "a link to no particle",
+        links: &[link!(2, 6, 100)],
+        ..BROKEN
+    },
+    Beside {
+        name: "a particle of no weight",
+        particles: &[Particle {
+            weight: 0,
+            ..resting!(0, 0, 0)
+        }],
+        ..BROKEN
+    },
+    Beside {
+        name: "a held particle that moves",
+        particles: &[Particle {
+            before: place!(0, 1, 0),
+            ..held!(0, 0, 0)
+        }],
+        ..BROKEN
+    },
+    Beside {
+        name: "a plane without a normal",
+        planes: &[Plane {
+            normal: Vec3::ZERO,
+            offset: 0,
+        }],
+        ..BROKEN
+    },
+    Beside {
+        name: "a sphere past the range",
+        spheres: &[Sphere {
+            centre: place!(RANGE, 0, 0),
+            radius: 1,
+        }],
+        ..BROKEN
+    },
+    Beside {
+        name: "a pass too many",
+        passes: 65,
+        ..BROKEN
+    },
+    Beside {
+        name: "gravity past the range",
+        gravity: place!(0, -RANGE - 1, 0),
+        ..BROKEN
+    },
+    Beside {
+        name: "a track",
+        tracks: &[(6, &[3, 4, 1_000_000])],
+        fits: true,
+        ..MISLED
+    },
+    Beside {
+        name: "a track of a free particle",
+        tracks: &[(0, &[3])],
+        ..MISLED
+    },
+    Beside {
+        name: "two keys at a step",
+        tracks: &[(6, &[3, 3])],
+        ..MISLED
+    },
+    Beside {
+        name: "a track without keys",
+        tracks: &[(6, &[])],
+        ..MISLED
+    },
+    Beside {
+        name: "a key past the last step",
+        tracks: &[(6, &[1_000_001])],
+        ..MISLED
+    },
+    Beside {
+        name: "two tracks of a particle",
+        tracks: &[(6, &[3]), (6, &[0])],
+        ..MISLED
+    },
 ];
 
-/// The ends of its links and their lengths at rest.
-static CLOTH_LINKS: [(u32, u32, i64); 13] = [
-    (0, 1, 100),
-    (0, 3, 100),
-    (1, 2, 100),
-    (1, 4, 100),
-    (2, 5, 100),
-    (3, 4, 100),
-    (4, 5, 100),
-    (0, 4, 141),
-    (1, 3, 141),
-    (1, 5, 141),
-    (2, 4, 141),
-    (0, 2, 200),
-    (3, 5, 200),
-];
-
-/// Two rows of three particles with all their links.
-fn push_cloth(parts: &mut Parts) -> Result<(), AllocError> {
-    push_particles(parts, &CLOTH_PLACES)?;
-    push_links(parts, &CLOTH_LINKS)
-}
-
-/// The scene of parts, where all went into them.
-fn scene_of(
-    alloc: Global,
-    parts: Parts,
-    pushed: Result<(), AllocError>,
-) -> Result<Scene, PartsFault> {
-    match pushed {
-        Ok(()) => Scene::from_parts(alloc, parts),
-        Err(_) => {
-            drop(parts);
-            Err(PartsFault::OutOfMemory)
+fn push_all<T: Copy + Drop>(list: &mut List<T>, items: &[T]) -> bool {
+    for item in items {
+        if list.push(*item).is_err() {
+            return false;
         }
     }
+    true
 }
 
-/// Whether parts are a scene. Nothing where they aren't for want of memory.
-fn are_scene(alloc: Global, parts: Parts, pushed: Result<(), AllocError>) -> Option<bool> {
-    match scene_of(alloc, parts, pushed) {
-        Ok(scene) => {
-            drop(scene);
-            Some(true)
+fn push_keys(keys: &mut List<Key>, steps: &[u32]) -> bool {
+    for step in steps {
+        let key = Key {
+            step: *step,
+            place: place!(0, 9, 0),
+        };
+        if keys.push(key).is_err() {
+            return false;
         }
-        Err(PartsFault::NotValid) => Some(false),
-        Err(PartsFault::OutOfMemory) => None,
     }
+    true
 }
 
-/// How many particles and links the scene of the cloth has, and how many particles its parts have again.
-fn counts(scene: Scene) -> (usize, usize, usize) {
+fn push_tracks(alloc: Global, list: &mut List<Track>, tracks: &[(u32, &[u32])]) -> bool {
+    for (particle, steps) in tracks {
+        let mut keys = List::new(alloc);
+        let pushed = push_keys(&mut keys, steps);
+        let track = Track {
+            particle: *particle,
+            keys,
+        };
+        if list.push(track).is_err() || !pushed {
+            return false;
+        }
+    }
+    true
+}
+
+/// Adds the cloth and what is beside it to parts, where there is memory.
+fn push_parts(alloc: Global, beside: &Beside, parts: &mut Parts) -> bool {
+    parts.gravity = beside.gravity;
+    parts.passes = beside.passes;
+    let pushed = [
+        push_all(&mut parts.particles, &CLOTH_PARTICLES),
+        push_all(&mut parts.particles, beside.particles),
+        push_all(&mut parts.links, &CLOTH_LINKS),
+        push_all(&mut parts.links, beside.links),
+        push_all(&mut parts.planes, beside.planes),
+        push_all(&mut parts.spheres, beside.spheres),
+        push_tracks(alloc, &mut parts.tracks, beside.tracks),
+    ];
+    pushed == [true; 7]
+}
+
+/// How many particles and links the scene of some parts has, and how many particles its parts have again.
+type Counts = (usize, usize, usize);
+
+fn counts(scene: Scene) -> Counts {
     let particles = scene.parts().particles.len();
     let links = scene.parts().links.len();
     let parts = scene.into_parts();
@@ -118,182 +265,98 @@ fn counts(scene: Scene) -> (usize, usize, usize) {
     (particles, links, again)
 }
 
-#[test]
-fn takes_valid_parts(rt: HostRuntime) {
-    let mut parts = Parts::empty(rt.alloc(), RANGE);
-    let pushed = push_cloth(&mut parts);
-    match scene_of(rt.alloc(), parts, pushed) {
-        Ok(scene) => assert!(rt; counts(scene) == (6, 13, 6)),
-        Err(fault) => assert!(rt; false, "{fault:?}"),
-    }
-}
-
-/// Whether what a change makes of the parts of a cloth is a scene.
-fn changed(alloc: Global, change: &Change<'_>) -> Option<bool> {
-    let mut parts = Parts::empty(alloc, RANGE);
-    let pushed = change_cloth(alloc, change, &mut parts);
-    are_scene(alloc, parts, pushed)
-}
-
-fn push_keys(keys: &mut List<Key>, steps: &[u32]) -> Result<(), AllocError> {
-    for step in steps {
-        keys.push(Key {
-            step: *step,
-            place: at(0, 9, 0),
-        })?;
-    }
-    Ok(())
-}
-
-fn track_of(alloc: Global, particle: u32, steps: &[u32]) -> Result<Track, AllocError> {
-    let mut keys = List::new(alloc);
-    match push_keys(&mut keys, steps) {
-        Ok(()) => Ok(Track { particle, keys }),
-        Err(error) => {
-            drop(keys);
-            Err(error)
+/// The counts of parts, all of which were pushed. None where they are no scene.
+fn counted(alloc: Global, parts: Parts, pushed: bool) -> Result<Option<Counts>, PartsFault> {
+    match Scene::from_parts(alloc, parts) {
+        Ok(scene) => {
+            let counts = counts(scene);
+            if pushed {
+                Ok(Some(counts))
+            } else {
+                Err(PartsFault::OutOfMemory)
+            }
         }
+        Err(PartsFault::NotValid) if pushed => Ok(None),
+        Err(_) => Err(PartsFault::OutOfMemory),
     }
 }
 
-fn push_tracks(
-    alloc: Global,
-    parts: &mut Parts,
-    tracks: &[(u32, &[u32])],
-) -> Result<(), AllocError> {
-    parts.particles.push(Particle {
-        held: true,
-        ..resting(at(0, 9, 0))
-    })?;
-    for (particle, steps) in tracks {
-        parts.tracks.push(track_of(alloc, *particle, steps)?)?;
-    }
-    Ok(())
-}
-
-fn change_cloth(alloc: Global, change: &Change<'_>, parts: &mut Parts) -> Result<(), AllocError> {
-    push_cloth(parts)?;
-    match change {
-        Change::Limit(limit) => parts.limit = *limit,
-        Change::Link(a, b) => parts.links.push(link(*a, *b, 100))?,
-        Change::Particle(particle) => parts.particles.push(*particle)?,
-        Change::Plane(plane) => parts.planes.push(*plane)?,
-        Change::Sphere(sphere) => parts.spheres.push(*sphere)?,
-        Change::Passes(passes) => parts.passes = *passes,
-        Change::Gravity(gravity) => parts.gravity = *gravity,
-        Change::Tracks(tracks) => push_tracks(alloc, parts, tracks)?,
-    }
-    Ok(())
+/// The counts of a cloth and what is beside it.
+fn counted_beside(alloc: Global, beside: &Beside) -> Result<Option<Counts>, PartsFault> {
+    let mut parts = Parts::empty(alloc, beside.limit);
+    let pushed = push_parts(alloc, beside, &mut parts);
+    counted(alloc, parts, pushed)
 }
 
 #[test]
-fn refuses_a_double_link(rt: HostRuntime) {
-    for (a, b) in [(0, 1), (1, 0), (5, 3)] {
-        assert!(rt; changed(rt.alloc(), &Change::Link(a, b)) == Some(false));
+fn takes_valid_parts_and_refuses_others(rt: HostRuntime) {
+    for row in &SCENES {
+        let particles = 6usize.saturating_add(row.particles.len());
+        let wanted = if row.fits {
+            Some((particles, 13, particles))
+        } else {
+            None
+        };
+        assert!(rt;
+            counted_beside(rt.alloc(), row) == Ok(wanted),
+            "{}",
+            row.name
+        );
     }
 }
 
-/// Changes after which a cloth is no scene.
-static CHANGES: [Change<'static>; 9] = [
-    Change::Limit(1000),
-    Change::Link(2, 2),
-    Change::Link(2, 6),
-    Change::Particle(Particle {
-        at: Vec3::ZERO,
-        before: Vec3::ZERO,
-        weight: 0,
-        held: false,
-    }),
-    Change::Particle(Particle {
-        at: Vec3::ZERO,
-        before: place!(0, 1, 0),
-        weight: 1,
-        held: true,
-    }),
-    Change::Plane(Plane {
-        normal: Vec3::ZERO,
-        offset: 0,
-    }),
-    Change::Sphere(Sphere {
-        centre: place!(RANGE, 0, 0),
-        radius: 1,
-    }),
-    Change::Passes(65),
-    Change::Gravity(place!(0, -RANGE - 1, 0)),
-];
-
-#[test]
-fn refuses_other_parts(rt: HostRuntime) {
-    for (case, change) in CHANGES.iter().enumerate() {
-        assert!(rt; changed(rt.alloc(), change) == Some(false), "case {case}");
-    }
-}
-
-/// A particle with the steps of its keys each, and whether such tracks fit a cloth.
-static TRACKS: [(&[(u32, &[u32])], bool); 6] = [
-    (&[(6, &[3, 4, 1_000_000])], true),
-    (&[(0, &[3])], false),
-    (&[(6, &[3, 3])], false),
-    (&[(6, &[])], false),
-    (&[(6, &[1_000_001])], false),
-    (&[(6, &[3]), (6, &[0])], false),
-];
-
-#[test]
-fn looks_at_tracks(rt: HostRuntime) {
-    for (tracks, fits) in &TRACKS {
-        let found = changed(rt.alloc(), &Change::Tracks(tracks));
-        assert!(rt; found == Some(*fits), "{tracks:?}");
-    }
-}
-
-/// So many particles in a row, each with links to so many behind it, round the end.
-fn push_ring(parts: &mut Parts, particles: u32, links: u32) -> Result<(), AllocError>
+/// Adds so many particles in a row, and from one of them on each one's links to so many behind it, round the end.
+fn push_ring(parts: &mut Parts, particles: u32, first: u32, links: u32) -> bool
     requires some { 0 < particles }
     requires size { particles ≤ 65536 }
-    requires few { links ≤ 8 }
+    requires few { links ≤ 33 }
 {
     for i in 0..particles {
-        parts.particles.push(resting(at(i as i64, 0, 0)))?;
-    }
-    for i in 0..particles {
-        for far in 0..links {
-            parts.links.push(link(i, (i + far + 1) % particles, 1))?;
+        if parts.particles.push(resting!(i as i64, 0, 0)).is_err() {
+            return false;
         }
     }
-    Ok(())
+    for i in first..particles {
+        for far in 0..links {
+            let link = link!(i, (i + far + 1) % particles, 1);
+            if parts.links.push(link).is_err() {
+                return false;
+            }
+        }
+    }
+    true
 }
 
+/// The counts of such parts.
+fn counted_ring(
+    alloc: Global,
+    particles: u32,
+    first: u32,
+    links: u32,
+) -> Result<Option<Counts>, PartsFault>
+    requires some { 0 < particles }
+    requires size { particles ≤ 65536 }
+    requires few { links ≤ 33 }
+{
+    let mut parts = Parts::empty(alloc, RANGE);
+    let pushed = push_ring(&mut parts, particles, first, links);
+    counted(alloc, parts, pushed)
+}
+
+/// As many links as there may be, and those of the last of forty particles, as many as it may have and one more.
 #[test]
 fn takes_as_many_links_as_there_may_be(rt: HostRuntime) {
-    let mut parts = Parts::empty(rt.alloc(), RANGE);
-    let pushed = push_ring(&mut parts, 65_536, 8);
-    assert!(rt; parts.links.len() == 524_288);
-    assert!(rt; are_scene(rt.alloc(), parts, pushed) == Some(true));
-}
-
-/// Forty particles, and so many links of the last one.
-fn push_star(parts: &mut Parts, links: u32) -> Result<(), AllocError> {
-    for i in 0..40_i64 {
-        parts.particles.push(resting(at(i, 0, 0)))?;
-    }
-    for i in 0..links {
-        parts.links.push(link(39, i, 1))?;
-    }
-    Ok(())
-}
-
-/// Whether they are a scene.
-fn star_is_scene(alloc: Global, links: u32) -> Option<bool> {
-    let mut parts = Parts::empty(alloc, RANGE);
-    let pushed = push_star(&mut parts, links);
-    are_scene(alloc, parts, pushed)
-}
-
-#[test]
-fn refuses_a_thirty_third_link(rt: HostRuntime) {
-    assert!(rt; star_is_scene(rt.alloc(), 32) == Some(true));
-    assert!(rt; star_is_scene(rt.alloc(), 33) == Some(false));
+    let rings = [
+        counted_ring(rt.alloc(), 65_536, 0, 8),
+        counted_ring(rt.alloc(), 40, 39, 32),
+        counted_ring(rt.alloc(), 40, 39, 33),
+    ];
+    let wanted = [
+        Ok(Some((65_536, 524_288, 65_536))),
+        Ok(Some((40, 32, 40))),
+        Ok(None),
+    ];
+    assert!(rt; rings == wanted);
 }
 
 #[test]
@@ -310,9 +373,7 @@ fn keeps_lists(rt: HostRuntime) {
 
 /// Sets the items to 1, and says whether the list is two ones then.
 fn becomes_ones(list: &mut RoomList<u8>) -> bool {
-    for n in list.as_mut_slice() {
-        *n = 1;
-    }
+    list.as_mut_slice().fill(1);
     list.as_slice() == [1, 1].as_slice()
 }
 
@@ -327,22 +388,30 @@ fn keeps_room_lists(rt: HostRuntime) {
     assert!(rt; (pushed, ones, left) == ([Ok(()), Ok(()), Err(Full)], true, (0, 2)));
 }
 
+const NOTHING: Totals = Totals {
+    gravity: [0; 3],
+    damping: [0; 3],
+    link: [0; 3],
+    contact: [0; 3],
+    pin: [0; 3],
+    shape: [0; 3],
+};
+
+static PINNED: Totals = Totals {
+    pin: [1, -2, 3],
+    ..NOTHING
+};
+
 #[test]
 fn adds_to_one_total(rt: HostRuntime) {
     let mut totals = Totals::zero();
-    totals.add(Class::Pin, at(1, -2, 3));
-    assert!(rt;
-        totals
-            == Totals {
-                pin: [1, -2, 3],
-                ..Totals::zero()
-            }
-    );
+    totals.add(Class::Pin, place!(1, -2, 3));
+    assert!(rt; totals == PINNED);
     let mut totals = Totals {
         link: [i128::MAX - 1, 0, i128::MIN + 1],
-        ..Totals::zero()
+        ..NOTHING
     };
-    totals.add(Class::Link, Vec3 { x: 1, y: 0, z: -1 });
+    totals.add(Class::Link, place!(1, 0, -1));
     assert!(rt; totals.link == [i128::MAX, 0, i128::MIN]);
 }
 

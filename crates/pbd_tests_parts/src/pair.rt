@@ -1,0 +1,412 @@
+//! Batches at each width, with both projectors.
+ghost use Rattle.std.specs.Prelude.{◌≡◌, ◌<◌, ◌≤◌, ◌^◌, pos, IsTrue, length};
+ghost use Rattle.std.specs.List.{list_all};
+ghost use Rattle.pbd_pair.specs.Examples.{is_placed, is_batch};
+
+use crate::places::{held, place};
+use pbd_num::{RANGE, Vec3};
+use pbd_pair::{Bonds, LaneProjector, Projector, Scalar};
+use pbd_store::{Steps, Store};
+use pbd_world::{Kind, Link, Particle, Totals};
+use std::alloc::Global;
+use std::marker::Brand;
+use std::sync::ledger::{Blank, Ledger};
+
+macro_rules! free {
+    ($x:expr, $y:expr, $weight:expr) => {
+        Particle {
+            at: place!($x, $y, 0),
+            before: place!($x, $y, 0),
+            weight: $weight,
+            held: false,
+        }
+    };
+}
+
+macro_rules! link {
+    ($a:expr, $b:expr, $rest:expr) => {
+        Link {
+            a: $a,
+            b: $b,
+            rest: $rest,
+            k: 256,
+            tear: 0,
+            kind: Kind::Plain,
+            live: true,
+        }
+    };
+}
+
+/// What a batch came to: the bond that left, the first and the last two places on x, how many are at 3 or 102
+/// on x, and the totals on x.
+#[derive(Clone, Copy, Drop, PartialEq, Eq)]
+struct Seen {
+    left: Option<u32>,
+    x: [i64; 4],
+    settled: u32,
+    link: i128,
+    contact: i128,
+    pin: i128,
+}
+
+macro_rules! stays {
+    ($x:expr, $settled:expr, $link:expr, $contact:expr, $pin:expr) => {
+        Seen {
+            left: None,
+            x: $x,
+            settled: $settled,
+            link: $link,
+            contact: $contact,
+            pin: $pin,
+        }
+    };
+}
+
+macro_rules! leaves {
+    ($element:expr) => {
+        Seen {
+            left: Some($element),
+            ..stays!([0; 4], 0, 0, 0, 0)
+        }
+    };
+}
+
+/// Particles, a batch of bonds, and what it is to come to.
+#[derive(Clone, Copy)]
+struct Case {
+    particles: &'static [Particle],
+    bonds: Bonds<'static>,
+    batch: &'static [u32],
+    seen: Seen,
+}
+
+const ONE: Bonds<'static> = Bonds::Links(&[link!(0, 1, 100)]);
+
+const PULLS: Case = Case {
+    particles: &[free!(0, 0, 1), free!(105, 0, 1)],
+    bonds: ONE,
+    batch: &[0],
+    seen: stays!([3, 102, 3, 102], 2, 0, 0, 0),
+};
+
+static PULLED: Case = PULLS;
+
+static PINNED: Case = Case {
+    particles: &[held!(0, 0, 0), free!(105, 0, 1)],
+    seen: stays!([0, 100, 0, 100], 0, 0, 0, -5),
+    ..PULLS
+};
+
+static FIXED: Case = Case {
+    particles: &[held!(0, 0, 0), held!(105, 0, 0)],
+    seen: stays!([0, 105, 0, 105], 0, 0, 0, 0),
+    ..PULLS
+};
+
+static WEIGHED: Case = Case {
+    particles: &[free!(0, 0, 1), free!(105, 0, 2)],
+    seen: stays!([2, 102, 2, 102], 1, -1, 0, 0),
+    ..PULLS
+};
+
+static FAR: Case = Case {
+    particles: &[free!(-536870912, 0, 65535), free!(536870912, 0, 1)],
+    bonds: Bonds::Links(&[link!(0, 1, 0)]),
+    batch: &[0],
+    seen: stays!(
+        [536854528, 536854528, 536854528, 536854528],
+        0,
+        1073709056,
+        0,
+        0
+    ),
+};
+
+const TOUCHES: Case = Case {
+    particles: &[free!(0, 0, 1), free!(100, 0, 1)],
+    bonds: Bonds::Contacts {
+        pairs: &[(0, 1)],
+        thickness: 100,
+    },
+    batch: &[0],
+    seen: stays!([0, 100, 0, 100], 0, 0, 0, 0),
+};
+
+static APART: Case = TOUCHES;
+
+static NEAR: Case = Case {
+    particles: &[free!(0, 0, 1), free!(95, 0, 2)],
+    seen: stays!([-2, 98, -2, 98], 0, 0, 1, 0),
+    ..TOUCHES
+};
+
+static AT_THE_EDGE: Case = Case {
+    particles: &[free!(536870912, 0, 1), free!(536870911, 0, 1)],
+    seen: leaves!(0),
+    ..TOUCHES
+};
+
+const FIVE_PULL: Case = Case {
+    particles: &[
+        free!(0, 0, 1),
+        free!(105, 0, 1),
+        free!(0, 10, 1),
+        free!(105, 10, 1),
+        free!(0, 20, 1),
+        free!(105, 20, 1),
+        free!(0, 30, 1),
+        free!(105, 30, 1),
+        free!(0, 40, 1),
+        free!(110, 40, 1),
+    ],
+    bonds: Bonds::Links(&[
+        link!(0, 1, 100),
+        link!(2, 3, 100),
+        link!(4, 5, 100),
+        link!(6, 7, 100),
+        link!(8, 9, 100),
+    ]),
+    batch: &[4, 0, 3, 1, 2],
+    seen: stays!([3, 102, 5, 105], 8, 0, 0, 0),
+};
+
+static FIVE: Case = FIVE_PULL;
+
+static TWO_OF_FIVE_LEAVE: Case = Case {
+    particles: &[
+        free!(0, 0, 1),
+        free!(105, 0, 1),
+        free!(536870912, 10, 1),
+        free!(536870911, 10, 1),
+        free!(0, 20, 1),
+        free!(105, 20, 1),
+        free!(536870912, 30, 1),
+        free!(536870911, 30, 1),
+        free!(0, 40, 1),
+        free!(110, 40, 1),
+    ],
+    seen: leaves!(3),
+    ..FIVE_PULL
+};
+
+static SEVENTEEN: Case = Case {
+    particles: &[
+        free!(0, 0, 1),
+        free!(105, 0, 1),
+        free!(0, 1000, 1),
+        free!(105, 1000, 1),
+        free!(0, 2000, 1),
+        free!(105, 2000, 1),
+        free!(0, 3000, 1),
+        free!(105, 3000, 1),
+        free!(0, 4000, 1),
+        free!(105, 4000, 1),
+        free!(0, 5000, 1),
+        free!(105, 5000, 1),
+        free!(0, 6000, 1),
+        free!(105, 6000, 1),
+        free!(0, 7000, 1),
+        free!(105, 7000, 1),
+        free!(0, 8000, 1),
+        free!(105, 8000, 1),
+        free!(0, 9000, 1),
+        free!(105, 9000, 1),
+        free!(0, 10000, 1),
+        free!(105, 10000, 1),
+        free!(0, 11000, 1),
+        free!(105, 11000, 1),
+        free!(0, 12000, 1),
+        free!(105, 12000, 1),
+        free!(0, 13000, 1),
+        free!(105, 13000, 1),
+        free!(0, 14000, 1),
+        free!(105, 14000, 1),
+        free!(0, 15000, 1),
+        free!(105, 15000, 1),
+        free!(0, 16000, 1),
+        free!(105, 16000, 1),
+    ],
+    bonds: Bonds::Links(&[
+        link!(0, 1, 100),
+        link!(2, 3, 100),
+        link!(4, 5, 100),
+        link!(6, 7, 100),
+        link!(8, 9, 100),
+        link!(10, 11, 100),
+        link!(12, 13, 100),
+        link!(14, 15, 100),
+        link!(16, 17, 100),
+        link!(18, 19, 100),
+        link!(20, 21, 100),
+        link!(22, 23, 100),
+        link!(24, 25, 100),
+        link!(26, 27, 100),
+        link!(28, 29, 100),
+        link!(30, 31, 100),
+        link!(32, 33, 100),
+    ]),
+    batch: &[0, 1, 2, 3, 4, 5, 6, 7, 8, 9, 10, 11, 12, 13, 14, 15, 16],
+    seen: stays!([3, 102, 3, 102], 34, 0, 0, 0),
+};
+
+/// How many places are at 3 or 102 on x.
+fn settled_places<G: Ledger, const L: usize>(store: &Store<L>, steps: &mut Steps<G>) -> u32 {
+    let mut count = 0u32;
+    for i in 0..store.len() {
+        let x = store.at(i, steps).at.x;
+        if x == 3 || x == 102 {
+            count = count.saturating_add(1);
+        }
+    }
+    count
+}
+
+/// The first and the last two places on x.
+fn ends_on_x<G: Ledger, const L: usize>(store: &Store<L>, steps: &mut Steps<G>) -> [i64; 4]
+    requires { 2 ≤ length store.now.particles }
+{
+    let last = store.len() - 1;
+    [
+        store.at(0, steps).at.x,
+        store.at(1, steps).at.x,
+        store.at(last - 1, steps).at.x,
+        store.at(last, steps).at.x,
+    ]
+}
+
+/// What a batch comes to in a store.
+fn projected<G: Ledger, P: Projector<L>, const L: usize>(
+    steps: &mut Steps<G>,
+    projector: &mut P,
+    store: &mut Store<L>,
+    bonds: Bonds<'_>,
+    batch: &[u32],
+) -> Seen
+    requires low { 0 < L }
+    requires high { L ≤ 16 }
+    requires limit { store.old.limit ≡ pos (2 ^ 29) }
+    requires two { 2 ≤ length store.old.particles }
+    requires placed { IsTrue (list_all (is_placed (pos (2 ^ 29))) store.old.particles) }
+    requires batch { IsTrue (is_batch (pos (2 ^ 29)) (length store.old.particles) bonds batch.now) }
+{
+    let mut totals = Totals::zero();
+    let outcome = projector.project(store, bonds, batch, &mut totals, steps);
+    let x = ends_on_x(store, steps);
+    let left = match outcome {
+        Ok(()) => None,
+        Err(left) => Some(left.element),
+    };
+    Seen {
+        left,
+        x,
+        settled: settled_places(store, steps),
+        link: totals.link[0],
+        contact: totals.contact[0],
+        pin: totals.pin[0],
+    }
+}
+
+/// Whether a case comes to what it says. What is left behind where a bond leaves isn't looked at.
+fn holds<G: Ledger, P: Projector<L>, const L: usize>(
+    alloc: Global,
+    steps: &mut Steps<G>,
+    projector: &mut P,
+    case: &Case,
+) -> bool
+    requires low { 0 < L }
+    requires high { L ≤ 16 }
+    requires two { 2 ≤ length case.now.particles.now }
+    requires size { length case.now.particles.now ≤ 65536 }
+    requires placed { IsTrue (list_all (is_placed (pos (2 ^ 29))) case.now.particles.now) }
+    requires batch { IsTrue (is_batch (pos (2 ^ 29)) (length case.now.particles.now) case.now.bonds case.now.batch.now) }
+{
+    match Store::<L>::open(alloc, case.particles, RANGE) {
+        Ok(mut store) => {
+            let seen = projected(steps, projector, &mut store, case.bonds, case.batch);
+            drop(store);
+            seen.left == case.seen.left && (seen.left.is_some() || seen == case.seen)
+        }
+        Err(_) => false,
+    }
+}
+
+fn links<G: Ledger, P: Projector<L>, const L: usize>(
+    alloc: Global,
+    steps: &mut Steps<G>,
+    projector: &mut P,
+) -> [bool; 7]
+    requires low { 0 < L }
+    requires high { L ≤ 16 }
+{
+    [
+        holds(alloc, steps, projector, &PULLED),
+        holds(alloc, steps, projector, &PINNED),
+        holds(alloc, steps, projector, &FIXED),
+        holds(alloc, steps, projector, &WEIGHED),
+        holds(alloc, steps, projector, &FIVE),
+        holds(alloc, steps, projector, &TWO_OF_FIVE_LEAVE),
+        holds(alloc, steps, projector, &SEVENTEEN),
+    ]
+}
+
+fn contacts_and_ends<G: Ledger, P: Projector<L>, const L: usize>(
+    alloc: Global,
+    steps: &mut Steps<G>,
+    projector: &mut P,
+) -> [bool; 4]
+    requires low { 0 < L }
+    requires high { L ≤ 16 }
+{
+    [
+        holds(alloc, steps, projector, &APART),
+        holds(alloc, steps, projector, &NEAR),
+        holds(alloc, steps, projector, &FAR),
+        holds(alloc, steps, projector, &AT_THE_EDGE),
+    ]
+}
+
+/// Which cases hold, and how many bonds their projector was handed then.
+type Told = ([bool; 7], [bool; 4], u64);
+
+fn batches<G: Ledger, P: Projector<L>, const L: usize>(
+    alloc: Global,
+    steps: &mut Steps<G>,
+    projector: &mut P,
+) -> Told
+    requires low { 0 < L }
+    requires high { L ≤ 16 }
+{
+    let links = links(alloc, steps, projector);
+    let others = contacts_and_ends(alloc, steps, projector);
+    (links, others, projector.handed())
+}
+
+/// The eleven cases hand over 35 bonds.
+const ALL_HOLD: Told = ([true; 7], [true; 4], 35);
+
+/// What is told of two widths one by one, and of each width side by side.
+fn widths<G: Ledger>(alloc: Global, blank: Blank) -> [Told; 7]
+    requires name { blank.name ≡ G.name }
+    requires parts { blank.parts ≡ G.parts }
+    requires some { 0 < blank.parts }
+{
+    let mut steps: Steps<G> = Steps::open(blank);
+    let told = [
+        batches(alloc, &mut steps, &mut Scalar::<1>::new()),
+        batches(alloc, &mut steps, &mut Scalar::<16>::new()),
+        batches(alloc, &mut steps, &mut LaneProjector::<1>::new()),
+        batches(alloc, &mut steps, &mut LaneProjector::<2>::new()),
+        batches(alloc, &mut steps, &mut LaneProjector::<4>::new()),
+        batches(alloc, &mut steps, &mut LaneProjector::<8>::new()),
+        batches(alloc, &mut steps, &mut LaneProjector::<16>::new()),
+    ];
+    drop(steps);
+    told
+}
+
+#[test]
+fn one_by_one_and_side_by_side(rt: HostRuntime) {
+    assert!(rt; widths::<Brand>(rt.alloc(), Blank::new(1)) == [ALL_HOLD; 7]);
+    assert!(rt; Scalar::<4>::new().lanes() == 1);
+    assert!(rt; LaneProjector::<4>::new().lanes() == 4);
+}
