@@ -2,8 +2,6 @@
 #![tactic(auto)]
 
 mod run;
-#[cfg(test)]
-mod tests;
 
 use pbd_io::{StdSink, StdSource};
 use pbd_outcome::Status;

@@ -1,7 +1,6 @@
 //! Cloths: on a sphere, in free fall, at rest, generated, and as large as they may be.
-use crate::written::{Given, all_of, are_alike, comes_to, first_wrong, push_line, run, writes};
-use std::alloc::{AllocError, Global};
-use std::test::Fail;
+use crate::written::{Given, all_of, are_alike, comes_to, holds, push_line, run, writes};
+use std::alloc::Global;
 
 const ON_A_SPHERE: &[u8] =
     b"gravity = [0, -179, 0]\npasses = 8\nthickness = 3000\npins = [0, 31]\n[[cloth]]\norigin = [0, 65536, 0]\nacross = [6554, 0, 0]\ndown = [0, 0, 6554]\nrows = 32\ncolumns = 32\n[[sphere]]\ncentre = [101587, -65536, 101587]\nradius = 45000\n%%\nstep 60\nframe\nledger\n";
@@ -33,29 +32,32 @@ fn is_replayed(alloc: Global, log: &[u8]) -> bool {
 }
 
 #[test]
-fn a_cloth_on_a_sphere_is_replayed(rt: HostRuntime) -> Result<(), Fail> {
-    let (_, log) = run(rt.alloc(), "record 4", &all_of(ON_A_SPHERE))?;
+fn a_cloth_on_a_sphere_is_replayed(rt: HostRuntime) {
+    let outcome = run(rt.alloc(), "record 4", &all_of(ON_A_SPHERE));
+    let (_, log) = outcome.expect(&rt, "no memory");
     let so = is_replayed(rt.alloc(), &log);
     drop(log);
     assert!(rt; so);
-    Ok(())
 }
 
 /// The frame and the ledger of the falling cloth: gravity took each of its 1,024 particles down by 327,570.
-fn push_fallen(text: &mut String) -> Result<(), AllocError> {
-    text.push_str("ok\nframe 60 1024 5826 0\n")?;
+fn push_fallen(text: &mut String) -> bool {
+    let begun = text.push_str("ok\nframe 60 1024 5826 0\n").is_ok();
     for n in 0..1024u32 {
-        push_line(text, "# -262034 #\n", &[6554 * (n % 32), 6554 * (n / 32)])?;
+        if !push_line(text, "# -262034 #\n", &[6554 * (n % 32), 6554 * (n / 32)]) {
+            return false;
+        }
     }
-    text.push_str(
+    let ended = text.push_str(
         "ledger momentum 0 -10997760 0\nledger opening 0 0 0\nledger gravity 0 -10997760 0\nledger damping 0 0 0\nledger link 0 0 0\nledger contact 0 0 0\nledger pin 0 0 0\nledger shape 0 0 0\n",
-    )
+    );
+    begun && ended.is_ok()
 }
 
 #[test]
 fn a_cloth_in_free_fall_keeps_its_form(rt: HostRuntime) {
     let mut text = String::new(rt.alloc());
-    let made = push_fallen(&mut text).is_ok();
+    let made = push_fallen(&mut text);
     let output = text.as_str().as_bytes();
     let so = writes(rt.alloc(), "simulate *", IN_FREE_FALL, 0, output);
     drop(text);
@@ -65,7 +67,7 @@ fn a_cloth_in_free_fall_keeps_its_form(rt: HostRuntime) {
 /// No search of all pairs of 65,536 particles ends two hundred times in a test's time.
 #[test]
 fn a_wide_cloth_at_rest_ends_in_time(rt: HostRuntime) {
-    assert_eq!(rt; first_wrong(rt.alloc(), AT_REST), None);
+    assert!(rt; holds(rt.alloc(), AT_REST));
 }
 
 /// Words, others whose runs come to the same, what they are given, and how they may end, each end with the beginning of what

@@ -1,35 +1,27 @@
 //! Inputs that are generated: particles in a row, links side by side, and links that meet at one particle.
 use crate::written::{all_of, are_alike, push_line, writes};
-use std::alloc::{AllocError, Global};
-use std::test::Fail;
+use std::alloc::Global;
 
 /// A line for each number from the first on and below the second, which stands at each `#` of it.
 type Lines = (u32, u32, &'static str);
 
-fn push_each(text: &mut String, lines: &Lines) -> Result<(), AllocError> {
+fn push_lines(text: &mut String, lines: &Lines) -> bool {
     let (from, to, line) = *lines;
     for number in from..to {
-        push_line(text, line, &[number, number])?;
-    }
-    Ok(())
-}
-
-fn push_all(text: &mut String, parts: &[Lines]) -> Result<(), AllocError> {
-    for lines in parts {
-        push_each(text, lines)?;
-    }
-    Ok(())
-}
-
-fn text_of(alloc: Global, parts: &[Lines]) -> Result<String, AllocError> {
-    let mut text = String::new(alloc);
-    match push_all(&mut text, parts) {
-        Ok(()) => Ok(text),
-        Err(error) => {
-            drop(text);
-            Err(error)
+        if !push_line(text, line, &[number, number]) {
+            return false;
         }
     }
+    true
+}
+
+fn push_all(text: &mut String, parts: &[Lines]) -> bool {
+    for lines in parts {
+        if !push_lines(text, lines) {
+            return false;
+        }
+    }
+    true
 }
 
 const PARTICLE: &str = "[[particle]]\nat = [#, 0, 0]\n";
@@ -41,8 +33,9 @@ static SEVENTY: [Lines; 3] = [
 ];
 
 #[test]
-fn seventy_contacts_are_the_same_at_every_width(rt: HostRuntime) -> Result<(), Fail> {
-    let input = text_of(rt.alloc(), &SEVENTY)?;
+fn seventy_contacts_are_the_same_at_every_width(rt: HostRuntime) {
+    let mut input = String::new(rt.alloc());
+    let made = push_all(&mut input, &SEVENTY);
     let alike = are_alike(
         rt.alloc(),
         "simulate 1",
@@ -51,8 +44,7 @@ fn seventy_contacts_are_the_same_at_every_width(rt: HostRuntime) -> Result<(), F
         &[(0, b"ok\nframe 1 70 0 2415\n")],
     );
     drop(input);
-    assert!(rt; alike);
-    Ok(())
+    assert!(rt; made && alike);
 }
 
 /// Links of length 105 and of rest length 100, side by side.
@@ -134,18 +126,19 @@ static ROWS: [(&str, &[Lines], u8, &[Lines]); 5] = [
 ];
 
 fn holds(alloc: Global, words: &str, input: &[Lines], number: u8, output: &[Lines]) -> bool {
-    let Ok(input) = text_of(alloc, input) else {
-        return false;
-    };
-    let Ok(output) = text_of(alloc, output) else {
-        drop(input);
-        return false;
-    };
-    let (given, wanted) = (input.as_str().as_bytes(), output.as_str().as_bytes());
-    let so = writes(alloc, words, given, number, wanted);
-    drop(input);
-    drop(output);
-    so
+    let mut given = String::new(alloc);
+    let mut wanted = String::new(alloc);
+    let made = [push_all(&mut given, input), push_all(&mut wanted, output)];
+    let so = writes(
+        alloc,
+        words,
+        given.as_str().as_bytes(),
+        number,
+        wanted.as_str().as_bytes(),
+    );
+    drop(given);
+    drop(wanted);
+    so && made == [true; 2]
 }
 
 #[test]

@@ -1,7 +1,9 @@
-//! Tests of whole runs, from the words to the status and the bytes: tables of inputs, logs, meshes, marks and hosts, cloths,
-//! and sources and sinks that fail.
+//! Tests of whole runs, from the words to the status and the bytes: tables of inputs, logs, meshes, marks and hosts, tagged
+//! lines, sixteen sessions in a hundred drawn orders, cloths, and sources and sinks that fail.
 #![tactic(auto)]
 
+#[cfg(test)]
+mod apart;
 #[cfg(test)]
 mod cloths;
 #[cfg(test)]
@@ -14,5 +16,7 @@ mod meshes;
 mod outside;
 #[cfg(test)]
 mod rows;
+#[cfg(test)]
+mod tags;
 #[cfg(test)]
 mod written;

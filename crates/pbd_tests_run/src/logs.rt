@@ -1,4 +1,4 @@
-//! Logs: written, replayed, changed and cut, as this version and the one before it wrote them.
+//! Logs: written, replayed, changed and cut, as this version and the one before it wrote them; and bytes that are no text.
 use crate::written::writes;
 use pbd_outcome::Status;
 use std::alloc::Global;
@@ -11,8 +11,8 @@ pub(crate) const LOG: &[u8] =
 pub(crate) const OLD_LOG: &[u8] =
     b"PBDSLOG\x01\x00\x00\x005gravity = [0, -10, 0]\n[[particle]]\nat = [0, 1000, 0]\n\x01\x00\x00\x00\x00\x00\x00\x00\x03\x00\x00\x00\x00\x00\x00\x00\x00\x03\x00\x00\x00\x00\x00\x00\x00\x00\x00\x00\x00\x00\x00\x00\x00\x00\x00\x00\x00\x00\x00\x00\x03\xac\x00\x00\x00\x00\x00\x00\x00\x00\x00\x00\x00\x00\x00\x00\x00\x00\x00\x00\x00\x00\x00\x00\x03\xca\x00\x00\x00\x00\x00\x00\x00\x00\x02\x00\x00\x00\x00\x00\x00\x00\x00\x00\x02";
 
-/// Words, an input, what is written, and the status.
-static LOGS: [(&str, &[u8], &[u8], Status); 17] = [
+/// Words, an input, what is written, and the status, where bytes are no text: logs, and scenes that are none.
+static BYTES: [(&str, &[u8], &[u8], Status); 19] = [
     (
         "record 4",
         b"%%\nframe\n",
@@ -115,11 +115,23 @@ static LOGS: [(&str, &[u8], &[u8], Status); 17] = [
         b"error 10 Mismatch record 1 field answer recorded 11 found 0\n",
         Status::Mismatch,
     ),
+    (
+        "simulate *",
+        b"\xff\n%%\n",
+        b"error 6 SceneNotText\n",
+        Status::SceneNotText,
+    ),
+    (
+        "obj 4",
+        b"v 1 2\n%%\n\xff\n%%\n",
+        b"error 6 SceneNotText\n",
+        Status::SceneNotText,
+    ),
 ];
 
 #[test]
-fn a_log_is_written_and_replayed(rt: HostRuntime) {
-    for (words, input, output, status) in &LOGS {
+fn bytes_are_read_and_written_as_their_rows_say(rt: HostRuntime) {
+    for (words, input, output, status) in &BYTES {
         let so = writes(rt.alloc(), words, input, status.code(), output);
         assert!(rt; so, "{words} {output:?}");
     }
@@ -176,6 +188,7 @@ fn first_wrong_cut(alloc: Global, log: &[u8], refusals: Refusals) -> Option<usiz
 #[test]
 fn a_log_that_is_cut_is_refused_where_it_goes_wrong(rt: HostRuntime) {
     for (log, refusals) in &CUTS {
-        assert_eq!(rt; first_wrong_cut(rt.alloc(), *log, *refusals), None);
+        let wrong = first_wrong_cut(rt.alloc(), *log, *refusals);
+        assert!(rt; wrong.is_none(), "{wrong:?}");
     }
 }

@@ -1,4 +1,4 @@
-//! Inputs beside what is written, of `simulate`, `marks` and `host`, and runs that stop before the first reply.
+//! Inputs beside what is written, of `simulate`, `marks`, `host` and `obj`, and runs that stop before the first reply.
 use crate::written::first_wrong;
 
 /// Steps, frames, refusals and ledgers.
@@ -106,11 +106,41 @@ large 1 7 129 <  => 1 error 1 Usage
 large 1 7 1 <  => 1 error 1 Usage
 large 1 7 0002 <  => 1 error 1 Usage";
 
-static TABLES: [&str; 6] = [RUNS, STEP_LIMIT, STEP_LIMIT_OF_A_MARK, HOSTS, MARKS, STOPS];
+/// Meshes, scenes and scripts, and frames as meshes again.
+const MESHES: &str =
+    "obj * < v 0 0 0; v 1 0 0; v 1 1 0; v 0 1 0; f 1 2/7 -2//3 4; %%; %%; step 1; frame => 0 # ok; # frame 1 4 6 0; v 0 0 0; v 1 0 0; v 1 1 0; v 0 1 0; f 1 2 3 4
+obj * < v 0.1 0 0; v 1e-1 0 0; v 0.00000762939453125 0 0; v -0.00000762939453125 0 0; %%; %%; frame => 0 # frame 0 4 0 0; v 0.100006103515625 0 0; v 0.100006103515625 0 0; v 0.0000152587890625 0 0; v -0.0000152587890625 0 0
+obj * < v 0 0 1; v 1 0 1; v 0 1 1; f 1 2 3; %%; [[particle]]; at = [0, 0, 0]; [[particle]]; at = [65536, 0, 0]; held = true; [[link]]; a = 0; b = 1; rest = 65536; %%; frame; pin 5; cut 0; cut 4; ledger; frame => 11 # frame 0 5 4 0; v 0 0 0; v 1 0 0; v 0 0 1; v 1 0 1; v 0 1 1; f 3 4 5; # refused 2 NoParticle; # ok; # refused 3 NoLink; # ledger momentum 0 0 0; # ledger opening 0 0 0; # ledger gravity 0 0 0; # ledger damping 0 0 0; # ledger link 0 0 0; # ledger contact 0 0 0; # ledger pin 0 0 0; # ledger shape 0 0 0; # frame 0 5 3 0; v 0 0 0; v 1 0 0; v 0 0 1; v 1 0 1; v 0 1 1; f 3 4 5
+obj * < # a comment; o square; v 0 0 0; v 1 0 0; v 1 1 0; vn 0 0 1; vt 0 0; s off; f 1//1 2//1 3//1; %%; gravity = [0, -65536, 0]; %%; step 1; frame => 0 # ok; # frame 1 3 3 0; v 0 -1 0; v 1 -1 0; v 1 0 0; f 1 2 3
+obj * < %%; %% => 0";
+
+/// Meshes with a fault behind scenes with and without one, and meshes that a scene has no room for.
+const REFUSED: &str = "obj 2 <  => 5 error 5 NoScript
+obj 2 < v 1 2; %% => 5 error 5 NoScript
+obj 2 < v 1 2; %%; = 1; %% => 7 error 7 SceneNotToml
+obj 2 < v 1 2; %%; colour = 1; %% => 8 error 8 SceneRefused 2 UnknownKey scene 0 -
+obj 2 < v 1 2; %%; %% => 14 error 14 ObjRefused 1 BadNumber at 1
+obj 2 < f 1 2 3; %%; %% => 14 error 14 ObjRefused 2 BadFace at 1
+obj 2 < v 8193 0 0; %%; %% => 14 error 14 ObjRefused 3 OutOfRange at 1
+obj 2 < v 0 0 0; ; # three; v 0 0 x; %%; %%; frame => 14 error 14 ObjRefused 1 BadNumber at 4
+obj 2 < v 0 0 0; %%; [[cloth]]; origin = [0, 0, 0]; across = [0, 0, 0]; down = [0, 0, 0]; rows = 256; columns = 256; %% => 14 error 14 ObjRefused 4 TooMany at 0
+obj 2 < v 0 0 0; v 0 0 0; v 0 0 0; v 0 0 0; v 0 0 0; v 0 0 0; v 0 0 0; v 0 0 0; v 0 0 0; v 0 0 0; v 0 0 0; v 0 0 0; v 0 0 0; v 0 0 0; v 0 0 0; v 0 0 0; v 0 0 0; v 0 0 0; v 0 0 0; v 0 0 0; v 0 0 0; v 0 0 0; v 0 0 0; v 0 0 0; v 0 0 0; v 0 0 0; v 0 0 0; v 0 0 0; v 0 0 0; v 0 0 0; v 0 0 0; v 0 0 0; v 0 0 0; v 0 0 0; v 0 0 0; f 1 2 3; f 1 4 5; f 1 6 7; f 1 8 9; f 1 10 11; f 1 12 13; f 1 14 15; f 1 16 17; f 1 18 19; f 1 20 21; f 1 22 23; f 1 24 25; f 1 26 27; f 1 28 29; f 1 30 31; f 1 32 33; f 1 34 35; %%; [[particle]]; at = [0, 0, 0]; %% => 14 error 14 ObjRefused 5 TooManyAtParticle at 1";
+
+static TABLES: [&str; 8] = [
+    RUNS,
+    STEP_LIMIT,
+    STEP_LIMIT_OF_A_MARK,
+    HOSTS,
+    MARKS,
+    MESHES,
+    REFUSED,
+    STOPS,
+];
 
 #[test]
 fn runs_end_and_write_as_their_rows_say(rt: HostRuntime) {
     for table in &TABLES {
-        assert_eq!(rt; first_wrong(rt.alloc(), *table), None);
+        let wrong = first_wrong(rt.alloc(), *table);
+        assert!(rt; wrong.is_none(), "{wrong:?}");
     }
 }

@@ -178,7 +178,9 @@ fn parts_of(row: &str) -> Option<(&str, &str, u8, &str)> {
     Some((words, input, number, output))
 }
 
-fn holds(alloc: Global, row: &str) -> bool {
+/// Whether a row `WORDS < INPUT => STATUS OUTPUT` is one and holds. A `*` in the words stands for each width, and `; ` for the
+/// end of a line.
+pub(crate) fn holds(alloc: Global, row: &str) -> bool {
     let Some((words, input, number, output)) = parts_of(row) else {
         return false;
     };
@@ -196,8 +198,7 @@ fn holds(alloc: Global, row: &str) -> bool {
     so
 }
 
-/// The first line of a table that is no row or doesn't hold. In a row `WORDS < INPUT => STATUS OUTPUT`, a `*` in the words
-/// stands for each width, and `; ` for the end of a line.
+/// The first line of a table that is no row or doesn't hold.
 pub(crate) fn first_wrong(alloc: Global, table: &str) -> Option<&str> {
     for row in table.split('\n') {
         if !holds(alloc, row) {
@@ -207,14 +208,26 @@ pub(crate) fn first_wrong(alloc: Global, table: &str) -> Option<&str> {
     None
 }
 
-/// Adds a line, in which the next number stands for each `#`.
-pub(crate) fn push_line(text: &mut String, line: &str, numbers: &[u32]) -> Result<(), AllocError> {
+/// Adds each of some texts, where there is memory.
+pub(crate) fn push_each(text: &mut String, pieces: &[&str]) -> bool {
+    for piece in pieces {
+        if text.push_str(*piece).is_err() {
+            return false;
+        }
+    }
+    true
+}
+
+/// Adds a line, in which the next number stands for each `#`, where there is memory.
+pub(crate) fn push_line(text: &mut String, line: &str, numbers: &[u32]) -> bool {
     let mut rest = line;
     for number in numbers {
         if let Some((before, behind)) = rest.split_once('#') {
-            write!(text, "{before}{number}")?;
+            if write!(text, "{before}{number}").is_err() {
+                return false;
+            }
             rest = behind;
         }
     }
-    text.push_str(rest)
+    text.push_str(rest).is_ok()
 }

@@ -189,15 +189,11 @@ fn counted<G: Ledger>(alloc: Global, blank: Blank, scene: &Scene, n: u64) -> [Ac
     told
 }
 
-fn at_each_width(alloc: Global, scene: &Scene, n: u64) -> [Accesses; 5] {
-    counted::<Brand>(alloc, Blank::new(1), scene, n)
-}
-
 /// What the bonds of a row may cost, at each width.
 fn cost(alloc: Global, row: &Row) -> Result<[Accesses; 5], PartsFault> {
     match scene(alloc, &row.scene) {
         Ok(scene) => {
-            let told = at_each_width(alloc, &scene, row.steps);
+            let told = counted::<Brand>(alloc, Blank::new(1), &scene, row.steps);
             drop(scene);
             Ok(told)
         }

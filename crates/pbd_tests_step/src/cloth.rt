@@ -4,8 +4,7 @@ ghost use Rattle.std.specs.Prelude.{◌≤◌, length};
 use crate::drawing::{Drawing, TEARS, scene};
 use pbd_cloth::{Cloth, Place};
 use pbd_num::Vec3;
-use pbd_world::{Command, PartsFault, Refusal, Reply, Scene};
-use std::alloc::{AllocError, Global};
+use pbd_world::{Command, Refusal, Reply};
 
 static TEARING: Drawing = TEARS;
 
@@ -48,30 +47,6 @@ fn played(cloth: &mut Cloth) -> ([Reply; 4], [Seen; 4])
     ([step, cut, refused, pulled], [torn, all, again, first])
 }
 
-/// The same in a cloth of its own, with two slots.
-fn played_in(alloc: Global, scene: &Scene) -> Result<([Reply; 4], [Seen; 4]), AllocError> {
-    match Cloth::open(alloc, scene, 2) {
-        Ok(mut cloth) => {
-            let told = played(&mut cloth);
-            drop(cloth);
-            Ok(told)
-        }
-        Err(error) => Err(error),
-    }
-}
-
-/// The same on a drawing.
-fn played_on(alloc: Global, drawing: &Drawing) -> Result<([Reply; 4], [Seen; 4]), PartsFault> {
-    match scene(alloc, drawing) {
-        Ok(scene) => {
-            let told = played_in(alloc, &scene);
-            drop(scene);
-            told.or(Err(PartsFault::OutOfMemory))
-        }
-        Err(fault) => Err(fault),
-    }
-}
-
 /// The answers to a step that tears two links, to a cut, to the same cut again, and to gravity.
 static REPLIES: [Reply; 4] = [
     Reply::Done,
@@ -92,7 +67,12 @@ static TOLD: [Seen; 4] = [
 
 #[test]
 fn a_cloth_goes_back_to_its_slots(rt: HostRuntime) {
-    let (replies, told) = played_on(rt.alloc(), &TEARING).expect(&rt, "no scene");
+    let scene = scene(rt.alloc(), &TEARING).expect(&rt, "no scene");
+    let opened = Cloth::open(rt.alloc(), &scene, 2);
+    drop(scene);
+    let mut cloth = opened.expect(&rt, "no cloth");
+    let (replies, told) = played(&mut cloth);
+    drop(cloth);
     assert!(rt; replies == REPLIES);
     assert!(rt; told == TOLD);
 }

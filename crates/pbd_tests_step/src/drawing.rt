@@ -1,7 +1,7 @@
 //! Scenes as they are drawn for the tests of steps and sessions.
 use pbd_num::{RANGE, Vec3};
 use pbd_world::{Key, Kind, Link, List, Particle, Parts, PartsFault, Plane, Scene, Sphere, Track};
-use std::alloc::{AllocError, Global};
+use std::alloc::Global;
 
 macro_rules! vector {
     ($x:expr, $y:expr, $z:expr) => {
@@ -180,65 +180,55 @@ const CROWDED: Drawing = Drawing {
     ..EMPTY
 };
 
-fn push_all<T: Copy + Drop>(list: &mut List<T>, items: &[T]) -> Result<(), AllocError> {
+/// Adds items to a list, where there is memory.
+fn push_all<T: Copy + Drop>(list: &mut List<T>, items: &[T]) -> bool {
     for item in items {
-        list.push(*item)?;
-    }
-    Ok(())
-}
-
-fn track(alloc: Global, particle: u32, keys: &[Key]) -> Result<Track, AllocError> {
-    let mut list = List::new(alloc);
-    match push_all(&mut list, keys) {
-        Ok(()) => Ok(Track {
-            particle,
-            keys: list,
-        }),
-        Err(error) => {
-            drop(list);
-            Err(error)
+        if list.push(*item).is_err() {
+            return false;
         }
     }
+    true
 }
 
-fn push_tracks(
-    alloc: Global,
-    list: &mut List<Track>,
-    tracks: &[(u32, &[Key])],
-) -> Result<(), AllocError> {
+fn push_tracks(alloc: Global, list: &mut List<Track>, tracks: &[(u32, &[Key])]) -> bool {
     for (particle, keys) in tracks {
-        list.push(track(alloc, *particle, keys)?)?;
+        let particle = *particle;
+        match List::copied(alloc, keys) {
+            Ok(keys) => {
+                if list.push(Track { particle, keys }).is_err() {
+                    return false;
+                }
+            }
+            Err(_) => return false,
+        }
     }
-    Ok(())
+    true
 }
 
-/// Adds what a drawing consists of to parts.
-fn draw(alloc: Global, drawing: &Drawing, parts: &mut Parts) -> Result<(), AllocError> {
-    push_all(&mut parts.particles, drawing.particles)?;
-    push_all(&mut parts.links, drawing.links)?;
-    push_all(&mut parts.planes, drawing.planes)?;
-    push_all(&mut parts.spheres, drawing.spheres)?;
-    push_tracks(alloc, &mut parts.tracks, drawing.tracks)?;
+/// Adds what a drawing consists of to parts, where there is memory.
+fn draw(alloc: Global, drawing: &Drawing, parts: &mut Parts) -> bool {
     parts.gravity = drawing.gravity;
     parts.passes = drawing.passes;
     parts.damping = drawing.damping;
     parts.thickness = drawing.thickness;
     parts.friction = drawing.friction;
-    Ok(())
+    let drawn = [
+        push_all(&mut parts.particles, drawing.particles),
+        push_all(&mut parts.links, drawing.links),
+        push_all(&mut parts.planes, drawing.planes),
+        push_all(&mut parts.spheres, drawing.spheres),
+        push_tracks(alloc, &mut parts.tracks, drawing.tracks),
+    ];
+    drawn == [true; 5]
 }
 
 /// The scene of parts, where all went into them.
-fn scene_of(
-    alloc: Global,
-    parts: Parts,
-    drawn: Result<(), AllocError>,
-) -> Result<Scene, PartsFault> {
-    match drawn {
-        Ok(()) => Scene::from_parts(alloc, parts),
-        Err(_) => {
-            drop(parts);
-            Err(PartsFault::OutOfMemory)
-        }
+fn scene_of(alloc: Global, parts: Parts, drawn: bool) -> Result<Scene, PartsFault> {
+    if drawn {
+        Scene::from_parts(alloc, parts)
+    } else {
+        drop(parts);
+        Err(PartsFault::OutOfMemory)
     }
 }
 
@@ -249,12 +239,13 @@ pub(crate) fn scene(alloc: Global, drawing: &Drawing) -> Result<Scene, PartsFaul
     scene_of(alloc, parts, drawn)
 }
 
-fn draw_row(alloc: Global, count: u16, parts: &mut Parts) -> Result<(), AllocError> {
-    draw(alloc, &CROWDED, parts)?;
+fn draw_row(alloc: Global, count: u16, parts: &mut Parts) -> bool {
     for x in 0..count {
-        parts.particles.push(free!(i64::from(x), 0))?;
+        if parts.particles.push(free!(i64::from(x), 0)).is_err() {
+            return false;
+        }
     }
-    Ok(())
+    draw(alloc, &CROWDED, parts)
 }
 
 /// So many particles in a row, each nearer to all others than the thickness.

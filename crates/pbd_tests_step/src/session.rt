@@ -12,7 +12,7 @@ use pbd_num::Vec3;
 use pbd_pair::{LaneProjector, Projector, Scalar};
 use pbd_session::{Field, ReplayEnd, RunEnd, Session, run_record, run_replay, run_script};
 use pbd_store::Steps;
-use pbd_world::{Particle, PartsFault, Scene};
+use pbd_world::{Particle, Scene};
 use std::alloc::{AllocError, Global};
 use std::marker::Brand;
 use std::sync::ledger::{Blank, Ledger};
@@ -29,8 +29,6 @@ const RUBS: Drawing = Drawing {
 };
 
 static FALLING: Drawing = FALLS;
-
-static FLYING: Drawing = FLIES;
 
 static LEAVING: Drawing = AT_THE_EDGE;
 
@@ -77,70 +75,13 @@ fn ended<const L: usize, P: Projector<L> + Drop, G: Ledger>(
     }
 }
 
-/// A job, the failures of its sink, how it ends, and how many bytes of a text are in the sink then.
+/// A job, the failures of its sink, how it ends, and what is in the sink then.
 #[derive(Clone, Copy)]
 struct Case<'a> {
     job: Job<'a>,
     fails: &'a [(u64, usize)],
     ends: Option<ReplayEnd>,
     text: &'a [u8],
-    len: usize,
-}
-
-/// How a job ends in a session whose bonds are projected one by one.
-fn ends_one_by_one<const L: usize, G: Ledger>(
-    alloc: Global,
-    scene: &Scene,
-    job: Job<'_>,
-    sink: &mut MemSink,
-    steps: &mut Steps<G>,
-) -> Result<Option<ReplayEnd>, AllocError>
-    requires low { 0 < L }
-    requires high { L ≤ 16 }
-{
-    match Session::open(alloc, scene, Scalar::<L>::new()) {
-        Ok(mut session) => {
-            let end = ended(&mut session, job, sink, steps);
-            drop(session);
-            Ok(end)
-        }
-        Err(error) => Err(error),
-    }
-}
-
-/// How a job ends in a session whose bonds are projected in lanes.
-fn ends_in_lanes<const L: usize, G: Ledger>(
-    alloc: Global,
-    scene: &Scene,
-    job: Job<'_>,
-    sink: &mut MemSink,
-    steps: &mut Steps<G>,
-) -> Result<Option<ReplayEnd>, AllocError>
-    requires low { 0 < L }
-    requires high { L ≤ 16 }
-{
-    match Session::open(alloc, scene, LaneProjector::<L>::new()) {
-        Ok(mut session) => {
-            let end = ended(&mut session, job, sink, steps);
-            drop(session);
-            Ok(end)
-        }
-        Err(error) => Err(error),
-    }
-}
-
-/// Whether a job ended and wrote as a case says.
-fn is_so(
-    case: &Case<'_>,
-    ends: Result<Option<ReplayEnd>, AllocError>,
-    written: &[u8],
-) -> Result<bool, AllocError> {
-    match ends {
-        Ok(ends) => Ok(
-            ends == case.ends && written.len() == case.len && case.text.starts_with(written),
-        ),
-        Err(error) => Err(error),
-    }
 }
 
 /// A sink with these failures.
@@ -148,24 +89,44 @@ fn failing(alloc: Global, fails: &[(u64, usize)]) -> Result<MemSink, AllocError>
     MemSink::open(alloc, 1000, fails.to_vec(alloc)?)
 }
 
-/// Whether a case holds with bonds that are projected one by one.
-fn holds_one_by_one<const L: usize, G: Ledger>(
+/// Whether a job ends in a session and writes as a case says.
+fn holds_in<const L: usize, P: Projector<L> + Drop, G: Ledger>(
     alloc: Global,
-    scene: &Scene,
+    session: &mut Session<L, P>,
     case: &Case<'_>,
     steps: &mut Steps<G>,
-) -> Result<bool, AllocError>
+) -> bool
     requires low { 0 < L }
     requires high { L ≤ 16 }
 {
     match failing(alloc, case.fails) {
         Ok(mut sink) => {
-            let ends = ends_one_by_one::<L, G>(alloc, scene, case.job, &mut sink, steps);
-            let so = is_so(case, ends, sink.written());
+            let ends = ended(session, case.job, &mut sink, steps);
+            let holds = ends == case.ends && sink.written() == case.text;
             drop(sink);
-            so
+            holds
         }
-        Err(error) => Err(error),
+        Err(_) => false,
+    }
+}
+
+/// Whether it does with bonds that are projected one by one.
+fn holds_one_by_one<const L: usize, G: Ledger>(
+    alloc: Global,
+    scene: &Scene,
+    case: &Case<'_>,
+    steps: &mut Steps<G>,
+) -> bool
+    requires low { 0 < L }
+    requires high { L ≤ 16 }
+{
+    match Session::open(alloc, scene, Scalar::<L>::new()) {
+        Ok(mut session) => {
+            let holds = holds_in(alloc, &mut session, case, steps);
+            drop(session);
+            holds
+        }
+        Err(_) => false,
     }
 }
 
@@ -175,30 +136,27 @@ fn holds_in_lanes<const L: usize, G: Ledger>(
     scene: &Scene,
     case: &Case<'_>,
     steps: &mut Steps<G>,
-) -> Result<bool, AllocError>
+) -> bool
     requires low { 0 < L }
     requires high { L ≤ 16 }
 {
-    match failing(alloc, case.fails) {
-        Ok(mut sink) => {
-            let ends = ends_in_lanes::<L, G>(alloc, scene, case.job, &mut sink, steps);
-            let so = is_so(case, ends, sink.written());
-            drop(sink);
-            so
+    match Session::open(alloc, scene, LaneProjector::<L>::new()) {
+        Ok(mut session) => {
+            let holds = holds_in(alloc, &mut session, case, steps);
+            drop(session);
+            holds
         }
-        Err(error) => Err(error),
+        Err(_) => false,
     }
 }
 
-/// Whether it does one by one and in lanes, unless there is no memory.
-type Both = [Result<bool, AllocError>; 2];
-
+/// Whether it does one by one, and in lanes.
 fn both_hold<const L: usize, G: Ledger>(
     alloc: Global,
     scene: &Scene,
     case: &Case<'_>,
     steps: &mut Steps<G>,
-) -> Both
+) -> [bool; 2]
     requires low { 0 < L }
     requires high { L ≤ 16 }
 {
@@ -208,7 +166,7 @@ fn both_hold<const L: usize, G: Ledger>(
     ]
 }
 
-fn counted<G: Ledger>(alloc: Global, blank: Blank, scene: &Scene, case: &Case<'_>) -> [Both; 5]
+fn counted<G: Ledger>(alloc: Global, blank: Blank, scene: &Scene, case: &Case<'_>) -> [[bool; 2]; 5]
     requires name { blank.name ≡ G.name }
     requires parts { blank.parts ≡ G.parts }
     requires some { 0 < blank.parts }
@@ -226,172 +184,100 @@ fn counted<G: Ledger>(alloc: Global, blank: Blank, scene: &Scene, case: &Case<'_
 }
 
 /// Whether a case holds with both projectors, at each width.
-fn at_each_width(alloc: Global, scene: &Scene, case: &Case<'_>) -> [Both; 5] {
-    counted::<Brand>(alloc, Blank::new(1), scene, case)
-}
-
-fn counted_once<G: Ledger>(
-    alloc: Global,
-    blank: Blank,
-    scene: &Scene,
-    case: &Case<'_>,
-) -> Result<bool, AllocError>
-    requires name { blank.name ≡ G.name }
-    requires parts { blank.parts ≡ G.parts }
-    requires some { 0 < blank.parts }
-{
-    let mut steps: Steps<G> = Steps::open(blank);
-    let told = holds_in_lanes::<4, G>(alloc, scene, case, &mut steps);
-    drop(steps);
-    told
-}
-
-/// Whether a case holds at one width.
-fn at_one_width(alloc: Global, scene: &Scene, case: &Case<'_>) -> Result<bool, AllocError> {
-    counted_once::<Brand>(alloc, Blank::new(1), scene, case)
-}
-
-/// Whether a job on a sink that doesn't fail ends so, and writes this text.
-fn writes_on(
-    alloc: Global,
-    scene: &Scene,
-    job: Job<'_>,
-    ends: ReplayEnd,
-    text: &[u8],
-) -> [Both; 5] {
-    let case = Case {
-        job,
-        fails: &[],
-        ends: Some(ends),
-        text,
-        len: text.len(),
-    };
-    at_each_width(alloc, scene, &case)
+fn holds(alloc: Global, scene: &Scene, case: &Case<'_>) -> bool {
+    counted::<Brand>(alloc, Blank::new(1), scene, case) == [[true; 2]; 5]
 }
 
 /// The same on a drawing.
-fn writes(
-    alloc: Global,
-    drawing: &Drawing,
-    job: Job<'_>,
-    ends: ReplayEnd,
-    text: &[u8],
-) -> Result<[Both; 5], PartsFault> {
+fn holds_on(alloc: Global, drawing: &Drawing, case: &Case<'_>) -> bool {
     match scene(alloc, drawing) {
         Ok(scene) => {
-            let told = writes_on(alloc, &scene, job, ends, text);
+            let holds = holds(alloc, &scene, case);
             drop(scene);
-            Ok(told)
+            holds
         }
-        Err(fault) => Err(fault),
+        Err(_) => false,
     }
 }
 
-/// Whether a job stops at a call that fails after some bytes, and leaves so many bytes of the text.
-fn stops(
-    alloc: Global,
-    scene: &Scene,
-    job: Job<'_>,
-    text: &[u8],
-    fail: (u64, usize),
-    len: usize,
-) -> Result<bool, AllocError> {
+/// A job, its text, and how many bytes of it each call to the sink is handed.
+type Calls<'a> = (Job<'a>, &'a [u8], &'a [usize]);
+
+/// Whether a job stops at a call that fails after some bytes, and leaves so many bytes of its text.
+fn stops(alloc: Global, calls: &Calls<'_>, fail: (u64, usize), len: usize) -> bool {
+    let (job, text, _) = *calls;
+    let (text, _) = text.split_at(len.min(text.len()));
     let case = Case {
         job,
         fails: &[fail],
         ends: None,
         text,
-        len,
     };
-    at_one_width(alloc, scene, &case)
+    text.len() == len && holds_on(alloc, &FALLING, &case)
 }
 
 /// Whether a job stops at this call, wherever in its piece of so many bytes the call fails.
-fn stops_in(
-    alloc: Global,
-    scene: &Scene,
-    job: Job<'_>,
-    text: &[u8],
-    call: u64,
-    piece: (usize, usize),
-) -> Result<bool, AllocError> {
+fn stops_in(alloc: Global, calls: &Calls<'_>, call: u64, piece: (usize, usize)) -> bool {
     let (before, len) = piece;
     for n in 0..=len {
-        if !stops(alloc, scene, job, text, (call, n), before.saturating_add(n))? {
-            return Ok(false);
+        if !stops(alloc, calls, (call, n), before.saturating_add(n)) {
+            return false;
         }
     }
     // A call that is to fail after more bytes than it is handed takes them all.
-    stops(
-        alloc,
-        scene,
-        job,
-        text,
-        (call, len.saturating_add(1)),
-        before.saturating_add(len),
-    )
+    let more = len.saturating_add(1);
+    stops(alloc, calls, (call, more), before.saturating_add(len))
 }
 
-/// Whether a job writes this text by one call for each of the lengths, and stops at each call that fails.
-fn stops_at_calls(
-    alloc: Global,
-    scene: &Scene,
-    job: Job<'_>,
-    text: &[u8],
-    lengths: &[usize],
-) -> Result<bool, AllocError> {
+/// Whether a job writes its text by one call for each of the lengths, and stops at each call that fails.
+fn stops_at_each_call(alloc: Global, calls: &Calls<'_>) -> bool {
+    let (_, text, lengths) = *calls;
     let mut call: u64 = 0;
     let mut before: usize = 0;
     for len in lengths {
         call = call.saturating_add(1);
-        if !stops_in(alloc, scene, job, text, call, (before, *len))? {
-            return Ok(false);
+        if !stops_in(alloc, calls, call, (before, *len)) {
+            return false;
         }
         before = before.saturating_add(*len);
     }
-    Ok(before == text.len())
+    before == text.len()
 }
 
-/// The same on a drawing.
-fn stops_at_each_call(
-    alloc: Global,
-    drawing: &Drawing,
-    job: Job<'_>,
-    text: &[u8],
-    lengths: &[usize],
-) -> Result<bool, PartsFault> {
-    match scene(alloc, drawing) {
-        Ok(scene) => {
-            let told = stops_at_calls(alloc, &scene, job, text, lengths);
-            drop(scene);
-            told.or(Err(PartsFault::OutOfMemory))
-        }
-        Err(fault) => Err(fault),
-    }
+/// Whether a job on a sink that doesn't fail ends so, and writes this text.
+fn writes(alloc: Global, drawing: &Drawing, job: Job<'_>, ends: ReplayEnd, text: &[u8]) -> bool {
+    let case = Case {
+        job,
+        fails: &[],
+        ends: Some(ends),
+        text,
+    };
+    holds_on(alloc, drawing, &case)
 }
 
 /// A byte of a log, its wrong value, how the replay ends and what it prints.
 type Wrong<'a> = (usize, u8, ReplayEnd, &'a [u8]);
 
 /// Whether the replay of a log with a wrong byte ends and prints so.
-fn differs(
-    alloc: Global,
-    drawing: &Drawing,
-    log: &[u8],
-    row: &Wrong<'_>,
-) -> Result<[Both; 5], PartsFault> {
+fn differs(alloc: Global, drawing: &Drawing, log: &[u8], row: &Wrong<'_>) -> bool {
     let (offset, byte, ends, text) = *row;
     match log.to_vec(alloc) {
         Ok(mut wrong) => {
             if offset < wrong.len() {
                 wrong[offset] = byte;
             }
-            let told = writes(alloc, drawing, Job::Replay(&wrong), ends, text);
+            let holds = writes(alloc, drawing, Job::Replay(&wrong), ends, text);
             drop(wrong);
-            told
+            holds
         }
-        Err(_) => Err(PartsFault::OutOfMemory),
+        Err(_) => false,
     }
+}
+
+macro_rules! done {
+    ($refused:expr) => {
+        ReplayEnd::Done { refused: $refused }
+    };
 }
 
 macro_rules! mismatch {
@@ -449,95 +335,125 @@ const OLD_BAD_COUNT: [u8; 31] = [
     0, 0, 0, 0, 0, 0, 1,
 ];
 
-const ALL: [Both; 5] = [[Ok(true); 2]; 5];
-
-const NONE_REFUSED: ReplayEnd = ReplayEnd::Done { refused: 0 };
-
-const ONE_REFUSED: ReplayEnd = ReplayEnd::Done { refused: 1 };
-
-static SCRIPTS: [(Drawing, &[u8], u64, &[u8]); 10] = [
-    (EMPTY, b"\n \nframe\n", 0, b"frame 0 0 0 0\n"),
-    (FALLS, SCRIPT, 0, TEXT),
+/// Drawings, what is to be done on them, how it ends, and what is written: scripts, records and replays.
+static RUNS: [(Drawing, Job<'static>, ReplayEnd, &[u8]); 20] = [
+    (
+        EMPTY,
+        Job::Script(b"\n \nframe\n"),
+        done!(0),
+        b"frame 0 0 0 0\n",
+    ),
+    (FALLS, Job::Script(SCRIPT), done!(0), TEXT),
     (
         AT_THE_EDGE,
-        b"step 1\nframe\n",
-        1,
+        Job::Script(b"step 1\nframe\n"),
+        done!(1),
         b"refused 11 LeavesRange step 1 phase predict element 0\nframe 0 1 0 0\n536870912 0 0\n",
     ),
     (
         NEAR_THE_EDGE,
-        b"step 10\nframe\n",
-        1,
+        Job::Script(b"step 10\nframe\n"),
+        done!(1),
         b"refused 11 LeavesRange step 7 phase predict element 0\nframe 0 1 0 0\n536870906 0 0\n",
     ),
     (
         PULLS,
-        b"step 1\nframe\n",
-        0,
+        Job::Script(b"step 1\nframe\n"),
+        done!(0),
         b"ok\nframe 1 2 1 0\n3 0 0\n102 0 0\n",
     ),
     (
         PULLS_AT_A_HELD_ONE,
-        b"step 1\nledger\n",
-        0,
+        Job::Script(b"step 1\nledger\n"),
+        done!(0),
         b"ok\nledger momentum -5 0 0\nledger opening 0 0 0\nledger gravity 0 0 0\nledger damping 0 0 0\nledger link 0 0 0\nledger contact 0 0 0\nledger pin -5 0 0\nledger shape 0 0 0\n",
     ),
     (
         TEARS,
-        b"step 1\nframe\ncut 1\n",
-        1,
+        Job::Script(b"step 1\nframe\ncut 1\n"),
+        done!(1),
         b"ok\nframe 1 6 1 0\n0 0 0\n100 0 0\n0 1000 0\n101 1000 0\n0 2000 0\n102 2000 0\nrefused 4 LinkGone\n",
     ),
     (
         PUSHES,
-        b"step 1\nframe\n",
-        0,
+        Job::Script(b"step 1\nframe\n"),
+        done!(0),
         b"ok\nframe 1 3 0 2\n-1 0 0\n100 0 0\n100 0 0\n",
     ),
     (
         RUBS,
-        b"step 1\nframe\nstep 1\nframe\n",
-        0,
+        Job::Script(b"step 1\nframe\nstep 1\nframe\n"),
+        done!(0),
         b"ok\nframe 1 3 0 0\n6 8 0\n0 10 0\n10 0 0\nok\nframe 2 3 0 0\n7 10 0\n0 15 0\n10 0 0\n",
     ),
     (
         LED,
-        b"step 1\nstep 1\nframe\nstep 1\nframe\nunpin 0\n",
-        1,
+        Job::Script(b"step 1\nstep 1\nframe\nstep 1\nframe\nunpin 0\n"),
+        done!(1),
         b"ok\nok\nframe 2 2 0 0\n7 0 0\n5 0 0\nok\nframe 3 2 0 0\n10 0 0\n5 0 0\nrefused 8 Tracked\n",
+    ),
+    (
+        FLIES,
+        Job::Script(
+            b"pin 0\n\npin 0\nmove 0 1 2 3\nunpin 0\nunpin 0\npin 9\ncut 0\ngravity 536870913 0 0\nstep 0\nfly\n \nframe\n",
+        ),
+        done!(7),
+        b"ok\nrefused 7 Held\nok\nok\nrefused 6 NotHeld\nrefused 2 NoParticle\nrefused 3 NoLink\nrefused 5 OutOfRange\nrefused 9 BadCount\nrefused 1 BadCommand\nframe 0 1 0 0\n1 2 3\n",
+    ),
+    (FALLS, Job::Record(SCENE, SCRIPT), done!(0), &LONG),
+    (EMPTY, Job::Record(b"", b"frame\n"), done!(0), &SMALL),
+    (
+        AT_THE_EDGE,
+        Job::Record(b"", b"step 1\n"),
+        done!(1),
+        &LEAVES,
+    ),
+    (FALLS, Job::Replay(&LONG), done!(0), TEXT),
+    (FALLS, Job::Replay(&OLD), done!(0), TEXT),
+    (EMPTY, Job::Replay(&SMALL), done!(0), b"frame 0 0 0 0\n"),
+    (
+        EMPTY,
+        Job::Replay(&OLD_BAD_COUNT),
+        done!(1),
+        b"refused 9 BadCount\n",
+    ),
+    (
+        AT_THE_EDGE,
+        Job::Replay(&LEAVES),
+        done!(1),
+        b"refused 11 LeavesRange step 1 phase predict element 0\n",
+    ),
+    (
+        FALLS,
+        Job::Replay(&LEAVES),
+        mismatch!(1, Answer, 11, 0),
+        b"error 10 Mismatch record 1 field answer recorded 11 found 0\n",
     ),
 ];
 
 #[test]
-fn scripts_print_their_replies(rt: HostRuntime) {
-    for (drawing, script, refused, text) in &SCRIPTS {
-        let ends = ReplayEnd::Done { refused: *refused };
+fn jobs_end_and_write_as_their_rows_say(rt: HostRuntime) {
+    for (drawing, job, ends, text) in &RUNS {
         assert!(rt;
-            writes(rt.alloc(), drawing, Job::Script(script), ends, text) == Ok(ALL),
-            "at {script:?}"
+            writes(rt.alloc(), drawing, *job, *ends, text),
+            "at {text:?}"
         );
     }
 }
 
-#[test]
-fn contacts_past_their_greatest_number_are_printed(rt: HostRuntime) {
-    let job = Job::Script(b"step 1\nfly\n");
-    let text = b"refused 12 TooManyContacts step 1\nrefused 1 BadCommand\n";
-    let ends = ReplayEnd::Done { refused: 2 };
-    let scene = in_a_row(rt.alloc(), 725).expect(&rt, "no scene");
-    let told = writes_on(rt.alloc(), &scene, job, ends, text);
-    drop(scene);
-    assert!(rt; told == ALL);
-}
+static TOO_MANY_TOUCH: Case<'static> = Case {
+    job: Job::Script(b"step 1\nfly\n"),
+    fails: &[],
+    ends: Some(done!(2)),
+    text: b"refused 12 TooManyContacts step 1\nrefused 1 BadCommand\n",
+};
 
 #[test]
-fn refused_commands_are_counted(rt: HostRuntime) {
-    let script =
-        b"pin 0\n\npin 0\nmove 0 1 2 3\nunpin 0\nunpin 0\npin 9\ncut 0\ngravity 536870913 0 0\nstep 0\nfly\n \nframe\n";
-    let text =
-        b"ok\nrefused 7 Held\nok\nok\nrefused 6 NotHeld\nrefused 2 NoParticle\nrefused 3 NoLink\nrefused 5 OutOfRange\nrefused 9 BadCount\nrefused 1 BadCommand\nframe 0 1 0 0\n1 2 3\n";
-    let ends = ReplayEnd::Done { refused: 7 };
-    assert!(rt; writes(rt.alloc(), &FLYING, Job::Script(script), ends, text) == Ok(ALL));
+fn contacts_past_their_greatest_number_are_printed(rt: HostRuntime) {
+    let scene = in_a_row(rt.alloc(), 725).expect(&rt, "no scene");
+    let holds = holds(rt.alloc(), &scene, &TOO_MANY_TOUCH);
+    drop(scene);
+    assert!(rt; holds);
 }
 
 const LEDGER: &[u8] =
@@ -545,8 +461,7 @@ const LEDGER: &[u8] =
 
 const MISMATCH: &[u8] = b"error 10 Mismatch record 1 field answer recorded 11 found 0\n";
 
-/// A job, its text, and the length of each line.
-static LINES: [(Job<'static>, &[u8], &[usize]); 4] = [
+static CALLS: [Calls<'static>; 5] = [
     (Job::Script(SCRIPT), TEXT, &[3, 14, 8]),
     (Job::Replay(&LONG), TEXT, &[3, 14, 8]),
     (
@@ -555,62 +470,13 @@ static LINES: [(Job<'static>, &[u8], &[usize]); 4] = [
         &[22, 21, 21, 21, 18, 21, 17, 19, 21],
     ),
     (Job::Replay(&LEAVES), MISMATCH, &[60]),
+    (Job::Record(SCENE, SCRIPT), &LONG, &[20, 53, 74, 2, 9]),
 ];
 
 #[test]
-fn each_line_is_one_call(rt: HostRuntime) {
-    for (job, text, lengths) in &LINES {
-        assert!(rt;
-            stops_at_each_call(rt.alloc(), &FALLING, *job, text, lengths) == Ok(true),
-            "at {text:?}"
-        );
-    }
-}
-
-static RECORDS: [(Drawing, Job<'static>, u64, &[u8]); 3] = [
-    (FALLS, Job::Record(SCENE, SCRIPT), 0, &LONG),
-    (EMPTY, Job::Record(b"", b"frame\n"), 0, &SMALL),
-    (AT_THE_EDGE, Job::Record(b"", b"step 1\n"), 1, &LEAVES),
-];
-
-#[test]
-fn each_part_of_a_log_is_one_call(rt: HostRuntime) {
-    for (drawing, job, refused, log) in &RECORDS {
-        let ends = ReplayEnd::Done { refused: *refused };
-        assert!(rt; writes(rt.alloc(), drawing, *job, ends, log) == Ok(ALL));
-    }
-    let job = Job::Record(SCENE, SCRIPT);
-    assert!(rt;
-        stops_at_each_call(rt.alloc(), &FALLING, job, &LONG, &[20, 53, 74, 2, 9]) == Ok(true)
-    );
-}
-
-static REPLAYS: [(Drawing, &[u8], ReplayEnd, &[u8]); 6] = [
-    (FALLS, &LONG, NONE_REFUSED, TEXT),
-    (FALLS, &OLD, NONE_REFUSED, TEXT),
-    (EMPTY, &SMALL, NONE_REFUSED, b"frame 0 0 0 0\n"),
-    (EMPTY, &OLD_BAD_COUNT, ONE_REFUSED, b"refused 9 BadCount\n"),
-    (
-        AT_THE_EDGE,
-        &LEAVES,
-        ONE_REFUSED,
-        b"refused 11 LeavesRange step 1 phase predict element 0\n",
-    ),
-    (
-        FALLS,
-        &LEAVES,
-        mismatch!(1, Answer, 11, 0),
-        b"error 10 Mismatch record 1 field answer recorded 11 found 0\n",
-    ),
-];
-
-#[test]
-fn logs_replay_alike(rt: HostRuntime) {
-    for (drawing, log, ends, text) in &REPLAYS {
-        assert!(rt;
-            writes(rt.alloc(), drawing, Job::Replay(log), *ends, text) == Ok(ALL),
-            "at {text:?}"
-        );
+fn each_line_and_each_part_of_a_log_is_one_call(rt: HostRuntime) {
+    for calls in &CALLS {
+        assert!(rt; stops_at_each_call(rt.alloc(), calls), "at {:?}", calls.1);
     }
 }
 
@@ -634,17 +500,6 @@ static WRONG_ANSWERS: [Wrong<'static>; 3] = [
         b"error 10 Mismatch record 1 field element recorded 6 found 0\n",
     ),
 ];
-
-#[test]
-fn each_answer_can_differ(rt: HostRuntime) {
-    for row in &WRONG_ANSWERS {
-        assert!(rt;
-            differs(rt.alloc(), &LEAVING, &LEAVES, row) == Ok(ALL),
-            "at {}",
-            row.0
-        );
-    }
-}
 
 static WRONG_SUMS: [Wrong<'static>; 10] = [
     (
@@ -710,12 +565,11 @@ static WRONG_SUMS: [Wrong<'static>; 10] = [
 ];
 
 #[test]
-fn each_sum_can_differ(rt: HostRuntime) {
+fn each_answer_and_each_sum_can_differ(rt: HostRuntime) {
+    for row in &WRONG_ANSWERS {
+        assert!(rt; differs(rt.alloc(), &LEAVING, &LEAVES, row), "at {}", row.0);
+    }
     for row in &WRONG_SUMS {
-        assert!(rt;
-            differs(rt.alloc(), &FALLING, &LONG, row) == Ok(ALL),
-            "at {}",
-            row.0
-        );
+        assert!(rt; differs(rt.alloc(), &FALLING, &LONG, row), "at {}", row.0);
     }
 }

@@ -2,15 +2,14 @@
 ghost use Rattle.std.specs.Prelude.{◌≡◌, ◌<◌, ◌≤◌};
 
 use crate::drawing::{in_a_row, scene};
-use crate::step_rows::{COMMANDS, CONTACTS_AND_SHAPES, LEAVING, LINKS, Row};
+use crate::step_rows::{ROWS, Row};
 use pbd_num::Vec3;
 use pbd_pair::{LaneProjector, Projector, Scalar};
 use pbd_step::Solver;
 use pbd_store::Steps;
-use pbd_world::{Command, Particle, PartsFault, Refusal, Scene, Totals};
-use std::alloc::{AllocError, Global};
+use pbd_world::{Command, Refusal, Scene};
+use std::alloc::Global;
 use std::marker::Brand;
-use std::process::Abort;
 use std::sync::ledger::{Blank, Ledger};
 
 fn apply<const L: usize, P: Projector<L> + Drop, G: Ledger>(
@@ -32,137 +31,48 @@ fn apply<const L: usize, P: Projector<L> + Drop, G: Ledger>(
     }
 }
 
-/// What was answered and what was seen of a world after each command.
-#[derive(Drop)]
-struct Trace {
-    answers: Vec<Result<(), Refusal>>,
-    particles: Vec<Particle>,
-    counts: Vec<(u64, u32, u32)>,
-    totals: Vec<Totals>,
-}
-
-fn no_trace(alloc: Global) -> Trace {
-    Trace {
-        answers: Vec::new(alloc),
-        particles: Vec::new(alloc),
-        counts: Vec::new(alloc),
-        totals: Vec::new(alloc),
+/// Whether two solvers have come to the same world.
+fn are_alike<const L: usize, G: Ledger>(
+    one: &Solver<L, Scalar<L>>,
+    other: &Solver<L, LaneProjector<L>>,
+    steps: &mut Steps<G>,
+) -> bool
+    requires high { L ≤ 16 }
+{
+    let particles = one.particles();
+    if other.particles() != particles {
+        return false;
     }
-}
-
-fn are_alike(one: &Trace, other: &Trace) -> bool {
-    one.answers.as_slice() == other.answers.as_slice()
-        && one.particles.as_slice() == other.particles.as_slice()
-        && one.counts.as_slice() == other.counts.as_slice()
-        && one.totals.as_slice() == other.totals.as_slice()
-}
-
-fn see_particles<const L: usize, P: Projector<L> + Drop, G: Ledger>(
-    solver: &Solver<L, P>,
-    particles: &mut Vec<Particle>,
-    steps: &mut Steps<G>,
-) -> Result<(), AllocError>
-    requires high { L ≤ 16 }
-{
-    for i in 0..solver.particles() {
-        particles.push(solver.particle(i, steps))?;
-    }
-    Ok(())
-}
-
-fn see<const L: usize, P: Projector<L> + Drop, G: Ledger>(
-    solver: &Solver<L, P>,
-    trace: &mut Trace,
-    steps: &mut Steps<G>,
-) -> Result<(), AllocError>
-    requires high { L ≤ 16 }
-{
-    see_particles(solver, &mut trace.particles, steps)?;
-    let counts = (solver.step_count(), solver.live(), solver.contacts());
-    trace.counts.push(counts)?;
-    trace.totals.push(*solver.totals())?;
-    Ok(())
-}
-
-/// Does commands one after another.
-fn do_all<const L: usize, P: Projector<L> + Drop, G: Ledger>(
-    solver: &mut Solver<L, P>,
-    script: &[(Command, Result<(), Refusal>)],
-    trace: &mut Trace,
-    steps: &mut Steps<G>,
-) -> Result<(), AllocError>
-    requires low { 0 < L }
-    requires high { L ≤ 16 }
-{
-    for (command, _) in script {
-        let answer = apply(solver, *command, steps);
-        trace.answers.push(answer)?;
-        see(solver, trace, steps)?;
-    }
-    Ok(())
-}
-
-fn do_one_by_one<const L: usize, G: Ledger>(
-    alloc: Global,
-    scene: &Scene,
-    script: &[(Command, Result<(), Refusal>)],
-    trace: &mut Trace,
-    steps: &mut Steps<G>,
-) -> Result<(), AllocError>
-    requires low { 0 < L }
-    requires high { L ≤ 16 }
-{
-    match Solver::open(alloc, scene, Scalar::<L>::new()) {
-        Ok(mut solver) => {
-            let done = do_all(&mut solver, script, trace, steps);
-            drop(solver);
-            done
+    for i in 0..particles {
+        if one.particle(i, steps) != other.particle(i, steps) {
+            return false;
         }
-        Err(error) => Err(error),
     }
+    one.step_count() == other.step_count()
+        && one.live() == other.live()
+        && one.contacts() == other.contacts()
+        && *one.totals() == *other.totals()
 }
 
-fn do_in_lanes<const L: usize, G: Ledger>(
-    alloc: Global,
-    scene: &Scene,
-    script: &[(Command, Result<(), Refusal>)],
-    trace: &mut Trace,
+/// Whether the first particles of a solver are at these places.
+fn are_at<const L: usize, P: Projector<L> + Drop, G: Ledger>(
+    solver: &Solver<L, P>,
+    places: &[Vec3],
     steps: &mut Steps<G>,
-) -> Result<(), AllocError>
-    requires low { 0 < L }
+) -> bool
     requires high { L ≤ 16 }
 {
-    match Solver::open(alloc, scene, LaneProjector::<L>::new()) {
-        Ok(mut solver) => {
-            let done = do_all(&mut solver, script, trace, steps);
-            drop(solver);
-            done
+    let mut i: u32 = 0;
+    for place in places {
+        if solver.particles() <= i || solver.particle(i, steps).at != *place {
+            return false;
         }
-        Err(error) => Err(error),
+        i = i.saturating_add(1);
     }
+    true
 }
 
-/// Whether the answers are those of the script.
-fn are_answers(answers: &[Result<(), Refusal>], script: &[(Command, Result<(), Refusal>)]) -> bool {
-    let mut same = answers.len() == script.len();
-    for ((_, wanted), answer) in script.iter().zip(answers) {
-        same = same && *wanted == *answer;
-    }
-    same
-}
-
-/// Whether the last particles seen, of so many, begin at these places.
-fn are_at(particles: &[Particle], many: usize, places: &[Vec3]) -> bool {
-    let last = particles.len().saturating_sub(many);
-    let (_, world) = particles.split_at(last);
-    let mut same = places.len() <= world.len();
-    for (place, particle) in places.iter().zip(world) {
-        same = same && *place == particle.at;
-    }
-    same
-}
-
-/// Commands with their answers, and where the first particles are then.
+/// Commands with their answers, how many particles there are, and where the first of them are then.
 #[derive(Clone, Copy)]
 struct Script<'a> {
     commands: &'a [(Command, Result<(), Refusal>)],
@@ -170,86 +80,76 @@ struct Script<'a> {
     places: &'a [Vec3],
 }
 
-/// Whether a script was answered as it says, and came to its places.
-fn are_as_told(trace: &Trace, script: &Script<'_>) -> bool {
-    are_answers(&trace.answers, script.commands)
-        && are_at(&trace.particles, script.particles, script.places)
-}
-
-/// What both projectors did.
-#[derive(Drop)]
-struct Traces {
-    one: Trace,
-    other: Trace,
-}
-
-/// Whether both projectors answer the script as it says, leave worlds that are alike after each command, and come to
-/// these places.
-fn agree_on<const L: usize, G: Ledger>(
-    alloc: Global,
-    scene: &Scene,
-    script: &Script<'_>,
-    traces: &mut Traces,
-    steps: &mut Steps<G>,
-) -> Result<bool, AllocError>
-    requires low { 0 < L }
-    requires high { L ≤ 16 }
-{
-    let commands = script.commands;
-    do_one_by_one::<L, G>(alloc, scene, commands, &mut traces.one, steps)?;
-    do_in_lanes::<L, G>(alloc, scene, commands, &mut traces.other, steps)?;
-    Ok(are_alike(&traces.one, &traces.other) && are_as_told(&traces.one, script))
-}
-
+/// Whether both solvers answer a script as it says, are alike after each command, and come to its places.
 fn agree<const L: usize, G: Ledger>(
+    one: &mut Solver<L, Scalar<L>>,
+    other: &mut Solver<L, LaneProjector<L>>,
+    script: &Script<'_>,
+    steps: &mut Steps<G>,
+) -> bool
+    requires low { 0 < L }
+    requires high { L ≤ 16 }
+{
+    for (command, answer) in script.commands {
+        let answers = [apply(one, *command, steps), apply(other, *command, steps)];
+        if answers != [*answer; 2] || !are_alike(one, other, steps) {
+            return false;
+        }
+    }
+    one.particles() as usize == script.particles && are_at(one, script.places, steps)
+}
+
+/// Whether solvers with both projectors do.
+fn both_agree<const L: usize, G: Ledger>(
     alloc: Global,
     scene: &Scene,
     script: &Script<'_>,
     steps: &mut Steps<G>,
-) -> Result<bool, AllocError>
+) -> bool
     requires low { 0 < L }
     requires high { L ≤ 16 }
 {
-    let mut traces = Traces {
-        one: no_trace(alloc),
-        other: no_trace(alloc),
-    };
-    let alike = agree_on::<L, G>(alloc, scene, script, &mut traces, steps);
-    drop(traces);
-    alike
+    match Solver::open(alloc, scene, Scalar::<L>::new()) {
+        Ok(mut one) => {
+            let agreed = match Solver::open(alloc, scene, LaneProjector::<L>::new()) {
+                Ok(mut other) => {
+                    let agreed = agree(&mut one, &mut other, script, steps);
+                    drop(other);
+                    agreed
+                }
+                Err(_) => false,
+            };
+            drop(one);
+            agreed
+        }
+        Err(_) => false,
+    }
 }
 
-/// Whether they do, unless there is no memory.
-type Agreed = Result<bool, AllocError>;
-
-fn counted<G: Ledger>(
-    alloc: Global,
-    blank: Blank,
-    scene: &Scene,
-    script: &Script<'_>,
-) -> [Agreed; 5]
+fn counted<G: Ledger>(alloc: Global, blank: Blank, scene: &Scene, script: &Script<'_>) -> [bool; 5]
     requires name { blank.name ≡ G.name }
     requires parts { blank.parts ≡ G.parts }
     requires some { 0 < blank.parts }
 {
     let mut steps: Steps<G> = Steps::open(blank);
     let told = [
-        agree::<1, G>(alloc, scene, script, &mut steps),
-        agree::<2, G>(alloc, scene, script, &mut steps),
-        agree::<4, G>(alloc, scene, script, &mut steps),
-        agree::<8, G>(alloc, scene, script, &mut steps),
-        agree::<16, G>(alloc, scene, script, &mut steps),
+        both_agree::<1, G>(alloc, scene, script, &mut steps),
+        both_agree::<2, G>(alloc, scene, script, &mut steps),
+        both_agree::<4, G>(alloc, scene, script, &mut steps),
+        both_agree::<8, G>(alloc, scene, script, &mut steps),
+        both_agree::<16, G>(alloc, scene, script, &mut steps),
     ];
     drop(steps);
     told
 }
 
-fn at_each_width(alloc: Global, scene: &Scene, script: &Script<'_>) -> [Agreed; 5] {
-    counted::<Brand>(alloc, Blank::new(1), scene, script)
+/// Whether they do at each width.
+fn agree_at_each_width(alloc: Global, scene: &Scene, script: &Script<'_>) -> bool {
+    counted::<Brand>(alloc, Blank::new(1), scene, script) == [true; 5]
 }
 
 /// Whether a row holds, at each width.
-fn holds(alloc: Global, row: &Row) -> Result<[Agreed; 5], PartsFault> {
+fn holds(alloc: Global, row: &Row) -> bool {
     let script = Script {
         commands: row.script,
         particles: row.scene.particles.len(),
@@ -257,39 +157,19 @@ fn holds(alloc: Global, row: &Row) -> Result<[Agreed; 5], PartsFault> {
     };
     match scene(alloc, &row.scene) {
         Ok(scene) => {
-            let told = at_each_width(alloc, &scene, &script);
+            let agreed = agree_at_each_width(alloc, &scene, &script);
             drop(scene);
-            Ok(told)
+            agreed
         }
-        Err(fault) => Err(fault),
-    }
-}
-
-/// Whether each row holds.
-fn all_hold(rt: &impl Abort, alloc: Global, rows: &[Row]) {
-    for row in rows {
-        assert!(rt; holds(alloc, row) == Ok([Ok(true); 5]), "{}", row.name);
+        Err(_) => false,
     }
 }
 
 #[test]
-fn links_pull_and_tear(rt: HostRuntime) {
-    all_hold(&rt, rt.alloc(), &LINKS);
-}
-
-#[test]
-fn contacts_and_shapes_push(rt: HostRuntime) {
-    all_hold(&rt, rt.alloc(), &CONTACTS_AND_SHAPES);
-}
-
-#[test]
-fn what_leaves_the_range_is_refused(rt: HostRuntime) {
-    all_hold(&rt, rt.alloc(), &LEAVING);
-}
-
-#[test]
-fn commands_change_or_keep_the_world(rt: HostRuntime) {
-    all_hold(&rt, rt.alloc(), &COMMANDS);
+fn both_projectors_answer_as_the_rows_say(rt: HostRuntime) {
+    for row in &ROWS {
+        assert!(rt; holds(rt.alloc(), row), "{}", row.name);
+    }
 }
 
 static TOO_MANY_TOUCH: Script<'static> = Script {
@@ -305,7 +185,7 @@ static TOO_MANY_TOUCH: Script<'static> = Script {
 #[test]
 fn contacts_past_their_greatest_number_are_refused(rt: HostRuntime) {
     let scene = in_a_row(rt.alloc(), 725).expect(&rt, "no scene");
-    let told = at_each_width(rt.alloc(), &scene, &TOO_MANY_TOUCH);
+    let agreed = agree_at_each_width(rt.alloc(), &scene, &TOO_MANY_TOUCH);
     drop(scene);
-    assert!(rt; told == [Ok(true); 5]);
+    assert!(rt; agreed);
 }

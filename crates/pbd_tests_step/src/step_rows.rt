@@ -118,7 +118,8 @@ pub(crate) struct Row {
     pub(crate) places: &'static [Vec3],
 }
 
-pub(crate) static LINKS: [Row; 5] = [
+pub(crate) static ROWS: [Row; 24] = [
+    // Links pull and tear.
     Row {
         name: "a link pulls",
         scene: PULLS,
@@ -169,9 +170,7 @@ pub(crate) static LINKS: [Row; 5] = [
             vector!(101, 1000, 0),
         ],
     },
-];
-
-pub(crate) static CONTACTS_AND_SHAPES: [Row; 6] = [
+    // Contacts and shapes push.
     Row {
         name: "contacts push",
         scene: PUSHES,
@@ -214,9 +213,7 @@ pub(crate) static CONTACTS_AND_SHAPES: [Row; 6] = [
         script: TWO_STEPS,
         places: &[vector!(6, 8, 0), vector!(0, 10, 0), vector!(10, 0, 0)],
     },
-];
-
-pub(crate) static LEAVING: [Row; 9] = [
+    // What leaves the range is refused.
     Row {
         name: "a prediction leaves",
         scene: AT_THE_EDGE,
@@ -293,9 +290,7 @@ pub(crate) static LEAVING: [Row; 9] = [
         script: &[(Command::Step(1), leaves!(1, Predict, 0))],
         places: &[vector!(268_435_456, 0, 0)],
     },
-];
-
-pub(crate) static COMMANDS: [Row; 4] = [
+    // Commands change the world, or keep it.
     Row {
         name: "commands are refused",
         scene: FLIES,

@@ -1,10 +1,8 @@
 //! Sixteen sessions in one host, whose commands come in a hundred orders that a generator draws: each prints what it
 //! prints alone.
-use crate::written::{Outcome, outcome_of, push_each};
-use pbd_outcome::{Job, Status};
-use pbd_world::Width;
-use std::alloc::{AllocError, Global};
-use std::test::Fail;
+use crate::written::{all_of, push_each, run, writes};
+use pbd_outcome::Status;
+use std::alloc::Global;
 
 /// What each session is asked in turn. Session t begins with entry t mod 4.
 static COMMANDS: [&str; 4] = ["step 1", "frame", "fly", "gravity 0 -3 0"];
@@ -18,7 +16,7 @@ static NUMBERS: [&str; 16] = [
 const ORDERS: usize = 100;
 
 /// A free particle that falls as fast as its session's number says, behind a text.
-fn push_scene(input: &mut String, before: &str, number: &str) -> Result<(), AllocError> {
+fn push_scene(input: &mut String, before: &str, number: &str) -> bool {
     let pieces = [
         before,
         "gravity = [0, -",
@@ -45,71 +43,80 @@ fn drawn_order(state: &mut u64) -> [usize; 64] {
     order
 }
 
-fn push_order(input: &mut String, state: &mut u64) -> Result<(), AllocError> {
+fn push_order(input: &mut String, state: &mut u64) -> bool {
     let mut next: [usize; 16] = [0, 1, 2, 3, 0, 1, 2, 3, 0, 1, 2, 3, 0, 1, 2, 3];
     for session in drawn_order(state) {
         let session = session % 16;
         let command = next[session] % 4;
         next[session] = command + 1;
-        push_each(input, &[NUMBERS[session], " ", COMMANDS[command], "\n"])?;
+        if !push_each(input, &[NUMBERS[session], " ", COMMANDS[command], "\n"]) {
+            return false;
+        }
     }
-    Ok(())
+    true
 }
 
-fn push_scenes(input: &mut String) -> Result<(), AllocError> {
+fn push_scenes(input: &mut String) -> bool {
     let mut before = "";
     for number in &NUMBERS {
-        push_scene(input, before, *number)?;
+        if !push_scene(input, before, *number) {
+            return false;
+        }
         before = "%%\n";
     }
-    input.push_str("%%%\n")
+    input.push_str("%%%\n").is_ok()
 }
 
-fn push_host_input(input: &mut String) -> Result<(), AllocError> {
-    push_scenes(input)?;
+fn push_host_input(input: &mut String) -> bool {
+    let scenes = push_scenes(input);
     let mut state = 7;
     for _ in 0..ORDERS {
-        push_order(input, &mut state)?;
+        if !push_order(input, &mut state) {
+            return false;
+        }
     }
-    Ok(())
+    scenes
 }
 
 /// The scene and the commands of one session.
-fn push_own_input(input: &mut String, session: usize) -> Result<(), AllocError> {
-    push_scene(input, "", NUMBERS[session % 16])?;
-    input.push_str("%%\n")?;
+fn push_own_input(input: &mut String, session: usize) -> bool {
+    let scene = push_scene(input, "", NUMBERS[session % 16]);
+    let script = input.push_str("%%\n").is_ok();
     for place in 0..4 * ORDERS {
-        push_each(input, &[COMMANDS[(session % 4 + place) % 4], "\n"])?;
+        if !push_each(input, &[COMMANDS[(session % 4 + place) % 4], "\n"]) {
+            return false;
+        }
     }
-    Ok(())
+    scene && script
 }
 
 /// What a host printed for the session of a number, without the lines that name it.
-fn push_own_text(text: &mut String, written: &str, number: &str) -> Result<(), AllocError> {
+fn push_own_text(text: &mut String, written: &str, number: &str) -> bool {
     let mut is_own = false;
     for line in written.split('\n') {
         if let Some(named) = line.strip_prefix("session ") {
             is_own = named == number;
-        } else if is_own && !line.is_empty() {
-            push_each(text, &[line, "\n"])?;
+        } else if is_own && !line.is_empty() && !push_each(text, &[line, "\n"]) {
+            return false;
         }
     }
-    Ok(())
+    true
 }
 
-/// Whether a host printed for the session of a number what it prints alone, which is something.
-fn is_printed(alloc: Global, written: &str, number: &str, alone: Outcome) -> bool {
-    match alone {
-        Ok((_, alone)) => {
-            let mut text = String::new(alloc);
-            let made = push_own_text(&mut text, written, number).is_ok();
-            let same = text.as_str().as_bytes() == alone.as_slice() && !alone.is_empty();
-            drop(text);
-            drop(alone);
-            same && made
-        }
-        Err(_) => false,
-    }
+/// Whether a session, one of whose commands is refused, prints alone what a host printed for it, which is something.
+fn is_apart(alloc: Global, written: &str, session: usize) -> bool {
+    let mut input = String::new(alloc);
+    let mut text = String::new(alloc);
+    let made = [
+        push_own_input(&mut input, session),
+        push_own_text(&mut text, written, NUMBERS[session % 16]),
+        !text.as_str().is_empty(),
+    ];
+    let (given, own) = (input.as_str().as_bytes(), text.as_str().as_bytes());
+    let same = writes(alloc, "simulate 1", given, Status::SomeRefused.code(), own);
+    drop(input);
+    drop(text);
+    made == [true; 3] && same
 }
 
 /// The first session that isn't printed as alone.
@@ -123,23 +130,15 @@ fn first_other(alloc: Global, written: &[u8]) -> Option<usize> {
     None
 }
 
-fn is_apart(alloc: Global, written: &str, session: usize) -> bool {
-    let mut input = String::new(alloc);
-    let made = push_own_input(&mut input, session).is_ok();
-    let alone = outcome_of(alloc, Job::Simulate(Width::W1), input.as_str().as_bytes());
-    drop(input);
-    is_printed(alloc, written, NUMBERS[session % 16], alone) && made
-}
-
 #[test]
-fn sixteen_sessions_print_what_each_prints_alone(rt: HostRuntime) -> Result<(), Fail> {
+fn sixteen_sessions_print_what_each_prints_alone(rt: HostRuntime) {
     let mut input = String::new(rt.alloc());
-    let made = push_host_input(&mut input).is_ok();
-    let outcome = outcome_of(rt.alloc(), Job::Host(Width::W4), input.as_str().as_bytes());
+    let made = push_host_input(&mut input);
+    let outcome = run(rt.alloc(), "host 4", &all_of(input.as_str().as_bytes()));
     drop(input);
-    let (answer, written) = outcome?;
+    let (answer, written) = outcome.expect(&rt, "no memory");
     let other = first_other(rt.alloc(), &written);
     drop(written);
-    assert_eq!(rt; (made, answer, other), (true, Status::SomeRefused, None));
-    Ok(())
+    assert!(rt; made && answer == Status::SomeRefused);
+    assert!(rt; other.is_none(), "{other:?}");
 }
