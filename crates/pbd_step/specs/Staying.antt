@@ -1,11 +1,16 @@
 -- What a part of a step works on, and what it leaves as it was.
-use Rattle.std.specs.Prelude.{◌≡◌, ℕ, ◌<◌, ◌≤◌, ◌^◌, length}
+use Rattle.std.specs.Prelude.{◌≡◌, ℕ, ◌+◌, ◌<◌, ◌≤◌, ◌^◌, List, length, MatchResult, OnOk, Result, Ok, Err}
+use Rattle.pbd_world.specs.declared.bond.Bond.{Bond}
+use Rattle.pbd_world.specs.declared.command.Left.{Left}
+use Rattle.pbd_world.specs.Bonds.{projected}
+use Rattle.pbd_world.specs.Ledger.{ledger_of}
 use Rattle.pbd_store.specs.Moving.{fixed_parts}
 use Rattle.pbd_world.specs.Step.{Passing}
 use Rattle.pbd_world.specs.World.{IsSound}
 use Rattle.pbd_step.specs.declared.state.Setting.{Setting}
 use Rattle.pbd_step.specs.declared.state.State.{State}
 use Rattle.pbd_step.specs.declared.state.Running.{Running}
+use Rattle.pbd_step.specs.Projecting.{AreMovable}
 use Rattle.pbd_step.specs.States.{world_of, now_of, HasLinks, HaveSpace, IsUnderWay}
 use Rattle.pbd_step.specs.Solving.{AreAlike}
 
@@ -42,6 +47,19 @@ pub record StaysInPass {l : ℕ} {P : Type 0} (count : P → ℕ) (lanes : P →
   pub flags : length new.tools.touched ≡ length old.tools.touched
   pub not_fallen : count old.projector ≤ count new.projector
   pub width : lanes new.projector ≡ lanes old.projector
+
+-- a part of a pass projects the bonds of some numbers one after another, or the first that would leave the limit is told; it
+-- leaves the tools, and the totals grow by no more than 2^60
+pub record ProjectsInPass {l : ℕ} {P : Type 0} (count lanes : P → ℕ) (r : Result (Unit {0}) Left) (bond : ℕ → Bond)
+    (numbers : List ℕ) (old new : Running l P) : Type 0 where
+  pub outcome : MatchResult r
+      (λ _. projected old.state.store.limit bond numbers (now_of old.state) ≡ Ok (now_of new.state))
+      (λ left. projected old.state.store.limit bond numbers (now_of old.state) ≡ Err left.element)
+  pub stays : StaysInPass count lanes old new
+  pub tools : new.tools ≡ old.tools
+  pub movable : OnOk r
+      ((n : ℕ) → AreMovable n old.state.store.limit old.state.store.particles (ledger_of old.state.totals)
+      → AreMovable (n + 2 ^ 60) new.state.store.limit new.state.store.particles (ledger_of new.state.totals))
 
 -- a part of a step leaves the limit, how many particles and links there are, the coloured pairs, the room of the tools and
 -- the projector's width

@@ -12,6 +12,20 @@ use pbd_store::{Steps, Store};
 use pbd_world::{Left, Totals};
 use std::sync::ledger::Ledger;
 
+/// Bonds, and the colouring of their pairs.
+#[derive(Drop)]
+pub(crate) struct Coloured<'a> {
+    pub(crate) bonds: Bonds<'a>,
+    pub(crate) colours: &'a Colouring,
+}
+
+// Bonds of which no two share a particle, by their numbers.
+#[derive(Drop)]
+struct Batch<'a> {
+    bonds: Bonds<'a>,
+    numbers: &'a [u32],
+}
+
 /// A projector's count of what it was handed fits 64 bits.
 pub(crate) fn counts<const L: usize, P: Projector<L>>(projector: &P)
     ensures { P.count projector.now ≤ 2 ^ 64 - 1 }
@@ -19,50 +33,54 @@ pub(crate) fn counts<const L: usize, P: Projector<L>>(projector: &P)
     let _count = projector.handed();
 }
 
-// Bonds of which no two share a particle, as one batch.
+// A batch, side by side as far as the projector goes.
 fn project_batch<const L: usize, P: Projector<L>, G: Ledger>(
     projector: &mut P,
     store: &mut Store<L>,
-    bonds: Bonds<'_>,
-    batch: &[u32],
+    batch: &Batch<'_>,
     totals: &mut Totals,
     steps: &mut Steps<G>,
 ) -> Result<(), Left>
     requires lanes_low { 0 < L }
     requires lanes_high { L ≤ 16 }
-    requires can { CanProjectBatch bonds batch.now store.old totals.old }
-    ensures done { AreProjected result bonds.entry batch.now (length batch.now * 2 ^ 32) store.old store.new totals.old totals.new }
-    ensures handed { P.count projector.new ≡ min (P.count projector.old + length batch.now) (2 ^ 64 - 1) }
+    requires can { CanProjectBatch batch.now.bonds batch.now.numbers.now store.old totals.old }
+    ensures done { AreProjected result batch.now.bonds batch.now.numbers.now
+        (length batch.now.numbers.now * 2 ^ 32) store.old store.new totals.old totals.new }
+    ensures handed { P.count projector.new ≡ min (P.count projector.old + length batch.now.numbers.now) (2 ^ 64 - 1) }
     ensures width { P.width projector.new ≡ P.width projector.old }
-    ensures cost { steps.new ≤ steps.old + 4 * blocks_of (length batch.now) (P.width projector.old) }
+    ensures cost { steps.new ≤ steps.old + 4 * blocks_of (length batch.now.numbers.now) (P.width projector.old) }
 {
-    projector.project(store, bonds, batch, totals, steps)
+    projector.project(store, batch.bonds, batch.numbers, totals, steps)
 }
 
 // The live pairs of the colours below 63, each colour as one batch.
 fn project_colours<const L: usize, P: Projector<L>, G: Ledger>(
     projector: &mut P,
     store: &mut Store<L>,
-    bonds: Bonds<'_>,
-    colours: &Colouring,
+    list: &Coloured<'_>,
     totals: &mut Totals,
     steps: &mut Steps<G>,
 ) -> Result<(), Left>
     requires lanes_low { 0 < L }
     requires lanes_high { L ≤ 16 }
-    requires can { CanProjectAll (2 ^ 119) bonds colours.now.pairs store.old totals.old }
+    requires can { CanProjectAll (2 ^ 119) list.now.bonds list.now.colours.now.pairs store.old totals.old }
     requires counted { P.count projector.old ≤ 2 ^ 64 - 1 }
-    ensures done { AreProjected result bonds.entry (parallel_from colours.now.pairs colours.now.live 0)
-        (length (parallel_from colours.now.pairs colours.now.live 0) * 2 ^ 32) store.old store.new totals.old totals.new }
+    ensures done { AreProjected result list.now.bonds (parallel_from list.now.colours.now.pairs list.now.colours.now.live 0)
+        (length (parallel_from list.now.colours.now.pairs list.now.colours.now.live 0) * 2 ^ 32) store.old store.new totals.old totals.new }
     ensures handed { OnOk result
-        (P.count projector.new ≡ min (P.count projector.old + length (parallel_from colours.now.pairs colours.now.live 0)) (2 ^ 64 - 1)) }
-    ensures can { OnOk result (CanProjectAll (2 ^ 119 + 2 ^ 57) bonds.entry colours.now.pairs store.new totals.new) }
+        (P.count projector.new
+        ≡ min (P.count projector.old + length (parallel_from list.now.colours.now.pairs list.now.colours.now.live 0)) (2 ^ 64 - 1)) }
+    ensures can { OnOk result (CanProjectAll (2 ^ 119 + 2 ^ 57) list.now.bonds list.now.colours.now.pairs store.new totals.new) }
     ensures not_fallen { P.count projector.old ≤ P.count projector.new }
     ensures width { P.width projector.new ≡ P.width projector.old }
-    ensures cost { steps.new ≤ steps.old + colours_work (P.width projector.old) colours.now.pairs colours.now.live 0 63 }
+    ensures cost { steps.new ≤ steps.old + colours_work (P.width projector.old) list.now.colours.now.pairs list.now.colours.now.live 0 63 }
 {
     for c in 0..63 {
-        if let Err(left) = project_batch(projector, store, bonds, colours.batch(c), totals, steps) {
+        let batch = Batch {
+            bonds: list.bonds,
+            numbers: list.colours.batch(c),
+        };
+        if let Err(left) = project_batch(projector, store, &batch, totals, steps) {
             return Err(left);
         }
     }
@@ -73,25 +91,29 @@ fn project_colours<const L: usize, P: Projector<L>, G: Ledger>(
 fn project_serial<const L: usize, P: Projector<L>, G: Ledger>(
     projector: &mut P,
     store: &mut Store<L>,
-    bonds: Bonds<'_>,
-    colours: &Colouring,
+    list: &Coloured<'_>,
     totals: &mut Totals,
     steps: &mut Steps<G>,
 ) -> Result<(), Left>
     requires lanes_low { 0 < L }
     requires lanes_high { L ≤ 16 }
-    requires can { CanProjectAll (2 ^ 119 + 2 ^ 57) bonds colours.now.pairs store.old totals.old }
+    requires can { CanProjectAll (2 ^ 119 + 2 ^ 57) list.now.bonds list.now.colours.now.pairs store.old totals.old }
     requires counted { P.count projector.old ≤ 2 ^ 64 - 1 }
-    ensures done { AreProjected result bonds.entry (batch_of colours.now.pairs colours.now.live 63)
-        (length (batch_of colours.now.pairs colours.now.live 63) * 2 ^ 32) store.old store.new totals.old totals.new }
+    ensures done { AreProjected result list.now.bonds (batch_of list.now.colours.now.pairs list.now.colours.now.live 63)
+        (length (batch_of list.now.colours.now.pairs list.now.colours.now.live 63) * 2 ^ 32) store.old store.new totals.old totals.new }
     ensures handed { OnOk result
-        (P.count projector.new ≡ min (P.count projector.old + length (batch_of colours.now.pairs colours.now.live 63)) (2 ^ 64 - 1)) }
+        (P.count projector.new
+        ≡ min (P.count projector.old + length (batch_of list.now.colours.now.pairs list.now.colours.now.live 63)) (2 ^ 64 - 1)) }
     ensures not_fallen { P.count projector.old ≤ P.count projector.new }
     ensures width { P.width projector.new ≡ P.width projector.old }
-    ensures cost { steps.new ≤ steps.old + 4 * length (batch_of colours.now.pairs colours.now.live 63) }
+    ensures cost { steps.new ≤ steps.old + 4 * length (batch_of list.now.colours.now.pairs list.now.colours.now.live 63) }
 {
-    for n in colours.serial() {
-        if let Err(left) = project_batch(projector, store, bonds, &[*n], totals, steps) {
+    for n in list.colours.serial() {
+        let batch = Batch {
+            bonds: list.bonds,
+            numbers: &[*n],
+        };
+        if let Err(left) = project_batch(projector, store, &batch, totals, steps) {
             return Err(left);
         }
     }
@@ -104,27 +126,27 @@ fn project_serial<const L: usize, P: Projector<L>, G: Ledger>(
 pub(crate) fn project_all<const L: usize, P: Projector<L>, G: Ledger>(
     projector: &mut P,
     store: &mut Store<L>,
-    bonds: Bonds<'_>,
-    colours: &Colouring,
+    list: &Coloured<'_>,
     totals: &mut Totals,
     steps: &mut Steps<G>,
 ) -> Result<(), Left>
     requires lanes_low { 0 < L }
     requires lanes_high { L ≤ 16 }
-    requires can { CanProjectAll (2 ^ 119) bonds colours.now.pairs store.old totals.old }
-    ensures done { AreProjected result bonds.entry (order colours.now.pairs colours.now.live)
+    requires can { CanProjectAll (2 ^ 119) list.now.bonds list.now.colours.now.pairs store.old totals.old }
+    ensures done { AreProjected result list.now.bonds (order list.now.colours.now.pairs list.now.colours.now.live)
         (2 ^ 60) store.old store.new totals.old totals.new }
     ensures handed { OnOk result
-        (P.count projector.new ≡ min (P.count projector.old + length (order colours.now.pairs colours.now.live)) (2 ^ 64 - 1)) }
+        (P.count projector.new
+        ≡ min (P.count projector.old + length (order list.now.colours.now.pairs list.now.colours.now.live)) (2 ^ 64 - 1)) }
     ensures not_fallen { P.count projector.old ≤ P.count projector.new }
     ensures width { P.width projector.new ≡ P.width projector.old }
-    ensures cost { steps.new ≤ steps.old + bonds_work (P.width projector.old) colours.now.pairs colours.now.live }
+    ensures cost { steps.new ≤ steps.old + bonds_work (P.width projector.old) list.now.colours.now.pairs list.now.colours.now.live }
 {
     counts(projector);
-    if let Err(left) = project_colours(projector, store, bonds, colours, totals, steps) {
+    if let Err(left) = project_colours(projector, store, list, totals, steps) {
         return Err(left);
     }
-    if let Err(left) = project_serial(projector, store, bonds, colours, totals, steps) {
+    if let Err(left) = project_serial(projector, store, list, totals, steps) {
         return Err(left);
     }
     Ok(())

@@ -1,6 +1,6 @@
 // The passes of a step.
 ghost use Rattle.std.specs.Prelude.{◌≡◌, ◌+◌, ◌-◌, ◌*◌, ◌<◌, ◌≤◌, ◌^◌, ℕ, pos, min, length, IsTrue, OnOk, MatchResult, Result, Ok, Err};
-ghost use Rattle.pbd_world.specs.Bonds.{projected, link_bond, contact_bond};
+ghost use Rattle.pbd_world.specs.Bonds.{link_bond, contact_bond};
 ghost use Rattle.pbd_world.specs.Ledger.{ledger_of};
 ghost use Rattle.pbd_world.specs.Outcomes.{repeated};
 ghost use Rattle.pbd_world.specs.Step.{pass as passed, link_order, contact_order};
@@ -8,10 +8,10 @@ ghost use Rattle.pbd_world.specs.Valid.{is_between, is_limit, are_valid_links};
 ghost use Rattle.pbd_world.specs.Work.{contacts_work, links_work, pass_work};
 ghost use Rattle.pbd_world.specs.World.{live_count};
 ghost use Rattle.pbd_step.specs.Projecting.{AreMovable};
-ghost use Rattle.pbd_step.specs.States.{world_of, now_of, HasLinks, IsUnderWay};
-ghost use Rattle.pbd_step.specs.Staying.{IsGoing, StaysInPass, passing_of};
+ghost use Rattle.pbd_step.specs.States.{world_of, HasLinks, IsUnderWay};
+ghost use Rattle.pbd_step.specs.Staying.{IsGoing, ProjectsInPass, StaysInPass, passing_of};
 
-use crate::bonds::{counts, project_all};
+use crate::bonds::{Coloured, counts, project_all};
 use crate::leaving::leaving;
 use crate::state::{Running, Setting};
 use pbd_pair::{Bonds, Projector};
@@ -30,25 +30,20 @@ fn project_links<const L: usize, P: Projector<L> + Drop, G: Ledger>(
     requires valid { IsTrue (are_valid_links run.old.state.store.limit (length run.old.state.store.particles) run.old.state.links.items) }
     requires links { HasLinks (length run.old.state.store.particles) run.old.state.links.items run.old.colours }
     requires movable { AreMovable (2 ^ 119) run.old.state.store.limit run.old.state.store.particles (ledger_of run.old.state.totals) }
-    ensures outcome { MatchResult result
-        (λ _. projected run.old.state.store.limit (link_bond run.old.state.links.items)
-        (link_order run.old.state.links.items) (now_of run.old.state) ≡ Ok (now_of run.new.state))
-        (λ left. projected run.old.state.store.limit (link_bond run.old.state.links.items)
-        (link_order run.old.state.links.items) (now_of run.old.state) ≡ Err left.element) }
-    ensures stays { StaysInPass P.count P.width run.old run.new }
-    ensures tools { run.new.tools ≡ run.old.tools }
-    ensures movable { OnOk result
-        ((n : ℕ) → AreMovable n run.old.state.store.limit run.old.state.store.particles (ledger_of run.old.state.totals)
-        → AreMovable (n + 2 ^ 60) run.new.state.store.limit run.new.state.store.particles (ledger_of run.new.state.totals)) }
+    ensures done { ProjectsInPass P.count P.width result (link_bond run.old.state.links.items)
+        (link_order run.old.state.links.items) run.old run.new }
     ensures handed { OnOk result
         (P.count run.new.projector ≡ min (P.count run.old.projector + live_count run.old.state.links.items) (2 ^ 64 - 1)) }
     ensures cost { steps.new ≤ steps.old + links_work (P.width run.old.projector) run.old.state.links.items }
 {
+    let list = Coloured {
+        bonds: Bonds::Links(&run.state.links),
+        colours: &run.colours,
+    };
     project_all(
         &mut run.projector,
         &mut run.state.store,
-        Bonds::Links(&run.state.links),
-        &run.colours,
+        &list,
         &mut run.state.totals,
         steps,
     )
@@ -66,31 +61,25 @@ fn project_contacts<const L: usize, P: Projector<L> + Drop, G: Ledger>(
     requires thickness { IsTrue (is_between (pos 0) (pos 1048576) thickness) }
     requires found { run.old.tools.found.particles ≡ length run.old.state.store.particles }
     requires movable { AreMovable (2 ^ 119) run.old.state.store.limit run.old.state.store.particles (ledger_of run.old.state.totals) }
-    ensures outcome { MatchResult result
-        (λ _. projected run.old.state.store.limit (contact_bond thickness run.old.tools.found.pairs)
-        (contact_order run.old.tools.found.pairs) (now_of run.old.state) ≡ Ok (now_of run.new.state))
-        (λ left. projected run.old.state.store.limit (contact_bond thickness run.old.tools.found.pairs)
-        (contact_order run.old.tools.found.pairs) (now_of run.old.state) ≡ Err left.element) }
-    ensures stays { StaysInPass P.count P.width run.old run.new }
-    ensures tools { run.new.tools ≡ run.old.tools }
-    ensures movable { OnOk result
-        ((n : ℕ) → AreMovable n run.old.state.store.limit run.old.state.store.particles (ledger_of run.old.state.totals)
-        → AreMovable (n + 2 ^ 60) run.new.state.store.limit run.new.state.store.particles (ledger_of run.new.state.totals)) }
+    ensures done { ProjectsInPass P.count P.width result (contact_bond thickness run.old.tools.found.pairs)
+        (contact_order run.old.tools.found.pairs) run.old run.new }
     ensures handed { OnOk result
         (P.count run.new.projector ≡ min (P.count run.old.projector + length run.old.tools.found.pairs) (2 ^ 64 - 1)) }
     ensures cost { steps.new ≤ steps.old + contacts_work (P.width run.old.projector) run.old.tools.found.pairs }
 {
     let projector = &mut run.projector;
     let found = &run.tools.found;
-    let bonds = Bonds::Contacts {
-        pairs: found.pairs(),
-        thickness,
+    let list = Coloured {
+        bonds: Bonds::Contacts {
+            pairs: found.pairs(),
+            thickness,
+        },
+        colours: found.colouring(),
     };
     project_all(
         projector,
         &mut run.state.store,
-        bonds,
-        found.colouring(),
+        &list,
         &mut run.state.totals,
         steps,
     )

@@ -30,8 +30,8 @@ project_all-requires g c =
     } in
     (omega arith, (c.requires.lanes_low, (c.requires.lanes_high, can)))
 
-pub returns-clause-outcome : goal.returns-clause-outcome
-returns-clause-outcome g c =
+pub returns-clause-done : goal.returns-clause-done
+returns-clause-done g c =
     let fit : FitsSigned w64 c.args.thickness = c.ranges.thickness in
     let same : to_z w64 (of_z w64 c.args.thickness) ≡ c.args.thickness = to_z-of_z w64 c.args.thickness fit in
     let limit = c.args.run.now.state.store.limit in
@@ -40,18 +40,17 @@ returns-clause-outcome g c =
     let live = c.colouring.ensures.live in
     let start = motion_of c.args.run.now.state.store c.args.run.now.state.totals in
     let now = motion_of c.project_all.new.store c.project_all.new.totals in
-    coe 0 1 (i. MatchResult c.project_all.result
-    (λ _. projected limit (contact_bond (same i) (value i)) (order (pairs i) (live i)) start ≡ Ok now)
-    (λ left. projected limit (contact_bond (same i) (value i)) (order (pairs i) (live i)) start ≡ Err left.element))
-    c.project_all.ensures.done.outcome
-
-pub returns-clause-stays : goal.returns-clause-stays
-returns-clause-stays g c =
     let run = c.args.run.now in
-    part_in_pass run (record run.state { store = c.project_all.new.store; totals = c.project_all.new.totals }) run.tools.touched c.project_all.new.projector refl c.project_all.ensures.done.limit c.project_all.ensures.done.fixed refl c.project_all.ensures.not_fallen c.project_all.ensures.width
-
-pub returns-clause-movable : goal.returns-clause-movable
-returns-clause-movable g c = ok_both c.project_all.result (still_movable (2 ^ 60) c.project_all.ensures.done.limit c.project_all.ensures.done.fixed) c.project_all.ensures.done.inside c.project_all.ensures.done.room
+    let done = c.project_all.ensures.done in
+    record {
+      outcome = coe 0 1 (i. MatchResult c.project_all.result
+          (λ _. projected limit (contact_bond (same i) (value i)) (order (pairs i) (live i)) start ≡ Ok now)
+          (λ left. projected limit (contact_bond (same i) (value i)) (order (pairs i) (live i)) start ≡ Err left.element))
+          done.outcome;
+      stays = part_in_pass run (record run.state { store = c.project_all.new.store; totals = c.project_all.new.totals }) run.tools.touched c.project_all.new.projector refl done.limit done.fixed refl c.project_all.ensures.not_fallen c.project_all.ensures.width;
+      tools = refl;
+      movable = ok_both c.project_all.result (still_movable (2 ^ 60) done.limit done.fixed) done.inside done.room;
+    }
 
 pub returns-clause-handed : goal.returns-clause-handed
 returns-clause-handed g c =
