@@ -1,5 +1,5 @@
 -- The lines of a frame as OBJ text.
-use Rattle.std.proofs.Common.{◌≡◌, ◌∙◌, sym, ap, refl, subst, ℕ, ◌+◌, ◌-◌, ◌<◌, ◌≤◌, ◌^◌, List, [], ◌∷◌, ◌++◌, length, get_or, take, drop, arith, append_assoc, append-nil, Option}
+use Rattle.std.proofs.Common.{◌≡◌, ◌∙◌, sym, ap, refl, subst, ℕ, ◌+◌, ◌-◌, ◌<◌, ◌≤◌, ◌^◌, List, [], ◌∷◌, ◌++◌, length, get_or, take, drop, arith, append_assoc, Option}
 use Rattle.std.specs.Prelude.{All, sum}
 use Rattle.std.specs.Io.KnownBytes.{Appends}
 use Rattle.std.specs.List.{flat_map}
@@ -9,21 +9,12 @@ use Rattle.std.proofs.lemmas.List.Elements.{All-head, All-tail, All-weaker}
 use Rattle.pbd_io.specs.Pieces.{AppendsPrefix}
 use Rattle.pbd_io.specs.Appending.{appends_nothing, appends_then, prefix_longer, prefix_then}
 use Rattle.pbd_world.specs.Text.{header_line}
-use Rattle.pbd_world.specs.World.{World, live_count}
+use Rattle.pbd_world.specs.World.{World}
 use Rattle.pbd_obj.specs.declared.mesh.ObjMesh.{ObjMesh}
 use Rattle.pbd_obj.specs.Meshes.{IsFace, cut, faces}
 use Rattle.pbd_obj.specs.Writing.{face_line}
-use Rattle.pbd_session.specs.Printing.{frame_header}
 use Rattle.pbd_outcome.specs.ObjText.{comment, obj_frame, particle_line}
 use Rattle.pbd_run.specs.Calls.{IsDrawable}
-
-header_is : (w : World) → frame_header w.steps (length w.particles) (live_count w.links) w.contacts ≡ header_line w
-unfolding header_line frame_header
-header_is w = refl
-
--- the first line of a frame, by the counts of a session's solver
-pub header_of : (v w : World) (steps particles live contacts : ℕ) → v ≡ w → steps ≡ v.steps → particles ≡ length v.particles → live ≡ live_count v.links → contacts ≡ v.contacts → comment ++ frame_header steps particles live contacts ≡ comment ++ header_line w
-header_of v w steps particles live contacts same a b c d = rw (a, b, c, d, same) (ap (λ t. comment ++ t) (header_is w))
 
 pub frame_is : (base : ℕ) (mesh : ObjMesh) (w : World) → obj_frame base mesh w ≡ (comment ++ header_line w) ++ (flat_map particle_line w.particles ++ flat_map (face_line base) (faces mesh))
 unfolding obj_frame
@@ -73,12 +64,6 @@ faces_begin_at base mesh sizes corners old sizes_are corners_are is = rw (sizes_
 at_size : (base : ℕ) (mesh : ObjMesh) (sizes : List ℕ) (i : ℕ) (corners : List ℕ) (old now : Option (List ℕ)) → FacesWritten base mesh (drop i sizes) corners old now → i < length sizes → FacesWritten base mesh (get_or sizes i 0 ∷ drop (i + 1) sizes) corners old now
 at_size base mesh sizes i corners old now so_far lt = subst (λ (left : List ℕ). FacesWritten base mesh left corners old now) (drop_more sizes i 0 lt) so_far
 
-pub face_fits : (base : ℕ) (mesh : ObjMesh) (sizes : List ℕ) (i : ℕ) (corners : List ℕ) (old now : Option (List ℕ)) → FacesWritten base mesh (drop i sizes) corners old now → i < length sizes → get_or sizes i 0 ≤ length corners
-face_fits base mesh sizes i corners old now so_far lt =
-    let here = at_size base mesh sizes i corners old now so_far lt in
-    let all : get_or sizes i 0 + sum (drop (i + 1) sizes) ≡ length corners = sym (sum_by-cons (λ x. x) (get_or sizes i 0) (drop (i + 1) sizes)) ∙ here.whole in
-    omega (arith, all)
-
 pub face_small : (base : ℕ) (mesh : ObjMesh) (sizes : List ℕ) (i : ℕ) (corners face : List ℕ) (old now : Option (List ℕ)) → FacesWritten base mesh (drop i sizes) corners old now → i < length sizes → face ≡ take (get_or sizes i 0) corners → AreSmall base face
 face_small base mesh sizes i corners face old now so_far lt is =
     let here = at_size base mesh sizes i corners old now so_far lt in
@@ -104,8 +89,3 @@ faces_fail base mesh sizes i corners face old mid now so_far lt front wrote =
     let s = get_or sizes i 0 in
     let wrote_that : AppendsPrefix mid now (face_line base (take s corners)) = rw front at wrote in
     rw (← here.text) (prefix_then _ _ _ here.done _ here.bytes (prefix_longer _ _ (face_line base (take s corners)) (flat_map (face_line base) (cut (drop (i + 1) sizes) (drop s corners))) wrote_that))
-
-pub faces_end : (base : ℕ) (mesh : ObjMesh) (sizes corners : List ℕ) (old now : Option (List ℕ)) → FacesWritten base mesh sizes corners old now → sizes ≡ [] → Appends old now (flat_map (face_line base) (faces mesh))
-faces_end base mesh sizes corners old now so_far none =
-    let here : FacesWritten base mesh [] corners old now = rw none at so_far in
-    rw (sym (append-nil here.done) ∙ here.text) at here.bytes

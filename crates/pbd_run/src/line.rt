@@ -3,10 +3,9 @@ ghost use Rattle.std.specs.Prelude.{◌≡◌, ◌+◌, ◌≤◌, ◌++◌, [],
 ghost use Rattle.pbd_scene.specs.Keys.{rule_number, rule_text, table_text, key_text};
 ghost use Rattle.pbd_outcome.specs.Statuses.{broken_at, line_in, log_line, refused_line, status_line};
 ghost use Rattle.std.specs.Fmt.{signed_decimal};
-ghost use Rattle.pbd_session.specs.Printing.{frame_header};
 ghost use Rattle.pbd_session.specs.Replaying.{axis};
 ghost use Rattle.pbd_outcome.specs.Generated.{large_line, sums_line};
-ghost use Rattle.pbd_outcome.specs.ObjText.{comment, fault_name, fault_number, fault_place, obj_line};
+ghost use Rattle.pbd_outcome.specs.ObjText.{fault_name, fault_number, fault_place, obj_line};
 
 use pbd_line::Line;
 use pbd_obj::ObjFault;
@@ -189,23 +188,6 @@ pub fn obj_line(fault: ObjFault) -> Line
     line.push(fault_name(fault));
     line.push(" at ");
     line.push_number(u64::from(fault_place(fault)));
-    line.push("\n");
-    line
-}
-
-/// The first line of a frame, as a comment.
-pub fn comment_frame(steps: u64, particles: u32, live: u32, contacts: u32) -> Line
-    ensures { result ≡ comment ++ frame_header steps particles live contacts }
-{
-    let mut line = Line::new();
-    line.push("# frame ");
-    line.push_number(steps);
-    line.push(" ");
-    line.push_number(u64::from(particles));
-    line.push(" ");
-    line.push_number(u64::from(live));
-    line.push(" ");
-    line.push_number(u64::from(contacts));
     line.push("\n");
     line
 }

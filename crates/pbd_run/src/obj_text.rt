@@ -7,11 +7,9 @@ ghost use Rattle.pbd_obj.specs.Meshes.{faces};
 ghost use Rattle.pbd_obj.specs.Writing.{face_line};
 ghost use Rattle.pbd_script.specs.Commands.{commands};
 ghost use Rattle.pbd_world.specs.Session.{is_refused, refused_count};
-ghost use Rattle.pbd_world.specs.Text.{header_line};
-ghost use Rattle.pbd_outcome.specs.ObjText.{comment, obj_frame, obj_session_text, obj_text, particle_line};
+ghost use Rattle.pbd_outcome.specs.ObjText.{obj_frame, obj_session_text, obj_text, particle_line};
 ghost use Rattle.pbd_run.specs.Calls.{IsDrawable};
 
-use crate::line::comment_frame;
 use pbd_io::{Failed, Sink};
 use pbd_obj::{ObjMesh, write_face, write_vertex};
 use pbd_pair::Projector;
@@ -23,23 +21,6 @@ use std::sync::ledger::Ledger;
 
 /// What stands before a line that is no part of a mesh.
 const COMMENT: &[u8] = b"# ";
-
-fn write_header<const L: usize, P: Projector<L> + Drop, K: Sink>(
-    session: &Session<L, P>,
-    sink: &mut K,
-) -> Result<(), Failed>
-    requires lanes_high { L ≤ 16 }
-    ensures bytes { WritesPiece (K.written sink.old) (K.written sink.new) result (comment ++ header_line session.now) }
-    ensures cause { HasCause (K.faults sink.old) (K.faults sink.new) result }
-{
-    let solver = session.solver();
-    let steps = solver.step_count();
-    let particles = solver.particles();
-    let live = solver.live();
-    let contacts = solver.contacts();
-    let header = comment_frame(steps, particles, live, contacts);
-    sink.write(header.as_slice())
-}
 
 /// Writes each particle as a vertex.
 fn write_particles<const L: usize, P: Projector<L> + Drop, K: Sink, G: Ledger>(
@@ -122,7 +103,7 @@ impl Faces<'_> {
             (obj_frame self.now.base self.now.mesh.now session.now) }
         ensures cause { HasCause (K.faults sink.old) (K.faults sink.new) result }
     {
-        write_header(session, sink)?;
+        session.write_header_after(COMMENT, sink)?;
         self.write_mesh(session, sink, steps)
     }
 

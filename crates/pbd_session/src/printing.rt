@@ -172,6 +172,16 @@ impl<const L: usize, P: Projector<L> + Drop> Session<L, P> {
         self.write_after(&[], reply, sink, steps)
     }
 
+    /// Writes the first line of a frame, with the prefix before it.
+    /// `Failed` is as for `write_reply`.
+    pub fn write_header_after<K: Sink>(&self, prefix: &[u8], sink: &mut K) -> Result<(), Failed>
+        requires lanes_high { L ≤ 16 }
+        ensures bytes { WritesPiece (K.written sink.old) (K.written sink.new) result (header_after prefix.now self.now) }
+        ensures cause { HasCause (K.faults sink.old) (K.faults sink.new) result }
+    {
+        write_header(self.solver(), prefix, sink)
+    }
+
     /// Writes the lines of a reply, each with the prefix before it.
     /// `Failed` is as for `write_reply`.
     #[tactic(auto, unfolding(crate::specs::Printing::text_after, pbd_world::specs::Work::reply_work))]
