@@ -3,7 +3,7 @@ ghost use Rattle.std.specs.Prelude.{◌≡◌, ◌<◌, ◌≤◌, ◌^◌, pos,
 ghost use Rattle.std.specs.List.{list_all};
 ghost use Rattle.pbd_pair.specs.Examples.{is_placed, is_batch};
 
-use crate::places::{held, place};
+use crate::places::{held, link, place};
 use pbd_num::{RANGE, Vec3};
 use pbd_pair::{Bonds, LaneProjector, Projector, Scalar};
 use pbd_store::{Steps, Store};
@@ -19,20 +19,6 @@ macro_rules! free {
             before: place!($x, $y, 0),
             weight: $weight,
             held: false,
-        }
-    };
-}
-
-macro_rules! link {
-    ($a:expr, $b:expr, $rest:expr) => {
-        Link {
-            a: $a,
-            b: $b,
-            rest: $rest,
-            k: 256,
-            tear: 0,
-            kind: Kind::Plain,
-            live: true,
         }
     };
 }

@@ -57,7 +57,23 @@ macro_rules! held {
     };
 }
 
+/// A live link of full stiffness that never tears.
+macro_rules! link {
+    ($a:expr, $b:expr, $rest:expr) => {
+        Link {
+            a: $a,
+            b: $b,
+            rest: $rest,
+            k: 256,
+            tear: 0,
+            kind: Kind::Plain,
+            live: true,
+        }
+    };
+}
+
 pub(crate) use held;
+pub(crate) use link;
 pub(crate) use moved;
 pub(crate) use place;
 pub(crate) use resting;

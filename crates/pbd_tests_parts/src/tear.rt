@@ -3,7 +3,7 @@ ghost use Rattle.std.specs.Prelude.{◌≡◌, ◌<◌, ◌≤◌, ◌^◌, pos,
 ghost use Rattle.pbd_store.specs.Moving.{AreInside};
 ghost use Rattle.pbd_world.specs.Valid.{are_valid_links};
 
-use crate::places::{moved, place, resting};
+use crate::places::{link, moved, place, resting};
 use pbd_num::{RANGE, Vec3};
 use pbd_store::{Steps, Store};
 use pbd_tear::torn;
@@ -12,16 +12,13 @@ use std::alloc::{AllocError, Global};
 use std::marker::Brand;
 use std::sync::ledger::{Blank, Ledger};
 
-macro_rules! link {
-    ($a:expr, $b:expr, $tear:expr, $live:expr) => {
+/// A link that tears above 100.
+macro_rules! tearing {
+    ($a:expr, $b:expr, $live:expr) => {
         Link {
-            a: $a,
-            b: $b,
-            rest: 100,
-            k: 256,
-            tear: $tear,
-            kind: Kind::Plain,
+            tear: 100,
             live: $live,
+            ..link!($a, $b, 100)
         }
     };
 }
@@ -78,10 +75,10 @@ fn numbers_in<const L: usize, G: Ledger>(
     steps: &mut Steps<G>,
 ) -> Numbers {
     let links = [
-        link!(0, 1, 100, true),
-        link!(2, 3, 100, true),
-        link!(0, 3, 0, true),
-        link!(4, 5, 100, last_live),
+        tearing!(0, 1, true),
+        tearing!(2, 3, true),
+        link!(0, 3, 100),
+        tearing!(4, 5, last_live),
     ];
     first_torn::<L, G>(alloc, &PLACED, &links, steps)
 }

@@ -1,28 +1,13 @@
 //! Scenes that are valid and others that aren't, lists, totals, lanes and numbers of refusals.
 ghost use Rattle.std.specs.Prelude.{◌<◌, ◌≤◌};
 
-use crate::places::{held, moved, place, resting};
+use crate::places::{held, link, moved, place, resting};
 use pbd_num::{RANGE, Vec3};
 use pbd_world::{
     Class, Full, Key, Kind, Link, List, Particle, Parts, PartsFault, Phase, Plane, Refusal,
     RoomList, Scene, Sphere, Totals, Track, Width,
 };
 use std::alloc::Global;
-
-/// A link of a length at rest.
-macro_rules! link {
-    ($a:expr, $b:expr, $rest:expr) => {
-        Link {
-            a: $a,
-            b: $b,
-            rest: $rest,
-            k: 256,
-            tear: 0,
-            kind: Kind::Stretch,
-            live: true,
-        }
-    };
-}
 
 /// Two rows of three particles.
 static CLOTH_PARTICLES: [Particle; 6] = [
