@@ -1,25 +1,21 @@
 -- Sessions side by side: what each request is answered with, what is printed for it, and what it makes of the worlds.
 use Rattle.std.specs.Prelude.{ℕ, ◌+◌, ◌≤◌, ◌==◌, pos, Bool, true, false, if◌then◌else◌, codes, decimal, List, [], ◌∷◌, ◌++◌, length, drop, All, filter_map, slice_index_or, slice_set, Option, Some, None}
 use Rattle.std.specs.List.{position_or_len}
-use Rattle.pbd_num.specs.Vectors.{zero_vector}
 use Rattle.pbd_world.specs.declared.command.Command.{Command}
 use Rattle.pbd_world.specs.declared.command.Reply.{Reply}
-use Rattle.pbd_world.specs.declared.parts.Parts.{Parts}
 use Rattle.pbd_world.specs.Meaning.{after, reply}
 use Rattle.pbd_world.specs.Session.{is_refused}
 use Rattle.pbd_world.specs.Text.{line, text}
+use Rattle.pbd_world.specs.Valid.{no_parts}
 use Rattle.pbd_world.specs.World.{World, opened, IsSound}
 use Rattle.pbd_host.specs.declared.served.Served.{Served}
 use Rattle.pbd_host.specs.declared.served.Served.TheVariants as answers
 use Rattle.pbd_host.specs.declared.request.Request.{Request}
 use Rattle.pbd_host.specs.declared.request.Request.TheVariants.{Blank, BadTag, To}
 
-abbrev no_parts : Parts
-no_parts = record { particles = []; links = []; planes = []; spheres = []; tracks = []; gravity = zero_vector; passes = 0; damping = pos 0; thickness = pos 0; friction = pos 0; limit = pos 0 }
-
--- the world of session t
+-- the world of session t, where there is one
 abbrev pub world_at : List World → ℕ → World
-world_at ws t = slice_index_or ws t (opened no_parts)
+world_at ws t = slice_index_or ws t (opened (no_parts (pos 0)))
 
 -- sound worlds of up to 16 sessions: that of the first, and those of the others
 pub record AreHosted (w : World) (ws : List World) : Type 0 where

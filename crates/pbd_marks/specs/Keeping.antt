@@ -1,7 +1,6 @@
 -- What callers see of eight marks, and what holds of them.
 use Rattle.std.specs.Prelude.{◌≡◌, pos, ℕ, Bool, false, if◌then◌else◌, List, [], ◌∷◌, length, map, Option, Some, None, All, IfSome}
-use Rattle.pbd_num.specs.Vectors.{zero_vector}
-use Rattle.pbd_world.specs.declared.parts.Parts.{Parts}
+use Rattle.pbd_world.specs.Valid.{no_parts}
 use Rattle.pbd_world.specs.World.{World, IsSound, opened, unchanging}
 use Rattle.pbd_step.specs.Solving.{Solved}
 
@@ -34,13 +33,9 @@ pub record AreOpened (w : World) (n : ℕ) (ws : List World) : Type 0 where
   pub many : length ws ≡ n
   pub opened : All (λ v. v ≡ w) ws
 
--- the scene of no worlds, which doesn't come
-abbrev no_parts : Parts
-no_parts = record { particles = []; links = []; planes = []; spheres = []; tracks = []; gravity = zero_vector; passes = 0; damping = pos 0; thickness = pos 0; friction = pos 0; limit = pos 0 }
-
--- the scene of worlds of one scene
+-- the scene of worlds of one scene, of which there is always one
 abbrev pub scene_of : List World → World
-scene_of [] = opened no_parts
+scene_of [] = opened (no_parts (pos 0))
 scene_of (w ∷ ws) = unchanging w
 
 abbrev pub none_set : List Bool
