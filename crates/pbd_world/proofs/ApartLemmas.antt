@@ -9,7 +9,7 @@ use Rattle.std.proofs.lemmas.List.Elements.{All-get_or}
 use Rattle.std.proofs.lemmas.List.Folds.{list_any-append}
 use Rattle.pbd_world.specs.declared.parts.Link.{Link}
 use Rattle.pbd_world.specs.Valid.{none_twice, join_alike, links_at}
-use Rattle.pbd_world.specs.Neighbours.{other_end, neighbours, is_among, AreJoined, is_room_for, are_apart, HoldsNeighbours, AddsLink}
+use Rattle.pbd_world.specs.Neighbours.{other_end, neighbours, is_among, AreJoined, is_room_for, stand_alone, HoldsNeighbours, AddsLink}
 use Rattle.pbd_world.proofs.Neighbouring.{neighbours_end, holds_more, at_first, at_second, at_neither}
 use Rattle.pbd_world.proofs.TwiceLemmas.{twice_next, twice_found, range_all, range_fails}
 
@@ -117,8 +117,8 @@ alone_next count links i l old now h e joined alone room adds =
       few = λ k u. rw next (few_more k count before l joined (alone.few k u) parts.0 parts.1);
     }
 
-pub alone_all : (count : ℕ) (links : List Link) (i : ℕ) (ends : List (List ℕ)) → length links ≤ i → StandAlone count (take i links) ends → are_apart count links ≡ true
-unfolding are_apart
+pub alone_all : (count : ℕ) (links : List Link) (i : ℕ) (ends : List (List ℕ)) → length links ≤ i → StandAlone count (take i links) ends → stand_alone count links ≡ true
+unfolding stand_alone
 alone_all count links i ends h alone =
     let all : take i links ≡ links = take_all i links h in
     let whole = rw all at alone in
@@ -155,17 +155,17 @@ no_room b at_a at_b h = elim (cases_lt (length at_a) 32) [
     is_so true e = refl
     is_so false e = sym e
 
-too_many : (count : ℕ) (links : List Link) (k : ℕ) → k < count → 33 ≤ links_at links k → are_apart count links ≡ false
-unfolding are_apart
+too_many : (count : ℕ) (links : List Link) (k : ℕ) → k < count → 33 ≤ links_at links k → stand_alone count links ≡ false
+unfolding stand_alone
 too_many count links k h many =
     let fails : nat_le (links_at links k) 32 ≡ false = grind (arith, nat_tests) in
     rw (range_fails (λ i. nat_le (links_at links i) 32) 0 count k (omega arith) (omega (arith, h)) fails) (and_false (none_twice join_alike links))
 
-doubled : (count : ℕ) (links : List Link) → none_twice join_alike links ≡ false → are_apart count links ≡ false
-unfolding are_apart
+doubled : (count : ℕ) (links : List Link) → none_twice join_alike links ≡ false → stand_alone count links ≡ false
+unfolding stand_alone
 doubled count links h = ap (λ x. x && list_all (λ i. nat_le (links_at links i) 32) (range_with_len 0 count)) h
 
-alone_stops : (count : ℕ) (links : List Link) (i : ℕ) (l : Link) (ends : List (List ℕ)) → i < length links → l ≡ get_or links i l → AreJoined count l → StandAlone count (take i links) ends → is_room_for l.b (get_or ends l.a []) (get_or ends l.b []) ≡ false → are_apart count links ≡ false
+alone_stops : (count : ℕ) (links : List Link) (i : ℕ) (l : Link) (ends : List (List ℕ)) → i < length links → l ≡ get_or links i l → AreJoined count l → StandAlone count (take i links) ends → is_room_for l.b (get_or ends l.a []) (get_or ends l.b []) ≡ false → stand_alone count links ≡ false
 alone_stops count links i l ends h e joined alone room =
     let before = take i links in
     let at_a = alone.holds.ends_at l.a joined.first in
@@ -185,7 +185,7 @@ read_next count links i d old now all h alone room adds =
     let l = get_or links i d in
     alone_next count links i l old now h (get_or_default links i d l h) (All-get_or (AreJoined count) links i d h all) alone room adds
 
-pub read_stops : (count : ℕ) (links : List Link) (i : ℕ) (d : Link) (ends : List (List ℕ)) → All (AreJoined count) links → i < length links → StandAlone count (take i links) ends → is_room_for (get_or links i d).b (get_or ends (get_or links i d).a []) (get_or ends (get_or links i d).b []) ≡ false → are_apart count links ≡ false
+pub read_stops : (count : ℕ) (links : List Link) (i : ℕ) (d : Link) (ends : List (List ℕ)) → All (AreJoined count) links → i < length links → StandAlone count (take i links) ends → is_room_for (get_or links i d).b (get_or ends (get_or links i d).a []) (get_or ends (get_or links i d).b []) ≡ false → stand_alone count links ≡ false
 read_stops count links i d ends all h alone room =
     let l = get_or links i d in
     alone_stops count links i l ends h (get_or_default links i d l h) (All-get_or (AreJoined count) links i d h all) alone room

@@ -11,7 +11,7 @@ use Rattle.std.proofs.lemmas.List.Sums.{AllPass-from_list_all}
 use Rattle.pbd_world.specs.declared.parts.Link.{Link}
 use Rattle.pbd_world.specs.declared.parts.Track.{Track}
 use Rattle.pbd_world.specs.Valid.{is_limit, is_valid_link, are_valid_links, none_twice, join_alike, links_at, is_valid_track, are_valid_tracks}
-use Rattle.pbd_world.specs.Neighbours.{AreJoined, are_apart, name_apart}
+use Rattle.pbd_world.specs.Neighbours.{AreJoined, stand_alone, name_apart}
 use Rattle.pbd_world.proofs.ValidLinks.{link_facts, joined_of}
 
 -- ---- the limit
@@ -36,9 +36,9 @@ link_joined limit n l t = joined_of limit n l ((link_facts limit n l).0 t)
 pub links_joined : (limit : ℤ) (n : ℕ) (links : List Link) → list_all (is_valid_link limit n) links ≡ true → All (AreJoined n) links
 links_joined limit n links t = All-weaker (λ (l : Link). is_valid_link limit n l ≡ true) (AreJoined n) (λ l h. link_joined limit n l h) links (AllPass-from_list_all (is_valid_link limit n) links t)
 
-pub links_apart : (limit : ℤ) (n : ℕ) (links : List Link) → length links ≤ 524288 → list_all (is_valid_link limit n) links ≡ true → are_apart n links ≡ are_valid_links limit n links
-unfolding are_apart
-links_apart limit n links few valid = rw (le-leb (length links) 524288 few, valid) refl
+pub links_alone : (limit : ℤ) (n : ℕ) (links : List Link) → length links ≤ 524288 → list_all (is_valid_link limit n) links ≡ true → stand_alone n links ≡ are_valid_links limit n links
+unfolding stand_alone
+links_alone limit n links few valid = rw (le-leb (length links) 524288 few, valid) refl
 
 pub links_broken : (limit : ℤ) (n : ℕ) (links : List Link) → nat_le (length links) 524288 && list_all (is_valid_link limit n) links ≡ false → are_valid_links limit n links ≡ false
 links_broken limit n links broken = ap (λ x. x && none_twice join_alike links && list_all (λ i. nat_le (links_at links i) 32) (range_with_len 0 n)) broken

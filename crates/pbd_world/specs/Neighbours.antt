@@ -28,8 +28,8 @@ unfoldable pub is_room_for : ℕ → List ℕ → List ℕ → Bool
 is_room_for b at_a at_b = nat_lt (length at_a) 32 && nat_lt (length at_b) 32 && not (is_among b at_a)
 
 -- at most one link joins two particles, and at most 32 are at each of n particles
-unfoldable pub are_apart : ℕ → List Link → Bool
-are_apart n links = none_twice join_alike links && list_all (λ i. nat_le (links_at links i) 32) (range_with_len 0 n)
+unfoldable pub stand_alone : ℕ → List Link → Bool
+stand_alone n links = none_twice join_alike links && list_all (λ i. nat_le (links_at links i) 32) (range_with_len 0 n)
 
 -- for each of so many particles the other ends of its links
 pub record HoldsNeighbours (count : ℕ) (links : List Link) (ends : List (List ℕ)) : Type 0 where

@@ -12,11 +12,11 @@ pub enum Width {
 
 impl Width {
     ghost use Rattle.std.specs.Prelude.{◌≡◌};
-    ghost use Rattle.pbd_world.specs.Meaning.{lanes_of};
+    ghost use Rattle.pbd_world.specs.Meaning.{lane_count};
 
     /// 1, 2, 4, 8 or 16.
     pub fn lanes(&self) -> usize
-        ensures { result ≡ lanes_of self.now }
+        ensures { result ≡ lane_count self.now }
     {
         match self {
             Width::W1 => 1,

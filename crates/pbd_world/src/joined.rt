@@ -1,6 +1,6 @@
 // Whether each link of a scene stands alone, and each track has a particle of its own.
 ghost use Rattle.std.specs.Prelude.{◌≡◌, ◌<◌, [], All, IfOk, false, replicate, slice_index_or, length};
-ghost use Rattle.pbd_world.specs.Neighbours.{AreJoined, is_room_for, are_apart, name_apart};
+ghost use Rattle.pbd_world.specs.Neighbours.{AreJoined, is_room_for, stand_alone, name_apart};
 
 use crate::limits::MOST_AT_PARTICLE;
 use crate::neighbours::NeighbourLists;
@@ -23,9 +23,9 @@ fn has_room(link: &Link, lists: &NeighbourLists) -> bool
 /// Whether at most one link joins two particles, and at most 32 are at each of `count` particles.
 /// Takes time and memory in proportion to particles and links.
 #[tactic(auto, using(crate::proofs::ApartLemmas::alone_begins))]
-pub fn are_apart(alloc: Global, count: usize, links: &[Link]) -> Result<bool, AllocError>
+pub fn stand_alone(alloc: Global, count: usize, links: &[Link]) -> Result<bool, AllocError>
     requires { All (AreJoined count) links.now }
-    ensures { IfOk result (λ apart. apart ≡ are_apart count links.now) }
+    ensures { IfOk result (λ alone. alone ≡ stand_alone count links.now) }
 {
     let mut lists = NeighbourLists::new(alloc, count)?;
     for link in links {

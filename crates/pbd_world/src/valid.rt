@@ -2,7 +2,7 @@
 ghost use Rattle.std.specs.Prelude.{◌≡◌, ◌≤◌, ◌^◌, pos, ◌≤ℤ◌, unsigned_abs, IfOk};
 ghost use Rattle.pbd_world.specs.Valid.{are_valid_links, are_valid_tracks, is_well_formed, is_valid};
 
-use crate::joined::{are_apart, name_apart};
+use crate::joined::{name_apart, stand_alone};
 use crate::limits::{MOST_LINKS, MOST_TRACKS};
 use crate::parts::{Link, Parts, Track};
 use crate::single::{
@@ -12,7 +12,7 @@ use crate::single::{
 use pbd_num::within;
 use std::alloc::{AllocError, Global};
 
-#[tactic(auto, using(crate::proofs::WholeLemmas::links_joined, crate::proofs::WholeLemmas::links_apart, crate::proofs::WholeLemmas::links_broken))]
+#[tactic(auto, using(crate::proofs::WholeLemmas::links_joined, crate::proofs::WholeLemmas::links_alone, crate::proofs::WholeLemmas::links_broken))]
 fn are_valid_links(
     alloc: Global,
     limit: i64,
@@ -26,7 +26,7 @@ fn are_valid_links(
     if links.len() > MOST_LINKS || !all_links(limit, count, links) {
         return Ok(false);
     }
-    are_apart(alloc, count, links)
+    stand_alone(alloc, count, links)
 }
 
 #[tactic(auto, using(crate::proofs::WholeLemmas::tracks_among, crate::proofs::WholeLemmas::tracks_apart, crate::proofs::WholeLemmas::tracks_broken))]

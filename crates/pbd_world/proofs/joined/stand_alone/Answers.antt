@@ -1,6 +1,6 @@
 use Rattle.std.proofs.Common.{sym, ◌∙◌}
 use Rattle.pbd_world.proofs.ApartLemmas.{read_next, alone_all, read_stops}
-use Rattle.pbd_world.proofs.joined.are_apart.Goals as goal
+use Rattle.pbd_world.proofs.joined.stand_alone.Goals as goal
 
 pub returns-then-not-has_room : goal.returns-then-not-has_room
 returns-then-not-has_room c =
