@@ -11,4 +11,6 @@ pub record AreLive (pairs : List (ℕ × ℕ)) (live : List Bool) (numbers : Lis
 
 -- no two of the numbers are of pairs that share a particle
 abbrev pub AreApart : List (ℕ × ℕ) → List ℕ → Type 0
-AreApart pairs numbers = (j k : ℕ) → j < length numbers → k < length numbers → j ≢ k → IsFalse (share (pair_at pairs (slice_index numbers j)) (pair_at pairs (slice_index numbers k)))
+AreApart pairs numbers =
+    (j k : ℕ) → j < length numbers → k < length numbers → j ≢ k
+    → IsFalse (share (pair_at pairs (slice_index numbers j)) (pair_at pairs (slice_index numbers k)))

@@ -9,7 +9,8 @@ use Rattle.pbd_colour.specs.Held.{Holds}
 use Rattle.pbd_colour.specs.Toward.{AreTold}
 use Rattle.pbd_colour.specs.Coloured.{IsColoured}
 
-pub record IsKept (particles room : ℕ) (pairs : Roomed (ℕ × ℕ)) (live marks blocks : Roomed Bool) (colours used toward order starts : Roomed ℕ) (chains : Linked) : Type 0 where
+pub record IsKept (particles room : ℕ) (pairs : Roomed (ℕ × ℕ)) (live marks blocks : Roomed Bool)
+    (colours used toward order starts : Roomed ℕ) (chains : Linked) : Type 0 where
   pub few : room ≤ 524288
   pub within : length pairs.entries ≤ room
   pub pairs_room : pairs.room ≡ room

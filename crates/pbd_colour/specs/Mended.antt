@@ -14,8 +14,12 @@ is_later i k x = x / 2 == k && nat_lt i (x / 2)
 
 -- the least colour that no earlier pair in the chains of the ends of pair i holds, or 63
 abbrev pub least_unheld : List (ℕ × ℕ) → List (List ℕ) → List ℕ → ℕ → ℕ
-least_unheld pairs chains cs i = least_free (λ d. list_any (holds_before cs i d) (chain_at chains (pair_at pairs i).0) || list_any (holds_before cs i d) (chain_at chains (pair_at pairs i).1))
+least_unheld pairs chains cs i =
+    least_free (λ d. list_any (holds_before cs i d) (chain_at chains (pair_at pairs i).0)
+    || list_any (holds_before cs i d) (chain_at chains (pair_at pairs i).1))
 
 -- pair k stands after i, in the chain of an end of pair i
 abbrev pub meets : List (ℕ × ℕ) → List (List ℕ) → ℕ → ℕ → Bool
-meets pairs chains i k = list_any (is_later i k) (chain_at chains (pair_at pairs i).0) || list_any (is_later i k) (chain_at chains (pair_at pairs i).1)
+meets pairs chains i k =
+    list_any (is_later i k) (chain_at chains (pair_at pairs i).0)
+    || list_any (is_later i k) (chain_at chains (pair_at pairs i).1)

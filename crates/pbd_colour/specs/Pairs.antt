@@ -19,4 +19,5 @@ dropped numbers live = fold (λ flags k. slice_set flags k false) live numbers
 
 -- each pair is of two different particles below n
 abbrev pub InRange : ℕ → List (ℕ × ℕ) → Type 0
-InRange n pairs = (k : ℕ) → k < length pairs → ((pair_at pairs k).0 < n) × ((pair_at pairs k).1 < n) × ((pair_at pairs k).0 ≢ (pair_at pairs k).1)
+InRange n pairs =
+    (k : ℕ) → k < length pairs → ((pair_at pairs k).0 < n) × ((pair_at pairs k).1 < n) × ((pair_at pairs k).0 ≢ (pair_at pairs k).1)

@@ -60,7 +60,8 @@ picked_one b j = if b then j ∷ [] else []
 
 -- what the look-up of a cell finds
 abbrev pub picked : List (List ℕ) → List Vec3 → ℕ → (ℕ → ℕ → Bool) → ℕ → Cell → List ℕ
-picked chains places t test i c = filter (λ j. same_cell c (cell_at t places j) && keep places t test i j) (chain_at chains (slot_of (length chains) c))
+picked chains places t test i c =
+    filter (λ j. same_cell c (cell_at t places j) && keep places t test i j) (chain_at chains (slot_of (length chains) c))
 
 -- what the look-ups of cells find, one after another
 unfoldable pub all_picked : List (List ℕ) → List Vec3 → ℕ → (ℕ → ℕ → Bool) → ℕ → List Cell → List ℕ

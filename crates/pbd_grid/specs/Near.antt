@@ -17,4 +17,6 @@ is_near thickness a b = nat_lt (squared_length (minus a b)) (unsigned_abs thickn
 
 -- all pairs i < j of which the places are near and that the test keeps, in order
 abbrev pub near_pairs : List Vec3 → ℤ → (ℕ → ℕ → Bool) → List (ℕ × ℕ)
-near_pairs places thickness test = filter (λ pair. is_near thickness (place_at places pair.0) (place_at places pair.1) && test pair.0 pair.1) (all_pairs (length places))
+near_pairs places thickness test =
+    filter (λ pair. is_near thickness (place_at places pair.0) (place_at places pair.1) && test pair.0 pair.1)
+    (all_pairs (length places))

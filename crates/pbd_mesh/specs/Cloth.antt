@@ -43,7 +43,15 @@ number s base cell = base + cell.row * s.columns + cell.column
 unfoldable pub cell_link : ClothSpec → ℕ → KindSettings → Cell → Cell → List Link
 cell_link s base t from to =
     if is_in_cloth s from && is_in_cloth s to
-    then record { a = number s base from; b = number s base to; rest = pos (length_of (minus (cloth_place s from.row from.column) (cloth_place s to.row to.column))); k = t.k; tear = t.tear; kind = t.kind; live = true } ∷ []
+    then record {
+      a = number s base from;
+      b = number s base to;
+      rest = pos (length_of (minus (cloth_place s from.row from.column) (cloth_place s to.row to.column)));
+      k = t.k;
+      tear = t.tear;
+      kind = t.kind;
+      live = true;
+    } ∷ []
     else []
 
 abbrev pub cell : ℕ → ℕ → Cell
@@ -58,9 +66,15 @@ cloth_settings s Plain = record { kind = Plain; k = 0; tear = pos 0 }
 
 -- the links of a kind that begin at a cell, along the row before down the column, and of a shear both diagonals
 unfoldable pub links_of_cell : ClothSpec → ℕ → Kind → ℕ → ℕ → List Link
-links_of_cell s base Stretch r c = cell_link s base (cloth_settings s Stretch) (cell r c) (cell r (c + 1)) ++ cell_link s base (cloth_settings s Stretch) (cell r c) (cell (r + 1) c)
-links_of_cell s base Shear r c = cell_link s base (cloth_settings s Shear) (cell r c) (cell (r + 1) (c + 1)) ++ cell_link s base (cloth_settings s Shear) (cell r (c + 1)) (cell (r + 1) c)
-links_of_cell s base Bend r c = cell_link s base (cloth_settings s Bend) (cell r c) (cell r (c + 2)) ++ cell_link s base (cloth_settings s Bend) (cell r c) (cell (r + 2) c)
+links_of_cell s base Stretch r c =
+    cell_link s base (cloth_settings s Stretch) (cell r c) (cell r (c + 1))
+    ++ cell_link s base (cloth_settings s Stretch) (cell r c) (cell (r + 1) c)
+links_of_cell s base Shear r c =
+    cell_link s base (cloth_settings s Shear) (cell r c) (cell (r + 1) (c + 1))
+    ++ cell_link s base (cloth_settings s Shear) (cell r (c + 1)) (cell (r + 1) c)
+links_of_cell s base Bend r c =
+    cell_link s base (cloth_settings s Bend) (cell r c) (cell r (c + 2))
+    ++ cell_link s base (cloth_settings s Bend) (cell r c) (cell (r + 2) c)
 links_of_cell s base Plain r c = []
 
 -- row by row
@@ -72,7 +86,10 @@ cloth_links s base = links_of_kind s base Stretch ++ links_of_kind s base Shear 
 
 -- parts with a cloth after their own particles and links
 abbrev pub with_cloth : Parts → ClothSpec → Parts
-with_cloth parts s = record parts { particles = parts.particles ++ cloth_particles s; links = parts.links ++ cloth_links s (length parts.particles) }
+with_cloth parts s = record parts {
+  particles = parts.particles ++ cloth_particles s;
+  links = parts.links ++ cloth_links s (length parts.particles);
+}
 
 -- each number is in its range
 unfoldable pub cloth_vectors_fit : ℤ → ClothSpec → Bool

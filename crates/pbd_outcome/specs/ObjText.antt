@@ -72,4 +72,6 @@ fault_place (TooManyAtParticle vertex) = vertex
 fault_place OutOfMemory = 0
 
 unfoldable pub obj_line : ObjFault → List ℕ
-obj_line fault = error_line (codes "14" ∷ codes "ObjRefused" ∷ decimal (fault_number fault) ∷ fault_name fault ∷ codes "at" ∷ decimal (fault_place fault) ∷ [])
+obj_line fault =
+    error_line (codes "14" ∷ codes "ObjRefused" ∷ decimal (fault_number fault) ∷ fault_name fault
+    ∷ codes "at" ∷ decimal (fault_place fault) ∷ [])

@@ -24,4 +24,8 @@ share_none b c = not (b.a == c.a) && (not (b.a == c.b) && (not (b.b == c.a) && n
 -- the numbers name bonds, no two with a common particle
 abbrev pub is_batch : ℤ → ℕ → Bonds → List ℕ → Bool
 is_batch limit n bonds [] = true
-is_batch limit n bonds (x ∷ xs) = nat_lt x (bond_count bonds) && (is_bond limit n (bond_of bonds x) && (list_all (λ y. share_none (bond_of bonds x) (bond_of bonds y)) xs && is_batch limit n bonds xs))
+is_batch limit n bonds (x ∷ xs) =
+    nat_lt x (bond_count bonds)
+    && (is_bond limit n (bond_of bonds x)
+    && (list_all (λ y. share_none (bond_of bonds x) (bond_of bonds y)) xs
+    && is_batch limit n bonds xs))

@@ -154,7 +154,9 @@ draws p q draw = int_lt (pos (length_of (minus p.at q.at))) draw.reach
 -- where a draw moves two ends
 abbrev pub drawn_shift : End → End → Draw → Shift
 drawn_shift p q draw = if draws p q draw
-    then shift_by p q (pair_moves p.at q.at draw.rest draw.k p.weight q.weight).0 (pair_moves p.at q.at draw.rest draw.k p.weight q.weight).1
+    then shift_by p q
+    (pair_moves p.at q.at draw.rest draw.k p.weight q.weight).0
+    (pair_moves p.at q.at draw.rest draw.k p.weight q.weight).1
     else shift_by p q zero_vector zero_vector
 
 -- what a draw does with two ends, where that leaves neither out of the limit
@@ -184,12 +186,16 @@ pub record AreTogether {l : ℕ} (limit : ℤ) (ends : BlockEnds l) (named : Blo
   pub moved : places.moved ≡ moved_below (λ j. (drawn_lane_in ends named j).shift) l
 
 -- a block of bonds in l lanes: lane k names the ends of bond k and holds its correction, and a lane without a bond does nothing
-pub record IsLaid {l : ℕ} (limit : ℤ) (ps : List Particle) (bond : ℕ → Bond) (block : List ℕ) (firsts seconds : List ℕ) (moves : BlockMoves l) : Type 0 where
+pub record IsLaid {l : ℕ} (limit : ℤ) (ps : List Particle) (bond : ℕ → Bond) (block : List ℕ)
+    (firsts seconds : List ℕ) (moves : BlockMoves l) : Type 0 where
   pub first : (k : ℕ) → k < length block → index_at firsts k ≡ (bond (slice_index_or block k 0)).a
   pub second : (k : ℕ) → k < length block → index_at seconds k ≡ (bond (slice_index_or block k 0)).b
-  pub lays : (k : ℕ) → k < length block → Lays (correction_at limit ps (bond (slice_index_or block k 0))) (is_set moves.moving k) (is_set moves.leaving k) (shift_in moves k)
+  pub lays : (k : ℕ) → k < length block
+      → Lays (correction_at limit ps (bond (slice_index_or block k 0))) (is_set moves.moving k) (is_set moves.leaving k) (shift_in moves k)
   pub sound : (k : ℕ) → k < length block → is_set moves.moving k ≡ true → IsSoundShift limit (shift_in moves k)
-  pub first_held : (k : ℕ) → k < length block → not (is_set moves.first_free k) ≡ (particle_at ps (bond (slice_index_or block k 0)).a).held
-  pub second_held : (k : ℕ) → k < length block → not (is_set moves.second_free k) ≡ (particle_at ps (bond (slice_index_or block k 0)).b).held
+  pub first_held : (k : ℕ) → k < length block
+      → not (is_set moves.first_free k) ≡ (particle_at ps (bond (slice_index_or block k 0)).a).held
+  pub second_held : (k : ℕ) → k < length block
+      → not (is_set moves.second_free k) ≡ (particle_at ps (bond (slice_index_or block k 0)).b).held
   pub not_moving : (k : ℕ) → length block ≤ k → k < l → is_set moves.moving k ≡ false
   pub not_leaving : (k : ℕ) → length block ≤ k → k < l → is_set moves.leaving k ≡ false

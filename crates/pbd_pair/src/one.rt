@@ -23,8 +23,10 @@ pub(crate) fn project_one<const L: usize, G: Ledger>(
     requires inside { AreInside store.old.limit store.old.particles }
     requires room { HaveRoom (2 ^ 125) (ledger_of totals.old) }
     ensures outcome { MatchResult result
-        (λ _. corrected n bond (correction_at store.old.limit store.old.particles bond) (motion_of store.old totals.old) ≡ Ok (motion_of store.new totals.new))
-        (λ left. corrected n bond (correction_at store.old.limit store.old.particles bond) (motion_of store.old totals.old) ≡ Err left.element) }
+        (λ _. corrected n bond (correction_at store.old.limit store.old.particles bond) (motion_of store.old totals.old)
+        ≡ Ok (motion_of store.new totals.new))
+        (λ left. corrected n bond (correction_at store.old.limit store.old.particles bond) (motion_of store.old totals.old)
+        ≡ Err left.element) }
     ensures inside { AreInside store.old.limit store.new.particles }
     ensures limit { store.new.limit ≡ store.old.limit }
     ensures fixed { fixed_parts store.new.particles ≡ fixed_parts store.old.particles }

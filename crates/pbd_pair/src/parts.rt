@@ -53,7 +53,8 @@ pub fn book_moves(totals: &mut Totals, note: Note, bond: Bond, shift: Shift)
     requires room { HaveRoom (2 ^ 125) (ledger_of totals.old) }
     requires first { Within (2 ^ 31) shift.first_move }
     requires second { Within (2 ^ 31) shift.second_move }
-    ensures value { ledger_of totals.new ≡ booked (ledger_of totals.old) (entries_of note.first_held note.second_held (class_of bond) shift) }
+    ensures value { ledger_of totals.new ≡ booked (ledger_of totals.old)
+        (entries_of note.first_held note.second_held (class_of bond) shift) }
     ensures room { (n : ℕ) → HaveRoom n (ledger_of totals.old) → HaveRoom (n + 2 ^ 32) (ledger_of totals.new) }
 {
     book(totals, note.first_held, note.second_held, bond, shift);

@@ -49,12 +49,14 @@ pub trait Projector<const L: usize> {
         requires weights { Weigh store.old.particles }
         requires room { HaveRoom (2 ^ 120) (ledger_of totals.old) }
         ensures outcome { MatchResult result
-            (λ _. projected store.old.limit (bond_of bonds.entry) batch.now (motion_of store.old totals.old) ≡ Ok (motion_of store.new totals.new))
+            (λ _. projected store.old.limit (bond_of bonds.entry) batch.now (motion_of store.old totals.old)
+            ≡ Ok (motion_of store.new totals.new))
             (λ left. projected store.old.limit (bond_of bonds.entry) batch.now (motion_of store.old totals.old) ≡ Err left.element) }
         ensures limit { store.new.limit ≡ store.old.limit }
         ensures fixed { fixed_parts store.new.particles ≡ fixed_parts store.old.particles }
         ensures inside { OnOk result (AreInside store.old.limit store.new.particles) }
-        ensures room { OnOk result ((n : ℕ) → HaveRoom n (ledger_of totals.old) → HaveRoom (n + length batch.now * 2 ^ 32) (ledger_of totals.new)) }
+        ensures room { OnOk result ((n : ℕ) → HaveRoom n (ledger_of totals.old)
+            → HaveRoom (n + length batch.now * 2 ^ 32) (ledger_of totals.new)) }
         ensures cost { steps.new ≤ steps.old + 4 * blocks_of (length batch.now) (width self.old) }
         ensures handed { count self.new ≡ min (count self.old + length batch.now) (2 ^ 64 - 1) }
         ensures width { width self.new ≡ width self.old };

@@ -155,7 +155,8 @@ pub record AddsScene (text : List ℕ) (old new : List Parts) : Type 0 where
 -- a call ended a run whose scene n gives no parts, whatever it would have done with them
 abbrev pub StopsInScene : ℕ → List ℕ → Option (List ℕ) → Option (List ℕ) → ℕ → ℕ → Status → Type 0
 StopsInScene n text old new before now status =
-    (then : Parts → Result Outcome Outcome) → Does (settled (with_fault (stops_in n) (scene_in range text) >>= then)) old new before now status
+    (then : Parts → Result Outcome Outcome)
+    → Does (settled (with_fault (stops_in n) (scene_in range text) >>= then)) old new before now status
 
 -- a call ended a run of which some scene gives no parts
 abbrev pub StopsAtScenes : List (List ℕ) → Option (List ℕ) → Option (List ℕ) → ℕ → ℕ → Status → Type 0

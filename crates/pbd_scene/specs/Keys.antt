@@ -87,8 +87,11 @@ rule_text rules.BadTrack = codes "BadTrack"
 abbrev pub entry_keys : TableName → List KeyName
 entry_keys tables.Scene = keys.Gravity ∷ keys.Passes ∷ keys.Damping ∷ keys.Thickness ∷ keys.Friction ∷ keys.Pins ∷ []
 entry_keys tables.Particle = keys.At ∷ keys.Velocity ∷ keys.Weight ∷ keys.Held ∷ []
-entry_keys tables.Cloth = keys.Origin ∷ keys.Across ∷ keys.Down ∷ keys.Rows ∷ keys.Columns ∷ keys.Weight ∷ keys.Stretch ∷ keys.Shear ∷ keys.Bend ∷ keys.StretchTear ∷ keys.ShearTear ∷ keys.BendTear ∷ []
-entry_keys tables.Rope = keys.Origin ∷ keys.Spacing ∷ keys.Count ∷ keys.Weight ∷ keys.Stretch ∷ keys.Bend ∷ keys.StretchTear ∷ keys.BendTear ∷ []
+entry_keys tables.Cloth =
+    keys.Origin ∷ keys.Across ∷ keys.Down ∷ keys.Rows ∷ keys.Columns ∷ keys.Weight
+    ∷ keys.Stretch ∷ keys.Shear ∷ keys.Bend ∷ keys.StretchTear ∷ keys.ShearTear ∷ keys.BendTear ∷ []
+entry_keys tables.Rope =
+    keys.Origin ∷ keys.Spacing ∷ keys.Count ∷ keys.Weight ∷ keys.Stretch ∷ keys.Bend ∷ keys.StretchTear ∷ keys.BendTear ∷ []
 entry_keys tables.Link = keys.A ∷ keys.B ∷ keys.Rest ∷ keys.Stiffness ∷ keys.Tear ∷ []
 entry_keys tables.Plane = keys.Normal ∷ keys.Offset ∷ []
 entry_keys tables.Sphere = keys.Centre ∷ keys.Radius ∷ []

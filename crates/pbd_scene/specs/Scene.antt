@@ -55,7 +55,14 @@ settings_of limit ms = do
   gravity ← vector_or at_scene keys.Gravity limit zero_vector ms
   numbers ← numbers_of ms
   pins ← pins_of ms
-  Ok (record { gravity = gravity; passes = numbers.passes; damping = numbers.damping; thickness = numbers.thickness; friction = numbers.friction; pins = pins })
+  Ok (record {
+    gravity = gravity;
+    passes = numbers.passes;
+    damping = numbers.damping;
+    thickness = numbers.thickness;
+    friction = numbers.friction;
+    pins = pins;
+  })
 
 -- the entries of each table, where so many particles stand before the meshes of a table
 unfoldable pub particles_of : ℤ → Members → Checked (List Particle)

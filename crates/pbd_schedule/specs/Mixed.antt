@@ -87,4 +87,5 @@ noted_outcome batch x = unless_left (first_leaving batch x.notes) x
 -- a batch by the events of an interleaving, or the number of its first bond that leaves the limit
 abbrev pub interleaved : ℤ → (ℕ → Bond) → List ℕ → List Event → Motion → Result Motion ℕ
 interleaved limit bond batch events m =
-    noted_outcome batch (mixed limit (bond_at bond batch) events (record { particles = m.particles; totals = m.totals; notes = replicate (length batch) no_note }))
+    noted_outcome batch (mixed limit (bond_at bond batch) events
+    (record { particles = m.particles; totals = m.totals; notes = replicate (length batch) no_note }))

@@ -16,7 +16,8 @@ pub record Noted : Type 0 where
   pub stages : List ℕ
 
 -- the events are legal, and both they and the bonds one by one come to `outcome`
-pub record ComeTo (limit : ℤ) (bond : ℕ → Bond) (batch : List ℕ) (events : List Event) (before : Motion) (outcome : Result Motion ℕ) : Type 0 where
+pub record ComeTo (limit : ℤ) (bond : ℕ → Bond) (batch : List ℕ) (events : List Event)
+    (before : Motion) (outcome : Result Motion ℕ) : Type 0 where
   pub legal : IsLegal (length batch) events
   pub mixed : interleaved limit bond batch events before ≡ outcome
   pub in_order : projected limit bond batch before ≡ outcome

@@ -39,7 +39,8 @@ pushed_from limit planes spheres n s = each_from n
     (λ i p. shaped limit (shapes_of planes spheres) p) (drop n s.motion.particles) >>= λ ss. Ok (shaped_after n s ss)
 
 -- what has to hold so that the particles of a block of so many lanes can be pushed
-pub record CanPush (width number : ℕ) (limit : ℤ) (particles : List Particle) (planes : List Plane) (spheres : List Sphere) (touched : List Bool) (totals : Ledger) : Type 0 where
+pub record CanPush (width number : ℕ) (limit : ℤ) (particles : List Particle)
+    (planes : List Plane) (spheres : List Sphere) (touched : List Bool) (totals : Ledger) : Type 0 where
   pub lanes_low : 0 < width
   pub lanes_high : width ≤ 16
   pub block : number < blocks_of (length particles) width

@@ -13,7 +13,12 @@ place_at a i = place_of a.x.items a.y.items a.z.items i
 
 -- particle i
 abbrev pub row : Axes → Axes → List ℕ → List Bool → ℕ → Particle
-row at before weight held i = record { at = place_at at i; before = place_at before i; weight = slice_index_or weight i 0; held = is_set held i }
+row at before weight held i = record {
+  at = place_at at i;
+  before = place_at before i;
+  weight = slice_index_or weight i 0;
+  held = is_set held i;
+}
 
 -- the first n particles
 abbrev pub listed : ℕ → Axes → Axes → List ℕ → List Bool → List Particle

@@ -39,4 +39,7 @@ pub record Moved : Type 0 where
 
 -- the particles as they were moved, with all their entries
 abbrev pub all_moved : Ledger → List Moved → Motion
-all_moved t ms = record { particles = map {A = Moved} {B = Particle} (λ m. m.particle) ms; totals = fold {A = Moved} (λ u m. booked u m.entries) t ms }
+all_moved t ms = record {
+  particles = map {A = Moved} {B = Particle} (λ m. m.particle) ms;
+  totals = fold {A = Moved} (λ u m. booked u m.entries) t ms;
+}

@@ -26,7 +26,8 @@ place_line p = line (signed_decimal p.at.x ∷ signed_decimal p.at.y ∷ signed_
 
 -- the step count, and the numbers of particles, live links and contacts
 unfoldable pub header_line : World → List ℕ
-header_line w = line (codes "frame" ∷ decimal w.steps ∷ decimal (length w.particles) ∷ decimal (live_count w.links) ∷ decimal w.contacts ∷ [])
+header_line w =
+    line (codes "frame" ∷ decimal w.steps ∷ decimal (length w.particles) ∷ decimal (live_count w.links) ∷ decimal w.contacts ∷ [])
 
 abbrev pub frame_text : World → List ℕ
 frame_text w = header_line w ++ flat_map place_line w.particles
@@ -67,7 +68,9 @@ refusal_words Held = codes "7" ∷ codes "Held" ∷ []
 refusal_words Tracked = codes "8" ∷ codes "Tracked" ∷ []
 refusal_words BadCount = codes "9" ∷ codes "BadCount" ∷ []
 refusal_words StepLimit = codes "10" ∷ codes "StepLimit" ∷ []
-refusal_words (LeavesRange step phase element) = codes "11" ∷ codes "LeavesRange" ∷ codes "step" ∷ decimal step ∷ codes "phase" ∷ phase_name phase ∷ codes "element" ∷ decimal element ∷ []
+refusal_words (LeavesRange step phase element) =
+    codes "11" ∷ codes "LeavesRange" ∷ codes "step" ∷ decimal step
+    ∷ codes "phase" ∷ phase_name phase ∷ codes "element" ∷ decimal element ∷ []
 refusal_words (TooManyContacts step) = codes "12" ∷ codes "TooManyContacts" ∷ codes "step" ∷ decimal step ∷ []
 
 unfoldable pub refusal_line : Refusal → List ℕ

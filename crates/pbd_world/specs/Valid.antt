@@ -33,7 +33,13 @@ are_valid_particles limit ps = nat_le (length ps) 65536 && list_all (is_valid_pa
 
 -- two different ones of n particles, with lengths up to four times the limit and a stiffness up to 256
 abbrev pub is_valid_link : ℤ → ℕ → Link → Bool
-is_valid_link limit n l = nat_lt l.a n && nat_lt l.b n && not (l.a == l.b) && is_between (pos 0) (pos 4 *ℤ limit) l.rest && is_between (pos 0) (pos 4 *ℤ limit) l.tear && nat_le l.k 256
+is_valid_link limit n l =
+    nat_lt l.a n
+    && nat_lt l.b n
+    && not (l.a == l.b)
+    && is_between (pos 0) (pos 4 *ℤ limit) l.rest
+    && is_between (pos 0) (pos 4 *ℤ limit) l.tear
+    && nat_le l.k 256
 
 -- the same as facts
 pub record ValidLink (limit : ℤ) (n : ℕ) (l : Link) : Type 0 where
@@ -56,7 +62,11 @@ links_at links i = length (filter (λ l. l.a == i || l.b == i) links)
 
 -- each is valid, at most one joins two particles, and at most 32 are at a particle
 abbrev pub are_valid_links : ℤ → ℕ → List Link → Bool
-are_valid_links limit n links = nat_le (length links) 524288 && list_all (is_valid_link limit n) links && none_twice join_alike links && list_all (λ i. nat_le (links_at links i) 32) (range_with_len 0 n)
+are_valid_links limit n links =
+    nat_le (length links) 524288
+    && list_all (is_valid_link limit n) links
+    && none_twice join_alike links
+    && list_all (λ i. nat_le (links_at links i) 32) (range_with_len 0 n)
 
 -- the same as facts
 pub record ValidLinks (limit : ℤ) (n : ℕ) (links : List Link) : Type 0 where
@@ -67,7 +77,10 @@ pub record ValidLinks (limit : ℤ) (n : ℕ) (links : List Link) : Type 0 where
 
 -- the normal isn't zero
 abbrev pub is_valid_plane : Plane → Bool
-is_valid_plane plane = is_within (pos 1024) plane.normal && nat_lt 0 (squared_length plane.normal) && is_axis_within (pos (2 ^ 40)) plane.offset
+is_valid_plane plane =
+    is_within (pos 1024) plane.normal
+    && nat_lt 0 (squared_length plane.normal)
+    && is_axis_within (pos (2 ^ 40)) plane.offset
 
 abbrev pub are_valid_planes : List Plane → Bool
 are_valid_planes planes = nat_le (length planes) 256 && list_all is_valid_plane planes
@@ -88,7 +101,11 @@ are_valid_spheres limit spheres = nat_le (length spheres) 256 && list_all (is_va
 -- steps up to 1,000,000 that increase, and places within the limit
 abbrev pub are_valid_keys : ℤ → List Key → Bool
 are_valid_keys limit [] = true
-are_valid_keys limit (key ∷ keys) = nat_le key.step 1000000 && is_within limit key.place && list_all (λ later. nat_lt key.step later.step) keys && are_valid_keys limit keys
+are_valid_keys limit (key ∷ keys) =
+    nat_le key.step 1000000
+    && is_within limit key.place
+    && list_all (λ later. nat_lt key.step later.step) keys
+    && are_valid_keys limit keys
 
 -- a key that may stand where the steps before it are below `low`
 abbrev pub is_next_key : ℤ → ℕ → Key → Bool
@@ -96,10 +113,17 @@ is_next_key limit low key = nat_le low key.step && nat_le key.step 1000000 && is
 
 -- a track of one of n particles with 1 to 1,024 keys
 abbrev pub is_valid_track : ℤ → ℕ → Track → Bool
-is_valid_track limit n track = nat_lt track.particle n && nat_le 1 (length track.keys) && nat_le (length track.keys) 1024 && are_valid_keys limit track.keys
+is_valid_track limit n track =
+    nat_lt track.particle n
+    && nat_le 1 (length track.keys)
+    && nat_le (length track.keys) 1024
+    && are_valid_keys limit track.keys
 
 abbrev pub are_valid_tracks : ℤ → ℕ → List Track → Bool
-are_valid_tracks limit n tracks = nat_le (length tracks) 4096 && list_all (is_valid_track limit n) tracks && none_twice {A = Track} (λ t u. t.particle == u.particle) tracks
+are_valid_tracks limit n tracks =
+    nat_le (length tracks) 4096
+    && list_all (is_valid_track limit n) tracks
+    && none_twice {A = Track} (λ t u. t.particle == u.particle) tracks
 
 -- passes, damping, thickness and friction
 abbrev pub are_valid_numbers : Parts → Bool

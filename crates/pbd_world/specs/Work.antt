@@ -136,4 +136,6 @@ reply_work w (replies.Refused refusal) = 0
 -- commands one after another, and what they print
 unfoldable pub session_work : ℕ → ℕ → World → List Command → ℕ
 session_work width lanes w [] = 0
-session_work width lanes w (c ∷ cs) = command_work width lanes w c + reply_work (after w c) (reply w c) + session_work width lanes (after w c) cs
+session_work width lanes w (c ∷ cs) =
+    command_work width lanes w c + reply_work (after w c) (reply w c)
+    + session_work width lanes (after w c) cs

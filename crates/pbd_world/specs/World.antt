@@ -77,7 +77,8 @@ is_tracked tracks i = list_any (λ t. t.particle == i) tracks
 
 -- each held particle that no track names is at rest
 abbrev pub are_held_at_rest : List Track → List Particle → Bool
-are_held_at_rest tracks ps = list_all {X = ℕ × Particle} (λ n. not n.1.held || is_tracked tracks n.0 || is_at_rest n.1) (enumerate_from 0 ps)
+are_held_at_rest tracks ps =
+    list_all {X = ℕ × Particle} (λ n. not n.1.held || is_tracked tracks n.0 || is_at_rest n.1) (enumerate_from 0 ps)
 
 -- all particles have this weight
 abbrev pub HaveWeight : ℕ → List Particle → Type 0
