@@ -66,9 +66,6 @@ length-set [] c xs = refl
 length-set (ys ∷ xss) zero xs = refl
 length-set (ys ∷ xss) (suc c) xs = ap suc (length-set xss c xs)
 
-before_none : (k : ℕ) → ltb k 0 ≡ false
-before_none k = grind (arith, nat_tests)
-
 not_below : (i : ℕ) → ltb i i ≡ false
 not_below i = grind (arith, nat_tests)
 
@@ -309,37 +306,3 @@ pub record AreGone (particles room : ℕ) (pairs : List (ℕ × ℕ)) (live : Li
   pub gone : (k : ℕ) → k < i → live_at live k ≡ false
   pub size : length live ≡ length pairs
   pub held : Holds (live_at live) particles room pairs chains
-
-pub AreGone-more : {particles room : ℕ} {pairs : List (ℕ × ℕ)} {live : List Bool} {chains : Linked} {i : ℕ} → AreGone particles room pairs live chains i
-    → (flags : List Bool) (new : Linked) → i < length pairs → flags ≡ set live i false → Holds (live_at flags) particles room pairs new → AreGone particles room pairs flags new (i + 1)
-AreGone-more {live = live} {i = i} h flags new l e held = record {
-  gone = λ k lk. ap (λ (xs : List Bool). live_at xs k) e ∙ elim (cases_eq k i) [
-    | inl s ↦ ap (live_at (set live i false)) s ∙ get_or-set_same live i false false (omega (arith, l, h.size))
-    | inr ne ↦ get_or-set_other live i k false false ne ∙ h.gone k (omega arith)
-  ];
-  size = ap length e ∙ length-flags live i ∙ h.size;
-  held = held;
-}
-  where
-    length-flags : (flags : List Bool) (n : ℕ) → length (set flags n false) ≡ length flags
-    length-flags [] n = refl
-    length-flags (b ∷ bs) zero = refl
-    length-flags (b ∷ bs) (suc n) = ap suc (length-flags bs n)
-
--- then the chains hold nothing, whatever pairs come next
-pub AreGone-all : {particles room : ℕ} {pairs : List (ℕ × ℕ)} {live : List Bool} {chains : Linked} {i : ℕ} → AreGone particles room pairs live chains i → length pairs ≤ i
-    → (others : List (ℕ × ℕ)) → Holds (before 0) particles room others chains
-AreGone-all {live = live} h l others = record {
-  items = h.held.items;
-  count = h.held.count;
-  holds = λ p x lp. h.held.holds p x lp ∙ none (x / 2) (eqb (end_at _ x) p) ∙ sym (never (x / 2) (eqb (end_at others x) p));
-}
-  where
-    none : (k : ℕ) (b : Bool) → (live_at live k && b) ≡ false
-    none k b = elim (cases_lt k (length live)) [
-      | inl m ↦ rw (h.gone k (omega (arith, m, h.size, l))) refl
-      | inr m ↦ rw (get_or_past live k false (omega (arith, m))) refl
-    ]
-
-    never : (k : ℕ) (b : Bool) → (ltb k 0 && b) ≡ false
-    never k b = rw (before_none k) refl

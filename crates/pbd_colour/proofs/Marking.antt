@@ -1,6 +1,6 @@
 -- Marks on numbers and on blocks of them, and the sweep over the marked ones.
 use Rattle.std.proofs.Common.{◌≡◌, ℕ, zero, suc, ◌+◌, ◌-◌, ◌/◌, ◌*◌, ◌<◌, ◌≤◌, ◌&&◌, ◌||◌, Bool, true, false, eqb, ltb, List, [], ◌∷◌, set, length, replicate, refl, sym, ap, ◌∙◌, subst, arith, inl, inr}
-use Rattle.std.proofs.lemmas.Bool.{cases_eq, cases_lt, cases_Bool, lt-ltb, ne_eqb, or_cases, false≢true}
+use Rattle.std.proofs.lemmas.Bool.{cases_eq, cases_lt, lt-ltb, ne_eqb, or_cases, false≢true}
 use Rattle.std.proofs.lemmas.Bool.Decides.{nat_tests}
 use Rattle.std.proofs.lemmas.List.{get_or-set_same, get_or-set_other, get_or_past, length-set, length-replicate, get_or-replicate}
 use Rattle.std.specs.List.{list_any}
@@ -45,13 +45,6 @@ module _ {marks blocks : List Bool} (h : AreBlocked marks blocks) where
     ];
   }
 
-  -- in a block with no mark no number is marked
-  pub block_unmarked : (from to : ℕ) → to ≤ (from / 256 + 1) * 256 → live_at blocks (from / 256) ≡ false → AreUnmarked marks from to
-  block_unmarked from to le none k l m = elim (cases_Bool (live_at marks k)) [
-    | inl e ↦ absurd (let same : from / 256 ≡ k / 256 = omega (arith, le, l, m) in false≢true (sym none ∙ ap (live_at blocks) same ∙ h.told k e))
-    | inr e ↦ e
-  ]
-
 pub none_blocked : (marks blocks : List Bool) → length blocks ≡ length marks / 256 + 1 → ((k : ℕ) → live_at marks k ≡ false) → AreBlocked marks blocks
 none_blocked marks blocks count none = record { count = count; told = λ k e. absurd (false≢true (sym (none k) ∙ e)) }
 
@@ -67,9 +60,6 @@ before_live n k live e = elim (cases_lt k n) [
   | inl l ↦ lt-ltb k n l ∙ sym (get_or-replicate n k true false l)
   | inr past ↦ (let no : ltb k n ≡ false = grind (arith, nat_tests) in no ∙ sym (get_or_past (replicate n true) k false (omega (arith, length-replicate n true, past))))
 ] ∙ ap (λ (bs : List Bool). live_at bs k) (sym e)
-
-pub unmarked_join : (marks : List Bool) (a b c : ℕ) → AreUnmarked marks a b → AreUnmarked marks b c → AreUnmarked marks a c
-unmarked_join marks a b c h g k l m = elim (cases_lt k b) [ inl below ↦ h k l below | inr above ↦ g k above m ]
 
 pub unmarked_all : (marks : List Bool) → AreUnmarked marks 0 (length marks) → (k : ℕ) → live_at marks k ≡ false
 unmarked_all marks h k = elim (cases_lt k (length marks)) [ inl l ↦ h k (omega arith) l | inr past ↦ get_or_past marks k false past ]

@@ -20,9 +20,6 @@ abbrev pub keeps : List Vec3 → ℤ → (ℕ → ℕ → Bool) → ℕ × ℕ �
 keeps places t test p = is_near t (place_at places p.0) (place_at places p.1) && test p.0 p.1
 
 module _ (places : List Vec3) (t : ℤ) (test : ℕ → ℕ → Bool) where
-  keep : ℕ × ℕ → Bool
-  keep = keeps places t test
-
   -- what is kept of the rows before row i, and of the first m pairs of row i
   abbrev pub rows : ℕ → List (ℕ × ℕ)
   rows i = filter (keeps places t test) (flat_map (row (length places)) (range_with_len 0 i))
@@ -63,6 +60,3 @@ module _ (places : List Vec3) (t : ℤ) (test : ℕ → ℕ → Bool) where
     pub room : new.room ≡ old.room
     pub entries : new.entries ≡ rows i
     pub fits : length new.entries ≤ new.room
-
-  pub IsFoundRows-none : (old new : Roomed (ℕ × ℕ)) → new ≡ record old { entries = [] } → IsFoundRows 0 old new
-  IsFoundRows-none old new e = rw e (record { room = refl; entries = refl; fits = omega arith })

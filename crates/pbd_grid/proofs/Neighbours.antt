@@ -141,6 +141,3 @@ module _ (places : List Vec3) (t : ℕ) (test : ℕ → ℕ → Bool) where
   row_full i old now row li h is full =
       let same : length row ≡ length (part places (pos t) test i (length places - (i + 1))) = sym (length_pairs (λ (j : ℕ). (i, j)) row) ∙ ap (λ (xs : List ℕ). length {A = ℕ × ℕ} (map (λ (j : ℕ). (i, j)) xs)) is ∙ ap length (row_part i) in
       omega (arith, full, same, h.room, ap length h.entries, found_le places (pos t) test i (length places - (i + 1)) li (omega arith))
-
-  pub rows_all : (i : ℕ) (old now : Roomed (ℕ × ℕ)) → IsFoundRows places (pos t) test i old now → i ≡ length places → now.entries ≡ near_pairs places (pos t) test
-  rows_all i old now h e = h.entries ∙ ap (rows places (pos t) test) e

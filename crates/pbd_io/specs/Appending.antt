@@ -1,7 +1,7 @@
 -- What several calls of a source or a sink did together, where it tells what it holds.
 use Rattle.std.proofs.Common.{◌≡◌, ◌∙◌, sym, ap, refl, ℕ, ◌+◌, ◌<◌, ◌≤◌, min, List, [], ◌∷◌, ◌++◌, length, get_or, take, drop, Option, Some, None, Result, Ok, Err, arith, append_assoc, append-nil, zero-add, zero, suc}
-use Rattle.std.proofs.lemmas.List.{take_all, take-append-le, take_min, drop_at}
-use Rattle.std.specs.Io.KnownBytes.{Appends, Keeps, Consumes, IsAtEnd}
+use Rattle.std.proofs.lemmas.List.{take-append-le, take_min, drop_at}
+use Rattle.std.specs.Io.KnownBytes.{Appends, Consumes, IsAtEnd}
 use Rattle.std.specs.List.{flat_map}
 use Rattle.pbd_io.specs.Causes.{HasRisen}
 use Rattle.pbd_io.specs.Pieces.{AppendsPrefix, WritesPiece}
@@ -16,10 +16,6 @@ pub appends_nothing : (a : Option (List ℕ)) → Appends a a []
 appends_nothing None = tt
 appends_nothing (Some p) = sym (append-nil p)
 
-pub keeps_all : (a : Option (List ℕ)) → Keeps a a
-keeps_all None = tt
-keeps_all (Some p) = refl
-
 take_past : (x y : List ℕ) (n : ℕ) → take (length x + n) (x ++ y) ≡ x ++ take n y
 take_past [] y n = rw zero-add refl
 take_past (b ∷ x) y n = let e : length (b ∷ x) + n ≡ suc (length x + n) = omega arith in rw e (ap (λ t. b ∷ t) (take_past x y n))
@@ -33,25 +29,8 @@ prefix_longer a b x y (n, front) =
     let e : take (min n (length x)) (x ++ y) ≡ take n x = take-append-le (min n (length x)) x y le ∙ take_min n x in
     (min n (length x), rw e front)
 
-pub whole_front : (a b : Option (List ℕ)) (x : List ℕ) → Appends a b x → AppendsPrefix a b x
-whole_front a b x all = let e : take (length x) x ≡ x = take_all (length x) x (omega arith) in (length x, rw e all)
-
--- a count that rose and then didn't fall
-pub rose_then : (a b c : ℕ) → HasRisen a b → b ≤ c → HasRisen a c
-rose_then a b c rose le = omega (arith, rose)
-
 pub rose_later : (a b c : ℕ) → a ≤ b → HasRisen b c → HasRisen a c
 rose_later a b c le rose = omega (arith, rose)
-
-pub consumes_then : (a b c : Option (List ℕ)) (x y : List ℕ) → Consumes a b x → Consumes b c y → Consumes a c (x ++ y)
-consumes_then None b c x y first second = tt
-consumes_then (Some p) None c x y first second = absurd first
-consumes_then (Some p) (Some q) None x y first second = absurd second
-consumes_then (Some p) (Some q) (Some r) x y first second = rw (first, second) (sym (append_assoc x y r))
-
-pub consumes_nothing : (a : Option (List ℕ)) → Consumes a a []
-consumes_nothing None = tt
-consumes_nothing (Some p) = refl
 
 -- what is told and consumed to the end is all that was told
 pub consumed_all : (input : List ℕ) (new : Option (List ℕ)) (bytes : List ℕ)
@@ -64,41 +43,6 @@ pub consumed_some : (input : List ℕ) (new : Option (List ℕ)) (bytes : List �
     → Consumes (Some input) new bytes → new ≡ Some (drop (length bytes) input)
 consumed_some input None bytes consumed = absurd consumed
 consumed_some input (Some rest) bytes consumed = rw consumed (ap (λ t. Some t) (sym (drop_at bytes rest (length bytes) refl)))
-
--- ---- calls that left things as they were
-
-pub keeps_then : (a b c : Option (List ℕ)) → Keeps a b → Keeps b c → Keeps a c
-keeps_then None b c first second = tt
-keeps_then (Some p) None c first second = absurd first
-keeps_then (Some p) (Some q) None first second = absurd second
-keeps_then (Some p) (Some q) (Some r) first second = second ∙ first
-
-pub appends_keeps : (a b c : Option (List ℕ)) (x : List ℕ) → Appends a b x → Keeps b c → Appends a c x
-appends_keeps None b c x first second = tt
-appends_keeps (Some p) None c x first second = absurd first
-appends_keeps (Some p) (Some q) None x first second = absurd second
-appends_keeps (Some p) (Some q) (Some r) x first second = second ∙ first
-
-pub keeps_appends : (a b c : Option (List ℕ)) (x : List ℕ) → Keeps a b → Appends b c x → Appends a c x
-keeps_appends None b c x first second = tt
-keeps_appends (Some p) None c x first second = absurd first
-keeps_appends (Some p) (Some q) None x first second = absurd second
-keeps_appends (Some p) (Some q) (Some r) x first second = second ∙ ap (λ t. t ++ x) first
-
-pub consumes_keeps : (a b c : Option (List ℕ)) (x : List ℕ) → Consumes a b x → Keeps b c → Consumes a c x
-consumes_keeps None b c x first second = tt
-consumes_keeps (Some p) None c x first second = absurd first
-consumes_keeps (Some p) (Some q) None x first second = absurd second
-consumes_keeps (Some p) (Some q) (Some r) x first second = first ∙ ap (λ t. x ++ t) (sym second)
-
--- nothing is a front of anything
-pub nothing_front : (a b : Option (List ℕ)) (x : List ℕ) → Keeps a b → AppendsPrefix a b x
-nothing_front a b x same = (0, keeps_appends_nothing a b same)
-  where
-    keeps_appends_nothing : (a b : Option (List ℕ)) → Keeps a b → Appends a b []
-    keeps_appends_nothing None b same = tt
-    keeps_appends_nothing (Some p) None same = absurd same
-    keeps_appends_nothing (Some p) (Some q) same = same ∙ sym (append-nil p)
 
 -- ---- a call after others that were done
 

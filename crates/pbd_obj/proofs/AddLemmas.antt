@@ -1,11 +1,11 @@
 -- How many links are at each particle, and what adding a mesh comes to.
-use Rattle.std.proofs.Common.{◌≡◌, ◌≢◌, ◌⊎◌, ◌∙◌, sym, ap, refl, ℕ, zero, suc, ◌+◌, ◌-◌, ◌%◌, ◌<◌, ◌≤◌, ◌^◌, Bool, true, false, not, ◌||◌, List, [], ◌∷◌, ◌++◌, length, get_or, take, drop, map, replicate, arith, inl, inr, append_assoc, append-nil, length-append, Option, Some, None, Result, Ok, Err, filter, pos, subst}
-use Rattle.std.specs.Prelude.{◌==◌, cond, All, IsTrue, nat_lt, slice_set as set, slice_index}
+use Rattle.std.proofs.Common.{◌≡◌, ◌≢◌, ◌⊎◌, ◌∙◌, sym, ap, refl, ℕ, zero, suc, ◌+◌, ◌-◌, ◌%◌, ◌<◌, ◌≤◌, ◌^◌, Bool, true, false, not, ◌||◌, List, [], ◌∷◌, ◌++◌, length, get_or, take, drop, map, replicate, arith, inl, inr, append_assoc, append-nil, length-append, Some, None, Ok, filter, pos, subst}
+use Rattle.std.specs.Prelude.{◌==◌, cond, All, IsTrue, slice_index}
 use Rattle.std.specs.List.{list_any, range_with_len, AllByRecursion}
 use Rattle.std.proofs.Math.Nat.{mod-eq_of_lt, mod_self}
 use Rattle.std.proofs.lemmas.Int.{ints}
-use Rattle.std.proofs.lemmas.Bool.{and_parts, cases_eq, cases_lt, eq-eqb, ne_eqb, lt-ltb, le-ltb, false≢true, leb-true, not-true, or_parts, or_right}
-use Rattle.std.proofs.lemmas.List.{drop_more, take_all, take_more, get_or-set_same, get_or-set_other, length-set, drop_all, map-append}
+use Rattle.std.proofs.lemmas.Bool.{and_parts, cases_eq, cases_lt, eq-eqb, ne_eqb, le-ltb, false≢true, leb-true, not-true, or_parts, or_right}
+use Rattle.std.proofs.lemmas.List.{drop_more, take_all, take_more, drop_all, map-append}
 use Rattle.std.proofs.Math.Seq.{take-append_seam}
 use Rattle.std.proofs.lemmas.List.Elements.{All-from_recursion, All-get_or, All-weaker, recursion_from_All, filter-append}
 use Rattle.pbd_num.specs.declared.Vec3.{Vec3}
@@ -19,11 +19,9 @@ use Rattle.pbd_world.specs.Valid.{join_alike, links_at, is_valid}
 use Rattle.pbd_world.proofs.WorldParts.{formed}
 use Rattle.pbd_world.proofs.KeepingOn.{all-append, all-flat, all-map, all-range}
 use Rattle.pbd_obj.specs.declared.mesh.ObjMesh.{ObjMesh}
-use Rattle.pbd_obj.specs.declared.mesh.ObjFault.{ObjFault}
-use Rattle.pbd_obj.specs.declared.mesh.ObjFault.TheVariants.{TooMany, TooManyAtParticle}
 use Rattle.pbd_obj.specs.Meshes.{faces, IsFace, IsMesh}
 use Rattle.pbd_obj.specs.MeshLinks.{diagonals, each_once, face_links, first_overfull, kind_links, link, mesh_links, overfull_end, pairs, particles, side, with_all, with_mesh, place_at}
-use Rattle.pbd_obj.specs.Nets.{AreFew, counted_end, CountsLink, FitsNet, HoldsCounts, IsFrom, IsLinkFrom}
+use Rattle.pbd_obj.specs.Nets.{AreFew, counted_end, CountsLink, FitsNet, HoldsCounts, IsLinkFrom}
 use Rattle.pbd_obj.proofs.FaceLemmas.{once}
 
 -- ---- counts
@@ -96,23 +94,6 @@ counts_found base vertices links i counts l d end so_far lt same from is =
     let are : drop i links ≡ l ∷ drop (i + 1) links = drop_more links i d lt ∙ ap (λ m. m ∷ drop (i + 1) links) (sym same) in
     sym (some_first (take i links) (drop i links) (drop (i + 1) links) l end are here) ∙ so_far.left
 
-end_within : (base : ℕ) (counts : List ℕ) (vertices : ℕ) (l : Link) (end : ℕ) → IsLinkFrom base vertices l → Some end ≡ counted_end base counts l → IsFrom base vertices end
-end_within base counts vertices l end from is = first_case (slice_index counts (l.a - base) == 32) is
-  where
-    some_is : (a b : ℕ) → ◌≡◌ {A = Option ℕ} (Some a) (Some b) → a ≡ b
-    some_is a b e = cc
-
-    second_case : (c : Bool) → Some end ≡ cond c (Some l.b) None → IsFrom base vertices end
-    second_case true e = rw (some_is end l.b e) (from.b_low, from.b_high)
-    second_case false e = cc
-
-    first_case : (c : Bool) → Some end ≡ cond c (Some l.a) (cond (slice_index counts (l.b - base) == 32) (Some l.b) None) → IsFrom base vertices end
-    first_case true e = rw (some_is end l.a e) (from.a_low, from.a_high)
-    first_case false e = second_case (slice_index counts (l.b - base) == 32) e
-
-pub found_within : (base : ℕ) (counts : List ℕ) (vertices : ℕ) (l : Link) (end : ℕ) → IsLinkFrom base vertices l → Some end ≡ counted_end base counts l → IsFrom base vertices end
-found_within base counts vertices l end from is = end_within base counts vertices l end from is
-
 -- neither end is full
 ends_free : (base : ℕ) (counts : List ℕ) (l : Link) → None ≡ counted_end base counts l → (slice_index counts (l.a - base) ≢ 32) × (slice_index counts (l.b - base) ≢ 32)
 ends_free base counts l is = first_case (slice_index counts (l.a - base) == 32) refl is
@@ -127,33 +108,6 @@ ends_free base counts l is = first_case (slice_index counts (l.a - base) == 32) 
     first_case : (c : Bool) → (slice_index counts (l.a - base) == 32) ≡ c → None ≡ cond c (Some l.a) (cond (slice_index counts (l.b - base) == 32) (Some l.b) None) → (slice_index counts (l.a - base) ≢ 32) × (slice_index counts (l.b - base) ≢ 32)
     first_case true t e = cc
     first_case false t e = (differ (slice_index counts (l.a - base)) t, second_case (slice_index counts (l.b - base) == 32) refl e)
-
--- both ends are counted
-pub counts_both : (base : ℕ) (l : Link) (old mid now : List ℕ) → IsLinkFrom base (length old) l → mid ≡ set old (l.a - base) (slice_index old (l.a - base) + 1) → now ≡ set mid (l.b - base) (slice_index mid (l.b - base) + 1) → CountsLink base l old now
-counts_both base l old mid now from first second =
-    let a = l.a - base in
-    let b = l.b - base in
-    let a_in : a < length old = below base (length old) l.a from.a_low from.a_high in
-    let b_in : b < length old = below base (length old) l.b from.b_low from.b_high in
-    let apart : a ≡ b → ⊥ = λ e. from.apart (sym (back base l.a from.a_low) ∙ (ap (λ k. base + k) e ∙ back base l.b from.b_low)) in
-    let size_mid : length mid ≡ length old = rw first (length-set old a (slice_index old a + 1)) in
-    let size_now : length now ≡ length mid = rw second (length-set mid b (slice_index mid b + 1)) in
-    let b_mid : slice_index mid b ≡ slice_index old b = rw first (get_or-set_other old a b (slice_index old a + 1) 0 (λ e. apart (sym e))) in
-    let a_now : slice_index now a ≡ slice_index mid a = ap (λ t. slice_index t a) second ∙ get_or-set_other mid b a (slice_index mid b + 1) 0 apart in
-    let a_mid : slice_index mid a ≡ slice_index old a + 1 = ap (λ t. slice_index t a) first ∙ get_or-set_same old a (slice_index old a + 1) 0 a_in in
-    let b_now : slice_index now b ≡ slice_index mid b + 1 = ap (λ t. slice_index t b) second ∙ get_or-set_same mid b (slice_index mid b + 1) 0 (omega (arith, b_in, size_mid)) in
-    record {
-      size = size_now ∙ size_mid;
-      first = a_now ∙ a_mid;
-      second = b_now ∙ ap (λ n. n + 1) b_mid;
-      others = λ v not_a not_b. other_now v not_b ∙ other_mid v not_a;
-    }
-  where
-    other_now : (v : ℕ) → v ≢ l.b - base → slice_index now v ≡ slice_index mid v
-    other_now v not_b = ap (λ t. slice_index t v) second ∙ get_or-set_other mid (l.b - base) v (slice_index mid (l.b - base) + 1) 0 not_b
-
-    other_mid : (v : ℕ) → v ≢ l.a - base → slice_index mid v ≡ slice_index old v
-    other_mid v not_a = ap (λ t. slice_index t v) first ∙ get_or-set_other old (l.a - base) v (slice_index old (l.a - base) + 1) 0 not_a
 
 cases_link : (base : ℕ) (links : List Link) (l : Link) (old now : List ℕ) (v : ℕ) → IsLinkFrom base (length old) l → HoldsCounts base links old → CountsLink base l old now → v < length old → slice_index now v ≡ links_at (links ++ l ∷ []) (base + v)
 cases_link base links l old now v from holds counts lt = elim (cases_eq v (l.a - base)) [
@@ -326,23 +280,6 @@ mesh_fits mesh base is le = record {
   room = le;
   inside = All-weaker {X = Vec3} (λ place. IsTrue (is_within (pos 536870912) place)) (λ place. Within (2 ^ 29) place) (λ place t. (within_facts (pos 536870912) place (omega (arith, ints))).0 t) mesh.places is.inside;
 }
-
-pub many_particles : (mesh : ObjMesh) (parts : Parts) → 65536 < length parts.particles + length mesh.places → with_mesh mesh parts ≡ Err TooMany
-unfolding with_mesh
-many_particles mesh parts many = rw (lt-ltb 65536 (length parts.particles + length mesh.places) many) refl
-
-pub many_links : (mesh : ObjMesh) (parts : Parts) → 524288 < length parts.links + length (mesh_links mesh (length parts.particles)) → with_mesh mesh parts ≡ Err TooMany
-unfolding with_mesh
-many_links mesh parts many = rw (lt-ltb 524288 (length parts.links + length (mesh_links mesh (length parts.particles))) many) (either (nat_lt 65536 (length parts.particles + length mesh.places)) _)
-  where
-    either : (b : Bool) (y : Result Parts ObjFault) → cond (b || true) (Err TooMany) y ≡ Err TooMany
-    either true y = refl
-    either false y = refl
-
-pub overfull_vertex : (mesh : ObjMesh) (parts : Parts) (end : ℕ) → length parts.particles + length mesh.places ≤ 65536 → length parts.links + length (mesh_links mesh (length parts.particles)) ≤ 524288 → Some end ≡ first_overfull [] (mesh_links mesh (length parts.particles)) → with_mesh mesh parts ≡ Err (TooManyAtParticle (end - length parts.particles + 1))
-unfolding with_mesh
-overfull_vertex mesh parts end few_particles few_links is =
-    rw (le-ltb 65536 (length parts.particles + length mesh.places) few_particles, le-ltb 524288 (length parts.links + length (mesh_links mesh (length parts.particles))) few_links, ← is) refl
 
 pub mesh_added : (mesh : ObjMesh) (parts : Parts) → length parts.particles + length mesh.places ≤ 65536 → length parts.links + length (mesh_links mesh (length parts.particles)) ≤ 524288 → None ≡ first_overfull [] (mesh_links mesh (length parts.particles)) → with_mesh mesh parts ≡ Ok (with_all (particles mesh) (mesh_links mesh (length parts.particles)) parts)
 unfolding with_mesh

@@ -6,12 +6,12 @@ use Rattle.std.specs.Ordering.{is_eq, nat_cmp}
 use Rattle.std.specs.BTreeMap.{is_at}
 use Rattle.std.specs.BTreeSet.{BTreeSet, contains}
 use Rattle.std.specs.Option.{option_map, option_and_then}
-use Rattle.std.proofs.lemmas.Bool.{and_parts, and_left, and_right, eqb-true, eq-eqb, not_from_true, or_right, false≢true, le-leb, lt-leb, leb-true, leb-false, cases_order, lt-ltb, le-ltb, ne_eqb}
+use Rattle.std.proofs.lemmas.Bool.{and_parts, and_left, and_right, eqb-true, eq-eqb, not_from_true, or_right, false≢true, cases_order, lt-ltb, le-ltb, ne_eqb}
 use Rattle.std.proofs.lemmas.List.Folds.{list_any-append}
 use Rattle.pbd_world.specs.Valid.{none_twice}
 use Rattle.pbd_world.specs.Neighbours.{is_among}
 use Rattle.pbd_script.specs.Lines.{words}
-use Rattle.pbd_obj.specs.Reading.{corner, corners, face, is_face, PushesFace}
+use Rattle.pbd_obj.specs.Reading.{corner, corners, face, is_face}
 
 -- no number stands twice
 abbrev pub once : List ℕ → Bool
@@ -140,37 +140,6 @@ renamed n old all word words rest mid marks c so_far are is again =
     twice_face n all so_far.front c (corners n rest)
     (so_far.named ∙ (ap (λ ws. option_map (λ cs. so_far.front ++ cs) (corners n ws)) are ∙ ap (option_map (λ cs. so_far.front ++ cs)) (head_named n word rest c (sym is))))
     (sym (so_far.marked c) ∙ not_both false (contains nat_cmp marks c) again)
-
--- all words
-named_all : (n : ℕ) (old : List ℕ) (all words : List (List ℕ)) (now : List ℕ) (marks : BTreeSet ℕ) (so_far : FaceSoFar n old all words now marks) → words ≡ [] → face n all ≡ cond (nat_le 3 (length so_far.front)) (Some so_far.front) None
-named_all n old all words now marks so_far none =
-    let are : corners n all ≡ Some so_far.front = so_far.named ∙ (ap (λ ws. option_map (λ cs. so_far.front ++ cs) (corners n ws)) none ∙ ap (λ t. Some t) (append-nil so_far.front)) in
-    let test : is_face so_far.front ≡ nat_le 3 (length so_far.front) = ap (λ b. nat_le 3 (length so_far.front) && b) so_far.once ∙ and_true (nat_le 3 (length so_far.front)) in
-    face_some n all so_far.front are ∙ ap (λ b. cond b (Some so_far.front) None) test
-  where
-    and_true : (b : Bool) → (b && true) ≡ b
-    and_true true = refl
-    and_true false = refl
-
-face_whole : (n : ℕ) (old : List ℕ) (all words : List (List ℕ)) (now : List ℕ) (marks : BTreeSet ℕ) → FaceSoFar n old all words now marks → words ≡ [] → 3 ≤ length now - length old → (f : List ℕ) × (face n all ≡ Some f) × (now ≡ old ++ f)
-face_whole n old all words now marks so_far none long =
-    let size : 3 ≤ length so_far.front = three (length old) (length so_far.front) (length now) (rw so_far.pushed (length-append old so_far.front)) long in
-    (so_far.front, named_all n old all words now marks so_far none ∙ ap (λ b. cond b (Some so_far.front) None) (le-leb 3 (length so_far.front) size), so_far.pushed)
-  where
-    three : (a b c : ℕ) → c ≡ a + b → 3 ≤ c - a → 3 ≤ b
-    three a b c is le = omega (arith, is, le)
-
-face_short : (n : ℕ) (old : List ℕ) (all words : List (List ℕ)) (now : List ℕ) (marks : BTreeSet ℕ) → FaceSoFar n old all words now marks → words ≡ [] → length now - length old < 3 → face n all ≡ None
-face_short n old all words now marks so_far none short =
-    let size : length so_far.front < 3 = two (length old) (length so_far.front) (length now) (rw so_far.pushed (length-append old so_far.front)) short in
-    named_all n old all words now marks so_far none ∙ ap (λ b. cond b (Some so_far.front) None) (lt-leb 3 (length so_far.front) size)
-  where
-    two : (a b c : ℕ) → c ≡ a + b → c - a < 3 → b < 3
-    two a b c is lt = omega (arith, is, lt)
-
-pub face_ends : (n : ℕ) (old : List ℕ) (all words : List (List ℕ)) (now : List ℕ) (marks : BTreeSet ℕ) (long : Bool) → FaceSoFar n old all words now marks → words ≡ [] → nat_le 3 (length now - length old) ≡ long → PushesFace (face n all) old now long
-face_ends n old all words now marks true so_far none is = face_whole n old all words now marks so_far none (leb-true 3 (length now - length old) is)
-face_ends n old all words now marks false so_far none is = face_short n old all words now marks so_far none (leb-false 3 (length now - length old) is)
 
 -- each word names a corner
 pub face_size : (n : ℕ) (all : List (List ℕ)) (f : List ℕ) → face n all ≡ Some f → length f ≡ length all

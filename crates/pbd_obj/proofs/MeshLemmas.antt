@@ -230,7 +230,3 @@ pushed_few n rest old new true (f, are, pushed) t = omega (arith, length_of old 
     length_of : (old new f : List ℕ) → new ≡ old ++ f → length new ≡ length old + length f
     length_of old new f is = rw is (length-append old f)
 pushed_few n rest old new false h t = cc
-
--- what a vertex costs leaves fewer than 10^9
-pub few_places : (places rest : ℕ) → 3 * places + rest ≤ 2 ^ 31 → places < 10 ^ 9
-few_places places rest le = omega (arith, le)

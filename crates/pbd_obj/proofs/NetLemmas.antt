@@ -9,7 +9,7 @@ use Rattle.std.specs.BTreeMap.{is_at}
 use Rattle.std.specs.BTreeSet.{BTreeSet, contains}
 use Rattle.std.proofs.lemmas.Bool.{and_parts, and_from, or_cases, or_left, or_right, cases_eq, cases_order, eqb-true, eq-eqb, ne_eqb, lt-ltb, le-ltb, false≢true}
 use Rattle.std.proofs.lemmas.List.{drop_more}
-use Rattle.std.proofs.lemmas.List.Elements.{All-head, All-tail, All-weaker}
+use Rattle.std.proofs.lemmas.List.Elements.{All-head, All-tail}
 use Rattle.std.proofs.lemmas.List.Folds.{list_any-append}
 use Rattle.std.proofs.lemmas.List.Sums.{sum_by-cons}
 use Rattle.pbd_world.specs.declared.parts.Link.{Link}
@@ -20,7 +20,7 @@ use Rattle.pbd_obj.specs.declared.mesh.ObjMesh.{ObjMesh}
 use Rattle.pbd_obj.specs.declared.mesh.ObjFault.{ObjFault}
 use Rattle.pbd_obj.specs.declared.mesh.ObjFault.TheVariants.{TooMany}
 use Rattle.pbd_obj.specs.declared.links.FoundLinks.{FoundLinks}
-use Rattle.pbd_obj.specs.Meshes.{cut, faces, IsFace, IsMesh}
+use Rattle.pbd_obj.specs.Meshes.{cut, faces}
 use Rattle.pbd_obj.specs.MeshLinks.{each_once, face_links, kind_links, link, mesh_links, side}
 use Rattle.pbd_obj.specs.Nets.{Adds, HoldsJoined, HoldsPairs, IsFullAt, IsStopped, Names, ordered, pair_cmp}
 
@@ -179,11 +179,6 @@ so_far_next whole old mid now xs rest left so_far is adds = record {
   makes = append_assoc so_far.done xs rest ∙ (ap (λ t. so_far.done ++ t) (sym is) ∙ so_far.makes);
 }
 
-pub so_far_ends : (whole : List Link) (old now : FoundLinks) (left : List Link) → SoFar whole old now left → left ≡ [] → Adds whole old now
-so_far_ends whole old now left so_far is =
-    let all : so_far.done ≡ whole = sym (append-nil so_far.done) ∙ (ap (λ t. so_far.done ++ t) (sym is) ∙ so_far.makes) in
-    rw (← all) so_far.adds
-
 full_then : (whole : List Link) (old mid : FoundLinks) (xs rest done : List Link) → Adds done old mid → done ++ (xs ++ rest) ≡ whole → mid.room < length (each_once mid.links xs) → old.room < length (each_once old.links whole)
 full_then whole old mid xs rest done adds makes full =
     let all : each_once old.links whole ≡ each_once (each_once mid.links xs) rest = ap (each_once old.links) (sym makes) ∙ (once_append old.links done (xs ++ rest) ∙ (ap (λ kept. each_once kept (xs ++ rest)) (sym adds.links) ∙ once_append mid.links xs rest)) in
@@ -201,14 +196,8 @@ so_far_stops whole old mid xs rest left fault so_far is (inr full) =
 abbrev pub sides_from : ObjMesh → ℕ → List ℕ → ℕ → List Link
 sides_from mesh base face i = map {A = ℕ × ℕ} {B = Link} (link mesh base Stretch) (map {A = ℕ} {B = ℕ × ℕ} (side face) (range_with_len i (length face - i)))
 
-pub sides_begin : (mesh : ObjMesh) (base : ℕ) (face : List ℕ) → sides_from mesh base face 0 ≡ face_links mesh base Stretch face
-sides_begin mesh base face = let e : length face - 0 ≡ length face = omega arith in rw e refl
-
 pub sides_next : (mesh : ObjMesh) (base : ℕ) (face : List ℕ) (i : ℕ) → i < length face → sides_from mesh base face i ≡ (link mesh base Stretch (side face i) ∷ []) ++ sides_from mesh base face (i + 1)
 sides_next mesh base face i lt = let e : length face - i ≡ suc (length face - (i + 1)) = omega (arith, lt) in rw e refl
-
-pub sides_end : (mesh : ObjMesh) (base : ℕ) (face : List ℕ) (i : ℕ) → length face ≤ i → sides_from mesh base face i ≡ []
-sides_end mesh base face i le = let e : length face - i ≡ 0 = omega (arith, le) in rw e refl
 
 side_is : (mesh : ObjMesh) (face : List ℕ) (old mid : FoundLinks) (done : List Link) (i : ℕ) (l : Link) → Adds done old mid → l ≡ link mesh mid.base Stretch (side face i) → l ≡ link mesh old.base Stretch (side face i)
 side_is mesh face old mid done i l adds is = is ∙ ap (λ b. link mesh b Stretch (side face i)) adds.base
@@ -232,17 +221,6 @@ pub record FacesSoFar (mesh : ObjMesh) (kind : Kind) (old now : FoundLinks) (siz
   pub whole : sum sizes ≡ length corners
   pub base : now.base ≡ old.base
 
-pub faces_begin : (mesh : ObjMesh) (kind : Kind) (old : FoundLinks) → IsMesh mesh → HoldsJoined old → FacesSoFar mesh kind old old mesh.sizes mesh.corners
-faces_begin mesh kind old is held = record {
-  links = so_far_begins (kind_links mesh old.base kind) old (kind_links mesh old.base kind) held refl;
-  named = All-weaker {X = List ℕ} (λ face. IsFace (length mesh.places) face) (Names mesh) (λ face h. h.within) (faces mesh) is.faces;
-  whole = is.whole;
-  base = refl;
-}
-
-pub faces_fit : (mesh : ObjMesh) (kind : Kind) (old now : FoundLinks) (s : ℕ) (sizes corners : List ℕ) → FacesSoFar mesh kind old now (s ∷ sizes) corners → s ≤ length corners
-faces_fit mesh kind old now s sizes corners so_far = let all : s + sum sizes ≡ length corners = sym (sum_by-cons (λ x. x) s sizes) ∙ so_far.whole in omega (arith, all)
-
 pub face_named : (mesh : ObjMesh) (kind : Kind) (old now : FoundLinks) (s : ℕ) (sizes corners : List ℕ) → FacesSoFar mesh kind old now (s ∷ sizes) corners → Names mesh (take s corners)
 face_named mesh kind old now s sizes corners so_far = All-head {X = List ℕ} (Names mesh) (take s corners) (cut sizes (drop s corners)) so_far.named
 
@@ -259,9 +237,6 @@ faces_next mesh kind old mid now s sizes corners so_far adds =
 pub faces_stop : (mesh : ObjMesh) (kind : Kind) (old mid : FoundLinks) (s : ℕ) (sizes corners : List ℕ) (fault : ObjFault) → FacesSoFar mesh kind old mid (s ∷ sizes) corners → IsStopped (face_links mesh mid.base kind (take s corners)) mid fault → IsStopped (kind_links mesh old.base kind) old fault
 faces_stop mesh kind old mid s sizes corners fault so_far stopped =
     so_far_stops (kind_links mesh old.base kind) old mid (face_links mesh old.base kind (take s corners)) (flat_map {X = List ℕ} {A = Link} (face_links mesh old.base kind) (cut sizes (drop s corners))) _ fault so_far.links refl (subst (λ (b : ℕ). IsStopped (face_links mesh b kind (take s corners)) mid fault) so_far.base stopped)
-
-pub faces_end : (mesh : ObjMesh) (kind : Kind) (old now : FoundLinks) (sizes corners : List ℕ) → FacesSoFar mesh kind old now sizes corners → sizes ≡ [] → Adds (kind_links mesh old.base kind) old now
-faces_end mesh kind old now sizes corners so_far none = so_far_ends (kind_links mesh old.base kind) old now (flat_map {X = List ℕ} {A = Link} (face_links mesh old.base kind) (cut sizes corners)) so_far.links (ap (λ ss. flat_map {X = List ℕ} {A = Link} (face_links mesh old.base kind) (cut ss corners)) none)
 
 pub sizes_at : (sizes : List ℕ) (i : ℕ) → i < length sizes → drop i sizes ≡ get_or sizes i 0 ∷ drop (i + 1) sizes
 sizes_at sizes i lt = drop_more sizes i 0 lt
@@ -289,12 +264,6 @@ unfolding mesh_links
 mesh_links_are mesh start mid now none first second =
     (adds_then start mid now (kind_links mesh start.base Stretch) (kind_links mesh start.base Shear) first (subst (λ (b : ℕ). Adds (kind_links mesh b Shear) mid now) first.base second)).links ∙ ap (λ kept. each_once kept (kind_links mesh start.base Stretch ++ kind_links mesh start.base Shear)) none
 
-pub mesh_links_few : (start mid now : FoundLinks) (xs ys : List Link) → start.links ≡ [] → Adds xs start mid → Adds ys mid now → length now.links ≤ start.room
-mesh_links_few start mid now xs ys none first second =
-    let begin : length start.links ≤ start.room = rw none (omega arith) in
-    let end = second.within (first.within begin) in
-    omega (arith, end, first.room, second.room)
-
 full_at : (links : List Link) (room : ℕ) (start : FoundLinks) (whole : List Link) (fault : ObjFault) → start.links ≡ [] → start.room ≡ room → each_once [] whole ≡ links → IsStopped whole start fault → IsFullAt links room fault
 full_at links room start whole fault none at is (inl memory) = inl memory
 full_at links room start whole fault none at is (inr full) = inr (full.0, let size : length (each_once start.links whole) ≡ length links = ap length (ap (λ kept. each_once kept whole) none ∙ is) in omega (arith, full.1, at, size))
@@ -313,34 +282,3 @@ second_kind_stops mesh start mid fault held none first stopped =
     let both = stretch ++ shear in
     let half : SoFar both start mid shear = so_far_next both start start mid stretch shear both (so_far_begins both start both held refl) refl first in
     full_at (each_once [] both) start.room start both fault none refl refl (so_far_stops both start mid shear [] shear fault half (sym (append-nil shear)) (subst (λ (b : ℕ). IsStopped (kind_links mesh b Shear) mid fault) first.base stopped))
-
--- ---- diagonals
-
-pub diagonals_none : (mesh : ObjMesh) (base : ℕ) (face : List ℕ) → length face ≢ 4 → face_links mesh base Shear face ≡ []
-diagonals_none mesh base [] n = refl
-diagonals_none mesh base (a ∷ []) n = refl
-diagonals_none mesh base (a ∷ b ∷ []) n = refl
-diagonals_none mesh base (a ∷ b ∷ c ∷ []) n = refl
-diagonals_none mesh base (a ∷ b ∷ c ∷ d ∷ []) n = absurd (n refl)
-diagonals_none mesh base (a ∷ b ∷ c ∷ d ∷ e ∷ more) n = refl
-
-pub diagonals_some : (mesh : ObjMesh) (base : ℕ) (face : List ℕ) → length face ≡ 4 → face_links mesh base Shear face ≡ link mesh base Shear (get_or face 0 0, get_or face 2 0) ∷ link mesh base Shear (get_or face 1 0, get_or face 3 0) ∷ []
-diagonals_some mesh base [] is = absurd (omega (arith, is))
-diagonals_some mesh base (a ∷ []) is = absurd (omega (arith, is))
-diagonals_some mesh base (a ∷ b ∷ []) is = absurd (omega (arith, is))
-diagonals_some mesh base (a ∷ b ∷ c ∷ []) is = absurd (omega (arith, is))
-diagonals_some mesh base (a ∷ b ∷ c ∷ d ∷ []) is = refl
-diagonals_some mesh base (a ∷ b ∷ c ∷ d ∷ e ∷ more) is = absurd (omega (arith, is))
-
-pub adds_nothing : (old : FoundLinks) (links : List Link) → HoldsJoined old → links ≡ [] → Adds links old old
-adds_nothing old links held none = rw none (adds_none old held)
-
-pub adds_two : (old mid now : FoundLinks) (links : List Link) (first second : Link) → links ≡ first ∷ second ∷ [] → Adds (first ∷ []) old mid → Adds (second ∷ []) mid now → Adds links old now
-adds_two old mid now links first second is one two = rw is (adds_then old mid now (first ∷ []) (second ∷ []) one two)
-
-pub first_stops : (old : FoundLinks) (links : List Link) (first second : Link) (fault : ObjFault) → HoldsJoined old → links ≡ first ∷ second ∷ [] → IsStopped (first ∷ []) old fault → IsStopped links old fault
-first_stops old links first second fault held is stopped = so_far_stops links old old (first ∷ []) (second ∷ []) links fault (so_far_begins links old links held refl) is stopped
-
-pub second_stops : (old mid : FoundLinks) (links : List Link) (first second : Link) (fault : ObjFault) → HoldsJoined old → links ≡ first ∷ second ∷ [] → Adds (first ∷ []) old mid → IsStopped (second ∷ []) mid fault → IsStopped links old fault
-second_stops old mid links first second fault held is one stopped =
-    so_far_stops links old mid (second ∷ []) [] (second ∷ []) fault (so_far_next links old old mid (first ∷ []) (second ∷ []) links (so_far_begins links old links held refl) is one) refl stopped

@@ -35,9 +35,6 @@ position_most p xs = prefix_len-le-length _ xs
 
 -- ---- digits
 
-pub ten_more : (i : ℕ) → 10 ^ (i + 1) ≡ 10 ^ i * 10
-ten_more i = let e : i + 1 ≡ suc i = omega arith in rw e (omega arith)
-
 digit_small : (b : ℕ) → is_digit b ≡ true → b - 48 ≤ 9
 digit_small b is = grind (arith, nat_tests)
 
@@ -107,9 +104,6 @@ signed_capped : (minus : Bool) (n : ℕ) → signed minus (capped_size n) ≡ ca
 signed_capped false n = refl
 signed_capped true zero = refl
 signed_capped true (suc n) = ap (λ k. neg_ℤ (pos (capped_size k))) (omega arith)
-
-neg_suc_is : (n : ℕ) → neg_ℤ (pos (n + 1)) ≡ negsuc n
-neg_suc_is n = let e : n + 1 ≡ suc n = omega arith in rw e refl
 
 zero_lowered : (k : ℕ) → lowered 0 k ≡ 0
 zero_lowered k = let p = ten_pos k in div-eq_of_lt (omega (arith, p))

@@ -92,9 +92,6 @@ pub read_begins : (text : List ℕ) → reads_on 1 no_mesh text ≡ read text
 unfolding read
 read_begins text = refl
 
-pub read_stops : (n : ℕ) (mesh : ObjMesh) (rest line : List ℕ) (more : List (List ℕ)) (fault : ObjFault) → pieces rest ≡ line ∷ more → with_line (n, line) mesh ≡ Err fault → reads_on n mesh rest ≡ Err fault
-read_stops n mesh rest line more fault are is = rw (are, is) refl
-
 pub read_ends : (n : ℕ) (mesh now : ObjMesh) (rest line : List ℕ) → pieces rest ≡ line ∷ [] → with_line (n, line) mesh ≡ Ok now → reads_on n mesh rest ≡ Ok now
 read_ends n mesh now rest line are is = rw (are, is) refl
 

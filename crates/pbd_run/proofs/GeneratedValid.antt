@@ -21,9 +21,6 @@ use Rattle.pbd_mesh.proofs.Meshes.{cloth_mesh, cloth_size}
 use Rattle.pbd_outcome.specs.Generated.{after_three, all_set_off, generated, is_hung, level_cloth, middle_sphere, set_off, speed, velocity_of, words_of}
 use Rattle.pbd_run.proofs.GeneratedLaws.{close_place, few, level_fits}
 
-limit : ℤ
-limit = pos (2 ^ 29)
-
 -- ---- velocities
 
 speed_small : (word : ℕ) → unsigned_abs (speed word) ≤ 64

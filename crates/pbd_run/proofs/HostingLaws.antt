@@ -9,7 +9,7 @@ use Rattle.std.proofs.lemmas.List.Sums.{count_by-le-length}
 use Rattle.std.proofs.lemmas.List.Splits.{join_with_byte-slice_split, length-slice_split}
 use Rattle.pbd_script.specs.Lines.{pieces}
 use Rattle.pbd_script.proofs.LineLemmas.{split_none, split_some}
-use Rattle.std.specs.Io.KnownBytes.{Appends, Keeps}
+use Rattle.std.specs.Io.KnownBytes.{Appends}
 use Rattle.pbd_io.specs.Appending.{appends_nothing, appends_then, prefix_longer, prefix_then}
 use Rattle.pbd_io.specs.Pieces.{AppendsPrefix}
 use Rattle.pbd_world.specs.declared.parts.Parts.{Parts}
@@ -21,7 +21,7 @@ use Rattle.pbd_host.specs.Hosted.{hosted_refused, hosted_text, is_refusal, reque
 use Rattle.pbd_host.specs.Tagged.{request_of, requests_of}
 use Rattle.pbd_host.proofs.ApartLaws.{length-after}
 use Rattle.pbd_outcome.specs.declared.status.Status.{Status}
-use Rattle.pbd_outcome.specs.declared.status.Status.TheVariants.{NoScript, OutOfMemory, TooManyScenes}
+use Rattle.pbd_outcome.specs.declared.status.Status.TheVariants.{NoScript, TooManyScenes}
 use Rattle.pbd_outcome.specs.Outcome.{Outcome, host_outcome, hosted, range, scene_in, scenes_in, settled, stops, stops_in}
 use Rattle.pbd_outcome.specs.Split.{divider, ended_lines, host_split, is_line, scenes, split_at, texts}
 use Rattle.pbd_outcome.specs.Statuses.{line_in}
@@ -168,12 +168,6 @@ pub read_stops : (all : List (List ℕ)) (text : List ℕ) (ts : List (List ℕ)
 read_stops all text ts read a b m n s has stops = λ then. rw (ap (λ r. settled (r >>= then)) has.so_far ∙ ap settled (stopped_next (length read) text ts read then)) (stops _)
 
 -- ---- a scene that stops the run
-
-told : (n : ℕ) (r : Result Parts Outcome) (o : Outcome) (then : Parts → Result Outcome Outcome) (a b : Option (List ℕ)) (m k : ℕ) (s : Status) → r ≡ Err o → Does (stops_in n o) a b m k s → Does (settled (with_fault (stops_in n) r >>= then)) a b m k s
-told n r o then a b m k s is does = rw is does
-
-out_of_memory : (o : Outcome) (a b : Option (List ℕ)) (m n : ℕ) (s : Status) → s ≡ OutOfMemory → Keeps a b → Does o a b m n s
-out_of_memory o a b m n s is keeps = rw is keeps
 
 -- ---- the lines, one after another
 

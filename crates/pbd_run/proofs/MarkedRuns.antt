@@ -1,9 +1,9 @@
 -- The text of a script with marks, one command after another.
-use Rattle.std.proofs.Common.{◌≡◌, ◌∙◌, sym, ap, refl, ℕ, ◌+◌, ◌<◌, ◌≤◌, List, [], ◌∷◌, ◌++◌, length, Option, Result, Ok, Err, arith, append_assoc, append-nil, zero-add}
+use Rattle.std.proofs.Common.{◌≡◌, ◌∙◌, sym, ap, refl, ℕ, ◌+◌, ◌<◌, ◌≤◌, List, [], ◌∷◌, ◌++◌, length, Option, Result, Ok, Err, arith, append_assoc, append-nil}
 use Rattle.std.specs.Prelude.{if◌then◌else◌, MatchResult, OnErr}
 use Rattle.std.specs.Io.KnownBytes.{Appends}
 use Rattle.pbd_io.specs.Pieces.{AppendsPrefix}
-use Rattle.pbd_io.specs.Appending.{appends_nothing, appends_then, prefix_then, prefix_longer}
+use Rattle.pbd_io.specs.Appending.{appends_then, prefix_then, prefix_longer}
 use Rattle.pbd_world.specs.declared.command.Reply.{Reply}
 use Rattle.pbd_world.specs.declared.command.Reply.TheVariants as replies
 use Rattle.pbd_marks.specs.declared.command.MarkCommand.{MarkCommand}
@@ -33,9 +33,6 @@ pub record Ran (start : Marked) (all : List MarkCommand) (m : Marked) (left : Li
   pub text : done ++ marked_text m left ≡ marked_text start all
   pub count : refused + marked_refused_count m left ≡ marked_refused_count start all
   pub few : refused + length left ≤ length all
-
-pub ran_begins : (m : Marked) (all : List MarkCommand) (old : Option (List ℕ)) → Ran m all m all old old 0
-ran_begins m all old = record { done = []; bytes = appends_nothing old; text = refl; count = zero-add (marked_refused_count m all); few = omega arith }
 
 -- a command was done and answered
 pub record Did (m n : Marked) (c : MarkCommand) (a : Result Reply MarkRefusal) : Type 0 where

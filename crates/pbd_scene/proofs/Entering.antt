@@ -47,9 +47,6 @@ is_entry_particle limit p = is_valid_particle limit p && (not p.held || is_at_re
 le_test : (m n : ℕ) → m ≤ n → nat_le m n ≡ true
 le_test m n h = grind (arith, nat_tests)
 
-lt_test : (m n : ℕ) → m < n → nat_lt m n ≡ true
-lt_test m n h = grind (arith, nat_tests)
-
 particle_tests : (limit : ℤ) (at before : Vec3) (weight : ℕ) (held : Bool) → is_within limit at ≡ true → is_within limit before ≡ true → nat_le 1 weight ≡ true → nat_le weight 65535 ≡ true → is_entry_particle limit (record { at = at; before = if held then at else before; weight = weight; held = held }) ≡ true
 particle_tests limit at before weight true h k low high = rw (h, low, high, at_rest at) refl
 particle_tests limit at before weight false h k low high = rw (h, k, low, high) refl

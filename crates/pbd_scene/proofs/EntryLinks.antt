@@ -1,5 +1,5 @@
 -- The links of entries, as they are added one after another.
-use Rattle.std.proofs.Common.{◌≡◌, ◌∙◌, ap, sym, refl, ℕ, ◌+◌, ◌<◌, ◌≤◌, List, [], ◌∷◌, ◌++◌, length, get_or, drop, arith, append_assoc, append-nil}
+use Rattle.std.proofs.Common.{◌≡◌, ◌∙◌, ap, sym, ℕ, ◌+◌, ◌<◌, ◌≤◌, List, [], ◌∷◌, ◌++◌, length, get_or, drop, arith, append_assoc}
 use Rattle.std.specs.Prelude.{Ok}
 use Rattle.std.proofs.lemmas.List.{length-append, get_or_default}
 use Rattle.pbd_world.specs.declared.parts.Particle.{Particle}
@@ -19,19 +19,6 @@ pub record LinksSoFar (ps : List Particle) (meshes : List Link) (entries : List 
   pub number : length added ≡ i
   pub rest : each (link_after ps meshes) added (drop i entries) ≡ each (link_after ps meshes) [] entries
   pub told : HoldsNeighbours (length ps) links ends
-
-whole : {A : Type 0} (xs : List A) → drop 0 xs ≡ xs
-whole [] = refl
-whole (x ∷ xs) = refl
-
-pub links_begin : (ps : List Particle) (meshes : List Link) (entries : List LinkEntry) (ends : List (List ℕ)) → HoldsNeighbours (length ps) meshes ends → LinksSoFar ps meshes entries 0 meshes ends
-links_begin ps meshes entries ends held = record {
-  added = [];
-  are = sym (append-nil meshes);
-  number = refl;
-  rest = ap (each (link_after ps meshes) []) (whole entries);
-  told = held;
-}
 
 -- the entry's check is that of the definition
 same_check : (ps : List Particle) (meshes : List Link) (entries : List LinkEntry) (i : ℕ) (links : List Link) (ends : List (List ℕ)) (entry : LinkEntry) (so_far : LinksSoFar ps meshes entries i links ends) → link_after ps meshes so_far.added entry ≡ entry_link ps i links entry

@@ -64,10 +64,6 @@ named_more names tracks i t old now within same so_far is = rw (take_more tracks
 
 -- ---- particles that stay
 
-pub held_none : (names : List ℕ) (ps : List Particle) → [] ++ holding names 0 (drop 0 ps) ≡ holding names 0 ps
-held_none names [] = refl
-held_none names (p ∷ ps) = refl
-
 pub held_more : (names : List ℕ) (ps : List Particle) (i : ℕ) (p : Particle) (flag : Bool) (held now : List Particle) (total : List Particle) → i < length ps → p ≡ get_or ps i p → flag ≡ is_among i names → now ≡ held ++ (if flag then held_still p else p) ∷ [] → held ++ holding names i (drop i ps) ≡ total → now ++ holding names (i + 1) (drop (i + 1) ps) ≡ total
 unfolding holding
 held_more names ps i p flag held now total within same is grown so_far =
@@ -137,12 +133,6 @@ held_at names ps i d flags flag q held now total within told is made grown so_fa
     let inside : i < length flags = omega (arith, within, told.size) in
     let named : flag ≡ is_among i names = is ∙ sym (get_or_default flags i false flag inside) ∙ told.flag i within in
     held_more names ps i (get_or ps i d) flag held now total within (get_or_default ps i d (get_or ps i d) within) named (grown ∙ ap (λ x. held ++ x ∷ []) made) so_far
-
-pub track_more : (count : ℕ) (entries : List TrackEntry) (i : ℕ) (d : TrackEntry) (tracks now : List Track) (old flags : List Bool) (t : Track) → i < length entries → TracksSoFar count entries i tracks old → placed_track count tracks (get_or entries i d) ≡ Ok t → flags ≡ set old t.particle true → now ≡ tracks ++ t ∷ [] → TracksSoFar count entries (i + 1) now flags
-track_more count entries i d tracks now old flags t within so_far is raised grown = tracks_more count entries i (get_or entries i d) tracks now old flags t within (get_or_default entries i d (get_or entries i d) within) so_far is raised grown
-
-pub track_stops : (count : ℕ) (entries : List TrackEntry) (i : ℕ) (d : TrackEntry) (tracks : List Track) (old : List Bool) (e : SceneFault) → i < length entries → TracksSoFar count entries i tracks old → Fails e (placed_track count tracks (get_or entries i d)) → Fails e (each (placed_track count) [] entries)
-track_stops count entries i d tracks old e within so_far fails = tracks_stop count entries i (get_or entries i d) tracks old e within (get_or_default entries i d (get_or entries i d) within) so_far fails
 
 pub flag_more : (count : ℕ) (names : List ℕ) (index d : ℕ) (old now : List Bool) → index < length names → Flags count (take index names) old → now ≡ set old (get_or names index d) true → Flags count (take (index + 1) names) now
 flag_more count names index d old now within held is = flags_more count names index (get_or names index d) old now within (get_or_default names index d (get_or names index d) within) held is

@@ -1,32 +1,16 @@
 -- Parts to which meshes are added one after another.
-use Rattle.std.proofs.Common.{◌≡◌, ◌∙◌, ap, sym, refl, ℕ, ◌+◌, ◌<◌, ◌≤◌, List, [], ◌∷◌, length, get_or, drop, arith}
+use Rattle.std.proofs.Common.{◌≡◌, ◌∙◌, ap, sym, ℕ, ◌+◌, ◌<◌, ◌≤◌, List, [], ◌∷◌, length, get_or, drop, arith}
 use Rattle.std.specs.Prelude.{fold}
 use Rattle.std.specs.List.{sum_by}
-use Rattle.std.proofs.lemmas.List.{drop_more, drop_all, get_or_default}
+use Rattle.std.proofs.lemmas.List.{drop_more, get_or_default}
 use Rattle.std.proofs.lemmas.List.Sums.{sum_by-cons}
 use Rattle.pbd_world.specs.declared.parts.Parts.{Parts}
-
-whole : {A : Type 0} (xs : List A) → drop 0 xs ≡ xs
-whole [] = refl
-whole (x ∷ xs) = refl
 
 -- what is there with the meshes that are left is all, and there is room for them
 pub record MeshesSoFar {S : Type 0} (add : Parts → S → Parts) (size : S → ℕ) (start : Parts) (meshes : List S) (i : ℕ) (now : Parts) : Type 0 where
   pub rest : fold add now (drop i meshes) ≡ fold add start meshes
   pub limit : now.limit ≡ start.limit
   pub room : length now.particles + sum_by size (drop i meshes) ≤ 65536
-
-pub meshes_begin : {S : Type 0} (add : Parts → S → Parts) (size : S → ℕ) (start : Parts) (meshes : List S) → length start.particles + sum_by size meshes ≤ 65536 → MeshesSoFar add size start meshes 0 start
-meshes_begin add size start meshes room = record {
-  rest = ap (fold add start) (whole meshes);
-  limit = refl;
-  room = rw (whole meshes) room;
-}
-
-pub meshes_room : {S : Type 0} (add : Parts → S → Parts) (size : S → ℕ) (start : Parts) (meshes : List S) (i : ℕ) (now : Parts) (s : S) → i < length meshes → s ≡ get_or meshes i s → MeshesSoFar add size start meshes i now → length now.particles + size s ≤ 65536
-meshes_room add size start meshes i now s within same so_far =
-    let first : drop i meshes ≡ s ∷ drop (i + 1) meshes = drop_more meshes i s within ∙ ap (λ x. x ∷ drop (i + 1) meshes) (sym same) in
-    omega (arith, so_far.room, ap (sum_by size) first, sum_by-cons size s (drop (i + 1) meshes))
 
 pub meshes_more : {S : Type 0} (add : Parts → S → Parts) (size : S → ℕ) (start : Parts) (meshes : List S) (i : ℕ) (now next : Parts) (s : S) → i < length meshes → s ≡ get_or meshes i s → MeshesSoFar add size start meshes i now → next ≡ add now s → (add now s).limit ≡ now.limit → length (add now s).particles ≡ length now.particles + size s → MeshesSoFar add size start meshes (i + 1) next
 meshes_more add size start meshes i now next s within same so_far is limit grown =
@@ -36,9 +20,6 @@ meshes_more add size start meshes i now next s within same so_far is limit grown
       limit = limit ∙ so_far.limit;
       room = omega (arith, so_far.room, grown, ap (sum_by size) first, sum_by-cons size s (drop (i + 1) meshes));
     })
-
-pub meshes_end : {S : Type 0} (add : Parts → S → Parts) (size : S → ℕ) (start : Parts) (meshes : List S) (i : ℕ) (now : Parts) → length meshes ≤ i → MeshesSoFar add size start meshes i now → now ≡ fold add start meshes
-meshes_end add size start meshes i now past so_far = sym (ap (fold add now) (drop_all i meshes past)) ∙ so_far.rest
 
 -- ---- the same of what the loops read
 

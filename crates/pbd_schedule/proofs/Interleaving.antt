@@ -180,9 +180,6 @@ module _ (limit : ℤ) (bond : ℕ → Bond) (batch : List ℕ) (m : Motion) (bo
   B : ℕ → Bond
   B = bond_at bond batch
 
-  end : Mixed
-  end = mixed limit (bond_at bond batch) events (mix_of m.particles m.totals (replicate (length batch) no_note))
-
   module _ (x : Mixed) (come : Come limit (bond_at bond batch) (length batch) m.particles m.totals bonds apart events x) (sound : AreSound limit x.notes) where
     three : (k : ℕ) → k < length batch → stage_at come.stages k ≡ 3
     three k q = all_stages come.stages events come.came (subst (λ (n : ℕ). IsLegal n events) (sym come.many) legal) k (omega (arith, q, come.many))

@@ -204,12 +204,6 @@ module _ (stages : List ℕ) where
 
 -- ---- all came, or not
 
-pub all_came : (stages : List ℕ) (done : List Event) → HaveCome stages done → IsTrue (list_all (λ (s : ℕ). s == 3) stages) → IsLegal (length stages) done
-all_came stages done h t = record {
-  positions = h.positions;
-  each = λ k q. h.each k q ∙ ap (λ (s : ℕ). take s (events_of k)) (eqb-true (stage_at stages k) 3 (all_at (λ (s : ℕ). s == 3) stages 0 k t q));
-}
-
 threes : (stages : List ℕ) → ((k : ℕ) → k < length stages → stage_at stages k ≡ 3) → list_all (λ (s : ℕ). s == 3) stages ≡ true
 threes [] h = refl
 threes (s ∷ stages) h = both (s == 3) (list_all (λ (x : ℕ). x == 3) stages) (eq-eqb s 3 (h 0 (omega arith))) (threes stages (λ k q. h (suc k) (omega arith)))

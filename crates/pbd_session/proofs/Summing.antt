@@ -15,13 +15,6 @@ pub record IsSumTo (f : Particle → Vec3) (ps : List Particle) (i : ℕ) (sum :
 pub sum_begins : (f : Particle → Vec3) (ps : List Particle) → IsSumTo f ps 0 zero_vector
 sum_begins f ps = record { whole = refl; size = record { x = omega arith; y = omega arith; z = omega arith } }
 
-pub sum_fits : (f : Particle → Vec3) (ps : List Particle) (i : ℕ) (sum : Vec3) → IsSumTo f ps i sum → i ≤ 65536 → Within (2 ^ 61) sum
-sum_fits f ps i sum so_far few = record {
-  x = omega (arith, so_far.size.x, few);
-  y = omega (arith, so_far.size.y, few);
-  z = omega (arith, so_far.size.z, few);
-}
-
 pub sum_next : (f : Particle → Vec3) (ps : List Particle) (i : ℕ) (d : Particle) (sum next : Vec3)
     → IsSumTo f ps i sum → i < length ps → next ≡ plus sum (f (get_or ps i d)) → Within (i * 2 ^ 29 + 2 ^ 29) next → IsSumTo f ps (i + 1) next
 sum_next f ps i d sum next so_far lt is size = record {

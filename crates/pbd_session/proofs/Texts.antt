@@ -2,7 +2,7 @@
 use Rattle.std.proofs.Common.{◌+◌, ◌<◌, ◌≤◌, ◌≡◌, ◌∙◌, sym, ap, refl, ℕ, zero, suc, List, [], ◌∷◌, ◌++◌, length, get_or, take, map, Option, arith, append_assoc, append-nil, codes}
 use Rattle.std.specs.Io.KnownBytes.{Appends}
 use Rattle.std.specs.List.{flat_map}
-use Rattle.std.proofs.lemmas.List.{length-append, take_all}
+use Rattle.std.proofs.lemmas.List.{take_all}
 use Rattle.pbd_io.specs.Appending.{appends_then}
 use Rattle.pbd_world.specs.declared.command.Reply.{Reply}
 use Rattle.pbd_world.specs.declared.parts.Particle.{Particle}
@@ -24,10 +24,6 @@ pieces9 a b c d e f g h i = simp append_assoc refl
 
 pub pieces8 : (a b c d e f g h : List ℕ) → ((((((a ++ b) ++ c) ++ d) ++ e) ++ f) ++ g) ++ h ≡ a ++ (b ++ (c ++ (d ++ (e ++ (f ++ (g ++ h))))))
 pieces8 a b c d e f g h = simp append_assoc refl
-
--- how long a line is with a piece more
-pub grown : (before after piece : List ℕ) → after ≡ before ++ piece → length after ≡ length before + length piece
-grown before after piece is = rw is (length-append before piece)
 
 pub header_is : (w : World) → header_line w ≡ frame_header w.steps (length w.particles) (live_count w.links) w.contacts
 unfolding header_line frame_header

@@ -100,10 +100,6 @@ unfold_work : (width lanes k : ℕ) (w : World) → work_over width lanes (suc k
 unfolding work_over
 unfold_work width lanes k w = refl
 
-none_work : (width lanes : ℕ) (w : World) → work_over width lanes 0 w ≡ 0
-unfolding work_over
-none_work width lanes w = refl
-
 -- what was spent so far, and the work of the steps that are left, are at most the whole
 abbrev pub Spent : ℕ → ℕ → ℕ → ℕ → World → World → ℕ → ℕ → Type 0
 Spent width lanes n i start now before count = count + work_over width lanes (n - i) now ≤ before + work_over width lanes n start

@@ -53,7 +53,3 @@ scattered_more is set xs ys zs old new j n h p apart within = by_case (is_set se
   by_case : (b : Bool) → is_set set j ≡ b → Scattered (j + 1) is set xs ys zs old (cond b (placed new (index_at is j) (place_of xs ys zs j)) new)
   by_case true e = moved is set xs ys zs old new j h e (within e) (λ k q s f. apart k j q p s e f)
   by_case false e = skipped is set xs ys zs old new j h e
-
--- the end, over equal lists
-pub scattered_all : {is : List ℕ} {set set' : List Bool} {xs xs' ys ys' zs zs' : List ℤ} {old old' new : List Particle} {j n : ℕ} → Scattered j is set xs ys zs old new → j ≡ n → set ≡ set' → xs ≡ xs' → ys ≡ ys' → zs ≡ zs' → old ≡ old' → Scattered n is set' xs' ys' zs' old' new
-scattered_all {is} {new = new} h ej es ex ey ez eo = coe 0 1 (i. Scattered (ej i) is (es i) (ex i) (ey i) (ez i) (eo i) new) h

@@ -1,4 +1,4 @@
-use Rattle.std.proofs.Common.{◌≡◌, ℕ, ◌+◌, ◌-◌, ◌<◌, ℤ, pos, List, ◌++◌, length, take, drop, slice_set, Bool, IsTrue, false, cond, refl, sym, ◌∙◌, ap, arith, inl, inr, subst}
+use Rattle.std.proofs.Common.{◌≡◌, ℕ, ◌+◌, ◌-◌, ◌<◌, ℤ, pos, List, ◌++◌, length, take, drop, slice_set, Bool, IsTrue, false, cond, sym, ◌∙◌, ap, arith, inl, inr, subst}
 use Rattle.std.proofs.lemmas.Bool.{cases_Bool, cases_lt, cond-true, cond-false}
 use Rattle.std.proofs.lemmas.List.{get_or-set_same, get_or-set_other, length-set}
 use Rattle.std.proofs.lemmas.List.FromFn.{get_or-map-range_with_len}
@@ -6,10 +6,6 @@ use Rattle.std.proofs.Math.Seq.{take-append_seam}
 use Rattle.pbd_lanes.specs.Lane.{lane, is_set, lanes_of}
 use Rattle.pbd_store.specs.Writing.{Written, WrittenWhere}
 use Rattle.pbd_store.proofs.Scattering.{split_below}
-
--- nothing yet
-pub written_none : (start : ℕ) (values xs : List ℤ) → Written 0 start values xs xs
-written_none start values xs = record { whole = refl; lanes = λ j h. absurd (omega arith); others = λ i h. refl }
 
 -- one number more
 pub written_more : (start : ℕ) (values old new : List ℤ) (j : ℕ) (v : ℤ) → Written j start values old new → start + j < length old → v ≡ lane values j → Written (j + 1) start values old (slice_set new (start + j) v)

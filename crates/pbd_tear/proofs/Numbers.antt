@@ -6,7 +6,7 @@ use Rattle.std.proofs.lemmas.List.Kept.{IsStrictlyIncreasing-filter}
 use Rattle.std.proofs.lemmas.List.FromFn.{length-range_with_len, get_or-range_with_len}
 use Rattle.pbd_world.proofs.KeepingOn.{all-at}
 use Rattle.std.proofs.lemmas.Int.{ints}
-use Rattle.std.proofs.lemmas.Bool.{and_parts, leb-true, ltb-true, cases_eq, eq-eqb, ne_eqb}
+use Rattle.std.proofs.lemmas.Bool.{and_parts, ltb-true, cases_eq, eq-eqb, ne_eqb}
 use Rattle.std.proofs.lemmas.Bool.Decides.{nat_tests}
 use Rattle.std.proofs.lemmas.List.{get_or-map, append-nil, length-append, at_drop_more}
 use Rattle.std.proofs.lemmas.List.Sums.{AllPass-from_list_all}
@@ -42,9 +42,6 @@ pub link_is : (limit : ℤ) (n : ℕ) (links : List Link) (i : ℕ) (d : Link) �
 link_is limit n links i d h valid lt =
     let few = and_parts _ _ (and_parts _ _ (and_parts _ _ valid).0).0 in
     is_link limit n (get_or links i d) h (AllPass-from_list_all (is_valid_link limit n) links few.1 i d lt)
-
-pub few_links : (limit : ℤ) (n : ℕ) (links : List Link) → IsTrue (are_valid_links limit n links) → length links ≤ 524288
-few_links limit n links valid = leb-true (length links) 524288 (and_parts _ _ (and_parts _ _ (and_parts _ _ valid).0).0).0
 
 -- a link that may tear, by the particles at its ends
 pub torn_by : (ps : List Particle) (l : Link) (a b : Particle) → (l.live && int_lt (pos 0) l.tear) ≡ true → a ≡ particle_at ps l.a → b ≡ particle_at ps l.b → nat_lt (unsigned_abs l.tear * unsigned_abs l.tear) (squared_length (minus a.at b.at)) ≡ is_torn ps l

@@ -1,19 +1,18 @@
 -- A bond keeps the balance of momentum and ledger.
 use Rattle.std.proofs.Common.{◌≡◌, ◌≢◌, refl, sym, ap, ◌∙◌, ℕ, ◌<◌, Bool, true, false, List, length, length-set, get_or-set_other, arith, ℤ, pos, ◌+ℤ◌, ◌-ℤ◌}
-use Rattle.std.specs.Prelude.{IfOk, ◌&&◌, if◌then◌else◌}
+use Rattle.std.specs.Prelude.{◌&&◌, if◌then◌else◌}
 use Rattle.std.proofs.lemmas.Int.{ints}
 use Rattle.pbd_num.specs.declared.Vec3.{Vec3}
-use Rattle.pbd_num.specs.Vectors.{plus, is_within}
+use Rattle.pbd_num.specs.Vectors.{plus}
 use Rattle.pbd_world.specs.declared.parts.Particle.{Particle}
 use Rattle.pbd_world.specs.declared.bond.Bond.{Bond}
 use Rattle.pbd_world.specs.declared.bond.Shift.{Shift}
-use Rattle.pbd_world.specs.declared.bond.Correction.TheVariants.{Slack, Leaves, Moves}
 use Rattle.pbd_world.specs.declared.totals.Class.{Class}
 use Rattle.pbd_world.specs.declared.totals.Class.TheVariants as classes
 use Rattle.pbd_world.specs.Ledger.{Sum, Ledger, sum_plus, both_sums, added, booked, all_totals}
 use Rattle.pbd_world.specs.Particles.{Motion, velocity, particle_at, placed}
 use Rattle.pbd_world.specs.Momentum.{momentum, IsBalanced}
-use Rattle.pbd_world.specs.Bonds.{end_of, is_slack, shift_of, correction_of, entries_of, class_of, corrected, one}
+use Rattle.pbd_world.specs.Bonds.{entries_of, class_of, one}
 use Rattle.pbd_world.proofs.MomentumLemmas.{same_sum, part_by, momentum_set, added_all}
 
 -- ---- another place for one particle
@@ -116,21 +115,3 @@ balanced_moves o m bond s ha hb apart e1 e2 balance =
     ∙ ap (with_moves p q s.first_move s.second_move) balance
     ∙ moves_under p q s.first_move s.second_move o (all_totals m.totals)
     ∙ ap (both_sums o) (sym (booked_moves p q (class_of bond) s m.totals))
-
--- what a bond does, as the tests on it say
-by_tests : (o : Sum) (m : Motion) (n : ℕ) (bond : Bond) (s : Shift) (slack inside : Bool) → Balances o m
-    → momentum (placed (placed m.particles bond.a s.first) bond.b s.second) ≡ both_sums o (all_totals (booked m.totals (entries_of (particle_at m.particles bond.a).held (particle_at m.particles bond.b).held (class_of bond) s)))
-    → IfOk (corrected n bond (if slack then Slack else (if inside then Moves s else Leaves)) m) (Balances o)
-by_tests o m n bond s true inside balance moved = balance
-by_tests o m n bond s false true balance moved = moved
-by_tests o m n bond s false false balance moved = tt
-
--- one bond keeps the balance
-pub one-balanced : (limit : ℤ) (bond : ℕ → Bond) (n : ℕ) (o : Sum) (m : Motion) → (bond n).a < length m.particles → (bond n).b < length m.particles → (bond n).b ≢ (bond n).a → Balances o m → IfOk (one limit bond n m) (Balances o)
-unfolding one correction_of shift_of
-one-balanced limit bond n o m ha hb apart balance =
-    let p = end_of (particle_at m.particles (bond n).a) in
-    let q = end_of (particle_at m.particles (bond n).b) in
-    let s = shift_of p q (bond n) in
-    by_tests o m n (bond n) s (is_slack p q (bond n)) (is_within limit s.first && is_within limit s.second) balance
-    (balanced_moves o m (bond n) s ha hb apart refl refl balance)

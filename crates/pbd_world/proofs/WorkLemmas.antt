@@ -254,9 +254,3 @@ none_looked w e = finding_is w ∙ ap (λ (t : ℤ). if unsigned_abs t == 0 then
 
 pub none_projected : (lanes : ℕ) (w : World) → 0 < lanes → w.thickness ≡ pos 0 → contacts_work lanes (found_in w) ≡ 0
 none_projected lanes w some e = omega (arith, contacts_each lanes (found_in w) some, ap (λ (c : List (ℕ × ℕ)). length c) (none_found w e))
-
--- ---- for the code
-
-pub found_is : (w : World) (m : Motion) → predict w ≡ Ok m → found_in w ≡ contacts_of w.thickness w.links m.particles
-unfolding found_in
-found_is w m e = ap (λ (r : Result Motion ℕ). found_after w r) e
