@@ -263,6 +263,14 @@ impl Colouring {
         self.live.as_slice()[i as usize]
     }
 
+    /// Which of the pairs are live, in their order.
+    pub fn live(&self) -> &[bool]
+        ensures value { result.now ≡ self.now.live }
+        ensures length { length result.now ≡ length self.now.pairs }
+    {
+        self.live.as_slice()
+    }
+
     /// The number of live pairs.
     pub fn live_count(&self) -> u32
         ensures { result ≡ count_by (λ b. b) self.now.live }

@@ -4,6 +4,8 @@
 ghost use Rattle.std.specs.Prelude.{◌≡◌, ℕ, ◌<◌, ◌&&◌, if◌then◌else◌, position, IfSome};
 ghost use Rattle.pbd_lanes.specs.Lane.{lane, is_set, lanes_of};
 
+mod arithmetic;
+
 use std::marker::Model;
 
 /// L numbers, which contracts see as a list of L.

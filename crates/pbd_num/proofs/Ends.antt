@@ -3,10 +3,10 @@ use Rattle.std.proofs.Common.{◌≡◌, ℕ, suc, zero, ◌+◌, ◌<◌, refl,
 use Rattle.std.proofs.lemmas.Int.{ints}
 use Rattle.pbd_num.specs.declared.Vec3.{Vec3}
 use Rattle.pbd_num.specs.Rounding.{rdiv}
-use Rattle.pbd_num.specs.Vectors.{on_axes, minus, opposite, length_of, zero_vector}
+use Rattle.pbd_num.specs.Vectors.{on_axes, opposite, length_of, zero_vector}
 use Rattle.pbd_num.specs.PairMove.{along, share_of, corrections, shares, pair_moves}
 use Rattle.pbd_num.proofs.Signs.{share_half, share_all, share_none, times_zero, rdiv_zero}
-use Rattle.pbd_num.proofs.Lengths.{pair_moves-some}
+use Rattle.pbd_num.proofs.Ways.{along-some}
 
 -- the parts f / 512 of the correction of a vector of length len
 abbrev pub parts_of : Vec3 → ℤ → ℤ → ℤ → Vec3
@@ -67,12 +67,17 @@ second_move d parts move rest first (pos (suc n)) k f w is free held =
 second_move d parts move rest first (negsuc n) k f w is free held = let low = w.second_low in absurd (omega (arith, ints))
 
 -- both moves
-pub both_moves : (a b parts first_parts first_move second_move : Vec3) (len rest first second k f : ℤ) → len ≡ pos (length_of (minus a b)) → pos 0 <ℤ len → Even first second k f → parts ≡ parts_of (minus a b) len rest f → first_parts ≡ opposite parts → (pos 0 <ℤ first → first_move ≡ first_parts) → (first ≤ℤ pos 0 → first_move ≡ zero_vector) → (pos 0 <ℤ second → second_move ≡ parts) → (second ≤ℤ pos 0 → second_move ≡ zero_vector) → (first_move, second_move) ≡ pair_moves a b rest k first second
-both_moves a b parts first_parts move_a move_b len rest first second k f is some w parted turned free_a held_a free_b held_b =
-    let parted' = parted ∙ ap (λ l. parts_of (minus a b) l rest f) is in
-    let e1 = first_move (minus a b) parts first_parts move_a rest first second k f w parted' turned free_a held_a in
-    let e2 = second_move (minus a b) parts move_b rest first second k f w parted' free_b held_b in
-    (λ i. (e1 i, e2 i)) ∙ sym (pair_moves-some a b rest k first second (omega (arith, ints)) w.some)
+pub both_moves : (way parts first_parts first_move second_move : Vec3) (len rest first second k f : ℤ)
+    → len ≡ pos (length_of way) → pos 0 <ℤ len → Even first second k f
+    → parts ≡ parts_of way len rest f → first_parts ≡ opposite parts
+    → (pos 0 <ℤ first → first_move ≡ first_parts) → (first ≤ℤ pos 0 → first_move ≡ zero_vector)
+    → (pos 0 <ℤ second → second_move ≡ parts) → (second ≤ℤ pos 0 → second_move ≡ zero_vector)
+    → (first_move, second_move) ≡ pair_moves way zero_vector rest k first second
+both_moves way parts first_parts move_a move_b len rest first second k f is some w parted turned free_a held_a free_b held_b =
+    let parted' = parted ∙ ap (λ l. parts_of way l rest f) is in
+    let e1 = first_move way parts first_parts move_a rest first second k f w parted' turned free_a held_a in
+    let e2 = second_move way parts move_b rest first second k f w parted' free_b held_b in
+    (λ i. (e1 i, e2 i)) ∙ sym (along-some way rest k first second (omega (arith, ints)) w.some)
 
 -- no move where the factor is 0
 pub part_of_none : (s f part : ℤ) → f ≡ pos 0 → part ≡ rdiv (s *ℤ f) (pos 512) → part ≡ pos 0

@@ -1,5 +1,5 @@
 -- What the exact tests of guesses say.
-use Rattle.std.proofs.Common.{◌≡◌, ℕ, suc, zero, ◌+◌, ◌*◌, ◌/◌, ◌-◌, ◌<◌, ◌≤◌, ◌^◌, ap, sym, arith, pos, negsuc, ℤ, neg_ℤ, ◌+ℤ◌, ◌-ℤ◌, ◌*ℤ◌, ◌<ℤ◌, ◌≤ℤ◌, unsigned_abs}
+use Rattle.std.proofs.Common.{◌≡◌, false, ℕ, suc, zero, ◌+◌, ◌*◌, ◌/◌, ◌-◌, ◌<◌, ◌≤◌, ◌^◌, ap, sym, arith, pos, negsuc, ℤ, neg_ℤ, ◌+ℤ◌, ◌-ℤ◌, ◌*ℤ◌, ◌<ℤ◌, ◌≤ℤ◌, unsigned_abs}
 use Rattle.std.specs.Prelude.{IsTrue, int_le, int_lt}
 use Rattle.std.proofs.lemmas.Bool.Decides.{nat_tests}
 use Rattle.std.proofs.lemmas.Int.{ints}
@@ -10,6 +10,9 @@ use Rattle.pbd_num.proofs.RoundingLemmas.{root_is, rdiv-neg}
 -- what tests say
 pub at_most : (a b : ℤ) → IsTrue (int_le a b) → a ≤ℤ b
 at_most a b h = grind (arith, ints, nat_tests)
+
+pub beyond : (a b : ℤ) → int_le a b ≡ false → b <ℤ a
+beyond a b h = grind (arith, ints, nat_tests)
 
 pub less : (a b : ℤ) → IsTrue (int_lt a b) → a <ℤ b
 less a b h = grind (arith, ints, nat_tests)

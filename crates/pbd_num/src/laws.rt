@@ -2,7 +2,7 @@
 ghost use Rattle.std.specs.Prelude.{◌≡◌, ℕ, ◌+◌, ◌*◌, ◌≤◌, ◌<◌, ℤ, pos, neg_ℤ, ◌<ℤ◌, unsigned_abs};
 ghost use Rattle.pbd_num.specs.declared.Vec3.{Vec3};
 ghost use Rattle.pbd_num.specs.Rounding.{rdiv, root};
-ghost use Rattle.pbd_num.specs.Vectors.{opposite, squared_length};
+ghost use Rattle.pbd_num.specs.Vectors.{minus, opposite, squared_length, zero_vector};
 ghost use Rattle.pbd_num.specs.PairMove.{pair_moves};
 
 /// Rounding treats both signs alike.
@@ -28,4 +28,10 @@ pub fn axes_are_within_the_length()
 pub fn equal_weights_move_oppositely()
     ensures { (a b : Vec3) (rest k w : ℤ)
         → (pair_moves a b rest k w w).0 ≡ opposite (pair_moves a b rest k w w).1 }
+{}
+
+/// The way between two ends says how they move, wherever they are.
+pub fn moves_go_by_the_way()
+    ensures { (a b : Vec3) (rest k wa wb : ℤ)
+        → pair_moves a b rest k wa wb ≡ pair_moves (minus a b) zero_vector rest k wa wb }
 {}

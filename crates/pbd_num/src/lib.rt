@@ -3,24 +3,30 @@
 
 ghost use Rattle.std.specs.Prelude.{◌≡◌, ◌↔◌, ◌≤◌, ◌<◌, ◌^◌, ◌+◌, ◌*◌, pos, ◌-ℤ◌, ◌*ℤ◌, ◌<ℤ◌, ◌≤ℤ◌, IsTrue, unsigned_abs};
 ghost use Rattle.pbd_num.specs.Rounding.{rdiv as rounded, root as whole_root};
-ghost use Rattle.pbd_num.specs.Vectors.{Within, minus, squared_length, length_of, opposite, is_axis_within, is_within};
+ghost use Rattle.pbd_num.specs.Vectors.{Within, minus, squared_length, length_of, opposite, zero_vector, is_axis_within, is_within};
 ghost use Rattle.pbd_num.specs.PairMove.{share_of, along, corrections, shares, pair_moves};
 
 mod laws;
 mod near;
+mod row;
 mod tried;
 mod vectors;
 
 pub use laws::{
-    axes_are_within_the_length, equal_weights_move_oppositely, roots_are_greatest, rounding_is_odd,
+    axes_are_within_the_length, equal_weights_move_oppositely, moves_go_by_the_way,
+    roots_are_greatest, rounding_is_odd,
 };
 use near::near_root;
+pub use row::Row;
 use tried::is_root;
 pub use tried::{Draw, TriedMoves, Weights, try_moves};
 pub use vectors::square;
 
 /// The greatest size of a coordinate, in units of 1/65,536 metre.
 pub const RANGE: i64 = 536_870_912;
+
+/// How many constraints go through short loops together at most.
+pub const CHUNK: usize = 128;
 
 /// Three whole numbers: a place or a way, in units of 1/65,536 metre.
 #[derive(Clone, Copy, Debug, PartialEq, Eq)]
@@ -211,6 +217,60 @@ fn share(s: Vec3, k: i64, w: i64, total: i64) -> Vec3
     }
 }
 
+/// The moves of two ends whose way is `way`, `len` long, by divisions.
+#[inline(never)]
+fn divided_moves(way: Vec3, len: i64, draw: Draw, weights: Weights) -> (Vec3, Vec3)
+    requires way { Within (2 ^ 30) way }
+    requires length { len ≡ pos (length_of way) }
+    requires rest_low { pos 0 ≤ℤ draw.rest }
+    requires rest_high { draw.rest ≤ℤ pos (2 ^ 31) }
+    requires stiffness { unsigned_abs draw.k ≤ 256 }
+    requires first_low { pos 0 ≤ℤ weights.first }
+    requires first_high { weights.first ≤ℤ pos 65535 }
+    requires second_low { pos 0 ≤ℤ weights.second }
+    requires second_high { weights.second ≤ℤ pos 65535 }
+    ensures moves { result ≡ pair_moves way zero_vector draw.rest draw.k weights.first weights.second }
+    ensures first_size { Within (2 ^ 31) result.0 }
+    ensures second_size { Within (2 ^ 31) result.1 }
+{
+    let total = weights.first + weights.second;
+    if len == 0 || total == 0 {
+        return (Vec3::ZERO, Vec3::ZERO);
+    }
+    let s = correction(way, len, draw.rest);
+    let first = share(s, draw.k, weights.first, total);
+    let second = share(s, draw.k, weights.second, total);
+    (first.opposite(), second)
+}
+
+/// The moves of two ends by the way from the second to the first: as [`pair_move`] gives them where they are nearer than
+/// `draw.reach`, and none elsewhere.
+pub fn moves_along(way: Vec3, draw: Draw, weights: Weights) -> (Vec3, Vec3)
+    requires way { Within (2 ^ 30) way }
+    requires rest_low { pos 0 ≤ℤ draw.rest }
+    requires rest_high { draw.rest ≤ℤ pos (2 ^ 31) }
+    requires stiffness { unsigned_abs draw.k ≤ 256 }
+    requires first_low { pos 0 ≤ℤ weights.first }
+    requires first_high { weights.first ≤ℤ pos 65535 }
+    requires second_low { pos 0 ≤ℤ weights.second }
+    requires second_high { weights.second ≤ℤ pos 65535 }
+    ensures moves { pos (length_of way) <ℤ draw.reach
+        → result ≡ pair_moves way zero_vector draw.rest draw.k weights.first weights.second }
+    ensures rests { draw.reach ≤ℤ pos (length_of way) → result ≡ (zero_vector, zero_vector) }
+    ensures first_size { Within (2 ^ 31) result.0 }
+    ensures second_size { Within (2 ^ 31) result.1 }
+{
+    let tried = try_moves(way, draw, weights);
+    if tried.right {
+        return (tried.first, tried.second);
+    }
+    let len = way.length();
+    if draw.reach <= len {
+        return (Vec3::ZERO, Vec3::ZERO);
+    }
+    divided_moves(way, len, draw, weights)
+}
+
 /// The moves of two ends toward the distance `rest`, with stiffness k / 256: the distance correction
 /// of Müller and others 2007, each step of it rounded. A weight is an inverse mass, 0 where an end is
 /// held. Nothing moves where the ends lie together or both weights are 0.
@@ -238,18 +298,7 @@ pub fn pair_move(a: Vec3, b: Vec3, rest: i64, k: i64, wa: i64, wb: i64) -> (Vec3
         first: wa,
         second: wb,
     };
-    let tried = try_moves(a, b, draw, weights);
-    if tried.right {
-        return (tried.first, tried.second);
-    }
-    let d = a.minus(b);
-    let len = d.length();
-    let total = wa + wb;
-    if len == 0 || total == 0 {
-        return (Vec3::ZERO, Vec3::ZERO);
-    }
-    let s = correction(d, len, rest);
-    (share(s, k, wa, total).opposite(), share(s, k, wb, total))
+    moves_along(a.minus(b), draw, weights)
 }
 
 /// The distance of two places in range, rounded down.

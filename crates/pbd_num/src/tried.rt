@@ -4,7 +4,7 @@
 ghost use Rattle.std.specs.Prelude.{◌≡◌, ◌<◌, ◌≤◌, ◌^◌, ◌+◌, ◌-◌, ◌*◌, ◌/◌, pos, ◌+ℤ◌, ◌-ℤ◌, ◌*ℤ◌, ◌<ℤ◌, ◌≤ℤ◌, IsTrue, unsigned_abs, FitsSigned};
 ghost use Rattle.std.specs.Int.{w32};
 ghost use Rattle.pbd_num.specs.Rounding.{rdiv as rounded, root as whole_root};
-ghost use Rattle.pbd_num.specs.Vectors.{Within, minus, opposite, length_of, zero_vector};
+ghost use Rattle.pbd_num.specs.Vectors.{Within, opposite, length_of, zero_vector};
 ghost use Rattle.pbd_num.specs.PairMove.{along, pair_moves};
 
 use crate::Vec3;
@@ -121,7 +121,7 @@ fn part_of_512(p: i64) -> i64
     (raise(p) as u64 / 512) as i64 - 4_294_967_296
 }
 
-/// The way between two places, axis by axis.
+/// A way, axis by axis.
 #[derive(Clone, Copy)]
 struct Way {
     x: i32,
@@ -130,30 +130,24 @@ struct Way {
 }
 
 #[inline(always)]
-fn gap(a: i64, b: i64) -> i32
-    requires a { unsigned_abs a ≤ 2 ^ 29 }
-    requires b { unsigned_abs b ≤ 2 ^ 29 }
-    ensures value { result ≡ a -ℤ b }
-    ensures size { unsigned_abs result ≤ 2 ^ 30 }
+fn short(axis: i64) -> i32
+    requires { unsigned_abs axis ≤ 2 ^ 30 }
+    ensures { result ≡ axis }
 {
-    (a - b) as i32
+    axis as i32
 }
 
 #[inline(always)]
-fn way_between(a: Vec3, b: Vec3) -> Way
-    requires a { Within (2 ^ 29) a }
-    requires b { Within (2 ^ 29) b }
-    ensures x { result.x ≡ a.x -ℤ b.x }
-    ensures y { result.y ≡ a.y -ℤ b.y }
-    ensures z { result.z ≡ a.z -ℤ b.z }
-    ensures x_size { unsigned_abs result.x ≤ 2 ^ 30 }
-    ensures y_size { unsigned_abs result.y ≤ 2 ^ 30 }
-    ensures z_size { unsigned_abs result.z ≤ 2 ^ 30 }
+fn short_way(way: Vec3) -> Way
+    requires { Within (2 ^ 30) way }
+    ensures x { result.x ≡ way.x }
+    ensures y { result.y ≡ way.y }
+    ensures z { result.z ≡ way.z }
 {
     Way {
-        x: gap(a.x, b.x),
-        y: gap(a.y, b.y),
-        z: gap(a.z, b.z),
+        x: short(way.x),
+        y: short(way.y),
+        z: short(way.z),
     }
 }
 
@@ -319,12 +313,11 @@ fn drawn(length: i64, draw: Draw) -> i64
     if length < draw.reach { draw.k } else { 0 }
 }
 
-/// The moves of two ends toward the distance `draw.rest`, as [`crate::pair_move`] gives them where they are nearer than
-/// `draw.reach`, and none elsewhere: guessed, and tested.
+/// The moves of two ends by the way from the second to the first, as [`crate::moves_along`] gives them: guessed, and
+/// tested.
 #[inline(always)]
-pub fn try_moves(a: Vec3, b: Vec3, draw: Draw, weights: Weights) -> TriedMoves
-    requires a { Within (2 ^ 29) a }
-    requires b { Within (2 ^ 29) b }
+pub fn try_moves(way: Vec3, draw: Draw, weights: Weights) -> TriedMoves
+    requires way { Within (2 ^ 30) way }
     requires rest_low { pos 0 ≤ℤ draw.rest }
     requires rest_high { draw.rest ≤ℤ pos (2 ^ 31) }
     requires stiffness { unsigned_abs draw.k ≤ 256 }
@@ -332,9 +325,9 @@ pub fn try_moves(a: Vec3, b: Vec3, draw: Draw, weights: Weights) -> TriedMoves
     requires first_high { weights.first ≤ℤ pos 65535 }
     requires second_low { pos 0 ≤ℤ weights.second }
     requires second_high { weights.second ≤ℤ pos 65535 }
-    ensures length { IsTrue result.right → result.length ≡ pos (length_of (minus a b)) }
+    ensures length { IsTrue result.right → result.length ≡ pos (length_of way) }
     ensures moves { IsTrue result.right → result.length <ℤ draw.reach
-        → (result.first, result.second) ≡ pair_moves a b draw.rest draw.k weights.first weights.second }
+        → (result.first, result.second) ≡ pair_moves way zero_vector draw.rest draw.k weights.first weights.second }
     ensures first_rests { IsTrue result.right → draw.reach ≤ℤ result.length → result.first ≡ zero_vector }
     ensures second_rests { IsTrue result.right → draw.reach ≤ℤ result.length → result.second ≡ zero_vector }
     ensures first_held { weights.first ≡ pos 0 → result.first ≡ zero_vector }
@@ -343,7 +336,7 @@ pub fn try_moves(a: Vec3, b: Vec3, draw: Draw, weights: Weights) -> TriedMoves
     ensures first_size { Within (2 ^ 31) result.first }
     ensures second_size { Within (2 ^ 31) result.second }
 {
-    let way = way_between(a, b);
+    let way = short_way(way);
     let tried = way.try_length();
     let pull = pull_of(tried.near, tried.length, draw.rest);
     let factor = weights.factor(drawn(tried.length, draw));

@@ -6,6 +6,7 @@ ghost use Rattle.pbd_num.specs.Vectors.{Within, plus, minus, opposite, scaled, s
 use crate::{Vec3, rdiv, root};
 
 /// The square of a number.
+#[inline(always)]
 pub fn square(n: i64) -> i64
     requires { unsigned_abs n ≤ 2 ^ 31 }
     ensures { result ≡ pos (unsigned_abs n * unsigned_abs n) }

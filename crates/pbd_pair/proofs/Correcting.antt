@@ -30,7 +30,8 @@ booked_by p q b Slack t = t
 booked_by p q b Leaves t = t
 booked_by p q b (Moves s) t = booked t (entries_of p q (class_of b) s)
 
-pub corrected_stays : (n : ℕ) (b : Bond) (c : Correction) (m : Motion) → leaves_by c ≡ false → corrected n b c m ≡ Ok (record { particles = placed_by m.particles b c; totals = booked_by (particle_at m.particles b.a).held (particle_at m.particles b.b).held b c m.totals })
+pub corrected_stays : (n : ℕ) (b : Bond) (c : Correction) (m : Motion) → leaves_by c ≡ false → corrected n b c m ≡ Ok
+    (record { particles = placed_by m.particles b c; totals = booked_by (particle_at m.particles b.a).held (particle_at m.particles b.b).held b c m.totals })
 corrected_stays n b Slack m e = refl
 corrected_stays n b Leaves m e = cc
 corrected_stays n b (Moves s) m e = refl
@@ -42,10 +43,12 @@ corrected_leaves n b (Moves s) m e = cc
 
 -- ---- places within the limit, and the other parts
 
-pub inside-placed : (limit : ℤ) (ps : List Particle) (i : ℕ) (v : Vec3) → i < length ps → AreInside limit ps → Within (unsigned_abs limit) v → AreInside limit (placed ps i v)
+pub inside-placed : (limit : ℤ) (ps : List Particle) (i : ℕ) (v : Vec3) → i < length ps → AreInside limit ps → Within (unsigned_abs limit) v
+    → AreInside limit (placed ps i v)
 inside-placed limit ps i v within h w = record {
   each = λ k p. elim (cases_eq k i) [
-    | inl e ↦ (let is : (particle_at (placed ps i v) k).at ≡ v = ap (λ m. (particle_at (placed ps i v) m).at) e ∙ ap (λ (q : Particle). q.at) (placed_same ps i v within) in
+    | inl e ↦ (let is : (particle_at (placed ps i v) k).at ≡ v = ap (λ m. (particle_at (placed ps i v) m).at) e ∙ ap (λ (q : Particle). q.at)
+        (placed_same ps i v within) in
         subst (λ x. Within (unsigned_abs limit) x) (sym is) w)
     | inr n ↦ subst (λ (x : Particle). Within (unsigned_abs limit) x.at) (sym (placed_other ps i k v n)) (h.each k (omega (arith, length-placed ps i v)))
   ];
@@ -54,10 +57,12 @@ inside-placed limit ps i v within h w = record {
 pub fixed_parts-placed : (ps : List Particle) (i : ℕ) (v : Vec3) → fixed_parts (placed ps i v) ≡ fixed_parts ps
 fixed_parts-placed ps i v = map-set_same (λ (p : Particle). record p { at = zero_vector }) ps i (record (particle_at ps i) { at = v }) no_particle refl
 
-pub inside-placed_by : (limit : ℤ) (ps : List Particle) (b : Bond) (c : Correction) → b.a < length ps → b.b < length ps → IsSound limit c → AreInside limit ps → AreInside limit (placed_by ps b c)
+pub inside-placed_by : (limit : ℤ) (ps : List Particle) (b : Bond) (c : Correction) → b.a < length ps → b.b < length ps → IsSound limit c
+    → AreInside limit ps → AreInside limit (placed_by ps b c)
 inside-placed_by limit ps b Slack h k s i = i
 inside-placed_by limit ps b Leaves h k s i = i
-inside-placed_by limit ps b (Moves t) h k s i = inside-placed limit (placed ps b.a t.first) b.b t.second (omega (arith, length-placed ps b.a t.first)) (inside-placed limit ps b.a t.first h i s.first) s.second
+inside-placed_by limit ps b (Moves t) h k s i = inside-placed limit (placed ps b.a t.first) b.b t.second (omega (arith, length-placed ps b.a t.first))
+    (inside-placed limit ps b.a t.first h i s.first) s.second
 
 pub fixed-placed_by : (ps : List Particle) (b : Bond) (c : Correction) → fixed_parts (placed_by ps b c) ≡ fixed_parts ps
 fixed-placed_by ps b Slack = refl

@@ -39,7 +39,10 @@ module _ (limit : ℤ) (ps : List Particle) (low : pos 0 ≤ℤ limit) (h : IsTr
   at i q = all_at (is_placed limit) ps _ i h q
 
   pub are_inside : AreInside limit ps
-  are_inside = record { each = λ i q. let p = particle_at ps i in (within_facts limit p.at low).0 (left (is_within limit p.at) (nat_le 1 p.weight && nat_le p.weight 65535) (at i q)) }
+  are_inside = record {
+    each = λ i q. let p = particle_at ps i in (within_facts limit p.at low).0 (left (is_within limit p.at)
+        (nat_le 1 p.weight && nat_le p.weight 65535) (at i q));
+  }
 
   weighs : (i : ℕ) → i < length ps → IsTrue (nat_le 1 (particle_at ps i).weight && nat_le (particle_at ps i).weight 65535)
   weighs i q = let p = particle_at ps i in right (is_within limit p.at) (nat_le 1 p.weight && nat_le p.weight 65535) (at i q)
@@ -84,7 +87,11 @@ none_shared b c h =
     }
 
 pub batch_is : (limit : ℤ) (n : ℕ) (bonds : Bonds) (xs : List ℕ) → IsTrue (is_batch limit n bonds xs) → IsBatch limit n bonds xs
-batch_is limit n bonds [] h = record { numbers = λ i q. absurd (omega arith); bond = λ i q. absurd (omega arith); apart = record { each = λ i j p q. absurd (omega arith) } }
+batch_is limit n bonds [] h = record {
+  numbers = λ i q. absurd (omega arith);
+  bond = λ i q. absurd (omega arith);
+  apart = record { each = λ i j p q. absurd (omega arith) };
+}
 batch_is limit n bonds (x ∷ xs) h =
     let a = list_all (λ y. share_none (bond_of bonds x) (bond_of bonds y)) xs in
     let r = is_batch limit n bonds xs in
@@ -96,7 +103,8 @@ batch_is limit n bonds (x ∷ xs) h =
     (left a r h2)
     (batch_is limit n bonds xs (right a r h2))
   where
-    more : (limit : ℤ) (n : ℕ) (bonds : Bonds) (x : ℕ) (xs : List ℕ) → x < bond_count bonds → IsBond limit n (bond_of bonds x) → IsTrue (list_all (λ y. share_none (bond_of bonds x) (bond_of bonds y)) xs) → IsBatch limit n bonds xs → IsBatch limit n bonds (x ∷ xs)
+    more : (limit : ℤ) (n : ℕ) (bonds : Bonds) (x : ℕ) (xs : List ℕ) → x < bond_count bonds → IsBond limit n (bond_of bonds x)
+        → IsTrue (list_all (λ y. share_none (bond_of bonds x) (bond_of bonds y)) xs) → IsBatch limit n bonds xs → IsBatch limit n bonds (x ∷ xs)
     more limit n bonds x xs c b a r = record { numbers = numbers; bond = bond; apart = record { each = each } } where
       numbers : (i : ℕ) → i < length (x ∷ xs) → get_or (x ∷ xs) i 0 < bond_count bonds
       numbers zero q = c
@@ -108,7 +116,8 @@ batch_is limit n bonds (x ∷ xs) h =
 
       each : (i j : ℕ) → i < j → j < length (x ∷ xs) → ShareNone (bond_of bonds (get_or (x ∷ xs) i 0)) (bond_of bonds (get_or (x ∷ xs) j 0))
       each i zero p q = absurd (omega arith)
-      each zero (suc j) p q = none_shared (bond_of bonds x) (bond_of bonds (get_or xs j 0)) (all_at (λ y. share_none (bond_of bonds x) (bond_of bonds y)) xs 0 j a (omega arith))
+      each zero (suc j) p q = none_shared (bond_of bonds x) (bond_of bonds (get_or xs j 0)) (all_at (λ y. share_none (bond_of bonds x)
+          (bond_of bonds y)) xs 0 j a (omega arith))
       each (suc i) (suc j) p q = r.apart.each i j (omega arith) (omega arith)
 
 -- totals of zero have room

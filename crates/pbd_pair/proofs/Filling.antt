@@ -1,40 +1,22 @@
--- Lanes filled one by one.
-use Rattle.std.proofs.Common.{◌≡◌, ℕ, ◌+◌, ◌<◌, sym, arith, inl, inr, subst, ◌∙◌, Bool, true, ℤ}
-use Rattle.std.proofs.lemmas.Bool.{false≢true}
+-- Columns that are filled from the front.
+use Rattle.std.proofs.Common.{◌≡◌, ℕ, ◌+◌, ◌<◌, List, length, get_or, slice_set, sym, ◌∙◌, arith, inl, inr, subst}
+use Rattle.std.proofs.lemmas.List.{length-set, get_or-set_same, get_or-set_other}
 use Rattle.pbd_store.proofs.Scattering.{split_below}
-use Rattle.pbd_num.specs.declared.Vec3.{Vec3}
-use Rattle.pbd_store.specs.declared.lanes3.Lanes3.{Lanes3}
-use Rattle.pbd_world.specs.declared.bond.Shift.{Shift}
-use Rattle.pbd_world.specs.declared.bond.Correction.{Correction}
-use Rattle.pbd_world.specs.declared.bond.Correction.TheVariants.{Slack, Leaves, Moves}
-use Rattle.pbd_pair.specs.declared.laid.BlockMoves.{BlockMoves}
-use Rattle.pbd_pair.specs.declared.laid.LaneMove.{LaneMove}
-use Rattle.pbd_pair.specs.Bonds.{IsSound, IsSoundShift}
-use Rattle.pbd_pair.specs.Lanes.{lane_in, place_in, Lays}
 
--- what holds below j and of j
-pub below_more : (P : ℕ → Type 0) (j : ℕ) → P j → ((k : ℕ) → k < j → P k) → (k : ℕ) → k < j + 1 → P k
-below_more P j is before k q = elim (split_below k j q) [
-  | inl b ↦ before k b
-  | inr e ↦ subst P (sym e) is
-]
+-- a column of 128, of which the first j are what P says
+pub record Filled {A : Type 0} (d : A) (P : ℕ → A → Type 0) (j : ℕ) (xs : List A) : Type 0 where
+  pub whole : length xs ≡ 128
+  pub below : (k : ℕ) → k < j → P k (get_or xs k d)
 
--- what the first j lanes are, lane j is too
-pub filled_more : {l : ℕ} (P : ℕ → LaneMove → Type 0) (old new : BlockMoves l) (j : ℕ) (lane : LaneMove) → lane_in new j ≡ lane → ((k : ℕ) → (k ≡ j → ⊥) → lane_in new k ≡ lane_in old k) → P j lane → ((k : ℕ) → k < j → P k (lane_in old k)) → (k : ℕ) → k < j + 1 → P k (lane_in new k)
-filled_more P old new j lane here others is before k q = elim (split_below k j q) [
-  | inl b ↦ subst (P k) (sym (others k (λ e. absurd (omega (arith, b, e))))) (before k b)
-  | inr e ↦ subst (λ (x : ℕ). P x (lane_in new x)) (sym e) (subst (P j) (sym here) is)
-]
+pub filled_none : {A : Type 0} {d : A} {P : ℕ → A → Type 0} {xs : List A} → length xs ≡ 128 → Filled d P 0 xs
+filled_none {A} {d} {P} {xs} whole = record { whole = whole; below = λ k h. absurd (omega arith) }
 
--- the same of places
-pub placed_more : {l : ℕ} (f : ℕ → Vec3) (old new : Lanes3 l) (j : ℕ) (place : Vec3) → place_in new j ≡ place → ((k : ℕ) → (k ≡ j → ⊥) → place_in new k ≡ place_in old k) → place ≡ f j → ((k : ℕ) → k < j → place_in old k ≡ f k) → (k : ℕ) → k < j + 1 → place_in new k ≡ f k
-placed_more f old new j place here others is before k q = elim (split_below k j q) [
-  | inl b ↦ others k (λ e. absurd (omega (arith, b, e))) ∙ before k b
-  | inr e ↦ subst (λ (x : ℕ). place_in new x ≡ f x) (sym e) (here ∙ is)
-]
-
--- a lane that moves is sound, where its correction is
-pub moved_is_sound : (limit : ℤ) (c : Correction) (m o : Bool) (t : Shift) → Lays c m o t → IsSound limit c → m ≡ true → IsSoundShift limit t
-moved_is_sound limit Slack m o t l s e = absurd (false≢true (sym l.0 ∙ e))
-moved_is_sound limit Leaves m o t l s e = absurd (false≢true (sym l.0 ∙ e))
-moved_is_sound limit (Moves v) m o t l s e = subst (λ (x : Shift). IsSoundShift limit x) (sym l.1.1) s
+pub filled_more : {A : Type 0} {d : A} {P : ℕ → A → Type 0} {j : ℕ} {xs : List A} (v : A) → j < 128 → P j v → Filled d P j xs → Filled d P (j + 1)
+    (slice_set xs j v)
+filled_more {A} {d} {P} {j} {xs} v room is h = record {
+  whole = length-set xs j v ∙ h.whole;
+  below = λ k q. elim (split_below k j q) [
+    | inl b ↦ subst (P k) (sym (get_or-set_other xs j k v d (λ e. absurd (omega (arith, b, e))))) (h.below k b)
+    | inr e ↦ subst (λ (n : ℕ). P n (get_or (slice_set xs j v) n d)) (sym e) (subst (P j) (sym (get_or-set_same xs j v d (omega (arith, h.whole)))) is)
+  ];
+}

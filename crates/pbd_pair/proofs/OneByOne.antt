@@ -11,15 +11,18 @@ module _ (limit : ℤ) (bond : ℕ → Bond) (batch : List ℕ) (i : ℕ) (h : i
   next m = ap (λ (b : List ℕ). projected limit bond b m) (drop-cons batch i 0 h)
 
   -- where the bond stays
-  pub turn_on : (m m' : Motion) → one limit bond (get_or batch i 0) m ≡ Ok m' → projected limit bond (drop (i + 1) batch) m' ≡ projected limit bond (drop i batch) m
-  turn_on m m' e = ap (λ (k : ℕ). projected limit bond (drop k batch) m') (add-one i) ∙ sym (next m ∙ ap (λ (r : Result Motion ℕ). r >>= projected limit bond (drop (suc i) batch)) e)
+  pub turn_on : (m m' : Motion) → one limit bond (get_or batch i 0) m ≡ Ok m' → projected limit bond (drop (i + 1) batch) m' ≡ projected limit bond
+      (drop i batch) m
+  turn_on m m' e = ap (λ (k : ℕ). projected limit bond (drop k batch) m') (add-one i) ∙ sym (next m
+      ∙ ap (λ (r : Result Motion ℕ). r >>= projected limit bond (drop (suc i) batch)) e)
 
   -- where it leaves the limit
   pub turn_out : (m : Motion) (n : ℕ) → one limit bond (get_or batch i 0) m ≡ Err n → projected limit bond (drop i batch) m ≡ Err n
   turn_out m n e = next m ∙ ap (λ (r : Result Motion ℕ). r >>= projected limit bond (drop (suc i) batch)) e
 
 -- bond n, given what it is, at an equal limit
-pub one_is : {l : ℤ} (limit : ℤ) (bond : ℕ → Bond) (n : ℕ) (b : Bond) (m : Motion) (r : Result Motion ℕ) → l ≡ limit → b ≡ bond n → corrected n b (correction_at l m.particles b) m ≡ r → one limit bond n m ≡ r
+pub one_is : {l : ℤ} (limit : ℤ) (bond : ℕ → Bond) (n : ℕ) (b : Bond) (m : Motion) (r : Result Motion ℕ) → l ≡ limit → b ≡ bond n
+    → corrected n b (correction_at l m.particles b) m ≡ r → one limit bond n m ≡ r
 unfolding one
 one_is limit bond n b m r el eb h = (λ i. corrected n (sym eb i) (correction_at (sym el i) m.particles (sym eb i)) m) ∙ h
 
@@ -29,15 +32,20 @@ one_is limit bond n b m r el eb h = (λ i. corrected n (sym eb i) (correction_at
 pub in_turn-append : {A S E : Type 0} (f : A → S → Result S E) (xs ys : List A) (s : S) → in_turn f (xs ++ ys) s ≡ (in_turn f xs s >>= in_turn f ys)
 in_turn-append f [] ys s = refl
 in_turn-append {A} {S} {E} f (x ∷ xs) ys s = after (λ t. in_turn-append f xs ys t) (f x s) where
-  after : ((t : S) → in_turn f (xs ++ ys) t ≡ (in_turn f xs t >>= in_turn f ys)) → (r : Result S E) → (r >>= in_turn f (xs ++ ys)) ≡ ((r >>= in_turn f xs) >>= in_turn f ys)
+  after : ((t : S) → in_turn f (xs ++ ys) t ≡ (in_turn f xs t >>= in_turn f ys)) → (r : Result S E) → (r >>= in_turn f (xs ++ ys)) ≡
+      ((r >>= in_turn f xs) >>= in_turn f ys)
   after h (Ok t) = h t
   after h (Err e) = refl
 
-parted : (limit : ℤ) (bond : ℕ → Bond) (k : ℕ) (xs : List ℕ) (m : Motion) → projected limit bond xs m ≡ (projected limit bond (take k xs) m >>= projected limit bond (drop k xs))
-parted limit bond k xs m = sym (ap (λ (b : List ℕ). projected limit bond b m) (take-append-drop k xs)) ∙ in_turn-append (one limit bond) (take k xs) (drop k xs) m
+parted : (limit : ℤ) (bond : ℕ → Bond) (k : ℕ) (xs : List ℕ) (m : Motion) → projected limit bond xs m ≡ (projected limit bond
+    (take k xs) m >>= projected limit bond (drop k xs))
+parted limit bond k xs m = sym (ap (λ (b : List ℕ). projected limit bond b m) (take-append-drop k xs)) ∙ in_turn-append (one limit bond) (take k xs)
+    (drop k xs) m
 
-pub block_done : (limit : ℤ) (bond : ℕ → Bond) (k : ℕ) (xs : List ℕ) (m m' : Motion) → projected limit bond (take k xs) m ≡ Ok m' → projected limit bond (drop k xs) m' ≡ projected limit bond xs m
+pub block_done : (limit : ℤ) (bond : ℕ → Bond) (k : ℕ) (xs : List ℕ) (m m' : Motion) → projected limit bond (take k xs) m ≡ Ok m' → projected limit bond
+    (drop k xs) m' ≡ projected limit bond xs m
 block_done limit bond k xs m m' e = sym (parted limit bond k xs m ∙ ap (λ (r : Result Motion ℕ). r >>= projected limit bond (drop k xs)) e)
 
-pub block_leaves : (limit : ℤ) (bond : ℕ → Bond) (k : ℕ) (xs : List ℕ) (m : Motion) (n : ℕ) → projected limit bond (take k xs) m ≡ Err n → projected limit bond xs m ≡ Err n
+pub block_leaves : (limit : ℤ) (bond : ℕ → Bond) (k : ℕ) (xs : List ℕ) (m : Motion) (n : ℕ) → projected limit bond (take k xs) m ≡ Err n
+    → projected limit bond xs m ≡ Err n
 block_leaves limit bond k xs m n e = parted limit bond k xs m ∙ ap (λ (r : Result Motion ℕ). r >>= projected limit bond (drop k xs)) e

@@ -1,31 +1,24 @@
--- What a block moves whose free ends move oppositely.
-use Rattle.std.proofs.Common.{◌≡◌, ℕ, zero, suc, ◌*◌, ◌<◌, ◌≤◌, ◌^◌, ℤ, pos, neg_ℤ, ◌+ℤ◌, List, Bool, true, false, not, cond, refl, ap, sym, ◌∙◌, arith, inl, inr}
+-- What bonds add to the ledger whose free ends move oppositely: the moves beside held ends alone.
+use Rattle.std.proofs.Common.{◌≡◌, ℕ, zero, suc, ◌<◌, ℤ, pos, neg_ℤ, ◌+ℤ◌, ◌-ℤ◌, List, Bool, true, false, refl, ap, sym, ◌∙◌, arith}
 use Rattle.std.proofs.lemmas.Int.{ints}
-use Rattle.std.proofs.lemmas.Bool.{cases_lt, cond-false}
 use Rattle.pbd_num.specs.declared.Vec3.{Vec3}
-use Rattle.pbd_num.specs.Vectors.{Within, plus, opposite, zero_vector}
-use Rattle.pbd_num.proofs.Sizes.{size-add}
+use Rattle.pbd_num.specs.Vectors.{plus, minus, opposite, zero_vector}
 use Rattle.pbd_world.specs.declared.bond.Shift.{Shift}
 use Rattle.pbd_world.specs.declared.totals.Class.{Class}
 use Rattle.pbd_world.specs.declared.totals.Class.TheVariants as classes
 use Rattle.pbd_world.specs.Ledger.{Sum, Ledger, Entry, sum_plus, added, booked}
 use Rattle.pbd_world.specs.Bonds.{entries_of}
-use Rattle.pbd_pair.specs.Lanes.{settled, moved_below, Opposed, Rests}
+use Rattle.pbd_pair.specs.Moves.{settled, moved_below}
+use Rattle.pbd_pair.proofs.ByWay.{added_nothing}
 
 then_both : (s v w : ℤ) → (s +ℤ v) +ℤ w ≡ s +ℤ (v +ℤ w)
 then_both s v w = omega (arith, ints)
-
-then_none : (s : ℤ) → s +ℤ pos 0 ≡ s
-then_none s = omega (arith, ints)
 
 none_left : (s v : ℤ) → (s +ℤ neg_ℤ v) +ℤ v ≡ s
 none_left s v = omega (arith, ints)
 
 sum_then : (s : Sum) (v w : Vec3) → sum_plus (sum_plus s v) w ≡ sum_plus s (plus v w)
 sum_then s v w = λ i. record { x = then_both s.x v.x w.x i; y = then_both s.y v.y w.y i; z = then_both s.z v.z w.z i }
-
-sum_none : (s : Sum) → sum_plus s zero_vector ≡ s
-sum_none s = λ i. record { x = then_none s.x i; y = then_none s.y i; z = then_none s.z i }
 
 sum_left : (s : Sum) (v : Vec3) → sum_plus (sum_plus s (opposite v)) v ≡ s
 sum_left s v = λ i. record { x = none_left s.x v.x i; y = none_left s.y v.y i; z = none_left s.z v.z i }
@@ -39,7 +32,7 @@ nothing_left t classes.Contact v = ap (λ (s : Sum). record t { contact = s }) (
 nothing_left t classes.Pin v = ap (λ (s : Sum). record t { pin = s }) (sum_left t.pin v)
 nothing_left t classes.Shape v = ap (λ (s : Sum). record t { shape = s }) (sum_left t.shape v)
 
-plus_opposite : (s v : Vec3) → plus s (plus (opposite v) v) ≡ s
+pub plus_opposite : (s v : Vec3) → plus s (plus (opposite v) v) ≡ s
 plus_opposite s v = λ i. record { x = back s.x v.x i; y = back s.y v.y i; z = back s.z v.z i } where
   back : (a b : ℤ) → a +ℤ (neg_ℤ b +ℤ b) ≡ a
   back a b = omega (arith, ints)
@@ -59,6 +52,17 @@ both_none s = λ i. record { x = back s.x i; y = back s.y i; z = back s.z i } wh
   back : (a : ℤ) → a +ℤ (pos 0 +ℤ pos 0) ≡ a
   back a = omega (arith, ints)
 
+pub minus_turned : (v w : Vec3) → minus v w ≡ plus (opposite w) v
+minus_turned v w = λ i. record { x = turn v.x w.x i; y = turn v.y w.y i; z = turn v.z w.z i } where
+  turn : (a b : ℤ) → a -ℤ b ≡ neg_ℤ b +ℤ a
+  turn a b = omega (arith, ints)
+
+-- two free ends move oppositely, and a held one stays
+pub record Opposed (first_held second_held : Bool) (t : Shift) : Type 0 where
+  pub both : first_held ≡ false → second_held ≡ false → t.first_move ≡ opposite t.second_move
+  pub first : first_held ≡ true → t.first_move ≡ zero_vector
+  pub second : second_held ≡ true → t.second_move ≡ zero_vector
+
 abbrev pinned : Ledger → Vec3 → Ledger
 pinned t v = record t { pin = sum_plus t.pin v }
 
@@ -66,69 +70,42 @@ pinned_then : (t : Ledger) (s v : Vec3) → added (pinned t s) classes.Pin v ≡
 pinned_then t s v = ap (λ (x : Sum). record t { pin = x }) (sum_then t.pin s v)
 
 -- one bond
-pinned_more : (t : Ledger) (s : Vec3) (class : Class) (p q : Bool) (m : Shift) → Opposed p q m → booked (pinned t s) (entries_of (not p) (not q) class m) ≡ pinned t (plus s (plus m.first_move m.second_move))
-pinned_more t s class true true m h =
-    let e = h.both_free refl refl in
+pinned_more : (t : Ledger) (s : Vec3) (class : Class) (p q : Bool) (m : Shift) → Opposed p q m → booked (pinned t s) (entries_of p q class m) ≡ pinned t
+    (plus s (plus m.first_move m.second_move))
+pinned_more t s class false false m h =
+    let e = h.both refl refl in
     ap (λ (v : Vec3). added (added (pinned t s) class v) class m.second_move) e ∙ nothing_left (pinned t s) class m.second_move
     ∙ ap (pinned t) (sym (ap (λ (v : Vec3). plus s (plus v m.second_move)) e ∙ plus_opposite s m.second_move))
-pinned_more t s class true false m h =
-    pinned_then t s m.first_move ∙ ap (pinned t) (sym (ap (λ (v : Vec3). plus s (plus m.first_move v)) (h.second_held refl) ∙ first_alone s m.first_move))
 pinned_more t s class false true m h =
-    pinned_then t s m.second_move ∙ ap (pinned t) (sym (ap (λ (v : Vec3). plus s (plus v m.second_move)) (h.first_held refl) ∙ second_alone s m.second_move))
-pinned_more t s class false false m h =
-    ap (pinned t) (sym ((λ i. plus s (plus (h.first_held refl i) (h.second_held refl i))) ∙ both_none s))
-
--- one bond more, which rests where it doesn't move
-pinned_next : (t u : Ledger) (s : Vec3) (class : Class) (p q : Bool) (m : Shift) (moves : Bool) → u ≡ pinned t s → Opposed p q m → (moves ≡ false → Rests m) → cond moves (booked u (entries_of (not p) (not q) class m)) u ≡ pinned t (plus s (plus m.first_move m.second_move))
-pinned_next t u s class p q m true e o r = ap (λ (x : Ledger). booked x (entries_of (not p) (not q) class m)) e ∙ pinned_more t s class p q m o
-pinned_next t u s class p q m false e o r =
-    let h = r refl in
-    e ∙ ap (pinned t) (sym ((λ i. plus s (plus (h.first i) (h.second i))) ∙ both_none s))
+    pinned_then t s m.first_move ∙ ap (pinned t) (sym (ap (λ (v : Vec3). plus s (plus m.first_move v)) (h.second refl) ∙ first_alone s m.first_move))
+pinned_more t s class true false m h =
+    pinned_then t s m.second_move ∙ ap (pinned t) (sym (ap (λ (v : Vec3). plus s (plus v m.second_move)) (h.first refl) ∙ second_alone s m.second_move))
+pinned_more t s class true true m h =
+    ap (pinned t) (sym ((λ i. plus s (plus (h.first refl i) (h.second refl i))) ∙ both_none s))
 
 -- all of them
-pub pinned_all : (t : Ledger) (class : ℕ → Class) (moving p q : ℕ → Bool) (m : ℕ → Shift) (n : ℕ) → ((k : ℕ) → k < n → Opposed (p k) (q k) (m k)) → ((k : ℕ) → k < n → moving k ≡ false → Rests (m k)) → settled moving (λ k. entries_of (not (p k)) (not (q k)) (class k) (m k)) n t ≡ added t classes.Pin (moved_below m n)
-pinned_all t class moving p q m zero o r = sym (ap (λ (s : Sum). record t { pin = s }) (sum_none t.pin))
-pinned_all t class moving p q m (suc n) o r =
-    pinned_next t (settled moving (λ k. entries_of (not (p k)) (not (q k)) (class k) (m k)) n t) (moved_below m n) (class n) (p n) (q n) (m n) (moving n)
-    (pinned_all t class moving p q m n (λ k l. o k (omega arith)) (λ k l. r k (omega arith))) (o n (omega arith)) (r n (omega arith))
+pub pinned_all : (t : Ledger) (class : ℕ → Class) (p q : ℕ → Bool) (m : ℕ → Shift) (n : ℕ) → ((k : ℕ) → k < n → Opposed (p k) (q k) (m k))
+    → settled (λ k. entries_of (p k) (q k) (class k) (m k)) n t ≡ added t classes.Pin (moved_below (λ k. plus (m k).first_move (m k).second_move) n)
+pinned_all t class p q m zero o = sym (added_nothing t classes.Pin)
+pinned_all t class p q m (suc n) o =
+    ap (λ (u : Ledger). booked u (entries_of (p n) (q n) (class n) (m n))) (pinned_all t class p q m n (λ k l. o k (omega arith)))
+    ∙ pinned_more t (moved_below (λ k. plus (m k).first_move (m k).second_move) n) (class n) (p n) (q n) (m n) (o n (omega arith))
 
--- lanes that don't move add nothing
-pub settled_past : (moving : ℕ → Bool) (entries : ℕ → List Entry) (n m : ℕ) (t : Ledger) → n ≤ m → ((k : ℕ) → n ≤ k → k < m → moving k ≡ false) → settled moving entries m t ≡ settled moving entries n t
-settled_past moving entries n zero t l h = let z : n ≡ 0 = omega arith in ap (λ x. settled moving entries x t) (sym z)
-settled_past moving entries n (suc m) t l h = elim (cases_lt n (suc m)) [
-  | inl q ↦ cond-false (moving m) (booked (settled moving entries m t) (entries m)) (settled moving entries m t) (h m (omega arith) (omega arith)) ∙ settled_past moving entries n m t (omega arith) (λ k a b. h k a (omega arith))
-  | inr q ↦ (let z : n ≡ suc m = omega arith in ap (λ x. settled moving entries x t) (sym z))
-]
+-- equal entries, and equal moves, one by one
+pub settled_same : (e f : ℕ → List Entry) (n : ℕ) (t : Ledger) → ((k : ℕ) → k < n → (u : Ledger) → booked u (e k) ≡ booked u (f k))
+    → settled e n t ≡ settled f n t
+settled_same e f zero t h = refl
+settled_same e f (suc n) t h =
+    ap (λ (u : Ledger). booked u (e n)) (settled_same e f n t (λ k p u. h k (omega arith) u)) ∙ h n (omega arith) (settled f n t)
 
-pub moved_past : (m : ℕ → Shift) (n l : ℕ) → n ≤ l → ((k : ℕ) → n ≤ k → k < l → Rests (m k)) → moved_below m l ≡ moved_below m n
-moved_past m n zero p h = let z : n ≡ 0 = omega arith in ap (moved_below m) (sym z)
-moved_past m n (suc l) p h = elim (cases_lt n (suc l)) [
-  | inl q ↦ (let r = h l (omega arith) (omega arith) in (λ i. plus (moved_below m l) (plus (r.first i) (r.second i))) ∙ both_none (moved_below m l) ∙ moved_past m n l (omega arith) (λ k a b. h k a (omega arith)))
-  | inr q ↦ (let z : n ≡ suc l = omega arith in ap (moved_below m) (sym z))
-]
-
--- how much n bonds move at most
-pub moved_short : (m : ℕ → Shift) (n : ℕ) → ((k : ℕ) → k < n → Within (2 ^ 31) (m k).first_move) → ((k : ℕ) → k < n → Within (2 ^ 31) (m k).second_move) → Within (n * 2 ^ 32) (moved_below m n)
-moved_short m zero h1 h2 = record { x = omega arith; y = omega arith; z = omega arith }
-moved_short m (suc n) h1 h2 =
-    let before = moved_short m n (λ k p. h1 k (omega arith)) (λ k p. h2 k (omega arith)) in
-    let s = moved_below m n in
-    let v = (m n).first_move in
-    let w = (m n).second_move in
-    let f = h1 n (omega arith) in
-    let g = h2 n (omega arith) in
-    record {
-      x = omega (arith, size-add s.x (v.x +ℤ w.x), size-add v.x w.x, before.x, f.x, g.x);
-      y = omega (arith, size-add s.y (v.y +ℤ w.y), size-add v.y w.y, before.y, f.y, g.y);
-      z = omega (arith, size-add s.z (v.z +ℤ w.z), size-add v.z w.z, before.z, f.z, g.z);
-    }
-
-pub moved_same : (m k : ℕ → Shift) (n : ℕ) → ((j : ℕ) → j < n → m j ≡ k j) → moved_below m n ≡ moved_below k n
+pub moved_same : (m k : ℕ → Vec3) (n : ℕ) → ((j : ℕ) → j < n → m j ≡ k j) → moved_below m n ≡ moved_below k n
 moved_same m k zero e = refl
 moved_same m k (suc n) e =
     let before = moved_same m k n (λ j p. e j (omega arith)) in
     let here = e n (omega arith) in
-    λ i. plus (before i) (plus (here i).first_move (here i).second_move)
+    λ i. plus (before i) (here i)
 
-pub plus_zero : (v : Vec3) → plus v zero_vector ≡ v
-plus_zero v = λ i. record { x = then_none v.x i; y = then_none v.y i; z = then_none v.z i }
+-- free ends alone
+pub moved_nothing : (v : ℕ → Vec3) (n : ℕ) → moved_below (λ j. plus (opposite (v j)) (v j)) n ≡ zero_vector
+moved_nothing v zero = refl
+moved_nothing v (suc n) = plus_opposite (moved_below (λ j. plus (opposite (v j)) (v j)) n) (v n) ∙ moved_nothing v n

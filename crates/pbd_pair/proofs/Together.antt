@@ -28,19 +28,22 @@ length-placed_by ps b Slack = refl
 length-placed_by ps b Leaves = refl
 length-placed_by ps b (Moves s) = length-placed (placed ps b.a s.first) b.b s.second ∙ length-placed ps b.a s.first
 
-pub placed_by_first : (ps : List Particle) (b : Bond) (c : Correction) → b.a < length ps → b.a ≢ b.b → particle_at (placed_by ps b c) b.a ≡ first_by c (particle_at ps b.a)
+pub placed_by_first : (ps : List Particle) (b : Bond) (c : Correction) → b.a < length ps → b.a ≢ b.b → particle_at (placed_by ps b c) b.a ≡ first_by c
+    (particle_at ps b.a)
 placed_by_first ps b Slack h n = refl
 placed_by_first ps b Leaves h n = refl
 placed_by_first ps b (Moves s) h n = placed_other (placed ps b.a s.first) b.b b.a s.second n ∙ placed_same ps b.a s.first h
 
-pub placed_by_second : (ps : List Particle) (b : Bond) (c : Correction) → b.b < length ps → b.a ≢ b.b → particle_at (placed_by ps b c) b.b ≡ second_by c (particle_at ps b.b)
+pub placed_by_second : (ps : List Particle) (b : Bond) (c : Correction) → b.b < length ps → b.a ≢ b.b → particle_at (placed_by ps b c) b.b ≡ second_by c
+    (particle_at ps b.b)
 placed_by_second ps b Slack h n = refl
 placed_by_second ps b Leaves h n = refl
 placed_by_second ps b (Moves s) h n =
     placed_same (placed ps b.a s.first) b.b s.second (omega (arith, length-placed ps b.a s.first))
     ∙ ap (λ (p : Particle). record p { at = s.second }) (placed_other ps b.a b.b s.first (λ e. n (sym e)))
 
-pub placed_by_other : (ps : List Particle) (b : Bond) (c : Correction) (i : ℕ) → (b.a ≡ i → ⊥) → (b.b ≡ i → ⊥) → particle_at (placed_by ps b c) i ≡ particle_at ps i
+pub placed_by_other : (ps : List Particle) (b : Bond) (c : Correction) (i : ℕ) → (b.a ≡ i → ⊥) → (b.b ≡ i → ⊥)
+    → particle_at (placed_by ps b c) i ≡ particle_at ps i
 placed_by_other ps b Slack i m n = refl
 placed_by_other ps b Leaves i m n = refl
 placed_by_other ps b (Moves s) i m n = placed_other (placed ps b.a s.first) b.b i s.second (λ e. n (sym e)) ∙ placed_other ps b.a i s.first (λ e. m (sym e))
@@ -55,7 +58,8 @@ pub record Together (limit : ℤ) (B : ℕ → Bond) (j : ℕ) (ps qs : List Par
 pub together_none : (limit : ℤ) (B : ℕ → Bond) (ps : List Particle) → Together limit B 0 ps ps
 together_none limit B ps = record { whole = refl; firsts = λ k h. absurd (omega arith); seconds = λ k h. absurd (omega arith); others = λ i h. refl }
 
-module _ (limit : ℤ) (B : ℕ → Bond) (n : ℕ) (ps : List Particle) (bonds : (k : ℕ) → k < n → IsBond limit (length ps) (B k)) (apart : (i k : ℕ) → i < k → k < n → ShareNone (B i) (B k)) where
+module _ (limit : ℤ) (B : ℕ → Bond) (n : ℕ) (ps : List Particle) (bonds : (k : ℕ) → k < n → IsBond limit (length ps) (B k)) (apart : (i k : ℕ) → i < k
+    → k < n → ShareNone (B i) (B k)) where
   pub first_same : (j : ℕ) (qs : List Particle) → j < n → Together limit B j ps qs → particle_at qs (B j).a ≡ particle_at ps (B j).a
   first_same j qs h t = t.others (B j).a (λ k p. ((apart k j p h).aa, (apart k j p h).ba))
 
@@ -66,10 +70,13 @@ module _ (limit : ℤ) (B : ℕ → Bond) (n : ℕ) (ps : List Particle) (bonds 
   pub correction_same : (j : ℕ) (qs : List Particle) → j < n → Together limit B j ps qs → correction_at limit qs (B j) ≡ correction_at limit ps (B j)
   correction_same j qs h t = λ i. correction_of limit (end_of (first_same j qs h t i)) (end_of (second_same j qs h t i)) (B j)
 
-  pub held_same : (j : ℕ) (qs : List Particle) (t : Ledger) → j < n → Together limit B j ps qs → booked_by (particle_at qs (B j).a).held (particle_at qs (B j).b).held (B j) (correction_at limit qs (B j)) t ≡ booked_by (particle_at ps (B j).a).held (particle_at ps (B j).b).held (B j) (correction_at limit ps (B j)) t
+  pub held_same : (j : ℕ) (qs : List Particle) (t : Ledger) → j < n → Together limit B j ps qs → booked_by (particle_at qs (B j).a).held (particle_at qs
+      (B j).b).held (B j) (correction_at limit qs (B j)) t ≡ booked_by (particle_at ps (B j).a).held (particle_at ps (B j).b).held (B j)
+      (correction_at limit ps (B j)) t
   held_same j qs t h g = λ i. booked_by (first_same j qs h g i).held (second_same j qs h g i).held (B j) (correction_same j qs h g i) t
 
-  pub together_more : (j : ℕ) (qs : List Particle) → j < n → Together limit B j ps qs → Together limit B (j + 1) ps (placed_by qs (B j) (correction_at limit ps (B j)))
+  pub together_more : (j : ℕ) (qs : List Particle) → j < n → Together limit B j ps qs → Together limit B (j + 1) ps (placed_by qs (B j)
+      (correction_at limit ps (B j)))
   together_more j qs h t =
       let c = correction_at limit ps (B j) in
       let b = bonds j h in

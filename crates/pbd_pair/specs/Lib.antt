@@ -1,4 +1,5 @@
 pub mod Bonds
 pub mod Projecting
-pub mod Lanes
+pub mod Moves
+pub mod Chunks
 pub mod Examples

@@ -6,9 +6,9 @@ use Rattle.pbd_world.specs.Ledger.{ledger_of, HaveRoom}
 use Rattle.pbd_world.specs.Particles.{Motion}
 use Rattle.pbd_world.specs.Bonds.{projected}
 use Rattle.pbd_store.specs.Stored.{Stored}
-use Rattle.pbd_store.specs.Moving.{motion_of, fixed_parts, AreInside, Weigh}
+use Rattle.pbd_store.specs.Moving.{motion_of, AreInside, Weigh}
 use Rattle.pbd_pair.specs.declared.bonds.Bonds.{Bonds}
-use Rattle.pbd_pair.specs.Bonds.{bond_of, bond_count, IsBond}
+use Rattle.pbd_pair.specs.Bonds.{bond_of, bond_count, IsBond, IsBound}
 
 -- two bonds without a common particle
 pub record ShareNone (b c : Bond) : Type 0 where
@@ -29,6 +29,7 @@ pub record IsBatch (limit : ℤ) (n : ℕ) (bonds : Bonds) (batch : List ℕ) : 
 
 -- 1 to l bonds can be projected together: no two have a common particle, the store is sound, and the ledger has room
 pub record CanProject (l : ℕ) (bonds : Bonds) (block : List ℕ) (s : Stored) (t : Totals) : Type 0 where
+  pub bound : IsBound s.limit
   pub short : length block ≤ l
   pub some : 0 < length block
   pub batch : IsBatch s.limit (length s.particles) bonds block
@@ -40,9 +41,7 @@ pub record CanProject (l : ℕ) (bonds : Bonds) (block : List ℕ) (s : Stored) 
 abbrev pub projected_block : Bonds → List ℕ → Stored → Totals → Result Motion ℕ
 projected_block bonds block s t = projected s.limit (bond_of bonds) block (motion_of s t)
 
--- what n bonds leave as it was, and how much they add to the ledger
-pub record LeavesRest (n : ℕ) (old new : Stored) (t u : Totals) : Type 0 where
-  pub limit : new.limit ≡ old.limit
+-- n bonds leave the places within the limit, and add little to the ledger
+pub record StaysSound (n : ℕ) (old new : Stored) (t u : Totals) : Type 0 where
   pub inside : AreInside old.limit new.particles
-  pub fixed : fixed_parts new.particles ≡ fixed_parts old.particles
   pub room : (k : ℕ) → HaveRoom k (ledger_of t) → HaveRoom (k + n * 2 ^ 32) (ledger_of u)

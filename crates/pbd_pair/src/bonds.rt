@@ -1,4 +1,4 @@
-ghost use Rattle.std.specs.Prelude.{◌≡◌, ◌<◌, length};
+ghost use Rattle.std.specs.Prelude.{◌≡◌, ℕ, ◌<◌, length};
 
 use pbd_world::{Bond, Link};
 
@@ -14,6 +14,17 @@ pub enum Bonds<'a> {
 
 impl Bonds<'_> {
     ghost use Rattle.pbd_pair.specs.Bonds.{bond_of, bond_count};
+
+    /// Whether they are contacts.
+    #[inline(always)]
+    pub(crate) fn are_contacts(&self) -> bool
+        ensures { (n : ℕ) → (bond_of self.now n).contact ≡ result }
+    {
+        match self {
+            Bonds::Links(_) => false,
+            Bonds::Contacts { .. } => true,
+        }
+    }
 
     /// Bond n.
     #[inline(always)]

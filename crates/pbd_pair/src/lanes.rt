@@ -1,14 +1,16 @@
 ghost use Rattle.std.specs.Prelude.{◌≡◌};
 
-use crate::block::project_block;
 use crate::bonds::Bonds;
-use crate::named::Block;
+use crate::chunk::Chunk;
+use crate::correct::limit_of;
+use crate::desk::Desk;
 use crate::projector::Projector;
+use pbd_num::CHUNK;
 use pbd_store::{Steps, Store};
 use pbd_world::{Left, Totals};
 use std::sync::ledger::Ledger;
 
-/// Projects L bonds side by side.
+/// Projects up to 128 bonds side by side, whole lanes of L.
 #[derive(Clone, Copy)]
 pub struct LaneProjector<const L: usize> {
     count: u64,
@@ -44,12 +46,18 @@ impl<const L: usize> Projector<L> for LaneProjector<L> {
         steps: &mut Steps<G>,
     ) -> Result<(), Left> {
         self.count = self.count.saturating_add(batch.len() as u64);
+        if batch.is_empty() {
+            return Ok(());
+        }
+        limit_of(store);
+        let most = CHUNK - CHUNK % L;
+        let mut desk = Desk::new();
         let mut rest = batch;
         'steps_on: while !rest.is_empty() {
-            let size = rest.len().min(L);
+            let size = rest.len().min(most);
             let (numbers, after) = rest.split_at(size);
-            let block = Block { bonds, numbers };
-            if let Err(left) = project_block(store, &block, totals, steps) {
+            let chunk = Chunk { bonds, numbers };
+            if let Err(left) = desk.project(store, chunk, totals, steps) {
                 return Err(left);
             }
             rest = after;

@@ -1,19 +1,18 @@
 //! Batches of bonds, projected one by one or in lanes.
 #![tactic(auto)]
 
-mod block;
 mod bonds;
 mod book;
+mod chunk;
 mod correct;
-mod each;
-mod laid;
+mod desk;
 mod lanes;
-mod named;
+mod near;
 mod one;
 mod parts;
 mod projector;
 mod scalar;
-mod tried;
+mod slow;
 
 pub use bonds::Bonds;
 pub use lanes::LaneProjector;

@@ -1,23 +1,21 @@
 -- Legal events do what the bonds do one by one.
 use Rattle.std.proofs.Common.{◌≡◌, ℕ, zero, suc, ◌+◌, ◌<◌, ◌≤◌, ℤ, List, [], ◌∷◌, ◌++◌, length, get_or, replicate, Bool, true, false, cond, refl, sym, ◌∙◌, ap, arith, subst, inl, inr, Option, Some, None, Ok, Err}
 use Rattle.std.proofs.lemmas.List.{append-nil, append_assoc, get_or-set_same, get_or-set_other, length-set, length-replicate, get_or-replicate, ext_get_or}
-use Rattle.pbd_num.specs.Vectors.{zero_vector}
 use Rattle.pbd_world.specs.declared.parts.Particle.{Particle}
 use Rattle.pbd_world.specs.declared.bond.Bond.{Bond}
-use Rattle.pbd_world.specs.declared.bond.Shift.{Shift}
 use Rattle.pbd_world.specs.declared.bond.Correction.{Correction}
 use Rattle.pbd_world.specs.declared.bond.Correction.TheVariants.{Slack, Leaves, Moves}
-use Rattle.pbd_world.specs.Ledger.{Ledger, booked}
+use Rattle.pbd_world.specs.Ledger.{Ledger, Entry, booked}
 use Rattle.pbd_world.specs.Particles.{Motion, particle_at, no_particle}
 use Rattle.pbd_world.specs.Bonds.{correction_at, projected, entries_of, class_of}
 use Rattle.pbd_store.specs.Moving.{AreInside}
 use Rattle.pbd_pair.specs.declared.parts.Note.{Note}
-use Rattle.pbd_pair.specs.Bonds.{IsBond, IsSound}
-use Rattle.pbd_pair.specs.Lanes.{Lays, settled}
+use Rattle.pbd_pair.specs.Bonds.{IsBond}
+use Rattle.pbd_pair.specs.Moves.{settled}
 use Rattle.pbd_pair.specs.Projecting.{ShareNone}
 use Rattle.pbd_pair.proofs.Correcting.{leaves_by, booked_by}
 use Rattle.pbd_pair.proofs.Together.{Together}
-use Rattle.pbd_pair.proofs.SideBySide.{find_below}
+use Rattle.pbd_pair.proofs.Parting.{find_below}
 use Rattle.pbd_pair.proofs.Reaching.{reached, reached_all, reached_leaves}
 use Rattle.pbd_schedule.specs.declared.event.Event.{Event}
 use Rattle.pbd_schedule.specs.declared.event.EventFault.{EventFault}
@@ -108,27 +106,17 @@ module _ (limit : ℤ) (B : ℕ → Bond) (m : ℕ) (ps : List Particle) (t : Le
       ]
     ]
 
--- ---- corrections as lanes lay them
+-- ---- what corrections book
 
-abbrev moving_by : Correction → Bool
-moving_by Slack = false
-moving_by Leaves = false
-moving_by (Moves s) = true
+abbrev entries_by : (p q : Bool) → Bond → Correction → List Entry
+entries_by p q b Slack = []
+entries_by p q b Leaves = []
+entries_by p q b (Moves s) = entries_of p q (class_of b) s
 
-abbrev shift_by : Correction → Shift
-shift_by Slack = record { first = zero_vector; second = zero_vector; first_move = zero_vector; second_move = zero_vector }
-shift_by Leaves = record { first = zero_vector; second = zero_vector; first_move = zero_vector; second_move = zero_vector }
-shift_by (Moves s) = s
-
-laid_by : (c : Correction) → Lays c (moving_by c) (leaves_by c) (shift_by c)
-laid_by Slack = (refl, refl)
-laid_by Leaves = (refl, refl)
-laid_by (Moves s) = (refl, (refl, refl))
-
-books_by : (p q : Bool) (b : Bond) (c : Correction) (t : Ledger) → booked_by p q b c t ≡ cond (moving_by c) (booked t (entries_of p q (class_of b) (shift_by c))) t
-books_by p q b Slack t = refl
-books_by p q b Leaves t = refl
-books_by p q b (Moves s) t = refl
+books_by : (p q : Bool) (b : Bond) (c : Correction) (u : Ledger) → booked u (entries_by p q b c) ≡ booked_by p q b c u
+books_by p q b Slack u = refl
+books_by p q b Leaves u = refl
+books_by p q b (Moves s) u = refl
 
 leaving_same : (c : Correction) → is_leaving c ≡ leaves_by c
 leaving_same Slack = refl
@@ -187,8 +175,15 @@ module _ (limit : ℤ) (bond : ℕ → Bond) (batch : List ℕ) (m : Motion) (bo
     notes_are : (k : ℕ) → k < length batch → note_at x.notes k ≡ note_of limit m.particles (bond_at bond batch k)
     notes_are k q = noted limit (bond_at bond batch) (length batch) m.particles m.totals bonds apart (stage_at come.stages) x come.stand three k q
 
-    all_sound : (k : ℕ) → k < length batch → IsSound limit (correction_at limit m.particles (bond_at bond batch k))
-    all_sound k q = subst (λ (n : Note). IsSound limit n.correction) (notes_are k q) (sound.each k (omega (arith, q, come.stand.size)))
+    abbrev entries : ℕ → List Entry
+    entries k = entries_by (particle_at m.particles (bond_at bond batch k).a).held (particle_at m.particles (bond_at bond batch k).b).held
+        (bond_at bond batch k) (correction_at limit m.particles (bond_at bond batch k))
+
+    adds : (k : ℕ) → k < length batch → leaves_by (correction_at limit m.particles (bond_at bond batch k)) ≡ false → (u : Ledger) → booked u (entries k)
+        ≡ booked_by (particle_at m.particles (bond_at bond batch k).a).held (particle_at m.particles (bond_at bond batch k).b).held
+        (bond_at bond batch k) (correction_at limit m.particles (bond_at bond batch k)) u
+    adds k h stays u = books_by (particle_at m.particles (bond_at bond batch k).a).held (particle_at m.particles (bond_at bond batch k).b).held
+        (bond_at bond batch k) (correction_at limit m.particles (bond_at bond batch k)) u
 
     leaves_are : (k : ℕ) → k < length batch → (b : Bool) → is_leaving (note_at x.notes k).correction ≡ b → leaves_by (correction_at limit m.particles (bond_at bond batch k)) ≡ b
     leaves_are k q b e = sym (leaving_same (correction_at limit m.particles (bond_at bond batch k))) ∙ ap (λ (n : Note). is_leaving n.correction) (sym (notes_are k q)) ∙ e
@@ -196,43 +191,28 @@ module _ (limit : ℤ) (bond : ℕ → Bond) (batch : List ℕ) (m : Motion) (bo
     pub in_order_leaves : (n : ℕ) → first_leaving batch x.notes ≡ Some n → projected limit bond batch m ≡ Err n
     in_order_leaves n f =
         let l = some_leaving batch x.notes n come.stand.size f in
-        reached_leaves limit bond batch m bonds apart inside
-        (λ k. moving_by (correction_at limit m.particles (bond_at bond batch k)))
-        (λ k. leaves_by (correction_at limit m.particles (bond_at bond batch k)))
-        (λ k. shift_by (correction_at limit m.particles (bond_at bond batch k)))
-        (λ k q. laid_by (correction_at limit m.particles (bond_at bond batch k))) all_sound
-        l.at l.within (λ k q. leaves_are k (omega (arith, q, l.within)) false (l.before k q)) (leaves_are l.at l.within true l.there)
+        reached_leaves limit bond batch m bonds apart entries adds l.at l.within
+        (λ k q. leaves_are k (omega (arith, q, l.within)) false (l.before k q)) (leaves_are l.at l.within true l.there)
         ∙ ap Err l.number
 
-    moving : ℕ → Bool
-    moving k = moving_by (correction_at limit m.particles (bond_at bond batch k))
-
-    settled_is : (n : ℕ) → n ≤ length batch → booked_up (stage_at come.stages) (books limit (bond_at bond batch) m.particles) n m.totals ≡ settled (λ k. moving_by (correction_at limit m.particles (bond_at bond batch k))) (λ k. entries_of (particle_at m.particles (bond_at bond batch k).a).held (particle_at m.particles (bond_at bond batch k).b).held (class_of (bond_at bond batch k)) (shift_by (correction_at limit m.particles (bond_at bond batch k)))) n m.totals
+    settled_is : (n : ℕ) → n ≤ length batch
+        → booked_up (stage_at come.stages) (books limit (bond_at bond batch) m.particles) n m.totals ≡ settled entries n m.totals
     settled_is zero h = refl
     settled_is (suc n) h =
         let before = settled_is n (omega arith) in
         let u = booked_up (stage_at come.stages) (books limit (bond_at bond batch) m.particles) n m.totals in
-        let c = correction_at limit m.particles (bond_at bond batch n) in
-        let es = entries_of (particle_at m.particles (bond_at bond batch n).a).held (particle_at m.particles (bond_at bond batch n).b).held (class_of (bond_at bond batch n)) (shift_by c) in
+        let b = bond_at bond batch n in
         ap (λ (z : ℕ). booked_at z (books limit (bond_at bond batch) m.particles n) u) (three n h)
-        ∙ books_by (particle_at m.particles (bond_at bond batch n).a).held (particle_at m.particles (bond_at bond batch n).b).held (bond_at bond batch n) c u
-        ∙ ap (λ (v : Ledger). cond (moving_by c) (booked v es) v) before
+        ∙ sym (books_by (particle_at m.particles b.a).held (particle_at m.particles b.b).held b (correction_at limit m.particles b) u)
+        ∙ ap (λ (v : Ledger). booked v (entries n)) before
 
     pub in_order_stays : first_leaving batch x.notes ≡ None → projected limit bond batch m ≡ Ok (record { particles = x.particles; totals = x.totals })
     in_order_stays f =
         let stays = λ (k : ℕ) (q : k < length batch). leaves_are k q false (none_leaving batch x.notes come.stand.size f k q) in
-        let r = reached limit bond batch m bonds apart inside
-        (λ k. moving_by (correction_at limit m.particles (bond_at bond batch k)))
-        (λ k. leaves_by (correction_at limit m.particles (bond_at bond batch k)))
-        (λ k. shift_by (correction_at limit m.particles (bond_at bond batch k)))
-        (λ k q. laid_by (correction_at limit m.particles (bond_at bond batch k))) all_sound (length batch) (omega arith) stays in
+        let r = reached limit bond batch m bonds apart entries adds (length batch) (omega arith) stays in
         let places : r.qs ≡ x.particles = sym (same_together limit (bond_at bond batch) (length batch) m.particles m.totals bonds apart x.particles r.qs (stands_together limit (bond_at bond batch) (length batch) m.particles m.totals bonds apart (stage_at come.stages) x come.stand three) r.together) in
         let totals = sym (come.stand.totals ∙ settled_is (length batch) (omega arith)) in
-        reached_all limit bond batch m bonds apart inside
-        (λ k. moving_by (correction_at limit m.particles (bond_at bond batch k)))
-        (λ k. leaves_by (correction_at limit m.particles (bond_at bond batch k)))
-        (λ k. shift_by (correction_at limit m.particles (bond_at bond batch k)))
-        (λ k q. laid_by (correction_at limit m.particles (bond_at bond batch k))) all_sound stays r
+        reached_all limit bond batch m bonds apart (settled entries (length batch) m.totals) r
         ∙ (λ i. Ok (record { particles = places i; totals = totals i }))
 
   come_end : (x : Mixed) → x ≡ mixed limit (bond_at bond batch) events (mix_of m.particles m.totals (replicate (length batch) no_note)) → Come limit (bond_at bond batch) (length batch) m.particles m.totals bonds apart events x

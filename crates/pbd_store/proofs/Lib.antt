@@ -1,7 +1,9 @@
 pub mod Limits
 pub mod Filling
 pub mod Listing
+pub mod InRows
 pub mod Scattering
+pub mod Parting
 pub mod Writing
 pub mod Saving
 pub mod Starts

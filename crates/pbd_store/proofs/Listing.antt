@@ -4,14 +4,14 @@ use Rattle.std.proofs.lemmas.Bool.{cases_lt, cases_eq, and_parts, and_from, ltb-
 use Rattle.std.proofs.lemmas.List.{get_or-set_same, get_or-set_other, get_or_past, get_or-replicate, length-set, length-map, length-append, length-replicate}
 use Rattle.std.proofs.lemmas.List.FromFn.{fill_by_all, get_or-map-range_with_len, length-map-range_with_len}
 use Rattle.pbd_num.specs.declared.Vec3.{Vec3}
-use Rattle.pbd_lanes.specs.Lane.{lane, is_set, lanes_of}
+use Rattle.pbd_num.specs.Vectors.{zero_vector}
+use Rattle.pbd_lanes.specs.Lane.{is_set, lanes_of}
 use Rattle.pbd_world.specs.declared.parts.Particle.{Particle}
 use Rattle.pbd_world.specs.Particles.{particle_at, placed, effective_weight, no_particle}
-use Rattle.pbd_store.specs.Blocks.{place_of, Saved}
+use Rattle.pbd_store.specs.Blocks.{Saved}
 use Rattle.pbd_store.specs.Gathering.{index_at, gathered}
 use Rattle.pbd_store.specs.Writing.{WrittenWhere}
-use Rattle.pbd_store.specs.declared.axes.Axes.{Axes}
-use Rattle.pbd_store.specs.Listed.{place_at, row, listed, AreLong, ArePadded, AreKept}
+use Rattle.pbd_store.specs.Listed.{place_at, row, listed, ArePadded, AreKept}
 
 -- ---- a list that a function gives, with one element set
 
@@ -25,7 +25,7 @@ written n i f g v h same other =
 
 -- ---- a column of a list
 
-padded_past : {A : Type 0} (n k : ℕ) (d : A) → get_or (replicate n d) k d ≡ d
+pub padded_past : {A : Type 0} (n k : ℕ) (d : A) → get_or (replicate n d) k d ≡ d
 padded_past n k d = elim (cases_lt k n) [ inl p ↦ get_or-replicate n k d d p | inr q ↦ get_or_past (replicate n d) k d (omega (arith, length-replicate n d)) ]
 
 pub column_is : {A : Type 0} (f : Particle → A) (ps : List Particle) (n k : ℕ) → get_or (map f ps ++ replicate n (f no_particle)) k (f no_particle) ≡ f (particle_at ps k)
@@ -36,33 +36,9 @@ column_is f (p ∷ ps) n (suc k) = column_is f ps n k
 pub column_long : {A : Type 0} (f : Particle → A) (ps : List Particle) (n : ℕ) (d : A) → length (map f ps ++ replicate n d) ≡ length ps + n
 column_long f ps n d = length-append (map f ps) (replicate n d) ∙ (λ i. length-map ps f i + length-replicate n d i)
 
--- ---- places
-
-module _ (a b : Axes) (i : ℕ) (v : Vec3) (ex : b.x.items ≡ slice_set a.x.items i v.x) (ey : b.y.items ≡ slice_set a.y.items i v.y) (ez : b.z.items ≡ slice_set a.z.items i v.z) where
-  pub place_same : (n : ℕ) → AreLong n a → i < n → place_at b i ≡ v
-  place_same n h p =
-      let x = ap (λ (xs : List ℤ). lane xs i) ex ∙ get_or-set_same a.x.items i v.x (pos 0) (omega (arith, h.x)) in
-      let y = ap (λ (xs : List ℤ). lane xs i) ey ∙ get_or-set_same a.y.items i v.y (pos 0) (omega (arith, h.y)) in
-      let z = ap (λ (xs : List ℤ). lane xs i) ez ∙ get_or-set_same a.z.items i v.z (pos 0) (omega (arith, h.z)) in
-      λ t. record { x = x t; y = y t; z = z t }
-
-  pub place_other : (k : ℕ) → (k ≡ i → ⊥) → place_at b k ≡ place_at a k
-  place_other k d =
-      let x = ap (λ (xs : List ℤ). lane xs k) ex ∙ get_or-set_other a.x.items i k v.x (pos 0) d in
-      let y = ap (λ (xs : List ℤ). lane xs k) ey ∙ get_or-set_other a.y.items i k v.y (pos 0) d in
-      let z = ap (λ (xs : List ℤ). lane xs k) ez ∙ get_or-set_other a.z.items i k v.z (pos 0) d in
-      λ t. record { x = x t; y = y t; z = z t }
-
-  pub places_long : (n : ℕ) → AreLong n a → AreLong n b
-  places_long n h = record {
-    x = ap (λ (xs : List ℤ). length xs) ex ∙ length-set a.x.items i v.x ∙ h.x;
-    y = ap (λ (xs : List ℤ). length xs) ey ∙ length-set a.y.items i v.y ∙ h.y;
-    z = ap (λ (xs : List ℤ). length xs) ez ∙ length-set a.z.items i v.z ∙ h.z;
-  }
-
 -- ---- the list of padded columns
 
-module _ (n spare : ℕ) (at before : Axes) (weight : List ℕ) (held : List Bool) (h : ArePadded n spare at before weight held) where
+module _ {n spare : ℕ} {at before : List Vec3} {weight : List ℕ} {held : List Bool} (h : ArePadded n spare at before weight held) where
   pub listed_long : length (listed n at before weight held) ≡ n
   listed_long = length-map-range_with_len (row at before weight held) 0 n
 
@@ -73,11 +49,11 @@ module _ (n spare : ℕ) (at before : Axes) (weight : List ℕ) (held : List Boo
   ]
 
   -- other rows, but for row i
-  module _ (at' before' : Axes) (weight' : List ℕ) (held' : List Bool) (i : ℕ) (within : i < n) (other : (k : ℕ) → (k ≡ i → ⊥) → row at' before' weight' held' k ≡ row at before weight held k) where
+  module _ (at' before' : List Vec3) (weight' : List ℕ) (held' : List Bool) (i : ℕ) (within : i < n) (other : (k : ℕ) → (k ≡ i → ⊥) → row at' before' weight' held' k ≡ row at before weight held k) where
     pub listed_set : (v : Particle) → row at' before' weight' held' i ≡ v → listed n at' before' weight' held' ≡ slice_set (listed n at before weight held) i v
     listed_set v same = written n i (row at before weight held) (row at' before' weight' held') v within same other
 
-    pub padded_set : AreLong (n + spare) at' → AreLong (n + spare) before' → length weight' ≡ n + spare → length held' ≡ n + spare → ArePadded n spare at' before' weight' held'
+    pub padded_set : length at' ≡ n + spare → length before' ≡ n + spare → length weight' ≡ n + spare → length held' ≡ n + spare → ArePadded n spare at' before' weight' held'
     padded_set la lb lw lh = record { size = h.size; places = la; befores = lb; weights = lw; flags = lh; padding = λ k q. other k (λ e. absurd (omega arith)) ∙ h.padding k q }
 
 -- what f gives of a particle that is wanted, or of no particle
@@ -90,7 +66,7 @@ row_within i n true h = omega (arith, h refl)
 row_within i n false h = omega arith
 
 -- the columns of a list
-pub listed_from : (ps : List Particle) (at before : Axes) (weight : List ℕ) (held : List Bool) → ((k : ℕ) → row at before weight held k ≡ particle_at ps k) → listed (length ps) at before weight held ≡ ps
+pub listed_from : (ps : List Particle) (at before : List Vec3) (weight : List ℕ) (held : List Bool) → ((k : ℕ) → row at before weight held k ≡ particle_at ps k) → listed (length ps) at before weight held ≡ ps
 listed_from ps at before weight held is = sym (fill_by_all (row at before weight held) ps (length ps) no_particle refl (λ k p. sym (is k)))
 
 pub any_default : {A : Type 0} (xs : List A) (i : ℕ) (d e : A) → i < length xs → get_or xs i d ≡ get_or xs i e
@@ -104,12 +80,15 @@ lanes_alike n f g h = fill_by_all g (lanes_of n f) n (g 0) (length-map-range_wit
 
 -- ---- the list that clauses see
 
-module _ (n spare : ℕ) (at before : Axes) (weight : List ℕ) (held : List Bool) (h : ArePadded n spare at before weight held) (ps : List Particle) (e : listed n at before weight held ≡ ps) where
+module _ {n spare : ℕ} {at before : List Vec3} {weight : List ℕ} {held : List Bool} (h : ArePadded n spare at before weight held) {ps : List Particle} (e : listed n at before weight held ≡ ps) where
   pub count_is : n ≡ length ps
-  count_is = sym (listed_long n spare at before weight held h) ∙ ap (λ (qs : List Particle). length qs) e
+  count_is = sym (listed_long h) ∙ ap (λ (qs : List Particle). length qs) e
 
   pub row_is : (k : ℕ) → particle_at ps k ≡ row at before weight held k
-  row_is k = ap (λ (qs : List Particle). particle_at qs k) (sym e) ∙ shown n spare at before weight held h k
+  row_is k = ap (λ (qs : List Particle). particle_at qs k) (sym e) ∙ shown h k
+
+  pub place_is : (k : ℕ) → (particle_at ps k).at ≡ place_at at k
+  place_is k = ap (λ (p : Particle). p.at) (row_is k)
 
   -- what a row gives, be it of a particle that is wanted or the first of zeros
   pub end_is : {A : Type 0} (f : Particle → A) (i k : ℕ) (b : Bool) → k ≡ cond b i (length ps) → f (row at before weight held k) ≡ cond b (f (particle_at ps i)) (f no_particle)
@@ -128,41 +107,60 @@ module _ (n spare : ℕ) (at before : Axes) (weight : List ℕ) (held : List Boo
       omega (arith, at_row, count_is, row_within (index_at is j) (length ps) (is_set set j) (within j p))
 
   -- another place
-  module _ (at' : Axes) (i : ℕ) (v : Vec3) (within : i < length ps) (ex : at'.x.items ≡ slice_set at.x.items i v.x) (ey : at'.y.items ≡ slice_set at.y.items i v.y) (ez : at'.z.items ≡ slice_set at.z.items i v.z) where
+  module _ (at' : List Vec3) (i : ℕ) (v : Vec3) (within : i < length ps) (ea : at' ≡ slice_set at i v) where
     near : i < n
     near = omega (arith, count_is)
 
+    place_long : length at' ≡ n + spare
+    place_long = ap (λ (vs : List Vec3). length vs) ea ∙ length-set at i v ∙ h.places
+
+    place_same : place_at at' i ≡ v
+    place_same = ap (λ (vs : List Vec3). place_at vs i) ea ∙ get_or-set_same at i v zero_vector (omega (arith, near, h.places))
+
+    place_other : (k : ℕ) → (k ≡ i → ⊥) → place_at at' k ≡ place_at at k
+    place_other k d = ap (λ (vs : List Vec3). place_at vs k) ea ∙ get_or-set_other at i k v zero_vector d
+
     other_place : (k : ℕ) → (k ≡ i → ⊥) → row at' before weight held k ≡ row at before weight held k
-    other_place k d = λ t. record { at = place_other at at' i v ex ey ez k d t; before = place_at before k; weight = get_or weight k 0; held = is_set held k }
+    other_place k d = λ t. record { at = place_other k d t; before = place_at before k; weight = get_or weight k 0; held = is_set held k }
 
     pub place_padded : ArePadded n spare at' before weight held
-    place_padded = padded_set n spare at before weight held h at' before weight held i near other_place (places_long at at' i v ex ey ez (n + spare) h.places) h.befores h.weights h.flags
+    place_padded = padded_set h at' before weight held i near other_place place_long h.befores h.weights h.flags
 
     pub place_listed : listed n at' before weight held ≡ placed ps i v
     place_listed =
         let now : row at' before weight held i ≡ record (particle_at ps i) { at = v } =
-        (λ t. record { at = place_same at at' i v ex ey ez (n + spare) h.places (omega (arith, near)) t; before = place_at before i; weight = get_or weight i 0; held = is_set held i })
+        (λ t. record { at = place_same t; before = place_at before i; weight = get_or weight i 0; held = is_set held i })
         ∙ ap (λ (q : Particle). record q { at = v }) (sym (row_is i)) in
-        listed_set n spare at before weight held h at' before weight held i near other_place (record (particle_at ps i) { at = v }) now
+        listed_set h at' before weight held i near other_place (record (particle_at ps i) { at = v }) now
         ∙ ap (λ (qs : List Particle). slice_set qs i (record (particle_at ps i) { at = v })) e
 
+    -- the effective weights are those of the same particles
+    pub place_kept : (light : List ℕ) → length light ≡ n + spare → ((k : ℕ) → get_or light k 0 ≡ effective_weight (row at before weight held k)) → AreKept n spare at' before weight held light
+    place_kept light long weighs = record { padded = place_padded; long = long; weighs = weighs }
+
     -- and another place before, weight and flag
-    module _ (before' : Axes) (b : Vec3) (bx : before'.x.items ≡ slice_set before.x.items i b.x) (by : before'.y.items ≡ slice_set before.y.items i b.y) (bz : before'.z.items ≡ slice_set before.z.items i b.z) where
+    module _ (before' : List Vec3) (b : Vec3) (eb : before' ≡ slice_set before i b) where
+      before_same : place_at before' i ≡ b
+      before_same = ap (λ (vs : List Vec3). place_at vs i) eb ∙ get_or-set_same before i b zero_vector (omega (arith, near, h.befores))
+
+      before_other : (k : ℕ) → (k ≡ i → ⊥) → place_at before' k ≡ place_at before k
+      before_other k d = ap (λ (vs : List Vec3). place_at vs k) eb ∙ get_or-set_other before i k b zero_vector d
+
       module _ (weight' : List ℕ) (w : ℕ) (ew : weight' ≡ slice_set weight i w) (held' : List Bool) (f : Bool) (eh : held' ≡ slice_set held i f) where
         other_all : (k : ℕ) → (k ≡ i → ⊥) → row at' before' weight' held' k ≡ row at before weight held k
         other_all k d =
             let ws = ap (λ (xs : List ℕ). get_or xs k 0) ew ∙ get_or-set_other weight i k w 0 d in
             let hs = ap (λ (xs : List Bool). is_set xs k) eh ∙ get_or-set_other held i k f false d in
-            λ t. record { at = place_other at at' i v ex ey ez k d t; before = place_other before before' i b bx by bz k d t; weight = ws t; held = hs t }
+            λ t. record { at = place_other k d t; before = before_other k d t; weight = ws t; held = hs t }
 
         all_now : row at' before' weight' held' i ≡ record { at = v; before = b; weight = w; held = f }
         all_now =
             let ws = ap (λ (xs : List ℕ). get_or xs i 0) ew ∙ get_or-set_same weight i w 0 (omega (arith, near, h.weights)) in
             let hs = ap (λ (xs : List Bool). is_set xs i) eh ∙ get_or-set_same held i f false (omega (arith, near, h.flags)) in
-            λ t. record { at = place_same at at' i v ex ey ez (n + spare) h.places (omega (arith, near)) t; before = place_same before before' i b bx by bz (n + spare) h.befores (omega (arith, near)) t; weight = ws t; held = hs t }
+            λ t. record { at = place_same t; before = before_same t; weight = ws t; held = hs t }
 
         pub all_padded : ArePadded n spare at' before' weight' held'
-        all_padded = padded_set n spare at before weight held h at' before' weight' held' i near other_all (places_long at at' i v ex ey ez (n + spare) h.places) (places_long before before' i b bx by bz (n + spare) h.befores)
+        all_padded = padded_set h at' before' weight' held' i near other_all place_long (ap (λ (vs : List Vec3). length vs) eb ∙ length-set before i b ∙ h.befores)
             (ap (λ (xs : List ℕ). length xs) ew ∙ length-set weight i w ∙ h.weights) (ap (λ (xs : List Bool). length xs) eh ∙ length-set held i f ∙ h.flags)
 
         pub all_kept : (light light' : List ℕ) → length light ≡ n + spare → ((k : ℕ) → get_or light k 0 ≡ effective_weight (row at before weight held k)) → light' ≡ slice_set light i (effective_weight (record { at = v; before = b; weight = w; held = f })) → AreKept n spare at' before' weight' held' light'
@@ -179,50 +177,51 @@ module _ (n spare : ℕ) (at before : Axes) (weight : List ℕ) (held : List Boo
 
         pub all_listed : listed n at' before' weight' held' ≡ slice_set ps i (record { at = v; before = b; weight = w; held = f })
         all_listed =
-            listed_set n spare at before weight held h at' before' weight' held' i near other_all (record { at = v; before = b; weight = w; held = f }) all_now
+            listed_set h at' before' weight' held' i near other_all (record { at = v; before = b; weight = w; held = f }) all_now
             ∙ ap (λ (qs : List Particle). slice_set qs i (record { at = v; before = b; weight = w; held = f })) e
 
   -- other places in those of m lanes from `start` on that are set and have a particle
-  module _ (m start : ℕ) (set own : List Bool) (at' before' : Axes) (px py pz bx by bz : List ℤ) (eo : own ≡ lanes_of m (λ (j : ℕ). is_set set j && nat_lt (start + j) (length ps))) (ax : WrittenWhere m start own px at.x.items at'.x.items) (ay : WrittenWhere m start own py at.y.items at'.y.items) (az : WrittenWhere m start own pz at.z.items at'.z.items) (cx : WrittenWhere m start own bx before.x.items before'.x.items) (cy : WrittenWhere m start own by before.y.items before'.y.items) (cz : WrittenWhere m start own bz before.z.items before'.z.items) where
+  module _ (m start : ℕ) (set own : List Bool) (eo : own ≡ lanes_of m (λ (j : ℕ). is_set set j && nat_lt (start + j) (length ps))) where
     own_at : (j : ℕ) → j < m → is_set own j ≡ (is_set set j && nat_lt (start + j) (length ps))
     own_at j p = ap (λ (bs : List Bool). is_set bs j) eo ∙ get_or-map-range_with_len (λ (k : ℕ). is_set set k && nat_lt (start + k) (length ps)) 0 m j j false p (omega arith)
 
     set_of : (j : ℕ) → j < m → IsTrue (is_set own j) → IsTrue (is_set set j)
     set_of j p s = (and_parts (is_set set j) (nat_lt (start + j) (length ps)) (sym (own_at j p) ∙ s)).0
 
-    below : (j : ℕ) → j < m → IsTrue (is_set own j) → start + j < length ps
+    pub below : (j : ℕ) → j < m → IsTrue (is_set own j) → start + j < length ps
     below j p s = ltb-true (start + j) (length ps) (and_parts (is_set set j) (nat_lt (start + j) (length ps)) (sym (own_at j p) ∙ s)).1
 
     own_of : (j : ℕ) → j < m → IsTrue (is_set set j) → start + j < length ps → IsTrue (is_set own j)
     own_of j p s l = own_at j p ∙ and_from (is_set set j) (nat_lt (start + j) (length ps)) s (lt-ltb (start + j) (length ps) l)
 
-    row_there : (j : ℕ) → j < m → IsTrue (is_set own j) → row at' before' weight held (start + j) ≡ record (row at before weight held (start + j)) { at = place_of px py pz j; before = place_of bx by bz j }
-    row_there j p s = λ t. record { at = record { x = ax.lanes j p s t; y = ay.lanes j p s t; z = az.lanes j p s t }; before = record { x = cx.lanes j p s t; y = cy.lanes j p s t; z = cz.lanes j p s t }; weight = get_or weight (start + j) 0; held = is_set held (start + j) }
+    module _ (at' before' : List Vec3) (pa pb : ℕ → Vec3) (ea : WrittenWhere m start own pa at at') (eb : WrittenWhere m start own pb before before') where
+      row_there : (j : ℕ) → j < m → IsTrue (is_set own j) → row at' before' weight held (start + j) ≡ record (row at before weight held (start + j)) { at = pa j; before = pb j }
+      row_there j p s = λ t. record { at = ea.lanes j p s t; before = eb.lanes j p s t; weight = get_or weight (start + j) 0; held = is_set held (start + j) }
 
-    row_elsewhere : (i : ℕ) → ((j : ℕ) → j < m → IsTrue (is_set own j) → start + j ≡ i → ⊥) → row at' before' weight held i ≡ row at before weight held i
-    row_elsewhere i f = λ t. record { at = record { x = ax.others i f t; y = ay.others i f t; z = az.others i f t }; before = record { x = cx.others i f t; y = cy.others i f t; z = cz.others i f t }; weight = get_or weight i 0; held = is_set held i }
+      row_elsewhere : (i : ℕ) → ((j : ℕ) → j < m → IsTrue (is_set own j) → start + j ≡ i → ⊥) → row at' before' weight held i ≡ row at before weight held i
+      row_elsewhere i f = λ t. record { at = ea.others i f t; before = eb.others i f t; weight = get_or weight i 0; held = is_set held i }
 
-    pub moved_padded : ArePadded n spare at' before' weight held
-    moved_padded = record {
-      size = h.size;
-      places = record { x = ax.whole ∙ h.places.x; y = ay.whole ∙ h.places.y; z = az.whole ∙ h.places.z };
-      befores = record { x = cx.whole ∙ h.befores.x; y = cy.whole ∙ h.befores.y; z = cz.whole ∙ h.befores.z };
-      weights = h.weights;
-      flags = h.flags;
-      padding = λ k q. row_elsewhere k (λ j p s f. absurd (omega (arith, count_is, below j p s))) ∙ h.padding k q;
-    }
+      pub moved_padded : ArePadded n spare at' before' weight held
+      moved_padded = record {
+        size = h.size;
+        places = ea.whole ∙ h.places;
+        befores = eb.whole ∙ h.befores;
+        weights = h.weights;
+        flags = h.flags;
+        padding = λ k q. row_elsewhere k (λ j p s f. absurd (omega (arith, count_is, below j p s))) ∙ h.padding k q;
+      }
 
-    pub moved_saved : Saved m start set (place_of px py pz) (place_of bx by bz) ps (listed n at' before' weight held)
-    moved_saved = record {
-      whole = listed_long n spare at' before' weight held moved_padded ∙ count_is;
-      lanes = λ j p l s. shown n spare at' before' weight held moved_padded (start + j) ∙ row_there j p (own_of j p s l) ∙ ap (λ (q : Particle). record q { at = place_of px py pz j; before = place_of bx by bz j }) (sym (row_is (start + j)));
-      others = λ i f. shown n spare at' before' weight held moved_padded i ∙ row_elsewhere i (λ j p s g. f j p (set_of j p s) g) ∙ sym (row_is i);
-    }
+      pub moved_saved : Saved m start set pa pb ps (listed n at' before' weight held)
+      moved_saved = record {
+        whole = listed_long moved_padded ∙ count_is;
+        lanes = λ j p l s. shown moved_padded (start + j) ∙ row_there j p (own_of j p s l) ∙ ap (λ (q : Particle). record q { at = pa j; before = pb j }) (sym (row_is (start + j)));
+        others = λ i f. shown moved_padded i ∙ row_elsewhere i (λ j p s g. f j p (set_of j p s) g) ∙ sym (row_is i);
+      }
 
   -- the same columns once more
-  module _ (n' : ℕ) (en : n' ≡ n) (at' before' : Axes) (weight' : List ℕ) (held' : List Bool) (ax : at'.x.items ≡ at.x.items) (ay : at'.y.items ≡ at.y.items) (az : at'.z.items ≡ at.z.items) (bx : before'.x.items ≡ before.x.items) (by : before'.y.items ≡ before.y.items) (bz : before'.z.items ≡ before.z.items) (ew : weight' ≡ weight) (eh : held' ≡ held) where
+  module _ (n' : ℕ) (en : n' ≡ n) (at' before' : List Vec3) (weight' : List ℕ) (held' : List Bool) (ea : at' ≡ at) (eb : before' ≡ before) (ew : weight' ≡ weight) (eh : held' ≡ held) where
     same_row : (k : ℕ) → row at' before' weight' held' k ≡ row at before weight held k
-    same_row k = λ t. record { at = place_of (ax t) (ay t) (az t) k; before = place_of (bx t) (by t) (bz t) k; weight = get_or (ew t) k 0; held = is_set (eh t) k }
+    same_row k = λ t. row (ea t) (eb t) (ew t) (eh t) k
 
     long : {A : Type 0} {xs ys : List A} → xs ≡ ys → length ys ≡ n + spare → length xs ≡ n' + spare
     long {A} ex l = ap (λ (zs : List A). length zs) ex ∙ l ∙ ap (λ (m : ℕ). m + spare) (sym en)
@@ -230,8 +229,8 @@ module _ (n spare : ℕ) (at before : Axes) (weight : List ℕ) (held : List Boo
     pub copied_padded : ArePadded n' spare at' before' weight' held'
     copied_padded = record {
       size = omega (arith, h.size);
-      places = record { x = long ax h.places.x; y = long ay h.places.y; z = long az h.places.z };
-      befores = record { x = long bx h.befores.x; y = long by h.befores.y; z = long bz h.befores.z };
+      places = long ea h.places;
+      befores = long eb h.befores;
       weights = long ew h.weights;
       flags = long eh h.flags;
       padding = λ k q. same_row k ∙ h.padding k (omega arith);
@@ -249,21 +248,14 @@ module _ (n spare : ℕ) (at before : Axes) (weight : List ℕ) (held : List Boo
 
 -- ---- the columns of a list
 
-module _ (ps : List Particle) (spare : ℕ) (few : length ps ≤ 65536) (at before : Axes) (weight : List ℕ) (held : List Bool) (ax : at.x.items ≡ map (λ (p : Particle). p.at.x) ps ++ replicate spare (pos 0)) (ay : at.y.items ≡ map (λ (p : Particle). p.at.y) ps ++ replicate spare (pos 0)) (az : at.z.items ≡ map (λ (p : Particle). p.at.z) ps ++ replicate spare (pos 0)) (bx : before.x.items ≡ map (λ (p : Particle). p.before.x) ps ++ replicate spare (pos 0)) (by : before.y.items ≡ map (λ (p : Particle). p.before.y) ps ++ replicate spare (pos 0)) (bz : before.z.items ≡ map (λ (p : Particle). p.before.z) ps ++ replicate spare (pos 0)) (ew : weight ≡ map (λ (p : Particle). p.weight) ps ++ replicate spare 0) (eh : held ≡ map (λ (p : Particle). p.held) ps ++ replicate spare false) where
-  number : {xs : List ℤ} (f : Particle → ℤ) (k : ℕ) → f no_particle ≡ pos 0 → xs ≡ map f ps ++ replicate spare (pos 0) → lane xs k ≡ f (particle_at ps k)
-  number f k z ex = ap (λ (xs : List ℤ). lane xs k) ex ∙ (λ t. get_or (map f ps ++ replicate spare (sym z t)) k (sym z t)) ∙ column_is f ps spare k
-
+module _ (ps : List Particle) (spare : ℕ) (few : length ps ≤ 65536) (at before : List Vec3) (weight : List ℕ) (held : List Bool) (ea : at ≡ map (λ (p : Particle). p.at) ps ++ replicate spare zero_vector) (eb : before ≡ map (λ (p : Particle). p.before) ps ++ replicate spare zero_vector) (ew : weight ≡ map (λ (p : Particle). p.weight) ps ++ replicate spare 0) (eh : held ≡ map (λ (p : Particle). p.held) ps ++ replicate spare false) where
   from_row : (k : ℕ) → row at before weight held k ≡ particle_at ps k
   from_row k =
-      let x = number (λ (p : Particle). p.at.x) k refl ax in
-      let y = number (λ (p : Particle). p.at.y) k refl ay in
-      let z = number (λ (p : Particle). p.at.z) k refl az in
-      let u = number (λ (p : Particle). p.before.x) k refl bx in
-      let v = number (λ (p : Particle). p.before.y) k refl by in
-      let w = number (λ (p : Particle). p.before.z) k refl bz in
+      let here = ap (λ (vs : List Vec3). place_at vs k) ea ∙ column_is (λ (p : Particle). p.at) ps spare k in
+      let before = ap (λ (vs : List Vec3). place_at vs k) eb ∙ column_is (λ (p : Particle). p.before) ps spare k in
       let weighs = ap (λ (xs : List ℕ). get_or xs k 0) ew ∙ column_is (λ (p : Particle). p.weight) ps spare k in
       let holds = ap (λ (xs : List Bool). is_set xs k) eh ∙ column_is (λ (p : Particle). p.held) ps spare k in
-      λ t. record { at = record { x = x t; y = y t; z = z t }; before = record { x = u t; y = v t; z = w t }; weight = weighs t; held = holds t }
+      λ t. record { at = here t; before = before t; weight = weighs t; held = holds t }
 
   long_as : {A : Type 0} {xs : List A} (f : Particle → A) (d : A) → xs ≡ map f ps ++ replicate spare d → length xs ≡ length ps + spare
   long_as {A} f d ex = ap (λ (zs : List A). length zs) ex ∙ column_long f ps spare d
@@ -271,8 +263,8 @@ module _ (ps : List Particle) (spare : ℕ) (few : length ps ≤ 65536) (at befo
   pub from_padded : ArePadded (length ps) spare at before weight held
   from_padded = record {
     size = few;
-    places = record { x = long_as (λ (p : Particle). p.at.x) (pos 0) ax; y = long_as (λ (p : Particle). p.at.y) (pos 0) ay; z = long_as (λ (p : Particle). p.at.z) (pos 0) az };
-    befores = record { x = long_as (λ (p : Particle). p.before.x) (pos 0) bx; y = long_as (λ (p : Particle). p.before.y) (pos 0) by; z = long_as (λ (p : Particle). p.before.z) (pos 0) bz };
+    places = long_as (λ (p : Particle). p.at) zero_vector ea;
+    befores = long_as (λ (p : Particle). p.before) zero_vector eb;
     weights = long_as (λ (p : Particle). p.weight) 0 ew;
     flags = long_as (λ (p : Particle). p.held) false eh;
     padding = λ k q. from_row k ∙ get_or_past ps k no_particle q;
@@ -287,7 +279,3 @@ module _ (ps : List Particle) (spare : ℕ) (few : length ps ≤ 65536) (at befo
 
   pub from_listed : listed (length ps) at before weight held ≡ ps
   from_listed = listed_from ps at before weight held from_row
-
--- lanes of a column, and of the list
-pub lanes_told : (l start : ℕ) {xs ys : List ℤ} (f : ℕ → ℤ) → xs ≡ ys → ((k : ℕ) → lane ys k ≡ f k) → lanes_of l (λ (j : ℕ). lane xs (start + j)) ≡ lanes_of l (λ (j : ℕ). f (start + j))
-lanes_told l start f e h = λ t. lanes_of l (λ (j : ℕ). (ap (λ (zs : List ℤ). lane zs (start + j)) e ∙ h (start + j)) t)

@@ -1,7 +1,9 @@
 pub mod Stored
 pub mod Blocks
 pub mod Gathering
+pub mod InRows
 pub mod Fields
 pub mod Listed
 pub mod Writing
 pub mod Moving
+pub mod Pairs

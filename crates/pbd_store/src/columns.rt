@@ -1,14 +1,15 @@
-ghost use Rattle.std.specs.Prelude.{◌≡◌, ℕ, ◌<◌, ◌≤◌, ◌+◌, ◌++◌, ◌&&◌, pos, false, length, map, replicate, slice_index, slice_index_or, slice_set, IfOk, IsTrue, vec_len, if◌then◌else◌, nat_lt};
+ghost use Rattle.std.specs.Prelude.{◌≡◌, ℕ, ◌<◌, ◌≤◌, ◌^◌, ◌+◌, ◌++◌, ◌&&◌, pos, false, length, map, replicate, slice_index, slice_index_or, slice_set, IfOk, IsTrue, vec_len, if◌then◌else◌, nat_lt};
+ghost use Rattle.pbd_num.specs.Rows.{vector_of};
+ghost use Rattle.pbd_num.specs.Vectors.{Within, plus, zero_vector};
 ghost use Rattle.pbd_lanes.specs.Lane.{is_set, lanes_of};
 ghost use Rattle.pbd_world.specs.Particles.{particle_at, placed, effective_weight};
 ghost use Rattle.pbd_store.specs.Blocks.{place_of, Saved};
-ghost use Rattle.pbd_store.specs.Fields.{number_of};
 ghost use Rattle.pbd_store.specs.Gathering.{index_at, gathered};
 
-use crate::axes::{Axes, Chosen, Field, column, lanes_from, padded};
 use crate::lanes3::{Ends, Lanes3};
+use crate::rows::{Field, PlaceRows, padded};
 use pbd_lanes::{Lanes, Mask};
-use pbd_num::Vec3;
+use pbd_num::{Row, Vec3};
 use pbd_world::Particle;
 use std::alloc::{AllocError, Global};
 use std::marker::Model;
@@ -18,8 +19,8 @@ use std::marker::Model;
 #[derive(Drop)]
 pub(crate) struct Columns<const L: usize> {
     count: usize,
-    at: Axes,
-    before: Axes,
+    at: PlaceRows,
+    before: PlaceRows,
     weight: Vec<u16>,
     held: Vec<bool>,
     /// The weight, and 0 where the particle is held.
@@ -85,25 +86,6 @@ fn picked_weights<const L: usize>(column: &[u16], rows: [usize; L]) -> [i64; L]
     values
 }
 
-fn still(all: bool, set: bool) -> bool
-    ensures all { IsTrue result → IsTrue all }
-    ensures set { IsTrue result → IsTrue set }
-{
-    all & set
-}
-
-// Whether each of L lanes is set.
-#[inline(always)]
-fn are_all<const L: usize>(set: [bool; L]) -> bool
-    ensures { IsTrue result → (j : ℕ) → j < L → IsTrue (is_set set.entry j) }
-{
-    let mut all = true;
-    for j in 0..L {
-        all = still(all, set[j]);
-    }
-    all
-}
-
 fn set_weight(column: &mut Vec<u16>, i: usize, weight: u16)
     requires { i < length column.old.items }
     ensures { column.new.items ≡ slice_set column.old.items i weight }
@@ -123,47 +105,29 @@ impl<const L: usize> Columns<L> {
         requires { length particles.now ≤ 65536 }
         ensures { IfOk result (λ s. s ≡ particles.now) }
     {
-        let at_x = column(alloc, particles, L, Field::AtX)?;
-        let at_y = column(alloc, particles, L, Field::AtY)?;
-        let at_z = column(alloc, particles, L, Field::AtZ)?;
-        let before_x = column(alloc, particles, L, Field::BeforeX)?;
-        let before_y = column(alloc, particles, L, Field::BeforeY)?;
-        let before_z = column(alloc, particles, L, Field::BeforeZ)?;
+        let at = PlaceRows::open(alloc, particles, L, Field::At)?;
+        let before = PlaceRows::open(alloc, particles, L, Field::Before)?;
         let weights = weights_of(alloc, particles)?;
         let weight = padded(weights, L, 0)?;
         let flags = flags_of(alloc, particles)?;
         let held = padded(flags, L, false)?;
         let effective_weights = effective_weights_of(alloc, particles)?;
         let effective = padded(effective_weights, L, 0)?;
-        let at = Axes {
-            x: at_x,
-            y: at_y,
-            z: at_z,
-        };
-        let before = Axes {
-            x: before_x,
-            y: before_y,
-            z: before_z,
-        };
         Ok(Columns::put_together(particles, at, before, weight, held, effective))
     }
 
     // The columns of a list.
     fn put_together(
         particles: &[Particle],
-        at: Axes,
-        before: Axes,
+        at: PlaceRows,
+        before: PlaceRows,
         weight: Vec<u16>,
         held: Vec<bool>,
         effective: Vec<u16>,
     ) -> Columns<L>
         requires few { length particles.now ≤ 65536 }
-        requires at_x { at.x.items ≡ map (number_of Field.AtX) particles.now ++ replicate L (pos 0) }
-        requires at_y { at.y.items ≡ map (number_of Field.AtY) particles.now ++ replicate L (pos 0) }
-        requires at_z { at.z.items ≡ map (number_of Field.AtZ) particles.now ++ replicate L (pos 0) }
-        requires before_x { before.x.items ≡ map (number_of Field.BeforeX) particles.now ++ replicate L (pos 0) }
-        requires before_y { before.y.items ≡ map (number_of Field.BeforeY) particles.now ++ replicate L (pos 0) }
-        requires before_z { before.z.items ≡ map (number_of Field.BeforeZ) particles.now ++ replicate L (pos 0) }
+        requires at { at ≡ map (λ p. p.at) particles.now ++ replicate L zero_vector }
+        requires before { before ≡ map (λ p. p.before) particles.now ++ replicate L zero_vector }
         requires weight { weight.items ≡ map (λ p. p.weight) particles.now ++ replicate L 0 }
         requires held { held.items ≡ map (λ p. p.held) particles.now ++ replicate L false }
         requires effective { effective.items ≡ map effective_weight particles.now ++ replicate L 0 }
@@ -192,8 +156,8 @@ impl<const L: usize> Columns<L> {
         ensures { result ≡ particle_at self.now i }
     {
         Particle {
-            at: self.at.place(i),
-            before: self.before.place(i),
+            at: self.at.get(i),
+            before: self.before.get(i),
             weight: self.weight[i],
             held: self.held[i],
         }
@@ -235,6 +199,40 @@ impl<const L: usize> Columns<L> {
             at: self.at.picked(rows),
             weight: Lanes::from_array(picked_weights(&self.effective, rows)),
         }
+    }
+
+    /// The place of a particle in numbers of 32 bits.
+    #[inline(always)]
+    pub(crate) fn narrow(&self, i: u32) -> Row
+        requires some { i < length self.now }
+        requires within { Within (2 ^ 30) (particle_at self.now i).at }
+        ensures place { vector_of result ≡ (particle_at self.now i).at }
+        ensures flag { result.flag ≡ pos 0 }
+    {
+        self.at.narrow(i as usize)
+    }
+
+    /// The effective weight of a particle.
+    #[inline(always)]
+    pub(crate) fn effective(&self, i: u32) -> i32
+        requires { i < length self.now }
+        ensures { result ≡ pos (effective_weight (particle_at self.now i)) }
+    {
+        i32::from(self.effective[i as usize])
+    }
+
+    /// Moves a particle by a short way, and gives its new place.
+    #[inline(always)]
+    pub(crate) fn step(&mut self, i: u32, way: Row) -> Row
+        requires some { i < length self.old }
+        requires place { Within (2 ^ 29) (particle_at self.old i).at }
+        requires way { Within (2 ^ 16) (vector_of way) }
+        requires flag { way.flag ≡ pos 0 }
+        ensures particles { self.new ≡ placed self.old i (plus (particle_at self.old i).at (vector_of way)) }
+        ensures place { vector_of result ≡ plus (particle_at self.old i).at (vector_of way) }
+        ensures flag { result.flag ≡ pos 0 }
+    {
+        self.at.step(i as usize, way)
     }
 
     #[inline(always)]
@@ -296,10 +294,8 @@ impl<const L: usize> Columns<L> {
             (place_of before.now.x before.now.y before.now.z) self.old self.new }
     {
         let own = self.own(start, &set.to_array());
-        let whole = are_all(own.to_array());
-        let chosen = Chosen { set: own, whole };
-        self.at.set_where(start, &chosen, at);
-        self.before.set_where(start, &chosen, before);
+        self.at.set_where(start, &own, at);
+        self.before.set_where(start, &own, before);
     }
 
     pub(crate) fn copy_from(&mut self, other: &Columns<L>)
@@ -313,20 +309,26 @@ impl<const L: usize> Columns<L> {
         self.effective.copy_from_slice(&other.effective);
     }
 
-    // One number of the L particles from `start` on.
-    pub(crate) fn numbers(&self, start: usize, which: Field) -> Lanes<L>
+    /// The places of the L particles from `start` on.
+    pub(crate) fn at_lanes(&self, start: usize) -> Lanes3<L>
         requires start { start ≤ length self.now }
         requires lanes { L ≤ 16 }
-        ensures { result ≡ lanes_of L (λ j. number_of which (particle_at self.now (start + j))) }
+        ensures x { result.x ≡ lanes_of L (λ j. (particle_at self.now (start + j)).at.x) }
+        ensures y { result.y ≡ lanes_of L (λ j. (particle_at self.now (start + j)).at.y) }
+        ensures z { result.z ≡ lanes_of L (λ j. (particle_at self.now (start + j)).at.z) }
     {
-        match which {
-            Field::AtX => lanes_from(&self.at.x, start),
-            Field::AtY => lanes_from(&self.at.y, start),
-            Field::AtZ => lanes_from(&self.at.z, start),
-            Field::BeforeX => lanes_from(&self.before.x, start),
-            Field::BeforeY => lanes_from(&self.before.y, start),
-            Field::BeforeZ => lanes_from(&self.before.z, start),
-        }
+        self.at.lanes_from(start)
+    }
+
+    /// Their places before.
+    pub(crate) fn before_lanes(&self, start: usize) -> Lanes3<L>
+        requires start { start ≤ length self.now }
+        requires lanes { L ≤ 16 }
+        ensures x { result.x ≡ lanes_of L (λ j. (particle_at self.now (start + j)).before.x) }
+        ensures y { result.y ≡ lanes_of L (λ j. (particle_at self.now (start + j)).before.y) }
+        ensures z { result.z ≡ lanes_of L (λ j. (particle_at self.now (start + j)).before.z) }
+    {
+        self.before.lanes_from(start)
     }
 
     pub(crate) fn weights(&self, start: usize) -> Lanes<L>

@@ -5,12 +5,11 @@ ghost use Rattle.pbd_world.specs.Valid.{is_limit};
 ghost use Rattle.pbd_store.specs.Blocks.{blocks_of, loaded, filled_lanes, place_of, Saved};
 ghost use Rattle.pbd_store.specs.Gathering.{index_at, gathered, NamesApart, Scattered};
 
-use crate::axes::Field;
 use crate::columns::Columns;
 use crate::lanes3::{Block, Ends, Lanes3};
 use crate::span::{Span, particles_in};
 use crate::steps::Steps;
-use pbd_lanes::{Lanes, Mask};
+use pbd_lanes::Mask;
 use pbd_num::Vec3;
 use pbd_world::Particle;
 use std::alloc::{AllocError, Global};
@@ -32,8 +31,8 @@ fn start_of(block: u32, lanes: usize, len: u32) -> usize
 /// The calls that reach particles each raise the count of accesses by one.
 #[derive(Drop)]
 pub struct Store<const L: usize> {
-    columns: Columns<L>,
-    limit: i64,
+    pub(crate) columns: Columns<L>,
+    pub(crate) limit: i64,
 }
 
 impl<const L: usize> Model for Store<L> {
@@ -161,16 +160,8 @@ impl<const L: usize> Store<L> {
         steps.tick();
         let start = start_of(block, L, self.len());
         Block {
-            at: Lanes3 {
-                x: self.columns.numbers(start, Field::AtX),
-                y: self.columns.numbers(start, Field::AtY),
-                z: self.columns.numbers(start, Field::AtZ),
-            },
-            before: Lanes3 {
-                x: self.columns.numbers(start, Field::BeforeX),
-                y: self.columns.numbers(start, Field::BeforeY),
-                z: self.columns.numbers(start, Field::BeforeZ),
-            },
+            at: self.columns.at_lanes(start),
+            before: self.columns.before_lanes(start),
             weight: self.columns.weights(start),
             held: self.columns.held(start),
             filled: self.columns.filled(start),

@@ -266,7 +266,7 @@ fn tried_by_axes(rt: &impl Abort, pair: &Pair, reach: i64) -> Option<[[i64; 3]; 
         first: wa as i64,
         second: wb as i64,
     };
-    let tried = try_moves(first, second, draw, weights);
+    let tried = try_moves(first.minus(second), draw, weights);
     if tried.right {
         Some([axes(tried.first), axes(tried.second)])
     } else {

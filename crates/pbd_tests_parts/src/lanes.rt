@@ -1,10 +1,19 @@
 //! Each call at each width, over whole arrays.
-ghost use Rattle.std.specs.Prelude.{◌<◌, ◌≤◌};
+ghost use Rattle.std.specs.Prelude.{ℕ, ◌<◌, ◌≤◌, ◌^◌, pos, ◌<ℤ◌, IsTrue, unsigned_abs};
+ghost use Rattle.pbd_lanes.specs.Lane.{lane};
 
 use pbd_lanes::{Lanes, Mask};
+use pbd_num::{RANGE, axis_within};
+use std::process::Abort;
 
 #[derive(Clone, Copy, Drop, PartialEq)]
 struct Seen<const L: usize> {
+    sum: [i64; L],
+    difference: [i64; L],
+    product: [i64; L],
+    less: [bool; L],
+    quotient: [i64; L],
+    root: [i64; L],
     chosen: [i64; L],
     both: [bool; L],
     first: Option<usize>,
@@ -20,21 +29,64 @@ struct Case<const L: usize> {
     seen: Seen<L>,
 }
 
+/// Whether each number is in range.
+fn are_in_range<const L: usize>(numbers: &Lanes<L>) -> bool
+    requires { L ≤ 16 }
+    ensures { IsTrue result → (j : ℕ) → j < L → unsigned_abs (lane numbers.now j) ≤ 2 ^ 29 }
+{
+    for j in 0..L {
+        if !axis_within(numbers.at(j), RANGE) {
+            return false;
+        }
+    }
+    true
+}
+
+/// Whether each number is above 0.
+fn are_above_0<const L: usize>(numbers: &Lanes<L>) -> bool
+    requires { L ≤ 16 }
+    ensures { IsTrue result → (j : ℕ) → j < L → pos 0 <ℤ lane numbers.now j }
+{
+    for j in 0..L {
+        if numbers.at(j) <= 0 {
+            return false;
+        }
+    }
+    true
+}
+
+fn see<const L: usize>(x: &Lanes<L>, y: &Lanes<L>, mask: &Mask<L>, other: &Mask<L>) -> Seen<L>
+    requires lanes { L ≤ 16 }
+    requires x { (j : ℕ) → j < L → unsigned_abs (lane x.now j) ≤ 2 ^ 29 }
+    requires y { (j : ℕ) → j < L → unsigned_abs (lane y.now j) ≤ 2 ^ 29 }
+    requires above { (j : ℕ) → j < L → pos 0 <ℤ lane y.now j }
+{
+    let both = mask.and(other);
+    Seen {
+        sum: x.add(y).to_array(),
+        difference: x.sub(y).to_array(),
+        product: x.mul(y).to_array(),
+        less: x.less(y).to_array(),
+        quotient: Lanes::rdiv_lanes(x, y, mask).to_array(),
+        root: Lanes::root_lanes(y, mask).to_array(),
+        chosen: Lanes::select(mask, x, y).to_array(),
+        both: both.to_array(),
+        first: both.first(),
+        ones: Lanes::splat(1).to_array(),
+    }
+}
+
 /// Whether a case is seen so.
-fn holds<const L: usize>(case: &Case<L>) -> bool
+fn holds<const L: usize>(rt: &impl Abort, case: &Case<L>) -> bool
     requires { L ≤ 16 }
 {
     let x = Lanes::from_array(case.x);
     let y = Lanes::from_array(case.y);
+    assert!(rt; are_in_range(&x));
+    assert!(rt; are_in_range(&y));
+    assert!(rt; are_above_0(&y));
     let mask = Mask::from_array(case.set);
-    let both = mask.and(&Mask::from_array(case.other));
-    let seen = Seen {
-        chosen: Lanes::select(&mask, &x, &y).to_array(),
-        both: both.to_array(),
-        first: both.first(),
-        ones: Lanes::splat(1).to_array(),
-    };
-    seen == case.seen
+    see(&x, &y, &mask, &Mask::from_array(case.other)) == case.seen
 }
 
 /// Four lanes, what was put into one of them, and what one of them has.
@@ -66,6 +118,12 @@ static ONE: Case<1> = Case {
     set: [false],
     other: [true],
     seen: Seen {
+        sum: [2],
+        difference: [-6],
+        product: [-8],
+        less: [true],
+        quotient: [0],
+        root: [0],
         chosen: [4],
         both: [false],
         first: None,
@@ -79,6 +137,12 @@ static TWO: Case<2> = Case {
     set: [true, true],
     other: [false, true],
     seen: Seen {
+        sum: [11, 2],
+        difference: [1, -6],
+        product: [30, -8],
+        less: [false, true],
+        quotient: [1, -1],
+        root: [2, 2],
         chosen: [6, -2],
         both: [false, true],
         first: Some(1),
@@ -92,6 +156,12 @@ static FOUR: Case<4> = Case {
     set: [false, false, true, true],
     other: [true, true, false, true],
     seen: Seen {
+        sum: [-3, 12, 11, 2],
+        difference: [-15, -4, 1, -6],
+        product: [-54, 32, 30, -8],
+        less: [true, true, false, true],
+        quotient: [0, 0, 1, -1],
+        root: [0, 0, 2, 2],
         chosen: [6, 8, 6, -2],
         both: [false, false, false, true],
         first: Some(3),
@@ -105,6 +175,12 @@ static EIGHT: Case<8> = Case {
     set: [false, true, false, true, true, false, true, true],
     other: [true, true, false, true, true, true, false, true],
     seen: Seen {
+        sum: [6, 1, 9, 4, -3, 12, 11, 2],
+        difference: [-2, -13, 5, -2, -15, -4, 1, -6],
+        product: [8, -42, 14, 3, -54, 32, 30, -8],
+        less: [true, true, false, true, true, true, false, true],
+        quotient: [0, -1, 0, 0, -2, 0, 1, -1],
+        root: [0, 2, 0, 1, 2, 0, 2, 2],
         chosen: [4, -6, 2, 1, -9, 8, 6, -2],
         both: [false, true, false, true, true, false, false, true],
         first: Some(1),
@@ -124,6 +200,17 @@ static SIXTEEN: Case<16> = Case {
         false, true,
     ],
     seen: Seen {
+        sum: [-5, 8, 4, 11, 2, 13, 5, -1, 6, 1, 9, 4, -3, 12, 11, 2],
+        difference: [-9, 2, -4, 7, -4, 3, 1, -7, -2, -13, 5, -2, -15, -4, 1, -6],
+        product: [
+            -14, 15, 0, 18, -3, 40, 6, -12, 8, -42, 14, 3, -54, 32, 30, -8,
+        ],
+        less: [
+            true, false, true, false, true, false, false, true, true, true, false, true, true,
+            true, false, true,
+        ],
+        quotient: [-4, 0, 0, 5, 0, 2, 2, 0, 0, -1, 0, 0, -2, 0, 1, -1],
+        root: [1, 0, 2, 1, 0, 2, 1, 0, 0, 2, 0, 1, 2, 0, 2, 2],
         chosen: [-7, 3, 0, 9, 3, 8, 3, 3, 4, -6, 2, 1, -9, 8, 6, -2],
         both: [
             true, false, true, false, false, false, false, false, false, true, false, true, true,
@@ -134,14 +221,34 @@ static SIXTEEN: Case<16> = Case {
     },
 };
 
+static GREAT: Case<4> = Case {
+    x: [536870912, -536870912, 536870911, -5],
+    y: [536870912, 7, 2, 10],
+    set: [true, true, true, true],
+    other: [false, false, true, true],
+    seen: Seen {
+        sum: [1073741824, -536870905, 536870913, 5],
+        difference: [0, -536870919, 536870909, -15],
+        product: [288230376151711744, -3758096384, 1073741822, -50],
+        less: [false, true, false, true],
+        quotient: [1, -76695845, 268435456, -1],
+        root: [23170, 2, 1, 3],
+        chosen: [536870912, -536870912, 536870911, -5],
+        both: [false, false, true, true],
+        first: Some(2),
+        ones: [1, 1, 1, 1],
+    },
+};
+
 #[test]
 fn each_width(rt: HostRuntime) {
     let told = [
-        holds(&ONE),
-        holds(&TWO),
-        holds(&FOUR),
-        holds(&EIGHT),
-        holds(&SIXTEEN),
+        holds(&rt, &ONE),
+        holds(&rt, &TWO),
+        holds(&rt, &FOUR),
+        holds(&rt, &EIGHT),
+        holds(&rt, &SIXTEEN),
+        holds(&rt, &GREAT),
     ];
-    assert!(rt; told == [true; 5]);
+    assert!(rt; told == [true; 6]);
 }

@@ -1,5 +1,5 @@
-//! Tests of numbers, lanes, lists and scenes, of chains, colours, cells and contacts, and of stores and of what a step
-//! does to one: bonds, shapes, tracks, tears, and the momentum.
+//! Tests of numbers, short bonds, lanes, lists and scenes, of chains, colours, cells and contacts, and of stores and of what
+//! a step does to one: bonds, shapes, tracks, tears, and the momentum.
 #![tactic(auto)]
 
 #[cfg(test)]
@@ -14,6 +14,8 @@ mod hard;
 mod lanes;
 #[cfg(test)]
 mod ledger;
+#[cfg(test)]
+mod near;
 #[cfg(test)]
 mod num;
 #[cfg(test)]

@@ -235,6 +235,34 @@ static SEVENTEEN: Case = Case {
     seen: stays!([3, 102, 3, 102], 34, 0, 0, 0),
 };
 
+// Short bonds with a held second end, a held first end and none.
+static BESIDE_HELD: Case = Case {
+    particles: &[
+        free!(0, 0, 1),
+        held!(105, 0, 0),
+        held!(0, 10, 0),
+        free!(110, 10, 1),
+        free!(0, 20, 1),
+        free!(105, 20, 1),
+    ],
+    bonds: Bonds::Links(&[link!(0, 1, 100), link!(2, 3, 100), link!(4, 5, 100)]),
+    batch: &[0, 1, 2],
+    seen: stays!([5, 105, 3, 102], 2, 0, 0, -5),
+};
+
+// A long bond, of unequal weights, beside a short one with a held end.
+static LONG: Case = Case {
+    particles: &[
+        free!(0, 0, 1),
+        free!(20012, 0, 3),
+        held!(0, 10, 0),
+        free!(105, 10, 1),
+    ],
+    bonds: Bonds::Links(&[link!(0, 1, 20000), link!(2, 3, 100)]),
+    batch: &[1, 0],
+    seen: stays!([3, 20003, 0, 100], 1, -6, 0, -5),
+};
+
 /// How many places are at 3 or 102 on x.
 fn settled_places<G: Ledger, const L: usize>(store: &Store<L>, steps: &mut Steps<G>) -> u32 {
     let mut count = 0u32;
@@ -320,7 +348,7 @@ fn links<G: Ledger, P: Projector<L>, const L: usize>(
     alloc: Global,
     steps: &mut Steps<G>,
     projector: &mut P,
-) -> [bool; 7]
+) -> [bool; 9]
     requires low { 0 < L }
     requires high { L ≤ 16 }
 {
@@ -332,6 +360,8 @@ fn links<G: Ledger, P: Projector<L>, const L: usize>(
         holds(alloc, steps, projector, &FIVE),
         holds(alloc, steps, projector, &TWO_OF_FIVE_LEAVE),
         holds(alloc, steps, projector, &SEVENTEEN),
+        holds(alloc, steps, projector, &BESIDE_HELD),
+        holds(alloc, steps, projector, &LONG),
     ]
 }
 
@@ -352,7 +382,7 @@ fn contacts_and_ends<G: Ledger, P: Projector<L>, const L: usize>(
 }
 
 /// Which cases hold, and how many bonds their projector was handed then.
-type Told = ([bool; 7], [bool; 4], u64);
+type Told = ([bool; 9], [bool; 4], u64);
 
 fn batches<G: Ledger, P: Projector<L>, const L: usize>(
     alloc: Global,
@@ -367,8 +397,8 @@ fn batches<G: Ledger, P: Projector<L>, const L: usize>(
     (links, others, projector.handed())
 }
 
-/// The eleven cases hand over 35 bonds.
-const ALL_HOLD: Told = ([true; 7], [true; 4], 35);
+/// The thirteen cases hand over 40 bonds.
+const ALL_HOLD: Told = ([true; 9], [true; 4], 40);
 
 /// What is told of two widths one by one, and of each width side by side.
 fn widths<G: Ledger>(alloc: Global, blank: Blank) -> [Told; 7]

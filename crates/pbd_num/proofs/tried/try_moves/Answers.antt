@@ -1,7 +1,7 @@
 use Rattle.std.proofs.Common.{arith, ◌≡◌, ◌∙◌, ap, sym, refl, ◌^◌, pos, ◌*ℤ◌, ◌<ℤ◌, w32, IsTrue, Bool, ◌&&◌, FitsSigned, w64, ◌≤ℤ◌, ◌≤◌, ℤ, unsigned_abs, to_z, of_z}
 use Rattle.std.proofs.lemmas.Int.{ints, to_z-of_z, fits_signed_from_abs}
 use Rattle.std.proofs.lemmas.Bool.{and_parts}
-use Rattle.pbd_num.specs.Vectors.{Within, minus, opposite, length_of, zero_vector}
+use Rattle.pbd_num.specs.Vectors.{Within, opposite, length_of, zero_vector}
 use Rattle.pbd_num.specs.declared.Vec3.{Vec3}
 use Rattle.pbd_num.proofs.Sizes.{fits, fits_from_zero, size_at_most}
 use Rattle.pbd_num.proofs.VectorSizes.{FitAxes, fit_axes, words_within}
@@ -31,6 +31,10 @@ each_right c right =
     let to_length = and_parts _ _ to_even.0 in
     record { length = to_length.0; even = to_length.1; x = to_even.1; y = to_x.1; z = to_y.1 }
 
+-- an axis as it is handed on is as short as the way's
+short_size : (x axis : ℤ) → x ≡ axis → unsigned_abs axis ≤ 2 ^ 30 → unsigned_abs x ≤ 2 ^ 30
+short_size x axis is size = rw is size
+
 -- what fits
 length_fits : (c : goal.After-struct_told-12-1) → FitsSigned w64 c.try_length-tried.result.length
 length_fits c = fits_from_zero c.try_length-tried.result.length c.try_length-tried.ensures.low c.try_length-tried.ensures.high
@@ -45,13 +49,14 @@ parts_fit : (c : goal.After-struct_told-12-1) → FitAxes (guessed c)
 parts_fit c = fit_axes (guessed c) (2 ^ 31) (omega arith) (record { x = c.try_part-x.ensures.size; y = c.try_part-y.ensures.size; z = c.try_part-z.ensures.size })
 
 -- the length
-length_is : (c : goal.After-struct_told-12-1) → Right c → c.try_length-tried.result.length ≡ pos (length_of (minus c.args.a c.args.b))
+length_is : (c : goal.After-struct_told-12-1) → Right c → c.try_length-tried.result.length ≡ pos (length_of c.args.way)
 length_is c right =
-    let same = c.way_between-way.ensures in
+    let same = c.short_way-way.ensures in
     c.try_length-tried.ensures.value right.length ∙ rw (same.x, same.y, same.z) refl
 
 -- the parts
-parted : (c : goal.After-struct_told-12-1) → Right c → guessed c ≡ parts_of (minus c.args.a c.args.b) c.try_length-tried.result.length c.args.draw.rest c.factor-factor.result
+parted : (c : goal.After-struct_told-12-1) → Right c
+    → guessed c ≡ parts_of c.args.way c.try_length-tried.result.length c.args.draw.rest c.factor-factor.result
 parted c right =
     let l_fits = length_fits c in
     let axes = parts_fit c in
@@ -60,16 +65,16 @@ parted c right =
     let z_fits = axes.z in
     let rest_fits = fits c.args.draw.rest (omega (arith, size_at_most c.args.draw.rest (2 ^ 31) c.requires.rest_low c.requires.rest_high)) in
     let f_fits = fits_signed_from_abs w32 c.factor-factor.result (omega (arith, c.factor-factor.ensures.size)) in
-    let way_x = fits_signed_from_abs w32 c.way_between-way.result.x (omega (arith, c.way_between-way.ensures.x_size)) in
-    let way_y = fits_signed_from_abs w32 c.way_between-way.result.y (omega (arith, c.way_between-way.ensures.y_size)) in
-    let way_z = fits_signed_from_abs w32 c.way_between-way.result.z (omega (arith, c.way_between-way.ensures.z_size)) in
+    let way_x = fits_signed_from_abs w32 c.short_way-way.result.x (omega (arith, short_size _ _ c.short_way-way.ensures.x c.requires.way.x)) in
+    let way_y = fits_signed_from_abs w32 c.short_way-way.result.y (omega (arith, short_size _ _ c.short_way-way.ensures.y c.requires.way.y)) in
+    let way_z = fits_signed_from_abs w32 c.short_way-way.result.z (omega (arith, short_size _ _ c.short_way-way.ensures.z c.requires.way.z)) in
     let long = simp to_z-of_z at c.pull_of-pull.ensures.length in
     let error = simp to_z-of_z at c.pull_of-pull.ensures.error in
     let some : pos 0 <ℤ c.pull_of-pull.result.length = rw long (c.try_length-tried.ensures.some right.length) in
     let vx = simp to_z-of_z at (c.try_part-x.ensures.value right.x some) in
     let vy = simp to_z-of_z at (c.try_part-y.ensures.value right.y some) in
     let vz = simp to_z-of_z at (c.try_part-z.ensures.value right.z some) in
-    let same = c.way_between-way.ensures in
+    let same = c.short_way-way.ensures in
     same_axes _ _ (vx ∙ rw (error, long, same.x) refl) (vy ∙ rw (error, long, same.y) refl) (vz ∙ rw (error, long, same.z) refl)
 
 turned : (c : goal.After-struct_told-12-1) → c.opposite.result ≡ opposite (guessed c)
@@ -173,15 +178,15 @@ pulled c axis size =
 
 pub try_part-x-requires : goal.try_part-x-requires
 try_part-x-requires c =
-    pulled (goal.at.try_part-x-requires c).After-factor-factor c.way_between-way.result.x c.way_between-way.ensures.x_size
+    pulled (goal.at.try_part-x-requires c).After-factor-factor c.short_way-way.result.x (short_size _ _ c.short_way-way.ensures.x c.requires.way.x)
 
 pub try_part-y-requires : goal.try_part-y-requires
 try_part-y-requires c =
-    pulled (goal.at.try_part-y-requires c).After-factor-factor c.way_between-way.result.y c.way_between-way.ensures.y_size
+    pulled (goal.at.try_part-y-requires c).After-factor-factor c.short_way-way.result.y (short_size _ _ c.short_way-way.ensures.y c.requires.way.y)
 
 pub try_part-z-requires : goal.try_part-z-requires
 try_part-z-requires c =
-    pulled (goal.at.try_part-z-requires c).After-factor-factor c.way_between-way.result.z c.way_between-way.ensures.z_size
+    pulled (goal.at.try_part-z-requires c).After-factor-factor c.short_way-way.result.z (short_size _ _ c.short_way-way.ensures.z c.requires.way.z)
 
 pub opposite-requires : goal.opposite-requires
 opposite-requires c =
@@ -214,8 +219,10 @@ returns-clause-moves c right near =
     let near' = simp to_z-of_z at near in
     let all = each_right c right in
     let moves = moves_are c in
-    both_moves c.args.a c.args.b (guessed c) c.opposite.result c.moved.result c.moved-2.result c.try_length-tried.result.length c.args.draw.rest c.args.weights.first c.args.weights.second c.args.draw.k c.factor-factor.result
-    (length_is c all) (c.try_length-tried.ensures.some all.length) (even_factor c all near') (parted c all) (turned c) moves.first_free moves.first_held moves.second_free moves.second_held
+    both_moves c.args.way (guessed c) c.opposite.result c.moved.result c.moved-2.result
+    c.try_length-tried.result.length c.args.draw.rest c.args.weights.first c.args.weights.second c.args.draw.k c.factor-factor.result
+    (length_is c all) (c.try_length-tried.ensures.some all.length) (even_factor c all near') (parted c all) (turned c)
+    moves.first_free moves.first_held moves.second_free moves.second_held
 
 pub returns-clause-first_rests : goal.returns-clause-first_rests
 returns-clause-first_rests c right far =

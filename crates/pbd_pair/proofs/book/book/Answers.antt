@@ -10,7 +10,8 @@ use Rattle.pbd_world.proofs.Rooms.{room_at}
 use Rattle.pbd_pair.proofs.book.book.Goals.{then-bond, else-bond}
 use Rattle.pbd_pair.proofs.book.book.Goals as goal
 
-both_booked : (t u : Ledger) {v : Ledger} {class : Class} (b : Bond) (s : Shift) → class ≡ class_of b → u ≡ booked t ((class, s.first_move) ∷ []) → v ≡ booked u ((class, s.second_move) ∷ []) → v ≡ booked t (entries_of false false (class_of b) s)
+both_booked : (t u : Ledger) {v : Ledger} {class : Class} (b : Bond) (s : Shift) → class ≡ class_of b → u ≡ booked t ((class, s.first_move) ∷ [])
+    → v ≡ booked u ((class, s.second_move) ∷ []) → v ≡ booked t (entries_of false false (class_of b) s)
 both_booked t u b s same first second =
     second ∙ (λ i. booked (first i) ((same i, s.second_move) ∷ [])) ∙ (λ i. booked t ((same i, s.first_move) ∷ (class_of b, s.second_move) ∷ []))
 
@@ -32,13 +33,15 @@ returns-then-second_held-clause-value c =
 pub returns-then-not-second_held-clause-value : goal.returns-then-not-second_held-clause-value
 returns-then-not-second_held-clause-value c =
     c.add.ensures.value
-    ∙ (λ i. booked (ledger_of c.args.totals.now) (entries_of (sym c.if-first_held.true i) (sym c.if-not-second_held.true i) (class_of c.args.bond) c.args.shift))
+    ∙ (λ i. booked (ledger_of c.args.totals.now) (entries_of (sym c.if-first_held.true i) (sym c.if-not-second_held.true i)
+    (class_of c.args.bond) c.args.shift))
 
 pub add-requires-else-second_held-2-clause-room : goal.add-requires-else-second_held-2-clause-room
 add-requires-else-second_held-2-clause-room c = room_at (2 ^ 126) (omega arith) (c.add-else-second_held.ensures.room (2 ^ 125) c.requires.room)
 
 pub returns-else-second_held-clause-room : goal.returns-else-second_held-clause-room
-returns-else-second_held-clause-room c = λ n h. room_at (n + 2 ^ 32) (omega arith) (c.add-else-second_held-2.ensures.room (n + 2 ^ 31) (c.add-else-second_held.ensures.room n h))
+returns-else-second_held-clause-room c = λ n h. room_at (n + 2 ^ 32) (omega arith) (c.add-else-second_held-2.ensures.room (n + 2 ^ 31)
+    (c.add-else-second_held.ensures.room n h))
 
 pub returns-then-second_held-clause-room : goal.returns-then-second_held-clause-room
 returns-then-second_held-clause-room c = λ n h. room_at (n + 2 ^ 32) (omega arith) (c.add-then-second_held.ensures.room n h)

@@ -1,85 +1,20 @@
-use Rattle.std.proofs.Common.{◌≡◌, ℕ, ◌-◌, ◌^◌, rules, refl, ◌<◌, ◌≤◌, min, length, List, ap, sym, ◌∙◌, arith, subst, ℤ}
+use Rattle.std.proofs.Common.{◌≡◌, ℕ, ◌-◌, ◌*◌, ◌/◌, ◌%◌, ◌^◌, rules, refl, ◌≤◌, min, length, List, ap, sym, ◌∙◌, arith, subst, ℤ}
 use Rattle.std.proofs.lemmas.Bool.{eqb-false, eqb-true}
 use Rattle.std.proofs.lemmas.List.{nil_from_length}
 use Rattle.pbd_world.specs.Bonds.{projected}
-use Rattle.pbd_pair.specs.Bonds.{bond_of}
+use Rattle.pbd_store.specs.Blocks.{blocks_of}
+use Rattle.pbd_pair.specs.Bonds.{bond_of, IsBound}
 use Rattle.pbd_store.specs.Moving.{motion_of, AreInside}
 use Rattle.pbd_pair.specs.Projecting.{IsBatch}
 use Rattle.pbd_world.proofs.Rooms.{room_at}
 use Rattle.pbd_store.proofs.Fixed.{same_length}
 use Rattle.pbd_pair.proofs.OneByOne.{block_done, block_leaves}
-use Rattle.pbd_pair.proofs.Blocks.{back_batch, front_batch, fewer_blocks, weigh_same}
+use Rattle.pbd_pair.proofs.Batches.{back_batch, front_batch, fewer_blocks, weigh_same, whole_chunk, some_chunk}
 use Rattle.pbd_pair.proofs.lanes.LaneProjectorProjector.project.Goals as goal
-
-pub returns-in-Err-clause-outcome : goal.returns-in-Err-clause-outcome
-returns-in-Err-clause-outcome g c =
-    let bond = bond_of c.args.bonds in
-    let limit = c.steps_on.store.limit in
-    let m = motion_of c.steps_on.store c.steps_on.totals in
-    let front = ap (λ (b : List ℕ). projected limit bond b m) (sym c.split_at.ensures.front) in
-    sym c.steps_on.invariant.same ∙ block_leaves limit bond c.min-size.result c.steps_on.rest.now m c.in-Err.left.element (front ∙ c.in-Err.ensures.outcome)
-
-pub steps_on-preserved : goal.steps_on-preserved
-steps_on-preserved g c =
-    let bond = bond_of c.args.bonds in
-    let limit = c.steps_on.store.limit in
-    let k = c.min-size.result in
-    let rest = c.steps_on.rest.now in
-    let inv = c.steps_on.invariant in
-    let size : k ≡ min (length rest) g.row.L = c.min-size.ensures in
-    let fits : k ≤ length rest = omega arith in
-    let ne = eqb-false (length rest) 0 (sym c.is_empty.ensures ∙ c.steps_on-test.true) in
-    let some : 0 < length rest = omega (arith, ne) in
-    let fixed = c.project_block.ensures.rest.fixed in
-    let same_limit : limit ≡ c.project_block.new.store.limit = sym c.project_block.ensures.rest.limit in
-    let whole = same_length c.project_block.new.store.particles c.steps_on.store.particles fixed in
-    let back = c.split_at.ensures.back in
-    let m = motion_of c.steps_on.store c.steps_on.totals in
-    let then = motion_of c.project_block.new.store c.project_block.new.totals in
-    let front = ap (λ (b : List ℕ). projected limit bond b m) (sym c.split_at.ensures.front) in
-    let fewer = fewer_blocks (length rest) k g.row.L c.requires.lanes_low some size in
-    let left : length c.split_at.result.1.now ≡ length rest - k = omega (arith, c.split_at.ensures.back_len) in
-    record {
-      batch = subst (λ (l : ℤ). IsBatch l (length c.project_block.new.store.particles) c.args.bonds c.split_at.result.1.now) same_limit (rw (whole, back) (back_batch limit (length c.steps_on.store.particles) c.args.bonds rest k fits inv.batch));
-      inside = subst (λ (l : ℤ). AreInside l c.project_block.new.store.particles) same_limit c.project_block.ensures.rest.inside;
-      weights = weigh_same c.steps_on.store.particles c.project_block.new.store.particles fixed inv.weights;
-      room = room_at _ (omega (arith, c.split_at.ensures.back_len, c.split_at.ensures.front_len, inv.shorter)) (c.project_block.ensures.rest.room _ inv.room);
-      grows = λ n h. room_at _ (omega (arith, c.split_at.ensures.back_len, c.split_at.ensures.front_len, inv.shorter)) (c.project_block.ensures.rest.room _ (inv.grows n h));
-      shorter = omega (arith, inv.shorter, left);
-      same = (λ i. projected (sym same_limit i) bond (back i) then) ∙ block_done limit bond k rest m then (front ∙ c.in_default.ensures.outcome) ∙ inv.same;
-      limit = c.project_block.ensures.rest.limit ∙ inv.limit;
-      fixed = fixed ∙ inv.fixed;
-      cost = rw left (omega (arith, fewer, inv.cost, c.project_block.ensures.cost));
-    }
-
-pub returns-clause-room : goal.returns-clause-room
-returns-clause-room g c = λ n h. room_at _ (omega arith) (c.steps_on.invariant.grows n h)
-
-pub project_block-requires : goal.project_block-requires
-project_block-requires g c =
-    let rest = c.steps_on.rest.now in
-    let k = c.min-size.result in
-    let inv = c.steps_on.invariant in
-    let size : k ≡ min (length rest) g.row.L = c.min-size.ensures in
-    let fits : k ≤ length rest = omega arith in
-    let ne = eqb-false (length rest) 0 (sym c.is_empty.ensures ∙ c.steps_on-test.true) in
-    let front : length c.split_at.result.0.now ≡ k = c.split_at.ensures.front_len in (
-      omega arith,
-      (
-        c.requires.lanes_high,
-        record {
-          short = omega (arith, front);
-          some = omega (arith, front, ne, c.requires.lanes_low);
-          batch = rw c.split_at.ensures.front (front_batch c.steps_on.store.limit (length c.steps_on.store.particles) c.args.bonds rest k fits inv.batch);
-          inside = inv.inside;
-          weights = inv.weights;
-          room = room_at (2 ^ 124) (search rules) inv.room;
-        },
-      ),
-    )
 
 pub steps_on-init : goal.steps_on-init
 steps_on-init g c = record {
+  bound = subst (λ (z : ℤ). IsBound z) c.limit_of.ensures.value c.limit_of.ensures.bound;
   batch = c.requires.batch;
   inside = c.requires.inside;
   weights = c.requires.weights;
@@ -92,15 +27,116 @@ steps_on-init g c = record {
   cost = omega arith;
 }
 
+pub returns-in-Err-clause-outcome : goal.returns-in-Err-clause-outcome
+returns-in-Err-clause-outcome g c =
+    let bond = bond_of c.args.bonds in
+    let limit = c.steps_on.store.limit in
+    let m = motion_of c.steps_on.store c.steps_on.totals in
+    let front = ap (λ (b : List ℕ). projected limit bond b m) (sym c.split_at.ensures.front) in
+    sym c.steps_on.invariant.same ∙ block_leaves limit bond c.min-size.result c.steps_on.rest.now m c.in-Err.left.element (front ∙ c.in-Err.ensures.outcome)
+
+pub returns-in-Err-clause-limit : goal.returns-in-Err-clause-limit
+returns-in-Err-clause-limit g c = c.in-Err.ensures.limit ∙ c.steps_on.invariant.limit
+
+pub returns-in-Err-clause-fixed : goal.returns-in-Err-clause-fixed
+returns-in-Err-clause-fixed g c = c.in-Err.ensures.fixed ∙ c.steps_on.invariant.fixed
+
+pub steps_on-preserved : goal.steps_on-preserved
+steps_on-preserved g c =
+    let bond = bond_of c.args.bonds in
+    let limit = c.steps_on.store.limit in
+    let k = c.min-size.result in
+    let rest = c.steps_on.rest.now in
+    let inv = c.steps_on.invariant in
+    let size : k ≡ min (length rest) (128 / g.row.L * g.row.L) = c.min-size.ensures ∙ ap (min (length rest)) (sym (whole_chunk g.row.L)) in
+    let fits : k ≤ length rest = omega arith in
+    let sound = c.in_default.ensures.sound in
+    let fixed = c.project.ensures.fixed in
+    let same_limit : limit ≡ c.project.new.store.limit = sym c.project.ensures.limit in
+    let whole = same_length c.project.new.store.particles c.steps_on.store.particles fixed in
+    let back = c.split_at.ensures.back in
+    let m = motion_of c.steps_on.store c.steps_on.totals in
+    let then = motion_of c.project.new.store c.project.new.totals in
+    let front = ap (λ (b : List ℕ). projected limit bond b m) (sym c.split_at.ensures.front) in
+    let fewer = fewer_blocks (length rest) k (128 / g.row.L) g.row.L c.requires.lanes_low size in
+    let left : length c.split_at.result.1.now ≡ length rest - k = omega (arith, c.split_at.ensures.back_len) in
+    record {
+      bound = subst (λ (z : ℤ). IsBound z) same_limit inv.bound;
+      batch = subst (λ (l : ℤ). IsBatch l (length c.project.new.store.particles) c.args.bonds c.split_at.result.1.now) same_limit (rw (whole, back)
+          (back_batch limit (length c.steps_on.store.particles) c.args.bonds rest k fits inv.batch));
+      inside = subst (λ (l : ℤ). AreInside l c.project.new.store.particles) same_limit sound.inside;
+      weights = weigh_same c.steps_on.store.particles c.project.new.store.particles fixed inv.weights;
+      room = room_at _ (omega (arith, c.split_at.ensures.back_len, c.split_at.ensures.front_len, inv.shorter)) (sound.room _ inv.room);
+      grows = λ n h. room_at _ (omega (arith, c.split_at.ensures.back_len, c.split_at.ensures.front_len, inv.shorter)) (sound.room _ (inv.grows n h));
+      shorter = omega (arith, inv.shorter, left);
+      same = (λ i. projected (sym same_limit i) bond (back i) then) ∙ block_done limit bond k rest m then (front ∙ c.in_default.ensures.outcome) ∙ inv.same;
+      limit = c.project.ensures.limit ∙ inv.limit;
+      fixed = fixed ∙ inv.fixed;
+      cost = rw left (omega (arith, fewer, inv.cost, c.project.ensures.cost, ap (λ (x : ℕ). blocks_of x g.row.L) c.split_at.ensures.front_len));
+    }
+
+pub steps_on-smaller : goal.steps_on-smaller
+steps_on-smaller g c =
+    let rest = c.steps_on.rest.now in
+    let ne = eqb-false (length rest) 0 (sym c.is_empty-in-steps_on.ensures ∙ c.steps_on-test.true) in
+    omega (arith, c.split_at.ensures.back_len, c.min-size.ensures, ne, some_chunk g.row.L c.requires.lanes_low c.requires.lanes_high)
+
+pub project-requires : goal.project-requires
+project-requires g c =
+    let rest = c.steps_on.rest.now in
+    let k = c.min-size.result in
+    let inv = c.steps_on.invariant in
+    let size : k ≡ min (length rest) (128 - 128 % g.row.L) = c.min-size.ensures in
+    let fits : k ≤ length rest = omega arith in
+    let ne = eqb-false (length rest) 0 (sym c.is_empty-in-steps_on.ensures ∙ c.steps_on-test.true) in
+    let front : length c.split_at.result.0.now ≡ k = c.split_at.ensures.front_len in (
+      omega arith,
+      (
+        c.requires.lanes_low,
+        (
+          c.requires.lanes_high,
+          record {
+            bound = inv.bound;
+            short = omega (arith, front);
+            some = omega (arith, front, ne, some_chunk g.row.L c.requires.lanes_low c.requires.lanes_high);
+            batch = rw c.split_at.ensures.front (front_batch c.steps_on.store.limit (length c.steps_on.store.particles) c.args.bonds rest k fits inv.batch);
+            inside = inv.inside;
+            weights = inv.weights;
+            room = room_at (2 ^ 124) (search rules) inv.room;
+          },
+        ),
+      ),
+    )
+
 pub returns-in-Err-clause-cost : goal.returns-in-Err-clause-cost
 returns-in-Err-clause-cost g c =
     let rest = c.steps_on.rest.now in
-    let size : c.min-size.result ≡ min (length rest) g.row.L = c.min-size.ensures in
-    let ne = eqb-false (length rest) 0 (sym c.is_empty.ensures ∙ c.steps_on-test.true) in
-    let some : 0 < length rest = omega (arith, ne) in
-    omega (arith, fewer_blocks (length rest) c.min-size.result g.row.L c.requires.lanes_low some size, c.steps_on.invariant.cost, c.project_block.ensures.cost)
+    let size : c.min-size.result ≡ min (length rest) (128 / g.row.L * g.row.L) = c.min-size.ensures ∙ ap (min (length rest)) (sym (whole_chunk g.row.L)) in
+    omega (
+      arith,
+      fewer_blocks (length rest) c.min-size.result (128 / g.row.L) g.row.L c.requires.lanes_low size,
+      c.steps_on.invariant.cost,
+      c.in-Err.ensures.cost,
+      ap (λ (x : ℕ). blocks_of x g.row.L) c.split_at.ensures.front_len,
+    )
 
 pub returns-clause-outcome : goal.returns-clause-outcome
 returns-clause-outcome g c =
-    let none = nil_from_length c.steps_on.rest.now (eqb-true (length c.steps_on.rest.now) 0 (sym c.is_empty.ensures ∙ c.steps_on-test.false)) in
-    sym c.steps_on.invariant.same ∙ ap (λ (b : List ℕ). projected c.steps_on.store.limit (bond_of c.args.bonds) b (motion_of c.steps_on.store c.steps_on.totals)) none
+    let none = nil_from_length c.steps_on.rest.now (eqb-true (length c.steps_on.rest.now) 0 (sym c.is_empty-in-steps_on.ensures ∙ c.steps_on-test.false)) in
+    sym c.steps_on.invariant.same ∙ ap (λ (b : List ℕ). projected c.steps_on.store.limit (bond_of c.args.bonds) b
+    (motion_of c.steps_on.store c.steps_on.totals)) none
+
+pub returns-clause-limit : goal.returns-clause-limit
+returns-clause-limit g c = c.steps_on.invariant.limit
+
+pub returns-clause-fixed : goal.returns-clause-fixed
+returns-clause-fixed g c = c.steps_on.invariant.fixed
+
+pub returns-clause-inside : goal.returns-clause-inside
+returns-clause-inside g c = subst (λ (l : ℤ). AreInside l c.steps_on.store.particles) c.steps_on.invariant.limit c.steps_on.invariant.inside
+
+pub returns-clause-room : goal.returns-clause-room
+returns-clause-room g c = λ n h. room_at _ (omega arith) (c.steps_on.invariant.grows n h)
+
+pub returns-clause-cost : goal.returns-clause-cost
+returns-clause-cost g c = omega (arith, c.steps_on.invariant.cost)

@@ -23,23 +23,11 @@ start_of-start-requires g c = record {
 pub returns-clause-cost : goal.returns-clause-cost
 returns-clause-cost g c = c.tick.ensures
 
-pub numbers-requires : goal.numbers-requires
-numbers-requires g c = (omega (arith, c.requires.lanes), (omega (arith, c.requires.lanes), (omega (arith, c.start_of-start.ensures.within, c.len.ensures.value, ap (λ (s : Stored). length s.particles) c.self.view_is), c.requires.lanes)))
+pub at_lanes-requires : goal.at_lanes-requires
+at_lanes-requires g c = (omega (arith, c.requires.lanes), (omega (arith, c.requires.lanes), (omega (arith, c.start_of-start.ensures.within, c.len.ensures.value, ap (λ (s : Stored). length s.particles) c.self.view_is), c.requires.lanes)))
 
-pub numbers-requires-2 : goal.numbers-requires-2
-numbers-requires-2 g c = (omega (arith, c.requires.lanes), (omega (arith, c.requires.lanes), (omega (arith, c.start_of-start.ensures.within, c.len.ensures.value, ap (λ (s : Stored). length s.particles) c.self.view_is), c.requires.lanes)))
-
-pub numbers-requires-3 : goal.numbers-requires-3
-numbers-requires-3 g c = (omega (arith, c.requires.lanes), (omega (arith, c.requires.lanes), (omega (arith, c.start_of-start.ensures.within, c.len.ensures.value, ap (λ (s : Stored). length s.particles) c.self.view_is), c.requires.lanes)))
-
-pub numbers-requires-4 : goal.numbers-requires-4
-numbers-requires-4 g c = (omega (arith, c.requires.lanes), (omega (arith, c.requires.lanes), (omega (arith, c.start_of-start.ensures.within, c.len.ensures.value, ap (λ (s : Stored). length s.particles) c.self.view_is), c.requires.lanes)))
-
-pub numbers-requires-5 : goal.numbers-requires-5
-numbers-requires-5 g c = (omega (arith, c.requires.lanes), (omega (arith, c.requires.lanes), (omega (arith, c.start_of-start.ensures.within, c.len.ensures.value, ap (λ (s : Stored). length s.particles) c.self.view_is), c.requires.lanes)))
-
-pub numbers-requires-6 : goal.numbers-requires-6
-numbers-requires-6 g c = (omega (arith, c.requires.lanes), (omega (arith, c.requires.lanes), (omega (arith, c.start_of-start.ensures.within, c.len.ensures.value, ap (λ (s : Stored). length s.particles) c.self.view_is), c.requires.lanes)))
+pub before_lanes-requires : goal.before_lanes-requires
+before_lanes-requires g c = (omega (arith, c.requires.lanes), (omega (arith, c.requires.lanes), (omega (arith, c.start_of-start.ensures.within, c.len.ensures.value, ap (λ (s : Stored). length s.particles) c.self.view_is), c.requires.lanes)))
 
 pub weights-requires : goal.weights-requires
 weights-requires g c = (omega (arith, c.requires.lanes), (omega (arith, c.requires.lanes), (omega (arith, c.start_of-start.ensures.within, c.len.ensures.value, ap (λ (s : Stored). length s.particles) c.self.view_is), c.requires.lanes)))
@@ -51,22 +39,22 @@ pub filled-requires : goal.filled-requires
 filled-requires g c = (omega (arith, c.requires.lanes), (omega (arith, c.requires.lanes), (omega (arith, c.start_of-start.ensures.within, c.len.ensures.value, ap (λ (s : Stored). length s.particles) c.self.view_is), c.requires.lanes)))
 
 pub returns-clause-at_x : goal.returns-clause-at_x
-returns-clause-at_x g c = c.numbers.ensures ∙ from g.row.L (λ p. p.at.x) c.args.block c.start_of-start.ensures.value (ap (λ (s : Stored). s.particles) c.self.view_is)
+returns-clause-at_x g c = c.at_lanes.ensures.x ∙ from g.row.L (λ p. p.at.x) c.args.block c.start_of-start.ensures.value (ap (λ (s : Stored). s.particles) c.self.view_is)
 
 pub returns-clause-at_y : goal.returns-clause-at_y
-returns-clause-at_y g c = c.numbers-2.ensures ∙ from g.row.L (λ p. p.at.y) c.args.block c.start_of-start.ensures.value (ap (λ (s : Stored). s.particles) c.self.view_is)
+returns-clause-at_y g c = c.at_lanes.ensures.y ∙ from g.row.L (λ p. p.at.y) c.args.block c.start_of-start.ensures.value (ap (λ (s : Stored). s.particles) c.self.view_is)
 
 pub returns-clause-at_z : goal.returns-clause-at_z
-returns-clause-at_z g c = c.numbers-3.ensures ∙ from g.row.L (λ p. p.at.z) c.args.block c.start_of-start.ensures.value (ap (λ (s : Stored). s.particles) c.self.view_is)
+returns-clause-at_z g c = c.at_lanes.ensures.z ∙ from g.row.L (λ p. p.at.z) c.args.block c.start_of-start.ensures.value (ap (λ (s : Stored). s.particles) c.self.view_is)
 
 pub returns-clause-before_x : goal.returns-clause-before_x
-returns-clause-before_x g c = c.numbers-4.ensures ∙ from g.row.L (λ p. p.before.x) c.args.block c.start_of-start.ensures.value (ap (λ (s : Stored). s.particles) c.self.view_is)
+returns-clause-before_x g c = c.before_lanes.ensures.x ∙ from g.row.L (λ p. p.before.x) c.args.block c.start_of-start.ensures.value (ap (λ (s : Stored). s.particles) c.self.view_is)
 
 pub returns-clause-before_y : goal.returns-clause-before_y
-returns-clause-before_y g c = c.numbers-5.ensures ∙ from g.row.L (λ p. p.before.y) c.args.block c.start_of-start.ensures.value (ap (λ (s : Stored). s.particles) c.self.view_is)
+returns-clause-before_y g c = c.before_lanes.ensures.y ∙ from g.row.L (λ p. p.before.y) c.args.block c.start_of-start.ensures.value (ap (λ (s : Stored). s.particles) c.self.view_is)
 
 pub returns-clause-before_z : goal.returns-clause-before_z
-returns-clause-before_z g c = c.numbers-6.ensures ∙ from g.row.L (λ p. p.before.z) c.args.block c.start_of-start.ensures.value (ap (λ (s : Stored). s.particles) c.self.view_is)
+returns-clause-before_z g c = c.before_lanes.ensures.z ∙ from g.row.L (λ p. p.before.z) c.args.block c.start_of-start.ensures.value (ap (λ (s : Stored). s.particles) c.self.view_is)
 
 pub returns-clause-weight : goal.returns-clause-weight
 returns-clause-weight g c = c.weights.ensures ∙ from g.row.L (λ p. pos p.weight) c.args.block c.start_of-start.ensures.value (ap (λ (s : Stored). s.particles) c.self.view_is)

@@ -1,0 +1,11 @@
+use Rattle.std.proofs.Common.{◌≡◌, ℕ, ◌<◌, ◌≤◌, pos, length, get_or, cond, false}
+use Rattle.pbd_num.specs.Rounding.{rdiv}
+use Rattle.pbd_lanes.proofs.Lanes.rdiv_lanes.Given as goal
+
+abbrev pub invariant-loop-j : goal.invariant-loop-j
+invariant-loop-j g l = record {
+  whole : length l.values ≡ g.row.L;
+  below : (k : ℕ) → k < l.j → get_or l.values k (pos 0)
+      ≡ cond (get_or l.mask-inside.set k false) (rdiv (get_or l.n-inside.values k (pos 0)) (get_or l.d-inside.values k (pos 0))) (pos 0);
+  rest : (k : ℕ) → l.j ≤ k → get_or l.values k (pos 0) ≡ pos 0;
+}

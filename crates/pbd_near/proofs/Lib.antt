@@ -1,0 +1,3 @@
+pub mod Mending
+pub mod Taking
+pub mod Rows

@@ -1,0 +1,127 @@
+use Rattle.std.proofs.Common.{arith, ◌≡◌, ◌≤◌, ◌^◌, ◌+◌, ℤ, ◌+ℤ◌, ◌<ℤ◌, ◌≤ℤ◌, pos, unsigned_abs, to_z, of_z, w64, FitsSigned, sym, ap, inl, inr}
+use Rattle.std.proofs.lemmas.Int.{to_z-of_z, ints}
+use Rattle.pbd_num.proofs.Sizes.{fits, size-sum, size_at_most, size_pos}
+use Rattle.pbd_num.proofs.Lengths.{length_below}
+use Rattle.pbd_num.proofs.VectorSizes.{word}
+use Rattle.pbd_num.proofs.Ways.{along-none, along-by_steps}
+use Rattle.pbd_num.proofs.divided_moves.Goals as goal
+
+-- two weights, and what they are together
+record Total (first second : ℤ) : Type 0 where
+  first_fits : FitsSigned w64 first
+  second_fits : FitsSigned w64 second
+  sum_fits : FitsSigned w64 (first +ℤ second)
+  sum : unsigned_abs (first +ℤ second) ≡ unsigned_abs first + unsigned_abs second
+  high : unsigned_abs (first +ℤ second) ≤ 131070
+  low : (of_z w64 (first +ℤ second) ≡ 0 → ⊥) → pos 0 <ℤ (first +ℤ second)
+
+total_of : (first second : ℤ) → pos 0 ≤ℤ first → first ≤ℤ pos 65535 → pos 0 ≤ℤ second → second ≤ℤ pos 65535 → Total first second
+total_of first second first_low first_high second_low second_high =
+    let sum = size-sum first second first_low second_low in
+    let a = size_at_most first 65535 first_low first_high in
+    let b = size_at_most second 65535 second_low second_high in
+    record {
+      first_fits = fits _ (omega arith);
+      second_fits = fits _ (omega arith);
+      sum_fits = fits _ (omega arith);
+      sum = sum;
+      high = omega arith;
+      low = (λ some. let above = size_pos (first +ℤ second) some in omega (arith, ints));
+    }
+
+-- what a test against 0 says
+size_none : (z : ℤ) → FitsSigned w64 z → of_z w64 z ≡ 0 → unsigned_abs z ≡ 0
+size_none z z_fits e = let is : to_z w64 (of_z w64 z) ≡ pos 0 = ap (to_z w64) e in ap unsigned_abs (simp to_z-of_z at is)
+
+-- what a share asks besides its vector, of the weight w
+asked : (k w first second : ℤ) → Total first second → unsigned_abs k ≤ 256
+    → unsigned_abs w ≤ unsigned_abs first + unsigned_abs second → (of_z w64 (word first +ℤ word second) ≡ 0 → ⊥)
+    → record {
+      stiffness : unsigned_abs (word k) ≤ 256;
+      weight : unsigned_abs (word w) ≤ unsigned_abs (word (word first +ℤ word second));
+      total_low : pos 0 <ℤ word (word first +ℤ word second);
+      total_high : unsigned_abs (word (word first +ℤ word second)) ≤ 131070;
+    }
+asked k w first second total size part some =
+    let k_fits = fits k (omega (arith, size)) in
+    let a = total.first_fits in
+    let b = total.second_fits in
+    let all = total.sum_fits in
+    let w_fits = fits w (omega (arith, part, total.sum, total.high)) in
+    record {
+      stiffness = simp to_z-of_z size;
+      weight = simp to_z-of_z (omega (arith, total.sum, part));
+      total_low = simp to_z-of_z (total.low (simp to_z-of_z at some));
+      total_high = simp to_z-of_z total.high;
+    }
+
+pub returns-then-len-eq0-clause-moves : goal.returns-then-len-eq0-clause-moves
+returns-then-len-eq0-clause-moves c =
+    let w = c.args.weights in
+    let total = total_of w.first w.second c.requires.first_low c.requires.first_high c.requires.second_low c.requires.second_high in
+    let a = total.first_fits in
+    let b = total.second_fits in
+    let all = total.sum_fits in
+    sym (along-none c.args.way c.args.draw.rest c.args.draw.k w.first w.second
+    (elim c.then-len-eq0.either [
+      | inl e ↦ inl (omega (arith, ap unsigned_abs c.requires.length, size_none c.args.len c.ranges.len e))
+      | inr p ↦ inr (omega (arith, total.sum, size_none (w.first +ℤ w.second) all (simp to_z-of_z at p.1)))
+    ]))
+
+pub returns-clause-moves : goal.returns-clause-moves
+returns-clause-moves c =
+    let w = c.args.weights in
+    let total = total_of w.first w.second c.requires.first_low c.requires.first_high c.requires.second_low c.requires.second_high in
+    let a = total.first_fits in
+    let b = total.second_fits in
+    let all = total.sum_fits in
+    let k = fits c.args.draw.k (omega (arith, c.requires.stiffness)) in
+    let rest = fits c.args.draw.rest (omega (arith, size_at_most c.args.draw.rest (2 ^ 31) c.requires.rest_low c.requires.rest_high)) in
+    along-by_steps c.args.way c.correction-s.result c.share-first.result c.share-second.result c.opposite.result
+    c.args.draw.rest c.args.draw.k w.first w.second (unsigned_abs (w.first +ℤ w.second))
+    (simp to_z-of_z at c.correction-s.ensures.value) (simp to_z-of_z at c.share-first.ensures.value) (simp to_z-of_z at c.share-second.ensures.value)
+    c.opposite.ensures.value total.sum
+    (omega (arith, ap unsigned_abs c.requires.length, size_pos c.args.len c.if-len-eq0.false))
+    (size_pos (w.first +ℤ w.second) (simp to_z-of_z at c.if-total-eq0.false))
+
+pub returns-clause-first_size : goal.returns-clause-first_size
+returns-clause-first_size c = c.opposite.ensures.size (2 ^ 31) c.share-first.ensures.size
+
+pub share-first-requires : goal.share-first-requires
+share-first-requires c =
+    let w = c.args.weights in
+    let total = total_of w.first w.second c.requires.first_low c.requires.first_high c.requires.second_low c.requires.second_high in
+    let known = asked c.args.draw.k w.first w.first w.second total c.requires.stiffness (omega arith) c.if-total-eq0.false in
+    record {
+      size = c.correction-s.ensures.size;
+      stiffness = known.stiffness;
+      weight = known.weight;
+      total_low = known.total_low;
+      total_high = known.total_high;
+    }
+
+pub share-second-requires : goal.share-second-requires
+share-second-requires c =
+    let w = c.args.weights in
+    let total = total_of w.first w.second c.requires.first_low c.requires.first_high c.requires.second_low c.requires.second_high in
+    let known = asked c.args.draw.k w.second w.first w.second total c.requires.stiffness (omega arith) c.if-total-eq0.false in
+    record {
+      size = c.correction-s.ensures.size;
+      stiffness = known.stiffness;
+      weight = known.weight;
+      total_low = known.total_low;
+      total_high = known.total_high;
+    }
+
+pub correction-s-requires : goal.correction-s-requires
+correction-s-requires c =
+    let len = c.ranges.len in
+    let rest = fits c.args.draw.rest (omega (arith, size_at_most c.args.draw.rest (2 ^ 31) c.requires.rest_low c.requires.rest_high)) in
+    record {
+      size = c.requires.way;
+      length = simp to_z-of_z c.requires.length;
+      length_size = length_below c.args.way c.requires.way;
+      some = omega (arith, ap unsigned_abs c.requires.length, size_pos c.args.len c.if-len-eq0.false);
+      rest_low = simp to_z-of_z c.requires.rest_low;
+      rest_high = simp to_z-of_z c.requires.rest_high;
+    }

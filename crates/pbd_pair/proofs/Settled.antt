@@ -1,0 +1,193 @@
+-- A chunk whose ends have moved, as its bonds one by one.
+use Rattle.std.proofs.Common.{◌≡◌, ℕ, ◌<◌, ◌≤◌, ◌^◌, ℤ, pos, ◌≤ℤ◌, ◌<ℤ◌, List, length, get_or, Bool, true, false, IsTrue, ◌&&◌, int_le, int_lt, cond, refl, ap, sym, ◌∙◌, arith, subst, Err}
+use Rattle.std.proofs.lemmas.Int.{ints}
+use Rattle.pbd_num.specs.declared.Vec3.{Vec3}
+use Rattle.pbd_num.specs.declared.row.Row.{Row}
+use Rattle.pbd_num.specs.Rows.{vector_of, no_row}
+use Rattle.pbd_num.specs.Vectors.{Within, plus, opposite, is_within}
+use Rattle.pbd_world.specs.declared.parts.Particle.{Particle}
+use Rattle.pbd_world.specs.declared.bond.Bond.{Bond}
+use Rattle.pbd_world.specs.declared.totals.Totals.{Totals}
+use Rattle.pbd_world.specs.declared.totals.Class.TheVariants as classes
+use Rattle.pbd_world.specs.Ledger.{Ledger, ledger_of, added, booked}
+use Rattle.pbd_world.specs.Particles.{particle_at}
+use Rattle.pbd_world.specs.Bonds.{end_of, class_of, entries_of}
+use Rattle.pbd_store.specs.Stored.{Stored}
+use Rattle.pbd_store.specs.Moving.{motion_of}
+use Rattle.pbd_store.specs.declared.pairs.EndMoves.{EndMoves}
+use Rattle.pbd_pair.specs.declared.chunk.Found.{Found}
+use Rattle.pbd_pair.specs.declared.near.NearMoves.{NearMoves}
+use Rattle.pbd_store.specs.Pairs.{row_in, moves_in, stays, ArePairs, PairsApart, AreMoves, AreShort, EachMoved, LeavesAt}
+use Rattle.pbd_pair.specs.Bonds.{bond_of, shift_by}
+use Rattle.pbd_pair.specs.Projecting.{CanProject, ShareNone, projected_block}
+use Rattle.pbd_pair.specs.Moves.{moves_at, stay_at, entries_at, settled, moved_below}
+use Rattle.pbd_pair.specs.Chunks.{kept_by, number_in, entries_in, unplaced, AreExact, AreNear, AreSized, IsFound, IsMasked}
+use Rattle.pbd_pair.proofs.ByWay.{same_entries, added_nothing}
+use Rattle.pbd_pair.proofs.Reaching.{nth}
+use Rattle.pbd_pair.proofs.Parting.{AreDone, chunk_done, chunk_leaves}
+use Rattle.pbd_pair.proofs.Pinning.{Opposed, pinned_all, settled_same, moved_same, moved_nothing}
+use Rattle.pbd_pair.proofs.NearBonds.{kept_some, kept_none}
+use Rattle.pbd_pair.proofs.Chunks.{ends_apart, moves_told, first_flag, second_flag, sized}
+
+weighs : (w : ℤ) → int_le w (pos 0) ≡ false → pos 0 <ℤ w
+weighs w e = grind (arith, ints, e)
+
+weightless : (w : ℤ) → int_le w (pos 0) ≡ true → w ≤ℤ pos 0
+weightless w e = grind (arith, ints, e)
+
+kept_size : (b : Bool) (row : Row) → Within (2 ^ 16) (vector_of row) → Within (2 ^ 16) (vector_of (cond b row no_row))
+kept_size true row h = h
+kept_size false row h = record { x = omega arith; y = omega arith; z = omega arith }
+
+kept_flag : (b : Bool) (row : Row) → row.flag ≡ pos 0 → (cond b row no_row).flag ≡ pos 0
+kept_flag true row h = h
+kept_flag false row h = refl
+
+-- what a bond's rows move, as they are kept
+abbrev pub kept_moves : List ℤ → List ℤ → List Row → ℕ → Vec3
+kept_moves firsts seconds moves k = plus (opposite (vector_of (kept_by (number_in firsts k) (row_in moves k)))) (vector_of (kept_by (number_in seconds k)
+    (row_in moves k)))
+
+pub kept_size_by : (w : ℤ) (row : Row) → Within (2 ^ 16) (vector_of row) → Within (2 ^ 16) (vector_of (kept_by w row))
+kept_size_by w row h = kept_size (int_lt (pos 0) w) row h
+
+module _ {found : Found} {s : Stored} {t : Totals} (can : CanProject 128 found.chunk.bonds found.chunk.numbers.now s t) (is : IsFound s.particles found) where
+  abbrev numbers : List ℕ
+  numbers = found.chunk.numbers.now
+
+  abbrev B : ℕ → Bond
+  B k = nth (bond_of found.chunk.bonds) numbers k
+
+  apart : (i k : ℕ) → i < k → k < length numbers → ShareNone (B i) (B k)
+  apart i k p q = can.batch.apart.each i k p q
+
+  -- as many pairs as the store is asked for
+  abbrev pub asked : ℕ
+  asked = length found.pairs.first.now
+
+  pub pairs_asked : ArePairs asked (length s.particles) found.pairs
+  pairs_asked = subst (λ (n : ℕ). ArePairs n (length s.particles) found.pairs) (sym is.pairs.first_long) is.pairs
+
+  pub apart_asked : PairsApart asked found.pairs
+  apart_asked = subst (λ (n : ℕ). PairsApart n found.pairs) (sym is.pairs.first_long) (ends_apart can is.first is.second)
+
+  pub sized_asked : AreSized (length numbers) found.between.now
+  sized_asked = sized can is.first is.second is.between
+
+  -- ends that have moved by what the bonds move them, wherever that leads
+  module _ {f g : ℕ → Vec3} (is_f : (j : ℕ) → j < length numbers → f j ≡ (moves_at s.particles (B j)).0) (is_g : (j : ℕ) → j < length numbers
+      → g j ≡ (moves_at s.particles (B j)).1) where
+    same_stays : (j : ℕ) → j < length numbers → stays s.limit s.particles found.pairs.first.now found.pairs.second.now f g j ≡ stay_at s.limit s.particles (B j)
+    same_stays j p = λ i. is_within s.limit (plus (particle_at s.particles (is.first j p i)).at (is_f j p i)) && is_within s.limit (plus
+        (particle_at s.particles (is.second j p i)).at (is_g j p i))
+
+    pub side_done : {new : List Particle} {u : Ledger} → EachMoved asked s.limit found.pairs.first.now found.pairs.second.now f g s.particles new
+        → u ≡ settled (λ k. entries_at s.particles (B k)) (length numbers) (ledger_of t)
+        → AreDone s.limit (bond_of found.chunk.bonds) numbers (motion_of s t) new u
+    side_done {new} {u} told booked_all =
+        let moved = subst (λ (n : ℕ). EachMoved n s.limit found.pairs.first.now found.pairs.second.now f g s.particles new) is.pairs.first_long told in
+        chunk_done s.limit (bond_of found.chunk.bonds) numbers s.particles can.bound.low can.inside can.batch.bond apart
+        found.pairs.first.now found.pairs.second.now is.first is.second f g is_f is_g
+        (λ k p. sym (same_stays k p) ∙ moved.stay k p) new moved.parted (ledger_of t) u booked_all
+
+    pub side_leaves : {k : ℕ} → LeavesAt k asked s.limit found.pairs.first.now found.pairs.second.now f g s.particles
+        → projected_block found.chunk.bonds numbers s t ≡ Err (get_or numbers k 0)
+    side_leaves {k} told =
+        let leaves = subst (λ (n : ℕ). LeavesAt k n s.limit found.pairs.first.now found.pairs.second.now f g s.particles) is.pairs.first_long told in
+        chunk_leaves s.limit (bond_of found.chunk.bonds) numbers s.particles can.bound.low can.inside can.batch.bond apart (ledger_of t) k leaves.one
+        (λ j p. sym (same_stays j (omega (arith, leaves.one))) ∙ leaves.before j p) (sym (same_stays k leaves.one) ∙ leaves.leaves)
+
+  -- ---- one by one
+
+  module _ {moves : List EndMoves} (exact : AreExact found moves) where
+    pub first_exact : (j : ℕ) → j < length numbers → (moves_in moves j).first ≡ (moves_at s.particles (B j)).0
+    first_exact j p = ap (λ (m : Vec3 × Vec3). m.0) ((exact.each j p).moves ∙ moves_told can is.first is.second is.between j p)
+
+    pub second_exact : (j : ℕ) → j < length numbers → (moves_in moves j).second ≡ (moves_at s.particles (B j)).1
+    second_exact j p = ap (λ (m : Vec3 × Vec3). m.1) ((exact.each j p).moves ∙ moves_told can is.first is.second is.between j p)
+
+    pub are_moves : AreMoves asked moves
+    are_moves = subst (λ (n : ℕ). AreMoves n moves) (sym is.pairs.first_long) (record {
+      long = omega (arith, exact.whole, can.short);
+      first = λ j p. (exact.each j p).first;
+      second = λ j p. (exact.each j p).second;
+    })
+
+    pub entries_exact : (u : Ledger) → settled (entries_in found moves) (length numbers) u ≡ settled (λ k. entries_at s.particles (B k)) (length numbers) u
+    entries_exact u = settled_same (entries_in found moves) (λ k. entries_at s.particles (B k)) (length numbers) u (λ k p v.
+        (λ i. booked v (entries_of (first_flag can is.first is.second is.between k p i) (second_flag can is.first is.second is.between k p i)
+        (class_of (B k)) (unplaced (moves_in moves k).first (moves_in moves k).second)))
+        ∙ same_entries (particle_at s.particles (B k).a).held (particle_at s.particles (B k).b).held (class_of (B k)) _ _ v (first_exact k p)
+        (second_exact k p))
+
+  -- ---- in 32-bit numbers
+
+  module _ {near : NearMoves} {back forth : List Row} (short : AreNear (bond_of found.chunk.bonds) numbers found.between.now near)
+      (masked : IsMasked (length numbers) found.between.now near.moves back forth) where
+    near_told : (j : ℕ) → j < length numbers → ◌≡◌ {A = Vec3 × Vec3} (opposite (vector_of (row_in back j)), vector_of (row_in forth j))
+        (moves_at s.particles (B j))
+    near_told j p = (λ i. (opposite (vector_of (masked.back j p i)), vector_of (masked.forth j p i))) ∙ sym (short.each j p).moves
+        ∙ moves_told can is.first is.second is.between j p
+
+    pub first_near : (j : ℕ) → j < length numbers → opposite (vector_of (row_in back j)) ≡ (moves_at s.particles (B j)).0
+    first_near j p = ap (λ (m : Vec3 × Vec3). m.0) (near_told j p)
+
+    pub second_near : (j : ℕ) → j < length numbers → vector_of (row_in forth j) ≡ (moves_at s.particles (B j)).1
+    second_near j p = ap (λ (m : Vec3 × Vec3). m.1) (near_told j p)
+
+    pub back_short : AreShort asked back
+    back_short = subst (λ (n : ℕ). AreShort n back) (sym is.pairs.first_long) (record {
+      long = masked.back_long;
+      each = λ j p. subst (λ (r : Row). Within (2 ^ 16) (vector_of r)) (sym (masked.back j p)) (kept_size (int_lt (pos 0)
+          (number_in found.between.now.first_weight j)) (row_in near.moves j) (short.each j p).size);
+      flags = λ j p. ap (λ (r : Row). r.flag) (masked.back j p) ∙ kept_flag (int_lt (pos 0) (number_in found.between.now.first_weight j))
+          (row_in near.moves j) (short.each j p).flag;
+    })
+
+    pub forth_short : AreShort asked forth
+    forth_short = subst (λ (n : ℕ). AreShort n forth) (sym is.pairs.first_long) (record {
+      long = masked.forth_long;
+      each = λ j p. subst (λ (r : Row). Within (2 ^ 16) (vector_of r)) (sym (masked.forth j p)) (kept_size (int_lt (pos 0)
+          (number_in found.between.now.second_weight j)) (row_in near.moves j) (short.each j p).size);
+      flags = λ j p. ap (λ (r : Row). r.flag) (masked.forth j p) ∙ kept_flag (int_lt (pos 0) (number_in found.between.now.second_weight j))
+          (row_in near.moves j) (short.each j p).flag;
+    })
+
+    -- what is booked
+    opposed : (k : ℕ) → k < length numbers → Opposed (particle_at s.particles (B k).a).held (particle_at s.particles (B k).b).held (shift_by (end_of
+        (particle_at s.particles (B k).a)) (end_of (particle_at s.particles (B k).b)) (moves_at s.particles (B k)).0 (moves_at s.particles (B k)).1)
+    opposed k p =
+        let w1 = number_in found.between.now.first_weight k in
+        let w2 = number_in found.between.now.second_weight k in
+        let row = row_in near.moves k in
+        let f1 = first_flag can is.first is.second is.between k p in
+        let f2 = second_flag can is.first is.second is.between k p in
+        record {
+          both = λ a b. sym (first_near k p) ∙ ap (λ (r : Row). opposite (vector_of r)) (masked.back k p ∙ kept_some w1 row (weighs w1 (f1 ∙ a)))
+              ∙ ap opposite (sym (ap vector_of (masked.forth k p ∙ kept_some w2 row (weighs w2 (f2 ∙ b))))) ∙ ap opposite (second_near k p);
+          first = λ a. sym (first_near k p) ∙ ap (λ (r : Row). opposite (vector_of r)) (masked.back k p ∙ kept_none w1 row (weightless w1 (f1 ∙ a)));
+          second = λ b. sym (second_near k p) ∙ ap vector_of (masked.forth k p ∙ kept_none w2 row (weightless w2 (f2 ∙ b)));
+        }
+
+    pub near_books : (u : Ledger) → added u classes.Pin (moved_below (λ j. plus (opposite (vector_of (row_in back j))) (vector_of (row_in forth j)))
+        (length numbers)) ≡ settled (λ k. entries_at s.particles (B k)) (length numbers) u
+    near_books u =
+        ap (added u classes.Pin) (moved_same _ _ (length numbers) (λ k p. λ i. plus (first_near k p i) (second_near k p i)))
+        ∙ sym (pinned_all u (λ k. class_of (B k)) (λ k. (particle_at s.particles (B k).a).held) (λ k. (particle_at s.particles (B k).b).held)
+        (λ k. shift_by (end_of (particle_at s.particles (B k).a)) (end_of (particle_at s.particles (B k).b)) (moves_at s.particles (B k)).0
+        (moves_at s.particles (B k)).1) (length numbers) opposed)
+
+-- where all ends are free, nothing is booked
+pub free_masked : {n : ℕ} (found : Found) (near : NearMoves) → n ≤ length near.moves → (IsTrue near.free → (j : ℕ) → j < n
+    → pos 0 <ℤ number_in found.between.now.first_weight j) → (IsTrue near.free → (j : ℕ) → j < n → pos 0 <ℤ number_in found.between.now.second_weight j)
+    → IsTrue near.free → IsMasked n found.between.now near.moves near.moves near.moves
+free_masked {n} found near long first second free = record {
+  back_long = long;
+  forth_long = long;
+  back = λ j p. sym (kept_some _ _ (first free j p));
+  forth = λ j p. sym (kept_some _ _ (second free j p));
+}
+
+pub nothing_booked : (u : Ledger) (rows : List Row) (n : ℕ) → u ≡ added u classes.Pin (moved_below (λ j. plus (opposite (vector_of (row_in rows j)))
+    (vector_of (row_in rows j))) n)
+nothing_booked u rows n = sym (ap (added u classes.Pin) (moved_nothing (λ j. vector_of (row_in rows j)) n) ∙ added_nothing u classes.Pin)

@@ -1,0 +1,140 @@
+-- Bonds of a chunk, number by number.
+use Rattle.std.specs.Prelude.{◌≡◌, ℕ, ◌<◌, ◌≤◌, ◌^◌, ℤ, pos, neg_ℤ, ◌<ℤ◌, ◌≤ℤ◌, ◌*ℤ◌, int_lt, int_le, IsTrue, if◌then◌else◌, List, length, slice_index_or}
+use Rattle.pbd_num.specs.declared.Vec3.{Vec3}
+use Rattle.pbd_num.specs.declared.row.Row.{Row}
+use Rattle.pbd_num.specs.Rows.{vector_of, no_row}
+use Rattle.pbd_num.specs.Vectors.{Within, opposite, zero_vector}
+use Rattle.pbd_world.specs.declared.parts.Particle.{Particle}
+use Rattle.pbd_world.specs.declared.bond.Bond.{Bond}
+use Rattle.pbd_world.specs.declared.bond.Shift.{Shift}
+use Rattle.pbd_world.specs.Ledger.{Entry}
+use Rattle.pbd_world.specs.Bonds.{entries_of, class_of}
+use Rattle.pbd_store.specs.Gathering.{index_at}
+use Rattle.pbd_store.specs.declared.pairs.Between.{Between}
+use Rattle.pbd_store.specs.declared.pairs.EndMoves.{EndMoves}
+use Rattle.pbd_store.specs.Pairs.{row_in, moves_in, ArePairs, AreBetween}
+use Rattle.pbd_pair.specs.declared.bonds.Bonds.{Bonds}
+use Rattle.pbd_pair.specs.declared.chunk.Columns.{Columns}
+use Rattle.pbd_pair.specs.declared.chunk.Found.{Found}
+use Rattle.pbd_pair.specs.declared.near.NearMoves.{NearMoves}
+use Rattle.pbd_pair.specs.Bonds.{bond_of, bond_count}
+use Rattle.pbd_pair.specs.Moves.{moves_by}
+
+-- number j of a column
+abbrev pub number_in : List ℤ → ℕ → ℤ
+number_in xs j = slice_index_or xs j (pos 0)
+
+-- a rest length of at most 2^31, and a stiffness in 0..=256
+pub record IsFirm (b : Bond) : Type 0 where
+  pub rest_low : pos 0 ≤ℤ b.rest
+  pub rest_high : b.rest ≤ℤ pos (2 ^ 31)
+  pub k_low : pos 0 ≤ℤ b.k
+  pub k_high : b.k ≤ℤ pos 256
+
+-- at most 128 numbers of firm bonds
+pub record AreKnown (bonds : Bonds) (numbers : List ℕ) : Type 0 where
+  pub few : length numbers ≤ 128
+  pub known : (j : ℕ) → j < length numbers → slice_index_or numbers j 0 < bond_count bonds
+  pub firm : (j : ℕ) → j < length numbers → IsFirm (bond_of bonds (slice_index_or numbers j 0))
+
+-- the rest length of a bond where it is below 16,384
+pub record HoldsRest (b : Bond) (rest : ℤ) : Type 0 where
+  pub low : pos 0 ≤ℤ rest
+  pub high : rest ≤ℤ pos 16383
+  pub near : b.rest <ℤ pos 16384 → rest ≡ b.rest
+
+-- the stiffness of a bond, or -1 where its rest length is 16,384 or more
+pub record HoldsStiffness (b : Bond) (k : ℤ) : Type 0 where
+  pub low : neg_ℤ (pos 1) ≤ℤ k
+  pub high : k ≤ℤ pos 256
+  pub near : pos 0 ≤ℤ k → b.rest <ℤ pos 16384
+  pub value : pos 0 ≤ℤ k → k ≡ b.k
+
+-- the columns hold the bonds of a chunk
+pub record AreLoaded (bond : ℕ → Bond) (numbers : List ℕ) (c : Columns) : Type 0 where
+  pub first_long : length c.first ≡ 128
+  pub second_long : length c.second ≡ 128
+  pub first : (j : ℕ) → j < length numbers → index_at c.first j ≡ (bond (slice_index_or numbers j 0)).a
+  pub second : (j : ℕ) → j < length numbers → index_at c.second j ≡ (bond (slice_index_or numbers j 0)).b
+  pub rest : (j : ℕ) → j < length numbers → HoldsRest (bond (slice_index_or numbers j 0)) (number_in c.rest j)
+  pub k : (j : ℕ) → j < length numbers → HoldsStiffness (bond (slice_index_or numbers j 0)) (number_in c.k j)
+
+-- n ways of at most 2^30 an axis, and weights in 0..=65,535
+pub record AreSized (n : ℕ) (between : Between) : Type 0 where
+  pub way : (j : ℕ) → j < n → Within (2 ^ 30) (vector_of (row_in between.ways j))
+  pub first_low : (j : ℕ) → j < n → pos 0 ≤ℤ number_in between.first_weight j
+  pub first_high : (j : ℕ) → j < n → number_in between.first_weight j ≤ℤ pos 65535
+  pub second_low : (j : ℕ) → j < n → pos 0 ≤ℤ number_in between.second_weight j
+  pub second_high : (j : ℕ) → j < n → number_in between.second_weight j ≤ℤ pos 65535
+
+-- f / 512 is the share of a free end of a bond whose weights are even, and f is below 0 where the bond isn't short
+pub record IsFactor (k first second f : ℤ) : Type 0 where
+  pub low : neg_ℤ (pos 1) ≤ℤ f
+  pub high : f ≤ℤ pos 512
+  pub short : pos 0 ≤ℤ f → pos 0 ≤ℤ k
+  pub even : pos 0 ≤ℤ f → pos 0 <ℤ first → pos 0 <ℤ second → first ≡ second
+  pub both : pos 0 ≤ℤ f → pos 0 <ℤ first → pos 0 <ℤ second → f ≡ k
+  pub first_held : pos 0 ≤ℤ f → first ≡ pos 0 → f ≡ pos 2 *ℤ k
+  pub second_held : pos 0 ≤ℤ f → second ≡ pos 0 → f ≡ pos 2 *ℤ k
+
+-- a row of a free end, and none of a held one
+abbrev pub kept_by : ℤ → Row → Row
+kept_by weight row = if int_lt (pos 0) weight then row else no_row
+
+-- a row is the move of the second end where that is free, and its opposite the move of the first where that is free
+pub record IsNear (way : Vec3) (first second : ℤ) (b : Bond) (row : Row) : Type 0 where
+  pub flag : row.flag ≡ pos 0
+  pub size : Within (2 ^ 16) (vector_of row)
+  pub moves : moves_by way first second b ≡ (opposite (vector_of (kept_by first row)), vector_of (kept_by second row))
+
+-- the same of each bond of a chunk, and whether all ends are free
+pub record AreNear (bond : ℕ → Bond) (numbers : List ℕ) (between : Between) (near : NearMoves) : Type 0 where
+  pub long : length numbers ≤ length near.moves
+  pub each : (j : ℕ) → j < length numbers → IsNear (vector_of (row_in between.ways j)) (number_in between.first_weight j)
+      (number_in between.second_weight j) (bond (slice_index_or numbers j 0)) (row_in near.moves j)
+  pub first : IsTrue near.free → (j : ℕ) → j < length numbers → pos 0 <ℤ number_in between.first_weight j
+  pub second : IsTrue near.free → (j : ℕ) → j < length numbers → pos 0 <ℤ number_in between.second_weight j
+
+-- n rows as they are kept by both weights
+pub record IsMasked (n : ℕ) (between : Between) (moves firsts seconds : List Row) : Type 0 where
+  pub back_long : n ≤ length firsts
+  pub forth_long : n ≤ length seconds
+  pub back : (j : ℕ) → j < n → row_in firsts j ≡ kept_by (number_in between.first_weight j) (row_in moves j)
+  pub forth : (j : ℕ) → j < n → row_in seconds j ≡ kept_by (number_in between.second_weight j) (row_in moves j)
+
+-- the pairs are the ends of a chunk's bonds, and what is between them is told
+pub record IsFound (ps : List Particle) (found : Found) : Type 0 where
+  pub first : (j : ℕ) → j < length found.chunk.numbers.now
+      → index_at found.pairs.first.now j ≡ (bond_of found.chunk.bonds (slice_index_or found.chunk.numbers.now j 0)).a
+  pub second : (j : ℕ) → j < length found.chunk.numbers.now
+      → index_at found.pairs.second.now j ≡ (bond_of found.chunk.bonds (slice_index_or found.chunk.numbers.now j 0)).b
+  pub pairs : ArePairs (length found.chunk.numbers.now) (length ps) found.pairs
+  pub between : AreBetween (length found.chunk.numbers.now) ps found.pairs.first.now found.pairs.second.now found.between.now
+
+-- the length from which on a bond does nothing: no length is 2^31
+abbrev pub reach_of : Bond → ℤ
+reach_of b = if b.contact then b.rest else pos (2 ^ 31)
+
+-- both moves of a bond, which are short
+pub record IsExact (way : Vec3) (weight other : ℤ) (b : Bond) (m : EndMoves) : Type 0 where
+  pub moves : (m.first, m.second) ≡ moves_by way weight other b
+  pub first : Within (2 ^ 31) m.first
+  pub second : Within (2 ^ 31) m.second
+
+-- the same of each bond of a chunk
+pub record AreExact (found : Found) (moves : List EndMoves) : Type 0 where
+  pub whole : length moves ≡ 128
+  pub each : (j : ℕ) → j < length found.chunk.numbers.now → IsExact (vector_of (row_in found.between.now.ways j))
+      (number_in found.between.now.first_weight j) (number_in found.between.now.second_weight j)
+      (bond_of found.chunk.bonds (slice_index_or found.chunk.numbers.now j 0)) (moves_in moves j)
+
+-- moves as a shift without places
+abbrev pub unplaced : Vec3 → Vec3 → Shift
+unplaced first second = record { first = zero_vector; second = zero_vector; first_move = first; second_move = second }
+
+-- the entries of the bond with number j in a chunk
+abbrev pub entries_in : Found → List EndMoves → ℕ → List Entry
+entries_in found moves j = entries_of (int_le (number_in found.between.now.first_weight j) (pos 0))
+    (int_le (number_in found.between.now.second_weight j) (pos 0))
+    (class_of (bond_of found.chunk.bonds (slice_index_or found.chunk.numbers.now j 0)))
+    (unplaced (moves_in moves j).first (moves_in moves j).second)

@@ -1,0 +1,141 @@
+// The bonds of a chunk, each corrected exactly.
+ghost use Rattle.std.specs.Prelude.{◌≡◌, ℕ, ◌+◌, ◌*◌, ◌<◌, ◌≤◌, ◌^◌, pos, ◌≤ℤ◌, length, slice_index_or, MatchResult, OnOk, Result, Ok, Err};
+ghost use Rattle.pbd_num.specs.Vectors.{Within};
+ghost use Rattle.pbd_world.specs.Ledger.{ledger_of, HaveRoom};
+ghost use Rattle.pbd_store.specs.Blocks.{blocks_of};
+ghost use Rattle.pbd_store.specs.Moving.{motion_of, fixed_parts};
+ghost use Rattle.pbd_store.specs.Pairs.{moves_in};
+ghost use Rattle.pbd_pair.specs.Bonds.{bond_count};
+ghost use Rattle.pbd_pair.specs.Projecting.{projected_block, CanProject, StaysSound};
+ghost use Rattle.pbd_pair.specs.Moves.{moves_by, settled};
+ghost use Rattle.pbd_pair.specs.Chunks.{entries_in, reach_of, unplaced, AreExact, AreKnown, AreSized, IsFirm, IsFound};
+
+use crate::book::book;
+use crate::chunk::{Found, left_at};
+use pbd_num::{CHUNK, Draw, Vec3, Weights, moves_along};
+use pbd_store::{EndMoves, Steps, Store};
+use pbd_world::{Bond, Left, Shift, Totals};
+use std::sync::ledger::Ledger;
+
+// The length from which on a bond does nothing. No length is 2^31.
+#[inline(always)]
+fn reach(bond: Bond) -> i64
+    ensures { result ≡ reach_of bond }
+{
+    if bond.contact {
+        bond.rest
+    } else {
+        2_147_483_648
+    }
+}
+
+// The moves of two ends.
+fn exact_moves(way: Vec3, bond: Bond, weights: Weights) -> EndMoves
+    requires way { Within (2 ^ 30) way }
+    requires bond { IsFirm bond }
+    requires first_low { pos 0 ≤ℤ weights.first }
+    requires first_high { weights.first ≤ℤ pos 65535 }
+    requires second_low { pos 0 ≤ℤ weights.second }
+    requires second_high { weights.second ≤ℤ pos 65535 }
+    ensures moves { (result.first, result.second) ≡ moves_by way weights.first weights.second bond }
+    ensures first { Within (2 ^ 31) result.first }
+    ensures second { Within (2 ^ 31) result.second }
+{
+    let draw = Draw {
+        rest: bond.rest,
+        k: bond.k,
+        reach: reach(bond),
+    };
+    let (first, second) = moves_along(way, draw, weights);
+    EndMoves { first, second }
+}
+
+// The moves of a chunk's bonds, one by one.
+#[inline(never)]
+fn exact_each(found: &Found<'_>, moves: &mut [EndMoves; CHUNK])
+    requires known { AreKnown found.now.chunk.bonds found.now.chunk.numbers.now }
+    requires sized { AreSized (length found.now.chunk.numbers.now) found.now.between.now }
+    ensures { AreExact found.now moves.new }
+{
+    for (j, n) in found.chunk.numbers.iter().enumerate() {
+        let way = found.between.ways[j].vector();
+        let weights = Weights {
+            first: i64::from(found.between.first_weight[j]),
+            second: i64::from(found.between.second_weight[j]),
+        };
+        moves[j] = exact_moves(way, found.chunk.bonds.get(*n), weights);
+    }
+}
+
+// Moves as a shift: the ledger has no use for its places.
+#[inline(always)]
+fn as_shift(moves: EndMoves) -> Shift
+    ensures { result ≡ unplaced moves.first moves.second }
+{
+    Shift {
+        first: Vec3::ZERO,
+        second: Vec3::ZERO,
+        first_move: moves.first,
+        second_move: moves.second,
+    }
+}
+
+// Adds the moves of a chunk's bonds to the totals.
+#[inline(never)]
+fn book_each(totals: &mut Totals, found: &Found<'_>, moves: &[EndMoves; CHUNK])
+    requires few { length found.now.chunk.numbers.now ≤ 128 }
+    requires sized { AreSized (length found.now.chunk.numbers.now) found.now.between.now }
+    requires numbers { (j : ℕ) → j < length found.now.chunk.numbers.now
+        → slice_index_or found.now.chunk.numbers.now j 0 < bond_count found.now.chunk.bonds }
+    requires room { HaveRoom (2 ^ 124) (ledger_of totals.old) }
+    requires first { (j : ℕ) → j < length found.now.chunk.numbers.now → Within (2 ^ 31) (moves_in moves.now j).first }
+    requires second { (j : ℕ) → j < length found.now.chunk.numbers.now → Within (2 ^ 31) (moves_in moves.now j).second }
+    ensures value { ledger_of totals.new
+        ≡ settled (entries_in found.now moves.now) (length found.now.chunk.numbers.now) (ledger_of totals.old) }
+    ensures room { (n : ℕ) → HaveRoom n (ledger_of totals.old)
+        → HaveRoom (n + length found.now.chunk.numbers.now * 2 ^ 32) (ledger_of totals.new) }
+{
+    for (j, n) in found.chunk.numbers.iter().enumerate() {
+        book(
+            totals,
+            found.between.first_weight[j] <= 0,
+            found.between.second_weight[j] <= 0,
+            found.chunk.bonds.get(*n),
+            as_shift(moves[j]),
+        );
+    }
+}
+
+/// Projects a chunk of bonds from what lies between their ends, whatever that is.
+#[inline(never)]
+pub(crate) fn project_exactly<const L: usize, G: Ledger>(
+    store: &mut Store<L>,
+    found: &Found<'_>,
+    totals: &mut Totals,
+    steps: &mut Steps<G>,
+) -> Result<(), Left>
+    requires some_lanes { 0 < L }
+    requires lanes { L ≤ 16 }
+    requires can { CanProject 128 found.now.chunk.bonds found.now.chunk.numbers.now store.old totals.old }
+    requires found { IsFound store.old.particles found.now }
+    ensures outcome { MatchResult result
+        (λ _. projected_block found.now.chunk.bonds found.now.chunk.numbers.now store.old totals.old
+        ≡ Ok (motion_of store.new totals.new))
+        (λ left. projected_block found.now.chunk.bonds found.now.chunk.numbers.now store.old totals.old ≡ Err left.element) }
+    ensures limit { store.new.limit ≡ store.old.limit }
+    ensures fixed { fixed_parts store.new.particles ≡ fixed_parts store.old.particles }
+    ensures sound { OnOk result (StaysSound (length found.now.chunk.numbers.now) store.old store.new totals.old totals.new) }
+    ensures cost { steps.new ≡ steps.old + 2 * blocks_of (length found.now.chunk.numbers.now) L }
+{
+    let none = EndMoves {
+        first: Vec3::ZERO,
+        second: Vec3::ZERO,
+    };
+    let mut moves = [none; CHUNK];
+    exact_each(found, &mut moves);
+    if let Err(j) = store.move_each(found.pairs, &moves, steps) {
+        return Err(left_at(found, j));
+    }
+    book_each(totals, found, &moves);
+    Ok(())
+}
