@@ -56,6 +56,14 @@ dropped_flags numbers links after same each =
     (λ i lt. let l : i < length links = omega (arith, lt, dropped_length numbers (live_flags links), many) in
     dropped_at numbers (live_flags links) i ∙ ap (λ (b : Bool). b && not (list_any (λ n. n == i) numbers)) (flag_at links i l) ∙ sym (each i l) ∙ sym (flag_at after i (omega (arith, l, same))))
 
+-- flags that are set just where links are live are those of the links
+pub flags_are : (flags : List Bool) (links : List Link) → length flags ≡ length links
+    → ((k : ℕ) → k < length links → live_at flags k ≡ (link_at links k).live) → flags ≡ live_flags links
+flags_are flags links same each =
+    let many = length-mapped {A = Link} {B = Bool} (λ l. l.live) links in
+    ext_get_or false flags (live_flags links) (same ∙ sym many)
+    (λ i lt. let l : i < length links = omega (arith, lt, same) in each i l ∙ sym (flag_at links i l))
+
 all_set : (n i : ℕ) → i < n → live_at (replicate n true) i ≡ true
 all_set zero i lt = absurd (omega (arith, lt))
 all_set (suc n) zero lt = refl

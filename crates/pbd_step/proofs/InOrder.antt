@@ -20,7 +20,7 @@ use Rattle.pbd_pair.specs.Bonds.{bond_of, bond_count, IsBond}
 use Rattle.pbd_pair.specs.Projecting.{ShareNone, IsBatch}
 use Rattle.pbd_world.proofs.Rooms.{room_at}
 use Rattle.pbd_pair.proofs.OneByOne.{in_turn-append}
-use Rattle.pbd_pair.proofs.Blocks.{weigh_same}
+use Rattle.pbd_pair.proofs.Batches.{weigh_same}
 use Rattle.pbd_step.specs.Projecting.{AreBondsOf, CanProjectAll, CanProjectBatch, parallel_from}
 
 -- ---- one list of items after another

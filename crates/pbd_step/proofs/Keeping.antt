@@ -20,6 +20,7 @@ use Rattle.pbd_step.specs.declared.state.Tools.{Tools}
 use Rattle.std.specs.Prelude.{IsTrue, count_by, filter, nat_le, nat_lt, not, ◌&&◌}
 use Rattle.std.proofs.lemmas.Bool.{le-leb, lt-leb, le-ltb, lt-ltb}
 use Rattle.std.proofs.lemmas.List.Sums.{length-filter}
+use Rattle.std.proofs.lemmas.Simd.{map-map}
 use Rattle.pbd_world.specs.declared.command.Refusal.TheVariants as refusals
 use Rattle.pbd_world.specs.Outcomes.{◌>>=◌, unless}
 use Rattle.std.proofs.lemmas.Bool.{and_parts, leb-true}
@@ -108,6 +109,15 @@ scene_alike setting setting' s t e = record {
   limit = scene_limit (world_of setting s) (world_of setting' t) e;
   links = scene_links (world_of setting s) (world_of setting' t) e;
 }
+
+-- links join the same pairs whether they are live or not
+dead_pairs : (links : List Link) → link_pairs (map {A = Link} {B = Link} (λ l. record l { live = false }) links) ≡ link_pairs links
+dead_pairs links = map-map {A = Link} {B = Link} {C = ℕ × ℕ} (λ l. (l.a, l.b)) (λ l. record l { live = false }) links
+
+pub scene_pairs : {l : ℕ} (setting setting' : Setting) (s t : State l)
+    → AreOfOneScene (world_of setting s) (world_of setting' t) → link_pairs s.links.items ≡ link_pairs t.links.items
+scene_pairs setting setting' s t e =
+    sym (dead_pairs s.links.items) ∙ ap (λ (w : World). link_pairs w.links) e ∙ dead_pairs t.links.items
 
 pub same_alike : {l : ℕ} (s t : State l) (setting : Setting) → world_of setting s ≡ world_of setting t → AreAlike s t
 same_alike s t setting e = record { particles = ap (λ (u : World). length u.particles) e; limit = ap (λ (u : World). u.limit) e; links = ap (λ (u : World). length u.links) e }

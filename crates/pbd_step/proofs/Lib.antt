@@ -18,3 +18,4 @@ pub mod Staying
 pub mod Costing
 pub mod Parting
 pub mod Placing
+pub mod Assuming

@@ -26,7 +26,7 @@ use Rattle.pbd_colour.specs.Pairs.{InRange}
 use Rattle.pbd_pair.specs.declared.bonds.Bonds.{Bonds}
 use Rattle.pbd_pair.specs.Bonds.{bond_of, bond_count, IsBond}
 use Rattle.pbd_world.proofs.Rooms.{room_at}
-use Rattle.pbd_pair.proofs.Blocks.{weigh_same}
+use Rattle.pbd_pair.proofs.Batches.{weigh_same}
 use Rattle.pbd_store.proofs.Fixed.{same_length}
 use Rattle.pbd_step.specs.declared.state.Setting.{Setting}
 use Rattle.pbd_step.specs.declared.state.State.{State}

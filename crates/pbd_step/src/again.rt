@@ -1,6 +1,6 @@
 // Taking over another state, with the colours of its links.
-ghost use Rattle.std.specs.Prelude.{◌≡◌, ◌≤◌, length, IfOk};
-ghost use Rattle.pbd_world.specs.Contacts.{link_pairs};
+ghost use Rattle.std.specs.Prelude.{◌≡◌, ◌≤◌, length, IfOk, IsTrue};
+ghost use Rattle.pbd_world.specs.Contacts.{link_pairs, live_flags};
 ghost use Rattle.pbd_colour.specs.Pairs.{InRange};
 ghost use Rattle.pbd_step.specs.declared.state.Setting.{Setting};
 ghost use Rattle.pbd_step.specs.States.{world_of, HasLinks, HaveSpace};
@@ -63,6 +63,36 @@ fn colour_again(
     colours.drop_pairs(gone.as_slice());
 }
 
+/// Whether links are live just where these flags are set.
+fn are_live_by(flags: &[bool], links: &[Link]) -> bool
+    requires { length flags.now ≡ length links.now }
+    ensures { IsTrue result → flags.now ≡ live_flags links.now }
+{
+    for i in 0..links.len() {
+        if flags[i] != links[i].live {
+            return false;
+        }
+    }
+    true
+}
+
+/// Gives the colouring of links the live ones of these, which join the same pairs. The colours are made anew only where another
+/// link is live.
+fn recolour(links: &[Link], colours: &mut Colouring, tools: &mut Tools)
+    requires few { length links.now ≤ 524288 }
+    requires in_range { InRange colours.old.particles (link_pairs links.now) }
+    requires pairs { colours.old.pairs ≡ link_pairs links.now }
+    requires room { length links.now ≤ colours.old.room }
+    requires space { HaveSpace colours.old.particles (length links.now) tools.old }
+    ensures links { HasLinks colours.old.particles links.now colours.new }
+    ensures space { HaveSpace colours.old.particles (length links.now) tools.new }
+{
+    if are_live_by(colours.live(), links) {
+        return;
+    }
+    colour_again(links, colours, &mut tools.pairs, &mut tools.numbers);
+}
+
 /// Makes a state that of another one, with the colours of its links.
 pub(crate) fn restore<const L: usize>(
     state: &mut State<L>,
@@ -75,6 +105,7 @@ pub(crate) fn restore<const L: usize>(
     requires few { length other.now.links.items ≤ 524288 }
     requires in_range { InRange (length other.now.store.particles) (link_pairs other.now.links.items) }
     requires particles { colours.old.particles ≡ length other.now.store.particles }
+    requires pairs { colours.old.pairs ≡ link_pairs other.now.links.items }
     requires room { length other.now.links.items ≤ colours.old.room }
     requires space { HaveSpace (length other.now.store.particles) (length other.now.links.items) tools.old }
     ensures world { (setting : Setting) → world_of setting state.new ≡ world_of setting other.now }
@@ -85,7 +116,7 @@ pub(crate) fn restore<const L: usize>(
     ensures space { HaveSpace (length other.now.store.particles) (length other.now.links.items) tools.new }
 {
     take_over(state, other);
-    colour_again(&state.links, colours, &mut tools.pairs, &mut tools.numbers);
+    recolour(&state.links, colours, tools);
 }
 
 /// The colours of links that are all between so many particles.

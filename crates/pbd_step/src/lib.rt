@@ -2,6 +2,7 @@
 #![tactic(auto)]
 
 mod again;
+mod assume;
 mod bonds;
 mod commands;
 mod contacts;

@@ -31,7 +31,7 @@ use std::sync::ledger::Ledger;
 pub struct Solver<const L: usize, P: Projector<L> + Drop> {
     pub(crate) setting: Setting,
     pub(crate) run: Running<L, P>,
-    kept: State<L>,
+    pub(crate) kept: State<L>,
 }
 
 impl<const L: usize, P: Projector<L> + Drop> Model for Solver<L, P> {

@@ -2,6 +2,7 @@ use Rattle.std.proofs.Common.{◌≡◌, sym, ap, ◌∙◌, arith, subst, lengt
 use Rattle.pbd_world.specs.declared.parts.Particle.{Particle}
 use Rattle.pbd_world.specs.declared.parts.Link.{Link}
 use Rattle.pbd_world.specs.World.{World, IsSound}
+use Rattle.pbd_world.specs.Contacts.{link_pairs}
 use Rattle.pbd_colour.specs.Pairs.{Coloured}
 use Rattle.pbd_step.specs.States.{world_of, HasLinks, HaveSpace}
 use Rattle.pbd_step.specs.Solving.{AreAlike}
@@ -22,9 +23,10 @@ restore-requires g c =
     } in
     let alike : AreAlike c.take_steps.new.run.state kept = alike_join c.take_steps.new.run.state state kept stays.alike taken in
     let colours = ap (λ (k : Coloured). k.particles) stays.pairs ∙ c.requires.kept.links.particles ∙ taken.particles in
+    let pairs = ap (λ (k : Coloured). k.pairs) stays.pairs ∙ c.requires.kept.links.pairs ∙ ap (λ (ls : List Link). link_pairs ls) (sym c.take_over.ensures.links) in
     let room : length kept.links.items ≤ c.take_steps.new.run.colours.room = omega (arith, ap (λ (k : Coloured). k.room) stays.pairs, c.requires.kept.links.room, taken.links) in
     let space = coe 0 1 (i. HaveSpace (taken.particles i) (taken.links i) c.take_steps.new.run.tools) (stays.space (length state.store.particles) (length state.links.items) c.requires.kept.space) in
-    (omega arith, (c.requires.lanes_high, (alike, (fit.links, (fit.in_range, (colours, (room, space)))))))
+    (omega arith, (c.requires.lanes_high, (alike, (fit.links, (fit.in_range, (colours, (pairs, (room, space))))))))
 
 pub returns-in-Err-clause-obeys : goal.returns-in-Err-clause-obeys
 returns-in-Err-clause-obeys g c =

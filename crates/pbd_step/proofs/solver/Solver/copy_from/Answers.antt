@@ -5,7 +5,7 @@ use Rattle.pbd_world.specs.World.{World, IsSound, AreOfOneScene}
 use Rattle.pbd_step.specs.declared.state.Setting.{Setting}
 use Rattle.pbd_step.specs.States.{world_of, HasLinks, HaveSpace}
 use Rattle.pbd_step.specs.Solving.{Solved, AreAlike}
-use Rattle.pbd_step.proofs.Keeping.{formed_fit, scene_alike, scene_world, alike_join, kept_moved}
+use Rattle.pbd_step.proofs.Keeping.{formed_fit, scene_alike, scene_pairs, scene_world, alike_join, kept_moved}
 use Rattle.pbd_step.proofs.solver.Solver.copy_from.Goals as goal
 
 pub restore-requires : goal.restore-requires
@@ -15,9 +15,10 @@ restore-requires g c =
     let scene = subst (λ (v : World). AreOfOneScene v (world_of c.other.inside.setting other)) (sym (ap (λ (s : Solved g.row.P.Denot). s.world) c.self.view_is)) (subst (λ (v : World). AreOfOneScene c.args.self.now.world v) (sym (ap (λ (s : Solved g.row.P.Denot). s.world) c.other.view_is)) c.requires.one_scene) in
     let alike : AreAlike mine other = scene_alike c.self.inside.setting c.other.inside.setting mine other scene in
     let fit = formed_fit (world_of c.other.inside.setting other) c.other.invariant.sound.well_formed in
+    let pairs = c.self.invariant.links.pairs ∙ scene_pairs c.self.inside.setting c.other.inside.setting mine other scene in
     let room : length other.links.items ≤ c.self.inside.run.colours.room = omega (arith, c.self.invariant.links.room, alike.links) in
     let space = subst (λ (m : ℕ). HaveSpace (length other.store.particles) m c.self.inside.run.tools) alike.links (subst (λ (n : ℕ). HaveSpace n (length mine.links.items) c.self.inside.run.tools) alike.particles c.self.invariant.space) in
-    (omega arith, (c.requires.lanes_high, (alike, (fit.links, (fit.in_range, (c.self.invariant.links.particles ∙ alike.particles, (room, space)))))))
+    (omega arith, (c.requires.lanes_high, (alike, (fit.links, (fit.in_range, (c.self.invariant.links.particles ∙ alike.particles, (pairs, (room, space))))))))
 
 pub invariant_of-self : goal.invariant_of-self
 invariant_of-self g c =

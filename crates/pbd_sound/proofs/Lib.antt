@@ -1,0 +1,5 @@
+pub mod Where
+pub mod Checks
+pub mod Telling
+pub mod Momenta
+pub mod Sounding
