@@ -1,10 +1,10 @@
 /*
  * Lakmozet for programs in C and C++: cloth and ropes that are the same, to the bit, on every machine.
  *
- * Link the archive liblakmozet_c.a, and behind it liblibc_c.a of the toolchain; docs/EMBEDDING.md has the commands.
+ * What to link is what tools/install puts into a folder, or an archive; docs/EMBEDDING.md has the commands.
  *
  * Every call is total: no argument of its type breaks it, none aborts, and each answers a number. What the exports promise is
- * proved; that these lines agree with the archive is tested by tools/embed-check.
+ * proved of the sources; that these lines agree with the archive is tested by tools/embed-check.
  *
  * What no call ever does: it starts no thread, uses no lock, no locale, no file, no clock and no floating point, and it writes
  * nowhere but through its arguments and into what the handle holds. After lak_open no call on a handle takes memory, until
@@ -209,11 +209,11 @@ int32_t lak_record(const uint8_t *scene, size_t scene_length, const uint8_t *scr
  * says how many bytes it has. It is the text that the program's `replay` writes of that log: the replies of its commands, and
  * where an entry differs from what the session answers, those before it and the line of the mismatch.
  *
- * LAK_DONE, LAK_SOME_REFUSED: the text is written, and all entries agree. LAK_MISMATCH: the text is written, and `stop` has the
- * first entry that differs, from 1, and its first field that does. LAK_LOG_REFUSED: `written` is 0, and `stop` has the offset.
- * LAK_NO_LOG_ROOM, LAK_TOO_LONG, LAK_SCENE_NOT_TEXT, LAK_SCENE_NOT_TOML, LAK_SCENE_REFUSED (of the scene in the log),
- * LAK_OUT_OF_MEMORY: `written` is 0. What an answer doesn't tell is 0 in `stop`, and where `written` is 0, what `output` has is
- * not told.
+ * LAK_DONE, LAK_SOME_REFUSED: the text is written, and the answers and sums of all entries agree; no sum sees what a link moves
+ * between two free ends of one weight. LAK_MISMATCH: the text is written, and `stop` has the first entry that differs, from 1,
+ * and its first field that does. LAK_LOG_REFUSED: `written` is 0, and `stop` has the offset. LAK_NO_LOG_ROOM, LAK_TOO_LONG,
+ * LAK_SCENE_NOT_TEXT, LAK_SCENE_NOT_TOML, LAK_SCENE_REFUSED (of the scene in the log), LAK_OUT_OF_MEMORY: `written` is 0. What
+ * an answer doesn't tell is 0 in `stop`, and where `written` is 0, what `output` has is not told.
  */
 int32_t lak_replay(const uint8_t *log, size_t length, uint8_t *output, size_t room, size_t *written, lak_stop *stop);
 

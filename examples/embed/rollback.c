@@ -1,7 +1,9 @@
 /*
  * Two players, each with a world of its own, and inputs that come late. Each plays on at once with what it knows; when the
  * other's input of an earlier turn is there, it goes back to the slot of that turn, and plays all turns since once more. At the
- * end both worlds have equal sums.
+ * end both worlds have equal sums: by the law late_inputs_come_to_the_same_world (crates/pbd_laws/src/rollback.rt) the world of
+ * such a machine is always that of the inputs it knows, played in order, and by then both know the same. The law asks that an
+ * input comes while its turn is one of the last SLOTS, so LATE is at most SLOTS.
  */
 #include "lakmozet.h"
 
