@@ -1,0 +1,253 @@
+//! A cloth that plays.
+use crate::errors::{NoSlot, OpenError, Refusal};
+use crate::links::{Ends, Link};
+use crate::parts::kit::alloc::Global;
+use crate::parts::pbd_num::Vec3;
+use crate::parts::{pbd_cloth, pbd_world};
+use crate::position::Position;
+use crate::scene::Scene;
+use crate::{Sums, MOST_SLOTS};
+use alloc::vec;
+use alloc::vec::Vec;
+use core::fmt;
+use pbd_world::{Command, Reply};
+
+/// The world of a scene, which commands and steps change, and slots that each keep a whole world of it.
+///
+/// Equal scenes and equal commands give equal worlds, to the bit, on every machine. A refused command changes nothing. Only
+/// opening takes memory, and those calls that say so.
+///
+/// ```
+/// use lakmozet::{Cloth, Refusal, Scene};
+///
+/// let scene = Scene::read("gravity = [0, -10, 0]\n[[particle]]\nat = [0, 1000, 0]")?;
+/// let mut cloth = Cloth::open(&scene, 0)?;
+/// cloth.step(3)?;
+/// assert_eq!(cloth.positions().next(), Some([0, 940, 0].into()));
+/// assert_eq!(cloth.pin(1), Err(Refusal::NoParticle));
+/// # Ok::<(), Box<dyn std::error::Error>>(())
+/// ```
+pub struct Cloth {
+    cloth: pbd_cloth::Cloth,
+    ends: Vec<Ends>,
+}
+
+impl Cloth {
+    /// Opens the world of a scene before its first command, with up to 16 slots, each of which has that world too.
+    ///
+    /// # Errors
+    ///
+    /// There were more than 16 slots, or no memory.
+    pub fn open(scene: &Scene, slots: usize) -> Result<Cloth, OpenError> {
+        if slots > MOST_SLOTS {
+            return Err(OpenError::TooManySlots);
+        }
+        let links = scene.0.parts().links.as_slice();
+        let mut ends = Vec::new();
+        ends.try_reserve_exact(links.len())
+            .map_err(|_| OpenError::OutOfMemory)?;
+        ends.extend(links.iter().map(Ends::of));
+        let cloth = pbd_cloth::Cloth::open(Global, &scene.0, slots as u32)?;
+        Ok(Cloth { cloth, ends })
+    }
+
+    fn apply(&mut self, command: Command) -> Result<(), Refusal> {
+        match self.cloth.apply(&command) {
+            Reply::Refused(why) => Err(why),
+            _ => Ok(()),
+        }
+    }
+
+    /// Takes n steps, 1 to 100,000, or none at all.
+    ///
+    /// # Errors
+    ///
+    /// `BadCount`, `StepLimit`, `LeavesRange` or `TooManyContacts`.
+    pub fn step(&mut self, n: u64) -> Result<(), Refusal> {
+        self.apply(Command::Step(n))
+    }
+
+    /// Holds a particle where it is.
+    ///
+    /// # Errors
+    ///
+    /// `NoParticle` or `Held`.
+    pub fn pin(&mut self, particle: usize) -> Result<(), Refusal> {
+        self.apply(Command::Pin(particle as u64))
+    }
+
+    /// Frees a particle, at rest.
+    ///
+    /// # Errors
+    ///
+    /// `NoParticle`, `NotHeld` or `Tracked`.
+    pub fn unpin(&mut self, particle: usize) -> Result<(), Refusal> {
+        self.apply(Command::Unpin(particle as u64))
+    }
+
+    /// Puts a held particle at a place, in units of 1/65,536 metre.
+    ///
+    /// # Errors
+    ///
+    /// `NoParticle`, `OutOfRange`, `NotHeld` or `Tracked`.
+    ///
+    /// ```
+    /// use lakmozet::{Cloth, Refusal, Scene};
+    ///
+    /// let mut cloth = Cloth::open(&Scene::read("[[particle]]\nat = [0, 0, 0]")?, 0)?;
+    /// assert_eq!(cloth.move_to(0, [5, 0, 0]), Err(Refusal::NotHeld));
+    /// cloth.pin(0)?;
+    /// cloth.move_to(0, [5, 0, 0])?;
+    /// # Ok::<(), Box<dyn std::error::Error>>(())
+    /// ```
+    pub fn move_to(&mut self, particle: usize, to: impl Into<Position>) -> Result<(), Refusal> {
+        self.apply(Command::Move {
+            particle: particle as u64,
+            to: vector(to.into()),
+        })
+    }
+
+    /// Lets a link go.
+    ///
+    /// # Errors
+    ///
+    /// `NoLink` or `LinkGone`.
+    pub fn cut(&mut self, link: usize) -> Result<(), Refusal> {
+        self.apply(Command::Cut(link as u64))
+    }
+
+    /// Sets gravity, in units per step squared, within 2^29 on each axis.
+    ///
+    /// # Errors
+    ///
+    /// `OutOfRange`.
+    pub fn set_gravity(&mut self, gravity: [i64; 3]) -> Result<(), Refusal> {
+        self.apply(Command::Gravity(vector(gravity.into())))
+    }
+
+    /// Gravity, in units per step squared.
+    #[must_use]
+    pub fn gravity(&self) -> [i64; 3] {
+        let Vec3 { x, y, z } = self.cloth.gravity();
+        [x, y, z]
+    }
+
+    /// Keeps the whole world in a slot, from 0. No other slot changes.
+    ///
+    /// # Errors
+    ///
+    /// There is no such slot.
+    pub fn save(&mut self, slot: usize) -> Result<(), NoSlot> {
+        let slot = self.slot(slot)?;
+        self.cloth.save(slot);
+        Ok(())
+    }
+
+    /// Goes back to the world in a slot: all that follows is what followed after it was saved. No slot changes.
+    ///
+    /// # Errors
+    ///
+    /// There is no such slot.
+    pub fn restore(&mut self, slot: usize) -> Result<(), NoSlot> {
+        let slot = self.slot(slot)?;
+        self.cloth.restore(slot);
+        Ok(())
+    }
+
+    fn slot(&self, slot: usize) -> Result<u32, NoSlot> {
+        if slot < self.slots() {
+            Ok(slot as u32)
+        } else {
+            Err(NoSlot)
+        }
+    }
+
+    /// How many slots there are.
+    #[must_use]
+    pub fn slots(&self) -> usize {
+        self.cloth.slots() as usize
+    }
+
+    /// How many particles there are, at most 65,536.
+    #[must_use]
+    pub fn particles(&self) -> usize {
+        self.cloth.particles() as usize
+    }
+
+    /// How many steps were taken, at most 1,000,000.
+    #[must_use]
+    pub fn steps(&self) -> u64 {
+        self.cloth.step_count()
+    }
+
+    /// How many contacts the last step found, at most 262,144.
+    #[must_use]
+    pub fn contacts(&self) -> usize {
+        self.cloth.contacts() as usize
+    }
+
+    /// Where all particles are, in the order of their numbers. Takes memory for them; [`Cloth::positions_into`] takes none.
+    pub fn positions(&self) -> impl ExactSizeIterator<Item = Position> {
+        let mut positions = vec![Position::from([0; 3]); self.particles()];
+        self.positions_into(&mut positions);
+        positions.into_iter()
+    }
+
+    /// Copies the positions of as many particles as there is room for, from particle 0 on, and answers how many these are.
+    pub fn positions_into(&self, into: &mut [Position]) -> usize {
+        self.cloth.places(into);
+        into.len().min(self.particles())
+    }
+
+    /// The same one step before: the difference is a particle's velocity.
+    pub fn positions_before_into(&self, into: &mut [Position]) -> usize {
+        self.cloth.places_before(into);
+        into.len().min(self.particles())
+    }
+
+    /// All links, in the order of their numbers. Takes memory for a byte each.
+    pub fn links(&self) -> impl ExactSizeIterator<Item = Link> + '_ {
+        let mut live = vec![0; self.ends.len()];
+        self.cloth.live(&mut live);
+        let ends = self.ends.iter();
+        ends.zip(live)
+            .map(|(ends, is_live)| ends.link(is_live != 0))
+    }
+
+    /// The numbers, ascending, of the links that are live in a slot's world and are so no longer. Takes memory for them.
+    ///
+    /// # Errors
+    ///
+    /// There is no such slot.
+    pub fn gone_since(&self, slot: usize) -> Result<impl ExactSizeIterator<Item = usize>, NoSlot> {
+        let slot = self.slot(slot)?;
+        let mut gone = vec![0; self.cloth.gone_since(slot, &mut []) as usize];
+        self.cloth.gone_since(slot, &mut gone);
+        Ok(gone.into_iter().map(|link| link as usize))
+    }
+
+    /// What two machines compare: equal worlds have equal sums.
+    #[must_use]
+    pub fn sums(&self) -> Sums {
+        self.cloth.sums()
+    }
+}
+
+impl fmt::Debug for Cloth {
+    fn fmt(&self, f: &mut fmt::Formatter<'_>) -> fmt::Result {
+        f.debug_struct("Cloth")
+            .field("steps", &self.steps())
+            .field("particles", &self.particles())
+            .field("links", &self.ends.len())
+            .field("slots", &self.slots())
+            .finish_non_exhaustive()
+    }
+}
+
+fn vector(place: Position) -> Vec3 {
+    Vec3 {
+        x: place.x,
+        y: place.y,
+        z: place.z,
+    }
+}

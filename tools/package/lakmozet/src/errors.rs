@@ -1,0 +1,157 @@
+//! Why something can't be done, by the names that the program prints.
+use crate::parts::kit::alloc::AllocError;
+use crate::parts::pbd_scene::{KeyName, SceneFault, SceneRule, TableName};
+use core::error::Error;
+use core::fmt;
+
+/// The part of a step in which a place left the range.
+#[doc(inline)]
+pub use crate::parts::pbd_world::Phase;
+
+/// After a refusal the cloth is exactly what it was.
+///
+/// | refusal | what it means |
+/// |---|---|
+/// | `NoParticle`, `NoLink` | none has this number |
+/// | `LinkGone` | the link was cut or torn before |
+/// | `OutOfRange` | the place or the gravity is outside 2^29 |
+/// | `NotHeld`, `Held` | the particle is free, or held already |
+/// | `Tracked` | a track leads the particle |
+/// | `BadCount` | no steps, or more than 100,000 |
+/// | `StepLimit` | the world would come past step 1,000,000 |
+/// | `LeavesRange` | in this step, counted from opening, this particle, link or contact of the phase left the range |
+/// | `TooManyContacts` | in this step there were more than 262,144 |
+/// | `BadCommand` | never comes from the calls of this crate: a line of a script is no command |
+#[doc(inline)]
+pub use crate::parts::pbd_world::Refusal;
+
+/// Why a text is no scene.
+#[derive(Clone, Copy, Debug, PartialEq, Eq)]
+#[non_exhaustive]
+pub enum SceneError {
+    /// The text is no TOML.
+    NotToml,
+    /// The scene breaks a rule; this is the first that it breaks.
+    #[non_exhaustive]
+    Refused {
+        /// Which rule.
+        rule: SceneRule,
+        /// The array of tables in which it is broken, or the scene itself.
+        table: TableName,
+        /// Which table of the array, from 0.
+        position: u32,
+        /// The key, or none.
+        key: KeyName,
+    },
+    /// There was no memory.
+    OutOfMemory,
+}
+
+impl From<SceneFault> for SceneError {
+    fn from(fault: SceneFault) -> SceneError {
+        match fault {
+            SceneFault::NotToml => SceneError::NotToml,
+            SceneFault::Refused {
+                rule,
+                table,
+                position,
+                key,
+            } => SceneError::Refused {
+                rule,
+                table,
+                position,
+                key,
+            },
+            SceneFault::OutOfMemory => SceneError::OutOfMemory,
+        }
+    }
+}
+
+impl fmt::Display for SceneError {
+    fn fmt(&self, f: &mut fmt::Formatter<'_>) -> fmt::Result {
+        match self {
+            SceneError::NotToml => f.write_str("SceneNotToml"),
+            SceneError::Refused {
+                rule,
+                table,
+                position,
+                key,
+            } => {
+                let number = rule.number();
+                write!(f, "SceneRefused {number} {rule} {table} {position} {key}")
+            }
+            SceneError::OutOfMemory => f.write_str("OutOfMemory"),
+        }
+    }
+}
+
+impl Error for SceneError {}
+
+/// Why a cloth can't be opened.
+#[derive(Clone, Copy, Debug, PartialEq, Eq)]
+#[non_exhaustive]
+pub enum OpenError {
+    /// More than 16 slots were asked for.
+    TooManySlots,
+    /// There was no memory.
+    OutOfMemory,
+}
+
+impl From<AllocError> for OpenError {
+    fn from(AllocError: AllocError) -> OpenError {
+        OpenError::OutOfMemory
+    }
+}
+
+impl fmt::Display for OpenError {
+    fn fmt(&self, f: &mut fmt::Formatter<'_>) -> fmt::Result {
+        f.write_str(match self {
+            OpenError::TooManySlots => "TooManySlots",
+            OpenError::OutOfMemory => "OutOfMemory",
+        })
+    }
+}
+
+impl Error for OpenError {}
+
+/// There is no slot of this number; nothing was done.
+#[derive(Clone, Copy, Debug, PartialEq, Eq)]
+pub struct NoSlot;
+
+impl fmt::Display for NoSlot {
+    fn fmt(&self, f: &mut fmt::Formatter<'_>) -> fmt::Result {
+        f.write_str("NoSlot")
+    }
+}
+
+impl Error for NoSlot {}
+
+impl fmt::Display for Phase {
+    fn fmt(&self, f: &mut fmt::Formatter<'_>) -> fmt::Result {
+        f.write_str(match self {
+            Phase::Predict => "predict",
+            Phase::Link => "link",
+            Phase::Contact => "contact",
+            Phase::Shape => "shape",
+        })
+    }
+}
+
+impl fmt::Display for Refusal {
+    fn fmt(&self, f: &mut fmt::Formatter<'_>) -> fmt::Result {
+        match self {
+            Refusal::LeavesRange {
+                step,
+                phase,
+                element,
+            } => {
+                write!(f, "LeavesRange step {step} phase {phase} element {element}")
+            }
+            Refusal::TooManyContacts { step } => write!(f, "TooManyContacts step {step}"),
+            // the names of the others are those that the program prints
+            other => write!(f, "{other:?}"),
+        }
+    }
+}
+
+impl Error for Refusal {}

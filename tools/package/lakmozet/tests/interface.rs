@@ -1,0 +1,113 @@
+//! The interface, played by README's rope.
+use lakmozet::{Cloth, NoSlot, OpenError, Position, Refusal, Scene, SceneError};
+use std::error::Error;
+
+const ROPE: &str = "gravity = [0, -179, 0]
+passes = 8
+pins = [0]
+[[rope]]
+origin = [0, 131072, 0]
+spacing = [6554, 0, 0]
+count = 4
+";
+
+fn rope(slots: usize) -> Cloth {
+    Cloth::open(&Scene::read(ROPE).unwrap(), slots).unwrap()
+}
+
+#[test]
+fn a_rope_hangs_is_cut_and_goes_back() {
+    let mut cloth = rope(2);
+    cloth.step(60).unwrap();
+    cloth.save(1).unwrap();
+    let before = cloth.sums();
+    assert_eq!(cloth.positions().last(), Some([13127, 116473, 0].into()));
+    cloth.cut(0).unwrap();
+    assert_eq!(cloth.cut(0), Err(Refusal::LinkGone));
+    cloth.step(30).unwrap();
+    assert_eq!(cloth.positions().nth(1), Some([-12124, 115450, 0].into()));
+    assert_eq!(cloth.gone_since(1).unwrap().collect::<Vec<_>>(), [0]);
+    cloth.restore(1).unwrap();
+    assert_eq!(cloth.sums(), before);
+    assert_eq!(cloth.gone_since(1).unwrap().len(), 0);
+}
+
+#[test]
+fn links_have_ends_and_go() {
+    let mut cloth = rope(0);
+    cloth.cut(1).unwrap();
+    let links: Vec<_> = cloth.links().map(|it| (it.a, it.b, it.live)).collect();
+    assert_eq!(
+        links,
+        [
+            (0, 1, true),
+            (1, 2, false),
+            (2, 3, true),
+            (0, 2, true),
+            (1, 3, true)
+        ]
+    );
+}
+
+#[test]
+fn positions_are_copied_as_far_as_there_is_room() {
+    let cloth = rope(0);
+    let mut few = [Position::from([7, 7, 7]); 2];
+    assert_eq!(cloth.positions_into(&mut few), 2);
+    assert_eq!(few[1], [6554, 131072, 0].into());
+    let mut many = [Position::from([7, 7, 7]); 6];
+    assert_eq!(cloth.positions_before_into(&mut many), 4);
+    assert_eq!(many[3], [3 * 6554, 131072, 0].into());
+    assert_eq!(many[4], [7, 7, 7].into());
+}
+
+#[test]
+fn refusals_have_the_names_that_the_program_prints() {
+    let mut cloth = rope(0);
+    assert_eq!(cloth.step(0).unwrap_err().to_string(), "BadCount");
+    assert_eq!(cloth.pin(0).unwrap_err().to_string(), "Held");
+    assert_eq!(cloth.unpin(9).unwrap_err().to_string(), "NoParticle");
+    let far = cloth.move_to(0, [1 << 30, 0, 0]).unwrap_err();
+    assert_eq!(far.to_string(), "OutOfRange");
+    assert_eq!(
+        cloth.set_gravity([i64::MIN, 0, 0]),
+        Err(Refusal::OutOfRange)
+    );
+    assert_eq!(cloth.gravity(), [0, -179, 0]);
+    cloth.move_to(0, [1 << 29, 0, 0]).unwrap();
+    cloth.set_gravity([0, 1 << 29, 0]).unwrap();
+    let why = cloth.step(5).unwrap_err();
+    assert_eq!(
+        why.to_string(),
+        "LeavesRange step 1 phase predict element 1"
+    );
+    assert_eq!(cloth.steps(), 0);
+}
+
+#[test]
+fn scenes_and_slots_are_refused_by_name() {
+    let why: Box<dyn Error> = Scene::read("passes").unwrap_err().into();
+    assert_eq!(why.to_string(), "SceneNotToml");
+    assert_eq!(
+        "passes = 1\nwidth = 2"
+            .parse::<Scene>()
+            .unwrap_err()
+            .to_string(),
+        "SceneRefused 2 UnknownKey scene 0 -"
+    );
+    assert!(matches!(Scene::read("="), Err(SceneError::NotToml)));
+    let scene = Scene::read(ROPE).unwrap();
+    assert_eq!((scene.particles(), scene.links()), (4, 5));
+    assert_eq!(Cloth::open(&scene, 17).err(), Some(OpenError::TooManySlots));
+    let mut cloth = rope(16);
+    assert_eq!(cloth.save(16), Err(NoSlot));
+    assert_eq!(cloth.restore(usize::MAX), Err(NoSlot));
+    assert_eq!(cloth.save(15), Ok(()));
+}
+
+#[test]
+fn goes_to_other_threads() {
+    fn goes<T: Send + Sync + 'static>() {}
+    goes::<Cloth>();
+    goes::<Scene>();
+}
