@@ -1,0 +1,271 @@
+/*
+ * The short game of all bindings (../README.md says what happens in it), from C++: game < ../../examples/embed/drop.txt
+ */
+#include "lakmozet.hpp"
+
+#include <algorithm>
+#include <array>
+#include <cstdio>
+#include <cstdlib>
+#include <iostream>
+#include <span>
+#include <sstream>
+#include <string>
+#include <vector>
+
+using lakmozet::Answer;
+using lakmozet::Cloth;
+using lakmozet::Outcome;
+using lakmozet::Place;
+
+/* A slot for each of the last eight turns, and one for the world after the drop. */
+constexpr std::uint32_t SLOTS = 9, DROPPED = 8;
+constexpr std::size_t PLAYERS = 2, TURNS = 40, LATE = 5;
+constexpr std::array<std::uint64_t, PLAYERS> HANDS = {0, 19};
+
+/* Ends the game where something isn't as it must be. */
+static void must(bool is_so, const char *what)
+{
+    if (!is_so) {
+        std::fprintf(stderr, "not so: %s\n", what);
+        std::exit(1);
+    }
+}
+
+static void must(Answer answer, const char *what)
+{
+    must(answer == Answer::Done, what);
+}
+
+/* What a player does in a turn: moves its hand, and now and then cuts a link. */
+struct Input {
+    Place to;
+    bool cuts;
+    std::uint64_t link;
+};
+
+using Inputs = std::array<std::array<Input, PLAYERS>, TURNS>;
+
+static Inputs drawn_inputs()
+{
+    std::uint32_t state = 12345;
+    const auto draw = [&state](std::uint32_t below) {
+        state ^= state << 13;
+        state ^= state >> 17;
+        state ^= state << 5;
+        return static_cast<std::int64_t>(state % below);
+    };
+    Inputs inputs{};
+    for (std::size_t turn = 0; turn < TURNS; turn++) {
+        for (std::size_t player = 0; player < PLAYERS; player++) {
+            const std::int64_t x = 124526 * static_cast<std::int64_t>(player) - 72263 + draw(20001);
+            const std::int64_t y = 1000 * static_cast<std::int64_t>(turn) + 56000 + draw(8001);
+            const bool cuts = draw(8) == 0;
+            inputs[turn][player] = {{x, y, -62263}, cuts, static_cast<std::uint64_t>(draw(2202))};
+        }
+    }
+    return inputs;
+}
+
+/* Standard input, cut at its line %%. */
+struct Text {
+    std::string scene, script;
+};
+
+static Text read_text()
+{
+    Text text;
+    bool is_script = false;
+    for (std::string line; std::getline(std::cin, line);) {
+        if (!is_script && line == "%%")
+            is_script = true;
+        else
+            (is_script ? text.script : text.scene) += line + "\n";
+    }
+    return text;
+}
+
+static std::vector<Place> places_of(const Cloth &cloth)
+{
+    lakmozet::Counts counts;
+    must(cloth.counts(counts), "counts");
+    std::vector<Place> places(counts.particles);
+    must(cloth.places(places).answer, "places");
+    return places;
+}
+
+/* A frame as the program prints it. */
+static std::string frame(const Cloth &cloth)
+{
+    lakmozet::Counts counts;
+    must(cloth.counts(counts), "counts");
+    std::ostringstream text;
+    text << "frame " << counts.steps << ' ' << counts.particles << ' ' << counts.live << ' ' << counts.contacts << '\n';
+    for (const Place &place : places_of(cloth))
+        text << place.x << ' ' << place.y << ' ' << place.z << '\n';
+    return text.str();
+}
+
+/* Lets the cloth fall on the ball, and adds what the program prints of that. */
+static Cloth drop(const std::string &scene, std::string &printed)
+{
+    Cloth cloth;
+    lakmozet::Fault fault;
+    must(cloth.open(scene, SLOTS, fault) == Outcome::Done, "open");
+    for (int half = 0; half < 3; half++) {
+        must(cloth.step(30), "step");
+        printed += "ok\n" + frame(cloth);
+    }
+    must(cloth.save(DROPPED), "save");
+    return cloth;
+}
+
+static Cloth drop(const std::string &scene)
+{
+    std::string printed;
+    return drop(scene, printed);
+}
+
+/* Records the session, and replays its log: the text is what was printed. */
+static void replay(const Text &text, const std::string &printed)
+{
+    std::vector<std::uint8_t> log(1 << 16), output(printed.size());
+    lakmozet::Stop stop;
+    const auto recorded = lakmozet::record(text.scene, text.script, log);
+    must(recorded.outcome == Outcome::Done, "record");
+    const auto replayed = lakmozet::replay(std::span{log}.first(recorded.count), output, stop);
+    must(replayed.outcome == Outcome::Done, "replay");
+    must(std::string_view{reinterpret_cast<const char *>(output.data()), replayed.count} == printed, "the replay prints the drop");
+}
+
+/* One player's machine: its world, and what it knows of each player's turns. */
+class Machine {
+public:
+    Machine(Cloth from, const Inputs &all) : cloth{std::move(from)}, inputs{all}
+    {
+        for (const std::uint64_t hand : HANDS)
+            must(cloth.pin(hand), "pin");
+        must(cloth.gravity({0, -120, 0}), "gravity");
+    }
+
+    /* Learns a player's next turn: where that was played without it, goes back, and plays on from there. */
+    void learn(std::size_t player)
+    {
+        const std::size_t turn = known[player]++;
+        if (turn < played) {
+            must(cloth.restore(turn % DROPPED), "restore");
+            for (std::size_t again = turn; again < played; again++)
+                play(again);
+        }
+    }
+
+    void play_next() { play(played++); }
+
+    void let_go()
+    {
+        for (const std::uint64_t hand : HANDS)
+            must(cloth.unpin(hand), "unpin");
+        must(cloth.step(), "step");
+    }
+
+    const Cloth &world() const { return cloth; }
+
+private:
+    /* Saves the world before a turn, and plays what is known of it: the first player's input first. */
+    void play(std::size_t turn)
+    {
+        must(cloth.save(turn % DROPPED), "save");
+        for (std::size_t player = 0; player < PLAYERS; player++) {
+            if (turn >= known[player])
+                continue;
+            const Input &input = inputs[turn][player];
+            must(cloth.move(HANDS[player], input.to), "move");
+            if (input.cuts)
+                cloth.cut(input.link); /* a link that is gone is refused, on all machines alike */
+        }
+        must(cloth.step(3), "step");
+    }
+
+    Cloth cloth;
+    const Inputs &inputs;
+    std::array<std::size_t, PLAYERS> known{};
+    std::size_t played = 0;
+};
+
+/* Plays all turns: each machine knows its own player's at once, and the other's some turns later. */
+static void play_late(std::array<Machine, PLAYERS> &machines)
+{
+    for (std::size_t now = 0; now < TURNS + LATE; now++) {
+        for (std::size_t player = 0; player < PLAYERS; player++) {
+            if (now >= LATE)
+                machines[player].learn(1 - player);
+            if (now < TURNS) {
+                machines[player].learn(player);
+                machines[player].play_next();
+            }
+        }
+    }
+}
+
+static void play_on_time(Machine &machine)
+{
+    for (std::size_t now = 0; now < TURNS; now++) {
+        for (std::size_t player = 0; player < PLAYERS; player++)
+            machine.learn(player);
+        machine.play_next();
+    }
+}
+
+static bool has_sum(const std::vector<Place> &places, const std::int64_t (&sum)[3])
+{
+    Place total{0, 0, 0};
+    for (const Place &place : places)
+        total = {total.x + place.x, total.y + place.y, total.z + place.z};
+    return total.x == sum[0] && total.y == sum[1] && total.z == sum[2];
+}
+
+/* The sums as a line, after the lists were seen to agree with them. */
+static std::string totals(const Cloth &cloth)
+{
+    lakmozet::Counts counts;
+    lakmozet::Sums sums;
+    must(cloth.counts(counts), "counts");
+    must(cloth.sums(sums), "sums");
+    std::vector<std::uint8_t> live(counts.links);
+    std::vector<std::uint32_t> gone(counts.links);
+    must(cloth.live(live).answer, "live");
+    must(static_cast<std::uint32_t>(std::count(live.begin(), live.end(), 1)) == sums.live, "the live links are counted");
+    must(cloth.gone_since(DROPPED, gone).count == counts.links - sums.live, "those that went are the others");
+    std::vector<Place> before(counts.particles);
+    must(cloth.places_before(before).answer, "places before");
+    must(has_sum(places_of(cloth), sums.at) && has_sum(before, sums.before), "the places have their sums");
+    std::ostringstream line;
+    line << "sums " << sums.steps << ' ' << sums.live << ' ' << sums.contacts;
+    for (const auto &three : {sums.at, sums.before})
+        line << ' ' << three[0] << ' ' << three[1] << ' ' << three[2];
+    return line.str();
+}
+
+int main()
+{
+    const Text text = read_text();
+    /* the drop */
+    std::string printed;
+    Cloth dropped = drop(text.scene, printed);
+    std::fputs(printed.c_str(), stdout);
+    replay(text, printed);
+    /* rollback: two players, and a machine that knows all in time */
+    const Inputs inputs = drawn_inputs();
+    std::array<Machine, PLAYERS> players = {Machine{std::move(dropped), inputs}, Machine{drop(text.scene), inputs}};
+    Machine on_time{drop(text.scene), inputs};
+    play_late(players);
+    play_on_time(on_time);
+    /* (a third player who joins late, with the state of another's world, has its place here) */
+    for (Machine *machine : {&players[0], &players[1], &on_time})
+        machine->let_go();
+    const std::string line = totals(on_time.world());
+    for (const Machine &player : players)
+        must(totals(player.world()) == line, "the sums are equal");
+    std::puts(line.c_str());
+    return 0;
+}

@@ -1,0 +1,177 @@
+/*
+ * Lakmozet for C++20: a handle that closes itself, spans for memory, and an answer from each call.
+ *
+ * Nothing here throws, takes memory or copies: each call is one call of lakmozet.h, which says what it does, its units and its
+ * answers. The parts stand in that header's order, and what is added there gets its line here. Compile with -std=c++20, also with
+ * -fno-exceptions, and link what a C program links. An empty span or text is fine, also one that points nowhere.
+ */
+#ifndef LAKMOZET_HPP
+#define LAKMOZET_HPP
+
+#include "lakmozet.h"
+
+#include <cstddef>
+#include <cstdint>
+#include <span>
+#include <string_view>
+#include <type_traits>
+#include <utility>
+
+namespace lakmozet {
+
+using Place = lak_place;
+using Fault = lak_fault;
+using Left = lak_left;
+using Sums = lak_sums_of_world;
+using Counts = lak_counts_of_world;
+using Stop = lak_stop;
+
+/* What a call on a cloth answers. */
+enum class Answer : std::int32_t {
+    Done = LAK_DONE,
+    NoParticle = LAK_NO_PARTICLE,
+    NoLink = LAK_NO_LINK,
+    LinkGone = LAK_LINK_GONE,
+    OutOfRange = LAK_OUT_OF_RANGE,
+    NotHeld = LAK_NOT_HELD,
+    Held = LAK_HELD,
+    Tracked = LAK_TRACKED,
+    BadCount = LAK_BAD_COUNT,
+    StepLimit = LAK_STEP_LIMIT,
+    LeavesRange = LAK_LEAVES_RANGE,
+    TooManyContacts = LAK_TOO_MANY_CONTACTS,
+    Closed = LAK_CLOSED,
+    NoSlot = LAK_NO_SLOT,
+    NoRoom = LAK_NO_ROOM
+};
+
+/* What opening, recording and replaying answer. */
+enum class Outcome : std::int32_t {
+    Done = LAK_DONE,
+    NoLogRoom = LAK_NO_LOG_ROOM,
+    TooLong = LAK_TOO_LONG,
+    SceneNotText = LAK_SCENE_NOT_TEXT,
+    SceneNotToml = LAK_SCENE_NOT_TOML,
+    SceneRefused = LAK_SCENE_REFUSED,
+    LogRefused = LAK_LOG_REFUSED,
+    Mismatch = LAK_MISMATCH,
+    SomeRefused = LAK_SOME_REFUSED,
+    OutOfMemory = LAK_OUT_OF_MEMORY,
+    InUse = LAK_IN_USE,
+    NoSlot = LAK_NO_SLOT
+};
+
+/* An answer, and how many there are of a list. */
+struct Listed {
+    Answer answer;
+    std::uint32_t count;
+};
+
+/* An outcome, and how many bytes were written. */
+struct Written {
+    Outcome outcome;
+    std::size_t count;
+};
+
+namespace detail {
+
+/* Where a span stands: no call wants a null pointer, also where a length is 0. */
+template <class T> T *start(std::span<T> it) noexcept
+{
+    static std::remove_const_t<T> nothing{};
+    return it.empty() ? &nothing : it.data();
+}
+
+inline const std::uint8_t *start(std::string_view text) noexcept
+{
+    return reinterpret_cast<const std::uint8_t *>(text.empty() ? "" : text.data());
+}
+
+} // namespace detail
+
+/* A world and its slots, or nothing. It is moved, never copied, and used on the thread that opened it. */
+class Cloth {
+public:
+    Cloth() noexcept = default;
+    Cloth(Cloth &&other) noexcept : handle{std::exchange(other.handle, lak_cloth{})} {}
+    Cloth &operator=(Cloth &&other) noexcept
+    {
+        std::swap(handle, other.handle);
+        return *this;
+    }
+    ~Cloth() { close(); }
+
+    /* ---- opening and closing */
+
+    [[nodiscard]] Outcome open(std::string_view toml, std::uint32_t slots, Fault &fault) noexcept
+    {
+        return Outcome{lak_open(&handle, detail::start(toml), toml.size(), slots, &fault)};
+    }
+    void close() noexcept { lak_close(&handle); }
+
+    /* ---- commands */
+
+    [[nodiscard]] Answer step(std::uint64_t n, Left &left) noexcept { return Answer{lak_step(&handle, n, &left)}; }
+    [[nodiscard]] Answer step(std::uint64_t n = 1) noexcept
+    {
+        Left left;
+        return step(n, left);
+    }
+    Answer pin(std::uint64_t particle) noexcept { return Answer{lak_pin(&handle, particle)}; }
+    Answer unpin(std::uint64_t particle) noexcept { return Answer{lak_unpin(&handle, particle)}; }
+    Answer move(std::uint64_t particle, Place to) noexcept { return Answer{lak_move(&handle, particle, to)}; }
+    Answer cut(std::uint64_t link) noexcept { return Answer{lak_cut(&handle, link)}; }
+    Answer gravity(Place gravity) noexcept { return Answer{lak_gravity(&handle, gravity)}; }
+
+    /* ---- slots */
+
+    [[nodiscard]] Answer save(std::uint32_t slot) noexcept { return Answer{lak_save(&handle, slot)}; }
+    [[nodiscard]] Answer restore(std::uint32_t slot) noexcept { return Answer{lak_restore(&handle, slot)}; }
+
+    /* ---- reading: a list fills the span from its start, and its count says how many there are */
+
+    [[nodiscard]] Answer counts(Counts &into) const noexcept { return Answer{lak_counts(&handle, &into)}; }
+    [[nodiscard]] Answer sums(Sums &into) const noexcept { return Answer{lak_sums(&handle, &into)}; }
+    [[nodiscard]] Listed places(std::span<Place> into) const noexcept { return list(lak_places, into); }
+    [[nodiscard]] Listed places_before(std::span<Place> into) const noexcept { return list(lak_places_before, into); }
+    [[nodiscard]] Listed live(std::span<std::uint8_t> into) const noexcept { return list(lak_live, into); }
+    [[nodiscard]] Listed gone_since(std::uint32_t slot, std::span<std::uint32_t> into) const noexcept
+    {
+        std::uint32_t count = 0;
+        const Answer answer{lak_gone_since(&handle, slot, detail::start(into), into.size(), &count)};
+        return {answer, count};
+    }
+
+private:
+    template <class T>
+    Listed list(std::int32_t (*call)(lak_cloth *, T *, std::size_t, std::uint32_t *), std::span<T> into) const noexcept
+    {
+        std::uint32_t count = 0;
+        const Answer answer{call(&handle, detail::start(into), into.size(), &count)};
+        return {answer, count};
+    }
+
+    /* (reading takes the handle as it is, and leaves what it holds) */
+    mutable lak_cloth handle{};
+};
+
+/* ---- whole runs, from bytes to bytes */
+
+[[nodiscard]] inline Written record(std::string_view scene, std::string_view script, std::span<std::uint8_t> output) noexcept
+{
+    std::size_t written = 0;
+    const Outcome outcome{lak_record(detail::start(scene), scene.size(), detail::start(script), script.size(), detail::start(output),
+                                     output.size(), &written)};
+    return {outcome, written};
+}
+
+[[nodiscard]] inline Written replay(std::span<const std::uint8_t> log, std::span<std::uint8_t> output, Stop &stop) noexcept
+{
+    std::size_t written = 0;
+    const Outcome outcome{lak_replay(detail::start(log), log.size(), detail::start(output), output.size(), &written, &stop)};
+    return {outcome, written};
+}
+
+} // namespace lakmozet
+
+#endif

@@ -1,0 +1,252 @@
+// The short game of all bindings (../README.md says what happens in it), from C#: Game.exe < ../../examples/embed/drop.txt
+using System;
+using System.Linq;
+using System.Text;
+using Lakmozet;
+
+/// <summary>What a player does in a turn: moves its hand, and now and then cuts a link.</summary>
+struct Input
+{
+    public Place To;
+    public bool Cuts;
+    public ulong Link;
+}
+
+/// <summary>The numbers that all bindings draw.</summary>
+sealed class Numbers
+{
+    private uint state = 12345;
+
+    public long Draw(uint below)
+    {
+        state ^= state << 13;
+        state ^= state >> 17;
+        state ^= state << 5;
+        return state % below;
+    }
+}
+
+/// <summary>One player's machine: its world, and what it knows of each player's turns.</summary>
+sealed class Machine : IDisposable
+{
+    private readonly Cloth cloth;
+    private readonly Input[,] inputs;
+    private readonly int[] known = new int[Game.Hands.Length];
+    private int played;
+
+    public Machine(Cloth from, Input[,] all)
+    {
+        cloth = from;
+        inputs = all;
+        foreach (var hand in Game.Hands)
+            Game.Must(cloth.Pin(hand), "Pin");
+        Game.Must(cloth.Gravity(new Place(0, -120, 0)), "Gravity");
+    }
+
+    public Cloth World
+    {
+        get { return cloth; }
+    }
+
+    /// <summary>Learns a player's next turn: where that was played without it, goes back, and plays on from there.</summary>
+    public void Learn(int player)
+    {
+        var turn = known[player]++;
+        if (turn >= played)
+            return;
+        Game.Must(cloth.Restore((uint)turn % Game.Dropped), "Restore");
+        for (var again = turn; again < played; again++)
+            Play(again);
+    }
+
+    public void PlayNext()
+    {
+        Play(played++);
+    }
+
+    /// <summary>Saves the world before a turn, and plays what is known of it: the first player's input first.</summary>
+    private void Play(int turn)
+    {
+        Game.Must(cloth.Save((uint)turn % Game.Dropped), "Save");
+        for (var player = 0; player < known.Length; player++)
+        {
+            if (turn >= known[player])
+                continue;
+            var input = inputs[turn, player];
+            Game.Must(cloth.Move(Game.Hands[player], input.To), "Move");
+            if (input.Cuts)
+                cloth.Cut(input.Link); // a link that is gone is refused, on all machines alike
+        }
+        Game.Must(cloth.Step(3), "Step");
+    }
+
+    public void LetGo()
+    {
+        foreach (var hand in Game.Hands)
+            Game.Must(cloth.Unpin(hand), "Unpin");
+        Game.Must(cloth.Step(), "Step");
+    }
+
+    public void Dispose()
+    {
+        cloth.Dispose();
+    }
+}
+
+static class Game
+{
+    /// <summary>A slot for each of the last eight turns, and one for the world after the drop.</summary>
+    public const uint Slots = 9, Dropped = 8;
+
+    public static readonly ulong[] Hands = { 0, 19 };
+    private const int Turns = 40, Late = 5;
+
+    /// <summary>Ends the game where something isn't as it must be.</summary>
+    public static void Must(bool isSo, string what)
+    {
+        if (!isSo)
+            throw new InvalidOperationException("not so: " + what);
+    }
+
+    public static void Must(Answer answer, string what)
+    {
+        Must(answer == Answer.Done, what);
+    }
+
+    private static Input[,] DrawnInputs()
+    {
+        var numbers = new Numbers();
+        var inputs = new Input[Turns, Hands.Length];
+        for (var turn = 0; turn < Turns; turn++)
+        {
+            for (var player = 0; player < Hands.Length; player++)
+            {
+                var x = 124526 * player - 72263 + numbers.Draw(20001);
+                var y = 1000 * turn + 56000 + numbers.Draw(8001);
+                var cuts = numbers.Draw(8) == 0;
+                inputs[turn, player] = new Input { To = new Place(x, y, -62263), Cuts = cuts, Link = (ulong)numbers.Draw(2202) };
+            }
+        }
+        return inputs;
+    }
+
+    private static Place[] PlacesOf(Cloth cloth)
+    {
+        Must(cloth.Counts(out var counts), "Counts");
+        var places = new Place[counts.Particles];
+        Must(cloth.Places(places, out _), "Places");
+        return places;
+    }
+
+    /// <summary>A frame as the program prints it.</summary>
+    private static string Frame(Cloth cloth)
+    {
+        Must(cloth.Counts(out var counts), "Counts");
+        var text = new StringBuilder($"frame {counts.Steps} {counts.Particles} {counts.Live} {counts.Contacts}\n");
+        foreach (var place in PlacesOf(cloth))
+            text.Append($"{place.X} {place.Y} {place.Z}\n");
+        return text.ToString();
+    }
+
+    /// <summary>Lets the cloth fall on the ball, and says what the program prints of that.</summary>
+    private static Cloth Drop(byte[] scene, out string printed)
+    {
+        var cloth = new Cloth();
+        var text = new StringBuilder();
+        Must(cloth.Open(scene, Slots, out _) == Outcome.Done, "Open");
+        for (var half = 0; half < 3; half++)
+        {
+            Must(cloth.Step(30), "Step");
+            text.Append("ok\n").Append(Frame(cloth));
+        }
+        Must(cloth.Save(Dropped), "Save");
+        printed = text.ToString();
+        return cloth;
+    }
+
+    /// <summary>Records the session, and replays its log: the text is what was printed.</summary>
+    private static void Replay(byte[] scene, byte[] script, string printed)
+    {
+        byte[] log = new byte[1 << 16], output = new byte[printed.Length];
+        Must(Session.Record(scene, script, log, out var length) == Outcome.Done, "Record");
+        Must(Session.Replay(log.AsSpan(0, length), output, out var written, out _) == Outcome.Done, "Replay");
+        Must(Encoding.ASCII.GetString(output, 0, written) == printed, "the replay prints the drop");
+    }
+
+    /// <summary>Plays all turns: each machine knows its own player's at once, and the other's some turns later.</summary>
+    private static void PlayLate(Machine[] machines)
+    {
+        for (var now = 0; now < Turns + Late; now++)
+        {
+            for (var player = 0; player < machines.Length; player++)
+            {
+                if (now >= Late)
+                    machines[player].Learn(1 - player);
+                if (now >= Turns)
+                    continue;
+                machines[player].Learn(player);
+                machines[player].PlayNext();
+            }
+        }
+    }
+
+    private static void PlayOnTime(Machine machine)
+    {
+        for (var now = 0; now < Turns; now++)
+        {
+            for (var player = 0; player < Hands.Length; player++)
+                machine.Learn(player);
+            machine.PlayNext();
+        }
+    }
+
+    private static bool HasSum(Place[] places, Place sum)
+    {
+        var total = new Place();
+        foreach (var place in places)
+            total = new Place(total.X + place.X, total.Y + place.Y, total.Z + place.Z);
+        return total.Equals(sum);
+    }
+
+    /// <summary>The sums, after the lists were seen to agree with them.</summary>
+    private static Sums Totals(Cloth cloth)
+    {
+        Must(cloth.Counts(out var counts), "Counts");
+        Must(cloth.Sums(out var sums), "Sums");
+        var live = new byte[counts.Links];
+        Must(cloth.Live(live, out _), "Live");
+        Must(live.Count(it => it == 1) == sums.Live, "the live links are counted");
+        Must(cloth.GoneSince(Dropped, new uint[counts.Links], out var gone), "GoneSince");
+        Must(gone == counts.Links - sums.Live, "those that went are the others");
+        var before = new Place[counts.Particles];
+        Must(cloth.PlacesBefore(before, out _), "PlacesBefore");
+        Must(HasSum(PlacesOf(cloth), sums.At) && HasSum(before, sums.Before), "the places have their sums");
+        return sums;
+    }
+
+    private static void Main()
+    {
+        var text = Console.In.ReadToEnd();
+        var cut = text.IndexOf("%%\n", StringComparison.Ordinal);
+        byte[] scene = Encoding.UTF8.GetBytes(text.Substring(0, cut)), script = Encoding.UTF8.GetBytes(text.Substring(cut + 3));
+        var inputs = DrawnInputs();
+        // the drop
+        using (var dropped = Drop(scene, out var printed))
+        // rollback: two players, and a machine that knows all in time
+        using (var first = new Machine(dropped, inputs))
+        using (var second = new Machine(Drop(scene, out _), inputs))
+        using (var onTime = new Machine(Drop(scene, out _), inputs))
+        {
+            Console.Write(printed);
+            Replay(scene, script, printed);
+            PlayLate(new[] { first, second });
+            PlayOnTime(onTime);
+            // (a third player who joins late, with the state of another's world, has its place here)
+            foreach (var machine in new[] { first, second, onTime })
+                machine.LetGo();
+            var sums = Totals(onTime.World);
+            Must(Totals(first.World).Equals(sums) && Totals(second.World).Equals(sums), "the sums are equal");
+            Console.WriteLine(sums);
+        }
+    }
+}

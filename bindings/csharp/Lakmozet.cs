@@ -1,0 +1,276 @@
+// Lakmozet for C#: one file over the C library, with spans for memory and an answer from each call.
+//
+// Each call is one call of lakmozet.h, which says what it does, its units and its answers; the parts stand in that header's order,
+// and what is added there gets its line in Native and its line below. Compile with /unsafe. The library is found as a shared one
+// by the name Native.Library: liblakmozet.so, liblakmozet.dylib or lakmozet.dll.
+//
+// A Cloth is used on the thread that opened it, so it has no finalizer, which would run on another: dispose it.
+using System;
+using System.Runtime.InteropServices;
+
+namespace Lakmozet
+{
+    /// <summary>What a call on a cloth answers.</summary>
+    public enum Answer
+    {
+        Done = 0,
+        NoParticle = 2,
+        NoLink = 3,
+        LinkGone = 4,
+        OutOfRange = 5,
+        NotHeld = 6,
+        Held = 7,
+        Tracked = 8,
+        BadCount = 9,
+        StepLimit = 10,
+        LeavesRange = 11,
+        TooManyContacts = 12,
+        Closed = 64,
+        NoSlot = 66,
+        NoRoom = 67
+    }
+
+    /// <summary>What opening, recording and replaying answer.</summary>
+    public enum Outcome
+    {
+        Done = 0,
+        NoLogRoom = 3,
+        TooLong = 4,
+        SceneNotText = 6,
+        SceneNotToml = 7,
+        SceneRefused = 8,
+        LogRefused = 9,
+        Mismatch = 10,
+        SomeRefused = 11,
+        OutOfMemory = 12,
+        InUse = 65,
+        NoSlot = 66
+    }
+
+    /// <summary>A place or a vector, in units of 1/65,536 metre.</summary>
+    [StructLayout(LayoutKind.Sequential)]
+    public struct Place : IEquatable<Place>
+    {
+        public long X, Y, Z;
+
+        public Place(long x, long y, long z)
+        {
+            X = x;
+            Y = y;
+            Z = z;
+        }
+
+        public bool Equals(Place other)
+        {
+            return X == other.X && Y == other.Y && Z == other.Z;
+        }
+
+        public override bool Equals(object other)
+        {
+            return other is Place && Equals((Place)other);
+        }
+
+        public override int GetHashCode()
+        {
+            return X.GetHashCode() ^ (3 * Y).GetHashCode() ^ (5 * Z).GetHashCode();
+        }
+    }
+
+    /// <summary>The first rule that a scene breaks, and where.</summary>
+    [StructLayout(LayoutKind.Sequential)]
+    public struct Fault
+    {
+        public uint Position;
+        public byte Rule, Table, Key;
+    }
+
+    /// <summary>Where a step was refused.</summary>
+    [StructLayout(LayoutKind.Sequential)]
+    public struct Left
+    {
+        public ulong Step;
+        public uint Element;
+        public byte Phase;
+    }
+
+    /// <summary>What two machines compare: equal worlds have equal sums.</summary>
+    [StructLayout(LayoutKind.Sequential)]
+    public struct Sums : IEquatable<Sums>
+    {
+        public ulong Steps;
+        public uint Live, Contacts;
+        public Place At, Before;
+
+        public bool Equals(Sums other)
+        {
+            return Steps == other.Steps && Live == other.Live && Contacts == other.Contacts
+                && At.Equals(other.At) && Before.Equals(other.Before);
+        }
+
+        public override bool Equals(object other)
+        {
+            return other is Sums && Equals((Sums)other);
+        }
+
+        public override int GetHashCode()
+        {
+            return At.GetHashCode() ^ Steps.GetHashCode();
+        }
+
+        public override string ToString()
+        {
+            return $"sums {Steps} {Live} {Contacts} {At.X} {At.Y} {At.Z} {Before.X} {Before.Y} {Before.Z}";
+        }
+    }
+
+    /// <summary>How many of everything there are.</summary>
+    [StructLayout(LayoutKind.Sequential)]
+    public struct Counts
+    {
+        public ulong Steps;
+        public uint Particles, Links, Live, Contacts, Slots;
+    }
+
+    /// <summary>Where a replay stopped.</summary>
+    [StructLayout(LayoutKind.Sequential)]
+    public struct Stop
+    {
+        public ulong Offset, Entry;
+        public byte Field;
+    }
+
+    /// <summary>The calls as C has them. None wants a null pointer, also where a length is 0.</summary>
+    internal static unsafe class Native
+    {
+        internal const string Library = "lakmozet";
+
+        /// <summary>lak_cloth: all zeros are a closed handle.</summary>
+        [StructLayout(LayoutKind.Sequential)]
+        internal struct Handle
+        {
+            private IntPtr at;
+            private byte full;
+        }
+
+        [DllImport(Library)] internal static extern Outcome lak_open(ref Handle cloth, byte* toml, UIntPtr length, uint slots,
+            out Fault fault);
+        [DllImport(Library)] internal static extern void lak_close(ref Handle cloth);
+        [DllImport(Library)] internal static extern Answer lak_step(ref Handle cloth, ulong n, out Left left);
+        [DllImport(Library)] internal static extern Answer lak_pin(ref Handle cloth, ulong particle);
+        [DllImport(Library)] internal static extern Answer lak_unpin(ref Handle cloth, ulong particle);
+        [DllImport(Library)] internal static extern Answer lak_move(ref Handle cloth, ulong particle, Place to);
+        [DllImport(Library)] internal static extern Answer lak_cut(ref Handle cloth, ulong link);
+        [DllImport(Library)] internal static extern Answer lak_gravity(ref Handle cloth, Place gravity);
+        [DllImport(Library)] internal static extern Answer lak_save(ref Handle cloth, uint slot);
+        [DllImport(Library)] internal static extern Answer lak_restore(ref Handle cloth, uint slot);
+        [DllImport(Library)] internal static extern Answer lak_counts(ref Handle cloth, out Counts counts);
+        [DllImport(Library)] internal static extern Answer lak_sums(ref Handle cloth, out Sums sums);
+        [DllImport(Library)] internal static extern Answer lak_places(ref Handle cloth, Place* into, UIntPtr room, out uint count);
+        [DllImport(Library)] internal static extern Answer lak_places_before(ref Handle cloth, Place* into, UIntPtr room,
+            out uint count);
+        [DllImport(Library)] internal static extern Answer lak_live(ref Handle cloth, byte* into, UIntPtr room, out uint count);
+        [DllImport(Library)] internal static extern Answer lak_gone_since(ref Handle cloth, uint slot, uint* into, UIntPtr room,
+            out uint count);
+        [DllImport(Library)] internal static extern Outcome lak_record(byte* scene, UIntPtr sceneLength, byte* script, UIntPtr scriptLength,
+            byte* output, UIntPtr room, out UIntPtr written);
+        [DllImport(Library)] internal static extern Outcome lak_replay(byte* log, UIntPtr length, byte* output, UIntPtr room,
+            out UIntPtr written, out Stop stop);
+
+        /// <summary>What a span pins, or something where it is empty: see `fixed` below.</summary>
+        internal static ref T Start<T>(ReadOnlySpan<T> span) where T : struct
+        {
+            return ref MemoryMarshal.GetReference(span.IsEmpty ? new T[1] : span);
+        }
+
+        internal static UIntPtr Length<T>(ReadOnlySpan<T> span)
+        {
+            return (UIntPtr)(uint)span.Length;
+        }
+    }
+
+    /// <summary>A world and its slots, or nothing.</summary>
+    public sealed unsafe class Cloth : IDisposable
+    {
+        private Native.Handle handle;
+
+        // ---- opening and closing
+
+        /// <summary>Opens the scene of a TOML text in UTF-8.</summary>
+        public Outcome Open(ReadOnlySpan<byte> toml, uint slots, out Fault fault)
+        {
+            fixed (byte* at = &Native.Start(toml))
+                return Native.lak_open(ref handle, at, Native.Length(toml), slots, out fault);
+        }
+
+        public void Dispose() { Native.lak_close(ref handle); }
+
+        // ---- commands
+
+        public Answer Step(ulong n, out Left left) { return Native.lak_step(ref handle, n, out left); }
+        public Answer Step(ulong n = 1) { return Step(n, out _); }
+        public Answer Pin(ulong particle) { return Native.lak_pin(ref handle, particle); }
+        public Answer Unpin(ulong particle) { return Native.lak_unpin(ref handle, particle); }
+        public Answer Move(ulong particle, Place to) { return Native.lak_move(ref handle, particle, to); }
+        public Answer Cut(ulong link) { return Native.lak_cut(ref handle, link); }
+        public Answer Gravity(Place gravity) { return Native.lak_gravity(ref handle, gravity); }
+
+        // ---- slots
+
+        public Answer Save(uint slot) { return Native.lak_save(ref handle, slot); }
+        public Answer Restore(uint slot) { return Native.lak_restore(ref handle, slot); }
+
+        // ---- reading: a list fills the span from its start, and its count says how many there are
+
+        public Answer Counts(out Counts counts) { return Native.lak_counts(ref handle, out counts); }
+        public Answer Sums(out Sums sums) { return Native.lak_sums(ref handle, out sums); }
+
+        public Answer Places(Span<Place> into, out uint count)
+        {
+            fixed (Place* at = &Native.Start<Place>(into))
+                return Native.lak_places(ref handle, at, Native.Length<Place>(into), out count);
+        }
+
+        public Answer PlacesBefore(Span<Place> into, out uint count)
+        {
+            fixed (Place* at = &Native.Start<Place>(into))
+                return Native.lak_places_before(ref handle, at, Native.Length<Place>(into), out count);
+        }
+
+        public Answer Live(Span<byte> into, out uint count)
+        {
+            fixed (byte* at = &Native.Start<byte>(into))
+                return Native.lak_live(ref handle, at, Native.Length<byte>(into), out count);
+        }
+
+        public Answer GoneSince(uint slot, Span<uint> into, out uint count)
+        {
+            fixed (uint* at = &Native.Start<uint>(into))
+                return Native.lak_gone_since(ref handle, slot, at, Native.Length<uint>(into), out count);
+        }
+    }
+
+    /// <summary>Whole runs, from bytes to bytes.</summary>
+    public static unsafe class Session
+    {
+        public static Outcome Record(ReadOnlySpan<byte> scene, ReadOnlySpan<byte> script, Span<byte> output, out int written)
+        {
+            fixed (byte* first = &Native.Start(scene), second = &Native.Start(script), into = &Native.Start<byte>(output))
+            {
+                var outcome = Native.lak_record(first, Native.Length(scene), second, Native.Length(script), into,
+                    Native.Length<byte>(output), out var count);
+                written = (int)(uint)count;
+                return outcome;
+            }
+        }
+
+        public static Outcome Replay(ReadOnlySpan<byte> log, Span<byte> output, out int written, out Stop stop)
+        {
+            fixed (byte* at = &Native.Start(log), into = &Native.Start<byte>(output))
+            {
+                var outcome = Native.lak_replay(at, Native.Length(log), into, Native.Length<byte>(output), out var count, out stop);
+                written = (int)(uint)count;
+                return outcome;
+            }
+        }
+    }
+}

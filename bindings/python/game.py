@@ -1,0 +1,157 @@
+#!/usr/bin/env python3
+"""The short game of all bindings (../README.md says what happens in it), from Python: game.py LIBRARY < ../../examples/embed/drop.txt"""
+from __future__ import annotations
+
+import sys
+from typing import NamedTuple
+
+import lakmozet
+
+SLOTS, DROPPED = 9, 8  # a slot for each of the last eight turns, and one for the world after the drop
+TURNS, LATE = 40, 5
+HANDS = (0, 19)
+
+
+class Input(NamedTuple):
+    """What a player does in a turn: moves its hand, and now and then cuts a link."""
+
+    to: tuple[int, int, int]
+    cuts: bool
+    link: int
+
+
+def must(is_so: bool, what: str) -> None:
+    """Ends the game where something isn't as it must be."""
+    if not is_so:
+        sys.exit(f"not so: {what}")
+
+
+def drawn_inputs() -> list[list[Input]]:
+    state = 12345
+
+    def draw(below: int) -> int:
+        nonlocal state
+        state ^= state << 13 & 0xFFFFFFFF
+        state ^= state >> 17
+        state ^= state << 5 & 0xFFFFFFFF
+        return state % below
+
+    return [[Input((124526 * player - 72263 + draw(20001), 1000 * turn + 56000 + draw(8001), -62263), draw(8) == 0, draw(2202))
+             for player in range(len(HANDS))] for turn in range(TURNS)]
+
+
+def frame(cloth: lakmozet.Cloth) -> str:
+    """A frame as the program prints it."""
+    counts = cloth.counts()
+    places = "".join(f"{x} {y} {z}\n" for x, y, z in cloth.places().tolist())
+    return f"frame {counts.steps} {counts.particles} {counts.live} {counts.contacts}\n{places}"
+
+
+def drop(library: lakmozet.Library, scene: bytes) -> tuple[lakmozet.Cloth, str]:
+    """Lets the cloth fall on the ball, and returns it with what the program prints of that."""
+    cloth, printed = library.open(scene, SLOTS), ""
+    for _ in range(3):
+        cloth.step(30)
+        printed += "ok\n" + frame(cloth)
+    cloth.save(DROPPED)
+    return cloth, printed
+
+
+class Machine:
+    """One player's machine: its world, and what it knows of each player's turns."""
+
+    def __init__(self, cloth: lakmozet.Cloth, inputs: list[list[Input]]) -> None:
+        self.cloth, self.inputs = cloth, inputs
+        self.known, self.played = [0] * len(HANDS), 0
+        for hand in HANDS:
+            cloth.pin(hand)
+        cloth.gravity((0, -120, 0))
+
+    def learn(self, player: int) -> None:
+        """Learns a player's next turn: where that was played without it, goes back, and plays on from there."""
+        turn = self.known[player]
+        self.known[player] += 1
+        if turn < self.played:
+            self.cloth.restore(turn % DROPPED)
+            for again in range(turn, self.played):
+                self.play(again)
+
+    def play_next(self) -> None:
+        self.play(self.played)
+        self.played += 1
+
+    def play(self, turn: int) -> None:
+        """Saves the world before a turn, and plays what is known of it: the first player's input first."""
+        self.cloth.save(turn % DROPPED)
+        for player, it in enumerate(self.inputs[turn]):
+            if turn >= self.known[player]:
+                continue
+            self.cloth.move(HANDS[player], it.to)
+            if it.cuts:
+                try:
+                    self.cloth.cut(it.link)
+                except lakmozet.Refused:
+                    pass  # a link that is gone is refused, on all machines alike
+        self.cloth.step(3)
+
+    def let_go(self) -> None:
+        for hand in HANDS:
+            self.cloth.unpin(hand)
+        self.cloth.step()
+
+
+def play_late(machines: list[Machine]) -> None:
+    """Plays all turns: each machine knows its own player's at once, and the other's some turns later."""
+    for now in range(TURNS + LATE):
+        for player, machine in enumerate(machines):
+            if now >= LATE:
+                machine.learn(1 - player)
+            if now < TURNS:
+                machine.learn(player)
+                machine.play_next()
+
+
+def play_on_time(machine: Machine) -> None:
+    for _ in range(TURNS):
+        for player in range(len(HANDS)):
+            machine.learn(player)
+        machine.play_next()
+
+
+def totals(cloth: lakmozet.Cloth) -> str:
+    """The sums as a line, after the lists were seen to agree with them."""
+    sums = cloth.sums()
+    must(sum(cloth.live().tolist()) == sums.live, "the live links are counted")
+    must(len(cloth.gone_since(DROPPED)) == cloth.counts().links - sums.live, "those that went are the others")
+    for places, total in ((cloth.places(), sums.at), (cloth.places_before(), sums.before)):
+        must([sum(axis) for axis in zip(*places.tolist())] == list(total), "the places have their sums")
+    return f"sums {sums.steps} {sums.live} {sums.contacts} {' '.join(map(str, sums.at + sums.before))}"
+
+
+def main() -> None:
+    library = lakmozet.Library(sys.argv[1])
+    scene, script = sys.stdin.buffer.read().split(b"%%\n", 1)
+    # the drop
+    cloth, printed = drop(library, scene)
+    print(printed, end="")
+    # the same as a replay of its log
+    must(library.replay(library.record(scene, script)) == (printed.encode(), None), "the replay prints the drop")
+    # rollback: two players, and a machine that knows all in time
+    inputs = drawn_inputs()
+    players = [Machine(cloth, inputs), Machine(drop(library, scene)[0], inputs)]
+    on_time = Machine(drop(library, scene)[0], inputs)
+    play_late(players)
+    play_on_time(on_time)
+    # (a third player who joins late, with the state of another's world, has its place here)
+    machines = [*players, on_time]
+    for machine in machines:
+        machine.let_go()
+    lines = {totals(machine.cloth) for machine in machines}
+    must(len(lines) == 1, "the sums are equal")
+    print(*lines)
+    for machine in machines:
+        machine.cloth.close()
+
+
+if __name__ == "__main__":
+    main()

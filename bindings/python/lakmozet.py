@@ -1,0 +1,335 @@
+"""Lakmozet for Python, by ctypes: one module over the C library as a shared one.
+
+    import lakmozet
+
+    library = lakmozet.Library("built/liblakmozet.so")
+    with library.open(toml, slots=8) as cloth:
+        cloth.step()
+        places = cloth.places()     # places[3, 1] is how high particle 3 is
+
+Each call is one call of lakmozet.h, which says what it does, its units and its answers: the parts stand in that header's order,
+and what is added there gets its line in CALLS and its method. A refused command raises Refused, and the world is what it was. Lists
+are arrays of NumPy where NumPy is there, and memoryviews where it isn't, over memory that the library wrote. A cloth is used on
+the thread that opened it.
+"""
+from __future__ import annotations
+
+import ctypes
+import enum
+from ctypes import POINTER, c_char_p, c_int32, c_int64, c_size_t, c_uint8, c_uint32, c_uint64
+from typing import Any, NamedTuple
+
+try:
+    import numpy
+except ImportError:
+    numpy = None
+
+
+class Answer(enum.IntEnum):
+    """What a call on a cloth answers."""
+
+    DONE = 0
+    NO_PARTICLE = 2
+    NO_LINK = 3
+    LINK_GONE = 4
+    OUT_OF_RANGE = 5
+    NOT_HELD = 6
+    HELD = 7
+    TRACKED = 8
+    BAD_COUNT = 9
+    STEP_LIMIT = 10
+    LEAVES_RANGE = 11
+    TOO_MANY_CONTACTS = 12
+    CLOSED = 64
+    NO_SLOT = 66
+    NO_ROOM = 67
+
+
+class Outcome(enum.IntEnum):
+    """What opening, recording and replaying answer."""
+
+    DONE = 0
+    NO_LOG_ROOM = 3
+    TOO_LONG = 4
+    SCENE_NOT_TEXT = 6
+    SCENE_NOT_TOML = 7
+    SCENE_REFUSED = 8
+    LOG_REFUSED = 9
+    MISMATCH = 10
+    SOME_REFUSED = 11
+    OUT_OF_MEMORY = 12
+    IN_USE = 65
+    NO_SLOT = 66
+
+
+class Place(NamedTuple):
+    """A place or a vector, in units of 1/65,536 metre."""
+
+    x: int
+    y: int
+    z: int
+
+
+class Fault(NamedTuple):
+    """The first rule that a scene breaks, and where."""
+
+    position: int
+    rule: int
+    table: int
+    key: int
+
+
+class Left(NamedTuple):
+    """Where a step was refused."""
+
+    step: int
+    element: int
+    phase: int
+
+
+class Sums(NamedTuple):
+    """What two machines compare: equal worlds have equal sums."""
+
+    steps: int
+    live: int
+    contacts: int
+    at: Place
+    before: Place
+
+
+class Counts(NamedTuple):
+    """How many of everything there are."""
+
+    steps: int
+    particles: int
+    links: int
+    live: int
+    contacts: int
+    slots: int
+
+
+class Stop(NamedTuple):
+    """Where a replay stopped."""
+
+    offset: int
+    entry: int
+    field: int
+
+
+class Refused(Exception):
+    """A call on a cloth that answered something else than DONE; of a step, `left` says where."""
+
+    def __init__(self, answer: Answer, left: Left | None = None) -> None:
+        super().__init__(answer.name if left is None else f"{answer.name}, {left}")
+        self.answer = answer
+        self.left = left
+
+
+class Failed(Exception):
+    """A scene that wasn't opened, or a run that wasn't made; of a refused scene, `detail` is its fault, of a refused log its stop."""
+
+    def __init__(self, outcome: Outcome, detail: Fault | Stop | None = None) -> None:
+        super().__init__(outcome.name if detail is None else f"{outcome.name}, {detail}")
+        self.outcome = outcome
+        self.detail = detail
+
+
+# ---- the types and calls as C has them
+
+class _Cloth(ctypes.Structure):
+    _fields_ = [("at", ctypes.c_void_p), ("full", c_uint8)]
+
+
+class _Place(ctypes.Structure):
+    _fields_ = [("x", c_int64), ("y", c_int64), ("z", c_int64)]
+
+
+class _Fault(ctypes.Structure):
+    _fields_ = [("position", c_uint32), ("rule", c_uint8), ("table", c_uint8), ("key", c_uint8)]
+
+
+class _Left(ctypes.Structure):
+    _fields_ = [("step", c_uint64), ("element", c_uint32), ("phase", c_uint8)]
+
+
+class _Sums(ctypes.Structure):
+    _fields_ = [("steps", c_uint64), ("live", c_uint32), ("contacts", c_uint32), ("at", _Place), ("before", _Place)]
+
+
+class _Counts(ctypes.Structure):
+    _fields_ = [("steps", c_uint64)] + [(name, c_uint32) for name in Counts._fields[1:]]
+
+
+class _Stop(ctypes.Structure):
+    _fields_ = [("offset", c_uint64), ("entry", c_uint64), ("field", c_uint8)]
+
+
+_HANDLE, _COUNT = POINTER(_Cloth), POINTER(c_uint32)
+_LIST = [c_size_t, _COUNT]
+CALLS = {
+    "lak_open": [_HANDLE, c_char_p, c_size_t, c_uint32, POINTER(_Fault)],
+    "lak_close": [_HANDLE],
+    "lak_step": [_HANDLE, c_uint64, POINTER(_Left)],
+    "lak_pin": [_HANDLE, c_uint64],
+    "lak_unpin": [_HANDLE, c_uint64],
+    "lak_move": [_HANDLE, c_uint64, _Place],
+    "lak_cut": [_HANDLE, c_uint64],
+    "lak_gravity": [_HANDLE, _Place],
+    "lak_save": [_HANDLE, c_uint32],
+    "lak_restore": [_HANDLE, c_uint32],
+    "lak_counts": [_HANDLE, POINTER(_Counts)],
+    "lak_sums": [_HANDLE, POINTER(_Sums)],
+    "lak_places": [_HANDLE, POINTER(c_int64), *_LIST],
+    "lak_places_before": [_HANDLE, POINTER(c_int64), *_LIST],
+    "lak_live": [_HANDLE, POINTER(c_uint8), *_LIST],
+    "lak_gone_since": [_HANDLE, c_uint32, POINTER(c_uint32), *_LIST],
+    "lak_record": [c_char_p, c_size_t, c_char_p, c_size_t, POINTER(c_uint8), c_size_t, POINTER(c_size_t)],
+    "lak_replay": [c_char_p, c_size_t, POINTER(c_uint8), c_size_t, POINTER(c_size_t), POINTER(_Stop)],
+}
+
+
+def _tuple(kind: Any, it: ctypes.Structure) -> Any:
+    """Returns what a structure has as a named tuple of the same fields, places in it too."""
+    fields = (getattr(it, name) for name in kind._fields)
+    return kind(*(_tuple(Place, field) if isinstance(field, _Place) else field for field in fields))
+
+
+def _array(kind: Any, length: int, columns: int = 1) -> tuple[Any, Any]:
+    """Returns memory for a list, and a view of it with that many columns: an array of NumPy, or a memoryview."""
+    # (no call wants a null pointer, which an array of nothing would be)
+    memory = (kind * max(length * columns, 1))()
+    shape = [length, columns] if columns > 1 else [length]
+    if numpy is not None:
+        return memory, numpy.ctypeslib.as_array(memory)[: length * columns].reshape(shape)
+    form = {c_int64: "q", c_uint32: "I", c_uint8: "B"}[kind]
+    whole = memoryview(memory).cast("B")[: length * columns * ctypes.sizeof(kind)]
+    return memory, whole.cast(form, shape) if length else whole.cast(form)
+
+
+# ---- what it is used by
+
+class Cloth:
+    """A world and its slots, or nothing once it is closed: see Library.open."""
+
+    def __init__(self, calls: ctypes.CDLL) -> None:
+        self._calls = calls
+        self._handle = _Cloth()
+
+    def __enter__(self) -> Cloth:
+        return self
+
+    def __exit__(self, *_: object) -> None:
+        self.close()
+
+    def _call(self, name: str, *rest: Any) -> None:
+        answer = getattr(self._calls, name)(self._handle, *rest)
+        if answer != Answer.DONE:
+            raise Refused(Answer(answer))
+
+    def _list(self, name: str, kind: Any, length: int, columns: int = 1, *first: Any) -> Any:
+        """Reads a list with room for so many, and returns what there is of it."""
+        count = c_uint32()
+        memory, view = _array(kind, length, columns)
+        self._call(name, *first, memory, length, count)
+        return view[: count.value]
+
+    # ---- opening and closing
+
+    def close(self) -> None:
+        self._calls.lak_close(self._handle)
+
+    # ---- commands
+
+    def step(self, n: int = 1) -> None:
+        left = _Left()
+        answer = self._calls.lak_step(self._handle, n, left)
+        if answer != Answer.DONE:
+            raise Refused(Answer(answer), _tuple(Left, left))
+
+    def pin(self, particle: int) -> None:
+        self._call("lak_pin", particle)
+
+    def unpin(self, particle: int) -> None:
+        self._call("lak_unpin", particle)
+
+    def move(self, particle: int, to: tuple[int, int, int]) -> None:
+        self._call("lak_move", particle, _Place(*to))
+
+    def cut(self, link: int) -> None:
+        self._call("lak_cut", link)
+
+    def gravity(self, gravity: tuple[int, int, int]) -> None:
+        self._call("lak_gravity", _Place(*gravity))
+
+    # ---- slots
+
+    def save(self, slot: int) -> None:
+        self._call("lak_save", slot)
+
+    def restore(self, slot: int) -> None:
+        self._call("lak_restore", slot)
+
+    # ---- reading
+
+    def counts(self) -> Counts:
+        counts = _Counts()
+        self._call("lak_counts", counts)
+        return _tuple(Counts, counts)
+
+    def sums(self) -> Sums:
+        sums = _Sums()
+        self._call("lak_sums", sums)
+        return _tuple(Sums, sums)
+
+    def places(self) -> Any:
+        """The places of all particles: a row of three 64-bit numbers for each."""
+        return self._list("lak_places", c_int64, self.counts().particles, 3)
+
+    def places_before(self) -> Any:
+        """Their places one step before, in the same form."""
+        return self._list("lak_places_before", c_int64, self.counts().particles, 3)
+
+    def live(self) -> Any:
+        """A 1 for each live link and a 0 for each other."""
+        return self._list("lak_live", c_uint8, self.counts().links)
+
+    def gone_since(self, slot: int) -> Any:
+        """The numbers of the links that went since a slot was saved."""
+        return self._list("lak_gone_since", c_uint32, self.counts().links, 1, slot)
+
+
+class Library:
+    """The C library as a shared one."""
+
+    def __init__(self, path: str) -> None:
+        self._calls = ctypes.CDLL(path)
+        for name, types in CALLS.items():
+            call = getattr(self._calls, name)
+            call.argtypes = types
+            call.restype = None if name == "lak_close" else c_int32
+
+    def open(self, toml: bytes, slots: int = 0) -> Cloth:
+        """Opens the scene of a TOML text, with so many slots, or raises Failed."""
+        cloth, fault = Cloth(self._calls), _Fault()
+        outcome = Outcome(self._calls.lak_open(cloth._handle, toml, len(toml), slots, fault))
+        if outcome != Outcome.DONE:
+            raise Failed(outcome, _tuple(Fault, fault) if outcome == Outcome.SCENE_REFUSED else None)
+        return cloth
+
+    def record(self, scene: bytes, script: bytes) -> bytes:
+        """Runs a script on a scene, and returns the log of the session, or raises Failed."""
+        # (a log has 29 bytes beside its scene and its entries, and an entry at most 98)
+        room = 29 + len(scene) + 98 * (script.count(b"\n") + 1)
+        log, written = (c_uint8 * room)(), c_size_t()
+        outcome = Outcome(self._calls.lak_record(scene, len(scene), script, len(script), log, room, written))
+        if outcome not in (Outcome.DONE, Outcome.SOME_REFUSED):
+            raise Failed(outcome)
+        return bytes(log)[: written.value]
+
+    def replay(self, log: bytes, room: int = 1 << 24) -> tuple[bytes, Stop | None]:
+        """Replays a log, and returns the text and where an entry differs, if one does, or raises Failed."""
+        text, written, stop = (c_uint8 * max(room, 1))(), c_size_t(), _Stop()
+        outcome = Outcome(self._calls.lak_replay(log, len(log), text, room, written, stop))
+        if outcome not in (Outcome.DONE, Outcome.SOME_REFUSED, Outcome.MISMATCH):
+            raise Failed(outcome, _tuple(Stop, stop) if outcome == Outcome.LOG_REFUSED else None)
+        return ctypes.string_at(text, written.value), _tuple(Stop, stop) if outcome == Outcome.MISMATCH else None

@@ -1,0 +1,101 @@
+// The library lakmozet.wasm as a small class: one instance, one world. See include/lakmozet.h for what each call promises.
+const PLACES = 24, SUMS = 64;
+
+export const DONE = 0;
+
+export class World {
+    // Each world has an instance, and so a memory, of its own.
+    static async open(module, toml, slots) {
+        const { exports } = await WebAssembly.instantiate(module, {});
+        return new World(exports, toml, slots);
+    }
+
+    constructor(lak, toml, slots) {
+        this.lak = lak;
+        const text = new TextEncoder().encode(toml);
+        this.handle = this.take(16);            // a handle is all zeros at first, and lak_take gives zeros
+        this.left = this.take(24);
+        this.place = this.take(PLACES);
+        this.sumsAt = this.take(SUMS);
+        this.countsAt = this.take(32);
+        this.count = this.take(8);
+        const scene = this.take(text.length), fault = this.take(8);
+        new Uint8Array(lak.memory.buffer, scene, text.length).set(text);
+        const status = lak.lak_open(this.handle, scene, text.length, slots, fault);
+        if (status !== DONE) throw new Error(`lak_open answers ${status}`);
+        lak.lak_give(scene, text.length);
+        lak.lak_give(fault, 8);
+        lak.lak_counts(this.handle, this.countsAt);
+        const counts = new DataView(lak.memory.buffer, this.countsAt, 32);
+        this.particles = counts.getUint32(8, true);
+        this.links = counts.getUint32(12, true);
+        this.placesAt = this.take(PLACES * this.particles);
+        this.liveAt = this.take(this.links);
+        // No call on an open handle takes memory, so the memory can't grow from here on and its views stay good.
+        const memory = lak.memory.buffer;
+        this.toWrite = new BigInt64Array(memory, this.place, 3);
+        this.low = new Int32Array(memory, this.placesAt, this.particles * 6);
+        this.liveBytes = new Uint8Array(memory, this.liveAt, this.links);
+        this.sumBytes = new Uint8Array(memory, this.sumsAt, SUMS);
+    }
+
+    take(size) { return this.lak.lak_take(size) >>> 0; }
+
+    step(n) { return this.lak.lak_step(this.handle, BigInt(n), this.left); }
+    pin(i) { return this.lak.lak_pin(this.handle, BigInt(i)); }
+    unpin(i) { return this.lak.lak_unpin(this.handle, BigInt(i)); }
+    cut(l) { return this.lak.lak_cut(this.handle, BigInt(l)); }
+    // A struct that is passed by value goes by its address.
+    move(i, x, y, z) {
+        this.vector(x, y, z);
+        return this.lak.lak_move(this.handle, BigInt(i), this.place);
+    }
+    gravity(x, y, z) {
+        this.vector(x, y, z);
+        return this.lak.lak_gravity(this.handle, this.place);
+    }
+    vector(x, y, z) {
+        this.toWrite[0] = BigInt(x);
+        this.toWrite[1] = BigInt(y);
+        this.toWrite[2] = BigInt(z);
+    }
+
+    save(slot) { return this.lak.lak_save(this.handle, slot); }
+    restore(slot) { return this.lak.lak_restore(this.handle, slot); }
+
+    // The places as 32-bit words: x of particle i is word 6i, y 6i + 2, z 6i + 4. They are within 2^29, so the low words tell all.
+    places() {
+        this.lak.lak_places(this.handle, this.placesAt, this.particles, this.count);
+        return this.low;
+    }
+    live() {
+        this.lak.lak_live(this.handle, this.liveAt, this.links, this.count);
+        return this.liveBytes;
+    }
+    // The 64 bytes that two machines compare, as a copy.
+    sums() {
+        this.lak.lak_sums(this.handle, this.sumsAt);
+        return this.sumBytes.slice();
+    }
+    close() { this.lak.lak_close(this.handle); }
+}
+
+export const equal = (a, b) => {
+    for (let i = 0; i < SUMS; i++) if (a[i] !== b[i]) return false;
+    return true;
+};
+
+// The sums as words: steps, live links, contacts, three sums of places, three of places before.
+export function spell(sums) {
+    const view = new DataView(sums.buffer, sums.byteOffset, SUMS);
+    const words = [view.getBigUint64(0, true), view.getUint32(8, true), view.getUint32(12, true)];
+    for (let at = 16; at < SUMS; at += 8) words.push(view.getBigInt64(at, true));
+    return words.join(" ");
+}
+
+// Eight digits of the sums, to look at.
+export function short(sums) {
+    let h = 0x811c9dc5;
+    for (const byte of sums) h = Math.imul(h ^ byte, 0x01000193) >>> 0;
+    return h.toString(16).padStart(8, "0");
+}

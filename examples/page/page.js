@@ -1,0 +1,163 @@
+// The page: two sides and the network between them, frame by frame, and what is around them.
+import { $, fail, game, told } from "./game.js";
+import { Network } from "./network.js";
+import { SCENE, STEPS, packSession, unpackSession } from "./scene.js";
+import { Side } from "./side.js";
+import { drawWire, traffic } from "./wire.js";
+
+let sides = [], restarting = false;
+const units = { delay: " ms", jitter: " ms", loss: " %" };
+for (const name of Object.keys(units)) {
+    const slider = $(name);
+    if (game.query.has(name)) slider.value = game.query.get(name);
+    const tell = () => {
+        game.network[name] = Number(slider.value);
+        $(`${name}-out`).textContent = (name === "jitter" ? "± " : "") + slider.value + units[name];
+    };
+    slider.addEventListener("input", tell);
+    tell();
+}
+
+// ---- an input in one world alone
+
+let broke = null;
+$("alone").addEventListener("click", () => {
+    if (broke) return;
+    broke = { at: game.clock };
+    sides[1].lonely = true;
+    told("Playing it in world 2 alone …");
+});
+function watch() {
+    if (!broke || broke.done) return;
+    const turn = sides[1].state.alone?.turn, found = sides.map(s => s.state.desync).filter(Boolean);
+    if (turn === undefined || !found.length) return;
+    broke.done = true;
+    const first = found.reduce((a, b) => a.now <= b.now ? a : b);
+    const late = Math.round(first.now - broke.at);
+    const what = `The input was in turn ${turn}; the sums of turn ${first.turn} differ, known ${late} ms later.`;
+    told(`Seen. ${what} Start over to mend it.`, true);
+}
+
+// ---- a link that has the session's inputs in it
+
+const through = (bytes, stream) => new Response(new Blob([bytes]).stream().pipeThrough(stream)).arrayBuffer();
+
+async function link() {
+    const { session } = await sides[0].ask({ what: "session" });
+    const bytes = new Uint8Array(await through(packSession(session), new CompressionStream("deflate-raw")));
+    const text = btoa(Array.from(bytes, byte => String.fromCharCode(byte)).join(""));
+    return `${location.origin}${location.pathname}#${text.replaceAll("+", "-").replaceAll("/", "_").replaceAll("=", "")}`;
+}
+window.link = link;
+
+// The session that the address has, or nothing; an address that can't be read is an error.
+async function given() {
+    if (location.hash.length < 2) return null;
+    const text = atob(location.hash.slice(1).replaceAll("-", "+").replaceAll("_", "/"));
+    const bytes = await through(Uint8Array.from(text, sign => sign.charCodeAt(0)), new DecompressionStream("deflate-raw"));
+    return unpackSession(new Uint8Array(bytes));
+}
+
+$("share").addEventListener("click", async () => {
+    const address = await link();
+    history.replaceState(null, "", address);
+    await navigator.clipboard?.writeText(address).catch(() => {});
+    told("The address has all inputs that both know, and was copied. Whoever opens it sees the frame they come to.");
+});
+
+// ---- running
+
+function drawAll(now) {
+    for (const side of sides) {
+        side.view.resize();
+        side.draw();
+        side.keyboard();
+    }
+    drawWire(now);
+    traffic(now);
+}
+
+let before = null;
+function live(real) {
+    requestAnimationFrame(live);
+    if (restarting) return;
+    const passed = before === null || game.paused ? 0 : Math.min(50, real - before);
+    before = real;
+    // Where a machine can't keep up, or the page was hidden, the clock of the game goes slower.
+    const tick = Math.max(...sides.map(s => s.state.tick)), stuck = game.ahead - tick > 10;
+    if (!stuck) {
+        game.clock += passed;
+        game.ahead += passed * 0.06;
+    }
+    for (const side of sides) {
+        if (side.asked) continue;
+        const waits = side.state.waits;
+        side.lead();
+        side.frame(game.clock, Math.floor(game.ahead)).then(it => {
+            it.waiting = it.waits > waits;
+            side.take(it);
+            watch();
+        });
+    }
+    drawAll(game.clock);
+}
+
+async function automaticRun() {
+    const start = performance.now(), fast = game.query.has("fast"), { turns, limit } = game;
+    for (let frame = 0; ; frame++) {
+        game.clock = frame * 1000 / 60;
+        const answers = await Promise.all(sides.map(side => side.frame(game.clock, frame + 1)));
+        sides.forEach((side, id) => side.take(answers[id]));
+        if (!fast || frame % 20 === 0) drawAll(game.clock);
+        if (!fast) await new Promise(requestAnimationFrame);
+        if (answers.every(it => it.tick === limit && it.sure === turns && it.last?.turn === turns - 1)) break;
+        if (frame > limit * 20) return fail("the run doesn't end");
+    }
+    const ends = await Promise.all(sides.map(side => side.ask({ what: "finish", turns })));
+    const same = ends[0].sums === ends[1].sums && ends[0].script === ends[1].script && ends[0].after.join() === ends[1].after.join();
+    const result = {
+        equal: same, sums: ends.map(it => it.sums), after: ends[0].after, script: ends[0].script, scene: SCENE,
+        again: sides.map(s => s.state.again), waits: sides.map(s => s.state.waits), refused: sides.map(s => s.state.refused),
+        compared: sides.map(s => s.state.last?.turn), desync: sides.map(s => s.state.desync),
+        sent: game.network.sent, lost: game.network.lost, bytes: game.network.bytes,
+        turnMs: sides.map(s => s.state.totalBusy / s.state.totalPlayed), seconds: (performance.now() - start) / 1000,
+    };
+    $("result").textContent = JSON.stringify(result);
+    document.title = `done ${same ? "equal" : "differ"} | ${ends[0].sums} | ${ends[1].sums}`;
+    const end = same ? `${turns} turns, and both worlds are equal.` : "the worlds differ.";
+    told(`The automatic run is over: ${end}`, !same);
+}
+
+async function begin(session = null) {
+    const { delay, jitter, loss } = game.network;
+    game.network = Object.assign(new Network(game.seed ?? 1), { delay, jitter, loss });
+    game.ahead = session ? session[0].length * STEPS : 0;
+    game.clock = game.ahead / 0.06;
+    game.paused = session !== null;
+    broke = null;
+    told("Moves a corner by 0.015 mm, in world 2 only. Your eyes won’t see it. The sums will.");
+    await Promise.all(sides.map(side => side.open(session)));
+}
+
+$("again").addEventListener("click", async () => {
+    if (restarting || game.seed !== null) return;
+    restarting = true;
+    history.replaceState(null, "", location.pathname + location.search);
+    await begin();
+    restarting = false;
+});
+
+try {
+    const module = await WebAssembly.compileStreaming(fetch("lakmozet.wasm"));
+    const both = [new Side(0, module), new Side(1, module)], session = await given().catch(() => undefined);
+    sides = both;
+    await begin(session ?? null);
+    if (session === undefined) told("The address can’t be read, so this is a new session.", true);
+    window.sides = sides;
+    if (game.seed !== null) {
+        $("alone").disabled = $("share").disabled = true;
+        await automaticRun();
+    } else requestAnimationFrame(live);
+} catch (error) {
+    fail(String(error.stack ?? error));
+}

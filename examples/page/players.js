@@ -1,0 +1,185 @@
+// Lock step with rollback, for one player: no drawing and no page here, so it runs under node too.
+import { World, equal } from "./lakmozet.js";
+import { SCENE, SLOTS, STEPS, MOST, MOST_TURNS, PIN, UNPIN, MOVE, CUT, TURN, pack, unpack } from "./scene.js";
+
+const NOTHING = [];
+
+export class Player {
+    static async open(id, module) { return new Player(id, await World.open(module, SCENE, SLOTS)); }
+
+    constructor(id, world, clock = () => performance.now()) {
+        Object.assign(this, { id, world, clock });
+        this.out = [];              // packets to send
+        this.told = 0;              // when the last one was made
+        this.inputs = [[], []];     // by player, then by turn
+        this.alone = [];            // by turn: what is played here and told to nobody
+        this.known = 0;             // turns of the other that are known without a gap
+        this.theyKnow = 0;          // my turns that the other has
+        this.tick = 0;              // steps played
+        this.after = [];            // sums after each turn, as they are played now
+        this.theirs = [];           // sums that the other is sure of
+        this.compared = 0;          // turns whose sums were compared
+        this.desync = null;
+        this.again = 0;
+        this.lastAgain = 0;
+        this.waits = 0;
+        this.refused = 0;
+        this.busy = 0;
+        this.played = 0;
+        this.cuts = [];
+        this.next = [];
+        this.leads = [null, null];
+        this.free = [];
+        this.tilt = [0, 0];  // to show: what each leads, which corners are free
+    }
+
+    get turn() { return Math.floor(this.tick / STEPS); }
+    // Turns that can't change any more: both inputs are known, and they are played with them.
+    get sure() { return Math.min(this.known, this.turn); }
+
+    // The turns that both are sure of, as a link carries them.
+    get session() {
+        return this.inputs.map(list => Array.from({ length: this.sure }, (_, turn) => list[turn] ?? NOTHING));
+    }
+
+    // Plays the turns of a session that was, and goes on from there.
+    follow(session) {
+        const turns = session[0].length;
+        this.inputs = session.map(list => [...list]);
+        for (; this.tick < turns * STEPS; this.tick++) {
+            if (this.tick % STEPS === 0) session.forEach((list, id) => this.note(id, list[this.turn]));
+            this.playStep(this.turn, this.tick % STEPS);
+        }
+        this.known = this.theyKnow = this.compared = turns;
+    }
+
+    // Says what this player does, at this step of the turn.
+    want(kind, n, x = 0, y = 0, z = 0) {
+        const step = (this.tick + STEPS - 1) % STEPS;   // a turn begins with what came right after the last one was sealed
+        if (kind === CUT) {
+            if (!this.cuts.includes(n)) this.cuts.push(n);
+            return;
+        }
+        if (kind === MOVE) this.next = this.next.filter(it => !(it[0] === step && it[1] === MOVE && it[2] === n));
+        if (kind === TURN) this.next = this.next.filter(it => it[1] !== TURN);
+        if (this.next.length < MOST - 1) this.next.push([step, kind, n, x, y, z]);
+    }
+
+    seal(turn) {
+        const input = this.next;
+        while (this.cuts.length && input.length < MOST) input.push([0, CUT, this.cuts.shift(), 0, 0, 0]);
+        this.next = [];
+        this.note(this.id, input);
+        return input;
+    }
+
+    // What of an input is worth showing.
+    note(id, input) {
+        for (const [, kind, n, x, y] of input) {
+            if (kind === MOVE) {
+                this.leads[id] = { n, turn: this.turn };
+                this.free = this.free.filter(i => i !== n);
+            }
+            if (kind === UNPIN) {
+                this.free.push(n);
+                if (this.leads[id]?.n === n) this.leads[id] = null;
+            }
+            if (kind === TURN) this.tilt = [x, y];
+        }
+    }
+
+    // One step on, or none while the other is too far behind to go back to.
+    forward(now) {
+        const turn = this.turn;
+        if (this.tick % STEPS === 0) {
+            if (turn - this.known >= SLOTS - 1 || turn - this.theyKnow >= MOST_TURNS - 1) {
+                this.waits++;
+                return false;
+            }
+            this.inputs[this.id][turn] = this.seal(turn);
+            this.alone[turn] = this.secret?.(turn) ?? NOTHING;
+            this.tell(now);
+        }
+        const start = this.clock();
+        this.playStep(turn, this.tick % STEPS);
+        this.tick++;
+        this.busy += this.clock() - start;
+        this.played += 1 / STEPS;
+        return true;
+    }
+
+    playStep(turn, step) {
+        if (step === 0) this.world.save(turn % SLOTS);
+        for (const list of [this.inputs[0][turn] ?? NOTHING, this.inputs[1][turn] ?? NOTHING, this.alone[turn] ?? NOTHING]) {
+            for (const it of list) if (it[0] === step) this.play(it);
+        }
+        this.world.step(1);
+        if (step === STEPS - 1) this.after[turn] = this.world.sums();
+    }
+
+    // A refusal is an answer like any other: the same in both worlds, and nothing is changed by it.
+    play([, kind, n, x, y, z]) {
+        const w = this.world;
+        if (kind === PIN) return w.pin(n);
+        if (kind === UNPIN) return w.unpin(n);
+        if (kind === MOVE) return w.move(n, x, y, z);
+        return kind === CUT ? w.cut(n) : w.gravity(x, y, z);
+    }
+
+    // Takes what has come; where a turn was played without an input that has come now, goes back to its slot and plays on.
+    receive(now, packets) {
+        let from = Infinity;
+        for (const bytes of packets) {
+            const it = unpack(bytes);
+            if (!it) {
+                this.refused++;
+                continue;
+            }
+            this.theyKnow = Math.max(this.theyKnow, Math.min(it.known, this.turn + 1));
+            if (it.turn >= 0 && it.turn < this.known + 64) this.theirs[it.turn] = it.sums;
+            for (let k = 0; k < it.inputs.length; k++) {
+                const turn = it.first + k;
+                if (turn !== this.known) continue;
+                this.inputs[1 - this.id][turn] = it.inputs[k];
+                this.known++;
+                this.note(1 - this.id, it.inputs[k]);
+                if (turn * STEPS < this.tick && it.inputs[k].length) from = Math.min(from, turn);
+            }
+        }
+        this.lastAgain = 0;
+        if (from < Infinity) {
+            const start = this.clock();
+            this.world.restore(from % SLOTS);
+            for (let tick = from * STEPS; tick < this.tick; tick++) this.playStep(Math.floor(tick / STEPS), tick % STEPS);
+            this.lastAgain = Math.ceil(this.tick / STEPS) - from;
+            this.again += this.lastAgain;
+            this.busy += this.clock() - start;
+            this.played += this.tick / STEPS - from;
+        }
+        while (this.compared < this.sure) {
+            // A packet tells the sums of one turn; what no packet told is skipped, since equal later sums say as much.
+            if (this.theirs[this.compared]) {
+                const same = equal(this.theirs[this.compared], this.after[this.compared]);
+                if (!same && !this.desync) this.desync = { turn: this.compared, seen: this.turn, now };
+                this.last = { turn: this.compared, same, sums: this.after[this.compared] };
+            } else if (this.theirs.length <= this.compared) break;
+            delete this.theirs[this.compared++];
+        }
+        if (this.keep !== true) this.forget();
+        return this.lastAgain;
+    }
+
+    // What is older than both can ask for again.
+    forget() {
+        const old = Math.min(this.known, this.theyKnow, this.compared) - 2 * SLOTS;
+        for (const list of [this.alone, this.after]) if (old >= 0) delete list[old];
+    }
+
+    // Sent once a turn: all that the other may not have, so that a lost packet is mended by the next.
+    tell(now) {
+        const first = this.theyKnow, inputs = [], sure = this.sure - 1;
+        for (let t = first; t < this.inputs[this.id].length; t++) inputs.push(this.inputs[this.id][t] ?? NOTHING);
+        this.out.push(pack({ first, inputs, known: this.known, turn: sure, sums: this.after[sure] }));
+        this.told = now;
+    }
+}
