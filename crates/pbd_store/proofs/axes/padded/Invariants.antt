@@ -1,5 +1,0 @@
-use Rattle.std.proofs.Common.{◌≡◌, ◌++◌, replicate}
-use Rattle.pbd_store.proofs.axes.padded.Given as goal
-
-abbrev pub invariant-loop : goal.invariant-loop
-invariant-loop g l = l.column.items ≡ l.fn.column.items ++ replicate l.counter l.zero
