@@ -11,6 +11,7 @@ use Rattle.pbd_world.specs.declared.parts.Particle.{Particle}
 use Rattle.pbd_world.specs.declared.bond.Bond.{Bond}
 use Rattle.pbd_world.specs.declared.bond.End.{End}
 use Rattle.pbd_world.specs.declared.bond.Shift.{Shift}
+use Rattle.pbd_world.specs.declared.bond.Correction.{Correction}
 use Rattle.pbd_world.specs.declared.bond.Correction.TheVariants.{Slack, Leaves, Moves}
 use Rattle.pbd_world.specs.declared.totals.Class.{Class}
 use Rattle.pbd_world.specs.declared.totals.Class.TheVariants as classes
@@ -66,27 +67,15 @@ leaves_case limit p q false m s hp hq e = by_test (is_within limit s.first && is
       by_test true = refl
       by_test false = refl
 
-first_case : (slack w : Bool) (m : Vec3 × Vec3) (s : Shift) (x : Particle) → s.first ≡ plus x.at m.0 → leaves_by (cond slack Slack (cond w
-    (Moves s) Leaves)) ≡ false → first_by (cond slack Slack (cond w (Moves s) Leaves)) x ≡ record x {
-      at = plus x.at (cond slack (
-        zero_vector,
-        zero_vector,
-      ) m).0;
-    }
-first_case true w m s x e h = ap (λ (v : Vec3). record x { at = v }) (sym (plus_nothing x.at))
-first_case false true m s x e h = ap (λ (v : Vec3). record x { at = v }) e
-first_case false false m s x e h = absurd (false≢true (sym h))
-
-second_case : (slack w : Bool) (m : Vec3 × Vec3) (s : Shift) (x : Particle) → s.second ≡ plus x.at m.1 → leaves_by (cond slack Slack (cond w
-    (Moves s) Leaves)) ≡ false → second_by (cond slack Slack (cond w (Moves s) Leaves)) x ≡ record x {
-      at = plus x.at (cond slack (
-        zero_vector,
-        zero_vector,
-      ) m).1;
-    }
-second_case true w m s x e h = ap (λ (v : Vec3). record x { at = v }) (sym (plus_nothing x.at))
-second_case false true m s x e h = ap (λ (v : Vec3). record x { at = v }) e
-second_case false false m s x e h = absurd (false≢true (sym h))
+-- `by` does to one end what a correction says, and `part` is that end's of two moves
+end_case : (by : Correction → Particle → Particle) (part : Vec3 × Vec3 → Vec3) (slack w : Bool) (m : Vec3 × Vec3) (s : Shift) (x : Particle)
+    → by Slack x ≡ x → part (zero_vector, zero_vector) ≡ zero_vector → by (Moves s) x ≡ record x { at = plus x.at (part m) }
+    → leaves_by (cond slack Slack (cond w (Moves s) Leaves)) ≡ false
+    → by (cond slack Slack (cond w (Moves s) Leaves)) x ≡ record x { at = plus x.at (part (cond slack (zero_vector, zero_vector) m)) }
+end_case by part true w m s x still none moves h =
+    still ∙ ap (λ (v : Vec3). record x { at = v }) (sym (ap (plus x.at) none ∙ plus_nothing x.at))
+end_case by part false true m s x still none moves h = moves
+end_case by part false false m s x still none moves h = absurd (false≢true (sym h))
 
 books_case : (slack w : Bool) (m : Vec3 × Vec3) (s t : Shift) (p q : Bool) (b : Bond) (u : Ledger) → s.first_move ≡ m.0 → s.second_move ≡ m.1
     → t.first_move ≡ (cond slack (zero_vector, zero_vector) m).0 → t.second_move ≡ (cond slack (zero_vector, zero_vector) m).1
@@ -114,18 +103,18 @@ pub first_moving : (limit : ℤ) (p q : End) (b : Bond) (x : Particle) → p.at 
 unfolding correction_of is_slack moves_by
 first_moving limit p q b x e h =
     let s = shift_of p q b in
-    first_case (is_slack p q b) (is_within limit s.first && is_within limit s.second)
-    (pair_moves (minus p.at q.at) zero_vector b.rest b.k p.weight q.weight) s x (ap (λ (t : Shift). t.first) (shift_moves p q b)
-    ∙ ap (λ (v : Vec3). plus v (pair_moves (minus p.at q.at) zero_vector b.rest b.k p.weight q.weight).0) e) h
+    let m = pair_moves (minus p.at q.at) zero_vector b.rest b.k p.weight q.weight in
+    end_case first_by (λ (m : Vec3 × Vec3). m.0) (is_slack p q b) (is_within limit s.first && is_within limit s.second) m s x refl refl
+    (ap (λ (v : Vec3). record x { at = v }) (ap (λ (t : Shift). t.first) (shift_moves p q b) ∙ ap (λ (v : Vec3). plus v m.0) e)) h
 
 pub second_moving : (limit : ℤ) (p q : End) (b : Bond) (x : Particle) → q.at ≡ x.at → leaves_by (correction_of limit p q b) ≡ false
     → second_by (correction_of limit p q b) x ≡ record x { at = plus x.at (moves_of p q b).1 }
 unfolding correction_of is_slack moves_by
 second_moving limit p q b x e h =
     let s = shift_of p q b in
-    second_case (is_slack p q b) (is_within limit s.first && is_within limit s.second)
-    (pair_moves (minus p.at q.at) zero_vector b.rest b.k p.weight q.weight) s x (ap (λ (t : Shift). t.second) (shift_moves p q b)
-    ∙ ap (λ (v : Vec3). plus v (pair_moves (minus p.at q.at) zero_vector b.rest b.k p.weight q.weight).1) e) h
+    let m = pair_moves (minus p.at q.at) zero_vector b.rest b.k p.weight q.weight in
+    end_case second_by (λ (m : Vec3 × Vec3). m.1) (is_slack p q b) (is_within limit s.first && is_within limit s.second) m s x refl refl
+    (ap (λ (v : Vec3). record x { at = v }) (ap (λ (t : Shift). t.second) (shift_moves p q b) ∙ ap (λ (v : Vec3). plus v m.1) e)) h
 
 pub books_moving : (limit : ℤ) (p q : End) (b : Bond) (f g : Bool) (t : Shift) (u : Ledger) → t.first_move ≡ (moves_of p q b).0
     → t.second_move ≡ (moves_of p q b).1 → leaves_by (correction_of limit p q b) ≡ false → booked u (entries_of f g (class_of b) t) ≡ booked_by f g b

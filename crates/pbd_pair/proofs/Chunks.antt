@@ -19,16 +19,23 @@ use Rattle.pbd_store.specs.declared.pairs.Pairs.{Pairs}
 use Rattle.pbd_store.specs.declared.pairs.Between.{Between}
 use Rattle.pbd_pair.specs.declared.bonds.Bonds.{Bonds}
 use Rattle.pbd_pair.specs.declared.chunk.Columns.{Columns}
+use Rattle.pbd_pair.specs.declared.chunk.Found.{Found}
 use Rattle.pbd_pair.specs.Bonds.{bond_of}
 use Rattle.pbd_pair.specs.Projecting.{CanProject}
 use Rattle.pbd_pair.specs.Moves.{moves_by, moves_at}
-use Rattle.pbd_pair.specs.Chunks.{number_in, AreKnown, AreLoaded, AreSized}
+use Rattle.pbd_pair.specs.Chunks.{number_in, AreKnown, AreLoaded, AreSized, IsFound}
 use Rattle.pbd_pair.proofs.Ranges.{rest_fits}
 use Rattle.pbd_pair.proofs.Reaching.{nth}
 
 -- numbers that fit 32 bits
 pub short_fits : (z : ℤ) → pos 0 ≤ℤ z → z ≤ℤ pos 65535 → FitsSigned w32 z
 short_fits z low high = fits_signed_from_abs w32 z (omega (arith, size_at_most z 65535 low high))
+
+pub first_fits : {n : ℕ} {between : Between} → AreSized n between → (j : ℕ) → j < n → FitsSigned w32 (number_in between.first_weight j)
+first_fits {n} {between} h j p = short_fits (number_in between.first_weight j) (h.first_low j p) (h.first_high j p)
+
+pub second_fits : {n : ℕ} {between : Between} → AreSized n between → (j : ℕ) → j < n → FitsSigned w32 (number_in between.second_weight j)
+second_fits {n} {between} h j p = short_fits (number_in between.second_weight j) (h.second_low j p) (h.second_high j p)
 
 pub stiff_fits : (z : ℤ) → neg_ℤ (pos 1) ≤ℤ z → z ≤ℤ pos 256 → FitsSigned w32 z
 stiff_fits z low high = fits_signed_from_abs w32 z (omega (arith, size_le z 256 high (omega (arith, ints))))
@@ -126,3 +133,17 @@ module _ {bonds : Bonds} {numbers : List ℕ} {s : Stored} {t : Totals} (can : C
       | inl s ↦ (can.batch.bond k q).different (ap (λ m. (B m).a) (sym s) ∙ e)
       | inr d ↦ elim (cases_lt j k) [ inl l ↦ (can.batch.apart.each j k l q).ab e | inr l ↦ (can.batch.apart.each k j (omega (arith, d)) p).ba (sym e) ]
     ]
+
+-- the ends by the columns of a chunk, and what the store tells of them
+pub found_by : {s : Stored} {t : Totals} {c : Columns} (found : Found) (can : CanProject 128 found.chunk.bonds found.chunk.numbers.now s t)
+    → AreLoaded (bond_of found.chunk.bonds) found.chunk.numbers.now c → found.pairs.first.now ≡ take (length found.chunk.numbers.now) c.first
+    → found.pairs.second.now ≡ take (length found.chunk.numbers.now) c.second
+    → AreBetween (length found.pairs.first.now) s.particles found.pairs.first.now found.pairs.second.now found.between.now → IsFound s.particles found
+found_by {s} {t} {c} found can loaded firsts seconds told =
+    let pairs = are_pairs can c found.pairs loaded firsts seconds in
+    record {
+      first = taken_first can c found.pairs loaded firsts seconds;
+      second = taken_second can c found.pairs loaded firsts seconds;
+      pairs = pairs;
+      between = subst (λ (n : ℕ). AreBetween n s.particles found.pairs.first.now found.pairs.second.now found.between.now) pairs.first_long told;
+    }

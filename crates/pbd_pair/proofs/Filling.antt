@@ -20,3 +20,7 @@ filled_more {A} {d} {P} {j} {xs} v room is h = record {
     | inr e ↦ subst (λ (n : ℕ). P n (get_or (slice_set xs j v) n d)) (sym e) (subst (P j) (sym (get_or-set_same xs j v d (omega (arith, h.whole)))) is)
   ];
 }
+
+-- the same by what follows of each
+pub filled_as : {A : Type 0} {d : A} {P Q : ℕ → A → Type 0} {j : ℕ} {xs : List A} → Filled d P j xs → ((k : ℕ) (x : A) → P k x → Q k x) → Filled d Q j xs
+filled_as {A} {d} {P} {Q} {j} {xs} h then = record { whole = h.whole; below = λ k p. then k (get_or xs k d) (h.below k p) }

@@ -15,3 +15,4 @@ pub mod Exact
 pub mod NearBonds
 pub mod Settled
 pub mod Examples
+pub mod WideRows

@@ -44,7 +44,7 @@ none_moved way factor rest e =
     let s = corrections way rest in
     same_axes _ _ (part_of_none s.x factor _ e refl) (part_of_none s.y factor _ e refl) (part_of_none s.z factor _ e refl)
 
-weightless : (w : ℤ) → pos 0 ≤ℤ w → (w ≡ pos 0) ⊎ (pos 0 <ℤ w)
+pub weightless : (w : ℤ) → pos 0 ≤ℤ w → (w ≡ pos 0) ⊎ (pos 0 <ℤ w)
 weightless (pos zero) h = inl refl
 weightless (pos (suc n)) h = inr (omega (arith, ints))
 weightless (negsuc n) h = absurd (omega (arith, ints))

@@ -1,8 +1,10 @@
 -- What bonds add to the ledger whose free ends move oppositely: the moves beside held ends alone.
-use Rattle.std.proofs.Common.{◌≡◌, ℕ, zero, suc, ◌<◌, ℤ, pos, neg_ℤ, ◌+ℤ◌, ◌-ℤ◌, List, Bool, true, false, refl, ap, sym, ◌∙◌, arith}
+use Rattle.std.proofs.Common.{◌≡◌, ℕ, zero, suc, ◌+◌, ◌<◌, ◌^◌, ℤ, pos, neg_ℤ, ◌+ℤ◌, ◌-ℤ◌, List, Bool, true, false, refl, ap, sym, ◌∙◌, arith}
 use Rattle.std.proofs.lemmas.Int.{ints}
 use Rattle.pbd_num.specs.declared.Vec3.{Vec3}
-use Rattle.pbd_num.specs.Vectors.{plus, minus, opposite, zero_vector}
+use Rattle.pbd_num.specs.Vectors.{Within, plus, minus, opposite, zero_vector}
+use Rattle.pbd_num.proofs.Ranges.{wider}
+use Rattle.pbd_num.proofs.VectorSizes.{plus_within, minus_within}
 use Rattle.pbd_world.specs.declared.bond.Shift.{Shift}
 use Rattle.pbd_world.specs.declared.totals.Class.{Class}
 use Rattle.pbd_world.specs.declared.totals.Class.TheVariants as classes
@@ -56,6 +58,12 @@ pub minus_turned : (v w : Vec3) → minus v w ≡ plus (opposite w) v
 minus_turned v w = λ i. record { x = turn v.x w.x i; y = turn v.y w.y i; z = turn v.z w.z i } where
   turn : (a b : ℤ) → a -ℤ b ≡ neg_ℤ b +ℤ a
   turn a b = omega (arith, ints)
+
+-- what two ends move more is at most 2^17 an axis where each of them moves by at most 2^16
+pub both_within : {back forth : Vec3} (sum : Vec3) (n : ℕ) → Within n sum → Within (2 ^ 16) back → Within (2 ^ 16) forth
+    → Within (n + 2 ^ 17) (plus sum (minus forth back))
+both_within {back} {forth} sum n h b f = wider _ (n + (2 ^ 16 + 2 ^ 16)) (n + 2 ^ 17) (omega arith) (plus_within sum (minus forth back) n
+    (2 ^ 16 + 2 ^ 16) h (minus_within forth back (2 ^ 16) (2 ^ 16) f b))
 
 -- two free ends move oppositely, and a held one stays
 pub record Opposed (first_held second_held : Bool) (t : Shift) : Type 0 where

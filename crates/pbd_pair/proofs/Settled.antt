@@ -1,5 +1,5 @@
 -- A chunk whose ends have moved, as its bonds one by one.
-use Rattle.std.proofs.Common.{◌≡◌, ℕ, ◌<◌, ◌≤◌, ◌^◌, ℤ, pos, ◌≤ℤ◌, ◌<ℤ◌, List, length, get_or, Bool, true, false, IsTrue, ◌&&◌, int_le, int_lt, cond, refl, ap, sym, ◌∙◌, arith, subst, Err}
+use Rattle.std.proofs.Common.{◌≡◌, ℕ, ◌<◌, ◌^◌, ℤ, pos, ◌≤ℤ◌, ◌<ℤ◌, List, length, get_or, Bool, true, false, IsTrue, ◌&&◌, int_le, int_lt, cond, refl, ap, sym, ◌∙◌, arith, subst, Err}
 use Rattle.std.proofs.lemmas.Int.{ints}
 use Rattle.pbd_num.specs.declared.Vec3.{Vec3}
 use Rattle.pbd_num.specs.declared.row.Row.{Row}
@@ -14,10 +14,11 @@ use Rattle.pbd_world.specs.Particles.{particle_at}
 use Rattle.pbd_world.specs.Bonds.{end_of, class_of, entries_of}
 use Rattle.pbd_store.specs.Stored.{Stored}
 use Rattle.pbd_store.specs.Moving.{motion_of}
+use Rattle.pbd_store.specs.declared.pairs.Between.{Between}
 use Rattle.pbd_store.specs.declared.pairs.EndMoves.{EndMoves}
 use Rattle.pbd_pair.specs.declared.chunk.Found.{Found}
 use Rattle.pbd_pair.specs.declared.near.NearMoves.{NearMoves}
-use Rattle.pbd_store.specs.Pairs.{row_in, moves_in, stays, ArePairs, PairsApart, AreMoves, AreShort, EachMoved, LeavesAt}
+use Rattle.pbd_store.specs.Pairs.{row_in, moves_in, ways_in, opposites_in, first_moves, second_moves, stays, ArePairs, PairsApart, AreMoves, AreShort, EachMoved, LeavesAt}
 use Rattle.pbd_pair.specs.Bonds.{bond_of, shift_by}
 use Rattle.pbd_pair.specs.Projecting.{CanProject, ShareNone, projected_block}
 use Rattle.pbd_pair.specs.Moves.{moves_at, stay_at, entries_at, settled, moved_below}
@@ -50,6 +51,12 @@ kept_moves firsts seconds moves k = plus (opposite (vector_of (kept_by (number_i
 
 pub kept_size_by : (w : ℤ) (row : Row) → Within (2 ^ 16) (vector_of row) → Within (2 ^ 16) (vector_of (kept_by w row))
 kept_size_by w row h = kept_size (int_lt (pos 0) w) row h
+
+pub kept_short : (w : ℤ) (row : Row) {kept : Row} → kept ≡ kept_by w row → Within (2 ^ 16) (vector_of row) → Within (2 ^ 16) (vector_of kept)
+kept_short w row is h = subst (λ (r : Row). Within (2 ^ 16) (vector_of r)) (sym is) (kept_size_by w row h)
+
+kept_unflagged : (w : ℤ) (row : Row) {kept : Row} → kept ≡ kept_by w row → row.flag ≡ pos 0 → kept.flag ≡ pos 0
+kept_unflagged w row is h = ap (λ (r : Row). r.flag) is ∙ kept_flag (int_lt (pos 0) w) row h
 
 module _ {found : Found} {s : Stored} {t : Totals} (can : CanProject 128 found.chunk.bonds found.chunk.numbers.now s t) (is : IsFound s.particles found) where
   abbrev numbers : List ℕ
@@ -120,6 +127,16 @@ module _ {found : Found} {s : Stored} {t : Totals} (can : CanProject 128 found.c
         ∙ same_entries (particle_at s.particles (B k).a).held (particle_at s.particles (B k).b).held (class_of (B k)) _ _ v (first_exact k p)
         (second_exact k p))
 
+    -- once the ends have moved by the moves
+    pub exact_done : {new : List Particle} {u : Ledger}
+        → EachMoved asked s.limit found.pairs.first.now found.pairs.second.now (first_moves moves) (second_moves moves) s.particles new
+        → u ≡ settled (entries_in found moves) (length numbers) (ledger_of t) → AreDone s.limit (bond_of found.chunk.bonds) numbers (motion_of s t) new u
+    exact_done told books = side_done first_exact second_exact told (books ∙ entries_exact (ledger_of t))
+
+    pub exact_leaves : {k : ℕ} → LeavesAt k asked s.limit found.pairs.first.now found.pairs.second.now (first_moves moves) (second_moves moves) s.particles
+        → projected_block found.chunk.bonds numbers s t ≡ Err (get_or numbers k 0)
+    exact_leaves told = side_leaves first_exact second_exact told
+
   -- ---- in 32-bit numbers
 
   module _ {near : NearMoves} {back forth : List Row} (short : AreNear (bond_of found.chunk.bonds) numbers found.between.now near)
@@ -138,19 +155,15 @@ module _ {found : Found} {s : Stored} {t : Totals} (can : CanProject 128 found.c
     pub back_short : AreShort asked back
     back_short = subst (λ (n : ℕ). AreShort n back) (sym is.pairs.first_long) (record {
       long = masked.back_long;
-      each = λ j p. subst (λ (r : Row). Within (2 ^ 16) (vector_of r)) (sym (masked.back j p)) (kept_size (int_lt (pos 0)
-          (number_in found.between.now.first_weight j)) (row_in near.moves j) (short.each j p).size);
-      flags = λ j p. ap (λ (r : Row). r.flag) (masked.back j p) ∙ kept_flag (int_lt (pos 0) (number_in found.between.now.first_weight j))
-          (row_in near.moves j) (short.each j p).flag;
+      each = λ j p. kept_short (number_in found.between.now.first_weight j) (row_in near.moves j) (masked.back j p) (short.each j p).size;
+      flags = λ j p. kept_unflagged (number_in found.between.now.first_weight j) (row_in near.moves j) (masked.back j p) (short.each j p).flag;
     })
 
     pub forth_short : AreShort asked forth
     forth_short = subst (λ (n : ℕ). AreShort n forth) (sym is.pairs.first_long) (record {
       long = masked.forth_long;
-      each = λ j p. subst (λ (r : Row). Within (2 ^ 16) (vector_of r)) (sym (masked.forth j p)) (kept_size (int_lt (pos 0)
-          (number_in found.between.now.second_weight j)) (row_in near.moves j) (short.each j p).size);
-      flags = λ j p. ap (λ (r : Row). r.flag) (masked.forth j p) ∙ kept_flag (int_lt (pos 0) (number_in found.between.now.second_weight j))
-          (row_in near.moves j) (short.each j p).flag;
+      each = λ j p. kept_short (number_in found.between.now.second_weight j) (row_in near.moves j) (masked.forth j p) (short.each j p).size;
+      flags = λ j p. kept_unflagged (number_in found.between.now.second_weight j) (row_in near.moves j) (masked.forth j p) (short.each j p).flag;
     })
 
     -- what is booked
@@ -177,15 +190,25 @@ module _ {found : Found} {s : Stored} {t : Totals} (can : CanProject 128 found.c
         (λ k. shift_by (end_of (particle_at s.particles (B k).a)) (end_of (particle_at s.particles (B k).b)) (moves_at s.particles (B k)).0
         (moves_at s.particles (B k)).1) (length numbers) opposed)
 
+    -- once the ends have moved by the rows
+    pub near_done : {new : List Particle} {u : Ledger}
+        → EachMoved asked s.limit found.pairs.first.now found.pairs.second.now (opposites_in back) (ways_in forth) s.particles new
+        → u ≡ added (ledger_of t) classes.Pin (moved_below (λ j. plus (opposite (vector_of (row_in back j))) (vector_of (row_in forth j))) (length numbers))
+        → AreDone s.limit (bond_of found.chunk.bonds) numbers (motion_of s t) new u
+    near_done told books = side_done first_near second_near told (books ∙ near_books (ledger_of t))
+
+    pub near_leaves : {k : ℕ} → LeavesAt k asked s.limit found.pairs.first.now found.pairs.second.now (opposites_in back) (ways_in forth) s.particles
+        → projected_block found.chunk.bonds numbers s t ≡ Err (get_or numbers k 0)
+    near_leaves told = side_leaves first_near second_near told
+
 -- where all ends are free, nothing is booked
-pub free_masked : {n : ℕ} (found : Found) (near : NearMoves) → n ≤ length near.moves → (IsTrue near.free → (j : ℕ) → j < n
-    → pos 0 <ℤ number_in found.between.now.first_weight j) → (IsTrue near.free → (j : ℕ) → j < n → pos 0 <ℤ number_in found.between.now.second_weight j)
-    → IsTrue near.free → IsMasked n found.between.now near.moves near.moves near.moves
-free_masked {n} found near long first second free = record {
-  back_long = long;
-  forth_long = long;
-  back = λ j p. sym (kept_some _ _ (first free j p));
-  forth = λ j p. sym (kept_some _ _ (second free j p));
+pub free_masked : {bond : ℕ → Bond} {numbers : List ℕ} {between : Between} {near : NearMoves} → AreNear bond numbers between near → IsTrue near.free
+    → IsMasked (length numbers) between near.moves near.moves near.moves
+free_masked short free = record {
+  back_long = short.long;
+  forth_long = short.long;
+  back = λ j p. sym (kept_some _ _ (short.first free j p));
+  forth = λ j p. sym (kept_some _ _ (short.second free j p));
 }
 
 pub nothing_booked : (u : Ledger) (rows : List Row) (n : ℕ) → u ≡ added u classes.Pin (moved_below (λ j. plus (opposite (vector_of (row_in rows j)))

@@ -2,6 +2,7 @@
 use Rattle.std.specs.Prelude.{◌≡◌, ℕ, ◌<◌, ◌≤◌, ◌^◌, ℤ, pos, neg_ℤ, ◌<ℤ◌, ◌≤ℤ◌, ◌*ℤ◌, int_lt, int_le, IsTrue, if◌then◌else◌, List, length, slice_index_or}
 use Rattle.pbd_num.specs.declared.Vec3.{Vec3}
 use Rattle.pbd_num.specs.declared.row.Row.{Row}
+use Rattle.pbd_num.specs.declared.tried.Draw.{Draw}
 use Rattle.pbd_num.specs.Rows.{vector_of, no_row}
 use Rattle.pbd_num.specs.Vectors.{Within, opposite, zero_vector}
 use Rattle.pbd_world.specs.declared.parts.Particle.{Particle}
@@ -95,6 +96,12 @@ pub record AreNear (bond : ℕ → Bond) (numbers : List ℕ) (between : Between
   pub first : IsTrue near.free → (j : ℕ) → j < length numbers → pos 0 <ℤ number_in between.first_weight j
   pub second : IsTrue near.free → (j : ℕ) → j < length numbers → pos 0 <ℤ number_in between.second_weight j
 
+-- a row of each bond of a chunk, which is its move where it has no flag
+pub record AreTried (bond : ℕ → Bond) (numbers : List ℕ) (between : Between) (rows : List Row) : Type 0 where
+  pub long : length numbers ≤ length rows
+  pub each : (j : ℕ) → j < length numbers → (row_in rows j).flag ≡ pos 0 → IsNear (vector_of (row_in between.ways j))
+      (number_in between.first_weight j) (number_in between.second_weight j) (bond (slice_index_or numbers j 0)) (row_in rows j)
+
 -- n rows as they are kept by both weights
 pub record IsMasked (n : ℕ) (between : Between) (moves firsts seconds : List Row) : Type 0 where
   pub back_long : n ≤ length firsts
@@ -114,6 +121,32 @@ pub record IsFound (ps : List Particle) (found : Found) : Type 0 where
 -- the length from which on a bond does nothing: no length is 2^31
 abbrev pub reach_of : Bond → ℤ
 reach_of b = if b.contact then b.rest else pos (2 ^ 31)
+
+-- what a bond draws its ends to
+abbrev pub draw_by : Bond → Draw
+draw_by b = record { rest = b.rest; k = b.k; reach = reach_of b }
+
+abbrev pub no_draw : Draw
+no_draw = record { rest = pos 0; k = pos 0; reach = pos 0 }
+
+abbrev pub draw_in : List Draw → ℕ → Draw
+draw_in draws j = slice_index_or draws j no_draw
+
+-- a length of at most 2^31, and a stiffness in 0..=256
+pub record IsMild (d : Draw) : Type 0 where
+  pub rest_low : pos 0 ≤ℤ d.rest
+  pub rest_high : d.rest ≤ℤ pos (2 ^ 31)
+  pub k_low : pos 0 ≤ℤ d.k
+  pub k_high : d.k ≤ℤ pos 256
+
+-- what a firm bond draws its ends to
+pub record IsDraw (b : Bond) (d : Draw) : Type 0 where
+  pub value : d ≡ draw_by b
+  pub mild : IsMild d
+
+-- the same of each bond of a chunk
+pub record AreDrawn (bond : ℕ → Bond) (numbers : List ℕ) (draws : List Draw) : Type 0 where
+  pub each : (j : ℕ) → j < length numbers → IsDraw (bond (slice_index_or numbers j 0)) (draw_in draws j)
 
 -- both moves of a bond, which are short
 pub record IsExact (way : Vec3) (weight other : ℤ) (b : Bond) (m : EndMoves) : Type 0 where

@@ -1,7 +1,8 @@
 -- Batches of bonds.
-use Rattle.std.specs.Prelude.{◌≡◌, ℕ, ◌+◌, ◌*◌, ◌^◌, ◌<◌, ◌≤◌, ℤ, List, length, slice_index_or, Result}
+use Rattle.std.specs.Prelude.{◌≡◌, ℕ, ◌+◌, ◌*◌, ◌^◌, ◌<◌, ◌≤◌, ℤ, List, length, slice_index_or, Result, Ok, Err, MatchResult}
 use Rattle.pbd_world.specs.declared.bond.Bond.{Bond}
 use Rattle.pbd_world.specs.declared.totals.Totals.{Totals}
+use Rattle.pbd_world.specs.declared.command.Left.{Left}
 use Rattle.pbd_world.specs.Ledger.{ledger_of, HaveRoom}
 use Rattle.pbd_world.specs.Particles.{Motion}
 use Rattle.pbd_world.specs.Bonds.{projected}
@@ -40,6 +41,12 @@ pub record CanProject (l : ℕ) (bonds : Bonds) (block : List ℕ) (s : Stored) 
 -- what the bonds of a block come to one by one
 abbrev pub projected_block : Bonds → List ℕ → Stored → Totals → Result Motion ℕ
 projected_block bonds block s t = projected s.limit (bond_of bonds) block (motion_of s t)
+
+-- the bonds of a block have moved and were booked as one by one, or the one that is named leaves the limit so
+abbrev pub ComesTo : {T : Type 0} → Bonds → List ℕ → Stored → Stored → Totals → Totals → Result T Left → Type 0
+ComesTo bonds block old new t u result = MatchResult result
+    (λ _. projected_block bonds block old t ≡ Ok (motion_of new u))
+    (λ left. projected_block bonds block old t ≡ Err left.element)
 
 -- n bonds leave the places within the limit, and add little to the ledger
 pub record StaysSound (n : ℕ) (old new : Stored) (t u : Totals) : Type 0 where

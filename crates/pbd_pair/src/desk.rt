@@ -1,8 +1,8 @@
 // A chunk of bonds from its numbers on.
-ghost use Rattle.std.specs.Prelude.{◌≡◌, ◌+◌, ◌*◌, ◌<◌, ◌≤◌, length, MatchResult, OnOk, Result, Ok, Err};
+ghost use Rattle.std.specs.Prelude.{◌≡◌, ◌+◌, ◌*◌, ◌<◌, ◌≤◌, length, OnOk};
 ghost use Rattle.pbd_store.specs.Blocks.{blocks_of};
-ghost use Rattle.pbd_store.specs.Moving.{motion_of, fixed_parts};
-ghost use Rattle.pbd_pair.specs.Projecting.{projected_block, CanProject, StaysSound};
+ghost use Rattle.pbd_store.specs.Moving.{fixed_parts};
+ghost use Rattle.pbd_pair.specs.Projecting.{CanProject, ComesTo, StaysSound};
 
 use crate::chunk::{Chunk, Columns, Found};
 use crate::near::NearMoves;
@@ -29,7 +29,7 @@ impl Desk {
         }
     }
 
-    /// Projects a chunk of bonds: in 32-bit numbers where those are exact for all of them, else one by one.
+    /// Projects a chunk of bonds: side by side where the moves of all of them come out right so, else one by one.
     pub(crate) fn project<const L: usize, G: Ledger>(
         &mut self,
         store: &mut Store<L>,
@@ -40,9 +40,7 @@ impl Desk {
         requires some_lanes { 0 < L }
         requires lanes { L ≤ 16 }
         requires can { CanProject 128 chunk.bonds chunk.numbers.now store.old totals.old }
-        ensures outcome { MatchResult result
-            (λ _. projected_block chunk.entry.bonds chunk.entry.numbers.now store.old totals.old ≡ Ok (motion_of store.new totals.new))
-            (λ left. projected_block chunk.entry.bonds chunk.entry.numbers.now store.old totals.old ≡ Err left.element) }
+        ensures outcome { ComesTo chunk.entry.bonds chunk.entry.numbers.now store.old store.new totals.old totals.new result }
         ensures limit { store.new.limit ≡ store.old.limit }
         ensures fixed { fixed_parts store.new.particles ≡ fixed_parts store.old.particles }
         ensures sound { OnOk result (StaysSound (length chunk.entry.numbers.now) store.old store.new totals.old totals.new) }
@@ -60,6 +58,6 @@ impl Desk {
         if right {
             return self.near.pull(store, &found, totals, steps);
         }
-        project_exactly(store, &found, totals, steps)
+        project_exactly(store, &found, &self.near.moves, totals, steps)
     }
 }

@@ -13,6 +13,7 @@ mod parts;
 mod projector;
 mod scalar;
 mod slow;
+mod wide;
 
 pub use bonds::Bonds;
 pub use lanes::LaneProjector;

@@ -1,32 +1,33 @@
-// The bonds of a chunk in 32-bit numbers.
-ghost use Rattle.std.specs.Prelude.{◌≡◌, ℕ, ◌+◌, ◌*◌, ◌<◌, ◌≤◌, ◌^◌, pos, neg_ℤ, ◌<ℤ◌, ◌≤ℤ◌, length, take, IsTrue, MatchResult, OnOk, Result, Ok, Err};
+// The bonds of a chunk by rows of 32-bit numbers.
+ghost use Rattle.std.specs.Prelude.{◌≡◌, ℕ, ◌+◌, ◌*◌, ◌<◌, ◌≤◌, ◌^◌, pos, neg_ℤ, ◌+ℤ◌, ◌-ℤ◌, ◌<ℤ◌, ◌≤ℤ◌, length, take, unsigned_abs, IsTrue, OnOk};
 ghost use Rattle.pbd_num.specs.Rows.{vector_of};
-ghost use Rattle.pbd_num.specs.Vectors.{Within, plus, opposite};
+ghost use Rattle.pbd_num.specs.Vectors.{Within, plus, minus, opposite};
 ghost use Rattle.pbd_world.specs.Ledger.{ledger_of, added, HaveRoom};
 ghost use Rattle.pbd_world.specs.declared.totals.Class.TheVariants as classes;
 ghost use Rattle.pbd_store.specs.Blocks.{blocks_of};
-ghost use Rattle.pbd_store.specs.Moving.{motion_of, fixed_parts};
+ghost use Rattle.pbd_store.specs.Moving.{fixed_parts};
 ghost use Rattle.pbd_store.specs.Pairs.{row_in};
 ghost use Rattle.pbd_pair.specs.Bonds.{bond_of};
-ghost use Rattle.pbd_pair.specs.Projecting.{projected_block, CanProject, StaysSound};
+ghost use Rattle.pbd_pair.specs.Projecting.{CanProject, ComesTo, StaysSound};
 ghost use Rattle.pbd_pair.specs.Moves.{moved_below};
-ghost use Rattle.pbd_pair.specs.Chunks.{kept_by, number_in, AreLoaded, AreSized, AreNear, IsFactor, IsFound, IsMasked};
+ghost use Rattle.pbd_pair.specs.Chunks.{kept_by, number_in, AreKnown, AreLoaded, AreSized, AreNear, AreTried, IsFactor, IsFound, IsMasked};
 
 use crate::chunk::{Chunk, Columns, Found, left_at};
+use crate::wide::try_rows;
 use pbd_near::Near;
 use pbd_num::{CHUNK, Row, Vec3};
 use pbd_store::{Between, Steps, Store};
 use pbd_world::{Class, Left, Totals};
 use std::sync::ledger::Ledger;
 
-/// The moves of a chunk's bonds in 32-bit numbers.
+/// The moves of a chunk's bonds as rows of 32-bit numbers.
 #[derive(Drop)]
 pub(crate) struct NearMoves {
     near: Near,
     /// The factors by which the moves are shared, in parts of 512, and -1 where a bond isn't for these numbers.
     factor: [i32; CHUNK],
     /// The moves of the second ends, where no end is held.
-    moves: [Row; CHUNK],
+    pub(crate) moves: [Row; CHUNK],
     /// The opposites of the moves of the first ends.
     back: [Row; CHUNK],
     /// The moves of the second ends.
@@ -70,16 +71,29 @@ fn first_of(rows: &[Row; CHUNK], count: usize) -> &[Row]
     &rows[..count]
 }
 
-// A sum of moves, and what two ends move more.
+// One axis of a sum of moves, and what two ends move more.
 #[inline(always)]
-fn with_rows(sum: Vec3, back: Row, forth: Row) -> Vec3
-    requires sum { Within (2 ^ 40) sum }
+fn with_axis(sum: i32, back: i32, forth: i32) -> i32
+    requires sum { unsigned_abs sum ≤ 2 ^ 24 }
+    requires back { unsigned_abs back ≤ 2 ^ 16 }
+    requires forth { unsigned_abs forth ≤ 2 ^ 16 }
+    ensures { result ≡ sum +ℤ (forth -ℤ back) }
+{
+    sum + (forth - back)
+}
+
+// A sum of moves, and what two ends move more. The moves of a chunk's bonds come to at most 2^24, so that 32 bits hold them.
+#[inline(always)]
+fn with_rows(sum: Row, back: Row, forth: Row) -> Row
+    requires sum { Within (2 ^ 24) (vector_of sum) }
     requires back { Within (2 ^ 16) (vector_of back) }
     requires forth { Within (2 ^ 16) (vector_of forth) }
-    ensures value { result ≡ plus sum (plus (opposite (vector_of back)) (vector_of forth)) }
-    ensures size { (n : ℕ) → Within n sum → Within (n + 2 ^ 17) result }
+    ensures { vector_of result ≡ plus (vector_of sum) (minus (vector_of forth) (vector_of back)) }
 {
-    sum.plus(forth.vector().minus(back.vector()))
+    let x = with_axis(sum.x, back.x, forth.x);
+    let y = with_axis(sum.y, back.y, forth.y);
+    let z = with_axis(sum.z, back.z, forth.z);
+    Row { x, y, z, flag: 0 }
 }
 
 // Adds what the free ends beside held ones move together to the total of pins.
@@ -105,9 +119,9 @@ impl NearMoves {
         }
     }
 
-    // The factors of the first bonds.
+    // The factors of the first bonds. False where one of them isn't for these numbers.
     #[inline(never)]
-    fn put_factors(&mut self, columns: &Columns, between: &Between, count: usize)
+    fn put_factors(&mut self, columns: &Columns, between: &Between, count: usize) -> bool
         requires few { count ≤ 128 }
         requires sized { AreSized count between.now }
         requires low { (j : ℕ) → j < count → neg_ℤ (pos 1) ≤ℤ number_in columns.now.k j }
@@ -118,29 +132,34 @@ impl NearMoves {
         ensures second { IsTrue self.new.free → (j : ℕ) → j < count → pos 0 <ℤ number_in between.now.second_weight j }
     {
         let mut free = true;
+        let mut fit = true;
         for j in 0..count {
             let first = between.first_weight[j];
             let second = between.second_weight[j];
-            self.factor[j] = factor_of(columns.k[j], first, second);
+            let factor = factor_of(columns.k[j], first, second);
+            self.factor[j] = factor;
             free = free & (0 < first) & (0 < second);
+            fit = fit & (0 <= factor);
         }
         self.free = free;
+        fit
     }
 
-    /// Tries the moves of a chunk's bonds. True where all of them are right.
-    pub(crate) fn try_moves(
-        &mut self,
-        columns: &Columns,
-        between: &Between,
-        chunk: &Chunk<'_>,
-    ) -> bool
+    // Tries the moves of a chunk's bonds in 32-bit numbers. True where all of them are right.
+    fn try_short(&mut self, columns: &Columns, between: &Between, chunk: &Chunk<'_>) -> bool
         requires few { length chunk.now.numbers.now ≤ 128 }
         requires loaded { AreLoaded (bond_of chunk.now.bonds) chunk.now.numbers.now columns.now }
         requires sized { AreSized (length chunk.now.numbers.now) between.now }
-        ensures { IsTrue result → AreNear (bond_of chunk.now.bonds) chunk.now.numbers.now between.now self.new }
+        ensures near { IsTrue result → AreNear (bond_of chunk.now.bonds) chunk.now.numbers.now between.now self.new }
+        ensures first { IsTrue self.new.free → (j : ℕ) → j < length chunk.now.numbers.now
+            → pos 0 <ℤ number_in between.now.first_weight j }
+        ensures second { IsTrue self.new.free → (j : ℕ) → j < length chunk.now.numbers.now
+            → pos 0 <ℤ number_in between.now.second_weight j }
     {
         let count = chunk.numbers.len();
-        self.put_factors(columns, between, count);
+        if !self.put_factors(columns, between, count) {
+            return false;
+        }
         let ways = first_of(&between.ways, count);
         self.near.run(
             ways,
@@ -149,6 +168,26 @@ impl NearMoves {
             chunk.bonds.are_contacts(),
             &mut self.moves,
         )
+    }
+
+    /// Tries the moves of a chunk's bonds in 32-bit numbers, and where one of them doesn't come out of those, all of them in
+    /// 64-bit numbers. True where all of them are right.
+    pub(crate) fn try_moves(
+        &mut self,
+        columns: &Columns,
+        between: &Between,
+        chunk: &Chunk<'_>,
+    ) -> bool
+        requires known { AreKnown chunk.now.bonds chunk.now.numbers.now }
+        requires loaded { AreLoaded (bond_of chunk.now.bonds) chunk.now.numbers.now columns.now }
+        requires sized { AreSized (length chunk.now.numbers.now) between.now }
+        ensures near { IsTrue result → AreNear (bond_of chunk.now.bonds) chunk.now.numbers.now between.now self.new }
+        ensures tried { AreTried (bond_of chunk.now.bonds) chunk.now.numbers.now between.now self.new.moves }
+    {
+        if self.try_short(columns, between, chunk) {
+            return true;
+        }
+        try_rows(between, chunk, &mut self.moves)
     }
 
     // Takes the moves from held ends. What is left of a bond's two moves is that of the free end beside a held one: all of
@@ -163,7 +202,7 @@ impl NearMoves {
             ≡ moved_below (λ j. plus (opposite (vector_of (row_in self.new.back j))) (vector_of (row_in self.new.forth j))) count }
         ensures size { Within (count * 2 ^ 17) result }
     {
-        let mut pins = Vec3::ZERO;
+        let mut pins = Row::ZERO;
         for j in 0..count {
             let row = self.moves[j];
             let back = kept(between.first_weight[j], row);
@@ -172,7 +211,7 @@ impl NearMoves {
             self.forth[j] = forth;
             pins = with_rows(pins, back, forth);
         }
-        pins
+        pins.vector()
     }
 
     /// Moves the ends of a chunk's bonds, and books the moves beside held ends. Two free ends move oppositely, and add
@@ -189,10 +228,7 @@ impl NearMoves {
         requires can { CanProject 128 found.now.chunk.bonds found.now.chunk.numbers.now store.old totals.old }
         requires found { IsFound store.old.particles found.now }
         requires near { AreNear (bond_of found.now.chunk.bonds) found.now.chunk.numbers.now found.now.between.now self.old }
-        ensures outcome { MatchResult result
-            (λ _. projected_block found.now.chunk.bonds found.now.chunk.numbers.now store.old totals.old
-            ≡ Ok (motion_of store.new totals.new))
-            (λ left. projected_block found.now.chunk.bonds found.now.chunk.numbers.now store.old totals.old ≡ Err left.element) }
+        ensures outcome { ComesTo found.now.chunk.bonds found.now.chunk.numbers.now store.old store.new totals.old totals.new result }
         ensures limit { store.new.limit ≡ store.old.limit }
         ensures fixed { fixed_parts store.new.particles ≡ fixed_parts store.old.particles }
         ensures sound { OnOk result (StaysSound (length found.now.chunk.numbers.now) store.old store.new totals.old totals.new) }

@@ -1,33 +1,23 @@
 // The bonds of a chunk, each corrected exactly.
-ghost use Rattle.std.specs.Prelude.{◌≡◌, ℕ, ◌+◌, ◌*◌, ◌<◌, ◌≤◌, ◌^◌, pos, ◌≤ℤ◌, length, slice_index_or, MatchResult, OnOk, Result, Ok, Err};
-ghost use Rattle.pbd_num.specs.Vectors.{Within};
+ghost use Rattle.std.specs.Prelude.{◌≡◌, ℕ, ◌+◌, ◌*◌, ◌<◌, ◌≤◌, ◌^◌, pos, ◌≤ℤ◌, length, slice_index_or, OnOk};
+ghost use Rattle.pbd_num.specs.Rows.{vector_of};
+ghost use Rattle.pbd_num.specs.Vectors.{Within, opposite};
 ghost use Rattle.pbd_world.specs.Ledger.{ledger_of, HaveRoom};
 ghost use Rattle.pbd_store.specs.Blocks.{blocks_of};
-ghost use Rattle.pbd_store.specs.Moving.{motion_of, fixed_parts};
+ghost use Rattle.pbd_store.specs.Moving.{fixed_parts};
 ghost use Rattle.pbd_store.specs.Pairs.{moves_in};
-ghost use Rattle.pbd_pair.specs.Bonds.{bond_count};
-ghost use Rattle.pbd_pair.specs.Projecting.{projected_block, CanProject, StaysSound};
+ghost use Rattle.pbd_pair.specs.Bonds.{bond_of, bond_count};
+ghost use Rattle.pbd_pair.specs.Projecting.{CanProject, ComesTo, StaysSound};
 ghost use Rattle.pbd_pair.specs.Moves.{moves_by, settled};
-ghost use Rattle.pbd_pair.specs.Chunks.{entries_in, reach_of, unplaced, AreExact, AreKnown, AreSized, IsFirm, IsFound};
+ghost use Rattle.pbd_pair.specs.Chunks.{entries_in, kept_by, unplaced, AreExact, AreKnown, AreSized, AreTried, IsExact, IsFirm, IsFound, IsNear};
 
 use crate::book::book;
 use crate::chunk::{Found, left_at};
-use pbd_num::{CHUNK, Draw, Vec3, Weights, moves_along};
+use crate::wide::{draw_of, weights_of};
+use pbd_num::{CHUNK, Row, Vec3, Weights, moves_along};
 use pbd_store::{EndMoves, Steps, Store};
 use pbd_world::{Bond, Left, Shift, Totals};
 use std::sync::ledger::Ledger;
-
-// The length from which on a bond does nothing. No length is 2^31.
-#[inline(always)]
-fn reach(bond: Bond) -> i64
-    ensures { result ≡ reach_of bond }
-{
-    if bond.contact {
-        bond.rest
-    } else {
-        2_147_483_648
-    }
-}
 
 // The moves of two ends.
 fn exact_moves(way: Vec3, bond: Bond, weights: Weights) -> EndMoves
@@ -41,29 +31,67 @@ fn exact_moves(way: Vec3, bond: Bond, weights: Weights) -> EndMoves
     ensures first { Within (2 ^ 31) result.first }
     ensures second { Within (2 ^ 31) result.second }
 {
-    let draw = Draw {
-        rest: bond.rest,
-        k: bond.k,
-        reach: reach(bond),
-    };
-    let (first, second) = moves_along(way, draw, weights);
+    let (first, second) = moves_along(way, draw_of(bond), weights);
     EndMoves { first, second }
+}
+
+// A row where an end is free, and nothing where it is held.
+#[inline(always)]
+fn kept(weight: i64, row: Row) -> Vec3
+    ensures { result ≡ vector_of (kept_by weight row) }
+{
+    let free = 0 < weight;
+    if free { row.vector() } else { Vec3::ZERO }
+}
+
+// What a row without a flag tells of two ends.
+#[inline(always)]
+fn row_moves(row: Row, weights: Weights) -> EndMoves
+    requires { Within (2 ^ 16) (vector_of row) }
+    ensures first { result.first ≡ opposite (vector_of (kept_by weights.first row)) }
+    ensures second { result.second ≡ vector_of (kept_by weights.second row) }
+{
+    let back = kept(weights.first, row);
+    EndMoves {
+        first: back.opposite(),
+        second: kept(weights.second, row),
+    }
+}
+
+// The moves of two ends, by what a row of the bond tells where it has no flag.
+#[inline(always)]
+fn moves_of(row: Row, way: Vec3, bond: Bond, weights: Weights) -> EndMoves
+    requires row { row.flag ≡ pos 0 → IsNear way weights.first weights.second bond row }
+    requires way { Within (2 ^ 30) way }
+    requires bond { IsFirm bond }
+    requires first_low { pos 0 ≤ℤ weights.first }
+    requires first_high { weights.first ≤ℤ pos 65535 }
+    requires second_low { pos 0 ≤ℤ weights.second }
+    requires second_high { weights.second ≤ℤ pos 65535 }
+    ensures { IsExact way weights.first weights.second bond result }
+{
+    let told = row.flag == 0;
+    if told {
+        return row_moves(row, weights);
+    }
+    exact_moves(way, bond, weights)
 }
 
 // The moves of a chunk's bonds, one by one.
 #[inline(never)]
-fn exact_each(found: &Found<'_>, moves: &mut [EndMoves; CHUNK])
+fn exact_each(found: &Found<'_>, rows: &[Row; CHUNK], moves: &mut [EndMoves; CHUNK])
     requires known { AreKnown found.now.chunk.bonds found.now.chunk.numbers.now }
     requires sized { AreSized (length found.now.chunk.numbers.now) found.now.between.now }
+    requires tried { AreTried (bond_of found.now.chunk.bonds) found.now.chunk.numbers.now found.now.between.now rows.now }
     ensures { AreExact found.now moves.new }
 {
     for (j, n) in found.chunk.numbers.iter().enumerate() {
         let way = found.between.ways[j].vector();
-        let weights = Weights {
-            first: i64::from(found.between.first_weight[j]),
-            second: i64::from(found.between.second_weight[j]),
-        };
-        moves[j] = exact_moves(way, found.chunk.bonds.get(*n), weights);
+        let weights = weights_of(
+            found.between.first_weight[j],
+            found.between.second_weight[j],
+        );
+        moves[j] = moves_of(rows[j], way, found.chunk.bonds.get(*n), weights);
     }
 }
 
@@ -106,11 +134,13 @@ fn book_each(totals: &mut Totals, found: &Found<'_>, moves: &[EndMoves; CHUNK])
     }
 }
 
-/// Projects a chunk of bonds from what lies between their ends, whatever that is.
+/// Projects a chunk of bonds from what lies between their ends, whatever that is, and from rows that tell the moves of some
+/// of them.
 #[inline(never)]
 pub(crate) fn project_exactly<const L: usize, G: Ledger>(
     store: &mut Store<L>,
     found: &Found<'_>,
+    rows: &[Row; CHUNK],
     totals: &mut Totals,
     steps: &mut Steps<G>,
 ) -> Result<(), Left>
@@ -118,10 +148,8 @@ pub(crate) fn project_exactly<const L: usize, G: Ledger>(
     requires lanes { L ≤ 16 }
     requires can { CanProject 128 found.now.chunk.bonds found.now.chunk.numbers.now store.old totals.old }
     requires found { IsFound store.old.particles found.now }
-    ensures outcome { MatchResult result
-        (λ _. projected_block found.now.chunk.bonds found.now.chunk.numbers.now store.old totals.old
-        ≡ Ok (motion_of store.new totals.new))
-        (λ left. projected_block found.now.chunk.bonds found.now.chunk.numbers.now store.old totals.old ≡ Err left.element) }
+    requires tried { AreTried (bond_of found.now.chunk.bonds) found.now.chunk.numbers.now found.now.between.now rows.now }
+    ensures outcome { ComesTo found.now.chunk.bonds found.now.chunk.numbers.now store.old store.new totals.old totals.new result }
     ensures limit { store.new.limit ≡ store.old.limit }
     ensures fixed { fixed_parts store.new.particles ≡ fixed_parts store.old.particles }
     ensures sound { OnOk result (StaysSound (length found.now.chunk.numbers.now) store.old store.new totals.old totals.new) }
@@ -132,7 +160,7 @@ pub(crate) fn project_exactly<const L: usize, G: Ledger>(
         second: Vec3::ZERO,
     };
     let mut moves = [none; CHUNK];
-    exact_each(found, &mut moves);
+    exact_each(found, rows, &mut moves);
     if let Err(j) = store.move_each(found.pairs, &moves, steps) {
         return Err(left_at(found, j));
     }

@@ -14,11 +14,13 @@ zeros zero = refl
 zeros (suc n) = ap (λ (vs : List Vec3). zero_vector ∷ vs) (zeros n)
 
 -- rows of what f gives of each particle, and n rows of zeros
-pub rows_shown : (f : Particle → Vec3) (ps : List Particle) (n : ℕ) → places_in (map (λ (p : Particle). row_of (f p)) ps ++ replicate n (row_of zero_vector)) ≡ map f ps ++ replicate n zero_vector
+pub rows_shown : (f : Particle → Vec3) (ps : List Particle) (n : ℕ)
+    → places_in (map (λ (p : Particle). row_of (f p)) ps ++ replicate n (row_of zero_vector)) ≡ map f ps ++ replicate n zero_vector
 rows_shown f [] n = zeros n
 rows_shown f (p ∷ ps) n = ap (λ (vs : List Vec3). f p ∷ vs) (rows_shown f ps n)
 
-flat_at : (f : Particle → Vec3) (ps : List Particle) (n k : ℕ) → (get_or (map (λ (p : Particle). row_of (f p)) ps ++ replicate n (row_of zero_vector)) k (row_of zero_vector)).spare ≡ pos 0
+flat_at : (f : Particle → Vec3) (ps : List Particle) (n k : ℕ)
+    → (get_or (map (λ (p : Particle). row_of (f p)) ps ++ replicate n (row_of zero_vector)) k (row_of zero_vector)).spare ≡ pos 0
 flat_at f [] n k = ap (λ (p : Place). p.spare) (padded_past n k (row_of zero_vector))
 flat_at f (p ∷ ps) n zero = refl
 flat_at f (p ∷ ps) n (suc k) = flat_at f ps n k
@@ -29,7 +31,9 @@ rows_flat f ps n = record { each = λ k. flat_at f ps n k }
 module _ (rows : List Place) {vs : List Vec3} (e : places_in rows ≡ vs) where
   -- a row that was read
   pub place_read : (i : ℕ) (p : Place) → p ≡ get_or rows i p → i < length vs → place_in_row p ≡ place_at vs i
-  place_read i p ep h = ap (λ (q : Place). place_in_row q) ep ∙ sym (get_or-map (λ (q : Place). place_in_row q) rows i p zero_vector (omega (arith, h, ap (λ (ws : List Vec3). length ws) e, length-map rows (λ (q : Place). place_in_row q)))) ∙ ap (λ (ws : List Vec3). place_at ws i) e
+  place_read i p ep h = ap (λ (q : Place). place_in_row q) ep
+      ∙ sym (get_or-map (λ (q : Place). place_in_row q) rows i p zero_vector
+      (omega (arith, h, ap (λ (ws : List Vec3). length ws) e, length-map rows (λ (q : Place). place_in_row q)))) ∙ ap (λ (ws : List Vec3). place_at ws i) e
 
   -- a row that was written
   pub place_written : (i : ℕ) (p : Place) (v : Vec3) → p ≡ row_of v → places_in (slice_set rows i p) ≡ slice_set vs i v

@@ -49,11 +49,13 @@ module _ {n spare : ℕ} {at before : List Vec3} {weight : List ℕ} {held : Lis
   ]
 
   -- other rows, but for row i
-  module _ (at' before' : List Vec3) (weight' : List ℕ) (held' : List Bool) (i : ℕ) (within : i < n) (other : (k : ℕ) → (k ≡ i → ⊥) → row at' before' weight' held' k ≡ row at before weight held k) where
+  module _ (at' before' : List Vec3) (weight' : List ℕ) (held' : List Bool) (i : ℕ) (within : i < n)
+      (other : (k : ℕ) → (k ≡ i → ⊥) → row at' before' weight' held' k ≡ row at before weight held k) where
     pub listed_set : (v : Particle) → row at' before' weight' held' i ≡ v → listed n at' before' weight' held' ≡ slice_set (listed n at before weight held) i v
     listed_set v same = written n i (row at before weight held) (row at' before' weight' held') v within same other
 
-    pub padded_set : length at' ≡ n + spare → length before' ≡ n + spare → length weight' ≡ n + spare → length held' ≡ n + spare → ArePadded n spare at' before' weight' held'
+    pub padded_set : length at' ≡ n + spare → length before' ≡ n + spare → length weight' ≡ n + spare → length held' ≡ n + spare
+        → ArePadded n spare at' before' weight' held'
     padded_set la lb lw lh = record { size = h.size; places = la; befores = lb; weights = lw; flags = lh; padding = λ k q. other k (λ e. absurd (omega arith)) ∙ h.padding k q }
 
 -- what f gives of a particle that is wanted, or of no particle
@@ -66,7 +68,8 @@ row_within i n true h = omega (arith, h refl)
 row_within i n false h = omega arith
 
 -- the columns of a list
-pub listed_from : (ps : List Particle) (at before : List Vec3) (weight : List ℕ) (held : List Bool) → ((k : ℕ) → row at before weight held k ≡ particle_at ps k) → listed (length ps) at before weight held ≡ ps
+pub listed_from : (ps : List Particle) (at before : List Vec3) (weight : List ℕ) (held : List Bool)
+    → ((k : ℕ) → row at before weight held k ≡ particle_at ps k) → listed (length ps) at before weight held ≡ ps
 listed_from ps at before weight held is = sym (fill_by_all (row at before weight held) ps (length ps) no_particle refl (λ k p. sym (is k)))
 
 pub any_default : {A : Type 0} (xs : List A) (i : ℕ) (d e : A) → i < length xs → get_or xs i d ≡ get_or xs i e
@@ -80,7 +83,8 @@ lanes_alike n f g h = fill_by_all g (lanes_of n f) n (g 0) (length-map-range_wit
 
 -- ---- the list that clauses see
 
-module _ {n spare : ℕ} {at before : List Vec3} {weight : List ℕ} {held : List Bool} (h : ArePadded n spare at before weight held) {ps : List Particle} (e : listed n at before weight held ≡ ps) where
+module _ {n spare : ℕ} {at before : List Vec3} {weight : List ℕ} {held : List Bool} (h : ArePadded n spare at before weight held) {ps : List Particle}
+    (e : listed n at before weight held ≡ ps) where
   pub count_is : n ≡ length ps
   count_is = sym (listed_long h) ∙ ap (λ (qs : List Particle). length qs) e
 
@@ -135,7 +139,8 @@ module _ {n spare : ℕ} {at before : List Vec3} {weight : List ℕ} {held : Lis
         ∙ ap (λ (qs : List Particle). slice_set qs i (record (particle_at ps i) { at = v })) e
 
     -- the effective weights are those of the same particles
-    pub place_kept : (light : List ℕ) → length light ≡ n + spare → ((k : ℕ) → get_or light k 0 ≡ effective_weight (row at before weight held k)) → AreKept n spare at' before weight held light
+    pub place_kept : (light : List ℕ) → length light ≡ n + spare → ((k : ℕ) → get_or light k 0 ≡ effective_weight (row at before weight held k))
+        → AreKept n spare at' before weight held light
     place_kept light long weighs = record { padded = place_padded; long = long; weighs = weighs }
 
     -- and another place before, weight and flag
@@ -160,7 +165,8 @@ module _ {n spare : ℕ} {at before : List Vec3} {weight : List ℕ} {held : Lis
             λ t. record { at = place_same t; before = before_same t; weight = ws t; held = hs t }
 
         pub all_padded : ArePadded n spare at' before' weight' held'
-        all_padded = padded_set h at' before' weight' held' i near other_all place_long (ap (λ (vs : List Vec3). length vs) eb ∙ length-set before i b ∙ h.befores)
+        all_padded = padded_set h at' before' weight' held' i near other_all place_long (ap (λ (vs : List Vec3). length vs) eb ∙ length-set before i b
+            ∙ h.befores)
             (ap (λ (xs : List ℕ). length xs) ew ∙ length-set weight i w ∙ h.weights) (ap (λ (xs : List Bool). length xs) eh ∙ length-set held i f ∙ h.flags)
 
         pub all_kept : (light light' : List ℕ) → length light ≡ n + spare → ((k : ℕ) → get_or light k 0 ≡ effective_weight (row at before weight held k)) → light' ≡ slice_set light i (effective_weight (record { at = v; before = b; weight = w; held = f })) → AreKept n spare at' before' weight' held' light'
@@ -195,7 +201,8 @@ module _ {n spare : ℕ} {at before : List Vec3} {weight : List ℕ} {held : Lis
     own_of j p s l = own_at j p ∙ and_from (is_set set j) (nat_lt (start + j) (length ps)) s (lt-ltb (start + j) (length ps) l)
 
     module _ (at' before' : List Vec3) (pa pb : ℕ → Vec3) (ea : WrittenWhere m start own pa at at') (eb : WrittenWhere m start own pb before before') where
-      row_there : (j : ℕ) → j < m → IsTrue (is_set own j) → row at' before' weight held (start + j) ≡ record (row at before weight held (start + j)) { at = pa j; before = pb j }
+      row_there : (j : ℕ) → j < m → IsTrue (is_set own j) → row at' before' weight held (start + j) ≡ record (row at before weight held (start + j))
+          { at = pa j; before = pb j }
       row_there j p s = λ t. record { at = ea.lanes j p s t; before = eb.lanes j p s t; weight = get_or weight (start + j) 0; held = is_set held (start + j) }
 
       row_elsewhere : (i : ℕ) → ((j : ℕ) → j < m → IsTrue (is_set own j) → start + j ≡ i → ⊥) → row at' before' weight held i ≡ row at before weight held i
@@ -214,12 +221,14 @@ module _ {n spare : ℕ} {at before : List Vec3} {weight : List ℕ} {held : Lis
       pub moved_saved : Saved m start set pa pb ps (listed n at' before' weight held)
       moved_saved = record {
         whole = listed_long moved_padded ∙ count_is;
-        lanes = λ j p l s. shown moved_padded (start + j) ∙ row_there j p (own_of j p s l) ∙ ap (λ (q : Particle). record q { at = pa j; before = pb j }) (sym (row_is (start + j)));
+        lanes = λ j p l s. shown moved_padded (start + j) ∙ row_there j p (own_of j p s l)
+            ∙ ap (λ (q : Particle). record q { at = pa j; before = pb j }) (sym (row_is (start + j)));
         others = λ i f. shown moved_padded i ∙ row_elsewhere i (λ j p s g. f j p (set_of j p s) g) ∙ sym (row_is i);
       }
 
   -- the same columns once more
-  module _ (n' : ℕ) (en : n' ≡ n) (at' before' : List Vec3) (weight' : List ℕ) (held' : List Bool) (ea : at' ≡ at) (eb : before' ≡ before) (ew : weight' ≡ weight) (eh : held' ≡ held) where
+  module _ (n' : ℕ) (en : n' ≡ n) (at' before' : List Vec3) (weight' : List ℕ) (held' : List Bool) (ea : at' ≡ at) (eb : before' ≡ before)
+      (ew : weight' ≡ weight) (eh : held' ≡ held) where
     same_row : (k : ℕ) → row at' before' weight' held' k ≡ row at before weight held k
     same_row k = λ t. row (ea t) (eb t) (ew t) (eh t) k
 
@@ -248,7 +257,10 @@ module _ {n spare : ℕ} {at before : List Vec3} {weight : List ℕ} {held : Lis
 
 -- ---- the columns of a list
 
-module _ (ps : List Particle) (spare : ℕ) (few : length ps ≤ 65536) (at before : List Vec3) (weight : List ℕ) (held : List Bool) (ea : at ≡ map (λ (p : Particle). p.at) ps ++ replicate spare zero_vector) (eb : before ≡ map (λ (p : Particle). p.before) ps ++ replicate spare zero_vector) (ew : weight ≡ map (λ (p : Particle). p.weight) ps ++ replicate spare 0) (eh : held ≡ map (λ (p : Particle). p.held) ps ++ replicate spare false) where
+module _ (ps : List Particle) (spare : ℕ) (few : length ps ≤ 65536) (at before : List Vec3) (weight : List ℕ) (held : List Bool)
+    (ea : at ≡ map (λ (p : Particle). p.at) ps ++ replicate spare zero_vector)
+    (eb : before ≡ map (λ (p : Particle). p.before) ps ++ replicate spare zero_vector)
+    (ew : weight ≡ map (λ (p : Particle). p.weight) ps ++ replicate spare 0) (eh : held ≡ map (λ (p : Particle). p.held) ps ++ replicate spare false) where
   from_row : (k : ℕ) → row at before weight held k ≡ particle_at ps k
   from_row k =
       let here = ap (λ (vs : List Vec3). place_at vs k) ea ∙ column_is (λ (p : Particle). p.at) ps spare k in

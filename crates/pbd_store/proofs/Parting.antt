@@ -23,7 +23,8 @@ placed_fixed ps i v = map-set_same {B = Particle} (λ (p : Particle). record p {
 pub parted_none : (first second : List ℕ) (f s : ℕ → Vec3) (ps : List Particle) → Parted 0 first second f s ps ps
 parted_none first second f s ps = record { whole = refl; firsts = λ j h. absurd (omega arith); seconds = λ j h. absurd (omega arith); others = λ i f g. refl }
 
-module _ (pairs : Pairs) (n : ℕ) (f s : ℕ → Vec3) (old new : List Particle) (j : ℕ) (h : Parted j pairs.first.now pairs.second.now f s old new) (p : j < n) (are : ArePairs n (length old) pairs) (apart : PairsApart n pairs) where
+module _ (pairs : Pairs) (n : ℕ) (f s : ℕ → Vec3) (old new : List Particle) (j : ℕ) (h : Parted j pairs.first.now pairs.second.now f s old new)
+    (p : j < n) (are : ArePairs n (length old) pairs) (apart : PairsApart n pairs) where
   abbrev a : ℕ
   a = index_at pairs.first.now j
 
@@ -51,7 +52,9 @@ module _ (pairs : Pairs) (n : ℕ) (f s : ℕ → Vec3) (old new : List Particle
     second_place = omega (arith, length-placed new a v, second_room)
 
     -- one pair more
-    pub parted_more : (w : Vec3) → v ≡ plus (particle_at old (index_at pairs.first.now j)).at (f j) → w ≡ plus (particle_at old (index_at pairs.second.now j)).at (s j) → Parted (j + 1) pairs.first.now pairs.second.now f s old (placed (placed new (index_at pairs.first.now j) v) (index_at pairs.second.now j) w)
+    pub parted_more : (w : Vec3) → v ≡ plus (particle_at old (index_at pairs.first.now j)).at (f j)
+        → w ≡ plus (particle_at old (index_at pairs.second.now j)).at (s j) → Parted (j + 1) pairs.first.now pairs.second.now f s old
+        (placed (placed new (index_at pairs.first.now j) v) (index_at pairs.second.now j) w)
     parted_more w ev ew =
         let then = placed new a v in
         record {
@@ -59,16 +62,19 @@ module _ (pairs : Pairs) (n : ℕ) (f s : ℕ → Vec3) (old new : List Particle
           firsts = λ k q. elim (split_below k j q) [
             | inl r ↦ placed_other then b (index_at pairs.first.now k) w (λ e. apart.across k j (omega arith) p e)
                 ∙ placed_other new a (index_at pairs.first.now k) v (λ e. apart.first k j r p e) ∙ h.firsts k r
-            | inr e ↦ subst (λ (m : ℕ). particle_at (placed then b w) (index_at pairs.first.now m) ≡ record (particle_at old (index_at pairs.first.now m)) { at = plus (particle_at old (index_at pairs.first.now m)).at (f m) }) (sym e)
+            | inr e ↦ subst (λ (m : ℕ). particle_at (placed then b w) (index_at pairs.first.now m)
+                ≡ record (particle_at old (index_at pairs.first.now m)) { at = plus (particle_at old (index_at pairs.first.now m)).at (f m) }) (sym e)
                 (placed_other then b a w (λ e. apart.across j j p p e) ∙ placed_same new a v first_room ∙ (λ t. record (first_still t) { at = ev t }))
           ];
           seconds = λ k q. elim (split_below k j q) [
             | inl r ↦ placed_other then b (index_at pairs.second.now k) w (λ e. apart.second k j r p e)
                 ∙ placed_other new a (index_at pairs.second.now k) v (λ e. apart.across j k p (omega arith) (sym e)) ∙ h.seconds k r
-            | inr e ↦ subst (λ (m : ℕ). particle_at (placed then b w) (index_at pairs.second.now m) ≡ record (particle_at old (index_at pairs.second.now m)) { at = plus (particle_at old (index_at pairs.second.now m)).at (s m) }) (sym e)
+            | inr e ↦ subst (λ (m : ℕ). particle_at (placed then b w) (index_at pairs.second.now m)
+                ≡ record (particle_at old (index_at pairs.second.now m)) { at = plus (particle_at old (index_at pairs.second.now m)).at (s m) }) (sym e)
                 (placed_same then b w second_place ∙ (λ t. record (second_then t) { at = ew t }))
           ];
-          others = λ i nf ns. placed_other then b i w (λ e. ns j (omega arith) (sym e)) ∙ placed_other new a i v (λ e. nf j (omega arith) (sym e)) ∙ h.others i (λ k q e. nf k (omega arith) e) (λ k q e. ns k (omega arith) e);
+          others = λ i nf ns. placed_other then b i w (λ e. ns j (omega arith) (sym e)) ∙ placed_other new a i v (λ e. nf j (omega arith) (sym e))
+              ∙ h.others i (λ k q e. nf k (omega arith) e) (λ k q e. ns k (omega arith) e);
         }
 
 -- pairs of which the first j are pulled, with the greatest sizes of their new places
@@ -79,9 +85,15 @@ pub record Pulled (j : ℕ) (first second : List ℕ) (f s : ℕ → Vec3) (size
   pub fixed : fixed_parts new ≡ fixed_parts old
 
 pub pulled_none : (first second : List ℕ) (f s : ℕ → Vec3) (sizes : Row) (ps : List Particle) → Pulled 0 first second f s sizes ps ps
-pulled_none first second f s sizes ps = record { done = parted_none first second f s ps; first_sizes = λ k h. absurd (omega arith); second_sizes = λ k h. absurd (omega arith); fixed = refl }
+pulled_none first second f s sizes ps = record {
+  done = parted_none first second f s ps;
+  first_sizes = λ k h. absurd (omega arith);
+  second_sizes = λ k h. absurd (omega arith);
+  fixed = refl;
+}
 
-module _ (pairs : Pairs) (n : ℕ) (f s : ℕ → Vec3) (sizes : Row) (old new : List Particle) (j : ℕ) (h : Pulled j pairs.first.now pairs.second.now f s sizes old new) (p : j < n) (are : ArePairs n (length old) pairs) (apart : PairsApart n pairs) where
+module _ (pairs : Pairs) (n : ℕ) (f s : ℕ → Vec3) (sizes : Row) (old new : List Particle) (j : ℕ)
+    (h : Pulled j pairs.first.now pairs.second.now f s sizes old new) (p : j < n) (are : ArePairs n (length old) pairs) (apart : PairsApart n pairs) where
   -- one pair more
   pub pulled_more : (v w first second : Vec3) (then next : List Particle) (mid after : Row) → v ≡ f j → w ≡ s j
       → then ≡ placed new (index_at pairs.first.now j) (plus (particle_at new (index_at pairs.first.now j)).at v)
@@ -94,30 +106,40 @@ module _ (pairs : Pairs) (n : ℕ) (f s : ℕ → Vec3) (sizes : Row) (old new :
       let b = index_at pairs.second.now j in
       let goal = plus (particle_at new a).at v in
       let still = first_still pairs n f s old new j h.done p are apart in
-      let then_still : particle_at then b ≡ particle_at old b = ap (λ (ps : List Particle). particle_at ps b) et ∙ second_then pairs n f s old new j h.done p are apart goal in
+      let then_still : particle_at then b ≡ particle_at old b = ap (λ (ps : List Particle). particle_at ps b) et
+      ∙ second_then pairs n f s old new j h.done p are apart goal in
       let goal_is : goal ≡ plus (particle_at old a).at (f j) = λ t. plus (still t).at (ev t) in
       let end_is : plus (particle_at then b).at w ≡ plus (particle_at old b).at (s j) = λ t. plus (then_still t).at (ew t) in
       let last : next ≡ placed (placed new a goal) b (plus (particle_at then b).at w) = en ∙ (λ t. placed (et t) b (plus (particle_at then b).at w)) in
       record {
-        done = subst (λ (ps : List Particle). Parted (j + 1) pairs.first.now pairs.second.now f s old ps) (sym last) (parted_more pairs n f s old new j h.done p are apart goal (plus (particle_at then b).at w) goal_is end_is);
+        done = subst (λ (ps : List Particle). Parted (j + 1) pairs.first.now pairs.second.now f s old ps) (sym last)
+            (parted_more pairs n f s old new j h.done p are apart goal (plus (particle_at then b).at w) goal_is end_is);
         first_sizes = λ m r. elim (split_below m j r) [
           | inl i ↦ l _ (k _ (h.first_sizes m i))
-          | inr e ↦ subst (λ (i : ℕ). IsSized after (plus (particle_at old (index_at pairs.first.now i)).at (f i))) (sym e) (l _ (subst (λ (u : Vec3). IsSized mid u) (ef ∙ goal_is) o))
+          | inr e ↦ subst (λ (i : ℕ). IsSized after (plus (particle_at old (index_at pairs.first.now i)).at (f i))) (sym e)
+              (l _ (subst (λ (u : Vec3). IsSized mid u) (ef ∙ goal_is) o))
         ];
         second_sizes = λ m r. elim (split_below m j r) [
           | inl i ↦ l _ (k _ (h.second_sizes m i))
-          | inr e ↦ subst (λ (i : ℕ). IsSized after (plus (particle_at old (index_at pairs.second.now i)).at (s i))) (sym e) (subst (λ (u : Vec3). IsSized after u) (es ∙ end_is) q)
+          | inr e ↦ subst (λ (i : ℕ). IsSized after (plus (particle_at old (index_at pairs.second.now i)).at (s i))) (sym e)
+              (subst (λ (u : Vec3). IsSized after u) (es ∙ end_is) q)
         ];
-        fixed = ap (λ (ps : List Particle). fixed_parts ps) en ∙ placed_fixed then b (plus (particle_at then b).at w) ∙ ap (λ (ps : List Particle). fixed_parts ps) et ∙ placed_fixed new a goal ∙ h.fixed;
+        fixed = ap (λ (ps : List Particle). fixed_parts ps) en ∙ placed_fixed then b (plus (particle_at then b).at w)
+            ∙ ap (λ (ps : List Particle). fixed_parts ps) et ∙ placed_fixed new a goal ∙ h.fixed;
       }
 
 -- a short way from a place within the range
 pub stepped_within : {u v r : Vec3} → Within (2 ^ 29) u → Within (2 ^ 16) v → r ≡ plus u v → Within (2 ^ 30) r
 stepped_within {u} {v} hu hv e = subst (λ (r : Vec3). Within (2 ^ 30) r) (sym e)
-    (record { x = omega (arith, size-add u.x v.x, hu.x, hv.x); y = omega (arith, size-add u.y v.y, hu.y, hv.y); z = omega (arith, size-add u.z v.z, hu.z, hv.z) })
+    (record {
+      x = omega (arith, size-add u.x v.x, hu.x, hv.x);
+      y = omega (arith, size-add u.y v.y, hu.y, hv.y);
+      z = omega (arith, size-add u.z v.z, hu.z, hv.z);
+    })
 
 -- two places within the limit pass its test
-pub both_stay : (limit : ℤ) (v w : Vec3) → pos 0 ≤ℤ limit → Within (unsigned_abs limit) v → Within (unsigned_abs limit) w → IsTrue (is_within limit v && is_within limit w)
+pub both_stay : (limit : ℤ) (v w : Vec3) → pos 0 ≤ℤ limit → Within (unsigned_abs limit) v → Within (unsigned_abs limit) w
+    → IsTrue (is_within limit v && is_within limit w)
 both_stay limit v w low hv hw = and_from (is_within limit v) (is_within limit w) ((within_facts limit v low).1 hv) ((within_facts limit w low).1 hw)
 
 module _ (n : ℕ) (limit : ℤ) (first second : List ℕ) (f s : ℕ → Vec3) (old new : List Particle) (h : Parted n first second f s old new) where
@@ -126,6 +148,12 @@ module _ (n : ℕ) (limit : ℤ) (first second : List ℕ) (f s : ℕ → Vec3) 
   ends_are j p = λ t. is_within limit (h.firsts j p t).at && is_within limit (h.seconds j p t).at
 
   -- which pair is outside afterwards says which leaves
-  pub outcome_from : {A : Type 0} (r : Result A ℕ) → MatchResult r (λ _. (j : ℕ) → j < n → IsTrue (ends_within limit new first second j)) (λ k. OutsideAt k n limit new first second) → MatchResult r (λ _. EachMoved n limit first second f s old new) (λ k. LeavesAt k n limit first second f s old)
+  pub outcome_from : {A : Type 0} (r : Result A ℕ) → MatchResult r (λ _. (j : ℕ) → j < n → IsTrue (ends_within limit new first second j))
+      (λ k. OutsideAt k n limit new first second) → MatchResult r (λ _. EachMoved n limit first second f s old new)
+      (λ k. LeavesAt k n limit first second f s old)
   outcome_from (Ok x) m = record { parted = h; stay = λ j p. sym (ends_are j p) ∙ m j p }
-  outcome_from (Err k) m = record { one = m.one; before = λ j p. sym (ends_are j (omega (arith, p, m.one))) ∙ m.before j p; leaves = sym (ends_are k m.one) ∙ m.leaves }
+  outcome_from (Err k) m = record {
+    one = m.one;
+    before = λ j p. sym (ends_are j (omega (arith, p, m.one))) ∙ m.before j p;
+    leaves = sym (ends_are k m.one) ∙ m.leaves;
+  }

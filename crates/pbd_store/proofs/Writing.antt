@@ -26,13 +26,17 @@ module _ (start : ℕ) (set : List Bool) (values : ℕ → Vec3) (old new : List
     whole = length-set new (start + j) (values j) ∙ h.whole;
     lanes = λ k p s. elim (split_below k j p) [
       | inl q ↦ get_or-set_other new (start + j) (start + k) (values j) zero_vector (λ e. absurd (omega arith)) ∙ h.lanes k q s
-      | inr e ↦ subst (λ (m : ℕ). place_at (slice_set new (start + j) (values j)) (start + m) ≡ values m) (sym e) (get_or-set_same new (start + j) (values j) zero_vector (omega (arith, h.whole)))
+      | inr e ↦ subst (λ (m : ℕ). place_at (slice_set new (start + j) (values j)) (start + m) ≡ values m) (sym e)
+          (get_or-set_same new (start + j) (values j) zero_vector (omega (arith, h.whole)))
     ];
-    others = λ i f. get_or-set_other new (start + j) i (values j) zero_vector (λ e. f j (omega arith) is_so (sym e)) ∙ h.others i (λ k p s e. f k (omega arith) s e);
+    others = λ i f. get_or-set_other new (start + j) i (values j) zero_vector (λ e. f j (omega arith) is_so (sym e))
+        ∙ h.others i (λ k p s e. f k (omega arith) s e);
   }
 
 -- one lane more
-pub written_more : (start : ℕ) (set : List Bool) (values : ℕ → Vec3) (old new : List Vec3) (j : ℕ) → WrittenWhere j start set values old new → (IsTrue (is_set set j) → start + j < length old) → WrittenWhere (j + 1) start set values old (cond (is_set set j) (slice_set new (start + j) (values j)) new)
+pub written_more : (start : ℕ) (set : List Bool) (values : ℕ → Vec3) (old new : List Vec3) (j : ℕ) → WrittenWhere j start set values old new
+    → (IsTrue (is_set set j) → start + j < length old) → WrittenWhere (j + 1) start set values old
+    (cond (is_set set j) (slice_set new (start + j) (values j)) new)
 written_more start set values old new j h within = by_case (is_set set j) refl
   where
     by_case : (b : Bool) → is_set set j ≡ b → WrittenWhere (j + 1) start set values old (cond b (slice_set new (start + j) (values j)) new)

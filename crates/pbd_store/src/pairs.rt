@@ -308,30 +308,6 @@ impl<const L: usize> Store<L> {
         true
     }
 
-    // Moves the ends pair by pair, until one would leave the limit.
-    fn move_ends(&mut self, pairs: Pairs<'_>, moves: &[EndMoves]) -> Result<(), usize>
-        requires lanes { L ≤ 16 }
-        requires pairs { ArePairs (length pairs.first.now) (length self.old.particles) pairs }
-        requires apart { PairsApart (length pairs.first.now) pairs }
-        requires inside { AreInside self.old.limit self.old.particles }
-        requires moves { AreMoves (length pairs.first.now) moves.now }
-        ensures outcome { MatchResult result
-            (λ _. EachMoved (length pairs.entry.first.now) self.old.limit pairs.entry.first.now pairs.entry.second.now
-            (first_moves moves.now) (second_moves moves.now) self.old.particles self.new.particles)
-            (λ k. LeavesAt k (length pairs.entry.first.now) self.old.limit pairs.entry.first.now pairs.entry.second.now
-            (first_moves moves.now) (second_moves moves.now) self.old.particles) }
-        ensures limit { self.new.limit ≡ self.old.limit }
-        ensures fixed { fixed_parts self.new.particles ≡ fixed_parts self.old.particles }
-    {
-        for j in 0..pairs.first.len() {
-            let stays = self.move_pair(pairs.first[j], pairs.second[j], moves[j]);
-            if !stays {
-                return Err(j);
-            }
-        }
-        Ok(())
-    }
-
     /// What lies between the ends of up to 128 pairs.
     pub fn between<G: Ledger>(&self, pairs: Pairs<'_>, between: &mut Between, steps: &mut Steps<G>)
         requires some_lanes { 0 < L }
@@ -404,6 +380,12 @@ impl<const L: usize> Store<L> {
         ensures cost { steps.new ≡ steps.old + 2 * blocks_of (length pairs.entry.first.now) L }
     {
         steps.add(accesses(pairs.first.len(), L));
-        self.move_ends(pairs, moves)
+        for j in 0..pairs.first.len() {
+            let stays = self.move_pair(pairs.first[j], pairs.second[j], moves[j]);
+            if !stays {
+                return Err(j);
+            }
+        }
+        Ok(())
     }
 }

@@ -7,6 +7,8 @@ mod chain;
 #[cfg(test)]
 mod colour;
 #[cfg(test)]
+mod ends;
+#[cfg(test)]
 mod grid;
 #[cfg(test)]
 mod hard;

@@ -223,7 +223,7 @@ fn draw(alloc: Global, drawing: &Drawing, parts: &mut Parts) -> bool {
 }
 
 /// The scene of parts, where all went into them.
-fn scene_of(alloc: Global, parts: Parts, drawn: bool) -> Result<Scene, PartsFault> {
+pub(crate) fn scene_of(alloc: Global, parts: Parts, drawn: bool) -> Result<Scene, PartsFault> {
     if drawn {
         Scene::from_parts(alloc, parts)
     } else {

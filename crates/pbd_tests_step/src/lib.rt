@@ -8,6 +8,8 @@ mod cloth;
 #[cfg(test)]
 mod drawing;
 #[cfg(test)]
+mod random_bonds;
+#[cfg(test)]
 mod session;
 #[cfg(test)]
 mod step;

@@ -32,7 +32,7 @@ fn apply<const L: usize, P: Projector<L> + Drop, G: Ledger>(
 }
 
 /// Whether two solvers have come to the same world.
-fn are_alike<const L: usize, G: Ledger>(
+pub(crate) fn are_alike<const L: usize, G: Ledger>(
     one: &Solver<L, Scalar<L>>,
     other: &Solver<L, LaneProjector<L>>,
     steps: &mut Steps<G>,

@@ -1,18 +1,23 @@
-use Rattle.std.proofs.Common.{◌+◌, ◌^◌, arith, ap, sym, subst, ◌∙◌}
-use Rattle.pbd_num.specs.declared.Vec3.{Vec3}
-use Rattle.pbd_num.specs.Rows.{vector_of}
-use Rattle.pbd_num.specs.Vectors.{Within, plus, minus}
-use Rattle.pbd_num.proofs.Ranges.{wider}
-use Rattle.pbd_pair.proofs.Pinning.{minus_turned}
+use Rattle.std.proofs.Common.{rules, w32, FitsSigned}
+use Rattle.std.proofs.lemmas.Int.{to_z-of_z}
+use Rattle.pbd_num.proofs.Ends.{same_axes}
 use Rattle.pbd_pair.proofs.near.with_rows.Goals as goal
 
-pub returns-clause-value : goal.returns-clause-value
-returns-clause-value c =
-    c.plus.ensures.value ∙ ap (plus c.args.sum) (c.minus.ensures.value ∙ (λ i. minus (c.vector.ensures i) (c.vector-2.ensures i))
-    ∙ minus_turned (vector_of c.args.forth) (vector_of c.args.back))
-
-pub returns-clause-size : goal.returns-clause-size
-returns-clause-size c = λ n h.
-    let forth = subst (λ (v : Vec3). Within (2 ^ 16) v) (sym c.vector.ensures) c.requires.forth in
-    let back = subst (λ (v : Vec3). Within (2 ^ 16) v) (sym c.vector-2.ensures) c.requires.back in
-    c.plus.ensures.size n (2 ^ 17) h (wider _ (2 ^ 16 + 2 ^ 16) (2 ^ 17) (omega arith) (c.minus.ensures.size (2 ^ 16) (2 ^ 16) forth back))
+pub returns : goal.returns
+returns c =
+    let fx : FitsSigned w32 c.with_axis-x.result = record { sfits = c.with_axis-x.type_inv } in
+    let fy : FitsSigned w32 c.with_axis-y.result = record { sfits = c.with_axis-y.type_inv } in
+    let fz : FitsSigned w32 c.with_axis-z.result = record { sfits = c.with_axis-z.type_inv } in
+    let sx : FitsSigned w32 c.args.sum.x = search rules in
+    let sy : FitsSigned w32 c.args.sum.y = search rules in
+    let sz : FitsSigned w32 c.args.sum.z = search rules in
+    let bx : FitsSigned w32 c.args.back.x = search rules in
+    let by : FitsSigned w32 c.args.back.y = search rules in
+    let bz : FitsSigned w32 c.args.back.z = search rules in
+    let gx : FitsSigned w32 c.args.forth.x = search rules in
+    let gy : FitsSigned w32 c.args.forth.y = search rules in
+    let gz : FitsSigned w32 c.args.forth.z = search rules in
+    let x = simp to_z-of_z at c.with_axis-x.ensures in
+    let y = simp to_z-of_z at c.with_axis-y.ensures in
+    let z = simp to_z-of_z at c.with_axis-z.ensures in
+    simp to_z-of_z (same_axes _ _ x y z)

@@ -4,7 +4,7 @@ use Rattle.pbd_world.specs.declared.bond.Shift.{Shift}
 use Rattle.std.proofs.lemmas.Int.{to_z-of_z}
 use Rattle.pbd_world.specs.Ledger.{ledger_of, booked}
 use Rattle.pbd_world.specs.Bonds.{entries_of, class_of}
-use Rattle.pbd_pair.proofs.Chunks.{short_fits}
+use Rattle.pbd_pair.proofs.Chunks.{first_fits, second_fits}
 use Rattle.pbd_world.proofs.Rooms.{room_at}
 use Rattle.pbd_pair.specs.Moves.{settled}
 use Rattle.pbd_pair.specs.Chunks.{entries_in}
@@ -30,8 +30,8 @@ loop-j-preserved c =
     let p : j < length found.chunk.numbers.now = omega arith in
     let w1 = get_or found.between.now.first_weight j (pos 0) in
     let w2 = get_or found.between.now.second_weight j (pos 0) in
-    let f1 : FitsSigned w32 w1 = short_fits w1 (c.requires.sized.first_low j p) (c.requires.sized.first_high j p) in
-    let f2 : FitsSigned w32 w2 = short_fits w2 (c.requires.sized.second_low j p) (c.requires.sized.second_high j p) in
+    let f1 : FitsSigned w32 w1 = first_fits c.requires.sized j p in
+    let f2 : FitsSigned w32 w2 = second_fits c.requires.sized j p in
     let did = simp to_z-of_z at c.book.ensures.value in
     record {
       value = did ∙ (λ i. booked (inv.value i) (entries_of (int_le w1 (pos 0)) (int_le w2 (pos 0)) (class_of (c.get.ensures i)) (c.as_shift.ensures i)))

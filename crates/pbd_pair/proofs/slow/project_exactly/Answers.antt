@@ -1,7 +1,6 @@
 use Rattle.std.proofs.Common.{ℕ, ap, sym, ◌∙◌, arith, Err}
-use Rattle.pbd_world.specs.Ledger.{ledger_of}
 use Rattle.pbd_pair.proofs.Chunks.{known_bonds}
-use Rattle.pbd_pair.proofs.Settled.{apart_asked, are_moves, entries_exact, first_exact, pairs_asked, second_exact, side_done, side_leaves, sized_asked}
+use Rattle.pbd_pair.proofs.Settled.{apart_asked, are_moves, exact_done, exact_leaves, pairs_asked, sized_asked}
 use Rattle.pbd_pair.proofs.slow.project_exactly.Goals as goal
 
 pub exact_each-requires-clause-known : goal.exact_each-requires-clause-known
@@ -22,26 +21,14 @@ move_each-requires g c =
 
 pub returns-in-Err-clause-outcome : goal.returns-in-Err-clause-outcome
 returns-in-Err-clause-outcome g c =
-    let can = c.requires.can in
-    let found = c.requires.found in
-    let exact = c.exact_each.ensures in
-    side_leaves can found (first_exact can found exact) (second_exact can found exact) c.in-Err.ensures.outcome ∙ ap (λ (n : ℕ). Err n) (sym c.left_at.ensures)
+    exact_leaves c.requires.can c.requires.found c.exact_each.ensures c.in-Err.ensures.outcome ∙ ap (λ (n : ℕ). Err n) (sym c.left_at.ensures)
 
 pub returns-clause-outcome : goal.returns-clause-outcome
 returns-clause-outcome g c =
-    let can = c.requires.can in
-    let found = c.requires.found in
-    let exact = c.exact_each.ensures in
-    let books = c.book_each.ensures.value ∙ entries_exact can found exact (ledger_of c.args.totals.now) in
-    (side_done can found (first_exact can found exact) (second_exact can found exact) c.in_default.ensures.outcome books).outcome
+    (exact_done c.requires.can c.requires.found c.exact_each.ensures c.in_default.ensures.outcome c.book_each.ensures.value).outcome
 
 pub returns-clause-sound : goal.returns-clause-sound
-returns-clause-sound g c =
-    let can = c.requires.can in
-    let found = c.requires.found in
-    let exact = c.exact_each.ensures in
-    let books = c.book_each.ensures.value ∙ entries_exact can found exact (ledger_of c.args.totals.now) in
-    record {
-      inside = (side_done can found (first_exact can found exact) (second_exact can found exact) c.in_default.ensures.outcome books).inside;
-      room = c.book_each.ensures.room;
-    }
+returns-clause-sound g c = record {
+  inside = (exact_done c.requires.can c.requires.found c.exact_each.ensures c.in_default.ensures.outcome c.book_each.ensures.value).inside;
+  room = c.book_each.ensures.room;
+}

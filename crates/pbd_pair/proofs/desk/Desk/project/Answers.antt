@@ -1,7 +1,7 @@
 use Rattle.std.proofs.Common.{ℕ, length, ap, sym, arith, subst}
 use Rattle.pbd_store.specs.Blocks.{blocks_of}
 use Rattle.pbd_store.specs.Pairs.{ArePairs, AreBetween}
-use Rattle.pbd_pair.proofs.Chunks.{are_pairs, known_bonds, sized, taken_first, taken_second}
+use Rattle.pbd_pair.proofs.Chunks.{are_pairs, found_by, known_bonds, sized, taken_first, taken_second}
 use Rattle.pbd_pair.proofs.desk.Desk.project.Goals as goal
 
 pub load-requires : goal.load-requires
@@ -30,39 +30,22 @@ try_moves-right-requires-clause-sized g c =
     let firsts = c.pairs-pairs.ensures.first in
     let seconds = c.pairs-pairs.ensures.second in
     let pairs = are_pairs can c.load.new.self c.pairs-pairs.result c.load.ensures firsts seconds in
-    let told = subst (λ
-    (n : ℕ). AreBetween n c.args.store.now.particles c.pairs-pairs.result.first.now c.pairs-pairs.result.second.now c.between.new.between) pairs.first_long c.between.ensures.value in
+    let told = subst (λ (n : ℕ). AreBetween n c.args.store.now.particles c.pairs-pairs.result.first.now c.pairs-pairs.result.second.now
+    c.between.new.between) pairs.first_long c.between.ensures.value in
     sized can (taken_first can c.load.new.self c.pairs-pairs.result c.load.ensures firsts seconds)
     (taken_second can c.load.new.self c.pairs-pairs.result c.load.ensures firsts seconds) told
+
+pub try_moves-right-requires-clause-known : goal.try_moves-right-requires-clause-known
+try_moves-right-requires-clause-known g c = known_bonds c.requires.can
 
 pub pull-requires : goal.pull-requires
 pull-requires g c =
     let can = c.requires.can in
     let firsts = c.pairs-pairs.ensures.first in
     let seconds = c.pairs-pairs.ensures.second in
-    let pairs = are_pairs can c.load.new.self c.pairs-pairs.result c.load.ensures firsts seconds in
-    let told = subst (λ
-    (n : ℕ). AreBetween n c.args.store.now.particles c.pairs-pairs.result.first.now c.pairs-pairs.result.second.now c.between.new.between) pairs.first_long c.between.ensures.value in (
-      omega arith,
-      (
-        c.requires.some_lanes,
-        (
-          c.requires.lanes,
-          (
-            can,
-            (
-              record {
-                first = taken_first can c.load.new.self c.pairs-pairs.result c.load.ensures firsts seconds;
-                second = taken_second can c.load.new.self c.pairs-pairs.result c.load.ensures firsts seconds;
-                pairs = pairs;
-                between = told;
-              },
-              c.try_moves-right.ensures c.if-right.true,
-            ),
-          ),
-        ),
-      ),
-    )
+    let told = c.between.ensures.value in
+    let near = c.try_moves-right.ensures.near c.if-right.true in
+    (omega arith, (c.requires.some_lanes, (c.requires.lanes, (can, (found_by _ can c.load.ensures firsts seconds told, near)))))
 
 pub returns-then-right-clause-cost : goal.returns-then-right-clause-cost
 returns-then-right-clause-cost g c =
@@ -74,26 +57,9 @@ project_exactly-requires g c =
     let can = c.requires.can in
     let firsts = c.pairs-pairs.ensures.first in
     let seconds = c.pairs-pairs.ensures.second in
-    let pairs = are_pairs can c.load.new.self c.pairs-pairs.result c.load.ensures firsts seconds in
-    let told = subst (λ
-    (n : ℕ). AreBetween n c.args.store.now.particles c.pairs-pairs.result.first.now c.pairs-pairs.result.second.now c.between.new.between) pairs.first_long c.between.ensures.value in (
-      omega arith,
-      (
-        c.requires.some_lanes,
-        (
-          c.requires.lanes,
-          (
-            can,
-            record {
-              first = taken_first can c.load.new.self c.pairs-pairs.result c.load.ensures firsts seconds;
-              second = taken_second can c.load.new.self c.pairs-pairs.result c.load.ensures firsts seconds;
-              pairs = pairs;
-              between = told;
-            },
-          ),
-        ),
-      ),
-    )
+    let told = c.between.ensures.value in
+    let tried = c.try_moves-right.ensures.tried in
+    (omega arith, (c.requires.some_lanes, (c.requires.lanes, (can, (found_by _ can c.load.ensures firsts seconds told, tried)))))
 
 pub returns-clause-cost : goal.returns-clause-cost
 returns-clause-cost g c =

@@ -1,5 +1,6 @@
 use Rattle.std.proofs.Common.{◌≡◌, ◌<◌, pos, ◌+◌, ◌*◌, ◌^◌, List, refl, ap, sym, ◌∙◌, add-one, arith, rules, subst, get_or, w32, FitsSigned}
 use Rattle.std.proofs.lemmas.Int.{to_z-of_z}
+use Rattle.pbd_num.specs.declared.Vec3.{Vec3}
 use Rattle.pbd_num.specs.declared.row.Row.{Row}
 use Rattle.pbd_num.specs.Rows.{vector_of}
 use Rattle.pbd_num.specs.Vectors.{Within, plus, opposite}
@@ -7,10 +8,10 @@ use Rattle.pbd_num.proofs.Ranges.{wider}
 use Rattle.pbd_store.specs.Pairs.{row_in}
 use Rattle.pbd_pair.specs.Moves.{moved_below}
 use Rattle.pbd_pair.specs.Chunks.{kept_by}
-use Rattle.pbd_pair.proofs.Chunks.{short_fits}
+use Rattle.pbd_pair.proofs.Chunks.{first_fits, second_fits}
 use Rattle.pbd_pair.proofs.Filling.{filled_none, filled_more}
-use Rattle.pbd_pair.proofs.Pinning.{moved_same}
-use Rattle.pbd_pair.proofs.Settled.{kept_moves, kept_size_by}
+use Rattle.pbd_pair.proofs.Pinning.{both_within, minus_turned, moved_same}
+use Rattle.pbd_pair.proofs.Settled.{kept_moves, kept_short}
 use Rattle.pbd_pair.proofs.near.NearMoves.mask.Goals as goal
 
 pub loop-j-init : goal.loop-j-init
@@ -23,25 +24,23 @@ loop-j-init c = record {
 }
 
 pub with_rows-pins-requires-clause-sum : goal.with_rows-pins-requires-clause-sum
-with_rows-pins-requires-clause-sum c = wider _ (c.loop-j.j * 2 ^ 17) (2 ^ 40) (omega (arith, c.requires.few)) c.loop-j.invariant.size
+with_rows-pins-requires-clause-sum c = wider _ (c.loop-j.j * 2 ^ 17) (2 ^ 24) (omega (arith, c.requires.few)) c.loop-j.invariant.size
 
 pub with_rows-pins-requires-clause-back : goal.with_rows-pins-requires-clause-back
 with_rows-pins-requires-clause-back c =
     let j = c.loop-j.j in
-    let p : j < c.args.count = omega arith in
     let w = get_or c.args.between.now.first_weight j (pos 0) in
-    let f : FitsSigned w32 w = short_fits w (c.requires.sized.first_low j p) (c.requires.sized.first_high j p) in
+    let f : FitsSigned w32 w = first_fits c.requires.sized j (omega arith) in
     let is = (simp to_z-of_z at c.kept-back.ensures) ∙ ap (λ (rows : List Row). kept_by w (row_in rows j)) c.loop-j.invariant.same in
-    subst (λ (r : Row). Within (2 ^ 16) (vector_of r)) (sym is) (kept_size_by w (row_in c.args.self.now.moves j) (c.requires.short j p))
+    kept_short w (row_in c.args.self.now.moves j) is (c.requires.short j (omega arith))
 
 pub with_rows-pins-requires-clause-forth : goal.with_rows-pins-requires-clause-forth
 with_rows-pins-requires-clause-forth c =
     let j = c.loop-j.j in
-    let p : j < c.args.count = omega arith in
     let w = get_or c.args.between.now.second_weight j (pos 0) in
-    let f : FitsSigned w32 w = short_fits w (c.requires.sized.second_low j p) (c.requires.sized.second_high j p) in
+    let f : FitsSigned w32 w = second_fits c.requires.sized j (omega arith) in
     let is = (simp to_z-of_z at c.kept-forth.ensures) ∙ ap (λ (rows : List Row). kept_by w (row_in rows j)) c.loop-j.invariant.same in
-    subst (λ (r : Row). Within (2 ^ 16) (vector_of r)) (sym is) (kept_size_by w (row_in c.args.self.now.moves j) (c.requires.short j p))
+    kept_short w (row_in c.args.self.now.moves j) is (c.requires.short j (omega arith))
 
 pub loop-j-preserved : goal.loop-j-preserved
 loop-j-preserved c =
@@ -50,19 +49,24 @@ loop-j-preserved c =
     let p : j < c.args.count = omega arith in
     let room : j < 128 = omega (arith, c.requires.few) in
     let between = c.args.between.now in
+    let moves = c.args.self.now.moves in
     let w1 = get_or between.first_weight j (pos 0) in
     let w2 = get_or between.second_weight j (pos 0) in
-    let f1 : FitsSigned w32 w1 = short_fits w1 (c.requires.sized.first_low j p) (c.requires.sized.first_high j p) in
-    let f2 : FitsSigned w32 w2 = short_fits w2 (c.requires.sized.second_low j p) (c.requires.sized.second_high j p) in
+    let f1 : FitsSigned w32 w1 = first_fits c.requires.sized j p in
+    let f2 : FitsSigned w32 w2 = second_fits c.requires.sized j p in
     let back = (simp to_z-of_z at c.kept-back.ensures) ∙ ap (λ (rows : List Row). kept_by w1 (row_in rows j)) inv.same in
     let forth = (simp to_z-of_z at c.kept-forth.ensures) ∙ ap (λ (rows : List Row). kept_by w2 (row_in rows j)) inv.same in
+    let back_size = kept_short w1 (row_in moves j) back (c.requires.short j p) in
+    let forth_size = kept_short w2 (row_in moves j) forth (c.requires.short j p) in
     record {
       same = inv.same;
       back = filled_more c.kept-back.result room back inv.back;
       forth = filled_more c.kept-forth.result room forth inv.forth;
-      sum = c.with_rows-pins.ensures.value ∙ (λ i. plus (inv.sum i) (plus (opposite (vector_of (back i))) (vector_of (forth i))))
-          ∙ ap (moved_below (kept_moves between.first_weight between.second_weight c.args.self.now.moves)) (sym (add-one j));
-      size = wider _ (j * 2 ^ 17 + 2 ^ 17) ((j + 1) * 2 ^ 17) (omega arith) (c.with_rows-pins.ensures.size (j * 2 ^ 17) inv.size);
+      sum = c.with_rows-pins.ensures ∙ ap (plus (vector_of c.loop-j.pins)) (minus_turned (vector_of c.kept-forth.result) (vector_of c.kept-back.result))
+          ∙ (λ i. plus (inv.sum i) (plus (opposite (vector_of (back i))) (vector_of (forth i))))
+          ∙ ap (moved_below (kept_moves between.first_weight between.second_weight moves)) (sym (add-one j));
+      size = subst (λ (v : Vec3). Within ((j + 1) * 2 ^ 17) v) (sym c.with_rows-pins.ensures) (wider _ (j * 2 ^ 17 + 2 ^ 17) ((j + 1) * 2 ^ 17)
+          (omega arith) (both_within _ (j * 2 ^ 17) inv.size back_size forth_size));
     }
 
 pub returns-clause-masked : goal.returns-clause-masked
@@ -77,9 +81,10 @@ pub returns-clause-sum : goal.returns-clause-sum
 returns-clause-sum c =
     let inv = c.loop-j.invariant in
     let whole : c.loop-j.j ≡ c.args.count = omega arith in
-    inv.sum ∙ ap (moved_below (kept_moves c.args.between.now.first_weight c.args.between.now.second_weight c.args.self.now.moves)) whole
+    c.vector.ensures ∙ inv.sum ∙ ap (moved_below (kept_moves c.args.between.now.first_weight c.args.between.now.second_weight c.args.self.now.moves)) whole
     ∙ moved_same _ _ c.args.count (λ k p. λ i. plus (opposite (vector_of (sym (inv.back.below k (omega arith)) i))) (vector_of (sym (inv.forth.below k
     (omega arith)) i)))
 
 pub returns-clause-size : goal.returns-clause-size
-returns-clause-size c = wider _ (c.loop-j.j * 2 ^ 17) (c.args.count * 2 ^ 17) (omega arith) c.loop-j.invariant.size
+returns-clause-size c = subst (λ (v : Vec3). Within (c.args.count * 2 ^ 17) v) (sym c.vector.ensures) (wider _ (c.loop-j.j * 2 ^ 17)
+    (c.args.count * 2 ^ 17) (omega arith) c.loop-j.invariant.size)

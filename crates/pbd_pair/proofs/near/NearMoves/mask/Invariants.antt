@@ -1,6 +1,6 @@
 use Rattle.std.proofs.Common.{◌≡◌, ℕ, ◌*◌, ◌^◌}
 use Rattle.pbd_num.specs.declared.row.Row.{Row}
-use Rattle.pbd_num.specs.Rows.{no_row}
+use Rattle.pbd_num.specs.Rows.{no_row, vector_of}
 use Rattle.pbd_num.specs.Vectors.{Within}
 use Rattle.pbd_store.specs.Pairs.{row_in}
 use Rattle.pbd_pair.specs.Moves.{moved_below}
@@ -14,6 +14,6 @@ invariant-loop-j l = record {
   same : l.self.moves ≡ l.initial.self.moves;
   back : Filled no_row (λ (i : ℕ) (r : Row). r ≡ kept_by (number_in l.between.first_weight i) (row_in l.initial.self.moves i)) l.j l.self.back;
   forth : Filled no_row (λ (i : ℕ) (r : Row). r ≡ kept_by (number_in l.between.second_weight i) (row_in l.initial.self.moves i)) l.j l.self.forth;
-  sum : l.pins ≡ moved_below (kept_moves l.between.first_weight l.between.second_weight l.initial.self.moves) l.j;
-  size : Within (l.j * 2 ^ 17) l.pins;
+  sum : vector_of l.pins ≡ moved_below (kept_moves l.between.first_weight l.between.second_weight l.initial.self.moves) l.j;
+  size : Within (l.j * 2 ^ 17) (vector_of l.pins);
 }

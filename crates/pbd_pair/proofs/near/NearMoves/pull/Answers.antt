@@ -2,63 +2,35 @@ use Rattle.std.proofs.Common.{ℕ, length, ap, sym, ◌∙◌, arith, Err}
 use Rattle.pbd_world.specs.Ledger.{ledger_of, added}
 use Rattle.pbd_world.specs.declared.totals.Class.TheVariants as classes
 use Rattle.pbd_world.proofs.Rooms.{room_at}
-use Rattle.pbd_pair.proofs.Settled.{apart_asked, back_short, first_near, forth_short, free_masked, near_books, nothing_booked, pairs_asked, second_near, side_done, side_leaves, sized_asked}
+use Rattle.pbd_pair.proofs.Settled.{apart_asked, back_short, forth_short, free_masked, near_done, near_leaves, nothing_booked, pairs_asked, sized_asked}
 use Rattle.pbd_pair.proofs.near.NearMoves.pull.Goals as goal
 
 pub pull-requires : goal.pull-requires
 pull-requires g c =
     let can = c.requires.can in
     let found = c.requires.found in
-    let near = c.requires.near in
-    let masked = free_masked c.args.found.now c.args.self.now c.requires.near.long c.requires.near.first c.requires.near.second c.if-self.true in (
-      omega arith,
-      (
-        c.requires.some_lanes,
-        (
-          c.requires.lanes,
-          (
-            pairs_asked can found,
-            (
-              apart_asked can found,
-              (
-                can.inside,
-                (back_short can found near masked, forth_short can found near masked),
-              ),
-            ),
-          ),
-        ),
-      ),
-    )
+    let masked = free_masked c.requires.near c.if-self.true in
+    let back = back_short can found c.requires.near masked in
+    let forth = forth_short can found c.requires.near masked in
+    (omega arith, (c.requires.some_lanes, (c.requires.lanes, (pairs_asked can found, (apart_asked can found, (can.inside, (back, forth)))))))
 
 pub returns-in-Err-clause-outcome : goal.returns-in-Err-clause-outcome
 returns-in-Err-clause-outcome g c =
-    let can = c.requires.can in
-    let found = c.requires.found in
-    let near = c.requires.near in
-    let masked = free_masked c.args.found.now c.args.self.now c.requires.near.long c.requires.near.first c.requires.near.second c.if-self.true in
-    side_leaves can found (first_near can found near masked) (second_near can found near masked) c.in-Err.ensures.outcome ∙ ap (λ (n : ℕ). Err n)
-    (sym c.left_at.ensures)
+    let masked = free_masked c.requires.near c.if-self.true in
+    near_leaves c.requires.can c.requires.found c.requires.near masked c.in-Err.ensures.outcome ∙ ap (λ (n : ℕ). Err n) (sym c.left_at.ensures)
 
 pub returns-then-self-clause-outcome : goal.returns-then-self-clause-outcome
 returns-then-self-clause-outcome g c =
-    let can = c.requires.can in
-    let found = c.requires.found in
-    let near = c.requires.near in
-    let masked = free_masked c.args.found.now c.args.self.now c.requires.near.long c.requires.near.first c.requires.near.second c.if-self.true in
-    let u = ledger_of c.args.totals.now in
-    let books = nothing_booked u c.args.self.now.moves (length c.args.found.now.chunk.numbers.now) ∙ near_books can found near masked u in
-    (side_done can found (first_near can found near masked) (second_near can found near masked) c.in_default.ensures.outcome books).outcome
+    let masked = free_masked c.requires.near c.if-self.true in
+    let books = nothing_booked (ledger_of c.args.totals.now) c.args.self.now.moves (length c.args.found.now.chunk.numbers.now) in
+    (near_done c.requires.can c.requires.found c.requires.near masked c.in_default.ensures.outcome books).outcome
 
 pub returns-then-self-clause-sound : goal.returns-then-self-clause-sound
 returns-then-self-clause-sound g c =
-    let can = c.requires.can in
-    let found = c.requires.found in
-    let near = c.requires.near in
-    let masked = free_masked c.args.found.now c.args.self.now c.requires.near.long c.requires.near.first c.requires.near.second c.if-self.true in
-    let u = ledger_of c.args.totals.now in
-    let books = nothing_booked u c.args.self.now.moves (length c.args.found.now.chunk.numbers.now) ∙ near_books can found near masked u in
+    let masked = free_masked c.requires.near c.if-self.true in
+    let books = nothing_booked (ledger_of c.args.totals.now) c.args.self.now.moves (length c.args.found.now.chunk.numbers.now) in
     record {
-      inside = (side_done can found (first_near can found near masked) (second_near can found near masked) c.in_default.ensures.outcome books).inside;
+      inside = (near_done c.requires.can c.requires.found c.requires.near masked c.in_default.ensures.outcome books).inside;
       room = λ n h. room_at _ (omega arith) h;
     }
 
@@ -69,55 +41,25 @@ pub pull-requires-2 : goal.pull-requires-2
 pull-requires-2 g c =
     let can = c.requires.can in
     let found = c.requires.found in
-    let near = c.requires.near in
-    let masked = c.mask-pins.ensures.masked in (
-      omega arith,
-      (
-        c.requires.some_lanes,
-        (
-          c.requires.lanes,
-          (
-            pairs_asked can found,
-            (
-              apart_asked can found,
-              (
-                can.inside,
-                (back_short can found near masked, forth_short can found near masked),
-              ),
-            ),
-          ),
-        ),
-      ),
-    )
+    let back = back_short can found c.requires.near c.mask-pins.ensures.masked in
+    let forth = forth_short can found c.requires.near c.mask-pins.ensures.masked in
+    (omega arith, (c.requires.some_lanes, (c.requires.lanes, (pairs_asked can found, (apart_asked can found, (can.inside, (back, forth)))))))
 
 pub returns-in-Err-pull-clause-outcome : goal.returns-in-Err-pull-clause-outcome
 returns-in-Err-pull-clause-outcome g c =
-    let can = c.requires.can in
-    let found = c.requires.found in
-    let near = c.requires.near in
     let masked = c.mask-pins.ensures.masked in
-    side_leaves can found (first_near can found near masked) (second_near can found near masked) c.in-Err-pull.ensures.outcome ∙ ap (λ (n : ℕ). Err n)
+    near_leaves c.requires.can c.requires.found c.requires.near masked c.in-Err-pull.ensures.outcome ∙ ap (λ (n : ℕ). Err n)
     (sym c.left_at-in-Err-pull.ensures)
 
 pub returns-clause-outcome : goal.returns-clause-outcome
 returns-clause-outcome g c =
-    let can = c.requires.can in
-    let found = c.requires.found in
-    let near = c.requires.near in
-    let masked = c.mask-pins.ensures.masked in
-    let u = ledger_of c.args.totals.now in
-    let books = c.book_pins.ensures.value ∙ ap (added u classes.Pin) c.mask-pins.ensures.sum ∙ near_books can found near masked u in
-    (side_done can found (first_near can found near masked) (second_near can found near masked) c.in_default-pull.ensures.outcome books).outcome
+    let books = c.book_pins.ensures.value ∙ ap (added (ledger_of c.args.totals.now) classes.Pin) c.mask-pins.ensures.sum in
+    (near_done c.requires.can c.requires.found c.requires.near c.mask-pins.ensures.masked c.in_default-pull.ensures.outcome books).outcome
 
 pub returns-clause-sound : goal.returns-clause-sound
 returns-clause-sound g c =
-    let can = c.requires.can in
-    let found = c.requires.found in
-    let near = c.requires.near in
-    let masked = c.mask-pins.ensures.masked in
-    let u = ledger_of c.args.totals.now in
-    let books = c.book_pins.ensures.value ∙ ap (added u classes.Pin) c.mask-pins.ensures.sum ∙ near_books can found near masked u in
+    let books = c.book_pins.ensures.value ∙ ap (added (ledger_of c.args.totals.now) classes.Pin) c.mask-pins.ensures.sum in
     record {
-      inside = (side_done can found (first_near can found near masked) (second_near can found near masked) c.in_default-pull.ensures.outcome books).inside;
+      inside = (near_done c.requires.can c.requires.found c.requires.near c.mask-pins.ensures.masked c.in_default-pull.ensures.outcome books).inside;
       room = λ n h. room_at _ (omega arith) (c.book_pins.ensures.room n _ c.mask-pins.ensures.size h);
     }

@@ -2,7 +2,7 @@ use Rattle.std.proofs.Common.{◌<◌, pos, arith, rules, get_or, w32, FitsSigne
 use Rattle.std.proofs.lemmas.Int.{to_z-of_z}
 use Rattle.std.proofs.lemmas.Bool.{and_parts}
 use Rattle.pbd_num.proofs.Tests.{less}
-use Rattle.pbd_pair.proofs.Chunks.{short_fits, stiff_fits}
+use Rattle.pbd_pair.proofs.Chunks.{first_fits, second_fits, stiff_fits}
 use Rattle.pbd_pair.proofs.Filling.{filled_none, filled_more}
 use Rattle.pbd_pair.proofs.near.NearMoves.put_factors.Goals as goal
 
@@ -20,13 +20,13 @@ loop-j-preserved c =
     let p : j < c.args.count = omega arith in
     let room : j < 128 = omega (arith, c.requires.few) in
     let between = c.args.between.now in
-    let f1 : FitsSigned w32 (get_or between.first_weight j (pos 0)) = short_fits _ (c.requires.sized.first_low j p) (c.requires.sized.first_high j p) in
-    let f2 : FitsSigned w32 (get_or between.second_weight j (pos 0)) = short_fits _ (c.requires.sized.second_low j p) (c.requires.sized.second_high j p) in
+    let f1 : FitsSigned w32 (get_or between.first_weight j (pos 0)) = first_fits c.requires.sized j p in
+    let f2 : FitsSigned w32 (get_or between.second_weight j (pos 0)) = second_fits c.requires.sized j p in
     let f3 : FitsSigned w32 (get_or c.args.columns.now.k j (pos 0)) = stiff_fits _ (c.requires.low j p) (c.requires.high j p) in
-    let f4 : FitsSigned w32 c.factor_of.result = record { sfits = c.factor_of.type_inv } in
-    let is = simp to_z-of_z at c.factor_of.ensures in
+    let f4 : FitsSigned w32 c.factor_of-factor.result = record { sfits = c.factor_of-factor.type_inv } in
+    let is = simp to_z-of_z at c.factor_of-factor.ensures in
     record {
-      each = simp to_z-of_z (filled_more c.factor_of.result room is inv.each);
+      each = simp to_z-of_z (filled_more c.factor_of-factor.result room is inv.each);
       first = λ t. let all = and_parts _ _ (simp to_z-of_z at t) in let one = and_parts _ _ all.0 in below_more _ _ (inv.first one.0) (less _ _ one.1);
       second = λ t. let all = and_parts _ _ (simp to_z-of_z at t) in let one = and_parts _ _ all.0 in below_more _ _ (inv.second one.0) (less _ _ all.1);
     }

@@ -10,6 +10,8 @@ index-requires g c = omega (arith, c.requires, count_is c.self.invariant.padded 
 
 pub returns : goal.returns
 returns g c =
-    let read = c.index.ensures ∙ any_default c.self.inside.effective.items c.args.i c.index.result.now 0 (omega (arith, c.requires, count_is c.self.invariant.padded c.self.view_is, c.self.invariant.long)) in
+    let read = c.index.ensures ∙ any_default c.self.inside.effective.items c.args.i c.index.result.now 0
+    (omega (arith, c.requires, count_is c.self.invariant.padded c.self.view_is, c.self.invariant.long)) in
     let f : FitsSigned w32 c.from.result = search rules in
-    simp to_z-of_z (c.from.ensures ∙ ap (λ (w : ℕ). pos w) (read ∙ c.self.invariant.weighs c.args.i ∙ ap (λ (p : Particle). effective_weight p) (sym (row_is c.self.invariant.padded c.self.view_is c.args.i))))
+    simp to_z-of_z (c.from.ensures ∙ ap (λ (w : ℕ). pos w) (read ∙ c.self.invariant.weighs c.args.i
+    ∙ ap (λ (p : Particle). effective_weight p) (sym (row_is c.self.invariant.padded c.self.view_is c.args.i))))

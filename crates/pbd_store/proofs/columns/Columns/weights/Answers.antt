@@ -6,7 +6,15 @@ use Rattle.pbd_store.proofs.Listing.{count_is, row_is}
 use Rattle.pbd_store.proofs.columns.Columns.weights.Goals as goal
 
 pub overflow_add-start : goal.overflow_add-start
-overflow_add-start g c = record { fits = omega (arith, c.requires.start, c.requires.lanes, count_is c.self.invariant.padded c.self.view_is, c.self.invariant.padded.size) }
+overflow_add-start g c = record {
+  fits = omega (
+    arith,
+    c.requires.start,
+    c.requires.lanes,
+    count_is c.self.invariant.padded c.self.view_is,
+    c.self.invariant.padded.size,
+  );
+}
 
 pub weight_at-requires : goal.weight_at-requires
 weight_at-requires g c = omega (arith, c.requires.start, count_is c.self.invariant.padded c.self.view_is, c.self.invariant.padded.weights)
@@ -17,4 +25,5 @@ loop-j-preserved g c =
     filled_more _ c.loop-j.invariant (omega arith) (simp to_z-of_z (c.weight_at.ensures ∙ ap (λ (xs : List ℕ). pos (get_or xs (c.args.start + c.loop-j.j) 0)) c.deref.ensures.value))
 
 pub returns : goal.returns
-returns g c = c.from_array.ensures ∙ filled_all c.loop-j.j (omega arith) c.loop-j.invariant ∙ (λ t. lanes_of g.row.L (λ (j : ℕ). pos (sym (row_is c.self.invariant.padded c.self.view_is (c.args.start + j)) t).weight))
+returns g c = c.from_array.ensures ∙ filled_all c.loop-j.j (omega arith) c.loop-j.invariant
+    ∙ (λ t. lanes_of g.row.L (λ (j : ℕ). pos (sym (row_is c.self.invariant.padded c.self.view_is (c.args.start + j)) t).weight))

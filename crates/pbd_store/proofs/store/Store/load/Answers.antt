@@ -24,10 +24,31 @@ pub returns-clause-cost : goal.returns-clause-cost
 returns-clause-cost g c = c.tick.ensures
 
 pub at_lanes-requires : goal.at_lanes-requires
-at_lanes-requires g c = (omega (arith, c.requires.lanes), (omega (arith, c.requires.lanes), (omega (arith, c.start_of-start.ensures.within, c.len.ensures.value, ap (λ (s : Stored). length s.particles) c.self.view_is), c.requires.lanes)))
+at_lanes-requires g c = (
+  omega (arith, c.requires.lanes),
+  (
+    omega (arith, c.requires.lanes),
+    (omega (arith, c.start_of-start.ensures.within, c.len.ensures.value, ap (λ (s : Stored). length s.particles) c.self.view_is), c.requires.lanes),
+  ),
+)
 
 pub before_lanes-requires : goal.before_lanes-requires
-before_lanes-requires g c = (omega (arith, c.requires.lanes), (omega (arith, c.requires.lanes), (omega (arith, c.start_of-start.ensures.within, c.len.ensures.value, ap (λ (s : Stored). length s.particles) c.self.view_is), c.requires.lanes)))
+before_lanes-requires g c = (
+  omega (arith, c.requires.lanes),
+  (
+    omega (arith, c.requires.lanes),
+    (
+      omega (
+        arith,
+        c.start_of-start.ensures.within,
+        c.len.ensures.value,
+        ap (λ (s : Stored). length s.particles)
+            c.self.view_is,
+      ),
+      c.requires.lanes,
+    ),
+  ),
+)
 
 pub weights-requires : goal.weights-requires
 weights-requires g c = (omega (arith, c.requires.lanes), (omega (arith, c.requires.lanes), (omega (arith, c.start_of-start.ensures.within, c.len.ensures.value, ap (λ (s : Stored). length s.particles) c.self.view_is), c.requires.lanes)))
@@ -39,22 +60,28 @@ pub filled-requires : goal.filled-requires
 filled-requires g c = (omega (arith, c.requires.lanes), (omega (arith, c.requires.lanes), (omega (arith, c.start_of-start.ensures.within, c.len.ensures.value, ap (λ (s : Stored). length s.particles) c.self.view_is), c.requires.lanes)))
 
 pub returns-clause-at_x : goal.returns-clause-at_x
-returns-clause-at_x g c = c.at_lanes.ensures.x ∙ from g.row.L (λ p. p.at.x) c.args.block c.start_of-start.ensures.value (ap (λ (s : Stored). s.particles) c.self.view_is)
+returns-clause-at_x g c = c.at_lanes.ensures.x ∙ from g.row.L (λ p. p.at.x) c.args.block c.start_of-start.ensures.value
+    (ap (λ (s : Stored). s.particles) c.self.view_is)
 
 pub returns-clause-at_y : goal.returns-clause-at_y
-returns-clause-at_y g c = c.at_lanes.ensures.y ∙ from g.row.L (λ p. p.at.y) c.args.block c.start_of-start.ensures.value (ap (λ (s : Stored). s.particles) c.self.view_is)
+returns-clause-at_y g c = c.at_lanes.ensures.y ∙ from g.row.L (λ p. p.at.y) c.args.block c.start_of-start.ensures.value
+    (ap (λ (s : Stored). s.particles) c.self.view_is)
 
 pub returns-clause-at_z : goal.returns-clause-at_z
-returns-clause-at_z g c = c.at_lanes.ensures.z ∙ from g.row.L (λ p. p.at.z) c.args.block c.start_of-start.ensures.value (ap (λ (s : Stored). s.particles) c.self.view_is)
+returns-clause-at_z g c = c.at_lanes.ensures.z ∙ from g.row.L (λ p. p.at.z) c.args.block c.start_of-start.ensures.value
+    (ap (λ (s : Stored). s.particles) c.self.view_is)
 
 pub returns-clause-before_x : goal.returns-clause-before_x
-returns-clause-before_x g c = c.before_lanes.ensures.x ∙ from g.row.L (λ p. p.before.x) c.args.block c.start_of-start.ensures.value (ap (λ (s : Stored). s.particles) c.self.view_is)
+returns-clause-before_x g c = c.before_lanes.ensures.x ∙ from g.row.L (λ p. p.before.x) c.args.block c.start_of-start.ensures.value
+    (ap (λ (s : Stored). s.particles) c.self.view_is)
 
 pub returns-clause-before_y : goal.returns-clause-before_y
-returns-clause-before_y g c = c.before_lanes.ensures.y ∙ from g.row.L (λ p. p.before.y) c.args.block c.start_of-start.ensures.value (ap (λ (s : Stored). s.particles) c.self.view_is)
+returns-clause-before_y g c = c.before_lanes.ensures.y ∙ from g.row.L (λ p. p.before.y) c.args.block c.start_of-start.ensures.value
+    (ap (λ (s : Stored). s.particles) c.self.view_is)
 
 pub returns-clause-before_z : goal.returns-clause-before_z
-returns-clause-before_z g c = c.before_lanes.ensures.z ∙ from g.row.L (λ p. p.before.z) c.args.block c.start_of-start.ensures.value (ap (λ (s : Stored). s.particles) c.self.view_is)
+returns-clause-before_z g c = c.before_lanes.ensures.z ∙ from g.row.L (λ p. p.before.z) c.args.block c.start_of-start.ensures.value
+    (ap (λ (s : Stored). s.particles) c.self.view_is)
 
 pub returns-clause-weight : goal.returns-clause-weight
 returns-clause-weight g c = c.weights.ensures ∙ from g.row.L (λ p. pos p.weight) c.args.block c.start_of-start.ensures.value (ap (λ (s : Stored). s.particles) c.self.view_is)

@@ -10,12 +10,14 @@ use Rattle.pbd_store.proofs.store.Store.move_pair.Goals as goal
 pub moved-goals-requires-clause-first : goal.moved-goals-requires-clause-first
 moved-goals-requires-clause-first g c =
     let limit = ap (λ (s : Stored). unsigned_abs s.limit) c.self.view_is in
-    wider _ (unsigned_abs c.self.inside.limit) (2 ^ 29) (limit_size c.self.inside.limit c.self.invariant).1 (within_at limit c.ends_of-ends.ensures.first c.requires.first_place)
+    wider _ (unsigned_abs c.self.inside.limit) (2 ^ 29) (limit_size c.self.inside.limit c.self.invariant).1
+    (within_at limit c.ends_of-ends.ensures.first c.requires.first_place)
 
 pub moved-goals-requires-clause-second : goal.moved-goals-requires-clause-second
 moved-goals-requires-clause-second g c =
     let limit = ap (λ (s : Stored). unsigned_abs s.limit) c.self.view_is in
-    wider _ (unsigned_abs c.self.inside.limit) (2 ^ 29) (limit_size c.self.inside.limit c.self.invariant).1 (within_at limit c.ends_of-ends.ensures.second c.requires.second_place)
+    wider _ (unsigned_abs c.self.inside.limit) (2 ^ 29) (limit_size c.self.inside.limit c.self.invariant).1
+    (within_at limit c.ends_of-ends.ensures.second c.requires.second_place)
 
 pub both_within-requires-clause-low : goal.both_within-requires-clause-low
 both_within-requires-clause-low g c =

@@ -1,0 +1,47 @@
+use Rattle.std.proofs.Common.{rules, w32, w64, FitsSigned}
+use Rattle.std.proofs.lemmas.Int.{to_z-of_z}
+use Rattle.std.proofs.lemmas.Bool.{and_parts}
+use Rattle.pbd_num.proofs.Ends.{same_axes}
+use Rattle.pbd_pair.proofs.wide.row_of.Goals as goal
+
+pub returns-clause-right : goal.returns-clause-right
+returns-clause-right c =
+    let ff : FitsSigned w32 c.flag_of.result = record { sfits = c.flag_of.type_inv } in
+    let right = c.flag_of.ensures.right in
+    simp to_z-of_z (λ f. (and_parts _ _ (right f)).0)
+
+pub returns-clause-value : goal.returns-clause-value
+returns-clause-value c =
+    let ff : FitsSigned w32 c.flag_of.result = record { sfits = c.flag_of.type_inv } in
+    let fx : FitsSigned w32 c.short_axis-x.result = record { sfits = c.short_axis-x.type_inv } in
+    let fy : FitsSigned w32 c.short_axis-y.result = record { sfits = c.short_axis-y.type_inv } in
+    let fz : FitsSigned w32 c.short_axis-z.result = record { sfits = c.short_axis-z.type_inv } in
+    let ax : FitsSigned w64 c.args.axes.x = search rules in
+    let ay : FitsSigned w64 c.args.axes.y = search rules in
+    let az : FitsSigned w64 c.args.axes.z = search rules in
+    let x = simp to_z-of_z at c.short_axis-x.ensures in
+    let y = simp to_z-of_z at c.short_axis-y.ensures in
+    let z = simp to_z-of_z at c.short_axis-z.ensures in
+    let sx = simp to_z-of_z at c.is_short.ensures in
+    let sy = simp to_z-of_z at c.is_short-2.ensures in
+    let sz = simp to_z-of_z at c.is_short-3.ensures in
+    let right = c.flag_of.ensures.right in
+    simp to_z-of_z (λ f.
+    let short = (and_parts _ _ (right f)).1 in
+    let two = (and_parts _ _ short).0 in
+    same_axes _ _ (x (sx (and_parts _ _ two).0)) (y (sy (and_parts _ _ two).1)) (z (sz (and_parts _ _ short).1)))
+
+pub returns-clause-size : goal.returns-clause-size
+returns-clause-size c =
+    let ff : FitsSigned w32 c.flag_of.result = record { sfits = c.flag_of.type_inv } in
+    let fx : FitsSigned w32 c.short_axis-x.result = record { sfits = c.short_axis-x.type_inv } in
+    let fy : FitsSigned w32 c.short_axis-y.result = record { sfits = c.short_axis-y.type_inv } in
+    let fz : FitsSigned w32 c.short_axis-z.result = record { sfits = c.short_axis-z.type_inv } in
+    let sx = simp to_z-of_z at c.is_short.ensures in
+    let sy = simp to_z-of_z at c.is_short-2.ensures in
+    let sz = simp to_z-of_z at c.is_short-3.ensures in
+    let right = c.flag_of.ensures.right in
+    simp to_z-of_z (λ f.
+    let short = (and_parts _ _ (right f)).1 in
+    let two = (and_parts _ _ short).0 in
+    record { x = sx (and_parts _ _ two).0; y = sy (and_parts _ _ two).1; z = sz (and_parts _ _ short).1 })
