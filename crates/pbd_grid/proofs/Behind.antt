@@ -13,6 +13,7 @@ use Rattle.pbd_world.specs.Room.{Roomed}
 use Rattle.pbd_grid.specs.declared.lookup.Cell.{Cell}
 use Rattle.pbd_grid.specs.Blocks.{AreLaid, IsFalling, count, cube_of, cube_at, cell_at, slot_of}
 use Rattle.pbd_grid.proofs.Cells.{count-filter, root_below}
+use Rattle.pbd_grid.proofs.Counting.{AreBehind, AreBehind-none, AreBehind-more}
 
 -- ---- the filling of the chains
 count_none : (q : ℕ) (xs : List ℕ) → count q xs ≡ 0 → is_in q xs ≡ false
@@ -35,6 +36,7 @@ pub record AreLinked (side : ℕ) (places : List Vec3) (n : ℕ) (old now : Link
   pub once : (q : ℕ) → q < i → count q (chain_at now.chains (slot_of n (cell_at side places q))) ≡ 1
   pub none : (q c : ℕ) → i ≤ q → count q (chain_at now.chains c) ≡ 0
   pub falling : (c : ℕ) → IsFalling i (chain_at now.chains c)
+  pub behind : AreBehind (λ q. slot_of n (cell_at side places q)) now.chains n i
 
 falling_more : (i : ℕ) (xs : List ℕ) → IsFalling i xs → IsFalling (i + 1) xs
 falling_more i [] h = tt
@@ -64,7 +66,7 @@ length-emptied [] = refl
 length-emptied (xs ∷ xss) = ap suc (length-emptied xss)
 
 pub AreLinked-none : (side : ℕ) (places : List Vec3) (n : ℕ) (old now : Linked) → length old.chains ≡ n → now ≡ record old { chains = map (λ _. []) old.chains } → AreLinked side places n old now 0
-AreLinked-none side places n old now size e = rw e (record { items = refl; count_of = length-emptied old.chains ∙ size; once = λ q l. absurd (omega arith); none = λ q c l. empty_count old.chains q c; falling = empty_falling old.chains 0 })
+AreLinked-none side places n old now size e = rw e (record { items = refl; count_of = length-emptied old.chains ∙ size; once = λ q l. absurd (omega arith); none = λ q c l. empty_count old.chains q c; falling = empty_falling old.chains 0; behind = AreBehind-none (λ q. slot_of n (cell_at side places q)) old.chains n })
 
 module _ {side : ℕ} {places : List Vec3} {n : ℕ} {old now : Linked} (i : ℕ) (h : AreLinked side places n old now i) where
   pub next_free : is_linked now.chains i ≡ false
@@ -83,6 +85,8 @@ module _ {side : ℕ} {places : List Vec3} {n : ℕ} {old now : Linked} (i : ℕ
         ];
         none = λ q p l. more q p ∙ rw (ne_eqb i q (λ s. absurd (omega arith))) (skip (eqb c p) (count q (chain_at now.chains p)) ∙ h.none q p (omega arith));
         falling = λ p. subst (λ (l : Linked). IsFalling (i + 1) (chain_at l.chains p)) (sym e) (falling_linked i now.chains c (omega (arith, h.count_of, lc)) h.falling p);
+        behind = subst (λ (l : Linked). AreBehind (λ q. slot_of n (cell_at side places q)) l.chains n (i + 1)) (sym e)
+            (AreBehind-more (λ q. slot_of n (cell_at side places q)) now.chains n i c (omega (arith, h.count_of, lc)) is h.behind);
       }
     where
       skip : (b : Bool) (m : ℕ) → cond (b && false) 1 0 + m ≡ m
@@ -117,6 +121,7 @@ are_laid side places n old now start cubes i low high few inside some h is e = r
   counted = h.count_of;
   once = λ q l. ap (λ (m : ℕ). count q (chain_at now.chains (slot_of m (cell_at side places q)))) h.count_of ∙ h.once q (omega (arith, l, e));
   falling = λ c. subst (λ (m : ℕ). IsFalling m (chain_at now.chains c)) e (h.falling c);
+  shared = λ j s l. subst (AreBehind (λ q. slot_of n (cell_at side places q)) now.chains n) e h.behind j s l;
 }
 
 -- ---- near particles are in cells next to each other

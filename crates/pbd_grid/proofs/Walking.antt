@@ -63,7 +63,7 @@ module _ (test : ℕ → Bool) (i : ℕ) (fails : (x : ℕ) → x ≤ i → test
   none_behind high [] le h = refl
   none_behind high (x ∷ xs) le h = rw (fails x (omega (arith, le, h.0))) (none_behind x xs (omega (arith, le, h.0)) h.1)
 
-  all_before : (high : ℕ) (xs : List ℕ) (k j : ℕ) → IsFalling high xs → slice_get xs k ≡ Some j → j ≤ i → filter test (take k xs) ≡ filter test xs
+  pub all_before : (high : ℕ) (xs : List ℕ) (k j : ℕ) → IsFalling high xs → slice_get xs k ≡ Some j → j ≤ i → filter test (take k xs) ≡ filter test xs
   all_before high [] k j h e le = absurd (let no : ⊥ = cc in no)
   all_before high (x ∷ xs) zero j h e le = let s : x ≡ j = cc in sym (none_behind (x + 1) (x ∷ xs) (omega (arith, s, le)) (omega arith, h.1))
   all_before high (x ∷ xs) (suc k) j h e le = ap (λ (ys : List ℕ). cond (test x) (x ∷ ys) ys) (all_before x xs k j h.1 e le)

@@ -71,6 +71,11 @@ all_picked chains places t test i cells = flat_map (picked chains places t test 
 abbrev pub block_part : Cell → ℕ → List Cell
 block_part corner k = map (λ n. beside corner (n % 2) (n / 2 % 2) (n / 4)) (range_with_len 0 k)
 
+-- those behind i whose cells have chain s, of so many
+abbrev pub sharing : ℕ → ℕ → List Vec3 → ℕ → ℕ → List ℕ
+sharing count t places i s =
+    filter (λ j. slot_of count (cell_at t places j) == s) (range_with_len (i + 1) (length places - (i + 1)))
+
 -- each particle stands once in the chain for its cell
 abbrev pub AreOnce : List (List ℕ) → ℕ → List Vec3 → Type 0
 AreOnce chains t places = (q : ℕ) → q < length places → count q (chain_at chains (slot_of (length chains) (cell_at t places q))) ≡ 1
@@ -91,6 +96,7 @@ pub record AreLaid (chains : List (List ℕ)) (count : ℕ) (cubes : List Cell) 
   pub counted : length chains ≡ count
   pub once : AreOnce chains t places
   pub falling : (c : ℕ) → IsFalling (length places) (chain_at chains c)
+  pub shared : (i s : ℕ) → s < count → length (filter (nat_lt i) (chain_at chains s)) ≡ length (sharing count t places i s)
 
 -- the numbers behind i that are kept with it
 abbrev pub kept_row : List Vec3 → ℕ → (ℕ → ℕ → Bool) → ℕ → List ℕ

@@ -3,6 +3,7 @@ use Rattle.std.specs.Prelude.{ℕ, Bool, List}
 use Rattle.pbd_grid.specs.declared.lookup.Cell.{Cell}
 use Rattle.pbd_grid.specs.declared.lookup.Crowd.{Crowd}
 use Rattle.pbd_grid.specs.Blocks.{AreLaid, picked, all_picked, block_part}
+use Rattle.pbd_grid.specs.Looks.{looks_in, looks_round}
 
 -- the chains, the cubes and the side are those of the places
 abbrev pub IsLaid : Crowd → Type 0
@@ -15,3 +16,11 @@ picked_in crowd test i cell = picked crowd.chains.now.chains crowd.places.now cr
 -- what the look-ups of the eight cells from a corner on find
 abbrev pub picked_round : Crowd → (ℕ → ℕ → Bool) → ℕ → Cell → List ℕ
 picked_round crowd test i from = all_picked crowd.chains.now.chains crowd.places.now crowd.side test i (block_part from 8)
+
+-- how often the chains are read for a cell
+abbrev pub looked_in : Crowd → ℕ → Cell → ℕ
+looked_in crowd i cell = looks_in crowd.count crowd.side crowd.places.now i cell
+
+-- how often for the eight cells from a corner on
+abbrev pub looked_round : Crowd → ℕ → Cell → ℕ
+looked_round crowd i from = looks_round crowd.count crowd.side crowd.places.now i from 8

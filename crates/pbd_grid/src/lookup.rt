@@ -3,7 +3,7 @@ ghost use Rattle.std.specs.Prelude.{◌≡◌, ◌+◌, ◌/◌, ◌%◌, ◌<�
 ghost use Rattle.pbd_num.specs.Vectors.{Within};
 ghost use Rattle.pbd_grid.specs.Blocks.{Below, axis_cell, cube_of, home_of, corner_of, beside, cell_at, same_cell, slot_of};
 ghost use Rattle.pbd_grid.specs.Blocks.{keep, picked_one};
-ghost use Rattle.pbd_grid.specs.Crowds.{IsLaid, picked_in, picked_round};
+ghost use Rattle.pbd_grid.specs.Crowds.{IsLaid, picked_in, picked_round, looked_in, looked_round};
 
 use crate::near::near;
 use crate::pairs::PairFilter;
@@ -157,15 +157,24 @@ fn push_if(found: &mut RoomList<u32>, is_wanted: bool, j: u32)
     }
 }
 
-// Finds what is wanted with i in one cell. What stands behind i comes first in each chain.
-fn look_up<F: PairFilter>(crowd: &Crowd, filter: &F, i: u32, cell: Cell, found: &mut RoomList<u32>)
+// Finds what is wanted with i in one cell, and counts how often the chain is read for it. What
+// stands behind i comes first in each chain.
+fn look_up<F: PairFilter>(
+    crowd: &Crowd,
+    filter: &F,
+    i: u32,
+    cell: Cell,
+    found: &mut RoomList<u32>,
+) -> u64
     requires laid { IsLaid crowd.now }
     requires filter { F.particles filter.now ≡ length crowd.now.places.now }
     requires i { i < length crowd.now.places.now }
     requires cell { Below 1073741825 cell }
     requires room { length found.old.entries + length (picked_in crowd.now (F.test filter.now) i cell) ≤ found.old.room }
-    ensures { found.new ≡ record found.old { entries = found.old.entries ++ picked_in crowd.now (F.test filter.now) i cell } }
+    ensures found { found.new ≡ record found.old { entries = found.old.entries ++ picked_in crowd.now (F.test filter.now) i cell } }
+    ensures looks { result ≡ looked_in crowd.now i cell }
 {
+    let mut looks = 1;
     let mut at = crowd.chains.first(slot(cell, crowd.count));
     for _ in 0..crowd.chains.items() {
         let Some(j) = at else {
@@ -175,27 +184,32 @@ fn look_up<F: PairFilter>(crowd: &Crowd, filter: &F, i: u32, cell: Cell, found: 
             break;
         }
         push_if(found, wanted(crowd, filter, i, cell, j), j);
+        looks += 1;
         at = crowd.chains.next(j);
     }
+    looks
 }
 
-// Finds what is wanted with i in the eight cells from a corner on.
+// Finds what is wanted with i in the eight cells from a corner on, and counts the readings.
 pub(crate) fn look_round<F: PairFilter>(
     crowd: &Crowd,
     filter: &F,
     i: u32,
     from: Cell,
     found: &mut RoomList<u32>,
-)
+) -> u64
     requires laid { IsLaid crowd.now }
     requires filter { F.particles filter.now ≡ length crowd.now.places.now }
     requires i { i < length crowd.now.places.now }
     requires from { Below 536870913 from }
     requires room { length found.old.entries + length (picked_round crowd.now (F.test filter.now) i from) ≤ found.old.room }
-    ensures { found.new ≡ record found.old { entries = found.old.entries ++ picked_round crowd.now (F.test filter.now) i from } }
+    ensures found { found.new ≡ record found.old { entries = found.old.entries ++ picked_round crowd.now (F.test filter.now) i from } }
+    ensures looks { result ≡ looked_round crowd.now i from }
 {
+    let mut looks = 0;
     for n in 0..8 {
         let cell = part_of_block(from, n);
-        look_up(crowd, filter, i, cell, found);
+        looks += look_up(crowd, filter, i, cell, found);
     }
+    looks
 }

@@ -1,7 +1,8 @@
 //! The near pairs of all particles.
-ghost use Rattle.std.specs.Prelude.{◌≡◌, ◌+◌, ◌<◌, ◌≤◌, [], ℕ, Bool, pos, ◌≤ℤ◌, length, IfOk, OnOk, OnErr};
+ghost use Rattle.std.specs.Prelude.{◌≡◌, ◌+◌, ◌*◌, ◌<◌, ◌≤◌, [], ℕ, Bool, pos, ◌≤ℤ◌, length, IfOk, OnOk, OnErr};
 ghost use Rattle.pbd_grid.specs.Crowds.{IsLaid};
 ghost use Rattle.pbd_grid.specs.Near.{AllInside, near_pairs};
+ghost use Rattle.pbd_grid.specs.Looks.{looks_for};
 
 use crate::lookup::{Cell, Crowd};
 use crate::rows::{append_row, find_row, link_all};
@@ -35,15 +36,17 @@ pub struct Grid {
     count: u32,
     cubes: RoomList<Cell>,
     found: RoomList<u32>,
+    /// How often the last search read the chains.
+    looks: u64,
 }
 
 impl Model for Grid {
-    ghost use Rattle.std.specs.Prelude.{ℕ};
+    ghost use Rattle.pbd_grid.specs.Looks.{Searched};
     ghost use Rattle.pbd_grid.specs.Ready.{IsReady};
 
-    ghost Value = { ℕ };
+    ghost Value = { Searched };
 
-    ghost view = { λ s. s.particles };
+    ghost view = { λ s. record { particles = s.particles; chains = s.count; looks = s.looks } };
 
     ghost invariant = { λ s. IsReady s.particles s.chains s.count s.cubes s.found };
 }
@@ -51,17 +54,20 @@ impl Model for Grid {
 // The number of chains for so many particles: a power of two, four or more for each.
 fn chains_for(particles: u32) -> u32
     requires { particles ≤ 65536 }
+    ensures many { 4 * particles ≤ result }
     ensures some { 0 < result }
     ensures few { result ≤ 2097152 }
 {
     (4 * particles.max(1)).next_power_of_two()
 }
 
-// Lists the near pairs row by row, from chains that hold each particle once.
+// Lists the near pairs row by row, from chains that hold each particle once, and counts how often
+// these are read.
 fn find_pairs<F: PairFilter>(
     crowd: &Crowd,
     filter: &F,
     found: &mut RoomList<u32>,
+    looks: &mut u64,
     out: &mut RoomList<(u32, u32)>,
 ) -> Result<(), Full>
     requires laid { IsLaid crowd.now }
@@ -73,10 +79,13 @@ fn find_pairs<F: PairFilter>(
     ensures fits { OnOk result (length (near_pairs crowd.now.places.now (pos crowd.now.side) (F.test filter.now)) ≤ out.old.room) }
     ensures full { OnErr result (out.old.room < length (near_pairs crowd.now.places.now (pos crowd.now.side) (F.test filter.now))) }
     ensures emptied { OnErr result (out.new.entries ≡ []) }
+    ensures looks { OnOk result (looks.new ≡ looks_for crowd.now.count (pos crowd.now.side) crowd.now.places.now) }
+    ensures most { looks.new ≤ looks_for crowd.now.count (pos crowd.now.side) crowd.now.places.now }
 {
     out.clear();
+    *looks = 0;
     for i in 0..crowd.places.len() as u32 {
-        find_row(crowd, filter, i, found);
+        *looks += find_row(crowd, filter, i, found);
         if append_row(i, found.as_slice(), out).is_err() {
             out.clear();
             return Err(Full);
@@ -89,7 +98,9 @@ impl Grid {
     /// Makes room for so many particles, at most 65,536.
     pub fn open(alloc: Global, particles: u32) -> Result<Grid, AllocError>
         requires { particles ≤ 65536 }
-        ensures { IfOk result (λ g. g ≡ particles) }
+        ensures particles { IfOk result (λ g. g.particles ≡ particles) }
+        ensures chains { IfOk result (λ g. 4 * particles ≤ g.chains) }
+        ensures looks { IfOk result (λ g. g.looks ≡ 0) }
     {
         let count = chains_for(particles);
         let chains = Chains::open(alloc, count, particles)?;
@@ -101,6 +112,7 @@ impl Grid {
             count,
             cubes,
             found,
+            looks: 0,
         })
     }
 
@@ -109,6 +121,8 @@ impl Grid {
     /// There is a place for each particle, no axis of which is above 536,870,912 in size, and the
     /// thickness is 1 to 1,048,576, both in units of 1/65,536 metre. `Full` comes where the pairs
     /// are more than there is room for, and the list is then empty.
+    ///
+    /// What the search costs is told by `looks`, exactly where it ends, and at most where it is full.
     pub fn pairs<F: PairFilter>(
         &mut self,
         places: &[Vec3],
@@ -116,17 +130,19 @@ impl Grid {
         filter: &F,
         out: &mut RoomList<(u32, u32)>,
     ) -> Result<(), Full>
-        requires places { length places.now ≡ self.old }
+        requires places { length places.now ≡ self.old.particles }
         requires inside { AllInside places.now }
-        requires filter { F.particles filter.now ≡ self.old }
+        requires filter { F.particles filter.now ≡ self.old.particles }
         requires low { pos 1 ≤ℤ thickness }
         requires high { thickness ≤ℤ pos 1048576 }
-        ensures same { self.new ≡ self.old }
+        ensures same { self.new ≡ record self.old { looks = self.new.looks } }
         ensures room { out.new.room ≡ out.old.room }
         ensures pairs { OnOk result (out.new.entries ≡ near_pairs places.now thickness (F.test filter.now)) }
         ensures fits { OnOk result (length (near_pairs places.now thickness (F.test filter.now)) ≤ out.old.room) }
         ensures full { OnErr result (out.old.room < length (near_pairs places.now thickness (F.test filter.now))) }
         ensures emptied { OnErr result (out.new.entries ≡ []) }
+        ensures looks { OnOk result (self.new.looks ≡ looks_for self.old.chains thickness places.now) }
+        ensures most { self.new.looks ≤ looks_for self.old.chains thickness places.now }
     {
         // What is less than the thickness from a place is in two cells an axis, of twice that edge.
         let side = thickness as u32;
@@ -138,6 +154,18 @@ impl Grid {
             places,
             side,
         };
-        find_pairs(&crowd, filter, &mut self.found, out)
+        find_pairs(&crowd, filter, &mut self.found, &mut self.looks, out)
+    }
+
+    /// How often the last search read its chains, which hold the particles by their cells.
+    ///
+    /// Each particle looks up eight cells. For each it reads the first of the cell's chain, and then
+    /// what comes behind each particle of a higher number in that chain. Different cells may share a
+    /// chain, so particles that are far apart may count too; there are four chains or more for each
+    /// particle.
+    pub fn looks(&self) -> u64
+        ensures { result ≡ self.now.looks }
+    {
+        self.looks
     }
 }

@@ -1,34 +1,32 @@
 -- What steps and sessions may cost, by the sizes of the scene.
-use Rattle.std.proofs.Common.{◌≡◌, ◌≢◌, refl, sym, ap, ◌∙◌, ℕ, zero, suc, ◌+◌, ◌-◌, ◌*◌, ◌/◌, ◌%◌, ◌<◌, ◌≤◌, Bool, true, false, not, ◌&&◌, List, [], ◌∷◌, length, arith, pos, subst, inl, inr}
+use Rattle.std.proofs.Common.{◌≡◌, refl, sym, ap, ◌∙◌, ℕ, zero, suc, ◌+◌, ◌-◌, ◌*◌, ◌/◌, ◌%◌, ◌<◌, ◌≤◌, min, Bool, true, false, not, ◌&&◌, List, [], ◌∷◌, length, arith, pos, subst, inl, inr}
 use Rattle.std.specs.Prelude.{Result, Ok, Err, IfOk, IsTrue, if◌then◌else◌, nat_le, nat_lt, ◌==◌, filter, cond, int_lt, unsigned_abs}
 use Rattle.std.specs.List.{range_with_len}
 use Rattle.std.proofs.lemmas.Bool.{ltb-false, cases_lt}
-use Rattle.std.proofs.Math.Nat.{mul-le-mul, div-add-mod}
+use Rattle.std.proofs.Math.Nat.{mul-le-mul, div-add-mod, min-le_right}
 use Rattle.pbd_num.specs.Vectors.{zero_vector}
 use Rattle.pbd_world.specs.declared.parts.Particle.{Particle}
 use Rattle.pbd_world.specs.declared.parts.Link.{Link}
 use Rattle.pbd_world.specs.declared.parts.Parts.{Parts}
 use Rattle.pbd_world.specs.declared.command.Command.{Command}
 use Rattle.pbd_world.specs.declared.command.Command.TheVariants as commands
-use Rattle.pbd_world.specs.declared.command.Phase.TheVariants as phases
 use Rattle.pbd_world.specs.declared.command.Refusal.{Refusal}
-use Rattle.pbd_world.specs.declared.command.Refusal.TheVariants.{BadCount, StepLimit, TooManyContacts}
+use Rattle.pbd_world.specs.declared.command.Refusal.TheVariants.{BadCount, StepLimit}
 use Rattle.pbd_world.specs.declared.command.Reply.{Reply}
 use Rattle.pbd_world.specs.declared.command.Reply.TheVariants as replies
-use Rattle.pbd_world.specs.Particles.{Motion}
 use Rattle.pbd_world.specs.World.{World, IsSound, AreOfOneScene, live_count, opened}
 use Rattle.pbd_world.specs.Valid.{is_valid}
-use Rattle.pbd_world.specs.Outcomes.{◌>>=◌, with_fault, unless, repeated}
-use Rattle.pbd_world.specs.Contacts.{contacts_of, link_pairs, live_flags}
-use Rattle.pbd_world.specs.Step.{predict, leaves, pass, untouched, rub, settled, after_contacts, step}
-use Rattle.pbd_world.specs.Meaning.{steps_of, done_or_refused, meaning, after, reply}
-use Rattle.pbd_world.specs.Work.{blocks_in, of_colour_count, tearable_count, colours_used, finding_work, step_work, found_after, found_in, work_from, work_over, steps_work, command_work, reply_work, session_work}
+use Rattle.pbd_world.specs.Outcomes.{unless}
+use Rattle.pbd_world.specs.Contacts.{link_pairs, live_flags}
+use Rattle.pbd_world.specs.Step.{step}
+use Rattle.pbd_world.specs.Meaning.{after, reply}
+use Rattle.pbd_world.specs.Work.{blocks_in, of_colour_count, tearable_count, colours_used, finding_work, step_work, found_in, work_from, work_over, steps_work, command_work, reply_work, session_work}
 use Rattle.pbd_world.proofs.KeepingOn.{length-mapped}
 use Rattle.pbd_world.proofs.OpenedLemmas.{opened-is_sound}
 use Rattle.pbd_world.proofs.StepSound.{step_sound}
 use Rattle.pbd_world.proofs.CommandSound.{command-sound, command-scene}
 use Rattle.pbd_world.proofs.WorkLemmas.{finding_is, step_few}
-use Rattle.pbd_laws.specs.Costs.{most_of_step, steps_in, most_of_session, IsNotCrowded, AreNotCrowded}
+use Rattle.pbd_laws.specs.Costs.{most_of_step, steps_in, most_of_session}
 
 -- ---- a step
 
@@ -67,36 +65,15 @@ less_parts m k n some h = elim (cases_lt (k / n) (m / n)) [
       absurd (omega (arith, mul-le-mul same next, div-add-mod k n, div-add-mod m n, below, h))
 ]
 
--- a step that is not refused for its contacts found no more than it may
-found_few : (w : World) → ((s : ℕ) → step w ≢ Err (TooManyContacts s)) → length (found_in w) ≤ 262144
-unfolding step found_in
-found_few w h = by (predict w) h
-  where
-    few : (m : Motion) (b : Bool) → nat_lt 262144 (length (contacts_of w.thickness w.links m.particles)) ≡ b
-        → ((s : ℕ) → (if b then Err (TooManyContacts (w.steps + 1))
-        else (repeated w.passes (pass w (contacts_of w.thickness w.links m.particles)) (untouched m) >>= λ s. Ok
-        (settled w (contacts_of w.thickness w.links m.particles) (rub w.friction s)))) ≢ Err (TooManyContacts s))
-        → length (contacts_of w.thickness w.links m.particles) ≤ 262144
-    few m true e h = absurd (h (w.steps + 1) refl)
-    few m false e h = ltb-false 262144 (length (contacts_of w.thickness w.links m.particles)) e
-
-    by : (r : Result Motion ℕ)
-        → ((s : ℕ) → (with_fault (leaves w phases.Predict) r >>= λ m. after_contacts w m (contacts_of w.thickness w.links m.particles)) ≢ Err
-        (TooManyContacts s))
-        → length (found_after w r) ≤ 262144
-    by (Ok m) h = few m (nat_lt 262144 (length (contacts_of w.thickness w.links m.particles))) refl h
-    by (Err i) h = omega arith
-
-step_most : (width lanes : ℕ) (w : World) → 0 < lanes → IsSound w → ((s : ℕ) → step w ≢ Err (TooManyContacts s))
-    → step_work width lanes w (found_in w) ≤ most_of_step width lanes w
+step_most : (width lanes : ℕ) (w : World) → 0 < lanes → IsSound w → step_work width lanes w (found_in w) ≤ most_of_step width lanes w
 unfolding most_of_step
-step_most width lanes w some sound h =
+step_most width lanes w some sound =
     let live = filter_few {A = Link} (λ l. l.live) w.links in
     let parts : live_count w.links / lanes ≤ length w.links / lanes = less_parts (live_count w.links) (length w.links) lanes some live in
     let tears : tearable_count w.links ≤ length w.links = filter_few {A = Link} (λ l. l.live && int_lt (pos 0) l.tear) w.links in
-    let inner : live_count w.links / lanes + colours_used w.links + length (found_in w) + blocks_in width w
+    let inner : live_count w.links / lanes + colours_used w.links + min (length (found_in w)) 262144 + blocks_in width w
     ≤ length w.links / lanes + 63 + 262144 + blocks_in width w =
-    omega (arith, parts, colours_few w.links, found_few w h) in
+    omega (arith, parts, colours_few w.links, min-le_right (length (found_in w)) 262144) in
     let same : w.passes ≤ w.passes = omega arith in
     omega (arith, step_few width lanes w (found_in w) some sound, mul-le-mul same inner, tears, finding_few w)
 
@@ -127,54 +104,45 @@ ok_at : {A E : Type 0} (P : A → Type 0) (r : Result A E) (x : A) → r ≡ Ok 
 ok_at P r x e h = subst (λ r. IfOk r P) e h
 
 over_most : (width lanes n : ℕ) (w : World) → 0 < lanes → IsSound w → w.steps + n ≤ 1000000
-    → ((s : ℕ) → steps_of n w ≢ Err (TooManyContacts s)) → work_over width lanes n w ≤ n * most_of_step width lanes w
+    → work_over width lanes n w ≤ n * most_of_step width lanes w
 unfolding work_over
-over_most width lanes zero w some sound room h = omega arith
-over_most width lanes (suc n) w some sound room h = by (step w) refl (λ v s r k. over_most width lanes n v some s r k)
+over_most width lanes zero w some sound room = omega arith
+over_most width lanes (suc n) w some sound room = by (step w) refl (λ v s r. over_most width lanes n v some s r)
   where
-    first : (s : ℕ) → step w ≢ Err (TooManyContacts s)
-    first s e = h s (ap (λ (r : Result World Refusal). r >>= repeated n step) e)
-
     by : (r : Result World Refusal) → step w ≡ r
-        → ((v : World) → IsSound v → v.steps + n ≤ 1000000 → ((s : ℕ) → steps_of n v ≢ Err (TooManyContacts s))
-        → work_over width lanes n v ≤ n * most_of_step width lanes v)
+        → ((v : World) → IsSound v → v.steps + n ≤ 1000000 → work_over width lanes n v ≤ n * most_of_step width lanes v)
         → step_work width lanes w (found_in w) + work_from (work_over width lanes n) r ≤ suc n * most_of_step width lanes w
     by (Ok v) e later =
         let next = ok_at (λ u. IsSound u × (u.steps ≡ w.steps + 1) × AreOfOneScene w u) (step w) v e (step_sound w sound (omega (arith, room))) in
-        let rest = later v next.0 (omega (arith, room, next.1)) (λ s k. h s (ap (λ (r : Result World Refusal). r >>= repeated n step) e ∙ k)) in
+        let rest = later v next.0 (omega (arith, room, next.1)) in
         let same = ap (λ m. n * m) (same_most width lanes w v next.2).0 in
-        omega (arith, rest, same, step_most width lanes w some sound first)
-    by (Err f) e later = omega (arith, step_most width lanes w some sound first)
+        omega (arith, rest, same, step_most width lanes w some sound)
+    by (Err f) e later = omega (arith, step_most width lanes w some sound)
 
-pub steps-most : (width lanes n : ℕ) (w : World) → 0 < lanes → IsSound w → IsNotCrowded (reply w (commands.Step n))
-    → steps_work width lanes n w ≤ n * most_of_step width lanes w
-unfolding steps_work meaning
-steps-most width lanes n w some sound h = by (not (nat_le 1 n && nat_le n 100000)) (nat_lt 1000000 (w.steps + n)) refl h
+pub steps-most : (width lanes n : ℕ) (w : World) → 0 < lanes → IsSound w → steps_work width lanes n w ≤ n * most_of_step width lanes w
+unfolding steps_work
+steps-most width lanes n w some sound = by (not (nat_le 1 n && nat_le n 100000)) (nat_lt 1000000 (w.steps + n)) refl
   where
-    stops : (s : ℕ) → steps_of n w ≡ Err (TooManyContacts s) → (done_or_refused w (steps_of n w)).1 ≡ replies.Refused (TooManyContacts s)
-    stops s e = ap (λ (r : Result World Refusal). (done_or_refused w r).1) e
-
     by : (b c : Bool) → nat_lt 1000000 (w.steps + n) ≡ c
-        → ((s : ℕ) → (done_or_refused w (unless ((b, BadCount) ∷ (c, StepLimit) ∷ []) w >>= steps_of n)).1 ≢ replies.Refused (TooManyContacts s))
         → work_from (work_over width lanes n) (unless ((b, BadCount) ∷ (c, StepLimit) ∷ []) w) ≤ n * most_of_step width lanes w
-    by true c e h = omega arith
-    by false true e h = omega arith
-    by false false e h = over_most width lanes n w some sound (ltb-false 1000000 (w.steps + n) e) (λ s k. h s (stops s k))
+    by true c e = omega arith
+    by false true e = omega arith
+    by false false e = over_most width lanes n w some sound (ltb-false 1000000 (w.steps + n) e)
 
 -- ---- sessions
 
-command_most : (width lanes : ℕ) (w : World) (c : Command) → 0 < lanes → IsSound w → IsNotCrowded (reply w c)
+command_most : (width lanes : ℕ) (w : World) (c : Command) → 0 < lanes → IsSound w
     → command_work width lanes w c ≤ steps_in (c ∷ []) * most_of_step width lanes w + 2
 unfolding command_work
-command_most width lanes w (commands.Step n) some sound h = let few = steps-most width lanes n w some sound h in omega (arith, few)
-command_most width lanes w commands.Frame some sound h = omega arith
-command_most width lanes w (commands.Pin i) some sound h = omega arith
-command_most width lanes w (commands.Unpin i) some sound h = omega arith
-command_most width lanes w (commands.Move i to) some sound h = omega arith
-command_most width lanes w (commands.Cut n) some sound h = omega arith
-command_most width lanes w (commands.Gravity g) some sound h = omega arith
-command_most width lanes w commands.Ledger some sound h = omega arith
-command_most width lanes w commands.Bad some sound h = omega arith
+command_most width lanes w (commands.Step n) some sound = let few = steps-most width lanes n w some sound in omega (arith, few)
+command_most width lanes w commands.Frame some sound = omega arith
+command_most width lanes w (commands.Pin i) some sound = omega arith
+command_most width lanes w (commands.Unpin i) some sound = omega arith
+command_most width lanes w (commands.Move i to) some sound = omega arith
+command_most width lanes w (commands.Cut n) some sound = omega arith
+command_most width lanes w (commands.Gravity g) some sound = omega arith
+command_most width lanes w commands.Ledger some sound = omega arith
+command_most width lanes w commands.Bad some sound = omega arith
 
 reply_most : (w : World) (r : Reply) → reply_work w r ≤ length w.particles
 unfolding reply_work
@@ -194,20 +162,20 @@ steps_next (commands.Gravity g) cs = omega arith
 steps_next commands.Ledger cs = omega arith
 steps_next commands.Bad cs = omega arith
 
-session_most : (width lanes : ℕ) (w : World) (cs : List Command) → 0 < lanes → IsSound w → AreNotCrowded w cs
+session_most : (width lanes : ℕ) (w : World) (cs : List Command) → 0 < lanes → IsSound w
     → session_work width lanes w cs ≤ most_of_session width lanes w cs
 unfolding session_work
-session_most width lanes w [] some sound h = omega arith
-session_most width lanes w (c ∷ cs) some sound h =
+session_most width lanes w [] some sound = omega arith
+session_most width lanes w (c ∷ cs) some sound =
     let v = after w c in
     let same = same_most width lanes w v (command-scene w c sound) in
     let most = most_of_step width lanes w in
-    let rest = session_most width lanes v cs some (command-sound w c sound) h.1 in
+    let rest = session_most width lanes v cs some (command-sound w c sound) in
     let steps = ap (λ m. steps_in cs * m) same.0 in
     let sizes = ap (λ p. length cs * (p + 2)) same.1 in
     let next = ap (λ n. n * most) (steps_next c cs) in
-    omega (arith, command_most width lanes w c some sound h.0, reply_most v (reply w c), same.1, rest, steps, sizes, next)
+    omega (arith, command_most width lanes w c some sound, reply_most v (reply w c), same.1, rest, steps, sizes, next)
 
 pub whole-session-most : (width lanes : ℕ) (parts : Parts) (cs : List Command) → 0 < lanes → IsTrue (is_valid parts)
-    → AreNotCrowded (opened parts) cs → session_work width lanes (opened parts) cs ≤ most_of_session width lanes (opened parts) cs
-whole-session-most width lanes parts cs some valid h = session_most width lanes (opened parts) cs some (opened-is_sound parts valid) h
+    → session_work width lanes (opened parts) cs ≤ most_of_session width lanes (opened parts) cs
+whole-session-most width lanes parts cs some valid = session_most width lanes (opened parts) cs some (opened-is_sound parts valid)

@@ -1,12 +1,8 @@
 -- The most that a session may cost, by the sizes of its scene and its commands alone.
-use Rattle.std.specs.Prelude.{◌≢◌, ℕ, ◌+◌, ◌*◌, ◌/◌, List, [], ◌∷◌, length}
+use Rattle.std.specs.Prelude.{ℕ, ◌+◌, ◌*◌, ◌/◌, List, [], ◌∷◌, length}
 use Rattle.pbd_world.specs.declared.command.Command.{Command}
 use Rattle.pbd_world.specs.declared.command.Command.TheVariants as commands
-use Rattle.pbd_world.specs.declared.command.Refusal.TheVariants.{TooManyContacts}
-use Rattle.pbd_world.specs.declared.command.Reply.{Reply}
-use Rattle.pbd_world.specs.declared.command.Reply.TheVariants.{Refused}
 use Rattle.pbd_world.specs.World.{World}
-use Rattle.pbd_world.specs.Meaning.{after, reply}
 use Rattle.pbd_world.specs.Work.{blocks_in}
 
 -- a step: four accesses for each block, and in each pass for each block, each whole piece of links, each of 63 colours and each
@@ -25,12 +21,3 @@ steps_in (c ∷ cs) = steps_in cs
 -- commands one after another: their steps, and for each command two accesses and a frame
 abbrev pub most_of_session : ℕ → ℕ → World → List Command → ℕ
 most_of_session width lanes w cs = steps_in cs * most_of_step width lanes w + length cs * (length w.particles + 2)
-
--- the reply isn't that a step found too many contacts
-abbrev pub IsNotCrowded : Reply → Type 0
-IsNotCrowded r = (step : ℕ) → r ≢ Refused (TooManyContacts step)
-
--- no command is refused since a step found too many contacts
-abbrev pub AreNotCrowded : World → List Command → Type 0
-AreNotCrowded w [] = Unit {0}
-AreNotCrowded w (c ∷ cs) = IsNotCrowded (reply w c) × AreNotCrowded (after w c) cs

@@ -1,23 +1,19 @@
 //! What a session may cost, known before it is played; and what its log has of it.
 ghost use Rattle.std.specs.Prelude.{◌≡◌, ◌<◌, ◌≤◌, ◌*◌, ℕ, List, map, IsTrue};
 ghost use Rattle.pbd_world.specs.declared.command.Command.{Command};
-ghost use Rattle.pbd_world.specs.declared.command.Command.TheVariants.{Step};
 ghost use Rattle.pbd_world.specs.declared.parts.Parts.{Parts};
-ghost use Rattle.pbd_world.specs.Meaning.{reply};
 ghost use Rattle.pbd_world.specs.Replay.{LogEntry, logged};
 ghost use Rattle.pbd_world.specs.Valid.{is_valid};
 ghost use Rattle.pbd_world.specs.Work.{session_work, steps_work};
 ghost use Rattle.pbd_world.specs.World.{World, IsSound, opened};
-ghost use Rattle.pbd_laws.specs.Costs.{most_of_step, most_of_session, IsNotCrowded, AreNotCrowded};
+ghost use Rattle.pbd_laws.specs.Costs.{most_of_step, most_of_session};
 
 /// Before a session is played, its scene and its commands say how often it may reach the particles at most: each step costs no
-/// more than a sum of the scene's sizes, wherever the particles go. A step that is refused for too many contacts may cost more,
-/// since those that it found are counted, and so it is left out here.
+/// more than a sum of the scene's sizes, wherever the particles go and however it ends.
 pub fn sessions_cost_a_sum_of_the_scene()
-    ensures steps { (width lanes n : ℕ) (w : World) → 0 < lanes → IsSound w → IsNotCrowded (reply w (Step n))
+    ensures steps { (width lanes n : ℕ) (w : World) → 0 < lanes → IsSound w
         → steps_work width lanes n w ≤ n * most_of_step width lanes w }
     ensures session { (width lanes : ℕ) (parts : Parts) (commands : List Command) → 0 < lanes → IsTrue (is_valid parts)
-        → AreNotCrowded (opened parts) commands
         → session_work width lanes (opened parts) commands ≤ most_of_session width lanes (opened parts) commands }
 {}
 

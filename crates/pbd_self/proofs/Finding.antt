@@ -1,10 +1,11 @@
 -- The near pairs that the grid finds are the pairs that touch.
-use Rattle.std.proofs.Common.{◌≡◌, ◌∙◌, refl, sym, ap, subst, ℕ, ◌+◌, ◌-◌, ◌^◌, ◌<◌, ◌≤◌, ltb, ℤ, pos, unsigned_abs, Bool, true, false, not, ◌&&◌, List, [], ◌∷◌, length, map, replicate, arith, Result, Ok, Err}
+use Rattle.std.proofs.Common.{◌≡◌, ◌∙◌, refl, sym, ap, subst, ℕ, ◌+◌, ◌-◌, ◌^◌, ◌<◌, ◌≤◌, ltb, ℤ, pos, ◌≤ℤ◌, unsigned_abs, eqb, Bool, true, false, not, ◌&&◌, List, [], ◌∷◌, length, map, replicate, arith, Result, Ok, Err}
 use Rattle.std.specs.Prelude.{filter}
 use Rattle.std.specs.Result.{OnOk, OnErr}
 use Rattle.std.specs.List.{AllByRecursion, range_with_len}
 use Rattle.std.proofs.Math.ListN.{get_or-map}
 use Rattle.std.proofs.lemmas.Bool.Decides.{nat_tests}
+use Rattle.std.proofs.lemmas.Int.{ints}
 use Rattle.std.proofs.lemmas.List.{length-map}
 use Rattle.std.proofs.lemmas.List.Elements.{filter_agree}
 use Rattle.std.proofs.lemmas.Simd.{splat_is_map}
@@ -21,7 +22,8 @@ use Rattle.pbd_colour.specs.Pairs.{Coloured, InRange}
 use Rattle.pbd_store.specs.Moving.{AreInside}
 use Rattle.pbd_grid.specs.Near.{AllInside, place_at, is_near, near_pairs}
 use Rattle.pbd_self.specs.Apart.{held_at, may_touch}
-use Rattle.pbd_self.specs.Touching.{touches, touching, AreOrdered}
+use Rattle.pbd_grid.specs.Looks.{looks_for}
+use Rattle.pbd_self.specs.Touching.{Found, touches, touching, looks_at, AreOrdered}
 
 -- ---- what the grid finds
 
@@ -70,6 +72,33 @@ places_inside limit ps places old xs small inside p x i lt =
     let here : place_at xs i ≡ (particle_at ps i).at = ap (λ (ys : List Vec3). place_at ys i) xs_is ∙ place_of ps i in
     let within = inside.each i (omega (arith, lt, size)) in
     subst (λ (v : Vec3). Within (2 ^ 29) v) (sym here) (record { x = omega (arith, within.x, small); y = omega (arith, within.y, small); z = omega (arith, within.z, small) })
+
+-- ---- what a search costs
+
+not_nothing : (thickness : ℤ) → pos 1 ≤ℤ thickness → eqb (unsigned_abs thickness) 0 ≡ false
+not_nothing thickness low = grind (arith, nat_tests, ints)
+
+-- from a thickness of 1 on, it is the grid's search of the places that were copied
+pub looks_are : (t thickness : ℤ) (m n : ℕ) (ps : List Particle) (old places : Roomed Vec3) (xs : List Vec3) → t ≡ thickness → m ≡ n → xs ≡ places.entries → places ≡ record old { entries = places_of ps } → pos 1 ≤ℤ thickness
+    → looks_for m t xs ≡ looks_at n thickness ps
+unfolding looks_at
+looks_are t thickness m n ps old places xs e is x p low =
+    let xs_is : xs ≡ places_of ps = x ∙ ap (λ (r : Roomed Vec3). r.entries) p in
+    rw (e, is, xs_is, not_nothing thickness low) refl
+
+pub none_looked : (n : ℕ) (thickness : ℤ) (ps : List Particle) → thickness ≡ pos 0 → looks_at n thickness ps ≡ 0
+unfolding looks_at
+none_looked n thickness ps e = rw e refl
+
+pub found_parts : (a b : Found) → a.particles ≡ b.particles → a.pairs ≡ b.pairs → a.chains ≡ b.chains → a.looks ≡ b.looks → a ≡ b
+found_parts a b e f g h =
+    let whole : ℕ → List (ℕ × ℕ) → ℕ → ℕ → Found = λ n ps m k. record { particles = n; pairs = ps; chains = m; looks = k } in
+    ap (λ (n : ℕ). whole n a.pairs a.chains a.looks) e ∙ ap (λ (ps : List (ℕ × ℕ)). whole b.particles ps a.chains a.looks) f
+    ∙ ap (λ (m : ℕ). whole b.particles b.pairs m a.looks) g ∙ ap (λ (k : ℕ). whole b.particles b.pairs b.chains k) h
+
+pub on_both : {A E P Q R : Type 0} (r : Result A E) → (P → Q → R) → OnOk r P → OnOk r Q → OnOk r R
+on_both (Ok x) f p q = f p q
+on_both (Err x) f p q = tt
 
 -- ---- at thickness 0
 

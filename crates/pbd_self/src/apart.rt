@@ -1,5 +1,6 @@
 //! Which near particles may touch.
 ghost use Rattle.std.specs.Prelude.{◌≡◌, ◌<◌, ◌≤◌, [], pos, ◌≤ℤ◌, length, OnOk, OnErr};
+ghost use Rattle.pbd_grid.specs.Looks.{looks_for};
 ghost use Rattle.pbd_grid.specs.Near.{AllInside, near_pairs};
 ghost use Rattle.pbd_self.specs.Apart.{held_at, may_touch};
 
@@ -47,17 +48,19 @@ pub(crate) fn find_apart(
     thickness: i64,
     out: &mut RoomList<(u32, u32)>,
 ) -> Result<(), Full>
-    requires places { length places.now ≡ grid.old }
-    requires links { links.now.particles ≡ grid.old }
+    requires places { length places.now ≡ grid.old.particles }
+    requires links { links.now.particles ≡ grid.old.particles }
     requires inside { AllInside places.now }
     requires low { pos 1 ≤ℤ thickness }
     requires high { thickness ≤ℤ pos 1048576 }
-    ensures same { grid.new ≡ grid.old }
+    ensures same { grid.new ≡ record grid.old { looks = grid.new.looks } }
     ensures room { out.new.room ≡ out.old.room }
     ensures pairs { OnOk result (out.new.entries ≡ near_pairs places.now thickness (may_touch held.now links.now)) }
     ensures fits { OnOk result (length (near_pairs places.now thickness (may_touch held.now links.now)) ≤ out.old.room) }
     ensures full { OnErr result (out.old.room < length (near_pairs places.now thickness (may_touch held.now links.now))) }
     ensures emptied { OnErr result (out.new.entries ≡ []) }
+    ensures looks { OnOk result (grid.new.looks ≡ looks_for grid.old.chains thickness places.now) }
+    ensures most { grid.new.looks ≤ looks_for grid.old.chains thickness places.now }
 {
     let apart = Apart { held, links };
     grid.pairs(places, thickness, &apart, out)

@@ -1,8 +1,8 @@
 //! The contacts of so many particles, and their colours.
-ghost use Rattle.std.specs.Prelude.{◌≡◌, ◌+◌, ◌<◌, ◌≤◌, [], true, pos, ◌≤ℤ◌, length, map, replicate, IfOk, OnOk, OnErr};
+ghost use Rattle.std.specs.Prelude.{◌≡◌, ◌+◌, ◌*◌, ◌<◌, ◌≤◌, [], true, pos, ◌≤ℤ◌, length, map, replicate, IfOk, OnOk, OnErr};
 ghost use Rattle.pbd_store.specs.Moving.{AreInside};
 ghost use Rattle.pbd_colour.specs.Pairs.{InRange};
-ghost use Rattle.pbd_self.specs.Touching.{touching, AreOrdered};
+ghost use Rattle.pbd_self.specs.Touching.{touching, looks_at, AreOrdered};
 
 use crate::apart::find_apart;
 use crate::places::copy_particles;
@@ -70,6 +70,8 @@ pub struct SelfContacts {
     colouring: Colouring,
     places: RoomList<Vec3>,
     held: RoomList<bool>,
+    /// How often the last search read its chains.
+    looks: u64,
 }
 
 impl Model for SelfContacts {
@@ -78,7 +80,7 @@ impl Model for SelfContacts {
 
     ghost Value = { Found };
 
-    ghost view = { λ s. record { particles = s.particles; pairs = s.pairs.entries } };
+    ghost view = { λ s. record { particles = s.particles; pairs = s.pairs.entries; chains = s.grid.chains; looks = s.looks } };
 
     ghost invariant = { λ s. IsReady s.particles s.grid s.pairs s.colouring s.places s.held };
 }
@@ -87,7 +89,8 @@ impl SelfContacts {
     /// Makes room for the contacts of so many particles, at most 65,536. There are none yet.
     pub fn open(alloc: Global, particles: u32) -> Result<SelfContacts, AllocError>
         requires { particles ≤ 65536 }
-        ensures { IfOk result (λ c. c ≡ record { particles = particles; pairs = [] }) }
+        ensures empty { IfOk result (λ c. c ≡ record { particles = particles; pairs = []; chains = c.chains; looks = 0 }) }
+        ensures chains { IfOk result (λ c. 4 * particles ≤ c.chains) }
     {
         let grid = Grid::open(alloc, particles)?;
         match open_pairs(alloc, particles) {
@@ -99,6 +102,7 @@ impl SelfContacts {
                     colouring,
                     places,
                     held,
+                    looks: 0,
                 }),
                 Err(AllocError) => {
                     drop(colouring);
@@ -116,9 +120,10 @@ impl SelfContacts {
 
     // Forgets all pairs.
     fn clear(&mut self)
-        ensures { self.new ≡ record self.old { pairs = [] } }
+        ensures { self.new ≡ record self.old { pairs = []; looks = 0 } }
     {
         self.pairs.clear();
+        self.looks = 0;
         self.colouring.refill(&[]);
     }
 
@@ -135,10 +140,14 @@ impl SelfContacts {
         requires low { pos 1 ≤ℤ thickness }
         requires high { thickness ≤ℤ pos 1048576 }
         requires inside { AreInside store.now.limit store.now.particles }
-        ensures found { OnOk result (self.new ≡ record self.old { pairs = touching thickness links.now store.now.particles }) }
+        ensures found { OnOk result (self.new ≡ record self.old {
+          pairs = touching thickness links.now store.now.particles;
+          looks = looks_at self.old.chains thickness store.now.particles;
+        }) }
         ensures few { OnOk result (length (touching thickness links.now store.now.particles) ≤ 262144) }
         ensures full { OnErr result (262144 < length (touching thickness links.now store.now.particles)) }
-        ensures emptied { OnErr result (self.new ≡ record self.old { pairs = [] }) }
+        ensures emptied { OnErr result (self.new ≡ record self.old { pairs = []; looks = self.new.looks }) }
+        ensures most { self.new.looks ≤ looks_at self.old.chains thickness store.now.particles }
         ensures cost { steps.new ≤ steps.old + self.old.particles }
     {
         // By it the places are in the range of both limits.
@@ -152,6 +161,7 @@ impl SelfContacts {
             thickness,
             &mut self.pairs,
         );
+        self.looks = self.grid.looks();
         colour(&mut self.colouring, self.pairs.as_slice());
         found
     }
@@ -163,6 +173,7 @@ impl SelfContacts {
     /// as many. The thickness is 0 to 1,048,576, in units of 1/65,536 metre; at 0 there are no
     /// contacts. `Full` comes exactly where the contacts are more than 262,144, and none are held
     /// then. The store is reached at most once for each particle, and not at all where the thickness is 0.
+    /// What the search costs besides is told by `looks`.
     pub fn detect<const L: usize, G: Ledger>(
         &mut self,
         store: &Store<L>,
@@ -175,10 +186,14 @@ impl SelfContacts {
         requires low { pos 0 ≤ℤ thickness }
         requires high { thickness ≤ℤ pos 1048576 }
         requires inside { AreInside store.now.limit store.now.particles }
-        ensures found { OnOk result (self.new ≡ record self.old { pairs = touching thickness links.now store.now.particles }) }
+        ensures found { OnOk result (self.new ≡ record self.old {
+          pairs = touching thickness links.now store.now.particles;
+          looks = looks_at self.old.chains thickness store.now.particles;
+        }) }
         ensures few { OnOk result (length (touching thickness links.now store.now.particles) ≤ 262144) }
         ensures full { OnErr result (262144 < length (touching thickness links.now store.now.particles)) }
-        ensures emptied { OnErr result (self.new ≡ record self.old { pairs = [] }) }
+        ensures emptied { OnErr result (self.new ≡ record self.old { pairs = []; looks = self.new.looks }) }
+        ensures most { self.new.looks ≤ looks_at self.old.chains thickness store.now.particles }
         ensures cost { steps.new ≤ steps.old + self.old.particles }
         ensures free { thickness ≡ pos 0 → steps.new ≡ steps.old }
     {
@@ -197,6 +212,13 @@ impl SelfContacts {
         ensures few { length result.now ≤ 262144 }
     {
         self.pairs.as_slice()
+    }
+
+    /// How often the last search read the chains in which it looks particles up, as `Grid::looks` tells it.
+    pub fn looks(&self) -> u64
+        ensures { result ≡ self.now.looks }
+    {
+        self.looks
     }
 
     /// How many pairs touch, at most 262,144.

@@ -1,10 +1,8 @@
 -- A world that is told, as a state has it.
-use Rattle.std.proofs.Common.{◌≡◌, refl, sym, ap, ◌∙◌, subst, ℕ, List, length, ◌≤◌, arith, Ok}
+use Rattle.std.proofs.Common.{◌≡◌, refl, sym, ap, ◌∙◌, ℕ, List, length}
 use Rattle.pbd_num.specs.declared.Vec3.{Vec3}
-use Rattle.pbd_world.specs.declared.parts.Particle.{Particle}
-use Rattle.pbd_world.specs.declared.parts.Link.{Link}
 use Rattle.pbd_world.specs.declared.parts.Track.{Track}
-use Rattle.pbd_world.specs.World.{World, IsSound, AreOfOneScene}
+use Rattle.pbd_world.specs.World.{World}
 use Rattle.pbd_sound.specs.Described.{Description, told, particle_told, link_told}
 use Rattle.pbd_sound.specs.Soundness.{Checked, soundness}
 use Rattle.pbd_sound.specs.declared.judging.Numbers.{Numbers}

@@ -1,5 +1,5 @@
 -- The totals of a sound world are far from 128 bits.
-use Rattle.std.proofs.Common.{◌≡◌, ap, ℕ, ◌+◌, ◌*◌, ◌≤◌, ◌^◌, Bool, true, false, List, [], ◌∷◌, length, arith, ℤ, ◌+ℤ◌, unsigned_abs, subst, sym}
+use Rattle.std.proofs.Common.{ap, ◌*◌, ◌≤◌, ◌^◌, List, [], ◌∷◌, length, arith, ℤ}
 use Rattle.std.specs.Prelude.{nat_le}
 use Rattle.std.specs.List.{AllByRecursion, list_all}
 use Rattle.std.proofs.lemmas.Bool.{and_parts, leb-true}

@@ -169,7 +169,9 @@ pub(crate) fn cut<const L: usize>(
     ensures links_length { length state.new.links.items ≡ length state.old.links.items }
     ensures links { HasLinks (length state.old.store.particles) state.new.links.items colours.new }
 {
-    let n = l as usize;
+    let Ok(n) = usize::try_from(l) else {
+        return Err(Refusal::NoLink);
+    };
     if state.links.len() <= n {
         return Err(Refusal::NoLink);
     }

@@ -73,7 +73,8 @@ impl<const L: usize, P: Projector<L> + Drop> Solver<L, P> {
         requires lanes_low { 0 < L }
         requires lanes_high { L ≤ 16 }
         ensures commanded { Commanded result (run_steps self.old.world n) self.old.world self.new.world }
-        // Each bond of each pass of each step was handed to the projector.
+        // The projector was handed as many bonds as the passes of the steps have live links and contacts, counted up to
+        // 2^64 - 1. Which bonds these were, no clause says.
         ensures handed { OnOk result
             (P.count self.new.projector ≡ min (P.count self.old.projector + bonds_over n self.old.world) (2 ^ 64 - 1)) }
         ensures not_fallen { P.count self.old.projector ≤ P.count self.new.projector }

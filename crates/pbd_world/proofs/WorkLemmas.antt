@@ -1,9 +1,9 @@
 -- What steps may cost: at other widths, at most, and without a thickness.
-use Rattle.std.proofs.Common.{◌≡◌, refl, ap, ◌∙◌, ℕ, zero, suc, ◌+◌, ◌*◌, ◌/◌, ◌<◌, ◌≤◌, ◌==◌, Bool, true, false, List, [], ◌∷◌, length, map, filter, arith, ℤ, pos, Result, Ok, Err}
+use Rattle.std.proofs.Common.{◌≡◌, refl, ap, sym, ◌∙◌, subst, ℕ, zero, suc, ◌+◌, ◌*◌, ◌/◌, ◌<◌, ◌≤◌, ◌==◌, min, Bool, true, false, List, [], ◌∷◌, length, map, filter, arith, ℤ, pos, Result, Ok, Err}
 use Rattle.std.specs.Prelude.{nat_lt, int_lt, unsigned_abs, if◌then◌else◌}
 use Rattle.std.specs.List.{range_with_len}
-use Rattle.std.proofs.Math.Nat.{mul-le-mul_left}
-use Rattle.std.proofs.lemmas.Bool.{le-ltb}
+use Rattle.std.proofs.Math.Nat.{min-eq_left, mul-le-mul_left}
+use Rattle.std.proofs.lemmas.Bool.{le-ltb, ltb-false}
 use Rattle.std.proofs.lemmas.List.{length-map}
 use Rattle.std.proofs.lemmas.List.Sums.{sum_by-cons}
 use Rattle.pbd_num.specs.Vectors.{minus, squared_length}
@@ -133,9 +133,19 @@ pub finishing_is : (width lanes : ℕ) (w : World) (contacts : List (ℕ × ℕ)
 unfolding finishing_work
 finishing_is width lanes w contacts = refl
 
-pub step_is : (width lanes : ℕ) (w : World) (contacts : List (ℕ × ℕ)) → step_work width lanes w contacts ≡ beginning_work width w + finding_work w + finishing_work width lanes w contacts
+pub step_is : (width lanes : ℕ) (w : World) (contacts : List (ℕ × ℕ))
+    → step_work width lanes w contacts
+    ≡ beginning_work width w + finding_work w + (if nat_lt 262144 (length contacts) then 0 else finishing_work width lanes w contacts)
 unfolding step_work
 step_is width lanes w contacts = refl
+
+-- a step that doesn't find too many contacts goes on
+pub step_goes_on : (width lanes : ℕ) (w : World) (contacts : List (ℕ × ℕ)) → length contacts ≤ 262144
+    → step_work width lanes w contacts ≡ beginning_work width w + finding_work w + finishing_work width lanes w contacts
+step_goes_on width lanes w contacts few =
+    step_is width lanes w contacts
+    ∙ ap (λ (b : Bool). beginning_work width w + finding_work w + (if b then 0 else finishing_work width lanes w contacts))
+    (le-ltb 262144 (length contacts) few)
 
 -- ---- at other widths
 
@@ -166,19 +176,24 @@ step_wider width lanes wider_width more_lanes w contacts some wide any more =
     let found : contacts_work more_lanes contacts ≤ contacts_work lanes contacts = bonds_wider contacts (map (λ pair. true) contacts) lanes more_lanes any more in
     let pass : pass_work wider_width more_lanes w contacts ≤ pass_work width lanes w contacts = omega (arith, pass_is wider_width more_lanes w contacts, pass_is width lanes w contacts, shapes, links, found) in
     let passes = mul-le-mul_left {m = pass_work wider_width more_lanes w contacts} {n = pass_work width lanes w contacts} w.passes pass in
+    let finishing : finishing_work wider_width more_lanes w contacts ≤ finishing_work width lanes w contacts =
+    omega (
+      arith,
+      finishing_is wider_width more_lanes w contacts,
+      finishing_is width lanes w contacts,
+      settling_is wider_width w,
+      settling_is width w,
+      friction,
+      passes,
+    ) in
     omega (
       arith,
       step_is wider_width more_lanes w contacts,
       step_is width lanes w contacts,
-      finishing_is wider_width more_lanes w contacts,
-      finishing_is width lanes w contacts,
       beginning_is wider_width w,
       beginning_is width w,
-      settling_is wider_width w,
-      settling_is width w,
       fewer,
-      friction,
-      passes,
+      if_less (nat_lt 262144 (length contacts)) (finishing_work wider_width more_lanes w contacts) (finishing_work width lanes w contacts) finishing,
     )
 
 module _ (width lanes wider_width more_lanes : ℕ) (some : 0 < width) (wide : width ≤ wider_width) (any : 0 < lanes) (more : lanes ≤ more_lanes) where
@@ -213,16 +228,42 @@ module _ (width lanes wider_width more_lanes : ℕ) (some : 0 < width) (wide : w
 
 pub step_few : (width lanes : ℕ) (w : World) (contacts : List (ℕ × ℕ)) → 0 < lanes → IsSound w
     → step_work width lanes w contacts
-    ≤ 4 * (blocks_in width w + w.passes * (live_count w.links / lanes + colours_used w.links + length contacts + blocks_in width w))
+    ≤ 4 * (blocks_in width w + w.passes * (live_count w.links / lanes + colours_used w.links + min (length contacts) 262144 + blocks_in width w))
     + length w.tracks + finding_work w + 2 * tearable_count w.links
-step_few width lanes w contacts some s =
-    let sum : ℕ = live_count w.links / lanes + colours_used w.links + length contacts + blocks_in width w in
-    let shapes : shapes_work width w ≤ 2 * blocks_in width w = if_most (length w.planes + length w.spheres == 0) (2 * blocks_in width w) in
-    let friction : friction_work width w ≤ 2 * blocks_in width w = if_most_else (int_lt (pos 0) w.friction) (2 * blocks_in width w) in
-    let pass : pass_work width lanes w contacts ≤ 4 * sum = omega (arith, pass_is width lanes w contacts, shapes, links_few lanes w some s, contacts_each lanes contacts some) in
-    let passes = mul-le-mul_left {m = pass_work width lanes w contacts} {n = 4 * sum} w.passes pass in
-    let turned : w.passes * (4 * sum) ≡ 4 * (w.passes * sum) = omega arith in
-    omega (arith, step_is width lanes w contacts, finishing_is width lanes w contacts, beginning_is width w, settling_is width w, friction, passes, turned)
+step_few width lanes w contacts some s = by (nat_lt 262144 (length contacts)) refl
+  where
+    most : ℕ → ℕ
+    most found =
+        4 * (blocks_in width w + w.passes * (live_count w.links / lanes + colours_used w.links + found + blocks_in width w))
+        + length w.tracks + finding_work w + 2 * tearable_count w.links
+
+    going_on : length contacts ≤ 262144 → step_work width lanes w contacts ≤ most (length contacts)
+    going_on few =
+        let sum : ℕ = live_count w.links / lanes + colours_used w.links + length contacts + blocks_in width w in
+        let shapes : shapes_work width w ≤ 2 * blocks_in width w = if_most (length w.planes + length w.spheres == 0) (2 * blocks_in width w) in
+        let friction : friction_work width w ≤ 2 * blocks_in width w = if_most_else (int_lt (pos 0) w.friction) (2 * blocks_in width w) in
+        let pass : pass_work width lanes w contacts ≤ 4 * sum =
+        omega (arith, pass_is width lanes w contacts, shapes, links_few lanes w some s, contacts_each lanes contacts some) in
+        let passes = mul-le-mul_left {m = pass_work width lanes w contacts} {n = 4 * sum} w.passes pass in
+        let turned : w.passes * (4 * sum) ≡ 4 * (w.passes * sum) = omega arith in
+        omega (
+          arith,
+          step_goes_on width lanes w contacts few,
+          finishing_is width lanes w contacts,
+          beginning_is width w,
+          settling_is width w,
+          friction,
+          passes,
+          turned,
+        )
+
+    by : (b : Bool) → nat_lt 262144 (length contacts) ≡ b → step_work width lanes w contacts ≤ most (min (length contacts) 262144)
+    by true e =
+        let refused = ap (λ (b : Bool). if b then 0 else finishing_work width lanes w contacts) e in
+        omega (arith, step_is width lanes w contacts, refused, beginning_is width w)
+    by false e =
+        let few = ltb-false 262144 (length contacts) e in
+        subst (λ (n : ℕ). step_work width lanes w contacts ≤ most n) (sym (min-eq_left few)) (going_on few)
 
 -- ---- without a thickness
 

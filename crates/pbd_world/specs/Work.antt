@@ -87,9 +87,10 @@ settling_work width w = friction_work width w + 2 * tearable_count w.links
 unfoldable pub finishing_work : ℕ → ℕ → World → List (ℕ × ℕ) → ℕ
 finishing_work width lanes w contacts = w.passes * pass_work width lanes w contacts + settling_work width w
 
--- a step from w that finds these contacts
+-- a step from w that finds these contacts: where they are too many, it is refused before its passes
 unfoldable pub step_work : ℕ → ℕ → World → List (ℕ × ℕ) → ℕ
-step_work width lanes w contacts = beginning_work width w + finding_work w + finishing_work width lanes w contacts
+step_work width lanes w contacts =
+    beginning_work width w + finding_work w + (if nat_lt 262144 (length contacts) then 0 else finishing_work width lanes w contacts)
 
 abbrev pub found_after : World → Result Motion ℕ → List (ℕ × ℕ)
 found_after w (Ok m) = contacts_of w.thickness w.links m.particles

@@ -1,5 +1,5 @@
 //! Laws of the definitions, each the contract of a function that does nothing.
-ghost use Rattle.std.specs.Prelude.{◌≡◌, ◌<◌, ◌≤◌, ◌+◌, ◌*◌, ◌/◌, ◌^◌, ◌==◌, ℕ, ℤ, pos, List, [], Bool, false, IsTrue, length, count_by, Contains, AllPairs};
+ghost use Rattle.std.specs.Prelude.{◌≡◌, ◌<◌, ◌≤◌, ◌+◌, ◌*◌, ◌/◌, ◌^◌, ◌==◌, ℕ, ℤ, pos, min, List, [], Bool, false, IsTrue, length, count_by, Contains, AllPairs};
 ghost use Rattle.pbd_num.specs.declared.Vec3.{Vec3};
 ghost use Rattle.pbd_num.specs.Vectors.{Within};
 ghost use Rattle.pbd_world.specs.declared.command.Command.{Command};
@@ -143,12 +143,13 @@ pub fn twice_the_lanes_halve_the_links()
 {}
 
 /// Nothing in a step grows with a square: it may cost four accesses for each block, and in each pass for each block, each
-/// whole piece of links, each colour of links and each contact; and one for each track, for each particle where there is a
-/// thickness, and for each end of a live link that may tear.
+/// whole piece of links, each colour of links and each contact, of which it projects 262,144 at most; and one for each track,
+/// for each particle where there is a thickness, and for each end of a live link that may tear.
 pub fn steps_cost_a_sum()
     ensures { (width lanes : ℕ) (w : World) (contacts : List (ℕ × ℕ)) → 0 < lanes → IsSound w
         → step_work width lanes w contacts
-        ≤ 4 * (blocks_in width w + w.passes * (live_count w.links / lanes + colours_used w.links + length contacts + blocks_in width w))
+        ≤ 4 * (blocks_in width w
+        + w.passes * (live_count w.links / lanes + colours_used w.links + min (length contacts) 262144 + blocks_in width w))
         + length w.tracks + finding_work w + 2 * tearable_count w.links }
 {}
 

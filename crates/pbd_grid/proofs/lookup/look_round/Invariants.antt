@@ -1,5 +1,10 @@
+use Rattle.std.proofs.Common.{◌≡◌}
+use Rattle.pbd_grid.specs.Looks.{looks_round}
 use Rattle.pbd_grid.proofs.Walking.{IsRound}
 use Rattle.pbd_grid.proofs.lookup.look_round.Given as goal
 
 abbrev pub invariant-loop-n : goal.invariant-loop-n
-invariant-loop-n g l = IsRound l.crowd.chains.now.chains l.crowd.places.now l.crowd.side (g.F.PairFilter.test l.filter) l.i l.from l.fn.found l.found l.n
+invariant-loop-n g l = record {
+  kept : IsRound l.crowd.chains.now.chains l.crowd.places.now l.crowd.side (g.F.PairFilter.test l.filter) l.i l.from l.fn.found l.found l.n;
+  looks : l.looks ≡ looks_round l.crowd.count l.crowd.side l.crowd.places.now l.i l.from l.n;
+}

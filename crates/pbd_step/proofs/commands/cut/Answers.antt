@@ -8,7 +8,7 @@ use Rattle.pbd_step.proofs.commands.cut.Goals as goal
 pub returns-clause-links : goal.returns-clause-links
 returns-clause-links g c =
     let links = c.args.state.now.links.items in
-    let l = c.args.l in
+    let l = c.in-Ok.n in
     let is = c.dead.ensures ∙ ap (λ (x : Link). record x { live = false }) c.index-2.ensures in
     record {
       particles = ap (λ (s : Coloured). s.particles) c.drop_pairs.ensures ∙ c.requires.links.particles;

@@ -1,9 +1,9 @@
-use Rattle.std.proofs.Common.{◌≡◌, ◌+◌, ◌-◌, ◌*◌, ◌^◌, min, arith, ap, sym, ◌∙◌, subst, ℕ, OnOk, length}
+use Rattle.std.proofs.Common.{◌≡◌, ◌+◌, ◌-◌, ◌*◌, ◌^◌, min, arith, ap, sym, ◌∙◌, ◌≤◌, subst, ℕ, List, OnOk, length}
 use Rattle.pbd_world.specs.Step.{step}
 use Rattle.pbd_world.specs.Ledger.{ledger_of}
 use Rattle.pbd_world.specs.Work.{found_in}
 use Rattle.pbd_world.specs.World.{live_count}
-use Rattle.pbd_world.proofs.WorkLemmas.{step_is}
+use Rattle.pbd_world.proofs.WorkLemmas.{step_is, step_goes_on}
 use Rattle.pbd_step.specs.declared.state.State.{State}
 use Rattle.pbd_step.specs.declared.state.Running.{Running}
 use Rattle.pbd_step.specs.States.{world_of, now_of, HasLinks}
@@ -115,7 +115,9 @@ returns-clause-cost g c =
     let begun : c.find.new.run.state ≡ then = ap (λ (r : Running g.row.L g.row.P.Denot). r.state) c.find.ensures.stays in
     let width : lanes c.find.new.run.projector ≡ lanes run.projector = ap (λ (r : Running g.row.L g.row.P.Denot). lanes r.projector) c.find.ensures.stays in
     let links : then.links.items ≡ w.links = ap (λ (s : State g.row.L). s.links.items) moved.same in
-    let pairs : c.find.new.run.tools.found.pairs ≡ found_in w = c.in_default-find.ensures.found ∙ sym (found_begun w (now_of then) then.links.items c.in_default.ensures.outcome links) in
+    let same = found_begun w (now_of then) then.links.items c.in_default.ensures.outcome links in
+    let pairs : c.find.new.run.tools.found.pairs ≡ found_in w = c.in_default-find.ensures.found ∙ sym same in
+    let few : length (found_in w) ≤ 262144 = omega (arith, c.in_default-find.ensures.few, ap (λ (ps : List (ℕ × ℕ)). length ps) same) in
     let found = finding_same g.row.L w (world_of setting then) then.store.particles (ledger_of then.totals) goes moved.whole in
     let finished = finishing_same g.row.L w (world_of setting c.find.new.run.state) then.store.particles (ledger_of then.totals) (ap (λ (s : State g.row.L). world_of setting s) begun ∙ goes) moved.whole width pairs in
-    omega (arith, c.begin.ensures.cost, c.find.ensures.cost, c.finish.ensures.cost, found, finished, step_is g.row.L (lanes run.projector) w (found_in w))
+    omega (arith, c.begin.ensures.cost, c.find.ensures.cost, c.finish.ensures.cost, found, finished, step_goes_on g.row.L (lanes run.projector) w (found_in w) few)

@@ -1,4 +1,4 @@
-use Rattle.std.proofs.Common.{◌≡◌, ◌∙◌, sym, ap, ℕ, List, length, to_z, of_z, w64, arith, unsigned_abs}
+use Rattle.std.proofs.Common.{◌≡◌, ◌∙◌, sym, ap, length, to_z, of_z, w64, arith, unsigned_abs}
 use Rattle.std.proofs.lemmas.Int.{to_z-of_z}
 use Rattle.std.proofs.lemmas.List.{length-map}
 use Rattle.std.proofs.lemmas.Result.{on_ok_weaker, on_err_weaker}
@@ -6,10 +6,11 @@ use Rattle.pbd_num.specs.declared.Vec3.{Vec3}
 use Rattle.pbd_world.specs.declared.parts.Particle.{Particle}
 use Rattle.pbd_world.specs.Room.{Roomed}
 use Rattle.pbd_colour.specs.Pairs.{Coloured}
+use Rattle.pbd_grid.specs.Looks.{Searched}
 use Rattle.pbd_grid.specs.Near.{near_pairs}
 use Rattle.pbd_self.specs.Apart.{may_touch}
 use Rattle.pbd_self.specs.Touching.{Found, AreOrdered, touching}
-use Rattle.pbd_self.proofs.Finding.{places_inside, grid_finds, touching_ordered, ordered_in_range, recoloured, result_ordered, result_fits}
+use Rattle.pbd_self.proofs.Finding.{places_inside, grid_finds, touching_ordered, ordered_in_range, recoloured, result_ordered, result_fits, looks_are, found_parts, on_both}
 use Rattle.pbd_self.proofs.contacts.SelfContacts.find.Goals as goal
 
 pub find_apart-found-requires-clause-places : goal.find_apart-found-requires-clause-places
@@ -43,7 +44,7 @@ invariant_of-self g c =
     = rw (found, ← size) (touching_ordered c.args.thickness c.args.links.now c.args.store.now.particles) in
     record {
       few = c.self.invariant.few;
-      grid_size = c.find_apart-found.ensures.same ∙ c.self.invariant.grid_size;
+      grid_size = ap (λ (s : Searched). s.particles) c.find_apart-found.ensures.same ∙ c.self.invariant.grid_size;
       fits = result_fits c.find_apart-found.result c.find_apart-found.new.out.entries (near_pairs c.as_slice.result.now (to_z w64 (of_z w64 c.args.thickness)) (may_touch c.as_slice-2.result.now c.args.links.now)) c.self.inside.pairs.room c.self.invariant.room c.find_apart-found.ensures.pairs c.find_apart-found.ensures.fits c.find_apart-found.ensures.emptied;
       room = c.find_apart-found.ensures.room ∙ c.self.invariant.room;
       ordered = result_ordered c.find_apart-found.result c.find_apart-found.new.out.entries (near_pairs c.as_slice.result.now (to_z w64 (of_z w64 c.args.thickness)) (may_touch c.as_slice-2.result.now c.args.links.now)) c.self.inside.particles near_ordered c.find_apart-found.ensures.pairs c.find_apart-found.ensures.emptied;
@@ -56,8 +57,15 @@ pub returns-clause-found : goal.returns-clause-found
 returns-clause-found g c =
     let found : near_pairs c.as_slice.result.now (to_z w64 (of_z w64 c.args.thickness)) (may_touch c.as_slice-2.result.now c.args.links.now) ≡ touching c.args.thickness c.args.links.now c.args.store.now.particles
     = grid_finds (to_z w64 (of_z w64 c.args.thickness)) c.args.thickness c.args.links.now c.args.store.now.particles c.self.inside.places c.copy_particles.new.places c.self.inside.held c.copy_particles.new.held c.as_slice.result.now c.as_slice-2.result.now (to_z-of_z w64 c.args.thickness c.ranges.thickness) c.as_slice.ensures c.copy_particles.ensures.places c.as_slice-2.ensures c.copy_particles.ensures.held in
-    let size : c.self.inside.particles ≡ c.args.self.now.particles = ap (λ (f : Found). f.particles) c.self.view_is in
-    on_ok_weaker c.find_apart-found.result (λ e. ap (λ (ps : List (ℕ × ℕ)). record { particles = c.self.inside.particles; pairs = ps }) (e ∙ found) ∙ ap (λ (n : ℕ). record { particles = n; pairs = touching c.args.thickness c.args.links.now c.args.store.now.particles }) size) c.find_apart-found.ensures.pairs
+    let chains : c.self.inside.grid.chains ≡ c.args.self.now.chains = ap (λ (f : Found). f.chains) c.self.view_is in
+    let looks = looks_are (to_z w64 (of_z w64 c.args.thickness)) c.args.thickness c.self.inside.grid.chains c.args.self.now.chains c.args.store.now.particles c.self.inside.places c.copy_particles.new.places c.as_slice.result.now (to_z-of_z w64 c.args.thickness c.ranges.thickness) chains c.as_slice.ensures c.copy_particles.ensures.places c.requires.low in
+    on_both c.find_apart-found.result (λ e f. found_parts _ _ (ap (λ (f : Found). f.particles) c.self.view_is) (e ∙ found) (ap (λ (s : Searched). s.chains) c.find_apart-found.ensures.same ∙ chains) (c.looks-self-inside.ensures ∙ f ∙ looks)) c.find_apart-found.ensures.pairs c.find_apart-found.ensures.looks
+
+pub returns-clause-most : goal.returns-clause-most
+returns-clause-most g c =
+    let chains : c.self.inside.grid.chains ≡ c.args.self.now.chains = ap (λ (f : Found). f.chains) c.self.view_is in
+    let looks = looks_are (to_z w64 (of_z w64 c.args.thickness)) c.args.thickness c.self.inside.grid.chains c.args.self.now.chains c.args.store.now.particles c.self.inside.places c.copy_particles.new.places c.as_slice.result.now (to_z-of_z w64 c.args.thickness c.ranges.thickness) chains c.as_slice.ensures c.copy_particles.ensures.places c.requires.low in
+    omega (arith, c.looks-self-inside.ensures, c.find_apart-found.ensures.most, looks)
 
 pub returns-clause-few : goal.returns-clause-few
 returns-clause-few g c =
