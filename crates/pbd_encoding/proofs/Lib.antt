@@ -1,0 +1,11 @@
+mod Rows
+pub mod Lengths
+pub mod Standing
+pub mod Reading
+pub mod Sections
+pub mod Scenes
+pub mod Telling
+pub mod Back
+pub mod Forming
+pub mod Bytes
+pub mod Going

@@ -1,0 +1,5 @@
+pub mod Encoding
+pub mod Described
+pub mod Views
+pub mod Form
+pub mod Laws

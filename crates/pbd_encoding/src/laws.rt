@@ -1,0 +1,27 @@
+//! What holds of the bytes of all worlds, as the contracts of functions that do nothing.
+ghost use Rattle.pbd_encoding.specs.Laws.{RefusedIsExact, SizeIsKnown, StatesTellWorldsApart, ToldIsWritten, WrittenIsTold};
+
+/// The size of a state is known before, from how many particles and links there are.
+pub fn sizes_are_known()
+    ensures { SizeIsKnown }
+{}
+
+/// The state of a world has the form of a state of its scene, and tells that world.
+pub fn what_is_written_is_told()
+    ensures { WrittenIsTold }
+{}
+
+/// Bytes that have the form are the state of the world that they tell.
+pub fn what_is_told_is_written()
+    ensures { ToldIsWritten }
+{}
+
+/// The form of bytes is refused at the first byte with which no state of the scene goes on.
+pub fn refusals_are_exact()
+    ensures { RefusedIsExact }
+{}
+
+/// Two worlds of a scene never have the same bytes.
+pub fn states_tell_worlds_apart()
+    ensures { StatesTellWorldsApart }
+{}

@@ -1,0 +1,212 @@
+//! Bytes of a hostile peer can do nothing but be refused.
+ghost use Rattle.std.specs.Prelude.{◌≡◌, ◌<◌};
+
+use crate::rows::{ROWS, Row};
+use pbd_num::{RANGE, Vec3};
+use pbd_pair::Scalar;
+use pbd_state::{digest, read_state, state_size, write_state};
+use pbd_step::Solver;
+use pbd_store::Steps;
+use pbd_world::{Kind, Link, List, Particle, Parts, PartsFault, Scene};
+use std::alloc::Global;
+use std::marker::Brand;
+use std::sync::ledger::{Blank, Ledger};
+
+const NAME: [u8; 32] = [7; 32];
+
+const SIZE: usize = 569;
+
+/// Of the state before the first step, as Python's hashlib gives it of bytes that were put together by hand.
+const DIGEST: [u8; 32] = [
+    175, 158, 13, 68, 217, 9, 136, 60, 132, 227, 192, 194, 26, 77, 102, 48, 169, 59, 90, 254, 86,
+    252, 57, 130, 185, 105, 49, 168, 5, 228, 253, 85,
+];
+
+/// A solver of the scene that the rows speak of.
+type Tested = Solver<4, Scalar<4>>;
+
+static PARTICLES: [Particle; 3] = [
+    Particle {
+        at: Vec3 { x: 0, y: 0, z: 0 },
+        before: Vec3 { x: 0, y: 0, z: 0 },
+        weight: 1,
+        held: true,
+    },
+    Particle {
+        at: Vec3 { x: 100, y: 0, z: 0 },
+        before: Vec3 { x: 100, y: 0, z: 0 },
+        weight: 1,
+        held: false,
+    },
+    Particle {
+        at: Vec3 { x: 200, y: 0, z: 0 },
+        before: Vec3 { x: 200, y: 0, z: 0 },
+        weight: 2,
+        held: false,
+    },
+];
+
+static LINKS: [Link; 2] = [
+    Link {
+        a: 0,
+        b: 1,
+        rest: 100,
+        k: 256,
+        tear: 0,
+        kind: Kind::Plain,
+        live: true,
+    },
+    Link {
+        a: 1,
+        b: 2,
+        rest: 100,
+        k: 256,
+        tear: 0,
+        kind: Kind::Plain,
+        live: true,
+    },
+];
+
+fn push_all<T: Copy + Drop>(list: &mut List<T>, items: &[T]) -> bool {
+    for item in items {
+        if list.push(*item).is_err() {
+            return false;
+        }
+    }
+    true
+}
+
+fn scene(alloc: Global) -> Result<Scene, PartsFault> {
+    let mut parts = Parts::empty(alloc, RANGE);
+    parts.gravity = Vec3 { x: 0, y: -10, z: 0 };
+    if push_all(&mut parts.particles, &PARTICLES) && push_all(&mut parts.links, &LINKS) {
+        Scene::from_parts(alloc, parts)
+    } else {
+        drop(parts);
+        Err(PartsFault::OutOfMemory)
+    }
+}
+
+/// The bytes of a state with some of them replaced.
+fn replaced(state: &[u8; SIZE], at: usize, bytes: &[u8]) -> [u8; SIZE] {
+    let mut wrong = *state;
+    let mut to = at;
+    for byte in bytes {
+        if let Some(place) = wrong.get_mut(to) {
+            *place = *byte;
+        }
+        to = to.saturating_add(1);
+    }
+    wrong
+}
+
+/// The state of a solver, or zeros if it is of another size.
+fn written<G: Ledger>(solver: &Tested, steps: &mut Steps<G>) -> [u8; SIZE] {
+    let mut state = [0; SIZE];
+    match write_state(&NAME, solver, &mut state, steps) {
+        Ok(SIZE) => state,
+        _ => [0; SIZE],
+    }
+}
+
+/// Where bytes are refused, or none where the world of a solver is then the one whose state they are. After a refusal the
+/// world is what it was.
+fn fault_of<G: Ledger>(
+    solver: &mut Tested,
+    bytes: &[u8],
+    steps: &mut Steps<G>,
+) -> Result<Option<u64>, &'static str> {
+    let before = written(solver, steps);
+    match read_state(&NAME, solver, bytes, steps) {
+        Ok(()) if written(solver, steps).as_slice() == bytes => Ok(None),
+        Ok(()) => Err("another state"),
+        Err(fault) if written(solver, steps) == before => Ok(Some(fault.offset)),
+        Err(_) => Err("another world"),
+    }
+}
+
+fn holds<G: Ledger>(
+    solver: &mut Tested,
+    state: &[u8; SIZE],
+    row: &Row,
+    steps: &mut Steps<G>,
+) -> bool {
+    let wrong = replaced(state, row.at, row.bytes);
+    fault_of(solver, &wrong, steps) == Ok(row.fault)
+}
+
+/// Whether pieces of a state from its front are refused where they end, and the state with a byte more too.
+fn are_cut_off<G: Ledger>(solver: &mut Tested, state: &[u8; SIZE], steps: &mut Steps<G>) -> bool {
+    for len in [0, 1, 8, 95, 96, 127, 128, 271, 275, 277, 281, SIZE - 1] {
+        if fault_of(solver, &state[..len], steps) != Ok(Some(len as u64)) {
+            return false;
+        }
+    }
+    let mut longer = [0; SIZE + 1];
+    longer[..SIZE].copy_from_slice(state);
+    fault_of(solver, &longer, steps) == Ok(Some(SIZE as u64))
+}
+
+/// The first row that doesn't hold, or what else doesn't.
+fn first_wrong<G: Ledger>(
+    solver: &mut Tested,
+    state: &[u8; SIZE],
+    steps: &mut Steps<G>,
+) -> Option<&'static str> {
+    for row in &ROWS {
+        if !holds(solver, state, row, steps) {
+            return Some(row.name);
+        }
+    }
+    if !are_cut_off(solver, state, steps) {
+        return Some("pieces");
+    }
+    None
+}
+
+/// The state of a solver after one step, if it has the digest before it, and no fewer bytes than the rows say.
+fn state_of<G: Ledger>(solver: &mut Tested, steps: &mut Steps<G>) -> Option<[u8; SIZE]> {
+    let mut state = [0; SIZE];
+    let short = write_state(&NAME, solver, &mut state[1..], steps);
+    if short.is_ok() || state_size(solver) != SIZE || digest(&NAME, solver, steps) != DIGEST {
+        return None;
+    }
+    match solver.steps(1, steps) {
+        Ok(()) => Some(written(solver, steps)),
+        Err(_) => None,
+    }
+}
+
+/// What is wrong where another solver reads the state of one.
+fn told<G: Ledger>(alloc: Global, blank: Blank, scene: &Scene) -> Option<&'static str>
+    requires name { blank.name ≡ G.name }
+    requires parts { blank.parts ≡ G.parts }
+    requires some { 0 < blank.parts }
+{
+    let mut steps: Steps<G> = Steps::open(blank);
+    let wrong = match Solver::open(alloc, scene, Scalar::<4>::new()) {
+        Ok(mut solver) => {
+            let wrong = match state_of(&mut solver, &mut steps) {
+                Some(state) => first_wrong(&mut solver, &state, &mut steps),
+                None => Some("a state"),
+            };
+            drop(solver);
+            wrong
+        }
+        Err(_) => Some("memory"),
+    };
+    drop(steps);
+    wrong
+}
+
+#[test]
+fn hostile_bytes_are_refused_at_their_places(rt: HostRuntime) {
+    match scene(rt.alloc()) {
+        Ok(scene) => {
+            let wrong = told::<Brand>(rt.alloc(), Blank::new(1), &scene);
+            drop(scene);
+            assert!(rt; wrong.is_none(), "{}", wrong.unwrap_or("nothing"));
+        }
+        Err(_) => assert!(rt; false, "no scene"),
+    }
+}
