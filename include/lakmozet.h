@@ -10,7 +10,7 @@
  * nowhere but through its arguments and into what the handle holds. After lak_open no call on a handle takes memory, until
  * lak_close gives it back. lak_record and lak_replay, which have no handle, take memory and give it back before they return.
  *
- * What a caller owes, and nothing checks:
+ * What a caller has to take care of, and nothing checks:
  *   - A handle is all zero bytes ({0} in C, {} in C++) or what the last call left. It may be moved, and is never copied and
  *     used twice. Its members are not for use.
  *   - A handle is used by one call at a time, and on the thread that opened it.
@@ -28,6 +28,12 @@
 #include <stdbool.h>
 #include <stddef.h>
 #include <stdint.h>
+
+/* The version of this header. Whoever loads the library by its name compares the version of that name: liblakmozet.so.MAJOR. */
+#define LAK_VERSION_MAJOR 0
+#define LAK_VERSION_MINOR 1
+#define LAK_VERSION_PATCH 0
+#define LAK_VERSION "0.1.0"
 
 #ifdef __cplusplus
 extern "C" {
@@ -66,12 +72,42 @@ typedef struct {
     int64_t at[3], before[3];   /* the sums of all places, and of all places of one step before */
 } lak_sums_of_world;
 
+/* A SHA-256 digest: the name of a scene, or what two machines compare. */
+typedef struct {
+    uint8_t bytes[32];
+} lak_hash;
+
 /* Where a replay stopped: see lak_replay. */
 typedef struct {
     uint64_t offset; /* how many bytes stand before the part that can't be read */
     uint64_t entry;  /* the first that differs, from 1 */
     uint8_t field;   /* 1 to 13: see lak_field_name */
 } lak_stop;
+
+/* A link, live or not: see lak_links. */
+typedef struct {
+    int64_t rest;       /* the rest length */
+    int64_t tear;       /* the length above which it tears, 0 where it never does */
+    uint32_t a, b;      /* the numbers of its ends */
+    uint16_t stiffness; /* in 256ths, at most 256 */
+    uint8_t kind;       /* 0 stretch, 1 shear, 2 bend, 3 a link of the scene's own */
+    uint8_t live;       /* 1 where it is live, 0 where it was cut or torn */
+} lak_link;
+
+/* A number of 128 bits: high * 2^64 + low. */
+typedef struct {
+    uint64_t low;
+    int64_t high;
+} lak_wide;
+
+/*
+ * The momentum of the particles that aren't held (the sum of their velocities, axis by axis), that at opening, and the sums of
+ * all moves since, by what made them: momentum is opening and the six totals together.
+ */
+typedef struct {
+    lak_wide momentum[3], opening[3];
+    lak_wide gravity[3], damping[3], link[3], contact[3], pin[3], shape[3];
+} lak_ledger_of_world;
 
 /* How many of everything there are. */
 typedef struct {
@@ -89,7 +125,8 @@ enum {
     LAK_CLOSED = 64,  /* the handle holds nothing; nothing was done, and nothing written but zeros into `left` */
     LAK_IN_USE = 65,  /* lak_open: the handle holds a cloth, which it keeps */
     LAK_NO_SLOT = 66, /* there is no such slot; lak_open: more than 16 slots */
-    LAK_NO_ROOM = 67  /* not all was written, since the memory is too short; the count says how much there is */
+    LAK_NO_ROOM = 67, /* not all was written, since the memory is too short; the count says how much there is */
+    LAK_NO_STATE = 68 /* lak_state_read: the bytes are no state of the scene; where they go wrong is told */
 };
 
 /* Refusals of commands, as the program numbers them. After one of these the world is exactly what it was. */
@@ -108,17 +145,17 @@ enum {
     LAK_TOO_MANY_CONTACTS = 12 /* in a step there were more than 262,144 contacts */
 };
 
-/* What lak_open, lak_record and lak_replay answer beside: the program's statuses. */
+/* What lak_open, lak_record and lak_replay answer beside: the program's statuses, with 32 added to each. */
 enum {
-    LAK_NO_LOG_ROOM = 3,    /* lak_record, lak_replay: the output is too short */
-    LAK_TOO_LONG = 4,       /* lak_record: the scene or the script is longer than 2^24 bytes; lak_replay: the log than 2^27 */
-    LAK_SCENE_NOT_TEXT = 6, /* the scene is no UTF-8 */
-    LAK_SCENE_NOT_TOML = 7, /* the scene is no TOML */
-    LAK_SCENE_REFUSED = 8,  /* the scene breaks a rule, which is told */
-    LAK_LOG_REFUSED = 9,    /* lak_replay: the bytes are no log; where they stop being one is told */
-    LAK_MISMATCH = 10,      /* lak_replay: an entry differs, which is told */
-    LAK_SOME_REFUSED = 11,  /* lak_record, lak_replay: all went well, but a command was refused */
-    LAK_OUT_OF_MEMORY = 12  /* there was no memory */
+    LAK_NO_LOG_ROOM = 35,    /* lak_record, lak_replay: there are more bytes than `room` */
+    LAK_TOO_LONG = 36,       /* lak_record: the scene or the script is longer than 2^24 bytes; lak_replay: the log than 2^27 */
+    LAK_SCENE_NOT_TEXT = 38, /* the scene is no UTF-8 */
+    LAK_SCENE_NOT_TOML = 39, /* the scene is no TOML */
+    LAK_SCENE_REFUSED = 40,  /* the scene breaks a rule, which is told */
+    LAK_LOG_REFUSED = 41,    /* lak_replay: the bytes are no log; where they stop being one is told */
+    LAK_MISMATCH = 42,       /* lak_replay: an entry differs, which is told */
+    LAK_SOME_REFUSED = 43,   /* lak_record, lak_replay: all went well, but a command was refused */
+    LAK_OUT_OF_MEMORY = 44   /* there was no memory */
 };
 
 /* ---- opening and closing */
@@ -158,6 +195,12 @@ int32_t lak_move(lak_cloth *cloth, uint64_t particle, lak_place to);
 /* Lets a link go. Answers LAK_NO_LINK or LAK_LINK_GONE. */
 int32_t lak_cut(lak_cloth *cloth, uint64_t link);
 
+/*
+ * Lets `length` links go, one after another, each as lak_cut does. Cuts that are refused change nothing; `refused` says how many
+ * were. Answers LAK_DONE or LAK_CLOSED.
+ */
+int32_t lak_cut_many(lak_cloth *cloth, const uint32_t *links, size_t length, size_t *refused);
+
 /* Sets gravity, within 2^29 on each axis. Answers LAK_OUT_OF_RANGE. */
 int32_t lak_gravity(lak_cloth *cloth, lak_place gravity);
 
@@ -174,6 +217,16 @@ int32_t lak_restore(lak_cloth *cloth, uint32_t slot);
 int32_t lak_counts(lak_cloth *cloth, lak_counts_of_world *counts);
 int32_t lak_sums(lak_cloth *cloth, lak_sums_of_world *sums);
 
+/* Gravity, as it is now. */
+int32_t lak_gravity_now(lak_cloth *cloth, lak_place *gravity);
+
+/* Where momentum came from and went, as the program's command `ledger` tells it. */
+int32_t lak_ledger(lak_cloth *cloth, lak_ledger_of_world *ledger);
+
+/* The number of the link that joins two particles, in either order, live or not: no two links join the same. Answers LAK_NO_LINK,
+ * and leaves `link`, where there is none. */
+int32_t lak_link_between(lak_cloth *cloth, uint32_t a, uint32_t b, uint32_t *link);
+
 /*
  * Lists: these write as many as there is room for, in `count` how many there are, and leave what stands behind them. They
  * answer LAK_NO_ROOM where not all fit. Where they answer LAK_CLOSED or LAK_NO_SLOT they write nothing.
@@ -185,21 +238,59 @@ int32_t lak_places(lak_cloth *cloth, lak_place *into, size_t room, uint32_t *cou
 /* Their places one step before: the difference is a particle's velocity. */
 int32_t lak_places_before(lak_cloth *cloth, lak_place *into, size_t room, uint32_t *count);
 
+/* A 1 for each held particle and a 0 for each other, in the order of their numbers. */
+int32_t lak_held(lak_cloth *cloth, uint8_t *into, size_t room, uint32_t *count);
+
+/* All links, in the order of their numbers. Only `live` ever changes. */
+int32_t lak_links(lak_cloth *cloth, lak_link *into, size_t room, uint32_t *count);
+
 /* A 1 for each live link and a 0 for each other, in the order of their numbers. */
 int32_t lak_live(lak_cloth *cloth, uint8_t *into, size_t room, uint32_t *count);
 
 /* The numbers, ascending, of the links that are live in a slot's world and are so no longer. Answers LAK_NO_SLOT too. */
 int32_t lak_gone_since(lak_cloth *cloth, uint32_t slot, uint32_t *into, size_t room, uint32_t *count);
 
+/* ---- the world as bytes: saved games, players who join late, and what two machines compare */
+
+/*
+ * Writes the name of a scene: the SHA-256 digest of its text. States and digests carry it, so that those of another
+ * scene are refused. An engine keeps it beside the handle. docs/FORMATS.md has the bytes of a state.
+ */
+void lak_scene_name(const uint8_t *toml, size_t length, lak_hash *name);
+
+/* How many bytes a state of the handle's scene has, at most 3,735,972: the same for all its worlds. LAK_DONE or LAK_CLOSED. */
+int32_t lak_state_size(lak_cloth *cloth, size_t *size);
+
+/*
+ * Writes the state of the world: all of it that commands change, and nothing of the slots. `size` says how many bytes it has.
+ * LAK_DONE, LAK_CLOSED, or LAK_NO_ROOM, and then nothing is written. Takes no memory.
+ */
+int32_t lak_state_write(lak_cloth *cloth, lak_hash name, uint8_t *into, size_t room, size_t *size);
+
+/*
+ * Goes over to the world whose state the bytes are, on a handle that was opened on the scene. What follows is what follows on
+ * the machine that wrote it. No slot changes. Takes no memory. LAK_DONE, LAK_CLOSED, or LAK_NO_STATE, and then nothing changes,
+ * and `offset` says how many bytes stand before the one that can't stand there, or before the field that is unsound. Bytes of
+ * anybody can be handed in: what is taken is a sound world of the scene, and its state is those bytes.
+ */
+int32_t lak_state_read(lak_cloth *cloth, lak_hash name, const uint8_t *state, size_t length, uint64_t *offset);
+
+/*
+ * Writes the SHA-256 digest of the state. Equal worlds have equal digests, and worlds that differ in anything have
+ * different states. LAK_DONE or LAK_CLOSED.
+ */
+int32_t lak_digest(lak_cloth *cloth, lak_hash name, lak_hash *digest);
+
 /* ---- whole runs, from bytes to bytes */
 
 /*
  * Runs a script (docs/FORMATS.md has its lines) on the scene of a TOML text, each of at most 2^24 bytes, and writes the log of
  * the session into `output`, which is `room` bytes long; `written` says how many bytes it has. It is a log as the program's
- * `record` writes.
+ * `record` writes. The lines of commands that were played by calls are written by lakmozet_lines.h.
  *
- * LAK_DONE, LAK_SOME_REFUSED: the log is written. LAK_NO_LOG_ROOM, LAK_TOO_LONG, LAK_SCENE_NOT_TEXT, LAK_SCENE_NOT_TOML,
- * LAK_SCENE_REFUSED, LAK_OUT_OF_MEMORY: `written` is 0, and what `output` has is not told.
+ * LAK_DONE, LAK_SOME_REFUSED: the log is written. LAK_NO_LOG_ROOM: the log has more bytes than `room`. LAK_TOO_LONG: the scene
+ * or the script is longer than 2^24 bytes. With these two, LAK_SCENE_NOT_TEXT, LAK_SCENE_NOT_TOML, LAK_SCENE_REFUSED and
+ * LAK_OUT_OF_MEMORY `written` is 0. What stands in `output` behind `written` bytes is left as it was.
  */
 int32_t lak_record(const uint8_t *scene, size_t scene_length, const uint8_t *script, size_t script_length, uint8_t *output,
                    size_t room, size_t *written);
@@ -211,13 +302,29 @@ int32_t lak_record(const uint8_t *scene, size_t scene_length, const uint8_t *scr
  *
  * LAK_DONE, LAK_SOME_REFUSED: the text is written, and the answers and sums of all entries agree; no sum sees what a link moves
  * between two free ends of one weight. LAK_MISMATCH: the text is written, and `stop` has the first entry that differs, from 1,
- * and its first field that does. LAK_LOG_REFUSED: `written` is 0, and `stop` has the offset. LAK_NO_LOG_ROOM, LAK_TOO_LONG,
- * LAK_SCENE_NOT_TEXT, LAK_SCENE_NOT_TOML, LAK_SCENE_REFUSED (of the scene in the log), LAK_OUT_OF_MEMORY: `written` is 0. What
- * an answer doesn't tell is 0 in `stop`, and where `written` is 0, what `output` has is not told.
+ * and its first field that does. LAK_LOG_REFUSED: `written` is 0, and `stop` has the offset. LAK_NO_LOG_ROOM: the text has more
+ * bytes than `room`. LAK_TOO_LONG: the log is longer than 2^27 bytes. With these two, LAK_SCENE_NOT_TEXT, LAK_SCENE_NOT_TOML,
+ * LAK_SCENE_REFUSED (of the scene in the log) and LAK_OUT_OF_MEMORY `written` is 0. What an answer doesn't tell is 0 in `stop`,
+ * and what stands in `output` behind `written` bytes is left as it was.
  */
 int32_t lak_replay(const uint8_t *log, size_t length, uint8_t *output, size_t room, size_t *written, lak_stop *stop);
 
 /* ---- names, as the program prints them */
+
+/* Of an answer: a refusal, a status, or one of the library's own. No two of them have one number. */
+static inline const char *lak_answer_name(int32_t answer)
+{
+    static const char *const refusals[] = {"Done", "BadCommand", "NoParticle", "NoLink", "LinkGone", "OutOfRange", "NotHeld", "Held",
+                                           "Tracked", "BadCount", "StepLimit", "LeavesRange", "TooManyContacts"};
+    static const char *const statuses[] = {"NoLogRoom", "TooLong", "-", "SceneNotText", "SceneNotToml", "SceneRefused",
+                                           "LogRefused", "Mismatch", "SomeRefused", "OutOfMemory"};
+    static const char *const own[] = {"Closed", "InUse", "NoSlot", "NoRoom", "NoState"};
+    if (LAK_DONE <= answer && answer <= LAK_TOO_MANY_CONTACTS)
+        return refusals[answer];
+    if (LAK_NO_LOG_ROOM <= answer && answer <= LAK_OUT_OF_MEMORY)
+        return statuses[answer - LAK_NO_LOG_ROOM];
+    return LAK_CLOSED <= answer && answer <= LAK_NO_STATE ? own[answer - LAK_CLOSED] : "-";
+}
 
 static inline const char *lak_rule_name(uint8_t rule)
 {

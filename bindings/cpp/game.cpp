@@ -22,6 +22,9 @@ using lakmozet::Place;
 constexpr std::uint32_t SLOTS = 9, DROPPED = 8;
 constexpr std::size_t PLAYERS = 2, TURNS = 40, LATE = 5;
 constexpr std::array<std::uint64_t, PLAYERS> HANDS = {0, 19};
+/* How many particles a row of the cloth has, and how many threads a stroke cuts. */
+constexpr std::uint32_t ROW = 20, WIDE = 3;
+constexpr Place GRAVITY = {0, -120, 0};
 
 /* Ends the game where something isn't as it must be. */
 static void must(bool is_so, const char *what)
@@ -37,11 +40,11 @@ static void must(Answer answer, const char *what)
     must(answer == Answer::Done, what);
 }
 
-/* What a player does in a turn: moves its hand, and now and then cuts a link. */
+/* What a player does in a turn: moves its hand, and now and then cuts a stroke, the threads below WIDE neighbours in a row. */
 struct Input {
     Place to;
     bool cuts;
-    std::uint64_t link;
+    std::uint32_t first;
 };
 
 using Inputs = std::array<std::array<Input, PLAYERS>, TURNS>;
@@ -61,7 +64,7 @@ static Inputs drawn_inputs()
             const std::int64_t x = 124526 * static_cast<std::int64_t>(player) - 72263 + draw(20001);
             const std::int64_t y = 1000 * static_cast<std::int64_t>(turn) + 56000 + draw(8001);
             const bool cuts = draw(8) == 0;
-            inputs[turn][player] = {{x, y, -62263}, cuts, static_cast<std::uint64_t>(draw(2202))};
+            inputs[turn][player] = {{x, y, -62263}, cuts, static_cast<std::uint32_t>(draw(378))};
         }
     }
     return inputs;
@@ -145,7 +148,7 @@ public:
     {
         for (const std::uint64_t hand : HANDS)
             must(cloth.pin(hand), "pin");
-        must(cloth.gravity({0, -120, 0}), "gravity");
+        must(cloth.gravity(GRAVITY), "gravity");
     }
 
     /* Learns a player's next turn: where that was played without it, goes back, and plays on from there. */
@@ -181,9 +184,21 @@ private:
             const Input &input = inputs[turn][player];
             must(cloth.move(HANDS[player], input.to), "move");
             if (input.cuts)
-                cloth.cut(input.link); /* a link that is gone is refused, on all machines alike */
+                cut_stroke(input.first);
         }
         must(cloth.step(3), "step");
+    }
+
+    /* Cuts the threads from a row to the next. One that is gone is refused, on all machines alike. */
+    void cut_stroke(std::uint32_t first)
+    {
+        std::array<std::uint32_t, WIDE> threads{};
+        for (std::uint32_t k = 0; k < WIDE; k++) {
+            const auto thread = cloth.link_between(first + k, first + k + ROW);
+            must(thread.has_value(), "a thread joins a particle and the one below it");
+            threads[k] = *thread;
+        }
+        must(cloth.cut_many(threads).answer, "cut many");
     }
 
     Cloth cloth;
@@ -224,6 +239,36 @@ static bool has_sum(const std::vector<Place> &places, const std::int64_t (&sum)[
     return total.x == sum[0] && total.y == sum[1] && total.z == sum[2];
 }
 
+/* Sees that the links agree with the count of live ones, that nothing is held, and that gravity is what it was set to. */
+static void look_at_parts(const Cloth &cloth, const lakmozet::Counts &counts)
+{
+    std::vector<lakmozet::Link> links(counts.links);
+    must(cloth.links(links).answer, "links");
+    const auto live = std::count_if(links.begin(), links.end(), [](const lakmozet::Link &it) { return it.live == 1; });
+    must(static_cast<std::uint32_t>(live) == counts.live, "the live links are counted");
+    must(cloth.link_between(links.back().b, links.back().a) == counts.links - 1, "a link is found by its ends");
+    must(!cloth.link_between(0, 0), "no link joins a particle with itself");
+    std::vector<std::uint8_t> held(counts.particles);
+    must(cloth.held(held).answer, "held");
+    must(std::count(held.begin(), held.end(), 1) == 0, "the corners are let go");
+    Place gravity;
+    must(cloth.gravity_now(gravity), "gravity now");
+    must(gravity.x == GRAVITY.x && gravity.y == GRAVITY.y && gravity.z == GRAVITY.z, "gravity is what it was set to");
+}
+
+/* Sees that the momentum is that at opening and the six totals together. (all are far from 2^63: their low words tell it) */
+static void look_at_ledger(const Cloth &cloth)
+{
+    lakmozet::Ledger it;
+    must(cloth.ledger(it), "ledger");
+    for (std::size_t axis = 0; axis < 3; axis++) {
+        std::uint64_t total = it.opening[axis].low;
+        for (const auto &cause : {it.gravity, it.damping, it.link, it.contact, it.pin, it.shape})
+            total += cause[axis].low;
+        must(total == it.momentum[axis].low, "the ledger balances");
+    }
+}
+
 /* The sums as a line, after the lists were seen to agree with them. */
 static std::string totals(const Cloth &cloth)
 {
@@ -239,6 +284,8 @@ static std::string totals(const Cloth &cloth)
     std::vector<Place> before(counts.particles);
     must(cloth.places_before(before).answer, "places before");
     must(has_sum(places_of(cloth), sums.at) && has_sum(before, sums.before), "the places have their sums");
+    look_at_parts(cloth, counts);
+    look_at_ledger(cloth);
     std::ostringstream line;
     line << "sums " << sums.steps << ' ' << sums.live << ' ' << sums.contacts;
     for (const auto &three : {sums.at, sums.before})

@@ -12,6 +12,7 @@
 
 #include <cstddef>
 #include <cstdint>
+#include <optional>
 #include <span>
 #include <string_view>
 #include <type_traits>
@@ -25,6 +26,9 @@ using Left = lak_left;
 using Sums = lak_sums_of_world;
 using Counts = lak_counts_of_world;
 using Stop = lak_stop;
+using Link = lak_link;
+using Wide = lak_wide;
+using Ledger = lak_ledger_of_world;
 
 /* What a call on a cloth answers. */
 enum class Answer : std::int32_t {
@@ -65,6 +69,12 @@ enum class Outcome : std::int32_t {
 struct Listed {
     Answer answer;
     std::uint32_t count;
+};
+
+/* An answer, and how many of many cuts were refused. */
+struct Cuts {
+    Answer answer;
+    std::size_t refused;
 };
 
 /* An outcome, and how many bytes were written. */
@@ -121,6 +131,12 @@ public:
     Answer unpin(std::uint64_t particle) noexcept { return Answer{lak_unpin(&handle, particle)}; }
     Answer move(std::uint64_t particle, Place to) noexcept { return Answer{lak_move(&handle, particle, to)}; }
     Answer cut(std::uint64_t link) noexcept { return Answer{lak_cut(&handle, link)}; }
+    Cuts cut_many(std::span<const std::uint32_t> links) noexcept
+    {
+        std::size_t refused = 0;
+        const Answer answer{lak_cut_many(&handle, detail::start(links), links.size(), &refused)};
+        return {answer, refused};
+    }
     Answer gravity(Place gravity) noexcept { return Answer{lak_gravity(&handle, gravity)}; }
 
     /* ---- slots */
@@ -132,8 +148,20 @@ public:
 
     [[nodiscard]] Answer counts(Counts &into) const noexcept { return Answer{lak_counts(&handle, &into)}; }
     [[nodiscard]] Answer sums(Sums &into) const noexcept { return Answer{lak_sums(&handle, &into)}; }
+    [[nodiscard]] Answer gravity_now(Place &into) const noexcept { return Answer{lak_gravity_now(&handle, &into)}; }
+    [[nodiscard]] Answer ledger(Ledger &into) const noexcept { return Answer{lak_ledger(&handle, &into)}; }
+    /* (nothing where no link joins the two, and where the cloth is closed) */
+    [[nodiscard]] std::optional<std::uint32_t> link_between(std::uint32_t a, std::uint32_t b) const noexcept
+    {
+        std::uint32_t link = 0;
+        if (lak_link_between(&handle, a, b, &link) != LAK_DONE)
+            return std::nullopt;
+        return link;
+    }
     [[nodiscard]] Listed places(std::span<Place> into) const noexcept { return list(lak_places, into); }
     [[nodiscard]] Listed places_before(std::span<Place> into) const noexcept { return list(lak_places_before, into); }
+    [[nodiscard]] Listed held(std::span<std::uint8_t> into) const noexcept { return list(lak_held, into); }
+    [[nodiscard]] Listed links(std::span<Link> into) const noexcept { return list(lak_links, into); }
     [[nodiscard]] Listed live(std::span<std::uint8_t> into) const noexcept { return list(lak_live, into); }
     [[nodiscard]] Listed gone_since(std::uint32_t slot, std::span<std::uint32_t> into) const noexcept
     {

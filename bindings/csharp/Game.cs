@@ -4,12 +4,12 @@ using System.Linq;
 using System.Text;
 using Lakmozet;
 
-/// <summary>What a player does in a turn: moves its hand, and now and then cuts a link.</summary>
+/// <summary>What a player does in a turn: moves its hand, and now and then cuts a stroke, the threads below neighbours in a row.</summary>
 struct Input
 {
     public Place To;
     public bool Cuts;
-    public ulong Link;
+    public uint First;
 }
 
 /// <summary>The numbers that all bindings draw.</summary>
@@ -40,7 +40,7 @@ sealed class Machine : IDisposable
         inputs = all;
         foreach (var hand in Game.Hands)
             Game.Must(cloth.Pin(hand), "Pin");
-        Game.Must(cloth.Gravity(new Place(0, -120, 0)), "Gravity");
+        Game.Must(cloth.Gravity(Game.Gravity), "Gravity");
     }
 
     public Cloth World
@@ -75,9 +75,22 @@ sealed class Machine : IDisposable
             var input = inputs[turn, player];
             Game.Must(cloth.Move(Game.Hands[player], input.To), "Move");
             if (input.Cuts)
-                cloth.Cut(input.Link); // a link that is gone is refused, on all machines alike
+                CutStroke(input.First);
         }
         Game.Must(cloth.Step(3), "Step");
+    }
+
+    /// <summary>Cuts the threads from a row to the next. One that is gone is refused, on all machines alike.</summary>
+    private void CutStroke(uint first)
+    {
+        var threads = new uint[Game.Wide];
+        for (uint k = 0; k < Game.Wide; k++)
+        {
+            var thread = cloth.LinkBetween(first + k, first + k + Game.Row);
+            Game.Must(thread.HasValue, "a thread joins a particle and the one below it");
+            threads[k] = thread.Value;
+        }
+        Game.Must(cloth.CutMany(threads, out _), "CutMany");
     }
 
     public void LetGo()
@@ -98,7 +111,11 @@ static class Game
     /// <summary>A slot for each of the last eight turns, and one for the world after the drop.</summary>
     public const uint Slots = 9, Dropped = 8;
 
+    /// <summary>How many particles a row of the cloth has, and how many threads a stroke cuts.</summary>
+    public const uint Row = 20, Wide = 3;
+
     public static readonly ulong[] Hands = { 0, 19 };
+    public static readonly Place Gravity = new Place(0, -120, 0);
     private const int Turns = 40, Late = 5;
 
     /// <summary>Ends the game where something isn't as it must be.</summary>
@@ -124,7 +141,7 @@ static class Game
                 var x = 124526 * player - 72263 + numbers.Draw(20001);
                 var y = 1000 * turn + 56000 + numbers.Draw(8001);
                 var cuts = numbers.Draw(8) == 0;
-                inputs[turn, player] = new Input { To = new Place(x, y, -62263), Cuts = cuts, Link = (ulong)numbers.Draw(2202) };
+                inputs[turn, player] = new Input { To = new Place(x, y, -62263), Cuts = cuts, First = (uint)numbers.Draw(378) };
             }
         }
         return inputs;
@@ -208,6 +225,36 @@ static class Game
         return total.Equals(sum);
     }
 
+    /// <summary>Sees that the links agree with the count of live ones, that nothing is held, and that gravity is what it was set to.</summary>
+    private static void LookAtParts(Cloth cloth, Counts counts)
+    {
+        var links = new Link[counts.Links];
+        Must(cloth.Links(links, out _), "Links");
+        Must(links.Count(it => it.Live == 1) == counts.Live, "the live links are counted");
+        var last = links[links.Length - 1];
+        Must(cloth.LinkBetween(last.B, last.A) == counts.Links - 1, "a link is found by its ends");
+        Must(cloth.LinkBetween(0, 0) == null, "no link joins a particle with itself");
+        var held = new byte[counts.Particles];
+        Must(cloth.Held(held, out _), "Held");
+        Must(held.All(it => it == 0), "the corners are let go");
+        Must(cloth.GravityNow(out var gravity), "GravityNow");
+        Must(gravity.Equals(Gravity), "gravity is what it was set to");
+    }
+
+    /// <summary>What a sum of 128 bits has in its low halves, which tell it where it is far from 2^63.</summary>
+    private static Place LowOf(WidePlace sum)
+    {
+        return new Place((long)sum.X.Low, (long)sum.Y.Low, (long)sum.Z.Low);
+    }
+
+    /// <summary>Sees that the momentum is that at opening and the six totals together.</summary>
+    private static void LookAtLedger(Cloth cloth)
+    {
+        Must(cloth.Ledger(out var it), "Ledger");
+        var causes = new[] { it.Opening, it.Gravity, it.Damping, it.Link, it.Contact, it.Pin, it.Shape };
+        Must(HasSum(causes.Select(cause => LowOf(cause)).ToArray(), LowOf(it.Momentum)), "the ledger balances");
+    }
+
     /// <summary>The sums, after the lists were seen to agree with them.</summary>
     private static Sums Totals(Cloth cloth)
     {
@@ -221,6 +268,8 @@ static class Game
         var before = new Place[counts.Particles];
         Must(cloth.PlacesBefore(before, out _), "PlacesBefore");
         Must(HasSum(PlacesOf(cloth), sums.At) && HasSum(before, sums.Before), "the places have their sums");
+        LookAtParts(cloth, counts);
+        LookAtLedger(cloth);
         return sums;
     }
 

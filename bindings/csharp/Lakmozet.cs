@@ -34,15 +34,15 @@ namespace Lakmozet
     public enum Outcome
     {
         Done = 0,
-        NoLogRoom = 3,
-        TooLong = 4,
-        SceneNotText = 6,
-        SceneNotToml = 7,
-        SceneRefused = 8,
-        LogRefused = 9,
-        Mismatch = 10,
-        SomeRefused = 11,
-        OutOfMemory = 12,
+        NoLogRoom = 35,
+        TooLong = 36,
+        SceneNotText = 38,
+        SceneNotToml = 39,
+        SceneRefused = 40,
+        LogRefused = 41,
+        Mismatch = 42,
+        SomeRefused = 43,
+        OutOfMemory = 44,
         InUse = 65,
         NoSlot = 66
     }
@@ -131,6 +131,39 @@ namespace Lakmozet
         public uint Particles, Links, Live, Contacts, Slots;
     }
 
+    /// <summary>A link, live or not: its lengths are in units of 1/65,536 metre, and its stiffness in 256ths.</summary>
+    [StructLayout(LayoutKind.Sequential)]
+    public struct Link
+    {
+        public long Rest, Tear;
+        public uint A, B;
+        public ushort Stiffness;
+        public byte Kind, Live;
+    }
+
+    /// <summary>A number of 128 bits: High * 2^64 + Low.</summary>
+    [StructLayout(LayoutKind.Sequential)]
+    public struct Wide
+    {
+        public ulong Low;
+        public long High;
+    }
+
+    /// <summary>A sum of 128 bits on each axis.</summary>
+    [StructLayout(LayoutKind.Sequential)]
+    public struct WidePlace
+    {
+        public Wide X, Y, Z;
+    }
+
+    /// <summary>The momentum, that at opening, and the sums of all moves since, by what made them.</summary>
+    [StructLayout(LayoutKind.Sequential)]
+    public struct Ledger
+    {
+        public WidePlace Momentum, Opening;
+        public WidePlace Gravity, Damping, Link, Contact, Pin, Shape;
+    }
+
     /// <summary>Where a replay stopped.</summary>
     [StructLayout(LayoutKind.Sequential)]
     public struct Stop
@@ -160,14 +193,21 @@ namespace Lakmozet
         [DllImport(Library)] internal static extern Answer lak_unpin(ref Handle cloth, ulong particle);
         [DllImport(Library)] internal static extern Answer lak_move(ref Handle cloth, ulong particle, Place to);
         [DllImport(Library)] internal static extern Answer lak_cut(ref Handle cloth, ulong link);
+        [DllImport(Library)] internal static extern Answer lak_cut_many(ref Handle cloth, uint* links, UIntPtr length,
+            out UIntPtr refused);
         [DllImport(Library)] internal static extern Answer lak_gravity(ref Handle cloth, Place gravity);
         [DllImport(Library)] internal static extern Answer lak_save(ref Handle cloth, uint slot);
         [DllImport(Library)] internal static extern Answer lak_restore(ref Handle cloth, uint slot);
         [DllImport(Library)] internal static extern Answer lak_counts(ref Handle cloth, out Counts counts);
         [DllImport(Library)] internal static extern Answer lak_sums(ref Handle cloth, out Sums sums);
+        [DllImport(Library)] internal static extern Answer lak_gravity_now(ref Handle cloth, out Place gravity);
+        [DllImport(Library)] internal static extern Answer lak_ledger(ref Handle cloth, out Ledger ledger);
+        [DllImport(Library)] internal static extern Answer lak_link_between(ref Handle cloth, uint a, uint b, out uint link);
         [DllImport(Library)] internal static extern Answer lak_places(ref Handle cloth, Place* into, UIntPtr room, out uint count);
         [DllImport(Library)] internal static extern Answer lak_places_before(ref Handle cloth, Place* into, UIntPtr room,
             out uint count);
+        [DllImport(Library)] internal static extern Answer lak_held(ref Handle cloth, byte* into, UIntPtr room, out uint count);
+        [DllImport(Library)] internal static extern Answer lak_links(ref Handle cloth, Link* into, UIntPtr room, out uint count);
         [DllImport(Library)] internal static extern Answer lak_live(ref Handle cloth, byte* into, UIntPtr room, out uint count);
         [DllImport(Library)] internal static extern Answer lak_gone_since(ref Handle cloth, uint slot, uint* into, UIntPtr room,
             out uint count);
@@ -214,6 +254,17 @@ namespace Lakmozet
         public Answer Cut(ulong link) { return Native.lak_cut(ref handle, link); }
         public Answer Gravity(Place gravity) { return Native.lak_gravity(ref handle, gravity); }
 
+        /// <summary>Lets links go, one after another, and says how many of these cuts were refused.</summary>
+        public Answer CutMany(ReadOnlySpan<uint> links, out int refused)
+        {
+            fixed (uint* at = &Native.Start(links))
+            {
+                var answer = Native.lak_cut_many(ref handle, at, Native.Length(links), out var count);
+                refused = (int)(uint)count;
+                return answer;
+            }
+        }
+
         // ---- slots
 
         public Answer Save(uint slot) { return Native.lak_save(ref handle, slot); }
@@ -223,6 +274,14 @@ namespace Lakmozet
 
         public Answer Counts(out Counts counts) { return Native.lak_counts(ref handle, out counts); }
         public Answer Sums(out Sums sums) { return Native.lak_sums(ref handle, out sums); }
+        public Answer GravityNow(out Place gravity) { return Native.lak_gravity_now(ref handle, out gravity); }
+        public Answer Ledger(out Ledger ledger) { return Native.lak_ledger(ref handle, out ledger); }
+
+        /// <summary>The number of the link that joins two particles, or null: none joins them, or the cloth is closed.</summary>
+        public uint? LinkBetween(uint a, uint b)
+        {
+            return Native.lak_link_between(ref handle, a, b, out var link) == Answer.Done ? link : (uint?)null;
+        }
 
         public Answer Places(Span<Place> into, out uint count)
         {
@@ -234,6 +293,18 @@ namespace Lakmozet
         {
             fixed (Place* at = &Native.Start<Place>(into))
                 return Native.lak_places_before(ref handle, at, Native.Length<Place>(into), out count);
+        }
+
+        public Answer Held(Span<byte> into, out uint count)
+        {
+            fixed (byte* at = &Native.Start<byte>(into))
+                return Native.lak_held(ref handle, at, Native.Length<byte>(into), out count);
+        }
+
+        public Answer Links(Span<Link> into, out uint count)
+        {
+            fixed (Link* at = &Native.Start<Link>(into))
+                return Native.lak_links(ref handle, at, Native.Length<Link>(into), out count);
         }
 
         public Answer Live(Span<byte> into, out uint count)

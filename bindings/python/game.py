@@ -10,14 +10,16 @@ import lakmozet
 SLOTS, DROPPED = 9, 8  # a slot for each of the last eight turns, and one for the world after the drop
 TURNS, LATE = 40, 5
 HANDS = (0, 19)
+ROW, WIDE = 20, 3  # how many particles a row of the cloth has, and how many threads a stroke cuts
+GRAVITY = (0, -120, 0)
 
 
 class Input(NamedTuple):
-    """What a player does in a turn: moves its hand, and now and then cuts a link."""
+    """What a player does in a turn: moves its hand, and now and then cuts a stroke, the threads below WIDE neighbours in a row."""
 
     to: tuple[int, int, int]
     cuts: bool
-    link: int
+    first: int
 
 
 def must(is_so: bool, what: str) -> None:
@@ -36,7 +38,7 @@ def drawn_inputs() -> list[list[Input]]:
         state ^= state << 5 & 0xFFFFFFFF
         return state % below
 
-    return [[Input((124526 * player - 72263 + draw(20001), 1000 * turn + 56000 + draw(8001), -62263), draw(8) == 0, draw(2202))
+    return [[Input((124526 * player - 72263 + draw(20001), 1000 * turn + 56000 + draw(8001), -62263), draw(8) == 0, draw(378))
              for player in range(len(HANDS))] for turn in range(TURNS)]
 
 
@@ -65,7 +67,7 @@ class Machine:
         self.known, self.played = [0] * len(HANDS), 0
         for hand in HANDS:
             cloth.pin(hand)
-        cloth.gravity((0, -120, 0))
+        cloth.gravity(GRAVITY)
 
     def learn(self, player: int) -> None:
         """Learns a player's next turn: where that was played without it, goes back, and plays on from there."""
@@ -88,11 +90,12 @@ class Machine:
                 continue
             self.cloth.move(HANDS[player], it.to)
             if it.cuts:
-                try:
-                    self.cloth.cut(it.link)
-                except lakmozet.Refused:
-                    pass  # a link that is gone is refused, on all machines alike
+                self.cut_stroke(it.first)
         self.cloth.step(3)
+
+    def cut_stroke(self, first: int) -> None:
+        """Cuts the threads from a row to the next. One that is gone is refused, on all machines alike."""
+        self.cloth.cut_many([self.cloth.link_between(i, i + ROW) for i in range(first, first + WIDE)])
 
     def let_go(self) -> None:
         for hand in HANDS:
@@ -118,6 +121,22 @@ def play_on_time(machine: Machine) -> None:
         machine.play_next()
 
 
+def look_at_parts(cloth: lakmozet.Cloth) -> None:
+    """Sees that the links agree with the count of live ones, that nothing is held, and that gravity is what it was set to."""
+    links = cloth.links()
+    must(sum(it.live for it in links) == cloth.counts().live, "the live links are counted")
+    must(cloth.link_between(links[-1].b, links[-1].a) == len(links) - 1, "a link is found by its ends")
+    must(cloth.link_between(0, 0) is None, "no link joins a particle with itself")
+    must(sum(cloth.held().tolist()) == 0, "the corners are let go")
+    must(cloth.gravity_now() == GRAVITY, "gravity is what it was set to")
+
+
+def look_at_ledger(cloth: lakmozet.Cloth) -> None:
+    """Sees that the momentum is that at opening and the six totals together."""
+    momentum, *causes = cloth.ledger()
+    must(tuple(map(sum, zip(*causes))) == momentum, "the ledger balances")
+
+
 def totals(cloth: lakmozet.Cloth) -> str:
     """The sums as a line, after the lists were seen to agree with them."""
     sums = cloth.sums()
@@ -125,6 +144,8 @@ def totals(cloth: lakmozet.Cloth) -> str:
     must(len(cloth.gone_since(DROPPED)) == cloth.counts().links - sums.live, "those that went are the others")
     for places, total in ((cloth.places(), sums.at), (cloth.places_before(), sums.before)):
         must([sum(axis) for axis in zip(*places.tolist())] == list(total), "the places have their sums")
+    look_at_parts(cloth)
+    look_at_ledger(cloth)
     return f"sums {sums.steps} {sums.live} {sums.contacts} {' '.join(map(str, sums.at + sums.before))}"
 
 

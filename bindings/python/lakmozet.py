@@ -9,15 +9,15 @@
 
 Each call is one call of lakmozet.h, which says what it does, its units and its answers: the parts stand in that header's order,
 and what is added there gets its line in CALLS and its method. A refused command raises Refused, and the world is what it was. Lists
-are arrays of NumPy where NumPy is there, and memoryviews where it isn't, over memory that the library wrote. A cloth is used on
-the thread that opened it.
+of numbers are arrays of NumPy where NumPy is there, and memoryviews where it isn't, over memory that the library wrote. A cloth is
+used on the thread that opened it.
 """
 from __future__ import annotations
 
 import ctypes
 import enum
-from ctypes import POINTER, c_char_p, c_int32, c_int64, c_size_t, c_uint8, c_uint32, c_uint64
-from typing import Any, NamedTuple
+from ctypes import POINTER, c_char_p, c_int32, c_int64, c_size_t, c_uint8, c_uint16, c_uint32, c_uint64
+from typing import Any, NamedTuple, Sequence
 
 try:
     import numpy
@@ -49,15 +49,15 @@ class Outcome(enum.IntEnum):
     """What opening, recording and replaying answer."""
 
     DONE = 0
-    NO_LOG_ROOM = 3
-    TOO_LONG = 4
-    SCENE_NOT_TEXT = 6
-    SCENE_NOT_TOML = 7
-    SCENE_REFUSED = 8
-    LOG_REFUSED = 9
-    MISMATCH = 10
-    SOME_REFUSED = 11
-    OUT_OF_MEMORY = 12
+    NO_LOG_ROOM = 35
+    TOO_LONG = 36
+    SCENE_NOT_TEXT = 38
+    SCENE_NOT_TOML = 39
+    SCENE_REFUSED = 40
+    LOG_REFUSED = 41
+    MISMATCH = 42
+    SOME_REFUSED = 43
+    OUT_OF_MEMORY = 44
     IN_USE = 65
     NO_SLOT = 66
 
@@ -106,6 +106,31 @@ class Counts(NamedTuple):
     live: int
     contacts: int
     slots: int
+
+
+class Link(NamedTuple):
+    """A link, live or not: its lengths are in units of 1/65,536 metre, and its stiffness in 256ths."""
+
+    rest: int
+    tear: int
+    a: int
+    b: int
+    stiffness: int
+    kind: int
+    live: bool
+
+
+class Ledger(NamedTuple):
+    """The momentum, that at opening, and the sums of all moves since, by what made them."""
+
+    momentum: Place
+    opening: Place
+    gravity: Place
+    damping: Place
+    link: Place
+    contact: Place
+    pin: Place
+    shape: Place
 
 
 class Stop(NamedTuple):
@@ -160,6 +185,19 @@ class _Counts(ctypes.Structure):
     _fields_ = [("steps", c_uint64)] + [(name, c_uint32) for name in Counts._fields[1:]]
 
 
+class _Link(ctypes.Structure):
+    _fields_ = [("rest", c_int64), ("tear", c_int64), ("a", c_uint32), ("b", c_uint32), ("stiffness", c_uint16),
+                ("kind", c_uint8), ("live", c_uint8)]
+
+
+class _Wide(ctypes.Structure):
+    _fields_ = [("low", c_uint64), ("high", c_int64)]
+
+
+class _Ledger(ctypes.Structure):
+    _fields_ = [(name, _Wide * 3) for name in Ledger._fields]
+
+
 class _Stop(ctypes.Structure):
     _fields_ = [("offset", c_uint64), ("entry", c_uint64), ("field", c_uint8)]
 
@@ -174,13 +212,19 @@ CALLS = {
     "lak_unpin": [_HANDLE, c_uint64],
     "lak_move": [_HANDLE, c_uint64, _Place],
     "lak_cut": [_HANDLE, c_uint64],
+    "lak_cut_many": [_HANDLE, POINTER(c_uint32), c_size_t, POINTER(c_size_t)],
     "lak_gravity": [_HANDLE, _Place],
     "lak_save": [_HANDLE, c_uint32],
     "lak_restore": [_HANDLE, c_uint32],
     "lak_counts": [_HANDLE, POINTER(_Counts)],
     "lak_sums": [_HANDLE, POINTER(_Sums)],
+    "lak_gravity_now": [_HANDLE, POINTER(_Place)],
+    "lak_ledger": [_HANDLE, POINTER(_Ledger)],
+    "lak_link_between": [_HANDLE, c_uint32, c_uint32, POINTER(c_uint32)],
     "lak_places": [_HANDLE, POINTER(c_int64), *_LIST],
     "lak_places_before": [_HANDLE, POINTER(c_int64), *_LIST],
+    "lak_held": [_HANDLE, POINTER(c_uint8), *_LIST],
+    "lak_links": [_HANDLE, POINTER(_Link), *_LIST],
     "lak_live": [_HANDLE, POINTER(c_uint8), *_LIST],
     "lak_gone_since": [_HANDLE, c_uint32, POINTER(c_uint32), *_LIST],
     "lak_record": [c_char_p, c_size_t, c_char_p, c_size_t, POINTER(c_uint8), c_size_t, POINTER(c_size_t)],
@@ -258,6 +302,12 @@ class Cloth:
     def cut(self, link: int) -> None:
         self._call("lak_cut", link)
 
+    def cut_many(self, links: Sequence[int]) -> int:
+        """Lets links go, one after another, and returns how many of these cuts were refused."""
+        refused = c_size_t()
+        self._call("lak_cut_many", (c_uint32 * max(len(links), 1))(*links), len(links), refused)
+        return refused.value
+
     def gravity(self, gravity: tuple[int, int, int]) -> None:
         self._call("lak_gravity", _Place(*gravity))
 
@@ -281,6 +331,24 @@ class Cloth:
         self._call("lak_sums", sums)
         return _tuple(Sums, sums)
 
+    def gravity_now(self) -> Place:
+        gravity = _Place()
+        self._call("lak_gravity_now", gravity)
+        return _tuple(Place, gravity)
+
+    def ledger(self) -> Ledger:
+        ledger = _Ledger()
+        self._call("lak_ledger", ledger)
+        return Ledger(*(Place(*((axis.high << 64) + axis.low for axis in getattr(ledger, name))) for name in Ledger._fields))
+
+    def link_between(self, a: int, b: int) -> int | None:
+        """The number of the link that joins two particles, in either order, live or not, or None."""
+        link = c_uint32()
+        answer = self._calls.lak_link_between(self._handle, a, b, link)
+        if answer not in (Answer.DONE, Answer.NO_LINK):
+            raise Refused(Answer(answer))
+        return link.value if answer == Answer.DONE else None
+
     def places(self) -> Any:
         """The places of all particles: a row of three 64-bit numbers for each."""
         return self._list("lak_places", c_int64, self.counts().particles, 3)
@@ -288,6 +356,18 @@ class Cloth:
     def places_before(self) -> Any:
         """Their places one step before, in the same form."""
         return self._list("lak_places_before", c_int64, self.counts().particles, 3)
+
+    def held(self) -> Any:
+        """A 1 for each held particle and a 0 for each other."""
+        return self._list("lak_held", c_uint8, self.counts().particles)
+
+    def links(self) -> list[Link]:
+        """All links, in the order of their numbers. Which are live, `live` tells faster."""
+        length, count = self.counts().links, c_uint32()
+        memory = (_Link * max(length, 1))()
+        self._call("lak_links", memory, length, count)
+        links = (_tuple(Link, it) for it in memory[: count.value])
+        return [it._replace(live=it.live == 1) for it in links]
 
     def live(self) -> Any:
         """A 1 for each live link and a 0 for each other."""

@@ -1,5 +1,5 @@
 /* Calls each function of the header, as C and as C++, and looks at each kind of answer. */
-#include "lakmozet.h"
+#include "lakmozet_lines.h"
 
 #include <stdio.h>
 #include <stdlib.h>
@@ -40,6 +40,10 @@ static void closed_handles(void)
     lak_place place = at(7, 7, 7);
     uint32_t count = 7, number = 7;
     uint8_t byte = 7;
+    size_t refused = 7;
+    lak_link link = {7, 7, 7, 7, 7, 7, 7};
+    lak_ledger_of_world ledger;
+    memset(&ledger, 7, sizeof ledger);
     memset(&cloth, 0, sizeof cloth);
     MUST(lak_step(&cloth, 1, &left) == LAK_CLOSED && left.step == 0 && left.element == 0 && left.phase == 0);
     MUST(lak_pin(&cloth, 0) == LAK_CLOSED && lak_unpin(&cloth, 0) == LAK_CLOSED && lak_cut(&cloth, 0) == LAK_CLOSED);
@@ -48,7 +52,11 @@ static void closed_handles(void)
     MUST(lak_counts(&cloth, &counts) == LAK_CLOSED && lak_sums(&cloth, &sums) == LAK_CLOSED);
     MUST(lak_places(&cloth, &place, 1, &count) == LAK_CLOSED && lak_places_before(&cloth, &place, 1, &count) == LAK_CLOSED);
     MUST(lak_live(&cloth, &byte, 1, &count) == LAK_CLOSED && lak_gone_since(&cloth, 0, &number, 1, &count) == LAK_CLOSED);
-    MUST(count == 7 && number == 7 && byte == 7 && place.x == 7);
+    MUST(lak_held(&cloth, &byte, 1, &count) == LAK_CLOSED && lak_links(&cloth, &link, 1, &count) == LAK_CLOSED);
+    MUST(lak_cut_many(&cloth, &number, 1, &refused) == LAK_CLOSED && lak_link_between(&cloth, 0, 1, &number) == LAK_CLOSED);
+    MUST(lak_gravity_now(&cloth, &place) == LAK_CLOSED && lak_ledger(&cloth, &ledger) == LAK_CLOSED);
+    MUST(count == 7 && number == 7 && byte == 7 && place.x == 7 && refused == 7 && link.rest == 7);
+    MUST(ledger.momentum[0].low == 0x0707070707070707);
     lak_close(&cloth);
     MUST(cloth.at == NULL && !cloth.full);
 }
@@ -84,6 +92,49 @@ static void commands(lak_cloth *cloth)
     MUST(lak_gravity(cloth, at(0, -179, 0)) == LAK_DONE);
 }
 
+/* The momentum is that at opening and the totals together. */
+static void ledgers(lak_cloth *cloth)
+{
+    lak_ledger_of_world l;
+    int axis;
+    MUST(lak_ledger(cloth, &l) == LAK_DONE);
+    for (axis = 0; axis < 3; axis++) {
+        uint64_t low = l.opening[axis].low + l.gravity[axis].low + l.damping[axis].low + l.link[axis].low + l.contact[axis].low +
+                       l.pin[axis].low + l.shape[axis].low;
+        MUST(l.momentum[axis].low == low);
+        MUST(l.momentum[axis].high == (l.momentum[axis].low >> 63 ? -1 : 0));
+    }
+    MUST(l.gravity[1].high == -1 && l.gravity[0].high == 0 && l.gravity[0].low == 0);
+}
+
+static void links(lak_cloth *cloth)
+{
+    static const uint32_t cuts[] = {0, 1, 0, 99};
+    lak_counts_of_world counts;
+    lak_link all[16];
+    uint8_t held[5] = {7, 7, 7, 7, 7};
+    uint32_t count = 0, number = 7;
+    size_t refused = 7;
+    lak_place gravity;
+    MUST(lak_counts(cloth, &counts) == LAK_DONE);
+    MUST(lak_links(cloth, all, 16, &count) == LAK_DONE && count == counts.links);
+    MUST(all[0].a == 0 && all[0].b == 1 && all[0].rest == 6554 && all[0].live == 1 && all[0].kind == 0 && all[0].tear == 0);
+    MUST(lak_links(cloth, all, 1, &count) == LAK_NO_ROOM && count == counts.links);
+    MUST(lak_held(cloth, held, 5, &count) == LAK_DONE && count == 4);
+    MUST(held[0] == 1 && held[1] == 0 && held[2] == 0 && held[3] == 1 && held[4] == 7);
+    MUST(lak_held(cloth, held, 0, &count) == LAK_NO_ROOM && count == 4);
+    MUST(lak_link_between(cloth, 2, 1, &number) == LAK_DONE && number == 1);
+    MUST(lak_link_between(cloth, 1, 1, &number) == LAK_NO_LINK && number == 1);
+    MUST(lak_link_between(cloth, 0, 99, &number) == LAK_NO_LINK && number == 1);
+    MUST(lak_gravity_now(cloth, &gravity) == LAK_DONE && gravity.x == 0 && gravity.y == -179 && gravity.z == 0);
+    MUST(lak_save(cloth, 0) == LAK_DONE);
+    MUST(lak_cut_many(cloth, cuts, 4, &refused) == LAK_DONE && refused == 2);
+    MUST(lak_links(cloth, all, 16, &count) == LAK_DONE && all[0].live == 0 && all[1].live == 0);
+    MUST(lak_link_between(cloth, 1, 2, &number) == LAK_DONE && number == 1);
+    MUST(lak_cut_many(cloth, cuts, 0, &refused) == LAK_DONE && refused == 0);
+    MUST(lak_restore(cloth, 0) == LAK_DONE && lak_links(cloth, all, 16, &count) == LAK_DONE && all[0].live == 1);
+}
+
 static void slots(lak_cloth *cloth)
 {
     lak_left left;
@@ -115,16 +166,26 @@ static void reading(lak_cloth *cloth)
     MUST(lak_live(cloth, live, 1, &count) == LAK_NO_ROOM && count == counts.links);
 }
 
+/* Whether all of an output is a 7 from some byte on, as it was. */
+static bool is_left(const uint8_t *output, size_t from, size_t room)
+{
+    while (from < room && output[from] == 7) from++;
+    return from == room;
+}
+
 static void records(void)
 {
     static const char text[] = "[[particle]]\nat = [0, 1000, 0]\n", script[] = "step 2\nframe\n", refused[] = "cut 5\n";
     static uint8_t log[4096];
+    memset(log, 7, sizeof log);
     size_t written = 7, more = 7;
     const uint8_t *bytes = (const uint8_t *)text, *lines = (const uint8_t *)script;
     MUST(lak_record(bytes, strlen(text), lines, strlen(script), log, sizeof log, &written) == LAK_DONE);
-    MUST(written > strlen(text) && memcmp(log, "PBDSLOG", 7) == 0);
+    MUST(written > strlen(text) && memcmp(log, "PBDSLOG", 7) == 0 && is_left(log, written, sizeof log));
     MUST(lak_record(bytes, strlen(text), lines, strlen(script), log, written, &more) == LAK_DONE && more == written);
+    memset(log, 7, sizeof log);
     MUST(lak_record(bytes, strlen(text), lines, strlen(script), log, written - 1, &more) == LAK_NO_LOG_ROOM && more == 0);
+    MUST(is_left(log, 0, sizeof log));
     MUST(lak_record(bytes, strlen(text), (const uint8_t *)refused, strlen(refused), log, sizeof log, &more) == LAK_SOME_REFUSED);
     MUST(lak_record(bytes, 3, lines, strlen(script), log, sizeof log, &more) == LAK_SCENE_NOT_TOML && more == 0);
     MUST(lak_record((const uint8_t *)"\xff", 1, lines, strlen(script), log, sizeof log, &more) == LAK_SCENE_NOT_TEXT);
@@ -138,11 +199,14 @@ static void replays(void)
     static uint8_t log[4096], output[4096];
     size_t length = 0, written = 7, entry = 20 + strlen(text) + 74;
     lak_stop stop = {7, 7, 7};
+    memset(output, 7, sizeof output);
     lak_record((const uint8_t *)text, strlen(text), (const uint8_t *)script, strlen(script), log, sizeof log, &length);
     MUST(lak_replay(log, length, output, sizeof output, &written, &stop) == LAK_SOME_REFUSED);
-    MUST(written == strlen(replies) && memcmp(output, replies, written) == 0);
+    MUST(written == strlen(replies) && memcmp(output, replies, written) == 0 && is_left(output, written, sizeof output));
     MUST(stop.offset == 0 && stop.entry == 0 && stop.field == 0);
+    memset(output, 7, sizeof output);
     MUST(lak_replay(log, length, output, written - 1, &written, &stop) == LAK_NO_LOG_ROOM && written == 0);
+    MUST(is_left(output, 0, sizeof output));
     MUST(lak_replay(log, length - 1, output, sizeof output, &written, &stop) == LAK_LOG_REFUSED && written == 0);
     MUST(stop.offset == length - 9 && stop.entry == 0 && stop.field == 0);
     MUST(lak_replay(log, 0, output, sizeof output, &written, &stop) == LAK_LOG_REFUSED && stop.offset == 0);
@@ -157,20 +221,134 @@ static void replays(void)
     MUST(lak_replay(log, length, output, sizeof output, &written, &stop) == LAK_SCENE_NOT_TEXT && written == 0);
 }
 
+/* Each answer has a number and a name of its own. */
+static void names(void)
+{
+    int32_t answer, other;
+    int named = 0;
+    MUST(strcmp(lak_answer_name(LAK_DONE), "Done") == 0 && strcmp(lak_answer_name(LAK_NO_PARTICLE), "NoParticle") == 0);
+    MUST(strcmp(lak_answer_name(LAK_TOO_MANY_CONTACTS), "TooManyContacts") == 0);
+    MUST(strcmp(lak_answer_name(LAK_NO_LOG_ROOM), "NoLogRoom") == 0 && strcmp(lak_answer_name(LAK_TOO_LONG), "TooLong") == 0);
+    MUST(strcmp(lak_answer_name(LAK_SCENE_NOT_TEXT), "SceneNotText") == 0);
+    MUST(strcmp(lak_answer_name(LAK_SCENE_REFUSED), "SceneRefused") == 0);
+    MUST(strcmp(lak_answer_name(LAK_MISMATCH), "Mismatch") == 0 && strcmp(lak_answer_name(LAK_OUT_OF_MEMORY), "OutOfMemory") == 0);
+    MUST(strcmp(lak_answer_name(LAK_CLOSED), "Closed") == 0 && strcmp(lak_answer_name(LAK_IN_USE), "InUse") == 0);
+    MUST(strcmp(lak_answer_name(LAK_NO_SLOT), "NoSlot") == 0 && strcmp(lak_answer_name(LAK_NO_ROOM), "NoRoom") == 0);
+    MUST(strcmp(lak_answer_name(LAK_NO_STATE), "NoState") == 0);
+    MUST(strcmp(lak_answer_name(INT32_MIN), "-") == 0 && strcmp(lak_answer_name(INT32_MAX), "-") == 0);
+    for (answer = -1; answer < 100; answer++) {
+        if (strcmp(lak_answer_name(answer), "-") == 0)
+            continue;
+        named++;
+        for (other = -1; other < answer; other++)
+            MUST(strcmp(lak_answer_name(answer), lak_answer_name(other)) != 0);
+    }
+    MUST(named == 27);
+}
+
+static void states(void)
+{
+    static uint8_t state[2048];
+    lak_cloth cloth, late;
+    lak_counts_of_world counts;
+    lak_fault fault;
+    lak_left left;
+    lak_hash name, digest, other;
+    size_t size = 7;
+    uint64_t offset = 7;
+    memset(&cloth, 0, sizeof cloth);
+    memset(&late, 0, sizeof late);
+    memset(&digest, 7, sizeof digest);
+    memset(state, 7, sizeof state);
+    lak_scene_name((const uint8_t *)"abc", 3, &name);
+    MUST(name.bytes[0] == 0xba && name.bytes[31] == 0xad);
+    lak_scene_name((const uint8_t *)scene, strlen(scene), &name);
+    MUST(lak_state_size(&cloth, &size) == LAK_CLOSED && lak_state_write(&cloth, name, state, sizeof state, &size) == LAK_CLOSED);
+    MUST(lak_state_read(&cloth, name, state, 9, &offset) == LAK_CLOSED && lak_digest(&cloth, name, &digest) == LAK_CLOSED);
+    MUST(size == 7 && offset == 7 && digest.bytes[31] == 7 && is_left(state, 0, sizeof state));
+    MUST(open_text(&cloth, scene, 1, &fault) == LAK_DONE && open_text(&late, scene, 0, &fault) == LAK_DONE);
+    MUST(lak_step(&cloth, 30, &left) == LAK_DONE && lak_cut(&cloth, 1) == LAK_DONE && lak_counts(&cloth, &counts) == LAK_DONE);
+    MUST(lak_state_size(&cloth, &size) == LAK_DONE && size == 420 + 49 * (size_t)counts.particles + counts.links);
+    MUST(lak_state_write(&cloth, name, state, size - 1, &size) == LAK_NO_ROOM && is_left(state, 0, sizeof state));
+    MUST(lak_state_write(&cloth, name, state, sizeof state, &size) == LAK_DONE && is_left(state, size, sizeof state));
+    MUST(memcmp(state, "PBDSTAT\1", 8) == 0 && memcmp(state + 8, name.bytes, 32) == 0);
+    MUST(lak_digest(&cloth, name, &digest) == LAK_DONE && lak_digest(&late, name, &other) == LAK_DONE);
+    MUST(memcmp(&digest, &other, sizeof other) != 0);
+    MUST(lak_state_read(&late, name, state, size - 1, &offset) == LAK_NO_STATE && offset == size - 1);
+    state[9] ^= 1;
+    MUST(lak_state_read(&late, name, state, size, &offset) == LAK_NO_STATE && offset == 9);
+    state[9] ^= 1;
+    MUST(lak_digest(&late, name, &digest) == LAK_DONE && memcmp(&digest, &other, sizeof other) == 0);
+    MUST(lak_state_read(&late, name, state, size, &offset) == LAK_DONE && offset == 9);
+    MUST(lak_step(&cloth, 30, &left) == LAK_DONE && lak_step(&late, 30, &left) == LAK_DONE);
+    MUST(lak_digest(&cloth, name, &digest) == LAK_DONE && lak_digest(&late, name, &other) == LAK_DONE);
+    MUST(memcmp(&digest, &other, sizeof other) == 0);
+    lak_close(&cloth);
+    lak_close(&late);
+}
+
+/* The header's version is that of the package's manifest, which the compiler is given. */
+static void versions(void)
+{
+    char numbers[32];
+    sprintf(numbers, "%d.%d.%d", LAK_VERSION_MAJOR, LAK_VERSION_MINOR, LAK_VERSION_PATCH);
+    MUST(strcmp(numbers, LAK_VERSION) == 0);
+    MUST(strcmp(LAK_VERSION, VERSION) == 0);
+}
+
+/* Whether a line of so many bytes is this text, and the byte behind it is as it was. */
+static int is_line(const char *line, size_t length, const char *text)
+{
+    return length == strlen(text) && memcmp(line, text, length) == 0 && line[length] == 7;
+}
+
+static void lines(void)
+{
+    const uint64_t most = 999999999999999999u;
+    const int64_t far = -999999999999999999;
+    char line[LAK_LINE_ROOM + 1];
+    memset(line, 7, sizeof line);
+    MUST(is_line(line, lak_line_step(line, LAK_LINE_ROOM, 0), "step 0\n"));
+    memset(line, 7, sizeof line);
+    MUST(is_line(line, lak_line_step(line, LAK_LINE_ROOM, most), "step 999999999999999999\n"));
+    memset(line, 7, sizeof line);
+    MUST(lak_line_step(line, LAK_LINE_ROOM, most + 1) == 0 && lak_line_cut(line, LAK_LINE_ROOM, UINT64_MAX) == 0);
+    MUST(lak_line_move(line, LAK_LINE_ROOM, 1, at(0, 0, INT64_MIN)) == 0 && lak_line_gravity(line, LAK_LINE_ROOM, at(far - 1, 0, 0)) == 0);
+    MUST(lak_line_pin(line, 6, 10) == 0 && lak_line_pin(line, 0, 1) == 0 && line[0] == 7);
+    MUST(is_line(line, lak_line_pin(line, 7, 10), "pin 10\n"));
+    memset(line, 7, sizeof line);
+    MUST(is_line(line, lak_line_unpin(line, LAK_LINE_ROOM, 65535), "unpin 65535\n"));
+    memset(line, 7, sizeof line);
+    MUST(is_line(line, lak_line_cut(line, LAK_LINE_ROOM, 100), "cut 100\n"));
+    memset(line, 7, sizeof line);
+    MUST(is_line(line, lak_line_gravity(line, LAK_LINE_ROOM, at(-179, 0, 10)), "gravity -179 0 10\n"));
+    memset(line, 7, sizeof line);
+    MUST(lak_line_move(line, LAK_LINE_ROOM - 1, most, at(far, far, far)) == 0 && line[0] == 7);
+    MUST(is_line(line, lak_line_move(line, LAK_LINE_ROOM, most, at(far, far, far)),
+                 "move 999999999999999999 -999999999999999999 -999999999999999999 -999999999999999999\n"));
+}
+
 int main(void)
 {
     lak_cloth cloth;
-    lak_fault fault;
+    lak_fault fault = {7, 7, 7, 7};
+    versions();
+    names();
     memset(&cloth, 0, sizeof cloth);
+    lines();
     closed_handles();
     wrong_scenes();
     MUST(open_text(&cloth, scene, 2, &fault) == LAK_DONE);
     MUST(open_text(&cloth, scene, 2, &fault) == LAK_IN_USE);
+    MUST(fault.position == 7 && fault.rule == 7 && fault.table == 7 && fault.key == 7);
     commands(&cloth);
     reading(&cloth);
+    ledgers(&cloth);
+    links(&cloth);
     slots(&cloth);
     records();
     replays();
+    states();
     lak_close(&cloth);
     lak_close(&cloth);
     MUST(lak_pin(&cloth, 0) == LAK_CLOSED);

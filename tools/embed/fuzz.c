@@ -94,6 +94,12 @@ static size_t scene(char *text, size_t room)
     return draw() % 16 == 0 ? draw() % length : length;
 }
 
+/* What is wrong with a scene. */
+static bool is_of_scene(int32_t answer)
+{
+    return answer == LAK_SCENE_NOT_TEXT || answer == LAK_SCENE_NOT_TOML || answer == LAK_SCENE_REFUSED;
+}
+
 static void open_some(tracked *it)
 {
     static char text[2048];
@@ -105,7 +111,7 @@ static void open_some(tracked *it)
         must(answer == LAK_IN_USE, "an open handle is opened");
         return;
     }
-    must(answer == LAK_DONE || answer == LAK_NO_SLOT || (6 <= answer && answer <= 8), "lak_open answers something else");
+    must(answer == LAK_DONE || answer == LAK_NO_SLOT || is_of_scene(answer), "lak_open answers something else");
     must((answer == LAK_SCENE_REFUSED) == (answer != LAK_DONE && fault.rule != 0), "a fault without a refusal");
     it->open = answer == LAK_DONE;
     if (it->open) {
@@ -130,7 +136,7 @@ static void after_command(tracked *it, int32_t answer)
 {
     lak_sums_of_world now = sums_of(it);
     must((answer == LAK_CLOSED) == !it->open, "a command of a closed handle");
-    must((0 <= answer && answer <= 12) || answer == LAK_CLOSED, "a command answers something else");
+    must((LAK_DONE <= answer && answer <= LAK_TOO_MANY_CONTACTS) || answer == LAK_CLOSED, "a command answers something else");
     must(answer == LAK_DONE || same(now, it->sums), "a refused command changes the sums");
     it->sums = now;
 }
@@ -148,6 +154,68 @@ static void save_or_restore(tracked *it)
     must(same(sums_of(it), it->sums), "the sums after a save or a restore");
 }
 
+/* Many cuts: as many are refused as don't let a live link go. */
+static void cut_many(tracked *it)
+{
+    uint32_t links[40];
+    size_t length = draw() % 41, refused = 7;
+    lak_counts_of_world before = {0, 0, 0, 0, 0, 0}, after = {0, 0, 0, 0, 0, 0};
+    for (size_t k = 0; k < 40; k++)
+        links[k] = (uint32_t)number();
+    lak_counts(&it->cloth, &before);
+    int32_t answer = lak_cut_many(&it->cloth, links, length, &refused);
+    lak_counts(&it->cloth, &after);
+    must(answer == (it->open ? LAK_DONE : LAK_CLOSED), "lak_cut_many answers something else");
+    must(refused == (it->open ? length - (before.live - after.live) : 7), "how many cuts were refused");
+    it->sums = sums_of(it);
+}
+
+/* The links, of which `live` says which are live, each found by its ends; and the held particles. */
+static void read_links(tracked *it, lak_counts_of_world counts, const uint8_t *live, size_t live_room)
+{
+    static lak_link links[ROOM + 1];
+    static uint8_t held[ROOM + 1];
+    size_t room = draw() % 3 == 0 ? draw() % 40 : ROOM;
+    uint32_t count = 0, found = 0;
+    int32_t full = it->open ? LAK_DONE : LAK_CLOSED;
+    held[room] = 7;
+    links[room].a = 7;
+    int32_t answer = lak_held(&it->cloth, held, room, &count);
+    must(answer == (it->open && room < counts.particles ? LAK_NO_ROOM : full) && count == counts.particles, "the held particles");
+    for (size_t i = 0; i < room && i < count; i++)
+        must(held[i] <= 1, "whether a particle is held");
+    count = 0;
+    answer = lak_links(&it->cloth, links, room, &count);
+    must(answer == (it->open && room < counts.links ? LAK_NO_ROOM : full) && count == counts.links, "the links");
+    must(held[room] == 7 && links[room].a == 7, "what stands behind the room is left");
+    for (size_t l = 0; l < room && l < live_room && l < count; l++)
+        must(links[l].live == live[l] && links[l].a < counts.particles && links[l].b < counts.particles, "a link");
+    if (room > 0 && count > 0) {
+        size_t l = draw() % (room < count ? room : count);
+        answer = lak_link_between(&it->cloth, links[l].b, links[l].a, &found);
+        must(answer == LAK_DONE && found == l, "a link is found by its ends");
+    }
+    found = 7;
+    answer = lak_link_between(&it->cloth, (uint32_t)number(), (uint32_t)number(), &found);
+    must(answer == full || (it->open && answer == LAK_NO_LINK && found == 7), "lak_link_between answers something else");
+}
+
+/* The ledger balances, by its low halves, and gravity is read. */
+static void read_ledger(tracked *it)
+{
+    lak_ledger_of_world l;
+    lak_place gravity = {7, 7, 7};
+    int32_t full = it->open ? LAK_DONE : LAK_CLOSED;
+    memset(&l, 0, sizeof l);
+    must(lak_gravity_now(&it->cloth, &gravity) == full && (it->open || gravity.y == 7), "gravity");
+    must(lak_ledger(&it->cloth, &l) == full, "lak_ledger answers something else");
+    for (int axis = 0; axis < 3; axis++) {
+        uint64_t total = l.opening[axis].low + l.gravity[axis].low + l.damping[axis].low + l.link[axis].low + l.contact[axis].low +
+                         l.pin[axis].low + l.shape[axis].low;
+        must(total == l.momentum[axis].low, "the ledger balances");
+    }
+}
+
 static void read_some(tracked *it)
 {
     static lak_place places[ROOM];
@@ -163,6 +231,8 @@ static void read_some(tracked *it)
     count = 0;
     answer = lak_live(&it->cloth, live, room, &count);
     must(answer == (it->open && room < counts.links ? LAK_NO_ROOM : full) && count == counts.links, "the live links");
+    read_links(it, counts, live, room);
+    read_ledger(it);
     answer = lak_gone_since(&it->cloth, slot, gone, room, &count);
     must(!it->open || answer == (slot < it->slots ? (room < count ? LAK_NO_ROOM : LAK_DONE) : LAK_NO_SLOT), "the links that went");
     must(same(sums_of(it), it->sums), "reading changes the sums");
@@ -178,10 +248,11 @@ static void replay_some(uint8_t *log, size_t length, int32_t recorded)
     must(status == recorded && stop.offset == 0 && stop.entry == 0 && stop.field == 0, "a log replays as it was recorded");
     log[draw() % length] = (uint8_t)draw();
     status = lak_replay(log, length, output, room, &written, &stop);
-    must(status == 0 || status == 3 || (6 <= status && status <= 11), "a replay answers something else");
-    must(written <= room && (written > 0) == (status == 0 || 10 <= status), "the length of a replay's text");
-    must((status == 10) == (stop.entry > 0) && (status == 10) == (stop.field > 0) && stop.field <= 13, "where a replay stopped");
-    must(stop.offset <= length && (status == 9 || stop.offset == 0), "where a log goes wrong");
+    bool differs = status == LAK_MISMATCH, ended = status == LAK_DONE || status == LAK_SOME_REFUSED || differs;
+    must(ended || status == LAK_NO_LOG_ROOM || status == LAK_LOG_REFUSED || is_of_scene(status), "a replay answers something else");
+    must(written <= room && (written > 0) == ended, "the length of a replay's text");
+    must(differs == (stop.entry > 0) && differs == (stop.field > 0) && stop.field <= 13, "where a replay stopped");
+    must(stop.offset <= length && (status == LAK_LOG_REFUSED || stop.offset == 0), "where a log goes wrong");
 }
 
 static void record_some(void)
@@ -191,8 +262,9 @@ static void record_some(void)
     size_t length = scene(text, sizeof text), written = 7, room = draw() % 4 == 0 ? draw() % 2048 : sizeof log;
     size_t lines = (size_t)snprintf(script, sizeof script, "step %d\nframe\ncut %d\n", (int)(draw() % 5), (int)(draw() % 40));
     int32_t status = lak_record((const uint8_t *)text, length, (const uint8_t *)script, lines, log, room, &written);
-    must(status == 0 || status == 3 || (6 <= status && status <= 8) || status == 11, "a record answers something else");
-    must(written <= room && (written > 0) == (status == 0 || status == 11), "the length of a log");
+    bool ended = status == LAK_DONE || status == LAK_SOME_REFUSED;
+    must(ended || status == LAK_NO_LOG_ROOM || is_of_scene(status), "a record answers something else");
+    must(written <= room && (written > 0) == ended, "the length of a log");
     if (written > 0)
         replay_some(log, written, status);
 }
@@ -215,8 +287,10 @@ static void call(void)
         after_command(it, lak_unpin(&it->cloth, number()));
     else if (kind < 16)
         after_command(it, lak_move(&it->cloth, number(), place()));
-    else if (kind < 18)
+    else if (kind == 16)
         after_command(it, lak_cut(&it->cloth, number()));
+    else if (kind == 17)
+        cut_many(it);
     else if (kind < 20)
         after_command(it, lak_gravity(&it->cloth, draw() % 4 ? (lak_place) {0, -(int64_t)(draw() % 300), 0} : place()));
     else if (kind < 26)

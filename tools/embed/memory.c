@@ -118,17 +118,34 @@ static unsigned long replay_without_memory(void)
     }
 }
 
+/* What a program reads of a cloth, each list once. */
+static void read_all(lak_cloth *cloth)
+{
+    static lak_place places[64];
+    static lak_link links[4096];
+    static uint8_t bytes[4096];
+    static uint32_t gone[4096];
+    lak_sums_of_world sums;
+    lak_counts_of_world counts;
+    lak_ledger_of_world ledger;
+    lak_place gravity;
+    uint32_t count, link;
+    must(lak_sums(cloth, &sums) == LAK_DONE && lak_counts(cloth, &counts) == LAK_DONE, "it reads");
+    must(lak_places(cloth, places, 64, &count) == LAK_DONE && lak_places_before(cloth, places, 64, &count) == LAK_DONE, "it reads");
+    must(lak_live(cloth, bytes, 4096, &count) == LAK_DONE && lak_gone_since(cloth, 0, gone, 4096, &count) == LAK_DONE, "it reads");
+    must(lak_held(cloth, bytes, 4096, &count) == LAK_DONE && lak_links(cloth, links, 4096, &count) == LAK_DONE, "it reads");
+    must(lak_link_between(cloth, links[5].b, links[5].a, &link) == LAK_DONE && link == 5, "it finds a link");
+    must(lak_link_between(cloth, 3, 3, &link) == LAK_NO_LINK, "it finds no link");
+    must(lak_gravity_now(cloth, &gravity) == LAK_DONE && lak_ledger(cloth, &ledger) == LAK_DONE, "it reads");
+}
+
 /* No call on an open handle makes a request. */
 static void play_without_memory(void)
 {
-    static lak_place places[64];
-    static uint8_t live[4096];
-    static uint32_t gone[4096];
+    static const uint32_t stroke[] = {0, 90, 91, 90};
     lak_cloth cloth = {0};
     lak_left left;
-    lak_sums_of_world sums;
-    lak_counts_of_world counts;
-    uint32_t count;
+    size_t refused;
     must(open_it(&cloth) == LAK_DONE, "it opens");
     requests = 0;
     for (int i = 0; i < 60; i++) {
@@ -136,10 +153,9 @@ static void play_without_memory(void)
         must(lak_move(&cloth, 0, (lak_place) {i * 300, 65536 + i * 100, 0}) == LAK_DONE, "it moves");
         lak_cut(&cloth, (uint64_t)i * 5);
         must(lak_pin(&cloth, 20) == LAK_DONE && lak_unpin(&cloth, 20) == LAK_DONE, "it pins");
-        must(lak_gravity(&cloth, (lak_place) {i, -179, 0}) == LAK_DONE && lak_sums(&cloth, &sums) == LAK_DONE, "it reads");
-        must(lak_counts(&cloth, &counts) == LAK_DONE && lak_places(&cloth, places, 64, &count) == LAK_DONE, "it reads");
-        must(lak_live(&cloth, live, 4096, &count) == LAK_DONE && lak_gone_since(&cloth, 0, gone, 4096, &count) == LAK_DONE, "it reads");
-        must(lak_places_before(&cloth, places, 64, &count) == LAK_DONE, "it reads");
+        must(lak_cut_many(&cloth, stroke, 4, &refused) == LAK_DONE && refused >= 1, "it cuts many");
+        must(lak_gravity(&cloth, (lak_place) {i, -179, 0}) == LAK_DONE, "it sets gravity");
+        read_all(&cloth);
         if (i % 7 == 0)
             must(lak_restore(&cloth, (uint32_t)i % 4) == LAK_DONE, "it goes back");
     }

@@ -1,6 +1,6 @@
 /*
- * Plays a scene's script by calls on a handle, and prints what `simulate` prints. The lines `ledger` of a script, which have no
- * call, are left out. Lines are taken as the examples have them: a word, and numbers behind it.
+ * Plays a scene's script by calls on a handle, and prints what `simulate` prints. Lines are taken as the examples have them: a
+ * word, and numbers behind it.
  */
 #include "lakmozet.h"
 
@@ -9,8 +9,6 @@
 #include <stdlib.h>
 #include <string.h>
 
-static const char *const refusals[] = {"", "BadCommand", "NoParticle", "NoLink", "LinkGone", "OutOfRange", "NotHeld", "Held",
-                                       "Tracked", "BadCount", "StepLimit"};
 static const char *const phases[] = {"", "predict", "link", "contact", "shape"};
 static uint8_t text[1 << 24];
 static lak_place places[65536];
@@ -24,7 +22,7 @@ static void print_reply(int32_t answer, const lak_left *left)
     else if (answer == LAK_TOO_MANY_CONTACTS)
         printf("refused 12 TooManyContacts step %" PRIu64 "\n", left->step);
     else
-        printf("refused %" PRId32 " %s\n", answer, answer <= 10 ? refusals[answer] : "?");
+        printf("refused %" PRId32 " %s\n", answer, lak_answer_name(answer));
 }
 
 static void print_frame(lak_cloth *cloth)
@@ -38,18 +36,49 @@ static void print_frame(lak_cloth *cloth)
         printf("%" PRId64 " %" PRId64 " %" PRId64 "\n", places[i].x, places[i].y, places[i].z);
 }
 
+__extension__ typedef unsigned __int128 natural;
+
+/* Prints a number of 128 bits in decimal, behind a space. */
+static void print_wide(lak_wide it)
+{
+    char digits[40] = "", *at = digits + 39;
+    natural left = (natural)(uint64_t)it.high << 64 | it.low;
+    if (it.high < 0)
+        left = -left;
+    do
+        *--at = (char)('0' + (int)(left % 10));
+    while (left /= 10);
+    printf(" %s%s", it.high < 0 ? "-" : "", at);
+}
+
+static void print_ledger(lak_cloth *cloth)
+{
+    static const char *const names[] = {"momentum", "opening", "gravity", "damping", "link", "contact", "pin", "shape"};
+    lak_ledger_of_world l;
+    lak_ledger(cloth, &l);
+    const lak_wide *sums[] = {l.momentum, l.opening, l.gravity, l.damping, l.link, l.contact, l.pin, l.shape};
+    for (int k = 0; k < 8; k++) {
+        printf("ledger %s", names[k]);
+        for (int axis = 0; axis < 3; axis++)
+            print_wide(sums[k][axis]);
+        putchar('\n');
+    }
+}
+
 static void play(lak_cloth *cloth, const char *line)
 {
     char word[16] = "";
     int64_t n[4] = {0, 0, 0, 0};
     lak_left left = {0, 0, 0};
     int found = sscanf(line, "%15s %" SCNd64 " %" SCNd64 " %" SCNd64 " %" SCNd64, word, &n[0], &n[1], &n[2], &n[3]);
-    if (found < 1 || word[0] == '#' || strcmp(word, "ledger") == 0)
+    if (found < 1 || word[0] == '#')
         return;
     if (strcmp(word, "step") == 0 && found == 2)
         print_reply(lak_step(cloth, (uint64_t)n[0], &left), &left);
     else if (strcmp(word, "frame") == 0 && found == 1)
         print_frame(cloth);
+    else if (strcmp(word, "ledger") == 0 && found == 1)
+        print_ledger(cloth);
     else if (strcmp(word, "pin") == 0 && found == 2)
         print_reply(lak_pin(cloth, (uint64_t)n[0]), &left);
     else if (strcmp(word, "unpin") == 0 && found == 2)
@@ -79,7 +108,7 @@ int main(void)
         printf("error 8 SceneRefused %u %s %s %" PRIu32 " %s\n", fault.rule, lak_rule_name(fault.rule), lak_table_name(fault.table),
                fault.position, lak_key_name(fault.key));
     if (answer != LAK_DONE)
-        return answer;
+        return answer - 32; /* as the program's */
     for (char *line = strtok(script + 4, "\n"); line; line = strtok(NULL, "\n"))
         play(&cloth, line);
     lak_close(&cloth);

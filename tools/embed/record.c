@@ -16,5 +16,5 @@ int main(void)
     scene = (size_t)(behind + 1 - (const char *)text);
     status = lak_record(text, scene, text + scene + 3, length - scene - 3, log_bytes, sizeof log_bytes, &written);
     fwrite(log_bytes, 1, written, stdout);
-    return status;
+    return status == LAK_DONE ? 0 : status - 32; /* as the program's */
 }

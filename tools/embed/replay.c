@@ -11,5 +11,5 @@ int main(void)
     lak_stop stop;
     int32_t status = lak_replay(log_bytes, length, text, sizeof text, &written, &stop);
     fwrite(text, 1, written, stdout);
-    return status;
+    return status == LAK_DONE ? 0 : status - 32; /* as the program's */
 }

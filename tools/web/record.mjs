@@ -1,5 +1,6 @@
 // Records a session by the C library as WebAssembly, as a web page calls it: record.mjs LIBRARY.wasm < INPUT > LOG. The input is
-// a scene, a line %%, and a script; the status is what lak_record answers.
+// a scene, a line %%, and a script; the status is the program's,
+// which lak_record answers with 32 added.
 import { readFileSync, writeSync } from "node:fs";
 
 const ROOM = 1 << 24;
@@ -35,4 +36,4 @@ lak.lak_give(sceneAt, scene.length);
 lak.lak_give(scriptAt, script.length);
 lak.lak_give(log, ROOM);
 lak.lak_give(written, 8);
-process.exitCode = status;
+process.exitCode = status && status - 32;

@@ -1,5 +1,5 @@
 -- What the calls answer, and what a handle holds after them.
-use Rattle.std.specs.Prelude.{ℕ, nat_le, nat_lt, if◌then◌else◌, List, length, Option, Some, None}
+use Rattle.std.specs.Prelude.{⊤, ℕ, ◌+◌, nat_le, nat_lt, if◌then◌else◌, List, length, Option, Some, None}
 use Rattle.pbd_num.specs.declared.Vec3.{Vec3}
 use Rattle.pbd_world.specs.declared.command.Command.{Command}
 use Rattle.pbd_world.specs.declared.command.FrameSums.{FrameSums}
@@ -10,7 +10,7 @@ use Rattle.pbd_log.specs.Entries.{answer_of, plain}
 use Rattle.pbd_world.specs.Lending.{overwritten}
 use Rattle.pbd_cloth.specs.declared.place.Place.{Place}
 use Rattle.pbd_cloth.specs.Reading.{gone_since}
-use Rattle.pbd_cloth.specs.Slots.{Slotted, restored, saved, slot_at}
+use Rattle.pbd_cloth.specs.Slots.{Slotted, restored, saved, slot_at, AreSlots}
 use Rattle.lakmozet_c.specs.declared.plain.Left.{Left}
 use Rattle.lakmozet_c.specs.declared.plain.Sums.{Sums}
 use Rattle.lakmozet_c.specs.declared.plain.Counts.{Counts}
@@ -32,6 +32,10 @@ no_slot = 66
 -- the memory of the caller's is too short for all
 abbrev pub no_room : ℕ
 no_room = 67
+
+-- a status of the program's, which no refusal's number is
+abbrev pub status : ℕ → ℕ
+status n = 32 + n
 
 -- ---- commands
 
@@ -63,6 +67,11 @@ has_slot cloth k = if nat_lt k (length cloth.slots) then 0 else no_slot
 abbrev pub done_to : (Slotted → Slotted) → Option Slotted → Option Slotted
 done_to f None = None
 done_to f (Some cloth) = Some (f cloth)
+
+-- what a handle holds is nothing, or a sound world and slots of sound worlds of one scene with it
+abbrev pub HoldsSound : Option Slotted → Type 0
+HoldsSound None = ⊤
+HoldsSound (Some cloth) = AreSlots cloth.world cloth.slots
 
 -- an answer of an open handle, or that it is closed
 abbrev pub answered : Option Slotted → (Slotted → ℕ) → ℕ

@@ -18,7 +18,7 @@ use Rattle.pbd_cloth.specs.Slots.{Slotted, begun}
 use Rattle.lakmozet_c.specs.declared.plain.Fault.{Fault}
 use Rattle.lakmozet_c.specs.declared.opening.NoCloth.{NoCloth}
 use Rattle.lakmozet_c.specs.declared.opening.NoCloth.TheVariants.{TooManySlots, NotText, NoScene}
-use Rattle.lakmozet_c.specs.Calls.{in_use, no_slot}
+use Rattle.lakmozet_c.specs.Calls.{in_use, no_slot, status}
 
 -- ---- numbers of names
 
@@ -74,10 +74,10 @@ key_number keys.Keys = 34
 -- the status that the program has for it, or that there are too many slots
 abbrev pub stop_number : NoCloth → ℕ
 stop_number TooManySlots = no_slot
-stop_number NotText = 6
-stop_number (NoScene NotToml) = 7
-stop_number (NoScene (Refused rule table position key)) = 8
-stop_number (NoScene OutOfMemory) = 12
+stop_number NotText = status 6
+stop_number (NoScene NotToml) = status 7
+stop_number (NoScene (Refused rule table position key)) = status 8
+stop_number (NoScene OutOfMemory) = status 12
 
 -- the broken rule, if that is the reason
 abbrev pub fault_of : NoCloth → Fault
@@ -122,12 +122,13 @@ pub record IsOpened (bytes : List ℕ) (slots : ℕ) (cloth : Slotted) : Type 0 
   pub few : slots ≤ 16
   pub first : cloth ≡ begun (opened parts) slots
 
--- it is open now
-pub record Opens (bytes : List ℕ) (slots : ℕ) (held : Option Slotted) (answer : ℤ) : Type 0 where
+-- it is open now, and no fault is told
+pub record Opens (bytes : List ℕ) (slots : ℕ) (held : Option Slotted) (answer : ℤ) (before fault : Fault) : Type 0 where
   pub done : answer ≡ pos 0
   pub cloth : Slotted
   pub holds : held ≡ Some cloth
   pub opened : IsOpened bytes slots cloth
+  pub place : fault ≡ before
 
 -- it is still closed, for a reason that is told
 pub record StaysClosed (bytes : List ℕ) (slots : ℕ) (held : Option Slotted) (answer : ℤ) (fault : Fault) : Type 0 where
@@ -140,4 +141,4 @@ pub record StaysClosed (bytes : List ℕ) (slots : ℕ) (held : Option Slotted) 
 -- what opening does to what a handle held: an open one stays as it is, and no fault is told
 abbrev pub OpensOr : Option Slotted → List ℕ → ℕ → Option Slotted → ℤ → Fault → Fault → Type 0
 OpensOr (Some cloth) bytes slots held answer before fault = (answer ≡ pos in_use) × (held ≡ Some cloth) × (fault ≡ before)
-OpensOr None bytes slots held answer before fault = Opens bytes slots held answer ⊎ StaysClosed bytes slots held answer fault
+OpensOr None bytes slots held answer before fault = Opens bytes slots held answer before fault ⊎ StaysClosed bytes slots held answer fault

@@ -4,3 +4,5 @@ pub mod Kept
 pub mod Logs
 pub mod Replays
 pub mod Runs
+pub mod Shown
+pub mod States

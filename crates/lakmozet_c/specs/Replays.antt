@@ -1,5 +1,5 @@
 -- What the replay of a log writes, and why nothing was replayed.
-use Rattle.std.specs.Prelude.{◌≡◌, ⊤, ◌<◌, ℕ, ℤ, pos, List, length}
+use Rattle.std.specs.Prelude.{◌≡◌, ⊤, ◌<◌, ◌^◌, ℕ, ℤ, pos, List, length}
 use Rattle.std.specs.Str.{IsUtf8}
 use Rattle.toml.specs.Parse.{parse_document}
 use Rattle.pbd_world.specs.declared.parts.Parts.{Parts}
@@ -15,6 +15,7 @@ use Rattle.lakmozet_c.specs.declared.plain.Stop.{Stop}
 use Rattle.lakmozet_c.specs.declared.replaying.NoReplay.{NoReplay}
 use Rattle.lakmozet_c.specs.declared.replaying.NoReplay.TheVariants.{NoLog, Stopped}
 use Rattle.lakmozet_c.specs.declared.runs.NoRun.TheVariants.{NoScene, NoRoom, TooLong, NoMemory}
+use Rattle.lakmozet_c.specs.Calls.{status}
 use Rattle.lakmozet_c.specs.Faults.{IsSceneIn, IsWhyIn}
 use Rattle.lakmozet_c.specs.Runs.{end_number, no_run_number}
 
@@ -23,7 +24,7 @@ use Rattle.lakmozet_c.specs.Runs.{end_number, no_run_number}
 -- the status of the program's
 abbrev pub replay_number : ReplayEnd → ℕ
 replay_number (Done refused) = end_number refused
-replay_number (Mismatch entry field recorded found) = 10
+replay_number (Mismatch entry field recorded found) = status 10
 
 -- in the order of the comparison
 abbrev pub field_number : Field → ℕ
@@ -50,7 +51,7 @@ stop_of (Mismatch entry field recorded found) = record { offset = 0; entry = ent
 
 -- the status of the program's
 abbrev pub no_replay_number : NoReplay → ℕ
-no_replay_number (NoLog offset) = 9
+no_replay_number (NoLog offset) = status 9
 no_replay_number (Stopped why) = no_run_number why
 
 -- where the bytes stop being a log, if that is the reason
@@ -67,14 +68,6 @@ pub record HasNoScene (bytes : List ℕ) (why : NoCloth) : Type 0 where
   pub spelled : IsSpelled bytes log
   pub reason : IsWhyIn log.limit log.scene 0 why
 
--- a reason that has to do with the bytes holds of them
-abbrev pub IsWhyNoReplay : List ℕ → NoReplay → Type 0
-IsWhyNoReplay bytes (NoLog offset) = SpellsNothing bytes × IsFault bytes offset
-IsWhyNoReplay bytes (Stopped (NoScene why)) = HasNoScene bytes why
-IsWhyNoReplay bytes (Stopped TooLong) = 134217728 < length bytes
-IsWhyNoReplay bytes (Stopped NoRoom) = ⊤
-IsWhyNoReplay bytes (Stopped NoMemory) = ⊤
-
 -- ---- what a replay does
 
 -- the bytes are a log, whose replay from the world of its scene prints this text and ends so
@@ -87,6 +80,21 @@ pub record IsReplay (bytes text : List ℕ) (ended : ReplayEnd) : Type 0 where
   pub prints : text ≡ (replayed (opened parts) log.entries).text
   pub ends : ended ≡ (replayed (opened parts) log.entries).ended
 
+-- the text of the replay has more bytes than this
+pub record IsReplayPast (bytes : List ℕ) (room : ℕ) : Type 0 where
+  pub text : List ℕ
+  pub ended : ReplayEnd
+  pub replay : IsReplay bytes text ended
+  pub long : room < length text
+
+-- the reason holds of the bytes and of the room for the text; only want of memory is told without one
+abbrev pub IsWhyNoReplay : List ℕ → ℕ → NoReplay → Type 0
+IsWhyNoReplay bytes room (NoLog offset) = SpellsNothing bytes × IsFault bytes offset
+IsWhyNoReplay bytes room (Stopped (NoScene why)) = HasNoScene bytes why
+IsWhyNoReplay bytes room (Stopped NoRoom) = IsReplayPast bytes room
+IsWhyNoReplay bytes room (Stopped TooLong) = 2 ^ 27 < length bytes
+IsWhyNoReplay bytes room (Stopped NoMemory) = ⊤
+
 -- the text was written, the answer tells how it ended, and a difference is told
 pub record IsReplayed (bytes : List ℕ) (answer : ℤ) (text : List ℕ) (stop : Stop) : Type 0 where
   pub ended : ReplayEnd
@@ -95,9 +103,9 @@ pub record IsReplayed (bytes : List ℕ) (answer : ℤ) (text : List ℕ) (stop 
   pub replay : IsReplay bytes text ended
 
 -- nothing was written, for a reason that is told
-pub record IsNotReplayed (bytes : List ℕ) (answer : ℤ) (written : ℕ) (stop : Stop) : Type 0 where
+pub record IsNotReplayed (bytes : List ℕ) (room : ℕ) (answer : ℤ) (written : ℕ) (stop : Stop) : Type 0 where
   pub nothing : written ≡ 0
   pub why : NoReplay
-  pub reason : IsWhyNoReplay bytes why
+  pub reason : IsWhyNoReplay bytes room why
   pub number : answer ≡ pos (no_replay_number why)
   pub place : stop ≡ fault_at why

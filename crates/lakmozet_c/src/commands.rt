@@ -2,7 +2,7 @@
 ghost use Rattle.std.specs.Prelude.{◌≡◌, pos};
 ghost use Rattle.pbd_world.specs.declared.command.Command.TheVariants as commands;
 ghost use Rattle.pbd_cloth.specs.Slots.{played};
-ghost use Rattle.lakmozet_c.specs.Calls.{answer_to, done_to, left_of, vector_of};
+ghost use Rattle.lakmozet_c.specs.Calls.{answer_to, done_to, left_of, vector_of, HoldsSound};
 
 use crate::handle::Handle;
 use crate::numbers::CLOSED;
@@ -19,6 +19,7 @@ fn command(alloc: Global, handle: &mut Handle, command: &Command) -> Answer
     ensures held { handle.new.held ≡ done_to (λ c. played c command.now) handle.old.held }
     ensures answer { result ≡ answer_to handle.old.held command.now }
     ensures kept { (result.number ≡ 0 → ⊥) → handle.new.held ≡ handle.old.held }
+    ensures sound { HoldsSound handle.new.held }
 {
     match handle.take(alloc) {
         Some(mut cloth) => {
@@ -62,6 +63,7 @@ pub extern "C" fn lak_step(alloc: Global, handle: &mut Handle, n: u64, left: &mu
     ensures answer { result ≡ pos (answer_to handle.old.held (commands.Step n)).number }
     ensures left { left.new ≡ left_of (answer_to handle.old.held (commands.Step n)) }
     ensures kept { (result ≡ pos 0 → ⊥) → handle.new.held ≡ handle.old.held }
+    ensures sound { HoldsSound handle.new.held }
 {
     let answer = command(alloc, handle, &Command::Step(n));
     *left = left_of(&answer);
@@ -74,6 +76,7 @@ pub extern "C" fn lak_pin(alloc: Global, handle: &mut Handle, i: u64) -> i32
     ensures held { handle.new.held ≡ done_to (λ c. played c (commands.Pin i)) handle.old.held }
     ensures answer { result ≡ pos (answer_to handle.old.held (commands.Pin i)).number }
     ensures kept { (result ≡ pos 0 → ⊥) → handle.new.held ≡ handle.old.held }
+    ensures sound { HoldsSound handle.new.held }
 {
     let answer = command(alloc, handle, &Command::Pin(i));
     i32::from(answer.number)
@@ -85,6 +88,7 @@ pub extern "C" fn lak_unpin(alloc: Global, handle: &mut Handle, i: u64) -> i32
     ensures held { handle.new.held ≡ done_to (λ c. played c (commands.Unpin i)) handle.old.held }
     ensures answer { result ≡ pos (answer_to handle.old.held (commands.Unpin i)).number }
     ensures kept { (result ≡ pos 0 → ⊥) → handle.new.held ≡ handle.old.held }
+    ensures sound { HoldsSound handle.new.held }
 {
     let answer = command(alloc, handle, &Command::Unpin(i));
     i32::from(answer.number)
@@ -96,6 +100,7 @@ pub extern "C" fn lak_move(alloc: Global, handle: &mut Handle, i: u64, to: Place
     ensures held { handle.new.held ≡ done_to (λ c. played c (commands.Move i (vector_of to))) handle.old.held }
     ensures answer { result ≡ pos (answer_to handle.old.held (commands.Move i (vector_of to))).number }
     ensures kept { (result ≡ pos 0 → ⊥) → handle.new.held ≡ handle.old.held }
+    ensures sound { HoldsSound handle.new.held }
 {
     let to = vector_of(to);
     let answer = command(alloc, handle, &Command::Move { particle: i, to });
@@ -108,6 +113,7 @@ pub extern "C" fn lak_cut(alloc: Global, handle: &mut Handle, l: u64) -> i32
     ensures held { handle.new.held ≡ done_to (λ c. played c (commands.Cut l)) handle.old.held }
     ensures answer { result ≡ pos (answer_to handle.old.held (commands.Cut l)).number }
     ensures kept { (result ≡ pos 0 → ⊥) → handle.new.held ≡ handle.old.held }
+    ensures sound { HoldsSound handle.new.held }
 {
     let answer = command(alloc, handle, &Command::Cut(l));
     i32::from(answer.number)
@@ -119,6 +125,7 @@ pub extern "C" fn lak_gravity(alloc: Global, handle: &mut Handle, gravity: Place
     ensures held { handle.new.held ≡ done_to (λ c. played c (commands.Gravity (vector_of gravity))) handle.old.held }
     ensures answer { result ≡ pos (answer_to handle.old.held (commands.Gravity (vector_of gravity))).number }
     ensures kept { (result ≡ pos 0 → ⊥) → handle.new.held ≡ handle.old.held }
+    ensures sound { HoldsSound handle.new.held }
 {
     let answer = command(alloc, handle, &Command::Gravity(vector_of(gravity)));
     i32::from(answer.number)

@@ -3,7 +3,7 @@ ghost use Rattle.std.specs.Prelude.{◌≡◌};
 ghost use Rattle.std.specs.declared.option.Option.{Option};
 ghost use Rattle.std.specs.declared.option.Option.TheVariants.{None, Some};
 ghost use Rattle.std.specs.Option.{MatchOption};
-ghost use Rattle.pbd_cloth.specs.Slots.{Slotted};
+ghost use Rattle.pbd_cloth.specs.Slots.{Slotted, AreSlots};
 ghost use Rattle.lakmozet_c.specs.Kept.{kept};
 
 use pbd_cloth::Cloth;
@@ -26,6 +26,8 @@ impl Model for Handle {
 }
 
 impl Handle {
+    ghost use Rattle.lakmozet_c.specs.Calls.{HoldsSound};
+
     /// A handle of a cloth.
     pub(crate) fn holding(cloth: Loose<Cloth, Global>) -> Handle
         ensures { result.held ≡ Some cloth.value }
@@ -62,14 +64,15 @@ impl Handle {
         }
     }
 
-    /// Takes out what it holds.
+    /// Takes out what it holds, which is sound.
     pub(crate) fn take(&mut self, alloc: Global) -> Option<Box<Cloth>>
         ensures closed { self.new.held ≡ None }
         ensures held { MatchOption result (self.old.held ≡ None) (λ cloth. self.old.held ≡ Some cloth.value) }
+        ensures sound { HoldsSound self.old.held }
     {
         let taken = mem::replace(self, Handle::closed());
         match taken.into_held(alloc) {
-            Some(cloth) => Some(cloth.into_box()),
+            Some(cloth) => Some(looked_at(cloth.into_box())),
             None => None,
         }
     }
@@ -84,4 +87,13 @@ impl Handle {
             None => (),
         }
     }
+}
+
+/// The cloth, of which a count tells that it is sound.
+pub(crate) fn looked_at(cloth: Box<Cloth>) -> Box<Cloth>
+    ensures value { result.value ≡ cloth.value }
+    ensures sound { AreSlots cloth.value.world cloth.value.slots }
+{
+    let _slots = cloth.slots();
+    cloth
 }

@@ -2,6 +2,7 @@
 #![tactic(auto)]
 
 mod commands;
+mod cuts;
 mod handle;
 mod numbers;
 mod open;
@@ -10,8 +11,11 @@ mod plain;
 mod reads;
 mod recording;
 mod replaying;
+mod room_sink;
 mod runs;
+mod shown;
 mod slots;
+mod state;
 
 pub use handle::Handle;
-pub use plain::{Counts, Fault, Left, Stop, Sums};
+pub use plain::{Book, Counts, Fault, Hash, Left, Stop, Sums, Wide};

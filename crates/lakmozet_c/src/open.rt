@@ -1,6 +1,7 @@
 //! Opening and closing.
 ghost use Rattle.std.specs.Prelude.{◌≡◌};
 ghost use Rattle.std.specs.declared.option.Option.TheVariants.{None};
+ghost use Rattle.lakmozet_c.specs.Calls.{HoldsSound};
 ghost use Rattle.lakmozet_c.specs.Faults.{OpensOr};
 
 use crate::handle::Handle;
@@ -18,7 +19,8 @@ pub extern "C" fn lak_open(
     slots: u32,
     fault: &mut Fault,
 ) -> i32
-    ensures { OpensOr handle.old.held toml.now slots handle.new.held result fault.old fault.new }
+    ensures opened { OpensOr handle.old.held toml.now slots handle.new.held result fault.old fault.new }
+    ensures sound { HoldsSound handle.new.held }
 {
     match handle.take(alloc) {
         Some(cloth) => {

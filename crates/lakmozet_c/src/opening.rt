@@ -4,12 +4,12 @@ ghost use Rattle.std.specs.Str.{IsUtf8};
 ghost use Rattle.toml.specs.Parse.{parse_document};
 ghost use Rattle.pbd_world.specs.Valid.{is_limit};
 ghost use Rattle.pbd_world.specs.World.{opened};
-ghost use Rattle.pbd_cloth.specs.Slots.{begun};
+ghost use Rattle.pbd_cloth.specs.Slots.{begun, AreSlots};
 ghost use Rattle.pbd_scene.specs.declared.fault.SceneFault.TheVariants.{OutOfMemory};
 ghost use Rattle.lakmozet_c.specs.declared.opening.NoCloth.TheVariants.{NoScene};
 ghost use Rattle.lakmozet_c.specs.Faults.{fault_of, key_number, stop_number, table_number, IsFaultIn, IsOpened, IsSceneIn, IsWhy, IsWhyIn};
 
-use crate::numbers::NO_SLOT;
+use crate::numbers::{NO_SLOT, OUT_OF_MEMORY, SCENE_NOT_TEXT, SCENE_NOT_TOML, SCENE_REFUSED};
 use crate::plain::Fault;
 use pbd_cloth::{Cloth, MOST_SLOTS};
 use pbd_num::RANGE;
@@ -29,7 +29,8 @@ pub enum NoCloth {
 
 fn boxed(alloc: Global, scene: &Scene, slots: u32) -> Result<Box<Cloth>, AllocError>
     requires { slots ≤ 16 }
-    ensures { IfOk result (λ cloth. cloth.value ≡ begun (opened scene.now) slots) }
+    ensures cloth { IfOk result (λ cloth. cloth.value ≡ begun (opened scene.now) slots) }
+    ensures sound { IfOk result (λ cloth. AreSlots cloth.value.world cloth.value.slots) }
 {
     let cloth = Cloth::open(alloc, scene, slots)?;
     Ok(Box::new(alloc, cloth)?)
@@ -62,8 +63,9 @@ pub(crate) fn scene_in(alloc: Global, bytes: &[u8], limit: i64) -> Result<Scene,
 /// The cloth of a scene, which is let go.
 fn cloth_on(alloc: Global, scene: Scene, slots: u32) -> Result<Box<Cloth>, NoCloth>
     requires { slots ≤ 16 }
-    ensures { MatchResult result (λ cloth. cloth.value ≡ begun (opened scene) slots)
+    ensures cloth { MatchResult result (λ cloth. cloth.value ≡ begun (opened scene) slots)
         (λ why. why ≡ NoScene OutOfMemory) }
+    ensures sound { IfOk result (λ cloth. AreSlots cloth.value.world cloth.value.slots) }
 {
     let outcome = boxed(alloc, &scene, slots);
     drop(scene);
@@ -76,7 +78,8 @@ fn cloth_on(alloc: Global, scene: Scene, slots: u32) -> Result<Box<Cloth>, NoClo
 /// The cloth of a scene's text.
 #[tactic(auto, using(crate::proofs::Reading::with_any_slots))]
 pub(crate) fn cloth_of(alloc: Global, toml: &[u8], slots: u32) -> Result<Box<Cloth>, NoCloth>
-    ensures { MatchResult result (λ cloth. IsOpened toml.now slots cloth.value) (λ why. IsWhy toml.now slots why) }
+    ensures cloth { MatchResult result (λ cloth. IsOpened toml.now slots cloth.value) (λ why. IsWhy toml.now slots why) }
+    ensures sound { IfOk result (λ cloth. AreSlots cloth.value.world cloth.value.slots) }
 {
     if MOST_SLOTS < slots {
         return Err(NoCloth::TooManySlots);
@@ -150,10 +153,10 @@ pub(crate) fn stop_number(why: &NoCloth) -> i32
 {
     match why {
         NoCloth::TooManySlots => NO_SLOT,
-        NoCloth::NotText => 6,
-        NoCloth::NoScene(SceneFault::NotToml) => 7,
-        NoCloth::NoScene(SceneFault::Refused { .. }) => 8,
-        NoCloth::NoScene(SceneFault::OutOfMemory) => 12,
+        NoCloth::NotText => SCENE_NOT_TEXT,
+        NoCloth::NoScene(SceneFault::NotToml) => SCENE_NOT_TOML,
+        NoCloth::NoScene(SceneFault::Refused { .. }) => SCENE_REFUSED,
+        NoCloth::NoScene(SceneFault::OutOfMemory) => OUT_OF_MEMORY,
     }
 }
 

@@ -53,3 +53,32 @@ pub struct Counts {
     pub contacts: u32,
     pub slots: u32,
 }
+
+/// A number of 128 bits: `high` times 2^64, and `low`.
+#[repr(C)]
+#[derive(Clone, Copy)]
+pub struct Wide {
+    pub low: u64,
+    pub high: i64,
+}
+
+/// The momentum of the particles that aren't held, that at opening, and what moved it since, in units per step.
+#[repr(C)]
+#[derive(Clone, Copy)]
+pub struct Book {
+    pub momentum: [Wide; 3],
+    pub opening: [Wide; 3],
+    pub gravity: [Wide; 3],
+    pub damping: [Wide; 3],
+    pub link: [Wide; 3],
+    pub contact: [Wide; 3],
+    pub pin: [Wide; 3],
+    pub shape: [Wide; 3],
+}
+
+/// A SHA-256 digest: the name of a scene, or what two machines compare.
+#[repr(C)]
+#[derive(Clone, Copy)]
+pub struct Hash {
+    pub bytes: [u8; 32],
+}

@@ -4,7 +4,7 @@ ghost use Rattle.pbd_world.specs.Lending.{overwritten};
 ghost use Rattle.pbd_world.specs.Replay.{frame_sums};
 ghost use Rattle.pbd_cloth.specs.Reading.{places, places_before, live_bytes, gone_since};
 ghost use Rattle.pbd_cloth.specs.Slots.{slot_at};
-ghost use Rattle.lakmozet_c.specs.Calls.{answered, counts_of, gone_answer, gone_count, gone_left, read_from, room_answer, sums_of};
+ghost use Rattle.lakmozet_c.specs.Calls.{answered, counts_of, gone_answer, gone_count, gone_left, read_from, room_answer, sums_of, HoldsSound};
 
 use crate::handle::Handle;
 use crate::numbers::{CLOSED, NO_ROOM, NO_SLOT};
@@ -14,7 +14,7 @@ use pbd_world::FrameSums;
 use std::alloc::Global;
 
 /// Whether so many fit.
-fn room_for(count: u32, room: usize) -> i32
+pub(crate) fn room_for(count: u32, room: usize) -> i32
     ensures { result ≡ pos (room_answer count room) }
 {
     if count as usize <= room { 0 } else { NO_ROOM }
@@ -62,6 +62,7 @@ fn gone_since(cloth: &Cloth, slot: u32, into: &mut [u32], count: &mut u32) -> i3
 #[unsafe(no_mangle)]
 pub extern "C" fn lak_counts(alloc: Global, handle: &mut Handle, counts: &mut Counts) -> i32
     ensures held { handle.new.held ≡ handle.old.held }
+    ensures sound { HoldsSound handle.new.held }
     ensures answer { result ≡ pos (answered handle.old.held (λ _. 0)) }
     ensures counts { counts.new ≡ read_from handle.old.held counts_of counts.old }
 {
@@ -79,6 +80,7 @@ pub extern "C" fn lak_counts(alloc: Global, handle: &mut Handle, counts: &mut Co
 #[unsafe(no_mangle)]
 pub extern "C" fn lak_sums(alloc: Global, handle: &mut Handle, sums: &mut Sums) -> i32
     ensures held { handle.new.held ≡ handle.old.held }
+    ensures sound { HoldsSound handle.new.held }
     ensures answer { result ≡ pos (answered handle.old.held (λ _. 0)) }
     ensures sums { sums.new ≡ read_from handle.old.held (λ c. sums_of (frame_sums c.world)) sums.old }
 {
@@ -101,6 +103,7 @@ pub extern "C" fn lak_places(
     count: &mut u32,
 ) -> i32
     ensures held { handle.new.held ≡ handle.old.held }
+    ensures sound { HoldsSound handle.new.held }
     ensures answer { result ≡ pos (answered handle.old.held (λ c. room_answer (length c.world.particles) (length into.old))) }
     ensures count { count.new ≡ read_from handle.old.held (λ c. length c.world.particles) count.old }
     ensures written { into.new ≡ read_from handle.old.held (λ c. overwritten into.old (places c.world)) into.old }
@@ -124,6 +127,7 @@ pub extern "C" fn lak_places_before(
     count: &mut u32,
 ) -> i32
     ensures held { handle.new.held ≡ handle.old.held }
+    ensures sound { HoldsSound handle.new.held }
     ensures answer { result ≡ pos (answered handle.old.held (λ c. room_answer (length c.world.particles) (length into.old))) }
     ensures count { count.new ≡ read_from handle.old.held (λ c. length c.world.particles) count.old }
     ensures written { into.new ≡ read_from handle.old.held (λ c. overwritten into.old (places_before c.world)) into.old }
@@ -147,6 +151,7 @@ pub extern "C" fn lak_live(
     count: &mut u32,
 ) -> i32
     ensures held { handle.new.held ≡ handle.old.held }
+    ensures sound { HoldsSound handle.new.held }
     ensures answer { result ≡ pos (answered handle.old.held (λ c. room_answer (length c.world.links) (length into.old))) }
     ensures count { count.new ≡ read_from handle.old.held (λ c. length c.world.links) count.old }
     ensures written { into.new ≡ read_from handle.old.held (λ c. overwritten into.old (live_bytes c.world)) into.old }
@@ -172,6 +177,7 @@ pub extern "C" fn lak_gone_since(
     count: &mut u32,
 ) -> i32
     ensures held { handle.new.held ≡ handle.old.held }
+    ensures sound { HoldsSound handle.new.held }
     ensures answer { result ≡ pos (answered handle.old.held (λ c. gone_answer c slot (length into.old))) }
     ensures count { count.new ≡ read_from handle.old.held (λ c. gone_count c slot count.old) count.old }
     ensures written { into.new ≡ read_from handle.old.held (λ c. gone_left c slot into.old) into.old }

@@ -1,20 +1,22 @@
 //! A log, replayed from bytes to text.
-ghost use Rattle.std.specs.Prelude.{◌≡◌, ◌⊎◌, ◌≤◌, ◌<◌, [], Some, IfErr, IfOk, MatchResult, length, pos, take};
+ghost use Rattle.std.specs.Prelude.{◌≡◌, ◌⊎◌, ◌≤◌, ◌<◌, [], Some, IfErr, IfOk, MatchResult, drop, length, pos, take};
 ghost use Rattle.std.specs.Str.{IsUtf8};
 ghost use Rattle.toml.specs.Parse.{parse_document};
 ghost use Rattle.pbd_io.specs.Pieces.{WritesPiece};
 ghost use Rattle.pbd_log.specs.Logs.{IsVersion};
 ghost use Rattle.pbd_session.specs.Replaying.{replayed};
 ghost use Rattle.pbd_world.specs.World.{opened};
-ghost use Rattle.lakmozet_c.specs.declared.runs.NoRun.TheVariants.{NoMemory, NoRoom};
 ghost use Rattle.lakmozet_c.specs.Faults.{IsSceneIn, IsWhyIn};
 ghost use Rattle.lakmozet_c.specs.Replays.{fault_at, field_number, no_replay_number, replay_number, stop_of, IsNotReplayed, IsReplay, IsReplayed, IsWhyNoReplay};
+ghost use Rattle.lakmozet_c.specs.Runs.{IsShortage};
 
+use crate::numbers::{LOG_REFUSED, MISMATCH};
 use crate::opening::{NoCloth, scene_in};
 use crate::plain::Stop;
+use crate::room_sink::RoomSink;
 use crate::runs::{NoRun, copied, end_number, no_run_number};
 use pbd_cloth::LANES;
-use pbd_io::{Failed, MemSink};
+use pbd_io::Failed;
 use pbd_log::{LogView, read_log};
 use pbd_pair::LaneProjector;
 use pbd_session::{Field, ReplayEnd, Session, run_replay};
@@ -41,12 +43,13 @@ fn replay_counted<G: Ledger>(
     blank: Blank,
     session: &mut Session<LANES, LaneProjector<LANES>>,
     log: LogView<'_>,
-    sink: &mut MemSink,
+    sink: &mut RoomSink,
 ) -> Result<ReplayEnd, Failed>
     requires name { blank.name ≡ G.name }
     requires parts { blank.parts ≡ G.parts }
     requires some { 0 < blank.parts }
-    ensures bytes { WritesPiece (Some sink.old.bytes) (Some sink.new.bytes) result (replayed session.old log.entry.entries).text }
+    ensures bytes { WritesPiece (Some sink.old.bytes.items) (Some sink.new.bytes.items) result
+        (replayed session.old log.entry.entries).text }
     ensures ended { IfOk result (λ end. end ≡ (replayed session.old log.entry.entries).ended) }
 {
     let mut steps: Steps<G> = Steps::open(blank);
@@ -54,17 +57,19 @@ fn replay_counted<G: Ledger>(
 }
 
 /// Replays the log on a session of the scene, which is let go.
+#[tactic(auto, using(crate::proofs::Shortages::of_whole))]
 fn replay_on(
     alloc: Global,
     scene: Scene,
     log: LogView<'_>,
-    sink: &mut MemSink,
+    sink: &mut RoomSink,
 ) -> Result<ReplayEnd, NoRun>
-    requires empty { sink.old.bytes ≡ [] }
-    ensures text { IfOk result (λ _. sink.new.bytes ≡ (replayed (opened scene) log.entry.entries).text) }
+    requires empty { sink.old.bytes.items ≡ [] }
+    ensures text { IfOk result (λ _. sink.new.bytes.items ≡ (replayed (opened scene) log.entry.entries).text) }
     ensures ended { IfOk result (λ end. end ≡ (replayed (opened scene) log.entry.entries).ended) }
-    ensures none { IfErr result (λ why. (why ≡ NoRoom) ⊎ (why ≡ NoMemory)) }
+    ensures none { IfErr result (λ why. IsShortage sink.old.room (replayed (opened scene) log.entry.entries).text why) }
 {
+    let room = sink.room;
     let outcome = Session::open(alloc, &scene, LaneProjector::<LANES>::new());
     drop(scene);
     match outcome {
@@ -73,7 +78,7 @@ fn replay_on(
             drop(session);
             match end {
                 Ok(end) => Ok(end),
-                Err(Failed) => Err(NoRun::NoRoom),
+                Err(Failed) => Err(sink.why_failed(room)),
             }
         }
         Err(AllocError) => Err(NoRun::NoMemory),
@@ -91,9 +96,11 @@ fn scene_of_log(alloc: Global, log: &LogView<'_>) -> Result<Scene, NoCloth>
 }
 
 /// Replays the log that the bytes are.
-fn replay_bytes(alloc: Global, bytes: &[u8], sink: &mut MemSink) -> Result<ReplayEnd, NoReplay>
-    requires empty { sink.old.bytes ≡ [] }
-    ensures { MatchResult result (λ ended. IsReplay bytes.now sink.new.bytes ended) (λ why. IsWhyNoReplay bytes.now why) }
+#[tactic(auto, using(crate::proofs::Shortages::no_replay))]
+fn replay_bytes(alloc: Global, bytes: &[u8], sink: &mut RoomSink) -> Result<ReplayEnd, NoReplay>
+    requires empty { sink.old.bytes.items ≡ [] }
+    ensures { MatchResult result (λ ended. IsReplay bytes.now sink.new.bytes.items ended)
+        (λ why. IsWhyNoReplay bytes.now sink.old.room why) }
 {
     match read_log(bytes) {
         Ok(log) => match scene_of_log(alloc, &log) {
@@ -110,15 +117,16 @@ fn replay_bytes(alloc: Global, bytes: &[u8], sink: &mut MemSink) -> Result<Repla
 /// The text of a log's replay in the caller's memory: how many bytes it has, and how the replay ended.
 fn replayed(alloc: Global, log: &[u8], output: &mut [u8]) -> Result<(usize, ReplayEnd), NoReplay>
     ensures { MatchResult result
-        (λ end. (end.0 ≤ length output.new) × IsReplay log.now (take end.0 output.new) end.1)
-        (λ why. IsWhyNoReplay log.now why) }
+        (λ end. (end.0 ≤ length output.new) × IsReplay log.now (take end.0 output.new) end.1
+        × (drop end.0 output.new ≡ drop end.0 output.old))
+        (λ why. IsWhyNoReplay log.now (length output.old) why × (output.new ≡ output.old)) }
 {
     if MOST_OF_LOG < log.len() {
         return Err(NoReplay::Stopped(NoRun::TooLong));
     }
-    match MemSink::open(alloc, output.len(), Vec::new(alloc)) {
+    match RoomSink::open(alloc, output.len()) {
         Ok(mut sink) => match replay_bytes(alloc, log, &mut sink) {
-            Ok(ended) => match copied(sink.written(), output) {
+            Ok(ended) => match copied(&sink.bytes, output) {
                 Ok(count) => Ok((count, ended)),
                 Err(why) => Err(NoReplay::Stopped(why)),
             },
@@ -153,7 +161,7 @@ fn replay_number(ended: &ReplayEnd) -> i32
 {
     match *ended {
         ReplayEnd::Done { refused } => end_number(refused),
-        ReplayEnd::Mismatch { .. } => 10,
+        ReplayEnd::Mismatch { .. } => MISMATCH,
     }
 }
 
@@ -179,7 +187,7 @@ fn no_replay_number(why: &NoReplay) -> i32
     ensures { result ≡ pos (no_replay_number why.now) }
 {
     match why {
-        NoReplay::NoLog(_) => 9,
+        NoReplay::NoLog(_) => LOG_REFUSED,
         NoReplay::Stopped(why) => no_run_number(why),
     }
 }
@@ -210,7 +218,8 @@ pub extern "C" fn lak_replay(
 ) -> i32
     ensures within { written.new ≤ length output.new }
     ensures outcome { IsReplayed log.now result (take written.new output.new) stop.new
-        ⊎ IsNotReplayed log.now result written.new stop.new }
+        ⊎ IsNotReplayed log.now (length output.old) result written.new stop.new }
+    ensures behind { drop written.new output.new ≡ drop written.new output.old }
 {
     match replayed(alloc, log, output) {
         Ok((count, ended)) => {

@@ -1,8 +1,9 @@
 //! What whole runs share, from bytes to bytes.
-ghost use Rattle.std.specs.Prelude.{◌≡◌, ◌≤◌, MatchResult, length, pos, take};
+ghost use Rattle.std.specs.Prelude.{◌≡◌, ◌<◌, ◌≤◌, MatchResult, drop, length, pos, take};
 ghost use Rattle.lakmozet_c.specs.declared.runs.NoRun.TheVariants.{NoRoom};
 ghost use Rattle.lakmozet_c.specs.Runs.{end_number, no_run_number};
 
+use crate::numbers::{NO_LOG_ROOM, OUT_OF_MEMORY, SOME_REFUSED, TOO_LONG};
 use crate::opening::{NoCloth, stop_number};
 
 /// Why a run wrote nothing.
@@ -20,23 +21,25 @@ pub(crate) fn no_run_number(why: &NoRun) -> i32
     ensures { result ≡ pos (no_run_number why.now) }
 {
     match why {
-        NoRun::NoRoom => 3,
-        NoRun::TooLong => 4,
+        NoRun::NoRoom => NO_LOG_ROOM,
+        NoRun::TooLong => TOO_LONG,
         NoRun::NoScene(why) => stop_number(why),
-        NoRun::NoMemory => 12,
+        NoRun::NoMemory => OUT_OF_MEMORY,
     }
 }
 
 pub(crate) fn end_number(refused: u64) -> i32
     ensures { result ≡ pos (end_number refused) }
 {
-    if refused == 0 { 0 } else { 11 }
+    if refused == 0 { 0 } else { SOME_REFUSED }
 }
 
-/// Copies the bytes where there is room for them, and answers how many there are.
+/// Copies the bytes where there is room for them, and answers how many there are. What stands behind them is left as it was.
 pub(crate) fn copied(bytes: &[u8], output: &mut [u8]) -> Result<usize, NoRun>
-    ensures { MatchResult result (λ count. (count ≤ length output.new) × (take count output.new ≡ bytes.now))
-        (λ why. why ≡ NoRoom) }
+    ensures { MatchResult result
+        (λ count. (count ≤ length output.new) × (take count output.new ≡ bytes.now)
+        × (drop count output.new ≡ drop count output.old))
+        (λ why. (why ≡ NoRoom) × (length output.old < length bytes.now) × (output.new ≡ output.old)) }
 {
     if output.len() < bytes.len() {
         return Err(NoRun::NoRoom);

@@ -1,2 +1,5 @@
+pub mod Cutting
+pub mod First
+pub mod Resuming
 pub mod Slotting
 pub mod Writing

@@ -23,7 +23,7 @@ pub const MOST_SLOTS: u32 = 16;
 
 /// A session, and slots that each keep a whole world of its scene. Only opening takes memory.
 ///
-/// Clauses see the world, and the list of the worlds in the slots.
+/// Clauses see the world, and the list of the worlds in the slots. All of them are sound, as each call says.
 #[derive(Drop)]
 pub struct Cloth {
     pub(crate) playing: Session<LANES, LaneProjector<LANES>>,
@@ -45,7 +45,8 @@ impl Cloth {
     /// memory.
     pub fn open(alloc: Global, scene: &Scene, slots: u32) -> Result<Cloth, AllocError>
         requires { slots ≤ 16 }
-        ensures { IfOk result (λ cloth. cloth ≡ begun (opened scene.now) slots) }
+        ensures cloth { IfOk result (λ cloth. cloth ≡ begun (opened scene.now) slots) }
+        ensures sound { IfOk result (λ cloth. AreSlots cloth.world cloth.slots) }
     {
         let kept = open_slots(alloc, scene, slots)?;
         match Session::open(alloc, scene, LaneProjector::<LANES>::new()) {
@@ -62,6 +63,7 @@ impl Cloth {
         ensures reply { result ≡ reply self.old.world command.now }
         ensures cloth { self.new ≡ played self.old command.now }
         ensures kept { IsTrue (is_refused result) → self.new ≡ self.old }
+        ensures sound { AreSlots self.new.world self.new.slots }
     {
         refused_commands_change_nothing();
         apply_counted::<Brand>(Blank::new(1), &mut self.playing, command)
@@ -70,7 +72,8 @@ impl Cloth {
     /// Keeps the world in a slot, and changes no other slot.
     pub fn save(&mut self, slot: u32)
         requires { slot < length self.old.slots }
-        ensures { self.new ≡ saved self.old slot }
+        ensures cloth { self.new ≡ saved self.old slot }
+        ensures sound { AreSlots self.new.world self.new.slots }
     {
         keep(&mut self.kept, slot as usize, &self.playing);
     }
@@ -78,14 +81,16 @@ impl Cloth {
     /// Goes back to the world in a slot, and changes no slot.
     pub fn restore(&mut self, slot: u32)
         requires { slot < length self.old.slots }
-        ensures { self.new ≡ restored self.old slot }
+        ensures cloth { self.new ≡ restored self.old slot }
+        ensures sound { AreSlots self.new.world self.new.slots }
     {
         go_back(&mut self.playing, &self.kept[slot as usize]);
     }
 
     /// What a log keeps of the world: counts, and the sums of the places over all particles.
     pub fn sums(&self) -> FrameSums
-        ensures { result ≡ frame_sums self.now.world }
+        ensures value { result ≡ frame_sums self.now.world }
+        ensures sound { AreSlots self.now.world self.now.slots }
     {
         sums_counted::<Brand>(Blank::new(1), &self.playing)
     }

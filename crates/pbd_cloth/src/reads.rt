@@ -1,26 +1,30 @@
 //! What a cloth shows, copied into a caller's memory.
-ghost use Rattle.std.specs.Prelude.{◌≡◌, ◌+◌, ◌<◌, ◌≤◌, if◌then◌else◌, length, map, nat_lt, slice_set, IsTrue};
+ghost use Rattle.std.specs.Prelude.{◌≡◌, ◌+◌, ◌<◌, ◌≤◌, if◌then◌else◌, length, nat_lt, slice_set};
+ghost use Rattle.std.specs.List.{position};
 ghost use Rattle.pbd_world.specs.Bonds.{link_at};
+ghost use Rattle.pbd_world.specs.Ledger.{ledger_of, sum_of};
 ghost use Rattle.pbd_world.specs.Lending.{overwritten};
-ghost use Rattle.pbd_world.specs.Particles.{particle_at};
+ghost use Rattle.pbd_world.specs.Momentum.{momentum};
 ghost use Rattle.pbd_world.specs.World.{live_count};
-ghost use Rattle.pbd_cloth.specs.Slots.{slot_at};
-ghost use Rattle.pbd_cloth.specs.Reading.{place_of, place_then, places, places_before, live_byte, live_bytes, has_gone, gone_numbers, gone_since};
+ghost use Rattle.pbd_cloth.specs.Slots.{slot_at, AreSlots};
+ghost use Rattle.pbd_cloth.specs.Reading.{places, places_before, live_bytes, held_bytes, link_entries, joins_ends, link_between, has_gone, gone_numbers, gone_since};
 
-use crate::{Cloth, LANES, Place};
+use crate::copying::{Before, Held, Live, Now, Whole, write_links, write_particles};
+use crate::{Cloth, LANES, LinkEntry, Place};
 use pbd_num::Vec3;
 use pbd_pair::LaneProjector;
 use pbd_step::Solver;
 use pbd_store::Steps;
-use pbd_world::{Link, Particle};
+use pbd_world::{Link, Totals};
 use std::marker::Brand;
 use std::sync::ledger::{Blank, Ledger};
 
-/// Which of its places a particle is asked for.
+/// The momentum of the particles that aren't held, that at opening, and what moved it since, in units per step.
 #[derive(Clone, Copy)]
-pub enum Moment {
-    Now,
-    Before,
+pub struct Balance {
+    pub momentum: [i128; 3],
+    pub opening: [i128; 3],
+    pub totals: Totals,
 }
 
 impl Cloth {
@@ -28,6 +32,7 @@ impl Cloth {
     pub fn slots(&self) -> u32
         ensures value { result ≡ length self.now.slots }
         ensures size { result ≤ 16 }
+        ensures sound { AreSlots self.now.world self.now.slots }
     {
         self.kept.len() as u32
     }
@@ -36,6 +41,7 @@ impl Cloth {
     pub fn particles(&self) -> u32
         ensures value { result ≡ length self.now.world.particles }
         ensures size { result ≤ 65536 }
+        ensures sound { AreSlots self.now.world self.now.slots }
     {
         self.playing.solver().particles()
     }
@@ -44,41 +50,47 @@ impl Cloth {
     pub fn links(&self) -> u32
         ensures value { result ≡ length self.now.world.links }
         ensures size { result ≤ 524288 }
+        ensures sound { AreSlots self.now.world self.now.slots }
     {
         self.playing.solver().links().len() as u32
     }
 
     /// How many links are live.
     pub fn live_links(&self) -> u32
-        ensures { result ≡ live_count self.now.world.links }
+        ensures value { result ≡ live_count self.now.world.links }
+        ensures sound { AreSlots self.now.world self.now.slots }
     {
         self.playing.solver().live()
     }
 
     /// How many contacts the last step found, at most 262,144.
     pub fn contacts(&self) -> u32
-        ensures { result ≡ self.now.world.contacts }
+        ensures value { result ≡ self.now.world.contacts }
+        ensures sound { AreSlots self.now.world self.now.slots }
     {
         self.playing.solver().contacts()
     }
 
     /// How many steps were taken, at most 1,000,000.
     pub fn step_count(&self) -> u64
-        ensures { result ≡ self.now.world.steps }
+        ensures value { result ≡ self.now.world.steps }
+        ensures sound { AreSlots self.now.world self.now.slots }
     {
         self.playing.solver().step_count()
     }
 
     /// The greatest size of a coordinate: 2^28 or 2^29.
     pub fn limit(&self) -> i64
-        ensures { result ≡ self.now.world.limit }
+        ensures value { result ≡ self.now.world.limit }
+        ensures sound { AreSlots self.now.world self.now.slots }
     {
         self.playing.solver().limit()
     }
 
     /// Gravity, in units per step squared.
     pub fn gravity(&self) -> Vec3
-        ensures { result ≡ self.now.world.gravity }
+        ensures value { result ≡ self.now.world.gravity }
+        ensures sound { AreSlots self.now.world self.now.slots }
     {
         self.playing.solver().gravity()
     }
@@ -87,8 +99,9 @@ impl Cloth {
     pub fn places(&self, into: &mut [Place]) -> u32
         ensures count { result ≡ length self.now.world.particles }
         ensures written { into.new ≡ overwritten into.old (places self.now.world) }
+        ensures sound { AreSlots self.now.world self.now.slots }
     {
-        write_places_counted::<Brand>(Blank::new(1), self.playing.solver(), Moment::Now, into);
+        write_particles::<Place, Now, Brand>(Blank::new(1), self.playing.solver(), into);
         self.particles()
     }
 
@@ -96,8 +109,9 @@ impl Cloth {
     pub fn places_before(&self, into: &mut [Place]) -> u32
         ensures count { result ≡ length self.now.world.particles }
         ensures written { into.new ≡ overwritten into.old (places_before self.now.world) }
+        ensures sound { AreSlots self.now.world self.now.slots }
     {
-        write_places_counted::<Brand>(Blank::new(1), self.playing.solver(), Moment::Before, into);
+        write_particles::<Place, Before, Brand>(Blank::new(1), self.playing.solver(), into);
         self.particles()
     }
 
@@ -106,9 +120,50 @@ impl Cloth {
     pub fn live(&self, into: &mut [u8]) -> u32
         ensures count { result ≡ length self.now.world.links }
         ensures written { into.new ≡ overwritten into.old (live_bytes self.now.world) }
+        ensures sound { AreSlots self.now.world self.now.slots }
     {
-        write_live(self.playing.solver().links(), into);
+        write_links::<u8, Live>(self.playing.solver().links(), into);
         self.links()
+    }
+
+    /// Writes a 1 for each held particle and a 0 for each other, as many as there is room for, and answers how many particles
+    /// there are.
+    pub fn held(&self, into: &mut [u8]) -> u32
+        ensures count { result ≡ length self.now.world.particles }
+        ensures written { into.new ≡ overwritten into.old (held_bytes self.now.world) }
+        ensures sound { AreSlots self.now.world self.now.slots }
+    {
+        write_particles::<u8, Held, Brand>(Blank::new(1), self.playing.solver(), into);
+        self.particles()
+    }
+
+    /// Writes the links with their ends, lengths and stiffnesses, as many as there is room for, and answers how many links
+    /// there are.
+    pub fn link_entries(&self, into: &mut [LinkEntry]) -> u32
+        ensures count { result ≡ length self.now.world.links }
+        ensures written { into.new ≡ overwritten into.old (link_entries self.now.world) }
+        ensures sound { AreSlots self.now.world self.now.slots }
+    {
+        write_links::<LinkEntry, Whole>(self.playing.solver().links(), into);
+        self.links()
+    }
+
+    /// The number of the link that joins two particles, in either order, live or not: there is one at most.
+    pub fn link_between(&self, a: u32, b: u32) -> Option<u32>
+        ensures link { result ≡ link_between self.now.world a b }
+        ensures sound { AreSlots self.now.world self.now.slots }
+    {
+        find_between(self.playing.solver().links(), a, b)
+    }
+
+    /// The momentum, that at opening, and the totals of what moved it since.
+    pub fn balance(&self) -> Balance
+        ensures momentum { sum_of result.momentum ≡ momentum self.now.world.particles }
+        ensures opening { sum_of result.opening ≡ self.now.world.opening }
+        ensures totals { ledger_of result.totals ≡ self.now.world.totals }
+        ensures sound { AreSlots self.now.world self.now.slots }
+    {
+        balance_counted::<Brand>(Blank::new(1), self.playing.solver())
     }
 
     /// Writes the numbers, ascending, of the links that are live in a slot's world and not live now, as many as there is
@@ -117,6 +172,7 @@ impl Cloth {
         requires { slot < length self.now.slots }
         ensures count { result ≡ length (gone_since (slot_at self.now slot) self.now.world) }
         ensures written { into.new ≡ overwritten into.old (gone_since (slot_at self.now slot) self.now.world) }
+        ensures sound { AreSlots self.now.world self.now.slots }
     {
         write_gone(
             self.kept[slot as usize].links(),
@@ -126,81 +182,42 @@ impl Cloth {
     }
 }
 
-fn place_of(v: Vec3) -> Place
-    ensures { result ≡ place_of v }
-{
-    Place {
-        x: v.x,
-        y: v.y,
-        z: v.z,
-    }
-}
-
-fn place_then(which: Moment, particle: Particle) -> Place
-    ensures { result ≡ place_then which particle }
-{
-    match which {
-        Moment::Now => place_of(particle.at),
-        Moment::Before => place_of(particle.before),
-    }
-}
-
-// One of the places of particle i.
-fn place_at<G: Ledger>(
-    solver: &Solver<LANES, LaneProjector<LANES>>,
-    which: Moment,
-    i: u32,
-    steps: &mut Steps<G>,
-) -> Place
-    requires { i < length solver.now.world.particles }
-    ensures { result ≡ place_then which (particle_at solver.now.world.particles i) }
-{
-    place_then(which, solver.particle(i, steps))
-}
-
-fn write_places<G: Ledger>(
-    solver: &Solver<LANES, LaneProjector<LANES>>,
-    which: Moment,
-    into: &mut [Place],
-    steps: &mut Steps<G>,
-)
-    ensures { into.new ≡ overwritten into.old (map (place_then which) solver.now.world.particles) }
-{
-    let count = into.len().min(solver.particles() as usize);
-    for i in 0..count {
-        into[i] = place_at(solver, which, i as u32, steps);
-    }
-}
-
-// Writes with a count of accesses of its own, which nobody sees.
-fn write_places_counted<G: Ledger>(
-    blank: Blank,
-    solver: &Solver<LANES, LaneProjector<LANES>>,
-    which: Moment,
-    into: &mut [Place],
-)
+// Sums the velocities with a count of accesses of its own, which nobody sees.
+fn balance_counted<G: Ledger>(blank: Blank, solver: &Solver<LANES, LaneProjector<LANES>>) -> Balance
     requires name { blank.name ≡ G.name }
     requires parts { blank.parts ≡ G.parts }
     requires some { 0 < blank.parts }
-    ensures { into.new ≡ overwritten into.old (map (place_then which) solver.now.world.particles) }
+    ensures momentum { sum_of result.momentum ≡ momentum solver.now.world.particles }
+    ensures opening { sum_of result.opening ≡ solver.now.world.opening }
+    ensures totals { ledger_of result.totals ≡ solver.now.world.totals }
 {
     let mut steps: Steps<G> = Steps::open(blank);
-    write_places(solver, which, into, &mut steps);
-}
-
-fn live_byte(link: Link) -> u8
-    ensures { result ≡ live_byte link }
-{
-    if link.live { 1 } else { 0 }
-}
-
-fn write_live(links: &[Link], into: &mut [u8])
-    ensures { into.new ≡ overwritten into.old (map live_byte links.now) }
-{
-    let count = into.len().min(links.len());
-    for i in 0..count {
-        into[i] = live_byte(links[i]);
+    Balance {
+        momentum: solver.momentum(&mut steps),
+        opening: *solver.opening(),
+        totals: *solver.totals(),
     }
+}
+
+// Whether link i joins two particles, in either order.
+fn joins(links: &[Link], i: usize, a: u32, b: u32) -> bool
+    requires { i < length links.now }
+    ensures { result ≡ joins_ends a b (link_at links.now i) }
+{
+    let link = links[i];
+    (link.a == a && link.b == b) || (link.a == b && link.b == a)
+}
+
+fn find_between(links: &[Link], a: u32, b: u32) -> Option<u32>
+    requires { length links.now ≤ 524288 }
+    ensures { result ≡ position (joins_ends a b) links.now }
+{
+    for i in 0..links.len() {
+        if joins(links, i, a, b) {
+            return Some(i as u32);
+        }
+    }
+    None
 }
 
 fn has_gone(earlier: &[Link], later: &[Link], i: usize) -> bool

@@ -11,3 +11,6 @@ pub returns-clause-kept : goal.returns-clause-kept
 returns-clause-kept c = λ refused.
     let world = c.apply_counted.ensures.world ∙ refused_keeps c.refused_commands_change_nothing.ensures c.self.inside.playing c.args.command.now c.apply_counted.result c.apply_counted.ensures.reply refused in
     ap (λ (w : World). (let s : Slotted = record { world = w; slots = c.self.inside.kept.items } in s)) world ∙ c.self.view_is
+
+pub returns-clause-sound : goal.returns-clause-sound
+returns-clause-sound c = slots_stay c.self.inside.playing c.apply_counted.new.playing c.self.inside.kept.items c.self.invariant c.apply_counted.ensures.sound c.apply_counted.ensures.one_scene

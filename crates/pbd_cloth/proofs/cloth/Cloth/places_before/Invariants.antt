@@ -1,4 +1,4 @@
 use Rattle.pbd_cloth.proofs.cloth.Cloth.places_before.Given as goal
 
-abbrev pub ghosts-write_places_counted : goal.ghosts-write_places_counted
-ghosts-write_places_counted a = record { name = a.blank.name; parts = a.blank.parts }
+abbrev pub ghosts-write_particles : goal.ghosts-write_particles
+ghosts-write_particles a = record { name = a.blank.name; parts = a.blank.parts }

@@ -1,0 +1,144 @@
+//! Worlds as bytes: written, read and hashed.
+ghost use Rattle.std.specs.Prelude.{◌≡◌, pos, length};
+ghost use Rattle.sha2.specs.Sha256.{sha256};
+ghost use Rattle.pbd_encoding.specs.Encoding.{state_bytes};
+ghost use Rattle.pbd_state.specs.Reading.{reading};
+ghost use Rattle.pbd_cloth.specs.Slots.{AreSlots};
+ghost use Rattle.pbd_cloth.specs.States.{resumed};
+ghost use Rattle.lakmozet_c.specs.Calls.{answered, done_to, read_from, room_answer, HoldsSound};
+ghost use Rattle.lakmozet_c.specs.States.{offset_left, size_of, state_answer, state_left};
+
+use crate::handle::Handle;
+use crate::numbers::{CLOSED, NO_ROOM, NO_STATE};
+use crate::plain::Hash;
+use pbd_cloth::Cloth;
+use pbd_state::NoRoom;
+use sha2::{Digest, Sha256};
+use std::alloc::Global;
+
+/// Writes the name of a scene: the SHA-256 digest of its text.
+#[unsafe(no_mangle)]
+pub extern "C" fn lak_scene_name(toml: &[u8], name: &mut Hash)
+    ensures { name.new.bytes ≡ sha256 toml.now }
+{
+    name.bytes = Sha256::digest(toml);
+}
+
+/// Says how many bytes a state of the handle's scene has.
+#[unsafe(no_mangle)]
+pub extern "C" fn lak_state_size(alloc: Global, handle: &mut Handle, size: &mut usize) -> i32
+    ensures held { handle.new.held ≡ handle.old.held }
+    ensures sound { HoldsSound handle.new.held }
+    ensures answer { result ≡ pos (answered handle.old.held (λ _. 0)) }
+    ensures size { size.new ≡ read_from handle.old.held (λ c. size_of c) size.old }
+{
+    match handle.take(alloc) {
+        Some(cloth) => {
+            *size = cloth.state_size();
+            handle.put(alloc, cloth);
+            0
+        }
+        None => CLOSED,
+    }
+}
+
+fn write(cloth: &Cloth, scene: &[u8; 32], into: &mut [u8]) -> i32
+    ensures answer { result ≡ pos (room_answer (size_of cloth.now) (length into.old)) }
+    ensures into { into.new ≡ state_left scene.now cloth.now into.old }
+{
+    if into.len() < cloth.state_size() {
+        return NO_ROOM;
+    }
+    match cloth.write_state(scene, into) {
+        Ok(_) => 0,
+        Err(NoRoom) => NO_ROOM,
+    }
+}
+
+/// Writes the state of the world at the front of `into`, where there is room for all of it, and says how many bytes it has.
+#[unsafe(no_mangle)]
+pub extern "C" fn lak_state_write(
+    alloc: Global,
+    handle: &mut Handle,
+    scene: Hash,
+    into: &mut [u8],
+    size: &mut usize,
+) -> i32
+    ensures held { handle.new.held ≡ handle.old.held }
+    ensures sound { HoldsSound handle.new.held }
+    ensures answer { result ≡ pos (answered handle.old.held (λ c. room_answer (size_of c) (length into.old))) }
+    ensures size { size.new ≡ read_from handle.old.held (λ c. size_of c) size.old }
+    ensures written { into.new ≡ read_from handle.old.held (λ c. state_left scene.bytes c into.old) into.old }
+{
+    match handle.take(alloc) {
+        Some(cloth) => {
+            *size = cloth.state_size();
+            let answer = write(&cloth, &scene.bytes, into);
+            handle.put(alloc, cloth);
+            answer
+        }
+        None => CLOSED,
+    }
+}
+
+fn read(cloth: &mut Cloth, scene: &[u8; 32], bytes: &[u8], offset: &mut u64) -> i32
+    ensures cloth { cloth.new ≡ resumed scene.now cloth.old bytes.now }
+    ensures sound { AreSlots cloth.new.world cloth.new.slots }
+    ensures answer { result ≡ pos (state_answer (reading scene.now cloth.old.world bytes.now)) }
+    ensures offset { offset.new ≡ offset_left (reading scene.now cloth.old.world bytes.now) offset.old }
+{
+    match cloth.read_state(scene, bytes) {
+        Ok(()) => 0,
+        Err(fault) => {
+            *offset = fault.offset;
+            NO_STATE
+        }
+    }
+}
+
+/// Goes over to the world of the scene whose state the bytes are, and changes no slot; or says where they go wrong.
+#[unsafe(no_mangle)]
+pub extern "C" fn lak_state_read(
+    alloc: Global,
+    handle: &mut Handle,
+    scene: Hash,
+    bytes: &[u8],
+    offset: &mut u64,
+) -> i32
+    ensures held { handle.new.held ≡ done_to (λ c. resumed scene.bytes c bytes.now) handle.old.held }
+    ensures sound { HoldsSound handle.new.held }
+    ensures answer { result ≡ pos (answered handle.old.held (λ c. state_answer (reading scene.bytes c.world bytes.now))) }
+    ensures offset { offset.new ≡ read_from handle.old.held (λ c. offset_left (reading scene.bytes c.world bytes.now) offset.old) offset.old }
+{
+    match handle.take(alloc) {
+        Some(mut cloth) => {
+            let answer = read(&mut cloth, &scene.bytes, bytes, offset);
+            handle.put(alloc, cloth);
+            answer
+        }
+        None => CLOSED,
+    }
+}
+
+/// Writes the SHA-256 digest of the state of the world.
+#[unsafe(no_mangle)]
+pub extern "C" fn lak_digest(
+    alloc: Global,
+    handle: &mut Handle,
+    scene: Hash,
+    digest: &mut Hash,
+) -> i32
+    ensures held { handle.new.held ≡ handle.old.held }
+    ensures sound { HoldsSound handle.new.held }
+    ensures answer { result ≡ pos (answered handle.old.held (λ _. 0)) }
+    ensures digest { digest.new.bytes ≡ read_from handle.old.held (λ c. sha256 (state_bytes scene.bytes c.world)) digest.old.bytes }
+{
+    match handle.take(alloc) {
+        Some(cloth) => {
+            digest.bytes = cloth.digest(&scene.bytes);
+            handle.put(alloc, cloth);
+            0
+        }
+        None => CLOSED,
+    }
+}

@@ -1,0 +1,113 @@
+//! The world of a cloth as bytes.
+ghost use Rattle.std.specs.Prelude.{◌≡◌, ◌<◌, ◌≤◌, ◌++◌, drop, length, IfOk, OnErr, OnOk};
+ghost use Rattle.sha2.specs.Sha256.{sha256};
+ghost use Rattle.pbd_world.specs.World.{AreOfOneScene, IsSound};
+ghost use Rattle.pbd_encoding.specs.Encoding.{state_bytes, state_size};
+ghost use Rattle.pbd_encoding.specs.Laws.{told_on};
+ghost use Rattle.pbd_state.specs.Reading.{reading};
+ghost use Rattle.pbd_cloth.specs.Slots.{AreSlots};
+ghost use Rattle.pbd_cloth.specs.States.{resumed};
+
+use crate::{Cloth, LANES};
+use pbd_encoding::StateFault;
+use pbd_pair::LaneProjector;
+use pbd_session::Session;
+use pbd_state::{NoRoom, digest, read_state, state_size, write_state};
+use pbd_step::Solver;
+use pbd_store::Steps;
+use std::marker::Brand;
+use std::sync::ledger::{Blank, Ledger};
+
+impl Cloth {
+    /// How many bytes a state of the cloth's scene has, at most 3,735,972.
+    pub fn state_size(&self) -> usize
+        ensures value { result ≡ state_size (length self.now.world.particles) (length self.now.world.links) }
+        ensures size { result ≤ 3735972 }
+        ensures sound { AreSlots self.now.world self.now.slots }
+    {
+        state_size(self.playing.solver())
+    }
+
+    /// Writes the state of the world at the front of some bytes, and answers how many it has. `scene` names the scene. It
+    /// fails only where there is no room, and writes nothing then.
+    pub fn write_state(&self, scene: &[u8; 32], into: &mut [u8]) -> Result<usize, NoRoom>
+        ensures written { IfOk result (λ len. into.new ≡ state_bytes scene.now self.now.world ++ drop len into.old) }
+        ensures size { IfOk result (λ len. len ≡ state_size (length self.now.world.particles) (length self.now.world.links)) }
+        ensures kept { OnErr result (into.new ≡ into.old) }
+        ensures short { OnErr result (length into.old < state_size (length self.now.world.particles) (length self.now.world.links)) }
+        ensures sound { AreSlots self.now.world self.now.slots }
+    {
+        write_counted::<Brand>(Blank::new(1), scene, self.playing.solver(), into)
+    }
+
+    /// Goes over to the world of the scene of which some bytes are the state, and changes no slot. `scene` names the scene.
+    /// Else the fault says where they go wrong, and nothing changes.
+    pub fn read_state(&mut self, scene: &[u8; 32], bytes: &[u8]) -> Result<(), StateFault>
+        ensures value { result ≡ reading scene.now self.old.world bytes.now }
+        ensures cloth { self.new ≡ resumed scene.now self.old bytes.now }
+        ensures sound { AreSlots self.new.world self.new.slots }
+    {
+        read_counted::<Brand>(Blank::new(1), scene, &mut self.playing, bytes)
+    }
+
+    /// The SHA-256 digest of the state of the world. `scene` names the scene.
+    pub fn digest(&self, scene: &[u8; 32]) -> [u8; 32]
+        ensures value { result ≡ sha256 (state_bytes scene.now self.now.world) }
+        ensures sound { AreSlots self.now.world self.now.slots }
+    {
+        digest_counted::<Brand>(Blank::new(1), scene, self.playing.solver())
+    }
+}
+
+// Each with a count of accesses of its own, which nobody sees.
+
+fn write_counted<G: Ledger>(
+    blank: Blank,
+    scene: &[u8; 32],
+    solver: &Solver<LANES, LaneProjector<LANES>>,
+    into: &mut [u8],
+) -> Result<usize, NoRoom>
+    requires name { blank.name ≡ G.name }
+    requires parts { blank.parts ≡ G.parts }
+    requires some { 0 < blank.parts }
+    ensures written { IfOk result (λ len. into.new ≡ state_bytes scene.now solver.now.world ++ drop len into.old) }
+    ensures size { IfOk result (λ len. len ≡ state_size (length solver.now.world.particles) (length solver.now.world.links)) }
+    ensures kept { OnErr result (into.new ≡ into.old) }
+    ensures short { OnErr result (length into.old < state_size (length solver.now.world.particles) (length solver.now.world.links)) }
+{
+    let mut steps: Steps<G> = Steps::open(blank);
+    write_state(scene, solver, into, &mut steps)
+}
+
+fn read_counted<G: Ledger>(
+    blank: Blank,
+    scene: &[u8; 32],
+    playing: &mut Session<LANES, LaneProjector<LANES>>,
+    bytes: &[u8],
+) -> Result<(), StateFault>
+    requires name { blank.name ≡ G.name }
+    requires parts { blank.parts ≡ G.parts }
+    requires some { 0 < blank.parts }
+    ensures value { result ≡ reading scene.now playing.old bytes.now }
+    ensures world { OnOk result (playing.new ≡ told_on playing.old bytes.now) }
+    ensures kept { OnErr result (playing.new ≡ playing.old) }
+    ensures sound { IsSound playing.new }
+    ensures one_scene { AreOfOneScene playing.old playing.new }
+{
+    let mut steps: Steps<G> = Steps::open(blank);
+    read_state(scene, playing.solver_mut(), bytes, &mut steps)
+}
+
+fn digest_counted<G: Ledger>(
+    blank: Blank,
+    scene: &[u8; 32],
+    solver: &Solver<LANES, LaneProjector<LANES>>,
+) -> [u8; 32]
+    requires name { blank.name ≡ G.name }
+    requires parts { blank.parts ≡ G.parts }
+    requires some { 0 < blank.parts }
+    ensures { result ≡ sha256 (state_bytes scene.now solver.now.world) }
+{
+    let mut steps: Steps<G> = Steps::open(blank);
+    digest(scene, solver, &mut steps)
+}
