@@ -39,7 +39,7 @@ int main(void)
     lak_left left;
     int32_t answer = lak_open(&cloth, text, read_scene(), 0, &fault);
     if (answer != LAK_DONE) {
-        fprintf(stderr, "lak_open answers %" PRId32 ": %s in %s %" PRIu32 ", key %s\n", answer, lak_rule_name(fault.rule),
+        fprintf(stderr, "lak_open answers %s: %s in %s %" PRIu32 ", key %s\n", lak_answer_name(answer), lak_rule_name(fault.rule),
                 lak_table_name(fault.table), fault.position, lak_key_name(fault.key));
         return 1;
     }

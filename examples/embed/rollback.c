@@ -4,6 +4,10 @@
  * end both worlds have equal sums: by the law late_inputs_come_to_the_same_world (crates/pbd_laws/src/rollback.rt) the world of
  * such a machine is always that of the inputs it knows, played in order, and by then both know the same. The law asks that an
  * input comes while its turn is one of the last SLOTS, so LATE is at most SLOTS.
+ *
+ * One player is hostile and moves its corner to the edge of the world, once. Played, that has the steps of its turn refused, or,
+ * where a turn has one step, lets that pass and has all later ones refused. So inputs are looked at before they are played, by
+ * a rule that sees the input alone, with which all machines leave out the same: those beyond REACH.
  */
 #include "lakmozet.h"
 
@@ -13,7 +17,10 @@
 
 enum { PLAYERS = 2, TURNS = 40, STEPS = 3, LATE = 5, SLOTS = 8 };
 
-/* Two ropes that hang side by side, each from a particle that one player moves, with links between them. */
+/* How far from the middle a corner may be moved: 64 metres, a hundred times what this game wants, and 1/128 of the world. */
+enum { REACH = 64 * 65536 };
+
+/* A cloth that hangs from two corners over a ball. Each player moves one of the corners. */
 static const char scene[] =
     "gravity = [0, -179, 0]\n"
     "passes = 8\n"
@@ -60,9 +67,20 @@ static input drawn(int player)
     return it;
 }
 
+static bool is_within(int64_t axis)
+{
+    return -REACH <= axis && axis <= REACH;
+}
+
+/* Whether an input asks for no more than the rules of the game allow. */
+static bool is_bounded(const input *move)
+{
+    return is_within(move->to.x) && is_within(move->to.y) && is_within(move->to.z);
+}
+
 static void apply(machine *it, int player, const input *move)
 {
-    if (!move->known)
+    if (!move->known || !is_bounded(move))
         return;
     lak_move(&it->cloth, player == 0 ? 0 : 11, move->to);
     if (move->cuts)
@@ -108,10 +126,18 @@ int main(void)
                 learn(it, 1 - player, turn - LATE, sent[1 - player][turn - LATE]);
             if (turn < TURNS) {
                 sent[player][turn] = drawn(player);
+                if (player == 1 && turn == 13)
+                    sent[player][turn].to.y = 1 << 29;
                 it->inputs[player][turn] = sent[player][turn];
                 play_turn(it, turn);
                 it->played = turn + 1;
             }
+        }
+    }
+    for (int turn = 0; turn < TURNS; turn++) {
+        for (int player = 0; player < PLAYERS; player++) {
+            if (!is_bounded(&machines[0].inputs[player][turn]))
+                printf("player %d's input of turn %d is out of bounds, and no machine played it\n", player + 1, turn + 1);
         }
     }
     for (int player = 0; player < PLAYERS; player++) {

@@ -1,8 +1,9 @@
 // Players that need no hands: what they do follows from a seed and the turn alone.
-import { SIDE, STEPS, GRAVITY, PIN, UNPIN, MOVE, CUT, TURN, opened, linkOf } from "./scene.js";
+import { SIDE, STEPS, GRAVITY, PIN, UNPIN, MOVE, CUT, TURN, opened } from "./scene.js";
 import { random } from "./network.js";
 
-// A player for a seed: leads corners and particles along curves, and cuts rows, by turn alone and without a look at the world.
+// A player for a seed: leads corners and particles along curves, and cuts rows, by turn alone: of the world it asks
+// which links join what, and that never changes.
 export function automatic(seed, id) {
     const r = random(seed * 2 + id + 1);
     let held = null, until = 0, centre, size, speed, age = 0;
@@ -29,7 +30,7 @@ export function automatic(seed, id) {
                 for (let c = column; c < column + wide && c < SIDE - 2; c++) {
                     const i = row * SIDE + c;
                     for (const [a, b] of [[i, i + SIDE], [i, i + SIDE + 1], [i + 1, i + SIDE], [i, i + 2 * SIDE], [i - SIDE, i + SIDE]]) {
-                        const l = linkOf(a, b);
+                        const l = player.world.linkBetween(a, b);
                         if (l !== undefined) player.want(CUT, l);
                     }
                 }

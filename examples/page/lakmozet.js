@@ -1,5 +1,5 @@
 // The library lakmozet.wasm as a small class: one instance, one world. See include/lakmozet.h for what each call promises.
-const PLACES = 24, SUMS = 64;
+const PLACES = 24, SUMS = 64, LINK = 32;
 
 export const DONE = 0;
 
@@ -28,23 +28,45 @@ export class World {
         lak.lak_counts(this.handle, this.countsAt);
         const counts = new DataView(lak.memory.buffer, this.countsAt, 32);
         this.particles = counts.getUint32(8, true);
-        this.links = counts.getUint32(12, true);
+        this.links = this.readLinks(counts.getUint32(12, true));
         this.placesAt = this.take(PLACES * this.particles);
-        this.liveAt = this.take(this.links);
+        this.liveAt = this.take(this.links.length);
+        this.cutsAt = this.take(4 * this.links.length);
         // No call on an open handle takes memory, so the memory can't grow from here on and its views stay good.
         const memory = lak.memory.buffer;
         this.toWrite = new BigInt64Array(memory, this.place, 3);
         this.low = new Int32Array(memory, this.placesAt, this.particles * 6);
-        this.liveBytes = new Uint8Array(memory, this.liveAt, this.links);
+        this.liveBytes = new Uint8Array(memory, this.liveAt, this.links.length);
+        this.toCut = new Uint32Array(memory, this.cutsAt, this.links.length);
+        this.counted = new Uint32Array(memory, this.count, 1);
         this.sumBytes = new Uint8Array(memory, this.sumsAt, SUMS);
     }
 
     take(size) { return this.lak.lak_take(size) >>> 0; }
 
+    // All links in the order of their numbers: the numbers of both ends, and what it is, 0 stretch, 1 shear, 2 bend, 3 the scene's own.
+    readLinks(many) {
+        const { lak } = this, at = this.take(LINK * many);
+        lak.lak_links(this.handle, at, many, this.count);
+        const view = new DataView(lak.memory.buffer, at, LINK * many), links = [];
+        for (let l = 0; l < LINK * many; l += LINK) links.push([view.getUint32(l + 16, true), view.getUint32(l + 20, true), view.getUint8(l + 26)]);
+        lak.lak_give(at, LINK * many);
+        return links;
+    }
+    // The number of the link that joins two particles, or nothing.
+    linkBetween(a, b) {
+        return this.lak.lak_link_between(this.handle, a, b, this.count) === DONE ? this.counted[0] : undefined;
+    }
+
     step(n) { return this.lak.lak_step(this.handle, BigInt(n), this.left); }
     pin(i) { return this.lak.lak_pin(this.handle, BigInt(i)); }
     unpin(i) { return this.lak.lak_unpin(this.handle, BigInt(i)); }
-    cut(l) { return this.lak.lak_cut(this.handle, BigInt(l)); }
+    // Lets links go, no more than there are, and answers how many of these cuts were refused.
+    cutMany(links) {
+        this.toCut.set(links);
+        this.lak.lak_cut_many(this.handle, this.cutsAt, links.length, this.count);
+        return this.counted[0];
+    }
     // A struct that is passed by value goes by its address.
     move(i, x, y, z) {
         this.vector(x, y, z);
@@ -69,7 +91,7 @@ export class World {
         return this.low;
     }
     live() {
-        this.lak.lak_live(this.handle, this.liveAt, this.links, this.count);
+        this.lak.lak_live(this.handle, this.liveAt, this.links.length, this.count);
         return this.liveBytes;
     }
     // The 64 bytes that two machines compare, as a copy.

@@ -111,19 +111,21 @@ export class Player {
     playStep(turn, step) {
         if (step === 0) this.world.save(turn % SLOTS);
         for (const list of [this.inputs[0][turn] ?? NOTHING, this.inputs[1][turn] ?? NOTHING, this.alone[turn] ?? NOTHING]) {
-            for (const it of list) if (it[0] === step) this.play(it);
+            const now = list.filter(it => it[0] === step);
+            for (const it of now) if (it[1] !== CUT) this.play(it);
+            this.world.cutMany(now.filter(it => it[1] === CUT).map(it => it[2]));
         }
         this.world.step(1);
         if (step === STEPS - 1) this.after[turn] = this.world.sums();
     }
 
-    // A refusal is an answer like any other: the same in both worlds, and nothing is changed by it.
+    // A refusal is an answer like any other: the same in both worlds, and nothing is changed by it. (A turn's cuts come last.)
     play([, kind, n, x, y, z]) {
         const w = this.world;
         if (kind === PIN) return w.pin(n);
         if (kind === UNPIN) return w.unpin(n);
         if (kind === MOVE) return w.move(n, x, y, z);
-        return kind === CUT ? w.cut(n) : w.gravity(x, y, z);
+        return w.gravity(x, y, z);
     }
 
     // Takes what has come; where a turn was played without an input that has come now, goes back to its slot and plays on.

@@ -1,4 +1,4 @@
-// The scene, and what follows from it: which particles each link joins, and the bounds of an input.
+// The scene, and what follows from it: where its particles are at first, and the bounds of an input.
 export const SIDE = 32, METRE = 65536, STEPS = 3, SLOTS = 16;
 export const SPHERE = { at: [0, 50000, 62000], radius: 50000 };
 const SPACING = 4369, UP = 140000, HALF = SPACING * 31 / 2;
@@ -30,39 +30,16 @@ radius = ${SPHERE.radius}
 
 export const opened = i => [ORIGIN[0] + SPACING * (i % SIDE), UP, SPACING * Math.floor(i / SIDE)];
 
-// Links by their ends, in the order of docs/FORMATS.md: stretch, shear, bend.
-export const LINKS = [];
-const number = new Map(), key = (a, b) => a * SIDE * SIDE + b;
-const link = (a, b) => {
-    number.set(key(a, b), LINKS.length);
-    LINKS.push([a, b]);
-};
-const each = (rows, columns, what) => {
-    for (let r = 0; r < rows; r++) for (let c = 0; c < columns; c++) what(r * SIDE + c, r, c);
-};
-each(SIDE, SIDE, (i, r, c) => {
-    if (c + 1 < SIDE) link(i, i + 1);
-    if (r + 1 < SIDE) link(i, i + SIDE);
-});
-each(SIDE - 1, SIDE - 1, i => {
-    link(i, i + SIDE + 1);
-    link(i + 1, i + SIDE);
-});
-each(SIDE, SIDE, (i, r, c) => {
-    if (c + 2 < SIDE) link(i, i + 2);
-    if (r + 2 < SIDE) link(i, i + 2 * SIDE);
-});
-export const linkOf = (a, b) => number.get(key(a, b));
-
 // An input is what one player does in one turn: a list of commands [which step of the turn, kind, number, x, y, z].
 export const PIN = 1, UNPIN = 2, MOVE = 3, CUT = 4, TURN = 5;
 export const LIMIT = 3 * METRE, MOST = 64, MOST_TURNS = 32;
 
+// (a link that there isn't is no matter here: it is refused in both worlds alike)
 export function allowed(input) {
     const near = n => Math.abs(n) <= LIMIT;
     return input.length <= MOST && input.every(([step, kind, n, x, y, z]) => step < STEPS && (
         kind === PIN || kind === UNPIN ? n < SIDE * SIDE : kind === MOVE ? n < SIDE * SIDE && near(x) && near(y) && near(z) :
-        kind === CUT ? n < LINKS.length : kind === TURN && [x, y, z].every(g => Math.abs(g) <= 2 * GRAVITY)));
+        kind === CUT || kind === TURN && [x, y, z].every(g => Math.abs(g) <= 2 * GRAVITY)));
 }
 
 // Inputs as bytes: how many commands a turn has, and of each its step and kind, its number, and where it has one its vector.

@@ -1,7 +1,7 @@
 // One side of the page: a worker with a world, its picture, its figures, and the hands that reach into it.
 import { $, colours, fail, game, tool } from "./game.js";
 import { short } from "./lakmozet.js";
-import { SIDE, METRE, LIMIT, SPHERE, LINKS, GRAVITY, PIN, UNPIN, MOVE, CUT, TURN } from "./scene.js";
+import { SIDE, METRE, LIMIT, SPHERE, GRAVITY, PIN, UNPIN, MOVE, CUT, TURN } from "./scene.js";
 import { View } from "./view.js";
 
 export class Side {
@@ -42,7 +42,9 @@ export class Side {
             else this.done(data);
         };
         this.worker.onerror = event => fail(event.message);
-        await this.ask({ what: "open", id: this.id, module: this.module, seed: game.seed, keep: game.seed !== null, session });
+        const { links } = await this.ask({ what: "open", id: this.id, module: this.module, seed: game.seed, keep: game.seed !== null, session });
+        this.links = links;
+        this.view.join(links);
         this.take(await this.ask({ what: "frame", now: game.clock, target: 0, packets: [], wants: [], limit: 0 }));
     }
 
@@ -179,7 +181,7 @@ export class Side {
     cut(x0, y0, x1, y1) {
         const p = Array.from({ length: SIDE * SIDE }, (_, i) => this.view.onCanvas(i));
         const side = (ax, ay, bx, by, cx, cy) => (bx - ax) * (cy - ay) - (by - ay) * (cx - ax);
-        LINKS.forEach(([a, b], l) => {
+        this.links.forEach(([a, b], l) => {
             if (!this.live[l]) return;
             const [ax, ay] = p[a], [bx, by] = p[b];
             const parts = side(x0, y0, x1, y1, ax, ay) * side(x0, y0, x1, y1, bx, by) < 0;

@@ -1,5 +1,5 @@
 // Draws one world by WebGL2: floor, sphere, cloth, shadows, and a dot for what is held.
-import { SIDE, SPHERE, METRE, LINKS, linkOf } from "./scene.js";
+import { SIDE, SPHERE, METRE } from "./scene.js";
 
 const VERTEX = `#version 300 es
 in vec3 at; in vec3 normal; in vec2 uv;
@@ -115,12 +115,17 @@ function softly() {
 const SUN = unit([-0.45, 1.0, 0.62]), CENTRE = [0, 0.95, 0.65];
 const N = SIDE * SIDE;
 
+const STRETCH = 0;
+
 // Which links must live for each of a square's triangles.
-const squares = [];
-for (let r = 0; r < SIDE - 1; r++) for (let c = 0; c < SIDE - 1; c++) {
-    const a = r * SIDE + c, b = a + 1, d = a + SIDE, e = d + 1;
-    const [ab, ad, be, de, ae, bd] = [[a, b], [a, d], [b, e], [d, e], [a, e], [b, d]].map(ends => linkOf(...ends));
-    squares.push({ a, b, d, e, ab, ad, be, de, ae, bd });
+function squaresOf(links) {
+    const number = new Map(links.map(([a, b], l) => [a * N + b, l])), squares = [];
+    for (let r = 0; r < SIDE - 1; r++) for (let c = 0; c < SIDE - 1; c++) {
+        const a = r * SIDE + c, b = a + 1, d = a + SIDE, e = d + 1;
+        const [ab, ad, be, de, ae, bd] = [[a, b], [a, d], [b, e], [d, e], [a, e], [b, d]].map(([i, j]) => number.get(i * N + j));
+        squares.push({ a, b, d, e, ab, ad, be, de, ae, bd });
+    }
+    return squares;
 }
 
 export class View {
@@ -139,7 +144,7 @@ export class View {
         this.shown = new Float32Array(N * 3);
         this.error = new Float32Array(N * 3);
         this.normals = new Float32Array(N * 3);
-        this.triangles = new Uint16Array(squares.length * 6);
+        this.triangles = new Uint16Array((SIDE - 1) ** 2 * 6);
         this.triangleCount = 0;
         this.liveCount = -1;
         this.threads = new Uint16Array(SIDE * SIDE * 4);
@@ -267,19 +272,25 @@ export class View {
         }
     }
 
+    // Learns the links of the world that it draws.
+    join(links) {
+        this.links = links;
+        this.squares = squaresOf(links);
+    }
+
     // The triangles whose three links all live, and the live threads that no triangle has.
     torn(live, count) {
         if (count === this.liveCount) return;
         this.liveCount = count;
         let k = 0;
-        const t = this.triangles, covered = new Uint8Array(LINKS.length);
+        const t = this.triangles, { links } = this, covered = new Uint8Array(links.length);
         const add = (a, b, c, ...by) => {
             t[k++] = a;
             t[k++] = b;
             t[k++] = c;
             for (const l of by) covered[l] = 1;
         };
-        for (const q of squares) {
+        for (const q of this.squares) {
             if (live[q.ae]) {
                 if (live[q.ab] && live[q.be]) add(q.a, q.e, q.b, q.ab, q.be);
                 if (live[q.ad] && live[q.de]) add(q.a, q.d, q.e, q.ad, q.de);
@@ -290,10 +301,11 @@ export class View {
         }
         this.triangleCount = k;
         k = 0;
-        for (let l = 0; l < 2 * SIDE * (SIDE - 1); l++) if (live[l] && !covered[l]) {
-            this.threads[k++] = LINKS[l][0];
-            this.threads[k++] = LINKS[l][1];
-        }
+        links.forEach(([a, b, kind], l) => {
+            if (kind !== STRETCH || !live[l] || covered[l]) return;
+            this.threads[k++] = a;
+            this.threads[k++] = b;
+        });
         this.threadCount = k;
         const gl = this.gl;
         gl.bindVertexArray(null);

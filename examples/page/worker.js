@@ -11,7 +11,7 @@ async function open({ id, module, seed, keep, session }) {
     player.keep = keep;
     if (session) player.follow(session);
     auto = seed === null ? null : automatic(seed, id);
-    return { id };
+    return { id, links: player.world.links };
 }
 
 // The upper right corner goes up by one unit, here alone.

@@ -1,6 +1,8 @@
 """Inputs of the program that stand in the repository, and runs of a program on them."""
 import pathlib
 import re
+import resource
+import signal
 import subprocess
 import tempfile
 
@@ -43,15 +45,18 @@ def examples():
 
 
 def answer(command, words, given, seconds):
-    """Returns what a run writes and its status, or nothing where it takes too long."""
+    """Returns what a run writes and its status, or nothing where it takes more seconds of a processor, or ten times as long."""
     # (a file, since what a program starts may keep a pipe open)
     with tempfile.TemporaryFile() as written:
         ran = subprocess.Popen([*command, *words], stdin=subprocess.PIPE, stdout=written, stderr=subprocess.DEVNULL)
+        # (what else the machine does changes nothing of what is compared)
+        resource.prlimit(ran.pid, resource.RLIMIT_CPU, (seconds, seconds))
         try:
-            ran.communicate(given, timeout=seconds)
+            ran.communicate(given, timeout=10 * seconds)
         except subprocess.TimeoutExpired:
             ran.kill()
             ran.wait()
+        if ran.returncode in (-signal.SIGXCPU, -signal.SIGKILL):
             return None
         written.seek(0)
         return written.read(), ran.returncode

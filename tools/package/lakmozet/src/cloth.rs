@@ -1,14 +1,15 @@
 //! A cloth that plays.
 use crate::errors::{NoSlot, OpenError, Refusal};
-use crate::links::{Ends, Link};
+use crate::ledger::Ledger;
+use crate::links::Link;
 use crate::parts::kit::alloc::Global;
+use crate::parts::pbd_cloth::LinkEntry;
 use crate::parts::pbd_num::Vec3;
 use crate::parts::{pbd_cloth, pbd_world};
 use crate::position::Position;
 use crate::scene::Scene;
 use crate::{Sums, MOST_SLOTS};
 use alloc::vec;
-use alloc::vec::Vec;
 use core::fmt;
 use pbd_world::{Command, Reply};
 
@@ -27,10 +28,7 @@ use pbd_world::{Command, Reply};
 /// assert_eq!(cloth.pin(1), Err(Refusal::NoParticle));
 /// # Ok::<(), Box<dyn std::error::Error>>(())
 /// ```
-pub struct Cloth {
-    cloth: pbd_cloth::Cloth,
-    ends: Vec<Ends>,
-}
+pub struct Cloth(pbd_cloth::Cloth);
 
 impl Cloth {
     /// Opens the world of a scene before its first command, with up to 16 slots, each of which has that world too.
@@ -42,17 +40,12 @@ impl Cloth {
         if slots > MOST_SLOTS {
             return Err(OpenError::TooManySlots);
         }
-        let links = scene.0.parts().links.as_slice();
-        let mut ends = Vec::new();
-        ends.try_reserve_exact(links.len())
-            .map_err(|_| OpenError::OutOfMemory)?;
-        ends.extend(links.iter().map(Ends::of));
         let cloth = pbd_cloth::Cloth::open(Global, &scene.0, slots as u32)?;
-        Ok(Cloth { cloth, ends })
+        Ok(Cloth(cloth))
     }
 
     fn apply(&mut self, command: Command) -> Result<(), Refusal> {
-        match self.cloth.apply(&command) {
+        match self.0.apply(&command) {
             Reply::Refused(why) => Err(why),
             _ => Ok(()),
         }
@@ -116,6 +109,23 @@ impl Cloth {
         self.apply(Command::Cut(link as u64))
     }
 
+    /// Lets links go, one after another, each as [`Cloth::cut`] does, and answers how many of these cuts were refused: they change
+    /// nothing.
+    ///
+    /// ```
+    /// use lakmozet::{Cloth, Scene};
+    ///
+    /// let rope = "[[rope]]\norigin = [0, 0, 0]\nspacing = [6554, 0, 0]\ncount = 3";
+    /// let mut cloth = Cloth::open(&Scene::read(rope)?, 0)?;
+    /// assert_eq!(cloth.cut_many(&[0, 1, 0, 99]), 2);
+    /// assert!(cloth.links().take(2).all(|link| !link.live));
+    /// # Ok::<(), Box<dyn std::error::Error>>(())
+    /// ```
+    pub fn cut_many(&mut self, links: &[usize]) -> usize {
+        let refused = links.iter().filter(|&&link| self.cut(link).is_err());
+        refused.count()
+    }
+
     /// Sets gravity, in units per step squared, within 2^29 on each axis.
     ///
     /// # Errors
@@ -125,10 +135,20 @@ impl Cloth {
         self.apply(Command::Gravity(vector(gravity.into())))
     }
 
-    /// Gravity, in units per step squared.
+    /// Gravity, in units of 1/65,536 metre per step squared.
+    ///
+    /// ```
+    /// use lakmozet::{Cloth, Scene};
+    ///
+    /// let mut cloth = Cloth::open(&Scene::read("gravity = [0, -179, 0]")?, 0)?;
+    /// assert_eq!(cloth.gravity(), [0, -179, 0]);
+    /// cloth.set_gravity([30, -176, 0])?;
+    /// assert_eq!(cloth.gravity(), [30, -176, 0]);
+    /// # Ok::<(), Box<dyn std::error::Error>>(())
+    /// ```
     #[must_use]
     pub fn gravity(&self) -> [i64; 3] {
-        let Vec3 { x, y, z } = self.cloth.gravity();
+        let Vec3 { x, y, z } = self.0.gravity();
         [x, y, z]
     }
 
@@ -139,7 +159,7 @@ impl Cloth {
     /// There is no such slot.
     pub fn save(&mut self, slot: usize) -> Result<(), NoSlot> {
         let slot = self.slot(slot)?;
-        self.cloth.save(slot);
+        self.0.save(slot);
         Ok(())
     }
 
@@ -150,7 +170,7 @@ impl Cloth {
     /// There is no such slot.
     pub fn restore(&mut self, slot: usize) -> Result<(), NoSlot> {
         let slot = self.slot(slot)?;
-        self.cloth.restore(slot);
+        self.0.restore(slot);
         Ok(())
     }
 
@@ -165,25 +185,25 @@ impl Cloth {
     /// How many slots there are.
     #[must_use]
     pub fn slots(&self) -> usize {
-        self.cloth.slots() as usize
+        self.0.slots() as usize
     }
 
     /// How many particles there are, at most 65,536.
     #[must_use]
     pub fn particles(&self) -> usize {
-        self.cloth.particles() as usize
+        self.0.particles() as usize
     }
 
     /// How many steps were taken, at most 1,000,000.
     #[must_use]
     pub fn steps(&self) -> u64 {
-        self.cloth.step_count()
+        self.0.step_count()
     }
 
     /// How many contacts the last step found, at most 262,144.
     #[must_use]
     pub fn contacts(&self) -> usize {
-        self.cloth.contacts() as usize
+        self.0.contacts() as usize
     }
 
     /// Where all particles are, in the order of their numbers. Takes memory for them; [`Cloth::positions_into`] takes none.
@@ -195,23 +215,65 @@ impl Cloth {
 
     /// Copies the positions of as many particles as there is room for, from particle 0 on, and answers how many these are.
     pub fn positions_into(&self, into: &mut [Position]) -> usize {
-        self.cloth.places(into);
+        self.0.places(into);
         into.len().min(self.particles())
     }
 
     /// The same one step before: the difference is a particle's velocity.
     pub fn positions_before_into(&self, into: &mut [Position]) -> usize {
-        self.cloth.places_before(into);
+        self.0.places_before(into);
         into.len().min(self.particles())
     }
 
-    /// All links, in the order of their numbers. Takes memory for a byte each.
-    pub fn links(&self) -> impl ExactSizeIterator<Item = Link> + '_ {
-        let mut live = vec![0; self.ends.len()];
-        self.cloth.live(&mut live);
-        let ends = self.ends.iter();
-        ends.zip(live)
-            .map(|(ends, is_live)| ends.link(is_live != 0))
+    /// Whether each particle is held, in the order of their numbers. Takes memory for a byte each.
+    ///
+    /// ```
+    /// use lakmozet::{Cloth, Scene};
+    ///
+    /// let rope = "pins = [0]\n[[rope]]\norigin = [0, 0, 0]\nspacing = [6554, 0, 0]\ncount = 3";
+    /// let mut cloth = Cloth::open(&Scene::read(rope)?, 0)?;
+    /// cloth.pin(2)?;
+    /// assert_eq!(cloth.held().collect::<Vec<_>>(), [true, false, true]);
+    /// # Ok::<(), Box<dyn std::error::Error>>(())
+    /// ```
+    pub fn held(&self) -> impl ExactSizeIterator<Item = bool> {
+        let mut held = vec![0; self.particles()];
+        self.0.held(&mut held);
+        held.into_iter().map(|it| it != 0)
+    }
+
+    /// All links, live ones and others, in the order of their numbers. Takes memory for them.
+    ///
+    /// ```
+    /// use lakmozet::{Cloth, Scene};
+    ///
+    /// let rope = "[[rope]]\norigin = [0, 0, 0]\nspacing = [6554, 0, 0]\ncount = 3";
+    /// let cloth = Cloth::open(&Scene::read(rope)?, 0)?;
+    /// let link = cloth.links().nth(1).unwrap();
+    /// assert_eq!((link.a, link.b, link.rest_length, link.live), (1, 2, 6554, true));
+    /// # Ok::<(), Box<dyn std::error::Error>>(())
+    /// ```
+    pub fn links(&self) -> impl ExactSizeIterator<Item = Link> {
+        let mut entries = vec![NO_LINK; self.0.links() as usize];
+        self.0.link_entries(&mut entries);
+        entries.into_iter().map(Link::from)
+    }
+
+    /// The number of the link that joins two particles, in either order, live or not: there is one at most.
+    ///
+    /// ```
+    /// use lakmozet::{Cloth, Scene};
+    ///
+    /// let rope = "[[rope]]\norigin = [0, 0, 0]\nspacing = [6554, 0, 0]\ncount = 3";
+    /// let mut cloth = Cloth::open(&Scene::read(rope)?, 0)?;
+    /// assert_eq!(cloth.link_between(2, 1), Some(1));
+    /// assert_eq!(cloth.link_between(2, 2), None);
+    /// # Ok::<(), Box<dyn std::error::Error>>(())
+    /// ```
+    #[must_use]
+    pub fn link_between(&self, a: usize, b: usize) -> Option<usize> {
+        let (a, b) = (u32::try_from(a).ok()?, u32::try_from(b).ok()?);
+        self.0.link_between(a, b).map(|link| link as usize)
     }
 
     /// The numbers, ascending, of the links that are live in a slot's world and are so no longer. Takes memory for them.
@@ -221,15 +283,33 @@ impl Cloth {
     /// There is no such slot.
     pub fn gone_since(&self, slot: usize) -> Result<impl ExactSizeIterator<Item = usize>, NoSlot> {
         let slot = self.slot(slot)?;
-        let mut gone = vec![0; self.cloth.gone_since(slot, &mut []) as usize];
-        self.cloth.gone_since(slot, &mut gone);
+        let mut gone = vec![0; self.0.gone_since(slot, &mut []) as usize];
+        self.0.gone_since(slot, &mut gone);
         Ok(gone.into_iter().map(|link| link as usize))
+    }
+
+    /// Where momentum came from and went since opening, in units of 1/65,536 metre per step.
+    ///
+    /// ```
+    /// use lakmozet::{Cloth, Scene};
+    ///
+    /// let scene = "gravity = [0, -10, 0]\n[[particle]]\nat = [0, 1000, 0]";
+    /// let mut cloth = Cloth::open(&Scene::read(scene)?, 0)?;
+    /// cloth.step(3)?;
+    /// let ledger = cloth.ledger();
+    /// assert_eq!(ledger.momentum, [0, -30, 0]);
+    /// assert_eq!(ledger.totals.gravity, ledger.momentum);
+    /// # Ok::<(), Box<dyn std::error::Error>>(())
+    /// ```
+    #[must_use]
+    pub fn ledger(&self) -> Ledger {
+        self.0.balance().into()
     }
 
     /// What two machines compare: equal worlds have equal sums.
     #[must_use]
     pub fn sums(&self) -> Sums {
-        self.cloth.sums()
+        self.0.sums()
     }
 }
 
@@ -238,11 +318,22 @@ impl fmt::Debug for Cloth {
         f.debug_struct("Cloth")
             .field("steps", &self.steps())
             .field("particles", &self.particles())
-            .field("links", &self.ends.len())
+            .field("links", &self.0.links())
             .field("slots", &self.slots())
             .finish_non_exhaustive()
     }
 }
+
+/// What stands in a list before it is written.
+const NO_LINK: LinkEntry = LinkEntry {
+    rest: 0,
+    tear: 0,
+    a: 0,
+    b: 0,
+    stiffness: 0,
+    kind: 0,
+    live: 0,
+};
 
 fn vector(place: Position) -> Vec3 {
     Vec3 {

@@ -5,6 +5,13 @@ use core::error::Error;
 use core::fmt;
 
 /// The part of a step in which a place left the range.
+///
+/// | phase | what moved the place | the element of a refusal |
+/// |---|---|---|
+/// | `Predict` | its velocity and gravity | a particle |
+/// | `Link` | a pass over the links | a link |
+/// | `Contact` | a pass over the contacts | a contact, by its position in the list |
+/// | `Shape` | a plane or a sphere | a particle |
 #[doc(inline)]
 pub use crate::parts::pbd_world::Phase;
 

@@ -51,6 +51,7 @@ extern crate std;
 
 mod cloth;
 mod errors;
+mod ledger;
 mod links;
 #[doc(hidden)]
 #[allow(missing_docs)]
@@ -62,6 +63,7 @@ mod source;
 
 pub use cloth::Cloth;
 pub use errors::{NoSlot, OpenError, Phase, Refusal, SceneError};
+pub use ledger::{Ledger, Totals};
 pub use links::Link;
 pub use position::{Position, UNITS_PER_METRE};
 #[cfg(feature = "std")]
@@ -69,6 +71,9 @@ pub use run::run_streams;
 pub use run::{run, Status};
 pub use scene::{KeyName, Scene, SceneRule, TableName};
 pub use source::SOURCE;
+
+/// The version of this package.
+pub const VERSION: &str = env!("CARGO_PKG_VERSION");
 
 /// The most slots that a [`Cloth`] can have.
 pub const MOST_SLOTS: usize = parts::pbd_cloth::MOST_SLOTS as usize;

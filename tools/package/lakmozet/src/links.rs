@@ -1,5 +1,5 @@
 //! Links.
-use crate::parts::pbd_world;
+use crate::parts::pbd_cloth::LinkEntry;
 
 /// A link between two particles.
 #[derive(Clone, Copy, Debug, PartialEq, Eq)]
@@ -8,30 +8,25 @@ pub struct Link {
     pub a: usize,
     /// The number of the particle at the other end.
     pub b: usize,
+    /// The length that it keeps, in units of 1/65,536 metre.
+    pub rest_length: i64,
+    /// The length above which it tears, in the same units, if there is one.
+    pub tear_length: Option<i64>,
+    /// How much of its error a pass takes away, in 256ths, at most 256.
+    pub stiffness: u16,
     /// Whether it is still there, neither cut nor torn.
     pub live: bool,
 }
 
-/// The numbers of the particles at the ends of a link.
-#[derive(Clone, Copy)]
-pub(crate) struct Ends {
-    a: u32,
-    b: u32,
-}
-
-impl Ends {
-    pub(crate) fn of(link: &pbd_world::Link) -> Ends {
-        Ends {
-            a: link.a,
-            b: link.b,
-        }
-    }
-
-    pub(crate) fn link(self, live: bool) -> Link {
+impl From<LinkEntry> for Link {
+    fn from(entry: LinkEntry) -> Link {
         Link {
-            a: self.a as usize,
-            b: self.b as usize,
-            live,
+            a: entry.a as usize,
+            b: entry.b as usize,
+            rest_length: entry.rest,
+            tear_length: (entry.tear != 0).then_some(entry.tear),
+            stiffness: entry.stiffness,
+            live: entry.live != 0,
         }
     }
 }

@@ -50,6 +50,55 @@ fn links_have_ends_and_go() {
 }
 
 #[test]
+fn links_have_lengths_and_are_found_by_their_ends() {
+    let scene = "[[particle]]\nat = [0, 0, 0]\n[[particle]]\nat = [100, 0, 0]\n[[particle]]\nat = [0, 300, 0]\n\
+                 [[link]]\na = 0\nb = 1\nrest = 90\nstiffness = 128\ntear = 400\n[[link]]\na = 2\nb = 0\n";
+    let mut cloth = Cloth::open(&Scene::read(scene).unwrap(), 0).unwrap();
+    let links: Vec<_> = cloth.links().collect();
+    assert_eq!((links[0].rest_length, links[1].rest_length), (90, 300));
+    assert_eq!((links[0].stiffness, links[1].stiffness), (128, 256));
+    assert_eq!(
+        (links[0].tear_length, links[1].tear_length),
+        (Some(400), None)
+    );
+    assert_eq!(cloth.link_between(0, 2), Some(1));
+    assert_eq!(cloth.link_between(1, 2), None);
+    assert_eq!(cloth.link_between(0, usize::MAX), None);
+    assert_eq!(cloth.cut_many(&[1, 1, usize::MAX]), 2);
+    assert_eq!(
+        cloth.link_between(2, 0),
+        Some(1),
+        "also where it was let go"
+    );
+    assert!(cloth.links().map(|it| it.live).eq([true, false]));
+}
+
+#[test]
+fn held_particles_are_told() {
+    let mut cloth = rope(0);
+    cloth.pin(2).unwrap();
+    cloth.unpin(0).unwrap();
+    assert!(cloth.held().eq([false, false, true, false]));
+}
+
+#[test]
+fn the_ledger_balances() {
+    let mut cloth = rope(0);
+    cloth.step(60).unwrap();
+    cloth.cut_many(&[0, 3]);
+    cloth.step(7).unwrap();
+    let ledger = cloth.ledger();
+    let t = ledger.totals;
+    // the held end pulls, and links between free ends of one weight take from one what they give to the other
+    assert!(t.gravity[1] < 0 && t.pin[1] > 0 && t.link == [0; 3]);
+    for axis in 0..3 {
+        let moves = [t.gravity, t.damping, t.link, t.contact, t.pin, t.shape];
+        let moved: i128 = moves.iter().map(|it| it[axis]).sum();
+        assert_eq!(ledger.momentum[axis], ledger.opening[axis] + moved);
+    }
+}
+
+#[test]
 fn positions_are_copied_as_far_as_there_is_room() {
     let cloth = rope(0);
     let mut few = [Position::from([7, 7, 7]); 2];

@@ -8,6 +8,7 @@ pub mod itoa;
 pub mod marker;
 pub mod rand_core;
 pub mod rand_pcg;
+pub mod sha2;
 pub mod signs;
 pub mod string;
 pub mod sync;
