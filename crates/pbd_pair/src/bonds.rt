@@ -1,3 +1,4 @@
+// What a projector goes through: links, or the pairs of contacts.
 ghost use Rattle.std.specs.Prelude.{◌≡◌, ℕ, ◌<◌, length};
 
 use pbd_world::{Bond, Link};

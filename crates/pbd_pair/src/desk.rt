@@ -42,6 +42,7 @@ impl Desk {
         requires can { CanProject 128 chunk.bonds chunk.numbers.now store.old totals.old }
         ensures outcome { ComesTo chunk.entry.bonds chunk.entry.numbers.now store.old store.new totals.old totals.new result }
         ensures limit { store.new.limit ≡ store.old.limit }
+        ensures copies { store.new.copies ≡ store.old.copies }
         ensures fixed { fixed_parts store.new.particles ≡ fixed_parts store.old.particles }
         ensures sound { OnOk result (StaysSound (length chunk.entry.numbers.now) store.old store.new totals.old totals.new) }
         ensures cost { steps.new ≡ steps.old + 4 * blocks_of (length chunk.entry.numbers.now) L }

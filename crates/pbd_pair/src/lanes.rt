@@ -1,3 +1,4 @@
+// The projector that projects as many bonds side by side as it has lanes.
 ghost use Rattle.std.specs.Prelude.{◌≡◌};
 
 use crate::bonds::Bonds;

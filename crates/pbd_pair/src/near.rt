@@ -230,6 +230,7 @@ impl NearMoves {
         requires near { AreNear (bond_of found.now.chunk.bonds) found.now.chunk.numbers.now found.now.between.now self.old }
         ensures outcome { ComesTo found.now.chunk.bonds found.now.chunk.numbers.now store.old store.new totals.old totals.new result }
         ensures limit { store.new.limit ≡ store.old.limit }
+        ensures copies { store.new.copies ≡ store.old.copies }
         ensures fixed { fixed_parts store.new.particles ≡ fixed_parts store.old.particles }
         ensures sound { OnOk result (StaysSound (length found.now.chunk.numbers.now) store.old store.new totals.old totals.new) }
         ensures cost { steps.new ≡ steps.old + 2 * blocks_of (length found.now.chunk.numbers.now) L }

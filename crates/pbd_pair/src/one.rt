@@ -29,6 +29,7 @@ pub(crate) fn project_one<const L: usize, G: Ledger>(
         ≡ Err left.element) }
     ensures inside { AreInside store.old.limit store.new.particles }
     ensures limit { store.new.limit ≡ store.old.limit }
+    ensures copies { store.new.copies ≡ store.old.copies }
     ensures fixed { fixed_parts store.new.particles ≡ fixed_parts store.old.particles }
     ensures room { (k : ℕ) → HaveRoom k (ledger_of totals.old) → HaveRoom (k + 2 ^ 32) (ledger_of totals.new) }
     ensures cost { steps.new ≤ steps.old + 4 }

@@ -1,3 +1,4 @@
+// What a projector is: how a batch of bonds is projected, and what that costs.
 ghost use Rattle.std.specs.Prelude.{◌≡◌, ℕ, ◌<◌, ◌≤◌, ◌^◌, ◌+◌, ◌-◌, ◌*◌, min, length, MatchResult, OnOk, Result, Ok, Err};
 ghost use Rattle.pbd_world.specs.Ledger.{ledger_of, HaveRoom};
 ghost use Rattle.pbd_world.specs.Bonds.{projected};
@@ -53,6 +54,7 @@ pub trait Projector<const L: usize> {
             ≡ Ok (motion_of store.new totals.new))
             (λ left. projected store.old.limit (bond_of bonds.entry) batch.now (motion_of store.old totals.old) ≡ Err left.element) }
         ensures limit { store.new.limit ≡ store.old.limit }
+        ensures copies { store.new.copies ≡ store.old.copies }
         ensures fixed { fixed_parts store.new.particles ≡ fixed_parts store.old.particles }
         ensures inside { OnOk result (AreInside store.old.limit store.new.particles) }
         ensures room { OnOk result ((n : ℕ) → HaveRoom n (ledger_of totals.old)

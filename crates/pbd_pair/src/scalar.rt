@@ -1,3 +1,4 @@
+// The projector that projects one bond after another.
 ghost use Rattle.std.specs.Prelude.{◌≡◌};
 
 use crate::bonds::Bonds;

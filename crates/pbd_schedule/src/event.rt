@@ -1,3 +1,4 @@
+// The events of a schedule: a read and two writes of each bond.
 ghost use Rattle.std.specs.Prelude.{◌≡◌, ◌≤◌};
 
 /// What happens to a bond, which is named by its position in the batch, from 0: its two particles are read, then its

@@ -29,6 +29,7 @@ fn write_first<const L: usize, G: Ledger>(
     ensures value { (t : Books) → (ns : List Jotting) → mix_of store.new.particles t ns
         ≡ first_written bond note.correction (mix_of store.old.particles t ns) }
     ensures limit { store.new.limit ≡ store.old.limit }
+    ensures copies { store.new.copies ≡ store.old.copies }
     ensures inside { AreInside store.old.limit store.new.particles }
     ensures fixed { fixed_parts store.new.particles ≡ fixed_parts store.old.particles }
     ensures cost { steps.new ≤ steps.old + 1 }
@@ -53,6 +54,7 @@ fn write_second<const L: usize, G: Ledger>(
     ensures value { (ns : List Jotting) → mix_of store.new.particles (ledger_of totals.new) ns
         ≡ second_written bond note note.correction (mix_of store.old.particles (ledger_of totals.old) ns) }
     ensures limit { store.new.limit ≡ store.old.limit }
+    ensures copies { store.new.copies ≡ store.old.copies }
     ensures inside { AreInside store.old.limit store.new.particles }
     ensures fixed { fixed_parts store.new.particles ≡ fixed_parts store.old.particles }
     ensures room { (n : ℕ) → HaveRoom n (ledger_of totals.old) → HaveRoom (n + 2 ^ 32) (ledger_of totals.new) }
@@ -86,6 +88,7 @@ fn happen<const L: usize, G: Ledger>(
     ensures notes { length notes.new ≡ length notes.old }
     ensures sound { AreSound store.old.limit notes.new }
     ensures limit { store.new.limit ≡ store.old.limit }
+    ensures copies { store.new.copies ≡ store.old.copies }
     ensures inside { AreInside store.old.limit store.new.particles }
     ensures fixed { fixed_parts store.new.particles ≡ fixed_parts store.old.particles }
     ensures room { (n : ℕ) → HaveRoom n (ledger_of totals.old) → HaveRoom (n + bookings event * 2 ^ 32) (ledger_of totals.new) }
@@ -123,6 +126,7 @@ pub(crate) fn mix<const L: usize, G: Ledger>(
     ensures notes { length notes.new ≡ length notes.old }
     ensures sound { AreSound store.old.limit notes.new }
     ensures limit { store.new.limit ≡ store.old.limit }
+    ensures copies { store.new.copies ≡ store.old.copies }
     ensures inside { AreInside store.old.limit store.new.particles }
     ensures fixed { fixed_parts store.new.particles ≡ fixed_parts store.old.particles }
     ensures room { (n : ℕ) → HaveRoom n (ledger_of totals.old) → HaveRoom (n + sum_by bookings events.now * 2 ^ 32) (ledger_of totals.new) }

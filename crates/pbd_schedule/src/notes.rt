@@ -105,6 +105,7 @@ pub fn run_events<const L: usize, G: Ledger>(
         (λ fault. Faults store.old.limit (bond_of bonds.entry) batch.now events.now (motion_of store.old totals.old)
         ((store.new ≡ store.old) × (totals.new ≡ totals.old)) fault) }
     ensures limit { store.new.limit ≡ store.old.limit }
+    ensures copies { store.new.copies ≡ store.old.copies }
     ensures fixed { fixed_parts store.new.particles ≡ fixed_parts store.old.particles }
     ensures inside { OnOk result (AreInside store.old.limit store.new.particles) }
     ensures room { OnOk result ((n : ℕ) → HaveRoom n (ledger_of totals.old)

@@ -114,6 +114,7 @@ fn push_block<const L: usize, G: Ledger>(
         (λ left. pushed_from store.old.limit planes.now spheres.now (block * L)
         (record { motion = motion_of store.old totals.old; touched = touched.old }) ≡ Err left.element) }
     ensures limit { store.new.limit ≡ store.old.limit }
+    ensures copies { store.new.copies ≡ store.old.copies }
     ensures fixed { fixed_parts store.new.particles ≡ fixed_parts store.old.particles }
     ensures flags { length touched.new ≡ length touched.old }
     ensures inside { AreInside store.old.limit store.new.particles }
@@ -174,6 +175,7 @@ pub fn push_out<const L: usize, G: Ledger>(
         (λ left. all_pushed store.old.limit planes.now spheres.now
         (record { motion = motion_of store.old totals.old; touched = touched.old }) ≡ Err left.element) }
     ensures limit { store.new.limit ≡ store.old.limit }
+    ensures copies { store.new.copies ≡ store.old.copies }
     ensures fixed { fixed_parts store.new.particles ≡ fixed_parts store.old.particles }
     ensures flags { length touched.new ≡ length touched.old }
     ensures inside { OnOk result (AreInside store.old.limit store.new.particles) }

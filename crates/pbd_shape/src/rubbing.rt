@@ -97,6 +97,7 @@ fn rub_block<const L: usize, G: Ledger>(
     ensures outcome { rubbed_from friction (block * L + L) (record { motion = motion_of store.new totals.new; touched = touched.now })
         ≡ rubbed_from friction (block * L) (record { motion = motion_of store.old totals.old; touched = touched.now }) }
     ensures limit { store.new.limit ≡ store.old.limit }
+    ensures copies { store.new.copies ≡ store.old.copies }
     ensures settled { settled_parts store.new.particles ≡ settled_parts store.old.particles }
     ensures within { AreWithin store.old.limit store.new.particles }
     ensures room { (n : ℕ) → HaveRoom n (ledger_of totals.old)
@@ -137,6 +138,7 @@ pub fn rub<const L: usize, G: Ledger>(
     ensures outcome { motion_of store.new totals.new
         ≡ all_rubbed friction (record { motion = motion_of store.old totals.old; touched = touched.now }) }
     ensures limit { store.new.limit ≡ store.old.limit }
+    ensures copies { store.new.copies ≡ store.old.copies }
     ensures settled { settled_parts store.new.particles ≡ settled_parts store.old.particles }
     ensures within { AreWithin store.old.limit store.new.particles }
     ensures room { (n : ℕ) → HaveRoom n (ledger_of totals.old) → HaveRoom (n + length store.old.particles * 2 ^ 31) (ledger_of totals.new) }

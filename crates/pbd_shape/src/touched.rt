@@ -1,3 +1,4 @@
+// Which particles were touched by a shape in a step.
 ghost use Rattle.std.specs.List.{list_any};
 ghost use Rattle.std.specs.Prelude.{◌≡◌, ◌<◌, ◌≤◌, false, true, length, replicate, slice_index_or, slice_set, IfOk};
 

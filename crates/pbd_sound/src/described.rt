@@ -1,3 +1,4 @@
+// What a description tells of a world, number by number.
 ghost use Rattle.std.specs.Prelude.{◌≡◌, ◌<◌};
 ghost use Rattle.pbd_world.specs.Ledger.{ledger_of};
 ghost use Rattle.pbd_sound.specs.Described.{Description};

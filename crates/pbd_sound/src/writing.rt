@@ -31,6 +31,7 @@ pub fn write_particles<const L: usize, D: Described, G: Ledger>(
     requires same { length store.old.particles ≡ length other.now.particles }
     ensures particles { store.new.particles ≡ particles_told (D.seen described.now) other.now.particles }
     ensures limit { store.new.limit ≡ store.old.limit }
+    ensures copies { store.new.copies ≡ store.old.copies }
     ensures cost { steps.new ≡ steps.old + 2 * length other.now.particles }
 {
     for i in 0..other.len() {

@@ -169,6 +169,21 @@ formed_fit w h =
       in_range = links_in_range w.limit (length w.particles) w.links f.links;
     }
 
+-- so many tracks and shapes as a world may have
+pub record HasFew (w : World) : Type 0 where
+  pub tracks : length w.tracks ≤ 4096
+  pub planes : length w.planes ≤ 256
+  pub spheres : length w.spheres ≤ 256
+
+pub formed_few : (w : World) → IsTrue (is_well_formed (parts_of w)) → HasFew w
+formed_few w h =
+    let f = formed (parts_of w) h in
+    record {
+      tracks = leb-true (length w.tracks) 4096 (and_parts _ _ (and_parts _ _ f.tracks).0).0;
+      planes = leb-true (length w.planes) 256 (and_parts _ _ f.planes).0;
+      spheres = leb-true (length w.spheres) 256 (and_parts _ _ f.spheres).0;
+    }
+
 pub taken_fit : (ps qs : List Particle) (links others : List Link) → ps ≡ qs → links ≡ others → HasFit qs others → HasFit ps links
 taken_fit ps qs links others e f h = subst (λ (xs : List Particle). HasFit xs links) (sym e) (subst (λ (ls : List Link). HasFit qs ls) (sym f) h)
 

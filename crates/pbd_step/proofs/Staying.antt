@@ -27,6 +27,7 @@ pub both_moved : {l : ℕ} (old mid new : State l) → IsMoved old mid → IsMov
 both_moved {l} old mid new h k = record {
   same = k.same ∙ ap (λ (s : State l). record s { store = new.store; totals = new.totals }) h.same;
   limit = k.limit ∙ h.limit;
+  copies = k.copies ∙ h.copies;
   whole = k.whole ∙ h.whole;
 }
 
@@ -46,7 +47,7 @@ refound tools found same n m h = record { found = same ∙ h.found; touched = h.
 module _ {l : ℕ} {P : Type 0} {count : P → ℕ} {lanes : P → ℕ} where
   pub none_in_pass : (run : Running l P) → StaysInPass count lanes run run
   none_in_pass run = record {
-    moved = record { same = refl; limit = refl; whole = refl };
+    moved = record { same = refl; limit = refl; copies = refl; whole = refl };
     fixed = refl;
     colours = refl;
     tools = refl;
@@ -67,11 +68,11 @@ module _ {l : ℕ} {P : Type 0} {count : P → ℕ} {lanes : P → ℕ} where
   }
 
   -- what moves places within a limit, books it, and sets flags or hands bonds to the projector
-  pub part_in_pass : (run : Running l P) (state : State l) (flags : List Bool) (projector : P) → state ≡ record run.state { store = state.store; totals = state.totals } → state.store.limit ≡ run.state.store.limit
+  pub part_in_pass : (run : Running l P) (state : State l) (flags : List Bool) (projector : P) → state ≡ record run.state { store = state.store; totals = state.totals } → state.store.limit ≡ run.state.store.limit → state.store.copies ≡ run.state.store.copies
       → fixed_parts state.store.particles ≡ fixed_parts run.state.store.particles → length flags ≡ length run.tools.touched → count run.projector ≤ count projector → lanes projector ≡ lanes run.projector
       → StaysInPass count lanes run (record run { state = state; tools = record run.tools { touched = flags }; projector = projector })
-  part_in_pass run state flags projector same limit fixed many not_fallen width = record {
-    moved = record { same = same; limit = limit; whole = same_length state.store.particles run.state.store.particles fixed };
+  part_in_pass run state flags projector same limit copies fixed many not_fallen width = record {
+    moved = record { same = same; limit = limit; copies = copies; whole = same_length state.store.particles run.state.store.particles fixed };
     fixed = fixed;
     colours = refl;
     tools = refl;
@@ -85,6 +86,7 @@ module _ {l : ℕ} {P : Type 0} {count : P → ℕ} {lanes : P → ℕ} where
   pub none_in_step : (run : Running l P) → StaysInStep count lanes run run
   none_in_step run = record {
     alike = record { particles = refl; limit = refl; links = refl };
+    copies = refl;
     pairs = refl;
     space = λ n m h. h;
     not_fallen = omega arith;
@@ -94,6 +96,7 @@ module _ {l : ℕ} {P : Type 0} {count : P → ℕ} {lanes : P → ℕ} where
   pub both_in_step : (old mid new : Running l P) → StaysInStep count lanes old mid → StaysInStep count lanes mid new → StaysInStep count lanes old new
   both_in_step old mid new h k = record {
     alike = record { particles = k.alike.particles ∙ h.alike.particles; limit = k.alike.limit ∙ h.alike.limit; links = k.alike.links ∙ h.alike.links };
+    copies = k.copies ∙ h.copies;
     pairs = k.pairs ∙ ap (λ (c : Coloured). record c { live = new.colours.live }) h.pairs;
     space = λ n m room. k.space n m (h.space n m room);
     not_fallen = omega (arith, k.not_fallen, h.not_fallen);
@@ -103,6 +106,7 @@ module _ {l : ℕ} {P : Type 0} {count : P → ℕ} {lanes : P → ℕ} where
   pub pass_in_step : (old new : Running l P) → StaysInPass count lanes old new → StaysInStep count lanes old new
   pass_in_step old new h = record {
     alike = moved_alike old.state new.state h.moved;
+    copies = h.moved.copies;
     pairs = λ i. record (h.colours i) { live = new.colours.live };
     space = same_room old.tools new.tools h.tools h.flags;
     not_fallen = h.not_fallen;
@@ -112,6 +116,7 @@ module _ {l : ℕ} {P : Type 0} {count : P → ℕ} {lanes : P → ℕ} where
   pub move_in_step : (run : Running l P) (state : State l) → IsMoved run.state state → StaysInStep count lanes run (record run { state = state })
   move_in_step run state h = record {
     alike = moved_alike run.state state h;
+    copies = h.copies;
     pairs = refl;
     space = λ n m room. room;
     not_fallen = omega arith;
@@ -122,6 +127,7 @@ module _ {l : ℕ} {P : Type 0} {count : P → ℕ} {lanes : P → ℕ} where
   pub tools_in_step : (run : Running l P) (tools : Tools) → ((n m : ℕ) → HaveSpace n m run.tools → HaveSpace n m tools) → StaysInStep count lanes run (record run { tools = tools })
   tools_in_step run tools space = record {
     alike = record { particles = refl; limit = refl; links = refl };
+    copies = refl;
     pairs = refl;
     space = space;
     not_fallen = omega arith;

@@ -22,6 +22,7 @@ pub record AreCopied (parts : Parts) (setting : Setting) : Type 0 where
 pub record IsFirst {l : ℕ} (parts : Parts) (state : State l) : Type 0 where
   pub particles : state.store.particles ≡ parts.particles
   pub limit : state.store.limit ≡ parts.limit
+  pub copies : state.store.copies ≡ 0
   pub links : state.links.items ≡ parts.links
   pub totals : ledger_of state.totals ≡ zero_totals
   pub steps : state.steps ≡ 0

@@ -53,6 +53,7 @@ pub record AreProjected (r : Result (Unit {0}) Left) (bonds : Bonds) (numbers : 
       (λ _. projected s.limit (bond_of bonds) numbers (motion_of s t) ≡ Ok (motion_of new u))
       (λ left. projected s.limit (bond_of bonds) numbers (motion_of s t) ≡ Err left.element)
   pub limit : new.limit ≡ s.limit
+  pub copies : new.copies ≡ s.copies
   pub fixed : fixed_parts new.particles ≡ fixed_parts s.particles
   pub inside : OnOk r (AreInside s.limit new.particles)
   pub room : OnOk r ((n : ℕ) → HaveRoom n (ledger_of t) → HaveRoom (n + grown) (ledger_of u))

@@ -9,10 +9,11 @@ use Rattle.pbd_step.specs.declared.state.State.{State}
 use Rattle.pbd_step.specs.declared.state.Tools.{Tools}
 use Rattle.pbd_step.specs.States.{world_of, HasLinks, HaveSpace}
 
--- a world, and the projector that its steps go through
+-- a world, the projector that its steps go through, and how often the stores of its two states were taken over as a whole
 pub record Solved (P : Type 0) : Type 0 where
   pub world : World
   pub projector : P
+  pub copies : ℕ
 
 -- the bonds that a step from w to v projects: in each pass, the links that are live before it and the contacts found in it
 abbrev pub bonds_of : World → World → ℕ

@@ -31,10 +31,11 @@ pub record IsGoing {l : ℕ} {P : Type 0} (bound : ℕ) (setting : Setting) (run
 abbrev pub passing_of : {l : ℕ} {P : Type 0} → Running l P → Passing
 passing_of run = record { motion = now_of run.state; touched = run.tools.touched }
 
--- of a state the places and the totals alone were changed
+-- of a state the places and the totals alone were changed, and no store was taken over
 pub record IsMoved {l : ℕ} (old new : State l) : Type 0 where
   pub same : new ≡ record old { store = new.store; totals = new.totals }
   pub limit : new.store.limit ≡ old.store.limit
+  pub copies : new.store.copies ≡ old.store.copies
   pub whole : length new.store.particles ≡ length old.store.particles
 
 -- a part of a pass changes the places, the totals, the flags of what was touched, and what the projector keeps of itself
@@ -61,10 +62,11 @@ pub record ProjectsInPass {l : ℕ} {P : Type 0} (count lanes : P → ℕ) (r : 
       ((n : ℕ) → AreMovable n old.state.store.limit old.state.store.particles (ledger_of old.state.totals)
       → AreMovable (n + 2 ^ 60) new.state.store.limit new.state.store.particles (ledger_of new.state.totals))
 
--- a part of a step leaves the limit, how many particles and links there are, the coloured pairs, the room of the tools and
--- the projector's width
+-- a part of a step leaves the limit, how many particles and links there are, how often the store was taken over, the coloured
+-- pairs, the room of the tools and the projector's width
 pub record StaysInStep {l : ℕ} {P : Type 0} (count : P → ℕ) (lanes : P → ℕ) (old new : Running l P) : Type 0 where
   pub alike : AreAlike new.state old.state
+  pub copies : new.state.store.copies ≡ old.state.store.copies
   pub pairs : new.colours ≡ record old.colours { live = new.colours.live }
   pub space : (n m : ℕ) → HaveSpace n m old.tools → HaveSpace n m new.tools
   pub not_fallen : count old.projector ≤ count new.projector

@@ -1,5 +1,5 @@
 // Taking over another state, with the colours of its links.
-ghost use Rattle.std.specs.Prelude.{◌≡◌, ◌≤◌, length, IfOk, IsTrue};
+ghost use Rattle.std.specs.Prelude.{◌≡◌, ◌+◌, ◌-◌, ◌≤◌, ◌^◌, min, length, IfOk, IsTrue};
 ghost use Rattle.pbd_world.specs.Contacts.{link_pairs, live_flags};
 ghost use Rattle.pbd_colour.specs.Pairs.{InRange};
 ghost use Rattle.pbd_step.specs.declared.state.Setting.{Setting};
@@ -19,6 +19,7 @@ pub(crate) fn take_over<const L: usize>(state: &mut State<L>, other: &State<L>)
     ensures world { (setting : Setting) → world_of setting state.new ≡ world_of setting other.now }
     ensures particles { state.new.store.particles ≡ other.now.store.particles }
     ensures limit { state.new.store.limit ≡ other.now.store.limit }
+    ensures copies { state.new.store.copies ≡ min (state.old.store.copies + 1) (2 ^ 64 - 1) }
     ensures links { state.new.links.items ≡ other.now.links.items }
 {
     state.store.copy_from(&other.store);
@@ -111,6 +112,7 @@ pub(crate) fn restore<const L: usize>(
     ensures world { (setting : Setting) → world_of setting state.new ≡ world_of setting other.now }
     ensures particles { state.new.store.particles ≡ other.now.store.particles }
     ensures limit { state.new.store.limit ≡ other.now.store.limit }
+    ensures copies { state.new.store.copies ≡ min (state.old.store.copies + 1) (2 ^ 64 - 1) }
     ensures same_links { state.new.links.items ≡ other.now.links.items }
     ensures links { HasLinks (length other.now.store.particles) other.now.links.items colours.new }
     ensures space { HaveSpace (length other.now.store.particles) (length other.now.links.items) tools.new }

@@ -30,6 +30,7 @@ fn describe<const L: usize, D: Described, G: Ledger>(
     requires few { length other.now.links.items ≤ 524288 }
     ensures world { (setting : Setting) → world_of (record setting { gravity = (D.seen described.now).gravity }) state.new
         ≡ told (D.seen described.now) (world_of setting other.now) }
+    ensures copies { state.new.store.copies ≡ state.old.store.copies }
     ensures cost { steps.new ≡ steps.old + 2 * length other.now.store.particles }
 {
     write_particles(&mut state.store, &other.store, described, steps);
@@ -79,6 +80,7 @@ impl<const L: usize, P: Projector<L> + Drop> Solver<L, P> {
         ensures projector { self.new.projector ≡ self.old.projector }
         ensures sound { IsSound self.new.world }
         ensures one_scene { AreOfOneScene self.old.world self.new.world }
+        ensures copies { self.new.copies ≤ self.old.copies + 1 }
         ensures cost { steps.new ≤ steps.old + 7 * length self.old.world.particles + 1 }
     {
         describe(&mut self.kept, &self.run.state, described, steps);

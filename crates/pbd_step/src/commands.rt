@@ -68,6 +68,7 @@ pub(crate) fn pin<const L: usize, G: Ledger>(
     requires sound { IsSound (world_of setting.now state.old) }
     ensures obeys { Obeys (λ s. world_of setting.now s) result (pinned_world (world_of setting.now state.old) i) state.old state.new }
     ensures same { state.new ≡ record state.old { store = state.new.store; totals = state.new.totals } }
+    ensures copies { state.new.store.copies ≡ state.old.store.copies }
     ensures cost { steps.new ≤ steps.old + 2 }
 {
     let Some(n) = number_of(&state.store, i) else {
@@ -93,6 +94,7 @@ pub(crate) fn unpin<const L: usize, G: Ledger>(
     requires lanes { L ≤ 16 }
     ensures obeys { Obeys (λ s. world_of setting.now s) result (unpinned_world (world_of setting.now state.old) i) state.old state.new }
     ensures same { state.new ≡ record state.old { store = state.new.store } }
+    ensures copies { state.new.store.copies ≡ state.old.store.copies }
     ensures cost { steps.new ≤ steps.old + 2 }
 {
     let Some(n) = number_of(&state.store, i) else {
@@ -120,6 +122,7 @@ pub(crate) fn place_held<const L: usize, G: Ledger>(
     requires lanes { L ≤ 16 }
     ensures obeys { Obeys (λ s. world_of setting.now s) result (placed_world (world_of setting.now state.old) i to) state.old state.new }
     ensures same { state.new ≡ record state.old { store = state.new.store } }
+    ensures copies { state.new.store.copies ≡ state.old.store.copies }
     ensures cost { steps.new ≤ steps.old + 2 }
 {
     let Some(n) = number_of(&state.store, i) else {

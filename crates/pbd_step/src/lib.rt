@@ -20,3 +20,4 @@ mod views;
 
 pub use saved::Saved;
 pub use solver::Solver;
+pub use views::Shown;

@@ -1,11 +1,11 @@
 //! Worlds kept beside a solver, to go back to.
-ghost use Rattle.std.specs.Prelude.{◌≡◌, ◌<◌, ◌≤◌, IfOk, length};
+ghost use Rattle.std.specs.Prelude.{◌≡◌, ◌+◌, ◌<◌, ◌≤◌, IfOk, length};
 ghost use Rattle.pbd_world.specs.World.{opened, AreOfOneScene, IsSound};
 
-use crate::Solver;
 use crate::again::{restore, take_over};
 use crate::open::open_kept;
 use crate::state::{Setting, State};
+use crate::{Shown, Solver};
 use pbd_pair::Projector;
 use pbd_world::{Link, Scene};
 use std::alloc::{AllocError, Global};
@@ -43,7 +43,7 @@ impl<const L: usize> Saved<L> {
         }
     }
 
-    /// Keeps the world of a solver of one scene.
+    /// Keeps the world of a solver of one scene. It takes over all particles once.
     pub fn keep<P: Projector<L> + Drop>(&mut self, solver: &Solver<L, P>)
         requires lanes_high { L ≤ 16 }
         requires one_scene { AreOfOneScene self.old solver.now.world }
@@ -52,6 +52,18 @@ impl<const L: usize> Saved<L> {
     {
         self.setting.gravity = solver.setting.gravity;
         take_over(&mut self.state, &solver.run.state);
+    }
+
+    /// The world, to read from.
+    pub fn shown(&self) -> Shown<'_, L>
+        requires lanes_high { L ≤ 16 }
+        ensures world { result ≡ self.now }
+        ensures sound { IsSound result }
+    {
+        Shown {
+            setting: &self.setting,
+            state: &self.state,
+        }
     }
 
     /// The links, live ones and others.
@@ -72,6 +84,7 @@ impl<const L: usize, P: Projector<L> + Drop> Solver<L, P> {
         requires one_scene { AreOfOneScene self.old.world saved.now }
         ensures world { self.new.world ≡ saved.now }
         ensures projector { self.new.projector ≡ self.old.projector }
+        ensures copies { self.new.copies ≤ self.old.copies + 1 }
         ensures sound { IsSound self.new.world }
     {
         self.setting.gravity = saved.setting.gravity;

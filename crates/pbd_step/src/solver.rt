@@ -1,4 +1,5 @@
-ghost use Rattle.std.specs.Prelude.{◌≡◌, ◌+◌, ◌-◌, ◌<◌, ◌≤◌, ◌^◌, min, length, IfOk, OnOk};
+// The solver: a world that steps and takes commands.
+ghost use Rattle.std.specs.Prelude.{◌≡◌, ◌+◌, ◌-◌, ◌<◌, ◌≤◌, ◌^◌, min, length, IfOk, MatchResult, OnOk};
 ghost use Rattle.pbd_num.specs.Vectors.{Within};
 ghost use Rattle.pbd_world.specs.Ledger.{sum_of, ledger_of};
 ghost use Rattle.pbd_world.specs.Meaning.{run_steps, pin as pinned_world, unpin as unpinned_world, place_held as placed_world, cut as cut_world, set_gravity as pulled_world};
@@ -25,8 +26,9 @@ use std::sync::ledger::Ledger;
 
 /// A world that steps and takes commands. Only opening takes memory.
 ///
-/// Clauses see it as a sound world and the projector through which its steps project. Its columns of
-/// particles, colours, contacts and the second state that a refused command goes back to are its inside.
+/// Clauses see it as a sound world, the projector through which its steps project, and how often all particles of
+/// its two states were taken over, which no count of accesses tells. Its columns of particles, colours, contacts and
+/// the second state that a refused command goes back to are its inside.
 #[derive(Drop)]
 pub struct Solver<const L: usize, P: Projector<L> + Drop> {
     pub(crate) setting: Setting,
@@ -35,12 +37,17 @@ pub struct Solver<const L: usize, P: Projector<L> + Drop> {
 }
 
 impl<const L: usize, P: Projector<L> + Drop> Model for Solver<L, P> {
+    ghost use Rattle.std.specs.Prelude.{◌+◌};
     ghost use Rattle.pbd_step.specs.Solving.{Solved};
     ghost use Rattle.pbd_step.specs.States.{world_of};
 
     ghost Value = { Solved P };
 
-    ghost view = { λ s. record { world = world_of s.setting s.run.state; projector = s.run.projector } };
+    ghost view = { λ s. record {
+      world = world_of s.setting s.run.state;
+      projector = s.run.projector;
+      copies = s.run.state.store.copies + s.kept.store.copies;
+    } };
 
     ghost use Rattle.pbd_step.specs.Solving.{IsKept};
 
@@ -54,6 +61,7 @@ impl<const L: usize, P: Projector<L> + Drop> Solver<L, P> {
         requires lanes_high { L ≤ 16 }
         ensures world { IfOk result (λ s. s.world ≡ opened scene.now) }
         ensures projector { IfOk result (λ s. s.projector ≡ projector) }
+        ensures copies { IfOk result (λ s. s.copies ≡ 0) }
         ensures sound { IfOk result (λ s. IsSound s.world) }
     {
         let parts = scene.parts();
@@ -81,6 +89,8 @@ impl<const L: usize, P: Projector<L> + Drop> Solver<L, P> {
         ensures width { P.width self.new.projector ≡ P.width self.old.projector }
         // The particles are reached at most as often as the work of the steps says, also where one is refused.
         ensures cost { steps.new ≤ steps.old + steps_work L (P.width self.old.projector) n self.old.world }
+        // All particles are taken over at most once, and once more where a step is refused.
+        ensures copies { MatchResult result (λ _. self.new.copies ≤ self.old.copies + 1) (λ _. self.new.copies ≤ self.old.copies + 2) }
     {
         let count = self.run.state.steps;
         if n < 1 || MOST_STEPS < n {
@@ -99,6 +109,7 @@ impl<const L: usize, P: Projector<L> + Drop> Solver<L, P> {
         requires lanes_high { L ≤ 16 }
         ensures commanded { Commanded result (pinned_world self.old.world i) self.old.world self.new.world }
         ensures projector { self.new.projector ≡ self.old.projector }
+        ensures copies { self.new.copies ≡ self.old.copies }
         ensures cost { steps.new ≤ steps.old + 2 }
     {
         pin(&self.setting, &mut self.run.state, i, steps)
@@ -111,6 +122,7 @@ impl<const L: usize, P: Projector<L> + Drop> Solver<L, P> {
         requires lanes_high { L ≤ 16 }
         ensures commanded { Commanded result (unpinned_world self.old.world i) self.old.world self.new.world }
         ensures projector { self.new.projector ≡ self.old.projector }
+        ensures copies { self.new.copies ≡ self.old.copies }
         ensures cost { steps.new ≤ steps.old + 2 }
     {
         unpin(&self.setting, &mut self.run.state, i, steps)
@@ -128,6 +140,7 @@ impl<const L: usize, P: Projector<L> + Drop> Solver<L, P> {
         requires lanes_high { L ≤ 16 }
         ensures commanded { Commanded result (placed_world self.old.world i to) self.old.world self.new.world }
         ensures projector { self.new.projector ≡ self.old.projector }
+        ensures copies { self.new.copies ≡ self.old.copies }
         ensures cost { steps.new ≤ steps.old + 2 }
     {
         place_held(&self.setting, &mut self.run.state, i, to, steps)
@@ -140,6 +153,7 @@ impl<const L: usize, P: Projector<L> + Drop> Solver<L, P> {
         requires lanes_high { L ≤ 16 }
         ensures commanded { Commanded result (cut_world self.old.world l) self.old.world self.new.world }
         ensures projector { self.new.projector ≡ self.old.projector }
+        ensures copies { self.new.copies ≡ self.old.copies }
     {
         cut(&self.setting, &mut self.run.state, &mut self.run.colours, l)
     }
@@ -150,6 +164,7 @@ impl<const L: usize, P: Projector<L> + Drop> Solver<L, P> {
         requires lanes_high { L ≤ 16 }
         ensures commanded { Commanded result (pulled_world self.old.world g) self.old.world self.new.world }
         ensures projector { self.new.projector ≡ self.old.projector }
+        ensures copies { self.new.copies ≡ self.old.copies }
     {
         set_gravity(&mut self.setting, &self.run.state, g)
     }
@@ -161,6 +176,7 @@ impl<const L: usize, P: Projector<L> + Drop> Solver<L, P> {
         requires one_scene { AreOfOneScene self.old.world other.now.world }
         ensures world { self.new.world ≡ other.now.world }
         ensures projector { self.new.projector ≡ self.old.projector }
+        ensures copies { self.new.copies ≤ self.old.copies + 1 }
         ensures sound { IsSound self.new.world }
     {
         self.setting.gravity = other.setting.gravity;

@@ -157,6 +157,9 @@ pub(crate) fn run_whole<const L: usize, P: Projector<L> + Drop, G: Ledger>(
     ensures obeys { Obeys (λ w. w) result (steps_of n (world_of setting.now run.old.state))
         (world_of setting.now run.old.state) (world_of setting.now run.new.state) }
     ensures kept { IsKept setting.now run.new.state kept.new run.new.colours run.new.tools }
+    ensures copies { MatchResult result
+        (λ _. run.new.state.store.copies + kept.new.store.copies ≤ run.old.state.store.copies + kept.old.store.copies + 1)
+        (λ _. run.new.state.store.copies + kept.new.store.copies ≤ run.old.state.store.copies + kept.old.store.copies + 2) }
     ensures handed { OnOk result
         (P.count run.new.projector ≡ min (P.count run.old.projector + bonds_over n (world_of setting.now run.old.state)) (2 ^ 64 - 1)) }
     ensures not_fallen { P.count run.old.projector ≤ P.count run.new.projector }

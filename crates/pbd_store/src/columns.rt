@@ -1,3 +1,4 @@
+// The particles as columns.
 ghost use Rattle.std.specs.Prelude.{◌≡◌, ℕ, ◌<◌, ◌≤◌, ◌^◌, ◌+◌, ◌++◌, ◌&&◌, pos, false, length, map, replicate, slice_index, slice_index_or, slice_set, IfOk, IsTrue, vec_len, if◌then◌else◌, nat_lt};
 ghost use Rattle.pbd_num.specs.Rows.{vector_of};
 ghost use Rattle.pbd_num.specs.Vectors.{Within, plus, zero_vector};

@@ -1,3 +1,4 @@
+// Places and particles side by side, axis by axis.
 ghost use Rattle.std.specs.Prelude.{◌≡◌, ℕ, ◌<◌, ◌≤◌, slice_index_or};
 ghost use Rattle.pbd_num.specs.Vectors.{zero_vector};
 ghost use Rattle.pbd_store.specs.Blocks.{place_of};

@@ -233,6 +233,7 @@ impl<const L: usize> Store<L> {
         ensures second { (j : ℕ) → j < length pairs.entry.first.now
             → IsSized result (plus (particle_at self.old.particles (index_at pairs.entry.second.now j)).at (ways_in forth.now j)) }
         ensures limit { self.new.limit ≡ self.old.limit }
+        ensures copies { self.new.copies ≡ self.old.copies }
         ensures fixed { fixed_parts self.new.particles ≡ fixed_parts self.old.particles }
     {
         let mut sizes = Row::ZERO;
@@ -297,6 +298,7 @@ impl<const L: usize> Store<L> {
             second (plus (particle_at self.old.particles second).at moves.second)
             else self.old.particles) }
         ensures limit { self.new.limit ≡ self.old.limit }
+        ensures copies { self.new.copies ≡ self.old.copies }
     {
         let ends = self.ends_of(first, second);
         let goals = moved(ends, moves);
@@ -346,6 +348,7 @@ impl<const L: usize> Store<L> {
             (λ k. LeavesAt k (length pairs.entry.first.now) self.old.limit pairs.entry.first.now pairs.entry.second.now
             (opposites_in back.now) (ways_in forth.now) self.old.particles) }
         ensures limit { self.new.limit ≡ self.old.limit }
+        ensures copies { self.new.copies ≡ self.old.copies }
         ensures fixed { fixed_parts self.new.particles ≡ fixed_parts self.old.particles }
         ensures cost { steps.new ≡ steps.old + 2 * blocks_of (length pairs.entry.first.now) L }
     {
@@ -376,6 +379,7 @@ impl<const L: usize> Store<L> {
             (λ k. LeavesAt k (length pairs.entry.first.now) self.old.limit pairs.entry.first.now pairs.entry.second.now
             (first_moves moves.now) (second_moves moves.now) self.old.particles) }
         ensures limit { self.new.limit ≡ self.old.limit }
+        ensures copies { self.new.copies ≡ self.old.copies }
         ensures fixed { fixed_parts self.new.particles ≡ fixed_parts self.old.particles }
         ensures cost { steps.new ≡ steps.old + 2 * blocks_of (length pairs.entry.first.now) L }
     {

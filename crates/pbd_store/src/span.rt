@@ -1,3 +1,4 @@
+// Which particles stand in a block.
 ghost use Rattle.std.specs.Prelude.{◌≡◌, ◌<◌, ◌≤◌, ◌+◌, ◌*◌};
 ghost use Rattle.pbd_store.specs.Blocks.{blocks_of};
 

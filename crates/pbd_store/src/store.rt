@@ -1,4 +1,5 @@
-ghost use Rattle.std.specs.Prelude.{◌≡◌, ℕ, ◌<◌, ◌≤◌, ◌^◌, ◌+◌, ◌*◌, pos, ◌≤ℤ◌, length, slice_set, IfOk, IsTrue, vec_len, unsigned_abs};
+// The particles of a world, with the limit of their places, and what each access costs.
+ghost use Rattle.std.specs.Prelude.{◌≡◌, ℕ, ◌<◌, ◌≤◌, ◌^◌, ◌+◌, ◌-◌, ◌*◌, min, pos, ◌≤ℤ◌, length, slice_set, IfOk, IsTrue, vec_len, unsigned_abs};
 ghost use Rattle.pbd_lanes.specs.Lane.{is_set};
 ghost use Rattle.pbd_world.specs.Particles.{particle_at, placed, effective_weight};
 ghost use Rattle.pbd_world.specs.Valid.{is_limit};
@@ -28,11 +29,13 @@ fn start_of(block: u32, lanes: usize, len: u32) -> usize
 }
 
 /// The particles, with the limit within which their places are to stay.
-/// The calls that reach particles each raise the count of accesses by one.
+/// The calls that reach particles each raise the count of accesses by one. What takes over all particles at once is no
+/// access: the store counts it itself.
 #[derive(Drop)]
 pub struct Store<const L: usize> {
     pub(crate) columns: Columns<L>,
     pub(crate) limit: i64,
+    copies: u64,
 }
 
 impl<const L: usize> Model for Store<L> {
@@ -42,7 +45,7 @@ impl<const L: usize> Model for Store<L> {
 
     ghost Value = { Stored };
 
-    ghost view = { λ s. record { particles = s.columns; limit = s.limit } };
+    ghost view = { λ s. record { particles = s.columns; limit = s.limit; copies = s.copies } };
 
     ghost invariant = { λ s. IsTrue (is_limit s.limit) };
 }
@@ -54,9 +57,14 @@ impl<const L: usize> Store<L> {
         requires limit { IsTrue (is_limit limit) }
         ensures particles { IfOk result (λ s. s.particles ≡ particles.now) }
         ensures limit { IfOk result (λ s. s.limit ≡ limit) }
+        ensures copies { IfOk result (λ s. s.copies ≡ 0) }
     {
         let columns = Columns::open(alloc, particles)?;
-        Ok(Store { columns, limit })
+        Ok(Store {
+            columns,
+            limit,
+            copies: 0,
+        })
     }
 
     /// 2^28 or 2^29, in units of 1/65,536 metre.
@@ -67,6 +75,13 @@ impl<const L: usize> Store<L> {
         ensures high { unsigned_abs result ≤ 2 ^ 29 }
     {
         self.limit
+    }
+
+    /// How often all its particles were taken over from another store since it was opened, up to 2^64 - 1.
+    pub fn copies(&self) -> u64
+        ensures { result ≡ self.now.copies }
+    {
+        self.copies
     }
 
     /// How many particles there are, at most 65,536.
@@ -114,6 +129,7 @@ impl<const L: usize> Store<L> {
         requires { i < length self.old.particles }
         ensures particles { self.new.particles ≡ placed self.old.particles i place }
         ensures limit { self.new.limit ≡ self.old.limit }
+        ensures copies { self.new.copies ≡ self.old.copies }
         ensures cost { steps.new ≡ steps.old + 1 }
     {
         steps.tick();
@@ -125,6 +141,7 @@ impl<const L: usize> Store<L> {
         requires { i < length self.old.particles }
         ensures particles { self.new.particles ≡ slice_set self.old.particles i particle }
         ensures limit { self.new.limit ≡ self.old.limit }
+        ensures copies { self.new.copies ≡ self.old.copies }
         ensures cost { steps.new ≡ steps.old + 1 }
     {
         steps.tick();
@@ -132,12 +149,15 @@ impl<const L: usize> Store<L> {
     }
 
     /// Takes over the particles of another store of the same length and limit.
+    /// That is no access to them: the store counts it in its copies, up to 2^64 - 1.
     pub fn copy_from(&mut self, other: &Store<L>)
         requires len { length self.old.particles ≡ length other.now.particles }
         requires limit { self.old.limit ≡ other.now.limit }
         ensures particles { self.new.particles ≡ other.now.particles }
         ensures limit { self.new.limit ≡ self.old.limit }
+        ensures copies { self.new.copies ≡ min (self.old.copies + 1) (2 ^ 64 - 1) }
     {
+        self.copies = self.copies.saturating_add(1);
         self.columns.copy_from(&other.columns);
     }
 
@@ -184,6 +204,7 @@ impl<const L: usize> Store<L> {
             (place_of values.now.before.x values.now.before.y values.now.before.z)
             self.old.particles self.new.particles }
         ensures limit { self.new.limit ≡ self.old.limit }
+        ensures copies { self.new.copies ≡ self.old.copies }
         ensures cost { steps.new ≡ steps.old + 1 }
     {
         steps.tick();
@@ -224,6 +245,7 @@ impl<const L: usize> Store<L> {
         requires apart { NamesApart L indices.now mask.now }
         ensures particles { Scattered L indices.now mask.now values.now.x values.now.y values.now.z self.old.particles self.new.particles }
         ensures limit { self.new.limit ≡ self.old.limit }
+        ensures copies { self.new.copies ≡ self.old.copies }
         ensures cost { steps.new ≡ steps.old + 1 }
     {
         steps.tick();

@@ -111,7 +111,7 @@ fn copied<G: Ledger, const L: usize>(
         return None;
     }
     copy.copy_from(store);
-    if copy.len() != 5 {
+    if copy.len() != 5 || copy.copies() != 1 || store.copies() != 0 {
         return None;
     }
     Some((copy.limit(), places_on_x(copy, steps)))

@@ -76,6 +76,7 @@ pub fn place<const L: usize, G: Ledger>(
     requires { IsTrue (are_valid_tracks store.old.limit (length store.old.particles) tracks.now) }
     ensures particles { Attached tracks.now t store.old.particles store.new.particles }
     ensures limit { store.new.limit ≡ store.old.limit }
+    ensures copies { store.new.copies ≡ store.old.copies }
     ensures cost { steps.new ≡ steps.old + length tracks.now }
 {
     // By it each track is valid with one of the two limits.

@@ -7,7 +7,7 @@ use Rattle.pbd_track.proofs.Following.{Following, following_none, following_next
 use Rattle.pbd_track.proofs.place.Goals as goal
 
 pub loop-track-init : goal.loop-track-init
-loop-track-init g c = record { following = following_none c.args.tracks.now c.args.t c.args.store.now.limit c.args.store.now.particles c.requires; limit = refl; cost = omega arith }
+loop-track-init g c = record { following = following_none c.args.tracks.now c.args.t c.args.store.now.limit c.args.store.now.particles c.requires; limit = refl; copies = refl; cost = omega arith }
 
 pub track_at-place-requires : goal.track_at-place-requires
 track_at-place-requires g c =
@@ -32,6 +32,7 @@ loop-track-preserved g c =
     record {
       following = subst (λ (ps : List Particle). Following (drop (c.loop-track.track-index + 1) c.args.tracks.now) c.args.tracks.now c.args.t c.args.store.now.limit c.args.store.now.particles ps) (sym is) (following_more c.track-item.result _ _ _ _ _ _ next);
       limit = c.put.ensures.limit ∙ c.loop-track.invariant.limit;
+      copies = c.put.ensures.copies ∙ c.loop-track.invariant.copies;
       cost = omega (arith, c.put.ensures.cost, c.loop-track.invariant.cost);
     }
 
@@ -39,5 +40,6 @@ pub returns : goal.returns
 returns g c = record {
   particles = following_end c.args.tracks.now c.loop-track.track-index c.args.t c.args.store.now.limit c.args.store.now.particles c.loop-track.store.particles c.loop-track-test.false c.loop-track.invariant.following;
   limit = c.loop-track.invariant.limit;
+  copies = c.loop-track.invariant.copies;
   cost = omega (arith, c.loop-track.invariant.cost);
 }

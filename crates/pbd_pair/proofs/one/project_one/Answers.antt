@@ -69,6 +69,9 @@ returns-in-Moves-clause-room g c = c.book.ensures.room
 pub returns-in-Moves-clause-limit : goal.returns-in-Moves-clause-limit
 returns-in-Moves-clause-limit g c = c.put-in-Moves.ensures.limit ∙ c.put.ensures.limit
 
+pub returns-in-Moves-clause-copies : goal.returns-in-Moves-clause-copies
+returns-in-Moves-clause-copies g c = c.put-in-Moves.ensures.copies ∙ c.put.ensures.copies
+
 pub correct-requires-clause-limit : goal.correct-requires-clause-limit
 correct-requires-clause-limit g c =
     let f : FitsSigned w64 c.limit_of-limit.result = search rules in

@@ -36,6 +36,7 @@ loop-event-preserved g c =
       notes = did.notes ∙ inv.notes;
       sound = subst (λ (l : ℤ). AreSound l c.happen.new.notes) inv.limit did.sound;
       limit = did.limit ∙ inv.limit;
+      copies = did.copies ∙ inv.copies;
       fixed = did.fixed ∙ inv.fixed;
       cost = omega (arith, did.cost, inv.cost, counted);
     }

@@ -18,6 +18,7 @@ invariant-loop-event g l =
       notes : length l.notes ≡ length l.initial.notes;
       sound : AreSound l.initial.store.limit l.notes;
       limit : l.store.limit ≡ l.initial.store.limit;
+      copies : l.store.copies ≡ l.initial.store.copies;
       fixed : fixed_parts l.store.particles ≡ fixed_parts l.initial.store.particles;
       cost : l.steps ≤ l.initial.steps + sum_by accesses (take l.event-index l.events);
     }

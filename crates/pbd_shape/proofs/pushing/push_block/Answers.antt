@@ -114,3 +114,6 @@ returns-in-Err-clause-flags g c = c.push_lanes.ensures.flags
 
 pub returns-in-Ok-clause-limit : goal.returns-in-Ok-clause-limit
 returns-in-Ok-clause-limit g c = c.save.ensures.limit
+
+pub returns-in-Ok-clause-copies : goal.returns-in-Ok-clause-copies
+returns-in-Ok-clause-copies g c = c.save.ensures.copies

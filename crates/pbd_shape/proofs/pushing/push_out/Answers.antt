@@ -21,6 +21,7 @@ loop-block-init g c = record {
   rest = ap (λ (m : ℕ). pushed_from c.args.store.now.limit c.args.planes.now c.args.spheres.now m (record { motion = motion_of c.args.store.now c.args.totals.now; touched = c.args.touched.now })) (none g.row.L)
       ∙ pushed_begins c.args.store.now.limit c.args.planes.now c.args.spheres.now (record { motion = motion_of c.args.store.now c.args.totals.now; touched = c.args.touched.now });
   limit = refl;
+  copies = refl;
   fixed = refl;
   flags = refl;
   inside = c.requires.inside;
@@ -67,6 +68,7 @@ loop-block-preserved g c =
     record {
       rest = ap (λ (m : ℕ). pushed_from limit planes spheres m then) (next_start c.loop-block.block g.row.L) ∙ did ∙ inv.rest;
       limit = e.limit ∙ inv.limit;
+      copies = e.copies ∙ inv.copies;
       fixed = e.fixed ∙ inv.fixed;
       flags = e.flags ∙ inv.flags;
       inside = subst (λ (l : ℤ). AreInside l c.push_block.new.store.particles) inv.limit e.inside;
@@ -84,6 +86,7 @@ returns-in-Err g c =
     record {
       outcome = sym inv.rest ∙ out;
       limit = e.limit ∙ inv.limit;
+      copies = e.copies ∙ inv.copies;
       fixed = e.fixed ∙ inv.fixed;
       flags = e.flags ∙ inv.flags;
       inside = tt;
@@ -102,6 +105,7 @@ returns g c =
     record {
       outcome = sym inv.rest ∙ pushed_all c.args.store.now.limit c.args.planes.now c.args.spheres.now start now (omega (arith, len, whole)) (omega (arith, inv.flags, c.requires.flags, whole));
       limit = inv.limit;
+      copies = inv.copies;
       fixed = inv.fixed;
       flags = inv.flags;
       inside = inv.inside;

@@ -28,6 +28,7 @@ loop-block-init g c =
     record {
       rest = simp to_z-of_z (ap (λ (m : ℕ). rubbed_from c.args.friction m s) (none g.row.L) ∙ rubbed_begins c.args.friction s);
       limit = refl;
+      copies = refl;
       settled = refl;
       within = c.requires.within;
       room = λ n h. room_at _ (omega arith) h;
@@ -75,6 +76,7 @@ loop-block-preserved g c =
     record {
       rest = simp to_z-of_z (ap (λ (m : ℕ). rubbed_from c.args.friction m then) (next_start c.loop-block.block g.row.L) ∙ outcome ∙ rest);
       limit = e.limit ∙ inv.limit;
+      copies = e.copies ∙ inv.copies;
       settled = e.settled ∙ inv.settled;
       within = subst (λ (l : ℤ). AreWithin l c.rub_block.new.store.particles) inv.limit e.within;
       room = λ n h. room_at _ (room_more n start _ (length c.args.store.now.particles) g.row.L begins (next_start c.loop-block.block g.row.L)) (subst (λ (m : ℕ). HaveRoom (n + min start (length c.args.store.now.particles) * 2 ^ 31 + (min (start + g.row.L) m - start) * 2 ^ 31) (ledger_of c.rub_block.new.totals)) len (e.room _ (inv.room n h)));
@@ -95,6 +97,7 @@ returns g c =
     record {
       outcome = sym (rubbed_all c.args.friction start now (omega (arith, len, whole))) ∙ rest;
       limit = inv.limit;
+      copies = inv.copies;
       settled = inv.settled;
       within = inv.within;
       room = λ n h. room_at _ (room_whole n start (length c.args.store.now.particles)) (inv.room n h);

@@ -10,6 +10,7 @@ abbrev pub invariant-loop-block : goal.invariant-loop-block
 invariant-loop-block g l = record {
   rest : rubbed_from l.fn.friction (l.block * g.row.L) (record { motion = motion_of l.store l.totals; touched = l.touched }) ≡ rub l.fn.friction (record { motion = motion_of l.initial.store l.initial.totals; touched = l.touched });
   limit : l.store.limit ≡ l.initial.store.limit;
+  copies : l.store.copies ≡ l.initial.store.copies;
   settled : settled_parts l.store.particles ≡ settled_parts l.initial.store.particles;
   within : AreWithin l.initial.store.limit l.store.particles;
   room : (n : ℕ) → HaveRoom n (ledger_of l.initial.totals) → HaveRoom (n + min (l.block * g.row.L) (length l.initial.store.particles) * 2 ^ 31) (ledger_of l.totals);

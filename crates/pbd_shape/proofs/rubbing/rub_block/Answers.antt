@@ -51,6 +51,7 @@ returns g c =
     record {
       outcome = outcome qs saved;
       limit = c.save.ensures.limit;
+      copies = c.save.ensures.copies;
       settled = same_parts settled qs ps saved.whole (saved_each start filled (at_of g.row.L block ps) (place_in places) ps (λ i p. settled p ≡ settled (particle_at ps i)) g.row.L qs saved (λ j h k. refl) (λ i h. refl));
       within = record {
         at = λ i h. saved_each start filled (at_of g.row.L block ps) (place_in places) ps (λ i p. Within (unsigned_abs limit) p.at) g.row.L qs saved (λ j h k. c.requires.within.at (start + j) k) c.requires.within.at i (omega (arith, h, saved.whole));

@@ -18,6 +18,7 @@ returns-in-Err-clause-done g c =
       outcome = ap (λ (xs : List ℕ). projected c.args.store.now.limit (bond_of c.args.list.now.bonds) xs start) (both_parts pairs live)
           ∙ stops _ (parallel_from pairs live 0) (batch_of pairs live 63) start c.in-Err.left.element c.in-Err.ensures.done.outcome;
       limit = c.project_colours.ensures.done.limit;
+      copies = c.project_colours.ensures.done.copies;
       fixed = c.project_colours.ensures.done.fixed;
       inside = tt;
       room = tt;
@@ -32,6 +33,7 @@ returns-in-Err-project_serial-clause-done g c =
     record {
       outcome = then_part (bond_of c.args.list.now.bonds) (parallel_from pairs live 0) (batch_of pairs live 63) (motion_of c.args.store.now c.args.totals.now) (motion_of c.project_colours.new.store c.project_colours.new.totals) (both_parts pairs live) first.limit c.in_default.ensures.done.outcome c.in-Err-project_serial.ensures.done.outcome;
       limit = second.limit ∙ first.limit;
+      copies = second.copies ∙ first.copies;
       fixed = second.fixed ∙ first.fixed;
       inside = tt;
       room = tt;
@@ -46,6 +48,7 @@ returns-clause-done g c =
     record {
       outcome = then_part (bond_of c.args.list.now.bonds) (parallel_from pairs live 0) (batch_of pairs live 63) (motion_of c.args.store.now c.args.totals.now) (motion_of c.project_colours.new.store c.project_colours.new.totals) (both_parts pairs live) first.limit first.outcome second.outcome;
       limit = second.limit ∙ first.limit;
+      copies = second.copies ∙ first.copies;
       fixed = second.fixed ∙ first.fixed;
       inside = subst (λ (k : ℤ). AreInside k c.project_serial.new.store.particles) first.limit second.inside;
       room = λ n h. room_at _ (omega (arith, parts_length pairs live, c.requires.can.few)) (second.room _ (first.room n h));

@@ -9,4 +9,4 @@ project-requires g c =
 pub returns-clause-done : goal.returns-clause-done
 returns-clause-done g c =
     let told = c.project.ensures in
-    record { outcome = told.outcome; limit = told.limit; fixed = told.fixed; inside = told.inside; room = told.room }
+    record { outcome = told.outcome; limit = told.limit; copies = told.copies; fixed = told.fixed; inside = told.inside; room = told.room }

@@ -19,6 +19,7 @@ returns-in-Err-clause-done g c =
     record {
       outcome = stops_so_far _ _ parts inv.limit inv.so_far c.in-Err.left.element c.in-Err.ensures.done.outcome;
       limit = c.project_batch.ensures.done.limit ∙ inv.limit;
+      copies = c.project_batch.ensures.done.copies ∙ inv.copies;
       fixed = c.project_batch.ensures.done.fixed ∙ inv.so_far.fixed;
       inside = tt;
       room = tt;
@@ -32,7 +33,7 @@ returns-in-Err-clause-cost g c =
     omega (arith, inv.cost, c.project_batch.ensures.cost, colour_paid pairs live c.loop-c.c c.batch.ensures.value inv.width, colours_left (g.P.Projector.width c.args.projector.now) pairs live c.loop-c.c (omega arith))
 
 pub loop-c-init : goal.loop-c-init
-loop-c-init g c = record { so_far = none_so_far _ _ _ _ _ c.requires.can.movable.inside c.requires.counted; limit = refl; width = refl; cost = omega arith }
+loop-c-init g c = record { so_far = none_so_far _ _ _ _ _ c.requires.can.movable.inside c.requires.counted; limit = refl; copies = refl; width = refl; cost = omega arith }
 
 pub loop-c-preserved : goal.loop-c-preserved
 loop-c-preserved g c =
@@ -43,6 +44,7 @@ loop-c-preserved g c =
     record {
       so_far = more_so_far c.batch.result.now (parallel_from pairs live (c.loop-c.c + 1)) parts inv.limit inv.so_far (motion_of c.project_batch.new.store c.project_batch.new.totals) _ c.in_default.ensures.done.outcome c.project_batch.ensures.done.fixed c.in_default.ensures.done.inside c.in_default.ensures.done.room c.project_batch.ensures.handed;
       limit = c.project_batch.ensures.done.limit ∙ inv.limit;
+      copies = c.project_batch.ensures.done.copies ∙ inv.copies;
       width = c.project_batch.ensures.width ∙ inv.width;
       cost = omega (arith, inv.cost, c.project_batch.ensures.cost, colour_paid pairs live c.loop-c.c c.batch.ensures.value inv.width, colours_left (g.P.Projector.width c.args.projector.now) pairs live c.loop-c.c (omega arith));
     }
@@ -51,7 +53,7 @@ pub returns-clause-done : goal.returns-clause-done
 returns-clause-done g c =
     let so_far = c.loop-c.invariant.so_far in
     let whole = whole_so_far so_far (parallel_none c.args.list.now.colours.now.pairs c.args.list.now.colours.now.live c.loop-c.c (omega arith)) in
-    record { outcome = whole.same; limit = c.loop-c.invariant.limit; fixed = so_far.fixed; inside = so_far.inside; room = whole.grows }
+    record { outcome = whole.same; limit = c.loop-c.invariant.limit; copies = c.loop-c.invariant.copies; fixed = so_far.fixed; inside = so_far.inside; room = whole.grows }
 
 pub returns-clause-handed : goal.returns-clause-handed
 returns-clause-handed g c = (whole_so_far c.loop-c.invariant.so_far (parallel_none c.args.list.now.colours.now.pairs c.args.list.now.colours.now.live c.loop-c.c (omega arith))).count

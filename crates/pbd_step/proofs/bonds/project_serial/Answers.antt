@@ -14,6 +14,7 @@ loop-n-init g c =
       so_far = so;
       can = single_goes c.args.store.now c.args.totals.now c.requires.can refl so (omega (arith, parts_length c.args.list.now.colours.now.pairs c.args.list.now.colours.now.live, c.requires.can.few));
       limit = refl;
+      copies = refl;
       width = refl;
       cost = omega arith;
     }
@@ -31,6 +32,7 @@ loop-n-preserved g c =
       so_far = so;
       can = single_goes c.project_batch.new.store c.project_batch.new.totals c.requires.can limit so (omega (arith, parts_length c.args.list.now.colours.now.pairs c.args.list.now.colours.now.live, c.requires.can.few));
       limit = limit;
+      copies = c.project_batch.ensures.done.copies ∙ inv.copies;
       width = c.project_batch.ensures.width ∙ inv.width;
       cost = omega (arith, inv.cost, c.project_batch.ensures.cost, one_paid (g.P.Projector.width c.loop-n.projector) numbers c.loop-n.n-index within);
     }
@@ -45,6 +47,7 @@ returns-in-Err-clause-done g c =
     record {
       outcome = stops_so_far (get_or c.serial-n-items.result.now c.loop-n.n-index 0 ∷ []) (drop (c.loop-n.n-index + 1) numbers) parts inv.limit inv.so_far c.in-Err.left.element c.in-Err.ensures.done.outcome;
       limit = c.project_batch.ensures.done.limit ∙ inv.limit;
+      copies = c.project_batch.ensures.done.copies ∙ inv.copies;
       fixed = c.project_batch.ensures.done.fixed ∙ inv.so_far.fixed;
       inside = tt;
       room = tt;
@@ -54,7 +57,7 @@ pub returns-clause-done : goal.returns-clause-done
 returns-clause-done g c =
     let so_far = c.loop-n.invariant.so_far in
     let whole = whole_so_far so_far (drop_of_length-le (batch_of c.args.list.now.colours.now.pairs c.args.list.now.colours.now.live 63) (rw (sym c.serial-n-items.ensures.value) (omega arith))) in
-    record { outcome = whole.same; limit = c.loop-n.invariant.limit; fixed = so_far.fixed; inside = so_far.inside; room = whole.grows }
+    record { outcome = whole.same; limit = c.loop-n.invariant.limit; copies = c.loop-n.invariant.copies; fixed = so_far.fixed; inside = so_far.inside; room = whole.grows }
 
 pub returns-clause-handed : goal.returns-clause-handed
 returns-clause-handed g c = (whole_so_far c.loop-n.invariant.so_far (drop_of_length-le (batch_of c.args.list.now.colours.now.pairs c.args.list.now.colours.now.live 63) (rw (sym c.serial-n-items.ensures.value) (omega arith)))).count

@@ -12,6 +12,7 @@ invariant-loop-n g l = record {
       (motion_of l.initial.store l.initial.totals) (motion_of l.store l.totals) (g.P.Projector.count l.initial.projector) (g.P.Projector.count l.projector);
   can : (k : ℕ) → k < length l.list.colours.now.pairs → CanProjectBatch l.list.bonds (k ∷ []) l.store l.totals;
   limit : l.store.limit ≡ l.initial.store.limit;
+  copies : l.store.copies ≡ l.initial.store.copies;
   width : g.P.Projector.width l.projector ≡ g.P.Projector.width l.initial.projector;
   cost : l.steps + 4 * length (drop l.n-index (batch_of l.list.colours.now.pairs l.list.colours.now.live 63)) ≤ l.initial.steps + 4 * length (batch_of l.list.colours.now.pairs l.list.colours.now.live 63);
 }

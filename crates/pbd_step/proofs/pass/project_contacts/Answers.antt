@@ -47,7 +47,7 @@ returns-clause-done g c =
           (λ _. projected limit (contact_bond (same i) (value i)) (order (pairs i) (live i)) start ≡ Ok now)
           (λ left. projected limit (contact_bond (same i) (value i)) (order (pairs i) (live i)) start ≡ Err left.element))
           done.outcome;
-      stays = part_in_pass run (record run.state { store = c.project_all.new.store; totals = c.project_all.new.totals }) run.tools.touched c.project_all.new.projector refl done.limit done.fixed refl c.project_all.ensures.not_fallen c.project_all.ensures.width;
+      stays = part_in_pass run (record run.state { store = c.project_all.new.store; totals = c.project_all.new.totals }) run.tools.touched c.project_all.new.projector refl done.limit done.copies done.fixed refl c.project_all.ensures.not_fallen c.project_all.ensures.width;
       tools = refl;
       movable = ok_both c.project_all.result (still_movable (2 ^ 60) done.limit done.fixed) done.inside done.room;
     }

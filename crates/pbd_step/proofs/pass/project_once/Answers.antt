@@ -123,14 +123,14 @@ returns-in-Err-push_out-clause-stays g c =
     let two = c.project_contacts.new.run in
     let state = record two.state { store = c.push_out.new.store; totals = c.push_out.new.totals } in
     both_in_pass c.args.run.now two (record two { state = state; tools = record two.tools { touched = c.push_out.new.touched } }) (both_in_pass c.args.run.now c.project_links.new.run two c.project_links.ensures.done.stays c.project_contacts.ensures.done.stays)
-    (part_in_pass two state c.push_out.new.touched two.projector refl c.push_out.ensures.limit c.push_out.ensures.fixed c.push_out.ensures.flags (omega arith) refl)
+    (part_in_pass two state c.push_out.new.touched two.projector refl c.push_out.ensures.limit c.push_out.ensures.copies c.push_out.ensures.fixed c.push_out.ensures.flags (omega arith) refl)
 
 pub returns-clause-stays : goal.returns-clause-stays
 returns-clause-stays g c =
     let two = c.project_contacts.new.run in
     let state = record two.state { store = c.push_out.new.store; totals = c.push_out.new.totals } in
     both_in_pass c.args.run.now two (record two { state = state; tools = record two.tools { touched = c.push_out.new.touched } }) (both_in_pass c.args.run.now c.project_links.new.run two c.project_links.ensures.done.stays c.project_contacts.ensures.done.stays)
-    (part_in_pass two state c.push_out.new.touched two.projector refl c.push_out.ensures.limit c.push_out.ensures.fixed c.push_out.ensures.flags (omega arith) refl)
+    (part_in_pass two state c.push_out.new.touched two.projector refl c.push_out.ensures.limit c.push_out.ensures.copies c.push_out.ensures.fixed c.push_out.ensures.flags (omega arith) refl)
 
 pub returns-clause-under_way : goal.returns-clause-under_way
 returns-clause-under_way g c = λ n u.

@@ -23,7 +23,7 @@ loop-block-init g c =
     let w = world_of setting state in
     record {
       rest = ap (λ (m : ℕ). predicted_from (bare_world setting state.store.limit) m (now_of state)) (none g.row.L) ∙ predicted_begins setting state;
-      moved = record { same = refl; limit = refl; whole = refl };
+      moved = record { same = refl; limit = refl; copies = refl; whole = refl };
       within = formed_within w c.requires.sound.well_formed;
       room = room_at _ (omega arith) (sound_room w c.requires.sound);
       cost = omega arith;

@@ -86,6 +86,7 @@ returns-clause-stays g c =
     let live = ap (λ (k : Coloured). k.live) c.tear.ensures.colours in
     record {
       alike = record { particles = still_many c.rub.new.store.particles c.args.run.now.state.store.particles c.rub.ensures.settled; limit = c.rub.ensures.limit; links = c.tear.ensures.links.whole };
+      copies = c.rub.ensures.copies;
       pairs = c.tear.ensures.colours ∙ (λ k. record c.args.run.now.colours { live = sym live k });
       space = λ n m h. record { found = h.found; touched = h.touched; pairs = h.pairs; numbers = omega (arith, room, h.numbers) };
       not_fallen = omega arith;

@@ -67,3 +67,9 @@ returns-clause-not_fallen g c = c.take_steps.ensures.stays.not_fallen
 
 pub returns-clause-width : goal.returns-clause-width
 returns-clause-width g c = c.take_steps.ensures.stays.width
+
+pub returns-in-Err-clause-copies : goal.returns-in-Err-clause-copies
+returns-in-Err-clause-copies g c = omega (arith, c.take_over.ensures.copies, c.take_steps.ensures.stays.copies, c.restore.ensures.copies)
+
+pub returns-clause-copies : goal.returns-clause-copies
+returns-clause-copies g c = omega (arith, c.take_over.ensures.copies, c.take_steps.ensures.stays.copies)

@@ -23,6 +23,7 @@ steps_on-init g c = record {
   shorter = omega arith;
   same = refl;
   limit = refl;
+  copies = refl;
   fixed = refl;
   cost = omega arith;
 }
@@ -37,6 +38,9 @@ returns-in-Err-clause-outcome g c =
 
 pub returns-in-Err-clause-limit : goal.returns-in-Err-clause-limit
 returns-in-Err-clause-limit g c = c.in-Err.ensures.limit ∙ c.steps_on.invariant.limit
+
+pub returns-in-Err-clause-copies : goal.returns-in-Err-clause-copies
+returns-in-Err-clause-copies g c = c.in-Err.ensures.copies ∙ c.steps_on.invariant.copies
 
 pub returns-in-Err-clause-fixed : goal.returns-in-Err-clause-fixed
 returns-in-Err-clause-fixed g c = c.in-Err.ensures.fixed ∙ c.steps_on.invariant.fixed
@@ -71,6 +75,7 @@ steps_on-preserved g c =
       shorter = omega (arith, inv.shorter, left);
       same = (λ i. projected (sym same_limit i) bond (back i) then) ∙ block_done limit bond k rest m then (front ∙ c.in_default.ensures.outcome) ∙ inv.same;
       limit = c.project.ensures.limit ∙ inv.limit;
+      copies = c.project.ensures.copies ∙ inv.copies;
       fixed = fixed ∙ inv.fixed;
       cost = rw left (omega (arith, fewer, inv.cost, c.project.ensures.cost, ap (λ (x : ℕ). blocks_of x g.row.L) c.split_at.ensures.front_len));
     }
@@ -128,6 +133,9 @@ returns-clause-outcome g c =
 
 pub returns-clause-limit : goal.returns-clause-limit
 returns-clause-limit g c = c.steps_on.invariant.limit
+
+pub returns-clause-copies : goal.returns-clause-copies
+returns-clause-copies g c = c.steps_on.invariant.copies
 
 pub returns-clause-fixed : goal.returns-clause-fixed
 returns-clause-fixed g c = c.steps_on.invariant.fixed

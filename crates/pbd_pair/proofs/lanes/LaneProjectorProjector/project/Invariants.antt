@@ -19,6 +19,7 @@ invariant-steps_on g l = record {
   same : projected l.store.limit (bond_of l.bonds) l.rest (motion_of l.store l.totals) ≡ projected l.initial.store.limit (bond_of l.bonds) l.initial.rest
       (motion_of l.initial.store l.initial.totals);
   limit : l.store.limit ≡ l.initial.store.limit;
+  copies : l.store.copies ≡ l.initial.store.copies;
   fixed : fixed_parts l.store.particles ≡ fixed_parts l.initial.store.particles;
   cost : l.steps + 4 * blocks_of (length l.rest) g.row.L ≤ l.initial.steps + 4 * blocks_of (length l.initial.rest) g.row.L;
 }

@@ -25,6 +25,7 @@ loop-n-preserved g c =
       whole = same_length _ _ (c.project_one.ensures.fixed ∙ inv.fixed);
       same = turn_on limit bond c.args.batch.now c.loop-n.n-index (omega arith) now then did ∙ inv.same;
       limit = c.project_one.ensures.limit ∙ inv.limit;
+      copies = c.project_one.ensures.copies ∙ inv.copies;
       fixed = c.project_one.ensures.fixed ∙ inv.fixed;
       cost = omega (arith, c.project_one.ensures.cost, inv.cost);
     }
@@ -47,6 +48,7 @@ loop-n-init g c = record {
   whole = refl;
   same = refl;
   limit = refl;
+  copies = refl;
   fixed = refl;
   cost = omega arith;
 }

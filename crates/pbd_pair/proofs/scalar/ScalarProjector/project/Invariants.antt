@@ -15,6 +15,7 @@ invariant-loop-n g l =
       same : projected l.initial.store.limit (bond_of l.bonds) (drop l.n-index l.batch) (motion_of l.store l.totals) ≡ projected l.initial.store.limit
           (bond_of l.bonds) l.batch (motion_of l.initial.store l.initial.totals);
       limit : l.store.limit ≡ l.initial.store.limit;
+      copies : l.store.copies ≡ l.initial.store.copies;
       fixed : fixed_parts l.store.particles ≡ fixed_parts l.initial.store.particles;
       cost : l.steps ≤ l.initial.steps + 4 * l.n-index;
     }

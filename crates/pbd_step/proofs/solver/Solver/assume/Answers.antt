@@ -1,4 +1,4 @@
-use Rattle.std.proofs.Common.{refl, sym, ap, ◌∙◌, arith, subst, length, ℕ, ◌≤◌, List}
+use Rattle.std.proofs.Common.{refl, sym, ap, ◌∙◌, ◌+◌, arith, subst, length, ℕ, ◌≤◌, List}
 use Rattle.pbd_world.specs.declared.parts.Particle.{Particle}
 use Rattle.pbd_world.specs.declared.parts.Link.{Link}
 use Rattle.pbd_world.specs.World.{World, IsSound, AreOfOneScene}
@@ -93,3 +93,18 @@ pub returns-clause-cost : goal.returns-clause-cost
 returns-clause-cost g c =
     let alike = told_alike (g.D.Described.seen c.args.described.now) c.self.inside.setting c.describe.new.state c.self.inside.run.state (c.describe.ensures.world c.self.inside.setting) in
     omega (arith, c.describe.ensures.cost, c.judge.ensures.cost, alike.particles, ap (λ (s : Solved g.row.P.Denot). length s.world.particles) c.self.view_is)
+
+pub returns-in-Err-clause-kept : goal.returns-in-Err-clause-kept
+returns-in-Err-clause-kept g c =
+    let run = c.self.inside.run in
+    (λ i. record {
+      world = world_of c.self.inside.setting run.state;
+      projector = run.projector;
+      copies = run.state.store.copies + c.describe.ensures.copies i;
+    }) ∙ c.self.view_is
+
+pub returns-in-Err-clause-copies : goal.returns-in-Err-clause-copies
+returns-in-Err-clause-copies g c = omega (arith, c.describe.ensures.copies, ap (λ (s : Solved g.row.P.Denot). s.copies) c.self.view_is)
+
+pub returns-clause-copies : goal.returns-clause-copies
+returns-clause-copies g c = omega (arith, c.describe.ensures.copies, c.restore.ensures.copies, ap (λ (s : Solved g.row.P.Denot). s.copies) c.self.view_is)

@@ -1,8 +1,10 @@
-use Rattle.std.proofs.Common.{arith}
+use Rattle.std.proofs.Common.{◌+◌, ap, ◌∙◌, arith}
 use Rattle.pbd_world.specs.Meaning.{cut}
 use Rattle.pbd_world.specs.World.{World}
 use Rattle.pbd_world.specs.declared.command.Command.TheVariants as commands
+use Rattle.pbd_step.specs.declared.state.State.{State}
 use Rattle.pbd_step.specs.States.{world_of}
+use Rattle.pbd_step.specs.Solving.{Solved}
 use Rattle.pbd_step.proofs.Keeping.{commanded, seen_commanded, cut_means, kept_commanded, formed_fit}
 use Rattle.pbd_step.proofs.solver.Solver.cut.Goals as goal
 
@@ -18,3 +20,7 @@ pub returns-clause-commanded : goal.returns-clause-commanded
 returns-clause-commanded g c =
     let w = world_of c.self.inside.setting c.self.inside.run.state in
     seen_commanded (λ (v : World). cut v c.args.l) c.self.view_is (commanded (commands.Cut c.args.l) c.cut.ensures.obeys c.self.invariant.sound (cut_means w c.args.l))
+
+pub returns-clause-copies : goal.returns-clause-copies
+returns-clause-copies g c =
+    ap (λ (s : State g.row.L). s.store.copies + c.self.inside.kept.store.copies) c.cut.ensures.same ∙ ap (λ (s : Solved g.row.P.Denot). s.copies) c.self.view_is

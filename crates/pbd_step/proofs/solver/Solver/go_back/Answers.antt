@@ -44,3 +44,6 @@ returns-clause-world g c =
 
 pub returns-clause-sound : goal.returns-clause-sound
 returns-clause-sound g c = (invariant_of-self g c).sound
+
+pub returns-clause-copies : goal.returns-clause-copies
+returns-clause-copies g c = omega (arith, c.restore.ensures.copies, ap (λ (s : Solved g.row.P.Denot). s.copies) c.self.view_is)

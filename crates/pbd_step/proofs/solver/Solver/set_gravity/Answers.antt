@@ -1,7 +1,9 @@
+use Rattle.std.proofs.Common.{ap}
 use Rattle.pbd_world.specs.Meaning.{set_gravity}
 use Rattle.pbd_world.specs.World.{World}
 use Rattle.pbd_world.specs.declared.command.Command.TheVariants as commands
 use Rattle.pbd_step.specs.States.{world_of}
+use Rattle.pbd_step.specs.Solving.{Solved}
 use Rattle.pbd_step.proofs.Keeping.{commanded, seen_commanded, gravity_means, kept_commanded}
 use Rattle.pbd_step.proofs.solver.Solver.set_gravity.Goals as goal
 
@@ -14,3 +16,6 @@ pub returns-clause-commanded : goal.returns-clause-commanded
 returns-clause-commanded g c =
     let w = world_of c.self.inside.setting c.self.inside.run.state in
     seen_commanded (λ (v : World). set_gravity v c.args.g) c.self.view_is (commanded (commands.Gravity c.args.g) c.set_gravity.ensures.obeys c.self.invariant.sound (gravity_means w c.args.g))
+
+pub returns-clause-copies : goal.returns-clause-copies
+returns-clause-copies g c = ap (λ (s : Solved g.row.P.Denot). s.copies) c.self.view_is

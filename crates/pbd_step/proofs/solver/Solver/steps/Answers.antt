@@ -1,4 +1,5 @@
-use Rattle.std.proofs.Common.{◌≤◌, ap, ◌∙◌, arith, subst}
+use Rattle.std.proofs.Common.{◌+◌, ◌≤◌, ℕ, ap, ◌∙◌, arith, subst}
+use Rattle.std.specs.Prelude.{MatchResult}
 use Rattle.pbd_world.specs.declared.command.Command.TheVariants as commands
 use Rattle.pbd_world.specs.Meaning.{run_steps, steps_of}
 use Rattle.pbd_world.specs.Work.{steps_work}
@@ -44,3 +45,9 @@ returns-clause-cost g c =
     let goes = steps_paid g.row.L (lanes run.projector) w c.args.n (omega (arith, c.if-n-lt1.false)) (omega (arith, c.if-n-gt-MOST_STEPS.false)) (omega (arith, c.from.ensures, c.if-from-count.false)) in
     let seen = ap (λ (s : Solved g.row.P.Denot). steps_work g.row.L (lanes s.projector) c.args.n s.world) c.self.view_is in
     omega (arith, c.run_whole.ensures.cost, goes, seen)
+
+pub returns-clause-copies : goal.returns-clause-copies
+returns-clause-copies g c =
+    let now : ℕ = c.run_whole.new.run.state.store.copies + c.run_whole.new.kept.store.copies in
+    subst (λ (s : Solved g.row.P.Denot). MatchResult c.run_whole.result (λ _. now ≤ s.copies + 1) (λ _. now ≤ s.copies + 2)) c.self.view_is
+    c.run_whole.ensures.copies

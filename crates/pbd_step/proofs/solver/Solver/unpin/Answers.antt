@@ -1,8 +1,9 @@
-use Rattle.std.proofs.Common.{ap}
+use Rattle.std.proofs.Common.{ap, arith}
 use Rattle.pbd_world.specs.Meaning.{unpin}
 use Rattle.pbd_world.specs.World.{World}
 use Rattle.pbd_world.specs.declared.command.Command.TheVariants as commands
 use Rattle.pbd_step.specs.States.{world_of}
+use Rattle.pbd_step.specs.Solving.{Solved}
 use Rattle.pbd_step.specs.declared.state.State.{State}
 use Rattle.pbd_step.proofs.Keeping.{commanded, seen_commanded, unpin_means, kept_linked}
 use Rattle.pbd_step.proofs.solver.Solver.unpin.Goals as goal
@@ -17,3 +18,6 @@ pub returns-clause-commanded : goal.returns-clause-commanded
 returns-clause-commanded g c =
     let w = world_of c.self.inside.setting c.self.inside.run.state in
     seen_commanded (λ (v : World). unpin v c.args.i) c.self.view_is (commanded (commands.Unpin c.args.i) c.unpin.ensures.obeys c.self.invariant.sound (unpin_means w c.args.i))
+
+pub returns-clause-copies : goal.returns-clause-copies
+returns-clause-copies g c = omega (arith, c.unpin.ensures.copies, ap (λ (s : Solved g.row.P.Denot). s.copies) c.self.view_is)

@@ -12,7 +12,7 @@ use Rattle.pbd_store.proofs.Scattering.{split_below}
 use Rattle.pbd_store.proofs.store.Store.move_each.Goals as goal
 
 pub loop-j-init : goal.loop-j-init
-loop-j-init g c = record { done = parted_none _ _ _ _ _; stay = λ k h. absurd (omega arith); limit = refl; fixed = refl }
+loop-j-init g c = record { done = parted_none _ _ _ _ _; stay = λ k h. absurd (omega arith); limit = refl; copies = refl; fixed = refl }
 
 pub move_pair-stays-requires : goal.move_pair-stays-requires
 move_pair-stays-requires g c =
@@ -72,5 +72,6 @@ loop-j-preserved g c =
             (first_moves c.args.moves.now) (second_moves c.args.moves.now) i)) (sym e) here
       ];
       limit = c.move_pair-stays.ensures.limit ∙ k.limit;
+      copies = c.move_pair-stays.ensures.copies ∙ k.copies;
       fixed = ap (λ (qs : List Particle). fixed_parts qs) new ∙ placed_fixed (placed ps a v) b w ∙ placed_fixed ps a v ∙ k.fixed;
     }

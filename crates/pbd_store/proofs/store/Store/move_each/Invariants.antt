@@ -9,5 +9,6 @@ invariant-loop-j g l = record {
   stay : (k : ℕ) → k < l.j → IsTrue (stays l.initial.self.limit l.initial.self.particles l.pairs.first.now l.pairs.second.now (first_moves l.moves)
       (second_moves l.moves) k);
   limit : l.self.limit ≡ l.initial.self.limit;
+  copies : l.self.copies ≡ l.initial.self.copies;
   fixed : fixed_parts l.self.particles ≡ fixed_parts l.initial.self.particles;
 }

@@ -12,7 +12,7 @@ use Rattle.pbd_store.proofs.Parting.{first_still, second_then, pulled_none, pull
 use Rattle.pbd_store.proofs.store.Store.pull_ends.Goals as goal
 
 pub loop-j-init : goal.loop-j-init
-loop-j-init g c = record { pulled = pulled_none _ _ _ _ _ _; limit = refl }
+loop-j-init g c = record { pulled = pulled_none _ _ _ _ _ _; limit = refl; copies = refl }
 
 pub greater-requires-clause-within : goal.greater-requires-clause-within
 greater-requires-clause-within g c =
@@ -53,4 +53,5 @@ loop-j-preserved g c =
           c.step-second.ensures.place
           c.greater.ensures.kept c.greater.ensures.own c.greater-sizes.ensures.kept c.greater-sizes.ensures.own;
       limit = k.limit;
+      copies = k.copies;
     }

@@ -27,5 +27,6 @@ pub returns : goal.returns
 returns g c = record {
   particles = saved_of c.start_of-start.ensures.value (ap (λ (s : Stored). s.particles) c.self.view_is) c.move_where.ensures;
   limit = ap (λ (s : Stored). s.limit) c.self.view_is;
+  copies = ap (λ (s : Stored). s.copies) c.self.view_is;
   cost = c.tick.ensures;
 }

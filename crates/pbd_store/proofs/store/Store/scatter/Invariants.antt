@@ -7,4 +7,5 @@ invariant-loop-j g l =
     record {
       done : Scattered l.j l.indices l.set l.values.x l.values.y l.values.z l.initial.self-inside.columns l.self-inside.columns;
       limit : l.self-inside.limit ≡ l.initial.self-inside.limit;
+      copies : l.self-inside.copies ≡ l.initial.self-inside.copies;
     }
