@@ -1,5 +1,5 @@
 -- How many links are at each particle, and what adding a mesh comes to.
-use Rattle.std.proofs.Common.{◌≡◌, ◌≢◌, ◌⊎◌, ◌∙◌, sym, ap, refl, ℕ, zero, suc, ◌+◌, ◌-◌, ◌%◌, ◌<◌, ◌≤◌, ◌^◌, Bool, true, false, not, ◌||◌, List, [], ◌∷◌, ◌++◌, length, get_or, take, drop, map, replicate, arith, inl, inr, append_assoc, append-nil, length-append, Some, None, Ok, filter, pos, subst}
+use Rattle.std.proofs.Common.{◌≡◌, ◌≢◌, ◌⊎◌, ◌∙◌, sym, ap, refl, ℕ, zero, suc, ◌+◌, ◌-◌, ◌%◌, ◌<◌, ◌≤◌, ◌^◌, Bool, true, false, not, ◌||◌, List, [], ◌∷◌, ◌++◌, length, get_or, take, drop, map, replicate, arith, inl, inr, append_assoc, append-nil, length-append, Option, Some, None, Ok, filter, pos, subst}
 use Rattle.std.specs.Prelude.{◌==◌, cond, All, IsTrue, slice_index}
 use Rattle.std.specs.List.{list_any, range_with_len, AllByRecursion}
 use Rattle.std.proofs.Math.Nat.{mod-eq_of_lt, mod_self}
@@ -19,9 +19,13 @@ use Rattle.pbd_world.specs.Valid.{join_alike, links_at, is_valid}
 use Rattle.pbd_world.proofs.WorldParts.{formed}
 use Rattle.pbd_world.proofs.KeepingOn.{all-append, all-flat, all-map, all-range}
 use Rattle.pbd_obj.specs.declared.mesh.ObjMesh.{ObjMesh}
+use Rattle.pbd_obj.specs.declared.settings.LinkSettings.{LinkSettings}
+use Rattle.pbd_obj.specs.declared.settings.MeshSettings.{MeshSettings}
 use Rattle.pbd_obj.specs.Meshes.{faces, IsFace, IsMesh}
-use Rattle.pbd_obj.specs.MeshLinks.{diagonals, each_once, face_links, first_overfull, kind_links, link, mesh_links, overfull_end, pairs, particles, side, with_all, with_mesh, place_at}
+use Rattle.pbd_obj.specs.Facing.{edges, facing}
+use Rattle.pbd_obj.specs.MeshLinks.{bend_links, diagonals, each_once, face_links, first_overfull, kind_links, link, mesh_links, overfull_end, particles, place_at, ring, side, some_bends, with_all, with_mesh_as}
 use Rattle.pbd_obj.specs.Nets.{AreFew, counted_end, CountsLink, FitsNet, HoldsCounts, IsLinkFrom}
+use Rattle.pbd_obj.proofs.EdgeLemmas.{facing_named, mesh_edges, IsApart}
 use Rattle.pbd_obj.proofs.FaceLemmas.{once}
 
 -- ---- counts
@@ -191,17 +195,20 @@ once_apart (x ∷ ns) i zero is lt within = absurd (omega (arith, lt))
 once_apart (x ∷ ns) zero (suc j) is lt within = differ_from x 0 ns j (not-true (list_any (λ b. x == b) ns) (and_parts (not (list_any (λ b. x == b) ns)) (once ns) is).0) (omega (arith, within))
 once_apart (x ∷ ns) (suc i) (suc j) is lt within = once_apart ns i j (and_parts (not (list_any (λ b. x == b) ns)) (once ns) is).1 (omega (arith, lt)) (omega (arith, within))
 
+-- the links of a kind have these settings
+abbrev pub Has : MeshSettings → LinkSettings → Type 0
+Has t k = (k ≡ t.stretch) ⊎ ((k ≡ t.shear) ⊎ (t.bend ≡ Some k))
+
 -- a link of a mesh, whose first vertex is particle `base`
-pub record Made (mesh : ObjMesh) (base : ℕ) (l : Link) : Type 0 where
+pub record Made (t : MeshSettings) (mesh : ObjMesh) (base : ℕ) (l : Link) : Type 0 where
   pub from : IsLinkFrom base (length mesh.places) l
   pub rest : (i : ℕ) × (j : ℕ) × (i < length mesh.places) × (j < length mesh.places) × (l.rest ≡ pos (length_of (minus (place_at mesh i) (place_at mesh j))))
-  pub stiff : l.k ≡ 256
-  pub tear : l.tear ≡ pos 0
+  pub settings : (k : LinkSettings) × Has t k × (l.k ≡ k.stiffness) × (l.tear ≡ k.tear)
   pub live : l.live ≡ true
 
-link_from : (mesh : ObjMesh) (base : ℕ) (kind : Kind) (ends : ℕ × ℕ) → ends.0 < length mesh.places → ends.1 < length mesh.places → ends.0 ≢ ends.1 → Made mesh base (link mesh base kind ends)
+link_from : (t : MeshSettings) (mesh : ObjMesh) (base : ℕ) (kind : Kind) (k : LinkSettings) (ends : ℕ × ℕ) → Has t k → ends.0 < length mesh.places → ends.1 < length mesh.places → ends.0 ≢ ends.1 → Made t mesh base (link mesh base kind k ends)
 unfolding link
-link_from mesh base kind ends first second apart = record {
+link_from t mesh base kind k ends has first second apart = record {
   from = record {
     a_low = omega arith;
     a_high = omega (arith, first);
@@ -210,8 +217,7 @@ link_from mesh base kind ends first second apart = record {
     apart = λ e. apart (omega (arith, e));
   };
   rest = (ends.0, ends.1, first, second, refl);
-  stiff = refl;
-  tear = refl;
+  settings = (k, has, refl, refl);
   live = refl;
 }
 
@@ -222,34 +228,42 @@ next_place n i three lt = elim (cases_lt (i + 1) n) [
   | inr more ↦ (let e : i + 1 ≡ n = omega (arith, lt, more) in inr (rw e (mod_self n), e))
 ]
 
-side_from : (mesh : ObjMesh) (base : ℕ) (face : List ℕ) (i : ℕ) → IsFace (length mesh.places) face → i < length face → Made mesh base (link mesh base Stretch (side face i))
-side_from mesh base face i is lt =
+side_from : (t : MeshSettings) (mesh : ObjMesh) (base : ℕ) (face : List ℕ) (i : ℕ) → IsFace (length mesh.places) face → i < length face → Made t mesh base (link mesh base Stretch t.stretch (side face i))
+side_from t mesh base face i is lt =
     let named : (k : ℕ) → k < length face → get_or face k 0 < length mesh.places = λ k within. All-get_or (λ corner. corner < length mesh.places) face k 0 within is.within in
     elim (next_place (length face) i is.size lt) [
-      | inl h ↦ link_from mesh base Stretch (side face i) (named i lt) (rw h.0 (named (i + 1) h.1)) (rw h.0 (once_apart face i (i + 1) is.once (omega arith) h.1))
-      | inr h ↦ (let wide = is.size in link_from mesh base Stretch (side face i) (named i lt) (rw h.0 (named 0 (omega (arith, wide)))) (rw h.0 (λ e. once_apart face 0 i is.once (omega (arith, wide, h.1)) lt (sym e))))
+      | inl h ↦ link_from t mesh base Stretch t.stretch (side face i) (inl refl) (named i lt) (rw h.0 (named (i + 1) h.1)) (rw h.0 (once_apart face i (i + 1) is.once (omega arith) h.1))
+      | inr h ↦ (let wide = is.size in link_from t mesh base Stretch t.stretch (side face i) (inl refl) (named i lt) (rw h.0 (named 0 (omega (arith, wide)))) (rw h.0 (λ e. once_apart face 0 i is.once (omega (arith, wide, h.1)) lt (sym e))))
     ]
 
-diagonals_from : (mesh : ObjMesh) (base : ℕ) (face : List ℕ) → IsFace (length mesh.places) face → AllByRecursion (λ ends. Made mesh base (link mesh base Shear ends)) (diagonals face)
-diagonals_from mesh base (a ∷ b ∷ c ∷ d ∷ []) is =
+diagonals_from : (t : MeshSettings) (mesh : ObjMesh) (base : ℕ) (face : List ℕ) → IsFace (length mesh.places) face → AllByRecursion (λ ends. Made t mesh base (link mesh base Shear t.shear ends)) (diagonals face)
+diagonals_from t mesh base (a ∷ b ∷ c ∷ d ∷ []) is =
     let named : (k : ℕ) → k < length (a ∷ b ∷ c ∷ d ∷ []) → get_or (a ∷ b ∷ c ∷ d ∷ []) k 0 < length mesh.places = λ k within. All-get_or (λ corner. corner < length mesh.places) (a ∷ b ∷ c ∷ d ∷ []) k 0 within is.within in (
-      link_from mesh base Shear (a, c) (named 0 (omega arith)) (named 2 (omega arith)) (once_apart (a ∷ b ∷ c ∷ d ∷ []) 0 2 is.once (omega arith) (omega arith)),
-      (link_from mesh base Shear (b, d) (named 1 (omega arith)) (named 3 (omega arith)) (once_apart (a ∷ b ∷ c ∷ d ∷ []) 1 3 is.once (omega arith) (omega arith)), tt),
+      link_from t mesh base Shear t.shear (a, c) (inr (inl refl)) (named 0 (omega arith)) (named 2 (omega arith)) (once_apart (a ∷ b ∷ c ∷ d ∷ []) 0 2 is.once (omega arith) (omega arith)),
+      (link_from t mesh base Shear t.shear (b, d) (inr (inl refl)) (named 1 (omega arith)) (named 3 (omega arith)) (once_apart (a ∷ b ∷ c ∷ d ∷ []) 1 3 is.once (omega arith) (omega arith)), tt),
     )
-diagonals_from mesh base [] is = tt
-diagonals_from mesh base (a ∷ []) is = tt
-diagonals_from mesh base (a ∷ b ∷ []) is = tt
-diagonals_from mesh base (a ∷ b ∷ c ∷ []) is = tt
-diagonals_from mesh base (a ∷ b ∷ c ∷ d ∷ e ∷ more) is = tt
+diagonals_from t mesh base [] is = tt
+diagonals_from t mesh base (a ∷ []) is = tt
+diagonals_from t mesh base (a ∷ b ∷ []) is = tt
+diagonals_from t mesh base (a ∷ b ∷ c ∷ []) is = tt
+diagonals_from t mesh base (a ∷ b ∷ c ∷ d ∷ e ∷ more) is = tt
 
-pairs_from : (mesh : ObjMesh) (base : ℕ) (kind : Kind) (face : List ℕ) → IsFace (length mesh.places) face → AllByRecursion (λ ends. Made mesh base (link mesh base kind ends)) (pairs kind face)
-pairs_from mesh base Stretch face is = all-map {A = ℕ} {B = ℕ × ℕ} (λ ends. Made mesh base (link mesh base Stretch ends)) (side face) (range_with_len 0 (length face)) (all-range (λ i. Made mesh base (link mesh base Stretch (side face i))) 0 (length face) (λ k low high. side_from mesh base face k is (omega (arith, high))))
-pairs_from mesh base Shear face is = diagonals_from mesh base face is
-pairs_from mesh base Bend face is = tt
-pairs_from mesh base Plain face is = tt
+face_from : (t : MeshSettings) (mesh : ObjMesh) (base : ℕ) (kind : Kind) (face : List ℕ) → IsFace (length mesh.places) face → AllByRecursion {X = Link} (Made t mesh base) (face_links t mesh base kind face)
+face_from t mesh base Stretch face is = all-map {A = ℕ × ℕ} {B = Link} (Made t mesh base) (link mesh base Stretch t.stretch) (ring face) (all-map {A = ℕ} {B = ℕ × ℕ} (λ ends. Made t mesh base (link mesh base Stretch t.stretch ends)) (side face) (range_with_len 0 (length face)) (all-range (λ i. Made t mesh base (link mesh base Stretch t.stretch (side face i))) 0 (length face) (λ k low high. side_from t mesh base face k is (omega (arith, high)))))
+face_from t mesh base Shear face is = all-map {A = ℕ × ℕ} {B = Link} (Made t mesh base) (link mesh base Shear t.shear) (diagonals face) (diagonals_from t mesh base face is)
+face_from t mesh base Bend face is = tt
+face_from t mesh base Plain face is = tt
 
-kind_from : (mesh : ObjMesh) (base : ℕ) (kind : Kind) → IsMesh mesh → AllByRecursion {X = Link} (Made mesh base) (kind_links mesh base kind)
-kind_from mesh base kind is = all-flat {A = List ℕ} {B = Link} (λ face. IsFace (length mesh.places) face) (Made mesh base) (face_links mesh base kind) (λ face h. all-map {A = ℕ × ℕ} {B = Link} (Made mesh base) (link mesh base kind) (pairs kind face) (pairs_from mesh base kind face h)) (faces mesh) (recursion_from_All {X = List ℕ} (λ face. IsFace (length mesh.places) face) (faces mesh) is.faces)
+kind_from : (t : MeshSettings) (mesh : ObjMesh) (base : ℕ) (kind : Kind) → IsMesh mesh → AllByRecursion {X = Link} (Made t mesh base) (kind_links t mesh base kind)
+kind_from t mesh base kind is = all-flat {A = List ℕ} {B = Link} (λ face. IsFace (length mesh.places) face) (Made t mesh base) (face_links t mesh base kind) (λ face h. face_from t mesh base kind face h) (faces mesh) (recursion_from_All {X = List ℕ} (λ face. IsFace (length mesh.places) face) (faces mesh) is.faces)
+
+bends_from : (t : MeshSettings) (mesh : ObjMesh) (base : ℕ) (o : Option LinkSettings) → t.bend ≡ o → IsMesh mesh → AllByRecursion {X = Link} (Made t mesh base) (some_bends o mesh base)
+bends_from t mesh base None at is = tt
+bends_from t mesh base (Some k) at is = all-map {A = ℕ × ℕ} {B = Link} (Made t mesh base) (link mesh base Bend k) (facing (edges (faces mesh))) (each (facing (edges (faces mesh))) (facing_named (length mesh.places) (edges (faces mesh)) (mesh_edges mesh is)))
+  where
+    each : (ps : List (ℕ × ℕ)) → AllByRecursion (IsApart (length mesh.places)) ps → AllByRecursion (λ ends. Made t mesh base (link mesh base Bend k ends)) ps
+    each [] all = tt
+    each (p ∷ ps) all = (link_from t mesh base Bend k p (inr (inr at)) (all.0).0 (all.0).1 (all.0).2, each ps all.1)
 
 once_keeps : (P : Link → Type 0) (kept ls : List Link) → AllByRecursion P kept → AllByRecursion P ls → AllByRecursion P (each_once kept ls)
 once_keeps P kept [] h k = h
@@ -259,13 +273,15 @@ once_keeps P kept (l ∷ ls) h k = once_keeps P (cond (list_any (join_alike l) k
     either true = h
     either false = all-append P kept (l ∷ []) h (k.0, tt)
 
-pub mesh_links_made : (mesh : ObjMesh) (base : ℕ) → IsMesh mesh → AllByRecursion {X = Link} (Made mesh base) (mesh_links mesh base)
+pub mesh_links_made : (t : MeshSettings) (mesh : ObjMesh) (base : ℕ) → IsMesh mesh → AllByRecursion {X = Link} (Made t mesh base) (mesh_links t mesh base)
 unfolding mesh_links
-mesh_links_made mesh base is = once_keeps (Made mesh base) [] (kind_links mesh base Stretch ++ kind_links mesh base Shear) tt (all-append (Made mesh base) (kind_links mesh base Stretch) (kind_links mesh base Shear) (kind_from mesh base Stretch is) (kind_from mesh base Shear is))
+mesh_links_made t mesh base is =
+    let across = all-append (Made t mesh base) (kind_links t mesh base Shear) (bend_links t mesh base) (kind_from t mesh base Shear is) (bends_from t mesh base t.bend refl is) in
+    once_keeps (Made t mesh base) [] (kind_links t mesh base Stretch ++ (kind_links t mesh base Shear ++ bend_links t mesh base)) tt (all-append (Made t mesh base) (kind_links t mesh base Stretch) (kind_links t mesh base Shear ++ bend_links t mesh base) (kind_from t mesh base Stretch is) across)
 
 -- each link of a mesh joins two of its vertices
-pub mesh_links_from : (mesh : ObjMesh) (base : ℕ) → IsMesh mesh → All {X = Link} (IsLinkFrom base (length mesh.places)) (mesh_links mesh base)
-mesh_links_from mesh base is = All-weaker {X = Link} (Made mesh base) (IsLinkFrom base (length mesh.places)) (λ l made. made.from) (mesh_links mesh base) (All-from_recursion {X = Link} (Made mesh base) (mesh_links mesh base) (mesh_links_made mesh base is))
+pub mesh_links_from : (t : MeshSettings) (mesh : ObjMesh) (base : ℕ) → IsMesh mesh → All {X = Link} (IsLinkFrom base (length mesh.places)) (mesh_links t mesh base)
+mesh_links_from t mesh base is = All-weaker {X = Link} (Made t mesh base) (IsLinkFrom base (length mesh.places)) (λ l made. made.from) (mesh_links t mesh base) (All-from_recursion {X = Link} (Made t mesh base) (mesh_links t mesh base) (mesh_links_made t mesh base is))
 
 -- ---- what adding comes to
 
@@ -281,23 +297,23 @@ mesh_fits mesh base is le = record {
   inside = All-weaker {X = Vec3} (λ place. IsTrue (is_within (pos 536870912) place)) (λ place. Within (2 ^ 29) place) (λ place t. (within_facts (pos 536870912) place (omega (arith, ints))).0 t) mesh.places is.inside;
 }
 
-pub mesh_added : (mesh : ObjMesh) (parts : Parts) → length parts.particles + length mesh.places ≤ 65536 → length parts.links + length (mesh_links mesh (length parts.particles)) ≤ 524288 → None ≡ first_overfull [] (mesh_links mesh (length parts.particles)) → with_mesh mesh parts ≡ Ok (with_all (particles mesh) (mesh_links mesh (length parts.particles)) parts)
-unfolding with_mesh
-mesh_added mesh parts few_particles few_links is =
-    rw (le-ltb 65536 (length parts.particles + length mesh.places) few_particles, le-ltb 524288 (length parts.links + length (mesh_links mesh (length parts.particles))) few_links, ← is) refl
+pub mesh_added : (t : MeshSettings) (mesh : ObjMesh) (parts : Parts) → length parts.particles + length mesh.places ≤ 65536 → length parts.links + length (mesh_links t mesh (length parts.particles)) ≤ 524288 → None ≡ first_overfull [] (mesh_links t mesh (length parts.particles)) → with_mesh_as t mesh parts ≡ Ok (with_all (particles t.weight mesh) (mesh_links t mesh (length parts.particles)) parts)
+unfolding with_mesh_as
+mesh_added t mesh parts few_particles few_links is =
+    rw (le-ltb 65536 (length parts.particles + length mesh.places) few_particles, le-ltb 524288 (length parts.links + length (mesh_links t mesh (length parts.particles))) few_links, ← is) refl
 
-pub links_from_at : (mesh : ObjMesh) (base vertices : ℕ) (slice links : List Link) → IsMesh mesh → vertices ≡ length mesh.places → slice ≡ links → links ≡ mesh_links mesh base → All {X = Link} (IsLinkFrom base vertices) slice
-links_from_at mesh base vertices slice links is count same are =
-    subst (λ (n : ℕ). All {X = Link} (IsLinkFrom base n) slice) (sym count) (subst (λ (ls : List Link). All {X = Link} (IsLinkFrom base (length mesh.places)) ls) (sym (same ∙ are)) (mesh_links_from mesh base is))
+pub links_from_at : (t : MeshSettings) (mesh : ObjMesh) (base vertices : ℕ) (slice links : List Link) → IsMesh mesh → vertices ≡ length mesh.places → slice ≡ links → links ≡ mesh_links t mesh base → All {X = Link} (IsLinkFrom base vertices) slice
+links_from_at t mesh base vertices slice links is count same are =
+    subst (λ (n : ℕ). All {X = Link} (IsLinkFrom base n) slice) (sym count) (subst (λ (ls : List Link). All {X = Link} (IsLinkFrom base (length mesh.places)) ls) (sym (same ∙ are)) (mesh_links_from t mesh base is))
 
-pub added_at : (mesh : ObjMesh) (parts new : Parts) (base vertices before : ℕ) (slice links : List Link) → base ≡ length parts.particles → base ≤ 65536 → vertices ≡ length mesh.places → vertices ≤ 65536 - base → before ≡ length parts.links → before ≤ 524288 → length links ≤ 524288 - before → links ≡ mesh_links mesh base → slice ≡ links → None ≡ first_overfull [] slice → new ≡ with_all (particles mesh) links parts → with_mesh mesh parts ≡ Ok new
-added_at mesh parts new base vertices before slice links at low count fits had room few are same none is =
+pub added_at : (t : MeshSettings) (mesh : ObjMesh) (parts new : Parts) (base vertices before : ℕ) (slice links : List Link) → base ≡ length parts.particles → base ≤ 65536 → vertices ≡ length mesh.places → vertices ≤ 65536 - base → before ≡ length parts.links → before ≤ 524288 → length links ≤ 524288 - before → links ≡ mesh_links t mesh base → slice ≡ links → None ≡ first_overfull [] slice → new ≡ with_all (particles t.weight mesh) links parts → with_mesh_as t mesh parts ≡ Ok new
+added_at t mesh parts new base vertices before slice links at low count fits had room few are same none is =
     let particles_fit : length parts.particles + length mesh.places ≤ 65536 = omega (arith, at, low, count, fits) in
-    let all : links ≡ mesh_links mesh (length parts.particles) = are ∙ ap (mesh_links mesh) at in
-    let size : length links ≡ length (mesh_links mesh (length parts.particles)) = ap length all in
-    let links_fit : length parts.links + length (mesh_links mesh (length parts.particles)) ≤ 524288 = omega (arith, size, had, room, few) in
-    let found : None ≡ first_overfull [] (mesh_links mesh (length parts.particles)) = none ∙ ap (first_overfull []) (same ∙ all) in
-    mesh_added mesh parts particles_fit links_fit found ∙ ap (λ p. Ok p) (ap (λ ls. with_all (particles mesh) ls parts) (sym all) ∙ sym is)
+    let all : links ≡ mesh_links t mesh (length parts.particles) = are ∙ ap (mesh_links t mesh) at in
+    let size : length links ≡ length (mesh_links t mesh (length parts.particles)) = ap length all in
+    let links_fit : length parts.links + length (mesh_links t mesh (length parts.particles)) ≤ 524288 = omega (arith, size, had, room, few) in
+    let found : None ≡ first_overfull [] (mesh_links t mesh (length parts.particles)) = none ∙ ap (first_overfull []) (same ∙ all) in
+    mesh_added t mesh parts particles_fit links_fit found ∙ ap (λ p. Ok p) (ap (λ ls. with_all (particles t.weight mesh) ls parts) (sym all) ∙ sym is)
 
 -- ---- lists that grow
 

@@ -1,9 +1,9 @@
 -- Valid parts with a mesh after their own are valid.
-use Rattle.std.proofs.Common.{◌≡◌, ◌≢◌, ◌∙◌, sym, ap, refl, ℕ, ◌+◌, ◌<◌, ◌≤◌, ◌^◌, Bool, true, false, not, ◌&&◌, ◌||◌, List, [], ◌∷◌, ◌++◌, length, map, All, arith, inl, inr, append_assoc, append-nil, length-append, Option, Some, None, Ok, Err, nat_le, nat_lt, ℤ, pos, ◌*ℤ◌, subst}
+use Rattle.std.proofs.Common.{◌≡◌, ◌≢◌, ◌∙◌, sym, ap, refl, ℕ, ◌+◌, ◌<◌, ◌≤◌, ◌^◌, Bool, true, false, not, ◌&&◌, ◌||◌, List, [], ◌∷◌, ◌++◌, length, map, All, arith, inl, inr, append_assoc, append-nil, length-append, Option, Some, None, Ok, Err, nat_le, nat_lt, ℤ, pos, ◌*ℤ◌, ◌≤ℤ◌, subst}
 use Rattle.std.specs.Prelude.{◌==◌, cond, IsTrue}
 use Rattle.std.specs.List.{list_all, list_any, AllByRecursion}
 use Rattle.std.specs.Option.{option_or}
-use Rattle.std.proofs.lemmas.Bool.{and_parts, and_from, cases_eq, eq-eqb, eqb-true, ne_eqb, false≢true, le-leb, lt-ltb, ltb-true, ltb-false, or_cases, or_parts}
+use Rattle.std.proofs.lemmas.Bool.{and_parts, and_from, cases_eq, eq-eqb, eqb-true, ne_eqb, false≢true, le-leb, leb-true, lt-ltb, ltb-true, ltb-false, or_cases, or_parts}
 use Rattle.std.proofs.lemmas.Int.{ints}
 use Rattle.std.proofs.lemmas.List.{get_or_append_left, length-map}
 use Rattle.std.proofs.lemmas.List.Elements.{All-from_recursion, All-get_or, All-weaker, recursion_from_All}
@@ -23,10 +23,13 @@ use Rattle.pbd_world.proofs.TwiceLemmas.{twice_more}
 use Rattle.pbd_world.proofs.ValidLinks.{between_facts, links_facts, links_join, IsFrom}
 use Rattle.pbd_obj.specs.declared.mesh.ObjMesh.{ObjMesh}
 use Rattle.pbd_obj.specs.declared.mesh.ObjFault.TheVariants.{TooMany}
+use Rattle.pbd_obj.specs.declared.settings.LinkSettings.{LinkSettings}
+use Rattle.pbd_obj.specs.declared.settings.MeshSettings.{MeshSettings}
 use Rattle.pbd_obj.specs.Meshes.{IsMesh}
-use Rattle.pbd_obj.specs.MeshLinks.{each_once, first_overfull, kind_links, place_at, mesh_links, overfull_end, particles, at_rest, unless_overfull, with_all, with_mesh}
+use Rattle.pbd_obj.specs.MeshLinks.{at_rest, bend_links, each_once, first_overfull, kind_links, mesh_links, overfull_end, particles, place_at, unless_overfull, with_all, with_mesh, with_mesh_as}
 use Rattle.pbd_obj.specs.Nets.{FitsNet}
-use Rattle.pbd_obj.proofs.AddLemmas.{links_push, Made, mesh_fits, mesh_links_made}
+use Rattle.pbd_obj.specs.Settings.{are_link_settings, are_settings, are_some_settings, stiff_settings}
+use Rattle.pbd_obj.proofs.AddLemmas.{links_push, Has, Made, mesh_fits, mesh_links_made}
 
 -- ---- lists
 
@@ -79,9 +82,9 @@ once_once kept (l ∷ ls) h = once_once (cond (list_any (join_alike l) kept) kep
     either true is = h
     either false is = twice_push kept l h is
 
-mesh_once : (mesh : ObjMesh) (base : ℕ) → none_twice join_alike (mesh_links mesh base) ≡ true
+mesh_once : (t : MeshSettings) (mesh : ObjMesh) (base : ℕ) → none_twice join_alike (mesh_links t mesh base) ≡ true
 unfolding mesh_links
-mesh_once mesh base = once_once [] (kind_links mesh base Stretch ++ kind_links mesh base Shear) refl
+mesh_once t mesh base = once_once [] (kind_links t mesh base Stretch ++ (kind_links t mesh base Shear ++ bend_links t mesh base)) refl
 
 -- ---- how many at a particle
 
@@ -136,62 +139,87 @@ overfull_few before (l ∷ rest) i is few =
 place_within : (mesh : ObjMesh) (base i : ℕ) → FitsNet mesh base → i < length mesh.places → IsTrue (is_within (pos 536870912) (place_at mesh i))
 place_within mesh base i fits lt = (within_facts (pos 536870912) (place_at mesh i) (omega (arith, ints))).1 (All-get_or {X = Vec3} (λ place. Within (2 ^ 29) place) mesh.places i zero_vector lt fits.inside)
 
-rest_valid : (mesh : ObjMesh) (base : ℕ) (l : Link) → FitsNet mesh base → Made mesh base l → IsTrue (is_between (pos 0) (pos 4 *ℤ pos 536870912) l.rest)
-rest_valid mesh base l fits made =
+-- ---- settings
+
+some_ranges : (o : Option LinkSettings) (k : LinkSettings) → are_some_settings o ≡ true → o ≡ Some k → are_link_settings k ≡ true
+some_ranges None k is e = cc
+some_ranges (Some s) k is e = let same : s ≡ k = cc in rw (← same) is
+
+has_ranges : (t : MeshSettings) (k : LinkSettings) → IsTrue (are_settings t) → Has t k → are_link_settings k ≡ true
+unfolding are_settings
+has_ranges t k set (inl e) = let p = and_parts _ _ (and_parts _ _ (and_parts _ _ set).0).0 in rw e p.1
+has_ranges t k set (inr (inl e)) = let p = and_parts _ _ (and_parts _ _ set).0 in rw e p.1
+has_ranges t k set (inr (inr e)) = some_ranges t.bend k (and_parts _ _ set).1 e
+
+ranges_of : (t : MeshSettings) (k : LinkSettings) → IsTrue (are_settings t) → Has t k → (k.stiffness ≤ 256) × (pos 0 ≤ℤ k.tear) × (k.tear ≤ℤ (pos 4 *ℤ pos 536870912))
+ranges_of t k set has =
+    let p = and_parts (nat_le k.stiffness 256) (is_between (pos 0) (pos 2147483648) k.tear) (has_ranges t k set has) in
+    let b = (between_facts (pos 0) (pos 2147483648) k.tear).0 p.1 in
+    (leb-true k.stiffness 256 p.0, b.0, b.1)
+
+weight_of : (t : MeshSettings) → IsTrue (are_settings t) → nat_le 1 t.weight ≡ true
+unfolding are_settings
+weight_of t set = (and_parts _ _ (and_parts _ _ (and_parts _ _ set).0).0).0
+
+rest_valid : (t : MeshSettings) (mesh : ObjMesh) (base : ℕ) (l : Link) → FitsNet mesh base → Made t mesh base l → IsTrue (is_between (pos 0) (pos 4 *ℤ pos 536870912) l.rest)
+rest_valid t mesh base l fits made =
     let i = made.rest.0 in
     let j = made.rest.1 in
     ap (is_between (pos 0) (pos 4 *ℤ pos 536870912)) made.rest.4
     ∙ rest_fits (pos 536870912) (place_at mesh i) (place_at mesh j) (omega (arith, ints)) (place_within mesh base i fits made.rest.2) (place_within mesh base j fits made.rest.3)
 
-made_valid : (mesh : ObjMesh) (base n : ℕ) (l : Link) → FitsNet mesh base → n ≡ base + length mesh.places → Made mesh base l → ValidLink (pos 536870912) n l
-made_valid mesh base n l fits size made =
-    let rest = (between_facts (pos 0) (pos 4 *ℤ pos 536870912) l.rest).0 (rest_valid mesh base l fits made) in
+made_valid : (t : MeshSettings) (mesh : ObjMesh) (base n : ℕ) (l : Link) → IsTrue (are_settings t) → FitsNet mesh base → n ≡ base + length mesh.places → Made t mesh base l → ValidLink (pos 536870912) n l
+made_valid t mesh base n l set fits size made =
+    let rest = (between_facts (pos 0) (pos 4 *ℤ pos 536870912) l.rest).0 (rest_valid t mesh base l fits made) in
     let a = (made.from).a_high in
     let b = (made.from).b_high in
-    let tear = made.tear in
-    let stiff = made.stiff in
+    let k = made.settings.0 in
+    let ranges = ranges_of t k set made.settings.1 in
+    let stiff = made.settings.2 in
+    let tear = made.settings.3 in
     record {
       first = omega (arith, size, a);
       second = omega (arith, size, b);
       apart = (made.from).apart;
       rest_low = rest.0;
       rest_high = rest.1;
-      tear_low = omega (arith, ints, tear);
-      tear_high = omega (arith, ints, tear);
-      stiffness = omega (arith, stiff);
+      tear_low = rw tear ranges.1;
+      tear_high = rw tear ranges.2;
+      stiffness = rw stiff ranges.0;
     }
 
-made_after : (mesh : ObjMesh) (base : ℕ) (l : Link) → Made mesh base l → IsFrom base l
-made_after mesh base l made = record { first = (made.from).a_low; second = (made.from).b_low }
+made_after : (t : MeshSettings) (mesh : ObjMesh) (base : ℕ) (l : Link) → Made t mesh base l → IsFrom base l
+made_after t mesh base l made = record { first = (made.from).a_low; second = (made.from).b_low }
 
-links_valid : (mesh : ObjMesh) (base n : ℕ) (old new : List Link) → FitsNet mesh base → n ≡ base + length mesh.places → are_valid_links (pos 536870912) base old ≡ true → AllByRecursion (Made mesh base) new → none_twice join_alike new ≡ true → first_overfull [] new ≡ None → length old + length new ≤ 524288 → are_valid_links (pos 536870912) n (old ++ new) ≡ true
-links_valid mesh base n old new fits size valid made once none number =
-    let each : All (Made mesh base) new = All-from_recursion (Made mesh base) new made in
+links_valid : (t : MeshSettings) (mesh : ObjMesh) (base n : ℕ) (old new : List Link) → IsTrue (are_settings t) → FitsNet mesh base → n ≡ base + length mesh.places → are_valid_links (pos 536870912) base old ≡ true → AllByRecursion (Made t mesh base) new → none_twice join_alike new ≡ true → first_overfull [] new ≡ None → length old + length new ≤ 524288 → are_valid_links (pos 536870912) n (old ++ new) ≡ true
+links_valid t mesh base n old new set fits size valid made once none number =
+    let each : All (Made t mesh base) new = All-from_recursion (Made t mesh base) new made in
     let news : ValidLinks (pos 536870912) n new = record {
       number = omega (arith, number);
-      each = All-weaker (Made mesh base) (ValidLink (pos 536870912) n) (λ l h. made_valid mesh base n l fits size h) new each;
+      each = All-weaker (Made t mesh base) (ValidLink (pos 536870912) n) (λ l h. made_valid t mesh base n l set fits size h) new each;
       once = once;
       few = λ i within. overfull_few [] new i none (λ j. omega arith);
     } in
     (links_facts (pos 536870912) n (old ++ new)).1 (links_join (pos 536870912) base n old new (omega (arith, size)) number
     ((links_facts (pos 536870912) base old).0 valid) news
-    (All-weaker (Made mesh base) (IsFrom base) (λ l h. made_after mesh base l h) new each))
+    (All-weaker (Made t mesh base) (IsFrom base) (λ l h. made_after t mesh base l h) new each))
 
 -- ---- particles and tracks
 
-at_rest_valid : (place : Vec3) → IsTrue (is_within (pos 536870912) place) → is_valid_particle (pos 536870912) (at_rest place) ≡ true
-at_rest_valid place t = rw t refl
+-- a weight that a `u16` can be
+at_rest_valid : (weight : ℕ) (place : Vec3) → nat_le 1 weight ≡ true → nat_le weight 65535 ≡ true → IsTrue (is_within (pos 536870912) place) → is_valid_particle (pos 536870912) (at_rest weight place) ≡ true
+at_rest_valid weight place low high t = rw (t, low, high) refl
 
-particles_valid : (mesh : ObjMesh) → IsMesh mesh → list_all (is_valid_particle (pos 536870912)) (particles mesh) ≡ true
-particles_valid mesh is = each mesh.places (recursion_from_All {X = Vec3} (λ place. IsTrue (is_within (pos 536870912) place)) mesh.places is.inside)
+particles_valid : (weight : ℕ) (mesh : ObjMesh) → nat_le 1 weight ≡ true → nat_le weight 65535 ≡ true → IsMesh mesh → list_all (is_valid_particle (pos 536870912)) (particles weight mesh) ≡ true
+particles_valid weight mesh low high is = each mesh.places (recursion_from_All {X = Vec3} (λ place. IsTrue (is_within (pos 536870912) place)) mesh.places is.inside)
   where
-    each : (ps : List Vec3) → AllByRecursion (λ place. IsTrue (is_within (pos 536870912) place)) ps → list_all (is_valid_particle (pos 536870912)) (map {A = Vec3} {B = Particle} at_rest ps) ≡ true
+    each : (ps : List Vec3) → AllByRecursion (λ place. IsTrue (is_within (pos 536870912) place)) ps → list_all (is_valid_particle (pos 536870912)) (map {A = Vec3} {B = Particle} (at_rest weight) ps) ≡ true
     each [] all = refl
-    each (p ∷ ps) all = and_from (is_valid_particle (pos 536870912) (at_rest p)) (list_all (is_valid_particle (pos 536870912)) (map {A = Vec3} {B = Particle} at_rest ps)) (at_rest_valid p all.0) (each ps all.1)
+    each (p ∷ ps) all = and_from (is_valid_particle (pos 536870912) (at_rest weight p)) (list_all (is_valid_particle (pos 536870912)) (map {A = Vec3} {B = Particle} (at_rest weight) ps)) (at_rest_valid weight p low high all.0) (each ps all.1)
 
-free_rest : (ps : List Vec3) → list_all (λ p. not p.held || is_at_rest p) (map {A = Vec3} {B = Particle} at_rest ps) ≡ true
-free_rest [] = refl
-free_rest (p ∷ ps) = free_rest ps
+free_rest : (weight : ℕ) (ps : List Vec3) → list_all (λ p. not p.held || is_at_rest p) (map {A = Vec3} {B = Particle} (at_rest weight) ps) ≡ true
+free_rest weight [] = refl
+free_rest weight (p ∷ ps) = free_rest weight ps
 
 track_wider : (limit : ℤ) (n m : ℕ) (t : Track) → n ≤ m → is_valid_track limit n t ≡ true → is_valid_track limit m t ≡ true
 track_wider limit n m t le valid =
@@ -219,43 +247,48 @@ inversion true o base p new is = cc
 inversion false (Some v) base p new is = cc
 inversion false None base p new is = (refl, refl, cc)
 
-all_valid : (mesh : ObjMesh) (parts : Parts) → IsMesh mesh → IsTrue (is_valid parts) → parts.limit ≡ pos 536870912 → length parts.particles + length mesh.places ≤ 65536 → length parts.links + length (mesh_links mesh (length parts.particles)) ≤ 524288 → first_overfull [] (mesh_links mesh (length parts.particles)) ≡ None → IsTrue (is_valid (with_all (particles mesh) (mesh_links mesh (length parts.particles)) parts))
+all_valid : (t : MeshSettings) (mesh : ObjMesh) (parts : Parts) → IsTrue (are_settings t) → t.weight ≤ 65535 → IsMesh mesh → IsTrue (is_valid parts) → parts.limit ≡ pos 536870912 → length parts.particles + length mesh.places ≤ 65536 → length parts.links + length (mesh_links t mesh (length parts.particles)) ≤ 524288 → first_overfull [] (mesh_links t mesh (length parts.particles)) ≡ None → IsTrue (is_valid (with_all (particles t.weight mesh) (mesh_links t mesh (length parts.particles)) parts))
 unfolding is_valid
-all_valid mesh parts is valid limit few few_links none =
+all_valid t mesh parts set light is valid limit few few_links none =
     let v3 = and_parts _ _ valid in let v2 = and_parts _ _ v3.0 in let v1 = and_parts _ _ v2.0 in
     let f = formed parts v1.0 in
     let base = length parts.particles in
-    let new = mesh_links mesh base in
+    let new = mesh_links t mesh base in
     let fits = mesh_fits mesh base is few in
-    let made = mesh_links_made mesh base is in
-    let size : length (parts.particles ++ particles mesh) ≡ base + length mesh.places = length-append parts.particles (particles mesh) ∙ ap (λ k. base + k) (length-map mesh.places at_rest) in
-    let grows : base ≤ length (parts.particles ++ particles mesh) = omega (arith, size) in
+    let made = mesh_links_made t mesh base is in
+    let size : length (parts.particles ++ particles t.weight mesh) ≡ base + length mesh.places = length-append parts.particles (particles t.weight mesh) ∙ ap (λ k. base + k) (length-map mesh.places (at_rest t.weight)) in
+    let grows : base ≤ length (parts.particles ++ particles t.weight mesh) = omega (arith, size) in
     let ps = and_parts (nat_le (length parts.particles) 65536) (list_all (is_valid_particle parts.limit) parts.particles) f.particles in
-    let new_particles : list_all (is_valid_particle parts.limit) (particles mesh) ≡ true = subst (λ (z : ℤ). list_all (is_valid_particle z) (particles mesh) ≡ true) (sym limit) (particles_valid mesh is) in
+    let new_particles : list_all (is_valid_particle parts.limit) (particles t.weight mesh) ≡ true = subst (λ (z : ℤ). list_all (is_valid_particle z) (particles t.weight mesh) ≡ true) (sym limit) (particles_valid t.weight mesh (weight_of t set) (le-leb t.weight 65535 light) is) in
     let old_links : are_valid_links (pos 536870912) base parts.links ≡ true = subst (λ (z : ℤ). are_valid_links z base parts.links ≡ true) limit f.links in
-    let new_links : are_valid_links parts.limit (length (parts.particles ++ particles mesh)) (parts.links ++ new) ≡ true =
-    subst (λ (z : ℤ). are_valid_links z (length (parts.particles ++ particles mesh)) (parts.links ++ new) ≡ true) (sym limit) (links_valid mesh base (length (parts.particles ++ particles mesh)) parts.links new fits size old_links made (mesh_once mesh base) none few_links) in
+    let new_links : are_valid_links parts.limit (length (parts.particles ++ particles t.weight mesh)) (parts.links ++ new) ≡ true =
+    subst (λ (z : ℤ). are_valid_links z (length (parts.particles ++ particles t.weight mesh)) (parts.links ++ new) ≡ true) (sym limit) (links_valid t mesh base (length (parts.particles ++ particles t.weight mesh)) parts.links new set fits size old_links made (mesh_once t mesh base) none few_links) in
     let tracks_are = and_parts _ _ (and_parts _ _ f.tracks).0 in
-    let whole = with_all (particles mesh) new parts in
+    let whole = with_all (particles t.weight mesh) new parts in
     let now : Formed whole = record {
       limit = f.limit;
-      particles = and_from (nat_le (length (parts.particles ++ particles mesh)) 65536) (list_all (is_valid_particle parts.limit) (parts.particles ++ particles mesh)) (le-leb (length (parts.particles ++ particles mesh)) 65536 (omega (arith, size, few))) (all_joined (is_valid_particle parts.limit) parts.particles (particles mesh) ps.1 new_particles);
+      particles = and_from (nat_le (length (parts.particles ++ particles t.weight mesh)) 65536) (list_all (is_valid_particle parts.limit) (parts.particles ++ particles t.weight mesh)) (le-leb (length (parts.particles ++ particles t.weight mesh)) 65536 (omega (arith, size, few))) (all_joined (is_valid_particle parts.limit) parts.particles (particles t.weight mesh) ps.1 new_particles);
       links = new_links;
       planes = f.planes;
       spheres = f.spheres;
-      tracks = tracks_valid parts.limit base (length (parts.particles ++ particles mesh)) parts.tracks grows f.tracks;
+      tracks = tracks_valid parts.limit base (length (parts.particles ++ particles t.weight mesh)) parts.tracks grows f.tracks;
       gravity = f.gravity;
       numbers = f.numbers;
     } in
     and_from _ _ (and_from _ _ (and_from _ _ (from_formed whole now)
-    (all_joined (λ l. l.live) parts.links new v1.1 (all_tested (Made mesh base) (λ l. l.live) (λ l h. h.live) new made)))
-    (all_joined (λ p. not p.held || is_at_rest p) parts.particles (particles mesh) v2.1 (free_rest mesh.places)))
-    (held_more parts.limit parts.tracks parts.particles (particles mesh) tracks_are.1 v3.1)
+    (all_joined (λ l. l.live) parts.links new v1.1 (all_tested (Made t mesh base) (λ l. l.live) (λ l h. h.live) new made)))
+    (all_joined (λ p. not p.held || is_at_rest p) parts.particles (particles t.weight mesh) v2.1 (free_rest t.weight mesh.places)))
+    (held_more parts.limit parts.tracks parts.particles (particles t.weight mesh) tracks_are.1 v3.1)
 
-pub added_valid : (mesh : ObjMesh) (parts new : Parts) → IsMesh mesh → IsTrue (is_valid parts) → parts.limit ≡ pos 536870912 → with_mesh mesh parts ≡ Ok new → IsTrue (is_valid new)
-unfolding with_mesh
-added_valid mesh parts new is valid limit added =
-    let links = mesh_links mesh (length parts.particles) in
-    let inv = inversion (nat_lt 65536 (length parts.particles + length mesh.places) || nat_lt 524288 (length parts.links + length links)) (first_overfull [] links) (length parts.particles) (with_all (particles mesh) links parts) new added in
+pub added_valid : (t : MeshSettings) (mesh : ObjMesh) (parts new : Parts) → IsTrue (are_settings t) → t.weight ≤ 65535 → IsMesh mesh → IsTrue (is_valid parts) → parts.limit ≡ pos 536870912 → with_mesh_as t mesh parts ≡ Ok new → IsTrue (is_valid new)
+unfolding with_mesh_as
+added_valid t mesh parts new set light is valid limit added =
+    let links = mesh_links t mesh (length parts.particles) in
+    let inv = inversion (nat_lt 65536 (length parts.particles + length mesh.places) || nat_lt 524288 (length parts.links + length links)) (first_overfull [] links) (length parts.particles) (with_all (particles t.weight mesh) links parts) new added in
     let small = or_parts (nat_lt 65536 (length parts.particles + length mesh.places)) (nat_lt 524288 (length parts.links + length links)) inv.0 in
-    subst (λ (p : Parts). IsTrue (is_valid p)) inv.2 (all_valid mesh parts is valid limit (ltb-false 65536 (length parts.particles + length mesh.places) small.0) (ltb-false 524288 (length parts.links + length links) small.1) inv.1)
+    subst (λ (p : Parts). IsTrue (is_valid p)) inv.2 (all_valid t mesh parts set light is valid limit (ltb-false 65536 (length parts.particles + length mesh.places) small.0) (ltb-false 524288 (length parts.links + length links) small.1) inv.1)
+
+-- with the settings of the form `obj`
+pub stiff_valid : (mesh : ObjMesh) (parts new : Parts) → IsMesh mesh → IsTrue (is_valid parts) → parts.limit ≡ pos 536870912 → with_mesh mesh parts ≡ Ok new → IsTrue (is_valid new)
+unfolding with_mesh are_settings
+stiff_valid mesh parts new is valid limit added = added_valid stiff_settings mesh parts new refl (omega arith) is valid limit added

@@ -1,5 +1,5 @@
 -- The corners of a face, word by word.
-use Rattle.std.proofs.Common.{◌≡◌, ◌∙◌, sym, ap, refl, ℕ, suc, ◌+◌, ◌-◌, ◌<◌, ◌≤◌, Bool, true, false, not, ◌&&◌, ◌||◌, List, [], ◌∷◌, ◌++◌, length, Option, Some, None, nat_le, arith, append_assoc, append-nil, length-append, inl, inr}
+use Rattle.std.proofs.Common.{◌≡◌, ◌∙◌, sym, ap, refl, ℕ, suc, ◌≤◌, Bool, true, false, not, ◌&&◌, ◌||◌, List, [], ◌∷◌, ◌++◌, length, Option, Some, None, nat_le, arith, append_assoc, append-nil, length-append, inl, inr}
 use Rattle.std.specs.Prelude.{◌==◌, cond, nat_lt}
 use Rattle.std.specs.List.{list_any}
 use Rattle.std.specs.Ordering.{is_eq, nat_cmp}
@@ -28,7 +28,7 @@ parts_false : (a b : Bool) → (a || b) ≡ false → (a ≡ false) × (b ≡ fa
 parts_false true b h = absurd (false≢true (sym h))
 parts_false false b h = (refl, h)
 
-once_push : (front : List ℕ) (c : ℕ) → once front ≡ true → is_among c front ≡ false → once (front ++ c ∷ []) ≡ true
+pub once_push : (front : List ℕ) (c : ℕ) → once front ≡ true → is_among c front ≡ false → once (front ++ c ∷ []) ≡ true
 once_push [] c is none = refl
 once_push (x ∷ front) c is none =
     let parts = and_parts (not (list_any (λ b. x == b) front)) (once front) is in
@@ -45,7 +45,7 @@ twice_case : (same : Bool) (x c : ℕ) (front more : List ℕ) → (x == c) ≡ 
 twice_case true x c front more is among later = and_left _ (once (front ++ c ∷ more)) (not_from_true _ (among_later x c front more (eqb-true x c is)))
 twice_case false x c front more is among later = and_right _ (once (front ++ c ∷ more)) (later among)
 
-once_twice : (front : List ℕ) (c : ℕ) (more : List ℕ) → is_among c front ≡ true → once (front ++ c ∷ more) ≡ false
+pub once_twice : (front : List ℕ) (c : ℕ) (more : List ℕ) → is_among c front ≡ true → once (front ++ c ∷ more) ≡ false
 once_twice [] c more among = absurd (false≢true among)
 once_twice (x ∷ front) c more among = twice_case (x == c) x c front more refl among (once_twice front c more)
 
@@ -91,7 +91,7 @@ or_swap true false = refl
 or_swap false true = refl
 or_swap false false = refl
 
-marked_more : (front : List ℕ) (c : ℕ) (old now : BTreeSet ℕ) → ((q : ℕ) → contains nat_cmp old q ≡ is_among q front) → ((q : ℕ) → contains nat_cmp now q ≡ cond (is_at (nat_cmp c) q) true (contains nat_cmp old q)) → (q : ℕ) → contains nat_cmp now q ≡ is_among q (front ++ c ∷ [])
+pub marked_more : (front : List ℕ) (c : ℕ) (old now : BTreeSet ℕ) → ((q : ℕ) → contains nat_cmp old q ≡ is_among q front) → ((q : ℕ) → contains nat_cmp now q ≡ cond (is_at (nat_cmp c) q) true (contains nat_cmp old q)) → (q : ℕ) → contains nat_cmp now q ≡ is_among q (front ++ c ∷ [])
 marked_more front c old now marked grown q =
     grown q
     ∙ (ap (λ b. cond b true (contains nat_cmp old q)) (cmp_same c q)

@@ -1,5 +1,5 @@
 -- What holds of each mesh that is read.
-use Rattle.std.proofs.Common.{◌≡◌, ◌∙◌, sym, ap, refl, ℕ, suc, ◌+◌, ◌-◌, ◌*◌, ◌<◌, ◌≤◌, ◌^◌, Bool, true, false, not, ◌&&◌, List, [], ◌∷◌, ◌++◌, length, take, drop, Option, Some, None, Result, Ok, Err, nat_le, arith, length-append, pos, filter}
+use Rattle.std.proofs.Common.{◌≡◌, ◌∙◌, sym, ap, refl, ℕ, suc, ◌+◌, ◌-◌, ◌*◌, ◌<◌, ◌≤◌, Bool, true, false, not, ◌&&◌, List, [], ◌∷◌, ◌++◌, length, take, drop, Option, Some, None, Result, Ok, Err, nat_le, arith, length-append, pos, filter}
 use Rattle.std.specs.Prelude.{◌==◌, cond, All, IsTrue, IfOk, OnOk, sum, bytes_eq, codes, slice_index_or}
 use Rattle.std.specs.List.{enumerate_from, slice_split, before_first, AllByRecursion}
 use Rattle.std.specs.Option.{option_map, option_and_then}

@@ -1,5 +1,5 @@
 -- Links that are added one by one, each once.
-use Rattle.std.proofs.Common.{◌≡◌, ◌≢◌, ◌∙◌, sym, ap, refl, ℕ, suc, ◌+◌, ◌-◌, ◌<◌, ◌≤◌, min, max, Bool, true, false, not, ◌&&◌, ◌||◌, List, [], ◌∷◌, ◌++◌, length, get_or, take, drop, map, arith, inl, inr, append_assoc, append-nil, length-append, length-drop, subst}
+use Rattle.std.proofs.Common.{◌≡◌, ◌∙◌, sym, ap, refl, ℕ, suc, ◌+◌, ◌-◌, ◌<◌, ◌≤◌, min, max, Bool, true, false, not, ◌&&◌, ◌||◌, List, [], ◌∷◌, ◌++◌, length, get_or, take, drop, map, arith, inl, inr, append_assoc, append-nil, length-append, length-drop, subst}
 use Rattle.std.specs.Prelude.{◌==◌, cond, All, sum, nat_lt}
 use Rattle.std.specs.List.{flat_map, list_any, range_with_len}
 use Rattle.std.specs.declared.cmp.Ordering.{Ordering}
@@ -20,8 +20,10 @@ use Rattle.pbd_obj.specs.declared.mesh.ObjMesh.{ObjMesh}
 use Rattle.pbd_obj.specs.declared.mesh.ObjFault.{ObjFault}
 use Rattle.pbd_obj.specs.declared.mesh.ObjFault.TheVariants.{TooMany}
 use Rattle.pbd_obj.specs.declared.links.FoundLinks.{FoundLinks}
-use Rattle.pbd_obj.specs.Meshes.{cut, faces}
-use Rattle.pbd_obj.specs.MeshLinks.{each_once, face_links, kind_links, link, mesh_links, side}
+use Rattle.pbd_obj.specs.Meshes.{cut}
+use Rattle.pbd_obj.specs.declared.settings.LinkSettings.{LinkSettings}
+use Rattle.pbd_obj.specs.declared.settings.MeshSettings.{MeshSettings}
+use Rattle.pbd_obj.specs.MeshLinks.{bend_links, each_once, face_links, kind_links, link, mesh_links, pairs_linked, ring, side}
 use Rattle.pbd_obj.specs.Nets.{Adds, HoldsJoined, HoldsPairs, IsFullAt, IsStopped, Names, ordered, pair_cmp}
 
 -- ---- pairs of numbers
@@ -45,7 +47,7 @@ then_same Less p = refl
 then_same Equal p = refl
 then_same Greater p = refl
 
-pair_same : (x y u v : ℕ) → is_at (pair_cmp (x, y)) (u, v) ≡ (x == u && y == v)
+pub pair_same : (x y u v : ℕ) → is_at (pair_cmp (x, y)) (u, v) ≡ (x == u && y == v)
 pair_same x y u v = then_same (nat_cmp x u) (nat_cmp y v) ∙ (ap (λ b. b && is_eq (nat_cmp y v)) (cmp_same x u) ∙ ap (λ b. x == u && b) (cmp_same y v))
 
 -- two pairs are the same, the smaller first, where they are in one order or the other
@@ -193,92 +195,121 @@ so_far_stops whole old mid xs rest left fault so_far is (inr full) =
 -- ---- the sides of a face
 
 -- what is left of a ring from side i on
-abbrev pub sides_from : ObjMesh → ℕ → List ℕ → ℕ → List Link
-sides_from mesh base face i = map {A = ℕ × ℕ} {B = Link} (link mesh base Stretch) (map {A = ℕ} {B = ℕ × ℕ} (side face) (range_with_len i (length face - i)))
+abbrev pub sides_from : LinkSettings → ObjMesh → ℕ → List ℕ → ℕ → List Link
+sides_from k mesh base face i = map {A = ℕ × ℕ} {B = Link} (link mesh base Stretch k) (map {A = ℕ} {B = ℕ × ℕ} (side face) (range_with_len i (length face - i)))
 
-pub sides_next : (mesh : ObjMesh) (base : ℕ) (face : List ℕ) (i : ℕ) → i < length face → sides_from mesh base face i ≡ (link mesh base Stretch (side face i) ∷ []) ++ sides_from mesh base face (i + 1)
-sides_next mesh base face i lt = let e : length face - i ≡ suc (length face - (i + 1)) = omega (arith, lt) in rw e refl
+pub sides_next : (k : LinkSettings) (mesh : ObjMesh) (base : ℕ) (face : List ℕ) (i : ℕ) → i < length face → sides_from k mesh base face i ≡ (link mesh base Stretch k (side face i) ∷ []) ++ sides_from k mesh base face (i + 1)
+sides_next k mesh base face i lt = let e : length face - i ≡ suc (length face - (i + 1)) = omega (arith, lt) in rw e refl
 
-side_is : (mesh : ObjMesh) (face : List ℕ) (old mid : FoundLinks) (done : List Link) (i : ℕ) (l : Link) → Adds done old mid → l ≡ link mesh mid.base Stretch (side face i) → l ≡ link mesh old.base Stretch (side face i)
-side_is mesh face old mid done i l adds is = is ∙ ap (λ b. link mesh b Stretch (side face i)) adds.base
+side_is : (k : LinkSettings) (mesh : ObjMesh) (face : List ℕ) (old mid : FoundLinks) (done : List Link) (i : ℕ) (l : Link) → Adds done old mid → l ≡ link mesh mid.base Stretch k (side face i) → l ≡ link mesh old.base Stretch k (side face i)
+side_is k mesh face old mid done i l adds is = is ∙ ap (λ b. link mesh b Stretch k (side face i)) adds.base
 
-pub ring_next : (mesh : ObjMesh) (face : List ℕ) (old mid now : FoundLinks) (i : ℕ) (l : Link) → SoFar (face_links mesh old.base Stretch face) old mid (sides_from mesh old.base face i) → i < length face → l ≡ link mesh mid.base Stretch (side face i) → Adds (l ∷ []) mid now → SoFar (face_links mesh old.base Stretch face) old now (sides_from mesh old.base face (i + 1))
-ring_next mesh face old mid now i l so_far lt is adds =
-    let same : l ≡ link mesh old.base Stretch (side face i) = side_is mesh face old mid so_far.done i l so_far.adds is in
-    so_far_next (face_links mesh old.base Stretch face) old mid now (l ∷ []) (sides_from mesh old.base face (i + 1)) (sides_from mesh old.base face i) so_far (sides_next mesh old.base face i lt ∙ ap (λ m. (m ∷ []) ++ sides_from mesh old.base face (i + 1)) (sym same)) adds
+pub ring_next : (k : LinkSettings) (mesh : ObjMesh) (face : List ℕ) (old mid now : FoundLinks) (i : ℕ) (l : Link) → SoFar (pairs_linked mesh old.base Stretch k (ring face)) old mid (sides_from k mesh old.base face i) → i < length face → l ≡ link mesh mid.base Stretch k (side face i) → Adds (l ∷ []) mid now → SoFar (pairs_linked mesh old.base Stretch k (ring face)) old now (sides_from k mesh old.base face (i + 1))
+ring_next k mesh face old mid now i l so_far lt is adds =
+    let same : l ≡ link mesh old.base Stretch k (side face i) = side_is k mesh face old mid so_far.done i l so_far.adds is in
+    so_far_next (pairs_linked mesh old.base Stretch k (ring face)) old mid now (l ∷ []) (sides_from k mesh old.base face (i + 1)) (sides_from k mesh old.base face i) so_far (sides_next k mesh old.base face i lt ∙ ap (λ m. (m ∷ []) ++ sides_from k mesh old.base face (i + 1)) (sym same)) adds
 
-pub ring_stops : (mesh : ObjMesh) (face : List ℕ) (old mid : FoundLinks) (i : ℕ) (l : Link) (fault : ObjFault) → SoFar (face_links mesh old.base Stretch face) old mid (sides_from mesh old.base face i) → i < length face → l ≡ link mesh mid.base Stretch (side face i) → IsStopped (l ∷ []) mid fault → IsStopped (face_links mesh old.base Stretch face) old fault
-ring_stops mesh face old mid i l fault so_far lt is stopped =
-    let same : l ≡ link mesh old.base Stretch (side face i) = side_is mesh face old mid so_far.done i l so_far.adds is in
-    so_far_stops (face_links mesh old.base Stretch face) old mid (l ∷ []) (sides_from mesh old.base face (i + 1)) (sides_from mesh old.base face i) fault so_far (sides_next mesh old.base face i lt ∙ ap (λ m. (m ∷ []) ++ sides_from mesh old.base face (i + 1)) (sym same)) stopped
+pub ring_stops : (k : LinkSettings) (mesh : ObjMesh) (face : List ℕ) (old mid : FoundLinks) (i : ℕ) (l : Link) (fault : ObjFault) → SoFar (pairs_linked mesh old.base Stretch k (ring face)) old mid (sides_from k mesh old.base face i) → i < length face → l ≡ link mesh mid.base Stretch k (side face i) → IsStopped (l ∷ []) mid fault → IsStopped (pairs_linked mesh old.base Stretch k (ring face)) old fault
+ring_stops k mesh face old mid i l fault so_far lt is stopped =
+    let same : l ≡ link mesh old.base Stretch k (side face i) = side_is k mesh face old mid so_far.done i l so_far.adds is in
+    so_far_stops (pairs_linked mesh old.base Stretch k (ring face)) old mid (l ∷ []) (sides_from k mesh old.base face (i + 1)) (sides_from k mesh old.base face i) fault so_far (sides_next k mesh old.base face i lt ∙ ap (λ m. (m ∷ []) ++ sides_from k mesh old.base face (i + 1)) (sym same)) stopped
 
 -- ---- face by face
 
 -- the links of some faces were added, and these sizes and corners are left
-pub record FacesSoFar (mesh : ObjMesh) (kind : Kind) (old now : FoundLinks) (sizes corners : List ℕ) : Type 0 where
-  pub links : SoFar (kind_links mesh old.base kind) old now (flat_map {X = List ℕ} {A = Link} (face_links mesh old.base kind) (cut sizes corners))
+pub record FacesSoFar (t : MeshSettings) (mesh : ObjMesh) (kind : Kind) (old now : FoundLinks) (sizes corners : List ℕ) : Type 0 where
+  pub links : SoFar (kind_links t mesh old.base kind) old now (flat_map {X = List ℕ} {A = Link} (face_links t mesh old.base kind) (cut sizes corners))
   pub named : All {X = List ℕ} (Names mesh) (cut sizes corners)
   pub whole : sum sizes ≡ length corners
   pub base : now.base ≡ old.base
 
-pub face_named : (mesh : ObjMesh) (kind : Kind) (old now : FoundLinks) (s : ℕ) (sizes corners : List ℕ) → FacesSoFar mesh kind old now (s ∷ sizes) corners → Names mesh (take s corners)
-face_named mesh kind old now s sizes corners so_far = All-head {X = List ℕ} (Names mesh) (take s corners) (cut sizes (drop s corners)) so_far.named
+pub face_named : (t : MeshSettings) (mesh : ObjMesh) (kind : Kind) (old now : FoundLinks) (s : ℕ) (sizes corners : List ℕ) → FacesSoFar t mesh kind old now (s ∷ sizes) corners → Names mesh (take s corners)
+face_named t mesh kind old now s sizes corners so_far = All-head {X = List ℕ} (Names mesh) (take s corners) (cut sizes (drop s corners)) so_far.named
 
-pub faces_next : (mesh : ObjMesh) (kind : Kind) (old mid now : FoundLinks) (s : ℕ) (sizes corners : List ℕ) → FacesSoFar mesh kind old mid (s ∷ sizes) corners → Adds (face_links mesh mid.base kind (take s corners)) mid now → FacesSoFar mesh kind old now sizes (drop s corners)
-faces_next mesh kind old mid now s sizes corners so_far adds =
+pub faces_next : (t : MeshSettings) (mesh : ObjMesh) (kind : Kind) (old mid now : FoundLinks) (s : ℕ) (sizes corners : List ℕ) → FacesSoFar t mesh kind old mid (s ∷ sizes) corners → Adds (face_links t mesh mid.base kind (take s corners)) mid now → FacesSoFar t mesh kind old now sizes (drop s corners)
+faces_next t mesh kind old mid now s sizes corners so_far adds =
     let all : s + sum sizes ≡ length corners = sym (sum_by-cons (λ x. x) s sizes) ∙ so_far.whole in
     record {
-      links = so_far_next (kind_links mesh old.base kind) old mid now (face_links mesh old.base kind (take s corners)) (flat_map {X = List ℕ} {A = Link} (face_links mesh old.base kind) (cut sizes (drop s corners))) _ so_far.links refl (subst (λ (b : ℕ). Adds (face_links mesh b kind (take s corners)) mid now) so_far.base adds);
+      links = so_far_next (kind_links t mesh old.base kind) old mid now (face_links t mesh old.base kind (take s corners)) (flat_map {X = List ℕ} {A = Link} (face_links t mesh old.base kind) (cut sizes (drop s corners))) _ so_far.links refl (subst (λ (b : ℕ). Adds (face_links t mesh b kind (take s corners)) mid now) so_far.base adds);
       named = All-tail {X = List ℕ} (Names mesh) (take s corners) (cut sizes (drop s corners)) so_far.named;
       whole = omega (arith, all, length-drop s corners);
       base = adds.base ∙ so_far.base;
     }
 
-pub faces_stop : (mesh : ObjMesh) (kind : Kind) (old mid : FoundLinks) (s : ℕ) (sizes corners : List ℕ) (fault : ObjFault) → FacesSoFar mesh kind old mid (s ∷ sizes) corners → IsStopped (face_links mesh mid.base kind (take s corners)) mid fault → IsStopped (kind_links mesh old.base kind) old fault
-faces_stop mesh kind old mid s sizes corners fault so_far stopped =
-    so_far_stops (kind_links mesh old.base kind) old mid (face_links mesh old.base kind (take s corners)) (flat_map {X = List ℕ} {A = Link} (face_links mesh old.base kind) (cut sizes (drop s corners))) _ fault so_far.links refl (subst (λ (b : ℕ). IsStopped (face_links mesh b kind (take s corners)) mid fault) so_far.base stopped)
+pub faces_stop : (t : MeshSettings) (mesh : ObjMesh) (kind : Kind) (old mid : FoundLinks) (s : ℕ) (sizes corners : List ℕ) (fault : ObjFault) → FacesSoFar t mesh kind old mid (s ∷ sizes) corners → IsStopped (face_links t mesh mid.base kind (take s corners)) mid fault → IsStopped (kind_links t mesh old.base kind) old fault
+faces_stop t mesh kind old mid s sizes corners fault so_far stopped =
+    so_far_stops (kind_links t mesh old.base kind) old mid (face_links t mesh old.base kind (take s corners)) (flat_map {X = List ℕ} {A = Link} (face_links t mesh old.base kind) (cut sizes (drop s corners))) _ fault so_far.links refl (subst (λ (b : ℕ). IsStopped (face_links t mesh b kind (take s corners)) mid fault) so_far.base stopped)
 
 pub sizes_at : (sizes : List ℕ) (i : ℕ) → i < length sizes → drop i sizes ≡ get_or sizes i 0 ∷ drop (i + 1) sizes
 sizes_at sizes i lt = drop_more sizes i 0 lt
 
-at_size : (mesh : ObjMesh) (kind : Kind) (old now : FoundLinks) (sizes : List ℕ) (i : ℕ) (corners : List ℕ) → FacesSoFar mesh kind old now (drop i sizes) corners → i < length sizes → FacesSoFar mesh kind old now (get_or sizes i 0 ∷ drop (i + 1) sizes) corners
-at_size mesh kind old now sizes i corners so_far lt = subst (λ (left : List ℕ). FacesSoFar mesh kind old now left corners) (sizes_at sizes i lt) so_far
+at_size : (t : MeshSettings) (mesh : ObjMesh) (kind : Kind) (old now : FoundLinks) (sizes : List ℕ) (i : ℕ) (corners : List ℕ) → FacesSoFar t mesh kind old now (drop i sizes) corners → i < length sizes → FacesSoFar t mesh kind old now (get_or sizes i 0 ∷ drop (i + 1) sizes) corners
+at_size t mesh kind old now sizes i corners so_far lt = subst (λ (left : List ℕ). FacesSoFar t mesh kind old now left corners) (sizes_at sizes i lt) so_far
 
-pub face_named_at : (mesh : ObjMesh) (kind : Kind) (old now : FoundLinks) (sizes : List ℕ) (i : ℕ) (corners face : List ℕ) → FacesSoFar mesh kind old now (drop i sizes) corners → i < length sizes → face ≡ take (get_or sizes i 0) corners → Names mesh face
-face_named_at mesh kind old now sizes i corners face so_far lt is =
-    subst (λ (f : List ℕ). Names mesh f) (sym is) (face_named mesh kind old now (get_or sizes i 0) (drop (i + 1) sizes) corners (at_size mesh kind old now sizes i corners so_far lt))
+pub face_named_at : (t : MeshSettings) (mesh : ObjMesh) (kind : Kind) (old now : FoundLinks) (sizes : List ℕ) (i : ℕ) (corners face : List ℕ) → FacesSoFar t mesh kind old now (drop i sizes) corners → i < length sizes → face ≡ take (get_or sizes i 0) corners → Names mesh face
+face_named_at t mesh kind old now sizes i corners face so_far lt is =
+    subst (λ (f : List ℕ). Names mesh f) (sym is) (face_named t mesh kind old now (get_or sizes i 0) (drop (i + 1) sizes) corners (at_size t mesh kind old now sizes i corners so_far lt))
 
-pub faces_next_at : (mesh : ObjMesh) (kind : Kind) (old mid now : FoundLinks) (sizes : List ℕ) (i : ℕ) (corners face behind : List ℕ) → FacesSoFar mesh kind old mid (drop i sizes) corners → i < length sizes → face ≡ take (get_or sizes i 0) corners → behind ≡ drop (get_or sizes i 0) corners → Adds (face_links mesh mid.base kind face) mid now → FacesSoFar mesh kind old now (drop (i + 1) sizes) behind
-faces_next_at mesh kind old mid now sizes i corners face behind so_far lt front back adds =
-    subst (λ (left : List ℕ). FacesSoFar mesh kind old now (drop (i + 1) sizes) left) (sym back)
-    (faces_next mesh kind old mid now (get_or sizes i 0) (drop (i + 1) sizes) corners (at_size mesh kind old mid sizes i corners so_far lt) (subst (λ (f : List ℕ). Adds (face_links mesh mid.base kind f) mid now) front adds))
+pub faces_next_at : (t : MeshSettings) (mesh : ObjMesh) (kind : Kind) (old mid now : FoundLinks) (sizes : List ℕ) (i : ℕ) (corners face behind : List ℕ) → FacesSoFar t mesh kind old mid (drop i sizes) corners → i < length sizes → face ≡ take (get_or sizes i 0) corners → behind ≡ drop (get_or sizes i 0) corners → Adds (face_links t mesh mid.base kind face) mid now → FacesSoFar t mesh kind old now (drop (i + 1) sizes) behind
+faces_next_at t mesh kind old mid now sizes i corners face behind so_far lt front back adds =
+    subst (λ (left : List ℕ). FacesSoFar t mesh kind old now (drop (i + 1) sizes) left) (sym back)
+    (faces_next t mesh kind old mid now (get_or sizes i 0) (drop (i + 1) sizes) corners (at_size t mesh kind old mid sizes i corners so_far lt) (subst (λ (f : List ℕ). Adds (face_links t mesh mid.base kind f) mid now) front adds))
 
-pub faces_stop_at : (mesh : ObjMesh) (kind : Kind) (old mid : FoundLinks) (sizes : List ℕ) (i : ℕ) (corners face : List ℕ) (fault : ObjFault) → FacesSoFar mesh kind old mid (drop i sizes) corners → i < length sizes → face ≡ take (get_or sizes i 0) corners → IsStopped (face_links mesh mid.base kind face) mid fault → IsStopped (kind_links mesh old.base kind) old fault
-faces_stop_at mesh kind old mid sizes i corners face fault so_far lt front stopped =
-    faces_stop mesh kind old mid (get_or sizes i 0) (drop (i + 1) sizes) corners fault (at_size mesh kind old mid sizes i corners so_far lt) (subst (λ (f : List ℕ). IsStopped (face_links mesh mid.base kind f) mid fault) front stopped)
+pub faces_stop_at : (t : MeshSettings) (mesh : ObjMesh) (kind : Kind) (old mid : FoundLinks) (sizes : List ℕ) (i : ℕ) (corners face : List ℕ) (fault : ObjFault) → FacesSoFar t mesh kind old mid (drop i sizes) corners → i < length sizes → face ≡ take (get_or sizes i 0) corners → IsStopped (face_links t mesh mid.base kind face) mid fault → IsStopped (kind_links t mesh old.base kind) old fault
+faces_stop_at t mesh kind old mid sizes i corners face fault so_far lt front stopped =
+    faces_stop t mesh kind old mid (get_or sizes i 0) (drop (i + 1) sizes) corners fault (at_size t mesh kind old mid sizes i corners so_far lt) (subst (λ (f : List ℕ). IsStopped (face_links t mesh mid.base kind f) mid fault) front stopped)
 
--- ---- both kinds
+-- ---- all kinds
 
-pub mesh_links_are : (mesh : ObjMesh) (start mid now : FoundLinks) → start.links ≡ [] → Adds (kind_links mesh start.base Stretch) start mid → Adds (kind_links mesh mid.base Shear) mid now → now.links ≡ mesh_links mesh start.base
-unfolding mesh_links
-mesh_links_are mesh start mid now none first second =
-    (adds_then start mid now (kind_links mesh start.base Stretch) (kind_links mesh start.base Shear) first (subst (λ (b : ℕ). Adds (kind_links mesh b Shear) mid now) first.base second)).links ∙ ap (λ kept. each_once kept (kind_links mesh start.base Stretch ++ kind_links mesh start.base Shear)) none
+abbrev all_links : MeshSettings → ObjMesh → ℕ → List Link
+all_links t mesh base = kind_links t mesh base Stretch ++ (kind_links t mesh base Shear ++ bend_links t mesh base)
 
 full_at : (links : List Link) (room : ℕ) (start : FoundLinks) (whole : List Link) (fault : ObjFault) → start.links ≡ [] → start.room ≡ room → each_once [] whole ≡ links → IsStopped whole start fault → IsFullAt links room fault
 full_at links room start whole fault none at is (inl memory) = inl memory
 full_at links room start whole fault none at is (inr full) = inr (full.0, let size : length (each_once start.links whole) ≡ length links = ap length (ap (λ kept. each_once kept whole) none ∙ is) in omega (arith, full.1, at, size))
 
-pub first_kind_stops : (mesh : ObjMesh) (start : FoundLinks) (fault : ObjFault) → HoldsJoined start → start.links ≡ [] → IsStopped (kind_links mesh start.base Stretch) start fault → IsFullAt (mesh_links mesh start.base) start.room fault
-unfolding mesh_links
-first_kind_stops mesh start fault held none stopped =
-    let both = kind_links mesh start.base Stretch ++ kind_links mesh start.base Shear in
-    full_at (each_once [] both) start.room start both fault none refl refl (so_far_stops both start start (kind_links mesh start.base Stretch) (kind_links mesh start.base Shear) both fault (so_far_begins both start both held refl) refl stopped)
+-- what was added before, and what is still to come
+pub record KindsSoFar (t : MeshSettings) (mesh : ObjMesh) (start now : FoundLinks) (rest : List Link) : Type 0 where
+  pub none : start.links ≡ []
+  pub base : now.base ≡ start.base
+  pub links : SoFar (all_links t mesh start.base) start now rest
 
-pub second_kind_stops : (mesh : ObjMesh) (start mid : FoundLinks) (fault : ObjFault) → HoldsJoined start → start.links ≡ [] → Adds (kind_links mesh start.base Stretch) start mid → IsStopped (kind_links mesh mid.base Shear) mid fault → IsFullAt (mesh_links mesh start.base) start.room fault
+-- `make` gives the links of a mesh whose first vertex is a particle
+kinds_next : (t : MeshSettings) (mesh : ObjMesh) (start mid now : FoundLinks) (make : ℕ → List Link) (rest left : List Link) → KindsSoFar t mesh start mid left → left ≡ make start.base ++ rest → Adds (make mid.base) mid now → KindsSoFar t mesh start now rest
+kinds_next t mesh start mid now make rest left so_far is adds = record {
+  none = so_far.none;
+  base = adds.base ∙ so_far.base;
+  links = so_far_next (all_links t mesh start.base) start mid now (make start.base) rest left so_far.links is (subst (λ (b : ℕ). Adds (make b) mid now) so_far.base adds);
+}
+
+kinds_stop : (t : MeshSettings) (mesh : ObjMesh) (start mid : FoundLinks) (make : ℕ → List Link) (rest left : List Link) (fault : ObjFault) → KindsSoFar t mesh start mid left → left ≡ make start.base ++ rest → IsStopped (make mid.base) mid fault → IsFullAt (mesh_links t mesh start.base) start.room fault
 unfolding mesh_links
-second_kind_stops mesh start mid fault held none first stopped =
-    let stretch = kind_links mesh start.base Stretch in
-    let shear = kind_links mesh start.base Shear in
-    let both = stretch ++ shear in
-    let half : SoFar both start mid shear = so_far_next both start start mid stretch shear both (so_far_begins both start both held refl) refl first in
-    full_at (each_once [] both) start.room start both fault none refl refl (so_far_stops both start mid shear [] shear fault half (sym (append-nil shear)) (subst (λ (b : ℕ). IsStopped (kind_links mesh b Shear) mid fault) first.base stopped))
+kinds_stop t mesh start mid make rest left fault so_far is stopped =
+    full_at (each_once [] (all_links t mesh start.base)) start.room start (all_links t mesh start.base) fault so_far.none refl refl
+    (so_far_stops (all_links t mesh start.base) start mid (make start.base) rest left fault so_far.links is (subst (λ (b : ℕ). IsStopped (make b) mid fault) so_far.base stopped))
+
+at_start : (t : MeshSettings) (mesh : ObjMesh) (start : FoundLinks) → HoldsJoined start → start.links ≡ [] → KindsSoFar t mesh start start (all_links t mesh start.base)
+at_start t mesh start held none = record { none = none; base = refl; links = so_far_begins (all_links t mesh start.base) start (all_links t mesh start.base) held refl }
+
+after_stretch : (t : MeshSettings) (mesh : ObjMesh) (start mid : FoundLinks) → HoldsJoined start → start.links ≡ [] → Adds (kind_links t mesh start.base Stretch) start mid → KindsSoFar t mesh start mid (kind_links t mesh start.base Shear ++ bend_links t mesh start.base)
+after_stretch t mesh start mid held none first = kinds_next t mesh start start mid (λ b. kind_links t mesh b Stretch) (kind_links t mesh start.base Shear ++ bend_links t mesh start.base) (all_links t mesh start.base) (at_start t mesh start held none) refl first
+
+after_shear : (t : MeshSettings) (mesh : ObjMesh) (start mid last : FoundLinks) → HoldsJoined start → start.links ≡ [] → Adds (kind_links t mesh start.base Stretch) start mid → Adds (kind_links t mesh mid.base Shear) mid last → KindsSoFar t mesh start last (bend_links t mesh start.base)
+after_shear t mesh start mid last held none first second = kinds_next t mesh start mid last (λ b. kind_links t mesh b Shear) (bend_links t mesh start.base) (kind_links t mesh start.base Shear ++ bend_links t mesh start.base) (after_stretch t mesh start mid held none first) refl second
+
+pub stretch_stops : (t : MeshSettings) (mesh : ObjMesh) (start : FoundLinks) (fault : ObjFault) → HoldsJoined start → start.links ≡ [] → IsStopped (kind_links t mesh start.base Stretch) start fault → IsFullAt (mesh_links t mesh start.base) start.room fault
+stretch_stops t mesh start fault held none stopped = kinds_stop t mesh start start (λ b. kind_links t mesh b Stretch) (kind_links t mesh start.base Shear ++ bend_links t mesh start.base) (all_links t mesh start.base) fault (at_start t mesh start held none) refl stopped
+
+pub shear_stops : (t : MeshSettings) (mesh : ObjMesh) (start mid : FoundLinks) (fault : ObjFault) → HoldsJoined start → start.links ≡ [] → Adds (kind_links t mesh start.base Stretch) start mid → IsStopped (kind_links t mesh mid.base Shear) mid fault → IsFullAt (mesh_links t mesh start.base) start.room fault
+shear_stops t mesh start mid fault held none first stopped = kinds_stop t mesh start mid (λ b. kind_links t mesh b Shear) (bend_links t mesh start.base) (kind_links t mesh start.base Shear ++ bend_links t mesh start.base) fault (after_stretch t mesh start mid held none first) refl stopped
+
+pub bends_stop : (t : MeshSettings) (mesh : ObjMesh) (start mid last : FoundLinks) (fault : ObjFault) → HoldsJoined start → start.links ≡ [] → Adds (kind_links t mesh start.base Stretch) start mid → Adds (kind_links t mesh mid.base Shear) mid last → IsStopped (bend_links t mesh last.base) last fault → IsFullAt (mesh_links t mesh start.base) start.room fault
+bends_stop t mesh start mid last fault held none first second stopped = kinds_stop t mesh start last (λ b. bend_links t mesh b) [] (bend_links t mesh start.base) fault (after_shear t mesh start mid last held none first second) (sym (append-nil (bend_links t mesh start.base))) stopped
+
+pub mesh_links_are : (t : MeshSettings) (mesh : ObjMesh) (start mid last now : FoundLinks) → HoldsJoined start → start.links ≡ [] → Adds (kind_links t mesh start.base Stretch) start mid → Adds (kind_links t mesh mid.base Shear) mid last → Adds (bend_links t mesh last.base) last now → now.links ≡ mesh_links t mesh start.base
+unfolding mesh_links
+mesh_links_are t mesh start mid last now held none first second third =
+    let so_far = kinds_next t mesh start last now (λ b. bend_links t mesh b) [] (bend_links t mesh start.base) (after_shear t mesh start mid last held none first second) (sym (append-nil (bend_links t mesh start.base))) third in
+    let done = (so_far.links).done in
+    let all : done ≡ all_links t mesh start.base = sym (append-nil done) ∙ (so_far.links).makes in
+    ((so_far.links).adds).links ∙ (ap (λ kept. each_once kept done) none ∙ ap (each_once []) all)

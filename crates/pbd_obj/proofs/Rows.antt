@@ -5,11 +5,14 @@ use Rattle.pbd_num.specs.declared.Vec3.{Vec3}
 use Rattle.pbd_num.specs.Rounding.{rdiv, root}
 use Rattle.pbd_world.specs.declared.parts.Link.{Link}
 use Rattle.pbd_world.specs.declared.parts.Kind.{Kind}
-use Rattle.pbd_world.specs.declared.parts.Kind.TheVariants.{Stretch, Shear}
+use Rattle.pbd_world.specs.declared.parts.Kind.TheVariants.{Stretch, Shear, Bend}
 use Rattle.pbd_obj.specs.declared.mesh.ObjMesh.{ObjMesh}
 use Rattle.pbd_obj.specs.declared.mesh.ObjFault.TheVariants.{BadNumber, BadFace, OutOfRange}
 use Rattle.pbd_obj.specs.Decimals.{decimal, scaled, units, units_of}
 use Rattle.pbd_obj.specs.Reading.{corner, with_line, read}
+use Rattle.pbd_obj.specs.Facing.{edge, edges, facing}
+use Rattle.pbd_obj.specs.declared.settings.MeshSettings.{MeshSettings}
+use Rattle.pbd_obj.specs.Settings.{stiff, stiff_settings}
 use Rattle.pbd_obj.specs.MeshLinks.{link, mesh_links}
 use Rattle.pbd_obj.specs.Writing.{coordinate, vertex_line, face_line, mesh_text}
 
@@ -149,6 +152,39 @@ joins kind a b rest = record { a = 7 + a; b = 7 + b; rest = pos rest; k = 256; t
 folded : ObjMesh
 folded = record { places = place 0 0 0 ∷ place 3 0 0 ∷ place 3 4 0 ∷ place 0 4 0 ∷ []; sizes = 4 ∷ 3 ∷ []; corners = 0 ∷ 1 ∷ 2 ∷ 3 ∷ 2 ∷ 1 ∷ 0 ∷ [] }
 
-doubles_are_left_out : mesh_links folded 7 ≡ joins Stretch 0 1 3 ∷ joins Stretch 1 2 4 ∷ joins Stretch 2 3 3 ∷ joins Stretch 3 0 4 ∷ joins Stretch 0 2 5 ∷ joins Shear 1 3 5 ∷ []
+doubles_are_left_out : mesh_links stiff_settings folded 7 ≡ joins Stretch 0 1 3 ∷ joins Stretch 1 2 4 ∷ joins Stretch 2 3 3 ∷ joins Stretch 3 0 4 ∷ joins Stretch 0 2 5 ∷ joins Shear 1 3 5 ∷ []
 unfolding mesh_links link root folded joins place
 doubles_are_left_out = refl
+
+-- ---- what faces each other
+
+-- two triangles at the edge of 1 and 2
+across_triangles : facing (edges ((0 ∷ 1 ∷ 2 ∷ []) ∷ (2 ∷ 1 ∷ 3 ∷ []) ∷ [])) ≡ (0, 3) ∷ (0, 3) ∷ (0, 3) ∷ (0, 3) ∷ []
+unfolding facing edge
+across_triangles = refl
+
+-- two squares at the edge of 1 and 2
+across_squares : facing (edges ((0 ∷ 1 ∷ 2 ∷ 3 ∷ []) ∷ (1 ∷ 4 ∷ 5 ∷ 2 ∷ []) ∷ [])) ≡ (0, 4) ∷ (3, 5) ∷ (0, 4) ∷ (3, 5) ∷ []
+unfolding facing edge
+across_squares = refl
+
+-- three triangles at one edge
+across_three : facing (edges ((0 ∷ 1 ∷ 2 ∷ []) ∷ (2 ∷ 1 ∷ 3 ∷ []) ∷ (1 ∷ 2 ∷ 4 ∷ []) ∷ [])) ≡ []
+unfolding facing edge
+across_three = refl
+
+-- a triangle and its back
+across_itself : facing (edges ((0 ∷ 1 ∷ 2 ∷ []) ∷ (2 ∷ 1 ∷ 0 ∷ []) ∷ [])) ≡ []
+unfolding facing edge
+across_itself = refl
+
+-- two triangles, whose other corners are joined by one link that bends
+bent : MeshSettings
+bent = record { weight = 1; stretch = stiff; shear = stiff; bend = Some (record { stiffness = 40; tear = pos 9 }) }
+
+pair_of_triangles : ObjMesh
+pair_of_triangles = record { places = place 0 0 0 ∷ place 3 0 0 ∷ place 0 4 0 ∷ place 3 4 0 ∷ []; sizes = 3 ∷ 3 ∷ []; corners = 0 ∷ 1 ∷ 2 ∷ 2 ∷ 1 ∷ 3 ∷ [] }
+
+one_link_bends : mesh_links bent pair_of_triangles 7 ≡ joins Stretch 0 1 3 ∷ joins Stretch 1 2 5 ∷ joins Stretch 2 0 4 ∷ joins Stretch 1 3 4 ∷ joins Stretch 3 2 3 ∷ record (joins Bend 0 3 5) { k = 40; tear = pos 9 } ∷ []
+unfolding mesh_links link root pair_of_triangles joins place bent facing edge
+one_link_bends = refl

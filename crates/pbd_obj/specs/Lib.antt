@@ -2,6 +2,10 @@ pub mod Decimals
 pub mod Sizes
 pub mod Meshes
 pub mod Reading
+pub mod Arrays
 pub mod Writing
+pub mod Settings
+pub mod Facing
 pub mod MeshLinks
 pub mod Nets
+pub mod SharedEdges

@@ -14,7 +14,11 @@ use Rattle.pbd_mesh.specs.Cloth.{resting}
 use Rattle.pbd_obj.specs.declared.mesh.ObjMesh.{ObjMesh}
 use Rattle.pbd_obj.specs.declared.mesh.ObjFault.{ObjFault}
 use Rattle.pbd_obj.specs.declared.mesh.ObjFault.TheVariants.{TooMany, TooManyAtParticle}
+use Rattle.pbd_obj.specs.declared.settings.LinkSettings.{LinkSettings}
+use Rattle.pbd_obj.specs.declared.settings.MeshSettings.{MeshSettings}
+use Rattle.pbd_obj.specs.Facing.{edges, facing}
 use Rattle.pbd_obj.specs.Meshes.{faces}
+use Rattle.pbd_obj.specs.Settings.{stiff_settings}
 
 -- ---- what is joined
 
@@ -30,44 +34,62 @@ abbrev pub diagonals : List ℕ → List (ℕ × ℕ)
 diagonals (a ∷ b ∷ c ∷ d ∷ []) = (a, c) ∷ (b, d) ∷ []
 diagonals face = []
 
-abbrev pub pairs : Kind → List ℕ → List (ℕ × ℕ)
-pairs Stretch face = ring face
-pairs Shear face = diagonals face
-pairs Bend face = []
-pairs Plain face = []
-
 -- ---- links
 
 abbrev pub place_at : ObjMesh → ℕ → Vec3
 place_at mesh v = slice_index_or mesh.places v zero_vector
 
--- a stiff link that never tears, at its length, where the first vertex is particle `base`
-unfoldable pub link : ObjMesh → ℕ → Kind → ℕ × ℕ → Link
-link mesh base kind ends = record {
+-- a link at its length, where the first vertex is particle `base`
+unfoldable pub link : ObjMesh → ℕ → Kind → LinkSettings → ℕ × ℕ → Link
+link mesh base kind settings ends = record {
   a = base + ends.0;
   b = base + ends.1;
   rest = pos (length_of (minus (place_at mesh ends.0) (place_at mesh ends.1)));
-  k = 256;
-  tear = pos 0;
+  k = settings.stiffness;
+  tear = settings.tear;
   kind = kind;
   live = true;
 }
 
-abbrev pub face_links : ObjMesh → ℕ → Kind → List ℕ → List Link
-face_links mesh base kind face = map {A = ℕ × ℕ} {B = Link} (link mesh base kind) (pairs kind face)
+abbrev pub pairs_linked : ObjMesh → ℕ → Kind → LinkSettings → List (ℕ × ℕ) → List Link
+pairs_linked mesh base kind settings ps = map {A = ℕ × ℕ} {B = Link} (link mesh base kind settings) ps
+
+abbrev pub ring_links : ObjMesh → ℕ → LinkSettings → List ℕ → List Link
+ring_links mesh base settings face = pairs_linked mesh base Stretch settings (ring face)
+
+abbrev pub diagonal_links : ObjMesh → ℕ → LinkSettings → List ℕ → List Link
+diagonal_links mesh base settings face = pairs_linked mesh base Shear settings (diagonals face)
+
+-- along the sides of a face, or across it where it has four corners
+abbrev pub face_links : MeshSettings → ObjMesh → ℕ → Kind → List ℕ → List Link
+face_links t mesh base Stretch face = ring_links mesh base t.stretch face
+face_links t mesh base Shear face = diagonal_links mesh base t.shear face
+face_links t mesh base Bend face = []
+face_links t mesh base Plain face = []
 
 -- face by face
-abbrev pub kind_links : ObjMesh → ℕ → Kind → List Link
-kind_links mesh base kind = flat_map {X = List ℕ} {A = Link} (face_links mesh base kind) (faces mesh)
+abbrev pub kind_links : MeshSettings → ObjMesh → ℕ → Kind → List Link
+kind_links t mesh base kind = flat_map {X = List ℕ} {A = Link} (face_links t mesh base kind) (faces mesh)
+
+abbrev pub bends : ObjMesh → ℕ → LinkSettings → List (ℕ × ℕ) → List Link
+bends mesh base settings ps = pairs_linked mesh base Bend settings ps
+
+-- across the edges that two faces share, if there are settings for these
+abbrev pub some_bends : Option LinkSettings → ObjMesh → ℕ → List Link
+some_bends None mesh base = []
+some_bends (Some settings) mesh base = bends mesh base settings (facing (edges (faces mesh)))
+
+abbrev pub bend_links : MeshSettings → ObjMesh → ℕ → List Link
+bend_links t mesh base = some_bends t.bend mesh base
 
 -- some links, and after them each of others whose particles none before it joins, in either order
 abbrev pub each_once : List Link → List Link → List Link
 each_once kept [] = kept
 each_once kept (l ∷ ls) = each_once (if list_any (join_alike l) kept then kept else kept ++ l ∷ []) ls
 
--- along the sides first, and then across
-unfoldable pub mesh_links : ObjMesh → ℕ → List Link
-mesh_links mesh base = each_once [] (kind_links mesh base Stretch ++ kind_links mesh base Shear)
+-- along the sides first, then across, and then what bends
+unfoldable pub mesh_links : MeshSettings → ObjMesh → ℕ → List Link
+mesh_links t mesh base = each_once [] (kind_links t mesh base Stretch ++ (kind_links t mesh base Shear ++ bend_links t mesh base))
 
 -- ---- how many are at a particle
 
@@ -85,27 +107,31 @@ first_overfull before (l ∷ ls) = option_or (overfull_end before l) (first_over
 
 -- ---- a scene and a mesh
 
--- a free particle of weight 1 at rest
-abbrev pub at_rest : Vec3 → Particle
-at_rest place = resting place 1
+-- a free particle at rest
+abbrev pub at_rest : ℕ → Vec3 → Particle
+at_rest weight place = resting place weight
 
 -- parts with particles and links after their own
 abbrev pub with_all : List Particle → List Link → Parts → Parts
 with_all particles links parts = record parts { particles = parts.particles ++ particles; links = parts.links ++ links }
 
-abbrev pub particles : ObjMesh → List Particle
-particles mesh = map {A = Vec3} {B = Particle} at_rest mesh.places
+abbrev pub particles : ℕ → ObjMesh → List Particle
+particles weight mesh = map {A = Vec3} {B = Particle} (at_rest weight) mesh.places
 
 -- parts with a mesh after their own, unless it makes too many particles or links, or too many at a vertex, counted from 1
 abbrev pub unless_overfull : ℕ → Option ℕ → Parts → Result Parts ObjFault
 unless_overfull base None parts = Ok parts
 unless_overfull base (Some i) parts = Err (TooManyAtParticle (i - base + 1))
 
-abbrev pub with_links : ObjMesh → List Link → Parts → Result Parts ObjFault
-with_links mesh links parts =
+abbrev pub with_links : ℕ → ObjMesh → List Link → Parts → Result Parts ObjFault
+with_links weight mesh links parts =
     if nat_lt 65536 (length parts.particles + length mesh.places) || nat_lt 524288 (length parts.links + length links)
     then Err TooMany
-    else unless_overfull (length parts.particles) (first_overfull [] links) (with_all (particles mesh) links parts)
+    else unless_overfull (length parts.particles) (first_overfull [] links) (with_all (particles weight mesh) links parts)
 
+unfoldable pub with_mesh_as : MeshSettings → ObjMesh → Parts → Result Parts ObjFault
+with_mesh_as t mesh parts = with_links t.weight mesh (mesh_links t mesh (length parts.particles)) parts
+
+-- as the form `obj` adds it
 unfoldable pub with_mesh : ObjMesh → Parts → Result Parts ObjFault
-with_mesh mesh parts = with_links mesh (mesh_links mesh (length parts.particles)) parts
+with_mesh mesh parts = with_mesh_as stiff_settings mesh parts

@@ -6,10 +6,12 @@ ghost use Rattle.pbd_world.specs.declared.parts.Link.{Link};
 ghost use Rattle.pbd_world.specs.Valid.{is_valid};
 ghost use Rattle.pbd_mesh.specs.Appending.{WithFront};
 ghost use Rattle.pbd_obj.specs.Meshes.{IsMesh};
-ghost use Rattle.pbd_obj.specs.MeshLinks.{face_links, first_overfull, kind_links, link, mesh_links, particles, at_rest, with_all, with_mesh};
+ghost use Rattle.pbd_obj.specs.MeshLinks.{at_rest, diagonal_links, face_links, first_overfull, kind_links, link, mesh_links, particles, ring_links, with_all, with_mesh, with_mesh_as};
 ghost use Rattle.pbd_obj.specs.Reading.{IsFaultOf};
 ghost use Rattle.pbd_obj.specs.Nets.{counted_end, ordered, Adds, AreFew, CountsLink, FitsNet, HoldsJoined, IsFrom, IsFullAt, IsLinkFrom, IsStopped, Names};
 
+use crate::bends::add_bends;
+use crate::settings::{LinkSettings, MeshSettings};
 use crate::{ObjFault, ObjMesh};
 use pbd_mesh::resting;
 use pbd_num::{Vec3, distance};
@@ -23,7 +25,7 @@ const MOST_AT_ONE: u32 = MOST_AT_PARTICLE as u32;
 #[derive(Drop)]
 pub struct FoundLinks {
     /// The particle of the first vertex.
-    base: u32,
+    pub(crate) base: u32,
     /// How many links there may be.
     room: usize,
     links: List<Link>,
@@ -39,7 +41,7 @@ fn ordered(a: u32, b: u32) -> (u32, u32)
 }
 
 /// Adds a link, unless one before it joins its particles.
-fn add(found: &mut FoundLinks, link: Link) -> Result<(), ObjFault>
+pub(crate) fn add(found: &mut FoundLinks, link: Link) -> Result<(), ObjFault>
     requires { HoldsJoined found.old }
     ensures ok { OnOk result (Adds (link ∷ []) found.old found.new) }
     ensures err { IfErr result (λ fault. IsStopped (link ∷ []) found.old fault) }
@@ -55,59 +57,76 @@ fn add(found: &mut FoundLinks, link: Link) -> Result<(), ObjFault>
 }
 
 #[tactic(auto, unfolding(crate::specs::MeshLinks::link))]
-fn link(mesh: &ObjMesh, base: u32, kind: Kind, a: u32, b: u32) -> Link
+pub(crate) fn link(
+    mesh: &ObjMesh,
+    base: u32,
+    kind: Kind,
+    settings: LinkSettings,
+    ends: (u32, u32),
+) -> Link
     requires mesh { FitsNet mesh.now base }
-    requires a { a < length mesh.now.places }
-    requires b { b < length mesh.now.places }
-    ensures { result ≡ link mesh.now base kind (a, b) }
+    requires a { ends.0 < length mesh.now.places }
+    requires b { ends.1 < length mesh.now.places }
+    ensures { result ≡ link mesh.now base kind settings ends }
 {
     let places = mesh.places.as_slice();
     Link {
-        a: base + a,
-        b: base + b,
-        rest: distance(places[a as usize], places[b as usize]),
-        k: 256,
-        tear: 0,
+        a: base + ends.0,
+        b: base + ends.1,
+        rest: distance(places[ends.0 as usize], places[ends.1 as usize]),
+        k: settings.stiffness,
+        tear: settings.tear,
         kind,
         live: true,
     }
 }
 
 /// Links each corner to the next, and the last to the first.
-fn add_ring(mesh: &ObjMesh, face: &[u32], found: &mut FoundLinks) -> Result<(), ObjFault>
+fn add_ring(
+    mesh: &ObjMesh,
+    settings: LinkSettings,
+    face: &[u32],
+    found: &mut FoundLinks,
+) -> Result<(), ObjFault>
     requires mesh { FitsNet mesh.now found.old.base }
     requires joined { HoldsJoined found.old }
     requires face { Names mesh.now face.now }
-    ensures ok { OnOk result (Adds (face_links mesh.now found.old.base Kind.Stretch face.now) found.old found.new) }
-    ensures err { IfErr result (λ fault. IsStopped (face_links mesh.now found.old.base Kind.Stretch face.now) found.old fault) }
+    ensures ok { OnOk result (Adds (ring_links mesh.now found.old.base settings face.now) found.old found.new) }
+    ensures err { IfErr result (λ fault. IsStopped (ring_links mesh.now found.old.base settings face.now) found.old fault) }
 {
     for i in 0..face.len() {
-        let next = face[(i + 1) % face.len()];
-        let side = link(mesh, found.base, Kind::Stretch, face[i], next);
+        let ends = (face[i], face[(i + 1) % face.len()]);
+        let side = link(mesh, found.base, Kind::Stretch, settings, ends);
         add(found, side)?;
     }
     Ok(())
 }
 
 /// Links both diagonals of a face with four corners.
-fn add_diagonals(mesh: &ObjMesh, face: &[u32], found: &mut FoundLinks) -> Result<(), ObjFault>
+fn add_diagonals(
+    mesh: &ObjMesh,
+    settings: LinkSettings,
+    face: &[u32],
+    found: &mut FoundLinks,
+) -> Result<(), ObjFault>
     requires mesh { FitsNet mesh.now found.old.base }
     requires joined { HoldsJoined found.old }
     requires face { Names mesh.now face.now }
-    ensures ok { OnOk result (Adds (face_links mesh.now found.old.base Kind.Shear face.now) found.old found.new) }
-    ensures err { IfErr result (λ fault. IsStopped (face_links mesh.now found.old.base Kind.Shear face.now) found.old fault) }
+    ensures ok { OnOk result (Adds (diagonal_links mesh.now found.old.base settings face.now) found.old found.new) }
+    ensures err { IfErr result (λ fault. IsStopped (diagonal_links mesh.now found.old.base settings face.now) found.old fault) }
 {
     if face.len() != 4 {
         return Ok(());
     }
-    let first = link(mesh, found.base, Kind::Shear, face[0], face[2]);
-    let second = link(mesh, found.base, Kind::Shear, face[1], face[3]);
+    let first = link(mesh, found.base, Kind::Shear, settings, (face[0], face[2]));
+    let second = link(mesh, found.base, Kind::Shear, settings, (face[1], face[3]));
     add(found, first)?;
     add(found, second)
 }
 
 fn add_face(
     mesh: &ObjMesh,
+    settings: &MeshSettings,
     kind: Kind,
     face: &[u32],
     found: &mut FoundLinks,
@@ -115,28 +134,33 @@ fn add_face(
     requires mesh { FitsNet mesh.now found.old.base }
     requires joined { HoldsJoined found.old }
     requires face { Names mesh.now face.now }
-    ensures ok { OnOk result (Adds (face_links mesh.now found.old.base kind face.now) found.old found.new) }
-    ensures err { IfErr result (λ fault. IsStopped (face_links mesh.now found.old.base kind face.now) found.old fault) }
+    ensures ok { OnOk result (Adds (face_links settings.now mesh.now found.old.base kind face.now) found.old found.new) }
+    ensures err { IfErr result (λ fault. IsStopped (face_links settings.now mesh.now found.old.base kind face.now) found.old fault) }
 {
     match kind {
-        Kind::Stretch => add_ring(mesh, face, found),
-        Kind::Shear => add_diagonals(mesh, face, found),
+        Kind::Stretch => add_ring(mesh, settings.stretch, face, found),
+        Kind::Shear => add_diagonals(mesh, settings.shear, face, found),
         Kind::Bend | Kind::Plain => Ok(()),
     }
 }
 
-fn add_kind(mesh: &ObjMesh, kind: Kind, found: &mut FoundLinks) -> Result<(), ObjFault>
+fn add_kind(
+    mesh: &ObjMesh,
+    settings: &MeshSettings,
+    kind: Kind,
+    found: &mut FoundLinks,
+) -> Result<(), ObjFault>
     requires mesh { IsMesh mesh.now }
     requires fits { FitsNet mesh.now found.old.base }
     requires joined { HoldsJoined found.old }
-    ensures ok { OnOk result (Adds (kind_links mesh.now found.old.base kind) found.old found.new) }
-    ensures err { IfErr result (λ fault. IsStopped (kind_links mesh.now found.old.base kind) found.old fault) }
+    ensures ok { OnOk result (Adds (kind_links settings.now mesh.now found.old.base kind) found.old found.new) }
+    ensures err { IfErr result (λ fault. IsStopped (kind_links settings.now mesh.now found.old.base kind) found.old fault) }
 {
     let sizes = mesh.sizes.as_slice();
     let mut rest = mesh.corners.as_slice();
     for size in sizes {
         let (face, behind) = rest.split_at(*size as usize);
-        add_face(mesh, kind, face, found)?;
+        add_face(mesh, settings, kind, face, found)?;
         rest = behind;
     }
     Ok(())
@@ -145,12 +169,18 @@ fn add_kind(mesh: &ObjMesh, kind: Kind, found: &mut FoundLinks) -> Result<(), Ob
 /// The links of a mesh whose first vertex is particle `base`. `TooMany` comes where there are more
 /// than `room`.
 #[tactic(auto, unfolding(crate::specs::MeshLinks::mesh_links))]
-fn mesh_links(alloc: Global, mesh: &ObjMesh, base: u32, room: usize) -> Result<List<Link>, ObjFault>
+fn mesh_links(
+    alloc: Global,
+    mesh: &ObjMesh,
+    settings: &MeshSettings,
+    base: u32,
+    room: usize,
+) -> Result<List<Link>, ObjFault>
     requires mesh { IsMesh mesh.now }
     requires fits { FitsNet mesh.now base }
-    ensures links { IfOk result (λ links. links ≡ mesh_links mesh.now base) }
+    ensures links { IfOk result (λ links. links ≡ mesh_links settings.now mesh.now base) }
     ensures few { IfOk result (λ links. length links ≤ room) }
-    ensures err { IfErr result (λ fault. IsFullAt (mesh_links mesh.now base) room fault) }
+    ensures err { IfErr result (λ fault. IsFullAt (mesh_links settings.now mesh.now base) room fault) }
 {
     let mut found = FoundLinks {
         base,
@@ -158,8 +188,9 @@ fn mesh_links(alloc: Global, mesh: &ObjMesh, base: u32, room: usize) -> Result<L
         links: List::new(alloc),
         joined: BTreeSet::new(alloc),
     };
-    add_kind(mesh, Kind::Stretch, &mut found)?;
-    add_kind(mesh, Kind::Shear, &mut found)?;
+    add_kind(mesh, settings, Kind::Stretch, &mut found)?;
+    add_kind(mesh, settings, Kind::Shear, &mut found)?;
+    add_bends(alloc, mesh, settings, &mut found)?;
     let FoundLinks { links, .. } = found;
     Ok(links)
 }
@@ -229,12 +260,16 @@ fn first_overfull(
 // ---- a scene and a mesh
 
 #[tactic(auto, using(crate::proofs::AddLemmas::pushed_begin, crate::proofs::AddLemmas::pushed_next, crate::proofs::AddLemmas::pushed_all, crate::proofs::AddLemmas::front_of))]
-fn push_particles(places: &[Vec3], particles: &mut List<Particle>) -> Result<(), AllocError>
-    ensures ok { OnOk result (particles.new ≡ particles.old ++ map {A = Vec3} {B = Particle} at_rest places.now) }
+fn push_particles(
+    places: &[Vec3],
+    weight: u16,
+    particles: &mut List<Particle>,
+) -> Result<(), AllocError>
+    ensures ok { OnOk result (particles.new ≡ particles.old ++ map {A = Vec3} {B = Particle} (at_rest weight) places.now) }
     ensures err { OnErr result (take (length particles.old) particles.new ≡ particles.old) }
 {
     for place in places {
-        particles.push(resting(*place, 1))?;
+        particles.push(resting(*place, weight))?;
     }
     Ok(())
 }
@@ -250,22 +285,27 @@ fn push_links(new: &[Link], links: &mut List<Link>) -> Result<(), AllocError>
     Ok(())
 }
 
-fn push_all(mesh: &ObjMesh, links: &[Link], parts: &mut Parts) -> Result<(), AllocError>
-    ensures ok { OnOk result (parts.new ≡ with_all (particles mesh.now) links.now parts.old) }
+fn push_all(
+    mesh: &ObjMesh,
+    weight: u16,
+    links: &[Link],
+    parts: &mut Parts,
+) -> Result<(), AllocError>
+    ensures ok { OnOk result (parts.new ≡ with_all (particles weight mesh.now) links.now parts.old) }
     ensures err { OnErr result (WithFront parts.old parts.new) }
 {
-    push_particles(mesh.places.as_slice(), &mut parts.particles)?;
+    push_particles(mesh.places.as_slice(), weight, &mut parts.particles)?;
     push_links(links, &mut parts.links)
 }
 
 /// Pushes the particles and links, or leaves the parts as they were.
-fn append(mesh: &ObjMesh, links: &[Link], parts: &mut Parts) -> Result<(), AllocError>
-    ensures ok { OnOk result (parts.new ≡ with_all (particles mesh.now) links.now parts.old) }
+fn append(mesh: &ObjMesh, weight: u16, links: &[Link], parts: &mut Parts) -> Result<(), AllocError>
+    ensures ok { OnOk result (parts.new ≡ with_all (particles weight mesh.now) links.now parts.old) }
     ensures err { OnErr result (parts.new ≡ parts.old) }
 {
     let particles_before = parts.particles.len();
     let links_before = parts.links.len();
-    let pushed = push_all(mesh, links, parts);
+    let pushed = push_all(mesh, weight, links, parts);
     if pushed.is_err() {
         parts.particles.truncate(particles_before);
         parts.links.truncate(links_before);
@@ -273,10 +313,40 @@ fn append(mesh: &ObjMesh, links: &[Link], parts: &mut Parts) -> Result<(), Alloc
     pushed
 }
 
-/// Appends the vertices of a mesh as free particles of weight 1 at rest, and links them: along the
-/// sides of each face, and across each face with four corners. After a refusal the parts are as
-/// before. `TooMany` comes before `TooManyAtParticle`, which names the vertex of the first link that
-/// is the 33rd there.
+/// Appends the vertices of a mesh as free particles at rest, and links them: along the sides of each
+/// face, across each face with four corners, and if there are settings for it what faces each other
+/// across each edge that two faces share. After a refusal the parts are as before. `TooMany` comes
+/// before `TooManyAtParticle`, which names the vertex of the first link that is the 33rd there.
+#[tactic(auto, unfolding(crate::specs::MeshLinks::with_mesh_as))]
+pub fn add_mesh_with(
+    alloc: Global,
+    mesh: &ObjMesh,
+    settings: &MeshSettings,
+    parts: &mut Parts,
+) -> Result<(), ObjFault>
+    requires mesh { IsMesh mesh.now }
+    requires valid { IsTrue (is_valid parts.old) }
+    requires limit { parts.old.limit ≡ pos 536870912 }
+    ensures ok { OnOk result (with_mesh_as settings.now mesh.now parts.old ≡ Ok parts.new) }
+    ensures err { IfErr result (λ fault. IsFaultOf (with_mesh_as settings.now mesh.now parts.old) fault) }
+    ensures kept { OnErr result (parts.new ≡ parts.old) }
+{
+    let base = parts.particles.len();
+    let vertices = mesh.places.len();
+    if vertices > MOST_PARTICLES - base {
+        return Err(ObjFault::TooMany);
+    }
+    let room = MOST_LINKS - parts.links.len();
+    let links = mesh_links(alloc, mesh, settings, base as u32, room)?;
+    if let Some(end) = first_overfull(alloc, base as u32, vertices, links.as_slice())? {
+        let vertex = end - base as u32 + 1;
+        return Err(ObjFault::TooManyAtParticle { vertex });
+    }
+    append(mesh, settings.weight, links.as_slice(), parts)?;
+    Ok(())
+}
+
+/// The same with the settings of the form `obj`: weight 1, stiff links that never tear, and none that bend.
 #[tactic(auto, unfolding(crate::specs::MeshLinks::with_mesh))]
 pub fn add_mesh(alloc: Global, mesh: &ObjMesh, parts: &mut Parts) -> Result<(), ObjFault>
     requires mesh { IsMesh mesh.now }
@@ -286,17 +356,5 @@ pub fn add_mesh(alloc: Global, mesh: &ObjMesh, parts: &mut Parts) -> Result<(), 
     ensures err { IfErr result (λ fault. IsFaultOf (with_mesh mesh.now parts.old) fault) }
     ensures kept { OnErr result (parts.new ≡ parts.old) }
 {
-    let base = parts.particles.len();
-    let vertices = mesh.places.len();
-    if vertices > MOST_PARTICLES - base {
-        return Err(ObjFault::TooMany);
-    }
-    let room = MOST_LINKS - parts.links.len();
-    let links = mesh_links(alloc, mesh, base as u32, room)?;
-    if let Some(end) = first_overfull(alloc, base as u32, vertices, links.as_slice())? {
-        let vertex = end - base as u32 + 1;
-        return Err(ObjFault::TooManyAtParticle { vertex });
-    }
-    append(mesh, links.as_slice(), parts)?;
-    Ok(())
+    add_mesh_with(alloc, mesh, &MeshSettings::stiff(), parts)
 }

@@ -5,7 +5,10 @@ ghost use Rattle.pbd_world.specs.Valid.{is_valid};
 use crate::parts::{empty_parts, link, push_repeated};
 use pbd_io::MemSink;
 use pbd_num::{RANGE, Vec3, inside};
-use pbd_obj::{ObjFault, add_mesh, read_obj, write_face, write_vertex};
+use pbd_obj::{
+    LinkSettings, MeshSettings, ObjFault, add_mesh, add_mesh_with, read_obj, write_face,
+    write_vertex,
+};
 use pbd_world::{Kind, Link, Parts};
 use std::alloc::Global;
 use std::process::Abort;
@@ -251,6 +254,112 @@ fn a_mesh_has_at_most_32_links_at_a_vertex_and_65536_vertices(rt: HostRuntime) {
         let added = added_alone(rt.alloc(), bytes);
         drop(text);
         assert!(rt; added == *outcome, "{count} times");
+    }
+}
+
+/// Another weight, stiffness and length for each.
+static CLOTH: MeshSettings = MeshSettings {
+    weight: 3,
+    stretch: LinkSettings {
+        stiffness: 200,
+        tear: 300_000,
+    },
+    shear: LinkSettings {
+        stiffness: 100,
+        tear: 400_000,
+    },
+    bend: Some(LinkSettings {
+        stiffness: 40,
+        tear: 500_000,
+    }),
+};
+
+/// Compares what a mesh is made with the settings of a cloth, as `tools/mesh-scene --bend 40` makes it.
+fn compare_links(rt: &impl Abort, alloc: Global, text: &[u8], links: &[Link]) {
+    assert!(rt; text.len() < 1_000);
+    let mut parts = empty_parts(alloc, RANGE);
+    match read_obj(alloc, text) {
+        Ok(mesh) => {
+            let added = add_mesh_with(alloc, &mesh, &CLOTH, &mut parts);
+            drop(mesh);
+            assert!(rt; added == Ok(()), "of {text:?}");
+        }
+        Err(fault) => assert!(rt; false, "{fault:?} of {text:?}"),
+    }
+    assert!(rt; parts.links.as_slice() == links, "of {text:?}");
+    assert!(rt; parts.particles.as_slice().iter().all(|it| it.weight == 3));
+    drop(parts);
+}
+
+/// Two triangles, two squares, three triangles at one edge, a triangle and its back, and a body whose corners are all
+/// joined already.
+static BENT: [(&[u8], &[Link]); 5] = [
+    (
+        b"v 0 0 0\nv 1 0 0\nv 0 1 0\nv 1 1 0\nf 1 2 3\nf 3 2 4\n",
+        &[
+            link!(Kind::Stretch, 0, 1, 65_536, 200, 300_000),
+            link!(Kind::Stretch, 1, 2, 92_681, 200, 300_000),
+            link!(Kind::Stretch, 2, 0, 65_536, 200, 300_000),
+            link!(Kind::Stretch, 1, 3, 65_536, 200, 300_000),
+            link!(Kind::Stretch, 3, 2, 65_536, 200, 300_000),
+            link!(Kind::Bend, 0, 3, 92_681, 40, 500_000),
+        ],
+    ),
+    (
+        b"v 0 0 0\nv 1 0 0\nv 1 1 0\nv 0 1 0\nv 2 0 0\nv 2 1 0\nf 1 2 3 4\nf 2 5 6 3\n",
+        &[
+            link!(Kind::Stretch, 0, 1, 65_536, 200, 300_000),
+            link!(Kind::Stretch, 1, 2, 65_536, 200, 300_000),
+            link!(Kind::Stretch, 2, 3, 65_536, 200, 300_000),
+            link!(Kind::Stretch, 3, 0, 65_536, 200, 300_000),
+            link!(Kind::Stretch, 1, 4, 65_536, 200, 300_000),
+            link!(Kind::Stretch, 4, 5, 65_536, 200, 300_000),
+            link!(Kind::Stretch, 5, 2, 65_536, 200, 300_000),
+            link!(Kind::Shear, 0, 2, 92_681, 100, 400_000),
+            link!(Kind::Shear, 1, 3, 92_681, 100, 400_000),
+            link!(Kind::Shear, 1, 5, 92_681, 100, 400_000),
+            link!(Kind::Shear, 4, 2, 92_681, 100, 400_000),
+            link!(Kind::Bend, 0, 4, 131_072, 40, 500_000),
+            link!(Kind::Bend, 3, 5, 131_072, 40, 500_000),
+        ],
+    ),
+    (
+        b"v 0 0 0\nv 1 0 0\nv 0 1 0\nv 0 -1 0\nv 0 0 1\nf 1 2 3\nf 2 1 4\nf 1 2 5\n",
+        &[
+            link!(Kind::Stretch, 0, 1, 65_536, 200, 300_000),
+            link!(Kind::Stretch, 1, 2, 92_681, 200, 300_000),
+            link!(Kind::Stretch, 2, 0, 65_536, 200, 300_000),
+            link!(Kind::Stretch, 0, 3, 65_536, 200, 300_000),
+            link!(Kind::Stretch, 3, 1, 92_681, 200, 300_000),
+            link!(Kind::Stretch, 1, 4, 92_681, 200, 300_000),
+            link!(Kind::Stretch, 4, 0, 65_536, 200, 300_000),
+        ],
+    ),
+    (
+        b"v 0 0 0\nv 1 0 0\nv 0 1 0\nf 1 2 3\nf 3 2 1\n",
+        &[
+            link!(Kind::Stretch, 0, 1, 65_536, 200, 300_000),
+            link!(Kind::Stretch, 1, 2, 92_681, 200, 300_000),
+            link!(Kind::Stretch, 2, 0, 65_536, 200, 300_000),
+        ],
+    ),
+    (
+        b"v 0 0 0\nv 1 0 0\nv 0 1 0\nv 0 0 1\nf 1 2 3\nf 1 4 2\nf 2 4 3\nf 3 4 1\n",
+        &[
+            link!(Kind::Stretch, 0, 1, 65_536, 200, 300_000),
+            link!(Kind::Stretch, 1, 2, 92_681, 200, 300_000),
+            link!(Kind::Stretch, 2, 0, 65_536, 200, 300_000),
+            link!(Kind::Stretch, 0, 3, 65_536, 200, 300_000),
+            link!(Kind::Stretch, 3, 1, 92_681, 200, 300_000),
+            link!(Kind::Stretch, 3, 2, 92_681, 200, 300_000),
+        ],
+    ),
+];
+
+#[test]
+fn what_faces_each_other_across_an_edge_of_two_faces_is_joined(rt: HostRuntime) {
+    for (text, links) in &BENT {
+        compare_links(&rt, rt.alloc(), text, links);
     }
 }
 

@@ -5,4 +5,4 @@ use Rattle.pbd_obj.specs.MeshLinks.{at_rest}
 use Rattle.pbd_obj.proofs.links.push_particles.Given as goal
 
 abbrev pub invariant-loop-place : goal.invariant-loop-place
-invariant-loop-place l = l.particles ≡ l.fn.particles ++ map {A = Vec3} {B = Particle} at_rest (take l.place-index l.places)
+invariant-loop-place l = l.particles ≡ l.fn.particles ++ map {A = Vec3} {B = Particle} (at_rest l.weight) (take l.place-index l.places)

@@ -1,0 +1,7 @@
+use Rattle.std.proofs.Common.{drop}
+use Rattle.pbd_obj.proofs.EdgeLemmas.{EdgesSoFar}
+use Rattle.pbd_obj.proofs.edges.edges_of.Given as goal
+
+-- the edges of the faces so far
+abbrev pub invariant-loop-size : goal.invariant-loop-size
+invariant-loop-size l = EdgesSoFar l.mesh l.edges (drop l.size-index l.sizes) l.rest
