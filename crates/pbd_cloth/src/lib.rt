@@ -6,6 +6,7 @@ mod copying;
 mod cuts;
 mod entry;
 mod laws;
+mod naming;
 mod place;
 mod reads;
 mod state;

@@ -4,16 +4,17 @@ ghost use Rattle.sha2.specs.Sha256.{sha256};
 ghost use Rattle.pbd_world.specs.World.{AreOfOneScene, IsSound};
 ghost use Rattle.pbd_encoding.specs.Encoding.{state_bytes, state_size};
 ghost use Rattle.pbd_encoding.specs.Laws.{told_on};
+ghost use Rattle.pbd_state.specs.Checksum.{checksum as checksum_of};
 ghost use Rattle.pbd_state.specs.Reading.{reading};
-ghost use Rattle.pbd_cloth.specs.Slots.{AreSlots};
+ghost use Rattle.pbd_cloth.specs.Slots.{slot_at, AreSlots};
 ghost use Rattle.pbd_cloth.specs.States.{resumed};
 
 use crate::{Cloth, LANES};
 use pbd_encoding::StateFault;
 use pbd_pair::LaneProjector;
 use pbd_session::Session;
-use pbd_state::{NoRoom, digest, read_state, state_size, write_state};
-use pbd_step::Solver;
+use pbd_state::{NoRoom, checksum, digest, read_state, state_size, write_state};
+use pbd_step::Shown;
 use pbd_store::Steps;
 use std::marker::Brand;
 use std::sync::ledger::{Blank, Ledger};
@@ -25,7 +26,7 @@ impl Cloth {
         ensures size { result ≤ 3735972 }
         ensures sound { AreSlots self.now.world self.now.slots }
     {
-        state_size(self.playing.solver())
+        state_size(&self.playing.solver().shown())
     }
 
     /// Writes the state of the world at the front of some bytes, and answers how many it has. `scene` names the scene. It
@@ -37,7 +38,7 @@ impl Cloth {
         ensures short { OnErr result (length into.old < state_size (length self.now.world.particles) (length self.now.world.links)) }
         ensures sound { AreSlots self.now.world self.now.slots }
     {
-        write_counted::<Brand>(Blank::new(1), scene, self.playing.solver(), into)
+        write_counted::<Brand>(Blank::new(1), scene, &self.playing.solver().shown(), into)
     }
 
     /// Goes over to the world of the scene of which some bytes are the state, and changes no slot. `scene` names the scene.
@@ -55,7 +56,33 @@ impl Cloth {
         ensures value { result ≡ sha256 (state_bytes scene.now self.now.world) }
         ensures sound { AreSlots self.now.world self.now.slots }
     {
-        digest_counted::<Brand>(Blank::new(1), scene, self.playing.solver())
+        digest_counted::<Brand>(Blank::new(1), scene, &self.playing.solver().shown())
+    }
+
+    /// The SHA-256 digest of the state of the world in a slot. `scene` names the scene.
+    pub fn digest_slot(&self, scene: &[u8; 32], slot: u32) -> [u8; 32]
+        requires { slot < length self.now.slots }
+        ensures value { result ≡ sha256 (state_bytes scene.now (slot_at self.now slot)) }
+        ensures sound { AreSlots self.now.world self.now.slots }
+    {
+        digest_counted::<Brand>(Blank::new(1), scene, &self.kept[slot as usize].shown())
+    }
+
+    /// The checksum of the world, a 64-bit number for each turn.
+    pub fn checksum(&self) -> u64
+        ensures value { result ≡ checksum_of self.now.world }
+        ensures sound { AreSlots self.now.world self.now.slots }
+    {
+        checksum_counted::<Brand>(Blank::new(1), &self.playing.solver().shown())
+    }
+
+    /// The checksum of the world in a slot.
+    pub fn checksum_slot(&self, slot: u32) -> u64
+        requires { slot < length self.now.slots }
+        ensures value { result ≡ checksum_of (slot_at self.now slot) }
+        ensures sound { AreSlots self.now.world self.now.slots }
+    {
+        checksum_counted::<Brand>(Blank::new(1), &self.kept[slot as usize].shown())
     }
 }
 
@@ -64,19 +91,19 @@ impl Cloth {
 fn write_counted<G: Ledger>(
     blank: Blank,
     scene: &[u8; 32],
-    solver: &Solver<LANES, LaneProjector<LANES>>,
+    shown: &Shown<'_, LANES>,
     into: &mut [u8],
 ) -> Result<usize, NoRoom>
     requires name { blank.name ≡ G.name }
     requires parts { blank.parts ≡ G.parts }
     requires some { 0 < blank.parts }
-    ensures written { IfOk result (λ len. into.new ≡ state_bytes scene.now solver.now.world ++ drop len into.old) }
-    ensures size { IfOk result (λ len. len ≡ state_size (length solver.now.world.particles) (length solver.now.world.links)) }
+    ensures written { IfOk result (λ len. into.new ≡ state_bytes scene.now shown.now ++ drop len into.old) }
+    ensures size { IfOk result (λ len. len ≡ state_size (length shown.now.particles) (length shown.now.links)) }
     ensures kept { OnErr result (into.new ≡ into.old) }
-    ensures short { OnErr result (length into.old < state_size (length solver.now.world.particles) (length solver.now.world.links)) }
+    ensures short { OnErr result (length into.old < state_size (length shown.now.particles) (length shown.now.links)) }
 {
     let mut steps: Steps<G> = Steps::open(blank);
-    write_state(scene, solver, into, &mut steps)
+    write_state(scene, shown, into, &mut steps)
 }
 
 fn read_counted<G: Ledger>(
@@ -98,16 +125,22 @@ fn read_counted<G: Ledger>(
     read_state(scene, playing.solver_mut(), bytes, &mut steps)
 }
 
-fn digest_counted<G: Ledger>(
-    blank: Blank,
-    scene: &[u8; 32],
-    solver: &Solver<LANES, LaneProjector<LANES>>,
-) -> [u8; 32]
+fn digest_counted<G: Ledger>(blank: Blank, scene: &[u8; 32], shown: &Shown<'_, LANES>) -> [u8; 32]
     requires name { blank.name ≡ G.name }
     requires parts { blank.parts ≡ G.parts }
     requires some { 0 < blank.parts }
-    ensures { result ≡ sha256 (state_bytes scene.now solver.now.world) }
+    ensures { result ≡ sha256 (state_bytes scene.now shown.now) }
 {
     let mut steps: Steps<G> = Steps::open(blank);
-    digest(scene, solver, &mut steps)
+    digest(scene, shown, &mut steps)
+}
+
+fn checksum_counted<G: Ledger>(blank: Blank, shown: &Shown<'_, LANES>) -> u64
+    requires name { blank.name ≡ G.name }
+    requires parts { blank.parts ≡ G.parts }
+    requires some { 0 < blank.parts }
+    ensures { result ≡ checksum_of shown.now }
+{
+    let mut steps: Steps<G> = Steps::open(blank);
+    checksum(shown, &mut steps)
 }

@@ -9,3 +9,6 @@ pub mod Back
 pub mod Forming
 pub mod Bytes
 pub mod Going
+pub mod Texts
+pub mod Fitting
+pub mod Fixed

@@ -1,4 +1,4 @@
--- Worked rows: the bytes of a small world, written out, and bytes that can and can not stand in it.
+-- Worked rows: the bytes of a small world and of its scene, written out, and bytes that can and can not stand in it.
 use Rattle.std.specs.Prelude.{◌≡◌, refl, ℕ, zero, suc, pos, neg_ℤ, true, false, List, [], ◌∷◌, ◌++◌}
 use Rattle.pbd_num.specs.Vectors.{zero_vector}
 use Rattle.pbd_world.specs.declared.parts.Kind.TheVariants.{Plain}
@@ -7,6 +7,7 @@ use Rattle.pbd_world.specs.World.{World}
 use Rattle.pbd_log.specs.Entries.{number_bytes, signed_bytes, vector_bytes}
 use Rattle.pbd_encoding.specs.Encoding.{wide_bytes, sum_bytes, header_bytes, head_bytes, first_totals_bytes, last_totals_bytes, state_bytes}
 use Rattle.pbd_encoding.specs.Form.{is_foreign}
+use Rattle.pbd_encoding.specs.Scene.{scene_head_bytes, link_bytes, key_bytes, plane_bytes, sphere_bytes, scene_bytes}
 
 -- n bytes of one value
 abbrev many : ℕ → ℕ → List ℕ
@@ -53,6 +54,24 @@ small_row : state_bytes (many 32 7) small ≡
     ++ many 48 0 ++ many 48 0 ++ many 15 0 ++ 1 ∷ [] ++ many 16 255 ++ many 16 0
 unfolding state_bytes head_bytes header_bytes first_totals_bytes last_totals_bytes sum_bytes wide_bytes vector_bytes signed_bytes number_bytes
 small_row = refl
+
+-- its scene, with a track and a plane: the settings and the opening, two weights, a link, the track with its one key, and the
+-- plane
+abbrev led : World
+led = record small {
+  tracks = record { particle = 1; keys = record { step = 7; place = zero_vector } ∷ [] } ∷ [];
+  planes = record { normal = record { x = pos 0; y = pos 1; z = pos 0 }; offset = neg_ℤ (pos 1) } ∷ [];
+}
+
+led_row : scene_bytes led ≡
+    many 4 0 ++ 16 ∷ 0 ∷ 0 ∷ 0 ∷ [] ++ 0 ∷ 0 ∷ 0 ∷ 4 ∷ [] ++ many 72 0
+    ++ 0 ∷ 0 ∷ 0 ∷ 2 ∷ [] ++ 0 ∷ 1 ∷ [] ++ 0 ∷ 1 ∷ []
+    ++ 0 ∷ 0 ∷ 0 ∷ 1 ∷ [] ++ 0 ∷ 0 ∷ 0 ∷ 0 ∷ 0 ∷ 0 ∷ 0 ∷ 1 ∷ [] ++ many 7 0 ++ 1 ∷ [] ++ 1 ∷ 0 ∷ [] ++ many 8 0 ++ 3 ∷ []
+    ++ 0 ∷ 0 ∷ 0 ∷ 1 ∷ [] ++ 0 ∷ 0 ∷ 0 ∷ 1 ∷ 0 ∷ 0 ∷ 0 ∷ 1 ∷ [] ++ 0 ∷ 0 ∷ 0 ∷ 7 ∷ [] ++ many 24 0
+    ++ 0 ∷ 0 ∷ 0 ∷ 1 ∷ [] ++ many 15 0 ++ 1 ∷ [] ++ many 8 0 ++ many 8 255
+    ++ many 4 0
+unfolding scene_bytes scene_head_bytes link_bytes key_bytes plane_bytes sphere_bytes sum_bytes wide_bytes vector_bytes signed_bytes number_bytes
+led_row = refl
 
 -- of two particles and a link the flags stand at 224 to 226: a header's byte has to be the header's, and a flag 0 or 1
 header_row : is_foreign (many 96 7) 2 1 95 7 ≡ false

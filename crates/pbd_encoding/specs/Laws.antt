@@ -2,12 +2,13 @@
 use Rattle.std.specs.Prelude.{◌≡◌, ℕ, ◌+◌, ◌<◌, ◌^◌, List, length, take, Ok, Err}
 use Rattle.pbd_world.specs.Ledger.{Ledger, SumFits}
 use Rattle.pbd_world.specs.Particles.{particle_at}
-use Rattle.pbd_world.specs.World.{World, AreOfOneScene}
+use Rattle.pbd_world.specs.World.{World, IsSound, AreOfOneScene}
 use Rattle.pbd_log.specs.Entries.{VectorFits}
 use Rattle.pbd_log.specs.Laws.{IsBytes}
 use Rattle.pbd_sound.specs.Described.{told}
 use Rattle.pbd_encoding.specs.Described.{told_by}
 use Rattle.pbd_encoding.specs.Encoding.{header_of, state_bytes, state_size}
+use Rattle.pbd_encoding.specs.Scene.{scene_bytes}
 use Rattle.pbd_encoding.specs.declared.form.StateFault.{StateFault}
 use Rattle.pbd_encoding.specs.Form.{Formed, form_checked}
 
@@ -70,3 +71,11 @@ RefusedIsExact = (scene bytes : List ℕ) (w : World) (fault : StateFault) → l
 abbrev pub StatesTellWorldsApart : Type 0
 StatesTellWorldsApart = (scene : List ℕ) (v w : World) → length scene ≡ 32 → AreOfOneScene v w → NumbersFit v → NumbersFit w
     → state_bytes scene v ≡ state_bytes scene w → v ≡ w
+
+-- sound worlds with the same bytes of a scene are of one scene
+abbrev pub ScenesDiffer : Type 0
+ScenesDiffer = (v w : World) → IsSound v → IsSound w → scene_bytes v ≡ scene_bytes w → AreOfOneScene v w
+
+-- worlds of one scene have the same bytes of it
+abbrev pub OneSceneOneText : Type 0
+OneSceneOneText = (v w : World) → AreOfOneScene v w → scene_bytes v ≡ scene_bytes w

@@ -1,4 +1,5 @@
 pub mod Encoding
+pub mod Scene
 pub mod Described
 pub mod Views
 pub mod Form

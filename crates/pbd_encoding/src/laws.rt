@@ -1,5 +1,5 @@
 //! What holds of the bytes of all worlds, as the contracts of functions that do nothing.
-ghost use Rattle.pbd_encoding.specs.Laws.{RefusedIsExact, SizeIsKnown, StatesTellWorldsApart, ToldIsWritten, WrittenIsTold};
+ghost use Rattle.pbd_encoding.specs.Laws.{OneSceneOneText, RefusedIsExact, ScenesDiffer, SizeIsKnown, StatesTellWorldsApart, ToldIsWritten, WrittenIsTold};
 
 /// The size of a state is known before, from how many particles and links there are.
 pub fn sizes_are_known()
@@ -24,4 +24,10 @@ pub fn refusals_are_exact()
 /// Two worlds of a scene never have the same bytes.
 pub fn states_tell_worlds_apart()
     ensures { StatesTellWorldsApart }
+{}
+
+/// Two sound worlds have the same bytes of a scene exactly where they are of one scene.
+pub fn scene_bytes_tell_scenes_apart()
+    ensures apart { ScenesDiffer }
+    ensures same { OneSceneOneText }
 {}

@@ -23,7 +23,7 @@ fn push_wide(piece: &mut Line, value: i128)
 }
 
 #[tactic(auto, unfolding(crate::specs::Encoding::sum_bytes))]
-fn push_sum(piece: &mut Line, sum: &[i128; 3])
+pub(crate) fn push_sum(piece: &mut Line, sum: &[i128; 3])
     requires { length piece.old + 48 ≤ 256 }
     ensures bytes { piece.new ≡ piece.old ++ sum_bytes (sum_of sum.now) }
     ensures len { length piece.new ≡ length piece.old + 48 }

@@ -1,3 +1,5 @@
 pub mod Numbering
 pub mod Fitting
 pub mod Lawful
+pub mod Feeding
+pub mod Folding

@@ -1,5 +1,5 @@
 -- What holds of all states. A scene is named by 32 bytes.
-use Rattle.std.specs.Prelude.{◌≡◌, ℕ, List, length, Ok, Err}
+use Rattle.std.specs.Prelude.{◌≡◌, ◌≢◌, ℕ, List, ◌∷◌, ◌++◌, length, Ok, Err}
 use Rattle.sha2.specs.Sha256.{sha256}
 use Rattle.pbd_world.specs.World.{World, IsSound, AreOfOneScene}
 use Rattle.pbd_log.specs.Laws.{IsBytes}
@@ -7,6 +7,7 @@ use Rattle.pbd_encoding.specs.declared.form.StateFault.{StateFault}
 use Rattle.pbd_encoding.specs.Encoding.{state_bytes}
 use Rattle.pbd_encoding.specs.Laws.{told_on}
 use Rattle.pbd_state.specs.Reading.{reading}
+use Rattle.pbd_state.specs.Checksum.{words, checksum}
 
 -- the state of a sound world is taken on each world of its scene, and tells that world
 pub record IsReadBack (scene : List ℕ) (w v : World) : Type 0 where
@@ -39,3 +40,12 @@ SoundWorldsDiffer = (scene : List ℕ) (v w : World) → length scene ≡ 32 →
 -- equal worlds have equal digests
 abbrev pub EqualWorldsAgree : Type 0
 EqualWorldsAgree = (scene : List ℕ) (v w : World) → v ≡ w → sha256 (state_bytes scene v) ≡ sha256 (state_bytes scene w)
+
+-- equal worlds have equal checksums
+abbrev pub EqualWorldsSumAlike : Type 0
+EqualWorldsSumAlike = (v w : World) → v ≡ w → checksum v ≡ checksum w
+
+-- two sound worlds whose words differ in exactly one have different checksums
+abbrev pub OneWordShows : Type 0
+OneWordShows = (v w : World) (before after : List ℕ) (x y : ℕ) → IsSound v → IsSound w → words v ≡ before ++ x ∷ after
+    → words w ≡ before ++ y ∷ after → x ≢ y → checksum v ≢ checksum w

@@ -1,5 +1,5 @@
 //! What holds of all states, as the contracts of functions that do nothing.
-ghost use Rattle.pbd_state.specs.Laws.{EqualWorldsAgree, RefusedIsNoState, SoundWorldsDiffer, TakenIsState, WrittenIsRead};
+ghost use Rattle.pbd_state.specs.Laws.{EqualWorldsAgree, EqualWorldsSumAlike, OneWordShows, RefusedIsNoState, SoundWorldsDiffer, TakenIsState, WrittenIsRead};
 
 /// Reading what was written gives the world back.
 pub fn what_was_written_is_read()
@@ -20,4 +20,10 @@ pub fn sound_worlds_differ()
 /// Equal worlds have equal digests.
 pub fn equal_worlds_have_equal_digests()
     ensures { EqualWorldsAgree }
+{}
+
+/// Where the words of two worlds differ in exactly one, their checksums differ. Those of equal worlds are equal.
+pub fn one_word_shows()
+    ensures shows { OneWordShows }
+    ensures equal { EqualWorldsSumAlike }
 {}

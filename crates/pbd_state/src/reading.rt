@@ -98,8 +98,8 @@ pub fn read_state<const L: usize, P: Projector<L> + Drop, G: Ledger>(
     ensures one_scene { AreOfOneScene solver.old.world solver.new.world }
     ensures cost { steps.new ≤ steps.old + 7 * length solver.old.world.particles + 1 }
 {
-    let counts = counts_of(solver);
-    let header = header_of(scene, solver);
+    let counts = counts_of(&solver.shown());
+    let header = header_of(scene, &solver.shown());
     if let Err(fault) = check_form(header.as_slice(), &counts, bytes) {
         return Err(fault);
     }

@@ -3,8 +3,7 @@ ghost use Rattle.std.specs.Prelude.{◌≡◌, ◌+◌, ◌*◌, ◌<◌, ◌≤
 ghost use Rattle.pbd_encoding.specs.Encoding.{state_bytes, state_size as size_of};
 
 use crate::fields::{counts_of, field, field_count};
-use pbd_pair::Projector;
-use pbd_step::Solver;
+use pbd_step::Shown;
 use pbd_store::Steps;
 use std::sync::ledger::Ledger;
 
@@ -12,13 +11,13 @@ use std::sync::ledger::Ledger;
 #[derive(Clone, Copy, Debug, PartialEq, Eq)]
 pub struct NoRoom;
 
-/// How many bytes a state of a solver's scene has.
-pub fn state_size<const L: usize, P: Projector<L> + Drop>(solver: &Solver<L, P>) -> usize
+/// How many bytes a state of a world's scene has.
+pub fn state_size<const L: usize>(shown: &Shown<'_, L>) -> usize
     requires lanes { L ≤ 16 }
-    ensures value { result ≡ size_of (length solver.now.world.particles) (length solver.now.world.links) }
+    ensures value { result ≡ size_of (length shown.now.particles) (length shown.now.links) }
     ensures size { result ≤ 3735972 }
 {
-    counts_of(solver).state_size()
+    counts_of(shown).state_size()
 }
 
 // Puts a piece where it stands, and answers where it ends.
@@ -32,28 +31,28 @@ fn put(into: &mut [u8], at: usize, piece: &[u8]) -> usize
     end
 }
 
-/// Writes the state of a solver at the front of some bytes, and answers how many it has. `scene` names the scene. It takes
+/// Writes the state of a world at the front of some bytes, and answers how many it has. `scene` names the scene. It takes
 /// no memory, and fails only where there is no room.
-pub fn write_state<const L: usize, P: Projector<L> + Drop, G: Ledger>(
+pub fn write_state<const L: usize, G: Ledger>(
     scene: &[u8; 32],
-    solver: &Solver<L, P>,
+    shown: &Shown<'_, L>,
     into: &mut [u8],
     steps: &mut Steps<G>,
 ) -> Result<usize, NoRoom>
     requires lanes { L ≤ 16 }
-    ensures written { IfOk result (λ len. into.new ≡ state_bytes scene.now solver.now.world ++ drop len into.old) }
-    ensures size { IfOk result (λ len. len ≡ size_of (length solver.now.world.particles) (length solver.now.world.links)) }
+    ensures written { IfOk result (λ len. into.new ≡ state_bytes scene.now shown.now ++ drop len into.old) }
+    ensures size { IfOk result (λ len. len ≡ size_of (length shown.now.particles) (length shown.now.links)) }
     ensures kept { OnErr result (into.new ≡ into.old) }
-    ensures short { OnErr result (length into.old < size_of (length solver.now.world.particles) (length solver.now.world.links)) }
-    ensures cost { steps.new ≤ steps.old + 3 * length solver.now.world.particles + length solver.now.world.links + 3 }
+    ensures short { OnErr result (length into.old < size_of (length shown.now.particles) (length shown.now.links)) }
+    ensures cost { steps.new ≤ steps.old + 3 * length shown.now.particles + length shown.now.links + 3 }
 {
-    let size = state_size(solver);
+    let size = state_size(shown);
     if into.len() < size {
         return Err(NoRoom);
     }
     let mut at = 0;
-    for k in 0..field_count(solver) {
-        let piece = field(scene, solver, k, steps);
+    for k in 0..field_count(shown) {
+        let piece = field(scene, shown, k, steps);
         at = put(into, at, piece.as_slice());
     }
     Ok(size)

@@ -12,7 +12,7 @@ use std::alloc::Global;
 use std::marker::Brand;
 use std::sync::ledger::{Blank, Ledger};
 
-const NAME: [u8; 32] = [7; 32];
+pub(crate) const NAME: [u8; 32] = [7; 32];
 
 const SIZE: usize = 569;
 
@@ -23,7 +23,7 @@ const DIGEST: [u8; 32] = [
 ];
 
 /// A solver of the scene that the rows speak of.
-type Tested = Solver<4, Scalar<4>>;
+pub(crate) type Tested = Solver<4, Scalar<4>>;
 
 static PARTICLES: [Particle; 3] = [
     Particle {
@@ -76,7 +76,7 @@ fn push_all<T: Copy + Drop>(list: &mut List<T>, items: &[T]) -> bool {
     true
 }
 
-fn scene(alloc: Global) -> Result<Scene, PartsFault> {
+pub(crate) fn scene(alloc: Global) -> Result<Scene, PartsFault> {
     let mut parts = Parts::empty(alloc, RANGE);
     parts.gravity = Vec3 { x: 0, y: -10, z: 0 };
     if push_all(&mut parts.particles, &PARTICLES) && push_all(&mut parts.links, &LINKS) {
@@ -103,7 +103,7 @@ fn replaced(state: &[u8; SIZE], at: usize, bytes: &[u8]) -> [u8; SIZE] {
 /// The state of a solver, or zeros if it is of another size.
 fn written<G: Ledger>(solver: &Tested, steps: &mut Steps<G>) -> [u8; SIZE] {
     let mut state = [0; SIZE];
-    match write_state(&NAME, solver, &mut state, steps) {
+    match write_state(&NAME, &solver.shown(), &mut state, steps) {
         Ok(SIZE) => state,
         _ => [0; SIZE],
     }
@@ -167,8 +167,9 @@ fn first_wrong<G: Ledger>(
 /// The state of a solver after one step, if it has the digest before it, and no fewer bytes than the rows say.
 fn state_of<G: Ledger>(solver: &mut Tested, steps: &mut Steps<G>) -> Option<[u8; SIZE]> {
     let mut state = [0; SIZE];
-    let short = write_state(&NAME, solver, &mut state[1..], steps);
-    if short.is_ok() || state_size(solver) != SIZE || digest(&NAME, solver, steps) != DIGEST {
+    let short = write_state(&NAME, &solver.shown(), &mut state[1..], steps);
+    let shown = solver.shown();
+    if short.is_ok() || state_size(&shown) != SIZE || digest(&NAME, &shown, steps) != DIGEST {
         return None;
     }
     match solver.steps(1, steps) {

@@ -1,7 +1,14 @@
-//! Tests of states: each wrong byte is refused at its place, and a refusal leaves the world as it was.
+//! Tests of states: each wrong byte is refused at its place, and a refusal leaves the world as it was; what one width writes
+//! another reads; digests and checksums.
 #![tactic(auto)]
 
+#[cfg(test)]
+mod drawn;
 #[cfg(test)]
 mod hostile;
 #[cfg(test)]
 mod rows;
+#[cfg(test)]
+mod sessions;
+#[cfg(test)]
+mod sums;

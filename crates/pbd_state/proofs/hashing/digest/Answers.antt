@@ -7,13 +7,13 @@ use Rattle.pbd_state.proofs.hashing.digest.Goals as goal
 
 pub loop-k-init : goal.loop-k-init
 loop-k-init g c = record {
-  fed = subst (λ (t : List ℕ). Holds256 c.new-hasher.result t) (sym (no_fields c.args.scene.now c.args.solver.now.world)) c.new-hasher.ensures;
+  fed = subst (λ (t : List ℕ). Holds256 c.new-hasher.result t) (sym (no_fields c.args.scene.now c.args.shown.now)) c.new-hasher.ensures;
   cost = omega arith;
 }
 
 pub loop-k-preserved : goal.loop-k-preserved
 loop-k-preserved g c =
-    let w = c.args.solver.now.world in
+    let w = c.args.shown.now in
     let scene = c.args.scene.now in
     let k = c.loop-k.k in
     let done = fields_bytes scene w k in
@@ -26,7 +26,7 @@ loop-k-preserved g c =
 
 pub returns-clause-value : goal.returns-clause-value
 returns-clause-value g c =
-    let w = c.args.solver.now.world in
+    let w = c.args.shown.now in
     let scene = c.args.scene.now in
     let last : c.loop-k.k ≡ fields_of (length w.particles) (length w.links) =
     omega (arith, c.loop-k-test.false, c.loop-k.auto.k-end, c.field_count-k-end.ensures) in

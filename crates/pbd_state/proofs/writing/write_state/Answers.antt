@@ -6,7 +6,7 @@ use Rattle.pbd_state.proofs.writing.write_state.Goals as goal
 
 pub loop-k-init : goal.loop-k-init
 loop-k-init g c =
-    let none = sym (no_fields c.args.scene.now c.args.solver.now.world) in
+    let none = sym (no_fields c.args.scene.now c.args.shown.now) in
     record {
       at = ap (λ (t : List ℕ). length t) none;
       written = ap (λ (t : List ℕ). t ++ c.args.into.now) none;
@@ -15,7 +15,7 @@ loop-k-init g c =
 
 pub put-at-requires : goal.put-at-requires
 put-at-requires g c =
-    let w = c.args.solver.now.world in
+    let w = c.args.shown.now in
     let scene = c.args.scene.now in
     let k = c.loop-k.k in
     let there : k < fields_of (length w.particles) (length w.links) = omega (arith, c.loop-k-test.true, c.field_count-k-end.ensures) in
@@ -33,7 +33,7 @@ put-at-requires g c =
 
 pub loop-k-preserved : goal.loop-k-preserved
 loop-k-preserved g c =
-    let w = c.args.solver.now.world in
+    let w = c.args.shown.now in
     let scene = c.args.scene.now in
     let k = c.loop-k.k in
     let at = c.loop-k.at in
@@ -50,8 +50,8 @@ loop-k-preserved g c =
 
 pub returns-clause-written : goal.returns-clause-written
 returns-clause-written g c =
-    let w = c.args.solver.now.world in
+    let w = c.args.shown.now in
     let last : c.loop-k.k ≡ fields_of (length w.particles) (length w.links) =
     omega (arith, c.loop-k-test.false, c.loop-k.auto.k-end, c.field_count-k-end.ensures) in
-    all_put c.args.scene.now c.args.solver.now.world c.loop-k.k c.loop-k.at c.state_size-size.result c.loop-k.into c.args.into.now
+    all_put c.args.scene.now c.args.shown.now c.loop-k.k c.loop-k.at c.state_size-size.result c.loop-k.into c.args.into.now
     c.told-scene c.loop-k.invariant.at c.loop-k.invariant.written last c.state_size-size.ensures.value

@@ -5,7 +5,7 @@ use Rattle.pbd_state.proofs.writing.write_state.Given as goal
 -- the fields so far are written, and what is behind them is as it was
 abbrev pub invariant-loop-k : goal.invariant-loop-k
 invariant-loop-k g l = record {
-  at : l.at ≡ length (fields_bytes l.scene l.solver.world l.k);
-  written : l.into ≡ fields_bytes l.scene l.solver.world l.k ++ drop l.at l.initial.into;
+  at : l.at ≡ length (fields_bytes l.scene l.shown l.k);
+  written : l.into ≡ fields_bytes l.scene l.shown l.k ++ drop l.at l.initial.into;
   cost : l.steps ≤ l.initial.steps + l.k;
 }
