@@ -13,7 +13,8 @@
  * What a caller has to take care of, and nothing checks:
  *   - A handle is all zero bytes ({0} in C, {} in C++) or what the last call left. It may be moved, and is never copied and
  *     used twice. Its members are not for use.
- *   - A handle is used by one call at a time, and on the thread that opened it.
+ *   - A handle is used by one call at a time, on any thread: where a call follows one of another thread, something stands
+ *     between them that orders the two, as a lock, a join or a message does. Handles of their own share nothing.
  *   - Pointers are not null, also where a length is 0; they have room for what their type and length say, and are aligned.
  *   - Arguments of one call don't overlap.
  *   - malloc, realloc and free are one allocator's, whose blocks are aligned as C asks. No call is made from a signal handler,
@@ -29,7 +30,7 @@
 #include <stddef.h>
 #include <stdint.h>
 
-/* The version of this header. Whoever loads the library by its name compares the version of that name: liblakmozet.so.MAJOR. */
+/* The version of this header. lak_version tells the library's; lock step demands that all machines have one version. */
 #define LAK_VERSION_MAJOR 0
 #define LAK_VERSION_MINOR 1
 #define LAK_VERSION_PATCH 0
@@ -50,8 +51,9 @@ typedef struct {
     int64_t x, y, z;
 } lak_place;
 
-/* The first rule that a scene breaks, and where: see lak_open. */
+/* What is wrong with a scene, and where: see lak_open. What an answer doesn't tell is 0. */
 typedef struct {
+    uint64_t offset;   /* of a text that is no TOML: how many bytes stand before the place where its reader stopped */
     uint32_t position; /* in the array of the table, from 0 */
     uint8_t rule;      /* 2 to 11: see lak_rule_name */
     uint8_t table;     /* 0 to 7: see lak_table_name */
@@ -109,6 +111,11 @@ typedef struct {
     lak_wide gravity[3], damping[3], link[3], contact[3], pin[3], shape[3];
 } lak_ledger_of_world;
 
+/* A version, as Semantic Versioning counts it. */
+typedef struct {
+    uint32_t major, minor, patch;
+} lak_version_of_library;
+
 /* How many of everything there are. */
 typedef struct {
     uint64_t steps;     /* taken so far, at most 1,000,000 */
@@ -160,6 +167,9 @@ enum {
 
 /* ---- opening and closing */
 
+/* Writes the version of the library. */
+void lak_version(lak_version_of_library *version);
+
 /*
  * Opens the scene of a TOML text of `length` bytes (docs/FORMATS.md has its keys), with `slots` slots for lak_save, at most 16.
  * Each slot has the opened world at first. The only call on a handle that takes memory. The text isn't kept.
@@ -167,7 +177,8 @@ enum {
  * LAK_DONE: the handle holds the world of the scene, before its first command. `fault` is left as it was.
  * LAK_IN_USE: the handle keeps what it holds, and `fault` is left as it was.
  * LAK_NO_SLOT, LAK_SCENE_NOT_TEXT, LAK_SCENE_NOT_TOML, LAK_SCENE_REFUSED, LAK_OUT_OF_MEMORY: the handle stays closed, and
- * `fault` has the rule, the table, the position and the key of LAK_SCENE_REFUSED, or zeros.
+ * `fault` has the offset of LAK_SCENE_NOT_TOML, or the rule, the table, the position and the key of LAK_SCENE_REFUSED, and
+ * zeros beside.
  */
 int32_t lak_open(lak_cloth *cloth, const uint8_t *toml, size_t length, uint32_t slots, lak_fault *fault);
 
@@ -253,10 +264,11 @@ int32_t lak_gone_since(lak_cloth *cloth, uint32_t slot, uint32_t *into, size_t r
 /* ---- the world as bytes: saved games, players who join late, and what two machines compare */
 
 /*
- * Writes the name of a scene: the SHA-256 digest of its text. States and digests carry it, so that those of another
- * scene are refused. An engine keeps it beside the handle. docs/FORMATS.md has the bytes of a state.
+ * Writes the name of the handle's scene: the SHA-256 digest of all of it that no command changes, however it was opened. States
+ * and digests carry it, so that those of another scene are refused. It is the same for all worlds of the scene, so an engine
+ * asks once and keeps it beside the handle. LAK_DONE or LAK_CLOSED. docs/FORMATS.md has the bytes of a scene and of a state.
  */
-void lak_scene_name(const uint8_t *toml, size_t length, lak_hash *name);
+int32_t lak_scene_name(lak_cloth *cloth, lak_hash *name);
 
 /* How many bytes a state of the handle's scene has, at most 3,735,972: the same for all its worlds. LAK_DONE or LAK_CLOSED. */
 int32_t lak_state_size(lak_cloth *cloth, size_t *size);
@@ -280,6 +292,40 @@ int32_t lak_state_read(lak_cloth *cloth, lak_hash name, const uint8_t *state, si
  * different states. LAK_DONE or LAK_CLOSED.
  */
 int32_t lak_digest(lak_cloth *cloth, lak_hash name, lak_hash *digest);
+
+/* The same of the world in a slot: of the turn that all machines have confirmed. Answers LAK_NO_SLOT too, and then leaves `digest`. */
+int32_t lak_digest_slot(lak_cloth *cloth, uint32_t slot, lak_hash name, lak_hash *digest);
+
+/*
+ * Writes the checksum of the world, which costs a small part of a digest: for each turn. Equal worlds have equal checksums, and
+ * where exactly one number of 64 bits differs, so do they; other worlds may have equal ones, and whoever tries finds such.
+ * docs/FORMATS.md has the sum. LAK_DONE or LAK_CLOSED.
+ */
+int32_t lak_checksum(lak_cloth *cloth, uint64_t *sum);
+
+/* The same of the world in a slot. Answers LAK_NO_SLOT too, and then leaves `sum`. */
+int32_t lak_checksum_slot(lak_cloth *cloth, uint32_t slot, uint64_t *sum);
+
+/* ---- to draw: triangles, as numbers of particles */
+
+/*
+ * Writes the triangles of a cloth of the scene (a table `[[cloth]]`) whose first particle is number `first`: two for each cell of
+ * its rows and columns, turned alike. It writes as many as there is room for, and says how many there are. They don't follow
+ * links that are cut or torn: a program that draws holes leaves out the triangles along whose sides a link is gone.
+ */
+static inline size_t lak_cloth_triangles(uint32_t first, uint32_t rows, uint32_t columns, uint32_t (*into)[3], size_t room)
+{
+    size_t count = 0;
+    for (uint32_t row = 0; row + 1 < rows; row++)
+        for (uint32_t column = 0; column + 1 < columns; column++) {
+            const uint32_t here = first + row * columns + column, below = here + columns;
+            const uint32_t both[2][3] = {{here, below, here + 1}, {here + 1, below, below + 1}};
+            for (int half = 0; half < 2; half++, count++)
+                for (int corner = 0; corner < 3 && count < room; corner++)
+                    into[count][corner] = both[half][corner];
+        }
+    return count;
+}
 
 /* ---- whole runs, from bytes to bytes */
 

@@ -7,6 +7,7 @@
 #include <array>
 #include <cstdio>
 #include <cstdlib>
+#include <iomanip>
 #include <iostream>
 #include <span>
 #include <sstream>
@@ -18,9 +19,9 @@ using lakmozet::Cloth;
 using lakmozet::Outcome;
 using lakmozet::Place;
 
-/* A slot for each of the last eight turns, and one for the world after the drop. */
-constexpr std::uint32_t SLOTS = 9, DROPPED = 8;
-constexpr std::size_t PLAYERS = 2, TURNS = 40, LATE = 5;
+/* A slot for each of the last eight turns, one for the world after the drop, and one to go on from. */
+constexpr std::uint32_t SLOTS = 10, DROPPED = 8, NOW = 9;
+constexpr std::size_t PLAYERS = 2, TURNS = 40, LATE = 5, JOINS = 20;
 constexpr std::array<std::uint64_t, PLAYERS> HANDS = {0, 19};
 /* How many particles a row of the cloth has, and how many threads a stroke cuts. */
 constexpr std::uint32_t ROW = 20, WIDE = 3;
@@ -109,12 +110,18 @@ static std::string frame(const Cloth &cloth)
     return text.str();
 }
 
-/* Lets the cloth fall on the ball, and adds what the program prints of that. */
-static Cloth drop(const std::string &scene, std::string &printed)
+static Cloth opened(const std::string &scene)
 {
     Cloth cloth;
     lakmozet::Fault fault;
     must(cloth.open(scene, SLOTS, fault) == Outcome::Done, "open");
+    return cloth;
+}
+
+/* Lets the cloth fall on the ball, and adds what the program prints of that. */
+static Cloth drop(const std::string &scene, std::string &printed)
+{
+    Cloth cloth = opened(scene);
     for (int half = 0; half < 3; half++) {
         must(cloth.step(30), "step");
         printed += "ok\n" + frame(cloth);
@@ -127,6 +134,25 @@ static Cloth drop(const std::string &scene)
 {
     std::string printed;
     return drop(scene, printed);
+}
+
+static lakmozet::Hash digest_of(const Cloth &cloth)
+{
+    lakmozet::Hash digest;
+    must(cloth.digest(digest), "digest");
+    return digest;
+}
+
+/* Sees that a scene which breaks a rule is refused, and where. */
+static void refuse()
+{
+    Cloth cloth;
+    lakmozet::Fault fault;
+    must(cloth.open("passes = 4\n= 5\n", 0, fault) == Outcome::SceneNotToml, "no TOML");
+    must(fault.offset == 11 && fault.rule == 0, "where the text is no TOML");
+    must(cloth.open("[[particle]]\nat = 5\n", 0, fault) == Outcome::SceneRefused, "a place is three numbers");
+    const std::string_view rule = lak_rule_name(fault.rule), table = lak_table_name(fault.table), key = lak_key_name(fault.key);
+    must(rule == "WrongType" && table == "particle" && fault.position == 0 && key == "at", "the fault of the scene");
 }
 
 /* Records the session, and replays its log: the text is what was printed. */
@@ -144,11 +170,46 @@ static void replay(const Text &text, const std::string &printed)
 /* One player's machine: its world, and what it knows of each player's turns. */
 class Machine {
 public:
-    Machine(Cloth from, const Inputs &all) : cloth{std::move(from)}, inputs{all}
+    Machine(Cloth from, const Inputs &all) : cloth{std::move(from)}, inputs{all} {}
+
+    void begin()
     {
         for (const std::uint64_t hand : HANDS)
             must(cloth.pin(hand), "pin");
         must(cloth.gravity(GRAVITY), "gravity");
+    }
+
+    /* The state of the world before a turn, for a machine that joins. */
+    std::vector<std::uint8_t> state_before(std::size_t turn)
+    {
+        std::vector<std::uint8_t> state(cloth.state_size().size);
+        lakmozet::Hash digest;
+        std::uint64_t kept, sum;
+        must(cloth.digest_slot(turn % DROPPED, digest), "digest slot");
+        must(cloth.checksum_slot(turn % DROPPED, kept), "checksum slot");
+        must(cloth.save(NOW), "save");
+        must(cloth.restore(turn % DROPPED), "restore");
+        must(cloth.checksum(sum), "checksum");
+        must(kept == sum && std::ranges::equal(digest.bytes, digest_of(cloth).bytes), "what a slot has is what is restored");
+        must(cloth.state_write(state).answer, "state write");
+        must(cloth.restore(NOW), "restore");
+        return state;
+    }
+
+    /* Reads a state: bytes that are none are refused, and change nothing. */
+    void join(std::vector<std::uint8_t> state, std::size_t turn)
+    {
+        std::uint64_t offset = 0;
+        const lakmozet::Hash before = digest_of(cloth);
+        must(cloth.state_read(std::span{state}.first(state.size() - 1), offset) == Answer::NoState, "a state is whole");
+        must(offset == state.size() - 1, "a state ends where its bytes end");
+        state[8] ^= 1;
+        must(cloth.state_read(state, offset) == Answer::NoState && offset == 8, "a state of another scene is refused");
+        must(std::ranges::equal(digest_of(cloth).bytes, before.bytes), "what is refused changes nothing");
+        state[8] ^= 1;
+        must(cloth.state_read(state, offset), "state read");
+        known.fill(turn);
+        played = turn;
     }
 
     /* Learns a player's next turn: where that was played without it, goes back, and plays on from there. */
@@ -163,6 +224,8 @@ public:
     }
 
     void play_next() { play(played++); }
+
+    std::size_t turns() const { return played; }
 
     void let_go()
     {
@@ -207,8 +270,17 @@ private:
     std::size_t played = 0;
 };
 
-/* Plays all turns: each machine knows its own player's at once, and the other's some turns later. */
-static void play_late(std::array<Machine, PLAYERS> &machines)
+/* A turn of a machine that joined: it learns what both players did LATE turns ago. */
+static void play_joined(Machine &machine, std::size_t now)
+{
+    for (std::size_t player = 0; player < PLAYERS; player++)
+        machine.learn(player);
+    if (now < TURNS)
+        machine.play_next();
+}
+
+/* Plays all turns: each machine knows its own player's at once, and the other's some turns later. One joins them on the way. */
+static void play_late(std::array<Machine, PLAYERS> &machines, Machine &late)
 {
     for (std::size_t now = 0; now < TURNS + LATE; now++) {
         for (std::size_t player = 0; player < PLAYERS; player++) {
@@ -218,6 +290,13 @@ static void play_late(std::array<Machine, PLAYERS> &machines)
                 machines[player].learn(player);
                 machines[player].play_next();
             }
+        }
+        if (now > JOINS)
+            play_joined(late, now);
+        if (now == JOINS) {
+            late.join(machines[0].state_before(now - LATE + 1), now - LATE + 1);
+            while (late.turns() <= now)
+                late.play_next();
         }
     }
 }
@@ -269,7 +348,7 @@ static void look_at_ledger(const Cloth &cloth)
     }
 }
 
-/* The sums as a line, after the lists were seen to agree with them. */
+/* The sums and the digest as two lines, after the lists were seen to agree with the sums. */
 static std::string totals(const Cloth &cloth)
 {
     lakmozet::Counts counts;
@@ -290,29 +369,36 @@ static std::string totals(const Cloth &cloth)
     line << "sums " << sums.steps << ' ' << sums.live << ' ' << sums.contacts;
     for (const auto &three : {sums.at, sums.before})
         line << ' ' << three[0] << ' ' << three[1] << ' ' << three[2];
+    line << "\ndigest " << std::hex << std::setfill('0');
+    for (const unsigned byte : digest_of(cloth).bytes)
+        line << std::setw(2) << byte;
     return line.str();
 }
 
 int main()
 {
+    const lakmozet::Version version = lakmozet::version();
+    must(version.major == LAK_VERSION_MAJOR && version.minor == LAK_VERSION_MINOR && version.patch == LAK_VERSION_PATCH, "the version");
     const Text text = read_text();
     /* the drop */
     std::string printed;
     Cloth dropped = drop(text.scene, printed);
     std::fputs(printed.c_str(), stdout);
     replay(text, printed);
-    /* rollback: two players, and a machine that knows all in time */
+    refuse();
+    /* rollback: two players, a machine that joins them, and one that knows all in time */
     const Inputs inputs = drawn_inputs();
     std::array<Machine, PLAYERS> players = {Machine{std::move(dropped), inputs}, Machine{drop(text.scene), inputs}};
-    Machine on_time{drop(text.scene), inputs};
-    play_late(players);
-    play_on_time(on_time);
-    /* (a third player who joins late, with the state of another's world, has its place here) */
+    Machine late{opened(text.scene), inputs}, on_time{drop(text.scene), inputs};
     for (Machine *machine : {&players[0], &players[1], &on_time})
+        machine->begin();
+    play_late(players, late);
+    play_on_time(on_time);
+    for (Machine *machine : {&players[0], &players[1], &late, &on_time})
         machine->let_go();
-    const std::string line = totals(on_time.world());
-    for (const Machine &player : players)
-        must(totals(player.world()) == line, "the sums are equal");
-    std::puts(line.c_str());
+    const std::string lines = totals(on_time.world());
+    for (const Machine *machine : {&players[0], &players[1], &late})
+        must(totals(machine->world()) == lines, "the sums and the digests are equal");
+    std::puts(lines.c_str());
     return 0;
 }

@@ -2,8 +2,9 @@
  * Lakmozet for C++20: a handle that closes itself, spans for memory, and an answer from each call.
  *
  * Nothing here throws, takes memory or copies: each call is one call of lakmozet.h, which says what it does, its units and its
- * answers. The parts stand in that header's order, and what is added there gets its line here. Compile with -std=c++20, also with
- * -fno-exceptions, and link what a C program links. An empty span or text is fine, also one that points nowhere.
+ * answers, and a cloth also keeps the name of its scene. The parts stand in that header's order, and what is added there gets its
+ * line here. Compile with -std=c++20, also with -fno-exceptions, and link what a C program links. An empty span or text is fine,
+ * also one that points nowhere.
  */
 #ifndef LAKMOZET_HPP
 #define LAKMOZET_HPP
@@ -21,6 +22,8 @@
 namespace lakmozet {
 
 using Place = lak_place;
+using Hash = lak_hash;
+using Version = lak_version_of_library;
 using Fault = lak_fault;
 using Left = lak_left;
 using Sums = lak_sums_of_world;
@@ -46,7 +49,8 @@ enum class Answer : std::int32_t {
     TooManyContacts = LAK_TOO_MANY_CONTACTS,
     Closed = LAK_CLOSED,
     NoSlot = LAK_NO_SLOT,
-    NoRoom = LAK_NO_ROOM
+    NoRoom = LAK_NO_ROOM,
+    NoState = LAK_NO_STATE
 };
 
 /* What opening, recording and replaying answer. */
@@ -77,6 +81,12 @@ struct Cuts {
     std::size_t refused;
 };
 
+/* An answer, and how many bytes a state has. */
+struct Sized {
+    Answer answer;
+    std::size_t size;
+};
+
 /* An outcome, and how many bytes were written. */
 struct Written {
     Outcome outcome;
@@ -99,14 +109,23 @@ inline const std::uint8_t *start(std::string_view text) noexcept
 
 } // namespace detail
 
-/* A world and its slots, or nothing. It is moved, never copied, and used on the thread that opened it. */
+/* The version of the library. Lock step demands that all machines have one version. */
+[[nodiscard]] inline Version version() noexcept
+{
+    Version version;
+    lak_version(&version);
+    return version;
+}
+
+/* A world and its slots, or nothing, and the name of its scene. It is moved, never copied, and used by one call at a time. */
 class Cloth {
 public:
     Cloth() noexcept = default;
-    Cloth(Cloth &&other) noexcept : handle{std::exchange(other.handle, lak_cloth{})} {}
+    Cloth(Cloth &&other) noexcept : handle{std::exchange(other.handle, lak_cloth{})}, name{other.name} {}
     Cloth &operator=(Cloth &&other) noexcept
     {
         std::swap(handle, other.handle);
+        std::swap(name, other.name);
         return *this;
     }
     ~Cloth() { close(); }
@@ -115,7 +134,10 @@ public:
 
     [[nodiscard]] Outcome open(std::string_view toml, std::uint32_t slots, Fault &fault) noexcept
     {
-        return Outcome{lak_open(&handle, detail::start(toml), toml.size(), slots, &fault)};
+        const Outcome outcome{lak_open(&handle, detail::start(toml), toml.size(), slots, &fault)};
+        if (outcome == Outcome::Done)
+            lak_scene_name(&handle, &name);
+        return outcome;
     }
     void close() noexcept { lak_close(&handle); }
 
@@ -170,6 +192,37 @@ public:
         return {answer, count};
     }
 
+    /* ---- the world as bytes, which carry the name of the scene */
+
+    [[nodiscard]] const Hash &scene_name() const noexcept { return name; }
+    [[nodiscard]] Sized state_size() const noexcept
+    {
+        std::size_t size = 0;
+        const Answer answer{lak_state_size(&handle, &size)};
+        return {answer, size};
+    }
+    [[nodiscard]] Sized state_write(std::span<std::uint8_t> into) const noexcept
+    {
+        std::size_t size = 0;
+        const Answer answer{lak_state_write(&handle, name, detail::start(into), into.size(), &size)};
+        return {answer, size};
+    }
+    /* (the offset is told with NoState alone) */
+    [[nodiscard]] Answer state_read(std::span<const std::uint8_t> state, std::uint64_t &offset) noexcept
+    {
+        return Answer{lak_state_read(&handle, name, detail::start(state), state.size(), &offset)};
+    }
+    [[nodiscard]] Answer digest(Hash &into) const noexcept { return Answer{lak_digest(&handle, name, &into)}; }
+    [[nodiscard]] Answer digest_slot(std::uint32_t slot, Hash &into) const noexcept
+    {
+        return Answer{lak_digest_slot(&handle, slot, name, &into)};
+    }
+    [[nodiscard]] Answer checksum(std::uint64_t &into) const noexcept { return Answer{lak_checksum(&handle, &into)}; }
+    [[nodiscard]] Answer checksum_slot(std::uint32_t slot, std::uint64_t &into) const noexcept
+    {
+        return Answer{lak_checksum_slot(&handle, slot, &into)};
+    }
+
 private:
     template <class T>
     Listed list(std::int32_t (*call)(lak_cloth *, T *, std::size_t, std::uint32_t *), std::span<T> into) const noexcept
@@ -181,6 +234,7 @@ private:
 
     /* (reading takes the handle as it is, and leaves what it holds) */
     mutable lak_cloth handle{};
+    Hash name{};
 };
 
 /* ---- whole runs, from bytes to bytes */
@@ -199,6 +253,11 @@ private:
     const Outcome outcome{lak_replay(detail::start(log), log.size(), detail::start(output), output.size(), &written, &stop)};
     return {outcome, written};
 }
+
+/* ---- names, as the program prints them: those of the parts of a fault and a stop are lak_rule_name and its like */
+
+[[nodiscard]] inline const char *name_of(Answer answer) noexcept { return lak_answer_name(static_cast<std::int32_t>(answer)); }
+[[nodiscard]] inline const char *name_of(Outcome outcome) noexcept { return lak_answer_name(static_cast<std::int32_t>(outcome)); }
 
 } // namespace lakmozet
 

@@ -38,9 +38,45 @@ sealed class Machine : IDisposable
     {
         cloth = from;
         inputs = all;
+    }
+
+    public void Begin()
+    {
         foreach (var hand in Game.Hands)
             Game.Must(cloth.Pin(hand), "Pin");
         Game.Must(cloth.Gravity(Game.Gravity), "Gravity");
+    }
+
+    /// <summary>The state of the world before a turn, for a machine that joins.</summary>
+    public byte[] StateBefore(int turn)
+    {
+        Game.Must(cloth.StateSize(out var size), "StateSize");
+        var state = new byte[size];
+        Game.Must(cloth.DigestSlot((uint)turn % Game.Dropped, out var kept), "DigestSlot");
+        Game.Must(cloth.ChecksumSlot((uint)turn % Game.Dropped, out var keptSum), "ChecksumSlot");
+        Game.Must(cloth.Save(Game.Now), "Save");
+        Game.Must(cloth.Restore((uint)turn % Game.Dropped), "Restore");
+        Game.Must(cloth.Digest(out var digest), "Digest");
+        Game.Must(cloth.Checksum(out var sum), "Checksum");
+        Game.Must(kept.Equals(digest) && keptSum == sum, "what a slot has is what is restored");
+        Game.Must(cloth.StateWrite(state, out _), "StateWrite");
+        Game.Must(cloth.Restore(Game.Now), "Restore");
+        return state;
+    }
+
+    /// <summary>Reads a state: bytes that are none are refused, and change nothing.</summary>
+    public void Join(byte[] state, int turn)
+    {
+        Game.Must(cloth.Digest(out var before), "Digest");
+        Game.Must(cloth.StateRead(state.AsSpan(0, state.Length - 1), out var offset) == Answer.NoState, "a state is whole");
+        Game.Must(offset == (ulong)state.Length - 1, "a state ends where its bytes end");
+        state[8] ^= 1;
+        Game.Must(cloth.StateRead(state, out offset) == Answer.NoState && offset == 8, "a state of another scene is refused");
+        Game.Must(cloth.Digest(out var after), "Digest");
+        Game.Must(after.Equals(before), "what is refused changes nothing");
+        state[8] ^= 1;
+        Game.Must(cloth.StateRead(state, out _), "StateRead");
+        known[0] = known[1] = played = turn;
     }
 
     public Cloth World
@@ -62,6 +98,11 @@ sealed class Machine : IDisposable
     public void PlayNext()
     {
         Play(played++);
+    }
+
+    public int Turns
+    {
+        get { return played; }
     }
 
     /// <summary>Saves the world before a turn, and plays what is known of it: the first player's input first.</summary>
@@ -108,15 +149,15 @@ sealed class Machine : IDisposable
 
 static class Game
 {
-    /// <summary>A slot for each of the last eight turns, and one for the world after the drop.</summary>
-    public const uint Slots = 9, Dropped = 8;
+    /// <summary>A slot for each of the last eight turns, one for the world after the drop, and one to go on from.</summary>
+    public const uint Slots = 10, Dropped = 8, Now = 9;
 
     /// <summary>How many particles a row of the cloth has, and how many threads a stroke cuts.</summary>
     public const uint Row = 20, Wide = 3;
 
     public static readonly ulong[] Hands = { 0, 19 };
     public static readonly Place Gravity = new Place(0, -120, 0);
-    private const int Turns = 40, Late = 5;
+    private const int Turns = 40, Late = 5, Joins = 20;
 
     /// <summary>Ends the game where something isn't as it must be.</summary>
     public static void Must(bool isSo, string what)
@@ -165,12 +206,18 @@ static class Game
         return text.ToString();
     }
 
+    private static Cloth Opened(byte[] scene)
+    {
+        var cloth = new Cloth();
+        Must(cloth.Open(scene, Slots, out _) == Outcome.Done, "Open");
+        return cloth;
+    }
+
     /// <summary>Lets the cloth fall on the ball, and says what the program prints of that.</summary>
     private static Cloth Drop(byte[] scene, out string printed)
     {
-        var cloth = new Cloth();
+        var cloth = Opened(scene);
         var text = new StringBuilder();
-        Must(cloth.Open(scene, Slots, out _) == Outcome.Done, "Open");
         for (var half = 0; half < 3; half++)
         {
             Must(cloth.Step(30), "Step");
@@ -179,6 +226,20 @@ static class Game
         Must(cloth.Save(Dropped), "Save");
         printed = text.ToString();
         return cloth;
+    }
+
+    /// <summary>Sees that a scene which breaks a rule is refused, and where.</summary>
+    private static void Refuse()
+    {
+        using (var cloth = new Cloth())
+        {
+            Must(cloth.Open(Encoding.UTF8.GetBytes("passes = 4\n= 5\n"), 0, out var fault) == Outcome.SceneNotToml, "no TOML");
+            Must(fault.Offset == 11 && fault.Rule == 0, "where the text is no TOML");
+            var outcome = cloth.Open(Encoding.UTF8.GetBytes("[[particle]]\nat = 5\n"), 0, out fault);
+            Must(outcome == Outcome.SceneRefused, "a place is three numbers");
+            Must(fault.Offset == 0 && fault.Rule == Rule.WrongType && fault.Table == Table.Particle && fault.Position == 0 && fault.Key == Key.At,
+                "the fault of the scene");
+        }
     }
 
     /// <summary>Records the session, and replays its log: the text is what was printed.</summary>
@@ -190,8 +251,17 @@ static class Game
         Must(Encoding.ASCII.GetString(output, 0, written) == printed, "the replay prints the drop");
     }
 
-    /// <summary>Plays all turns: each machine knows its own player's at once, and the other's some turns later.</summary>
-    private static void PlayLate(Machine[] machines)
+    /// <summary>A turn of a machine that joined: it learns what both players did Late turns ago.</summary>
+    private static void PlayJoined(Machine machine, int now)
+    {
+        for (var player = 0; player < Hands.Length; player++)
+            machine.Learn(player);
+        if (now < Turns)
+            machine.PlayNext();
+    }
+
+    /// <summary>Plays all turns: each machine knows its own player's at once, and the other's some turns later. One joins on the way.</summary>
+    private static void PlayLate(Machine[] machines, Machine late)
     {
         for (var now = 0; now < Turns + Late; now++)
         {
@@ -204,6 +274,13 @@ static class Game
                 machines[player].Learn(player);
                 machines[player].PlayNext();
             }
+            if (now > Joins)
+                PlayJoined(late, now);
+            if (now != Joins)
+                continue;
+            late.Join(machines[0].StateBefore(now - Late + 1), now - Late + 1);
+            while (late.Turns <= now)
+                late.PlayNext();
         }
     }
 
@@ -255,8 +332,8 @@ static class Game
         Must(HasSum(causes.Select(cause => LowOf(cause)).ToArray(), LowOf(it.Momentum)), "the ledger balances");
     }
 
-    /// <summary>The sums, after the lists were seen to agree with them.</summary>
-    private static Sums Totals(Cloth cloth)
+    /// <summary>The sums and the digest as two lines, after the lists were seen to agree with the sums.</summary>
+    private static string Totals(Cloth cloth)
     {
         Must(cloth.Counts(out var counts), "Counts");
         Must(cloth.Sums(out var sums), "Sums");
@@ -270,32 +347,38 @@ static class Game
         Must(HasSum(PlacesOf(cloth), sums.At) && HasSum(before, sums.Before), "the places have their sums");
         LookAtParts(cloth, counts);
         LookAtLedger(cloth);
-        return sums;
+        Must(cloth.Digest(out var digest), "Digest");
+        return $"{sums}\ndigest {digest}";
     }
 
     private static void Main()
     {
+        Must(LibraryVersion.OfLibrary().Equals(LibraryVersion.OfHeader), "the library has the version of the header");
         var text = Console.In.ReadToEnd();
         var cut = text.IndexOf("%%\n", StringComparison.Ordinal);
         byte[] scene = Encoding.UTF8.GetBytes(text.Substring(0, cut)), script = Encoding.UTF8.GetBytes(text.Substring(cut + 3));
         var inputs = DrawnInputs();
         // the drop
         using (var dropped = Drop(scene, out var printed))
-        // rollback: two players, and a machine that knows all in time
+        // rollback: two players, a machine that joins them, and one that knows all in time
         using (var first = new Machine(dropped, inputs))
         using (var second = new Machine(Drop(scene, out _), inputs))
+        using (var late = new Machine(Opened(scene), inputs))
         using (var onTime = new Machine(Drop(scene, out _), inputs))
         {
             Console.Write(printed);
             Replay(scene, script, printed);
-            PlayLate(new[] { first, second });
-            PlayOnTime(onTime);
-            // (a third player who joins late, with the state of another's world, has its place here)
+            Refuse();
             foreach (var machine in new[] { first, second, onTime })
+                machine.Begin();
+            PlayLate(new[] { first, second }, late);
+            PlayOnTime(onTime);
+            foreach (var machine in new[] { first, second, late, onTime })
                 machine.LetGo();
-            var sums = Totals(onTime.World);
-            Must(Totals(first.World).Equals(sums) && Totals(second.World).Equals(sums), "the sums are equal");
-            Console.WriteLine(sums);
+            var lines = Totals(onTime.World);
+            foreach (var machine in new[] { first, second, late })
+                Must(Totals(machine.World) == lines, "the sums and the digests are equal");
+            Console.WriteLine(lines);
         }
     }
 }

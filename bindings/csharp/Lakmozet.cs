@@ -4,7 +4,8 @@
 // and what is added there gets its line in Native and its line below. Compile with /unsafe. The library is found as a shared one
 // by the name Native.Library: liblakmozet.so, liblakmozet.dylib or lakmozet.dll.
 //
-// A Cloth is used on the thread that opened it, so it has no finalizer, which would run on another: dispose it.
+// A Cloth also keeps the name of its scene, which states and digests carry. It is used by one call at a time, on any thread.
+// Dispose it; where that is forgotten, its finalizer gives the memory back.
 using System;
 using System.Runtime.InteropServices;
 
@@ -27,7 +28,8 @@ namespace Lakmozet
         TooManyContacts = 12,
         Closed = 64,
         NoSlot = 66,
-        NoRoom = 67
+        NoRoom = 67,
+        NoState = 68
     }
 
     /// <summary>What opening, recording and replaying answer.</summary>
@@ -45,6 +47,32 @@ namespace Lakmozet
         OutOfMemory = 44,
         InUse = 65,
         NoSlot = 66
+    }
+
+    /// <summary>The rules that a scene may break.</summary>
+    public enum Rule : byte
+    {
+        UnknownKey = 2, MissingKey, WrongType, OutOfRange, TooMany, BadIndex, SelfLink, DoubleLink, TooManyAtParticle, BadTrack
+    }
+
+    /// <summary>The tables of a scene.</summary>
+    public enum Table : byte
+    {
+        Scene, Particle, Cloth, Rope, Link, Plane, Sphere, Track
+    }
+
+    /// <summary>The keys of a scene, and none, where the rule isn't of one.</summary>
+    public enum Key : byte
+    {
+        NoKey, Gravity, Passes, Damping, Thickness, Friction, Pins, At, Velocity, Weight, Held, Origin, Across, Down, Rows, Columns,
+        Stretch, Shear, Bend, StretchTear, ShearTear, BendTear, Spacing, Count, A, B, Rest, Stiffness, Tear, Normal, Offset, Centre,
+        Radius, Particle, Keys
+    }
+
+    /// <summary>The fields of a log's entry, and none, where no entry differs.</summary>
+    public enum Field : byte
+    {
+        NoField, Answer, Step, Phase, Element, Steps, Live, Contacts, X, Y, Z, BeforeX, BeforeY, BeforeZ
     }
 
     /// <summary>A place or a vector, in units of 1/65,536 metre.</summary>
@@ -76,12 +104,15 @@ namespace Lakmozet
         }
     }
 
-    /// <summary>The first rule that a scene breaks, and where.</summary>
+    /// <summary>What is wrong with a scene, and where: the offset in a text that is no TOML, or the first rule that is broken.</summary>
     [StructLayout(LayoutKind.Sequential)]
     public struct Fault
     {
+        public ulong Offset;
         public uint Position;
-        public byte Rule, Table, Key;
+        public Rule Rule;
+        public Table Table;
+        public Key Key;
     }
 
     /// <summary>Where a step was refused.</summary>
@@ -164,12 +195,77 @@ namespace Lakmozet
         public WidePlace Gravity, Damping, Link, Contact, Pin, Shape;
     }
 
+    /// <summary>A SHA-256 digest: the name of a scene, or what two machines compare.</summary>
+    [StructLayout(LayoutKind.Sequential)]
+    public unsafe struct Hash : IEquatable<Hash>
+    {
+        private fixed byte bytes[32];
+
+        public byte[] ToArray()
+        {
+            fixed (byte* at = bytes)
+                return new ReadOnlySpan<byte>(at, 32).ToArray();
+        }
+
+        public bool Equals(Hash other)
+        {
+            return ToArray().AsSpan().SequenceEqual(other.ToArray());
+        }
+
+        public override bool Equals(object other)
+        {
+            return other is Hash && Equals((Hash)other);
+        }
+
+        public override int GetHashCode()
+        {
+            return BitConverter.ToInt32(ToArray(), 0);
+        }
+
+        public override string ToString()
+        {
+            return BitConverter.ToString(ToArray()).Replace("-", "").ToLowerInvariant();
+        }
+    }
+
+    /// <summary>A version, as Semantic Versioning counts it.</summary>
+    [StructLayout(LayoutKind.Sequential)]
+    public struct LibraryVersion : IEquatable<LibraryVersion>
+    {
+        /// <summary>That of the header which this file follows. Lock step demands that all machines have one version.</summary>
+        public static readonly LibraryVersion OfHeader = new LibraryVersion { Major = 0, Minor = 1, Patch = 0 };
+
+        public uint Major, Minor, Patch;
+
+        /// <summary>That of the library.</summary>
+        public static LibraryVersion OfLibrary()
+        {
+            Native.lak_version(out var version);
+            return version;
+        }
+
+        public bool Equals(LibraryVersion other)
+        {
+            return Major == other.Major && Minor == other.Minor && Patch == other.Patch;
+        }
+
+        public override bool Equals(object other)
+        {
+            return other is LibraryVersion && Equals((LibraryVersion)other);
+        }
+
+        public override int GetHashCode()
+        {
+            return (int)(Major << 20 ^ Minor << 10 ^ Patch);
+        }
+    }
+
     /// <summary>Where a replay stopped.</summary>
     [StructLayout(LayoutKind.Sequential)]
     public struct Stop
     {
         public ulong Offset, Entry;
-        public byte Field;
+        public Field Field;
     }
 
     /// <summary>The calls as C has them. None wants a null pointer, also where a length is 0.</summary>
@@ -185,6 +281,7 @@ namespace Lakmozet
             private byte full;
         }
 
+        [DllImport(Library)] internal static extern void lak_version(out LibraryVersion version);
         [DllImport(Library)] internal static extern Outcome lak_open(ref Handle cloth, byte* toml, UIntPtr length, uint slots,
             out Fault fault);
         [DllImport(Library)] internal static extern void lak_close(ref Handle cloth);
@@ -211,6 +308,16 @@ namespace Lakmozet
         [DllImport(Library)] internal static extern Answer lak_live(ref Handle cloth, byte* into, UIntPtr room, out uint count);
         [DllImport(Library)] internal static extern Answer lak_gone_since(ref Handle cloth, uint slot, uint* into, UIntPtr room,
             out uint count);
+        [DllImport(Library)] internal static extern Answer lak_scene_name(ref Handle cloth, out Hash name);
+        [DllImport(Library)] internal static extern Answer lak_state_size(ref Handle cloth, out UIntPtr size);
+        [DllImport(Library)] internal static extern Answer lak_state_write(ref Handle cloth, Hash name, byte* into, UIntPtr room,
+            out UIntPtr size);
+        [DllImport(Library)] internal static extern Answer lak_state_read(ref Handle cloth, Hash name, byte* state, UIntPtr length,
+            out ulong offset);
+        [DllImport(Library)] internal static extern Answer lak_digest(ref Handle cloth, Hash name, out Hash digest);
+        [DllImport(Library)] internal static extern Answer lak_digest_slot(ref Handle cloth, uint slot, Hash name, out Hash digest);
+        [DllImport(Library)] internal static extern Answer lak_checksum(ref Handle cloth, out ulong sum);
+        [DllImport(Library)] internal static extern Answer lak_checksum_slot(ref Handle cloth, uint slot, out ulong sum);
         [DllImport(Library)] internal static extern Outcome lak_record(byte* scene, UIntPtr sceneLength, byte* script, UIntPtr scriptLength,
             byte* output, UIntPtr room, out UIntPtr written);
         [DllImport(Library)] internal static extern Outcome lak_replay(byte* log, UIntPtr length, byte* output, UIntPtr room,
@@ -232,6 +339,7 @@ namespace Lakmozet
     public sealed unsafe class Cloth : IDisposable
     {
         private Native.Handle handle;
+        private Hash name;
 
         // ---- opening and closing
 
@@ -239,10 +347,21 @@ namespace Lakmozet
         public Outcome Open(ReadOnlySpan<byte> toml, uint slots, out Fault fault)
         {
             fixed (byte* at = &Native.Start(toml))
-                return Native.lak_open(ref handle, at, Native.Length(toml), slots, out fault);
+            {
+                var outcome = Native.lak_open(ref handle, at, Native.Length(toml), slots, out fault);
+                if (outcome == Outcome.Done)
+                    Native.lak_scene_name(ref handle, out name);
+                return outcome;
+            }
         }
 
-        public void Dispose() { Native.lak_close(ref handle); }
+        public void Dispose()
+        {
+            Native.lak_close(ref handle);
+            GC.SuppressFinalize(this);
+        }
+
+        ~Cloth() { Native.lak_close(ref handle); }
 
         // ---- commands
 
@@ -318,6 +437,47 @@ namespace Lakmozet
             fixed (uint* at = &Native.Start<uint>(into))
                 return Native.lak_gone_since(ref handle, slot, at, Native.Length<uint>(into), out count);
         }
+
+        // ---- the world as bytes
+
+        /// <summary>The name of the scene, which states and digests carry.</summary>
+        public Hash SceneName { get { return name; } }
+
+        /// <summary>How many bytes a state of the scene has.</summary>
+        public Answer StateSize(out int size)
+        {
+            var answer = Native.lak_state_size(ref handle, out var length);
+            size = (int)(uint)length;
+            return answer;
+        }
+
+        /// <summary>Writes the state of the world: for a saved game, or for a machine that joins.</summary>
+        public Answer StateWrite(Span<byte> into, out int size)
+        {
+            fixed (byte* at = &Native.Start<byte>(into))
+            {
+                var answer = Native.lak_state_write(ref handle, name, at, Native.Length<byte>(into), out var length);
+                size = (int)(uint)length;
+                return answer;
+            }
+        }
+
+        /// <summary>Goes over to the world whose state the bytes are; of others the offset says where they go wrong.</summary>
+        public Answer StateRead(ReadOnlySpan<byte> state, out ulong offset)
+        {
+            fixed (byte* at = &Native.Start(state))
+                return Native.lak_state_read(ref handle, name, at, Native.Length(state), out offset);
+        }
+
+        /// <summary>The SHA-256 digest of the state.</summary>
+        public Answer Digest(out Hash digest) { return Native.lak_digest(ref handle, name, out digest); }
+
+        /// <summary>That of the world in a slot.</summary>
+        public Answer DigestSlot(uint slot, out Hash digest) { return Native.lak_digest_slot(ref handle, slot, name, out digest); }
+
+        /// <summary>The checksum of the world, for each turn, and that of the world in a slot.</summary>
+        public Answer Checksum(out ulong sum) { return Native.lak_checksum(ref handle, out sum); }
+        public Answer ChecksumSlot(uint slot, out ulong sum) { return Native.lak_checksum_slot(ref handle, slot, out sum); }
     }
 
     /// <summary>Whole runs, from bytes to bytes.</summary>

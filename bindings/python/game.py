@@ -2,13 +2,14 @@
 """The short game of all bindings (../README.md says what happens in it), from Python: game.py LIBRARY < ../../examples/embed/drop.txt"""
 from __future__ import annotations
 
+import hashlib
 import sys
 from typing import NamedTuple
 
 import lakmozet
 
-SLOTS, DROPPED = 9, 8  # a slot for each of the last eight turns, and one for the world after the drop
-TURNS, LATE = 40, 5
+SLOTS, DROPPED, NOW = 10, 8, 9  # a slot for each of the last eight turns, one for the world after the drop, and one to go on from
+TURNS, LATE, JOINS = 40, 5, 20
 HANDS = (0, 19)
 ROW, WIDE = 20, 3  # how many particles a row of the cloth has, and how many threads a stroke cuts
 GRAVITY = (0, -120, 0)
@@ -59,15 +60,52 @@ def drop(library: lakmozet.Library, scene: bytes) -> tuple[lakmozet.Cloth, str]:
     return cloth, printed
 
 
+def refuse(library: lakmozet.Library, scene: bytes, outcome: lakmozet.Outcome, detail: lakmozet.Fault | int) -> None:
+    """Sees that a scene is refused, and where."""
+    try:
+        library.open(scene)
+        must(False, "the scene is refused")
+    except lakmozet.Failed as failed:
+        must(failed.outcome == outcome and failed.detail == detail, "what is wrong with a scene")
+
+
 class Machine:
     """One player's machine: its world, and what it knows of each player's turns."""
 
     def __init__(self, cloth: lakmozet.Cloth, inputs: list[list[Input]]) -> None:
         self.cloth, self.inputs = cloth, inputs
         self.known, self.played = [0] * len(HANDS), 0
+
+    def begin(self) -> None:
         for hand in HANDS:
-            cloth.pin(hand)
-        cloth.gravity(GRAVITY)
+            self.cloth.pin(hand)
+        self.cloth.gravity(GRAVITY)
+
+    def state_before(self, turn: int) -> bytes:
+        """The state of the world before a turn, for a machine that joins."""
+        kept = self.cloth.digest_slot(turn % DROPPED), self.cloth.checksum_slot(turn % DROPPED)
+        self.cloth.save(NOW)
+        self.cloth.restore(turn % DROPPED)
+        must(kept == (self.cloth.digest(), self.cloth.checksum()), "what a slot has is what is restored")
+        state = self.cloth.state_write()
+        self.cloth.restore(NOW)
+        return state
+
+    def join(self, state: bytes, turn: int) -> None:
+        """Reads a state: bytes that are none are refused, and change nothing."""
+        before = self.cloth.digest()
+        must(self.refused_at(state[:-1]) == len(state) - 1, "a state is whole")
+        must(self.refused_at(state[:8] + bytes([state[8] ^ 1]) + state[9:]) == 8, "a state of another scene is refused")
+        must(self.cloth.digest() == before, "what is refused changes nothing")
+        self.cloth.state_read(state)
+        self.known, self.played = [turn] * len(HANDS), turn
+
+    def refused_at(self, state: bytes) -> int | None:
+        try:
+            self.cloth.state_read(state)
+        except lakmozet.Refused as refused:
+            return refused.offset
+        return None
 
     def learn(self, player: int) -> None:
         """Learns a player's next turn: where that was played without it, goes back, and plays on from there."""
@@ -103,8 +141,16 @@ class Machine:
         self.cloth.step()
 
 
-def play_late(machines: list[Machine]) -> None:
-    """Plays all turns: each machine knows its own player's at once, and the other's some turns later."""
+def play_joined(machine: Machine, now: int) -> None:
+    """A turn of a machine that joined: it learns what both players did LATE turns ago."""
+    for player in range(len(HANDS)):
+        machine.learn(player)
+    if now < TURNS:
+        machine.play_next()
+
+
+def play_late(machines: list[Machine], late: Machine) -> None:
+    """Plays all turns: each machine knows its own player's at once, and the other's some turns later. One joins them on the way."""
     for now in range(TURNS + LATE):
         for player, machine in enumerate(machines):
             if now >= LATE:
@@ -112,6 +158,12 @@ def play_late(machines: list[Machine]) -> None:
             if now < TURNS:
                 machine.learn(player)
                 machine.play_next()
+        if now > JOINS:
+            play_joined(late, now)
+        if now == JOINS:
+            late.join(machines[0].state_before(now - LATE + 1), now - LATE + 1)
+            while late.played <= now:
+                late.play_next()
 
 
 def play_on_time(machine: Machine) -> None:
@@ -138,7 +190,7 @@ def look_at_ledger(cloth: lakmozet.Cloth) -> None:
 
 
 def totals(cloth: lakmozet.Cloth) -> str:
-    """The sums as a line, after the lists were seen to agree with them."""
+    """The sums and the digest as two lines, after the lists were seen to agree with the sums."""
     sums = cloth.sums()
     must(sum(cloth.live().tolist()) == sums.live, "the live links are counted")
     must(len(cloth.gone_since(DROPPED)) == cloth.counts().links - sums.live, "those that went are the others")
@@ -146,29 +198,35 @@ def totals(cloth: lakmozet.Cloth) -> str:
         must([sum(axis) for axis in zip(*places.tolist())] == list(total), "the places have their sums")
     look_at_parts(cloth)
     look_at_ledger(cloth)
-    return f"sums {sums.steps} {sums.live} {sums.contacts} {' '.join(map(str, sums.at + sums.before))}"
+    must(hashlib.sha256(cloth.state_write()).digest() == cloth.digest(), "the digest is the SHA-256 of the state")
+    return f"sums {sums.steps} {sums.live} {sums.contacts} {' '.join(map(str, sums.at + sums.before))}\ndigest {cloth.digest().hex()}"
 
 
 def main() -> None:
     library = lakmozet.Library(sys.argv[1])
+    must(library.version() == lakmozet.VERSION, "the library has the version of the header")
     scene, script = sys.stdin.buffer.read().split(b"%%\n", 1)
     # the drop
     cloth, printed = drop(library, scene)
     print(printed, end="")
     # the same as a replay of its log
     must(library.replay(library.record(scene, script)) == (printed.encode(), None), "the replay prints the drop")
-    # rollback: two players, and a machine that knows all in time
+    refuse(library, b"passes = 4\n= 5\n", lakmozet.Outcome.SCENE_NOT_TOML, 11)
+    fault = lakmozet.Fault(0, lakmozet.Rule.WrongType, lakmozet.Table.particle, lakmozet.Key.at)
+    refuse(library, b"[[particle]]\nat = 5\n", lakmozet.Outcome.SCENE_REFUSED, fault)
+    # rollback: two players, a machine that joins them, and one that knows all in time
     inputs = drawn_inputs()
     players = [Machine(cloth, inputs), Machine(drop(library, scene)[0], inputs)]
-    on_time = Machine(drop(library, scene)[0], inputs)
-    play_late(players)
+    late, on_time = Machine(library.open(scene, SLOTS), inputs), Machine(drop(library, scene)[0], inputs)
+    for machine in (*players, on_time):
+        machine.begin()
+    play_late(players, late)
     play_on_time(on_time)
-    # (a third player who joins late, with the state of another's world, has its place here)
-    machines = [*players, on_time]
+    machines = [*players, late, on_time]
     for machine in machines:
         machine.let_go()
     lines = {totals(machine.cloth) for machine in machines}
-    must(len(lines) == 1, "the sums are equal")
+    must(len(lines) == 1, "the sums and the digests are equal")
     print(*lines)
     for machine in machines:
         machine.cloth.close()

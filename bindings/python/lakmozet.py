@@ -9,8 +9,9 @@
 
 Each call is one call of lakmozet.h, which says what it does, its units and its answers: the parts stand in that header's order,
 and what is added there gets its line in CALLS and its method. A refused command raises Refused, and the world is what it was. Lists
-of numbers are arrays of NumPy where NumPy is there, and memoryviews where it isn't, over memory that the library wrote. A cloth is
-used on the thread that opened it.
+of numbers are arrays of NumPy where NumPy is there, and memoryviews where it isn't, over memory that the library wrote. A cloth
+also keeps the name of its scene, which states and digests carry. It is used by one call at a time, on any thread; a call lets
+other threads of Python run meanwhile. Close it; where that is forgotten, its memory is given back with it.
 """
 from __future__ import annotations
 
@@ -23,6 +24,9 @@ try:
     import numpy
 except ImportError:
     numpy = None
+
+# that of the header which this module follows; Library.version tells the library's
+VERSION = (0, 1, 0)
 
 
 class Answer(enum.IntEnum):
@@ -43,6 +47,7 @@ class Answer(enum.IntEnum):
     CLOSED = 64
     NO_SLOT = 66
     NO_ROOM = 67
+    NO_STATE = 68
 
 
 class Outcome(enum.IntEnum):
@@ -62,6 +67,16 @@ class Outcome(enum.IntEnum):
     NO_SLOT = 66
 
 
+Rule = enum.IntEnum("Rule", "UnknownKey MissingKey WrongType OutOfRange TooMany BadIndex SelfLink DoubleLink TooManyAtParticle BadTrack",
+                    start=2)
+Table = enum.IntEnum("Table", "scene particle cloth rope link plane sphere track", start=0)
+# (of a rule that no key breaks it is `-`)
+Key = enum.IntEnum("Key", "- gravity passes damping thickness friction pins at velocity weight held origin across down rows columns"
+                   " stretch shear bend stretch_tear shear_tear bend_tear spacing count a b rest stiffness tear normal offset centre radius"
+                   " particle keys", start=0)
+Field = enum.IntEnum("Field", "answer step phase element steps live contacts x y z before-x before-y before-z")
+
+
 class Place(NamedTuple):
     """A place or a vector, in units of 1/65,536 metre."""
 
@@ -74,9 +89,9 @@ class Fault(NamedTuple):
     """The first rule that a scene breaks, and where."""
 
     position: int
-    rule: int
-    table: int
-    key: int
+    rule: Rule
+    table: Table
+    key: Key
 
 
 class Left(NamedTuple):
@@ -134,26 +149,30 @@ class Ledger(NamedTuple):
 
 
 class Stop(NamedTuple):
-    """Where a replay stopped."""
+    """Where a replay stopped: the offset at which a log goes wrong, or the entry and the field that differ."""
 
     offset: int
     entry: int
-    field: int
+    field: Field | None
 
 
 class Refused(Exception):
-    """A call on a cloth that answered something else than DONE; of a step, `left` says where."""
+    """A call on a cloth that answered something else than DONE: of a step `left` says where, of bytes that are no state `offset`."""
 
-    def __init__(self, answer: Answer, left: Left | None = None) -> None:
-        super().__init__(answer.name if left is None else f"{answer.name}, {left}")
-        self.answer = answer
-        self.left = left
+    def __init__(self, answer: Answer, left: Left | None = None, offset: int | None = None) -> None:
+        details = [answer.name] + [str(it) for it in (left, offset) if it is not None]
+        super().__init__(", ".join(details))
+        self.answer, self.left, self.offset = answer, left, offset
 
 
 class Failed(Exception):
-    """A scene that wasn't opened, or a run that wasn't made; of a refused scene, `detail` is its fault, of a refused log its stop."""
+    """A scene that wasn't opened, or a run that wasn't made.
 
-    def __init__(self, outcome: Outcome, detail: Fault | Stop | None = None) -> None:
+    Of a refused scene, `detail` is its fault, of a text that is no TOML the offset at which its reader stopped, of a refused log its
+    stop.
+    """
+
+    def __init__(self, outcome: Outcome, detail: Fault | Stop | int | None = None) -> None:
         super().__init__(outcome.name if detail is None else f"{outcome.name}, {detail}")
         self.outcome = outcome
         self.detail = detail
@@ -170,7 +189,7 @@ class _Place(ctypes.Structure):
 
 
 class _Fault(ctypes.Structure):
-    _fields_ = [("position", c_uint32), ("rule", c_uint8), ("table", c_uint8), ("key", c_uint8)]
+    _fields_ = [("offset", c_uint64), ("position", c_uint32), ("rule", c_uint8), ("table", c_uint8), ("key", c_uint8)]
 
 
 class _Left(ctypes.Structure):
@@ -190,6 +209,14 @@ class _Link(ctypes.Structure):
                 ("kind", c_uint8), ("live", c_uint8)]
 
 
+class _Version(ctypes.Structure):
+    _fields_ = [("major", c_uint32), ("minor", c_uint32), ("patch", c_uint32)]
+
+
+class _Hash(ctypes.Structure):
+    _fields_ = [("bytes", c_uint8 * 32)]
+
+
 class _Wide(ctypes.Structure):
     _fields_ = [("low", c_uint64), ("high", c_int64)]
 
@@ -205,6 +232,7 @@ class _Stop(ctypes.Structure):
 _HANDLE, _COUNT = POINTER(_Cloth), POINTER(c_uint32)
 _LIST = [c_size_t, _COUNT]
 CALLS = {
+    "lak_version": [POINTER(_Version)],
     "lak_open": [_HANDLE, c_char_p, c_size_t, c_uint32, POINTER(_Fault)],
     "lak_close": [_HANDLE],
     "lak_step": [_HANDLE, c_uint64, POINTER(_Left)],
@@ -227,6 +255,14 @@ CALLS = {
     "lak_links": [_HANDLE, POINTER(_Link), *_LIST],
     "lak_live": [_HANDLE, POINTER(c_uint8), *_LIST],
     "lak_gone_since": [_HANDLE, c_uint32, POINTER(c_uint32), *_LIST],
+    "lak_scene_name": [_HANDLE, POINTER(_Hash)],
+    "lak_state_size": [_HANDLE, POINTER(c_size_t)],
+    "lak_state_write": [_HANDLE, _Hash, POINTER(c_uint8), c_size_t, POINTER(c_size_t)],
+    "lak_state_read": [_HANDLE, _Hash, c_char_p, c_size_t, POINTER(c_uint64)],
+    "lak_digest": [_HANDLE, _Hash, POINTER(_Hash)],
+    "lak_digest_slot": [_HANDLE, c_uint32, _Hash, POINTER(_Hash)],
+    "lak_checksum": [_HANDLE, POINTER(c_uint64)],
+    "lak_checksum_slot": [_HANDLE, c_uint32, POINTER(c_uint64)],
     "lak_record": [c_char_p, c_size_t, c_char_p, c_size_t, POINTER(c_uint8), c_size_t, POINTER(c_size_t)],
     "lak_replay": [c_char_p, c_size_t, POINTER(c_uint8), c_size_t, POINTER(c_size_t), POINTER(_Stop)],
 }
@@ -236,6 +272,12 @@ def _tuple(kind: Any, it: ctypes.Structure) -> Any:
     """Returns what a structure has as a named tuple of the same fields, places in it too."""
     fields = (getattr(it, name) for name in kind._fields)
     return kind(*(_tuple(Place, field) if isinstance(field, _Place) else field for field in fields))
+
+
+def _fault(outcome: Outcome, it: _Fault) -> Fault | int | None:
+    if outcome == Outcome.SCENE_NOT_TOML:
+        return it.offset
+    return Fault(it.position, Rule(it.rule), Table(it.table), Key(it.key)) if outcome == Outcome.SCENE_REFUSED else None
 
 
 def _array(kind: Any, length: int, columns: int = 1) -> tuple[Any, Any]:
@@ -258,6 +300,7 @@ class Cloth:
     def __init__(self, calls: ctypes.CDLL) -> None:
         self._calls = calls
         self._handle = _Cloth()
+        self._name = _Hash()
 
     def __enter__(self) -> Cloth:
         return self
@@ -281,6 +324,8 @@ class Cloth:
 
     def close(self) -> None:
         self._calls.lak_close(self._handle)
+
+    __del__ = close
 
     # ---- commands
 
@@ -377,6 +422,56 @@ class Cloth:
         """The numbers of the links that went since a slot was saved."""
         return self._list("lak_gone_since", c_uint32, self.counts().links, 1, slot)
 
+    # ---- the world as bytes
+
+    def scene_name(self) -> bytes:
+        """The name of the scene, which states and digests carry."""
+        return bytes(self._name.bytes)
+
+    def state_size(self) -> int:
+        """How many bytes a state of the scene has."""
+        size = c_size_t()
+        self._call("lak_state_size", size)
+        return size.value
+
+    def state_write(self) -> bytes:
+        """The state of the world: for a saved game, or for a machine that joins."""
+        size = c_size_t(self.state_size())
+        state = (c_uint8 * size.value)()
+        self._call("lak_state_write", self._name, state, size.value, size)
+        return bytes(state)
+
+    def state_read(self, state: bytes) -> None:
+        """Goes over to the world whose state the bytes are. Others raise Refused, with the offset at which they go wrong."""
+        offset = c_uint64()
+        answer = Answer(self._calls.lak_state_read(self._handle, self._name, state, len(state), offset))
+        if answer != Answer.DONE:
+            raise Refused(answer, offset=offset.value if answer == Answer.NO_STATE else None)
+
+    def digest(self) -> bytes:
+        """The SHA-256 digest of the state, 32 bytes."""
+        digest = _Hash()
+        self._call("lak_digest", self._name, digest)
+        return bytes(digest.bytes)
+
+    def digest_slot(self, slot: int) -> bytes:
+        """That of the world in a slot."""
+        digest = _Hash()
+        self._call("lak_digest_slot", slot, self._name, digest)
+        return bytes(digest.bytes)
+
+    def checksum(self) -> int:
+        """The checksum of the world, for each turn."""
+        checksum = c_uint64()
+        self._call("lak_checksum", checksum)
+        return checksum.value
+
+    def checksum_slot(self, slot: int) -> int:
+        """That of the world in a slot."""
+        checksum = c_uint64()
+        self._call("lak_checksum_slot", slot, checksum)
+        return checksum.value
+
 
 class Library:
     """The C library as a shared one."""
@@ -386,14 +481,21 @@ class Library:
         for name, types in CALLS.items():
             call = getattr(self._calls, name)
             call.argtypes = types
-            call.restype = None if name == "lak_close" else c_int32
+            call.restype = None if name in ("lak_close", "lak_version") else c_int32
+
+    def version(self) -> tuple[int, int, int]:
+        """The version of the library. Lock step demands that all machines have one version."""
+        version = _Version()
+        self._calls.lak_version(version)
+        return version.major, version.minor, version.patch
 
     def open(self, toml: bytes, slots: int = 0) -> Cloth:
         """Opens the scene of a TOML text, with so many slots, or raises Failed."""
         cloth, fault = Cloth(self._calls), _Fault()
         outcome = Outcome(self._calls.lak_open(cloth._handle, toml, len(toml), slots, fault))
         if outcome != Outcome.DONE:
-            raise Failed(outcome, _tuple(Fault, fault) if outcome == Outcome.SCENE_REFUSED else None)
+            raise Failed(outcome, _fault(outcome, fault))
+        cloth._call("lak_scene_name", cloth._name)
         return cloth
 
     def record(self, scene: bytes, script: bytes) -> bytes:
@@ -411,5 +513,6 @@ class Library:
         text, written, stop = (c_uint8 * max(room, 1))(), c_size_t(), _Stop()
         outcome = Outcome(self._calls.lak_replay(log, len(log), text, room, written, stop))
         if outcome not in (Outcome.DONE, Outcome.SOME_REFUSED, Outcome.MISMATCH):
-            raise Failed(outcome, _tuple(Stop, stop) if outcome == Outcome.LOG_REFUSED else None)
-        return ctypes.string_at(text, written.value), _tuple(Stop, stop) if outcome == Outcome.MISMATCH else None
+            raise Failed(outcome, Stop(stop.offset, 0, None) if outcome == Outcome.LOG_REFUSED else None)
+        differs = Stop(0, stop.entry, Field(stop.field)) if outcome == Outcome.MISMATCH else None
+        return ctypes.string_at(text, written.value), differs

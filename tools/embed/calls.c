@@ -64,14 +64,15 @@ static void closed_handles(void)
 static void wrong_scenes(void)
 {
     lak_cloth cloth;
-    lak_fault fault = {7, 7, 7, 7};
+    lak_fault fault = {7, 7, 7, 7, 7};
     memset(&cloth, 0, sizeof cloth);
     MUST(open_text(&cloth, "", 17, &fault) == LAK_NO_SLOT && fault.rule == 0 && fault.position == 0);
     MUST(lak_open(&cloth, (const uint8_t *)"\xff", 1, 0, &fault) == LAK_SCENE_NOT_TEXT && fault.rule == 0);
-    MUST(open_text(&cloth, "= 1", 0, &fault) == LAK_SCENE_NOT_TOML && fault.rule == 0);
+    MUST(open_text(&cloth, "= 1", 0, &fault) == LAK_SCENE_NOT_TOML && fault.rule == 0 && fault.offset == 0);
+    MUST(open_text(&cloth, "gravity = [0, 0, 0]\npasses = 8 8\n", 0, &fault) == LAK_SCENE_NOT_TOML && fault.offset == 31);
     MUST(open_text(&cloth, "[[particle]]\nat = [0, 0, 0]\n[[particle]]\nat = 5\n", 0, &fault) == LAK_SCENE_REFUSED);
     MUST(strcmp(lak_rule_name(fault.rule), "WrongType") == 0 && strcmp(lak_table_name(fault.table), "particle") == 0);
-    MUST(fault.position == 1 && strcmp(lak_key_name(fault.key), "at") == 0);
+    MUST(fault.position == 1 && strcmp(lak_key_name(fault.key), "at") == 0 && fault.offset == 0);
     MUST(!cloth.full && lak_pin(&cloth, 0) == LAK_CLOSED);
 }
 
@@ -246,6 +247,24 @@ static void names(void)
     MUST(named == 27);
 }
 
+/* The digest and the checksum of a world that a slot keeps while the handle goes on. */
+static void slot_digests(lak_cloth *cloth, lak_hash name)
+{
+    lak_left left;
+    lak_hash before, now;
+    uint64_t sum_before = 7, sum = 7;
+    memset(&now, 7, sizeof now);
+    MUST(lak_digest_slot(cloth, 1, name, &now) == LAK_NO_SLOT && lak_checksum_slot(cloth, 1, &sum) == LAK_NO_SLOT);
+    MUST(now.bytes[0] == 7 && now.bytes[31] == 7 && sum == 7);
+    MUST(lak_save(cloth, 0) == LAK_DONE);
+    MUST(lak_digest(cloth, name, &before) == LAK_DONE && lak_checksum(cloth, &sum_before) == LAK_DONE);
+    MUST(lak_step(cloth, 1, &left) == LAK_DONE);
+    MUST(lak_digest(cloth, name, &now) == LAK_DONE && memcmp(&now, &before, sizeof now) != 0);
+    MUST(lak_checksum(cloth, &sum) == LAK_DONE && sum != sum_before);
+    MUST(lak_digest_slot(cloth, 0, name, &now) == LAK_DONE && memcmp(&now, &before, sizeof now) == 0);
+    MUST(lak_checksum_slot(cloth, 0, &sum) == LAK_DONE && sum == sum_before);
+}
+
 static void states(void)
 {
     static uint8_t state[2048];
@@ -255,19 +274,23 @@ static void states(void)
     lak_left left;
     lak_hash name, digest, other;
     size_t size = 7;
-    uint64_t offset = 7;
+    uint64_t offset = 7, sum = 7;
     memset(&cloth, 0, sizeof cloth);
     memset(&late, 0, sizeof late);
     memset(&digest, 7, sizeof digest);
     memset(state, 7, sizeof state);
-    lak_scene_name((const uint8_t *)"abc", 3, &name);
-    MUST(name.bytes[0] == 0xba && name.bytes[31] == 0xad);
-    lak_scene_name((const uint8_t *)scene, strlen(scene), &name);
+    memset(&name, 7, sizeof name);
+    MUST(lak_scene_name(&cloth, &name) == LAK_CLOSED && name.bytes[0] == 7 && name.bytes[31] == 7);
     MUST(lak_state_size(&cloth, &size) == LAK_CLOSED && lak_state_write(&cloth, name, state, sizeof state, &size) == LAK_CLOSED);
     MUST(lak_state_read(&cloth, name, state, 9, &offset) == LAK_CLOSED && lak_digest(&cloth, name, &digest) == LAK_CLOSED);
-    MUST(size == 7 && offset == 7 && digest.bytes[31] == 7 && is_left(state, 0, sizeof state));
+    MUST(lak_digest_slot(&cloth, 0, name, &digest) == LAK_CLOSED && lak_checksum(&cloth, &sum) == LAK_CLOSED);
+    MUST(lak_checksum_slot(&cloth, 0, &sum) == LAK_CLOSED);
+    MUST(size == 7 && offset == 7 && sum == 7 && digest.bytes[31] == 7 && is_left(state, 0, sizeof state));
     MUST(open_text(&cloth, scene, 1, &fault) == LAK_DONE && open_text(&late, scene, 0, &fault) == LAK_DONE);
+    MUST(lak_scene_name(&cloth, &name) == LAK_DONE);
     MUST(lak_step(&cloth, 30, &left) == LAK_DONE && lak_cut(&cloth, 1) == LAK_DONE && lak_counts(&cloth, &counts) == LAK_DONE);
+    MUST(lak_scene_name(&cloth, &other) == LAK_DONE && memcmp(&name, &other, sizeof other) == 0);
+    MUST(lak_scene_name(&late, &other) == LAK_DONE && memcmp(&name, &other, sizeof other) == 0);
     MUST(lak_state_size(&cloth, &size) == LAK_DONE && size == 420 + 49 * (size_t)counts.particles + counts.links);
     MUST(lak_state_write(&cloth, name, state, size - 1, &size) == LAK_NO_ROOM && is_left(state, 0, sizeof state));
     MUST(lak_state_write(&cloth, name, state, sizeof state, &size) == LAK_DONE && is_left(state, size, sizeof state));
@@ -283,17 +306,32 @@ static void states(void)
     MUST(lak_step(&cloth, 30, &left) == LAK_DONE && lak_step(&late, 30, &left) == LAK_DONE);
     MUST(lak_digest(&cloth, name, &digest) == LAK_DONE && lak_digest(&late, name, &other) == LAK_DONE);
     MUST(memcmp(&digest, &other, sizeof other) == 0);
-    lak_close(&cloth);
     lak_close(&late);
+    slot_digests(&cloth, name);
+    lak_close(&cloth);
 }
 
 /* The header's version is that of the package's manifest, which the compiler is given. */
 static void versions(void)
 {
+    lak_version_of_library version;
     char numbers[32];
+    lak_version(&version);
+    MUST(version.major == LAK_VERSION_MAJOR && version.minor == LAK_VERSION_MINOR && version.patch == LAK_VERSION_PATCH);
     sprintf(numbers, "%d.%d.%d", LAK_VERSION_MAJOR, LAK_VERSION_MINOR, LAK_VERSION_PATCH);
     MUST(strcmp(numbers, LAK_VERSION) == 0);
     MUST(strcmp(LAK_VERSION, VERSION) == 0);
+}
+
+/* A cloth of two rows and three columns behind four particles. */
+static void triangles(void)
+{
+    static const uint32_t whole[4][3] = {{4, 7, 5}, {5, 7, 8}, {5, 8, 6}, {6, 8, 9}};
+    uint32_t some[4][3];
+    memset(some, 7, sizeof some);
+    MUST(lak_cloth_triangles(4, 2, 3, some, 3) == 4 && memcmp(some, whole, sizeof some[0] * 3) == 0 && some[3][0] == 0x07070707);
+    MUST(lak_cloth_triangles(4, 2, 3, some, 4) == 4 && memcmp(some, whole, sizeof some) == 0);
+    MUST(lak_cloth_triangles(4, 1, 3, some, 4) == 0 && lak_cloth_triangles(4, 0, 0, some, 4) == 0);
 }
 
 /* Whether a line of so many bytes is this text, and the byte behind it is as it was. */
@@ -331,8 +369,9 @@ static void lines(void)
 int main(void)
 {
     lak_cloth cloth;
-    lak_fault fault = {7, 7, 7, 7};
+    lak_fault fault = {7, 7, 7, 7, 7};
     versions();
+    triangles();
     names();
     memset(&cloth, 0, sizeof cloth);
     lines();
@@ -340,7 +379,7 @@ int main(void)
     wrong_scenes();
     MUST(open_text(&cloth, scene, 2, &fault) == LAK_DONE);
     MUST(open_text(&cloth, scene, 2, &fault) == LAK_IN_USE);
-    MUST(fault.position == 7 && fault.rule == 7 && fault.table == 7 && fault.key == 7);
+    MUST(fault.offset == 7 && fault.position == 7 && fault.rule == 7 && fault.table == 7 && fault.key == 7);
     commands(&cloth);
     reading(&cloth);
     ledgers(&cloth);

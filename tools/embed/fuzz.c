@@ -1,7 +1,8 @@
 /*
  * Calls functions with random arguments on a few handles: fuzz SECONDS SEED. After each call it looks at what the header says
- * of it: a closed handle answers so, an answer other than LAK_DONE changes nothing, reading changes nothing, and a restored
- * world has the sums of the saved one.
+ * of it: a closed handle answers so, an answer other than LAK_DONE changes nothing, reading changes nothing, a restored world has
+ * the sums and the state of the saved one, and one whose state was read has that and its digest. States are read as they were
+ * written, by other handles, and with changes; what is taken is played on with.
  */
 #include "lakmozet.h"
 
@@ -11,17 +12,28 @@
 #include <string.h>
 #include <time.h>
 
-enum { HANDLES = 4, MOST_SLOTS = 16, ROOM = 4096 };
+enum { HANDLES = 4, MOST_SLOTS = 16, ROOM = 4096, STATE = 8192 };
+
+/* What a world is told apart by: its sums, its checksum, and a sum of the bytes of its state. */
+typedef struct {
+    lak_sums_of_world sums;
+    uint64_t checksum, state;
+} seen;
 
 typedef struct {
     lak_cloth cloth;
     bool open;
     uint32_t slots;
-    lak_sums_of_world sums, saved[MOST_SLOTS];
+    lak_hash name;
+    seen now, saved[MOST_SLOTS];
+    uint8_t state[STATE]; /* of an earlier world, which was seen so, or none */
+    size_t size;
+    seen written;
+    lak_hash digest;
 } tracked;
 
 static tracked handles[HANDLES];
-static uint64_t calls, opened, state;
+static uint64_t calls, opened, taken, state;
 
 static uint64_t draw(void)
 {
@@ -67,15 +79,22 @@ static lak_place place(void)
     return it;
 }
 
-static lak_sums_of_world sums_of(tracked *it)
+static seen see(tracked *it)
 {
-    lak_sums_of_world sums;
-    memset(&sums, 0, sizeof sums);
-    must(lak_sums(&it->cloth, &sums) == (it->open ? LAK_DONE : LAK_CLOSED), "lak_sums answers something else");
-    return sums;
+    static uint8_t bytes[STATE];
+    seen now;
+    size_t size = 0;
+    int32_t full = it->open ? LAK_DONE : LAK_CLOSED;
+    memset(&now, 0, sizeof now);
+    must(lak_sums(&it->cloth, &now.sums) == full, "lak_sums answers something else");
+    must(lak_checksum(&it->cloth, &now.checksum) == full, "lak_checksum answers something else");
+    must(lak_state_write(&it->cloth, it->name, bytes, STATE, &size) == full, "lak_state_write answers something else");
+    for (size_t i = 0; i < size; i++)
+        now.state = (now.state ^ bytes[i]) * 1099511628211u;
+    return now;
 }
 
-static bool same(lak_sums_of_world a, lak_sums_of_world b)
+static bool same(seen a, seen b)
 {
     return memcmp(&a, &b, sizeof a) == 0;
 }
@@ -117,9 +136,10 @@ static void open_some(tracked *it)
     if (it->open) {
         opened++;
         it->slots = slots;
-        it->sums = sums_of(it);
+        must(lak_scene_name(&it->cloth, &it->name) == LAK_DONE, "an open handle has no name");
+        it->now = see(it);
         for (uint32_t k = 0; k < slots; k++)
-            it->saved[k] = it->sums;
+            it->saved[k] = it->now;
     }
 }
 
@@ -127,18 +147,37 @@ static void close_one(tracked *it)
 {
     lak_close(&it->cloth);
     it->open = false;
-    memset(&it->sums, 0, sizeof it->sums);
+    it->size = 0;
+    memset(&it->now, 0, sizeof it->now);
     must(it->cloth.at == NULL && !it->cloth.full, "a closed handle is not zeros");
 }
 
 /* After a command: refused ones change nothing. */
 static void after_command(tracked *it, int32_t answer)
 {
-    lak_sums_of_world now = sums_of(it);
+    seen now = see(it);
     must((answer == LAK_CLOSED) == !it->open, "a command of a closed handle");
     must((LAK_DONE <= answer && answer <= LAK_TOO_MANY_CONTACTS) || answer == LAK_CLOSED, "a command answers something else");
-    must(answer == LAK_DONE || same(now, it->sums), "a refused command changes the sums");
-    it->sums = now;
+    must(answer == LAK_DONE || same(now, it->now), "a refused command changes the world");
+    it->now = now;
+}
+
+/* The checksum and the digest of a slot are those of the world that was saved there. */
+static void look_at_slot(tracked *it)
+{
+    uint32_t slot = draw() % 4 == 0 ? (uint32_t)number() : (uint32_t)(draw() % 4);
+    uint64_t sum = 7;
+    lak_hash digest, own;
+    int32_t wanted = !it->open ? LAK_CLOSED : slot < it->slots ? LAK_DONE : LAK_NO_SLOT;
+    memset(&digest, 7, sizeof digest);
+    must(lak_checksum_slot(&it->cloth, slot, &sum) == wanted, "lak_checksum_slot answers something else");
+    must(lak_digest_slot(&it->cloth, slot, it->name, &digest) == wanted, "lak_digest_slot answers something else");
+    must(wanted == LAK_DONE ? sum == it->saved[slot].checksum : sum == 7 && digest.bytes[31] == 7, "the checksum of a slot");
+    if (wanted == LAK_DONE) {
+        bool is_now = same(it->saved[slot], it->now);
+        must(lak_digest(&it->cloth, it->name, &own) == LAK_DONE, "lak_digest answers something else");
+        must((memcmp(&digest, &own, sizeof own) == 0) == is_now, "the digest of a slot");
+    }
 }
 
 static void save_or_restore(tracked *it)
@@ -148,10 +187,10 @@ static void save_or_restore(tracked *it)
     int32_t answer = saves ? lak_save(&it->cloth, slot) : lak_restore(&it->cloth, slot);
     must(answer == (!it->open ? LAK_CLOSED : slot < it->slots ? LAK_DONE : LAK_NO_SLOT), "a slot answers something else");
     if (answer == LAK_DONE && saves)
-        it->saved[slot] = it->sums;
+        it->saved[slot] = it->now;
     if (answer == LAK_DONE && !saves)
-        it->sums = it->saved[slot];
-    must(same(sums_of(it), it->sums), "the sums after a save or a restore");
+        it->now = it->saved[slot];
+    must(same(see(it), it->now), "the world after a save or a restore");
 }
 
 /* Many cuts: as many are refused as don't let a live link go. */
@@ -167,7 +206,7 @@ static void cut_many(tracked *it)
     lak_counts(&it->cloth, &after);
     must(answer == (it->open ? LAK_DONE : LAK_CLOSED), "lak_cut_many answers something else");
     must(refused == (it->open ? length - (before.live - after.live) : 7), "how many cuts were refused");
-    it->sums = sums_of(it);
+    it->now = see(it);
 }
 
 /* The links, of which `live` says which are live, each found by its ends; and the held particles. */
@@ -235,7 +274,88 @@ static void read_some(tracked *it)
     read_ledger(it);
     answer = lak_gone_since(&it->cloth, slot, gone, room, &count);
     must(!it->open || answer == (slot < it->slots ? (room < count ? LAK_NO_ROOM : LAK_DONE) : LAK_NO_SLOT), "the links that went");
-    must(same(sums_of(it), it->sums), "reading changes the sums");
+    must(same(see(it), it->now), "reading changes the world");
+}
+
+/* Writes the state of a world, and keeps it; where there is no room nothing is written. */
+static void write_state(tracked *it)
+{
+    static uint8_t bytes[STATE];
+    lak_counts_of_world counts = {0, 0, 0, 0, 0, 0};
+    size_t size = 7, written = 7, room = draw() % 4 == 0 ? draw() % STATE : STATE;
+    lak_hash digest;
+    memset(bytes, 7, sizeof bytes);
+    lak_counts(&it->cloth, &counts);
+    must(lak_state_size(&it->cloth, &size) == (it->open ? LAK_DONE : LAK_CLOSED), "lak_state_size answers something else");
+    must(size == (it->open ? 420 + 49 * (size_t)counts.particles + counts.links : 7), "the size of a state");
+    int32_t answer = lak_state_write(&it->cloth, it->name, bytes, room, &written);
+    must(answer == (!it->open ? LAK_CLOSED : room < size ? LAK_NO_ROOM : LAK_DONE), "lak_state_write answers something else");
+    must(written == size, "the size of a state that is written");
+    for (size_t i = answer == LAK_DONE ? size : 0; i < STATE; i++)
+        must(bytes[i] == 7, "what stands behind a state is left");
+    if (answer == LAK_DONE) {
+        memcpy(it->state, bytes, size);
+        it->size = size;
+        it->written = it->now;
+    }
+    memset(&digest, 7, sizeof digest);
+    must(lak_digest(&it->cloth, it->name, &digest) == (it->open ? LAK_DONE : LAK_CLOSED), "lak_digest answers something else");
+    must(it->open || digest.bytes[31] == 7, "the digest of a closed handle");
+    if (answer == LAK_DONE)
+        it->digest = digest;
+    must(same(see(it), it->now), "writing a state changes the world");
+}
+
+/* Changes a state: a byte, its length, bytes at its end, or a place and the place before by the same. */
+static void change_state(uint8_t *bytes, size_t *length)
+{
+    uint64_t kind = draw() % 8;
+    size_t particle = 128 + 24 * (draw() % 8);
+    if (kind == 0 && *length > 0)
+        *length = draw() % *length;
+    else if (kind == 1)
+        *length += draw() % 40;
+    else if (kind < 4 && *length > 300)
+        for (size_t i = *length - 292 - draw() % 8; i < *length; i += 1 + draw() % 60)
+            bytes[i] = (uint8_t)draw();
+    else if (kind < 6 && *length > 300) {
+        size_t places = 24 * ((size_t)bytes[42] << 8 | bytes[43]), low = particle + 7;
+        int by = (int)(draw() % 100) - 50, here = bytes[low] + by, before = bytes[(low + places) % *length] + by;
+        bytes[low] = (uint8_t)here;
+        bytes[(low + places) % *length] = (uint8_t)before;
+    } else if (*length > 0)
+        bytes[draw() % *length] = (uint8_t)draw();
+}
+
+/* Reads a state of this handle or of another, as it was written or changed: it is refused, or it is the world's state then. */
+static void read_state(tracked *it)
+{
+    static uint8_t bytes[STATE], again[STATE];
+    const tracked *from = draw() % 4 == 0 ? &handles[draw() % HANDLES] : it;
+    size_t length = from->size, written = 7;
+    uint64_t offset = 7;
+    bool changed = draw() % 2 == 0;
+    lak_hash digest;
+    memcpy(bytes, from->state, length);
+    if (changed)
+        change_state(bytes, &length);
+    changed = changed && (length != from->size || memcmp(bytes, from->state, length) != 0);
+    int32_t answer = lak_state_read(&it->cloth, it->name, bytes, length, &offset);
+    seen now = see(it);
+    must(it->open ? answer == LAK_DONE || answer == LAK_NO_STATE : answer == LAK_CLOSED, "lak_state_read answers something else");
+    must(answer == LAK_NO_STATE ? offset <= length : offset == 7, "where a state goes wrong");
+    must(answer == LAK_DONE || same(now, it->now), "what is no state changes the world");
+    if (answer == LAK_DONE) {
+        must(lak_state_write(&it->cloth, it->name, again, STATE, &written) == LAK_DONE && written == length, "a state that was read");
+        must(memcmp(bytes, again, length) == 0, "the world has another state than what was read");
+        taken += changed;
+    }
+    if (from == it && it->size > 0 && !changed) {
+        must(answer == LAK_DONE && same(now, it->written), "a state that was written is read back");
+        must(lak_digest(&it->cloth, it->name, &digest) == LAK_DONE, "lak_digest answers something else");
+        must(memcmp(&digest, &it->digest, sizeof digest) == 0, "a world that was read has its digest");
+    }
+    it->now = now;
 }
 
 /* A log replays with the status of its recording; with one byte changed it answers something that it may, within the room. */
@@ -273,7 +393,7 @@ static void call(void)
 {
     tracked *it = &handles[draw() % HANDLES];
     lak_left left;
-    uint64_t kind = draw() % 32;
+    uint64_t kind = draw() % 36;
     calls++;
     if (kind < 2)
         open_some(it);
@@ -293,10 +413,16 @@ static void call(void)
         cut_many(it);
     else if (kind < 20)
         after_command(it, lak_gravity(&it->cloth, draw() % 4 ? (lak_place) {0, -(int64_t)(draw() % 300), 0} : place()));
+    else if (kind == 20)
+        look_at_slot(it);
     else if (kind < 26)
         save_or_restore(it);
     else if (kind < 31)
         read_some(it);
+    else if (kind < 33)
+        write_state(it);
+    else if (kind < 35)
+        read_state(it);
     else if (draw() % 8 == 0)
         record_some();
 }
@@ -310,6 +436,6 @@ int main(int argc, char **argv)
             call();
     for (int i = 0; i < HANDLES; i++)
         lak_close(&handles[i].cloth);
-    printf("fuzz: %" PRIu64 " calls, %" PRIu64 " worlds opened\n", calls, opened);
+    printf("fuzz: %" PRIu64 " calls, %" PRIu64 " worlds opened, %" PRIu64 " changed states taken\n", calls, opened, taken);
     return 0;
 }

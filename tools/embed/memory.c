@@ -139,6 +139,21 @@ static void read_all(lak_cloth *cloth)
     must(lak_gravity_now(cloth, &gravity) == LAK_DONE && lak_ledger(cloth, &ledger) == LAK_DONE, "it reads");
 }
 
+/* Writes a state, hashes it, and reads it back, and bytes that are none. */
+static void write_and_read(lak_cloth *cloth)
+{
+    static uint8_t state[65536];
+    lak_hash name, digest;
+    size_t size, written;
+    uint64_t offset, sum;
+    must(lak_scene_name(cloth, &name) == LAK_DONE && lak_checksum(cloth, &sum) == LAK_DONE, "a name and a checksum");
+    must(lak_digest_slot(cloth, 0, name, &digest) == LAK_DONE && lak_checksum_slot(cloth, 0, &sum) == LAK_DONE, "those of a slot");
+    must(lak_state_size(cloth, &size) == LAK_DONE && lak_digest(cloth, name, &digest) == LAK_DONE, "a size and a digest");
+    must(lak_state_write(cloth, name, state, sizeof state, &written) == LAK_DONE && written == size, "a state is written");
+    must(lak_state_read(cloth, name, state, size, &offset) == LAK_DONE, "a state is read");
+    must(lak_state_read(cloth, name, state, size - 1, &offset) == LAK_NO_STATE, "a part of a state is none");
+}
+
 /* No call on an open handle makes a request. */
 static void play_without_memory(void)
 {
@@ -156,6 +171,7 @@ static void play_without_memory(void)
         must(lak_cut_many(&cloth, stroke, 4, &refused) == LAK_DONE && refused >= 1, "it cuts many");
         must(lak_gravity(&cloth, (lak_place) {i, -179, 0}) == LAK_DONE, "it sets gravity");
         read_all(&cloth);
+        write_and_read(&cloth);
         if (i % 7 == 0)
             must(lak_restore(&cloth, (uint32_t)i % 4) == LAK_DONE, "it goes back");
     }

@@ -1,5 +1,6 @@
 /*
- * Plays a scene's script by calls on a handle, and prints what `simulate` prints. Lines are taken as the examples have them: a
+ * Plays a scene's script by calls on a handle, and prints what `simulate` prints; or, where a number of steps is given, the
+ * digest of the world after each so many of them, in 64 digits, and nothing else. Lines are taken as the examples have them: a
  * word, and numbers behind it.
  */
 #include "lakmozet.h"
@@ -12,9 +13,12 @@
 static const char *const phases[] = {"", "predict", "link", "contact", "shape"};
 static uint8_t text[1 << 24];
 static lak_place places[65536];
+static bool quiet; /* whether digests are all that is printed */
 
 static void print_reply(int32_t answer, const lak_left *left)
 {
+    if (quiet)
+        return;
     if (answer == LAK_DONE)
         puts("ok");
     else if (answer == LAK_LEAVES_RANGE)
@@ -29,6 +33,8 @@ static void print_frame(lak_cloth *cloth)
 {
     lak_counts_of_world counts;
     uint32_t count;
+    if (quiet)
+        return;
     lak_counts(cloth, &counts);
     lak_places(cloth, places, 65536, &count);
     printf("frame %" PRIu64 " %" PRIu32 " %" PRIu32 " %" PRIu32 "\n", counts.steps, counts.particles, counts.live, counts.contacts);
@@ -55,6 +61,8 @@ static void print_ledger(lak_cloth *cloth)
 {
     static const char *const names[] = {"momentum", "opening", "gravity", "damping", "link", "contact", "pin", "shape"};
     lak_ledger_of_world l;
+    if (quiet)
+        return;
     lak_ledger(cloth, &l);
     const lak_wide *sums[] = {l.momentum, l.opening, l.gravity, l.damping, l.link, l.contact, l.pin, l.shape};
     for (int k = 0; k < 8; k++) {
@@ -63,6 +71,15 @@ static void print_ledger(lak_cloth *cloth)
             print_wide(sums[k][axis]);
         putchar('\n');
     }
+}
+
+static void print_digest(lak_cloth *cloth, lak_hash name)
+{
+    lak_hash digest;
+    lak_digest(cloth, name, &digest);
+    for (int k = 0; k < 32; k++)
+        printf("%02x", digest.bytes[k]);
+    putchar('\n');
 }
 
 static void play(lak_cloth *cloth, const char *line)
@@ -93,24 +110,46 @@ static void play(lak_cloth *cloth, const char *line)
         print_reply(LAK_BAD_COMMAND, &left);
 }
 
-int main(void)
+/* Plays lines, and prints the digest wherever so many steps more were taken: after one command, where that steps past. */
+static void play_for_digests(lak_cloth *cloth, lak_hash name, char *script, uint64_t every)
+{
+    lak_counts_of_world counts;
+    uint64_t next = every;
+    for (char *line = strtok(script, "\n"); line; line = strtok(NULL, "\n")) {
+        play(cloth, line);
+        lak_counts(cloth, &counts);
+        if (counts.steps < next)
+            continue;
+        print_digest(cloth, name);
+        next = counts.steps + every;
+    }
+}
+
+int main(int argc, char **argv)
 {
     lak_cloth cloth = {0};
     lak_fault fault;
+    lak_hash name;
     size_t length = fread(text, 1, sizeof text - 1, stdin);
     char *script = strstr((char *)text, "\n%%\n");
     int32_t answer;
     (void)length;
     if (!script)
         return 5;
-    answer = lak_open(&cloth, text, (size_t)(script + 1 - (char *)text), 0, &fault);
+    length = (size_t)(script + 1 - (char *)text);
+    answer = lak_open(&cloth, text, length, 0, &fault);
     if (answer == LAK_SCENE_REFUSED)
         printf("error 8 SceneRefused %u %s %s %" PRIu32 " %s\n", fault.rule, lak_rule_name(fault.rule), lak_table_name(fault.table),
                fault.position, lak_key_name(fault.key));
     if (answer != LAK_DONE)
         return answer - 32; /* as the program's */
-    for (char *line = strtok(script + 4, "\n"); line; line = strtok(NULL, "\n"))
-        play(&cloth, line);
+    lak_scene_name(&cloth, &name);
+    quiet = argc > 1;
+    if (quiet)
+        play_for_digests(&cloth, name, script + 4, strtoull(argv[1], NULL, 10));
+    else
+        for (char *line = strtok(script + 4, "\n"); line; line = strtok(NULL, "\n"))
+            play(&cloth, line);
     lak_close(&cloth);
     return 0;
 }

@@ -7,7 +7,7 @@ use Rattle.pbd_scene.specs.declared.fault.SceneFault.{SceneFault}
 use Rattle.pbd_scene.specs.declared.fault.SceneFault.TheVariants.{NotToml, Refused, OutOfMemory}
 use Rattle.pbd_scene.specs.Scene.{Reads}
 use Rattle.lakmozet_c.specs.declared.opening.NoCloth.{NoCloth}
-use Rattle.lakmozet_c.specs.declared.opening.NoCloth.TheVariants.{TooManySlots, NotText, NoScene}
+use Rattle.lakmozet_c.specs.declared.opening.NoCloth.TheVariants.{TooManySlots, NotText, NoToml, NoScene}
 use Rattle.lakmozet_c.specs.Faults.{IsFaultIn, IsSceneIn, IsWhyIn}
 
 pub read_as : (limit : ℤ) (r : Result Parts SceneFault) (tree : Option Members) → Reads limit r tree → MatchResult r (λ parts. IsSceneIn limit tree parts) (λ fault. IsFaultIn limit tree fault)
@@ -25,4 +25,7 @@ read_as limit (Err OutOfMemory) None reads = tt
 pub with_any_slots : (limit : ℤ) (bytes : List ℕ) (slots : ℕ) (why : NoCloth) → IsWhyIn limit bytes 0 why → IsWhyIn limit bytes slots why
 with_any_slots limit bytes slots TooManySlots few = absurd (omega (arith, few))
 with_any_slots limit bytes slots NotText is = is
-with_any_slots limit bytes slots (NoScene fault) is = is
+with_any_slots limit bytes slots (NoToml offset) is = is
+with_any_slots limit bytes slots (NoScene NotToml) is = is
+with_any_slots limit bytes slots (NoScene (Refused rule table position key)) is = is
+with_any_slots limit bytes slots (NoScene OutOfMemory) is = is

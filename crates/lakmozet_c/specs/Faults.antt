@@ -1,5 +1,5 @@
 -- What opening answers, and why it opened nothing.
-use Rattle.std.specs.Prelude.{◌≡◌, ◌⊎◌, ⊤, ℕ, ◌<◌, ◌≤◌, ◌^◌, ℤ, pos, List, Option, Some, None, Ok}
+use Rattle.std.specs.Prelude.{◌≡◌, ◌⊎◌, ⊤, ℕ, ◌<◌, ◌≤◌, ◌^◌, ℤ, pos, List, length, Option, Some, None, Ok}
 use Rattle.std.specs.Str.{IsUtf8}
 use Rattle.toml.specs.Data.{Members}
 use Rattle.toml.specs.Parse.{parse_document}
@@ -17,7 +17,7 @@ use Rattle.pbd_scene.specs.Scene.{scene_of}
 use Rattle.pbd_cloth.specs.Slots.{Slotted, begun}
 use Rattle.lakmozet_c.specs.declared.plain.Fault.{Fault}
 use Rattle.lakmozet_c.specs.declared.opening.NoCloth.{NoCloth}
-use Rattle.lakmozet_c.specs.declared.opening.NoCloth.TheVariants.{TooManySlots, NotText, NoScene}
+use Rattle.lakmozet_c.specs.declared.opening.NoCloth.TheVariants.{TooManySlots, NotText, NoToml, NoScene}
 use Rattle.lakmozet_c.specs.Calls.{in_use, no_slot, status}
 
 -- ---- numbers of names
@@ -75,15 +75,17 @@ key_number keys.Keys = 34
 abbrev pub stop_number : NoCloth → ℕ
 stop_number TooManySlots = no_slot
 stop_number NotText = status 6
+stop_number (NoToml offset) = status 7
 stop_number (NoScene NotToml) = status 7
 stop_number (NoScene (Refused rule table position key)) = status 8
 stop_number (NoScene OutOfMemory) = status 12
 
--- the broken rule, if that is the reason
+-- where the text stops being TOML, or the broken rule, if one of these is the reason
 abbrev pub fault_of : NoCloth → Fault
+fault_of (NoToml offset) = record { offset = offset; position = 0; rule = 0; table = 0; key = 0 }
 fault_of (NoScene (Refused rule table position key)) =
-    record { position = position; rule = rule_number rule; table = table_number table; key = key_number key }
-fault_of why = record { position = 0; rule = 0; table = 0; key = 0 }
+    record { offset = 0; position = position; rule = rule_number rule; table = table_number table; key = key_number key }
+fault_of why = record { offset = 0; position = 0; rule = 0; table = 0; key = 0 }
 
 -- the parts of the scene that a text is, read with a limit, which reads as this tree
 abbrev pub IsSceneIn : ℤ → Option Members → Parts → Type 0
@@ -102,10 +104,12 @@ IsFaultIn limit None NotToml = ⊤
 IsFaultIn limit tree OutOfMemory = ⊤
 IsFaultIn limit tree fault = ⊥
 
--- the reason holds of these bytes, read with a limit, and slots
+-- the reason holds of these bytes, read with a limit, and slots. Where bytes are no TOML, it is told with a place within them.
 abbrev pub IsWhyIn : ℤ → List ℕ → ℕ → NoCloth → Type 0
 IsWhyIn limit bytes slots TooManySlots = 16 < slots
 IsWhyIn limit bytes slots NotText = IsUtf8 bytes → ⊥
+IsWhyIn limit bytes slots (NoToml offset) = IsUtf8 bytes × (parse_document bytes ≡ None) × (offset ≤ length bytes)
+IsWhyIn limit bytes slots (NoScene NotToml) = ⊥
 IsWhyIn limit bytes slots (NoScene fault) = IsUtf8 bytes × IsFaultIn limit (parse_document bytes) fault
 
 -- read with the limit 2^29

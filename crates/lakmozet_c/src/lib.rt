@@ -4,6 +4,7 @@
 mod commands;
 mod cuts;
 mod handle;
+mod naming;
 mod numbers;
 mod open;
 mod opening;
@@ -16,6 +17,7 @@ mod runs;
 mod shown;
 mod slots;
 mod state;
+mod version;
 
 pub use handle::Handle;
-pub use plain::{Book, Counts, Fault, Hash, Left, Stop, Sums, Wide};
+pub use plain::{Book, Counts, Fault, Hash, Left, Stop, Sums, Version, Wide};

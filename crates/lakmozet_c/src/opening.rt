@@ -1,5 +1,5 @@
 //! A cloth from the text of a scene, or why there is none.
-ghost use Rattle.std.specs.Prelude.{◌≡◌, ◌≤◌, IfOk, IsTrue, MatchResult, pos};
+ghost use Rattle.std.specs.Prelude.{◌≡◌, ◌≤◌, ℤ, IfOk, IsTrue, MatchResult, None, pos};
 ghost use Rattle.std.specs.Str.{IsUtf8};
 ghost use Rattle.toml.specs.Parse.{parse_document};
 ghost use Rattle.pbd_world.specs.Valid.{is_limit};
@@ -23,7 +23,9 @@ pub enum NoCloth {
     TooManySlots,
     /// The bytes are no UTF-8.
     NotText,
-    /// They are no TOML, or they break a rule, or memory ran out.
+    /// They are no TOML, for what stands behind so many of them.
+    NoToml { offset: u64 },
+    /// They break a rule, or memory ran out.
     NoScene(SceneFault),
 }
 
@@ -45,6 +47,23 @@ fn scene_of(alloc: Global, text: &str, limit: i64) -> Result<Scene, SceneFault>
     read_scene(alloc, text, limit)
 }
 
+/// Where a text stops being TOML, which it isn't.
+fn not_toml(alloc: Global, text: &str) -> NoCloth
+    requires text { IsUtf8 text.now }
+    requires wrong { parse_document text.now ≡ None }
+    ensures { (limit : ℤ) → IsWhyIn limit text.now 0 result }
+{
+    match toml::table_from_str(alloc, text) {
+        Ok(_) => unreachable!(),
+        Err(error) => match error.span() {
+            Some(span) => NoCloth::NoToml {
+                offset: span.start as u64,
+            },
+            None => NoCloth::NoScene(SceneFault::OutOfMemory),
+        },
+    }
+}
+
 /// The scene of a text's bytes, read with a limit.
 pub(crate) fn scene_in(alloc: Global, bytes: &[u8], limit: i64) -> Result<Scene, NoCloth>
     requires { IsTrue (is_limit limit) }
@@ -54,6 +73,7 @@ pub(crate) fn scene_in(alloc: Global, bytes: &[u8], limit: i64) -> Result<Scene,
     match str::from_utf8(bytes) {
         Ok(text) => match scene_of(alloc, text, limit) {
             Ok(scene) => Ok(scene),
+            Err(SceneFault::NotToml) => Err(not_toml(alloc, text)),
             Err(fault) => Err(NoCloth::NoScene(fault)),
         },
         Err(_) => Err(NoCloth::NotText),
@@ -154,13 +174,21 @@ pub(crate) fn stop_number(why: &NoCloth) -> i32
     match why {
         NoCloth::TooManySlots => NO_SLOT,
         NoCloth::NotText => SCENE_NOT_TEXT,
-        NoCloth::NoScene(SceneFault::NotToml) => SCENE_NOT_TOML,
+        NoCloth::NoToml { .. } | NoCloth::NoScene(SceneFault::NotToml) => SCENE_NOT_TOML,
         NoCloth::NoScene(SceneFault::Refused { .. }) => SCENE_REFUSED,
         NoCloth::NoScene(SceneFault::OutOfMemory) => OUT_OF_MEMORY,
     }
 }
 
-/// The rule that the scene breaks, if that is the reason.
+const NOTHING_WRONG: Fault = Fault {
+    offset: 0,
+    position: 0,
+    rule: 0,
+    table: 0,
+    key: 0,
+};
+
+/// Where the text stops being TOML, or the rule that the scene breaks, if one of these is the reason.
 pub(crate) fn fault_of(why: &NoCloth) -> Fault
     ensures { result ≡ fault_of why.now }
 {
@@ -173,16 +201,16 @@ pub(crate) fn fault_of(why: &NoCloth) -> Fault
                 key,
             },
         ) => Fault {
+            offset: 0,
             position,
             rule: rule.number(),
             table: table_number(table),
             key: key_number(key),
         },
-        _ => Fault {
-            position: 0,
-            rule: 0,
-            table: 0,
-            key: 0,
+        NoCloth::NoToml { offset } => Fault {
+            offset,
+            ..NOTHING_WRONG
         },
+        _ => NOTHING_WRONG,
     }
 }

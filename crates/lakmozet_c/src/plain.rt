@@ -10,11 +10,13 @@ pub struct Left {
     pub phase: u8,
 }
 
-/// The first rule that a scene breaks, 2 to 11, and where: the number of its table, the position in it from 0, and the
-/// number of its key. All are 0 where no rule is broken.
+/// What is wrong with a scene. Where it is no TOML: how many bytes stand before the place where `toml` stopped. Else the first
+/// rule that it breaks, 2 to 11, and where: the number of its table, the position in it from 0, and the number of its key.
+/// What an answer doesn't tell is 0.
 #[repr(C)]
 #[derive(Clone, Copy)]
 pub struct Fault {
+    pub offset: u64,
     pub position: u32,
     pub rule: u8,
     pub table: u8,
@@ -81,4 +83,13 @@ pub struct Book {
 #[derive(Clone, Copy)]
 pub struct Hash {
     pub bytes: [u8; 32],
+}
+
+/// The version of the library, as Semantic Versioning counts it.
+#[repr(C)]
+#[derive(Clone, Copy)]
+pub struct Version {
+    pub major: u32,
+    pub minor: u32,
+    pub patch: u32,
 }

@@ -2,27 +2,19 @@
 ghost use Rattle.std.specs.Prelude.{◌≡◌, pos, length};
 ghost use Rattle.sha2.specs.Sha256.{sha256};
 ghost use Rattle.pbd_encoding.specs.Encoding.{state_bytes};
+ghost use Rattle.pbd_state.specs.Checksum.{checksum};
 ghost use Rattle.pbd_state.specs.Reading.{reading};
 ghost use Rattle.pbd_cloth.specs.Slots.{AreSlots};
 ghost use Rattle.pbd_cloth.specs.States.{resumed};
-ghost use Rattle.lakmozet_c.specs.Calls.{answered, done_to, read_from, room_answer, HoldsSound};
-ghost use Rattle.lakmozet_c.specs.States.{offset_left, size_of, state_answer, state_left};
+ghost use Rattle.lakmozet_c.specs.Calls.{answered, done_to, has_slot, read_from, room_answer, HoldsSound};
+ghost use Rattle.lakmozet_c.specs.States.{offset_left, size_of, slot_left, state_answer, state_left};
 
 use crate::handle::Handle;
-use crate::numbers::{CLOSED, NO_ROOM, NO_STATE};
+use crate::numbers::{CLOSED, NO_ROOM, NO_SLOT, NO_STATE};
 use crate::plain::Hash;
 use pbd_cloth::Cloth;
 use pbd_state::NoRoom;
-use sha2::{Digest, Sha256};
 use std::alloc::Global;
-
-/// Writes the name of a scene: the SHA-256 digest of its text.
-#[unsafe(no_mangle)]
-pub extern "C" fn lak_scene_name(toml: &[u8], name: &mut Hash)
-    ensures { name.new.bytes ≡ sha256 toml.now }
-{
-    name.bytes = Sha256::digest(toml);
-}
 
 /// Says how many bytes a state of the handle's scene has.
 #[unsafe(no_mangle)]
@@ -138,6 +130,94 @@ pub extern "C" fn lak_digest(
             digest.bytes = cloth.digest(&scene.bytes);
             handle.put(alloc, cloth);
             0
+        }
+        None => CLOSED,
+    }
+}
+
+fn digest_slot(cloth: &Cloth, scene: &[u8; 32], slot: u32, digest: &mut Hash) -> i32
+    ensures answer { result ≡ pos (has_slot cloth.now slot) }
+    ensures digest { digest.new.bytes ≡ slot_left cloth.now slot (λ w. sha256 (state_bytes scene.now w)) digest.old.bytes }
+{
+    if slot < cloth.slots() {
+        digest.bytes = cloth.digest_slot(scene, slot);
+        return 0;
+    }
+    NO_SLOT
+}
+
+/// Writes the SHA-256 digest of the state of the world in a slot.
+#[unsafe(no_mangle)]
+pub extern "C" fn lak_digest_slot(
+    alloc: Global,
+    handle: &mut Handle,
+    slot: u32,
+    scene: Hash,
+    digest: &mut Hash,
+) -> i32
+    ensures held { handle.new.held ≡ handle.old.held }
+    ensures sound { HoldsSound handle.new.held }
+    ensures answer { result ≡ pos (answered handle.old.held (λ c. has_slot c slot)) }
+    ensures digest { digest.new.bytes
+        ≡ read_from handle.old.held (λ c. slot_left c slot (λ w. sha256 (state_bytes scene.bytes w)) digest.old.bytes) digest.old.bytes }
+{
+    match handle.take(alloc) {
+        Some(cloth) => {
+            let answer = digest_slot(&cloth, &scene.bytes, slot, digest);
+            handle.put(alloc, cloth);
+            answer
+        }
+        None => CLOSED,
+    }
+}
+
+/// Writes the checksum of the world, a 64-bit number for each turn.
+#[unsafe(no_mangle)]
+pub extern "C" fn lak_checksum(alloc: Global, handle: &mut Handle, sum: &mut u64) -> i32
+    ensures held { handle.new.held ≡ handle.old.held }
+    ensures sound { HoldsSound handle.new.held }
+    ensures answer { result ≡ pos (answered handle.old.held (λ _. 0)) }
+    ensures sum { sum.new ≡ read_from handle.old.held (λ c. checksum c.world) sum.old }
+{
+    match handle.take(alloc) {
+        Some(cloth) => {
+            *sum = cloth.checksum();
+            handle.put(alloc, cloth);
+            0
+        }
+        None => CLOSED,
+    }
+}
+
+fn checksum_slot(cloth: &Cloth, slot: u32, sum: &mut u64) -> i32
+    ensures answer { result ≡ pos (has_slot cloth.now slot) }
+    ensures sum { sum.new ≡ slot_left cloth.now slot checksum sum.old }
+{
+    if slot < cloth.slots() {
+        *sum = cloth.checksum_slot(slot);
+        return 0;
+    }
+    NO_SLOT
+}
+
+/// Writes the checksum of the world in a slot.
+#[unsafe(no_mangle)]
+pub extern "C" fn lak_checksum_slot(
+    alloc: Global,
+    handle: &mut Handle,
+    slot: u32,
+    sum: &mut u64,
+) -> i32
+    ensures held { handle.new.held ≡ handle.old.held }
+    ensures sound { HoldsSound handle.new.held }
+    ensures answer { result ≡ pos (answered handle.old.held (λ c. has_slot c slot)) }
+    ensures sum { sum.new ≡ read_from handle.old.held (λ c. slot_left c slot checksum sum.old) sum.old }
+{
+    match handle.take(alloc) {
+        Some(cloth) => {
+            let answer = checksum_slot(&cloth, slot, sum);
+            handle.put(alloc, cloth);
+            answer
         }
         None => CLOSED,
     }

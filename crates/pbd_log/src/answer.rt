@@ -1,3 +1,4 @@
+// What the log keeps of a reply.
 ghost use Rattle.std.specs.Prelude.{◌≡◌};
 ghost use Rattle.pbd_log.specs.Entries.{answer_of, IsAnswer, phase_number, refusal_answer, plain};
 

@@ -1,3 +1,4 @@
+// The entries of a log: a command, what was answered, and the sums of a frame.
 use pbd_world::{Command, FrameSums};
 
 /// What a session answered: a number from 0 to 12, and what 11 and 12 carry. Absent fields are 0.

@@ -1,3 +1,4 @@
+// Reads the fields of an entry, each from the front of some bytes.
 ghost use Rattle.std.specs.Prelude.{◌≡◌, ◌==◌};
 ghost use Rattle.pbd_world.specs.declared.command.Command.TheVariants.{Step, Pin, Unpin, Cut};
 ghost use Rattle.pbd_log.specs.Entries.{has_sums};

@@ -1,3 +1,4 @@
+// A log as a view of its bytes, or where they stop being one.
 ghost use Rattle.std.specs.Prelude.{◌≡◌, ◌≤◌, ◌<◌, ◌^◌, ◌++◌, ◌∷◌, [], List, length, IfOk, IfErr, IfSome, IfNone, OnErr, MatchResult, Result};
 ghost use Rattle.std.specs.List.{flat_map, AllByRecursion};
 ghost use Rattle.pbd_log.specs.declared.entry.Entry.{Entry};

@@ -1,3 +1,4 @@
+// The commands of a marks script, and why a mark is refused.
 use pbd_world::Command;
 
 /// What a line of a marks script asks for.

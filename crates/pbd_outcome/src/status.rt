@@ -1,3 +1,4 @@
+// How a run ends, and the line of a status.
 ghost use Rattle.std.specs.Prelude.{◌≡◌};
 ghost use Rattle.pbd_outcome.specs.Statuses.{status_line};
 ghost use Rattle.pbd_outcome.specs.Outcome.{ends_as, replay_status};

@@ -1,3 +1,4 @@
+// Splits an input at the first line that is a word.
 ghost use Rattle.std.specs.Prelude.{◌≡◌, ◌≤◌, IfSome, length, option_map};
 ghost use Rattle.pbd_outcome.specs.Split.{is_line, split, split_at};
 

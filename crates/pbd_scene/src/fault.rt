@@ -1,3 +1,4 @@
+// The rules that a scene may break, and where.
 ghost use Rattle.std.specs.Prelude.{◌≡◌};
 ghost use Rattle.pbd_scene.specs.declared.fault.SceneFault.TheVariants.{OutOfMemory};
 ghost use Rattle.pbd_scene.specs.Keys.{key_text, table_text, rule_number, rule_text};

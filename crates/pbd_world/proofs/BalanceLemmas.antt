@@ -1,6 +1,6 @@
 -- A bond keeps the balance of momentum and ledger.
 use Rattle.std.proofs.Common.{◌≡◌, ◌≢◌, refl, sym, ap, ◌∙◌, ℕ, ◌<◌, Bool, true, false, List, length, length-set, get_or-set_other, arith, ℤ, pos, ◌+ℤ◌, ◌-ℤ◌}
-use Rattle.std.specs.Prelude.{◌&&◌, if◌then◌else◌}
+use Rattle.std.specs.Prelude.{if◌then◌else◌}
 use Rattle.std.proofs.lemmas.Int.{ints}
 use Rattle.pbd_num.specs.declared.Vec3.{Vec3}
 use Rattle.pbd_num.specs.Vectors.{plus}
@@ -12,7 +12,7 @@ use Rattle.pbd_world.specs.declared.totals.Class.TheVariants as classes
 use Rattle.pbd_world.specs.Ledger.{Sum, Ledger, sum_plus, both_sums, added, booked, all_totals}
 use Rattle.pbd_world.specs.Particles.{Motion, velocity, particle_at, placed}
 use Rattle.pbd_world.specs.Momentum.{momentum, IsBalanced}
-use Rattle.pbd_world.specs.Bonds.{entries_of, class_of, one}
+use Rattle.pbd_world.specs.Bonds.{entries_of, class_of}
 use Rattle.pbd_world.proofs.MomentumLemmas.{same_sum, part_by, momentum_set, added_all}
 
 -- ---- another place for one particle

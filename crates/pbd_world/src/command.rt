@@ -1,3 +1,4 @@
+// What a line of a script asks for, and what a session answers.
 use pbd_num::Vec3;
 
 /// How many bonds are projected side by side.

@@ -1,3 +1,4 @@
+// A list that grows.
 ghost use Rattle.std.specs.Prelude.{◌≡◌, ◌++◌, [], ◌∷◌, length, take, IfOk, OnOk, OnErr};
 
 use std::alloc::{AllocError, Global};

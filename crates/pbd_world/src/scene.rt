@@ -1,3 +1,4 @@
+// A scene: parts that are valid.
 use crate::{Parts, valid};
 use std::alloc::Global;
 use std::marker::Model;

@@ -1,3 +1,4 @@
+// The sums of all moves since opening, by what made them.
 ghost use Rattle.std.specs.Prelude.{◌≡◌, ◌+ℤ◌, FitsSigned};
 ghost use Rattle.std.specs.Int.{w128};
 
