@@ -1,11 +1,13 @@
 // The page: two sides and the network between them, frame by frame, and what is around them.
 import { $, fail, game, told } from "./game.js";
+import { equal, hex } from "./lakmozet.js";
 import { Network } from "./network.js";
 import { SCENE, STEPS, packSession, unpackSession } from "./scene.js";
 import { Side } from "./side.js";
 import { drawWire, traffic } from "./wire.js";
 
 let sides = [], restarting = false;
+const spelled = number => number.toLocaleString("en");
 const units = { delay: " ms", jitter: " ms", loss: " %" };
 for (const name of Object.keys(units)) {
     const slider = $(name);
@@ -21,11 +23,18 @@ for (const name of Object.keys(units)) {
 // ---- an input in one world alone
 
 let broke = null;
-$("alone").addEventListener("click", () => {
-    if (broke) return;
-    broke = { at: game.clock };
-    sides[1].lonely = true;
-    told("Playing it in world 2 alone …");
+function offer(mend) {
+    $("alone").textContent = mend ? "Mend it with world 1’s state" : "Play one input in one world alone";
+}
+$("alone").addEventListener("click", async () => {
+    if (broke?.done) {
+        const start = await sides[0].ask({ what: "sure" }), turns = start.session[0].length;
+        await anew(start, `Mended after turn ${turns - 1}: world 2 read the ${spelled(start.state.length)} bytes of world 1’s state.`);
+    } else if (!broke) {
+        broke = { at: game.clock };
+        sides[1].lonely = true;
+        told("Playing it in world 2 alone …");
+    }
 });
 function watch() {
     if (!broke || broke.done) return;
@@ -34,8 +43,8 @@ function watch() {
     broke.done = true;
     const first = found.reduce((a, b) => a.now <= b.now ? a : b);
     const late = Math.round(first.now - broke.at);
-    const what = `The input was in turn ${turn}; the sums of turn ${first.turn} differ, known ${late} ms later.`;
-    told(`Seen. ${what} Start over to mend it.`, true);
+    told(`Seen. The input was in turn ${turn}; the digests of turn ${first.turn} differ, known ${late} ms later.`, true);
+    offer(true);
 }
 
 // ---- a link that has the session's inputs in it
@@ -43,7 +52,8 @@ function watch() {
 const through = (bytes, stream) => new Response(new Blob([bytes]).stream().pipeThrough(stream)).arrayBuffer();
 
 async function link() {
-    const { session } = await sides[0].ask({ what: "session" });
+    const { session, whole } = await sides[0].ask({ what: "sure" });
+    if (!whole) return null;
     const bytes = new Uint8Array(await through(packSession(session), new CompressionStream("deflate-raw")));
     const text = btoa(Array.from(bytes, byte => String.fromCharCode(byte)).join(""));
     return `${location.origin}${location.pathname}#${text.replaceAll("+", "-").replaceAll("/", "_").replaceAll("=", "")}`;
@@ -60,12 +70,45 @@ async function given() {
 
 $("share").addEventListener("click", async () => {
     const address = await link();
+    if (!address) return told("This session began from a file, so its inputs don’t tell all of it. Save it as a file again.");
     history.replaceState(null, "", address);
     await navigator.clipboard?.writeText(address).catch(() => {});
     told("The address has all inputs that both know, and was copied. Whoever opens it sees the frame they come to.");
 });
 
+// ---- a world as a file: its state, as the library writes it
+
+async function save() {
+    const { session, state, digest } = await sides[0].ask({ what: "sure" }), turns = session[0].length;
+    const file = document.createElement("a");
+    file.href = URL.createObjectURL(new Blob([state]));
+    file.download = `lakmozet-${turns}.state`;
+    file.click();
+    setTimeout(() => URL.revokeObjectURL(file.href), 60000);
+    told(`Saved world 1 after ${turns} turns, ${spelled(state.length)} bytes whose SHA-256 is the digest ${hex(digest).slice(0, 16)}…`);
+}
+
+// Both worlds go over to the one that a file has, if it is a state of the scene.
+async function load(bytes) {
+    const { offset } = await sides[0].ask({ what: "wrong", state: bytes });
+    if (offset !== undefined) return told(`Refused: at byte ${spelled(offset)} the file stops being a state of this scene.`, true);
+    await anew({ session: [[], []], state: bytes, whole: false }, "Both worlds read the file, and go on from there.");
+}
+Object.assign(window, { save, load });
+$("save").addEventListener("click", save);
+$("load").addEventListener("click", () => $("file").click());
+$("file").addEventListener("change", async ({ target }) => {
+    if (target.files.length) await load(new Uint8Array(await target.files[0].arrayBuffer()));
+    target.value = "";
+});
+
 // ---- running
+
+// Shows the digests of both worlds, of the last turn that both know.
+function showDigests() {
+    const turn = Math.min(...sides.map(({ digests }) => Math.max(-1, ...digests.keys()))), [one, two] = sides.map(({ digests }) => digests.get(turn));
+    sides.forEach((side, id) => side.showDigest(turn, [one, two][id], one && two && equal(one, two)));
+}
 
 function drawAll(now) {
     for (const side of sides) {
@@ -73,6 +116,7 @@ function drawAll(now) {
         side.draw();
         side.keyboard();
     }
+    showDigests();
     drawWire(now);
     traffic(now);
 }
@@ -110,52 +154,57 @@ async function automaticRun() {
         sides.forEach((side, id) => side.take(answers[id]));
         if (!fast || frame % 20 === 0) drawAll(game.clock);
         if (!fast) await new Promise(requestAnimationFrame);
-        if (answers.every(it => it.tick === limit && it.sure === turns && it.last?.turn === turns - 1)) break;
+        if (answers.every(it => it.tick === limit && it.sure === turns && it.compared === turns - 1)) break;
         if (frame > limit * 20) return fail("the run doesn't end");
     }
     const ends = await Promise.all(sides.map(side => side.ask({ what: "finish", turns })));
-    const same = ends[0].sums === ends[1].sums && ends[0].script === ends[1].script && ends[0].after.join() === ends[1].after.join();
+    const same = ["sums", "script", "after"].every(it => String(ends[0][it]) === String(ends[1][it])), digests = ends.map(it => it.after.at(-1));
     const result = {
-        equal: same, sums: ends.map(it => it.sums), after: ends[0].after, script: ends[0].script, scene: SCENE,
+        equal: same, sums: ends.map(it => it.sums), digests, after: ends[0].after, script: ends[0].script, scene: SCENE,
         again: sides.map(s => s.state.again), waits: sides.map(s => s.state.waits), refused: sides.map(s => s.state.refused),
-        compared: sides.map(s => s.state.last?.turn), desync: sides.map(s => s.state.desync),
+        compared: sides.map(s => s.state.compared), desync: sides.map(s => s.state.desync),
         sent: game.network.sent, lost: game.network.lost, bytes: game.network.bytes,
         turnMs: sides.map(s => s.state.totalBusy / s.state.totalPlayed), seconds: (performance.now() - start) / 1000,
     };
     $("result").textContent = JSON.stringify(result);
-    document.title = `done ${same ? "equal" : "differ"} | ${ends[0].sums} | ${ends[1].sums}`;
+    document.title = `done ${same ? "equal" : "differ"} | ${digests.join(" | ")}`;
     const end = same ? `${turns} turns, and both worlds are equal.` : "the worlds differ.";
     told(`The automatic run is over: ${end}`, !same);
 }
 
-async function begin(session = null) {
+// Begins with two new worlds, at the scene's opening or where they are told.
+async function begin(start = null) {
     const { delay, jitter, loss } = game.network;
     game.network = Object.assign(new Network(game.seed ?? 1), { delay, jitter, loss });
-    game.ahead = session ? session[0].length * STEPS : 0;
+    game.ahead = start ? start.session[0].length * STEPS : 0;
     game.clock = game.ahead / 0.06;
-    game.paused = session !== null;
     broke = null;
-    told("Moves a corner by 0.015 mm, in world 2 only. Your eyes won’t see it. The sums will.");
-    await Promise.all(sides.map(side => side.open(session)));
+    offer(false);
+    told("Moves a corner by 0.015 mm, in world 2 only. Your eyes won’t see it. The digests will.");
+    await Promise.all(sides.map(side => side.open(start)));
 }
 
-$("again").addEventListener("click", async () => {
+async function anew(start, text) {
     if (restarting || game.seed !== null) return;
     restarting = true;
     history.replaceState(null, "", location.pathname + location.search);
-    await begin();
+    game.paused = false;
+    await begin(start);
+    if (text) told(text);
     restarting = false;
-});
+}
+$("again").addEventListener("click", () => anew());
 
 try {
     const module = await WebAssembly.compileStreaming(fetch("lakmozet.wasm"));
     const both = [new Side(0, module), new Side(1, module)], session = await given().catch(() => undefined);
     sides = both;
-    await begin(session ?? null);
+    game.paused = Boolean(session);
+    await begin(session && { session, whole: true });
     if (session === undefined) told("The address can’t be read, so this is a new session.", true);
     window.sides = sides;
     if (game.seed !== null) {
-        $("alone").disabled = $("share").disabled = true;
+        for (const name of ["alone", "share", "save", "load"]) $(name).disabled = true;
         await automaticRun();
     } else requestAnimationFrame(live);
 } catch (error) {

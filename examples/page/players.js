@@ -2,6 +2,9 @@
 import { World, equal } from "./lakmozet.js";
 import { SCENE, SLOTS, STEPS, MOST, MOST_TURNS, PIN, UNPIN, MOVE, CUT, TURN, pack, unpack } from "./scene.js";
 
+// The slots that turns begin in, and one for the world to come back to from another.
+const RING = SLOTS - 1, SPARE = RING;
+
 const NOTHING = [];
 
 export class Player {
@@ -16,9 +19,9 @@ export class Player {
         this.known = 0;             // turns of the other that are known without a gap
         this.theyKnow = 0;          // my turns that the other has
         this.tick = 0;              // steps played
-        this.after = [];            // sums after each turn, as they are played now
-        this.theirs = [];           // sums that the other is sure of
-        this.compared = 0;          // turns whose sums were compared
+        this.after = [];            // the digest after each turn, as it is played now
+        this.theirs = [];           // digests that the other is sure of
+        this.compared = 0;          // turns whose digests were compared
         this.desync = null;
         this.again = 0;
         this.lastAgain = 0;
@@ -28,9 +31,8 @@ export class Player {
         this.played = 0;
         this.cuts = [];
         this.next = [];
-        this.leads = [null, null];
-        this.free = [];
-        this.tilt = [0, 0];  // to show: what each leads, which corners are free
+        this.leads = [null, null];  // to show: what each leads
+        this.whole = true;          // whether the inputs tell all of the world, from the scene's opening on
     }
 
     get turn() { return Math.floor(this.tick / STEPS); }
@@ -42,16 +44,34 @@ export class Player {
         return this.inputs.map(list => Array.from({ length: this.sure }, (_, turn) => list[turn] ?? NOTHING));
     }
 
-    // Plays the turns of a session that was, and goes on from there.
-    follow(session) {
+    // Begins at the end of a session that was: plays its turns, or goes over to the state that they came to.
+    follow(session, state) {
         const turns = session[0].length;
         this.inputs = session.map(list => [...list]);
-        for (; this.tick < turns * STEPS; this.tick++) {
-            if (this.tick % STEPS === 0) session.forEach((list, id) => this.note(id, list[this.turn]));
-            this.playStep(this.turn, this.tick % STEPS);
-        }
+        if (state) this.world.readState(state);
+        for (; this.tick < turns * STEPS; this.tick++) if (!state) this.playStep(this.turn, this.tick % STEPS);
         this.known = this.theyKnow = this.compared = turns;
     }
+
+    // What a function answers of a world that isn't this one, to which this one comes back.
+    elsewhere(ask) {
+        this.world.save(SPARE);
+        const answer = ask();
+        this.world.restore(SPARE);
+        return answer;
+    }
+
+    // The state and the digest after the last turn that can't change any more: those of the slot in which the next one begins.
+    get sureWorld() {
+        const { sure, world } = this;
+        return this.elsewhere(() => {
+            if (sure * STEPS < this.tick) world.restore(sure % RING);
+            return { state: world.state(), digest: world.digest() };
+        });
+    }
+
+    // How many bytes stand before what can't be in a state of this scene, or nothing where it is one.
+    wrongIn(state) { return this.elsewhere(() => this.world.readState(state)); }
 
     // Says what this player does, at this step of the turn.
     want(kind, n, x = 0, y = 0, z = 0) {
@@ -75,16 +95,9 @@ export class Player {
 
     // What of an input is worth showing.
     note(id, input) {
-        for (const [, kind, n, x, y] of input) {
-            if (kind === MOVE) {
-                this.leads[id] = { n, turn: this.turn };
-                this.free = this.free.filter(i => i !== n);
-            }
-            if (kind === UNPIN) {
-                this.free.push(n);
-                if (this.leads[id]?.n === n) this.leads[id] = null;
-            }
-            if (kind === TURN) this.tilt = [x, y];
+        for (const [, kind, n] of input) {
+            if (kind === MOVE) this.leads[id] = { n, turn: this.turn };
+            if (kind === UNPIN && this.leads[id]?.n === n) this.leads[id] = null;
         }
     }
 
@@ -92,7 +105,7 @@ export class Player {
     forward(now) {
         const turn = this.turn;
         if (this.tick % STEPS === 0) {
-            if (turn - this.known >= SLOTS - 1 || turn - this.theyKnow >= MOST_TURNS - 1) {
+            if (turn - this.known >= RING - 1 || turn - this.theyKnow >= MOST_TURNS - 1) {
                 this.waits++;
                 return false;
             }
@@ -109,14 +122,14 @@ export class Player {
     }
 
     playStep(turn, step) {
-        if (step === 0) this.world.save(turn % SLOTS);
+        if (step === 0) this.world.save(turn % RING);
         for (const list of [this.inputs[0][turn] ?? NOTHING, this.inputs[1][turn] ?? NOTHING, this.alone[turn] ?? NOTHING]) {
             const now = list.filter(it => it[0] === step);
             for (const it of now) if (it[1] !== CUT) this.play(it);
             this.world.cutMany(now.filter(it => it[1] === CUT).map(it => it[2]));
         }
         this.world.step(1);
-        if (step === STEPS - 1) this.after[turn] = this.world.sums();
+        if (step === STEPS - 1) this.after[turn] = this.world.digest();
     }
 
     // A refusal is an answer like any other: the same in both worlds, and nothing is changed by it. (A turn's cuts come last.)
@@ -138,7 +151,7 @@ export class Player {
                 continue;
             }
             this.theyKnow = Math.max(this.theyKnow, Math.min(it.known, this.turn + 1));
-            if (it.turn >= 0 && it.turn < this.known + 64) this.theirs[it.turn] = it.sums;
+            if (it.turn >= this.compared && it.turn < this.known + 64) this.theirs[it.turn] = it.digest;
             for (let k = 0; k < it.inputs.length; k++) {
                 const turn = it.first + k;
                 if (turn !== this.known) continue;
@@ -151,7 +164,7 @@ export class Player {
         this.lastAgain = 0;
         if (from < Infinity) {
             const start = this.clock();
-            this.world.restore(from % SLOTS);
+            this.world.restore(from % RING);
             for (let tick = from * STEPS; tick < this.tick; tick++) this.playStep(Math.floor(tick / STEPS), tick % STEPS);
             this.lastAgain = Math.ceil(this.tick / STEPS) - from;
             this.again += this.lastAgain;
@@ -159,11 +172,11 @@ export class Player {
             this.played += this.tick / STEPS - from;
         }
         while (this.compared < this.sure) {
-            // A packet tells the sums of one turn; what no packet told is skipped, since equal later sums say as much.
+            // A packet tells the digest of one turn; what no packet told is skipped, since a later one says as much.
             if (this.theirs[this.compared]) {
                 const same = equal(this.theirs[this.compared], this.after[this.compared]);
                 if (!same && !this.desync) this.desync = { turn: this.compared, seen: this.turn, now };
-                this.last = { turn: this.compared, same, sums: this.after[this.compared] };
+                this.last = { turn: this.compared, same };
             } else if (this.theirs.length <= this.compared) break;
             delete this.theirs[this.compared++];
         }
@@ -173,7 +186,7 @@ export class Player {
 
     // What is older than both can ask for again.
     forget() {
-        const old = Math.min(this.known, this.theyKnow, this.compared) - 2 * SLOTS;
+        const old = Math.min(this.known, this.theyKnow, this.compared) - 2 * RING;
         for (const list of [this.alone, this.after]) if (old >= 0) delete list[old];
     }
 
@@ -181,7 +194,7 @@ export class Player {
     tell(now) {
         const first = this.theyKnow, inputs = [], sure = this.sure - 1;
         for (let t = first; t < this.inputs[this.id].length; t++) inputs.push(this.inputs[this.id][t] ?? NOTHING);
-        this.out.push(pack({ first, inputs, known: this.known, turn: sure, sums: this.after[sure] }));
+        this.out.push(pack({ first, inputs, known: this.known, turn: sure, digest: this.after[sure] }));
         this.told = now;
     }
 }

@@ -1,4 +1,6 @@
 // The scene, and what follows from it: where its particles are at first, and the bounds of an input.
+import { HASH } from "./lakmozet.js";
+
 export const SIDE = 32, METRE = 65536, STEPS = 3, SLOTS = 16;
 export const SPHERE = { at: [0, 50000, 62000], radius: 50000 };
 const SPACING = 4369, UP = 140000, HALF = SPACING * 31 / 2;
@@ -81,16 +83,16 @@ function read(view, at, many) {
     return [inputs, at];
 }
 
-// A packet: all turns that the other hasn't said it has, how many turns I have of it, and the sums of a turn that I'm sure of.
-const HEAD = 16, BLANK = new Uint8Array(64);
-export function pack({ first, inputs, known, turn, sums }) {
-    const bytes = new Uint8Array(HEAD + 64 + sizeOf(inputs)), view = new DataView(bytes.buffer);
+// A packet: all turns that the other hasn't said it has, how many turns I have of it, and the digest of a turn that I'm sure of.
+const HEAD = 16, BLANK = new Uint8Array(HASH);
+export function pack({ first, inputs, known, turn, digest }) {
+    const bytes = new Uint8Array(HEAD + HASH + sizeOf(inputs)), view = new DataView(bytes.buffer);
     view.setUint32(0, first);
     view.setUint32(4, inputs.length);
     view.setUint32(8, known);
     view.setInt32(12, turn);
-    bytes.set(sums ?? BLANK, HEAD);
-    write(view, HEAD + 64, inputs);
+    bytes.set(digest ?? BLANK, HEAD);
+    write(view, HEAD + HASH, inputs);
     return bytes;
 }
 
@@ -100,8 +102,8 @@ export function unpack(bytes) {
         const view = new DataView(bytes.buffer, bytes.byteOffset, bytes.length);
         const first = view.getUint32(0), many = view.getUint32(4), known = view.getUint32(8), turn = view.getInt32(12);
         if (many > MOST_TURNS) return null;
-        const [inputs, end] = read(view, HEAD + 64, many);
-        return end === bytes.length ? { first, inputs, known, turn, sums: bytes.slice(HEAD, HEAD + 64) } : null;
+        const [inputs, end] = read(view, HEAD + HASH, many);
+        return end === bytes.length ? { first, inputs, known, turn, digest: bytes.slice(HEAD, HEAD + HASH) } : null;
     } catch {
         return null;
     }

@@ -1,6 +1,6 @@
 // One side of the page: a worker with a world, its picture, its figures, and the hands that reach into it.
 import { $, colours, fail, game, tool } from "./game.js";
-import { short } from "./lakmozet.js";
+import { hex } from "./lakmozet.js";
 import { SIDE, METRE, LIMIT, SPHERE, GRAVITY, PIN, UNPIN, MOVE, CUT, TURN } from "./scene.js";
 import { View } from "./view.js";
 
@@ -21,8 +21,8 @@ export class Side {
         this.hands();
     }
 
-    // A new world, which has played the session that is given, if one is.
-    async open(session) {
+    // A new world, which begins where it is told, or at the scene's opening.
+    async open(start) {
         this.worker?.terminate();
         this.worker = new Worker("worker.js", { type: "module" });
         this.last = Promise.resolve();      // what it was asked last
@@ -32,7 +32,9 @@ export class Side {
         this.held = null;
         this.lonely = false;
         this.pace = null;
-        this.tilt = "0,0";
+        this.tilt = "";
+        this.digests = new Map();           // by turn, of the last turns that can't change any more
+        this.digestOf = undefined;          // the turn whose digest is shown
         this.view.error.fill(0);
         this.view.liveCount = -1;
         $(`tilt${this.id}`).value = 0;
@@ -42,7 +44,7 @@ export class Side {
             else this.done(data);
         };
         this.worker.onerror = event => fail(event.message);
-        const { links } = await this.ask({ what: "open", id: this.id, module: this.module, seed: game.seed, keep: game.seed !== null, session });
+        const { links } = await this.ask({ what: "open", id: this.id, module: this.module, seed: game.seed, keep: game.seed !== null, start });
         this.links = links;
         this.view.join(links);
         this.take(await this.ask({ what: "frame", now: game.clock, target: 0, packets: [], wants: [], limit: 0 }));
@@ -70,14 +72,18 @@ export class Side {
     take(it) {
         for (const bytes of it.out) game.network.send(this.id, bytes, game.clock);
         this.state = it;
+        for (const [turn, digest] of it.digests) {
+            this.digests.set(turn, digest);
+            this.digests.delete(turn - 64);
+        }
         this.live = it.live ?? this.live;
         this.view.torn(this.live, it.count);
         this.view.take(it.places, it.lastAgain > 0 && it.tick > 3);
         if (it.played) this.pace = this.pace === null ? it.busy / it.played : this.pace * 0.95 + 0.05 * it.busy / it.played;
-        const tilt = it.tilt.join();
+        const tilt = it.gravity.join();
         if (tilt !== this.tilt) {
             this.tilt = tilt;
-            const slider = $(`tilt${this.id}`), degrees = Math.atan2(it.tilt[0], -it.tilt[1]) * 180 / Math.PI;
+            const slider = $(`tilt${this.id}`), degrees = Math.atan2(it.gravity[0], -it.gravity[1]) * 180 / Math.PI;
             if (document.activeElement !== slider) slider.value = Math.round(degrees) || 0;
         }
         this.show(it);
@@ -92,22 +98,18 @@ export class Side {
         put("again", String(it.again));
         put("ms", this.pace === null ? "–" : this.pace.toFixed(1));
         put("note", this.note(it));
-        if (it.last) {
-            const pill = $(`sums${this.id}`), good = it.last.same;
-            put("which", `sums of turn ${it.last.turn}`);
-            const text = good ? "equal" : "differ";
-            if (pill.dataset.is !== text + it.last.turn) {
-                pill.dataset.is = text + it.last.turn;
-                pill.className = "pill " + (good ? "good" : "bad");
-                pill.innerHTML = `${good ? "✓" : "✗"} ${text} <code>${short(it.last.sums)}</code>`;
-            }
-        } else if (it.tick < 4) {
-            const pill = $(`sums${this.id}`);
-            pill.className = "pill";
-            pill.textContent = "waiting";
-            pill.dataset.is = "";
-            put("which", "sums");
-        }
+    }
+
+    // The digest of a turn that both know, or none as yet, and whether the other's is the same.
+    showDigest(turn, digest, same) {
+        if (this.digestOf === turn) return;
+        this.digestOf = turn;
+        const pill = $(`digest${this.id}`), digits = document.createElement("code");
+        pill.className = "pill " + (digest ? same ? "good" : "bad" : "");
+        pill.title = digest ? hex(digest) : "";
+        digits.textContent = pill.title.slice(0, 16);
+        pill.replaceChildren(digest ? same ? "✓ equal " : "✗ differ " : "waiting", digits);
+        $(`which${this.id}`).textContent = digest ? `digest of turn ${turn}` : "digest";
     }
 
     // What stands in the corner of the picture: that it waits, that it went back, or what to do first.
@@ -123,15 +125,17 @@ export class Side {
     }
 
     draw() {
-        const dots = [], it = this.state;
+        const it = this.state, dots = new Map(), hand = (i, id) => dots.set(i, { i, tint: id ? colours.gl.two : colours.gl.one, size: 17 });
         if (!it) return;
-        for (const i of [0, SIDE - 1]) if (!it.free.includes(i)) dots.push({ i, tint: colours.gl.pin, size: 11 });
+        it.held.forEach((isHeld, i) => {
+            if (isHeld) dots.set(i, { i, tint: colours.gl.pin, size: 11 });
+        });
         it.leads.forEach((lead, id) => {
             const mine = id === this.id && this.held !== null;
-            if (lead && it.turn - lead.turn < 3 && !mine) dots.push({ i: lead.n, tint: id ? colours.gl.two : colours.gl.one, size: 17 });
+            if (lead && it.turn - lead.turn < 3 && !mine) hand(lead.n, id);
         });
-        if (this.held !== null) dots.push({ i: this.held, tint: this.id ? colours.gl.two : colours.gl.one, size: 17 });
-        this.view.draw(colours.gl, dots);
+        if (this.held !== null) hand(this.held, this.id);
+        this.view.draw(colours.gl, [...dots.values()]);
     }
 
     // ---- hands
@@ -139,8 +143,8 @@ export class Side {
     nearest(x, y, reach = 46) {
         let best = null, least = Infinity;
         for (let i = 0; i < SIDE * SIDE; i++) {
-            const [px, py, far] = this.view.onCanvas(i), corner = i === 0 || i === SIDE - 1;
-            const d = Math.hypot(px - x, py - y) - (corner ? 16 : 0);
+            const [px, py, far] = this.view.onCanvas(i);
+            const d = Math.hypot(px - x, py - y) - (this.state.held[i] ? 16 : 0);
             if (d < reach && d + far * 30 < least) {
                 least = d + far * 30;
                 best = { i, far };
@@ -153,6 +157,7 @@ export class Side {
         const it = this.nearest(x, y);
         if (!it) return false;
         this.held = it.i;
+        this.stays = this.state.held[it.i];     // what was held before is so afterwards
         this.far = it.far;
         this.aim = [x, y];
         this.at = [0, 1, 2].map(k => Math.round(this.view.places[it.i * 3 + k] * METRE));
@@ -161,8 +166,14 @@ export class Side {
     }
 
     drop() {
-        if (this.held !== null && this.held !== 0 && this.held !== SIDE - 1) this.wants.push([UNPIN, this.held]);
+        if (this.held !== null && !this.stays) this.wants.push([UNPIN, this.held]);
         this.held = null;
+    }
+
+    // Holds the nearest particle where it is, or frees it.
+    pin(x, y) {
+        const it = this.nearest(x, y);
+        if (it) this.wants.push([this.state.held[it.i] ? UNPIN : PIN, it.i]);
     }
 
     // Leads the held particle to where the hand points: within reach, above the floor, out of the sphere, and not too fast.
@@ -200,6 +211,7 @@ export class Side {
             game.touched = true;
             game.paused = false;
             const [x, y] = at(event);
+            if (tool() === "pin") return this.pin(x, y);
             cutting = tool() === "cut" || event.shiftKey || event.button === 2;
             if (!cutting && !this.grab(x, y)) return;
             this.canvas.setPointerCapture(event.pointerId);
@@ -232,8 +244,8 @@ export class Side {
         this.canvas.addEventListener("pointercancel", up);
         this.canvas.addEventListener("contextmenu", event => event.preventDefault());
         this.canvas.addEventListener("dblclick", event => {
-            const it = this.nearest(...at(event));
-            if (it && (it.i === 0 || it.i === SIDE - 1)) this.wants.push([UNPIN, it.i]);
+            const it = tool() === "drag" && this.stays ? this.nearest(...at(event)) : null;
+            if (it) this.wants.push([UNPIN, it.i]);
         });
         this.canvas.addEventListener("keydown", event => {
             const key = event.key;
@@ -252,6 +264,7 @@ export class Side {
                     this.marks = [];
                 }, 250);
             }
+            else if (key === "p" || key === "P") this.pin(...(this.cursor ??= this.middle()));
             else if (key === "," || key === ".") this.lean(Number($(`tilt${this.id}`).value) + (key === "," ? -5 : 5));
             else return;
             this.cursor ??= this.middle();

@@ -43,12 +43,17 @@ export function drawWire(now) {
         pen.fillText(String(id + 1), x, tall / 2 + 0.5);
     });
 }
-let mark = { at: 0, bytes: 0 };
+
+// What the network carried, and how many frames were drawn, in the last second.
+let mark = { at: 0, bytes: 0 }, frames = 0, since = performance.now();
 export function traffic(now) {
+    const real = performance.now();
+    frames++;
     if (now < mark.at) mark = { at: now, bytes: 0 };
-    if (now - mark.at < 1000) return;
-    const s = (now - mark.at) / 1000;
-    const rate = ((game.network.bytes - mark.bytes) / s / 1024).toFixed(1);
-    $("traffic").textContent = `${rate} KB/s both ways · ${game.network.lost} of ${game.network.sent} lost`;
+    if (now - mark.at < 1000 || real - since < 1000) return;
+    const rate = ((game.network.bytes - mark.bytes) / (now - mark.at) / 1.024).toFixed(1), drawn = Math.round(frames * 1000 / (real - since));
+    $("traffic").textContent = `${rate} KB/s both ways · ${game.network.lost} of ${game.network.sent} lost · ${drawn} frames/s`;
     mark = { at: now, bytes: game.network.bytes };
+    frames = 0;
+    since = real;
 }

@@ -2,14 +2,17 @@
 import { automatic } from "./automatic.js";
 import { Player } from "./players.js";
 import { STEPS, PIN, MOVE, SIDE, lines } from "./scene.js";
-import { spell } from "./lakmozet.js";
+import { hex, spell } from "./lakmozet.js";
 
-let player, auto, alone = null, live = -1, ready = -1;
+let player, auto, alone = null, live = -1, ready = -1, told = 0;
 
-async function open({ id, module, seed, keep, session }) {
+async function open({ id, module, seed, keep, start }) {
     player = await Player.open(id, module);
     player.keep = keep;
-    if (session) player.follow(session);
+    if (start) {
+        player.follow(start.session, start.state);
+        player.whole = start.whole;
+    }
     auto = seed === null ? null : automatic(seed, id);
     return { id, links: player.world.links };
 }
@@ -23,7 +26,7 @@ function secret(turn) {
 }
 
 function frame({ now, target, packets, wants, lonely, limit = Infinity }) {
-    const start = performance.now(), busy = player.busy, played = player.played;
+    const start = performance.now(), busy = player.busy, played = player.played, { world } = player;
     if (lonely) player.secret = secret;
     const again = player.receive(now, packets);
     for (const it of wants) player.want(...it);
@@ -36,16 +39,18 @@ function frame({ now, target, packets, wants, lonely, limit = Infinity }) {
         if (!player.forward(now)) break;
     }
     if (now - player.told >= 50) player.tell(now);
-    const sums = player.world.sums(), count = new DataView(sums.buffer).getUint32(8, true);
+    const count = world.liveCount(), digests = [];
+    for (; told < player.sure; told++) if (player.after[told]) digests.push([told, player.after[told]]);
     const answer = {
         id: player.id, tick: player.tick, turn: player.turn, sure: player.sure, again: player.again, lastAgain: again, waits: player.waits,
-        refused: player.refused, last: player.last, desync: player.desync, alone, leads: player.leads, free: player.free, tilt: player.tilt,
+        refused: player.refused, digests, compared: player.last?.turn, desync: player.desync, alone, leads: player.leads, whole: player.whole,
         busy: player.busy - busy, played: player.played - played, totalBusy: player.busy, totalPlayed: player.played, count,
-        places: player.world.places().slice(), out: player.out.splice(0), live: null, took: performance.now() - start,
+        places: world.places().slice(), held: world.held().slice(), gravity: world.gravityNow(), out: player.out.splice(0), live: null,
+        took: performance.now() - start,
     };
     if (count !== live) {
         live = count;
-        answer.live = player.world.live().slice();
+        answer.live = world.live().slice();
     }
     return answer;
 }
@@ -57,10 +62,15 @@ function finish({ turns }) {
         for (const inputs of player.inputs) script += lines(inputs[turn] ?? [], tick % STEPS);
         script += "step 1\n";
     }
-    return { id: player.id, script, after: player.after.slice(0, turns).map(spell), sums: spell(player.world.sums()) };
+    return { script, after: player.after.slice(0, turns).map(hex), sums: spell(player.world.sums()) };
 }
 
-const answers = { open, frame, finish, session: () => ({ session: player.session }) };
+const answers = {
+    open, frame, finish,
+    // The turns that both are sure of, and the state that they came to.
+    sure: () => ({ session: player.session, whole: player.whole, ...player.sureWorld }),
+    wrong: ({ state }) => ({ offset: player.wrongIn(state) }),
+};
 
 onmessage = async ({ data }) => {
     try {

@@ -104,6 +104,38 @@ class Chromium:
     def scheme(self, name):
         self("Emulation.setEmulatedMedia", features=[{"name": "prefers-color-scheme", "value": name}])
 
+    def mouse(self, points, press=True, release=True, modifiers=0):
+        """Leads the mouse over points with its button down: presses it at the first, and releases it at the last."""
+        for number, (x, y) in enumerate(points):
+            kinds = ["mouseMoved"]
+            if press and number == 0:
+                kinds.append("mousePressed")
+            if release and number == len(points) - 1:
+                kinds.append("mouseReleased")
+            for kind in kinds:
+                self("Input.dispatchMouseEvent", type=kind, x=x, y=y, button="left", buttons=1, clickCount=1, modifiers=modifiers)
+
+    def touch(self, points, release=True):
+        """Leads a finger over points, and lifts it."""
+        for number, (x, y) in enumerate(points):
+            self("Input.dispatchTouchEvent", type="touchMove" if number else "touchStart", touchPoints=[{"x": x, "y": y}])
+        if release:
+            self("Input.dispatchTouchEvent", type="touchEnd", touchPoints=[])
+
+    def key(self, name, down=True, up=True):
+        """Presses a key, and lets it go."""
+        for kind in ["keyDown"] * down + ["keyUp"] * up:
+            self("Input.dispatchKeyEvent", type=kind, key=name)
+
+    def downloads(self, folder):
+        """Has files that the page gives out written into a folder."""
+        self("Browser.setDownloadBehavior", behavior="allow", downloadPath=folder)
+
+    def choose(self, name, path):
+        """Chooses a file in an input of the page."""
+        it = self("Runtime.evaluate", expression=f"document.getElementById('{name}')")["result"]["objectId"]
+        self("DOM.setFileInputFiles", files=[path], objectId=it)
+
     def shot(self, path):
         with open(path, "wb") as it:
             it.write(base64.b64decode(self("Page.captureScreenshot", format="png")["data"]))
