@@ -28,7 +28,10 @@ use pbd_world::{Command, Reply};
 /// assert_eq!(cloth.pin(1), Err(Refusal::NoParticle));
 /// # Ok::<(), Box<dyn std::error::Error>>(())
 /// ```
-pub struct Cloth(pbd_cloth::Cloth);
+pub struct Cloth {
+    pub(crate) playing: pbd_cloth::Cloth,
+    pub(crate) scene: [u8; 32],
+}
 
 impl Cloth {
     /// Opens the world of a scene before its first command, with up to 16 slots, each of which has that world too.
@@ -40,12 +43,13 @@ impl Cloth {
         if slots > MOST_SLOTS {
             return Err(OpenError::TooManySlots);
         }
-        let cloth = pbd_cloth::Cloth::open(Global, &scene.0, slots as u32)?;
-        Ok(Cloth(cloth))
+        let playing = pbd_cloth::Cloth::open(Global, &scene.parts, slots as u32)?;
+        let scene = playing.scene_name();
+        Ok(Cloth { playing, scene })
     }
 
     fn apply(&mut self, command: Command) -> Result<(), Refusal> {
-        match self.0.apply(&command) {
+        match self.playing.apply(&command) {
             Reply::Refused(why) => Err(why),
             _ => Ok(()),
         }
@@ -148,7 +152,7 @@ impl Cloth {
     /// ```
     #[must_use]
     pub fn gravity(&self) -> [i64; 3] {
-        let Vec3 { x, y, z } = self.0.gravity();
+        let Vec3 { x, y, z } = self.playing.gravity();
         [x, y, z]
     }
 
@@ -159,7 +163,7 @@ impl Cloth {
     /// There is no such slot.
     pub fn save(&mut self, slot: usize) -> Result<(), NoSlot> {
         let slot = self.slot(slot)?;
-        self.0.save(slot);
+        self.playing.save(slot);
         Ok(())
     }
 
@@ -170,11 +174,11 @@ impl Cloth {
     /// There is no such slot.
     pub fn restore(&mut self, slot: usize) -> Result<(), NoSlot> {
         let slot = self.slot(slot)?;
-        self.0.restore(slot);
+        self.playing.restore(slot);
         Ok(())
     }
 
-    fn slot(&self, slot: usize) -> Result<u32, NoSlot> {
+    pub(crate) fn slot(&self, slot: usize) -> Result<u32, NoSlot> {
         if slot < self.slots() {
             Ok(slot as u32)
         } else {
@@ -185,25 +189,25 @@ impl Cloth {
     /// How many slots there are.
     #[must_use]
     pub fn slots(&self) -> usize {
-        self.0.slots() as usize
+        self.playing.slots() as usize
     }
 
     /// How many particles there are, at most 65,536.
     #[must_use]
     pub fn particles(&self) -> usize {
-        self.0.particles() as usize
+        self.playing.particles() as usize
     }
 
     /// How many steps were taken, at most 1,000,000.
     #[must_use]
     pub fn steps(&self) -> u64 {
-        self.0.step_count()
+        self.playing.step_count()
     }
 
     /// How many contacts the last step found, at most 262,144.
     #[must_use]
     pub fn contacts(&self) -> usize {
-        self.0.contacts() as usize
+        self.playing.contacts() as usize
     }
 
     /// Where all particles are, in the order of their numbers. Takes memory for them; [`Cloth::positions_into`] takes none.
@@ -215,13 +219,13 @@ impl Cloth {
 
     /// Copies the positions of as many particles as there is room for, from particle 0 on, and answers how many these are.
     pub fn positions_into(&self, into: &mut [Position]) -> usize {
-        self.0.places(into);
+        self.playing.places(into);
         into.len().min(self.particles())
     }
 
     /// The same one step before: the difference is a particle's velocity.
     pub fn positions_before_into(&self, into: &mut [Position]) -> usize {
-        self.0.places_before(into);
+        self.playing.places_before(into);
         into.len().min(self.particles())
     }
 
@@ -238,8 +242,14 @@ impl Cloth {
     /// ```
     pub fn held(&self) -> impl ExactSizeIterator<Item = bool> {
         let mut held = vec![0; self.particles()];
-        self.0.held(&mut held);
+        self.playing.held(&mut held);
         held.into_iter().map(|it| it != 0)
+    }
+
+    /// Writes a 1 for each held particle and a 0 for each other, for as many as there is room for, and answers how many these are.
+    pub fn held_into(&self, into: &mut [u8]) -> usize {
+        self.playing.held(into);
+        into.len().min(self.particles())
     }
 
     /// All links, live ones and others, in the order of their numbers. Takes memory for them.
@@ -254,9 +264,41 @@ impl Cloth {
     /// # Ok::<(), Box<dyn std::error::Error>>(())
     /// ```
     pub fn links(&self) -> impl ExactSizeIterator<Item = Link> {
-        let mut entries = vec![NO_LINK; self.0.links() as usize];
-        self.0.link_entries(&mut entries);
+        let mut entries = vec![NO_LINK; self.link_count()];
+        self.playing.link_entries(&mut entries);
         entries.into_iter().map(Link::from)
+    }
+
+    /// How many links there are, live ones and others, at most 524,288.
+    #[must_use]
+    pub fn link_count(&self) -> usize {
+        self.playing.links() as usize
+    }
+
+    /// How many links are live, neither cut nor torn.
+    #[must_use]
+    pub fn live_links(&self) -> usize {
+        self.playing.live_links() as usize
+    }
+
+    /// Writes a 1 for each live link and a 0 for each other, for as many as there is room for, and answers how many these are.
+    /// Nothing else of a link ever changes.
+    ///
+    /// ```
+    /// use lakmozet::{Cloth, Scene};
+    ///
+    /// let rope = "[[rope]]\norigin = [0, 0, 0]\nspacing = [6554, 0, 0]\ncount = 3";
+    /// let mut cloth = Cloth::open(&Scene::read(rope)?, 0)?;
+    /// cloth.cut(1)?;
+    /// let mut live = [7; 5];
+    /// assert_eq!(cloth.live_into(&mut live), 3);
+    /// assert_eq!(live, [1, 0, 1, 7, 7]);
+    /// assert_eq!((cloth.live_links(), cloth.link_count()), (2, 3));
+    /// # Ok::<(), Box<dyn std::error::Error>>(())
+    /// ```
+    pub fn live_into(&self, into: &mut [u8]) -> usize {
+        self.playing.live(into);
+        into.len().min(self.link_count())
     }
 
     /// The number of the link that joins two particles, in either order, live or not: there is one at most.
@@ -273,7 +315,7 @@ impl Cloth {
     #[must_use]
     pub fn link_between(&self, a: usize, b: usize) -> Option<usize> {
         let (a, b) = (u32::try_from(a).ok()?, u32::try_from(b).ok()?);
-        self.0.link_between(a, b).map(|link| link as usize)
+        self.playing.link_between(a, b).map(|link| link as usize)
     }
 
     /// The numbers, ascending, of the links that are live in a slot's world and are so no longer. Takes memory for them.
@@ -283,8 +325,8 @@ impl Cloth {
     /// There is no such slot.
     pub fn gone_since(&self, slot: usize) -> Result<impl ExactSizeIterator<Item = usize>, NoSlot> {
         let slot = self.slot(slot)?;
-        let mut gone = vec![0; self.0.gone_since(slot, &mut []) as usize];
-        self.0.gone_since(slot, &mut gone);
+        let mut gone = vec![0; self.playing.gone_since(slot, &mut []) as usize];
+        self.playing.gone_since(slot, &mut gone);
         Ok(gone.into_iter().map(|link| link as usize))
     }
 
@@ -303,13 +345,14 @@ impl Cloth {
     /// ```
     #[must_use]
     pub fn ledger(&self) -> Ledger {
-        self.0.balance().into()
+        self.playing.balance().into()
     }
 
-    /// What two machines compare: equal worlds have equal sums.
+    /// What a log keeps of the world: counts, and the sums of all positions. Equal worlds have equal sums; [`Cloth::digest`] sees
+    /// all of a world, and is what two machines should compare.
     #[must_use]
     pub fn sums(&self) -> Sums {
-        self.0.sums()
+        self.playing.sums()
     }
 }
 
@@ -318,7 +361,7 @@ impl fmt::Debug for Cloth {
         f.debug_struct("Cloth")
             .field("steps", &self.steps())
             .field("particles", &self.particles())
-            .field("links", &self.0.links())
+            .field("links", &self.link_count())
             .field("slots", &self.slots())
             .finish_non_exhaustive()
     }

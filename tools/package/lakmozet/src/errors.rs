@@ -1,6 +1,8 @@
 //! Why something can't be done, by the names that the program prints.
-use crate::parts::kit::alloc::AllocError;
+use crate::parts::kit::alloc::{AllocError, Global};
+use crate::parts::pbd_encoding::StateFault;
 use crate::parts::pbd_scene::{KeyName, SceneFault, SceneRule, TableName};
+use crate::parts::toml::table_from_str;
 use core::error::Error;
 use core::fmt;
 
@@ -37,7 +39,11 @@ pub use crate::parts::pbd_world::Refusal;
 #[non_exhaustive]
 pub enum SceneError {
     /// The text is no TOML.
-    NotToml,
+    #[non_exhaustive]
+    NotToml {
+        /// How many bytes stand before those that can't stand there.
+        offset: usize,
+    },
     /// The scene breaks a rule; this is the first that it breaks.
     #[non_exhaustive]
     Refused {
@@ -54,10 +60,17 @@ pub enum SceneError {
     OutOfMemory,
 }
 
-impl From<SceneFault> for SceneError {
-    fn from(fault: SceneFault) -> SceneError {
+impl SceneError {
+    /// Why a text is no scene. Where it is no TOML it is read again, since only its reader tells where.
+    pub(crate) fn of(fault: SceneFault, text: &str) -> SceneError {
         match fault {
-            SceneFault::NotToml => SceneError::NotToml,
+            SceneFault::NotToml => match table_from_str(Global, text)
+                .err()
+                .and_then(|why| why.span())
+            {
+                Some(span) => SceneError::NotToml { offset: span.start },
+                None => SceneError::OutOfMemory,
+            },
             SceneFault::Refused {
                 rule,
                 table,
@@ -77,7 +90,7 @@ impl From<SceneFault> for SceneError {
 impl fmt::Display for SceneError {
     fn fmt(&self, f: &mut fmt::Formatter<'_>) -> fmt::Result {
         match self {
-            SceneError::NotToml => f.write_str("SceneNotToml"),
+            SceneError::NotToml { offset } => write!(f, "SceneNotToml offset {offset}"),
             SceneError::Refused {
                 rule,
                 table,
@@ -132,6 +145,40 @@ impl fmt::Display for NoSlot {
 }
 
 impl Error for NoSlot {}
+
+/// There is less room than a state needs, as [`Cloth::state_size`](crate::Cloth::state_size) tells it; nothing was written.
+#[derive(Clone, Copy, Debug, PartialEq, Eq)]
+pub struct NoRoom;
+
+impl fmt::Display for NoRoom {
+    fn fmt(&self, f: &mut fmt::Formatter<'_>) -> fmt::Result {
+        f.write_str("NoRoom")
+    }
+}
+
+impl Error for NoRoom {}
+
+/// The bytes are no state of a sound world of the scene; nothing was changed.
+#[derive(Clone, Copy, Debug, PartialEq, Eq)]
+#[non_exhaustive]
+pub struct StateError {
+    /// How many bytes stand before the one that can't stand there, or before the field that no sound world of the scene has.
+    pub offset: u64,
+}
+
+impl From<StateFault> for StateError {
+    fn from(StateFault { offset }: StateFault) -> StateError {
+        StateError { offset }
+    }
+}
+
+impl fmt::Display for StateError {
+    fn fmt(&self, f: &mut fmt::Formatter<'_>) -> fmt::Result {
+        write!(f, "NoState offset {}", self.offset)
+    }
+}
+
+impl Error for StateError {}
 
 impl fmt::Display for Phase {
     fn fmt(&self, f: &mut fmt::Formatter<'_>) -> fmt::Result {

@@ -38,6 +38,11 @@
 //! the contracts off, and what stands here is plain Rust; nothing here is proved again. That it writes the same bytes is tested.
 //! [`SOURCE`] says which sources these are.
 //!
+//! # What two machines agree on
+//!
+//! [`Cloth::digest`] is the SHA-256 of a world's [state](Cloth::state), and sees all of it. A machine that joins late, or goes on from
+//! a saved game, opens the scene and [reads the state](Cloth::restore_state): from then on it has that world, to the bit.
+//!
 //! # Features
 //!
 //! `std`, on by default, has the program and `run_streams`. Without it the crate needs `alloc` alone.
@@ -60,11 +65,12 @@ mod position;
 mod run;
 mod scene;
 mod source;
+mod state;
 
 pub use cloth::Cloth;
-pub use errors::{NoSlot, OpenError, Phase, Refusal, SceneError};
+pub use errors::{NoRoom, NoSlot, OpenError, Phase, Refusal, SceneError, StateError};
 pub use ledger::{Ledger, Totals};
-pub use links::Link;
+pub use links::{cloth_triangles, Link, LinkKind};
 pub use position::{Position, UNITS_PER_METRE};
 #[cfg(feature = "std")]
 pub use run::run_streams;
@@ -78,7 +84,7 @@ pub const VERSION: &str = env!("CARGO_PKG_VERSION");
 /// The most slots that a [`Cloth`] can have.
 pub const MOST_SLOTS: usize = parts::pbd_cloth::MOST_SLOTS as usize;
 
-/// What two machines compare: equal worlds have equal sums.
+/// Counts and sums of a world, which logs keep: equal worlds have equal sums. They don't see all; a [digest](Cloth::digest) does.
 ///
 /// `steps` were taken so far, at most 1,000,000; `live` links are there, and the last step found so many `contacts`. `at` and
 /// `before` are the sums of all positions, now and one step before, axis by axis.

@@ -11,7 +11,9 @@ pub use crate::parts::pbd_scene::{KeyName, SceneRule, TableName};
 /// A scene that was read and keeps all rules: particles, links, shapes and tracks, and what pulls at them.
 ///
 /// It is read once, and as many cloths as one likes are opened on it.
-pub struct Scene(pub(crate) pbd_world::Scene);
+pub struct Scene {
+    pub(crate) parts: pbd_world::Scene,
+}
 
 impl Scene {
     /// Reads the TOML text of a scene.
@@ -26,24 +28,27 @@ impl Scene {
     /// let why = Scene::read("passes = -1").unwrap_err();
     /// assert!(matches!(why, SceneError::Refused { rule: SceneRule::OutOfRange, .. }));
     /// assert_eq!(why.to_string(), "SceneRefused 5 OutOfRange scene 0 passes");
+    ///
+    /// let why = Scene::read("passes = 8\ngravity [0, -179, 0]").unwrap_err();
+    /// assert!(matches!(why, SceneError::NotToml { offset: 19, .. }));
     /// ```
     pub fn read(text: &str) -> Result<Scene, SceneError> {
         match pbd_scene::read_scene(Global, text, pbd_num::RANGE) {
-            Ok(scene) => Ok(Scene(scene)),
-            Err(fault) => Err(fault.into()),
+            Ok(parts) => Ok(Scene { parts }),
+            Err(fault) => Err(SceneError::of(fault, text)),
         }
     }
 
     /// How many particles it has, at most 65,536.
     #[must_use]
     pub fn particles(&self) -> usize {
-        self.0.parts().particles.as_slice().len()
+        self.parts.parts().particles.as_slice().len()
     }
 
     /// How many links it has, at most 524,288.
     #[must_use]
     pub fn links(&self) -> usize {
-        self.0.parts().links.as_slice().len()
+        self.parts.parts().links.as_slice().len()
     }
 }
 

@@ -1,5 +1,8 @@
 //! The interface, played by README's rope.
-use lakmozet::{Cloth, NoSlot, OpenError, Position, Refusal, Scene, SceneError};
+use lakmozet::{
+    cloth_triangles, Cloth, LinkKind, NoRoom, NoSlot, OpenError, Position, Refusal, Scene,
+    SceneError,
+};
 use std::error::Error;
 
 const ROPE: &str = "gravity = [0, -179, 0]
@@ -61,6 +64,7 @@ fn links_have_lengths_and_are_found_by_their_ends() {
         (links[0].tear_length, links[1].tear_length),
         (Some(400), None)
     );
+    assert_eq!(links[1].kind, LinkKind::Plain);
     assert_eq!(cloth.link_between(0, 2), Some(1));
     assert_eq!(cloth.link_between(1, 2), None);
     assert_eq!(cloth.link_between(0, usize::MAX), None);
@@ -79,6 +83,128 @@ fn held_particles_are_told() {
     cloth.pin(2).unwrap();
     cloth.unpin(0).unwrap();
     assert!(cloth.held().eq([false, false, true, false]));
+    let mut few = [7; 3];
+    assert_eq!(cloth.held_into(&mut few), 3);
+    assert_eq!(few, [0, 0, 1]);
+}
+
+#[test]
+fn meshes_have_links_of_three_kinds() {
+    let cloth = "[[cloth]]\norigin = [0, 0, 0]\nacross = [10, 0, 0]\ndown = [0, 0, 10]\nrows = 3\ncolumns = 2\n";
+    let cloth = Cloth::open(&Scene::read(cloth).unwrap(), 0).unwrap();
+    let of = |kind| cloth.links().filter(|it| it.kind == kind).count();
+    let kinds = [
+        LinkKind::Stretch,
+        LinkKind::Shear,
+        LinkKind::Bend,
+        LinkKind::Plain,
+    ];
+    assert_eq!(kinds.map(of), [7, 4, 2, 0]);
+    assert_eq!((cloth.link_count(), cloth.live_links()), (13, 13));
+}
+
+#[test]
+fn triangles_of_a_cloth_have_its_particles() {
+    let triangles: Vec<_> = cloth_triangles(100, 2, 3).collect();
+    assert_eq!(
+        triangles,
+        [
+            [100, 103, 101],
+            [101, 103, 104],
+            [101, 104, 102],
+            [102, 104, 105]
+        ]
+    );
+    assert_eq!(cloth_triangles(0, 1, 9).count(), 0);
+}
+
+// README's rope after 60 steps, whose first link is cut
+fn cut_rope(slots: usize) -> Cloth {
+    let mut cloth = rope(slots);
+    cloth.step(60).unwrap();
+    cloth.cut(0).unwrap();
+    cloth
+}
+
+#[test]
+fn worlds_go_over_as_bytes() {
+    let mut here = cut_rope(0);
+    let state = here.state();
+    assert_eq!(state.len(), 420 + 49 * 4 + 5);
+    let mut there = rope(1);
+    there.restore_state(&state).unwrap();
+    for cloth in [&mut here, &mut there] {
+        cloth.step(30).unwrap();
+        assert_eq!(cloth.positions().nth(1), Some([-12124, 115450, 0].into()));
+    }
+    assert_eq!(there.state(), here.state());
+    assert_eq!(there.ledger(), here.ledger());
+    assert_eq!(there.digest(), here.digest());
+    assert_ne!(there.state(), state);
+    // slots stay as they were
+    there.restore(0).unwrap();
+    assert_eq!(there.digest(), rope(0).digest());
+}
+
+#[test]
+fn a_digest_is_the_sha256_of_the_state() {
+    // as another program computed them
+    assert_eq!(
+        hex(&rope(0).scene_name()),
+        "cf4e0e96fb777b957c5b505c1a30cf65aa4f0edd4a4c402fefb44d86ff0ca983"
+    );
+    assert_eq!(
+        hex(&cut_rope(0).digest()),
+        "0cfe559791155cfde3261f77020fc794fb8588a88106d7ea134d37e525d91abf"
+    );
+}
+
+fn hex(bytes: &[u8]) -> String {
+    bytes.iter().map(|byte| format!("{byte:02x}")).collect()
+}
+
+#[test]
+fn no_bytes_but_states_are_taken() {
+    let mut cloth = cut_rope(0);
+    let (state, before) = (cloth.state(), cloth.digest());
+    let (mut taken, mut refused) = (0, 0);
+    for (at, bit) in (0..state.len()).flat_map(|at| [(at, 1), (at, 0x80)]) {
+        let mut changed = state.clone();
+        changed[at] ^= bit;
+        match cloth.restore_state(&changed) {
+            Ok(()) => {
+                taken += 1;
+                assert_eq!(cloth.state(), changed);
+                cloth.restore_state(&state).unwrap();
+            }
+            Err(why) => {
+                refused += 1;
+                assert!(why.offset <= state.len() as u64);
+                assert_eq!(cloth.digest(), before);
+            }
+        }
+    }
+    assert!(taken >= 8 && refused >= 200, "{taken} {refused}");
+    for short in 0..state.len() {
+        let why = cloth.restore_state(&state[..short]).unwrap_err();
+        assert_eq!(why.offset, short as u64);
+    }
+    let longer = [&state[..], &[0]].concat();
+    let why = cloth.restore_state(&longer).unwrap_err();
+    assert_eq!(why.to_string(), format!("NoState offset {}", state.len()));
+    assert_eq!(cloth.digest(), before);
+}
+
+#[test]
+fn a_state_wants_room() {
+    let cloth = rope(0);
+    let mut room = vec![7; cloth.state_size() + 1];
+    let short = cloth.state_size() - 1;
+    assert_eq!(cloth.state_into(&mut room[..short]), Err(NoRoom));
+    assert!(room.iter().all(|&it| it == 7));
+    assert_eq!(cloth.state_into(&mut room), Ok(cloth.state_size()));
+    assert_eq!(room, [&cloth.state()[..], &[7]].concat());
+    assert_eq!(NoRoom.to_string(), "NoRoom");
 }
 
 #[test]
@@ -136,7 +262,7 @@ fn refusals_have_the_names_that_the_program_prints() {
 #[test]
 fn scenes_and_slots_are_refused_by_name() {
     let why: Box<dyn Error> = Scene::read("passes").unwrap_err().into();
-    assert_eq!(why.to_string(), "SceneNotToml");
+    assert_eq!(why.to_string(), "SceneNotToml offset 6");
     assert_eq!(
         "passes = 1\nwidth = 2"
             .parse::<Scene>()
@@ -144,7 +270,10 @@ fn scenes_and_slots_are_refused_by_name() {
             .to_string(),
         "SceneRefused 2 UnknownKey scene 0 -"
     );
-    assert!(matches!(Scene::read("="), Err(SceneError::NotToml)));
+    assert!(matches!(
+        Scene::read("="),
+        Err(SceneError::NotToml { offset: 0, .. })
+    ));
     let scene = Scene::read(ROPE).unwrap();
     assert_eq!((scene.particles(), scene.links()), (4, 5));
     assert_eq!(Cloth::open(&scene, 17).err(), Some(OpenError::TooManySlots));

@@ -2,6 +2,7 @@
 
 /// An order of bytes.
 pub trait ByteOrder {
+    fn write_u16(into: &mut [u8], n: u16);
     fn write_u32(into: &mut [u8], n: u32);
     fn write_u64(into: &mut [u8], n: u64);
     fn write_u128(into: &mut [u8], n: u128);
@@ -14,6 +15,10 @@ pub trait ByteOrder {
 pub enum BigEndian {}
 
 impl ByteOrder for BigEndian {
+    fn write_u16(into: &mut [u8], n: u16) {
+        into[..2].copy_from_slice(&n.to_be_bytes());
+    }
+
     fn write_u32(into: &mut [u8], n: u32) {
         into[..4].copy_from_slice(&n.to_be_bytes());
     }
