@@ -7,8 +7,8 @@
  * proved of the sources; that these lines agree with the archive is tested by tools/embed-check.
  *
  * What no call ever does: it starts no thread, uses no lock, no locale, no file, no clock and no floating point, and it writes
- * nowhere but through its arguments and into what the handle holds. After lak_open no call on a handle takes memory, until
- * lak_close gives it back. lak_record and lak_replay, which have no handle, take memory and give it back before they return.
+ * nowhere but through its arguments and into what the handle holds. After lak_open or lak_open_mesh no call on a handle takes
+ * memory, until lak_close gives it back. lak_record and lak_replay, which have no handle, take memory and give it back before they return.
  *
  * What a caller has to take care of, and nothing checks:
  *   - A handle is all zero bytes ({0} in C, {} in C++) or what the last call left. It may be moved, and is never copied and
@@ -59,6 +59,20 @@ typedef struct {
     uint8_t table;     /* 0 to 7: see lak_table_name */
     uint8_t key;       /* 0 to 34: see lak_key_name */
 } lak_fault;
+
+/* How a mesh is made cloth: see lak_open_mesh. */
+typedef struct {
+    int64_t stretch_tear, shear_tear, bend_tear; /* the lengths above which links tear, 0 where they never do, at most 2^31 */
+    uint16_t weight;                             /* of each vertex, from 1 */
+    uint16_t stretch, shear, bend;               /* how stiff links are, in 256ths, at most 256 */
+    uint8_t bends;                               /* 0 for no bend links: `bend` and `bend_tear` say nothing then */
+} lak_mesh_settings;
+
+/* What is wrong with a mesh, and where: see lak_open_mesh. What an answer doesn't tell is 0. */
+typedef struct {
+    uint64_t number; /* of a vertex or a face, from 0 */
+    uint8_t rule;    /* 1 to 6: see lak_mesh_rule_name */
+} lak_mesh_fault;
 
 /* Where a step was refused: see lak_step. */
 typedef struct {
@@ -130,8 +144,8 @@ typedef struct {
 enum {
     LAK_DONE = 0,
     LAK_CLOSED = 64,  /* the handle holds nothing; nothing was done, and nothing written but zeros into `left` */
-    LAK_IN_USE = 65,  /* lak_open: the handle holds a cloth, which it keeps */
-    LAK_NO_SLOT = 66, /* there is no such slot; lak_open: more than 16 slots */
+    LAK_IN_USE = 65,  /* lak_open, lak_open_mesh: the handle holds a cloth, which it keeps */
+    LAK_NO_SLOT = 66, /* there is no such slot; lak_open, lak_open_mesh: more than 16 slots */
     LAK_NO_ROOM = 67, /* not all was written, since the memory is too short; the count says how much there is */
     LAK_NO_STATE = 68 /* lak_state_read: the bytes are no state of the scene; where they go wrong is told */
 };
@@ -152,7 +166,7 @@ enum {
     LAK_TOO_MANY_CONTACTS = 12 /* in a step there were more than 262,144 contacts */
 };
 
-/* What lak_open, lak_record and lak_replay answer beside: the program's statuses, with 32 added to each. */
+/* What lak_open, lak_open_mesh, lak_record and lak_replay answer beside: the program's statuses, with 32 added to each. */
 enum {
     LAK_NO_LOG_ROOM = 35,    /* lak_record, lak_replay: there are more bytes than `room` */
     LAK_TOO_LONG = 36,       /* lak_record: the scene or the script is longer than 2^24 bytes; lak_replay: the log than 2^27 */
@@ -162,7 +176,8 @@ enum {
     LAK_LOG_REFUSED = 41,    /* lak_replay: the bytes are no log; where they stop being one is told */
     LAK_MISMATCH = 42,       /* lak_replay: an entry differs, which is told */
     LAK_SOME_REFUSED = 43,   /* lak_record, lak_replay: all went well, but a command was refused */
-    LAK_OUT_OF_MEMORY = 44   /* there was no memory */
+    LAK_OUT_OF_MEMORY = 44,  /* there was no memory */
+    LAK_MESH_REFUSED = 46    /* lak_open_mesh: the mesh or its settings break a rule, which is told */
 };
 
 /* ---- opening and closing */
@@ -172,7 +187,7 @@ void lak_version(lak_version_of_library *version);
 
 /*
  * Opens the scene of a TOML text of `length` bytes (docs/FORMATS.md has its keys), with `slots` slots for lak_save, at most 16.
- * Each slot has the opened world at first. The only call on a handle that takes memory. The text isn't kept.
+ * Each slot has the opened world at first. With lak_open_mesh the only call on a handle that takes memory. The text isn't kept.
  *
  * LAK_DONE: the handle holds the world of the scene, before its first command. `fault` is left as it was.
  * LAK_IN_USE: the handle keeps what it holds, and `fault` is left as it was.
@@ -181,6 +196,27 @@ void lak_version(lak_version_of_library *version);
  * zeros beside.
  */
 int32_t lak_open(lak_cloth *cloth, const uint8_t *toml, size_t length, uint32_t slots, lak_fault *fault);
+
+/*
+ * The same with a mesh behind the scene, whose text may be empty: its vertices are the particles after those of the scene, free
+ * and at rest. Each face has so many corners as `sizes` says, three or more; `corners` has those of all faces, one face after
+ * another, as numbers of vertices from 0, and no face names a vertex twice. Nothing of them is kept.
+ *
+ * The links come behind those of the scene: along the sides of each face, then across each face with four corners, and where
+ * `bends` isn't 0 across each edge that two faces share, from the corner beside it in one to that in the other. No two join the
+ * same particles. With the weight 1, stiffness 256, no tearing and no bend links the world is that of the program's `obj`.
+ *
+ * Answers as lak_open's, and LAK_MESH_REFUSED: the handle stays closed, and `mesh_fault` has the first rule that is broken, the
+ * settings first, then the number of corners, the vertices, the faces, and then what they make together:
+ * 1 a vertex is outside the range, 2 a face isn't three or more different vertices, 3 the sizes don't sum up to the number of
+ * corners, 4 a setting is out of its range, 5 there would be more than 65,536 particles or 524,288 links, 6 a link of the mesh
+ * would be the 33rd at a vertex. `number` is the vertex of 1 and 6, the face of 2, and 0 else. With the other answers for which
+ * the handle stays closed `mesh_fault` has zeros, and with LAK_MESH_REFUSED `fault` has. With LAK_DONE and LAK_IN_USE both are
+ * left as they were. The scene is looked at before the mesh.
+ */
+int32_t lak_open_mesh(lak_cloth *cloth, const uint8_t *toml, size_t length, const lak_place *vertices, size_t vertex_count,
+                      const uint32_t *sizes, size_t face_count, const uint32_t *corners, size_t corner_count,
+                      lak_mesh_settings settings, uint32_t slots, lak_fault *fault, lak_mesh_fault *mesh_fault);
 
 /* Gives all memory back. The handle is closed then; a closed one stays closed. */
 void lak_close(lak_cloth *cloth);
@@ -363,11 +399,11 @@ static inline const char *lak_answer_name(int32_t answer)
     static const char *const refusals[] = {"Done", "BadCommand", "NoParticle", "NoLink", "LinkGone", "OutOfRange", "NotHeld", "Held",
                                            "Tracked", "BadCount", "StepLimit", "LeavesRange", "TooManyContacts"};
     static const char *const statuses[] = {"NoLogRoom", "TooLong", "-", "SceneNotText", "SceneNotToml", "SceneRefused",
-                                           "LogRefused", "Mismatch", "SomeRefused", "OutOfMemory"};
+                                           "LogRefused", "Mismatch", "SomeRefused", "OutOfMemory", "-", "MeshRefused"};
     static const char *const own[] = {"Closed", "InUse", "NoSlot", "NoRoom", "NoState"};
     if (LAK_DONE <= answer && answer <= LAK_TOO_MANY_CONTACTS)
         return refusals[answer];
-    if (LAK_NO_LOG_ROOM <= answer && answer <= LAK_OUT_OF_MEMORY)
+    if (LAK_NO_LOG_ROOM <= answer && answer <= LAK_MESH_REFUSED)
         return statuses[answer - LAK_NO_LOG_ROOM];
     return LAK_CLOSED <= answer && answer <= LAK_NO_STATE ? own[answer - LAK_CLOSED] : "-";
 }
@@ -377,6 +413,12 @@ static inline const char *lak_rule_name(uint8_t rule)
     static const char *const names[] = {"UnknownKey", "MissingKey", "WrongType", "OutOfRange", "TooMany",
                                         "BadIndex", "SelfLink", "DoubleLink", "TooManyAtParticle", "BadTrack"};
     return 2 <= rule && rule <= 11 ? names[rule - 2] : "-";
+}
+
+static inline const char *lak_mesh_rule_name(uint8_t rule)
+{
+    static const char *const names[] = {"OutOfRange", "BadFace", "BadCount", "BadSettings", "TooMany", "TooManyAtParticle"};
+    return 1 <= rule && rule <= 6 ? names[rule - 1] : "-";
 }
 
 static inline const char *lak_table_name(uint8_t table)

@@ -76,6 +76,123 @@ static void wrong_scenes(void)
     MUST(!cloth.full && lak_pin(&cloth, 0) == LAK_CLOSED);
 }
 
+/* A mesh of two triangles that share an edge, whose far corners a bend link joins. */
+static const lak_place vertices[] = {{0, 0, 0}, {65536, 0, 0}, {0, 65536, 0}, {65536, 65536, 0}};
+static const uint32_t sizes[] = {3, 3}, corners[] = {0, 1, 2, 2, 1, 3};
+static const lak_mesh_settings bending = {0, 0, 90000, 2, 256, 256, 128, 1};
+
+/* Opens the four particles of the scene with a mesh behind them, whose two faces have these corners. */
+static int32_t open_mesh(lak_cloth *cloth, const lak_place *places, const uint32_t *numbers, size_t count, lak_mesh_settings settings,
+                         lak_mesh_fault *mesh_fault)
+{
+    lak_fault fault = {7, 7, 7, 7, 7};
+    int32_t answer = lak_open_mesh(cloth, (const uint8_t *)scene, strlen(scene), places, 4, sizes, 2, numbers, count, settings, 1,
+                                   &fault, mesh_fault);
+    const int left = answer == LAK_DONE || answer == LAK_IN_USE ? 7 : 0;
+    MUST(fault.offset == (uint64_t)left && fault.position == (uint32_t)left && fault.rule == left);
+    return answer;
+}
+
+static void meshes(void)
+{
+    lak_cloth cloth, plain;
+    lak_mesh_fault mesh_fault = {7, 7};
+    lak_counts_of_world counts, before;
+    lak_fault fault;
+    lak_link all[16];
+    lak_place places[8];
+    lak_left left;
+    uint32_t count = 0, number = 7;
+    memset(&cloth, 0, sizeof cloth);
+    memset(&plain, 0, sizeof plain);
+    MUST(open_text(&plain, scene, 0, &fault) == LAK_DONE && lak_counts(&plain, &before) == LAK_DONE);
+    lak_close(&plain);
+    MUST(open_mesh(&cloth, vertices, corners, 6, bending, &mesh_fault) == LAK_DONE);
+    MUST(open_mesh(&cloth, vertices, corners, 6, bending, &mesh_fault) == LAK_IN_USE && mesh_fault.number == 7 && mesh_fault.rule == 7);
+    MUST(lak_counts(&cloth, &counts) == LAK_DONE && counts.particles == 8 && counts.slots == 1 && counts.steps == 0);
+    MUST(counts.links == before.links + 6 && counts.live == counts.links && counts.links <= 16);
+    MUST(lak_places(&cloth, places, 8, &count) == LAK_DONE && memcmp(places + 4, vertices, sizeof vertices) == 0);
+    MUST(lak_links(&cloth, all, 16, &count) == LAK_DONE && count == counts.links);
+    MUST(lak_link_between(&cloth, 5, 4, &number) == LAK_DONE && number == before.links);
+    MUST(all[number].stiffness == 256 && all[number].kind == 0 && all[number].rest == 65536 && all[number].tear == 0);
+    MUST(lak_link_between(&cloth, 4, 7, &number) == LAK_DONE && number == counts.links - 1);
+    MUST(all[number].stiffness == 128 && all[number].kind == 2 && all[number].rest == 92681 && all[number].tear == 90000);
+    MUST(lak_step(&cloth, 1, &left) == LAK_DONE);
+    MUST(lak_counts(&cloth, &counts) == LAK_DONE && counts.live == counts.links - 1);
+    lak_close(&cloth);
+}
+
+/* Whether a mesh is refused, by the name of its rule and at this vertex or face. */
+static bool is_refused(const lak_place *places, const uint32_t *numbers, size_t count, lak_mesh_settings settings, const char *rule,
+                       uint64_t number)
+{
+    lak_cloth cloth;
+    lak_mesh_fault fault = {7, 7};
+    memset(&cloth, 0, sizeof cloth);
+    return open_mesh(&cloth, places, numbers, count, settings, &fault) == LAK_MESH_REFUSED && !cloth.full && fault.number == number &&
+           strcmp(lak_mesh_rule_name(fault.rule), rule) == 0;
+}
+
+/* Sixteen triangles around vertex 1, of which each two share no vertex else, and one more. */
+static void crowds(void)
+{
+    lak_cloth cloth;
+    lak_place around[40];
+    uint32_t threes[17], fans[51];
+    lak_fault fault;
+    lak_mesh_fault mesh_fault = {7, 7};
+    const uint8_t *none = (const uint8_t *)"";
+    uint32_t i;
+    memset(&cloth, 0, sizeof cloth);
+    for (i = 0; i < 40; i++) around[i] = at(i, 0, 0);
+    for (i = 0; i < 17; i++) threes[i] = 3, fans[3 * i] = 1, fans[3 * i + 1] = 2 * i + 2, fans[3 * i + 2] = 2 * i + 3;
+    MUST(lak_open_mesh(&cloth, none, 0, around, 40, threes, 16, fans, 48, bending, 0, &fault, &mesh_fault) == LAK_DONE);
+    lak_close(&cloth);
+    MUST(lak_open_mesh(&cloth, none, 0, around, 40, threes, 17, fans, 51, bending, 0, &fault, &mesh_fault) == LAK_MESH_REFUSED);
+    MUST(mesh_fault.number == 1 && strcmp(lak_mesh_rule_name(mesh_fault.rule), "TooManyAtParticle") == 0);
+}
+
+static void too_many(void)
+{
+    lak_cloth cloth;
+    lak_place *places = (lak_place *)calloc(65537, sizeof *places);
+    lak_fault fault = {7, 7, 7, 7, 7};
+    lak_mesh_fault mesh_fault = {7, 7};
+    const uint8_t *none = (const uint8_t *)"";
+    memset(&cloth, 0, sizeof cloth);
+    MUST(places != NULL);
+    MUST(lak_open_mesh(&cloth, none, 0, places, 65537, sizes, 0, corners, 0, bending, 0, &fault, &mesh_fault) == LAK_MESH_REFUSED);
+    MUST(mesh_fault.number == 0 && strcmp(lak_mesh_rule_name(mesh_fault.rule), "TooMany") == 0 && fault.rule == 0);
+    MUST(lak_open_mesh(&cloth, none, 0, places, 65536, sizes, 0, corners, 0, bending, 0, &fault, &mesh_fault) == LAK_DONE);
+    lak_close(&cloth);
+    MUST(lak_open_mesh(&cloth, none, 0, places, 1, sizes, 0, corners, 0, bending, 17, &fault, &mesh_fault) == LAK_NO_SLOT);
+    MUST(mesh_fault.rule == 0 && fault.rule == 0);
+    MUST(lak_open_mesh(&cloth, (const uint8_t *)"= 1", 3, places, 1, sizes, 1, corners, 0, bending, 0, &fault, &mesh_fault) ==
+         LAK_SCENE_NOT_TOML);
+    MUST(mesh_fault.rule == 0 && !cloth.full);
+    free(places);
+}
+
+static void wrong_meshes(void)
+{
+    static const uint32_t twice[] = {0, 1, 2, 2, 1, 2}, outside[] = {0, 1, 2, 2, 1, 4};
+    const lak_place far[] = {{0, 0, 0}, {65536, 0, 0}, {0, 536870913, 0}, {0, 0, INT64_MIN}};
+    lak_mesh_settings light = bending, stiff = bending, long_tear = bending, without = bending;
+    lak_cloth cloth;
+    lak_mesh_fault fault;
+    light.weight = 0, stiff.bend = 257, without.bend = 257, without.bends = 0;
+    long_tear.shear_tear = 2147483649;
+    MUST(is_refused(vertices, corners, 6, light, "BadSettings", 0) && is_refused(vertices, corners, 6, stiff, "BadSettings", 0));
+    MUST(is_refused(vertices, corners, 6, long_tear, "BadSettings", 0));
+    MUST(is_refused(far, twice, 5, light, "BadSettings", 0) && is_refused(far, twice, 5, bending, "BadCount", 0));
+    MUST(is_refused(far, twice, 6, bending, "OutOfRange", 2));
+    MUST(is_refused(vertices, twice, 6, bending, "BadFace", 1) && is_refused(vertices, outside, 6, bending, "BadFace", 1));
+    memset(&cloth, 0, sizeof cloth);
+    MUST(open_mesh(&cloth, vertices, corners, 6, without, &fault) == LAK_DONE);
+    lak_close(&cloth);
+    MUST(strcmp(lak_mesh_rule_name(0), "-") == 0 && strcmp(lak_mesh_rule_name(7), "-") == 0);
+}
+
 static void commands(lak_cloth *cloth)
 {
     lak_left left = {7, 7, 7};
@@ -233,6 +350,7 @@ static void names(void)
     MUST(strcmp(lak_answer_name(LAK_SCENE_NOT_TEXT), "SceneNotText") == 0);
     MUST(strcmp(lak_answer_name(LAK_SCENE_REFUSED), "SceneRefused") == 0);
     MUST(strcmp(lak_answer_name(LAK_MISMATCH), "Mismatch") == 0 && strcmp(lak_answer_name(LAK_OUT_OF_MEMORY), "OutOfMemory") == 0);
+    MUST(strcmp(lak_answer_name(LAK_MESH_REFUSED), "MeshRefused") == 0);
     MUST(strcmp(lak_answer_name(LAK_CLOSED), "Closed") == 0 && strcmp(lak_answer_name(LAK_IN_USE), "InUse") == 0);
     MUST(strcmp(lak_answer_name(LAK_NO_SLOT), "NoSlot") == 0 && strcmp(lak_answer_name(LAK_NO_ROOM), "NoRoom") == 0);
     MUST(strcmp(lak_answer_name(LAK_NO_STATE), "NoState") == 0);
@@ -244,7 +362,7 @@ static void names(void)
         for (other = -1; other < answer; other++)
             MUST(strcmp(lak_answer_name(answer), lak_answer_name(other)) != 0);
     }
-    MUST(named == 27);
+    MUST(named == 28);
 }
 
 /* The digest and the checksum of a world that a slot keeps while the handle goes on. */
@@ -377,6 +495,10 @@ int main(void)
     lines();
     closed_handles();
     wrong_scenes();
+    meshes();
+    wrong_meshes();
+    crowds();
+    too_many();
     MUST(open_text(&cloth, scene, 2, &fault) == LAK_DONE);
     MUST(open_text(&cloth, scene, 2, &fault) == LAK_IN_USE);
     MUST(fault.offset == 7 && fault.position == 7 && fault.rule == 7 && fault.table == 7 && fault.key == 7);

@@ -61,18 +61,29 @@ static int32_t open_it(lak_cloth *cloth)
     return lak_open(cloth, (const uint8_t *)scene, strlen(scene), 4, &fault);
 }
 
+/* The same with two triangles behind it that a bend link joins. */
+static int32_t open_mesh(lak_cloth *cloth)
+{
+    static const lak_place vertices[] = {{0, 0, 0}, {6554, 0, 0}, {0, 6554, 0}, {6554, 6554, 0}};
+    static const uint32_t sizes[] = {3, 3}, corners[] = {0, 1, 2, 2, 1, 3};
+    static const lak_mesh_settings settings = {0, 0, 0, 1, 256, 256, 64, 1};
+    lak_fault fault;
+    lak_mesh_fault mesh_fault;
+    return lak_open_mesh(cloth, (const uint8_t *)scene, strlen(scene), vertices, 4, sizes, 2, corners, 6, settings, 4, &fault, &mesh_fault);
+}
+
 static int32_t record_it(uint8_t *log, size_t *written)
 {
     return lak_record((const uint8_t *)scene, strlen(scene), (const uint8_t *)script, strlen(script), log, LOG_ROOM, written);
 }
 
 /* Each request of opening fails once: the handle stays closed, and all is given back. Returns how many there are. */
-static unsigned long open_without_memory(void)
+static unsigned long open_without_memory(int32_t (*open)(lak_cloth *))
 {
     lak_cloth cloth = {0};
     for (unsigned long n = 1;; n++) {
         requests = 0, fails_at = n;
-        int32_t answer = open_it(&cloth);
+        int32_t answer = open(&cloth);
         fails_at = 0;
         if (answer == LAK_DONE) {
             lak_close(&cloth);
@@ -182,9 +193,11 @@ static void play_without_memory(void)
 
 int main(void)
 {
-    unsigned long opening = open_without_memory(), recording = record_without_memory(), replaying = replay_without_memory();
+    unsigned long opening = open_without_memory(open_it), meshes = open_without_memory(open_mesh);
+    unsigned long recording = record_without_memory(), replaying = replay_without_memory();
     play_without_memory();
-    printf("memory: %lu requests of an opening, %lu of a record and %lu of a replay failed in turn; the other calls make none\n",
-           opening, recording, replaying);
+    printf("memory: %lu requests of an opening, %lu of one with a mesh, %lu of a record and %lu of a replay failed in turn; "
+           "the other calls make none\n",
+           opening, meshes, recording, replaying);
     return 0;
 }

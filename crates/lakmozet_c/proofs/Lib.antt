@@ -1,3 +1,4 @@
+pub mod Meshing
 pub mod Reading
 pub mod Refusing
 pub mod Shortages

@@ -2,6 +2,7 @@ pub mod Calls
 pub mod Faults
 pub mod Kept
 pub mod Logs
+pub mod Meshed
 pub mod Replays
 pub mod Runs
 pub mod Shown

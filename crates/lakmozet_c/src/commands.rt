@@ -36,7 +36,7 @@ fn command(alloc: Global, handle: &mut Handle, command: &Command) -> Answer
     }
 }
 
-fn vector_of(place: Place) -> Vec3
+pub(crate) fn vector_of(place: Place) -> Vec3
     ensures { result ≡ vector_of place }
 {
     Vec3 {

@@ -4,6 +4,7 @@
 mod commands;
 mod cuts;
 mod handle;
+mod meshes;
 mod naming;
 mod numbers;
 mod open;
@@ -20,4 +21,4 @@ mod state;
 mod version;
 
 pub use handle::Handle;
-pub use plain::{Book, Counts, Fault, Hash, Left, Stop, Sums, Version, Wide};
+pub use plain::{Book, Counts, Fault, Hash, Left, MeshEntry, MeshFault, Stop, Sums, Version, Wide};

@@ -45,3 +45,6 @@ pub(crate) const SOME_REFUSED: i32 = 43;
 
 /// There was no memory.
 pub(crate) const OUT_OF_MEMORY: i32 = 44;
+
+/// A mesh or its settings are refused.
+pub(crate) const MESH_REFUSED: i32 = 46;

@@ -81,7 +81,7 @@ pub(crate) fn scene_in(alloc: Global, bytes: &[u8], limit: i64) -> Result<Scene,
 }
 
 /// The cloth of a scene, which is let go.
-fn cloth_on(alloc: Global, scene: Scene, slots: u32) -> Result<Box<Cloth>, NoCloth>
+pub(crate) fn cloth_on(alloc: Global, scene: Scene, slots: u32) -> Result<Box<Cloth>, NoCloth>
     requires { slots ≤ 16 }
     ensures cloth { MatchResult result (λ cloth. cloth.value ≡ begun (opened scene) slots)
         (λ why. why ≡ NoScene OutOfMemory) }
@@ -180,7 +180,7 @@ pub(crate) fn stop_number(why: &NoCloth) -> i32
     }
 }
 
-const NOTHING_WRONG: Fault = Fault {
+pub(crate) const NOTHING_WRONG: Fault = Fault {
     offset: 0,
     position: 0,
     rule: 0,

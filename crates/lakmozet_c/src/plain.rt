@@ -23,6 +23,29 @@ pub struct Fault {
     pub key: u8,
 }
 
+/// How a mesh is made cloth: the lengths above which its links tear, 0 where they never do, the weight of each particle, and how
+/// stiff its links are, in 256ths. `bends` is 0 where it has no bend links.
+#[repr(C)]
+#[derive(Clone, Copy)]
+pub struct MeshEntry {
+    pub stretch_tear: i64,
+    pub shear_tear: i64,
+    pub bend_tear: i64,
+    pub weight: u16,
+    pub stretch: u16,
+    pub shear: u16,
+    pub bend: u16,
+    pub bends: u8,
+}
+
+/// What is wrong with a mesh, 1 to 6, and at which vertex or face, from 0. What an answer doesn't tell is 0.
+#[repr(C)]
+#[derive(Clone, Copy)]
+pub struct MeshFault {
+    pub number: u64,
+    pub rule: u8,
+}
+
 /// Where a replay stopped: how many bytes stand before the part that can't be read, where they are no log; the first entry
 /// that differs, from 1, and the number of its field, 1 to 13 in the order of the comparison. All are 0 where nothing is wrong.
 #[repr(C)]
