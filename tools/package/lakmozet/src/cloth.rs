@@ -100,7 +100,7 @@ impl Cloth {
     pub fn move_to(&mut self, particle: usize, to: impl Into<Position>) -> Result<(), Refusal> {
         self.apply(Command::Move {
             particle: particle as u64,
-            to: vector(to.into()),
+            to: to.into().vector(),
         })
     }
 
@@ -136,7 +136,7 @@ impl Cloth {
     ///
     /// `OutOfRange`.
     pub fn set_gravity(&mut self, gravity: [i64; 3]) -> Result<(), Refusal> {
-        self.apply(Command::Gravity(vector(gravity.into())))
+        self.apply(Command::Gravity(Position::from(gravity).vector()))
     }
 
     /// Gravity, in units of 1/65,536 metre per step squared.
@@ -377,11 +377,3 @@ const NO_LINK: LinkEntry = LinkEntry {
     kind: 0,
     live: 0,
 };
-
-fn vector(place: Position) -> Vec3 {
-    Vec3 {
-        x: place.x,
-        y: place.y,
-        z: place.z,
-    }
-}

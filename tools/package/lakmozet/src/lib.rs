@@ -58,6 +58,7 @@ mod cloth;
 mod errors;
 mod ledger;
 mod links;
+mod mesh;
 #[doc(hidden)]
 #[allow(missing_docs)]
 pub mod parts;
@@ -71,6 +72,7 @@ pub use cloth::Cloth;
 pub use errors::{NoRoom, NoSlot, OpenError, Phase, Refusal, SceneError, StateError};
 pub use ledger::{Ledger, Totals};
 pub use links::{cloth_triangles, Link, LinkKind};
+pub use mesh::{LinkSettings, Mesh, MeshError, MeshSettings};
 pub use position::{Position, UNITS_PER_METRE};
 #[cfg(feature = "std")]
 pub use run::run_streams;

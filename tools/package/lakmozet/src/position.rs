@@ -1,4 +1,5 @@
 //! Where particles are.
+use crate::parts::pbd_num::Vec3;
 
 /// How many units a metre has.
 pub const UNITS_PER_METRE: i64 = 65_536;
@@ -19,6 +20,11 @@ impl Position {
     #[must_use]
     pub fn to_metres(self) -> [f32; 3] {
         [self.x, self.y, self.z].map(|units| units as f32 / UNITS_PER_METRE as f32)
+    }
+
+    pub(crate) fn vector(self) -> Vec3 {
+        let Position { x, y, z } = self;
+        Vec3 { x, y, z }
     }
 }
 

@@ -1,7 +1,7 @@
 //! The interface, played by README's rope.
 use lakmozet::{
-    cloth_triangles, Cloth, LinkKind, NoRoom, NoSlot, OpenError, Position, Refusal, Scene,
-    SceneError,
+    cloth_triangles, Cloth, LinkKind, LinkSettings, Mesh, MeshError, MeshSettings, NoRoom, NoSlot,
+    OpenError, Position, Refusal, Scene, SceneError,
 };
 use std::error::Error;
 
@@ -116,6 +116,57 @@ fn triangles_of_a_cloth_have_its_particles() {
         ]
     );
     assert_eq!(cloth_triangles(0, 1, 9).count(), 0);
+}
+
+#[test]
+fn meshes_become_cloth_behind_the_scene() {
+    let strip = [[0, 0, 0], [9, 0, 0], [0, 0, 9], [9, 0, 9], [0, 9, 0]].map(Position::from);
+    let mesh = Mesh {
+        vertices: &strip,
+        sizes: &[3, 3],
+        corners: &[0, 1, 2, 1, 3, 2],
+    };
+    let scene = || Scene::read(ROPE).unwrap();
+    let stiff = MeshSettings::stiff();
+    let cloth = Cloth::open(&scene().with_mesh(&mesh, &stiff).unwrap(), 0).unwrap();
+    assert_eq!((cloth.particles(), cloth.link_count()), (9, 10));
+    assert_eq!(cloth.positions().nth(7), Some(strip[3]));
+    // the side that both faces have, and one that the second has alone
+    assert!(cloth.link_between(5, 6).is_some() && cloth.link_between(6, 7).is_some());
+    assert_ne!(cloth.scene_name(), rope(0).scene_name());
+    let bent = MeshSettings {
+        bend: Some(LinkSettings {
+            stiffness: 40,
+            tear: 0,
+        }),
+        ..stiff
+    };
+    let cloth = Cloth::open(&scene().with_mesh(&mesh, &bent).unwrap(), 0).unwrap();
+    let bend = cloth.links().find(|it| it.kind == LinkKind::Bend).unwrap();
+    assert_eq!((bend.stiffness, cloth.link_count()), (40, 11));
+
+    let refused = |mesh: Mesh, settings| scene().with_mesh(&mesh, settings).unwrap_err();
+    let corners = &mesh.corners[1..];
+    assert_eq!(
+        refused(Mesh { corners, ..mesh }, &stiff),
+        MeshError::BadCount
+    );
+    let corners = &[0, 1, 2, 1, 5, 2];
+    let why = refused(Mesh { corners, ..mesh }, &stiff);
+    assert_eq!(why.to_string(), "BadFace face 1");
+    let vertices = &[Position::from([1 << 30, 0, 0]); 5];
+    let why = refused(Mesh { vertices, ..mesh }, &stiff);
+    assert_eq!(why.to_string(), "OutOfRange vertex 0");
+    let weightless = MeshSettings { weight: 0, ..stiff };
+    assert_eq!(refused(mesh, &weightless), MeshError::BadSettings);
+    let hub: Vec<_> = (1..=33).flat_map(|it| [0, it, it + 33]).collect();
+    let star = Mesh {
+        vertices: &[Position::from([0; 3]); 67],
+        sizes: &[3; 33],
+        corners: &hub,
+    };
+    let why = refused(star, &stiff);
+    assert_eq!(why, MeshError::TooManyAtParticle { vertex: 0 });
 }
 
 // README's rope after 60 steps, whose first link is cut
