@@ -69,7 +69,7 @@ static void wrong_scenes(void)
     MUST(open_text(&cloth, "", 17, &fault) == LAK_NO_SLOT && fault.rule == 0 && fault.position == 0);
     MUST(lak_open(&cloth, (const uint8_t *)"\xff", 1, 0, &fault) == LAK_SCENE_NOT_TEXT && fault.rule == 0);
     MUST(open_text(&cloth, "= 1", 0, &fault) == LAK_SCENE_NOT_TOML && fault.rule == 0 && fault.offset == 0);
-    MUST(open_text(&cloth, "gravity = [0, 0, 0]\npasses = 8 8\n", 0, &fault) == LAK_SCENE_NOT_TOML && fault.offset == 31);
+    MUST(open_text(&cloth, "gravity = [0, 0, 0]\npasses = 8 8\n", 0, &fault) == LAK_SCENE_NOT_TOML && fault.offset == 29);
     MUST(open_text(&cloth, "[[particle]]\nat = [0, 0, 0]\n[[particle]]\nat = 5\n", 0, &fault) == LAK_SCENE_REFUSED);
     MUST(strcmp(lak_rule_name(fault.rule), "WrongType") == 0 && strcmp(lak_table_name(fault.table), "particle") == 0);
     MUST(fault.position == 1 && strcmp(lak_key_name(fault.key), "at") == 0 && fault.offset == 0);
