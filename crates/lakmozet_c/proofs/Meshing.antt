@@ -21,7 +21,8 @@ use Rattle.lakmozet_c.specs.Faults.{IsSceneIn}
 use Rattle.lakmozet_c.specs.Meshed.{IsMeshWhy}
 use Rattle.lakmozet_c.proofs.Reading as reading
 
-entries_limit : (pins : List ℤ) (ls : List LinkEntry) (ts : List TrackEntry) (m parts : Parts) → with_entries pins ls ts m ≡ Ok parts → parts.limit ≡ m.limit
+entries_limit : (pins : List ℤ) (ls : List LinkEntry) (ts : List TrackEntry) (m parts : Parts) → with_entries pins ls ts m ≡ Ok parts
+    → parts.limit ≡ m.limit
 unfolding with_entries
 entries_limit pins ls ts m parts is =
     through (all_links m.particles m.links ls) _ parts is (λ links e1 is1.
@@ -35,12 +36,15 @@ scene_limit tree parts is =
     through (settings_of (pos (2 ^ 29)) tree) _ parts is (λ s e1 is1.
     through (tables_of (pos (2 ^ 29)) tree) _ parts is1 (λ t e2 is2.
     let tf = tables_fit (pos (2 ^ 29)) tree t (limit_bounds (pos (2 ^ 29)) refl).0 e2 in
-    entries_limit s.pins t.links t.tracks (with_meshes (pos (2 ^ 29)) s t) parts is2 ∙ ap (λ (q : Parts). q.limit) (meshes_fit (pos (2 ^ 29)) s t refl tf).others))
+    entries_limit s.pins t.links t.tracks (with_meshes (pos (2 ^ 29)) s t) parts is2
+    ∙ ap (λ (q : Parts). q.limit) (meshes_fit (pos (2 ^ 29)) s t refl tf).others))
 
 pub its_limit : (tree : Option Members) (parts : Parts) → IsSceneIn (pos (2 ^ 29)) tree parts → parts.limit ≡ pos 536870912
 its_limit (Some tree) parts is = scene_limit tree parts is
 its_limit None parts is = absurd is
 
-pub with_any_slots : (bytes : List ℕ) (slots : ℕ) (t : MeshSettings) (meant : Result ObjMesh ArraysFault) (why : NoWhole) → slots ≤ 16 → IsMeshWhy bytes 0 t meant why → IsMeshWhy bytes slots t meant why
+pub with_any_slots : (bytes : List ℕ) (slots : ℕ) (t : MeshSettings) (meant : Result ObjMesh ArraysFault) (why : NoWhole) → slots ≤ 16
+    → IsMeshWhy bytes 0 t meant why → IsMeshWhy bytes slots t meant why
 with_any_slots bytes slots t meant (ByScene why) few is = reading.with_any_slots (pos (2 ^ 29)) bytes slots why is
-with_any_slots bytes slots t meant (ByMesh why) few is = record { text = is.text; parts = is.parts; accepted = is.accepted; few = few; unfit = is.unfit }
+with_any_slots bytes slots t meant (ByMesh why) few is =
+    record { text = is.text; parts = is.parts; accepted = is.accepted; few = few; unfit = is.unfit }

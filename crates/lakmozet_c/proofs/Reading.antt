@@ -10,7 +10,8 @@ use Rattle.lakmozet_c.specs.declared.opening.NoCloth.{NoCloth}
 use Rattle.lakmozet_c.specs.declared.opening.NoCloth.TheVariants.{TooManySlots, NotText, NoToml, NoScene}
 use Rattle.lakmozet_c.specs.Faults.{IsFaultIn, IsSceneIn, IsWhyIn}
 
-pub read_as : (limit : ℤ) (r : Result Parts SceneFault) (tree : Option Members) → Reads limit r tree → MatchResult r (λ parts. IsSceneIn limit tree parts) (λ fault. IsFaultIn limit tree fault)
+pub read_as : (limit : ℤ) (r : Result Parts SceneFault) (tree : Option Members) → Reads limit r tree
+    → MatchResult r (λ parts. IsSceneIn limit tree parts) (λ fault. IsFaultIn limit tree fault)
 read_as limit (Ok parts) (Some tree) reads = reads
 read_as limit (Err NotToml) (Some tree) reads = absurd reads
 read_as limit (Err (Refused rule table position key)) (Some tree) reads = reads

@@ -7,7 +7,7 @@ ghost use Rattle.pbd_cloth.specs.Slots.{Slotted, AreSlots};
 ghost use Rattle.lakmozet_c.specs.Kept.{kept};
 
 use pbd_cloth::Cloth;
-use pbd_loose::Loose;
+use pbd_loose::RawBox;
 use std::alloc::Global;
 use std::marker::Model;
 use std::mem;
@@ -29,10 +29,10 @@ impl Handle {
     ghost use Rattle.lakmozet_c.specs.Calls.{HoldsSound};
 
     /// A handle of a cloth.
-    pub(crate) fn holding(cloth: Loose<Cloth, Global>) -> Handle
+    pub(crate) fn holding(cloth: RawBox<Cloth, Global>) -> Handle
         ensures { result.held ≡ Some cloth.value }
     {
-        let Loose { at, alloc: _ } = cloth;
+        let RawBox { at, alloc: _ } = cloth;
         Handle {
             at: at as *mut u8,
             full: true,
@@ -50,12 +50,12 @@ impl Handle {
     }
 
     /// What it holds.
-    pub(crate) fn into_held(self, alloc: Global) -> Option<Loose<Cloth, Global>>
+    pub(crate) fn into_held(self, alloc: Global) -> Option<RawBox<Cloth, Global>>
         ensures { MatchOption result (self.held ≡ None) (λ cloth. self.held ≡ Some cloth.value) }
     {
         let Handle { at, full } = self;
         if full {
-            Some(Loose {
+            Some(RawBox {
                 at: at as *mut Cloth,
                 alloc,
             })
@@ -81,7 +81,7 @@ impl Handle {
     pub(crate) fn put(&mut self, alloc: Global, cloth: Box<Cloth>)
         ensures { self.new.held ≡ Some cloth.value }
     {
-        let before = mem::replace(self, Handle::holding(Loose::of(cloth)));
+        let before = mem::replace(self, Handle::holding(RawBox::of(cloth)));
         match before.into_held(alloc) {
             Some(cloth) => drop(cloth.into_box()),
             None => (),

@@ -1,6 +1,7 @@
 -- Successions: items that follow one another from a slot on.
-use Rattle.std.proofs.Common.{◌≡◌, ◌≢◌, ℕ, zero, suc, ◌<◌, ◌≤◌, ◌||◌, ◌⊎◌, Bool, true, false, eqb, List, [], ◌∷◌, length, Option, Some, None, refl, sym, ap, ◌∙◌, subst, arith, inl, inr}
-use Rattle.std.proofs.lemmas.Bool.{cases_eq, eqb-true, eq-eqb, ne_eqb, or_cases, false≢true}
+use Rattle.std.proofs.Common.{◌≡◌, ◌≢◌, ℕ, zero, suc, ◌<◌, ◌≤◌, ◌||◌, ◌⊎◌, Bool, true, false, eqb, List, [], ◌∷◌, length, Option, Some}
+use Rattle.std.proofs.Common.{None, refl, sym, ap, ◌∙◌, subst, arith, inl, inr}
+use Rattle.std.proofs.lemmas.Bool.{cases_eq, eqb-true, eq-eqb, ne_eqb, or_cases, false≢true, or_right}
 use Rattle.std.proofs.lemmas.Map.Steps.{length-le_from_distinct_below}
 use Rattle.std.specs.List.{list_any, IsDistinct, AllByRecursion}
 use Rattle.pbd_chain.specs.declared.links.Slot.{Slot}
@@ -18,10 +19,6 @@ pub In-from_test : (x : ℕ) (xs : List ℕ) → is_in x xs ≡ true → In x xs
 In-from_test x [] h = absurd (false≢true h)
 In-from_test x (y ∷ ys) h = elim (or_cases (eqb y x) (is_in x ys) h) [ inl e ↦ inl (eqb-true y x e) | inr t ↦ inr (In-from_test x ys t) ]
 
-or_right : (a b : Bool) → b ≡ true → (a || b) ≡ true
-or_right true b e = refl
-or_right false b e = e
-
 pub test-from_In : (x : ℕ) (xs : List ℕ) → In x xs → is_in x xs ≡ true
 test-from_In x [] h = absurd h
 test-from_In x (y ∷ ys) (inl e) = rw (eq-eqb y x e) refl
@@ -29,7 +26,8 @@ test-from_In x (y ∷ ys) (inr t) = or_right (eqb y x) (is_in x ys) (test-from_I
 
 In-from_eqb : (x : ℕ) (xs : List ℕ) → list_any (eqb x) xs ≡ true → In x xs
 In-from_eqb x [] h = absurd (false≢true h)
-In-from_eqb x (y ∷ ys) h = elim (or_cases (eqb x y) (list_any (eqb x) ys) h) [ inl e ↦ inl (sym (eqb-true x y e)) | inr t ↦ inr (In-from_eqb x ys t) ]
+In-from_eqb x (y ∷ ys) h = elim (or_cases (eqb x y) (list_any (eqb x) ys) h)
+    [ inl e ↦ inl (sym (eqb-true x y e)) | inr t ↦ inr (In-from_eqb x ys t) ]
 
 apart-from_none : (x : ℕ) (xs : List ℕ) → (In x xs → ⊥) → AllByRecursion (λ y. eqb x y ≡ false) xs
 apart-from_none x [] h = tt
@@ -92,8 +90,11 @@ module _ (f : Slot → Option ℕ) (g : ℕ → Option Slot) where
   distinct s (x ∷ xs) h fresh =
       let not_again : In x xs → ⊥ = λ i. let r = stands (After x) xs x h.2 i in
       let same : s ≡ r.0 = let a = r.1.tells in let b = h.1 in cc in
-      elim r.1.which [ inl e ↦ fresh x (inl refl) (same ∙ e) | inr w ↦ fresh w.0 (inr w.1) (same ∙ w.2) ] in
-      (apart-from_none x xs not_again, distinct (After x) xs h.2 (λ w i e. not_again (subst (λ (n : ℕ). In n xs) (let k : w ≡ x = cc in k) i)))
+      elim r.1.which [ inl e ↦ fresh x (inl refl) (same ∙ e) | inr w ↦ fresh w.0 (inr w.1) (same ∙ w.2) ] in (
+        apart-from_none x xs not_again,
+        distinct (After x) xs h.2
+            (λ w i e. not_again (subst (λ (n : ℕ). In n xs) (let k : w ≡ x = cc in k) i)),
+      )
 
   pub length_le : (n c : ℕ) (xs : List ℕ) → IsSuccession f g (Head c) xs → ((x : ℕ) → In x xs → x < n) → length xs ≤ n
   length_le n c xs h below = length-le_from_distinct_below xs n (distinct (Head c) xs h (λ w i e. cc)) (λ q t. below q (In-from_eqb q xs t))
@@ -115,7 +116,11 @@ module _ {f f' : Slot → Option ℕ} {g g' : ℕ → Option Slot} {x : ℕ} {p 
   succession-unlinked s (y ∷ []) h s_ne = elim (cases_eq y x) [
     | inl e ↦ rw (eq-eqb y x e) (let same : s ≡ p = (let a = h.1 in let b = ap g e in cc) in
         subst (λ (r : Slot). f' r ≡ None) (sym same) (u.here ∙ ap (λ (n : ℕ). f (After n)) (sym e) ∙ h.2))
-    | inr ne ↦ rw (ne_eqb y x ne) (u.others s (λ e. let k = ap f e in let a = h.0 in ne cc) ∙ h.0, stays s y ne h.1 s_ne, succession-unlinked (After y) [] h.2 (λ e. ne cc))
+    | inr ne ↦ rw (ne_eqb y x ne) (
+      u.others s (λ e. let k = ap f e in let a = h.0 in ne cc) ∙ h.0,
+      stays s y ne h.1 s_ne,
+      succession-unlinked (After y) [] h.2 (λ e. ne cc),
+    )
   ]
   succession-unlinked s (y ∷ z ∷ zs) h s_ne = elim (cases_eq y x) [
     | inl e ↦ (let same : s ≡ p = (let a = h.1 in let b = ap g e in cc) in
@@ -124,7 +129,11 @@ module _ {f f' : Slot → Option ℕ} {g g' : ℕ → Option Slot} {x : ℕ} {p 
         rw (eq-eqb y x e, ne_eqb z x other)
         (subst (λ (r : Slot). (f' r ≡ Some z) × (g' z ≡ Some r) × IsSuccession f' g' (After z) (without x zs)) (sym same)
         (u.here ∙ next, u.moved z other next, succession-unlinked (After z) zs h.2.2 (λ k. other cc))))
-    | inr ne ↦ rw (ne_eqb y x ne) (u.others s (λ e. let k = ap f e in let a = h.0 in ne cc) ∙ h.0, stays s y ne h.1 s_ne, succession-unlinked (After y) (z ∷ zs) h.2 (λ e. ne cc))
+    | inr ne ↦ rw (ne_eqb y x ne) (
+      u.others s (λ e. let k = ap f e in let a = h.0 in ne cc) ∙ h.0,
+      stays s y ne h.1 s_ne,
+      succession-unlinked (After y) (z ∷ zs) h.2 (λ e. ne cc),
+    )
   ]
 
 -- ---- an item comes
@@ -143,4 +152,12 @@ module _ {f f' : Slot → Option ℕ} {g g' : ℕ → Option Slot} {c x : ℕ} (
 
   pub succession-linked : (xs : List ℕ) → IsSuccession f g (Head c) xs → IsSuccession f' g' (Head c) (x ∷ xs)
   succession-linked [] h = (l.head, l.own, l.behind ∙ h)
-  succession-linked (z ∷ zs) h = (l.head, l.own, (l.behind ∙ h.0, l.moved z (another (Head c) z h.1) h.0, succession-kept (After z) zs h.2 (λ e. cc) (λ e. another (Head c) z h.1 cc)))
+  succession-linked (z ∷ zs) h = (
+    l.head,
+    l.own,
+    (
+      l.behind ∙ h.0,
+      l.moved z (another (Head c) z h.1) h.0,
+      succession-kept (After z) zs h.2 (λ e. cc) (λ e. another (Head c) z h.1 cc),
+    ),
+  )

@@ -1,6 +1,7 @@
 -- What a walk along a chain meets.
-use Rattle.std.proofs.Common.{◌≡◌, ◌≢◌, ℕ, zero, suc, ◌+◌, ◌<◌, ◌≤◌, ◌||◌, ◌&&◌, Bool, true, false, not, eqb, List, [], ◌∷◌, ◌++◌, length, map, take, set, Some, None, slice_get, refl, sym, ap, ◌∙◌, arith, inl, inr, add-one, ◌⊎◌}
-use Rattle.std.proofs.lemmas.Bool.{cases_eq, eq-eqb, ne_eqb}
+use Rattle.std.proofs.Common.{◌≡◌, ◌≢◌, ℕ, zero, suc, ◌+◌, ◌<◌, ◌≤◌, ◌||◌, ◌&&◌, Bool, true, false, not, eqb, List, [], ◌∷◌, ◌++◌, length}
+use Rattle.std.proofs.Common.{map, take, set, Some, None, slice_get, refl, sym, ap, ◌∙◌, arith, inl, inr, add-one, ◌⊎◌}
+use Rattle.std.proofs.lemmas.Bool.{cases_eq, eq-eqb, ne_eqb, or_right}
 use Rattle.std.proofs.lemmas.List.{get_or-set_same, get_or-set_other}
 use Rattle.std.proofs.Math.ListN.{get_or-map}
 use Rattle.std.specs.List.{list_any}
@@ -15,10 +16,6 @@ pub take_get : (xs : List ℕ) (k x : ℕ) → slice_get xs k ≡ Some x → tak
 take_get [] k x e = absurd (let no : ⊥ = cc in no)
 take_get (y ∷ ys) zero x e = let s : y ≡ x = cc in ap (λ (n : ℕ). n ∷ []) s
 take_get (y ∷ ys) (suc k) x e = ap (λ (zs : List ℕ). y ∷ zs) (take_get ys k x e)
-
-or_right : (a b : Bool) → b ≡ true → (a || b) ≡ true
-or_right true b e = refl
-or_right false b e = e
 
 pub get_in : (xs : List ℕ) (k x : ℕ) → slice_get xs k ≡ Some x → is_in x xs ≡ true
 get_in [] k x e = absurd (let no : ⊥ = cc in no)
@@ -36,16 +33,19 @@ not_linked [] x h = refl
 not_linked (xs ∷ xss) x h = rw (h 0 (omega arith)) (not_linked xss x (λ c l. h (suc c) (omega arith)))
 
 -- the first k items and the next
-any_step : (p : ℕ → Bool) (xs : List ℕ) (k x : ℕ) → slice_get xs k ≡ Some x → list_any p (take k xs) ≡ false → p x ≡ false → list_any p (take (suc k) xs) ≡ false
+any_step : (p : ℕ → Bool) (xs : List ℕ) (k x : ℕ) → slice_get xs k ≡ Some x → list_any p (take k xs) ≡ false → p x ≡ false
+    → list_any p (take (suc k) xs) ≡ false
 any_step p [] k x e before here = absurd (let no : ⊥ = cc in no)
 any_step p (y ∷ ys) zero x e before here = let s : y ≡ x = cc in rw (s, here) refl
 any_step p (y ∷ ys) (suc k) x e before here = go (p y) before (λ h. any_step p ys k x e h here)
   where
-    go : (b : Bool) → (b || list_any p (take k ys)) ≡ false → (list_any p (take k ys) ≡ false → list_any p (take (suc k) ys) ≡ false) → (b || list_any p (take (suc k) ys)) ≡ false
+    go : (b : Bool) → (b || list_any p (take k ys)) ≡ false → (list_any p (take k ys) ≡ false → list_any p (take (suc k) ys) ≡ false)
+        → (b || list_any p (take (suc k) ys)) ≡ false
     go true h more = h
     go false h more = more h
 
-pub any_more : (p : ℕ → Bool) (xs : List ℕ) (k x : ℕ) → slice_get xs k ≡ Some x → list_any p (take k xs) ≡ false → p x ≡ false → list_any p (take (k + 1) xs) ≡ false
+pub any_more : (p : ℕ → Bool) (xs : List ℕ) (k x : ℕ) → slice_get xs k ≡ Some x → list_any p (take k xs) ≡ false → p x ≡ false
+    → list_any p (take (k + 1) xs) ≡ false
 any_more p xs k x e before here = ap (λ (n : ℕ). list_any p (take n xs)) (add-one k) ∙ any_step p xs k x e before here
 
 -- an item that passes
@@ -60,7 +60,8 @@ pub any_found : (p : ℕ → Bool) (xs : List ℕ) → list_any p xs ≡ true �
 any_found p [] e = absurd (let no : ⊥ = cc in no)
 any_found p (y ∷ ys) e = go (p y) refl e (λ h. any_found p ys h)
   where
-    go : (b : Bool) → p y ≡ b → (b || list_any p ys) ≡ true → (list_any p ys ≡ true → (x : ℕ) × (is_in x ys ≡ true) × (p x ≡ true)) → (x : ℕ) × ((eqb y x || is_in x ys) ≡ true) × (p x ≡ true)
+    go : (b : Bool) → p y ≡ b → (b || list_any p ys) ≡ true → (list_any p ys ≡ true → (x : ℕ) × (is_in x ys ≡ true) × (p x ≡ true))
+        → (x : ℕ) × ((eqb y x || is_in x ys) ≡ true) × (p x ≡ true)
     go true h k more = (y, rw (eq-eqb y y refl) refl, h)
     go false h k more = let r = more k in (r.0, or_right (eqb y r.0) (is_in r.0 ys) r.1, r.2)
 
@@ -88,12 +89,14 @@ in_without x y (z ∷ zs) = elim (cases_eq z y) [
     more ne (inr n) = rw (ne_eqb z x n) (other (eqb y x) (is_in x zs))
 
 -- linking puts an item into one chain
-pub in_linked : (xss : List (List ℕ)) (c y : ℕ) → c < length xss → (p x : ℕ) → is_in x (chain_at (set xss c (y ∷ chain_at xss c)) p) ≡ ((eqb c p && eqb y x) || is_in x (chain_at xss p))
+pub in_linked : (xss : List (List ℕ)) (c y : ℕ) → c < length xss → (p x : ℕ)
+    → is_in x (chain_at (set xss c (y ∷ chain_at xss c)) p) ≡ ((eqb c p && eqb y x) || is_in x (chain_at xss p))
 in_linked xss c y l p x = elim (cases_eq c p) [
   | inl e ↦ rw (← e, get_or-set_same xss c (y ∷ chain_at xss c) [] l, eq-eqb c c refl) refl
   | inr ne ↦ rw (get_or-set_other xss c p (y ∷ chain_at xss c) [] (λ e. ne (sym e)), ne_eqb c p ne) refl
 ]
 
 -- unlinking takes it out of all
-pub in_unlinked : (xss : List (List ℕ)) (y p x : ℕ) → is_in x (chain_at (map (without y) xss) p) ≡ (not (eqb y x) && is_in x (chain_at xss p))
+pub in_unlinked : (xss : List (List ℕ)) (y p x : ℕ) → is_in x (chain_at (map (without y) xss) p)
+    ≡ (not (eqb y x) && is_in x (chain_at xss p))
 in_unlinked xss y p x = ap (is_in x) (get_or-map (without y) xss p []) ∙ in_without x y (chain_at xss p)

@@ -1,5 +1,6 @@
 -- Chains as lists.
-use Rattle.std.specs.Prelude.{◌≡◌, ℕ, ◌<◌, ◌≤◌, ◌==◌, Bool, not, IsTrue, List, [], ◌∷◌, Option, Some, length, map, filter, slice_get, slice_index_or, slice_set}
+use Rattle.std.specs.Prelude.{◌≡◌, ℕ, ◌<◌, ◌≤◌, ◌==◌, Bool, not, IsTrue, List, [], ◌∷◌, Option, Some, length, map, filter, slice_get}
+use Rattle.std.specs.Prelude.{slice_index_or, slice_set}
 use Rattle.std.specs.List.{range_with_len, list_any}
 use Rattle.pbd_chain.specs.declared.links.Slot.{Slot}
 use Rattle.pbd_chain.specs.declared.links.Slot.TheVariants.{Head}

@@ -1,5 +1,6 @@
 -- Cuts, one after another.
-use Rattle.std.proofs.Common.{◌≡◌, ◌∙◌, refl, sym, ap, subst, zero, suc, ℕ, ◌+◌, ◌<◌, ◌≤◌, List, [], ◌∷◌, length, get_or, drop, map, Bool, true, false, arith}
+use Rattle.std.proofs.Common.{◌≡◌, ◌∙◌, refl, sym, ap, subst, zero, suc, ℕ, ◌+◌, ◌<◌, ◌≤◌, List, [], ◌∷◌, length, get_or, drop, map, Bool}
+use Rattle.std.proofs.Common.{true, false, arith}
 use Rattle.std.specs.Prelude.{if◌then◌else◌}
 use Rattle.std.proofs.lemmas.List.{drop_all, length-map}
 use Rattle.pbd_world.specs.declared.command.Command.{Command}
@@ -57,6 +58,7 @@ cut_next links i d l count n start now new lt so_far at is done =
 pub cut_all : (links : List ℕ) (i count : ℕ) (start now : Slotted) → i ≡ length links → AreCut links i count start now
     → (now ≡ last_played start (cuts_from 0 links)) × (count ≡ refused_count start.world (cuts_from 0 links))
 cut_all links i count start now all so_far =
-    let none : cuts_from i links ≡ [] = drop_all i (map {A = ℕ} {B = Command} Cut links) (omega (arith, all, length-map {A = ℕ} {B = Command} links Cut)) in
+    let none : cuts_from i links ≡ [] = drop_all i (map {A = ℕ} {B = Command} Cut links)
+    (omega (arith, all, length-map {A = ℕ} {B = Command} links Cut)) in
     let left = ap (λ (cs : List Command). refused_count now.world cs) none ∙ refused_none now.world in
     (sym (ap (λ (cs : List Command). last_played now cs) none) ∙ so_far.led, omega (arith, left, so_far.counted))

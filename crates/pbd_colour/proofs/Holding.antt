@@ -1,6 +1,8 @@
 -- The chains of the pairs of each particle.
-use Rattle.std.proofs.Common.{◌≡◌, ◌≢◌, ℕ, zero, suc, ◌+◌, ◌*◌, ◌/◌, ◌%◌, ◌<◌, ◌≤◌, ◌&&◌, ◌||◌, Bool, true, false, not, cond, eqb, ltb, List, [], ◌∷◌, get_or, set, map, length, take, refl, sym, ap, ◌∙◌, subst, arith, inl, inr, add-one, ◌⊎◌, Option, slice_get}
-use Rattle.std.proofs.lemmas.Bool.{cases_eq, cases_lt, eq-eqb, ne_eqb, and_parts, and_from, lt-ltb, false≢true}
+use Rattle.std.proofs.Common.{◌≡◌, ◌≢◌, ℕ, zero, suc, ◌+◌, ◌*◌, ◌/◌, ◌%◌, ◌<◌, ◌≤◌, ◌&&◌, ◌||◌, Bool, true, false, not, cond, eqb, ltb}
+use Rattle.std.proofs.Common.{List, [], ◌∷◌, get_or, set, map, length, take, refl, sym, ap, ◌∙◌, subst, arith, inl, inr, add-one, ◌⊎◌}
+use Rattle.std.proofs.Common.{Option, slice_get}
+use Rattle.std.proofs.lemmas.Bool.{cases_eq, cases_lt, eq-eqb, ne_eqb, and_parts, and_from, lt-ltb, false≢true, or_right, or_left}
 use Rattle.std.proofs.lemmas.Bool.Decides.{nat_tests}
 use Rattle.std.proofs.lemmas.List.{get_or-set_same, get_or-set_other, get_or_past, take_all}
 use Rattle.std.specs.List.{list_any}
@@ -36,10 +38,12 @@ far_even pairs k = rw (even_rest k, even_half k) refl
 far_odd : (pairs : List (ℕ × ℕ)) (k : ℕ) → far_at pairs (2 * k + 1) ≡ (pair_at pairs k).0
 far_odd pairs k = rw (odd_rest k, odd_half k) refl
 
-item_even : (test : ℕ → Bool) (pairs : List (ℕ × ℕ)) (k p : ℕ) → (test (2 * k / 2) && eqb (end_at pairs (2 * k)) p) ≡ (test k && eqb (pair_at pairs k).0 p)
+item_even : (test : ℕ → Bool) (pairs : List (ℕ × ℕ)) (k p : ℕ)
+    → (test (2 * k / 2) && eqb (end_at pairs (2 * k)) p) ≡ (test k && eqb (pair_at pairs k).0 p)
 item_even test pairs k p = rw (even_rest k, even_half k) refl
 
-item_odd : (test : ℕ → Bool) (pairs : List (ℕ × ℕ)) (k p : ℕ) → (test ((2 * k + 1) / 2) && eqb (end_at pairs (2 * k + 1)) p) ≡ (test k && eqb (pair_at pairs k).1 p)
+item_odd : (test : ℕ → Bool) (pairs : List (ℕ × ℕ)) (k p : ℕ)
+    → (test ((2 * k + 1) / 2) && eqb (end_at pairs (2 * k + 1)) p) ≡ (test k && eqb (pair_at pairs k).1 p)
 item_odd test pairs k p = rw (odd_rest k, odd_half k) refl
 
 -- an item is the first end of pair k, the second, or of another pair
@@ -77,18 +81,23 @@ below_other k i ne = grind (arith, nat_tests)
 
 module _ {particles room : ℕ} (i : ℕ) {pairs : List (ℕ × ℕ)} {held : Linked} (h : Holds (before i) particles room pairs held) where
   pub first_free : is_linked held.chains (2 * i) ≡ false
-  first_free = not_linked held.chains (2 * i) (λ c l. h.holds c (2 * i) (omega (arith, h.count, l)) ∙ item_even (before i) pairs i c ∙ rw (not_below i) refl)
+  first_free = not_linked held.chains (2 * i) (λ c l. h.holds c (2 * i) (omega (arith, h.count, l)) ∙ item_even (before i) pairs i c
+      ∙ rw (not_below i) refl)
 
-  second_first : (first : Linked) → (pair_at pairs i).0 < particles → first ≡ record held { chains = set held.chains (pair_at pairs i).0 ((2 * i) ∷ chain_at held.chains (pair_at pairs i).0) }
+  second_first : (first : Linked) → (pair_at pairs i).0 < particles
+      → first ≡ record held { chains = set held.chains (pair_at pairs i).0 ((2 * i) ∷ chain_at held.chains (pair_at pairs i).0) }
       → (p x : ℕ) → is_in x (chain_at first.chains p) ≡ ((eqb (pair_at pairs i).0 p && eqb (2 * i) x) || is_in x (chain_at held.chains p))
-  second_first first la e p x = ap (λ (l : Linked). is_in x (chain_at l.chains p)) e ∙ in_linked held.chains (pair_at pairs i).0 (2 * i) (omega (arith, h.count, la)) p x
+  second_first first la e p x = ap (λ (l : Linked). is_in x (chain_at l.chains p)) e
+      ∙ in_linked held.chains (pair_at pairs i).0 (2 * i) (omega (arith, h.count, la)) p x
 
-  pub second_free : (first : Linked) → (pair_at pairs i).0 < particles → first ≡ record held { chains = set held.chains (pair_at pairs i).0 ((2 * i) ∷ chain_at held.chains (pair_at pairs i).0) }
+  pub second_free : (first : Linked) → (pair_at pairs i).0 < particles
+      → first ≡ record held { chains = set held.chains (pair_at pairs i).0 ((2 * i) ∷ chain_at held.chains (pair_at pairs i).0) }
       → is_linked first.chains (2 * i + 1) ≡ false
   second_free first la e = not_linked first.chains (2 * i + 1) (λ c l.
       let len : length first.chains ≡ length held.chains = ap (λ (q : Linked). length q.chains) e ∙ length-set held.chains _ _ in
       let differ : eqb (2 * i) (2 * i + 1) ≡ false = ne_eqb _ _ (λ s. absurd (omega arith)) in
-      let old : is_in (2 * i + 1) (chain_at held.chains c) ≡ false = h.holds c (2 * i + 1) (omega (arith, h.count, len, l)) ∙ item_odd (before i) pairs i c ∙ rw (not_below i) refl in
+      let old : is_in (2 * i + 1) (chain_at held.chains c) ≡ false = h.holds c (2 * i + 1) (omega (arith, h.count, len, l))
+      ∙ item_odd (before i) pairs i c ∙ rw (not_below i) refl in
       second_first first la e c (2 * i + 1) ∙ rw (differ, old) (go (eqb (pair_at pairs i).0 c)))
     where
       go : (b : Bool) → ((b && false) || false) ≡ false
@@ -104,8 +113,10 @@ module _ {particles room : ℕ} (i : ℕ) {pairs : List (ℕ × ℕ)} {held : Li
       record {
         items = ap (λ (q : Linked). q.items) f ∙ ap (λ (q : Linked). q.items) e ∙ h.items;
         count = ap (λ (q : Linked). length q.chains) f ∙ length-set first.chains _ _ ∙ len ∙ h.count;
-        holds = λ p x l. ap (λ (q : Linked). is_in x (chain_at q.chains p)) f ∙ in_linked first.chains (pair_at pairs i).1 (2 * i + 1) (omega (arith, len, h.count, lb)) p x
-            ∙ ap (λ (b : Bool). (eqb (pair_at pairs i).1 p && eqb (2 * i + 1) x) || b) (second_first first la e p x ∙ ap (λ (b : Bool). (eqb (pair_at pairs i).0 p && eqb (2 * i) x) || b) (h.holds p x l))
+        holds = λ p x l. ap (λ (q : Linked). is_in x (chain_at q.chains p)) f
+            ∙ in_linked first.chains (pair_at pairs i).1 (2 * i + 1) (omega (arith, len, h.count, lb)) p x
+            ∙ ap (λ (b : Bool). (eqb (pair_at pairs i).1 p && eqb (2 * i + 1) x) || b)
+            (second_first first la e p x ∙ ap (λ (b : Bool). (eqb (pair_at pairs i).0 p && eqb (2 * i) x) || b) (h.holds p x l))
             ∙ go p x (which i x);
       }
     where
@@ -126,36 +137,48 @@ module _ {particles room : ℕ} (i : ℕ) {pairs : List (ℕ × ℕ)} {held : Li
       rest false true r = refl
       rest false false r = refl
 
-      go : (p x : ℕ) → Which i x → ((eqb (pair_at pairs i).1 p && eqb (2 * i + 1) x) || ((eqb (pair_at pairs i).0 p && eqb (2 * i) x) || (ltb (x / 2) i && eqb (end_at pairs x) p))) ≡ (ltb (x / 2) (i + 1) && eqb (end_at pairs x) p)
+      go : (p x : ℕ) → Which i x → ((eqb (pair_at pairs i).1 p && eqb (2 * i + 1) x)
+          || ((eqb (pair_at pairs i).0 p && eqb (2 * i) x) || (ltb (x / 2) i && eqb (end_at pairs x) p)))
+          ≡ (ltb (x / 2) (i + 1) && eqb (end_at pairs x) p)
       go p x (Even s) = let differ : eqb (2 * i + 1) (2 * i) ≡ false = ne_eqb _ _ (λ t. absurd (omega arith)) in
-          rw (s, differ, eq-eqb (2 * i) (2 * i) refl, end_even pairs i, even_half i, not_below i, below_next i) (left (eqb (pair_at pairs i).0 p) (eqb (pair_at pairs i).1 p) (eqb (pair_at pairs i).0 p))
+          rw (s, differ, eq-eqb (2 * i) (2 * i) refl, end_even pairs i, even_half i, not_below i, below_next i)
+          (left (eqb (pair_at pairs i).0 p) (eqb (pair_at pairs i).1 p) (eqb (pair_at pairs i).0 p))
       go p x (Odd s) = let differ : eqb (2 * i) (2 * i + 1) ≡ false = ne_eqb _ _ (λ t. absurd (omega arith)) in
-          rw (s, differ, eq-eqb (2 * i + 1) (2 * i + 1) refl, end_odd pairs i, odd_half i, not_below i, below_next i) (right (eqb (pair_at pairs i).0 p) (eqb (pair_at pairs i).1 p) (eqb (pair_at pairs i).1 p))
+          rw (s, differ, eq-eqb (2 * i + 1) (2 * i + 1) refl, end_odd pairs i, odd_half i, not_below i, below_next i)
+          (right (eqb (pair_at pairs i).0 p) (eqb (pair_at pairs i).1 p) (eqb (pair_at pairs i).1 p))
       go p x (Other na nb nk) =
-          rw (ne_eqb (2 * i + 1) x (λ t. nb (sym t)), ne_eqb (2 * i) x (λ t. na (sym t)), below_other (x / 2) i nk) (rest (eqb (pair_at pairs i).0 p) (eqb (pair_at pairs i).1 p) (ltb (x / 2) (i + 1) && eqb (end_at pairs x) p))
+          rw (ne_eqb (2 * i + 1) x (λ t. nb (sym t)), ne_eqb (2 * i) x (λ t. na (sym t)), below_other (x / 2) i nk)
+          (rest (eqb (pair_at pairs i).0 p) (eqb (pair_at pairs i).1 p) (ltb (x / 2) (i + 1) && eqb (end_at pairs x) p))
 
 -- ---- pairs are taken out
-module _ {particles room : ℕ} (i : ℕ) {pairs : List (ℕ × ℕ)} (live : List Bool) {held : Linked} (h : Holds (live_at live) particles room pairs held)
+module _ {particles room : ℕ} (i : ℕ) {pairs : List (ℕ × ℕ)} (live : List Bool) {held : Linked}
+    (h : Holds (live_at live) particles room pairs held)
     (alive : live_at live i ≡ true) (la : (pair_at pairs i).0 < particles) (lb : (pair_at pairs i).1 < particles) where
   pub first_linked : is_linked held.chains (2 * i) ≡ true
   first_linked = chain_linked held.chains (pair_at pairs i).0 (2 * i) (omega (arith, h.count, la))
       (h.holds (pair_at pairs i).0 (2 * i) la ∙ item_even (live_at live) pairs i (pair_at pairs i).0 ∙ and_from _ _ alive (eq-eqb _ _ refl))
 
-  pub second_linked : (first : Linked) → first ≡ record held { chains = map (without (2 * i)) held.chains } → is_linked first.chains (2 * i + 1) ≡ true
+  pub second_linked : (first : Linked) → first ≡ record held { chains = map (without (2 * i)) held.chains }
+      → is_linked first.chains (2 * i + 1) ≡ true
   second_linked first e =
       let differ : eqb (2 * i) (2 * i + 1) ≡ false = ne_eqb _ _ (λ s. absurd (omega arith)) in
       let len : length first.chains ≡ length held.chains = ap (λ (q : Linked). length q.chains) e ∙ length-map _ held.chains in
       chain_linked first.chains (pair_at pairs i).1 (2 * i + 1) (omega (arith, h.count, len, lb))
-      (ap (λ (q : Linked). is_in (2 * i + 1) (chain_at q.chains (pair_at pairs i).1)) e ∙ in_unlinked held.chains (2 * i) (pair_at pairs i).1 (2 * i + 1)
-      ∙ rw differ (h.holds (pair_at pairs i).1 (2 * i + 1) lb ∙ item_odd (live_at live) pairs i (pair_at pairs i).1 ∙ and_from _ _ alive (eq-eqb _ _ refl)))
+      (ap (λ (q : Linked). is_in (2 * i + 1) (chain_at q.chains (pair_at pairs i).1)) e
+      ∙ in_unlinked held.chains (2 * i) (pair_at pairs i).1 (2 * i + 1)
+      ∙ rw differ (h.holds (pair_at pairs i).1 (2 * i + 1) lb ∙ item_odd (live_at live) pairs i (pair_at pairs i).1
+      ∙ and_from _ _ alive (eq-eqb _ _ refl)))
 
-  pub Holds-less : (first second : Linked) → i < length live → first ≡ record held { chains = map (without (2 * i)) held.chains } → second ≡ record first { chains = map (without (2 * i + 1)) first.chains }
+  pub Holds-less : (first second : Linked) → i < length live → first ≡ record held { chains = map (without (2 * i)) held.chains }
+      → second ≡ record first { chains = map (without (2 * i + 1)) first.chains }
       → Holds (live_at (set live i false)) particles room pairs second
   Holds-less first second li e f = record {
     items = ap (λ (q : Linked). q.items) f ∙ ap (λ (q : Linked). q.items) e ∙ h.items;
-    count = ap (λ (q : Linked). length q.chains) f ∙ length-map _ first.chains ∙ ap (λ (q : Linked). length q.chains) e ∙ length-map _ held.chains ∙ h.count;
+    count = ap (λ (q : Linked). length q.chains) f ∙ length-map _ first.chains ∙ ap (λ (q : Linked). length q.chains) e
+        ∙ length-map _ held.chains ∙ h.count;
     holds = λ p x l. ap (λ (q : Linked). is_in x (chain_at q.chains p)) f ∙ in_unlinked first.chains (2 * i + 1) p x
-        ∙ ap (λ (b : Bool). not (eqb (2 * i + 1) x) && b) (ap (λ (q : Linked). is_in x (chain_at q.chains p)) e ∙ in_unlinked held.chains (2 * i) p x ∙ ap (λ (b : Bool). not (eqb (2 * i) x) && b) (h.holds p x l))
+        ∙ ap (λ (b : Bool). not (eqb (2 * i + 1) x) && b) (ap (λ (q : Linked). is_in x (chain_at q.chains p)) e
+        ∙ in_unlinked held.chains (2 * i) p x ∙ ap (λ (b : Bool). not (eqb (2 * i) x) && b) (h.holds p x l))
         ∙ go p x (which i x);
   }
     where
@@ -163,17 +186,19 @@ module _ {particles room : ℕ} (i : ℕ) {pairs : List (ℕ × ℕ)} (live : Li
       none true = refl
       none false = refl
 
-      go : (p x : ℕ) → Which i x → (not (eqb (2 * i + 1) x) && (not (eqb (2 * i) x) && (live_at live (x / 2) && eqb (end_at pairs x) p))) ≡ (live_at (set live i false) (x / 2) && eqb (end_at pairs x) p)
+      go : (p x : ℕ) → Which i x → (not (eqb (2 * i + 1) x) && (not (eqb (2 * i) x) && (live_at live (x / 2) && eqb (end_at pairs x) p)))
+          ≡ (live_at (set live i false) (x / 2) && eqb (end_at pairs x) p)
       go p x (Even s) = rw (s, eq-eqb (2 * i) (2 * i) refl, even_half i, get_or-set_same live i false false li) (none _)
       go p x (Odd s) = rw (s, eq-eqb (2 * i + 1) (2 * i + 1) refl, odd_half i, get_or-set_same live i false false li) refl
-      go p x (Other na nb nk) = rw (ne_eqb (2 * i + 1) x (λ t. nb (sym t)), ne_eqb (2 * i) x (λ t. na (sym t)), get_or-set_other live i (x / 2) false false nk) refl
-
-or_left : (a b : Bool) → a ≡ true → (a || b) ≡ true
-or_left true b e = refl
-or_left false b e = absurd (false≢true e)
+      go p x (Other na nb nk) = rw (
+        ne_eqb (2 * i + 1) x (λ t. nb (sym t)),
+        ne_eqb (2 * i) x (λ t. na (sym t)),
+        get_or-set_other live i (x / 2) false false nk,
+      ) refl
 
 -- ---- what the chain of a particle tells
-module _ {particles room : ℕ} {pairs : List (ℕ × ℕ)} (live : List Bool) {held : Linked} (h : Holds (live_at live) particles room pairs held) (len : length live ≡ length pairs) (i : ℕ) (li : i < particles) where
+module _ {particles room : ℕ} {pairs : List (ℕ × ℕ)} (live : List Bool) {held : Linked} (h : Holds (live_at live) particles room pairs held)
+    (len : length live ≡ length pairs) (i : ℕ) (li : i < particles) where
   pub held_within : (x : ℕ) → is_in x (chain_at held.chains i) ≡ true → x / 2 < length pairs
   held_within x e = let b = and_parts _ _ (sym (h.holds i x li) ∙ e) in elim (cases_lt (x / 2) (length pairs)) [
     | inl l ↦ l
@@ -185,31 +210,32 @@ module _ {particles room : ℕ} {pairs : List (ℕ × ℕ)} (live : List Bool) {
   both false true f g = g refl
   both false false f g = refl
 
-  or_right : (a b : Bool) → b ≡ true → (a || b) ≡ true
-  or_right true b e = refl
-  or_right false b e = e
-
   or_cases : (a b : Bool) → (a || b) ≡ true → (a ≡ true) ⊎ (b ≡ true)
   or_cases true b e = inl refl
   or_cases false b e = inr e
 
-  seen : (j x : ℕ) (b : Bool) → eqb (x % 2) 0 ≡ b → eqb (end_at pairs x) i ≡ true → eqb (far_at pairs x) j ≡ true → joins (pair_at pairs (x / 2)) i j ≡ true
+  seen : (j x : ℕ) (b : Bool) → eqb (x % 2) 0 ≡ b → eqb (end_at pairs x) i ≡ true → eqb (far_at pairs x) j ≡ true
+      → joins (pair_at pairs (x / 2)) i j ≡ true
   seen j x true q e f = let e' = rw q at e in let f' = rw q at f in or_left _ _ (and_from _ _ e' f')
   seen j x false q e f = let e' = rw q at e in let f' = rw q at f in or_right _ _ (and_from _ _ f' e')
 
   there : (j : ℕ) → list_any (λ x. eqb (far_at pairs x) j) (chain_at held.chains i) ≡ true → joined pairs live i j ≡ true
   there j e = let w = any_found (λ x. eqb (far_at pairs x) j) (chain_at held.chains i) e in
       let b = and_parts _ _ (sym (h.holds i w.0 li) ∙ w.1) in
-      (some_below-decides (λ k. live_at live k && joins (pair_at pairs k) i j) (length pairs)).1 (w.0 / 2, held_within w.0 w.1, and_from _ _ b.0 (seen j w.0 (eqb (w.0 % 2) 0) refl b.1 w.2))
+      (some_below-decides (λ k. live_at live k && joins (pair_at pairs k) i j) (length pairs)).1
+      (w.0 / 2, held_within w.0 w.1, and_from _ _ b.0 (seen j w.0 (eqb (w.0 % 2) 0) refl b.1 w.2))
 
-  back_at : (j k : ℕ) → live_at live k ≡ true → joins (pair_at pairs k) i j ≡ true → list_any (λ x. eqb (far_at pairs x) j) (chain_at held.chains i) ≡ true
+  back_at : (j k : ℕ) → live_at live k ≡ true → joins (pair_at pairs k) i j ≡ true
+      → list_any (λ x. eqb (far_at pairs x) j) (chain_at held.chains i) ≡ true
   back_at j k alive here =
       let a : ℕ = (pair_at pairs k).0 in let b : ℕ = (pair_at pairs k).1 in
       elim (or_cases (eqb a i && eqb b j) (eqb a j && eqb b i) here) [
         | inl s ↦ (let t = and_parts (eqb a i) (eqb b j) s in any_here (λ x. eqb (far_at pairs x) j) (chain_at held.chains i) (2 * k)
-            (h.holds i (2 * k) li ∙ item_even (live_at live) pairs k i ∙ and_from (live_at live k) (eqb a i) alive t.0) (ap (λ (n : ℕ). eqb n j) (far_even pairs k) ∙ t.1))
+            (h.holds i (2 * k) li ∙ item_even (live_at live) pairs k i ∙ and_from (live_at live k) (eqb a i) alive t.0)
+            (ap (λ (n : ℕ). eqb n j) (far_even pairs k) ∙ t.1))
         | inr s ↦ (let t = and_parts (eqb a j) (eqb b i) s in any_here (λ x. eqb (far_at pairs x) j) (chain_at held.chains i) (2 * k + 1)
-            (h.holds i (2 * k + 1) li ∙ item_odd (live_at live) pairs k i ∙ and_from (live_at live k) (eqb b i) alive t.1) (ap (λ (n : ℕ). eqb n j) (far_odd pairs k) ∙ t.0))
+            (h.holds i (2 * k + 1) li ∙ item_odd (live_at live) pairs k i ∙ and_from (live_at live k) (eqb b i) alive t.1)
+            (ap (λ (n : ℕ). eqb n j) (far_odd pairs k) ∙ t.0))
       ]
 
   back : (j : ℕ) → joined pairs live i j ≡ true → list_any (λ x. eqb (far_at pairs x) j) (chain_at held.chains i) ≡ true
@@ -218,10 +244,6 @@ module _ {particles room : ℕ} {pairs : List (ℕ × ℕ)} (live : List Bool) {
 
   pub leads-joined : (j : ℕ) → list_any (λ x. eqb (far_at pairs x) j) (chain_at held.chains i) ≡ joined pairs live i j
   leads-joined j = both _ _ (there j) (back j)
-
-or_second : (a b : Bool) → b ≡ true → (a || b) ≡ true
-or_second true b e = refl
-or_second false b e = e
 
 or_split : (a b : Bool) → (a || b) ≡ true → (a ≡ true) ⊎ (b ≡ true)
 or_split true b e = inl refl
@@ -233,23 +255,29 @@ same_truth false true f g = g refl
 same_truth false false f g = refl
 
 -- ---- the pairs of a particle, for the sweep that mends colours
-module _ {particles room : ℕ} {pairs : List (ℕ × ℕ)} (live : List Bool) {held : Linked} (h : Holds (live_at live) particles room pairs held) (len : length live ≡ length pairs) (p : ℕ) (lp : p < particles) (test : ℕ → Bool) where
+module _ {particles room : ℕ} {pairs : List (ℕ × ℕ)} (live : List Bool) {held : Linked} (h : Holds (live_at live) particles room pairs held)
+    (len : length live ≡ length pairs) (p : ℕ) (lp : p < particles) (test : ℕ → Bool) where
   touched : ℕ → Bool
   touched k = (live_at live k && is_end (pair_at pairs k) p) && test k
 
   end_touches : (x : ℕ) → eqb (end_at pairs x) p ≡ true → is_end (pair_at pairs (x / 2)) p ≡ true
   end_touches x e = go (eqb (x % 2) 0) refl e
     where
-      go : (b : Bool) → eqb (x % 2) 0 ≡ b → eqb (cond b (pair_at pairs (x / 2)).0 (pair_at pairs (x / 2)).1) p ≡ true → is_end (pair_at pairs (x / 2)) p ≡ true
+      go : (b : Bool) → eqb (x % 2) 0 ≡ b → eqb (cond b (pair_at pairs (x / 2)).0 (pair_at pairs (x / 2)).1) p ≡ true
+          → is_end (pair_at pairs (x / 2)) p ≡ true
       go true q f = or_left (eqb (pair_at pairs (x / 2)).0 p) (eqb (pair_at pairs (x / 2)).1 p) f
-      go false q f = or_second (eqb (pair_at pairs (x / 2)).0 p) (eqb (pair_at pairs (x / 2)).1 p) f
+      go false q f = or_right (eqb (pair_at pairs (x / 2)).0 p) (eqb (pair_at pairs (x / 2)).1 p) f
 
   met : list_any (λ x. test (x / 2)) (chain_at held.chains p) ≡ true → some_below touched (length pairs) ≡ true
   unfolding touched
   met e =
       let w = any_found (λ x. test (x / 2)) (chain_at held.chains p) e in
       let b = and_parts (live_at live (w.0 / 2)) (eqb (end_at pairs w.0) p) (sym (h.holds p w.0 lp) ∙ w.1) in
-      (some_below-decides touched (length pairs)).1 (w.0 / 2, held_within live h len p lp w.0 w.1, and_from _ _ (and_from _ _ b.0 (end_touches w.0 b.1)) w.2)
+      (some_below-decides touched (length pairs)).1 (
+        w.0 / 2,
+        held_within live h len p lp w.0 w.1,
+        and_from _ _ (and_from _ _ b.0 (end_touches w.0 b.1)) w.2,
+      )
 
   met_back : some_below touched (length pairs) ≡ true → list_any (λ x. test (x / 2)) (chain_at held.chains p) ≡ true
   unfolding touched
@@ -259,12 +287,18 @@ module _ {particles room : ℕ} {pairs : List (ℕ × ℕ)} (live : List Bool) {
       let d = and_parts (live_at live w.0) (is_end (pair_at pairs w.0) p) b.0 in
       at w.0 d.0 b.1 (or_split (eqb (pair_at pairs w.0).0 p) (eqb (pair_at pairs w.0).1 p) d.1)
     where
-      at : (k : ℕ) → live_at live k ≡ true → test k ≡ true → ((eqb (pair_at pairs k).0 p ≡ true) ⊎ (eqb (pair_at pairs k).1 p ≡ true)) → list_any (λ x. test (x / 2)) (chain_at held.chains p) ≡ true
-      at k a t (inl e) = any_here (λ x. test (x / 2)) (chain_at held.chains p) (2 * k) (h.holds p (2 * k) lp ∙ item_even (live_at live) pairs k p ∙ and_from (live_at live k) (eqb (pair_at pairs k).0 p) a e) (ap test (even_half k) ∙ t)
-      at k a t (inr e) = any_here (λ x. test (x / 2)) (chain_at held.chains p) (2 * k + 1) (h.holds p (2 * k + 1) lp ∙ item_odd (live_at live) pairs k p ∙ and_from (live_at live k) (eqb (pair_at pairs k).1 p) a e) (ap test (odd_half k) ∙ t)
+      at : (k : ℕ) → live_at live k ≡ true → test k ≡ true → ((eqb (pair_at pairs k).0 p ≡ true) ⊎ (eqb (pair_at pairs k).1 p ≡ true))
+          → list_any (λ x. test (x / 2)) (chain_at held.chains p) ≡ true
+      at k a t (inl e) = any_here (λ x. test (x / 2)) (chain_at held.chains p) (2 * k)
+          (h.holds p (2 * k) lp ∙ item_even (live_at live) pairs k p ∙ and_from (live_at live k) (eqb (pair_at pairs k).0 p) a e)
+          (ap test (even_half k) ∙ t)
+      at k a t (inr e) = any_here (λ x. test (x / 2)) (chain_at held.chains p) (2 * k + 1)
+          (h.holds p (2 * k + 1) lp ∙ item_odd (live_at live) pairs k p ∙ and_from (live_at live k) (eqb (pair_at pairs k).1 p) a e)
+          (ap test (odd_half k) ∙ t)
 
   -- the chain of a particle has a pair that passes exactly where a live pair that is_end the particle passes
-  pub chain-tells : list_any (λ x. test (x / 2)) (chain_at held.chains p) ≡ some_below (λ k. (live_at live k && is_end (pair_at pairs k) p) && test k) (length pairs)
+  pub chain-tells : list_any (λ x. test (x / 2)) (chain_at held.chains p)
+      ≡ some_below (λ k. (live_at live k && is_end (pair_at pairs k) p) && test k) (length pairs)
   unfolding touched
   chain-tells = same_truth _ _ met met_back
 
@@ -273,7 +307,8 @@ pub record IsAlong (test : ℕ → Bool) (chain : List ℕ) (at : Option ℕ) (k
   pub next : at ≡ slice_get chain k
   pub none : list_any test (take k chain) ≡ false
 
-pub IsAlong-all : (test : ℕ → Bool) (chain : List ℕ) (at : Option ℕ) (k : ℕ) → IsAlong test chain at k → length chain ≤ k → list_any test chain ≡ false
+pub IsAlong-all : (test : ℕ → Bool) (chain : List ℕ) (at : Option ℕ) (k : ℕ) → IsAlong test chain at k → length chain ≤ k
+    → list_any test chain ≡ false
 IsAlong-all test chain at k h l = ap (list_any test) (sym (take_all k chain l)) ∙ h.none
 
 -- leads to particle j
@@ -291,7 +326,8 @@ rising_at xs h i (suc k) l m =
     ]
 
 -- the numbers before place i are taken out
-pub record IsTaking (numbers : List ℕ) (particles room : ℕ) (pairs : List (ℕ × ℕ)) (old live : List Bool) (chains : Linked) (i : ℕ) : Type 0 where
+pub record IsTaking (numbers : List ℕ) (particles room : ℕ) (pairs : List (ℕ × ℕ)) (old live : List Bool) (chains : Linked)
+    (i : ℕ) : Type 0 where
   pub flags : live ≡ dropped (take i numbers) old
   pub held : Holds (live_at live) particles room pairs chains
 

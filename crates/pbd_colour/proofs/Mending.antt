@@ -1,5 +1,6 @@
 -- What the chains of a pair's two ends tell of the colours that its earlier live neighbours hold.
-use Rattle.std.proofs.Common.{◌≡◌, ℕ, zero, suc, ◌+◌, ◌/◌, ◌<◌, ◌≤◌, ◌&&◌, ◌||◌, Bool, true, false, eqb, ltb, List, get_or, set, length, refl, sym, ap, ◌∙◌, arith, inl, inr, [], ◌∷◌, take, Option, Some, slice_get, add-one}
+use Rattle.std.proofs.Common.{◌≡◌, ℕ, zero, suc, ◌+◌, ◌/◌, ◌<◌, ◌≤◌, ◌&&◌, ◌||◌, Bool, true, false, eqb, ltb, List, get_or, set, length}
+use Rattle.std.proofs.Common.{refl, sym, ap, ◌∙◌, arith, inl, inr, [], ◌∷◌, take, Option, Some, slice_get, add-one}
 use Rattle.std.proofs.lemmas.Bool.{cases_eq, lt-ltb, eq-eqb, ne_eqb}
 use Rattle.std.proofs.lemmas.Bool.Decides.{nat_tests}
 use Rattle.std.proofs.lemmas.List.{take_all, get_or-set_same, get_or-set_other}
@@ -24,8 +25,10 @@ some_below-cut : (u v : ℕ → Bool) (i n : ℕ) → i ≤ n → some_below (λ
 some_below-cut u v zero zero l = refl
 some_below-cut u v (suc i) zero l = absurd (omega arith)
 some_below-cut u v i (suc n) l = elim (cases_eq i (suc n)) [
-  | inl e ↦ some_below-agree (λ k. u k && (ltb k i && v k)) (λ k. u k && v k) (suc n) (λ k lk. rw (lt-ltb k i (omega (arith, e, lk))) refl) ∙ ap (some_below (λ k. u k && v k)) (sym e)
-  | inr ne ↦ rw (not_under n i (omega (arith, l, ne))) (skip (u n) (some_below (λ k. u k && (ltb k i && v k)) n) ∙ some_below-cut u v i n (omega (arith, l, ne)))
+  | inl e ↦ some_below-agree (λ k. u k && (ltb k i && v k)) (λ k. u k && v k) (suc n) (λ k lk. rw (lt-ltb k i (omega (arith, e, lk))) refl)
+      ∙ ap (some_below (λ k. u k && v k)) (sym e)
+  | inr ne ↦ rw (not_under n i (omega (arith, l, ne))) (skip (u n) (some_below (λ k. u k && (ltb k i && v k)) n)
+      ∙ some_below-cut u v i n (omega (arith, l, ne)))
 ]
   where
     skip : (b r : Bool) → ((b && false) || r) ≡ r
@@ -39,7 +42,8 @@ pub record IsUsing (cs : List ℕ) (i : ℕ) (chain : List ℕ) (at : Option ℕ
   pub small : now < 9223372036854775808
 
 any_one : (p : ℕ → Bool) (xs : List ℕ) (k x : ℕ) → slice_get xs k ≡ Some x → list_any p (take (k + 1) xs) ≡ (list_any p (take k xs) || p x)
-any_one p xs k x e = ap (λ (n : ℕ). list_any p (take n xs)) (add-one k) ∙ ap (list_any p) (take_get xs k x e) ∙ list_any-append p (take k xs) (x ∷ []) ∙ ap (λ (b : Bool). list_any p (take k xs) || b) (last (p x))
+any_one p xs k x e = ap (λ (n : ℕ). list_any p (take n xs)) (add-one k) ∙ ap (list_any p) (take_get xs k x e)
+    ∙ list_any-append p (take k xs) (x ∷ []) ∙ ap (λ (b : Bool). list_any p (take k xs) || b) (last (p x))
   where
     last : (b : Bool) → (b || false) ≡ b
     last true = refl
@@ -50,21 +54,27 @@ or_join true b c = refl
 or_join false b c = refl
 
 pub IsUsing-more : (cs : List ℕ) (i : ℕ) (chain : List ℕ) (at : Option ℕ) (k set now : ℕ) → IsUsing cs i chain at k set now
-    → (x new : ℕ) (next : Option ℕ) → at ≡ Some x → ((d : ℕ) → d < 63 → eqb (bit_at new d) 1 ≡ (eqb (bit_at now d) 1 || (ltb (x / 2) i && eqb (get_or cs (x / 2) 0) d))) → new < 9223372036854775808
+    → (x new : ℕ) (next : Option ℕ) → at ≡ Some x → ((d : ℕ) → d < 63
+    → eqb (bit_at new d) 1 ≡ (eqb (bit_at now d) 1 || (ltb (x / 2) i && eqb (get_or cs (x / 2) 0) d))) → new < 9223372036854775808
     → next ≡ slice_get chain (k + 1) → IsUsing cs i chain next (k + 1) set new
 IsUsing-more cs i chain at k set now h x new next e more small after = record {
   next = after;
   small = small;
-  has = λ d l. more d l ∙ ap (λ (b : Bool). b || holds_before cs i d x) (h.has d l) ∙ or_join (eqb (bit_at set d) 1) (list_any (holds_before cs i d) (take k chain)) (holds_before cs i d x)
+  has = λ d l. more d l ∙ ap (λ (b : Bool). b || holds_before cs i d x) (h.has d l)
+      ∙ or_join (eqb (bit_at set d) 1) (list_any (holds_before cs i d) (take k chain)) (holds_before cs i d x)
       ∙ ap (λ (b : Bool). eqb (bit_at set d) 1 || b) (sym (any_one (holds_before cs i d) chain k x (sym h.next ∙ e)));
 }
 
-pub IsUsing-all : (cs : List ℕ) (i : ℕ) (chain : List ℕ) (at : Option ℕ) (k set now : ℕ) → IsUsing cs i chain at k set now → length chain ≤ k
+pub IsUsing-all : (cs : List ℕ) (i : ℕ) (chain : List ℕ) (at : Option ℕ) (k set now : ℕ) → IsUsing cs i chain at k set now
+    → length chain ≤ k
     → (d : ℕ) → d < 63 → eqb (bit_at now d) 1 ≡ (eqb (bit_at set d) 1 || list_any (holds_before cs i d) chain)
-IsUsing-all cs i chain at k set now h l d m = h.has d m ∙ ap (λ (xs : List ℕ). eqb (bit_at set d) 1 || list_any (holds_before cs i d) xs) (take_all k chain l)
+IsUsing-all cs i chain at k set now h l d m = h.has d m ∙ ap (λ (xs : List ℕ). eqb (bit_at set d) 1 || list_any (holds_before cs i d) xs)
+    (take_all k chain l)
 
-module _ {particles room : ℕ} {pairs : List (ℕ × ℕ)} (live : List Bool) {held : Linked} (h : Holds (live_at live) particles room pairs held) (len : length live ≡ length pairs) (cs : List ℕ) (i : ℕ) (li : i ≤ length pairs) where
-  pub end_tells : (p d : ℕ) → p < particles → list_any (holds_before cs i d) (chain_at held.chains p) ≡ some_below (λ j. (live_at live j && is_end (pair_at pairs j) p) && eqb (get_or cs j 0) d) i
+module _ {particles room : ℕ} {pairs : List (ℕ × ℕ)} (live : List Bool) {held : Linked} (h : Holds (live_at live) particles room pairs held)
+    (len : length live ≡ length pairs) (cs : List ℕ) (i : ℕ) (li : i ≤ length pairs) where
+  pub end_tells : (p d : ℕ) → p < particles → list_any (holds_before cs i d) (chain_at held.chains p)
+      ≡ some_below (λ j. (live_at live j && is_end (pair_at pairs j) p) && eqb (get_or cs j 0) d) i
   end_tells p d lp = chain-tells live h len p lp (λ k. ltb k i && eqb (get_or cs k 0) d)
       ∙ some_below-cut (λ k. live_at live k && is_end (pair_at pairs k) p) (λ k. eqb (get_or cs k 0) d) i (length pairs) li
 
@@ -73,8 +83,11 @@ module _ {particles room : ℕ} {pairs : List (ℕ × ℕ)} (live : List Bool) {
       → least_unheld pairs held.chains cs i ≡ least_free (λ d. some_below (holds pairs live cs i d) i)
   chains_tell la lb = least_free-agree _ _ (λ d _.
       ap (λ (b : Bool). b || list_any (holds_before cs i d) (chain_at held.chains (pair_at pairs i).1)) (end_tells (pair_at pairs i).0 d la)
-      ∙ ap (λ (b : Bool). some_below (λ j. (live_at live j && is_end (pair_at pairs j) (pair_at pairs i).0) && eqb (get_or cs j 0) d) i || b) (end_tells (pair_at pairs i).1 d lb)
-      ∙ sym (some_below-or (holds pairs live cs i d) _ _ i (λ j m. spread (live_at live j) (is_end (pair_at pairs j) (pair_at pairs i).0) (is_end (pair_at pairs j) (pair_at pairs i).1) (eqb (get_or cs j 0) d))))
+      ∙ ap (λ (b : Bool). some_below (λ j. (live_at live j && is_end (pair_at pairs j) (pair_at pairs i).0) && eqb (get_or cs j 0) d) i
+      || b) (end_tells (pair_at pairs i).1 d lb)
+      ∙ sym (some_below-or (holds pairs live cs i d) _ _ i (λ j m.
+      spread (live_at live j) (is_end (pair_at pairs j) (pair_at pairs i).0) (is_end (pair_at pairs j) (pair_at pairs i).1)
+      (eqb (get_or cs j 0) d))))
 
 -- a walk that marks the pairs after i
 pub record IsMarking (i : ℕ) (chain : List ℕ) (at : Option ℕ) (n : ℕ) (old now : List Bool) : Type 0 where
@@ -82,10 +95,12 @@ pub record IsMarking (i : ℕ) (chain : List ℕ) (at : Option ℕ) (n : ℕ) (o
   pub marked : (k : ℕ) → live_at now k ≡ (live_at old k || list_any (is_later i k) (take n chain))
 
 pub IsMarking-more : (i : ℕ) (chain : List ℕ) (at : Option ℕ) (n : ℕ) (old now : List Bool) → IsMarking i chain at n old now
-    → (x : ℕ) (b : Bool) (next : Option ℕ) → at ≡ Some x → x / 2 < length now → b ≡ (live_at now (x / 2) || ltb i (x / 2)) → next ≡ slice_get chain (n + 1) → IsMarking i chain next (n + 1) old (set now (x / 2) b)
+    → (x : ℕ) (b : Bool) (next : Option ℕ) → at ≡ Some x → x / 2 < length now → b ≡ (live_at now (x / 2) || ltb i (x / 2))
+    → next ≡ slice_get chain (n + 1) → IsMarking i chain next (n + 1) old (set now (x / 2) b)
 IsMarking-more i chain at n old now h x b next e l is after = record {
   next = after;
-  marked = λ k. step k ∙ ap (λ (c : Bool). c || is_later i k x) (h.marked k) ∙ or_join (live_at old k) (list_any (is_later i k) (take n chain)) (is_later i k x)
+  marked = λ k. step k ∙ ap (λ (c : Bool). c || is_later i k x) (h.marked k)
+      ∙ or_join (live_at old k) (list_any (is_later i k) (take n chain)) (is_later i k x)
       ∙ ap (λ (c : Bool). live_at old k || c) (sym (any_one (is_later i k) chain n x (sym h.next ∙ e)));
 }
   where
@@ -99,5 +114,7 @@ IsMarking-more i chain at n old now h x b next e l is after = record {
       | inr ne ↦ rw (get_or-set_other now (x / 2) k b false (λ s. ne (sym s)), ne_eqb (x / 2) k ne) (none (live_at now k))
     ]
 
-pub IsMarking-all : (i : ℕ) (chain : List ℕ) (at : Option ℕ) (n : ℕ) (old now : List Bool) → IsMarking i chain at n old now → length chain ≤ n → (k : ℕ) → live_at now k ≡ (live_at old k || list_any (is_later i k) chain)
-IsMarking-all i chain at n old now h l k = h.marked k ∙ ap (λ (xs : List ℕ). live_at old k || list_any (is_later i k) xs) (take_all n chain l)
+pub IsMarking-all : (i : ℕ) (chain : List ℕ) (at : Option ℕ) (n : ℕ) (old now : List Bool) → IsMarking i chain at n old now
+    → length chain ≤ n → (k : ℕ) → live_at now k ≡ (live_at old k || list_any (is_later i k) chain)
+IsMarking-all i chain at n old now h l k = h.marked k ∙ ap (λ (xs : List ℕ). live_at old k || list_any (is_later i k) xs)
+    (take_all n chain l)

@@ -1,6 +1,7 @@
 -- Sets of residues tell what no pair leads to.
-use Rattle.std.proofs.Common.{◌≡◌, ℕ, zero, suc, ◌+◌, ◌<◌, ◌≤◌, ◌%◌, ◌&&◌, ◌||◌, Bool, true, false, eqb, List, length, refl, sym, ap, ◌∙◌, arith, inl, inr}
-use Rattle.std.proofs.lemmas.Bool.{cases_eq, eqb-true, and_parts, eq-eqb, false≢true}
+use Rattle.std.proofs.Common.{◌≡◌, ℕ, zero, suc, ◌+◌, ◌<◌, ◌≤◌, ◌%◌, ◌&&◌, ◌||◌, Bool, true, false, eqb, List, length, refl, sym, ap, ◌∙◌}
+use Rattle.std.proofs.Common.{arith, inl, inr}
+use Rattle.std.proofs.lemmas.Bool.{cases_eq, eqb-true, and_parts, eq-eqb, false≢true, or_right, or_left}
 use Rattle.pbd_world.specs.Colours.{pair_at, live_at, some_below, joins, joined}
 use Rattle.pbd_colour.specs.Used.{has, AreSmall}
 use Rattle.pbd_colour.specs.Toward.{AreTold}
@@ -10,13 +11,6 @@ pub record AreFirstTold (pairs : List (ℕ × ℕ)) (sets : List ℕ) (i : ℕ) 
   pub small : AreSmall sets
   pub there : (k : ℕ) → k < i → has sets (pair_at pairs k).0 ((pair_at pairs k).1 % 63) ≡ true
   pub back : (k : ℕ) → k < i → has sets (pair_at pairs k).1 ((pair_at pairs k).0 % 63) ≡ true
-
-pub or_left : (a b : Bool) → a ≡ true → (a || b) ≡ true
-or_left a b e = rw e refl
-
-pub or_right : (a b : Bool) → b ≡ true → (a || b) ≡ true
-or_right true b e = refl
-or_right false b e = e
 
 module _ (pairs : List (ℕ × ℕ)) (old once new : List ℕ) (i : ℕ)
     (first : (q d : ℕ) → has once q d ≡ (has old q d || (eqb (pair_at pairs i).0 q && eqb ((pair_at pairs i).1 % 63) d)))
@@ -30,10 +24,12 @@ module _ (pairs : List (ℕ × ℕ)) (old once new : List ℕ) (i : ℕ)
 
   own_there : has new (pair_at pairs i).0 ((pair_at pairs i).1 % 63) ≡ true
   own_there = let a = (pair_at pairs i).0 in let b = (pair_at pairs i).1 % 63 in
-      second a b ∙ or_left (has once a b) (eqb (pair_at pairs i).1 a && eqb ((pair_at pairs i).0 % 63) b) (first a b ∙ or_right (has old a b) (eqb a a && eqb b b) (both a b))
+      second a b ∙ or_left (has once a b) (eqb (pair_at pairs i).1 a && eqb ((pair_at pairs i).0 % 63) b)
+      (first a b ∙ or_right (has old a b) (eqb a a && eqb b b) (both a b))
 
   own_back : has new (pair_at pairs i).1 ((pair_at pairs i).0 % 63) ≡ true
-  own_back = let a = (pair_at pairs i).1 in let b = (pair_at pairs i).0 % 63 in second a b ∙ or_right (has once a b) (eqb a a && eqb b b) (both a b)
+  own_back = let a = (pair_at pairs i).1 in let b = (pair_at pairs i).0 % 63 in
+      second a b ∙ or_right (has once a b) (eqb a a && eqb b b) (both a b)
 
   pub AreFirstTold-more : AreFirstTold pairs old i → AreSmall new → AreFirstTold pairs new (i + 1)
   AreFirstTold-more h small = record {
@@ -49,19 +45,23 @@ module _ (pairs : List (ℕ × ℕ)) (old once new : List ℕ) (i : ℕ)
   }
 
 -- what no set has is not joined
-module _ (pairs : List (ℕ × ℕ)) (live : List Bool) (sets : List ℕ) (i j : ℕ) (told : AreTold pairs sets) (none : has sets i (j % 63) ≡ false) where
+module _ (pairs : List (ℕ × ℕ)) (live : List Bool) (sets : List ℕ) (i j : ℕ) (told : AreTold pairs sets)
+    (none : has sets i (j % 63) ≡ false) where
   apart : (k : ℕ) → k < length pairs → (a b c : Bool) → live_at live k ≡ a
-      → (eqb (pair_at pairs k).0 i && eqb (pair_at pairs k).1 j) ≡ b → (eqb (pair_at pairs k).0 j && eqb (pair_at pairs k).1 i) ≡ c → (a && (b || c)) ≡ false
+      → (eqb (pair_at pairs k).0 i && eqb (pair_at pairs k).1 j) ≡ b → (eqb (pair_at pairs k).0 j && eqb (pair_at pairs k).1 i) ≡ c
+      → (a && (b || c)) ≡ false
   apart k l false b c e f g = refl
   apart k l true false false e f g = refl
   apart k l true true c e f g = absurd (
       let p = and_parts (eqb (pair_at pairs k).0 i) (eqb (pair_at pairs k).1 j) f in
-      let same : has sets (pair_at pairs k).0 ((pair_at pairs k).1 % 63) ≡ has sets i (j % 63) = rw (eqb-true (pair_at pairs k).0 i p.0, eqb-true (pair_at pairs k).1 j p.1) refl in
+      let same : has sets (pair_at pairs k).0 ((pair_at pairs k).1 % 63)
+      ≡ has sets i (j % 63) = rw (eqb-true (pair_at pairs k).0 i p.0, eqb-true (pair_at pairs k).1 j p.1) refl in
       false≢true (sym none ∙ sym same ∙ (told k l).0)
       )
   apart k l true false true e f g = absurd (
       let p = and_parts (eqb (pair_at pairs k).0 j) (eqb (pair_at pairs k).1 i) g in
-      let same : has sets (pair_at pairs k).1 ((pair_at pairs k).0 % 63) ≡ has sets i (j % 63) = rw (eqb-true (pair_at pairs k).0 j p.0, eqb-true (pair_at pairs k).1 i p.1) refl in
+      let same : has sets (pair_at pairs k).1 ((pair_at pairs k).0 % 63)
+      ≡ has sets i (j % 63) = rw (eqb-true (pair_at pairs k).0 j p.0, eqb-true (pair_at pairs k).1 i p.1) refl in
       false≢true (sym none ∙ sym same ∙ (told k l).1)
       )
 

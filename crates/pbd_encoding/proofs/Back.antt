@@ -10,7 +10,8 @@ use Rattle.pbd_world.specs.World.{World, AreOfOneScene}
 use Rattle.pbd_sound.specs.Described.{particle_told, link_told, particles_told, links_told}
 use Rattle.pbd_sound.proofs.Telling.{numbered_is}
 use Rattle.pbd_log.specs.Entries.{number_bytes, vector_bytes}
-use Rattle.pbd_encoding.specs.Encoding.{sum_bytes, header_of, head_bytes, at_bytes, before_bytes, held_bytes, live_bytes, first_totals_bytes, last_totals_bytes, state_bytes}
+use Rattle.pbd_encoding.specs.Encoding.{sum_bytes, header_of, head_bytes, at_bytes, before_bytes, held_bytes, live_bytes}
+use Rattle.pbd_encoding.specs.Encoding.{first_totals_bytes, last_totals_bytes, state_bytes}
 use Rattle.pbd_encoding.specs.Described.{number_from, vector_from, sum_from, contacts_at, told_by}
 use Rattle.pbd_encoding.specs.Laws.{TotalsFit, NumbersFit, told_on}
 use Rattle.pbd_encoding.proofs.Lengths.{two_long, number_long, vector_long, sum_long, flag_long, header_long}
@@ -35,7 +36,8 @@ head_back scene bytes v e fit h =
     record {
       steps = number_back 8 v.steps bytes 96 (behind_front bytes header steps 96 long front) (omega (arith, fit.steps));
       gravity = vector_back v.gravity bytes 104
-          (behind_front bytes (header ++ steps) (vector_bytes v.gravity) 104 (two_long header steps 96 8 long (number_long 8 v.steps)) h) fit.gravity;
+          (behind_front bytes (header ++ steps) (vector_bytes v.gravity) 104 (two_long header steps 96 8 long (number_long 8 v.steps)) h)
+          fit.gravity;
     }
 
 -- ---- contacts and totals
@@ -46,7 +48,8 @@ record FirstTotalsBack (bytes : List ℕ) (c contacts : ℕ) (t : Ledger) : Type
   damping : sum_from bytes (c + 4 + 48) ≡ t.damping
   link : sum_from bytes (c + 4 + 96) ≡ t.link
 
-first_totals_back : (bytes : List ℕ) (c contacts : ℕ) (t : Ledger) → contacts < 2 ^ 32 → TotalsFit t → Stands bytes c (first_totals_bytes contacts t)
+first_totals_back : (bytes : List ℕ) (c contacts : ℕ) (t : Ledger) → contacts < 2 ^ 32 → TotalsFit t
+    → Stands bytes c (first_totals_bytes contacts t)
     → FirstTotalsBack bytes c contacts t
 unfolding first_totals_bytes
 first_totals_back bytes c contacts t few fit h =
@@ -69,14 +72,16 @@ record LastTotalsBack (bytes : List ℕ) (c : ℕ) (t : Ledger) : Type 0 where
   shape : sum_from bytes (c + 4 + 192) ≡ t.shape
   pin : sum_from bytes (c + 4 + 240) ≡ t.pin
 
-last_totals_back : (bytes : List ℕ) (c : ℕ) (t : Ledger) → TotalsFit t → Stands bytes (c + 148) (last_totals_bytes t) → LastTotalsBack bytes c t
+last_totals_back : (bytes : List ℕ) (c : ℕ) (t : Ledger) → TotalsFit t → Stands bytes (c + 148) (last_totals_bytes t)
+    → LastTotalsBack bytes c t
 unfolding last_totals_bytes
 last_totals_back bytes c t fit h =
     let a = sum_bytes t.contact in let b = sum_bytes t.shape in let p = sum_bytes t.pin in
     let ab = first_stands bytes (c + 148) (a ++ b) p h in
     let long2 : length (a ++ b) ≡ 96 = two_long a b 48 48 (sum_long t.contact) (sum_long t.shape) in
     let contact = stands_as bytes (c + 148) (c + 4 + 144) a a (omega arith) refl (first_stands bytes (c + 148) a b ab) in
-    let shape = stands_as bytes (c + 148 + 48) (c + 4 + 192) b b (omega arith) refl (second_stands bytes (c + 148) a b 48 (sum_long t.contact) ab) in
+    let shape = stands_as bytes (c + 148 + 48) (c + 4 + 192) b b (omega arith) refl
+    (second_stands bytes (c + 148) a b 48 (sum_long t.contact) ab) in
     let pin = stands_as bytes (c + 148 + 96) (c + 4 + 240) p p (omega arith) refl (second_stands bytes (c + 148) (a ++ b) p 96 long2 h) in
     record {
       contact = sum_back t.contact bytes (c + 4 + 144) contact fit.contact;
@@ -91,7 +96,8 @@ at_back : (scene bytes : List ℕ) (v : World) (i : ℕ) → NumbersFit v → Se
 at_back scene bytes v i fit s lt =
     let h = each_stands {A = Particle} bytes at_bytes 24 128 v.particles i no_particle (λ p. vector_long p.at) lt s.at in
     let text = vector_bytes (particle_at v.particles i).at in
-    vector_back (particle_at v.particles i).at bytes (128 + 24 * i) (stands_as bytes (128 + i * 24) (128 + 24 * i) text text (omega arith) refl h) (fit.at i lt)
+    vector_back (particle_at v.particles i).at bytes (128 + 24 * i)
+    (stands_as bytes (128 + i * 24) (128 + 24 * i) text text (omega arith) refl h) (fit.at i lt)
 
 before_back : (scene bytes : List ℕ) (v : World) (i : ℕ) → NumbersFit v → Sections bytes scene v → i < length v.particles
     → vector_from bytes (128 + 24 * length v.particles + 24 * i) ≡ (particle_at v.particles i).before
@@ -129,7 +135,8 @@ told_back scene w v e same fit =
     let ec : contacts_at (length v.particles) (length v.links) ≡ c = omega (arith, en, em) in
     let head = head_back scene bytes v e fit s.head in
     let first = first_totals_back bytes c v.contacts v.totals fit.contacts fit.totals (stands_as bytes _ c _ _ ec refl s.first_totals) in
-    let last = last_totals_back bytes c v.totals fit.totals (stands_as bytes _ (c + 148) _ _ (ap (λ (k : ℕ). k + 148) ec) refl s.last_totals) in
+    let last = last_totals_back bytes c v.totals fit.totals
+    (stands_as bytes _ (c + 148) _ _ (ap (λ (k : ℕ). k + 148) ec) refl s.last_totals) in
     let particle : (i : ℕ) → i < length w.particles → particle_at v.particles i ≡ particle_told d i (particle_at w.particles i) = λ i lt.
     let within : i < length v.particles = omega (arith, lt, en) in
     let at = at_back scene bytes v i fit s within in
@@ -142,7 +149,8 @@ told_back scene w v e same fit =
     let flag = flag_back bytes (128 + 49 * length v.particles + l) (link_at v.links l).live (live_there scene bytes v l s within) in
     let live = ap (λ (k : ℕ). slice_index bytes (128 + 49 * k + l) == 1) en ∙ flag in
     λ j. record (same_link w v l same lt j) { live = sym live j } in
-    let particles : v.particles ≡ particles_told d w.particles = numbered_is (particle_told d) w.particles v.particles no_particle (sym en) particle in
+    let particles : v.particles ≡ particles_told d w.particles =
+    numbered_is (particle_told d) w.particles v.particles no_particle (sym en) particle in
     let links : v.links ≡ links_told d w.links = numbered_is (link_told d) w.links v.links no_link (sym em) link in
     λ j. record {
       limit = ap (λ (u : World). u.limit) same j;

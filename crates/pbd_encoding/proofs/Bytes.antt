@@ -13,7 +13,8 @@ use Rattle.pbd_world.specs.World.{World}
 use Rattle.pbd_log.specs.Entries.{number_bytes, signed_bytes, vector_bytes}
 use Rattle.pbd_log.specs.Laws.{IsBytes}
 use Rattle.pbd_log.proofs.Numbers.{IsBytes-cons, IsBytes-number}
-use Rattle.pbd_encoding.specs.Encoding.{wide_bytes, sum_bytes, name, header_bytes, header_of, head_bytes, flag_bytes, at_bytes, before_bytes, held_bytes, live_bytes, first_totals_bytes, last_totals_bytes, state_bytes}
+use Rattle.pbd_encoding.specs.Encoding.{wide_bytes, sum_bytes, name, header_bytes, header_of, head_bytes, flag_bytes, at_bytes}
+use Rattle.pbd_encoding.specs.Encoding.{before_bytes, held_bytes, live_bytes, first_totals_bytes, last_totals_bytes, state_bytes}
 
 both_bytes : (a b : List ℕ) → IsBytes a → IsBytes b → IsBytes (a ++ b)
 both_bytes a b ha hb i =
@@ -81,7 +82,8 @@ unfolding head_bytes
 head_is scene w h =
     let header = header_of scene w in
     both_bytes (header ++ number_bytes 8 w.steps) (vector_bytes w.gravity)
-    (both_bytes header (number_bytes 8 w.steps) (header_is scene (length w.particles) (length w.links) w.opening h) (number_is 8 w.steps)) (vector_is w.gravity)
+    (both_bytes header (number_bytes 8 w.steps) (header_is scene (length w.particles) (length w.links) w.opening h) (number_is 8 w.steps))
+    (vector_is w.gravity)
 
 first_totals_is : (contacts : ℕ) (t : Ledger) → IsBytes (first_totals_bytes contacts t)
 unfolding first_totals_bytes
@@ -90,7 +92,8 @@ first_totals_is contacts t =
     let b = a ++ sum_bytes t.gravity in
     let c = b ++ sum_bytes t.damping in
     both_bytes c (sum_bytes t.link)
-    (both_bytes b (sum_bytes t.damping) (both_bytes a (sum_bytes t.gravity) (number_is 4 contacts) (sum_is t.gravity)) (sum_is t.damping)) (sum_is t.link)
+    (both_bytes b (sum_bytes t.damping) (both_bytes a (sum_bytes t.gravity) (number_is 4 contacts) (sum_is t.gravity)) (sum_is t.damping))
+    (sum_is t.link)
 
 last_totals_is : (t : Ledger) → IsBytes (last_totals_bytes t)
 unfolding last_totals_bytes
@@ -103,8 +106,10 @@ unfolding state_bytes
 state_is scene w h =
     let head = head_is scene w h in
     let at = both_bytes _ (flat_map at_bytes w.particles) head (each_bytes {A = Particle} at_bytes w.particles (λ p. vector_is p.at)) in
-    let before = both_bytes _ (flat_map before_bytes w.particles) at (each_bytes {A = Particle} before_bytes w.particles (λ p. vector_is p.before)) in
-    let held = both_bytes _ (flat_map held_bytes w.particles) before (each_bytes {A = Particle} held_bytes w.particles (λ p. flag_is p.held)) in
+    let before = both_bytes _ (flat_map before_bytes w.particles) at
+    (each_bytes {A = Particle} before_bytes w.particles (λ p. vector_is p.before)) in
+    let held = both_bytes _ (flat_map held_bytes w.particles) before
+    (each_bytes {A = Particle} held_bytes w.particles (λ p. flag_is p.held)) in
     let live = both_bytes _ (flat_map live_bytes w.links) held (each_bytes {A = Link} live_bytes w.links (λ l. flag_is l.live)) in
     let totals = both_bytes _ (first_totals_bytes w.contacts w.totals) live (first_totals_is w.contacts w.totals) in
     both_bytes _ (last_totals_bytes w.totals) totals (last_totals_is w.totals)

@@ -1,5 +1,6 @@
 -- The numbers of a sound world that no command changes are in the ranges that its bytes have room for.
-use Rattle.std.proofs.Common.{◌≡◌, refl, ℕ, ◌+◌, ◌<◌, ◌≤◌, ◌^◌, Bool, ◌&&◌, List, [], ◌∷◌, length, arith, ℤ, pos, ◌≤ℤ◌, ◌+ℤ◌, ◌-ℤ◌, ◌*ℤ◌, unsigned_abs}
+use Rattle.std.proofs.Common.{◌≡◌, refl, ℕ, ◌+◌, ◌<◌, ◌≤◌, ◌^◌, Bool, ◌&&◌, List, [], ◌∷◌, length, arith, ℤ, pos, ◌≤ℤ◌, ◌+ℤ◌, ◌-ℤ◌, ◌*ℤ◌}
+use Rattle.std.proofs.Common.{unsigned_abs}
 use Rattle.std.specs.Prelude.{IsTrue, FitsSigned, nat_le, nat_lt, int_le}
 use Rattle.std.specs.Int.{w64, w128}
 use Rattle.std.specs.List.{AllByRecursion, list_all}
@@ -17,7 +18,8 @@ use Rattle.pbd_world.specs.declared.parts.Track.{Track}
 use Rattle.pbd_world.specs.declared.parts.Plane.{Plane}
 use Rattle.pbd_world.specs.declared.parts.Sphere.{Sphere}
 use Rattle.pbd_world.specs.Ledger.{Sum, SumWithin, SumFits}
-use Rattle.pbd_world.specs.Valid.{is_between, is_valid_particle, is_valid_plane, is_valid_sphere, is_valid_track, are_valid_keys, are_valid_numbers, ValidLink}
+use Rattle.pbd_world.specs.Valid.{is_between, is_valid_particle, is_valid_plane, is_valid_sphere, is_valid_track, are_valid_keys}
+use Rattle.pbd_world.specs.Valid.{are_valid_numbers, ValidLink}
 use Rattle.pbd_world.specs.World.{World, IsSound, parts_of}
 use Rattle.pbd_world.proofs.KeptLemmas.{IsLimit}
 use Rattle.pbd_world.proofs.ValidLinks.{between_facts, links_facts}
@@ -77,7 +79,8 @@ settings_fit w sound f =
 -- ---- items
 
 -- what a test of each item says of it
-each_from : {A : Type 0} (test : A → Bool) (Fit : A → Type 0) (xs : List A) → ((x : A) → IsTrue (test x) → Fit x) → IsTrue (list_all test xs)
+each_from : {A : Type 0} (test : A → Bool) (Fit : A → Type 0) (xs : List A) → ((x : A) → IsTrue (test x) → Fit x)
+    → IsTrue (list_all test xs)
     → AllByRecursion Fit xs
 each_from test Fit [] so h = tt
 each_from test Fit (x ∷ xs) so h = let p = and_parts (test x) (list_all test xs) h in (so x p.0, each_from test Fit xs so p.1)
@@ -108,7 +111,8 @@ link_fits limit n l lim few v = record {
   tear = fits l.tear (omega (arith, reach_size limit l.tear lim.low lim.high v.tear_low v.tear_high));
 }
 
-links_fit : (limit : ℤ) (n : ℕ) (ls : List Link) → IsLimit limit → n ≤ 65536 → AllByRecursion (ValidLink limit n) ls → AllByRecursion LinkFits ls
+links_fit : (limit : ℤ) (n : ℕ) (ls : List Link) → IsLimit limit → n ≤ 65536 → AllByRecursion (ValidLink limit n) ls
+    → AllByRecursion LinkFits ls
 links_fit limit n [] lim few h = tt
 links_fit limit n (l ∷ ls) lim few h = (link_fits limit n l lim few h.0, links_fit limit n ls lim few h.1)
 
@@ -122,8 +126,10 @@ keys_fit limit (k ∷ keys) lim h =
     let rises = list_all (λ (later : Key). nat_lt k.step later.step) keys in
     let p3 = and_parts (nat_le k.step 1000000 && is_within limit k.place && rises) (are_valid_keys limit keys) h in
     let p2 = and_parts (nat_le k.step 1000000 && is_within limit k.place) rises p3.0 in
-    let p1 = and_parts (nat_le k.step 1000000) (is_within limit k.place) p2.0 in
-    (record { step = omega (arith, leb-true k.step 1000000 p1.0); place = inside_fits limit k.place lim p1.1 }, keys_fit limit keys lim p3.1)
+    let p1 = and_parts (nat_le k.step 1000000) (is_within limit k.place) p2.0 in (
+      record { step = omega (arith, leb-true k.step 1000000 p1.0); place = inside_fits limit k.place lim p1.1 },
+      keys_fit limit keys lim p3.1,
+    )
 
 pub record TrackFits (t : Track) : Type 0 where
   pub particle : t.particle < 2 ^ 32
@@ -213,7 +219,10 @@ fixed_fit w sound =
         few = omega (arith, leb-true (length w.tracks) 4096 tracks.0);
         each = each_from (is_valid_track w.limit n) TrackFits w.tracks (λ t h. track_fits w.limit n t lim few h) tracks.1;
       };
-      planes = record { few = omega (arith, leb-true (length w.planes) 256 planes.0); each = each_from is_valid_plane PlaneFits w.planes plane_fits planes.1 };
+      planes = record {
+        few = omega (arith, leb-true (length w.planes) 256 planes.0);
+        each = each_from is_valid_plane PlaneFits w.planes plane_fits planes.1;
+      };
       spheres = record {
         few = omega (arith, leb-true (length w.spheres) 256 spheres.0);
         each = each_from (is_valid_sphere w.limit) SphereFits w.spheres (λ s h. sphere_fits w.limit s lim h) spheres.1;

@@ -17,8 +17,10 @@ use Rattle.pbd_world.specs.World.{World, IsSound, AreOfOneScene, unchanging}
 use Rattle.pbd_world.proofs.KeepingOn.{length-mapped}
 use Rattle.pbd_world.proofs.SameShape.{blank, unlive}
 use Rattle.pbd_log.specs.Entries.{number_bytes}
-use Rattle.pbd_encoding.specs.Scene.{listed, settings_of, scene_head_bytes, weight_bytes, kind_number, link_bytes, key_bytes, track_bytes, plane_bytes, sphere_bytes, scene_bytes}
-use Rattle.pbd_encoding.proofs.Texts.{Tells, both_tell, tells_so, number_tells, byte_tells, signed_tells, vector_tells, sum_tells, list_tells, AreFew}
+use Rattle.pbd_encoding.specs.Scene.{listed, settings_of, scene_head_bytes, weight_bytes, kind_number, link_bytes, key_bytes, track_bytes}
+use Rattle.pbd_encoding.specs.Scene.{plane_bytes, sphere_bytes, scene_bytes}
+use Rattle.pbd_encoding.proofs.Texts.{Tells, both_tell, tells_so, number_tells, byte_tells, signed_tells, vector_tells, sum_tells}
+use Rattle.pbd_encoding.proofs.Texts.{list_tells, AreFew}
 use Rattle.pbd_encoding.proofs.Fitting.{WeightFits, LinkFits, KeyFits, TrackFits, PlaneFits, SphereFits, FixedFit, fixed_fit}
 
 -- ---- what each part tells
@@ -40,7 +42,13 @@ head_tells v w fv fw =
     let friction = signed_tells v.friction w.friction f.friction g.friction in
     let opening = sum_tells v.opening w.opening f.opening g.opening in
     tells_so (both_tell (both_tell (both_tell (both_tell (both_tell limit passes) damping) thickness) friction) opening) (λ e. record {
-      settings = λ i. record { limit = e.0.0.0.0.0 i; passes = e.0.0.0.0.1 i; damping = e.0.0.0.1 i; thickness = e.0.0.1 i; friction = e.0.1 i };
+      settings = λ i. record {
+        limit = e.0.0.0.0.0 i;
+        passes = e.0.0.0.0.1 i;
+        damping = e.0.0.0.1 i;
+        thickness = e.0.0.1 i;
+        friction = e.0.1 i;
+      };
       opening = e.1;
     })
 
@@ -116,7 +124,8 @@ scene_tells : (v w : World) → FixedFit v → FixedFit w → Tells (scene_bytes
 unfolding scene_bytes
 scene_tells v w f g =
     let head = head_tells v w f g in
-    let weights = list_tells {A = Particle} weight_bytes (λ p. blank p) WeightFits v.particles w.particles weight_tells f.weights g.weights in
+    let weights = list_tells {A = Particle} weight_bytes (λ p. blank p) WeightFits v.particles w.particles weight_tells f.weights g.weights
+    in
     let links = list_tells {A = Link} link_bytes (λ l. unlive l) LinkFits v.links w.links link_tells f.links g.links in
     let tracks = list_tells {A = Track} track_bytes (λ t. t) TrackFits v.tracks w.tracks track_tells f.tracks g.tracks in
     let planes = list_tells {A = Plane} plane_bytes (λ p. p) PlaneFits v.planes w.planes plane_tells f.planes g.planes in
@@ -144,7 +153,8 @@ scenes_differ v w sv sw h = ((scene_tells v w (fixed_fit v sv) (fixed_fit w sw))
 
 -- ---- worlds of one scene
 
-list_same : {A : Type 0} (text : A → List ℕ) (seen : A → A) (xs : List A) → ((x : A) → text (seen x) ≡ text x) → listed text (map seen xs) ≡ listed text xs
+list_same : {A : Type 0} (text : A → List ℕ) (seen : A → A) (xs : List A) → ((x : A) → text (seen x) ≡ text x)
+    → listed text (map seen xs) ≡ listed text xs
 list_same text seen xs same =
     let items = flat_map-map text seen xs ∙ (λ j. flat_map (λ x. same x j) xs) in
     λ i. number_bytes 4 (length-mapped seen xs i) ++ items i

@@ -1,5 +1,6 @@
 -- The state of a world has the form of a state of its scene, and what hasn't goes on as no state does.
-use Rattle.std.proofs.Common.{◌≡◌, refl, sym, ap, ◌∙◌, subst, ℕ, suc, ◌+◌, ◌-◌, ◌*◌, ◌<◌, ◌≤◌, ◌==◌, Bool, true, false, not, ◌&&◌, cond, List, [], ◌∷◌, ◌++◌, length, min, take, arith, inl, inr, Option, Some, None, Ok, Err, if◌then◌else◌}
+use Rattle.std.proofs.Common.{◌≡◌, refl, sym, ap, ◌∙◌, subst, ℕ, suc, ◌+◌, ◌-◌, ◌*◌, ◌<◌, ◌≤◌, ◌==◌, Bool, true, false, not, ◌&&◌, cond}
+use Rattle.std.proofs.Common.{List, [], ◌∷◌, ◌++◌, length, min, take, arith, inl, inr, Option, Some, None, Ok, Err, if◌then◌else◌}
 use Rattle.std.specs.Prelude.{nat_le, nat_lt, slice_index, ◌⊎◌}
 use Rattle.std.proofs.lemmas.Bool.{cases_lt, lt-ltb, le-ltb, eq-eqb, leb-true, ltb-true}
 use Rattle.std.proofs.lemmas.List.{get_or-take, get_or_append_left, length-take, take_all}
@@ -21,7 +22,8 @@ use Rattle.pbd_encoding.proofs.Sections.{Sections, sections, state_long}
 use Rattle.pbd_encoding.proofs.Scenes.{as_many_particles, as_many_links}
 use Rattle.pbd_encoding.proofs.Back.{held_there, live_there, told_back}
 
-none_from : (n : ℕ) (test : ℕ → ℕ → Bool) (xs : List ℕ) → ((i : ℕ) → i < length xs → test (n + i) (slice_index xs i) ≡ false) → first_where n test xs ≡ None
+none_from : (n : ℕ) (test : ℕ → ℕ → Bool) (xs : List ℕ) → ((i : ℕ) → i < length xs → test (n + i) (slice_index xs i) ≡ false)
+    → first_where n test xs ≡ None
 none_from n test [] h = refl
 none_from n test (x ∷ xs) h =
     let here : n + 0 ≡ n = omega arith in
@@ -40,7 +42,8 @@ header_there scene v e =
     let steps = number_bytes 8 v.steps in
     first_stands bytes 0 header steps (first_stands bytes 0 (header ++ steps) (vector_bytes v.gravity) (sections scene v e).head)
 
-flag_told : (scene : List ℕ) (v : World) (k : ℕ) → length scene ≡ 32 → 128 + 48 * length v.particles ≤ k → k < contacts_at (length v.particles) (length v.links)
+flag_told : (scene : List ℕ) (v : World) (k : ℕ) → length scene ≡ 32 → 128 + 48 * length v.particles ≤ k
+    → k < contacts_at (length v.particles) (length v.links)
     → nat_lt 1 (slice_index (state_bytes scene v) k) ≡ false
 flag_told scene v k e low high =
     let n = length v.particles in
@@ -51,7 +54,8 @@ flag_told scene v k e low high =
           let i = k - (128 + 48 * n) in
           let is : 128 + 48 * n + i ≡ k = omega (arith, low) in
           let there = held_there scene bytes v i s (omega (arith, low, a)) in
-          ap (λ (j : ℕ). nat_lt 1 (slice_index bytes j)) (sym is) ∙ flag_small bytes (128 + 48 * n + i) (particle_at v.particles i).held there
+          ap (λ (j : ℕ). nat_lt 1 (slice_index bytes j)) (sym is)
+          ∙ flag_small bytes (128 + 48 * n + i) (particle_at v.particles i).held there
       | inr a ↦
           let l = k - (128 + 49 * n) in
           let is : 128 + 49 * n + l ≡ k = omega (arith, a) in
@@ -76,7 +80,8 @@ own_native scene v k e lt =
           let long : length header ≡ 96 = header_long scene n (length v.links) v.opening e in
           let byte : slice_index bytes k ≡ slice_index header k =
           ap (λ (t : List ℕ). slice_index t k) (header_there scene v e) ∙ get_or_append_left header _ 0 k (omega (arith, near, long)) in
-          let same : not (slice_index bytes k == slice_index header k) ≡ false = ap not (eq-eqb (slice_index bytes k) (slice_index header k) byte) in
+          let same : not (slice_index bytes k == slice_index header k)
+          ≡ false = ap not (eq-eqb (slice_index bytes k) (slice_index header k) byte) in
           rw (lt-ltb k 96 near) same
       | inr far ↦
           let inner = none_of_three (nat_le (128 + 48 * n) k) (nat_lt k c) (nat_lt 1 (slice_index bytes k))
@@ -94,7 +99,8 @@ same_form scene bytes w v same =
     λ i. form_checked (header_bytes scene (en i) (em i) (ap (λ (u : World). u.opening) same i)) (en i) (em i) bytes
 
 pub form_is : (header bytes : List ℕ) (n m : ℕ)
-    → form_checked header n m bytes ≡ form_of (length bytes) (state_size n m) (first_where 0 (is_foreign header n m) (take (state_size n m) bytes))
+    → form_checked header n m bytes ≡ form_of (length bytes) (state_size n m)
+    (first_where 0 (is_foreign header n m) (take (state_size n m) bytes))
 unfolding form_checked
 form_is header bytes n m = refl
 
@@ -112,7 +118,8 @@ own_form scene w v e same =
     ∙ form_is (header_of scene v) bytes n m
     ∙ ap (λ (t : List ℕ). form_of (length bytes) (state_size n m) (first_where 0 test t)) all
     ∙ ap (λ (o : Option ℕ). form_of (length bytes) (state_size n m) o) none
-    ∙ ap (λ (b : Bool). if b then Ok tt else Err (fault_at (min (length bytes) (state_size n m)))) (eq-eqb (length bytes) (state_size n m) long)
+    ∙ ap (λ (b : Bool). if b then Ok tt else Err (fault_at (min (length bytes) (state_size n m))))
+    (eq-eqb (length bytes) (state_size n m) long)
 
 -- ---- what is refused
 
@@ -170,10 +177,16 @@ not_same : (len size : ℕ) → (len == size) ≡ false → len ≡ size → ⊥
 not_same len size is e = both_values (len == size) (eq-eqb len size e) is
 
 refused_size : (len size : ℕ) (fault : StateFault) (b : Bool) → (len == size) ≡ b
-    → (let formed : Formed = if b then Ok tt else Err (fault_at (min len size)) in formed ≡ Err fault) → IsOtherSize len size None fault.offset
+    → (let formed : Formed = if b then Ok tt else Err (fault_at (min len size)) in formed ≡ Err fault)
+    → IsOtherSize len size None fault.offset
 refused_size len size fault true is h = cc
 refused_size len size fault false is h =
-    record { none = refl; apart = not_same len size is; least = ap (λ (f : StateFault). f.offset) (fault_is (fault_at (min len size)) fault h) }
+    record {
+      none = refl;
+      apart = not_same len size is;
+      least =
+          ap (λ (f : StateFault). f.offset) (fault_is (fault_at (min len size)) fault h);
+    }
 
 pub refused_so : (len size : ℕ) (fault : StateFault) (o : Option ℕ) → form_of len size o ≡ Err fault → Refused len size o fault.offset
 refused_so len size fault (Some k) h = inl (ap (λ (f : StateFault). Some f.offset) (fault_is (fault_at k) fault h))
@@ -198,8 +211,10 @@ own_refused scene bytes v fault e h goes =
           sym (get_or-take (offset + 1) bytes offset 0 (omega arith)) ∙ ap (λ (t : List ℕ). slice_index t offset) goes
           ∙ get_or-take (offset + 1) state offset 0 (omega arith) in
           let there : test offset (slice_index (take size bytes) (offset - 0)) ≡ test offset (slice_index state offset) =
-          ap (λ (i : ℕ). test offset (slice_index (take size bytes) i)) none ∙ ap (λ (b : ℕ). test offset b) (get_or-take size bytes offset 0 within ∙ byte) in
-          both_values (test offset (slice_index state offset)) (sym there ∙ f.holds) (own_native scene v offset e (omega (arith, within, long)))
+          ap (λ (i : ℕ). test offset (slice_index (take size bytes) i)) none
+          ∙ ap (λ (b : ℕ). test offset b) (get_or-take size bytes offset 0 within ∙ byte) in
+          both_values (test offset (slice_index state offset)) (sym there ∙ f.holds)
+          (own_native scene v offset e (omega (arith, within, long)))
       | inr apart ↦
           let same = ap (λ (t : List ℕ). length t) goes in
           apart.apart (omega (arith, same, length-take (offset + 1) bytes, length-take (offset + 1) state, long, apart.least))
@@ -207,7 +222,8 @@ own_refused scene bytes v fault e h goes =
 
 -- ---- laws
 
-pub refused_nowhere : (scene bytes : List ℕ) (w : World) (fault : StateFault) → length scene ≡ 32 → form_on scene w bytes ≡ Err fault → (v : World)
+pub refused_nowhere : (scene bytes : List ℕ) (w : World) (fault : StateFault) → length scene ≡ 32 → form_on scene w bytes ≡ Err fault
+    → (v : World)
     → AreOfOneScene w v → take (fault.offset + 1) bytes ≡ take (fault.offset + 1) (state_bytes scene v) → ⊥
 refused_nowhere scene bytes w fault e h v same goes = own_refused scene bytes v fault e (sym (same_form scene bytes w v same) ∙ h) goes
 

@@ -9,7 +9,8 @@ use Rattle.pbd_num.specs.declared.Vec3.{Vec3}
 use Rattle.pbd_world.specs.Ledger.{Sum, Ledger}
 use Rattle.pbd_world.specs.World.{World}
 use Rattle.pbd_log.specs.Entries.{number_bytes, signed_bytes, vector_bytes}
-use Rattle.pbd_encoding.specs.Encoding.{wide_bytes, sum_bytes, name, header_bytes, header_of, head_bytes, flag_bytes, first_totals_bytes, last_totals_bytes}
+use Rattle.pbd_encoding.specs.Encoding.{wide_bytes, sum_bytes, name, header_bytes, header_of, head_bytes, flag_bytes, first_totals_bytes}
+use Rattle.pbd_encoding.specs.Encoding.{last_totals_bytes}
 
 -- two parts, one after the other
 pub two_long : (a b : List ℕ) (m n : ℕ) → length a ≡ m → length b ≡ n → length (a ++ b) ≡ m + n

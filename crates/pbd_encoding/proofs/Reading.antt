@@ -1,5 +1,6 @@
 -- A number or a flag that is read where it stands is what was written there.
-use Rattle.std.proofs.Common.{◌≡◌, refl, sym, ap, ◌∙◌, ℕ, zero, suc, ◌+◌, ◌^◌, ◌<◌, ◌≤◌, ◌==◌, Bool, true, false, ℤ, List, [], ◌∷◌, ◌++◌, length, drop, Some, arith, Fits, if◌then◌else◌}
+use Rattle.std.proofs.Common.{◌≡◌, refl, sym, ap, ◌∙◌, ℕ, zero, suc, ◌+◌, ◌^◌, ◌<◌, ◌≤◌, ◌==◌, Bool, true, false, ℤ, List, [], ◌∷◌, ◌++◌}
+use Rattle.std.proofs.Common.{length, drop, Some, arith, Fits, if◌then◌else◌}
 use Rattle.std.specs.Prelude.{FitsSigned, nat_lt, slice_index}
 use Rattle.std.specs.Int.{w64, w128, cast_signed, cast_unsigned}
 use Rattle.std.proofs.lemmas.Bool.{le-ltb}
@@ -25,7 +26,8 @@ is_read : (n : ℕ) (bytes : List ℕ) → n ≤ length bytes → number_at n by
 unfolding number_at
 is_read n bytes le = rw (le-ltb (length bytes) n le) refl
 
-pub number_stands : (n : ℕ) (bytes : List ℕ) (at : ℕ) → IsBytes bytes → at + n ≤ length bytes → Stands bytes at (number_bytes n (number_from n bytes at))
+pub number_stands : (n : ℕ) (bytes : List ℕ) (at : ℕ) → IsBytes bytes → at + n ≤ length bytes
+    → Stands bytes at (number_bytes n (number_from n bytes at))
 unfolding number_from
 number_stands n bytes at fits long =
     let text = number_bytes n (number_from n bytes at) in
@@ -50,19 +52,22 @@ signed_stands bytes at fits long =
     let f : Fits w64 (number_from 8 bytes at) = record { fits = number_small 8 bytes at fits } in
     rw (of_z-to_z f) (number_stands 8 bytes at fits long)
 
-pub signed_back : (z : ℤ) (bytes : List ℕ) (at : ℕ) → Stands bytes at (signed_bytes z) → FitsSigned w64 z → cast_signed w64 (number_from 8 bytes at) ≡ z
+pub signed_back : (z : ℤ) (bytes : List ℕ) (at : ℕ) → Stands bytes at (signed_bytes z) → FitsSigned w64 z
+    → cast_signed w64 (number_from 8 bytes at) ≡ z
 unfolding signed_bytes
 signed_back z bytes at h fits =
     let f : Fits w64 (cast_unsigned w64 z) = Fits-of_z fits in
     ap (cast_signed w64) (number_back 8 (cast_unsigned w64 z) bytes at h f.fits) ∙ to_z-of_z fits
 
-pub wide_stands : (bytes : List ℕ) (at : ℕ) → IsBytes bytes → at + 16 ≤ length bytes → Stands bytes at (wide_bytes (cast_signed w128 (number_from 16 bytes at)))
+pub wide_stands : (bytes : List ℕ) (at : ℕ) → IsBytes bytes → at + 16 ≤ length bytes
+    → Stands bytes at (wide_bytes (cast_signed w128 (number_from 16 bytes at)))
 unfolding wide_bytes
 wide_stands bytes at fits long =
     let f : Fits w128 (number_from 16 bytes at) = record { fits = number_small 16 bytes at fits } in
     rw (of_z-to_z f) (number_stands 16 bytes at fits long)
 
-pub wide_back : (z : ℤ) (bytes : List ℕ) (at : ℕ) → Stands bytes at (wide_bytes z) → FitsSigned w128 z → cast_signed w128 (number_from 16 bytes at) ≡ z
+pub wide_back : (z : ℤ) (bytes : List ℕ) (at : ℕ) → Stands bytes at (wide_bytes z) → FitsSigned w128 z
+    → cast_signed w128 (number_from 16 bytes at) ≡ z
 unfolding wide_bytes
 wide_back z bytes at h fits =
     let f : Fits w128 (cast_unsigned w128 z) = Fits-of_z fits in
@@ -70,13 +75,15 @@ wide_back z bytes at h fits =
 
 -- ---- vectors and sums
 
-pub vector_stands : (bytes : List ℕ) (at : ℕ) → IsBytes bytes → at + 24 ≤ length bytes → Stands bytes at (vector_bytes (vector_from bytes at))
+pub vector_stands : (bytes : List ℕ) (at : ℕ) → IsBytes bytes → at + 24 ≤ length bytes
+    → Stands bytes at (vector_bytes (vector_from bytes at))
 unfolding vector_bytes vector_from
 vector_stands bytes at fits long =
     let x = signed_bytes (cast_signed w64 (number_from 8 bytes at)) in
     let y = signed_bytes (cast_signed w64 (number_from 8 bytes (at + 8))) in
     both_stand bytes at (x ++ y) _ 16 (two_long x y 8 8 (signed_long _) (signed_long _))
-    (both_stand bytes at x y 8 (signed_long _) (signed_stands bytes at fits (omega (arith, long))) (signed_stands bytes (at + 8) fits (omega (arith, long))))
+    (both_stand bytes at x y 8 (signed_long _) (signed_stands bytes at fits (omega (arith, long)))
+    (signed_stands bytes (at + 8) fits (omega (arith, long))))
     (signed_stands bytes (at + 16) fits (omega (arith, long)))
 
 pub vector_back : (v : Vec3) (bytes : List ℕ) (at : ℕ) → Stands bytes at (vector_bytes v) → VectorFits v → vector_from bytes at ≡ v
@@ -86,7 +93,8 @@ vector_back v bytes at h fits =
     let both = first_stands bytes at (x ++ y) z h in
     let ex = signed_back v.x bytes at (first_stands bytes at x y both) fits.0 in
     let ey = signed_back v.y bytes (at + 8) (second_stands bytes at x y 8 (signed_long v.x) both) fits.1 in
-    let ez = signed_back v.z bytes (at + 16) (second_stands bytes at (x ++ y) z 16 (two_long x y 8 8 (signed_long v.x) (signed_long v.y)) h) fits.2 in
+    let ez = signed_back v.z bytes (at + 16) (second_stands bytes at (x ++ y) z 16 (two_long x y 8 8 (signed_long v.x) (signed_long v.y)) h)
+    fits.2 in
     λ i. record { x = ex i; y = ey i; z = ez i }
 
 pub sum_stands : (bytes : List ℕ) (at : ℕ) → IsBytes bytes → at + 48 ≤ length bytes → Stands bytes at (sum_bytes (sum_from bytes at))
@@ -95,7 +103,8 @@ sum_stands bytes at fits long =
     let x = wide_bytes (cast_signed w128 (number_from 16 bytes at)) in
     let y = wide_bytes (cast_signed w128 (number_from 16 bytes (at + 16))) in
     both_stand bytes at (x ++ y) _ 32 (two_long x y 16 16 (wide_long _) (wide_long _))
-    (both_stand bytes at x y 16 (wide_long _) (wide_stands bytes at fits (omega (arith, long))) (wide_stands bytes (at + 16) fits (omega (arith, long))))
+    (both_stand bytes at x y 16 (wide_long _) (wide_stands bytes at fits (omega (arith, long)))
+    (wide_stands bytes (at + 16) fits (omega (arith, long))))
     (wide_stands bytes (at + 32) fits (omega (arith, long)))
 
 pub sum_back : (s : Sum) (bytes : List ℕ) (at : ℕ) → Stands bytes at (sum_bytes s) → SumFits s → sum_from bytes at ≡ s
@@ -105,7 +114,8 @@ sum_back s bytes at h fits =
     let both = first_stands bytes at (x ++ y) z h in
     let ex = wide_back s.x bytes at (first_stands bytes at x y both) fits.x in
     let ey = wide_back s.y bytes (at + 16) (second_stands bytes at x y 16 (wide_long s.x) both) fits.y in
-    let ez = wide_back s.z bytes (at + 32) (second_stands bytes at (x ++ y) z 32 (two_long x y 16 16 (wide_long s.x) (wide_long s.y)) h) fits.z in
+    let ez = wide_back s.z bytes (at + 32) (second_stands bytes at (x ++ y) z 32 (two_long x y 16 16 (wide_long s.x) (wide_long s.y)) h)
+    fits.z in
     λ i. record { x = ex i; y = ey i; z = ez i }
 
 -- ---- flags
@@ -135,6 +145,7 @@ flag_is zero h = refl
 flag_is (suc zero) h = refl
 flag_is (suc (suc b)) h = absurd (omega (arith, h))
 
-pub flag_stands : (bytes : List ℕ) (at : ℕ) → at < length bytes → slice_index bytes at ≤ 1 → Stands bytes at (flag_bytes (slice_index bytes at == 1))
+pub flag_stands : (bytes : List ℕ) (at : ℕ) → at < length bytes → slice_index bytes at ≤ 1
+    → Stands bytes at (flag_bytes (slice_index bytes at == 1))
 flag_stands bytes at within small =
     drop_more bytes at 0 within ∙ sym (ap (λ (t : List ℕ). t ++ drop (at + 1) bytes) (flag_is (slice_index bytes at) small))

@@ -52,7 +52,8 @@ small_row : state_bytes (many 32 7) small ≡
     ++ 0 ∷ []
     ++ 0 ∷ 0 ∷ 0 ∷ 5 ∷ [] ++ many 48 0 ++ many 15 0 ++ 1 ∷ [] ++ many 16 255 ++ many 16 0 ++ many 48 0
     ++ many 48 0 ++ many 48 0 ++ many 15 0 ++ 1 ∷ [] ++ many 16 255 ++ many 16 0
-unfolding state_bytes head_bytes header_bytes first_totals_bytes last_totals_bytes sum_bytes wide_bytes vector_bytes signed_bytes number_bytes
+unfolding state_bytes head_bytes header_bytes first_totals_bytes last_totals_bytes sum_bytes wide_bytes vector_bytes signed_bytes
+    number_bytes
 small_row = refl
 
 -- its scene, with a track and a plane: the settings and the opening, two weights, a link, the track with its one key, and the
@@ -70,7 +71,8 @@ led_row : scene_bytes led ≡
     ++ 0 ∷ 0 ∷ 0 ∷ 1 ∷ [] ++ 0 ∷ 0 ∷ 0 ∷ 1 ∷ 0 ∷ 0 ∷ 0 ∷ 1 ∷ [] ++ 0 ∷ 0 ∷ 0 ∷ 7 ∷ [] ++ many 24 0
     ++ 0 ∷ 0 ∷ 0 ∷ 1 ∷ [] ++ many 15 0 ++ 1 ∷ [] ++ many 8 0 ++ many 8 255
     ++ many 4 0
-unfolding scene_bytes scene_head_bytes link_bytes key_bytes plane_bytes sphere_bytes sum_bytes wide_bytes vector_bytes signed_bytes number_bytes
+unfolding scene_bytes scene_head_bytes link_bytes key_bytes plane_bytes sphere_bytes sum_bytes wide_bytes vector_bytes signed_bytes
+    number_bytes
 led_row = refl
 
 -- of two particles and a link the flags stand at 224 to 226: a header's byte has to be the header's, and a flag 0 or 1

@@ -23,10 +23,12 @@ blank_at : (ps : List Particle) (i : ℕ) → i < length ps
     → get_or (map {A = Particle} {B = Particle} (λ p. blank p) ps) i (blank no_particle) ≡ blank (particle_at ps i)
 blank_at ps i lt = get_or-map (λ (p : Particle). blank p) ps i no_particle (blank no_particle) lt
 
-unlive_at : (ls : List Link) (i : ℕ) → i < length ls → get_or (map {A = Link} {B = Link} (λ l. unlive l) ls) i (unlive no_link) ≡ unlive (link_at ls i)
+unlive_at : (ls : List Link) (i : ℕ) → i < length ls → get_or (map {A = Link} {B = Link} (λ l. unlive l) ls) i (unlive no_link)
+    ≡ unlive (link_at ls i)
 unlive_at ls i lt = get_or-map (λ (l : Link). unlive l) ls i no_link (unlive no_link) lt
 
-pub same_weight : (w v : World) (i : ℕ) → AreOfOneScene w v → i < length w.particles → (particle_at v.particles i).weight ≡ (particle_at w.particles i).weight
+pub same_weight : (w v : World) (i : ℕ) → AreOfOneScene w v → i < length w.particles
+    → (particle_at v.particles i).weight ≡ (particle_at w.particles i).weight
 same_weight w v i same lt =
     sym (ap (λ (p : Particle). p.weight) (blank_at v.particles i (omega (arith, lt, as_many_particles w v same))))
     ∙ sym (ap (λ (u : World). (get_or u.particles i (blank no_particle)).weight) same)

@@ -6,7 +6,8 @@ use Rattle.pbd_world.specs.declared.parts.Particle.{Particle}
 use Rattle.pbd_world.specs.declared.parts.Link.{Link}
 use Rattle.pbd_world.specs.World.{World}
 use Rattle.pbd_encoding.specs.Described.{contacts_at}
-use Rattle.pbd_encoding.specs.Encoding.{head_bytes, at_bytes, before_bytes, held_bytes, live_bytes, first_totals_bytes, last_totals_bytes, state_bytes, state_size}
+use Rattle.pbd_encoding.specs.Encoding.{head_bytes, at_bytes, before_bytes, held_bytes, live_bytes, first_totals_bytes, last_totals_bytes}
+use Rattle.pbd_encoding.specs.Encoding.{state_bytes, state_size}
 use Rattle.pbd_encoding.proofs.Lengths.{two_long, vector_long, flag_long, head_long, first_totals_long, last_totals_long, each_long}
 use Rattle.pbd_encoding.proofs.Standing.{Stands, first_stands, behind_front, both_front, whole_stands, stands_whole}
 
@@ -47,12 +48,23 @@ to_at_long : (scene : List ℕ) (w : World) → length scene ≡ 32 → length (
 to_at_long scene w e = omega (arith, length-append (head_bytes scene w) (flat_map at_bytes w.particles), head_long scene w e, ats_long w)
 
 to_before_long : (scene : List ℕ) (w : World) → length scene ≡ 32 → length (to_before scene w) ≡ 128 + 48 * length w.particles
-to_before_long scene w e = omega (arith, length-append (to_at scene w) (flat_map before_bytes w.particles), to_at_long scene w e, befores_long w)
+to_before_long scene w e = omega (
+  arith,
+  length-append (to_at scene w) (flat_map before_bytes w.particles),
+  to_at_long scene w e,
+  befores_long w,
+)
 
 to_held_long : (scene : List ℕ) (w : World) → length scene ≡ 32 → length (to_held scene w) ≡ 128 + 49 * length w.particles
-to_held_long scene w e = omega (arith, length-append (to_before scene w) (flat_map held_bytes w.particles), to_before_long scene w e, helds_long w)
+to_held_long scene w e = omega (
+  arith,
+  length-append (to_before scene w) (flat_map held_bytes w.particles),
+  to_before_long scene w e,
+  helds_long w,
+)
 
-to_live_long : (scene : List ℕ) (w : World) → length scene ≡ 32 → length (to_live scene w) ≡ contacts_at (length w.particles) (length w.links)
+to_live_long : (scene : List ℕ) (w : World) → length scene ≡ 32
+    → length (to_live scene w) ≡ contacts_at (length w.particles) (length w.links)
 to_live_long scene w e = omega (arith, length-append (to_held scene w) (flat_map live_bytes w.links), to_held_long scene w e, lives_long w)
 
 to_first_totals_long : (scene : List ℕ) (w : World) → length scene ≡ 32
@@ -61,10 +73,12 @@ to_first_totals_long scene w e =
     two_long (to_live scene w) (first_totals_bytes w.contacts w.totals) (contacts_at (length w.particles) (length w.links)) 148
     (to_live_long scene w e) (first_totals_long w.contacts w.totals)
 
-pub state_long : (scene : List ℕ) (w : World) → length scene ≡ 32 → length (state_bytes scene w) ≡ state_size (length w.particles) (length w.links)
+pub state_long : (scene : List ℕ) (w : World) → length scene ≡ 32
+    → length (state_bytes scene w) ≡ state_size (length w.particles) (length w.links)
 state_long scene w e =
     let whole = ap (λ (t : List ℕ). length t) (state_parts scene w) in
-    let both = two_long (to_first_totals scene w) (last_totals_bytes w.totals) _ 144 (to_first_totals_long scene w e) (last_totals_long w.totals) in
+    let both = two_long (to_first_totals scene w) (last_totals_bytes w.totals) _ 144 (to_first_totals_long scene w e)
+    (last_totals_long w.totals) in
     omega (arith, whole, both)
 
 -- ---- the parts
@@ -92,9 +106,12 @@ sections scene w e =
     record {
       head = first_stands bytes 0 (head_bytes scene w) (flat_map at_bytes w.particles) at;
       at = behind_front bytes (head_bytes scene w) (flat_map at_bytes w.particles) 128 (head_long scene w e) at;
-      before = behind_front bytes (to_at scene w) (flat_map before_bytes w.particles) (128 + 24 * length w.particles) (to_at_long scene w e) before;
-      held = behind_front bytes (to_before scene w) (flat_map held_bytes w.particles) (128 + 48 * length w.particles) (to_before_long scene w e) held;
-      live = behind_front bytes (to_held scene w) (flat_map live_bytes w.links) (128 + 49 * length w.particles) (to_held_long scene w e) live;
+      before = behind_front bytes (to_at scene w) (flat_map before_bytes w.particles) (128 + 24 * length w.particles)
+          (to_at_long scene w e) before;
+      held = behind_front bytes (to_before scene w) (flat_map held_bytes w.particles) (128 + 48 * length w.particles)
+          (to_before_long scene w e) held;
+      live = behind_front bytes (to_held scene w) (flat_map live_bytes w.links) (128 + 49 * length w.particles)
+          (to_held_long scene w e) live;
       first_totals = behind_front bytes (to_live scene w) (first_totals_bytes w.contacts w.totals) _ (to_live_long scene w e) totals;
       last_totals = behind_front bytes (to_first_totals scene w) (last_totals_bytes w.totals) _ (to_first_totals_long scene w e) all;
     }
@@ -107,7 +124,9 @@ from_sections bytes scene w e long s =
     let before = both_front bytes (to_at scene w) (flat_map before_bytes w.particles) _ (to_at_long scene w e) at s.before in
     let held = both_front bytes (to_before scene w) (flat_map held_bytes w.particles) _ (to_before_long scene w e) before s.held in
     let live = both_front bytes (to_held scene w) (flat_map live_bytes w.links) _ (to_held_long scene w e) held s.live in
-    let totals = both_front bytes (to_live scene w) (first_totals_bytes w.contacts w.totals) _ (to_live_long scene w e) live s.first_totals in
-    let all = both_front bytes (to_first_totals scene w) (last_totals_bytes w.totals) _ (to_first_totals_long scene w e) totals s.last_totals in
+    let totals = both_front bytes (to_live scene w) (first_totals_bytes w.contacts w.totals) _
+    (to_live_long scene w e) live s.first_totals in
+    let all = both_front bytes (to_first_totals scene w) (last_totals_bytes w.totals) _
+    (to_first_totals_long scene w e) totals s.last_totals in
     let size = ap (λ (t : List ℕ). length t) (sym (state_parts scene w)) ∙ state_long scene w e ∙ sym long in
     state_parts scene w ∙ stands_whole bytes (to_first_totals scene w ++ last_totals_bytes w.totals) size all

@@ -1,5 +1,6 @@
 -- What stands at a place of some bytes.
-use Rattle.std.proofs.Common.{◌≡◌, refl, sym, ap, ◌∙◌, subst, ℕ, zero, suc, ◌+◌, ◌*◌, ◌<◌, List, [], ◌∷◌, ◌++◌, length, drop, get_or, append_assoc, append-nil, arith}
+use Rattle.std.proofs.Common.{◌≡◌, refl, sym, ap, ◌∙◌, subst, ℕ, zero, suc, ◌+◌, ◌*◌, ◌<◌, List, [], ◌∷◌, ◌++◌, length, drop, get_or}
+use Rattle.std.proofs.Common.{append_assoc, append-nil, arith}
 use Rattle.std.specs.List.{flat_map}
 use Rattle.std.proofs.Math.Nat.{suc-mul}
 use Rattle.std.proofs.lemmas.List.{drop_at, drop_all, drop-drop, length-append}
@@ -8,16 +9,19 @@ use Rattle.std.proofs.lemmas.List.{drop_at, drop_all, drop-drop, length-append}
 abbrev pub Stands : List ℕ → ℕ → List ℕ → Type 0
 Stands bytes at text = drop at bytes ≡ text ++ drop (at + length text) bytes
 
-pub both_stand : (bytes : List ℕ) (at : ℕ) (a b : List ℕ) (n : ℕ) → length a ≡ n → Stands bytes at a → Stands bytes (at + n) b → Stands bytes at (a ++ b)
+pub both_stand : (bytes : List ℕ) (at : ℕ) (a b : List ℕ) (n : ℕ) → length a ≡ n → Stands bytes at a → Stands bytes (at + n) b
+    → Stands bytes at (a ++ b)
 both_stand bytes at a b n e h k =
     let ends : at + n + length b ≡ at + length (a ++ b) = omega (arith, e, length-append a b) in
     h ∙ ap (λ (t : List ℕ). a ++ t) (ap (λ (m : ℕ). drop (at + m) bytes) e ∙ k ∙ ap (λ (m : ℕ). b ++ drop m bytes) ends)
     ∙ sym (append_assoc a b (drop (at + length (a ++ b)) bytes))
 
-behind : (bytes : List ℕ) (at : ℕ) (a b : List ℕ) → Stands bytes at (a ++ b) → drop (at + length a) bytes ≡ b ++ drop (at + length (a ++ b)) bytes
+behind : (bytes : List ℕ) (at : ℕ) (a b : List ℕ) → Stands bytes at (a ++ b)
+    → drop (at + length a) bytes ≡ b ++ drop (at + length (a ++ b)) bytes
 behind bytes at a b h =
     let rest = drop (at + length (a ++ b)) bytes in
-    sym (drop-drop (length a) at bytes) ∙ ap (λ (t : List ℕ). drop (length a) t) (h ∙ append_assoc a b rest) ∙ drop_at a (b ++ rest) (length a) refl
+    sym (drop-drop (length a) at bytes) ∙ ap (λ (t : List ℕ). drop (length a) t) (h ∙ append_assoc a b rest)
+    ∙ drop_at a (b ++ rest) (length a) refl
 
 pub first_stands : (bytes : List ℕ) (at : ℕ) (a b : List ℕ) → Stands bytes at (a ++ b) → Stands bytes at a
 first_stands bytes at a b h = h ∙ append_assoc a b _ ∙ ap (λ (t : List ℕ). a ++ t) (sym (behind bytes at a b h))
@@ -53,7 +57,8 @@ stands_whole bytes text e h =
 -- ---- items of one size
 
 -- each item stands where it begins
-pub each_stands : {A : Type 0} (bytes : List ℕ) (f : A → List ℕ) (size at : ℕ) (xs : List A) (i : ℕ) (d : A) → ((x : A) → length (f x) ≡ size)
+pub each_stands : {A : Type 0} (bytes : List ℕ) (f : A → List ℕ) (size at : ℕ) (xs : List A) (i : ℕ) (d : A)
+    → ((x : A) → length (f x) ≡ size)
     → i < length xs → Stands bytes at (flat_map f xs) → Stands bytes (at + i * size) (f (get_or xs i d))
 each_stands bytes f size at [] i d long lt h = absurd (omega (arith, lt))
 each_stands bytes f size at (x ∷ xs) zero d long lt h =
@@ -74,4 +79,5 @@ all_stand bytes f size at (x ∷ xs) d long h =
     both_stand bytes at (f x) (flat_map f xs) size (long x) (stands_as bytes (at + 0 * size) at (f x) (f x) e refl (h 0 (omega arith)))
     (all_stand bytes f size (at + size) xs d long (λ i lt.
     let next : at + suc i * size ≡ at + size + i * size = omega (arith, suc-mul i size) in
-    stands_as bytes (at + suc i * size) (at + size + i * size) (f (get_or xs i d)) (f (get_or xs i d)) next refl (h (suc i) (omega (arith, lt)))))
+    stands_as bytes (at + suc i * size) (at + size + i * size) (f (get_or xs i d)) (f (get_or xs i d)) next refl
+    (h (suc i) (omega (arith, lt)))))

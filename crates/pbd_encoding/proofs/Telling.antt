@@ -1,5 +1,6 @@
 -- Bytes that have the form of a state are the state of the world that they tell.
-use Rattle.std.proofs.Common.{◌≡◌, refl, sym, ap, ◌∙◌, ℕ, ◌+◌, ◌*◌, ◌<◌, ◌≤◌, ◌==◌, Bool, true, false, not, List, ◌++◌, length, take, drop, min, arith, Option, Some, None, Ok, Err, if◌then◌else◌}
+use Rattle.std.proofs.Common.{◌≡◌, refl, sym, ap, ◌∙◌, ℕ, ◌+◌, ◌*◌, ◌<◌, ◌≤◌, ◌==◌, Bool, true, false, not, List, ◌++◌, length, take, drop}
+use Rattle.std.proofs.Common.{min, arith, Option, Some, None, Ok, Err, if◌then◌else◌}
 use Rattle.std.specs.Prelude.{nat_lt, slice_index}
 use Rattle.std.proofs.lemmas.Bool.{lt-ltb, le-ltb, le-leb, eqb-true, ltb-false}
 use Rattle.std.proofs.lemmas.List.{ext_get_or, get_or-take, take_all, length-take, take-append-drop}
@@ -14,7 +15,8 @@ use Rattle.pbd_sound.proofs.Where.{none_first}
 use Rattle.pbd_sound.proofs.Telling.{numbered_length, numbered_at}
 use Rattle.pbd_log.specs.Entries.{number_bytes, vector_bytes}
 use Rattle.pbd_log.specs.Laws.{IsBytes}
-use Rattle.pbd_encoding.specs.Encoding.{sum_bytes, header_bytes, header_of, head_bytes, at_bytes, before_bytes, held_bytes, live_bytes, flag_bytes, first_totals_bytes, last_totals_bytes, state_bytes, state_size}
+use Rattle.pbd_encoding.specs.Encoding.{sum_bytes, header_bytes, header_of, head_bytes, at_bytes, before_bytes, held_bytes, live_bytes}
+use Rattle.pbd_encoding.specs.Encoding.{flag_bytes, first_totals_bytes, last_totals_bytes, state_bytes, state_size}
 use Rattle.pbd_encoding.specs.Described.{number_from, vector_from, sum_from, contacts_at, told_by}
 use Rattle.pbd_encoding.specs.Form.{Formed, fault_at, is_foreign, form_of, form_checked}
 use Rattle.pbd_encoding.specs.Laws.{form_on, told_on}
@@ -73,7 +75,8 @@ header_stands header n m bytes e form =
     let same : take 96 bytes ≡ header = ext_get_or 0 (take 96 bytes) header (short ∙ sym e) (λ i lt.
     let near : i < 96 = omega (arith, lt, short) in
     let within : i < length bytes = omega (arith, near, form.long) in
-    let is : is_foreign header n m i (slice_index bytes i) ≡ not (slice_index bytes i == slice_index header i) = rw (lt-ltb i 96 near) refl in
+    let is : is_foreign header n m i (slice_index bytes i)
+    ≡ not (slice_index bytes i == slice_index header i) = rw (lt-ltb i 96 near) refl in
     get_or-take 96 bytes i 0 near ∙ same_byte _ _ (sym is ∙ form.each i within)) in
     sym (take-append-drop 96 bytes) ∙ ap (λ (t : List ℕ). t ++ drop 96 bytes) same ∙ ap (λ (k : ℕ). header ++ drop k bytes) ends
 
@@ -86,7 +89,8 @@ told_links : (bytes : List ℕ) (w : World) → length (told_on w bytes).links �
 told_links bytes w = numbered_length (link_told (told_by bytes (length w.particles) (length w.links))) 0 w.links
 
 particle_seen : (bytes : List ℕ) (w : World) (i : ℕ) → i < length w.particles
-    → particle_at (told_on w bytes).particles i ≡ particle_told (told_by bytes (length w.particles) (length w.links)) i (particle_at w.particles i)
+    → particle_at (told_on w bytes).particles i ≡ particle_told (told_by bytes (length w.particles) (length w.links)) i
+    (particle_at w.particles i)
 particle_seen bytes w i lt = numbered_at (particle_told (told_by bytes (length w.particles) (length w.links))) w.particles i no_particle lt
 
 link_seen : (bytes : List ℕ) (w : World) (l : ℕ) → l < length w.links
@@ -102,9 +106,11 @@ head_stands scene bytes w e fits form =
     let header = header_of scene w in
     let steps = number_bytes 8 (number_from 8 bytes 96) in
     let gravity = vector_bytes (vector_from bytes 104) in
-    let same : header_of scene (told_on w bytes) ≡ header = λ i. header_bytes scene (told_particles bytes w i) (told_links bytes w i) w.opening in
+    let same : header_of scene (told_on w bytes) ≡ header = λ i.
+    header_bytes scene (told_particles bytes w i) (told_links bytes w i) w.opening in
     let long : length header ≡ 96 = header_long scene n m w.opening e in
-    let first = both_front bytes header steps 96 long (header_stands header n m bytes long form) (number_stands 8 bytes 96 fits (omega (arith, form.long))) in
+    let first = both_front bytes header steps 96 long (header_stands header n m bytes long form)
+    (number_stands 8 bytes 96 fits (omega (arith, form.long))) in
     let longer = two_long header steps 96 8 long (number_long 8 _) in
     let all = both_front bytes (header ++ steps) gravity 104 longer first (vector_stands bytes 104 fits (omega (arith, form.long))) in
     stands_as bytes 0 0 (header ++ steps ++ gravity) _ refl (ap (λ (t : List ℕ). t ++ steps ++ gravity) (sym same)) all
@@ -113,7 +119,8 @@ sum_there : (bytes : List ℕ) (s t : ℕ) → s ≡ t → IsBytes bytes → t +
 sum_there bytes s t e fits long = stands_as bytes t s _ _ (sym e) refl (sum_stands bytes t fits long)
 
 first_totals_stand : (bytes : List ℕ) (w : World) → IsBytes bytes → length bytes ≡ state_size (length w.particles) (length w.links)
-    → Stands bytes (contacts_at (length w.particles) (length w.links)) (first_totals_bytes (told_on w bytes).contacts (told_on w bytes).totals)
+    → Stands bytes (contacts_at (length w.particles) (length w.links))
+    (first_totals_bytes (told_on w bytes).contacts (told_on w bytes).totals)
 unfolding first_totals_bytes
 first_totals_stand bytes w fits long =
     let c = contacts_at (length w.particles) (length w.links) in
@@ -160,13 +167,15 @@ formed_state scene bytes w e fits form =
     stands_as bytes (128 + 24 * i) (128 + i * 24) (vector_bytes (vector_from bytes (128 + 24 * i))) _ (omega arith)
     (ap (λ (p : Particle). vector_bytes p.at) (sym (particle_seen bytes w i within)))
     (vector_stands bytes (128 + 24 * i) fits (omega (arith, within, form.long)))) in
-    let before = all_stand {A = Particle} bytes before_bytes 24 (128 + 24 * length v.particles) v.particles no_particle (λ p. vector_long p.before) (λ i lt.
+    let before = all_stand {A = Particle} bytes before_bytes 24 (128 + 24 * length v.particles) v.particles no_particle
+    (λ p. vector_long p.before) (λ i lt.
     let within : i < n = omega (arith, lt, en) in
     let s = 128 + 24 * n + 24 * i in
     stands_as bytes s (128 + 24 * length v.particles + i * 24) (vector_bytes (vector_from bytes s)) _ (omega (arith, en))
     (ap (λ (p : Particle). vector_bytes p.before) (sym (particle_seen bytes w i within)))
     (vector_stands bytes s fits (omega (arith, within, form.long)))) in
-    let held = all_stand {A = Particle} bytes held_bytes 1 (128 + 48 * length v.particles) v.particles no_particle (λ p. flag_long p.held) (λ i lt.
+    let held = all_stand {A = Particle} bytes held_bytes 1 (128 + 48 * length v.particles) v.particles no_particle (λ p. flag_long p.held)
+    (λ i lt.
     let within : i < n = omega (arith, lt, en) in
     let s = 128 + 48 * n + i in
     stands_as bytes s (128 + 48 * length v.particles + i * 1) (flag_bytes (slice_index bytes s == 1)) _ (omega (arith, en))
@@ -190,4 +199,5 @@ formed_state scene bytes w e fits form =
 
 pub told_state : (scene bytes : List ℕ) (w : World) → length scene ≡ 32 → IsBytes bytes → form_on scene w bytes ≡ Ok tt
     → state_bytes scene (told_on w bytes) ≡ bytes
-told_state scene bytes w e fits h = formed_state scene bytes w e fits (has_form (header_of scene w) (length w.particles) (length w.links) bytes h)
+told_state scene bytes w e fits h = formed_state scene bytes w e fits
+    (has_form (header_of scene w) (length w.particles) (length w.links) bytes h)

@@ -1,5 +1,6 @@
 -- Texts that tell what they spell, whatever follows them.
-use Rattle.std.proofs.Common.{◌≡◌, refl, sym, ap, ◌∙◌, ℕ, ◌+◌, ◌^◌, ◌<◌, ℤ, List, [], ◌∷◌, ◌++◌, length, drop, map, append_assoc, arith, Fits}
+use Rattle.std.proofs.Common.{◌≡◌, refl, sym, ap, ◌∙◌, ℕ, ◌+◌, ◌^◌, ◌<◌, ℤ, List, [], ◌∷◌, ◌++◌, length, drop, map, append_assoc, arith}
+use Rattle.std.proofs.Common.{Fits}
 use Rattle.std.specs.Prelude.{FitsSigned, slice_index}
 use Rattle.std.specs.Int.{w64, w128, cast_signed, cast_unsigned}
 use Rattle.std.specs.List.{flat_map, AllByRecursion}
@@ -41,7 +42,8 @@ unfolding number_bytes
 number_tells n x y hx hy = record {
   reads = λ r s h. (
     sym (big_number-reads_back n x r hx) ∙ ap (big_number n) h ∙ big_number-reads_back n y s hy,
-    sym (drop_at (number_bytes n x) r n (number_long n x)) ∙ ap (λ (t : List ℕ). drop n t) h ∙ drop_at (number_bytes n y) s n (number_long n y),
+    sym (drop_at (number_bytes n x) r n (number_long n x)) ∙ ap (λ (t : List ℕ). drop n t) h
+        ∙ drop_at (number_bytes n y) s n (number_long n y),
   );
 }
 
@@ -89,7 +91,8 @@ abbrev pub EachTells : {A B : Type 0} → (A → List ℕ) → (A → B) → (A 
 EachTells {A} {B} text seen Fit = (x y : A) → Fit x → Fit y → Tells (text x) (text y) (seen x ≡ seen y)
 
 each_tell : {A B : Type 0} (text : A → List ℕ) (seen : A → B) (Fit : A → Type 0) (xs ys : List A) → EachTells text seen Fit
-    → AllByRecursion Fit xs → AllByRecursion Fit ys → length xs ≡ length ys → Tells (flat_map text xs) (flat_map text ys) (map seen xs ≡ map seen ys)
+    → AllByRecursion Fit xs → AllByRecursion Fit ys → length xs ≡ length ys
+    → Tells (flat_map text xs) (flat_map text ys) (map seen xs ≡ map seen ys)
 each_tell text seen Fit [] [] each fx fy e = record { reads = λ r s h. (refl, h) }
 each_tell text seen Fit [] (y ∷ ys) each fx fy e = absurd (omega (arith, e))
 each_tell text seen Fit (x ∷ xs) [] each fx fy e = absurd (omega (arith, e))

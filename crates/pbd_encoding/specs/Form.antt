@@ -1,5 +1,6 @@
 -- Where bytes go wrong that haven't the form of a state.
-use Rattle.std.specs.Prelude.{ℕ, ◌≤◌, ◌+◌, ◌*◌, nat_le, nat_lt, ◌==◌, Bool, not, ◌&&◌, List, length, take, slice_index, min, Option, Some, None, Result, Ok, Err, if◌then◌else◌}
+use Rattle.std.specs.Prelude.{ℕ, ◌≤◌, ◌+◌, ◌*◌, nat_le, nat_lt, ◌==◌, Bool, not, ◌&&◌, List, length, take, slice_index, min, Option, Some}
+use Rattle.std.specs.Prelude.{None, Result, Ok, Err, if◌then◌else◌}
 use Rattle.pbd_sound.specs.Soundness.{first_where}
 use Rattle.pbd_encoding.specs.declared.form.StateFault.{StateFault}
 use Rattle.pbd_encoding.specs.declared.form.Counts.{Counts}

@@ -23,7 +23,8 @@ abbrev pub map_pair : {X Y : Type 0} → X → List Y → List (X × Y)
 map_pair x [] = []
 map_pair x (y ∷ ys) = (x, y) ∷ map_pair x ys
 
-passing-map_pair : {X Y : Type 0} (p : X → Bool) (q : Y → Bool) (x : X) (ys : List Y) → passing (λ (z : X × Y). p z.0 && q z.1) (map_pair x ys) ≡ cond (p x) (passing q ys) 0
+passing-map_pair : {X Y : Type 0} (p : X → Bool) (q : Y → Bool) (x : X) (ys : List Y)
+    → passing (λ (z : X × Y). p z.0 && q z.1) (map_pair x ys) ≡ cond (p x) (passing q ys) 0
 passing-map_pair {X = X} {Y = Y} p q x [] = go (p x)
   where
     go : (b : Bool) → zero ≡ cond b zero zero
@@ -39,13 +40,16 @@ passing-map_pair {X = X} {Y = Y} p q x (y ∷ ys) = go (p x) (q y) (passing-map_
     go false false r = omega (arith, r)
 
 -- a test of pairs part by part passes as many as the product
-pub passing-product : {X Y : Type 0} (p : X → Bool) (q : Y → Bool) (xs : List X) (ys : List Y) → passing (λ (z : X × Y). p z.0 && q z.1) (flat_map (λ x. map_pair x ys) xs) ≡ passing p xs * passing q ys
+pub passing-product : {X Y : Type 0} (p : X → Bool) (q : Y → Bool) (xs : List X) (ys : List Y)
+    → passing (λ (z : X × Y). p z.0 && q z.1) (flat_map (λ x. map_pair x ys) xs) ≡ passing p xs * passing q ys
 passing-product {X = X} {Y = Y} p q [] ys = omega arith
-passing-product {X = X} {Y = Y} p q (x ∷ xs) ys = passing-append (λ z. p z.0 && q z.1) (map_pair x ys) (flat_map (λ x. map_pair x ys) xs) ∙ go (p x) (passing-map_pair p q x ys) (passing-product p q xs ys)
+passing-product {X = X} {Y = Y} p q (x ∷ xs) ys = passing-append (λ z. p z.0 && q z.1) (map_pair x ys) (flat_map (λ x. map_pair x ys) xs)
+    ∙ go (p x) (passing-map_pair p q x ys) (passing-product p q xs ys)
   where
     go : (b : Bool) → passing (λ (z : X × Y). p z.0 && q z.1) (map_pair x ys) ≡ cond b (passing q ys) 0
         → passing (λ (z : X × Y). p z.0 && q z.1) (flat_map (λ x. map_pair x ys) xs) ≡ passing p xs * passing q ys
-        → passing (λ (z : X × Y). p z.0 && q z.1) (map_pair x ys) + passing (λ (z : X × Y). p z.0 && q z.1) (flat_map (λ x. map_pair x ys) xs) ≡ (cond b 1 0 + passing p xs) * passing q ys
+        → passing (λ (z : X × Y). p z.0 && q z.1) (map_pair x ys) + passing (λ (z : X × Y). p z.0 && q z.1)
+        (flat_map (λ x. map_pair x ys) xs) ≡ (cond b 1 0 + passing p xs) * passing q ys
     go true r s = omega (arith, r, s)
     go false r s = omega (arith, r, s)
 
@@ -58,4 +62,9 @@ pub passing-around : (a b c a' b' c' : ℕ) → a ≤ a' → a' ≤ a + 1 → b 
     → passing (λ (z : (ℕ × ℕ) × ℕ). eqb z.0.0 a' && eqb z.0.1 b' && eqb z.1 c') (around a b c) ≡ 1
 passing-around a b c a' b' c' h h' k k' l l' =
     passing-product (λ (w : ℕ × ℕ). eqb w.0 a' && eqb w.1 b') (λ e. eqb e c') (flat_map (λ x. map_pair x (axis b)) (axis a)) (axis c)
-    ∙ rw (passing-product (λ d. eqb d a') (λ e. eqb e b') (axis a) (axis b), passing-axis a a' h h', passing-axis b b' k k', passing-axis c c' l l') refl
+    ∙ rw (
+      passing-product (λ d. eqb d a') (λ e. eqb e b') (axis a) (axis b),
+      passing-axis a a' h h',
+      passing-axis b b' k k',
+      passing-axis c c' l l',
+    ) refl

@@ -1,5 +1,6 @@
 -- A grid of cells: what its proof needs, over plain lists of numbers.
-use Rattle.std.proofs.Common.{◌≡◌, ◌≢◌, ℕ, zero, suc, ◌+◌, ◌*◌, ◌/◌, ◌<◌, ◌≤◌, ◌&&◌, Bool, true, false, cond, eqb, ltb, leb, List, [], ◌∷◌, ◌++◌, length, get_or, refl, sym, ap, ◌∙◌, subst, arith, inl, inr, add-one}
+use Rattle.std.proofs.Common.{◌≡◌, ◌≢◌, ℕ, zero, suc, ◌+◌, ◌*◌, ◌/◌, ◌<◌, ◌≤◌, ◌&&◌, Bool, true, false, cond, eqb, ltb, leb, List, [], ◌∷◌}
+use Rattle.std.proofs.Common.{◌++◌, length, get_or, refl, sym, ap, ◌∙◌, subst, arith, inl, inr, add-one}
 use Rattle.std.proofs.lemmas.Bool.{cases_eq, cases_lt, cases_order, eq-eqb, ne_eqb, le-leb, lt-ltb}
 use Rattle.std.proofs.lemmas.List.Sorted.{sum_by-IsPermutation}
 use Rattle.std.proofs.lemmas.List.Sums.{sum_by-cons}
@@ -19,7 +20,11 @@ cells_near t x y lt l =
 
 -- a number whose square is below that of t is below t
 pub root_below : (a t : ℕ) → a * a < t * t → a < t
-root_below a t l = elim (cases_lt a t) [ inl h ↦ h | inr h ↦ absurd (omega (arith, mul-le-mul_left a h, mul-le-mul_left t h, mul_comm a t)) ]
+root_below a t l = elim (cases_lt a t) [
+  | inl h ↦ h
+  | inr h ↦ absurd
+      (omega (arith, mul-le-mul_left a h, mul-le-mul_left t h, mul_comm a t))
+]
 
 -- ---- how often a number stands in a list
 pub count-append : (q : ℕ) (xs ys : List ℕ) → count q (xs ++ ys) ≡ count q xs + count q ys
@@ -37,11 +42,14 @@ count-filter p q (x ∷ xs) = elim (cases_eq x q) [
   | inr ne ↦ other ne (p x) (p q) (count-filter p q xs)
 ]
   where
-    same : x ≡ q → (b : Bool) → p q ≡ b → count q (filter p xs) ≡ cond (p q) (count q xs) 0 → count q (cond (p x) (x ∷ filter p xs) (filter p xs)) ≡ cond (p q) (count q (x ∷ xs)) 0
-    same e true k rest = let here : p x ≡ true = ap p e ∙ k in let r : count q (filter p xs) ≡ count q xs = rw k at rest in rw (here, k, eq-eqb x q e) (omega (arith, r))
+    same : x ≡ q → (b : Bool) → p q ≡ b → count q (filter p xs) ≡ cond (p q) (count q xs) 0
+        → count q (cond (p x) (x ∷ filter p xs) (filter p xs)) ≡ cond (p q) (count q (x ∷ xs)) 0
+    same e true k rest = let here : p x ≡ true = ap p e ∙ k in let r : count q (filter p xs) ≡ count q xs = rw k at rest in
+        rw (here, k, eq-eqb x q e) (omega (arith, r))
     same e false k rest = let here : p x ≡ false = ap p e ∙ k in let r : count q (filter p xs) ≡ 0 = rw k at rest in rw (here, k) r
 
-    other : x ≢ q → (b c : Bool) → count q (filter p xs) ≡ cond c (count q xs) 0 → count q (cond b (x ∷ filter p xs) (filter p xs)) ≡ cond c (cond (eqb x q) 1 0 + count q xs) 0
+    other : x ≢ q → (b c : Bool) → count q (filter p xs) ≡ cond c (count q xs) 0
+        → count q (cond b (x ∷ filter p xs) (filter p xs)) ≡ cond c (cond (eqb x q) 1 0 + count q xs) 0
     other ne true true rest = rw ne_eqb (omega (arith, rest))
     other ne true false rest = rw ne_eqb (omega (arith, rest))
     other ne false true rest = rw ne_eqb (omega (arith, rest))
@@ -59,7 +67,8 @@ pub count-range : (q a n : ℕ) → count q (range_with_len a n) ≡ cond (leb a
 count-range q a zero = grind (arith, nat_tests)
 count-range q a (suc n) = go (count-range q (a + 1) n)
   where
-    go : count q (range_with_len (a + 1) n) ≡ cond (leb (a + 1) q && ltb q (a + 1 + n)) 1 0 → cond (eqb a q) 1 0 + count q (range_with_len (a + 1) n) ≡ cond (leb a q && ltb q (a + suc n)) 1 0
+    go : count q (range_with_len (a + 1) n) ≡ cond (leb (a + 1) q && ltb q (a + 1 + n)) 1 0
+        → cond (eqb a q) 1 0 + count q (range_with_len (a + 1) n) ≡ cond (leb a q && ltb q (a + suc n)) 1 0
     go r = rw r (grind (arith, nat_tests))
 
 -- ---- rising lists
@@ -70,7 +79,8 @@ IsRising low (x ∷ xs) = (low ≤ x) × IsRising (suc x) xs
 
 pub count_below : (low q : ℕ) (xs : List ℕ) → IsRising low xs → q < low → count q xs ≡ 0
 count_below low q [] h l = refl
-count_below low q (x ∷ xs) h l = let ne : x ≢ q = λ e. absurd (omega (arith, e, h.0)) in rw (ne_eqb x q ne) (omega (arith, count_below (suc x) q xs h.1 (omega (arith, h.0))))
+count_below low q (x ∷ xs) h l = let ne : x ≢ q = λ e. absurd (omega (arith, e, h.0)) in
+    rw (ne_eqb x q ne) (omega (arith, count_below (suc x) q xs h.1 (omega (arith, h.0))))
 
 -- rising lists in which each number stands equally often are equal
 pub same_rising : (low : ℕ) (xs ys : List ℕ) → IsRising low xs → IsRising low ys → ((q : ℕ) → count q xs ≡ count q ys) → xs ≡ ys
@@ -95,7 +105,8 @@ rising_range p a (suc n) = go (p a) (rising_range p (a + 1) n)
     lower [] h = tt
     lower (x ∷ xs) h = (omega (arith, h.0), h.1)
 
-    go : (b : Bool) → IsRising (a + 1) (filter p (range_with_len (a + 1) n)) → IsRising a (cond b (a ∷ filter p (range_with_len (a + 1) n)) (filter p (range_with_len (a + 1) n)))
+    go : (b : Bool) → IsRising (a + 1) (filter p (range_with_len (a + 1) n))
+        → IsRising a (cond b (a ∷ filter p (range_with_len (a + 1) n)) (filter p (range_with_len (a + 1) n)))
     go true h = (omega arith, subst (λ (m : ℕ). IsRising m (filter p (range_with_len (a + 1) n))) (add-one a) h)
     go false h = lower _ h
 
@@ -111,7 +122,8 @@ module _ {C : Type 0} (same : C → C → Bool) (cell : ℕ → C) (chain : C �
   tally q (c ∷ cells) = cond (same c (cell q)) 1 0 + tally q cells
 
   -- where q stands once in the chain of its cell, it is found once for each time that its cell is looked up
-  pub count-found : (q : ℕ) → (keep q ≡ true → (c : C) → same c (cell q) ≡ true → count q (chain c) ≡ 1) → (cells : List C) → count q (found cells) ≡ cond (keep q) (tally q cells) 0
+  pub count-found : (q : ℕ) → (keep q ≡ true → (c : C) → same c (cell q) ≡ true → count q (chain c) ≡ 1) → (cells : List C)
+      → count q (found cells) ≡ cond (keep q) (tally q cells) 0
   count-found q once [] = go (keep q)
     where
       go : (b : Bool) → zero ≡ cond b zero zero
@@ -134,13 +146,15 @@ count_at (x ∷ xs) zero l = rw (eq-eqb x x refl) (omega arith)
 count_at (x ∷ xs) (suc k) l = omega (arith, count_at xs k (omega arith))
 
 -- a sorted list in which no number stands twice rises
-pub rising_sorted : (low : ℕ) (xs : List ℕ) → ((i j : ℕ) → i ≤ j → j < length xs → get_or xs i 0 ≤ get_or xs j 0) → ((k : ℕ) → k < length xs → low ≤ get_or xs k 0) → ((q : ℕ) → count q xs ≤ 1) → IsRising low xs
+pub rising_sorted : (low : ℕ) (xs : List ℕ) → ((i j : ℕ) → i ≤ j → j < length xs → get_or xs i 0 ≤ get_or xs j 0)
+    → ((k : ℕ) → k < length xs → low ≤ get_or xs k 0) → ((q : ℕ) → count q xs ≤ 1) → IsRising low xs
 rising_sorted low [] sorted above once = tt
 rising_sorted low (x ∷ xs) sorted above once = (
   above 0 (omega arith),
   rising_sorted (suc x) xs (λ i j l m. sorted (suc i) (suc j) (omega arith) (omega arith))
       (λ k l. let le : x ≤ get_or xs k 0 = sorted 0 (suc k) (omega arith) (omega arith) in
-      let ne : get_or xs k 0 ≢ x = λ e. (let one : 1 ≤ count x xs = subst (λ (n : ℕ). 1 ≤ count n xs) e (count_at xs k l) in let two = once x in let two' = rw (eq-eqb x x refl) at two in absurd (omega (arith, one, two'))) in
+      let ne : get_or xs k 0 ≢ x = λ e. (let one : 1 ≤ count x xs = subst (λ (n : ℕ). 1 ≤ count n xs) e (count_at xs k l) in
+      let two = once x in let two' = rw (eq-eqb x x refl) at two in absurd (omega (arith, one, two'))) in
       omega (arith, le, ne))
       (λ q. omega (arith, once q)),
 )
@@ -164,11 +178,13 @@ module _ {C : Type 0} (same : C → C → Bool) (cell : ℕ → C) (chain : C �
       go true e = count-range q a n ∙ rw (le-leb a q (in_range q e).0, lt-ltb q (a + n) (in_range q e).1) refl
       go false e = refl
 
-  pub row_is : (ys : List ℕ) → IsPermutation (found same cell chain keep around) ys → ((i j : ℕ) → i ≤ j → j < length ys → get_or ys i 0 ≤ get_or ys j 0) → ys ≡ filter keep (range_with_len a n)
+  pub row_is : (ys : List ℕ) → IsPermutation (found same cell chain keep around) ys
+      → ((i j : ℕ) → i ≤ j → j < length ys → get_or ys i 0 ≤ get_or ys j 0) → ys ≡ filter keep (range_with_len a n)
   row_is ys moved sorted =
       let counts : (q : ℕ) → count q ys ≡ cond (keep q) 1 0 = λ q. count-permutation q _ ys moved ∙ count-kept q in
       same_rising a ys (filter keep (range_with_len a n))
-      (rising_sorted a ys sorted (λ k l. above (get_or ys k 0) (keep (get_or ys k 0)) refl (rw (counts (get_or ys k 0)) at (count_at ys k l))) (λ q. rw (counts q) (small (keep q))))
+      (rising_sorted a ys sorted (λ k l. above (get_or ys k 0) (keep (get_or ys k 0)) refl
+      (rw (counts (get_or ys k 0)) at (count_at ys k l))) (λ q. rw (counts q) (small (keep q))))
       (rising_range keep a n) (λ q. counts q ∙ sym (count-row q))
     where
       small : (b : Bool) → cond b 1 0 ≤ 1

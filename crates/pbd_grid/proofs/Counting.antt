@@ -1,5 +1,7 @@
 -- How often chains are read.
-use Rattle.std.proofs.Common.{◌≡◌, ℕ, zero, suc, ◌+◌, ◌-◌, ◌*◌, ◌/◌, ◌%◌, ◌<◌, ◌≤◌, ◌^◌, ◌&&◌, Bool, true, false, cond, eqb, ltb, List, [], ◌∷◌, length, map, take, set, Some, slice_get, refl, sym, ap, ◌∙◌, subst, arith, inl, inr, add-one, length-append}
+use Rattle.std.proofs.Common.{◌≡◌, ℕ, zero, suc, ◌+◌, ◌-◌, ◌*◌, ◌/◌, ◌%◌, ◌<◌, ◌≤◌, ◌^◌, ◌&&◌, Bool, true, false, cond, eqb, ltb, List, []}
+use Rattle.std.proofs.Common.{◌∷◌, length, map, take, set, Some, slice_get, refl, sym, ap, ◌∙◌, subst, arith, inl, inr, add-one}
+use Rattle.std.proofs.Common.{length-append}
 use Rattle.std.proofs.lemmas.Bool.{cases_eq, cases_lt, eq-eqb, ne_eqb, lt-ltb}
 use Rattle.std.proofs.lemmas.Bool.Decides.{nat_tests}
 use Rattle.std.proofs.lemmas.List.{get_or-set_same, get_or-set_other, map-append, take_all}
@@ -11,20 +13,14 @@ use Rattle.std.specs.List.{filter, range_with_len, sum_by}
 use Rattle.pbd_chain.specs.Linked.{chain_at}
 use Rattle.pbd_chain.proofs.Walks.{take_get}
 use Rattle.pbd_num.specs.declared.Vec3.{Vec3}
-use Rattle.pbd_grid.specs.declared.lookup.Cell.{Cell}
+use Rattle.pbd_grid.specs.declared.lookup.GridCell.{GridCell}
 use Rattle.pbd_grid.specs.Blocks.{AreLaid, IsFalling, beside, slot_of, corner_of, cube_at, cell_at}
 use Rattle.pbd_grid.specs.Looks.{looks_in, looks_round, looks_before}
 use Rattle.pbd_grid.proofs.Finding.{range_more}
 use Rattle.pbd_grid.proofs.Walking.{all_before}
+use Rattle.pbd_world.proofs.CountingOn.{filter_length}
 
 -- ---- those that pass a test
-pub passing_few : (test : ℕ → Bool) (xs : List ℕ) → length (filter test xs) ≤ length xs
-passing_few test [] = omega arith
-passing_few test (x ∷ xs) = go (test x) (passing_few test xs)
-  where
-    go : (b : Bool) → length (filter test xs) ≤ length xs → length (cond b (x ∷ filter test xs) (filter test xs)) ≤ suc (length xs)
-    go true h = omega (arith, h)
-    go false h = omega (arith, h)
 
 pub first_few : (test : ℕ → Bool) (k : ℕ) (xs : List ℕ) → length (filter test (take k xs)) ≤ k
 first_few test zero xs = omega arith
@@ -63,22 +59,27 @@ module _ {chain : List ℕ} {i k looks : ℕ} (h : HasLooked chain i k looks) wh
   looked_all l = h.count ∙ ap (λ (xs : List ℕ). 1 + length (filter (ltb i) xs)) (take_all k chain l)
 
   pub looked_behind : (high j : ℕ) → IsFalling high chain → slice_get chain k ≡ Some j → j ≤ i → looks ≡ 1 + length (filter (ltb i) chain)
-  looked_behind high j falls e l = h.count ∙ ap (λ (xs : List ℕ). 1 + length xs) (all_before (ltb i) i (not_behind i) high chain k j falls e l)
+  looked_behind high j falls e l = h.count ∙ ap (λ (xs : List ℕ). 1 + length xs)
+      (all_before (ltb i) i (not_behind i) high chain k j falls e l)
 
-pub looks_are : {chains : List (List ℕ)} {count t : ℕ} {cubes : List Cell} {places : List Vec3} → AreLaid chains count cubes places t → (i : ℕ) (c : Cell) (looks s : ℕ) → s ≡ slot_of count c → s < count
+pub looks_are : {chains : List (List ℕ)} {count t : ℕ} {cubes : List GridCell} {places : List Vec3} → AreLaid chains count cubes places t
+    → (i : ℕ) (c : GridCell) (looks s : ℕ) → s ≡ slot_of count c → s < count
     → looks ≡ 1 + length (filter (ltb i) (chain_at chains (slot_of (length chains) c))) → looks ≡ looks_in count t places i c
 looks_are {chains = chains} {count = count} h i c looks s is l e =
-    e ∙ ap (λ (n : ℕ). 1 + length (filter (ltb i) (chain_at chains (slot_of n c)))) h.counted ∙ ap (λ (n : ℕ). 1 + n) (h.shared i (slot_of count c) (omega (arith, is, l)))
+    e ∙ ap (λ (n : ℕ). 1 + length (filter (ltb i) (chain_at chains (slot_of n c)))) h.counted
+    ∙ ap (λ (n : ℕ). 1 + n) (h.shared i (slot_of count c) (omega (arith, is, l)))
 
 -- ---- those behind i in a chain that is filled from 0 on
 linked_behind : (xss : List (List ℕ)) (c i : ℕ) → c < length xss → (j s : ℕ)
-    → length (filter (ltb j) (chain_at (set xss c (i ∷ chain_at xss c)) s)) ≡ length (filter (ltb j) (chain_at xss s)) + cond (ltb j i && eqb c s) 1 0
+    → length (filter (ltb j) (chain_at (set xss c (i ∷ chain_at xss c)) s))
+    ≡ length (filter (ltb j) (chain_at xss s)) + cond (ltb j i && eqb c s) 1 0
 linked_behind xss c i l j s = elim (cases_eq c s) [
   | inl e ↦ rw (← e, get_or-set_same xss c (i ∷ chain_at xss c) [] l, eq-eqb c c refl) (go (ltb j i))
   | inr ne ↦ rw (get_or-set_other xss c s (i ∷ chain_at xss c) [] (λ e. ne (sym e)), ne_eqb c s ne) (none (ltb j i))
 ]
   where
-    go : (b : Bool) → length (cond b (i ∷ filter (ltb j) (chain_at xss c)) (filter (ltb j) (chain_at xss c))) ≡ length (filter (ltb j) (chain_at xss c)) + cond (b && true) 1 0
+    go : (b : Bool) → length (cond b (i ∷ filter (ltb j) (chain_at xss c)) (filter (ltb j) (chain_at xss c)))
+        ≡ length (filter (ltb j) (chain_at xss c)) + cond (b && true) 1 0
     go true = omega arith
     go false = omega arith
 
@@ -87,7 +88,8 @@ linked_behind xss c i l j s = elim (cases_eq c s) [
     none false = omega arith
 
 range_behind : (test : ℕ → Bool) (i j : ℕ)
-    → length (filter test (range_with_len (j + 1) (i + 1 - (j + 1)))) ≡ length (filter test (range_with_len (j + 1) (i - (j + 1)))) + cond (ltb j i && test i) 1 0
+    → length (filter test (range_with_len (j + 1) (i + 1 - (j + 1))))
+    ≡ length (filter test (range_with_len (j + 1) (i - (j + 1)))) + cond (ltb j i && test i) 1 0
 range_behind test i j = elim (cases_lt j i) [
   | inl l ↦ (
       let here : ltb j i ≡ true = grind (arith, nat_tests) in
@@ -104,7 +106,8 @@ range_behind test i j = elim (cases_lt j i) [
       ap (λ (n : ℕ). length (filter test (range_with_len (j + 1) n))) same ∙ rw here (omega arith))
 ]
   where
-    go : (b : Bool) → length (filter test (range_with_len (j + 1) (i - (j + 1)))) + length (cond b (i ∷ []) []) ≡ length (filter test (range_with_len (j + 1) (i - (j + 1)))) + cond b 1 0
+    go : (b : Bool) → length (filter test (range_with_len (j + 1) (i - (j + 1)))) + length (cond b (i ∷ []) [])
+        ≡ length (filter test (range_with_len (j + 1) (i - (j + 1)))) + cond b 1 0
     go true = refl
     go false = refl
 
@@ -114,14 +117,16 @@ AreBehind slot chains n i = (j s : ℕ) → s < n
     → length (filter (ltb j) (chain_at chains s)) ≡ length (filter (λ q. eqb (slot q) s) (range_with_len (j + 1) (i - (j + 1))))
 
 pub AreBehind-none : (slot : ℕ → ℕ) (xss : List (List ℕ)) (n : ℕ) → AreBehind slot (map (λ _. []) xss) n 0
-AreBehind-none slot xss n j s l = none xss s ∙ ap (λ (m : ℕ). length (filter (λ q. eqb (slot q) s) (range_with_len (j + 1) m))) (let e : 0 ≡ 0 - (j + 1) = omega arith in e)
+AreBehind-none slot xss n j s l = none xss s ∙ ap (λ (m : ℕ). length (filter (λ q. eqb (slot q) s) (range_with_len (j + 1) m)))
+    (let e : 0 ≡ 0 - (j + 1) = omega arith in e)
   where
     none : (yss : List (List ℕ)) (p : ℕ) → length (filter (ltb j) (chain_at (map (λ _. []) yss) p)) ≡ 0
     none [] p = refl
     none (ys ∷ yss) zero = refl
     none (ys ∷ yss) (suc p) = none yss p
 
-pub AreBehind-more : (slot : ℕ → ℕ) (xss : List (List ℕ)) (n i c : ℕ) → c < length xss → c ≡ slot i → AreBehind slot xss n i → AreBehind slot (set xss c (i ∷ chain_at xss c)) n (i + 1)
+pub AreBehind-more : (slot : ℕ → ℕ) (xss : List (List ℕ)) (n i c : ℕ) → c < length xss → c ≡ slot i → AreBehind slot xss n i
+    → AreBehind slot (set xss c (i ∷ chain_at xss c)) n (i + 1)
 AreBehind-more slot xss n i c l is h j s ls =
     linked_behind xss c i l j s
     ∙ ap (λ (m : ℕ). m + cond (ltb j i && eqb c s) 1 0) (h j s ls)
@@ -130,39 +135,45 @@ AreBehind-more slot xss n i c l is h j s ls =
 
 -- ---- sums of readings
 module _ (count t : ℕ) (places : List Vec3) where
-  pub in_few : (i : ℕ) (c : Cell) → i < length places → looks_in count t places i c ≤ length places
+  pub in_few : (i : ℕ) (c : GridCell) → i < length places → looks_in count t places i c ≤ length places
   in_few i c l = omega (
     arith,
     l,
-    passing_few (λ q. eqb (slot_of count (cell_at t places q)) (slot_of count c)) (range_with_len (i + 1) (length places - (i + 1))),
+    filter_length (λ q. eqb (slot_of count (cell_at t places q)) (slot_of count c)) (range_with_len (i + 1) (length places - (i + 1))),
     length-range_with_len (i + 1) (length places - (i + 1)),
   )
 
-  module _ (i : ℕ) (from : Cell) where
+  module _ (i : ℕ) (from : GridCell) where
     pub round_none : looks_round count t places i from 0 ≡ 0
     unfolding looks_round
     round_none = refl
 
-    pub round_more : (k : ℕ) → looks_round count t places i from (k + 1) ≡ looks_round count t places i from k + looks_in count t places i (beside from (k % 2) (k / 2 % 2) (k / 4))
+    pub round_more : (k : ℕ) → looks_round count t places i from (k + 1)
+        ≡ looks_round count t places i from k + looks_in count t places i (beside from (k % 2) (k / 2 % 2) (k / 4))
     unfolding looks_round
-    round_more k = ap (λ (ns : List ℕ). sum_by (looks_in count t places i) (map (λ n. beside from (n % 2) (n / 2 % 2) (n / 4)) ns)) (range_more 0 k k (omega arith))
+    round_more k = ap (λ (ns : List ℕ). sum_by (looks_in count t places i) (map (λ n. beside from (n % 2) (n / 2 % 2) (n / 4)) ns))
+        (range_more 0 k k (omega arith))
         ∙ ap (sum_by (looks_in count t places i)) (map-append (λ n. beside from (n % 2) (n / 2 % 2) (n / 4)) (range_with_len 0 k) (k ∷ []))
-        ∙ sum_by_push (looks_in count t places i) (map (λ n. beside from (n % 2) (n / 2 % 2) (n / 4)) (range_with_len 0 k)) (beside from (k % 2) (k / 2 % 2) (k / 4))
+        ∙ sum_by_push (looks_in count t places i) (map (λ n. beside from (n % 2) (n / 2 % 2) (n / 4)) (range_with_len 0 k))
+        (beside from (k % 2) (k / 2 % 2) (k / 4))
 
-    pub round_added : (k looks more : ℕ) (c : Cell) → looks ≡ looks_round count t places i from k → c ≡ beside from (k % 2) (k / 2 % 2) (k / 4) → more ≡ looks_in count t places i c
+    pub round_added : (k looks more : ℕ) (c : GridCell) → looks ≡ looks_round count t places i from k
+        → c ≡ beside from (k % 2) (k / 2 % 2) (k / 4) → more ≡ looks_in count t places i c
         → looks + more ≡ looks_round count t places i from (k + 1)
     round_added k looks more c e is f = omega (arith, e, f, ap (looks_in count t places i) is, round_more k)
 
     pub round_few : i < length places → (k : ℕ) → looks_round count t places i from k ≤ length places * k
     round_few l zero = omega (arith, round_none)
     round_few l (suc k) =
-        let e : looks_round count t places i from (suc k) ≡ looks_round count t places i from (k + 1) = ap (looks_round count t places i from) (sym (add-one k)) in
+        let e : looks_round count t places i from (suc k) ≡ looks_round count t places i from (k + 1) =
+        ap (looks_round count t places i from) (sym (add-one k)) in
         omega (arith, e, round_more k, round_few l k, in_few i (beside from (k % 2) (k / 2 % 2) (k / 4)) l)
 
     round_least : (k : ℕ) → k ≤ looks_round count t places i from k
     round_least zero = omega arith
     round_least (suc k) =
-        let e : looks_round count t places i from (suc k) ≡ looks_round count t places i from (k + 1) = ap (looks_round count t places i from) (sym (add-one k)) in
+        let e : looks_round count t places i from (suc k) ≡ looks_round count t places i from (k + 1) =
+        ap (looks_round count t places i from) (sym (add-one k)) in
         omega (arith, e, round_more k, round_least k)
 
     pub round_small : i < length places → (k : ℕ) → k ≤ 8 → looks_round count t places i from k ≤ 8 * length places
@@ -181,9 +192,11 @@ module _ (count t : ℕ) (places : List Vec3) where
   before_more n = ap (sum_by looks_of) (range_more 0 n n (omega arith)) ∙ sum_by_push looks_of (range_with_len 0 n) n
 
   pub before_le : (n m : ℕ) → looks_before count t places n ≤ looks_before count t places (n + m)
-  before_le n zero = let e : looks_before count t places (n + zero) ≡ looks_before count t places n = ap (looks_before count t places) (omega arith) in omega (arith, e)
+  before_le n zero = let e : looks_before count t places (n + zero)
+      ≡ looks_before count t places n = ap (looks_before count t places) (omega arith) in omega (arith, e)
   before_le n (suc m) =
-      let e : looks_before count t places (n + suc m) ≡ looks_before count t places (n + m + 1) = ap (looks_before count t places) (omega arith) in
+      let e : looks_before count t places (n + suc m) ≡ looks_before count t places (n + m + 1) =
+      ap (looks_before count t places) (omega arith) in
       omega (arith, e, before_more (n + m), before_le n m)
 
   pub before_all : (n : ℕ) → n ≤ length places → looks_before count t places n ≤ looks_before count t places (length places)
@@ -195,15 +208,28 @@ module _ (count t : ℕ) (places : List Vec3) where
   pub before_few : (n : ℕ) → n ≤ length places → looks_before count t places n ≤ 8 * length places * n
   before_few zero l = omega (arith, before_none)
   before_few (suc n) l =
-      let e : looks_before count t places (suc n) ≡ looks_before count t places (n + 1) = ap (looks_before count t places) (sym (add-one n)) in
-      omega (arith, e, before_more n, before_few n (omega (arith, l)), round_small n (corner_of (cube_at t places n)) (omega (arith, l)) 8 (omega arith))
+      let e : looks_before count t places (suc n) ≡ looks_before count t places (n + 1) =
+      ap (looks_before count t places) (sym (add-one n)) in
+      omega (
+        arith,
+        e,
+        before_more n,
+        before_few n (omega (arith, l)),
+        round_small n (corner_of (cube_at t places n)) (omega (arith, l)) 8 (omega arith),
+      )
 
   pub before_small : (n : ℕ) → n ≤ length places → length places ≤ 65536 → looks_before count t places n ≤ 2 ^ 35
-  before_small n l few = omega (arith, before_few n l, few, mul-le-mul_left (8 * length places) (let m : n ≤ 65536 = omega (arith, l, few) in m))
+  before_small n l few = omega (
+    arith,
+    before_few n l,
+    few,
+    mul-le-mul_left (8 * length places) (let m : n ≤ 65536 = omega (arith, l, few) in m),
+  )
 
   -- and eight at least
   pub before_least : (n : ℕ) → 8 * n ≤ looks_before count t places n
   before_least zero = omega arith
   before_least (suc n) =
-      let e : looks_before count t places (suc n) ≡ looks_before count t places (n + 1) = ap (looks_before count t places) (sym (add-one n)) in
+      let e : looks_before count t places (suc n) ≡ looks_before count t places (n + 1) =
+      ap (looks_before count t places) (sym (add-one n)) in
       omega (arith, e, before_more n, before_least n, round_least n (corner_of (cube_at t places n)) 8)

@@ -1,5 +1,6 @@
 -- Near pairs row by row.
-use Rattle.std.proofs.Common.{◌≡◌, ℕ, zero, suc, ◌+◌, ◌-◌, ◌<◌, ◌≤◌, ◌&&◌, Bool, cond, ℤ, List, [], ◌∷◌, ◌++◌, length, map, refl, sym, ap, ◌∙◌, arith, add-one, length-append}
+use Rattle.std.proofs.Common.{◌≡◌, ℕ, zero, suc, ◌+◌, ◌-◌, ◌<◌, ◌≤◌, ◌&&◌, Bool, cond, ℤ, List, [], ◌∷◌, ◌++◌, length, map, refl, sym, ap}
+use Rattle.std.proofs.Common.{◌∙◌, arith, add-one, length-append}
 use Rattle.std.proofs.lemmas.List.{append-nil, map-append}
 use Rattle.std.proofs.lemmas.List.Concat.{flat_map-append}
 use Rattle.std.proofs.lemmas.List.Elements.{filter-append}
@@ -11,7 +12,8 @@ use Rattle.pbd_grid.specs.Near.{place_at, is_near, near_pairs}
 
 pub range_push : (a n : ℕ) → range_with_len a (suc n) ≡ range_with_len a n ++ (a + n) ∷ []
 range_push a zero = ap (λ (x : ℕ). x ∷ []) (omega arith)
-range_push a (suc n) = ap (λ (xs : List ℕ). a ∷ xs) (range_push (a + 1) n ∙ ap (λ (x : ℕ). range_with_len (a + 1) n ++ x ∷ []) (omega arith))
+range_push a (suc n) = ap (λ (xs : List ℕ). a ∷ xs) (range_push (a + 1) n
+    ∙ ap (λ (x : ℕ). range_with_len (a + 1) n ++ x ∷ []) (omega arith))
 
 pub range_more : (a n j : ℕ) → j ≡ a + n → range_with_len a (n + 1) ≡ range_with_len a n ++ j ∷ []
 range_more a n j e = ap (range_with_len a) (add-one n) ∙ range_push a n ∙ ap (λ (x : ℕ). range_with_len a n ++ x ∷ []) (sym e)
@@ -41,19 +43,44 @@ module _ (places : List Vec3) (t : ℤ) (test : ℕ → ℕ → Bool) where
   rows_le : (i k : ℕ) → length (rows i) ≤ length (rows (i + k))
   rows_le i zero = let e : length (rows (i + zero)) ≡ length (rows i) = ap (λ (n : ℕ). length (rows n)) (omega arith) in omega (arith, e)
   rows_le i (suc k) = let e : length (rows (i + suc k)) ≡ length (rows (i + k + 1)) = ap (λ (n : ℕ). length (rows n)) (omega arith) in
-      omega (arith, e, rows_le i k, ap length (rows_more (i + k)), length-append (rows (i + k)) (part (i + k) (length places - (i + k + 1))))
+      omega (
+        arith,
+        e,
+        rows_le i k,
+        ap length (rows_more (i + k)),
+        length-append (rows (i + k)) (part (i + k) (length places - (i + k + 1))),
+      )
 
   part_le : (i m k : ℕ) → length (part i m) ≤ length (part i (m + k))
-  part_le i m zero = let e : length (part i (m + zero)) ≡ length (part i m) = ap (λ (n : ℕ). length (part i n)) (omega arith) in omega (arith, e)
-  part_le i m (suc k) = let e : length (part i (m + suc k)) ≡ length (part i (m + k + 1)) = ap (λ (n : ℕ). length (part i n)) (omega arith) in
-      omega (arith, e, part_le i m k, ap length (part_more i (m + k) (i + 1 + (m + k)) refl), length-append (part i (m + k)) (cond (keeps places t test (i, i + 1 + (m + k))) ((i, i + 1 + (m + k)) ∷ []) []))
+  part_le i m zero = let e : length (part i (m + zero)) ≡ length (part i m) = ap (λ (n : ℕ). length (part i n)) (omega arith) in
+      omega (arith, e)
+  part_le i m (suc k) = let e : length (part i (m + suc k))
+      ≡ length (part i (m + k + 1)) = ap (λ (n : ℕ). length (part i n)) (omega arith) in
+      omega (
+        arith,
+        e,
+        part_le i m k,
+        ap length (part_more i (m + k) (i + 1 + (m + k)) refl),
+        length-append (part i (m + k)) (cond (keeps places t test (i, i + 1 + (m + k))) ((i, i + 1 + (m + k)) ∷ []) []),
+      )
 
   -- there are no more of them than of all
-  pub found_le : (i m : ℕ) → i < length places → m ≤ length places - (i + 1) → length (rows i) + length (part i m) ≤ length (near_pairs places t test)
+  pub found_le : (i m : ℕ) → i < length places → m ≤ length places - (i + 1)
+      → length (rows i) + length (part i m) ≤ length (near_pairs places t test)
   found_le i m li lm =
-      let a : length (part i (m + (length places - (i + 1) - m))) ≡ length (part i (length places - (i + 1))) = ap (λ (n : ℕ). length (part i n)) (omega arith) in
-      let b : length (rows (i + 1 + (length places - (i + 1)))) ≡ length (rows (length places)) = ap (λ (n : ℕ). length (rows n)) (omega arith) in
-      omega (arith, a, b, part_le i m (length places - (i + 1) - m), ap length (rows_more i), length-append (rows i) (part i (length places - (i + 1))), rows_le (i + 1) (length places - (i + 1)))
+      let a : length (part i (m + (length places - (i + 1) - m)))
+      ≡ length (part i (length places - (i + 1))) = ap (λ (n : ℕ). length (part i n)) (omega arith) in
+      let b : length (rows (i + 1 + (length places - (i + 1))))
+      ≡ length (rows (length places)) = ap (λ (n : ℕ). length (rows n)) (omega arith) in
+      omega (
+        arith,
+        a,
+        b,
+        part_le i m (length places - (i + 1) - m),
+        ap length (rows_more i),
+        length-append (rows i) (part i (length places - (i + 1))),
+        rows_le (i + 1) (length places - (i + 1)),
+      )
 
   -- before row i
   pub record IsFoundRows (i : ℕ) (old new : Roomed (ℕ × ℕ)) : Type 0 where

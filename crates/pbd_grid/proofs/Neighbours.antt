@@ -1,5 +1,6 @@
 -- The look-ups round a particle find its row.
-use Rattle.std.proofs.Common.{◌≡◌, ℕ, suc, ◌+◌, ◌-◌, ◌<◌, ◌≤◌, ◌&&◌, Bool, true, false, cond, eqb, ltb, pos, ◌-ℤ◌, unsigned_abs, List, [], ◌∷◌, ◌++◌, length, map, get_or, refl, sym, ap, ◌∙◌, subst, arith}
+use Rattle.std.proofs.Common.{◌≡◌, ℕ, suc, ◌+◌, ◌-◌, ◌<◌, ◌≤◌, ◌&&◌, Bool, true, false, cond, eqb, ltb, pos, ◌-ℤ◌, unsigned_abs, List, []}
+use Rattle.std.proofs.Common.{◌∷◌, ◌++◌, length, map, get_or, refl, sym, ap, ◌∙◌, subst, arith}
 use Rattle.std.proofs.lemmas.Bool.{eqb-true, and_parts, lt-ltb}
 use Rattle.std.specs.List.{range_with_len, filter}
 use Rattle.std.specs.List.Sorted.{IsPermutation}
@@ -8,42 +9,47 @@ use Rattle.pbd_world.specs.Room.{Roomed}
 use Rattle.pbd_world.specs.Lending.{overwritten, overwritten_is}
 use Rattle.pbd_chain.specs.Linked.{chain_at}
 use Rattle.pbd_num.specs.declared.Vec3.{Vec3}
-use Rattle.pbd_grid.specs.declared.lookup.Cell.{Cell}
+use Rattle.pbd_grid.specs.declared.lookup.GridCell.{GridCell}
 use Rattle.pbd_grid.specs.Near.{place_at, AllInside, is_near, near_pairs}
-use Rattle.pbd_grid.specs.Blocks.{count, axis_cell, cube_of, cube_at, home_of, corner_of, cell_at, same_cell, slot_of, keep, kept_row, all_picked, block_part, AreOnce}
+use Rattle.pbd_grid.specs.Blocks.{count, axis_cell, cube_of, cube_at, home_of, corner_of, cell_at, same_cell, slot_of, keep, kept_row}
+use Rattle.pbd_grid.specs.Blocks.{all_picked, block_part, AreOnce}
 use Rattle.pbd_grid.proofs.Cells.{tally, count-kept, row_is}
 use Rattle.pbd_grid.proofs.Around.{passing, around, passing-around}
 use Rattle.pbd_grid.proofs.Finding.{keeps, rows, part, rows_more, found_le, IsFoundRows}
 use Rattle.pbd_grid.proofs.Looking.{axis_near, home_from, home_to, gap_turn}
 use Rattle.pbd_grid.proofs.Behind.{near_x, near_y, near_z, few_numbers, lt_of}
 
-cell_parts : (c d : Cell) → c.x ≡ d.x → c.y ≡ d.y → c.z ≡ d.z → c ≡ d
-cell_parts c d e f g = let whole : ℕ → ℕ → ℕ → Cell = λ x y z. record { x = x; y = y; z = z } in
+cell_parts : (c d : GridCell) → c.x ≡ d.x → c.y ≡ d.y → c.z ≡ d.z → c ≡ d
+cell_parts c d e f g = let whole : ℕ → ℕ → ℕ → GridCell = λ x y z. record { x = x; y = y; z = z } in
     ap (λ (n : ℕ). whole n c.y c.z) e ∙ ap (λ (n : ℕ). whole d.x n c.z) f ∙ ap (λ (n : ℕ). whole d.x d.y n) g
 
-cell_same : (c d : Cell) → same_cell c d ≡ true → c ≡ d
+cell_same : (c d : GridCell) → same_cell c d ≡ true → c ≡ d
 cell_same c d h =
     let u = and_parts (eqb c.z d.z && eqb c.y d.y) (eqb c.x d.x) h in let v = and_parts (eqb c.z d.z) (eqb c.y d.y) u.0 in
     cell_parts c d (eqb-true c.x d.x u.1) (eqb-true c.y d.y v.1) (eqb-true c.z d.z v.0)
 
-abbrev to_cells : List ((ℕ × ℕ) × ℕ) → List Cell
+abbrev to_cells : List ((ℕ × ℕ) × ℕ) → List GridCell
 to_cells [] = []
 to_cells (z ∷ zs) = record { x = z.1; y = z.0.1; z = z.0.0 } ∷ to_cells zs
 
 -- the eight cells from a corner on are those round it
-block_is : (c : Cell) → block_part c 8 ≡ to_cells (around c.z c.y c.x)
+block_is : (c : GridCell) → block_part c 8 ≡ to_cells (around c.z c.y c.x)
 block_is c = refl
 
 module _ (chains : List (List ℕ)) (side : ℕ) (places : List Vec3) (test : ℕ → ℕ → Bool) (i : ℕ) where
-  abbrev chain_for : Cell → List ℕ
+  abbrev chain_for : GridCell → List ℕ
   chain_for c = chain_at chains (slot_of (length chains) c)
 
-  tally_passing : (q : ℕ) (zs : List ((ℕ × ℕ) × ℕ)) → tally same_cell (cell_at side places) chain_for (keep places side test i) q (to_cells zs)
-      ≡ passing (λ (z : (ℕ × ℕ) × ℕ). eqb z.0.0 (cell_at side places q).z && eqb z.0.1 (cell_at side places q).y && eqb z.1 (cell_at side places q).x) zs
+  tally_passing : (q : ℕ) (zs : List ((ℕ × ℕ) × ℕ)) → tally same_cell (cell_at side places) chain_for (keep places side test i) q
+      (to_cells zs)
+      ≡ passing (λ (z : (ℕ × ℕ) × ℕ). eqb z.0.0 (cell_at side places q).z && eqb z.0.1 (cell_at side places q).y
+      && eqb z.1 (cell_at side places q).x) zs
   tally_passing q [] = refl
-  tally_passing q (z ∷ zs) = ap (λ (n : ℕ). cond (eqb z.0.0 (cell_at side places q).z && eqb z.0.1 (cell_at side places q).y && eqb z.1 (cell_at side places q).x) 1 0 + n) (tally_passing q zs)
+  tally_passing q (z ∷ zs) = ap (λ (n : ℕ). cond (eqb z.0.0 (cell_at side places q).z && eqb z.0.1 (cell_at side places q).y
+      && eqb z.1 (cell_at side places q).x) 1 0 + n) (tally_passing q zs)
 
-  kept_parts : (q : ℕ) → keep places side test i q ≡ true → (q < length places) × (i < q) × (is_near (pos side) (place_at places i) (place_at places q) ≡ true)
+  kept_parts : (q : ℕ) → keep places side test i q ≡ true
+      → (q < length places) × (i < q) × (is_near (pos side) (place_at places i) (place_at places q) ≡ true)
   kept_parts q e =
       let a = and_parts ((ltb q (length places) && ltb i q) && is_near (pos side) (place_at places i) (place_at places q)) (test i q) e in
       let b = and_parts (ltb q (length places) && ltb i q) (is_near (pos side) (place_at places i) (place_at places q)) a.0 in
@@ -51,8 +57,9 @@ module _ (chains : List (List ℕ)) (side : ℕ) (places : List Vec3) (test : �
       (lt_of q (length places) d.0, lt_of i q d.1, b.1)
 
   module _ (inside : AllInside places) (low : 0 < side) (li : i < length places) (once : AreOnce chains side places) where
-    once_in : (q : ℕ) → keep places side test i q ≡ true → (c : Cell) → same_cell c (cell_at side places q) ≡ true → count q (chain_for c) ≡ 1
-    once_in q e c s = ap (λ (d : Cell). count q (chain_for d)) (cell_same c (cell_at side places q) s) ∙ once q (kept_parts q e).0
+    once_in : (q : ℕ) → keep places side test i q ≡ true → (c : GridCell) → same_cell c (cell_at side places q) ≡ true
+        → count q (chain_for c) ≡ 1
+    once_in q e c s = ap (λ (d : GridCell). count q (chain_for d)) (cell_same c (cell_at side places q) s) ∙ once q (kept_parts q e).0
 
     adjacent : (q : ℕ) → keep places side test i q ≡ true
         → tally same_cell (cell_at side places) chain_for (keep places side test i) q (block_part (corner_of (cube_at side places i)) 8) ≡ 1
@@ -70,9 +77,12 @@ module _ (chains : List (List ℕ)) (side : ℕ) (places : List Vec3) (test : �
         ap (tally same_cell (cell_at side places) chain_for (keep places side test i) q) (block_is around_a)
         ∙ tally_passing q (around around_a.z around_a.y around_a.x)
         ∙ passing-around around_a.z around_a.y around_a.x home_b.z home_b.y home_b.x
-        (home_from (axis_cell side a.z) (axis_cell side b.z) (axis_near side a.z b.z ia.z ib.z low dz)) (home_to (axis_cell side a.z) (axis_cell side b.z) (axis_near side b.z a.z ib.z ia.z low ez))
-        (home_from (axis_cell side a.y) (axis_cell side b.y) (axis_near side a.y b.y ia.y ib.y low dy)) (home_to (axis_cell side a.y) (axis_cell side b.y) (axis_near side b.y a.y ib.y ia.y low ey))
-        (home_from (axis_cell side a.x) (axis_cell side b.x) (axis_near side a.x b.x ia.x ib.x low dx)) (home_to (axis_cell side a.x) (axis_cell side b.x) (axis_near side b.x a.x ib.x ia.x low ex))
+        (home_from (axis_cell side a.z) (axis_cell side b.z) (axis_near side a.z b.z ia.z ib.z low dz))
+        (home_to (axis_cell side a.z) (axis_cell side b.z) (axis_near side b.z a.z ib.z ia.z low ez))
+        (home_from (axis_cell side a.y) (axis_cell side b.y) (axis_near side a.y b.y ia.y ib.y low dy))
+        (home_to (axis_cell side a.y) (axis_cell side b.y) (axis_near side b.y a.y ib.y ia.y low ey))
+        (home_from (axis_cell side a.x) (axis_cell side b.x) (axis_near side a.x b.x ia.x ib.x low dx))
+        (home_to (axis_cell side a.x) (axis_cell side b.x) (axis_near side b.x a.x ib.x ia.x low ex))
 
     in_range : (q : ℕ) → keep places side test i q ≡ true → (i + 1 ≤ q) × (q < i + 1 + (length places - (i + 1)))
     in_range q e = let k = kept_parts q e in (omega (arith, k.1), omega (arith, k.0, k.1))
@@ -83,7 +93,8 @@ module _ (chains : List (List ℕ)) (side : ℕ) (places : List Vec3) (test : �
     row_of ys moved sorted = row_is same_cell (cell_at side places) chain_for (keep places side test i)
         (block_part (corner_of (cube_at side places i)) 8) (i + 1) (length places - (i + 1)) once_in adjacent in_range ys moved sorted
 
-    counted : (q : ℕ) → count q (all_picked chains places side test i (block_part (corner_of (cube_at side places i)) 8)) ≡ cond (keep places side test i q) 1 0
+    counted : (q : ℕ) → count q (all_picked chains places side test i (block_part (corner_of (cube_at side places i)) 8))
+        ≡ cond (keep places side test i q) 1 0
     unfolding all_picked
     counted q = count-kept same_cell (cell_at side places) chain_for (keep places side test i)
         (block_part (corner_of (cube_at side places i)) 8) (i + 1) (length places - (i + 1)) once_in adjacent in_range q
@@ -112,32 +123,41 @@ length_pairs : (f : ℕ → ℕ × ℕ) (xs : List ℕ) → length (map f xs) �
 length_pairs f [] = refl
 length_pairs f (x ∷ xs) = ap suc (length_pairs f xs)
 
-map_filter : (f : ℕ → ℕ × ℕ) (p : ℕ × ℕ → Bool) (r : ℕ → Bool) (xs : List ℕ) → ((k : ℕ) → k < length xs → r (get_or xs k 0) ≡ p (f (get_or xs k 0))) → map f (filter r xs) ≡ filter p (map f xs)
+map_filter : (f : ℕ → ℕ × ℕ) (p : ℕ × ℕ → Bool) (r : ℕ → Bool) (xs : List ℕ)
+    → ((k : ℕ) → k < length xs → r (get_or xs k 0) ≡ p (f (get_or xs k 0))) → map f (filter r xs) ≡ filter p (map f xs)
 map_filter f p r [] h = refl
 map_filter f p r (x ∷ xs) h = rw (h 0 (omega arith)) (go (p (f x)) (map_filter f p r xs (λ k l. h (suc k) (omega arith))))
   where
-    go : (b : Bool) → map f (filter r xs) ≡ filter p (map f xs) → map f (cond b (x ∷ filter r xs) (filter r xs)) ≡ cond b (f x ∷ filter p (map f xs)) (filter p (map f xs))
+    go : (b : Bool) → map f (filter r xs) ≡ filter p (map f xs)
+        → map f (cond b (x ∷ filter r xs) (filter r xs)) ≡ cond b (f x ∷ filter p (map f xs)) (filter p (map f xs))
     go true e = ap (λ (ys : List (ℕ × ℕ)). f x ∷ ys) e
     go false e = e
 
 module _ (places : List Vec3) (t : ℕ) (test : ℕ → ℕ → Bool) where
   pub row_part : (i : ℕ) → map (λ (j : ℕ). (i, j)) (kept_row places t test i) ≡ part places (pos t) test i (length places - (i + 1))
-  row_part i = map_filter (λ (j : ℕ). (i, j)) (keeps places (pos t) test) (keep places t test i) (range_with_len (i + 1) (length places - (i + 1)))
+  row_part i = map_filter (λ (j : ℕ). (i, j)) (keeps places (pos t) test) (keep places t test i)
+      (range_with_len (i + 1) (length places - (i + 1)))
       (λ k l. let len = length-range_with_len (i + 1) (length places - (i + 1)) in
-      let at : get_or (range_with_len (i + 1) (length places - (i + 1))) k 0 ≡ i + 1 + k = get_or-range_with_len (i + 1) (length places - (i + 1)) k 0 (omega (arith, l, len)) in
+      let at : get_or (range_with_len (i + 1) (length places - (i + 1))) k 0
+      ≡ i + 1 + k = get_or-range_with_len (i + 1) (length places - (i + 1)) k 0 (omega (arith, l, len)) in
       rw (at, lt-ltb (i + 1 + k) (length places) (omega (arith, l, len)), lt-ltb i (i + 1 + k) (omega arith)) refl)
 
-  pub IsFoundRows-row : (i : ℕ) (old now new : Roomed (ℕ × ℕ)) (row : List ℕ) → IsFoundRows places (pos t) test i old now → row ≡ kept_row places t test i
-      → new ≡ record now { entries = now.entries ++ map (λ (j : ℕ). (i, j)) row } → length new.entries ≤ new.room → IsFoundRows places (pos t) test (i + 1) old new
+  pub IsFoundRows-row : (i : ℕ) (old now new : Roomed (ℕ × ℕ)) (row : List ℕ) → IsFoundRows places (pos t) test i old now
+      → row ≡ kept_row places t test i
+      → new ≡ record now { entries = now.entries ++ map (λ (j : ℕ). (i, j)) row } → length new.entries ≤ new.room
+      → IsFoundRows places (pos t) test (i + 1) old new
   IsFoundRows-row i old now new row h is push fits = record {
     room = ap (λ (r : Roomed (ℕ × ℕ)). r.room) push ∙ h.room;
     entries = ap (λ (r : Roomed (ℕ × ℕ)). r.entries) push ∙ ap (λ (xs : List (ℕ × ℕ)). xs ++ map (λ (j : ℕ). (i, j)) row) h.entries
-        ∙ ap (λ (xs : List ℕ). rows places (pos t) test i ++ map (λ (j : ℕ). (i, j)) xs) is ∙ ap (λ (xs : List (ℕ × ℕ)). rows places (pos t) test i ++ xs) (row_part i) ∙ sym (rows_more places (pos t) test i);
+        ∙ ap (λ (xs : List ℕ). rows places (pos t) test i ++ map (λ (j : ℕ). (i, j)) xs) is
+        ∙ ap (λ (xs : List (ℕ × ℕ)). rows places (pos t) test i ++ xs) (row_part i) ∙ sym (rows_more places (pos t) test i);
     fits = fits;
   }
 
-  pub row_full : (i : ℕ) (old now : Roomed (ℕ × ℕ)) (row : List ℕ) → i < length places → IsFoundRows places (pos t) test i old now → row ≡ kept_row places t test i
+  pub row_full : (i : ℕ) (old now : Roomed (ℕ × ℕ)) (row : List ℕ) → i < length places → IsFoundRows places (pos t) test i old now
+      → row ≡ kept_row places t test i
       → now.room < length now.entries + length row → old.room < length (near_pairs places (pos t) test)
   row_full i old now row li h is full =
-      let same : length row ≡ length (part places (pos t) test i (length places - (i + 1))) = sym (length_pairs (λ (j : ℕ). (i, j)) row) ∙ ap (λ (xs : List ℕ). length {A = ℕ × ℕ} (map (λ (j : ℕ). (i, j)) xs)) is ∙ ap length (row_part i) in
+      let same : length row ≡ length (part places (pos t) test i (length places - (i + 1))) = sym (length_pairs (λ (j : ℕ). (i, j)) row)
+      ∙ ap (λ (xs : List ℕ). length {A = ℕ × ℕ} (map (λ (j : ℕ). (i, j)) xs)) is ∙ ap length (row_part i) in
       omega (arith, full, same, h.room, ap length h.entries, found_le places (pos t) test i (length places - (i + 1)) li (omega arith))

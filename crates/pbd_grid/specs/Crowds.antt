@@ -1,6 +1,6 @@
 -- What is searched, and what look-ups of it find.
 use Rattle.std.specs.Prelude.{ℕ, Bool, List}
-use Rattle.pbd_grid.specs.declared.lookup.Cell.{Cell}
+use Rattle.pbd_grid.specs.declared.lookup.GridCell.{GridCell}
 use Rattle.pbd_grid.specs.declared.lookup.Crowd.{Crowd}
 use Rattle.pbd_grid.specs.Blocks.{AreLaid, picked, all_picked, block_part}
 use Rattle.pbd_grid.specs.Looks.{looks_in, looks_round}
@@ -10,17 +10,17 @@ abbrev pub IsLaid : Crowd → Type 0
 IsLaid crowd = AreLaid crowd.chains.now.chains crowd.count crowd.cubes.now crowd.places.now crowd.side
 
 -- what the look-up of a cell finds
-abbrev pub picked_in : Crowd → (ℕ → ℕ → Bool) → ℕ → Cell → List ℕ
+abbrev pub picked_in : Crowd → (ℕ → ℕ → Bool) → ℕ → GridCell → List ℕ
 picked_in crowd test i cell = picked crowd.chains.now.chains crowd.places.now crowd.side test i cell
 
 -- what the look-ups of the eight cells from a corner on find
-abbrev pub picked_round : Crowd → (ℕ → ℕ → Bool) → ℕ → Cell → List ℕ
+abbrev pub picked_round : Crowd → (ℕ → ℕ → Bool) → ℕ → GridCell → List ℕ
 picked_round crowd test i from = all_picked crowd.chains.now.chains crowd.places.now crowd.side test i (block_part from 8)
 
 -- how often the chains are read for a cell
-abbrev pub looked_in : Crowd → ℕ → Cell → ℕ
+abbrev pub looked_in : Crowd → ℕ → GridCell → ℕ
 looked_in crowd i cell = looks_in crowd.count crowd.side crowd.places.now i cell
 
 -- how often for the eight cells from a corner on
-abbrev pub looked_round : Crowd → ℕ → Cell → ℕ
+abbrev pub looked_round : Crowd → ℕ → GridCell → ℕ
 looked_round crowd i from = looks_round crowd.count crowd.side crowd.places.now i from 8

@@ -2,7 +2,7 @@
 use Rattle.std.specs.Prelude.{ℕ, ◌+◌, ℤ, unsigned_abs, List, length}
 use Rattle.std.specs.List.{range_with_len, sum_by}
 use Rattle.pbd_num.specs.declared.Vec3.{Vec3}
-use Rattle.pbd_grid.specs.declared.lookup.Cell.{Cell}
+use Rattle.pbd_grid.specs.declared.lookup.GridCell.{GridCell}
 use Rattle.pbd_grid.specs.Blocks.{cube_at, corner_of, block_part, slot_of, sharing}
 
 -- what a grid is seen as: how many particles and chains it has, and how often the last search read the chains
@@ -12,11 +12,11 @@ pub record Searched : Type 0 where
   pub looks : ℕ
 
 -- to look up a cell is to read the first of its chain, and what comes behind each that stands there and behind i
-abbrev pub looks_in : ℕ → ℕ → List Vec3 → ℕ → Cell → ℕ
+abbrev pub looks_in : ℕ → ℕ → List Vec3 → ℕ → GridCell → ℕ
 looks_in count t places i c = 1 + length (sharing count t places i (slot_of count c))
 
 -- for the first k of the eight cells from a corner on
-unfoldable pub looks_round : ℕ → ℕ → List Vec3 → ℕ → Cell → ℕ → ℕ
+unfoldable pub looks_round : ℕ → ℕ → List Vec3 → ℕ → GridCell → ℕ → ℕ
 looks_round count t places i from k = sum_by (looks_in count t places i) (block_part from k)
 
 -- for the first n particles, each of which looks up its eight cells

@@ -13,7 +13,7 @@ use pbd_world::RoomList;
 
 /// A cube of the grid, by its number on each axis: one of the thickness, or a cell of twice that.
 #[derive(Clone, Copy)]
-pub(crate) struct Cell {
+pub(crate) struct GridCell {
     x: u32,
     y: u32,
     z: u32,
@@ -25,7 +25,7 @@ pub(crate) struct Crowd<'a> {
     pub(crate) chains: &'a Chains,
     /// The number of the chains.
     pub(crate) count: u32,
-    pub(crate) cubes: &'a [Cell],
+    pub(crate) cubes: &'a [GridCell],
     pub(crate) places: &'a [Vec3],
     pub(crate) side: u32,
 }
@@ -47,14 +47,14 @@ fn on_axis(x: i64, side: u32) -> u32
 }
 
 // The cube that a place is in.
-pub(crate) fn cube(place: Vec3, side: u32) -> Cell
+pub(crate) fn cube(place: Vec3, side: u32) -> GridCell
     requires inside { Within (2 ^ 29) place }
     requires low { 0 < side }
     requires high { side ≤ 1048576 }
     ensures value { result ≡ cube_of side place }
     ensures bounded { Below 1073741825 result }
 {
-    Cell {
+    GridCell {
         x: on_axis(place.x, side),
         y: on_axis(place.y, side),
         z: on_axis(place.z, side),
@@ -62,12 +62,12 @@ pub(crate) fn cube(place: Vec3, side: u32) -> Cell
 }
 
 // The cell that a cube is in.
-pub(crate) fn home(cube: Cell) -> Cell
+pub(crate) fn home(cube: GridCell) -> GridCell
     requires { Below 1073741825 cube }
     ensures value { result ≡ home_of cube }
     ensures bounded { Below 1073741825 result }
 {
-    Cell {
+    GridCell {
         x: (cube.x + 1) / 2,
         y: (cube.y + 1) / 2,
         z: (cube.z + 1) / 2,
@@ -75,12 +75,12 @@ pub(crate) fn home(cube: Cell) -> Cell
 }
 
 // The least of the eight cells that what is near a place of a cube is in.
-pub(crate) fn corner(cube: Cell) -> Cell
+pub(crate) fn corner(cube: GridCell) -> GridCell
     requires { Below 1073741825 cube }
     ensures value { result ≡ corner_of cube }
     ensures bounded { Below 536870913 result }
 {
-    Cell {
+    GridCell {
         x: cube.x / 2,
         y: cube.y / 2,
         z: cube.z / 2,
@@ -88,13 +88,13 @@ pub(crate) fn corner(cube: Cell) -> Cell
 }
 
 // One of the eight cells from a corner on.
-fn part_of_block(from: Cell, n: u32) -> Cell
+fn part_of_block(from: GridCell, n: u32) -> GridCell
     requires from { Below 536870913 from }
     requires n { n < 8 }
     ensures value { result ≡ beside from (n % 2) (n / 2 % 2) (n / 4) }
     ensures bounded { Below 1073741825 result }
 {
-    Cell {
+    GridCell {
         x: from.x + n % 2,
         y: from.y + n / 2 % 2,
         z: from.z + n / 4,
@@ -103,7 +103,7 @@ fn part_of_block(from: Cell, n: u32) -> Cell
 
 // The chain for a cell, of a number that is a power of two: the upper bits of y and z spread over 32 bits, plus x.
 #[tactic(auto, unfolding(crate::specs::Blocks::slot_of))]
-pub(crate) fn slot(cell: Cell, count: u32) -> u32
+pub(crate) fn slot(cell: GridCell, count: u32) -> u32
     requires cell { Below 1073741825 cell }
     requires count { 0 < count }
     ensures value { result ≡ slot_of count cell }
@@ -114,7 +114,7 @@ pub(crate) fn slot(cell: Cell, count: u32) -> u32
 }
 
 // Whether a cube is in a cell.
-fn is_in(cube: Cell, cell: Cell) -> bool
+fn is_in(cube: GridCell, cell: GridCell) -> bool
     requires { Below 1073741825 cube }
     ensures { result ≡ same_cell cell (home_of cube) }
 {
@@ -123,7 +123,7 @@ fn is_in(cube: Cell, cell: Cell) -> bool
 }
 
 // Whether j, behind i, is to be found with i in a cell.
-fn wanted<F: PairFilter>(crowd: &Crowd, filter: &F, i: u32, cell: Cell, j: u32) -> bool
+fn wanted<F: PairFilter>(crowd: &Crowd, filter: &F, i: u32, cell: GridCell, j: u32) -> bool
     requires laid { IsLaid crowd.now }
     requires filter { F.particles filter.now ≡ length crowd.now.places.now }
     requires i { i < length crowd.now.places.now }
@@ -163,7 +163,7 @@ fn look_up<F: PairFilter>(
     crowd: &Crowd,
     filter: &F,
     i: u32,
-    cell: Cell,
+    cell: GridCell,
     found: &mut RoomList<u32>,
 ) -> u64
     requires laid { IsLaid crowd.now }
@@ -195,7 +195,7 @@ pub(crate) fn look_round<F: PairFilter>(
     crowd: &Crowd,
     filter: &F,
     i: u32,
-    from: Cell,
+    from: GridCell,
     found: &mut RoomList<u32>,
 ) -> u64
     requires laid { IsLaid crowd.now }

@@ -4,7 +4,7 @@ ghost use Rattle.pbd_grid.specs.Crowds.{IsLaid};
 ghost use Rattle.pbd_grid.specs.Near.{AllInside, near_pairs};
 ghost use Rattle.pbd_grid.specs.Looks.{looks_for};
 
-use crate::lookup::{Cell, Crowd};
+use crate::lookup::{Crowd, GridCell};
 use crate::rows::{append_row, find_row, link_all};
 use pbd_chain::Chains;
 use pbd_num::Vec3;
@@ -34,7 +34,7 @@ pub struct Grid {
     chains: Chains,
     /// The number of the chains.
     count: u32,
-    cubes: RoomList<Cell>,
+    cubes: RoomList<GridCell>,
     found: RoomList<u32>,
     /// How often the last search read the chains.
     looks: u64,

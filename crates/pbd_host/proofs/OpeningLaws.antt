@@ -7,7 +7,8 @@ use Rattle.pbd_world.specs.World.{World, opened, IsSound}
 use Rattle.pbd_host.specs.Hosted.{AreHosted}
 
 -- one more is the world of the next scene
-pub one_more : (scenes : List Parts) (i : ℕ) (d : Parts) (ws vs : List World) (w : World) → ws ≡ map opened (take i scenes) → i < length scenes → w ≡ opened (get_or scenes i d) → vs ≡ ws ++ w ∷ [] → vs ≡ map opened (take (i + 1) scenes)
+pub one_more : (scenes : List Parts) (i : ℕ) (d : Parts) (ws vs : List World) (w : World) → ws ≡ map opened (take i scenes)
+    → i < length scenes → w ≡ opened (get_or scenes i d) → vs ≡ ws ++ w ∷ [] → vs ≡ map opened (take (i + 1) scenes)
 one_more scenes i d ws vs w so_far within is pushed =
     pushed ∙ ap (λ (us : List World). us ++ w ∷ []) so_far ∙ ap (λ (v : World). map opened (take i scenes) ++ v ∷ []) is
     ∙ sym (map-append {A = Parts} {B = World} opened (take i scenes) (get_or scenes i d ∷ []))
@@ -25,7 +26,8 @@ others_of : (s : Parts) (ss : List Parts) → take (length (s ∷ ss) - 1) (drop
 others_of s ss = take_all (length (s ∷ ss) - 1) ss (omega arith)
 
 -- the world of the first scene, and those of the others
-pub all_opened : (scenes : List Parts) (d : Parts) (w : World) (ws : List World) → 0 < length scenes → w ≡ opened (get_or scenes 0 d) → ws ≡ map opened (take (length scenes - 1) (drop 1 scenes)) → w ∷ ws ≡ map opened scenes
+pub all_opened : (scenes : List Parts) (d : Parts) (w : World) (ws : List World) → 0 < length scenes → w ≡ opened (get_or scenes 0 d)
+    → ws ≡ map opened (take (length scenes - 1) (drop 1 scenes)) → w ∷ ws ≡ map opened scenes
 all_opened [] d w ws some first others = absurd (omega (arith, some))
 all_opened (s ∷ ss) d w ws some first others =
     let rest : ws ≡ map opened ss = others ∙ ap (λ (ps : List Parts). map opened ps) (others_of s ss) in

@@ -1,5 +1,6 @@
 -- Sessions side by side: what each request is answered with, what is printed for it, and what it makes of the worlds.
-use Rattle.std.specs.Prelude.{ℕ, ◌+◌, ◌≤◌, ◌==◌, pos, Bool, true, false, if◌then◌else◌, codes, decimal, List, [], ◌∷◌, ◌++◌, length, drop, All, filter_map, slice_index_or, slice_set, Option, Some, None}
+use Rattle.std.specs.Prelude.{ℕ, ◌+◌, ◌≤◌, ◌==◌, pos, Bool, true, false, if◌then◌else◌, codes, decimal, List, [], ◌∷◌, ◌++◌, length, drop}
+use Rattle.std.specs.Prelude.{All, filter_map, slice_index_or, slice_set, Option, Some, None}
 use Rattle.std.specs.List.{position_or_len}
 use Rattle.pbd_world.specs.declared.command.Command.{Command}
 use Rattle.pbd_world.specs.declared.command.Reply.{Reply}

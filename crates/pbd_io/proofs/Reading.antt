@@ -1,5 +1,6 @@
 -- What a read from memory gives, and what it leaves.
-use Rattle.std.proofs.Common.{◌≡◌, ◌∙◌, sym, ap, ℕ, ◌<◌, ◌≤◌, min, List, [], ◌++◌, length, take, drop, arith, length-take, length-append, length-drop}
+use Rattle.std.proofs.Common.{◌≡◌, ◌∙◌, sym, ap, ℕ, ◌<◌, ◌≤◌, min, List, [], ◌++◌, length, take, drop, arith, length-take, length-append}
+use Rattle.std.proofs.Common.{length-drop}
 use Rattle.std.proofs.lemmas.List.{take_all, take-append-le, take-append-drop}
 use Rattle.std.proofs.Math.ListN.{drop_of_length-le}
 

@@ -1,5 +1,6 @@
 -- What a write to memory takes of a piece.
-use Rattle.std.proofs.Common.{◌≡◌, ◌∙◌, sym, ap, ℕ, ◌-◌, ◌<◌, ◌≤◌, min, List, ◌++◌, length, take, Some, None, true, false, arith, append-nil, nat_lt}
+use Rattle.std.proofs.Common.{◌≡◌, ◌∙◌, sym, ap, ℕ, ◌-◌, ◌<◌, ◌≤◌, min, List, ◌++◌, length, take, Some, None, true, false, arith}
+use Rattle.std.proofs.Common.{append-nil, nat_lt}
 use Rattle.std.specs.Prelude.{unwrap_or}
 use Rattle.std.proofs.lemmas.Bool.Decides.{nat_tests}
 use Rattle.std.proofs.lemmas.List.{take_all, take_min}

@@ -1,5 +1,6 @@
 -- Steps add up.
-use Rattle.std.proofs.Common.{◌≡◌, refl, sym, ap, ◌∙◌, ℕ, zero, suc, ◌+◌, ◌<◌, ◌≤◌, ◌⊎◌, inl, inr, Bool, true, false, not, ◌&&◌, List, [], ◌∷◌, map, arith}
+use Rattle.std.proofs.Common.{◌≡◌, refl, sym, ap, ◌∙◌, ℕ, zero, suc, ◌+◌, ◌<◌, ◌≤◌, ◌⊎◌, inl, inr, Bool, true, false, not, ◌&&◌, List, []}
+use Rattle.std.proofs.Common.{◌∷◌, map, arith}
 use Rattle.std.specs.Prelude.{Result, Ok, Err, IfOk, if◌then◌else◌, nat_le, nat_lt, sum}
 use Rattle.std.proofs.lemmas.Bool.{le-leb, lt-ltb, ltb-true, ltb-false, leb-true, and_parts, and_from, cases_lt, not_from_true}
 use Rattle.std.proofs.lemmas.List.Sums.{sum_by-cons}
@@ -18,7 +19,8 @@ use Rattle.pbd_laws.proofs.StepsLead.{step-leads}
 
 -- ---- steps, without commands
 
-bind_later : {A B E : Type 0} (r : Result A E) (f g : A → Result B E) (h : B → Result B E) → ((x : A) → f x ≡ (g x >>= h)) → (r >>= f) ≡ ((r >>= g) >>= h)
+bind_later : {A B E : Type 0} (r : Result A E) (f g : A → Result B E) (h : B → Result B E) → ((x : A) → f x ≡ (g x >>= h))
+    → (r >>= f) ≡ ((r >>= g) >>= h)
 bind_later (Ok x) f g h k = k x
 bind_later (Err e) f g h k = refl
 
@@ -64,7 +66,8 @@ stopped_second false true e f x h k = refl
 stopped_second false false e f x h k = absurd (cc)
 
 counts : (n : ℕ) → 1 ≤ n → n ≤ 100000 → not (nat_le 1 n && nat_le n 100000) ≡ false
-counts n low high = not_from_true (nat_le 1 n && nat_le n 100000) (and_from (nat_le 1 n) (nat_le n 100000) (le-leb 1 n low) (le-leb n 100000 high))
+counts n low high = not_from_true (nat_le 1 n && nat_le n 100000)
+    (and_from (nat_le 1 n) (nat_le n 100000) (le-leb 1 n low) (le-leb n 100000 high))
 
 not_above : (a b : ℕ) → b ≤ a → nat_lt a b ≡ false
 not_above a b h = by (nat_lt a b) refl
@@ -77,13 +80,15 @@ pub run_is : (w : World) (n : ℕ) → 1 ≤ n → n ≤ 100000 → w.steps + n 
 run_is w n low high room =
     let few = not (nat_le 1 n && nat_le n 100000) in
     let late = nat_lt 1000000 (w.steps + n) in
-    ap (λ (r : Result World Refusal). r >>= steps_of n) (passes few late BadCount StepLimit w (counts n low high) (not_above 1000000 (w.steps + n) room))
+    ap (λ (r : Result World Refusal). r >>= steps_of n) (passes few late BadCount StepLimit w (counts n low high)
+    (not_above 1000000 (w.steps + n) room))
 
 run_stops : (w : World) (n : ℕ) → 1 ≤ n → n ≤ 100000 → 1000000 < w.steps + n → run_steps w n ≡ Err StepLimit
 run_stops w n low high none =
     let few = not (nat_le 1 n && nat_le n 100000) in
     let late = nat_lt 1000000 (w.steps + n) in
-    ap (λ (r : Result World Refusal). r >>= steps_of n) (stopped_second few late BadCount StepLimit w (counts n low high) (lt-ltb 1000000 (w.steps + n) none))
+    ap (λ (r : Result World Refusal). r >>= steps_of n) (stopped_second few late BadCount StepLimit w (counts n low high)
+    (lt-ltb 1000000 (w.steps + n) none))
 
 -- what a command of steps that comes to a world says
 pub record Ran (w : World) (n : ℕ) (v : World) : Type 0 where
@@ -124,7 +129,8 @@ same_answer : (w v : World) (r : Result World Refusal) → (done_or_refused w r)
 same_answer w v (Ok u) = refl
 same_answer w v (Err e) = refl
 
-same_world : (w v : World) (r : Result World Refusal) → (done_or_refused v r).1 ≡ replies.Done → (done_or_refused w r).0 ≡ (done_or_refused v r).0
+same_world : (w v : World) (r : Result World Refusal) → (done_or_refused v r).1 ≡ replies.Done
+    → (done_or_refused w r).0 ≡ (done_or_refused v r).0
 same_world w v (Ok u) h = refl
 same_world w v (Err e) h = absurd (cc)
 
@@ -141,7 +147,8 @@ run_on w v m n low high h =
     let first = ran w m v h in
     let counted : v.steps ≡ w.steps + m = counted_by (steps_of m w) first.is (steps_count m w) in
     elim (cases_lt 1000000 (w.steps + (m + n))) [
-      | inl none ↦ run_stops w (m + n) (omega (arith, low)) high none ∙ sym (run_stops v n low (omega (arith, high)) (omega (arith, none, counted)))
+      | inl none ↦ run_stops w (m + n) (omega (arith, low)) high none
+          ∙ sym (run_stops v n low (omega (arith, high)) (omega (arith, none, counted)))
       | inr room ↦
           run_is w (m + n) (omega (arith, low)) high room ∙ go-on m n w v first.is
           ∙ sym (run_is v n low (omega (arith, high)) (omega (arith, room, counted)))
@@ -158,7 +165,8 @@ second-answers w m n low_m low high h =
     let v = after w (Step m) in
     ap (λ (r : Result World Refusal). (done_or_refused w r).1) (run_on w v m n low high (done-ran w m h)) ∙ same_answer w v (run_steps v n)
 
-pub both-lead : (w : World) (m n : ℕ) → 1 ≤ m → 1 ≤ n → m + n ≤ 100000 → reply w (Step m) ≡ replies.Done → reply (after w (Step m)) (Step n) ≡ replies.Done
+pub both-lead : (w : World) (m n : ℕ) → 1 ≤ m → 1 ≤ n → m + n ≤ 100000 → reply w (Step m) ≡ replies.Done
+    → reply (after w (Step m)) (Step n) ≡ replies.Done
     → after w (Step (m + n)) ≡ after (after w (Step m)) (Step n)
 unfolding meaning
 both-lead w m n low_m low high h k =
@@ -169,7 +177,8 @@ pub first-stops : (w : World) (m n : ℕ) (refusal : Refusal) → 1 ≤ m → m 
     → reply w (Step m) ≡ replies.Refused refusal → reply w (Step (m + n)) ≡ replies.Refused refusal
 unfolding meaning
 first-stops w m n refusal low high room h =
-    let first : steps_of m w ≡ Err refusal = sym (run_is w m low (omega (arith, high)) (omega (arith, room))) ∙ is_stopped w (run_steps w m) refusal h in
+    let first : steps_of m w ≡ Err refusal = sym (run_is w m low (omega (arith, high)) (omega (arith, room)))
+    ∙ is_stopped w (run_steps w m) refusal h in
     let whole : run_steps w (m + n) ≡ Err refusal = run_is w (m + n) (omega (arith, low)) high room ∙ stop-there m n w refusal first in
     ap (λ (r : Result World Refusal). (done_or_refused w r).1) whole
 
@@ -179,7 +188,8 @@ answers : (w : World) (n : ℕ) → (reply w (Step n) ≡ replies.Done) ⊎ ((e 
 unfolding meaning
 answers w n = by (run_steps w n)
   where
-    by : (r : Result World Refusal) → ((done_or_refused w r).1 ≡ replies.Done) ⊎ ((e : Refusal) × ((done_or_refused w r).1 ≡ replies.Refused e))
+    by : (r : Result World Refusal) → ((done_or_refused w r).1 ≡ replies.Done)
+        ⊎ ((e : Refusal) × ((done_or_refused w r).1 ≡ replies.Refused e))
     by (Ok v) = inl refl
     by (Err e) = inr (e, refl)
 
@@ -197,7 +207,8 @@ whole-done w m n low_m low h =
 
 pub whole-refused : (w : World) (m n : ℕ) (refusal : Refusal) → 1 ≤ m → 1 ≤ n → m + n ≤ 100000 → w.steps + (m + n) ≤ 1000000
     → reply w (Step (m + n)) ≡ replies.Refused refusal
-    → (reply w (Step m) ≡ replies.Refused refusal) ⊎ ((reply w (Step m) ≡ replies.Done) × (reply (after w (Step m)) (Step n) ≡ replies.Refused refusal))
+    → (reply w (Step m) ≡ replies.Refused refusal) ⊎ ((reply w (Step m) ≡ replies.Done)
+    × (reply (after w (Step m)) (Step n) ≡ replies.Refused refusal))
 whole-refused w m n refusal low_m low high room h = elim (answers w m) [
   | inl done ↦ inr (done, sym (second-answers w m n low_m low high done) ∙ h)
   | inr stop ↦ inl (stop.1 ∙ sym (first-stops w m n stop.0 low_m high room stop.1) ∙ h)
@@ -212,7 +223,8 @@ none_refused : (b : Bool) (k : ℕ) → (if b then 1 else 0) + k ≡ 0 → (b �
 none_refused true k h = absurd (omega (arith, h))
 none_refused false k h = (refl, omega (arith, h))
 
-pub grouped-are : (w : World) (ns : List ℕ) → refused_count w (step_commands ns) ≡ 0 → steps_of (sum ns) w ≡ Ok (last_world w (step_commands ns))
+pub grouped-are : (w : World) (ns : List ℕ) → refused_count w (step_commands ns) ≡ 0
+    → steps_of (sum ns) w ≡ Ok (last_world w (step_commands ns))
 unfolding refused_count
 grouped-are w [] h = refl
 grouped-are w (n ∷ ns) h =
@@ -224,12 +236,15 @@ grouped-are w (n ∷ ns) h =
     true_not_false : true ≡ false → ⊥
     true_not_false e = cc
 
-    not_refused : (reply w (Step n) ≡ replies.Done) ⊎ ((e : Refusal) × (reply w (Step n) ≡ replies.Refused e)) → is_refused (reply w (Step n)) ≡ false
+    not_refused : (reply w (Step n) ≡ replies.Done) ⊎ ((e : Refusal) × (reply w (Step n) ≡ replies.Refused e))
+        → is_refused (reply w (Step n)) ≡ false
         → reply w (Step n) ≡ replies.Done
     not_refused (inl done) e = done
     not_refused (inr stop) e = absurd (true_not_false (ap is_refused (sym stop.1) ∙ e))
 
-pub grouped-alike : (w : World) (ms ns : List ℕ) → sum ms ≡ sum ns → refused_count w (step_commands ms) ≡ 0 → refused_count w (step_commands ns) ≡ 0
+pub grouped-alike : (w : World) (ms ns : List ℕ) → sum ms ≡ sum ns → refused_count w (step_commands ms) ≡ 0
+    → refused_count w (step_commands ns) ≡ 0
     → last_world w (step_commands ms) ≡ last_world w (step_commands ns)
 grouped-alike w ms ns e h k =
-    same_ok (last_world w (step_commands ms)) (last_world w (step_commands ns)) (sym (grouped-are w ms h) ∙ ap (λ n. steps_of n w) e ∙ grouped-are w ns k)
+    same_ok (last_world w (step_commands ms)) (last_world w (step_commands ns))
+    (sym (grouped-are w ms h) ∙ ap (λ n. steps_of n w) e ∙ grouped-are w ns k)

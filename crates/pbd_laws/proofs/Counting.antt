@@ -1,5 +1,6 @@
 -- What steps and sessions may cost, by the sizes of the scene.
-use Rattle.std.proofs.Common.{◌≡◌, refl, sym, ap, ◌∙◌, ℕ, zero, suc, ◌+◌, ◌-◌, ◌*◌, ◌/◌, ◌%◌, ◌<◌, ◌≤◌, min, Bool, true, false, not, ◌&&◌, List, [], ◌∷◌, length, arith, pos, subst, inl, inr}
+use Rattle.std.proofs.Common.{◌≡◌, refl, sym, ap, ◌∙◌, ℕ, zero, suc, ◌+◌, ◌-◌, ◌*◌, ◌/◌, ◌%◌, ◌<◌, ◌≤◌, min, Bool, true, false, not, ◌&&◌}
+use Rattle.std.proofs.Common.{List, [], ◌∷◌, length, arith, pos, subst, inl, inr}
 use Rattle.std.specs.Prelude.{Result, Ok, Err, IfOk, IsTrue, if◌then◌else◌, nat_le, nat_lt, ◌==◌, filter, cond, int_lt, unsigned_abs}
 use Rattle.std.specs.List.{range_with_len}
 use Rattle.std.proofs.lemmas.Bool.{ltb-false, cases_lt}
@@ -20,13 +21,15 @@ use Rattle.pbd_world.specs.Outcomes.{unless}
 use Rattle.pbd_world.specs.Contacts.{link_pairs, live_flags}
 use Rattle.pbd_world.specs.Step.{step}
 use Rattle.pbd_world.specs.Meaning.{after, reply}
-use Rattle.pbd_world.specs.Work.{blocks_in, of_colour_count, tearable_count, colours_used, finding_work, step_work, found_in, work_from, work_over, steps_work, command_work, reply_work, session_work}
+use Rattle.pbd_world.specs.Work.{blocks_in, of_colour_count, tearable_count, colours_used, finding_work, step_work, found_in, work_from}
+use Rattle.pbd_world.specs.Work.{work_over, steps_work, command_work, reply_work, session_work}
 use Rattle.pbd_world.proofs.KeepingOn.{length-mapped}
 use Rattle.pbd_world.proofs.OpenedLemmas.{opened-is_sound}
 use Rattle.pbd_world.proofs.StepSound.{step_sound}
 use Rattle.pbd_world.proofs.CommandSound.{command-sound, command-scene}
 use Rattle.pbd_world.proofs.WorkLemmas.{finding_is, step_few}
 use Rattle.pbd_laws.specs.Costs.{most_of_step, steps_in, most_of_session}
+use Rattle.std.proofs.lemmas.List.FromFn.{length-range_with_len}
 
 -- ---- a step
 
@@ -38,15 +41,11 @@ filter_few test (x ∷ xs) = by (test x) (filter_few test xs)
     by true h = omega (arith, h)
     by false h = omega (arith, h)
 
-range_many : (a n : ℕ) → length (range_with_len a n) ≡ n
-range_many a zero = refl
-range_many a (suc n) = ap suc (range_many (a + 1) n)
-
 colours_few : (links : List Link) → colours_used links ≤ 63
 unfolding colours_used
 colours_few links =
     let few = filter_few (λ c. nat_lt 0 (of_colour_count (link_pairs links) (live_flags links) c)) (range_with_len 0 63) in
-    omega (arith, few, range_many 0 63)
+    omega (arith, few, length-range_with_len 0 63)
 
 finding_few : (w : World) → finding_work w ≤ length w.particles
 finding_few w = subst (λ n. n ≤ length w.particles) (sym (finding_is w)) (by (unsigned_abs w.thickness == 0))
@@ -88,11 +87,14 @@ same_most width lanes w v e =
     ∙ length-mapped {A = Particle} {B = Particle} bare w.particles in
     let gone : Link → Link = λ l. record l { live = false } in
     let links : length v.links ≡ length w.links =
-    sym (length-mapped {A = Link} {B = Link} gone v.links) ∙ sym (ap (λ (x : World). length x.links) e) ∙ length-mapped {A = Link} {B = Link} gone w.links in
+    sym (length-mapped {A = Link} {B = Link} gone v.links) ∙ sym (ap (λ (x : World). length x.links) e)
+    ∙ length-mapped {A = Link} {B = Link} gone w.links in
     let passes : v.passes ≡ w.passes = sym (ap (λ (x : World). x.passes) e) in
     let tracks : length v.tracks ≡ length w.tracks = sym (ap (λ (x : World). length x.tracks) e) in
-    let sum : ℕ → ℕ → ℕ → ℕ → ℕ = λ p l n t. 4 * ((p + width - 1) / width + n * (l / lanes + 63 + 262144 + (p + width - 1) / width)) + t + p + 2 * l in (
-      ap (λ p. sum p (length v.links) v.passes (length v.tracks)) particles ∙ ap (λ l. sum (length w.particles) l v.passes (length v.tracks)) links
+    let sum : ℕ → ℕ → ℕ → ℕ → ℕ = λ p l n t. 4 * ((p + width - 1) / width + n * (l / lanes + 63 + 262144 + (p + width - 1) / width)) + t + p
+    + 2 * l in (
+      ap (λ p. sum p (length v.links) v.passes (length v.tracks)) particles
+          ∙ ap (λ l. sum (length w.particles) l v.passes (length v.tracks)) links
           ∙ ap (λ n. sum (length w.particles) (length w.links) n (length v.tracks)) passes
           ∙ ap (λ t. sum (length w.particles) (length w.links) w.passes t) tracks,
       particles,
@@ -100,7 +102,7 @@ same_most width lanes w v e =
 
 -- ---- steps
 
-ok_at : {A E : Type 0} (P : A → Type 0) (r : Result A E) (x : A) → r ≡ Ok x → IfOk r P → P x
+pub ok_at : {A E : Type 0} (P : A → Type 0) (r : Result A E) (x : A) → r ≡ Ok x → IfOk r P → P x
 ok_at P r x e h = subst (λ r. IfOk r P) e h
 
 over_most : (width lanes n : ℕ) (w : World) → 0 < lanes → IsSound w → w.steps + n ≤ 1000000
@@ -113,7 +115,8 @@ over_most width lanes (suc n) w some sound room = by (step w) refl (λ v s r. ov
         → ((v : World) → IsSound v → v.steps + n ≤ 1000000 → work_over width lanes n v ≤ n * most_of_step width lanes v)
         → step_work width lanes w (found_in w) + work_from (work_over width lanes n) r ≤ suc n * most_of_step width lanes w
     by (Ok v) e later =
-        let next = ok_at (λ u. IsSound u × (u.steps ≡ w.steps + 1) × AreOfOneScene w u) (step w) v e (step_sound w sound (omega (arith, room))) in
+        let next = ok_at (λ u. IsSound u × (u.steps ≡ w.steps + 1) × AreOfOneScene w u) (step w) v e
+        (step_sound w sound (omega (arith, room))) in
         let rest = later v next.0 (omega (arith, room, next.1)) in
         let same = ap (λ m. n * m) (same_most width lanes w v next.2).0 in
         omega (arith, rest, same, step_most width lanes w some sound)

@@ -140,8 +140,13 @@ Agree TheGravity w v = v.limit ≡ w.limit
 
 pub edited-agrees : (w : World) (e : Edit) (t : Target) → place_of e ≢ Some t → Agree t w (edited w e)
 edited-agrees w (OnParticle i f m) (OneParticle j) h =
-    let p = particle_at w.particles i in
-    (refl, refl, length-set w.particles i (f p), get_or-set_other w.particles i j (f p) no_particle (λ e. h (ap (λ k. Some (OneParticle k)) (sym e))))
+    let p = particle_at w.particles i in (
+      refl,
+      refl,
+      length-set w.particles i (f p),
+      get_or-set_other w.particles i j (f p) no_particle
+          (λ e. h (ap (λ k. Some (OneParticle k)) (sym e))),
+    )
 edited-agrees w (OnParticle i f m) (OneLink n) h = (refl, refl)
 edited-agrees w (OnParticle i f m) TheGravity h = refl
 edited-agrees w (OnLink n) (OneParticle i) h = (refl, refl, refl, refl)

@@ -17,7 +17,8 @@ use Rattle.pbd_world.specs.Meaning.{meaning, after, reply}
 use Rattle.pbd_world.specs.Session.{last_world}
 use Rattle.pbd_laws.specs.Targets.{Target, target, AreApart, AreAllApart}
 use Rattle.pbd_laws.specs.Targets.Target.{OneParticle, OneLink, TheGravity}
-use Rattle.pbd_laws.proofs.Edits.{Edit, edited, edit_of, place_of, same_place, Verdict, verdict, either, told, after-is, reply-is, Agree, edited-agrees, edits-commute}
+use Rattle.pbd_laws.proofs.Edits.{Edit, edited, edit_of, place_of, same_place, Verdict, verdict, either, told, after-is, reply-is, Agree}
+use Rattle.pbd_laws.proofs.Edits.{edited-agrees, edits-commute}
 
 -- ---- the other command's tests
 
@@ -44,7 +45,8 @@ same_tests w v (commands.Move i to) t h a =
     let b = there w v (OneParticle i) t h a in
     let tests : ℤ → List Track → ℕ → Particle → Verdict =
     λ limit ts n p.
-    unless ((nat_le n i, NoParticle) ∷ (not (is_within limit to), OutOfRange) ∷ (not p.held, NotHeld) ∷ (is_tracked ts i, Tracked) ∷ []) tt in
+    unless ((nat_le n i, NoParticle) ∷ (not (is_within limit to), OutOfRange) ∷ (not p.held, NotHeld) ∷ (is_tracked ts i, Tracked) ∷ []) tt
+    in
     ap (λ limit. tests limit v.tracks (length v.particles) (particle_at v.particles i)) b.0
     ∙ ap (λ (ts : List Track). tests w.limit ts (length v.particles) (particle_at v.particles i)) b.1
     ∙ ap (λ n. tests w.limit w.tracks n (particle_at v.particles i)) b.2 ∙ ap (tests w.limit w.tracks (length w.particles)) b.3
@@ -67,7 +69,8 @@ not_at c d a e = a.differ (same_some a.first a.second (sym a.first_is ∙ sym (s
 
 -- a command's verdict is the same after the other
 after_other : (w : World) (c d : Command) (r : Verdict) → AreApart c d → verdict (either r w (edited w (edit_of c))) d ≡ verdict w d
-after_other w c d (Ok u) a = same_tests w (edited w (edit_of c)) d a.second a.second_is (edited-agrees w (edit_of c) a.second (not_at c d a))
+after_other w c d (Ok u) a = same_tests w (edited w (edit_of c)) d a.second a.second_is
+    (edited-agrees w (edit_of c) a.second (not_at c d a))
 after_other w c d (Err e) a = refl
 
 same_verdict : (w : World) (c d : Command) → AreApart c d → verdict (after w c) d ≡ verdict w d
@@ -79,7 +82,8 @@ answers-same w c d a =
 
 -- where the one command is, the other follows
 follows : (w : World) (c d : Command) → AreApart c d
-    → after (after w c) d ≡ either (verdict w d) (either (verdict w c) w (edited w (edit_of c))) (edited (either (verdict w c) w (edited w (edit_of c)))
+    → after (after w c) d ≡ either (verdict w d) (either (verdict w c) w (edited w (edit_of c)))
+    (edited (either (verdict w c) w (edited w (edit_of c)))
     (edit_of d))
 follows w c d a =
     after-is (after w c) d a.second a.second_is
@@ -87,7 +91,8 @@ follows w c d a =
     ∙ ap (λ (v : World). either (verdict w d) v (edited v (edit_of d))) (after-is w c a.first a.first_is)
 
 square : (w : World) (e f : Edit) (x y : Verdict) → place_of e ≢ place_of f
-    → either y (either x w (edited w e)) (edited (either x w (edited w e)) f) ≡ either x (either y w (edited w f)) (edited (either y w (edited w f)) e)
+    → either y (either x w (edited w e)) (edited (either x w (edited w e)) f)
+    ≡ either x (either y w (edited w f)) (edited (either y w (edited w f)) e)
 square w e f (Ok u) (Ok v) h = edits-commute w e f h
 square w e f (Ok u) (Err y) h = refl
 square w e f (Err x) (Ok v) h = refl
@@ -104,9 +109,10 @@ two-commute w c d a =
 one-past : (w : World) (c : Command) (ds : List Command) → All (AreApart c) ds → last_world (after w c) ds ≡ after (last_world w ds) c
 one-past w c [] h = refl
 one-past w c (d ∷ ds) h =
-    ap (λ (v : World). last_world v ds) (two-commute w c d (All-head (AreApart c) d ds h)) ∙ one-past (after w d) c ds (All-tail (AreApart c) d ds h)
+    ap (λ (v : World). last_world v ds) (two-commute w c d (All-head (AreApart c) d ds h))
+    ∙ one-past (after w d) c ds (All-tail (AreApart c) d ds h)
 
-last-append : (w : World) (cs ds : List Command) → last_world w (cs ++ ds) ≡ last_world (last_world w cs) ds
+pub last-append : (w : World) (cs ds : List Command) → last_world w (cs ++ ds) ≡ last_world (last_world w cs) ds
 last-append w [] ds = refl
 last-append w (c ∷ cs) ds = last-append (after w c) cs ds
 

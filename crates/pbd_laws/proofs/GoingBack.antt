@@ -1,5 +1,6 @@
 -- A machine that keeps its turns in a ring of slots.
-use Rattle.std.proofs.Common.{◌≡◌, ◌≢◌, refl, sym, ap, ◌∙◌, ℕ, zero, suc, ◌+◌, ◌-◌, ◌*◌, ◌/◌, ◌%◌, ◌<◌, ◌≤◌, inl, inr, List, [], ◌∷◌, ◌++◌, length, length-append, length-set, take, drop, get_or, map, append_assoc, subst, arith}
+use Rattle.std.proofs.Common.{◌≡◌, ◌≢◌, refl, sym, ap, ◌∙◌, ℕ, zero, suc, ◌+◌, ◌-◌, ◌*◌, ◌/◌, ◌%◌, ◌<◌, ◌≤◌, inl, inr, List, [], ◌∷◌, ◌++◌}
+use Rattle.std.proofs.Common.{length, length-append, length-set, take, drop, get_or, map, append_assoc, subst, arith}
 use Rattle.std.specs.Prelude.{slice_set as set, Option, Some, None}
 use Rattle.std.proofs.Math.Nat.{mul-le-mul, div-add-mod}
 use Rattle.std.proofs.Math.Seq.{take-append_seam}
@@ -11,9 +12,11 @@ use Rattle.pbd_world.specs.Meaning.{after}
 use Rattle.pbd_world.specs.Session.{last_world}
 use Rattle.pbd_laws.specs.Machine.{Machine, slot_at, kept_or, acted, all_acted}
 use Rattle.pbd_laws.specs.Machine.Act.{Play, Save, Restore}
-use Rattle.pbd_laws.specs.Ring.{Turns, commands_of, Event, turn, turns_from, again_from, taken, acts_of, IsInTime, all_taken, all_acts, AreInTime}
+use Rattle.pbd_laws.specs.Ring.{Turns, commands_of, Event, turn, turns_from, again_from, taken, acts_of, IsInTime, all_taken, all_acts}
+use Rattle.pbd_laws.specs.Ring.{AreInTime}
 use Rattle.pbd_laws.specs.Ring.Event.{Plays, Learns}
 use Rattle.pbd_laws.proofs.Slots.{acted-append, played-slots, played-world}
+use Rattle.pbd_laws.proofs.EitherOrder.{last-append}
 
 -- ---- turns less than n apart have slots of their own
 
@@ -26,7 +29,8 @@ same_piece n a b p t r h k low high =
     ]
 
 pub apart : (n t p : ℕ) → t < p → p < t + n → t % n ≢ p % n
-apart n t p low high e = same_piece n (t / n) (p / n) p t (p % n) (ap (λ r. n * (t / n) + r) (sym e) ∙ div-add-mod t n) (div-add-mod p n) low high
+apart n t p low high e = same_piece n (t / n) (p / n) p t (p % n) (ap (λ r. n * (t / n) + r) (sym e) ∙ div-add-mod t n)
+    (div-add-mod p n) low high
 
 -- ---- worlds of turns
 
@@ -34,13 +38,10 @@ apart n t p low high e = same_piece n (t / n) (p / n) p t (p % n) (ap (λ r. n *
 abbrev pub world_of : World → Turns → World
 world_of w turns = last_world w (commands_of turns)
 
-last-append : (w : World) (cs ds : List Command) → last_world w (cs ++ ds) ≡ last_world (last_world w cs) ds
-last-append w [] ds = refl
-last-append w (c ∷ cs) ds = last-append (after w c) cs ds
-
 commands-append : (ts us : Turns) → commands_of (ts ++ us) ≡ commands_of ts ++ commands_of us
 commands-append [] us = refl
-commands-append (t ∷ ts) us = ap (λ (xs : List Command). t ++ xs) (commands-append ts us) ∙ sym (append_assoc t (commands_of ts) (commands_of us))
+commands-append (t ∷ ts) us = ap (λ (xs : List Command). t ++ xs) (commands-append ts us)
+    ∙ sym (append_assoc t (commands_of ts) (commands_of us))
 
 append_nothing : (cs : List Command) → cs ++ [] ≡ cs
 append_nothing [] = refl
@@ -82,7 +83,8 @@ turn_played w n low ts m cs some f =
             let is : t ≡ p = omega (arith, new, below, many) in
             ap (λ k. get_or (set m.slots (p % n) (Some m.world)) (k % n) None) is
             ∙ get_or-set_same m.slots (p % n) (Some m.world) None (omega (arith, below_n n p some, f.room))
-            ∙ ap (λ v. Some v) (f.world ∙ ap (world_of w) (sym (take-append_seam ts (cs ∷ [])) ∙ ap (λ k. take k (ts ++ (cs ∷ []))) (sym is)))
+            ∙ ap (λ v. Some v) (f.world ∙ ap (world_of w) (sym (take-append_seam ts (cs ∷ []))
+            ∙ ap (λ k. take k (ts ++ (cs ∷ []))) (sym is)))
       ];
     }
 
@@ -96,9 +98,11 @@ turns_played w n low [] ts m p some e f = subst (λ (xs : Turns). Follows w n lo
     append_none (t ∷ ts) = ap (λ (xs : Turns). t ∷ xs) (append_none ts)
 turns_played w n low (cs ∷ us) ts m p some e f =
     let first = subst (λ k. Follows w n low (ts ++ (cs ∷ [])) (all_acted m (turn n k cs))) (sym e) (turn_played w n low ts m cs some f) in
-    let rest = turns_played w n low us (ts ++ (cs ∷ [])) (all_acted m (turn n p cs)) (p + 1) some (omega (arith, e, length-append ts (cs ∷ []))) first in
+    let rest = turns_played w n low us (ts ++ (cs ∷ [])) (all_acted m (turn n p cs)) (p + 1) some
+    (omega (arith, e, length-append ts (cs ∷ []))) first in
     subst (λ (x : Machine). Follows w n low (ts ++ (cs ∷ us)) x) (sym (acted-append m (turn n p cs) (turns_from n (p + 1) us)))
-    (subst (λ (xs : Turns). Follows w n low xs (all_acted (all_acted m (turn n p cs)) (turns_from n (p + 1) us))) (append_assoc ts (cs ∷ []) us) rest)
+    (subst (λ (xs : Turns). Follows w n low xs (all_acted (all_acted m (turn n p cs)) (turns_from n (p + 1) us)))
+    (append_assoc ts (cs ∷ []) us) rest)
 
 -- ---- an input that was learnt
 
@@ -123,7 +127,8 @@ gone_back w n t ts m cs before late f =
           ∙ ap (λ (xs : Turns). Some (world_of w xs)) (sym (take_part u t ts (omega (arith, below, many))) ∙ ap (take u) (sym same));
     }
 
-learnt : (w : World) (n t : ℕ) (ts : Turns) (m : Machine) (cs : List Command) → 1 ≤ n → t < length ts → length ts ≤ t + n → Follows w n 0 ts m
+learnt : (w : World) (n t : ℕ) (ts : Turns) (m : Machine) (cs : List Command) → 1 ≤ n → t < length ts → length ts ≤ t + n
+    → Follows w n 0 ts m
     → Follows w n 0 (set ts t cs) (all_acted m (again_from n t (set ts t cs)))
 learnt w n t ts m cs some before late f =
     let us = set ts t cs in
@@ -131,7 +136,8 @@ learnt w n t ts m cs some before late f =
     let back = acted m (Restore (t % n)) in
     let again = turns_played w n (length ts - n) (drop t us) (take t us) back t some (omega (arith, length-take t us, many, before))
     (gone_back w n t ts m cs before late f) in
-    let whole = subst (λ (xs : Turns). Follows w n (length ts - n) xs (all_acted back (turns_from n t (drop t us)))) (take-append-drop t us) again in
+    let whole = subst (λ (xs : Turns). Follows w n (length ts - n) xs (all_acted back (turns_from n t (drop t us))))
+    (take-append-drop t us) again in
     record {
       room = whole.room;
       world = whole.world;
@@ -155,7 +161,11 @@ all_followed w n ts m (e ∷ es) some h f =
 pub game-world : (m : Machine) (n : ℕ) (es : List Event) → 1 ≤ n → n ≤ length m.slots → AreInTime n [] es
     → (all_acted m (all_acts n [] es)).world ≡ last_world m.world (commands_of (all_taken [] es))
 game-world m n es some room h =
-    (all_followed m.world n [] m es some h (record { room = room; world = refl; kept = λ t above below late. absurd (omega (arith, below)) })).world
+    (all_followed m.world n [] m es some h (record {
+      room = room;
+      world = refl;
+      kept = λ t above below late. absurd (omega (arith, below));
+    })).world
 
 pub games-alike : (l m : Machine) (k n : ℕ) (es fs : List Event) → 1 ≤ k → k ≤ length l.slots → 1 ≤ n → n ≤ length m.slots
     → AreInTime k [] es → AreInTime n [] fs → l.world ≡ m.world → all_taken [] es ≡ all_taken [] fs

@@ -1,5 +1,6 @@
 -- A held particle without a track keeps its place.
-use Rattle.std.proofs.Common.{◌≡◌, ◌≢◌, refl, sym, ap, ◌∙◌, ℕ, zero, suc, ◌+◌, ◌<◌, Bool, true, false, not, ◌&&◌, ◌||◌, List, [], ◌∷◌, length, map, get_or, All, arith, ℤ, pos, inl, inr, subst, unsigned_abs}
+use Rattle.std.proofs.Common.{◌≡◌, ◌≢◌, refl, sym, ap, ◌∙◌, ℕ, zero, suc, ◌+◌, ◌<◌, Bool, true, false, not, ◌&&◌, ◌||◌, List, [], ◌∷◌}
+use Rattle.std.proofs.Common.{length, map, get_or, All, arith, ℤ, pos, inl, inr, subst, unsigned_abs}
 use Rattle.std.specs.Prelude.{Option, Some, None, IfSome, Result, Ok, Err, IfOk, if◌then◌else◌, ◌==◌, option_map}
 use Rattle.std.specs.List.{AllByRecursion, AllZip, zip, find}
 use Rattle.std.proofs.lemmas.Bool.{cases_eq, cases_lt, false≢true}
@@ -25,7 +26,8 @@ use Rattle.pbd_world.specs.Outcomes.{with_fault, unless, one_more, each_from}
 use Rattle.pbd_world.specs.Tracks.{track_of, held_place}
 use Rattle.pbd_world.specs.Bonds.{link_bond, contact_bond, end_of, is_slack, shift_of, correction_of, corrected, one, projected}
 use Rattle.pbd_world.specs.Shapes.{Shape, Way, Shaped, stays, still, shaped_by, way_through, shaped, shapes_of, rubbed, slowed}
-use Rattle.pbd_world.specs.Step.{attached, flown, if_within, predicted, predict, Passing, link_order, contact_order, link_part, contact_part, all_shaped, shape_part, leaves, pass, step}
+use Rattle.pbd_world.specs.Step.{attached, flown, if_within, predicted, predict, Passing, link_order, contact_order, link_part}
+use Rattle.pbd_world.specs.Step.{contact_part, all_shaped, shape_part, leaves, pass, step}
 use Rattle.pbd_world.specs.Meaning.{refusals, run_steps, steps_of, meaning, after}
 use Rattle.pbd_world.specs.Session.{last_world}
 use Rattle.pbd_world.proofs.KeepingOn.{bind-keeps, fault-keeps, turn-keeps, repeat-keeps, each-keeps, length-mapped, length-zipped, zip-map}
@@ -35,12 +37,18 @@ use Rattle.pbd_laws.specs.Targets.{Target, target}
 use Rattle.pbd_laws.specs.Targets.Target.{OneParticle, OneLink, TheGravity}
 use Rattle.pbd_laws.proofs.StepsLead.{step-keeps, done-leads}
 use Rattle.pbd_laws.proofs.Edits.{Edit, edited, edit_of, place_of, same_place, Verdict, verdict, either, after-is, Agree, edited-agrees}
+use Rattle.pbd_world.proofs.PredictGoes.{untracked}
 
 -- ---- a bond doesn't move a held end
 
 no_shares : (s : Vec3) (k : ℤ) (total : ℕ) → 0 < total
-    → (let v : Vec3 = record { x = share_of s.x k (pos 0) total; y = share_of s.y k (pos 0) total; z = share_of s.z k (pos 0) total } in v) ≡ zero_vector
-no_shares s k total some = λ i. record { x = share_none s.x k total some i; y = share_none s.y k total some i; z = share_none s.z k total some i }
+    → (let v : Vec3 = record { x = share_of s.x k (pos 0) total; y = share_of s.y k (pos 0) total; z = share_of s.z k (pos 0) total } in v)
+    ≡ zero_vector
+no_shares s k total some = λ i. record {
+  x = share_none s.x k total some i;
+  y = share_none s.y k total some i;
+  z = share_none s.z k total some i;
+}
 
 first_held : (a b : Vec3) (rest k w : ℤ) → (pair_moves a b rest k (pos 0) w).0 ≡ zero_vector
 first_held a b rest k w = elim (cases_lt 0 (length_of (minus a b))) [
@@ -153,7 +161,8 @@ shaped_stays limit shapes p = by p.held refl
     free (Some way) e = λ h. absurd (false≢true (sym e ∙ h))
 
     by : (held : Bool) → p.held ≡ held
-        → IfSome (if held then Some (still p) else option_map (shaped_by p) (way_through limit shapes (record { at = p.at; touched = false })))
+        → IfSome (if held then Some (still p) else option_map (shaped_by p)
+        (way_through limit shapes (record { at = p.at; touched = false })))
         (λ s. p.held ≡ true → s.moved.particle ≡ p)
     by true e = λ h. refl
     by false e = free (way_through limit shapes (record { at = p.at; touched = false })) e
@@ -163,7 +172,8 @@ pub record PassHolds (i : ℕ) (p : Particle) (s : Passing) : Type 0 where
   pub motion : Holds i p s.motion.particles
   pub flag : i < length s.touched
 
-zip_inside : {A B C : Type 0} (f : A × B → C) (xs : List A) (ys : List B) (i : ℕ) → i < length xs → i < length ys → i < length (map f (zip xs ys))
+zip_inside : {A B C : Type 0} (f : A × B → C) (xs : List A) (ys : List B) (i : ℕ) → i < length xs → i < length ys
+    → i < length (map f (zip xs ys))
 zip_inside f [] ys i h k = absurd (omega (arith, h))
 zip_inside f (x ∷ xs) [] i h k = absurd (omega (arith, k))
 zip_inside f (x ∷ xs) (y ∷ ys) zero h k = omega arith
@@ -175,14 +185,17 @@ all_shaped_holds i p s ss h z =
     let ps = s.motion.particles in
     let ms = map {A = Shaped} {B = Moved} (λ x. x.moved) ss in
     let there = inside i p ps h.motion in
-    let moved : AllZip (λ q m. q.held ≡ true → m.particle ≡ q) ps ms = zip-map (λ q m. q.held ≡ true → m.particle ≡ q) (λ (x : Shaped). x.moved) ps ss z in
-    let placed : AllZip (λ q r. q.held ≡ true → r ≡ q) ps (map {A = Moved} {B = Particle} (λ m. m.particle) ms) = zip-map (λ q r. q.held ≡ true → r ≡ q)
+    let moved : AllZip (λ q m. q.held ≡ true → m.particle ≡ q) ps ms =
+    zip-map (λ q m. q.held ≡ true → m.particle ≡ q) (λ (x : Shaped). x.moved) ps ss z in
+    let placed : AllZip (λ q r. q.held ≡ true → r ≡ q) ps (map {A = Moved} {B = Particle} (λ m. m.particle) ms) =
+    zip-map (λ q r. q.held ≡ true → r ≡ q)
     (λ (m : Moved). m.particle) ps ms moved in
     let flags = map {A = Shaped} {B = Bool} (λ x. x.touched) ss in
     let many : length flags ≡ length ps = length-mapped (λ (x : Shaped). x.touched) ss ∙ length-zipped _ ps ss z in
     record {
       motion = record {
-        is = zip_at (λ q r. q.held ≡ true → r ≡ q) ps _ i no_particle no_particle placed there (ap (λ (q : Particle). q.held) h.motion.is ∙ h.motion.held)
+        is = zip_at (λ q r. q.held ≡ true → r ≡ q) ps _ i no_particle no_particle placed there
+            (ap (λ (q : Particle). q.held) h.motion.is ∙ h.motion.held)
             ∙ h.motion.is;
         held = h.motion.held;
       };
@@ -199,14 +212,16 @@ shapes_hold i p w s h =
 
 -- ---- a pass
 
-pass_holds : (i : ℕ) (p : Particle) (w : World) (pairs : List (ℕ × ℕ)) (s : Passing) → PassHolds i p s → IfOk (pass w pairs s) (PassHolds i p)
+pass_holds : (i : ℕ) (p : Particle) (w : World) (pairs : List (ℕ × ℕ)) (s : Passing) → PassHolds i p s
+    → IfOk (pass w pairs s) (PassHolds i p)
 unfolding pass
 pass_holds i p w pairs s h =
     bind-keeps (λ m. Holds i p m.particles) (PassHolds i p) (with_fault (leaves w phases.Link) (link_part w s.motion)) _
     (fault-keeps (λ m. Holds i p m.particles) (leaves w phases.Link) (link_part w s.motion) (bonds_hold i p w.limit (link_bond w.links)
     (link_order w.links) s.motion h.motion))
     (λ m km. bind-keeps (λ m. Holds i p m.particles) (PassHolds i p) (with_fault (leaves w phases.Contact) (contact_part w pairs m)) _
-    (fault-keeps (λ m. Holds i p m.particles) (leaves w phases.Contact) (contact_part w pairs m) (bonds_hold i p w.limit (contact_bond w.thickness pairs)
+    (fault-keeps (λ m. Holds i p m.particles) (leaves w phases.Contact) (contact_part w pairs m)
+    (bonds_hold i p w.limit (contact_bond w.thickness pairs)
     (contact_order pairs) m km))
     (λ n kn. fault-keeps (PassHolds i p) (leaves w phases.Shape) (shape_part w (record s { motion = n }))
     (shapes_hold i p w (record s { motion = n }) (record { motion = kn; flag = h.flag }))))
@@ -214,7 +229,8 @@ pass_holds i p w pairs s h =
 -- ---- the start and the end of a step
 
 -- what f gives of item i
-more_at : {B : Type 0} (R : B → Type 0) (d : B) (n : ℕ) (o : Option B) (r : Result (List B) ℕ) → IfSome o R → IfOk (one_more n o r) (λ ys. R (get_or ys 0 d))
+more_at : {B : Type 0} (R : B → Type 0) (d : B) (n : ℕ) (o : Option B) (r : Result (List B) ℕ) → IfSome o R
+    → IfOk (one_more n o r) (λ ys. R (get_or ys 0 d))
 more_at R d n None r h = tt
 more_at R d n (Some y) (Ok ys) h = h
 more_at R d n (Some y) (Err k) h = tt
@@ -234,15 +250,6 @@ each_at R f c d n zero j (x ∷ xs) e l h =
 each_at R f c d n (suc i) j (x ∷ xs) e l h =
     more_later R d n i (f n x) (each_from (n + 1) f xs) (each_at R f c d (n + 1) i j xs (omega (arith, e)) (omega (arith, l)) h)
 
-no_track : (tracks : List Track) (i : ℕ) → is_tracked tracks i ≡ false → track_of tracks i ≡ None
-no_track [] i h = refl
-no_track (t ∷ ts) i h = by (t.particle == i) h (λ e. no_track ts i e)
-  where
-    by : (b : Bool) → (b || is_tracked ts i) ≡ false → (is_tracked ts i ≡ false → track_of ts i ≡ None)
-        → (if b then Some t else find (λ (u : Track). u.particle == i) ts) ≡ None
-    by true e f = absurd (false≢true (sym e))
-    by false e f = f e
-
 -- where a held particle without a track is at the start of a step
 abbrev attached_at : Particle → Particle
 attached_at p = record p { before = p.at }
@@ -250,10 +257,12 @@ attached_at p = record p { before = p.at }
 predicted_holds : (w : World) (i : ℕ) (p : Particle) → p.held ≡ true → is_tracked w.tracks i ≡ false
     → IfSome (predicted w i p) (λ m. m.particle ≡ attached_at p)
 predicted_holds w i p held none =
-    subst (λ b. IfSome (if b then Some (stays (attached w i p)) else if_within w.limit (flown w p)) (λ m. m.particle ≡ attached_at p)) (sym held)
-    (ap (λ (o : Option Track). record p { before = p.at; at = held_place o (w.steps + 1) p.at }) (no_track w.tracks i none))
+    subst (λ b. IfSome (if b then Some (stays (attached w i p)) else if_within w.limit (flown w p)) (λ m. m.particle ≡ attached_at p))
+    (sym held)
+    (ap (λ (o : Option Track). record p { before = p.at; at = held_place o (w.steps + 1) p.at }) (untracked w.tracks i none))
 
-moved_at : (ms : List Moved) (i : ℕ) → particle_at (map {A = Moved} {B = Particle} (λ m. m.particle) ms) i ≡ (get_or ms i (stays no_particle)).particle
+moved_at : (ms : List Moved) (i : ℕ) → particle_at (map {A = Moved} {B = Particle} (λ m. m.particle) ms) i
+    ≡ (get_or ms i (stays no_particle)).particle
 moved_at [] i = refl
 moved_at (m ∷ ms) zero = refl
 moved_at (m ∷ ms) (suc i) = moved_at ms i
@@ -274,7 +283,8 @@ unfolding rubbed
 rubbed_stays friction p touched e = ap (λ (b : Bool). (if not b && touched then slowed friction p else stays p).particle) e
 
 rub_at : (friction : ℤ) (ps : List Particle) (ts : List Bool) (i : ℕ) → (particle_at ps i).held ≡ true → i < length ts
-    → particle_at (map {A = Moved} {B = Particle} (λ m. m.particle) (map {A = Particle × Bool} {B = Moved} (λ pair. rubbed friction pair.0 pair.1)
+    → particle_at (map {A = Moved} {B = Particle} (λ m. m.particle)
+    (map {A = Particle × Bool} {B = Moved} (λ pair. rubbed friction pair.0 pair.1)
     (zip ps ts))) i ≡ particle_at ps i
 rub_at friction [] ts i h l = absurd (false≢true h)
 rub_at friction (p ∷ ps) [] i h l = absurd (omega (arith, l))
@@ -294,7 +304,14 @@ step_stands i at w h =
     let p = particle_at w.particles i in
     step-keeps w (λ m. Holds i (attached_at p) m.particles) (PassHolds i (attached_at p)) (StandsAt i at)
     (predict_holds w i h.held h.alone)
-    (λ m k. record { motion = k; flag = omega (arith, length-mapped (λ (q : Particle). false) m.particles, inside i (attached_at p) m.particles k) })
+    (λ m k. record {
+      motion = k;
+      flag = omega (
+        arith,
+        length-mapped (λ (q : Particle). false) m.particles,
+        inside i (attached_at p) m.particles k,
+      );
+    })
     (λ pairs s k. pass_holds i (attached_at p) w pairs s k)
     (λ pairs s k.
     let is = rub_at w.friction s.motion.particles s.touched i (ap (λ (q : Particle). q.held) k.motion.is ∙ h.held) k.flag ∙ k.motion.is in
@@ -314,7 +331,8 @@ steps-stand w n i held alone =
     let h : StandsAt i at w = record { held = held; place = refl; alone = alone } in
     (done-leads (StandsAt i at) w (run_steps w n) h (run_stands i at w n h)).place
 
-edited_stands : (i : ℕ) (at : Vec3) (w : World) (e : Edit) → place_of e ≢ Some (OneParticle i) → StandsAt i at w → StandsAt i at (edited w e)
+edited_stands : (i : ℕ) (at : Vec3) (w : World) (e : Edit) → place_of e ≢ Some (OneParticle i) → StandsAt i at w
+    → StandsAt i at (edited w e)
 edited_stands i at w e other h =
     let a : Agree (OneParticle i) w (edited w e) = edited-agrees w e (OneParticle i) other in
     record {
@@ -331,7 +349,8 @@ named_stands i at w c t named other h = subst (StandsAt i at) (sym (after-is w c
     by (Ok u) = edited_stands i at w (edit_of c) (λ e. other (sym (same_place c) ∙ e)) h
     by (Err e) = h
 
-command_stands : (i : ℕ) (at : Vec3) (w : World) (c : Command) → target c ≢ Some (OneParticle i) → StandsAt i at w → StandsAt i at (after w c)
+command_stands : (i : ℕ) (at : Vec3) (w : World) (c : Command) → target c ≢ Some (OneParticle i) → StandsAt i at w
+    → StandsAt i at (after w c)
 unfolding meaning
 command_stands i at w (commands.Step n) other h = done-leads (StandsAt i at) w (run_steps w n) h (run_stands i at w n h)
 command_stands i at w commands.Frame other h = h
@@ -352,4 +371,5 @@ session-stands i at w (c ∷ cs) all h =
 
 pub held-stays : (w : World) (i : ℕ) (cs : List Command) → (particle_at w.particles i).held ≡ true → is_tracked w.tracks i ≡ false
     → All (λ c. target c ≢ Some (OneParticle i)) cs → StandsAt i (particle_at w.particles i).at (last_world w cs)
-held-stays w i cs held alone all = session-stands i (particle_at w.particles i).at w cs all (record { held = held; place = refl; alone = alone })
+held-stays w i cs held alone all = session-stands i (particle_at w.particles i).at w cs all
+    (record { held = held; place = refl; alone = alone })

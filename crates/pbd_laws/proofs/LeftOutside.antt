@@ -1,6 +1,7 @@
 -- Where planes and spheres leave a particle.
 use borrow.Author.Differences.{up, down, sum_is_lem, product_is}
-use Rattle.std.proofs.Common.{◌≡◌, refl, sym, ap, ◌∙◌, ℕ, zero, suc, ◌+◌, ◌*◌, ◌<◌, ◌≤◌, Bool, true, false, List, [], ◌∷◌, length, map, arith, pos, negsuc, ℤ, ◌+ℤ◌, ◌-ℤ◌, ◌*ℤ◌, ◌≤ℤ◌, unsigned_abs, subst}
+use Rattle.std.proofs.Common.{◌≡◌, refl, sym, ap, ◌∙◌, ℕ, zero, suc, ◌+◌, ◌*◌, ◌<◌, ◌≤◌, Bool, true, false, List, [], ◌∷◌, length, map}
+use Rattle.std.proofs.Common.{arith, pos, negsuc, ℤ, ◌+ℤ◌, ◌-ℤ◌, ◌*ℤ◌, ◌≤ℤ◌, unsigned_abs, subst}
 use Rattle.std.specs.Prelude.{Option, Some, None, IfSome, Result, Ok, IfOk, IsTrue, if◌then◌else◌, int_lt, ◌==◌, nat_le, nat_lt, option_map}
 use Rattle.std.specs.List.{AllByRecursion, AllZip, list_all}
 use Rattle.std.proofs.lemmas.Int.{ints}
@@ -18,7 +19,8 @@ use Rattle.pbd_world.specs.Particles.{Moved, no_particle, particle_at}
 use Rattle.pbd_world.specs.Valid.{is_valid_plane}
 use Rattle.pbd_world.specs.World.{World, parts_of, IsSound}
 use Rattle.pbd_world.specs.Outcomes.{each_from}
-use Rattle.pbd_world.specs.Shapes.{Shape, plane_shape, sphere_shape, onto_sphere, shapes_of, Way, past, way_through, Shaped, still, shaped_by, shaped}
+use Rattle.pbd_world.specs.Shapes.{Shape, plane_shape, sphere_shape, onto_sphere, shapes_of, Way, past, way_through, Shaped, still}
+use Rattle.pbd_world.specs.Shapes.{shaped_by, shaped}
 use Rattle.pbd_world.specs.Step.{Passing, all_shaped, shape_part}
 use Rattle.pbd_world.proofs.KeepingOn.{bind-keeps, each-keeps, zip-map, all-map, all-append}
 use Rattle.pbd_world.proofs.KeptLemmas.{zip_at}
@@ -26,6 +28,7 @@ use Rattle.pbd_world.proofs.WorldParts.{formed}
 use Rattle.pbd_laws.specs.Solids.{Solid, solids_of, shape_by, later_or, last_from, last_solid, size_sum, IsOut}
 use Rattle.pbd_laws.specs.Solids.Solid.{APlane, ASphere}
 use Rattle.pbd_laws.proofs.Rounded.{IsNear, near, cancel, far-vector}
+use Rattle.pbd_laws.proofs.Counting.{ok_at}
 
 same_some : {A : Type 0} (x y : A) → Some x ≡ Some y → x ≡ y
 same_some x y e = cc
@@ -69,7 +72,8 @@ plane_moved n p offset k d some is lack =
     let less = down (n.x *ℤ qx) + down (n.y *ℤ qy) + down (n.z *ℤ qz) in
     let more = up (n.x *ℤ qx) + up (n.y *ℤ qy) + up (n.z *ℤ qz) in
     let whole = ap (λ m. k * m) is in
-    let all : 2 * k + 2 * less ≤ 2 * more + size_sum n = cancel d (2 * k + 2 * less) (2 * more + size_sum n) some (omega (arith, x, y, z, whole)) in
+    let all : 2 * k + 2 * less ≤ 2 * more + size_sum n = cancel d (2 * k + 2 * less) (2 * more + size_sum n) some
+    (omega (arith, x, y, z, whole)) in
     sums offset (n.x *ℤ p.x) (n.y *ℤ p.y) (n.z *ℤ p.z) (n.x *ℤ qx) (n.y *ℤ qy) (n.z *ℤ qz) _ _ _ k (size_sum n) (split_axis n.x p.x qx)
     (split_axis n.y p.y qy) (split_axis n.z p.z qz) lack all
   where
@@ -96,7 +100,8 @@ plane-out plane p to some h = by (int_lt (pos 0) (plane.offset -ℤ dot plane.no
         (plane_moved n p plane.offset (unsigned_abs lack) (squared_length n) some refl is))
 
     by : (b : Bool) → int_lt (pos 0) (plane.offset -ℤ dot plane.normal p) ≡ b
-        → (if b then Some (plane_to plane.normal p (plane.offset -ℤ dot plane.normal p) (dot plane.normal plane.normal)) else None) ≡ Some to → IsOut
+        → (if b then Some (plane_to plane.normal p (plane.offset -ℤ dot plane.normal p) (dot plane.normal plane.normal)) else None)
+        ≡ Some to → IsOut
         (APlane plane) to
     by true e h = subst (IsOut (APlane plane)) (same_some _ to h) (moved e)
     by false e h = absurd (cc)
@@ -142,7 +147,8 @@ sphere_to sphere p r b =
 
 to_far : (k : ℕ) (sphere : Sphere) (p : Vec3) (b : Bool) → (length_of (minus p sphere.centre) == 0) ≡ b
     → k ≤ length_of (minus (sphere_to sphere p (pos (1 + k)) b) sphere.centre)
-to_far k sphere p true e = subst (λ (v : Vec3). k ≤ length_of v) (sym (back_to sphere.centre (record { x = pos 0; y = pos (1 + k); z = pos 0 }))) (up_far k)
+to_far k sphere p true e = subst (λ (v : Vec3). k ≤ length_of v)
+    (sym (back_to sphere.centre (record { x = pos 0; y = pos (1 + k); z = pos 0 }))) (up_far k)
 to_far k sphere p false e =
     let d = minus p sphere.centre in
     subst (λ (v : Vec3). k ≤ length_of v) (sym (back_to sphere.centre (scaled (pos (1 + k)) (pos (length_of d)) d)))
@@ -230,7 +236,8 @@ shaped_left limit ss p all = by p.held refl
     free (Some way) e h = record { free = λ k. h; held = λ k. absurd (false≢true (sym e ∙ k)) }
 
     by : (held : Bool) → p.held ≡ held
-        → IfSome (if held then Some (still p) else option_map (shaped_by p) (way_through limit (map shape_by ss) (record { at = p.at; touched = false })))
+        → IfSome (if held then Some (still p) else option_map (shaped_by p)
+        (way_through limit (map shape_by ss) (record { at = p.at; touched = false })))
         (λ x. IsLeft ss p x.moved.particle.at)
     by true e = record { free = λ k. absurd (false≢true (sym k ∙ e)); held = λ k. refl }
     by false e = free (way_through limit (map shape_by ss) (record { at = p.at; touched = false })) e
@@ -260,7 +267,8 @@ spheres_normal (s ∷ ss) = (tt, spheres_normal ss)
 
 solids_normal : (w : World) → IsSound w → AllByRecursion HasNormal (solids_of w.planes w.spheres)
 solids_normal w sound =
-    let planes = (and_parts (nat_le (length w.planes) 256) (list_all is_valid_plane w.planes) (formed (parts_of w) sound.well_formed).planes).1 in
+    let planes = (and_parts (nat_le (length w.planes) 256) (list_all is_valid_plane w.planes)
+    (formed (parts_of w) sound.well_formed).planes).1 in
     all-append HasNormal (map (λ plane. APlane plane) w.planes) (map (λ sphere. ASphere sphere) w.spheres)
     (all-map HasNormal (λ plane. APlane plane) w.planes (planes_normal w.planes planes))
     (all-map HasNormal (λ sphere. ASphere sphere) w.spheres (spheres_normal w.spheres))
@@ -280,21 +288,21 @@ part_left w s sound =
     zip-map (λ p r. IsLeft ss p r.at) (λ (m : Moved). m.particle) s.motion.particles _
     (zip-map (λ p m. IsLeft ss p m.particle.at) (λ (x : Shaped). x.moved) s.motion.particles xs z))
 
-ok_at : {A E : Type 0} (P : A → Type 0) (r : Result A E) (x : A) → r ≡ Ok x → IfOk r P → P x
-ok_at P r x e h = subst (λ r. IfOk r P) e h
-
 left_at : (w : World) (s t : Passing) (i : ℕ) → IsSound w → shape_part w s ≡ Ok t → i < length s.motion.particles
     → IsLeft (solids_of w.planes w.spheres) (particle_at s.motion.particles i) (particle_at t.motion.particles i).at
 left_at w s t i sound e l =
-    let z = ok_at (λ t. AllZip (λ p r. IsLeft (solids_of w.planes w.spheres) p r.at) s.motion.particles t.motion.particles) (shape_part w s) t e
+    let z = ok_at (λ t. AllZip (λ p r. IsLeft (solids_of w.planes w.spheres) p r.at) s.motion.particles t.motion.particles)
+    (shape_part w s) t e
     (part_left w s sound) in
     zip_at (λ p r. IsLeft (solids_of w.planes w.spheres) p r.at) s.motion.particles t.motion.particles i no_particle no_particle z l
 
 pub last-out : (w : World) (s t : Passing) (i : ℕ) (solid : Solid) → IsSound w → shape_part w s ≡ Ok t → i < length s.motion.particles
-    → (particle_at s.motion.particles i).held ≡ false → last_solid (solids_of w.planes w.spheres) (particle_at s.motion.particles i).at ≡ Some solid
+    → (particle_at s.motion.particles i).held ≡ false → last_solid (solids_of w.planes w.spheres) (particle_at s.motion.particles i).at
+    ≡ Some solid
     → IsOut solid (particle_at t.motion.particles i).at
 last-out w s t i solid sound e l free last =
-    subst (λ o. Comes o (particle_at s.motion.particles i).at (particle_at t.motion.particles i).at) last ((left_at w s t i sound e l).free free)
+    subst (λ o. Comes o (particle_at s.motion.particles i).at (particle_at t.motion.particles i).at) last
+    ((left_at w s t i sound e l).free free)
 
 pub none-out : (w : World) (s t : Passing) (i : ℕ) → IsSound w → shape_part w s ≡ Ok t → i < length s.motion.particles
     → last_solid (solids_of w.planes w.spheres) (particle_at s.motion.particles i).at ≡ None

@@ -1,5 +1,6 @@
 -- One projection of one bond.
-use Rattle.std.proofs.Common.{◌≡◌, sym, ap, ◌∙◌, ℕ, ◌+◌, ◌-◌, ◌*◌, ◌<◌, inl, inr, Bool, true, false, ◌&&◌, arith, pos, ℤ, neg_ℤ, ◌+ℤ◌, ◌-ℤ◌, ◌*ℤ◌, ◌≤ℤ◌, ◌<ℤ◌, unsigned_abs, subst}
+use Rattle.std.proofs.Common.{◌≡◌, sym, ap, ◌∙◌, ℕ, ◌+◌, ◌-◌, ◌*◌, ◌<◌, inl, inr, Bool, true, false, ◌&&◌, arith, pos, ℤ, neg_ℤ, ◌+ℤ◌, ◌-ℤ◌}
+use Rattle.std.proofs.Common.{◌*ℤ◌, ◌≤ℤ◌, ◌<ℤ◌, unsigned_abs, subst}
 use Rattle.std.specs.Prelude.{if◌then◌else◌}
 use Rattle.std.proofs.lemmas.Int.{ints}
 use Rattle.std.proofs.lemmas.Bool.{cases_lt}
@@ -18,7 +19,8 @@ use Rattle.pbd_world.specs.declared.bond.Shift.{Shift}
 use Rattle.pbd_world.specs.declared.bond.Correction.TheVariants.{Slack, Leaves, Moves}
 use Rattle.pbd_world.specs.Bonds.{is_slack, shift_of, correction_of}
 use Rattle.pbd_laws.specs.Bonding.{distance, distance_after, IsOneHeld, AreEqual, IsAbout}
-use Rattle.pbd_laws.proofs.Rounded.{IsNear, near, times, times-plus, times-minus, minus-times, IsAxisNear, IsVectorNear, far-vector, near-vector}
+use Rattle.pbd_laws.proofs.Rounded.{IsNear, near, times, times-plus, times-minus, minus-times, IsAxisNear, IsVectorNear, far-vector}
+use Rattle.pbd_laws.proofs.Rounded.{near-vector}
 
 -- ---- the shares of a correction
 
@@ -92,18 +94,21 @@ second_held_fair first second held free =
 -- ---- one axis
 
 -- by the products alone: p and r times the distance, v and g times what is left of it and the moves, s times the correction n
-low_linear : (p r v g s n : ℤ) (len k m : ℕ) → n ≡ p -ℤ r → v ≡ p -ℤ g → m ≡ len + 2 * k → (pos 2 *ℤ s) ≤ℤ (pos 2 *ℤ n +ℤ pos len) → g ≤ℤ (s +ℤ pos k)
+low_linear : (p r v g s n : ℤ) (len k m : ℕ) → n ≡ p -ℤ r → v ≡ p -ℤ g → m ≡ len + 2 * k → (pos 2 *ℤ s) ≤ℤ (pos 2 *ℤ n +ℤ pos len)
+    → g ≤ℤ (s +ℤ pos k)
     → (pos 2 *ℤ r) ≤ℤ (pos 2 *ℤ v +ℤ pos m)
 low_linear p r v g s n len k m hn hv hm high more = omega (arith, ints, hn, hv, hm, high, more)
 
-high_linear : (p r v g s n : ℤ) (len k m : ℕ) → n ≡ p -ℤ r → v ≡ p -ℤ g → m ≡ len + 2 * k → (pos 2 *ℤ n) ≤ℤ (pos 2 *ℤ s +ℤ pos len) → s ≤ℤ (g +ℤ pos k)
+high_linear : (p r v g s n : ℤ) (len k m : ℕ) → n ≡ p -ℤ r → v ≡ p -ℤ g → m ≡ len + 2 * k → (pos 2 *ℤ n) ≤ℤ (pos 2 *ℤ s +ℤ pos len)
+    → s ≤ℤ (g +ℤ pos k)
     → (pos 2 *ℤ v) ≤ℤ (pos 2 *ℤ r +ℤ pos m)
 high_linear p r v g s n len k m hn hv hm low less = omega (arith, ints, hn, hv, hm, low, less)
 
 left_over : (a b g h : ℤ) → (a +ℤ neg_ℤ g) -ℤ (b +ℤ h) ≡ (a -ℤ b) -ℤ (g +ℤ h)
 left_over a b g h = omega (arith, ints)
 
-axis_after : (slack len r : ℕ) (a b s g h : ℤ) → IsNear ((pos len -ℤ pos r) *ℤ (a -ℤ b)) len s → s ≤ℤ ((g +ℤ h) +ℤ pos slack) → (g +ℤ h) ≤ℤ (s +ℤ pos slack)
+axis_after : (slack len r : ℕ) (a b s g h : ℤ) → IsNear ((pos len -ℤ pos r) *ℤ (a -ℤ b)) len s → s ≤ℤ ((g +ℤ h) +ℤ pos slack)
+    → (g +ℤ h) ≤ℤ (s +ℤ pos slack)
     → IsAxisNear r len (1 + 2 * slack) (a -ℤ b) ((a +ℤ neg_ℤ g) -ℤ (b +ℤ h))
 axis_after slack len r a b s g h n less more =
     let d = a -ℤ b in
@@ -111,12 +116,15 @@ axis_after slack len r a b s g h n less more =
     let product = minus-times (pos len) (pos r) d in
     let left : pos len *ℤ ((a +ℤ neg_ℤ g) -ℤ (b +ℤ h)) ≡ pos len *ℤ d -ℤ pos len *ℤ moved = ap (λ z. pos len *ℤ z) (left_over a b g h)
     ∙ times-minus len d moved in
-    let below : (pos len *ℤ s) ≤ℤ (pos len *ℤ moved +ℤ pos (len * slack)) = rw (← (times-plus len moved (pos slack))) (times len s (moved +ℤ pos slack) less) in
-    let above : (pos len *ℤ moved) ≤ℤ (pos len *ℤ s +ℤ pos (len * slack)) = rw (← (times-plus len s (pos slack))) (times len moved (s +ℤ pos slack) more) in
+    let below : (pos len *ℤ s) ≤ℤ (pos len *ℤ moved +ℤ pos (len * slack)) =
+    rw (← (times-plus len moved (pos slack))) (times len s (moved +ℤ pos slack) less) in
+    let above : (pos len *ℤ moved) ≤ℤ (pos len *ℤ s +ℤ pos (len * slack)) =
+    rw (← (times-plus len s (pos slack))) (times len moved (s +ℤ pos slack) more) in
     let many : (1 + 2 * slack) * len ≡ len + 2 * (len * slack) = omega arith in
     record {
       low = low_linear (pos len *ℤ d) (pos r *ℤ d) _ (pos len *ℤ moved) (pos len *ℤ s) _ len (len * slack) _ product left many n.high above;
-      high = high_linear (pos len *ℤ d) (pos r *ℤ d) _ (pos len *ℤ moved) (pos len *ℤ s) _ len (len * slack) _ product left many n.low below;
+      high = high_linear (pos len *ℤ d) (pos r *ℤ d) _ (pos len *ℤ moved) (pos len *ℤ s) _ len
+          (len * slack) _ product left many n.low below;
     }
 
 -- ---- the distance after
@@ -133,7 +141,8 @@ vector_after slack r a b first second total fair apart =
     let d = minus a b in
     let len = length_of d in
     let s = corrections d (pos r) in
-    let n : (z : ℤ) → IsNear ((pos len -ℤ pos r) *ℤ z) len (along (pos len -ℤ pos r) z len) = λ z. near ((pos len -ℤ pos r) *ℤ z) len apart in
+    let n : (z : ℤ) → IsNear ((pos len -ℤ pos r) *ℤ z) len (along (pos len -ℤ pos r) z len) = λ z.
+    near ((pos len -ℤ pos r) *ℤ z) len apart in
     record {
       x = axis_after slack len r a.x b.x s.x _ _ (n d.x) (fair.low s.x) (fair.high s.x);
       y = axis_after slack len r a.y b.y s.y _ _ (n d.y) (fair.low s.y) (fair.high s.y);
@@ -146,7 +155,8 @@ about m r d v some apart h = record {
     | inl small ↦ omega (arith, small)
     | inr large ↦
         let is : r ≡ m + (r - m) = omega (arith, large) in
-        let far = far-vector m (r - m) (length_of d) d v some apart (subst (λ k. IsVectorNear k (length_of d) m d v) is h) (root-square (squared_length d)) in
+        let far = far-vector m (r - m) (length_of d) d v some apart (subst (λ k. IsVectorNear k (length_of d) m d v) is h)
+        (root-square (squared_length d)) in
         omega (arith, far, is)
   ];
   high = near-vector m r (length_of d) d v some apart h (root-next (squared_length d));
@@ -154,7 +164,8 @@ about m r d v some apart h = record {
 
 -- ---- a bond
 
-by_tests : (limit : ℤ) (slack within : Bool) (s t : Shift) → (if slack then Slack else (if within then Moves t else Leaves)) ≡ Moves s → s ≡ t
+by_tests : (limit : ℤ) (slack within : Bool) (s t : Shift) → (if slack then Slack else (if within then Moves t else Leaves)) ≡ Moves s
+    → s ≡ t
 by_tests limit true within s t h = absurd (cc)
 by_tests limit false true s t h = sym (same t s h)
   where
@@ -169,7 +180,8 @@ moved_by limit p q bond s h =
     by_tests limit (is_slack p q bond) (is_within limit t.first && is_within limit t.second) s t h
 
 -- the ends after the moves
-ends_after : (p q : End) (bond : Bond) (s : Shift) (m : Vec3 × Vec3) → s ≡ shift_of p q bond → pair_moves p.at q.at bond.rest bond.k p.weight q.weight ≡ m
+ends_after : (p q : End) (bond : Bond) (s : Shift) (m : Vec3 × Vec3) → s ≡ shift_of p q bond
+    → pair_moves p.at q.at bond.rest bond.k p.weight q.weight ≡ m
     → (s.first ≡ plus p.at m.0) × (s.second ≡ plus q.at m.1)
 unfolding shift_of
 ends_after p q bond s m is moves = (

@@ -1,6 +1,7 @@
 -- How far a rounded quotient is from its quotient, and vectors of which one is nearly a multiple of the other.
 use borrow.Author.Differences.{up, down, sum_is_lem, neg_is, product_is}
-use Rattle.std.proofs.Common.{◌≡◌, refl, ap, ◌∙◌, ℕ, zero, suc, ◌+◌, ◌-◌, ◌*◌, ◌/◌, ◌%◌, ◌<◌, ◌≤◌, inl, inr, arith, pos, negsuc, ℤ, neg_ℤ, ◌+ℤ◌, ◌-ℤ◌, ◌*ℤ◌, ◌≤ℤ◌, unsigned_abs}
+use Rattle.std.proofs.Common.{◌≡◌, refl, ap, ◌∙◌, ℕ, zero, suc, ◌+◌, ◌-◌, ◌*◌, ◌/◌, ◌%◌, ◌<◌, ◌≤◌, inl, inr, arith, pos, negsuc, ℤ, neg_ℤ}
+use Rattle.std.proofs.Common.{◌+ℤ◌, ◌-ℤ◌, ◌*ℤ◌, ◌≤ℤ◌, unsigned_abs}
 use Rattle.std.proofs.lemmas.Int.{ints, unsigned_abs-mul}
 use Rattle.std.proofs.lemmas.Bool.{cases_lt}
 use Rattle.std.proofs.Math.Nat.{mul-le-mul, div-add-mod}
@@ -31,7 +32,8 @@ near_neg a d q r z is whole rest =
 pub near : (n : ℤ) (d : ℕ) → 0 < d → IsNear n d (rdiv n (pos d))
 unfolding rdiv
 near (pos a) d h =
-    near_pos a d ((2 * a + d) / (2 * d)) ((2 * a + d) % (2 * d)) (div-add-mod (2 * a + d) (2 * d)) (below_divisor (2 * a + d) (2 * d) (omega (arith, h)))
+    near_pos a d ((2 * a + d) / (2 * d)) ((2 * a + d) % (2 * d)) (div-add-mod (2 * a + d) (2 * d))
+    (below_divisor (2 * a + d) (2 * d) (omega (arith, h)))
 near (negsuc a) d h =
     near_neg a d ((2 * (a + 1) + d) / (2 * d)) ((2 * (a + 1) + d) % (2 * d)) _ refl (div-add-mod (2 * (a + 1) + d) (2 * d))
     (below_divisor (2 * (a + 1) + d) (2 * d) (omega (arith, h)))
@@ -51,7 +53,16 @@ minus-times x y z =
     let neg = neg_is y in
     let by_up = ap (λ k. k * up z) sum in
     let by_down = ap (λ k. k * down z) sum in
-    omega (arith, ints, by_up, by_down, ap (λ k. k * up z) neg.0, ap (λ k. k * up z) neg.1, ap (λ k. k * down z) neg.0, ap (λ k. k * down z) neg.1)
+    omega (
+      arith,
+      ints,
+      by_up,
+      by_down,
+      ap (λ k. k * up z) neg.0,
+      ap (λ k. k * up z) neg.1,
+      ap (λ k. k * down z) neg.0,
+      ap (λ k. k * down z) neg.1,
+    )
 
 pub times : (n : ℕ) (x y : ℤ) → x ≤ℤ y → (pos n *ℤ x) ≤ℤ (pos n *ℤ y)
 times zero x y h = omega (arith, ints)
@@ -88,13 +99,17 @@ spread_axis n (pos a) (pos e) (pos u) is =
     let parts = product_is (pos a) (pos e) in alike n a e u _ _ (parts.0 ∙ omega arith) (parts.1 ∙ omega arith) (omega (arith, ints, is))
 spread_axis n (pos a) (pos e) (negsuc u) is = absurd (omega (arith, ints, is))
 spread_axis n (pos a) (negsuc e) (pos u) is =
-    let parts = product_is (pos a) (negsuc e) in above n a (suc e) u _ _ (parts.0 ∙ omega arith) (parts.1 ∙ omega arith) (omega (arith, ints, is))
+    let parts = product_is (pos a) (negsuc e) in above n a (suc e) u _ _ (parts.0 ∙ omega arith) (parts.1 ∙ omega arith)
+    (omega (arith, ints, is))
 spread_axis n (pos a) (negsuc e) (negsuc u) is =
-    let parts = product_is (pos a) (negsuc e) in under n a (suc e) (suc u) _ _ (parts.0 ∙ omega arith) (parts.1 ∙ omega arith) (omega (arith, ints, is))
+    let parts = product_is (pos a) (negsuc e) in under n a (suc e) (suc u) _ _ (parts.0 ∙ omega arith) (parts.1 ∙ omega arith)
+    (omega (arith, ints, is))
 spread_axis n (negsuc a) (pos e) (pos u) is =
-    let parts = product_is (negsuc a) (pos e) in under n (suc a) e u _ _ (parts.0 ∙ omega arith) (parts.1 ∙ omega arith) (omega (arith, ints, is))
+    let parts = product_is (negsuc a) (pos e) in under n (suc a) e u _ _ (parts.0 ∙ omega arith) (parts.1 ∙ omega arith)
+    (omega (arith, ints, is))
 spread_axis n (negsuc a) (pos e) (negsuc u) is =
-    let parts = product_is (negsuc a) (pos e) in above n (suc a) e (suc u) _ _ (parts.0 ∙ omega arith) (parts.1 ∙ omega arith) (omega (arith, ints, is))
+    let parts = product_is (negsuc a) (pos e) in above n (suc a) e (suc u) _ _ (parts.0 ∙ omega arith) (parts.1 ∙ omega arith)
+    (omega (arith, ints, is))
 spread_axis n (negsuc a) (negsuc e) (pos u) is =
     let parts = product_is (negsuc a) (negsuc e) in
     alike n (suc a) (suc e) u _ _ (parts.0 ∙ omega arith) (parts.1 ∙ omega arith) (absurd (omega (arith, ints, is)))
@@ -244,7 +259,8 @@ both_spread : (n : ℕ) (a e : Vec3) → IsSpread n a e (both n a e)
 unfolding both
 both_spread n a e = record { x = refl; y = refl; z = refl }
 
-pub far-vector : (m k len : ℕ) (a v : Vec3) → 0 < m → 0 < len → IsVectorNear (m + k) len m a v → len * len ≤ squared_length a → k ≤ length_of v
+pub far-vector : (m k len : ℕ) (a v : Vec3) → 0 < m → 0 < len → IsVectorNear (m + k) len m a v → len * len ≤ squared_length a
+    → k ≤ length_of v
 far-vector m k len a v some apart h is_long =
     let e = left_of (m + k) len a v in
     let whole = spread (m + k) a e (long len v) (long_spread (m + k) len a v) in

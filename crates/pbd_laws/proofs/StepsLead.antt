@@ -25,7 +25,8 @@ pub step-keeps : (w : World) (P : Motion → Type 0) (Q : Passing → Type 0) (R
     → IfOk (step w) R
 unfolding step
 step-keeps w P Q R first begins goes ends =
-    bind-keeps P R (with_fault (leaves w phases.Predict) (predict w)) (λ m. after_contacts w m (contacts_of w.thickness w.links m.particles))
+    bind-keeps P R (with_fault (leaves w phases.Predict) (predict w))
+    (λ m. after_contacts w m (contacts_of w.thickness w.links m.particles))
     (fault-keeps P (leaves w phases.Predict) (predict w) first)
     (λ m h.
     let pairs = contacts_of w.thickness w.links m.particles in

@@ -1,5 +1,6 @@
 -- The lines of replies: none has a newline within, and none begins as `session T` does.
-use Rattle.std.proofs.Common.{◌≡◌, refl, sym, ap, ◌∙◌, ℕ, zero, suc, ◌+◌, ◌/◌, ◌%◌, ◌<◌, Bool, true, false, not, ◌&&◌, List, [], ◌∷◌, ◌++◌, length, append_assoc, arith, ℤ, pos, negsuc, codes, decimal, subst}
+use Rattle.std.proofs.Common.{◌≡◌, refl, sym, ap, ◌∙◌, ℕ, zero, suc, ◌+◌, ◌/◌, ◌%◌, ◌<◌, Bool, true, false, not, ◌&&◌, List, [], ◌∷◌, ◌++◌}
+use Rattle.std.proofs.Common.{length, append_assoc, arith, ℤ, pos, negsuc, codes, decimal, subst}
 use Rattle.std.specs.Prelude.{◌==◌, nat_lt, if◌then◌else◌}
 use Rattle.std.specs.List.{list_all, flat_map, AllByRecursion}
 use Rattle.std.specs.Fmt.{digits, digits_onto, digit_glyph, signed_decimal}
@@ -10,13 +11,15 @@ use Rattle.pbd_world.specs.declared.parts.Particle.{Particle}
 use Rattle.pbd_world.specs.declared.command.Phase.{Phase}
 use Rattle.pbd_world.specs.declared.command.Phase.TheVariants.{Predict, Link, Contact, Shape}
 use Rattle.pbd_world.specs.declared.command.Refusal.{Refusal}
-use Rattle.pbd_world.specs.declared.command.Refusal.TheVariants.{BadCommand, NoParticle, NoLink, LinkGone, OutOfRange, NotHeld, Held, Tracked, BadCount, StepLimit, LeavesRange, TooManyContacts}
+use Rattle.pbd_world.specs.declared.command.Refusal.TheVariants.{BadCommand, NoParticle, NoLink, LinkGone, OutOfRange, NotHeld, Held}
+use Rattle.pbd_world.specs.declared.command.Refusal.TheVariants.{Tracked, BadCount, StepLimit, LeavesRange, TooManyContacts}
 use Rattle.pbd_world.specs.declared.command.Reply.{Reply}
 use Rattle.pbd_world.specs.declared.command.Reply.TheVariants as replies
 use Rattle.pbd_world.specs.Ledger.{Sum}
 use Rattle.pbd_world.specs.Momentum.{momentum}
 use Rattle.pbd_world.specs.World.{World, live_count}
-use Rattle.pbd_world.specs.Text.{line, place_line, header_line, frame_text, sum_line, ledger_text, phase_name, refusal_words, refusal_line, text}
+use Rattle.pbd_world.specs.Text.{line, place_line, header_line, frame_text, sum_line, ledger_text, phase_name, refusal_words, refusal_line}
+use Rattle.pbd_world.specs.Text.{text}
 
 -- no byte is a newline
 abbrev pub is_plain : List ℕ → Bool
@@ -79,7 +82,8 @@ line_is : (words : List (List ℕ)) → line words ≡ joined words ++ 10 ∷ []
 unfolding joined
 line_is [] = refl
 line_is (word ∷ []) = refl
-line_is (word ∷ next ∷ words) = ap (λ (bs : List ℕ). word ++ 32 ∷ bs) (line_is (next ∷ words)) ∙ sym (append_assoc word (32 ∷ joined (next ∷ words)) (10 ∷ []))
+line_is (word ∷ next ∷ words) = ap (λ (bs : List ℕ). word ++ 32 ∷ bs) (line_is (next ∷ words))
+    ∙ sym (append_assoc word (32 ∷ joined (next ∷ words)) (10 ∷ []))
 
 pub both_plain : (xs ys : List ℕ) → is_plain xs ≡ true → is_plain ys ≡ true → is_plain (xs ++ ys) ≡ true
 both_plain xs ys h k = list_all-append (λ b. not (b == 10)) xs ys ∙ and_from _ _ h k
@@ -111,7 +115,8 @@ pub record IsText (bs : List ℕ) : Type 0 where
   pub are : AllByRecursion IsLine lines
   pub is : bs ≡ flat_map (λ l. l ++ 10 ∷ []) lines
 
-one_line : (word : List ℕ) (words : List (List ℕ)) → is_own word ≡ true → AllByRecursion (λ w. is_plain w ≡ true) (word ∷ words) → IsText (line (word ∷ words))
+one_line : (word : List ℕ) (words : List (List ℕ)) → is_own word ≡ true → AllByRecursion (λ w. is_plain w ≡ true) (word ∷ words)
+    → IsText (line (word ∷ words))
 one_line word words h all = record {
   lines = joined (word ∷ words) ∷ [];
   are = (words_line word words h all, tt);
@@ -126,7 +131,8 @@ all_both : (xs ys : List (List ℕ)) → AllByRecursion IsLine xs → AllByRecur
 all_both [] ys h k = k
 all_both (x ∷ xs) ys h k = (h.0, all_both xs ys h.1 k)
 
-flat_both : (xs ys : List (List ℕ)) → flat_map (λ l. l ++ 10 ∷ []) (xs ++ ys) ≡ flat_map (λ l. l ++ 10 ∷ []) xs ++ flat_map (λ l. l ++ 10 ∷ []) ys
+flat_both : (xs ys : List (List ℕ)) → flat_map (λ l. l ++ 10 ∷ []) (xs ++ ys) ≡ flat_map (λ l. l ++ 10 ∷ []) xs
+    ++ flat_map (λ l. l ++ 10 ∷ []) ys
 flat_both [] ys = refl
 flat_both (x ∷ xs) ys =
     ap (λ (bs : List ℕ). (x ++ 10 ∷ []) ++ bs) (flat_both xs ys)
@@ -136,7 +142,8 @@ both_texts : (xs ys : List ℕ) → IsText xs → IsText ys → IsText (xs ++ ys
 both_texts xs ys h k = record {
   lines = h.lines ++ k.lines;
   are = all_both h.lines k.lines h.are k.are;
-  is = ap (λ (bs : List ℕ). bs ++ ys) h.is ∙ ap (λ (bs : List ℕ). flat_map (λ l. l ++ 10 ∷ []) h.lines ++ bs) k.is ∙ sym (flat_both h.lines k.lines);
+  is = ap (λ (bs : List ℕ). bs ++ ys) h.is ∙ ap (λ (bs : List ℕ). flat_map (λ l. l ++ 10 ∷ []) h.lines ++ bs) k.is
+      ∙ sym (flat_both h.lines k.lines);
 }
 
 places_text : (ps : List Particle) → IsText (flat_map place_line ps)

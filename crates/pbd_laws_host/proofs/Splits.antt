@@ -1,10 +1,11 @@
 -- The text of a host, split: what a session printed, from the bytes alone.
-use Rattle.std.proofs.Common.{◌≡◌, ◌≢◌, refl, sym, ap, ◌∙◌, ℕ, zero, suc, ◌+◌, ◌*◌, ◌/◌, ◌%◌, ◌<◌, ◌≤◌, ◌^◌, Bool, true, false, not, ◌&&◌, cond, List, [], ◌∷◌, ◌++◌, length, drop, append_assoc, All, arith, codes, decimal, subst, inl, inr}
+use Rattle.std.proofs.Common.{◌≡◌, ◌≢◌, refl, sym, ap, ◌∙◌, ℕ, zero, suc, ◌+◌, ◌*◌, ◌/◌, ◌%◌, ◌<◌, ◌≤◌, ◌^◌, Bool, true, false, not, ◌&&◌}
+use Rattle.std.proofs.Common.{cond, List, [], ◌∷◌, ◌++◌, length, drop, append_assoc, All, arith, codes, decimal, subst, inl, inr}
 use Rattle.std.specs.Prelude.{◌==◌, nat_lt, bytes_eq, if◌then◌else◌}
 use Rattle.std.specs.List.{AllByRecursion, list_all, flat_map, position_or_len}
 use Rattle.std.specs.Fmt.{digits, digits_onto, digit_glyph}
 use Rattle.std.specs.Str.Parse.{digits_value}
-use Rattle.std.proofs.lemmas.Bool.{and_parts, and_from, false≢true, eq-eqb, eqb-true}
+use Rattle.std.proofs.lemmas.Bool.{and_parts, and_from, false≢true, eq-eqb, eqb-true, not-true}
 use Rattle.std.proofs.lemmas.Bool.Decides.{nat_tests}
 use Rattle.std.proofs.lemmas.Fmt.{decimal_is_IsNumeral_wide}
 use Rattle.std.proofs.lemmas.List.Elements.{recursion_from_All}
@@ -14,9 +15,11 @@ use Rattle.pbd_world.specs.World.{World}
 use Rattle.pbd_world.specs.Text.{line, text}
 use Rattle.pbd_host.specs.declared.request.Request.{Request}
 use Rattle.pbd_host.specs.declared.request.Request.TheVariants.{Blank, BadTag, To}
-use Rattle.pbd_host.specs.Hosted.{world_at, worlds_after, session_line, bad_tag_text, command_text, request_text, hosted_text, is_to, without_first_line, own_text}
+use Rattle.pbd_host.specs.Hosted.{world_at, worlds_after, session_line, bad_tag_text, command_text, request_text, hosted_text, is_to}
+use Rattle.pbd_host.specs.Hosted.{without_first_line, own_text}
 use Rattle.pbd_host.specs.Tagged.{IsAmong}
 use Rattle.pbd_laws_host.proofs.Lines.{is_plain, is_own, IsLine, decimal-line, both_plain, IsText, text-is, refused-text}
+use Rattle.pbd_host.proofs.ApartLaws.{one_dropped}
 
 -- ---- splitting
 
@@ -49,31 +52,30 @@ split t p (b ∷ bs) = kept (shows p b) b (split t (next t p b) bs)
 
 -- ---- the lines of a reply
 
-is_no : (b : Bool) → not b ≡ true → b ≡ false
-is_no true e = sym e
-is_no false e = refl
-
-inside_own : (t : ℕ) (xs rest : List ℕ) → is_plain xs ≡ true → split t (Inside true) (xs ++ 10 ∷ rest) ≡ xs ++ 10 ∷ split t (Begin true) rest
+inside_own : (t : ℕ) (xs rest : List ℕ) → is_plain xs ≡ true
+    → split t (Inside true) (xs ++ 10 ∷ rest) ≡ xs ++ 10 ∷ split t (Begin true) rest
 inside_own t [] rest h = refl
 inside_own t (x ∷ xs) rest h =
     let parts = and_parts (not (x == 10)) (is_plain xs) h in
-    ap (λ b. x ∷ split t (if b then Begin true else Inside true) (xs ++ 10 ∷ rest)) (is_no (x == 10) parts.0)
+    ap (λ b. x ∷ split t (if b then Begin true else Inside true) (xs ++ 10 ∷ rest)) (not-true (x == 10) parts.0)
     ∙ ap (λ (bs : List ℕ). x ∷ bs) (inside_own t xs rest parts.1)
 
 inside_other : (t : ℕ) (xs rest : List ℕ) → is_plain xs ≡ true → split t (Inside false) (xs ++ 10 ∷ rest) ≡ split t (Begin false) rest
 inside_other t [] rest h = refl
 inside_other t (x ∷ xs) rest h =
     let parts = and_parts (not (x == 10)) (is_plain xs) h in
-    ap (λ b. split t (if b then Begin false else Inside false) (xs ++ 10 ∷ rest)) (is_no (x == 10) parts.0) ∙ inside_other t xs rest parts.1
+    ap (λ b. split t (if b then Begin false else Inside false) (xs ++ 10 ∷ rest)) (not-true (x == 10) parts.0)
+    ∙ inside_other t xs rest parts.1
 
 line_own : (t : ℕ) (xs rest : List ℕ) → IsLine xs → split t (Begin true) (xs ++ 10 ∷ rest) ≡ xs ++ 10 ∷ split t (Begin true) rest
 line_own t [] rest h = refl
 line_own t (x ∷ xs) rest h =
     let parts = and_parts (not (x == 10)) (is_plain xs) h.plain in
     let later = xs ++ 10 ∷ rest in
-    ap (λ b. kept (if b then false else true) x (split t (if b then Head (x ∷ []) else (if x == 10 then Begin true else Inside true)) later))
-    (is_no (x == 115) h.own)
-    ∙ ap (λ b. x ∷ split t (if b then Begin true else Inside true) later) (is_no (x == 10) parts.0)
+    ap (λ b. kept (if b then false else true) x (split t (if b then Head (x ∷ []) else (if x == 10 then Begin true else Inside true))
+    later))
+    (not-true (x == 115) h.own)
+    ∙ ap (λ b. x ∷ split t (if b then Begin true else Inside true) later) (not-true (x == 10) parts.0)
     ∙ ap (λ (bs : List ℕ). x ∷ bs) (inside_own t xs rest parts.1)
 
 line_other : (t : ℕ) (xs rest : List ℕ) → IsLine xs → split t (Begin false) (xs ++ 10 ∷ rest) ≡ split t (Begin false) rest
@@ -81,9 +83,10 @@ line_other t [] rest h = refl
 line_other t (x ∷ xs) rest h =
     let parts = and_parts (not (x == 10)) (is_plain xs) h.plain in
     let later = xs ++ 10 ∷ rest in
-    ap (λ b. kept (if b then false else false) x (split t (if b then Head (x ∷ []) else (if x == 10 then Begin false else Inside false)) later))
-    (is_no (x == 115) h.own)
-    ∙ ap (λ b. split t (if b then Begin false else Inside false) later) (is_no (x == 10) parts.0)
+    ap (λ b. kept (if b then false else false) x (split t (if b then Head (x ∷ []) else (if x == 10 then Begin false else Inside false))
+    later))
+    (not-true (x == 115) h.own)
+    ∙ ap (λ b. split t (if b then Begin false else Inside false) later) (not-true (x == 10) parts.0)
     ∙ inside_other t xs rest parts.1
 
 abbrev ended : List (List ℕ) → List ℕ
@@ -99,9 +102,11 @@ lines_own t (l ∷ ls) rest h =
     ap (split t (Begin true)) (apart l ls rest) ∙ line_own t l (ended ls ++ rest) h.0
     ∙ ap (λ (bs : List ℕ). l ++ 10 ∷ bs) (lines_own t ls rest h.1) ∙ sym (apart l ls (split t (Begin true) rest))
 
-lines_other : (t : ℕ) (ls : List (List ℕ)) (rest : List ℕ) → AllByRecursion IsLine ls → split t (Begin false) (ended ls ++ rest) ≡ split t (Begin false) rest
+lines_other : (t : ℕ) (ls : List (List ℕ)) (rest : List ℕ) → AllByRecursion IsLine ls
+    → split t (Begin false) (ended ls ++ rest) ≡ split t (Begin false) rest
 lines_other t [] rest h = refl
-lines_other t (l ∷ ls) rest h = ap (split t (Begin false)) (apart l ls rest) ∙ line_other t l (ended ls ++ rest) h.0 ∙ lines_other t ls rest h.1
+lines_other t (l ∷ ls) rest h = ap (split t (Begin false)) (apart l ls rest) ∙ line_other t l (ended ls ++ rest) h.0
+    ∙ lines_other t ls rest h.1
 
 text_own : (t : ℕ) (bs rest : List ℕ) → IsText bs → split t (Begin true) (bs ++ rest) ≡ bs ++ split t (Begin true) rest
 text_own t bs rest h =
@@ -117,15 +122,17 @@ append_none : (xs : List ℕ) → xs ++ [] ≡ xs
 append_none [] = refl
 append_none (x ∷ xs) = ap (λ (ys : List ℕ). x ∷ ys) (append_none xs)
 
-head_goes : (t : ℕ) (h xs rest : List ℕ) → is_plain xs ≡ true → split t (Head h) (xs ++ 10 ∷ rest) ≡ split t (Begin (bytes_eq (h ++ xs) (tag_of t))) rest
+head_goes : (t : ℕ) (h xs rest : List ℕ) → is_plain xs ≡ true
+    → split t (Head h) (xs ++ 10 ∷ rest) ≡ split t (Begin (bytes_eq (h ++ xs) (tag_of t))) rest
 head_goes t h [] rest e = ap (λ (g : List ℕ). split t (Begin (bytes_eq g (tag_of t))) rest) (sym (append_none h))
 head_goes t h (x ∷ xs) rest e =
     let parts = and_parts (not (x == 10)) (is_plain xs) e in
-    ap (λ b. split t (if b then Begin (bytes_eq h (tag_of t)) else Head (h ++ x ∷ [])) (xs ++ 10 ∷ rest)) (is_no (x == 10) parts.0)
+    ap (λ b. split t (if b then Begin (bytes_eq h (tag_of t)) else Head (h ++ x ∷ [])) (xs ++ 10 ∷ rest)) (not-true (x == 10) parts.0)
     ∙ head_goes t (h ++ x ∷ []) xs rest parts.1
     ∙ ap (λ (g : List ℕ). split t (Begin (bytes_eq g (tag_of t))) rest) (append_assoc h (x ∷ []) xs)
 
-tag_goes : (t s : ℕ) (mine : Bool) (rest : List ℕ) → split t (Begin mine) (session_line s ++ rest) ≡ split t (Begin (bytes_eq (tag_of s) (tag_of t))) rest
+tag_goes : (t s : ℕ) (mine : Bool) (rest : List ℕ) → split t (Begin mine) (session_line s ++ rest)
+    ≡ split t (Begin (bytes_eq (tag_of s) (tag_of t))) rest
 unfolding session_line
 tag_goes t s mine rest =
     ap (λ (bs : List ℕ). split t (Begin mine) (codes "session " ++ bs)) (append_assoc (decimal s) (10 ∷ []) rest)
@@ -152,7 +159,8 @@ tag_same s t hs ht = by (bytes_eq (tag_of s) (tag_of t)) (s == t) refl refl
 
 -- ---- a bad tag
 
-dash_free : (k n : ℕ) (acc : List ℕ) → list_all (λ b. not (b == 45)) acc ≡ true → list_all (λ b. not (b == 45)) (digits_onto k 10 false n acc) ≡ true
+dash_free : (k n : ℕ) (acc : List ℕ) → list_all (λ b. not (b == 45)) acc ≡ true
+    → list_all (λ b. not (b == 45)) (digits_onto k 10 false n acc) ≡ true
 dash_free zero n acc h = h
 dash_free (suc k) n acc h = by (n / 10 == 0) (dash_free k (n / 10) (digit_glyph false (n % 10) ∷ acc) next_free)
   where
@@ -190,17 +198,11 @@ bad_goes t mine rest =
 
 -- ---- without its first line
 
-one_dropped : (b : ℕ) (bs : List ℕ) → (b == 10) ≡ false → without_first_line (b ∷ bs) ≡ without_first_line bs
-one_dropped b bs none =
-    let n : ℕ = position_or_len (λ x. x == 10) bs in
-    let e : 1 + n + 1 ≡ suc (n + 1) = omega arith in
-    ap (λ z. drop (cond (not z) (1 + n) 0 + 1) (b ∷ bs)) none ∙ ap (λ k. drop k (b ∷ bs)) e
-
 line_dropped : (bs later : List ℕ) → is_plain bs ≡ true → without_first_line (bs ++ 10 ∷ later) ≡ later
 line_dropped [] later h = refl
 line_dropped (b ∷ bs) later h =
     let parts = and_parts (not (b == 10)) (is_plain bs) h in
-    one_dropped b (bs ++ 10 ∷ later) (is_no (b == 10) parts.0) ∙ line_dropped bs later parts.1
+    one_dropped b (bs ++ 10 ∷ later) (not-true (b == 10) parts.0) ∙ line_dropped bs later parts.1
 
 tag_dropped : (s : ℕ) (body : List ℕ) → without_first_line (session_line s ++ body) ≡ body
 unfolding session_line
@@ -228,12 +230,14 @@ hosted_split t n ws (To s c ∷ rs) mine few among all =
     by : (b : Bool) → split t (Begin true) (hosted_text (worlds_after ws (To s c)) rs) ≡ own_text t (worlds_after ws (To s c)) rs
         → split t (Begin false) (hosted_text (worlds_after ws (To s c)) rs) ≡ own_text t (worlds_after ws (To s c)) rs
         → split t (Begin b) (command_text (world_at ws s) c ++ hosted_text (worlds_after ws (To s c)) rs)
-        ≡ (if b then without_first_line (session_line s ++ command_text (world_at ws s) c) else []) ++ own_text t (worlds_after ws (To s c)) rs
+        ≡ (if b then without_first_line (session_line s ++ command_text (world_at ws s) c) else [])
+        ++ own_text t (worlds_after ws (To s c)) rs
     by true mine_is other_is =
         let body = command_text (world_at ws s) c in
         text_own t body (hosted_text (worlds_after ws (To s c)) rs) (text-is _ _) ∙ ap (λ (bs : List ℕ). body ++ bs) mine_is
         ∙ ap (λ (bs : List ℕ). bs ++ own_text t (worlds_after ws (To s c)) rs) (sym (tag_dropped s body))
-    by false mine_is other_is = text_other t (command_text (world_at ws s) c) (hosted_text (worlds_after ws (To s c)) rs) (text-is _ _) ∙ other_is
+    by false mine_is other_is = text_other t (command_text (world_at ws s) c) (hosted_text (worlds_after ws (To s c)) rs) (text-is _ _)
+        ∙ other_is
 
 pub splits-alike : (t n : ℕ) (ws vs : List World) (rs qs : List Request) → n ≤ 16 → t < n → All (IsAmong n) rs → All (IsAmong n) qs
     → hosted_text ws rs ≡ hosted_text vs qs → own_text t ws rs ≡ own_text t vs qs

@@ -17,13 +17,15 @@ use Rattle.pbd_laws_slots.specs.Views.{of_cloth, of_marks, done, all_done, mark_
 
 -- ---- a cloth
 
-some_set : (ws : List World) (k : ℕ) (w : World) → map {A = World} (λ v. Some v) (set ws k w) ≡ set (map {A = World} (λ v. Some v) ws) k (Some w)
+some_set : (ws : List World) (k : ℕ) (w : World) → map {A = World} (λ v. Some v) (set ws k w)
+    ≡ set (map {A = World} (λ v. Some v) ws) k (Some w)
 some_set [] zero w = refl
 some_set [] (suc k) w = refl
 some_set (v ∷ ws) zero w = refl
 some_set (v ∷ ws) (suc k) w = ap (λ (xs : List (Option World)). Some v ∷ xs) (some_set ws k w)
 
-some_at : (ws : List World) (k : ℕ) (w : World) → slice_index_or ws k w ≡ kept_or w (slice_index_or (map {A = World} (λ v. Some v) ws) k None)
+some_at : (ws : List World) (k : ℕ) (w : World) → slice_index_or ws k w
+    ≡ kept_or w (slice_index_or (map {A = World} (λ v. Some v) ws) k None)
 some_at [] zero w = refl
 some_at [] (suc k) w = refl
 some_at (v ∷ ws) zero w = refl
@@ -79,7 +81,8 @@ pub marks-save : (m : Marked) (k : ℕ) → length m.marks ≡ 8 → of_marks (m
 unfolding marked_meaning
 marks-save m k eight = by (nat_lt 7 k) refl
   where
-    by : (b : Bool) → nat_lt 7 k ≡ b → of_marks (with_marks m (if b then Err BadMark else Ok (set m.marks k (Some m.world)))).0 ≡ acted (of_marks m) (Save k)
+    by : (b : Bool) → nat_lt 7 k ≡ b → of_marks (with_marks m (if b then Err BadMark else Ok (set m.marks k (Some m.world)))).0
+        ≡ acted (of_marks m) (Save k)
     by true e = λ i. record { world = m.world; slots = sym (set_beyond m.marks k (Some m.world) (omega (arith, eight, ltb-true 7 k e))) i }
     by false e = refl
 
@@ -92,8 +95,12 @@ pub marks-restore : (m : Marked) (k : ℕ) → length m.marks ≡ 8 → of_marks
 unfolding marked_meaning
 marks-restore m k eight = by (nat_lt 7 k) refl
   where
-    by : (b : Bool) → nat_lt 7 k ≡ b → of_marks (with_world m (if b then Err BadMark else kept (mark_at m.marks k))).0 ≡ acted (of_marks m) (Restore k)
-    by true e = λ i. record { world = kept_or m.world (sym (at_beyond m.marks k None (omega (arith, eight, ltb-true 7 k e))) i); slots = m.marks }
+    by : (b : Bool) → nat_lt 7 k ≡ b → of_marks (with_world m (if b then Err BadMark else kept (mark_at m.marks k))).0
+        ≡ acted (of_marks m) (Restore k)
+    by true e = λ i. record {
+      world = kept_or m.world (sym (at_beyond m.marks k None (omega (arith, eight, ltb-true 7 k e))) i);
+      slots = m.marks;
+    }
     by false e = rewound_by m (mark_at m.marks k)
 
 marks_act : (m : Marked) (act : Act) → length m.marks ≡ 8 → of_marks (marked_after m (mark_command act)) ≡ acted (of_marks m) act
@@ -106,11 +113,13 @@ still_eight m (Play command) eight = eight
 still_eight m (Save k) eight = length-set m.slots k (Some m.world) ∙ eight
 still_eight m (Restore k) eight = eight
 
-all_marks : (m : Marked) (acts : List Act) → length m.marks ≡ 8 → of_marks (last_marked m (map mark_command acts)) ≡ all_acted (of_marks m) acts
+all_marks : (m : Marked) (acts : List Act) → length m.marks ≡ 8
+    → of_marks (last_marked m (map mark_command acts)) ≡ all_acted (of_marks m) acts
 all_marks m [] eight = refl
 all_marks m (act ∷ acts) eight =
     let one = marks_act m act eight in
-    let many : length (marked_after m (mark_command act)).marks ≡ 8 = ap (λ (x : Machine). length x.slots) one ∙ still_eight (of_marks m) act eight in
+    let many : length (marked_after m (mark_command act)).marks ≡ 8 = ap (λ (x : Machine). length x.slots) one
+    ∙ still_eight (of_marks m) act eight in
     all_marks (marked_after m (mark_command act)) acts many ∙ ap (λ (x : Machine). all_acted x acts) one
 
 pub marks-rollback : (w : World) (n : ℕ) (events : List Event) → 1 ≤ n → n ≤ 8 → AreInTime n [] events

@@ -1,5 +1,6 @@
 -- Velocities added up particle by particle, and sums that fit.
-use Rattle.std.proofs.Common.{◌≡◌, refl, sym, ap, ◌∙◌, ℕ, ◌+◌, ◌<◌, ◌≤◌, ◌^◌, Bool, true, false, cond, List, ◌∷◌, length, drop, map, arith, ℤ, unsigned_abs, FitsSigned}
+use Rattle.std.proofs.Common.{◌≡◌, refl, sym, ap, ◌∙◌, ℕ, ◌+◌, ◌<◌, ◌≤◌, ◌^◌, Bool, true, false, cond, List, ◌∷◌, length, drop, map, arith}
+use Rattle.std.proofs.Common.{ℤ, unsigned_abs, FitsSigned}
 use Rattle.std.specs.Prelude.{filter, fold}
 use Rattle.std.specs.Int.{w128}
 use Rattle.std.proofs.lemmas.Int.{fits_signed_from_abs}
@@ -21,12 +22,15 @@ with_part s p = cond (is_free p) (sum_plus s (velocity p)) s
 from_cons : (s : Sum) (p : Particle) (ps : List Particle) → momentum_from (with_part s p) ps ≡ momentum_from s (p ∷ ps)
 from_cons s p ps = by (is_free p)
   where
-    by : (b : Bool) → momentum_from (cond b (sum_plus s (velocity p)) s) ps ≡ fold sum_plus s (map velocity (cond b (p ∷ filter is_free ps) (filter is_free ps)))
+    by : (b : Bool) → momentum_from (cond b (sum_plus s (velocity p)) s) ps
+        ≡ fold sum_plus s (map velocity (cond b (p ∷ filter is_free ps) (filter is_free ps)))
     by true = refl
     by false = refl
 
-pub part_more : (ps : List Particle) (i : ℕ) (s t : Sum) → i < length ps → t ≡ with_part s (particle_at ps i) → momentum_from t (drop (i + 1) ps) ≡ momentum_from s (drop i ps)
-part_more ps i s t h e = ap (λ (u : Sum). momentum_from u (drop (i + 1) ps)) e ∙ from_cons s (particle_at ps i) (drop (i + 1) ps) ∙ sym (at_drop_more (momentum_from s) ps i no_particle h)
+pub part_more : (ps : List Particle) (i : ℕ) (s t : Sum) → i < length ps → t ≡ with_part s (particle_at ps i)
+    → momentum_from t (drop (i + 1) ps) ≡ momentum_from s (drop i ps)
+part_more ps i s t h e = ap (λ (u : Sum). momentum_from u (drop (i + 1) ps)) e ∙ from_cons s (particle_at ps i) (drop (i + 1) ps)
+    ∙ sym (at_drop_more (momentum_from s) ps i no_particle h)
 
 pub part_all : (ps : List Particle) (i : ℕ) (s : Sum) → length ps ≤ i → momentum_from s (drop i ps) ≡ s
 part_all ps i s h = at_drop_all (momentum_from s) ps i h
@@ -40,7 +44,11 @@ pub wide : (z : ℤ) → unsigned_abs z < 2 ^ 127 → FitsSigned w128 z
 wide z h = fits_signed_from_abs w128 z h
 
 pub both_within : (m n : ℕ) (s t : Sum) → SumWithin m s → SumWithin n t → SumWithin (m + n) (both_sums s t)
-both_within m n s t h k = record { x = omega (arith, size-add s.x t.x, h.x, k.x); y = omega (arith, size-add s.y t.y, h.y, k.y); z = omega (arith, size-add s.z t.z, h.z, k.z) }
+both_within m n s t h k = record {
+  x = omega (arith, size-add s.x t.x, h.x, k.x);
+  y = omega (arith, size-add s.y t.y, h.y, k.y);
+  z = omega (arith, size-add s.z t.z, h.z, k.z);
+}
 
 within_fits : (n : ℕ) (s : Sum) → n < 2 ^ 127 → SumWithin n s → SumFits s
 within_fits n s p h = record { x = wide s.x (omega (arith, h.x)); y = wide s.y (omega (arith, h.y)); z = wide s.z (omega (arith, h.z)) }

@@ -1,5 +1,6 @@
 -- An entry that is read is the entry that was written, and what was written is read again.
-use Rattle.std.proofs.Common.{◌≡◌, ◌∙◌, sym, ap, subst, refl, ℕ, ◌^◌, ◌<◌, ◌≤◌, ◌⊎◌, inl, inr, Bool, true, false, cond, eqb, ltb, leb, List, [], ◌∷◌, ◌++◌, Option, Some, None, append_assoc, append-nil, arith}
+use Rattle.std.proofs.Common.{◌≡◌, ◌∙◌, sym, ap, subst, refl, ℕ, ◌^◌, ◌<◌, ◌≤◌, ◌⊎◌, inl, inr, Bool, true, false, cond, eqb, ltb, leb, List}
+use Rattle.std.proofs.Common.{[], ◌∷◌, ◌++◌, Option, Some, None, append_assoc, append-nil, arith}
 use Rattle.std.specs.Prelude.{IfSome}
 use Rattle.std.proofs.lemmas.Bool.{eqb-true, leb-true, ltb-false, le-ltb}
 use Rattle.std.proofs.lemmas.Bool.Decides.{nat_tests}
@@ -9,9 +10,14 @@ use Rattle.pbd_world.specs.declared.command.FrameSums.{FrameSums}
 use Rattle.pbd_log.specs.declared.entry.Answer.{Answer}
 use Rattle.pbd_log.specs.declared.entry.Entry.{Entry}
 use Rattle.pbd_log.specs.Laws.{IsBytes}
-use Rattle.pbd_log.specs.Entries.{number_bytes, vector_bytes, VectorFits, command_bytes, CommandFits, plain, leaves, too_many, IsAnswer, answer_bytes, SumsFit, sums_bytes, axes_bytes, AreAxes, optional_bytes, StandExactly, has_sums, IsEntry, entry_bytes}
-use Rattle.pbd_log.specs.Reading.{byte_at, number_at, vector_at, numbered_at, move_at, gravity_at, operands_at, command_at, leaves_at, too_many_at, carried_at, answer_at, axes_at, sums_at, optional_at, entry_at}
-use Rattle.pbd_log.proofs.Fields.{Takes, takes_then, IsField, step_takes, some_is, guard_none, number_field, vector_field, axes_field, byte_field}
+use Rattle.pbd_log.specs.Entries.{number_bytes, vector_bytes, VectorFits, command_bytes, CommandFits, plain, leaves, too_many, IsAnswer}
+use Rattle.pbd_log.specs.Entries.{answer_bytes, SumsFit, sums_bytes, axes_bytes, AreAxes, optional_bytes, StandExactly, has_sums, IsEntry}
+use Rattle.pbd_log.specs.Entries.{entry_bytes}
+use Rattle.pbd_log.specs.Reading.{byte_at, number_at, vector_at, numbered_at, move_at, gravity_at, operands_at, command_at, leaves_at}
+use Rattle.pbd_log.specs.Reading.{too_many_at, carried_at, answer_at, axes_at, sums_at, optional_at, entry_at}
+use Rattle.pbd_log.proofs.Fields.{Takes, takes_then, IsField, step_takes, some_is, guard_none, number_field, vector_field, axes_field}
+use Rattle.pbd_log.proofs.Fields.{regroup3}
+use Rattle.pbd_log.proofs.Fields.{byte_field}
 
 chosen : {A : Type 0} (b : Bool) (x y z : A) → cond b x y ≡ z → ((b ≡ true) × (x ≡ z)) ⊎ ((b ≡ false) × (y ≡ z))
 chosen true x y z e = inl (refl, e)
@@ -34,11 +40,13 @@ record IsNumbered (code : ℕ) (command : ℕ → Command) : Type 0 where
   pub spelled : (n : ℕ) → command_bytes (command n) ≡ code ∷ number_bytes 8 n
   pub fits : (n : ℕ) → n < 256 ^ 8 → CommandFits (command n)
 
-numbered_takes : (code : ℕ) (command : ℕ → Command) (is : IsNumbered code command) (bytes : List ℕ) (x : Command) (rest : List ℕ) → IsBytes bytes → numbered_at command bytes ≡ Some (x, rest) → HasOperands code bytes x rest
+numbered_takes : (code : ℕ) (command : ℕ → Command) (is : IsNumbered code command) (bytes : List ℕ) (x : Command) (rest : List ℕ)
+    → IsBytes bytes → numbered_at command bytes ≡ Some (x, rest) → HasOperands code bytes x rest
 unfolding numbered_at
 numbered_takes code command is bytes x rest fits e =
     let a = step_takes (number_at 8) (number_bytes 8) (λ n. n < 256 ^ 8) (number_field 8) bytes _ (x, rest) fits e in
-    subst (λ (q : Command × List ℕ). HasOperands code bytes q.0 q.1) (some_is _ _ a.3) (record { operands = number_bytes 8 a.0.0; takes = a.1; spelled = is.spelled a.0.0; fits = is.fits a.0.0 a.2 })
+    subst (λ (q : Command × List ℕ). HasOperands code bytes q.0 q.1) (some_is _ _ a.3)
+    (record { operands = number_bytes 8 a.0.0; takes = a.1; spelled = is.spelled a.0.0; fits = is.fits a.0.0 a.2 })
 
 step_is : IsNumbered 1 Step
 unfolding command_bytes
@@ -61,26 +69,42 @@ unfolding move_at command_bytes
 move_takes bytes x rest fits e =
     let a = step_takes (number_at 8) (number_bytes 8) (λ n. n < 256 ^ 8) (number_field 8) bytes _ (x, rest) fits e in
     let b = step_takes vector_at vector_bytes VectorFits vector_field a.0.1 _ (x, rest) a.1.rest_fits a.3 in
-    subst (λ (q : Command × List ℕ). HasOperands 5 bytes q.0 q.1) (some_is _ _ b.3) (record { operands = number_bytes 8 a.0.0 ++ vector_bytes b.0.0; takes = takes_then bytes (number_bytes 8 a.0.0) a.0.1 (vector_bytes b.0.0) b.0.1 a.1 b.1; spelled = refl; fits = (a.2, b.2) })
+    subst (λ (q : Command × List ℕ). HasOperands 5 bytes q.0 q.1) (some_is _ _ b.3)
+    (record {
+      operands = number_bytes 8 a.0.0 ++ vector_bytes b.0.0;
+      takes = takes_then bytes (number_bytes 8 a.0.0) a.0.1 (vector_bytes b.0.0) b.0.1 a.1 b.1;
+      spelled = refl;
+      fits = (a.2, b.2);
+    })
 
-gravity_takes : (bytes : List ℕ) (x : Command) (rest : List ℕ) → IsBytes bytes → gravity_at bytes ≡ Some (x, rest) → HasOperands 7 bytes x rest
+gravity_takes : (bytes : List ℕ) (x : Command) (rest : List ℕ) → IsBytes bytes → gravity_at bytes ≡ Some (x, rest)
+    → HasOperands 7 bytes x rest
 unfolding gravity_at command_bytes
 gravity_takes bytes x rest fits e =
     let a = step_takes vector_at vector_bytes VectorFits vector_field bytes _ (x, rest) fits e in
-    subst (λ (q : Command × List ℕ). HasOperands 7 bytes q.0 q.1) (some_is _ _ a.3) (record { operands = vector_bytes a.0.0; takes = a.1; spelled = refl; fits = a.2 })
+    subst (λ (q : Command × List ℕ). HasOperands 7 bytes q.0 q.1) (some_is _ _ a.3)
+    (record { operands = vector_bytes a.0.0; takes = a.1; spelled = refl; fits = a.2 })
 
 -- a command without operands
-bare_takes : (code : ℕ) (command : Command) (bytes : List ℕ) (x : Command) (rest : List ℕ) → IsBytes bytes → command_bytes command ≡ code ∷ [] → CommandFits command → (let some : Command × List ℕ → Option (Command × List ℕ) = λ q. Some q in some (command, bytes) ≡ some (x, rest)) → HasOperands code bytes x rest
+bare_takes : (code : ℕ) (command : Command) (bytes : List ℕ) (x : Command) (rest : List ℕ) → IsBytes bytes
+    → command_bytes command ≡ code ∷ [] → CommandFits command
+    → (let some : Command × List ℕ → Option (Command × List ℕ) = λ q. Some q in some (command, bytes) ≡ some (x, rest))
+    → HasOperands code bytes x rest
 bare_takes code command bytes x rest fits spelled fit e =
-    subst (λ (q : Command × List ℕ). HasOperands code bytes q.0 q.1) (some_is _ _ e) (record { operands = []; takes = record { parts = refl; rest_fits = fits }; spelled = spelled; fits = fit })
+    subst (λ (q : Command × List ℕ). HasOperands code bytes q.0 q.1) (some_is _ _ e)
+    (record { operands = []; takes = record { parts = refl; rest_fits = fits }; spelled = spelled; fits = fit })
 
 -- the command with this code, or one that is looked for further on
-try_code : (code k : ℕ) (bytes : List ℕ) (x : Command) (rest : List ℕ) (here others : Option (Command × List ℕ)) → cond (eqb code k) here others ≡ Some (x, rest)
-    → (here ≡ Some (x, rest) → HasOperands k bytes x rest) → (others ≡ Some (x, rest) → HasOperands code bytes x rest) → HasOperands code bytes x rest
+try_code : (code k : ℕ) (bytes : List ℕ) (x : Command) (rest : List ℕ) (here others : Option (Command × List ℕ))
+    → cond (eqb code k) here others ≡ Some (x, rest)
+    → (here ≡ Some (x, rest) → HasOperands k bytes x rest) → (others ≡ Some (x, rest) → HasOperands code bytes x rest)
+    → HasOperands code bytes x rest
 try_code code k bytes x rest here others e f g =
-    elim (chosen (eqb code k) here others (Some (x, rest)) e) [ inl p ↦ subst (λ c. HasOperands c bytes x rest) (sym (eqb-true code k p.0)) (f p.1) | inr p ↦ g p.1 ]
+    elim (chosen (eqb code k) here others (Some (x, rest)) e)
+    [ inl p ↦ subst (λ c. HasOperands c bytes x rest) (sym (eqb-true code k p.0)) (f p.1) | inr p ↦ g p.1 ]
 
-operands_takes : (code : ℕ) (bytes : List ℕ) (x : Command) (rest : List ℕ) → IsBytes bytes → operands_at code bytes ≡ Some (x, rest) → HasOperands code bytes x rest
+operands_takes : (code : ℕ) (bytes : List ℕ) (x : Command) (rest : List ℕ) → IsBytes bytes → operands_at code bytes ≡ Some (x, rest)
+    → HasOperands code bytes x rest
 unfolding operands_at command_bytes
 operands_takes code bytes x rest fits e =
     try_code code 1 bytes x rest _ _ e (numbered_takes 1 Step step_is bytes x rest fits) (λ e2.
@@ -93,7 +117,8 @@ operands_takes code bytes x rest fits e =
     try_code code 8 bytes x rest _ _ e8 (bare_takes 8 Ledger bytes x rest fits refl tt) (λ e9.
     try_code code 9 bytes x rest _ _ e9 (bare_takes 9 Bad bytes x rest fits refl tt) (λ none. absurd (none_some (x, rest) none))))))))))
 
-command_takes : (bytes : List ℕ) (x : Command) (rest : List ℕ) → IsBytes bytes → command_at bytes ≡ Some (x, rest) → Takes bytes (command_bytes x) rest × CommandFits x
+command_takes : (bytes : List ℕ) (x : Command) (rest : List ℕ) → IsBytes bytes → command_at bytes ≡ Some (x, rest)
+    → Takes bytes (command_bytes x) rest × CommandFits x
 unfolding command_at
 command_takes bytes x rest fits e =
     let a = step_takes byte_at (λ b. b ∷ []) (λ b. b < 256) byte_field bytes _ (x, rest) fits e in
@@ -106,7 +131,11 @@ command_again (Step n) rest fits = rw ((number_field 8).again n rest fits) refl
 command_again Frame rest fits = refl
 command_again (Pin n) rest fits = rw ((number_field 8).again n rest fits) refl
 command_again (Unpin n) rest fits = rw ((number_field 8).again n rest fits) refl
-command_again (Move n to) rest fits = rw (append_assoc (number_bytes 8 n) (vector_bytes to) rest, (number_field 8).again n (vector_bytes to ++ rest) fits.0, vector_field.again to rest fits.1) refl
+command_again (Move n to) rest fits = rw (
+  append_assoc (number_bytes 8 n) (vector_bytes to) rest,
+  (number_field 8).again n (vector_bytes to ++ rest) fits.0,
+  vector_field.again to rest fits.1,
+) refl
 command_again (Cut n) rest fits = rw ((number_field 8).again n rest fits) refl
 command_again (Gravity g) rest fits = rw (vector_field.again g rest fits) refl
 command_again Ledger rest fits = refl
@@ -142,38 +171,62 @@ leaves_takes bytes x rest fits e =
     let c = step_takes (number_at 4) (number_bytes 4) (λ n. n < 256 ^ 4) (number_field 4) b.0.1 _ (x, rest) b.1.rest_fits b.3 in
     let g = guard_none _ _ _ c.3 in
     let h = guard_none _ _ _ g.1 in
-    let t = takes_then bytes (number_bytes 8 a.0.0) a.0.1 (b.0.0 ∷ number_bytes 4 c.0.0) c.0.1 a.1 (takes_then a.0.1 (b.0.0 ∷ []) b.0.1 (number_bytes 4 c.0.0) c.0.1 b.1 c.1) in
-    subst (λ (q : Answer × List ℕ). HasCarried 11 bytes q.0 q.1) (some_is _ _ h.1) (record { carried = number_bytes 8 a.0.0 ++ b.0.0 ∷ number_bytes 4 c.0.0; takes = t; spelled = refl; fits = (inr (inl (ltb-false _ _ g.0, ltb-false _ _ h.0, refl)), a.2, c.2) })
+    let t = takes_then bytes (number_bytes 8 a.0.0) a.0.1 (b.0.0 ∷ number_bytes 4 c.0.0) c.0.1 a.1
+    (takes_then a.0.1 (b.0.0 ∷ []) b.0.1 (number_bytes 4 c.0.0) c.0.1 b.1 c.1) in
+    subst (λ (q : Answer × List ℕ). HasCarried 11 bytes q.0 q.1) (some_is _ _ h.1)
+    (record {
+      carried = number_bytes 8 a.0.0 ++ b.0.0 ∷ number_bytes 4 c.0.0;
+      takes = t;
+      spelled = refl;
+      fits = (inr (inl (ltb-false _ _ g.0, ltb-false _ _ h.0, refl)), a.2, c.2);
+    })
 
-too_many_takes : (bytes : List ℕ) (x : Answer) (rest : List ℕ) → IsBytes bytes → too_many_at bytes ≡ Some (x, rest) → HasCarried 12 bytes x rest
+too_many_takes : (bytes : List ℕ) (x : Answer) (rest : List ℕ) → IsBytes bytes → too_many_at bytes ≡ Some (x, rest)
+    → HasCarried 12 bytes x rest
 unfolding too_many_at answer_bytes
 too_many_takes bytes x rest fits e =
     let a = step_takes (number_at 8) (number_bytes 8) (λ n. n < 256 ^ 8) (number_field 8) bytes _ (x, rest) fits e in
-    subst (λ (q : Answer × List ℕ). HasCarried 12 bytes q.0 q.1) (some_is _ _ a.3) (record { carried = number_bytes 8 a.0.0; takes = a.1; spelled = refl; fits = (inr (inr refl), a.2, omega arith) })
+    subst (λ (q : Answer × List ℕ). HasCarried 12 bytes q.0 q.1) (some_is _ _ a.3)
+    (record { carried = number_bytes 8 a.0.0; takes = a.1; spelled = refl; fits = (inr (inr refl), a.2, omega arith) })
 
-plain_takes : (code : ℕ) (bytes : List ℕ) (x : Answer) (rest : List ℕ) → IsBytes bytes → code ≤ 10 → (let some : Answer × List ℕ → Option (Answer × List ℕ) = λ q. Some q in some (plain code, bytes) ≡ some (x, rest)) → HasCarried code bytes x rest
+plain_takes : (code : ℕ) (bytes : List ℕ) (x : Answer) (rest : List ℕ) → IsBytes bytes → code ≤ 10
+    → (let some : Answer × List ℕ → Option (Answer × List ℕ) = λ q. Some q in some (plain code, bytes) ≡ some (x, rest))
+    → HasCarried code bytes x rest
 plain_takes code bytes x rest fits le e =
-    subst (λ (q : Answer × List ℕ). HasCarried code bytes q.0 q.1) (some_is _ _ e) (record { carried = []; takes = record { parts = refl; rest_fits = fits }; spelled = plain_bytes code le; fits = (inl (le, refl), omega arith, omega arith) })
+    subst (λ (q : Answer × List ℕ). HasCarried code bytes q.0 q.1) (some_is _ _ e)
+    (record {
+      carried = [];
+      takes = record { parts = refl; rest_fits = fits };
+      spelled = plain_bytes code le;
+      fits = (inl (le, refl), omega arith, omega arith);
+    })
 
 -- the answer with this number, or one that is looked for further on
-try_number : (code k : ℕ) (bytes : List ℕ) (x : Answer) (rest : List ℕ) (here others : Option (Answer × List ℕ)) → cond (eqb code k) here others ≡ Some (x, rest)
-    → (here ≡ Some (x, rest) → HasCarried k bytes x rest) → (others ≡ Some (x, rest) → HasCarried code bytes x rest) → HasCarried code bytes x rest
+try_number : (code k : ℕ) (bytes : List ℕ) (x : Answer) (rest : List ℕ) (here others : Option (Answer × List ℕ))
+    → cond (eqb code k) here others ≡ Some (x, rest)
+    → (here ≡ Some (x, rest) → HasCarried k bytes x rest) → (others ≡ Some (x, rest) → HasCarried code bytes x rest)
+    → HasCarried code bytes x rest
 try_number code k bytes x rest here others e f g =
-    elim (chosen (eqb code k) here others (Some (x, rest)) e) [ inl p ↦ subst (λ c. HasCarried c bytes x rest) (sym (eqb-true code k p.0)) (f p.1) | inr p ↦ g p.1 ]
+    elim (chosen (eqb code k) here others (Some (x, rest)) e)
+    [ inl p ↦ subst (λ c. HasCarried c bytes x rest) (sym (eqb-true code k p.0)) (f p.1) | inr p ↦ g p.1 ]
 
-try_plain : (code : ℕ) (bytes : List ℕ) (x : Answer) (rest : List ℕ) (others : Option (Answer × List ℕ)) → IsBytes bytes → cond (leb code 10) (Some (plain code, bytes)) others ≡ Some (x, rest)
+try_plain : (code : ℕ) (bytes : List ℕ) (x : Answer) (rest : List ℕ) (others : Option (Answer × List ℕ)) → IsBytes bytes
+    → cond (leb code 10) (Some (plain code, bytes)) others ≡ Some (x, rest)
     → (others ≡ Some (x, rest) → HasCarried code bytes x rest) → HasCarried code bytes x rest
 try_plain code bytes x rest others fits e g =
-    elim (chosen (leb code 10) (Some (plain code, bytes)) others (Some (x, rest)) e) [ inl p ↦ plain_takes code bytes x rest fits (leb-true _ _ p.0) p.1 | inr p ↦ g p.1 ]
+    elim (chosen (leb code 10) (Some (plain code, bytes)) others (Some (x, rest)) e)
+    [ inl p ↦ plain_takes code bytes x rest fits (leb-true _ _ p.0) p.1 | inr p ↦ g p.1 ]
 
-carried_takes : (code : ℕ) (bytes : List ℕ) (x : Answer) (rest : List ℕ) → IsBytes bytes → carried_at code bytes ≡ Some (x, rest) → HasCarried code bytes x rest
+carried_takes : (code : ℕ) (bytes : List ℕ) (x : Answer) (rest : List ℕ) → IsBytes bytes → carried_at code bytes ≡ Some (x, rest)
+    → HasCarried code bytes x rest
 unfolding carried_at
 carried_takes code bytes x rest fits e =
     try_plain code bytes x rest _ fits e (λ e2.
     try_number code 11 bytes x rest _ _ e2 (leaves_takes bytes x rest fits) (λ e3.
     try_number code 12 bytes x rest _ _ e3 (too_many_takes bytes x rest fits) (λ none. absurd (none_some (x, rest) none))))
 
-answer_takes : (bytes : List ℕ) (x : Answer) (rest : List ℕ) → IsBytes bytes → answer_at bytes ≡ Some (x, rest) → Takes bytes (answer_bytes x) rest × AnswerFits x
+answer_takes : (bytes : List ℕ) (x : Answer) (rest : List ℕ) → IsBytes bytes → answer_at bytes ≡ Some (x, rest)
+    → Takes bytes (answer_bytes x) rest × AnswerFits x
 unfolding answer_at
 answer_takes bytes x rest fits e =
     let a = step_takes byte_at (λ b. b ∷ []) (λ b. b < 256) byte_field bytes _ (x, rest) fits e in
@@ -186,12 +239,19 @@ plain_again n rest le =
     let t : leb n 10 ≡ true = grind (arith, nat_tests) in
     rw (plain_bytes n le, t) refl
 
-leaves_again : (step phase element : ℕ) (rest : List ℕ) → 1 ≤ phase → phase ≤ 4 → step < 2 ^ 64 → element < 2 ^ 32 → answer_at (answer_bytes (leaves step phase element) ++ rest) ≡ Some (leaves step phase element, rest)
+leaves_again : (step phase element : ℕ) (rest : List ℕ) → 1 ≤ phase → phase ≤ 4 → step < 2 ^ 64 → element < 2 ^ 32
+    → answer_at (answer_bytes (leaves step phase element) ++ rest) ≡ Some (leaves step phase element, rest)
 unfolding answer_at answer_bytes carried_at leaves_at
 leaves_again step phase element rest low high s e =
     let a : ltb phase 1 ≡ false = le-ltb _ _ low in
     let b : ltb 4 phase ≡ false = le-ltb _ _ high in
-    rw (append_assoc (number_bytes 8 step) (phase ∷ number_bytes 4 element) rest, (number_field 8).again step (phase ∷ (number_bytes 4 element ++ rest)) s, (number_field 4).again element rest e, a, b) refl
+    rw (
+      append_assoc (number_bytes 8 step) (phase ∷ number_bytes 4 element) rest,
+      (number_field 8).again step (phase ∷ (number_bytes 4 element ++ rest)) s,
+      (number_field 4).again element rest e,
+      a,
+      b,
+    ) refl
 
 too_many_again : (step : ℕ) (rest : List ℕ) → step < 2 ^ 64 → answer_at (answer_bytes (too_many step) ++ rest) ≡ Some (too_many step, rest)
 unfolding answer_at answer_bytes carried_at too_many_at
@@ -216,7 +276,8 @@ answer_field = record { takes = answer_takes; again = answer_again }
 regroup5 : (a b c d e f : List ℕ) → (a ++ b ++ c ++ d ++ e) ++ f ≡ a ++ (b ++ (c ++ (d ++ (e ++ f))))
 regroup5 a b c d e f = simp append_assoc
 
-sums_takes : (bytes : List ℕ) (s : FrameSums) (rest : List ℕ) → IsBytes bytes → sums_at bytes ≡ Some (s, rest) → Takes bytes (sums_bytes s) rest × SumsFit s
+sums_takes : (bytes : List ℕ) (s : FrameSums) (rest : List ℕ) → IsBytes bytes → sums_at bytes ≡ Some (s, rest)
+    → Takes bytes (sums_bytes s) rest × SumsFit s
 unfolding sums_at sums_bytes
 sums_takes bytes s rest fits e =
     let a = step_takes (number_at 8) (number_bytes 8) (λ n. n < 256 ^ 8) (number_field 8) bytes _ (s, rest) fits e in
@@ -226,16 +287,20 @@ sums_takes bytes s rest fits e =
     let f = step_takes axes_at axes_bytes AreAxes axes_field d.0.1 _ (s, rest) d.1.rest_fits d.3 in
     let ab = takes_then bytes (number_bytes 8 a.0.0) a.0.1 (number_bytes 4 b.0.0) b.0.1 a.1 b.1 in
     let abc = takes_then bytes (number_bytes 8 a.0.0 ++ number_bytes 4 b.0.0) b.0.1 (number_bytes 4 c.0.0) c.0.1 ab c.1 in
-    let abcd = takes_then bytes (number_bytes 8 a.0.0 ++ number_bytes 4 b.0.0 ++ number_bytes 4 c.0.0) c.0.1 (axes_bytes d.0.0) d.0.1 abc d.1 in
-    let all = takes_then bytes (number_bytes 8 a.0.0 ++ number_bytes 4 b.0.0 ++ number_bytes 4 c.0.0 ++ axes_bytes d.0.0) d.0.1 (axes_bytes f.0.0) f.0.1 abcd f.1 in
-    subst (λ (q : FrameSums × List ℕ). Takes bytes (sums_bytes q.0) q.1 × SumsFit q.0) (some_is _ _ f.3) (all, record { steps = a.2; live = b.2; contacts = c.2; at = d.2; before = f.2 })
+    let abcd = takes_then bytes (number_bytes 8 a.0.0 ++ number_bytes 4 b.0.0 ++ number_bytes 4 c.0.0) c.0.1
+    (axes_bytes d.0.0) d.0.1 abc d.1 in
+    let all = takes_then bytes (number_bytes 8 a.0.0 ++ number_bytes 4 b.0.0 ++ number_bytes 4 c.0.0 ++ axes_bytes d.0.0) d.0.1
+    (axes_bytes f.0.0) f.0.1 abcd f.1 in
+    subst (λ (q : FrameSums × List ℕ). Takes bytes (sums_bytes q.0) q.1 × SumsFit q.0) (some_is _ _ f.3)
+    (all, record { steps = a.2; live = b.2; contacts = c.2; at = d.2; before = f.2 })
 
 sums_again : (s : FrameSums) (rest : List ℕ) → SumsFit s → sums_at (sums_bytes s ++ rest) ≡ Some (s, rest)
 unfolding sums_at sums_bytes
 sums_again s rest fits =
     rw (
       regroup5 (number_bytes 8 s.steps) (number_bytes 4 s.live) (number_bytes 4 s.contacts) (axes_bytes s.at) (axes_bytes s.before) rest,
-      (number_field 8).again s.steps (number_bytes 4 s.live ++ (number_bytes 4 s.contacts ++ (axes_bytes s.at ++ (axes_bytes s.before ++ rest)))) fits.steps,
+      (number_field 8).again s.steps (number_bytes 4 s.live
+          ++ (number_bytes 4 s.contacts ++ (axes_bytes s.at ++ (axes_bytes s.before ++ rest)))) fits.steps,
       (number_field 4).again s.live (number_bytes 4 s.contacts ++ (axes_bytes s.at ++ (axes_bytes s.before ++ rest))) fits.live,
       (number_field 4).again s.contacts (axes_bytes s.at ++ (axes_bytes s.before ++ rest)) fits.contacts,
       axes_field.again s.at (axes_bytes s.before ++ rest) fits.at,
@@ -245,15 +310,19 @@ sums_again s rest fits =
 abbrev OptionalFits : Bool → Option FrameSums → Type 0
 OptionalFits b o = StandExactly b o × IfSome o SumsFit
 
-optional_takes : (b : Bool) (bytes : List ℕ) (o : Option FrameSums) (rest : List ℕ) → IsBytes bytes → optional_at b bytes ≡ Some (o, rest) → Takes bytes (optional_bytes o) rest × OptionalFits b o
+optional_takes : (b : Bool) (bytes : List ℕ) (o : Option FrameSums) (rest : List ℕ) → IsBytes bytes → optional_at b bytes ≡ Some (o, rest)
+    → Takes bytes (optional_bytes o) rest × OptionalFits b o
 unfolding optional_at
 optional_takes false bytes o rest fits e =
-    subst (λ (q : Option FrameSums × List ℕ). Takes bytes (optional_bytes q.0) q.1 × OptionalFits false q.0) (some_is _ _ e) (record { parts = refl; rest_fits = fits }, (refl, tt))
+    subst (λ (q : Option FrameSums × List ℕ). Takes bytes (optional_bytes q.0) q.1 × OptionalFits false q.0) (some_is _ _ e)
+    (record { parts = refl; rest_fits = fits }, (refl, tt))
 optional_takes true bytes o rest fits e =
     let a = step_takes sums_at sums_bytes SumsFit (record { takes = sums_takes; again = sums_again }) bytes _ (o, rest) fits e in
-    subst (λ (q : Option FrameSums × List ℕ). Takes bytes (optional_bytes q.0) q.1 × OptionalFits true q.0) (some_is _ _ a.3) (a.1, (refl, a.2))
+    subst (λ (q : Option FrameSums × List ℕ). Takes bytes (optional_bytes q.0) q.1 × OptionalFits true q.0) (some_is _ _ a.3)
+    (a.1, (refl, a.2))
 
-optional_again : (b : Bool) (o : Option FrameSums) (rest : List ℕ) → OptionalFits b o → optional_at b (optional_bytes o ++ rest) ≡ Some (o, rest)
+optional_again : (b : Bool) (o : Option FrameSums) (rest : List ℕ) → OptionalFits b o
+    → optional_at b (optional_bytes o ++ rest) ≡ Some (o, rest)
 unfolding optional_at
 optional_again b None rest fits = rw fits.0 refl
 optional_again b (Some s) rest fits = rw (fits.0, sums_again s rest fits.1) refl
@@ -263,7 +332,8 @@ optional_field b = record { takes = optional_takes b; again = optional_again b }
 
 -- ---- entries
 
-entry_takes : (bytes : List ℕ) (x : Entry) (rest : List ℕ) → IsBytes bytes → entry_at bytes ≡ Some (x, rest) → Takes bytes (entry_bytes x) rest × IsEntry x
+entry_takes : (bytes : List ℕ) (x : Entry) (rest : List ℕ) → IsBytes bytes → entry_at bytes ≡ Some (x, rest)
+    → Takes bytes (entry_bytes x) rest × IsEntry x
 unfolding entry_at entry_bytes
 entry_takes bytes x rest fits e =
     let a = step_takes command_at command_bytes CommandFits command_field bytes _ (x, rest) fits e in
@@ -274,9 +344,6 @@ entry_takes bytes x rest fits e =
     let all = takes_then bytes (command_bytes a.0.0 ++ answer_bytes b.0.0) b.0.1 (optional_bytes c.0.0) c.0.1 ab c.1 in
     subst (λ (q : Entry × List ℕ). Takes bytes (entry_bytes q.0) q.1 × IsEntry q.0) (some_is _ _ c.3)
     (all, (record { answer = b.2.0; sums = c.2.0 }, record { command = a.2; step = b.2.1; element = b.2.2; sums = c.2.1 }))
-
-regroup3 : (a b c d : List ℕ) → (a ++ b ++ c) ++ d ≡ a ++ (b ++ (c ++ d))
-regroup3 a b c d = append_assoc (a ++ b) c d ∙ append_assoc a b (c ++ d)
 
 entry_again : (x : Entry) (rest : List ℕ) → IsEntry x → entry_at (entry_bytes x ++ rest) ≡ Some (x, rest)
 unfolding entry_at entry_bytes
@@ -293,7 +360,8 @@ pub entry_field : IsField entry_at entry_bytes IsEntry
 entry_field = record { takes = entry_takes; again = entry_again }
 
 -- where the bytes of two entries begin alike they are the same entry
-pub same_entry : (e f : Entry) (more rest : List ℕ) → IsEntry e → IsEntry f → entry_bytes e ++ more ≡ entry_bytes f ++ rest → (e ≡ f) × (more ≡ rest)
+pub same_entry : (e f : Entry) (more rest : List ℕ) → IsEntry e → IsEntry f → entry_bytes e ++ more ≡ entry_bytes f ++ rest
+    → (e ≡ f) × (more ≡ rest)
 same_entry e f more rest fits fits' same =
     let p : entry_at (entry_bytes e ++ more) ≡ Some (f, rest) = ap entry_at same ∙ entry_again f rest fits' in
     let q = some_is (e, more) (f, rest) (sym (entry_again e more fits) ∙ p) in

@@ -1,5 +1,6 @@
 -- A field that is read is the field that was written, and what was written is read again.
-use Rattle.std.proofs.Common.{◌≡◌, ◌∙◌, sym, ap, subst, refl, ℕ, ◌^◌, ◌<◌, ◌≤◌, Bool, true, false, cond, ltb, ℤ, List, [], ◌∷◌, ◌++◌, length, take, drop, Option, Some, None, append_assoc, append-nil, arith}
+use Rattle.std.proofs.Common.{◌≡◌, ◌∙◌, sym, ap, subst, refl, ℕ, ◌^◌, ◌<◌, ◌≤◌, Bool, true, false, cond, ltb, ℤ, List, [], ◌∷◌, ◌++◌}
+use Rattle.std.proofs.Common.{length, take, drop, Option, Some, None, append_assoc, append-nil, arith}
 use Rattle.std.specs.Prelude.{FitsSigned}
 use Rattle.std.specs.Int.{w64, cast_unsigned}
 use Rattle.std.proofs.lemmas.Bool.{ltb-false, le-ltb}
@@ -21,7 +22,10 @@ pub record Takes (bytes text rest : List ℕ) : Type 0 where
   pub rest_fits : IsBytes rest
 
 pub takes_then : (a x b y c : List ℕ) → Takes a x b → Takes b y c → Takes a (x ++ y) c
-takes_then a x b y c p q = record { parts = p.parts ∙ ap (λ (t : List ℕ). x ++ t) q.parts ∙ sym (append_assoc x y c); rest_fits = q.rest_fits }
+takes_then a x b y c p q = record {
+  parts = p.parts ∙ ap (λ (t : List ℕ). x ++ t) q.parts ∙ sym (append_assoc x y c);
+  rest_fits = q.rest_fits;
+}
 
 -- a reader of what has this spelling, and is fit to be spelled
 pub record IsField {X : Type 0} (at : List ℕ → Option (X × List ℕ)) (spell : X → List ℕ) (Fits : X → Type 0) : Type 0 where
@@ -47,7 +51,8 @@ some_is x y e = cc
 
 -- a step that took its field
 pub step_takes : {X B : Type 0} (at : List ℕ → Option (X × List ℕ)) (spell : X → List ℕ) (Fits : X → Type 0) (field : IsField at spell Fits)
-    (bytes : List ℕ) (f : X × List ℕ → Option B) (y : B) → IsBytes bytes → (at bytes >>= f) ≡ Some y → (x : X × List ℕ) × Takes bytes (spell x.0) x.1 × Fits x.0 × (f x ≡ Some y)
+    (bytes : List ℕ) (f : X × List ℕ → Option B) (y : B) → IsBytes bytes → (at bytes >>= f) ≡ Some y
+    → (x : X × List ℕ) × Takes bytes (spell x.0) x.1 × Fits x.0 × (f x ≡ Some y)
 step_takes at spell Fits field bytes f y fits e =
     let b = bind_some (at bytes) f y e in
     let t = field.takes bytes b.0.0 b.0.1 fits b.1 in
@@ -55,7 +60,8 @@ step_takes at spell Fits field bytes f y fits e =
 
 -- ---- numbers
 
-number_takes : (n : ℕ) (bytes : List ℕ) (x : ℕ) (rest : List ℕ) → IsBytes bytes → number_at n bytes ≡ Some (x, rest) → Takes bytes (number_bytes n x) rest × (x < 256 ^ n)
+number_takes : (n : ℕ) (bytes : List ℕ) (x : ℕ) (rest : List ℕ) → IsBytes bytes → number_at n bytes ≡ Some (x, rest)
+    → Takes bytes (number_bytes n x) rest × (x < 256 ^ n)
 unfolding number_at number_bytes
 number_takes n bytes x rest fits e =
     let g = guard_none (ltb (length bytes) n) (Some (big_number n bytes, drop n bytes)) (x, rest) e in
@@ -65,10 +71,13 @@ number_takes n bytes x rest fits e =
     let rest-is : drop n bytes ≡ rest = ap (λ (p : ℕ × List ℕ). p.1) p in
     let lt : big_number n bytes < 256 ^ n = big_from-lt 0 n bytes fits in
     let same : big_number n (take n bytes) ≡ big_number n bytes = big_from-take 0 n n bytes (omega arith) in
-    let back : big_bytes n (big_number n (take n bytes)) ≡ take n bytes = number_back n (take n bytes) (IsBytes-take n bytes fits) (omega (arith, length-take n bytes)) in
+    let back : big_bytes n (big_number n (take n bytes)) ≡ take n bytes =
+    number_back n (take n bytes) (IsBytes-take n bytes fits) (omega (arith, length-take n bytes)) in
     let front : big_bytes n (big_number n bytes) ≡ take n bytes = ap (λ (v : ℕ). big_bytes n v) (sym same) ∙ back in
-    let parts : bytes ≡ big_bytes n (big_number n bytes) ++ drop n bytes = sym (take-append-drop n bytes) ∙ ap (λ (t : List ℕ). t ++ drop n bytes) (sym front) in
-    subst (λ (q : ℕ × List ℕ). Takes bytes (big_bytes n q.0) q.1 × (q.0 < 256 ^ n)) p (record { parts = parts; rest_fits = IsBytes-drop n bytes fits }, lt)
+    let parts : bytes ≡ big_bytes n (big_number n bytes) ++ drop n bytes = sym (take-append-drop n bytes)
+    ∙ ap (λ (t : List ℕ). t ++ drop n bytes) (sym front) in
+    subst (λ (q : ℕ × List ℕ). Takes bytes (big_bytes n q.0) q.1 × (q.0 < 256 ^ n)) p
+    (record { parts = parts; rest_fits = IsBytes-drop n bytes fits }, lt)
 
 number_again : (n x : ℕ) (rest : List ℕ) → x < 256 ^ n → number_at n (number_bytes n x ++ rest) ≡ Some (x, rest)
 unfolding number_at number_bytes
@@ -82,12 +91,14 @@ number_field n = record { takes = number_takes n; again = number_again n }
 
 -- ---- signed numbers
 
-signed_takes : (bytes : List ℕ) (z : ℤ) (rest : List ℕ) → IsBytes bytes → signed_at bytes ≡ Some (z, rest) → Takes bytes (signed_bytes z) rest × FitsSigned w64 z
+signed_takes : (bytes : List ℕ) (z : ℤ) (rest : List ℕ) → IsBytes bytes → signed_at bytes ≡ Some (z, rest)
+    → Takes bytes (signed_bytes z) rest × FitsSigned w64 z
 unfolding signed_at signed_bytes
 signed_takes bytes z rest fits e =
     let a = step_takes (number_at 8) (number_bytes 8) (λ x. x < 256 ^ 8) (number_field 8) bytes _ (z, rest) fits e in
     let f : Fits w64 a.0.0 = record { fits = a.2 } in
-    subst (λ (q : ℤ × List ℕ). Takes bytes (number_bytes 8 (cast_unsigned w64 q.0)) q.1 × FitsSigned w64 q.0) (some_is _ _ a.3) (rw (of_z-to_z f) a.1, sfits_to_z f)
+    subst (λ (q : ℤ × List ℕ). Takes bytes (number_bytes 8 (cast_unsigned w64 q.0)) q.1 × FitsSigned w64 q.0) (some_is _ _ a.3)
+    (rw (of_z-to_z f) a.1, sfits_to_z f)
 
 signed_again : (z : ℤ) (rest : List ℕ) → FitsSigned w64 z → signed_at (signed_bytes z ++ rest) ≡ Some (z, rest)
 unfolding signed_at signed_bytes
@@ -98,38 +109,50 @@ signed_again z rest fits =
 pub signed_field : IsField signed_at signed_bytes (FitsSigned w64)
 signed_field = record { takes = signed_takes; again = signed_again }
 
-regroup3 : (a b c d : List ℕ) → (a ++ b ++ c) ++ d ≡ a ++ (b ++ (c ++ d))
+pub regroup3 : (a b c d : List ℕ) → (a ++ b ++ c) ++ d ≡ a ++ (b ++ (c ++ d))
 regroup3 a b c d = append_assoc (a ++ b) c d ∙ append_assoc a b (c ++ d)
 
-vector_takes : (bytes : List ℕ) (v : Vec3) (rest : List ℕ) → IsBytes bytes → vector_at bytes ≡ Some (v, rest) → Takes bytes (vector_bytes v) rest × VectorFits v
+vector_takes : (bytes : List ℕ) (v : Vec3) (rest : List ℕ) → IsBytes bytes → vector_at bytes ≡ Some (v, rest)
+    → Takes bytes (vector_bytes v) rest × VectorFits v
 unfolding vector_at vector_bytes
 vector_takes bytes v rest fits e =
     let a = step_takes signed_at signed_bytes (FitsSigned w64) signed_field bytes _ (v, rest) fits e in
     let b = step_takes signed_at signed_bytes (FitsSigned w64) signed_field a.0.1 _ (v, rest) a.1.rest_fits a.3 in
     let c = step_takes signed_at signed_bytes (FitsSigned w64) signed_field b.0.1 _ (v, rest) b.1.rest_fits b.3 in
-    let t = takes_then bytes (signed_bytes a.0.0 ++ signed_bytes b.0.0) b.0.1 (signed_bytes c.0.0) c.0.1 (takes_then bytes (signed_bytes a.0.0) a.0.1 (signed_bytes b.0.0) b.0.1 a.1 b.1) c.1 in
+    let t = takes_then bytes (signed_bytes a.0.0 ++ signed_bytes b.0.0) b.0.1 (signed_bytes c.0.0) c.0.1
+    (takes_then bytes (signed_bytes a.0.0) a.0.1 (signed_bytes b.0.0) b.0.1 a.1 b.1) c.1 in
     subst (λ (q : Vec3 × List ℕ). Takes bytes (vector_bytes q.0) q.1 × VectorFits q.0) (some_is _ _ c.3) (t, (a.2, b.2, c.2))
 
 vector_again : (v : Vec3) (rest : List ℕ) → VectorFits v → vector_at (vector_bytes v ++ rest) ≡ Some (v, rest)
 unfolding vector_at vector_bytes
 vector_again v rest fits =
-    rw (regroup3 (signed_bytes v.x) (signed_bytes v.y) (signed_bytes v.z) rest, signed_again v.x (signed_bytes v.y ++ (signed_bytes v.z ++ rest)) fits.0, signed_again v.y (signed_bytes v.z ++ rest) fits.1, signed_again v.z rest fits.2) refl
+    rw (
+      regroup3 (signed_bytes v.x) (signed_bytes v.y) (signed_bytes v.z) rest,
+      signed_again v.x (signed_bytes v.y ++ (signed_bytes v.z ++ rest)) fits.0,
+      signed_again v.y (signed_bytes v.z ++ rest) fits.1,
+      signed_again v.z rest fits.2,
+    ) refl
 
 pub vector_field : IsField vector_at vector_bytes VectorFits
 vector_field = record { takes = vector_takes; again = vector_again }
 
 three : (x y z : ℤ) → axes_bytes (x ∷ y ∷ z ∷ []) ≡ signed_bytes x ++ signed_bytes y ++ signed_bytes z
 unfolding axes_bytes
-three x y z = rw (flat_map-cons, flat_map-cons, flat_map-cons) (ap (λ (t : List ℕ). signed_bytes x ++ (signed_bytes y ++ t)) (append-nil (signed_bytes z)) ∙ sym (append_assoc (signed_bytes x) (signed_bytes y) (signed_bytes z)))
+three x y z = rw (flat_map-cons, flat_map-cons, flat_map-cons)
+    (ap (λ (t : List ℕ). signed_bytes x ++ (signed_bytes y ++ t)) (append-nil (signed_bytes z))
+    ∙ sym (append_assoc (signed_bytes x) (signed_bytes y) (signed_bytes z)))
 
-axes_takes : (bytes : List ℕ) (zs : List ℤ) (rest : List ℕ) → IsBytes bytes → axes_at bytes ≡ Some (zs, rest) → Takes bytes (axes_bytes zs) rest × AreAxes zs
+axes_takes : (bytes : List ℕ) (zs : List ℤ) (rest : List ℕ) → IsBytes bytes → axes_at bytes ≡ Some (zs, rest)
+    → Takes bytes (axes_bytes zs) rest × AreAxes zs
 unfolding axes_at
 axes_takes bytes zs rest fits e =
     let a = step_takes signed_at signed_bytes (FitsSigned w64) signed_field bytes _ (zs, rest) fits e in
     let b = step_takes signed_at signed_bytes (FitsSigned w64) signed_field a.0.1 _ (zs, rest) a.1.rest_fits a.3 in
     let c = step_takes signed_at signed_bytes (FitsSigned w64) signed_field b.0.1 _ (zs, rest) b.1.rest_fits b.3 in
-    let t = takes_then bytes (signed_bytes a.0.0 ++ signed_bytes b.0.0) b.0.1 (signed_bytes c.0.0) c.0.1 (takes_then bytes (signed_bytes a.0.0) a.0.1 (signed_bytes b.0.0) b.0.1 a.1 b.1) c.1 in
-    subst (λ (q : List ℤ × List ℕ). Takes bytes (axes_bytes q.0) q.1 × AreAxes q.0) (some_is _ _ c.3) (rw (three a.0.0 b.0.0 c.0.0) t, (refl, (a.2, (b.2, (c.2, tt)))))
+    let t = takes_then bytes (signed_bytes a.0.0 ++ signed_bytes b.0.0) b.0.1 (signed_bytes c.0.0) c.0.1
+    (takes_then bytes (signed_bytes a.0.0) a.0.1 (signed_bytes b.0.0) b.0.1 a.1 b.1) c.1 in
+    subst (λ (q : List ℤ × List ℕ). Takes bytes (axes_bytes q.0) q.1 × AreAxes q.0) (some_is _ _ c.3)
+    (rw (three a.0.0 b.0.0 c.0.0) t, (refl, (a.2, (b.2, (c.2, tt)))))
 
 axes_again : (zs : List ℤ) (rest : List ℕ) → AreAxes zs → axes_at (axes_bytes zs ++ rest) ≡ Some (zs, rest)
 unfolding axes_at
@@ -137,16 +160,24 @@ axes_again [] rest fits = absurd (omega (arith, fits.0))
 axes_again (x ∷ []) rest fits = absurd (omega (arith, fits.0))
 axes_again (x ∷ y ∷ []) rest fits = absurd (omega (arith, fits.0))
 axes_again (x ∷ y ∷ z ∷ []) rest fits =
-    rw (three x y z, regroup3 (signed_bytes x) (signed_bytes y) (signed_bytes z) rest, signed_again x (signed_bytes y ++ (signed_bytes z ++ rest)) fits.1.0, signed_again y (signed_bytes z ++ rest) fits.1.1.0, signed_again z rest fits.1.1.1.0) refl
+    rw (
+      three x y z,
+      regroup3 (signed_bytes x) (signed_bytes y) (signed_bytes z) rest,
+      signed_again x (signed_bytes y ++ (signed_bytes z ++ rest)) fits.1.0,
+      signed_again y (signed_bytes z ++ rest) fits.1.1.0,
+      signed_again z rest fits.1.1.1.0,
+    ) refl
 axes_again (x ∷ y ∷ z ∷ w ∷ zs) rest fits = absurd (omega (arith, fits.0))
 
 pub axes_field : IsField axes_at axes_bytes AreAxes
 axes_field = record { takes = axes_takes; again = axes_again }
 
-byte_takes : (bytes : List ℕ) (b : ℕ) (rest : List ℕ) → IsBytes bytes → byte_at bytes ≡ Some (b, rest) → Takes bytes (b ∷ []) rest × (b < 256)
+byte_takes : (bytes : List ℕ) (b : ℕ) (rest : List ℕ) → IsBytes bytes → byte_at bytes ≡ Some (b, rest)
+    → Takes bytes (b ∷ []) rest × (b < 256)
 byte_takes [] b rest fits e = absurd cc
 byte_takes (a ∷ bytes) b rest fits e =
-    subst (λ (q : ℕ × List ℕ). Takes (a ∷ bytes) (q.0 ∷ []) q.1 × (q.0 < 256)) (some_is (a, bytes) (b, rest) e) (record { parts = refl; rest_fits = IsBytes-rest a bytes fits }, fits 0)
+    subst (λ (q : ℕ × List ℕ). Takes (a ∷ bytes) (q.0 ∷ []) q.1 × (q.0 < 256)) (some_is (a, bytes) (b, rest) e)
+    (record { parts = refl; rest_fits = IsBytes-rest a bytes fits }, fits 0)
 
 pub byte_field : IsField byte_at (λ b. b ∷ []) (λ b. b < 256)
 byte_field = record { takes = byte_takes; again = λ b rest fits. refl }

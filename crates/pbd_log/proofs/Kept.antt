@@ -27,7 +27,8 @@ some_number refusals.StepLimit = refl
 some_number (refusals.LeavesRange step phase element) = refl
 some_number (refusals.TooManyContacts step) = refl
 
-step_stands : (v w : World) (n : ℕ) (r : Result World Refusal) → StandExactly (has_sums (Step n) (answer_of (done_or_refused w r).1).number) (kept_sums v (Step n) (done_or_refused w r).1)
+step_stands : (v w : World) (n : ℕ) (r : Result World Refusal)
+    → StandExactly (has_sums (Step n) (answer_of (done_or_refused w r).1).number) (kept_sums v (Step n) (done_or_refused w r).1)
 step_stands v w n (Ok x) = refl
 step_stands v w n (Err refusal) = some_number refusal
 
@@ -46,6 +47,7 @@ stands w Bad = refl
 pub kept_is : (w : World) (command : Command) → IsGrammatical (entry_of (entry w command))
 kept_is w command = record { answer = answer_is (reply w command); sums = stands w command }
 
-pub logged_are : (w : World) (commands : List Command) → AllByRecursion IsGrammatical (map {A = LogEntry} {B = Entry} entry_of (logged w commands))
+pub logged_are : (w : World) (commands : List Command) → AllByRecursion IsGrammatical
+    (map {A = LogEntry} {B = Entry} entry_of (logged w commands))
 logged_are w [] = tt
 logged_are w (command ∷ commands) = (kept_is w command, logged_are (after w command) commands)

@@ -1,5 +1,6 @@
 -- Bytes and the numbers that they spell, the highest byte first.
-use Rattle.std.proofs.Common.{◌≡◌, ◌∙◌, sym, ap, refl, ℕ, zero, suc, ◌+◌, ◌*◌, ◌/◌, ◌^◌, ◌<◌, ◌≤◌, List, [], ◌∷◌, length, take, drop, inl, inr, append-nil, arith}
+use Rattle.std.proofs.Common.{◌≡◌, ◌∙◌, sym, ap, refl, ℕ, zero, suc, ◌+◌, ◌*◌, ◌/◌, ◌^◌, ◌<◌, ◌≤◌, List, [], ◌∷◌, length, take, drop, inl}
+use Rattle.std.proofs.Common.{inr, append-nil, arith}
 use Rattle.std.proofs.Math.Nat.{add-mul, mod-lt, mul-le-mul_right}
 use Rattle.std.proofs.lemmas.Bool.{cases_lt}
 use Rattle.std.proofs.lemmas.List.{get_or-drop, get_or-take, get_or_past, length-take}
@@ -52,7 +53,8 @@ same_digit p a b r s hr hs e =
     ]
 
 -- different n bytes have different values
-pub same_bytes : (n : ℕ) (xs ys : List ℕ) → IsBytes xs → IsBytes ys → length xs ≡ n → length ys ≡ n → big_number n xs ≡ big_number n ys → xs ≡ ys
+pub same_bytes : (n : ℕ) (xs ys : List ℕ) → IsBytes xs → IsBytes ys → length xs ≡ n → length ys ≡ n → big_number n xs ≡ big_number n ys
+    → xs ≡ ys
 same_bytes zero [] [] hx hy lx ly e = refl
 same_bytes zero [] (b ∷ ys) hx hy lx ly e = absurd (omega (arith, ly))
 same_bytes zero (a ∷ xs) ys hx hy lx ly e = absurd (omega (arith, lx))
@@ -61,7 +63,8 @@ same_bytes (suc n) (a ∷ xs) [] hx hy lx ly e = absurd (omega (arith, ly))
 same_bytes (suc n) (a ∷ xs) (b ∷ ys) hx hy lx ly e =
     let ex = big_from-cons 0 n a xs in
     let ey = big_from-cons 0 n b ys in
-    let sums : a * 256 ^ n + big_number n xs ≡ b * 256 ^ n + big_number n ys = ap (λ r. a * 256 ^ n + r) (sym ex) ∙ e ∙ ap (λ r. b * 256 ^ n + r) ey in
+    let sums : a * 256 ^ n + big_number n xs ≡ b * 256 ^ n + big_number n ys = ap (λ r. a * 256 ^ n + r) (sym ex) ∙ e
+    ∙ ap (λ r. b * 256 ^ n + r) ey in
     let fx = big_from-lt 0 n xs (IsBytes-rest a xs hx) in
     let fy = big_from-lt 0 n ys (IsBytes-rest b ys hy) in
     let head : a ≡ b = same_digit (256 ^ n) a b (big_number n xs) (big_number n ys) fx fy sums in
@@ -73,8 +76,11 @@ same_bytes (suc n) (a ∷ xs) (b ∷ ys) hx hy lx ly e =
 pub number_back : (n : ℕ) (xs : List ℕ) → IsBytes xs → length xs ≡ n → big_bytes n (big_number n xs) ≡ xs
 number_back n xs h len =
     let lt = big_from-lt 0 n xs h in
-    let again : big_number n (big_bytes n (big_number n xs)) ≡ big_number n xs = ap (big_number n) (sym (append-nil (big_bytes n (big_number n xs)))) ∙ big_number-reads_back n (big_number n xs) [] lt in
-    same_bytes n (big_bytes n (big_number n xs)) xs (IsBytes-number n (big_number n xs)) h (length-bytes_high_first n (big_number n xs)) len again
+    let again : big_number n (big_bytes n (big_number n xs))
+    ≡ big_number n xs = ap (big_number n) (sym (append-nil (big_bytes n (big_number n xs))))
+    ∙ big_number-reads_back n (big_number n xs) [] lt in
+    same_bytes n (big_bytes n (big_number n xs)) xs (IsBytes-number n (big_number n xs)) h
+    (length-bytes_high_first n (big_number n xs)) len again
 
 pub reading_is : (n x : ℕ) (xs : List ℕ) → IsBytes xs → x < 256 ^ n → (xs ≡ number_bytes n x) ↔ ((length xs ≡ n) × (big_number n xs ≡ x))
 unfolding number_bytes

@@ -1,5 +1,6 @@
 -- What becomes of eight marks.
-use Rattle.std.proofs.Common.{◌≡◌, ◌∙◌, refl, sym, ap, subst, zero, suc, ℕ, ◌+◌, ◌-◌, ◌<◌, List, [], ◌∷◌, ◌++◌, length, slice_set, Ok, Err, Option, Some, None, arith, All, IfSome, true, false, Bool, cond}
+use Rattle.std.proofs.Common.{◌≡◌, ◌∙◌, refl, sym, ap, subst, zero, suc, ℕ, ◌+◌, ◌-◌, ◌<◌, List, [], ◌∷◌, ◌++◌, length, slice_set, Ok, Err}
+use Rattle.std.proofs.Common.{Option, Some, None, arith, All, IfSome, true, false, Bool, cond}
 use Rattle.std.proofs.Math.ListN.{replicate, get_or}
 use Rattle.std.specs.Prelude.{nat_lt}
 use Rattle.std.specs.List.{AllByRecursion}
@@ -10,16 +11,20 @@ use Rattle.pbd_world.specs.World.{World, IsSound, AreOfOneScene, unchanging}
 use Rattle.pbd_step.specs.Solving.{Solved}
 use Rattle.pbd_marks.specs.declared.command.MarkRefusal.TheVariants.{BadMark, MarkEmpty}
 use Rattle.pbd_marks.specs.Marked.{no_marks, mark_at, set, kept, rewound}
-use Rattle.pbd_marks.specs.Keeping.{AreOpened, Kept, worlds_in, IsOfScene, IsMarkOf, AreMarks, FitTogether, scene_of, marked, kept_by, none_set}
+use Rattle.pbd_marks.specs.Keeping.{AreOpened, Kept, worlds_in, IsOfScene, IsMarkOf, AreMarks, FitTogether, scene_of, marked, kept_by}
+use Rattle.pbd_marks.specs.Keeping.{none_set}
 
 -- ---- the worlds of solvers
 
-pub world_of_scene : {P : Type 0} (scene : World) (solvers : List (Solved P)) (k : ℕ) (d : Solved P) → k < length (worlds_in solvers) → All (IsOfScene scene) (worlds_in solvers) → IsOfScene scene (get_or solvers k d).world
+pub world_of_scene : {P : Type 0} (scene : World) (solvers : List (Solved P)) (k : ℕ) (d : Solved P) → k < length (worlds_in solvers)
+    → All (IsOfScene scene) (worlds_in solvers) → IsOfScene scene (get_or solvers k d).world
 world_of_scene {P = P} scene solvers k d inside all =
     let within : k < length solvers = omega (arith, inside, length-map {A = Solved P} {B = World} solvers (λ s. s.world)) in
-    subst (IsOfScene scene) (get_or-map {X = Solved P} {Y = World} (λ s. s.world) solvers k d d.world within) (All-get_or (IsOfScene scene) (worlds_in solvers) k d.world inside all)
+    subst (IsOfScene scene) (get_or-map {X = Solved P} {Y = World} (λ s. s.world) solvers k d d.world within)
+    (All-get_or (IsOfScene scene) (worlds_in solvers) k d.world inside all)
 
-pub worlds_set : {P : Type 0} (solvers : List (Solved P)) (k : ℕ) (solver : Solved P) (w : World) → solver.world ≡ w → worlds_in (slice_set solvers k solver) ≡ slice_set (worlds_in solvers) k w
+pub worlds_set : {P : Type 0} (solvers : List (Solved P)) (k : ℕ) (solver : Solved P) (w : World) → solver.world ≡ w
+    → worlds_in (slice_set solvers k solver) ≡ slice_set (worlds_in solvers) k w
 worlds_set {P = P} solvers k solver w is =
     map-set {A = Solved P} {B = World} (λ s. s.world) solvers k solver
     ∙ ap (λ v. slice_set (worlds_in solvers) k v) is
@@ -42,26 +47,30 @@ scene_set [] k w same = refl
 scene_set (v ∷ vs) zero w same = same
 scene_set (v ∷ vs) (suc k) w same = refl
 
-pub marked_set : (bs : List Bool) (ws : List World) (k : ℕ) (w : World) → length bs ≡ length ws → marked (slice_set bs k true) (slice_set ws k w) ≡ slice_set (marked bs ws) k (Some w)
+pub marked_set : (bs : List Bool) (ws : List World) (k : ℕ) (w : World) → length bs ≡ length ws
+    → marked (slice_set bs k true) (slice_set ws k w) ≡ slice_set (marked bs ws) k (Some w)
 marked_set [] ws k w same = refl
 marked_set (b ∷ bs) [] k w same = absurd (omega (arith, same))
 marked_set (b ∷ bs) (v ∷ vs) zero w same = refl
 marked_set (b ∷ bs) (v ∷ vs) (suc k) w same = ap (λ os. (cond b (Some v) None) ∷ os) (marked_set bs vs k w (omega (arith, same)))
 
-pub marked_at : (bs : List Bool) (ws : List World) (k : ℕ) (b : Bool) (w : World) → k < length bs → k < length ws → get_or (marked bs ws) k None ≡ cond (get_or bs k b) (Some (get_or ws k w)) None
+pub marked_at : (bs : List Bool) (ws : List World) (k : ℕ) (b : Bool) (w : World) → k < length bs → k < length ws
+    → get_or (marked bs ws) k None ≡ cond (get_or bs k b) (Some (get_or ws k w)) None
 marked_at [] ws k b w short long = absurd (omega (arith, short))
 marked_at (c ∷ cs) [] k b w short long = absurd (omega (arith, long))
 marked_at (c ∷ cs) (v ∷ vs) zero b w short long = refl
 marked_at (c ∷ cs) (v ∷ vs) (suc k) b w short long = marked_at cs vs k b w (omega (arith, short)) (omega (arith, long))
 
-pub set_fits : (bs : List Bool) (ws : List World) (k : ℕ) (w : World) → FitTogether bs ws → IsMarkOf (scene_of ws) w → FitTogether (slice_set bs k true) (slice_set ws k w)
+pub set_fits : (bs : List Bool) (ws : List World) (k : ℕ) (w : World) → FitTogether bs ws → IsMarkOf (scene_of ws) w
+    → FitTogether (slice_set bs k true) (slice_set ws k w)
 set_fits bs ws k w fit is =
     let scene = sym (scene_set ws k w is.of_scene) in
     let marks = sym (marked_set bs ws k w (fit.eight_set ∙ sym fit.eight)) in
     record {
       eight_set = length-set bs k true ∙ fit.eight_set;
       eight = length-set ws k w ∙ fit.eight;
-      of_scene = subst (λ (s : World). All (IsOfScene s) (slice_set ws k w)) scene (All-set (IsOfScene (scene_of ws)) ws k w is.of_scene fit.of_scene);
+      of_scene = subst (λ (s : World). All (IsOfScene s) (slice_set ws k w)) scene
+          (All-set (IsOfScene (scene_of ws)) ws k w is.of_scene fit.of_scene);
       kept = subst (λ (s : World). AreMarks (record { scene = s; marks = marked (slice_set bs k true) (slice_set ws k w) })) scene (
           subst (λ (os : List (Option World)). AreMarks (record { scene = scene_of ws; marks = os })) marks (record {
             eight = length-set (marked bs ws) k (Some w) ∙ fit.kept.eight;
@@ -76,14 +85,17 @@ pub record IsSet (kept : Kept) (k : ℕ) (w : World) (bs : List Bool) (ws : List
   pub outcome : set kept.marks k w ≡ Ok (marked bs ws)
   pub scene : scene_of ws ≡ kept.scene
 
-kept_set_there : (bs : List Bool) (ws : List World) (k : ℕ) (w : World) → FitTogether bs ws → nat_lt 7 k ≡ false → IsSound w → IsOfScene (scene_of ws) w → IsSet (kept_by bs ws) k w (slice_set bs k true) (slice_set ws k w)
+kept_set_there : (bs : List Bool) (ws : List World) (k : ℕ) (w : World) → FitTogether bs ws → nat_lt 7 k ≡ false → IsSound w
+    → IsOfScene (scene_of ws) w → IsSet (kept_by bs ws) k w (slice_set bs k true) (slice_set ws k w)
 kept_set_there bs ws k w fit there sound of_scene = record {
   fit = set_fits bs ws k w fit (record { sound = sound; of_scene = of_scene });
-  outcome = ap (λ b. cond b (Err BadMark) (Ok (slice_set (marked bs ws) k (Some w)))) there ∙ ap (λ os. Ok os) (sym (marked_set bs ws k w (fit.eight_set ∙ sym fit.eight)));
+  outcome = ap (λ b. cond b (Err BadMark) (Ok (slice_set (marked bs ws) k (Some w)))) there
+      ∙ ap (λ os. Ok os) (sym (marked_set bs ws k w (fit.eight_set ∙ sym fit.eight)));
   scene = scene_set ws k w of_scene;
 }
 
-pub kept_set : (kept : Kept) (bs cs : List Bool) (ws new : List World) (k : ℕ) (w : World) → kept_by bs ws ≡ kept → FitTogether bs ws → nat_lt 7 k ≡ false → IsSound w → IsOfScene kept.scene w → cs ≡ slice_set bs k true → new ≡ slice_set ws k w → IsSet kept k w cs new
+pub kept_set : (kept : Kept) (bs cs : List Bool) (ws new : List World) (k : ℕ) (w : World) → kept_by bs ws ≡ kept → FitTogether bs ws
+    → nat_lt 7 k ≡ false → IsSound w → IsOfScene kept.scene w → cs ≡ slice_set bs k true → new ≡ slice_set ws k w → IsSet kept k w cs new
 kept_set kept bs cs ws new k w seen fit there sound of_scene flags is =
     subst (λ (ds : List Bool). IsSet kept k w ds new) (sym flags) (
     subst (λ (vs : List World). IsSet kept k w (slice_set bs k true) vs) (sym is) (
@@ -99,36 +111,47 @@ kept_where : (b : Bool) (w : World) → kept (cond b (Some w) None) ≡ cond b (
 kept_where true w = refl
 kept_where false w = refl
 
-rewound_there : (bs : List Bool) (ws : List World) (k : ℕ) (x : Bool) (y : World) → FitTogether bs ws → nat_lt 7 k ≡ false → rewound (marked bs ws) k ≡ cond (get_or bs k x) (Ok (get_or ws k y)) (Err MarkEmpty)
+rewound_there : (bs : List Bool) (ws : List World) (k : ℕ) (x : Bool) (y : World) → FitTogether bs ws → nat_lt 7 k ≡ false
+    → rewound (marked bs ws) k ≡ cond (get_or bs k x) (Ok (get_or ws k y)) (Err MarkEmpty)
 rewound_there bs ws k x y fit there =
     let below = ltb-false 7 k there in
     ap (λ b. cond b (Err BadMark) (kept (mark_at (marked bs ws) k))) there
     ∙ ap (λ o. kept o) (marked_at bs ws k x y (omega (arith, below, fit.eight_set)) (omega (arith, below, fit.eight)))
     ∙ kept_where (get_or bs k x) (get_or ws k y)
 
-pub rewound_empty : (seen : Kept) (bs : List Bool) (ws : List World) (k : ℕ) (x : Bool) (y : World) → kept_by bs ws ≡ seen → FitTogether bs ws → nat_lt 7 k ≡ false → get_or bs k x ≡ false → rewound seen.marks k ≡ Err MarkEmpty
+pub rewound_empty : (seen : Kept) (bs : List Bool) (ws : List World) (k : ℕ) (x : Bool) (y : World) → kept_by bs ws ≡ seen
+    → FitTogether bs ws → nat_lt 7 k ≡ false → get_or bs k x ≡ false → rewound seen.marks k ≡ Err MarkEmpty
 rewound_empty seen bs ws k x y is fit there empty =
-    sym (ap (λ (s : Kept). rewound s.marks k) is) ∙ rewound_there bs ws k x y fit there ∙ ap (λ b. cond b (Ok (get_or ws k y)) (Err MarkEmpty)) empty
+    sym (ap (λ (s : Kept). rewound s.marks k) is) ∙ rewound_there bs ws k x y fit there
+    ∙ ap (λ b. cond b (Ok (get_or ws k y)) (Err MarkEmpty)) empty
 
-pub rewound_set : {P : Type 0} (seen : Kept) (bs : List Bool) (solvers : List (Solved P)) (k : ℕ) (x : Bool) (s : Solved P) → kept_by bs (worlds_in solvers) ≡ seen → FitTogether bs (worlds_in solvers) → nat_lt 7 k ≡ false → get_or bs k x ≡ true → s ≡ get_or solvers k s → rewound seen.marks k ≡ Ok s.world
+pub rewound_set : {P : Type 0} (seen : Kept) (bs : List Bool) (solvers : List (Solved P)) (k : ℕ) (x : Bool) (s : Solved P)
+    → kept_by bs (worlds_in solvers) ≡ seen → FitTogether bs (worlds_in solvers) → nat_lt 7 k ≡ false → get_or bs k x ≡ true
+    → s ≡ get_or solvers k s → rewound seen.marks k ≡ Ok s.world
 rewound_set {P = P} seen bs solvers k x s is fit there set at =
     let within : k < length solvers = omega (arith, ltb-false 7 k there, fit.eight, length-worlds solvers) in
     sym (ap (λ (s : Kept). rewound s.marks k) is)
     ∙ rewound_there bs (worlds_in solvers) k x s.world fit there
     ∙ ap (λ b. cond b (Ok (get_or (worlds_in solvers) k s.world)) (Err MarkEmpty)) set
-    ∙ ap (λ w. Ok w) (get_or-map {X = Solved P} {Y = World} (λ s. s.world) solvers k s s.world within ∙ ap (λ (s : Solved P). s.world) (sym at))
+    ∙ ap (λ w. Ok w) (get_or-map {X = Solved P} {Y = World} (λ s. s.world) solvers k s s.world within
+    ∙ ap (λ (s : Solved P). s.world) (sym at))
 
-pub rewound_scene : {P : Type 0} (seen : Kept) (bs : List Bool) (solvers : List (Solved P)) (k : ℕ) (w : World) (s : Solved P) → kept_by bs (worlds_in solvers) ≡ seen → FitTogether bs (worlds_in solvers) → nat_lt 7 k ≡ false → IsOfScene seen.scene w → s ≡ get_or solvers k s → AreOfOneScene w s.world
+pub rewound_scene : {P : Type 0} (seen : Kept) (bs : List Bool) (solvers : List (Solved P)) (k : ℕ) (w : World) (s : Solved P)
+    → kept_by bs (worlds_in solvers) ≡ seen → FitTogether bs (worlds_in solvers) → nat_lt 7 k ≡ false → IsOfScene seen.scene w
+    → s ≡ get_or solvers k s → AreOfOneScene w s.world
 rewound_scene {P = P} seen bs solvers k w s is fit there of_scene at =
     of_scene
     ∙ sym (ap (λ (s : Kept). s.scene) is)
-    ∙ sym (ap (λ (s : Solved P). unchanging s.world) at ∙ world_of_scene (scene_of (worlds_in solvers)) solvers k s (omega (arith, ltb-false 7 k there, fit.eight)) fit.of_scene)
+    ∙ sym (ap (λ (s : Solved P). unchanging s.world) at ∙ world_of_scene (scene_of (worlds_in solvers)) solvers k s
+    (omega (arith, ltb-false 7 k there, fit.eight)) fit.of_scene)
 
 -- ---- marks that are opened
 
-pub one_more : {P : Type 0} (w : World) (n : ℕ) (solvers : List (Solved P)) (solver : Solved P) → AreOpened w n (worlds_in solvers) → solver.world ≡ w → AreOpened w (n + 1) (worlds_in (solvers ++ solver ∷ []))
+pub one_more : {P : Type 0} (w : World) (n : ℕ) (solvers : List (Solved P)) (solver : Solved P) → AreOpened w n (worlds_in solvers)
+    → solver.world ≡ w → AreOpened w (n + 1) (worlds_in (solvers ++ solver ∷ []))
 one_more {P = P} w n solvers solver so_far is =
-    subst (λ (ws : List World). AreOpened w (n + 1) ws) (sym (map-append {A = Solved P} {B = World} (λ s. s.world) solvers (solver ∷ []))) (record {
+    subst (λ (ws : List World). AreOpened w (n + 1) ws) (sym (map-append {A = Solved P} {B = World} (λ s. s.world) solvers (solver ∷ [])))
+    (record {
       many = omega (arith, so_far.many, length-append (worlds_in solvers) (solver.world ∷ []));
       opened = All-push (λ v. v ≡ w) (worlds_in solvers) solver.world so_far.opened is;
     })

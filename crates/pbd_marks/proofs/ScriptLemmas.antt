@@ -7,12 +7,14 @@ use Rattle.std.proofs.lemmas.List.Sums.{count_by-le-length}
 use Rattle.pbd_script.specs.Lines.{pieces}
 use Rattle.pbd_marks.specs.declared.command.MarkCommand.{MarkCommand}
 use Rattle.pbd_marks.specs.Script.{mark_line_command, mark_commands}
+use Rattle.pbd_script.proofs.CommandLemmas.{cons_le, filter_map_le}
 
 pub commands_nil : mark_commands [] ≡ []
 unfolding mark_commands
 commands_nil = refl
 
-pub step_some : (b p r : List ℕ) (c : MarkCommand) → pieces b ≡ p ∷ pieces r → mark_line_command p ≡ Some c → mark_commands b ≡ c ∷ mark_commands r
+pub step_some : (b p r : List ℕ) (c : MarkCommand) → pieces b ≡ p ∷ pieces r → mark_line_command p ≡ Some c
+    → mark_commands b ≡ c ∷ mark_commands r
 unfolding mark_commands
 step_some b p r c parts is = rw (parts, is) refl
 
@@ -28,15 +30,12 @@ pub last_none : (b p : List ℕ) → pieces b ≡ p ∷ [] → mark_line_command
 unfolding mark_commands
 last_none b p parts is = rw (parts, is) refl
 
-cons_le : {Y : Type 0} (o : Option Y) (ys : List Y) → length (cons_option o ys) ≤ length ys + 1
-cons_le None ys = omega arith
-cons_le (Some y) ys = omega arith
-
-filter_map_le : {X Y : Type 0} (f : X → Option Y) (xs : List X) → length (filter_map f xs) ≤ length xs
-filter_map_le f [] = omega arith
-filter_map_le f (x ∷ xs) = omega (arith, cons_le (f x) (filter_map f xs), filter_map_le f xs)
-
 -- a script has no more commands than bytes, but for one
 pub commands_few : (s : List ℕ) → length (mark_commands s) ≤ length s + 1
 unfolding mark_commands
-commands_few s = omega (arith, filter_map_le mark_line_command (pieces s), length-slice_split (λ b. b == 10) s, count_by-le-length (λ b. b == 10) s)
+commands_few s = omega (
+  arith,
+  filter_map_le mark_line_command (pieces s),
+  length-slice_split (λ b. b == 10) s,
+  count_by-le-length (λ b. b == 10) s,
+)

@@ -1,5 +1,6 @@
 -- A world and eight marks, and what each command of a marks script does to them.
-use Rattle.std.specs.Prelude.{◌≡◌, ◌≢◌, ℕ, ◌+◌, nat_lt, Bool, true, if◌then◌else◌, codes, List, [], ◌∷◌, ◌++◌, slice_set, Option, Some, None, Result, Ok, Err, All}
+use Rattle.std.specs.Prelude.{◌≡◌, ◌≢◌, ℕ, ◌+◌, nat_lt, Bool, true, if◌then◌else◌, codes, List, [], ◌∷◌, ◌++◌, slice_set, Option, Some}
+use Rattle.std.specs.Prelude.{None, Result, Ok, Err, All}
 use Rattle.std.specs.List.{slice_index_or}
 use Rattle.pbd_world.specs.declared.command.Reply.{Reply}
 use Rattle.pbd_world.specs.declared.command.Reply.TheVariants.{Done}

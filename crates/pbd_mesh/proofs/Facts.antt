@@ -5,7 +5,7 @@ use Rattle.std.specs.Ordering.{int_eq}
 use Rattle.pbd_world.specs.Valid.{is_limit}
 use Rattle.pbd_mesh.specs.declared.spec.Cell.{Cell}
 use Rattle.std.proofs.lemmas.Int.{ints}
-use Rattle.std.proofs.lemmas.Bool.{and_parts, cases_Bool}
+use Rattle.std.proofs.lemmas.Bool.{and_parts, cases_Bool, ltb-true}
 use Rattle.std.proofs.lemmas.Bool.Decides.{nat_tests, Decides-int_eq}
 use Rattle.pbd_num.specs.declared.Vec3.{Vec3}
 use Rattle.pbd_num.specs.Vectors.{Within, is_within}
@@ -15,16 +15,20 @@ use Rattle.pbd_mesh.specs.declared.spec.RopeSpec.{RopeSpec}
 use Rattle.pbd_mesh.specs.Numbered.{all_below}
 use Rattle.pbd_mesh.proofs.Below.{below}
 use Rattle.pbd_mesh.specs.Ranges.{is_count_between}
-use Rattle.pbd_mesh.specs.Cloth.{cloth_vectors_fit, cloth_counts_fit, cloth_settings_fit, cloth_tears_fit, cloth_in_ranges, cloth_is_inside, cloth_place, is_in_cloth, cloth_fits, ClothBounds, ClothFacts}
-use Rattle.pbd_mesh.specs.Rope.{rope_counts_fit, rope_settings_fit, rope_in_ranges, rope_is_inside, rope_place, rope_fits, RopeBounds, RopeFacts}
+use Rattle.pbd_mesh.specs.Cloth.{cloth_vectors_fit, cloth_counts_fit, cloth_settings_fit, cloth_tears_fit, cloth_in_ranges, cloth_is_inside}
+use Rattle.pbd_mesh.specs.Cloth.{cloth_place, is_in_cloth, cloth_fits, ClothBounds, ClothFacts}
+use Rattle.pbd_mesh.specs.Rope.{rope_counts_fit, rope_settings_fit, rope_in_ranges, rope_is_inside, rope_place, rope_fits, RopeBounds}
+use Rattle.pbd_mesh.specs.Rope.{RopeFacts}
 
 at_most : (low high n : ℕ) → IsTrue (is_count_between low high n) → n ≤ high
 at_most low high n t = grind (arith, nat_tests)
 
 inside_range : (limit : ℤ) (v : Vec3) → pos 0 ≤ℤ limit → unsigned_abs limit ≤ 2 ^ 29 → IsTrue (is_within limit v) → Within (2 ^ 29) v
-inside_range limit v low high t = let w = (within_facts limit v low).0 t in record { x = omega (arith, w.x); y = omega (arith, w.y); z = omega (arith, w.z) }
+inside_range limit v low high t = let w = (within_facts limit v low).0 t in
+    record { x = omega (arith, w.x); y = omega (arith, w.y); z = omega (arith, w.z) }
 
-pub cloth_bounds : (limit : ℤ) (s : ClothSpec) → pos 0 ≤ℤ limit → unsigned_abs limit ≤ 2 ^ 29 → IsTrue (cloth_in_ranges limit s) → ClothBounds s
+pub cloth_bounds : (limit : ℤ) (s : ClothSpec) → pos 0 ≤ℤ limit → unsigned_abs limit ≤ 2 ^ 29 → IsTrue (cloth_in_ranges limit s)
+    → ClothBounds s
 unfolding cloth_in_ranges cloth_vectors_fit cloth_counts_fit
 cloth_bounds limit s low high t =
     let t3 = and_parts (cloth_vectors_fit limit s && cloth_counts_fit s && cloth_settings_fit s) (cloth_tears_fit limit s) t in
@@ -55,32 +59,35 @@ rope_bounds limit s low high t =
       spacing = inside_range limit s.spacing low high t1.1;
     }
 
-pub cloth_facts : (limit : ℤ) (s : ClothSpec) → pos 0 ≤ℤ limit → unsigned_abs limit ≤ 2 ^ 29 → IsTrue (cloth_in_ranges limit s) → IsTrue (cloth_is_inside limit s) → ClothFacts s
+pub cloth_facts : (limit : ℤ) (s : ClothSpec) → pos 0 ≤ℤ limit → unsigned_abs limit ≤ 2 ^ 29 → IsTrue (cloth_in_ranges limit s)
+    → IsTrue (cloth_is_inside limit s) → ClothFacts s
 unfolding cloth_is_inside
 cloth_facts limit s low high ranges inside = record {
   bounds = cloth_bounds limit s low high ranges;
-  place = λ r c row column. inside_range limit (cloth_place s r c) low high (below s.columns (λ c. is_within limit (cloth_place s r c)) c (below s.rows (λ r. all_below s.columns (λ c. is_within limit (cloth_place s r c))) r inside row) column);
+  place = λ r c row column. inside_range limit (cloth_place s r c) low high
+      (below s.columns (λ c. is_within limit (cloth_place s r c)) c
+      (below s.rows (λ r. all_below s.columns (λ c. is_within limit (cloth_place s r c))) r inside row) column);
 }
 
-pub rope_facts : (limit : ℤ) (s : RopeSpec) → pos 0 ≤ℤ limit → unsigned_abs limit ≤ 2 ^ 29 → IsTrue (rope_in_ranges limit s) → IsTrue (rope_is_inside limit s) → RopeFacts s
+pub rope_facts : (limit : ℤ) (s : RopeSpec) → pos 0 ≤ℤ limit → unsigned_abs limit ≤ 2 ^ 29 → IsTrue (rope_in_ranges limit s)
+    → IsTrue (rope_is_inside limit s) → RopeFacts s
 unfolding rope_is_inside
 rope_facts limit s low high ranges inside = record {
   bounds = rope_bounds limit s low high ranges;
   place = λ i row. inside_range limit (rope_place s i) low high (below s.count (λ i. is_within limit (rope_place s i)) i inside row);
 }
 
-is_less : (m n : ℕ) → nat_lt m n ≡ true → m < n
-is_less m n t = grind (arith, nat_tests)
-
 -- a cell that is in the cloth
 pub in_cloth : (s : ClothSpec) (cell : Cell) → true ≡ is_in_cloth s cell → (cell.row < s.rows) × (cell.column < s.columns)
-in_cloth s cell t = let h = and_parts (nat_lt cell.row s.rows) (nat_lt cell.column s.columns) (sym t) in (is_less cell.row s.rows h.0, is_less cell.column s.columns h.1)
+in_cloth s cell t = let h = and_parts (nat_lt cell.row s.rows) (nat_lt cell.column s.columns) (sym t) in
+    (ltb-true cell.row s.rows h.0, ltb-true cell.column s.columns h.1)
 
 -- one of the two limits
 pub limit_bounds : (limit : ℤ) → IsTrue (is_limit limit) → (pos 0 ≤ℤ limit) × (unsigned_abs limit ≤ 2 ^ 29)
 limit_bounds limit is = elim (cases_Bool (int_eq limit (pos (2 ^ 28)))) [
   | inl e ↦ (let same = (Decides-int_eq limit (pos (2 ^ 28))).0 e in rw same (omega (arith, ints), omega arith))
-  | inr f ↦ (let u : IsTrue (int_eq limit (pos (2 ^ 29))) = rw f at is in let same = (Decides-int_eq limit (pos (2 ^ 29))).0 u in rw same (omega (arith, ints), omega arith))
+  | inr f ↦ (let u : IsTrue (int_eq limit (pos (2 ^ 29))) = rw f at is in let same = (Decides-int_eq limit (pos (2 ^ 29))).0 u in
+      rw same (omega (arith, ints), omega arith))
 ]
 
 -- what fits has the facts

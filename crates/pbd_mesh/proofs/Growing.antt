@@ -1,5 +1,6 @@
 -- Lists that grow by f 0, f 1, ..
-use Rattle.std.proofs.Common.{◌≡◌, ◌∙◌, ap, sym, refl, ℕ, zero, suc, ◌+◌, ◌≤◌, List, [], ◌∷◌, ◌++◌, length, take, append_assoc, append-nil, arith}
+use Rattle.std.proofs.Common.{◌≡◌, ◌∙◌, ap, sym, refl, ℕ, zero, suc, ◌+◌, ◌≤◌, List, [], ◌∷◌, ◌++◌, length, take, append_assoc, append-nil}
+use Rattle.std.proofs.Common.{arith}
 use Rattle.std.proofs.Math.Seq.{take-append_seam}
 use Rattle.std.proofs.lemmas.List.{length-append}
 use Rattle.pbd_mesh.specs.Numbered.{concatenated}
@@ -14,11 +15,13 @@ unfolding concatenated
 grown_none old f = sym (append-nil old)
 
 -- one more
-pub grown_next : {A : Type 0} (old mid now : List A) (n : ℕ) (f : ℕ → List A) → mid ≡ old ++ concatenated n f → now ≡ mid ++ f n → now ≡ old ++ concatenated (n + 1) f
+pub grown_next : {A : Type 0} (old mid now : List A) (n : ℕ) (f : ℕ → List A) → mid ≡ old ++ concatenated n f → now ≡ mid ++ f n
+    → now ≡ old ++ concatenated (n + 1) f
 grown_next old mid now n f so_far this = rw (concatenated_next n f, this, so_far) (append_assoc old (concatenated n f) (f n))
 
 -- all
-pub grown_all : {A : Type 0} (old now : List A) (n i : ℕ) (f : ℕ → List A) → i ≤ n → n ≤ i → now ≡ old ++ concatenated i f → now ≡ old ++ concatenated n f
+pub grown_all : {A : Type 0} (old now : List A) (n i : ℕ) (f : ℕ → List A) → i ≤ n → n ≤ i → now ≡ old ++ concatenated i f
+    → now ≡ old ++ concatenated n f
 grown_all old now n i f low high so_far = let e : n ≡ i = omega arith in rw e so_far
 
 -- what stood in front still does

@@ -1,5 +1,6 @@
 -- What a tested guess is.
-use Rattle.std.proofs.Common.{◌≡◌, ◌∙◌, ℕ, suc, zero, refl, ap, ◌+◌, ◌*◌, ◌/◌, ◌-◌, ◌≤◌, min, arith, pos, negsuc, ℤ, ◌+ℤ◌, ◌-ℤ◌, ◌*ℤ◌, ◌<ℤ◌, ◌≤ℤ◌, unsigned_abs}
+use Rattle.std.proofs.Common.{◌≡◌, ◌∙◌, ℕ, suc, zero, refl, ap, ◌+◌, ◌*◌, ◌/◌, ◌-◌, ◌≤◌, min, arith, pos, negsuc, ℤ, ◌+ℤ◌, ◌-ℤ◌, ◌*ℤ◌, ◌<ℤ◌}
+use Rattle.std.proofs.Common.{◌≤ℤ◌, unsigned_abs}
 use Rattle.std.proofs.lemmas.Int.{ints, by_lt_z}
 use Rattle.std.proofs.Math.Nat.{mul-le-mul}
 use Rattle.std.proofs.Math.IntN.{suc_ℤ, suc_ℤ-*ℤ}
@@ -51,7 +52,8 @@ part_below a (negsuc b) e =
     let whole : (2 * (a + 1) + 512) / (2 * 512) ≡ suc (b / 512) = omega arith in
     rw whole refl
 
-pub part_by_shift : (p raised : ℤ) → (pos 0 ≤ℤ p → raised ≡ p +ℤ pos 256) → (p <ℤ pos 0 → raised ≡ p +ℤ pos 255) → shr_z raised 512 ≡ rdiv p (pos 512)
+pub part_by_shift : (p raised : ℤ) → (pos 0 ≤ℤ p → raised ≡ p +ℤ pos 256) → (p <ℤ pos 0 → raised ≡ p +ℤ pos 255)
+    → shr_z raised 512 ≡ rdiv p (pos 512)
 part_by_shift (pos a) raised above below =
     let e : raised ≡ pos (a + 256) = above (omega (arith, ints)) in
     rw e (part_above a)

@@ -1,5 +1,6 @@
 -- Rows and columns that are filled one after another.
-use Rattle.std.proofs.Common.{◌≡◌, ◌∙◌, ℕ, ◌+◌, ◌<◌, ◌⊎◌, inl, inr, sym, subst, arith, List, length, get_or, slice_set, ℤ, pos, Bool, ◌&&◌, ◌==◌, ◌≤◌, ap, unsigned_abs, to_z, of_z, w32}
+use Rattle.std.proofs.Common.{◌≡◌, ◌∙◌, ℕ, ◌+◌, ◌<◌, ◌⊎◌, inl, inr, sym, subst, arith, List, length, get_or, slice_set, ℤ, pos, Bool, ◌&&◌}
+use Rattle.std.proofs.Common.{◌==◌, ◌≤◌, ap, unsigned_abs, to_z, of_z, w32}
 use Rattle.std.proofs.lemmas.Int.{to_z-of_z, fits_signed_from_abs}
 use Rattle.std.specs.Prelude.{IsTrue}
 use Rattle.std.proofs.lemmas.List.{length-set, get_or-set_same, get_or-set_other}
@@ -18,7 +19,8 @@ rows_more : (P : ℕ → Row → Type 0) (rows : List Row) (j : ℕ) (row : Row)
     → ((k : ℕ) → k < j → P k (get_or rows k no_row)) → (k : ℕ) → k < j + 1 → P k (get_or (slice_set rows j row) k no_row)
 rows_more P rows j row room is before k q = elim (split_below k j q) [
   | inl b ↦ subst (P k) (sym (get_or-set_other rows j k row no_row (λ e. absurd (omega (arith, b, e))))) (before k b)
-  | inr e ↦ subst (λ (n : ℕ). P n (get_or (slice_set rows j row) n no_row)) (sym e) (subst (P j) (sym (get_or-set_same rows j row no_row room)) is)
+  | inr e ↦ subst (λ (n : ℕ). P n (get_or (slice_set rows j row) n no_row)) (sym e)
+      (subst (P j) (sym (get_or-set_same rows j row no_row room)) is)
 ]
 
 -- ---- ways
@@ -89,7 +91,8 @@ pub found_more : (n : ℕ) (ways : Ways) (rest factor : List ℤ) (contact all n
     → IsFound (taken_at ways n) (get_or rest n (pos 0)) (get_or factor n (pos 0)) contact row → (IsTrue next → row.flag ≡ pos 0)
     → Found n ways rest factor contact all moves → Found (n + 1) ways rest factor contact (all && next) (slice_set moves n row)
 found_more n ways rest factor contact all next moves row room is unflagged h = record {
-  each = rows_more (λ k r. IsFound (taken_at ways k) (get_or rest k (pos 0)) (get_or factor k (pos 0)) contact r) moves n row room is h.each;
+  each = rows_more (λ k r. IsFound (taken_at ways k) (get_or rest k (pos 0)) (get_or factor k (pos 0)) contact r) moves n row room is
+      h.each;
   all = λ t. let both = and_parts all next t in
       rows_more (λ k r. r.flag ≡ pos 0) moves n row room (unflagged both.1) (h.all both.0);
 }

@@ -12,7 +12,8 @@ turned_second a b = omega (arith, ints)
 turned_first : (a b : ℕ) → negsuc a *ℤ pos b ≡ neg_ℤ (pos (suc a * b))
 turned_first a b = omega (arith, ints)
 
-pub first_below : (e d : ℤ) (len : ℕ) → 0 < len → e <ℤ pos 0 → pos 0 ≤ℤ d → rdiv (e *ℤ d) (pos len) ≡ neg_ℤ (pos ((2 * (unsigned_abs e * unsigned_abs d) + len) / (2 * len)))
+pub first_below : (e d : ℤ) (len : ℕ) → 0 < len → e <ℤ pos 0 → pos 0 ≤ℤ d
+    → rdiv (e *ℤ d) (pos len) ≡ neg_ℤ (pos ((2 * (unsigned_abs e * unsigned_abs d) + len) / (2 * len)))
 unfolding rdiv
 first_below (negsuc a) (pos b) len l h k = ap (λ z. rdiv z (pos len)) (turned_first a b) ∙ rdiv-neg (pos (suc a * b)) (pos len) l
 first_below (negsuc a) (negsuc b) len l h k = absurd (omega (arith, ints))
@@ -32,7 +33,8 @@ rdiv-cancel (pos a) c d h k = ap pos (quotient_cancel a c d h)
 rdiv-cancel (negsuc a) c d h k =
     let some : 0 < d * c = omega (arith, mul-le-mul k h) in
     let e : suc a ≡ a + 1 = omega arith in
-    first_below (negsuc a) (pos c) (d * c) some (omega (arith, ints)) (omega (arith, ints)) ∙ ap (λ x. neg_ℤ (pos x)) (rw e (quotient_cancel (a + 1) c d h))
+    first_below (negsuc a) (pos c) (d * c) some (omega (arith, ints)) (omega (arith, ints))
+    ∙ ap (λ x. neg_ℤ (pos x)) (rw e (quotient_cancel (a + 1) c d h))
 
 -- the rounded quotient of 0
 pub rdiv_zero : (d : ℕ) → 0 < d → rdiv (pos 0) (pos d) ≡ pos 0
@@ -50,8 +52,10 @@ twice_below k = omega (arith, ints)
 
 doubled : (s k : ℤ) → (s *ℤ k) *ℤ pos 2 ≡ s *ℤ (pos 2 *ℤ k)
 doubled (pos s) (pos k) = ap pos (omega arith)
-doubled (pos s) (negsuc k) = ap (λ z. z *ℤ pos 2) (turned_second s k) ∙ turned_twice (s * suc k) ∙ ap (λ x. neg_ℤ (pos x)) (omega arith) ∙ sym (ap (λ z. pos s *ℤ z) (twice_below k) ∙ turned_second s (2 * k + 1))
-doubled (negsuc s) (pos k) = ap (λ z. z *ℤ pos 2) (turned_first s k) ∙ turned_twice (suc s * k) ∙ ap (λ x. neg_ℤ (pos x)) (omega arith) ∙ sym (turned_first s (2 * k))
+doubled (pos s) (negsuc k) = ap (λ z. z *ℤ pos 2) (turned_second s k) ∙ turned_twice (s * suc k) ∙ ap (λ x. neg_ℤ (pos x)) (omega arith)
+    ∙ sym (ap (λ z. pos s *ℤ z) (twice_below k) ∙ turned_second s (2 * k + 1))
+doubled (negsuc s) (pos k) = ap (λ z. z *ℤ pos 2) (turned_first s k) ∙ turned_twice (suc s * k) ∙ ap (λ x. neg_ℤ (pos x)) (omega arith)
+    ∙ sym (turned_first s (2 * k))
 doubled (negsuc s) (negsuc k) = ap pos (omega arith) ∙ sym (ap (λ z. negsuc s *ℤ z) (twice_below k))
 
 -- ---- shares of a weight that is half of all, all of it or none

@@ -1,5 +1,6 @@
 -- The sizes of sums, differences and parts of vectors.
-use Rattle.std.proofs.Common.{◌≡◌, ℕ, ◌+◌, ◌*◌, ◌<◌, ◌≤◌, ◌^◌, arith, ℤ, pos, neg_ℤ, ◌+ℤ◌, ◌-ℤ◌, ◌*ℤ◌, ◌<ℤ◌, unsigned_abs, w64, FitsSigned, to_z, of_z}
+use Rattle.std.proofs.Common.{◌≡◌, ℕ, ◌+◌, ◌*◌, ◌<◌, ◌≤◌, ◌^◌, arith, ℤ, pos, neg_ℤ, ◌+ℤ◌, ◌-ℤ◌, ◌*ℤ◌, ◌<ℤ◌, unsigned_abs, w64, FitsSigned}
+use Rattle.std.proofs.Common.{to_z, of_z}
 use Rattle.std.proofs.lemmas.Int.{ints, to_z-of_z}
 use Rattle.pbd_num.specs.declared.Vec3.{Vec3}
 use Rattle.pbd_num.specs.Rounding.{rdiv}
@@ -16,7 +17,11 @@ pub record FitAxes (v : Vec3) : Type 0 where
   pub z : FitsSigned w64 v.z
 
 pub fit_axes : (v : Vec3) (n : ℕ) → n < 2 ^ 63 → Within n v → FitAxes v
-fit_axes v n l h = record { x = fits v.x (omega (arith, l, h.x)); y = fits v.y (omega (arith, l, h.y)); z = fits v.z (omega (arith, l, h.z)) }
+fit_axes v n l h = record {
+  x = fits v.x (omega (arith, l, h.x));
+  y = fits v.y (omega (arith, l, h.y));
+  z = fits v.z (omega (arith, l, h.z));
+}
 
 -- a number as it stands in 64 bits, and the axes of a vector
 abbrev pub word : ℤ → ℤ
@@ -48,7 +53,11 @@ minus_within a b m n h k = record {
 }
 
 pub opposite_within : (v : Vec3) (n : ℕ) → Within n v → Within n (opposite v)
-opposite_within v n h = record { x = omega (arith, size-neg v.x, h.x); y = omega (arith, size-neg v.y, h.y); z = omega (arith, size-neg v.z, h.z) }
+opposite_within v n h = record {
+  x = omega (arith, size-neg v.x, h.x);
+  y = omega (arith, size-neg v.y, h.y);
+  z = omega (arith, size-neg v.z, h.z);
+}
 
 plus_zero : (a : ℤ) → a +ℤ pos 0 ≡ a
 plus_zero a = omega (arith, ints)
@@ -65,10 +74,13 @@ pub nothing_minus : (v : Vec3) → minus zero_vector v ≡ opposite v
 nothing_minus v = λ i. record { x = zero_minus v.x i; y = zero_minus v.y i; z = zero_minus v.z i }
 
 -- a part of an axis is at most the axis, and in any case at most the product
-pub scaled_axis_size : (axis part whole : ℤ) (n : ℕ) → pos 0 <ℤ whole → unsigned_abs part ≤ unsigned_abs whole → unsigned_abs axis ≤ n → unsigned_abs (rdiv (axis *ℤ part) whole) ≤ n
-scaled_axis_size axis part whole n low less h = size-rdiv (axis *ℤ part) whole n (positive_above whole low) (size-mul axis part n (unsigned_abs whole) h less)
+pub scaled_axis_size : (axis part whole : ℤ) (n : ℕ) → pos 0 <ℤ whole → unsigned_abs part ≤ unsigned_abs whole → unsigned_abs axis ≤ n
+    → unsigned_abs (rdiv (axis *ℤ part) whole) ≤ n
+scaled_axis_size axis part whole n low less h = size-rdiv (axis *ℤ part) whole n (positive_above whole low)
+    (size-mul axis part n (unsigned_abs whole) h less)
 
-pub scaled_axis_fits : (axis part whole : ℤ) → pos 0 <ℤ whole → unsigned_abs axis ≤ 2 ^ 30 → unsigned_abs part ≤ 2 ^ 31 → unsigned_abs (rdiv (axis *ℤ part) whole) ≤ 2 ^ 61
+pub scaled_axis_fits : (axis part whole : ℤ) → pos 0 <ℤ whole → unsigned_abs axis ≤ 2 ^ 30 → unsigned_abs part ≤ 2 ^ 31
+    → unsigned_abs (rdiv (axis *ℤ part) whole) ≤ 2 ^ 61
 scaled_axis_fits axis part whole low h k =
     let some = positive_above whole low in
     let product : unsigned_abs (axis *ℤ part) ≤ 2 ^ 61 = omega (arith, size-mul axis part (2 ^ 30) (2 ^ 31) h k) in

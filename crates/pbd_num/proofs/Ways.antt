@@ -15,8 +15,10 @@ minus_nothing v = λ i. record { x = minus_zero v.x i; y = minus_zero v.y i; z =
 
 -- the moves of a way that isn't nothing, where a weight isn't 0
 abbrev pub moves_of : Vec3 → ℤ → ℤ → ℤ → ℤ → Vec3 × Vec3
-moves_of way rest k wa wb =
-    (opposite (shares (corrections way rest) k wa (unsigned_abs wa + unsigned_abs wb)), shares (corrections way rest) k wb (unsigned_abs wa + unsigned_abs wb))
+moves_of way rest k wa wb = (
+  opposite (shares (corrections way rest) k wa (unsigned_abs wa + unsigned_abs wb)),
+  shares (corrections way rest) k wb (unsigned_abs wa + unsigned_abs wb),
+)
 
 -- the way between two ends says how they move
 pub pair_moves-along : (a b : Vec3) (rest k wa wb : ℤ) → pair_moves a b rest k wa wb ≡ pair_moves (minus a b) zero_vector rest k wa wb
@@ -30,7 +32,8 @@ pair_moves-along a b rest k wa wb =
 pub along-none : (way : Vec3) (rest k wa wb : ℤ) → (length_of way ≡ 0) ⊎ (unsigned_abs wa + unsigned_abs wb ≡ 0)
     → pair_moves way zero_vector rest k wa wb ≡ (zero_vector, zero_vector)
 along-none way rest k wa wb h =
-    pair_moves-none way zero_vector rest k wa wb (subst (λ v. (length_of v ≡ 0) ⊎ (unsigned_abs wa + unsigned_abs wb ≡ 0)) (sym (minus_nothing way)) h)
+    pair_moves-none way zero_vector rest k wa wb (subst (λ v. (length_of v ≡ 0) ⊎ (unsigned_abs wa + unsigned_abs wb ≡ 0))
+    (sym (minus_nothing way)) h)
 
 pub along-some : (way : Vec3) (rest k wa wb : ℤ) → 0 < length_of way → 0 < unsigned_abs wa + unsigned_abs wb
     → pair_moves way zero_vector rest k wa wb ≡ moves_of way rest k wa wb
@@ -39,7 +42,8 @@ along-some way rest k wa wb h j =
     pair_moves-some way zero_vector rest k wa wb far j ∙ ap (λ v. moves_of v rest k wa wb) (minus_nothing way)
 
 -- the moves from what each step answers
-pub along-by_steps : (way s first second turned : Vec3) (rest k wa wb : ℤ) (total : ℕ) → s ≡ corrections way rest → first ≡ shares s k wa total
+pub along-by_steps : (way s first second turned : Vec3) (rest k wa wb : ℤ) (total : ℕ) → s ≡ corrections way rest
+    → first ≡ shares s k wa total
     → second ≡ shares s k wb total → turned ≡ opposite first → total ≡ unsigned_abs wa + unsigned_abs wb → 0 < length_of way → 0 < total
     → (turned, second) ≡ pair_moves way zero_vector rest k wa wb
 along-by_steps way s first second turned rest k wa wb total hs h1 h2 ht sum apart weighs =

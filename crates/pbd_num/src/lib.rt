@@ -261,7 +261,7 @@ pub fn moves_along(way: Vec3, draw: Draw, weights: Weights) -> (Vec3, Vec3)
     ensures second_size { Within (2 ^ 31) result.1 }
 {
     let tried = try_moves(way, draw, weights);
-    if tried.right {
+    if tried.exact {
         return (tried.first, tried.second);
     }
     let len = way.length();

@@ -10,7 +10,7 @@ ghost use Rattle.pbd_num.specs.PairMove.{along, pair_moves};
 use crate::Vec3;
 use crate::near::{NearRoot, near_root};
 
-/// What two ends of a constraint are drawn to: the distance `rest`, in units of 1/65,536 metre, with stiffness `k` / 256,
+/// What two ends of a constraint are pulled to: the distance `rest`, in units of 1/65,536 metre, with stiffness `k` / 256,
 /// where they are nearer than `reach`.
 #[derive(Clone, Copy)]
 pub struct Draw {
@@ -26,13 +26,13 @@ pub struct Weights {
     pub second: i64,
 }
 
-/// The moves of two ends and the length between them, guessed: what they are only where `right` is true.
+/// The moves of two ends and the length between them, guessed: what they are only where `exact` is true.
 #[derive(Clone, Copy)]
 pub struct TriedMoves {
     pub first: Vec3,
     pub second: Vec3,
     pub length: i64,
-    pub right: bool,
+    pub exact: bool,
 }
 
 #[inline(always)]
@@ -151,12 +151,12 @@ fn short_way(way: Vec3) -> Way
     }
 }
 
-/// A length, guessed: between 0 and 2^31, and what it is only where `right` is true.
+/// A length, guessed: between 0 and 2^31, and what it is only where `exact` is true.
 #[derive(Clone, Copy)]
 struct TriedLength {
     near: NearRoot,
     length: i64,
-    right: bool,
+    exact: bool,
 }
 
 impl Way {
@@ -178,10 +178,10 @@ impl Way {
         requires x { unsigned_abs self.x ≤ 2 ^ 30 }
         requires y { unsigned_abs self.y ≤ 2 ^ 30 }
         requires z { unsigned_abs self.z ≤ 2 ^ 30 }
-        ensures value { IsTrue result.right → result.length
+        ensures value { IsTrue result.exact → result.length
             ≡ pos (whole_root (unsigned_abs self.x * unsigned_abs self.x + unsigned_abs self.y * unsigned_abs self.y
             + unsigned_abs self.z * unsigned_abs self.z)) }
-        ensures some { IsTrue result.right → pos 0 <ℤ result.length }
+        ensures some { IsTrue result.exact → pos 0 <ℤ result.length }
         ensures low { pos 0 ≤ℤ result.length }
         ensures high { result.length <ℤ pos (2 ^ 31) }
     {
@@ -191,21 +191,21 @@ impl Way {
         TriedLength {
             near,
             length,
-            right: (0 < length) & is_root(square, length),
+            exact: (0 < length) & is_root(square, length),
         }
     }
 }
 
 /// The error of a length.
 #[derive(Clone, Copy)]
-struct Pull {
+struct Stretch {
     error: i32,
     length: i64,
     near: NearRoot,
 }
 
 #[inline(always)]
-fn pull_of(near: NearRoot, length: i64, rest: i64) -> Pull
+fn stretch_of(near: NearRoot, length: i64, rest: i64) -> Stretch
     requires low { pos 0 ≤ℤ length }
     requires high { length <ℤ pos (2 ^ 31) }
     requires rest_low { pos 0 ≤ℤ rest }
@@ -215,21 +215,21 @@ fn pull_of(near: NearRoot, length: i64, rest: i64) -> Pull
     ensures length { result.length ≡ length }
 {
     let error = (length - rest) as i32;
-    Pull {
+    Stretch {
         error,
         length,
         near,
     }
 }
 
-/// A part of a correction, guessed: what it is only where `right` is true.
+/// A part of a correction, guessed: what it is only where `exact` is true.
 #[derive(Clone, Copy)]
 struct TriedPart {
     part: i64,
-    right: bool,
+    exact: bool,
 }
 
-impl Pull {
+impl Stretch {
     /// What the factor `f` / 512 leaves of the error along one axis.
     #[inline(always)]
     fn try_part(self, axis: i32, f: i32) -> TriedPart
@@ -238,14 +238,14 @@ impl Pull {
         requires error { FitsSigned w32 self.error }
         requires axis { unsigned_abs axis ≤ 2 ^ 30 }
         requires f { unsigned_abs f ≤ 512 }
-        ensures value { IsTrue result.right → pos 0 <ℤ self.length
+        ensures value { IsTrue result.exact → pos 0 <ℤ self.length
             → result.part ≡ rounded (along self.error axis (unsigned_abs self.length) *ℤ f) (pos 512) }
         ensures size { unsigned_abs result.part ≤ 2 ^ 31 }
     {
         let quotient = self.near.near_quotient(self.error, axis);
         TriedPart {
             part: part_of_512(product(quotient, f)),
-            right: is_quotient(product(self.error, axis), self.length, quotient),
+            exact: is_quotient(product(self.error, axis), self.length, quotient),
         }
     }
 }
@@ -304,7 +304,7 @@ fn moved(weight: i64, parts: Vec3) -> Vec3
 }
 
 #[inline(always)]
-fn drawn(length: i64, draw: Draw) -> i64
+fn pulled(length: i64, draw: Draw) -> i64
     requires { unsigned_abs draw.k ≤ 256 }
     ensures near { length <ℤ draw.reach → result ≡ draw.k }
     ensures far { draw.reach ≤ℤ length → result ≡ pos 0 }
@@ -325,11 +325,11 @@ pub fn try_moves(way: Vec3, draw: Draw, weights: Weights) -> TriedMoves
     requires first_high { weights.first ≤ℤ pos 65535 }
     requires second_low { pos 0 ≤ℤ weights.second }
     requires second_high { weights.second ≤ℤ pos 65535 }
-    ensures length { IsTrue result.right → result.length ≡ pos (length_of way) }
-    ensures moves { IsTrue result.right → result.length <ℤ draw.reach
+    ensures length { IsTrue result.exact → result.length ≡ pos (length_of way) }
+    ensures moves { IsTrue result.exact → result.length <ℤ draw.reach
         → (result.first, result.second) ≡ pair_moves way zero_vector draw.rest draw.k weights.first weights.second }
-    ensures first_rests { IsTrue result.right → draw.reach ≤ℤ result.length → result.first ≡ zero_vector }
-    ensures second_rests { IsTrue result.right → draw.reach ≤ℤ result.length → result.second ≡ zero_vector }
+    ensures first_rests { IsTrue result.exact → draw.reach ≤ℤ result.length → result.first ≡ zero_vector }
+    ensures second_rests { IsTrue result.exact → draw.reach ≤ℤ result.length → result.second ≡ zero_vector }
     ensures first_held { weights.first ≡ pos 0 → result.first ≡ zero_vector }
     ensures second_held { weights.second ≡ pos 0 → result.second ≡ zero_vector }
     ensures opposed { pos 0 <ℤ weights.first → pos 0 <ℤ weights.second → result.first ≡ opposite result.second }
@@ -338,11 +338,11 @@ pub fn try_moves(way: Vec3, draw: Draw, weights: Weights) -> TriedMoves
 {
     let way = short_way(way);
     let tried = way.try_length();
-    let pull = pull_of(tried.near, tried.length, draw.rest);
-    let factor = weights.factor(drawn(tried.length, draw));
-    let x = pull.try_part(way.x, factor);
-    let y = pull.try_part(way.y, factor);
-    let z = pull.try_part(way.z, factor);
+    let stretch = stretch_of(tried.near, tried.length, draw.rest);
+    let factor = weights.factor(pulled(tried.length, draw));
+    let x = stretch.try_part(way.x, factor);
+    let y = stretch.try_part(way.y, factor);
+    let z = stretch.try_part(way.z, factor);
     let parts = Vec3 {
         x: x.part,
         y: y.part,
@@ -352,6 +352,6 @@ pub fn try_moves(way: Vec3, draw: Draw, weights: Weights) -> TriedMoves
         first: moved(weights.first, parts.opposite()),
         second: moved(weights.second, parts),
         length: tried.length,
-        right: tried.right & weights.are_even() & x.right & y.right & z.right,
+        exact: tried.exact & weights.are_even() & x.exact & y.exact & z.exact,
     }
 }

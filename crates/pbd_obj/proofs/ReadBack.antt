@@ -1,5 +1,7 @@
 -- A coordinate that is written is read back.
-use Rattle.std.proofs.Common.{◌≡◌, ◌∙◌, sym, ap, refl, ℕ, zero, suc, ◌+◌, ◌-◌, ◌*◌, ◌/◌, ◌%◌, ◌^◌, ◌<◌, ◌≤◌, Bool, true, false, not, ◌&&◌, List, [], ◌∷◌, ◌++◌, length, take, drop, Some, None, nat_le, decimal as numeral, arith, inl, inr, append-nil, length-append, ℤ, pos, negsuc, unsigned_abs}
+use Rattle.std.proofs.Common.{◌≡◌, ◌∙◌, sym, ap, refl, ℕ, zero, suc, ◌+◌, ◌-◌, ◌*◌, ◌/◌, ◌%◌, ◌^◌, ◌<◌, ◌≤◌, Bool, true, false, not, ◌&&◌}
+use Rattle.std.proofs.Common.{List, [], ◌∷◌, ◌++◌, length, take, drop, Some, None, nat_le, decimal as numeral, arith, inl, inr, append-nil}
+use Rattle.std.proofs.Common.{length-append, ℤ, pos, negsuc, unsigned_abs}
 use Rattle.std.specs.Prelude.{◌==◌, ◌-ℤ◌, cond}
 use Rattle.std.specs.List.{list_all, position_or_len, before_first, after_first}
 use Rattle.std.proofs.lemmas.Nat.{div-mul-add}
@@ -9,8 +11,9 @@ use Rattle.std.proofs.lemmas.Int.{ints}
 use Rattle.std.proofs.lemmas.Fmt.{length-decimal-le}
 use Rattle.std.proofs.lemmas.List.{take_all, take_at, drop_all}
 use Rattle.pbd_script.specs.Lines.{value, is_digit, is_count}
-use Rattle.pbd_script.proofs.NumberLemmas.{count_decimal}
-use Rattle.pbd_obj.specs.Decimals.{are_few_digits, decimal, exponent, is_mark, is_minus, is_point, scaled, signed, split_decimal, units, units_of, with_digits, without_sign}
+use Rattle.pbd_script.proofs.NumberLemmas.{count_decimal, digit_is}
+use Rattle.pbd_obj.specs.Decimals.{are_few_digits, decimal, exponent, is_mark, is_minus, is_point, scaled, signed, split_decimal, units}
+use Rattle.pbd_obj.specs.Decimals.{units_of, with_digits, without_sign}
 use Rattle.pbd_obj.specs.Sizes.{scaled_size}
 use Rattle.pbd_obj.specs.Writing.{coordinate, decimals, fraction}
 use Rattle.pbd_obj.proofs.Numbers.{signed_scaled, ten_pos, value-append}
@@ -50,9 +53,6 @@ numeral_digits n small =
 
 -- ---- decimals
 
-digit_is : (n : ℕ) → n < 10 → is_digit (48 + n) ≡ true
-digit_is n lt = grind (arith, nat_tests)
-
 tenth_small : (r : ℕ) → r < 65536 → r * 10 / 65536 < 10
 tenth_small r small = omega (arith, small)
 
@@ -67,7 +67,8 @@ pub decimals_digits : (k r : ℕ) → r < 65536 → list_all is_digit (decimals 
 decimals_digits zero r small = refl
 decimals_digits (suc k) r small = elim (cases_eq r 0) [
   | inl e ↦ rw (decimals_none (suc k) r e) refl
-  | inr n ↦ rw (decimals_some k r n) (and_from (is_digit (48 + r * 10 / 65536)) (list_all is_digit (decimals k (r * 10 % 65536))) (digit_is (r * 10 / 65536) (tenth_small r small)) (decimals_digits k (r * 10 % 65536) (omega arith)))
+  | inr n ↦ rw (decimals_some k r n) (and_from (is_digit (48 + r * 10 / 65536)) (list_all is_digit (decimals k (r * 10 % 65536)))
+      (digit_is (r * 10 / 65536) (tenth_small r small)) (decimals_digits k (r * 10 % 65536) (omega arith)))
 ]
 
 decimals_few : (k r : ℕ) → length (decimals k r) ≤ k
@@ -104,7 +105,8 @@ decimals_exact (suc k) q r is small = elim (cases_eq r 0) [
       let ten : 10 ^ suc (length tail) ≡ 10 ^ length tail * 10 = omega arith in
       let times : r * 10 * 10 ^ length tail ≡ (d * 65536 + rest) * 10 ^ length tail = ap (λ m. m * 10 ^ length tail) whole in
       let front : 48 + d - 48 ≡ d = omega arith in
-      let all : ((48 + d - 48) * 10 ^ length tail + value tail) * 65536 ≡ r * 10 ^ suc (length tail) = rw (front, ten) (omega (arith, more, times)) in
+      let all : ((48 + d - 48) * 10 ^ length tail + value tail) * 65536
+      ≡ r * 10 ^ suc (length tail) = rw (front, ten) (omega (arith, more, times)) in
       rw (decimals_some k r n) all)
 ]
 
@@ -114,11 +116,13 @@ past_case : (b : Bool) (n : ℕ) → b ≡ false → cond (not b) (1 + n) 0 ≡ 
 past_case true n is = cc
 past_case false n is = refl
 
-pub position_past : (p : ℕ → Bool) → ((x : ℕ) → is_digit x ≡ true → p x ≡ false) → (xs ys : List ℕ) → list_all is_digit xs ≡ true → position_or_len p (xs ++ ys) ≡ length xs + position_or_len p ys
+pub position_past : (p : ℕ → Bool) → ((x : ℕ) → is_digit x ≡ true → p x ≡ false) → (xs ys : List ℕ) → list_all is_digit xs ≡ true
+    → position_or_len p (xs ++ ys) ≡ length xs + position_or_len p ys
 position_past p fails [] ys all = omega arith
 position_past p fails (x ∷ xs) ys all =
     let parts = and_parts (is_digit x) (list_all is_digit xs) all in
-    let here : position_or_len p (x ∷ (xs ++ ys)) ≡ 1 + position_or_len p (xs ++ ys) = past_case (p x) (position_or_len p (xs ++ ys)) (fails x parts.0) in
+    let here : position_or_len p (x ∷ (xs ++ ys)) ≡ 1 + position_or_len p (xs ++ ys) =
+    past_case (p x) (position_or_len p (xs ++ ys)) (fails x parts.0) in
     here ∙ omega (arith, position_past p fails xs ys parts.1)
 
 no_mark : (x : ℕ) → is_digit x ≡ true → is_mark x ≡ false
@@ -136,7 +140,8 @@ tail_of (x ∷ xs) = 46 ∷ x ∷ xs
 tail_marks : (f : List ℕ) → list_all is_digit f ≡ true → position_or_len is_mark (tail_of f) ≡ length (tail_of f)
 tail_marks [] all = refl
 tail_marks (x ∷ xs) all =
-    let e : position_or_len is_mark (x ∷ xs) ≡ length (x ∷ xs) = ap (position_or_len is_mark) (sym (append-nil (x ∷ xs))) ∙ (position_past is_mark no_mark (x ∷ xs) [] all ∙ omega arith) in
+    let e : position_or_len is_mark (x ∷ xs) ≡ length (x ∷ xs) = ap (position_or_len is_mark) (sym (append-nil (x ∷ xs)))
+    ∙ (position_past is_mark no_mark (x ∷ xs) [] all ∙ omega arith) in
     let one : position_or_len is_mark (46 ∷ x ∷ xs) ≡ 1 + position_or_len is_mark (x ∷ xs) = refl in
     one ∙ ap (λ n. 1 + n) e ∙ omega arith
 
@@ -151,29 +156,38 @@ behind_tail (y ∷ w) f = let e : length (y ∷ w) + 1 ≡ suc (length w + 1) = 
 
 all_both : (xs ys : List ℕ) → list_all is_digit xs ≡ true → list_all is_digit ys ≡ true → list_all is_digit (xs ++ ys) ≡ true
 all_both [] ys h k = k
-all_both (x ∷ xs) ys h k = let parts = and_parts (is_digit x) (list_all is_digit xs) h in and_from (is_digit x) (list_all is_digit (xs ++ ys)) parts.0 (all_both xs ys parts.1 k)
+all_both (x ∷ xs) ys h k = let parts = and_parts (is_digit x) (list_all is_digit xs) h in
+    and_from (is_digit x) (list_all is_digit (xs ++ ys)) parts.0 (all_both xs ys parts.1 k)
 
-few_both : (w f : List ℕ) → 1 ≤ length w → length w ≤ 4 → length f ≤ 16 → list_all is_digit w ≡ true → list_all is_digit f ≡ true → are_few_digits (w ++ f) ≡ true
+few_both : (w f : List ℕ) → 1 ≤ length w → length w ≤ 4 → length f ≤ 16 → list_all is_digit w ≡ true → list_all is_digit f ≡ true
+    → are_few_digits (w ++ f) ≡ true
 few_both w f some few few_f digits digits_f =
     let size = length-append w f in
     and_from (nat_le 1 (length (w ++ f)) && nat_le (length (w ++ f)) 24) (list_all is_digit (w ++ f))
-    (and_from (nat_le 1 (length (w ++ f))) (nat_le (length (w ++ f)) 24) (le-leb 1 (length (w ++ f)) (omega (arith, size, some))) (le-leb (length (w ++ f)) 24 (omega (arith, size, few, few_f))))
+    (and_from (nat_le 1 (length (w ++ f))) (nat_le (length (w ++ f)) 24) (le-leb 1 (length (w ++ f)) (omega (arith, size, some)))
+    (le-leb (length (w ++ f)) 24 (omega (arith, size, few, few_f))))
     (all_both w f digits digits_f)
 
-split_is : (minus : Bool) (w f : List ℕ) → 1 ≤ length w → length w ≤ 4 → length f ≤ 16 → list_all is_digit w ≡ true → list_all is_digit f ≡ true → split_decimal minus (before_first is_mark (w ++ tail_of f)) (drop (position_or_len is_mark (w ++ tail_of f)) (w ++ tail_of f)) ≡ Some (record { minus = minus; digits = value (w ++ f); power = pos 0 -ℤ pos (length f) })
+split_is : (minus : Bool) (w f : List ℕ) → 1 ≤ length w → length w ≤ 4 → length f ≤ 16 → list_all is_digit w ≡ true
+    → list_all is_digit f ≡ true → split_decimal minus (before_first is_mark (w ++ tail_of f))
+    (drop (position_or_len is_mark (w ++ tail_of f)) (w ++ tail_of f))
+    ≡ Some (record { minus = minus; digits = value (w ++ f); power = pos 0 -ℤ pos (length f) })
 split_is minus w f some few few_f digits digits_f =
     let body = w ++ tail_of f in
-    let mark : position_or_len is_mark body ≡ length body = position_past is_mark no_mark w (tail_of f) digits ∙ (ap (λ n. length w + n) (tail_marks f digits_f) ∙ sym (length-append w (tail_of f))) in
+    let mark : position_or_len is_mark body ≡ length body = position_past is_mark no_mark w (tail_of f) digits
+    ∙ (ap (λ n. length w + n) (tail_marks f digits_f) ∙ sym (length-append w (tail_of f))) in
     let front : before_first is_mark body ≡ body = take_all (position_or_len is_mark body) body (omega (arith, mark)) in
     let none : drop (position_or_len is_mark body) body ≡ [] = drop_all (position_or_len is_mark body) body (omega (arith, mark)) in
-    let point : position_or_len is_point body ≡ length w = position_past is_point no_point w (tail_of f) digits ∙ (ap (λ n. length w + n) (tail_point f) ∙ omega arith) in
+    let point : position_or_len is_point body ≡ length w = position_past is_point no_point w (tail_of f) digits
+    ∙ (ap (λ n. length w + n) (tail_point f) ∙ omega arith) in
     let whole : before_first is_point body ≡ w = ap (λ n. take n body) point ∙ take_at w (tail_of f) (length w) refl in
     let behind : after_first is_point body ≡ f = ap (λ n. drop (n + 1) body) point ∙ behind_tail w f in
     ap (λ m. split_decimal minus m (drop (position_or_len is_mark body) body)) front
     ∙ (ap (split_decimal minus body) none
     ∙ (ap (λ t. with_digits minus t (after_first is_point body) (exponent [])) whole
     ∙ (ap (λ t. with_digits minus w t (exponent [])) behind
-    ∙ ap (λ b. cond b (Some (record { minus = minus; digits = value (w ++ f); power = pos 0 -ℤ pos (length f) })) None) (few_both w f some few few_f digits digits_f))))
+    ∙ ap (λ b. cond b (Some (record { minus = minus; digits = value (w ++ f); power = pos 0 -ℤ pos (length f) })) None)
+    (few_both w f some few few_f digits digits_f))))
 
 -- ---- units
 
@@ -185,13 +199,15 @@ back_scaled n (suc k) =
     let e : suc k ≡ k + 1 = omega arith in
     let half : 10 ^ (k + 1) < 2 * 10 ^ (k + 1) = (let p = ten_pos (k + 1) in omega (arith, p)) in
     let same : 2 * (n * 10 ^ (k + 1)) + 10 ^ (k + 1) ≡ n * (2 * 10 ^ (k + 1)) + 10 ^ (k + 1) = omega arith in
-    let all : (2 * (n * 10 ^ (k + 1)) + 10 ^ (k + 1)) / (2 * 10 ^ (k + 1)) ≡ n = ap (λ m. m / (2 * 10 ^ (k + 1))) same ∙ div-mul-add n (2 * 10 ^ (k + 1)) (10 ^ (k + 1)) half in
+    let all : (2 * (n * 10 ^ (k + 1)) + 10 ^ (k + 1)) / (2 * 10 ^ (k + 1)) ≡ n = ap (λ m. m / (2 * 10 ^ (k + 1))) same
+    ∙ div-mul-add n (2 * 10 ^ (k + 1)) (10 ^ (k + 1)) half in
     rw (power, e) all
 
 whole_value : (a r n v t : ℕ) → n ≡ a * 65536 + r → v * 65536 ≡ r * t → (a * t + v) * 65536 ≡ n * t
 whole_value a r n v t is exact = let times : n * t ≡ (a * 65536 + r) * t = ap (λ m. m * t) is in omega (arith, times, exact)
 
-back_units : (minus : Bool) (n : ℕ) (w f : List ℕ) → value (w ++ f) * 65536 ≡ n * 10 ^ length f → units (record { minus = minus; digits = value (w ++ f); power = pos 0 -ℤ pos (length f) }) ≡ signed minus n
+back_units : (minus : Bool) (n : ℕ) (w f : List ℕ) → value (w ++ f) * 65536 ≡ n * 10 ^ length f
+    → units (record { minus = minus; digits = value (w ++ f); power = pos 0 -ℤ pos (length f) }) ≡ signed minus n
 unfolding units
 back_units minus n w f is =
     ap (λ m. scaled (signed minus m) (pos 0 -ℤ pos (length f))) is
@@ -225,7 +241,8 @@ plain_head (x ∷ w) t some all =
     no_plus : (x : ℕ) → is_digit x ≡ true → x == 43 ≡ false
     no_plus x is = grind (arith, nat_tests)
 
-read_word : (minus : Bool) (word : List ℕ) (n : ℕ) → n ≤ 2 ^ 29 → is_minus word ≡ minus → without_sign word ≡ numeral (n / 65536) ++ tail_of (decimals 16 (n % 65536)) → units_of word ≡ Some (signed minus n)
+read_word : (minus : Bool) (word : List ℕ) (n : ℕ) → n ≤ 2 ^ 29 → is_minus word ≡ minus
+    → without_sign word ≡ numeral (n / 65536) ++ tail_of (decimals 16 (n % 65536)) → units_of word ≡ Some (signed minus n)
 unfolding units_of decimal
 read_word minus word n small is are =
     let w = numeral (n / 65536) in
@@ -233,8 +250,11 @@ read_word minus word n small is are =
     let rest : n % 65536 < 65536 = omega arith in
     let digits = numeral_digits (n / 65536) (omega (arith, small)) in
     let exact : value f * 65536 ≡ n % 65536 * 10 ^ length f = decimals_exact 16 (n % 65536) (n % 65536) (omega arith) rest in
-    let total : value (w ++ f) * 65536 ≡ n * 10 ^ length f = ap (λ m. m * 65536) (value-append w f ∙ ap (λ m. m * 10 ^ length f + value f) digits.says) ∙ whole_value (n / 65536) (n % 65536) n (value f) (10 ^ length f) (omega arith) exact in
-    let split = split_is minus w f digits.some digits.few (decimals_few 16 (n % 65536)) digits.digits (decimals_digits 16 (n % 65536) rest) in
+    let total : value (w ++ f) * 65536 ≡ n * 10 ^ length f =
+    ap (λ m. m * 65536) (value-append w f ∙ ap (λ m. m * 10 ^ length f + value f) digits.says)
+    ∙ whole_value (n / 65536) (n % 65536) n (value f) (10 ^ length f) (omega arith) exact in
+    let split = split_is minus w f digits.some digits.few (decimals_few 16 (n % 65536)) digits.digits
+    (decimals_digits 16 (n % 65536) rest) in
     rw (is, are, split) (ap (λ z. Some z) (back_units minus n w f total))
 
 -- what is written of a coordinate in range is read back
@@ -243,6 +263,8 @@ unfolding coordinate
 coordinate_back (pos n) small =
     let digits = numeral_digits (n / 65536) (omega (arith, small)) in
     let head = plain_head (numeral (n / 65536)) (fraction (n % 65536)) digits.some digits.digits in
-    read_word false (numeral (n / 65536) ++ fraction (n % 65536)) n small head.0 (head.1 ∙ ap (λ t. numeral (n / 65536) ++ t) (fraction_is (n % 65536)))
+    read_word false (numeral (n / 65536) ++ fraction (n % 65536)) n small head.0
+    (head.1 ∙ ap (λ t. numeral (n / 65536) ++ t) (fraction_is (n % 65536)))
 coordinate_back (negsuc n) small =
-    read_word true (45 ∷ (numeral (suc n / 65536) ++ fraction (suc n % 65536))) (suc n) small refl (ap (λ t. numeral (suc n / 65536) ++ t) (fraction_is (suc n % 65536)))
+    read_word true (45 ∷ (numeral (suc n / 65536) ++ fraction (suc n % 65536))) (suc n) small refl
+    (ap (λ t. numeral (suc n / 65536) ++ t) (fraction_is (suc n % 65536)))

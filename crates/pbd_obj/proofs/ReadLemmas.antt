@@ -1,5 +1,6 @@
 -- A mesh line by line.
-use Rattle.std.proofs.Common.{◌≡◌, ◌∙◌, sym, ap, refl, ℕ, suc, ◌+◌, ◌<◌, ◌≤◌, min, Bool, true, false, ◌&&◌, List, [], ◌∷◌, ◌++◌, Option, Some, None, Result, Ok, Err, arith, ℤ, pos, negsuc, neg_ℤ}
+use Rattle.std.proofs.Common.{◌≡◌, ◌∙◌, sym, ap, refl, ℕ, suc, ◌+◌, ◌<◌, ◌≤◌, min, Bool, true, false, ◌&&◌, List, [], ◌∷◌, ◌++◌, Option}
+use Rattle.std.proofs.Common.{Some, None, Result, Ok, Err, arith, ℤ, pos, negsuc, neg_ℤ}
 use Rattle.std.specs.List.{enumerate_from}
 use Rattle.std.specs.Option.{option_map}
 use Rattle.std.proofs.lemmas.Bool.{and_parts}
@@ -26,7 +27,8 @@ axis_near (pos n) t = let le : min n 536870913 ≤ 536870912 = within_size (min 
   where
     within_size : (k : ℕ) → is_axis_within range (pos k) ≡ true → k ≤ 536870912
     within_size k t = grind (arith, ints, nat_tests)
-axis_near (negsuc n) t = let le : min (n + 1) 536870913 ≤ 536870912 = within_size (min (n + 1) 536870913) t in ap (λ k. neg_ℤ (pos k)) (omega (arith, le)) ∙ next n
+axis_near (negsuc n) t = let le : min (n + 1) 536870913 ≤ 536870912 = within_size (min (n + 1) 536870913) t in
+    ap (λ k. neg_ℤ (pos k)) (omega (arith, le)) ∙ next n
   where
     within_size : (k : ℕ) → is_axis_within range (neg_ℤ (pos k)) ≡ true → k ≤ 536870912
     within_size k t = grind (arith, ints, nat_tests)
@@ -66,16 +68,19 @@ axes_far v t = far_case (is_within range v) refl t
 far_some : (line : ℕ) (mesh : ObjMesh) (v : Vec3) → is_within range v ≡ false → with_vertex line mesh (Some v) ≡ Err (OutOfRange line)
 far_some line mesh v t = rw t refl
 
-near_some : (line : ℕ) (mesh : ObjMesh) (v : Vec3) → is_within range v ≡ true → with_vertex line mesh (Some v) ≡ Ok (record mesh { places = mesh.places ++ v ∷ [] })
+near_some : (line : ℕ) (mesh : ObjMesh) (v : Vec3) → is_within range v ≡ true
+    → with_vertex line mesh (Some v) ≡ Ok (record mesh { places = mesh.places ++ v ∷ [] })
 near_some line mesh v t = rw t refl
 
-pub vertex_far : (line : ℕ) (mesh : ObjMesh) (o : Option Vec3) (place : Vec3) → Some place ≡ option_map capped_axes o → is_within range place ≡ false → with_vertex line mesh o ≡ Err (OutOfRange line)
+pub vertex_far : (line : ℕ) (mesh : ObjMesh) (o : Option Vec3) (place : Vec3) → Some place ≡ option_map capped_axes o
+    → is_within range place ≡ false → with_vertex line mesh o ≡ Err (OutOfRange line)
 vertex_far line mesh None place is t = cc
 vertex_far line mesh (Some v) place is t =
     let e : place ≡ capped_axes v = cc in
     far_some line mesh v (axes_far v (ap (is_within range) (sym e) ∙ t))
 
-pub vertex_near : (line : ℕ) (mesh : ObjMesh) (o : Option Vec3) (place : Vec3) → Some place ≡ option_map capped_axes o → is_within range place ≡ true → with_vertex line mesh o ≡ Ok (record mesh { places = mesh.places ++ place ∷ [] })
+pub vertex_near : (line : ℕ) (mesh : ObjMesh) (o : Option Vec3) (place : Vec3) → Some place ≡ option_map capped_axes o
+    → is_within range place ≡ true → with_vertex line mesh o ≡ Ok (record mesh { places = mesh.places ++ place ∷ [] })
 vertex_near line mesh None place is t = cc
 vertex_near line mesh (Some v) place is t =
     let e : place ≡ capped_axes v = cc in
@@ -92,8 +97,10 @@ pub read_begins : (text : List ℕ) → reads_on 1 no_mesh text ≡ read text
 unfolding read
 read_begins text = refl
 
-pub read_ends : (n : ℕ) (mesh now : ObjMesh) (rest line : List ℕ) → pieces rest ≡ line ∷ [] → with_line (n, line) mesh ≡ Ok now → reads_on n mesh rest ≡ Ok now
+pub read_ends : (n : ℕ) (mesh now : ObjMesh) (rest line : List ℕ) → pieces rest ≡ line ∷ [] → with_line (n, line) mesh ≡ Ok now
+    → reads_on n mesh rest ≡ Ok now
 read_ends n mesh now rest line are is = rw (are, is) refl
 
-pub read_next : (n : ℕ) (mesh now : ObjMesh) (rest line next : List ℕ) → pieces rest ≡ line ∷ pieces next → with_line (n, line) mesh ≡ Ok now → reads_on n mesh rest ≡ reads_on (n + 1) now next
+pub read_next : (n : ℕ) (mesh now : ObjMesh) (rest line next : List ℕ) → pieces rest ≡ line ∷ pieces next
+    → with_line (n, line) mesh ≡ Ok now → reads_on n mesh rest ≡ reads_on (n + 1) now next
 read_next n mesh now rest line next are is = rw (are, is) refl

@@ -114,7 +114,11 @@ place : ℕ → ℕ → ℕ → Vec3
 place x y z = record { x = pos x; y = pos y; z = pos z }
 
 square : ObjMesh
-square = record { places = place 0 0 0 ∷ place 65536 0 0 ∷ place 65536 65536 0 ∷ place 0 65536 0 ∷ []; sizes = 4 ∷ []; corners = 0 ∷ 1 ∷ 2 ∷ 3 ∷ [] }
+square = record {
+  places = place 0 0 0 ∷ place 65536 0 0 ∷ place 65536 65536 0 ∷ place 0 65536 0 ∷ [];
+  sizes = 4 ∷ [];
+  corners = 0 ∷ 1 ∷ 2 ∷ 3 ∷ [];
+}
 
 square_is_read : read (codes "v 0 0 0\nv 1 0 0\r\nv 1 1 0 # the third\nv 0 1 0\n\nf 1 2/7 -2//3 4\n") ≡ Ok square
 unfolding read with_line units_of decimal units scaled rdiv corner square place
@@ -150,9 +154,14 @@ joins kind a b rest = record { a = 7 + a; b = 7 + b; rest = pos rest; k = 256; t
 
 -- a square, and a triangle over half of it the other way round
 folded : ObjMesh
-folded = record { places = place 0 0 0 ∷ place 3 0 0 ∷ place 3 4 0 ∷ place 0 4 0 ∷ []; sizes = 4 ∷ 3 ∷ []; corners = 0 ∷ 1 ∷ 2 ∷ 3 ∷ 2 ∷ 1 ∷ 0 ∷ [] }
+folded = record {
+  places = place 0 0 0 ∷ place 3 0 0 ∷ place 3 4 0 ∷ place 0 4 0 ∷ [];
+  sizes = 4 ∷ 3 ∷ [];
+  corners = 0 ∷ 1 ∷ 2 ∷ 3 ∷ 2 ∷ 1 ∷ 0 ∷ [];
+}
 
-doubles_are_left_out : mesh_links stiff_settings folded 7 ≡ joins Stretch 0 1 3 ∷ joins Stretch 1 2 4 ∷ joins Stretch 2 3 3 ∷ joins Stretch 3 0 4 ∷ joins Stretch 0 2 5 ∷ joins Shear 1 3 5 ∷ []
+doubles_are_left_out : mesh_links stiff_settings folded 7 ≡ joins Stretch 0 1 3 ∷ joins Stretch 1 2 4 ∷ joins Stretch 2 3 3
+    ∷ joins Stretch 3 0 4 ∷ joins Stretch 0 2 5 ∷ joins Shear 1 3 5 ∷ []
 unfolding mesh_links link root folded joins place
 doubles_are_left_out = refl
 
@@ -183,8 +192,13 @@ bent : MeshSettings
 bent = record { weight = 1; stretch = stiff; shear = stiff; bend = Some (record { stiffness = 40; tear = pos 9 }) }
 
 pair_of_triangles : ObjMesh
-pair_of_triangles = record { places = place 0 0 0 ∷ place 3 0 0 ∷ place 0 4 0 ∷ place 3 4 0 ∷ []; sizes = 3 ∷ 3 ∷ []; corners = 0 ∷ 1 ∷ 2 ∷ 2 ∷ 1 ∷ 3 ∷ [] }
+pair_of_triangles = record {
+  places = place 0 0 0 ∷ place 3 0 0 ∷ place 0 4 0 ∷ place 3 4 0 ∷ [];
+  sizes = 3 ∷ 3 ∷ [];
+  corners = 0 ∷ 1 ∷ 2 ∷ 2 ∷ 1 ∷ 3 ∷ [];
+}
 
-one_link_bends : mesh_links bent pair_of_triangles 7 ≡ joins Stretch 0 1 3 ∷ joins Stretch 1 2 5 ∷ joins Stretch 2 0 4 ∷ joins Stretch 1 3 4 ∷ joins Stretch 3 2 3 ∷ record (joins Bend 0 3 5) { k = 40; tear = pos 9 } ∷ []
+one_link_bends : mesh_links bent pair_of_triangles 7 ≡ joins Stretch 0 1 3 ∷ joins Stretch 1 2 5 ∷ joins Stretch 2 0 4 ∷ joins Stretch 1 3 4
+    ∷ joins Stretch 3 2 3 ∷ record (joins Bend 0 3 5) { k = 40; tear = pos 9 } ∷ []
 unfolding mesh_links link root pair_of_triangles joins place bent facing edge
 one_link_bends = refl

@@ -259,7 +259,7 @@ fn first_overfull(
 
 // ---- a scene and a mesh
 
-#[tactic(auto, using(crate::proofs::AddLemmas::pushed_begin, crate::proofs::AddLemmas::pushed_next, crate::proofs::AddLemmas::pushed_all, crate::proofs::AddLemmas::front_of))]
+#[tactic(auto, using(crate::proofs::AddLemmas::pushed_begin, crate::proofs::AddLemmas::pushed_next, crate::proofs::AddLemmas::pushed_all, pbd_mesh::proofs::Growing::front_of_append))]
 fn push_particles(
     places: &[Vec3],
     weight: u16,
@@ -274,7 +274,7 @@ fn push_particles(
     Ok(())
 }
 
-#[tactic(auto, using(crate::proofs::AddLemmas::copied_begin, crate::proofs::AddLemmas::copied_next, crate::proofs::AddLemmas::front_of))]
+#[tactic(auto, using(crate::proofs::AddLemmas::copied_begin, crate::proofs::AddLemmas::copied_next, pbd_mesh::proofs::Growing::front_of_append))]
 fn push_links(new: &[Link], links: &mut List<Link>) -> Result<(), AllocError>
     ensures ok { OnOk result (links.new ≡ links.old ++ new.now) }
     ensures err { OnErr result (take (length links.old) links.new ≡ links.old) }

@@ -1,5 +1,6 @@
 -- What a session keeps of a script's commands can be written in a log.
-use Rattle.std.proofs.Common.{refl, ℕ, ◌+◌, ◌*◌, ◌<◌, ◌≤◌, ◌^◌, Bool, true, false, cond, List, [], ◌∷◌, length, map, None, Result, Ok, Err, arith, unsigned_abs}
+use Rattle.std.proofs.Common.{refl, ℕ, ◌+◌, ◌*◌, ◌<◌, ◌≤◌, ◌^◌, Bool, true, false, cond, List, [], ◌∷◌, length, map, None, Result, Ok, Err}
+use Rattle.std.proofs.Common.{arith, unsigned_abs}
 use Rattle.std.specs.Prelude.{IsTrue, filter, fold, nat_le}
 use Rattle.std.specs.List.{AllByRecursion}
 use Rattle.std.proofs.lemmas.Bool.{and_parts}
@@ -28,7 +29,8 @@ use Rattle.pbd_outcome.proofs.RefusalFits.{RefusalFits, ReplyFits, reply_fits, s
 
 -- ---- sums
 
-kept_few : (keep : Bool) (x : Link) (some all : List Link) → length some ≤ length all → length (cond keep (x ∷ some) some) ≤ length (x ∷ all)
+kept_few : (keep : Bool) (x : Link) (some all : List Link) → length some ≤ length all
+    → length (cond keep (x ∷ some) some) ≤ length (x ∷ all)
 kept_few true x some all le = omega (arith, le)
 kept_few false x some all le = omega (arith, le)
 
@@ -36,7 +38,8 @@ live_few : (links : List Link) → live_count links ≤ length links
 live_few [] = omega arith
 live_few (l ∷ links) = kept_few l.live l (filter {X = Link} (λ l. l.live) links) links (live_few links)
 
-sum_size : (f : Particle → Vec3) (ps : List Particle) (b : ℕ) (v : Vec3) → Within b v → AllByRecursion {X = Particle} (λ p. Within (2 ^ 29) (f p)) ps → Within (b + length ps * 2 ^ 29) (fold plus v (map f ps))
+sum_size : (f : Particle → Vec3) (ps : List Particle) (b : ℕ) (v : Vec3) → Within b v
+    → AllByRecursion {X = Particle} (λ p. Within (2 ^ 29) (f p)) ps → Within (b + length ps * 2 ^ 29) (fold plus v (map f ps))
 sum_size f [] b v size all = wider v b (b + 0 * 2 ^ 29) (omega arith) size
 sum_size f (p ∷ ps) b v size all =
     let next : Vec3 = plus v (f p) in
@@ -46,18 +49,22 @@ sum_size f (p ∷ ps) b v size all =
       y = omega (arith, size-add v.y (f p).y, size.y, here.y);
       z = omega (arith, size-add v.z (f p).z, size.z, here.z);
     } in
-    wider (fold plus next (map f ps)) ((b + 2 ^ 29) + length ps * 2 ^ 29) (b + length (p ∷ ps) * 2 ^ 29) (omega arith) (sum_size f ps (b + 2 ^ 29) next one all.1)
+    wider (fold plus next (map f ps)) ((b + 2 ^ 29) + length ps * 2 ^ 29) (b + length (p ∷ ps) * 2 ^ 29) (omega arith)
+    (sum_size f ps (b + 2 ^ 29) next one all.1)
 
 axes_fit : (v : Vec3) → Within (65536 * 2 ^ 29) v → AreAxes (axes v)
 axes_fit v size = (refl, (fits v.x (omega (arith, size.x)), (fits v.y (omega (arith, size.y)), (fits v.z (omega (arith, size.z)), tt))))
 
-sums_of : (f : Particle → Vec3) (ps : List Particle) → length ps ≤ 65536 → AllByRecursion {X = Particle} (λ p. Within (2 ^ 29) (f p)) ps → AreAxes (axes (sum_over f ps))
-sums_of f ps few all = axes_fit (sum_over f ps) (wider (sum_over f ps) (0 + length ps * 2 ^ 29) (65536 * 2 ^ 29) (omega (arith, few)) (sum_size f ps 0 zero_vector (record { x = omega arith; y = omega arith; z = omega arith }) all))
+sums_of : (f : Particle → Vec3) (ps : List Particle) → length ps ≤ 65536 → AllByRecursion {X = Particle} (λ p. Within (2 ^ 29) (f p)) ps
+    → AreAxes (axes (sum_over f ps))
+sums_of f ps few all = axes_fit (sum_over f ps) (wider (sum_over f ps) (0 + length ps * 2 ^ 29) (65536 * 2 ^ 29) (omega (arith, few))
+    (sum_size f ps 0 zero_vector (record { x = omega arith; y = omega arith; z = omega arith }) all))
 
 inside : (w : World) → IsLimit w.limit → (v : Vec3) → IsTrue (is_within w.limit v) → Within (2 ^ 29) v
 inside w limit v is = wider v (unsigned_abs w.limit) (2 ^ 29) limit.high ((within_facts w.limit v limit.low).0 is)
 
-all_inside : (w : World) → IsLimit w.limit → (ps : List Particle) → AllByRecursion (IsFit w.limit) ps → AllByRecursion {X = Particle} (λ p. Within (2 ^ 29) p.at) ps × AllByRecursion {X = Particle} (λ p. Within (2 ^ 29) p.before) ps
+all_inside : (w : World) → IsLimit w.limit → (ps : List Particle) → AllByRecursion (IsFit w.limit) ps
+    → AllByRecursion {X = Particle} (λ p. Within (2 ^ 29) p.at) ps × AllByRecursion {X = Particle} (λ p. Within (2 ^ 29) p.before) ps
 all_inside w limit [] all = (tt, tt)
 all_inside w limit (p ∷ ps) all =
     let rest = all_inside w limit ps all.1 in
@@ -101,14 +108,18 @@ answer_widths (replies.Refused refusal) fit = refusal_widths refusal fit
 
 -- ---- entries
 
-bare_widths : (c : Command) (r : Reply) → CommandFits c → ReplyFits r → HasWidths (record { command = c; answer = answer_of r; sums = None })
+bare_widths : (c : Command) (r : Reply) → CommandFits c → ReplyFits r
+    → HasWidths (record { command = c; answer = answer_of r; sums = None })
 bare_widths c r fit replied = let a = answer_widths r replied in record { command = fit; step = a.0; element = a.1; sums = tt }
 
-step_widths : (w : World) (n : ℕ) (r : Result World Refusal) → (let d = done_or_refused w r in CommandFits (Step n) → ReplyFits d.1 → SumsFit (frame_sums d.0) → HasWidths (entry_of (record { command = Step n; answer = d.1; sums = kept_sums d.0 (Step n) d.1 })))
+step_widths : (w : World) (n : ℕ) (r : Result World Refusal)
+    → (let d = done_or_refused w r in CommandFits (Step n) → ReplyFits d.1 → SumsFit (frame_sums d.0)
+    → HasWidths (entry_of (record { command = Step n; answer = d.1; sums = kept_sums d.0 (Step n) d.1 })))
 step_widths w n (Ok v) fit replied sums = record { command = fit; step = omega arith; element = omega arith; sums = sums }
 step_widths w n (Err refusal) fit replied sums = bare_widths (Step n) (replies.Refused refusal) fit replied
 
-entry_widths : (w : World) (c : Command) → CommandFits c → ReplyFits (reply w c) → SumsFit (frame_sums (after w c)) → HasWidths (entry_of (entry w c))
+entry_widths : (w : World) (c : Command) → CommandFits c → ReplyFits (reply w c) → SumsFit (frame_sums (after w c))
+    → HasWidths (entry_of (entry w c))
 unfolding meaning
 entry_widths w (Step n) fit replied sums = step_widths w n (run_steps w n) fit replied sums
 entry_widths w Frame fit replied sums = bare_widths Frame (reply w Frame) fit replied
@@ -120,7 +131,8 @@ entry_widths w (Gravity g) fit replied sums = bare_widths (Gravity g) (reply w (
 entry_widths w Ledger fit replied sums = bare_widths Ledger (reply w Ledger) fit replied
 entry_widths w Bad fit replied sums = bare_widths Bad (reply w Bad) fit replied
 
-pub entries_are : (w : World) (cs : List Command) → IsSound w → AllByRecursion CommandFits cs → AllByRecursion IsEntry (map {A = LogEntry} {B = Entry} entry_of (logged w cs))
+pub entries_are : (w : World) (cs : List Command) → IsSound w → AllByRecursion CommandFits cs
+    → AllByRecursion IsEntry (map {A = LogEntry} {B = Entry} entry_of (logged w cs))
 entries_are w [] sound fit = tt
 entries_are w (c ∷ cs) sound fit =
     let next : IsSound (after w c) = command-sound w c sound in

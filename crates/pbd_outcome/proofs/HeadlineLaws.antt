@@ -29,29 +29,40 @@ use Rattle.pbd_scene.proofs.Validity.{scene_valid}
 use Rattle.pbd_outcome.proofs.OneOutcome.{one_outcome}
 use Rattle.pbd_outcome.proofs.OutcomeLaws.{simulated_halves, settled_ok, text_read}
 
-every_width : (width : Width) (input script : List ℕ) (parts : Parts) → Accepts input parts script → IsOutcome (Some (jobs.Simulate width)) input (session_outcome (opened parts) (commands script))
+every_width : (width : Width) (input script : List ℕ) (parts : Parts) → Accepts input parts script
+    → IsOutcome (Some (jobs.Simulate width)) input (session_outcome (opened parts) (commands script))
 every_width width input script parts has =
-    let given : scene_in range has.scene ≡ Ok parts = text_read range has.scene has.is_text ∙ ap (tree_in range) has.is_tree ∙ ap parts_in has.accepted in
-    let all : simulated input ≡ session_outcome (opened parts) (commands script) = simulated_halves input (has.scene, script) has.halves ∙ settled_ok (scene_in range has.scene) (λ p. session_outcome (opened p) (commands script)) parts given in
+    let given : scene_in range has.scene ≡ Ok parts = text_read range has.scene has.is_text ∙ ap (tree_in range) has.is_tree
+    ∙ ap parts_in has.accepted in
+    let all : simulated input ≡ session_outcome (opened parts) (commands script) = simulated_halves input (has.scene, script) has.halves
+    ∙ settled_ok (scene_in range has.scene) (λ p. session_outcome (opened p) (commands script)) parts given in
     inr (has.short, sym all)
 
-pub refused_text : (w : World) (command : Command) (later : List Command) (refusal : Refusal) → reply w command ≡ replies.Refused refusal → session_text w (command ∷ later) ≡ refusal_line refusal ++ session_text w later
+pub refused_text : (w : World) (command : Command) (later : List Command) (refusal : Refusal) → reply w command ≡ replies.Refused refusal
+    → session_text w (command ∷ later) ≡ refusal_line refusal ++ session_text w later
 unfolding session_text text
 refused_text w command later refusal is =
-    ap (λ (v : World). text v (reply w command) ++ session_text v later) (refused-keeps w command refusal is) ∙ ap (λ (r : Reply). text w r ++ session_text w later) is
+    ap (λ (v : World). text v (reply w command) ++ session_text v later) (refused-keeps w command refusal is)
+    ∙ ap (λ (r : Reply). text w r ++ session_text w later) is
 
 -- the text of some commands, and then of others
-text_in_two : (w : World) (before later : List Command) → session_text w (before ++ later) ≡ session_text w before ++ session_text (last_world w before) later
+text_in_two : (w : World) (before later : List Command) → session_text w (before ++ later) ≡ session_text w before
+    ++ session_text (last_world w before) later
 unfolding session_text
 text_in_two w [] later = refl
 text_in_two w (c ∷ before) later =
-    ap (λ (t : List ℕ). text (after w c) (reply w c) ++ t) (text_in_two (after w c) before later) ∙ sym (append_assoc (text (after w c) (reply w c)) (session_text (after w c) before) (session_text (last_world (after w c) before) later))
+    ap (λ (t : List ℕ). text (after w c) (reply w c) ++ t) (text_in_two (after w c) before later)
+    ∙ sym (append_assoc (text (after w c) (reply w c)) (session_text (after w c) before)
+    (session_text (last_world (after w c) before) later))
 
-save_for_line : (w : World) (before : List Command) (command : Command) (refusal : Refusal) (later : List Command) → reply (last_world w before) command ≡ replies.Refused refusal → SaveForLine w before command refusal later
+save_for_line : (w : World) (before : List Command) (command : Command) (refusal : Refusal) (later : List Command)
+    → reply (last_world w before) command ≡ replies.Refused refusal → SaveForLine w before command refusal later
 save_for_line w before command refusal later is =
     let v = last_world w before in
     record {
-      with_it = text_in_two w before (command ∷ later) ∙ ap (λ (t : List ℕ). session_text w before ++ t) (refused_text v command later refusal is) ∙ sym (append_assoc (session_text w before) (refusal_line refusal) (session_text v later));
+      with_it = text_in_two w before (command ∷ later) ∙ ap (λ (t : List ℕ). session_text w before ++ t)
+          (refused_text v command later refusal is) ∙ sym (append_assoc (session_text w before) (refusal_line refusal)
+          (session_text v later));
       without = text_in_two w before later;
     }
 
@@ -66,23 +77,28 @@ others : List Particle → List Particle
 others [] = []
 others (p ∷ ps) = ps
 
-weight_on : (weight : ℕ) (ps qs : List Particle) → map blank ps ≡ map blank qs → AllByRecursion {X = Particle} (λ p. p.weight ≡ weight) ps → AllByRecursion {X = Particle} (λ p. p.weight ≡ weight) qs
+weight_on : (weight : ℕ) (ps qs : List Particle) → map blank ps ≡ map blank qs → AllByRecursion {X = Particle} (λ p. p.weight ≡ weight) ps
+    → AllByRecursion {X = Particle} (λ p. p.weight ≡ weight) qs
 unfolding blank first_weight others
 weight_on weight [] [] e h = tt
 weight_on weight [] (q ∷ qs) e h = cc
 weight_on weight (p ∷ ps) [] e h = cc
 weight_on weight (p ∷ ps) (q ∷ qs) e h = (sym (ap first_weight e) ∙ h.0, weight_on weight ps qs (ap others e) h.1)
 
-kept_momentum : (parts : Parts) (commands : List Command) (weight : ℕ) → IsTrue (is_valid parts) → parts.damping ≡ pos 0 → HaveWeight weight parts.particles → KeepsMomentum (momentum parts.particles) (last_world (opened parts) commands)
+kept_momentum : (parts : Parts) (commands : List Command) (weight : ℕ) → IsTrue (is_valid parts) → parts.damping ≡ pos 0
+    → HaveWeight weight parts.particles → KeepsMomentum (momentum parts.particles) (last_world (opened parts) commands)
 unfolding blank
 kept_momentum parts commands weight valid still alike =
     let w = last_world (opened parts) commands in
     let one = session-scene parts commands valid in
     let damping : w.damping ≡ pos 0 = sym (ap (λ (v : World). v.damping) one) ∙ still in
     let same : map blank parts.particles ≡ map blank w.particles = ap (λ (v : World). v.particles) one in
-    let weights : HaveWeight weight w.particles = All-from_recursion (λ (p : Particle). p.weight ≡ weight) w.particles (weight_on weight parts.particles w.particles same (recursion_from_All (λ (p : Particle). p.weight ≡ weight) parts.particles alike)) in
+    let weights : HaveWeight weight w.particles = All-from_recursion (λ (p : Particle). p.weight ≡ weight) w.particles
+    (weight_on weight parts.particles w.particles same (recursion_from_All (λ (p : Particle). p.weight ≡ weight) parts.particles alike))
+    in
     let opening : w.opening ≡ momentum parts.particles = sym (ap (λ (v : World). v.opening) one) in
-    undamped-balance w weight (session-sound parts commands valid) damping weights ∙ ap (λ s. both_sums s (both_sums w.totals.gravity (both_sums w.totals.pin w.totals.shape))) opening
+    undamped-balance w weight (session-sound parts commands valid) damping weights
+    ∙ ap (λ s. both_sums s (both_sums w.totals.gravity (both_sums w.totals.pin w.totals.shape))) opening
 
 pub headline_of : (run : Run) → Settles run → KeepsHeadline run
 headline_of run settles width input script parts is told has nr nw nm =

@@ -10,7 +10,8 @@ use Rattle.pbd_scene.specs.Keys.{rule_text, table_text, key_text}
 
 -- ---- the words of a line
 
-pub regrouped : (n r t p k : List ℕ) → ((((((((n ++ 32 ∷ []) ++ r) ++ 32 ∷ []) ++ t) ++ 32 ∷ []) ++ p) ++ 32 ∷ []) ++ k) ++ 10 ∷ [] ≡ n ++ 32 ∷ (r ++ 32 ∷ (t ++ 32 ∷ (p ++ 32 ∷ (k ++ 10 ∷ []))))
+pub regrouped : (n r t p k : List ℕ) → ((((((((n ++ 32 ∷ []) ++ r) ++ 32 ∷ []) ++ t) ++ 32 ∷ []) ++ p) ++ 32 ∷ []) ++ k) ++ 10 ∷ [] ≡ n
+    ++ 32 ∷ (r ++ 32 ∷ (t ++ 32 ∷ (p ++ 32 ∷ (k ++ 10 ∷ []))))
 regrouped n r t p k = simp append_assoc refl
 
 -- ---- names fit a line

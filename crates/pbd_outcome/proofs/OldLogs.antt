@@ -15,11 +15,13 @@ log_short : (n : ℕ) → n ≤ 134217728 → n ≤ most_of_log
 unfolding most_of_log
 log_short n short = short
 
-pub old_replayed : (width : Width) (input scene : List ℕ) (entries : List Entry) (parts : Parts) → length input ≤ 134217728 → Spells input 1 old_limit scene entries → scene_in old_limit scene ≡ Ok parts
+pub old_replayed : (width : Width) (input scene : List ℕ) (entries : List Entry) (parts : Parts) → length input ≤ 134217728
+    → Spells input 1 old_limit scene entries → scene_in old_limit scene ≡ Ok parts
     → IsOutcome (Some (jobs.Replay width)) input (replay_outcome (replayed (opened parts) entries))
 old_replayed width input scene entries parts short spells accepted =
     let log : Log = record { version = 1; limit = old_limit; scene = scene; entries = entries } in
-    let all : log_outcome log ≡ replay_outcome (replayed (opened parts) entries) = log_is log ∙ settled_ok (scene_in old_limit scene) (λ p. replay_outcome (replayed (opened p) entries)) parts accepted in
+    let all : log_outcome log ≡ replay_outcome (replayed (opened parts) entries) = log_is log
+    ∙ settled_ok (scene_in old_limit scene) (λ p. replay_outcome (replayed (opened p) entries)) parts accepted in
     inr (log_short (length input) short, inl (log, spells, sym all))
 
 pub old_world : (scene : List ℕ) (parts : Parts) → scene_in old_limit scene ≡ Ok parts → (opened parts).limit ≡ old_limit

@@ -1,5 +1,6 @@
 -- What a refusal tells of a step fits its types.
-use Rattle.std.proofs.Common.{◌≡◌, ◌∙◌, refl, ℕ, zero, suc, ◌+◌, ◌<◌, ◌≤◌, ◌^◌, Bool, true, false, cond, List, [], ◌∷◌, length, map, Option, Some, None, Result, Ok, Err, arith}
+use Rattle.std.proofs.Common.{◌≡◌, ◌∙◌, refl, ℕ, zero, suc, ◌+◌, ◌<◌, ◌≤◌, ◌^◌, Bool, true, false, cond, List, [], ◌∷◌, length, map, Option}
+use Rattle.std.proofs.Common.{Some, None, Result, Ok, Err, arith}
 use Rattle.std.specs.Prelude.{IfOk, IfErr, MatchResult, nat_le, nat_lt}
 use Rattle.std.specs.List.{AllByRecursion}
 use Rattle.std.proofs.lemmas.List.{length-set}
@@ -24,7 +25,8 @@ use Rattle.pbd_world.specs.Bonds.{corrected, correction_at, link_bond, contact_b
 use Rattle.pbd_world.specs.Colours.{order}
 use Rattle.pbd_world.specs.Contacts.{contacts_of, link_pairs, live_flags}
 use Rattle.pbd_world.specs.Shapes.{Shaped, shaped, shapes_of}
-use Rattle.pbd_world.specs.Step.{step, leaves, predict, predicted, after_contacts, link_part, contact_part, shape_part, all_shaped, pass, untouched, settled, rub, Passing}
+use Rattle.pbd_world.specs.Step.{step, leaves, predict, predicted, after_contacts, link_part, contact_part, shape_part, all_shaped, pass}
+use Rattle.pbd_world.specs.Step.{untouched, settled, rub, Passing}
 use Rattle.pbd_world.specs.Meaning.{steps_of, run_steps, refusals, meaning, reply, done_or_refused, pinned, unpinned, put_at, without_link}
 use Rattle.pbd_world.proofs.KeepingOn.{length-mapped}
 use Rattle.pbd_world.proofs.StepBalance.{all-order}
@@ -41,37 +43,47 @@ RefusalFits refusal = Unit {0}
 
 -- ---- what holds of a value or of a fault, one call after another
 
-bind_ends : {A B E : Type 0} (P : A → Type 0) (R : B → Type 0) (Q : E → Type 0) (r : Result A E) (f : A → Result B E) → MatchResult r P Q → ((x : A) → P x → MatchResult (f x) R Q) → MatchResult (r >>= f) R Q
+bind_ends : {A B E : Type 0} (P : A → Type 0) (R : B → Type 0) (Q : E → Type 0) (r : Result A E) (f : A → Result B E) → MatchResult r P Q
+    → ((x : A) → P x → MatchResult (f x) R Q) → MatchResult (r >>= f) R Q
 bind_ends P R Q (Ok x) f h k = k x h
 bind_ends P R Q (Err e) f h k = h
 
-fault_ends : {A E F : Type 0} (P : A → Type 0) (Q : E → Type 0) (R : F → Type 0) (g : E → F) (r : Result A E) → MatchResult r P Q → ((e : E) → Q e → R (g e)) → MatchResult (with_fault g r) P R
+fault_ends : {A E F : Type 0} (P : A → Type 0) (Q : E → Type 0) (R : F → Type 0) (g : E → F) (r : Result A E) → MatchResult r P Q
+    → ((e : E) → Q e → R (g e)) → MatchResult (with_fault g r) P R
 fault_ends P Q R g (Ok x) h k = h
 fault_ends P Q R g (Err e) h k = k e h
 
-turn_ends : {A S E : Type 0} (P : S → Type 0) (Q : E → Type 0) (T : A → Type 0) (f : A → S → Result S E) → ((x : A) (s : S) → T x → P s → MatchResult (f x s) P Q) → (xs : List A) → AllByRecursion T xs → (s : S) → P s → MatchResult (in_turn f xs s) P Q
+turn_ends : {A S E : Type 0} (P : S → Type 0) (Q : E → Type 0) (T : A → Type 0) (f : A → S → Result S E)
+    → ((x : A) (s : S) → T x → P s → MatchResult (f x s) P Q) → (xs : List A) → AllByRecursion T xs → (s : S) → P s
+    → MatchResult (in_turn f xs s) P Q
 turn_ends P Q T f k [] all s h = h
 turn_ends P Q T f k (x ∷ xs) all s h = bind_ends P P Q (f x s) (in_turn f xs) (k x s all.0 h) (λ t u. turn_ends P Q T f k xs all.1 t u)
 
-repeat_ends : {S E : Type 0} (P : S → Type 0) (Q : E → Type 0) (f : S → Result S E) → ((s : S) → P s → MatchResult (f s) P Q) → (n : ℕ) (s : S) → P s → MatchResult (repeated n f s) P Q
+repeat_ends : {S E : Type 0} (P : S → Type 0) (Q : E → Type 0) (f : S → Result S E) → ((s : S) → P s → MatchResult (f s) P Q)
+    → (n : ℕ) (s : S) → P s → MatchResult (repeated n f s) P Q
 repeat_ends P Q f k zero s h = h
 repeat_ends P Q f k (suc n) s h = bind_ends P P Q (f s) (repeated n f) (k s h) (λ t u. repeat_ends P Q f k n t u)
 
-more_ends : {B : Type 0} (n k : ℕ) (o : Option B) (r : Result (List B) ℕ) → MatchResult r (λ ys. length ys ≡ k) (λ e. e < n + 1 + k) → MatchResult (one_more n o r) (λ ys. length ys ≡ suc k) (λ e. e < n + suc k)
+more_ends : {B : Type 0} (n k : ℕ) (o : Option B) (r : Result (List B) ℕ) → MatchResult r (λ ys. length ys ≡ k) (λ e. e < n + 1 + k)
+    → MatchResult (one_more n o r) (λ ys. length ys ≡ suc k) (λ e. e < n + suc k)
 more_ends n k None r h = omega arith
 more_ends n k (Some y) (Ok ys) h = omega (arith, h)
 more_ends n k (Some y) (Err e) h = omega (arith, h)
 
-each_ends : {A B : Type 0} (f : ℕ → A → Option B) (n : ℕ) (xs : List A) → MatchResult (each_from n f xs) (λ ys. length ys ≡ length xs) (λ e. e < n + length xs)
+each_ends : {A B : Type 0} (f : ℕ → A → Option B) (n : ℕ) (xs : List A)
+    → MatchResult (each_from n f xs) (λ ys. length ys ≡ length xs) (λ e. e < n + length xs)
 each_ends f n [] = refl
 each_ends f n (x ∷ xs) = more_ends n (length xs) (f n x) (each_from (n + 1) f xs) (each_ends f (n + 1) xs)
 
-err_weaker : {A E : Type 0} (P : A → Type 0) (Q R : E → Type 0) (r : Result A E) → ((e : E) → Q e → R e) → MatchResult r P Q → MatchResult r P R
+err_weaker : {A E : Type 0} (P : A → Type 0) (Q R : E → Type 0) (r : Result A E) → ((e : E) → Q e → R e) → MatchResult r P Q
+    → MatchResult r P R
 err_weaker P Q R (Ok x) k h = h
 err_weaker P Q R (Err e) k h = k e h
 
-all_end : {A B : Type 0} (f : ℕ → A → Option B) (xs : List A) → MatchResult (each_from 0 f xs) (λ ys. length ys ≡ length xs) (λ e. e < length xs)
-all_end f xs = err_weaker (λ ys. length ys ≡ length xs) (λ e. e < 0 + length xs) (λ e. e < length xs) (each_from 0 f xs) (λ e below. omega (arith, below)) (each_ends f 0 xs)
+all_end : {A B : Type 0} (f : ℕ → A → Option B) (xs : List A)
+    → MatchResult (each_from 0 f xs) (λ ys. length ys ≡ length xs) (λ e. e < length xs)
+all_end f xs = err_weaker (λ ys. length ys ≡ length xs) (λ e. e < 0 + length xs) (λ e. e < length xs) (each_from 0 f xs)
+    (λ e below. omega (arith, below)) (each_ends f 0 xs)
 
 both_ends : {A E : Type 0} (P : A → Type 0) (Q : E → Type 0) (r : Result A E) → IfOk r P → IfErr r Q → MatchResult r P Q
 both_ends P Q (Ok x) h k = h
@@ -89,31 +101,39 @@ HasMany n m = length m.particles ≡ n
 predict_ends : (w : World) → MatchResult (predict w) (HasMany (length w.particles)) (λ e. e < length w.particles)
 unfolding predict
 predict_ends w =
-    bind_ends (λ ms. length ms ≡ length w.particles) (HasMany (length w.particles)) (λ e. e < length w.particles) (each_from 0 (predicted w) w.particles) (λ ms. Ok (all_moved w.totals ms))
+    bind_ends (λ ms. length ms ≡ length w.particles) (HasMany (length w.particles)) (λ e. e < length w.particles)
+    (each_from 0 (predicted w) w.particles) (λ ms. Ok (all_moved w.totals ms))
     (all_end (predicted w) w.particles)
     (λ ms many. length-mapped {A = Moved} {B = Particle} (λ m. m.particle) ms ∙ many)
 
-bond_ends : (k number most : ℕ) (bond : Bond) (c : Correction) (m : Motion) → number < most → HasMany k m → MatchResult (corrected number bond c m) (HasMany k) (λ e. e < most)
+bond_ends : (k number most : ℕ) (bond : Bond) (c : Correction) (m : Motion) → number < most → HasMany k m
+    → MatchResult (corrected number bond c m) (HasMany k) (λ e. e < most)
 bond_ends k number most bond Slack m below many = many
 bond_ends k number most bond Leaves m below many = below
 bond_ends k number most bond (Moves s) m below many = length-set _ bond.b _ ∙ length-set m.particles bond.a _ ∙ many
 
-one_ends : (limit : _) (bond : ℕ → Bond) (k number most : ℕ) (m : Motion) → number < most → HasMany k m → MatchResult (one limit bond number m) (HasMany k) (λ e. e < most)
+one_ends : (limit : _) (bond : ℕ → Bond) (k number most : ℕ) (m : Motion) → number < most → HasMany k m
+    → MatchResult (one limit bond number m) (HasMany k) (λ e. e < most)
 unfolding one
-one_ends limit bond k number most m below many = bond_ends k number most (bond number) (correction_at limit m.particles (bond number)) m below many
+one_ends limit bond k number most m below many = bond_ends k number most (bond number)
+    (correction_at limit m.particles (bond number)) m below many
 
-projected_ends : (limit : _) (bond : ℕ → Bond) (pairs : List (ℕ × ℕ)) (live : List Bool) (k : ℕ) (m : Motion) → HasMany k m → MatchResult (projected limit bond (order pairs live) m) (HasMany k) (λ e. e < length pairs)
+projected_ends : (limit : _) (bond : ℕ → Bond) (pairs : List (ℕ × ℕ)) (live : List Bool) (k : ℕ) (m : Motion) → HasMany k m
+    → MatchResult (projected limit bond (order pairs live) m) (HasMany k) (λ e. e < length pairs)
 projected_ends limit bond pairs live k m many =
     turn_ends (HasMany k) (λ e. e < length pairs) (λ e. e < length pairs) (one limit bond)
     (λ number s below has. one_ends limit bond k number (length pairs) s below has)
     (order pairs live) (all-order (λ e. e < length pairs) pairs live (λ e below. below)) m many
 
-shape_ends : (w : World) (s : Passing) (k : ℕ) → HasMany k s.motion → MatchResult (shape_part w s) (λ t. HasMany k t.motion) (λ e. e < length s.motion.particles)
+shape_ends : (w : World) (s : Passing) (k : ℕ) → HasMany k s.motion
+    → MatchResult (shape_part w s) (λ t. HasMany k t.motion) (λ e. e < length s.motion.particles)
 shape_ends w s k many =
     let ps : List Particle = s.motion.particles in
-    bind_ends (λ ss. length ss ≡ length ps) (λ t. HasMany k t.motion) (λ e. e < length ps) (each_from 0 (λ i p. shaped w.limit (shapes_of w.planes w.spheres) p) ps) (λ ss. Ok (all_shaped s ss))
+    bind_ends (λ ss. length ss ≡ length ps) (λ t. HasMany k t.motion) (λ e. e < length ps)
+    (each_from 0 (λ i p. shaped w.limit (shapes_of w.planes w.spheres) p) ps) (λ ss. Ok (all_shaped s ss))
     (all_end (λ i p. shaped w.limit (shapes_of w.planes w.spheres) p) ps)
-    (λ ss same. length-mapped {A = Moved} {B = Particle} (λ m. m.particle) (map {A = Shaped} {B = Moved} (λ x. x.moved) ss) ∙ length-mapped {A = Shaped} {B = Moved} (λ x. x.moved) ss ∙ same ∙ many)
+    (λ ss same. length-mapped {A = Moved} {B = Particle} (λ m. m.particle) (map {A = Shaped} {B = Moved} (λ x. x.moved) ss)
+    ∙ length-mapped {A = Shaped} {B = Moved} (λ x. x.moved) ss ∙ same ∙ many)
 
 -- ---- a step
 
@@ -123,14 +143,17 @@ pub record IsSmall (w : World) : Type 0 where
   pub particles : length w.particles ≤ 65536
   pub links : length w.links ≤ 524288
 
-leaves_fits : (w : World) (phase : Phase) (element most : ℕ) → IsSmall w → most ≤ 524288 → element < most → RefusalFits (leaves w phase element)
+leaves_fits : (w : World) (phase : Phase) (element most : ℕ) → IsSmall w → most ≤ 524288 → element < most
+    → RefusalFits (leaves w phase element)
 leaves_fits w phase element most small few below = (omega (arith, small.steps), omega (arith, few, below))
 
-pass_ends : (w : World) (pairs : List (ℕ × ℕ)) (s : Passing) → IsSmall w → length pairs ≤ 262144 → HasMany (length w.particles) s.motion → MatchResult (pass w pairs s) (λ t. HasMany (length w.particles) t.motion) RefusalFits
+pass_ends : (w : World) (pairs : List (ℕ × ℕ)) (s : Passing) → IsSmall w → length pairs ≤ 262144 → HasMany (length w.particles) s.motion
+    → MatchResult (pass w pairs s) (λ t. HasMany (length w.particles) t.motion) RefusalFits
 unfolding pass
 pass_ends w pairs s small few many =
     let n = length w.particles in
-    let lines : length (link_pairs w.links) ≤ 524288 = omega (arith, small.links, length-mapped {A = Link} {B = ℕ × ℕ} (λ l. (l.a, l.b)) w.links) in
+    let lines : length (link_pairs w.links) ≤ 524288 = omega
+    (arith, small.links, length-mapped {A = Link} {B = ℕ × ℕ} (λ l. (l.a, l.b)) w.links) in
     bind_ends (HasMany n) (λ t. HasMany n t.motion) RefusalFits (with_fault (leaves w phases.Link) (link_part w s.motion)) _
     (fault_ends (HasMany n) (λ e. e < length (link_pairs w.links)) RefusalFits (leaves w phases.Link) (link_part w s.motion)
     (projected_ends w.limit (link_bond w.links) (link_pairs w.links) (live_flags w.links) n s.motion many)
@@ -139,27 +162,36 @@ pass_ends w pairs s small few many =
     (fault_ends (HasMany n) (λ e. e < length pairs) RefusalFits (leaves w phases.Contact) (contact_part w pairs m)
     (projected_ends w.limit (contact_bond w.thickness pairs) pairs (map (λ pair. true) pairs) n m more)
     (λ e below. leaves_fits w phases.Contact e (length pairs) small (omega (arith, few)) below))
-    (λ l last. fault_ends (λ t. HasMany n t.motion) (λ e. e < length l.particles) RefusalFits (leaves w phases.Shape) (shape_part w (record s { motion = l }))
+    (λ l last. fault_ends (λ t. HasMany n t.motion) (λ e. e < length l.particles) RefusalFits (leaves w phases.Shape)
+    (shape_part w (record s { motion = l }))
     (shape_ends w (record s { motion = l }) n last)
     (λ e below. leaves_fits w phases.Shape e (length l.particles) small (omega (arith, last, small.particles)) below)))
 
-few_ends : (w : World) (pairs : List (ℕ × ℕ)) (many : Bool) (m : Motion) → IsSmall w → nat_lt 262144 (length pairs) ≡ many → HasMany (length w.particles) m
-    → MatchResult (cond many (Err (TooManyContacts (w.steps + 1))) (repeated w.passes (pass w pairs) (untouched m) >>= λ s. Ok (settled w pairs (rub w.friction s)))) (λ v. Unit {0}) RefusalFits
+few_ends : (w : World) (pairs : List (ℕ × ℕ)) (many : Bool) (m : Motion) → IsSmall w → nat_lt 262144 (length pairs) ≡ many
+    → HasMany (length w.particles) m
+    → MatchResult (cond many (Err (TooManyContacts (w.steps + 1)))
+    (repeated w.passes (pass w pairs) (untouched m) >>= λ s. Ok (settled w pairs (rub w.friction s)))) (λ v. Unit {0}) RefusalFits
 few_ends w pairs true m small is all = omega (arith, small.steps)
 few_ends w pairs false m small is all =
     let few : length pairs ≤ 262144 = ltb-false 262144 (length pairs) is in
-    bind_ends (λ t. HasMany (length w.particles) t.motion) (λ v. Unit {0}) RefusalFits (repeated w.passes (pass w pairs) (untouched m)) (λ s. Ok (settled w pairs (rub w.friction s)))
-    (repeat_ends (λ t. HasMany (length w.particles) t.motion) RefusalFits (pass w pairs) (λ s has. pass_ends w pairs s small few has) w.passes (untouched m) all)
+    bind_ends (λ t. HasMany (length w.particles) t.motion) (λ v. Unit {0}) RefusalFits (repeated w.passes (pass w pairs) (untouched m))
+    (λ s. Ok (settled w pairs (rub w.friction s)))
+    (repeat_ends (λ t. HasMany (length w.particles) t.motion) RefusalFits (pass w pairs)
+    (λ s has. pass_ends w pairs s small few has) w.passes (untouched m) all)
     (λ s has. tt)
 
 step_ends : (w : World) → IsSmall w → IfErr (step w) RefusalFits
 unfolding step
 step_ends w small =
-    only_err (λ v. Unit {0}) RefusalFits (with_fault (leaves w phases.Predict) (predict w) >>= λ m. after_contacts w m (contacts_of w.thickness w.links m.particles))
-    (bind_ends (HasMany (length w.particles)) (λ v. Unit {0}) RefusalFits (with_fault (leaves w phases.Predict) (predict w)) (λ m. after_contacts w m (contacts_of w.thickness w.links m.particles))
-    (fault_ends (HasMany (length w.particles)) (λ e. e < length w.particles) RefusalFits (leaves w phases.Predict) (predict w) (predict_ends w)
+    only_err (λ v. Unit {0}) RefusalFits (with_fault (leaves w phases.Predict) (predict w) >>= λ m.
+    after_contacts w m (contacts_of w.thickness w.links m.particles))
+    (bind_ends (HasMany (length w.particles)) (λ v. Unit {0}) RefusalFits (with_fault (leaves w phases.Predict) (predict w))
+    (λ m. after_contacts w m (contacts_of w.thickness w.links m.particles))
+    (fault_ends (HasMany (length w.particles)) (λ e. e < length w.particles) RefusalFits (leaves w phases.Predict) (predict w)
+    (predict_ends w)
     (λ e below. leaves_fits w phases.Predict e (length w.particles) small (omega (arith, small.particles)) below))
-    (λ m many. few_ends w (contacts_of w.thickness w.links m.particles) (nat_lt 262144 (length (contacts_of w.thickness w.links m.particles))) m small refl many))
+    (λ m many. few_ends w (contacts_of w.thickness w.links m.particles)
+    (nat_lt 262144 (length (contacts_of w.thickness w.links m.particles))) m small refl many))
 
 -- ---- the steps of a command
 
@@ -175,15 +207,18 @@ steps_end zero w sound within = tt
 steps_end (suc n) w sound within =
     bind_ends (λ v. IsSound v × (v.steps + n ≤ 1000000)) (λ v. Unit {0}) RefusalFits (step w) (repeated n step)
     (both_ends (λ v. IsSound v × (v.steps + n ≤ 1000000)) RefusalFits (step w)
-    (ok_weaker (λ v. IsSound v × (v.steps ≡ w.steps + 1) × AreOfOneScene w v) (λ v. IsSound v × (v.steps + n ≤ 1000000)) (step w) (λ v on. (on.0, omega (arith, within, on.1))) (step_sound w sound (omega (arith, within))))
+    (ok_weaker (λ v. IsSound v × (v.steps ≡ w.steps + 1) × AreOfOneScene w v) (λ v. IsSound v × (v.steps + n ≤ 1000000)) (step w)
+    (λ v on. (on.0, omega (arith, within, on.1))) (step_sound w sound (omega (arith, within))))
     (step_ends w (small w sound)))
     (λ v so_far. steps_end n v so_far.0 so_far.1)
 
-first_ends : {A : Type 0} (P : A → Type 0) (test : Bool) (refusal : Refusal) (r : Result A Refusal) → IfOk (cond test (Err refusal) r) P → RefusalFits refusal → (IfOk r P → MatchResult r P RefusalFits) → MatchResult (cond test (Err refusal) r) P RefusalFits
+first_ends : {A : Type 0} (P : A → Type 0) (test : Bool) (refusal : Refusal) (r : Result A Refusal) → IfOk (cond test (Err refusal) r) P
+    → RefusalFits refusal → (IfOk r P → MatchResult r P RefusalFits) → MatchResult (cond test (Err refusal) r) P RefusalFits
 first_ends P true refusal r h fits next = fits
 first_ends P false refusal r h fits next = next h
 
-unless_ends : {A : Type 0} (P : A → Type 0) (tests : List (Bool × Refusal)) (x : A) → IfOk (unless tests x) P → AllByRecursion (λ (t : Bool × Refusal). RefusalFits t.1) tests → MatchResult (unless tests x) P RefusalFits
+unless_ends : {A : Type 0} (P : A → Type 0) (tests : List (Bool × Refusal)) (x : A) → IfOk (unless tests x) P
+    → AllByRecursion (λ (t : Bool × Refusal). RefusalFits t.1) tests → MatchResult (unless tests x) P RefusalFits
 unless_ends P [] x h fits = h
 unless_ends P (test ∷ tests) x h fits = first_ends P test.0 test.1 (unless tests x) h fits.0 (λ later. unless_ends P tests x later fits.1)
 
@@ -192,7 +227,8 @@ run_ends w n sound =
     only_err (λ v. Unit {0}) RefusalFits (run_steps w n)
     (bind_ends (λ v. IsSound v × (v.steps + n ≤ 1000000)) (λ v. Unit {0}) RefusalFits (unless (refusals w (commands.Step n)) w) (steps_of n)
     (unless_ends (λ v. IsSound v × (v.steps + n ≤ 1000000)) (refusals w (commands.Step n)) w
-    (unless-keeps (λ v. IsSound v × (v.steps + n ≤ 1000000)) (refusals w (commands.Step n)) w (λ es. (sound, ltb-false 1000000 (w.steps + n) es.1.0)))
+    (unless-keeps (λ v. IsSound v × (v.steps + n ≤ 1000000)) (refusals w (commands.Step n)) w
+    (λ es. (sound, ltb-false 1000000 (w.steps + n) es.1.0)))
     (tt, (tt, tt)))
     (λ v so_far. steps_end n v so_far.0 so_far.1))
 
@@ -206,16 +242,21 @@ done_fits : (w : World) (r : Result World Refusal) → IfErr r RefusalFits → R
 done_fits w (Ok v) fits = tt
 done_fits w (Err refusal) fits = fits
 
-plain_fits : (w v : World) (tests : List (Bool × Refusal)) → AllByRecursion (λ (t : Bool × Refusal). RefusalFits t.1) tests → ReplyFits (done_or_refused w (unless tests v)).1
-plain_fits w v tests fits = done_fits w (unless tests v) (only_err (λ v. Unit {0}) RefusalFits (unless tests v) (unless_ends (λ v. Unit {0}) tests v (unless-keeps (λ v. Unit {0}) tests v (λ es. tt)) fits))
+plain_fits : (w v : World) (tests : List (Bool × Refusal)) → AllByRecursion (λ (t : Bool × Refusal). RefusalFits t.1) tests
+    → ReplyFits (done_or_refused w (unless tests v)).1
+plain_fits w v tests fits = done_fits w (unless tests v)
+    (only_err (λ v. Unit {0}) RefusalFits (unless tests v) (unless_ends (λ v. Unit {0}) tests v
+    (unless-keeps (λ v. Unit {0}) tests v (λ es. tt)) fits))
 
 pub reply_fits : (w : World) (c : Command) → IsSound w → ReplyFits (reply w c)
 unfolding meaning
 reply_fits w (commands.Step n) sound = done_fits w (run_steps w n) (run_ends w n sound)
 reply_fits w commands.Frame sound = tt
 reply_fits w (commands.Pin i) sound = plain_fits w (pinned w i (particle_at w.particles i)) (refusals w (commands.Pin i)) (tt, (tt, tt))
-reply_fits w (commands.Unpin i) sound = plain_fits w (unpinned w i (particle_at w.particles i)) (refusals w (commands.Unpin i)) (tt, (tt, (tt, tt)))
-reply_fits w (commands.Move i to) sound = plain_fits w (put_at w i (particle_at w.particles i) to) (refusals w (commands.Move i to)) (tt, (tt, (tt, (tt, tt))))
+reply_fits w (commands.Unpin i) sound = plain_fits w (unpinned w i (particle_at w.particles i)) (refusals w (commands.Unpin i))
+    (tt, (tt, (tt, tt)))
+reply_fits w (commands.Move i to) sound = plain_fits w (put_at w i (particle_at w.particles i) to) (refusals w (commands.Move i to))
+    (tt, (tt, (tt, (tt, tt))))
 reply_fits w (commands.Cut l) sound = plain_fits w (without_link w l) (refusals w (commands.Cut l)) (tt, (tt, tt))
 reply_fits w (commands.Gravity g) sound = plain_fits w (record w { gravity = g }) (refusals w (commands.Gravity g)) (tt, tt)
 reply_fits w commands.Ledger sound = tt

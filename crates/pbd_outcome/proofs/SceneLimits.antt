@@ -28,9 +28,11 @@ grown_ropes start (x ∷ xs) = grown_ropes (with_rope start x) xs
 
 meshes_limit : (limit : ℤ) (s : Settings) (t : Tables) → (with_meshes limit s t).limit ≡ limit
 unfolding with_meshes
-meshes_limit limit s t = grown_ropes (fold with_cloth (plain_parts limit s t) t.cloths) t.ropes ∙ grown_cloths (plain_parts limit s t) t.cloths
+meshes_limit limit s t = grown_ropes (fold with_cloth (plain_parts limit s t) t.cloths) t.ropes
+    ∙ grown_cloths (plain_parts limit s t) t.cloths
 
-entries_limit : (pins : List ℤ) (ls : List LinkEntry) (ts : List TrackEntry) (m parts : Parts) → with_entries pins ls ts m ≡ Ok parts → parts.limit ≡ m.limit
+entries_limit : (pins : List ℤ) (ls : List LinkEntry) (ts : List TrackEntry) (m parts : Parts) → with_entries pins ls ts m ≡ Ok parts
+    → parts.limit ≡ m.limit
 unfolding with_entries
 entries_limit pins ls ts m parts is =
     through (all_links m.particles m.links ls) _ parts is (λ links e1 is1.
@@ -53,7 +55,8 @@ tree_limit : (limit : ℤ) (tree : Option Members) (parts : Parts) → tree_in l
 tree_limit limit None parts is = cc
 tree_limit limit (Some t) parts is = scene_limit limit t parts (came (scene_of limit t) parts is)
 
-if_text : (b : Bool) (limit : ℤ) (tree : Option Members) (o : Outcome) (parts : Parts) → cond b (tree_in limit tree) (Err o) ≡ Ok parts → parts.limit ≡ limit
+if_text : (b : Bool) (limit : ℤ) (tree : Option Members) (o : Outcome) (parts : Parts) → cond b (tree_in limit tree) (Err o) ≡ Ok parts
+    → parts.limit ≡ limit
 if_text true limit tree o parts is = tree_limit limit tree parts is
 if_text false limit tree o parts is = cc
 

@@ -1,5 +1,6 @@
 -- The numbers of a script's commands fit their types.
-use Rattle.std.proofs.Common.{◌≡◌, refl, ℕ, suc, ◌-◌, ◌*◌, ◌<◌, ◌≤◌, ◌^◌, inl, inr, Bool, true, false, cond, List, [], ◌∷◌, length, Option, Some, None, ℤ, pos, w64, FitsSigned, arith, unsigned_abs, subst}
+use Rattle.std.proofs.Common.{◌≡◌, refl, ℕ, suc, ◌-◌, ◌*◌, ◌<◌, ◌≤◌, ◌^◌, inl, inr, Bool, true, false, cond, List, [], ◌∷◌, length, Option}
+use Rattle.std.proofs.Common.{Some, None, ℤ, pos, w64, FitsSigned, arith, unsigned_abs, subst}
 use Rattle.std.specs.Prelude.{◌==◌, ◌&&◌, nat_le, nat_eq, codes, filter_map, unwrap_or, neg_ℤ}
 use Rattle.std.specs.List.{AllByRecursion, cons_option, list_all, starts_with}
 use Rattle.std.specs.Option.{option_map, option_and_then}
@@ -13,20 +14,18 @@ use Rattle.pbd_world.specs.declared.command.Command.{Command}
 use Rattle.pbd_world.specs.declared.command.Command.TheVariants.{Step, Frame, Pin, Unpin, Move, Cut, Gravity, Ledger, Bad}
 use Rattle.pbd_script.specs.Lines.{pieces, words, is_digit, value, count, is_count, number, only_count}
 use Rattle.pbd_script.specs.Commands.{alone, vector_of, only_vector, moved, form, words_command, line_command, commands}
-use Rattle.pbd_script.proofs.NumberLemmas.{of_digits}
+use Rattle.pbd_script.proofs.NumberLemmas.{of_digits, digit_small}
 use Rattle.pbd_log.specs.Entries.{CommandFits, VectorFits}
 use Rattle.pbd_outcome.proofs.ShortLines.{inspect, mapped, tried}
 
 -- ---- numbers
 
-digit_small : (b : ℕ) → is_digit b ≡ true → b - 48 ≤ 9
-digit_small b is = grind (arith, nat_tests)
-
 value_below : (digits : List ℕ) → list_all is_digit digits ≡ true → value digits < 10 ^ length digits
 value_below [] all = omega arith
 value_below (digit ∷ digits) all =
     let both = and_parts (is_digit digit) (list_all is_digit digits) all in
-    let most : (digit - 48) * 10 ^ length digits ≤ 9 * 10 ^ length digits = mul-le-mul_right (10 ^ length digits) (digit_small digit both.0) in
+    let most : (digit - 48) * 10 ^ length digits ≤ 9 * 10 ^ length digits =
+    mul-le-mul_right (10 ^ length digits) (digit_small digit both.0) in
     let rest : value digits < 10 ^ length digits = value_below digits both.1 in
     let ten : 10 ^ suc (length digits) ≡ 10 ^ length digits * 10 = omega arith in
     rw ten (omega (arith, most, rest))
@@ -47,7 +46,8 @@ count_below word n is = some_below (is_count word) (value word) n (counted_below
 signed_fits : (z : ℤ) (n : ℕ) → n < 1000000000000000000 → unsigned_abs z ≡ n → FitsSigned w64 z
 signed_fits z n below is = fits z (omega (arith, below, is))
 
-either_fits : (minus : Bool) (first : ℕ) (rest : List ℕ) (z : ℤ) → cond minus (option_map (λ n. neg_ℤ (pos n)) (count rest)) (option_map (λ n. pos n) (count (first ∷ rest))) ≡ Some z → FitsSigned w64 z
+either_fits : (minus : Bool) (first : ℕ) (rest : List ℕ) (z : ℤ)
+    → cond minus (option_map (λ n. neg_ℤ (pos n)) (count rest)) (option_map (λ n. pos n) (count (first ∷ rest))) ≡ Some z → FitsSigned w64 z
 either_fits true first rest z is =
     let n = mapped (λ n. neg_ℤ (pos n)) (count rest) z is in
     subst (FitsSigned w64) n.2 (signed_fits (neg_ℤ (pos n.0)) n.0 (count_below rest n.0 n.1) (size-neg (pos n.0)))
@@ -70,12 +70,14 @@ only_below [] n is = cc
 only_below (word ∷ []) n is = count_below word n is
 only_below (word ∷ next ∷ more) n is = cc
 
-count_fits : (command : ℕ → Command) (operands : List (List ℕ)) (c : Command) → ((n : ℕ) → n < 2 ^ 64 → CommandFits (command n)) → option_map (λ n. command n) (only_count operands) ≡ Some c → CommandFits c
+count_fits : (command : ℕ → Command) (operands : List (List ℕ)) (c : Command) → ((n : ℕ) → n < 2 ^ 64 → CommandFits (command n))
+    → option_map (λ n. command n) (only_count operands) ≡ Some c → CommandFits c
 count_fits command operands c fit is =
     let n = mapped (λ n. command n) (only_count operands) c is in
     subst CommandFits n.2 (fit n.0 (omega (arith, only_below operands n.0 n.1)))
 
-vector_fits : (x y z : Option ℤ) (v : Vec3) → ((a : ℤ) → x ≡ Some a → FitsSigned w64 a) → ((a : ℤ) → y ≡ Some a → FitsSigned w64 a) → ((a : ℤ) → z ≡ Some a → FitsSigned w64 a) → vector_of x y z ≡ Some v → VectorFits v
+vector_fits : (x y z : Option ℤ) (v : Vec3) → ((a : ℤ) → x ≡ Some a → FitsSigned w64 a) → ((a : ℤ) → y ≡ Some a → FitsSigned w64 a)
+    → ((a : ℤ) → z ≡ Some a → FitsSigned w64 a) → vector_of x y z ≡ Some v → VectorFits v
 vector_fits (Some a) (Some b) (Some c) v f g h is =
     let e : (let u : Vec3 = record { x = a; y = b; z = c } in u ≡ v) = cc in
     subst VectorFits e (f a refl, g b refl, h c refl)
@@ -95,7 +97,8 @@ gravity_fits operands c is =
     let v = mapped (λ v. Gravity v) (only_vector operands) c is in
     subst CommandFits v.2 (only_fits operands v.0 v.1)
 
-placed_fits : (o : Option ℕ) (axes : List (List ℕ)) (c : Command) → ((n : ℕ) → o ≡ Some n → n < 1000000000000000000) → option_and_then (λ p. option_map (λ to. Move p to) (only_vector axes)) o ≡ Some c → CommandFits c
+placed_fits : (o : Option ℕ) (axes : List (List ℕ)) (c : Command) → ((n : ℕ) → o ≡ Some n → n < 1000000000000000000)
+    → option_and_then (λ p. option_map (λ to. Move p to) (only_vector axes)) o ≡ Some c → CommandFits c
 placed_fits None axes c below is = absurd cc
 placed_fits (Some p) axes c below is =
     let to = mapped (λ to. Move p to) (only_vector axes) c is in
@@ -123,13 +126,16 @@ read_fits word operands = elim (inspect (form word operands)) [
   | inr some ↦ rw some.1 (form_fits word operands some.0 some.1)
 ]
 
-either_added : (comment : Bool) (c : Command) (cs : List Command) → CommandFits c → AllByRecursion CommandFits cs → AllByRecursion CommandFits (cons_option (cond comment None (Some c)) cs)
+either_added : (comment : Bool) (c : Command) (cs : List Command) → CommandFits c → AllByRecursion CommandFits cs
+    → AllByRecursion CommandFits (cons_option (cond comment None (Some c)) cs)
 either_added true c cs fit all = all
 either_added false c cs fit all = (fit, all)
 
-words_added : (ws : List (List ℕ)) (cs : List Command) → AllByRecursion CommandFits cs → AllByRecursion CommandFits (cons_option (words_command ws) cs)
+words_added : (ws : List (List ℕ)) (cs : List Command) → AllByRecursion CommandFits cs
+    → AllByRecursion CommandFits (cons_option (words_command ws) cs)
 words_added [] cs all = all
-words_added (word ∷ operands) cs all = either_added (starts_with nat_eq word (codes "#")) (unwrap_or (form word operands) Bad) cs (read_fits word operands) all
+words_added (word ∷ operands) cs all = either_added (starts_with nat_eq word (codes "#")) (unwrap_or (form word operands) Bad) cs
+    (read_fits word operands) all
 
 lines_fit : (lines : List (List ℕ)) → AllByRecursion CommandFits (filter_map line_command lines)
 lines_fit [] = tt

@@ -1,5 +1,6 @@
 -- The entries of a script's commands are at most four times as long as its lines, but for their sums.
-use Rattle.std.proofs.Common.{◌≡◌, sym, ap, refl, ℕ, ◌+◌, ◌*◌, ◌<◌, ◌≤◌, ◌⊎◌, inl, inr, Bool, true, false, cond, List, [], ◌∷◌, length, Option, Some, None, ℤ, take, arith}
+use Rattle.std.proofs.Common.{◌≡◌, sym, ap, refl, ℕ, ◌+◌, ◌*◌, ◌<◌, ◌≤◌, ◌⊎◌, inl, inr, Bool, true, false, cond, List, [], ◌∷◌, length}
+use Rattle.std.proofs.Common.{Option, Some, None, ℤ, take, arith}
 use Rattle.std.specs.Prelude.{◌==◌, not, nat_eq, filter, filter_map, bytes_eq, codes, unwrap_or}
 use Rattle.std.specs.List.{cons_option, onto_first, slice_split, starts_with}
 use Rattle.std.specs.Option.{option_map, option_and_then}
@@ -23,7 +24,8 @@ onto_room : {X : Type 0} (x : X) (parts : List (List X)) → 0 < length parts �
 onto_room x [] some = absurd (omega arith)
 onto_room x (part ∷ parts) some = omega arith
 
-either_room : {X : Type 0} (cut : Bool) (x : X) (parts : List (List X)) → 0 < length parts → room (cond cut ([] ∷ parts) (onto_first x parts)) ≡ room parts + 1
+either_room : {X : Type 0} (cut : Bool) (x : X) (parts : List (List X)) → 0 < length parts
+    → room (cond cut ([] ∷ parts) (onto_first x parts)) ≡ room parts + 1
 either_room true x parts some = omega arith
 either_room false x parts some = onto_room x parts some
 
@@ -31,7 +33,8 @@ pub split_room : {X : Type 0} (p : X → Bool) (xs : List X) → room (slice_spl
 split_room p [] = refl
 split_room p (x ∷ xs) = omega (arith, either_room (p x) x (slice_split p xs) (omega (arith, length-slice_split p xs)), split_room p xs)
 
-kept : {X : Type 0} (keep : Bool) (part : List X) (some all : List (List X)) → room some ≤ room all → room (cond keep (part ∷ some) some) ≤ length part + 1 + room all
+kept : {X : Type 0} (keep : Bool) (part : List X) (some all : List (List X)) → room some ≤ room all
+    → room (cond keep (part ∷ some) some) ≤ length part + 1 + room all
 kept true part some all le = omega arith
 kept false part some all le = omega arith
 
@@ -82,7 +85,8 @@ pub mapped : {A B : Type 0} (f : A → B) (o : Option A) (y : B) → option_map 
 mapped f (Some x) y is = (x, refl, cc)
 mapped f None y is = cc
 
-all_three : (x y z : Option ℤ) (v : Vec3) → vector_of x y z ≡ Some v → ((a : ℤ) × (x ≡ Some a)) × ((b : ℤ) × (y ≡ Some b)) × ((c : ℤ) × (z ≡ Some c))
+all_three : (x y z : Option ℤ) (v : Vec3) → vector_of x y z ≡ Some v
+    → ((a : ℤ) × (x ≡ Some a)) × ((b : ℤ) × (y ≡ Some b)) × ((c : ℤ) × (z ≡ Some c))
 all_three (Some a) (Some b) (Some c) v is = ((a, refl), (b, refl), (c, refl))
 all_three None y z v is = cc
 all_three (Some a) None z v is = cc
@@ -97,7 +101,9 @@ three_axes (x ∷ y ∷ z ∷ []) v is =
     omega (arith, number_long x three.0.0 three.0.1, number_long y three.1.0 three.1.1, number_long z three.2.0 three.2.1)
 three_axes (x ∷ y ∷ z ∷ w ∷ more) v is = cc
 
-placed : (o : Option ℕ) (axes : List (List ℕ)) (c : Command) → option_and_then (λ p. option_map (λ to. Move p to) (only_vector axes)) o ≡ Some c → (n : ℕ) × (o ≡ Some n) × (6 ≤ room axes) × (most_bytes c ≡ 47)
+placed : (o : Option ℕ) (axes : List (List ℕ)) (c : Command)
+    → option_and_then (λ p. option_map (λ to. Move p to) (only_vector axes)) o ≡ Some c
+    → (n : ℕ) × (o ≡ Some n) × (6 ≤ room axes) × (most_bytes c ≡ 47)
 placed None axes c is = cc
 placed (Some p) axes c is =
     let to = mapped (λ to. Move p to) (only_vector axes) c is in
@@ -113,22 +119,26 @@ chosen true x y z is = inl (refl, is)
 chosen false x y z is = inr (refl, is)
 
 -- the form of this name, or one that is looked for further on
-pub tried : {P : Type 0} (name word : List ℕ) (here others : Option Command) (c : Command) → cond (bytes_eq word name) here others ≡ Some c → (length word ≡ length name → here ≡ Some c → P) → (others ≡ Some c → P) → P
+pub tried : {P : Type 0} (name word : List ℕ) (here others : Option Command) (c : Command) → cond (bytes_eq word name) here others ≡ Some c
+    → (length word ≡ length name → here ≡ Some c → P) → (others ≡ Some c → P) → P
 tried name word here others c is f g = elim (chosen (bytes_eq word name) here others (Some c) is) [
   | inl p ↦ f (ap length ((bytes_eq-Decides word name).0 p.0)) p.1
   | inr q ↦ g q.1
 ]
 
-with_count : (command : ℕ → Command) (word : List ℕ) (operands : List (List ℕ)) (c : Command) → ((n : ℕ) → most_bytes (command n) ≡ 23) → 3 ≤ length word → option_map (λ n. command n) (only_count operands) ≡ Some c → IsShort word operands c
+with_count : (command : ℕ → Command) (word : List ℕ) (operands : List (List ℕ)) (c : Command) → ((n : ℕ) → most_bytes (command n) ≡ 23)
+    → 3 ≤ length word → option_map (λ n. command n) (only_count operands) ≡ Some c → IsShort word operands c
 with_count command word operands c most named is =
     let n = mapped (λ n. command n) (only_count operands) c is in
     omega (arith, counted operands n.0 n.1, most n.0, ap most_bytes n.2)
 
-by_itself : (command : Command) (word : List ℕ) (operands : List (List ℕ)) (c : Command) → most_bytes command ≡ 2 → alone command operands ≡ Some c → IsShort word operands c
+by_itself : (command : Command) (word : List ℕ) (operands : List (List ℕ)) (c : Command) → most_bytes command ≡ 2
+    → alone command operands ≡ Some c → IsShort word operands c
 by_itself command word [] c most is = let e : command ≡ c = cc in omega (arith, ap most_bytes e)
 by_itself command word (operand ∷ more) c most is = cc
 
-with_vector : (word : List ℕ) (operands : List (List ℕ)) (c : Command) → 7 ≤ length word → option_map (λ v. Gravity v) (only_vector operands) ≡ Some c → IsShort word operands c
+with_vector : (word : List ℕ) (operands : List (List ℕ)) (c : Command) → 7 ≤ length word
+    → option_map (λ v. Gravity v) (only_vector operands) ≡ Some c → IsShort word operands c
 with_vector word operands c named is =
     let v = mapped (λ v. Gravity v) (only_vector operands) c is in
     omega (arith, three_axes operands v.0 v.1, ap most_bytes v.2)
@@ -142,12 +152,16 @@ with_place word (particle ∷ axes) c named is =
 form_short : (word : List ℕ) (operands : List (List ℕ)) (c : Command) → form word operands ≡ Some c → IsShort word operands c
 unfolding form
 form_short word operands c is =
-    tried (codes "step") word _ _ c is (λ named here. with_count (λ n. Step n) word operands c (λ n. refl) (omega (arith, named)) here) (λ is1.
+    tried (codes "step") word _ _ c is (λ named here. with_count (λ n. Step n) word operands c (λ n. refl) (omega (arith, named)) here)
+    (λ is1.
     tried (codes "frame") word _ _ c is1 (λ named here. by_itself Frame word operands c refl here) (λ is2.
-    tried (codes "pin") word _ _ c is2 (λ named here. with_count (λ n. Pin n) word operands c (λ n. refl) (omega (arith, named)) here) (λ is3.
-    tried (codes "unpin") word _ _ c is3 (λ named here. with_count (λ n. Unpin n) word operands c (λ n. refl) (omega (arith, named)) here) (λ is4.
+    tried (codes "pin") word _ _ c is2 (λ named here. with_count (λ n. Pin n) word operands c (λ n. refl) (omega (arith, named)) here)
+    (λ is3.
+    tried (codes "unpin") word _ _ c is3 (λ named here. with_count (λ n. Unpin n) word operands c (λ n. refl) (omega (arith, named)) here)
+    (λ is4.
     tried (codes "move") word _ _ c is4 (λ named here. with_place word operands c (omega (arith, named)) here) (λ is5.
-    tried (codes "cut") word _ _ c is5 (λ named here. with_count (λ n. Cut n) word operands c (λ n. refl) (omega (arith, named)) here) (λ is6.
+    tried (codes "cut") word _ _ c is5 (λ named here. with_count (λ n. Cut n) word operands c (λ n. refl) (omega (arith, named)) here)
+    (λ is6.
     tried (codes "gravity") word _ _ c is6 (λ named here. with_vector word operands c (omega (arith, named)) here) (λ is7.
     tried (codes "ledger") word _ _ c is7 (λ named here. by_itself Ledger word operands c refl here) (λ none. cc))))))))
 
@@ -168,18 +182,25 @@ read_short word operands = elim (inspect (form word operands)) [
   | inr some ↦ rw some.1 (form_short word operands some.0 some.1)
 ]
 
-added : (comment : Bool) (c : Command) (cs : List Command) (line all : ℕ) → most_bytes c ≤ 4 * line → all_bytes cs ≤ 4 * all → all_bytes (cons_option (cond comment None (Some c)) cs) ≤ 4 * (line + all)
+added : (comment : Bool) (c : Command) (cs : List Command) (line all : ℕ) → most_bytes c ≤ 4 * line → all_bytes cs ≤ 4 * all
+    → all_bytes (cons_option (cond comment None (Some c)) cs) ≤ 4 * (line + all)
 added true c cs line all fits le = omega arith
 added false c cs line all fits le = omega arith
 
-words_added : (ws : List (List ℕ)) (cs : List Command) (all : ℕ) → all_bytes cs ≤ 4 * all → all_bytes (cons_option (words_command ws) cs) ≤ 4 * (room ws + all)
+words_added : (ws : List (List ℕ)) (cs : List Command) (all : ℕ) → all_bytes cs ≤ 4 * all
+    → all_bytes (cons_option (words_command ws) cs) ≤ 4 * (room ws + all)
 words_added [] cs all le = omega arith
-words_added (word ∷ operands) cs all le = added (starts_with nat_eq word (codes "#")) (unwrap_or (form word operands) Bad) cs (room (word ∷ operands)) all (read_short word operands) le
+words_added (word ∷ operands) cs all le = added (starts_with nat_eq word (codes "#")) (unwrap_or (form word operands) Bad) cs
+    (room (word ∷ operands)) all (read_short word operands) le
 
 lines_short : (lines : List (List ℕ)) → all_bytes (filter_map line_command lines) ≤ 4 * room lines
 lines_short [] = omega arith
 lines_short (line ∷ lines) =
-    omega (arith, words_added (words (strip_carriage_return line)) (filter_map line_command lines) (room lines) (lines_short lines), words_room line)
+    omega (
+      arith,
+      words_added (words (strip_carriage_return line)) (filter_map line_command lines) (room lines) (lines_short lines),
+      words_room line,
+    )
 
 pub script_short : (script : List ℕ) → all_bytes (commands script) ≤ 4 * (length script + 1)
 unfolding commands

@@ -1,5 +1,6 @@
 -- What `record` writes is never too long to be read as a log.
-use Rattle.std.proofs.Common.{◌≡◌, ◌∙◌, sym, ap, refl, ℕ, zero, suc, ◌+◌, ◌*◌, ◌≤◌, ◌/◌, ◌%◌, Bool, true, false, cond, List, [], ◌∷◌, ◌++◌, length, take, drop, Option, Some, None, Result, Ok, Err, ℤ, lit≤, arith, add-one}
+use Rattle.std.proofs.Common.{◌≡◌, ◌∙◌, sym, ap, refl, ℕ, zero, suc, ◌+◌, ◌*◌, ◌≤◌, ◌/◌, ◌%◌, Bool, true, false, cond, List, [], ◌∷◌, ◌++◌}
+use Rattle.std.proofs.Common.{length, take, drop, Option, Some, None, Result, Ok, Err, ℤ, lit≤, arith, add-one}
 use Rattle.std.specs.Prelude.{◌==◌, codes, flat_map, position}
 use Rattle.std.specs.List.{join_with_byte}
 use Rattle.std.specs.Str.{is_utf8}
@@ -18,7 +19,8 @@ use Rattle.toml.specs.Data.{Members}
 use Rattle.toml.specs.Parse.{parse_document}
 use Rattle.pbd_session.specs.Recording.{entries_of, log_bytes}
 use Rattle.pbd_outcome.specs.declared.status.Status.TheVariants.{SceneNotText}
-use Rattle.pbd_outcome.specs.Outcome.{Outcome, halves_in, most, most_of_log, parts_in, range, record_outcome, recorded, scene_in, settled, stops, tree_in}
+use Rattle.pbd_outcome.specs.Outcome.{Outcome, halves_in, most, most_of_log, parts_in, range, record_outcome, recorded, scene_in, settled}
+use Rattle.pbd_outcome.specs.Outcome.{stops, tree_in}
 use Rattle.pbd_outcome.specs.Split.{divider, is_line, split, split_at}
 use Rattle.pbd_outcome.specs.Statuses.{refused_line}
 use Rattle.pbd_outcome.proofs.LineLaws.{key_short, rule_short, table_short}
@@ -29,7 +31,12 @@ use Rattle.pbd_outcome.proofs.ShortLogs.{entries_fit, log_length}
 
 front_length : (parts : List (List ℕ)) → length (flat_map (λ piece. piece ++ 10 ∷ []) parts) ≡ room parts
 front_length [] = refl
-front_length (part ∷ parts) = omega (arith, length-append (part ++ 10 ∷ []) (flat_map (λ piece. piece ++ 10 ∷ []) parts), length-append part (10 ∷ []), front_length parts)
+front_length (part ∷ parts) = omega (
+  arith,
+  length-append (part ++ 10 ∷ []) (flat_map (λ piece. piece ++ 10 ∷ []) parts),
+  length-append part (10 ∷ []),
+  front_length parts,
+)
 
 lines_length : (parts : List (List ℕ)) → length (join_with_byte 10 parts) ≤ room parts
 lines_length [] = omega arith
@@ -48,7 +55,8 @@ halves_length input h is =
     let at = mapped _ (position (is_line divider) (pieces input)) h is in
     let ps : List (List ℕ) = pieces input in
     let first : length h.0 ≡ room (take at.0 ps) = ap (λ (q : List ℕ × List ℕ). length q.0) (sym at.2) ∙ front_length (take at.0 ps) in
-    let second : length h.1 ≤ room (drop (at.0 + 1) ps) = omega (arith, ap (λ (q : List ℕ × List ℕ). length q.1) at.2, lines_length (drop (at.0 + 1) ps)) in
+    let second : length h.1 ≤ room (drop (at.0 + 1) ps) = omega
+    (arith, ap (λ (q : List ℕ × List ℕ). length q.1) at.2, lines_length (drop (at.0 + 1) ps)) in
     let all : room (take at.0 ps) + room (drop (at.0 + 1) ps) ≤ room ps = rw add-one (around at.0 ps) in
     omega (arith, first, second, all, split_room (λ b. b == 10) input)
 
@@ -66,7 +74,8 @@ digits_few : (k n : ℕ) (after : List ℕ) → length (digits_onto k 10 false n
 digits_few zero n after = omega arith
 digits_few (suc k) n after =
     let here : List ℕ = digit_glyph false (n % 10) ∷ after in
-    either_few (n / 10 == 0) (suc k + length after) here (digits_onto k 10 false (n / 10) here) (omega arith) (omega (arith, digits_few k (n / 10) here))
+    either_few (n / 10 == 0) (suc k + length after) here (digits_onto k 10 false (n / 10) here) (omega arith)
+    (omega (arith, digits_few k (n / 10) here))
 
 decimal_few : (n : ℕ) → length (decimal n) ≤ 64
 unfolding digits
@@ -75,8 +84,17 @@ decimal_few n = digits_few 64 n []
 refused_few : (b : Broken) → length (refused_line b) ≤ 1000
 unfolding refused_line
 refused_few b =
-    let words = codes "8" ∷ codes "SceneRefused" ∷ decimal (rule_number b.rule) ∷ rule_text b.rule ∷ table_text b.place.table ∷ decimal b.place.position ∷ key_text b.key ∷ [] in
-    omega (arith, line_length (codes "error") words, decimal_few (rule_number b.rule), rule_short b.rule, table_short b.place.table, decimal_few b.place.position, key_short b.key)
+    let words = codes "8" ∷ codes "SceneRefused" ∷ decimal (rule_number b.rule) ∷ rule_text b.rule ∷ table_text b.place.table
+    ∷ decimal b.place.position ∷ key_text b.key ∷ [] in
+    omega (
+      arith,
+      line_length (codes "error") words,
+      decimal_few (rule_number b.rule),
+      rule_short b.rule,
+      table_short b.place.table,
+      decimal_few b.place.position,
+      key_short b.key,
+    )
 
 -- ---- the whole outcome
 
@@ -102,19 +120,28 @@ unfolding scene_in
 scene_short limit bytes = text_short (is_utf8 bytes) limit (parse_document bytes)
 
 -- the log of a scene and a script
-written_few : (scene script : List ℕ) (parts : Parts) → length (log_bytes range scene (entries_of (opened parts) (commands script))) ≤ 64000033 + length scene + 4 * length script
+written_few : (scene script : List ℕ) (parts : Parts) → length (log_bytes range scene (entries_of (opened parts) (commands script)))
+    ≤ 64000033 + length scene + 4 * length script
 written_few scene script parts =
-    omega (arith, log_length range scene (entries_of (opened parts) (commands script)), entries_fit (opened parts) (commands script) (omega arith), script_short script)
+    omega (
+      arith,
+      log_length range scene (entries_of (opened parts) (commands script)),
+      entries_fit (opened parts) (commands script) (omega arith),
+      script_short script,
+    )
 
 -- an outcome of at most so many bytes, and four for each of the input
 abbrev IsFew : List ℕ → Outcome → Type 0
 IsFew input o = length o.text ≤ 64000037 + 4 * length input
 
-from_parts : (input scene script : List ℕ) (r : Result Parts Outcome) → StopsShort r → length scene + length script ≤ length input + 1 → IsFew input (settled (r >>= λ parts. Ok (record_outcome scene (opened parts) (commands script))))
+from_parts : (input scene script : List ℕ) (r : Result Parts Outcome) → StopsShort r → length scene + length script ≤ length input + 1
+    → IsFew input (settled (r >>= λ parts. Ok (record_outcome scene (opened parts) (commands script))))
 from_parts input scene script (Ok parts) stops within = omega (arith, written_few scene script parts, within)
 from_parts input scene script (Err o) stops within = omega (arith, stops)
 
-from_halves : (input : List ℕ) (halves : Option (List ℕ × List ℕ)) → split input ≡ halves → IsFew input (settled (halves_in halves >>= λ h. scene_in range h.0 >>= λ parts. Ok (record_outcome h.0 (opened parts) (commands h.1))))
+from_halves : (input : List ℕ) (halves : Option (List ℕ × List ℕ)) → split input ≡ halves
+    → IsFew input (settled (halves_in halves >>= λ h. scene_in range h.0 >>= λ parts.
+    Ok (record_outcome h.0 (opened parts) (commands h.1))))
 from_halves input None is = omega arith
 from_halves input (Some h) is = from_parts input h.0 h.1 (scene_in range h.0) (scene_short range h.0) (halves_length input h is)
 

@@ -5,10 +5,12 @@ use Rattle.pbd_log.specs.Laws.{IsBytes}
 use Rattle.pbd_outcome.specs.declared.job.Job.{Job}
 use Rattle.pbd_outcome.specs.declared.job.Job.TheVariants.{Simulate, Record, Replay, Large, Scramble, Obj, Marks, Host}
 use Rattle.pbd_outcome.specs.declared.status.Status.TheVariants.{InputTooLong, Usage}
-use Rattle.pbd_outcome.specs.Outcome.{IsOutcome, IsReplayed, IsWithin, Outcome, hosted, large_outcome, log_outcome, log_refused, meshed, most, most_of_log, recorded, simulated, simulated_with_marks, stops}
+use Rattle.pbd_outcome.specs.Outcome.{IsOutcome, IsReplayed, IsWithin, Outcome, hosted, large_outcome, log_outcome, log_refused, meshed}
+use Rattle.pbd_outcome.specs.Outcome.{most, most_of_log, recorded, simulated, simulated_with_marks, stops}
 use Rattle.pbd_outcome.proofs.EachLog.{LogOrFault, each_log}
 
-some_within : (limit : ℕ) (IsOne : Outcome → Type 0) (input : List ℕ) → (length input ≤ limit → (o : Outcome) × IsOne o) → (o : Outcome) × IsWithin limit IsOne input o
+some_within : (limit : ℕ) (IsOne : Outcome → Type 0) (input : List ℕ) → (length input ≤ limit → (o : Outcome) × IsOne o)
+    → (o : Outcome) × IsWithin limit IsOne input o
 some_within limit IsOne input one =
     elim (cases_lt limit (length input)) [
       | inl long ↦ (stops InputTooLong (drop (limit + 1) input), inl (long, refl))
@@ -27,9 +29,11 @@ pub some_outcome : (job : Option Job) (input : List ℕ) → IsBytes input → (
 some_outcome None input fits = (stops Usage input, refl)
 some_outcome (Some (Simulate w)) input fits = some_within most (λ o. o ≡ simulated input) input (λ short. (simulated input, refl))
 some_outcome (Some (Record w)) input fits = some_within most (λ o. o ≡ recorded input) input (λ short. (recorded input, refl))
-some_outcome (Some (Replay w)) input fits = some_within most_of_log (IsReplayed input) input (λ short. some_replay input (each_log input fits (log_small (length input) short)))
+some_outcome (Some (Replay w)) input fits = some_within most_of_log (IsReplayed input) input
+    (λ short. some_replay input (each_log input fits (log_small (length input) short)))
 some_outcome (Some (Large w number size)) input fits = (large_outcome number size input, refl)
 some_outcome (Some (Scramble seed)) input fits = some_within most (λ o. o ≡ simulated input) input (λ short. (simulated input, refl))
 some_outcome (Some (Obj w)) input fits = some_within most (λ o. o ≡ meshed input) input (λ short. (meshed input, refl))
-some_outcome (Some (Marks w)) input fits = some_within most (λ o. o ≡ simulated_with_marks input) input (λ short. (simulated_with_marks input, refl))
+some_outcome (Some (Marks w)) input fits = some_within most (λ o. o ≡ simulated_with_marks input) input
+    (λ short. (simulated_with_marks input, refl))
 some_outcome (Some (Host w)) input fits = some_within most (λ o. o ≡ hosted input) input (λ short. (hosted input, refl))

@@ -1,5 +1,6 @@
 -- What a run writes and answers, by the job and the input. No width has a part in it.
-use Rattle.std.specs.Prelude.{◌≡◌, ◌⊎◌, ℕ, ◌+◌, ◌<◌, ◌≤◌, ◌==◌, ◌^◌, ℤ, pos, if◌then◌else◌, nat_le, List, [], ◌∷◌, length, drop, map, Option, Some, None, Result, Ok, Err}
+use Rattle.std.specs.Prelude.{◌≡◌, ◌⊎◌, ℕ, ◌+◌, ◌<◌, ◌≤◌, ◌==◌, ◌^◌, ℤ, pos, if◌then◌else◌, nat_le, List, [], ◌∷◌, length, drop, map}
+use Rattle.std.specs.Prelude.{Option, Some, None, Result, Ok, Err}
 use Rattle.std.specs.Str.{is_utf8}
 use Rattle.toml.specs.Data.{Members}
 use Rattle.toml.specs.Parse.{parse_document}
@@ -32,7 +33,9 @@ use Rattle.pbd_marks.specs.Script.{mark_commands}
 use Rattle.pbd_outcome.specs.declared.job.Job.{Job}
 use Rattle.pbd_outcome.specs.declared.job.Job.TheVariants as jobs
 use Rattle.pbd_outcome.specs.declared.status.Status.{Status}
-use Rattle.pbd_outcome.specs.declared.status.Status.TheVariants.{Done, SomeRefused, Usage, InputTooLong, NoScript, SceneNotText, SceneNotToml, SceneRefused, LogRefused, Mismatch, ObjRefused, TooManyScenes}
+use Rattle.pbd_outcome.specs.declared.status.Status.TheVariants.{Done, SomeRefused, Usage, InputTooLong, NoScript, SceneNotText}
+use Rattle.pbd_outcome.specs.declared.status.Status.TheVariants.{SceneNotToml, SceneRefused, LogRefused, Mismatch, ObjRefused}
+use Rattle.pbd_outcome.specs.declared.status.Status.TheVariants.{TooManyScenes}
 use Rattle.pbd_outcome.specs.Generated.{generated, summary}
 use Rattle.pbd_outcome.specs.ObjText.{obj_line, obj_session_text}
 use Rattle.pbd_outcome.specs.Split.{split, host_split}

@@ -7,7 +7,9 @@ use Rattle.pbd_scene.specs.declared.fault.KeyName.{KeyName}
 use Rattle.pbd_scene.specs.Checks.{Broken}
 use Rattle.pbd_scene.specs.Keys.{key_text, table_text, rule_number, rule_text}
 use Rattle.pbd_outcome.specs.declared.status.Status.{Status}
-use Rattle.pbd_outcome.specs.declared.status.Status.TheVariants.{Done, Usage, ReadFault, WriteFault, InputTooLong, NoScript, SceneNotText, SceneNotToml, SceneRefused, LogRefused, Mismatch, SomeRefused, OutOfMemory, ObjRefused, TooManyScenes}
+use Rattle.pbd_outcome.specs.declared.status.Status.TheVariants.{Done, Usage, ReadFault, WriteFault, InputTooLong, NoScript, SceneNotText}
+use Rattle.pbd_outcome.specs.declared.status.Status.TheVariants.{SceneNotToml, SceneRefused, LogRefused, Mismatch, SomeRefused, OutOfMemory}
+use Rattle.pbd_outcome.specs.declared.status.Status.TheVariants.{ObjRefused, TooManyScenes}
 
 abbrev pub status_number : Status → ℕ
 status_number Done = 0

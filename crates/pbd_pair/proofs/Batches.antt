@@ -1,5 +1,6 @@
 -- Parts of a batch, and what stays with the fixed parts.
-use Rattle.std.proofs.Common.{◌≡◌, ℕ, zero, suc, ◌+◌, ◌-◌, ◌*◌, ◌/◌, ◌%◌, ◌<◌, ◌≤◌, ℤ, List, [], ◌∷◌, length, get_or, take, drop, refl, ap, sym, ◌∙◌, arith, subst, inl, inr, min}
+use Rattle.std.proofs.Common.{◌≡◌, ℕ, zero, suc, ◌+◌, ◌-◌, ◌*◌, ◌/◌, ◌%◌, ◌<◌, ◌≤◌, ℤ, List, [], ◌∷◌, length, get_or, take, drop, refl, ap}
+use Rattle.std.proofs.Common.{sym, ◌∙◌, arith, subst, inl, inr, min}
 use Rattle.std.proofs.lemmas.Bool.{cases_lt}
 use Rattle.std.proofs.lemmas.List.{get_or-take, get_or-drop, length-take, length-drop}
 use Rattle.std.proofs.lemmas.Nat.{div-add-mod'}
@@ -76,7 +77,13 @@ fewer_blocks m k q l h e = elim (cases_lt m (q * l)) [
       omega (arith, none, ap (λ (x : ℕ). blocks_of x l) all))
   | inr p ↦ (let some : k ≡ q * l = omega arith in
       let whole : m ≡ m - k + q * l = omega arith in
-      omega (arith, ap (λ (x : ℕ). blocks_of x l) some, whole_blocks q l h, ap (λ (x : ℕ). blocks_of x l) whole, after_blocks q (m - k) l h))
+      omega (
+        arith,
+        ap (λ (x : ℕ). blocks_of x l) some,
+        whole_blocks q l h,
+        ap (λ (x : ℕ). blocks_of x l) whole,
+        after_blocks q (m - k) l h,
+      ))
 ]
 
 -- a chunk is of whole blocks

@@ -56,9 +56,12 @@ still_entries true true class s u first second = refl
 
 -- ---- a correction by cases of its two tests
 
-leaves_case : (limit : ℤ) (p q : End) (slack : Bool) (m : Vec3 × Vec3) (s : Shift) → is_within limit p.at ≡ true → is_within limit q.at ≡ true
-    → s ≡ shift_by p q m.0 m.1 → leaves_by (cond slack Slack (cond (is_within limit s.first && is_within limit s.second) (Moves s) Leaves)) ≡ not
-    (is_within limit (plus p.at (cond slack (zero_vector, zero_vector) m).0) && is_within limit (plus q.at (cond slack (zero_vector, zero_vector) m).1))
+leaves_case : (limit : ℤ) (p q : End) (slack : Bool) (m : Vec3 × Vec3) (s : Shift) → is_within limit p.at ≡ true
+    → is_within limit q.at ≡ true
+    → s ≡ shift_by p q m.0 m.1 → leaves_by (cond slack Slack (cond (is_within limit s.first && is_within limit s.second) (Moves s) Leaves))
+    ≡ not
+    (is_within limit (plus p.at (cond slack (zero_vector, zero_vector) m).0)
+    && is_within limit (plus q.at (cond slack (zero_vector, zero_vector) m).1))
 leaves_case limit p q true m s hp hq e = sym ((λ i. not (is_within limit (plus_nothing p.at i) && is_within limit (plus_nothing q.at i)))
     ∙ (λ i. not (hp i && hq i)))
 leaves_case limit p q false m s hp hq e = by_test (is_within limit s.first && is_within limit s.second) ∙ (λ i. not (is_within limit
@@ -77,9 +80,11 @@ end_case by part true w m s x still none moves h =
 end_case by part false true m s x still none moves h = moves
 end_case by part false false m s x still none moves h = absurd (false≢true (sym h))
 
-books_case : (slack w : Bool) (m : Vec3 × Vec3) (s t : Shift) (p q : Bool) (b : Bond) (u : Ledger) → s.first_move ≡ m.0 → s.second_move ≡ m.1
+books_case : (slack w : Bool) (m : Vec3 × Vec3) (s t : Shift) (p q : Bool) (b : Bond) (u : Ledger) → s.first_move ≡ m.0
+    → s.second_move ≡ m.1
     → t.first_move ≡ (cond slack (zero_vector, zero_vector) m).0 → t.second_move ≡ (cond slack (zero_vector, zero_vector) m).1
-    → leaves_by (cond slack Slack (cond w (Moves s) Leaves)) ≡ false → booked u (entries_of p q (class_of b) t) ≡ booked_by p q b (cond slack Slack
+    → leaves_by (cond slack Slack (cond w (Moves s) Leaves)) ≡ false
+    → booked u (entries_of p q (class_of b) t) ≡ booked_by p q b (cond slack Slack
     (cond w (Moves s) Leaves)) u
 books_case true w m s t p q b u e1 e2 h1 h2 h = still_entries p q (class_of b) t u h1 h2
 books_case false true m s t p q b u e1 e2 h1 h2 h = same_entries p q (class_of b) t s u (h1 ∙ sym e1) (h2 ∙ sym e2)
@@ -87,15 +92,18 @@ books_case false false m s t p q b u e1 e2 h1 h2 h = absurd (false≢true (sym h
 
 -- ---- a bond
 
-shift_moves : (p q : End) (b : Bond) → shift_of p q b ≡ shift_by p q (pair_moves (minus p.at q.at) zero_vector b.rest b.k p.weight q.weight).0 (pair_moves
+shift_moves : (p q : End) (b : Bond) → shift_of p q b ≡ shift_by p q
+    (pair_moves (minus p.at q.at) zero_vector b.rest b.k p.weight q.weight).0 (pair_moves
     (minus p.at q.at) zero_vector b.rest b.k p.weight q.weight).1
 unfolding shift_of
 shift_moves p q b = ap (λ (m : Vec3 × Vec3). shift_by p q m.0 m.1) (pair_moves-along p.at q.at b.rest b.k p.weight q.weight)
 
 pub leaves_moving : (limit : ℤ) (p q : End) (b : Bond) → is_within limit p.at ≡ true → is_within limit q.at ≡ true
-    → leaves_by (correction_of limit p q b) ≡ not (is_within limit (plus p.at (moves_of p q b).0) && is_within limit (plus q.at (moves_of p q b).1))
+    → leaves_by (correction_of limit p q b) ≡ not (is_within limit (plus p.at (moves_of p q b).0)
+    && is_within limit (plus q.at (moves_of p q b).1))
 unfolding correction_of is_slack moves_by
-leaves_moving limit p q b hp hq = leaves_case limit p q (is_slack p q b) (pair_moves (minus p.at q.at) zero_vector b.rest b.k p.weight q.weight)
+leaves_moving limit p q b hp hq = leaves_case limit p q (is_slack p q b)
+    (pair_moves (minus p.at q.at) zero_vector b.rest b.k p.weight q.weight)
     (shift_of p q b) hp hq (shift_moves p q b)
 
 pub first_moving : (limit : ℤ) (p q : End) (b : Bond) (x : Particle) → p.at ≡ x.at → leaves_by (correction_of limit p q b) ≡ false
@@ -117,11 +125,13 @@ second_moving limit p q b x e h =
     (ap (λ (v : Vec3). record x { at = v }) (ap (λ (t : Shift). t.second) (shift_moves p q b) ∙ ap (λ (v : Vec3). plus v m.1) e)) h
 
 pub books_moving : (limit : ℤ) (p q : End) (b : Bond) (f g : Bool) (t : Shift) (u : Ledger) → t.first_move ≡ (moves_of p q b).0
-    → t.second_move ≡ (moves_of p q b).1 → leaves_by (correction_of limit p q b) ≡ false → booked u (entries_of f g (class_of b) t) ≡ booked_by f g b
+    → t.second_move ≡ (moves_of p q b).1 → leaves_by (correction_of limit p q b) ≡ false
+    → booked u (entries_of f g (class_of b) t) ≡ booked_by f g b
     (correction_of limit p q b) u
 unfolding correction_of is_slack moves_by
 books_moving limit p q b f g t u h1 h2 h =
     let s = shift_of p q b in
     books_case (is_slack p q b) (is_within limit s.first && is_within limit s.second)
-    (pair_moves (minus p.at q.at) zero_vector b.rest b.k p.weight q.weight) s t f g b u (ap (λ (t : Shift). t.first_move) (shift_moves p q b))
+    (pair_moves (minus p.at q.at) zero_vector b.rest b.k p.weight q.weight) s t f g b u
+    (ap (λ (t : Shift). t.first_move) (shift_moves p q b))
     (ap (λ (t : Shift). t.second_move) (shift_moves p q b)) h1 h2 h

@@ -1,5 +1,6 @@
 -- What is known of a chunk's bonds and of what lies between their ends.
-use Rattle.std.proofs.Common.{◌≡◌, ℕ, ◌<◌, ◌≤◌, ◌^◌, ℤ, pos, neg_ℤ, w32, FitsSigned, ◌≤ℤ◌, List, length, get_or, take, Bool, true, false, cond, int_le, refl, ap, sym, ◌∙◌, arith, subst, inl, inr}
+use Rattle.std.proofs.Common.{◌≡◌, ℕ, ◌<◌, ◌≤◌, ◌^◌, ℤ, pos, neg_ℤ, w32, FitsSigned, ◌≤ℤ◌, List, length, get_or, take, Bool, true, false}
+use Rattle.std.proofs.Common.{cond, int_le, refl, ap, sym, ◌∙◌, arith, subst, inl, inr}
 use Rattle.std.proofs.lemmas.Int.{ints, fits_signed_from_abs}
 use Rattle.std.proofs.lemmas.Bool.{cases_eq, cases_lt}
 use Rattle.std.proofs.lemmas.List.{get_or-take, length-take}
@@ -56,7 +57,8 @@ module _ {bonds : Bonds} {numbers : List ℕ} {s : Stored} {t : Totals} (can : C
     };
   }
 
-  module _ (c : Columns) (pairs : Pairs) (loaded : AreLoaded (bond_of bonds) numbers c) (firsts : pairs.first.now ≡ take (length numbers) c.first)
+  module _ (c : Columns) (pairs : Pairs) (loaded : AreLoaded (bond_of bonds) numbers c)
+      (firsts : pairs.first.now ≡ take (length numbers) c.first)
       (seconds : pairs.second.now ≡ take (length numbers) c.second) where
     pub taken_first : (j : ℕ) → j < length numbers → index_at pairs.first.now j ≡ (B j).a
     taken_first j p = ap (λ (xs : List ℕ). get_or xs j 0) firsts ∙ get_or-take (length numbers) c.first j 0 p ∙ loaded.first j p
@@ -67,17 +69,22 @@ module _ {bonds : Bonds} {numbers : List ℕ} {s : Stored} {t : Totals} (can : C
     pub are_pairs : ArePairs (length numbers) (length s.particles) pairs
     are_pairs = record {
       few = can.short;
-      first_long = ap (λ (xs : List ℕ). length xs) firsts ∙ omega (arith, length-take (length numbers) c.first, can.short, loaded.first_long);
-      second_long = ap (λ (xs : List ℕ). length xs) seconds ∙ omega (arith, length-take (length numbers) c.second, can.short, loaded.second_long);
+      first_long = ap (λ (xs : List ℕ). length xs) firsts ∙ omega
+          (arith, length-take (length numbers) c.first, can.short, loaded.first_long);
+      second_long = ap (λ (xs : List ℕ). length xs) seconds
+          ∙ omega (arith, length-take (length numbers) c.second, can.short, loaded.second_long);
       first = λ j p. omega (arith, taken_first j p, (can.batch.bond j p).first);
       second = λ j p. omega (arith, taken_second j p, (can.batch.bond j p).second);
     }
 
   -- what lies between the ends
-  module _ {firsts seconds : List ℕ} {between : Between} (is_first : (j : ℕ) → j < length numbers → index_at firsts j ≡ (B j).a) (is_second : (j : ℕ)
+  module _ {firsts seconds : List ℕ} {between : Between} (is_first : (j : ℕ) → j < length numbers → index_at firsts j ≡ (B j).a)
+      (is_second : (j : ℕ)
       → j < length numbers → index_at seconds j ≡ (B j).b) (told : AreBetween (length numbers) s.particles firsts seconds between) where
-    way_is : (j : ℕ) → j < length numbers → vector_of (row_in between.ways j) ≡ minus (particle_at s.particles (B j).a).at (particle_at s.particles (B j).b).at
-    way_is j p = (told.ways j p).0 ∙ (λ i. minus (particle_at s.particles (is_first j p i)).at (particle_at s.particles (is_second j p i)).at)
+    way_is : (j : ℕ) → j < length numbers → vector_of (row_in between.ways j)
+        ≡ minus (particle_at s.particles (B j).a).at (particle_at s.particles (B j).b).at
+    way_is j p = (told.ways j p).0 ∙ (λ i. minus (particle_at s.particles (is_first j p i)).at
+        (particle_at s.particles (is_second j p i)).at)
 
     first_is : (j : ℕ) → j < length numbers → number_in between.first_weight j ≡ pos (effective_weight (particle_at s.particles (B j).a))
     first_is j p = told.first_weights j p ∙ ap (λ i. pos (effective_weight (particle_at s.particles i))) (is_first j p)
@@ -94,7 +101,8 @@ module _ {bonds : Bonds} {numbers : List ℕ} {s : Stored} {t : Totals} (can : C
     light false w p = p
 
     light_weight : (i : ℕ) → i < length s.particles → pos (effective_weight (particle_at s.particles i)) ≤ℤ pos 65535
-    light_weight i p = let q = light (particle_at s.particles i).held (particle_at s.particles i).weight (can.weights.high i p) in omega (arith, ints, q)
+    light_weight i p = let q = light (particle_at s.particles i).held (particle_at s.particles i).weight (can.weights.high i p) in
+        omega (arith, ints, q)
 
     pub sized : AreSized (length numbers) between
     sized = record {
@@ -112,12 +120,16 @@ module _ {bonds : Bonds} {numbers : List ℕ} {s : Stored} {t : Totals} (can : C
     flag_case true w p = refl
     flag_case false w p = grind (arith, ints, p)
 
-    pub first_flag : (j : ℕ) → j < length numbers → int_le (number_in between.first_weight j) (pos 0) ≡ (particle_at s.particles (B j).a).held
-    first_flag j p = ap (λ (z : ℤ). int_le z (pos 0)) (first_is j p) ∙ flag_case (particle_at s.particles (B j).a).held (particle_at s.particles
+    pub first_flag : (j : ℕ) → j < length numbers → int_le (number_in between.first_weight j) (pos 0)
+        ≡ (particle_at s.particles (B j).a).held
+    first_flag j p = ap (λ (z : ℤ). int_le z (pos 0)) (first_is j p)
+        ∙ flag_case (particle_at s.particles (B j).a).held (particle_at s.particles
         (B j).a).weight (can.weights.low (B j).a (can.batch.bond j p).first)
 
-    pub second_flag : (j : ℕ) → j < length numbers → int_le (number_in between.second_weight j) (pos 0) ≡ (particle_at s.particles (B j).b).held
-    second_flag j p = ap (λ (z : ℤ). int_le z (pos 0)) (second_is j p) ∙ flag_case (particle_at s.particles (B j).b).held (particle_at s.particles
+    pub second_flag : (j : ℕ) → j < length numbers → int_le (number_in between.second_weight j) (pos 0)
+        ≡ (particle_at s.particles (B j).b).held
+    second_flag j p = ap (λ (z : ℤ). int_le z (pos 0)) (second_is j p)
+        ∙ flag_case (particle_at s.particles (B j).b).held (particle_at s.particles
         (B j).b).weight (can.weights.low (B j).b (can.batch.bond j p).second)
 
   -- no two ends are one particle
@@ -131,19 +143,26 @@ module _ {bonds : Bonds} {numbers : List ℕ} {s : Stored} {t : Totals} (can : C
     crossing : (j k : ℕ) → j < length numbers → k < length numbers → (B j).a ≡ (B k).b → ⊥
     crossing j k p q e = elim (cases_eq j k) [
       | inl s ↦ (can.batch.bond k q).different (ap (λ m. (B m).a) (sym s) ∙ e)
-      | inr d ↦ elim (cases_lt j k) [ inl l ↦ (can.batch.apart.each j k l q).ab e | inr l ↦ (can.batch.apart.each k j (omega (arith, d)) p).ba (sym e) ]
+      | inr d ↦ elim (cases_lt j k) [
+        | inl l ↦ (can.batch.apart.each j k l q).ab e
+        | inr l ↦
+            (can.batch.apart.each k j (omega (arith, d)) p).ba (sym e)
+      ]
     ]
 
 -- the ends by the columns of a chunk, and what the store tells of them
 pub found_by : {s : Stored} {t : Totals} {c : Columns} (found : Found) (can : CanProject 128 found.chunk.bonds found.chunk.numbers.now s t)
-    → AreLoaded (bond_of found.chunk.bonds) found.chunk.numbers.now c → found.pairs.first.now ≡ take (length found.chunk.numbers.now) c.first
+    → AreLoaded (bond_of found.chunk.bonds) found.chunk.numbers.now c
+    → found.pairs.first.now ≡ take (length found.chunk.numbers.now) c.first
     → found.pairs.second.now ≡ take (length found.chunk.numbers.now) c.second
-    → AreBetween (length found.pairs.first.now) s.particles found.pairs.first.now found.pairs.second.now found.between.now → IsFound s.particles found
+    → AreBetween (length found.pairs.first.now) s.particles found.pairs.first.now found.pairs.second.now found.between.now
+    → IsFound s.particles found
 found_by {s} {t} {c} found can loaded firsts seconds told =
     let pairs = are_pairs can c found.pairs loaded firsts seconds in
     record {
       first = taken_first can c found.pairs loaded firsts seconds;
       second = taken_second can c found.pairs loaded firsts seconds;
       pairs = pairs;
-      between = subst (λ (n : ℕ). AreBetween n s.particles found.pairs.first.now found.pairs.second.now found.between.now) pairs.first_long told;
+      between = subst (λ (n : ℕ). AreBetween n s.particles found.pairs.first.now found.pairs.second.now found.between.now) pairs.first_long
+          told;
     }

@@ -1,5 +1,6 @@
 -- What a correction makes of two particles and of the ledger.
-use Rattle.std.proofs.Common.{◌≡◌, ℕ, ◌<◌, ℤ, List, length, Bool, true, false, refl, ap, sym, ◌∙◌, arith, inl, inr, subst, unsigned_abs, Ok, Err}
+use Rattle.std.proofs.Common.{◌≡◌, ℕ, ◌<◌, ℤ, List, length, Bool, true, false, refl, ap, sym, ◌∙◌, arith, inl, inr, subst, unsigned_abs, Ok}
+use Rattle.std.proofs.Common.{Err}
 use Rattle.std.proofs.lemmas.Bool.{cases_eq}
 use Rattle.std.proofs.Math.Seq.{map-set_same}
 use Rattle.pbd_num.specs.declared.Vec3.{Vec3}
@@ -14,6 +15,7 @@ use Rattle.pbd_world.specs.Bonds.{corrected, entries_of, class_of}
 use Rattle.pbd_store.proofs.Scattering.{placed_same, placed_other, length-placed}
 use Rattle.pbd_pair.specs.Bonds.{IsSound}
 use Rattle.pbd_store.specs.Moving.{fixed_parts, AreInside}
+use Rattle.pbd_store.proofs.Parting.{placed_fixed}
 
 abbrev pub leaves_by : Correction → Bool
 leaves_by Slack = false
@@ -31,7 +33,11 @@ booked_by p q b Leaves t = t
 booked_by p q b (Moves s) t = booked t (entries_of p q (class_of b) s)
 
 pub corrected_stays : (n : ℕ) (b : Bond) (c : Correction) (m : Motion) → leaves_by c ≡ false → corrected n b c m ≡ Ok
-    (record { particles = placed_by m.particles b c; totals = booked_by (particle_at m.particles b.a).held (particle_at m.particles b.b).held b c m.totals })
+    (record {
+      particles = placed_by m.particles b c;
+      totals =
+          booked_by (particle_at m.particles b.a).held (particle_at m.particles b.b).held b c m.totals;
+    })
 corrected_stays n b Slack m e = refl
 corrected_stays n b Leaves m e = cc
 corrected_stays n b (Moves s) m e = refl
@@ -47,24 +53,24 @@ pub inside-placed : (limit : ℤ) (ps : List Particle) (i : ℕ) (v : Vec3) → 
     → AreInside limit (placed ps i v)
 inside-placed limit ps i v within h w = record {
   each = λ k p. elim (cases_eq k i) [
-    | inl e ↦ (let is : (particle_at (placed ps i v) k).at ≡ v = ap (λ m. (particle_at (placed ps i v) m).at) e ∙ ap (λ (q : Particle). q.at)
+    | inl e ↦ (let is : (particle_at (placed ps i v) k).at ≡ v = ap (λ m. (particle_at (placed ps i v) m).at) e
+        ∙ ap (λ (q : Particle). q.at)
         (placed_same ps i v within) in
         subst (λ x. Within (unsigned_abs limit) x) (sym is) w)
-    | inr n ↦ subst (λ (x : Particle). Within (unsigned_abs limit) x.at) (sym (placed_other ps i k v n)) (h.each k (omega (arith, length-placed ps i v)))
+    | inr n ↦ subst (λ (x : Particle). Within (unsigned_abs limit) x.at) (sym (placed_other ps i k v n))
+        (h.each k (omega (arith, length-placed ps i v)))
   ];
 }
-
-pub fixed_parts-placed : (ps : List Particle) (i : ℕ) (v : Vec3) → fixed_parts (placed ps i v) ≡ fixed_parts ps
-fixed_parts-placed ps i v = map-set_same (λ (p : Particle). record p { at = zero_vector }) ps i (record (particle_at ps i) { at = v }) no_particle refl
 
 pub inside-placed_by : (limit : ℤ) (ps : List Particle) (b : Bond) (c : Correction) → b.a < length ps → b.b < length ps → IsSound limit c
     → AreInside limit ps → AreInside limit (placed_by ps b c)
 inside-placed_by limit ps b Slack h k s i = i
 inside-placed_by limit ps b Leaves h k s i = i
-inside-placed_by limit ps b (Moves t) h k s i = inside-placed limit (placed ps b.a t.first) b.b t.second (omega (arith, length-placed ps b.a t.first))
+inside-placed_by limit ps b (Moves t) h k s i = inside-placed limit (placed ps b.a t.first) b.b t.second
+    (omega (arith, length-placed ps b.a t.first))
     (inside-placed limit ps b.a t.first h i s.first) s.second
 
 pub fixed-placed_by : (ps : List Particle) (b : Bond) (c : Correction) → fixed_parts (placed_by ps b c) ≡ fixed_parts ps
 fixed-placed_by ps b Slack = refl
 fixed-placed_by ps b Leaves = refl
-fixed-placed_by ps b (Moves t) = fixed_parts-placed (placed ps b.a t.first) b.b t.second ∙ fixed_parts-placed ps b.a t.first
+fixed-placed_by ps b (Moves t) = placed_fixed (placed ps b.a t.first) b.b t.second ∙ placed_fixed ps b.a t.first

@@ -1,5 +1,6 @@
 -- The moves of a bond by its reach, and numbers that fit 32 bits.
-use Rattle.std.proofs.Common.{◌≡◌, ◌<◌, ◌^◌, ℤ, pos, ◌*ℤ◌, ◌≤ℤ◌, ◌<ℤ◌, int_le, int_lt, w32, FitsSigned, Bool, true, false, ◌&&◌, cond, refl, sym, ◌∙◌, arith, subst}
+use Rattle.std.proofs.Common.{◌≡◌, ◌<◌, ◌^◌, ℤ, pos, ◌*ℤ◌, ◌≤ℤ◌, ◌<ℤ◌, int_le, int_lt, w32, FitsSigned, Bool, true, false, ◌&&◌, cond, refl}
+use Rattle.std.proofs.Common.{sym, ◌∙◌, arith, subst}
 use Rattle.std.proofs.lemmas.Int.{ints, fits_signed_from_abs}
 use Rattle.std.proofs.lemmas.Bool.{false≢true}
 use Rattle.pbd_num.proofs.Sizes.{size_at_most}
@@ -9,26 +10,26 @@ use Rattle.pbd_num.specs.PairMove.{pair_moves}
 use Rattle.pbd_world.specs.declared.bond.Bond.{Bond}
 use Rattle.pbd_pair.specs.Moves.{moves_by}
 use Rattle.pbd_pair.specs.Chunks.{reach_of, IsFactor}
+use Rattle.pbd_num.proofs.Tests.{beyond}
 
 at_least : (a b : ℤ) → int_le a b ≡ true → a ≤ℤ b
 at_least a b e = grind (arith, ints, e)
 
-below : (a b : ℤ) → int_le a b ≡ false → b <ℤ a
-below a b e = grind (arith, ints, e)
-
-reach_case : (contact slack : Bool) (rest len : ℤ) (m near : Vec3 × Vec3) → int_le rest len ≡ slack → len <ℤ pos (2 ^ 31) → (len <ℤ cond contact rest (pos
+reach_case : (contact slack : Bool) (rest len : ℤ) (m near : Vec3 × Vec3) → int_le rest len ≡ slack → len <ℤ pos (2 ^ 31)
+    → (len <ℤ cond contact rest (pos
     (2 ^ 31)) → m ≡ near) → (cond contact rest (pos (2 ^ 31)) ≤ℤ len → m ≡ (zero_vector, zero_vector)) → m ≡ cond (contact && slack)
     (zero_vector, zero_vector) near
 reach_case false slack rest len m near e short some none = some short
 reach_case true true rest len m near e short some none = none (at_least rest len e)
-reach_case true false rest len m near e short some none = some (below rest len e)
+reach_case true false rest len m near e short some none = some (beyond rest len e)
 
 pub moves_by_reach : (way : Vec3) (first second : ℤ) (b : Bond) (m : Vec3 × Vec3) (reach : ℤ) → reach ≡ reach_of b → length_of way < 2 ^ 31
     → (pos (length_of way) <ℤ reach → m ≡ pair_moves way zero_vector b.rest b.k first second) → (reach ≤ℤ pos (length_of way)
     → m ≡ (zero_vector, zero_vector)) → m ≡ moves_by way first second b
 unfolding moves_by
 moves_by_reach way first second b m reach e short some none =
-    reach_case b.contact (int_le b.rest (pos (length_of way))) b.rest (pos (length_of way)) m (pair_moves way zero_vector b.rest b.k first second) refl
+    reach_case b.contact (int_le b.rest (pos (length_of way))) b.rest (pos (length_of way)) m
+    (pair_moves way zero_vector b.rest b.k first second) refl
     (omega (arith, ints, short))
     (subst (λ (z : ℤ). pos (length_of way) <ℤ z → m ≡ pair_moves way zero_vector b.rest b.k first second) e some)
     (subst (λ (z : ℤ). z ≤ℤ pos (length_of way) → m ≡ (zero_vector, zero_vector)) e none)
@@ -45,10 +46,11 @@ alone_fits k low high = fits_signed_from_abs w32 (pos 2 *ℤ k) (omega (
   )),
 ))
 
-above : (w : ℤ) → pos 0 <ℤ w → int_lt (pos 0) w ≡ true
+pub above : (w : ℤ) → pos 0 <ℤ w → int_lt (pos 0) w ≡ true
 above w h = grind (arith, ints, h)
 
-pub alone_factor : (k first second : ℤ) → pos 0 ≤ℤ k → k ≤ℤ pos 256 → (int_lt (pos 0) first && int_lt (pos 0) second) ≡ false → IsFactor k first second
+pub alone_factor : (k first second : ℤ) → pos 0 ≤ℤ k → k ≤ℤ pos 256 → (int_lt (pos 0) first && int_lt (pos 0) second) ≡ false
+    → IsFactor k first second
     (pos 2 *ℤ k)
 alone_factor k first second low high apart =
     let never : pos 0 <ℤ first → pos 0 <ℤ second → ⊥ = λ a b. false≢true (sym apart ∙ (λ i. above first a i && above second b i)) in

@@ -1,5 +1,6 @@
 -- The tests say what a projector asks.
-use Rattle.std.proofs.Common.{◌≡◌, ℕ, zero, suc, ◌<◌, ◌^◌, ℤ, pos, ◌≤ℤ◌, ◌*ℤ◌, int_le, List, [], ◌∷◌, length, get_or, IsTrue, Bool, true, false, not, ◌&&◌, ◌==◌, nat_le, nat_lt, refl, sym, ◌∙◌, ap, arith}
+use Rattle.std.proofs.Common.{◌≡◌, ℕ, zero, suc, ◌<◌, ◌^◌, ℤ, pos, ◌≤ℤ◌, ◌*ℤ◌, int_le, List, [], ◌∷◌, length, get_or, IsTrue, Bool, true}
+use Rattle.std.proofs.Common.{false, not, ◌&&◌, ◌==◌, nat_le, nat_lt, refl, sym, ◌∙◌, ap, arith}
 use Rattle.std.specs.List.{list_all}
 use Rattle.std.proofs.lemmas.Bool.{leb-true, ltb-true, false≢true, eq-eqb}
 use Rattle.std.proofs.lemmas.Int.{ints}
@@ -14,22 +15,20 @@ use Rattle.pbd_pair.specs.Bonds.{bond_of, bond_count, IsDrawn, IsBond}
 use Rattle.pbd_store.specs.Moving.{AreInside, Weigh}
 use Rattle.pbd_pair.specs.Projecting.{ShareNone, IsBatch}
 use Rattle.pbd_pair.specs.Examples.{is_placed, is_drawn, is_bond, share_none, is_batch}
+use Rattle.pbd_num.proofs.Tests.{at_most}
 
-left : (a b : Bool) → IsTrue (a && b) → IsTrue a
+pub left : (a b : Bool) → IsTrue (a && b) → IsTrue a
 left true b h = refl
 left false b h = h
 
-right : (a b : Bool) → IsTrue (a && b) → IsTrue b
+pub right : (a b : Bool) → IsTrue (a && b) → IsTrue b
 right true b h = h
 right false b h = absurd (false≢true h)
-
-le_of : (a b : ℤ) → IsTrue (int_le a b) → a ≤ℤ b
-le_of a b h = grind (arith, ints, h)
 
 differ : (a b : ℕ) → IsTrue (not (a == b)) → a ≡ b → ⊥
 differ a b h e = false≢true (sym (ap not (eq-eqb a b e)) ∙ h)
 
-all_at : {A : Type 0} (p : A → Bool) (xs : List A) (d : A) (i : ℕ) → IsTrue (list_all p xs) → i < length xs → IsTrue (p (get_or xs i d))
+pub all_at : {A : Type 0} (p : A → Bool) (xs : List A) (d : A) (i : ℕ) → IsTrue (list_all p xs) → i < length xs → IsTrue (p (get_or xs i d))
 all_at p [] d i h q = absurd (omega arith)
 all_at p (x ∷ xs) d zero h q = left (p x) (list_all p xs) h
 all_at p (x ∷ xs) d (suc i) h q = all_at p xs d i (right (p x) (list_all p xs) h) (omega arith)
@@ -58,10 +57,11 @@ drawn limit b h =
     let h1 = right (int_le (pos 0) b.rest) (int_le b.rest (pos 4 *ℤ limit) && (int_le (pos 0) b.k && int_le b.k (pos 256))) h in
     let h2 = right (int_le b.rest (pos 4 *ℤ limit)) (int_le (pos 0) b.k && int_le b.k (pos 256)) h1 in
     record {
-      rest_low = le_of (pos 0) b.rest (left (int_le (pos 0) b.rest) (int_le b.rest (pos 4 *ℤ limit) && (int_le (pos 0) b.k && int_le b.k (pos 256))) h);
-      rest_high = le_of b.rest (pos 4 *ℤ limit) (left (int_le b.rest (pos 4 *ℤ limit)) (int_le (pos 0) b.k && int_le b.k (pos 256)) h1);
-      k_low = le_of (pos 0) b.k (left (int_le (pos 0) b.k) (int_le b.k (pos 256)) h2);
-      k_high = le_of b.k (pos 256) (right (int_le (pos 0) b.k) (int_le b.k (pos 256)) h2);
+      rest_low = at_most (pos 0) b.rest (left (int_le (pos 0) b.rest)
+          (int_le b.rest (pos 4 *ℤ limit) && (int_le (pos 0) b.k && int_le b.k (pos 256))) h);
+      rest_high = at_most b.rest (pos 4 *ℤ limit) (left (int_le b.rest (pos 4 *ℤ limit)) (int_le (pos 0) b.k && int_le b.k (pos 256)) h1);
+      k_low = at_most (pos 0) b.k (left (int_le (pos 0) b.k) (int_le b.k (pos 256)) h2);
+      k_high = at_most b.k (pos 256) (right (int_le (pos 0) b.k) (int_le b.k (pos 256)) h2);
     }
 
 bond_is : (limit : ℤ) (n : ℕ) (b : Bond) → IsTrue (is_bond limit n b) → IsBond limit n b
@@ -104,7 +104,8 @@ batch_is limit n bonds (x ∷ xs) h =
     (batch_is limit n bonds xs (right a r h2))
   where
     more : (limit : ℤ) (n : ℕ) (bonds : Bonds) (x : ℕ) (xs : List ℕ) → x < bond_count bonds → IsBond limit n (bond_of bonds x)
-        → IsTrue (list_all (λ y. share_none (bond_of bonds x) (bond_of bonds y)) xs) → IsBatch limit n bonds xs → IsBatch limit n bonds (x ∷ xs)
+        → IsTrue (list_all (λ y. share_none (bond_of bonds x) (bond_of bonds y)) xs) → IsBatch limit n bonds xs
+        → IsBatch limit n bonds (x ∷ xs)
     more limit n bonds x xs c b a r = record { numbers = numbers; bond = bond; apart = record { each = each } } where
       numbers : (i : ℕ) → i < length (x ∷ xs) → get_or (x ∷ xs) i 0 < bond_count bonds
       numbers zero q = c

@@ -1,5 +1,6 @@
 -- A row that isn't flagged, as the moves of its bond.
-use Rattle.std.proofs.Common.{◌≡◌, suc, zero, ◌+◌, ◌<◌, ℤ, pos, negsuc, ◌≤ℤ◌, ◌<ℤ◌, ◌*ℤ◌, int_lt, int_le, Bool, true, false, ◌&&◌, cond, refl, ap, sym, ◌∙◌, arith, inl, inr, unsigned_abs, ◌⊎◌}
+use Rattle.std.proofs.Common.{◌≡◌, suc, zero, ◌+◌, ◌<◌, ℤ, pos, negsuc, ◌≤ℤ◌, ◌<ℤ◌, ◌*ℤ◌, int_lt, int_le, Bool, true, false, ◌&&◌, cond}
+use Rattle.std.proofs.Common.{refl, ap, sym, ◌∙◌, arith, inl, inr, unsigned_abs, ◌⊎◌}
 use Rattle.std.proofs.lemmas.Int.{ints}
 use Rattle.pbd_num.specs.declared.Vec3.{Vec3}
 use Rattle.pbd_num.specs.declared.row.Row.{Row}
@@ -12,9 +13,7 @@ use Rattle.pbd_world.specs.declared.bond.Bond.{Bond}
 use Rattle.pbd_near.specs.Moves.{IsPulled}
 use Rattle.pbd_pair.specs.Moves.{moves_by}
 use Rattle.pbd_pair.specs.Chunks.{kept_by, HoldsRest, HoldsStiffness, IsFactor, IsNear}
-
-above : (w : ℤ) → pos 0 <ℤ w → int_lt (pos 0) w ≡ true
-above w h = grind (arith, ints, h)
+use Rattle.pbd_pair.proofs.Exact.{above}
 
 not_above : (w : ℤ) → w ≤ℤ pos 0 → int_lt (pos 0) w ≡ false
 not_above w h = grind (arith, ints, h)
@@ -30,8 +29,10 @@ kept_still true row e = e
 kept_still false row e = refl
 
 -- the moves of ends of even weights
-along_moves : (way parts move_a move_b : Vec3) (rest first second k f : ℤ) → 0 < length_of way → Even first second k f → parts ≡ parts_of way (pos
-    (length_of way)) rest f → (pos 0 <ℤ first → move_a ≡ opposite parts) → (first ≤ℤ pos 0 → move_a ≡ zero_vector) → (pos 0 <ℤ second → move_b ≡ parts)
+along_moves : (way parts move_a move_b : Vec3) (rest first second k f : ℤ) → 0 < length_of way → Even first second k f
+    → parts ≡ parts_of way (pos
+    (length_of way)) rest f → (pos 0 <ℤ first → move_a ≡ opposite parts) → (first ≤ℤ pos 0 → move_a ≡ zero_vector)
+    → (pos 0 <ℤ second → move_b ≡ parts)
     → (second ≤ℤ pos 0 → move_b ≡ zero_vector) → (move_a, move_b) ≡ pair_moves way zero_vector rest k first second
 along_moves way parts move_a move_b rest first second k f some even is free_a held_a free_b held_b =
     both_moves way parts (opposite parts) move_a move_b (pos (length_of way)) rest first second k f refl (omega (
@@ -49,7 +50,8 @@ weightless (pos zero) h = inl refl
 weightless (pos (suc n)) h = inr (omega (arith, ints))
 weightless (negsuc n) h = absurd (omega (arith, ints))
 
-module _ (way : Vec3) (first second : ℤ) (row : Row) (first_low : pos 0 ≤ℤ first) (second_low : pos 0 ≤ℤ second) (some : 0 < length_of way) where
+module _ (way : Vec3) (first second : ℤ) (row : Row) (first_low : pos 0 ≤ℤ first) (second_low : pos 0 ≤ℤ second)
+    (some : 0 < length_of way) where
   held_both : (rest k : ℤ) → first ≡ pos 0 → second ≡ pos 0 → pair_moves way zero_vector rest k first second ≡ (
     opposite (vector_of (kept_by first row)),
     vector_of (kept_by second row),
@@ -57,11 +59,16 @@ module _ (way : Vec3) (first second : ℤ) (row : Row) (first_low : pos 0 ≤ℤ
   held_both rest k e f =
       let none : unsigned_abs first + unsigned_abs second ≡ 0 = (λ i. unsigned_abs (e i) + unsigned_abs (f i)) in
       pair_moves-none way zero_vector rest k first second (inr none)
-      ∙ sym (λ i. (opposite (vector_of (kept_none first row (omega (arith, ints, e)) i)), vector_of (kept_none second row (omega (arith, ints, f)) i)))
+      ∙ sym (λ i. (
+        opposite (vector_of (kept_none first row (omega (arith, ints, e)) i)),
+        vector_of (kept_none second row (omega (arith, ints, f)) i),
+      ))
 
-  held_one : (rest k f : ℤ) → 0 < unsigned_abs first + unsigned_abs second → (pos 0 <ℤ first → pos 0 <ℤ second → first ≡ second) → (pos 0 <ℤ first
+  held_one : (rest k f : ℤ) → 0 < unsigned_abs first + unsigned_abs second → (pos 0 <ℤ first → pos 0 <ℤ second → first ≡ second)
+      → (pos 0 <ℤ first
       → pos 0 <ℤ second → f ≡ k) → (second ≡ pos 0 → f ≡ pos 2 *ℤ k) → (first ≡ pos 0 → f ≡ pos 2 *ℤ k) → vector_of row ≡ scaled f (pos 512)
-      (corrections way rest) → pair_moves way zero_vector rest k first second ≡ (opposite (vector_of (kept_by first row)), vector_of (kept_by second row))
+      (corrections way rest) → pair_moves way zero_vector rest k first second
+      ≡ (opposite (vector_of (kept_by first row)), vector_of (kept_by second row))
   held_one rest k f weighs even both by_first by_second is =
       let w : Even first second k f = record {
         first_low = first_low;
@@ -72,13 +79,15 @@ module _ (way : Vec3) (first second : ℤ) (row : Row) (first_low : pos 0 ≤ℤ
         by_first = by_first;
         by_second = by_second;
       } in
-      sym (along_moves way (vector_of row) (opposite (vector_of (kept_by first row))) (vector_of (kept_by second row)) rest first second k f some w is
+      sym (along_moves way (vector_of row) (opposite (vector_of (kept_by first row)))
+      (vector_of (kept_by second row)) rest first second k f some w is
       (λ h. ap (λ (r : Row). opposite (vector_of r)) (kept_some first row h))
       (λ h. ap (λ (r : Row). opposite (vector_of r)) (kept_none first row h))
       (λ h. ap vector_of (kept_some second row h))
       (λ h. ap vector_of (kept_none second row h)))
 
-  moves_case : (slack : Bool) (rest k f : ℤ) → (pos 0 <ℤ first → pos 0 <ℤ second → first ≡ second) → (pos 0 <ℤ first → pos 0 <ℤ second → f ≡ k)
+  moves_case : (slack : Bool) (rest k f : ℤ) → (pos 0 <ℤ first → pos 0 <ℤ second → first ≡ second)
+      → (pos 0 <ℤ first → pos 0 <ℤ second → f ≡ k)
       → (second ≡ pos 0 → f ≡ pos 2 *ℤ k) → (first ≡ pos 0 → f ≡ pos 2 *ℤ k) → vector_of row ≡ scaled (cond slack (pos 0) f) (pos 512)
       (corrections way rest) → cond slack (zero_vector, zero_vector) (pair_moves way zero_vector rest k first second) ≡ (
         opposite (vector_of
@@ -97,7 +106,8 @@ module _ (way : Vec3) (first second : ℤ) (row : Row) (first_low : pos 0 ≤ℤ
   ]
 
 pub near_moves : (way : Vec3) (first second : ℤ) (b : Bond) (row : Row) (rest k f : ℤ) (contact : Bool) → pos 0 ≤ℤ first → pos 0 ≤ℤ second
-    → HoldsRest b rest → HoldsStiffness b k → IsFactor k first second f → b.contact ≡ contact → row.flag ≡ pos 0 → IsPulled way rest f contact
+    → HoldsRest b rest → HoldsStiffness b k → IsFactor k first second f → b.contact ≡ contact → row.flag ≡ pos 0
+    → IsPulled way rest f contact
     (vector_of row) → IsNear way first second b row
 unfolding moves_by
 near_moves way first second b row rest k f contact first_low second_low r s factor kind flag pulled =
@@ -107,7 +117,8 @@ near_moves way first second b row rest k f contact first_low second_low r s fact
     let k_is : k ≡ b.k = s.value short in
     let slack : Bool = b.contact && int_le b.rest (pos (length_of way)) in
     let told : vector_of row ≡ scaled (cond slack (pos 0) f) (pos 512) (corrections way rest) =
-    pulled.value ∙ (λ i. scaled (cond (sym kind i && int_le (rest_is i) (pos (length_of way))) (pos 0) f) (pos 512) (corrections way rest)) in
+    pulled.value ∙ (λ i. scaled (cond (sym kind i && int_le (rest_is i) (pos (length_of way))) (pos 0) f) (pos 512) (corrections way rest))
+    in
     record {
       flag = flag;
       size = pulled.size;

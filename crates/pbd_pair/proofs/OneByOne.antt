@@ -1,5 +1,6 @@
 -- A batch from one of its bonds on.
-use Rattle.std.proofs.Common.{◌≡◌, ℕ, suc, ◌+◌, ◌<◌, ℤ, List, length, get_or, ◌∷◌, ◌++◌, [], drop, take, drop-cons, add-one, refl, ap, sym, ◌∙◌, Result, Ok, Err}
+use Rattle.std.proofs.Common.{◌≡◌, ℕ, suc, ◌+◌, ◌<◌, ℤ, List, length, get_or, ◌∷◌, ◌++◌, [], drop, take, drop-cons, add-one, refl, ap, sym}
+use Rattle.std.proofs.Common.{◌∙◌, Result, Ok, Err}
 use Rattle.std.proofs.lemmas.List.{take-append-drop}
 use Rattle.pbd_world.specs.declared.bond.Bond.{Bond}
 use Rattle.pbd_world.specs.Outcomes.{◌>>=◌, in_turn}
@@ -7,11 +8,13 @@ use Rattle.pbd_world.specs.Particles.{Motion}
 use Rattle.pbd_world.specs.Bonds.{corrected, correction_at, one, projected}
 
 module _ (limit : ℤ) (bond : ℕ → Bond) (batch : List ℕ) (i : ℕ) (h : i < length batch) where
-  next : (m : Motion) → projected limit bond (drop i batch) m ≡ (one limit bond (get_or batch i 0) m >>= projected limit bond (drop (suc i) batch))
+  next : (m : Motion) → projected limit bond (drop i batch) m
+      ≡ (one limit bond (get_or batch i 0) m >>= projected limit bond (drop (suc i) batch))
   next m = ap (λ (b : List ℕ). projected limit bond b m) (drop-cons batch i 0 h)
 
   -- where the bond stays
-  pub turn_on : (m m' : Motion) → one limit bond (get_or batch i 0) m ≡ Ok m' → projected limit bond (drop (i + 1) batch) m' ≡ projected limit bond
+  pub turn_on : (m m' : Motion) → one limit bond (get_or batch i 0) m ≡ Ok m'
+      → projected limit bond (drop (i + 1) batch) m' ≡ projected limit bond
       (drop i batch) m
   turn_on m m' e = ap (λ (k : ℕ). projected limit bond (drop k batch) m') (add-one i) ∙ sym (next m
       ∙ ap (λ (r : Result Motion ℕ). r >>= projected limit bond (drop (suc i) batch)) e)
@@ -29,7 +32,8 @@ one_is limit bond n b m r el eb h = (λ i. corrected n (sym eb i) (correction_at
 -- ---- a batch in two parts
 
 -- one list of items after another
-pub in_turn-append : {A S E : Type 0} (f : A → S → Result S E) (xs ys : List A) (s : S) → in_turn f (xs ++ ys) s ≡ (in_turn f xs s >>= in_turn f ys)
+pub in_turn-append : {A S E : Type 0} (f : A → S → Result S E) (xs ys : List A) (s : S)
+    → in_turn f (xs ++ ys) s ≡ (in_turn f xs s >>= in_turn f ys)
 in_turn-append f [] ys s = refl
 in_turn-append {A} {S} {E} f (x ∷ xs) ys s = after (λ t. in_turn-append f xs ys t) (f x s) where
   after : ((t : S) → in_turn f (xs ++ ys) t ≡ (in_turn f xs t >>= in_turn f ys)) → (r : Result S E) → (r >>= in_turn f (xs ++ ys)) ≡
@@ -39,10 +43,12 @@ in_turn-append {A} {S} {E} f (x ∷ xs) ys s = after (λ t. in_turn-append f xs 
 
 parted : (limit : ℤ) (bond : ℕ → Bond) (k : ℕ) (xs : List ℕ) (m : Motion) → projected limit bond xs m ≡ (projected limit bond
     (take k xs) m >>= projected limit bond (drop k xs))
-parted limit bond k xs m = sym (ap (λ (b : List ℕ). projected limit bond b m) (take-append-drop k xs)) ∙ in_turn-append (one limit bond) (take k xs)
+parted limit bond k xs m = sym (ap (λ (b : List ℕ). projected limit bond b m) (take-append-drop k xs))
+    ∙ in_turn-append (one limit bond) (take k xs)
     (drop k xs) m
 
-pub block_done : (limit : ℤ) (bond : ℕ → Bond) (k : ℕ) (xs : List ℕ) (m m' : Motion) → projected limit bond (take k xs) m ≡ Ok m' → projected limit bond
+pub block_done : (limit : ℤ) (bond : ℕ → Bond) (k : ℕ) (xs : List ℕ) (m m' : Motion) → projected limit bond (take k xs) m ≡ Ok m'
+    → projected limit bond
     (drop k xs) m' ≡ projected limit bond xs m
 block_done limit bond k xs m m' e = sym (parted limit bond k xs m ∙ ap (λ (r : Result Motion ℕ). r >>= projected limit bond (drop k xs)) e)
 

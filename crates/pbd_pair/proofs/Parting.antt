@@ -1,5 +1,6 @@
 -- Bonds without a common particle whose ends have moved side by side: that is what they come to one by one.
-use Rattle.std.proofs.Common.{◌≡◌, ℕ, zero, suc, ◌<◌, ◌⊎◌, ℤ, pos, ◌≤ℤ◌, List, length, get_or, unsigned_abs, Bool, true, false, not, refl, ap, sym, ◌∙◌, arith, inl, inr, subst, Ok, Err}
+use Rattle.std.proofs.Common.{◌≡◌, ℕ, zero, suc, ◌<◌, ◌⊎◌, ℤ, pos, ◌≤ℤ◌, List, length, get_or, unsigned_abs, Bool, true, false, not, refl}
+use Rattle.std.proofs.Common.{ap, sym, ◌∙◌, arith, inl, inr, subst, Ok, Err}
 use Rattle.std.proofs.lemmas.Bool.{cases_eq, and_parts}
 use Rattle.std.proofs.lemmas.List.{ext_get_or}
 use Rattle.pbd_num.specs.declared.Vec3.{Vec3}
@@ -38,8 +39,10 @@ find_below f i (suc n) = elim (cases_eq (f n) i) [
   ]
 ]
 
-module _ (limit : ℤ) (bond : ℕ → Bond) (block : List ℕ) (ps : List Particle) (bound : pos 0 ≤ℤ limit) (inside : AreInside limit ps) (bonds : (k : ℕ)
-    → k < length block → IsBond limit (length ps) (nth bond block k)) (apart : (i k : ℕ) → i < k → k < length block → ShareNone (nth bond block i)
+module _ (limit : ℤ) (bond : ℕ → Bond) (block : List ℕ) (ps : List Particle) (bound : pos 0 ≤ℤ limit) (inside : AreInside limit ps)
+    (bonds : (k : ℕ)
+    → k < length block → IsBond limit (length ps) (nth bond block k))
+    (apart : (i k : ℕ) → i < k → k < length block → ShareNone (nth bond block i)
     (nth bond block k)) where
   abbrev B : ℕ → Bond
   B k = nth bond block k
@@ -48,24 +51,30 @@ module _ (limit : ℤ) (bond : ℕ → Bond) (block : List ℕ) (ps : List Parti
   starts_within i h = (within_facts limit (particle_at ps i).at bound).1 (inside.each i h)
 
   goes : (k : ℕ) → k < length block → (w : Bool) → stay_at limit ps (B k) ≡ w → leaves_by (correction_at limit ps (B k)) ≡ not w
-  goes k h w e = leaves_moving limit (end_of (particle_at ps (B k).a)) (end_of (particle_at ps (B k).b)) (B k) (starts_within (B k).a (bonds k h).first)
+  goes k h w e = leaves_moving limit (end_of (particle_at ps (B k).a)) (end_of (particle_at ps (B k).b)) (B k)
+      (starts_within (B k).a (bonds k h).first)
       (starts_within (B k).b (bonds k h).second) ∙ ap not e
 
   adds : (u : Ledger) (k : ℕ) → k < length block → leaves_by (correction_at limit ps (B k)) ≡ false → (t : Ledger) → booked t (entries_at ps
       (B k)) ≡ books limit bond block (record { particles = ps; totals = u }) bonds apart k t
-  adds u k h e t = books_moving limit (end_of (particle_at ps (B k).a)) (end_of (particle_at ps (B k).b)) (B k) (particle_at ps (B k).a).held
+  adds u k h e t = books_moving limit (end_of (particle_at ps (B k).a)) (end_of (particle_at ps (B k).b)) (B k)
+      (particle_at ps (B k).a).held
       (particle_at ps (B k).b).held _ t refl refl e
 
   -- the first that leaves
-  pub chunk_leaves : (u : Ledger) (j : ℕ) → j < length block → ((k : ℕ) → k < j → stay_at limit ps (B k) ≡ true) → stay_at limit ps (B j) ≡ false
+  pub chunk_leaves : (u : Ledger) (j : ℕ) → j < length block → ((k : ℕ) → k < j → stay_at limit ps (B k) ≡ true)
+      → stay_at limit ps (B j) ≡ false
       → projected limit bond block (record { particles = ps; totals = u }) ≡ Err (get_or block j 0)
   chunk_leaves u j h stays leaves =
-      reached_leaves limit bond block (record { particles = ps; totals = u }) bonds apart (λ k. entries_at ps (B k)) (adds u) j h (λ k p. goes k
+      reached_leaves limit bond block (record { particles = ps; totals = u }) bonds apart (λ k. entries_at ps (B k)) (adds u) j h
+      (λ k p. goes k
       (omega arith) true (stays k p)) (goes j h false leaves)
 
-  module _ (firsts seconds : List ℕ) (is_first : (k : ℕ) → k < length block → index_at firsts k ≡ (B k).a) (is_second : (k : ℕ) → k < length block
+  module _ (firsts seconds : List ℕ) (is_first : (k : ℕ) → k < length block → index_at firsts k ≡ (B k).a)
+      (is_second : (k : ℕ) → k < length block
       → index_at seconds k ≡ (B k).b) (f s : ℕ → Vec3) (is_f : (k : ℕ) → k < length block → f k ≡ (moves_at ps (B k)).0) (is_s : (k : ℕ)
-      → k < length block → s k ≡ (moves_at ps (B k)).1) (stays : (k : ℕ) → k < length block → stay_at limit ps (B k) ≡ true) (new : List Particle)
+      → k < length block → s k ≡ (moves_at ps (B k)).1) (stays : (k : ℕ) → k < length block → stay_at limit ps (B k) ≡ true)
+      (new : List Particle)
       (p : Parted (length block) firsts seconds f s ps new) where
     abbrev by : ℕ → Vec3 → Particle
     by i v = record (particle_at ps i) { at = plus (particle_at ps i).at v }
@@ -76,11 +85,14 @@ module _ (limit : ℤ) (bond : ℕ → Bond) (block : List ℕ) (ps : List Parti
     new_second : (k : ℕ) → k < length block → particle_at new (B k).b ≡ by (B k).b (moves_at ps (B k)).1
     new_second k h = subst (λ (i : ℕ). particle_at new i ≡ by i (s k)) (is_second k h) (p.seconds k h) ∙ ap (by (B k).b) (is_s k h)
 
-    new_other : (i : ℕ) → ((k : ℕ) → k < length block → (B k).a ≡ i → ⊥) → ((k : ℕ) → k < length block → (B k).b ≡ i → ⊥) → particle_at new i ≡ particle_at ps i
-    new_other i not_first not_second = p.others i (λ k h e. not_first k h (sym (is_first k h) ∙ e)) (λ k h e. not_second k h (sym (is_second k h) ∙ e))
+    new_other : (i : ℕ) → ((k : ℕ) → k < length block → (B k).a ≡ i → ⊥) → ((k : ℕ) → k < length block → (B k).b ≡ i → ⊥)
+        → particle_at new i ≡ particle_at ps i
+    new_other i not_first not_second = p.others i (λ k h e. not_first k h (sym (is_first k h) ∙ e))
+        (λ k h e. not_second k h (sym (is_second k h) ∙ e))
 
     -- what holds of each particle, moved or not
-    each_new : (P : ℕ → Particle → Type 0) → ((k : ℕ) → k < length block → P (B k).a (by (B k).a (moves_at ps (B k)).0)) → ((k : ℕ) → k < length block
+    each_new : (P : ℕ → Particle → Type 0) → ((k : ℕ) → k < length block → P (B k).a (by (B k).a (moves_at ps (B k)).0))
+        → ((k : ℕ) → k < length block
         → P (B k).b (by (B k).b (moves_at ps (B k)).1)) → ((i : ℕ) → ((k : ℕ) → k < length block → ((B k).a ≡ i → ⊥) × ((B k).b ≡ i → ⊥))
         → P i (particle_at ps i)) → (i : ℕ) → P i (particle_at new i)
     each_new P first second other i = elim (find_below (λ k. (B k).a) i (length block)) [
@@ -91,7 +103,8 @@ module _ (limit : ℤ) (bond : ℕ → Bond) (block : List ℕ) (ps : List Parti
       ]
     ]
 
-    within_new : (k : ℕ) → k < length block → (Within (unsigned_abs limit) (plus (particle_at ps (B k).a).at (moves_at ps (B k)).0)) × (Within
+    within_new : (k : ℕ) → k < length block → (Within (unsigned_abs limit) (plus (particle_at ps (B k).a).at (moves_at ps (B k)).0))
+        × (Within
         (unsigned_abs limit) (plus (particle_at ps (B k).b).at (moves_at ps (B k)).1))
     within_new k h =
         let both = and_parts _ _ (stays k h) in (

@@ -1,5 +1,6 @@
 -- What bonds add to the ledger whose free ends move oppositely: the moves beside held ends alone.
-use Rattle.std.proofs.Common.{◌≡◌, ℕ, zero, suc, ◌+◌, ◌<◌, ◌^◌, ℤ, pos, neg_ℤ, ◌+ℤ◌, ◌-ℤ◌, List, Bool, true, false, refl, ap, sym, ◌∙◌, arith}
+use Rattle.std.proofs.Common.{◌≡◌, ℕ, zero, suc, ◌+◌, ◌<◌, ◌^◌, ℤ, pos, neg_ℤ, ◌+ℤ◌, ◌-ℤ◌, List, Bool, true, false, refl, ap, sym, ◌∙◌}
+use Rattle.std.proofs.Common.{arith}
 use Rattle.std.proofs.lemmas.Int.{ints}
 use Rattle.pbd_num.specs.declared.Vec3.{Vec3}
 use Rattle.pbd_num.specs.Vectors.{Within, plus, minus, opposite, zero_vector}
@@ -12,18 +13,16 @@ use Rattle.pbd_world.specs.Ledger.{Sum, Ledger, Entry, sum_plus, added, booked}
 use Rattle.pbd_world.specs.Bonds.{entries_of}
 use Rattle.pbd_pair.specs.Moves.{settled, moved_below}
 use Rattle.pbd_pair.proofs.ByWay.{added_nothing}
+use Rattle.pbd_world.proofs.KeptLemmas.{back_again}
 
 then_both : (s v w : ℤ) → (s +ℤ v) +ℤ w ≡ s +ℤ (v +ℤ w)
 then_both s v w = omega (arith, ints)
-
-none_left : (s v : ℤ) → (s +ℤ neg_ℤ v) +ℤ v ≡ s
-none_left s v = omega (arith, ints)
 
 sum_then : (s : Sum) (v w : Vec3) → sum_plus (sum_plus s v) w ≡ sum_plus s (plus v w)
 sum_then s v w = λ i. record { x = then_both s.x v.x w.x i; y = then_both s.y v.y w.y i; z = then_both s.z v.z w.z i }
 
 sum_left : (s : Sum) (v : Vec3) → sum_plus (sum_plus s (opposite v)) v ≡ s
-sum_left s v = λ i. record { x = none_left s.x v.x i; y = none_left s.y v.y i; z = none_left s.z v.z i }
+sum_left s v = λ i. record { x = back_again s.x v.x i; y = back_again s.y v.y i; z = back_again s.z v.z i }
 
 -- opposite moves of one class
 nothing_left : (t : Ledger) (class : Class) (v : Vec3) → added (added t class (opposite v)) class v ≡ t
@@ -78,22 +77,26 @@ pinned_then : (t : Ledger) (s v : Vec3) → added (pinned t s) classes.Pin v ≡
 pinned_then t s v = ap (λ (x : Sum). record t { pin = x }) (sum_then t.pin s v)
 
 -- one bond
-pinned_more : (t : Ledger) (s : Vec3) (class : Class) (p q : Bool) (m : Shift) → Opposed p q m → booked (pinned t s) (entries_of p q class m) ≡ pinned t
+pinned_more : (t : Ledger) (s : Vec3) (class : Class) (p q : Bool) (m : Shift) → Opposed p q m
+    → booked (pinned t s) (entries_of p q class m) ≡ pinned t
     (plus s (plus m.first_move m.second_move))
 pinned_more t s class false false m h =
     let e = h.both refl refl in
     ap (λ (v : Vec3). added (added (pinned t s) class v) class m.second_move) e ∙ nothing_left (pinned t s) class m.second_move
     ∙ ap (pinned t) (sym (ap (λ (v : Vec3). plus s (plus v m.second_move)) e ∙ plus_opposite s m.second_move))
 pinned_more t s class false true m h =
-    pinned_then t s m.first_move ∙ ap (pinned t) (sym (ap (λ (v : Vec3). plus s (plus m.first_move v)) (h.second refl) ∙ first_alone s m.first_move))
+    pinned_then t s m.first_move ∙ ap (pinned t) (sym (ap (λ (v : Vec3). plus s (plus m.first_move v)) (h.second refl)
+    ∙ first_alone s m.first_move))
 pinned_more t s class true false m h =
-    pinned_then t s m.second_move ∙ ap (pinned t) (sym (ap (λ (v : Vec3). plus s (plus v m.second_move)) (h.first refl) ∙ second_alone s m.second_move))
+    pinned_then t s m.second_move ∙ ap (pinned t) (sym (ap (λ (v : Vec3). plus s (plus v m.second_move)) (h.first refl)
+    ∙ second_alone s m.second_move))
 pinned_more t s class true true m h =
     ap (pinned t) (sym ((λ i. plus s (plus (h.first refl i) (h.second refl i))) ∙ both_none s))
 
 -- all of them
 pub pinned_all : (t : Ledger) (class : ℕ → Class) (p q : ℕ → Bool) (m : ℕ → Shift) (n : ℕ) → ((k : ℕ) → k < n → Opposed (p k) (q k) (m k))
-    → settled (λ k. entries_of (p k) (q k) (class k) (m k)) n t ≡ added t classes.Pin (moved_below (λ k. plus (m k).first_move (m k).second_move) n)
+    → settled (λ k. entries_of (p k) (q k) (class k) (m k)) n t
+    ≡ added t classes.Pin (moved_below (λ k. plus (m k).first_move (m k).second_move) n)
 pinned_all t class p q m zero o = sym (added_nothing t classes.Pin)
 pinned_all t class p q m (suc n) o =
     ap (λ (u : Ledger). booked u (entries_of (p n) (q n) (class n) (m n))) (pinned_all t class p q m n (λ k l. o k (omega arith)))

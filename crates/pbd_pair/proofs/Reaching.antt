@@ -1,5 +1,6 @@
 -- How far the bonds of a chunk have come.
-use Rattle.std.proofs.Common.{◌≡◌, ℕ, zero, suc, ◌+◌, ◌<◌, ◌≤◌, ℤ, List, length, get_or, drop, Bool, true, false, refl, ap, sym, ◌∙◌, arith, subst, Ok, Err}
+use Rattle.std.proofs.Common.{◌≡◌, ℕ, zero, suc, ◌+◌, ◌<◌, ◌≤◌, ℤ, List, length, get_or, drop, Bool, true, false, refl, ap, sym, ◌∙◌, arith}
+use Rattle.std.proofs.Common.{subst, Ok, Err}
 use Rattle.std.proofs.lemmas.List.{drop_all}
 use Rattle.pbd_world.specs.declared.parts.Particle.{Particle}
 use Rattle.pbd_world.specs.declared.bond.Bond.{Bond}
@@ -33,7 +34,8 @@ module _ (limit : ℤ) (bond : ℕ → Bond) (block : List ℕ) (m : Motion) (bo
 
   -- what bond k adds to a ledger
   abbrev pub books : ℕ → Ledger → Ledger
-  books k u = booked_by (particle_at m.particles (nth bond block k).a).held (particle_at m.particles (nth bond block k).b).held (nth bond block k)
+  books k u = booked_by (particle_at m.particles (nth bond block k).a).held (particle_at m.particles (nth bond block k).b).held
+      (nth bond block k)
       (correction_at limit m.particles (nth bond block k)) u
 
   reached_more : (j : ℕ) (t t' : Ledger) → j < length block → Reached limit bond block j m t → leaving j ≡ false → t' ≡ books j t
@@ -42,17 +44,21 @@ module _ (limit : ℤ) (bond : ℕ → Bond) (block : List ℕ) (m : Motion) (bo
       let b = nth bond block j in
       let c = correction_at limit m.particles b in
       let now : Motion = record { particles = r.qs; totals = t } in
-      let same_c : correction_at limit r.qs b ≡ c = correction_same limit (nth bond block) (length block) m.particles bonds apart j r.qs h r.together in
+      let same_c : correction_at limit r.qs b ≡ c = correction_same limit (nth bond block)
+      (length block) m.particles bonds apart j r.qs h r.together in
       let goes : leaves_by (correction_at limit r.qs b) ≡ false = ap leaves_by same_c ∙ stays in
       let ledger : booked_by (particle_at r.qs b.a).held (particle_at r.qs b.b).held b (correction_at limit r.qs b) t ≡ t' = held_same limit
       (nth bond block) (length block) m.particles bonds apart j r.qs t h r.together ∙ sym et in
       let then : Motion = record { particles = placed_by r.qs b c; totals = t' } in
-      let did : one limit bond (get_or block j 0) now ≡ Ok then = one_is limit bond (get_or block j 0) b now (Ok then) refl refl (corrected_stays
-      (get_or block j 0) b (correction_at limit r.qs b) now goes ∙ (λ i. Ok (record { particles = placed_by r.qs b (same_c i); totals = ledger i }))) in
+      let did : one limit bond (get_or block j 0) now ≡ Ok then
+      = one_is limit bond (get_or block j 0) b now (Ok then) refl refl (corrected_stays
+      (get_or block j 0) b (correction_at limit r.qs b) now goes
+      ∙ (λ i. Ok (record { particles = placed_by r.qs b (same_c i); totals = ledger i }))) in
       let next : j + 1 ≡ suc j = omega arith in
       record {
         qs = placed_by r.qs b c;
-        together = subst (λ (k : ℕ). Together limit (nth bond block) k m.particles (placed_by r.qs b c)) next (together_more limit (nth bond block)
+        together = subst (λ (k : ℕ). Together limit (nth bond block) k m.particles (placed_by r.qs b c)) next
+            (together_more limit (nth bond block)
             (length block) m.particles bonds apart j r.qs h r.together);
         same = subst (λ (k : ℕ). projected limit bond (drop k block) then ≡ projected limit bond (drop j block) now) next
             (turn_on limit bond block j h now then did) ∙ r.same;
@@ -60,26 +66,37 @@ module _ (limit : ℤ) (bond : ℕ → Bond) (block : List ℕ) (m : Motion) (bo
       }
 
   -- as far as none leaves, with entries that are what the bonds add
-  pub reached : (entries : ℕ → List Entry) → ((k : ℕ) → k < length block → leaving k ≡ false → (u : Ledger) → booked u (entries k) ≡ books k u) → (j : ℕ)
+  pub reached : (entries : ℕ → List Entry) → ((k : ℕ) → k < length block → leaving k ≡ false → (u : Ledger)
+      → booked u (entries k) ≡ books k u) → (j : ℕ)
       → j ≤ length block → ((k : ℕ) → k < j → leaving k ≡ false) → Reached limit bond block j m (settled entries j m.totals)
-  reached entries adds zero h stays = record { qs = m.particles; together = together_none limit (nth bond block) m.particles; same = refl; fixed = refl }
+  reached entries adds zero h stays = record {
+    qs = m.particles;
+    together = together_none limit (nth bond block) m.particles;
+    same = refl;
+    fixed = refl;
+  }
   reached entries adds (suc j) h stays = reached_more j (settled entries j m.totals) (settled entries (suc j) m.totals) (omega arith)
-      (reached entries adds j (omega arith) (λ k p. stays k (omega arith))) (stays j (omega arith)) (adds j (omega arith) (stays j (omega arith))
+      (reached entries adds j (omega arith) (λ k p. stays k (omega arith))) (stays j (omega arith))
+      (adds j (omega arith) (stays j (omega arith))
       (settled entries j m.totals))
 
   -- the first that leaves
-  pub reached_leaves : (entries : ℕ → List Entry) → ((k : ℕ) → k < length block → leaving k ≡ false → (u : Ledger) → booked u (entries k) ≡ books k u)
-      → (j : ℕ) → j < length block → ((k : ℕ) → k < j → leaving k ≡ false) → leaving j ≡ true → projected limit bond block m ≡ Err (get_or block j 0)
+  pub reached_leaves : (entries : ℕ → List Entry) → ((k : ℕ) → k < length block → leaving k ≡ false → (u : Ledger)
+      → booked u (entries k) ≡ books k u)
+      → (j : ℕ) → j < length block → ((k : ℕ) → k < j → leaving k ≡ false) → leaving j ≡ true
+      → projected limit bond block m ≡ Err (get_or block j 0)
   reached_leaves entries adds j h stays goes =
       let r = reached entries adds j (omega arith) stays in
       let b = nth bond block j in
       let now : Motion = record { particles = r.qs; totals = settled entries j m.totals } in
       let same_c : correction_at limit r.qs b ≡ correction_at limit m.particles b = correction_same limit (nth bond block)
       (length block) m.particles bonds apart j r.qs h r.together in
-      sym r.same ∙ turn_out limit bond block j h now (get_or block j 0) (one_is limit bond (get_or block j 0) b now (Err (get_or block j 0)) refl refl
+      sym r.same ∙ turn_out limit bond block j h now (get_or block j 0)
+      (one_is limit bond (get_or block j 0) b now (Err (get_or block j 0)) refl refl
       (corrected_leaves (get_or block j 0) b (correction_at limit r.qs b) now (ap leaves_by same_c ∙ goes)))
 
   -- all of them
-  pub reached_all : (t : Ledger) (r : Reached limit bond block (length block) m t) → projected limit bond block m ≡ Ok (record { particles = r.qs; totals = t })
+  pub reached_all : (t : Ledger) (r : Reached limit bond block (length block) m t)
+      → projected limit bond block m ≡ Ok (record { particles = r.qs; totals = t })
   reached_all t r = sym r.same ∙ ap (λ (rest : List ℕ). projected limit bond rest (record { particles = r.qs; totals = t }))
       (drop_all (length block) block (omega arith))

@@ -1,5 +1,6 @@
 -- A chunk whose ends have moved, as its bonds one by one.
-use Rattle.std.proofs.Common.{◌≡◌, ℕ, ◌<◌, ◌^◌, ℤ, pos, ◌≤ℤ◌, ◌<ℤ◌, List, length, get_or, Bool, true, false, IsTrue, ◌&&◌, int_le, int_lt, cond, refl, ap, sym, ◌∙◌, arith, subst, Err}
+use Rattle.std.proofs.Common.{◌≡◌, ℕ, ◌<◌, ◌^◌, ℤ, pos, ◌≤ℤ◌, ◌<ℤ◌, List, length, get_or, Bool, true, false, IsTrue, ◌&&◌, int_le, int_lt}
+use Rattle.std.proofs.Common.{cond, refl, ap, sym, ◌∙◌, arith, subst, Err}
 use Rattle.std.proofs.lemmas.Int.{ints}
 use Rattle.pbd_num.specs.declared.Vec3.{Vec3}
 use Rattle.pbd_num.specs.declared.row.Row.{Row}
@@ -18,7 +19,8 @@ use Rattle.pbd_store.specs.declared.pairs.Between.{Between}
 use Rattle.pbd_store.specs.declared.pairs.EndMoves.{EndMoves}
 use Rattle.pbd_pair.specs.declared.chunk.Found.{Found}
 use Rattle.pbd_pair.specs.declared.near.NearMoves.{NearMoves}
-use Rattle.pbd_store.specs.Pairs.{row_in, moves_in, ways_in, opposites_in, first_moves, second_moves, stays, ArePairs, PairsApart, AreMoves, AreShort, EachMoved, LeavesAt}
+use Rattle.pbd_store.specs.Pairs.{row_in, moves_in, ways_in, opposites_in, first_moves, second_moves, stays, ArePairs, PairsApart, AreMoves}
+use Rattle.pbd_store.specs.Pairs.{AreShort, EachMoved, LeavesAt}
 use Rattle.pbd_pair.specs.Bonds.{bond_of, shift_by}
 use Rattle.pbd_pair.specs.Projecting.{CanProject, ShareNone, projected_block}
 use Rattle.pbd_pair.specs.Moves.{moves_at, stay_at, entries_at, settled, moved_below}
@@ -46,19 +48,22 @@ kept_flag false row h = refl
 
 -- what a bond's rows move, as they are kept
 abbrev pub kept_moves : List ℤ → List ℤ → List Row → ℕ → Vec3
-kept_moves firsts seconds moves k = plus (opposite (vector_of (kept_by (number_in firsts k) (row_in moves k)))) (vector_of (kept_by (number_in seconds k)
+kept_moves firsts seconds moves k = plus (opposite (vector_of (kept_by (number_in firsts k) (row_in moves k))))
+    (vector_of (kept_by (number_in seconds k)
     (row_in moves k)))
 
 pub kept_size_by : (w : ℤ) (row : Row) → Within (2 ^ 16) (vector_of row) → Within (2 ^ 16) (vector_of (kept_by w row))
 kept_size_by w row h = kept_size (int_lt (pos 0) w) row h
 
-pub kept_short : (w : ℤ) (row : Row) {kept : Row} → kept ≡ kept_by w row → Within (2 ^ 16) (vector_of row) → Within (2 ^ 16) (vector_of kept)
+pub kept_short : (w : ℤ) (row : Row) {kept : Row} → kept ≡ kept_by w row → Within (2 ^ 16) (vector_of row)
+    → Within (2 ^ 16) (vector_of kept)
 kept_short w row is h = subst (λ (r : Row). Within (2 ^ 16) (vector_of r)) (sym is) (kept_size_by w row h)
 
 kept_unflagged : (w : ℤ) (row : Row) {kept : Row} → kept ≡ kept_by w row → row.flag ≡ pos 0 → kept.flag ≡ pos 0
 kept_unflagged w row is h = ap (λ (r : Row). r.flag) is ∙ kept_flag (int_lt (pos 0) w) row h
 
-module _ {found : Found} {s : Stored} {t : Totals} (can : CanProject 128 found.chunk.bonds found.chunk.numbers.now s t) (is : IsFound s.particles found) where
+module _ {found : Found} {s : Stored} {t : Totals} (can : CanProject 128 found.chunk.bonds found.chunk.numbers.now s t)
+    (is : IsFound s.particles found) where
   abbrev numbers : List ℕ
   numbers = found.chunk.numbers.now
 
@@ -82,17 +87,21 @@ module _ {found : Found} {s : Stored} {t : Totals} (can : CanProject 128 found.c
   sized_asked = sized can is.first is.second is.between
 
   -- ends that have moved by what the bonds move them, wherever that leads
-  module _ {f g : ℕ → Vec3} (is_f : (j : ℕ) → j < length numbers → f j ≡ (moves_at s.particles (B j)).0) (is_g : (j : ℕ) → j < length numbers
+  module _ {f g : ℕ → Vec3} (is_f : (j : ℕ) → j < length numbers → f j ≡ (moves_at s.particles (B j)).0)
+      (is_g : (j : ℕ) → j < length numbers
       → g j ≡ (moves_at s.particles (B j)).1) where
-    same_stays : (j : ℕ) → j < length numbers → stays s.limit s.particles found.pairs.first.now found.pairs.second.now f g j ≡ stay_at s.limit s.particles (B j)
+    same_stays : (j : ℕ) → j < length numbers → stays s.limit s.particles found.pairs.first.now found.pairs.second.now f g j
+        ≡ stay_at s.limit s.particles (B j)
     same_stays j p = λ i. is_within s.limit (plus (particle_at s.particles (is.first j p i)).at (is_f j p i)) && is_within s.limit (plus
         (particle_at s.particles (is.second j p i)).at (is_g j p i))
 
-    pub side_done : {new : List Particle} {u : Ledger} → EachMoved asked s.limit found.pairs.first.now found.pairs.second.now f g s.particles new
+    pub side_done : {new : List Particle} {u : Ledger} → EachMoved asked s.limit found.pairs.first.now found.pairs.second.now f g
+        s.particles new
         → u ≡ settled (λ k. entries_at s.particles (B k)) (length numbers) (ledger_of t)
         → AreDone s.limit (bond_of found.chunk.bonds) numbers (motion_of s t) new u
     side_done {new} {u} told booked_all =
-        let moved = subst (λ (n : ℕ). EachMoved n s.limit found.pairs.first.now found.pairs.second.now f g s.particles new) is.pairs.first_long told in
+        let moved = subst (λ (n : ℕ). EachMoved n s.limit found.pairs.first.now found.pairs.second.now f g s.particles new)
+        is.pairs.first_long told in
         chunk_done s.limit (bond_of found.chunk.bonds) numbers s.particles can.bound.low can.inside can.batch.bond apart
         found.pairs.first.now found.pairs.second.now is.first is.second f g is_f is_g
         (λ k p. sym (same_stays k p) ∙ moved.stay k p) new moved.parted (ledger_of t) u booked_all
@@ -100,8 +109,10 @@ module _ {found : Found} {s : Stored} {t : Totals} (can : CanProject 128 found.c
     pub side_leaves : {k : ℕ} → LeavesAt k asked s.limit found.pairs.first.now found.pairs.second.now f g s.particles
         → projected_block found.chunk.bonds numbers s t ≡ Err (get_or numbers k 0)
     side_leaves {k} told =
-        let leaves = subst (λ (n : ℕ). LeavesAt k n s.limit found.pairs.first.now found.pairs.second.now f g s.particles) is.pairs.first_long told in
-        chunk_leaves s.limit (bond_of found.chunk.bonds) numbers s.particles can.bound.low can.inside can.batch.bond apart (ledger_of t) k leaves.one
+        let leaves = subst (λ (n : ℕ). LeavesAt k n s.limit found.pairs.first.now found.pairs.second.now f g s.particles)
+        is.pairs.first_long told in
+        chunk_leaves s.limit (bond_of found.chunk.bonds) numbers s.particles can.bound.low can.inside can.batch.bond apart
+        (ledger_of t) k leaves.one
         (λ j p. sym (same_stays j (omega (arith, leaves.one))) ∙ leaves.before j p) (sym (same_stays k leaves.one) ∙ leaves.leaves)
 
   -- ---- one by one
@@ -120,20 +131,25 @@ module _ {found : Found} {s : Stored} {t : Totals} (can : CanProject 128 found.c
       second = λ j p. (exact.each j p).second;
     })
 
-    pub entries_exact : (u : Ledger) → settled (entries_in found moves) (length numbers) u ≡ settled (λ k. entries_at s.particles (B k)) (length numbers) u
+    pub entries_exact : (u : Ledger) → settled (entries_in found moves) (length numbers) u
+        ≡ settled (λ k. entries_at s.particles (B k)) (length numbers) u
     entries_exact u = settled_same (entries_in found moves) (λ k. entries_at s.particles (B k)) (length numbers) u (λ k p v.
-        (λ i. booked v (entries_of (first_flag can is.first is.second is.between k p i) (second_flag can is.first is.second is.between k p i)
+        (λ i. booked v (entries_of (first_flag can is.first is.second is.between k p i)
+        (second_flag can is.first is.second is.between k p i)
         (class_of (B k)) (unplaced (moves_in moves k).first (moves_in moves k).second)))
-        ∙ same_entries (particle_at s.particles (B k).a).held (particle_at s.particles (B k).b).held (class_of (B k)) _ _ v (first_exact k p)
+        ∙ same_entries (particle_at s.particles (B k).a).held (particle_at s.particles (B k).b).held (class_of (B k)) _ _ v
+        (first_exact k p)
         (second_exact k p))
 
     -- once the ends have moved by the moves
     pub exact_done : {new : List Particle} {u : Ledger}
         → EachMoved asked s.limit found.pairs.first.now found.pairs.second.now (first_moves moves) (second_moves moves) s.particles new
-        → u ≡ settled (entries_in found moves) (length numbers) (ledger_of t) → AreDone s.limit (bond_of found.chunk.bonds) numbers (motion_of s t) new u
+        → u ≡ settled (entries_in found moves) (length numbers) (ledger_of t)
+        → AreDone s.limit (bond_of found.chunk.bonds) numbers (motion_of s t) new u
     exact_done told books = side_done first_exact second_exact told (books ∙ entries_exact (ledger_of t))
 
-    pub exact_leaves : {k : ℕ} → LeavesAt k asked s.limit found.pairs.first.now found.pairs.second.now (first_moves moves) (second_moves moves) s.particles
+    pub exact_leaves : {k : ℕ} → LeavesAt k asked s.limit found.pairs.first.now found.pairs.second.now (first_moves moves)
+        (second_moves moves) s.particles
         → projected_block found.chunk.bonds numbers s t ≡ Err (get_or numbers k 0)
     exact_leaves told = side_leaves first_exact second_exact told
 
@@ -156,19 +172,23 @@ module _ {found : Found} {s : Stored} {t : Totals} (can : CanProject 128 found.c
     back_short = subst (λ (n : ℕ). AreShort n back) (sym is.pairs.first_long) (record {
       long = masked.back_long;
       each = λ j p. kept_short (number_in found.between.now.first_weight j) (row_in near.moves j) (masked.back j p) (short.each j p).size;
-      flags = λ j p. kept_unflagged (number_in found.between.now.first_weight j) (row_in near.moves j) (masked.back j p) (short.each j p).flag;
+      flags = λ j p. kept_unflagged (number_in found.between.now.first_weight j) (row_in near.moves j) (masked.back j p)
+          (short.each j p).flag;
     })
 
     pub forth_short : AreShort asked forth
     forth_short = subst (λ (n : ℕ). AreShort n forth) (sym is.pairs.first_long) (record {
       long = masked.forth_long;
       each = λ j p. kept_short (number_in found.between.now.second_weight j) (row_in near.moves j) (masked.forth j p) (short.each j p).size;
-      flags = λ j p. kept_unflagged (number_in found.between.now.second_weight j) (row_in near.moves j) (masked.forth j p) (short.each j p).flag;
+      flags = λ j p. kept_unflagged (number_in found.between.now.second_weight j) (row_in near.moves j) (masked.forth j p)
+          (short.each j p).flag;
     })
 
     -- what is booked
-    opposed : (k : ℕ) → k < length numbers → Opposed (particle_at s.particles (B k).a).held (particle_at s.particles (B k).b).held (shift_by (end_of
-        (particle_at s.particles (B k).a)) (end_of (particle_at s.particles (B k).b)) (moves_at s.particles (B k)).0 (moves_at s.particles (B k)).1)
+    opposed : (k : ℕ) → k < length numbers → Opposed (particle_at s.particles (B k).a).held (particle_at s.particles (B k).b).held
+        (shift_by (end_of
+        (particle_at s.particles (B k).a)) (end_of (particle_at s.particles (B k).b)) (moves_at s.particles (B k)).0
+        (moves_at s.particles (B k)).1)
     opposed k p =
         let w1 = number_in found.between.now.first_weight k in
         let w2 = number_in found.between.now.second_weight k in
@@ -176,33 +196,40 @@ module _ {found : Found} {s : Stored} {t : Totals} (can : CanProject 128 found.c
         let f1 = first_flag can is.first is.second is.between k p in
         let f2 = second_flag can is.first is.second is.between k p in
         record {
-          both = λ a b. sym (first_near k p) ∙ ap (λ (r : Row). opposite (vector_of r)) (masked.back k p ∙ kept_some w1 row (weighs w1 (f1 ∙ a)))
+          both = λ a b. sym (first_near k p) ∙ ap (λ (r : Row). opposite (vector_of r))
+              (masked.back k p ∙ kept_some w1 row (weighs w1 (f1 ∙ a)))
               ∙ ap opposite (sym (ap vector_of (masked.forth k p ∙ kept_some w2 row (weighs w2 (f2 ∙ b))))) ∙ ap opposite (second_near k p);
-          first = λ a. sym (first_near k p) ∙ ap (λ (r : Row). opposite (vector_of r)) (masked.back k p ∙ kept_none w1 row (weightless w1 (f1 ∙ a)));
+          first = λ a. sym (first_near k p) ∙ ap (λ (r : Row). opposite (vector_of r))
+              (masked.back k p ∙ kept_none w1 row (weightless w1 (f1 ∙ a)));
           second = λ b. sym (second_near k p) ∙ ap vector_of (masked.forth k p ∙ kept_none w2 row (weightless w2 (f2 ∙ b)));
         }
 
-    pub near_books : (u : Ledger) → added u classes.Pin (moved_below (λ j. plus (opposite (vector_of (row_in back j))) (vector_of (row_in forth j)))
+    pub near_books : (u : Ledger) → added u classes.Pin (moved_below
+        (λ j. plus (opposite (vector_of (row_in back j))) (vector_of (row_in forth j)))
         (length numbers)) ≡ settled (λ k. entries_at s.particles (B k)) (length numbers) u
     near_books u =
         ap (added u classes.Pin) (moved_same _ _ (length numbers) (λ k p. λ i. plus (first_near k p i) (second_near k p i)))
-        ∙ sym (pinned_all u (λ k. class_of (B k)) (λ k. (particle_at s.particles (B k).a).held) (λ k. (particle_at s.particles (B k).b).held)
+        ∙ sym (pinned_all u (λ k. class_of (B k)) (λ k. (particle_at s.particles (B k).a).held)
+        (λ k. (particle_at s.particles (B k).b).held)
         (λ k. shift_by (end_of (particle_at s.particles (B k).a)) (end_of (particle_at s.particles (B k).b)) (moves_at s.particles (B k)).0
         (moves_at s.particles (B k)).1) (length numbers) opposed)
 
     -- once the ends have moved by the rows
     pub near_done : {new : List Particle} {u : Ledger}
         → EachMoved asked s.limit found.pairs.first.now found.pairs.second.now (opposites_in back) (ways_in forth) s.particles new
-        → u ≡ added (ledger_of t) classes.Pin (moved_below (λ j. plus (opposite (vector_of (row_in back j))) (vector_of (row_in forth j))) (length numbers))
+        → u ≡ added (ledger_of t) classes.Pin (moved_below (λ j. plus (opposite (vector_of (row_in back j))) (vector_of (row_in forth j)))
+        (length numbers))
         → AreDone s.limit (bond_of found.chunk.bonds) numbers (motion_of s t) new u
     near_done told books = side_done first_near second_near told (books ∙ near_books (ledger_of t))
 
-    pub near_leaves : {k : ℕ} → LeavesAt k asked s.limit found.pairs.first.now found.pairs.second.now (opposites_in back) (ways_in forth) s.particles
+    pub near_leaves : {k : ℕ} → LeavesAt k asked s.limit found.pairs.first.now found.pairs.second.now (opposites_in back)
+        (ways_in forth) s.particles
         → projected_block found.chunk.bonds numbers s t ≡ Err (get_or numbers k 0)
     near_leaves told = side_leaves first_near second_near told
 
 -- where all ends are free, nothing is booked
-pub free_masked : {bond : ℕ → Bond} {numbers : List ℕ} {between : Between} {near : NearMoves} → AreNear bond numbers between near → IsTrue near.free
+pub free_masked : {bond : ℕ → Bond} {numbers : List ℕ} {between : Between} {near : NearMoves} → AreNear bond numbers between near
+    → IsTrue near.free
     → IsMasked (length numbers) between near.moves near.moves near.moves
 free_masked short free = record {
   back_long = short.long;
@@ -211,6 +238,7 @@ free_masked short free = record {
   forth = λ j p. sym (kept_some _ _ (short.second free j p));
 }
 
-pub nothing_booked : (u : Ledger) (rows : List Row) (n : ℕ) → u ≡ added u classes.Pin (moved_below (λ j. plus (opposite (vector_of (row_in rows j)))
+pub nothing_booked : (u : Ledger) (rows : List Row) (n : ℕ)
+    → u ≡ added u classes.Pin (moved_below (λ j. plus (opposite (vector_of (row_in rows j)))
     (vector_of (row_in rows j))) n)
 nothing_booked u rows n = sym (ap (added u classes.Pin) (moved_nothing (λ j. vector_of (row_in rows j)) n) ∙ added_nothing u classes.Pin)

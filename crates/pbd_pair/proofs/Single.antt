@@ -10,11 +10,13 @@ use Rattle.pbd_world.specs.declared.bond.Correction.{Correction}
 use Rattle.pbd_world.specs.declared.bond.Correction.TheVariants.{Slack, Leaves, Moves}
 use Rattle.pbd_world.specs.Ledger.{Ledger, booked}
 use Rattle.pbd_world.specs.Particles.{Motion, particle_at, placed}
-use Rattle.pbd_world.specs.Bonds.{corrected, correction_of, correction_at, end_of, entries_of, class_of, is_slack, shift_of, within_or_leaves}
+use Rattle.pbd_world.specs.Bonds.{corrected, correction_of, correction_at, end_of, entries_of, class_of, is_slack, shift_of}
+use Rattle.pbd_world.specs.Bonds.{within_or_leaves}
 use Rattle.pbd_pair.specs.Bonds.{IsEnd}
 use Rattle.pbd_store.specs.Moving.{AreInside}
 
-pub is_end : {l limit : ℤ} (ps : List Particle) (i : ℕ) (e : End) → l ≡ limit → e ≡ end_of (particle_at ps i) → pos 0 ≤ℤ e.weight → e.weight ≤ℤ pos 65535
+pub is_end : {l limit : ℤ} (ps : List Particle) (i : ℕ) (e : End) → l ≡ limit → e ≡ end_of (particle_at ps i) → pos 0 ≤ℤ e.weight
+    → e.weight ≤ℤ pos 65535
     → i < length ps → AreInside limit ps → IsEnd l e
 is_end {l} {limit} ps i e el ee low high h inside = record {
   at = coe 1 0 (j. Within (unsigned_abs (el j)) (ee j).at) (inside.each i h);
@@ -27,7 +29,8 @@ pub same_correction : {l limit : ℤ} {p q : End} (b : Bond) (ps : List Particle
 same_correction b ps ec el ep eq = ec ∙ (λ i. correction_of (el i) (ep i) (eq i) b)
 
 pub moves_outcome : (n : ℕ) (b : Bond) (s : Shift) {c : Correction} (ps : List Particle) {ps1 ps2 : List Particle}
-    (t : Ledger) {t2 : Ledger} {p q : Particle} → Moves s ≡ c → ps1 ≡ placed ps b.a s.first → ps2 ≡ placed ps1 b.b s.second → p ≡ particle_at ps b.a
+    (t : Ledger) {t2 : Ledger} {p q : Particle} → Moves s ≡ c → ps1 ≡ placed ps b.a s.first → ps2 ≡ placed ps1 b.b s.second
+    → p ≡ particle_at ps b.a
     → q ≡ particle_at ps b.b → t2 ≡ booked t (entries_of p.held q.held (class_of b) s) → corrected n b c (record {
       particles = ps;
       totals = t;

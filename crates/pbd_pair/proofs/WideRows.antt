@@ -1,5 +1,6 @@
 -- Rows of 64-bit numbers, as the moves of their bonds.
-use Rattle.std.proofs.Common.{◌≡◌, ◌<◌, ◌^◌, ℤ, pos, neg_ℤ, ◌≤ℤ◌, ◌<ℤ◌, Bool, IsTrue, to_z, of_z, w32, FitsSigned, refl, ap, sym, ◌∙◌, arith, subst, inl, inr}
+use Rattle.std.proofs.Common.{◌≡◌, ◌<◌, ◌^◌, ℤ, pos, neg_ℤ, ◌≤ℤ◌, ◌<ℤ◌, Bool, IsTrue, to_z, of_z, w32, FitsSigned, refl, ap, sym, ◌∙◌}
+use Rattle.std.proofs.Common.{arith, subst, inl, inr}
 use Rattle.std.proofs.lemmas.Int.{ints, to_z-of_z}
 use Rattle.pbd_num.specs.declared.Vec3.{Vec3}
 use Rattle.pbd_num.specs.declared.row.Row.{Row}
@@ -38,7 +39,8 @@ opposite_twice v = same_axes _ _ (back v.x) (back v.y) (back v.z) where
 -- ---- a row that holds the move of the second end where that is free, and else the opposite of the move of the first
 
 module _ (first second : ℤ) (row : Row) (a m : Vec3) (first_low : pos 0 ≤ℤ first) (second_low : pos 0 ≤ℤ second) (first_held : first ≡ pos 0
-    → a ≡ zero_vector) (second_held : second ≡ pos 0 → m ≡ zero_vector) (opposed : pos 0 <ℤ first → pos 0 <ℤ second → a ≡ opposite m) (free : pos 0
+    → a ≡ zero_vector) (second_held : second ≡ pos 0 → m ≡ zero_vector) (opposed : pos 0 <ℤ first → pos 0 <ℤ second → a ≡ opposite m)
+    (free : pos 0
     <ℤ second → vector_of row ≡ m) (held : second ≤ℤ pos 0 → vector_of row ≡ opposite a) where
   second_kept : m ≡ vector_of (kept_by second row)
   second_kept = elim (weightless second second_low) [
@@ -62,7 +64,8 @@ module _ (first second : ℤ) (row : Row) (a m : Vec3) (first_low : pos 0 ≤ℤ
   both = (a, m)
 
   pub wide_near : (way : Vec3) (b : Bond) (len : ℤ) → length_of way < 2 ^ 31 → len ≡ pos (length_of way) → (len <ℤ reach_of b
-      → both ≡ pair_moves way zero_vector b.rest b.k first second) → (reach_of b ≤ℤ len → a ≡ zero_vector) → (reach_of b ≤ℤ len → m ≡ zero_vector)
+      → both ≡ pair_moves way zero_vector b.rest b.k first second) → (reach_of b ≤ℤ len → a ≡ zero_vector)
+      → (reach_of b ≤ℤ len → m ≡ zero_vector)
       → row.flag ≡ pos 0 → Within (2 ^ 16) (vector_of row) → IsNear way first second b row
   wide_near way b len short long near first_rests second_rests flag size =
       let rests : reach_of b ≤ℤ len → both ≡ (zero_vector, zero_vector) = λ h. λ i. (first_rests h i, second_rests h i) in
@@ -94,11 +97,13 @@ pub row_exact : {way : Vec3} {first second : ℤ} {b : Bond} {row : Row} (m : En
     → m.first ≡ opposite (vector_of (kept_by first row)) → m.second ≡ vector_of (kept_by second row) → IsExact way first second b m
 row_exact {way} {first} {second} {b} {row} m is e f = record {
   moves = (λ i. (e i, f i)) ∙ sym is.moves;
-  first = subst (λ (v : Vec3). Within (2 ^ 31) v) (sym e) (opposite_within _ (2 ^ 31) (wider _ _ (2 ^ 31) (omega arith) (kept_size_by first row is.size)));
+  first = subst (λ (v : Vec3). Within (2 ^ 31) v) (sym e)
+      (opposite_within _ (2 ^ 31) (wider _ _ (2 ^ 31) (omega arith) (kept_size_by first row is.size)));
   second = subst (λ (v : Vec3). Within (2 ^ 31) v) (sym f) (wider _ _ (2 ^ 31) (omega arith) (kept_size_by second row is.size));
 }
 
-pub same_exact : {v w : Vec3} {f g h k : ℤ} {b d : Bond} {m : EndMoves} → v ≡ w → f ≡ g → h ≡ k → b ≡ d → IsExact v f h b m → IsExact w g k d m
+pub same_exact : {v w : Vec3} {f g h k : ℤ} {b d : Bond} {m : EndMoves} → v ≡ w → f ≡ g → h ≡ k → b ≡ d → IsExact v f h b m
+    → IsExact w g k d m
 same_exact {v} {w} {f} {g} {h} {k} {b} {d} {m} way first second bond is =
     subst (λ (x : Vec3). IsExact x g k d m) way (subst (λ (x : ℤ). IsExact v x k d m) first (subst (λ (x : ℤ). IsExact v f x d m) second
     (subst (λ (x : Bond). IsExact v f h x m) bond is)))

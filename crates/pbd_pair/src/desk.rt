@@ -29,7 +29,7 @@ impl Desk {
         }
     }
 
-    /// Projects a chunk of bonds: side by side where the moves of all of them come out right so, else one by one.
+    /// Projects a chunk of bonds: side by side where the moves of all of them come out exact so, else one by one.
     pub(crate) fn project<const L: usize, G: Ledger>(
         &mut self,
         store: &mut Store<L>,
@@ -50,13 +50,13 @@ impl Desk {
         self.columns.load(&chunk);
         let pairs = self.columns.pairs(chunk.numbers.len());
         store.between(pairs, &mut self.between, steps);
-        let right = self.near.try_moves(&self.columns, &self.between, &chunk);
+        let exact = self.near.try_moves(&self.columns, &self.between, &chunk);
         let found = Found {
             chunk,
             pairs,
             between: &self.between,
         };
-        if right {
+        if exact {
             return self.near.pull(store, &found, totals, steps);
         }
         project_exactly(store, &found, &self.near.moves, totals, steps)

@@ -63,18 +63,18 @@ fn is_short(axis: i32) -> bool
 }
 
 #[inline(always)]
-fn flag_of(right: bool) -> i32
-    ensures right { result ≡ pos 0 → IsTrue right }
+fn flag_of(exact: bool) -> i32
+    ensures exact { result ≡ pos 0 → IsTrue exact }
     ensures size { unsigned_abs result ≤ 1 }
 {
-    if right { 0 } else { 1 }
+    if exact { 0 } else { 1 }
 }
 
-// A move as a row. It has flag 0 only where the move is right, and at most a metre on each axis.
+// A move as a row. It has flag 0 only where the move is exact, and at most a metre on each axis.
 #[inline(always)]
-fn row_of(axes: Vec3, right: bool) -> Row
+fn row_of(axes: Vec3, exact: bool) -> Row
     requires { Within (2 ^ 31) axes }
-    ensures right { result.flag ≡ pos 0 → IsTrue right }
+    ensures exact { result.flag ≡ pos 0 → IsTrue exact }
     ensures value { result.flag ≡ pos 0 → vector_of result ≡ axes }
     ensures size { result.flag ≡ pos 0 → Within (2 ^ 16) (vector_of result) }
     ensures flag { unsigned_abs result.flag ≤ 1 }
@@ -87,7 +87,7 @@ fn row_of(axes: Vec3, right: bool) -> Row
         x,
         y,
         z,
-        flag: flag_of(right & short),
+        flag: flag_of(exact & short),
     }
 }
 
@@ -104,7 +104,7 @@ fn free_move(tried: TriedMoves, second: i64) -> Vec3
     if 0 < second { tried.second } else { back }
 }
 
-// The move of two ends as a row, whose flag is 0 only where it is right.
+// The move of two ends as a row, whose flag is 0 only where it is exact.
 #[inline(always)]
 fn wide_row(way: Vec3, draw: Draw, weights: Weights) -> Row
     requires way { Within (2 ^ 30) way }
@@ -117,7 +117,7 @@ fn wide_row(way: Vec3, draw: Draw, weights: Weights) -> Row
     ensures flag { unsigned_abs result.flag ≤ 1 }
 {
     let tried = try_moves(way, draw, weights);
-    row_of(free_move(tried, weights.second), tried.right)
+    row_of(free_move(tried, weights.second), tried.exact)
 }
 
 // What the bonds of a chunk draw their ends to.
@@ -155,7 +155,7 @@ fn put_rows(
     all
 }
 
-/// Tries the moves of a chunk's bonds in 64-bit numbers. True where all of them are right.
+/// Tries the moves of a chunk's bonds in 64-bit numbers. True where all of them are exact.
 #[inline(never)]
 pub(crate) fn try_rows(between: &Between, chunk: &Chunk<'_>, rows: &mut [Row; CHUNK]) -> bool
     requires known { AreKnown chunk.now.bonds chunk.now.numbers.now }

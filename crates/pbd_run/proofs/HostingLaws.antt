@@ -1,5 +1,7 @@
 -- The scenes of a host, one by one, and its lines.
-use Rattle.std.proofs.Common.{◌≡◌, ◌∙◌, sym, ap, subst, refl, ◌^◌, Bool, cond, zero, suc, ℕ, ◌+◌, ◌-◌, ◌<◌, ◌≤◌, true, false, List, [], ◌∷◌, ◌++◌, length, take, drop, map, Option, Some, None, Result, Ok, Err, arith, inl, inr, ◌⊎◌, append_assoc, append-nil, codes, decimal, zero-add}
+use Rattle.std.proofs.Common.{◌≡◌, ◌∙◌, sym, ap, subst, refl, ◌^◌, Bool, cond, zero, suc, ℕ, ◌+◌, ◌-◌, ◌<◌, ◌≤◌, true, false, List, [], ◌∷◌}
+use Rattle.std.proofs.Common.{◌++◌, length, take, drop, map, Option, Some, None, Result, Ok, Err, arith, inl, inr, ◌⊎◌, append_assoc}
+use Rattle.std.proofs.Common.{append-nil, codes, decimal, zero-add}
 use Rattle.std.specs.Prelude.{position, nat_le, option_map, ◌==◌, MatchOption}
 use Rattle.std.specs.List.{join_with_byte, slice_split}
 use Rattle.std.proofs.lemmas.Bool.{cases_lt}
@@ -28,6 +30,7 @@ use Rattle.pbd_outcome.specs.Statuses.{line_in}
 use Rattle.pbd_outcome.proofs.HostLaws.{as_many, hosted_halves, hosted_on, hosted_scenes}
 use Rattle.pbd_run.specs.Calls.{AddsScene, Does, IsHostable, StopsAtScenes, StopsInScene}
 use Rattle.pbd_run.specs.Forms.{host_on}
+use Rattle.pbd_run.proofs.SplitLaws.{inspect}
 
 -- ---- the end of a line
 
@@ -35,17 +38,14 @@ pub ended_in : (n : ℕ) (x : List ℕ) → ((x ++ codes " in ") ++ decimal n) +
 unfolding line_in
 ended_in n x =
     let e : length (x ++ 10 ∷ []) - 1 ≡ length x = omega (arith, length-append x (10 ∷ [])) in
-    sym (ap (λ k. take k (x ++ 10 ∷ []) ++ codes " in " ++ decimal n ++ 10 ∷ []) e ∙ ap (λ y. y ++ codes " in " ++ decimal n ++ 10 ∷ []) (take_at x (10 ∷ []) (length x) refl) ∙ simp append_assoc refl)
+    sym (ap (λ k. take k (x ++ 10 ∷ []) ++ codes " in " ++ decimal n ++ 10 ∷ []) e
+    ∙ ap (λ y. y ++ codes " in " ++ decimal n ++ 10 ∷ []) (take_at x (10 ∷ []) (length x) refl) ∙ simp append_assoc refl)
 
 -- ---- the pieces behind a place
 
-found : (o : Option ℕ) → (o ≡ None) ⊎ ((i : ℕ) × (o ≡ Some i))
-found None = inl refl
-found (Some i) = inr (i, refl)
-
 behind : (n : ℕ) (r : List ℕ) → n < length (pieces r) → pieces (join_with_byte 10 (drop n (pieces r))) ≡ drop n (pieces r)
 behind zero r within = ap pieces (join_with_byte-slice_split 10 r)
-behind (suc n) r within = elim (found (position (λ b. b == 10) r)) [
+behind (suc n) r within = elim (inspect (position (λ b. b == 10) r)) [
   | inl none ↦ (let one : pieces r ≡ r ∷ [] = split_none (λ b. b == 10) r none in absurd (omega (arith, within, ap length one)))
   | inr at ↦ (
       let next : List ℕ = drop (at.0 + 1) r in
@@ -69,12 +69,14 @@ some_group lines = omega (arith, length-slice_split (is_line divider) lines)
 texts_of : List (List ℕ) → List (List ℕ)
 texts_of lines = texts (groups lines)
 
-left_over : (n : ℕ) (r : List ℕ) → (n < length (pieces r)) ⊎ (length (pieces r) ≤ n) → texts_of (drop n (pieces r)) ≡ scenes (join_with_byte 10 (drop n (pieces r)))
+left_over : (n : ℕ) (r : List ℕ) → (n < length (pieces r)) ⊎ (length (pieces r) ≤ n)
+    → texts_of (drop n (pieces r)) ≡ scenes (join_with_byte 10 (drop n (pieces r)))
 unfolding scenes texts_of
 left_over n r (inr past) = let none : drop n (pieces r) ≡ [] = drop_all n (pieces r) past in rw none refl
 left_over n r (inl within) = ap (λ ls. texts (groups ls)) (sym (behind n r within))
 
-scenes_at : (r : List ℕ) (i : ℕ) → position (is_line divider) (pieces r) ≡ Some i → scenes r ≡ ended_lines (take i (pieces r)) ∷ scenes (join_with_byte 10 (drop (i + 1) (pieces r)))
+scenes_at : (r : List ℕ) (i : ℕ) → position (is_line divider) (pieces r) ≡ Some i
+    → scenes r ≡ ended_lines (take i (pieces r)) ∷ scenes (join_with_byte 10 (drop (i + 1) (pieces r)))
 unfolding scenes texts_of
 scenes_at r i at =
     ap texts (split_some (is_line divider) (pieces r) i [] at)
@@ -83,17 +85,18 @@ scenes_at r i at =
 
 pub one_scene : (r : List ℕ) → split_at divider r ≡ None → scenes r ≡ r ∷ []
 unfolding split_at scenes
-one_scene r none = elim (found (position (is_line divider) (pieces r))) [
+one_scene r none = elim (inspect (position (is_line divider) (pieces r))) [
   | inl nowhere ↦ ap texts (split_none (is_line divider) (pieces r) nowhere) ∙ ap (λ t. t ∷ []) (join_with_byte-slice_split 10 r)
   | inr at ↦ absurd (let e = rw at.1 at none in cc)
 ]
 
 pub more_scenes : (r scene later : List ℕ) → split_at divider r ≡ Some (scene, later) → scenes r ≡ scene ∷ scenes later
 unfolding split_at
-more_scenes r scene later some = elim (found (position (is_line divider) (pieces r))) [
+more_scenes r scene later some = elim (inspect (position (is_line divider) (pieces r))) [
   | inl nowhere ↦ absurd (let e = rw nowhere at some in cc)
   | inr at ↦ (
-      let e : Some (ended_lines (take at.0 (pieces r)), join_with_byte 10 (drop (at.0 + 1) (pieces r))) ≡ Some (scene, later) = rw at.1 at some in
+      let e : Some (ended_lines (take at.0 (pieces r)), join_with_byte 10 (drop (at.0 + 1) (pieces r)))
+      ≡ Some (scene, later) = rw at.1 at some in
       let p : (ended_lines (take at.0 (pieces r)), join_with_byte 10 (drop (at.0 + 1) (pieces r))) ≡ (scene, later) = cc in
       scenes_at r at.0 at.1 ∙ ap (λ (h : List ℕ × List ℕ). h.0 ∷ scenes h.1) p
       )
@@ -137,20 +140,25 @@ no_more (Err o) = refl
 pub read_begins : (all : List (List ℕ)) → HasRead all all []
 read_begins all = record { so_far = sym (no_more (scenes_in 0 all)); many = zero-add (length all) }
 
-one_read : (read : List Parts) (p : Parts) (r : Result (List Parts) Outcome) → behind_read read (r >>= λ more. Ok (p ∷ more)) ≡ behind_read (read ++ p ∷ []) r
+one_read : (read : List Parts) (p : Parts) (r : Result (List Parts) Outcome)
+    → behind_read read (r >>= λ more. Ok (p ∷ more)) ≡ behind_read (read ++ p ∷ []) r
 unfolding behind_read
 one_read read p (Ok more) = ap (λ (ps : List Parts). Ok ps) (sym (append_assoc read (p ∷ []) more))
 one_read read p (Err o) = refl
 
-next_scene : (n : ℕ) (text : List ℕ) (ts : List (List ℕ)) (p : Parts) → scene_in range text ≡ Ok p → scenes_in n (text ∷ ts) ≡ (scenes_in (n + 1) ts >>= λ more. Ok (p ∷ more))
+next_scene : (n : ℕ) (text : List ℕ) (ts : List (List ℕ)) (p : Parts) → scene_in range text ≡ Ok p
+    → scenes_in n (text ∷ ts) ≡ (scenes_in (n + 1) ts >>= λ more. Ok (p ∷ more))
 unfolding scenes_in
 next_scene n text ts p is = rw is refl
 
-pub read_next : (all : List (List ℕ)) (text : List ℕ) (ts : List (List ℕ)) (read new : List Parts) → HasRead all (text ∷ ts) read → AddsScene text read new → HasRead all ts new
+pub read_next : (all : List (List ℕ)) (text : List ℕ) (ts : List (List ℕ)) (read new : List Parts) → HasRead all (text ∷ ts) read
+    → AddsScene text read new → HasRead all ts new
 read_next all text ts read new has adds =
     let longer : length (read ++ adds.parts ∷ []) ≡ length read + 1 = length-append read (adds.parts ∷ []) in
     rw adds.added (record {
-      so_far = has.so_far ∙ ap (behind_read read) (next_scene (length read) text ts adds.parts adds.accepted) ∙ one_read read adds.parts (scenes_in (length read + 1) ts) ∙ ap (λ n. behind_read (read ++ adds.parts ∷ []) (scenes_in n ts)) (sym longer);
+      so_far = has.so_far ∙ ap (behind_read read) (next_scene (length read) text ts adds.parts adds.accepted)
+          ∙ one_read read adds.parts (scenes_in (length read + 1) ts)
+          ∙ ap (λ n. behind_read (read ++ adds.parts ∷ []) (scenes_in n ts)) (sym longer);
       many = omega (arith, longer, has.many);
     })
 
@@ -158,14 +166,21 @@ pub read_ends : (all : List (List ℕ)) (read : List Parts) → HasRead all [] r
 unfolding behind_read scenes_in
 read_ends all read has = has.so_far ∙ ap (λ (ps : List Parts). Ok ps) (append-nil read)
 
-stopped_next : (n : ℕ) (text : List ℕ) (ts : List (List ℕ)) (read : List Parts) (then : List Parts → Result Outcome Outcome) → behind_read read (scenes_in n (text ∷ ts)) >>= then ≡ (with_fault (stops_in n) (scene_in range text) >>= λ parts. ((scenes_in (n + 1) ts >>= λ more. Ok (parts ∷ more)) >>= λ more. Ok (read ++ more)) >>= then)
+stopped_next : (n : ℕ) (text : List ℕ) (ts : List (List ℕ)) (read : List Parts) (then : List Parts → Result Outcome Outcome)
+    → behind_read read (scenes_in n (text ∷ ts)) >>= then ≡
+    (with_fault (stops_in n) (scene_in range text) >>= λ parts.
+    ((scenes_in (n + 1) ts >>= λ more. Ok (parts ∷ more)) >>= λ more. Ok (read ++ more)) >>= then)
 unfolding behind_read scenes_in
 stopped_next n text ts read then =
-    ap (λ r. r >>= then) (assoc (with_fault (stops_in n) (scene_in range text)) (λ parts. scenes_in (n + 1) ts >>= λ more. Ok (parts ∷ more)) (λ more. Ok (read ++ more)))
-    ∙ assoc (with_fault (stops_in n) (scene_in range text)) (λ parts. (scenes_in (n + 1) ts >>= λ more. Ok (parts ∷ more)) >>= λ more. Ok (read ++ more)) then
+    ap (λ r. r >>= then) (assoc (with_fault (stops_in n) (scene_in range text))
+    (λ parts. scenes_in (n + 1) ts >>= λ more. Ok (parts ∷ more)) (λ more. Ok (read ++ more)))
+    ∙ assoc (with_fault (stops_in n) (scene_in range text))
+    (λ parts. (scenes_in (n + 1) ts >>= λ more. Ok (parts ∷ more)) >>= λ more. Ok (read ++ more)) then
 
-pub read_stops : (all : List (List ℕ)) (text : List ℕ) (ts : List (List ℕ)) (read : List Parts) (a b : Option (List ℕ)) (m n : ℕ) (s : Status) → HasRead all (text ∷ ts) read → StopsInScene (length read) text a b m n s → StopsAtScenes all a b m n s
-read_stops all text ts read a b m n s has stops = λ then. rw (ap (λ r. settled (r >>= then)) has.so_far ∙ ap settled (stopped_next (length read) text ts read then)) (stops _)
+pub read_stops : (all : List (List ℕ)) (text : List ℕ) (ts : List (List ℕ)) (read : List Parts) (a b : Option (List ℕ)) (m n : ℕ)
+    (s : Status) → HasRead all (text ∷ ts) read → StopsInScene (length read) text a b m n s → StopsAtScenes all a b m n s
+read_stops all text ts read a b m n s has stops = λ then.
+    rw (ap (λ r. settled (r >>= then)) has.so_far ∙ ap settled (stopped_next (length read) text ts read then)) (stops _)
 
 -- ---- a scene that stops the run
 
@@ -176,7 +191,8 @@ lines_of None = []
 lines_of (Some b) = pieces b
 
 -- From the worlds and the lines at the start, it has come to these worlds and these lines, having appended the texts.
-pub record Serves (start : List World) (all : List (List ℕ)) (ws : List World) (left : List (List ℕ)) (old new : Option (List ℕ)) (refused : ℕ) : Type 0 where
+pub record Serves (start : List World) (all : List (List ℕ)) (ws : List World) (left : List (List ℕ)) (old new : Option (List ℕ))
+    (refused : ℕ) : Type 0 where
   pub done : List ℕ
   pub bytes : Appends old new done
   pub text : done ++ hosted_text ws (requests_of (length start) left) ≡ hosted_text start (requests_of (length start) all)
@@ -191,14 +207,18 @@ one_at_most : (b : Bool) → cond b 1 0 ≤ 1
 one_at_most true = omega arith
 one_at_most false = omega arith
 
-pub serves_next : (start ws vs : List World) (all : List (List ℕ)) (line : List ℕ) (left : List (List ℕ)) (a b c : Option (List ℕ)) (refused more : ℕ) (it : Served) → Serves start all ws (line ∷ left) a b refused → vs ≡ worlds_after ws (request_of (length ws) line) → Appends b c (request_text ws (request_of (length ws) line)) → it ≡ served ws (request_of (length ws) line) → more ≡ cond (is_refusal it) 1 0 → Serves start all vs left a c (refused + more)
+pub serves_next : (start ws vs : List World) (all : List (List ℕ)) (line : List ℕ) (left : List (List ℕ)) (a b c : Option (List ℕ))
+    (refused more : ℕ) (it : Served) → Serves start all ws (line ∷ left) a b refused → vs ≡ worlds_after ws (request_of (length ws) line)
+    → Appends b c (request_text ws (request_of (length ws) line)) → it ≡ served ws (request_of (length ws) line)
+    → more ≡ cond (is_refusal it) 1 0 → Serves start all vs left a c (refused + more)
 unfolding hosted_text hosted_refused
 serves_next start ws vs all line left a b c refused more it has worlds wrote answer counts =
     let r : Request = request_of (length start) line in
     let same : request_of (length ws) line ≡ r = ap (λ n. request_of n line) has.many in
     let new : vs ≡ worlds_after ws r = worlds ∙ ap (worlds_after ws) same in
     let text : Appends b c (request_text ws r) = subst (λ (q : Request). Appends b c (request_text ws q)) same wrote in
-    let one : more ≡ cond (is_refusal (served ws r)) 1 0 = counts ∙ ap (λ (q : Served). cond (is_refusal q) 1 0) (answer ∙ ap (served ws) same) in
+    let one : more ≡ cond (is_refusal (served ws r)) 1 0 = counts
+    ∙ ap (λ (q : Served). cond (is_refusal q) 1 0) (answer ∙ ap (served ws) same) in
     let rest : List Request = requests_of (length start) left in
     rw new (record {
       done = has.done ++ request_text ws r;
@@ -209,25 +229,31 @@ serves_next start ws vs all line left a b c refused more it has worlds wrote ans
       many = length-after ws r ∙ has.many;
     })
 
-pub serves_failed : (start ws : List World) (all : List (List ℕ)) (line : List ℕ) (left : List (List ℕ)) (a b c : Option (List ℕ)) (refused : ℕ) → Serves start all ws (line ∷ left) a b refused → AppendsPrefix b c (request_text ws (request_of (length ws) line)) → AppendsPrefix a c (hosted_text start (requests_of (length start) all))
+pub serves_failed : (start ws : List World) (all : List (List ℕ)) (line : List ℕ) (left : List (List ℕ)) (a b c : Option (List ℕ))
+    (refused : ℕ) → Serves start all ws (line ∷ left) a b refused → AppendsPrefix b c (request_text ws (request_of (length ws) line))
+    → AppendsPrefix a c (hosted_text start (requests_of (length start) all))
 unfolding hosted_text
 serves_failed start ws all line left a b c refused has wrote =
     let r : Request = request_of (length start) line in
     let same : request_of (length ws) line ≡ r = ap (λ n. request_of n line) has.many in
     let text : AppendsPrefix b c (request_text ws r) = subst (λ (q : Request). AppendsPrefix b c (request_text ws q)) same wrote in
-    subst (λ (t : List ℕ). AppendsPrefix a c t) has.text (prefix_then a b c has.done _ has.bytes (prefix_longer b c (request_text ws r) (hosted_text (worlds_after ws r) (requests_of (length start) left)) text))
+    subst (λ (t : List ℕ). AppendsPrefix a c t) has.text (prefix_then a b c has.done _ has.bytes
+    (prefix_longer b c (request_text ws r) (hosted_text (worlds_after ws r) (requests_of (length start) left)) text))
 
-pub serves_text : (start ws : List World) (all : List (List ℕ)) (a b : Option (List ℕ)) (refused : ℕ) → Serves start all ws [] a b refused → Appends a b (hosted_text start (requests_of (length start) all))
+pub serves_text : (start ws : List World) (all : List (List ℕ)) (a b : Option (List ℕ)) (refused : ℕ) → Serves start all ws [] a b refused
+    → Appends a b (hosted_text start (requests_of (length start) all))
 unfolding hosted_text
 serves_text start ws all a b refused has = subst (λ (t : List ℕ). Appends a b t) (sym (append-nil has.done) ∙ has.text) has.bytes
 
-pub serves_count : (start ws : List World) (all : List (List ℕ)) (a b : Option (List ℕ)) (refused : ℕ) → Serves start all ws [] a b refused → refused ≡ hosted_refused start (requests_of (length start) all)
+pub serves_count : (start ws : List World) (all : List (List ℕ)) (a b : Option (List ℕ)) (refused : ℕ) → Serves start all ws [] a b refused
+    → refused ≡ hosted_refused start (requests_of (length start) all)
 unfolding hosted_refused
 serves_count start ws all a b refused has = omega (arith, has.count)
 
 -- ---- the whole input
 
-split_host : (input text lines : List ℕ) → split_at (codes "%%%") input ≡ Some (text, lines) → host_split input ≡ Some (scenes text, pieces lines)
+split_host : (input text lines : List ℕ) → split_at (codes "%%%") input ≡ Some (text, lines)
+    → host_split input ≡ Some (scenes text, pieces lines)
 split_host input text lines is = rw is refl
 
 few_from : (n : ℕ) → nat_le n 16 ≡ true → n ≤ 16
@@ -237,19 +263,27 @@ pub hosted_none : (input : List ℕ) → split_at (codes "%%%") input ≡ None �
 unfolding hosted
 hosted_none input is = rw is refl
 
-pub hosted_many : (input text lines : List ℕ) → split_at (codes "%%%") input ≡ Some (text, lines) → nat_le (length (scenes text)) 16 ≡ false → hosted input ≡ stops TooManyScenes []
-hosted_many input text lines is many = hosted_halves input (scenes text, pieces lines) (split_host input text lines is) ∙ ap (λ z. settled (cond z (Ok (scenes text)) (Err (stops TooManyScenes [])) >>= λ texts. scenes_in 0 texts >>= λ ps. Ok (host_outcome (map opened ps) (requests_of (length ps) (pieces lines))))) many
+pub hosted_many : (input text lines : List ℕ) → split_at (codes "%%%") input ≡ Some (text, lines) → nat_le (length (scenes text)) 16 ≡ false
+    → hosted input ≡ stops TooManyScenes []
+hosted_many input text lines is many = hosted_halves input (scenes text, pieces lines) (split_host input text lines is)
+    ∙ ap (λ z. settled (cond z (Ok (scenes text)) (Err (stops TooManyScenes [])) >>= λ texts. scenes_in 0 texts >>= λ ps.
+    Ok (host_outcome (map opened ps) (requests_of (length ps) (pieces lines))))) many
 
-pub hosted_did : (input text lines : List ℕ) (ps : List Parts) (a b : Option (List ℕ)) (m n : ℕ) (s : Status) → split_at (codes "%%%") input ≡ Some (text, lines) → nat_le (length (scenes text)) 16 ≡ true → scenes_in 0 (scenes text) ≡ Ok ps → Does (host_on ps lines) a b m n s → Does (hosted input) a b m n s
+pub hosted_did : (input text lines : List ℕ) (ps : List Parts) (a b : Option (List ℕ)) (m n : ℕ) (s : Status)
+    → split_at (codes "%%%") input ≡ Some (text, lines) → nat_le (length (scenes text)) 16 ≡ true → scenes_in 0 (scenes text) ≡ Ok ps
+    → Does (host_on ps lines) a b m n s → Does (hosted input) a b m n s
 unfolding host_on
 hosted_did input text lines ps a b m n s is few read does =
     rw (hosted_on input (scenes text, pieces lines) ps (split_host input text lines is) (few_from (length (scenes text)) few) read) does
 
-pub hosted_stops : (input text lines : List ℕ) (a b : Option (List ℕ)) (m n : ℕ) (s : Status) → split_at (codes "%%%") input ≡ Some (text, lines) → nat_le (length (scenes text)) 16 ≡ true → StopsAtScenes (scenes text) a b m n s → Does (hosted input) a b m n s
+pub hosted_stops : (input text lines : List ℕ) (a b : Option (List ℕ)) (m n : ℕ) (s : Status)
+    → split_at (codes "%%%") input ≡ Some (text, lines) → nat_le (length (scenes text)) 16 ≡ true → StopsAtScenes (scenes text) a b m n s
+    → Does (hosted input) a b m n s
 hosted_stops input text lines a b m n s is few stops =
     rw (hosted_scenes input (scenes text, pieces lines) (split_host input text lines is) (few_from (length (scenes text)) few)) (stops _)
 
-pub hostable : (input text lines : List ℕ) (ps : List Parts) → nat_le (length (scenes text)) 16 ≡ true → scenes_in 0 (scenes text) ≡ Ok ps → length lines ≤ length input → length input ≤ 2 ^ 31 → IsHostable ps lines
+pub hostable : (input text lines : List ℕ) (ps : List Parts) → nat_le (length (scenes text)) 16 ≡ true → scenes_in 0 (scenes text) ≡ Ok ps
+    → length lines ≤ length input → length input ≤ 2 ^ 31 → IsHostable ps lines
 hostable input text lines ps few read within short =
     let many = as_many 0 (scenes text) ps read in
     record {
@@ -260,23 +294,31 @@ hostable input text lines ps few read within short =
 
 -- ---- what is left at each turn, where `now` reads the bytes of a slice
 
-next_lines : {B : Type 0} (now : B → List ℕ) (all : List (List ℕ)) (x : List ℕ) (o : Option B) → MatchOption o (all ≡ x ∷ []) (λ r. all ≡ x ∷ pieces (now r)) → all ≡ x ∷ lines_of (option_map now o)
+next_lines : {B : Type 0} (now : B → List ℕ) (all : List (List ℕ)) (x : List ℕ) (o : Option B)
+    → MatchOption o (all ≡ x ∷ []) (λ r. all ≡ x ∷ pieces (now r)) → all ≡ x ∷ lines_of (option_map now o)
 next_lines now all x None is = is
 next_lines now all x (Some r) is = is
 
-pub lines_here : {B : Type 0} (now : B → List ℕ) (rest : Option B) (b : B) (line : List ℕ) (later : Option B) → rest ≡ Some b → MatchOption later (pieces (now b) ≡ line ∷ []) (λ r. pieces (now b) ≡ line ∷ pieces (now r)) → lines_of (option_map now rest) ≡ line ∷ lines_of (option_map now later)
-lines_here {B = B} now rest b line later is next = ap (λ (o : Option B). lines_of (option_map now o)) is ∙ next_lines now (pieces (now b)) line later next
+pub lines_here : {B : Type 0} (now : B → List ℕ) (rest : Option B) (b : B) (line : List ℕ) (later : Option B) → rest ≡ Some b
+    → MatchOption later (pieces (now b) ≡ line ∷ []) (λ r. pieces (now b) ≡ line ∷ pieces (now r))
+    → lines_of (option_map now rest) ≡ line ∷ lines_of (option_map now later)
+lines_here {B = B} now rest b line later is next = ap (λ (o : Option B). lines_of (option_map now o)) is
+    ∙ next_lines now (pieces (now b)) line later next
 
 pub lines_done : {B : Type 0} (now : B → List ℕ) (rest : Option B) → ((b : B) → rest ≡ Some b → ⊥) → lines_of (option_map now rest) ≡ []
 lines_done now None none = refl
 lines_done now (Some b) none = absurd (none b refl)
 
-next_scenes : {B : Type 0} (now : B → List ℕ) (all : List (List ℕ)) (x : List ℕ) (o : Option B) → MatchOption o (all ≡ x ∷ []) (λ r. all ≡ x ∷ scenes (now r)) → all ≡ x ∷ left_of (option_map now o)
+next_scenes : {B : Type 0} (now : B → List ℕ) (all : List (List ℕ)) (x : List ℕ) (o : Option B)
+    → MatchOption o (all ≡ x ∷ []) (λ r. all ≡ x ∷ scenes (now r)) → all ≡ x ∷ left_of (option_map now o)
 next_scenes now all x None is = is
 next_scenes now all x (Some r) is = is
 
-pub scenes_here : {B : Type 0} (now : B → List ℕ) (rest : Option B) (b : B) (scene : List ℕ) (later : Option B) → rest ≡ Some b → MatchOption later (scenes (now b) ≡ scene ∷ []) (λ r. scenes (now b) ≡ scene ∷ scenes (now r)) → left_of (option_map now rest) ≡ scene ∷ left_of (option_map now later)
-scenes_here {B = B} now rest b scene later is next = ap (λ (o : Option B). left_of (option_map now o)) is ∙ next_scenes now (scenes (now b)) scene later next
+pub scenes_here : {B : Type 0} (now : B → List ℕ) (rest : Option B) (b : B) (scene : List ℕ) (later : Option B) → rest ≡ Some b
+    → MatchOption later (scenes (now b) ≡ scene ∷ []) (λ r. scenes (now b) ≡ scene ∷ scenes (now r))
+    → left_of (option_map now rest) ≡ scene ∷ left_of (option_map now later)
+scenes_here {B = B} now rest b scene later is next = ap (λ (o : Option B). left_of (option_map now o)) is
+    ∙ next_scenes now (scenes (now b)) scene later next
 
 pub scenes_done : {B : Type 0} (now : B → List ℕ) (rest : Option B) → ((b : B) → rest ≡ Some b → ⊥) → left_of (option_map now rest) ≡ []
 scenes_done now None none = refl
@@ -291,6 +333,8 @@ begins_with all read none = rw none (read_begins all)
 pub few_pieces : (b : List ℕ) → length (pieces b) ≤ length b + 1
 few_pieces b = omega (arith, length-slice_split (λ x. x == 10) b, count_by-le-length (λ x. x == 10) b)
 
-pub counts_fit : (start ws : List World) (all : List (List ℕ)) (bytes line : List ℕ) (left : List (List ℕ)) (a b : Option (List ℕ)) (refused more : ℕ) (it : Served) → all ≡ pieces bytes → length bytes ≤ 2 ^ 31 → Serves start all ws (line ∷ left) a b refused → more ≡ cond (is_refusal it) 1 0 → refused + more < 2 ^ 64
+pub counts_fit : (start ws : List World) (all : List (List ℕ)) (bytes line : List ℕ) (left : List (List ℕ)) (a b : Option (List ℕ))
+    (refused more : ℕ) (it : Served) → all ≡ pieces bytes → length bytes ≤ 2 ^ 31 → Serves start all ws (line ∷ left) a b refused
+    → more ≡ cond (is_refusal it) 1 0 → refused + more < 2 ^ 64
 counts_fit start ws all bytes line left a b refused more it is short has counts =
     omega (arith, has.few, counts, one_at_most (is_refusal it), ap length is, few_pieces bytes, short)

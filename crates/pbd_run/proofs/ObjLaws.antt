@@ -1,5 +1,6 @@
 -- A session that is written as OBJ text, one command after another.
-use Rattle.std.proofs.Common.{◌≡◌, ◌∙◌, sym, ap, refl, subst, ℕ, ◌+◌, ◌≤◌, List, [], ◌∷◌, ◌++◌, length, Option, arith, append_assoc, append-nil, zero-add}
+use Rattle.std.proofs.Common.{◌≡◌, ◌∙◌, sym, ap, refl, subst, ℕ, ◌+◌, ◌≤◌, List, [], ◌∷◌, ◌++◌, length, Option, arith, append_assoc}
+use Rattle.std.proofs.Common.{append-nil, zero-add}
 use Rattle.std.specs.Prelude.{if◌then◌else◌}
 use Rattle.std.specs.Io.KnownBytes.{Appends}
 use Rattle.pbd_io.specs.Causes.{HasRisen}
@@ -21,12 +22,14 @@ use Rattle.pbd_outcome.specs.Outcome.{ends_as, obj_outcome}
 use Rattle.pbd_run.specs.Calls.{Does}
 use Rattle.pbd_run.specs.Forms.{obj_on}
 use Rattle.pbd_run.proofs.SessionLaws.{ended}
+use Rattle.pbd_session.proofs.Running.{one_more}
 
 -- ---- the loop over the commands
 
 -- From the world and the commands at the start, it has come to this world and these commands, having appended the
 -- texts of the replies.
-pub record Ran (base : ℕ) (mesh : ObjMesh) (start : World) (all : List Command) (w : World) (left : List Command) (old new : Option (List ℕ)) (refused : ℕ) : Type 0 where
+pub record Ran (base : ℕ) (mesh : ObjMesh) (start : World) (all : List Command) (w : World) (left : List Command)
+    (old new : Option (List ℕ)) (refused : ℕ) : Type 0 where
   pub done : List ℕ
   pub bytes : Appends old new done
   pub text : done ++ obj_session_text base mesh w left ≡ obj_session_text base mesh start all
@@ -34,20 +37,23 @@ pub record Ran (base : ℕ) (mesh : ObjMesh) (start : World) (all : List Command
   pub few : refused + length left ≤ length all
 
 pub ran_begins : (base : ℕ) (mesh : ObjMesh) (w : World) (all : List Command) (old : Option (List ℕ)) → Ran base mesh w all w all old old 0
-ran_begins base mesh w all old = record { done = []; bytes = appends_nothing old; text = refl; count = zero-add (refused_count w all); few = omega arith }
-
-pub one_more : (r : Reply) → (if is_refused r then 1 else 0) ≤ 1
-one_more replies.Done = omega arith
-one_more replies.Frame = omega arith
-one_more replies.Ledger = omega arith
-one_more (replies.Refused refusal) = omega arith
+ran_begins base mesh w all old = record {
+  done = [];
+  bytes = appends_nothing old;
+  text = refl;
+  count = zero-add (refused_count w all);
+  few = omega arith;
+}
 
 -- a command was done and answered
 pub record DoesOne (w v : World) (c : Command) (r : Reply) : Type 0 where
   pub world : v ≡ after w c
   pub reply : r ≡ reply w c
 
-pub ran_next : (base : ℕ) (mesh : ObjMesh) (start : World) (all : List Command) (w v : World) (left : List Command) (c : Command) (cs : List Command) (old mid new : Option (List ℕ)) (refused : ℕ) (r : Reply) → Ran base mesh start all w left old mid refused → left ≡ c ∷ cs → DoesOne w v c r → Appends mid new (obj_text base mesh v r) → Ran base mesh start all v cs old new (refused + (if is_refused r then 1 else 0))
+pub ran_next : (base : ℕ) (mesh : ObjMesh) (start : World) (all : List Command) (w v : World) (left : List Command) (c : Command)
+    (cs : List Command) (old mid new : Option (List ℕ)) (refused : ℕ) (r : Reply) → Ran base mesh start all w left old mid refused
+    → left ≡ c ∷ cs → DoesOne w v c r → Appends mid new (obj_text base mesh v r)
+    → Ran base mesh start all v cs old new (refused + (if is_refused r then 1 else 0))
 unfolding obj_session_text refused_count
 ran_next base mesh start all w v left c cs old mid new refused r ran is does wrote =
     let here : Ran base mesh start all w (c ∷ cs) old mid refused = rw is at ran in
@@ -60,18 +66,25 @@ ran_next base mesh start all w v left c cs old mid new refused r ran is does wro
       few = omega (arith, here.few, one_more (reply w c));
     })
 
-pub ran_failed : (base : ℕ) (mesh : ObjMesh) (start : World) (all : List Command) (w v : World) (left : List Command) (c : Command) (cs : List Command) (old mid new : Option (List ℕ)) (refused : ℕ) (r : Reply) → Ran base mesh start all w left old mid refused → left ≡ c ∷ cs → DoesOne w v c r → AppendsPrefix mid new (obj_text base mesh v r) → AppendsPrefix old new (obj_session_text base mesh start all)
+pub ran_failed : (base : ℕ) (mesh : ObjMesh) (start : World) (all : List Command) (w v : World) (left : List Command) (c : Command)
+    (cs : List Command) (old mid new : Option (List ℕ)) (refused : ℕ) (r : Reply) → Ran base mesh start all w left old mid refused
+    → left ≡ c ∷ cs → DoesOne w v c r → AppendsPrefix mid new (obj_text base mesh v r)
+    → AppendsPrefix old new (obj_session_text base mesh start all)
 unfolding obj_session_text
 ran_failed base mesh start all w v left c cs old mid new refused r ran is does wrote =
     let here : Ran base mesh start all w (c ∷ cs) old mid refused = rw is at ran in
     let wrote_that : AppendsPrefix mid new (obj_text base mesh (after w c) (reply w c)) = rw (does.world, does.reply) at wrote in
-    rw (← here.text) (prefix_then _ _ _ here.done _ here.bytes (prefix_longer _ _ (obj_text base mesh (after w c) (reply w c)) (obj_session_text base mesh (after w c) cs) wrote_that))
+    rw (← here.text) (prefix_then _ _ _ here.done _ here.bytes
+    (prefix_longer _ _ (obj_text base mesh (after w c) (reply w c)) (obj_session_text base mesh (after w c) cs) wrote_that))
 
-pub record RanToEnd (base : ℕ) (mesh : ObjMesh) (start : World) (all : List Command) (old new : Option (List ℕ)) (refused : ℕ) : Type 0 where
+pub record RanToEnd (base : ℕ) (mesh : ObjMesh) (start : World) (all : List Command) (old new : Option (List ℕ))
+    (refused : ℕ) : Type 0 where
   pub bytes : Appends old new (obj_session_text base mesh start all)
   pub count : refused ≡ refused_count start all
 
-pub ran_ends : (base : ℕ) (mesh : ObjMesh) (start : World) (all : List Command) (w : World) (left : List Command) (old new : Option (List ℕ)) (refused : ℕ) → Ran base mesh start all w left old new refused → left ≡ [] → RanToEnd base mesh start all old new refused
+pub ran_ends : (base : ℕ) (mesh : ObjMesh) (start : World) (all : List Command) (w : World) (left : List Command)
+    (old new : Option (List ℕ)) (refused : ℕ) → Ran base mesh start all w left old new refused → left ≡ []
+    → RanToEnd base mesh start all old new refused
 unfolding obj_session_text refused_count
 ran_ends base mesh start all w left old new refused ran is =
     let here : Ran base mesh start all w [] old new refused = rw is at ran in
@@ -85,17 +98,26 @@ ran_ends base mesh start all w left old new refused ran is =
 -- The world v that a session has is the world w that its scene opens. These are stated over plain worlds, so that no step of
 -- an opened world is computed.
 
-ended_in : (base : ℕ) (mesh : ObjMesh) (v w : World) (cs : List Command) (k : ℕ) (s : Status) (a b : Option (List ℕ)) (m n : ℕ) → v ≡ w → s ≡ ends_as k → k ≡ refused_count v cs → Appends a b (obj_session_text base mesh v cs) → Does (obj_outcome base mesh w cs) a b m n s
+ended_in : (base : ℕ) (mesh : ObjMesh) (v w : World) (cs : List Command) (k : ℕ) (s : Status) (a b : Option (List ℕ)) (m n : ℕ) → v ≡ w
+    → s ≡ ends_as k → k ≡ refused_count v cs → Appends a b (obj_session_text base mesh v cs) → Does (obj_outcome base mesh w cs) a b m n s
 ended_in base mesh v w cs k s a b m n is ends refused wrote =
-    subst (λ (x : World). Does (obj_outcome base mesh x cs) a b m n s) is (ended k s (obj_outcome base mesh v cs) a b m n ends (ap ends_as (sym refused)) wrote)
+    subst (λ (x : World). Does (obj_outcome base mesh x cs) a b m n s) is
+    (ended k s (obj_outcome base mesh v cs) a b m n ends (ap ends_as (sym refused)) wrote)
 
-failed_in : (base : ℕ) (mesh : ObjMesh) (v w : World) (cs : List Command) (a b : Option (List ℕ)) (m n : ℕ) → v ≡ w → HasRisen m n → AppendsPrefix a b (obj_session_text base mesh v cs) → Does (obj_outcome base mesh w cs) a b m n WriteFault
-failed_in base mesh v w cs a b m n is rose wrote = subst (λ (x : World). Does (obj_outcome base mesh x cs) a b m n WriteFault) is (rose, wrote)
+failed_in : (base : ℕ) (mesh : ObjMesh) (v w : World) (cs : List Command) (a b : Option (List ℕ)) (m n : ℕ) → v ≡ w → HasRisen m n
+    → AppendsPrefix a b (obj_session_text base mesh v cs) → Does (obj_outcome base mesh w cs) a b m n WriteFault
+failed_in base mesh v w cs a b m n is rose wrote = subst (λ (x : World). Does (obj_outcome base mesh x cs) a b m n WriteFault) is
+    (rose, wrote)
 
-pub obj_ended : (base : ℕ) (mesh : ObjMesh) (v : World) (scene : Parts) (script : List ℕ) (k : ℕ) (s : Status) (a b : Option (List ℕ)) (m n : ℕ) → v ≡ opened scene → s ≡ ends_as k → k ≡ refused_count v (commands script) → Appends a b (obj_session_text base mesh v (commands script)) → Does (obj_on base mesh scene script) a b m n s
+pub obj_ended : (base : ℕ) (mesh : ObjMesh) (v : World) (scene : Parts) (script : List ℕ) (k : ℕ) (s : Status) (a b : Option (List ℕ))
+    (m n : ℕ) → v ≡ opened scene → s ≡ ends_as k → k ≡ refused_count v (commands script)
+    → Appends a b (obj_session_text base mesh v (commands script)) → Does (obj_on base mesh scene script) a b m n s
 unfolding obj_on
-obj_ended base mesh v scene script k s a b m n is ends refused wrote = ended_in base mesh v (opened scene) (commands script) k s a b m n is ends refused wrote
+obj_ended base mesh v scene script k s a b m n is ends refused wrote =
+    ended_in base mesh v (opened scene) (commands script) k s a b m n is ends refused wrote
 
-pub obj_failed : (base : ℕ) (mesh : ObjMesh) (v : World) (scene : Parts) (script : List ℕ) (a b : Option (List ℕ)) (m n : ℕ) → v ≡ opened scene → HasRisen m n → AppendsPrefix a b (obj_session_text base mesh v (commands script)) → Does (obj_on base mesh scene script) a b m n WriteFault
+pub obj_failed : (base : ℕ) (mesh : ObjMesh) (v : World) (scene : Parts) (script : List ℕ) (a b : Option (List ℕ)) (m n : ℕ)
+    → v ≡ opened scene → HasRisen m n → AppendsPrefix a b (obj_session_text base mesh v (commands script))
+    → Does (obj_on base mesh scene script) a b m n WriteFault
 unfolding obj_on
 obj_failed base mesh v scene script a b m n is rose wrote = failed_in base mesh v (opened scene) (commands script) a b m n is rose wrote

@@ -1,5 +1,6 @@
 -- The lines of a frame as OBJ text.
-use Rattle.std.proofs.Common.{◌≡◌, ◌∙◌, sym, ap, refl, subst, ℕ, ◌+◌, ◌-◌, ◌<◌, ◌≤◌, ◌^◌, List, [], ◌∷◌, ◌++◌, length, get_or, take, drop, arith, append_assoc, Option}
+use Rattle.std.proofs.Common.{◌≡◌, ◌∙◌, sym, ap, refl, subst, ℕ, ◌+◌, ◌-◌, ◌<◌, ◌≤◌, ◌^◌, List, [], ◌∷◌, ◌++◌, length, get_or, take, drop}
+use Rattle.std.proofs.Common.{arith, append_assoc, Option}
 use Rattle.std.specs.Prelude.{All, sum}
 use Rattle.std.specs.Io.KnownBytes.{Appends}
 use Rattle.std.specs.List.{flat_map}
@@ -16,21 +17,12 @@ use Rattle.pbd_obj.specs.Writing.{face_line}
 use Rattle.pbd_outcome.specs.ObjText.{comment, obj_frame, particle_line}
 use Rattle.pbd_run.specs.Calls.{IsDrawable}
 
-pub frame_is : (base : ℕ) (mesh : ObjMesh) (w : World) → obj_frame base mesh w ≡ (comment ++ header_line w) ++ (flat_map particle_line w.particles ++ flat_map (face_line base) (faces mesh))
+pub frame_is : (base : ℕ) (mesh : ObjMesh) (w : World) → obj_frame base mesh w ≡ (comment ++ header_line w)
+    ++ (flat_map particle_line w.particles ++ flat_map (face_line base) (faces mesh))
 unfolding obj_frame
 frame_is base mesh w = refl
 
 -- ---- one piece for each item
-
--- the piece of item i follows those of the items before it
-pub piece_next : {X : Type 0} (f : X → List ℕ) (xs : List X) (i : ℕ) (d : X) (piece : List ℕ) (old mid new : Option (List ℕ)) → Appends old mid (flat_map f (take i xs)) → i < length xs → piece ≡ f (get_or xs i d) → Appends mid new piece → Appends old new (flat_map f (take (i + 1) xs))
-piece_next f xs i d piece old mid new before lt is wrote =
-    let e : flat_map f (take (i + 1) xs) ≡ flat_map f (take i xs) ++ piece = ap (flat_map f) (take_more xs i d lt) ∙ (sym (flat_map_more f [] (take i xs) (get_or xs i d)) ∙ ap (λ t. flat_map f (take i xs) ++ t) (sym is)) in
-    rw e (appends_then old mid new (flat_map f (take i xs)) piece before wrote)
-
--- the pieces of all items are written
-pub pieces_end : {X : Type 0} (f : X → List ℕ) (xs : List X) (i : ℕ) (old new : Option (List ℕ)) → Appends old new (flat_map f (take i xs)) → length xs ≤ i → Appends old new (flat_map f xs)
-pieces_end f xs i old new so_far le = rw (take_all i xs le) at so_far
 
 -- ---- faces
 
@@ -46,30 +38,43 @@ pub record FacesWritten (base : ℕ) (mesh : ObjMesh) (sizes corners : List ℕ)
   pub small : All {X = List ℕ} (AreSmall base) (cut sizes corners)
   pub whole : sum sizes ≡ length corners
 
-small_face : (base : ℕ) (mesh : ObjMesh) (face : List ℕ) → base + length mesh.places < 2 ^ 31 → IsFace (length mesh.places) face → AreSmall base face
-small_face base mesh face few is = All-weaker (λ corner. corner < length mesh.places) (λ corner. base + corner ≤ 2 ^ 32 - 2) (λ corner lt. omega (arith, few, lt)) face is.within
+small_face : (base : ℕ) (mesh : ObjMesh) (face : List ℕ) → base + length mesh.places < 2 ^ 31 → IsFace (length mesh.places) face
+    → AreSmall base face
+small_face base mesh face few is = All-weaker (λ corner. corner < length mesh.places) (λ corner. base + corner ≤ 2 ^ 32 - 2)
+    (λ corner lt. omega (arith, few, lt)) face is.within
 
-pub faces_begin : (base : ℕ) (mesh : ObjMesh) (old : Option (List ℕ)) → IsDrawable base mesh → FacesWritten base mesh mesh.sizes mesh.corners old old
+pub faces_begin : (base : ℕ) (mesh : ObjMesh) (old : Option (List ℕ)) → IsDrawable base mesh
+    → FacesWritten base mesh mesh.sizes mesh.corners old old
 faces_begin base mesh old is = record {
   done = [];
   bytes = appends_nothing old;
   text = refl;
-  small = All-weaker {X = List ℕ} (λ face. IsFace (length mesh.places) face) (AreSmall base) (λ face h. small_face base mesh face is.few h) (faces mesh) is.is_mesh.faces;
+  small = All-weaker {X = List ℕ} (λ face. IsFace (length mesh.places) face) (AreSmall base) (λ face h. small_face base mesh face is.few h)
+      (faces mesh) is.is_mesh.faces;
   whole = is.is_mesh.whole;
 }
 
-pub faces_begin_at : (base : ℕ) (mesh : ObjMesh) (sizes corners : List ℕ) (old : Option (List ℕ)) → sizes ≡ mesh.sizes → corners ≡ mesh.corners → IsDrawable base mesh → FacesWritten base mesh sizes corners old old
+pub faces_begin_at : (base : ℕ) (mesh : ObjMesh) (sizes corners : List ℕ) (old : Option (List ℕ)) → sizes ≡ mesh.sizes
+    → corners ≡ mesh.corners → IsDrawable base mesh → FacesWritten base mesh sizes corners old old
 faces_begin_at base mesh sizes corners old sizes_are corners_are is = rw (sizes_are, corners_are) (faces_begin base mesh old is)
 
-at_size : (base : ℕ) (mesh : ObjMesh) (sizes : List ℕ) (i : ℕ) (corners : List ℕ) (old now : Option (List ℕ)) → FacesWritten base mesh (drop i sizes) corners old now → i < length sizes → FacesWritten base mesh (get_or sizes i 0 ∷ drop (i + 1) sizes) corners old now
-at_size base mesh sizes i corners old now so_far lt = subst (λ (left : List ℕ). FacesWritten base mesh left corners old now) (drop_more sizes i 0 lt) so_far
+at_size : (base : ℕ) (mesh : ObjMesh) (sizes : List ℕ) (i : ℕ) (corners : List ℕ) (old now : Option (List ℕ))
+    → FacesWritten base mesh (drop i sizes) corners old now → i < length sizes
+    → FacesWritten base mesh (get_or sizes i 0 ∷ drop (i + 1) sizes) corners old now
+at_size base mesh sizes i corners old now so_far lt = subst (λ (left : List ℕ). FacesWritten base mesh left corners old now)
+    (drop_more sizes i 0 lt) so_far
 
-pub face_small : (base : ℕ) (mesh : ObjMesh) (sizes : List ℕ) (i : ℕ) (corners face : List ℕ) (old now : Option (List ℕ)) → FacesWritten base mesh (drop i sizes) corners old now → i < length sizes → face ≡ take (get_or sizes i 0) corners → AreSmall base face
+pub face_small : (base : ℕ) (mesh : ObjMesh) (sizes : List ℕ) (i : ℕ) (corners face : List ℕ) (old now : Option (List ℕ))
+    → FacesWritten base mesh (drop i sizes) corners old now → i < length sizes → face ≡ take (get_or sizes i 0) corners → AreSmall base face
 face_small base mesh sizes i corners face old now so_far lt is =
     let here = at_size base mesh sizes i corners old now so_far lt in
-    subst (λ (f : List ℕ). AreSmall base f) (sym is) (All-head {X = List ℕ} (AreSmall base) (take (get_or sizes i 0) corners) (cut (drop (i + 1) sizes) (drop (get_or sizes i 0) corners)) here.small)
+    subst (λ (f : List ℕ). AreSmall base f) (sym is) (All-head {X = List ℕ} (AreSmall base) (take (get_or sizes i 0) corners)
+    (cut (drop (i + 1) sizes) (drop (get_or sizes i 0) corners)) here.small)
 
-pub faces_next : (base : ℕ) (mesh : ObjMesh) (sizes : List ℕ) (i : ℕ) (corners face behind : List ℕ) (old mid now : Option (List ℕ)) → FacesWritten base mesh (drop i sizes) corners old mid → i < length sizes → face ≡ take (get_or sizes i 0) corners → behind ≡ drop (get_or sizes i 0) corners → Appends mid now (face_line base face) → FacesWritten base mesh (drop (i + 1) sizes) behind old now
+pub faces_next : (base : ℕ) (mesh : ObjMesh) (sizes : List ℕ) (i : ℕ) (corners face behind : List ℕ) (old mid now : Option (List ℕ))
+    → FacesWritten base mesh (drop i sizes) corners old mid → i < length sizes → face ≡ take (get_or sizes i 0) corners
+    → behind ≡ drop (get_or sizes i 0) corners → Appends mid now (face_line base face)
+    → FacesWritten base mesh (drop (i + 1) sizes) behind old now
 faces_next base mesh sizes i corners face behind old mid now so_far lt front back wrote =
     let here = at_size base mesh sizes i corners old mid so_far lt in
     let s = get_or sizes i 0 in
@@ -78,14 +83,19 @@ faces_next base mesh sizes i corners face behind old mid now so_far lt front bac
     rw back (record {
       done = here.done ++ face_line base (take s corners);
       bytes = appends_then _ _ _ _ _ here.bytes wrote_that;
-      text = append_assoc here.done (face_line base (take s corners)) (flat_map (face_line base) (cut (drop (i + 1) sizes) (drop s corners))) ∙ here.text;
+      text = append_assoc here.done (face_line base (take s corners))
+          (flat_map (face_line base) (cut (drop (i + 1) sizes) (drop s corners))) ∙ here.text;
       small = All-tail {X = List ℕ} (AreSmall base) (take s corners) (cut (drop (i + 1) sizes) (drop s corners)) here.small;
       whole = omega (arith, all, length-drop s corners);
     })
 
-pub faces_fail : (base : ℕ) (mesh : ObjMesh) (sizes : List ℕ) (i : ℕ) (corners face : List ℕ) (old mid now : Option (List ℕ)) → FacesWritten base mesh (drop i sizes) corners old mid → i < length sizes → face ≡ take (get_or sizes i 0) corners → AppendsPrefix mid now (face_line base face) → AppendsPrefix old now (flat_map (face_line base) (faces mesh))
+pub faces_fail : (base : ℕ) (mesh : ObjMesh) (sizes : List ℕ) (i : ℕ) (corners face : List ℕ) (old mid now : Option (List ℕ))
+    → FacesWritten base mesh (drop i sizes) corners old mid → i < length sizes → face ≡ take (get_or sizes i 0) corners
+    → AppendsPrefix mid now (face_line base face) → AppendsPrefix old now (flat_map (face_line base) (faces mesh))
 faces_fail base mesh sizes i corners face old mid now so_far lt front wrote =
     let here = at_size base mesh sizes i corners old mid so_far lt in
     let s = get_or sizes i 0 in
     let wrote_that : AppendsPrefix mid now (face_line base (take s corners)) = rw front at wrote in
-    rw (← here.text) (prefix_then _ _ _ here.done _ here.bytes (prefix_longer _ _ (face_line base (take s corners)) (flat_map (face_line base) (cut (drop (i + 1) sizes) (drop s corners))) wrote_that))
+    rw (← here.text) (prefix_then _ _ _ here.done _ here.bytes
+    (prefix_longer _ _ (face_line base (take s corners))
+    (flat_map (face_line base) (cut (drop (i + 1) sizes) (drop s corners))) wrote_that))

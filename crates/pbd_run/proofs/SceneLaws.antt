@@ -29,7 +29,8 @@ neither : {A B : Type 0} → A ⊎ B → (A → ⊥) → (B → ⊥) → ⊥
 neither (inl a) f g = f a
 neither (inr b) f g = g b
 
-pub fault_read : (limit : ℤ) (tree : Option Members) (fault : SceneFault) → scene.Reads limit (Err fault) tree → Stops (Fault fault) (tree_in limit tree)
+pub fault_read : (limit : ℤ) (tree : Option Members) (fault : SceneFault) → scene.Reads limit (Err fault) tree
+    → Stops (Fault fault) (tree_in limit tree)
 fault_read limit tree faults.OutOfMemory reads = tt
 fault_read limit None faults.NotToml reads = refl
 fault_read limit (Some t) faults.NotToml reads = absurd reads
@@ -38,14 +39,16 @@ fault_read limit (Some t) (faults.Refused rule table position key) reads = ap pa
 
 -- ---- what stops a run
 
-stopped : (r : Result Parts Outcome) (then : Parts → Result Outcome Outcome) (o : Outcome) (a b : Option (List ℕ)) (m n : ℕ) (s : Status) → r ≡ Err o → Does o a b m n s → Does (settled (r >>= then)) a b m n s
+stopped : (r : Result Parts Outcome) (then : Parts → Result Outcome Outcome) (o : Outcome) (a b : Option (List ℕ)) (m n : ℕ) (s : Status)
+    → r ≡ Err o → Does o a b m n s → Does (settled (r >>= then)) a b m n s
 stopped r then o a b m n s is does = rw is does
 
 pub gave_up : (o : Outcome) (a b : Option (List ℕ)) (m n : ℕ) (s : Status) → s ≡ OutOfMemory → Keeps a b → Does o a b m n s
 gave_up o a b m n s is keeps = rw is keeps
 
 -- whatever was to be done with the parts
-pub scene_ended : (why : SceneStop) (r : Result Parts Outcome) (then : Parts → Result Outcome Outcome) (a b : Option (List ℕ)) (m n : ℕ) (s : Status) → Stops why r → EndsForScene why a b m n s → Does (settled (r >>= then)) a b m n s
+pub scene_ended : (why : SceneStop) (r : Result Parts Outcome) (then : Parts → Result Outcome Outcome) (a b : Option (List ℕ)) (m n : ℕ)
+    (s : Status) → Stops why r → EndsForScene why a b m n s → Does (settled (r >>= then)) a b m n s
 scene_ended NotText r then a b m n s stops does = stopped r then _ a b m n s stops does
 scene_ended (Fault faults.NotToml) r then a b m n s stops does = stopped r then _ a b m n s stops does
 scene_ended (Fault (faults.Refused rule table position key)) r then a b m n s stops does = stopped r then _ a b m n s stops does

@@ -20,9 +20,11 @@ use Rattle.pbd_run.proofs.SceneLaws.{gave_up}
 
 -- what a mesh's text comes to with the halves behind it
 on_text : List ℕ → List ℕ → Parts → List ℕ → Outcome
-on_text text scene parts script = settled (mesh_in (read text) >>= λ mesh. mesh_in (with_mesh mesh parts) >>= λ whole. Ok (obj_on (length parts.particles) mesh whole script))
+on_text text scene parts script = settled (mesh_in (read text) >>= λ mesh. mesh_in (with_mesh mesh parts) >>= λ whole.
+    Ok (obj_on (length parts.particles) mesh whole script))
 
-nested : {A B : Type 0} (r : Result A Outcome) (s : A → Result B Outcome) (f : A → B → Result Outcome Outcome) → settled (r >>= λ a. s a >>= λ b. f a b) ≡ settled (r >>= λ a. s a >>= λ b. Ok (settled (f a b)))
+nested : {A B : Type 0} (r : Result A Outcome) (s : A → Result B Outcome) (f : A → B → Result Outcome Outcome)
+    → settled (r >>= λ a. s a >>= λ b. f a b) ≡ settled (r >>= λ a. s a >>= λ b. Ok (settled (f a b)))
 nested (Ok a) s f = one (s a) (f a)
   where
     one : {B : Type 0} (s : Result B Outcome) (f : B → Result Outcome Outcome) → settled (s >>= f) ≡ settled (s >>= λ b. Ok (settled (f b)))
@@ -36,17 +38,21 @@ then_halves input outer is = rw is (nested (halves_in (split outer.1)) (λ h. sc
 
 -- ---- what stops a run
 
-pub no_outer : (input : List ℕ) (a b : Option (List ℕ)) (m n : ℕ) (s : Status) → split input ≡ None → Does (stops NoScript []) a b m n s → Does (meshed input) a b m n s
+pub no_outer : (input : List ℕ) (a b : Option (List ℕ)) (m n : ℕ) (s : Status) → split input ≡ None → Does (stops NoScript []) a b m n s
+    → Does (meshed input) a b m n s
 unfolding meshed
 no_outer input a b m n s none does = rw none does
 
-pub halves_stop : (input text rest : List ℕ) (a b : Option (List ℕ)) (m n : ℕ) (s : Status) → split input ≡ Some (text, rest) → StopsAtHalves rest a b m n s → Does (meshed input) a b m n s
+pub halves_stop : (input text rest : List ℕ) (a b : Option (List ℕ)) (m n : ℕ) (s : Status) → split input ≡ Some (text, rest)
+    → StopsAtHalves rest a b m n s → Does (meshed input) a b m n s
 halves_stop input text rest a b m n s is stopped = rw (then_halves input (text, rest) is) (stopped (on_text text))
 
-faulty : {A : Type 0} (r : Result A ObjFault) (then : A → Result Outcome Outcome) (fault : ObjFault) → r ≡ Err fault → settled (mesh_in r >>= then) ≡ obj_refused fault
+faulty : {A : Type 0} (r : Result A ObjFault) (then : A → Result Outcome Outcome) (fault : ObjFault) → r ≡ Err fault
+    → settled (mesh_in r >>= then) ≡ obj_refused fault
 faulty r then fault is = rw is refl
 
-refused : {A B : Type 0} (r : Result A ObjFault) (f : A → Result B ObjFault) (g : A → B → Result Outcome Outcome) (fault : ObjFault) → (r >>= f) ≡ Err fault → settled (mesh_in r >>= λ a. mesh_in (f a) >>= g a) ≡ obj_refused fault
+refused : {A B : Type 0} (r : Result A ObjFault) (f : A → Result B ObjFault) (g : A → B → Result Outcome Outcome) (fault : ObjFault)
+    → (r >>= f) ≡ Err fault → settled (mesh_in r >>= λ a. mesh_in (f a) >>= g a) ≡ obj_refused fault
 refused (Ok a) f g fault is = faulty (f a) (g a) fault is
 refused (Err e) f g fault is = let same : e ≡ fault = cc in ap obj_refused same
 
@@ -55,7 +61,8 @@ meant : {A : Type 0} (r : Result A ObjFault) (fault : ObjFault) → (fault ≡ O
 meant r fault other (inl memory) = absurd (other memory)
 meant r fault other (inr is) = is
 
-ended : {A : Type 0} (r : Result A ObjFault) (fault : ObjFault) (o : Outcome) (a b : Option (List ℕ)) (m n : ℕ) (s : Status) → IsFaultOf r fault → (r ≡ Err fault → o ≡ obj_refused fault) → EndsForMesh fault a b m n s → Does o a b m n s
+ended : {A : Type 0} (r : Result A ObjFault) (fault : ObjFault) (o : Outcome) (a b : Option (List ℕ)) (m n : ℕ) (s : Status)
+    → IsFaultOf r fault → (r ≡ Err fault → o ≡ obj_refused fault) → EndsForMesh fault a b m n s → Does o a b m n s
 ended r (BadNumber line) o a b m n s is same does = rw (same (meant r (BadNumber line) (λ e. cc) is)) does
 ended r (BadFace line) o a b m n s is same does = rw (same (meant r (BadFace line) (λ e. cc) is)) does
 ended r (OutOfRange line) o a b m n s is same does = rw (same (meant r (OutOfRange line) (λ e. cc) is)) does
@@ -63,21 +70,28 @@ ended r TooMany o a b m n s is same does = rw (same (meant r TooMany (λ e. cc) 
 ended r (TooManyAtParticle vertex) o a b m n s is same does = rw (same (meant r (TooManyAtParticle vertex) (λ e. cc) is)) does
 ended r OutOfMemory o a b m n s is same does = gave_up o a b m n s does.0 does.1
 
-text_refused : (text scene : List ℕ) (parts : Parts) (script : List ℕ) (fault : ObjFault) → (with_text text parts) ≡ Err fault → on_text text scene parts script ≡ obj_refused fault
+text_refused : (text scene : List ℕ) (parts : Parts) (script : List ℕ) (fault : ObjFault) → (with_text text parts) ≡ Err fault
+    → on_text text scene parts script ≡ obj_refused fault
 unfolding on_text
 text_refused text scene parts script fault is = refused (read text) (λ mesh. with_mesh mesh parts) _ fault is
 
-pub mesh_stops : (input text rest scene : List ℕ) (parts : Parts) (script : List ℕ) (fault : ObjFault) (a b : Option (List ℕ)) (m n : ℕ) (s : Status) → split input ≡ Some (text, rest) → HasHalves rest scene parts script → IsFaultOf (with_text text parts) fault → EndsForMesh fault a b m n s → Does (meshed input) a b m n s
+pub mesh_stops : (input text rest scene : List ℕ) (parts : Parts) (script : List ℕ) (fault : ObjFault) (a b : Option (List ℕ)) (m n : ℕ)
+    (s : Status) → split input ≡ Some (text, rest) → HasHalves rest scene parts script → IsFaultOf (with_text text parts) fault
+    → EndsForMesh fault a b m n s → Does (meshed input) a b m n s
 mesh_stops input text rest scene parts script fault a b m n s is has of does =
     rw (then_halves input (text, rest) is ∙ of_halves (on_text text) rest scene parts script has)
     (ended (with_text text parts) fault (on_text text scene parts script) a b m n s of (text_refused text scene parts script fault) does)
 
 -- ---- a mesh in its scene
 
-text_gave : (text scene : List ℕ) (parts : Parts) (script : List ℕ) (mesh : ObjMesh) (base : ℕ) (whole : Parts) → HasMesh text parts mesh base whole → on_text text scene parts script ≡ obj_on base mesh whole script
+text_gave : (text scene : List ℕ) (parts : Parts) (script : List ℕ) (mesh : ObjMesh) (base : ℕ) (whole : Parts)
+    → HasMesh text parts mesh base whole → on_text text scene parts script ≡ obj_on base mesh whole script
 unfolding on_text
 text_gave text scene parts script mesh base whole has = rw (has.gives, has.makes, has.first) refl
 
-pub thirds_are : (input text rest scene : List ℕ) (parts : Parts) (script : List ℕ) (mesh : ObjMesh) (base : ℕ) (whole : Parts) → split input ≡ Some (text, rest) → HasHalves rest scene parts script → HasMesh text parts mesh base whole → meshed input ≡ obj_on base mesh whole script
+pub thirds_are : (input text rest scene : List ℕ) (parts : Parts) (script : List ℕ) (mesh : ObjMesh) (base : ℕ) (whole : Parts)
+    → split input ≡ Some (text, rest) → HasHalves rest scene parts script → HasMesh text parts mesh base whole
+    → meshed input ≡ obj_on base mesh whole script
 thirds_are input text rest scene parts script mesh base whole is has gave =
-    then_halves input (text, rest) is ∙ of_halves (on_text text) rest scene parts script has ∙ text_gave text scene parts script mesh base whole gave
+    then_halves input (text, rest) is ∙ of_halves (on_text text) rest scene parts script has
+    ∙ text_gave text scene parts script mesh base whole gave

@@ -28,7 +28,9 @@ use Rattle.pbd_outcome.specs.declared.status.Status.{Status}
 use Rattle.pbd_outcome.specs.declared.status.Status.TheVariants.{Done, Usage, SomeRefused, ReadFault, SceneNotText, TooManyScenes}
 use Rattle.pbd_outcome.specs.Generated.{generated}
 use Rattle.pbd_outcome.specs.Split.{split, host_split}
-use Rattle.pbd_outcome.specs.Outcome.{IsReplayed, Outcome, halves_in, large_outcome, log_outcome, mesh_in, meshed, parts_in, range, recorded, replay_status, scene_in, settled, simulated, stops, summary_outcome, tree_in, simulated_with_marks, few_in, host_halves_in, hosted, scenes_in, stops_in}
+use Rattle.pbd_outcome.specs.Outcome.{IsReplayed, Outcome, halves_in, large_outcome, log_outcome, mesh_in, meshed, parts_in, range}
+use Rattle.pbd_outcome.specs.Outcome.{recorded, replay_status, scene_in, settled, simulated, stops, summary_outcome, tree_in}
+use Rattle.pbd_outcome.specs.Outcome.{simulated_with_marks, few_in, host_halves_in, hosted, scenes_in, stops_in}
 
 -- a status that an input may lead to: neither a fault of reading nor one of the words
 abbrev pub IsEnd : Status → Type 0
@@ -45,7 +47,8 @@ abbrev StopsWhole : {A : Type 0} → Result A Outcome → Type 0
 StopsWhole (Ok a) = Unit {0}
 StopsWhole (Err o) = IsWhole o
 
-then_whole : {A : Type 0} (r : Result A Outcome) (then : A → Result Outcome Outcome) → StopsWhole r → ((a : A) → IsWhole (settled (then a))) → IsWhole (settled (r >>= then))
+then_whole : {A : Type 0} (r : Result A Outcome) (then : A → Result Outcome Outcome) → StopsWhole r → ((a : A) → IsWhole (settled (then a)))
+    → IsWhole (settled (r >>= then))
 then_whole (Ok a) then stop whole = whole a
 then_whole (Err o) then stop whole = stop
 
@@ -139,7 +142,8 @@ told_whole : {A : Type 0} (n : ℕ) (r : Result A Outcome) → StopsWhole r → 
 told_whole n (Ok a) whole = tt
 told_whole n (Err o) whole = record { rest = whole.rest; ended = whole.ended }
 
-more_whole : {A B : Type 0} (r : Result A Outcome) (then : A → Result B Outcome) → StopsWhole r → ((a : A) → StopsWhole (then a)) → StopsWhole (r >>= then)
+more_whole : {A B : Type 0} (r : Result A Outcome) (then : A → Result B Outcome) → StopsWhole r → ((a : A) → StopsWhole (then a))
+    → StopsWhole (r >>= then)
 more_whole (Ok a) then stop whole = whole a
 more_whole (Err o) then stop whole = stop
 
@@ -160,7 +164,8 @@ hosted_whole input =
 
 -- ---- a generated scene
 
-pub large_rest : (number size : ℕ) (input : List ℕ) → record (large_outcome number size []) { rest = input } ≡ large_outcome number size input
+pub large_rest : (number size : ℕ) (input : List ℕ) → record (large_outcome number size []) { rest = input }
+    ≡ large_outcome number size input
 unfolding summary_outcome
 large_rest number size input = refl
 

@@ -15,8 +15,10 @@ use Rattle.pbd_obj.specs.Reading.{read}
 use Rattle.pbd_outcome.specs.declared.job.Job.{Job}
 use Rattle.pbd_outcome.specs.declared.job.Job.TheVariants.{Simulate, Record, Replay, Large, Scramble, Obj, Marks, Host}
 use Rattle.pbd_outcome.specs.declared.status.Status.{Status}
-use Rattle.pbd_outcome.specs.declared.status.Status.TheVariants.{ReadFault, WriteFault, InputTooLong, SceneNotText, SceneNotToml, OutOfMemory}
-use Rattle.pbd_outcome.specs.Outcome.{IsReplayed, Outcome, halves_in, meshed, most, most_of_log, obj_refused, range, recorded, scene_in, scene_refused, settled, simulated, stops, simulated_with_marks, hosted, scenes_in, stops_in}
+use Rattle.pbd_outcome.specs.declared.status.Status.TheVariants.{ReadFault, WriteFault, InputTooLong, SceneNotText, SceneNotToml}
+use Rattle.pbd_outcome.specs.declared.status.Status.TheVariants.{OutOfMemory}
+use Rattle.pbd_outcome.specs.Outcome.{IsReplayed, Outcome, halves_in, meshed, most, most_of_log, obj_refused, range, recorded, scene_in}
+use Rattle.pbd_outcome.specs.Outcome.{scene_refused, settled, simulated, stops, simulated_with_marks, hosted, scenes_in, stops_in}
 use Rattle.pbd_outcome.specs.Split.{split}
 use Rattle.pbd_outcome.specs.Statuses.{broken_at}
 use Rattle.pbd_run.specs.declared.reading.ReadEnd.{ReadEnd}

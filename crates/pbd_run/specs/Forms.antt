@@ -6,7 +6,8 @@ use Rattle.pbd_script.specs.Commands.{commands}
 use Rattle.pbd_obj.specs.declared.mesh.ObjMesh.{ObjMesh}
 use Rattle.pbd_log.specs.declared.entry.Entry.{Entry}
 use Rattle.pbd_session.specs.Replaying.{replayed}
-use Rattle.pbd_outcome.specs.Outcome.{Outcome, obj_outcome, record_outcome, replay_outcome, session_outcome, summary_outcome, marks_outcome, host_outcome}
+use Rattle.pbd_outcome.specs.Outcome.{Outcome, obj_outcome, record_outcome, replay_outcome, session_outcome, summary_outcome, marks_outcome}
+use Rattle.pbd_outcome.specs.Outcome.{host_outcome}
 use Rattle.pbd_marks.specs.Marked.{unmarked}
 use Rattle.pbd_marks.specs.Script.{mark_commands}
 use Rattle.pbd_script.specs.Lines.{pieces}

@@ -1,9 +1,10 @@
 -- What the checks of keys and entries accept.
-use Rattle.std.proofs.Common.{◌≡◌, refl, ℕ, ◌+◌, ◌≤◌, List, [], ◌∷◌, ◌++◌, length, Bool, true, false, Ok, Err, Option, Some, None, arith, pos, negsuc, ℤ, subst}
+use Rattle.std.proofs.Common.{◌≡◌, refl, ℕ, ◌+◌, ◌≤◌, List, [], ◌∷◌, ◌++◌, length, Bool, true, false, Ok, Err, Option, Some, None, arith}
+use Rattle.std.proofs.Common.{pos, negsuc, ℤ, subst}
 use Rattle.std.specs.Prelude.{unwrap_or, ◌&&◌, nat_le, int_le, unsigned_abs}
 use Rattle.std.specs.List.{list_all}
 use Rattle.std.proofs.lemmas.Int.{ints}
-use Rattle.std.proofs.lemmas.Bool.{and_parts}
+use Rattle.std.proofs.lemmas.Bool.{and_parts, leb-true}
 use Rattle.std.proofs.lemmas.Bool.Decides.{nat_tests}
 use Rattle.std.proofs.lemmas.List.{length-append}
 use Rattle.std.proofs.lemmas.List.Folds.{list_all-append}
@@ -18,7 +19,8 @@ use Rattle.pbd_scene.specs.declared.fault.TableName.{TableName}
 use Rattle.pbd_scene.specs.declared.fault.KeyName.TheVariants as keys
 use Rattle.pbd_scene.specs.Checks.{Checked, ◌>>=◌, expect, expect_some, each}
 use Rattle.pbd_scene.specs.Keys.{table_text}
-use Rattle.pbd_scene.specs.Values.{value_of, found, integer, any_integer, required_integer, optional_integer, integer_or, count_or, vector, three_integers, required_vector, vector_or, array_of, at, entries, entries_of, table_of}
+use Rattle.pbd_scene.specs.Values.{value_of, found, integer, any_integer, required_integer, optional_integer, integer_or, count_or, vector}
+use Rattle.pbd_scene.specs.Values.{three_integers, required_vector, vector_or, array_of, at, entries, entries_of, table_of}
 
 -- ---- chains of checks
 
@@ -26,7 +28,8 @@ pub bind_ok : {A B : Type 0} (r : Checked A) (f : A → Checked B) (y : B) → r
 bind_ok (Ok x) f y is = (x, refl, is)
 bind_ok (Err e) f y is = cc
 
-pub expect_ok : (test : Bool) (rule : SceneRule) (place : Place) (key : KeyName) (u : Unit {0}) → expect test rule place key ≡ Ok u → test ≡ true
+pub expect_ok : (test : Bool) (rule : SceneRule) (place : Place) (key : KeyName) (u : Unit {0}) → expect test rule place key ≡ Ok u
+    → test ≡ true
 expect_ok true rule place key u is = refl
 expect_ok false rule place key u is = cc
 
@@ -38,12 +41,15 @@ pub through : {A B P : Type 0} (r : Checked A) (f : A → Checked B) (y : B) →
 through r f y is k = let b = bind_ok r f y is in k b.0 b.1 b.2
 
 -- a test, and then a value
-pub tested : {A : Type 0} (test : Bool) (rule : SceneRule) (place : Place) (key : KeyName) (x y : A) → expect test rule place key >>= (λ _. Ok x) ≡ Ok y → (test ≡ true) × (x ≡ y)
+pub tested : {A : Type 0} (test : Bool) (rule : SceneRule) (place : Place) (key : KeyName) (x y : A)
+    → expect test rule place key >>= (λ _. Ok x) ≡ Ok y → (test ≡ true) × (x ≡ y)
 tested true rule place key x y is = (refl, cc)
 tested false rule place key x y is = cc
 
 -- a value that a check accepted, or the default
-pub found_ok : {A : Type 0} (check : Data → Checked A) (test : A → Bool) (default : A) → test default ≡ true → ((d : Data) (x : A) → check d ≡ Ok x → test x ≡ true) → (o : Option Data) (value : Option A) → found check o ≡ Ok value → test (unwrap_or value default) ≡ true
+pub found_ok : {A : Type 0} (check : Data → Checked A) (test : A → Bool) (default : A) → test default ≡ true
+    → ((d : Data) (x : A) → check d ≡ Ok x → test x ≡ true) → (o : Option Data) (value : Option A) → found check o ≡ Ok value
+    → test (unwrap_or value default) ≡ true
 found_ok check test default fits each_fits None v is = let e : v ≡ None = cc in rw e fits
 found_ok check test default fits each_fits (Some d) v is =
     let b = bind_ok (check d) (λ x. Ok (Some x)) v is in
@@ -55,30 +61,37 @@ found_ok check test default fits each_fits (Some d) v is =
 abbrev pub between : ℤ → ℤ → ℤ → Bool
 between low high n = int_le low n && int_le n high
 
-integer_ok : (place : Place) (key : KeyName) (low high : ℤ) (d : Data) (n : ℤ) → integer place key low high d ≡ Ok n → between low high n ≡ true
+integer_ok : (place : Place) (key : KeyName) (low high : ℤ) (d : Data) (n : ℤ) → integer place key low high d ≡ Ok n
+    → between low high n ≡ true
 integer_ok place key low high d n is =
     let a = bind_ok (any_integer place key d) (λ n. expect (between low high n) OutOfRange place key >>= λ _. Ok n) n is in
     let t = tested (between low high a.0) OutOfRange place key a.0 n a.2 in
     rw (← t.1) t.0
 
-pub required_integer_ok : (place : Place) (key : KeyName) (low high : ℤ) (ms : Members) (n : ℤ) → required_integer place key low high ms ≡ Ok n → between low high n ≡ true
+pub required_integer_ok : (place : Place) (key : KeyName) (low high : ℤ) (ms : Members) (n : ℤ)
+    → required_integer place key low high ms ≡ Ok n → between low high n ≡ true
 unfolding required_integer
 required_integer_ok place key low high ms n is =
     let a = bind_ok (expect_some (value_of key ms) MissingKey place key) (integer place key low high) n is in
     integer_ok place key low high a.0 n a.2
 
-pub integer_or_ok : (place : Place) (key : KeyName) (low high default : ℤ) (ms : Members) (n : ℤ) → between low high default ≡ true → integer_or place key low high default ms ≡ Ok n → between low high n ≡ true
+pub integer_or_ok : (place : Place) (key : KeyName) (low high default : ℤ) (ms : Members) (n : ℤ) → between low high default ≡ true
+    → integer_or place key low high default ms ≡ Ok n → between low high n ≡ true
 unfolding integer_or optional_integer
 integer_or_ok place key low high default ms n fits is =
     let a = bind_ok (optional_integer place key low high ms) (λ v. Ok (unwrap_or v default)) n is in
-    let t = found_ok (integer place key low high) (between low high) default fits (λ d x e. integer_ok place key low high d x e) (value_of key ms) a.0 a.1 in
+    let t = found_ok (integer place key low high) (between low high) default fits (λ d x e. integer_ok place key low high d x e)
+    (value_of key ms) a.0 a.1 in
     rw (← same_ok (unwrap_or a.0 default) n a.2) t
 
-pub optional_some : (place : Place) (key : KeyName) (low high : ℤ) (ms : Members) (n : ℤ) → optional_integer place key low high ms ≡ Ok (Some n) → between low high n ≡ true
+pub optional_some : (place : Place) (key : KeyName) (low high : ℤ) (ms : Members) (n : ℤ)
+    → optional_integer place key low high ms ≡ Ok (Some n) → between low high n ≡ true
 unfolding optional_integer
-optional_some place key low high ms n is = found_some (integer place key low high) (between low high) (λ d x e. integer_ok place key low high d x e) (value_of key ms) n is
+optional_some place key low high ms n is = found_some (integer place key low high) (between low high)
+    (λ d x e. integer_ok place key low high d x e) (value_of key ms) n is
   where
-    found_some : {A : Type 0} (check : Data → Checked A) (test : A → Bool) → ((d : Data) (x : A) → check d ≡ Ok x → test x ≡ true) → (o : Option Data) (x : A) → found check o ≡ Ok (Some x) → test x ≡ true
+    found_some : {A : Type 0} (check : Data → Checked A) (test : A → Bool) → ((d : Data) (x : A) → check d ≡ Ok x → test x ≡ true)
+        → (o : Option Data) (x : A) → found check o ≡ Ok (Some x) → test x ≡ true
     found_some check test fits None x is = cc
     found_some check test fits (Some d) x is =
         let b = bind_ok (check d) (λ x. Ok (Some x)) (Some x) is in
@@ -92,7 +105,8 @@ count_between low high (negsuc n) t = (absurd (grind (arith, ints, nat_tests)), 
 count_test : (low high n : ℕ) → low ≤ n → n ≤ high → between (pos low) (pos high) (pos n) ≡ true
 count_test low high n h k = grind (arith, ints, nat_tests)
 
-pub count_or_ok : (place : Place) (key : KeyName) (low high default : ℕ) (ms : Members) (n : ℕ) → low ≤ default → default ≤ high → count_or place key low high default ms ≡ Ok n → (low ≤ n) × (n ≤ high)
+pub count_or_ok : (place : Place) (key : KeyName) (low high default : ℕ) (ms : Members) (n : ℕ) → low ≤ default → default ≤ high
+    → count_or place key low high default ms ≡ Ok n → (low ≤ n) × (n ≤ high)
 unfolding count_or
 count_or_ok place key low high default ms n h k is =
     let a = bind_ok (integer_or place key (pos low) (pos high) (pos default) ms) (λ n. Ok (unsigned_abs n)) n is in
@@ -101,34 +115,42 @@ count_or_ok place key low high default ms n h k is =
 
 vector_ok : (place : Place) (key : KeyName) (limit : ℤ) (d : Data) (v : Vec3) → vector place key limit d ≡ Ok v → is_within limit v ≡ true
 vector_ok place key limit d v is =
-    let a = bind_ok (expect_some (three_integers d) WrongType place key) (λ v. expect (is_within limit v) OutOfRange place key >>= λ _. Ok v) v is in
+    let a = bind_ok (expect_some (three_integers d) WrongType place key)
+    (λ v. expect (is_within limit v) OutOfRange place key >>= λ _. Ok v) v is in
     let t = tested (is_within limit a.0) OutOfRange place key a.0 v a.2 in
     rw (← t.1) t.0
 
-pub required_vector_ok : (place : Place) (key : KeyName) (limit : ℤ) (ms : Members) (v : Vec3) → required_vector place key limit ms ≡ Ok v → is_within limit v ≡ true
+pub required_vector_ok : (place : Place) (key : KeyName) (limit : ℤ) (ms : Members) (v : Vec3) → required_vector place key limit ms ≡ Ok v
+    → is_within limit v ≡ true
 unfolding required_vector
 required_vector_ok place key limit ms v is =
     let a = bind_ok (expect_some (value_of key ms) MissingKey place key) (vector place key limit) v is in
     vector_ok place key limit a.0 v a.2
 
-pub vector_or_ok : (place : Place) (key : KeyName) (limit : ℤ) (default : Vec3) (ms : Members) (v : Vec3) → is_within limit default ≡ true → vector_or place key limit default ms ≡ Ok v → is_within limit v ≡ true
+pub vector_or_ok : (place : Place) (key : KeyName) (limit : ℤ) (default : Vec3) (ms : Members) (v : Vec3) → is_within limit default ≡ true
+    → vector_or place key limit default ms ≡ Ok v → is_within limit v ≡ true
 unfolding vector_or
 vector_or_ok place key limit default ms v fits is =
     let a = bind_ok (found (vector place key limit) (value_of key ms)) (λ w. Ok (unwrap_or w default)) v is in
-    let t = found_ok (vector place key limit) (is_within limit) default fits (λ d x e. vector_ok place key limit d x e) (value_of key ms) a.0 a.1 in
+    let t = found_ok (vector place key limit) (is_within limit) default fits (λ d x e. vector_ok place key limit d x e)
+    (value_of key ms) a.0 a.1 in
     rw (← same_ok (unwrap_or a.0 default) v a.2) t
 
 -- ---- what is read one after another
 
 -- a fact of the items so far, kept by each item that is read
-pub each_keeps : {X A : Type 0} (read : List A → X → Checked A) (P : List A → Type 0) → ((front : List A) (x : X) (y : A) → P front → read front x ≡ Ok y → P (front ++ y ∷ [])) → (before : List A) (xs : List X) (ys : List A) → P before → each read before xs ≡ Ok ys → P ys
+pub each_keeps : {X A : Type 0} (read : List A → X → Checked A) (P : List A → Type 0)
+    → ((front : List A) (x : X) (y : A) → P front → read front x ≡ Ok y → P (front ++ y ∷ []))
+    → (before : List A) (xs : List X) (ys : List A)
+    → P before → each read before xs ≡ Ok ys → P ys
 unfolding each
 each_keeps read P next before [] ys held is = subst P (same_ok before ys is) held
 each_keeps read P next before (x ∷ xs) ys held is =
     let b = bind_ok (read before x) (λ y. each read (before ++ y ∷ []) xs) ys is in
     each_keeps read P next (before ++ b.0 ∷ []) xs ys (next before x b.0 held b.1) b.2
 
-pub each_count : {X A : Type 0} (read : List A → X → Checked A) (before : List A) (xs : List X) (ys : List A) → each read before xs ≡ Ok ys → length ys ≡ length before + length xs
+pub each_count : {X A : Type 0} (read : List A → X → Checked A) (before : List A) (xs : List X) (ys : List A) → each read before xs ≡ Ok ys
+    → length ys ≡ length before + length xs
 unfolding each
 each_count read before [] ys is = let e = same_ok before ys is in rw (← e) (omega arith)
 each_count read before (x ∷ xs) ys is =
@@ -137,45 +159,53 @@ each_count read before (x ∷ xs) ys is =
     omega (arith, rest, length-append before (b.0 ∷ []))
 
 -- all pass a test that each item passes
-pub each_pass : {X A : Type 0} (read : List A → X → Checked A) (test : A → Bool) → ((front : List A) (x : X) (y : A) → read front x ≡ Ok y → test y ≡ true) → (xs : List X) (ys : List A) → each read [] xs ≡ Ok ys → list_all test ys ≡ true
-each_pass read test fits xs ys is = each_keeps read (λ front. list_all test front ≡ true) (λ front x y held e. rw (list_all-append test front (y ∷ []), held, fits front x y e) refl) [] xs ys refl is
-
-at_most : (m n : ℕ) → nat_le m n ≡ true → m ≤ n
-at_most m n t = grind (arith, nat_tests)
+pub each_pass : {X A : Type 0} (read : List A → X → Checked A) (test : A → Bool)
+    → ((front : List A) (x : X) (y : A) → read front x ≡ Ok y → test y ≡ true) → (xs : List X) (ys : List A) → each read [] xs ≡ Ok ys
+    → list_all test ys ≡ true
+each_pass read test fits xs ys is = each_keeps read (λ front. list_all test front ≡ true)
+    (λ front x y held e. rw (list_all-append test front (y ∷ []), held, fits front x y e) refl) [] xs ys refl is
 
 -- an array of a table has at most so many entries
 few_entries : (table : TableName) (most : ℕ) (ms : Members) (ds : List Data) → entries_of table most ms ≡ Ok ds → length ds ≤ most
 unfolding entries_of
 few_entries table most ms ds is =
     let a = bind_ok (found (entries table most) (get_member (table_text table) ms)) (λ v. Ok (unwrap_or v [])) ds is in
-    let t = found_ok (entries table most) (λ ds. nat_le (length ds) most) [] (few_none most) (λ d x e. few_of table most d x e) (get_member (table_text table) ms) a.0 a.1 in
-    rw (← same_ok (unwrap_or a.0 []) ds a.2) (at_most (length (unwrap_or a.0 [])) most t)
+    let t = found_ok (entries table most) (λ ds. nat_le (length ds) most) [] (few_none most) (λ d x e. few_of table most d x e)
+    (get_member (table_text table) ms) a.0 a.1 in
+    rw (← same_ok (unwrap_or a.0 []) ds a.2) (leb-true (length (unwrap_or a.0 [])) most t)
   where
     few_none : (most : ℕ) → nat_le 0 most ≡ true
     few_none most = grind (arith, nat_tests)
 
     few_of : (table : TableName) (most : ℕ) (d : Data) (ds : List Data) → entries table most d ≡ Ok ds → nat_le (length ds) most ≡ true
     few_of table most d ds is =
-        let a = bind_ok (expect_some (array_of d) WrongType (at table 0) keys.NoKey) (λ ds. expect (nat_le (length ds) most) TooMany (at table 0) keys.NoKey >>= λ _. Ok ds) ds is in
+        let a = bind_ok (expect_some (array_of d) WrongType (at table 0) keys.NoKey)
+        (λ ds. expect (nat_le (length ds) most) TooMany (at table 0) keys.NoKey >>= λ _. Ok ds) ds is in
         let t = tested (nat_le (length a.0) most) TooMany (at table 0) keys.NoKey a.0 ds a.2 in
         rw (← t.1) t.0
 
 -- the entries of a table: few, and each passes
-pub table_pass : {A : Type 0} (table : TableName) (most : ℕ) (read : List A → Data → Checked A) (test : A → Bool) → ((front : List A) (d : Data) (y : A) → read front d ≡ Ok y → test y ≡ true) → (ms : Members) (ys : List A) → table_of table most read ms ≡ Ok ys → (list_all test ys ≡ true) × (length ys ≤ most)
+pub table_pass : {A : Type 0} (table : TableName) (most : ℕ) (read : List A → Data → Checked A) (test : A → Bool)
+    → ((front : List A) (d : Data) (y : A) → read front d ≡ Ok y → test y ≡ true) → (ms : Members) (ys : List A)
+    → table_of table most read ms ≡ Ok ys → (list_all test ys ≡ true) × (length ys ≤ most)
 unfolding table_of
 table_pass table most read test fits ms ys is =
     let ds = bind_ok (entries_of table most ms) (λ ds. each read [] ds) ys is in
     (each_pass read test fits ds.0 ys ds.2, omega (arith, each_count read [] ds.0 ys ds.2, few_entries table most ms ds.0 ds.1))
 
 -- the same of a fact of the entries together
-pub table_keeps : {A : Type 0} (table : TableName) (most : ℕ) (read : List A → Data → Checked A) (P : List A → Type 0) → ((front : List A) (d : Data) (y : A) → P front → read front d ≡ Ok y → P (front ++ y ∷ [])) → P [] → (ms : Members) (ys : List A) → table_of table most read ms ≡ Ok ys → P ys
+pub table_keeps : {A : Type 0} (table : TableName) (most : ℕ) (read : List A → Data → Checked A) (P : List A → Type 0)
+    → ((front : List A) (d : Data) (y : A) → P front → read front d ≡ Ok y → P (front ++ y ∷ [])) → P [] → (ms : Members) (ys : List A)
+    → table_of table most read ms ≡ Ok ys → P ys
 unfolding table_of
 table_keeps table most read P next none ms ys is =
     let ds = bind_ok (entries_of table most ms) (λ ds. each read [] ds) ys is in
     each_keeps read P next [] ds.0 ys none ds.2
 
 -- the same where what is read passes a test
-pub each_keeps_where : {X A : Type 0} (read : List A → X → Checked A) (test : X → Bool) (P : List A → Type 0) → ((front : List A) (x : X) (y : A) → test x ≡ true → P front → read front x ≡ Ok y → P (front ++ y ∷ [])) → (before : List A) (xs : List X) (ys : List A) → list_all test xs ≡ true → P before → each read before xs ≡ Ok ys → P ys
+pub each_keeps_where : {X A : Type 0} (read : List A → X → Checked A) (test : X → Bool) (P : List A → Type 0)
+    → ((front : List A) (x : X) (y : A) → test x ≡ true → P front → read front x ≡ Ok y → P (front ++ y ∷ []))
+    → (before : List A) (xs : List X) (ys : List A) → list_all test xs ≡ true → P before → each read before xs ≡ Ok ys → P ys
 unfolding each
 each_keeps_where read test P next before [] ys pass held is = subst P (same_ok before ys is) held
 each_keeps_where read test P next before (x ∷ xs) ys pass held is =

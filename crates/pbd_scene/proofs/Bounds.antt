@@ -27,18 +27,24 @@ within_limit limit v low high t =
     let w = (within_facts limit v low).0 t in
     record { x = omega (arith, w.x); y = omega (arith, w.y); z = omega (arith, w.z) }
 
-pub before_inside : (limit : ℤ) (place : Place) (at velocity gone : Vec3) (test : Bool) → gone ≡ place_before at velocity → test ≡ is_within limit gone → test ≡ true → inside_before limit place at velocity ≡ Ok gone
+pub before_inside : (limit : ℤ) (place : Place) (at velocity gone : Vec3) (test : Bool) → gone ≡ place_before at velocity
+    → test ≡ is_within limit gone → test ≡ true → inside_before limit place at velocity ≡ Ok gone
 unfolding inside_before
 before_inside limit place at velocity gone test is same holds = rw (← is, ← same, holds) refl
 
-pub before_outside : (limit : ℤ) (place : Place) (at velocity gone : Vec3) (test : Bool) (result : Result Vec3 SceneFault) → gone ≡ place_before at velocity → test ≡ is_within limit gone → test ≡ false → result ≡ Err (faults.Refused OutOfRange place.table place.position keys.Velocity) → Gives (λ v. v) result (inside_before limit place at velocity)
+pub before_outside : (limit : ℤ) (place : Place) (at velocity gone : Vec3) (test : Bool) (result : Result Vec3 SceneFault)
+    → gone ≡ place_before at velocity → test ≡ is_within limit gone → test ≡ false
+    → result ≡ Err (faults.Refused OutOfRange place.table place.position keys.Velocity)
+    → Gives (λ v. v) result (inside_before limit place at velocity)
 unfolding inside_before
 before_outside limit place at velocity gone test result is same fails refused = rw (refused, ← is, ← same, fails) refl
 
-pub reaches_both : (limit radius : ℤ) (centre up down : Vec3) (t u : Bool) → up ≡ on_by radius centre → down ≡ back_by radius centre → t ≡ is_within limit up → t ≡ true → u ≡ is_within limit down → u ≡ reaches_within limit centre radius
+pub reaches_both : (limit radius : ℤ) (centre up down : Vec3) (t u : Bool) → up ≡ on_by radius centre → down ≡ back_by radius centre
+    → t ≡ is_within limit up → t ≡ true → u ≡ is_within limit down → u ≡ reaches_within limit centre radius
 unfolding reaches_within
 reaches_both limit radius centre up down t u is_up is_down above holds below = rw (← is_up, ← is_down, ← above, ← below, holds) refl
 
-pub reaches_not : (limit radius : ℤ) (centre up : Vec3) (t : Bool) → up ≡ on_by radius centre → t ≡ is_within limit up → t ≡ false → t ≡ reaches_within limit centre radius
+pub reaches_not : (limit radius : ℤ) (centre up : Vec3) (t : Bool) → up ≡ on_by radius centre → t ≡ is_within limit up → t ≡ false
+    → t ≡ reaches_within limit centre radius
 unfolding reaches_within
 reaches_not limit radius centre up t is_up above fails = rw (← is_up, ← above, fails) refl

@@ -1,9 +1,10 @@
 -- What the entries that are accepted have.
-use Rattle.std.proofs.Common.{suc, ◌≡◌, ◌∙◌, refl, ℕ, ◌+◌, ◌-◌, ◌≤◌, ◌<◌, List, [], ◌∷◌, ◌++◌, length, Bool, true, false, Ok, Option, Some, None, arith, pos, negsuc, ℤ}
+use Rattle.std.proofs.Common.{suc, ◌≡◌, ◌∙◌, refl, ℕ, ◌+◌, ◌-◌, ◌≤◌, ◌<◌, List, [], ◌∷◌, ◌++◌, length, Bool, true, false, Ok, Option, Some}
+use Rattle.std.proofs.Common.{None, arith, pos, negsuc, ℤ}
 use Rattle.std.specs.Prelude.{unwrap_or, ◌&&◌, ◌||◌, not, nat_le, nat_lt, int_le, unsigned_abs, ◌*ℤ◌, ◌-ℤ◌, ◌≤ℤ◌, ◌^◌, if◌then◌else◌}
 use Rattle.std.specs.List.{list_all}
 use Rattle.std.proofs.lemmas.Int.{ints}
-use Rattle.std.proofs.lemmas.Bool.{and_parts, and_from}
+use Rattle.std.proofs.lemmas.Bool.{and_parts, and_from, le-leb, leb-true}
 use Rattle.std.proofs.lemmas.Bool.Decides.{nat_tests}
 use Rattle.std.proofs.lemmas.List.Folds.{list_all-append}
 use Rattle.toml.specs.Data.{Data, Members}
@@ -28,9 +29,14 @@ use Rattle.pbd_scene.specs.declared.fault.Place.{Place}
 use Rattle.pbd_scene.specs.declared.fault.KeyName.TheVariants as keys
 use Rattle.pbd_scene.specs.declared.fault.TableName.TheVariants as tables
 use Rattle.pbd_scene.specs.Checks.{expect, each}
-use Rattle.pbd_scene.specs.Values.{at, entry, required_vector, vector_or, required_integer, required_any_integer, optional_integer, integer_or, count_or, boolean_or, row, required_array}
-use Rattle.pbd_scene.specs.Entries.{particle_of, inside_before, place_before, cloth_spec_of, cloth_of, rope_particles_of, rope_links_of, rope_with, rope_of, fitting_cloth, fitting_rope, room_for, cloth_size, all_cloths_size, all_ropes_size, link_of, plane_of, sphere_of, reaches_within, on_by, back_by, row_of, key_of, step_number, step_of, steps_rise, few_rows, rising_path, path_of, track_of}
-use Rattle.pbd_scene.proofs.Accepted.{through, expect_ok, same_ok, tested, optional_some, between, required_integer_ok, integer_or_ok, count_or_ok, required_vector_ok, each_pass, each_count}
+use Rattle.pbd_scene.specs.Values.{at, entry, required_vector, vector_or, required_integer, required_any_integer, optional_integer}
+use Rattle.pbd_scene.specs.Values.{integer_or, count_or, boolean_or, row, required_array}
+use Rattle.pbd_scene.specs.Entries.{particle_of, inside_before, place_before, cloth_spec_of, cloth_of, rope_particles_of, rope_links_of}
+use Rattle.pbd_scene.specs.Entries.{rope_with, rope_of, fitting_cloth, fitting_rope, room_for, cloth_size, all_cloths_size, all_ropes_size}
+use Rattle.pbd_scene.specs.Entries.{link_of, plane_of, sphere_of, reaches_within, on_by, back_by, row_of, key_of, step_number, step_of}
+use Rattle.pbd_scene.specs.Entries.{steps_rise, few_rows, rising_path, path_of, track_of}
+use Rattle.pbd_scene.proofs.Accepted.{through, expect_ok, same_ok, tested, optional_some, between, required_integer_ok, integer_or_ok}
+use Rattle.pbd_scene.proofs.Accepted.{count_or_ok, required_vector_ok, each_pass, each_count}
 
 -- ---- particles
 
@@ -44,18 +50,20 @@ at_rest v = rw (self v.x, self v.y, self v.z) refl
 abbrev pub is_entry_particle : ℤ → Particle → Bool
 is_entry_particle limit p = is_valid_particle limit p && (not p.held || is_at_rest p)
 
-le_test : (m n : ℕ) → m ≤ n → nat_le m n ≡ true
-le_test m n h = grind (arith, nat_tests)
-
-particle_tests : (limit : ℤ) (at before : Vec3) (weight : ℕ) (held : Bool) → is_within limit at ≡ true → is_within limit before ≡ true → nat_le 1 weight ≡ true → nat_le weight 65535 ≡ true → is_entry_particle limit (record { at = at; before = if held then at else before; weight = weight; held = held }) ≡ true
+particle_tests : (limit : ℤ) (at before : Vec3) (weight : ℕ) (held : Bool) → is_within limit at ≡ true → is_within limit before ≡ true
+    → nat_le 1 weight ≡ true → nat_le weight 65535 ≡ true → is_entry_particle limit
+    (record { at = at; before = if held then at else before; weight = weight; held = held }) ≡ true
 particle_tests limit at before weight true h k low high = rw (h, low, high, at_rest at) refl
 particle_tests limit at before weight false h k low high = rw (h, k, low, high) refl
 
-inside_before_ok : (limit : ℤ) (place : Place) (at velocity v : Vec3) → inside_before limit place at velocity ≡ Ok v → is_within limit v ≡ true
+inside_before_ok : (limit : ℤ) (place : Place) (at velocity v : Vec3) → inside_before limit place at velocity ≡ Ok v
+    → is_within limit v ≡ true
 unfolding inside_before
-inside_before_ok limit place at velocity v is = let t = tested (is_within limit (place_before at velocity)) OutOfRange place keys.Velocity (place_before at velocity) v is in rw (← t.1) t.0
+inside_before_ok limit place at velocity v is = let t = tested (is_within limit (place_before at velocity)) OutOfRange place keys.Velocity
+    (place_before at velocity) v is in rw (← t.1) t.0
 
-pub particle_passes : (limit : ℤ) (before : List Particle) (d : Data) (p : Particle) → particle_of limit before d ≡ Ok p → is_entry_particle limit p ≡ true
+pub particle_passes : (limit : ℤ) (before : List Particle) (d : Data) (p : Particle) → particle_of limit before d ≡ Ok p
+    → is_entry_particle limit p ≡ true
 unfolding particle_of
 particle_passes limit before d p is =
     let place = at tables.Particle (length before) in
@@ -68,7 +76,8 @@ particle_passes limit before d p is =
     let w = count_or_ok place keys.Weight 1 65535 1 ms weight (omega arith) (omega arith) e4 in
     let all : Particle = record { at = here; before = if held then here else gone; weight = weight; held = held } in
     let same : all ≡ p = same_ok all p is6 in
-    rw (← same) (particle_tests limit here gone weight held (required_vector_ok place keys.At limit ms here e2) (inside_before_ok limit place here velocity gone e6) (le_test 1 weight w.0) (le_test weight 65535 w.1))))))))
+    rw (← same) (particle_tests limit here gone weight held (required_vector_ok place keys.At limit ms here e2)
+    (inside_before_ok limit place here velocity gone e6) (le-leb 1 weight w.0) (le-leb weight 65535 w.1))))))))
 
 -- ---- meshes
 
@@ -81,28 +90,35 @@ pub record CloseRopes (limit : ℤ) (count : ℕ) (ropes : List RopeSpec) : Type
   pub fit : list_all (rope_fits limit) ropes ≡ true
   pub room : count + all_ropes_size ropes ≤ 65536
 
-at_most : (m n : ℕ) → nat_le m n ≡ true → m ≤ n
-at_most m n t = grind (arith, nat_tests)
-
 room_ok : (place : Place) (n : ℕ) (u : Unit {0}) → room_for place n ≡ Ok u → n ≤ 65536
 unfolding room_for
-room_ok place n u is = at_most n 65536 (expect_ok (nat_le n 65536) TooMany place keys.NoKey u is)
+room_ok place n u is = leb-true n 65536 (expect_ok (nat_le n 65536) TooMany place keys.NoKey u is)
 
-fitting_cloth_ok : (limit : ℤ) (count : ℕ) (before : List ClothSpec) (place : Place) (spec s : ClothSpec) → fitting_cloth limit count before place spec ≡ Ok s → (cloth_fits limit s ≡ true) × (count + all_cloths_size before + cloth_size s ≤ 65536)
+fitting_cloth_ok : (limit : ℤ) (count : ℕ) (before : List ClothSpec) (place : Place) (spec s : ClothSpec)
+    → fitting_cloth limit count before place spec ≡ Ok s → (cloth_fits limit s ≡ true)
+    × (count + all_cloths_size before + cloth_size s ≤ 65536)
 unfolding fitting_cloth
 fitting_cloth_ok limit count before place spec s is =
     through (expect (cloth_fits limit spec) OutOfRange place keys.NoKey) _ s is (λ u e1 is1.
     through (room_for place (count + all_cloths_size before + cloth_size spec)) _ s is1 (λ v e2 is2.
-    rw (← same_ok spec s is2) (expect_ok (cloth_fits limit spec) OutOfRange place keys.NoKey u e1, room_ok place (count + all_cloths_size before + cloth_size spec) v e2)))
+    rw (← same_ok spec s is2) (
+      expect_ok (cloth_fits limit spec) OutOfRange place keys.NoKey u e1,
+      room_ok place (count + all_cloths_size before + cloth_size spec) v e2,
+    )))
 
-fitting_rope_ok : (limit : ℤ) (count : ℕ) (before : List RopeSpec) (place : Place) (spec s : RopeSpec) → fitting_rope limit count before place spec ≡ Ok s → (rope_fits limit s ≡ true) × (count + all_ropes_size before + s.count ≤ 65536)
+fitting_rope_ok : (limit : ℤ) (count : ℕ) (before : List RopeSpec) (place : Place) (spec s : RopeSpec)
+    → fitting_rope limit count before place spec ≡ Ok s → (rope_fits limit s ≡ true) × (count + all_ropes_size before + s.count ≤ 65536)
 unfolding fitting_rope
 fitting_rope_ok limit count before place spec s is =
     through (expect (rope_fits limit spec) OutOfRange place keys.NoKey) _ s is (λ u e1 is1.
     through (room_for place (count + all_ropes_size before + spec.count)) _ s is1 (λ v e2 is2.
-    rw (← same_ok spec s is2) (expect_ok (rope_fits limit spec) OutOfRange place keys.NoKey u e1, room_ok place (count + all_ropes_size before + spec.count) v e2)))
+    rw (← same_ok spec s is2) (
+      expect_ok (rope_fits limit spec) OutOfRange place keys.NoKey u e1,
+      room_ok place (count + all_ropes_size before + spec.count) v e2,
+    )))
 
-cloth_ok : (limit : ℤ) (count : ℕ) (before : List ClothSpec) (d : Data) (s : ClothSpec) → cloth_of limit count before d ≡ Ok s → (cloth_fits limit s ≡ true) × (count + all_cloths_size before + cloth_size s ≤ 65536)
+cloth_ok : (limit : ℤ) (count : ℕ) (before : List ClothSpec) (d : Data) (s : ClothSpec) → cloth_of limit count before d ≡ Ok s
+    → (cloth_fits limit s ≡ true) × (count + all_cloths_size before + cloth_size s ≤ 65536)
 unfolding cloth_of
 cloth_ok limit count before d s is =
     let place = at tables.Cloth (length before) in
@@ -110,7 +126,8 @@ cloth_ok limit count before d s is =
     through (cloth_spec_of place limit ms) _ s is1 (λ spec e2 is2.
     fitting_cloth_ok limit count before place spec s is2))
 
-rope_ok : (limit : ℤ) (count : ℕ) (before : List RopeSpec) (d : Data) (s : RopeSpec) → rope_of limit count before d ≡ Ok s → (rope_fits limit s ≡ true) × (count + all_ropes_size before + s.count ≤ 65536)
+rope_ok : (limit : ℤ) (count : ℕ) (before : List RopeSpec) (d : Data) (s : RopeSpec) → rope_of limit count before d ≡ Ok s
+    → (rope_fits limit s ≡ true) × (count + all_ropes_size before + s.count ≤ 65536)
 unfolding rope_of
 rope_ok limit count before d s is =
     let place = at tables.Rope (length before) in
@@ -119,7 +136,8 @@ rope_ok limit count before d s is =
     through (rope_links_of place limit ms) _ s is2 (λ links e3 is3.
     fitting_rope_ok limit count before place (rope_with particles links) s is3)))
 
-pub cloths_keep : (limit : ℤ) (count : ℕ) (before : List ClothSpec) (d : Data) (s : ClothSpec) → CloseCloths limit count before → cloth_of limit count before d ≡ Ok s → CloseCloths limit count (before ++ s ∷ [])
+pub cloths_keep : (limit : ℤ) (count : ℕ) (before : List ClothSpec) (d : Data) (s : ClothSpec) → CloseCloths limit count before
+    → cloth_of limit count before d ≡ Ok s → CloseCloths limit count (before ++ s ∷ [])
 cloths_keep limit count before d s held is =
     let t = cloth_ok limit count before d s is in
     record {
@@ -127,7 +145,8 @@ cloths_keep limit count before d s held is =
       room = omega (arith, t.1, sum_by-append cloth_size before (s ∷ []), sum_by-cons cloth_size s []);
     }
 
-pub ropes_keep : (limit : ℤ) (count : ℕ) (before : List RopeSpec) (d : Data) (s : RopeSpec) → CloseRopes limit count before → rope_of limit count before d ≡ Ok s → CloseRopes limit count (before ++ s ∷ [])
+pub ropes_keep : (limit : ℤ) (count : ℕ) (before : List RopeSpec) (d : Data) (s : RopeSpec) → CloseRopes limit count before
+    → rope_of limit count before d ≡ Ok s → CloseRopes limit count (before ++ s ∷ [])
 ropes_keep limit count before d s held is =
     let t = rope_ok limit count before d s is in
     let size = λ (r : RopeSpec). r.count in
@@ -146,11 +165,13 @@ is_rest limit (Some n) = between (pos 0) (pos 4 *ℤ limit) n
 abbrev pub is_link_entry : ℤ → LinkEntry → Bool
 is_link_entry limit l = is_rest limit l.rest && between (pos 0) (pos 4 *ℤ limit) l.tear && nat_le l.k 256
 
-rest_ok : (limit : ℤ) (place : Place) (ms : Members) (v : Option ℤ) → optional_integer place keys.Rest (pos 0) (pos 4 *ℤ limit) ms ≡ Ok v → is_rest limit v ≡ true
+rest_ok : (limit : ℤ) (place : Place) (ms : Members) (v : Option ℤ) → optional_integer place keys.Rest (pos 0) (pos 4 *ℤ limit) ms ≡ Ok v
+    → is_rest limit v ≡ true
 rest_ok limit place ms None is = refl
 rest_ok limit place ms (Some n) is = optional_some place keys.Rest (pos 0) (pos 4 *ℤ limit) ms n is
 
-pub rest_or : (limit : ℤ) (rest : Option ℤ) (default : ℤ) → is_rest limit rest ≡ true → between (pos 0) (pos 4 *ℤ limit) default ≡ true → between (pos 0) (pos 4 *ℤ limit) (unwrap_or rest default) ≡ true
+pub rest_or : (limit : ℤ) (rest : Option ℤ) (default : ℤ) → is_rest limit rest ≡ true → between (pos 0) (pos 4 *ℤ limit) default ≡ true
+    → between (pos 0) (pos 4 *ℤ limit) (unwrap_or rest default) ≡ true
 rest_or limit None default h k = k
 rest_or limit (Some n) default h k = h
 
@@ -158,7 +179,8 @@ rest_or limit (Some n) default h k = h
 zero_length : (limit : ℤ) → pos 0 ≤ℤ limit → between (pos 0) (pos 4 *ℤ limit) (pos 0) ≡ true
 zero_length limit low = grind (arith, ints, nat_tests)
 
-pub link_passes : (limit : ℤ) → pos 0 ≤ℤ limit → (before : List LinkEntry) (d : Data) (l : LinkEntry) → link_of limit before d ≡ Ok l → is_link_entry limit l ≡ true
+pub link_passes : (limit : ℤ) → pos 0 ≤ℤ limit → (before : List LinkEntry) (d : Data) (l : LinkEntry) → link_of limit before d ≡ Ok l
+    → is_link_entry limit l ≡ true
 unfolding link_of
 link_passes limit low before d l is =
     let place = at tables.Link (length before) in
@@ -170,7 +192,12 @@ link_passes limit low before d l is =
     through (integer_or place keys.Tear (pos 0) (pos 4 *ℤ limit) (pos 0) ms) _ l is5 (λ tear e6 is6.
     let all : LinkEntry = record { a = a; b = b; rest = rest; k = k; tear = tear } in
     let stiff = count_or_ok place keys.Stiffness 0 256 256 ms k (omega arith) (omega arith) e5 in
-    rw (← same_ok all l is6) (rw (rest_ok limit place ms rest e4, integer_or_ok place keys.Tear (pos 0) (pos 4 *ℤ limit) (pos 0) ms tear (zero_length limit low) e6, le_test k 256 stiff.1) refl)))))))
+    rw (← same_ok all l is6) (rw (
+      rest_ok limit place ms rest e4,
+      integer_or_ok place keys.Tear (pos 0) (pos 4 *ℤ limit) (pos 0) ms tear (zero_length limit low) e6,
+      le-leb k 256 stiff.1,
+    )
+    refl)))))))
 
 -- ---- shapes
 
@@ -183,21 +210,25 @@ plane_passes before d p is =
     through (required_integer place keys.Offset (negsuc 1099511627775) (pos 1099511627776) ms) _ p is2 (λ offset e3 is3.
     let all : Plane = record { normal = normal; offset = offset } in
     let t = tested (nat_lt 0 (squared_length normal)) OutOfRange place keys.Normal all p is3 in
-    let far : is_axis_within (pos (2 ^ 40)) offset ≡ true = required_integer_ok place keys.Offset (negsuc 1099511627775) (pos 1099511627776) ms offset e3 in
+    let far : is_axis_within (pos (2 ^ 40)) offset ≡ true =
+    required_integer_ok place keys.Offset (negsuc 1099511627775) (pos 1099511627776) ms offset e3 in
     rw (← t.1) (and_from _ _ (and_from _ _ (required_vector_ok place keys.Normal (pos 1024) ms normal e2) t.0) far))))
 
-reach_parts : (limit : ℤ) (centre : Vec3) (radius : ℤ) → reaches_within limit centre radius ≡ true → (is_within limit (on_by radius centre) ≡ true) × (is_within limit (back_by radius centre) ≡ true)
+reach_parts : (limit : ℤ) (centre : Vec3) (radius : ℤ) → reaches_within limit centre radius ≡ true
+    → (is_within limit (on_by radius centre) ≡ true) × (is_within limit (back_by radius centre) ≡ true)
 unfolding reaches_within
 reach_parts limit centre radius t = and_parts (is_within limit (on_by radius centre)) (is_within limit (back_by radius centre)) t
 
-sphere_tests : (limit : ℤ) (centre : Vec3) (radius : ℤ) → int_le (pos 1) radius ≡ true → is_within limit (on_by radius centre) ≡ true → is_within limit (back_by radius centre) ≡ true → is_valid_sphere limit (record { centre = centre; radius = radius }) ≡ true
+sphere_tests : (limit : ℤ) (centre : Vec3) (radius : ℤ) → int_le (pos 1) radius ≡ true → is_within limit (on_by radius centre) ≡ true
+    → is_within limit (back_by radius centre) ≡ true → is_valid_sphere limit (record { centre = centre; radius = radius }) ≡ true
 unfolding on_by back_by
 sphere_tests limit centre radius one up down = and_from _ _ (and_from _ _ one up) down
 
 at_least_one : (limit radius : ℤ) → between (pos 1) limit radius ≡ true → int_le (pos 1) radius ≡ true
 at_least_one limit radius t = (and_parts (int_le (pos 1) radius) (int_le radius limit) t).0
 
-pub sphere_passes : (limit : ℤ) (before : List Sphere) (d : Data) (s : Sphere) → sphere_of limit before d ≡ Ok s → is_valid_sphere limit s ≡ true
+pub sphere_passes : (limit : ℤ) (before : List Sphere) (d : Data) (s : Sphere) → sphere_of limit before d ≡ Ok s
+    → is_valid_sphere limit s ≡ true
 unfolding sphere_of
 sphere_passes limit before d s is =
     let place = at tables.Sphere (length before) in
@@ -207,7 +238,8 @@ sphere_passes limit before d s is =
     let all : Sphere = record { centre = centre; radius = radius } in
     let t = tested (reaches_within limit centre radius) OutOfRange place keys.Radius all s is3 in
     let reach = reach_parts limit centre radius t.0 in
-    rw (← t.1) (sphere_tests limit centre radius (at_least_one limit radius (required_integer_ok place keys.Radius (pos 1) limit ms radius e3)) reach.0 reach.1))))
+    rw (← t.1) (sphere_tests limit centre radius (at_least_one limit radius
+    (required_integer_ok place keys.Radius (pos 1) limit ms radius e3)) reach.0 reach.1))))
 
 -- ---- tracks
 
@@ -217,13 +249,15 @@ is_key limit key = nat_le key.step 1000000 && is_within limit key.place
 
 step_ok : (place : Place) (n : ℤ) (step : ℕ) → step_number place n ≡ Ok step → nat_le step 1000000 ≡ true
 unfolding step_number
-step_ok place n step is = let t = tested (int_le (pos 0) n && int_le n (pos 1000000)) OutOfRange place keys.Keys (unsigned_abs n) step is in rw (← t.1) (small n t.0)
+step_ok place n step is = let t = tested (int_le (pos 0) n && int_le n (pos 1000000)) OutOfRange place keys.Keys (unsigned_abs n) step is in
+    rw (← t.1) (small n t.0)
   where
     small : (n : ℤ) → (int_le (pos 0) n && int_le n (pos 1000000)) ≡ true → nat_le (unsigned_abs n) 1000000 ≡ true
     small (pos n) t = grind (arith, ints, nat_tests)
     small (negsuc n) t = absurd (grind (arith, ints, nat_tests))
 
-key_passes : (place : Place) (limit : ℤ) (before : List Key) (d : Data) (k : Key) → key_of place limit before d ≡ Ok k → is_key limit k ≡ true
+key_passes : (place : Place) (limit : ℤ) (before : List Key) (d : Data) (k : Key) → key_of place limit before d ≡ Ok k
+    → is_key limit k ≡ true
 unfolding key_of
 key_passes place limit before d k is =
     through (row place keys.Keys d) _ k is (λ r e1 is1.
@@ -233,14 +267,16 @@ key_passes place limit before d k is =
     rw (← t.1) (and_from _ _ (step_ok place r.step step e2) t.0)))
 
 -- steps that rise from one to the next rise from each to all later ones
-rising_keys : (limit : ℤ) (low : ℕ) (path : List Key) → list_all (is_key limit) path ≡ true → (0 < length path → low ≤ step_of path 0) → ((i : ℕ) → suc i < length path → step_of path i < step_of path (suc i)) → rising limit low path ≡ true
+rising_keys : (limit : ℤ) (low : ℕ) (path : List Key) → list_all (is_key limit) path ≡ true → (0 < length path → low ≤ step_of path 0)
+    → ((i : ℕ) → suc i < length path → step_of path i < step_of path (suc i)) → rising limit low path ≡ true
 rising_keys limit low [] pass first next = refl
 rising_keys limit low (k ∷ ks) pass first next =
     let parts = and_parts (is_key limit k) (list_all (is_key limit) ks) pass in
     let here = and_parts (nat_le k.step 1000000) (is_within limit k.place) parts.0 in
     let low_here : low ≤ k.step = first (omega arith) in
-    and_from _ _ (and_from _ _ (and_from _ _ (le_test low k.step low_here) here.0) here.1)
-    (rising_keys limit (k.step + 1) ks parts.1 (λ some. let h : k.step < step_of ks 0 = next 0 (omega (arith, some)) in omega arith) (λ i within. next (suc i) (omega (arith, within))))
+    and_from _ _ (and_from _ _ (and_from _ _ (le-leb low k.step low_here) here.0) here.1)
+    (rising_keys limit (k.step + 1) ks parts.1 (λ some. let h : k.step < step_of ks 0 = next 0 (omega (arith, some)) in omega arith)
+    (λ i within. next (suc i) (omega (arith, within))))
 
 rises_at : (path : List Key) → steps_rise path ≡ true → (i : ℕ) → suc i < length path → step_of path i < step_of path (suc i)
 unfolding steps_rise
@@ -259,7 +295,8 @@ has_keys limit path = nat_le 1 (length path) && nat_le (length path) 1024 && are
 some_keys : (m : ℕ) → nat_lt 0 m ≡ true → nat_le 1 m ≡ true
 some_keys m t = grind (arith, nat_tests)
 
-track_path : (limit : ℤ) (place : Place) (ds : List Data) (path : List Key) → length ds ≤ 1024 → rising_path place limit ds ≡ Ok path → has_keys limit path ≡ true
+track_path : (limit : ℤ) (place : Place) (ds : List Data) (path : List Key) → length ds ≤ 1024 → rising_path place limit ds ≡ Ok path
+    → has_keys limit path ≡ true
 unfolding rising_path
 track_path limit place ds path few is =
     through (each (key_of place limit) [] ds) _ path is (λ made e1 is1.
@@ -267,14 +304,14 @@ track_path limit place ds path few is =
     let ends = and_parts (nat_lt 0 (length made)) (steps_rise made) last.0 in
     let pass = each_pass (key_of place limit) (is_key limit) (λ front d k e. key_passes place limit front d k e) ds made e1 in
     let number = each_count (key_of place limit) [] ds made e1 in
-    rw (← last.1) (and_from _ _ (and_from _ _ (some_keys (length made) ends.0) (le_test (length made) 1024 (omega (arith, few, number))))
+    rw (← last.1) (and_from _ _ (and_from _ _ (some_keys (length made) ends.0) (le-leb (length made) 1024 (omega (arith, few, number))))
     (rising_begins limit made ∙ rising_keys limit 0 made pass (λ some. omega arith) (rises_at made ends.1))))
 
 rows_few : (place : Place) (ds : List Data) (u : Unit {0}) → few_rows place ds ≡ Ok u → length ds ≤ 1024
 unfolding few_rows
 rows_few place ds u is =
     through (each (row_of place) [] ds) _ u is (λ rows e1 is1.
-    at_most (length ds) 1024 (expect_ok (nat_le (length ds) 1024) TooMany place keys.Keys u is1))
+    leb-true (length ds) 1024 (expect_ok (nat_le (length ds) 1024) TooMany place keys.Keys u is1))
 
 path_passes : (limit : ℤ) (place : Place) (ms : Members) (path : List Key) → path_of place limit ms ≡ Ok path → has_keys limit path ≡ true
 unfolding path_of
@@ -283,7 +320,8 @@ path_passes limit place ms path is =
     through (few_rows place ds) _ path is1 (λ u e2 is2.
     track_path limit place ds path (rows_few place ds u e2) is2))
 
-pub track_passes : (limit : ℤ) (before : List TrackEntry) (d : Data) (t : TrackEntry) → track_of limit before d ≡ Ok t → has_keys limit t.keys ≡ true
+pub track_passes : (limit : ℤ) (before : List TrackEntry) (d : Data) (t : TrackEntry) → track_of limit before d ≡ Ok t
+    → has_keys limit t.keys ≡ true
 unfolding track_of
 track_passes limit before d t is =
     let place = at tables.Track (length before) in

@@ -17,7 +17,8 @@ bounds_of_rope : (limit : ℤ) (s : RopeSpec) → pos 0 ≤ℤ limit → unsigne
 unfolding rope_fits
 bounds_of_rope limit s low high t = rope_bounds limit s low high (and_parts (rope_in_ranges limit s) (rope_is_inside limit s) t).0
 
-pub cloth_area : (limit : ℤ) (s : ClothSpec) → pos 0 ≤ℤ limit → unsigned_abs limit ≤ 2 ^ 29 → IsTrue (cloth_fits limit s) → s.rows * s.columns ≤ 65536
+pub cloth_area : (limit : ℤ) (s : ClothSpec) → pos 0 ≤ℤ limit → unsigned_abs limit ≤ 2 ^ 29 → IsTrue (cloth_fits limit s)
+    → s.rows * s.columns ≤ 65536
 cloth_area limit s low high t =
     let b = bounds_of_cloth limit s low high t in
     omega (arith, b.rows, mul-le-mul_left s.rows b.columns)

@@ -34,16 +34,39 @@ each_of : {A : Type 0} (test : A → Bool) (d : A) (xs : List A) → list_all te
 each_of test d xs t = All-from_get_or (λ x. test x ≡ true) xs d (λ i within. at test xs i d t within)
 
 no_cloth : ClothSpec
-no_cloth = record { origin = zero_vector; across = zero_vector; down = zero_vector; rows = 0; columns = 0; weight = 0; stretch = 0; shear = 0; bend = 0; stretch_tear = pos 0; shear_tear = pos 0; bend_tear = pos 0 }
+no_cloth = record {
+  origin = zero_vector;
+  across = zero_vector;
+  down = zero_vector;
+  rows = 0;
+  columns = 0;
+  weight = 0;
+  stretch = 0;
+  shear = 0;
+  bend = 0;
+  stretch_tear = pos 0;
+  shear_tear = pos 0;
+  bend_tear = pos 0;
+}
 
 no_rope : RopeSpec
-no_rope = record { origin = zero_vector; spacing = zero_vector; count = 0; weight = 0; stretch = 0; bend = 0; stretch_tear = pos 0; bend_tear = pos 0 }
+no_rope = record {
+  origin = zero_vector;
+  spacing = zero_vector;
+  count = 0;
+  weight = 0;
+  stretch = 0;
+  bend = 0;
+  stretch_tear = pos 0;
+  bend_tear = pos 0;
+}
 
 no_particle : Particle
 no_particle = record { at = zero_vector; before = zero_vector; weight = 0; held = true }
 
 -- the cloths, and their room
-pub cloths_fit : (limit m : ℤ) (t : Tables) (xs : List ClothSpec) → xs ≡ t.cloths → m ≡ limit → TablesFit limit t → All (λ s. cloth_fits m s ≡ true) xs
+pub cloths_fit : (limit m : ℤ) (t : Tables) (xs : List ClothSpec) → xs ≡ t.cloths → m ≡ limit → TablesFit limit t
+    → All (λ s. cloth_fits m s ≡ true) xs
 cloths_fit limit m t xs same is fit = rw (same, is) (each_of (cloth_fits limit) no_cloth t.cloths fit.cloths.fit)
 
 -- ---- parts to which the cloths are added, and then the ropes
@@ -58,17 +81,28 @@ pub cloths_keep_limit : (parts : Parts) (cloths : List ClothSpec) → (fold with
 cloths_keep_limit parts [] = refl
 cloths_keep_limit parts (s ∷ ss) = cloths_keep_limit (with_cloth parts s) ss
 
-pub cloths_grow : (parts : Parts) (cloths : List ClothSpec) → length (fold with_cloth parts cloths).particles ≡ length parts.particles + all_cloths_size cloths
+pub cloths_grow : (parts : Parts) (cloths : List ClothSpec)
+    → length (fold with_cloth parts cloths).particles ≡ length parts.particles + all_cloths_size cloths
 cloths_grow parts [] = omega arith
-cloths_grow parts (s ∷ ss) = omega (arith, cloths_grow (with_cloth parts s) ss, length-append parts.particles (cloth_particles s), cloth_size s, sum_by-cons size_of_cloth s ss)
+cloths_grow parts (s ∷ ss) = omega (
+  arith,
+  cloths_grow (with_cloth parts s) ss,
+  length-append parts.particles (cloth_particles s),
+  cloth_size s,
+  sum_by-cons size_of_cloth s ss,
+)
 
-pub ropes_fit : (limit m : ℤ) (t : Tables) (ys : List RopeSpec) → ys ≡ t.ropes → m ≡ limit → TablesFit limit t → All (λ s. rope_fits m s ≡ true) ys
+pub ropes_fit : (limit m : ℤ) (t : Tables) (ys : List RopeSpec) → ys ≡ t.ropes → m ≡ limit → TablesFit limit t
+    → All (λ s. rope_fits m s ≡ true) ys
 ropes_fit limit m t ys same is fit = rw (same, is) (each_of (rope_fits limit) no_rope t.ropes fit.ropes.fit)
 
-pub meshes_room : (limit : ℤ) (t : Tables) (xs : List ClothSpec) (ys : List RopeSpec) → xs ≡ t.cloths → ys ≡ t.ropes → TablesFit limit t → length t.particles + all_cloths_size xs + all_ropes_size ys ≤ 65536
+pub meshes_room : (limit : ℤ) (t : Tables) (xs : List ClothSpec) (ys : List RopeSpec) → xs ≡ t.cloths → ys ≡ t.ropes → TablesFit limit t
+    → length t.particles + all_cloths_size xs + all_ropes_size ys ≤ 65536
 meshes_room limit t xs ys same its fit = rw (same, its) fit.ropes.room
 
-pub meshed_now : (limit : ℤ) (s : Settings) (t : Tables) (now : Parts) (xs : List ClothSpec) (ys : List RopeSpec) → now ≡ fold with_rope (fold with_cloth (plain_parts limit s t) xs) ys → xs ≡ t.cloths → ys ≡ t.ropes → IsTrue (is_limit limit) → TablesFit limit t → Meshed limit (plain_parts limit s t) now
+pub meshed_now : (limit : ℤ) (s : Settings) (t : Tables) (now : Parts) (xs : List ClothSpec) (ys : List RopeSpec)
+    → now ≡ fold with_rope (fold with_cloth (plain_parts limit s t) xs) ys → xs ≡ t.cloths → ys ≡ t.ropes → IsTrue (is_limit limit)
+    → TablesFit limit t → Meshed limit (plain_parts limit s t) now
 unfolding with_meshes
 meshed_now limit s t now xs ys is same its lim fit = rw (is, same, its) (meshes_fit limit s t lim fit)
 
@@ -78,5 +112,8 @@ within_range limit p lim t =
     let w = (within_facts limit p.at b.0).0 t in
     record { x = omega (arith, w.x, b.1); y = omega (arith, w.y, b.1); z = omega (arith, w.z, b.1) }
 
-pub places_within : (limit : ℤ) (start last : Parts) → IsTrue (is_limit limit) → Meshed limit start last → All (λ p. Within (2 ^ 29) p.at) last.particles
-places_within limit start last lim m = All-from_get_or (λ (p : Particle). Within (2 ^ 29) p.at) last.particles no_particle (λ i within. within_range limit (get_or last.particles i no_particle) lim (within_at limit last.particles i no_particle m.particles within))
+pub places_within : (limit : ℤ) (start last : Parts) → IsTrue (is_limit limit) → Meshed limit start last
+    → All (λ p. Within (2 ^ 29) p.at) last.particles
+places_within limit start last lim m = All-from_get_or (λ (p : Particle). Within (2 ^ 29) p.at) last.particles no_particle
+    (λ i within. within_range limit (get_or last.particles i no_particle) lim
+    (within_at limit last.particles i no_particle m.particles within))

@@ -1,8 +1,9 @@
 -- The parts of a tree that breaks no rule are valid.
-use Rattle.std.proofs.Common.{◌≡◌, ◌∙◌, ap, refl, ℕ, zero, suc, ◌+◌, ◌*◌, ◌≤◌, ◌<◌, List, [], ◌∷◌, ◌++◌, length, Bool, true, false, not, ◌&&◌, ◌||◌, ◌==◌, Ok, map, arith, pos, ℤ, ◌≤ℤ◌, get_or, append_assoc}
+use Rattle.std.proofs.Common.{◌≡◌, ◌∙◌, ap, refl, ℕ, zero, suc, ◌+◌, ◌*◌, ◌≤◌, ◌<◌, List, [], ◌∷◌, ◌++◌, length, Bool, true, false, not}
+use Rattle.std.proofs.Common.{◌&&◌, ◌||◌, ◌==◌, Ok, map, arith, pos, ℤ, ◌≤ℤ◌, get_or, append_assoc}
 use Rattle.std.specs.Prelude.{nat_le, nat_lt, IsTrue, fold, if◌then◌else◌}
 use Rattle.std.specs.List.{list_all, list_any}
-use Rattle.std.proofs.lemmas.Bool.{and_parts, and_from, not-true, or_left, or_right, eq-eqb}
+use Rattle.std.proofs.lemmas.Bool.{and_parts, and_from, not-true, or_left, or_right, eq-eqb, lt-ltb, le-leb, ltb-true}
 use Rattle.std.proofs.lemmas.Bool.Decides.{nat_tests}
 use Rattle.std.proofs.lemmas.List.{length-append}
 use Rattle.std.proofs.lemmas.List.Folds.{list_all-append, list_any-append}
@@ -23,7 +24,9 @@ use Rattle.pbd_world.specs.declared.parts.Link.{Link}
 use Rattle.pbd_world.specs.declared.parts.Track.{Track}
 use Rattle.pbd_world.specs.declared.parts.Parts.{Parts}
 use Rattle.pbd_world.specs.Neighbours.{is_among}
-use Rattle.pbd_world.specs.Valid.{is_limit, is_between, is_valid, is_well_formed, is_valid_particle, is_at_rest, is_valid_plane, is_valid_sphere, is_valid_track, are_valid_keys, are_valid_particles, are_valid_links, are_valid_planes, are_valid_spheres, are_valid_tracks, are_tracked_held, are_valid_numbers, none_twice}
+use Rattle.pbd_world.specs.Valid.{is_limit, is_between, is_valid, is_well_formed, is_valid_particle, is_at_rest, is_valid_plane}
+use Rattle.pbd_world.specs.Valid.{is_valid_sphere, is_valid_track, are_valid_keys, are_valid_particles, are_valid_links, are_valid_planes}
+use Rattle.pbd_world.specs.Valid.{are_valid_spheres, are_valid_tracks, are_tracked_held, are_valid_numbers, none_twice}
 use Rattle.pbd_world.proofs.ValidLinks.{links_facts}
 use Rattle.pbd_scene.specs.declared.raw.TrackEntry.{TrackEntry}
 use Rattle.pbd_scene.specs.declared.raw.Numbers.{Numbers}
@@ -35,11 +38,16 @@ use Rattle.pbd_scene.specs.declared.fault.TableName.TheVariants as tables
 use Rattle.pbd_scene.specs.Checks.{each}
 use Rattle.pbd_scene.specs.Keys.{known}
 use Rattle.pbd_scene.specs.Values.{at, vector_or, count_or, integer_or}
-use Rattle.pbd_scene.specs.Entries.{cloth_of, rope_of, particle_of, link_of, plane_of, sphere_of, track_of, cloth_size as size_of_cloth, all_cloths_size, all_ropes_size}
+use Rattle.pbd_scene.specs.Entries.{cloth_of, rope_of, particle_of, link_of, plane_of, sphere_of, track_of, cloth_size as size_of_cloth}
+use Rattle.pbd_scene.specs.Entries.{all_cloths_size, all_ropes_size}
 use Rattle.pbd_scene.specs.Naming.{particle_number, all_links, pinned, placed_track, held_still, holding}
-use Rattle.pbd_scene.specs.Scene.{at_scene, pins_of, numbers_of, settings_of, particles_of, cloths_of, ropes_of, links_of, planes_of, spheres_of, tracks_of, tables_of, with_cloth, with_rope, plain_parts, with_meshes, named, with_entries, scene_of}
-use Rattle.pbd_scene.proofs.Accepted.{through, same_ok, tested, integer_or_ok, count_or_ok, vector_or_ok, each_keeps_where, table_pass, table_keeps, each_count}
-use Rattle.pbd_scene.proofs.Entering.{at_rest, is_entry_particle, particle_passes, CloseCloths, CloseRopes, cloths_keep, ropes_keep, is_link_entry, link_passes, plane_passes, sphere_passes, has_keys, track_passes}
+use Rattle.pbd_scene.specs.Scene.{at_scene, pins_of, numbers_of, settings_of, particles_of, cloths_of, ropes_of, links_of, planes_of}
+use Rattle.pbd_scene.specs.Scene.{spheres_of, tracks_of, tables_of, with_cloth, with_rope, plain_parts, with_meshes, named, with_entries}
+use Rattle.pbd_scene.specs.Scene.{scene_of}
+use Rattle.pbd_scene.proofs.Accepted.{through, same_ok, tested, integer_or_ok, count_or_ok, vector_or_ok, each_keeps_where, table_pass}
+use Rattle.pbd_scene.proofs.Accepted.{table_keeps, each_count}
+use Rattle.pbd_scene.proofs.Entering.{at_rest, is_entry_particle, particle_passes, CloseCloths, CloseRopes, cloths_keep, ropes_keep}
+use Rattle.pbd_scene.proofs.Entering.{is_link_entry, link_passes, plane_passes, sphere_passes, has_keys, track_passes}
 use Rattle.pbd_scene.proofs.LiveLinks.{LiveLinks, live_none, live_mesh, links_fit, number_ok}
 
 -- ---- the tables
@@ -67,21 +75,45 @@ tables_fit limit ms t low is =
     through (planes_of ms) _ t is4 (λ planes e5 is5.
     through (spheres_of limit ms) _ t is5 (λ spheres e6 is6.
     through (tracks_of limit ms) _ t is6 (λ tracks e7 is7.
-    let all : Tables = record { particles = particles; cloths = cloths; ropes = ropes; links = links; planes = planes; spheres = spheres; tracks = tracks } in
-    let p = table_pass tables.Particle 65536 (particle_of limit) (is_entry_particle limit) (λ front d y e. particle_passes limit front d y e) ms particles e1 in
+    let all : Tables = record {
+      particles = particles;
+      cloths = cloths;
+      ropes = ropes;
+      links = links;
+      planes = planes;
+      spheres = spheres;
+      tracks = tracks;
+    } in
+    let p = table_pass tables.Particle 65536 (particle_of limit) (is_entry_particle limit)
+    (λ front d y e. particle_passes limit front d y e) ms particles e1 in
     let no_cloths : CloseCloths limit (length particles) [] = record { fit = refl; room = omega (arith, p.1) } in
-    let c = table_keeps tables.Cloth 64 (cloth_of limit (length particles)) (CloseCloths limit (length particles)) (λ front d y held e. cloths_keep limit (length particles) front d y held e) no_cloths ms cloths e2 in
+    let c = table_keeps tables.Cloth 64 (cloth_of limit (length particles)) (CloseCloths limit (length particles))
+    (λ front d y held e. cloths_keep limit (length particles) front d y held e) no_cloths ms cloths e2 in
     let no_ropes : CloseRopes limit (length particles + all_cloths_size cloths) [] = record { fit = refl; room = omega (arith, c.room) } in
-    let r = table_keeps tables.Rope 64 (rope_of limit (length particles + all_cloths_size cloths)) (CloseRopes limit (length particles + all_cloths_size cloths)) (λ front d y held e. ropes_keep limit (length particles + all_cloths_size cloths) front d y held e) no_ropes ms ropes e3 in
-    let l = table_pass tables.Link 524288 (link_of limit) (is_link_entry limit) (λ front d y e. link_passes limit low front d y e) ms links e4 in
+    let r = table_keeps tables.Rope 64 (rope_of limit (length particles + all_cloths_size cloths))
+    (CloseRopes limit (length particles + all_cloths_size cloths))
+    (λ front d y held e. ropes_keep limit (length particles + all_cloths_size cloths) front d y held e) no_ropes ms ropes e3 in
+    let l = table_pass tables.Link 524288 (link_of limit) (is_link_entry limit)
+    (λ front d y e. link_passes limit low front d y e) ms links e4 in
     let q = table_pass tables.Plane 256 plane_of is_valid_plane (λ front d y e. plane_passes front d y e) ms planes e5 in
-    let s = table_pass tables.Sphere 256 (sphere_of limit) (is_valid_sphere limit) (λ front d y e. sphere_passes limit front d y e) ms spheres e6 in
-    let k = table_pass tables.Track 4096 (track_of limit) (λ t. has_keys limit t.keys) (λ front d y e. track_passes limit front d y e) ms tracks e7 in
-    let fit : TablesFit limit all = record { particles = p.0; cloths = c; ropes = r; links = l.0; few_links = l.1; planes = q.0; few_planes = q.1; spheres = s.0; few_spheres = s.1; tracks = k.0; few_tracks = k.1 } in
+    let s = table_pass tables.Sphere 256 (sphere_of limit) (is_valid_sphere limit)
+    (λ front d y e. sphere_passes limit front d y e) ms spheres e6 in
+    let k = table_pass tables.Track 4096 (track_of limit) (λ t. has_keys limit t.keys)
+    (λ front d y e. track_passes limit front d y e) ms tracks e7 in
+    let fit : TablesFit limit all = record {
+      particles = p.0;
+      cloths = c;
+      ropes = r;
+      links = l.0;
+      few_links = l.1;
+      planes = q.0;
+      few_planes = q.1;
+      spheres = s.0;
+      few_spheres = s.1;
+      tracks = k.0;
+      few_tracks = k.1;
+    } in
     rw (← same_ok all t is7) fit)))))))
-
-less : (m n : ℕ) → nat_lt m n ≡ true → m < n
-less m n t = grind (arith, nat_tests)
 
 -- ---- the scene's own keys
 
@@ -92,14 +124,9 @@ pub record SettingsFit (limit : ℤ) (s : Settings) : Type 0 where
   pub thickness : is_between (pos 0) (pos 1048576) s.thickness ≡ true
   pub friction : is_between (pos 0) (pos 256) s.friction ≡ true
 
-le_test : (m n : ℕ) → m ≤ n → nat_le m n ≡ true
-le_test m n h = grind (arith, nat_tests)
-
-lt_test : (m n : ℕ) → m < n → nat_lt m n ≡ true
-lt_test m n h = grind (arith, nat_tests)
-
 zero_within : (limit : ℤ) → IsTrue (is_limit limit) → is_within limit zero_vector ≡ true
-zero_within limit is = (within_facts limit zero_vector (limit_bounds limit is).0).1 (record { x = omega arith; y = omega arith; z = omega arith })
+zero_within limit is = (within_facts limit zero_vector (limit_bounds limit is).0).1
+    (record { x = omega arith; y = omega arith; z = omega arith })
 
 -- the numbers in their ranges
 record NumbersFit (n : Numbers) : Type 0 where
@@ -118,7 +145,7 @@ numbers_fit ms n is =
     let all : Numbers = record { passes = passes; damping = damping; thickness = thickness; friction = friction } in
     let few = count_or_ok at_scene keys.Passes 0 64 1 ms passes (omega arith) (omega arith) e1 in
     let fit : NumbersFit all = record {
-      passes = le_test passes 64 few.1;
+      passes = le-leb passes 64 few.1;
       damping = integer_or_ok at_scene keys.Damping (pos 0) (pos 1024) (pos 0) ms damping refl e2;
       thickness = integer_or_ok at_scene keys.Thickness (pos 0) (pos 1048576) (pos 0) ms thickness refl e3;
       friction = integer_or_ok at_scene keys.Friction (pos 0) (pos 256) (pos 0) ms friction refl e4;
@@ -132,7 +159,14 @@ settings_fit limit ms s lim is =
     through (vector_or at_scene keys.Gravity limit zero_vector ms) _ s is1 (λ gravity e2 is2.
     through (numbers_of ms) _ s is2 (λ n e3 is3.
     through (pins_of ms) _ s is3 (λ pins e4 is4.
-    let all : Settings = record { gravity = gravity; passes = n.passes; damping = n.damping; thickness = n.thickness; friction = n.friction; pins = pins } in
+    let all : Settings = record {
+      gravity = gravity;
+      passes = n.passes;
+      damping = n.damping;
+      thickness = n.thickness;
+      friction = n.friction;
+      pins = pins;
+    } in
     let ranges = numbers_fit ms n e3 in
     let fit : SettingsFit limit all = record {
       gravity = vector_or_ok at_scene keys.Gravity limit zero_vector ms gravity (zero_within limit lim) e2;
@@ -157,33 +191,46 @@ free_passes limit p t =
     let h = and_parts (not p.held) (is_valid_particle limit p) t in
     and_from _ _ h.1 (or_left (not p.held) (is_at_rest p) h.0)
 
-meshed_next : (limit : ℤ) (start parts : Parts) (ps : List Particle) (ls : List Link) → Meshed limit start parts → IsMesh limit (length parts.particles) ps ls → length parts.particles + length ps ≤ 65536 → Meshed limit start (record parts { particles = parts.particles ++ ps; links = parts.links ++ ls })
+meshed_next : (limit : ℤ) (start parts : Parts) (ps : List Particle) (ls : List Link) → Meshed limit start parts
+    → IsMesh limit (length parts.particles) ps ls → length parts.particles + length ps ≤ 65536
+    → Meshed limit start (record parts { particles = parts.particles ++ ps; links = parts.links ++ ls })
 meshed_next limit start parts ps ls m mesh room = record {
   others = ap (λ (q : Parts). record q { particles = parts.particles ++ ps; links = parts.links ++ ls }) m.others;
-  particles = list_all-append (is_entry_particle limit) parts.particles ps ∙ and_from _ _ m.particles (every_test (is_entry_particle limit) ps (every_more (λ p. IsTrue (is_free_and_valid limit p)) (λ p. IsTrue (is_entry_particle limit p)) ps (λ p t. free_passes limit p t) (every_from_test (is_free_and_valid limit) ps mesh.particles)));
+  particles = list_all-append (is_entry_particle limit) parts.particles ps
+      ∙ and_from _ _ m.particles (every_test (is_entry_particle limit) ps
+      (every_more (λ p. IsTrue (is_free_and_valid limit p)) (λ p. IsTrue (is_entry_particle limit p)) ps (λ p t. free_passes limit p t)
+      (every_from_test (is_free_and_valid limit) ps mesh.particles)));
   few = omega (arith, room, length-append parts.particles ps);
-  links = rw (length-append parts.particles ps) (live_mesh limit (length parts.particles) parts.links ls ps (omega (arith, m.size, mesh.size, room)) m.links mesh);
+  links = rw (length-append parts.particles ps) (live_mesh limit (length parts.particles) parts.links ls ps
+      (omega (arith, m.size, mesh.size, room)) m.links mesh);
   size = omega (arith, m.size, mesh.size, length-append parts.particles ps, length-append parts.links ls);
 }
 
-pub cloths_meshed : (limit : ℤ) (start parts : Parts) (cloths : List ClothSpec) → IsTrue (is_limit limit) → Meshed limit start parts → list_all (cloth_fits limit) cloths ≡ true → length parts.particles + all_cloths_size cloths ≤ 65536 → Meshed limit start (fold with_cloth parts cloths) × (length (fold with_cloth parts cloths).particles ≡ length parts.particles + all_cloths_size cloths)
+pub cloths_meshed : (limit : ℤ) (start parts : Parts) (cloths : List ClothSpec) → IsTrue (is_limit limit) → Meshed limit start parts
+    → list_all (cloth_fits limit) cloths ≡ true → length parts.particles + all_cloths_size cloths ≤ 65536
+    → Meshed limit start (fold with_cloth parts cloths) × (length (fold with_cloth parts cloths).particles
+    ≡ length parts.particles + all_cloths_size cloths)
 cloths_meshed limit start parts [] lim m fit room = (m, omega arith)
 cloths_meshed limit start parts (s ∷ ss) lim m fit room =
     let fits = and_parts (cloth_fits limit s) (list_all (cloth_fits limit) ss) fit in
     let sum = sum_by-cons size_of_cloth s ss in
     let size = cloth_size s in
-    let next = meshed_next limit start parts (cloth_particles s) (cloth_links s (length parts.particles)) m (cloth_mesh limit (length parts.particles) s lim fits.0) (omega (arith, room, sum, size)) in
+    let next = meshed_next limit start parts (cloth_particles s) (cloth_links s (length parts.particles)) m
+    (cloth_mesh limit (length parts.particles) s lim fits.0) (omega (arith, room, sum, size)) in
     let grown = length-append parts.particles (cloth_particles s) in
     let rest = cloths_meshed limit start (with_cloth parts s) ss lim next fits.1 (omega (arith, room, sum, size, grown)) in
     (rest.0, omega (arith, rest.1, sum, size, grown))
 
-pub ropes_meshed : (limit : ℤ) (start parts : Parts) (ropes : List RopeSpec) → IsTrue (is_limit limit) → Meshed limit start parts → list_all (rope_fits limit) ropes ≡ true → length parts.particles + all_ropes_size ropes ≤ 65536 → Meshed limit start (fold with_rope parts ropes)
+pub ropes_meshed : (limit : ℤ) (start parts : Parts) (ropes : List RopeSpec) → IsTrue (is_limit limit) → Meshed limit start parts
+    → list_all (rope_fits limit) ropes ≡ true → length parts.particles + all_ropes_size ropes ≤ 65536
+    → Meshed limit start (fold with_rope parts ropes)
 ropes_meshed limit start parts [] lim m fit room = m
 ropes_meshed limit start parts (s ∷ ss) lim m fit room =
     let fits = and_parts (rope_fits limit s) (list_all (rope_fits limit) ss) fit in
     let sum = sum_by-cons (λ (r : RopeSpec). r.count) s ss in
     let size = rope_size s in
-    let next = meshed_next limit start parts (rope_particles s) (rope_links s (length parts.particles)) m (rope_mesh limit (length parts.particles) s lim fits.0) (omega (arith, room, sum, size)) in
+    let next = meshed_next limit start parts (rope_particles s) (rope_links s (length parts.particles)) m
+    (rope_mesh limit (length parts.particles) s lim fits.0) (omega (arith, room, sum, size)) in
     let grown = length-append parts.particles (rope_particles s) in
     ropes_meshed limit start (with_rope parts s) ss lim next fits.1 (omega (arith, room, sum, size, grown))
 
@@ -196,7 +243,8 @@ plain_meshed limit s t fit = record {
   size = omega arith;
 }
 
-pub meshes_fit : (limit : ℤ) (s : Settings) (t : Tables) → IsTrue (is_limit limit) → TablesFit limit t → Meshed limit (plain_parts limit s t) (with_meshes limit s t)
+pub meshes_fit : (limit : ℤ) (s : Settings) (t : Tables) → IsTrue (is_limit limit) → TablesFit limit t
+    → Meshed limit (plain_parts limit s t) (with_meshes limit s t)
 unfolding with_meshes
 meshes_fit limit s t lim fit =
     let start = plain_parts limit s t in
@@ -206,16 +254,19 @@ meshes_fit limit s t lim fit =
 -- ---- pins and tracks
 
 -- the particles that stay are valid, and as many as before
-still_passes : (limit : ℤ) (named : Bool) (p : Particle) → is_entry_particle limit p ≡ true → is_entry_particle limit (if named then held_still p else p) ≡ true
+still_passes : (limit : ℤ) (named : Bool) (p : Particle) → is_entry_particle limit p ≡ true
+    → is_entry_particle limit (if named then held_still p else p) ≡ true
 still_passes limit true p t =
     let valid = (and_parts (is_valid_particle limit p) (not p.held || is_at_rest p) t).0 in
     let p2 = and_parts (is_within limit p.at && is_within limit p.before && nat_le 1 p.weight) (nat_le p.weight 65535) valid in
     let p1 = and_parts (is_within limit p.at && is_within limit p.before) (nat_le 1 p.weight) p2.0 in
     let p0 = and_parts (is_within limit p.at) (is_within limit p.before) p1.0 in
-    and_from _ _ (and_from _ _ (and_from _ _ (and_from _ _ p0.0 p0.0) p1.1) p2.1) (or_right (not true) (is_at_rest (held_still p)) (at_rest p.at))
+    and_from _ _ (and_from _ _ (and_from _ _ (and_from _ _ p0.0 p0.0) p1.1) p2.1)
+    (or_right (not true) (is_at_rest (held_still p)) (at_rest p.at))
 still_passes limit false p t = t
 
-holding_passes : (limit : ℤ) (names : List ℕ) (i : ℕ) (ps : List Particle) → list_all (is_entry_particle limit) ps ≡ true → list_all (is_entry_particle limit) (holding names i ps) ≡ true
+holding_passes : (limit : ℤ) (names : List ℕ) (i : ℕ) (ps : List Particle) → list_all (is_entry_particle limit) ps ≡ true
+    → list_all (is_entry_particle limit) (holding names i ps) ≡ true
 unfolding holding
 holding_passes limit names i [] t = refl
 holding_passes limit names i (p ∷ ps) t =
@@ -228,17 +279,20 @@ holding_length names i [] = refl
 holding_length names i (p ∷ ps) = ap suc (holding_length names (i + 1) ps)
 
 -- a particle that is named is held
-named_held : (names : List ℕ) (i k : ℕ) (ps : List Particle) (d : Particle) → k < length ps → is_among (i + k) names ≡ true → (get_or (holding names i ps) k d).held ≡ true
+named_held : (names : List ℕ) (i k : ℕ) (ps : List Particle) (d : Particle) → k < length ps → is_among (i + k) names ≡ true
+    → (get_or (holding names i ps) k d).held ≡ true
 unfolding holding
 named_held names i k [] d within t = absurd (omega (arith, within))
 named_held names i zero (p ∷ ps) d within t = let e : i + 0 ≡ i = omega arith in let u : is_among i names ≡ true = rw e at t in rw u refl
-named_held names i (suc k) (p ∷ ps) d within t = let e : i + suc k ≡ i + 1 + k = omega arith in named_held names (i + 1) k ps d (omega (arith, within)) (rw e at t)
+named_held names i (suc k) (p ∷ ps) d within t = let e : i + suc k ≡ i + 1 + k = omega arith in
+    named_held names (i + 1) k ps d (omega (arith, within)) (rw e at t)
 
 pub record TracksFit (limit : ℤ) (n : ℕ) (tracks : List Track) : Type 0 where
   pub valid : list_all (is_valid_track limit n) tracks ≡ true
   pub once : none_twice {A = Track} (λ t u. t.particle == u.particle) tracks ≡ true
 
-tracks_next : (limit : ℤ) (n : ℕ) (before : List Track) (entry : TrackEntry) (t : Track) → has_keys limit entry.keys ≡ true → TracksFit limit n before → placed_track n before entry ≡ Ok t → TracksFit limit n (before ++ t ∷ [])
+tracks_next : (limit : ℤ) (n : ℕ) (before : List Track) (entry : TrackEntry) (t : Track) → has_keys limit entry.keys ≡ true
+    → TracksFit limit n before → placed_track n before entry ≡ Ok t → TracksFit limit n (before ++ t ∷ [])
 unfolding placed_track
 tracks_next limit n before entry t pass held is =
     let place = at tables.Track (length before) in
@@ -249,42 +303,56 @@ tracks_next limit n before entry t pass held is =
     let free : list_any {X = Track} (λ u. u.particle == i) before ≡ false = not-true (list_any (λ u. u.particle == i) before) last.0 in
     let p2 = and_parts (nat_le 1 (length entry.keys) && nat_le (length entry.keys) 1024) (are_valid_keys limit entry.keys) pass in
     let p1 = and_parts (nat_le 1 (length entry.keys)) (nat_le (length entry.keys) 1024) p2.0 in
-    let valid : is_valid_track limit n made ≡ true = and_from _ _ (and_from _ _ (and_from _ _ (lt_test i n among) p1.0) p1.1) p2.1 in
+    let valid : is_valid_track limit n made ≡ true = and_from _ _ (and_from _ _ (and_from _ _ (lt-ltb i n among) p1.0) p1.1) p2.1 in
     let next : TracksFit limit n (before ++ made ∷ []) = record {
       valid = rw (list_all-append (is_valid_track limit n) before (made ∷ []), held.valid, valid) refl;
-      once = once_both {A = Track} (λ t u. t.particle == u.particle) before (made ∷ []) held.once (once_one {A = Track} (λ t u. t.particle == u.particle) made) (apart_one {A = Track} (λ t u. t.particle == u.particle) before made free);
+      once = once_both {A = Track} (λ t u. t.particle == u.particle) before (made ∷ []) held.once
+          (once_one {A = Track} (λ t u. t.particle == u.particle) made)
+          (apart_one {A = Track} (λ t u. t.particle == u.particle) before made free);
     } in
     rw (← last.1) next)
 
-pub tracks_fit : (limit : ℤ) (n : ℕ) (entries : List TrackEntry) (tracks : List Track) → list_all {X = TrackEntry} (λ t. has_keys limit t.keys) entries ≡ true → each (placed_track n) [] entries ≡ Ok tracks → TracksFit limit n tracks
-tracks_fit limit n entries tracks pass is = each_keeps_where (placed_track n) (λ (t : TrackEntry). has_keys limit t.keys) (TracksFit limit n) (λ front x y ok held e. tracks_next limit n front x y ok held e) [] entries tracks pass (record { valid = refl; once = refl }) is
+pub tracks_fit : (limit : ℤ) (n : ℕ) (entries : List TrackEntry) (tracks : List Track)
+    → list_all {X = TrackEntry} (λ t. has_keys limit t.keys) entries ≡ true → each (placed_track n) [] entries ≡ Ok tracks
+    → TracksFit limit n tracks
+tracks_fit limit n entries tracks pass is = each_keeps_where (placed_track n) (λ (t : TrackEntry). has_keys limit t.keys)
+    (TracksFit limit n) (λ front x y ok held e. tracks_next limit n front x y ok held e) [] entries tracks pass
+    (record { valid = refl; once = refl }) is
 
 -- ---- what is held
 
 -- the names of the tracks are among those that are named
-among_own : (front : List ℕ) (ts : List Track) → list_all {X = Track} (λ t. is_among t.particle (front ++ map {A = Track} {B = ℕ} (λ t. t.particle) ts)) ts ≡ true
+among_own : (front : List ℕ) (ts : List Track) → list_all {X = Track}
+    (λ t. is_among t.particle (front ++ map {A = Track} {B = ℕ} (λ t. t.particle) ts)) ts ≡ true
 among_own front [] = refl
 among_own front (t ∷ ts) =
-    let own : is_among t.particle (t.particle ∷ map {A = Track} {B = ℕ} (λ t. t.particle) ts) ≡ true = or_left (t.particle == t.particle) _ (eq-eqb t.particle t.particle refl) in
-    let here : is_among t.particle (front ++ t.particle ∷ map {A = Track} {B = ℕ} (λ t. t.particle) ts) ≡ true = list_any-append (λ m. m == t.particle) front (t.particle ∷ map {A = Track} {B = ℕ} (λ t. t.particle) ts) ∙ or_right (is_among t.particle front) _ own in
+    let own : is_among t.particle (t.particle ∷ map {A = Track} {B = ℕ} (λ t. t.particle) ts)
+    ≡ true = or_left (t.particle == t.particle) _ (eq-eqb t.particle t.particle refl) in
+    let here : is_among t.particle (front ++ t.particle ∷ map {A = Track} {B = ℕ} (λ t. t.particle) ts)
+    ≡ true = list_any-append (λ m. m == t.particle) front (t.particle ∷ map {A = Track} {B = ℕ} (λ t. t.particle) ts)
+    ∙ or_right (is_among t.particle front) _ own in
     let rest = rw append_assoc at (among_own (front ++ t.particle ∷ []) ts) in
     and_from _ _ here rest
 
-tracked_held : (limit : ℤ) (names : List ℕ) (ps : List Particle) (ts : List Track) → list_all (is_valid_track limit (length ps)) ts ≡ true → list_all {X = Track} (λ t. is_among t.particle names) ts ≡ true → are_tracked_held ts (holding names 0 ps) ≡ true
+tracked_held : (limit : ℤ) (names : List ℕ) (ps : List Particle) (ts : List Track) → list_all (is_valid_track limit (length ps)) ts ≡ true
+    → list_all {X = Track} (λ t. is_among t.particle names) ts ≡ true → are_tracked_held ts (holding names 0 ps) ≡ true
 tracked_held limit names ps [] valid among = refl
 tracked_held limit names ps (t ∷ ts) valid among =
     let v = and_parts (is_valid_track limit (length ps) t) (list_all (is_valid_track limit (length ps)) ts) valid in
     let a = and_parts (is_among t.particle names) (list_all {X = Track} (λ t. is_among t.particle names) ts) among in
-    let p2 = and_parts (nat_lt t.particle (length ps) && nat_le 1 (length t.keys) && nat_le (length t.keys) 1024) (are_valid_keys limit t.keys) v.0 in
+    let p2 = and_parts (nat_lt t.particle (length ps) && nat_le 1 (length t.keys) && nat_le (length t.keys) 1024)
+    (are_valid_keys limit t.keys) v.0 in
     let p1 = and_parts (nat_lt t.particle (length ps) && nat_le 1 (length t.keys)) (nat_le (length t.keys) 1024) p2.0 in
     let p0 = and_parts (nat_lt t.particle (length ps)) (nat_le 1 (length t.keys)) p1.0 in
     let e : 0 + t.particle ≡ t.particle = omega arith in
     let named_here : is_among (0 + t.particle) names ≡ true = rw e a.0 in
-    and_from _ _ (named_held names 0 t.particle ps _ (less t.particle (length ps) p0.0) named_here) (tracked_held limit names ps ts v.1 a.1)
+    and_from _ _ (named_held names 0 t.particle ps _ (ltb-true t.particle (length ps) p0.0) named_here)
+    (tracked_held limit names ps ts v.1 a.1)
 
 -- ---- all together
 
-split_all : {A : Type 0} (f g : A → Bool) (xs : List A) → list_all (λ x. f x && g x) xs ≡ true → (list_all f xs ≡ true) × (list_all g xs ≡ true)
+split_all : {A : Type 0} (f g : A → Bool) (xs : List A) → list_all (λ x. f x && g x) xs ≡ true
+    → (list_all f xs ≡ true) × (list_all g xs ≡ true)
 split_all f g [] t = (refl, refl)
 split_all f g (x ∷ xs) t =
     let h = and_parts (f x && g x) (list_all (λ x. f x && g x) xs) t in
@@ -308,17 +376,24 @@ record Asked (parts : Parts) : Type 0 where
 
 all_asked : (parts : Parts) → Asked parts → is_valid parts ≡ true
 unfolding is_valid is_well_formed
-all_asked parts a = and_from _ _ (and_from _ _ (and_from _ _ (and_from _ _ (and_from _ _ (and_from _ _ (and_from _ _ (and_from _ _ (and_from _ _ (and_from _ _ a.limit a.particles) a.links) a.planes) a.spheres) a.tracks) a.gravity) a.numbers) a.live) a.rest) a.held
+all_asked parts a = and_from _ _ (and_from _ _ (and_from _ _
+    (and_from _ _ (and_from _ _ (and_from _ _ (and_from _ _
+    (and_from _ _ (and_from _ _ (and_from _ _ a.limit a.particles) a.links) a.planes) a.spheres) a.tracks) a.gravity) a.numbers)
+    a.live) a.rest) a.held
 
-particles_asked : (limit : ℤ) (ps : List Particle) → list_all (is_entry_particle limit) ps ≡ true → length ps ≤ 65536 → (are_valid_particles limit ps ≡ true) × (list_all {X = Particle} (λ p. not p.held || is_at_rest p) ps ≡ true)
+particles_asked : (limit : ℤ) (ps : List Particle) → list_all (is_entry_particle limit) ps ≡ true → length ps ≤ 65536
+    → (are_valid_particles limit ps ≡ true) × (list_all {X = Particle} (λ p. not p.held || is_at_rest p) ps ≡ true)
 particles_asked limit ps t few =
     let s = split_all (is_valid_particle limit) (λ p. not p.held || is_at_rest p) ps t in
-    (and_from _ _ (le_test (length ps) 65536 few) s.0, s.1)
+    (and_from _ _ (le-leb (length ps) 65536 few) s.0, s.1)
 
-links_asked : (limit : ℤ) (n : ℕ) (ls : List Link) → LiveLinks limit n ls → (are_valid_links limit n ls ≡ true) × (list_all {X = Link} (λ l. l.live) ls ≡ true)
+links_asked : (limit : ℤ) (n : ℕ) (ls : List Link) → LiveLinks limit n ls
+    → (are_valid_links limit n ls ≡ true) × (list_all {X = Link} (λ l. l.live) ls ≡ true)
 links_asked limit n ls j = ((links_facts limit n ls).1 j.valid, j.live)
 
-entries_valid : (limit : ℤ) (s : Settings) (t : Tables) (start m : Parts) (pins : List ℤ) (parts : Parts) → IsTrue (is_limit limit) → SettingsFit limit s → TablesFit limit t → start ≡ plain_parts limit s t → Meshed limit start m → with_entries pins t.links t.tracks m ≡ Ok parts → is_valid parts ≡ true
+entries_valid : (limit : ℤ) (s : Settings) (t : Tables) (start m : Parts) (pins : List ℤ) (parts : Parts) → IsTrue (is_limit limit)
+    → SettingsFit limit s → TablesFit limit t → start ≡ plain_parts limit s t → Meshed limit start m
+    → with_entries pins t.links t.tracks m ≡ Ok parts → is_valid parts ≡ true
 unfolding with_entries
 entries_valid limit s t start m pins parts lim sf tf plain mf is =
     let low = (limit_bounds limit lim).0 in
@@ -329,7 +404,8 @@ entries_valid limit s t start m pins parts lim sf tf plain mf is =
     let names = named held tracks in
     let ps = holding names 0 m.particles in
     let all : Parts = record m { particles = ps; links = links; tracks = tracks } in
-    let same : m ≡ record (plain_parts limit s t) { particles = m.particles; links = m.links } = mf.others ∙ ap (λ (q : Parts). record q { particles = m.particles; links = m.links }) plain in
+    let same : m ≡ record (plain_parts limit s t) { particles = m.particles; links = m.links } = mf.others
+    ∙ ap (λ (q : Parts). record q { particles = m.particles; links = m.links }) plain in
     let size : length ps ≡ n = holding_length names 0 m.particles in
     let live = links_fit limit m.particles m.links t.links links low mf.particles tf.links mf.links e1 in
     let placed = tracks_fit limit n t.tracks tracks tf.tracks e3 in
@@ -348,11 +424,13 @@ entries_valid limit s t start m pins parts lim sf tf plain mf is =
       limit = rw its_limit lim;
       particles = rw its_limit p.0;
       links = rw (its_limit, size) l.0;
-      planes = rw its_planes (and_from _ _ (le_test (length t.planes) 256 tf.few_planes) tf.planes);
-      spheres = rw (its_limit, its_spheres) (and_from _ _ (le_test (length t.spheres) 256 tf.few_spheres) tf.spheres);
-      tracks = rw (its_limit, size) (and_from _ _ (and_from _ _ (le_test (length tracks) 4096 (omega (arith, number, tf.few_tracks))) placed.valid) placed.once);
+      planes = rw its_planes (and_from _ _ (le-leb (length t.planes) 256 tf.few_planes) tf.planes);
+      spheres = rw (its_limit, its_spheres) (and_from _ _ (le-leb (length t.spheres) 256 tf.few_spheres) tf.spheres);
+      tracks = rw (its_limit, size) (and_from _ _ (and_from _ _
+          (le-leb (length tracks) 4096 (omega (arith, number, tf.few_tracks))) placed.valid) placed.once);
       gravity = rw (its_limit, its_gravity) sf.gravity;
-      numbers = rw (its_passes, its_damping, its_thickness, its_friction) (and_from _ _ (and_from _ _ (and_from _ _ sf.passes sf.damping) sf.thickness) sf.friction);
+      numbers = rw (its_passes, its_damping, its_thickness, its_friction)
+          (and_from _ _ (and_from _ _ (and_from _ _ sf.passes sf.damping) sf.thickness) sf.friction);
       live = l.1;
       rest = p.1;
       held = tracked_held limit names m.particles tracks placed.valid (among_own held tracks);
@@ -360,7 +438,8 @@ entries_valid limit s t start m pins parts lim sf tf plain mf is =
     let checked = all_asked all asked in
     rw (← same_ok all parts is3) checked)))
 
-pub scene_valid : (limit : ℤ) (tree : Members) (parts : Parts) → IsTrue (is_limit limit) → scene_of limit tree ≡ Ok parts → IsTrue (is_valid parts)
+pub scene_valid : (limit : ℤ) (tree : Members) (parts : Parts) → IsTrue (is_limit limit) → scene_of limit tree ≡ Ok parts
+    → IsTrue (is_valid parts)
 unfolding scene_of
 scene_valid limit tree parts lim is =
     let low = (limit_bounds limit lim).0 in

@@ -1,5 +1,6 @@
 -- What the entries of links, pins and tracks name, once all particles are known.
-use Rattle.std.specs.Prelude.{ℕ, ◌+◌, nat_lt, ◌==◌, ℤ, pos, int_le, int_lt, unsigned_abs, true, not, ◌&&◌, if◌then◌else◌, List, [], ◌∷◌, ◌++◌, length, Ok, unwrap_or}
+use Rattle.std.specs.Prelude.{ℕ, ◌+◌, nat_lt, ◌==◌, ℤ, pos, int_le, int_lt, unsigned_abs, true, not, ◌&&◌, if◌then◌else◌, List, [], ◌∷◌}
+use Rattle.std.specs.Prelude.{◌++◌, length, Ok, unwrap_or}
 use Rattle.std.specs.List.{list_any}
 use Rattle.pbd_num.specs.Vectors.{minus, length_of}
 use Rattle.pbd_world.specs.declared.parts.Particle.{Particle}

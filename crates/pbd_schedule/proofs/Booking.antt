@@ -63,7 +63,8 @@ booked_swap : (ds es : List Entry) (t : Ledger) → booked (booked t ds) es ≡ 
 booked_swap [] es t = refl
 booked_swap (d ∷ ds) es t = booked_swap ds es (added t d.0 d.1) ∙ ap (λ (u : Ledger). booked u ds) (booked_added es t d.0 d.1)
 
-pub bonds_swap : (p q r s : Bool) (b d : Bond) (c e : Correction) (t : Ledger) → booked_by p q b c (booked_by r s d e t) ≡ booked_by r s d e (booked_by p q b c t)
+pub bonds_swap : (p q r s : Bool) (b d : Bond) (c e : Correction) (t : Ledger)
+    → booked_by p q b c (booked_by r s d e t) ≡ booked_by r s d e (booked_by p q b c t)
 bonds_swap p q r s b d Slack e t = refl
 bonds_swap p q r s b d Leaves e t = refl
 bonds_swap p q r s b d (Moves x) Slack t = refl

@@ -1,6 +1,8 @@
 -- Legal events do what the bonds do one by one.
-use Rattle.std.proofs.Common.{◌≡◌, ℕ, zero, suc, ◌+◌, ◌<◌, ◌≤◌, ℤ, List, [], ◌∷◌, ◌++◌, length, get_or, replicate, Bool, true, false, cond, refl, sym, ◌∙◌, ap, arith, subst, inl, inr, Option, Some, None, Ok, Err}
-use Rattle.std.proofs.lemmas.List.{append-nil, append_assoc, get_or-set_same, get_or-set_other, length-set, length-replicate, get_or-replicate, ext_get_or}
+use Rattle.std.proofs.Common.{◌≡◌, ℕ, zero, suc, ◌+◌, ◌<◌, ◌≤◌, ℤ, List, [], ◌∷◌, ◌++◌, length, get_or, replicate, Bool, true, false, cond}
+use Rattle.std.proofs.Common.{refl, sym, ◌∙◌, ap, arith, subst, inl, inr, Option, Some, None, Ok, Err}
+use Rattle.std.proofs.lemmas.List.{append-nil, append_assoc, get_or-set_same, get_or-set_other, length-set, length-replicate}
+use Rattle.std.proofs.lemmas.List.{get_or-replicate, ext_get_or}
 use Rattle.pbd_world.specs.declared.parts.Particle.{Particle}
 use Rattle.pbd_world.specs.declared.bond.Bond.{Bond}
 use Rattle.pbd_world.specs.declared.bond.Correction.{Correction}
@@ -21,7 +23,8 @@ use Rattle.pbd_schedule.specs.declared.event.Event.{Event}
 use Rattle.pbd_schedule.specs.declared.event.EventFault.{EventFault}
 use Rattle.pbd_schedule.specs.declared.event.EventFault.TheVariants.{BadEvent, Left}
 use Rattle.pbd_schedule.specs.Legal.{position_of, IsLegal, BeginsLegal}
-use Rattle.pbd_schedule.specs.Mixed.{Mixed, no_note, note_at, note_of, is_leaving, first_leaving, unless_left, noted_outcome, bond_at, happened, mixed}
+use Rattle.pbd_schedule.specs.Mixed.{Mixed, no_note, note_at, note_of, is_leaving, first_leaving, unless_left, noted_outcome, bond_at}
+use Rattle.pbd_schedule.specs.Mixed.{happened, mixed}
 use Rattle.pbd_schedule.specs.Notes.{ComeTo, Faults}
 use Rattle.pbd_schedule.specs.Stages.{stage_at, may_come, one_more, HaveCome, AreSound, mix_of}
 use Rattle.pbd_schedule.proofs.Legality.{none_came, came_more, misplaced, all_stages, may_within, may_rank}
@@ -29,7 +32,8 @@ use Rattle.pbd_schedule.proofs.Standing.{Stand, stand_more, first_at, second_at,
 
 -- ---- all events
 
-module _ (limit : ℤ) (B : ℕ → Bond) (m : ℕ) (ps : List Particle) (t : Ledger) (bonds : (k : ℕ) → k < m → IsBond limit (length ps) (B k)) (apart : (i k : ℕ) → i < k → k < m → ShareNone (B i) (B k)) where
+module _ (limit : ℤ) (B : ℕ → Bond) (m : ℕ) (ps : List Particle) (t : Ledger) (bonds : (k : ℕ) → k < m → IsBond limit (length ps) (B k))
+    (apart : (i k : ℕ) → i < k → k < m → ShareNone (B i) (B k)) where
   -- some events came, and have led to x
   pub record Come (done : List Event) (x : Mixed) : Type 0 where
     pub stages : List ℕ
@@ -55,7 +59,8 @@ module _ (limit : ℤ) (B : ℕ → Bond) (m : ℕ) (ps : List Particle) (t : Le
     zero_at : (k : ℕ) → k < m → stage_at (replicate m 0) k ≡ 0
     zero_at k q = get_or-replicate m k 0 0 q
 
-  come_more : (done : List Event) (e : Event) (x : Mixed) → Come done x → BeginsLegal m (done ++ e ∷ []) → Come (done ++ e ∷ []) (happened limit B e x)
+  come_more : (done : List Event) (e : Event) (x : Mixed) → Come done x → BeginsLegal m (done ++ e ∷ [])
+      → Come (done ++ e ∷ []) (happened limit B e x)
   come_more done e x c legal = go (may_come c.stages e) refl where
     go : (b : Bool) → may_come c.stages e ≡ b → Come (done ++ e ∷ []) (happened limit B e x)
     go false out = absurd (misplaced c.stages done c.came e out (subst (λ (n : ℕ). BeginsLegal n (done ++ e ∷ [])) (sym c.many) legal))
@@ -65,7 +70,8 @@ module _ (limit : ℤ) (B : ℕ → Bond) (m : ℕ) (ps : List Particle) (t : Le
           stages = one_more c.stages e;
           many = length-set c.stages (position_of e) (stage_at c.stages (position_of e) + 1) ∙ c.many;
           came = came_more c.stages done c.came e may;
-          stand = stand_more limit B m ps t bonds apart (stage_at c.stages) (stage_at (one_more c.stages e)) x e c.stand (omega (arith, within, c.many)) (may_rank c.stages e may)
+          stand = stand_more limit B m ps t bonds apart (stage_at c.stages) (stage_at (one_more c.stages e)) x e c.stand
+              (omega (arith, within, c.many)) (may_rank c.stages e may)
               (get_or-set_same c.stages (position_of e) (stage_at c.stages (position_of e) + 1) 0 within)
               (λ k d. get_or-set_other c.stages (position_of e) k (stage_at c.stages (position_of e) + 1) 0 d);
         }
@@ -75,7 +81,8 @@ module _ (limit : ℤ) (B : ℕ → Bond) (m : ℕ) (ps : List Particle) (t : Le
   come_on (e ∷ rest) done x c legal =
       let same : (done ++ e ∷ []) ++ rest ≡ done ++ e ∷ rest = append_assoc done (e ∷ []) rest in
       subst (λ l. Come l (mixed limit B rest (happened limit B e x))) same
-      (come_on rest (done ++ e ∷ []) (happened limit B e x) (come_more done e x c (rest, subst (IsLegal m) (sym same) legal)) (subst (IsLegal m) (sym same) legal))
+      (come_on rest (done ++ e ∷ []) (happened limit B e x) (come_more done e x c (rest, subst (IsLegal m) (sym same) legal))
+      (subst (IsLegal m) (sym same) legal))
 
   pub come_all : (events : List Event) → IsLegal m events → Come events (mixed limit B events (mix_of ps t (replicate m no_note)))
   come_all events legal = come_on events [] (mix_of ps t (replicate m no_note)) come_none legal
@@ -125,17 +132,20 @@ leaving_same (Moves s) = refl
 
 -- ---- the first that leaves
 
-pub none_leaving : (batch : List ℕ) (notes : List Note) → length notes ≡ length batch → first_leaving batch notes ≡ None → (k : ℕ) → k < length batch → is_leaving (note_at notes k).correction ≡ false
+pub none_leaving : (batch : List ℕ) (notes : List Note) → length notes ≡ length batch → first_leaving batch notes ≡ None → (k : ℕ)
+    → k < length batch → is_leaving (note_at notes k).correction ≡ false
 none_leaving [] notes e f k q = absurd (omega arith)
 none_leaving (n ∷ batch) [] e f k q = absurd (omega (arith, e))
-none_leaving (n ∷ batch) (note ∷ notes) e f k q = at (λ g. none_leaving batch notes (omega (arith, e)) g) (is_leaving note.correction) refl k q where
-  some≢none : Some n ≡ None → ⊥
-  some≢none h = cc
+none_leaving (n ∷ batch) (note ∷ notes) e f k q = at (λ g. none_leaving batch notes (omega (arith, e)) g)
+    (is_leaving note.correction) refl k q where
+      some≢none : Some n ≡ None → ⊥
+      some≢none h = cc
 
-  at : (first_leaving batch notes ≡ None → (k : ℕ) → k < length batch → is_leaving (note_at notes k).correction ≡ false) → (b : Bool) → is_leaving note.correction ≡ b → (k : ℕ) → k < length (n ∷ batch) → is_leaving (note_at (note ∷ notes) k).correction ≡ false
-  at g true l k q = absurd (some≢none (sym (ap (λ (b : Bool). cond b (Some n) (first_leaving batch notes)) l) ∙ f))
-  at g false l zero q = l
-  at g false l (suc k) q = g (sym (ap (λ (b : Bool). cond b (Some n) (first_leaving batch notes)) l) ∙ f) k (omega arith)
+      at : (first_leaving batch notes ≡ None → (k : ℕ) → k < length batch → is_leaving (note_at notes k).correction ≡ false) → (b : Bool)
+          → is_leaving note.correction ≡ b → (k : ℕ) → k < length (n ∷ batch) → is_leaving (note_at (note ∷ notes) k).correction ≡ false
+      at g true l k q = absurd (some≢none (sym (ap (λ (b : Bool). cond b (Some n) (first_leaving batch notes)) l) ∙ f))
+      at g false l zero q = l
+      at g false l (suc k) q = g (sym (ap (λ (b : Bool). cond b (Some n) (first_leaving batch notes)) l) ∙ f) k (omega arith)
 
 -- position j is the first of a batch that is noted to leave
 pub record IsFirstLeaving (batch : List ℕ) (notes : List Note) (n : ℕ) : Type 0 where
@@ -145,48 +155,69 @@ pub record IsFirstLeaving (batch : List ℕ) (notes : List Note) (n : ℕ) : Typ
   pub before : (k : ℕ) → k < at → is_leaving (note_at notes k).correction ≡ false
   pub there : is_leaving (note_at notes at).correction ≡ true
 
-pub some_leaving : (batch : List ℕ) (notes : List Note) (n : ℕ) → length notes ≡ length batch → first_leaving batch notes ≡ Some n → IsFirstLeaving batch notes n
+pub some_leaving : (batch : List ℕ) (notes : List Note) (n : ℕ) → length notes ≡ length batch → first_leaving batch notes ≡ Some n
+    → IsFirstLeaving batch notes n
 some_leaving [] notes n e f = cc
 some_leaving (i ∷ batch) [] n e f = cc
-some_leaving (i ∷ batch) (note ∷ notes) n e f = at (λ g. some_leaving batch notes n (omega (arith, e)) g) (is_leaving note.correction) refl where
-  same : Some i ≡ Some n → i ≡ n
-  same h = cc
+some_leaving (i ∷ batch) (note ∷ notes) n e f = at (λ g. some_leaving batch notes n (omega (arith, e)) g)
+    (is_leaving note.correction) refl where
+      same : Some i ≡ Some n → i ≡ n
+      same h = cc
 
-  earlier : is_leaving note.correction ≡ false → (j : ℕ) → ((k : ℕ) → k < j → is_leaving (note_at notes k).correction ≡ false) → (k : ℕ) → k < suc j → is_leaving (note_at (note ∷ notes) k).correction ≡ false
-  earlier l j h zero q = l
-  earlier l j h (suc k) q = h k (omega arith)
+      earlier : is_leaving note.correction ≡ false → (j : ℕ) → ((k : ℕ) → k < j → is_leaving (note_at notes k).correction ≡ false) → (k : ℕ)
+          → k < suc j → is_leaving (note_at (note ∷ notes) k).correction ≡ false
+      earlier l j h zero q = l
+      earlier l j h (suc k) q = h k (omega arith)
 
-  at : (first_leaving batch notes ≡ Some n → IsFirstLeaving batch notes n) → (b : Bool) → is_leaving note.correction ≡ b → IsFirstLeaving (i ∷ batch) (note ∷ notes) n
-  at g true l = record { at = 0; within = omega arith; number = same (sym (ap (λ (b : Bool). cond b (Some i) (first_leaving batch notes)) l) ∙ f); before = λ k q. absurd (omega (arith, q)); there = l }
-  at g false l =
-      let r = g (sym (ap (λ (b : Bool). cond b (Some i) (first_leaving batch notes)) l) ∙ f) in
-      record { at = suc r.at; within = omega (arith, r.within); number = r.number; before = earlier l r.at r.before; there = r.there }
+      at : (first_leaving batch notes ≡ Some n → IsFirstLeaving batch notes n) → (b : Bool) → is_leaving note.correction ≡ b
+          → IsFirstLeaving (i ∷ batch) (note ∷ notes) n
+      at g true l = record {
+        at = 0;
+        within = omega arith;
+        number =
+            same (sym (ap (λ (b : Bool). cond b (Some i) (first_leaving batch notes)) l) ∙ f);
+        before = λ k q. absurd (omega (arith, q));
+        there = l;
+      }
+      at g false l =
+          let r = g (sym (ap (λ (b : Bool). cond b (Some i) (first_leaving batch notes)) l) ∙ f) in
+          record { at = suc r.at; within = omega (arith, r.within); number = r.number; before = earlier l r.at r.before; there = r.there }
 
 -- ---- the law
 
-module _ (limit : ℤ) (bond : ℕ → Bond) (batch : List ℕ) (m : Motion) (bonds : (k : ℕ) → k < length batch → IsBond limit (length m.particles) (bond_at bond batch k)) (apart : (i k : ℕ) → i < k → k < length batch → ShareNone (bond_at bond batch i) (bond_at bond batch k)) (inside : AreInside limit m.particles) (events : List Event) (legal : IsLegal (length batch) events) where
+module _ (limit : ℤ) (bond : ℕ → Bond) (batch : List ℕ) (m : Motion)
+    (bonds : (k : ℕ) → k < length batch → IsBond limit (length m.particles) (bond_at bond batch k))
+    (apart : (i k : ℕ) → i < k → k < length batch → ShareNone (bond_at bond batch i) (bond_at bond batch k))
+    (inside : AreInside limit m.particles) (events : List Event) (legal : IsLegal (length batch) events) where
   B : ℕ → Bond
   B = bond_at bond batch
 
-  module _ (x : Mixed) (come : Come limit (bond_at bond batch) (length batch) m.particles m.totals bonds apart events x) (sound : AreSound limit x.notes) where
+  module _ (x : Mixed) (come : Come limit (bond_at bond batch) (length batch) m.particles m.totals bonds apart events x)
+      (sound : AreSound limit x.notes) where
     three : (k : ℕ) → k < length batch → stage_at come.stages k ≡ 3
-    three k q = all_stages come.stages events come.came (subst (λ (n : ℕ). IsLegal n events) (sym come.many) legal) k (omega (arith, q, come.many))
+    three k q = all_stages come.stages events come.came (subst (λ (n : ℕ). IsLegal n events) (sym come.many) legal) k
+        (omega (arith, q, come.many))
 
     notes_are : (k : ℕ) → k < length batch → note_at x.notes k ≡ note_of limit m.particles (bond_at bond batch k)
-    notes_are k q = noted limit (bond_at bond batch) (length batch) m.particles m.totals bonds apart (stage_at come.stages) x come.stand three k q
+    notes_are k q = noted limit (bond_at bond batch) (length batch) m.particles m.totals bonds apart
+        (stage_at come.stages) x come.stand three k q
 
     abbrev entries : ℕ → List Entry
     entries k = entries_by (particle_at m.particles (bond_at bond batch k).a).held (particle_at m.particles (bond_at bond batch k).b).held
         (bond_at bond batch k) (correction_at limit m.particles (bond_at bond batch k))
 
-    adds : (k : ℕ) → k < length batch → leaves_by (correction_at limit m.particles (bond_at bond batch k)) ≡ false → (u : Ledger) → booked u (entries k)
+    adds : (k : ℕ) → k < length batch → leaves_by (correction_at limit m.particles (bond_at bond batch k)) ≡ false → (u : Ledger)
+        → booked u (entries k)
         ≡ booked_by (particle_at m.particles (bond_at bond batch k).a).held (particle_at m.particles (bond_at bond batch k).b).held
         (bond_at bond batch k) (correction_at limit m.particles (bond_at bond batch k)) u
-    adds k h stays u = books_by (particle_at m.particles (bond_at bond batch k).a).held (particle_at m.particles (bond_at bond batch k).b).held
+    adds k h stays u = books_by (particle_at m.particles (bond_at bond batch k).a).held
+        (particle_at m.particles (bond_at bond batch k).b).held
         (bond_at bond batch k) (correction_at limit m.particles (bond_at bond batch k)) u
 
-    leaves_are : (k : ℕ) → k < length batch → (b : Bool) → is_leaving (note_at x.notes k).correction ≡ b → leaves_by (correction_at limit m.particles (bond_at bond batch k)) ≡ b
-    leaves_are k q b e = sym (leaving_same (correction_at limit m.particles (bond_at bond batch k))) ∙ ap (λ (n : Note). is_leaving n.correction) (sym (notes_are k q)) ∙ e
+    leaves_are : (k : ℕ) → k < length batch → (b : Bool) → is_leaving (note_at x.notes k).correction ≡ b
+        → leaves_by (correction_at limit m.particles (bond_at bond batch k)) ≡ b
+    leaves_are k q b e = sym (leaving_same (correction_at limit m.particles (bond_at bond batch k)))
+        ∙ ap (λ (n : Note). is_leaving n.correction) (sym (notes_are k q)) ∙ e
 
     pub in_order_leaves : (n : ℕ) → first_leaving batch x.notes ≡ Some n → projected limit bond batch m ≡ Err n
     in_order_leaves n f =
@@ -206,26 +237,36 @@ module _ (limit : ℤ) (bond : ℕ → Bond) (batch : List ℕ) (m : Motion) (bo
         ∙ sym (books_by (particle_at m.particles b.a).held (particle_at m.particles b.b).held b (correction_at limit m.particles b) u)
         ∙ ap (λ (v : Ledger). booked v (entries n)) before
 
-    pub in_order_stays : first_leaving batch x.notes ≡ None → projected limit bond batch m ≡ Ok (record { particles = x.particles; totals = x.totals })
+    pub in_order_stays : first_leaving batch x.notes ≡ None
+        → projected limit bond batch m ≡ Ok (record { particles = x.particles; totals = x.totals })
     in_order_stays f =
         let stays = λ (k : ℕ) (q : k < length batch). leaves_are k q false (none_leaving batch x.notes come.stand.size f k q) in
         let r = reached limit bond batch m bonds apart entries adds (length batch) (omega arith) stays in
-        let places : r.qs ≡ x.particles = sym (same_together limit (bond_at bond batch) (length batch) m.particles m.totals bonds apart x.particles r.qs (stands_together limit (bond_at bond batch) (length batch) m.particles m.totals bonds apart (stage_at come.stages) x come.stand three) r.together) in
+        let places : r.qs ≡ x.particles = sym (same_together limit (bond_at bond batch)
+        (length batch) m.particles m.totals bonds apart x.particles r.qs
+        (stands_together limit (bond_at bond batch) (length batch) m.particles m.totals bonds apart
+        (stage_at come.stages) x come.stand three) r.together) in
         let totals = sym (come.stand.totals ∙ settled_is (length batch) (omega arith)) in
         reached_all limit bond batch m bonds apart (settled entries (length batch) m.totals) r
         ∙ (λ i. Ok (record { particles = places i; totals = totals i }))
 
-  come_end : (x : Mixed) → x ≡ mixed limit (bond_at bond batch) events (mix_of m.particles m.totals (replicate (length batch) no_note)) → Come limit (bond_at bond batch) (length batch) m.particles m.totals bonds apart events x
-  come_end x e = subst (Come limit (bond_at bond batch) (length batch) m.particles m.totals bonds apart events) (sym e) (come_all limit (bond_at bond batch) (length batch) m.particles m.totals bonds apart events legal)
+  come_end : (x : Mixed) → x ≡ mixed limit (bond_at bond batch) events (mix_of m.particles m.totals (replicate (length batch) no_note))
+      → Come limit (bond_at bond batch) (length batch) m.particles m.totals bonds apart events x
+  come_end x e = subst (Come limit (bond_at bond batch) (length batch) m.particles m.totals bonds apart events) (sym e)
+      (come_all limit (bond_at bond batch) (length batch) m.particles m.totals bonds apart events legal)
 
-  pub come_to_left : (x : Mixed) → x ≡ mixed limit (bond_at bond batch) events (mix_of m.particles m.totals (replicate (length batch) no_note)) → AreSound limit x.notes → (n : ℕ) → first_leaving batch x.notes ≡ Some n → ComeTo limit bond batch events m (Err n)
+  pub come_to_left : (x : Mixed) → x ≡ mixed limit (bond_at bond batch) events
+      (mix_of m.particles m.totals (replicate (length batch) no_note)) → AreSound limit x.notes → (n : ℕ)
+      → first_leaving batch x.notes ≡ Some n → ComeTo limit bond batch events m (Err n)
   come_to_left x e sound n f = record {
     legal = legal;
     mixed = ap (noted_outcome batch) (sym e) ∙ ap (λ (o : Option ℕ). unless_left o x) f;
     in_order = in_order_leaves x (come_end x e) sound n f;
   }
 
-  pub come_to_all : (x : Mixed) → x ≡ mixed limit (bond_at bond batch) events (mix_of m.particles m.totals (replicate (length batch) no_note)) → AreSound limit x.notes → first_leaving batch x.notes ≡ None → ComeTo limit bond batch events m (Ok (record { particles = x.particles; totals = x.totals }))
+  pub come_to_all : (x : Mixed) → x ≡ mixed limit (bond_at bond batch) events
+      (mix_of m.particles m.totals (replicate (length batch) no_note)) → AreSound limit x.notes → first_leaving batch x.notes ≡ None
+      → ComeTo limit bond batch events m (Ok (record { particles = x.particles; totals = x.totals }))
   come_to_all x e sound f = record {
     legal = legal;
     mixed = ap (noted_outcome batch) (sym e) ∙ ap (λ (o : Option ℕ). unless_left o x) f;
@@ -237,6 +278,7 @@ none_left None h = refl
 none_left (Some n) h = absurd (h n refl)
 
 -- legal events are no bad ones
-pub not_bad : (limit : ℤ) (bond : ℕ → Bond) (batch : List ℕ) (events : List Event) (before : Motion) (kept : Type 0) (fault : EventFault) (at : ℕ) → Faults limit bond batch events before kept fault → IsLegal (length batch) events → fault ≡ BadEvent at → ⊥
+pub not_bad : (limit : ℤ) (bond : ℕ → Bond) (batch : List ℕ) (events : List Event) (before : Motion) (kept : Type 0) (fault : EventFault)
+    (at : ℕ) → Faults limit bond batch events before kept fault → IsLegal (length batch) events → fault ≡ BadEvent at → ⊥
 not_bad limit bond batch events before kept (BadEvent n) at h legal e = h.0.illegal legal
 not_bad limit bond batch events before kept (Left n) at h legal e = cc

@@ -46,9 +46,11 @@ booked_up st f (suc n) t = booked_at (st n) (f n) (booked_up st f n t)
 
 -- ---- the ledger
 
-pub booked_same : (st st' : ℕ → ℕ) (f : ℕ → Ledger → Ledger) (n : ℕ) (t : Ledger) → ((k : ℕ) → k < n → (u : Ledger) → booked_at (st' k) (f k) u ≡ booked_at (st k) (f k) u) → booked_up st' f n t ≡ booked_up st f n t
+pub booked_same : (st st' : ℕ → ℕ) (f : ℕ → Ledger → Ledger) (n : ℕ) (t : Ledger)
+    → ((k : ℕ) → k < n → (u : Ledger) → booked_at (st' k) (f k) u ≡ booked_at (st k) (f k) u) → booked_up st' f n t ≡ booked_up st f n t
 booked_same st st' f zero t h = refl
-booked_same st st' f (suc n) t h = h n (omega arith) (booked_up st' f n t) ∙ ap (booked_at (st n) (f n)) (booked_same st st' f n t (λ k q. h k (omega arith)))
+booked_same st st' f (suc n) t h = h n (omega arith) (booked_up st' f n t)
+    ∙ ap (booked_at (st n) (f n)) (booked_same st st' f n t (λ k q. h k (omega arith)))
 
 at_swap : (s : ℕ) (f g : Ledger → Ledger) → ((t : Ledger) → f (g t) ≡ g (f t)) → (t : Ledger) → booked_at s f (g t) ≡ g (booked_at s f t)
 at_swap zero f g h t = refl
@@ -56,7 +58,8 @@ at_swap (suc zero) f g h t = refl
 at_swap (suc (suc zero)) f g h t = refl
 at_swap (suc (suc (suc s))) f g h t = h t
 
-booked_more : (st st' : ℕ → ℕ) (f : ℕ → Ledger → Ledger) → ((k l : ℕ) (t : Ledger) → f k (f l t) ≡ f l (f k t)) → (p n : ℕ) (t : Ledger) → p < n → st p ≡ 2 → st' p ≡ 3 → ((k : ℕ) → k ≢ p → st' k ≡ st k) → booked_up st' f n t ≡ f p (booked_up st f n t)
+booked_more : (st st' : ℕ → ℕ) (f : ℕ → Ledger → Ledger) → ((k l : ℕ) (t : Ledger) → f k (f l t) ≡ f l (f k t)) → (p n : ℕ) (t : Ledger)
+    → p < n → st p ≡ 2 → st' p ≡ 3 → ((k : ℕ) → k ≢ p → st' k ≡ st k) → booked_up st' f n t ≡ f p (booked_up st f n t)
 booked_more st st' f swap p zero t q a b o = absurd (omega arith)
 booked_more st st' f swap p (suc n) t q a b o = elim (cases_eq n p) [
   | inl r ↦ (
@@ -72,7 +75,8 @@ booked_more st st' f swap p (suc n) t q a b o = elim (cases_eq n p) [
 
 pub booked_none : (f : ℕ → Ledger → Ledger) (st : ℕ → ℕ) (n : ℕ) (t : Ledger) → ((k : ℕ) → k < n → st k ≡ 0) → booked_up st f n t ≡ t
 booked_none f st zero t h = refl
-booked_none f st (suc n) t h = ap (λ (s : ℕ). booked_at s (f n) (booked_up st f n t)) (h n (omega arith)) ∙ booked_none f st n t (λ k q. h k (omega arith))
+booked_none f st (suc n) t h = ap (λ (s : ℕ). booked_at s (f n) (booked_up st f n t)) (h n (omega arith))
+    ∙ booked_none f st n t (λ k q. h k (omega arith))
 
 -- ---- one end
 
@@ -86,7 +90,8 @@ placed_second qs b Slack = qs
 placed_second qs b Leaves = qs
 placed_second qs b (Moves s) = placed qs b.b s.second
 
-first_here : (qs : List Particle) (b : Bond) (c : Correction) → b.a < length qs → particle_at (placed_first qs b c) b.a ≡ first_by c (particle_at qs b.a)
+first_here : (qs : List Particle) (b : Bond) (c : Correction) → b.a < length qs
+    → particle_at (placed_first qs b c) b.a ≡ first_by c (particle_at qs b.a)
 first_here qs b Slack h = refl
 first_here qs b Leaves h = refl
 first_here qs b (Moves s) h = placed_same qs b.a s.first h
@@ -101,7 +106,8 @@ first_whole qs b Slack = refl
 first_whole qs b Leaves = refl
 first_whole qs b (Moves s) = length-placed qs b.a s.first
 
-second_here : (qs : List Particle) (b : Bond) (c : Correction) → b.b < length qs → particle_at (placed_second qs b c) b.b ≡ second_by c (particle_at qs b.b)
+second_here : (qs : List Particle) (b : Bond) (c : Correction) → b.b < length qs
+    → particle_at (placed_second qs b c) b.b ≡ second_by c (particle_at qs b.b)
 second_here qs b Slack h = refl
 second_here qs b Leaves h = refl
 second_here qs b (Moves s) h = placed_same qs b.b s.second h
@@ -121,7 +127,11 @@ first_is b Slack x = refl
 first_is b Leaves x = refl
 first_is b (Moves s) x = refl
 
-second_is : (b : Bond) (note : Note) (c : Correction) (x : Mixed) → second_written b note c x ≡ record x { particles = placed_second x.particles b c; totals = booked_by note.first_held note.second_held b c x.totals }
+second_is : (b : Bond) (note : Note) (c : Correction) (x : Mixed)
+    → second_written b note c x ≡ record x {
+      particles = placed_second x.particles b c;
+      totals = booked_by note.first_held note.second_held b c x.totals;
+    }
 second_is b note Slack x = refl
 second_is b note Leaves x = refl
 second_is b note (Moves s) x = refl
@@ -142,11 +152,13 @@ pub record Stand (limit : ℤ) (B : ℕ → Bond) (m : ℕ) (ps : List Particle)
   pub notes : (k : ℕ) → k < m → 0 < st k → note_at x.notes k ≡ note_of limit ps (B k)
   pub totals : x.totals ≡ booked_up st (books limit B ps) m t
 
-module _ (limit : ℤ) (B : ℕ → Bond) (m : ℕ) (ps : List Particle) (t : Ledger) (bonds : (k : ℕ) → k < m → IsBond limit (length ps) (B k)) (apart : (i k : ℕ) → i < k → k < m → ShareNone (B i) (B k)) where
+module _ (limit : ℤ) (B : ℕ → Bond) (m : ℕ) (ps : List Particle) (t : Ledger) (bonds : (k : ℕ) → k < m → IsBond limit (length ps) (B k))
+    (apart : (i k : ℕ) → i < k → k < m → ShareNone (B i) (B k)) where
   differ : (i k : ℕ) → i ≢ k → i < m → k < m → ShareNone (B i) (B k)
   differ i k n h q = elim (cases_lt i k) [
     | inl l ↦ apart i k l q
-    | inr l ↦ (let s = apart k i (omega (arith, l, n)) h in record { aa = λ x. s.aa (sym x); ab = λ x. s.ba (sym x); ba = λ x. s.ab (sym x); bb = λ x. s.bb (sym x) })
+    | inr l ↦ (let s = apart k i (omega (arith, l, n)) h in
+        record { aa = λ x. s.aa (sym x); ab = λ x. s.ba (sym x); ba = λ x. s.ab (sym x); bb = λ x. s.bb (sym x) })
   ]
 
   module _ (st st' : ℕ → ℕ) (x : Mixed) (s : Stand limit B m ps t st x) (p : ℕ) (h : p < m) (others : (k : ℕ) → k ≢ p → st' k ≡ st k) where
@@ -157,14 +169,28 @@ module _ (limit : ℤ) (B : ℕ → Bond) (m : ℕ) (ps : List Particle) (t : Le
       | inr d ↦ ap (F k) (others k d)
     ]
 
-    firsts_kept : {a b : ℕ} → st p ≡ a → st' p ≡ b → ((c : Correction) (q : Particle) → first_at b c q ≡ first_at a c q) → (k : ℕ) → first_at (st' k) (correction_at limit ps (B k)) (particle_at ps (B k).a) ≡ first_at (st k) (correction_at limit ps (B k)) (particle_at ps (B k).a)
-    firsts_kept {a} {b} ea eb f k = kept (λ j z. first_at z (correction_at limit ps (B j)) (particle_at ps (B j).a)) (ap (λ (z : ℕ). first_at z (correction_at limit ps (B p)) (particle_at ps (B p).a)) eb ∙ f (correction_at limit ps (B p)) (particle_at ps (B p).a) ∙ sym (ap (λ (z : ℕ). first_at z (correction_at limit ps (B p)) (particle_at ps (B p).a)) ea)) k
+    firsts_kept : {a b : ℕ} → st p ≡ a → st' p ≡ b → ((c : Correction) (q : Particle) → first_at b c q ≡ first_at a c q) → (k : ℕ)
+        → first_at (st' k) (correction_at limit ps (B k)) (particle_at ps (B k).a)
+        ≡ first_at (st k) (correction_at limit ps (B k)) (particle_at ps (B k).a)
+    firsts_kept {a} {b} ea eb f k = kept (λ j z. first_at z (correction_at limit ps (B j)) (particle_at ps (B j).a))
+        (ap (λ (z : ℕ). first_at z (correction_at limit ps (B p)) (particle_at ps (B p).a)) eb
+        ∙ f (correction_at limit ps (B p)) (particle_at ps (B p).a)
+        ∙ sym (ap (λ (z : ℕ). first_at z (correction_at limit ps (B p)) (particle_at ps (B p).a)) ea)) k
 
-    seconds_kept : {a b : ℕ} → st p ≡ a → st' p ≡ b → ((c : Correction) (q : Particle) → second_at b c q ≡ second_at a c q) → (k : ℕ) → second_at (st' k) (correction_at limit ps (B k)) (particle_at ps (B k).b) ≡ second_at (st k) (correction_at limit ps (B k)) (particle_at ps (B k).b)
-    seconds_kept {a} {b} ea eb f k = kept (λ j z. second_at z (correction_at limit ps (B j)) (particle_at ps (B j).b)) (ap (λ (z : ℕ). second_at z (correction_at limit ps (B p)) (particle_at ps (B p).b)) eb ∙ f (correction_at limit ps (B p)) (particle_at ps (B p).b) ∙ sym (ap (λ (z : ℕ). second_at z (correction_at limit ps (B p)) (particle_at ps (B p).b)) ea)) k
+    seconds_kept : {a b : ℕ} → st p ≡ a → st' p ≡ b → ((c : Correction) (q : Particle) → second_at b c q ≡ second_at a c q) → (k : ℕ)
+        → second_at (st' k) (correction_at limit ps (B k)) (particle_at ps (B k).b)
+        ≡ second_at (st k) (correction_at limit ps (B k)) (particle_at ps (B k).b)
+    seconds_kept {a} {b} ea eb f k = kept (λ j z. second_at z (correction_at limit ps (B j)) (particle_at ps (B j).b))
+        (ap (λ (z : ℕ). second_at z (correction_at limit ps (B p)) (particle_at ps (B p).b)) eb
+        ∙ f (correction_at limit ps (B p)) (particle_at ps (B p).b)
+        ∙ sym (ap (λ (z : ℕ). second_at z (correction_at limit ps (B p)) (particle_at ps (B p).b)) ea)) k
 
-    totals_kept : {a b : ℕ} → st p ≡ a → st' p ≡ b → ((f : Ledger → Ledger) (u : Ledger) → booked_at b f u ≡ booked_at a f u) → booked_up st' (books limit B ps) m t ≡ booked_up st (books limit B ps) m t
-    totals_kept {a} {b} ea eb f = booked_same st st' (books limit B ps) m t (λ k q u. kept (λ j z. booked_at z (books limit B ps j) u) (ap (λ (z : ℕ). booked_at z (books limit B ps p) u) eb ∙ f (books limit B ps p) u ∙ sym (ap (λ (z : ℕ). booked_at z (books limit B ps p) u) ea)) k)
+    totals_kept : {a b : ℕ} → st p ≡ a → st' p ≡ b → ((f : Ledger → Ledger) (u : Ledger) → booked_at b f u ≡ booked_at a f u)
+        → booked_up st' (books limit B ps) m t ≡ booked_up st (books limit B ps) m t
+    totals_kept {a} {b} ea eb f = booked_same st st' (books limit B ps) m t
+        (λ k q u. kept (λ j z. booked_at z (books limit B ps j) u)
+        (ap (λ (z : ℕ). booked_at z (books limit B ps p) u) eb ∙ f (books limit B ps p) u
+        ∙ sym (ap (λ (z : ℕ). booked_at z (books limit B ps p) u) ea)) k)
 
     noted_before : 0 < st p → (k : ℕ) → k < m → 0 < st' k → note_at x.notes k ≡ note_of limit ps (B k)
     noted_before z k q y = elim (cases_eq k p) [
@@ -193,54 +219,75 @@ module _ (limit : ℤ) (B : ℕ → Bond) (m : ℕ) (ps : List Particle) (t : Le
       eb = s.seconds p h ∙ ap (λ (z : ℕ). second_at z (correction_at limit ps (B p)) (particle_at ps (B p).b)) a
 
       read : note_of limit x.particles (B p) ≡ note_of limit ps (B p)
-      read = λ i. record { correction = correction_of limit (end_of (ea i)) (end_of (eb i)) (B p); first_held = (ea i).held; second_held = (eb i).held }
+      read = λ i. record {
+        correction = correction_of limit (end_of (ea i)) (end_of (eb i)) (B p);
+        first_held = (ea i).held;
+        second_held = (eb i).held;
+      }
 
     pub stand_first : st p ≡ 1 → st' p ≡ 2 → Stand limit B m ps t st' (happened limit B (WriteA p) x)
-    stand_first a b = subst (Stand limit B m ps t st') (sym (ap (λ (n : Note). first_written (B p) n.correction x) (s.notes p h (omega (arith, a))) ∙ first_is (B p) (correction_at limit ps (B p)) x)) (record {
-      whole = first_whole x.particles (B p) (correction_at limit ps (B p)) ∙ s.whole;
-      firsts = λ k q. elim (cases_eq k p) [
-        | inl r ↦ subst (λ (j : ℕ). particle_at (placed_first x.particles (B p) (correction_at limit ps (B p))) (B j).a ≡ first_at (st' j) (correction_at limit ps (B j)) (particle_at ps (B j).a)) (sym r)
-            (first_here x.particles (B p) (correction_at limit ps (B p)) (omega (arith, (bonds p h).first, s.whole))
-            ∙ ap (first_by (correction_at limit ps (B p))) (s.firsts p h ∙ ap (λ (z : ℕ). first_at z (correction_at limit ps (B p)) (particle_at ps (B p).a)) a)
-            ∙ sym (ap (λ (z : ℕ). first_at z (correction_at limit ps (B p)) (particle_at ps (B p).a)) b))
-        | inr d ↦ first_there x.particles (B p) (correction_at limit ps (B p)) (B k).a (differ k p d q h).aa ∙ s.firsts k q ∙ sym (ap (λ (z : ℕ). first_at z (correction_at limit ps (B k)) (particle_at ps (B k).a)) (others k d))
-      ];
-      seconds = λ k q. first_there x.particles (B p) (correction_at limit ps (B p)) (B k).b (cross k q) ∙ s.seconds k q ∙ sym (seconds_kept a b (λ c r. refl) k);
-      others = λ i f. first_there x.particles (B p) (correction_at limit ps (B p)) i (λ e. (f p h).0 (sym e)) ∙ s.others i f;
-      size = s.size;
-      notes = noted_before (omega (arith, a));
-      totals = s.totals ∙ sym (totals_kept a b (λ f u. refl));
-    }) where
-      cross : (k : ℕ) → k < m → (B k).b ≢ (B p).a
-      cross k q e = elim (cases_eq k p) [
-        | inl r ↦ (bonds p h).different (sym (ap (λ (j : ℕ). (B j).b) (sym r) ∙ e))
-        | inr d ↦ (differ k p d q h).ba e
-      ]
+    stand_first a b = subst (Stand limit B m ps t st') (sym
+        (ap (λ (n : Note). first_written (B p) n.correction x) (s.notes p h (omega (arith, a)))
+        ∙ first_is (B p) (correction_at limit ps (B p)) x)) (record {
+          whole = first_whole x.particles (B p) (correction_at limit ps (B p)) ∙ s.whole;
+          firsts = λ k q. elim (cases_eq k p) [
+            | inl r ↦ subst (λ (j : ℕ). particle_at (placed_first x.particles (B p) (correction_at limit ps (B p))) (B j).a
+                ≡ first_at (st' j) (correction_at limit ps (B j)) (particle_at ps (B j).a)) (sym r)
+                (first_here x.particles (B p) (correction_at limit ps (B p)) (omega (arith, (bonds p h).first, s.whole))
+                ∙ ap (first_by (correction_at limit ps (B p))) (s.firsts p h
+                ∙ ap (λ (z : ℕ). first_at z (correction_at limit ps (B p)) (particle_at ps (B p).a)) a)
+                ∙ sym (ap (λ (z : ℕ). first_at z (correction_at limit ps (B p)) (particle_at ps (B p).a)) b))
+            | inr d ↦ first_there x.particles (B p) (correction_at limit ps (B p)) (B k).a (differ k p d q h).aa ∙ s.firsts k q
+                ∙ sym (ap (λ (z : ℕ). first_at z (correction_at limit ps (B k)) (particle_at ps (B k).a)) (others k d))
+          ];
+          seconds = λ k q. first_there x.particles (B p) (correction_at limit ps (B p)) (B k).b (cross k q) ∙ s.seconds k q
+              ∙ sym (seconds_kept a b (λ c r. refl) k);
+          others = λ i f. first_there x.particles (B p) (correction_at limit ps (B p)) i (λ e. (f p h).0 (sym e)) ∙ s.others i f;
+          size = s.size;
+          notes = noted_before (omega (arith, a));
+          totals = s.totals ∙ sym (totals_kept a b (λ f u. refl));
+        }) where
+          cross : (k : ℕ) → k < m → (B k).b ≢ (B p).a
+          cross k q e = elim (cases_eq k p) [
+            | inl r ↦ (bonds p h).different (sym (ap (λ (j : ℕ). (B j).b) (sym r) ∙ e))
+            | inr d ↦ (differ k p d q h).ba e
+          ]
 
     pub stand_second : st p ≡ 2 → st' p ≡ 3 → Stand limit B m ps t st' (happened limit B (WriteB p) x)
-    stand_second a b = subst (Stand limit B m ps t st') (sym (ap (λ (n : Note). second_written (B p) n n.correction x) (s.notes p h (omega (arith, a))) ∙ second_is (B p) (note_of limit ps (B p)) (correction_at limit ps (B p)) x)) (record {
-      whole = second_whole x.particles (B p) (correction_at limit ps (B p)) ∙ s.whole;
-      firsts = λ k q. second_there x.particles (B p) (correction_at limit ps (B p)) (B k).a (cross k q) ∙ s.firsts k q ∙ sym (firsts_kept a b (λ c r. refl) k);
-      seconds = λ k q. elim (cases_eq k p) [
-        | inl r ↦ subst (λ (j : ℕ). particle_at (placed_second x.particles (B p) (correction_at limit ps (B p))) (B j).b ≡ second_at (st' j) (correction_at limit ps (B j)) (particle_at ps (B j).b)) (sym r)
-            (second_here x.particles (B p) (correction_at limit ps (B p)) (omega (arith, (bonds p h).second, s.whole))
-            ∙ ap (second_by (correction_at limit ps (B p))) (s.seconds p h ∙ ap (λ (z : ℕ). second_at z (correction_at limit ps (B p)) (particle_at ps (B p).b)) a)
-            ∙ sym (ap (λ (z : ℕ). second_at z (correction_at limit ps (B p)) (particle_at ps (B p).b)) b))
-        | inr d ↦ second_there x.particles (B p) (correction_at limit ps (B p)) (B k).b (differ k p d q h).bb ∙ s.seconds k q ∙ sym (ap (λ (z : ℕ). second_at z (correction_at limit ps (B k)) (particle_at ps (B k).b)) (others k d))
-      ];
-      others = λ i f. second_there x.particles (B p) (correction_at limit ps (B p)) i (λ e. (f p h).1 (sym e)) ∙ s.others i f;
-      size = s.size;
-      notes = noted_before (omega (arith, a));
-      totals = ap (books limit B ps p) s.totals ∙ sym (booked_more st st' (books limit B ps) (λ k l u. bonds_swap (particle_at ps (B k).a).held (particle_at ps (B k).b).held (particle_at ps (B l).a).held (particle_at ps (B l).b).held (B k) (B l) (correction_at limit ps (B k)) (correction_at limit ps (B l)) u) p m t h a b others);
-    }) where
-      cross : (k : ℕ) → k < m → (B k).a ≢ (B p).b
-      cross k q e = elim (cases_eq k p) [
-        | inl r ↦ (bonds p h).different (ap (λ (j : ℕ). (B j).a) (sym r) ∙ e)
-        | inr d ↦ (differ k p d q h).ab e
-      ]
+    stand_second a b = subst (Stand limit B m ps t st') (sym
+        (ap (λ (n : Note). second_written (B p) n n.correction x) (s.notes p h (omega (arith, a)))
+        ∙ second_is (B p) (note_of limit ps (B p)) (correction_at limit ps (B p)) x)) (record {
+          whole = second_whole x.particles (B p) (correction_at limit ps (B p)) ∙ s.whole;
+          firsts = λ k q. second_there x.particles (B p) (correction_at limit ps (B p)) (B k).a (cross k q) ∙ s.firsts k q
+              ∙ sym (firsts_kept a b (λ c r. refl) k);
+          seconds = λ k q. elim (cases_eq k p) [
+            | inl r ↦ subst (λ (j : ℕ). particle_at (placed_second x.particles (B p) (correction_at limit ps (B p))) (B j).b
+                ≡ second_at (st' j) (correction_at limit ps (B j)) (particle_at ps (B j).b)) (sym r)
+                (second_here x.particles (B p) (correction_at limit ps (B p)) (omega (arith, (bonds p h).second, s.whole))
+                ∙ ap (second_by (correction_at limit ps (B p))) (s.seconds p h
+                ∙ ap (λ (z : ℕ). second_at z (correction_at limit ps (B p)) (particle_at ps (B p).b)) a)
+                ∙ sym (ap (λ (z : ℕ). second_at z (correction_at limit ps (B p)) (particle_at ps (B p).b)) b))
+            | inr d ↦ second_there x.particles (B p) (correction_at limit ps (B p)) (B k).b (differ k p d q h).bb ∙ s.seconds k q
+                ∙ sym (ap (λ (z : ℕ). second_at z (correction_at limit ps (B k)) (particle_at ps (B k).b)) (others k d))
+          ];
+          others = λ i f. second_there x.particles (B p) (correction_at limit ps (B p)) i (λ e. (f p h).1 (sym e)) ∙ s.others i f;
+          size = s.size;
+          notes = noted_before (omega (arith, a));
+          totals = ap (books limit B ps p) s.totals ∙ sym (booked_more st st' (books limit B ps)
+              (λ k l u. bonds_swap (particle_at ps (B k).a).held (particle_at ps (B k).b).held (particle_at ps (B l).a).held
+              (particle_at ps (B l).b).held (B k) (B l) (correction_at limit ps (B k)) (correction_at limit ps (B l)) u) p m t h a b
+              others);
+        }) where
+          cross : (k : ℕ) → k < m → (B k).a ≢ (B p).b
+          cross k q e = elim (cases_eq k p) [
+            | inl r ↦ (bonds p h).different (ap (λ (j : ℕ). (B j).a) (sym r) ∙ e)
+            | inr d ↦ (differ k p d q h).ab e
+          ]
 
   -- one event that may come
-  pub stand_more : (st st' : ℕ → ℕ) (x : Mixed) (e : Event) → Stand limit B m ps t st x → position_of e < m → st (position_of e) ≡ rank_of e → st' (position_of e) ≡ st (position_of e) + 1 → ((k : ℕ) → k ≢ position_of e → st' k ≡ st k) → Stand limit B m ps t st' (happened limit B e x)
+  pub stand_more : (st st' : ℕ → ℕ) (x : Mixed) (e : Event) → Stand limit B m ps t st x → position_of e < m → st (position_of e) ≡ rank_of e
+      → st' (position_of e) ≡ st (position_of e) + 1 → ((k : ℕ) → k ≢ position_of e → st' k ≡ st k)
+      → Stand limit B m ps t st' (happened limit B e x)
   stand_more st st' x (Read p) s h r g o = stand_read st st' x s p h o r (g ∙ ap (λ (n : ℕ). n + 1) r)
   stand_more st st' x (WriteA p) s h r g o = stand_first st st' x s p h o r (g ∙ ap (λ (n : ℕ). n + 1) r)
   stand_more st st' x (WriteB p) s h r g o = stand_second st st' x s p h o r (g ∙ ap (λ (n : ℕ). n + 1) r)

@@ -1,5 +1,6 @@
 -- No byte past ASCII stands in a line that has a form.
-use Rattle.std.proofs.Common.{◌≡◌, ◌∙◌, sym, ap, refl, ℕ, suc, ◌-◌, ◌<◌, ◌≤◌, ℤ, Bool, true, false, not, cond, List, [], ◌∷◌, ◌++◌, length, get_or, take, Option, Some, None, arith, inl, inr, neg_ℤ, pos, nat_lt, Any, IfSome, slice_index, codes}
+use Rattle.std.proofs.Common.{◌≡◌, ◌∙◌, sym, ap, refl, ℕ, suc, ◌-◌, ◌<◌, ◌≤◌, ℤ, Bool, true, false, not, cond, List, [], ◌∷◌, ◌++◌, length}
+use Rattle.std.proofs.Common.{get_or, take, Option, Some, None, arith, inl, inr, neg_ℤ, pos, nat_lt, Any, IfSome, slice_index, codes}
 use Rattle.std.specs.Prelude.{◌==◌, ◌&&◌, ◌⊎◌, bytes_eq, filter, unwrap_or, if◌then◌else◌, nat_eq}
 use Rattle.std.specs.List.{list_all, slice_split, onto_first, starts_with}
 use Rattle.std.specs.Option.{option_map, option_and_then}
@@ -25,7 +26,7 @@ plain bytes = list_all is_plain bytes
 abbrev all_plain : List (List ℕ) → Bool
 all_plain ws = list_all plain ws
 
-left : (a b : Bool) → (a && b) ≡ true → a ≡ true
+pub left : (a b : Bool) → (a && b) ≡ true → a ≡ true
 left true b all = refl
 left false b all = cc
 
@@ -53,7 +54,8 @@ digit_plain b is = grind (arith, nat_tests)
 
 digits_plain : (word : List ℕ) → list_all is_digit word ≡ true → plain word ≡ true
 digits_plain [] all = refl
-digits_plain (b ∷ word) all = both (is_plain b) (plain word) (digit_plain b (left (is_digit b) (list_all is_digit word) all)) (digits_plain word (right (is_digit b) (list_all is_digit word) all))
+digits_plain (b ∷ word) all = both (is_plain b) (plain word) (digit_plain b (left (is_digit b) (list_all is_digit word) all))
+    (digits_plain word (right (is_digit b) (list_all is_digit word) all))
 
 count_plain : (word : List ℕ) (n : ℕ) → count word ≡ Some n → plain word ≡ true
 count_plain word n is = digits_plain word (right _ (list_all is_digit word) (chosen (is_count word) (value word) n is))
@@ -61,8 +63,11 @@ count_plain word n is = digits_plain word (right _ (list_all is_digit word) (cho
 minus_plain : (b : ℕ) → (b == 45) ≡ true → is_plain b ≡ true
 minus_plain b is = grind (arith, nat_tests)
 
-number_case : (minus : Bool) (b : ℕ) (word : List ℕ) (z : ℤ) → (b == 45) ≡ minus → (if minus then option_map (λ n. neg_ℤ (pos n)) (count word) else option_map (λ n. pos n) (count (b ∷ word))) ≡ Some z → plain (b ∷ word) ≡ true
-number_case true b word z first is = let n = came_from (λ n. neg_ℤ (pos n)) (count word) z is in both (is_plain b) (plain word) (minus_plain b first) (count_plain word n.0 n.1)
+number_case : (minus : Bool) (b : ℕ) (word : List ℕ) (z : ℤ) → (b == 45) ≡ minus
+    → (if minus then option_map (λ n. neg_ℤ (pos n)) (count word) else option_map (λ n. pos n) (count (b ∷ word))) ≡ Some z
+    → plain (b ∷ word) ≡ true
+number_case true b word z first is = let n = came_from (λ n. neg_ℤ (pos n)) (count word) z is in
+    both (is_plain b) (plain word) (minus_plain b first) (count_plain word n.0 n.1)
 number_case false b word z first is = let n = came_from (λ n. pos n) (count (b ∷ word)) z is in count_plain (b ∷ word) n.0 n.1
 
 number_plain : (word : List ℕ) (z : ℤ) → number word ≡ Some z → plain word ≡ true
@@ -80,7 +85,8 @@ only_count_plain [] n is = refl
 only_count_plain (w ∷ []) n is = both (plain w) true (count_plain w n is) refl
 only_count_plain (w ∷ next ∷ more) n is = cc
 
-three : (x y z : Option ℤ) (v : Vec3) → vector_of x y z ≡ Some v → ((p : ℤ) × (x ≡ Some p)) × ((q : ℤ) × (y ≡ Some q)) × ((r : ℤ) × (z ≡ Some r))
+three : (x y z : Option ℤ) (v : Vec3) → vector_of x y z ≡ Some v
+    → ((p : ℤ) × (x ≡ Some p)) × ((q : ℤ) × (y ≡ Some q)) × ((r : ℤ) × (z ≡ Some r))
 three None y z v is = cc
 three (Some p) None z v is = cc
 three (Some p) (Some q) None v is = cc
@@ -92,7 +98,8 @@ only_vector_plain (x ∷ []) v is = cc
 only_vector_plain (x ∷ y ∷ []) v is = cc
 only_vector_plain (x ∷ y ∷ z ∷ []) v is =
     let each = three (number x) (number y) (number z) v is in
-    both (plain x) _ (number_plain x each.0.0 each.0.1) (both (plain y) _ (number_plain y each.1.0 each.1.1) (both (plain z) true (number_plain z each.2.0 each.2.1) refl))
+    both (plain x) _ (number_plain x each.0.0 each.0.1) (both (plain y) _ (number_plain y each.1.0 each.1.1)
+    (both (plain z) true (number_plain z each.2.0 each.2.1) refl))
 only_vector_plain (x ∷ y ∷ z ∷ more ∷ ws) v is = cc
 
 chained : {X Y : Type 0} (f : X → Option Y) (o : Option X) (y : Y) → option_and_then f o ≡ Some y → (x : X) × (o ≡ Some x) × (f x ≡ Some y)
@@ -111,12 +118,17 @@ moved_plain (w ∷ axes) c is =
 abbrev ArePlain : List ℕ → List (List ℕ) → Type 0
 ArePlain word ws = (plain word ≡ true) × (all_plain ws ≡ true)
 
-pick_case : (b : Bool) (word key : List ℕ) (ws : List (List ℕ)) (o rest : Option Command) (c : Command) → (b ≡ true → word ≡ key) → plain key ≡ true → (o ≡ Some c → all_plain ws ≡ true) → (rest ≡ Some c → ArePlain word ws) → (if b then o else rest) ≡ Some c → ArePlain word ws
+pick_case : (b : Bool) (word key : List ℕ) (ws : List (List ℕ)) (o rest : Option Command) (c : Command) → (b ≡ true → word ≡ key)
+    → plain key ≡ true → (o ≡ Some c → all_plain ws ≡ true) → (rest ≡ Some c → ArePlain word ws) → (if b then o else rest) ≡ Some c
+    → ArePlain word ws
 pick_case true word key ws o rest c same fine here there is = (rw (same refl) fine, here is)
 pick_case false word key ws o rest c same fine here there is = there is
 
-pick : (word key : List ℕ) (ws : List (List ℕ)) (o rest : Option Command) (c : Command) → plain key ≡ true → (o ≡ Some c → all_plain ws ≡ true) → (rest ≡ Some c → ArePlain word ws) → (if bytes_eq word key then o else rest) ≡ Some c → ArePlain word ws
-pick word key ws o rest c fine here there is = pick_case (bytes_eq word key) word key ws o rest c (λ e. (bytes_eq-Decides word key).0 e) fine here there is
+pick : (word key : List ℕ) (ws : List (List ℕ)) (o rest : Option Command) (c : Command) → plain key ≡ true
+    → (o ≡ Some c → all_plain ws ≡ true) → (rest ≡ Some c → ArePlain word ws) → (if bytes_eq word key then o else rest) ≡ Some c
+    → ArePlain word ws
+pick word key ws o rest c fine here there is = pick_case (bytes_eq word key) word key ws o rest c
+    (λ e. (bytes_eq-Decides word key).0 e) fine here there is
 
 form_plain : (word : List ℕ) (ws : List (List ℕ)) (c : Command) → form word ws ≡ Some c → ArePlain word ws
 unfolding form
@@ -127,7 +139,8 @@ form_plain word ws c is =
     (pick word (codes "unpin") ws _ _ c refl (λ e. let n = came_from (λ k. Unpin k) (only_count ws) c e in only_count_plain ws n.0 n.1)
     (pick word (codes "move") ws _ _ c refl (moved_plain ws c)
     (pick word (codes "cut") ws _ _ c refl (λ e. let n = came_from (λ k. Cut k) (only_count ws) c e in only_count_plain ws n.0 n.1)
-    (pick word (codes "gravity") ws _ _ c refl (λ e. let v = came_from (λ k. Gravity k) (only_vector ws) c e in only_vector_plain ws v.0 v.1)
+    (pick word (codes "gravity") ws _ _ c refl (λ e. let v = came_from (λ k. Gravity k) (only_vector ws) c e in
+    only_vector_plain ws v.0 v.1)
     (pick word (codes "ledger") ws _ _ c refl (alone_plain Ledger c ws) (λ e. cc)))))))) is
 
 -- ---- from words to the line
@@ -135,13 +148,16 @@ form_plain word ws c is =
 blank_plain : (b : ℕ) → is_blank b ≡ true → is_plain b ≡ true
 blank_plain b is = grind (arith, nat_tests)
 
-grown : (b : ℕ) (xs : List ℕ) (parts : List (List ℕ)) → all_plain (onto_first b parts) ≡ true → (all_plain parts ≡ true → plain xs ≡ true) → plain (b ∷ xs) ≡ true
+grown : (b : ℕ) (xs : List ℕ) (parts : List (List ℕ)) → all_plain (onto_first b parts) ≡ true → (all_plain parts ≡ true → plain xs ≡ true)
+    → plain (b ∷ xs) ≡ true
 grown b xs [] all next = both (is_plain b) (plain xs) (left (is_plain b) true (left (plain (b ∷ [])) true all)) (next refl)
 grown b xs (part ∷ parts) all next =
     let front = left (plain (b ∷ part)) (all_plain parts) all in
-    both (is_plain b) (plain xs) (left (is_plain b) (plain part) front) (next (both (plain part) (all_plain parts) (right (is_plain b) (plain part) front) (right (plain (b ∷ part)) (all_plain parts) all)))
+    both (is_plain b) (plain xs) (left (is_plain b) (plain part) front)
+    (next (both (plain part) (all_plain parts) (right (is_plain b) (plain part) front) (right (plain (b ∷ part)) (all_plain parts) all)))
 
-part_case : (blank : Bool) (b : ℕ) (xs : List ℕ) (parts : List (List ℕ)) → is_blank b ≡ blank → all_plain (cond blank ([] ∷ parts) (onto_first b parts)) ≡ true → (all_plain parts ≡ true → plain xs ≡ true) → plain (b ∷ xs) ≡ true
+part_case : (blank : Bool) (b : ℕ) (xs : List ℕ) (parts : List (List ℕ)) → is_blank b ≡ blank
+    → all_plain (cond blank ([] ∷ parts) (onto_first b parts)) ≡ true → (all_plain parts ≡ true → plain xs ≡ true) → plain (b ∷ xs) ≡ true
 part_case true b xs parts is all next = both (is_plain b) (plain xs) (blank_plain b is) (next all)
 part_case false b xs parts is all next = grown b xs parts all next
 
@@ -167,33 +183,42 @@ words_plain line all = parts_plain line (filtered_plain (slice_split is_blank li
 return_plain : (b : ℕ) → (b == 13) ≡ true → is_plain b ≡ true
 return_plain b is = grind (arith, nat_tests)
 
-strip_case : (ends : Bool) (line : List ℕ) → (slice_index line (length line - 1) == 13) ≡ ends → plain (if ends then take (length line - 1) line else line) ≡ true → plain line ≡ true
+strip_case : (ends : Bool) (line : List ℕ) → (slice_index line (length line - 1) == 13) ≡ ends
+    → plain (if ends then take (length line - 1) line else line) ≡ true → plain line ≡ true
 strip_case false line is all = all
 strip_case true [] is all = refl
 strip_case true (b ∷ rest) is all =
     let last : length (b ∷ rest) - 1 < length (b ∷ rest) = omega arith in
     let size : suc (length (b ∷ rest) - 1) ≡ length (b ∷ rest) = omega arith in
-    let whole : b ∷ rest ≡ take (length (b ∷ rest) - 1) (b ∷ rest) ++ get_or (b ∷ rest) (length (b ∷ rest) - 1) 0 ∷ [] = sym (ap (λ n. take n (b ∷ rest)) size ∙ take_all (length (b ∷ rest)) (b ∷ rest) (omega arith)) ∙ take-suc (b ∷ rest) (length (b ∷ rest) - 1) 0 last in
-    ap plain whole ∙ list_all-append is_plain (take (length (b ∷ rest) - 1) (b ∷ rest)) _ ∙ both (plain (take (length (b ∷ rest) - 1) (b ∷ rest))) _ all (both (is_plain (get_or (b ∷ rest) (length (b ∷ rest) - 1) 0)) true (return_plain _ is) refl)
+    let whole : b ∷ rest ≡ take (length (b ∷ rest) - 1) (b ∷ rest) ++ get_or (b ∷ rest) (length (b ∷ rest) - 1) 0
+    ∷ [] = sym (ap (λ n. take n (b ∷ rest)) size ∙ take_all (length (b ∷ rest)) (b ∷ rest) (omega arith))
+    ∙ take-suc (b ∷ rest) (length (b ∷ rest) - 1) 0 last in
+    ap plain whole ∙ list_all-append is_plain (take (length (b ∷ rest) - 1) (b ∷ rest)) _
+    ∙ both (plain (take (length (b ∷ rest) - 1) (b ∷ rest))) _ all
+    (both (is_plain (get_or (b ∷ rest) (length (b ∷ rest) - 1) 0)) true (return_plain _ is) refl)
 
 strip_plain : (line : List ℕ) → plain (strip_carriage_return line) ≡ true → plain line ≡ true
 strip_plain line all = strip_case (slice_index line (length line - 1) == 13) line refl all
 
 -- ---- the line
 
-or_bad : (o : Option Command) (c : Command) (Q : Type 0) → ((d : Command) → o ≡ Some d → Q) → Some (unwrap_or o Bad) ≡ Some c → (c ≡ Bad) ⊎ Q
+or_bad : (o : Option Command) (c : Command) (Q : Type 0) → ((d : Command) → o ≡ Some d → Q) → Some (unwrap_or o Bad) ≡ Some c
+    → (c ≡ Bad) ⊎ Q
 or_bad None c Q formed is = inl cc
 or_bad (Some d) c Q formed is = inr (formed d refl)
 
-command_case : (comment : Bool) (o : Option Command) (c : Command) (Q : Type 0) → ((d : Command) → o ≡ Some d → Q) → (if comment then None else Some (unwrap_or o Bad)) ≡ Some c → (c ≡ Bad) ⊎ Q
+command_case : (comment : Bool) (o : Option Command) (c : Command) (Q : Type 0) → ((d : Command) → o ≡ Some d → Q)
+    → (if comment then None else Some (unwrap_or o Bad)) ≡ Some c → (c ≡ Bad) ⊎ Q
 command_case true o c Q formed is = cc
 command_case false o c Q formed is = or_bad o c Q formed is
 
 words_case : (ws : List (List ℕ)) (c : Command) → words_command ws ≡ Some c → (c ≡ Bad) ⊎ (all_plain ws ≡ true)
 words_case [] c is = cc
-words_case (word ∷ ws) c is = command_case (starts_with nat_eq word (codes "#")) (form word ws) c (all_plain (word ∷ ws) ≡ true) (λ d e. let fine = form_plain word ws d e in both (plain word) (all_plain ws) fine.0 fine.1) is
+words_case (word ∷ ws) c is = command_case (starts_with nat_eq word (codes "#")) (form word ws) c (all_plain (word ∷ ws) ≡ true)
+    (λ d e. let fine = form_plain word ws d e in both (plain word) (all_plain ws) fine.0 fine.1) is
 
-bad_from : (c : Command) (line : List ℕ) → plain line ≡ false → (c ≡ Bad) ⊎ (all_plain (words (strip_carriage_return line)) ≡ true) → c ≡ Bad
+bad_from : (c : Command) (line : List ℕ) → plain line ≡ false → (c ≡ Bad) ⊎ (all_plain (words (strip_carriage_return line)) ≡ true)
+    → c ≡ Bad
 bad_from c line strange (inl bad) = bad
 bad_from c line strange (inr fine) = let e : plain line ≡ true = strip_plain line (words_plain (strip_carriage_return line) fine) in cc
 
@@ -205,4 +230,5 @@ not_plain : (b : ℕ) → 128 ≤ b → is_plain b ≡ false
 not_plain b le = grind (arith, nat_tests)
 
 pub strange_line : (line : List ℕ) → Any (λ b. 128 ≤ b) line → IfSome (line_command line) (λ c. c ≡ Bad)
-strange_line line (k, b, within, is, strange) = strange_command (line_command line) line refl (list_all_at is_plain line k b within (rw is (not_plain b strange)))
+strange_line line (k, b, within, is, strange) = strange_command (line_command line) line refl
+    (list_all_at is_plain line k b within (rw is (not_plain b strange)))

@@ -16,10 +16,12 @@ pub record Applied (w v : World) (c : Command) (r : Reply) : Type 0 where
   pub one_scene : AreOfOneScene w v
 
 -- a command that the solver did, whose outcome is told
-pub applied : {w v u : World} {c d : Command} {r : Result (Unit {0}) Refusal} {meant : Result World Refusal} {x : Reply} → Commanded r meant u v → meaning u d ≡ done_or_refused u meant → c ≡ d → u ≡ w
+pub applied : {w v u : World} {c d : Command} {r : Result (Unit {0}) Refusal} {meant : Result World Refusal} {x : Reply}
+    → Commanded r meant u v → meaning u d ≡ done_or_refused u meant → c ≡ d → u ≡ w
     → MatchResult r (λ y. x ≡ replies.Done) (λ refusal. x ≡ replies.Refused refusal) → Applied w v c x
 applied {w} {v} {u} {c} {d} {r} {meant} {x} done is same seen told =
-    subst (λ (y : World). Applied y v c x) seen (subst (λ (e : Command). Applied u v e x) (sym same) (by r done.obeys.outcome done.obeys.kept told))
+    subst (λ (y : World). Applied y v c x) seen (subst (λ (e : Command). Applied u v e x) (sym same)
+    (by r done.obeys.outcome done.obeys.kept told))
   where
     -- the world and the reply that are meant
     as_meant : (s : Result World Refusal) → meant ≡ s → v ≡ (done_or_refused u s).0 → x ≡ (done_or_refused u s).1 → Applied u v d x
@@ -32,6 +34,7 @@ applied {w} {v} {u} {c} {d} {r} {meant} {x} done is same seen told =
       one_scene = done.one_scene;
     }
 
-    by : (r : Result (Unit {0}) Refusal) → MatchResult r (λ y. meant ≡ Ok v) (λ refusal. meant ≡ Err refusal) → OnErr r (v ≡ u) → MatchResult r (λ y. x ≡ replies.Done) (λ refusal. x ≡ replies.Refused refusal) → Applied u v d x
+    by : (r : Result (Unit {0}) Refusal) → MatchResult r (λ y. meant ≡ Ok v) (λ refusal. meant ≡ Err refusal) → OnErr r (v ≡ u)
+        → MatchResult r (λ y. x ≡ replies.Done) (λ refusal. x ≡ replies.Refused refusal) → Applied u v d x
     by (Ok y) e kept tells = as_meant (Ok v) e refl tells
     by (Err refusal) e kept tells = as_meant (Err refusal) e kept tells

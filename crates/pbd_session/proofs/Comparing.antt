@@ -1,5 +1,6 @@
 -- An entry compared with itself, and a session with its own log.
-use Rattle.std.proofs.Common.{◌≡◌, ◌∙◌, sym, ap, refl, ℕ, ◌+◌, ℤ, pos, List, [], ◌∷◌, Option, Some, None, true, false, ◌<◌, ◌≤◌, length, drop, get_or, ◌++◌, inl, inr}
+use Rattle.std.proofs.Common.{◌≡◌, ◌∙◌, sym, ap, refl, ℕ, ◌+◌, ℤ, pos, List, [], ◌∷◌, Option, Some, None, true, false, ◌<◌, ◌≤◌, length}
+use Rattle.std.proofs.Common.{drop, get_or, ◌++◌, inl, inr}
 use Rattle.std.specs.Ordering.{int_eq}
 use Rattle.std.proofs.lemmas.List.{drop_all, drop_more}
 use Rattle.std.proofs.lemmas.Bool.{cases_Bool}
@@ -16,7 +17,8 @@ use Rattle.pbd_log.specs.Entries.{entry_of}
 use Rattle.pbd_session.specs.declared.ending.Compared.{Compared}
 use Rattle.pbd_session.specs.declared.ending.ReplayEnd.TheVariants as ends
 use Rattle.pbd_session.specs.Recording.{entries_of}
-use Rattle.pbd_session.specs.Replaying.{axis, compared_answers, compared_sums, compared_where_both, difference, differs, first_difference, replayed_from}
+use Rattle.pbd_session.specs.Replaying.{axis, compared_answers, compared_sums, compared_where_both, difference, differs, first_difference}
+use Rattle.pbd_session.specs.Replaying.{replayed_from}
 
 int_same : (z : ℤ) → int_eq z z ≡ true
 int_same z = (Decides-int_eq z z).1 refl
@@ -39,24 +41,29 @@ same_sums (Some s) =
 pub none_differs : (e : Entry) → difference e e ≡ None
 unfolding difference
 none_differs e =
-    rw (int_same (pos e.answer.number), int_same (pos e.answer.step), int_same (pos e.answer.phase), int_same (pos e.answer.element)) (same_sums e.sums)
+    rw (int_same (pos e.answer.number), int_same (pos e.answer.step), int_same (pos e.answer.phase), int_same (pos e.answer.element))
+    (same_sums e.sums)
 
-pub alike : (n : ℕ) (w : World) (cs : List Command) → replayed_from n w (entries_of w cs) ≡ record { text = session_text w cs; ended = ends.Done (refused_count w cs); world = last_world w cs }
+pub alike : (n : ℕ) (w : World) (cs : List Command) → replayed_from n w (entries_of w cs)
+    ≡ record { text = session_text w cs; ended = ends.Done (refused_count w cs); world = last_world w cs }
 unfolding replayed_from session_text refused_count
 alike n w [] = refl
 alike n w (c ∷ cs) = rw (none_differs (entry_of (entry w c)), alike (n + 1) (after w c) cs) refl
 
 -- ---- from the front to the first field that differs
 
-pub found_here : (cs : List Compared) (i : ℕ) (d : Compared) → i < length cs → first_difference (drop i cs) ≡ first_difference cs → differs (get_or cs i d) ≡ true → Some (get_or cs i d) ≡ first_difference cs
+pub found_here : (cs : List Compared) (i : ℕ) (d : Compared) → i < length cs → first_difference (drop i cs) ≡ first_difference cs
+    → differs (get_or cs i d) ≡ true → Some (get_or cs i d) ≡ first_difference cs
 found_here cs i d lt before test = sym (sym before ∙ (ap first_difference (drop_more cs i d lt) ∙ rw test refl))
 
-pub passed_by : (cs : List Compared) (i : ℕ) (d : Compared) → i < length cs → first_difference (drop i cs) ≡ first_difference cs → differs (get_or cs i d) ≡ false → first_difference (drop (i + 1) cs) ≡ first_difference cs
+pub passed_by : (cs : List Compared) (i : ℕ) (d : Compared) → i < length cs → first_difference (drop i cs) ≡ first_difference cs
+    → differs (get_or cs i d) ≡ false → first_difference (drop (i + 1) cs) ≡ first_difference cs
 passed_by cs i d lt before test =
     let step : first_difference (get_or cs i d ∷ drop (i + 1) cs) ≡ first_difference (drop (i + 1) cs) = rw test refl in
     sym step ∙ (sym (ap first_difference (drop_more cs i d lt)) ∙ before)
 
-pub none_left : (cs : List Compared) (i : ℕ) → length cs ≤ i → first_difference (drop i cs) ≡ first_difference cs → None ≡ first_difference cs
+pub none_left : (cs : List Compared) (i : ℕ) → length cs ≤ i → first_difference (drop i cs) ≡ first_difference cs
+    → None ≡ first_difference cs
 none_left cs i all before = rw (drop_all i cs all) at before
 
 -- ---- the answers first, and then the sums
@@ -75,18 +82,22 @@ found_after (b ∷ cs) ds none = elim (cases_Bool (differs b)) [
   | inr test ↦ let later : first_difference cs ≡ None = rw test at none in rw test (found_after cs ds later)
 ]
 
-pub answers_differ : (e f : Entry) (cs : List Compared) (o : Option Compared) (c : Compared) → cs ≡ compared_answers e.answer f.answer → o ≡ first_difference cs → o ≡ Some c → Some c ≡ difference e f
+pub answers_differ : (e f : Entry) (cs : List Compared) (o : Option Compared) (c : Compared) → cs ≡ compared_answers e.answer f.answer
+    → o ≡ first_difference cs → o ≡ Some c → Some c ≡ difference e f
 unfolding difference
 answers_differ e f cs o c is first some =
-    sym (found_before (compared_answers e.answer f.answer) (compared_where_both e.sums f.sums) c (sym (ap first_difference is) ∙ (sym first ∙ some)))
+    sym (found_before (compared_answers e.answer f.answer) (compared_where_both e.sums f.sums) c
+    (sym (ap first_difference is) ∙ (sym first ∙ some)))
 
 -- where the answers agree
-pub sums_decide : (e f : Entry) (cs : List Compared) (o : Option Compared) → cs ≡ compared_answers e.answer f.answer → o ≡ first_difference cs → o ≡ None → difference e f ≡ first_difference (compared_where_both e.sums f.sums)
+pub sums_decide : (e f : Entry) (cs : List Compared) (o : Option Compared) → cs ≡ compared_answers e.answer f.answer
+    → o ≡ first_difference cs → o ≡ None → difference e f ≡ first_difference (compared_where_both e.sums f.sums)
 unfolding difference
 sums_decide e f cs o is first none =
     found_after (compared_answers e.answer f.answer) (compared_where_both e.sums f.sums) (sym (ap first_difference is) ∙ (sym first ∙ none))
 
-pub both_sums : (s t : Option FrameSums) (a b : FrameSums) → s ≡ Some a → t ≡ Some b → first_difference (compared_where_both s t) ≡ first_difference (compared_sums a b)
+pub both_sums : (s t : Option FrameSums) (a b : FrameSums) → s ≡ Some a → t ≡ Some b
+    → first_difference (compared_where_both s t) ≡ first_difference (compared_sums a b)
 both_sums s t a b first second = rw (first, second) refl
 
 pub no_found : (s t : Option FrameSums) (a : FrameSums) → s ≡ Some a → t ≡ None → first_difference (compared_where_both s t) ≡ None

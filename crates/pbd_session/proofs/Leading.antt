@@ -17,7 +17,8 @@ leads_begin w all = record { last = refl; among = λ v c. c }
 contains_more : (w v : World) (ws : List World) → Contains ws v → Contains (w ∷ ws) v
 contains_more w v ws c = (suc c.0, omega (arith, c.1), c.2)
 
-pub leads_on : (start : World) (all : List Command) (w : World) (c : Command) (cs : List Command) → Leads start all w (c ∷ cs) → Leads start all (after w c) cs
+pub leads_on : (start : World) (all : List Command) (w : World) (c : Command) (cs : List Command) → Leads start all w (c ∷ cs)
+    → Leads start all (after w c) cs
 leads_on start all w c cs leads = record {
   last = leads.last;
   among = λ v there. leads.among v (contains_more w v (worlds (after w c) cs) there);
@@ -28,7 +29,8 @@ contains_first w [] = (0, omega arith, refl)
 contains_first w (c ∷ cs) = (0, omega arith, refl)
 
 -- the world so far is one of them
-pub leads_among : (start : World) (all : List Command) (w : World) (left : List Command) → Leads start all w left → Contains (worlds start all) w
+pub leads_among : (start : World) (all : List Command) (w : World) (left : List Command) → Leads start all w left
+    → Contains (worlds start all) w
 leads_among start all w left leads = leads.among w (contains_first w left)
 
 pub leads_last : (start : World) (all : List Command) (w : World) → Leads start all w [] → w ≡ last_world start all

@@ -1,8 +1,8 @@
-mod Texts
+pub mod Texts
 mod Leading
-mod Running
+pub mod Running
 mod Paying
-mod Recorded
+pub mod Recorded
 mod Comparing
 mod Replays
 mod Summing

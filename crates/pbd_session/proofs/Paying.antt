@@ -29,9 +29,15 @@ unfolding command_work
 move_is width lanes i to w c is = rw is refl
 
 -- steps cost no more with more bonds side by side
-pub steps_wider : (width lanes more n : ℕ) (w : World) → 0 < width → 0 < lanes → lanes ≤ more → steps_work width more n w ≤ steps_work width lanes n w
+pub steps_wider : (width lanes more n : ℕ) (w : World) → 0 < width → 0 < lanes → lanes ≤ more
+    → steps_work width more n w ≤ steps_work width lanes n w
 steps_wider width lanes more n w some any h =
-    omega (arith, command_wider width lanes width more some (omega arith) any h w (Step n), steps_are width lanes n w, steps_are width more n w)
+    omega (
+      arith,
+      command_wider width lanes width more some (omega arith) any h w (Step n),
+      steps_are width lanes n w,
+      steps_are width more n w,
+    )
 
 -- a frame reads each particle, and so does a ledger
 pub frame_reads : (v w : World) (r : Reply) → v ≡ w → r ≡ Frame → length v.particles ≡ reply_work w r
@@ -43,8 +49,10 @@ unfolding reply_work
 ledger_reads v w r same is = rw (same, is) refl
 
 -- once a command was done and answered, what is left and what was spent are at most what they were
-pub paid_next : (width lanes : ℕ) (w v : World) (left : List Command) (c : Command) (cs : List Command) (r : Reply) (whole mid next new : ℕ) → left ≡ c ∷ cs → Does w v c r
-    → mid + session_work width lanes w left ≤ whole → next ≤ mid + command_work width lanes w c → new ≤ next + reply_work v r → new + session_work width lanes v cs ≤ whole
+pub paid_next : (width lanes : ℕ) (w v : World) (left : List Command) (c : Command) (cs : List Command) (r : Reply) (whole mid next new : ℕ)
+    → left ≡ c ∷ cs → Does w v c r
+    → mid + session_work width lanes w left ≤ whole → next ≤ mid + command_work width lanes w c → new ≤ next + reply_work v r
+    → new + session_work width lanes v cs ≤ whole
 unfolding session_work
 paid_next width lanes w v left c cs r whole mid next new is does spent done printed =
     let before : mid + session_work width lanes w (c ∷ cs) ≤ whole = rw is at spent in

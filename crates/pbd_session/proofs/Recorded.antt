@@ -1,5 +1,6 @@
 -- A log that is written, one entry after another.
-use Rattle.std.proofs.Common.{◌≡◌, ◌∙◌, sym, ap, refl, ℕ, ◌+◌, ◌≤◌, ◌<◌, ◌^◌, ℤ, List, [], ◌∷◌, ◌++◌, length, Option, arith, append_assoc, append-nil, IsTrue}
+use Rattle.std.proofs.Common.{◌≡◌, ◌∙◌, sym, ap, refl, ℕ, ◌+◌, ◌≤◌, ◌<◌, ◌^◌, ℤ, List, [], ◌∷◌, ◌++◌, length, Option, arith, append_assoc}
+use Rattle.std.proofs.Common.{append-nil, IsTrue}
 use Rattle.std.specs.Prelude.{if◌then◌else◌}
 use Rattle.std.specs.Io.KnownBytes.{Appends}
 use Rattle.std.specs.List.{Contains, flat_map, AllByRecursion}
@@ -30,7 +31,8 @@ bytes_of entries = flat_map entry_bytes entries
 
 -- From the world and the commands at the start, it has come to this world and these commands, having appended what
 -- stands before the entries and so many entries.
-pub record Logged (start : World) (all : List Command) (limit : ℤ) (scene : List ℕ) (w : World) (left : List Command) (old new : Option (List ℕ)) (refused written : ℕ) : Type 0 where
+pub record Logged (start : World) (all : List Command) (limit : ℤ) (scene : List ℕ) (w : World) (left : List Command)
+    (old new : Option (List ℕ)) (refused written : ℕ) : Type 0 where
   pub done : List ℕ
   pub bytes : Appends old new (head limit scene ++ done)
   pub entries : done ++ bytes_of (entries_of w left) ≡ bytes_of (entries_of start all)
@@ -39,11 +41,12 @@ pub record Logged (start : World) (all : List Command) (limit : ℤ) (scene : Li
   pub counted : Counted start all w left refused
   pub leads : Leads start all w left
 
-as_many : (w : World) (cs : List Command) → length (entries_of w cs) ≡ length cs
+pub as_many : (w : World) (cs : List Command) → length (entries_of w cs) ≡ length cs
 as_many w [] = refl
 as_many w (c ∷ cs) = let e = as_many (after w c) cs in omega (arith, e)
 
-pub logged_begins : (w : World) (all : List Command) (limit : ℤ) (scene : List ℕ) (old new : Option (List ℕ)) → Appends old new (head limit scene) → Logged w all limit scene w all old new 0 0
+pub logged_begins : (w : World) (all : List Command) (limit : ℤ) (scene : List ℕ) (old new : Option (List ℕ))
+    → Appends old new (head limit scene) → Logged w all limit scene w all old new 0 0
 logged_begins w all limit scene old new wrote = record {
   done = [];
   bytes = rw append-nil wrote;
@@ -54,7 +57,10 @@ logged_begins w all limit scene old new wrote = record {
   leads = leads_begin w all;
 }
 
-pub logged_next : (start : World) (all : List Command) (limit : ℤ) (scene : List ℕ) (w v : World) (left : List Command) (c : Command) (cs : List Command) (old mid new : Option (List ℕ)) (refused written : ℕ) (r : Reply) (e : Entry) → Logged start all limit scene w left old mid refused written → left ≡ c ∷ cs → Does w v c r → e ≡ entry_of (entry w c) → IsEntry e → Appends mid new (entry_bytes e) → Logged start all limit scene v cs old new (refused + (if is_refused r then 1 else 0)) (written + 1)
+pub logged_next : (start : World) (all : List Command) (limit : ℤ) (scene : List ℕ) (w v : World) (left : List Command) (c : Command)
+    (cs : List Command) (old mid new : Option (List ℕ)) (refused written : ℕ) (r : Reply) (e : Entry)
+    → Logged start all limit scene w left old mid refused written → left ≡ c ∷ cs → Does w v c r → e ≡ entry_of (entry w c) → IsEntry e
+    → Appends mid new (entry_bytes e) → Logged start all limit scene v cs old new (refused + (if is_refused r then 1 else 0)) (written + 1)
 logged_next start all limit scene w v left c cs old mid new refused written r e logged is does kept grammar wrote =
     let here : Logged start all limit scene w (c ∷ cs) old mid refused written = rw is at logged in
     let e' = entry_of (entry w c) in
@@ -71,14 +77,18 @@ logged_next start all limit scene w v left c cs old mid new refused written r e 
     })
 
 -- the entry that is made of a command
-pub is_entry : (w v : World) (c : Command) (r : Reply) (e : Entry) → Does w v c r → e ≡ record { command = c; answer = answer_of r; sums = kept_sums v c r } → e ≡ entry_of (entry w c)
+pub is_entry : (w v : World) (c : Command) (r : Reply) (e : Entry) → Does w v c r
+    → e ≡ record { command = c; answer = answer_of r; sums = kept_sums v c r } → e ≡ entry_of (entry w c)
 is_entry w v c r e does is = rw (is, does.world, does.reply) refl
 
 pub is_grammatical : (w : World) (c : Command) (e : Entry) → e ≡ entry_of (entry w c) → IsGrammatical e
 is_grammatical w c e is = rw is (kept_is w c)
 
 -- so many entries can be counted
-pub has_room : (start : World) (all : List Command) (limit : ℤ) (scene : List ℕ) (w : World) (left : List Command) (old new : Option (List ℕ)) (refused written : ℕ) → Logged start all limit scene w left old new refused written → length all ≤ 2 ^ 31 + 1 → written < 2 ^ 32
+pub has_room : (start : World) (all : List Command) (limit : ℤ) (scene : List ℕ) (w : World) (left : List Command)
+    (old new : Option (List ℕ)) (refused written : ℕ) → Logged start all limit scene w left old new refused written
+    → length all ≤ 2 ^ 31 + 1
+    → written < 2 ^ 32
 has_room start all limit scene w left old new refused written logged few = omega (arith, logged.number, as_many start all, few)
 
 -- what stands where a sink failed
@@ -86,7 +96,8 @@ pub record Failed (start : World) (all : List Command) (limit : ℤ) (scene : Li
   pub bytes : AppendsPrefix old new (log_bytes limit scene (entries_of start all))
   pub one_of : Contains (worlds start all) v
 
-pub begin_failed : (w : World) (all : List Command) (limit : ℤ) (scene : List ℕ) (old new : Option (List ℕ)) → AppendsPrefix old new (head limit scene) → Failed w all limit scene w old new
+pub begin_failed : (w : World) (all : List Command) (limit : ℤ) (scene : List ℕ) (old new : Option (List ℕ))
+    → AppendsPrefix old new (head limit scene) → Failed w all limit scene w old new
 unfolding log_bytes
 begin_failed w all limit scene old new wrote = record {
   bytes = prefix_longer _ _ (head limit scene ++ bytes_of (entries_of w all)) _ (prefix_longer _ _ (head limit scene) _ wrote);
@@ -96,7 +107,10 @@ begin_failed w all limit scene old new wrote = record {
 regroup : (h d e m t : List ℕ) → ((h ++ d) ++ e) ++ (m ++ t) ≡ (h ++ (d ++ (e ++ m))) ++ t
 regroup h d e m t = simp append_assoc refl
 
-pub logged_failed : (start : World) (all : List Command) (limit : ℤ) (scene : List ℕ) (w v : World) (left : List Command) (c : Command) (cs : List Command) (old mid new : Option (List ℕ)) (refused written : ℕ) (r : Reply) (e : Entry) → Logged start all limit scene w left old mid refused written → left ≡ c ∷ cs → Does w v c r → e ≡ entry_of (entry w c) → AppendsPrefix mid new (entry_bytes e) → Failed start all limit scene v old new
+pub logged_failed : (start : World) (all : List Command) (limit : ℤ) (scene : List ℕ) (w v : World) (left : List Command) (c : Command)
+    (cs : List Command) (old mid new : Option (List ℕ)) (refused written : ℕ) (r : Reply) (e : Entry)
+    → Logged start all limit scene w left old mid refused written → left ≡ c ∷ cs → Does w v c r → e ≡ entry_of (entry w c)
+    → AppendsPrefix mid new (entry_bytes e) → Failed start all limit scene v old new
 unfolding log_bytes
 logged_failed start all limit scene w v left c cs old mid new refused written r e logged is does kept wrote =
     let here : Logged start all limit scene w (c ∷ cs) old mid refused written = rw is at logged in
@@ -104,22 +118,28 @@ logged_failed start all limit scene w v left c cs old mid new refused written r 
     let wrote_that : AppendsPrefix mid new (entry_bytes e') = rw kept at wrote in
     let tail = end_bytes (length (entries_of start all)) in
     let more = bytes_of (entries_of (after w c) cs) in
-    let all_of : AppendsPrefix old new (((head limit scene ++ here.done) ++ entry_bytes e') ++ (more ++ tail)) = prefix_longer _ _ ((head limit scene ++ here.done) ++ entry_bytes e') (more ++ tail) (prefix_then _ _ _ _ _ here.bytes wrote_that) in
-    let parts : ((head limit scene ++ here.done) ++ entry_bytes e') ++ (more ++ tail) ≡ (head limit scene ++ bytes_of (entries_of start all)) ++ tail =
+    let all_of : AppendsPrefix old new (((head limit scene ++ here.done) ++ entry_bytes e') ++ (more ++ tail)) =
+    prefix_longer _ _ ((head limit scene ++ here.done) ++ entry_bytes e') (more ++ tail) (prefix_then _ _ _ _ _ here.bytes wrote_that) in
+    let parts : ((head limit scene ++ here.done) ++ entry_bytes e') ++ (more ++ tail)
+    ≡ (head limit scene ++ bytes_of (entries_of start all)) ++ tail =
     regroup (head limit scene) here.done (entry_bytes e') more tail ∙ ap (λ t. (head limit scene ++ t) ++ tail) here.entries in
     rw does.world (record {
       bytes = rw parts at all_of;
       one_of = leads_among start all (after w c) cs (leads_on start all w c cs here.leads);
     })
 
-whole : (start : World) (all : List Command) (limit : ℤ) (scene : List ℕ) (w : World) (old mid new : Option (List ℕ)) (refused written : ℕ) → (here : Logged start all limit scene w [] old mid refused written) → ((head limit scene ++ here.done) ++ end_bytes written ≡ log_bytes limit scene (entries_of start all))
+whole : (start : World) (all : List Command) (limit : ℤ) (scene : List ℕ) (w : World) (old mid new : Option (List ℕ)) (refused written : ℕ)
+    → (here : Logged start all limit scene w [] old mid refused written)
+    → ((head limit scene ++ here.done) ++ end_bytes written ≡ log_bytes limit scene (entries_of start all))
 unfolding log_bytes
 whole start all limit scene w old mid new refused written here =
     let n : written ≡ length (entries_of start all) = omega (arith, here.number) in
     let d : here.done ≡ bytes_of (entries_of start all) = sym (append-nil here.done) ∙ here.entries in
     rw (d, n) refl
 
-pub finish_failed : (start : World) (all : List Command) (limit : ℤ) (scene : List ℕ) (w : World) (left : List Command) (old mid new : Option (List ℕ)) (refused written : ℕ) → Logged start all limit scene w left old mid refused written → left ≡ [] → AppendsPrefix mid new (end_bytes written) → Failed start all limit scene w old new
+pub finish_failed : (start : World) (all : List Command) (limit : ℤ) (scene : List ℕ) (w : World) (left : List Command)
+    (old mid new : Option (List ℕ)) (refused written : ℕ) → Logged start all limit scene w left old mid refused written → left ≡ []
+    → AppendsPrefix mid new (end_bytes written) → Failed start all limit scene w old new
 finish_failed start all limit scene w left old mid new refused written logged is wrote =
     let here : Logged start all limit scene w [] old mid refused written = rw is at logged in
     record {
@@ -127,13 +147,17 @@ finish_failed start all limit scene w left old mid new refused written logged is
       one_of = leads_among start all w [] here.leads;
     }
 
-pub record Ended (start : World) (all : List Command) (limit : ℤ) (scene : List ℕ) (w : World) (old new : Option (List ℕ)) (refused : ℕ) : Type 0 where
+pub record Ended (start : World) (all : List Command) (limit : ℤ) (scene : List ℕ) (w : World) (old new : Option (List ℕ))
+    (refused : ℕ) : Type 0 where
   pub bytes : Appends old new (log_bytes limit scene (entries_of start all))
   pub spells : Spells (log_bytes limit scene (entries_of start all)) 2 limit scene (entries_of start all)
   pub count : refused ≡ refused_count start all
   pub world : w ≡ last_world start all
 
-pub logged_ends : (start : World) (all : List Command) (limit : ℤ) (scene : List ℕ) (w : World) (left : List Command) (old mid new : Option (List ℕ)) (refused written : ℕ) → Logged start all limit scene w left old mid refused written → left ≡ [] → Appends mid new (end_bytes written) → IsTrue (is_limit limit) → length scene < 2 ^ 32 → length all < 2 ^ 64 → Ended start all limit scene w old new refused
+pub logged_ends : (start : World) (all : List Command) (limit : ℤ) (scene : List ℕ) (w : World) (left : List Command)
+    (old mid new : Option (List ℕ)) (refused written : ℕ) → Logged start all limit scene w left old mid refused written → left ≡ []
+    → Appends mid new (end_bytes written) → IsTrue (is_limit limit) → length scene < 2 ^ 32 → length all < 2 ^ 64
+    → Ended start all limit scene w old new refused
 unfolding log_bytes
 logged_ends start all limit scene w left old mid new refused written logged is wrote known short few =
     let here : Logged start all limit scene w [] old mid refused written = rw is at logged in

@@ -16,7 +16,8 @@ pub sum_begins : (f : Particle → Vec3) (ps : List Particle) → IsSumTo f ps 0
 sum_begins f ps = record { whole = refl; size = record { x = omega arith; y = omega arith; z = omega arith } }
 
 pub sum_next : (f : Particle → Vec3) (ps : List Particle) (i : ℕ) (d : Particle) (sum next : Vec3)
-    → IsSumTo f ps i sum → i < length ps → next ≡ plus sum (f (get_or ps i d)) → Within (i * 2 ^ 29 + 2 ^ 29) next → IsSumTo f ps (i + 1) next
+    → IsSumTo f ps i sum → i < length ps → next ≡ plus sum (f (get_or ps i d)) → Within (i * 2 ^ 29 + 2 ^ 29) next
+    → IsSumTo f ps (i + 1) next
 sum_next f ps i d sum next so_far lt is size = record {
   whole = rw is (ap (λ qs. fold plus sum (map {A = Particle} {B = Vec3} f qs)) (sym (drop_more ps i d lt)) ∙ so_far.whole);
   size = record { x = omega (arith, size.x); y = omega (arith, size.y); z = omega (arith, size.z) };

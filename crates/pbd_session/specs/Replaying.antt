@@ -1,5 +1,6 @@
 -- A log against the session that its commands give again.
-use Rattle.std.specs.Prelude.{ℕ, ◌+◌, ℤ, pos, Bool, not, if◌then◌else◌, codes, decimal, List, [], ◌∷◌, ◌++◌, map, slice_index_or, Option, Some, None}
+use Rattle.std.specs.Prelude.{ℕ, ◌+◌, ℤ, pos, Bool, not, if◌then◌else◌, codes, decimal, List, [], ◌∷◌, ◌++◌, map, slice_index_or, Option}
+use Rattle.std.specs.Prelude.{Some, None}
 use Rattle.std.specs.List.{find}
 use Rattle.std.specs.Ordering.{int_eq}
 use Rattle.std.specs.Fmt.{signed_decimal}

@@ -1,5 +1,6 @@
 -- How far a plane and a sphere move a place.
-use Rattle.std.proofs.Common.{◌≡◌, refl, sym, ap, ◌∙◌, ℕ, ◌+◌, ◌*◌, ◌<◌, ◌≤◌, ◌^◌, true, false, ◌==◌, arith, ℤ, pos, negsuc, ◌+ℤ◌, ◌-ℤ◌, ◌*ℤ◌, ◌<ℤ◌, ◌≤ℤ◌, int_lt, unsigned_abs, inl, inr, ◌⊎◌, Some, None, ltb}
+use Rattle.std.proofs.Common.{◌≡◌, refl, sym, ap, ◌∙◌, ℕ, ◌+◌, ◌*◌, ◌<◌, ◌≤◌, ◌^◌, true, false, ◌==◌, arith, ℤ, pos, negsuc, ◌+ℤ◌, ◌-ℤ◌}
+use Rattle.std.proofs.Common.{◌*ℤ◌, ◌<ℤ◌, ◌≤ℤ◌, int_lt, unsigned_abs, inl, inr, ◌⊎◌, Some, None, ltb}
 use Rattle.std.proofs.lemmas.Int.{ints}
 use Rattle.std.proofs.lemmas.Bool.{cond-true, cond-false, cases_lt, lt-ltb, le-ltb, ne_eqb}
 use Rattle.std.proofs.Math.Nat.{mul-le-mul, lt_of_lt_of_le}
@@ -14,7 +15,8 @@ use Rattle.pbd_num.proofs.RoundingLemmas.{size-rdiv, root-square, root-next}
 use Rattle.pbd_num.proofs.Lengths.{squared_length_le}
 
 -- a plane's move on one axis
-pub plane_move : (lack axis square : ℤ) → unsigned_abs lack ≤ 2 ^ 42 → unsigned_abs axis ≤ 2 ^ 10 → pos 0 <ℤ square → unsigned_abs (rdiv (lack *ℤ axis) square) ≤ 2 ^ 52
+pub plane_move : (lack axis square : ℤ) → unsigned_abs lack ≤ 2 ^ 42 → unsigned_abs axis ≤ 2 ^ 10 → pos 0 <ℤ square
+    → unsigned_abs (rdiv (lack *ℤ axis) square) ≤ 2 ^ 52
 plane_move lack axis square h k p =
     let some = positive_above square p in
     size-rdiv (lack *ℤ axis) square (2 ^ 52) some (omega (arith, size-mul lack axis (2 ^ 42) (2 ^ 10) h k, some))
@@ -30,12 +32,14 @@ pub square_high : (n : Vec3) → Within (2 ^ 10) n → unsigned_abs (dot n n) �
 square_high n h = rw (dot_square n) (omega (arith, squared_length_le n (2 ^ 10) h))
 
 -- a place is in a sphere where the square of its distance is less than that of the radius
-pub in_by_squares : (squared : ℕ) (radius : ℤ) → pos 0 ≤ℤ radius → int_lt (pos squared) (pos (unsigned_abs radius * unsigned_abs radius)) ≡ int_lt (pos (root squared)) radius
+pub in_by_squares : (squared : ℕ) (radius : ℤ) → pos 0 ≤ℤ radius
+    → int_lt (pos squared) (pos (unsigned_abs radius * unsigned_abs radius)) ≡ int_lt (pos (root squared)) radius
 in_by_squares squared (negsuc r) h = absurd (omega (arith, ints))
 in_by_squares squared (pos r) h = by (cases_lt (root squared) r)
   where
     by : (root squared < r) ⊎ (r ≤ root squared) → ltb squared (r * r) ≡ ltb (root squared) r
-    by (inl p) = lt-ltb squared (r * r) (lt_of_lt_of_le (root-next squared) (mul-le-mul (next p) (next p))) ∙ sym (lt-ltb (root squared) r p)
+    by (inl p) = lt-ltb squared (r * r) (lt_of_lt_of_le (root-next squared) (mul-le-mul (next p) (next p)))
+        ∙ sym (lt-ltb (root squared) r p)
       where
         next : root squared < r → root squared + 1 ≤ r
         next q = omega arith
@@ -43,7 +47,10 @@ in_by_squares squared (pos r) h = by (cases_lt (root squared) r)
 
 -- ---- what a plane gives
 
-pub plane_touches : (plane : Plane) (p : Vec3) {lack square x y z : ℤ} → lack ≡ plane.offset -ℤ dot plane.normal p → square ≡ dot plane.normal plane.normal → int_lt (pos 0) lack ≡ true → x ≡ p.x +ℤ rdiv (lack *ℤ plane.normal.x) square → y ≡ p.y +ℤ rdiv (lack *ℤ plane.normal.y) square → z ≡ p.z +ℤ rdiv (lack *ℤ plane.normal.z) square → Some (record { x = x; y = y; z = z }) ≡ plane_shape plane p
+pub plane_touches : (plane : Plane) (p : Vec3) {lack square x y z : ℤ} → lack ≡ plane.offset -ℤ dot plane.normal p
+    → square ≡ dot plane.normal plane.normal → int_lt (pos 0) lack ≡ true → x ≡ p.x +ℤ rdiv (lack *ℤ plane.normal.x) square
+    → y ≡ p.y +ℤ rdiv (lack *ℤ plane.normal.y) square → z ≡ p.z +ℤ rdiv (lack *ℤ plane.normal.z) square
+    → Some (record { x = x; y = y; z = z }) ≡ plane_shape plane p
 unfolding plane_shape
 plane_touches plane p {lack} {square} {x} {y} {z} el es behind ex ey ez =
     let n = plane.normal in
@@ -57,14 +64,18 @@ plane_touches plane p {lack} {square} {x} {y} {z} el es behind ex ey ez =
     } in
     ap {A = Vec3} Some same ∙ sym (cond-true (int_lt (pos 0) lacks) (Some to) None test)
 
-pub plane_clears : (plane : Plane) (p : Vec3) {lack : ℤ} → lack ≡ plane.offset -ℤ dot plane.normal p → int_lt (pos 0) lack ≡ false → None ≡ plane_shape plane p
+pub plane_clears : (plane : Plane) (p : Vec3) {lack : ℤ} → lack ≡ plane.offset -ℤ dot plane.normal p → int_lt (pos 0) lack ≡ false
+    → None ≡ plane_shape plane p
 unfolding plane_shape
-plane_clears plane p el clear = sym (cond-false (int_lt (pos 0) (plane.offset -ℤ dot plane.normal p)) _ None (ap (int_lt (pos 0)) (sym el) ∙ clear))
+plane_clears plane p el clear = sym (cond-false (int_lt (pos 0) (plane.offset -ℤ dot plane.normal p)) _ None
+    (ap (int_lt (pos 0)) (sym el) ∙ clear))
 
 -- a place away from the centre comes onto the sphere along its way from there
-pub onto_away : (sphere : Sphere) (p way moved : Vec3) (length : ℤ) → way ≡ minus p sphere.centre → length ≡ pos (length_of way) → 0 < unsigned_abs length → moved ≡ scaled sphere.radius length way → plus sphere.centre moved ≡ onto_sphere sphere p
+pub onto_away : (sphere : Sphere) (p way moved : Vec3) (length : ℤ) → way ≡ minus p sphere.centre → length ≡ pos (length_of way)
+    → 0 < unsigned_abs length → moved ≡ scaled sphere.radius length way → plus sphere.centre moved ≡ onto_sphere sphere p
 onto_away sphere p way moved length way_is length_is apart moved_is =
     let d = minus p sphere.centre in
     let far : 0 < length_of d = omega (arith, ap unsigned_abs length_is, ap length_of way_is, apart) in
-    ap (plus sphere.centre) (moved_is ∙ ap (λ (l : ℤ). scaled sphere.radius l way) length_is ∙ ap (λ (v : Vec3). scaled sphere.radius (pos (length_of v)) v) way_is)
+    ap (plus sphere.centre) (moved_is ∙ ap (λ (l : ℤ). scaled sphere.radius l way) length_is
+    ∙ ap (λ (v : Vec3). scaled sphere.radius (pos (length_of v)) v) way_is)
     ∙ sym (cond-false (length_of d == 0) _ _ (ne_eqb (length_of d) 0 (λ (e : length_of d ≡ 0). absurd (omega arith))))

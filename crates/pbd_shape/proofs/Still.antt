@@ -1,5 +1,7 @@
 -- Particles that no shape moves, and that lose nothing to friction.
-use Rattle.std.proofs.Common.{◌≡◌, refl, sym, ap, ◌∙◌, ℕ, zero, suc, ◌+◌, ◌<◌, ◌≤◌, ◌==◌, Bool, true, false, cond, not, ◌&&◌, List, [], ◌∷◌, length, get_or, slice_set, arith, ℤ, pos, unsigned_abs, subst, ◌*◌, ◌^◌, ◌+ℤ◌, ◌-ℤ◌, ◌*ℤ◌, int_lt, IsTrue, Some, Ok, inl, inr}
+use Rattle.std.proofs.Common.{◌≡◌, refl, sym, ap, ◌∙◌, ℕ, zero, suc, ◌+◌, ◌<◌, ◌≤◌, ◌==◌, Bool, true, false, cond, not, ◌&&◌, List, [], ◌∷◌}
+use Rattle.std.proofs.Common.{length, get_or, slice_set, arith, ℤ, pos, unsigned_abs, subst, ◌*◌, ◌^◌, ◌+ℤ◌, ◌-ℤ◌, ◌*ℤ◌, int_lt, IsTrue}
+use Rattle.std.proofs.Common.{Some, Ok, inl, inr}
 use Rattle.std.specs.List.{list_any}
 use Rattle.std.proofs.lemmas.Int.{ints}
 use Rattle.std.proofs.lemmas.Bool.{cases_lt, cases_Bool, false≢true, eqb-true}
@@ -25,7 +27,8 @@ use Rattle.pbd_world.specs.Valid.{is_between}
 use Rattle.pbd_shape.specs.Shaping.{all_pushed, pushed_from}
 use Rattle.pbd_shape.specs.Rubbing.{rubbed_from}
 use Rattle.pbd_shape.specs.Way.{starting, IsStill}
-use Rattle.pbd_shape.proofs.Continuing.{shaped_to, shaped_is, one_shaped, pushed_on, pushed_all, pushed_begins, one_rubbed, rubbed_by, rubbed_on, rubbed_all, rubbed_begins}
+use Rattle.pbd_shape.proofs.Continuing.{shaped_to, shaped_is, one_shaped, pushed_on, pushed_all, pushed_begins, one_rubbed, rubbed_by}
+use Rattle.pbd_shape.proofs.Continuing.{rubbed_on, rubbed_all, rubbed_begins}
 use Rattle.pbd_shape.proofs.Steps.{loss_of, rubbed_is}
 
 -- a cost that a test leaves out or not
@@ -37,7 +40,8 @@ where_cost test old new most e h = rw e h
 
 -- a move that leads nowhere leaves the total of shapes as it is
 books_nothing : (t : Ledger) (made : Bool) (v : Vec3) → v ≡ zero_vector → booked t (cond made ((classes.Shape, v) ∷ []) []) ≡ t
-books_nothing t true v e = (λ i. booked t ((classes.Shape, e i) ∷ [])) ∙ (λ i. record t { shape = record { x = same t.shape.x i; y = same t.shape.y i; z = same t.shape.z i } })
+books_nothing t true v e = (λ i. booked t ((classes.Shape, e i) ∷ []))
+    ∙ (λ i. record t { shape = record { x = same t.shape.x i; y = same t.shape.y i; z = same t.shape.z i } })
   where
     same : (s : ℤ) → s +ℤ pos 0 ≡ s
     same s = omega (arith, ints)
@@ -51,39 +55,50 @@ nowhere v = λ i. record { x = none v.x i; y = none v.y i; z = none v.z i }
     none : (a : ℤ) → a -ℤ a ≡ pos 0
     none a = omega (arith, ints)
 
-shaped_still : (limit : ℤ) (shapes : List Shape) (p : Particle) → IsStill limit shapes p.at → Some (shaped_to p (starting p.at)) ≡ shaped limit shapes p
+shaped_still : (limit : ℤ) (shapes : List Shape) (p : Particle) → IsStill limit shapes p.at
+    → Some (shaped_to p (starting p.at)) ≡ shaped limit shapes p
 shaped_still limit shapes p h = shaped_is limit shapes p (Some (starting p.at)) (by p.held)
   where
     by : (held : Bool) → Some (starting p.at) ≡ cond held (Some (starting p.at)) (way_through limit shapes (starting p.at))
     by true = refl
     by false = sym h
 
-module _ (limit : ℤ) (planes : List Plane) (spheres : List Sphere) (s : Passing) (flags : length s.touched ≡ length s.motion.particles) where
-  one_still : (n : ℕ) → n < length s.motion.particles → IsStill limit (shapes_of planes spheres) (particle_at s.motion.particles n).at → pushed_from limit planes spheres (n + 1) s ≡ pushed_from limit planes spheres n s
+module _ (limit : ℤ) (planes : List Plane) (spheres : List Sphere) (s : Passing)
+    (flags : length s.touched ≡ length s.motion.particles) where
+  one_still : (n : ℕ) → n < length s.motion.particles → IsStill limit (shapes_of planes spheres) (particle_at s.motion.particles n).at
+      → pushed_from limit planes spheres (n + 1) s ≡ pushed_from limit planes spheres n s
   one_still n lt h =
       let ps = s.motion.particles in
       let p = particle_at ps n in
       let x = shaped_to p (starting p.at) in
       let same : one_shaped n s x ≡ s = λ i. record {
-        motion = record { particles = set-get_or ps n no_particle i; totals = books_nothing s.motion.totals (not p.held) (minus p.at p.at) (nowhere p.at) i };
+        motion = record {
+          particles = set-get_or ps n no_particle i;
+          totals = books_nothing s.motion.totals (not p.held) (minus p.at p.at) (nowhere p.at) i;
+        };
         touched = (ap (λ (b : Bool). slice_set s.touched n b) (or-false (get_or s.touched n false)) ∙ set-get_or s.touched n false) i;
       } in
       ap (λ (t : Passing). pushed_from limit planes spheres (n + 1) t) (sym same)
       ∙ pushed_on limit planes spheres n s x lt (omega (arith, flags)) (shaped_still limit (shapes_of planes spheres) p h)
 
   -- particles side by side that no shape moves
-  pub pushed_still : (n k : ℕ) → ((j : ℕ) → j < k → n + j < length s.motion.particles → IsStill limit (shapes_of planes spheres) (particle_at s.motion.particles (n + j)).at) → pushed_from limit planes spheres (n + k) s ≡ pushed_from limit planes spheres n s
+  pub pushed_still : (n k : ℕ) → ((j : ℕ) → j < k → n + j < length s.motion.particles
+      → IsStill limit (shapes_of planes spheres) (particle_at s.motion.particles (n + j)).at)
+      → pushed_from limit planes spheres (n + k) s ≡ pushed_from limit planes spheres n s
   pushed_still n zero h = ap (λ (m : ℕ). pushed_from limit planes spheres m s) (omega arith)
-  pushed_still n (suc k) h = ap (λ (m : ℕ). pushed_from limit planes spheres m s) (omega arith) ∙ last ∙ pushed_still n k (λ j lt. h j (omega arith))
+  pushed_still n (suc k) h = ap (λ (m : ℕ). pushed_from limit planes spheres m s) (omega arith) ∙ last
+      ∙ pushed_still n k (λ j lt. h j (omega arith))
     where
       last : pushed_from limit planes spheres (n + k + 1) s ≡ pushed_from limit planes spheres (n + k) s
       last = elim (cases_lt (n + k) (length s.motion.particles)) [
         | inl p ↦ one_still (n + k) p (h k (omega arith) p)
-        | inr q ↦ pushed_all limit planes spheres (n + k + 1) s (omega arith) (omega (arith, flags)) ∙ sym (pushed_all limit planes spheres (n + k) s q (omega (arith, flags)))
+        | inr q ↦ pushed_all limit planes spheres (n + k + 1) s (omega arith) (omega (arith, flags))
+            ∙ sym (pushed_all limit planes spheres (n + k) s q (omega (arith, flags)))
       ]
 
   -- where no shape moves any particle
-  pub all_still : ((i : ℕ) → i < length s.motion.particles → IsStill limit (shapes_of planes spheres) (particle_at s.motion.particles i).at) → all_pushed limit planes spheres s ≡ Ok s
+  pub all_still : ((i : ℕ) → i < length s.motion.particles → IsStill limit (shapes_of planes spheres) (particle_at s.motion.particles i).at)
+      → all_pushed limit planes spheres s ≡ Ok s
   all_still h =
       let many = length s.motion.particles in
       sym (pushed_begins limit planes spheres s)
@@ -91,10 +106,12 @@ module _ (limit : ℤ) (planes : List Plane) (spheres : List Sphere) (s : Passin
       ∙ pushed_all limit planes spheres (0 + many) s (omega arith) (omega (arith, flags))
 
 -- the place in a lane is in the range of both limits, also where there is no particle
-pub lane_within : (n block j : ℕ) (limit : ℤ) (ps : List Particle) {v : Vec3} → unsigned_abs limit ≤ 2 ^ 29 → AreInside limit ps → v ≡ (particle_at ps (block * n + j)).at → Within (2 ^ 29) v
+pub lane_within : (n block j : ℕ) (limit : ℤ) (ps : List Particle) {v : Vec3} → unsigned_abs limit ≤ 2 ^ 29 → AreInside limit ps
+    → v ≡ (particle_at ps (block * n + j)).at → Within (2 ^ 29) v
 lane_within n block j limit ps high inside e = subst (Within (2 ^ 29)) (sym e) (elim (cases_lt (block * n + j) (length ps)) [
   | inl p ↦ wider _ (unsigned_abs limit) (2 ^ 29) high (inside.each (block * n + j) p)
-  | inr q ↦ subst (λ (p : Particle). Within (2 ^ 29) p.at) (sym (get_or_past ps (block * n + j) no_particle q)) (record { x = omega arith; y = omega arith; z = omega arith })
+  | inr q ↦ subst (λ (p : Particle). Within (2 ^ 29) p.at) (sym (get_or_past ps (block * n + j) no_particle q))
+      (record { x = omega arith; y = omega arith; z = omega arith })
 ])
 
 -- no shape at all
@@ -103,10 +120,12 @@ no_shapes [] [] e = refl
 no_shapes [] (s ∷ ss) e = absurd (omega (arith, e))
 no_shapes (p ∷ ps) spheres e = absurd (omega (arith, e))
 
-pub pushed_by_none : (limit : ℤ) (planes : List Plane) (spheres : List Sphere) (s : Passing) → length s.touched ≡ length s.motion.particles → (length planes + length spheres == 0) ≡ true → all_pushed limit planes spheres s ≡ Ok s
+pub pushed_by_none : (limit : ℤ) (planes : List Plane) (spheres : List Sphere) (s : Passing) → length s.touched ≡ length s.motion.particles
+    → (length planes + length spheres == 0) ≡ true → all_pushed limit planes spheres s ≡ Ok s
 pushed_by_none limit planes spheres s flags none =
     let shapes : shapes_of planes spheres ≡ [] = no_shapes planes spheres (eqb-true (length planes + length spheres) 0 none) in
-    all_still limit planes spheres s flags (λ i lt. ap (λ (shapes : List Shape). way_through limit shapes (starting (particle_at s.motion.particles i).at)) shapes)
+    all_still limit planes spheres s flags (λ i lt. ap (λ (shapes : List Shape).
+    way_through limit shapes (starting (particle_at s.motion.particles i).at)) shapes)
 
 -- ---- friction
 
@@ -117,7 +136,8 @@ lost_at friction s i =
     loss_of friction (not p.held && get_or s.touched i false) p.before p.at
 
 module _ (friction : ℤ) (s : Passing) (flags : length s.touched ≡ length s.motion.particles) where
-  one_kept : (n : ℕ) → n < length s.motion.particles → lost_at friction s n ≡ zero_vector → rubbed_from friction (n + 1) s ≡ rubbed_from friction n s
+  one_kept : (n : ℕ) → n < length s.motion.particles → lost_at friction s n ≡ zero_vector
+      → rubbed_from friction (n + 1) s ≡ rubbed_from friction n s
   one_kept n lt h =
       let ps = s.motion.particles in
       let p = particle_at ps n in
@@ -135,7 +155,8 @@ module _ (friction : ℤ) (s : Passing) (flags : length s.touched ≡ length s.m
       ∙ rubbed_on friction n s x lt (omega (arith, flags)) (rubbed_is friction p (get_or s.touched n false) made loss refl refl)
 
   -- particles side by side that lose nothing
-  pub rubbed_still : (n k : ℕ) → ((j : ℕ) → j < k → n + j < length s.motion.particles → lost_at friction s (n + j) ≡ zero_vector) → rubbed_from friction (n + k) s ≡ rubbed_from friction n s
+  pub rubbed_still : (n k : ℕ) → ((j : ℕ) → j < k → n + j < length s.motion.particles → lost_at friction s (n + j) ≡ zero_vector)
+      → rubbed_from friction (n + k) s ≡ rubbed_from friction n s
   rubbed_still n zero h = ap (λ (m : ℕ). rubbed_from friction m s) (omega arith)
   rubbed_still n (suc k) h = ap (λ (m : ℕ). rubbed_from friction m s) (omega arith) ∙ last ∙ rubbed_still n k (λ j lt. h j (omega arith))
     where
@@ -153,7 +174,8 @@ module _ (friction : ℤ) (s : Passing) (flags : length s.touched ≡ length s.m
       ∙ rubbed_begins friction s
 
 -- a particle that isn't touched loses nothing
-pub untouched_keeps : (friction : ℤ) (held touched : Bool) (before at : Vec3) → touched ≡ false → loss_of friction (not held && touched) before at ≡ zero_vector
+pub untouched_keeps : (friction : ℤ) (held touched : Bool) (before at : Vec3) → touched ≡ false
+    → loss_of friction (not held && touched) before at ≡ zero_vector
 untouched_keeps friction held touched before at e = ap (λ (b : Bool). loss_of friction (not held && b) before at) e ∙ by held
   where
     by : (held : Bool) → loss_of friction (not held && false) before at ≡ zero_vector
@@ -176,7 +198,9 @@ smooth_keeps friction made before at e = ap (λ (f : ℤ). loss_of f made before
     by false = refl
 
 -- where there is no friction, or no particle is touched
-pub rubbed_by_none : (friction : ℤ) (s : Passing) → length s.touched ≡ length s.motion.particles → IsTrue (is_between (pos 0) (pos 256) friction) → (int_lt (pos 0) friction && list_any (λ t. t) s.touched) ≡ false → s.motion ≡ rub friction s
+pub rubbed_by_none : (friction : ℤ) (s : Passing) → length s.touched ≡ length s.motion.particles
+    → IsTrue (is_between (pos 0) (pos 256) friction) → (int_lt (pos 0) friction && list_any (λ t. t) s.touched) ≡ false
+    → s.motion ≡ rub friction s
 rubbed_by_none friction s flags part none = by (int_lt (pos 0) friction) refl none
   where
     smooth : int_lt (pos 0) friction ≡ false → friction ≡ pos 0
@@ -189,5 +213,8 @@ rubbed_by_none friction s flags part none = by (int_lt (pos 0) friction) refl no
     ]
 
     by : (rough : Bool) → int_lt (pos 0) friction ≡ rough → (rough && list_any (λ t. t) s.touched) ≡ false → s.motion ≡ rub friction s
-    by true r e = none_rubbed friction s flags (λ i lt. untouched_keeps friction (particle_at s.motion.particles i).held (get_or s.touched i false) (particle_at s.motion.particles i).before (particle_at s.motion.particles i).at (clear e i lt))
-    by false r e = none_rubbed friction s flags (λ i lt. smooth_keeps friction (not (particle_at s.motion.particles i).held && get_or s.touched i false) (particle_at s.motion.particles i).before (particle_at s.motion.particles i).at (smooth r))
+    by true r e = none_rubbed friction s flags (λ i lt. untouched_keeps friction (particle_at s.motion.particles i).held
+        (get_or s.touched i false) (particle_at s.motion.particles i).before (particle_at s.motion.particles i).at (clear e i lt))
+    by false r e = none_rubbed friction s flags (λ i lt. smooth_keeps friction
+        (not (particle_at s.motion.particles i).held && get_or s.touched i false) (particle_at s.motion.particles i).before
+        (particle_at s.motion.particles i).at (smooth r))

@@ -1,5 +1,6 @@
 -- Friction, which follows the passes of a step.
-use Rattle.std.specs.Prelude.{◌≡◌, ℕ, ◌*◌, ◌^◌, ◌<◌, ◌≤◌, ℤ, pos, int_lt, unsigned_abs, List, ◌++◌, length, map, zip, fold, take, drop, Bool, ◌&&◌, IsTrue, if◌then◌else◌}
+use Rattle.std.specs.Prelude.{◌≡◌, ℕ, ◌*◌, ◌^◌, ◌<◌, ◌≤◌, ℤ, pos, int_lt, unsigned_abs, List, ◌++◌, length, map, zip, fold, take, drop}
+use Rattle.std.specs.Prelude.{Bool, ◌&&◌, IsTrue, if◌then◌else◌}
 use Rattle.std.specs.List.{list_any}
 use Rattle.pbd_num.specs.Vectors.{Within, zero_vector}
 use Rattle.pbd_world.specs.declared.parts.Particle.{Particle}

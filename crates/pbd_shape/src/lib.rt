@@ -2,7 +2,6 @@
 #![tactic(auto)]
 
 mod book;
-mod glance;
 mod laws;
 mod plane;
 mod pushing;
@@ -10,6 +9,7 @@ mod rubbing;
 mod short;
 mod sphere;
 mod touched;
+mod touches;
 mod way;
 
 pub use laws::{shape_parts_push_all, valid_particles_are_within};

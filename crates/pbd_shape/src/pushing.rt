@@ -14,8 +14,8 @@ ghost use Rattle.pbd_shape.specs.Way.{way_of};
 ghost use Rattle.pbd_shape.specs.Shaping.{CanPush, all_pushed, push_cost, pushed_from};
 
 use crate::book::{book_if, touch_if};
-use crate::glance::any_touches;
 use crate::touched::Touched;
+use crate::touches::any_touches;
 use crate::way::{Pushed, push};
 use pbd_num::Vec3;
 use pbd_store::{Block, Lanes3, Steps, Store};
@@ -47,7 +47,7 @@ fn push_if_free(
 
 // Where the particles of a block come to, lane by lane; their moves go into the ledger, and their touches into the flags.
 // `Left` has the first that leaves the limit.
-fn push_lanes<const L: usize>(
+fn push_one_by_one<const L: usize>(
     store: &Store<L>,
     block: u32,
     lanes: &Block<L>,
@@ -127,7 +127,7 @@ fn push_block<const L: usize, G: Ledger>(
     if !any_touches(limit, planes, spheres, &lanes.at) {
         return Ok(());
     }
-    match push_lanes(store, block, &lanes, planes, spheres, touched, totals) {
+    match push_one_by_one(store, block, &lanes, planes, spheres, touched, totals) {
         Err(left) => Err(left),
         Ok(places) => {
             lanes.at = Lanes3::from_places(&places);

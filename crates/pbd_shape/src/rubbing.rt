@@ -45,7 +45,7 @@ fn is_rubbed(held: bool, touched: &Touched, i: u32) -> bool
 }
 
 // The places before of the particles of a block, lane by lane; what they lose goes into the ledger.
-fn rub_lanes<const L: usize>(
+fn rub_one_by_one<const L: usize>(
     store: &Store<L>,
     block: u32,
     lanes: &Block<L>,
@@ -105,7 +105,7 @@ fn rub_block<const L: usize, G: Ledger>(
     ensures cost { steps.new ≤ steps.old + 2 }
 {
     let mut lanes = store.load(block, steps);
-    let places = rub_lanes(store, block, &lanes, friction, touched, totals);
+    let places = rub_one_by_one(store, block, &lanes, friction, touched, totals);
     lanes.before = Lanes3::from_places(&places);
     let filled = lanes.filled;
     store.save(block, &lanes, &filled, steps);

@@ -1,9 +1,10 @@
 -- What passed tests say, and which tests facts pass.
-use Rattle.std.proofs.Common.{◌≡◌, refl, sym, ap, ◌∙◌, subst, ℕ, ◌≤◌, Bool, true, false, not, ◌&&◌, List, [], ◌∷◌, ℤ, pos, unsigned_abs, arith, Result, Ok, Err, Option, Some, None}
+use Rattle.std.proofs.Common.{◌≡◌, refl, sym, ap, ◌∙◌, subst, ℕ, ◌≤◌, Bool, true, false, not, ◌&&◌, List, [], ◌∷◌, ℤ, pos, unsigned_abs}
+use Rattle.std.proofs.Common.{arith, Result, Ok, Err, Option, Some, None}
 use Rattle.std.specs.Prelude.{IsTrue, nat_le, nat_lt}
 use Rattle.std.specs.Ordering.{int_eq}
 use Rattle.std.proofs.lemmas.Int.{ints}
-use Rattle.std.proofs.lemmas.Bool.{and_parts, and_from, leb-true, le-leb}
+use Rattle.std.proofs.lemmas.Bool.{and_parts, and_from, leb-true, le-leb, not-false}
 use Rattle.std.proofs.lemmas.Bool.Decides.{nat_tests, Decides-int_eq}
 use Rattle.pbd_world.specs.declared.totals.Class.{Class}
 use Rattle.pbd_world.specs.Ledger.{Sum, zero_sum, SumWithin}
@@ -45,10 +46,6 @@ passes_without fault o e = ap (without fault) e
 
 -- ---- tests and facts
 
-pub unnot : (b : Bool) → not b ≡ false → b ≡ true
-unnot true h = refl
-unnot false h = cc
-
 pub is_not : (b : Bool) → b ≡ true → not b ≡ false
 is_not true h = refl
 is_not false h = cc
@@ -69,7 +66,7 @@ pub sum_test : (most : ℕ) (s : Sum) → SumWithin most s → is_sum_within mos
 sum_test most s h = and_from _ _ (and_from _ _ (le-leb _ most h.x) (le-leb _ most h.y)) (le-leb _ most h.z)
 
 pub total_facts : (class : Class) (most : ℕ) (s : Sum) → total_checked class most s ≡ Ok tt → SumWithin most s
-total_facts class most s h = sum_facts most s (unnot _ (unless_passes _ (faults.Total class) h))
+total_facts class most s h = sum_facts most s (not-false _ (unless_passes _ (faults.Total class) h))
 
 pub total_passes : (class : Class) (most : ℕ) (s : Sum) → SumWithin most s → total_checked class most s ≡ Ok tt
 total_passes class most s h = passes_unless _ (faults.Total class) (is_not _ (sum_test most s h))
@@ -91,4 +88,5 @@ same_sum s t h =
 
 pub sum_same : (s t : Sum) → s ≡ t → is_same_sum s t ≡ true
 sum_same s t e =
-    and_from _ _ (and_from _ _ ((Decides-int_eq s.x t.x).1 (ap (λ (u : Sum). u.x) e)) ((Decides-int_eq s.y t.y).1 (ap (λ (u : Sum). u.y) e))) ((Decides-int_eq s.z t.z).1 (ap (λ (u : Sum). u.z) e))
+    and_from _ _ (and_from _ _ ((Decides-int_eq s.x t.x).1 (ap (λ (u : Sum). u.x) e))
+    ((Decides-int_eq s.y t.y).1 (ap (λ (u : Sum). u.y) e))) ((Decides-int_eq s.z t.z).1 (ap (λ (u : Sum). u.z) e))

@@ -1,5 +1,6 @@
 -- The momentum of particles within the limit is far from 128 bits.
-use Rattle.std.proofs.Common.{◌≡◌, ap, ℕ, ◌+◌, ◌*◌, ◌≤◌, ◌^◌, Bool, true, false, List, [], ◌∷◌, length, arith, ℤ, ◌+ℤ◌, unsigned_abs, subst, sym}
+use Rattle.std.proofs.Common.{◌≡◌, ap, ℕ, ◌+◌, ◌*◌, ◌≤◌, ◌^◌, Bool, true, false, List, [], ◌∷◌, length, arith, ℤ, ◌+ℤ◌, unsigned_abs, subst}
+use Rattle.std.proofs.Common.{sym}
 use Rattle.std.specs.Prelude.{IsTrue}
 use Rattle.std.specs.List.{AllByRecursion}
 use Rattle.std.proofs.lemmas.Int.{ints}
@@ -29,19 +30,60 @@ part_within false v h = sum_grows zero_sum v 0 (2 ^ 30) (record { x = omega arit
 velocity_within : (limit : ℤ) (p : Particle) → IsLimit limit → IsPlaced limit p → Within (2 ^ 30) (velocity p)
 velocity_within limit p lim placed =
     let l = unsigned_abs limit in
-    wider (velocity p) (2 * l) (2 ^ 30) (omega (arith, lim.high)) (step_size p.at p.before l ((within_facts limit p.at lim.low).0 placed.at) ((within_facts limit p.before lim.low).0 placed.before))
+    wider (velocity p) (2 * l) (2 ^ 30) (omega (arith, lim.high))
+    (step_size p.at p.before l ((within_facts limit p.at lim.low).0 placed.at) ((within_facts limit p.before lim.low).0 placed.before))
 
-pub momentum_within : (limit : ℤ) (ps : List Particle) → IsLimit limit → AllByRecursion (IsPlaced limit) ps → SumWithin (length ps * 2 ^ 30) (momentum ps)
+pub momentum_within : (limit : ℤ) (ps : List Particle) → IsLimit limit → AllByRecursion (IsPlaced limit) ps
+    → SumWithin (length ps * 2 ^ 30) (momentum ps)
 momentum_within limit [] lim placed = record { x = omega arith; y = omega arith; z = omega arith }
 momentum_within limit (p ∷ ps) lim placed =
     let first = part_within p.held (velocity p) (velocity_within limit p lim placed.0) in
     let rest = momentum_within limit ps lim placed.1 in
-    let both : SumWithin (2 ^ 30 + length ps * 2 ^ 30) (momentum (p ∷ ps)) = subst (λ (s : Sum). SumWithin (2 ^ 30 + length ps * 2 ^ 30) s) (sym (momentum_cons p ps)) (both_within (2 ^ 30) (length ps * 2 ^ 30) (part p) (momentum ps) first rest) in
+    let both : SumWithin (2 ^ 30 + length ps * 2 ^ 30) (momentum (p ∷ ps)) =
+    subst (λ (s : Sum). SumWithin (2 ^ 30 + length ps * 2 ^ 30) s) (sym (momentum_cons p ps))
+    (both_within (2 ^ 30) (length ps * 2 ^ 30) (part p) (momentum ps) first rest) in
     record { x = omega (arith, both.x); y = omega (arith, both.y); z = omega (arith, both.z) }
 
 -- one total is bounded by the others and the momentum
-pub pin_axis : (m o g d l c p s : ℤ) (b : ℕ) → m ≡ o +ℤ (g +ℤ (d +ℤ (l +ℤ (c +ℤ (p +ℤ s))))) → unsigned_abs m ≤ b → unsigned_abs o ≤ b → unsigned_abs g ≤ b → unsigned_abs d ≤ b → unsigned_abs l ≤ b → unsigned_abs c ≤ b → unsigned_abs s ≤ b → unsigned_abs p ≤ 8 * b
+pub pin_axis : (m o g d l c p s : ℤ) (b : ℕ) → m ≡ o +ℤ (g +ℤ (d +ℤ (l +ℤ (c +ℤ (p +ℤ s))))) → unsigned_abs m ≤ b → unsigned_abs o ≤ b
+    → unsigned_abs g ≤ b → unsigned_abs d ≤ b → unsigned_abs l ≤ b → unsigned_abs c ≤ b → unsigned_abs s ≤ b → unsigned_abs p ≤ 8 * b
 pin_axis m o g d l c p s b e hm ho hg hd hl hc hs =
     size_le p (8 * b)
-    (omega (arith, ints, e, size_above m, size_below o, size_below g, size_below d, size_below l, size_below c, size_below s, hm, ho, hg, hd, hl, hc, hs))
-    (omega (arith, ints, e, size_below m, size_above o, size_above g, size_above d, size_above l, size_above c, size_above s, hm, ho, hg, hd, hl, hc, hs))
+    (omega (
+      arith,
+      ints,
+      e,
+      size_above m,
+      size_below o,
+      size_below g,
+      size_below d,
+      size_below l,
+      size_below c,
+      size_below s,
+      hm,
+      ho,
+      hg,
+      hd,
+      hl,
+      hc,
+      hs,
+    ))
+    (omega (
+      arith,
+      ints,
+      e,
+      size_below m,
+      size_above o,
+      size_above g,
+      size_above d,
+      size_above l,
+      size_above c,
+      size_above s,
+      hm,
+      ho,
+      hg,
+      hd,
+      hl,
+      hc,
+      hs,
+    ))

@@ -1,5 +1,6 @@
 -- The bytes of a scene, as a hasher takes them up piece by piece.
-use Rattle.std.proofs.Common.{◌≡◌, refl, sym, ap, ◌∙◌, subst, ℕ, suc, ◌+◌, ◌<◌, ◌≤◌, ◌^◌, List, [], ◌∷◌, ◌++◌, length, take, get_or, add-one, append_assoc, append-nil, arith}
+use Rattle.std.proofs.Common.{◌≡◌, refl, sym, ap, ◌∙◌, subst, ℕ, suc, ◌+◌, ◌<◌, ◌≤◌, ◌^◌, List, [], ◌∷◌, ◌++◌, length, take, get_or}
+use Rattle.std.proofs.Common.{add-one, append_assoc, append-nil, arith}
 use Rattle.std.specs.List.{flat_map, AllByRecursion}
 use Rattle.std.proofs.Math.Seq.{take-suc}
 use Rattle.std.proofs.lemmas.List.{flat_map_more, take_all}
@@ -12,14 +13,16 @@ use Rattle.pbd_world.specs.declared.parts.Plane.{Plane}
 use Rattle.pbd_world.specs.declared.parts.Sphere.{Sphere}
 use Rattle.pbd_world.specs.World.{World, IsSound}
 use Rattle.pbd_log.specs.Entries.{number_bytes}
-use Rattle.pbd_encoding.specs.Scene.{listed, scene_head_bytes, settings_of, weight_bytes, link_bytes, track_bytes, plane_bytes, sphere_bytes, scene_bytes}
+use Rattle.pbd_encoding.specs.Scene.{listed, scene_head_bytes, settings_of, weight_bytes, link_bytes, track_bytes, plane_bytes}
+use Rattle.pbd_encoding.specs.Scene.{sphere_bytes, scene_bytes}
 use Rattle.pbd_encoding.proofs.Fitting.{TrackFits, fixed_fit}
 use Rattle.pbd_state.specs.Feeding.{Fed}
 use Rattle.pbd_state.specs.Naming.{HaveFewKeys}
 
 -- one text after another
 pub fed_then : (a b c : Sha256) (s t : List ℕ) → Fed a b s → Fed b c t → Fed a c (s ++ t)
-fed_then a b c s t first second = λ done holds. subst (λ (m : List ℕ). Holds256 c m) (append_assoc done s t) (second (done ++ s) (first done holds))
+fed_then a b c s t first second = λ done holds. subst (λ (m : List ℕ). Holds256 c m) (append_assoc done s t)
+    (second (done ++ s) (first done holds))
 
 -- the same text in other words
 pub fed_as : (a b : Sha256) (s t : List ℕ) → s ≡ t → Fed a b s → Fed a b t
@@ -53,7 +56,8 @@ scene_fed w head links tracks planes spheres eh el et ep es = λ i.
 
 -- ---- tracks
 
-pub few_keys_at : (tracks : List Track) (i : ℕ) (d : Track) → HaveFewKeys tracks → i < length tracks → length (get_or tracks i d).keys < 2 ^ 32
+pub few_keys_at : (tracks : List Track) (i : ℕ) (d : Track) → HaveFewKeys tracks → i < length tracks
+    → length (get_or tracks i d).keys < 2 ^ 32
 few_keys_at tracks i d h lt = All-from_recursion {X = Track} (λ t. length t.keys < 2 ^ 32) tracks h i d lt
 
 keys_of : (tracks : List Track) → AllByRecursion TrackFits tracks → HaveFewKeys tracks

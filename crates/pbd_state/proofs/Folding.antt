@@ -1,5 +1,6 @@
 -- Folding words: one that differs shows, and what parts of a world add.
-use Rattle.std.proofs.Common.{◌≡◌, ◌≢◌, refl, sym, ap, ◌∙◌, subst, ℕ, suc, ◌+◌, ◌/◌, ◌%◌, ◌^◌, ◌<◌, ◌≤◌, Bool, true, false, ℤ, List, [], ◌∷◌, ◌++◌, length, map, drop, get_or, arith}
+use Rattle.std.proofs.Common.{◌≡◌, ◌≢◌, refl, sym, ap, ◌∙◌, subst, ℕ, suc, ◌+◌, ◌/◌, ◌%◌, ◌^◌, ◌<◌, ◌≤◌, Bool, true, false, ℤ, List, []}
+use Rattle.std.proofs.Common.{◌∷◌, ◌++◌, length, map, drop, get_or, arith}
 use Rattle.std.specs.Prelude.{FitsSigned}
 use Rattle.std.specs.Int.{w64, w128, cast_unsigned}
 use Rattle.std.specs.List.{flat_map, AllByRecursion}
@@ -13,7 +14,8 @@ use Rattle.pbd_world.specs.Particles.{particle_at, no_particle}
 use Rattle.pbd_world.specs.World.{World, IsSound}
 use Rattle.pbd_log.specs.Entries.{VectorFits}
 use Rattle.pbd_encoding.specs.Laws.{NumbersFit, TotalsFit}
-use Rattle.pbd_state.specs.Checksum.{flag_word, vector_words, wide_words, sum_words, particle_words, live_word, totals_words, words, with_word, with_words, checksum}
+use Rattle.pbd_state.specs.Checksum.{flag_word, vector_words, wide_words, sum_words, particle_words, live_word, totals_words, words}
+use Rattle.pbd_state.specs.Checksum.{with_word, with_words, checksum}
 use Rattle.pbd_state.proofs.Fitting.{numbers_fit}
 
 -- ---- one word that differs
@@ -45,7 +47,8 @@ pub next_word : (sum x : ℕ) (more : List ℕ) → with_words sum (x ∷ more) 
 unfolding with_words
 next_word sum x more = refl
 
-one_shows : (before after : List ℕ) (x y : ℕ) → x < 2 ^ 64 → y < 2 ^ 64 → with_words 0 (before ++ x ∷ after) ≡ with_words 0 (before ++ y ∷ after) → x ≡ y
+one_shows : (before after : List ℕ) (x y : ℕ) → x < 2 ^ 64 → y < 2 ^ 64
+    → with_words 0 (before ++ x ∷ after) ≡ with_words 0 (before ++ y ∷ after) → x ≡ y
 one_shows before after x y a b e =
     let s = with_words 0 before in
     let same : with_words (with_word s x) after ≡ with_words (with_word s y) after =
@@ -65,7 +68,8 @@ middle : (before after : List ℕ) (x : ℕ) → AreWords (before ++ x ∷ after
 middle [] after x a = a.0
 middle (y ∷ before) after x a = middle before after x a.1
 
-each : {X : Type 0} (f : X → List ℕ) (xs : List X) (d : X) → ((i : ℕ) → i < length xs → AreWords (f (get_or xs i d))) → AreWords (flat_map f xs)
+each : {X : Type 0} (f : X → List ℕ) (xs : List X) (d : X) → ((i : ℕ) → i < length xs → AreWords (f (get_or xs i d)))
+    → AreWords (flat_map f xs)
 each f [] d h = tt
 each f (x ∷ xs) d h = both (f x) (flat_map f xs) (h 0 (omega arith)) (each f xs d (λ i lt. h (suc i) (omega (arith, lt))))
 
@@ -94,7 +98,8 @@ wide_small z f = let halves = halves_small (cast_unsigned w128 z) (Fits-of_z f).
 sum_small : (s : Sum) → SumFits s → AreWords (sum_words s)
 unfolding sum_words
 sum_small s f =
-    both (wide_words s.x ++ wide_words s.y) (wide_words s.z) (both (wide_words s.x) (wide_words s.y) (wide_small s.x f.x) (wide_small s.y f.y)) (wide_small s.z f.z)
+    both (wide_words s.x ++ wide_words s.y) (wide_words s.z)
+    (both (wide_words s.x) (wide_words s.y) (wide_small s.x f.x) (wide_small s.y f.y)) (wide_small s.z f.z)
 
 particle_small : (p : Particle) → VectorFits p.at → VectorFits p.before → AreWords (particle_words p)
 unfolding particle_words
@@ -121,9 +126,12 @@ unfolding words
 words_small w f =
     let p = flat_map particle_words w.particles in
     let l = map live_word w.links in
-    let particles = each {X = Particle} particle_words w.particles no_particle (λ i lt. particle_small (particle_at w.particles i) (f.at i lt) (f.before i lt)) in
-    let front = both (p ++ l) (w.steps ∷ vector_words w.gravity) (both p l particles (flags_small w.links)) (f.steps, vector_small w.gravity f.gravity) in
-    both (p ++ l ++ w.steps ∷ vector_words w.gravity) (w.contacts ∷ totals_words w.totals) front (omega (arith, f.contacts), totals_small w.totals f.totals)
+    let particles = each {X = Particle} particle_words w.particles no_particle
+    (λ i lt. particle_small (particle_at w.particles i) (f.at i lt) (f.before i lt)) in
+    let front = both (p ++ l) (w.steps ∷ vector_words w.gravity) (both p l particles (flags_small w.links))
+    (f.steps, vector_small w.gravity f.gravity) in
+    both (p ++ l ++ w.steps ∷ vector_words w.gravity) (w.contacts ∷ totals_words w.totals) front
+    (omega (arith, f.contacts), totals_small w.totals f.totals)
 
 -- ---- the law
 
@@ -158,8 +166,10 @@ pub flags_end : (links : List Link) (i sum : ℕ) → length links ≤ i → wit
 unfolding with_words
 flags_end links i sum all = ap (λ (ls : List Link). with_words sum (map live_word ls)) (drop_all i links all)
 
-pub world_summed : (w : World) (particles flags steps gravity contacts all : ℕ) → particles ≡ with_words 0 (flat_map particle_words w.particles)
-    → flags ≡ with_words particles (map live_word w.links) → steps ≡ with_word flags w.steps → gravity ≡ with_words steps (vector_words w.gravity)
+pub world_summed : (w : World) (particles flags steps gravity contacts all : ℕ)
+    → particles ≡ with_words 0 (flat_map particle_words w.particles)
+    → flags ≡ with_words particles (map live_word w.links) → steps ≡ with_word flags w.steps
+    → gravity ≡ with_words steps (vector_words w.gravity)
     → contacts ≡ with_word gravity w.contacts → all ≡ with_words contacts (totals_words w.totals) → all ≡ checksum w
 unfolding checksum words
 world_summed w particles flags steps gravity contacts all e1 e2 e3 e4 e5 e6 =
@@ -174,5 +184,6 @@ world_summed w particles flags steps gravity contacts all e1 e2 e3 e4 e5 e6 =
     let first : with_words 0 (p ++ f) ≡ b = one_after_another 0 p f in
     let second : with_words 0 (p ++ f ++ w.steps ∷ v) ≡ e =
     one_after_another 0 (p ++ f) (w.steps ∷ v) ∙ ap (λ (s : ℕ). with_words s (w.steps ∷ v)) first ∙ next_word b w.steps v in
-    let whole = one_after_another 0 (p ++ f ++ w.steps ∷ v) (w.contacts ∷ t) ∙ ap (λ (s : ℕ). with_words s (w.contacts ∷ t)) second ∙ next_word e w.contacts t in
+    let whole = one_after_another 0 (p ++ f ++ w.steps ∷ v) (w.contacts ∷ t) ∙ ap (λ (s : ℕ). with_words s (w.contacts ∷ t)) second
+    ∙ next_word e w.contacts t in
     rw (e6, e5, e4, e3, e2, e1) (sym whole)

@@ -22,7 +22,8 @@ use Rattle.pbd_state.proofs.Fitting.{numbers_fit}
 -- ---- reading, part by part
 
 -- bytes without the form
-pub reads_form : (scene bytes : List ℕ) (w : World) (fault : StateFault) → form_on scene w bytes ≡ Err fault → reading scene w bytes ≡ Err fault
+pub reads_form : (scene bytes : List ℕ) (w : World) (fault : StateFault) → form_on scene w bytes ≡ Err fault
+    → reading scene w bytes ≡ Err fault
 unfolding reading
 reads_form scene bytes w fault h = ap (λ (r : Formed). r >>= λ formed. sound_on (length w.particles) (length w.links) (told_on w bytes)) h
 
@@ -36,7 +37,8 @@ formed_so : (r : Formed) (f : Unit {0} → Formed) → (r >>= f) ≡ Ok tt → r
 formed_so (Ok x) f h = refl
 formed_so (Err fault) f h = cc
 
-sound_so : (n m : ℕ) (r : Checked) → (let checked : Formed = with_fault (λ fault. fault_at (place_of n m fault)) r in checked ≡ Ok tt) → r ≡ Ok tt
+sound_so : (n m : ℕ) (r : Checked) → (let checked : Formed = with_fault (λ fault. fault_at (place_of n m fault)) r in checked ≡ Ok tt)
+    → r ≡ Ok tt
 sound_so n m (Ok x) h = refl
 sound_so n m (Err fault) h = cc
 
@@ -52,7 +54,11 @@ reads_so scene bytes w h = formed_so (form_on scene w bytes) (λ formed. sound_o
 taken_parts : (scene bytes : List ℕ) (w : World) → reading scene w bytes ≡ Ok tt → IsTaken scene w bytes
 taken_parts scene bytes w h =
     let form = reads_so scene bytes w h in
-    record { form = form; sound = sound_so (length w.particles) (length w.links) (soundness (told_on w bytes)) (sym (reads_told scene bytes w form) ∙ h) }
+    record {
+      form = form;
+      sound = sound_so (length w.particles) (length w.links) (soundness (told_on w bytes))
+          (sym (reads_told scene bytes w form) ∙ h);
+    }
 
 -- ---- the laws
 
@@ -63,7 +69,8 @@ read_back scene w v e same sound =
     let bytes = state_bytes scene v in
     let back = told_back scene w v e same (numbers_fit v sound) in
     let tested : soundness (told_on w bytes) ≡ Ok tt = ap soundness back ∙ sound_tested v sound in
-    let checked : sound_on n m (told_on w bytes) ≡ Ok tt = ap (λ (r : Checked). with_fault (λ fault. fault_at (place_of n m fault)) r) tested in
+    let checked : sound_on n m (told_on w bytes) ≡ Ok tt =
+    ap (λ (r : Checked). with_fault (λ fault. fault_at (place_of n m fault)) r) tested in
     record { taken = reads_told scene bytes w (own_form scene w v e same) ∙ checked; back = back }
 
 pub taken_state : (scene bytes : List ℕ) (w : World) → length scene ≡ 32 → IsBytes bytes → IsSound w → reading scene w bytes ≡ Ok tt
@@ -93,7 +100,8 @@ worlds_differ scene v w e same sv sw h = worlds_apart scene v w e same (numbers_
 -- ---- for reading
 
 -- the form that was checked, with the header and counts that a solver gives
-pub form_given : (scene bytes header : List ℕ) (w : World) (n m : ℕ) → header ≡ header_of scene w → n ≡ length w.particles → m ≡ length w.links
+pub form_given : (scene bytes header : List ℕ) (w : World) (n m : ℕ) → header ≡ header_of scene w → n ≡ length w.particles
+    → m ≡ length w.links
     → form_on scene w bytes ≡ form_checked header n m bytes
 form_given scene bytes header w n m eh en em = λ i. form_checked (sym eh i) (sym en i) (sym em i) bytes
 

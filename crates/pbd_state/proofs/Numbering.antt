@@ -1,5 +1,6 @@
 -- The fields of a state, one after the other, are the state.
-use Rattle.std.proofs.Common.{◌≡◌, refl, sym, ap, ◌∙◌, ℕ, zero, suc, ◌+◌, ◌-◌, ◌*◌, ◌<◌, ◌≤◌, List, [], ◌∷◌, ◌++◌, length, take, drop, get_or, append_assoc, append-nil, arith}
+use Rattle.std.proofs.Common.{◌≡◌, refl, sym, ap, ◌∙◌, ℕ, zero, suc, ◌+◌, ◌-◌, ◌*◌, ◌<◌, ◌≤◌, List, [], ◌∷◌, ◌++◌, length, take, drop}
+use Rattle.std.proofs.Common.{get_or, append_assoc, append-nil, arith}
 use Rattle.std.specs.List.{flat_map}
 use Rattle.std.proofs.lemmas.Bool.{lt-ltb, le-ltb}
 use Rattle.std.proofs.lemmas.List.{take_at, length-append}
@@ -9,7 +10,8 @@ use Rattle.pbd_world.specs.declared.parts.Link.{Link}
 use Rattle.pbd_world.specs.Bonds.{link_at, no_link}
 use Rattle.pbd_world.specs.Particles.{particle_at, no_particle}
 use Rattle.pbd_world.specs.World.{World}
-use Rattle.pbd_encoding.specs.Encoding.{head_bytes, at_bytes, before_bytes, held_bytes, live_bytes, first_totals_bytes, last_totals_bytes, state_bytes, state_size}
+use Rattle.pbd_encoding.specs.Encoding.{head_bytes, at_bytes, before_bytes, held_bytes, live_bytes, first_totals_bytes, last_totals_bytes}
+use Rattle.pbd_encoding.specs.Encoding.{state_bytes, state_size}
 use Rattle.pbd_encoding.proofs.Sections.{to_at, to_before, to_held, to_live, to_first_totals, state_parts, state_long}
 use Rattle.pbd_state.specs.Fields.{field_bytes, fields_bytes, fields_of}
 
@@ -19,7 +21,8 @@ pub is_head : (scene : List ℕ) (w : World) (k : ℕ) → k < 1 → field_bytes
 unfolding field_bytes
 is_head scene w k a = rw (lt-ltb k 1 a) refl
 
-pub is_at : (scene : List ℕ) (w : World) (k : ℕ) → 1 ≤ k → k < length w.particles + 1 → field_bytes scene w k ≡ at_bytes (particle_at w.particles (k - 1))
+pub is_at : (scene : List ℕ) (w : World) (k : ℕ) → 1 ≤ k → k < length w.particles + 1
+    → field_bytes scene w k ≡ at_bytes (particle_at w.particles (k - 1))
 unfolding field_bytes
 is_at scene w k a b = rw (le-ltb k 1 a, lt-ltb k (length w.particles + 1) b) refl
 
@@ -49,7 +52,8 @@ is_live scene w k a b =
       lt-ltb k (3 * n + length w.links + 1) b,
     ) refl
 
-pub is_first_totals : (scene : List ℕ) (w : World) (k : ℕ) → 3 * length w.particles + length w.links + 1 ≤ k → k < 3 * length w.particles + length w.links + 2
+pub is_first_totals : (scene : List ℕ) (w : World) (k : ℕ) → 3 * length w.particles + length w.links + 1 ≤ k
+    → k < 3 * length w.particles + length w.links + 2
     → field_bytes scene w k ≡ first_totals_bytes w.contacts w.totals
 unfolding field_bytes
 is_first_totals scene w k a b =
@@ -63,7 +67,8 @@ is_first_totals scene w k a b =
       lt-ltb k (3 * n + m + 2) b,
     ) refl
 
-pub is_last_totals : (scene : List ℕ) (w : World) (k : ℕ) → 3 * length w.particles + length w.links + 2 ≤ k → field_bytes scene w k ≡ last_totals_bytes w.totals
+pub is_last_totals : (scene : List ℕ) (w : World) (k : ℕ) → 3 * length w.particles + length w.links + 2 ≤ k
+    → field_bytes scene w k ≡ last_totals_bytes w.totals
 unfolding field_bytes
 is_last_totals scene w k a =
     let n = length w.particles in let m = length w.links in
@@ -123,7 +128,8 @@ fields_to_before scene w =
     is_before scene w (1 + n + i) (omega arith) (omega (arith, lt)) ∙ ap (λ (j : ℕ). before_bytes (particle_at w.particles j)) back)
     ∙ ap (λ (t : List ℕ). t ++ flat_map before_bytes w.particles) (fields_to_at scene w)
 
-fields_to_held : (scene : List ℕ) (w : World) → fields_bytes scene w (1 + length w.particles + length w.particles + length w.particles) ≡ to_held scene w
+fields_to_held : (scene : List ℕ) (w : World) → fields_bytes scene w (1 + length w.particles + length w.particles + length w.particles)
+    ≡ to_held scene w
 fields_to_held scene w =
     let n = length w.particles in
     column {A = Particle} scene w held_bytes (1 + n + n) w.particles no_particle (λ i lt.
@@ -153,11 +159,13 @@ all_fields scene w =
     state_parts scene w ∙ sym last ∙ ap (λ (j : ℕ). fields_bytes scene w j) ends
 
 more : (scene : List ℕ) (w : World) (k j : ℕ) → (rest : List ℕ) × (fields_bytes scene w (k + j) ≡ fields_bytes scene w k ++ rest)
-more scene w k zero = let e : k + 0 ≡ k = omega arith in ([], ap (λ (i : ℕ). fields_bytes scene w i) e ∙ sym (append-nil (fields_bytes scene w k)))
+more scene w k zero = let e : k + 0 ≡ k = omega arith in
+    ([], ap (λ (i : ℕ). fields_bytes scene w i) e ∙ sym (append-nil (fields_bytes scene w k)))
 more scene w k (suc j) =
     let p = more scene w k j in
     let e : k + suc j ≡ (k + j) + 1 = omega arith in
-    let next = ap (λ (i : ℕ). fields_bytes scene w i) e ∙ one_more scene w (k + j) ∙ ap (λ (t : List ℕ). t ++ field_bytes scene w (k + j)) p.1 in
+    let next = ap (λ (i : ℕ). fields_bytes scene w i) e ∙ one_more scene w (k + j)
+    ∙ ap (λ (t : List ℕ). t ++ field_bytes scene w (k + j)) p.1 in
     (p.0 ++ field_bytes scene w (k + j), next ∙ append_assoc (fields_bytes scene w k) p.0 (field_bytes scene w (k + j)))
 
 -- a field ends within the state

@@ -25,7 +25,9 @@ numbers_of setting state gravity = record {
 }
 
 -- a test of soundness looks at no link, plane and sphere
-standing_is : {l : ℕ} (setting : Setting) (state : State l) (gravity : Vec3) → soundness (standing setting.tracks state.store (numbers_of setting state gravity)) ≡ soundness (world_of (record setting { gravity = gravity }) state)
+standing_is : {l : ℕ} (setting : Setting) (state : State l) (gravity : Vec3)
+    → soundness (standing setting.tracks state.store (numbers_of setting state gravity))
+    ≡ soundness (world_of (record setting { gravity = gravity }) state)
 unfolding soundness
 standing_is setting state gravity = refl
 
@@ -34,11 +36,14 @@ pub record Holds {l : ℕ} (d : Description) (setting : Setting) (kept : State l
   pub gravity_is : gravity ≡ d.gravity
   pub world : world_of (record setting { gravity = d.gravity }) kept ≡ told d w
 
-pub held_world : {l : ℕ} {d : Description} {setting : Setting} {kept : State l} {w : World} {gravity : Vec3} → Holds d setting kept w gravity → world_of (record setting { gravity = gravity }) kept ≡ told d w
+pub held_world : {l : ℕ} {d : Description} {setting : Setting} {kept : State l} {w : World} {gravity : Vec3}
+    → Holds d setting kept w gravity → world_of (record setting { gravity = gravity }) kept ≡ told d w
 held_world {l} {d} {setting} {kept} h = ap (λ (v : Vec3). world_of (record setting { gravity = v }) kept) h.gravity_is ∙ h.world
 
-pub judged : {l : ℕ} {d : Description} {setting : Setting} {kept : State l} {w : World} {gravity : Vec3} (tracks : List Track) (numbers : Numbers) (r : Checked) → Holds d setting kept w gravity
-    → tracks ≡ setting.tracks → numbers ≡ numbers_of setting kept gravity → r ≡ soundness (standing tracks kept.store numbers) → r ≡ soundness (told d w)
+pub judged : {l : ℕ} {d : Description} {setting : Setting} {kept : State l} {w : World} {gravity : Vec3} (tracks : List Track)
+    (numbers : Numbers) (r : Checked) → Holds d setting kept w gravity
+    → tracks ≡ setting.tracks → numbers ≡ numbers_of setting kept gravity → r ≡ soundness (standing tracks kept.store numbers)
+    → r ≡ soundness (told d w)
 judged {l} {d} {setting} {kept} {w} {gravity} tracks numbers r h et en er =
     er ∙ (λ i. soundness (standing (et i) kept.store (en i))) ∙ standing_is setting kept gravity ∙ ap soundness (held_world h)
 
@@ -46,7 +51,8 @@ pub flipped : {l : ℕ} (s t : State l) → AreAlike s t → AreAlike t s
 flipped s t h = record { particles = sym h.particles; limit = sym h.limit; links = sym h.links }
 
 -- a state with the world that is told on another's has room for the same
-pub told_alike : {l : ℕ} (d : Description) (setting : Setting) (kept state : State l) → world_of (record setting { gravity = d.gravity }) kept ≡ told d (world_of setting state) → AreAlike kept state
+pub told_alike : {l : ℕ} (d : Description) (setting : Setting) (kept state : State l)
+    → world_of (record setting { gravity = d.gravity }) kept ≡ told d (world_of setting state) → AreAlike kept state
 told_alike d setting kept state e = record {
   particles = ap (λ (v : World). length v.particles) e ∙ numbered_length (particle_told d) 0 state.store.particles;
   limit = ap (λ (v : World). v.limit) e;

@@ -1,5 +1,6 @@
 -- Bonds one after another, as far as they have come.
-use Rattle.std.proofs.Common.{◌≡◌, ℕ, suc, ◌+◌, ◌-◌, ◌*◌, ◌^◌, ◌<◌, ◌≤◌, min, Bool, List, [], ◌∷◌, ◌++◌, length, get_or, length-append, drop, drop-cons, add-one, refl, ap, sym, ◌∙◌, subst, arith, ℤ, Result, Ok, Err, IsFalse}
+use Rattle.std.proofs.Common.{◌≡◌, ℕ, suc, ◌+◌, ◌-◌, ◌*◌, ◌^◌, ◌<◌, ◌≤◌, min, Bool, List, [], ◌∷◌, ◌++◌, length, get_or, length-append}
+use Rattle.std.proofs.Common.{drop, drop-cons, add-one, refl, ap, sym, ◌∙◌, subst, arith, ℤ, Result, Ok, Err, IsFalse}
 use Rattle.std.proofs.lemmas.Bool.Decides.{nat_tests}
 use Rattle.pbd_world.specs.declared.bond.Bond.{Bond}
 use Rattle.pbd_world.specs.Outcomes.{◌>>=◌, in_turn}
@@ -33,8 +34,11 @@ module _ {A S E : Type 0} (f : A → S → Result S E) (xs ys : List A) (s : S) 
   stops n e = in_turn-append f xs ys s ∙ ap (λ (r : Result S E). r >>= in_turn f ys) e
 
 -- a list in two parts, where the first is done
-pub then_part : {limit l : ℤ} {whole : List ℕ} {r : Result Motion ℕ} (bond : ℕ → Bond) (xs ys : List ℕ) (start mid : Motion) → whole ≡ xs ++ ys → l ≡ limit → projected limit bond xs start ≡ Ok mid → projected l bond ys mid ≡ r → projected limit bond whole start ≡ r
-then_part {limit} {l} {whole} {r} bond xs ys start mid parts el did h = ap (λ (ns : List ℕ). projected limit bond ns start) parts ∙ sym (goes_on _ xs ys start mid did) ∙ (λ i. projected (sym el i) bond ys mid) ∙ h
+pub then_part : {limit l : ℤ} {whole : List ℕ} {r : Result Motion ℕ} (bond : ℕ → Bond) (xs ys : List ℕ) (start mid : Motion)
+    → whole ≡ xs ++ ys → l ≡ limit → projected limit bond xs start ≡ Ok mid → projected l bond ys mid ≡ r
+    → projected limit bond whole start ≡ r
+then_part {limit} {l} {whole} {r} bond xs ys start mid parts el did h = ap (λ (ns : List ℕ). projected limit bond ns start) parts
+    ∙ sym (goes_on _ xs ys start mid did) ∙ (λ i. projected (sym el i) bond ys mid) ∙ h
 
 -- ---- the bonds of a colouring
 
@@ -66,12 +70,21 @@ module _ (limit : ℤ) (n : ℕ) (bonds : Bonds) (pairs : List (ℕ × ℕ)) (h 
   batch_is live numbers alive apart = record {
     numbers = λ i p. omega (arith, alive.within i p, h.count);
     bond = λ i p. h.bond (get_or numbers i 0) (alive.within i p);
-    apart = record { each = λ i j p q. share_none (get_or numbers i 0) (get_or numbers j 0) (alive.within i (omega (arith, p, q))) (alive.within j q) (apart i j (omega (arith, p, q)) q (λ e. omega (arith, p, e))) };
+    apart = record {
+      each = λ i j p q. share_none (get_or numbers i 0) (get_or numbers j 0) (alive.within i (omega (arith, p, q)))
+          (alive.within j q) (apart i j (omega (arith, p, q)) q (λ e. omega (arith, p, e)));
+    };
   } where
     ends_apart : (a b c d : ℕ) → IsFalse (share (a, b) (c, d)) → (a ≡ c → ⊥) × (a ≡ d → ⊥) × (b ≡ c → ⊥) × (b ≡ d → ⊥)
-    ends_apart a b c d f = ((λ e. grind (arith, nat_tests)), (λ e. grind (arith, nat_tests)), (λ e. grind (arith, nat_tests)), (λ e. grind (arith, nat_tests)))
+    ends_apart a b c d f = (
+      (λ e. grind (arith, nat_tests)),
+      (λ e. grind (arith, nat_tests)),
+      (λ e. grind (arith, nat_tests)),
+      (λ e. grind (arith, nat_tests)),
+    )
 
-    share_none : (i j : ℕ) → i < length pairs → j < length pairs → IsFalse (share (pair_at pairs i) (pair_at pairs j)) → ShareNone (bond_of bonds i) (bond_of bonds j)
+    share_none : (i j : ℕ) → i < length pairs → j < length pairs → IsFalse (share (pair_at pairs i) (pair_at pairs j))
+        → ShareNone (bond_of bonds i) (bond_of bonds j)
     share_none i j p q f =
         let d = ends_apart (pair_at pairs i).0 (pair_at pairs i).1 (pair_at pairs j).0 (pair_at pairs j).1 f in
         record {
@@ -100,7 +113,8 @@ pub record SoFar (limit : ℤ) (bond : ℕ → Bond) (whole left : List ℕ) (st
   pub grows : (n : ℕ) → HaveRoom n start.totals → HaveRoom (n + (length whole - length left) * 2 ^ 32) now.totals
   pub count : given ≡ min (before + (length whole - length left)) (2 ^ 64 - 1)
 
-pub none_so_far : (limit : ℤ) (bond : ℕ → Bond) (whole : List ℕ) (start : Motion) (before : ℕ) → AreInside limit start.particles → before ≤ 2 ^ 64 - 1 → SoFar limit bond whole whole start start before before
+pub none_so_far : (limit : ℤ) (bond : ℕ → Bond) (whole : List ℕ) (start : Motion) (before : ℕ) → AreInside limit start.particles
+    → before ≤ 2 ^ 64 - 1 → SoFar limit bond whole whole start start before before
 none_so_far limit bond whole start before inside fits = record {
   same = refl;
   fixed = refl;
@@ -110,7 +124,8 @@ none_so_far limit bond whole start before inside fits = record {
   count = omega (arith, fits);
 }
 
-module _ {limit l : ℤ} {bond : ℕ → Bond} {whole left : List ℕ} {start now : Motion} {before count : ℕ} (batch rest : List ℕ) (parts : left ≡ batch ++ rest) (el : l ≡ limit) (s : SoFar limit bond whole left start now before count) where
+module _ {limit l : ℤ} {bond : ℕ → Bond} {whole left : List ℕ} {start now : Motion} {before count : ℕ} (batch rest : List ℕ)
+    (parts : left ≡ batch ++ rest) (el : l ≡ limit) (s : SoFar limit bond whole left start now before count) where
   pub more_so_far : (then : Motion) (next : ℕ)
       → projected l bond batch now ≡ Ok then
       → fixed_parts then.particles ≡ fixed_parts now.particles
@@ -121,7 +136,8 @@ module _ {limit l : ℤ} {bond : ℕ → Bond} {whole left : List ℕ} {start no
   more_so_far then next did fixed inside grows counted =
       let both : length left ≡ length batch + length rest = ap length parts ∙ length-append batch rest in
       record {
-        same = goes_on _ batch rest now then ((λ i. projected (sym el i) bond batch now) ∙ did) ∙ ap (λ (xs : List ℕ). projected limit bond xs now) (sym parts) ∙ s.same;
+        same = goes_on _ batch rest now then ((λ i. projected (sym el i) bond batch now) ∙ did)
+            ∙ ap (λ (xs : List ℕ). projected limit bond xs now) (sym parts) ∙ s.same;
         fixed = fixed ∙ s.fixed;
         inside = subst (λ (k : ℤ). AreInside k then.particles) el inside;
         shorter = omega (arith, both, s.shorter);
@@ -130,7 +146,8 @@ module _ {limit l : ℤ} {bond : ℕ → Bond} {whole left : List ℕ} {start no
       }
 
   pub stops_so_far : (n : ℕ) → projected l bond batch now ≡ Err n → projected limit bond whole start ≡ Err n
-  stops_so_far n did = sym s.same ∙ ap (λ (xs : List ℕ). projected limit bond xs now) parts ∙ stops _ batch rest now n ((λ i. projected (sym el i) bond batch now) ∙ did)
+  stops_so_far n did = sym s.same ∙ ap (λ (xs : List ℕ). projected limit bond xs now) parts
+      ∙ stops _ batch rest now n ((λ i. projected (sym el i) bond batch now) ∙ did)
 
 -- what holds when no bond is left
 pub record Whole (limit : ℤ) (bond : ℕ → Bond) (whole : List ℕ) (start now : Motion) (before given : ℕ) : Type 0 where
@@ -138,7 +155,8 @@ pub record Whole (limit : ℤ) (bond : ℕ → Bond) (whole : List ℕ) (start n
   pub grows : (n : ℕ) → HaveRoom n start.totals → HaveRoom (n + length whole * 2 ^ 32) now.totals
   pub count : given ≡ min (before + length whole) (2 ^ 64 - 1)
 
-module _ {limit : ℤ} {bond : ℕ → Bond} {whole left : List ℕ} {start now : Motion} {before count : ℕ} (s : SoFar limit bond whole left start now before count) where
+module _ {limit : ℤ} {bond : ℕ → Bond} {whole left : List ℕ} {start now : Motion} {before count : ℕ}
+    (s : SoFar limit bond whole left start now before count) where
   pub whole_so_far : left ≡ [] → Whole limit bond whole start now before count
   whole_so_far none =
       let length_none : length left ≡ 0 = ap length none in
@@ -152,11 +170,14 @@ module _ {limit : ℤ} {bond : ℕ → Bond} {whole left : List ℕ} {start now 
   room_so_far n m le h = room_at _ (omega (arith, le, s.shorter)) (s.grows n h)
 
 -- where a part is done, the bonds of other numbers can be projected as a batch, and those of all pairs one after another
-module _ {n before count : ℕ} {bonds : Bonds} {pairs : List (ℕ × ℕ)} {old : Stored} {t : Totals} {whole left : List ℕ} (new : Stored) (u : Totals) (can : CanProjectAll n bonds pairs old t) (same : new.limit ≡ old.limit) (so : SoFar old.limit (bond_of bonds) whole left (motion_of old t) (motion_of new u) before count) where
+module _ {n before count : ℕ} {bonds : Bonds} {pairs : List (ℕ × ℕ)} {old : Stored} {t : Totals} {whole left : List ℕ} (new : Stored)
+    (u : Totals) (can : CanProjectAll n bonds pairs old t) (same : new.limit ≡ old.limit)
+    (so : SoFar old.limit (bond_of bonds) whole left (motion_of old t) (motion_of new u) before count) where
   many : length new.particles ≡ length old.particles
   many = same_length new.particles old.particles so.fixed
 
-  one_batch : (numbers : List ℕ) → n + length whole * 2 ^ 32 ≤ 2 ^ 120 → IsBatch old.limit (length old.particles) bonds numbers → CanProjectBatch bonds numbers new u
+  one_batch : (numbers : List ℕ) → n + length whole * 2 ^ 32 ≤ 2 ^ 120 → IsBatch old.limit (length old.particles) bonds numbers
+      → CanProjectBatch bonds numbers new u
   one_batch numbers few is = record {
     batch = rw (same, many) is;
     inside = rw same so.inside;
@@ -164,8 +185,10 @@ module _ {n before count : ℕ} {bonds : Bonds} {pairs : List (ℕ × ℕ)} {old
     room = room_so_far so n (2 ^ 120) few can.movable.room;
   }
 
-  pub batch_goes : n + length whole * 2 ^ 32 ≤ 2 ^ 120 → (live : List Bool) (numbers : List ℕ) → AreLive pairs live numbers → AreApart pairs numbers → CanProjectBatch bonds numbers new u
-  batch_goes few live numbers alive apart = one_batch numbers few (batch_is old.limit (length old.particles) bonds pairs can.fit live numbers alive apart)
+  pub batch_goes : n + length whole * 2 ^ 32 ≤ 2 ^ 120 → (live : List Bool) (numbers : List ℕ) → AreLive pairs live numbers
+      → AreApart pairs numbers → CanProjectBatch bonds numbers new u
+  batch_goes few live numbers alive apart = one_batch numbers few
+      (batch_is old.limit (length old.particles) bonds pairs can.fit live numbers alive apart)
 
   pub single_goes : n + length whole * 2 ^ 32 ≤ 2 ^ 120 → (k : ℕ) → k < length pairs → CanProjectBatch bonds (k ∷ []) new u
   single_goes few k h = one_batch (k ∷ []) few (single_is old.limit (length old.particles) bonds pairs can.fit k h)

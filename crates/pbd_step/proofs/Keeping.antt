@@ -1,5 +1,6 @@
 -- What a solver keeps over its commands.
-use Rattle.std.proofs.Common.{◌≡◌, refl, sym, ap, ◌∙◌, ℕ, ◌<◌, ◌≤◌, List, [], ◌∷◌, Bool, true, false, length, map, ◌≢◌, arith, subst, cond, suc, ◌+◌, ℤ, MatchResult, OnErr, Result, Ok, Err, ◌⊎◌, inl, inr}
+use Rattle.std.proofs.Common.{◌≡◌, refl, sym, ap, ◌∙◌, ℕ, ◌<◌, ◌≤◌, List, [], ◌∷◌, Bool, true, false, length, map, ◌≢◌, arith, subst, cond}
+use Rattle.std.proofs.Common.{suc, ◌+◌, ℤ, MatchResult, OnErr, Result, Ok, Err, ◌⊎◌, inl, inr}
 use Rattle.pbd_num.specs.Vectors.{zero_vector}
 use Rattle.pbd_world.specs.declared.parts.Particle.{Particle}
 use Rattle.pbd_world.specs.declared.parts.Link.{Link}
@@ -9,14 +10,15 @@ use Rattle.pbd_world.specs.declared.command.Command.TheVariants as commands
 use Rattle.pbd_world.specs.declared.command.Refusal.{Refusal}
 use Rattle.pbd_num.specs.declared.Vec3.{Vec3}
 use Rattle.pbd_world.specs.declared.command.Reply.{Reply}
-use Rattle.pbd_world.specs.Meaning.{steps_of, meaning, after, done_or_refused, run_steps, pin, unpin, place_held, cut, set_gravity, refusals as world_refusals}
+use Rattle.pbd_world.specs.Meaning.{steps_of, meaning, after, done_or_refused, run_steps, pin, unpin, place_held, cut, set_gravity}
+use Rattle.pbd_world.specs.Meaning.{refusals as world_refusals}
 use Rattle.pbd_world.specs.World.{World, IsSound, AreOfOneScene, live_count, opened, parts_of}
 use Rattle.pbd_world.proofs.CommandSound.{command-sound, command-scene}
 use Rattle.pbd_world.proofs.KeepingOn.{length-mapped}
 use Rattle.pbd_colour.specs.Pairs.{Coloured, InRange}
 use Rattle.pbd_step.specs.declared.state.Setting.{Setting}
 use Rattle.pbd_step.specs.declared.state.State.{State}
-use Rattle.pbd_step.specs.declared.state.Tools.{Tools}
+use Rattle.pbd_step.specs.declared.state.Scratch.{Scratch}
 use Rattle.std.specs.Prelude.{IsTrue, count_by, filter, nat_le, nat_lt, not, ◌&&◌}
 use Rattle.std.proofs.lemmas.Bool.{le-leb, lt-leb, le-ltb, lt-ltb}
 use Rattle.std.proofs.lemmas.List.Sums.{length-filter}
@@ -36,28 +38,45 @@ use Rattle.pbd_world.proofs.OpenedLemmas.{opened-is_sound}
 use Rattle.pbd_step.specs.Opening.{AreCopied, IsFirst}
 use Rattle.pbd_step.specs.Solving.{AreAlike, IsKept, Solved}
 use Rattle.pbd_step.specs.Obeying.{Obeys, Commanded}
+use Rattle.pbd_world.proofs.OrderCounts.{flags_kept}
 
 -- ---- what a command leads to
 
 -- a command that a part obeys leads from a sound world to a sound world of the same scene
-pub commanded : {S : Type 0} {world : S → World} {r : Result (Unit {0}) Refusal} {meant : Result World Refusal} {old new : S} (c : Command) → Obeys world r meant old new → IsSound (world old) → meaning (world old) c ≡ done_or_refused (world old) meant
+pub commanded : {S : Type 0} {world : S → World} {r : Result (Unit {0}) Refusal} {meant : Result World Refusal} {old new : S} (c : Command)
+    → Obeys world r meant old new → IsSound (world old) → meaning (world old) c ≡ done_or_refused (world old) meant
     → Commanded r meant (world old) (world new)
 commanded {S} {world} {r} {meant} {old} {new} c h sound is = by r h.outcome h.kept
   where
-    by : (r : Result (Unit {0}) Refusal) → MatchResult r (λ x. meant ≡ Ok (world new)) (λ refusal. meant ≡ Err refusal) → OnErr r (new ≡ old) → Commanded r meant (world old) (world new)
+    by : (r : Result (Unit {0}) Refusal) → MatchResult r (λ x. meant ≡ Ok (world new)) (λ refusal. meant ≡ Err refusal)
+        → OnErr r (new ≡ old) → Commanded r meant (world old) (world new)
     by (Ok x) e kept =
-        let there : after (world old) c ≡ world new = ap (λ (p : World × Reply). p.0) is ∙ ap (λ (s : Result World Refusal). (done_or_refused (world old) s).0) e in
-        record { obeys = record { outcome = e; kept = kept }; sound = subst IsSound there (command-sound (world old) c sound); one_scene = subst (AreOfOneScene (world old)) there (command-scene (world old) c sound) }
+        let there : after (world old) c ≡ world new = ap (λ (p : World × Reply). p.0) is
+        ∙ ap (λ (s : Result World Refusal). (done_or_refused (world old) s).0) e in
+        record {
+          obeys = record { outcome = e; kept = kept };
+          sound = subst IsSound there (command-sound (world old) c sound);
+          one_scene = subst (AreOfOneScene (world old)) there (command-scene (world old) c sound);
+        }
     by (Err refusal) e kept =
-        record { obeys = record { outcome = e; kept = ap world kept }; sound = subst IsSound (sym (ap world kept)) sound; one_scene = subst (AreOfOneScene (world old)) (sym (ap world kept)) refl }
+        record {
+          obeys = record { outcome = e; kept = ap world kept };
+          sound = subst IsSound (sym (ap world kept)) sound;
+          one_scene = subst (AreOfOneScene (world old)) (sym (ap world kept)) refl;
+        }
 
 -- the same of the world as callers see it
-pub seen_commanded : {P : Type 0} {inside seen : Solved P} {r : Result (Unit {0}) Refusal} {new : World} (means : World → Result World Refusal) → inside ≡ seen → Commanded r (means inside.world) inside.world new → Commanded r (means seen.world) seen.world new
+pub seen_commanded : {P : Type 0} {inside seen : Solved P} {r : Result (Unit {0}) Refusal} {new : World}
+    (means : World → Result World Refusal) → inside ≡ seen → Commanded r (means inside.world) inside.world new
+    → Commanded r (means seen.world) seen.world new
 seen_commanded {P} {inside} {seen} {r} {new} means is h = subst (λ (s : Solved P). Commanded r (means s.world) s.world new) is h
 
 -- a refusal leaves it as it was
-pub refused : {P : Type 0} {inside seen : Solved P} {refusal : Refusal} (means : World → Result World Refusal) → inside ≡ seen → IsSound inside.world → means inside.world ≡ Err refusal → Commanded (Err refusal) (means seen.world) seen.world seen.world
-refused {P} {inside} {seen} {refusal} means is sound e = subst (λ (s : Solved P). Commanded (Err refusal) (means s.world) s.world s.world) is (record { obeys = record { outcome = e; kept = refl }; sound = sound; one_scene = refl })
+pub refused : {P : Type 0} {inside seen : Solved P} {refusal : Refusal} (means : World → Result World Refusal) → inside ≡ seen
+    → IsSound inside.world → means inside.world ≡ Err refusal → Commanded (Err refusal) (means seen.world) seen.world seen.world
+refused {P} {inside} {seen} {refusal} means is sound e =
+    subst (λ (s : Solved P). Commanded (Err refusal) (means s.world) s.world s.world) is
+    (record { obeys = record { outcome = e; kept = refl }; sound = sound; one_scene = refl })
 
 pub steps_mean : (w : World) (n : ℕ) → meaning w (commands.Step n) ≡ done_or_refused w (run_steps w n)
 unfolding meaning
@@ -85,7 +104,8 @@ gravity_means w g = refl
 
 -- ---- worlds of one scene
 
-blank_many : (ps : List Particle) → length (map {A = Particle} {B = Particle} (λ p. record p { at = zero_vector; before = zero_vector; held = false }) ps) ≡ length ps
+blank_many : (ps : List Particle) → length (map {A = Particle} {B = Particle}
+    (λ p. record p { at = zero_vector; before = zero_vector; held = false }) ps) ≡ length ps
 blank_many ps = length-mapped {A = Particle} {B = Particle} (λ p. record p { at = zero_vector; before = zero_vector; held = false }) ps
 
 dead_many : (ls : List Link) → length (map {A = Link} {B = Link} (λ l. record l { live = false }) ls) ≡ length ls
@@ -103,7 +123,8 @@ scene_limit v w e = ap (λ (u : World). u.limit) e
 -- ---- what a solver keeps
 
 -- two states of one scene have room for the same
-pub scene_alike : {l : ℕ} (setting setting' : Setting) (s t : State l) → AreOfOneScene (world_of setting s) (world_of setting' t) → AreAlike s t
+pub scene_alike : {l : ℕ} (setting setting' : Setting) (s t : State l) → AreOfOneScene (world_of setting s) (world_of setting' t)
+    → AreAlike s t
 scene_alike setting setting' s t e = record {
   particles = scene_particles (world_of setting s) (world_of setting' t) e;
   limit = scene_limit (world_of setting s) (world_of setting' t) e;
@@ -120,30 +141,45 @@ scene_pairs setting setting' s t e =
     sym (dead_pairs s.links.items) ∙ ap (λ (w : World). link_pairs w.links) e ∙ dead_pairs t.links.items
 
 pub same_alike : {l : ℕ} (s t : State l) (setting : Setting) → world_of setting s ≡ world_of setting t → AreAlike s t
-same_alike s t setting e = record { particles = ap (λ (u : World). length u.particles) e; limit = ap (λ (u : World). u.limit) e; links = ap (λ (u : World). length u.links) e }
+same_alike s t setting e = record {
+  particles = ap (λ (u : World). length u.particles) e;
+  limit = ap (λ (u : World). u.limit) e;
+  links = ap (λ (u : World). length u.links) e;
+}
 
 pub alike_join : {l : ℕ} (r s t : State l) → AreAlike r s → AreAlike s t → AreAlike r t
 alike_join r s t h k = record { particles = h.particles ∙ k.particles; limit = h.limit ∙ k.limit; links = h.links ∙ k.links }
 
--- the same is kept of a state that moved, with the colours of its links and tools of the same room
-pub kept_moved : {l : ℕ} (setting : Setting) (old new kept : State l) (colours : Coloured) (tools : Tools) → IsSound (world_of setting new) → AreAlike old new
-    → AreAlike kept old → HasLinks (length old.store.particles) new.links.items colours → HaveSpace (length old.store.particles) (length old.links.items) tools → IsKept setting new kept colours tools
-kept_moved setting old new kept colours tools sound same alike links space = record {
+-- the same is kept of a state that moved, with the colours of its links and scratch of the same room
+pub kept_moved : {l : ℕ} (setting : Setting) (old new kept : State l) (colours : Coloured) (scratch : Scratch)
+    → IsSound (world_of setting new)
+    → AreAlike old new
+    → AreAlike kept old → HasLinks (length old.store.particles) new.links.items colours
+    → HaveSpace (length old.store.particles) (length old.links.items) scratch → IsKept setting new kept colours scratch
+kept_moved setting old new kept colours scratch sound same alike links space = record {
   sound = sound;
   links = subst (λ (n : ℕ). HasLinks n new.links.items colours) same.particles links;
-  space = subst (λ (m : ℕ). HaveSpace (length new.store.particles) m tools) same.links (subst (λ (n : ℕ). HaveSpace n (length old.links.items) tools) same.particles space);
+  space = subst (λ (m : ℕ). HaveSpace (length new.store.particles) m scratch) same.links
+      (subst (λ (n : ℕ). HaveSpace n (length old.links.items) scratch) same.particles space);
   alike = alike_join kept old new alike same;
 }
 
 -- the same is kept where a command has left particles and links of as many, with their colours
-pub kept_commanded : {l : ℕ} {setting setting' : Setting} {old new kept : State l} {colours colours' : Coloured} {tools : Tools} {r : Result (Unit {0}) Refusal} {meant : Result World Refusal} → IsKept setting old kept colours tools
-    → Commanded r meant (world_of setting old) (world_of setting' new) → HasLinks (length old.store.particles) new.links.items colours' → IsKept setting' new kept colours' tools
-kept_commanded {l} {setting} {setting'} {old} {new} {kept} {colours} {colours'} {tools} h done links = kept_moved setting' old new kept colours' tools done.sound (scene_alike setting setting' old new done.one_scene) h.alike links h.space
+pub kept_commanded : {l : ℕ} {setting setting' : Setting} {old new kept : State l} {colours colours' : Coloured} {scratch : Scratch}
+    {r : Result (Unit {0}) Refusal} {meant : Result World Refusal} → IsKept setting old kept colours scratch
+    → Commanded r meant (world_of setting old) (world_of setting' new) → HasLinks (length old.store.particles) new.links.items colours'
+    → IsKept setting' new kept colours' scratch
+kept_commanded {l} {setting} {setting'} {old} {new} {kept} {colours} {colours'} {scratch} h done links =
+    kept_moved setting' old new kept colours' scratch done.sound (scene_alike setting setting' old new done.one_scene) h.alike links h.space
 
 -- the same where it has left the links as they were
-pub kept_linked : {l : ℕ} {setting : Setting} {old new kept : State l} {colours : Coloured} {tools : Tools} {r : Result (Unit {0}) Refusal} {meant : Result World Refusal} → IsKept setting old kept colours tools
-    → Commanded r meant (world_of setting old) (world_of setting new) → new.links.items ≡ old.links.items → IsKept setting new kept colours tools
-kept_linked {l} {setting} {old} {new} {kept} {colours} h done same = kept_commanded h done (subst (λ (ls : List Link). HasLinks (length old.store.particles) ls colours) (sym same) h.links)
+pub kept_linked : {l : ℕ} {setting : Setting} {old new kept : State l} {colours : Coloured} {scratch : Scratch}
+    {r : Result (Unit {0}) Refusal}
+    {meant : Result World Refusal} → IsKept setting old kept colours scratch
+    → Commanded r meant (world_of setting old) (world_of setting new) → new.links.items ≡ old.links.items
+    → IsKept setting new kept colours scratch
+kept_linked {l} {setting} {old} {new} {kept} {colours} h done same =
+    kept_commanded h done (subst (λ (ls : List Link). HasLinks (length old.store.particles) ls colours) (sym same) h.links)
 
 -- ---- links in range
 
@@ -151,8 +187,10 @@ pub links_in_range : (limit : ℤ) (n : ℕ) (links : List Link) → IsTrue (are
 links_in_range limit n links valid = λ k lt.
     let ends : Link → ℕ × ℕ = λ l. (l.a, l.b) in
     let l : k < length links = omega (arith, lt, length-mapped ends links) in
-    let is = link_is_bond limit n (link_at links k) (AllPass-from_list_all (is_valid_link limit n) links (link_parts limit n links valid).1 k no_link l) in
-    subst (λ (pair : ℕ × ℕ). (pair.0 < n) × (pair.1 < n) × (pair.0 ≢ pair.1)) (sym (get_or-map ends links k _ _ l)) (is.first, is.second, is.different)
+    let is = link_is_bond limit n (link_at links k) (AllPass-from_list_all (is_valid_link limit n) links
+    (link_parts limit n links valid).1 k no_link l) in
+    subst (λ (pair : ℕ × ℕ). (pair.0 < n) × (pair.1 < n) × (pair.0 ≢ pair.1)) (sym (get_or-map ends links k _ _ l))
+    (is.first, is.second, is.different)
 
 -- so many particles and links as a world may have, the links between its particles
 pub record HasFit (ps : List Particle) (ls : List Link) : Type 0 where
@@ -185,19 +223,12 @@ formed_few w h =
     }
 
 pub taken_fit : (ps qs : List Particle) (links others : List Link) → ps ≡ qs → links ≡ others → HasFit qs others → HasFit ps links
-taken_fit ps qs links others e f h = subst (λ (xs : List Particle). HasFit xs links) (sym e) (subst (λ (ls : List Link). HasFit qs ls) (sym f) h)
-
-flags_live : (links : List Link) → length (filter (λ b. b) (live_flags links)) ≡ live_count links
-flags_live [] = refl
-flags_live (l ∷ links) = by l.live (flags_live links)
-  where
-    by : (b : Bool) → length (filter (λ x. x) (live_flags links)) ≡ live_count links → length (cond b (b ∷ filter (λ x. x) (live_flags links)) (filter (λ x. x) (live_flags links))) ≡ length (cond b (l ∷ filter {X = Link} (λ k. k.live) links) (filter {X = Link} (λ k. k.live) links))
-    by true h = ap suc h
-    by false h = h
+taken_fit ps qs links others e f h = subst (λ (xs : List Particle). HasFit xs links) (sym e)
+    (subst (λ (ls : List Link). HasFit qs ls) (sym f) h)
 
 -- the live flags of links count the live links
 pub flags_count : (links : List Link) → count_by (λ b. b) (live_flags links) ≡ live_count links
-flags_count links = sym (length-filter (λ b. b) (live_flags links)) ∙ flags_live links
+flags_count links = sym (length-filter (λ b. b) (live_flags links)) ∙ flags_kept links
 
 -- ---- steps of a command
 
@@ -207,7 +238,8 @@ tests_are : (w : World) (n : ℕ) (some few late : Bool) → nat_le 1 n ≡ some
 tests_are w n some few late e f g = λ i. unless ((not (e i && f i), refusals.BadCount) ∷ (g i, refusals.StepLimit) ∷ []) w
 
 -- what the steps come to where the tests do
-run_is : (w : World) (n : ℕ) (r : Result World Refusal) → unless (world_refusals w (commands.Step n)) w ≡ r → run_steps w n ≡ (r >>= steps_of n)
+run_is : (w : World) (n : ℕ) (r : Result World Refusal) → unless (world_refusals w (commands.Step n)) w ≡ r
+    → run_steps w n ≡ (r >>= steps_of n)
 run_is w n r e = ap (λ (s : Result World Refusal). s >>= steps_of n) e
 
 -- a count in its range that stays below the step limit
@@ -220,17 +252,21 @@ run_goes w n low high few = run_is w n (Ok w) (goes_on w n low high few)
 -- counts that are refused
 pub run_uncounted : (w : World) (n : ℕ) → (n < 1) ⊎ ((1 ≤ n) × (100000 < n)) → run_steps w n ≡ Err refusals.BadCount
 run_uncounted w n out = elim out [
-  | inl none ↦ run_is w n (Err refusals.BadCount) (tests_are w n false (nat_le n 100000) (nat_lt 1000000 (w.steps + n)) (lt-leb 1 n none) refl refl)
-  | inr both ↦ run_is w n (Err refusals.BadCount) (tests_are w n true false (nat_lt 1000000 (w.steps + n)) (le-leb 1 n both.0) (lt-leb n 100000 both.1) refl)
+  | inl none ↦ run_is w n (Err refusals.BadCount) (tests_are w n false (nat_le n 100000) (nat_lt 1000000 (w.steps + n))
+      (lt-leb 1 n none) refl refl)
+  | inr both ↦ run_is w n (Err refusals.BadCount) (tests_are w n true false (nat_lt 1000000 (w.steps + n)) (le-leb 1 n both.0)
+      (lt-leb n 100000 both.1) refl)
 ]
 
 pub run_late : (w : World) (n : ℕ) → 1 ≤ n → n ≤ 100000 → 1000000 < w.steps + n → run_steps w n ≡ Err refusals.StepLimit
-run_late w n low high late = run_is w n (Err refusals.StepLimit) (tests_are w n true true true (le-leb 1 n low) (le-leb n 100000 high) (lt-ltb 1000000 (w.steps + n) late))
+run_late w n low high late = run_is w n (Err refusals.StepLimit)
+    (tests_are w n true true true (le-leb 1 n low) (le-leb n 100000 high) (lt-ltb 1000000 (w.steps + n) late))
 
 -- ---- another world of one scene
 
 -- a setting with the gravity of another, and the state of another, make up the other's world
-pub scene_world : {l : ℕ} (mine other : Setting) (state now : State l) → AreOfOneScene (world_of mine state) (world_of other now) → world_of (record mine { gravity = other.gravity }) now ≡ world_of other now
+pub scene_world : {l : ℕ} (mine other : Setting) (state now : State l) → AreOfOneScene (world_of mine state) (world_of other now)
+    → world_of (record mine { gravity = other.gravity }) now ≡ world_of other now
 scene_world mine other state now e = λ i. record (world_of other now) {
   tracks = (ap (λ (u : World). u.tracks) e) i;
   planes = (ap (λ (u : World). u.planes) e) i;
@@ -253,7 +289,8 @@ valid_fit parts h = formed_fit (opened parts) (and_parts _ _ (and_parts _ _ (and
 
 -- ---- opening
 
-pub opened_world : {l : ℕ} (parts : Parts) (setting : Setting) (state : State l) → AreCopied parts setting → IsFirst parts state → world_of setting state ≡ opened parts
+pub opened_world : {l : ℕ} (parts : Parts) (setting : Setting) (state : State l) → AreCopied parts setting → IsFirst parts state
+    → world_of setting state ≡ opened parts
 opened_world parts setting state h f = λ i. record {
   limit = f.limit i;
   steps = f.steps i;
@@ -273,15 +310,19 @@ opened_world parts setting state h f = λ i. record {
 }
 
 -- what opens on valid parts keeps them
-pub opened_kept : {l : ℕ} (parts : Parts) (setting : Setting) (state kept : State l) (colours : Coloured) (tools : Tools) (n m : ℕ) → IsTrue (is_valid parts) → AreCopied parts setting → IsFirst parts state → IsFirst parts kept
-    → n ≡ length parts.particles → m ≡ length parts.links → HasLinks n parts.links colours → HaveSpace n m tools → IsKept setting state kept colours tools
-opened_kept parts setting state kept colours tools n m valid h f k en em links space =
+pub opened_kept : {l : ℕ} (parts : Parts) (setting : Setting) (state kept : State l) (colours : Coloured) (scratch : Scratch) (n m : ℕ)
+    → IsTrue (is_valid parts) → AreCopied parts setting → IsFirst parts state → IsFirst parts kept
+    → n ≡ length parts.particles → m ≡ length parts.links → HasLinks n parts.links colours → HaveSpace n m scratch
+    → IsKept setting state kept colours scratch
+opened_kept parts setting state kept colours scratch n m valid h f k en em links space =
     let particles : n ≡ length state.store.particles = en ∙ sym (ap (λ (ps : List Particle). length ps) f.particles) in
     let count : m ≡ length state.links.items = em ∙ sym (ap (λ (ls : List Link). length ls) f.links) in
     record {
       sound = subst IsSound (sym (opened_world parts setting state h f)) (opened-is_sound parts valid);
-      links = subst (λ (ls : List Link). HasLinks (length state.store.particles) ls colours) (sym f.links) (subst (λ (k : ℕ). HasLinks k parts.links colours) particles links);
-      space = subst (λ (k : ℕ). HaveSpace (length state.store.particles) k tools) count (subst (λ (k : ℕ). HaveSpace k m tools) particles space);
+      links = subst (λ (ls : List Link). HasLinks (length state.store.particles) ls colours) (sym f.links)
+          (subst (λ (k : ℕ). HasLinks k parts.links colours) particles links);
+      space = subst (λ (k : ℕ). HaveSpace (length state.store.particles) k scratch) count
+          (subst (λ (k : ℕ). HaveSpace k m scratch) particles space);
       alike = record {
         particles = ap (λ (ps : List Particle). length ps) (k.particles ∙ sym f.particles);
         limit = k.limit ∙ sym f.limit;

@@ -16,14 +16,16 @@ pub formed_within : (w : World) → IsTrue (is_well_formed (parts_of w)) → Are
 formed_within w h =
     let form = formed (parts_of w) h in
     let lim = limit_of w form in
-    let fits = all_fit w.limit w.particles (and_parts (nat_le (length w.particles) 65536) (list_all (is_valid_particle w.limit) w.particles) form.particles).1 in
+    let fits = all_fit w.limit w.particles (and_parts (nat_le (length w.particles) 65536)
+    (list_all (is_valid_particle w.limit) w.particles) form.particles).1 in
     record {
       at = λ i lt. (within_facts w.limit (particle_at w.particles i).at lim.low).0 (fit_at w.limit w.particles i fits lt).at;
       before = λ i lt. (within_facts w.limit (particle_at w.particles i).before lim.low).0 (fit_at w.limit w.particles i fits lt).before;
     }
 
 pub formed_friction : (w : World) → IsTrue (is_well_formed (parts_of w)) → IsTrue (is_between (pos 0) (pos 256) w.friction)
-formed_friction w h = (and_parts (nat_le w.passes 64 && is_between (pos 0) (pos 1024) w.damping && is_between (pos 0) (pos 1048576) w.thickness) (is_between (pos 0) (pos 256) w.friction) (formed (parts_of w) h).numbers).1
+formed_friction w h = (and_parts (nat_le w.passes 64 && is_between (pos 0) (pos 1024) w.damping
+    && is_between (pos 0) (pos 1048576) w.thickness) (is_between (pos 0) (pos 256) w.friction) (formed (parts_of w) h).numbers).1
 
 -- both places of each particle, damping and gravity are in the range of both limits
 pub record IsMild (w : World) : Type 0 where

@@ -1,5 +1,6 @@
 -- Where a particle comes to on one axis, in 64 bits: parts of 1,024 of a product, by numbers that are raised above 0, and sums.
-use Rattle.std.proofs.Common.{◌≡◌, ℕ, suc, ◌+◌, ◌-◌, ◌*◌, ◌/◌, ◌<◌, ◌≤◌, ◌^◌, ap, ◌∙◌, arith, pos, negsuc, ℤ, ◌+ℤ◌, ◌-ℤ◌, ◌*ℤ◌, ◌≤ℤ◌, unsigned_abs, Bool, true, false, cond, to_z, of_z, w64}
+use Rattle.std.proofs.Common.{◌≡◌, ℕ, suc, ◌+◌, ◌-◌, ◌*◌, ◌/◌, ◌<◌, ◌≤◌, ◌^◌, ap, ◌∙◌, arith, pos, negsuc, ℤ, ◌+ℤ◌, ◌-ℤ◌, ◌*ℤ◌, ◌≤ℤ◌}
+use Rattle.std.proofs.Common.{unsigned_abs, Bool, true, false, cond, to_z, of_z, w64}
 use Rattle.std.proofs.lemmas.Int.{ints, to_z-of_z}
 use Rattle.std.proofs.Math.Nat.{mul-le-mul}
 use Rattle.pbd_num.specs.Rounding.{rdiv}
@@ -52,7 +53,8 @@ pub record Lowered (s f whole : ℤ) : Type 0 where
   pub low : pos 0 ≤ℤ (s *ℤ f +ℤ pos 2199023255552)
   pub high : unsigned_abs (s *ℤ f +ℤ pos 2199023255552) ≤ 2 ^ 42
 
-pub lowered : (s f whole : ℤ) → unsigned_abs s ≤ 2 ^ 30 → unsigned_abs f ≤ 1024 → unsigned_abs whole < 2 ^ 45 → whole ≡ held s *ℤ held f +ℤ pos 1024 *ℤ held s +ℤ pos 2147483648 *ℤ held f +ℤ pos 2199023255552
+pub lowered : (s f whole : ℤ) → unsigned_abs s ≤ 2 ^ 30 → unsigned_abs f ≤ 1024 → unsigned_abs whole < 2 ^ 45
+    → whole ≡ held s *ℤ held f +ℤ pos 1024 *ℤ held s +ℤ pos 2147483648 *ℤ held f +ℤ pos 2199023255552
     → Lowered s f whole
 lowered s f whole hs hf size e =
     let fs = fits s (omega (arith, hs)) in
@@ -76,31 +78,38 @@ lowered s f whole hs hf size e =
     }
 
 -- a rounded part of a number, of the number that is raised
-pub part_of_raised : (p : ℤ) (n : ℕ) → pos n ≡ p +ℤ pos 2199023255552 → unsigned_abs p ≤ 2 ^ 40 → rdiv p (pos 1024) ≡ pos ((n + (511 + n / 2199023255552)) / 1024) -ℤ pos 2147483648
+pub part_of_raised : (p : ℤ) (n : ℕ) → pos n ≡ p +ℤ pos 2199023255552 → unsigned_abs p ≤ 2 ^ 40
+    → rdiv p (pos 1024) ≡ pos ((n + (511 + n / 2199023255552)) / 1024) -ℤ pos 2147483648
 unfolding rdiv
 part_of_raised (pos a) n e h = omega (arith, ints)
 part_of_raised (negsuc a) n e h = omega (arith, ints)
 
 -- what damping takes of the way of a particle that flies
-pub loss_is : (flies : Bool) (damping at before way : ℤ) → way ≡ cond flies (at -ℤ before) (pos 0) → rdiv (way *ℤ damping) (pos 1024) ≡ loss_at damping flies at before
+pub loss_is : (flies : Bool) (damping at before way : ℤ) → way ≡ cond flies (at -ℤ before) (pos 0)
+    → rdiv (way *ℤ damping) (pos 1024) ≡ loss_at damping flies at before
 unfolding rdiv
 loss_is true damping at before way e = ap (λ (z : ℤ). rdiv (z *ℤ damping) (pos 1024)) e
 loss_is false damping at before way e =
     let none : pos 0 *ℤ damping ≡ pos 0 = omega (arith, ints) in
     ap (λ (z : ℤ). rdiv (z *ℤ damping) (pos 1024)) e ∙ ap (λ (z : ℤ). rdiv z (pos 1024)) none
 
-pub way_part_size : (way damping : ℤ) → unsigned_abs way ≤ 2 ^ 30 → unsigned_abs damping ≤ 1024 → unsigned_abs (rdiv (way *ℤ damping) (pos 1024)) ≤ 2 ^ 30
-way_part_size way damping h k = size-rdiv (way *ℤ damping) (pos 1024) (2 ^ 30) (omega arith) (omega (arith, size-mul way damping (2 ^ 30) 1024 h k))
+pub way_part_size : (way damping : ℤ) → unsigned_abs way ≤ 2 ^ 30 → unsigned_abs damping ≤ 1024
+    → unsigned_abs (rdiv (way *ℤ damping) (pos 1024)) ≤ 2 ^ 30
+way_part_size way damping h k = size-rdiv (way *ℤ damping) (pos 1024) (2 ^ 30) (omega arith)
+    (omega (arith, size-mul way damping (2 ^ 30) 1024 h k))
 
 -- where a particle comes to
-pub flown_is : (flies : Bool) (damping gravity at before way loss pull : ℤ) → way ≡ cond flies (at -ℤ before) (pos 0) → loss ≡ loss_at damping flies at before → pull ≡ pull_at gravity flies
+pub flown_is : (flies : Bool) (damping gravity at before way loss pull : ℤ) → way ≡ cond flies (at -ℤ before) (pos 0)
+    → loss ≡ loss_at damping flies at before → pull ≡ pull_at gravity flies
     → at +ℤ (way -ℤ loss) +ℤ pull ≡ flown_at damping gravity flies at before
 flown_is true damping gravity at before way loss pull w l p = λ i. at +ℤ (w i -ℤ l i) +ℤ p i
 flown_is false damping gravity at before way loss pull w l p = omega (arith, ints, w, l, p)
 
 -- the sum has its value where 64 bits hold each number of it
-pub flown_held : (at way loss pull : ℤ) → unsigned_abs at ≤ 2 ^ 29 → unsigned_abs way ≤ 2 ^ 30 → unsigned_abs loss ≤ 2 ^ 30 → unsigned_abs pull ≤ 2 ^ 29
-    → (held (held (held at +ℤ held (held way -ℤ held loss)) +ℤ held pull) ≡ at +ℤ (way -ℤ loss) +ℤ pull) × (unsigned_abs (at +ℤ (way -ℤ loss) +ℤ pull) ≤ 2 ^ 32)
+pub flown_held : (at way loss pull : ℤ) → unsigned_abs at ≤ 2 ^ 29 → unsigned_abs way ≤ 2 ^ 30 → unsigned_abs loss ≤ 2 ^ 30
+    → unsigned_abs pull ≤ 2 ^ 29
+    → (held (held (held at +ℤ held (held way -ℤ held loss)) +ℤ held pull) ≡ at +ℤ (way -ℤ loss) +ℤ pull)
+    × (unsigned_abs (at +ℤ (way -ℤ loss) +ℤ pull) ≤ 2 ^ 32)
 flown_held at way loss pull ha hw hl hp =
     let fa = fits at (omega (arith, ha)) in
     let fw = fits way (omega (arith, hw)) in

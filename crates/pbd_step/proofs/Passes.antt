@@ -1,5 +1,6 @@
 -- One pass by its three parts, and passes one after another.
-use Rattle.std.proofs.Common.{◌≡◌, ap, sym, ◌∙◌, ℕ, suc, ◌+◌, ◌-◌, ◌*◌, ◌^◌, ◌<◌, ◌≤◌, min, add-mul, one-mul, Bool, List, arith, ℤ, Result, Ok, Err}
+use Rattle.std.proofs.Common.{◌≡◌, ap, sym, ◌∙◌, ℕ, suc, ◌+◌, ◌-◌, ◌*◌, ◌^◌, ◌<◌, ◌≤◌, min, add-mul, one-mul, Bool, List, arith, ℤ, Result}
+use Rattle.std.proofs.Common.{Ok, Err}
 use Rattle.pbd_world.specs.declared.command.Phase.TheVariants as phases
 use Rattle.pbd_world.specs.declared.command.Refusal.{Refusal}
 use Rattle.pbd_world.specs.declared.parts.Particle.{Particle}
@@ -50,14 +51,20 @@ module _ (w : World) (contacts : List (ℕ × ℕ)) (s : Passing) where
 
 -- ---- the parts, by equal lists and numbers
 
-pub contact_part_is : (w : World) (contacts found : List (ℕ × ℕ)) (l t : ℤ) (m : Motion) (r : Result Motion ℕ) → found ≡ contacts → l ≡ w.limit → t ≡ w.thickness → projected l (contact_bond t found) (contact_order found) m ≡ r → contact_part w contacts m ≡ r
-contact_part_is w contacts found l t m r ef el et h = (λ i. projected (sym el i) (contact_bond (sym et i) (sym ef i)) (contact_order (sym ef i)) m) ∙ h
+pub contact_part_is : (w : World) (contacts found : List (ℕ × ℕ)) (l t : ℤ) (m : Motion) (r : Result Motion ℕ) → found ≡ contacts
+    → l ≡ w.limit → t ≡ w.thickness → projected l (contact_bond t found) (contact_order found) m ≡ r → contact_part w contacts m ≡ r
+contact_part_is w contacts found l t m r ef el et h = (λ i.
+    projected (sym el i) (contact_bond (sym et i) (sym ef i)) (contact_order (sym ef i)) m) ∙ h
 
-pub shape_part_is : (w : World) (s : Passing) (flags : List Bool) (l : ℤ) (planes : List Plane) (spheres : List Sphere) (r : Result Passing ℕ) → flags ≡ s.touched → l ≡ w.limit → planes ≡ w.planes → spheres ≡ w.spheres → all_pushed l planes spheres (record s { touched = flags }) ≡ r → shape_part w s ≡ r
-shape_part_is w s flags l planes spheres r ef el ep es h = (λ i. all_pushed (sym el i) (sym ep i) (sym es i) (record s { touched = sym ef i })) ∙ h
+pub shape_part_is : (w : World) (s : Passing) (flags : List Bool) (l : ℤ) (planes : List Plane) (spheres : List Sphere)
+    (r : Result Passing ℕ) → flags ≡ s.touched → l ≡ w.limit → planes ≡ w.planes → spheres ≡ w.spheres
+    → all_pushed l planes spheres (record s { touched = flags }) ≡ r → shape_part w s ≡ r
+shape_part_is w s flags l planes spheres r ef el ep es h =
+    (λ i. all_pushed (sym el i) (sym ep i) (sym es i) (record s { touched = sym ef i })) ∙ h
 
 -- a pass doesn't look at the particles and totals of its world
-pub same_pass : (w v : World) (ps : List Particle) (t : Ledger) (contacts : List (ℕ × ℕ)) (s : Passing) → v ≡ record w { particles = ps; totals = t } → pass v contacts s ≡ pass w contacts s
+pub same_pass : (w v : World) (ps : List Particle) (t : Ledger) (contacts : List (ℕ × ℕ)) (s : Passing)
+    → v ≡ record w { particles = ps; totals = t } → pass v contacts s ≡ pass w contacts s
 unfolding pass
 same_pass w v ps t contacts s e = ap (λ (u : World). pass u contacts s) e
 
@@ -80,5 +87,7 @@ pub passes_begin : (f : Passing → Result Passing Refusal) (n : ℕ) (s : Passi
 passes_begin f n s = let e : n - 0 ≡ n = omega arith in ap (λ (k : ℕ). repeated k f s) e
 
 -- what is handed out in one pass more
-pub counts_on : (before given next k i : ℕ) → given ≡ min (before + i * k) (2 ^ 64 - 1) → next ≡ min (given + k) (2 ^ 64 - 1) → next ≡ min (before + (i + 1) * k) (2 ^ 64 - 1)
-counts_on before given next k i e h = let one : (i + 1) * k ≡ i * k + k = omega (arith, add-mul i 1 k, one-mul k) in omega (arith, one, e, h)
+pub counts_on : (before given next k i : ℕ) → given ≡ min (before + i * k) (2 ^ 64 - 1) → next ≡ min (given + k) (2 ^ 64 - 1)
+    → next ≡ min (before + (i + 1) * k) (2 ^ 64 - 1)
+counts_on before given next k i e h = let one : (i + 1) * k ≡ i * k + k = omega (arith, add-mul i 1 k, one-mul k) in
+    omega (arith, one, e, h)

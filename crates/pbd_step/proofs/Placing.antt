@@ -15,30 +15,40 @@ module _ (w : World) (i : ℕ) (to : Vec3) where
   pub place_missing : length w.particles ≤ i → place_held w i to ≡ Err refusals.NoParticle
   place_missing le =
       let none : nat_le (length w.particles) i ≡ true = le-leb (length w.particles) i le in
-      λ k. unless ((none k, refusals.NoParticle) ∷ is_outside w to ∷ is_free_already w i ∷ is_on_track w i ∷ []) (put_at w i (particle_at w.particles i) to)
+      λ k. unless ((none k, refusals.NoParticle) ∷ is_outside w to ∷ is_free_already w i ∷ is_on_track w i ∷ [])
+      (put_at w i (particle_at w.particles i) to)
 
   some : i < length w.particles → nat_le (length w.particles) i ≡ false
   some lt = grind (arith, nat_tests)
 
   pub place_outside : i < length w.particles → is_within w.limit to ≡ false → place_held w i to ≡ Err refusals.OutOfRange
   place_outside lt within =
-      λ k. unless ((some lt k, refusals.NoParticle) ∷ (not (within k), refusals.OutOfRange) ∷ is_free_already w i ∷ is_on_track w i ∷ []) (put_at w i (particle_at w.particles i) to)
+      λ k. unless ((some lt k, refusals.NoParticle) ∷ (not (within k), refusals.OutOfRange) ∷ is_free_already w i ∷ is_on_track w i ∷ [])
+      (put_at w i (particle_at w.particles i) to)
 
-  pub place_free : i < length w.particles → is_within w.limit to ≡ true → not (particle_at w.particles i).held ≡ true → place_held w i to ≡ Err refusals.NotHeld
+  pub place_free : i < length w.particles → is_within w.limit to ≡ true → not (particle_at w.particles i).held ≡ true
+      → place_held w i to ≡ Err refusals.NotHeld
   place_free lt within free =
-      λ k. unless ((some lt k, refusals.NoParticle) ∷ (not (within k), refusals.OutOfRange) ∷ (free k, refusals.NotHeld) ∷ is_on_track w i ∷ []) (put_at w i (particle_at w.particles i) to)
+      λ k. unless ((some lt k, refusals.NoParticle) ∷ (not (within k), refusals.OutOfRange) ∷ (free k, refusals.NotHeld) ∷ is_on_track w i
+      ∷ []) (put_at w i (particle_at w.particles i) to)
 
-  pub place_led : i < length w.particles → is_within w.limit to ≡ true → not (particle_at w.particles i).held ≡ false → is_tracked w.tracks i ≡ true → place_held w i to ≡ Err refusals.Tracked
+  pub place_led : i < length w.particles → is_within w.limit to ≡ true → not (particle_at w.particles i).held ≡ false
+      → is_tracked w.tracks i ≡ true → place_held w i to ≡ Err refusals.Tracked
   place_led lt within free led =
-      λ k. unless ((some lt k, refusals.NoParticle) ∷ (not (within k), refusals.OutOfRange) ∷ (free k, refusals.NotHeld) ∷ (led k, refusals.Tracked) ∷ []) (put_at w i (particle_at w.particles i) to)
+      λ k. unless ((some lt k, refusals.NoParticle) ∷ (not (within k), refusals.OutOfRange) ∷ (free k, refusals.NotHeld)
+      ∷ (led k, refusals.Tracked) ∷ []) (put_at w i (particle_at w.particles i) to)
 
   -- particle i at rest at the place, and held
   abbrev pub set_down : Particle
   set_down = record { at = to; before = to; weight = (particle_at w.particles i).weight; held = true }
 
-  pub place_done : (limit : ℤ) (ps : List Particle) → i < length w.particles → is_within w.limit to ≡ true → not (particle_at w.particles i).held ≡ false → is_tracked w.tracks i ≡ false → limit ≡ w.limit → ps ≡ slice_set w.particles i set_down → place_held w i to ≡ Ok (record w { limit = limit; particles = ps })
+  pub place_done : (limit : ℤ) (ps : List Particle) → i < length w.particles → is_within w.limit to ≡ true
+      → not (particle_at w.particles i).held ≡ false → is_tracked w.tracks i ≡ false → limit ≡ w.limit
+      → ps ≡ slice_set w.particles i set_down
+      → place_held w i to ≡ Ok (record w { limit = limit; particles = ps })
   place_done limit ps lt within free led same set =
       let held = not-false (particle_at w.particles i).held free in
       let done : place_held w i to ≡ Ok (record w { limit = w.limit; particles = slice_set w.particles i set_down }) =
-      λ k. unless ((some lt k, refusals.NoParticle) ∷ (not (within k), refusals.OutOfRange) ∷ (free k, refusals.NotHeld) ∷ (led k, refusals.Tracked) ∷ []) (record w { particles = slice_set w.particles i (record set_down { held = held k }) }) in
+      λ k. unless ((some lt k, refusals.NoParticle) ∷ (not (within k), refusals.OutOfRange) ∷ (free k, refusals.NotHeld)
+      ∷ (led k, refusals.Tracked) ∷ []) (record w { particles = slice_set w.particles i (record set_down { held = held k }) }) in
       done ∙ (λ k. Ok (record w { limit = sym same k; particles = sym set k }))

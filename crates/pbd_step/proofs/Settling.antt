@@ -1,5 +1,6 @@
 -- Links that are let go together, and their colours.
-use Rattle.std.proofs.Common.{◌≡◌, refl, sym, ap, ◌∙◌, ℕ, zero, suc, ◌<◌, not, ◌&&◌, Bool, true, false, cond, List, [], ◌∷◌, length, filter, get_or, arith}
+use Rattle.std.proofs.Common.{◌≡◌, refl, sym, ap, ◌∙◌, ℕ, zero, suc, ◌<◌, not, ◌&&◌, Bool, true, false, cond, List, [], ◌∷◌, length, filter}
+use Rattle.std.proofs.Common.{get_or, arith}
 use Rattle.std.specs.List.{range_with_len}
 use Rattle.std.proofs.lemmas.Bool.{and_parts}
 use Rattle.std.proofs.lemmas.List.{ext_get_or, get_or-map}
@@ -18,6 +19,7 @@ use Rattle.pbd_tear.proofs.Numbers.{numbers_go}
 use Rattle.pbd_step.specs.States.{HasLinks}
 use Rattle.pbd_step.specs.Settling.{LetGo}
 use Rattle.pbd_step.proofs.Dropping.{dropped_flags}
+use Rattle.pbd_world.proofs.StepBalance.{torn-count}
 
 -- ---- torn links
 
@@ -25,7 +27,8 @@ use Rattle.pbd_step.proofs.Dropping.{dropped_flags}
 pub let_go_tears : (ps : List Particle) (links after : List Link) → LetGo (torn_numbers ps links) links after → after ≡ tear ps links
 unfolding tear
 let_go_tears ps links after go =
-    let many : length (tear ps links) ≡ length links = length-mapped {A = Link} {B = Link} (λ l. record l { live = l.live && not (is_torn ps l) }) links in
+    let many : length (tear ps links) ≡ length links = length-mapped {A = Link} {B = Link}
+    (λ l. record l { live = l.live && not (is_torn ps l) }) links in
     ext_get_or no_link after (tear ps links) (go.whole ∙ sym many)
     (λ i lt.
     let l : i < length links = omega (arith, lt, go.whole) in
@@ -35,7 +38,9 @@ let_go_tears ps links after go =
     ∙ (λ k. record (link_at links i) { live = (there k).live })
     ∙ sym there)
 
-passes_by : (test : ℕ → Bool) (x : ℕ) (rest : List ℕ) (b : Bool) (k : ℕ) → test x ≡ b → ((j : ℕ) → j < length rest → test (get_or rest j 0) ≡ true) → k < length (cond b (x ∷ rest) rest) → test (get_or (cond b (x ∷ rest) rest) k 0) ≡ true
+passes_by : (test : ℕ → Bool) (x : ℕ) (rest : List ℕ) (b : Bool) (k : ℕ) → test x ≡ b
+    → ((j : ℕ) → j < length rest → test (get_or rest j 0) ≡ true) → k < length (cond b (x ∷ rest) rest)
+    → test (get_or (cond b (x ∷ rest) rest) k 0) ≡ true
 passes_by test x rest true zero e f h = e
 passes_by test x rest true (suc k) e f h = f k (omega (arith, h))
 passes_by test x rest false k e f h = f k h
@@ -45,7 +50,8 @@ passes test [] k lt = absurd (omega (arith, lt))
 passes test (x ∷ xs) k lt = passes_by test x (filter test xs) (test x) k refl (λ j h. passes test xs j h) lt
 
 -- torn links were live
-pub torn_live : (ps : List Particle) (links : List Link) (k : ℕ) → AscendTo (length links) (torn_numbers ps links) → k < length (torn_numbers ps links) → live_at (live_flags links) (get_or (torn_numbers ps links) k 0) ≡ true
+pub torn_live : (ps : List Particle) (links : List Link) (k : ℕ) → AscendTo (length links) (torn_numbers ps links)
+    → k < length (torn_numbers ps links) → live_at (live_flags links) (get_or (torn_numbers ps links) k 0) ≡ true
 unfolding torn_numbers
 torn_live ps links k ascend lt =
     let n = get_or (torn_numbers ps links) k 0 in
@@ -57,20 +63,18 @@ unfolding tear
 torn_pairs ps [] = refl
 torn_pairs ps (l ∷ links) = ap (λ (pairs : List (ℕ × ℕ)). (l.a, l.b) ∷ pairs) (torn_pairs ps links)
 
-torn_many : (ps : List Particle) (links : List Link) → length (tear ps links) ≡ length links
-unfolding tear
-torn_many ps links = length-mapped {A = Link} {B = Link} (λ l. record l { live = l.live && not (is_torn ps l) }) links
-
 -- the colouring without the torn links has the links that are left
-pub torn_coloured : (n : ℕ) (ps : List Particle) (links after : List Link) (old new : Coloured) → HasLinks n links old → after ≡ tear ps links → new ≡ record old { live = dropped (torn_numbers ps links) old.live } → HasLinks n after new
+pub torn_coloured : (n : ℕ) (ps : List Particle) (links after : List Link) (old new : Coloured) → HasLinks n links old
+    → after ≡ tear ps links → new ≡ record old { live = dropped (torn_numbers ps links) old.live } → HasLinks n after new
 torn_coloured n ps links after old new has is coloured =
-    let same : length after ≡ length links = ap (λ (ls : List Link). length ls) is ∙ torn_many ps links in
+    let same : length after ≡ length links = ap (λ (ls : List Link). length ls) is ∙ torn-count ps links in
     record {
       particles = ap (λ (c : Coloured). c.particles) coloured ∙ has.particles;
-      pairs = ap (λ (c : Coloured). c.pairs) coloured ∙ has.pairs ∙ sym (torn_pairs ps links) ∙ sym (ap (λ (ls : List Link). link_pairs ls) is);
+      pairs = ap (λ (c : Coloured). c.pairs) coloured ∙ has.pairs ∙ sym (torn_pairs ps links)
+          ∙ sym (ap (λ (ls : List Link). link_pairs ls) is);
       live = ap (λ (c : Coloured). c.live) coloured
           ∙ ap (dropped (torn_numbers ps links)) has.live
-          ∙ dropped_flags (torn_numbers ps links) links (tear ps links) (torn_many ps links) (numbers_go ps links)
+          ∙ dropped_flags (torn_numbers ps links) links (tear ps links) (torn-count ps links) (numbers_go ps links)
           ∙ sym (ap (λ (ls : List Link). live_flags ls) is);
       room = omega (arith, same, has.room, ap (λ (c : Coloured). c.room) coloured);
     }
@@ -79,4 +83,5 @@ torn_coloured n ps links after old new has is coloured =
 pub still_many : (ps qs : List Particle) → settled_parts ps ≡ settled_parts qs → length ps ≡ length qs
 still_many ps qs e =
     let blank : Particle → Particle = λ p. record p { before = zero_vector } in
-    sym (length-mapped {A = Particle} {B = Particle} blank ps) ∙ ap (λ (xs : List Particle). length xs) e ∙ length-mapped {A = Particle} {B = Particle} blank qs
+    sym (length-mapped {A = Particle} {B = Particle} blank ps) ∙ ap (λ (xs : List Particle). length xs) e
+    ∙ length-mapped {A = Particle} {B = Particle} blank qs

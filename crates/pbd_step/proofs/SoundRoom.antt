@@ -28,12 +28,17 @@ sound_room w sound =
     let small : 2 ^ 64 * w.steps ≤ 2 ^ 84 = omega (arith, sound.steps) in
     let up : (s : Sum) → SumWithin (2 ^ 64 * w.steps) s → SumWithin (2 ^ 84) s = λ s h. sum_wider s (2 ^ 64 * w.steps) (2 ^ 84) small h in
     let far : (s : Sum) → SumWithin (2 ^ 84) s → SumWithin (2 ^ 99) s = λ s h. sum_wider s (2 ^ 84) (2 ^ 99) (omega arith) h in
-    let m = sum_wider (momentum w.particles) (length w.particles * 2 ^ 30) (2 ^ 84) (omega (arith, few)) (momentum_within w.limit w.particles lim (all_placed w.limit w.particles (all_fit w.limit w.particles counts.1))) in
+    let m = sum_wider (momentum w.particles) (length w.particles * 2 ^ 30) (2 ^ 84) (omega (arith, few))
+    (momentum_within w.limit w.particles lim (all_placed w.limit w.particles (all_fit w.limit w.particles counts.1))) in
     let o = sum_wider w.opening (2 ^ 46) (2 ^ 84) (omega arith) sound.opening in
-    let g = up t.gravity b.gravity in let d = up t.damping b.damping in let l = up t.link b.link in let c = up t.contact b.contact in let s = up t.shape b.shape in
-    let x = pin_axis (momentum w.particles).x w.opening.x t.gravity.x t.damping.x t.link.x t.contact.x t.pin.x t.shape.x (2 ^ 84) (ap (λ (u : Sum). u.x) sound.balanced) m.x o.x g.x d.x l.x c.x s.x in
-    let y = pin_axis (momentum w.particles).y w.opening.y t.gravity.y t.damping.y t.link.y t.contact.y t.pin.y t.shape.y (2 ^ 84) (ap (λ (u : Sum). u.y) sound.balanced) m.y o.y g.y d.y l.y c.y s.y in
-    let z = pin_axis (momentum w.particles).z w.opening.z t.gravity.z t.damping.z t.link.z t.contact.z t.pin.z t.shape.z (2 ^ 84) (ap (λ (u : Sum). u.z) sound.balanced) m.z o.z g.z d.z l.z c.z s.z in
+    let g = up t.gravity b.gravity in let d = up t.damping b.damping in let l = up t.link b.link in let c = up t.contact b.contact in
+    let s = up t.shape b.shape in
+    let x = pin_axis (momentum w.particles).x w.opening.x t.gravity.x t.damping.x t.link.x t.contact.x t.pin.x t.shape.x (2 ^ 84)
+    (ap (λ (u : Sum). u.x) sound.balanced) m.x o.x g.x d.x l.x c.x s.x in
+    let y = pin_axis (momentum w.particles).y w.opening.y t.gravity.y t.damping.y t.link.y t.contact.y t.pin.y t.shape.y (2 ^ 84)
+    (ap (λ (u : Sum). u.y) sound.balanced) m.y o.y g.y d.y l.y c.y s.y in
+    let z = pin_axis (momentum w.particles).z w.opening.z t.gravity.z t.damping.z t.link.z t.contact.z t.pin.z t.shape.z (2 ^ 84)
+    (ap (λ (u : Sum). u.z) sound.balanced) m.z o.z g.z d.z l.z c.z s.z in
     record {
       gravity = far t.gravity g;
       damping = far t.damping d;

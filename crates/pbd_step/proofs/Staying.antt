@@ -7,20 +7,21 @@ use Rattle.pbd_self.specs.Touching.{Found}
 use Rattle.pbd_world.specs.World.{IsSound}
 use Rattle.pbd_step.specs.declared.state.Setting.{Setting}
 use Rattle.pbd_step.specs.declared.state.State.{State}
-use Rattle.pbd_step.specs.declared.state.Tools.{Tools}
+use Rattle.pbd_step.specs.declared.state.Scratch.{Scratch}
 use Rattle.pbd_step.specs.declared.state.Running.{Running}
 use Rattle.pbd_step.specs.Solving.{AreAlike}
 use Rattle.pbd_step.specs.States.{world_of, HasLinks, HaveSpace, IsUnderWay}
 use Rattle.pbd_step.specs.Staying.{IsReady, IsGoing, IsMoved, StaysInPass, StaysInStep}
 
--- ---- states and tools
+-- ---- states and scratch
 
-same_room : (old new : Tools) → new ≡ record old { touched = new.touched } → length new.touched ≡ length old.touched → (n m : ℕ) → HaveSpace n m old → HaveSpace n m new
-same_room old new tools flags n m h = record {
-  found = ap (λ (t : Tools). t.found.particles) tools ∙ h.found;
+same_room : (old new : Scratch) → new ≡ record old { touched = new.touched } → length new.touched ≡ length old.touched → (n m : ℕ)
+    → HaveSpace n m old → HaveSpace n m new
+same_room old new scratch flags n m h = record {
+  found = ap (λ (t : Scratch). t.found.particles) scratch ∙ h.found;
   touched = flags ∙ h.touched;
-  pairs = omega (arith, ap (λ (t : Tools). t.pairs.room) tools, h.pairs);
-  numbers = omega (arith, ap (λ (t : Tools). t.numbers.room) tools, h.numbers);
+  pairs = omega (arith, ap (λ (t : Scratch). t.pairs.room) scratch, h.pairs);
+  numbers = omega (arith, ap (λ (t : Scratch). t.numbers.room) scratch, h.numbers);
 }
 
 pub both_moved : {l : ℕ} (old mid new : State l) → IsMoved old mid → IsMoved mid new → IsMoved old new
@@ -35,12 +36,14 @@ pub moved_alike : {l : ℕ} (old new : State l) → IsMoved old new → AreAlike
 moved_alike {l} old new h = record { particles = h.whole; limit = h.limit; links = ap (λ (s : State l). length s.links.items) h.same }
 
 -- with as many flags
-pub cleared : (tools : Tools) (flags : List Bool) → length flags ≡ length tools.touched → (n m : ℕ) → HaveSpace n m tools → HaveSpace n m (record tools { touched = flags })
-cleared tools flags many n m h = record { found = h.found; touched = many ∙ h.touched; pairs = h.pairs; numbers = h.numbers }
+pub cleared : (scratch : Scratch) (flags : List Bool) → length flags ≡ length scratch.touched → (n m : ℕ) → HaveSpace n m scratch
+    → HaveSpace n m (record scratch { touched = flags })
+cleared scratch flags many n m h = record { found = h.found; touched = many ∙ h.touched; pairs = h.pairs; numbers = h.numbers }
 
 -- with the contacts of as many particles
-pub refound : (tools : Tools) (found : Found) → found.particles ≡ tools.found.particles → (n m : ℕ) → HaveSpace n m tools → HaveSpace n m (record tools { found = found })
-refound tools found same n m h = record { found = same ∙ h.found; touched = h.touched; pairs = h.pairs; numbers = h.numbers }
+pub refound : (scratch : Scratch) (found : Found) → found.particles ≡ scratch.found.particles → (n m : ℕ) → HaveSpace n m scratch
+    → HaveSpace n m (record scratch { found = found })
+refound scratch found same n m h = record { found = same ∙ h.found; touched = h.touched; pairs = h.pairs; numbers = h.numbers }
 
 -- ---- parts of a pass
 
@@ -50,32 +53,41 @@ module _ {l : ℕ} {P : Type 0} {count : P → ℕ} {lanes : P → ℕ} where
     moved = record { same = refl; limit = refl; copies = refl; whole = refl };
     fixed = refl;
     colours = refl;
-    tools = refl;
+    scratch = refl;
     flags = refl;
     not_fallen = omega arith;
     width = refl;
   }
 
-  pub both_in_pass : (old mid new : Running l P) → StaysInPass count lanes old mid → StaysInPass count lanes mid new → StaysInPass count lanes old new
+  pub both_in_pass : (old mid new : Running l P) → StaysInPass count lanes old mid → StaysInPass count lanes mid new
+      → StaysInPass count lanes old new
   both_in_pass old mid new h k = record {
     moved = both_moved old.state mid.state new.state h.moved k.moved;
     fixed = k.fixed ∙ h.fixed;
     colours = k.colours ∙ h.colours;
-    tools = k.tools ∙ ap (λ (t : Tools). record t { touched = new.tools.touched }) h.tools;
+    scratch = k.scratch ∙ ap (λ (t : Scratch). record t { touched = new.scratch.touched }) h.scratch;
     flags = k.flags ∙ h.flags;
     not_fallen = omega (arith, k.not_fallen, h.not_fallen);
     width = k.width ∙ h.width;
   }
 
   -- what moves places within a limit, books it, and sets flags or hands bonds to the projector
-  pub part_in_pass : (run : Running l P) (state : State l) (flags : List Bool) (projector : P) → state ≡ record run.state { store = state.store; totals = state.totals } → state.store.limit ≡ run.state.store.limit → state.store.copies ≡ run.state.store.copies
-      → fixed_parts state.store.particles ≡ fixed_parts run.state.store.particles → length flags ≡ length run.tools.touched → count run.projector ≤ count projector → lanes projector ≡ lanes run.projector
-      → StaysInPass count lanes run (record run { state = state; tools = record run.tools { touched = flags }; projector = projector })
+  pub part_in_pass : (run : Running l P) (state : State l) (flags : List Bool) (projector : P)
+      → state ≡ record run.state { store = state.store; totals = state.totals } → state.store.limit ≡ run.state.store.limit
+      → state.store.copies ≡ run.state.store.copies
+      → fixed_parts state.store.particles ≡ fixed_parts run.state.store.particles → length flags ≡ length run.scratch.touched
+      → count run.projector ≤ count projector → lanes projector ≡ lanes run.projector
+      → StaysInPass count lanes run (record run { state = state; scratch = record run.scratch { touched = flags }; projector = projector })
   part_in_pass run state flags projector same limit copies fixed many not_fallen width = record {
-    moved = record { same = same; limit = limit; copies = copies; whole = same_length state.store.particles run.state.store.particles fixed };
+    moved = record {
+      same = same;
+      limit = limit;
+      copies = copies;
+      whole = same_length state.store.particles run.state.store.particles fixed;
+    };
     fixed = fixed;
     colours = refl;
-    tools = refl;
+    scratch = refl;
     flags = many;
     not_fallen = not_fallen;
     width = width;
@@ -93,9 +105,14 @@ module _ {l : ℕ} {P : Type 0} {count : P → ℕ} {lanes : P → ℕ} where
     width = refl;
   }
 
-  pub both_in_step : (old mid new : Running l P) → StaysInStep count lanes old mid → StaysInStep count lanes mid new → StaysInStep count lanes old new
+  pub both_in_step : (old mid new : Running l P) → StaysInStep count lanes old mid → StaysInStep count lanes mid new
+      → StaysInStep count lanes old new
   both_in_step old mid new h k = record {
-    alike = record { particles = k.alike.particles ∙ h.alike.particles; limit = k.alike.limit ∙ h.alike.limit; links = k.alike.links ∙ h.alike.links };
+    alike = record {
+      particles = k.alike.particles ∙ h.alike.particles;
+      limit = k.alike.limit ∙ h.alike.limit;
+      links = k.alike.links ∙ h.alike.links;
+    };
     copies = k.copies ∙ h.copies;
     pairs = k.pairs ∙ ap (λ (c : Coloured). record c { live = new.colours.live }) h.pairs;
     space = λ n m room. k.space n m (h.space n m room);
@@ -108,12 +125,13 @@ module _ {l : ℕ} {P : Type 0} {count : P → ℕ} {lanes : P → ℕ} where
     alike = moved_alike old.state new.state h.moved;
     copies = h.moved.copies;
     pairs = λ i. record (h.colours i) { live = new.colours.live };
-    space = same_room old.tools new.tools h.tools h.flags;
+    space = same_room old.scratch new.scratch h.scratch h.flags;
     not_fallen = h.not_fallen;
     width = h.width;
   }
 
-  pub move_in_step : (run : Running l P) (state : State l) → IsMoved run.state state → StaysInStep count lanes run (record run { state = state })
+  pub move_in_step : (run : Running l P) (state : State l) → IsMoved run.state state
+      → StaysInStep count lanes run (record run { state = state })
   move_in_step run state h = record {
     alike = moved_alike run.state state h;
     copies = h.copies;
@@ -124,8 +142,9 @@ module _ {l : ℕ} {P : Type 0} {count : P → ℕ} {lanes : P → ℕ} where
   }
 
   -- with flags, contacts or numbers alone
-  pub tools_in_step : (run : Running l P) (tools : Tools) → ((n m : ℕ) → HaveSpace n m run.tools → HaveSpace n m tools) → StaysInStep count lanes run (record run { tools = tools })
-  tools_in_step run tools space = record {
+  pub tools_in_step : (run : Running l P) (scratch : Scratch) → ((n m : ℕ) → HaveSpace n m run.scratch → HaveSpace n m scratch)
+      → StaysInStep count lanes run (record run { scratch = scratch })
+  tools_in_step run scratch space = record {
     alike = record { particles = refl; limit = refl; links = refl };
     copies = refl;
     pairs = refl;
@@ -138,31 +157,45 @@ module _ {l : ℕ} {P : Type 0} {count : P → ℕ} {lanes : P → ℕ} where
 
 module _ {l : ℕ} {P : Type 0} where
   -- after a part of a pass
-  pub pass_goes : {count : P → ℕ} {lanes : P → ℕ} {bound : ℕ} (more : ℕ) (setting : Setting) (old new : Running l P) → IsGoing bound setting old → StaysInPass count lanes old new → IsUnderWay more (world_of setting new.state) → IsGoing more setting new
+  pub pass_goes : {count : P → ℕ} {lanes : P → ℕ} {bound : ℕ} (more : ℕ) (setting : Setting) (old new : Running l P)
+      → IsGoing bound setting old → StaysInPass count lanes old new → IsUnderWay more (world_of setting new.state)
+      → IsGoing more setting new
   pass_goes {count} {lanes} {bound} more setting old new g h under_way = record {
     count = omega (arith, ap (λ (s : State l). s.steps) h.moved.same, g.count);
     under_way = under_way;
     links = coe 0 1 (i. HasLinks (sym h.moved.whole i) (sym h.moved.same i).links.items (sym h.colours i)) g.links;
-    space = coe 0 1 (i. HaveSpace (sym h.moved.whole i) (length (sym h.moved.same i).links.items) new.tools) (same_room old.tools new.tools h.tools h.flags (length old.state.store.particles) (length old.state.links.items) g.space);
+    space = coe 0 1 (i. HaveSpace (sym h.moved.whole i) (length (sym h.moved.same i).links.items) new.scratch)
+        (same_room old.scratch new.scratch h.scratch h.flags (length old.state.store.particles) (length old.state.links.items) g.space);
   }
 
   -- after its beginning
-  pub begun_goes : (bound : ℕ) (setting : Setting) (run : Running l P) (state : State l) → IsReady setting run → run.state.steps < 1000000 → IsMoved run.state state → IsUnderWay bound (world_of setting state) → IsGoing bound setting (record run { state = state })
+  pub begun_goes : (bound : ℕ) (setting : Setting) (run : Running l P) (state : State l) → IsReady setting run → run.state.steps < 1000000
+      → IsMoved run.state state → IsUnderWay bound (world_of setting state) → IsGoing bound setting (record run { state = state })
   begun_goes bound setting run state ready few h under_way = record {
     count = omega (arith, ap (λ (s : State l). s.steps) h.same, few);
     under_way = under_way;
     links = coe 0 1 (i. HasLinks (sym h.whole i) (sym h.same i).links.items run.colours) ready.links;
-    space = coe 0 1 (i. HaveSpace (sym h.whole i) (length (sym h.same i).links.items) run.tools) ready.space;
+    space = coe 0 1 (i. HaveSpace (sym h.whole i) (length (sym h.same i).links.items) run.scratch) ready.space;
   }
 
-  -- with other tools of the same room
-  pub tools_go : {bound : ℕ} (setting : Setting) (run : Running l P) (tools : Tools) → ((n m : ℕ) → HaveSpace n m run.tools → HaveSpace n m tools) → IsGoing bound setting run → IsGoing bound setting (record run { tools = tools })
-  tools_go setting run tools space g = record { count = g.count; under_way = g.under_way; links = g.links; space = space (length run.state.store.particles) (length run.state.links.items) g.space }
+  -- with other scratch of the same room
+  pub tools_go : {bound : ℕ} (setting : Setting) (run : Running l P) (scratch : Scratch)
+      → ((n m : ℕ) → HaveSpace n m run.scratch → HaveSpace n m scratch) → IsGoing bound setting run
+      → IsGoing bound setting (record run { scratch = scratch })
+  tools_go setting run scratch space g = record {
+    count = g.count;
+    under_way = g.under_way;
+    links = g.links;
+    space = space (length run.state.store.particles) (length run.state.links.items) g.space;
+  }
 
   -- a state that a step led to may begin the next one
-  pub ready_on : {count : P → ℕ} {lanes : P → ℕ} (setting : Setting) (old new : Running l P) → IsReady setting old → StaysInStep count lanes old new → IsSound (world_of setting new.state) → HasLinks (length old.state.store.particles) new.state.links.items new.colours → IsReady setting new
+  pub ready_on : {count : P → ℕ} {lanes : P → ℕ} (setting : Setting) (old new : Running l P) → IsReady setting old
+      → StaysInStep count lanes old new → IsSound (world_of setting new.state)
+      → HasLinks (length old.state.store.particles) new.state.links.items new.colours → IsReady setting new
   ready_on setting old new h stays sound links = record {
     sound = sound;
     links = subst (λ (n : ℕ). HasLinks n new.state.links.items new.colours) (sym stays.alike.particles) links;
-    space = coe 0 1 (i. HaveSpace (sym stays.alike.particles i) (sym stays.alike.links i) new.tools) (stays.space (length old.state.store.particles) (length old.state.links.items) h.space);
+    space = coe 0 1 (i. HaveSpace (sym stays.alike.particles i) (sym stays.alike.links i) new.scratch)
+        (stays.space (length old.state.store.particles) (length old.state.links.items) h.space);
   }

@@ -1,5 +1,6 @@
 -- Worlds in the middle of a step, and the bonds of their links and contacts.
-use Rattle.std.proofs.Common.{◌≡◌, ◌≢◌, ap, sym, ◌∙◌, subst, ℕ, suc, ◌+◌, ◌<◌, ◌≤◌, ◌==◌, ◌&&◌, not, false, List, [], ◌∷◌, length, drop, arith, ℤ, pos, ◌≤ℤ◌, ◌*ℤ◌, unsigned_abs, IsTrue, nat_le, OnOk, Result, Ok, Err, to_z, of_z, w64}
+use Rattle.std.proofs.Common.{◌≡◌, ◌≢◌, ap, sym, ◌∙◌, subst, ℕ, suc, ◌+◌, ◌<◌, ◌≤◌, ◌==◌, ◌&&◌, not, false, List, [], ◌∷◌, length, drop}
+use Rattle.std.proofs.Common.{arith, ℤ, pos, ◌≤ℤ◌, ◌*ℤ◌, unsigned_abs, IsTrue, nat_le, OnOk, Result, Ok, Err, to_z, of_z, w64}
 use Rattle.std.specs.List.{AllByRecursion, list_all}
 use Rattle.std.proofs.lemmas.Int.{ints, to_z-of_z}
 use Rattle.std.proofs.lemmas.Bool.{and_parts, and_from, leb-true, ltb-true, eq-eqb, false≢true}
@@ -41,7 +42,8 @@ between_parts high n h = (grind (arith, ints, nat_tests), grind (arith, ints, na
 differ : (a b : ℕ) → IsTrue (not (a == b)) → a ≢ b
 differ a b h e = false≢true (ap not (sym (eq-eqb a b e)) ∙ h)
 
-pub link_is_bond : (limit : ℤ) (n : ℕ) (l : Link) → IsTrue (is_valid_link limit n l) → IsBond limit n (record { a = l.a; b = l.b; rest = l.rest; k = pos l.k; contact = false })
+pub link_is_bond : (limit : ℤ) (n : ℕ) (l : Link) → IsTrue (is_valid_link limit n l)
+    → IsBond limit n (record { a = l.a; b = l.b; rest = l.rest; k = pos l.k; contact = false })
 link_is_bond limit n l valid =
     let p5 = and_parts _ _ valid in
     let p4 = and_parts _ _ p5.0 in
@@ -57,22 +59,27 @@ link_is_bond limit n l valid =
       drawn = record { rest_low = rest.0; rest_high = rest.1; k_low = omega (arith, ints); k_high = omega (arith, ints, stiff) };
     }
 
-pub link_parts : (limit : ℤ) (n : ℕ) (links : List Link) → IsTrue (are_valid_links limit n links) → (length links ≤ 524288) × IsTrue (list_all (is_valid_link limit n) links)
-link_parts limit n links valid = let few = and_parts _ _ (and_parts _ _ (and_parts _ _ valid).0).0 in (leb-true (length links) 524288 few.0, few.1)
+pub link_parts : (limit : ℤ) (n : ℕ) (links : List Link) → IsTrue (are_valid_links limit n links)
+    → (length links ≤ 524288) × IsTrue (list_all (is_valid_link limit n) links)
+link_parts limit n links valid = let few = and_parts _ _ (and_parts _ _ (and_parts _ _ valid).0).0 in
+    (leb-true (length links) 524288 few.0, few.1)
 
 pub few_links : (limit : ℤ) (n : ℕ) (links : List Link) → IsTrue (are_valid_links limit n links) → length (link_pairs links) ≤ 524288
 few_links limit n links valid = omega (arith, length-map {A = Link} {B = ℕ × ℕ} links (λ l. (l.a, l.b)), (link_parts limit n links valid).0)
 
-pub link_bonds : (limit : ℤ) (n : ℕ) (links : List Link) (bonds : Bonds) → bond_count bonds ≡ length links → ((k : ℕ) → bond_of bonds k ≡ link_bond links k) → IsTrue (are_valid_links limit n links) → AreBondsOf limit n bonds (link_pairs links)
+pub link_bonds : (limit : ℤ) (n : ℕ) (links : List Link) (bonds : Bonds) → bond_count bonds ≡ length links
+    → ((k : ℕ) → bond_of bonds k ≡ link_bond links k) → IsTrue (are_valid_links limit n links) → AreBondsOf limit n bonds (link_pairs links)
 link_bonds limit n links bonds count is valid =
     let ends : Link → ℕ × ℕ = λ l. (l.a, l.b) in
     let same : length (link_pairs links) ≡ length links = length-map links ends in
-    let pair : (k : ℕ) → k < length (link_pairs links) → pair_at (link_pairs links) k ≡ ends (link_at links k) = λ k lt. get_or-map ends links k _ _ (omega (arith, lt, same)) in
+    let pair : (k : ℕ) → k < length (link_pairs links) → pair_at (link_pairs links) k
+    ≡ ends (link_at links k) = λ k lt. get_or-map ends links k _ _ (omega (arith, lt, same)) in
     record {
       count = count ∙ sym same;
       first = λ k lt. ap (λ (b : Bond). b.a) (is k) ∙ sym (ap (λ (p : ℕ × ℕ). p.0) (pair k lt));
       second = λ k lt. ap (λ (b : Bond). b.b) (is k) ∙ sym (ap (λ (p : ℕ × ℕ). p.1) (pair k lt));
-      bond = λ k lt. subst (IsBond limit n) (sym (is k)) (link_is_bond limit n (link_at links k) (AllPass-from_list_all (is_valid_link limit n) links (link_parts limit n links valid).1 k no_link (omega (arith, lt, same))));
+      bond = λ k lt. subst (IsBond limit n) (sym (is k)) (link_is_bond limit n (link_at links k)
+          (AllPass-from_list_all (is_valid_link limit n) links (link_parts limit n links valid).1 k no_link (omega (arith, lt, same))));
     }
 
 limit_wide : (limit : ℤ) → IsTrue (is_limit limit) → pos 1048576 ≤ℤ (pos 4 *ℤ limit)
@@ -81,7 +88,9 @@ limit_wide limit h = grind (arith, ints, nat_tests)
 thickness_fits : (limit t : ℤ) → IsTrue (is_limit limit) → t ≤ℤ pos 1048576 → t ≤ℤ (pos 4 *ℤ limit)
 thickness_fits limit t l h = omega (arith, ints, limit_wide limit l, h)
 
-pub contact_bonds : (limit thickness : ℤ) (n : ℕ) (pairs : List (ℕ × ℕ)) (bonds : Bonds) → bond_count bonds ≡ length pairs → ((k : ℕ) → bond_of bonds k ≡ contact_bond thickness pairs k) → IsTrue (is_limit limit) → IsTrue (is_between (pos 0) (pos 1048576) thickness) → InRange n pairs → AreBondsOf limit n bonds pairs
+pub contact_bonds : (limit thickness : ℤ) (n : ℕ) (pairs : List (ℕ × ℕ)) (bonds : Bonds) → bond_count bonds ≡ length pairs
+    → ((k : ℕ) → bond_of bonds k ≡ contact_bond thickness pairs k) → IsTrue (is_limit limit)
+    → IsTrue (is_between (pos 0) (pos 1048576) thickness) → InRange n pairs → AreBondsOf limit n bonds pairs
 contact_bonds limit thickness n pairs bonds count is l t range =
     let thin = between_parts (pos 1048576) thickness t in
     record {
@@ -92,7 +101,12 @@ contact_bonds limit thickness n pairs bonds count is l t range =
         first = (range k lt).0;
         second = (range k lt).1;
         different = (range k lt).2;
-        drawn = record { rest_low = thin.0; rest_high = thickness_fits limit thickness l thin.1; k_low = omega (arith, ints); k_high = omega (arith, ints) };
+        drawn = record {
+          rest_low = thin.0;
+          rest_high = thickness_fits limit thickness l thin.1;
+          k_low = omega (arith, ints);
+          k_high = omega (arith, ints);
+        };
       });
     }
 
@@ -102,7 +116,8 @@ pub movable : (bound : ℕ) (w : World) → IsUnderWay bound w → AreMovable bo
 movable bound w u =
     let f = formed (parts_of w) u.well_formed in
     let fits = and_parts (nat_le (length w.particles) 65536) (list_all (is_valid_particle w.limit) w.particles) f.particles in
-    let weighs = λ (i : ℕ) (lt : i < length w.particles). AllPass-from_list_all (is_valid_particle w.limit) w.particles fits.1 i no_particle lt in
+    let weighs = λ (i : ℕ) (lt : i < length w.particles). AllPass-from_list_all
+    (is_valid_particle w.limit) w.particles fits.1 i no_particle lt in
     record {
       inside = valid_inside w.limit w.particles f.limit f.particles;
       weights = record {
@@ -113,7 +128,8 @@ movable bound w u =
     }
 
 -- a particle that was moved within the limit
-moved_fit : (limit : ℤ) (p q : Particle) → pos 0 ≤ℤ limit → record q { at = p.at } ≡ p → Within (unsigned_abs limit) q.at → IsFit limit p → IsFit limit q
+moved_fit : (limit : ℤ) (p q : Particle) → pos 0 ≤ℤ limit → record q { at = p.at } ≡ p → Within (unsigned_abs limit) q.at → IsFit limit p
+    → IsFit limit q
 moved_fit limit p q low e w f = record {
   at = (within_facts limit q.at low).1 w;
   before = ap (λ (r : Particle). is_within limit r.before) e ∙ f.before;
@@ -121,7 +137,9 @@ moved_fit limit p q low e w f = record {
   high = ap (λ (r : Particle). nat_le r.weight 65535) e ∙ f.high;
 }
 
-all_moved_fit : (limit : ℤ) (ps qs : List Particle) → pos 0 ≤ℤ limit → fixed_parts qs ≡ fixed_parts ps → ((i : ℕ) → i < length qs → Within (unsigned_abs limit) (particle_at qs i).at) → AllByRecursion (IsFit limit) ps → AllByRecursion (IsFit limit) qs
+all_moved_fit : (limit : ℤ) (ps qs : List Particle) → pos 0 ≤ℤ limit → fixed_parts qs ≡ fixed_parts ps
+    → ((i : ℕ) → i < length qs → Within (unsigned_abs limit) (particle_at qs i).at) → AllByRecursion (IsFit limit) ps
+    → AllByRecursion (IsFit limit) qs
 all_moved_fit limit ps [] low e w f = tt
 all_moved_fit limit [] (q ∷ qs) low e w f = absurd (omega (arith, same_length (q ∷ qs) [] e))
 all_moved_fit limit (p ∷ ps) (q ∷ qs) low e w f =
@@ -132,13 +150,16 @@ all_moved_fit limit (p ∷ ps) (q ∷ qs) low e w f =
     )
 
 -- after its particles moved within the limit, a world is under way still
-pub moved_under_way : (n bound : ℕ) (w : World) (ps : List Particle) (t : Ledger) → IsUnderWay n w → fixed_parts ps ≡ fixed_parts w.particles → AreInside w.limit ps → HaveRoom bound t → IsUnderWay bound (record w { particles = ps; totals = t })
+pub moved_under_way : (n bound : ℕ) (w : World) (ps : List Particle) (t : Ledger) → IsUnderWay n w
+    → fixed_parts ps ≡ fixed_parts w.particles → AreInside w.limit ps → HaveRoom bound t
+    → IsUnderWay bound (record w { particles = ps; totals = t })
 moved_under_way n bound w ps t u e inside room =
     let f = formed (parts_of w) u.well_formed in
     let fits = and_parts (nat_le (length w.particles) 65536) (list_all (is_valid_particle w.limit) w.particles) f.particles in
     let whole : length w.particles ≡ length ps = sym (same_length ps w.particles e) in
     let some = ap (λ (k : ℕ). nat_le k 65536) (sym whole) ∙ fits.0 in
-    let all = are_fit w.limit ps (all_moved_fit w.limit w.particles ps (limit_size w.limit f.limit).0 e inside.each (all_fit w.limit w.particles fits.1)) in
+    let all = are_fit w.limit ps (all_moved_fit w.limit w.particles ps (limit_size w.limit f.limit).0 e inside.each
+    (all_fit w.limit w.particles fits.1)) in
     record {
       well_formed = from_formed (parts_of (record w { particles = ps; totals = t })) (record {
         limit = f.limit;
@@ -154,9 +175,11 @@ moved_under_way n bound w ps t u e inside room =
     }
 
 -- the world of a state whose store and totals alone changed
-pub moved_world : {l : ℕ} (setting : Setting) (old new : State l) → new ≡ record old { store = new.store; totals = new.totals } → new.store.limit ≡ old.store.limit
+pub moved_world : {l : ℕ} (setting : Setting) (old new : State l) → new ≡ record old { store = new.store; totals = new.totals }
+    → new.store.limit ≡ old.store.limit
     → world_of setting new ≡ record (world_of setting old) { particles = new.store.particles; totals = ledger_of new.totals }
-moved_world setting old new same limit = λ i. record (world_of setting new) { limit = limit i; steps = (same i).steps; links = (same i).links.items; contacts = (same i).contacts }
+moved_world setting old new same limit = λ i. record (world_of setting new)
+    { limit = limit i; steps = (same i).steps; links = (same i).links.items; contacts = (same i).contacts }
 
 -- ---- what is known after an answer
 
@@ -164,7 +187,9 @@ pub ok_both : {A E X Y Z : Type 0} (r : Result A E) → (X → Y → Z) → OnOk
 ok_both (Ok x) f a b = f a b
 ok_both (Err e) f a b = tt
 
-pub still_movable : {limit l : ℤ} {ps qs : List Particle} {t u : Ledger} (grown : ℕ) → l ≡ limit → fixed_parts qs ≡ fixed_parts ps → AreInside limit qs → ((n : ℕ) → HaveRoom n t → HaveRoom (n + grown) u) → (n : ℕ) → AreMovable n limit ps t → AreMovable (n + grown) l qs u
+pub still_movable : {limit l : ℤ} {ps qs : List Particle} {t u : Ledger} (grown : ℕ) → l ≡ limit → fixed_parts qs ≡ fixed_parts ps
+    → AreInside limit qs → ((n : ℕ) → HaveRoom n t → HaveRoom (n + grown) u) → (n : ℕ) → AreMovable n limit ps t
+    → AreMovable (n + grown) l qs u
 still_movable {limit} {l} {ps} {qs} {t} {u} grown el fixed inside room n m = record {
   inside = subst (λ (k : ℤ). AreInside k qs) (sym el) inside;
   weights = weigh_same ps qs fixed m.weights;
@@ -177,11 +202,13 @@ more_movable m le h = record { inside = h.inside; weights = h.weights; room = ro
 -- ---- numbers of a world under way
 
 pub particles_few : (w : World) → Formed (parts_of w) → length w.particles ≤ 65536
-particles_few w f = leb-true (length w.particles) 65536 (and_parts (nat_le (length w.particles) 65536) (list_all (is_valid_particle w.limit) w.particles) f.particles).0
+particles_few w f = leb-true (length w.particles) 65536 (and_parts (nat_le (length w.particles) 65536)
+    (list_all (is_valid_particle w.limit) w.particles) f.particles).0
 
 pub thickness_of : (w : World) → Formed (parts_of w) → IsTrue (is_between (pos 0) (pos 1048576) w.thickness)
 thickness_of w f =
-    let p3 = and_parts (nat_le w.passes 64 && is_between (pos 0) (pos 1024) w.damping && is_between (pos 0) (pos 1048576) w.thickness) (is_between (pos 0) (pos 256) w.friction) f.numbers in
+    let p3 = and_parts (nat_le w.passes 64 && is_between (pos 0) (pos 1024) w.damping && is_between (pos 0) (pos 1048576) w.thickness)
+    (is_between (pos 0) (pos 256) w.friction) f.numbers in
     (and_parts (nat_le w.passes 64 && is_between (pos 0) (pos 1024) w.damping) (is_between (pos 0) (pos 1048576) w.thickness) p3.0).1
 
 pub thickness_kept : (t : ℤ) → IsTrue (is_between (pos 0) (pos 1048576) t) → to_z w64 (of_z w64 t) ≡ t

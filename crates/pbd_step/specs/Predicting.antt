@@ -1,5 +1,6 @@
 -- The start of a step, from one particle on.
-use Rattle.std.specs.Prelude.{◌≡◌, ℕ, zero, suc, ◌≤◌, ◌^◌, ℤ, pos, ◌+ℤ◌, ◌-ℤ◌, ◌*ℤ◌, ◌≤ℤ◌, unsigned_abs, Bool, if◌then◌else◌, List, [], ◌++◌, take, drop, map, fold, Some, Result, Ok}
+use Rattle.std.specs.Prelude.{◌≡◌, ℕ, zero, suc, ◌≤◌, ◌^◌, ℤ, pos, ◌+ℤ◌, ◌-ℤ◌, ◌*ℤ◌, ◌≤ℤ◌, unsigned_abs, Bool, if◌then◌else◌, List, []}
+use Rattle.std.specs.Prelude.{◌++◌, take, drop, map, fold, Some, Result, Ok}
 use Rattle.pbd_num.specs.declared.Vec3.{Vec3}
 use Rattle.pbd_num.specs.Rounding.{rdiv}
 use Rattle.pbd_world.specs.declared.parts.Particle.{Particle}
@@ -8,7 +9,7 @@ use Rattle.pbd_world.specs.Outcomes.{◌>>=◌, each_from}
 use Rattle.pbd_world.specs.Particles.{Motion, Moved}
 use Rattle.pbd_world.specs.Step.{predicted}
 use Rattle.pbd_world.specs.World.{World}
-use Rattle.pbd_step.specs.declared.flight.Pull.{Pull}
+use Rattle.pbd_step.specs.declared.flight.AxisForces.{AxisForces}
 use Rattle.pbd_step.specs.declared.state.Setting.{Setting}
 
 -- the world without its tracks, where held particles stay
@@ -56,7 +57,7 @@ predicted_from w n m = each_from n (predicted w) (drop n m.particles) >>= λ ms.
 -- ---- many particles at once, axis by axis
 
 -- what acts along an axis is as small as in worlds
-pub record IsSmall (pull : Pull) : Type 0 where
+pub record IsSmall (pull : AxisForces) : Type 0 where
   pub low : pos 0 ≤ℤ pull.limit
   pub high : unsigned_abs pull.limit ≤ 2 ^ 29
   pub damping : unsigned_abs pull.damping ≤ 1024

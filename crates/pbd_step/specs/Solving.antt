@@ -6,7 +6,7 @@ use Rattle.pbd_world.specs.Step.{step}
 use Rattle.pbd_colour.specs.Pairs.{Coloured}
 use Rattle.pbd_step.specs.declared.state.Setting.{Setting}
 use Rattle.pbd_step.specs.declared.state.State.{State}
-use Rattle.pbd_step.specs.declared.state.Tools.{Tools}
+use Rattle.pbd_step.specs.declared.state.Scratch.{Scratch}
 use Rattle.pbd_step.specs.States.{world_of, HasLinks, HaveSpace}
 
 -- a world, the projector that its steps go through, and how often the stores of its two states were taken over as a whole
@@ -34,9 +34,9 @@ pub record AreAlike {l : ℕ} (s t : State l) : Type 0 where
   pub limit : s.store.limit ≡ t.store.limit
   pub links : length s.links.items ≡ length t.links.items
 
--- the world is sound, its links are coloured, and the tools and the second state have room for it
-pub record IsKept {l : ℕ} (setting : Setting) (state kept : State l) (colours : Coloured) (tools : Tools) : Type 0 where
+-- the world is sound, its links are coloured, and the scratch and the second state have room for it
+pub record IsKept {l : ℕ} (setting : Setting) (state kept : State l) (colours : Coloured) (scratch : Scratch) : Type 0 where
   pub sound : IsSound (world_of setting state)
   pub links : HasLinks (length state.store.particles) state.links.items colours
-  pub space : HaveSpace (length state.store.particles) (length state.links.items) tools
+  pub space : HaveSpace (length state.store.particles) (length state.links.items) scratch
   pub alike : AreAlike kept state

@@ -10,7 +10,7 @@ use Rattle.pbd_colour.specs.Pairs.{Coloured}
 use Rattle.pbd_store.specs.Moving.{motion_of}
 use Rattle.pbd_step.specs.declared.state.Setting.{Setting}
 use Rattle.pbd_step.specs.declared.state.State.{State}
-use Rattle.pbd_step.specs.declared.state.Tools.{Tools}
+use Rattle.pbd_step.specs.declared.state.Scratch.{Scratch}
 
 -- the world of a setting and a state
 abbrev pub world_of : {l : ℕ} → Setting → State l → World
@@ -43,12 +43,12 @@ pub record HasLinks (n : ℕ) (links : List Link) (colours : Coloured) : Type 0 
   pub live : colours.live ≡ live_flags links
   pub room : length links ≤ colours.room
 
--- the tools have room for what a step of n particles and m links leaves in them
-pub record HaveSpace (n m : ℕ) (tools : Tools) : Type 0 where
-  pub found : tools.found.particles ≡ n
-  pub touched : length tools.touched ≡ n
-  pub pairs : m ≤ tools.pairs.room
-  pub numbers : m ≤ tools.numbers.room
+-- the scratch have room for what a step of n particles and m links leaves in them
+pub record HaveSpace (n m : ℕ) (scratch : Scratch) : Type 0 where
+  pub found : scratch.found.particles ≡ n
+  pub touched : length scratch.touched ≡ n
+  pub pairs : m ≤ scratch.pairs.room
+  pub numbers : m ≤ scratch.numbers.room
 
 -- a world in the middle of a step: places are inside, weights and all that no step changes are in their ranges, and totals have
 -- grown no further than to `bound`

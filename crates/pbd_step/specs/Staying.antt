@@ -14,22 +14,22 @@ use Rattle.pbd_step.specs.Projecting.{AreMovable}
 use Rattle.pbd_step.specs.States.{world_of, now_of, HasLinks, HaveSpace, IsUnderWay}
 use Rattle.pbd_step.specs.Solving.{AreAlike}
 
--- a step may begin: the world is sound, its links are coloured, and the tools have room
+-- a step may begin: the world is sound, its links are coloured, and the scratch have room
 pub record IsReady {l : ℕ} {P : Type 0} (setting : Setting) (run : Running l P) : Type 0 where
   pub sound : IsSound (world_of setting run.state)
   pub links : HasLinks (length run.state.store.particles) run.state.links.items run.colours
-  pub space : HaveSpace (length run.state.store.particles) (length run.state.links.items) run.tools
+  pub space : HaveSpace (length run.state.store.particles) (length run.state.links.items) run.scratch
 
--- a step goes on: it may still be counted, its world is under way, the links are coloured, and the tools have room
+-- a step goes on: it may still be counted, its world is under way, the links are coloured, and the scratch have room
 pub record IsGoing {l : ℕ} {P : Type 0} (bound : ℕ) (setting : Setting) (run : Running l P) : Type 0 where
   pub count : run.state.steps < 2 ^ 63
   pub under_way : IsUnderWay bound (world_of setting run.state)
   pub links : HasLinks (length run.state.store.particles) run.state.links.items run.colours
-  pub space : HaveSpace (length run.state.store.particles) (length run.state.links.items) run.tools
+  pub space : HaveSpace (length run.state.store.particles) (length run.state.links.items) run.scratch
 
 -- the particles and totals, and what the shapes have touched
 abbrev pub passing_of : {l : ℕ} {P : Type 0} → Running l P → Passing
-passing_of run = record { motion = now_of run.state; touched = run.tools.touched }
+passing_of run = record { motion = now_of run.state; touched = run.scratch.touched }
 
 -- of a state the places and the totals alone were changed, and no store was taken over
 pub record IsMoved {l : ℕ} (old new : State l) : Type 0 where
@@ -44,30 +44,30 @@ pub record StaysInPass {l : ℕ} {P : Type 0} (count : P → ℕ) (lanes : P →
   pub moved : IsMoved old.state new.state
   pub fixed : fixed_parts new.state.store.particles ≡ fixed_parts old.state.store.particles
   pub colours : new.colours ≡ old.colours
-  pub tools : new.tools ≡ record old.tools { touched = new.tools.touched }
-  pub flags : length new.tools.touched ≡ length old.tools.touched
+  pub scratch : new.scratch ≡ record old.scratch { touched = new.scratch.touched }
+  pub flags : length new.scratch.touched ≡ length old.scratch.touched
   pub not_fallen : count old.projector ≤ count new.projector
   pub width : lanes new.projector ≡ lanes old.projector
 
 -- a part of a pass projects the bonds of some numbers one after another, or the first that would leave the limit is told; it
--- leaves the tools, and the totals grow by no more than 2^60
+-- leaves the scratch, and the totals grow by no more than 2^60
 pub record ProjectsInPass {l : ℕ} {P : Type 0} (count lanes : P → ℕ) (r : Result (Unit {0}) Left) (bond : ℕ → Bond)
     (numbers : List ℕ) (old new : Running l P) : Type 0 where
   pub outcome : MatchResult r
       (λ _. projected old.state.store.limit bond numbers (now_of old.state) ≡ Ok (now_of new.state))
       (λ left. projected old.state.store.limit bond numbers (now_of old.state) ≡ Err left.element)
   pub stays : StaysInPass count lanes old new
-  pub tools : new.tools ≡ old.tools
+  pub scratch : new.scratch ≡ old.scratch
   pub movable : OnOk r
       ((n : ℕ) → AreMovable n old.state.store.limit old.state.store.particles (ledger_of old.state.totals)
       → AreMovable (n + 2 ^ 60) new.state.store.limit new.state.store.particles (ledger_of new.state.totals))
 
 -- a part of a step leaves the limit, how many particles and links there are, how often the store was taken over, the coloured
--- pairs, the room of the tools and the projector's width
+-- pairs, the room of the scratch and the projector's width
 pub record StaysInStep {l : ℕ} {P : Type 0} (count : P → ℕ) (lanes : P → ℕ) (old new : Running l P) : Type 0 where
   pub alike : AreAlike new.state old.state
   pub copies : new.state.store.copies ≡ old.state.store.copies
   pub pairs : new.colours ≡ record old.colours { live = new.colours.live }
-  pub space : (n m : ℕ) → HaveSpace n m old.tools → HaveSpace n m new.tools
+  pub space : (n m : ℕ) → HaveSpace n m old.scratch → HaveSpace n m new.scratch
   pub not_fallen : count old.projector ≤ count new.projector
   pub width : lanes new.projector ≡ lanes old.projector

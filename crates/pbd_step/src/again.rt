@@ -6,7 +6,7 @@ ghost use Rattle.pbd_step.specs.declared.state.Setting.{Setting};
 ghost use Rattle.pbd_step.specs.States.{world_of, HasLinks, HaveSpace};
 ghost use Rattle.pbd_step.specs.Solving.{AreAlike};
 
-use crate::state::{State, Tools};
+use crate::state::{Scratch, State};
 use pbd_colour::Colouring;
 use pbd_tear::{gone as gone_links, gone_links_are_dead};
 use pbd_world::{Link, RoomList};
@@ -79,19 +79,19 @@ fn are_live_by(flags: &[bool], links: &[Link]) -> bool
 
 /// Gives the colouring of links the live ones of these, which join the same pairs. The colours are made anew only where another
 /// link is live.
-fn recolour(links: &[Link], colours: &mut Colouring, tools: &mut Tools)
+fn recolour(links: &[Link], colours: &mut Colouring, scratch: &mut Scratch)
     requires few { length links.now ≤ 524288 }
     requires in_range { InRange colours.old.particles (link_pairs links.now) }
     requires pairs { colours.old.pairs ≡ link_pairs links.now }
     requires room { length links.now ≤ colours.old.room }
-    requires space { HaveSpace colours.old.particles (length links.now) tools.old }
+    requires space { HaveSpace colours.old.particles (length links.now) scratch.old }
     ensures links { HasLinks colours.old.particles links.now colours.new }
-    ensures space { HaveSpace colours.old.particles (length links.now) tools.new }
+    ensures space { HaveSpace colours.old.particles (length links.now) scratch.new }
 {
     if are_live_by(colours.live(), links) {
         return;
     }
-    colour_again(links, colours, &mut tools.pairs, &mut tools.numbers);
+    colour_again(links, colours, &mut scratch.pairs, &mut scratch.numbers);
 }
 
 /// Makes a state that of another one, with the colours of its links.
@@ -99,7 +99,7 @@ pub(crate) fn restore<const L: usize>(
     state: &mut State<L>,
     other: &State<L>,
     colours: &mut Colouring,
-    tools: &mut Tools,
+    scratch: &mut Scratch,
 )
     requires lanes { L ≤ 16 }
     requires alike { AreAlike state.old other.now }
@@ -108,17 +108,17 @@ pub(crate) fn restore<const L: usize>(
     requires particles { colours.old.particles ≡ length other.now.store.particles }
     requires pairs { colours.old.pairs ≡ link_pairs other.now.links.items }
     requires room { length other.now.links.items ≤ colours.old.room }
-    requires space { HaveSpace (length other.now.store.particles) (length other.now.links.items) tools.old }
+    requires space { HaveSpace (length other.now.store.particles) (length other.now.links.items) scratch.old }
     ensures world { (setting : Setting) → world_of setting state.new ≡ world_of setting other.now }
     ensures particles { state.new.store.particles ≡ other.now.store.particles }
     ensures limit { state.new.store.limit ≡ other.now.store.limit }
     ensures copies { state.new.store.copies ≡ min (state.old.store.copies + 1) (2 ^ 64 - 1) }
     ensures same_links { state.new.links.items ≡ other.now.links.items }
     ensures links { HasLinks (length other.now.store.particles) other.now.links.items colours.new }
-    ensures space { HaveSpace (length other.now.store.particles) (length other.now.links.items) tools.new }
+    ensures space { HaveSpace (length other.now.store.particles) (length other.now.links.items) scratch.new }
 {
     take_over(state, other);
-    recolour(&state.links, colours, tools);
+    recolour(&state.links, colours, scratch);
 }
 
 /// The colours of links that are all between so many particles.
@@ -126,16 +126,21 @@ pub(crate) fn open_colours(
     alloc: Global,
     particles: u32,
     links: &[Link],
-    tools: &mut Tools,
+    scratch: &mut Scratch,
 ) -> Result<Colouring, AllocError>
     requires particles { particles ≤ 65536 }
     requires few { length links.now ≤ 524288 }
     requires in_range { InRange particles (link_pairs links.now) }
-    requires space { HaveSpace particles (length links.now) tools.old }
+    requires space { HaveSpace particles (length links.now) scratch.old }
     ensures links { IfOk result (HasLinks particles links.now) }
-    ensures space { HaveSpace particles (length links.now) tools.new }
+    ensures space { HaveSpace particles (length links.now) scratch.new }
 {
     let mut colours = Colouring::open(alloc, particles, links.len() as u32)?;
-    colour_again(links, &mut colours, &mut tools.pairs, &mut tools.numbers);
+    colour_again(
+        links,
+        &mut colours,
+        &mut scratch.pairs,
+        &mut scratch.numbers,
+    );
     Ok(colours)
 }

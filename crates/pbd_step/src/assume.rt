@@ -95,7 +95,7 @@ impl<const L: usize, P: Projector<L> + Drop> Solver<L, P> {
             &mut self.run.state,
             &self.kept,
             &mut self.run.colours,
-            &mut self.run.tools,
+            &mut self.run.scratch,
         );
         Ok(())
     }

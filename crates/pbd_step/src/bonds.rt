@@ -14,7 +14,7 @@ use std::sync::ledger::Ledger;
 
 /// Bonds, and the colouring of their pairs.
 #[derive(Drop)]
-pub(crate) struct Coloured<'a> {
+pub(crate) struct BondList<'a> {
     pub(crate) bonds: Bonds<'a>,
     pub(crate) colours: &'a Colouring,
 }
@@ -57,7 +57,7 @@ fn project_batch<const L: usize, P: Projector<L>, G: Ledger>(
 fn project_colours<const L: usize, P: Projector<L>, G: Ledger>(
     projector: &mut P,
     store: &mut Store<L>,
-    list: &Coloured<'_>,
+    list: &BondList<'_>,
     totals: &mut Totals,
     steps: &mut Steps<G>,
 ) -> Result<(), Left>
@@ -91,7 +91,7 @@ fn project_colours<const L: usize, P: Projector<L>, G: Ledger>(
 fn project_serial<const L: usize, P: Projector<L>, G: Ledger>(
     projector: &mut P,
     store: &mut Store<L>,
-    list: &Coloured<'_>,
+    list: &BondList<'_>,
     totals: &mut Totals,
     steps: &mut Steps<G>,
 ) -> Result<(), Left>
@@ -126,7 +126,7 @@ fn project_serial<const L: usize, P: Projector<L>, G: Ledger>(
 pub(crate) fn project_all<const L: usize, P: Projector<L>, G: Ledger>(
     projector: &mut P,
     store: &mut Store<L>,
-    list: &Coloured<'_>,
+    list: &BondList<'_>,
     totals: &mut Totals,
     steps: &mut Steps<G>,
 ) -> Result<(), Left>

@@ -23,19 +23,19 @@ pub(crate) fn find<const L: usize, P: Projector<L> + Drop, G: Ledger>(
     requires lanes_high { L ≤ 16 }
     requires going { IsGoing (2 ^ 118) setting.now run.old }
     ensures found { OnOk result
-        (run.new.tools.found.pairs ≡ contacts_of setting.now.thickness run.old.state.links.items run.old.state.store.particles) }
+        (run.new.scratch.found.pairs ≡ contacts_of setting.now.thickness run.old.state.links.items run.old.state.store.particles) }
     ensures few { OnOk result
         (length (contacts_of setting.now.thickness run.old.state.links.items run.old.state.store.particles) ≤ 262144) }
     ensures full { MatchResult result (λ _. ⊤)
         (λ refusal. (262144 < length (contacts_of setting.now.thickness run.old.state.links.items run.old.state.store.particles))
         × (refusal ≡ refusals.TooManyContacts (run.old.state.steps + 1))) }
-    ensures particles { run.new.tools.found.particles ≡ run.old.tools.found.particles }
-    ensures stays { run.new ≡ record run.old { tools = record run.old.tools { found = run.new.tools.found } } }
+    ensures particles { run.new.scratch.found.particles ≡ run.old.scratch.found.particles }
+    ensures stays { run.new ≡ record run.old { scratch = record run.old.scratch { found = run.new.scratch.found } } }
     ensures cost { steps.new ≤ steps.old + finding_work (world_of setting.now run.old.state) }
 {
     touching_pairs_are_contacts();
     match run
-        .tools
+        .scratch
         .found
         .detect(&run.state.store, &run.colours, setting.thickness, steps)
     {

@@ -12,7 +12,7 @@ use pbd_store::{Block, Lanes3};
 
 /// What acts on particles: damping in 1/1,024, gravity, and the limit of places.
 #[derive(Clone, Copy)]
-pub(crate) struct Air {
+pub(crate) struct Forces {
     pub(crate) damping: i64,
     pub(crate) gravity: Vec3,
     pub(crate) limit: i64,
@@ -20,7 +20,7 @@ pub(crate) struct Air {
 
 // The same on one axis.
 #[derive(Clone, Copy)]
-struct Pull {
+struct AxisForces {
     damping: i64,
     gravity: i64,
     limit: i64,
@@ -166,7 +166,7 @@ fn with_reaches(reached: u64, n: i64, limit: i64) -> u64
 
 // One axis of L particles, of which some fly and the others stay.
 fn fly_axis<const L: usize>(
-    pull: Pull,
+    pull: AxisForces,
     flies: &[bool; L],
     at: &[i64; L],
     before: &[i64; L],
@@ -226,56 +226,56 @@ pub(crate) fn flying<const L: usize>(held: &[bool; L], filled: &[bool; L]) -> [b
 }
 
 // What acts along one axis.
-fn pull_along(air: Air, gravity: i64) -> Pull
-    requires low { pos 0 ≤ℤ air.limit }
-    requires high { unsigned_abs air.limit ≤ 2 ^ 29 }
-    requires damping { unsigned_abs air.damping ≤ 1024 }
+fn pull_along(forces: Forces, gravity: i64) -> AxisForces
+    requires low { pos 0 ≤ℤ forces.limit }
+    requires high { unsigned_abs forces.limit ≤ 2 ^ 29 }
+    requires damping { unsigned_abs forces.damping ≤ 1024 }
     requires gravity { unsigned_abs gravity ≤ 2 ^ 29 }
-    ensures value { result ≡ record { damping = air.damping; gravity = gravity; limit = air.limit } }
+    ensures value { result ≡ record { damping = forces.damping; gravity = gravity; limit = forces.limit } }
     ensures small { IsSmall result }
 {
-    Pull {
-        damping: air.damping,
+    AxisForces {
+        damping: forces.damping,
         gravity,
-        limit: air.limit,
+        limit: forces.limit,
     }
 }
 
 /// Where the particles of a block come to, of which some fly and the others stay, with the sums of what is to be booked.
-pub(crate) fn fly<const L: usize>(air: Air, flies: &[bool; L], lanes: &Block<L>) -> Flown<L>
+pub(crate) fn fly<const L: usize>(forces: Forces, flies: &[bool; L], lanes: &Block<L>) -> Flown<L>
     requires lanes { L ≤ 16 }
-    requires low { pos 0 ≤ℤ air.limit }
-    requires high { unsigned_abs air.limit ≤ 2 ^ 29 }
-    requires damping { unsigned_abs air.damping ≤ 1024 }
-    requires gravity { Within (2 ^ 29) air.gravity }
+    requires low { pos 0 ≤ℤ forces.limit }
+    requires high { unsigned_abs forces.limit ≤ 2 ^ 29 }
+    requires damping { unsigned_abs forces.damping ≤ 1024 }
+    requires gravity { Within (2 ^ 29) forces.gravity }
     requires at { (j : ℕ) → j < L → Within (2 ^ 29) (place_of lanes.now.at.x lanes.now.at.y lanes.now.at.z j) }
     requires before { (j : ℕ) → j < L → Within (2 ^ 29) (place_of lanes.now.before.x lanes.now.before.y lanes.now.before.z j) }
     ensures to { (j : ℕ) → j < L → place_of result.to.x result.to.y result.to.z j
-        ≡ places_at air.damping air.gravity (is_set flies.now j) (place_of lanes.now.at.x lanes.now.at.y lanes.now.at.z j)
+        ≡ places_at forces.damping forces.gravity (is_set flies.now j) (place_of lanes.now.at.x lanes.now.at.y lanes.now.at.z j)
         (place_of lanes.now.before.x lanes.now.before.y lanes.now.before.z j) }
-    ensures pulled { result.pulled ≡ sums_below (λ j. pulls_at air.gravity (is_set flies.now j)) L }
-    ensures lost { result.lost ≡ sums_below (λ j. losses_at air.damping (is_set flies.now j)
+    ensures pulled { result.pulled ≡ sums_below (λ j. pulls_at forces.gravity (is_set flies.now j)) L }
+    ensures lost { result.lost ≡ sums_below (λ j. losses_at forces.damping (is_set flies.now j)
         (place_of lanes.now.at.x lanes.now.at.y lanes.now.at.z j)
         (place_of lanes.now.before.x lanes.now.before.y lanes.now.before.z j)) L }
     ensures pulled_size { Within (2 ^ 34) result.pulled }
     ensures lost_size { Within (2 ^ 34) result.lost }
     ensures within { result.within ≡ true → (j : ℕ) → j < L
-        → Within (unsigned_abs air.limit) (place_of result.to.x result.to.y result.to.z j) }
+        → Within (unsigned_abs forces.limit) (place_of result.to.x result.to.y result.to.z j) }
 {
     let x = fly_axis(
-        pull_along(air, air.gravity.x),
+        pull_along(forces, forces.gravity.x),
         flies,
         &lanes.at.x.to_array(),
         &lanes.before.x.to_array(),
     );
     let y = fly_axis(
-        pull_along(air, air.gravity.y),
+        pull_along(forces, forces.gravity.y),
         flies,
         &lanes.at.y.to_array(),
         &lanes.before.y.to_array(),
     );
     let z = fly_axis(
-        pull_along(air, air.gravity.z),
+        pull_along(forces, forces.gravity.z),
         flies,
         &lanes.at.z.to_array(),
         &lanes.before.z.to_array(),

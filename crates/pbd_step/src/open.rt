@@ -5,7 +5,7 @@ ghost use Rattle.pbd_step.specs.Opening.{AreCopied, IsFirst};
 ghost use Rattle.pbd_step.specs.States.{HasLinks, HaveSpace};
 
 use crate::again::open_colours;
-use crate::state::{Running, Setting, State, Tools};
+use crate::state::{Running, Scratch, Setting, State};
 use pbd_colour::Colouring;
 use pbd_ledger::momentum_of;
 use pbd_pair::Projector;
@@ -118,18 +118,18 @@ fn open_lists(
     }
 }
 
-// Tools of these contacts and flags, with room for so many links.
+// Scratch of these contacts and flags, with room for so many links.
 fn with_room(
     alloc: Global,
     found: SelfContacts,
     touched: Touched,
     links: u32,
-) -> Result<Tools, AllocError>
+) -> Result<Scratch, AllocError>
     requires { length touched ≡ found.particles }
     ensures { IfOk result (HaveSpace found.particles links) }
 {
     match open_lists(alloc, links) {
-        Ok((pairs, numbers)) => Ok(Tools {
+        Ok((pairs, numbers)) => Ok(Scratch {
             found,
             touched,
             pairs,
@@ -144,7 +144,7 @@ fn with_room(
 }
 
 /// Room for what a step works with.
-fn open_tools(alloc: Global, particles: u32, links: u32) -> Result<Tools, AllocError>
+fn open_tools(alloc: Global, particles: u32, links: u32) -> Result<Scratch, AllocError>
     requires particles { particles ≤ 65536 }
     requires links { links ≤ 524288 }
     ensures { IfOk result (HaveSpace particles links) }
@@ -160,17 +160,17 @@ fn open_tools(alloc: Global, particles: u32, links: u32) -> Result<Tools, AllocE
 }
 
 /// The colours of the links, and room for what a step works with.
-fn open_coloured(alloc: Global, parts: &Parts) -> Result<(Tools, Colouring), AllocError>
+fn open_coloured(alloc: Global, parts: &Parts) -> Result<(Scratch, Colouring), AllocError>
     requires { IsTrue (is_valid parts.now) }
     ensures links { IfOk result (λ both. HasLinks (length parts.now.particles) parts.now.links both.1) }
     ensures space { IfOk result (λ both. HaveSpace (length parts.now.particles) (length parts.now.links) both.0) }
 {
     let particles = parts.particles.len() as u32;
-    let mut tools = open_tools(alloc, particles, parts.links.len() as u32)?;
-    match open_colours(alloc, particles, parts.links.as_slice(), &mut tools) {
-        Ok(colours) => Ok((tools, colours)),
+    let mut scratch = open_tools(alloc, particles, parts.links.len() as u32)?;
+    match open_colours(alloc, particles, parts.links.as_slice(), &mut scratch) {
+        Ok(colours) => Ok((scratch, colours)),
         Err(AllocError) => {
-            drop(tools);
+            drop(scratch);
             Err(AllocError)
         }
     }
@@ -186,20 +186,20 @@ pub(crate) fn open_running<const L: usize, P: Projector<L> + Drop>(
     requires valid { IsTrue (is_valid parts.now) }
     ensures state { IfOk result (λ run. IsFirst parts.now run.state) }
     ensures links { IfOk result (λ run. HasLinks (length parts.now.particles) parts.now.links run.colours) }
-    ensures space { IfOk result (λ run. HaveSpace (length parts.now.particles) (length parts.now.links) run.tools) }
+    ensures space { IfOk result (λ run. HaveSpace (length parts.now.particles) (length parts.now.links) run.scratch) }
     ensures projector { IfOk result (λ run. run.projector ≡ projector) }
 {
     match open_coloured(alloc, parts) {
-        Ok((tools, colours)) => match open_state(alloc, parts) {
+        Ok((scratch, colours)) => match open_state(alloc, parts) {
             Ok(state) => Ok(Running {
                 state,
                 colours,
-                tools,
+                scratch,
                 projector,
             }),
             Err(AllocError) => {
                 drop(colours);
-                drop(tools);
+                drop(scratch);
                 drop(projector);
                 Err(AllocError)
             }

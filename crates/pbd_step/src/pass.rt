@@ -11,7 +11,7 @@ ghost use Rattle.pbd_step.specs.Projecting.{AreMovable};
 ghost use Rattle.pbd_step.specs.States.{world_of, HasLinks, IsUnderWay};
 ghost use Rattle.pbd_step.specs.Staying.{IsGoing, ProjectsInPass, StaysInPass, passing_of};
 
-use crate::bonds::{Coloured, counts, project_all};
+use crate::bonds::{BondList, counts, project_all};
 use crate::leaving::leaving;
 use crate::state::{Running, Setting};
 use pbd_pair::{Bonds, Projector};
@@ -36,7 +36,7 @@ fn project_links<const L: usize, P: Projector<L> + Drop, G: Ledger>(
         (P.count run.new.projector ≡ min (P.count run.old.projector + live_count run.old.state.links.items) (2 ^ 64 - 1)) }
     ensures cost { steps.new ≤ steps.old + links_work (P.width run.old.projector) run.old.state.links.items }
 {
-    let list = Coloured {
+    let list = BondList {
         bonds: Bonds::Links(&run.state.links),
         colours: &run.colours,
     };
@@ -59,17 +59,17 @@ fn project_contacts<const L: usize, P: Projector<L> + Drop, G: Ledger>(
     requires lanes_high { L ≤ 16 }
     requires limit { IsTrue (is_limit run.old.state.store.limit) }
     requires thickness { IsTrue (is_between (pos 0) (pos 1048576) thickness) }
-    requires found { run.old.tools.found.particles ≡ length run.old.state.store.particles }
+    requires found { run.old.scratch.found.particles ≡ length run.old.state.store.particles }
     requires movable { AreMovable (2 ^ 119) run.old.state.store.limit run.old.state.store.particles (ledger_of run.old.state.totals) }
-    ensures done { ProjectsInPass P.count P.width result (contact_bond thickness run.old.tools.found.pairs)
-        (contact_order run.old.tools.found.pairs) run.old run.new }
+    ensures done { ProjectsInPass P.count P.width result (contact_bond thickness run.old.scratch.found.pairs)
+        (contact_order run.old.scratch.found.pairs) run.old run.new }
     ensures handed { OnOk result
-        (P.count run.new.projector ≡ min (P.count run.old.projector + length run.old.tools.found.pairs) (2 ^ 64 - 1)) }
-    ensures cost { steps.new ≤ steps.old + contacts_work (P.width run.old.projector) run.old.tools.found.pairs }
+        (P.count run.new.projector ≡ min (P.count run.old.projector + length run.old.scratch.found.pairs) (2 ^ 64 - 1)) }
+    ensures cost { steps.new ≤ steps.old + contacts_work (P.width run.old.projector) run.old.scratch.found.pairs }
 {
     let projector = &mut run.projector;
-    let found = &run.tools.found;
-    let list = Coloured {
+    let found = &run.scratch.found;
+    let list = BondList {
         bonds: Bonds::Contacts {
             pairs: found.pairs(),
             thickness,
@@ -95,16 +95,16 @@ fn project_once<const L: usize, P: Projector<L> + Drop, G: Ledger>(
     requires lanes_high { L ≤ 16 }
     requires going { IsGoing (2 ^ 118) setting.now run.old }
     ensures outcome { MatchResult result
-        (λ _. passed (world_of setting.now run.old.state) run.old.tools.found.pairs (passing_of run.old) ≡ Ok (passing_of run.new))
-        (λ refusal. passed (world_of setting.now run.old.state) run.old.tools.found.pairs (passing_of run.old) ≡ Err refusal) }
+        (λ _. passed (world_of setting.now run.old.state) run.old.scratch.found.pairs (passing_of run.old) ≡ Ok (passing_of run.new))
+        (λ refusal. passed (world_of setting.now run.old.state) run.old.scratch.found.pairs (passing_of run.old) ≡ Err refusal) }
     ensures stays { StaysInPass P.count P.width run.old run.new }
     ensures under_way { OnOk result
         ((n : ℕ) → IsUnderWay n (world_of setting.now run.old.state) → IsUnderWay (n + 2 ^ 62) (world_of setting.now run.new.state)) }
     ensures handed { OnOk result
         (P.count run.new.projector
-        ≡ min (P.count run.old.projector + (live_count run.old.state.links.items + length run.old.tools.found.pairs)) (2 ^ 64 - 1)) }
+        ≡ min (P.count run.old.projector + (live_count run.old.state.links.items + length run.old.scratch.found.pairs)) (2 ^ 64 - 1)) }
     ensures cost { steps.new
-        ≤ steps.old + pass_work L (P.width run.old.projector) (world_of setting.now run.old.state) run.old.tools.found.pairs }
+        ≤ steps.old + pass_work L (P.width run.old.projector) (world_of setting.now run.old.state) run.old.scratch.found.pairs }
 {
     let taken = run.state.steps;
     if let Err(left) = project_links(run, steps) {
@@ -117,7 +117,7 @@ fn project_once<const L: usize, P: Projector<L> + Drop, G: Ledger>(
         &mut run.state.store,
         setting.planes.as_slice(),
         setting.spheres.as_slice(),
-        &mut run.tools.touched,
+        &mut run.scratch.touched,
         &mut run.state.totals,
         steps,
     ) {
@@ -137,18 +137,18 @@ pub(crate) fn project_in_passes<const L: usize, P: Projector<L> + Drop, G: Ledge
     requires lanes_high { L ≤ 16 }
     requires going { IsGoing (2 ^ 100) setting.now run.old }
     ensures outcome { MatchResult result
-        (λ _. repeated setting.now.passes (passed (world_of setting.now run.old.state) run.old.tools.found.pairs) (passing_of run.old)
+        (λ _. repeated setting.now.passes (passed (world_of setting.now run.old.state) run.old.scratch.found.pairs) (passing_of run.old)
         ≡ Ok (passing_of run.new))
-        (λ refusal. repeated setting.now.passes (passed (world_of setting.now run.old.state) run.old.tools.found.pairs)
+        (λ refusal. repeated setting.now.passes (passed (world_of setting.now run.old.state) run.old.scratch.found.pairs)
         (passing_of run.old) ≡ Err refusal) }
     ensures stays { StaysInPass P.count P.width run.old run.new }
     ensures under_way { OnOk result (IsUnderWay (2 ^ 101) (world_of setting.now run.new.state)) }
     ensures handed { OnOk result
         (P.count run.new.projector
-        ≡ min (P.count run.old.projector + setting.now.passes * (live_count run.old.state.links.items + length run.old.tools.found.pairs))
+        ≡ min (P.count run.old.projector + setting.now.passes * (live_count run.old.state.links.items + length run.old.scratch.found.pairs))
         (2 ^ 64 - 1)) }
     ensures cost { steps.new ≤ steps.old
-        + setting.now.passes * pass_work L (P.width run.old.projector) (world_of setting.now run.old.state) run.old.tools.found.pairs }
+        + setting.now.passes * pass_work L (P.width run.old.projector) (world_of setting.now run.old.state) run.old.scratch.found.pairs }
 {
     counts(&run.projector);
     for _ in 0..setting.passes {

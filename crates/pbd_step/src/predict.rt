@@ -15,7 +15,7 @@ ghost use Rattle.pbd_step.specs.States.{world_of, now_of, IsUnderWay};
 ghost use Rattle.pbd_step.specs.Staying.{IsMoved};
 ghost use Rattle.pbd_step.specs.Predicting.{unled, bare_world, predicted_from, Advanced};
 
-use crate::flight::{Air, fly, flying};
+use crate::flight::{Forces, fly, flying};
 use crate::state::{Setting, State};
 use pbd_num::{Vec3, within};
 use pbd_store::{Block, Lanes3, Steps, Store};
@@ -99,7 +99,7 @@ fn advance(setting: &Setting, limit: i64, flight: Flight, totals: &mut Totals) -
 }
 
 // Where the particles of a block come to, lane by lane. `Left` has the first that would leave the limit.
-fn advance_lanes<const L: usize>(
+fn advance_one_by_one<const L: usize>(
     setting: &Setting,
     store: &Store<L>,
     block: u32,
@@ -189,13 +189,13 @@ fn advance_block<const L: usize, G: Ledger>(
     ensures cost { steps.new ≤ steps.old + 2 }
 {
     let mut lanes = state.store.load(block, steps);
-    let air = Air {
+    let forces = Forces {
         damping: setting.damping,
         gravity: setting.gravity,
         limit: state.store.limit(),
     };
     let flies = flying(&lanes.held.to_array(), &lanes.filled.to_array());
-    let flown = fly(air, &flies, &lanes);
+    let flown = fly(forces, &flies, &lanes);
     if flown.within {
         book_sums(&mut state.totals, flown.pulled, flown.lost);
         lanes.before = lanes.at;
@@ -204,7 +204,7 @@ fn advance_block<const L: usize, G: Ledger>(
         state.store.save(block, &lanes, &filled, steps);
         return Ok(());
     }
-    match advance_lanes(setting, &state.store, block, &lanes, &mut state.totals) {
+    match advance_one_by_one(setting, &state.store, block, &lanes, &mut state.totals) {
         Err(left) => Err(left),
         Ok(places) => {
             lanes.before = lanes.at;

@@ -51,30 +51,30 @@ pub(crate) fn rub_and_tear<const L: usize, P: Projector<L> + Drop, G: Ledger>(
     requires lanes_high { L ≤ 16 }
     requires going { IsGoing (2 ^ 102) setting.now run.old }
     ensures world { world_of setting.now run.new.state
-        ≡ settled (world_of setting.now run.old.state) run.old.tools.found.pairs (rubbed_motion setting.now.friction (passing_of run.old)) }
+        ≡ settled (world_of setting.now run.old.state) run.old.scratch.found.pairs (rubbed_motion setting.now.friction (passing_of run.old)) }
     ensures links { HasLinks (length run.old.state.store.particles) run.new.state.links.items run.new.colours }
     ensures stays { StaysInStep P.count P.width run.old run.new }
     ensures projector { run.new.projector ≡ run.old.projector }
     ensures cost { steps.new ≤ steps.old + settling_work L (world_of setting.now run.old.state) }
 {
-    let contacts = run.tools.found.count();
+    let contacts = run.scratch.found.count();
     rub(
         &mut run.state.store,
         setting.friction,
-        &run.tools.touched,
+        &run.scratch.touched,
         &mut run.state.totals,
         steps,
     );
     find_torn(
         &run.state.store,
         &run.state.links,
-        &mut run.tools.numbers,
+        &mut run.scratch.numbers,
         steps,
     );
     tear(
         &mut run.state.links,
         &mut run.colours,
-        run.tools.numbers.as_slice(),
+        run.scratch.numbers.as_slice(),
     );
     run.state.steps += 1;
     run.state.contacts = contacts;

@@ -92,7 +92,7 @@ impl<const L: usize, P: Projector<L> + Drop> Solver<L, P> {
             &mut self.run.state,
             &saved.state,
             &mut self.run.colours,
-            &mut self.run.tools,
+            &mut self.run.scratch,
         );
     }
 }

@@ -51,7 +51,7 @@ impl<const L: usize, P: Projector<L> + Drop> Model for Solver<L, P> {
 
     ghost use Rattle.pbd_step.specs.Solving.{IsKept};
 
-    ghost invariant = { λ s. IsKept s.setting s.run.state s.kept s.run.colours s.run.tools };
+    ghost invariant = { λ s. IsKept s.setting s.run.state s.kept s.run.colours s.run.scratch };
 }
 
 impl<const L: usize, P: Projector<L> + Drop> Solver<L, P> {
@@ -184,7 +184,7 @@ impl<const L: usize, P: Projector<L> + Drop> Solver<L, P> {
             &mut self.run.state,
             &other.run.state,
             &mut self.run.colours,
-            &mut self.run.tools,
+            &mut self.run.scratch,
         );
     }
 

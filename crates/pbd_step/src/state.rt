@@ -33,7 +33,7 @@ pub struct State<const L: usize> {
 
 /// What a step works with and leaves behind for the next one to overwrite.
 #[derive(Drop)]
-pub struct Tools {
+pub struct Scratch {
     pub(crate) found: SelfContacts,
     pub(crate) touched: Touched,
     pub(crate) pairs: RoomList<(u32, u32)>,
@@ -45,6 +45,6 @@ pub struct Tools {
 pub struct Running<const L: usize, P: Projector<L> + Drop> {
     pub(crate) state: State<L>,
     pub(crate) colours: Colouring,
-    pub(crate) tools: Tools,
+    pub(crate) scratch: Scratch,
     pub(crate) projector: P,
 }

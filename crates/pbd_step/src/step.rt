@@ -60,20 +60,20 @@ fn finish<const L: usize, P: Projector<L> + Drop, G: Ledger>(
     requires lanes_high { L ≤ 16 }
     requires going { IsGoing (2 ^ 100) setting.now run.old }
     ensures outcome { MatchResult result
-        (λ _. finished (world_of setting.now run.old.state) run.old.tools.found.pairs (now_of run.old.state)
+        (λ _. finished (world_of setting.now run.old.state) run.old.scratch.found.pairs (now_of run.old.state)
         ≡ Ok (world_of setting.now run.new.state))
-        (λ refusal. finished (world_of setting.now run.old.state) run.old.tools.found.pairs (now_of run.old.state) ≡ Err refusal) }
-    ensures contacts { OnOk result (run.new.state.contacts ≡ length run.old.tools.found.pairs) }
+        (λ refusal. finished (world_of setting.now run.old.state) run.old.scratch.found.pairs (now_of run.old.state) ≡ Err refusal) }
+    ensures contacts { OnOk result (run.new.state.contacts ≡ length run.old.scratch.found.pairs) }
     ensures links { OnOk result (HasLinks (length run.old.state.store.particles) run.new.state.links.items run.new.colours) }
     ensures stays { StaysInStep P.count P.width run.old run.new }
     ensures handed { OnOk result
         (P.count run.new.projector
-        ≡ min (P.count run.old.projector + setting.now.passes * (live_count run.old.state.links.items + length run.old.tools.found.pairs))
+        ≡ min (P.count run.old.projector + setting.now.passes * (live_count run.old.state.links.items + length run.old.scratch.found.pairs))
         (2 ^ 64 - 1)) }
     ensures cost { steps.new
-        ≤ steps.old + finishing_work L (P.width run.old.projector) (world_of setting.now run.old.state) run.old.tools.found.pairs }
+        ≤ steps.old + finishing_work L (P.width run.old.projector) (world_of setting.now run.old.state) run.old.scratch.found.pairs }
 {
-    run.tools.touched.clear();
+    run.scratch.touched.clear();
     if let Err(refusal) = project_in_passes(setting, run, steps) {
         return Err(refusal);
     }
@@ -152,11 +152,11 @@ pub(crate) fn run_whole<const L: usize, P: Projector<L> + Drop, G: Ledger>(
 ) -> Result<(), Refusal>
     requires lanes_low { 0 < L }
     requires lanes_high { L ≤ 16 }
-    requires kept { IsKept setting.now run.old.state kept.old run.old.colours run.old.tools }
+    requires kept { IsKept setting.now run.old.state kept.old run.old.colours run.old.scratch }
     requires count { run.old.state.steps + n ≤ 1000000 }
     ensures obeys { Obeys (λ w. w) result (steps_of n (world_of setting.now run.old.state))
         (world_of setting.now run.old.state) (world_of setting.now run.new.state) }
-    ensures kept { IsKept setting.now run.new.state kept.new run.new.colours run.new.tools }
+    ensures kept { IsKept setting.now run.new.state kept.new run.new.colours run.new.scratch }
     ensures copies { MatchResult result
         (λ _. run.new.state.store.copies + kept.new.store.copies ≤ run.old.state.store.copies + kept.old.store.copies + 1)
         (λ _. run.new.state.store.copies + kept.new.store.copies ≤ run.old.state.store.copies + kept.old.store.copies + 2) }
@@ -168,7 +168,7 @@ pub(crate) fn run_whole<const L: usize, P: Projector<L> + Drop, G: Ledger>(
 {
     take_over(kept, &run.state);
     if let Err(refusal) = take_steps(setting, run, n, steps) {
-        restore(&mut run.state, kept, &mut run.colours, &mut run.tools);
+        restore(&mut run.state, kept, &mut run.colours, &mut run.scratch);
         return Err(refusal);
     }
     Ok(())

@@ -1,10 +1,12 @@
-use Rattle.std.proofs.Common.{◌≡◌, ℕ, ◌<◌, ◌≤◌, List, length, get_or, slice_set, replicate, ◌+◌, ◌∙◌, sym, ap, refl, arith, Bool, true, false, ◌&&◌, nat_lt}
+use Rattle.std.proofs.Common.{◌≡◌, ℕ, ◌<◌, ◌≤◌, List, length, get_or, slice_set, replicate, ◌+◌, ◌∙◌, sym, ap, refl, arith, Bool, true}
+use Rattle.std.proofs.Common.{false, ◌&&◌, nat_lt}
 use Rattle.std.proofs.lemmas.Bool.{lt-ltb}
 use Rattle.std.proofs.lemmas.List.{length-set, length-replicate, get_or-replicate}
 use Rattle.std.proofs.lemmas.List.Edits.{fill_by_more}
 use Rattle.std.proofs.lemmas.List.FromFn.{fill_by_all, get_or-map-range_with_len, length-map-range_with_len}
 use Rattle.std.proofs.Math.Nat.{lt_of_lt_of_le}
 use Rattle.pbd_lanes.specs.Lane.{is_set, lanes_of}
+use Rattle.std.proofs.Math.Bool.{and-true}
 
 -- the first i of n lanes hold what `f` gives
 pub record Filled {A : Type 0} (d : A) (n : ℕ) (f : ℕ → A) (i : ℕ) (xs : List A) : Type 0 where
@@ -15,7 +17,8 @@ pub filled_all : {A : Type 0} {d : A} {n : ℕ} {f : ℕ → A} {xs : List A} (i
 filled_all {A} {d} {n} {f} {xs} i p h = fill_by_all f xs n d h.whole (λ k q. h.below k (lt_of_lt_of_le q p))
 
 -- one lane more
-pub filled_more : {A : Type 0} {d : A} {n : ℕ} {f : ℕ → A} {i : ℕ} {xs : List A} (v : A) → Filled d n f i xs → i < n → v ≡ f i → Filled d n f (i + 1) (slice_set xs i v)
+pub filled_more : {A : Type 0} {d : A} {n : ℕ} {f : ℕ → A} {i : ℕ} {xs : List A} (v : A) → Filled d n f i xs → i < n → v ≡ f i
+    → Filled d n f (i + 1) (slice_set xs i v)
 filled_more {A} {d} {n} {f} {i} {xs} v h p e = record {
   whole = length-set xs i v ∙ h.whole;
   below = λ k q. rw e (fill_by_more f xs i d (omega (arith, h.whole)) h.below k q);
@@ -23,18 +26,21 @@ filled_more {A} {d} {n} {f} {i} {xs} v h p e = record {
 
 -- ---- lanes that all have a particle
 
-with_true : (b : Bool) → (b && true) ≡ b
-with_true true = refl
-with_true false = refl
-
 pub all_filled : (n start len : ℕ) → start + n ≤ len → replicate n true ≡ lanes_of n (λ j. nat_lt (start + j) len)
-all_filled n start len room = fill_by_all (λ j. nat_lt (start + j) len) (replicate n true) n false (length-replicate n true) (λ k p. get_or-replicate n k true false p ∙ sym (lt-ltb (start + k) len (omega arith)))
+all_filled n start len room = fill_by_all (λ j. nat_lt (start + j) len) (replicate n true) n false (length-replicate n true)
+    (λ k p. get_or-replicate n k true false p ∙ sym (lt-ltb (start + k) len (omega arith)))
 
-pub all_own : (n start len : ℕ) (set : List Bool) → length set ≡ n → start + n ≤ len → set ≡ lanes_of n (λ j. is_set set j && nat_lt (start + j) len)
-all_own n start len set long room = fill_by_all (λ j. is_set set j && nat_lt (start + j) len) set n false long (λ k p. sym (ap (λ (b : Bool). is_set set k && b) (lt-ltb (start + k) len (omega arith)) ∙ with_true (is_set set k)))
+pub all_own : (n start len : ℕ) (set : List Bool) → length set ≡ n → start + n ≤ len
+    → set ≡ lanes_of n (λ j. is_set set j && nat_lt (start + j) len)
+all_own n start len set long room = fill_by_all (λ j. is_set set j && nat_lt (start + j) len) set n false long
+    (λ k p. sym (ap (λ (b : Bool). is_set set k && b) (lt-ltb (start + k) len (omega arith)) ∙ and-true (is_set set k)))
 
 -- where some have none
-pub own_of : (n start len : ℕ) (set filled own : List Bool) → filled ≡ lanes_of n (λ j. nat_lt (start + j) len) → own ≡ lanes_of n (λ j. is_set set j && is_set filled j) → own ≡ lanes_of n (λ j. is_set set j && nat_lt (start + j) len)
-own_of n start len set filled own ef eo = fill_by_all (λ j. is_set set j && nat_lt (start + j) len) own n false (ap (λ (bs : List Bool). length bs) eo ∙ length-map-range_with_len (λ j. is_set set j && is_set filled j) 0 n)
-    (λ k p. ap (λ (bs : List Bool). is_set bs k) eo ∙ get_or-map-range_with_len (λ j. is_set set j && is_set filled j) 0 n k k false p (omega arith)
-    ∙ ap (λ (b : Bool). is_set set k && b) (ap (λ (bs : List Bool). is_set bs k) ef ∙ get_or-map-range_with_len (λ j. nat_lt (start + j) len) 0 n k k false p (omega arith)))
+pub own_of : (n start len : ℕ) (set filled own : List Bool) → filled ≡ lanes_of n (λ j. nat_lt (start + j) len)
+    → own ≡ lanes_of n (λ j. is_set set j && is_set filled j) → own ≡ lanes_of n (λ j. is_set set j && nat_lt (start + j) len)
+own_of n start len set filled own ef eo = fill_by_all (λ j. is_set set j && nat_lt (start + j) len) own n false
+    (ap (λ (bs : List Bool). length bs) eo ∙ length-map-range_with_len (λ j. is_set set j && is_set filled j) 0 n)
+    (λ k p. ap (λ (bs : List Bool). is_set bs k) eo ∙ get_or-map-range_with_len (λ j. is_set set j && is_set filled j) 0 n k k false p
+    (omega arith)
+    ∙ ap (λ (b : Bool). is_set set k && b) (ap (λ (bs : List Bool). is_set bs k) ef
+    ∙ get_or-map-range_with_len (λ j. nat_lt (start + j) len) 0 n k k false p (omega arith)))

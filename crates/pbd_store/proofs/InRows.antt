@@ -1,5 +1,6 @@
 -- Places in rows, and the list that they are.
-use Rattle.std.proofs.Common.{◌≡◌, ℕ, ◌<◌, ◌++◌, pos, List, [], ◌∷◌, zero, suc, length, get_or, map, replicate, slice_set, refl, sym, ◌∙◌, ap, arith}
+use Rattle.std.proofs.Common.{◌≡◌, ℕ, ◌<◌, ◌++◌, pos, List, [], ◌∷◌, zero, suc, length, get_or, map, replicate, slice_set, refl, sym, ◌∙◌}
+use Rattle.std.proofs.Common.{ap, arith}
 use Rattle.std.proofs.lemmas.List.{get_or-map, length-map, map-set}
 use Rattle.pbd_num.specs.declared.Vec3.{Vec3}
 use Rattle.pbd_num.specs.Vectors.{zero_vector}
@@ -25,7 +26,8 @@ flat_at f [] n k = ap (λ (p : Place). p.spare) (padded_past n k (row_of zero_ve
 flat_at f (p ∷ ps) n zero = refl
 flat_at f (p ∷ ps) n (suc k) = flat_at f ps n k
 
-pub rows_flat : (f : Particle → Vec3) (ps : List Particle) (n : ℕ) → AreFlat (map (λ (p : Particle). row_of (f p)) ps ++ replicate n (row_of zero_vector))
+pub rows_flat : (f : Particle → Vec3) (ps : List Particle) (n : ℕ)
+    → AreFlat (map (λ (p : Particle). row_of (f p)) ps ++ replicate n (row_of zero_vector))
 rows_flat f ps n = record { each = λ k. flat_at f ps n k }
 
 module _ (rows : List Place) {vs : List Vec3} (e : places_in rows ≡ vs) where
@@ -33,7 +35,8 @@ module _ (rows : List Place) {vs : List Vec3} (e : places_in rows ≡ vs) where
   pub place_read : (i : ℕ) (p : Place) → p ≡ get_or rows i p → i < length vs → place_in_row p ≡ place_at vs i
   place_read i p ep h = ap (λ (q : Place). place_in_row q) ep
       ∙ sym (get_or-map (λ (q : Place). place_in_row q) rows i p zero_vector
-      (omega (arith, h, ap (λ (ws : List Vec3). length ws) e, length-map rows (λ (q : Place). place_in_row q)))) ∙ ap (λ (ws : List Vec3). place_at ws i) e
+      (omega (arith, h, ap (λ (ws : List Vec3). length ws) e, length-map rows (λ (q : Place). place_in_row q))))
+      ∙ ap (λ (ws : List Vec3). place_at ws i) e
 
   -- a row that was written
   pub place_written : (i : ℕ) (p : Place) (v : Vec3) → p ≡ row_of v → places_in (slice_set rows i p) ≡ slice_set vs i v

@@ -15,15 +15,27 @@ pub limit_size : (n : ℤ) → IsTrue (is_limit n) → (pos 0 ≤ℤ n) × (unsi
 limit_size n h = by (int_eq n (pos (2 ^ 28))) refl
   where
     by : (b : Bool) → int_eq n (pos (2 ^ 28)) ≡ b → (pos 0 ≤ℤ n) × (unsigned_abs n ≤ 2 ^ 29)
-    by true e = let small : n ≡ pos (2 ^ 28) = (Decides-int_eq n (pos (2 ^ 28))).0 e in (omega (arith, ints), omega (arith, ap unsigned_abs small))
-    by false e = let large : n ≡ pos (2 ^ 29) = (Decides-int_eq n (pos (2 ^ 29))).0 (ap (λ (b : Bool). b || int_eq n (pos (2 ^ 29))) (sym e) ∙ h) in (omega (arith, ints), omega (arith, ap unsigned_abs large))
+    by true e = let small : n ≡ pos (2 ^ 28) = (Decides-int_eq n (pos (2 ^ 28))).0 e in
+        (omega (arith, ints), omega (arith, ap unsigned_abs small))
+    by false e = let large : n ≡ pos (2 ^ 29) = (Decides-int_eq n (pos (2 ^ 29))).0
+        (ap (λ (b : Bool). b || int_eq n (pos (2 ^ 29))) (sym e) ∙ h) in (omega (arith, ints), omega (arith, ap unsigned_abs large))
 
 -- what is within a limit is in the range of both
 pub inside_both : (limit : ℤ) (ps : List Particle) → IsTrue (is_limit limit) → AreInside limit ps → AreInside (pos (2 ^ 29)) ps
 inside_both limit ps l h =
     let size = (limit_size limit l).1 in
-    record { each = λ i lt. (let w = h.each i lt in record { x = omega (arith, w.x, size); y = omega (arith, w.y, size); z = omega (arith, w.z, size) }) }
+    record {
+      each = λ i lt. (let w = h.each i lt in record {
+        x = omega (arith, w.x, size);
+        y = omega (arith, w.y, size);
+        z = omega (arith, w.z, size);
+      });
+    }
 
 -- the places of valid particles
 pub valid_inside : (limit : ℤ) (ps : List Particle) → IsTrue (is_limit limit) → IsTrue (are_valid_particles limit ps) → AreInside limit ps
-valid_inside limit ps l h = record { each = λ i lt. (within_facts limit _ (limit_size limit l).0).0 ((and_parts _ _ (and_parts _ _ (and_parts _ _ (AllPass-from_list_all (is_valid_particle limit) ps (and_parts _ _ h).1 i no_particle lt)).0).0).0) }
+valid_inside limit ps l h = record {
+  each = λ i lt. (within_facts limit _ (limit_size limit l).0).0
+      ((and_parts _ _ (and_parts _ _ (and_parts _ _ (AllPass-from_list_all (is_valid_particle limit) ps
+      (and_parts _ _ h).1 i no_particle lt)).0).0).0);
+}

@@ -1,7 +1,9 @@
 -- Columns seen as a list of particles: what a read gives, and what a write makes of the list.
-use Rattle.std.proofs.Common.{◌≡◌, ℕ, ◌+◌, ◌++◌, ◌<◌, ◌≤◌, ℤ, pos, List, [], ◌∷◌, zero, suc, length, get_or, map, replicate, slice_set, Bool, ◌&&◌, true, false, cond, IsTrue, nat_lt, refl, sym, ◌∙◌, ap, arith, inl, inr}
+use Rattle.std.proofs.Common.{◌≡◌, ℕ, ◌+◌, ◌++◌, ◌<◌, ◌≤◌, ℤ, pos, List, [], ◌∷◌, zero, suc, length, get_or, map, replicate, slice_set}
+use Rattle.std.proofs.Common.{Bool, ◌&&◌, true, false, cond, IsTrue, nat_lt, refl, sym, ◌∙◌, ap, arith, inl, inr}
 use Rattle.std.proofs.lemmas.Bool.{cases_lt, cases_eq, and_parts, and_from, ltb-true, lt-ltb}
-use Rattle.std.proofs.lemmas.List.{get_or-set_same, get_or-set_other, get_or_past, get_or-replicate, length-set, length-map, length-append, length-replicate}
+use Rattle.std.proofs.lemmas.List.{get_or-set_same, get_or-set_other, get_or_past, get_or-replicate, length-set, length-map, length-append}
+use Rattle.std.proofs.lemmas.List.{length-replicate}
 use Rattle.std.proofs.lemmas.List.FromFn.{fill_by_all, get_or-map-range_with_len, length-map-range_with_len}
 use Rattle.pbd_num.specs.declared.Vec3.{Vec3}
 use Rattle.pbd_num.specs.Vectors.{zero_vector}
@@ -15,20 +17,28 @@ use Rattle.pbd_store.specs.Listed.{place_at, row, listed, ArePadded, AreKept}
 
 -- ---- a list that a function gives, with one element set
 
-pub written : (n i : ℕ) (f g : ℕ → Particle) (v : Particle) → i < n → g i ≡ v → ((k : ℕ) → (k ≡ i → ⊥) → g k ≡ f k) → lanes_of n g ≡ slice_set (lanes_of n f) i v
+pub written : (n i : ℕ) (f g : ℕ → Particle) (v : Particle) → i < n → g i ≡ v → ((k : ℕ) → (k ≡ i → ⊥) → g k ≡ f k)
+    → lanes_of n g ≡ slice_set (lanes_of n f) i v
 written n i f g v h same other =
     let long : length (lanes_of n f) ≡ n = length-map-range_with_len f 0 n in
     sym (fill_by_all g (slice_set (lanes_of n f) i v) n no_particle (length-set (lanes_of n f) i v ∙ long) (λ k p. elim (cases_eq k i) [
-      | inl e ↦ ap (λ (m : ℕ). get_or (slice_set (lanes_of n f) i v) m no_particle) e ∙ get_or-set_same (lanes_of n f) i v no_particle (omega arith) ∙ sym same ∙ ap g (sym e)
-      | inr d ↦ get_or-set_other (lanes_of n f) i k v no_particle d ∙ get_or-map-range_with_len f 0 n k k no_particle p (omega arith) ∙ sym (other k d)
+      | inl e ↦ ap (λ (m : ℕ). get_or (slice_set (lanes_of n f) i v) m no_particle) e
+          ∙ get_or-set_same (lanes_of n f) i v no_particle (omega arith) ∙ sym same ∙ ap g (sym e)
+      | inr d ↦ get_or-set_other (lanes_of n f) i k v no_particle d ∙ get_or-map-range_with_len f 0 n k k no_particle p (omega arith)
+          ∙ sym (other k d)
     ]))
 
 -- ---- a column of a list
 
 pub padded_past : {A : Type 0} (n k : ℕ) (d : A) → get_or (replicate n d) k d ≡ d
-padded_past n k d = elim (cases_lt k n) [ inl p ↦ get_or-replicate n k d d p | inr q ↦ get_or_past (replicate n d) k d (omega (arith, length-replicate n d)) ]
+padded_past n k d = elim (cases_lt k n) [
+  | inl p ↦ get_or-replicate n k d d p
+  | inr q ↦ get_or_past (replicate n d) k d
+      (omega (arith, length-replicate n d))
+]
 
-pub column_is : {A : Type 0} (f : Particle → A) (ps : List Particle) (n k : ℕ) → get_or (map f ps ++ replicate n (f no_particle)) k (f no_particle) ≡ f (particle_at ps k)
+pub column_is : {A : Type 0} (f : Particle → A) (ps : List Particle) (n k : ℕ)
+    → get_or (map f ps ++ replicate n (f no_particle)) k (f no_particle) ≡ f (particle_at ps k)
 column_is f [] n k = padded_past n k (f no_particle)
 column_is f (p ∷ ps) n zero = refl
 column_is f (p ∷ ps) n (suc k) = column_is f ps n k
@@ -51,15 +61,24 @@ module _ {n spare : ℕ} {at before : List Vec3} {weight : List ℕ} {held : Lis
   -- other rows, but for row i
   module _ (at' before' : List Vec3) (weight' : List ℕ) (held' : List Bool) (i : ℕ) (within : i < n)
       (other : (k : ℕ) → (k ≡ i → ⊥) → row at' before' weight' held' k ≡ row at before weight held k) where
-    pub listed_set : (v : Particle) → row at' before' weight' held' i ≡ v → listed n at' before' weight' held' ≡ slice_set (listed n at before weight held) i v
+    pub listed_set : (v : Particle) → row at' before' weight' held' i ≡ v
+        → listed n at' before' weight' held' ≡ slice_set (listed n at before weight held) i v
     listed_set v same = written n i (row at before weight held) (row at' before' weight' held') v within same other
 
     pub padded_set : length at' ≡ n + spare → length before' ≡ n + spare → length weight' ≡ n + spare → length held' ≡ n + spare
         → ArePadded n spare at' before' weight' held'
-    padded_set la lb lw lh = record { size = h.size; places = la; befores = lb; weights = lw; flags = lh; padding = λ k q. other k (λ e. absurd (omega arith)) ∙ h.padding k q }
+    padded_set la lb lw lh = record {
+      size = h.size;
+      places = la;
+      befores = lb;
+      weights = lw;
+      flags = lh;
+      padding = λ k q. other k (λ e. absurd (omega arith)) ∙ h.padding k q;
+    }
 
 -- what f gives of a particle that is wanted, or of no particle
-pub row_or_none : {A : Type 0} (f : Particle → A) (ps : List Particle) (i : ℕ) (b : Bool) → f (particle_at ps (cond b i (length ps))) ≡ cond b (f (particle_at ps i)) (f no_particle)
+pub row_or_none : {A : Type 0} (f : Particle → A) (ps : List Particle) (i : ℕ) (b : Bool)
+    → f (particle_at ps (cond b i (length ps))) ≡ cond b (f (particle_at ps i)) (f no_particle)
 row_or_none f ps i true = refl
 row_or_none f ps i false = ap f (get_or_past ps (length ps) no_particle (omega arith))
 
@@ -79,11 +98,13 @@ any_default (x ∷ xs) (suc i) d e h = any_default xs i d e (omega arith)
 
 -- lists of which each lane is alike
 pub lanes_alike : {A : Type 0} (n : ℕ) (f g : ℕ → A) → ((j : ℕ) → j < n → f j ≡ g j) → lanes_of n f ≡ lanes_of n g
-lanes_alike n f g h = fill_by_all g (lanes_of n f) n (g 0) (length-map-range_with_len f 0 n) (λ j p. get_or-map-range_with_len f 0 n j j (g 0) p (omega arith) ∙ h j p)
+lanes_alike n f g h = fill_by_all g (lanes_of n f) n (g 0) (length-map-range_with_len f 0 n)
+    (λ j p. get_or-map-range_with_len f 0 n j j (g 0) p (omega arith) ∙ h j p)
 
 -- ---- the list that clauses see
 
-module _ {n spare : ℕ} {at before : List Vec3} {weight : List ℕ} {held : List Bool} (h : ArePadded n spare at before weight held) {ps : List Particle}
+module _ {n spare : ℕ} {at before : List Vec3} {weight : List ℕ} {held : List Bool}
+    (h : ArePadded n spare at before weight held) {ps : List Particle}
     (e : listed n at before weight held ≡ ps) where
   pub count_is : n ≡ length ps
   count_is = sym (listed_long h) ∙ ap (λ (qs : List Particle). length qs) e
@@ -95,19 +116,29 @@ module _ {n spare : ℕ} {at before : List Vec3} {weight : List ℕ} {held : Lis
   place_is k = ap (λ (p : Particle). p.at) (row_is k)
 
   -- what a row gives, be it of a particle that is wanted or the first of zeros
-  pub end_is : {A : Type 0} (f : Particle → A) (i k : ℕ) (b : Bool) → k ≡ cond b i (length ps) → f (row at before weight held k) ≡ cond b (f (particle_at ps i)) (f no_particle)
+  pub end_is : {A : Type 0} (f : Particle → A) (i k : ℕ) (b : Bool) → k ≡ cond b i (length ps)
+      → f (row at before weight held k) ≡ cond b (f (particle_at ps i)) (f no_particle)
   end_is f i k b is = ap f (sym (row_is k)) ∙ ap (λ (m : ℕ). f (particle_at ps m)) is ∙ row_or_none f ps i b
 
   -- what a column gives of the rows that the set lanes name
-  pub gathered_is : (l : ℕ) (is : List ℕ) (set : List Bool) (rows : List ℕ) → rows ≡ lanes_of l (λ (j : ℕ). cond (is_set set j) (index_at is j) (length ps)) → (f : Particle → ℤ) → f no_particle ≡ pos 0 → (g : ℕ → ℤ) → ((k : ℕ) → g k ≡ f (row at before weight held k)) → lanes_of l (λ (j : ℕ). g (index_at rows j)) ≡ gathered l f ps is set
-  gathered_is l is set rows er f z g eg = lanes_alike l (λ (j : ℕ). g (index_at rows j)) (λ (j : ℕ). cond (is_set set j) (f (particle_at ps (index_at is j))) (pos 0)) (λ j p.
-      let at_row : index_at rows j ≡ cond (is_set set j) (index_at is j) (length ps) = ap (λ (ks : List ℕ). index_at ks j) er ∙ get_or-map-range_with_len (λ (k : ℕ). cond (is_set set k) (index_at is k) (length ps)) 0 l j j 0 p (omega arith) in
-      eg (index_at rows j) ∙ end_is f (index_at is j) (index_at rows j) (is_set set j) at_row ∙ ap (λ (d : ℤ). cond (is_set set j) (f (particle_at ps (index_at is j))) d) z)
+  pub gathered_is : (l : ℕ) (is : List ℕ) (set : List Bool) (rows : List ℕ)
+      → rows ≡ lanes_of l (λ (j : ℕ). cond (is_set set j) (index_at is j) (length ps)) → (f : Particle → ℤ) → f no_particle ≡ pos 0
+      → (g : ℕ → ℤ) → ((k : ℕ) → g k ≡ f (row at before weight held k))
+      → lanes_of l (λ (j : ℕ). g (index_at rows j)) ≡ gathered l f ps is set
+  gathered_is l is set rows er f z g eg = lanes_alike l (λ (j : ℕ). g (index_at rows j))
+      (λ (j : ℕ). cond (is_set set j) (f (particle_at ps (index_at is j))) (pos 0)) (λ j p.
+      let at_row : index_at rows j ≡ cond (is_set set j) (index_at is j) (length ps) = ap (λ (ks : List ℕ). index_at ks j) er
+      ∙ get_or-map-range_with_len (λ (k : ℕ). cond (is_set set k) (index_at is k) (length ps)) 0 l j j 0 p (omega arith) in
+      eg (index_at rows j) ∙ end_is f (index_at is j) (index_at rows j) (is_set set j) at_row
+      ∙ ap (λ (d : ℤ). cond (is_set set j) (f (particle_at ps (index_at is j))) d) z)
 
   -- and these rows are rows of a column
-  pub row_near : (l : ℕ) (is : List ℕ) (set : List Bool) (rows : List ℕ) → rows ≡ lanes_of l (λ (j : ℕ). cond (is_set set j) (index_at is j) (length ps)) → ((j : ℕ) → j < l → IsTrue (is_set set j) → index_at is j < length ps) → (j : ℕ) → j < l → index_at rows j ≤ n
+  pub row_near : (l : ℕ) (is : List ℕ) (set : List Bool) (rows : List ℕ)
+      → rows ≡ lanes_of l (λ (j : ℕ). cond (is_set set j) (index_at is j) (length ps))
+      → ((j : ℕ) → j < l → IsTrue (is_set set j) → index_at is j < length ps) → (j : ℕ) → j < l → index_at rows j ≤ n
   row_near l is set rows er within j p =
-      let at_row : index_at rows j ≡ cond (is_set set j) (index_at is j) (length ps) = ap (λ (ks : List ℕ). index_at ks j) er ∙ get_or-map-range_with_len (λ (k : ℕ). cond (is_set set k) (index_at is k) (length ps)) 0 l j j 0 p (omega arith) in
+      let at_row : index_at rows j ≡ cond (is_set set j) (index_at is j) (length ps) = ap (λ (ks : List ℕ). index_at ks j) er
+      ∙ get_or-map-range_with_len (λ (k : ℕ). cond (is_set set k) (index_at is k) (length ps)) 0 l j j 0 p (omega arith) in
       omega (arith, at_row, count_is, row_within (index_at is j) (length ps) (is_set set j) (within j p))
 
   -- another place
@@ -139,7 +170,8 @@ module _ {n spare : ℕ} {at before : List Vec3} {weight : List ℕ} {held : Lis
         ∙ ap (λ (qs : List Particle). slice_set qs i (record (particle_at ps i) { at = v })) e
 
     -- the effective weights are those of the same particles
-    pub place_kept : (light : List ℕ) → length light ≡ n + spare → ((k : ℕ) → get_or light k 0 ≡ effective_weight (row at before weight held k))
+    pub place_kept : (light : List ℕ) → length light ≡ n + spare
+        → ((k : ℕ) → get_or light k 0 ≡ effective_weight (row at before weight held k))
         → AreKept n spare at' before weight held light
     place_kept light long weighs = record { padded = place_padded; long = long; weighs = weighs }
 
@@ -151,7 +183,8 @@ module _ {n spare : ℕ} {at before : List Vec3} {weight : List ℕ} {held : Lis
       before_other : (k : ℕ) → (k ≡ i → ⊥) → place_at before' k ≡ place_at before k
       before_other k d = ap (λ (vs : List Vec3). place_at vs k) eb ∙ get_or-set_other before i k b zero_vector d
 
-      module _ (weight' : List ℕ) (w : ℕ) (ew : weight' ≡ slice_set weight i w) (held' : List Bool) (f : Bool) (eh : held' ≡ slice_set held i f) where
+      module _ (weight' : List ℕ) (w : ℕ) (ew : weight' ≡ slice_set weight i w) (held' : List Bool) (f : Bool)
+          (eh : held' ≡ slice_set held i f) where
         other_all : (k : ℕ) → (k ≡ i → ⊥) → row at' before' weight' held' k ≡ row at before weight held k
         other_all k d =
             let ws = ap (λ (xs : List ℕ). get_or xs k 0) ew ∙ get_or-set_other weight i k w 0 d in
@@ -165,19 +198,29 @@ module _ {n spare : ℕ} {at before : List Vec3} {weight : List ℕ} {held : Lis
             λ t. record { at = place_same t; before = before_same t; weight = ws t; held = hs t }
 
         pub all_padded : ArePadded n spare at' before' weight' held'
-        all_padded = padded_set h at' before' weight' held' i near other_all place_long (ap (λ (vs : List Vec3). length vs) eb ∙ length-set before i b
+        all_padded = padded_set h at' before' weight' held' i near other_all place_long
+            (ap (λ (vs : List Vec3). length vs) eb ∙ length-set before i b
             ∙ h.befores)
-            (ap (λ (xs : List ℕ). length xs) ew ∙ length-set weight i w ∙ h.weights) (ap (λ (xs : List Bool). length xs) eh ∙ length-set held i f ∙ h.flags)
+            (ap (λ (xs : List ℕ). length xs) ew ∙ length-set weight i w ∙ h.weights)
+            (ap (λ (xs : List Bool). length xs) eh ∙ length-set held i f ∙ h.flags)
 
-        pub all_kept : (light light' : List ℕ) → length light ≡ n + spare → ((k : ℕ) → get_or light k 0 ≡ effective_weight (row at before weight held k)) → light' ≡ slice_set light i (effective_weight (record { at = v; before = b; weight = w; held = f })) → AreKept n spare at' before' weight' held' light'
+        pub all_kept : (light light' : List ℕ) → length light ≡ n + spare
+            → ((k : ℕ) → get_or light k 0 ≡ effective_weight (row at before weight held k))
+            → light' ≡ slice_set light i (effective_weight (record { at = v; before = b; weight = w; held = f }))
+            → AreKept n spare at' before' weight' held' light'
         all_kept light light' long weighs el = record {
           padded = all_padded;
-          long = ap (λ (xs : List ℕ). length xs) el ∙ length-set light i (effective_weight (record { at = v; before = b; weight = w; held = f })) ∙ long;
+          long = ap (λ (xs : List ℕ). length xs) el ∙ length-set light i
+              (effective_weight (record { at = v; before = b; weight = w; held = f })) ∙ long;
           weighs = λ k. ap (λ (xs : List ℕ). get_or xs k 0) el ∙ elim (cases_eq k i) [
-            | inl e ↦ ap (λ (m : ℕ). get_or (slice_set light i (effective_weight (record { at = v; before = b; weight = w; held = f }))) m 0) e
-                ∙ get_or-set_same light i (effective_weight (record { at = v; before = b; weight = w; held = f })) 0 (omega (arith, near, long))
-                ∙ ap (λ (q : Particle). effective_weight q) (sym all_now) ∙ ap (λ (m : ℕ). effective_weight (row at' before' weight' held' m)) (sym e)
-            | inr d ↦ get_or-set_other light i k (effective_weight (record { at = v; before = b; weight = w; held = f })) 0 d ∙ weighs k ∙ ap (λ (q : Particle). effective_weight q) (sym (other_all k d))
+            | inl e ↦ ap (λ (m : ℕ). get_or (slice_set light i (effective_weight (record { at = v; before = b; weight = w; held = f }))) m
+                0) e
+                ∙ get_or-set_same light i (effective_weight (record { at = v; before = b; weight = w; held = f })) 0
+                (omega (arith, near, long))
+                ∙ ap (λ (q : Particle). effective_weight q) (sym all_now)
+                ∙ ap (λ (m : ℕ). effective_weight (row at' before' weight' held' m)) (sym e)
+            | inr d ↦ get_or-set_other light i k (effective_weight (record { at = v; before = b; weight = w; held = f })) 0 d ∙ weighs k
+                ∙ ap (λ (q : Particle). effective_weight q) (sym (other_all k d))
           ];
         }
 
@@ -189,7 +232,8 @@ module _ {n spare : ℕ} {at before : List Vec3} {weight : List ℕ} {held : Lis
   -- other places in those of m lanes from `start` on that are set and have a particle
   module _ (m start : ℕ) (set own : List Bool) (eo : own ≡ lanes_of m (λ (j : ℕ). is_set set j && nat_lt (start + j) (length ps))) where
     own_at : (j : ℕ) → j < m → is_set own j ≡ (is_set set j && nat_lt (start + j) (length ps))
-    own_at j p = ap (λ (bs : List Bool). is_set bs j) eo ∙ get_or-map-range_with_len (λ (k : ℕ). is_set set k && nat_lt (start + k) (length ps)) 0 m j j false p (omega arith)
+    own_at j p = ap (λ (bs : List Bool). is_set bs j) eo ∙ get_or-map-range_with_len
+        (λ (k : ℕ). is_set set k && nat_lt (start + k) (length ps)) 0 m j j false p (omega arith)
 
     set_of : (j : ℕ) → j < m → IsTrue (is_set own j) → IsTrue (is_set set j)
     set_of j p s = (and_parts (is_set set j) (nat_lt (start + j) (length ps)) (sym (own_at j p) ∙ s)).0
@@ -200,12 +244,20 @@ module _ {n spare : ℕ} {at before : List Vec3} {weight : List ℕ} {held : Lis
     own_of : (j : ℕ) → j < m → IsTrue (is_set set j) → start + j < length ps → IsTrue (is_set own j)
     own_of j p s l = own_at j p ∙ and_from (is_set set j) (nat_lt (start + j) (length ps)) s (lt-ltb (start + j) (length ps) l)
 
-    module _ (at' before' : List Vec3) (pa pb : ℕ → Vec3) (ea : WrittenWhere m start own pa at at') (eb : WrittenWhere m start own pb before before') where
-      row_there : (j : ℕ) → j < m → IsTrue (is_set own j) → row at' before' weight held (start + j) ≡ record (row at before weight held (start + j))
+    module _ (at' before' : List Vec3) (pa pb : ℕ → Vec3) (ea : WrittenWhere m start own pa at at')
+        (eb : WrittenWhere m start own pb before before') where
+      row_there : (j : ℕ) → j < m → IsTrue (is_set own j) → row at' before' weight held (start + j)
+          ≡ record (row at before weight held (start + j))
           { at = pa j; before = pb j }
-      row_there j p s = λ t. record { at = ea.lanes j p s t; before = eb.lanes j p s t; weight = get_or weight (start + j) 0; held = is_set held (start + j) }
+      row_there j p s = λ t. record {
+        at = ea.lanes j p s t;
+        before = eb.lanes j p s t;
+        weight = get_or weight (start + j) 0;
+        held = is_set held (start + j);
+      }
 
-      row_elsewhere : (i : ℕ) → ((j : ℕ) → j < m → IsTrue (is_set own j) → start + j ≡ i → ⊥) → row at' before' weight held i ≡ row at before weight held i
+      row_elsewhere : (i : ℕ) → ((j : ℕ) → j < m → IsTrue (is_set own j) → start + j ≡ i → ⊥)
+          → row at' before' weight held i ≡ row at before weight held i
       row_elsewhere i f = λ t. record { at = ea.others i f t; before = eb.others i f t; weight = get_or weight i 0; held = is_set held i }
 
       pub moved_padded : ArePadded n spare at' before' weight held
@@ -245,7 +297,9 @@ module _ {n spare : ℕ} {at before : List Vec3} {weight : List ℕ} {held : Lis
       padding = λ k q. same_row k ∙ h.padding k (omega arith);
     }
 
-    pub copied_kept : (light light' : List ℕ) → length light ≡ n + spare → ((k : ℕ) → get_or light k 0 ≡ effective_weight (row at before weight held k)) → light' ≡ light → AreKept n' spare at' before' weight' held' light'
+    pub copied_kept : (light light' : List ℕ) → length light ≡ n + spare
+        → ((k : ℕ) → get_or light k 0 ≡ effective_weight (row at before weight held k)) → light' ≡ light
+        → AreKept n' spare at' before' weight' held' light'
     copied_kept light light' l weighs el = record {
       padded = copied_padded;
       long = long el l;
@@ -260,7 +314,8 @@ module _ {n spare : ℕ} {at before : List Vec3} {weight : List ℕ} {held : Lis
 module _ (ps : List Particle) (spare : ℕ) (few : length ps ≤ 65536) (at before : List Vec3) (weight : List ℕ) (held : List Bool)
     (ea : at ≡ map (λ (p : Particle). p.at) ps ++ replicate spare zero_vector)
     (eb : before ≡ map (λ (p : Particle). p.before) ps ++ replicate spare zero_vector)
-    (ew : weight ≡ map (λ (p : Particle). p.weight) ps ++ replicate spare 0) (eh : held ≡ map (λ (p : Particle). p.held) ps ++ replicate spare false) where
+    (ew : weight ≡ map (λ (p : Particle). p.weight) ps ++ replicate spare 0)
+    (eh : held ≡ map (λ (p : Particle). p.held) ps ++ replicate spare false) where
   from_row : (k : ℕ) → row at before weight held k ≡ particle_at ps k
   from_row k =
       let here = ap (λ (vs : List Vec3). place_at vs k) ea ∙ column_is (λ (p : Particle). p.at) ps spare k in
@@ -282,11 +337,13 @@ module _ (ps : List Particle) (spare : ℕ) (few : length ps ≤ 65536) (at befo
     padding = λ k q. from_row k ∙ get_or_past ps k no_particle q;
   }
 
-  pub from_kept : (light : List ℕ) → light ≡ map (λ (p : Particle). effective_weight p) ps ++ replicate spare 0 → AreKept (length ps) spare at before weight held light
+  pub from_kept : (light : List ℕ) → light ≡ map (λ (p : Particle). effective_weight p) ps ++ replicate spare 0
+      → AreKept (length ps) spare at before weight held light
   from_kept light el = record {
     padded = from_padded;
     long = long_as (λ (p : Particle). effective_weight p) 0 el;
-    weighs = λ k. ap (λ (xs : List ℕ). get_or xs k 0) el ∙ column_is (λ (p : Particle). effective_weight p) ps spare k ∙ ap (λ (q : Particle). effective_weight q) (sym (from_row k));
+    weighs = λ k. ap (λ (xs : List ℕ). get_or xs k 0) el ∙ column_is (λ (p : Particle). effective_weight p) ps spare k
+        ∙ ap (λ (q : Particle). effective_weight q) (sym (from_row k));
   }
 
   pub from_listed : listed (length ps) at before weight held ≡ ps

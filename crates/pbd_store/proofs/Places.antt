@@ -21,13 +21,17 @@ abbrev pub place_in : List Vec3 → ℕ → Vec3
 place_in places j = get_or places j zero_vector
 
 -- places of which one more is set
-pub places_more : (places : List Vec3) (j : ℕ) (v : Vec3) (k : ℕ) → k < j → get_or places k zero_vector ≡ get_or (slice_set places j v) k zero_vector
+pub places_more : (places : List Vec3) (j : ℕ) (v : Vec3) (k : ℕ) → k < j
+    → get_or places k zero_vector ≡ get_or (slice_set places j v) k zero_vector
 places_more places j v k h = sym (get_or-set_other places j k v zero_vector (λ e. absurd (omega arith)))
 
-pub inside_more : (b : ℕ) (places : List Vec3) (j : ℕ) (v : Vec3) → j < length places → ((k : ℕ) → k < j → Within b (get_or places k zero_vector)) → Within b v → (k : ℕ) → k < j + 1 → Within b (get_or (slice_set places j v) k zero_vector)
+pub inside_more : (b : ℕ) (places : List Vec3) (j : ℕ) (v : Vec3) → j < length places
+    → ((k : ℕ) → k < j → Within b (get_or places k zero_vector)) → Within b v → (k : ℕ) → k < j + 1
+    → Within b (get_or (slice_set places j v) k zero_vector)
 inside_more b places j v room h w k lt = elim (split_below k j lt) [
   | inl p ↦ subst (Within b) (places_more places j v k p) (h k p)
-  | inr e ↦ subst (Within b) (sym (get_or-set_same places j v zero_vector room) ∙ ap (λ (m : ℕ). get_or (slice_set places j v) m zero_vector) (sym e)) w
+  | inr e ↦ subst (Within b) (sym (get_or-set_same places j v zero_vector room)
+      ∙ ap (λ (m : ℕ). get_or (slice_set places j v) m zero_vector) (sym e)) w
 ]
 
 pub within_at : {a b : ℕ} {v w : Vec3} → a ≡ b → v ≡ w → Within b w → Within a v

@@ -19,7 +19,8 @@ pub next_start : (block n : ℕ) → (block + 1) * n ≡ block * n + n
 next_start block n = omega arith
 
 -- what a block books, after all before it
-pub room_more : (n s next len lanes : ℕ) → s < len → next ≡ s + lanes → n + min s len * 2 ^ 31 + (min (s + lanes) len - s) * 2 ^ 31 ≤ n + min next len * 2 ^ 31
+pub room_more : (n s next len lanes : ℕ) → s < len → next ≡ s + lanes
+    → n + min s len * 2 ^ 31 + (min (s + lanes) len - s) * 2 ^ 31 ≤ n + min next len * 2 ^ 31
 room_more n s next len lanes h e = omega arith
 
 pub room_whole : (n s len : ℕ) → n + min s len * 2 ^ 31 ≤ n + len * 2 ^ 31

@@ -1,5 +1,6 @@
 -- Places of a list of which those of the set lanes are written one after another.
-use Rattle.std.proofs.Common.{◌≡◌, ℕ, ◌+◌, ◌<◌, List, length, slice_set, Bool, true, false, cond, IsTrue, refl, sym, ◌∙◌, ap, arith, inl, inr, subst}
+use Rattle.std.proofs.Common.{◌≡◌, ℕ, ◌+◌, ◌<◌, List, length, slice_set, Bool, true, false, cond, IsTrue, refl, sym, ◌∙◌, ap, arith, inl}
+use Rattle.std.proofs.Common.{inr, subst}
 use Rattle.std.proofs.lemmas.Bool.{false≢true}
 use Rattle.std.proofs.lemmas.List.{get_or-set_same, get_or-set_other, length-set}
 use Rattle.pbd_num.specs.declared.Vec3.{Vec3}
@@ -17,7 +18,11 @@ module _ (start : ℕ) (set : List Bool) (values : ℕ → Vec3) (old new : List
   skipped : is_set set j ≡ false → WrittenWhere (j + 1) start set values old new
   skipped unset = record {
     whole = h.whole;
-    lanes = λ k p s. elim (split_below k j p) [ inl q ↦ h.lanes k q s | inr e ↦ absurd (false≢true (sym unset ∙ ap (is_set set) (sym e) ∙ s)) ];
+    lanes = λ k p s. elim (split_below k j p) [
+      | inl q ↦ h.lanes k q s
+      | inr e ↦ absurd
+          (false≢true (sym unset ∙ ap (is_set set) (sym e) ∙ s))
+    ];
     others = λ i f. h.others i (λ k p s e. f k (omega arith) s e);
   }
 

@@ -8,7 +8,7 @@ ghost use Rattle.pbd_store.specs.Blocks.{place_of, Saved};
 ghost use Rattle.pbd_store.specs.Gathering.{index_at, gathered};
 
 use crate::lanes3::{Ends, Lanes3};
-use crate::rows::{Field, PlaceRows, padded};
+use crate::rows::{PlaceKind, PlaceRows, padded};
 use pbd_lanes::{Lanes, Mask};
 use pbd_num::{Row, Vec3};
 use pbd_world::Particle;
@@ -106,8 +106,8 @@ impl<const L: usize> Columns<L> {
         requires { length particles.now ≤ 65536 }
         ensures { IfOk result (λ s. s ≡ particles.now) }
     {
-        let at = PlaceRows::open(alloc, particles, L, Field::At)?;
-        let before = PlaceRows::open(alloc, particles, L, Field::Before)?;
+        let at = PlaceRows::open(alloc, particles, L, PlaceKind::At)?;
+        let before = PlaceRows::open(alloc, particles, L, PlaceKind::Before)?;
         let weights = weights_of(alloc, particles)?;
         let weight = padded(weights, L, 0)?;
         let flags = flags_of(alloc, particles)?;

@@ -4,7 +4,7 @@ ghost use Rattle.pbd_num.specs.Rows.{vector_of};
 ghost use Rattle.pbd_num.specs.Vectors.{Within, plus, zero_vector};
 ghost use Rattle.pbd_lanes.specs.Lane.{is_set, lanes_of};
 ghost use Rattle.pbd_store.specs.Blocks.{place_of};
-ghost use Rattle.pbd_store.specs.Fields.{field_of};
+ghost use Rattle.pbd_store.specs.Fields.{place_of_kind};
 ghost use Rattle.pbd_store.specs.Gathering.{index_at};
 ghost use Rattle.pbd_store.specs.InRows.{place_in_row, row_of};
 ghost use Rattle.pbd_store.specs.Listed.{place_at};
@@ -96,22 +96,26 @@ impl Place {
 
 /// One of the two places of a particle.
 #[derive(Clone, Copy)]
-pub(crate) enum Field {
+pub(crate) enum PlaceKind {
     At,
     Before,
 }
 
-fn place_in(particle: Particle, which: Field) -> Vec3
-    ensures { result ≡ field_of which particle }
+fn place_in(particle: Particle, which: PlaceKind) -> Vec3
+    ensures { result ≡ place_of_kind which particle }
 {
     match which {
-        Field::At => particle.at,
-        Field::Before => particle.before,
+        PlaceKind::At => particle.at,
+        PlaceKind::Before => particle.before,
     }
 }
 
-fn rows_of(alloc: Global, particles: &[Particle], which: Field) -> Result<Vec<Place>, AllocError>
-    ensures { IfOk result (λ v. v.items ≡ map (λ p. row_of (field_of which p)) particles.now) }
+fn rows_of(
+    alloc: Global,
+    particles: &[Particle],
+    which: PlaceKind,
+) -> Result<Vec<Place>, AllocError>
+    ensures { IfOk result (λ v. v.items ≡ map (λ p. row_of (place_of_kind which p)) particles.now) }
 {
     particles
         .iter()
@@ -171,18 +175,23 @@ impl PlaceRows {
         alloc: Global,
         particles: &[Particle],
         n: usize,
-        which: Field,
+        which: PlaceKind,
     ) -> Result<PlaceRows, AllocError>
-        ensures { IfOk result (λ s. s ≡ map (field_of which) particles.now ++ replicate n zero_vector) }
+        ensures { IfOk result (λ s. s ≡ map (place_of_kind which) particles.now ++ replicate n zero_vector) }
     {
         let rows = rows_of(alloc, particles, which)?;
         let rows = padded(rows, n, Place::of(Vec3::ZERO))?;
         Ok(PlaceRows::put_together(particles, n, which, rows))
     }
 
-    fn put_together(particles: &[Particle], n: usize, which: Field, rows: Vec<Place>) -> PlaceRows
-        requires { rows.items ≡ map (λ p. row_of (field_of which p)) particles.now ++ replicate n (row_of zero_vector) }
-        ensures { result ≡ map (field_of which) particles.now ++ replicate n zero_vector }
+    fn put_together(
+        particles: &[Particle],
+        n: usize,
+        which: PlaceKind,
+        rows: Vec<Place>,
+    ) -> PlaceRows
+        requires { rows.items ≡ map (λ p. row_of (place_of_kind which p)) particles.now ++ replicate n (row_of zero_vector) }
+        ensures { result ≡ map (place_of_kind which) particles.now ++ replicate n zero_vector }
     {
         PlaceRows { rows }
     }

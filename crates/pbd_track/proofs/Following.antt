@@ -1,9 +1,11 @@
 -- Valid tracks, and how particles follow them one after another.
-use Rattle.std.proofs.Common.{◌≡◌, refl, sym, ap, ◌∙◌, subst, ℕ, zero, suc, ◌+◌, ◌-◌, ◌<◌, ◌≤◌, ◌^◌, ◌==◌, nat_le, nat_lt, not, ◌||◌, Bool, true, false, cond, List, [], ◌∷◌, length, take, drop, get_or, arith, ℤ, IsTrue, Option, Some, None, inl, inr}
+use Rattle.std.proofs.Common.{◌≡◌, refl, sym, ap, ◌∙◌, subst, ℕ, zero, suc, ◌+◌, ◌-◌, ◌<◌, ◌≤◌, ◌^◌, ◌==◌, nat_le, nat_lt, not, ◌||◌, Bool}
+use Rattle.std.proofs.Common.{true, false, cond, List, [], ◌∷◌, length, take, drop, get_or, arith, ℤ, IsTrue, Option, Some, None, inl, inr}
 use Rattle.std.specs.List.{list_all, list_any, All}
 use Rattle.std.proofs.lemmas.Bool.{and_parts, leb-true, ltb-true, cases_eq, eq-eqb, ne_eqb, false≢true}
 use Rattle.std.proofs.lemmas.Bool.Decides.{nat_tests}
-use Rattle.std.proofs.lemmas.List.{at_drop_more, at_drop_all, drop_more, drop_all, take_all, length-drop, get_or-set_same, get_or-set_other, length-set}
+use Rattle.std.proofs.lemmas.List.{at_drop_more, at_drop_all, drop_more, drop_all, take_all, length-drop, get_or-set_same, get_or-set_other}
+use Rattle.std.proofs.lemmas.List.{length-set}
 use Rattle.std.proofs.lemmas.List.Elements.{All-drop}
 use Rattle.pbd_num.specs.declared.Vec3.{Vec3}
 use Rattle.pbd_num.specs.Vectors.{Within, is_within}
@@ -25,7 +27,8 @@ within_limit limit v l h =
     let w = (within_facts limit v size.0).0 h in
     record { x = omega (arith, w.x, size.1); y = omega (arith, w.y, size.1); z = omega (arith, w.z, size.1) }
 
-pub keys_are : (limit : ℤ) (keys : List Key) → IsTrue (is_limit limit) → IsTrue (are_valid_keys limit keys) → (k : ℕ) (d : Key) → k < length keys → IsKey (get_or keys k d)
+pub keys_are : (limit : ℤ) (keys : List Key) → IsTrue (is_limit limit) → IsTrue (are_valid_keys limit keys) → (k : ℕ) (d : Key)
+    → k < length keys → IsKey (get_or keys k d)
 keys_are limit [] l h k d lt = absurd (omega (arith, lt))
 keys_are limit (key ∷ keys) l h zero d lt =
     let p = and_parts _ _ h in
@@ -51,7 +54,8 @@ from_next from l keys t k =
     let f : nat_lt t l.step ≡ false = grind (arith, nat_tests) in
     rw f refl
 
-pub left_over : (from : Key) (later : List Key) (i t : ℕ) (d : Key) → i < length later → place_after from (drop i later) t ≡ place_after from (get_or later i d ∷ drop (i + 1) later) t
+pub left_over : (from : Key) (later : List Key) (i t : ℕ) (d : Key) → i < length later
+    → place_after from (drop i later) t ≡ place_after from (get_or later i d ∷ drop (i + 1) later) t
 left_over from later i t d lt = at_drop_more (λ (keys : List Key). place_after from keys t) later i d lt
 
 pub none_left : (from : Key) (later : List Key) (i t : ℕ) → length later ≤ i → place_after from (drop i later) t ≡ from.place
@@ -61,15 +65,18 @@ none_left from later i t le = at_drop_all (λ (keys : List Key). place_after fro
 pub all_but_first : (keys : List Key) → take (length keys - 1) (drop 1 keys) ≡ drop 1 keys
 all_but_first keys = take_all (length keys - 1) (drop 1 keys) (omega (arith, length-drop 1 keys))
 
-pub later_keys : (keys : List Key) → ((k : ℕ) (d : Key) → k < length keys → IsKey (get_or keys k d)) → (k : ℕ) (d : Key) → k < length (take (length keys - 1) (drop 1 keys)) → IsKey (get_or (take (length keys - 1) (drop 1 keys)) k d)
+pub later_keys : (keys : List Key) → ((k : ℕ) (d : Key) → k < length keys → IsKey (get_or keys k d)) → (k : ℕ) (d : Key)
+    → k < length (take (length keys - 1) (drop 1 keys)) → IsKey (get_or (take (length keys - 1) (drop 1 keys)) k d)
 later_keys keys h = rw (all_but_first keys) (All-drop IsKey 1 keys h)
 
-pub up_to_first : (keys : List Key) (d : Key) (t : ℕ) → 0 < length keys → t ≤ (get_or keys 0 d).step → place_at keys t ≡ (get_or keys 0 d).place
+pub up_to_first : (keys : List Key) (d : Key) (t : ℕ) → 0 < length keys → t ≤ (get_or keys 0 d).step
+    → place_at keys t ≡ (get_or keys 0 d).place
 unfolding place_at
 up_to_first [] d t h le = absurd (omega (arith, h))
 up_to_first (k ∷ keys) d t h le = let e : nat_le t k.step ≡ true = grind (arith, nat_tests) in rw e refl
 
-pub after_first : (keys : List Key) (d : Key) (t : ℕ) → 0 < length keys → (get_or keys 0 d).step < t → place_at keys t ≡ place_after (get_or keys 0 d) (take (length keys - 1) (drop 1 keys)) t
+pub after_first : (keys : List Key) (d : Key) (t : ℕ) → 0 < length keys → (get_or keys 0 d).step < t
+    → place_at keys t ≡ place_after (get_or keys 0 d) (take (length keys - 1) (drop 1 keys)) t
 unfolding place_at
 after_first [] d t h lt = absurd (omega (arith, h))
 after_first (k ∷ keys) d t h lt =
@@ -88,13 +95,15 @@ pub record Following (left all : List Track) (t : ℕ) (limit : ℤ) (old now : 
   pub apart : IsTrue (none_twice same_particle left)
   pub same : (i : ℕ) → i < length old → attached_at left t now i ≡ attached_at all t old i
 
-pub following_none : (tracks : List Track) (t : ℕ) (limit : ℤ) (ps : List Particle) → IsTrue (are_valid_tracks limit (length ps) tracks) → Following tracks tracks t limit ps ps
+pub following_none : (tracks : List Track) (t : ℕ) (limit : ℤ) (ps : List Particle) → IsTrue (are_valid_tracks limit (length ps) tracks)
+    → Following tracks tracks t limit ps ps
 following_none tracks t limit ps h =
     let parts = and_parts _ _ h in
     let valid = and_parts _ _ parts.0 in
     record { whole = refl; valid = valid.1; apart = parts.1; same = λ i lt. refl }
 
-pub following_all : (tracks : List Track) (t : ℕ) (limit : ℤ) (old now : List Particle) → Following [] tracks t limit old now → Attached tracks t old now
+pub following_all : (tracks : List Track) (t : ℕ) (limit : ℤ) (old now : List Particle) → Following [] tracks t limit old now
+    → Attached tracks t old now
 following_all tracks t limit old now h = record { whole = h.whole; each = h.same }
 
 clash : (a b : Bool) → a ≡ true → not (a || b) ≡ true → ⊥
@@ -110,10 +119,12 @@ none_of : (x : Track) (left : List Track) → not (list_any (same_particle x) le
 none_of x [] h = refl
 none_of x (u ∷ us) h = elim (cases_eq u.particle x.particle) [
   | inl e ↦ absurd (clash (x.particle == u.particle) (list_any (same_particle x) us) (eq-eqb x.particle u.particle (sym e)) h)
-  | inr n ↦ ap (λ (b : Bool). cond b (Some u) (track_of us x.particle)) (ne_eqb u.particle x.particle n) ∙ none_of x us (past_or (x.particle == u.particle) (list_any (same_particle x) us) (ne_eqb x.particle u.particle (λ e. n (sym e))) h)
+  | inr n ↦ ap (λ (b : Bool). cond b (Some u) (track_of us x.particle)) (ne_eqb u.particle x.particle n)
+      ∙ none_of x us (past_or (x.particle == u.particle) (list_any (same_particle x) us) (ne_eqb x.particle u.particle (λ e. n (sym e))) h)
 ]
 
-pub next_valid : (x : Track) (left all : List Track) (t : ℕ) (limit : ℤ) (old now : List Particle) → Following (x ∷ left) all t limit old now → IsTrue (is_valid_track limit (length old) x)
+pub next_valid : (x : Track) (left all : List Track) (t : ℕ) (limit : ℤ) (old now : List Particle)
+    → Following (x ∷ left) all t limit old now → IsTrue (is_valid_track limit (length old) x)
 next_valid x left all t limit old now h = (and_parts _ _ h.valid).0
 
 pub next_within : (x : Track) (limit : ℤ) (n : ℕ) → IsTrue (is_valid_track limit n x) → x.particle < n
@@ -122,7 +133,8 @@ next_within x limit n h = ltb-true x.particle n ((and_parts _ _ (and_parts _ _ (
 abbrev follow : Option Track → ℕ → Particle → Particle
 follow o t p = record p { at = held_place o t p.at }
 
-at_own : (x : Track) (left : List Track) (t : ℕ) (now : List Particle) → x.particle < length now → track_of left x.particle ≡ None → attached_at left t (placed now x.particle (place_at x.keys t)) x.particle ≡ attached_at (x ∷ left) t now x.particle
+at_own : (x : Track) (left : List Track) (t : ℕ) (now : List Particle) → x.particle < length now → track_of left x.particle ≡ None
+    → attached_at left t (placed now x.particle (place_at x.keys t)) x.particle ≡ attached_at (x ∷ left) t now x.particle
 at_own x left t now lt none =
     let j = x.particle in
     let p = particle_at now j in
@@ -131,18 +143,22 @@ at_own x left t now lt none =
     ∙ ap (λ (o : Option Track). follow o t q) none
     ∙ sym (ap (λ (b : Bool). follow (cond b (Some x) (track_of left j)) t p) (eq-eqb j j refl))
 
-at_other : (x : Track) (left : List Track) (t : ℕ) (now : List Particle) (i : ℕ) → (x.particle ≡ i → ⊥) → attached_at left t (placed now x.particle (place_at x.keys t)) i ≡ attached_at (x ∷ left) t now i
+at_other : (x : Track) (left : List Track) (t : ℕ) (now : List Particle) (i : ℕ) → (x.particle ≡ i → ⊥)
+    → attached_at left t (placed now x.particle (place_at x.keys t)) i ≡ attached_at (x ∷ left) t now i
 at_other x left t now i n =
-    ap (λ (r : Particle). follow (track_of left i) t r) (get_or-set_other now x.particle i (record (particle_at now x.particle) { at = place_at x.keys t }) no_particle (λ e. n (sym e)))
+    ap (λ (r : Particle). follow (track_of left i) t r) (get_or-set_other now x.particle i
+    (record (particle_at now x.particle) { at = place_at x.keys t }) no_particle (λ e. n (sym e)))
     ∙ sym (ap (λ (b : Bool). follow (cond b (Some x) (track_of left i)) t (particle_at now i)) (ne_eqb x.particle i n))
 
-pub following_more : (x : Track) (left all : List Track) (t : ℕ) (limit : ℤ) (old now : List Particle) → Following (x ∷ left) all t limit old now → Following left all t limit old (placed now x.particle (place_at x.keys t))
+pub following_more : (x : Track) (left all : List Track) (t : ℕ) (limit : ℤ) (old now : List Particle)
+    → Following (x ∷ left) all t limit old now → Following left all t limit old (placed now x.particle (place_at x.keys t))
 following_more x left all t limit old now h =
     let within : x.particle < length old = next_within x limit (length old) (next_valid x left all t limit old now h) in
     let apart = and_parts _ _ h.apart in
     let now_as : (i : ℕ) → attached_at left t (placed now x.particle (place_at x.keys t)) i ≡ attached_at (x ∷ left) t now i =
     λ i. elim (cases_eq x.particle i) [
-      | inl e ↦ subst (λ (m : ℕ). attached_at left t (placed now x.particle (place_at x.keys t)) m ≡ attached_at (x ∷ left) t now m) e (at_own x left t now (omega (arith, within, h.whole)) (none_of x left apart.0))
+      | inl e ↦ subst (λ (m : ℕ). attached_at left t (placed now x.particle (place_at x.keys t)) m ≡ attached_at (x ∷ left) t now m) e
+          (at_own x left t now (omega (arith, within, h.whole)) (none_of x left apart.0))
       | inr n ↦ at_other x left t now i n
     ] in
     record {
@@ -152,8 +168,12 @@ following_more x left all t limit old now h =
       same = λ i lt. now_as i ∙ h.same i lt;
     }
 
-pub following_next : (tracks : List Track) (i : ℕ) (x : Track) (t : ℕ) (limit : ℤ) (old now : List Particle) → i < length tracks → x ≡ get_or tracks i x → Following (drop i tracks) tracks t limit old now → Following (x ∷ drop (i + 1) tracks) tracks t limit old now
-following_next tracks i x t limit old now lt e h = subst (λ (ts : List Track). Following ts tracks t limit old now) (drop_more tracks i x lt ∙ ap (λ (u : Track). u ∷ drop (i + 1) tracks) (sym e)) h
+pub following_next : (tracks : List Track) (i : ℕ) (x : Track) (t : ℕ) (limit : ℤ) (old now : List Particle) → i < length tracks
+    → x ≡ get_or tracks i x → Following (drop i tracks) tracks t limit old now → Following (x ∷ drop (i + 1) tracks) tracks t limit old now
+following_next tracks i x t limit old now lt e h = subst (λ (ts : List Track). Following ts tracks t limit old now)
+    (drop_more tracks i x lt ∙ ap (λ (u : Track). u ∷ drop (i + 1) tracks) (sym e)) h
 
-pub following_end : (tracks : List Track) (i t : ℕ) (limit : ℤ) (old now : List Particle) → length tracks ≤ i → Following (drop i tracks) tracks t limit old now → Attached tracks t old now
-following_end tracks i t limit old now le h = following_all tracks t limit old now (subst (λ (ts : List Track). Following ts tracks t limit old now) (drop_all i tracks le) h)
+pub following_end : (tracks : List Track) (i t : ℕ) (limit : ℤ) (old now : List Particle) → length tracks ≤ i
+    → Following (drop i tracks) tracks t limit old now → Attached tracks t old now
+following_end tracks i t limit old now le h = following_all tracks t limit old now
+    (subst (λ (ts : List Track). Following ts tracks t limit old now) (drop_all i tracks le) h)

@@ -1,5 +1,6 @@
 -- A bond keeps the balance of momentum and ledger.
-use Rattle.std.proofs.Common.{◌≡◌, ◌≢◌, refl, sym, ap, ◌∙◌, ℕ, ◌<◌, Bool, true, false, List, length, length-set, get_or-set_other, arith, ℤ, pos, ◌+ℤ◌, ◌-ℤ◌}
+use Rattle.std.proofs.Common.{◌≡◌, ◌≢◌, refl, sym, ap, ◌∙◌, ℕ, ◌<◌, Bool, true, false, List, length, length-set, get_or-set_other, arith, ℤ}
+use Rattle.std.proofs.Common.{pos, ◌+ℤ◌, ◌-ℤ◌}
 use Rattle.std.specs.Prelude.{if◌then◌else◌}
 use Rattle.std.proofs.lemmas.Int.{ints}
 use Rattle.pbd_num.specs.declared.Vec3.{Vec3}
@@ -24,7 +25,9 @@ free_terms : (n m at before v : ℤ) → n +ℤ (pos 0 +ℤ (at -ℤ before)) �
 free_terms n m at before v h = omega (arith, ints, h)
 
 -- the same, where it is known whether the particle is held
-set_by : (ps : List Particle) (i : ℕ) (to : Vec3) (held : Bool) → i < length ps → (particle_at ps i).held ≡ held → both_sums (momentum (placed ps i to)) (part_by held (velocity (particle_at ps i))) ≡ both_sums (momentum ps) (part_by held (velocity (record (particle_at ps i) { at = to })))
+set_by : (ps : List Particle) (i : ℕ) (to : Vec3) (held : Bool) → i < length ps → (particle_at ps i).held ≡ held
+    → both_sums (momentum (placed ps i to)) (part_by held (velocity (particle_at ps i)))
+    ≡ both_sums (momentum ps) (part_by held (velocity (record (particle_at ps i) { at = to })))
 set_by ps i to held h e =
     let p = particle_at ps i in
     let q : Particle = record p { at = to } in
@@ -33,13 +36,16 @@ set_by ps i to held h e =
     ∙ ap (λ (x : Bool). both_sums (momentum ps) (part_by x (velocity q))) e
 
 -- a held particle's place isn't in the momentum
-pub placed_held : (ps : List Particle) (i : ℕ) (to : Vec3) → i < length ps → (particle_at ps i).held ≡ true → momentum (placed ps i to) ≡ momentum ps
+pub placed_held : (ps : List Particle) (i : ℕ) (to : Vec3) → i < length ps → (particle_at ps i).held ≡ true
+    → momentum (placed ps i to) ≡ momentum ps
 placed_held ps i to h e =
     let set = set_by ps i to true h e in
-    same_sum _ _ (held_terms _ _ (ap (λ (s : Sum). s.x) set)) (held_terms _ _ (ap (λ (s : Sum). s.y) set)) (held_terms _ _ (ap (λ (s : Sum). s.z) set))
+    same_sum _ _ (held_terms _ _ (ap (λ (s : Sum). s.x) set)) (held_terms _ _ (ap (λ (s : Sum). s.y) set))
+    (held_terms _ _ (ap (λ (s : Sum). s.z) set))
 
 -- a free particle's move is
-pub placed_free : (ps : List Particle) (i : ℕ) (v : Vec3) → i < length ps → (particle_at ps i).held ≡ false → momentum (placed ps i (plus (particle_at ps i).at v)) ≡ sum_plus (momentum ps) v
+pub placed_free : (ps : List Particle) (i : ℕ) (v : Vec3) → i < length ps → (particle_at ps i).held ≡ false
+    → momentum (placed ps i (plus (particle_at ps i).at v)) ≡ sum_plus (momentum ps) v
 placed_free ps i v h e =
     let p = particle_at ps i in
     let m = momentum ps in
@@ -63,7 +69,8 @@ assoc_terms : (o t u : ℤ) → (o +ℤ t) +ℤ u ≡ o +ℤ (t +ℤ u)
 assoc_terms o t u = omega (arith, ints)
 
 assoc_one : (o t : Sum) (u : Vec3) → sum_plus (both_sums o t) u ≡ both_sums o (sum_plus t u)
-assoc_one o t u = same_sum (sum_plus (both_sums o t) u) (both_sums o (sum_plus t u)) (assoc_terms o.x t.x u.x) (assoc_terms o.y t.y u.y) (assoc_terms o.z t.z u.z)
+assoc_one o t u = same_sum (sum_plus (both_sums o t) u) (both_sums o (sum_plus t u)) (assoc_terms o.x t.x u.x) (assoc_terms o.y t.y u.y)
+    (assoc_terms o.z t.z u.z)
 
 moves_under : (p q : Bool) (u v : Vec3) (o t : Sum) → with_moves p q u v (both_sums o t) ≡ both_sums o (with_moves p q u v t)
 moves_under false false u v o t = ap (λ (s : Sum). sum_plus s v) (assoc_one o t u) ∙ assoc_one o (sum_plus t u) v
@@ -72,27 +79,35 @@ moves_under true false u v o t = assoc_one o t v
 moves_under true true u v o t = refl
 
 -- the ledger takes just these moves
-booked_moves : (p q : Bool) (class : Class) (s : Shift) (t : Ledger) → all_totals (booked t (entries_of p q class s)) ≡ with_moves p q s.first_move s.second_move (all_totals t)
-booked_moves false false class s t = added_all (added t class s.first_move) class s.second_move ∙ ap (λ (x : Sum). sum_plus x s.second_move) (added_all t class s.first_move)
+booked_moves : (p q : Bool) (class : Class) (s : Shift) (t : Ledger)
+    → all_totals (booked t (entries_of p q class s)) ≡ with_moves p q s.first_move s.second_move (all_totals t)
+booked_moves false false class s t = added_all (added t class s.first_move) class s.second_move
+    ∙ ap (λ (x : Sum). sum_plus x s.second_move) (added_all t class s.first_move)
 booked_moves false true class s t = added_all t classes.Pin s.first_move
 booked_moves true false class s t = added_all t classes.Pin s.second_move
 booked_moves true true class s t = refl
 
 -- the place of either end, as it is known whether it is held
-placed_by : (ps : List Particle) (i : ℕ) (v : Vec3) (held : Bool) → i < length ps → (particle_at ps i).held ≡ held → momentum (placed ps i (plus (particle_at ps i).at v)) ≡ (if held then momentum ps else sum_plus (momentum ps) v)
+placed_by : (ps : List Particle) (i : ℕ) (v : Vec3) (held : Bool) → i < length ps → (particle_at ps i).held ≡ held
+    → momentum (placed ps i (plus (particle_at ps i).at v)) ≡ (if held then momentum ps else sum_plus (momentum ps) v)
 placed_by ps i v true h e = placed_held ps i (plus (particle_at ps i).at v) h e
 placed_by ps i v false h e = placed_free ps i v h e
 
 -- both moves of two different particles
-placed_both : (ps : List Particle) (a b : ℕ) (u v : Vec3) (p q : Bool) → a < length ps → b < length ps → b ≢ a → (particle_at ps a).held ≡ p → (particle_at ps b).held ≡ q → momentum (placed (placed ps a (plus (particle_at ps a).at u)) b (plus (particle_at ps b).at v)) ≡ with_moves p q u v (momentum ps)
+placed_both : (ps : List Particle) (a b : ℕ) (u v : Vec3) (p q : Bool) → a < length ps → b < length ps → b ≢ a → (particle_at ps a).held ≡ p
+    → (particle_at ps b).held ≡ q → momentum (placed (placed ps a (plus (particle_at ps a).at u)) b (plus (particle_at ps b).at v))
+    ≡ with_moves p q u v (momentum ps)
 placed_both ps a b u v p q ha hb apart ea eb =
     let qs = placed ps a (plus (particle_at ps a).at u) in
     let same : particle_at qs b ≡ particle_at ps b = grind (arith, get_or-set_other) in
     let first = placed_by ps a u p ha ea in
-    let second : momentum (placed qs b (plus (particle_at qs b).at v)) ≡ (if q then momentum qs else sum_plus (momentum qs) v) = placed_by qs b v q (rw length-set hb) (ap (λ (x : Particle). x.held) same ∙ eb) in
+    let second : momentum (placed qs b (plus (particle_at qs b).at v))
+    ≡ (if q then momentum qs else sum_plus (momentum qs) v) =
+    placed_by qs b v q (rw length-set hb) (ap (λ (x : Particle). x.held) same ∙ eb) in
     ap (λ (x : Particle). momentum (placed qs b (plus x.at v))) (sym same) ∙ second ∙ both_by p q u v (momentum ps) (momentum qs) first
   where
-    both_by : (p q : Bool) (u v : Vec3) (s t : Sum) → t ≡ (if p then s else sum_plus s u) → (if q then t else sum_plus t v) ≡ with_moves p q u v s
+    both_by : (p q : Bool) (u v : Vec3) (s t : Sum) → t ≡ (if p then s else sum_plus s u)
+        → (if q then t else sum_plus t v) ≡ with_moves p q u v s
     both_by false false u v s t e = ap (λ (x : Sum). sum_plus x v) e
     both_by false true u v s t e = e
     both_by true false u v s t e = ap (λ (x : Sum). sum_plus x v) e
@@ -102,10 +117,13 @@ abbrev pub Balances : Sum → Motion → Type 0
 Balances o m = IsBalanced o m.totals m.particles
 
 -- two ends that move by their shift
-pub balanced_moves : (o : Sum) (m : Motion) (bond : Bond) (s : Shift) → bond.a < length m.particles → bond.b < length m.particles → bond.b ≢ bond.a
+pub balanced_moves : (o : Sum) (m : Motion) (bond : Bond) (s : Shift) → bond.a < length m.particles → bond.b < length m.particles
+    → bond.b ≢ bond.a
     → s.first ≡ plus (particle_at m.particles bond.a).at s.first_move → s.second ≡ plus (particle_at m.particles bond.b).at s.second_move
     → Balances o m
-    → momentum (placed (placed m.particles bond.a s.first) bond.b s.second) ≡ both_sums o (all_totals (booked m.totals (entries_of (particle_at m.particles bond.a).held (particle_at m.particles bond.b).held (class_of bond) s)))
+    → momentum (placed (placed m.particles bond.a s.first) bond.b s.second)
+    ≡ both_sums o (all_totals (booked m.totals (entries_of (particle_at m.particles bond.a).held (particle_at m.particles bond.b).held
+    (class_of bond) s)))
 balanced_moves o m bond s ha hb apart e1 e2 balance =
     let p = (particle_at m.particles bond.a).held in
     let q = (particle_at m.particles bond.b).held in

@@ -1,9 +1,10 @@
 -- Every command keeps the balance of momentum and ledger.
-use Rattle.std.proofs.Common.{◌≡◌, ◌≢◌, refl, sym, ap, ◌∙◌, ℕ, ◌<◌, Bool, true, false, not, List, [], ◌∷◌, length, arith, ℤ, pos, ◌+ℤ◌, ◌-ℤ◌, neg_ℤ}
+use Rattle.std.proofs.Common.{◌≡◌, ◌≢◌, refl, sym, ap, ◌∙◌, ℕ, ◌<◌, Bool, true, false, not, List, [], ◌∷◌, length, arith, ℤ, pos, ◌+ℤ◌}
+use Rattle.std.proofs.Common.{◌-ℤ◌, neg_ℤ}
 use Rattle.std.specs.Prelude.{Result, Ok, Err, IfOk, IsTrue, if◌then◌else◌, slice_set, nat_le, ◌==◌}
 use Rattle.std.specs.List.{AllByRecursion, list_all}
 use Rattle.std.proofs.lemmas.Int.{ints}
-use Rattle.std.proofs.lemmas.Bool.{and_parts, ltb-true, leb-false, eq-eqb, false≢true}
+use Rattle.std.proofs.lemmas.Bool.{and_parts, ltb-true, leb-false, eq-eqb, false≢true, not-false}
 use Rattle.pbd_num.specs.declared.Vec3.{Vec3}
 use Rattle.pbd_num.specs.Vectors.{opposite}
 use Rattle.pbd_world.specs.declared.parts.Particle.{Particle}
@@ -19,7 +20,8 @@ use Rattle.pbd_world.specs.Valid.{is_valid_link, is_well_formed}
 use Rattle.pbd_world.specs.World.{World, parts_of, IsSound}
 use Rattle.pbd_world.specs.Outcomes.{unless}
 use Rattle.pbd_world.specs.Bonds.{link_at}
-use Rattle.pbd_world.specs.Meaning.{refusals, pinned, unpinned, put_at, without_link, run_steps, steps_of, pin, unpin, place_held, cut, set_gravity, done_or_refused, meaning, after}
+use Rattle.pbd_world.specs.Meaning.{refusals, pinned, unpinned, put_at, without_link, run_steps, steps_of, pin, unpin, place_held, cut}
+use Rattle.pbd_world.specs.Meaning.{set_gravity, done_or_refused, meaning, after}
 use Rattle.pbd_world.specs.Step.{step}
 use Rattle.pbd_world.proofs.MomentumLemmas.{same_sum, part_by, part, momentum_set, added_all}
 use Rattle.pbd_world.proofs.KeepingOn.{bind-keeps, repeat-keeps, all-at}
@@ -31,7 +33,8 @@ refused_by : {A E : Type 0} (P : A → Type 0) (b : Bool) (e : E) (r : Result A 
 refused_by P true e r h = tt
 refused_by P false e r h = h refl
 
-pub unless-keeps : {A E : Type 0} (P : A → Type 0) (tests : List (Bool × E)) (x : A) → (AllByRecursion {X = Bool × E} (λ t. t.0 ≡ false) tests → P x) → IfOk (unless tests x) P
+pub unless-keeps : {A E : Type 0} (P : A → Type 0) (tests : List (Bool × E)) (x : A)
+    → (AllByRecursion {X = Bool × E} (λ t. t.0 ≡ false) tests → P x) → IfOk (unless tests x) P
 unless-keeps P [] x h = h tt
 unless-keeps P (t ∷ tests) x h = refused_by P t.0 t.1 (unless tests x) (λ e. unless-keeps P tests x (λ es. h (e, es)))
 
@@ -50,10 +53,14 @@ still_terms : (n m o t : ℤ) → n +ℤ pos 0 ≡ m +ℤ pos 0 → m ≡ o +ℤ
 still_terms n m o t h k = omega (arith, ints, h, k)
 
 -- particle i for another, where it is known whether the first is held
-swapped : (ps : List Particle) (i : ℕ) (q : Particle) (held : Bool) → i < length ps → (particle_at ps i).held ≡ held → both_sums (momentum (slice_set ps i q)) (part_by held (velocity (particle_at ps i))) ≡ both_sums (momentum ps) (part q)
-swapped ps i q held h e = ap (λ (x : Bool). both_sums (momentum (slice_set ps i q)) (part_by x (velocity (particle_at ps i)))) (sym e) ∙ momentum_set ps i q h
+swapped : (ps : List Particle) (i : ℕ) (q : Particle) (held : Bool) → i < length ps → (particle_at ps i).held ≡ held
+    → both_sums (momentum (slice_set ps i q)) (part_by held (velocity (particle_at ps i))) ≡ both_sums (momentum ps) (part q)
+swapped ps i q held h e = ap (λ (x : Bool). both_sums (momentum (slice_set ps i q)) (part_by x (velocity (particle_at ps i)))) (sym e)
+    ∙ momentum_set ps i q h
 
-pinned-balanced : (w : World) (i : ℕ) → i < length w.particles → (particle_at w.particles i).held ≡ false → IsBalanced w.opening w.totals w.particles → IsBalanced w.opening (pinned w i (particle_at w.particles i)).totals (pinned w i (particle_at w.particles i)).particles
+pinned-balanced : (w : World) (i : ℕ) → i < length w.particles → (particle_at w.particles i).held ≡ false
+    → IsBalanced w.opening w.totals w.particles → IsBalanced w.opening (pinned w i (particle_at w.particles i)).totals
+    (pinned w i (particle_at w.particles i)).particles
 pinned-balanced w i h e k =
     let p = particle_at w.particles i in
     let q : Particle = record p { before = p.at; held = true } in
@@ -68,7 +75,8 @@ pinned-balanced w i h e k =
     (pin_terms n.z m.z p.at.z p.before.z o.z t.z (ap (λ (x : Sum). x.z) s) (ap (λ (x : Sum). x.z) k))
     ∙ ap (both_sums o) (sym (added_all w.totals classes.Pin (opposite (velocity p))))
 
-unpinned-balanced : (w : World) (i : ℕ) → i < length w.particles → (particle_at w.particles i).held ≡ true → IsBalanced w.opening w.totals w.particles → IsBalanced w.opening w.totals (unpinned w i (particle_at w.particles i)).particles
+unpinned-balanced : (w : World) (i : ℕ) → i < length w.particles → (particle_at w.particles i).held ≡ true
+    → IsBalanced w.opening w.totals w.particles → IsBalanced w.opening w.totals (unpinned w i (particle_at w.particles i)).particles
 unpinned-balanced w i h e k =
     let p = particle_at w.particles i in
     let q : Particle = record p { before = p.at; held = false } in
@@ -82,7 +90,8 @@ unpinned-balanced w i h e k =
     (rest_terms n.y m.y p.at.y o.y t.y (ap (λ (x : Sum). x.y) s) (ap (λ (x : Sum). x.y) k))
     (rest_terms n.z m.z p.at.z o.z t.z (ap (λ (x : Sum). x.z) s) (ap (λ (x : Sum). x.z) k))
 
-put-balanced : (w : World) (i : ℕ) (to : Vec3) → i < length w.particles → (particle_at w.particles i).held ≡ true → IsBalanced w.opening w.totals w.particles → IsBalanced w.opening w.totals (put_at w i (particle_at w.particles i) to).particles
+put-balanced : (w : World) (i : ℕ) (to : Vec3) → i < length w.particles → (particle_at w.particles i).held ≡ true
+    → IsBalanced w.opening w.totals w.particles → IsBalanced w.opening w.totals (put_at w i (particle_at w.particles i) to).particles
 put-balanced w i to h e k =
     let p = particle_at w.particles i in
     let q : Particle = record p { at = to; before = to } in
@@ -98,24 +107,27 @@ put-balanced w i to h e k =
 
 -- ---- the commands
 
-pub is_true_not : (b : Bool) → not b ≡ false → b ≡ true
-is_true_not true e = refl
-is_true_not false e = sym e
-
 pin-keeps : (w : World) (i : ℕ) → IsReady w → IfOk (pin w i) (λ v. IsBalanced v.opening v.totals v.particles)
-pin-keeps w i r = unless-keeps (λ v. IsBalanced v.opening v.totals v.particles) (refusals w (commands.Pin i)) (pinned w i (particle_at w.particles i)) (λ es. pinned-balanced w i (there (length w.particles) i es.0) es.1.0 r.balance)
+pin-keeps w i r = unless-keeps (λ v. IsBalanced v.opening v.totals v.particles) (refusals w (commands.Pin i))
+    (pinned w i (particle_at w.particles i)) (λ es. pinned-balanced w i (there (length w.particles) i es.0) es.1.0 r.balance)
 
 unpin-keeps : (w : World) (i : ℕ) → IsReady w → IfOk (unpin w i) (λ v. IsBalanced v.opening v.totals v.particles)
-unpin-keeps w i r = unless-keeps (λ v. IsBalanced v.opening v.totals v.particles) (refusals w (commands.Unpin i)) (unpinned w i (particle_at w.particles i)) (λ es. unpinned-balanced w i (there (length w.particles) i es.0) (is_true_not (particle_at w.particles i).held es.1.0) r.balance)
+unpin-keeps w i r = unless-keeps (λ v. IsBalanced v.opening v.totals v.particles) (refusals w (commands.Unpin i))
+    (unpinned w i (particle_at w.particles i)) (λ es. unpinned-balanced w i (there (length w.particles) i es.0)
+    (not-false (particle_at w.particles i).held es.1.0) r.balance)
 
 place-keeps : (w : World) (i : ℕ) (to : Vec3) → IsReady w → IfOk (place_held w i to) (λ v. IsBalanced v.opening v.totals v.particles)
-place-keeps w i to r = unless-keeps (λ v. IsBalanced v.opening v.totals v.particles) (refusals w (commands.Move i to)) (put_at w i (particle_at w.particles i) to) (λ es. put-balanced w i to (there (length w.particles) i es.0) (is_true_not (particle_at w.particles i).held es.1.1.0) r.balance)
+place-keeps w i to r = unless-keeps (λ v. IsBalanced v.opening v.totals v.particles) (refusals w (commands.Move i to))
+    (put_at w i (particle_at w.particles i) to) (λ es. put-balanced w i to (there (length w.particles) i es.0)
+    (not-false (particle_at w.particles i).held es.1.1.0) r.balance)
 
 cut-keeps : (w : World) (n : ℕ) → IsReady w → IfOk (cut w n) (λ v. IsBalanced v.opening v.totals v.particles)
-cut-keeps w n r = unless-keeps (λ v. IsBalanced v.opening v.totals v.particles) (refusals w (commands.Cut n)) (without_link w n) (λ es. r.balance)
+cut-keeps w n r = unless-keeps (λ v. IsBalanced v.opening v.totals v.particles) (refusals w (commands.Cut n)) (without_link w n)
+    (λ es. r.balance)
 
 gravity-keeps : (w : World) (g : Vec3) → IsReady w → IfOk (set_gravity w g) (λ v. IsBalanced v.opening v.totals v.particles)
-gravity-keeps w g r = unless-keeps (λ v. IsBalanced v.opening v.totals v.particles) (refusals w (commands.Gravity g)) (record w { gravity = g }) (λ es. r.balance)
+gravity-keeps w g r = unless-keeps (λ v. IsBalanced v.opening v.totals v.particles) (refusals w (commands.Gravity g))
+    (record w { gravity = g }) (λ es. r.balance)
 
 steps-keep : (w : World) (n : ℕ) → IsReady w → IfOk (run_steps w n) (λ v. IsBalanced v.opening v.totals v.particles)
 steps-keep w n r =
@@ -127,7 +139,9 @@ steps-keep w n r =
     weaker (Ok v) h = h.balance
     weaker (Err e) h = tt
 
-done-keeps : (w : World) (r : Result World Refusal) → IsBalanced w.opening w.totals w.particles → IfOk r (λ v. IsBalanced v.opening v.totals v.particles) → IsBalanced (done_or_refused w r).0.opening (done_or_refused w r).0.totals (done_or_refused w r).0.particles
+done-keeps : (w : World) (r : Result World Refusal) → IsBalanced w.opening w.totals w.particles
+    → IfOk r (λ v. IsBalanced v.opening v.totals v.particles)
+    → IsBalanced (done_or_refused w r).0.opening (done_or_refused w r).0.totals (done_or_refused w r).0.particles
 done-keeps w (Ok v) h k = k
 done-keeps w (Err e) h k = h
 
@@ -154,10 +168,12 @@ differ a b h e = false≢true (ap not (sym (eq-eqb a b (sym e))) ∙ h)
 
 link_ends : (limit : ℤ) (n : ℕ) (l : Link) → IsTrue (is_valid_link limit n l) → (l.a < n) × (l.b < n) × (l.b ≢ l.a)
 link_ends limit n l t =
-    let p5 = and_parts _ _ t in let p4 = and_parts _ _ p5.0 in let p3 = and_parts _ _ p4.0 in let p2 = and_parts _ _ p3.0 in let p1 = and_parts _ _ p2.0 in
+    let p5 = and_parts _ _ t in let p4 = and_parts _ _ p5.0 in let p3 = and_parts _ _ p4.0 in let p2 = and_parts _ _ p3.0 in
+    let p1 = and_parts _ _ p2.0 in
     (ltb-true l.a n p1.0, ltb-true l.b n p1.1, differ l.a l.b p2.1)
 
-well_formed-links : (w : World) → IsTrue (is_well_formed (parts_of w)) → IsTrue (list_all (is_valid_link w.limit (length w.particles)) w.links)
+well_formed-links : (w : World) → IsTrue (is_well_formed (parts_of w))
+    → IsTrue (list_all (is_valid_link w.limit (length w.particles)) w.links)
 unfolding is_well_formed
 well_formed-links w t =
     let p8 = and_parts _ _ t in let p7 = and_parts _ _ p8.0 in let p6 = and_parts _ _ p7.0 in let p5 = and_parts _ _ p6.0 in
@@ -167,7 +183,9 @@ well_formed-links w t =
 pub sound-ready : (w : World) → IsSound w → IsReady w
 sound-ready w s = record {
   balance = s.balanced;
-  ends = λ k h. let e = link_ends w.limit (length w.particles) (link_at w.links k) (all-at (λ l. IsTrue (is_valid_link w.limit (length w.particles) l)) w.links k _ h (all_from (is_valid_link w.limit (length w.particles)) w.links (well_formed-links w s.well_formed))) in
+  ends = λ k h. let e = link_ends w.limit (length w.particles) (link_at w.links k)
+      (all-at (λ l. IsTrue (is_valid_link w.limit (length w.particles) l)) w.links k _ h
+      (all_from (is_valid_link w.limit (length w.particles)) w.links (well_formed-links w s.well_formed))) in
       record { first = e.0; second = e.1; apart = e.2 };
 }
 

@@ -2,7 +2,7 @@
 use Rattle.std.proofs.Common.{◌≡◌, refl, sym, ◌∙◌, ℕ, zero, suc, ◌+◌, ◌<◌, ◌≤◌, Bool, true, false, not, [], ◌∷◌, length, arith}
 use Rattle.std.specs.Prelude.{Result, Ok, Err, IfOk, nat_le}
 use Rattle.std.specs.List.{list_all}
-use Rattle.std.proofs.lemmas.Bool.{and_parts, false≢true, ltb-false}
+use Rattle.std.proofs.lemmas.Bool.{and_parts, false≢true, ltb-false, not-false}
 use Rattle.pbd_num.specs.declared.Vec3.{Vec3}
 use Rattle.pbd_num.specs.Vectors.{is_within, opposite}
 use Rattle.pbd_world.specs.declared.parts.Particle.{Particle}
@@ -16,10 +16,11 @@ use Rattle.pbd_world.specs.Momentum.{IsBalanced}
 use Rattle.pbd_world.specs.Valid.{is_valid_particle}
 use Rattle.pbd_world.specs.World.{World, parts_of, is_tracked, IsSound, unchanging, AreOfOneScene}
 use Rattle.pbd_world.specs.Outcomes.{unless, repeated}
-use Rattle.pbd_world.specs.Meaning.{refusals, pinned, unpinned, put_at, without_link, run_steps, steps_of, pin, unpin, place_held, cut, set_gravity, done_or_refused, meaning, after}
+use Rattle.pbd_world.specs.Meaning.{refusals, pinned, unpinned, put_at, without_link, run_steps, steps_of, pin, unpin, place_held, cut}
+use Rattle.pbd_world.specs.Meaning.{set_gravity, done_or_refused, meaning, after}
 use Rattle.pbd_world.specs.Step.{step}
 use Rattle.pbd_world.proofs.KeepingOn.{bind-keeps}
-use Rattle.pbd_world.proofs.CommandBalance.{unless-keeps, there, is_true_not, sound-balanced}
+use Rattle.pbd_world.proofs.CommandBalance.{unless-keeps, there, sound-balanced}
 use Rattle.pbd_world.proofs.ValidLemmas.{at_rest_from}
 use Rattle.pbd_world.proofs.PredictGoes.{rests_held, rests_free}
 use Rattle.pbd_world.proofs.SameShape.{all_unlive, links_valid, cut_same}
@@ -50,8 +51,10 @@ pin_keeps w i sound = unless-keeps (Keeps w) (refusals w (commands.Pin i)) (pinn
       weight = refl;
       tracked = λ e. refl;
       rest = rests_held w.tracks i q (is_tracked w.tracks i) refl (λ e. at_rest_from q refl);
-    } in
-    (set_sound w i q t sound l fits (record { gravity = refl; damping = refl; link = refl; contact = refl; shape = refl }), set_scene w i q t l refl))
+    } in (
+      set_sound w i q t sound l fits (record { gravity = refl; damping = refl; link = refl; contact = refl; shape = refl }),
+      set_scene w i q t l refl,
+    ))
 
 unpin_keeps : (w : World) (i : ℕ) → IsSound w → IfOk (unpin w i) (Keeps w)
 unpin_keeps w i sound = unless-keeps (Keeps w) (refusals w (commands.Unpin i)) (unpinned w i (particle_at w.particles i)) (λ es.
@@ -67,21 +70,17 @@ unpin_keeps w i sound = unless-keeps (Keeps w) (refusals w (commands.Unpin i)) (
     } in
     (set_sound w i q w.totals sound l fits (agree_with_itself w.totals), set_scene w i q w.totals l refl))
 
-not_outside : (b : Bool) → not b ≡ false → b ≡ true
-not_outside true e = refl
-not_outside false e = sym e
-
 place_keeps : (w : World) (i : ℕ) (to : Vec3) → IsSound w → IfOk (place_held w i to) (Keeps w)
 place_keeps w i to sound = unless-keeps (Keeps w) (refusals w (commands.Move i to)) (put_at w i (particle_at w.particles i) to) (λ es.
     let l = there (length w.particles) i es.0 in
     let p = particle_at w.particles i in
     let q : Particle = record p { at = to; before = to } in
     let fit = fit_of w i sound l in
-    let inside = not_outside (is_within w.limit to) es.1.0 in
+    let inside = not-false (is_within w.limit to) es.1.0 in
     let fits : FitsIn w i q = record {
       fit = record { at = inside; before = inside; low = fit.low; high = fit.high };
       weight = refl;
-      tracked = λ e. is_true_not p.held es.1.1.0;
+      tracked = λ e. not-false p.held es.1.1.0;
       rest = rests_held w.tracks i q (is_tracked w.tracks i) refl (λ e. at_rest_from q refl);
     } in
     (set_sound w i q w.totals sound l fits (agree_with_itself w.totals), set_scene w i q w.totals l refl))
@@ -126,7 +125,7 @@ gravity_keeps w g sound = unless-keeps (Keeps w) (refusals w (commands.Gravity g
           planes = form.planes;
           spheres = form.spheres;
           tracks = form.tracks;
-          gravity = not_outside (is_within w.limit g) es.0;
+          gravity = not-false (is_within w.limit g) es.0;
           numbers = form.numbers;
         });
         tracked = sound.tracked;
@@ -145,18 +144,22 @@ gravity_keeps w g sound = unless-keeps (Keeps w) (refusals w (commands.Gravity g
 steps_sound : (n : ℕ) (w : World) → IsSound w → w.steps + n ≤ 1000000 → IfOk (repeated n step w) (λ v. IsSound v × AreOfOneScene w v)
 steps_sound zero w sound l = (sound, refl)
 steps_sound (suc n) w sound l =
-    bind-keeps (λ v. IsSound v × (v.steps ≡ w.steps + 1) × AreOfOneScene w v) (λ v. IsSound v × AreOfOneScene w v) (step w) (repeated n step)
+    bind-keeps (λ v. IsSound v × (v.steps ≡ w.steps + 1) × AreOfOneScene w v) (λ v. IsSound v × AreOfOneScene w v) (step w)
+    (repeated n step)
     (step_sound w sound (omega (arith, l)))
     (λ v h. weaker v h.2 (repeated n step v) (steps_sound n v h.0 (omega (arith, l, h.1))))
   where
-    weaker : (v : World) → AreOfOneScene w v → (r : Result World Refusal) → IfOk r (λ u. IsSound u × AreOfOneScene v u) → IfOk r (λ u. IsSound u × AreOfOneScene w u)
+    weaker : (v : World) → AreOfOneScene w v → (r : Result World Refusal) → IfOk r (λ u. IsSound u × AreOfOneScene v u)
+        → IfOk r (λ u. IsSound u × AreOfOneScene w u)
     weaker v e (Ok u) h = (h.0, e ∙ h.1)
     weaker v e (Err f) h = tt
 
 run_keeps : (w : World) (n : ℕ) → IsSound w → IfOk (run_steps w n) (Keeps w)
 run_keeps w n sound =
-    bind-keeps (λ v. IsSound v × (v.steps + n ≤ 1000000) × AreOfOneScene w v) (Keeps w) (unless (refusals w (commands.Step n)) w) (steps_of n)
-    (unless-keeps (λ v. IsSound v × (v.steps + n ≤ 1000000) × AreOfOneScene w v) (refusals w (commands.Step n)) w (λ es. (sound, ltb-false 1000000 (w.steps + n) es.1.0, refl)))
+    bind-keeps (λ v. IsSound v × (v.steps + n ≤ 1000000) × AreOfOneScene w v) (Keeps w) (unless (refusals w (commands.Step n)) w)
+    (steps_of n)
+    (unless-keeps (λ v. IsSound v × (v.steps + n ≤ 1000000) × AreOfOneScene w v) (refusals w (commands.Step n)) w
+    (λ es. (sound, ltb-false 1000000 (w.steps + n) es.1.0, refl)))
     (λ v h. weaker v h.2 (steps_of n v) (steps_sound n v h.0 h.1))
   where
     weaker : (v : World) → AreOfOneScene w v → (r : Result World Refusal) → IfOk r (λ u. IsSound u × AreOfOneScene v u) → IfOk r (Keeps w)

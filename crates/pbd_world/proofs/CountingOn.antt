@@ -5,6 +5,7 @@ use Rattle.std.specs.List.{AllByRecursion, range_with_len, flat_map}
 use Rattle.pbd_world.specs.Outcomes.{in_turn, repeated}
 use Rattle.pbd_world.specs.Colours.{live_at, colour, of_colour, order}
 use Rattle.pbd_world.proofs.KeepingOn.{bind-keeps}
+use Rattle.std.proofs.lemmas.List.FromFn.{length-range_with_len}
 
 pub ok_weaker : {A E : Type 0} (P Q : A → Type 0) (r : Result A E) → ((x : A) → P x → Q x) → IfOk r P → IfOk r Q
 ok_weaker P Q (Ok x) f h = f x h
@@ -18,7 +19,8 @@ pub turn-counts : {A S E : Type 0} (P : ℕ → S → Type 0) (Q : A → Type 0)
 turn-counts {A} {S} {E} P Q c f w k [] q n s h = w n (n + length {A = A} [] * c) s (omega arith) h
 turn-counts {A} {S} {E} P Q c f w k (x ∷ xs) q n s h =
     bind-keeps (P (n + c)) (P (n + length (x ∷ xs) * c)) (f x s) (in_turn f xs) (k x n s q.0 h)
-    (λ t u. ok_weaker (P ((n + c) + length xs * c)) (P (n + length (x ∷ xs) * c)) (in_turn f xs t) (λ v j. w ((n + c) + length xs * c) (n + length (x ∷ xs) * c) v (omega arith) j) (turn-counts P Q c f w k xs q.1 (n + c) t u))
+    (λ t u. ok_weaker (P ((n + c) + length xs * c)) (P (n + length (x ∷ xs) * c)) (in_turn f xs t)
+    (λ v j. w ((n + c) + length xs * c) (n + length (x ∷ xs) * c) v (omega arith) j) (turn-counts P Q c f w k xs q.1 (n + c) t u))
 
 pub repeat-counts : {S E : Type 0} (P : ℕ → S → Type 0) (c : ℕ) (f : S → Result S E)
     → ((n m : ℕ) (s : S) → n ≤ m → P n s → P m s)
@@ -27,7 +29,8 @@ pub repeat-counts : {S E : Type 0} (P : ℕ → S → Type 0) (c : ℕ) (f : S �
 repeat-counts P c f w k zero n s h = w n (n + 0 * c) s (omega arith) h
 repeat-counts P c f w k (suc times) n s h =
     bind-keeps (P (n + c)) (P (n + suc times * c)) (f s) (repeated times f) (k n s h)
-    (λ t u. ok_weaker (P ((n + c) + times * c)) (P (n + suc times * c)) (repeated times f t) (λ v j. w ((n + c) + times * c) (n + suc times * c) v (omega arith) j) (repeat-counts P c f w k times (n + c) t u))
+    (λ t u. ok_weaker (P ((n + c) + times * c)) (P (n + suc times * c)) (repeated times f t)
+    (λ v j. w ((n + c) + times * c) (n + suc times * c) v (omega arith) j) (repeat-counts P c f w k times (n + c) t u))
 
 -- ---- lengths
 
@@ -35,13 +38,9 @@ kept_length : (b : Bool) (x n : ℕ) (xs : List ℕ) → length xs ≤ n → len
 kept_length true x n xs h = omega (arith, h)
 kept_length false x n xs h = omega (arith, h)
 
-filter_length : (test : ℕ → Bool) (xs : List ℕ) → length (filter test xs) ≤ length xs
+pub filter_length : (test : ℕ → Bool) (xs : List ℕ) → length (filter test xs) ≤ length xs
 filter_length test [] = omega arith
 filter_length test (x ∷ xs) = kept_length (test x) x (length xs) (filter test xs) (filter_length test xs)
-
-range_length : (a n : ℕ) → length (range_with_len a n) ≡ n
-range_length a zero = refl
-range_length a (suc n) = ap suc (range_length (a + 1) n)
 
 flat_length : (f : ℕ → List ℕ) (m : ℕ) (xs : List ℕ) → ((x : ℕ) → length (f x) ≤ m) → length (flat_map f xs) ≤ length xs * m
 flat_length f m [] h = omega arith
@@ -52,5 +51,10 @@ pub order_length : (pairs : List (ℕ × ℕ)) (live : List Bool) → length (or
 unfolding order
 order_length pairs live =
     let n = length pairs in
-    let each : (c : ℕ) → length (of_colour live (colour pairs live) n c) ≤ n = λ c. omega (arith, filter_length (λ i. live_at live i && colour pairs live i == c) (range_with_len 0 n), range_length 0 n) in
-    omega (arith, flat_length (of_colour live (colour pairs live) n) n (range_with_len 0 64) each, range_length 0 64)
+    let each : (c : ℕ) → length (of_colour live (colour pairs live) n c)
+    ≤ n = λ c. omega (
+      arith,
+      filter_length (λ i. live_at live i && colour pairs live i == c) (range_with_len 0 n),
+      length-range_with_len 0 n,
+    ) in
+    omega (arith, flat_length (of_colour live (colour pairs live) n) n (range_with_len 0 64) each, length-range_with_len 0 64)

@@ -74,9 +74,11 @@ none_among test (x ∷ xs) h = rw (h.0, none_among test xs h.1) refl
 unfoldable pub Apart : {A : Type 0} → (A → A → Bool) → List A → List A → Type 0
 Apart same xs ys = Every (λ x. Every (λ y. same x y ≡ false) ys) xs
 
-pub apart_from : {A : Type 0} (same : A → A → Bool) (P Q : A → Type 0) (xs ys : List A) → ((x y : A) → P x → Q y → same x y ≡ false) → Every P xs → Every Q ys → Apart same xs ys
+pub apart_from : {A : Type 0} (same : A → A → Bool) (P Q : A → Type 0) (xs ys : List A) → ((x y : A) → P x → Q y → same x y ≡ false)
+    → Every P xs → Every Q ys → Apart same xs ys
 unfolding Apart
-apart_from same P Q xs ys h hx hy = every_more P (λ x. Every (λ y. same x y ≡ false) ys) xs (λ x p. every_more Q (λ y. same x y ≡ false) ys (λ y q. h x y p q) hy) hx
+apart_from same P Q xs ys h hx hy = every_more P (λ x. Every (λ y. same x y ≡ false) ys) xs
+    (λ x p. every_more Q (λ y. same x y ≡ false) ys (λ y q. h x y p q) hy) hx
 
 pub apart_both : {A : Type 0} (same : A → A → Bool) (xs ys zs : List A) → Apart same xs zs → Apart same ys zs → Apart same (xs ++ ys) zs
 unfolding Apart
@@ -85,7 +87,8 @@ apart_both same xs ys zs h k = every_both (λ x. Every (λ y. same x y ≡ false
 -- an item apart from each of a list
 pub apart_one : {A : Type 0} (same : A → A → Bool) (xs : List A) (y : A) → list_any (λ x. same x y) xs ≡ false → Apart same xs (y ∷ [])
 unfolding Apart
-apart_one same xs y h = every_more (λ x. same x y ≡ false) (λ x. Every (λ z. same x z ≡ false) (y ∷ [])) xs (λ x e. every_one (λ z. same x z ≡ false) y e) (every_not (λ x. same x y) xs h)
+apart_one same xs y h = every_more (λ x. same x y ≡ false) (λ x. Every (λ z. same x z ≡ false) (y ∷ [])) xs
+    (λ x e. every_one (λ z. same x z ≡ false) y e) (every_not (λ x. same x y) xs h)
 
 pub once_none : {A : Type 0} (same : A → A → Bool) → IsTrue (none_twice same [])
 once_none same = refl
@@ -93,7 +96,8 @@ once_none same = refl
 pub once_one : {A : Type 0} (same : A → A → Bool) (x : A) → IsTrue (none_twice same (x ∷ []))
 once_one same x = refl
 
-pub once_both : {A : Type 0} (same : A → A → Bool) (xs ys : List A) → IsTrue (none_twice same xs) → IsTrue (none_twice same ys) → Apart same xs ys → IsTrue (none_twice same (xs ++ ys))
+pub once_both : {A : Type 0} (same : A → A → Bool) (xs ys : List A) → IsTrue (none_twice same xs) → IsTrue (none_twice same ys)
+    → Apart same xs ys → IsTrue (none_twice same (xs ++ ys))
 unfolding Apart Every
 once_both same [] ys h k apart = k
 once_both same (x ∷ xs) ys h k apart =
@@ -105,7 +109,8 @@ once_both same (x ∷ xs) ys h k apart =
 
 -- ---- counts
 
-pub count_both : {A : Type 0} (test : A → Bool) (xs ys : List A) → length (filter test (xs ++ ys)) ≡ length (filter test xs) + length (filter test ys)
+pub count_both : {A : Type 0} (test : A → Bool) (xs ys : List A)
+    → length (filter test (xs ++ ys)) ≡ length (filter test xs) + length (filter test ys)
 count_both test xs ys = rw (filter-append test xs ys) (length-append (filter test xs) (filter test ys))
 
 pub count_none : {A : Type 0} (test : A → Bool) (xs : List A) → Every (λ x. test x ≡ false) xs → length (filter test xs) ≡ 0

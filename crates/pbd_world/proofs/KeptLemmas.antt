@@ -1,5 +1,6 @@
 -- What the passes of a step keep of each particle, and of the ledger.
-use Rattle.std.proofs.Common.{◌≡◌, refl, sym, ap, ◌∙◌, ℕ, zero, suc, ◌+◌, ◌*◌, ◌<◌, ◌≤◌, ◌^◌, Bool, true, false, ◌&&◌, List, [], ◌∷◌, length, get_or, arith, ℤ, pos, ◌+ℤ◌, ◌*ℤ◌, ◌≤ℤ◌, neg_ℤ, unsigned_abs, inl, inr}
+use Rattle.std.proofs.Common.{◌≡◌, refl, sym, ap, ◌∙◌, ℕ, zero, suc, ◌+◌, ◌*◌, ◌<◌, ◌≤◌, ◌^◌, Bool, true, false, ◌&&◌, List, [], ◌∷◌}
+use Rattle.std.proofs.Common.{length, get_or, arith, ℤ, pos, ◌+ℤ◌, ◌*ℤ◌, ◌≤ℤ◌, neg_ℤ, unsigned_abs, inl, inr}
 use Rattle.std.specs.Prelude.{IfOk, IsTrue, if◌then◌else◌, slice_set as set}
 use Rattle.std.specs.List.{AllZip}
 use Rattle.std.proofs.lemmas.Int.{ints}
@@ -24,16 +25,20 @@ use Rattle.pbd_world.proofs.MomentumLemmas.{same_sum}
 use Rattle.pbd_world.proofs.StepBalance.{AreEnds}
 use Rattle.pbd_world.proofs.BetweenLemmas.{move_size}
 use Rattle.pbd_world.proofs.LedgerBounds.{AreSmall, bounded_weaker, booked_bounded}
+use Rattle.pbd_num.proofs.Signs.{share_none}
+use Rattle.pbd_num.proofs.VectorSizes.{plus_nothing}
 
 -- ---- two lists side by side
 
-pub zip_at : {A B : Type 0} (R : A → B → Type 0) (xs : List A) (ys : List B) (k : ℕ) (d : A) (e : B) → AllZip R xs ys → k < length xs → R (get_or xs k d) (get_or ys k e)
+pub zip_at : {A B : Type 0} (R : A → B → Type 0) (xs : List A) (ys : List B) (k : ℕ) (d : A) (e : B) → AllZip R xs ys → k < length xs
+    → R (get_or xs k d) (get_or ys k e)
 zip_at R [] ys k d e h l = absurd (omega (arith, l))
 zip_at R (x ∷ xs) [] k d e h l = absurd h
 zip_at R (x ∷ xs) (y ∷ ys) zero d e h l = h.0
 zip_at R (x ∷ xs) (y ∷ ys) (suc k) d e h l = zip_at R xs ys k d e h.1 (omega (arith, l))
 
-pub zip_set : {A B : Type 0} (R : A → B → Type 0) (xs : List A) (ys : List B) (k : ℕ) (d : A) (y : B) → AllZip R xs ys → (k < length xs → R (get_or xs k d) y) → AllZip R xs (set ys k y)
+pub zip_set : {A B : Type 0} (R : A → B → Type 0) (xs : List A) (ys : List B) (k : ℕ) (d : A) (y : B) → AllZip R xs ys
+    → (k < length xs → R (get_or xs k d) y) → AllZip R xs (set ys k y)
 zip_set R [] [] zero d y h f = tt
 zip_set R [] [] (suc k) d y h f = tt
 zip_set R [] (z ∷ zs) k d y h f = absurd h
@@ -41,7 +46,9 @@ zip_set R (x ∷ xs) [] k d y h f = absurd h
 zip_set R (x ∷ xs) (z ∷ zs) zero d y h f = (f (omega arith), h.1)
 zip_set R (x ∷ xs) (z ∷ zs) (suc k) d y h f = (h.0, zip_set R xs zs k d y h.1 (λ l. f (omega (arith, l))))
 
-pub zip_join : {A B C : Type 0} (R : A → B → Type 0) (S : B → C → Type 0) (T : A → C → Type 0) → ((a : A) (b : B) (c : C) → R a b → S b c → T a c) → (xs : List A) (ys : List B) (zs : List C) → AllZip R xs ys → AllZip S ys zs → AllZip T xs zs
+pub zip_join : {A B C : Type 0} (R : A → B → Type 0) (S : B → C → Type 0) (T : A → C → Type 0)
+    → ((a : A) (b : B) (c : C) → R a b → S b c → T a c) → (xs : List A) (ys : List B) (zs : List C) → AllZip R xs ys → AllZip S ys zs
+    → AllZip T xs zs
 zip_join R S T f [] [] [] h k = tt
 zip_join R S T f [] [] (z ∷ zs) h k = absurd k
 zip_join R S T f [] (y ∷ ys) zs h k = absurd h
@@ -68,18 +75,17 @@ kept_join limit p q r h k = record {
   stays = λ e. k.stays (h.held ∙ e) ∙ h.stays e;
 }
 
-kept_placed : (limit : ℤ) (ps qs : List Particle) (i : ℕ) (to : Vec3) → AllZip (Kept limit) ps qs → IsTrue (is_within limit to) → ((particle_at ps i).held ≡ true → to ≡ (particle_at ps i).at) → AllZip (Kept limit) ps (placed qs i to)
+kept_placed : (limit : ℤ) (ps qs : List Particle) (i : ℕ) (to : Vec3) → AllZip (Kept limit) ps qs → IsTrue (is_within limit to)
+    → ((particle_at ps i).held ≡ true → to ≡ (particle_at ps i).at) → AllZip (Kept limit) ps (placed qs i to)
 kept_placed limit ps qs i to z inside stays =
     zip_set (Kept limit) ps qs i no_particle (record (particle_at qs i) { at = to }) z
-    (λ l. let k = zip_at (Kept limit) ps qs i no_particle no_particle z l in record { weight = k.weight; held = k.held; before = k.before; inside = inside; stays = stays })
+    (λ l. let k = zip_at (Kept limit) ps qs i no_particle no_particle z l in
+    record { weight = k.weight; held = k.held; before = k.before; inside = inside; stays = stays })
 
 -- ---- a held end doesn't move
 
 nothing_of : (z : ℤ) → unsigned_abs z ≤ 0 → z ≡ pos 0
 nothing_of z h = omega (arith, ints, h)
-
-no_share : (s k : ℤ) (total : ℕ) → 0 < total → share_of s k (pos 0) total ≡ pos 0
-no_share s k total h = nothing_of (share_of s k (pos 0) total) (size-rdiv ((s *ℤ k) *ℤ pos 0) (pos (256 * total)) 0 (omega (arith, h)) (omega (arith, size-mul (s *ℤ k) (pos 0) (unsigned_abs (s *ℤ k)) 0 (omega arith) (omega arith))))
 
 same_vector : (v w : Vec3) → v.x ≡ w.x → v.y ≡ w.y → v.z ≡ w.z → v ≡ w
 same_vector v w x y z = λ i. record { x = x i; y = y i; z = z i }
@@ -91,7 +97,8 @@ held_first a b rest k wb = elim (cases_lt 0 (length_of (minus a b))) [
         let total = unsigned_abs (pos 0) + unsigned_abs wb in
         let s = corrections (minus a b) rest in
         ap (λ (m : Vec3 × Vec3). m.0) (pair_moves-some a b rest k (pos 0) wb far heavy)
-        ∙ same_vector _ zero_vector (ap neg_ℤ (no_share s.x k total heavy)) (ap neg_ℤ (no_share s.y k total heavy)) (ap neg_ℤ (no_share s.z k total heavy))
+        ∙ same_vector _ zero_vector (ap neg_ℤ (share_none s.x k total heavy)) (ap neg_ℤ (share_none s.y k total heavy))
+        (ap neg_ℤ (share_none s.z k total heavy))
     | inr light ↦ ap (λ (m : Vec3 × Vec3). m.0) (pair_moves-none a b rest k (pos 0) wb (inr (omega (arith, light))))
   ]
   | inr near ↦ ap (λ (m : Vec3 × Vec3). m.0) (pair_moves-none a b rest k (pos 0) wb (inl (omega (arith, near))))
@@ -104,14 +111,11 @@ held_second a b rest k wa = elim (cases_lt 0 (length_of (minus a b))) [
         let total = unsigned_abs wa + unsigned_abs (pos 0) in
         let s = corrections (minus a b) rest in
         ap (λ (m : Vec3 × Vec3). m.1) (pair_moves-some a b rest k wa (pos 0) far heavy)
-        ∙ same_vector _ zero_vector (no_share s.x k total heavy) (no_share s.y k total heavy) (no_share s.z k total heavy)
+        ∙ same_vector _ zero_vector (share_none s.x k total heavy) (share_none s.y k total heavy) (share_none s.z k total heavy)
     | inr light ↦ ap (λ (m : Vec3 × Vec3). m.1) (pair_moves-none a b rest k wa (pos 0) (inr (omega (arith, light))))
   ]
   | inr near ↦ ap (λ (m : Vec3 × Vec3). m.1) (pair_moves-none a b rest k wa (pos 0) (inl (omega (arith, near))))
 ]
-
-plus_nothing : (v : Vec3) → plus v zero_vector ≡ v
-plus_nothing v = same_vector (plus v zero_vector) v (omega (arith, ints)) (omega (arith, ints)) (omega (arith, ints))
 
 -- the weight that a bond sees
 weight_held : (p : Particle) (held : Bool) → p.held ≡ held → held ≡ true → effective_weight p ≡ 0
@@ -122,7 +126,8 @@ weight_free p e = ap (λ (b : Bool). if b then 0 else p.weight) e
 
 -- ---- the entries of a bond
 
-entries_small : (p q : Bool) (bond : Bond) (s : Shift) (c : ℕ) → Within c s.first_move → Within c s.second_move → AreSmall c (entries_of p q (class_of bond) s)
+entries_small : (p q : Bool) (bond : Bond) (s : Shift) (c : ℕ) → Within c s.first_move → Within c s.second_move
+    → AreSmall c (entries_of p q (class_of bond) s)
 entries_small false false bond s c h k = (h, (k, tt))
 entries_small false true bond s c h k = (h, tt)
 entries_small true false bond s c h k = (k, tt)
@@ -134,14 +139,15 @@ entries_few false true bond s = omega arith
 entries_few true false bond s = omega arith
 entries_few true true bond s = omega arith
 
-entries_damping : (p q contact : Bool) (s : Shift) (t : Ledger) → (booked t (entries_of p q (if contact then classes.Contact else classes.Link) s)).damping ≡ t.damping
+entries_damping : (p q contact : Bool) (s : Shift) (t : Ledger)
+    → (booked t (entries_of p q (if contact then classes.Contact else classes.Link) s)).damping ≡ t.damping
 entries_damping false false true s t = refl
 entries_damping false false false s t = refl
 entries_damping false true contact s t = refl
 entries_damping true false contact s t = refl
 entries_damping true true contact s t = refl
 
-back_again : (s v : ℤ) → (s +ℤ neg_ℤ v) +ℤ v ≡ s
+pub back_again : (s v : ℤ) → (s +ℤ neg_ℤ v) +ℤ v ≡ s
 back_again s v = omega (arith, ints)
 
 cancelled : (s : Sum) (u v : Vec3) → u ≡ opposite v → sum_plus (sum_plus s u) v ≡ s
@@ -150,7 +156,8 @@ cancelled s u v e =
     ∙ same_sum (sum_plus (sum_plus s (opposite v)) v) s (back_again s.x v.x) (back_again s.y v.y) (back_again s.z v.z)
 
 entries_even : (p q contact : Bool) (s : Shift) (t : Ledger) → (p ≡ false → q ≡ false → s.first_move ≡ opposite s.second_move)
-    → ((booked t (entries_of p q (if contact then classes.Contact else classes.Link) s)).link ≡ t.link) × ((booked t (entries_of p q (if contact then classes.Contact else classes.Link) s)).contact ≡ t.contact)
+    → ((booked t (entries_of p q (if contact then classes.Contact else classes.Link) s)).link ≡ t.link)
+    × ((booked t (entries_of p q (if contact then classes.Contact else classes.Link) s)).contact ≡ t.contact)
 entries_even false false true s t h = (refl, cancelled t.contact s.first_move s.second_move (h refl refl))
 entries_even false false false s t h = (cancelled t.link s.first_move s.second_move (h refl refl), refl)
 entries_even false true contact s t h = (refl, refl)
@@ -159,7 +166,8 @@ entries_even true true contact s t h = (refl, refl)
 
 -- ---- a motion in the passes of a step
 
--- from particles ps and a ledger t on: the particles are kept, the totals are at most b, nothing is damped, and with one weight the bonds' totals stay
+-- from particles ps and a ledger t on: the particles are kept, the totals are at most b, nothing is damped, and with one weight the bonds'
+-- totals stay
 pub record Goes (limit : ℤ) (ps : List Particle) (t : Ledger) (b : ℕ) (m : Motion) : Type 0 where
   pub kept : AllZip (Kept limit) ps m.particles
   pub bounded : AreBounded b m.totals
@@ -167,17 +175,27 @@ pub record Goes (limit : ℤ) (ps : List Particle) (t : Ledger) (b : ℕ) (m : M
   pub even : (weight : ℕ) → HaveWeight weight ps → (m.totals.link ≡ t.link) × (m.totals.contact ≡ t.contact)
 
 pub goes_weaker : (limit : ℤ) (ps : List Particle) (t : Ledger) (b c : ℕ) (m : Motion) → b ≤ c → Goes limit ps t b m → Goes limit ps t c m
-goes_weaker limit ps t b c m l h = record { kept = h.kept; bounded = bounded_weaker m.totals b c l h.bounded; damping = h.damping; even = h.even }
+goes_weaker limit ps t b c m l h = record {
+  kept = h.kept;
+  bounded = bounded_weaker m.totals b c l h.bounded;
+  damping = h.damping;
+  even = h.even;
+}
 
 -- a limit as it is in a world
 pub record IsLimit (limit : ℤ) : Type 0 where
   pub low : pos 0 ≤ℤ limit
   pub high : unsigned_abs limit ≤ 2 ^ 29
 
-moved_goes : (limit : ℤ) (ps : List Particle) (t : Ledger) (b : ℕ) (m : Motion) (bond : Bond) (s : Shift) → IsLimit limit → AreEnds (length ps) bond → Goes limit ps t b m
+moved_goes : (limit : ℤ) (ps : List Particle) (t : Ledger) (b : ℕ) (m : Motion) (bond : Bond) (s : Shift) → IsLimit limit
+    → AreEnds (length ps) bond → Goes limit ps t b m
     → s ≡ shift_of (end_of (particle_at m.particles bond.a)) (end_of (particle_at m.particles bond.b)) bond
     → IsTrue (is_within limit s.first) → IsTrue (is_within limit s.second)
-    → Goes limit ps t (b + 2 ^ 31) (record { particles = placed (placed m.particles bond.a s.first) bond.b s.second; totals = booked m.totals (entries_of (particle_at m.particles bond.a).held (particle_at m.particles bond.b).held (class_of bond) s) })
+    → Goes limit ps t (b + 2 ^ 31) (record {
+      particles = placed (placed m.particles bond.a s.first) bond.b s.second;
+      totals = booked m.totals (entries_of (particle_at m.particles bond.a).held (particle_at m.particles bond.b).held
+          (class_of bond) s);
+    })
 unfolding shift_of
 moved_goes limit ps t b m bond s lim ends h is first second =
     let qs = m.particles in
@@ -195,18 +213,25 @@ moved_goes limit ps t b m bond s lim ends h is first second =
     let f1 : s.first ≡ plus qa.at s.first_move = ap (λ (x : Shift). x.first) is ∙ ap (plus qa.at) (sym m1) in
     let f2 : s.second ≡ plus qb.at s.second_move = ap (λ (x : Shift). x.second) is ∙ ap (plus qb.at) (sym m2) in
     let stay1 : pa.held ≡ true → s.first ≡ pa.at = λ e.
-    f1 ∙ ap (plus qa.at) (m1 ∙ ap (λ n. (moves n wb).0) (weight_held qa pa.held ka.held e) ∙ held_first qa.at qb.at bond.rest bond.k (pos wb)) ∙ plus_nothing qa.at ∙ ka.stays e in
+    f1 ∙ ap (plus qa.at) (m1 ∙ ap (λ n. (moves n wb).0) (weight_held qa pa.held ka.held e)
+    ∙ held_first qa.at qb.at bond.rest bond.k (pos wb)) ∙ plus_nothing qa.at ∙ ka.stays e in
     let stay2 : pb.held ≡ true → s.second ≡ pb.at = λ e.
-    f2 ∙ ap (plus qb.at) (m2 ∙ ap (λ n. (moves wa n).1) (weight_held qb pb.held kb.held e) ∙ held_second qa.at qb.at bond.rest bond.k (pos wa)) ∙ plus_nothing qb.at ∙ kb.stays e in
+    f2 ∙ ap (plus qb.at) (m2 ∙ ap (λ n. (moves wa n).1) (weight_held qb pb.held kb.held e)
+    ∙ held_second qa.at qb.at bond.rest bond.k (pos wa)) ∙ plus_nothing qb.at ∙ kb.stays e in
     let l = unsigned_abs limit in
     let in1 : Within l (plus qa.at s.first_move) = rw (sym f1) ((within_facts limit s.first lim.low).0 first) in
     let in2 : Within l (plus qb.at s.second_move) = rw (sym f2) ((within_facts limit s.second lim.low).0 second) in
-    let size1 = wider s.first_move (2 * l) (2 ^ 30) (omega (arith, lim.high)) (move_size qa.at s.first_move l ((within_facts limit qa.at lim.low).0 ka.inside) in1) in
-    let size2 = wider s.second_move (2 * l) (2 ^ 30) (omega (arith, lim.high)) (move_size qb.at s.second_move l ((within_facts limit qb.at lim.low).0 kb.inside) in2) in
+    let size1 = wider s.first_move (2 * l) (2 ^ 30) (omega (arith, lim.high))
+    (move_size qa.at s.first_move l ((within_facts limit qa.at lim.low).0 ka.inside) in1) in
+    let size2 = wider s.second_move (2 * l) (2 ^ 30) (omega (arith, lim.high))
+    (move_size qb.at s.second_move l ((within_facts limit qb.at lim.low).0 kb.inside) in2) in
     let es = entries_of qa.held qb.held (class_of bond) s in
     record {
-      kept = kept_placed limit ps (placed qs bond.a s.first) bond.b s.second (kept_placed limit ps qs bond.a s.first h.kept first stay1) second stay2;
-      bounded = bounded_weaker (booked m.totals es) (b + length es * 2 ^ 30) (b + 2 ^ 31) (omega (arith, entries_few qa.held qb.held bond s)) (booked_bounded es m.totals b (2 ^ 30) (entries_small qa.held qb.held bond s (2 ^ 30) size1 size2) h.bounded);
+      kept = kept_placed limit ps (placed qs bond.a s.first) bond.b s.second
+          (kept_placed limit ps qs bond.a s.first h.kept first stay1) second stay2;
+      bounded = bounded_weaker (booked m.totals es) (b + length es * 2 ^ 30) (b + 2 ^ 31)
+          (omega (arith, entries_few qa.held qb.held bond s)) (booked_bounded es m.totals b (2 ^ 30)
+          (entries_small qa.held qb.held bond s (2 ^ 30) size1 size2) h.bounded);
       damping = entries_damping qa.held qb.held bond.contact s m.totals ∙ h.damping;
       even = λ weight all.
           let ea : qa.held ≡ false → wa ≡ weight = λ e. weight_free qa e ∙ ka.weight ∙ all bond.a no_particle ends.first in
@@ -221,14 +246,19 @@ moved_goes limit ps t b m bond s lim ends h is first second =
     }
 
 bond_by : (P : Motion → Type 0) (n : ℕ) (bond : Bond) (s : Shift) (m : Motion) (slack inside : Bool) → P m
-    → (inside ≡ true → P (record { particles = placed (placed m.particles bond.a s.first) bond.b s.second; totals = booked m.totals (entries_of (particle_at m.particles bond.a).held (particle_at m.particles bond.b).held (class_of bond) s) }))
+    → (inside ≡ true → P (record {
+      particles = placed (placed m.particles bond.a s.first) bond.b s.second;
+      totals = booked m.totals (entries_of (particle_at m.particles bond.a).held (particle_at m.particles bond.b).held
+          (class_of bond) s);
+    }))
     → IfOk (corrected n bond (if slack then Slack else (if inside then Moves s else Leaves)) m) P
 bond_by P n bond s m true inside h k = h
 bond_by P n bond s m false true h k = k refl
 bond_by P n bond s m false false h k = tt
 
 -- one bond
-pub one_goes : (limit : ℤ) (bond : ℕ → Bond) (n : ℕ) (ps : List Particle) (t : Ledger) (b : ℕ) (m : Motion) → IsLimit limit → AreEnds (length ps) (bond n) → Goes limit ps t b m → IfOk (one limit bond n m) (Goes limit ps t (b + 2 ^ 31))
+pub one_goes : (limit : ℤ) (bond : ℕ → Bond) (n : ℕ) (ps : List Particle) (t : Ledger) (b : ℕ) (m : Motion) → IsLimit limit
+    → AreEnds (length ps) (bond n) → Goes limit ps t b m → IfOk (one limit bond n m) (Goes limit ps t (b + 2 ^ 31))
 unfolding one correction_of
 one_goes limit bond n ps t b m lim ends h =
     let p = end_of (particle_at m.particles (bond n).a) in
@@ -236,4 +266,5 @@ one_goes limit bond n ps t b m lim ends h =
     let s = shift_of p q (bond n) in
     bond_by (Goes limit ps t (b + 2 ^ 31)) n (bond n) s m (is_slack p q (bond n)) (is_within limit s.first && is_within limit s.second)
     (goes_weaker limit ps t b (b + 2 ^ 31) m (omega arith) h)
-    (λ e. let both = and_parts (is_within limit s.first) (is_within limit s.second) e in moved_goes limit ps t b m (bond n) s lim ends h refl both.0 both.1)
+    (λ e. let both = and_parts (is_within limit s.first) (is_within limit s.second) e in
+    moved_goes limit ps t b m (bond n) s lim ends h refl both.0 both.1)

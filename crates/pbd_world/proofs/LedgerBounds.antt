@@ -20,23 +20,62 @@ bounded_weaker t b c l h = record {
   shape = sum_wider t.shape b c l h.shape;
 }
 
-added_by : (t : Ledger) (class : Class) (v : Vec3) (b c : ℕ) → AreBounded b t → AreBounded (b + c) t → Within c v → AreBounded (b + c) (added t class v)
-added_by t classes.Gravity v b c h a k = record { gravity = sum_grows t.gravity v b c h.gravity k; damping = a.damping; link = a.link; contact = a.contact; shape = a.shape }
-added_by t classes.Damping v b c h a k = record { gravity = a.gravity; damping = sum_grows t.damping v b c h.damping k; link = a.link; contact = a.contact; shape = a.shape }
-added_by t classes.Link v b c h a k = record { gravity = a.gravity; damping = a.damping; link = sum_grows t.link v b c h.link k; contact = a.contact; shape = a.shape }
-added_by t classes.Contact v b c h a k = record { gravity = a.gravity; damping = a.damping; link = a.link; contact = sum_grows t.contact v b c h.contact k; shape = a.shape }
-added_by t classes.Pin v b c h a k = record { gravity = a.gravity; damping = a.damping; link = a.link; contact = a.contact; shape = a.shape }
-added_by t classes.Shape v b c h a k = record { gravity = a.gravity; damping = a.damping; link = a.link; contact = a.contact; shape = sum_grows t.shape v b c h.shape k }
+added_by : (t : Ledger) (class : Class) (v : Vec3) (b c : ℕ) → AreBounded b t → AreBounded (b + c) t → Within c v
+    → AreBounded (b + c) (added t class v)
+added_by t classes.Gravity v b c h a k = record {
+  gravity = sum_grows t.gravity v b c h.gravity k;
+  damping = a.damping;
+  link = a.link;
+  contact = a.contact;
+  shape = a.shape;
+}
+added_by t classes.Damping v b c h a k = record {
+  gravity = a.gravity;
+  damping = sum_grows t.damping v b c h.damping k;
+  link = a.link;
+  contact = a.contact;
+  shape = a.shape;
+}
+added_by t classes.Link v b c h a k = record {
+  gravity = a.gravity;
+  damping = a.damping;
+  link = sum_grows t.link v b c h.link k;
+  contact = a.contact;
+  shape = a.shape;
+}
+added_by t classes.Contact v b c h a k = record {
+  gravity = a.gravity;
+  damping = a.damping;
+  link = a.link;
+  contact = sum_grows t.contact v b c h.contact k;
+  shape = a.shape;
+}
+added_by t classes.Pin v b c h a k = record {
+  gravity = a.gravity;
+  damping = a.damping;
+  link = a.link;
+  contact = a.contact;
+  shape = a.shape;
+}
+added_by t classes.Shape v b c h a k = record {
+  gravity = a.gravity;
+  damping = a.damping;
+  link = a.link;
+  contact = a.contact;
+  shape = sum_grows t.shape v b c h.shape k;
+}
 
 -- entries of at most c on each axis
 abbrev pub AreSmall : ℕ → List Entry → Type 0
 AreSmall c es = AllByRecursion {X = Entry} (λ e. Within c e.1) es
 
-pub booked_bounded : (es : List Entry) (t : Ledger) (b c : ℕ) → AreSmall c es → AreBounded b t → AreBounded (b + length es * c) (booked t es)
+pub booked_bounded : (es : List Entry) (t : Ledger) (b c : ℕ) → AreSmall c es → AreBounded b t
+    → AreBounded (b + length es * c) (booked t es)
 booked_bounded [] t b c s h = bounded_weaker t b (b + length {A = Entry} [] * c) (omega arith) h
 booked_bounded (e ∷ es) t b c s h =
     let one = added_by t e.0 e.1 b c h (bounded_weaker t b (b + c) (omega arith) h) s.0 in
-    bounded_weaker (booked (added t e.0 e.1) es) ((b + c) + length es * c) (b + length (e ∷ es) * c) (omega arith) (booked_bounded es (added t e.0 e.1) (b + c) c s.1 one)
+    bounded_weaker (booked (added t e.0 e.1) es) ((b + c) + length es * c) (b + length (e ∷ es) * c) (omega arith)
+    (booked_bounded es (added t e.0 e.1) (b + c) c s.1 one)
 
 -- ---- particles that carry their entries
 
@@ -51,21 +90,26 @@ pub record IsQuiet (still : Type 0) (x : Moved) : Type 0 where
 abbrev pub all_booked : Ledger → List Moved → Ledger
 all_booked t ms = fold {A = Moved} (λ u m. booked u m.entries) t ms
 
-pub moved_bounded : (still : Type 0) (ms : List Moved) (t : Ledger) (b : ℕ) → AllByRecursion (IsQuiet still) ms → AreBounded b t → AreBounded (b + length ms * 2 ^ 31) (all_booked t ms)
+pub moved_bounded : (still : Type 0) (ms : List Moved) (t : Ledger) (b : ℕ) → AllByRecursion (IsQuiet still) ms → AreBounded b t
+    → AreBounded (b + length ms * 2 ^ 31) (all_booked t ms)
 moved_bounded still [] t b q h = bounded_weaker t b (b + length {A = Moved} [] * 2 ^ 31) (omega arith) h
 moved_bounded still (m ∷ ms) t b q h =
     let few = q.0.few in
-    let one = bounded_weaker (booked t m.entries) (b + length m.entries * 2 ^ 30) (b + 2 ^ 31) (omega (arith, few)) (booked_bounded m.entries t b (2 ^ 30) q.0.small h) in
-    bounded_weaker (all_booked (booked t m.entries) ms) ((b + 2 ^ 31) + length ms * 2 ^ 31) (b + length (m ∷ ms) * 2 ^ 31) (omega arith) (moved_bounded still ms (booked t m.entries) (b + 2 ^ 31) q.1 one)
+    let one = bounded_weaker (booked t m.entries) (b + length m.entries * 2 ^ 30) (b + 2 ^ 31) (omega (arith, few))
+    (booked_bounded m.entries t b (2 ^ 30) q.0.small h) in
+    bounded_weaker (all_booked (booked t m.entries) ms) ((b + 2 ^ 31) + length ms * 2 ^ 31) (b + length (m ∷ ms) * 2 ^ 31) (omega arith)
+    (moved_bounded still ms (booked t m.entries) (b + 2 ^ 31) q.1 one)
 
 pub moved_links : (still : Type 0) (ms : List Moved) (t : Ledger) → AllByRecursion (IsQuiet still) ms → (all_booked t ms).link ≡ t.link
 moved_links still [] t q = refl
 moved_links still (m ∷ ms) t q = moved_links still ms (booked t m.entries) q.1 ∙ q.0.links t
 
-pub moved_contacts : (still : Type 0) (ms : List Moved) (t : Ledger) → AllByRecursion (IsQuiet still) ms → (all_booked t ms).contact ≡ t.contact
+pub moved_contacts : (still : Type 0) (ms : List Moved) (t : Ledger) → AllByRecursion (IsQuiet still) ms
+    → (all_booked t ms).contact ≡ t.contact
 moved_contacts still [] t q = refl
 moved_contacts still (m ∷ ms) t q = moved_contacts still ms (booked t m.entries) q.1 ∙ q.0.contacts t
 
-pub moved_damping : (still : Type 0) (ms : List Moved) (t : Ledger) → still → AllByRecursion (IsQuiet still) ms → (all_booked t ms).damping ≡ t.damping
+pub moved_damping : (still : Type 0) (ms : List Moved) (t : Ledger) → still → AllByRecursion (IsQuiet still) ms
+    → (all_booked t ms).damping ≡ t.damping
 moved_damping still [] t s q = refl
 moved_damping still (m ∷ ms) t s q = moved_damping still ms (booked t m.entries) s q.1 ∙ q.0.damping s t

@@ -1,5 +1,6 @@
 -- How a move changes the momentum, and the ledger with it.
-use Rattle.std.proofs.Common.{◌≡◌, refl, sym, ap, ◌∙◌, ℕ, zero, suc, ◌<◌, Bool, true, false, not, List, [], ◌∷◌, length, map, arith, ℤ, pos, ◌+ℤ◌}
+use Rattle.std.proofs.Common.{◌≡◌, refl, sym, ap, ◌∙◌, ℕ, zero, suc, ◌<◌, Bool, true, false, not, List, [], ◌∷◌, length, map, arith, ℤ, pos}
+use Rattle.std.proofs.Common.{◌+ℤ◌}
 use Rattle.std.specs.Prelude.{filter, fold, cond, slice_set}
 use Rattle.std.proofs.lemmas.Int.{ints}
 use Rattle.pbd_num.specs.declared.Vec3.{Vec3}
@@ -23,7 +24,8 @@ fold_from [] s = same_sum s (both_sums s zero_sum) (omega (arith, ints)) (omega 
 fold_from (v ∷ vs) s =
     let rest = fold sum_plus zero_sum vs in
     fold_from vs (sum_plus s v)
-    ∙ same_sum (both_sums (sum_plus s v) rest) (both_sums s (both_sums (sum_plus zero_sum v) rest)) (three_terms s.x v.x rest.x) (three_terms s.y v.y rest.y) (three_terms s.z v.z rest.z)
+    ∙ same_sum (both_sums (sum_plus s v) rest) (both_sums s (both_sums (sum_plus zero_sum v) rest)) (three_terms s.x v.x rest.x)
+    (three_terms s.y v.y rest.y) (three_terms s.z v.z rest.z)
     ∙ ap (both_sums s) (sym (fold_from vs (sum_plus zero_sum v)))
 
 -- ---- one particle's part in the momentum
@@ -35,9 +37,13 @@ part_by false v = sum_plus zero_sum v
 abbrev pub part : Particle → Sum
 part p = part_by p.held (velocity p)
 
-cons_by : (held : Bool) (v : Vec3) (p : Particle) (ps : List Particle) → velocity p ≡ v → fold sum_plus zero_sum (map velocity (cond (not held) (p ∷ filter is_free ps) (filter is_free ps))) ≡ both_sums (part_by held v) (momentum ps)
-cons_by true v p ps e = same_sum (momentum ps) (both_sums zero_sum (momentum ps)) (omega (arith, ints)) (omega (arith, ints)) (omega (arith, ints))
-cons_by false v p ps e = fold_from (map velocity (filter is_free ps)) (sum_plus zero_sum (velocity p)) ∙ ap (λ (u : Vec3). both_sums (sum_plus zero_sum u) (momentum ps)) e
+cons_by : (held : Bool) (v : Vec3) (p : Particle) (ps : List Particle) → velocity p ≡ v
+    → fold sum_plus zero_sum (map velocity (cond (not held) (p ∷ filter is_free ps) (filter is_free ps)))
+    ≡ both_sums (part_by held v) (momentum ps)
+cons_by true v p ps e = same_sum (momentum ps) (both_sums zero_sum (momentum ps)) (omega (arith, ints)) (omega (arith, ints))
+    (omega (arith, ints))
+cons_by false v p ps e = fold_from (map velocity (filter is_free ps)) (sum_plus zero_sum (velocity p))
+    ∙ ap (λ (u : Vec3). both_sums (sum_plus zero_sum u) (momentum ps)) e
 
 pub momentum_cons : (p : Particle) (ps : List Particle) → momentum (p ∷ ps) ≡ both_sums (part p) (momentum ps)
 momentum_cons p ps = cons_by p.held (velocity p) p ps refl
@@ -49,12 +55,14 @@ under_terms : (a b c d e : ℤ) → b +ℤ c ≡ d +ℤ e → (a +ℤ b) +ℤ c 
 under_terms a b c d e h = omega (arith, ints, h)
 
 -- another particle in place of particle i
-pub momentum_set : (ps : List Particle) (i : ℕ) (q : Particle) → i < length ps → both_sums (momentum (slice_set ps i q)) (part (particle_at ps i)) ≡ both_sums (momentum ps) (part q)
+pub momentum_set : (ps : List Particle) (i : ℕ) (q : Particle) → i < length ps
+    → both_sums (momentum (slice_set ps i q)) (part (particle_at ps i)) ≡ both_sums (momentum ps) (part q)
 momentum_set [] i q h = absurd (omega (arith, h))
 momentum_set (p ∷ ps) zero q h =
     let m = momentum ps in
     ap (λ (s : Sum). both_sums s (part p)) (momentum_cons q ps)
-    ∙ same_sum (both_sums (both_sums (part q) m) (part p)) (both_sums (both_sums (part p) m) (part q)) (swap_terms (part q).x m.x (part p).x) (swap_terms (part q).y m.y (part p).y) (swap_terms (part q).z m.z (part p).z)
+    ∙ same_sum (both_sums (both_sums (part q) m) (part p)) (both_sums (both_sums (part p) m) (part q))
+    (swap_terms (part q).x m.x (part p).x) (swap_terms (part q).y m.y (part p).y) (swap_terms (part q).z m.z (part p).z)
     ∙ ap (λ (s : Sum). both_sums s (part q)) (sym (momentum_cons p ps))
 momentum_set (p ∷ ps) (suc i) q h =
     let m = momentum ps in
@@ -72,7 +80,8 @@ momentum_set (p ∷ ps) (suc i) q h =
 
 -- a move in one of two sums moves both together
 move_first : (s t : Sum) (v : Vec3) → both_sums (sum_plus s v) t ≡ sum_plus (both_sums s t) v
-move_first s t v = same_sum (both_sums (sum_plus s v) t) (sum_plus (both_sums s t) v) (omega (arith, ints)) (omega (arith, ints)) (omega (arith, ints))
+move_first s t v = same_sum (both_sums (sum_plus s v) t) (sum_plus (both_sums s t) v) (omega (arith, ints)) (omega (arith, ints))
+    (omega (arith, ints))
 
 shift_terms : (a b c : ℤ) → a +ℤ (b +ℤ c) ≡ (a +ℤ b) +ℤ c
 shift_terms a b c = omega (arith, ints)
@@ -80,13 +89,17 @@ shift_terms a b c = omega (arith, ints)
 move_second : (s t now : Sum) (v : Vec3) → now ≡ sum_plus t v → both_sums s now ≡ sum_plus (both_sums s t) v
 move_second s t now v is =
     ap (both_sums s) is
-    ∙ same_sum (both_sums s (sum_plus t v)) (sum_plus (both_sums s t) v) (shift_terms s.x t.x v.x) (shift_terms s.y t.y v.y) (shift_terms s.z t.z v.z)
+    ∙ same_sum (both_sums s (sum_plus t v)) (sum_plus (both_sums s t) v) (shift_terms s.x t.x v.x) (shift_terms s.y t.y v.y)
+    (shift_terms s.z t.z v.z)
 
 -- an entry raises all totals together by its move
 pub added_all : (t : Ledger) (c : Class) (v : Vec3) → all_totals (added t c v) ≡ sum_plus (all_totals t) v
 added_all t classes.Gravity v = move_first t.gravity _ v
 added_all t classes.Damping v = move_second t.gravity _ _ v (move_first t.damping _ v)
 added_all t classes.Link v = move_second t.gravity _ _ v (move_second t.damping _ _ v (move_first t.link _ v))
-added_all t classes.Contact v = move_second t.gravity _ _ v (move_second t.damping _ _ v (move_second t.link _ _ v (move_first t.contact _ v)))
-added_all t classes.Pin v = move_second t.gravity _ _ v (move_second t.damping _ _ v (move_second t.link _ _ v (move_second t.contact _ _ v (move_first t.pin t.shape v))))
-added_all t classes.Shape v = move_second t.gravity _ _ v (move_second t.damping _ _ v (move_second t.link _ _ v (move_second t.contact _ _ v (move_second t.pin t.shape _ v refl))))
+added_all t classes.Contact v = move_second t.gravity _ _ v
+    (move_second t.damping _ _ v (move_second t.link _ _ v (move_first t.contact _ v)))
+added_all t classes.Pin v = move_second t.gravity _ _ v (move_second t.damping _ _ v
+    (move_second t.link _ _ v (move_second t.contact _ _ v (move_first t.pin t.shape v))))
+added_all t classes.Shape v = move_second t.gravity _ _ v
+    (move_second t.damping _ _ v (move_second t.link _ _ v (move_second t.contact _ _ v (move_second t.pin t.shape _ v refl))))

@@ -43,9 +43,11 @@ booked_all (e ∷ es) t =
     let m = moves_of es in
     booked_all es (added t e.0 e.1)
     ∙ ap (λ (s : Sum). both_sums s m) (added_all t e.0 e.1)
-    ∙ same_sum (both_sums (sum_plus a e.1) m) (both_sums a (sum_plus m e.1)) (late_terms a.x e.1.x m.x) (late_terms a.y e.1.y m.y) (late_terms a.z e.1.z m.z)
+    ∙ same_sum (both_sums (sum_plus a e.1) m) (both_sums a (sum_plus m e.1)) (late_terms a.x e.1.x m.x) (late_terms a.y e.1.y m.y)
+    (late_terms a.z e.1.z m.z)
 
-moved_all : (ms : List Moved) (t : Ledger) → all_totals (fold {A = Moved} (λ u m. booked u m.entries) t ms) ≡ both_sums (all_totals t) (all_moves ms)
+moved_all : (ms : List Moved) (t : Ledger) → all_totals (fold {A = Moved} (λ u m. booked u m.entries) t ms)
+    ≡ both_sums (all_totals t) (all_moves ms)
 moved_all [] t = plus_zero (all_totals t)
 moved_all (m ∷ ms) t =
     let a = all_totals t in
@@ -53,7 +55,8 @@ moved_all (m ∷ ms) t =
     let c = all_moves ms in
     moved_all ms (booked t m.entries)
     ∙ ap (λ (s : Sum). both_sums s c) (booked_all m.entries t)
-    ∙ same_sum (both_sums (both_sums a b) c) (both_sums a (both_sums b c)) (both_terms a.x b.x c.x) (both_terms a.y b.y c.y) (both_terms a.z b.z c.z)
+    ∙ same_sum (both_sums (both_sums a b) c) (both_sums a (both_sums b c)) (both_terms a.x b.x c.x) (both_terms a.y b.y c.y)
+    (both_terms a.z b.z c.z)
 
 -- ---- a particle that carries its entries
 
@@ -64,7 +67,8 @@ Carries p m = part m.particle ≡ both_sums (part p) (moves_of m.entries)
 four_terms : (a b c d : ℤ) → (a +ℤ b) +ℤ (c +ℤ d) ≡ (a +ℤ c) +ℤ (b +ℤ d)
 four_terms a b c d = omega (arith, ints)
 
-carried : (ps : List Particle) (ms : List Moved) → AllZip Carries ps ms → momentum (map {A = Moved} {B = Particle} (λ m. m.particle) ms) ≡ both_sums (momentum ps) (all_moves ms)
+carried : (ps : List Particle) (ms : List Moved) → AllZip Carries ps ms
+    → momentum (map {A = Moved} {B = Particle} (λ m. m.particle) ms) ≡ both_sums (momentum ps) (all_moves ms)
 carried [] [] h = refl
 carried [] (m ∷ ms) h = absurd h
 carried (p ∷ ps) [] h = absurd h
@@ -77,17 +81,20 @@ carried (p ∷ ps) (m ∷ ms) h =
     momentum_cons m.particle qs
     ∙ ap (λ (s : Sum). both_sums s (momentum qs)) h.0
     ∙ ap (both_sums (both_sums a b)) (carried ps ms h.1)
-    ∙ same_sum (both_sums (both_sums a b) (both_sums c d)) (both_sums (both_sums a c) (both_sums b d)) (four_terms a.x b.x c.x d.x) (four_terms a.y b.y c.y d.y) (four_terms a.z b.z c.z d.z)
+    ∙ same_sum (both_sums (both_sums a b) (both_sums c d)) (both_sums (both_sums a c) (both_sums b d)) (four_terms a.x b.x c.x d.x)
+    (four_terms a.y b.y c.y d.y) (four_terms a.z b.z c.z d.z)
     ∙ ap (λ (s : Sum). both_sums s (both_sums b d)) (sym (momentum_cons p ps))
 
 -- many such particles keep the balance
-pub moved-balanced : (o : Sum) (ps : List Particle) (t : Ledger) (ms : List Moved) → AllZip Carries ps ms → momentum ps ≡ both_sums o (all_totals t) → Balances o (all_moved t ms)
+pub moved-balanced : (o : Sum) (ps : List Particle) (t : Ledger) (ms : List Moved) → AllZip Carries ps ms
+    → momentum ps ≡ both_sums o (all_totals t) → Balances o (all_moved t ms)
 moved-balanced o ps t ms h balance =
     let a = all_totals t in
     let d = all_moves ms in
     carried ps ms h
     ∙ ap (λ (s : Sum). both_sums s d) balance
-    ∙ same_sum (both_sums (both_sums o a) d) (both_sums o (both_sums a d)) (both_terms o.x a.x d.x) (both_terms o.y a.y d.y) (both_terms o.z a.z d.z)
+    ∙ same_sum (both_sums (both_sums o a) d) (both_sums o (both_sums a d)) (both_terms o.x a.x d.x) (both_terms o.y a.y d.y)
+    (both_terms o.z a.z d.z)
     ∙ ap (both_sums o) (sym (moved_all ms t))
 
 -- ---- those of a step
@@ -95,12 +102,14 @@ moved-balanced o ps t ms h balance =
 -- a held particle has no part, wherever it is
 stays_held : (p q : Particle) → p.held ≡ true → q.held ≡ true → Carries p (stays q)
 stays_held p q e f =
-    ap (λ (x : Bool). part_by x (velocity q)) f ∙ plus_zero zero_sum ∙ ap (λ (x : Bool). both_sums (part_by x (velocity p)) zero_sum) (sym e)
+    ap (λ (x : Bool). part_by x (velocity q)) f ∙ plus_zero zero_sum
+    ∙ ap (λ (x : Bool). both_sums (part_by x (velocity p)) zero_sum) (sym e)
 
 pub stays_carries : (p : Particle) → Carries p (stays p)
 stays_carries p = plus_zero (part p)
 
-flown_terms : (at before g l : ℤ) → pos 0 +ℤ (((at +ℤ ((at -ℤ before) -ℤ l)) +ℤ g) -ℤ at) ≡ (pos 0 +ℤ (at -ℤ before)) +ℤ ((pos 0 +ℤ neg_ℤ l) +ℤ g)
+flown_terms : (at before g l : ℤ) → pos 0 +ℤ (((at +ℤ ((at -ℤ before) -ℤ l)) +ℤ g) -ℤ at)
+    ≡ (pos 0 +ℤ (at -ℤ before)) +ℤ ((pos 0 +ℤ neg_ℤ l) +ℤ g)
 flown_terms at before g l = omega (arith, ints)
 
 shaped_terms : (at before to : ℤ) → pos 0 +ℤ (to -ℤ before) ≡ (pos 0 +ℤ (at -ℤ before)) +ℤ (pos 0 +ℤ (to -ℤ at))
@@ -110,9 +119,11 @@ rubbed_terms : (at before l : ℤ) → pos 0 +ℤ (at -ℤ (before +ℤ l)) ≡ 
 rubbed_terms at before l = omega (arith, ints)
 
 -- a free particle, where its new part is known
-free_carries : (p : Particle) (m : Moved) → m.particle.held ≡ p.held → p.held ≡ false → part_by false (velocity m.particle) ≡ both_sums (part_by false (velocity p)) (moves_of m.entries) → Carries p m
+free_carries : (p : Particle) (m : Moved) → m.particle.held ≡ p.held → p.held ≡ false
+    → part_by false (velocity m.particle) ≡ both_sums (part_by false (velocity p)) (moves_of m.entries) → Carries p m
 free_carries p m same e h =
-    ap (λ (x : Bool). part_by x (velocity m.particle)) (same ∙ e) ∙ h ∙ ap (λ (x : Bool). both_sums (part_by x (velocity p)) (moves_of m.entries)) (sym e)
+    ap (λ (x : Bool). part_by x (velocity m.particle)) (same ∙ e) ∙ h
+    ∙ ap (λ (x : Bool). both_sums (part_by x (velocity p)) (moves_of m.entries)) (sym e)
 
 within_by : (p : Particle) (m : Moved) (b : Bool) → Carries p m → IfSome (if b then Some m else None) (Carries p)
 within_by p m true h = h
@@ -127,7 +138,8 @@ flown_carries w p e =
     (flown_terms p.at.y p.before.y w.gravity.y (damped_away w.damping (velocity p)).y)
     (flown_terms p.at.z p.before.z w.gravity.z (damped_away w.damping (velocity p)).z))
 
-predicted_by : (w : World) (i : ℕ) (p : Particle) (b : Bool) → p.held ≡ b → IfSome (if b then Some (stays (attached w i p)) else if_within w.limit (flown w p)) (Carries p)
+predicted_by : (w : World) (i : ℕ) (p : Particle) (b : Bool) → p.held ≡ b
+    → IfSome (if b then Some (stays (attached w i p)) else if_within w.limit (flown w p)) (Carries p)
 predicted_by w i p true e = stays_held p (attached w i p) e e
 predicted_by w i p false e = within_by p (flown w p) (is_within w.limit (flown w p).particle.at) (flown_carries w p e)
 
@@ -145,7 +157,9 @@ ways_by : (p : Particle) (way : Option Way) → p.held ≡ false → IfSome (opt
 ways_by p None e = tt
 ways_by p (Some way) e = way_carries p way e
 
-shaped_with : (limit : ℤ) (shapes : List Shape) (p : Particle) (b : Bool) → p.held ≡ b → IfSome (if b then Some (still p) else option_map (shaped_by p) (way_through limit shapes (record { at = p.at; touched = false }))) (λ s. Carries p s.moved)
+shaped_with : (limit : ℤ) (shapes : List Shape) (p : Particle) (b : Bool) → p.held ≡ b
+    → IfSome (if b then Some (still p) else option_map (shaped_by p) (way_through limit shapes (record { at = p.at; touched = false })))
+    (λ s. Carries p s.moved)
 shaped_with limit shapes p true e = stays_carries p
 shaped_with limit shapes p false e = ways_by p (way_through limit shapes (record { at = p.at; touched = false })) e
 
@@ -161,7 +175,8 @@ slowed_carries friction p e =
     (same_sum (part_by false (velocity m.particle)) (both_sums (part_by false (velocity p)) (moves_of m.entries))
     (rubbed_terms p.at.x p.before.x l.x) (rubbed_terms p.at.y p.before.y l.y) (rubbed_terms p.at.z p.before.z l.z))
 
-rubbed_with : (friction : ℤ) (p : Particle) (b touched : Bool) → p.held ≡ b → Carries p (if not b && touched then slowed friction p else stays p)
+rubbed_with : (friction : ℤ) (p : Particle) (b touched : Bool) → p.held ≡ b
+    → Carries p (if not b && touched then slowed friction p else stays p)
 rubbed_with friction p true touched e = stays_carries p
 rubbed_with friction p false false e = stays_carries p
 rubbed_with friction p false true e = slowed_carries friction p e

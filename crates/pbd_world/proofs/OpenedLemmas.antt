@@ -1,5 +1,6 @@
 -- The world that opens from valid parts is sound.
-use Rattle.std.proofs.Common.{◌≡◌, refl, ℕ, ◌+◌, ◌*◌, ◌≤◌, ◌^◌, Bool, true, false, not, ◌&&◌, ◌||◌, List, [], ◌∷◌, length, map, arith, ℤ, pos, ◌+ℤ◌, ◌≤ℤ◌, unsigned_abs, inl, inr}
+use Rattle.std.proofs.Common.{◌≡◌, refl, ℕ, ◌+◌, ◌*◌, ◌≤◌, ◌^◌, Bool, true, false, not, ◌&&◌, ◌||◌, List, [], ◌∷◌, length, map, arith, ℤ}
+use Rattle.std.proofs.Common.{pos, ◌+ℤ◌, ◌≤ℤ◌, unsigned_abs, inl, inr}
 use Rattle.std.specs.Prelude.{IsTrue, filter, fold, nat_le, cond}
 use Rattle.std.specs.List.{list_all, enumerate_from}
 use Rattle.std.specs.Ordering.{int_eq}
@@ -22,7 +23,8 @@ use Rattle.pbd_world.proofs.Rooms.{sum_grows, sum_wider}
 -- ---- the size of the momentum
 
 -- a valid particle's velocity has axes up to twice the limit
-velocity_within : (limit : ℤ) (b : ℕ) (p : Particle) → pos 0 ≤ℤ limit → unsigned_abs limit ≤ b → IsTrue (is_valid_particle limit p) → Within (2 * b) (velocity p)
+velocity_within : (limit : ℤ) (b : ℕ) (p : Particle) → pos 0 ≤ℤ limit → unsigned_abs limit ≤ b → IsTrue (is_valid_particle limit p)
+    → Within (2 * b) (velocity p)
 velocity_within limit b p h hb v =
     let places = and_parts (is_within limit p.at && is_within limit p.before && nat_le 1 p.weight) (nat_le p.weight 65535) v in
     let both = and_parts (is_within limit p.at && is_within limit p.before) (nat_le 1 p.weight) places.0 in
@@ -39,12 +41,16 @@ velocity_within limit b p h hb v =
 one_more : (limit : ℤ) (b : ℕ) (p : Particle) (ps : List Particle) (s : Sum) (a : ℕ) (held : Bool)
     → ((t : Sum) (u : ℕ) → SumWithin u t → SumWithin (u + length ps * (2 * b)) (fold sum_plus t (map velocity (filter is_free ps))))
     → SumWithin a s → Within (2 * b) (velocity p)
-    → SumWithin (a + length (p ∷ ps) * (2 * b)) (fold sum_plus s (map velocity (cond (not held) (p ∷ filter is_free ps) (filter is_free ps))))
+    → SumWithin (a + length (p ∷ ps) * (2 * b)) (fold sum_plus s
+    (map velocity (cond (not held) (p ∷ filter is_free ps) (filter is_free ps))))
 one_more limit b p ps s a true rest w v = sum_wider _ (a + length ps * (2 * b)) _ (omega arith) (rest s a w)
-one_more limit b p ps s a false rest w v = sum_wider _ ((a + 2 * b) + length ps * (2 * b)) _ (omega arith) (rest (sum_plus s (velocity p)) (a + 2 * b) (sum_grows s (velocity p) a (2 * b) w v))
+one_more limit b p ps s a false rest w v = sum_wider _ ((a + 2 * b) + length ps * (2 * b)) _ (omega arith)
+    (rest (sum_plus s (velocity p)) (a + 2 * b) (sum_grows s (velocity p) a (2 * b) w v))
 
 -- the sum grows by at most so much with each particle
-momentum_from : (limit : ℤ) (b : ℕ) (ps : List Particle) (s : Sum) (a : ℕ) → pos 0 ≤ℤ limit → unsigned_abs limit ≤ b → IsTrue (list_all (is_valid_particle limit) ps) → SumWithin a s → SumWithin (a + length ps * (2 * b)) (fold sum_plus s (map velocity (filter is_free ps)))
+momentum_from : (limit : ℤ) (b : ℕ) (ps : List Particle) (s : Sum) (a : ℕ) → pos 0 ≤ℤ limit → unsigned_abs limit ≤ b
+    → IsTrue (list_all (is_valid_particle limit) ps) → SumWithin a s
+    → SumWithin (a + length ps * (2 * b)) (fold sum_plus s (map velocity (filter is_free ps)))
 momentum_from limit b [] s a h hb v w = sum_wider s a (a + length {A = Particle} [] * (2 * b)) (omega arith) w
 momentum_from limit b (p ∷ ps) s a h hb v w =
     let parts = and_parts (is_valid_particle limit p) (list_all (is_valid_particle limit) ps) v in
@@ -56,7 +62,8 @@ momentum_from limit b (p ∷ ps) s a h hb v w =
 limit_fact : (n : ℤ) → IsTrue (is_limit n) → (pos 0 ≤ℤ n) × (unsigned_abs n ≤ 2 ^ 29)
 limit_fact n t = elim (cases_Bool (int_eq n (pos (2 ^ 28)))) [
   | inl e ↦ (let is = (Decides-int_eq n (pos (2 ^ 28))).0 e in rw is (omega (arith, ints), omega arith))
-  | inr f ↦ (let u : IsTrue (int_eq n (pos (2 ^ 29))) = rw f at t in let is = (Decides-int_eq n (pos (2 ^ 29))).0 u in rw is (omega (arith, ints), omega arith))
+  | inr f ↦ (let u : IsTrue (int_eq n (pos (2 ^ 29))) = rw f at t in let is = (Decides-int_eq n (pos (2 ^ 29))).0 u in
+      rw is (omega (arith, ints), omega arith))
 ]
 
 -- ---- what is held
@@ -66,7 +73,8 @@ either true b c t = refl
 either false true c t = refl
 either false false c t = t
 
-at_rest_from : (tracks : List Track) (ps : List Particle) (n : ℕ) → IsTrue (list_all (λ p. not p.held || is_at_rest p) ps) → IsTrue (list_all {X = ℕ × Particle} (λ m. not m.1.held || is_tracked tracks m.0 || is_at_rest m.1) (enumerate_from n ps))
+at_rest_from : (tracks : List Track) (ps : List Particle) (n : ℕ) → IsTrue (list_all (λ p. not p.held || is_at_rest p) ps)
+    → IsTrue (list_all {X = ℕ × Particle} (λ m. not m.1.held || is_tracked tracks m.0 || is_at_rest m.1) (enumerate_from n ps))
 at_rest_from tracks [] n t = refl
 at_rest_from tracks (p ∷ ps) n t =
     let parts = and_parts (not p.held || is_at_rest p) (list_all (λ q. not q.held || is_at_rest q) ps) t in
@@ -87,7 +95,8 @@ nothing : (n : ℕ) → SumWithin n zero_sum
 nothing n = record { x = omega arith; y = omega arith; z = omega arith }
 
 -- the limit and the particles of well formed parts
-well_formed-begins : (parts : Parts) → IsTrue (is_well_formed parts) → IsTrue (is_limit parts.limit) × IsTrue (are_valid_particles parts.limit parts.particles)
+well_formed-begins : (parts : Parts) → IsTrue (is_well_formed parts)
+    → IsTrue (is_limit parts.limit) × IsTrue (are_valid_particles parts.limit parts.particles)
 unfolding is_well_formed
 well_formed-begins parts t =
     let p8 = and_parts _ _ t in let p7 = and_parts _ _ p8.0 in let p6 = and_parts _ _ p7.0 in let p5 = and_parts _ _ p6.0 in
@@ -110,7 +119,8 @@ opened-is_sound parts v =
       steps = omega arith;
       contacts = omega arith;
       bounded = record { gravity = nothing 0; damping = nothing 0; link = nothing 0; contact = nothing 0; shape = nothing 0 };
-      opening = sum_wider (momentum parts.particles) (0 + length parts.particles * (2 * 2 ^ 29)) (2 ^ 46) (omega arith) (momentum_from parts.limit (2 ^ 29) parts.particles zero_sum 0 limit.0 limit.1 particles.1 (nothing 0));
+      opening = sum_wider (momentum parts.particles) (0 + length parts.particles * (2 * 2 ^ 29)) (2 ^ 46) (omega arith)
+          (momentum_from parts.limit (2 ^ 29) parts.particles zero_sum 0 limit.0 limit.1 particles.1 (nothing 0));
       balanced = nothing_more (momentum parts.particles);
       undamped = λ e. refl;
       one_weight = λ weight all. (refl, refl);

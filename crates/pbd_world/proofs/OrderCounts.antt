@@ -1,5 +1,6 @@
 -- How many numbers an order has: as many as there are live pairs.
-use Rattle.std.proofs.Common.{◌≡◌, ◌≢◌, ◌⊎◌, inl, inr, refl, ap, sym, ◌∙◌, ℕ, zero, suc, ◌+◌, ◌<◌, ◌≤◌, ◌&&◌, ◌==◌, Bool, true, false, cond, List, [], ◌∷◌, length, get_or, map, filter, length-append, arith}
+use Rattle.std.proofs.Common.{◌≡◌, ◌≢◌, ◌⊎◌, inl, inr, refl, ap, sym, ◌∙◌, ℕ, zero, suc, ◌+◌, ◌<◌, ◌≤◌, ◌&&◌, ◌==◌, Bool, true, false, cond}
+use Rattle.std.proofs.Common.{List, [], ◌∷◌, length, get_or, map, filter, length-append, arith}
 use Rattle.std.proofs.lemmas.Bool.{cases_eq, eq-eqb, ne_eqb}
 use Rattle.std.specs.List.{range_with_len, flat_map}
 use Rattle.pbd_world.specs.declared.parts.Link.{Link}
@@ -50,23 +51,28 @@ flat_total f a (suc n) = omega (arith, length-append (f a) (flat_map f (range_wi
 
 -- ---- what is kept of a list
 
-pub kept_more : {A : Type 0} (test : A → Bool) (x : A) (xs : List A) → length (filter test (x ∷ xs)) ≡ cond (test x) 1 0 + length (filter test xs)
+pub kept_more : {A : Type 0} (test : A → Bool) (x : A) (xs : List A)
+    → length (filter test (x ∷ xs)) ≡ cond (test x) 1 0 + length (filter test xs)
 kept_more {A} test x xs = by (test x) where
   by : (b : Bool) → length {A = A} (cond b (x ∷ filter test xs) (filter test xs)) ≡ cond b 1 0 + length (filter test xs)
   by true = omega arith
   by false = omega arith
 
 -- each number that is kept has one colour
-by_colour : (test : ℕ → Bool) (colour_of : ℕ → ℕ) (n : ℕ) → ((i : ℕ) → colour_of i < n) → (xs : List ℕ) → total (λ c. length (filter (λ i. test i && colour_of i == c) xs)) 0 n ≡ length (filter test xs)
+by_colour : (test : ℕ → Bool) (colour_of : ℕ → ℕ) (n : ℕ) → ((i : ℕ) → colour_of i < n) → (xs : List ℕ)
+    → total (λ c. length (filter (λ i. test i && colour_of i == c) xs)) 0 n ≡ length (filter test xs)
 by_colour test colour_of n low [] = total_zeros 0 n
 by_colour test colour_of n low (i ∷ xs) =
     let here : ℕ → ℕ = λ c. cond (test i && colour_of i == c) 1 0 in
     let rest : ℕ → ℕ = λ c. length (filter (λ j. test j && colour_of j == c) xs) in
     let whole : ℕ → ℕ = λ c. length (filter (λ j. test j && colour_of j == c) (i ∷ xs)) in
-    let both : total whole 0 n ≡ total here 0 n + total rest 0 n = total_both whole here rest 0 n (λ c. kept_more (λ j. test j && colour_of j == c) i xs) in
-    let one : total here 0 n ≡ here (colour_of i) = total_one here (colour_of i) 0 n (λ c d. no (test i) c d) (omega arith) (omega (arith, low i)) in
+    let both : total whole 0 n ≡ total here 0 n + total rest 0 n =
+    total_both whole here rest 0 n (λ c. kept_more (λ j. test j && colour_of j == c) i xs) in
+    let one : total here 0 n ≡ here (colour_of i) = total_one here (colour_of i) 0 n (λ c d. no (test i) c d) (omega arith)
+    (omega (arith, low i)) in
     let this : here (colour_of i) ≡ cond (test i) 1 0 = yes (test i) in
-    both ∙ ap (λ k. k + total rest 0 n) (one ∙ this) ∙ ap (λ k. cond (test i) 1 0 + k) (by_colour test colour_of n low xs) ∙ sym (kept_more test i xs)
+    both ∙ ap (λ k. k + total rest 0 n) (one ∙ this) ∙ ap (λ k. cond (test i) 1 0 + k) (by_colour test colour_of n low xs)
+    ∙ sym (kept_more test i xs)
   where
     no : (b : Bool) (c : ℕ) → c ≢ colour_of i → cond {A = ℕ} (b && colour_of i == c) 1 0 ≡ 0
     no true c d = ap (λ (b : Bool). cond {A = ℕ} b 1 0) (ne_eqb (colour_of i) c (λ e. d (sym e)))
@@ -77,19 +83,25 @@ by_colour test colour_of n low (i ∷ xs) =
     yes false = refl
 
 -- numbers whose flags are set
-by_flags : (test : ℕ → Bool) (a : ℕ) (flags : List Bool) → ((k : ℕ) → k < length flags → test (a + k) ≡ get_or flags k false) → length (filter test (range_with_len a (length flags))) ≡ length (filter (λ b. b) flags)
+by_flags : (test : ℕ → Bool) (a : ℕ) (flags : List Bool) → ((k : ℕ) → k < length flags → test (a + k) ≡ get_or flags k false)
+    → length (filter test (range_with_len a (length flags))) ≡ length (filter (λ b. b) flags)
 by_flags test a [] h = refl
 by_flags test a (b ∷ flags) h =
     let first : test a ≡ b = (let e : a + 0 ≡ a = omega arith in sym (ap test e) ∙ h 0 (omega arith)) in
     let here : cond {A = ℕ} (test a) 1 0 ≡ cond b 1 0 = ap (λ (t : Bool). cond {A = ℕ} t 1 0) first in
-    let rest = by_flags test (a + 1) flags (λ k lt. (let e : a + 1 + k ≡ a + suc k = omega arith in ap test e ∙ h (suc k) (omega (arith, lt)))) in
-    kept_more test a (range_with_len (a + 1) (length flags)) ∙ ap (λ k. k + length (filter test (range_with_len (a + 1) (length flags)))) here ∙ ap (λ k. cond b 1 0 + k) rest ∙ sym (kept_more {A = Bool} (λ t. t) b flags)
+    let rest = by_flags test (a + 1) flags (λ k lt. (let e : a + 1 + k ≡ a + suc k = omega arith in
+    ap test e ∙ h (suc k) (omega (arith, lt)))) in
+    kept_more test a (range_with_len (a + 1) (length flags))
+    ∙ ap (λ k. k + length (filter test (range_with_len (a + 1) (length flags)))) here ∙ ap (λ k. cond b 1 0 + k) rest
+    ∙ sym (kept_more {A = Bool} (λ t. t) b flags)
 
-order_count : (pairs : List (ℕ × ℕ)) (live : List Bool) → length live ≡ length pairs → length (order pairs live) ≡ length (filter (λ b. b) live)
+order_count : (pairs : List (ℕ × ℕ)) (live : List Bool) → length live ≡ length pairs
+    → length (order pairs live) ≡ length (filter (λ b. b) live)
 unfolding order
 order_count pairs live same =
     flat_total (of_colour live (colour pairs live) (length pairs)) 0 64
-    ∙ by_colour (live_at live) (colour pairs live) 64 (λ i. let h = (colour-is_greedy pairs live i).within in omega (arith, h)) (range_with_len 0 (length pairs))
+    ∙ by_colour (live_at live) (colour pairs live) 64 (λ i. let h = (colour-is_greedy pairs live i).within in omega (arith, h))
+    (range_with_len 0 (length pairs))
     ∙ ap (λ (n : ℕ). length (filter (live_at live) (range_with_len 0 n))) (sym same)
     ∙ by_flags (live_at live) 0 live (λ k lt. ap (live_at live) (plus_none k))
   where
@@ -98,13 +110,19 @@ order_count pairs live same =
 
 -- ---- links and contacts
 
-flags_kept : (links : List Link) → length (filter (λ b. b) (live_flags links)) ≡ live_count links
+pub flags_kept : (links : List Link) → length (filter (λ b. b) (live_flags links)) ≡ live_count links
 flags_kept [] = refl
-flags_kept (l ∷ links) = omega (arith, kept_more {A = Bool} (λ b. b) l.live (live_flags links), kept_more {A = Link} (λ k. k.live) l links, flags_kept links)
+flags_kept (l ∷ links) = omega (
+  arith,
+  kept_more {A = Bool} (λ b. b) l.live (live_flags links),
+  kept_more {A = Link} (λ k. k.live) l links,
+  flags_kept links,
+)
 
 pub links_count : (links : List Link) → length (link_order links) ≡ live_count links
 links_count links =
-    order_count (link_pairs links) (live_flags links) (length-map {A = Link} {B = Bool} links (λ l. l.live) ∙ sym (length-map {A = Link} {B = ℕ × ℕ} links (λ l. (l.a, l.b))))
+    order_count (link_pairs links) (live_flags links) (length-map {A = Link} {B = Bool} links (λ l. l.live)
+    ∙ sym (length-map {A = Link} {B = ℕ × ℕ} links (λ l. (l.a, l.b))))
     ∙ flags_kept links
 
 all_kept : (pairs : List (ℕ × ℕ)) → length (filter (λ b. b) (map (λ pair. true) pairs)) ≡ length pairs
@@ -112,4 +130,5 @@ all_kept [] = refl
 all_kept (pair ∷ pairs) = ap suc (all_kept pairs)
 
 pub contacts_count : (pairs : List (ℕ × ℕ)) → length (contact_order pairs) ≡ length pairs
-contacts_count pairs = order_count pairs (map (λ pair. true) pairs) (length-map {A = ℕ × ℕ} {B = Bool} pairs (λ pair. true)) ∙ all_kept pairs
+contacts_count pairs = order_count pairs (map (λ pair. true) pairs) (length-map {A = ℕ × ℕ} {B = Bool} pairs (λ pair. true))
+    ∙ all_kept pairs

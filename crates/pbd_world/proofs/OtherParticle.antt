@@ -1,5 +1,6 @@
 -- A sound world with another particle in place of one.
-use Rattle.std.proofs.Common.{◌≡◌, refl, sym, ap, ◌∙◌, ℕ, zero, suc, ◌+◌, ◌<◌, Bool, true, false, not, ◌||◌, List, [], ◌∷◌, length, length-set, arith, ℤ, subst, inl, inr}
+use Rattle.std.proofs.Common.{◌≡◌, refl, sym, ap, ◌∙◌, ℕ, zero, suc, ◌+◌, ◌<◌, Bool, true, false, not, ◌||◌, List, [], ◌∷◌, length}
+use Rattle.std.proofs.Common.{length-set, arith, ℤ, subst, inl, inr}
 use Rattle.std.specs.Prelude.{IsTrue, nat_le, ◌==◌, slice_set as set}
 use Rattle.std.specs.List.{AllByRecursion, AllZip, list_all, enumerate_from}
 use Rattle.std.proofs.lemmas.Bool.{and_parts, and_from, cases_eq, eq-eqb}
@@ -17,7 +18,8 @@ use Rattle.pbd_world.proofs.PredictGoes.{rests, all_rest}
 use Rattle.pbd_world.proofs.SameShape.{all_blank, weights_same, have_weight}
 use Rattle.pbd_world.proofs.WorldParts.{formed, from_formed, IsFit, all_fit, are_fit}
 
-fit_set : (limit : ℤ) (ps : List Particle) (i : ℕ) (q : Particle) → AllByRecursion (IsFit limit) ps → IsFit limit q → AllByRecursion (IsFit limit) (set ps i q)
+fit_set : (limit : ℤ) (ps : List Particle) (i : ℕ) (q : Particle) → AllByRecursion (IsFit limit) ps → IsFit limit q
+    → AllByRecursion (IsFit limit) (set ps i q)
 fit_set limit [] zero q h k = tt
 fit_set limit [] (suc i) q h k = tt
 fit_set limit (p ∷ ps) zero q h k = (k, h.1)
@@ -33,13 +35,15 @@ weight_refl [] = tt
 weight_refl (p ∷ ps) = (refl, weight_refl ps)
 
 -- a held particle where the track's is
-pub held_set : (ps : List Particle) (i k : ℕ) (q : Particle) → (k ≡ i → q.held ≡ true) → (particle_at ps k).held ≡ true → i < length ps → (particle_at (set ps i q) k).held ≡ true
+pub held_set : (ps : List Particle) (i k : ℕ) (q : Particle) → (k ≡ i → q.held ≡ true) → (particle_at ps k).held ≡ true → i < length ps
+    → (particle_at (set ps i q) k).held ≡ true
 held_set ps i k q h e l = elim (cases_eq k i) [
   | inl is ↦ ap (λ n. (particle_at (set ps i q) n).held) is ∙ ap (λ (p : Particle). p.held) (get_or-set_same ps i q no_particle l) ∙ h is
   | inr other ↦ ap (λ (p : Particle). p.held) (get_or-set_other ps i k q no_particle other) ∙ e
 ]
 
-tracked_set : (tracks : List Track) (ps : List Particle) (i : ℕ) (q : Particle) → i < length ps → (is_tracked tracks i ≡ true → q.held ≡ true) → IsTrue (are_tracked_held tracks ps) → IsTrue (are_tracked_held tracks (set ps i q))
+tracked_set : (tracks : List Track) (ps : List Particle) (i : ℕ) (q : Particle) → i < length ps
+    → (is_tracked tracks i ≡ true → q.held ≡ true) → IsTrue (are_tracked_held tracks ps) → IsTrue (are_tracked_held tracks (set ps i q))
 tracked_set [] ps i q l h k = refl
 tracked_set (t ∷ ts) ps i q l h k =
     let parts = and_parts (particle_at ps t.particle).held (are_tracked_held ts ps) k in
@@ -51,17 +55,23 @@ tracked_set (t ∷ ts) ps i q l h k =
     or_true true = refl
     or_true false = refl
 
-rest_to : (tracks : List Track) (i : ℕ) (ps : List Particle) → IsTrue (list_all {X = ℕ × Particle} (λ n. not n.1.held || is_tracked tracks n.0 || is_at_rest n.1) (enumerate_from i ps)) → all_rest tracks i ps ≡ true
+rest_to : (tracks : List Track) (i : ℕ) (ps : List Particle)
+    → IsTrue (list_all {X = ℕ × Particle} (λ n. not n.1.held || is_tracked tracks n.0 || is_at_rest n.1) (enumerate_from i ps))
+    → all_rest tracks i ps ≡ true
 rest_to tracks i [] h = refl
 rest_to tracks i (p ∷ ps) h =
-    let parts = and_parts (rests tracks i p) (list_all {X = ℕ × Particle} (λ n. not n.1.held || is_tracked tracks n.0 || is_at_rest n.1) (enumerate_from (i + 1) ps)) h in
+    let parts = and_parts (rests tracks i p) (list_all {X = ℕ × Particle} (λ n. not n.1.held || is_tracked tracks n.0 || is_at_rest n.1)
+    (enumerate_from (i + 1) ps)) h in
     and_from _ _ parts.0 (rest_to tracks (i + 1) ps parts.1)
 
-rest_from : (tracks : List Track) (i : ℕ) (ps : List Particle) → all_rest tracks i ps ≡ true → IsTrue (list_all {X = ℕ × Particle} (λ n. not n.1.held || is_tracked tracks n.0 || is_at_rest n.1) (enumerate_from i ps))
+rest_from : (tracks : List Track) (i : ℕ) (ps : List Particle) → all_rest tracks i ps ≡ true
+    → IsTrue (list_all {X = ℕ × Particle} (λ n. not n.1.held || is_tracked tracks n.0 || is_at_rest n.1) (enumerate_from i ps))
 rest_from tracks i [] h = refl
-rest_from tracks i (p ∷ ps) h = let parts = and_parts (rests tracks i p) (all_rest tracks (i + 1) ps) h in and_from _ _ parts.0 (rest_from tracks (i + 1) ps parts.1)
+rest_from tracks i (p ∷ ps) h = let parts = and_parts (rests tracks i p) (all_rest tracks (i + 1) ps) h in
+    and_from _ _ parts.0 (rest_from tracks (i + 1) ps parts.1)
 
-rest_set : (tracks : List Track) (n i k : ℕ) (ps : List Particle) (q : Particle) → k ≡ n + i → rests tracks k q ≡ true → all_rest tracks n ps ≡ true → all_rest tracks n (set ps i q) ≡ true
+rest_set : (tracks : List Track) (n i k : ℕ) (ps : List Particle) (q : Particle) → k ≡ n + i → rests tracks k q ≡ true
+    → all_rest tracks n ps ≡ true → all_rest tracks n (set ps i q) ≡ true
 rest_set tracks n zero k [] q e r h = refl
 rest_set tracks n (suc i) k [] q e r h = refl
 rest_set tracks n zero k (p ∷ ps) q e r h =
@@ -102,18 +112,21 @@ pub record FitsIn (w : World) (i : ℕ) (q : Particle) : Type 0 where
 abbrev pub other : World → ℕ → Particle → Ledger → World
 other w i q t = record (with_particle w i q) { totals = t }
 
-pub set_sound : (w : World) (i : ℕ) (q : Particle) (t : Ledger) → IsSound w → i < length w.particles → FitsIn w i q → AgreeButPin w.totals t → IsBalanced w.opening t (set w.particles i q) → IsSound (other w i q t)
+pub set_sound : (w : World) (i : ℕ) (q : Particle) (t : Ledger) → IsSound w → i < length w.particles → FitsIn w i q → AgreeButPin w.totals t
+    → IsBalanced w.opening t (set w.particles i q) → IsSound (other w i q t)
 set_sound w i q t sound l f agree balance =
     let form = formed (parts_of w) sound.well_formed in
     let ps = w.particles in
     let qs = set ps i q in
     let same : length qs ≡ length ps = length-set ps i q in
     let counts = and_parts (nat_le (length ps) 65536) (list_all (is_valid_particle w.limit) ps) form.particles in
-    let weights = zip_set {A = Particle} {B = Particle} (λ p r. r.weight ≡ p.weight) ps ps i no_particle q (weight_refl ps) (λ k. f.weight) in
+    let weights = zip_set {A = Particle} {B = Particle} (λ p r. r.weight ≡ p.weight) ps ps i no_particle q (weight_refl ps)
+    (λ k. f.weight) in
     record {
       well_formed = from_formed (parts_of (other w i q t)) (record {
         limit = form.limit;
-        particles = and_from _ _ (ap (λ n. nat_le n 65536) same ∙ counts.0) (are_fit w.limit qs (fit_set w.limit ps i q (all_fit w.limit ps counts.1) f.fit));
+        particles = and_from _ _ (ap (λ n. nat_le n 65536) same ∙ counts.0)
+            (are_fit w.limit qs (fit_set w.limit ps i q (all_fit w.limit ps counts.1) f.fit));
         links = subst (λ (n : ℕ). IsTrue (are_valid_links w.limit n w.links)) (sym same) form.links;
         planes = form.planes;
         spheres = form.spheres;
@@ -129,11 +142,14 @@ set_sound w i q t sound l f agree balance =
       opening = sound.opening;
       balanced = balance;
       undamped = λ e. agree.damping ∙ sound.undamped e;
-      one_weight = λ weight all. let old = sound.one_weight weight (have_weight weight ps qs weights all) in (agree.link ∙ old.0, agree.contact ∙ old.1);
+      one_weight = λ weight all. let old = sound.one_weight weight (have_weight weight ps qs weights all) in
+          (agree.link ∙ old.0, agree.contact ∙ old.1);
     }
 
-pub set_scene : (w : World) (i : ℕ) (q : Particle) (t : Ledger) → i < length w.particles → q.weight ≡ (particle_at w.particles i).weight → AreOfOneScene w (other w i q t)
+pub set_scene : (w : World) (i : ℕ) (q : Particle) (t : Ledger) → i < length w.particles → q.weight ≡ (particle_at w.particles i).weight
+    → AreOfOneScene w (other w i q t)
 set_scene w i q t l e =
-    let weights = zip_set {A = Particle} {B = Particle} (λ p r. r.weight ≡ p.weight) w.particles w.particles i no_particle q (weight_refl w.particles) (λ k. e) in
+    let weights = zip_set {A = Particle} {B = Particle} (λ p r. r.weight ≡ p.weight) w.particles w.particles i no_particle q
+    (weight_refl w.particles) (λ k. e) in
     let same : all_blank w.particles ≡ all_blank (set w.particles i q) = weights_same w.particles (set w.particles i q) weights in
     λ j. record (unchanging w) { particles = same j }

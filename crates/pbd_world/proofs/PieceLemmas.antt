@@ -11,11 +11,13 @@ pieces_hold m n some = omega (arith, some, lt-div-mul-add {a = m + n - 1} {b = n
 
 -- no fewer hold them
 pub pieces_least : (m n k : ℕ) → 0 < n → m ≤ k * n → pieces_of m n ≤ k
-pieces_least m n k some h = let below : pieces_of m n < k + 1 = div_below (m + n - 1) n (k + 1) some (omega (arith, some, h)) in omega (arith, below)
+pieces_least m n k some h = let below : pieces_of m n < k + 1 = div_below (m + n - 1) n (k + 1) some (omega (arith, some, h)) in
+    omega (arith, below)
 
 -- longer pieces are no more
 pub pieces_fewer : (m n o : ℕ) → 0 < n → n ≤ o → pieces_of m o ≤ pieces_of m n
-pieces_fewer m n o some h = pieces_least m o (pieces_of m n) (omega (arith, some, h)) (omega (arith, pieces_hold m n some, mul-le-mul_left {m = n} {n = o} (pieces_of m n) h))
+pieces_fewer m n o some h = pieces_least m o (pieces_of m n) (omega (arith, some, h))
+    (omega (arith, pieces_hold m n some, mul-le-mul_left {m = n} {n = o} (pieces_of m n) h))
 
 pub pieces_each : (m n : ℕ) → 0 < n → pieces_of m n ≤ m
 pieces_each m n some = pieces_least m n m some (omega (arith, mul-le-mul_left {m = 1} {n = n} m (omega (arith, some))))
@@ -39,7 +41,8 @@ pieces_half (suc m) n some =
     let k : ℕ = pieces_of (suc m) n in
     let fits : suc m ≤ k * n = pieces_hold (suc m) n some in
     let wide : k * n ≤ (2 * ((k + 1) / 2)) * n = mul_right k (2 * ((k + 1) / 2)) n (omega arith) in
-    let least : pieces_of (suc m) (2 * n) ≤ (k + 1) / 2 = pieces_least (suc m) (2 * n) ((k + 1) / 2) (omega (arith, some)) (omega (arith, fits, wide)) in
+    let least : pieces_of (suc m) (2 * n) ≤ (k + 1) / 2 = pieces_least (suc m) (2 * n) ((k + 1) / 2) (omega (arith, some))
+    (omega (arith, fits, wide)) in
     omega (arith, least, some_there m)
   where
     mul_right : (a b c : ℕ) → a ≤ b → a * c ≤ b * c
@@ -48,7 +51,11 @@ pieces_half (suc m) n some =
 -- as many as there are whole pieces, and one more
 pub pieces_some : (m n : ℕ) → 0 < n → pieces_of m n ≤ m / n + some_of m
 pieces_some zero n some = omega (arith, pieces_each 0 n some)
-pieces_some (suc m) n some = omega (arith, some_there m, pieces_least (suc m) n (suc m / n + 1) some (omega (arith, lt-div-mul-add {a = suc m} {b = n} some)))
+pieces_some (suc m) n some = omega (
+  arith,
+  some_there m,
+  pieces_least (suc m) n (suc m / n + 1) some (omega (arith, lt-div-mul-add {a = suc m} {b = n} some)),
+)
 
 -- whole pieces of two parts are pieces of both together
 pub whole_pieces : (m k n : ℕ) → 0 < n → m / n + k / n ≤ (m + k) / n

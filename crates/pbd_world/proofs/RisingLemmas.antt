@@ -10,11 +10,13 @@ abbrev pub Rising : {A : Type 0} → (A → A → Type 0) → List A → Type 0
 Rising R [] = Unit {0}
 Rising R (x ∷ xs) = AllByRecursion (R x) xs × Rising R xs
 
-pub rising_join : {A : Type 0} (R : A → A → Type 0) (xs ys : List A) → Rising R xs → Rising R ys → AllByRecursion (λ x. AllByRecursion (R x) ys) xs → Rising R (xs ++ ys)
+pub rising_join : {A : Type 0} (R : A → A → Type 0) (xs ys : List A) → Rising R xs → Rising R ys
+    → AllByRecursion (λ x. AllByRecursion (R x) ys) xs → Rising R (xs ++ ys)
 rising_join R [] ys h k b = k
 rising_join R (x ∷ xs) ys h k b = (all-append (R x) xs ys h.0 b.0, rising_join R xs ys h.1 k b.1)
 
-rising_kept : {A : Type 0} (R : A → A → Type 0) (b : Bool) (x : A) (xs : List A) → AllByRecursion (R x) xs → Rising R xs → Rising R (cond b (x ∷ xs) xs)
+rising_kept : {A : Type 0} (R : A → A → Type 0) (b : Bool) (x : A) (xs : List A) → AllByRecursion (R x) xs → Rising R xs
+    → Rising R (cond b (x ∷ xs) xs)
 rising_kept R true x xs h k = (h, k)
 rising_kept R false x xs h k = k
 

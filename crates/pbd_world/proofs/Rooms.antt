@@ -49,7 +49,8 @@ total_within t classes.Pin b h = h.pin
 total_within t classes.Shape b h = h.shape
 
 -- with room, the totals take the move
-pub move_fits : (t : Ledger) (class : Class) (v : Vec3) (b c : ℕ) → HaveRoom b t → Within c v → b + c < 2 ^ 127 → SumFits (sum_plus (total_of t class) v)
+pub move_fits : (t : Ledger) (class : Class) (v : Vec3) (b c : ℕ) → HaveRoom b t → Within c v → b + c < 2 ^ 127
+    → SumFits (sum_plus (total_of t class) v)
 move_fits t class v b c h k room = sum_fits (total_of t class) v b c (total_within t class b h) k room
 
 -- and no total grows by more than the move
@@ -59,9 +60,51 @@ room_left t class v b c h k =
     in_class class all
   where
     in_class : (d : Class) → HaveRoom (b + c) t → HaveRoom (b + c) (added t d v)
-    in_class classes.Gravity a = record { gravity = sum_grows t.gravity v b c h.gravity k; damping = a.damping; link = a.link; contact = a.contact; pin = a.pin; shape = a.shape }
-    in_class classes.Damping a = record { gravity = a.gravity; damping = sum_grows t.damping v b c h.damping k; link = a.link; contact = a.contact; pin = a.pin; shape = a.shape }
-    in_class classes.Link a = record { gravity = a.gravity; damping = a.damping; link = sum_grows t.link v b c h.link k; contact = a.contact; pin = a.pin; shape = a.shape }
-    in_class classes.Contact a = record { gravity = a.gravity; damping = a.damping; link = a.link; contact = sum_grows t.contact v b c h.contact k; pin = a.pin; shape = a.shape }
-    in_class classes.Pin a = record { gravity = a.gravity; damping = a.damping; link = a.link; contact = a.contact; pin = sum_grows t.pin v b c h.pin k; shape = a.shape }
-    in_class classes.Shape a = record { gravity = a.gravity; damping = a.damping; link = a.link; contact = a.contact; pin = a.pin; shape = sum_grows t.shape v b c h.shape k }
+    in_class classes.Gravity a = record {
+      gravity = sum_grows t.gravity v b c h.gravity k;
+      damping = a.damping;
+      link = a.link;
+      contact = a.contact;
+      pin = a.pin;
+      shape = a.shape;
+    }
+    in_class classes.Damping a = record {
+      gravity = a.gravity;
+      damping = sum_grows t.damping v b c h.damping k;
+      link = a.link;
+      contact = a.contact;
+      pin = a.pin;
+      shape = a.shape;
+    }
+    in_class classes.Link a = record {
+      gravity = a.gravity;
+      damping = a.damping;
+      link = sum_grows t.link v b c h.link k;
+      contact = a.contact;
+      pin = a.pin;
+      shape = a.shape;
+    }
+    in_class classes.Contact a = record {
+      gravity = a.gravity;
+      damping = a.damping;
+      link = a.link;
+      contact = sum_grows t.contact v b c h.contact k;
+      pin = a.pin;
+      shape = a.shape;
+    }
+    in_class classes.Pin a = record {
+      gravity = a.gravity;
+      damping = a.damping;
+      link = a.link;
+      contact = a.contact;
+      pin = sum_grows t.pin v b c h.pin k;
+      shape = a.shape;
+    }
+    in_class classes.Shape a = record {
+      gravity = a.gravity;
+      damping = a.damping;
+      link = a.link;
+      contact = a.contact;
+      pin = a.pin;
+      shape = sum_grows t.shape v b c h.shape k;
+    }

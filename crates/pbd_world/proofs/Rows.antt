@@ -237,7 +237,8 @@ tear_then_contact = record {
   };
   script = Step 1 ∷ Frame ∷ Step 1 ∷ Frame ∷ [];
   printed =
-      codes "ok" ∷ codes "frame 1 2 0 0" ∷ codes "0 0 0" ∷ codes "50 0 0" ∷ codes "ok" ∷ codes "frame 2 2 0 1" ∷ codes "0 0 0" ∷ codes "50 0 0" ∷ [];
+      codes "ok" ∷ codes "frame 1 2 0 0" ∷ codes "0 0 0" ∷ codes "50 0 0" ∷ codes "ok" ∷ codes "frame 2 2 0 1" ∷ codes "0 0 0"
+      ∷ codes "50 0 0" ∷ [];
 }
 
 -- a track goes from key to key in thirds, rounded, and stays at its last key
@@ -249,7 +250,9 @@ tracks_move = record {
   };
   script = Frame ∷ Step 1 ∷ Frame ∷ Step 1 ∷ Frame ∷ Step 1 ∷ Frame ∷ Step 1 ∷ Frame ∷ Unpin 0 ∷ [];
   printed =
-      codes "frame 0 2 0 0" ∷ codes "0 0 0" ∷ codes "1 0 0" ∷ codes "ok" ∷ codes "frame 1 2 0 0" ∷ codes "3 0 0" ∷ codes "5 0 0" ∷ codes "ok" ∷ codes "frame 2 2 0 0" ∷ codes "7 0 0" ∷ codes "5 0 0" ∷ codes "ok" ∷ codes "frame 3 2 0 0" ∷ codes "10 0 0" ∷ codes "5 0 0" ∷ codes "ok" ∷ codes "frame 4 2 0 0" ∷ codes "10 0 0" ∷ codes "5 0 0" ∷ codes "refused 8 Tracked" ∷ [];
+      codes "frame 0 2 0 0" ∷ codes "0 0 0" ∷ codes "1 0 0" ∷ codes "ok" ∷ codes "frame 1 2 0 0" ∷ codes "3 0 0" ∷ codes "5 0 0"
+      ∷ codes "ok" ∷ codes "frame 2 2 0 0" ∷ codes "7 0 0" ∷ codes "5 0 0" ∷ codes "ok" ∷ codes "frame 3 2 0 0" ∷ codes "10 0 0"
+      ∷ codes "5 0 0" ∷ codes "ok" ∷ codes "frame 4 2 0 0" ∷ codes "10 0 0" ∷ codes "5 0 0" ∷ codes "refused 8 Tracked" ∷ [];
 }
 
 -- commands that are refused, each for the first reason that applies
@@ -258,20 +261,27 @@ commands_refused = record {
   scene = record empty {
     particles = particle (at 0 0 0) (v (neg_ℤ (pos 5)) (pos 0) (pos 0)) 1 false ∷ [];
   };
-  script = Pin 0 ∷ Ledger ∷ Pin 0 ∷ Move 0 (at 1 2 3) ∷ Unpin 0 ∷ Unpin 0 ∷ Pin 9 ∷ Cut 0 ∷ Gravity (at 536870913 0 0) ∷ Step 0 ∷ Bad ∷ Frame ∷ [];
+  script = Pin 0 ∷ Ledger ∷ Pin 0 ∷ Move 0 (at 1 2 3) ∷ Unpin 0 ∷ Unpin 0 ∷ Pin 9 ∷ Cut 0 ∷ Gravity (at 536870913 0 0) ∷ Step 0 ∷ Bad
+      ∷ Frame ∷ [];
   printed =
       (codes "ok" ∷ [])
       ++ ledger none (codes "5 0 0") none none none none (codes "-5 0 0") none
-      ++ (codes "refused 7 Held" ∷ codes "ok" ∷ codes "ok" ∷ codes "refused 6 NotHeld" ∷ codes "refused 2 NoParticle" ∷ codes "refused 3 NoLink" ∷ codes "refused 5 OutOfRange" ∷ codes "refused 9 BadCount" ∷ codes "refused 1 BadCommand" ∷ codes "frame 0 1 0 0" ∷ codes "1 2 3" ∷ []);
+      ++ (codes "refused 7 Held" ∷ codes "ok" ∷ codes "ok" ∷ codes "refused 6 NotHeld" ∷ codes "refused 2 NoParticle"
+      ∷ codes "refused 3 NoLink" ∷ codes "refused 5 OutOfRange" ∷ codes "refused 9 BadCount" ∷ codes "refused 1 BadCommand"
+      ∷ codes "frame 0 1 0 0" ∷ codes "1 2 3" ∷ []);
 }
 
-all_print : AllByRecursion Prints (falls ∷ link_pulls ∷ link_one_held ∷ link_weights ∷ damping_halves ∷ contacts_push ∷ sphere_pushes ∷ plane_pushes ∷ friction_half ∷ refused_at_seventh ∷ tear_then_contact ∷ tracks_move ∷ commands_refused ∷ [])
-unfolding rdiv root pair_moves is_slack shift_of correction_of one least_free colours colour order contacts_of plane_shape sphere_shape shaped rubbed place_at predict pass tear step meaning place_line header_line sum_line refusal_line text session_text digits
+all_print : AllByRecursion Prints (falls ∷ link_pulls ∷ link_one_held ∷ link_weights ∷ damping_halves ∷ contacts_push ∷ sphere_pushes
+    ∷ plane_pushes ∷ friction_half ∷ refused_at_seventh ∷ tear_then_contact ∷ tracks_move ∷ commands_refused ∷ [])
+unfolding rdiv root pair_moves is_slack shift_of correction_of one least_free colours colour order contacts_of plane_shape sphere_shape
+    shaped rubbed place_at predict pass tear step meaning place_line header_line sum_line refusal_line text session_text digits
 all_print = (refl, (refl, (refl, (refl, (refl, (refl, (refl, (refl, (refl, (refl, (refl, (refl, (refl, tt)))))))))))))
 
 -- the last step that a world may reach, and the refusal of the next
-step_limit : session_text (record (opened empty) { steps = 999999 }) (Step 1 ∷ Step 1 ∷ []) ≡ flat_map (λ l. l ++ 10 ∷ []) (codes "ok" ∷ codes "refused 10 StepLimit" ∷ [])
-unfolding rdiv root pair_moves is_slack shift_of correction_of one least_free colours colour order contacts_of plane_shape sphere_shape shaped rubbed place_at predict pass tear step meaning place_line header_line sum_line refusal_line text session_text digits
+step_limit : session_text (record (opened empty) { steps = 999999 }) (Step 1 ∷ Step 1 ∷ [])
+    ≡ flat_map (λ l. l ++ 10 ∷ []) (codes "ok" ∷ codes "refused 10 StepLimit" ∷ [])
+unfolding rdiv root pair_moves is_slack shift_of correction_of one least_free colours colour order contacts_of plane_shape sphere_shape
+    shaped rubbed place_at predict pass tear step meaning place_line header_line sum_line refusal_line text session_text digits
 step_limit = refl
 
 -- ---- colours

@@ -28,15 +28,18 @@ any_alike l (m ∷ ls) = ap (λ b. join_alike l m || b) (any_alike l ls)
 
 none_alike : (ls : List Link) → none_twice join_alike (all_unlive ls) ≡ none_twice join_alike ls
 none_alike [] = refl
-none_alike (l ∷ ls) = ap (λ b. not b && none_twice join_alike (all_unlive ls)) (any_alike l ls) ∙ ap (λ b. not (list_any (join_alike l) ls) && b) (none_alike ls)
+none_alike (l ∷ ls) = ap (λ b. not b && none_twice join_alike (all_unlive ls)) (any_alike l ls)
+    ∙ ap (λ b. not (list_any (join_alike l) ls) && b) (none_alike ls)
 
-filter_count : (b : Bool) (l m : Link) (ls ms : List Link) → length ls ≡ length ms → length (cond b (l ∷ ls) ls) ≡ length (cond b (m ∷ ms) ms)
+filter_count : (b : Bool) (l m : Link) (ls ms : List Link) → length ls ≡ length ms
+    → length (cond b (l ∷ ls) ls) ≡ length (cond b (m ∷ ms) ms)
 filter_count true l m ls ms e = ap suc e
 filter_count false l m ls ms e = e
 
 at_same : (ls : List Link) (i : ℕ) → links_at (all_unlive ls) i ≡ links_at ls i
 at_same [] i = refl
-at_same (l ∷ ls) i = filter_count (l.a == i || l.b == i) (unlive l) l (filter (λ (m : Link). m.a == i || m.b == i) (all_unlive ls)) (filter (λ (m : Link). m.a == i || m.b == i) ls) (at_same ls i)
+at_same (l ∷ ls) i = filter_count (l.a == i || l.b == i) (unlive l) l (filter (λ (m : Link). m.a == i || m.b == i) (all_unlive ls))
+    (filter (λ (m : Link). m.a == i || m.b == i) ls) (at_same ls i)
 
 all_valid : (limit : ℤ) (n : ℕ) (ls : List Link) → list_all (is_valid_link limit n) (all_unlive ls) ≡ list_all (is_valid_link limit n) ls
 all_valid limit n [] = refl
@@ -49,14 +52,19 @@ same_all p q (x ∷ xs) h = ap (λ b. b && list_all p xs) (h x) ∙ ap (λ b. q 
 valid_same : (limit : ℤ) (n : ℕ) (ls : List Link) → are_valid_links limit n (all_unlive ls) ≡ are_valid_links limit n ls
 valid_same limit n ls =
     let many = length-mapped {A = Link} {B = Link} (λ l. record l { live = false }) ls in
-    let counts = same_all (λ i. nat_le (links_at (all_unlive ls) i) 32) (λ i. nat_le (links_at ls i) 32) (range_with_len 0 n) (λ i. ap (λ k. nat_le k 32) (at_same ls i)) in
-    ap (λ k. nat_le k 524288 && list_all (is_valid_link limit n) (all_unlive ls) && none_twice join_alike (all_unlive ls) && list_all (λ i. nat_le (links_at (all_unlive ls) i) 32) (range_with_len 0 n)) many
-    ∙ ap (λ b. nat_le (length ls) 524288 && b && none_twice join_alike (all_unlive ls) && list_all (λ i. nat_le (links_at (all_unlive ls) i) 32) (range_with_len 0 n)) (all_valid limit n ls)
-    ∙ ap (λ b. nat_le (length ls) 524288 && list_all (is_valid_link limit n) ls && b && list_all (λ i. nat_le (links_at (all_unlive ls) i) 32) (range_with_len 0 n)) (none_alike ls)
+    let counts = same_all (λ i. nat_le (links_at (all_unlive ls) i) 32) (λ i. nat_le (links_at ls i) 32) (range_with_len 0 n)
+    (λ i. ap (λ k. nat_le k 32) (at_same ls i)) in
+    ap (λ k. nat_le k 524288 && list_all (is_valid_link limit n) (all_unlive ls) && none_twice join_alike (all_unlive ls)
+    && list_all (λ i. nat_le (links_at (all_unlive ls) i) 32) (range_with_len 0 n)) many
+    ∙ ap (λ b. nat_le (length ls) 524288 && b && none_twice join_alike (all_unlive ls)
+    && list_all (λ i. nat_le (links_at (all_unlive ls) i) 32) (range_with_len 0 n)) (all_valid limit n ls)
+    ∙ ap (λ b. nat_le (length ls) 524288 && list_all (is_valid_link limit n) ls && b
+    && list_all (λ i. nat_le (links_at (all_unlive ls) i) 32) (range_with_len 0 n)) (none_alike ls)
     ∙ ap (λ b. nat_le (length ls) 524288 && list_all (is_valid_link limit n) ls && none_twice join_alike ls && b) counts
 
 -- links that differ in what is live alone are valid together
-pub links_valid : (limit : ℤ) (n : ℕ) (ls ms : List Link) → all_unlive ms ≡ all_unlive ls → IsTrue (are_valid_links limit n ls) → IsTrue (are_valid_links limit n ms)
+pub links_valid : (limit : ℤ) (n : ℕ) (ls ms : List Link) → all_unlive ms ≡ all_unlive ls → IsTrue (are_valid_links limit n ls)
+    → IsTrue (are_valid_links limit n ms)
 links_valid limit n ls ms e h = sym (valid_same limit n ms) ∙ ap (are_valid_links limit n) e ∙ valid_same limit n ls ∙ h
 
 pub torn_same : (ps : List Particle) (ls : List Link) → all_unlive (tear ps ls) ≡ all_unlive ls
@@ -88,25 +96,31 @@ pub weights_same : (ps qs : List Particle) → AllZip SameWeight ps qs → all_b
 weights_same [] [] h = refl
 weights_same [] (q ∷ qs) h = absurd h
 weights_same (p ∷ ps) [] h = absurd h
-weights_same (p ∷ ps) (q ∷ qs) h = (λ i. same_blank p q h.0 i ∷ all_blank ps) ∙ ap (λ (xs : List Particle). blank q ∷ xs) (weights_same ps qs h.1)
+weights_same (p ∷ ps) (q ∷ qs) h = (λ i. same_blank p q h.0 i ∷ all_blank ps)
+    ∙ ap (λ (xs : List Particle). blank q ∷ xs) (weights_same ps qs h.1)
 
-weight_back : (weight : ℕ) (ps qs : List Particle) → AllZip SameWeight ps qs → AllByRecursion {X = Particle} (λ p. p.weight ≡ weight) qs → AllByRecursion {X = Particle} (λ p. p.weight ≡ weight) ps
+weight_back : (weight : ℕ) (ps qs : List Particle) → AllZip SameWeight ps qs → AllByRecursion {X = Particle} (λ p. p.weight ≡ weight) qs
+    → AllByRecursion {X = Particle} (λ p. p.weight ≡ weight) ps
 weight_back weight [] [] z h = tt
 weight_back weight [] (q ∷ qs) z h = absurd z
 weight_back weight (p ∷ ps) [] z h = absurd z
 weight_back weight (p ∷ ps) (q ∷ qs) z h = (sym z.0 ∙ h.0, weight_back weight ps qs z.1 h.1)
 
 pub have_weight : (weight : ℕ) (ps qs : List Particle) → AllZip SameWeight ps qs → HaveWeight weight qs → HaveWeight weight ps
-have_weight weight ps qs z h = All-from_recursion (λ (p : Particle). p.weight ≡ weight) ps (weight_back weight ps qs z (recursion_from_All (λ (p : Particle). p.weight ≡ weight) qs h))
+have_weight weight ps qs z h = All-from_recursion (λ (p : Particle). p.weight ≡ weight) ps
+    (weight_back weight ps qs z (recursion_from_All (λ (p : Particle). p.weight ≡ weight) qs h))
 
 -- ---- tracked particles
 
-held_at : (ps qs : List Particle) (i : ℕ) → AllZip {A = Particle} {B = Particle} (λ p q. q.held ≡ p.held) ps qs → (particle_at qs i).held ≡ (particle_at ps i).held
+held_at : (ps qs : List Particle) (i : ℕ) → AllZip {A = Particle} {B = Particle} (λ p q. q.held ≡ p.held) ps qs
+    → (particle_at qs i).held ≡ (particle_at ps i).held
 held_at [] [] i h = refl
 held_at [] (q ∷ qs) i h = absurd h
 held_at (p ∷ ps) [] i h = absurd h
 held_at (p ∷ ps) (q ∷ qs) zero h = h.0
 held_at (p ∷ ps) (q ∷ qs) (suc i) h = held_at ps qs i h.1
 
-pub tracked_held : (tracks : List Track) (ps qs : List Particle) → AllZip {A = Particle} {B = Particle} (λ p q. q.held ≡ p.held) ps qs → IsTrue (are_tracked_held tracks ps) → IsTrue (are_tracked_held tracks qs)
-tracked_held tracks ps qs z h = same_all (λ (t : Track). (particle_at qs t.particle).held) (λ (t : Track). (particle_at ps t.particle).held) tracks (λ t. held_at ps qs t.particle z) ∙ h
+pub tracked_held : (tracks : List Track) (ps qs : List Particle) → AllZip {A = Particle} {B = Particle} (λ p q. q.held ≡ p.held) ps qs
+    → IsTrue (are_tracked_held tracks ps) → IsTrue (are_tracked_held tracks qs)
+tracked_held tracks ps qs z h = same_all (λ (t : Track). (particle_at qs t.particle).held)
+    (λ (t : Track). (particle_at ps t.particle).held) tracks (λ t. held_at ps qs t.particle z) ∙ h

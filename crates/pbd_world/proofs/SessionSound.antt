@@ -23,14 +23,17 @@ last-sound w (c ∷ cs) s =
 pub session-sound : (parts : Parts) (cs : List Command) → IsTrue (is_valid parts) → IsSound (last_world (opened parts) cs)
 session-sound parts cs v = (last-sound (opened parts) cs (opened-is_sound parts v)).0
 
-pub session-scene : (parts : Parts) (cs : List Command) → IsTrue (is_valid parts) → AreOfOneScene (opened parts) (last_world (opened parts) cs)
+pub session-scene : (parts : Parts) (cs : List Command) → IsTrue (is_valid parts)
+    → AreOfOneScene (opened parts) (last_world (opened parts) cs)
 session-scene parts cs v = (last-sound (opened parts) cs (opened-is_sound parts v)).1
 
 -- with three totals of nothing, three are left
-three_left : (m o g d l c p s : ℤ) → m ≡ o +ℤ (g +ℤ (d +ℤ (l +ℤ (c +ℤ (p +ℤ s))))) → d ≡ pos 0 → l ≡ pos 0 → c ≡ pos 0 → m ≡ o +ℤ (g +ℤ (p +ℤ s))
+three_left : (m o g d l c p s : ℤ) → m ≡ o +ℤ (g +ℤ (d +ℤ (l +ℤ (c +ℤ (p +ℤ s))))) → d ≡ pos 0 → l ≡ pos 0 → c ≡ pos 0
+    → m ≡ o +ℤ (g +ℤ (p +ℤ s))
 three_left m o g d l c p s e hd hl hc = omega (arith, ints, e, hd, hl, hc)
 
-pub undamped-balance : (w : World) (weight : ℕ) → IsSound w → w.damping ≡ pos 0 → HaveWeight weight w.particles → momentum w.particles ≡ both_sums w.opening (both_sums w.totals.gravity (both_sums w.totals.pin w.totals.shape))
+pub undamped-balance : (w : World) (weight : ℕ) → IsSound w → w.damping ≡ pos 0 → HaveWeight weight w.particles
+    → momentum w.particles ≡ both_sums w.opening (both_sums w.totals.gravity (both_sums w.totals.pin w.totals.shape))
 undamped-balance w weight s still all =
     let m = momentum w.particles in
     let o = w.opening in
@@ -38,6 +41,9 @@ undamped-balance w weight s still all =
     let d = s.undamped still in
     let e = s.one_weight weight all in
     same_sum m (both_sums o (both_sums t.gravity (both_sums t.pin t.shape)))
-    (three_left m.x o.x t.gravity.x t.damping.x t.link.x t.contact.x t.pin.x t.shape.x (ap (λ (x : Sum). x.x) s.balanced) (ap (λ (x : Sum). x.x) d) (ap (λ (x : Sum). x.x) e.0) (ap (λ (x : Sum). x.x) e.1))
-    (three_left m.y o.y t.gravity.y t.damping.y t.link.y t.contact.y t.pin.y t.shape.y (ap (λ (x : Sum). x.y) s.balanced) (ap (λ (x : Sum). x.y) d) (ap (λ (x : Sum). x.y) e.0) (ap (λ (x : Sum). x.y) e.1))
-    (three_left m.z o.z t.gravity.z t.damping.z t.link.z t.contact.z t.pin.z t.shape.z (ap (λ (x : Sum). x.z) s.balanced) (ap (λ (x : Sum). x.z) d) (ap (λ (x : Sum). x.z) e.0) (ap (λ (x : Sum). x.z) e.1))
+    (three_left m.x o.x t.gravity.x t.damping.x t.link.x t.contact.x t.pin.x t.shape.x (ap (λ (x : Sum). x.x) s.balanced)
+    (ap (λ (x : Sum). x.x) d) (ap (λ (x : Sum). x.x) e.0) (ap (λ (x : Sum). x.x) e.1))
+    (three_left m.y o.y t.gravity.y t.damping.y t.link.y t.contact.y t.pin.y t.shape.y (ap (λ (x : Sum). x.y) s.balanced)
+    (ap (λ (x : Sum). x.y) d) (ap (λ (x : Sum). x.y) e.0) (ap (λ (x : Sum). x.y) e.1))
+    (three_left m.z o.z t.gravity.z t.damping.z t.link.z t.contact.z t.pin.z t.shape.z (ap (λ (x : Sum). x.z) s.balanced)
+    (ap (λ (x : Sum). x.z) d) (ap (λ (x : Sum). x.z) e.0) (ap (λ (x : Sum). x.z) e.1))

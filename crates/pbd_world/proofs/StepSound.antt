@@ -1,5 +1,6 @@
 -- A step leads from a sound world to a sound one of the same scene.
-use Rattle.std.proofs.Common.{◌≡◌, refl, sym, ap, ◌∙◌, ℕ, ◌+◌, ◌*◌, ◌<◌, ◌≤◌, ◌^◌, Bool, true, false, not, ◌||◌, List, [], ◌∷◌, length, map, arith, ℤ, pos, unsigned_abs, subst}
+use Rattle.std.proofs.Common.{◌≡◌, refl, sym, ap, ◌∙◌, ℕ, ◌+◌, ◌*◌, ◌<◌, ◌≤◌, ◌^◌, Bool, true, false, not, ◌||◌, List, [], ◌∷◌, length, map}
+use Rattle.std.proofs.Common.{arith, ℤ, pos, unsigned_abs, subst}
 use Rattle.std.specs.Prelude.{Result, Ok, Err, IfOk, IsTrue, nat_le, nat_lt, if◌then◌else◌}
 use Rattle.std.specs.List.{AllByRecursion, AllZip, list_all, enumerate_from}
 use Rattle.std.proofs.lemmas.Bool.{and_parts, and_from, ltb-false, leb-true}
@@ -32,19 +33,27 @@ use Rattle.pbd_world.proofs.WorldParts.{formed, from_formed, numbers_of, limit_o
 -- ---- the start
 
 -- what the moves of predicting give, particle by particle
-starts_list : (limit : ℤ) (still : Type 0) (ps : List Particle) (ms : List Moved) → AllByRecursion (IsFit limit) ps → AllZip (λ p x. IsTrue (is_within limit p.at) × IsTrue (is_within limit p.before) → Starts limit still p x) ps ms → AllZip (Starts limit still) ps ms
+starts_list : (limit : ℤ) (still : Type 0) (ps : List Particle) (ms : List Moved) → AllByRecursion (IsFit limit) ps
+    → AllZip (λ p x. IsTrue (is_within limit p.at) × IsTrue (is_within limit p.before) → Starts limit still p x) ps ms
+    → AllZip (Starts limit still) ps ms
 starts_list limit still [] [] f z = tt
 starts_list limit still [] (m ∷ ms) f z = absurd z
 starts_list limit still (p ∷ ps) [] f z = absurd z
 starts_list limit still (p ∷ ps) (m ∷ ms) f z = (z.0 (f.0.at, f.0.before), starts_list limit still ps ms f.1 z.1)
 
-started : (limit : ℤ) (still : Type 0) (ps : List Particle) (ms : List Moved) → AllZip (Starts limit still) ps ms → AllByRecursion (IsQuiet still) ms × AllZip (Kept limit) (map {A = Moved} {B = Particle} (λ m. m.particle) ms) (map {A = Moved} {B = Particle} (λ m. m.particle) ms) × AllByRecursion {X = Particle} (λ p. IsTrue (is_within limit p.before)) (map {A = Moved} {B = Particle} (λ m. m.particle) ms)
+started : (limit : ℤ) (still : Type 0) (ps : List Particle) (ms : List Moved) → AllZip (Starts limit still) ps ms
+    → AllByRecursion (IsQuiet still) ms × AllZip (Kept limit) (map {A = Moved} {B = Particle} (λ m. m.particle) ms)
+    (map {A = Moved} {B = Particle} (λ m. m.particle) ms) × AllByRecursion {X = Particle} (λ p. IsTrue (is_within limit p.before))
+    (map {A = Moved} {B = Particle} (λ m. m.particle) ms)
 started limit still [] [] z = (tt, tt, tt)
 started limit still [] (m ∷ ms) z = absurd z
 started limit still (p ∷ ps) [] z = absurd z
 started limit still (p ∷ ps) (m ∷ ms) z =
-    let rest = started limit still ps ms z.1 in
-    ((z.0.quiet, rest.0), (record { weight = refl; held = refl; before = refl; inside = z.0.inside; stays = λ e. refl }, rest.1), (z.0.before, rest.2))
+    let rest = started limit still ps ms z.1 in (
+      (z.0.quiet, rest.0),
+      (record { weight = refl; held = refl; before = refl; inside = z.0.inside; stays = λ e. refl }, rest.1),
+      (z.0.before, rest.2),
+    )
 
 -- from the start of a step to its end: the same weight and hold, and both places within the limit
 pub record Steps (limit : ℤ) (p r : Particle) : Type 0 where
@@ -53,24 +62,36 @@ pub record Steps (limit : ℤ) (p r : Particle) : Type 0 where
   pub inside : IsTrue (is_within limit r.at)
   pub before : IsTrue (is_within limit r.before)
 
-whole_way : (limit : ℤ) (still : Type 0) (ps : List Particle) (ms : List Moved) (rs : List Particle) → AllZip (Starts limit still) ps ms → AllZip (Stops limit) (map {A = Moved} {B = Particle} (λ m. m.particle) ms) rs → AllZip (Steps limit) ps rs
+whole_way : (limit : ℤ) (still : Type 0) (ps : List Particle) (ms : List Moved) (rs : List Particle) → AllZip (Starts limit still) ps ms
+    → AllZip (Stops limit) (map {A = Moved} {B = Particle} (λ m. m.particle) ms) rs → AllZip (Steps limit) ps rs
 whole_way limit still [] [] [] z y = tt
 whole_way limit still [] [] (r ∷ rs) z y = absurd y
 whole_way limit still [] (m ∷ ms) rs z y = absurd z
 whole_way limit still (p ∷ ps) [] rs z y = absurd z
 whole_way limit still (p ∷ ps) (m ∷ ms) [] z y = absurd y
-whole_way limit still (p ∷ ps) (m ∷ ms) (r ∷ rs) z y = (record { weight = y.0.weight ∙ z.0.weight; held = y.0.held ∙ z.0.held; inside = y.0.inside; before = y.0.before }, whole_way limit still ps ms rs z.1 y.1)
+whole_way limit still (p ∷ ps) (m ∷ ms) (r ∷ rs) z y = (
+  record {
+    weight = y.0.weight ∙ z.0.weight;
+    held = y.0.held ∙ z.0.held;
+    inside = y.0.inside;
+    before = y.0.before;
+  },
+  whole_way limit still ps ms rs z.1 y.1,
+)
 
 -- ---- the end
 
-rest_by : (tracks : List Track) (i : ℕ) (limit : ℤ) (p r : Particle) (held : Bool) → p.held ≡ held → Stops limit p r → rests tracks i p ≡ true → rests tracks i r ≡ true
+rest_by : (tracks : List Track) (i : ℕ) (limit : ℤ) (p r : Particle) (held : Bool) → p.held ≡ held → Stops limit p r
+    → rests tracks i p ≡ true → rests tracks i r ≡ true
 rest_by tracks i limit p r true e s h =
     let still = s.stays e in
-    let same : is_at_rest r ≡ is_at_rest p = ap (λ (v : Vec3). is_at_rest (record r { at = v })) still.0 ∙ ap (λ (v : Vec3). is_at_rest (record r { at = p.at; before = v })) still.1 in
+    let same : is_at_rest r ≡ is_at_rest p = ap (λ (v : Vec3). is_at_rest (record r { at = v })) still.0
+    ∙ ap (λ (v : Vec3). is_at_rest (record r { at = p.at; before = v })) still.1 in
     ap (λ b. not b || is_tracked tracks i || is_at_rest r) s.held ∙ ap (λ b. not p.held || is_tracked tracks i || b) same ∙ h
 rest_by tracks i limit p r false e s h = ap (λ b. not b || is_tracked tracks i || is_at_rest r) (s.held ∙ e)
 
-rest_stays : (tracks : List Track) (i : ℕ) (limit : ℤ) (ps rs : List Particle) → AllZip (Stops limit) ps rs → all_rest tracks i ps ≡ true → IsTrue (list_all {X = ℕ × Particle} (λ n. not n.1.held || is_tracked tracks n.0 || is_at_rest n.1) (enumerate_from i rs))
+rest_stays : (tracks : List Track) (i : ℕ) (limit : ℤ) (ps rs : List Particle) → AllZip (Stops limit) ps rs → all_rest tracks i ps ≡ true
+    → IsTrue (list_all {X = ℕ × Particle} (λ n. not n.1.held || is_tracked tracks n.0 || is_at_rest n.1) (enumerate_from i rs))
 rest_stays tracks i limit [] [] z h = refl
 rest_stays tracks i limit [] (r ∷ rs) z h = absurd z
 rest_stays tracks i limit (p ∷ ps) [] z h = absurd z
@@ -78,25 +99,37 @@ rest_stays tracks i limit (p ∷ ps) (r ∷ rs) z h =
     let parts = and_parts (rests tracks i p) (all_rest tracks (i + 1) ps) h in
     and_from _ _ (rest_by tracks i limit p r p.held refl z.0 parts.0) (rest_stays tracks (i + 1) limit ps rs z.1 parts.1)
 
-fit_steps : (limit : ℤ) (ps rs : List Particle) → AllByRecursion (IsFit limit) ps → AllZip (Steps limit) ps rs → AllByRecursion (IsFit limit) rs
+fit_steps : (limit : ℤ) (ps rs : List Particle) → AllByRecursion (IsFit limit) ps → AllZip (Steps limit) ps rs
+    → AllByRecursion (IsFit limit) rs
 fit_steps limit [] [] f z = tt
 fit_steps limit [] (r ∷ rs) f z = absurd z
 fit_steps limit (p ∷ ps) [] f z = absurd z
-fit_steps limit (p ∷ ps) (r ∷ rs) f z = (record { at = z.0.inside; before = z.0.before; low = ap (nat_le 1) z.0.weight ∙ f.0.low; high = ap (λ n. nat_le n 65535) z.0.weight ∙ f.0.high }, fit_steps limit ps rs f.1 z.1)
+fit_steps limit (p ∷ ps) (r ∷ rs) f z = (
+  record {
+    at = z.0.inside;
+    before = z.0.before;
+    low = ap (nat_le 1) z.0.weight ∙ f.0.low;
+    high = ap (λ n. nat_le n 65535) z.0.weight ∙ f.0.high;
+  },
+  fit_steps limit ps rs f.1 z.1,
+)
 
-weight_steps : (limit : ℤ) (ps rs : List Particle) → AllZip (Steps limit) ps rs → AllZip {A = Particle} {B = Particle} (λ p q. q.weight ≡ p.weight) ps rs
+weight_steps : (limit : ℤ) (ps rs : List Particle) → AllZip (Steps limit) ps rs
+    → AllZip {A = Particle} {B = Particle} (λ p q. q.weight ≡ p.weight) ps rs
 weight_steps limit [] [] z = tt
 weight_steps limit [] (r ∷ rs) z = absurd z
 weight_steps limit (p ∷ ps) [] z = absurd z
 weight_steps limit (p ∷ ps) (r ∷ rs) z = (z.0.weight, weight_steps limit ps rs z.1)
 
-held_steps : (limit : ℤ) (ps rs : List Particle) → AllZip (Steps limit) ps rs → AllZip {A = Particle} {B = Particle} (λ p q. q.held ≡ p.held) ps rs
+held_steps : (limit : ℤ) (ps rs : List Particle) → AllZip (Steps limit) ps rs
+    → AllZip {A = Particle} {B = Particle} (λ p q. q.held ≡ p.held) ps rs
 held_steps limit [] [] z = tt
 held_steps limit [] (r ∷ rs) z = absurd z
 held_steps limit (p ∷ ps) [] z = absurd z
 held_steps limit (p ∷ ps) (r ∷ rs) z = (z.0.held, held_steps limit ps rs z.1)
 
-weight_stops : (limit : ℤ) (ps rs : List Particle) → AllZip (Stops limit) ps rs → AllZip {A = Particle} {B = Particle} (λ p q. q.weight ≡ p.weight) ps rs
+weight_stops : (limit : ℤ) (ps rs : List Particle) → AllZip (Stops limit) ps rs
+    → AllZip {A = Particle} {B = Particle} (λ p q. q.weight ≡ p.weight) ps rs
 weight_stops limit [] [] z = tt
 weight_stops limit [] (r ∷ rs) z = absurd z
 weight_stops limit (p ∷ ps) [] z = absurd z
@@ -108,8 +141,10 @@ pub record Stepped (w v : World) : Type 0 where
   pub count : v.steps ≡ w.steps + 1
   pub one_scene : AreOfOneScene w v
 
-pub settled_sound : (w : World) (ms : List Moved) (s : Passing) (pairs : List (ℕ × ℕ)) (f : ℕ) → IsSound w → w.steps + 1 ≤ 1000000 → length pairs ≤ 262144 → w.friction ≡ pos f → f ≤ 256
-    → AllZip (Starts w.limit (w.damping ≡ pos 0)) w.particles ms → all_rest w.tracks 0 (map {A = Moved} {B = Particle} (λ m. m.particle) ms) ≡ true
+pub settled_sound : (w : World) (ms : List Moved) (s : Passing) (pairs : List (ℕ × ℕ)) (f : ℕ) → IsSound w → w.steps + 1 ≤ 1000000
+    → length pairs ≤ 262144 → w.friction ≡ pos f → f ≤ 256
+    → AllZip (Starts w.limit (w.damping ≡ pos 0)) w.particles ms
+    → all_rest w.tracks 0 (map {A = Moved} {B = Particle} (λ m. m.particle) ms) ≡ true
     → PassGoes w.limit (map {A = Moved} {B = Particle} (λ m. m.particle) ms) (all_booked w.totals ms) (2 ^ 64 * w.steps + 2 ^ 47 + 2 ^ 63) s
     → Stepped w (settled w pairs (rub w.friction s))
 settled_sound w ms s pairs f sound steps few fric small z rest go =
@@ -121,8 +156,10 @@ settled_sound w ms s pairs f sound steps few fric small z rest go =
     let rubs = rub_all w.friction s.motion.particles s.touched in
     let rs = map {A = Moved} {B = Particle} (λ m. m.particle) rubs in
     let is = ap (λ x. rub_all x s.motion.particles s.touched) fric in
-    let stops : AllZip (Stops w.limit) ps rs = subst (λ (xs : List Moved). AllZip (Stops w.limit) ps (map {A = Moved} {B = Particle} (λ m. m.particle) xs)) (sym is) both.0 in
-    let quiet : AllByRecursion (IsQuiet (Unit {0})) rubs = subst (λ (xs : List Moved). AllByRecursion (IsQuiet (Unit {0})) xs) (sym is) both.1 in
+    let stops : AllZip (Stops w.limit) ps rs = subst (λ (xs : List Moved).
+    AllZip (Stops w.limit) ps (map {A = Moved} {B = Particle} (λ m. m.particle) xs)) (sym is) both.0 in
+    let quiet : AllByRecursion (IsQuiet (Unit {0})) rubs =
+    subst (λ (xs : List Moved). AllByRecursion (IsQuiet (Unit {0})) xs) (sym is) both.1 in
     let way = whole_way w.limit (w.damping ≡ pos 0) w.particles ms rs z stops in
     let many : length rs ≡ length w.particles = length-zipped (Steps w.limit) w.particles rs way in
     let counts = and_parts (nat_le (length w.particles) 65536) (list_all (is_valid_particle w.limit) w.particles) form.particles in
@@ -136,7 +173,8 @@ settled_sound w ms s pairs f sound steps few fric small z rest go =
         well_formed = from_formed (parts_of (settled w pairs (rub w.friction s))) (record {
           limit = form.limit;
           particles = and_from _ _ (ap (λ n. nat_le n 65536) many ∙ counts.0) (are_fit w.limit rs fits);
-          links = subst (λ (n : ℕ). IsTrue (are_valid_links w.limit n (tear rs w.links))) (sym many) (links_valid w.limit (length w.particles) w.links (tear rs w.links) (torn_same rs w.links) form.links);
+          links = subst (λ (n : ℕ). IsTrue (are_valid_links w.limit n (tear rs w.links))) (sym many)
+              (links_valid w.limit (length w.particles) w.links (tear rs w.links) (torn_same rs w.links) form.links);
           planes = form.planes;
           spheres = form.spheres;
           tracks = subst (λ (n : ℕ). IsTrue (are_valid_tracks w.limit n w.tracks)) (sym many) form.tracks;
@@ -147,17 +185,20 @@ settled_sound w ms s pairs f sound steps few fric small z rest go =
         at_rest = rest_stays w.tracks 0 w.limit ps rs stops rest;
         steps = steps;
         contacts = few;
-        bounded = bounded_weaker t (2 ^ 64 * w.steps + 2 ^ 47 + 2 ^ 63 + length rubs * 2 ^ 31) (2 ^ 64 * (w.steps + 1)) (omega (arith, rubbed_many, many, most)) bound;
+        bounded = bounded_weaker t (2 ^ 64 * w.steps + 2 ^ 47 + 2 ^ 63 + length rubs * 2 ^ 31) (2 ^ 64 * (w.steps + 1))
+            (omega (arith, rubbed_many, many, most)) bound;
         opening = sound.opening;
         balanced = balance;
-        undamped = λ e. moved_damping (Unit {0}) rubs s.motion.totals tt quiet ∙ go.motion.damping ∙ moved_damping (w.damping ≡ pos 0) ms w.totals e begun.0 ∙ sound.undamped e;
+        undamped = λ e. moved_damping (Unit {0}) rubs s.motion.totals tt quiet ∙ go.motion.damping
+            ∙ moved_damping (w.damping ≡ pos 0) ms w.totals e begun.0 ∙ sound.undamped e;
         one_weight = λ weight all.
             let before = have_weight weight ps rs (weight_stops w.limit ps rs stops) all in
             let first = have_weight weight w.particles rs (weight_steps w.limit w.particles rs way) all in
             let even = go.motion.even weight before in
             let old = sound.one_weight weight first in (
               moved_links (Unit {0}) rubs s.motion.totals quiet ∙ even.0 ∙ moved_links (w.damping ≡ pos 0) ms w.totals begun.0 ∙ old.0,
-              moved_contacts (Unit {0}) rubs s.motion.totals quiet ∙ even.1 ∙ moved_contacts (w.damping ≡ pos 0) ms w.totals begun.0 ∙ old.1,
+              moved_contacts (Unit {0}) rubs s.motion.totals quiet ∙ even.1 ∙ moved_contacts (w.damping ≡ pos 0) ms w.totals begun.0
+                  ∙ old.1,
             );
       };
       count = refl;
@@ -200,7 +241,8 @@ predict_begins w sound =
     let counts = and_parts (nat_le (length w.particles) 65536) (list_all (is_valid_particle w.limit) w.particles) form.particles in
     let fits = all_fit w.limit w.particles counts.1 in
     let still : Type 0 = w.damping ≡ pos 0 in
-    let R : Particle → Moved → Type 0 = λ p x. IsTrue (is_within w.limit p.at) × IsTrue (is_within w.limit p.before) → Starts w.limit still p x in
+    let R : Particle → Moved → Type 0 = λ p x. IsTrue (is_within w.limit p.at) × IsTrue (is_within w.limit p.before)
+    → Starts w.limit still p x in
     let Q : List Moved → Type 0 = λ ms. all_rest w.tracks 0 (map {A = Moved} {B = Particle} (λ m. m.particle) ms) ≡ true in
     bind-keeps (λ ms. AllZip R w.particles ms × Q ms) (Begun w) (each_from 0 (predicted w) w.particles) (λ ms. Ok (all_moved w.totals ms))
     (both_ok (AllZip R w.particles) Q (each_from 0 (predicted w) w.particles)
@@ -208,21 +250,27 @@ predict_begins w sound =
     (predict_rests w 0 w.particles))
     (λ ms h. record { ms = ms; is = refl; starts = starts_list w.limit still w.particles ms fits h.0; rest = h.1 })
 
-start_goes : (w : World) (ms : List Moved) → IsSound w → AllZip (Starts w.limit (w.damping ≡ pos 0)) w.particles ms → Goes w.limit (map {A = Moved} {B = Particle} (λ m. m.particle) ms) (all_booked w.totals ms) (2 ^ 64 * w.steps + 2 ^ 47) (all_moved w.totals ms)
+start_goes : (w : World) (ms : List Moved) → IsSound w → AllZip (Starts w.limit (w.damping ≡ pos 0)) w.particles ms
+    → Goes w.limit (map {A = Moved} {B = Particle} (λ m. m.particle) ms) (all_booked w.totals ms) (2 ^ 64 * w.steps + 2 ^ 47)
+    (all_moved w.totals ms)
 start_goes w ms sound z =
     let form = formed (parts_of w) sound.well_formed in
-    let few = leb-true (length w.particles) 65536 (and_parts (nat_le (length w.particles) 65536) (list_all (is_valid_particle w.limit) w.particles) form.particles).0 in
+    let few = leb-true (length w.particles) 65536 (and_parts (nat_le (length w.particles) 65536)
+    (list_all (is_valid_particle w.limit) w.particles) form.particles).0 in
     let begun = started w.limit (w.damping ≡ pos 0) w.particles ms z in
     let many : length ms ≡ length w.particles = length-zipped (Starts w.limit (w.damping ≡ pos 0)) w.particles ms z in
     record {
       kept = begun.1;
-      bounded = bounded_weaker (all_booked w.totals ms) (2 ^ 64 * w.steps + length ms * 2 ^ 31) (2 ^ 64 * w.steps + 2 ^ 47) (omega (arith, many, few)) (moved_bounded (w.damping ≡ pos 0) ms w.totals (2 ^ 64 * w.steps) begun.0 sound.bounded);
+      bounded = bounded_weaker (all_booked w.totals ms) (2 ^ 64 * w.steps + length ms * 2 ^ 31) (2 ^ 64 * w.steps + 2 ^ 47)
+          (omega (arith, many, few)) (moved_bounded (w.damping ≡ pos 0) ms w.totals (2 ^ 64 * w.steps) begun.0 sound.bounded);
       damping = refl;
       even = λ weight all. (refl, refl);
     }
 
-passes_go : (w : World) (ms : List Moved) (pairs : List (ℕ × ℕ)) → IsSound w → AllZip (Starts w.limit (w.damping ≡ pos 0)) w.particles ms → AllByRecursion (ArePair (length (map {A = Moved} {B = Particle} (λ m. m.particle) ms))) pairs → length pairs ≤ 262144
-    → IfOk (repeated w.passes (pass w pairs) (untouched (all_moved w.totals ms))) (PassGoes w.limit (map {A = Moved} {B = Particle} (λ m. m.particle) ms) (all_booked w.totals ms) (2 ^ 64 * w.steps + 2 ^ 47 + 2 ^ 63))
+passes_go : (w : World) (ms : List Moved) (pairs : List (ℕ × ℕ)) → IsSound w → AllZip (Starts w.limit (w.damping ≡ pos 0)) w.particles ms
+    → AllByRecursion (ArePair (length (map {A = Moved} {B = Particle} (λ m. m.particle) ms))) pairs → length pairs ≤ 262144
+    → IfOk (repeated w.passes (pass w pairs) (untouched (all_moved w.totals ms)))
+    (PassGoes w.limit (map {A = Moved} {B = Particle} (λ m. m.particle) ms) (all_booked w.totals ms) (2 ^ 64 * w.steps + 2 ^ 47 + 2 ^ 63))
 passes_go w ms pairs sound z all few =
     let form = formed (parts_of w) sound.well_formed in
     let lim = limit_of w form in
@@ -230,13 +278,23 @@ passes_go w ms pairs sound z all few =
     let ps = map {A = Moved} {B = Particle} (λ m. m.particle) ms in
     let t = all_booked w.totals ms in
     let b = 2 ^ 64 * w.steps + 2 ^ 47 in
-    let same : length ps ≡ length w.particles = length-mapped (λ (m : Moved). m.particle) ms ∙ length-zipped (Starts w.limit (w.damping ≡ pos 0)) w.particles ms z in
-    let most : length ps ≤ 65536 = omega (arith, same, leb-true (length w.particles) 65536 (and_parts (nat_le (length w.particles) 65536) (list_all (is_valid_particle w.limit) w.particles) form.particles).0) in
-    let l3 = and_parts _ _ form.links in let l2 = and_parts _ _ l3.0 in let l1 = and_parts (nat_le (length w.links) 524288) (list_all (is_valid_link w.limit (length w.particles)) w.links) l2.0 in
+    let same : length ps ≡ length w.particles = length-mapped (λ (m : Moved). m.particle) ms
+    ∙ length-zipped (Starts w.limit (w.damping ≡ pos 0)) w.particles ms z in
+    let most : length ps ≤ 65536 = omega (
+      arith,
+      same,
+      leb-true (length w.particles) 65536
+          (and_parts (nat_le (length w.particles) 65536) (list_all (is_valid_particle w.limit) w.particles) form.particles).0,
+    ) in
+    let l3 = and_parts _ _ form.links in let l2 = and_parts _ _ l3.0 in
+    let l1 = and_parts (nat_le (length w.links) 524288) (list_all (is_valid_link w.limit (length w.particles)) w.links) l2.0 in
     let links : length w.links ≤ 524288 = leb-true (length w.links) 524288 l1.0 in
     let ready = sound-ready w sound in
-    let ends : (k : ℕ) → k < length w.links → AreEnds (length ps) (link_bond w.links k) = λ k l. (let e = ready.ends k l in record { first = omega (arith, e.first, same); second = omega (arith, e.second, same); apart = e.apart }) in
-    ok_weaker (PassGoes w.limit ps t (b + w.passes * 2 ^ 57)) (PassGoes w.limit ps t (b + 2 ^ 63)) (repeated w.passes (pass w pairs) (untouched (all_moved w.totals ms)))
+    let ends : (k : ℕ) → k < length w.links → AreEnds (length ps) (link_bond w.links k) = λ k l.
+    (let e = ready.ends k l in record { first = omega (arith, e.first, same); second = omega (arith, e.second, same); apart = e.apart })
+    in
+    ok_weaker (PassGoes w.limit ps t (b + w.passes * 2 ^ 57)) (PassGoes w.limit ps t (b + 2 ^ 63))
+    (repeated w.passes (pass w pairs) (untouched (all_moved w.totals ms)))
     (λ s k. pass_weaker w.limit ps t (b + w.passes * 2 ^ 57) (b + 2 ^ 63) s (omega (arith, numbers.passes)) k)
     (repeat-counts (λ n s. PassGoes w.limit ps t n s) (2 ^ 57) (pass w pairs)
     (λ x y s l k. pass_weaker w.limit ps t x y s l k)
@@ -244,32 +302,42 @@ passes_go w ms pairs sound z all few =
     w.passes b (untouched (all_moved w.totals ms))
     (record { motion = start_goes w ms sound z; touched = length-mapped (λ (p : Particle). false) ps }))
 
-unless_many_sound : (w : World) (ms : List Moved) (pairs : List (ℕ × ℕ)) (many : Bool) → IsSound w → w.steps + 1 ≤ 1000000 → nat_lt 262144 (length pairs) ≡ many → AllZip (Starts w.limit (w.damping ≡ pos 0)) w.particles ms → all_rest w.tracks 0 (map {A = Moved} {B = Particle} (λ m. m.particle) ms) ≡ true → AllByRecursion (ArePair (length (map {A = Moved} {B = Particle} (λ m. m.particle) ms))) pairs
-    → IfOk (if many then Err (TooManyContacts (w.steps + 1)) else (repeated w.passes (pass w pairs) (untouched (all_moved w.totals ms)) >>= λ s. Ok (settled w pairs (rub w.friction s)))) (Stepped w)
+unless_many_sound : (w : World) (ms : List Moved) (pairs : List (ℕ × ℕ)) (many : Bool) → IsSound w → w.steps + 1 ≤ 1000000
+    → nat_lt 262144 (length pairs) ≡ many → AllZip (Starts w.limit (w.damping ≡ pos 0)) w.particles ms
+    → all_rest w.tracks 0 (map {A = Moved} {B = Particle} (λ m. m.particle) ms) ≡ true
+    → AllByRecursion (ArePair (length (map {A = Moved} {B = Particle} (λ m. m.particle) ms))) pairs
+    → IfOk (if many then Err (TooManyContacts (w.steps + 1)) else
+    (repeated w.passes (pass w pairs) (untouched (all_moved w.totals ms)) >>= λ s. Ok (settled w pairs (rub w.friction s)))) (Stepped w)
 unless_many_sound w ms pairs true sound steps e z rest all = tt
 unless_many_sound w ms pairs false sound steps e z rest all =
     let form = formed (parts_of w) sound.well_formed in
     let numbers = numbers_of w form in
     let few : length pairs ≤ 262144 = ltb-false 262144 (length pairs) e in
     let ps = map {A = Moved} {B = Particle} (λ m. m.particle) ms in
-    bind-keeps (PassGoes w.limit ps (all_booked w.totals ms) (2 ^ 64 * w.steps + 2 ^ 47 + 2 ^ 63)) (Stepped w) (repeated w.passes (pass w pairs) (untouched (all_moved w.totals ms))) (λ s. Ok (settled w pairs (rub w.friction s)))
+    bind-keeps (PassGoes w.limit ps (all_booked w.totals ms) (2 ^ 64 * w.steps + 2 ^ 47 + 2 ^ 63)) (Stepped w)
+    (repeated w.passes (pass w pairs) (untouched (all_moved w.totals ms))) (λ s. Ok (settled w pairs (rub w.friction s)))
     (passes_go w ms pairs sound z all few)
-    (λ s k. settled_sound w ms s pairs (unsigned_abs w.friction) sound steps few (pos_size w.friction numbers.friction_low) numbers.friction_high z rest k)
+    (λ s k. settled_sound w ms s pairs (unsigned_abs w.friction) sound steps few
+    (pos_size w.friction numbers.friction_low) numbers.friction_high z rest k)
 
-after_sound : (w : World) (m : Motion) → IsSound w → w.steps + 1 ≤ 1000000 → Begun w m → IfOk (after_contacts w m (contacts_of w.thickness w.links m.particles)) (Stepped w)
+after_sound : (w : World) (m : Motion) → IsSound w → w.steps + 1 ≤ 1000000 → Begun w m
+    → IfOk (after_contacts w m (contacts_of w.thickness w.links m.particles)) (Stepped w)
 after_sound w m sound steps begun =
     let ms = begun.ms in
     let ps = map {A = Moved} {B = Particle} (λ m. m.particle) ms in
     let pairs = contacts_of w.thickness w.links ps in
-    let result = unless_many_sound w ms pairs (nat_lt 262144 (length pairs)) sound steps refl begun.starts begun.rest (contact-pairs w.thickness w.links ps) in
+    let result = unless_many_sound w ms pairs (nat_lt 262144 (length pairs)) sound steps refl begun.starts begun.rest
+    (contact-pairs w.thickness w.links ps) in
     subst (λ (n : Motion). IfOk (after_contacts w n (contacts_of w.thickness w.links n.particles)) (Stepped w)) (sym begun.is) result
 
 -- a step of a sound world: sound, one step on, and of one scene
-pub step_sound : (w : World) → IsSound w → w.steps + 1 ≤ 1000000 → IfOk (step w) (λ v. IsSound v × (v.steps ≡ w.steps + 1) × AreOfOneScene w v)
+pub step_sound : (w : World) → IsSound w → w.steps + 1 ≤ 1000000
+    → IfOk (step w) (λ v. IsSound v × (v.steps ≡ w.steps + 1) × AreOfOneScene w v)
 unfolding step
 step_sound w sound steps =
     let stepped : IfOk (step w) (Stepped w) =
-    bind-keeps (Begun w) (Stepped w) (with_fault (leaves w phases.Predict) (predict w)) (λ m. after_contacts w m (contacts_of w.thickness w.links m.particles))
+    bind-keeps (Begun w) (Stepped w) (with_fault (leaves w phases.Predict) (predict w))
+    (λ m. after_contacts w m (contacts_of w.thickness w.links m.particles))
     (fault-keeps (Begun w) (leaves w phases.Predict) (predict w) (predict_begins w sound))
     (λ m begun. after_sound w m sound steps begun) in
     ok_weaker (λ v. Stepped w v × IsReady v) (λ v. IsSound v × (v.steps ≡ w.steps + 1) × AreOfOneScene w v) (step w)

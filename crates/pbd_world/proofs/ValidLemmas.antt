@@ -1,5 +1,6 @@
 -- Validity, as the tests of single parts find it.
-use Rattle.std.proofs.Common.{◌≡◌, refl, sym, ap, ◌∙◌, ℕ, zero, suc, ◌+◌, ◌*◌, ◌<◌, ◌≤◌, Bool, true, false, ◌&&◌, List, [], ◌∷◌, length, get_or, drop, drop-cons, arith, ℤ, pos, ◌+ℤ◌, ◌-ℤ◌, ◌≤ℤ◌, unsigned_abs}
+use Rattle.std.proofs.Common.{◌≡◌, refl, sym, ap, ◌∙◌, ℕ, zero, suc, ◌+◌, ◌*◌, ◌<◌, ◌≤◌, Bool, true, false, ◌&&◌, List, [], ◌∷◌, length}
+use Rattle.std.proofs.Common.{get_or, drop, drop-cons, arith, ℤ, pos, ◌+ℤ◌, ◌-ℤ◌, ◌≤ℤ◌, unsigned_abs}
 use Rattle.std.specs.Prelude.{IsTrue, nat_le, nat_lt, int_le}
 use Rattle.std.specs.List.{list_all}
 use Rattle.std.proofs.lemmas.Int.{ints}
@@ -22,7 +23,8 @@ same_test false false h k = refl
 
 -- ---- spheres
 
-pub reach_test : (limit centre radius : ℤ) → pos 0 ≤ℤ limit → pos 1 ≤ℤ radius → (int_le (radius -ℤ limit) centre && int_le centre (limit -ℤ radius)) ≡ is_reach_within limit centre radius
+pub reach_test : (limit centre radius : ℤ) → pos 0 ≤ℤ limit → pos 1 ≤ℤ radius
+    → (int_le (radius -ℤ limit) centre && int_le centre (limit -ℤ radius)) ≡ is_reach_within limit centre radius
 unfolding is_reach_within
 reach_test limit centre radius h k = grind (arith, ints, nat_tests)
 
@@ -35,12 +37,17 @@ swapped false b c d = refl
 regrouped : (a b c d e f : Bool) → (((a && d) && (b && e)) && (c && f)) ≡ (((a && b) && c) && ((d && e) && f))
 regrouped a b c d e f = ap (λ x. x && (c && f)) (swapped a d b e) ∙ swapped (a && b) (d && e) c f
 
-pub sphere_test : (limit : ℤ) (sphere : Sphere) → pos 1 ≤ℤ sphere.radius → (is_reach_within limit sphere.centre.x sphere.radius && is_reach_within limit sphere.centre.y sphere.radius && is_reach_within limit sphere.centre.z sphere.radius) ≡ is_valid_sphere limit sphere
+pub sphere_test : (limit : ℤ) (sphere : Sphere) → pos 1 ≤ℤ sphere.radius
+    → (is_reach_within limit sphere.centre.x sphere.radius && is_reach_within limit sphere.centre.y sphere.radius
+    && is_reach_within limit sphere.centre.z sphere.radius) ≡ is_valid_sphere limit sphere
 unfolding is_reach_within
 sphere_test limit s h =
     let one : int_le (pos 1) s.radius ≡ true = grind (arith, ints, nat_tests) in
-    regrouped (is_axis_within limit (s.centre.x +ℤ s.radius)) (is_axis_within limit (s.centre.y +ℤ s.radius)) (is_axis_within limit (s.centre.z +ℤ s.radius)) (is_axis_within limit (s.centre.x -ℤ s.radius)) (is_axis_within limit (s.centre.y -ℤ s.radius)) (is_axis_within limit (s.centre.z -ℤ s.radius))
-    ∙ ap (λ x. x && is_within limit (plus s.centre (on_axes (λ axis. s.radius) s.centre)) && is_within limit (minus s.centre (on_axes (λ axis. s.radius) s.centre))) (sym one)
+    regrouped (is_axis_within limit (s.centre.x +ℤ s.radius)) (is_axis_within limit (s.centre.y +ℤ s.radius))
+    (is_axis_within limit (s.centre.z +ℤ s.radius)) (is_axis_within limit (s.centre.x -ℤ s.radius))
+    (is_axis_within limit (s.centre.y -ℤ s.radius)) (is_axis_within limit (s.centre.z -ℤ s.radius))
+    ∙ ap (λ x. x && is_within limit (plus s.centre (on_axes (λ axis. s.radius) s.centre))
+    && is_within limit (minus s.centre (on_axes (λ axis. s.radius) s.centre))) (sym one)
 
 -- ---- keys
 
@@ -49,13 +56,15 @@ abbrev pub rising : ℤ → ℕ → List Key → Bool
 rising limit low [] = true
 rising limit low (key ∷ keys) = is_next_key limit low key && rising limit (key.step + 1) keys
 
-above_all : (low high : ℕ) (keys : List Key) → low ≤ high → IsTrue (list_all (λ (k : Key). nat_lt high k.step) keys) → IsTrue (list_all (λ (k : Key). nat_le low k.step) keys)
+above_all : (low high : ℕ) (keys : List Key) → low ≤ high → IsTrue (list_all (λ (k : Key). nat_lt high k.step) keys)
+    → IsTrue (list_all (λ (k : Key). nat_le low k.step) keys)
 above_all low high [] h t = refl
 above_all low high (key ∷ keys) h t =
     let parts = and_parts (nat_lt high key.step) (list_all (λ (k : Key). nat_lt high k.step) keys) t in
     and_from _ _ (grind (arith, nat_tests)) (above_all low high keys h parts.1)
 
-later_all : (step : ℕ) (keys : List Key) → list_all (λ (k : Key). nat_le (step + 1) k.step) keys ≡ list_all (λ (k : Key). nat_lt step k.step) keys
+later_all : (step : ℕ) (keys : List Key) → list_all (λ (k : Key). nat_le (step + 1) k.step) keys
+    ≡ list_all (λ (k : Key). nat_lt step k.step) keys
 later_all step [] = refl
 later_all step (key ∷ keys) =
     let here : nat_le (step + 1) key.step ≡ nat_lt step key.step = grind (arith, nat_tests) in
@@ -65,7 +74,8 @@ from_zero : (keys : List Key) → IsTrue (list_all (λ (k : Key). nat_le 0 k.ste
 from_zero [] = refl
 from_zero (key ∷ keys) = and_from _ _ (grind (arith, nat_tests)) (from_zero keys)
 
-key_tests : (l m i up lows rest : Bool) → (l ≡ true → up ≡ true → lows ≡ true) → (((l && m) && i) && (up && rest)) ≡ ((l && lows) && (((m && i) && up) && rest))
+key_tests : (l m i up lows rest : Bool) → (l ≡ true → up ≡ true → lows ≡ true)
+    → (((l && m) && i) && (up && rest)) ≡ ((l && lows) && (((m && i) && up) && rest))
 key_tests false m i up lows rest h = refl
 key_tests true false i up true rest h = refl
 key_tests true false i up false rest h = refl
@@ -76,12 +86,14 @@ key_tests true true true false false rest h = refl
 key_tests true true true true true rest h = refl
 key_tests true true true true false rest h = absurd (false≢true (h refl refl))
 
-rise_is : (limit : ℤ) (low : ℕ) (keys : List Key) → rising limit low keys ≡ (list_all (λ (k : Key). nat_le low k.step) keys && are_valid_keys limit keys)
+rise_is : (limit : ℤ) (low : ℕ) (keys : List Key) → rising limit low keys
+    ≡ (list_all (λ (k : Key). nat_le low k.step) keys && are_valid_keys limit keys)
 rise_is limit low [] = refl
 rise_is limit low (key ∷ keys) =
     let up = list_all (λ (k : Key). nat_lt key.step k.step) keys in
     let lows = list_all (λ (k : Key). nat_le low k.step) keys in
-    ap (λ x. is_next_key limit low key && x) (rise_is limit (key.step + 1) keys ∙ ap (λ x. x && are_valid_keys limit keys) (later_all key.step keys))
+    ap (λ x. is_next_key limit low key && x) (rise_is limit (key.step + 1) keys
+    ∙ ap (λ x. x && are_valid_keys limit keys) (later_all key.step keys))
     ∙ key_tests (nat_le low key.step) (nat_le key.step 1000000) (is_within limit key.place) up lows (are_valid_keys limit keys)
     (λ h t. above_all low key.step keys (leb-true low key.step h) t)
 
@@ -89,15 +101,21 @@ pub rising_begins : (limit : ℤ) (keys : List Key) → are_valid_keys limit key
 rising_begins limit keys = sym (rise_is limit 0 keys ∙ ap (λ x. x && are_valid_keys limit keys) (from_zero keys))
 
 -- the first key that may not stand where it does
-pub rising_stops : (limit : ℤ) (low : ℕ) (keys : List Key) (i : ℕ) (d : Key) → i < length keys → are_valid_keys limit keys ≡ rising limit low (drop i keys) → is_next_key limit low (get_or keys i d) ≡ false → false ≡ are_valid_keys limit keys
+pub rising_stops : (limit : ℤ) (low : ℕ) (keys : List Key) (i : ℕ) (d : Key) → i < length keys
+    → are_valid_keys limit keys ≡ rising limit low (drop i keys) → is_next_key limit low (get_or keys i d) ≡ false
+    → false ≡ are_valid_keys limit keys
 rising_stops limit low keys i d within is stops =
-    sym (is ∙ ap (rising limit low) (drop-cons keys i d within) ∙ ap (λ x. x && rising limit ((get_or keys i d).step + 1) (drop (suc i) keys)) stops)
+    sym (is ∙ ap (rising limit low) (drop-cons keys i d within)
+    ∙ ap (λ x. x && rising limit ((get_or keys i d).step + 1) (drop (suc i) keys)) stops)
 
 -- a key that may
-pub rising_goes : (limit : ℤ) (low : ℕ) (keys : List Key) (i : ℕ) (d : Key) → i < length keys → are_valid_keys limit keys ≡ rising limit low (drop i keys) → is_next_key limit low (get_or keys i d) ≡ true → are_valid_keys limit keys ≡ rising limit ((get_or keys i d).step + 1) (drop (i + 1) keys)
+pub rising_goes : (limit : ℤ) (low : ℕ) (keys : List Key) (i : ℕ) (d : Key) → i < length keys
+    → are_valid_keys limit keys ≡ rising limit low (drop i keys) → is_next_key limit low (get_or keys i d) ≡ true
+    → are_valid_keys limit keys ≡ rising limit ((get_or keys i d).step + 1) (drop (i + 1) keys)
 rising_goes limit low keys i d within is goes =
     let next : suc i ≡ i + 1 = omega arith in
-    is ∙ ap (rising limit low) (drop-cons keys i d within) ∙ ap (λ x. x && rising limit ((get_or keys i d).step + 1) (drop (suc i) keys)) goes
+    is ∙ ap (rising limit low) (drop-cons keys i d within)
+    ∙ ap (λ x. x && rising limit ((get_or keys i d).step + 1) (drop (suc i) keys)) goes
     ∙ ap (λ n. rising limit ((get_or keys i d).step + 1) (drop n keys)) next
 
 -- ---- rest
@@ -126,4 +144,5 @@ no_way a = let none : unsigned_abs (a -ℤ a) ≡ 0 = omega (arith, ints) in rw 
 
 -- where both places are one
 pub at_rest_from : (p : Particle) → p.at ≡ p.before → IsTrue (is_at_rest p)
-at_rest_from p e = ap (λ (v : Vec3). nat_le (squared_length (minus v p.before)) 0) e ∙ rw (no_way p.before.x, no_way p.before.y, no_way p.before.z) refl
+at_rest_from p e = ap (λ (v : Vec3). nat_le (squared_length (minus v p.before)) 0) e
+    ∙ rw (no_way p.before.x, no_way p.before.y, no_way p.before.z) refl

@@ -1,5 +1,6 @@
 -- What steps may cost: at other widths, at most, and without a thickness.
-use Rattle.std.proofs.Common.{◌≡◌, refl, ap, sym, ◌∙◌, subst, ℕ, zero, suc, ◌+◌, ◌*◌, ◌/◌, ◌<◌, ◌≤◌, ◌==◌, min, Bool, true, false, List, [], ◌∷◌, length, map, filter, arith, ℤ, pos, Result, Ok, Err}
+use Rattle.std.proofs.Common.{◌≡◌, refl, ap, sym, ◌∙◌, subst, ℕ, zero, suc, ◌+◌, ◌*◌, ◌/◌, ◌<◌, ◌≤◌, ◌==◌, min, Bool, true, false, List, []}
+use Rattle.std.proofs.Common.{◌∷◌, length, map, filter, arith, ℤ, pos, Result, Ok, Err}
 use Rattle.std.specs.Prelude.{nat_lt, int_lt, unsigned_abs, if◌then◌else◌}
 use Rattle.std.specs.List.{range_with_len}
 use Rattle.std.proofs.Math.Nat.{min-eq_left, mul-le-mul_left}
@@ -19,14 +20,18 @@ use Rattle.pbd_world.specs.Meaning.{after, refusals}
 use Rattle.pbd_world.specs.Outcomes.{unless}
 use Rattle.pbd_world.specs.Step.{predict, step}
 use Rattle.pbd_world.specs.World.{World, IsSound, live_count}
-use Rattle.pbd_world.specs.Work.{blocks_in, of_colour_count, colour_work, colours_work, bonds_work, links_work, contacts_work, colours_used, beginning_work, finding_work, shapes_work, pass_work, friction_work, tearable_count, settling_work, finishing_work, step_work, found_after, found_in, work_from, work_over, steps_work, command_work, session_work}
+use Rattle.pbd_world.specs.Work.{blocks_in, of_colour_count, colour_work, colours_work, bonds_work, links_work, contacts_work, colours_used}
+use Rattle.pbd_world.specs.Work.{beginning_work, finding_work, shapes_work, pass_work, friction_work, tearable_count, settling_work}
+use Rattle.pbd_world.specs.Work.{finishing_work, step_work, found_after, found_in, work_from, work_over, steps_work, command_work}
+use Rattle.pbd_world.specs.Work.{session_work}
 use Rattle.pbd_world.proofs.BatchLemmas.{sound-none_last}
 use Rattle.pbd_world.proofs.OrderCounts.{total, flat_total, kept_more, links_count, contacts_count}
 use Rattle.pbd_world.proofs.PieceLemmas.{pieces_fewer, pieces_each, pieces_half, pieces_some, whole_pieces, some_of}
 
 -- ---- colour after colour
 
-pub colours_next : (lanes : ℕ) (pairs : List (ℕ × ℕ)) (live : List Bool) (c n : ℕ) → colours_work lanes pairs live c (suc n) ≡ colour_work lanes pairs live c + colours_work lanes pairs live (c + 1) n
+pub colours_next : (lanes : ℕ) (pairs : List (ℕ × ℕ)) (live : List Bool) (c n : ℕ)
+    → colours_work lanes pairs live c (suc n) ≡ colour_work lanes pairs live c + colours_work lanes pairs live (c + 1) n
 unfolding colours_work
 colours_next lanes pairs live c n = sum_by-cons (colour_work lanes pairs live) c (range_with_len (c + 1) n)
 
@@ -34,7 +39,8 @@ pub colours_none : (lanes : ℕ) (pairs : List (ℕ × ℕ)) (live : List Bool) 
 unfolding colours_work
 colours_none lanes pairs live c = refl
 
-pub bonds_are : (lanes : ℕ) (pairs : List (ℕ × ℕ)) (live : List Bool) → bonds_work lanes pairs live ≡ colours_work lanes pairs live 0 63 + 4 * of_colour_count pairs live 63
+pub bonds_are : (lanes : ℕ) (pairs : List (ℕ × ℕ)) (live : List Bool)
+    → bonds_work lanes pairs live ≡ colours_work lanes pairs live 0 63 + 4 * of_colour_count pairs live 63
 unfolding bonds_work
 bonds_are lanes pairs live = refl
 
@@ -42,18 +48,32 @@ bonds_are lanes pairs live = refl
 used : List (ℕ × ℕ) → List Bool → ℕ → ℕ → ℕ
 used pairs live c n = length (filter (λ d. nat_lt 0 (of_colour_count pairs live d)) (range_with_len c n))
 
-used_next : (pairs : List (ℕ × ℕ)) (live : List Bool) (c n : ℕ) → used pairs live c (suc n) ≡ some_of (of_colour_count pairs live c) + used pairs live (c + 1) n
+used_next : (pairs : List (ℕ × ℕ)) (live : List Bool) (c n : ℕ)
+    → used pairs live c (suc n) ≡ some_of (of_colour_count pairs live c) + used pairs live (c + 1) n
 unfolding used
 used_next pairs live c n = kept_more (λ d. nat_lt 0 (of_colour_count pairs live d)) c (range_with_len (c + 1) n)
 
 module _ (pairs : List (ℕ × ℕ)) (live : List Bool) (lanes : ℕ) (some : 0 < lanes) where
   wider : (more c n : ℕ) → lanes ≤ more → colours_work more pairs live c n ≤ colours_work lanes pairs live c n
   wider more c zero h = omega (arith, colours_none more pairs live c)
-  wider more c (suc n) h = omega (arith, colours_next more pairs live c n, colours_next lanes pairs live c n, pieces_fewer (of_colour_count pairs live c) lanes more some h, wider more (c + 1) n h)
+  wider more c (suc n) h = omega (
+    arith,
+    colours_next more pairs live c n,
+    colours_next lanes pairs live c n,
+    pieces_fewer (of_colour_count pairs live c) lanes more some h,
+    wider more (c + 1) n h,
+  )
 
   half : (c n : ℕ) → 2 * colours_work (2 * lanes) pairs live c n ≤ colours_work lanes pairs live c n + 4 * used pairs live c n
   half c zero = omega (arith, colours_none (2 * lanes) pairs live c)
-  half c (suc n) = omega (arith, colours_next (2 * lanes) pairs live c n, colours_next lanes pairs live c n, used_next pairs live c n, pieces_half (of_colour_count pairs live c) lanes some, half (c + 1) n)
+  half c (suc n) = omega (
+    arith,
+    colours_next (2 * lanes) pairs live c n,
+    colours_next lanes pairs live c n,
+    used_next pairs live c n,
+    pieces_half (of_colour_count pairs live c) lanes some,
+    half (c + 1) n,
+  )
 
   each : (c n : ℕ) → colours_work lanes pairs live c n ≤ 4 * total (of_colour_count pairs live) c n
   unfolding total
@@ -65,7 +85,14 @@ module _ (pairs : List (ℕ × ℕ)) (live : List Bool) (lanes : ℕ) (some : 0 
   few c zero = omega (arith, colours_none lanes pairs live c)
   few c (suc n) =
       let k : ℕ = of_colour_count pairs live c in
-      omega (arith, colours_next lanes pairs live c n, used_next pairs live c n, pieces_some k lanes some, few (c + 1) n, whole_pieces k (total (of_colour_count pairs live) (c + 1) n) lanes some)
+      omega (
+        arith,
+        colours_next lanes pairs live c n,
+        used_next pairs live c n,
+        pieces_some k lanes some,
+        few (c + 1) n,
+        whole_pieces k (total (of_colour_count pairs live) (c + 1) n) lanes some,
+      )
 
 total_last : (f : ℕ → ℕ) (a n : ℕ) → total f a (suc n) ≡ total f a n + f (a + n)
 unfolding total
@@ -73,14 +100,25 @@ total_last f a zero = (let e : a + 0 ≡ a = omega arith in omega (arith, ap f e
 total_last f a (suc n) = (let e : a + 1 + n ≡ a + suc n = omega arith in omega (arith, ap f e, total_last f (a + 1) n))
 
 -- the pairs of the colours below 63, and those of colour 63, are all
-all_of : (pairs : List (ℕ × ℕ)) (live : List Bool) → total (of_colour_count pairs live) 0 63 + of_colour_count pairs live 63 ≡ length (order pairs live)
+all_of : (pairs : List (ℕ × ℕ)) (live : List Bool) → total (of_colour_count pairs live) 0 63 + of_colour_count pairs live 63
+    ≡ length (order pairs live)
 unfolding order
-all_of pairs live = omega (arith, total_last (of_colour_count pairs live) 0 63, flat_total (of_colour live (colour pairs live) (length pairs)) 0 64)
+all_of pairs live = omega (
+  arith,
+  total_last (of_colour_count pairs live) 0 63,
+  flat_total (of_colour live (colour pairs live) (length pairs)) 0 64,
+)
 
 -- ---- links and contacts
 
-bonds_wider : (pairs : List (ℕ × ℕ)) (live : List Bool) (lanes more : ℕ) → 0 < lanes → lanes ≤ more → bonds_work more pairs live ≤ bonds_work lanes pairs live
-bonds_wider pairs live lanes more some h = omega (arith, bonds_are more pairs live, bonds_are lanes pairs live, wider pairs live lanes some more 0 63 h)
+bonds_wider : (pairs : List (ℕ × ℕ)) (live : List Bool) (lanes more : ℕ) → 0 < lanes → lanes ≤ more
+    → bonds_work more pairs live ≤ bonds_work lanes pairs live
+bonds_wider pairs live lanes more some h = omega (
+  arith,
+  bonds_are more pairs live,
+  bonds_are lanes pairs live,
+  wider pairs live lanes some more 0 63 h,
+)
 
 pub contacts_each : (lanes : ℕ) (contacts : List (ℕ × ℕ)) → 0 < lanes → contacts_work lanes contacts ≤ 4 * length contacts
 contacts_each lanes contacts some =
@@ -95,25 +133,37 @@ none_serial : (w : World) → IsSound w → of_colour_count (link_pairs w.links)
 none_serial w s =
     let pairs = link_pairs w.links in
     let live = live_flags w.links in
-    ap (λ (n : ℕ). length (of_colour live (colour pairs live) n 63)) (length-map {A = Link} {B = ℕ × ℕ} w.links (λ l. (l.a, l.b))) ∙ ap (λ (xs : List ℕ). length xs) (sound-none_last w s)
+    ap (λ (n : ℕ). length (of_colour live (colour pairs live) n 63)) (length-map {A = Link} {B = ℕ × ℕ} w.links (λ l. (l.a, l.b)))
+    ∙ ap (λ (xs : List ℕ). length xs) (sound-none_last w s)
 
-pub links_few : (lanes : ℕ) (w : World) → 0 < lanes → IsSound w → links_work lanes w.links ≤ 4 * (live_count w.links / lanes + colours_used w.links)
+pub links_few : (lanes : ℕ) (w : World) → 0 < lanes → IsSound w
+    → links_work lanes w.links ≤ 4 * (live_count w.links / lanes + colours_used w.links)
 links_few lanes w some s =
     let pairs = link_pairs w.links in
     let live = live_flags w.links in
-    let all : total (of_colour_count pairs live) 0 63 ≡ live_count w.links = omega (arith, all_of pairs live, links_count w.links, none_serial w s) in
+    let all : total (of_colour_count pairs live) 0 63 ≡ live_count w.links =
+    omega (arith, all_of pairs live, links_count w.links, none_serial w s) in
     let same : total (of_colour_count pairs live) 0 63 / lanes ≡ live_count w.links / lanes = ap (λ (n : ℕ). n / lanes) all in
     omega (arith, bonds_are lanes pairs live, few pairs live lanes some 0 63, none_serial w s, used_are w.links, same)
 
-pub links_half : (lanes : ℕ) (w : World) → 0 < lanes → IsSound w → 2 * links_work (2 * lanes) w.links ≤ links_work lanes w.links + 4 * colours_used w.links
+pub links_half : (lanes : ℕ) (w : World) → 0 < lanes → IsSound w
+    → 2 * links_work (2 * lanes) w.links ≤ links_work lanes w.links + 4 * colours_used w.links
 links_half lanes w some s =
     let pairs = link_pairs w.links in
     let live = live_flags w.links in
-    omega (arith, bonds_are lanes pairs live, bonds_are (2 * lanes) pairs live, half pairs live lanes some 0 63, none_serial w s, used_are w.links)
+    omega (
+      arith,
+      bonds_are lanes pairs live,
+      bonds_are (2 * lanes) pairs live,
+      half pairs live lanes some 0 63,
+      none_serial w s,
+      used_are w.links,
+    )
 
 -- ---- the parts of a step
 
-pub pass_is : (width lanes : ℕ) (w : World) (contacts : List (ℕ × ℕ)) → pass_work width lanes w contacts ≡ links_work lanes w.links + contacts_work lanes contacts + shapes_work width w
+pub pass_is : (width lanes : ℕ) (w : World) (contacts : List (ℕ × ℕ))
+    → pass_work width lanes w contacts ≡ links_work lanes w.links + contacts_work lanes contacts + shapes_work width w
 unfolding pass_work
 pass_is width lanes w contacts = refl
 
@@ -129,7 +179,8 @@ pub settling_is : (width : ℕ) (w : World) → settling_work width w ≡ fricti
 unfolding settling_work
 settling_is width w = refl
 
-pub finishing_is : (width lanes : ℕ) (w : World) (contacts : List (ℕ × ℕ)) → finishing_work width lanes w contacts ≡ w.passes * pass_work width lanes w contacts + settling_work width w
+pub finishing_is : (width lanes : ℕ) (w : World) (contacts : List (ℕ × ℕ))
+    → finishing_work width lanes w contacts ≡ w.passes * pass_work width lanes w contacts + settling_work width w
 unfolding finishing_work
 finishing_is width lanes w contacts = refl
 
@@ -165,16 +216,29 @@ if_most_else : (b : Bool) (n : ℕ) → (if b then n else 0) ≤ n
 if_most_else true n = omega arith
 if_most_else false n = omega arith
 
-pub step_wider : (width lanes wider_width more_lanes : ℕ) (w : World) (contacts : List (ℕ × ℕ)) → 0 < width → width ≤ wider_width → 0 < lanes → lanes ≤ more_lanes
+pub step_wider : (width lanes wider_width more_lanes : ℕ) (w : World) (contacts : List (ℕ × ℕ)) → 0 < width → width ≤ wider_width
+    → 0 < lanes → lanes ≤ more_lanes
     → step_work wider_width more_lanes w contacts ≤ step_work width lanes w contacts
 step_wider width lanes wider_width more_lanes w contacts some wide any more =
     let fewer : blocks_in wider_width w ≤ blocks_in width w = pieces_fewer (length w.particles) width wider_width some wide in
     let twice : 2 * blocks_in wider_width w ≤ 2 * blocks_in width w = omega (arith, fewer) in
-    let shapes : shapes_work wider_width w ≤ shapes_work width w = if_less (length w.planes + length w.spheres == 0) (2 * blocks_in wider_width w) (2 * blocks_in width w) twice in
-    let friction : friction_work wider_width w ≤ friction_work width w = if_less_else (int_lt (pos 0) w.friction) (2 * blocks_in wider_width w) (2 * blocks_in width w) twice in
-    let links : links_work more_lanes w.links ≤ links_work lanes w.links = bonds_wider (link_pairs w.links) (live_flags w.links) lanes more_lanes any more in
-    let found : contacts_work more_lanes contacts ≤ contacts_work lanes contacts = bonds_wider contacts (map (λ pair. true) contacts) lanes more_lanes any more in
-    let pass : pass_work wider_width more_lanes w contacts ≤ pass_work width lanes w contacts = omega (arith, pass_is wider_width more_lanes w contacts, pass_is width lanes w contacts, shapes, links, found) in
+    let shapes : shapes_work wider_width w ≤ shapes_work width w =
+    if_less (length w.planes + length w.spheres == 0) (2 * blocks_in wider_width w) (2 * blocks_in width w) twice in
+    let friction : friction_work wider_width w ≤ friction_work width w =
+    if_less_else (int_lt (pos 0) w.friction) (2 * blocks_in wider_width w) (2 * blocks_in width w) twice in
+    let links : links_work more_lanes w.links ≤ links_work lanes w.links =
+    bonds_wider (link_pairs w.links) (live_flags w.links) lanes more_lanes any more in
+    let found : contacts_work more_lanes contacts ≤ contacts_work lanes contacts =
+    bonds_wider contacts (map (λ pair. true) contacts) lanes more_lanes any more in
+    let pass : pass_work wider_width more_lanes w contacts
+    ≤ pass_work width lanes w contacts = omega (
+      arith,
+      pass_is wider_width more_lanes w contacts,
+      pass_is width lanes w contacts,
+      shapes,
+      links,
+      found,
+    ) in
     let passes = mul-le-mul_left {m = pass_work wider_width more_lanes w contacts} {n = pass_work width lanes w contacts} w.passes pass in
     let finishing : finishing_work wider_width more_lanes w contacts ≤ finishing_work width lanes w contacts =
     omega (
@@ -193,10 +257,12 @@ step_wider width lanes wider_width more_lanes w contacts some wide any more =
       beginning_is wider_width w,
       beginning_is width w,
       fewer,
-      if_less (nat_lt 262144 (length contacts)) (finishing_work wider_width more_lanes w contacts) (finishing_work width lanes w contacts) finishing,
+      if_less (nat_lt 262144 (length contacts)) (finishing_work wider_width more_lanes w contacts)
+          (finishing_work width lanes w contacts) finishing,
     )
 
-module _ (width lanes wider_width more_lanes : ℕ) (some : 0 < width) (wide : width ≤ wider_width) (any : 0 < lanes) (more : lanes ≤ more_lanes) where
+module _ (width lanes wider_width more_lanes : ℕ) (some : 0 < width) (wide : width ≤ wider_width) (any : 0 < lanes)
+    (more : lanes ≤ more_lanes) where
   from_wider : (f g : World → ℕ) (r : Result World Refusal) → ((v : World) → f v ≤ g v) → work_from f r ≤ work_from g r
   from_wider f g (Ok v) h = h v
   from_wider f g (Err refusal) h = omega arith
@@ -205,11 +271,16 @@ module _ (width lanes wider_width more_lanes : ℕ) (some : 0 < width) (wide : w
   unfolding work_over
   over_wider zero w = omega arith
   over_wider (suc n) w =
-      omega (arith, step_wider width lanes wider_width more_lanes w (found_in w) some wide any more, from_wider (work_over wider_width more_lanes n) (work_over width lanes n) (step w) (over_wider n))
+      omega (
+        arith,
+        step_wider width lanes wider_width more_lanes w (found_in w) some wide any more,
+        from_wider (work_over wider_width more_lanes n) (work_over width lanes n) (step w) (over_wider n),
+      )
 
   pub command_wider : (w : World) (command : Command) → command_work wider_width more_lanes w command ≤ command_work width lanes w command
   unfolding command_work steps_work
-  command_wider w (commands.Step n) = from_wider (work_over wider_width more_lanes n) (work_over width lanes n) (unless (refusals w (commands.Step n)) w) (over_wider n)
+  command_wider w (commands.Step n) = from_wider (work_over wider_width more_lanes n) (work_over width lanes n)
+      (unless (refusals w (commands.Step n)) w) (over_wider n)
   command_wider w commands.Frame = omega arith
   command_wider w (commands.Pin i) = omega arith
   command_wider w (commands.Unpin i) = omega arith
@@ -228,7 +299,8 @@ module _ (width lanes wider_width more_lanes : ℕ) (some : 0 < width) (wide : w
 
 pub step_few : (width lanes : ℕ) (w : World) (contacts : List (ℕ × ℕ)) → 0 < lanes → IsSound w
     → step_work width lanes w contacts
-    ≤ 4 * (blocks_in width w + w.passes * (live_count w.links / lanes + colours_used w.links + min (length contacts) 262144 + blocks_in width w))
+    ≤ 4 * (blocks_in width w + w.passes * (live_count w.links / lanes + colours_used w.links + min (length contacts) 262144
+    + blocks_in width w))
     + length w.tracks + finding_work w + 2 * tearable_count w.links
 step_few width lanes w contacts some s = by (nat_lt 262144 (length contacts)) refl
   where
@@ -240,7 +312,8 @@ step_few width lanes w contacts some s = by (nat_lt 262144 (length contacts)) re
     going_on : length contacts ≤ 262144 → step_work width lanes w contacts ≤ most (length contacts)
     going_on few =
         let sum : ℕ = live_count w.links / lanes + colours_used w.links + length contacts + blocks_in width w in
-        let shapes : shapes_work width w ≤ 2 * blocks_in width w = if_most (length w.planes + length w.spheres == 0) (2 * blocks_in width w) in
+        let shapes : shapes_work width w ≤ 2 * blocks_in width w =
+        if_most (length w.planes + length w.spheres == 0) (2 * blocks_in width w) in
         let friction : friction_work width w ≤ 2 * blocks_in width w = if_most_else (int_lt (pos 0) w.friction) (2 * blocks_in width w) in
         let pass : pass_work width lanes w contacts ≤ 4 * sum =
         omega (arith, pass_is width lanes w contacts, shapes, links_few lanes w some s, contacts_each lanes contacts some) in

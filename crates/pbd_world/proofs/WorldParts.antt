@@ -9,7 +9,8 @@ use Rattle.pbd_num.specs.Vectors.{is_within}
 use Rattle.pbd_num.proofs.Sizes.{size_at_most}
 use Rattle.pbd_world.specs.declared.parts.Particle.{Particle}
 use Rattle.pbd_world.specs.declared.parts.Parts.{Parts}
-use Rattle.pbd_world.specs.Valid.{is_between, is_limit, is_valid_particle, are_valid_particles, are_valid_links, are_valid_planes, are_valid_spheres, are_valid_tracks, are_valid_numbers, is_well_formed}
+use Rattle.pbd_world.specs.Valid.{is_between, is_limit, is_valid_particle, are_valid_particles, are_valid_links, are_valid_planes}
+use Rattle.pbd_world.specs.Valid.{are_valid_spheres, are_valid_tracks, are_valid_numbers, is_well_formed}
 use Rattle.pbd_world.specs.World.{World, parts_of}
 use Rattle.pbd_world.proofs.WholeLemmas.{limit_low, limit_high}
 use Rattle.pbd_world.proofs.KeptLemmas.{IsLimit}
@@ -34,7 +35,9 @@ formed parts h =
 
 pub from_formed : (parts : Parts) → Formed parts → IsTrue (is_well_formed parts)
 unfolding is_well_formed
-from_formed parts f = and_from _ _ (and_from _ _ (and_from _ _ (and_from _ _ (and_from _ _ (and_from _ _ (and_from _ _ f.limit f.particles) f.links) f.planes) f.spheres) f.tracks) f.gravity) f.numbers
+from_formed parts f = and_from _ _ (and_from _ _ (and_from _ _
+    (and_from _ _ (and_from _ _ (and_from _ _ (and_from _ _ f.limit f.particles) f.links) f.planes) f.spheres) f.tracks) f.gravity)
+    f.numbers
 
 between_low : (high n : ℤ) → IsTrue (is_between (pos 0) high n) → pos 0 ≤ℤ n
 between_low high n h = grind (arith, ints, nat_tests)
@@ -52,8 +55,10 @@ pub record Numbers (w : World) : Type 0 where
 
 pub numbers_of : (w : World) → Formed (parts_of w) → Numbers w
 numbers_of w f =
-    let p3 = and_parts (nat_le w.passes 64 && is_between (pos 0) (pos 1024) w.damping && is_between (pos 0) (pos 1048576) w.thickness) (is_between (pos 0) (pos 256) w.friction) f.numbers in
-    let p2 = and_parts (nat_le w.passes 64 && is_between (pos 0) (pos 1024) w.damping) (is_between (pos 0) (pos 1048576) w.thickness) p3.0 in
+    let p3 = and_parts (nat_le w.passes 64 && is_between (pos 0) (pos 1024) w.damping && is_between (pos 0) (pos 1048576) w.thickness)
+    (is_between (pos 0) (pos 256) w.friction) f.numbers in
+    let p2 = and_parts (nat_le w.passes 64 && is_between (pos 0) (pos 1024) w.damping)
+    (is_between (pos 0) (pos 1048576) w.thickness) p3.0 in
     let p1 = and_parts (nat_le w.passes 64) (is_between (pos 0) (pos 1024) w.damping) p2.0 in
     record {
       passes = leb-true w.passes 64 p1.0;
@@ -85,7 +90,8 @@ fit_is limit p f = and_from _ _ (and_from _ _ (and_from _ _ f.at f.before) f.low
 
 pub all_fit : (limit : ℤ) (ps : List Particle) → IsTrue (list_all (is_valid_particle limit) ps) → AllByRecursion (IsFit limit) ps
 all_fit limit [] h = tt
-all_fit limit (p ∷ ps) h = let parts = and_parts (is_valid_particle limit p) (list_all (is_valid_particle limit) ps) h in (fit_from limit p parts.0, all_fit limit ps parts.1)
+all_fit limit (p ∷ ps) h = let parts = and_parts (is_valid_particle limit p) (list_all (is_valid_particle limit) ps) h in
+    (fit_from limit p parts.0, all_fit limit ps parts.1)
 
 pub are_fit : (limit : ℤ) (ps : List Particle) → AllByRecursion (IsFit limit) ps → IsTrue (list_all (is_valid_particle limit) ps)
 are_fit limit [] h = refl

@@ -1,5 +1,6 @@
 -- Greedy colours of a list of pairs with live flags, and the order that they give.
-use Rattle.std.specs.Prelude.{◌≡◌, ◌≢◌, ◌⊎◌, if◌then◌else◌, ℕ, zero, suc, ◌+◌, ◌<◌, ◌≤◌, ◌==◌, ◌&&◌, ◌||◌, Bool, false, IsTrue, List, [], ◌∷◌, ◌++◌, slice_index, slice_index_or, filter, length}
+use Rattle.std.specs.Prelude.{◌≡◌, ◌≢◌, ◌⊎◌, if◌then◌else◌, ℕ, zero, suc, ◌+◌, ◌<◌, ◌≤◌, ◌==◌, ◌&&◌, ◌||◌, Bool, false, IsTrue, List, []}
+use Rattle.std.specs.Prelude.{◌∷◌, ◌++◌, slice_index, slice_index_or, filter, length}
 use Rattle.std.specs.List.{range_with_len, flat_map}
 
 abbrev pub pair_at : List (ℕ × ℕ) → ℕ → ℕ × ℕ

@@ -1,5 +1,6 @@
 -- The contacts of a list of particles: all pairs, filtered.
-use Rattle.std.specs.Prelude.{◌≡◌, ◌⊎◌, ℕ, ◌+◌, ◌-◌, ◌*◌, ◌<◌, nat_lt, ℤ, unsigned_abs, Bool, not, ◌&&◌, List, length, map, filter, IsTrue, All}
+use Rattle.std.specs.Prelude.{◌≡◌, ◌⊎◌, ℕ, ◌+◌, ◌-◌, ◌*◌, ◌<◌, nat_lt, ℤ, unsigned_abs, Bool, not, ◌&&◌, List, length, map, filter, IsTrue}
+use Rattle.std.specs.Prelude.{All}
 use Rattle.std.specs.List.{range_with_len, flat_map}
 use Rattle.pbd_num.specs.Vectors.{minus, squared_length}
 use Rattle.pbd_world.specs.declared.parts.Particle.{Particle}

@@ -6,7 +6,8 @@ use Rattle.pbd_world.specs.declared.parts.Particle.{Particle}
 use Rattle.pbd_world.specs.declared.command.Phase.{Phase}
 use Rattle.pbd_world.specs.declared.command.Phase.TheVariants.{Predict, Link, Contact, Shape}
 use Rattle.pbd_world.specs.declared.command.Refusal.{Refusal}
-use Rattle.pbd_world.specs.declared.command.Refusal.TheVariants.{BadCommand, NoParticle, NoLink, LinkGone, OutOfRange, NotHeld, Held, Tracked, BadCount, StepLimit, LeavesRange, TooManyContacts}
+use Rattle.pbd_world.specs.declared.command.Refusal.TheVariants.{BadCommand, NoParticle, NoLink, LinkGone, OutOfRange, NotHeld, Held}
+use Rattle.pbd_world.specs.declared.command.Refusal.TheVariants.{Tracked, BadCount, StepLimit, LeavesRange, TooManyContacts}
 use Rattle.pbd_world.specs.declared.command.Reply.{Reply}
 use Rattle.pbd_world.specs.declared.command.Reply.TheVariants as replies
 use Rattle.pbd_world.specs.Ledger.{Sum}

@@ -1,6 +1,7 @@
 -- What commands may cost: how often they reach the particles, at most, to be added up by hand. One access reads or writes
 -- a particle, a block of as many particles as the width says, or as many ends of bonds as are projected side by side.
-use Rattle.std.specs.Prelude.{ℕ, zero, suc, ◌+◌, ◌-◌, ◌*◌, ◌/◌, ◌==◌, ◌&&◌, nat_lt, pos, int_lt, unsigned_abs, if◌then◌else◌, Bool, true, List, [], ◌∷◌, length, map, filter, sum_by, Result, Ok, Err}
+use Rattle.std.specs.Prelude.{ℕ, zero, suc, ◌+◌, ◌-◌, ◌*◌, ◌/◌, ◌==◌, ◌&&◌, nat_lt, pos, int_lt, unsigned_abs, if◌then◌else◌, Bool, true}
+use Rattle.std.specs.Prelude.{List, [], ◌∷◌, length, map, filter, sum_by, Result, Ok, Err}
 use Rattle.std.specs.List.{range_with_len}
 use Rattle.pbd_world.specs.declared.parts.Link.{Link}
 use Rattle.pbd_world.specs.declared.command.Command.{Command}

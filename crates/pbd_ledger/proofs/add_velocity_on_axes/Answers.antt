@@ -36,7 +36,9 @@ returns-clause-value c =
     let fx : FitsSigned w128 c.add_velocity.result = record { sfits = c.add_velocity.type_inv } in
     let fy : FitsSigned w128 c.add_velocity-2.result = record { sfits = c.add_velocity-2.type_inv } in
     let fz : FitsSigned w128 c.add_velocity-3.result = record { sfits = c.add_velocity-3.type_inv } in
-    simp to_z-of_z (same_sum _ (sum_plus (sum_of c.args.sum) (minus c.args.at c.args.before)) (simp to_z-of_z at c.add_velocity.ensures.value) (simp to_z-of_z at c.add_velocity-2.ensures.value) (simp to_z-of_z at c.add_velocity-3.ensures.value))
+    simp to_z-of_z (same_sum _ (sum_plus (sum_of c.args.sum) (minus c.args.at c.args.before))
+    (simp to_z-of_z at c.add_velocity.ensures.value) (simp to_z-of_z at c.add_velocity-2.ensures.value)
+    (simp to_z-of_z at c.add_velocity-3.ensures.value))
 
 pub returns-clause-size : goal.returns-clause-size
 returns-clause-size c bound h =
@@ -46,4 +48,8 @@ returns-clause-size c bound h =
     let fx : FitsSigned w128 c.add_velocity.result = record { sfits = c.add_velocity.type_inv } in
     let fy : FitsSigned w128 c.add_velocity-2.result = record { sfits = c.add_velocity-2.type_inv } in
     let fz : FitsSigned w128 c.add_velocity-3.result = record { sfits = c.add_velocity-3.type_inv } in
-    simp to_z-of_z (record { x = omega (arith, h.x, simp to_z-of_z at c.add_velocity.ensures.size); y = omega (arith, h.y, simp to_z-of_z at c.add_velocity-2.ensures.size); z = omega (arith, h.z, simp to_z-of_z at c.add_velocity-3.ensures.size) })
+    simp to_z-of_z (record {
+      x = omega (arith, h.x, simp to_z-of_z at c.add_velocity.ensures.size);
+      y = omega (arith, h.y, simp to_z-of_z at c.add_velocity-2.ensures.size);
+      z = omega (arith, h.z, simp to_z-of_z at c.add_velocity-3.ensures.size);
+    })

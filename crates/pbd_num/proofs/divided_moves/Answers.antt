@@ -1,4 +1,5 @@
-use Rattle.std.proofs.Common.{arith, ◌≡◌, ◌≤◌, ◌^◌, ◌+◌, ℤ, ◌+ℤ◌, ◌<ℤ◌, ◌≤ℤ◌, pos, unsigned_abs, to_z, of_z, w64, FitsSigned, sym, ap, inl, inr}
+use Rattle.std.proofs.Common.{arith, ◌≡◌, ◌≤◌, ◌^◌, ◌+◌, ℤ, ◌+ℤ◌, ◌<ℤ◌, ◌≤ℤ◌, pos, unsigned_abs, to_z, of_z, w64, FitsSigned, sym, ap, inl}
+use Rattle.std.proofs.Common.{inr}
 use Rattle.std.proofs.lemmas.Int.{to_z-of_z, ints}
 use Rattle.pbd_num.proofs.Sizes.{fits, size-sum, size_at_most, size_pos}
 use Rattle.pbd_num.proofs.Lengths.{length_below}
@@ -79,7 +80,8 @@ returns-clause-moves c =
     let rest = fits c.args.draw.rest (omega (arith, size_at_most c.args.draw.rest (2 ^ 31) c.requires.rest_low c.requires.rest_high)) in
     along-by_steps c.args.way c.correction-s.result c.share-first.result c.share-second.result c.opposite.result
     c.args.draw.rest c.args.draw.k w.first w.second (unsigned_abs (w.first +ℤ w.second))
-    (simp to_z-of_z at c.correction-s.ensures.value) (simp to_z-of_z at c.share-first.ensures.value) (simp to_z-of_z at c.share-second.ensures.value)
+    (simp to_z-of_z at c.correction-s.ensures.value) (simp to_z-of_z at c.share-first.ensures.value)
+    (simp to_z-of_z at c.share-second.ensures.value)
     c.opposite.ensures.value total.sum
     (omega (arith, ap unsigned_abs c.requires.length, size_pos c.args.len c.if-len-eq0.false))
     (size_pos (w.first +ℤ w.second) (simp to_z-of_z at c.if-total-eq0.false))

@@ -27,17 +27,20 @@ asked s k w total k_fits w_fits total_fits size stiffness weight low high =
 pub share_axis-requires : goal.share_axis-requires
 share_axis-requires c =
     let r = c.requires in
-    asked c.args.s.x c.args.k c.args.w c.args.total c.ranges.k c.ranges.w c.ranges.total r.size.x r.stiffness r.weight r.total_low r.total_high
+    asked c.args.s.x c.args.k c.args.w c.args.total c.ranges.k c.ranges.w c.ranges.total r.size.x r.stiffness r.weight r.total_low
+    r.total_high
 
 pub share_axis-requires-2 : goal.share_axis-requires-2
 share_axis-requires-2 c =
     let r = c.requires in
-    asked c.args.s.y c.args.k c.args.w c.args.total c.ranges.k c.ranges.w c.ranges.total r.size.y r.stiffness r.weight r.total_low r.total_high
+    asked c.args.s.y c.args.k c.args.w c.args.total c.ranges.k c.ranges.w c.ranges.total r.size.y r.stiffness r.weight r.total_low
+    r.total_high
 
 pub share_axis-requires-3 : goal.share_axis-requires-3
 share_axis-requires-3 c =
     let r = c.requires in
-    asked c.args.s.z c.args.k c.args.w c.args.total c.ranges.k c.ranges.w c.ranges.total r.size.z r.stiffness r.weight r.total_low r.total_high
+    asked c.args.s.z c.args.k c.args.w c.args.total c.ranges.k c.ranges.w c.ranges.total r.size.z r.stiffness r.weight r.total_low
+    r.total_high
 
 pub returns-clause-size : goal.returns-clause-size
 returns-clause-size c =

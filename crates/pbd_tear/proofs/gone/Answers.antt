@@ -11,13 +11,16 @@ pub loop-i-preserved : goal.loop-i-preserved
 loop-i-preserved c =
     let entries = ap (λ (o : Roomed ℕ). o.entries) c.push_if.ensures in
     record {
-      so_far = subst (λ (xs : List ℕ). GoneSoFar c.args.links.now (c.loop-i.i + 1) xs) (sym entries) (gone_more c.args.links.now c.loop-i.i c.loop-i.out.entries _ _ c.loop-i-test.true refl c.loop-i.invariant.so_far);
-      few = subst (λ (xs : List ℕ). length xs ≤ c.loop-i.i + 1) (sym entries) (few_more _ c.loop-i.i c.loop-i.out.entries c.loop-i.invariant.few);
+      so_far = subst (λ (xs : List ℕ). GoneSoFar c.args.links.now (c.loop-i.i + 1) xs) (sym entries)
+          (gone_more c.args.links.now c.loop-i.i c.loop-i.out.entries _ _ c.loop-i-test.true refl c.loop-i.invariant.so_far);
+      few = subst (λ (xs : List ℕ). length xs ≤ c.loop-i.i + 1) (sym entries)
+          (few_more _ c.loop-i.i c.loop-i.out.entries c.loop-i.invariant.few);
       room = ap (λ (o : Roomed ℕ). o.room) c.push_if.ensures ∙ c.loop-i.invariant.room;
     }
 
 pub returns-clause-numbers : goal.returns-clause-numbers
-returns-clause-numbers c = list_is c.loop-i.out c.args.out.now (gone_numbers c.args.links.now) (gone_all c.args.links.now c.loop-i.i c.loop-i.out.entries c.loop-i-test.false c.loop-i.invariant.so_far) c.loop-i.invariant.room
+returns-clause-numbers c = list_is c.loop-i.out c.args.out.now (gone_numbers c.args.links.now)
+    (gone_all c.args.links.now c.loop-i.i c.loop-i.out.entries c.loop-i-test.false c.loop-i.invariant.so_far) c.loop-i.invariant.room
 
 pub returns-clause-ascending : goal.returns-clause-ascending
 returns-clause-ascending c =

@@ -5,7 +5,8 @@ use Rattle.pbd_tear.proofs.Numbers.{torn_by, never_torn}
 use Rattle.pbd_tear.proofs.is_torn.Goals as goal
 
 pub returns-then-not-may_tear-clause-value : goal.returns-then-not-may_tear-clause-value
-returns-then-not-may_tear-clause-value g c = never_torn c.args.store.now.particles c.args.link (sym c.may_tear.ensures ∙ c.if-not-may_tear.true)
+returns-then-not-may_tear-clause-value g c = never_torn c.args.store.now.particles c.args.link
+    (sym c.may_tear.ensures ∙ c.if-not-may_tear.true)
 
 pub returns-then-not-may_tear-clause-cost : goal.returns-then-not-may_tear-clause-cost
 returns-then-not-may_tear-clause-cost g c = omega arith
@@ -25,10 +26,12 @@ pub returns-clause-value : goal.returns-clause-value
 returns-clause-value g c =
     let tear = fits c.args.link.tear (omega (arith, c.requires.link.tear)) in
     let farther = simp to_z-of_z at c.are_farther.ensures in
-    farther ∙ torn_by c.args.store.now.particles c.args.link c.at-a.result c.at-b.result (sym c.may_tear.ensures ∙ c.if-not-may_tear.false) c.at-a.ensures.value c.at-b.ensures.value
+    farther ∙ torn_by c.args.store.now.particles c.args.link c.at-a.result c.at-b.result
+    (sym c.may_tear.ensures ∙ c.if-not-may_tear.false) c.at-a.ensures.value c.at-b.ensures.value
 
 two_more : (may : Bool) (old new : ℕ) → may ≡ true → new ≤ old + 2 → new ≤ old + cond may 2 0
 two_more may old new e h = rw e h
 
 pub returns-clause-cost : goal.returns-clause-cost
-returns-clause-cost g c = two_more _ c.args.steps.now c.at-b.new.steps (sym c.may_tear.ensures ∙ c.if-not-may_tear.false) (omega (arith, c.at-a.ensures.cost, c.at-b.ensures.cost))
+returns-clause-cost g c = two_more _ c.args.steps.now c.at-b.new.steps (sym c.may_tear.ensures ∙ c.if-not-may_tear.false)
+    (omega (arith, c.at-a.ensures.cost, c.at-b.ensures.cost))

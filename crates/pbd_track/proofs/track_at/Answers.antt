@@ -6,7 +6,8 @@ use Rattle.pbd_track.proofs.Following.{track_keys, later_keys, up_to_first, afte
 use Rattle.pbd_track.proofs.track_at.Goals as goal
 
 pub returns-then-t-keys : goal.returns-then-t-keys
-returns-then-t-keys c = sym (up_to_first c.as_slice-keys.result.now _ c.args.t (omega arith) c.if-t-keys.true) ∙ ap (λ (keys : List Key). place_at keys c.args.t) c.as_slice-keys.ensures
+returns-then-t-keys c = sym (up_to_first c.as_slice-keys.result.now _ c.args.t (omega arith) c.if-t-keys.true)
+    ∙ ap (λ (keys : List Key). place_at keys c.args.t) c.as_slice-keys.ensures
 
 pub place_after-requires-clause-first : goal.place_after-requires-clause-first
 place_after-requires-clause-first c =
@@ -14,7 +15,9 @@ place_after-requires-clause-first c =
     keys 0 _ (omega arith)
 
 pub place_after-requires-clause-later : goal.place_after-requires-clause-later
-place_after-requires-clause-later c = later_keys c.as_slice-keys.result.now (rw c.as_slice-keys.ensures (track_keys c.args.track.now c.requires))
+place_after-requires-clause-later c = later_keys c.as_slice-keys.result.now
+    (rw c.as_slice-keys.ensures (track_keys c.args.track.now c.requires))
 
 pub returns : goal.returns
-returns c = c.place_after.ensures ∙ sym (after_first c.as_slice-keys.result.now _ c.args.t (omega arith) c.if-t-keys.false) ∙ ap (λ (keys : List Key). place_at keys c.args.t) c.as_slice-keys.ensures
+returns c = c.place_after.ensures ∙ sym (after_first c.as_slice-keys.result.now _ c.args.t (omega arith) c.if-t-keys.false)
+    ∙ ap (λ (keys : List Key). place_at keys c.args.t) c.as_slice-keys.ensures

@@ -3,7 +3,12 @@ use Rattle.pbd_chain.proofs.Shown
 use Rattle.pbd_chain.proofs.chains.link_shown.Goals as goal
 
 pub link-requires-clause-first : goal.link-requires-clause-first
-link-requires-clause-first c z e = omega (arith, Shown.first_below c.requires.shows c.args.chain z c.requires.chain e, c.requires.shows.backs)
+link-requires-clause-first c z e = omega (
+  arith,
+  Shown.first_below c.requires.shows c.args.chain z c.requires.chain e,
+  c.requires.shows.backs,
+)
 
 pub returns : goal.returns
-returns c = Shown.Shows-link c.requires.shows c.link.auto.heads c.link.auto.next c.link.auto.back c.args.chain c.args.item c.requires.chain c.requires.item c.requires.free c.link.ensures
+returns c = Shown.Shows-link c.requires.shows c.link.auto.heads c.link.auto.next c.link.auto.back c.args.chain c.args.item c.requires.chain
+    c.requires.item c.requires.free c.link.ensures

@@ -9,7 +9,12 @@ pub unlink-requires-clause-slot : goal.unlink-requires-clause-slot
 unlink-requires-clause-slot c s e = Shown.slot_below c.requires.shows c.args.item s e
 
 pub unlink-requires-clause-behind : goal.unlink-requires-clause-behind
-unlink-requires-clause-behind c z e = omega (arith, Shown.behind_below c.requires.shows c.args.item z c.requires.linked e, c.requires.shows.backs)
+unlink-requires-clause-behind c z e = omega (
+  arith,
+  Shown.behind_below c.requires.shows c.args.item z c.requires.linked e,
+  c.requires.shows.backs,
+)
 
 pub returns : goal.returns
-returns c = Shown.Shows-unlink c.requires.shows c.unlink.auto.heads c.unlink.auto.next c.unlink.auto.back c.args.item c.requires.linked c.unlink.ensures
+returns c = Shown.Shows-unlink c.requires.shows c.unlink.auto.heads c.unlink.auto.next c.unlink.auto.back c.args.item c.requires.linked
+    c.unlink.ensures

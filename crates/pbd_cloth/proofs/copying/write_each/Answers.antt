@@ -7,8 +7,10 @@ loop-i-init g c = mapped_none g.R.Reading.value c.args.solver.now.world.particle
 
 pub loop-i-preserved : goal.loop-i-preserved
 loop-i-preserved g c =
-    mapped_next g.R.Reading.value c.args.solver.now.world.particles c.args.into.now c.loop-i.into c.loop-i.i _ c.read_at.result c.loop-i.invariant
+    mapped_next g.R.Reading.value c.args.solver.now.world.particles c.args.into.now c.loop-i.into c.loop-i.i _ c.read_at.result
+    c.loop-i.invariant
     c.read_at.ensures (omega arith) (omega arith)
 
 pub returns : goal.returns
-returns g c = mapped_end g.R.Reading.value c.args.solver.now.world.particles c.args.into.now c.loop-i.into c.loop-i.i c.loop-i.invariant (omega arith)
+returns g c = mapped_end g.R.Reading.value c.args.solver.now.world.particles c.args.into.now c.loop-i.into c.loop-i.i c.loop-i.invariant
+    (omega arith)

@@ -4,7 +4,8 @@ use Rattle.pbd_cloth.proofs.First.{first_at, first_none}
 use Rattle.pbd_cloth.proofs.reads.find_between.Goals as goal
 
 pub returns-then-joins : goal.returns-then-joins
-returns-then-joins c = first_at (joins_ends c.args.a c.args.b) c.args.links.now c.loop-i.i _ c.loop-i.invariant (omega arith) (sym c.joins.ensures ∙ c.if-joins.true)
+returns-then-joins c = first_at (joins_ends c.args.a c.args.b) c.args.links.now c.loop-i.i _ c.loop-i.invariant (omega arith)
+    (sym c.joins.ensures ∙ c.if-joins.true)
 
 pub returns : goal.returns
 returns c = first_none (joins_ends c.args.a c.args.b) c.args.links.now c.loop-i.i _ c.loop-i.invariant (omega arith)

@@ -16,4 +16,5 @@ unlink-requires-2 c = let l = c.requires.pairs c.args.i c.requires.i in
 pub returns-clause-held : goal.returns-clause-held
 returns-clause-held c = let l = c.requires.pairs c.args.i c.requires.i in
     let within : c.args.i < length c.args.live.now = omega (arith, c.requires.i, c.requires.length) in
-    Holds-less c.args.i c.args.live.now c.requires.held c.if-not-live-i.false l.0 l.1 c.unlink.new.self c.unlink-2.new.self within c.unlink.ensures c.unlink-2.ensures
+    Holds-less c.args.i c.args.live.now c.requires.held c.if-not-live-i.false l.0 l.1 c.unlink.new.self c.unlink-2.new.self within
+    c.unlink.ensures c.unlink-2.ensures

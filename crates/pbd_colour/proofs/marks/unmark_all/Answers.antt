@@ -9,7 +9,9 @@ returns-clause-unmarked c = all_unmarked c.args.count c.fill.new.list.entries (a
 
 pub returns-clause-blocked : goal.returns-clause-blocked
 returns-clause-blocked c =
-    let marks : length c.fill.new.list.entries ≡ c.args.count = ap (λ (r : Roomed Bool). length r.entries) c.fill.ensures ∙ length-replicate c.args.count false in
-    let blocks : length c.fill-2.new.list.entries ≡ c.args.count / 256 + 1 = ap (λ (r : Roomed Bool). length r.entries) c.fill-2.ensures ∙ length-replicate (c.args.count / 256 + 1) false in
+    let marks : length c.fill.new.list.entries ≡ c.args.count = ap (λ (r : Roomed Bool). length r.entries) c.fill.ensures
+    ∙ length-replicate c.args.count false in
+    let blocks : length c.fill-2.new.list.entries ≡ c.args.count / 256 + 1 = ap (λ (r : Roomed Bool). length r.entries) c.fill-2.ensures
+    ∙ length-replicate (c.args.count / 256 + 1) false in
     none_blocked c.fill.new.list.entries c.fill-2.new.list.entries (blocks ∙ ap (λ (n : ℕ). n / 256 + 1) (sym marks))
     (all_unmarked c.args.count c.fill.new.list.entries (ap (λ (r : Roomed Bool). r.entries) c.fill.ensures))

@@ -14,4 +14,5 @@ returns c =
     c.trailing_ones.ensures ∙ (lowest-unset c.used_by-set.result c.used_by-set.ensures.small).0
     ∙ least_free-agree _ _ (λ d l. c.used_by-set.ensures.has d l
     ∙ ap (λ (b : Bool). b || list_any (holds_before cs i d) (chain_at c.args.chains.now.chains (pair_at c.args.pairs.now i).1))
-    (c.used_by.ensures.has d l ∙ ap (λ (n : ℕ). eqb n 1 || list_any (holds_before cs i d) (chain_at c.args.chains.now.chains (pair_at c.args.pairs.now i).0)) (bit_at-zero d)))
+    (c.used_by.ensures.has d l ∙ ap (λ (n : ℕ). eqb n 1 || list_any (holds_before cs i d)
+    (chain_at c.args.chains.now.chains (pair_at c.args.pairs.now i).0)) (bit_at-zero d)))

@@ -11,7 +11,8 @@ next-at-requires c = chain_linked c.args.chains.now.chains c.args.p c.in-Some.x 
 
 pub mark_if-requires-clause-k : goal.mark_if-requires-clause-k
 mark_if-requires-clause-k c =
-    let known = c.requires.pairs c.in-Some.x (get_in (chain_at c.args.chains.now.chains c.args.p) c.loop.counter c.in-Some.x (sym c.loop.invariant.marking.next ∙ c.in-Some.is)) in
+    let known = c.requires.pairs c.in-Some.x (get_in (chain_at c.args.chains.now.chains c.args.p) c.loop.counter c.in-Some.x
+    (sym c.loop.invariant.marking.next ∙ c.in-Some.is)) in
     omega (arith, known)
 
 pub loop-preserved : goal.loop-preserved
@@ -21,12 +22,15 @@ loop-preserved c =
     let known = c.requires.pairs x (get_in chain c.loop.counter x (sym c.loop.invariant.marking.next ∙ c.in-Some.is)) in
     let within : x / 2 < length c.loop.marks = omega (arith, known) in
     record {
-      marking = subst (λ (ms : List Bool). IsMarking c.args.i chain c.next-at.result (c.loop.counter + 1) c.args.marks.now ms) (sym c.mark_if.ensures.marks)
-          (IsMarking-more c.args.i chain c.loop.at c.loop.counter c.args.marks.now c.loop.marks c.loop.invariant.marking x (live_at c.loop.marks (x / 2) || ltb c.args.i (x / 2)) c.next-at.result
+      marking = subst (λ (ms : List Bool). IsMarking c.args.i chain c.next-at.result (c.loop.counter + 1) c.args.marks.now ms)
+          (sym c.mark_if.ensures.marks)
+          (IsMarking-more c.args.i chain c.loop.at c.loop.counter c.args.marks.now c.loop.marks c.loop.invariant.marking x
+          (live_at c.loop.marks (x / 2) || ltb c.args.i (x / 2)) c.next-at.result
           c.in-Some.is within refl (c.next-at.ensures c.args.p c.loop.counter (sym c.loop.invariant.marking.next ∙ c.in-Some.is)));
       blocked = c.mark_if.ensures.blocked;
     }
 
 pub returns-in_default-clause-marked : goal.returns-in_default-clause-marked
-returns-in_default-clause-marked c = IsMarking-all c.args.i (chain_at c.args.chains.now.chains c.args.p) c.loop.at c.loop.counter c.args.marks.now c.loop.marks c.loop.invariant.marking
+returns-in_default-clause-marked c = IsMarking-all c.args.i
+    (chain_at c.args.chains.now.chains c.args.p) c.loop.at c.loop.counter c.args.marks.now c.loop.marks c.loop.invariant.marking
     (get_none (chain_at c.args.chains.now.chains c.args.p) c.loop.counter (sym c.loop.invariant.marking.next ∙ c.in_default.is))

@@ -5,9 +5,15 @@ use Rattle.pbd_grid.proofs.Looking.{cube_read, cube_below}
 use Rattle.pbd_grid.proofs.lookup.wanted.Goals as goal
 
 pub bounds-crowd-j-2 : goal.bounds-crowd-j-2
-bounds-crowd-j-2 g c = omega (arith, ap length c.requires.laid.cubes_are, length-map c.args.crowd.now.places.now (cube_of c.args.crowd.now.side), c.if-j-crowd.false)
+bounds-crowd-j-2 g c = omega (
+  arith,
+  ap length c.requires.laid.cubes_are,
+  length-map c.args.crowd.now.places.now (cube_of c.args.crowd.now.side),
+  c.if-j-crowd.false,
+)
 
 pub is_in-requires : goal.is_in-requires
 is_in-requires g c =
-    subst (Below 1073741825) (sym (cube_read c.args.crowd.now.side c.args.crowd.now.places.now c.args.crowd.now.cubes.now c.args.j (record { x = 0; y = 0; z = 0 }) c.requires.laid.cubes_are c.if-j-crowd.false))
+    subst (Below 1073741825) (sym (cube_read c.args.crowd.now.side c.args.crowd.now.places.now c.args.crowd.now.cubes.now c.args.j
+    (record { x = 0; y = 0; z = 0 }) c.requires.laid.cubes_are c.if-j-crowd.false))
     (cube_below c.args.crowd.now.side c.args.crowd.now.places.now c.requires.laid.inside c.requires.laid.low c.args.j c.if-j-crowd.false)

@@ -18,18 +18,27 @@ at_ok (Err x) e h = absurd (false≢true (sym e))
 
 pub returns-then-is_err-clause-full : goal.returns-then-is_err-clause-full
 returns-then-is_err-clause-full g c =
-    row_full c.args.crowd.now.places.now c.args.crowd.now.side (g.F.PairFilter.test c.args.filter.now) c.loop-i.i c.args.out.now c.loop-i.out c.as_slice.result.now (omega arith) c.loop-i.invariant.rows
+    row_full c.args.crowd.now.places.now c.args.crowd.now.side
+    (g.F.PairFilter.test c.args.filter.now) c.loop-i.i c.args.out.now c.loop-i.out c.as_slice.result.now
+    (omega arith) c.loop-i.invariant.rows
     (c.as_slice.ensures ∙ ap (λ (l : Roomed ℕ). l.entries) c.find_row.ensures.found)
     (at_err c.append_row.result (sym c.is_err.ensures.value ∙ c.if-is_err.true) c.append_row.ensures.full)
 
 pub loop-i-preserved : goal.loop-i-preserved
 loop-i-preserved g c = record {
-  rows = IsFoundRows-row c.args.crowd.now.places.now c.args.crowd.now.side (g.F.PairFilter.test c.args.filter.now) c.loop-i.i c.args.out.now c.loop-i.out c.append_row.new.out c.as_slice.result.now c.loop-i.invariant.rows
+  rows = IsFoundRows-row c.args.crowd.now.places.now c.args.crowd.now.side
+      (g.F.PairFilter.test c.args.filter.now) c.loop-i.i c.args.out.now c.loop-i.out c.append_row.new.out c.as_slice.result.now
+      c.loop-i.invariant.rows
       (c.as_slice.ensures ∙ ap (λ (l : Roomed ℕ). l.entries) c.find_row.ensures.found)
       (at_ok c.append_row.result (sym c.is_err.ensures.value ∙ c.if-is_err.false) c.append_row.ensures.ok)
       (at_ok c.append_row.result (sym c.is_err.ensures.value ∙ c.if-is_err.false) c.append_row.ensures.fits);
   kept = ap (λ (l : Roomed ℕ). l.room) c.find_row.ensures.found ∙ c.loop-i.invariant.kept;
-  looks = omega (arith, c.loop-i.invariant.looks, c.find_row.ensures.looks, before_more c.args.crowd.now.count c.args.crowd.now.side c.args.crowd.now.places.now c.loop-i.i);
+  looks = omega (
+    arith,
+    c.loop-i.invariant.looks,
+    c.find_row.ensures.looks,
+    before_more c.args.crowd.now.count c.args.crowd.now.side c.args.crowd.now.places.now c.loop-i.i,
+  );
 }
 
 pub returns-then-is_err-clause-most : goal.returns-then-is_err-clause-most
@@ -43,7 +52,8 @@ returns-then-is_err-clause-most g c =
     )
 
 pub returns-clause-looks : goal.returns-clause-looks
-returns-clause-looks g c = c.loop-i.invariant.looks ∙ ap (looks_before c.args.crowd.now.count c.args.crowd.now.side c.args.crowd.now.places.now) (omega arith)
+returns-clause-looks g c = c.loop-i.invariant.looks ∙ ap
+    (looks_before c.args.crowd.now.count c.args.crowd.now.side c.args.crowd.now.places.now) (omega arith)
 
 pub returns-clause-most : goal.returns-clause-most
 returns-clause-most g c = omega (
@@ -59,7 +69,8 @@ overflow_add-looks g c = omega (
   c.requires.laid.few,
   before_small c.args.crowd.now.count c.args.crowd.now.side c.args.crowd.now.places.now c.loop-i.i (omega arith) c.requires.laid.few,
   c.find_row.ensures.looks,
-  round_small c.args.crowd.now.count c.args.crowd.now.side c.args.crowd.now.places.now c.loop-i.i (corner_of (cube_at c.args.crowd.now.side c.args.crowd.now.places.now c.loop-i.i)) (omega arith) 8 (omega arith),
+  round_small c.args.crowd.now.count c.args.crowd.now.side c.args.crowd.now.places.now c.loop-i.i
+      (corner_of (cube_at c.args.crowd.now.side c.args.crowd.now.places.now c.loop-i.i)) (omega arith) 8 (omega arith),
 )
 
 pub loop-i-init : goal.loop-i-init

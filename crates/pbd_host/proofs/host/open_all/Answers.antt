@@ -8,9 +8,13 @@ use Rattle.pbd_host.proofs.host.open_all.Goals as goal
 
 pub loop-scene-preserved : goal.loop-scene-preserved
 loop-scene-preserved g c = record {
-  worlds = one_more c.args.scenes.now c.loop-scene.scene-index c.scene-item.result c.loop-scene.sessions.items c.push.new.self.items c.in_ok-session.session c.loop-scene.invariant.worlds c.loop-scene-test.true (c.in_ok-session.ensures.world ∙ ap opened c.scene-item.is) c.in_ok-push.ensures.items;
-  sound = subst (λ (ws : List World). All IsSound ws) (sym c.in_ok-push.ensures.items) (All-push IsSound c.loop-scene.sessions.items c.in_ok-session.session c.loop-scene.invariant.sound c.in_ok-session.ensures.sound);
+  worlds = one_more c.args.scenes.now c.loop-scene.scene-index c.scene-item.result c.loop-scene.sessions.items c.push.new.self.items
+      c.in_ok-session.session c.loop-scene.invariant.worlds c.loop-scene-test.true
+      (c.in_ok-session.ensures.world ∙ ap opened c.scene-item.is) c.in_ok-push.ensures.items;
+  sound = subst (λ (ws : List World). All IsSound ws) (sym c.in_ok-push.ensures.items)
+      (All-push IsSound c.loop-scene.sessions.items c.in_ok-session.session c.loop-scene.invariant.sound c.in_ok-session.ensures.sound);
 }
 
 pub returns-clause-worlds : goal.returns-clause-worlds
-returns-clause-worlds g c = c.loop-scene.invariant.worlds ∙ ap (λ (scenes : List Parts). map opened scenes) (take_all c.loop-scene.scene-index c.args.scenes.now c.loop-scene-test.false)
+returns-clause-worlds g c = c.loop-scene.invariant.worlds
+    ∙ ap (λ (scenes : List Parts). map opened scenes) (take_all c.loop-scene.scene-index c.args.scenes.now c.loop-scene-test.false)

@@ -6,12 +6,15 @@ use Rattle.pbd_host.proofs.host.write_answer.Goals as goal
 pub returns-in_err-write-clause-bytes : goal.returns-in_err-write-clause-bytes
 returns-in_err-write-clause-bytes g c =
     let p = err_from_is_err_and c.from_residual.result c.from_residual.ensures.1 in
-    rw (p.1, ← c.session_line.ensures, ← c.as_slice.ensures) (prefix_longer _ _ _ (text c.args.session.now c.args.reply.now) c.in_err-write.ensures.bytes)
+    rw (p.1, ← c.session_line.ensures, ← c.as_slice.ensures)
+    (prefix_longer _ _ _ (text c.args.session.now c.args.reply.now) c.in_err-write.ensures.bytes)
 
 pub returns-in_err-write_reply-clause-bytes : goal.returns-in_err-write_reply-clause-bytes
 returns-in_err-write_reply-clause-bytes g c =
     let p = err_from_is_err_and c.from_residual-in_err-write_reply.result c.from_residual-in_err-write_reply.ensures.1 in
-    rw (p.1, ← c.session_line.ensures, ← c.as_slice.ensures) (prefix_then _ _ _ _ _ c.in_ok-write.ensures.bytes c.in_err-write_reply.ensures.bytes)
+    rw (p.1, ← c.session_line.ensures, ← c.as_slice.ensures)
+    (prefix_then _ _ _ _ _ c.in_ok-write.ensures.bytes c.in_err-write_reply.ensures.bytes)
 
 pub returns-clause-bytes : goal.returns-clause-bytes
-returns-clause-bytes g c = rw (← c.session_line.ensures, ← c.as_slice.ensures) (appends_then _ _ _ _ _ c.in_ok-write.ensures.bytes c.in_ok-write_reply.ensures.bytes)
+returns-clause-bytes g c = rw (← c.session_line.ensures, ← c.as_slice.ensures)
+    (appends_then _ _ _ _ _ c.in_ok-write.ensures.bytes c.in_ok-write_reply.ensures.bytes)

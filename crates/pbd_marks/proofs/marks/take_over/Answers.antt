@@ -8,7 +8,8 @@ use Rattle.pbd_marks.proofs.marks.take_over.Goals as goal
 pub copy_from-requires : goal.copy_from-requires
 copy_from-requires g c =
     let first = c.args.first.now in
-    let of_scene = world_of_scene (unchanging c.args.solver.now.world) (first ∷ c.args.others.now.items) 0 first (omega arith) c.requires.one_scene in
+    let of_scene = world_of_scene (unchanging c.args.solver.now.world) (first ∷ c.args.others.now.items) 0 first
+    (omega arith) c.requires.one_scene in
     (omega arith, (c.requires.lanes_low, (c.requires.lanes_high, of_scene)))
 
 pub copy_from-requires-else-k-eq0 : goal.copy_from-requires-else-k-eq0
@@ -17,7 +18,8 @@ copy_from-requires-else-k-eq0 g c =
     let others = c.args.others.now.items in
     let old = c.index_mut.result.now in
     let later : 0 < c.args.k = omega arith in
-    let of_scene = world_of_scene (unchanging c.args.solver.now.world) (first ∷ others) c.args.k old (omega (arith, c.requires.within, length-worlds others)) c.requires.one_scene in
+    let of_scene = world_of_scene (unchanging c.args.solver.now.world) (first ∷ others) c.args.k old
+    (omega (arith, c.requires.within, length-worlds others)) c.requires.one_scene in
     let at = c.index_mut.ensures.value ∙ sym (at_later first others c.args.k old later) in
     (omega arith, (c.requires.lanes_low, (c.requires.lanes_high, ap (λ (s : Solved g.row.P.Denot). unchanging s.world) at ∙ of_scene)))
 

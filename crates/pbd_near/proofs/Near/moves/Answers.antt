@@ -15,7 +15,8 @@ loop-j-preserved c =
     let d = c.draw_of-draw.ensures in
     let draw = c.draw_of-draw.result in
     let rest_size = size_at_most (get_or c.args.rest.now j (pos 0)) 16383 (r.rest_low j (omega arith)) (r.rest_high j (omega arith)) in
-    let factor_size = size_le (get_or c.args.factor.now j (pos 0)) 512 (r.factor_high j (omega arith)) (omega (arith, ints, r.factor_low j (omega arith))) in
+    let factor_size = size_le (get_or c.args.factor.now j (pos 0)) 512 (r.factor_high j (omega arith))
+    (omega (arith, ints, r.factor_low j (omega arith))) in
     let rest = fits_signed_from_abs w32 (get_or c.args.rest.now j (pos 0)) (omega (arith, rest_size)) in
     let given = fits_signed_from_abs w32 (get_or c.args.factor.now j (pos 0)) (omega (arith, factor_size)) in
     let slack : FitsSigned w32 c.slack_of-slack.result = record { sfits = c.slack_of-slack.type_inv } in

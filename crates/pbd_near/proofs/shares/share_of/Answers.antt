@@ -12,4 +12,5 @@ returns-clause-value c =
     simp to_z-of_z
 
 pub returns-clause-size : goal.returns-clause-size
-returns-clause-size c = rw (returns-clause-value c) (omega (arith, size-mul c.args.quotient c.args.factor 32769 512 c.requires.quotient c.requires.factor))
+returns-clause-size c = rw (returns-clause-value c) (omega
+    (arith, size-mul c.args.quotient c.args.factor 32769 512 c.requires.quotient c.requires.factor))

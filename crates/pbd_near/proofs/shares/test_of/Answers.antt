@@ -23,7 +23,8 @@ returns-clause-value c = λ t.
     let low = simp to_z-of_z at (c.is_near.ensures.low t) in
     let high = simp to_z-of_z at (c.is_near.ensures.high t) in
     let is = ap (λ r. r +ℤ c.half_of.result) value in
-    simp to_z-of_z (mended_quotient c.args.n c.args.length c.args.quotient _ c.half_of.result c.mended.result above below is low high same next)
+    simp to_z-of_z (mended_quotient c.args.n c.args.length c.args.quotient _ c.half_of.result c.mended.result above below is low high same
+    next)
 
 pub returns-clause-some : goal.returns-clause-some
 returns-clause-some c = λ t.

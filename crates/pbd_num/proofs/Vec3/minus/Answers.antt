@@ -7,7 +7,8 @@ pub returns-clause-value : goal.returns-clause-value
 returns-clause-value c =
     let a = fit_axes c.args.self (2 ^ 61) (omega arith) c.requires.first in
     let b = fit_axes c.args.other (2 ^ 61) (omega arith) c.requires.second in
-    let d = fit_axes _ (2 ^ 61 + 2 ^ 61) (omega arith) (minus_within c.args.self c.args.other (2 ^ 61) (2 ^ 61) c.requires.first c.requires.second) in
+    let d = fit_axes _ (2 ^ 61 + 2 ^ 61) (omega arith) (minus_within c.args.self c.args.other (2 ^ 61)
+    (2 ^ 61) c.requires.first c.requires.second) in
     let ax = a.x in
     let ay = a.y in
     let az = a.z in

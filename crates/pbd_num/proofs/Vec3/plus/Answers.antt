@@ -8,25 +8,29 @@ pub overflow_add-result : goal.overflow_add-result
 overflow_add-result c =
     let a = fits c.args.self.x (omega (arith, c.requires.first.x)) in
     let b = fits c.args.other.x (omega (arith, c.requires.second.x)) in
-    simp to_z-of_z (fits (c.args.self.x +ℤ c.args.other.x) (omega (arith, size-add c.args.self.x c.args.other.x, c.requires.first.x, c.requires.second.x)))
+    simp to_z-of_z (fits (c.args.self.x +ℤ c.args.other.x)
+    (omega (arith, size-add c.args.self.x c.args.other.x, c.requires.first.x, c.requires.second.x)))
 
 pub overflow_add-result-2 : goal.overflow_add-result-2
 overflow_add-result-2 c =
     let a = fits c.args.self.y (omega (arith, c.requires.first.y)) in
     let b = fits c.args.other.y (omega (arith, c.requires.second.y)) in
-    simp to_z-of_z (fits (c.args.self.y +ℤ c.args.other.y) (omega (arith, size-add c.args.self.y c.args.other.y, c.requires.first.y, c.requires.second.y)))
+    simp to_z-of_z (fits (c.args.self.y +ℤ c.args.other.y)
+    (omega (arith, size-add c.args.self.y c.args.other.y, c.requires.first.y, c.requires.second.y)))
 
 pub overflow_add-result-3 : goal.overflow_add-result-3
 overflow_add-result-3 c =
     let a = fits c.args.self.z (omega (arith, c.requires.first.z)) in
     let b = fits c.args.other.z (omega (arith, c.requires.second.z)) in
-    simp to_z-of_z (fits (c.args.self.z +ℤ c.args.other.z) (omega (arith, size-add c.args.self.z c.args.other.z, c.requires.first.z, c.requires.second.z)))
+    simp to_z-of_z (fits (c.args.self.z +ℤ c.args.other.z)
+    (omega (arith, size-add c.args.self.z c.args.other.z, c.requires.first.z, c.requires.second.z)))
 
 pub returns-clause-value : goal.returns-clause-value
 returns-clause-value c =
     let a = fit_axes c.args.self (2 ^ 61) (omega arith) c.requires.first in
     let b = fit_axes c.args.other (2 ^ 61) (omega arith) c.requires.second in
-    let d = fit_axes _ (2 ^ 61 + 2 ^ 61) (omega arith) (plus_within c.args.self c.args.other (2 ^ 61) (2 ^ 61) c.requires.first c.requires.second) in
+    let d = fit_axes _ (2 ^ 61 + 2 ^ 61) (omega arith) (plus_within c.args.self c.args.other (2 ^ 61)
+    (2 ^ 61) c.requires.first c.requires.second) in
     let ax = a.x in
     let ay = a.y in
     let az = a.z in

@@ -12,7 +12,8 @@ returns c t some =
     let length_fits = c.ranges.length in
     let rest : FitsSigned w64 c.rest_of.result = record { sfits = c.rest_of.type_inv } in
     let half : FitsSigned w64 c.half_of.result = record { sfits = c.half_of.type_inv } in
-    let raised = fits (c.rest_of.result +ℤ c.half_of.result) (omega (arith, size-add c.rest_of.result c.half_of.result, c.rest_of.ensures.size, c.half_of.ensures.size)) in
+    let raised = fits (c.rest_of.result +ℤ c.half_of.result)
+    (omega (arith, size-add c.rest_of.result c.half_of.result, c.rest_of.ensures.size, c.half_of.ensures.size)) in
     let t' = simp to_z-of_z at t in
     let both = and_parts _ _ t' in
     let low = at_most _ _ both.0 in
@@ -20,4 +21,5 @@ returns c t some =
     let value = simp to_z-of_z at c.rest_of.ensures.value in
     let above = simp to_z-of_z at c.half_of.ensures.above in
     let below = simp to_z-of_z at c.half_of.ensures.below in
-    quotient_by_rest c.args.n c.args.length c.args.q (c.rest_of.result +ℤ c.half_of.result) c.half_of.result some above (λ h. below h some) (ap (λ r. r +ℤ c.half_of.result) value) low high
+    quotient_by_rest c.args.n c.args.length c.args.q (c.rest_of.result +ℤ c.half_of.result) c.half_of.result some above (λ h. below h some)
+    (ap (λ r. r +ℤ c.half_of.result) value) low high

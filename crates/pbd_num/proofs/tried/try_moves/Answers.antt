@@ -1,4 +1,5 @@
-use Rattle.std.proofs.Common.{arith, ◌≡◌, ◌∙◌, ap, sym, refl, ◌^◌, pos, ◌*ℤ◌, ◌<ℤ◌, w32, IsTrue, Bool, ◌&&◌, FitsSigned, w64, ◌≤ℤ◌, ◌≤◌, ℤ, unsigned_abs, to_z, of_z}
+use Rattle.std.proofs.Common.{arith, ◌≡◌, ◌∙◌, ap, sym, refl, ◌^◌, pos, ◌*ℤ◌, ◌<ℤ◌, w32, IsTrue, Bool, ◌&&◌, FitsSigned, w64, ◌≤ℤ◌, ◌≤◌, ℤ}
+use Rattle.std.proofs.Common.{unsigned_abs, to_z, of_z}
 use Rattle.std.proofs.lemmas.Int.{ints, to_z-of_z, fits_signed_from_abs}
 use Rattle.std.proofs.lemmas.Bool.{and_parts}
 use Rattle.pbd_num.specs.Vectors.{Within, opposite, length_of, zero_vector}
@@ -13,17 +14,18 @@ use Rattle.pbd_num.proofs.tried.try_moves.Goals.{After-factor-factor}
 abbrev guessed : goal.After-struct_told-12-1 → Vec3
 guessed c = record { x = c.try_part-x.result.part; y = c.try_part-y.result.part; z = c.try_part-z.result.part }
 
-abbrev all_right : goal.After-struct_told-12-1 → Bool
-all_right c = c.try_length-tried.result.right && c.are_even.result && c.try_part-x.result.right && c.try_part-y.result.right && c.try_part-z.result.right
+abbrev all_exact : goal.After-struct_told-12-1 → Bool
+all_exact c = c.try_length-tried.result.exact && c.are_even.result && c.try_part-x.result.exact && c.try_part-y.result.exact
+    && c.try_part-z.result.exact
 
 record Right (c : goal.After-struct_told-12-1) : Type 0 where
-  length : IsTrue c.try_length-tried.result.right
+  length : IsTrue c.try_length-tried.result.exact
   even : IsTrue c.are_even.result
-  x : IsTrue c.try_part-x.result.right
-  y : IsTrue c.try_part-y.result.right
-  z : IsTrue c.try_part-z.result.right
+  x : IsTrue c.try_part-x.result.exact
+  y : IsTrue c.try_part-y.result.exact
+  z : IsTrue c.try_part-z.result.exact
 
-each_right : (c : goal.After-struct_told-12-1) → IsTrue (all_right c) → Right c
+each_right : (c : goal.After-struct_told-12-1) → IsTrue (all_exact c) → Right c
 each_right c right =
     let to_y = and_parts _ _ right in
     let to_x = and_parts _ _ to_y.0 in
@@ -46,7 +48,8 @@ second_fits : (c : goal.After-struct_told-12-1) → FitsSigned w64 c.args.weight
 second_fits c = fits _ (omega (arith, size_at_most c.args.weights.second 65535 c.requires.second_low c.requires.second_high))
 
 parts_fit : (c : goal.After-struct_told-12-1) → FitAxes (guessed c)
-parts_fit c = fit_axes (guessed c) (2 ^ 31) (omega arith) (record { x = c.try_part-x.ensures.size; y = c.try_part-y.ensures.size; z = c.try_part-z.ensures.size })
+parts_fit c = fit_axes (guessed c) (2 ^ 31) (omega arith)
+    (record { x = c.try_part-x.ensures.size; y = c.try_part-y.ensures.size; z = c.try_part-z.ensures.size })
 
 -- the length
 length_is : (c : goal.After-struct_told-12-1) → Right c → c.try_length-tried.result.length ≡ pos (length_of c.args.way)
@@ -63,14 +66,18 @@ parted c right =
     let x_fits = axes.x in
     let y_fits = axes.y in
     let z_fits = axes.z in
-    let rest_fits = fits c.args.draw.rest (omega (arith, size_at_most c.args.draw.rest (2 ^ 31) c.requires.rest_low c.requires.rest_high)) in
+    let rest_fits = fits c.args.draw.rest (omega (arith, size_at_most c.args.draw.rest (2 ^ 31) c.requires.rest_low c.requires.rest_high))
+    in
     let f_fits = fits_signed_from_abs w32 c.factor-factor.result (omega (arith, c.factor-factor.ensures.size)) in
-    let way_x = fits_signed_from_abs w32 c.short_way-way.result.x (omega (arith, short_size _ _ c.short_way-way.ensures.x c.requires.way.x)) in
-    let way_y = fits_signed_from_abs w32 c.short_way-way.result.y (omega (arith, short_size _ _ c.short_way-way.ensures.y c.requires.way.y)) in
-    let way_z = fits_signed_from_abs w32 c.short_way-way.result.z (omega (arith, short_size _ _ c.short_way-way.ensures.z c.requires.way.z)) in
-    let long = simp to_z-of_z at c.pull_of-pull.ensures.length in
-    let error = simp to_z-of_z at c.pull_of-pull.ensures.error in
-    let some : pos 0 <ℤ c.pull_of-pull.result.length = rw long (c.try_length-tried.ensures.some right.length) in
+    let way_x = fits_signed_from_abs w32 c.short_way-way.result.x
+    (omega (arith, short_size _ _ c.short_way-way.ensures.x c.requires.way.x)) in
+    let way_y = fits_signed_from_abs w32 c.short_way-way.result.y
+    (omega (arith, short_size _ _ c.short_way-way.ensures.y c.requires.way.y)) in
+    let way_z = fits_signed_from_abs w32 c.short_way-way.result.z
+    (omega (arith, short_size _ _ c.short_way-way.ensures.z c.requires.way.z)) in
+    let long = simp to_z-of_z at c.stretch_of-stretch.ensures.length in
+    let error = simp to_z-of_z at c.stretch_of-stretch.ensures.error in
+    let some : pos 0 <ℤ c.stretch_of-stretch.result.length = rw long (c.try_length-tried.ensures.some right.length) in
     let vx = simp to_z-of_z at (c.try_part-x.ensures.value right.x some) in
     let vy = simp to_z-of_z at (c.try_part-y.ensures.value right.y some) in
     let vz = simp to_z-of_z at (c.try_part-z.ensures.value right.z some) in
@@ -108,14 +115,15 @@ moves_are c =
     }
 
 -- what the factor is
-even_factor : (c : goal.After-struct_told-12-1) → Right c → c.try_length-tried.result.length <ℤ c.args.draw.reach → Even c.args.weights.first c.args.weights.second c.args.draw.k c.factor-factor.result
+even_factor : (c : goal.After-struct_told-12-1) → Right c → c.try_length-tried.result.length <ℤ c.args.draw.reach
+    → Even c.args.weights.first c.args.weights.second c.args.draw.k c.factor-factor.result
 even_factor c right near =
     let l_fits = length_fits c in
     let first = first_fits c in
     let second = second_fits c in
-    let k_fits = fits c.drawn.result (omega (arith, c.drawn.ensures.size)) in
-    let drawn = simp to_z-of_z at c.drawn.ensures.near in
-    let k_is = drawn near in
+    let k_fits = fits c.pulled.result (omega (arith, c.pulled.ensures.size)) in
+    let pulled = simp to_z-of_z at c.pulled.ensures.near in
+    let k_is = pulled near in
     let both = simp to_z-of_z at c.factor-factor.ensures.both in
     let by_first = simp to_z-of_z at c.factor-factor.ensures.first in
     let by_second = simp to_z-of_z at c.factor-factor.ensures.second in
@@ -132,17 +140,19 @@ even_factor c right near =
 no_parts : (c : goal.After-struct_told-12-1) → Right c → c.args.draw.reach ≤ℤ c.try_length-tried.result.length → guessed c ≡ zero_vector
 no_parts c right far =
     let l_fits = length_fits c in
-    let k_fits = fits c.drawn.result (omega (arith, c.drawn.ensures.size)) in
+    let k_fits = fits c.pulled.result (omega (arith, c.pulled.ensures.size)) in
     let none = simp to_z-of_z at c.factor-factor.ensures.none in
-    let undrawn = simp to_z-of_z at c.drawn.ensures.far in
+    let undrawn = simp to_z-of_z at c.pulled.ensures.far in
     let f_is = none (undrawn far) in
     let is = parted c right in
-    same_axes _ _ (part_of_none _ _ _ f_is (ap (λ v. v.x) is)) (part_of_none _ _ _ f_is (ap (λ v. v.y) is)) (part_of_none _ _ _ f_is (ap (λ v. v.z) is))
+    same_axes _ _ (part_of_none _ _ _ f_is (ap (λ v. v.x) is)) (part_of_none _ _ _ f_is (ap (λ v. v.y) is))
+    (part_of_none _ _ _ f_is (ap (λ v. v.z) is))
 
-pub pull_of-pull-requires : goal.pull_of-pull-requires
-pull_of-pull-requires c =
+pub stretch_of-stretch-requires : goal.stretch_of-stretch-requires
+stretch_of-stretch-requires c =
     let l_fits = fits_from_zero c.try_length-tried.result.length c.try_length-tried.ensures.low c.try_length-tried.ensures.high in
-    let rest_fits = fits c.args.draw.rest (omega (arith, size_at_most c.args.draw.rest (2 ^ 31) c.requires.rest_low c.requires.rest_high)) in
+    let rest_fits = fits c.args.draw.rest (omega (arith, size_at_most c.args.draw.rest (2 ^ 31) c.requires.rest_low c.requires.rest_high))
+    in
     record {
       low = simp to_z-of_z c.try_length-tried.ensures.low;
       high = simp to_z-of_z c.try_length-tried.ensures.high;
@@ -152,14 +162,14 @@ pull_of-pull-requires c =
 
 pub factor-factor-requires : goal.factor-factor-requires
 factor-factor-requires c =
-    let k_fits = fits c.drawn.result (omega (arith, c.drawn.ensures.size)) in
-    record { k = simp to_z-of_z c.drawn.ensures.size }
+    let k_fits = fits c.pulled.result (omega (arith, c.pulled.ensures.size)) in
+    record { k = simp to_z-of_z c.pulled.ensures.size }
 
 -- what the part of one axis asks
 pulled : (c : After-factor-factor) (axis : ℤ) → unsigned_abs axis ≤ 2 ^ 30 → record {
-  low : pos 0 ≤ℤ c.pull_of-pull.result.length;
-  high : c.pull_of-pull.result.length <ℤ pos (2 ^ 31);
-  error : FitsSigned w32 c.pull_of-pull.result.error;
+  low : pos 0 ≤ℤ c.stretch_of-stretch.result.length;
+  high : c.stretch_of-stretch.result.length <ℤ pos (2 ^ 31);
+  error : FitsSigned w32 c.stretch_of-stretch.result.error;
   axis : unsigned_abs (to_z w32 (of_z w32 axis)) ≤ 2 ^ 30;
   f : unsigned_abs (to_z w32 (of_z w32 c.factor-factor.result)) ≤ 512;
 }
@@ -167,36 +177,46 @@ pulled c axis size =
     let l_fits = fits_from_zero c.try_length-tried.result.length c.try_length-tried.ensures.low c.try_length-tried.ensures.high in
     let axis_fits = fits_signed_from_abs w32 axis (omega (arith, size)) in
     let f_fits = fits_signed_from_abs w32 c.factor-factor.result (omega (arith, c.factor-factor.ensures.size)) in
-    let is = simp to_z-of_z at c.pull_of-pull.ensures.length in
+    let is = simp to_z-of_z at c.stretch_of-stretch.ensures.length in
     record {
       low = rw is c.try_length-tried.ensures.low;
       high = rw is c.try_length-tried.ensures.high;
-      error = c.pull_of-pull.ensures.fits;
+      error = c.stretch_of-stretch.ensures.fits;
       axis = simp to_z-of_z size;
       f = simp to_z-of_z c.factor-factor.ensures.size;
     }
 
 pub try_part-x-requires : goal.try_part-x-requires
 try_part-x-requires c =
-    pulled (goal.at.try_part-x-requires c).After-factor-factor c.short_way-way.result.x (short_size _ _ c.short_way-way.ensures.x c.requires.way.x)
+    pulled (goal.at.try_part-x-requires c).After-factor-factor c.short_way-way.result.x
+    (short_size _ _ c.short_way-way.ensures.x c.requires.way.x)
 
 pub try_part-y-requires : goal.try_part-y-requires
 try_part-y-requires c =
-    pulled (goal.at.try_part-y-requires c).After-factor-factor c.short_way-way.result.y (short_size _ _ c.short_way-way.ensures.y c.requires.way.y)
+    pulled (goal.at.try_part-y-requires c).After-factor-factor c.short_way-way.result.y
+    (short_size _ _ c.short_way-way.ensures.y c.requires.way.y)
 
 pub try_part-z-requires : goal.try_part-z-requires
 try_part-z-requires c =
-    pulled (goal.at.try_part-z-requires c).After-factor-factor c.short_way-way.result.z (short_size _ _ c.short_way-way.ensures.z c.requires.way.z)
+    pulled (goal.at.try_part-z-requires c).After-factor-factor c.short_way-way.result.z
+    (short_size _ _ c.short_way-way.ensures.z c.requires.way.z)
 
 pub opposite-requires : goal.opposite-requires
 opposite-requires c =
-    words_within (record { x = c.try_part-x.result.part; y = c.try_part-y.result.part; z = c.try_part-z.result.part }) (2 ^ 61) (omega arith)
-    (record { x = omega (arith, c.try_part-x.ensures.size); y = omega (arith, c.try_part-y.ensures.size); z = omega (arith, c.try_part-z.ensures.size) })
+    words_within (record { x = c.try_part-x.result.part; y = c.try_part-y.result.part; z = c.try_part-z.result.part }) (2 ^ 61)
+    (omega arith)
+    (record {
+      x = omega (arith, c.try_part-x.ensures.size);
+      y = omega (arith, c.try_part-y.ensures.size);
+      z = omega (arith, c.try_part-z.ensures.size);
+    })
 
 pub moved-requires : goal.moved-requires
 moved-requires c =
-    let sizes : Within (2 ^ 31) (record { x = c.try_part-x.result.part; y = c.try_part-y.result.part; z = c.try_part-z.result.part }) = record { x = c.try_part-x.ensures.size; y = c.try_part-y.ensures.size; z = c.try_part-z.ensures.size } in
-    let fit = fit_axes (record { x = c.try_part-x.result.part; y = c.try_part-y.result.part; z = c.try_part-z.result.part }) (2 ^ 31) (omega arith) sizes in
+    let sizes : Within (2 ^ 31) (record { x = c.try_part-x.result.part; y = c.try_part-y.result.part; z = c.try_part-z.result.part }) =
+    record { x = c.try_part-x.ensures.size; y = c.try_part-y.ensures.size; z = c.try_part-z.ensures.size } in
+    let fit = fit_axes (record { x = c.try_part-x.result.part; y = c.try_part-y.result.part; z = c.try_part-z.result.part }) (2 ^ 31)
+    (omega arith) sizes in
     let x = fit.x in
     let y = fit.y in
     let z = fit.z in
@@ -205,7 +225,8 @@ moved-requires c =
 
 pub moved-requires-2 : goal.moved-requires-2
 moved-requires-2 c =
-    words_within (record { x = c.try_part-x.result.part; y = c.try_part-y.result.part; z = c.try_part-z.result.part }) (2 ^ 31) (omega arith)
+    words_within (record { x = c.try_part-x.result.part; y = c.try_part-y.result.part; z = c.try_part-z.result.part }) (2 ^ 31)
+    (omega arith)
     (record { x = c.try_part-x.ensures.size; y = c.try_part-y.ensures.size; z = c.try_part-z.ensures.size })
 
 pub returns-clause-length : goal.returns-clause-length
@@ -229,14 +250,16 @@ returns-clause-first_rests c right far =
     let l_fits = length_fits c in
     let far' = simp to_z-of_z at far in
     let moves = moves_are c in
-    no_move c.opposite.result c.moved.result c.args.weights.first c.requires.first_low (turned c ∙ ap opposite (no_parts c (each_right c right) far')) moves.first_free moves.first_held
+    no_move c.opposite.result c.moved.result c.args.weights.first c.requires.first_low
+    (turned c ∙ ap opposite (no_parts c (each_right c right) far')) moves.first_free moves.first_held
 
 pub returns-clause-second_rests : goal.returns-clause-second_rests
 returns-clause-second_rests c right far =
     let l_fits = length_fits c in
     let far' = simp to_z-of_z at far in
     let moves = moves_are c in
-    no_move (guessed c) c.moved-2.result c.args.weights.second c.requires.second_low (no_parts c (each_right c right) far') moves.second_free moves.second_held
+    no_move (guessed c) c.moved-2.result c.args.weights.second c.requires.second_low
+    (no_parts c (each_right c right) far') moves.second_free moves.second_held
 
 pub returns-clause-first_held : goal.returns-clause-first_held
 returns-clause-first_held c e =

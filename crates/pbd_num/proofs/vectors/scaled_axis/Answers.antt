@@ -8,7 +8,8 @@ pub overflow_mul-axis : goal.overflow_mul-axis
 overflow_mul-axis c =
     let axis = c.ranges.axis in
     let part = c.ranges.part in
-    simp to_z-of_z (fits (c.args.axis *ℤ c.args.part) (omega (arith, size-mul c.args.axis c.args.part (2 ^ 30) (2 ^ 31) c.requires.axis c.requires.part)))
+    simp to_z-of_z (fits (c.args.axis *ℤ c.args.part) (omega
+    (arith, size-mul c.args.axis c.args.part (2 ^ 30) (2 ^ 31) c.requires.axis c.requires.part)))
 
 pub rdiv-requires-clause-size : goal.rdiv-requires-clause-size
 rdiv-requires-clause-size c =
@@ -24,7 +25,8 @@ returns-clause-value c =
     let part = c.ranges.part in
     let whole = c.ranges.whole in
     let quotient : FitsSigned w64 c.rdiv.result = record { sfits = c.rdiv.type_inv } in
-    let product = fits (c.args.axis *ℤ c.args.part) (omega (arith, size-mul c.args.axis c.args.part (2 ^ 30) (2 ^ 31) c.requires.axis c.requires.part)) in
+    let product = fits (c.args.axis *ℤ c.args.part) (omega
+    (arith, size-mul c.args.axis c.args.part (2 ^ 30) (2 ^ 31) c.requires.axis c.requires.part)) in
     let h = simp to_z-of_z at c.rdiv.ensures in
     simp to_z-of_z h
 

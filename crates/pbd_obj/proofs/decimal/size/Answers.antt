@@ -13,10 +13,12 @@ returns-clause-value c =
     elim c.if-power-lt0.branch [
       | then-power-lt0 w ↦ (
           let low : c.args.power <ℤ pos 0 = grind (arith, ints) in
-          let is : c.if-power-lt0.size ≡ lowered units (min (unsigned_abs c.args.power) 30) = w.size-is ∙ (w.lowered-size.ensures ∙ ap (lowered units) (w.min.ensures ∙ ap (λ k. min k 30) places)) in
+          let is : c.if-power-lt0.size ≡ lowered units (min (unsigned_abs c.args.power) 30) = w.size-is
+          ∙ (w.lowered-size.ensures ∙ ap (lowered units) (w.min.ensures ∙ ap (λ k. min k 30) places)) in
           c.min-2.ensures ∙ ap capped_size (size_low c.args.digits c.args.power c.if-power-lt0.size c.requires.digits low is))
       | else-power-lt0 w ↦ (
           let high : pos 0 ≤ℤ c.args.power = grind (arith, ints) in
-          let is : c.if-power-lt0.size ≡ units * 10 ^ min (unsigned_abs c.args.power) 4 = w.size-is ∙ (w.raised-size.ensures ∙ ap (λ k. units * 10 ^ k) (w.min-else-power-lt0.ensures ∙ ap (λ k. min k 4) places)) in
+          let is : c.if-power-lt0.size ≡ units * 10 ^ min (unsigned_abs c.args.power) 4 = w.size-is
+          ∙ (w.raised-size.ensures ∙ ap (λ k. units * 10 ^ k) (w.min-else-power-lt0.ensures ∙ ap (λ k. min k 4) places)) in
           c.min-2.ensures ∙ size_high c.args.digits c.args.power c.if-power-lt0.size high is)
     ]

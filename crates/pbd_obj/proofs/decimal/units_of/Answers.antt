@@ -14,4 +14,5 @@ returns c =
     let power : FitsSigned w64 c.in_ok-d.d.power = fits c.in_ok-d.d.power (omega (arith, few.power)) in
     let result : FitsSigned w64 c.signed.result = search rules in
     let size = simp to_z-of_z at c.size.ensures.value in
-    simp to_z-of_z (ap (λ z. Some z) c.signed.ensures ∙ sym (units_some c.args.word.now c.in_ok-d.d c.size.result (sym c.decimal_of.ensures.value ∙ c.in_ok-d.was) size))
+    simp to_z-of_z (ap (λ z. Some z) c.signed.ensures ∙ sym
+    (units_some c.args.word.now c.in_ok-d.d c.size.result (sym c.decimal_of.ensures.value ∙ c.in_ok-d.was) size))

@@ -10,19 +10,28 @@ use Rattle.pbd_obj.proofs.links.add.Goals as goal
 pub returns-then-not-branch-clause-ok : goal.returns-then-not-branch-clause-ok
 returns-then-not-branch-clause-ok c =
     let old = c.args.found.now.joined in
-    let is : false ≡ not (contains pair_cmp old (ordered c.args.link.a c.args.link.b)) = subst (λ (k : ℕ × ℕ). false ≡ not (contains pair_cmp old k)) c.ordered.ensures (sym c.if-not-branch.true ∙ c.in_ok-insert.ensures.added) in
+    let is : false ≡ not (contains pair_cmp old (ordered c.args.link.a c.args.link.b)) =
+    subst (λ (k : ℕ × ℕ). false ≡ not (contains pair_cmp old k)) c.ordered.ensures
+    (sym c.if-not-branch.true ∙ c.in_ok-insert.ensures.added) in
     add_old c.args.link c.args.found.now c.insert.new.self c.requires is (OnFalse_at c.if-not-branch.true c.in_ok-insert.ensures.unchanged)
 
 pub returns-then-len-found-clause-err : goal.returns-then-len-found-clause-err
 returns-then-len-found-clause-err c =
     let old = c.args.found.now.joined in
-    let is : true ≡ not (contains pair_cmp old (ordered c.args.link.a c.args.link.b)) = subst (λ (k : ℕ × ℕ). true ≡ not (contains pair_cmp old k)) c.ordered.ensures (sym c.if-not-branch.false ∙ c.in_ok-insert.ensures.added) in
+    let is : true ≡ not (contains pair_cmp old (ordered c.args.link.a c.args.link.b)) =
+    subst (λ (k : ℕ × ℕ). true ≡ not (contains pair_cmp old k)) c.ordered.ensures
+    (sym c.if-not-branch.false ∙ c.in_ok-insert.ensures.added) in
     add_full c.args.link c.args.found.now c.requires is (omega (arith, c.if-len-found.true, c.len.ensures))
 
 pub returns-clause-ok : goal.returns-clause-ok
 returns-clause-ok c =
     let old = c.args.found.now.joined in
-    let is : true ≡ not (contains pair_cmp old (ordered c.args.link.a c.args.link.b)) = subst (λ (k : ℕ × ℕ). true ≡ not (contains pair_cmp old k)) c.ordered.ensures (sym c.if-not-branch.false ∙ c.in_ok-insert.ensures.added) in
-    let grown : (q : ℕ × ℕ) → contains pair_cmp c.insert.new.self q ≡ cond (is_at (pair_cmp (ordered c.args.link.a c.args.link.b)) q) true (contains pair_cmp old q) =
-    subst (λ (k : ℕ × ℕ). (q : ℕ × ℕ) → contains pair_cmp c.insert.new.self q ≡ cond (is_at (pair_cmp k) q) true (contains pair_cmp old q)) c.ordered.ensures c.in_ok-insert.ensures.updates.0 in
-    add_new c.args.link c.args.found.now c.insert.new.self c.push.new.self c.requires is grown (omega (arith, c.if-len-found.false, c.len.ensures)) c.in_ok-push.ensures.ok
+    let is : true ≡ not (contains pair_cmp old (ordered c.args.link.a c.args.link.b)) =
+    subst (λ (k : ℕ × ℕ). true ≡ not (contains pair_cmp old k)) c.ordered.ensures
+    (sym c.if-not-branch.false ∙ c.in_ok-insert.ensures.added) in
+    let grown : (q : ℕ × ℕ) → contains pair_cmp c.insert.new.self q
+    ≡ cond (is_at (pair_cmp (ordered c.args.link.a c.args.link.b)) q) true (contains pair_cmp old q) =
+    subst (λ (k : ℕ × ℕ). (q : ℕ × ℕ) → contains pair_cmp c.insert.new.self q ≡ cond (is_at (pair_cmp k) q) true (contains pair_cmp old q))
+    c.ordered.ensures c.in_ok-insert.ensures.updates.0 in
+    add_new c.args.link c.args.found.now c.insert.new.self c.push.new.self c.requires is grown
+    (omega (arith, c.if-len-found.false, c.len.ensures)) c.in_ok-push.ensures.ok

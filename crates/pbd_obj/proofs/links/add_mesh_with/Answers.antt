@@ -15,7 +15,8 @@ overflow_cast-base c = let few = valid_few c.args.parts.now c.requires.valid in 
 pub mesh_links-requires-clause-fits : goal.mesh_links-requires-clause-fits
 mesh_links-requires-clause-fits c =
     let few = valid_few c.args.parts.now c.requires.valid in
-    mesh_fits c.args.mesh.now c.len-base.result c.requires.mesh (omega (arith, few.0, c.len-base.ensures, c.len-vertices.ensures, c.if-vertices-base.false))
+    mesh_fits c.args.mesh.now c.len-base.result c.requires.mesh
+    (omega (arith, few.0, c.len-base.ensures, c.len-vertices.ensures, c.if-vertices-base.false))
 
 pub overflow_cast-base-2 : goal.overflow_cast-base-2
 overflow_cast-base-2 c = let few = valid_few c.args.parts.now c.requires.valid in omega (arith, few.0, c.len-base.ensures)
@@ -23,12 +24,18 @@ overflow_cast-base-2 c = let few = valid_few c.args.parts.now c.requires.valid i
 pub first_overfull-requires : goal.first_overfull-requires
 first_overfull-requires c =
     let slice : c.as_slice.result.now ≡ c.in_ok-links.links = (let a = c.as_slice.ensures in let b = c.links.view_is in cc) in
-    links_from_at c.args.settings.now c.args.mesh.now c.len-base.result c.len-vertices.result c.as_slice.result.now c.in_ok-links.links c.requires.mesh c.len-vertices.ensures slice c.in_ok-links.ensures.links
+    links_from_at c.args.settings.now c.args.mesh.now c.len-base.result c.len-vertices.result c.as_slice.result.now c.in_ok-links.links
+    c.requires.mesh c.len-vertices.ensures slice c.in_ok-links.ensures.links
 
 pub returns-clause-ok : goal.returns-clause-ok
 returns-clause-ok c =
     let few = valid_few c.args.parts.now c.requires.valid in
     let slice : c.as_slice.result.now ≡ c.in_ok-links.links = (let a = c.as_slice.ensures in let b = c.links.view_is in cc) in
     let again : c.as_slice-2.result.now ≡ c.in_ok-links.links = (let a = c.as_slice-2.ensures in let b = c.links.view_is in cc) in
-    let new = c.in_ok-append.ensures.ok ∙ ap (λ ls. with_all (particles c.args.settings.now.weight c.args.mesh.now) ls c.args.parts.now) again in
-    added_at c.args.settings.now c.args.mesh.now c.args.parts.now c.append.new.parts c.len-base.result c.len-vertices.result c.len-room.result c.as_slice.result.now c.in_ok-links.links c.len-base.ensures (omega (arith, few.0, c.len-base.ensures)) c.len-vertices.ensures c.if-vertices-base.false c.len-room.ensures (omega (arith, few.1, c.len-room.ensures)) c.in_ok-links.ensures.few c.in_ok-links.ensures.links slice (sym c.in_default.is ∙ c.in_ok-end.ensures.first) new
+    let new = c.in_ok-append.ensures.ok ∙ ap (λ ls. with_all (particles c.args.settings.now.weight c.args.mesh.now) ls c.args.parts.now)
+    again in
+    added_at c.args.settings.now c.args.mesh.now c.args.parts.now c.append.new.parts c.len-base.result c.len-vertices.result
+    c.len-room.result c.as_slice.result.now c.in_ok-links.links c.len-base.ensures
+    (omega (arith, few.0, c.len-base.ensures)) c.len-vertices.ensures c.if-vertices-base.false c.len-room.ensures
+    (omega (arith, few.1, c.len-room.ensures)) c.in_ok-links.ensures.few c.in_ok-links.ensures.links slice
+    (sym c.in_default.is ∙ c.in_ok-end.ensures.first) new

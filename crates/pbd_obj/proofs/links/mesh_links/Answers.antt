@@ -12,24 +12,29 @@ returns-in_err-add_kind-clause-err c =
     let start : FoundLinks = record { base = c.args.base; room = c.args.room; links = c.new.result; joined = c.new-2.result } in
     let held : HoldsPairs c.new.result c.new-2.result = rw c.new.ensures (pairs_none c.new-2.result c.new-2.ensures.empty) in
     let p = err_from_is_err_and c.from_residual.result c.from_residual.ensures.1 in
-    rw (p.1, p.2) (stretch_stops c.args.settings.now c.args.mesh.now start c.in_err-add_kind.field-0.0 held c.new.ensures c.in_err-add_kind.ensures.err)
+    rw (p.1, p.2) (stretch_stops c.args.settings.now c.args.mesh.now start c.in_err-add_kind.field-0.0 held c.new.ensures
+    c.in_err-add_kind.ensures.err)
 
 pub returns-in_err-add_kind-2-clause-err : goal.returns-in_err-add_kind-2-clause-err
 returns-in_err-add_kind-2-clause-err c =
     let start : FoundLinks = record { base = c.args.base; room = c.args.room; links = c.new.result; joined = c.new-2.result } in
     let held : HoldsPairs c.new.result c.new-2.result = rw c.new.ensures (pairs_none c.new-2.result c.new-2.ensures.empty) in
     let p = err_from_is_err_and c.from_residual-in_err-add_kind-2.result c.from_residual-in_err-add_kind-2.ensures.1 in
-    rw (p.1, p.2) (shear_stops c.args.settings.now c.args.mesh.now start c.add_kind.new.found c.in_err-add_kind-2.field-0.0 held c.new.ensures c.in_ok-add_kind.ensures.ok c.in_err-add_kind-2.ensures.err)
+    rw (p.1, p.2) (shear_stops c.args.settings.now c.args.mesh.now start c.add_kind.new.found c.in_err-add_kind-2.field-0.0 held
+    c.new.ensures c.in_ok-add_kind.ensures.ok c.in_err-add_kind-2.ensures.err)
 
 pub returns-in_err-add_bends-clause-err : goal.returns-in_err-add_bends-clause-err
 returns-in_err-add_bends-clause-err c =
     let start : FoundLinks = record { base = c.args.base; room = c.args.room; links = c.new.result; joined = c.new-2.result } in
     let held : HoldsPairs c.new.result c.new-2.result = rw c.new.ensures (pairs_none c.new-2.result c.new-2.ensures.empty) in
     let p = err_from_is_err_and c.from_residual-in_err-add_bends.result c.from_residual-in_err-add_bends.ensures.1 in
-    rw (p.1, p.2) (bends_stop c.args.settings.now c.args.mesh.now start c.add_kind.new.found c.add_kind-2.new.found c.in_err-add_bends.field-0.0 held c.new.ensures c.in_ok-add_kind.ensures.ok c.in_ok-add_kind-2.ensures.ok c.in_err-add_bends.ensures.err)
+    rw (p.1, p.2) (bends_stop c.args.settings.now c.args.mesh.now start c.add_kind.new.found c.add_kind-2.new.found
+    c.in_err-add_bends.field-0.0 held c.new.ensures c.in_ok-add_kind.ensures.ok c.in_ok-add_kind-2.ensures.ok
+    c.in_err-add_bends.ensures.err)
 
 pub returns-clause-links : goal.returns-clause-links
 returns-clause-links c =
     let start : FoundLinks = record { base = c.args.base; room = c.args.room; links = c.new.result; joined = c.new-2.result } in
     let held : HoldsPairs c.new.result c.new-2.result = rw c.new.ensures (pairs_none c.new-2.result c.new-2.ensures.empty) in
-    mesh_links_are c.args.settings.now c.args.mesh.now start c.add_kind.new.found c.add_kind-2.new.found c.add_bends.new.found held c.new.ensures c.in_ok-add_kind.ensures.ok c.in_ok-add_kind-2.ensures.ok c.in_ok-add_bends.ensures.ok
+    mesh_links_are c.args.settings.now c.args.mesh.now start c.add_kind.new.found c.add_kind-2.new.found c.add_bends.new.found held
+    c.new.ensures c.in_ok-add_kind.ensures.ok c.in_ok-add_kind-2.ensures.ok c.in_ok-add_bends.ensures.ok

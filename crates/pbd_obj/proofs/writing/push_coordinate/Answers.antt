@@ -10,4 +10,5 @@ returns-clause-bytes c =
     let n = c.unsigned_abs-size.result in
     let sign = simp to_z-of_z at c.push_sign.ensures.bytes in
     let size = simp to_z-of_z at c.unsigned_abs-size.ensures.value in
-    c.push_fraction.ensures.bytes ∙ (ap (λ t. t ++ fraction (n % 65536)) (c.push_number.ensures.bytes ∙ ap (λ t. t ++ decimal (n / 65536)) sign) ∙ coordinate_is c.args.line.now c.args.u n size)
+    c.push_fraction.ensures.bytes ∙ (ap (λ t. t ++ fraction (n % 65536))
+    (c.push_number.ensures.bytes ∙ ap (λ t. t ++ decimal (n / 65536)) sign) ∙ coordinate_is c.args.line.now c.args.u n size)

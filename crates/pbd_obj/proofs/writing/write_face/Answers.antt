@@ -15,9 +15,11 @@ pub returns-in_err-write_corners-clause-bytes : goal.returns-in_err-write_corner
 returns-in_err-write_corners-clause-bytes g c =
     let p = err_from_is_err_and c.from_residual-in_err-write_corners.result c.from_residual-in_err-write_corners.ensures.1 in
     let corners = flat_map (λ corner. corner_text (c.args.base + corner + 1)) c.args.corners.now in
-    rw (p.1, face_line_is c.args.base c.args.corners.now) (prefix_then _ _ _ (codes "f") (corners ++ codes "\n") c.in_ok-write.ensures.bytes (prefix_longer _ _ corners (codes "\n") c.in_err-write_corners.ensures.bytes))
+    rw (p.1, face_line_is c.args.base c.args.corners.now) (prefix_then _ _ _ (codes "f") (corners ++ codes "\n") c.in_ok-write.ensures.bytes
+    (prefix_longer _ _ corners (codes "\n") c.in_err-write_corners.ensures.bytes))
 
 pub returns-clause-bytes : goal.returns-clause-bytes
 returns-clause-bytes g c =
     let corners = flat_map (λ corner. corner_text (c.args.base + corner + 1)) c.args.corners.now in
-    rw (face_line_is c.args.base c.args.corners.now) (piece_then _ _ _ _ (codes "f") (corners ++ codes "\n") c.in_ok-write.ensures.bytes (piece_then _ _ _ _ corners (codes "\n") c.in_ok-write_corners.ensures.bytes c.write-2.ensures.bytes))
+    rw (face_line_is c.args.base c.args.corners.now) (piece_then _ _ _ _ (codes "f") (corners ++ codes "\n") c.in_ok-write.ensures.bytes
+    (piece_then _ _ _ _ corners (codes "\n") c.in_ok-write_corners.ensures.bytes c.write-2.ensures.bytes))

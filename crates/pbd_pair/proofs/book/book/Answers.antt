@@ -10,10 +10,12 @@ use Rattle.pbd_world.proofs.Rooms.{room_at}
 use Rattle.pbd_pair.proofs.book.book.Goals.{then-bond, else-bond}
 use Rattle.pbd_pair.proofs.book.book.Goals as goal
 
-both_booked : (t u : Ledger) {v : Ledger} {class : Class} (b : Bond) (s : Shift) → class ≡ class_of b → u ≡ booked t ((class, s.first_move) ∷ [])
+both_booked : (t u : Ledger) {v : Ledger} {class : Class} (b : Bond) (s : Shift) → class ≡ class_of b
+    → u ≡ booked t ((class, s.first_move) ∷ [])
     → v ≡ booked u ((class, s.second_move) ∷ []) → v ≡ booked t (entries_of false false (class_of b) s)
 both_booked t u b s same first second =
-    second ∙ (λ i. booked (first i) ((same i, s.second_move) ∷ [])) ∙ (λ i. booked t ((same i, s.first_move) ∷ (class_of b, s.second_move) ∷ []))
+    second ∙ (λ i. booked (first i) ((same i, s.second_move) ∷ []))
+    ∙ (λ i. booked t ((same i, s.first_move) ∷ (class_of b, s.second_move) ∷ []))
 
 pub returns-else-second_held-clause-value : goal.returns-else-second_held-clause-value
 returns-else-second_held-clause-value c =
@@ -22,13 +24,16 @@ returns-else-second_held-clause-value c =
       | then-bond w ↦ w.class-is ∙ sym (cond-true b.contact classes.Contact classes.Link w.if-bond.true)
       | else-bond w ↦ w.class-is ∙ sym (cond-false b.contact classes.Contact classes.Link w.if-bond.false)
     ] in
-    both_booked (ledger_of c.args.totals.now) _ b c.args.shift same c.add-else-second_held.ensures.value c.add-else-second_held-2.ensures.value
-    ∙ (λ i. booked (ledger_of c.args.totals.now) (entries_of (sym c.if-first_held.false i) (sym c.if-second_held.false i) (class_of b) c.args.shift))
+    both_booked (ledger_of c.args.totals.now) _ b c.args.shift same c.add-else-second_held.ensures.value
+    c.add-else-second_held-2.ensures.value
+    ∙ (λ i. booked (ledger_of c.args.totals.now) (entries_of (sym c.if-first_held.false i) (sym c.if-second_held.false i)
+    (class_of b) c.args.shift))
 
 pub returns-then-second_held-clause-value : goal.returns-then-second_held-clause-value
 returns-then-second_held-clause-value c =
     c.add-then-second_held.ensures.value
-    ∙ (λ i. booked (ledger_of c.args.totals.now) (entries_of (sym c.if-first_held.false i) (sym c.if-second_held.true i) (class_of c.args.bond) c.args.shift))
+    ∙ (λ i. booked (ledger_of c.args.totals.now) (entries_of (sym c.if-first_held.false i) (sym c.if-second_held.true i)
+    (class_of c.args.bond) c.args.shift))
 
 pub returns-then-not-second_held-clause-value : goal.returns-then-not-second_held-clause-value
 returns-then-not-second_held-clause-value c =
@@ -37,7 +42,8 @@ returns-then-not-second_held-clause-value c =
     (class_of c.args.bond) c.args.shift))
 
 pub add-requires-else-second_held-2-clause-room : goal.add-requires-else-second_held-2-clause-room
-add-requires-else-second_held-2-clause-room c = room_at (2 ^ 126) (omega arith) (c.add-else-second_held.ensures.room (2 ^ 125) c.requires.room)
+add-requires-else-second_held-2-clause-room c = room_at (2 ^ 126) (omega arith)
+    (c.add-else-second_held.ensures.room (2 ^ 125) c.requires.room)
 
 pub returns-else-second_held-clause-room : goal.returns-else-second_held-clause-room
 returns-else-second_held-clause-room c = λ n h. room_at (n + 2 ^ 32) (omega arith) (c.add-else-second_held-2.ensures.room (n + 2 ^ 31)

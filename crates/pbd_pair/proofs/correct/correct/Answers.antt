@@ -19,5 +19,6 @@ pub returns-else-stays-clause-value : goal.returns-else-stays-clause-value
 returns-else-stays-clause-value c =
     let f : FitsSigned w64 c.args.limit = c.ranges.limit in
     let test = simp to_z-of_z at c.stays.ensures.test in
-    leaves_case c.args.limit c.args.p c.args.q c.args.bond c.shifted-shift.result (sym c.slack.ensures ∙ c.if-slack.false) c.shifted-shift.ensures.value
+    leaves_case c.args.limit c.args.p c.args.q c.args.bond c.shifted-shift.result
+    (sym c.slack.ensures ∙ c.if-slack.false) c.shifted-shift.ensures.value
     (sym test ∙ c.if-stays.false)

@@ -13,4 +13,5 @@ returns-then-bond c =
 
 pub returns-else-bond : goal.returns-else-bond
 unfolding is_slack
-returns-else-bond c = c.if-bond.false ∙ (λ i. sym c.if-bond.false i && int_le c.args.bond.rest (pos (length_of (minus c.args.p.at c.args.q.at))))
+returns-else-bond c = c.if-bond.false ∙ (λ i. sym c.if-bond.false i
+    && int_le c.args.bond.rest (pos (length_of (minus c.args.p.at c.args.q.at))))

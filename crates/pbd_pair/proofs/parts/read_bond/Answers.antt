@@ -14,13 +14,15 @@ correct-requires-clause-p g c =
 pub correct-requires-clause-q : goal.correct-requires-clause-q
 correct-requires-clause-q g c =
     let f : FitsSigned w64 c.limit_of-limit.result = search rules in
-    simp to_z-of_z (is_end c.args.store.now.particles c.args.bond.b c.as_end-2.result c.limit_of-limit.ensures.value (c.as_end-2.ensures.value
+    simp to_z-of_z (is_end c.args.store.now.particles c.args.bond.b c.as_end-2.result c.limit_of-limit.ensures.value
+    (c.as_end-2.ensures.value
     ∙ ap end_of c.at-q.ensures.value) c.as_end-2.ensures.low c.as_end-2.ensures.high c.requires.bond.second c.requires.inside)
 
 pub returns-clause-value : goal.returns-clause-value
 returns-clause-value g c =
     let f : FitsSigned w64 c.limit_of-limit.result = search rules in
-    let same = same_correction c.args.bond c.args.store.now.particles (simp to_z-of_z at c.correct.ensures.value) c.limit_of-limit.ensures.value
+    let same = same_correction c.args.bond c.args.store.now.particles
+    (simp to_z-of_z at c.correct.ensures.value) c.limit_of-limit.ensures.value
     (c.as_end.ensures.value ∙ ap end_of c.at-p.ensures.value) (c.as_end-2.ensures.value ∙ ap end_of c.at-q.ensures.value) in
     λ i. record { correction = same i; first_held = (c.at-p.ensures.value i).held; second_held = (c.at-q.ensures.value i).held }
 

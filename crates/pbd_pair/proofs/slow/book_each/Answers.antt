@@ -17,10 +17,12 @@ pub book-requires-clause-room : goal.book-requires-clause-room
 book-requires-clause-room c = room_at (2 ^ 125) (omega (arith, c.requires.few)) (c.loop-j.invariant.room (2 ^ 124) c.requires.room)
 
 pub book-requires-clause-first : goal.book-requires-clause-first
-book-requires-clause-first c = subst (λ (x : Shift). Within (2 ^ 31) x.first_move) (sym c.as_shift.ensures) (c.requires.first c.loop-j.j (omega arith))
+book-requires-clause-first c = subst (λ (x : Shift). Within (2 ^ 31) x.first_move) (sym c.as_shift.ensures)
+    (c.requires.first c.loop-j.j (omega arith))
 
 pub book-requires-clause-second : goal.book-requires-clause-second
-book-requires-clause-second c = subst (λ (x : Shift). Within (2 ^ 31) x.second_move) (sym c.as_shift.ensures) (c.requires.second c.loop-j.j (omega arith))
+book-requires-clause-second c = subst (λ (x : Shift). Within (2 ^ 31) x.second_move) (sym c.as_shift.ensures)
+    (c.requires.second c.loop-j.j (omega arith))
 
 pub loop-j-preserved : goal.loop-j-preserved
 loop-j-preserved c =
@@ -34,7 +36,8 @@ loop-j-preserved c =
     let f2 : FitsSigned w32 w2 = second_fits c.requires.sized j p in
     let did = simp to_z-of_z at c.book.ensures.value in
     record {
-      value = did ∙ (λ i. booked (inv.value i) (entries_of (int_le w1 (pos 0)) (int_le w2 (pos 0)) (class_of (c.get.ensures i)) (c.as_shift.ensures i)))
+      value = did ∙ (λ i. booked (inv.value i) (entries_of (int_le w1 (pos 0)) (int_le w2 (pos 0)) (class_of (c.get.ensures i))
+          (c.as_shift.ensures i)))
           ∙ ap (λ (k : ℕ). settled (entries_in found c.args.moves.now) k (ledger_of c.args.totals.now)) (sym (add-one j));
       room = λ n h. room_at _ (omega arith) (c.book.ensures.room _ (inv.room n h));
     }

@@ -29,7 +29,8 @@ moves_of-requires-clause-row c = λ flag.
     same_row (sym c.vector-way.ensures) (sym first) (sym second) (sym c.get.ensures) (c.requires.tried.each j p flag)
 
 pub moves_of-requires-clause-way : goal.moves_of-requires-clause-way
-moves_of-requires-clause-way c = subst (λ (v : Vec3). Within (2 ^ 30) v) (sym c.vector-way.ensures) (c.requires.sized.way c.loop-j.j (omega arith))
+moves_of-requires-clause-way c = subst (λ (v : Vec3). Within (2 ^ 30) v) (sym c.vector-way.ensures)
+    (c.requires.sized.way c.loop-j.j (omega arith))
 
 pub loop-j-preserved : goal.loop-j-preserved
 loop-j-preserved c =

@@ -16,7 +16,8 @@ moves_along-requires-clause-rest_high c = subst (λ (d : Draw). d.rest ≤ℤ po
 
 pub moves_along-requires-clause-stiffness : goal.moves_along-requires-clause-stiffness
 moves_along-requires-clause-stiffness c =
-    subst (λ (d : Draw). unsigned_abs d.k ≤ 256) (sym c.draw_of.ensures) (size_at_most c.args.bond.k 256 c.requires.bond.k_low c.requires.bond.k_high)
+    subst (λ (d : Draw). unsigned_abs d.k ≤ 256) (sym c.draw_of.ensures)
+    (size_at_most c.args.bond.k 256 c.requires.bond.k_low c.requires.bond.k_high)
 
 pub returns-clause-moves : goal.returns-clause-moves
 returns-clause-moves c =

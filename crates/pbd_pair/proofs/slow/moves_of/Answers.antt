@@ -10,7 +10,8 @@ row_moves-requires c =
 pub returns-then-told : goal.returns-then-told
 returns-then-told c =
     let fits : FitsSigned w32 c.args.row.flag = search rules in
-    row_exact c.row_moves.result (c.requires.row (no_flag c.args.row.flag fits c.if-told.true)) c.row_moves.ensures.first c.row_moves.ensures.second
+    row_exact c.row_moves.result (c.requires.row (no_flag c.args.row.flag fits c.if-told.true)) c.row_moves.ensures.first
+    c.row_moves.ensures.second
 
 pub returns : goal.returns
 returns c = record { moves = c.exact_moves.ensures.moves; first = c.exact_moves.ensures.first; second = c.exact_moves.ensures.second }

@@ -16,12 +16,21 @@ pub move_each-requires : goal.move_each-requires
 move_each-requires g c =
     let can = c.requires.can in
     let found = c.requires.found in
-    let exact = c.exact_each.ensures in
-    (omega arith, (c.requires.some_lanes, (c.requires.lanes, (pairs_asked can found, (apart_asked can found, (can.inside, are_moves can found exact))))))
+    let exact = c.exact_each.ensures in (
+      omega arith,
+      (
+        c.requires.some_lanes,
+        (
+          c.requires.lanes,
+          (pairs_asked can found, (apart_asked can found, (can.inside, are_moves can found exact))),
+        ),
+      ),
+    )
 
 pub returns-in-Err-clause-outcome : goal.returns-in-Err-clause-outcome
 returns-in-Err-clause-outcome g c =
-    exact_leaves c.requires.can c.requires.found c.exact_each.ensures c.in-Err.ensures.outcome ∙ ap (λ (n : ℕ). Err n) (sym c.left_at.ensures)
+    exact_leaves c.requires.can c.requires.found c.exact_each.ensures c.in-Err.ensures.outcome
+    ∙ ap (λ (n : ℕ). Err n) (sym c.left_at.ensures)
 
 pub returns-clause-outcome : goal.returns-clause-outcome
 returns-clause-outcome g c =

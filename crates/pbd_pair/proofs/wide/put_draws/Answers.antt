@@ -10,7 +10,8 @@ loop-j-init c = filled_none (search rules)
 pub loop-j-preserved : goal.loop-j-preserved
 loop-j-preserved c =
     let told = c.draw_of.ensures ∙ ap draw_by c.get.ensures in
-    filled_more c.draw_of.result (omega (arith, c.requires.few)) (is_draw told (c.requires.firm c.loop-j.j (omega arith))) c.loop-j.invariant
+    filled_more c.draw_of.result (omega (arith, c.requires.few))
+    (is_draw told (c.requires.firm c.loop-j.j (omega arith))) c.loop-j.invariant
 
 pub returns : goal.returns
 returns c = record { each = λ j p. c.loop-j.invariant.below j (omega arith) }

@@ -4,11 +4,11 @@ use Rattle.std.proofs.lemmas.Bool.{and_parts}
 use Rattle.pbd_num.proofs.Ends.{same_axes}
 use Rattle.pbd_pair.proofs.wide.row_of.Goals as goal
 
-pub returns-clause-right : goal.returns-clause-right
-returns-clause-right c =
+pub returns-clause-exact : goal.returns-clause-exact
+returns-clause-exact c =
     let ff : FitsSigned w32 c.flag_of.result = record { sfits = c.flag_of.type_inv } in
-    let right = c.flag_of.ensures.right in
-    simp to_z-of_z (λ f. (and_parts _ _ (right f)).0)
+    let exact = c.flag_of.ensures.exact in
+    simp to_z-of_z (λ f. (and_parts _ _ (exact f)).0)
 
 pub returns-clause-value : goal.returns-clause-value
 returns-clause-value c =
@@ -25,9 +25,9 @@ returns-clause-value c =
     let sx = simp to_z-of_z at c.is_short.ensures in
     let sy = simp to_z-of_z at c.is_short-2.ensures in
     let sz = simp to_z-of_z at c.is_short-3.ensures in
-    let right = c.flag_of.ensures.right in
+    let exact = c.flag_of.ensures.exact in
     simp to_z-of_z (λ f.
-    let short = (and_parts _ _ (right f)).1 in
+    let short = (and_parts _ _ (exact f)).1 in
     let two = (and_parts _ _ short).0 in
     same_axes _ _ (x (sx (and_parts _ _ two).0)) (y (sy (and_parts _ _ two).1)) (z (sz (and_parts _ _ short).1)))
 
@@ -40,8 +40,8 @@ returns-clause-size c =
     let sx = simp to_z-of_z at c.is_short.ensures in
     let sy = simp to_z-of_z at c.is_short-2.ensures in
     let sz = simp to_z-of_z at c.is_short-3.ensures in
-    let right = c.flag_of.ensures.right in
+    let exact = c.flag_of.ensures.exact in
     simp to_z-of_z (λ f.
-    let short = (and_parts _ _ (right f)).1 in
+    let short = (and_parts _ _ (exact f)).1 in
     let two = (and_parts _ _ short).0 in
     record { x = sx (and_parts _ _ two).0; y = sy (and_parts _ _ two).1; z = sz (and_parts _ _ short).1 })

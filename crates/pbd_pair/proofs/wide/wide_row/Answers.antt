@@ -20,10 +20,11 @@ returns-clause-near c = λ b drawn flag.
     let free = simp to_z-of_z at c.free_move.ensures.free in
     let held = simp to_z-of_z at c.free_move.ensures.held in
     let value = c.row_of.ensures.value flag in
-    let right = c.row_of.ensures.right flag in
-    wide_near first second c.row_of.result m.first m.second c.requires.first_low c.requires.second_low tried.first_held tried.second_held tried.opposed
-    (λ h. value ∙ free h) (λ h. value ∙ held h) way b m.length (length_below way c.requires.way) (tried.length right)
-    (subst (λ (d : Draw). m.length <ℤ d.reach → both ≡ pair_moves way zero_vector d.rest d.k first second) drawn (tried.moves right))
-    (subst (λ (d : Draw). d.reach ≤ℤ m.length → m.first ≡ zero_vector) drawn (tried.first_rests right))
-    (subst (λ (d : Draw). d.reach ≤ℤ m.length → m.second ≡ zero_vector) drawn (tried.second_rests right))
+    let exact = c.row_of.ensures.exact flag in
+    wide_near first second c.row_of.result m.first m.second c.requires.first_low c.requires.second_low tried.first_held tried.second_held
+    tried.opposed
+    (λ h. value ∙ free h) (λ h. value ∙ held h) way b m.length (length_below way c.requires.way) (tried.length exact)
+    (subst (λ (d : Draw). m.length <ℤ d.reach → both ≡ pair_moves way zero_vector d.rest d.k first second) drawn (tried.moves exact))
+    (subst (λ (d : Draw). d.reach ≤ℤ m.length → m.first ≡ zero_vector) drawn (tried.first_rests exact))
+    (subst (λ (d : Draw). d.reach ≤ℤ m.length → m.second ≡ zero_vector) drawn (tried.second_rests exact))
     flag (c.row_of.ensures.size flag)

@@ -7,6 +7,8 @@ set_off-requires-clause-at c = near_head c.each.rest.now c.in-Some.later.now c.i
 
 pub each-preserved : goal.each-preserved
 each-preserved c =
-    off_next c.args.size (words_of c.args.number) c.args.particles.now c.each.list c.push.new.self c.each.n c.each.words c.velocity_of-velocity.new.words c.in-Some.p.now c.each.rest.now c.in-Some.later.now
+    off_next c.args.size (words_of c.args.number) c.args.particles.now c.each.list c.push.new.self c.each.n c.each.words
+    c.velocity_of-velocity.new.words c.in-Some.p.now c.each.rest.now c.in-Some.later.now
     c.each.invariant c.in-Some.ensures.cases.0
-    (rw (c.set_off.ensures, c.is_hung.ensures, c.velocity_of-velocity.ensures.value) at c.in_ok-push.ensures.ok) c.velocity_of-velocity.ensures.left
+    (rw (c.set_off.ensures, c.is_hung.ensures, c.velocity_of-velocity.ensures.value) at c.in_ok-push.ensures.ok)
+    c.velocity_of-velocity.ensures.left

@@ -14,7 +14,8 @@ record Hangs (size : ℕ) (new : Parts) (seen : List Particle) : Type 0 where
   made : new ≡ with_cloth (bare_parts size) (level_cloth size)
   read : seen ≡ new.particles
 
-hangs : (size : ℕ) (parts new : Parts) (spec : ClothSpec) (seen : List Particle) → parts ≡ bare_parts size → spec ≡ level_cloth size → new ≡ with_cloth parts spec → seen ≡ new.particles → Hangs size new seen
+hangs : (size : ℕ) (parts new : Parts) (spec : ClothSpec) (seen : List Particle) → parts ≡ bare_parts size → spec ≡ level_cloth size
+    → new ≡ with_cloth parts spec → seen ≡ new.particles → Hangs size new seen
 hangs size parts new spec seen bare level made read = record { made = rw (bare, level) at made; read = read }
 
 few_seen : (size : ℕ) (new : Parts) (seen : List Particle) → size ≤ 128 → Hangs size new seen → length seen ≤ 65536
@@ -23,7 +24,8 @@ few_seen size new seen high is = rw (is.read, is.made) (few_particles size high)
 near_seen : (size : ℕ) (new : Parts) (seen : List Particle) → size ≤ 128 → Hangs size new seen → IsTrue (list_all is_near seen)
 near_seen size new seen high is = rw (is.read, is.made) (all_near size high)
 
-whole : (number size : ℕ) (new : Parts) (seen ps : List Particle) → Hangs size new seen → ps ≡ all_set_off size 0 (words_of number) seen → record new { particles = ps } ≡ generated number size
+whole : (number size : ℕ) (new : Parts) (seen ps : List Particle) → Hangs size new seen → ps ≡ all_set_off size 0 (words_of number) seen
+    → record new { particles = ps } ≡ generated number size
 unfolding generated
 whole number size new seen ps is set = rw (set, is.read, is.made) refl
 
@@ -37,12 +39,17 @@ pub cloth-requires-clause-particles : goal.cloth-requires-clause-particles
 cloth-requires-clause-particles c = rw (c.level_cloth.ensures, c.requires.bare) (omega (arith, few c.args.size c.requires.high))
 
 pub all_set_off-requires-clause-few : goal.all_set_off-requires-clause-few
-all_set_off-requires-clause-few c = few_seen c.args.size c.cloth.new.parts c.as_slice.result.now c.requires.high (hangs c.args.size c.args.parts.now c.cloth.new.parts c.level_cloth.result c.as_slice.result.now c.requires.bare c.level_cloth.ensures c.in_ok-cloth.ensures.ok c.as_slice.ensures)
+all_set_off-requires-clause-few c = few_seen c.args.size c.cloth.new.parts c.as_slice.result.now c.requires.high
+    (hangs c.args.size c.args.parts.now c.cloth.new.parts c.level_cloth.result c.as_slice.result.now c.requires.bare c.level_cloth.ensures
+    c.in_ok-cloth.ensures.ok c.as_slice.ensures)
 
 pub all_set_off-requires-clause-near : goal.all_set_off-requires-clause-near
-all_set_off-requires-clause-near c = near_seen c.args.size c.cloth.new.parts c.as_slice.result.now c.requires.high (hangs c.args.size c.args.parts.now c.cloth.new.parts c.level_cloth.result c.as_slice.result.now c.requires.bare c.level_cloth.ensures c.in_ok-cloth.ensures.ok c.as_slice.ensures)
+all_set_off-requires-clause-near c = near_seen c.args.size c.cloth.new.parts c.as_slice.result.now c.requires.high
+    (hangs c.args.size c.args.parts.now c.cloth.new.parts c.level_cloth.result c.as_slice.result.now c.requires.bare c.level_cloth.ensures
+    c.in_ok-cloth.ensures.ok c.as_slice.ensures)
 
 pub returns : goal.returns
 returns c =
-    let hung = hangs c.args.size c.args.parts.now c.cloth.new.parts c.level_cloth.result c.as_slice.result.now c.requires.bare c.level_cloth.ensures c.in_ok-cloth.ensures.ok c.as_slice.ensures in
+    let hung = hangs c.args.size c.args.parts.now c.cloth.new.parts c.level_cloth.result c.as_slice.result.now c.requires.bare
+    c.level_cloth.ensures c.in_ok-cloth.ensures.ok c.as_slice.ensures in
     whole c.args.number c.args.size c.cloth.new.parts c.as_slice.result.now c.in_ok-parts.field-0 hung c.in_ok-parts.ensures

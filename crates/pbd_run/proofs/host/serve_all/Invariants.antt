@@ -7,7 +7,8 @@ use Rattle.pbd_run.proofs.host.serve_all.Given as goal
 -- the lines so far are served
 abbrev pub invariant-loop-rest : goal.invariant-loop-rest
 invariant-loop-rest g l = record {
-  serves : Serves l.fn.host (pieces l.lines) l.host (lines_of (option_map (λ r. r.now) l.rest)) (g.K.Sink.written l.fn.sink) (g.K.Sink.written l.sink) l.refused;
+  serves : Serves l.fn.host (pieces l.lines) l.host (lines_of (option_map (λ r. r.now) l.rest)) (g.K.Sink.written l.fn.sink)
+      (g.K.Sink.written l.sink) l.refused;
   later : g.K.Sink.faults l.fn.sink ≤ g.K.Sink.faults l.sink;
 }
 

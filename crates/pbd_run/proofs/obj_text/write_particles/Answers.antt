@@ -2,15 +2,17 @@ use Rattle.std.proofs.Common.{ap, arith, rules, ◌<◌, ◌≤◌, length}
 use Rattle.std.proofs.lemmas.Result.{err_from_is_err_and}
 use Rattle.pbd_outcome.specs.ObjText.{particle_line}
 use Rattle.pbd_io.specs.Appending.{appends_nothing, failed_next}
-use Rattle.pbd_run.proofs.ObjTextLaws.{piece_next, pieces_end}
 use Rattle.pbd_run.proofs.obj_text.write_particles.Goals as goal
+use Rattle.pbd_session.proofs.Texts.{written_next, written_all}
 
 pub returns-in_err-write_vertex-clause-bytes : goal.returns-in_err-write_vertex-clause-bytes
 returns-in_err-write_vertex-clause-bytes g c =
     let p = err_from_is_err_and c.from_residual.result c.from_residual.ensures.1 in
     let e = ap particle_line c.particle.ensures.value in
-    let lt : c.loop-i.i < length c.solver-solver.result.now.world.particles = omega (arith, c.loop-i-test.true, c.loop-i.auto.i-end, c.particles-i-end.ensures.value) in
-    rw (p.1, ← c.solver-solver.ensures) (failed_next particle_line c.solver-solver.result.now.world.particles c.loop-i.i _ _ _ _ _ c.loop-i.invariant.bytes lt e c.in_err-write_vertex.ensures.bytes)
+    let lt : c.loop-i.i < length c.solver-solver.result.now.world.particles =
+    omega (arith, c.loop-i-test.true, c.loop-i.auto.i-end, c.particles-i-end.ensures.value) in
+    rw (p.1, ← c.solver-solver.ensures) (failed_next particle_line c.solver-solver.result.now.world.particles c.loop-i.i _ _ _ _ _
+    c.loop-i.invariant.bytes lt e c.in_err-write_vertex.ensures.bytes)
 
 pub loop-i-init : goal.loop-i-init
 loop-i-init g c = record { bytes = appends_nothing (g.K.Sink.written c.args.sink.now); later = search rules }
@@ -18,13 +20,17 @@ loop-i-init g c = record { bytes = appends_nothing (g.K.Sink.written c.args.sink
 pub loop-i-preserved : goal.loop-i-preserved
 loop-i-preserved g c =
     let e = ap particle_line c.particle.ensures.value in
-    let lt : c.loop-i.i < length c.solver-solver.result.now.world.particles = omega (arith, c.loop-i-test.true, c.loop-i.auto.i-end, c.particles-i-end.ensures.value) in
+    let lt : c.loop-i.i < length c.solver-solver.result.now.world.particles =
+    omega (arith, c.loop-i-test.true, c.loop-i.auto.i-end, c.particles-i-end.ensures.value) in
     record {
-      bytes = piece_next particle_line c.solver-solver.result.now.world.particles c.loop-i.i _ _ _ _ _ c.loop-i.invariant.bytes lt e c.in_ok-write_vertex.ensures.bytes;
+      bytes = written_next particle_line c.solver-solver.result.now.world.particles c.loop-i.i _ _ _ _ _ c.loop-i.invariant.bytes lt e
+          c.in_ok-write_vertex.ensures.bytes;
       later = omega (arith, c.loop-i.invariant.later, c.write_vertex.ensures.cause);
     }
 
 pub returns-clause-bytes : goal.returns-clause-bytes
 returns-clause-bytes g c =
-    let le : length c.solver-solver.result.now.world.particles ≤ c.loop-i.i = omega (arith, c.loop-i-test.false, c.loop-i.auto.i-end, c.particles-i-end.ensures.value) in
-    rw (← c.solver-solver.ensures) (pieces_end particle_line c.solver-solver.result.now.world.particles c.loop-i.i _ _ c.loop-i.invariant.bytes le)
+    let le : length c.solver-solver.result.now.world.particles
+    ≤ c.loop-i.i = omega (arith, c.loop-i-test.false, c.loop-i.auto.i-end, c.particles-i-end.ensures.value) in
+    rw (← c.solver-solver.ensures) (written_all particle_line c.solver-solver.result.now.world.particles c.loop-i.i _ _
+    c.loop-i.invariant.bytes le)

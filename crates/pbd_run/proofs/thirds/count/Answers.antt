@@ -4,7 +4,12 @@ use Rattle.pbd_obj.proofs.AddLemmas.{valid_few}
 use Rattle.pbd_run.proofs.thirds.count.Goals as goal
 
 few : (c : goal.After-len) → c.len.result ≤ 65536
-few c = omega (arith, (valid_few c.args.scene.now c.parts.ensures.valid).0, c.len.ensures, ap (λ (p : Parts). length p.particles) c.parts.ensures.parts)
+few c = omega (
+  arith,
+  (valid_few c.args.scene.now c.parts.ensures.valid).0,
+  c.len.ensures,
+  ap (λ (p : Parts). length p.particles) c.parts.ensures.parts,
+)
 
 pub overflow_cast-result : goal.overflow_cast-result
 overflow_cast-result c = omega (arith, few c)

@@ -12,11 +12,16 @@ in_scene-requires-clause-limit g c = its_limit range c.in-Ok.halves.text.now c.i
 
 pub returns-in-Ok-in_scene-clause-thirds : goal.returns-in-Ok-in_scene-clause-thirds
 returns-in-Ok-in_scene-clause-thirds g c =
-    rw c.in-Ok-in_scene.ensures.script (thirds_are c.args.input.now c.in-Some.text.now c.in-Some.rest.now c.in-Ok.halves.text.now c.in-Ok.halves.scene c.in-Ok.halves.script.now c.in-Ok-in_scene.thirds.mesh c.in-Ok-in_scene.thirds.base c.in-Ok-in_scene.thirds.scene (sym c.in-Some.ensures.halves) c.in-Ok.ensures.halves c.in-Ok-in_scene.ensures.ok)
+    rw c.in-Ok-in_scene.ensures.script (thirds_are c.args.input.now c.in-Some.text.now c.in-Some.rest.now c.in-Ok.halves.text.now
+    c.in-Ok.halves.scene c.in-Ok.halves.script.now c.in-Ok-in_scene.thirds.mesh c.in-Ok-in_scene.thirds.base
+    c.in-Ok-in_scene.thirds.scene (sym c.in-Some.ensures.halves) c.in-Ok.ensures.halves c.in-Ok-in_scene.ensures.ok)
 
 pub returns-in-Err-in_scene-clause-stopped : goal.returns-in-Err-in_scene-clause-stopped
 returns-in-Err-in_scene-clause-stopped g c =
-    rw c.in-Ok.ensures.unwritten at (mesh_stops c.args.input.now c.in-Some.text.now c.in-Some.rest.now c.in-Ok.halves.text.now c.in-Ok.halves.scene c.in-Ok.halves.script.now c.in-Err-in_scene.fault _ _ _ _ _ (sym c.in-Some.ensures.halves) c.in-Ok.ensures.halves c.in-Err-in_scene.ensures.err c.stop_mesh.ensures)
+    rw c.in-Ok.ensures.unwritten at (mesh_stops c.args.input.now c.in-Some.text.now c.in-Some.rest.now c.in-Ok.halves.text.now
+    c.in-Ok.halves.scene c.in-Ok.halves.script.now c.in-Err-in_scene.fault _ _ _ _ _
+    (sym c.in-Some.ensures.halves) c.in-Ok.ensures.halves c.in-Err-in_scene.ensures.err c.stop_mesh.ensures)
 
 pub returns-in-Err-clause-stopped : goal.returns-in-Err-clause-stopped
-returns-in-Err-clause-stopped g c = halves_stop c.args.input.now c.in-Some.text.now c.in-Some.rest.now _ _ _ _ _ (sym c.in-Some.ensures.halves) c.in-Err.ensures.stopped
+returns-in-Err-clause-stopped g c = halves_stop c.args.input.now c.in-Some.text.now c.in-Some.rest.now _ _ _ _ _
+    (sym c.in-Some.ensures.halves) c.in-Err.ensures.stopped

@@ -28,11 +28,13 @@ unfolding link_of
 returns-in_err-k c =
     let wide : FitsSigned w64 c.four_times.result = record { sfits = c.four_times.type_inv } in
     let is_rest = rw c.four_times.ensures.value at (simp to_z-of_z at c.in_ok-rest.ensures) in
-    rw (c.in_ok-table.ensures, c.in_ok-a.ensures, c.in_ok-b.ensures, is_rest) (stops _ _ _ _ _ c.from_residual-in_err-k.ensures.1 c.in_err-k.ensures.value)
+    rw (c.in_ok-table.ensures, c.in_ok-a.ensures, c.in_ok-b.ensures, is_rest)
+    (stops _ _ _ _ _ c.from_residual-in_err-k.ensures.1 c.in_err-k.ensures.value)
 
 pub returns-in_err-tear : goal.returns-in_err-tear
 unfolding link_of
 returns-in_err-tear c =
     let wide : FitsSigned w64 c.four_times.result = record { sfits = c.four_times.type_inv } in
     let is_rest = rw c.four_times.ensures.value at (simp to_z-of_z at c.in_ok-rest.ensures) in
-    rw (c.in_ok-table.ensures, c.in_ok-a.ensures, c.in_ok-b.ensures, is_rest, c.in_ok-k.ensures.value) (stops _ _ _ _ _ c.from_residual-in_err-tear.ensures.1 c.in_err-tear.ensures)
+    rw (c.in_ok-table.ensures, c.in_ok-a.ensures, c.in_ok-b.ensures, is_rest, c.in_ok-k.ensures.value)
+    (stops _ _ _ _ _ c.from_residual-in_err-tear.ensures.1 c.in_err-tear.ensures)

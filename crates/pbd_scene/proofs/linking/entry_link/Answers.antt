@@ -34,7 +34,8 @@ returns-in_err-expect-2 c =
     let second : to_z w64 (of_z w64 c.args.l.b) ≡ c.args.l.b = search rules in
     let is_a = rw first at c.in_ok-a.ensures.number in
     let is_b = rw second at c.in_ok-b.ensures.number in
-    rw (c.in_ok-expect.ensures.value, is_a, is_b) (stops _ _ _ _ _ c.from_residual-in_err-expect-2.ensures.1 c.in_err-expect-2.ensures.value)
+    rw (c.in_ok-expect.ensures.value, is_a, is_b) (stops _ _ _ _ _ c.from_residual-in_err-expect-2.ensures.1
+    c.in_err-expect-2.ensures.value)
 
 pub returns-in_err-room_for_link : goal.returns-in_err-room_for_link
 unfolding entry_link
@@ -46,7 +47,8 @@ returns-in_err-room_for_link c =
     let at_a = c.requires.lists.ends_at c.in_ok-a.a c.in_ok-a.ensures.low in
     let at_b = c.requires.lists.ends_at c.in_ok-b.b c.in_ok-b.ensures.low in
     let fails = simp (at_a, at_b) at c.in_err-room_for_link.ensures in
-    rw (c.in_ok-expect.ensures.value, is_a, is_b, c.in_ok-expect-2.ensures.value) (stops _ _ _ _ _ c.from_residual-in_err-room_for_link.ensures.1 fails)
+    rw (c.in_ok-expect.ensures.value, is_a, is_b, c.in_ok-expect-2.ensures.value)
+    (stops _ _ _ _ _ c.from_residual-in_err-room_for_link.ensures.1 fails)
 
 pub returns : goal.returns
 unfolding entry_link

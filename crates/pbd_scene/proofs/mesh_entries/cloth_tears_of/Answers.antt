@@ -12,4 +12,5 @@ returns-in_err-shear c = rw c.in_ok-stretch.ensures (stops _ _ _ _ _ c.from_resi
 
 pub returns-in_err-bend : goal.returns-in_err-bend
 unfolding cloth_tears_of
-returns-in_err-bend c = rw (c.in_ok-stretch.ensures, c.in_ok-shear.ensures) (stops _ _ _ _ _ c.from_residual-in_err-bend.ensures.1 c.in_err-bend.ensures)
+returns-in_err-bend c = rw (c.in_ok-stretch.ensures, c.in_ok-shear.ensures)
+    (stops _ _ _ _ _ c.from_residual-in_err-bend.ensures.1 c.in_err-bend.ensures)

@@ -12,8 +12,10 @@ returns-in_err-bend c = rw c.in_ok-stretch.ensures.value (stops _ _ _ _ _ c.from
 
 pub returns-in_err-stretch_tear : goal.returns-in_err-stretch_tear
 unfolding rope_links_of
-returns-in_err-stretch_tear c = rw (c.in_ok-stretch.ensures.value, c.in_ok-bend.ensures.value) (stops _ _ _ _ _ c.from_residual-in_err-stretch_tear.ensures.1 c.in_err-stretch_tear.ensures)
+returns-in_err-stretch_tear c = rw (c.in_ok-stretch.ensures.value, c.in_ok-bend.ensures.value)
+    (stops _ _ _ _ _ c.from_residual-in_err-stretch_tear.ensures.1 c.in_err-stretch_tear.ensures)
 
 pub returns-in_err-bend_tear : goal.returns-in_err-bend_tear
 unfolding rope_links_of
-returns-in_err-bend_tear c = rw (c.in_ok-stretch.ensures.value, c.in_ok-bend.ensures.value, c.in_ok-stretch_tear.ensures) (stops _ _ _ _ _ c.from_residual-in_err-bend_tear.ensures.1 c.in_err-bend_tear.ensures)
+returns-in_err-bend_tear c = rw (c.in_ok-stretch.ensures.value, c.in_ok-bend.ensures.value, c.in_ok-stretch_tear.ensures)
+    (stops _ _ _ _ _ c.from_residual-in_err-bend_tear.ensures.1 c.in_err-bend_tear.ensures)

@@ -25,7 +25,8 @@ pub returns-in_err-links : goal.returns-in_err-links
 unfolding rope_of
 returns-in_err-links c =
     record {
-      value = rw (c.in_ok-table.ensures, c.in_ok-particles.ensures) (stops _ _ _ _ _ c.from_residual-in_err-links.ensures.1 c.in_err-links.ensures);
+      value = rw (c.in_ok-table.ensures, c.in_ok-particles.ensures)
+          (stops _ _ _ _ _ c.from_residual-in_err-links.ensures.1 c.in_err-links.ensures);
       fits = IfOk-from_err _ _ c.from_residual-in_err-links.ensures.0;
       room = IfOk-from_err _ _ c.from_residual-in_err-links.ensures.0;
     }

@@ -11,14 +11,16 @@ returns-in_err-i c =
     let pins = c.args.pins.now in
     let fails = rw c.as_slice.ensures at c.in_err-i.ensures in
     let p = err_from_is_err_and c.from_residual.result c.from_residual.ensures.1 in
-    rw (p.1, p.2) (item_fails read pins c.loop-n.n-index _ c.loop-n.held c.in_err-i.field-0.0 (each read [] pins) c.loop-n-test.true fails c.loop-n.invariant)
+    rw (p.1, p.2) (item_fails read pins c.loop-n.n-index _ c.loop-n.held c.in_err-i.field-0.0
+    (each read [] pins) c.loop-n-test.true fails c.loop-n.invariant)
 
 pub loop-n-preserved : goal.loop-n-preserved
 loop-n-preserved c =
     let read = pinned c.args.count in
     let pins = c.args.pins.now in
     let is = rw c.as_slice.ensures at c.in_ok-i.ensures in
-    rw c.in_ok-push.ensures.ok (item_ok read pins c.loop-n.n-index _ c.loop-n.held c.in_ok-i.i (each read [] pins) c.loop-n-test.true is c.loop-n.invariant)
+    rw c.in_ok-push.ensures.ok (item_ok read pins c.loop-n.n-index _ c.loop-n.held c.in_ok-i.i
+    (each read [] pins) c.loop-n-test.true is c.loop-n.invariant)
 
 pub returns : goal.returns
 returns c =

@@ -29,14 +29,16 @@ unfolding particle_of
 returns-in_err-weight c =
     let wide : FitsSigned w64 c.twice.result = record { sfits = c.twice.type_inv } in
     let is_velocity = rw c.twice.ensures.value at (simp to_z-of_z at c.in_ok-velocity.ensures.value) in
-    rw (c.in_ok-table.ensures, c.in_ok-at.ensures.value, is_velocity) (stops _ _ _ _ _ c.from_residual-in_err-weight.ensures.1 c.in_err-weight.ensures.value)
+    rw (c.in_ok-table.ensures, c.in_ok-at.ensures.value, is_velocity)
+    (stops _ _ _ _ _ c.from_residual-in_err-weight.ensures.1 c.in_err-weight.ensures.value)
 
 pub returns-in_err-held : goal.returns-in_err-held
 unfolding particle_of
 returns-in_err-held c =
     let wide : FitsSigned w64 c.twice.result = record { sfits = c.twice.type_inv } in
     let is_velocity = rw c.twice.ensures.value at (simp to_z-of_z at c.in_ok-velocity.ensures.value) in
-    rw (c.in_ok-table.ensures, c.in_ok-at.ensures.value, is_velocity, c.in_ok-weight.ensures.value) (stops _ _ _ _ _ c.from_residual-in_err-held.ensures.1 c.in_err-held.ensures)
+    rw (c.in_ok-table.ensures, c.in_ok-at.ensures.value, is_velocity, c.in_ok-weight.ensures.value)
+    (stops _ _ _ _ _ c.from_residual-in_err-held.ensures.1 c.in_err-held.ensures)
 
 pub inside_before-requires : goal.inside_before-requires
 inside_before-requires c = record { at = c.in_ok-at.ensures.within; velocity = c.in_ok-velocity.ensures.within }
@@ -46,11 +48,20 @@ unfolding particle_of
 returns-in_err-gone c =
     let wide : FitsSigned w64 c.twice.result = record { sfits = c.twice.type_inv } in
     let is_velocity = rw c.twice.ensures.value at (simp to_z-of_z at c.in_ok-velocity.ensures.value) in
-    rw (c.in_ok-table.ensures, c.in_ok-at.ensures.value, is_velocity, c.in_ok-weight.ensures.value, c.in_ok-held.ensures) (stops _ _ _ _ _ c.from_residual-in_err-gone.ensures.1 c.in_err-gone.ensures)
+    rw (c.in_ok-table.ensures, c.in_ok-at.ensures.value, is_velocity, c.in_ok-weight.ensures.value, c.in_ok-held.ensures)
+    (stops _ _ _ _ _ c.from_residual-in_err-gone.ensures.1 c.in_err-gone.ensures)
 
 pub returns : goal.returns
 unfolding particle_of
 returns c =
     let wide : FitsSigned w64 c.twice.result = record { sfits = c.twice.type_inv } in
     let is_velocity = rw c.twice.ensures.value at (simp to_z-of_z at c.in_ok-velocity.ensures.value) in
-    rw (c.in_ok-table.ensures, c.in_ok-at.ensures.value, is_velocity, c.in_ok-weight.ensures.value, c.in_ok-held.ensures, c.in_ok-gone.ensures, c.if_held.ensures) refl
+    rw (
+      c.in_ok-table.ensures,
+      c.in_ok-at.ensures.value,
+      is_velocity,
+      c.in_ok-weight.ensures.value,
+      c.in_ok-held.ensures,
+      c.in_ok-gone.ensures,
+      c.if_held.ensures,
+    ) refl

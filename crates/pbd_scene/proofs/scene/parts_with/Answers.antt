@@ -46,7 +46,9 @@ add_meshes-meshed-requires-clause-room c =
     let fits = c.ranges.limit in
     let is = simp to_z-of_z at c.in_ok-tables.ensures in
     let fit = tables_fit c.args.limit (table_view c.args.members.now) c.in_ok-tables.tables (limit_bounds c.args.limit c.requires).0 is in
-    rw (ap (λ (p : Parts). p.particles) c.plain_parts-parts.ensures) (meshes_room c.args.limit c.in_ok-tables.tables c.as_slice.result.now c.as_slice-2.result.now c.as_slice.ensures c.as_slice-2.ensures fit)
+    rw (ap (λ (p : Parts). p.particles) c.plain_parts-parts.ensures)
+    (meshes_room c.args.limit c.in_ok-tables.tables c.as_slice.result.now c.as_slice-2.result.now c.as_slice.ensures c.as_slice-2.ensures
+    fit)
 
 pub with_entries-requires-clause-few : goal.with_entries-requires-clause-few
 with_entries-requires-clause-few c =
@@ -54,7 +56,8 @@ with_entries-requires-clause-few c =
     let is = simp to_z-of_z at c.in_ok-tables.ensures in
     let fit = tables_fit c.args.limit (table_view c.args.members.now) c.in_ok-tables.tables (limit_bounds c.args.limit c.requires).0 is in
     let grown = simp (to_z-of_z, c.plain_parts-parts.ensures) at (IfOk-at_ok _ c.in-Ok.is c.add_meshes-meshed.ensures) in
-    let meshed = meshed_now c.args.limit c.args.settings.now c.in_ok-tables.tables c.add_meshes-meshed.new.parts c.as_slice.result.now c.as_slice-2.result.now grown c.as_slice.ensures c.as_slice-2.ensures c.requires fit in
+    let meshed = meshed_now c.args.limit c.args.settings.now c.in_ok-tables.tables c.add_meshes-meshed.new.parts c.as_slice.result.now
+    c.as_slice-2.result.now grown c.as_slice.ensures c.as_slice-2.ensures c.requires fit in
     meshed.few
 
 pub with_entries-requires-clause-places : goal.with_entries-requires-clause-places
@@ -63,7 +66,8 @@ with_entries-requires-clause-places c =
     let is = simp to_z-of_z at c.in_ok-tables.ensures in
     let fit = tables_fit c.args.limit (table_view c.args.members.now) c.in_ok-tables.tables (limit_bounds c.args.limit c.requires).0 is in
     let grown = simp (to_z-of_z, c.plain_parts-parts.ensures) at (IfOk-at_ok _ c.in-Ok.is c.add_meshes-meshed.ensures) in
-    let meshed = meshed_now c.args.limit c.args.settings.now c.in_ok-tables.tables c.add_meshes-meshed.new.parts c.as_slice.result.now c.as_slice-2.result.now grown c.as_slice.ensures c.as_slice-2.ensures c.requires fit in
+    let meshed = meshed_now c.args.limit c.args.settings.now c.in_ok-tables.tables c.add_meshes-meshed.new.parts c.as_slice.result.now
+    c.as_slice-2.result.now grown c.as_slice.ensures c.as_slice-2.ensures c.requires fit in
     places_within c.args.limit _ c.add_meshes-meshed.new.parts c.requires meshed
 
 pub with_entries-requires-clause-links : goal.with_entries-requires-clause-links

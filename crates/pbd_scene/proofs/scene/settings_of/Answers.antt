@@ -26,4 +26,5 @@ unfolding settings_of
 returns-in_err-pins c =
     let fits = c.ranges.limit in
     let is_gravity = simp to_z-of_z at c.in_ok-gravity.ensures.value in
-    rw (c.in_ok-known.ensures, is_gravity, c.in_ok-numbers.ensures) (stops _ _ _ _ _ c.from_residual-in_err-pins.ensures.1 c.in_err-pins.ensures)
+    rw (c.in_ok-known.ensures, is_gravity, c.in_ok-numbers.ensures)
+    (stops _ _ _ _ _ c.from_residual-in_err-pins.ensures.1 c.in_err-pins.ensures)

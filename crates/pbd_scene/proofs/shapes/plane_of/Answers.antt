@@ -13,8 +13,15 @@ returns-in_err-normal c = rw c.in_ok-table.ensures (stops _ _ _ _ _ c.from_resid
 
 pub returns-in_err-offset : goal.returns-in_err-offset
 unfolding plane_of
-returns-in_err-offset c = rw (c.in_ok-table.ensures, c.in_ok-normal.ensures.value) (stops _ _ _ _ _ c.from_residual-in_err-offset.ensures.1 c.in_err-offset.ensures.value)
+returns-in_err-offset c = rw (c.in_ok-table.ensures, c.in_ok-normal.ensures.value)
+    (stops _ _ _ _ _ c.from_residual-in_err-offset.ensures.1 c.in_err-offset.ensures.value)
 
 pub returns-else-has_length : goal.returns-else-has_length
 unfolding plane_of
-returns-else-has_length c = rw (c.broken.ensures, c.in_ok-table.ensures, c.in_ok-normal.ensures.value, c.in_ok-offset.ensures.value, ← c.if-has_length.ensures) refl
+returns-else-has_length c = rw (
+  c.broken.ensures,
+  c.in_ok-table.ensures,
+  c.in_ok-normal.ensures.value,
+  c.in_ok-offset.ensures.value,
+  ← c.if-has_length.ensures,
+) refl

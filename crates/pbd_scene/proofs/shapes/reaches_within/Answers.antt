@@ -10,7 +10,8 @@ returns-then-is_inside c =
     let down = simp to_z-of_z at c.below.ensures in
     let first = simp to_z-of_z at c.is_inside.ensures in
     let second = simp to_z-of_z at c.is_inside-then-is_inside.ensures in
-    reaches_both c.args.limit.now.units c.args.radius c.args.centre c.above.result c.below.result c.is_inside.result c.is_inside-then-is_inside.result up down first c.if-is_inside.true second
+    reaches_both c.args.limit.now.units c.args.radius c.args.centre c.above.result c.below.result c.is_inside.result
+    c.is_inside-then-is_inside.result up down first c.if-is_inside.true second
 
 pub returns-else-is_inside : goal.returns-else-is_inside
 returns-else-is_inside c =

@@ -33,7 +33,8 @@ unfolding sphere_of
 returns-then-reaches_within c =
     let wide = limit_fits c.args.limit.now.units c.args.limit.now.high in
     let most = simp to_z-of_z at c.in_ok-radius.ensures.high in
-    let narrow = limit_fits c.in_ok-radius.radius (at_most_limit c.args.limit.now.units c.in_ok-radius.radius c.in_ok-radius.ensures.low most c.args.limit.now.high) in
+    let narrow = limit_fits c.in_ok-radius.radius (at_most_limit c.args.limit.now.units c.in_ok-radius.radius c.in_ok-radius.ensures.low
+    most c.args.limit.now.high) in
     let is_radius = simp to_z-of_z at c.in_ok-radius.ensures.value in
     let reaches = simp to_z-of_z at c.if-reaches_within.ensures in
     simp to_z-of_z (rw (c.in_ok-table.ensures, c.in_ok-centre.ensures.value, is_radius, ← reaches) refl)
@@ -43,7 +44,8 @@ unfolding sphere_of
 returns-else-reaches_within c =
     let wide = limit_fits c.args.limit.now.units c.args.limit.now.high in
     let most = simp to_z-of_z at c.in_ok-radius.ensures.high in
-    let narrow = limit_fits c.in_ok-radius.radius (at_most_limit c.args.limit.now.units c.in_ok-radius.radius c.in_ok-radius.ensures.low most c.args.limit.now.high) in
+    let narrow = limit_fits c.in_ok-radius.radius (at_most_limit c.args.limit.now.units c.in_ok-radius.radius c.in_ok-radius.ensures.low
+    most c.args.limit.now.high) in
     let is_radius = simp to_z-of_z at c.in_ok-radius.ensures.value in
     let reaches = simp to_z-of_z at c.if-reaches_within.ensures in
     rw (c.broken.ensures, c.in_ok-table.ensures, c.in_ok-centre.ensures.value, is_radius, ← reaches) refl

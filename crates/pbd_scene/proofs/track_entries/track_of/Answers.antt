@@ -12,4 +12,5 @@ returns-in_err-particle c = rw c.in_ok-table.ensures (stops _ _ _ _ _ c.from_res
 
 pub returns-in_err-keys : goal.returns-in_err-keys
 unfolding track_of
-returns-in_err-keys c = rw (c.in_ok-table.ensures, c.in_ok-particle.ensures) (stops _ _ _ _ _ c.from_residual-in_err-keys.ensures.1 c.in_err-keys.ensures)
+returns-in_err-keys c = rw (c.in_ok-table.ensures, c.in_ok-particle.ensures)
+    (stops _ _ _ _ _ c.from_residual-in_err-keys.ensures.1 c.in_err-keys.ensures)

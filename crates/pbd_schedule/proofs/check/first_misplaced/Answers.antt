@@ -16,5 +16,6 @@ returns-then-not-comes_next-clause-misplaced c =
     subst (λ (m : ℕ). IsMisplaced m events i) inv.1 (record {
       within = omega arith;
       before = begins stages (take i events) inv.0;
-      there = λ b. misplaced stages (take i events) inv.0 e (sym c.comes_next.ensures.test ∙ c.if-not-comes_next.true) (subst (BeginsLegal (length stages)) one b);
+      there = λ b. misplaced stages (take i events) inv.0 e (sym c.comes_next.ensures.test ∙ c.if-not-comes_next.true)
+          (subst (BeginsLegal (length stages)) one b);
     })

@@ -41,7 +41,8 @@ loop-preserved c =
     let place = drawn_place g coming in
     let within : place < length coming = mod-lt (pcg32 g).0 some in
     let index : c.next_word.result % left ≡ place = (λ i. (c.next_word.ensures i).0 % sym size i) in
-    let item = ap (λ (j : ℕ). event_at c.loop.coming j) index ∙ sym (get_or-take left c.loop.coming place (Read 0) (omega (arith, within, size))) in
+    let item = ap (λ (j : ℕ). event_at c.loop.coming j) index
+    ∙ sym (get_or-take left c.loop.coming place (Read 0) (omega (arith, within, size))) in
     let gone = c.go_on-left.ensures.coming ∙ ap (gone_on coming) index in
     let words : c.next_word.new.self ≡ (pcg32 g).1 = ap (λ (p : ℕ × Lcg). p.1) c.next_word.ensures in
     let pushed = c.push.ensures.fits (omega (arith, inv.count, inv.room, c.requires.few)) in
@@ -54,9 +55,11 @@ loop-preserved c =
       to_come = omega (arith, inv.to_come, gone_fewer coming place within, ap still_to_come gone);
       room = ap (λ (l : Roomed Event). l.room) pushed ∙ inv.room;
       events = ap (λ (h : Lcg). c.push.new.self.entries ++ drawn_from k h (take c.go_on-left.result c.go_on-left.new.coming)) words
-          ∙ drawn_more c.loop.events.entries c.push.new.self.entries (3 * m - c.loop.counter) k g coming (take c.go_on-left.result c.go_on-left.new.coming) (event_at c.loop.coming (c.next_word.result % left)) more entries item gone
+          ∙ drawn_more c.loop.events.entries c.push.new.self.entries (3 * m - c.loop.counter) k g coming
+          (take c.go_on-left.result c.go_on-left.new.coming) (event_at c.loop.coming (c.next_word.result % left)) more entries item gone
           ∙ inv.events;
-      count = ap (λ (l : List Event). length l) entries ∙ length-append c.loop.events.entries (event_at c.loop.coming (c.next_word.result % left) ∷ []) ∙ omega (arith, inv.count);
+      count = ap (λ (l : List Event). length l) entries ∙ length-append c.loop.events.entries
+          (event_at c.loop.coming (c.next_word.result % left) ∷ []) ∙ omega (arith, inv.count);
       words = ap (later k) words ∙ later_more (3 * m - c.loop.counter) k g more ∙ inv.words;
     }
 
@@ -64,5 +67,6 @@ pub returns-clause-events : goal.returns-clause-events
 returns-clause-events c =
     let inv = c.loop.invariant in
     let m = length c.args.coming.now in
-    let same = none_more c.loop.events.entries (3 * m - c.loop.counter) c.loop.words c.args.words.now (take c.loop.left c.loop.coming) m (omega arith) inv.events in
+    let same = none_more c.loop.events.entries (3 * m - c.loop.counter) c.loop.words c.args.words.now (take c.loop.left c.loop.coming) m
+    (omega arith) inv.events in
     λ i. record { entries = same i; room = inv.room i }

@@ -10,7 +10,8 @@ invariant-loop l =
       left : l.left ≤ length l.coming;
       to_come : still_to_come (take l.left l.coming) + l.counter ≡ 3 * length l.initial.coming;
       room : l.events.room ≡ 98304;
-      events : l.events.entries ++ drawn_from (3 * length l.initial.coming - l.counter) l.words (take l.left l.coming) ≡ drawn_from (3 * length l.initial.coming) l.initial.words (first_events (length l.initial.coming));
+      events : l.events.entries ++ drawn_from (3 * length l.initial.coming - l.counter) l.words (take l.left l.coming)
+          ≡ drawn_from (3 * length l.initial.coming) l.initial.words (first_events (length l.initial.coming));
       count : length l.events.entries ≡ l.counter;
       words : later (3 * length l.initial.coming - l.counter) l.words ≡ later (3 * length l.initial.coming) l.initial.words;
     }

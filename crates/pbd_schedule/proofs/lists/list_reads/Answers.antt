@@ -9,7 +9,15 @@ pub loop-k-preserved : goal.loop-k-preserved
 loop-k-preserved c =
     let k = c.loop-k.k in
     let inv = c.loop-k.invariant in
-    let did = c.push.ensures.fits (omega (arith, inv.0, ap (λ (l : List Event). length l) inv.1, length-map-range_with_len Read 0 k, ap (λ (l : Roomed Event). l.room) c.clear.ensures, c.requires)) in (
+    let did = c.push.ensures.fits (omega (
+      arith,
+      inv.0,
+      ap (λ (l : List Event). length l) inv.1,
+      length-map-range_with_len Read 0 k,
+      ap (λ (l : Roomed Event). l.room) c.clear.ensures,
+      c.requires,
+    )) in (
       ap (λ (l : Roomed Event). l.room) did ∙ inv.0,
-      ap (λ (l : Roomed Event). l.entries) did ∙ ap (λ (l : List Event). l ++ Read k ∷ []) inv.1 ∙ sym (map-range_with_len_more Read 0 k k (omega arith)),
+      ap (λ (l : Roomed Event). l.entries) did ∙ ap (λ (l : List Event). l ++ Read k ∷ []) inv.1
+          ∙ sym (map-range_with_len_more Read 0 k k (omega arith)),
     )

@@ -32,7 +32,8 @@ loop-event-preserved g c =
       grows = λ n h. room_at _ (omega (arith, booked)) (did.room _ (inv.grows n h));
       inside = subst (λ (l : ℤ). AreInside l c.happen.new.store.particles) inv.limit did.inside;
       whole = same_length _ _ (did.fixed ∙ inv.fixed);
-      same = ap (λ (j : ℕ). mixed limit bond (drop j events) after) (add-one i) ∙ ap (mixed limit bond (drop (suc i) events)) step ∙ sym (ap (λ (l : List Event). mixed limit bond l before) (drop-cons events i (Read 0) (omega arith))) ∙ inv.same;
+      same = ap (λ (j : ℕ). mixed limit bond (drop j events) after) (add-one i) ∙ ap (mixed limit bond (drop (suc i) events)) step
+          ∙ sym (ap (λ (l : List Event). mixed limit bond l before) (drop-cons events i (Read 0) (omega arith))) ∙ inv.same;
       notes = did.notes ∙ inv.notes;
       sound = subst (λ (l : ℤ). AreSound l c.happen.new.notes) inv.limit did.sound;
       limit = did.limit ∙ inv.limit;
@@ -42,4 +43,5 @@ loop-event-preserved g c =
     }
 
 pub returns-clause-room : goal.returns-clause-room
-returns-clause-room g c = λ n h. room_at _ (omega (arith, sum_by-take-le bookings c.args.events.now c.loop-event.event-index)) (c.loop-event.invariant.grows n h)
+returns-clause-room g c = λ n h. room_at _ (omega (arith, sum_by-take-le bookings c.args.events.now c.loop-event.event-index))
+    (c.loop-event.invariant.grows n h)

@@ -11,10 +11,14 @@ abbrev pub invariant-loop-event : goal.invariant-loop-event
 invariant-loop-event g l =
     record {
       room : HaveRoom (2 ^ 120 + l.event-index * 2 ^ 32) (ledger_of l.totals);
-      grows : (n : ℕ) → HaveRoom n (ledger_of l.initial.totals) → HaveRoom (n + sum_by bookings (take l.event-index l.events) * 2 ^ 32) (ledger_of l.totals);
+      grows : (n : ℕ) → HaveRoom n (ledger_of l.initial.totals)
+          → HaveRoom (n + sum_by bookings (take l.event-index l.events) * 2 ^ 32) (ledger_of l.totals);
       inside : AreInside l.initial.store.limit l.store.particles;
       whole : length l.store.particles ≡ length l.initial.store.particles;
-      same : mixed l.initial.store.limit (bond_at (bond_of l.bonds) l.batch) (drop l.event-index l.events) (mix_of l.store.particles (ledger_of l.totals) l.notes) ≡ mixed l.initial.store.limit (bond_at (bond_of l.bonds) l.batch) l.events (mix_of l.initial.store.particles (ledger_of l.initial.totals) l.initial.notes);
+      same : mixed l.initial.store.limit (bond_at (bond_of l.bonds) l.batch) (drop l.event-index l.events)
+          (mix_of l.store.particles (ledger_of l.totals) l.notes)
+          ≡ mixed l.initial.store.limit (bond_at (bond_of l.bonds) l.batch) l.events
+          (mix_of l.initial.store.particles (ledger_of l.initial.totals) l.initial.notes);
       notes : length l.notes ≡ length l.initial.notes;
       sound : AreSound l.initial.store.limit l.notes;
       limit : l.store.limit ≡ l.initial.store.limit;

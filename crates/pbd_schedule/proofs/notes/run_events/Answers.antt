@@ -24,12 +24,17 @@ returns-in-Some-first_leaving-clause-outcome g c =
     let many = c.count_bonds.ensures.value in
     let begun = c.notes.view_is ∙ c.begin.ensures in
     let first = c.as_mut_slice-2.ensures.value ∙ ap (λ (v : Noted). v.notes) begun ∙ ap (λ (n : ℕ). replicate n no_note) many in
-    let stages = ap (λ (l : List ℕ). length l) (c.as_mut_slice.ensures.value ∙ ap (λ (v : Noted). v.stages) begun) ∙ length-replicate c.count_bonds.result 0 ∙ many in
+    let stages = ap (λ (l : List ℕ). length l) (c.as_mut_slice.ensures.value ∙ ap (λ (v : Noted). v.stages) begun)
+    ∙ length-replicate c.count_bonds.result 0 ∙ many in
     let legal = subst (λ (m : ℕ). IsLegal m events) stages c.in_default.ensures.outcome in
-    let now = c.as_slice.ensures ∙ overwritten_is c.notes.inside.notes.entries c.mix.new.notes (c.mix.ensures.notes ∙ ap (λ (l : List Note). length l) c.as_mut_slice-2.ensures.value) in
-    let value = c.mix.ensures.value ∙ ap (λ (l : List Note). mixed limit (bond_at bond batch) events (mix_of old (ledger_of c.args.totals.now) l)) first in
-    come_to_left limit bond batch (motion_of c.args.store.now c.args.totals.now) c.requires.batch.bond c.requires.batch.apart.each c.requires.inside events legal
-    (mix_of c.mix.new.store.particles (ledger_of c.mix.new.totals) c.mix.new.notes) value c.mix.ensures.sound c.in-Some-first_leaving.element
+    let now = c.as_slice.ensures ∙ overwritten_is c.notes.inside.notes.entries c.mix.new.notes
+    (c.mix.ensures.notes ∙ ap (λ (l : List Note). length l) c.as_mut_slice-2.ensures.value) in
+    let value = c.mix.ensures.value ∙ ap (λ (l : List Note).
+    mixed limit (bond_at bond batch) events (mix_of old (ledger_of c.args.totals.now) l)) first in
+    come_to_left limit bond batch (motion_of c.args.store.now c.args.totals.now) c.requires.batch.bond c.requires.batch.apart.each
+    c.requires.inside events legal
+    (mix_of c.mix.new.store.particles (ledger_of c.mix.new.totals) c.mix.new.notes) value c.mix.ensures.sound
+    c.in-Some-first_leaving.element
     (ap (first_leaving batch) (sym now) ∙ sym c.first_leaving.ensures ∙ c.in-Some-first_leaving.is)
 
 pub returns-clause-outcome : goal.returns-clause-outcome
@@ -42,28 +47,53 @@ returns-clause-outcome g c =
     let many = c.count_bonds.ensures.value in
     let begun = c.notes.view_is ∙ c.begin.ensures in
     let first = c.as_mut_slice-2.ensures.value ∙ ap (λ (v : Noted). v.notes) begun ∙ ap (λ (n : ℕ). replicate n no_note) many in
-    let stages = ap (λ (l : List ℕ). length l) (c.as_mut_slice.ensures.value ∙ ap (λ (v : Noted). v.stages) begun) ∙ length-replicate c.count_bonds.result 0 ∙ many in
+    let stages = ap (λ (l : List ℕ). length l) (c.as_mut_slice.ensures.value ∙ ap (λ (v : Noted). v.stages) begun)
+    ∙ length-replicate c.count_bonds.result 0 ∙ many in
     let legal = subst (λ (m : ℕ). IsLegal m events) stages c.in_default.ensures.outcome in
-    let now = c.as_slice.ensures ∙ overwritten_is c.notes.inside.notes.entries c.mix.new.notes (c.mix.ensures.notes ∙ ap (λ (l : List Note). length l) c.as_mut_slice-2.ensures.value) in
-    let value = c.mix.ensures.value ∙ ap (λ (l : List Note). mixed limit (bond_at bond batch) events (mix_of old (ledger_of c.args.totals.now) l)) first in
-    come_to_all limit bond batch (motion_of c.args.store.now c.args.totals.now) c.requires.batch.bond c.requires.batch.apart.each c.requires.inside events legal
+    let now = c.as_slice.ensures ∙ overwritten_is c.notes.inside.notes.entries c.mix.new.notes
+    (c.mix.ensures.notes ∙ ap (λ (l : List Note). length l) c.as_mut_slice-2.ensures.value) in
+    let value = c.mix.ensures.value ∙ ap (λ (l : List Note).
+    mixed limit (bond_at bond batch) events (mix_of old (ledger_of c.args.totals.now) l)) first in
+    come_to_all limit bond batch (motion_of c.args.store.now c.args.totals.now) c.requires.batch.bond c.requires.batch.apart.each
+    c.requires.inside events legal
     (mix_of c.mix.new.store.particles (ledger_of c.mix.new.totals) c.mix.new.notes) value c.mix.ensures.sound
-    (ap (first_leaving batch) (sym now) ∙ sym c.first_leaving.ensures ∙ none_left c.first_leaving.result c.in_default-first_leaving.not-Some)
+    (ap (first_leaving batch) (sym now) ∙ sym c.first_leaving.ensures
+    ∙ none_left c.first_leaving.result c.in_default-first_leaving.not-Some)
 
 pub returns-in-Some-first_leaving-clause-cost : goal.returns-in-Some-first_leaving-clause-cost
 returns-in-Some-first_leaving-clause-cost g c =
     let begun = c.notes.view_is ∙ c.begin.ensures in
-    let stages = ap (λ (l : List ℕ). length l) (c.as_mut_slice.ensures.value ∙ ap (λ (v : Noted). v.stages) begun) ∙ length-replicate c.count_bonds.result 0 ∙ c.count_bonds.ensures.value in
-    omega (arith, c.mix.ensures.cost, stages, accesses_of_legal (length c.as_mut_slice.result.now) c.args.events.now c.in_default.ensures.outcome)
+    let stages = ap (λ (l : List ℕ). length l) (c.as_mut_slice.ensures.value ∙ ap (λ (v : Noted). v.stages) begun)
+    ∙ length-replicate c.count_bonds.result 0 ∙ c.count_bonds.ensures.value in
+    omega (
+      arith,
+      c.mix.ensures.cost,
+      stages,
+      accesses_of_legal
+          (length c.as_mut_slice.result.now) c.args.events.now c.in_default.ensures.outcome,
+    )
 
 pub returns-clause-cost : goal.returns-clause-cost
 returns-clause-cost g c =
     let begun = c.notes.view_is ∙ c.begin.ensures in
-    let stages = ap (λ (l : List ℕ). length l) (c.as_mut_slice.ensures.value ∙ ap (λ (v : Noted). v.stages) begun) ∙ length-replicate c.count_bonds.result 0 ∙ c.count_bonds.ensures.value in
-    omega (arith, c.mix.ensures.cost, stages, accesses_of_legal (length c.as_mut_slice.result.now) c.args.events.now c.in_default.ensures.outcome)
+    let stages = ap (λ (l : List ℕ). length l) (c.as_mut_slice.ensures.value ∙ ap (λ (v : Noted). v.stages) begun)
+    ∙ length-replicate c.count_bonds.result 0 ∙ c.count_bonds.ensures.value in
+    omega (
+      arith,
+      c.mix.ensures.cost,
+      stages,
+      accesses_of_legal
+          (length c.as_mut_slice.result.now) c.args.events.now c.in_default.ensures.outcome,
+    )
 
 pub returns-clause-room : goal.returns-clause-room
 returns-clause-room g c =
     let begun = c.notes.view_is ∙ c.begin.ensures in
-    let stages = ap (λ (l : List ℕ). length l) (c.as_mut_slice.ensures.value ∙ ap (λ (v : Noted). v.stages) begun) ∙ length-replicate c.count_bonds.result 0 ∙ c.count_bonds.ensures.value in
-    λ n h. room_at _ (omega (arith, stages, bookings_of_legal (length c.as_mut_slice.result.now) c.args.events.now c.in_default.ensures.outcome)) (c.mix.ensures.room n h)
+    let stages = ap (λ (l : List ℕ). length l) (c.as_mut_slice.ensures.value ∙ ap (λ (v : Noted). v.stages) begun)
+    ∙ length-replicate c.count_bonds.result 0 ∙ c.count_bonds.ensures.value in
+    λ n h. room_at _ (omega (
+      arith,
+      stages,
+      bookings_of_legal
+          (length c.as_mut_slice.result.now) c.args.events.now c.in_default.ensures.outcome,
+    )) (c.mix.ensures.room n h)

@@ -8,17 +8,20 @@ use Rattle.pbd_self.proofs.apart.find_apart.Goals as goal
 
 pub returns-clause-pairs : goal.returns-clause-pairs
 returns-clause-pairs c =
-    subst (λ (t : ℤ). OnOk c.pairs.result (c.pairs.new.out.entries ≡ near_pairs c.args.places.now t (may_touch c.args.held.now c.args.links.now)))
+    subst (λ (t : ℤ). OnOk c.pairs.result (c.pairs.new.out.entries
+    ≡ near_pairs c.args.places.now t (may_touch c.args.held.now c.args.links.now)))
     (to_z-of_z w64 c.args.thickness c.ranges.thickness) c.pairs.ensures.pairs
 
 pub returns-clause-fits : goal.returns-clause-fits
 returns-clause-fits c =
-    subst (λ (t : ℤ). OnOk c.pairs.result (length (near_pairs c.args.places.now t (may_touch c.args.held.now c.args.links.now)) ≤ c.args.out.now.room))
+    subst (λ (t : ℤ). OnOk c.pairs.result (length (near_pairs c.args.places.now t (may_touch c.args.held.now c.args.links.now))
+    ≤ c.args.out.now.room))
     (to_z-of_z w64 c.args.thickness c.ranges.thickness) c.pairs.ensures.fits
 
 pub returns-clause-full : goal.returns-clause-full
 returns-clause-full c =
-    subst (λ (t : ℤ). OnErr c.pairs.result (c.args.out.now.room < length (near_pairs c.args.places.now t (may_touch c.args.held.now c.args.links.now))))
+    subst (λ (t : ℤ). OnErr c.pairs.result (c.args.out.now.room
+    < length (near_pairs c.args.places.now t (may_touch c.args.held.now c.args.links.now))))
     (to_z-of_z w64 c.args.thickness c.ranges.thickness) c.pairs.ensures.full
 
 pub returns-clause-looks : goal.returns-clause-looks

@@ -6,5 +6,20 @@ use Rattle.pbd_session.proofs.line.header_line.Goals as goal
 pub returns : goal.returns
 unfolding frame_header
 returns c =
-    rw (c.push-5.ensures, c.push_number-4.ensures.bytes, c.push-4.ensures, c.push_number-3.ensures.bytes, c.push-3.ensures, c.push_number-2.ensures.bytes, c.push-2.ensures, c.push_number.ensures.bytes, c.push.ensures, c.new-line.ensures, c.from.ensures, c.from-2.ensures, c.from-3.ensures)
-    (pieces9 (codes "frame ") (decimal c.args.steps) (codes " ") (decimal c.args.particles) (codes " ") (decimal c.args.live) (codes " ") (decimal c.args.contacts) (codes "\n"))
+    rw (
+      c.push-5.ensures,
+      c.push_number-4.ensures.bytes,
+      c.push-4.ensures,
+      c.push_number-3.ensures.bytes,
+      c.push-3.ensures,
+      c.push_number-2.ensures.bytes,
+      c.push-2.ensures,
+      c.push_number.ensures.bytes,
+      c.push.ensures,
+      c.new-line.ensures,
+      c.from.ensures,
+      c.from-2.ensures,
+      c.from-3.ensures,
+    )
+    (pieces9 (codes "frame ") (decimal c.args.steps) (codes " ") (decimal c.args.particles) (codes " ") (decimal c.args.live) (codes " ")
+    (decimal c.args.contacts) (codes "\n"))

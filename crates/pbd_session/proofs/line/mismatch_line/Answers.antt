@@ -15,4 +15,5 @@ returns c =
     let recorded = simp to_z-of_z at c.push_value.ensures.bytes in
     let found = simp to_z-of_z at c.push_value-2.ensures.bytes in
     rw (c.push.ensures, found, recorded, c.mismatch_at-line.ensures.bytes)
-    (pieces9 (codes "error 10 Mismatch record ") (decimal c.args.entry) (codes " field ") (field_name compared.field) (codes " recorded ") (signed_decimal compared.recorded) (codes " found ") (signed_decimal compared.found) (codes "\n"))
+    (pieces9 (codes "error 10 Mismatch record ") (decimal c.args.entry) (codes " field ") (field_name compared.field) (codes " recorded ")
+    (signed_decimal compared.recorded) (codes " found ") (signed_decimal compared.found) (codes "\n"))

@@ -15,4 +15,5 @@ returns c =
     let y = simp to_z-of_z at c.push_value-2.ensures.bytes in
     let z = simp to_z-of_z at c.push_value-3.ensures.bytes in
     rw (c.push.ensures, z, y, x, c.ledger_line-line.ensures.bytes)
-    (pieces9 (codes "ledger ") c.args.name.now (codes " ") (signed_decimal c.args.x) (codes " ") (signed_decimal c.args.y) (codes " ") (signed_decimal c.args.z) (codes "\n"))
+    (pieces9 (codes "ledger ") c.args.name.now (codes " ") (signed_decimal c.args.x) (codes " ") (signed_decimal c.args.y) (codes " ")
+    (signed_decimal c.args.z) (codes "\n"))

@@ -9,4 +9,5 @@ returns-in_err-write-clause-bytes g c =
 
 pub returns-clause-bytes : goal.returns-clause-bytes
 returns-clause-bytes g c =
-    rw (← c.as_slice-2.ensures) (piece_then _ _ _ c.write-3.result c.args.prefix.now c.as_slice-2.result.now c.in_ok-write.ensures.bytes c.write-3.ensures.bytes)
+    rw (← c.as_slice-2.ensures) (piece_then _ _ _ c.write-3.result c.args.prefix.now c.as_slice-2.result.now c.in_ok-write.ensures.bytes
+    c.write-3.ensures.bytes)

@@ -18,7 +18,8 @@ loop-i-preserved g c =
     let e = place_is c.args.prefix.now _ _ _ c.place_line-place.ensures c.particle.ensures.value in
     let lt : c.loop-i.i < length c.args.solver.now.world.particles = omega (arith, c.loop-i-test.true, c.particles-i-end.ensures.value) in
     record {
-      bytes = written_next (place_after c.args.prefix.now) c.args.solver.now.world.particles c.loop-i.i no_particle _ _ _ _ c.loop-i.invariant.bytes lt e c.in_ok-write_line.ensures.bytes;
+      bytes = written_next (place_after c.args.prefix.now) c.args.solver.now.world.particles c.loop-i.i no_particle _ _ _ _
+          c.loop-i.invariant.bytes lt e c.in_ok-write_line.ensures.bytes;
       cost = omega (arith, c.loop-i.invariant.cost, c.particle.ensures.cost);
       later = omega (arith, c.loop-i.invariant.later, c.write_line.ensures.cause);
     }
@@ -28,8 +29,10 @@ returns-in_err-write_line-clause-bytes g c =
     let p = err_from_is_err_and c.from_residual.result c.from_residual.ensures.1 in
     let e = place_is c.args.prefix.now _ _ _ c.place_line-place.ensures c.particle.ensures.value in
     let lt : c.loop-i.i < length c.args.solver.now.world.particles = omega (arith, c.loop-i-test.true, c.particles-i-end.ensures.value) in
-    rw p.1 (failed_next (place_after c.args.prefix.now) c.args.solver.now.world.particles c.loop-i.i no_particle _ _ _ _ c.loop-i.invariant.bytes lt e c.in_err-write_line.ensures.bytes)
+    rw p.1 (failed_next (place_after c.args.prefix.now) c.args.solver.now.world.particles c.loop-i.i no_particle _ _ _ _
+    c.loop-i.invariant.bytes lt e c.in_err-write_line.ensures.bytes)
 
 pub returns-clause-bytes : goal.returns-clause-bytes
 returns-clause-bytes g c =
-    written_all (place_after c.args.prefix.now) c.args.solver.now.world.particles c.loop-i.i _ _ c.loop-i.invariant.bytes (omega (arith, c.loop-i-test.false, c.particles-i-end.ensures.value))
+    written_all (place_after c.args.prefix.now) c.args.solver.now.world.particles c.loop-i.i _ _ c.loop-i.invariant.bytes
+    (omega (arith, c.loop-i-test.false, c.particles-i-end.ensures.value))

@@ -5,7 +5,8 @@ use Rattle.pbd_session.proofs.record.run_record.Given as goal
 -- the session has come so far, and its log too
 abbrev pub invariant-loop-command : goal.invariant-loop-command
 invariant-loop-command g l = record {
-  logged : Logged l.fn.session l.initial.script l.fn.session.limit l.scene l.session l.script (g.K.Sink.written l.fn.sink) (g.K.Sink.written l.sink) l.refused l.writer;
+  logged : Logged l.fn.session l.initial.script l.fn.session.limit l.scene l.session l.script (g.K.Sink.written l.fn.sink)
+      (g.K.Sink.written l.sink) l.refused l.writer;
   later : g.K.Sink.faults l.fn.sink ≤ g.K.Sink.faults l.sink;
 }
 

@@ -4,19 +4,24 @@ use Rattle.pbd_session.proofs.Comparing.{answers_differ, both_sums, no_found, no
 use Rattle.pbd_session.proofs.replay.difference.Goals as goal
 
 pub returns-in-Some : goal.returns-in-Some
-returns-in-Some c = answers_differ c.args.recorded.now c.args.found.now _ _ _ c.compared_answers-answers.ensures c.first_difference.ensures c.in-Some.is
+returns-in-Some c = answers_differ c.args.recorded.now c.args.found.now _ _ _ c.compared_answers-answers.ensures c.first_difference.ensures
+    c.in-Some.is
 
 pub returns-in-Some-Some : goal.returns-in-Some-Some
 returns-in-Some-Some c =
-    let decide = sums_decide c.args.recorded.now c.args.found.now _ _ c.compared_answers-answers.ensures c.first_difference.ensures c.in_default.is in
-    c.first_difference-in-Some-Some.ensures ∙ (ap first_difference c.compared_sums.ensures ∙ sym (decide ∙ both_sums _ _ _ _ c.in-Some-Some.is-0 c.in-Some-Some.is-1))
+    let decide = sums_decide c.args.recorded.now c.args.found.now _ _ c.compared_answers-answers.ensures c.first_difference.ensures
+    c.in_default.is in
+    c.first_difference-in-Some-Some.ensures ∙ (ap first_difference c.compared_sums.ensures
+    ∙ sym (decide ∙ both_sums _ _ _ _ c.in-Some-Some.is-0 c.in-Some-Some.is-1))
 
 pub returns-in_default-2 : goal.returns-in_default-2
 returns-in_default-2 c =
-    let decide = sums_decide c.args.recorded.now c.args.found.now _ _ c.compared_answers-answers.ensures c.first_difference.ensures c.in_default.is in
+    let decide = sums_decide c.args.recorded.now c.args.found.now _ _ c.compared_answers-answers.ensures c.first_difference.ensures
+    c.in_default.is in
     sym (decide ∙ no_found _ _ _ c.in_default-2.is-0 c.in_default-2.is-1)
 
 pub returns-in_default-2-2 : goal.returns-in_default-2-2
 returns-in_default-2-2 c =
-    let decide = sums_decide c.args.recorded.now c.args.found.now _ _ c.compared_answers-answers.ensures c.first_difference.ensures c.in_default.is in
+    let decide = sums_decide c.args.recorded.now c.args.found.now _ _ c.compared_answers-answers.ensures c.first_difference.ensures
+    c.in_default.is in
     sym (decide ∙ no_recorded _ _ c.in_default-2.is-0)

@@ -4,7 +4,8 @@ use Rattle.pbd_log.specs.Logs.{Log}
 use Rattle.pbd_session.specs.Replaying.{difference}
 use Rattle.pbd_session.proofs.Running.{Does, one_more}
 use Rattle.pbd_session.proofs.Recorded.{is_entry}
-use Rattle.pbd_session.proofs.Replays.{agreed_begins, agreed_next, agreed_failed, agreed_ends, differs_piece, does_one_of, differs_ended, differs_world}
+use Rattle.pbd_session.proofs.Replays.{agreed_begins, agreed_next, agreed_failed, agreed_ends, differs_piece, does_one_of, differs_ended}
+use Rattle.pbd_session.proofs.Replays.{differs_world}
 use Rattle.pbd_session.proofs.replay.run_replay.Goals as goal
 
 pub loop-entry-init : goal.loop-entry-init
@@ -15,42 +16,49 @@ loop-entry-init g c = record {
 
 pub returns-in-Some-difference-clause-bytes : goal.returns-in-Some-difference-clause-bytes
 returns-in-Some-difference-clause-bytes g c =
-    let does : Does c.loop-entry.session c.apply-reply.new.self c.in-Some.entry.command c.apply-reply.result = record { world = c.apply-reply.ensures.world; reply = c.apply-reply.ensures.reply } in
+    let does : Does c.loop-entry.session c.apply-reply.new.self c.in-Some.entry.command c.apply-reply.result =
+    record { world = c.apply-reply.ensures.world; reply = c.apply-reply.ensures.reply } in
     let is = ap (λ (l : Log). l.entries) c.in-Some.ensures.next in
     let other = ap (difference c.in-Some.entry) (sym (is_entry _ _ _ _ _ does c.entry-found.ensures)) ∙ sym c.in-Some-difference.ensures in
     differs_piece _ _ _ _ _ _ _ _ _ _ _ _ _ _ _ c.loop-entry.invariant.agreed is does other c.write_mismatch.ensures.bytes
 
 pub returns-in-Some-difference-clause-ended : goal.returns-in-Some-difference-clause-ended
 returns-in-Some-difference-clause-ended g c =
-    let does : Does c.loop-entry.session c.apply-reply.new.self c.in-Some.entry.command c.apply-reply.result = record { world = c.apply-reply.ensures.world; reply = c.apply-reply.ensures.reply } in
+    let does : Does c.loop-entry.session c.apply-reply.new.self c.in-Some.entry.command c.apply-reply.result =
+    record { world = c.apply-reply.ensures.world; reply = c.apply-reply.ensures.reply } in
     let is = ap (λ (l : Log). l.entries) c.in-Some.ensures.next in
     let other = ap (difference c.in-Some.entry) (sym (is_entry _ _ _ _ _ does c.entry-found.ensures)) ∙ sym c.in-Some-difference.ensures in
     rw (← differs_ended _ _ _ _ _ _ _ _ _ _ _ c.loop-entry.invariant.agreed is other) c.write_mismatch.ensures.ended
 
 pub returns-in-Some-difference-clause-world : goal.returns-in-Some-difference-clause-world
 returns-in-Some-difference-clause-world g c =
-    let does : Does c.loop-entry.session c.apply-reply.new.self c.in-Some.entry.command c.apply-reply.result = record { world = c.apply-reply.ensures.world; reply = c.apply-reply.ensures.reply } in
+    let does : Does c.loop-entry.session c.apply-reply.new.self c.in-Some.entry.command c.apply-reply.result =
+    record { world = c.apply-reply.ensures.world; reply = c.apply-reply.ensures.reply } in
     let is = ap (λ (l : Log). l.entries) c.in-Some.ensures.next in
     let other = ap (difference c.in-Some.entry) (sym (is_entry _ _ _ _ _ does c.entry-found.ensures)) ∙ sym c.in-Some-difference.ensures in
     differs_world _ _ _ _ _ _ _ _ _ _ _ _ _ c.write_mismatch.result c.loop-entry.invariant.agreed is does other
 
 pub returns-in-Some-difference-clause-one_of : goal.returns-in-Some-difference-clause-one_of
 returns-in-Some-difference-clause-one_of g c =
-    let does : Does c.loop-entry.session c.apply-reply.new.self c.in-Some.entry.command c.apply-reply.result = record { world = c.apply-reply.ensures.world; reply = c.apply-reply.ensures.reply } in
+    let does : Does c.loop-entry.session c.apply-reply.new.self c.in-Some.entry.command c.apply-reply.result =
+    record { world = c.apply-reply.ensures.world; reply = c.apply-reply.ensures.reply } in
     let is = ap (λ (l : Log). l.entries) c.in-Some.ensures.next in
     does_one_of _ _ _ _ _ _ _ _ _ _ _ _ c.loop-entry.invariant.agreed is does
 
 pub returns-in_err-write_reply-clause-bytes : goal.returns-in_err-write_reply-clause-bytes
 returns-in_err-write_reply-clause-bytes g c =
     let p = err_from_is_err_and c.from_residual.result c.from_residual.ensures.1 in
-    let does : Does c.loop-entry.session c.apply-reply.new.self c.in-Some.entry.command c.apply-reply.result = record { world = c.apply-reply.ensures.world; reply = c.apply-reply.ensures.reply } in
+    let does : Does c.loop-entry.session c.apply-reply.new.self c.in-Some.entry.command c.apply-reply.result =
+    record { world = c.apply-reply.ensures.world; reply = c.apply-reply.ensures.reply } in
     let is = ap (λ (l : Log). l.entries) c.in-Some.ensures.next in
-    let same = ap (difference c.in-Some.entry) (sym (is_entry _ _ _ _ _ does c.entry-found.ensures)) ∙ sym c.in_default-difference.ensures in
+    let same = ap (difference c.in-Some.entry) (sym (is_entry _ _ _ _ _ does c.entry-found.ensures))
+    ∙ sym c.in_default-difference.ensures in
     rw p.1 (agreed_failed _ _ _ _ _ _ _ _ _ _ _ _ _ c.loop-entry.invariant.agreed is does same c.in_err-write_reply.ensures.bytes)
 
 pub returns-in_err-write_reply-clause-one_of : goal.returns-in_err-write_reply-clause-one_of
 returns-in_err-write_reply-clause-one_of g c =
-    let does : Does c.loop-entry.session c.apply-reply.new.self c.in-Some.entry.command c.apply-reply.result = record { world = c.apply-reply.ensures.world; reply = c.apply-reply.ensures.reply } in
+    let does : Does c.loop-entry.session c.apply-reply.new.self c.in-Some.entry.command c.apply-reply.result =
+    record { world = c.apply-reply.ensures.world; reply = c.apply-reply.ensures.reply } in
     let is = ap (λ (l : Log). l.entries) c.in-Some.ensures.next in
     does_one_of _ _ _ _ _ _ _ _ _ _ _ _ c.loop-entry.invariant.agreed is does
 
@@ -61,11 +69,14 @@ overflow_add-number g c =
 
 pub loop-entry-preserved : goal.loop-entry-preserved
 loop-entry-preserved g c =
-    let does : Does c.loop-entry.session c.apply-reply.new.self c.in-Some.entry.command c.apply-reply.result = record { world = c.apply-reply.ensures.world; reply = c.apply-reply.ensures.reply } in
+    let does : Does c.loop-entry.session c.apply-reply.new.self c.in-Some.entry.command c.apply-reply.result =
+    record { world = c.apply-reply.ensures.world; reply = c.apply-reply.ensures.reply } in
     let is = ap (λ (l : Log). l.entries) c.in-Some.ensures.next in
-    let same = ap (difference c.in-Some.entry) (sym (is_entry _ _ _ _ _ does c.entry-found.ensures)) ∙ sym c.in_default-difference.ensures in
+    let same = ap (difference c.in-Some.entry) (sym (is_entry _ _ _ _ _ does c.entry-found.ensures))
+    ∙ sym c.in_default-difference.ensures in
     record {
-      agreed = rw c.refusals-refused.ensures (agreed_next _ _ _ _ _ _ _ _ _ _ _ _ _ c.loop-entry.invariant.agreed is does same c.in_ok-write_reply.ensures.bytes);
+      agreed = rw c.refusals-refused.ensures (agreed_next _ _ _ _ _ _ _ _ _ _ _ _ _ c.loop-entry.invariant.agreed is does same
+          c.in_ok-write_reply.ensures.bytes);
       later = omega (arith, c.loop-entry.invariant.later, c.write_reply.ensures.cause);
     }
 
@@ -84,4 +95,14 @@ returns-clause-one_of g c = (agreed_ends _ _ _ _ _ _ _ _ c.loop-entry.invariant.
 pub overflow_add-refused : goal.overflow_add-refused
 overflow_add-refused g c =
     let more = one_more c.apply-reply.result in
-    record { fits = omega (arith, c.loop-entry.invariant.agreed.few, c.loop-entry.invariant.agreed.numbers, c.bytes_left-bytes.ensures.few, c.bytes_left-bytes.ensures.short, c.refusals-refused.ensures, more) }
+    record {
+      fits = omega (
+        arith,
+        c.loop-entry.invariant.agreed.few,
+        c.loop-entry.invariant.agreed.numbers,
+        c.bytes_left-bytes.ensures.few,
+        c.bytes_left-bytes.ensures.short,
+        c.refusals-refused.ensures,
+        more,
+      );
+    }

@@ -5,7 +5,8 @@ use Rattle.pbd_session.proofs.replay.run_replay.Given as goal
 -- the entries so far agree
 abbrev pub invariant-loop-entry : goal.invariant-loop-entry
 invariant-loop-entry g l = record {
-  agreed : Agreed l.fn.session l.initial.view.entries l.number l.session l.view.entries (g.K.Sink.written l.fn.sink) (g.K.Sink.written l.sink) l.refused;
+  agreed : Agreed l.fn.session l.initial.view.entries l.number l.session l.view.entries (g.K.Sink.written l.fn.sink)
+      (g.K.Sink.written l.sink) l.refused;
   later : g.K.Sink.faults l.fn.sink ≤ g.K.Sink.faults l.sink;
 }
 

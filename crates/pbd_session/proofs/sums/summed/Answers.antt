@@ -19,15 +19,19 @@ loop-i-preserved g c =
     let at_is = c.plus-at.ensures.value ∙ ap (λ (p : Particle). plus c.loop-i.at p.at) c.particle-particle.ensures.value in
     let before_is = c.plus-before.ensures.value ∙ ap (λ (p : Particle). plus c.loop-i.before p.before) c.particle-particle.ensures.value in
     record {
-      at = sum_next (λ p. p.at) ps c.loop-i.i no_particle _ _ c.loop-i.invariant.at lt at_is (c.plus-at.ensures.size _ _ c.loop-i.invariant.at.size c.particle-particle.ensures.at);
-      before = sum_next (λ p. p.before) ps c.loop-i.i no_particle _ _ c.loop-i.invariant.before lt before_is (c.plus-before.ensures.size _ _ c.loop-i.invariant.before.size c.particle-particle.ensures.before);
+      at = sum_next (λ p. p.at) ps c.loop-i.i no_particle _ _ c.loop-i.invariant.at lt at_is
+          (c.plus-at.ensures.size _ _ c.loop-i.invariant.at.size c.particle-particle.ensures.at);
+      before = sum_next (λ p. p.before) ps c.loop-i.i no_particle _ _ c.loop-i.invariant.before lt before_is
+          (c.plus-before.ensures.size _ _ c.loop-i.invariant.before.size c.particle-particle.ensures.before);
       cost = omega (arith, c.loop-i.invariant.cost, c.particle-particle.ensures.cost);
     }
 
 pub returns-clause-at : goal.returns-clause-at
 returns-clause-at g c =
-    sum_ends (λ p. p.at) c.args.solver.now.world.particles c.loop-i.i _ c.loop-i.invariant.at (omega (arith, c.loop-i-test.false, c.particles-i-end.ensures.value))
+    sum_ends (λ p. p.at) c.args.solver.now.world.particles c.loop-i.i _ c.loop-i.invariant.at
+    (omega (arith, c.loop-i-test.false, c.particles-i-end.ensures.value))
 
 pub returns-clause-before : goal.returns-clause-before
 returns-clause-before g c =
-    sum_ends (λ p. p.before) c.args.solver.now.world.particles c.loop-i.i _ c.loop-i.invariant.before (omega (arith, c.loop-i-test.false, c.particles-i-end.ensures.value))
+    sum_ends (λ p. p.before) c.args.solver.now.world.particles c.loop-i.i _ c.loop-i.invariant.before
+    (omega (arith, c.loop-i-test.false, c.particles-i-end.ensures.value))

@@ -10,4 +10,5 @@ returns-then-made-clause-value c =
     c.add.ensures ∙ (λ i. cond (sym c.if-made.true i) (added before classes.Shape c.args.by) before)
 
 pub returns-then-made-clause-room : goal.returns-then-made-clause-room
-returns-then-made-clause-room c = λ n h. rw c.add.ensures (room_left (ledger_of c.args.totals.now) classes.Shape c.args.by n (2 ^ 31) h c.requires.short)
+returns-then-made-clause-room c = λ n h. rw c.add.ensures
+    (room_left (ledger_of c.args.totals.now) classes.Shape c.args.by n (2 ^ 31) h c.requires.short)

@@ -8,7 +8,8 @@ pub overflow_mul-lack : goal.overflow_mul-lack
 overflow_mul-lack c =
     let lack = c.ranges.lack in
     let axis = c.ranges.axis in
-    simp to_z-of_z (fits (c.args.lack *ℤ c.args.axis) (omega (arith, size-mul c.args.lack c.args.axis (2 ^ 42) (2 ^ 10) c.requires.lack c.requires.axis)))
+    simp to_z-of_z (fits (c.args.lack *ℤ c.args.axis) (omega
+    (arith, size-mul c.args.lack c.args.axis (2 ^ 42) (2 ^ 10) c.requires.lack c.requires.axis)))
 
 pub rdiv-requires-clause-size : goal.rdiv-requires-clause-size
 rdiv-requires-clause-size c =
@@ -25,9 +26,13 @@ overflow_add-result c =
     let axis = c.ranges.axis in
     let square = c.ranges.square in
     let r : FitsSigned w64 c.rdiv.result = record { sfits = c.rdiv.type_inv } in
-    let p = fits (c.args.lack *ℤ c.args.axis) (omega (arith, size-mul c.args.lack c.args.axis (2 ^ 42) (2 ^ 10) c.requires.lack c.requires.axis)) in
+    let p = fits (c.args.lack *ℤ c.args.axis) (omega (
+      arith,
+      size-mul c.args.lack c.args.axis (2 ^ 42) (2 ^ 10) c.requires.lack c.requires.axis,
+    )) in
     let is = simp to_z-of_z at c.rdiv.ensures in
-    let size : unsigned_abs c.rdiv.result ≤ 2 ^ 52 = rw is (plane_move c.args.lack c.args.axis c.args.square c.requires.lack c.requires.axis c.requires.square) in
+    let size : unsigned_abs c.rdiv.result ≤ 2 ^ 52 = rw is
+    (plane_move c.args.lack c.args.axis c.args.square c.requires.lack c.requires.axis c.requires.square) in
     simp to_z-of_z (fits (c.args.from +ℤ c.rdiv.result) (omega (arith, size-add c.args.from c.rdiv.result, c.requires.from)))
 
 pub returns : goal.returns
@@ -37,8 +42,12 @@ returns c =
     let axis = c.ranges.axis in
     let square = c.ranges.square in
     let r : FitsSigned w64 c.rdiv.result = record { sfits = c.rdiv.type_inv } in
-    let p = fits (c.args.lack *ℤ c.args.axis) (omega (arith, size-mul c.args.lack c.args.axis (2 ^ 42) (2 ^ 10) c.requires.lack c.requires.axis)) in
+    let p = fits (c.args.lack *ℤ c.args.axis) (omega (
+      arith,
+      size-mul c.args.lack c.args.axis (2 ^ 42) (2 ^ 10) c.requires.lack c.requires.axis,
+    )) in
     let is = simp to_z-of_z at c.rdiv.ensures in
-    let size : unsigned_abs c.rdiv.result ≤ 2 ^ 52 = rw is (plane_move c.args.lack c.args.axis c.args.square c.requires.lack c.requires.axis c.requires.square) in
+    let size : unsigned_abs c.rdiv.result ≤ 2 ^ 52 = rw is
+    (plane_move c.args.lack c.args.axis c.args.square c.requires.lack c.requires.axis c.requires.square) in
     let sum = fits (c.args.from +ℤ c.rdiv.result) (omega (arith, size-add c.args.from c.rdiv.result, c.requires.from)) in
     simp to_z-of_z (ap (λ m. c.args.from +ℤ m) is)

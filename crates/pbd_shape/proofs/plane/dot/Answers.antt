@@ -25,23 +25,42 @@ pub overflow_add-result : goal.overflow_add-result
 overflow_add-result c =
     let a : FitsSigned w64 c.product.result = record { sfits = c.product.type_inv } in
     let b : FitsSigned w64 c.product-2.result = record { sfits = c.product-2.type_inv } in
-    simp to_z-of_z (fits (c.product.result +ℤ c.product-2.result) (omega (arith, size-add c.product.result c.product-2.result, c.product.ensures.size, c.product-2.ensures.size)))
+    simp to_z-of_z (fits (c.product.result +ℤ c.product-2.result)
+    (omega (arith, size-add c.product.result c.product-2.result, c.product.ensures.size, c.product-2.ensures.size)))
 
 pub overflow_add-result-2 : goal.overflow_add-result-2
 overflow_add-result-2 c =
     let a : FitsSigned w64 c.product.result = record { sfits = c.product.type_inv } in
     let b : FitsSigned w64 c.product-2.result = record { sfits = c.product-2.type_inv } in
     let d : FitsSigned w64 c.product-3.result = record { sfits = c.product-3.type_inv } in
-    let ab = fits (c.product.result +ℤ c.product-2.result) (omega (arith, size-add c.product.result c.product-2.result, c.product.ensures.size, c.product-2.ensures.size)) in
-    simp to_z-of_z (fits (c.product.result +ℤ c.product-2.result +ℤ c.product-3.result) (omega (arith, size-add (c.product.result +ℤ c.product-2.result) c.product-3.result, size-add c.product.result c.product-2.result, c.product.ensures.size, c.product-2.ensures.size, c.product-3.ensures.size)))
+    let ab = fits (c.product.result +ℤ c.product-2.result)
+    (omega (arith, size-add c.product.result c.product-2.result, c.product.ensures.size, c.product-2.ensures.size)) in
+    simp to_z-of_z (fits (c.product.result +ℤ c.product-2.result +ℤ c.product-3.result)
+    (omega (
+      arith,
+      size-add (c.product.result +ℤ c.product-2.result) c.product-3.result,
+      size-add c.product.result c.product-2.result,
+      c.product.ensures.size,
+      c.product-2.ensures.size,
+      c.product-3.ensures.size,
+    )))
 
 pub returns-clause-value : goal.returns-clause-value
 returns-clause-value c =
     let a : FitsSigned w64 c.product.result = record { sfits = c.product.type_inv } in
     let b : FitsSigned w64 c.product-2.result = record { sfits = c.product-2.type_inv } in
     let d : FitsSigned w64 c.product-3.result = record { sfits = c.product-3.type_inv } in
-    let ab = fits (c.product.result +ℤ c.product-2.result) (omega (arith, size-add c.product.result c.product-2.result, c.product.ensures.size, c.product-2.ensures.size)) in
-    let abd = fits (c.product.result +ℤ c.product-2.result +ℤ c.product-3.result) (omega (arith, size-add (c.product.result +ℤ c.product-2.result) c.product-3.result, size-add c.product.result c.product-2.result, c.product.ensures.size, c.product-2.ensures.size, c.product-3.ensures.size)) in
+    let ab = fits (c.product.result +ℤ c.product-2.result)
+    (omega (arith, size-add c.product.result c.product-2.result, c.product.ensures.size, c.product-2.ensures.size)) in
+    let abd = fits (c.product.result +ℤ c.product-2.result +ℤ c.product-3.result)
+    (omega (
+      arith,
+      size-add (c.product.result +ℤ c.product-2.result) c.product-3.result,
+      size-add c.product.result c.product-2.result,
+      c.product.ensures.size,
+      c.product-2.ensures.size,
+      c.product-3.ensures.size,
+    )) in
     let nx = fits c.args.n.x (omega (arith, c.requires.n.x)) in
     let ny = fits c.args.n.y (omega (arith, c.requires.n.y)) in
     let nz = fits c.args.n.z (omega (arith, c.requires.n.z)) in
@@ -58,7 +77,16 @@ returns-clause-size c =
     let a : FitsSigned w64 c.product.result = record { sfits = c.product.type_inv } in
     let b : FitsSigned w64 c.product-2.result = record { sfits = c.product-2.type_inv } in
     let d : FitsSigned w64 c.product-3.result = record { sfits = c.product-3.type_inv } in
-    let ab = fits (c.product.result +ℤ c.product-2.result) (omega (arith, size-add c.product.result c.product-2.result, c.product.ensures.size, c.product-2.ensures.size)) in
-    let size : unsigned_abs (c.product.result +ℤ c.product-2.result +ℤ c.product-3.result) ≤ 2 ^ 41 = omega (arith, size-add (c.product.result +ℤ c.product-2.result) c.product-3.result, size-add c.product.result c.product-2.result, c.product.ensures.size, c.product-2.ensures.size, c.product-3.ensures.size) in
+    let ab = fits (c.product.result +ℤ c.product-2.result)
+    (omega (arith, size-add c.product.result c.product-2.result, c.product.ensures.size, c.product-2.ensures.size)) in
+    let size : unsigned_abs (c.product.result +ℤ c.product-2.result +ℤ c.product-3.result)
+    ≤ 2 ^ 41 = omega (
+      arith,
+      size-add (c.product.result +ℤ c.product-2.result) c.product-3.result,
+      size-add c.product.result c.product-2.result,
+      c.product.ensures.size,
+      c.product-2.ensures.size,
+      c.product-3.ensures.size,
+    ) in
     let abd = fits (c.product.result +ℤ c.product-2.result +ℤ c.product-3.result) (omega (arith, size)) in
     simp to_z-of_z size

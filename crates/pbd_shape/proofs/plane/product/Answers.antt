@@ -11,7 +11,8 @@ overflow_mul-result c =
     let y : FitsSigned w64 c.short-2.result = record { sfits = c.short-2.type_inv } in
     let is_a = simp to_z-of_z at c.short.ensures in
     let is_b = simp to_z-of_z at c.short-2.ensures in
-    rw (is_a, is_b) (simp to_z-of_z (fits (c.args.a *ℤ c.args.b) (omega (arith, size-mul c.args.a c.args.b (2 ^ 10) (2 ^ 29) c.requires.a c.requires.b))))
+    rw (is_a, is_b) (simp to_z-of_z (fits (c.args.a *ℤ c.args.b)
+    (omega (arith, size-mul c.args.a c.args.b (2 ^ 10) (2 ^ 29) c.requires.a c.requires.b))))
 
 pub returns-clause-value : goal.returns-clause-value
 returns-clause-value c =

@@ -31,7 +31,9 @@ any_touches-requires g c =
             r.valid_planes,
             (
               simp to_z-of_z (subst (λ (l : ℤ). IsTrue (are_valid_spheres l c.args.spheres.now)) (sym limit.value) r.valid_spheres),
-              λ j h. lane_within g.row.L c.args.block j c.args.store.now.limit ps (subst (λ (l : ℤ). unsigned_abs l ≤ 2 ^ 29) limit.value limit.high) r.inside (place_loaded (λ p. p.at) g.row.L c.args.block j ps e.at_x e.at_y e.at_z h),
+              λ j h. lane_within g.row.L c.args.block j c.args.store.now.limit ps
+                  (subst (λ (l : ℤ). unsigned_abs l ≤ 2 ^ 29) limit.value limit.high) r.inside
+                  (place_loaded (λ p. p.at) g.row.L c.args.block j ps e.at_x e.at_y e.at_z h),
             ),
           ),
         ),
@@ -46,10 +48,11 @@ returns-then-not-any_touches-clause-outcome g c =
     let shapes = shapes_of c.args.planes.now c.args.spheres.now in
     let s : Passing = record { motion = motion_of c.args.store.now c.args.totals.now; touched = c.args.touched.now } in
     pushed_still limit c.args.planes.now c.args.spheres.now s c.requires.flags (c.args.block * g.row.L) g.row.L
-    (λ j h within. subst (IsStill limit shapes) (place_loaded (λ p. p.at) g.row.L c.args.block j ps e.at_x e.at_y e.at_z h) (c.any_touches.ensures c.if-not-any_touches.true limit j h))
+    (λ j h within. subst (IsStill limit shapes) (place_loaded (λ p. p.at) g.row.L c.args.block j ps e.at_x e.at_y e.at_z h)
+    (c.any_touches.ensures c.if-not-any_touches.true limit j h))
 
-pub push_lanes-requires : goal.push_lanes-requires
-push_lanes-requires g c =
+pub push_one_by_one-requires : goal.push_one_by_one-requires
+push_one_by_one-requires g c =
     let e = c.load-lanes.ensures in
     let ps = c.args.store.now.particles in
     let size = c.requires.lanes_high in (
@@ -74,7 +77,9 @@ returns-in-Ok-clause-outcome g c =
     let e = c.load-lanes.ensures in
     let ps = c.args.store.now.particles in
     let qs = c.save.new.self.particles in
-    c.in-Ok.ensures.outcome qs (block_saved g.row.L c.args.block (place_in c.in-Ok.places) (before_of g.row.L c.args.block ps) ps qs e.filled c.from_places-lanes.ensures (λ j h. place_loaded (λ p. p.before) g.row.L c.args.block j ps e.before_x e.before_y e.before_z h) c.save.ensures.particles)
+    c.in-Ok.ensures.outcome qs (block_saved g.row.L c.args.block (place_in c.in-Ok.places)
+    (before_of g.row.L c.args.block ps) ps qs e.filled c.from_places-lanes.ensures
+    (λ j h. place_loaded (λ p. p.before) g.row.L c.args.block j ps e.before_x e.before_y e.before_z h) c.save.ensures.particles)
 
 pub returns-in-Ok-clause-fixed : goal.returns-in-Ok-clause-fixed
 returns-in-Ok-clause-fixed g c =
@@ -82,23 +87,30 @@ returns-in-Ok-clause-fixed g c =
     let ps = c.args.store.now.particles in
     let qs = c.save.new.self.particles in
     let fixed = λ (p : Particle). record p { at = zero_vector } in
-    let saved = block_saved g.row.L c.args.block (place_in c.in-Ok.places) (before_of g.row.L c.args.block ps) ps qs e.filled c.from_places-lanes.ensures (λ j h. place_loaded (λ p. p.before) g.row.L c.args.block j ps e.before_x e.before_y e.before_z h) c.save.ensures.particles in
-    same_parts fixed qs ps saved.whole (saved_each (c.args.block * g.row.L) (filled_lanes g.row.L c.args.block ps) (place_in c.in-Ok.places) (before_of g.row.L c.args.block ps) ps (λ i p. fixed p ≡ fixed (particle_at ps i)) g.row.L qs saved (λ j h k. refl) (λ i h. refl))
+    let saved = block_saved g.row.L c.args.block (place_in c.in-Ok.places)
+    (before_of g.row.L c.args.block ps) ps qs e.filled c.from_places-lanes.ensures
+    (λ j h. place_loaded (λ p. p.before) g.row.L c.args.block j ps e.before_x e.before_y e.before_z h) c.save.ensures.particles in
+    same_parts fixed qs ps saved.whole (saved_each (c.args.block * g.row.L) (filled_lanes g.row.L c.args.block ps) (place_in c.in-Ok.places)
+    (before_of g.row.L c.args.block ps) ps (λ i p. fixed p ≡ fixed (particle_at ps i)) g.row.L qs saved (λ j h k. refl) (λ i h. refl))
 
 pub returns-in-Ok-clause-inside : goal.returns-in-Ok-clause-inside
 returns-in-Ok-clause-inside g c =
     let e = c.load-lanes.ensures in
     let ps = c.args.store.now.particles in
     let qs = c.save.new.self.particles in
-    let saved = block_saved g.row.L c.args.block (place_in c.in-Ok.places) (before_of g.row.L c.args.block ps) ps qs e.filled c.from_places-lanes.ensures (λ j h. place_loaded (λ p. p.before) g.row.L c.args.block j ps e.before_x e.before_y e.before_z h) c.save.ensures.particles in
-    let each = saved_each (c.args.block * g.row.L) (filled_lanes g.row.L c.args.block ps) (place_in c.in-Ok.places) (before_of g.row.L c.args.block ps) ps (λ i p. Within (unsigned_abs c.args.store.now.limit) p.at) g.row.L qs saved c.in-Ok.ensures.inside c.requires.inside.each in
+    let saved = block_saved g.row.L c.args.block (place_in c.in-Ok.places)
+    (before_of g.row.L c.args.block ps) ps qs e.filled c.from_places-lanes.ensures
+    (λ j h. place_loaded (λ p. p.before) g.row.L c.args.block j ps e.before_x e.before_y e.before_z h) c.save.ensures.particles in
+    let each = saved_each (c.args.block * g.row.L) (filled_lanes g.row.L c.args.block ps) (place_in c.in-Ok.places)
+    (before_of g.row.L c.args.block ps) ps (λ i p. Within (unsigned_abs c.args.store.now.limit) p.at) g.row.L qs saved
+    c.in-Ok.ensures.inside c.requires.inside.each in
     record { each = λ i h. each i (omega (arith, h, saved.whole)) }
 
 pub returns-in-Ok-clause-room : goal.returns-in-Ok-clause-room
-returns-in-Ok-clause-room g c = c.push_lanes.ensures.room
+returns-in-Ok-clause-room g c = c.push_one_by_one.ensures.room
 
 pub returns-in-Err-clause-room : goal.returns-in-Err-clause-room
-returns-in-Err-clause-room g c = c.push_lanes.ensures.room
+returns-in-Err-clause-room g c = c.push_one_by_one.ensures.room
 
 pub returns-in-Err-clause-inside : goal.returns-in-Err-clause-inside
 returns-in-Err-clause-inside g c = c.requires.inside
@@ -107,10 +119,10 @@ pub returns-then-not-any_touches-clause-inside : goal.returns-then-not-any_touch
 returns-then-not-any_touches-clause-inside g c = c.requires.inside
 
 pub returns-in-Ok-clause-flags : goal.returns-in-Ok-clause-flags
-returns-in-Ok-clause-flags g c = c.push_lanes.ensures.flags
+returns-in-Ok-clause-flags g c = c.push_one_by_one.ensures.flags
 
 pub returns-in-Err-clause-flags : goal.returns-in-Err-clause-flags
-returns-in-Err-clause-flags g c = c.push_lanes.ensures.flags
+returns-in-Err-clause-flags g c = c.push_one_by_one.ensures.flags
 
 pub returns-in-Ok-clause-limit : goal.returns-in-Ok-clause-limit
 returns-in-Ok-clause-limit g c = c.save.ensures.limit

@@ -49,7 +49,8 @@ rub_block-requires g c =
     let r = c.requires in
     let ps = c.loop-block.store.particles in
     let len : length ps ≡ length c.args.store.now.particles = same_length_by settled ps c.args.store.now.particles inv.settled in
-    let block : c.loop-block.block < blocks_of (length c.args.store.now.particles) g.row.L = omega (arith, c.blocks-block-end.ensures, c.loop-block-test.true) in (
+    let block : c.loop-block.block < blocks_of (length c.args.store.now.particles) g.row.L =
+    omega (arith, c.blocks-block-end.ensures, c.loop-block-test.true) in (
       omega arith,
       record {
         lanes_low = r.lanes_low;
@@ -58,7 +59,8 @@ rub_block-requires g c =
         valid_friction = simp to_z-of_z r.friction;
         flags = r.flags ∙ sym len;
         within = subst (λ (l : ℤ). AreWithin l ps) (sym inv.limit) inv.within;
-        room = room_at (2 ^ 125) (room_enough (c.loop-block.block * g.row.L) (length c.args.store.now.particles) (omega (arith, c.len-len.ensures.value, c.len-len.ensures.size))) (inv.room (2 ^ 120) r.room);
+        room = room_at (2 ^ 125) (room_enough (c.loop-block.block * g.row.L) (length c.args.store.now.particles)
+            (omega (arith, c.len-len.ensures.value, c.len-len.ensures.size))) (inv.room (2 ^ 120) r.room);
       },
     )
 
@@ -69,8 +71,11 @@ loop-block-preserved g c =
     let e = c.rub_block.ensures in
     let start = c.loop-block.block * g.row.L in
     let then : Passing = record { motion = motion_of c.rub_block.new.store c.rub_block.new.totals; touched = c.args.touched.now } in
-    let len : length c.loop-block.store.particles ≡ length c.args.store.now.particles = same_length_by settled c.loop-block.store.particles c.args.store.now.particles inv.settled in
-    let begins : start < length c.args.store.now.particles = block_begins c.loop-block.block (length c.args.store.now.particles) g.row.L c.requires.lanes_low (omega (arith, c.blocks-block-end.ensures, c.loop-block-test.true)) in
+    let len : length c.loop-block.store.particles ≡ length c.args.store.now.particles =
+    same_length_by settled c.loop-block.store.particles c.args.store.now.particles inv.settled in
+    let begins : start < length c.args.store.now.particles =
+    block_begins c.loop-block.block (length c.args.store.now.particles) g.row.L c.requires.lanes_low
+    (omega (arith, c.blocks-block-end.ensures, c.loop-block-test.true)) in
     let outcome = simp to_z-of_z at e.outcome in
     let rest = simp to_z-of_z at inv.rest in
     record {
@@ -79,7 +84,10 @@ loop-block-preserved g c =
       copies = e.copies ∙ inv.copies;
       settled = e.settled ∙ inv.settled;
       within = subst (λ (l : ℤ). AreWithin l c.rub_block.new.store.particles) inv.limit e.within;
-      room = λ n h. room_at _ (room_more n start _ (length c.args.store.now.particles) g.row.L begins (next_start c.loop-block.block g.row.L)) (subst (λ (m : ℕ). HaveRoom (n + min start (length c.args.store.now.particles) * 2 ^ 31 + (min (start + g.row.L) m - start) * 2 ^ 31) (ledger_of c.rub_block.new.totals)) len (e.room _ (inv.room n h)));
+      room = λ n h. room_at _ (room_more n start _ (length c.args.store.now.particles) g.row.L begins
+          (next_start c.loop-block.block g.row.L)) (subst (λ (m : ℕ).
+          HaveRoom (n + min start (length c.args.store.now.particles) * 2 ^ 31 + (min (start + g.row.L) m - start) * 2 ^ 31)
+          (ledger_of c.rub_block.new.totals)) len (e.room _ (inv.room n h)));
       cost = omega (arith, e.cost, inv.cost);
     }
 
@@ -91,7 +99,9 @@ returns g c =
     let start = c.loop-block.block * g.row.L in
     let now : Passing = record { motion = motion_of c.loop-block.store c.loop-block.totals; touched = c.args.touched.now } in
     let len : length ps ≡ length c.args.store.now.particles = same_length_by settled ps c.args.store.now.particles inv.settled in
-    let whole : length c.args.store.now.particles ≤ start = all_held c.loop-block.block (length c.args.store.now.particles) g.row.L c.requires.lanes_low (omega (arith, c.blocks-block-end.ensures, c.loop-block-test.false)) in
+    let whole : length c.args.store.now.particles ≤ start =
+    all_held c.loop-block.block (length c.args.store.now.particles) g.row.L c.requires.lanes_low
+    (omega (arith, c.blocks-block-end.ensures, c.loop-block-test.false)) in
     let rest = simp to_z-of_z at inv.rest in
     let rubs = simp to_z-of_z at c.rubs_any.ensures in
     record {
@@ -101,7 +111,8 @@ returns g c =
       settled = inv.settled;
       within = inv.within;
       room = λ n h. room_at _ (room_whole n start (length c.args.store.now.particles)) (inv.room n h);
-      cost = where_cost _ _ _ _ (sym rubs ∙ c.if-not-rubs_any.false) (omega (arith, inv.cost, c.blocks-block-end.ensures, c.loop-block.auto.block-end));
+      cost = where_cost _ _ _ _ (sym rubs ∙ c.if-not-rubs_any.false)
+          (omega (arith, inv.cost, c.blocks-block-end.ensures, c.loop-block.auto.block-end));
     }
 
 pub returns-then-not-rubs_any-clause-within : goal.returns-then-not-rubs_any-clause-within

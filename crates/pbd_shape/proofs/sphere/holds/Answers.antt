@@ -18,4 +18,6 @@ returns c =
     let a : FitsSigned w64 c.squared_length.result = record { sfits = c.squared_length.type_inv } in
     let b : FitsSigned w64 c.square.result = record { sfits = c.square.type_inv } in
     let square = simp to_z-of_z at c.square.ensures in
-    simp to_z-of_z ((λ i. int_lt ((c.squared_length.ensures ∙ ap (λ (v : Vec3). pos (squared_length v)) (c.short_axes.ensures ∙ c.minus.ensures.value)) i) (square i)) ∙ in_by_squares (squared_length (minus c.args.p c.args.sphere.centre)) c.args.sphere.radius c.requires.sphere.low)
+    simp to_z-of_z ((λ i. int_lt ((c.squared_length.ensures
+    ∙ ap (λ (v : Vec3). pos (squared_length v)) (c.short_axes.ensures ∙ c.minus.ensures.value)) i) (square i))
+    ∙ in_by_squares (squared_length (minus c.args.p c.args.sphere.centre)) c.args.sphere.radius c.requires.sphere.low)

@@ -17,4 +17,5 @@ returns c =
     let moved = simp to_z-of_z at c.scaled.ensures.value in
     let is = c.length-length.ensures.value in
     c.plus-2.ensures.value
-    ∙ onto_away c.args.sphere c.args.p c.minus-way.result c.scaled.result c.length-length.result c.minus-way.ensures.value is (size_pos c.length-length.result c.if-length-eq0.false) moved
+    ∙ onto_away c.args.sphere c.args.p c.minus-way.result c.scaled.result c.length-length.result c.minus-way.ensures.value is
+    (size_pos c.length-length.result c.if-length-eq0.false) moved

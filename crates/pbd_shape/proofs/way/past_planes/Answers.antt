@@ -17,10 +17,12 @@ loop-plane-preserved c =
     let inv = c.loop-plane.invariant in
     let rest = simp to_z-of_z at inv.rest in
     let value = simp to_z-of_z at c.past.ensures.value in
-    let told = sym (ap {A = Option Pushed} (option_map way_of) c.in-Some.is) ∙ value ∙ ap {A = Option Vec3} (past limit (way_of c.loop-plane.now)) c.in_front.ensures in
+    let told = sym (ap {A = Option Pushed} (option_map way_of) c.in-Some.is) ∙ value
+    ∙ ap {A = Option Vec3} (past limit (way_of c.loop-plane.now)) c.in_front.ensures in
     let within = c.in-Some.ensures.within in
     record {
-      rest = simp to_z-of_z (way_on limit plane_shape c.args.planes.now c.loop-plane.plane-index _ c.loop-plane-test.true (way_of c.loop-plane.now) (way_of c.in-Some.next) told ∙ rest);
+      rest = simp to_z-of_z (way_on limit plane_shape c.args.planes.now c.loop-plane.plane-index _ c.loop-plane-test.true
+          (way_of c.loop-plane.now) (way_of c.in-Some.next) told ∙ rest);
       within = within;
     }
 
@@ -30,4 +32,5 @@ returns-in_default-clause-value c =
     let limit = c.args.limit in
     let rest = simp to_z-of_z at c.loop-plane.invariant.rest in
     let value = simp to_z-of_z at c.in_default.ensures.value in
-    way_out limit plane_shape c.args.planes.now c.loop-plane.plane-index _ c.loop-plane-test.true (way_of c.loop-plane.now) (value ∙ ap {A = Option Vec3} (past limit (way_of c.loop-plane.now)) c.in_front.ensures) ∙ rest
+    way_out limit plane_shape c.args.planes.now c.loop-plane.plane-index _ c.loop-plane-test.true (way_of c.loop-plane.now)
+    (value ∙ ap {A = Option Vec3} (past limit (way_of c.loop-plane.now)) c.in_front.ensures) ∙ rest

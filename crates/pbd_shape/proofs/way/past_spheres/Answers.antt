@@ -8,7 +8,8 @@ use Rattle.pbd_shape.proofs.Ways.{sphere_at, way_on, way_out}
 use Rattle.pbd_shape.proofs.way.past_spheres.Goals as goal
 
 pub outside-requires-clause-sphere : goal.outside-requires-clause-sphere
-outside-requires-clause-sphere c = sphere_at _ c.args.spheres.now c.loop-sphere.sphere-index _ c.requires.limit c.requires.spheres c.loop-sphere-test.true
+outside-requires-clause-sphere c = sphere_at _ c.args.spheres.now c.loop-sphere.sphere-index _ c.requires.limit c.requires.spheres
+    c.loop-sphere-test.true
 
 pub loop-sphere-preserved : goal.loop-sphere-preserved
 loop-sphere-preserved c =
@@ -17,10 +18,12 @@ loop-sphere-preserved c =
     let inv = c.loop-sphere.invariant in
     let rest = simp to_z-of_z at inv.rest in
     let value = simp to_z-of_z at c.past.ensures.value in
-    let told = sym (ap {A = Option Pushed} (option_map way_of) c.in-Some.is) ∙ value ∙ ap {A = Option Vec3} (past limit (way_of c.loop-sphere.now)) c.outside.ensures in
+    let told = sym (ap {A = Option Pushed} (option_map way_of) c.in-Some.is) ∙ value
+    ∙ ap {A = Option Vec3} (past limit (way_of c.loop-sphere.now)) c.outside.ensures in
     let within = c.in-Some.ensures.within in
     record {
-      rest = simp to_z-of_z (way_on limit sphere_shape c.args.spheres.now c.loop-sphere.sphere-index _ c.loop-sphere-test.true (way_of c.loop-sphere.now) (way_of c.in-Some.next) told ∙ rest);
+      rest = simp to_z-of_z (way_on limit sphere_shape c.args.spheres.now c.loop-sphere.sphere-index _ c.loop-sphere-test.true
+          (way_of c.loop-sphere.now) (way_of c.in-Some.next) told ∙ rest);
       within = within;
     }
 
@@ -30,4 +33,5 @@ returns-in_default-clause-value c =
     let limit = c.args.limit in
     let rest = simp to_z-of_z at c.loop-sphere.invariant.rest in
     let value = simp to_z-of_z at c.in_default.ensures.value in
-    way_out limit sphere_shape c.args.spheres.now c.loop-sphere.sphere-index _ c.loop-sphere-test.true (way_of c.loop-sphere.now) (value ∙ ap {A = Option Vec3} (past limit (way_of c.loop-sphere.now)) c.outside.ensures) ∙ rest
+    way_out limit sphere_shape c.args.spheres.now c.loop-sphere.sphere-index _ c.loop-sphere-test.true (way_of c.loop-sphere.now)
+    (value ∙ ap {A = Option Vec3} (past limit (way_of c.loop-sphere.now)) c.outside.ensures) ∙ rest

@@ -13,7 +13,8 @@ returns-in_err-way-clause-value c =
     let planes = map plane_shape c.args.planes.now in
     let spheres = map sphere_shape c.args.spheres.now in
     let told = simp to_z-of_z at c.in_err-way.ensures.value in
-    ap {A = Option Pushed} (option_map way_of) c.from_residual.ensures ∙ ap (then_on (way_through limit spheres)) told ∙ sym (ways_joined limit planes spheres (record { at = c.args.at; touched = false }))
+    ap {A = Option Pushed} (option_map way_of) c.from_residual.ensures ∙ ap (then_on (way_through limit spheres)) told
+    ∙ sym (ways_joined limit planes spheres (record { at = c.args.at; touched = false }))
 
 pub returns-clause-value : goal.returns-clause-value
 returns-clause-value c =
@@ -23,4 +24,5 @@ returns-clause-value c =
     let spheres = map sphere_shape c.args.spheres.now in
     let told = simp to_z-of_z at c.in_ok-way.ensures.value in
     let value = simp to_z-of_z at c.past_spheres.ensures.value in
-    value ∙ ap (then_on (way_through limit spheres)) told ∙ sym (ways_joined limit planes spheres (record { at = c.args.at; touched = false }))
+    value ∙ ap (then_on (way_through limit spheres)) told ∙ sym
+    (ways_joined limit planes spheres (record { at = c.args.at; touched = false }))

@@ -11,5 +11,17 @@ check_ledger-requires g c =
     let store = c.args.store.now in
     let either = subst (λ (l : ℤ). IsTrue (is_limit l)) c.limit-limit.ensures.value c.limit-limit.ensures.either in
     let lim : IsLimit store.limit = record { low = limit_low store.limit either; high = limit_high store.limit either } in
-    let few : length store.particles ≤ 65536 = omega (arith, c.len-count.ensures.value, c.len-count.ensures.size) in
-    (omega arith, (c.requires.lanes, (counts_few _ _ _ (sym c.in_ok-check_counts.ensures), (c.requires.opening, passed_momentum store.limit c.args.tracks.now store.particles lim few (sym c.in_ok-check_particles.ensures.value)))))
+    let few : length store.particles ≤ 65536 = omega (arith, c.len-count.ensures.value, c.len-count.ensures.size) in (
+      omega arith,
+      (
+        c.requires.lanes,
+        (
+          counts_few _ _ _ (sym c.in_ok-check_counts.ensures),
+          (
+            c.requires.opening,
+            passed_momentum store.limit c.args.tracks.now store.particles lim few
+                (sym c.in_ok-check_particles.ensures.value),
+          ),
+        ),
+      ),
+    )

@@ -8,6 +8,15 @@ is_balanced-requires g c =
     let numbers = c.args.numbers.now in
     let few = c.requires.few in
     let bounded = totals_small _ _ _ (ledger_of numbers.totals)
-    (most_far false numbers.steps _ few c.most_unless.ensures) (most_far _ numbers.steps _ few c.most_unless-2.ensures) (most_far _ numbers.steps _ few c.most_unless-3.ensures)
-    (sym c.in_ok-check_totals.ensures) in
-    (omega arith, (c.requires.lanes, (weaker (2 ^ 46) (2 ^ 84) (sum_of numbers.opening) (omega arith) c.requires.opening, (bounded, c.requires.now))))
+    (most_far false numbers.steps _ few c.most_unless.ensures) (most_far _ numbers.steps _ few c.most_unless-2.ensures)
+    (most_far _ numbers.steps _ few c.most_unless-3.ensures)
+    (sym c.in_ok-check_totals.ensures) in (
+      omega arith,
+      (
+        c.requires.lanes,
+        (
+          weaker (2 ^ 46) (2 ^ 84) (sum_of numbers.opening) (omega arith) c.requires.opening,
+          (bounded, c.requires.now),
+        ),
+      ),
+    )

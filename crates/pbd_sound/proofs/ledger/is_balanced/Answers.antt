@@ -6,13 +6,15 @@ use Rattle.pbd_sound.proofs.ledger.is_balanced.Goals as goal
 
 pub returns-then-not-is_sum_within-clause-value : goal.returns-then-not-is_sum_within-clause-value
 returns-then-not-is_sum_within-clause-value g c =
-    unbalanced (sum_of c.args.opening.now) (ledger_of c.args.totals.now) c.args.store.now.particles c.requires.opening c.requires.totals c.requires.now (sym c.is_sum_within.ensures ∙ c.if-not-is_sum_within.true)
+    unbalanced (sum_of c.args.opening.now) (ledger_of c.args.totals.now) c.args.store.now.particles c.requires.opening c.requires.totals
+    c.requires.now (sym c.is_sum_within.ensures ∙ c.if-not-is_sum_within.true)
 
 pub balanced-requires : goal.balanced-requires
 balanced-requires g c =
     let o = sum_of c.args.opening.now in
     let t = ledger_of c.args.totals.now in
-    c.sums_with_room_fit.ensures o t (weaker (2 ^ 84) (2 ^ 120) o (omega arith) c.requires.opening) (room_for_sums t c.requires.totals (sym c.is_sum_within.ensures ∙ c.if-not-is_sum_within.false))
+    c.sums_with_room_fit.ensures o t (weaker (2 ^ 84) (2 ^ 120) o (omega arith) c.requires.opening)
+    (room_for_sums t c.requires.totals (sym c.is_sum_within.ensures ∙ c.if-not-is_sum_within.false))
 
 pub returns-clause-value : goal.returns-clause-value
 returns-clause-value g c =

@@ -6,5 +6,6 @@ use Rattle.pbd_sound.proofs.writing.write_particles.Goals as goal
 
 pub returns-clause-particles : goal.returns-clause-particles
 returns-clause-particles g c =
-    numbered_is (particle_told (g.D.Described.seen c.args.described.now)) c.args.other.now.particles c.loop-i.store.particles no_particle c.loop-i.invariant.whole
+    numbered_is (particle_told (g.D.Described.seen c.args.described.now)) c.args.other.now.particles c.loop-i.store.particles no_particle
+    c.loop-i.invariant.whole
     (λ i lt. c.loop-i.invariant.done i (omega (arith, lt, c.len-i-end.ensures.value, c.loop-i-test.false)))

@@ -7,7 +7,8 @@ use Rattle.pbd_sound.proofs.writing.write_particles.Given as goal
 abbrev pub invariant-loop-i : goal.invariant-loop-i
 invariant-loop-i g l = record {
   whole : length l.store.particles ≡ length l.other.particles;
-  done : (k : ℕ) → k < l.i → particle_at l.store.particles k ≡ particle_told (g.D.Described.seen l.described) k (particle_at l.other.particles k);
+  done : (k : ℕ) → k < l.i → particle_at l.store.particles k
+      ≡ particle_told (g.D.Described.seen l.described) k (particle_at l.other.particles k);
   limit : l.store.limit ≡ l.initial.store.limit;
   copies : l.store.copies ≡ l.initial.store.copies;
   cost : l.steps ≡ l.initial.steps + 2 * l.i;

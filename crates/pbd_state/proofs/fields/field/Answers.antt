@@ -7,7 +7,8 @@ use Rattle.pbd_state.proofs.Numbering.{is_head, is_live, is_first_totals, is_las
 use Rattle.pbd_state.proofs.fields.field.Goals as goal
 
 pub returns-then-k-lt1-clause-bytes : goal.returns-then-k-lt1-clause-bytes
-returns-then-k-lt1-clause-bytes g c = c.head.ensures ∙ sym (is_head c.args.scene.now c.args.shown.now c.args.k (omega (arith, c.if-k-lt1.true)))
+returns-then-k-lt1-clause-bytes g c = c.head.ensures ∙ sym
+    (is_head c.args.scene.now c.args.shown.now c.args.k (omega (arith, c.if-k-lt1.true)))
 
 pub returns-then-k-n-2-clause-bytes : goal.returns-then-k-n-2-clause-bytes
 returns-then-k-n-2-clause-bytes g c =

@@ -6,4 +6,5 @@ use Rattle.pbd_state.proofs.naming.feed_all.Given as goal
 
 -- how many items there are, and the items so far, were fed
 abbrev pub invariant-loop-item : goal.invariant-loop-item
-invariant-loop-item g l = Fed l.fn.hasher l.hasher (number_bytes 4 (length l.items) ++ flat_map g.T.ScenePiece.spelled (take l.item-index l.items))
+invariant-loop-item g l = Fed l.fn.hasher l.hasher (number_bytes 4 (length l.items)
+    ++ flat_map g.T.ScenePiece.spelled (take l.item-index l.items))

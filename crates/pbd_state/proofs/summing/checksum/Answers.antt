@@ -13,7 +13,8 @@ returns-clause-value g c =
     let steps = c.with_word-sum in
     let gravity = c.with_vector-sum in
     let contacts = c.with_word-sum-2 in
-    world_summed c.args.shown.now particles.result flags.result steps.result gravity.result contacts.result c.with_totals.result particles.ensures.value
+    world_summed c.args.shown.now particles.result flags.result steps.result gravity.result contacts.result c.with_totals.result
+    particles.ensures.value
     (flags.ensures ∙ ap (λ (ls : List Link). with_words particles.result (map live_word ls)) c.links.ensures.value)
     (steps.ensures ∙ ap (λ (n : ℕ). with_word flags.result n) c.step_count.ensures.value)
     (gravity.ensures ∙ ap (λ (v : Vec3). with_words steps.result (vector_words v)) c.gravity.ensures)

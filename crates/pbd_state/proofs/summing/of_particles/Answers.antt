@@ -14,7 +14,8 @@ loop-i-preserved g c =
     let added : c.with_particle-sum.result ≡ with_words c.loop-i.sum (particle_words (particle_at ps i)) =
     c.with_particle-sum.ensures ∙ ap (λ (p : Particle). with_words c.loop-i.sum (particle_words p)) c.particle.ensures.value in
     record {
-      whole = ap (λ (s : ℕ). with_words s (flat_map particle_words (drop (i + 1) ps))) added ∙ sym (particle_next ps i c.loop-i.sum lt) ∙ c.loop-i.invariant.whole;
+      whole = ap (λ (s : ℕ). with_words s (flat_map particle_words (drop (i + 1) ps))) added ∙ sym (particle_next ps i c.loop-i.sum lt)
+          ∙ c.loop-i.invariant.whole;
       cost = omega (arith, c.particle.ensures.cost, c.loop-i.invariant.cost);
     }
 

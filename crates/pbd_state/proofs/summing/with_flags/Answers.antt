@@ -7,7 +7,8 @@ pub loop-link-preserved : goal.loop-link-preserved
 loop-link-preserved c =
     let links = c.args.links.now in
     let i = c.loop-link.link-index in
-    ap (λ (s : ℕ). with_words s (map live_word (drop (i + 1) links))) c.with_flag-folded.ensures ∙ sym (flag_next links i _ c.loop-link.folded c.loop-link-test.true) ∙ c.loop-link.invariant
+    ap (λ (s : ℕ). with_words s (map live_word (drop (i + 1) links))) c.with_flag-folded.ensures
+    ∙ sym (flag_next links i _ c.loop-link.folded c.loop-link-test.true) ∙ c.loop-link.invariant
 
 pub returns : goal.returns
 returns c =

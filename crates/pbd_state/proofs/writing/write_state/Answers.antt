@@ -43,7 +43,8 @@ loop-k-preserved g c =
     let all : done ++ text ≡ fields_bytes scene w (k + 1) = ap (λ (t : List ℕ). done ++ t) piece ∙ sym (one_more scene w k) in
     record {
       at = omega (arith, c.put-at.ensures.end, c.loop-k.invariant.at, length-append done text, ap (λ (t : List ℕ). length t) all);
-      written = c.put-at.ensures.bytes ∙ put_next done text c.args.into.now c.loop-k.into at (sym c.loop-k.invariant.at) c.loop-k.invariant.written
+      written = c.put-at.ensures.bytes ∙ put_next done text c.args.into.now c.loop-k.into at
+          (sym c.loop-k.invariant.at) c.loop-k.invariant.written
           ∙ (λ i. all i ++ drop (sym c.put-at.ensures.end i) c.args.into.now);
       cost = omega (arith, c.field-piece.ensures.cost, c.loop-k.invariant.cost);
     }

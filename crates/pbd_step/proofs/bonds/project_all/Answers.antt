@@ -31,7 +31,9 @@ returns-in-Err-project_serial-clause-done g c =
     let first = c.project_colours.ensures.done in
     let second = c.project_serial.ensures.done in
     record {
-      outcome = then_part (bond_of c.args.list.now.bonds) (parallel_from pairs live 0) (batch_of pairs live 63) (motion_of c.args.store.now c.args.totals.now) (motion_of c.project_colours.new.store c.project_colours.new.totals) (both_parts pairs live) first.limit c.in_default.ensures.done.outcome c.in-Err-project_serial.ensures.done.outcome;
+      outcome = then_part (bond_of c.args.list.now.bonds) (parallel_from pairs live 0) (batch_of pairs live 63)
+          (motion_of c.args.store.now c.args.totals.now) (motion_of c.project_colours.new.store c.project_colours.new.totals)
+          (both_parts pairs live) first.limit c.in_default.ensures.done.outcome c.in-Err-project_serial.ensures.done.outcome;
       limit = second.limit ∙ first.limit;
       copies = second.copies ∙ first.copies;
       fixed = second.fixed ∙ first.fixed;
@@ -46,7 +48,9 @@ returns-clause-done g c =
     let first = c.in_default.ensures.done in
     let second = c.in_default-project_serial.ensures.done in
     record {
-      outcome = then_part (bond_of c.args.list.now.bonds) (parallel_from pairs live 0) (batch_of pairs live 63) (motion_of c.args.store.now c.args.totals.now) (motion_of c.project_colours.new.store c.project_colours.new.totals) (both_parts pairs live) first.limit first.outcome second.outcome;
+      outcome = then_part (bond_of c.args.list.now.bonds) (parallel_from pairs live 0) (batch_of pairs live 63)
+          (motion_of c.args.store.now c.args.totals.now) (motion_of c.project_colours.new.store c.project_colours.new.totals)
+          (both_parts pairs live) first.limit first.outcome second.outcome;
       limit = second.limit ∙ first.limit;
       copies = second.copies ∙ first.copies;
       fixed = second.fixed ∙ first.fixed;
@@ -62,12 +66,27 @@ returns-clause-handed g c =
 
 pub returns-in-Err-clause-cost : goal.returns-in-Err-clause-cost
 returns-in-Err-clause-cost g c =
-    omega (arith, c.project_colours.ensures.cost, bonds_are (g.P.Projector.width c.args.projector.now) c.args.list.now.colours.now.pairs c.args.list.now.colours.now.live)
+    omega (
+      arith,
+      c.project_colours.ensures.cost,
+      bonds_are
+          (g.P.Projector.width c.args.projector.now) c.args.list.now.colours.now.pairs c.args.list.now.colours.now.live,
+    )
 
 pub returns-in-Err-project_serial-clause-cost : goal.returns-in-Err-project_serial-clause-cost
 returns-in-Err-project_serial-clause-cost g c =
-    omega (arith, c.project_colours.ensures.cost, c.project_serial.ensures.cost, bonds_are (g.P.Projector.width c.args.projector.now) c.args.list.now.colours.now.pairs c.args.list.now.colours.now.live)
+    omega (
+      arith,
+      c.project_colours.ensures.cost,
+      c.project_serial.ensures.cost,
+      bonds_are (g.P.Projector.width c.args.projector.now) c.args.list.now.colours.now.pairs c.args.list.now.colours.now.live,
+    )
 
 pub returns-clause-cost : goal.returns-clause-cost
 returns-clause-cost g c =
-    omega (arith, c.project_colours.ensures.cost, c.project_serial.ensures.cost, bonds_are (g.P.Projector.width c.args.projector.now) c.args.list.now.colours.now.pairs c.args.list.now.colours.now.live)
+    omega (
+      arith,
+      c.project_colours.ensures.cost,
+      c.project_serial.ensures.cost,
+      bonds_are (g.P.Projector.width c.args.projector.now) c.args.list.now.colours.now.pairs c.args.list.now.colours.now.live,
+    )

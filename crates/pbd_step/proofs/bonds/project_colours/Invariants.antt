@@ -8,8 +8,10 @@ use Rattle.pbd_step.proofs.bonds.project_colours.Given as goal
 
 abbrev pub invariant-loop-c : goal.invariant-loop-c
 invariant-loop-c g l = record {
-  so_far : SoFar l.initial.store.limit (bond_of l.list.bonds) (parallel_from l.list.colours.now.pairs l.list.colours.now.live 0) (parallel_from l.list.colours.now.pairs l.list.colours.now.live l.c)
-      (motion_of l.initial.store l.initial.totals) (motion_of l.store l.totals) (g.P.Projector.count l.initial.projector) (g.P.Projector.count l.projector);
+  so_far : SoFar l.initial.store.limit (bond_of l.list.bonds) (parallel_from l.list.colours.now.pairs l.list.colours.now.live 0)
+      (parallel_from l.list.colours.now.pairs l.list.colours.now.live l.c)
+      (motion_of l.initial.store l.initial.totals) (motion_of l.store l.totals) (g.P.Projector.count l.initial.projector)
+      (g.P.Projector.count l.projector);
   limit : l.store.limit ≡ l.initial.store.limit;
   copies : l.store.copies ≡ l.initial.store.copies;
   width : g.P.Projector.width l.projector ≡ g.P.Projector.width l.initial.projector;

@@ -8,11 +8,14 @@ use Rattle.pbd_step.proofs.bonds.project_serial.Given as goal
 
 abbrev pub invariant-loop-n : goal.invariant-loop-n
 invariant-loop-n g l = record {
-  so_far : SoFar l.initial.store.limit (bond_of l.list.bonds) (batch_of l.list.colours.now.pairs l.list.colours.now.live 63) (drop l.n-index (batch_of l.list.colours.now.pairs l.list.colours.now.live 63))
-      (motion_of l.initial.store l.initial.totals) (motion_of l.store l.totals) (g.P.Projector.count l.initial.projector) (g.P.Projector.count l.projector);
+  so_far : SoFar l.initial.store.limit (bond_of l.list.bonds) (batch_of l.list.colours.now.pairs l.list.colours.now.live 63)
+      (drop l.n-index (batch_of l.list.colours.now.pairs l.list.colours.now.live 63))
+      (motion_of l.initial.store l.initial.totals) (motion_of l.store l.totals) (g.P.Projector.count l.initial.projector)
+      (g.P.Projector.count l.projector);
   can : (k : ℕ) → k < length l.list.colours.now.pairs → CanProjectBatch l.list.bonds (k ∷ []) l.store l.totals;
   limit : l.store.limit ≡ l.initial.store.limit;
   copies : l.store.copies ≡ l.initial.store.copies;
   width : g.P.Projector.width l.projector ≡ g.P.Projector.width l.initial.projector;
-  cost : l.steps + 4 * length (drop l.n-index (batch_of l.list.colours.now.pairs l.list.colours.now.live 63)) ≤ l.initial.steps + 4 * length (batch_of l.list.colours.now.pairs l.list.colours.now.live 63);
+  cost : l.steps + 4 * length (drop l.n-index (batch_of l.list.colours.now.pairs l.list.colours.now.live 63))
+      ≤ l.initial.steps + 4 * length (batch_of l.list.colours.now.pairs l.list.colours.now.live 63);
 }

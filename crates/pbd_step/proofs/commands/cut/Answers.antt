@@ -13,6 +13,7 @@ returns-clause-links g c =
     record {
       particles = ap (λ (s : Coloured). s.particles) c.drop_pairs.ensures ∙ c.requires.links.particles;
       pairs = ap (λ (s : Coloured). s.pairs) c.drop_pairs.ensures ∙ c.requires.links.pairs ∙ sym (cut_pairs links l c.dead.result _ is);
-      live = ap (λ (s : Coloured). s.live) c.drop_pairs.ensures ∙ ap (λ (fs : List Bool). dropped (l ∷ []) fs) c.requires.links.live ∙ cut_flags links l c.dead.result _ is;
+      live = ap (λ (s : Coloured). s.live) c.drop_pairs.ensures ∙ ap (λ (fs : List Bool). dropped (l ∷ []) fs) c.requires.links.live
+          ∙ cut_flags links l c.dead.result _ is;
       room = omega (arith, length-set links l c.dead.result, ap (λ (s : Coloured). s.room) c.drop_pairs.ensures, c.requires.links.room);
     }

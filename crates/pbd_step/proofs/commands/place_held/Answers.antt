@@ -22,7 +22,11 @@ read : (g : _) (c : After-at-p g) → c.at-p.result ≡ particle_at c.args.state
 read g c = c.at-p.ensures.value ∙ ap (λ (n : ℕ). particle_at c.args.state.now.store.particles n) c.in-Some.ensures.there.0
 
 pub returns-in_default-clause-obeys : goal.returns-in_default-clause-obeys
-returns-in_default-clause-obeys g c = record { outcome = place_missing (world_of c.args.setting.now c.args.state.now) c.args.i c.args.to c.in_default.ensures.missing; kept = refl }
+returns-in_default-clause-obeys g c = record {
+  outcome =
+      place_missing (world_of c.args.setting.now c.args.state.now) c.args.i c.args.to c.in_default.ensures.missing;
+  kept = refl;
+}
 
 pub returns-then-not-within-clause-obeys : goal.returns-then-not-within-clause-obeys
 returns-then-not-within-clause-obeys g c =
@@ -36,7 +40,10 @@ returns-then-not-p-clause-obeys g c =
     let there = c.in-Some.ensures.there in
     let within = sym (tested g (goal.at.returns-then-not-p-clause-obeys g c).After-within) ∙ c.if-not-within.false in
     let p_is = read g (goal.at.returns-then-not-p-clause-obeys g c).After-at-p in
-    record { outcome = place_free w c.args.i c.args.to there.1 within (sym (ap (λ (p : Particle). not p.held) p_is) ∙ c.if-not-p.true); kept = refl }
+    record {
+      outcome = place_free w c.args.i c.args.to there.1 within (sym (ap (λ (p : Particle). not p.held) p_is) ∙ c.if-not-p.true);
+      kept = refl;
+    }
 
 pub returns-then-is_led-clause-obeys : goal.returns-then-is_led-clause-obeys
 returns-then-is_led-clause-obeys g c =
@@ -45,7 +52,10 @@ returns-then-is_led-clause-obeys g c =
     let within = sym (tested g (goal.at.returns-then-is_led-clause-obeys g c).After-within) ∙ c.if-not-within.false in
     let p_is = read g (goal.at.returns-then-is_led-clause-obeys g c).After-at-p in
     let led = sym (c.is_led.ensures ∙ ap (λ (n : ℕ). is_tracked w.tracks n) there.0) ∙ c.if-is_led.true in
-    record { outcome = place_led w c.args.i c.args.to there.1 within (sym (ap (λ (p : Particle). not p.held) p_is) ∙ c.if-not-p.false) led; kept = refl }
+    record {
+      outcome = place_led w c.args.i c.args.to there.1 within (sym (ap (λ (p : Particle). not p.held) p_is) ∙ c.if-not-p.false) led;
+      kept = refl;
+    }
 
 pub returns-clause-obeys : goal.returns-clause-obeys
 returns-clause-obeys g c =
@@ -54,6 +64,11 @@ returns-clause-obeys g c =
     let within = sym (tested g (goal.at.returns-clause-obeys g c).After-within) ∙ c.if-not-within.false in
     let p_is = read g (goal.at.returns-clause-obeys g c).After-at-p in
     let led = sym (c.is_led.ensures ∙ ap (λ (n : ℕ). is_tracked w.tracks n) there.0) ∙ c.if-is_led.false in
-    let down : c.resting.result ≡ set_down w c.args.i c.args.to = c.resting.ensures ∙ ap (λ (p : Particle). record { at = c.args.to; before = c.args.to; weight = p.weight; held = true }) p_is in
+    let down : c.resting.result ≡ set_down w c.args.i c.args.to = c.resting.ensures
+    ∙ ap (λ (p : Particle). record { at = c.args.to; before = c.args.to; weight = p.weight; held = true }) p_is in
     let set = c.set.ensures.particles ∙ (λ k. slice_set w.particles (there.0 k) (down k)) in
-    record { outcome = place_done w c.args.i c.args.to c.set.new.self.limit c.set.new.self.particles there.1 within (sym (ap (λ (p : Particle). not p.held) p_is) ∙ c.if-not-p.false) led c.set.ensures.limit set; kept = search }
+    record {
+      outcome = place_done w c.args.i c.args.to c.set.new.self.limit c.set.new.self.particles there.1 within
+          (sym (ap (λ (p : Particle). not p.held) p_is) ∙ c.if-not-p.false) led c.set.ensures.limit set;
+      kept = search;
+    }

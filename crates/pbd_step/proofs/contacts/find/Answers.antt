@@ -12,27 +12,39 @@ detect-requires g c =
     let w = world_of c.args.setting.now c.args.run.now.state in
     let range = thickness_range w c.requires.going.under_way.well_formed in
     let f : FitsSigned w64 c.args.setting.now.thickness = search rules in
-    simp to_z-of_z (omega arith, (sym c.requires.going.space.found, (c.requires.going.links.particles ∙ sym c.requires.going.space.found, (range.0, (range.1, places_inside w c.requires.going.under_way.well_formed)))))
+    simp to_z-of_z (
+      omega arith,
+      (
+        sym c.requires.going.space.found,
+        (
+          c.requires.going.links.particles ∙ sym c.requires.going.space.found,
+          (range.0, (range.1, places_inside w c.requires.going.under_way.well_formed)),
+        ),
+      ),
+    )
 
 pub returns-in-Ok-clause-found : goal.returns-in-Ok-clause-found
 returns-in-Ok-clause-found g c =
     let f : FitsSigned w64 c.args.setting.now.thickness = search rules in
     let found = simp to_z-of_z at c.in-Ok.ensures.found in
-    let same = c.touching_pairs_are_contacts.ensures c.args.setting.now.thickness c.args.run.now.state.links.items c.args.run.now.state.store.particles c.args.run.now.colours c.requires.going.links.pairs c.requires.going.links.live in
+    let same = c.touching_pairs_are_contacts.ensures c.args.setting.now.thickness c.args.run.now.state.links.items
+    c.args.run.now.state.store.particles c.args.run.now.colours c.requires.going.links.pairs c.requires.going.links.live in
     ap (λ (f : Found). f.pairs) found ∙ same
 
 pub returns-in-Ok-clause-few : goal.returns-in-Ok-clause-few
 returns-in-Ok-clause-few g c =
     let f : FitsSigned w64 c.args.setting.now.thickness = search rules in
     let few = simp to_z-of_z at c.in-Ok.ensures.few in
-    let same = c.touching_pairs_are_contacts.ensures c.args.setting.now.thickness c.args.run.now.state.links.items c.args.run.now.state.store.particles c.args.run.now.colours c.requires.going.links.pairs c.requires.going.links.live in
+    let same = c.touching_pairs_are_contacts.ensures c.args.setting.now.thickness c.args.run.now.state.links.items
+    c.args.run.now.state.store.particles c.args.run.now.colours c.requires.going.links.pairs c.requires.going.links.live in
     subst (λ (pairs : List (ℕ × ℕ)). length pairs ≤ 262144) same few
 
 pub returns-in-Err-clause-full : goal.returns-in-Err-clause-full
 returns-in-Err-clause-full g c =
     let f : FitsSigned w64 c.args.setting.now.thickness = search rules in
     let full = simp to_z-of_z at c.in-Err.ensures.full in
-    let same = c.touching_pairs_are_contacts.ensures c.args.setting.now.thickness c.args.run.now.state.links.items c.args.run.now.state.store.particles c.args.run.now.colours c.requires.going.links.pairs c.requires.going.links.live in
+    let same = c.touching_pairs_are_contacts.ensures c.args.setting.now.thickness c.args.run.now.state.links.items
+    c.args.run.now.state.store.particles c.args.run.now.colours c.requires.going.links.pairs c.requires.going.links.live in
     (subst (λ (pairs : List (ℕ × ℕ)). 262144 < length pairs) same full, refl)
 
 pub returns-in-Ok-clause-particles : goal.returns-in-Ok-clause-particles
@@ -45,10 +57,12 @@ pub returns-in-Ok-clause-cost : goal.returns-in-Ok-clause-cost
 returns-in-Ok-clause-cost g c =
     let f : FitsSigned w64 c.args.setting.now.thickness = search rules in
     let free = simp to_z-of_z at c.detect.ensures.free in
-    looked_at (world_of c.args.setting.now c.args.run.now.state) c.args.steps.now c.detect.new.steps c.requires.going.space.found c.detect.ensures.cost free
+    looked_at (world_of c.args.setting.now c.args.run.now.state) c.args.steps.now c.detect.new.steps c.requires.going.space.found
+    c.detect.ensures.cost free
 
 pub returns-in-Err-clause-cost : goal.returns-in-Err-clause-cost
 returns-in-Err-clause-cost g c =
     let f : FitsSigned w64 c.args.setting.now.thickness = search rules in
     let free = simp to_z-of_z at c.detect.ensures.free in
-    looked_at (world_of c.args.setting.now c.args.run.now.state) c.args.steps.now c.detect.new.steps c.requires.going.space.found c.detect.ensures.cost free
+    looked_at (world_of c.args.setting.now c.args.run.now.state) c.args.steps.now c.detect.new.steps c.requires.going.space.found
+    c.detect.ensures.cost free

@@ -1,4 +1,5 @@
-use Rattle.std.proofs.Common.{arith, rules, ◌<◌, ◌≤◌, ◌+◌, ◌*◌, ◌≢◌, ◌^◌, w64, FitsSigned, pos, get_or, length, below_more, get_or-set_other, get_or-set_same, false, unsigned_abs}
+use Rattle.std.proofs.Common.{arith, rules, ◌<◌, ◌≤◌, ◌+◌, ◌*◌, ◌≢◌, ◌^◌, w64, FitsSigned, pos, get_or, length, below_more}
+use Rattle.std.proofs.Common.{get_or-set_other, get_or-set_same, false, unsigned_abs}
 use Rattle.std.proofs.lemmas.Int.{to_z-of_z}
 use Rattle.std.proofs.lemmas.List.{length-replicate}
 use Rattle.pbd_num.proofs.Sizes.{fits}
@@ -42,14 +43,16 @@ loop-j-preserved g c =
     let place = (simp to_z-of_z at c.flown_by-place.ensures.value) flies c.args.pull.damping c.args.pull.gravity before way loss gains in
     let pulled = simp to_z-of_z at c.sum-pulled.ensures.value in
     let lost = simp to_z-of_z at c.sum-lost.ensures.value in
-    let pulled_size : unsigned_abs c.sum-pulled.result ≤ (j + 1) * 2 ^ 30 = omega (arith, c.sum-pulled.ensures.size (j * 2 ^ 30) inv.pulled_size) in
+    let pulled_size : unsigned_abs c.sum-pulled.result ≤ (j + 1) * 2 ^ 30 =
+    omega (arith, c.sum-pulled.ensures.size (j * 2 ^ 30) inv.pulled_size) in
     let lost_size : unsigned_abs c.sum-lost.result ≤ (j + 1) * 2 ^ 30 = omega (arith, c.sum-lost.ensures.size (j * 2 ^ 30) inv.lost_size) in
     let fm = fits c.args.pull.limit (omega (arith, c.requires.pull.high)) in
     let now = simp to_z-of_z at c.with_reaches-reached.ensures.now in
     record {
       to = simp to_z-of_z (filled_more _ inv.to (omega arith) place);
       pulled = simp to_z-of_z (sum_more (λ k. pull_at c.args.pull.gravity (get_or c.args.flies.now k false)) j pulled inv.pulled gains);
-      lost = simp to_z-of_z (sum_more (λ k. loss_at c.args.pull.damping (get_or c.args.flies.now k false) (get_or c.args.at.now k (pos 0)) (get_or c.args.before.now k (pos 0))) j lost inv.lost loss);
+      lost = simp to_z-of_z (sum_more (λ k. loss_at c.args.pull.damping (get_or c.args.flies.now k false) (get_or c.args.at.now k (pos 0))
+          (get_or c.args.before.now k (pos 0))) j lost inv.lost loss);
       pulled_size = simp to_z-of_z pulled_size;
       lost_size = simp to_z-of_z lost_size;
       within = λ e. below_more _ _
@@ -58,10 +61,12 @@ loop-j-preserved g c =
     }
 
 pub way_if-way-requires-clause-at : goal.way_if-way-requires-clause-at
-way_if-way-requires-clause-at g c = held_size (get_or c.args.at.now c.loop-j.j (pos 0)) (2 ^ 29) (omega arith) (c.requires.at c.loop-j.j (omega arith))
+way_if-way-requires-clause-at g c = held_size (get_or c.args.at.now c.loop-j.j (pos 0)) (2 ^ 29) (omega arith)
+    (c.requires.at c.loop-j.j (omega arith))
 
 pub way_if-way-requires-clause-before : goal.way_if-way-requires-clause-before
-way_if-way-requires-clause-before g c = held_size (get_or c.args.before.now c.loop-j.j (pos 0)) (2 ^ 29) (omega arith) (c.requires.before c.loop-j.j (omega arith))
+way_if-way-requires-clause-before g c = held_size (get_or c.args.before.now c.loop-j.j (pos 0)) (2 ^ 29) (omega arith)
+    (c.requires.before c.loop-j.j (omega arith))
 
 pub loss_of-loss-requires-clause-way : goal.loss_of-loss-requires-clause-way
 loss_of-loss-requires-clause-way g c = held_size c.way_if-way.result (2 ^ 30) (omega arith) c.way_if-way.ensures.size
@@ -73,7 +78,8 @@ pub pull_if-gains-requires : goal.pull_if-gains-requires
 pull_if-gains-requires g c = held_size c.args.pull.gravity (2 ^ 29) (omega arith) c.requires.pull.gravity
 
 pub flown_by-place-requires-clause-at : goal.flown_by-place-requires-clause-at
-flown_by-place-requires-clause-at g c = held_size (get_or c.args.at.now c.loop-j.j (pos 0)) (2 ^ 29) (omega arith) (c.requires.at c.loop-j.j (omega arith))
+flown_by-place-requires-clause-at g c = held_size (get_or c.args.at.now c.loop-j.j (pos 0)) (2 ^ 29) (omega arith)
+    (c.requires.at c.loop-j.j (omega arith))
 
 pub flown_by-place-requires-clause-way : goal.flown_by-place-requires-clause-way
 flown_by-place-requires-clause-way g c = held_size c.way_if-way.result (2 ^ 30) (omega arith) c.way_if-way.ensures.size

@@ -13,5 +13,6 @@ returns c =
     let raised = simp to_z-of_z at c.raised_product-raised.ensures in
     let size : unsigned_abs p ≤ 2 ^ 40 = omega (arith, size-mul c.args.s c.args.f (2 ^ 30) 1024 c.requires.s c.requires.f) in
     let high : n ≤ 2 ^ 42 = omega (arith, ints, raised, size, size_above p) in
-    let value : to_z w64 (of_z w64 (to_z w64 ((n + (511 + n / 2199023255552)) / 1024) -ℤ pos 2147483648)) ≡ pos ((n + (511 + n / 2199023255552)) / 1024) -ℤ pos 2147483648 = omega (arith, ints, high) in
+    let value : to_z w64 (of_z w64 (to_z w64 ((n + (511 + n / 2199023255552)) / 1024) -ℤ pos 2147483648))
+    ≡ pos ((n + (511 + n / 2199023255552)) / 1024) -ℤ pos 2147483648 = omega (arith, ints, high) in
     value ∙ sym (part_of_raised p n raised size)

@@ -13,7 +13,8 @@ second : (c : After-from-2) → pos c.from-2.result ≡ c.args.f +ℤ pos 1024
 second c = omega (arith, ints, c.from-2.ensures, c.requires.f, size_above c.args.f, size_below c.args.f)
 
 size : (c : After-from-2) → c.from.result * c.from-2.result < 2 ^ 45
-size c = product_size c.from.result c.from-2.result (omega (arith, ints, first c, c.requires.s, size_above c.args.s)) (omega (arith, ints, second c, c.requires.f, size_above c.args.f))
+size c = product_size c.from.result c.from-2.result (omega (arith, ints, first c, c.requires.s, size_above c.args.s))
+    (omega (arith, ints, second c, c.requires.f, size_above c.args.f))
 
 pub overflow_cast-result : goal.overflow_cast-result
 overflow_cast-result c = fits (pos (c.from.result * c.from-2.result)) (omega (arith, size c))

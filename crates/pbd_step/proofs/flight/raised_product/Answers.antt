@@ -7,7 +7,8 @@ use Rattle.pbd_step.proofs.flight.raised_product.Goals.{After-product_of_raised}
 
 -- what is cast
 left : (c : After-product_of_raised) → Lowered c.args.s c.args.f c.product_of_raised.result
-left c = lowered c.args.s c.args.f c.product_of_raised.result c.requires.s c.requires.f c.product_of_raised.ensures.size c.product_of_raised.ensures.value
+left c = lowered c.args.s c.args.f c.product_of_raised.result c.requires.s c.requires.f c.product_of_raised.ensures.size
+    c.product_of_raised.ensures.value
 
 pub overflow_sub-result-2 : goal.overflow_sub-result-2
 overflow_sub-result-2 c = rw (left c).is (fits _ (omega (arith, (left c).high)))

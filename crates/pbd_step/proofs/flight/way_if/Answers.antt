@@ -11,4 +11,5 @@ returns-clause-size c =
     let fb = c.ranges.before in
     let k : FitsSigned w64 c.kept_if.result = record { sfits = c.kept_if.type_inv } in
     let kept = simp to_z-of_z at c.kept_if.ensures in
-    simp to_z-of_z (kept_size c.args.flies (c.args.at -ℤ c.args.before) c.kept_if.result (2 ^ 30) kept (omega (arith, size-sub c.args.at c.args.before, c.requires.at, c.requires.before)))
+    simp to_z-of_z (kept_size c.args.flies (c.args.at -ℤ c.args.before) c.kept_if.result (2 ^ 30) kept
+    (omega (arith, size-sub c.args.at c.args.before, c.requires.at, c.requires.before)))

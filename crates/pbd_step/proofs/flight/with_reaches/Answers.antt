@@ -21,4 +21,5 @@ returns-clause-now c =
     λ h.
     let high = c.reach.ensures (omega (arith, h, le_or_r so_far above, le_or_l (bit_or so_far above) below)) in
     let low = c.reach-2.ensures (omega (arith, h, le_or_r (bit_or so_far above) below)) in
-    size_le n (unsigned_abs limit) (omega (arith, ints, high, size_above limit)) (omega (arith, ints, low, size_above limit, c.requires.n, size_above n, size_below n))
+    size_le n (unsigned_abs limit) (omega (arith, ints, high, size_above limit))
+    (omega (arith, ints, low, size_above limit, c.requires.n, size_above n, size_below n))

@@ -23,22 +23,26 @@ pub open_tools-requires-clause-links : goal.open_tools-requires-clause-links
 open_tools-requires-clause-links c = omega (arith, c.len.ensures, (valid_fit c.args.parts.now c.requires).links)
 
 pub open_colours-requires-clause-few : goal.open_colours-requires-clause-few
-open_colours-requires-clause-few c = subst (λ (ls : List Link). length ls ≤ 524288) (sym c.as_slice.ensures) (valid_fit c.args.parts.now c.requires).links
+open_colours-requires-clause-few c = subst (λ (ls : List Link). length ls ≤ 524288) (sym c.as_slice.ensures)
+    (valid_fit c.args.parts.now c.requires).links
 
 pub open_colours-requires-clause-in_range : goal.open_colours-requires-clause-in_range
 open_colours-requires-clause-in_range c =
-    subst (λ (ls : List Link). InRange c.len-particles.result (link_pairs ls)) (sym c.as_slice.ensures) (subst (λ (n : ℕ). InRange n (link_pairs c.args.parts.now.links)) (sym c.len-particles.ensures) (valid_fit c.args.parts.now c.requires).in_range)
+    subst (λ (ls : List Link). InRange c.len-particles.result (link_pairs ls)) (sym c.as_slice.ensures)
+    (subst (λ (n : ℕ). InRange n (link_pairs c.args.parts.now.links)) (sym c.len-particles.ensures)
+    (valid_fit c.args.parts.now c.requires).in_range)
 
 pub open_colours-requires-clause-space : goal.open_colours-requires-clause-space
 open_colours-requires-clause-space c =
     let many = c.len.ensures ∙ sym (ap (λ (ls : List Link). length ls) c.as_slice.ensures) in
-    subst (λ (m : ℕ). HaveSpace c.len-particles.result m c.in_ok-tools.tools) many c.in_ok-tools.ensures
+    subst (λ (m : ℕ). HaveSpace c.len-particles.result m c.in_ok-scratch.scratch) many c.in_ok-scratch.ensures
 
 pub returns-in-Ok-clause-links : goal.returns-in-Ok-clause-links
 returns-in-Ok-clause-links c =
-    subst (λ (n : ℕ). HasLinks n c.args.parts.now.links c.in-Ok.colours) c.len-particles.ensures (subst (λ (ls : List Link). HasLinks c.len-particles.result ls c.in-Ok.colours) c.as_slice.ensures c.in-Ok.ensures.links)
+    subst (λ (n : ℕ). HasLinks n c.args.parts.now.links c.in-Ok.colours) c.len-particles.ensures
+    (subst (λ (ls : List Link). HasLinks c.len-particles.result ls c.in-Ok.colours) c.as_slice.ensures c.in-Ok.ensures.links)
 
 pub returns-in-Ok-clause-space : goal.returns-in-Ok-clause-space
 returns-in-Ok-clause-space c =
     let many = ap (λ (ls : List Link). length ls) c.as_slice.ensures in
-    coe 0 1 (i. HaveSpace (c.len-particles.ensures i) (many i) c.open_colours.new.tools) c.in-Ok.ensures.space
+    coe 0 1 (i. HaveSpace (c.len-particles.ensures i) (many i) c.open_colours.new.scratch) c.in-Ok.ensures.space

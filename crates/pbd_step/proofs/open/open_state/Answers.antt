@@ -10,4 +10,11 @@ pub open-requires : goal.open-requires
 open-requires g c =
     let form = valid_formed c.args.parts.now c.requires.valid in
     let f : FitsSigned w64 c.args.parts.now.limit = search rules in
-    simp to_z-of_z (omega arith, (subst (λ (ps : List Particle). length ps ≤ 65536) (sym c.as_slice.ensures) (leb-true (length c.args.parts.now.particles) 65536 (and_parts _ _ form.particles).0), form.limit))
+    simp to_z-of_z (
+      omega arith,
+      (
+        subst (λ (ps : List Particle). length ps ≤ 65536) (sym c.as_slice.ensures)
+            (leb-true (length c.args.parts.now.particles) 65536 (and_parts _ _ form.particles).0),
+        form.limit,
+      ),
+    )

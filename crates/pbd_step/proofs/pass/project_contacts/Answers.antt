@@ -1,4 +1,5 @@
-use Rattle.std.proofs.Common.{◌≡◌, ◌+◌, ◌-◌, ◌^◌, ◌≤◌, ℕ, min, length, OnOk, MatchResult, Ok, Err, FitsSigned, to_z, of_z, w64, arith, refl, sym, ap, ◌∙◌, subst}
+use Rattle.std.proofs.Common.{◌≡◌, ◌+◌, ◌-◌, ◌^◌, ◌≤◌, ℕ, min, length, OnOk, MatchResult, Ok, Err, FitsSigned, to_z, of_z, w64, arith, refl}
+use Rattle.std.proofs.Common.{sym, ap, ◌∙◌, subst}
 use Rattle.std.proofs.lemmas.Int.{to_z-of_z}
 use Rattle.pbd_world.specs.Bonds.{projected, contact_bond}
 use Rattle.pbd_world.specs.Colours.{order}
@@ -21,9 +22,12 @@ project_all-requires g c =
     let same : to_z w64 (of_z w64 c.args.thickness) ≡ c.args.thickness = to_z-of_z w64 c.args.thickness fit in
     let range : InRange n pairs = subst (λ (k : ℕ). InRange k pairs) c.requires.found c.pairs.ensures.in_range in
     let these : pairs ≡ c.colouring.result.now.pairs = c.pairs.ensures.value ∙ sym c.colouring.ensures.pairs in
-    let fits = contact_bonds limit c.args.thickness n pairs (Contacts c.pairs.result c.args.thickness) refl (λ k. refl) c.requires.limit c.requires.thickness range in
-    let bonds : AreBondsOf limit n (Contacts c.pairs.result (to_z w64 (of_z w64 c.args.thickness))) c.colouring.result.now.pairs = coe 0 1 (i. AreBondsOf limit n (Contacts c.pairs.result (sym same i)) (these i)) fits in
-    let can : CanProjectAll (2 ^ 119) (Contacts c.pairs.result (to_z w64 (of_z w64 c.args.thickness))) c.colouring.result.now.pairs c.args.run.now.state.store c.args.run.now.state.totals = record {
+    let fits = contact_bonds limit c.args.thickness n pairs (Contacts c.pairs.result c.args.thickness) refl
+    (λ k. refl) c.requires.limit c.requires.thickness range in
+    let bonds : AreBondsOf limit n (Contacts c.pairs.result (to_z w64 (of_z w64 c.args.thickness))) c.colouring.result.now.pairs =
+    coe 0 1 (i. AreBondsOf limit n (Contacts c.pairs.result (sym same i)) (these i)) fits in
+    let can : CanProjectAll (2 ^ 119) (Contacts c.pairs.result (to_z w64 (of_z w64 c.args.thickness))) c.colouring.result.now.pairs
+    c.args.run.now.state.store c.args.run.now.state.totals = record {
       fit = bonds;
       few = omega (arith, ap length these, c.pairs.ensures.few);
       movable = c.requires.movable;
@@ -47,8 +51,10 @@ returns-clause-done g c =
           (λ _. projected limit (contact_bond (same i) (value i)) (order (pairs i) (live i)) start ≡ Ok now)
           (λ left. projected limit (contact_bond (same i) (value i)) (order (pairs i) (live i)) start ≡ Err left.element))
           done.outcome;
-      stays = part_in_pass run (record run.state { store = c.project_all.new.store; totals = c.project_all.new.totals }) run.tools.touched c.project_all.new.projector refl done.limit done.copies done.fixed refl c.project_all.ensures.not_fallen c.project_all.ensures.width;
-      tools = refl;
+      stays = part_in_pass run (record run.state { store = c.project_all.new.store; totals = c.project_all.new.totals }) run.scratch.touched
+          c.project_all.new.projector refl done.limit done.copies done.fixed refl c.project_all.ensures.not_fallen
+          c.project_all.ensures.width;
+      scratch = refl;
       movable = ok_both c.project_all.result (still_movable (2 ^ 60) done.limit done.fixed) done.inside done.room;
     }
 
@@ -56,9 +62,12 @@ pub returns-clause-handed : goal.returns-clause-handed
 returns-clause-handed g c =
     let before = g.P.Projector.count c.args.run.now.projector in
     let after = g.P.Projector.count c.project_all.new.projector in
-    let same : length (order c.colouring.result.now.pairs c.colouring.result.now.live) ≡ length c.args.run.now.tools.found.pairs = (λ i. length (order (c.colouring.ensures.pairs i) (c.colouring.ensures.live i))) ∙ contacts_count c.args.run.now.tools.found.pairs in
+    let same : length (order c.colouring.result.now.pairs c.colouring.result.now.live)
+    ≡ length c.args.run.now.scratch.found.pairs = (λ i. length (order (c.colouring.ensures.pairs i) (c.colouring.ensures.live i)))
+    ∙ contacts_count c.args.run.now.scratch.found.pairs in
     subst (λ (k : ℕ). OnOk c.project_all.result (after ≡ min (before + k) (2 ^ 64 - 1))) same c.project_all.ensures.handed
 
 pub returns-clause-cost : goal.returns-clause-cost
 returns-clause-cost g c =
-    coe 0 1 (i. c.project_all.new.steps ≤ c.args.steps.now + bonds_work (g.P.Projector.width c.args.run.now.projector) (c.colouring.ensures.pairs i) (c.colouring.ensures.live i)) c.project_all.ensures.cost
+    coe 0 1 (i. c.project_all.new.steps ≤ c.args.steps.now + bonds_work (g.P.Projector.width c.args.run.now.projector)
+    (c.colouring.ensures.pairs i) (c.colouring.ensures.live i)) c.project_all.ensures.cost

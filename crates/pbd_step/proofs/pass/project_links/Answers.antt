@@ -1,4 +1,5 @@
-use Rattle.std.proofs.Common.{◌≡◌, ◌+◌, ◌-◌, ◌^◌, ◌≤◌, ℕ, min, length, List, OnOk, MatchResult, Ok, Err, IsTrue, arith, refl, sym, ap, ◌∙◌, subst}
+use Rattle.std.proofs.Common.{◌≡◌, ◌+◌, ◌-◌, ◌^◌, ◌≤◌, ℕ, min, length, List, OnOk, MatchResult, Ok, Err, IsTrue, arith, refl, sym, ap, ◌∙◌}
+use Rattle.std.proofs.Common.{subst}
 use Rattle.pbd_world.specs.declared.parts.Link.{Link}
 use Rattle.pbd_world.specs.Bonds.{projected, link_bond}
 use Rattle.pbd_world.specs.Colours.{order}
@@ -24,8 +25,11 @@ project_all-requires g c =
     let bonds : Bonds = Links c.deref.result in
     let same : links ≡ state.links.items = c.deref.ensures.value in
     let has = c.requires.links in
-    let valid : IsTrue (are_valid_links limit n links) = subst (λ (ls : List Link). IsTrue (are_valid_links limit n ls)) (sym same) c.requires.valid in
-    let fits : AreBondsOf limit n bonds c.args.run.now.colours.pairs = subst (λ (pairs : List (ℕ × ℕ)). AreBondsOf limit n bonds pairs) (ap (λ (ls : List Link). link_pairs ls) same ∙ sym has.pairs) (link_bonds limit n links bonds refl (λ k. refl) valid) in
+    let valid : IsTrue (are_valid_links limit n links) = subst (λ (ls : List Link). IsTrue (are_valid_links limit n ls))
+    (sym same) c.requires.valid in
+    let fits : AreBondsOf limit n bonds c.args.run.now.colours.pairs =
+    subst (λ (pairs : List (ℕ × ℕ)). AreBondsOf limit n bonds pairs) (ap (λ (ls : List Link). link_pairs ls) same ∙ sym has.pairs)
+    (link_bonds limit n links bonds refl (λ k. refl) valid) in
     let can : CanProjectAll (2 ^ 119) bonds c.args.run.now.colours.pairs state.store state.totals = record {
       fit = fits;
       few = omega (arith, ap length has.pairs, few_links limit n state.links.items c.requires.valid);
@@ -48,8 +52,10 @@ returns-clause-done g c =
           (λ _. projected limit (link_bond (same i)) (order (has.pairs i) (has.live i)) start ≡ Ok now)
           (λ left. projected limit (link_bond (same i)) (order (has.pairs i) (has.live i)) start ≡ Err left.element))
           done.outcome;
-      stays = part_in_pass run (record run.state { store = c.project_all.new.store; totals = c.project_all.new.totals }) run.tools.touched c.project_all.new.projector refl done.limit done.copies done.fixed refl c.project_all.ensures.not_fallen c.project_all.ensures.width;
-      tools = refl;
+      stays = part_in_pass run (record run.state { store = c.project_all.new.store; totals = c.project_all.new.totals }) run.scratch.touched
+          c.project_all.new.projector refl done.limit done.copies done.fixed refl c.project_all.ensures.not_fallen
+          c.project_all.ensures.width;
+      scratch = refl;
       movable = ok_both c.project_all.result (still_movable (2 ^ 60) done.limit done.fixed) done.inside done.room;
     }
 
@@ -60,10 +66,12 @@ returns-clause-handed g c =
     let has = c.requires.links in
     let before = g.P.Projector.count c.args.run.now.projector in
     let after = g.P.Projector.count c.project_all.new.projector in
-    let same : length (order colours.pairs colours.live) ≡ live_count links = (λ i. length (order (has.pairs i) (has.live i))) ∙ links_count links in
+    let same : length (order colours.pairs colours.live) ≡ live_count links = (λ i. length (order (has.pairs i) (has.live i)))
+    ∙ links_count links in
     subst (λ (k : ℕ). OnOk c.project_all.result (after ≡ min (before + k) (2 ^ 64 - 1))) same c.project_all.ensures.handed
 
 pub returns-clause-cost : goal.returns-clause-cost
 returns-clause-cost g c =
     let has = c.requires.links in
-    coe 0 1 (i. c.project_all.new.steps ≤ c.args.steps.now + bonds_work (g.P.Projector.width c.args.run.now.projector) (has.pairs i) (has.live i)) c.project_all.ensures.cost
+    coe 0 1 (i. c.project_all.new.steps ≤ c.args.steps.now + bonds_work (g.P.Projector.width c.args.run.now.projector) (has.pairs i)
+    (has.live i)) c.project_all.ensures.cost

@@ -12,7 +12,7 @@ use Rattle.pbd_shape.specs.Shaping.{push_cost}
 use Rattle.pbd_store.specs.Moving.{AreInside}
 use Rattle.pbd_world.proofs.Rooms.{room_at}
 use Rattle.pbd_step.specs.declared.state.State.{State}
-use Rattle.pbd_step.specs.declared.state.Tools.{Tools}
+use Rattle.pbd_step.specs.declared.state.Scratch.{Scratch}
 use Rattle.pbd_step.specs.States.{world_of, now_of, IsUnderWay}
 use Rattle.pbd_step.specs.Staying.{passing_of}
 use Rattle.pbd_step.proofs.Passes.{link_leaves, contact_leaves, shape_leaves, pass_done, contact_part_is, shape_part_is}
@@ -34,10 +34,12 @@ project_contacts-requires g c =
     let w : World = world_of c.args.setting.now c.args.run.now.state in
     let f = formed (parts_of w) going.under_way.well_formed in
     let stays = c.project_links.ensures.done.stays in
-    let limit : IsTrue (is_limit c.project_links.new.run.state.store.limit) = subst (λ (l : ℤ). IsTrue (is_limit l)) (sym stays.moved.limit) f.limit in
+    let limit : IsTrue (is_limit c.project_links.new.run.state.store.limit) =
+    subst (λ (l : ℤ). IsTrue (is_limit l)) (sym stays.moved.limit) f.limit in
     let thin = thickness_of w f in
-    let thickness : IsTrue (is_between (pos 0) (pos 1048576) (to_z w64 (of_z w64 w.thickness))) = subst (λ (t : ℤ). IsTrue (is_between (pos 0) (pos 1048576) t)) (sym (thickness_kept w.thickness thin)) thin in
-    let found = ap (λ (t : Tools). t.found.particles) c.project_links.ensures.done.tools ∙ going.space.found ∙ sym stays.moved.whole in
+    let thickness : IsTrue (is_between (pos 0) (pos 1048576) (to_z w64 (of_z w64 w.thickness))) =
+    subst (λ (t : ℤ). IsTrue (is_between (pos 0) (pos 1048576) t)) (sym (thickness_kept w.thickness thin)) thin in
+    let found = ap (λ (t : Scratch). t.found.particles) c.project_links.ensures.done.scratch ∙ going.space.found ∙ sym stays.moved.whole in
     let ready = more_movable (2 ^ 119) (omega arith) (c.in_default.ensures.done.movable (2 ^ 118) (movable (2 ^ 118) w going.under_way)) in
     (omega arith, (c.requires.lanes_low, (c.requires.lanes_high, (limit, (thickness, (found, ready))))))
 
@@ -53,53 +55,71 @@ push_out-requires g c =
     let whole : length now.particles ≡ length w.particles = second.moved.whole ∙ first.moved.whole in
     let planes : IsTrue (are_valid_planes c.as_slice.result.now) = rw c.as_slice.ensures f.planes in
     let spheres : IsTrue (are_valid_spheres now.limit c.as_slice-2.result.now) = rw (limit, c.as_slice-2.ensures) f.spheres in
-    let ready = c.in_default-project_contacts.ensures.done.movable (2 ^ 118 + 2 ^ 60) (c.in_default.ensures.done.movable (2 ^ 118) (movable (2 ^ 118) w going.under_way)) in
-    let room : HaveRoom (2 ^ 120) (ledger_of c.project_contacts.new.run.state.totals) = room_at (2 ^ 120) (omega arith) ready.room in
-    (omega arith, (c.requires.lanes_low, (c.requires.lanes_high, (planes, (spheres, (ready.inside, (second.flags ∙ first.flags ∙ going.space.touched ∙ sym whole, room)))))))
+    let ready = c.in_default-project_contacts.ensures.done.movable (2 ^ 118 + 2 ^ 60)
+    (c.in_default.ensures.done.movable (2 ^ 118) (movable (2 ^ 118) w going.under_way)) in
+    let room : HaveRoom (2 ^ 120) (ledger_of c.project_contacts.new.run.state.totals) = room_at (2 ^ 120) (omega arith) ready.room in (
+      omega arith,
+      (
+        c.requires.lanes_low,
+        (
+          c.requires.lanes_high,
+          (planes, (spheres, (ready.inside, (second.flags ∙ first.flags ∙ going.space.touched ∙ sym whole, room)))),
+        ),
+      ),
+    )
 
 -- ---- what comes out
 
 pub returns-in-Err-clause-outcome : goal.returns-in-Err-clause-outcome
 returns-in-Err-clause-outcome g c =
-    link_leaves (world_of c.args.setting.now c.args.run.now.state) c.args.run.now.tools.found.pairs (passing_of c.args.run.now) c.in-Err.left.element c.in-Err.ensures.done.outcome
+    link_leaves (world_of c.args.setting.now c.args.run.now.state) c.args.run.now.scratch.found.pairs
+    (passing_of c.args.run.now) c.in-Err.left.element c.in-Err.ensures.done.outcome
     ∙ ap (λ (r : Refusal). Err r) (sym c.leaving.ensures)
 
 pub returns-in-Err-project_contacts-clause-outcome : goal.returns-in-Err-project_contacts-clause-outcome
 returns-in-Err-project_contacts-clause-outcome g c =
     let w : World = world_of c.args.setting.now c.args.run.now.state in
     let f = formed (parts_of w) c.requires.going.under_way.well_formed in
-    let pairs = c.args.run.now.tools.found.pairs in
+    let pairs = c.args.run.now.scratch.found.pairs in
     let one = c.project_links.new.run in
     let m = now_of one.state in
     let n = c.in-Err-project_contacts.left.element in
-    let found : one.tools.found.pairs ≡ pairs = ap (λ (t : Tools). t.found.pairs) c.project_links.ensures.done.tools in
+    let found : one.scratch.found.pairs ≡ pairs = ap (λ (t : Scratch). t.found.pairs) c.project_links.ensures.done.scratch in
     contact_leaves w pairs (passing_of c.args.run.now) m c.in_default.ensures.done.outcome n
-    (contact_part_is w pairs one.tools.found.pairs one.state.store.limit (to_z w64 (of_z w64 w.thickness)) m (Err n) found c.project_links.ensures.done.stays.moved.limit (thickness_kept w.thickness (thickness_of w f)) c.in-Err-project_contacts.ensures.done.outcome)
+    (contact_part_is w pairs one.scratch.found.pairs one.state.store.limit (to_z w64 (of_z w64 w.thickness)) m
+    (Err n) found c.project_links.ensures.done.stays.moved.limit
+    (thickness_kept w.thickness (thickness_of w f)) c.in-Err-project_contacts.ensures.done.outcome)
     ∙ ap (λ (r : Refusal). Err r) (sym c.leaving-in-Err-project_contacts.ensures)
 
 pub returns-in-Err-push_out-clause-outcome : goal.returns-in-Err-push_out-clause-outcome
 returns-in-Err-push_out-clause-outcome g c =
     let w : World = world_of c.args.setting.now c.args.run.now.state in
     let f = formed (parts_of w) c.requires.going.under_way.well_formed in
-    let pairs = c.args.run.now.tools.found.pairs in
+    let pairs = c.args.run.now.scratch.found.pairs in
     let s : Passing = passing_of c.args.run.now in
     let one = c.project_links.new.run in
     let two = c.project_contacts.new.run in
     let m = now_of one.state in
     let k = now_of two.state in
     let n = c.in-Err-push_out.left.element in
-    let found : one.tools.found.pairs ≡ pairs = ap (λ (t : Tools). t.found.pairs) c.project_links.ensures.done.tools in
-    let touched : contact_part w pairs m ≡ Ok k = contact_part_is w pairs one.tools.found.pairs one.state.store.limit (to_z w64 (of_z w64 w.thickness)) m (Ok k) found c.project_links.ensures.done.stays.moved.limit (thickness_kept w.thickness (thickness_of w f)) c.in_default-project_contacts.ensures.done.outcome in
-    let limit : two.state.store.limit ≡ w.limit = c.project_contacts.ensures.done.stays.moved.limit ∙ c.project_links.ensures.done.stays.moved.limit in
-    let flags : two.tools.touched ≡ s.touched = ap (λ (t : Tools). t.touched) (c.project_contacts.ensures.done.tools ∙ c.project_links.ensures.done.tools) in
-    shape_leaves w pairs s m c.in_default.ensures.done.outcome k touched n (shape_part_is w (record s { motion = k }) two.tools.touched two.state.store.limit c.as_slice.result.now c.as_slice-2.result.now (Err n) flags limit c.as_slice.ensures c.as_slice-2.ensures c.in-Err-push_out.ensures.outcome)
+    let found : one.scratch.found.pairs ≡ pairs = ap (λ (t : Scratch). t.found.pairs) c.project_links.ensures.done.scratch in
+    let touched : contact_part w pairs m ≡ Ok k = contact_part_is w pairs one.scratch.found.pairs one.state.store.limit
+    (to_z w64 (of_z w64 w.thickness)) m (Ok k) found c.project_links.ensures.done.stays.moved.limit
+    (thickness_kept w.thickness (thickness_of w f)) c.in_default-project_contacts.ensures.done.outcome in
+    let limit : two.state.store.limit ≡ w.limit = c.project_contacts.ensures.done.stays.moved.limit
+    ∙ c.project_links.ensures.done.stays.moved.limit in
+    let flags : two.scratch.touched ≡ s.touched = ap (λ (t : Scratch). t.touched)
+    (c.project_contacts.ensures.done.scratch ∙ c.project_links.ensures.done.scratch) in
+    shape_leaves w pairs s m c.in_default.ensures.done.outcome k touched n
+    (shape_part_is w (record s { motion = k }) two.scratch.touched two.state.store.limit c.as_slice.result.now c.as_slice-2.result.now
+    (Err n) flags limit c.as_slice.ensures c.as_slice-2.ensures c.in-Err-push_out.ensures.outcome)
     ∙ ap (λ (r : Refusal). Err r) (sym c.leaving-in-Err-push_out.ensures)
 
 pub returns-clause-outcome : goal.returns-clause-outcome
 returns-clause-outcome g c =
     let w : World = world_of c.args.setting.now c.args.run.now.state in
     let f = formed (parts_of w) c.requires.going.under_way.well_formed in
-    let pairs = c.args.run.now.tools.found.pairs in
+    let pairs = c.args.run.now.scratch.found.pairs in
     let s : Passing = passing_of c.args.run.now in
     let one = c.project_links.new.run in
     let two = c.project_contacts.new.run in
@@ -107,30 +127,41 @@ returns-clause-outcome g c =
     let k = now_of two.state in
     let new : State g.row.L = record two.state { store = c.push_out.new.store; totals = c.push_out.new.totals } in
     let t : Passing = record { motion = now_of new; touched = c.push_out.new.touched } in
-    let found : one.tools.found.pairs ≡ pairs = ap (λ (t : Tools). t.found.pairs) c.project_links.ensures.done.tools in
-    let touched : contact_part w pairs m ≡ Ok k = contact_part_is w pairs one.tools.found.pairs one.state.store.limit (to_z w64 (of_z w64 w.thickness)) m (Ok k) found c.project_links.ensures.done.stays.moved.limit (thickness_kept w.thickness (thickness_of w f)) c.in_default-project_contacts.ensures.done.outcome in
-    let limit : two.state.store.limit ≡ w.limit = c.project_contacts.ensures.done.stays.moved.limit ∙ c.project_links.ensures.done.stays.moved.limit in
-    let flags : two.tools.touched ≡ s.touched = ap (λ (t : Tools). t.touched) (c.project_contacts.ensures.done.tools ∙ c.project_links.ensures.done.tools) in
-    pass_done w pairs s m c.in_default.ensures.done.outcome k touched t (shape_part_is w (record s { motion = k }) two.tools.touched two.state.store.limit c.as_slice.result.now c.as_slice-2.result.now (Ok t) flags limit c.as_slice.ensures c.as_slice-2.ensures c.in_default-push_out.ensures.outcome)
+    let found : one.scratch.found.pairs ≡ pairs = ap (λ (t : Scratch). t.found.pairs) c.project_links.ensures.done.scratch in
+    let touched : contact_part w pairs m ≡ Ok k = contact_part_is w pairs one.scratch.found.pairs one.state.store.limit
+    (to_z w64 (of_z w64 w.thickness)) m (Ok k) found c.project_links.ensures.done.stays.moved.limit
+    (thickness_kept w.thickness (thickness_of w f)) c.in_default-project_contacts.ensures.done.outcome in
+    let limit : two.state.store.limit ≡ w.limit = c.project_contacts.ensures.done.stays.moved.limit
+    ∙ c.project_links.ensures.done.stays.moved.limit in
+    let flags : two.scratch.touched ≡ s.touched = ap (λ (t : Scratch). t.touched)
+    (c.project_contacts.ensures.done.scratch ∙ c.project_links.ensures.done.scratch) in
+    pass_done w pairs s m c.in_default.ensures.done.outcome k touched t
+    (shape_part_is w (record s { motion = k }) two.scratch.touched two.state.store.limit c.as_slice.result.now c.as_slice-2.result.now
+    (Ok t) flags limit c.as_slice.ensures c.as_slice-2.ensures c.in_default-push_out.ensures.outcome)
 
 -- ---- what stays
 
 pub returns-in-Err-project_contacts-clause-stays : goal.returns-in-Err-project_contacts-clause-stays
-returns-in-Err-project_contacts-clause-stays g c = both_in_pass c.args.run.now c.project_links.new.run c.project_contacts.new.run c.project_links.ensures.done.stays c.project_contacts.ensures.done.stays
+returns-in-Err-project_contacts-clause-stays g c = both_in_pass c.args.run.now c.project_links.new.run c.project_contacts.new.run
+    c.project_links.ensures.done.stays c.project_contacts.ensures.done.stays
 
 pub returns-in-Err-push_out-clause-stays : goal.returns-in-Err-push_out-clause-stays
 returns-in-Err-push_out-clause-stays g c =
     let two = c.project_contacts.new.run in
     let state = record two.state { store = c.push_out.new.store; totals = c.push_out.new.totals } in
-    both_in_pass c.args.run.now two (record two { state = state; tools = record two.tools { touched = c.push_out.new.touched } }) (both_in_pass c.args.run.now c.project_links.new.run two c.project_links.ensures.done.stays c.project_contacts.ensures.done.stays)
-    (part_in_pass two state c.push_out.new.touched two.projector refl c.push_out.ensures.limit c.push_out.ensures.copies c.push_out.ensures.fixed c.push_out.ensures.flags (omega arith) refl)
+    both_in_pass c.args.run.now two (record two { state = state; scratch = record two.scratch { touched = c.push_out.new.touched } })
+    (both_in_pass c.args.run.now c.project_links.new.run two c.project_links.ensures.done.stays c.project_contacts.ensures.done.stays)
+    (part_in_pass two state c.push_out.new.touched two.projector refl c.push_out.ensures.limit c.push_out.ensures.copies
+    c.push_out.ensures.fixed c.push_out.ensures.flags (omega arith) refl)
 
 pub returns-clause-stays : goal.returns-clause-stays
 returns-clause-stays g c =
     let two = c.project_contacts.new.run in
     let state = record two.state { store = c.push_out.new.store; totals = c.push_out.new.totals } in
-    both_in_pass c.args.run.now two (record two { state = state; tools = record two.tools { touched = c.push_out.new.touched } }) (both_in_pass c.args.run.now c.project_links.new.run two c.project_links.ensures.done.stays c.project_contacts.ensures.done.stays)
-    (part_in_pass two state c.push_out.new.touched two.projector refl c.push_out.ensures.limit c.push_out.ensures.copies c.push_out.ensures.fixed c.push_out.ensures.flags (omega arith) refl)
+    both_in_pass c.args.run.now two (record two { state = state; scratch = record two.scratch { touched = c.push_out.new.touched } })
+    (both_in_pass c.args.run.now c.project_links.new.run two c.project_links.ensures.done.stays c.project_contacts.ensures.done.stays)
+    (part_in_pass two state c.push_out.new.touched two.projector refl c.push_out.ensures.limit c.push_out.ensures.copies
+    c.push_out.ensures.fixed c.push_out.ensures.flags (omega arith) refl)
 
 pub returns-clause-under_way : goal.returns-clause-under_way
 returns-clause-under_way g c = λ n u.
@@ -145,30 +176,51 @@ returns-clause-under_way g c = λ n u.
     let limit : two.store.limit ≡ w.limit = second.moved.limit ∙ first.moved.limit in
     let fixed = second.fixed ∙ first.fixed in
     let whole : length two.store.particles ≡ length w.particles = second.moved.whole ∙ first.moved.whole in
-    let same = ap (λ (s : State g.row.L). record s { store = new.store; totals = new.totals }) (second.moved.same ∙ ap (λ (s : State g.row.L). record s { store = two.store; totals = two.totals }) first.moved.same) in
-    let inside : AreInside w.limit now.particles = subst (λ (l : ℤ). AreInside l now.particles) limit c.in_default-push_out.ensures.inside in
+    let same = ap (λ (s : State g.row.L). record s { store = new.store; totals = new.totals })
+    (second.moved.same ∙ ap (λ (s : State g.row.L). record s { store = two.store; totals = two.totals }) first.moved.same) in
+    let inside : AreInside w.limit now.particles = subst (λ (l : ℤ). AreInside l now.particles) limit c.in_default-push_out.ensures.inside
+    in
     let ready = c.in_default-project_contacts.ensures.done.movable (n + 2 ^ 60) (c.in_default.ensures.done.movable n (movable n w u)) in
-    let room : HaveRoom (n + 2 ^ 62) (ledger_of new.totals) = room_at (n + 2 ^ 62) (omega (arith, whole, particles_few w f)) (c.in_default-push_out.ensures.room (n + 2 ^ 60 + 2 ^ 60) ready.room) in
+    let room : HaveRoom (n + 2 ^ 62) (ledger_of new.totals) =
+    room_at (n + 2 ^ 62) (omega (arith, whole, particles_few w f))
+    (c.in_default-push_out.ensures.room (n + 2 ^ 60 + 2 ^ 60) ready.room) in
     subst (λ (v : World). IsUnderWay (n + 2 ^ 62) v) (sym (moved_world c.args.setting.now old new same (c.push_out.ensures.limit ∙ limit)))
     (moved_under_way n (n + 2 ^ 62) w now.particles (ledger_of new.totals) u (c.push_out.ensures.fixed ∙ fixed) inside room)
 
 pub returns-clause-handed : goal.returns-clause-handed
 returns-clause-handed g c =
-    omega (arith, c.in_default.ensures.handed, c.in_default-project_contacts.ensures.handed, ap (λ (t : Tools). length t.found.pairs) c.project_links.ensures.done.tools)
+    omega (
+      arith,
+      c.in_default.ensures.handed,
+      c.in_default-project_contacts.ensures.handed,
+      ap (λ (t : Scratch). length t.found.pairs) c.project_links.ensures.done.scratch,
+    )
 
 -- ---- what it costs
 
 pub returns-in-Err-clause-cost : goal.returns-in-Err-clause-cost
 returns-in-Err-clause-cost g c =
-    omega (arith, c.project_links.ensures.cost, pass_is g.row.L (g.P.Projector.width c.args.run.now.projector) (world_of c.args.setting.now c.args.run.now.state) c.args.run.now.tools.found.pairs)
+    omega (
+      arith,
+      c.project_links.ensures.cost,
+      pass_is g.row.L (g.P.Projector.width c.args.run.now.projector)
+          (world_of c.args.setting.now c.args.run.now.state) c.args.run.now.scratch.found.pairs,
+    )
 
 pub returns-in-Err-project_contacts-clause-cost : goal.returns-in-Err-project_contacts-clause-cost
 returns-in-Err-project_contacts-clause-cost g c =
     let lanes = g.P.Projector.width in
     let run = c.args.run.now in
-    let contacts : contacts_work (lanes c.project_links.new.run.projector) c.project_links.new.run.tools.found.pairs ≡ contacts_work (lanes run.projector) run.tools.found.pairs =
-    λ i. contacts_work (c.project_links.ensures.done.stays.width i) (c.project_links.ensures.done.tools i).found.pairs in
-    omega (arith, c.project_links.ensures.cost, c.project_contacts.ensures.cost, contacts, pass_is g.row.L (lanes run.projector) (world_of c.args.setting.now run.state) run.tools.found.pairs)
+    let contacts : contacts_work (lanes c.project_links.new.run.projector) c.project_links.new.run.scratch.found.pairs
+    ≡ contacts_work (lanes run.projector) run.scratch.found.pairs =
+    λ i. contacts_work (c.project_links.ensures.done.stays.width i) (c.project_links.ensures.done.scratch i).found.pairs in
+    omega (
+      arith,
+      c.project_links.ensures.cost,
+      c.project_contacts.ensures.cost,
+      contacts,
+      pass_is g.row.L (lanes run.projector) (world_of c.args.setting.now run.state) run.scratch.found.pairs,
+    )
 
 pub returns-in-Err-push_out-clause-cost : goal.returns-in-Err-push_out-clause-cost
 returns-in-Err-push_out-clause-cost g c =
@@ -176,11 +228,22 @@ returns-in-Err-push_out-clause-cost g c =
     let run = c.args.run.now in
     let w : World = world_of c.args.setting.now run.state in
     let two = c.project_contacts.new.run.state.store in
-    let contacts : contacts_work (lanes c.project_links.new.run.projector) c.project_links.new.run.tools.found.pairs ≡ contacts_work (lanes run.projector) run.tools.found.pairs =
-    λ i. contacts_work (c.project_links.ensures.done.stays.width i) (c.project_links.ensures.done.tools i).found.pairs in
-    let shapes : push_cost c.as_slice.result.now c.as_slice-2.result.now (blocks_of (length two.particles) g.row.L) ≡ shapes_work g.row.L w =
-    λ i. push_cost (c.as_slice.ensures i) (c.as_slice-2.ensures i) (blocks_of ((c.project_contacts.ensures.done.stays.moved.whole ∙ c.project_links.ensures.done.stays.moved.whole) i) g.row.L) in
-    omega (arith, c.project_links.ensures.cost, c.project_contacts.ensures.cost, c.push_out.ensures.cost, contacts, shapes, pass_is g.row.L (lanes run.projector) w run.tools.found.pairs)
+    let contacts : contacts_work (lanes c.project_links.new.run.projector) c.project_links.new.run.scratch.found.pairs
+    ≡ contacts_work (lanes run.projector) run.scratch.found.pairs =
+    λ i. contacts_work (c.project_links.ensures.done.stays.width i) (c.project_links.ensures.done.scratch i).found.pairs in
+    let shapes : push_cost c.as_slice.result.now c.as_slice-2.result.now (blocks_of (length two.particles) g.row.L)
+    ≡ shapes_work g.row.L w =
+    λ i. push_cost (c.as_slice.ensures i) (c.as_slice-2.ensures i)
+    (blocks_of ((c.project_contacts.ensures.done.stays.moved.whole ∙ c.project_links.ensures.done.stays.moved.whole) i) g.row.L) in
+    omega (
+      arith,
+      c.project_links.ensures.cost,
+      c.project_contacts.ensures.cost,
+      c.push_out.ensures.cost,
+      contacts,
+      shapes,
+      pass_is g.row.L (lanes run.projector) w run.scratch.found.pairs,
+    )
 
 pub returns-clause-cost : goal.returns-clause-cost
 returns-clause-cost g c =
@@ -188,8 +251,19 @@ returns-clause-cost g c =
     let run = c.args.run.now in
     let w : World = world_of c.args.setting.now run.state in
     let two = c.project_contacts.new.run.state.store in
-    let contacts : contacts_work (lanes c.project_links.new.run.projector) c.project_links.new.run.tools.found.pairs ≡ contacts_work (lanes run.projector) run.tools.found.pairs =
-    λ i. contacts_work (c.project_links.ensures.done.stays.width i) (c.project_links.ensures.done.tools i).found.pairs in
-    let shapes : push_cost c.as_slice.result.now c.as_slice-2.result.now (blocks_of (length two.particles) g.row.L) ≡ shapes_work g.row.L w =
-    λ i. push_cost (c.as_slice.ensures i) (c.as_slice-2.ensures i) (blocks_of ((c.project_contacts.ensures.done.stays.moved.whole ∙ c.project_links.ensures.done.stays.moved.whole) i) g.row.L) in
-    omega (arith, c.project_links.ensures.cost, c.project_contacts.ensures.cost, c.push_out.ensures.cost, contacts, shapes, pass_is g.row.L (lanes run.projector) w run.tools.found.pairs)
+    let contacts : contacts_work (lanes c.project_links.new.run.projector) c.project_links.new.run.scratch.found.pairs
+    ≡ contacts_work (lanes run.projector) run.scratch.found.pairs =
+    λ i. contacts_work (c.project_links.ensures.done.stays.width i) (c.project_links.ensures.done.scratch i).found.pairs in
+    let shapes : push_cost c.as_slice.result.now c.as_slice-2.result.now (blocks_of (length two.particles) g.row.L)
+    ≡ shapes_work g.row.L w =
+    λ i. push_cost (c.as_slice.ensures i) (c.as_slice-2.ensures i)
+    (blocks_of ((c.project_contacts.ensures.done.stays.moved.whole ∙ c.project_links.ensures.done.stays.moved.whole) i) g.row.L) in
+    omega (
+      arith,
+      c.project_links.ensures.cost,
+      c.project_contacts.ensures.cost,
+      c.push_out.ensures.cost,
+      contacts,
+      shapes,
+      pass_is g.row.L (lanes run.projector) w run.scratch.found.pairs,
+    )

@@ -7,7 +7,8 @@ use Rattle.pbd_step.proofs.Predicting.{rests, flies, leaves}
 use Rattle.pbd_step.proofs.predict.advance.Goals as goal
 
 pub returns-then-held-clause-outcome : goal.returns-then-held-clause-outcome
-returns-then-held-clause-outcome c = λ i weight. rests (bare_world c.args.setting.now c.args.limit) i _ (ledger_of c.args.totals.now) c.if-held.true
+returns-then-held-clause-outcome c = λ i weight. rests (bare_world c.args.setting.now c.args.limit) i _
+    (ledger_of c.args.totals.now) c.if-held.true
 
 pub returns-then-not-within-clause-outcome : goal.returns-then-not-within-clause-outcome
 returns-then-not-within-clause-outcome c =
@@ -15,7 +16,8 @@ returns-then-not-within-clause-outcome c =
     let fl = c.ranges.limit in
     let lost = simp to_z-of_z at c.damped_away-loss.ensures.value in
     let test = simp to_z-of_z at c.within.ensures.test in
-    λ i weight. leaves (bare_world c.args.setting.now c.args.limit) i _ c.damped_away-loss.result c.flown_to-to.result c.if-held.false lost c.flown_to-to.ensures (sym test ∙ c.if-not-within.true)
+    λ i weight. leaves (bare_world c.args.setting.now c.args.limit) i _ c.damped_away-loss.result c.flown_to-to.result c.if-held.false lost
+    c.flown_to-to.ensures (sym test ∙ c.if-not-within.true)
 
 pub returns-clause-outcome : goal.returns-clause-outcome
 returns-clause-outcome c =
@@ -23,7 +25,8 @@ returns-clause-outcome c =
     let fl = c.ranges.limit in
     let lost = simp to_z-of_z at c.damped_away-loss.ensures.value in
     let test = simp to_z-of_z at c.within.ensures.test in
-    λ i weight. flies (bare_world c.args.setting.now c.args.limit) i _ c.damped_away-loss.result c.flown_to-to.result c.if-held.false lost c.flown_to-to.ensures (ledger_of c.args.totals.now) _ (sym test ∙ c.if-not-within.false) c.book.ensures.totals
+    λ i weight. flies (bare_world c.args.setting.now c.args.limit) i _ c.damped_away-loss.result c.flown_to-to.result c.if-held.false lost
+    c.flown_to-to.ensures (ledger_of c.args.totals.now) _ (sym test ∙ c.if-not-within.false) c.book.ensures.totals
 
 pub returns-clause-within : goal.returns-clause-within
 returns-clause-within c =

@@ -12,7 +12,8 @@ use Rattle.pbd_step.proofs.predict.advance_all.Given as goal
 -- what is left of the particles makes the whole
 abbrev pub invariant-loop-block : goal.invariant-loop-block
 invariant-loop-block g l = record {
-  rest : predicted_from (bare_world l.initial.setting l.initial.state.store.limit) (l.block * g.row.L) (now_of l.state) ≡ predict (unled (world_of l.initial.setting l.initial.state));
+  rest : predicted_from (bare_world l.initial.setting l.initial.state.store.limit) (l.block * g.row.L) (now_of l.state)
+      ≡ predict (unled (world_of l.initial.setting l.initial.state));
   moved : IsMoved l.initial.state l.state;
   within : AreWithin l.initial.state.store.limit l.state.store.particles;
   room : HaveRoom (2 ^ 99 + min (l.block * g.row.L) (length l.initial.state.store.particles) * 2 ^ 31) (ledger_of l.state.totals);

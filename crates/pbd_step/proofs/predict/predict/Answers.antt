@@ -40,4 +40,5 @@ returns-clause-under_way g c =
       particles = c.place.new.store.particles;
       totals = (now_of c.advance_all.new.state).totals;
     })
-    (predicted_goes (2 ^ 100) w (record (now_of c.advance_all.new.state) { particles = c.place.new.store.particles }) c.requires.sound (returns-clause-outcome g c) done.room)
+    (predicted_goes (2 ^ 100) w (record (now_of c.advance_all.new.state) { particles = c.place.new.store.particles }) c.requires.sound
+    (returns-clause-outcome g c) done.room)

@@ -24,15 +24,34 @@ pub rub-requires : goal.rub-requires
 rub-requires g c =
     let w = world_of c.args.setting.now c.args.run.now.state in
     let whole = c.requires.going.under_way.well_formed in
-    let small = fits c.args.setting.now.friction (omega (arith, (numbers_of w (formed (parts_of w) whole)).friction_high)) in
-    (omega arith, (c.requires.lanes_low, (c.requires.lanes_high, (simp to_z-of_z (formed_friction w whole), (c.requires.going.space.touched, (formed_within w whole, room_at (2 ^ 120) (omega arith) c.requires.going.under_way.room))))))
+    let small = fits c.args.setting.now.friction (omega (arith, (numbers_of w (formed (parts_of w) whole)).friction_high)) in (
+      omega arith,
+      (
+        c.requires.lanes_low,
+        (
+          c.requires.lanes_high,
+          (
+            simp to_z-of_z (formed_friction w whole),
+            (
+              c.requires.going.space.touched,
+              (formed_within w whole, room_at (2 ^ 120) (omega arith) c.requires.going.under_way.room),
+            ),
+          ),
+        ),
+      ),
+    )
 
 pub torn-requires : goal.torn-requires
 torn-requires g c =
     let w = world_of c.args.setting.now c.args.run.now.state in
     let many = still_many c.rub.new.store.particles c.args.run.now.state.store.particles c.rub.ensures.settled in
-    let links = (formed (parts_of w) c.requires.going.under_way.well_formed).links in
-    (omega arith, (rw (c.deref.ensures.value, c.rub.ensures.limit, many) links, (rw c.rub.ensures.limit (record { each = c.rub.ensures.within.at }), rw c.deref.ensures.value c.requires.going.space.numbers)))
+    let links = (formed (parts_of w) c.requires.going.under_way.well_formed).links in (
+      omega arith,
+      (
+        rw (c.deref.ensures.value, c.rub.ensures.limit, many) links,
+        (rw c.rub.ensures.limit (record { each = c.rub.ensures.within.at }), rw c.deref.ensures.value c.requires.going.space.numbers),
+      ),
+    )
 
 pub tear-requires-clause-within : goal.tear-requires-clause-within
 tear-requires-clause-within g c =
@@ -41,13 +60,15 @@ tear-requires-clause-within g c =
     (subst (λ (ns : List ℕ). AscendTo (length links) ns) (sym c.as_slice.ensures) all).within
 
 pub tear-requires-clause-increasing : goal.tear-requires-clause-increasing
-tear-requires-clause-increasing g c = subst (λ (ns : List ℕ). IsStrictlyIncreasing ns) (sym c.as_slice.ensures) c.torn.ensures.ascending.rising
+tear-requires-clause-increasing g c = subst (λ (ns : List ℕ). IsStrictlyIncreasing ns)
+    (sym c.as_slice.ensures) c.torn.ensures.ascending.rising
 
 pub tear-requires-clause-live : goal.tear-requires-clause-live
 tear-requires-clause-live g c =
     let ps = c.rub.new.store.particles in
     let links = c.args.run.now.state.links.items in
-    let numbers : c.as_slice.result.now ≡ torn_numbers ps links = c.as_slice.ensures ∙ ap (λ (o : Roomed ℕ). o.entries) c.torn.ensures.numbers ∙ ap (torn_numbers ps) c.deref.ensures.value in
+    let numbers : c.as_slice.result.now ≡ torn_numbers ps links = c.as_slice.ensures
+    ∙ ap (λ (o : Roomed ℕ). o.entries) c.torn.ensures.numbers ∙ ap (torn_numbers ps) c.deref.ensures.value in
     rw (numbers, c.requires.going.links.live) (λ k lt. torn_live ps links k (torn_ascend ps links) lt)
 
 pub returns-clause-world : goal.returns-clause-world
@@ -56,9 +77,13 @@ returns-clause-world g c =
     let ps = c.rub.new.store.particles in
     let links = c.args.run.now.state.links.items in
     let after = c.tear.new.links.items in
-    let small = fits c.args.setting.now.friction (omega (arith, (numbers_of w (formed (parts_of w) c.requires.going.under_way.well_formed)).friction_high)) in
+    let small = fits c.args.setting.now.friction (omega (
+      arith,
+      (numbers_of w (formed (parts_of w) c.requires.going.under_way.well_formed)).friction_high,
+    )) in
     let motion = simp to_z-of_z at c.rub.ensures.outcome in
-    let numbers : c.as_slice.result.now ≡ torn_numbers ps links = c.as_slice.ensures ∙ ap (λ (o : Roomed ℕ). o.entries) c.torn.ensures.numbers ∙ ap (torn_numbers ps) c.deref.ensures.value in
+    let numbers : c.as_slice.result.now ≡ torn_numbers ps links = c.as_slice.ensures
+    ∙ ap (λ (o : Roomed ℕ). o.entries) c.torn.ensures.numbers ∙ ap (torn_numbers ps) c.deref.ensures.value in
     let tears = let_go_tears ps links after (subst (λ (ns : List ℕ). LetGo ns links after) numbers c.tear.ensures.links) in
     let torn = tears ∙ (λ k. tear (motion k).particles links) in
     λ k. record (world_of c.args.setting.now c.args.run.now.state) {
@@ -75,17 +100,24 @@ returns-clause-links g c =
     let ps = c.rub.new.store.particles in
     let links = c.args.run.now.state.links.items in
     let after = c.tear.new.links.items in
-    let numbers : c.as_slice.result.now ≡ torn_numbers ps links = c.as_slice.ensures ∙ ap (λ (o : Roomed ℕ). o.entries) c.torn.ensures.numbers ∙ ap (torn_numbers ps) c.deref.ensures.value in
+    let numbers : c.as_slice.result.now ≡ torn_numbers ps links = c.as_slice.ensures
+    ∙ ap (λ (o : Roomed ℕ). o.entries) c.torn.ensures.numbers ∙ ap (torn_numbers ps) c.deref.ensures.value in
     let tears = let_go_tears ps links after (subst (λ (ns : List ℕ). LetGo ns links after) numbers c.tear.ensures.links) in
-    let coloured = c.tear.ensures.colours ∙ ap (λ (ns : List ℕ). record c.args.run.now.colours { live = dropped ns c.args.run.now.colours.live }) numbers in
-    torn_coloured (length c.args.run.now.state.store.particles) ps links after c.args.run.now.colours c.tear.new.colours c.requires.going.links tears coloured
+    let coloured = c.tear.ensures.colours ∙ ap (λ (ns : List ℕ).
+    record c.args.run.now.colours { live = dropped ns c.args.run.now.colours.live }) numbers in
+    torn_coloured (length c.args.run.now.state.store.particles) ps links after c.args.run.now.colours c.tear.new.colours
+    c.requires.going.links tears coloured
 
 pub returns-clause-stays : goal.returns-clause-stays
 returns-clause-stays g c =
-    let room : c.torn.new.out.room ≡ c.args.run.now.tools.numbers.room = ap (λ (o : Roomed ℕ). o.room) c.torn.ensures.numbers in
+    let room : c.torn.new.out.room ≡ c.args.run.now.scratch.numbers.room = ap (λ (o : Roomed ℕ). o.room) c.torn.ensures.numbers in
     let live = ap (λ (k : Coloured). k.live) c.tear.ensures.colours in
     record {
-      alike = record { particles = still_many c.rub.new.store.particles c.args.run.now.state.store.particles c.rub.ensures.settled; limit = c.rub.ensures.limit; links = c.tear.ensures.links.whole };
+      alike = record {
+        particles = still_many c.rub.new.store.particles c.args.run.now.state.store.particles c.rub.ensures.settled;
+        limit = c.rub.ensures.limit;
+        links = c.tear.ensures.links.whole;
+      };
       copies = c.rub.ensures.copies;
       pairs = c.tear.ensures.colours ∙ (λ k. record c.args.run.now.colours { live = sym live k });
       space = λ n m h. record { found = h.found; touched = h.touched; pairs = h.pairs; numbers = omega (arith, room, h.numbers) };
@@ -96,7 +128,18 @@ returns-clause-stays g c =
 pub returns-clause-cost : goal.returns-clause-cost
 returns-clause-cost g c =
     let w = world_of c.args.setting.now c.args.run.now.state in
-    let small = fits c.args.setting.now.friction (omega (arith, (numbers_of w (formed (parts_of w) c.requires.going.under_way.well_formed)).friction_high)) in
+    let small = fits c.args.setting.now.friction (omega (
+      arith,
+      (numbers_of w (formed (parts_of w) c.requires.going.under_way.well_formed)).friction_high,
+    )) in
     let rubbed = simp to_z-of_z at c.rub.ensures.cost in
-    let links : tearable_count c.deref.result.now ≡ tearable_count w.links = ap (λ (ls : List Link). tearable_count ls) c.deref.ensures.value in
-    omega (arith, rubbed, c.torn.ensures.cost, links, rubs_less w.friction c.args.run.now.tools.touched (blocks_in g.row.L w), settling_is g.row.L w)
+    let links : tearable_count c.deref.result.now ≡ tearable_count w.links =
+    ap (λ (ls : List Link). tearable_count ls) c.deref.ensures.value in
+    omega (
+      arith,
+      rubbed,
+      c.torn.ensures.cost,
+      links,
+      rubs_less w.friction c.args.run.now.scratch.touched (blocks_in g.row.L w),
+      settling_is g.row.L w,
+    )

@@ -15,7 +15,8 @@ restore-requires g c =
     let run = c.args.run.now in
     let state = run.state in
     let stays = c.take_steps.ensures.stays in
-    let fit = taken_fit kept.store.particles state.store.particles kept.links.items state.links.items c.take_over.ensures.particles c.take_over.ensures.links (formed_fit (world_of c.args.setting.now state) c.requires.kept.sound.well_formed) in
+    let fit = taken_fit kept.store.particles state.store.particles kept.links.items state.links.items c.take_over.ensures.particles
+    c.take_over.ensures.links (formed_fit (world_of c.args.setting.now state) c.requires.kept.sound.well_formed) in
     let taken : AreAlike state kept = record {
       particles = ap (λ (ps : List Particle). length ps) (sym c.take_over.ensures.particles);
       limit = sym c.take_over.ensures.limit;
@@ -23,9 +24,12 @@ restore-requires g c =
     } in
     let alike : AreAlike c.take_steps.new.run.state kept = alike_join c.take_steps.new.run.state state kept stays.alike taken in
     let colours = ap (λ (k : Coloured). k.particles) stays.pairs ∙ c.requires.kept.links.particles ∙ taken.particles in
-    let pairs = ap (λ (k : Coloured). k.pairs) stays.pairs ∙ c.requires.kept.links.pairs ∙ ap (λ (ls : List Link). link_pairs ls) (sym c.take_over.ensures.links) in
-    let room : length kept.links.items ≤ c.take_steps.new.run.colours.room = omega (arith, ap (λ (k : Coloured). k.room) stays.pairs, c.requires.kept.links.room, taken.links) in
-    let space = coe 0 1 (i. HaveSpace (taken.particles i) (taken.links i) c.take_steps.new.run.tools) (stays.space (length state.store.particles) (length state.links.items) c.requires.kept.space) in
+    let pairs = ap (λ (k : Coloured). k.pairs) stays.pairs ∙ c.requires.kept.links.pairs
+    ∙ ap (λ (ls : List Link). link_pairs ls) (sym c.take_over.ensures.links) in
+    let room : length kept.links.items ≤ c.take_steps.new.run.colours.room =
+    omega (arith, ap (λ (k : Coloured). k.room) stays.pairs, c.requires.kept.links.room, taken.links) in
+    let space = coe 0 1 (i. HaveSpace (taken.particles i) (taken.links i) c.take_steps.new.run.scratch)
+    (stays.space (length state.store.particles) (length state.links.items) c.requires.kept.space) in
     (omega arith, (c.requires.lanes_high, (alike, (fit.links, (fit.in_range, (colours, (pairs, (room, space))))))))
 
 pub returns-in-Err-clause-obeys : goal.returns-in-Err-clause-obeys
@@ -38,13 +42,16 @@ returns-in-Err-clause-kept g c =
     let kept = c.take_over.new.state in
     let state = c.args.run.now.state in
     let setting = c.args.setting.now in
-    let same : world_of setting c.restore.new.state ≡ world_of setting state = c.restore.ensures.world setting ∙ c.take_over.ensures.world setting in
+    let same : world_of setting c.restore.new.state ≡ world_of setting state = c.restore.ensures.world setting
+    ∙ c.take_over.ensures.world setting in
     let many = ap (λ (ps : List Particle). length ps) c.take_over.ensures.particles in
     let links = ap (λ (ls : List Link). length ls) c.take_over.ensures.links in
-    kept_moved setting state c.restore.new.state kept c.restore.new.colours c.restore.new.tools (subst (λ (w : World). IsSound w) (sym same) c.requires.kept.sound)
+    kept_moved setting state c.restore.new.state kept c.restore.new.colours c.restore.new.scratch
+    (subst (λ (w : World). IsSound w) (sym same) c.requires.kept.sound)
     (same_alike state c.restore.new.state setting (sym same)) (same_alike kept state setting (c.take_over.ensures.world setting))
-    (subst (λ (ls : List Link). HasLinks (length state.store.particles) ls c.restore.new.colours) (sym c.restore.ensures.same_links) (subst (λ (n : ℕ). HasLinks n kept.links.items c.restore.new.colours) many c.restore.ensures.links))
-    (coe 0 1 (i. HaveSpace (many i) (links i) c.restore.new.tools) c.restore.ensures.space)
+    (subst (λ (ls : List Link). HasLinks (length state.store.particles) ls c.restore.new.colours) (sym c.restore.ensures.same_links)
+    (subst (λ (n : ℕ). HasLinks n kept.links.items c.restore.new.colours) many c.restore.ensures.links))
+    (coe 0 1 (i. HaveSpace (many i) (links i) c.restore.new.scratch) c.restore.ensures.space)
 
 pub returns-clause-kept : goal.returns-clause-kept
 returns-clause-kept g c =
@@ -53,7 +60,13 @@ returns-clause-kept g c =
       sound = ready.sound;
       links = ready.links;
       space = ready.space;
-      alike = alike_join c.take_over.new.state c.args.run.now.state c.take_steps.new.run.state (same_alike c.take_over.new.state c.args.run.now.state c.args.setting.now (c.take_over.ensures.world c.args.setting.now)) (record { particles = sym c.take_steps.ensures.stays.alike.particles; limit = sym c.take_steps.ensures.stays.alike.limit; links = sym c.take_steps.ensures.stays.alike.links });
+      alike = alike_join c.take_over.new.state c.args.run.now.state c.take_steps.new.run.state
+          (same_alike c.take_over.new.state c.args.run.now.state c.args.setting.now (c.take_over.ensures.world c.args.setting.now))
+          (record {
+            particles = sym c.take_steps.ensures.stays.alike.particles;
+            limit = sym c.take_steps.ensures.stays.alike.limit;
+            links = sym c.take_steps.ensures.stays.alike.links;
+          });
     }
 
 pub returns-in-Err-clause-not_fallen : goal.returns-in-Err-clause-not_fallen

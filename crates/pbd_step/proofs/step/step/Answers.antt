@@ -16,16 +16,35 @@ use Rattle.pbd_step.proofs.Costing.{finding_same, finishing_same, found_begun}
 use Rattle.pbd_step.proofs.step.step.Goals as goal
 
 pub find-requires : goal.find-requires
-find-requires g c =
-    (omega arith, (c.requires.lanes_low, (c.requires.lanes_high, begun_goes _ c.args.setting.now c.args.run.now c.begin.new.state c.requires.ready c.requires.count c.begin.ensures.moved (more_under_way _ (omega arith) c.in_default.ensures.under_way))))
+find-requires g c = (
+  omega arith,
+  (
+    c.requires.lanes_low,
+    (
+      c.requires.lanes_high,
+      begun_goes _ c.args.setting.now c.args.run.now c.begin.new.state c.requires.ready c.requires.count c.begin.ensures.moved
+          (more_under_way _ (omega arith) c.in_default.ensures.under_way),
+    ),
+  ),
+)
 
 pub finish-requires : goal.finish-requires
 finish-requires g c =
     let start : Running g.row.L g.row.P.Denot = record c.args.run.now { state = c.begin.new.state } in
-    let going = begun_goes _ c.args.setting.now c.args.run.now c.begin.new.state c.requires.ready c.requires.count c.begin.ensures.moved c.in_default.ensures.under_way in
-    let found = c.find.new.run.tools.found in
-    let goes = tools_go c.args.setting.now start (record start.tools { found = found }) (refound start.tools found c.find.ensures.particles) going in
-    (omega arith, (c.requires.lanes_low, (c.requires.lanes_high, subst (λ (r : Running g.row.L g.row.P.Denot). IsGoing (2 ^ 100) c.args.setting.now r) (sym c.find.ensures.stays) goes)))
+    let going = begun_goes _ c.args.setting.now c.args.run.now c.begin.new.state c.requires.ready c.requires.count c.begin.ensures.moved
+    c.in_default.ensures.under_way in
+    let found = c.find.new.run.scratch.found in
+    let goes = tools_go c.args.setting.now start (record start.scratch { found = found })
+    (refound start.scratch found c.find.ensures.particles) going in (
+      omega arith,
+      (
+        c.requires.lanes_low,
+        (
+          c.requires.lanes_high,
+          subst (λ (r : Running g.row.L g.row.P.Denot). IsGoing (2 ^ 100) c.args.setting.now r) (sym c.find.ensures.stays) goes,
+        ),
+      ),
+    )
 
 pub returns-in-Err-clause-outcome : goal.returns-in-Err-clause-outcome
 returns-in-Err-clause-outcome g c = step_leaves (world_of c.args.setting.now c.args.run.now.state) c.in-Err.refusal c.in-Err.ensures.outcome
@@ -34,7 +53,8 @@ pub returns-in-Err-find-clause-outcome : goal.returns-in-Err-find-clause-outcome
 returns-in-Err-find-clause-outcome g c =
     let then = c.begin.new.state in
     let same = c.begin.ensures.moved.same in
-    step_crowds (world_of c.args.setting.now c.args.run.now.state) (now_of then) then.links.items c.in-Err-find.refusal then.steps c.in_default.ensures.outcome
+    step_crowds (world_of c.args.setting.now c.args.run.now.state)
+    (now_of then) then.links.items c.in-Err-find.refusal then.steps c.in_default.ensures.outcome
     (ap (λ (s : State g.row.L). s.links.items) same) (ap (λ (s : State g.row.L). s.steps) same) c.in-Err-find.ensures.full
 
 pub returns-clause-outcome : goal.returns-clause-outcome
@@ -43,9 +63,10 @@ returns-clause-outcome g c =
     let w = world_of setting c.args.run.now.state in
     let then = c.begin.new.state in
     let moved = c.begin.ensures.moved in
-    let pairs = c.find.new.run.tools.found.pairs in
+    let pairs = c.find.new.run.scratch.found.pairs in
     let begun : c.find.new.run.state ≡ then = ap (λ (r : Running g.row.L g.row.P.Denot). r.state) c.find.ensures.stays in
-    answers_so c.finish.result (step w) (world_of setting c.finish.new.run.state) (finished (world_of setting c.find.new.run.state) pairs (now_of c.find.new.run.state))
+    answers_so c.finish.result (step w) (world_of setting c.finish.new.run.state)
+    (finished (world_of setting c.find.new.run.state) pairs (now_of c.find.new.run.state))
     (step_finishes w (world_of setting then) (now_of then) then.links.items pairs c.in_default.ensures.outcome
     (ap (λ (s : State g.row.L). s.links.items) moved.same) c.in_default-find.ensures.few c.in_default-find.ensures.found
     (moved_world setting c.args.run.now.state then moved.same moved.limit)
@@ -59,23 +80,28 @@ pub returns-in-Err-find-clause-stays : goal.returns-in-Err-find-clause-stays
 returns-in-Err-find-clause-stays g c =
     let run = c.args.run.now in
     let start : Running g.row.L g.row.P.Denot = record run { state = c.begin.new.state } in
-    let found = c.find.new.run.tools.found in
+    let found = c.find.new.run.scratch.found in
     subst (λ (r : Running g.row.L g.row.P.Denot). StaysInStep g.P.Projector.count g.P.Projector.width run r) (sym c.find.ensures.stays)
-    (both_in_step run start (record start { tools = record start.tools { found = found } }) (move_in_step run start.state c.begin.ensures.moved) (tools_in_step start (record start.tools { found = found }) (refound start.tools found c.find.ensures.particles)))
+    (both_in_step run start (record start { scratch = record start.scratch { found = found } })
+    (move_in_step run start.state c.begin.ensures.moved)
+    (tools_in_step start (record start.scratch { found = found }) (refound start.scratch found c.find.ensures.particles)))
 
 pub returns-clause-stays : goal.returns-clause-stays
 returns-clause-stays g c =
     let run = c.args.run.now in
     let start : Running g.row.L g.row.P.Denot = record run { state = c.begin.new.state } in
-    let found = c.find.new.run.tools.found in
+    let found = c.find.new.run.scratch.found in
     both_in_step run c.find.new.run c.finish.new.run
     (subst (λ (r : Running g.row.L g.row.P.Denot). StaysInStep g.P.Projector.count g.P.Projector.width run r) (sym c.find.ensures.stays)
-    (both_in_step run start (record start { tools = record start.tools { found = found } }) (move_in_step run start.state c.begin.ensures.moved) (tools_in_step start (record start.tools { found = found }) (refound start.tools found c.find.ensures.particles))))
+    (both_in_step run start (record start { scratch = record start.scratch { found = found } })
+    (move_in_step run start.state c.begin.ensures.moved)
+    (tools_in_step start (record start.scratch { found = found }) (refound start.scratch found c.find.ensures.particles))))
     c.finish.ensures.stays
 
 pub returns-clause-links : goal.returns-clause-links
 returns-clause-links g c =
-    let whole = ap (λ (r : Running g.row.L g.row.P.Denot). length r.state.store.particles) c.find.ensures.stays ∙ c.begin.ensures.moved.whole in
+    let whole = ap (λ (r : Running g.row.L g.row.P.Denot). length r.state.store.particles) c.find.ensures.stays
+    ∙ c.begin.ensures.moved.whole in
     let now = c.finish.new.run in
     subst (λ (n : ℕ). OnOk c.finish.result (HasLinks n now.state.links.items now.colours)) whole c.finish.ensures.links
 
@@ -84,8 +110,11 @@ returns-clause-handed g c =
     let count = g.P.Projector.count in
     let run = c.args.run.now in
     let given = ap (λ (r : Running g.row.L g.row.P.Denot). count r.projector) c.find.ensures.stays in
-    let links = ap (λ (r : Running g.row.L g.row.P.Denot). live_count r.state.links.items) c.find.ensures.stays ∙ ap (λ (s : State g.row.L). live_count s.links.items) c.begin.ensures.moved.same in
-    ok_both c.finish.result (λ (contacts : c.finish.new.run.state.contacts ≡ length c.find.new.run.tools.found.pairs) (handed : count c.finish.new.run.projector ≡ min (count c.find.new.run.projector + c.args.setting.now.passes * (live_count c.find.new.run.state.links.items + length c.find.new.run.tools.found.pairs)) (2 ^ 64 - 1)).
+    let links = ap (λ (r : Running g.row.L g.row.P.Denot). live_count r.state.links.items) c.find.ensures.stays
+    ∙ ap (λ (s : State g.row.L). live_count s.links.items) c.begin.ensures.moved.same in
+    ok_both c.finish.result (λ (contacts : c.finish.new.run.state.contacts ≡ length c.find.new.run.scratch.found.pairs)
+    (handed : count c.finish.new.run.projector ≡ min (count c.find.new.run.projector + c.args.setting.now.passes
+    * (live_count c.find.new.run.state.links.items + length c.find.new.run.scratch.found.pairs)) (2 ^ 64 - 1)).
     handed ∙ (λ i. min (given i + c.args.setting.now.passes * (links i + sym contacts i)) (2 ^ 64 - 1)))
     c.finish.ensures.contacts c.finish.ensures.handed
 
@@ -100,8 +129,15 @@ returns-in-Err-find-clause-cost g c =
     let w = world_of setting c.args.run.now.state in
     let then = c.begin.new.state in
     let moved = c.begin.ensures.moved in
-    let found = finding_same g.row.L w (world_of setting then) then.store.particles (ledger_of then.totals) (moved_world setting c.args.run.now.state then moved.same moved.limit) moved.whole in
-    omega (arith, c.begin.ensures.cost, c.find.ensures.cost, found, step_is g.row.L (g.P.Projector.width c.args.run.now.projector) w (found_in w))
+    let found = finding_same g.row.L w (world_of setting then) then.store.particles (ledger_of then.totals)
+    (moved_world setting c.args.run.now.state then moved.same moved.limit) moved.whole in
+    omega (
+      arith,
+      c.begin.ensures.cost,
+      c.find.ensures.cost,
+      found,
+      step_is g.row.L (g.P.Projector.width c.args.run.now.projector) w (found_in w),
+    )
 
 pub returns-clause-cost : goal.returns-clause-cost
 returns-clause-cost g c =
@@ -113,11 +149,21 @@ returns-clause-cost g c =
     let moved = c.begin.ensures.moved in
     let goes = moved_world setting run.state then moved.same moved.limit in
     let begun : c.find.new.run.state ≡ then = ap (λ (r : Running g.row.L g.row.P.Denot). r.state) c.find.ensures.stays in
-    let width : lanes c.find.new.run.projector ≡ lanes run.projector = ap (λ (r : Running g.row.L g.row.P.Denot). lanes r.projector) c.find.ensures.stays in
+    let width : lanes c.find.new.run.projector ≡ lanes run.projector =
+    ap (λ (r : Running g.row.L g.row.P.Denot). lanes r.projector) c.find.ensures.stays in
     let links : then.links.items ≡ w.links = ap (λ (s : State g.row.L). s.links.items) moved.same in
     let same = found_begun w (now_of then) then.links.items c.in_default.ensures.outcome links in
-    let pairs : c.find.new.run.tools.found.pairs ≡ found_in w = c.in_default-find.ensures.found ∙ sym same in
+    let pairs : c.find.new.run.scratch.found.pairs ≡ found_in w = c.in_default-find.ensures.found ∙ sym same in
     let few : length (found_in w) ≤ 262144 = omega (arith, c.in_default-find.ensures.few, ap (λ (ps : List (ℕ × ℕ)). length ps) same) in
     let found = finding_same g.row.L w (world_of setting then) then.store.particles (ledger_of then.totals) goes moved.whole in
-    let finished = finishing_same g.row.L w (world_of setting c.find.new.run.state) then.store.particles (ledger_of then.totals) (ap (λ (s : State g.row.L). world_of setting s) begun ∙ goes) moved.whole width pairs in
-    omega (arith, c.begin.ensures.cost, c.find.ensures.cost, c.finish.ensures.cost, found, finished, step_goes_on g.row.L (lanes run.projector) w (found_in w) few)
+    let finished = finishing_same g.row.L w (world_of setting c.find.new.run.state) then.store.particles (ledger_of then.totals)
+    (ap (λ (s : State g.row.L). world_of setting s) begun ∙ goes) moved.whole width pairs in
+    omega (
+      arith,
+      c.begin.ensures.cost,
+      c.find.ensures.cost,
+      c.finish.ensures.cost,
+      found,
+      finished,
+      step_goes_on g.row.L (lanes run.projector) w (found_in w) few,
+    )

@@ -11,7 +11,8 @@ loop-i-init g c =
     let run = c.args.run.now in
     record {
       running = runs_none c.args.n (world_of c.args.setting.now run.state) c.requires.ready.sound;
-      handed = handed_none c.args.n (world_of c.args.setting.now run.state) (g.P.Projector.count run.projector) (omega (arith, c.counts.ensures));
+      handed = handed_none c.args.n (world_of c.args.setting.now run.state) (g.P.Projector.count run.projector)
+          (omega (arith, c.counts.ensures));
       spent = spent_none g.row.L (g.P.Projector.width run.projector) c.args.n (world_of c.args.setting.now run.state) c.args.steps.now;
       links = c.requires.ready.links;
       stays = none_in_step run;
@@ -20,7 +21,9 @@ loop-i-init g c =
 
 pub returns-in-Err-clause-outcome : goal.returns-in-Err-clause-outcome
 returns-in-Err-clause-outcome g c =
-    runs_out c.args.n c.loop-i.i (world_of c.args.setting.now c.args.run.now.state) (world_of c.args.setting.now c.loop-i.run.state) c.in-Err.refusal c.loop-i-test.true c.loop-i.invariant.running c.in-Err.ensures.outcome
+    runs_out c.args.n c.loop-i.i (world_of c.args.setting.now c.args.run.now.state)
+    (world_of c.args.setting.now c.loop-i.run.state) c.in-Err.refusal c.loop-i-test.true c.loop-i.invariant.running
+    c.in-Err.ensures.outcome
 
 pub returns-in-Err-clause-stays : goal.returns-in-Err-clause-stays
 returns-in-Err-clause-stays g c = both_in_step c.args.run.now c.loop-i.run c.step.new.run c.loop-i.invariant.stays c.step.ensures.stays
@@ -33,14 +36,18 @@ loop-i-preserved g c =
     let inv = c.loop-i.invariant in
     let did = c.in_default.ensures in
     let lanes : ℕ = g.P.Projector.width c.args.run.now.projector in
-    let paid : c.step.new.steps ≤ c.loop-i.steps + step_work g.row.L lanes now (found_in now) = subst (λ (k : ℕ). c.step.new.steps ≤ c.loop-i.steps + step_work g.row.L k now (found_in now)) inv.stays.width c.step.ensures.cost in
+    let paid : c.step.new.steps ≤ c.loop-i.steps + step_work g.row.L lanes now (found_in now) =
+    subst (λ (k : ℕ). c.step.new.steps ≤ c.loop-i.steps + step_work g.row.L k now (found_in now)) inv.stays.width c.step.ensures.cost in
     let running = runs_more c.args.n c.loop-i.i start now next c.loop-i-test.true c.requires.count inv.running did.outcome in
     let links = subst (λ (n : ℕ). HasLinks n c.step.new.run.state.links.items c.step.new.run.colours) inv.stays.alike.particles did.links in
     let stays = both_in_step c.args.run.now c.loop-i.run c.step.new.run inv.stays did.stays in
     record {
       running = running;
-      handed = handed_more c.args.n c.loop-i.i start now next (g.P.Projector.count c.args.run.now.projector) (g.P.Projector.count c.loop-i.run.projector) (g.P.Projector.count c.step.new.run.projector) c.loop-i-test.true did.outcome inv.handed did.handed;
-      spent = spent_more g.row.L lanes c.args.n c.loop-i.i start now next c.args.steps.now c.loop-i.steps c.step.new.steps c.loop-i-test.true did.outcome inv.spent paid;
+      handed = handed_more c.args.n c.loop-i.i start now next (g.P.Projector.count c.args.run.now.projector)
+          (g.P.Projector.count c.loop-i.run.projector) (g.P.Projector.count c.step.new.run.projector) c.loop-i-test.true did.outcome
+          inv.handed did.handed;
+      spent = spent_more g.row.L lanes c.args.n c.loop-i.i start now next c.args.steps.now c.loop-i.steps c.step.new.steps
+          c.loop-i-test.true did.outcome inv.spent paid;
       links = links;
       stays = stays;
       ready = ready_on c.args.setting.now c.args.run.now c.step.new.run c.requires.ready stays running.sound links;
@@ -48,14 +55,17 @@ loop-i-preserved g c =
 
 pub returns-clause-outcome : goal.returns-clause-outcome
 returns-clause-outcome g c =
-    runs_all c.args.n c.loop-i.i (world_of c.args.setting.now c.args.run.now.state) (world_of c.args.setting.now c.loop-i.run.state) (omega (arith, c.loop-i-test.false)) c.loop-i.invariant.running
+    runs_all c.args.n c.loop-i.i (world_of c.args.setting.now c.args.run.now.state) (world_of c.args.setting.now c.loop-i.run.state)
+    (omega (arith, c.loop-i-test.false)) c.loop-i.invariant.running
 
 pub returns-clause-ready : goal.returns-clause-ready
 returns-clause-ready g c = c.loop-i.invariant.ready
 
 pub returns-clause-handed : goal.returns-clause-handed
 returns-clause-handed g c =
-    handed_all c.args.n c.loop-i.i (world_of c.args.setting.now c.args.run.now.state) (world_of c.args.setting.now c.loop-i.run.state) (g.P.Projector.count c.args.run.now.projector) (g.P.Projector.count c.loop-i.run.projector) (omega (arith, c.loop-i-test.false)) c.loop-i.invariant.handed
+    handed_all c.args.n c.loop-i.i (world_of c.args.setting.now c.args.run.now.state) (world_of c.args.setting.now c.loop-i.run.state)
+    (g.P.Projector.count c.args.run.now.projector) (g.P.Projector.count c.loop-i.run.projector)
+    (omega (arith, c.loop-i-test.false)) c.loop-i.invariant.handed
 
 pub returns-in-Err-clause-cost : goal.returns-in-Err-clause-cost
 returns-in-Err-clause-cost g c =
@@ -63,7 +73,8 @@ returns-in-Err-clause-cost g c =
     let now = world_of c.args.setting.now c.loop-i.run.state in
     let inv = c.loop-i.invariant in
     let lanes : ℕ = g.P.Projector.width c.args.run.now.projector in
-    let paid : c.step.new.steps ≤ c.loop-i.steps + step_work g.row.L lanes now (found_in now) = subst (λ (k : ℕ). c.step.new.steps ≤ c.loop-i.steps + step_work g.row.L k now (found_in now)) inv.stays.width c.step.ensures.cost in
+    let paid : c.step.new.steps ≤ c.loop-i.steps + step_work g.row.L lanes now (found_in now) =
+    subst (λ (k : ℕ). c.step.new.steps ≤ c.loop-i.steps + step_work g.row.L k now (found_in now)) inv.stays.width c.step.ensures.cost in
     spent_out g.row.L lanes c.args.n c.loop-i.i start now c.args.steps.now c.loop-i.steps c.step.new.steps c.loop-i-test.true inv.spent paid
 
 pub returns-clause-cost : goal.returns-clause-cost

@@ -19,4 +19,12 @@ balanced-requires c =
     let fp = wide c.args.pin (omega (arith, nat_abs-le c.args.pin p.sfits)) in
     let fs = wide c.args.shape (omega (arith, nat_abs-le c.args.shape s.sfits)) in
     let none = along (pos 0) (record { sfits = omega arith }) in
-    simp (c.from.ensures, c.from-2.ensures, c.from-3.ensures, c.from-4.ensures, to_z-of_z) (room_fits _ _ (along c.args.opening o) (record { gravity = none; damping = none; link = along c.args.link l; contact = none; pin = along c.args.pin p; shape = along c.args.shape s }))
+    simp (c.from.ensures, c.from-2.ensures, c.from-3.ensures, c.from-4.ensures, to_z-of_z)
+    (room_fits _ _ (along c.args.opening o) (record {
+      gravity = none;
+      damping = none;
+      link = along c.args.link l;
+      contact = none;
+      pin = along c.args.pin p;
+      shape = along c.args.shape s;
+    }))

@@ -7,4 +7,5 @@ use Rattle.pbd_tests_text.proofs.log.write_log.Given as goal
 
 -- so many entries are written, and these are their bytes
 abbrev pub invariant-loop-entry : goal.invariant-loop-entry
-invariant-loop-entry g l = (l.writer ≡ l.entry-index) × Appends (g.K.Sink.written l.fn.sink) (g.K.Sink.written l.sink) ((header_bytes 2 l.limit (length l.scene) ++ l.scene) ++ flat_map entry_bytes (take l.entry-index l.entries))
+invariant-loop-entry g l = (l.writer ≡ l.entry-index) × Appends (g.K.Sink.written l.fn.sink) (g.K.Sink.written l.sink)
+    ((header_bytes 2 l.limit (length l.scene) ++ l.scene) ++ flat_map entry_bytes (take l.entry-index l.entries))

@@ -14,7 +14,8 @@ returns-then-radius-limit c =
     let low : FitsSigned w64 (c.args.radius -ℤ c.args.limit) = omega (arith, ints) in
     let top : FitsSigned w64 (c.args.limit -ℤ c.args.radius) = omega (arith, ints) in
     let h = simp to_z-of_z at c.if-radius-limit.true in
-    simp to_z-of_z (sym (ap (λ x. x && int_le c.args.centre (c.args.limit -ℤ c.args.radius)) h) ∙ reach_test c.args.limit c.args.centre c.args.radius c.requires.low c.requires.radius)
+    simp to_z-of_z (sym (ap (λ x. x && int_le c.args.centre (c.args.limit -ℤ c.args.radius)) h)
+    ∙ reach_test c.args.limit c.args.centre c.args.radius c.requires.low c.requires.radius)
 
 pub returns-else-radius-limit : goal.returns-else-radius-limit
 returns-else-radius-limit c =
@@ -24,4 +25,5 @@ returns-else-radius-limit c =
     let high = size_above c.args.limit in
     let low : FitsSigned w64 (c.args.radius -ℤ c.args.limit) = omega (arith, ints) in
     let h = simp to_z-of_z at c.if-radius-limit.false in
-    simp to_z-of_z (h ∙ sym (ap (λ x. x && int_le c.args.centre (c.args.limit -ℤ c.args.radius)) h) ∙ reach_test c.args.limit c.args.centre c.args.radius c.requires.low c.requires.radius)
+    simp to_z-of_z (h ∙ sym (ap (λ x. x && int_le c.args.centre (c.args.limit -ℤ c.args.radius)) h)
+    ∙ reach_test c.args.limit c.args.centre c.args.radius c.requires.low c.requires.radius)

@@ -16,11 +16,12 @@ use denote.RawPtr.{null_ptr}
 use denote.Steps.{nothing}
 use denote.Triple.Walked.{Stays, walk_of}
 use Rattle.std.proofs.raw_atomic.Walks.{proved_at, leaves}
-use Rattle.lakmozet_c.proofs.Values.{word, ptr_good, handle_in}
+use Rattle.lakmozet_c.proofs.Values.{word, handle_in}
 use Rattle.lakmozet_c.specs.contracts.handle.Handle.closed.{ended, clauses}
 use Rattle.lakmozet_c.specs.contracts.handle.Handle.closed.Key.{name as #self}
 use Rattle.lakmozet_c.proofs.handle.Handle.closed.Statement.{statement}
 use Rattle.lakmozet_c.proofs.handle.Handle.closed.Code as code
+use Rattle.pbd_loose.proofs.Values.{ptr_good}
 
 pub closed_spec : {M : Type 1} → statement M
 closed_spec 𝓤 𝓛 𝓜 𝓡 wired =
@@ -33,4 +34,5 @@ closed_spec 𝓤 𝓛 𝓜 𝓡 wired =
     sets ! (agg ! (and_then ! (lit ! tt) (and_then ! (false_lit !) (no_more !)))) refl (tt, ((ptr_good null_ptr).1, (tt, tt))) $
     nothing ! $ handle_in ! null_ptr false None $
     use0 𝓛 (raw (fact 𝓤 (None ≡ None))) (fact_i 𝓤 _ (emp 𝓤) refl) $ nothing ! $ nothing ! $
-    returns ! (look_at ! 0 refl) $ free_all ! refl $ keep ! (0 ∷ 1 ∷ 3 ∷ 2 ∷ []) $ by ! (leaves 𝓛 En hs c z (word null_ptr false) (record { at = null_ptr; full = false; held = None }) tt tt)))
+    returns ! (look_at ! 0 refl) $ free_all ! refl $ keep ! (0 ∷ 1 ∷ 3 ∷ 2 ∷ []) $ by !
+    (leaves 𝓛 En hs c z (word null_ptr false) (record { at = null_ptr; full = false; held = None }) tt tt)))

@@ -5,4 +5,5 @@ use Rattle.pbd_chain.proofs.chains.Chains.is_linked.Goals as goal
 
 pub returns : goal.returns
 returns c = rw (← c.self.view_is) (let r = rw (← c.self.view_is) at c.requires in
-    c.is_some.ensures ∙ ap is_some (get_or_read c.self.inside.back.items c.args.item c.index.result.now (omega (arith, r, c.self.invariant.backs)) c.index.ensures None) ∙ Shown.is_linked_by c.self.invariant c.args.item)
+    c.is_some.ensures ∙ ap is_some (get_or_read c.self.inside.back.items c.args.item c.index.result.now
+    (omega (arith, r, c.self.invariant.backs)) c.index.ensures None) ∙ Shown.is_linked_by c.self.invariant c.args.item)

@@ -11,11 +11,14 @@ loop-i-init c = cut_none c.args.links.now c.args.self.now
 pub loop-i-preserved : goal.loop-i-preserved
 loop-i-preserved c =
     let refused = c.refused-count.ensures ∙ ap {A = Reply} {B = ℕ} (λ r. if is_refused r then 1 else 0) c.apply-reply.ensures.reply in
-    cut_next c.args.links.now c.loop-i.i 0 c.from.result c.loop-i.count c.refused-count.result c.args.self.now c.loop-i.self c.apply-reply.new.self
+    cut_next c.args.links.now c.loop-i.i 0 c.from.result c.loop-i.count c.refused-count.result c.args.self.now c.loop-i.self
+    c.apply-reply.new.self
     (omega arith) c.loop-i.invariant c.from.ensures refused c.apply-reply.ensures.cloth
 
 pub returns-clause-cloth : goal.returns-clause-cloth
-returns-clause-cloth c = (cut_all c.args.links.now c.loop-i.i c.loop-i.count c.args.self.now c.loop-i.self (omega arith) c.loop-i.invariant).0
+returns-clause-cloth c = (cut_all c.args.links.now c.loop-i.i c.loop-i.count c.args.self.now c.loop-i.self
+    (omega arith) c.loop-i.invariant).0
 
 pub returns-clause-count : goal.returns-clause-count
-returns-clause-count c = (cut_all c.args.links.now c.loop-i.i c.loop-i.count c.args.self.now c.loop-i.self (omega arith) c.loop-i.invariant).1
+returns-clause-count c = (cut_all c.args.links.now c.loop-i.i c.loop-i.count c.args.self.now c.loop-i.self
+    (omega arith) c.loop-i.invariant).1

@@ -12,4 +12,10 @@ returns-clause-within c = rw c.as_slice.ensures (let w = colour-is_greedy c.self
 pub bounds-as_slice-i : goal.bounds-as_slice-i
 bounds-as_slice-i c =
     let a = rw (← c.self.view_is) at c.requires in
-    omega (arith, live_below c.self.inside.live.entries c.args.i a, c.self.invariant.live_length, c.self.invariant.colours_length, ap length c.as_slice.ensures)
+    omega (
+      arith,
+      live_below c.self.inside.live.entries c.args.i a,
+      c.self.invariant.live_length,
+      c.self.invariant.colours_length,
+      ap length c.as_slice.ensures,
+    )

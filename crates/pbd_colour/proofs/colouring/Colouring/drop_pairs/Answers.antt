@@ -7,11 +7,16 @@ use Rattle.pbd_colour.proofs.colouring.Colouring.drop_pairs.Goals as goal
 
 pub invariant_of-self : goal.invariant_of-self
 invariant_of-self c =
-    let live_size : length c.recolour_without.new.live ≡ length c.self.inside.live.entries = c.recolour_without.auto.live ∙ ap length c.as_mut_slice.ensures.value in
-    let colours_size : length c.recolour_without.new.colours ≡ length c.self.inside.colours.entries = c.recolour_without.auto.colours ∙ ap length c.as_mut_slice-2.ensures.value in
-    let marks_size : length c.recolour_without.new.marks ≡ length c.self.inside.marks.entries = c.recolour_without.auto.marks ∙ ap length c.as_mut_slice-3.ensures.value in
-    let blocks_size : length c.recolour_without.new.blocks ≡ length c.self.inside.blocks.entries = c.recolour_without.auto.blocks ∙ ap length c.as_mut_slice-4.ensures.value in
-    let starts_size : length c.recolour_without.new.starts ≡ length c.self.inside.starts.entries = c.recolour_without.auto.starts ∙ ap length c.as_mut_slice-5.ensures.value in
+    let live_size : length c.recolour_without.new.live ≡ length c.self.inside.live.entries = c.recolour_without.auto.live
+    ∙ ap length c.as_mut_slice.ensures.value in
+    let colours_size : length c.recolour_without.new.colours ≡ length c.self.inside.colours.entries = c.recolour_without.auto.colours
+    ∙ ap length c.as_mut_slice-2.ensures.value in
+    let marks_size : length c.recolour_without.new.marks ≡ length c.self.inside.marks.entries = c.recolour_without.auto.marks
+    ∙ ap length c.as_mut_slice-3.ensures.value in
+    let blocks_size : length c.recolour_without.new.blocks ≡ length c.self.inside.blocks.entries = c.recolour_without.auto.blocks
+    ∙ ap length c.as_mut_slice-4.ensures.value in
+    let starts_size : length c.recolour_without.new.starts ≡ length c.self.inside.starts.entries = c.recolour_without.auto.starts
+    ∙ ap length c.as_mut_slice-5.ensures.value in
     let live = sym (overwritten_is c.self.inside.live.entries c.recolour_without.new.live live_size) in
     let colours = sym (overwritten_is c.self.inside.colours.entries c.recolour_without.new.colours colours_size) in
     let marks = sym (overwritten_is c.self.inside.marks.entries c.recolour_without.new.marks marks_size) in
@@ -64,7 +69,14 @@ recolour_without-requires c =
 
 pub returns : goal.returns
 returns c =
-    let size : length c.recolour_without.new.live ≡ length c.self.inside.live.entries = c.recolour_without.auto.live ∙ ap length c.as_mut_slice.ensures.value in
-    let live = overwritten_is c.self.inside.live.entries c.recolour_without.new.live size ∙ c.recolour_without.ensures.live ∙ ap (dropped c.args.sorted.now) c.as_mut_slice.ensures.value in
-    let colouring : List Bool → Coloured = λ bs. record { particles = c.self.inside.particles; room = c.self.inside.room; pairs = c.self.inside.pairs.entries; live = bs } in
+    let size : length c.recolour_without.new.live ≡ length c.self.inside.live.entries = c.recolour_without.auto.live
+    ∙ ap length c.as_mut_slice.ensures.value in
+    let live = overwritten_is c.self.inside.live.entries c.recolour_without.new.live size ∙ c.recolour_without.ensures.live
+    ∙ ap (dropped c.args.sorted.now) c.as_mut_slice.ensures.value in
+    let colouring : List Bool → Coloured = λ bs. record {
+      particles = c.self.inside.particles;
+      room = c.self.inside.room;
+      pairs = c.self.inside.pairs.entries;
+      live = bs;
+    } in
     ap colouring live ∙ ap (λ (s : Coloured). record s { live = dropped c.args.sorted.now s.live }) c.self.view_is

@@ -13,7 +13,8 @@ invariant_of-result c =
     let no_live = ap (λ (r : Roomed Bool). length r.entries) c.in_ok-live.ensures in
     let no_marks = ap (λ (r : Roomed Bool). length r.entries) c.in_ok-marks.ensures.marks in
     let no_colours = ap (λ (r : Roomed ℕ). length r.entries) c.in_ok-colours.ensures in
-    let unmarked : (k : ℕ) → live_at c.in_ok-marks.marks.entries k ≡ false = λ k. ap (λ (r : Roomed Bool). live_at r.entries k) c.in_ok-marks.ensures.marks in
+    let unmarked : (k : ℕ) → live_at c.in_ok-marks.marks.entries k
+    ≡ false = λ k. ap (λ (r : Roomed Bool). live_at r.entries k) c.in_ok-marks.ensures.marks in
     record {
       few = c.requires.room;
       within = omega (arith, no_pairs);
@@ -27,18 +28,22 @@ invariant_of-result c =
       marks_length = no_marks ∙ sym no_pairs;
       unmarked = unmarked;
       blocked = none_blocked c.in_ok-marks.marks.entries c.in_ok-marks.blocks.entries
-          (ap (λ (r : Roomed Bool). length r.entries) c.in_ok-marks.ensures.blocks ∙ sym (ap (λ (r : Roomed Bool). length r.entries / 256 + 1) c.in_ok-marks.ensures.marks)) unmarked;
+          (ap (λ (r : Roomed Bool). length r.entries) c.in_ok-marks.ensures.blocks
+          ∙ sym (ap (λ (r : Roomed Bool). length r.entries / 256 + 1) c.in_ok-marks.ensures.marks)) unmarked;
       colours_length = no_colours ∙ sym no_pairs;
       used_length = ap length c.in_ok-used.ensures.used ∙ length-replicate {A = ℕ} c.args.particles 0;
       toward_length = ap length c.in_ok-used.ensures.toward ∙ length-replicate {A = ℕ} c.args.particles 0;
       starts_length = ap length c.in_ok-order.ensures.starts ∙ length-replicate {A = ℕ} 65 0;
       in_range = λ k l. absurd (omega (arith, l, no_pairs));
-      coloured = IsColoured-opened (ap (λ (r : Roomed (ℕ × ℕ)). r.entries) c.in_ok-pairs.ensures) (ap (λ (r : Roomed Bool). r.entries) c.in_ok-live.ensures) (ap (λ (r : Roomed ℕ). r.entries) c.in_ok-colours.ensures) (ap (λ (r : Roomed ℕ). r.entries) c.in_ok-order.ensures.order) c.in_ok-order.ensures.starts;
+      coloured = IsColoured-opened (ap (λ (r : Roomed (ℕ × ℕ)). r.entries) c.in_ok-pairs.ensures)
+          (ap (λ (r : Roomed Bool). r.entries) c.in_ok-live.ensures) (ap (λ (r : Roomed ℕ). r.entries) c.in_ok-colours.ensures)
+          (ap (λ (r : Roomed ℕ). r.entries) c.in_ok-order.ensures.order) c.in_ok-order.ensures.starts;
       told = λ k l. absurd (omega (arith, l, no_pairs));
       held = record {
         items = ap (λ (l : Linked). l.items) c.in_ok-chains.ensures;
         count = ap (λ (l : Linked). length l.chains) c.in_ok-chains.ensures ∙ length-replicate c.args.particles _;
         holds = λ p x l. ap (λ (l : Linked). is_in x (chain_at l.chains p)) c.in_ok-chains.ensures
-            ∙ no_items c.in_ok-live.live.entries c.args.particles c.in_ok-pairs.pairs.entries p x (ap (λ (r : Roomed Bool). live_at r.entries (x / 2)) c.in_ok-live.ensures) l;
+            ∙ no_items c.in_ok-live.live.entries c.args.particles c.in_ok-pairs.pairs.entries p x
+            (ap (λ (r : Roomed Bool). live_at r.entries (x / 2)) c.in_ok-live.ensures) l;
       };
     }

@@ -14,10 +14,14 @@ pub invariant_of-self : goal.invariant_of-self
 invariant_of-self c =
     let pairs : c.copy_pairs.new.list.entries ≡ c.args.pairs.now = ap (λ (r : Roomed (ℕ × ℕ)). r.entries) c.copy_pairs.ensures in
     let live = ap (λ (r : Roomed Bool). r.entries) c.fill.ensures in
-    let colours_size : length c.recolour.new.colours ≡ length c.fill-2.new.list.entries = c.recolour.auto.colours ∙ ap length c.as_mut_slice-4.ensures.value in
-    let used_size : length c.recolour.new.used ≡ length c.self.inside.used.entries = c.recolour.auto.used ∙ ap length c.as_mut_slice-3.ensures.value in
-    let sets_size : length c.tell_all.new.sets ≡ length c.self.inside.toward.entries = c.tell_all.auto.sets ∙ ap length c.as_mut_slice-2.ensures.value in
-    let starts_size : length c.recolour.new.starts ≡ length c.self.inside.starts.entries = c.recolour.auto.starts ∙ ap length c.as_mut_slice-5.ensures.value in
+    let colours_size : length c.recolour.new.colours ≡ length c.fill-2.new.list.entries = c.recolour.auto.colours
+    ∙ ap length c.as_mut_slice-4.ensures.value in
+    let used_size : length c.recolour.new.used ≡ length c.self.inside.used.entries = c.recolour.auto.used
+    ∙ ap length c.as_mut_slice-3.ensures.value in
+    let sets_size : length c.tell_all.new.sets ≡ length c.self.inside.toward.entries = c.tell_all.auto.sets
+    ∙ ap length c.as_mut_slice-2.ensures.value in
+    let starts_size : length c.recolour.new.starts ≡ length c.self.inside.starts.entries = c.recolour.auto.starts
+    ∙ ap length c.as_mut_slice-5.ensures.value in
     let colours = overwritten_is c.fill-2.new.list.entries c.recolour.new.colours colours_size in
     let used = overwritten_is c.self.inside.used.entries c.recolour.new.used used_size in
     let sets = overwritten_is c.self.inside.toward.entries c.tell_all.new.sets sets_size in
@@ -35,7 +39,8 @@ invariant_of-self c =
       marks_length = c.unmark_all.ensures.count ∙ sym (ap length pairs);
       unmarked = c.unmark_all.ensures.unmarked;
       blocked = c.unmark_all.ensures.blocked;
-      colours_length = ap length colours ∙ colours_size ∙ ap (λ (r : Roomed ℕ). length r.entries) c.fill-2.ensures ∙ length-replicate (length c.args.pairs.now) 0 ∙ sym (ap length pairs);
+      colours_length = ap length colours ∙ colours_size ∙ ap (λ (r : Roomed ℕ). length r.entries) c.fill-2.ensures
+          ∙ length-replicate (length c.args.pairs.now) 0 ∙ sym (ap length pairs);
       used_length = ap length used ∙ used_size ∙ c.self.invariant.used_length;
       toward_length = ap length sets ∙ sets_size ∙ c.self.invariant.toward_length;
       starts_length = ap length starts ∙ starts_size ∙ c.self.invariant.starts_length;
@@ -47,21 +52,27 @@ invariant_of-self c =
         items = c.hold_instead.ensures.items ∙ c.self.invariant.held.items;
         count = c.hold_instead.ensures.count ∙ c.self.invariant.held.count;
         holds = λ p x l. c.hold_instead.ensures.holds p x (omega (arith, l, c.self.invariant.held.count))
-            ∙ ap (λ (b : Bool). b && eqb (end_at c.args.pairs.now x) p) (before_live (length c.args.pairs.now) (x / 2) c.fill.new.list.entries live)
+            ∙ ap (λ (b : Bool). b && eqb (end_at c.args.pairs.now x) p)
+            (before_live (length c.args.pairs.now) (x / 2) c.fill.new.list.entries live)
             ∙ ap (λ (ps : List (ℕ × ℕ)). live_at c.fill.new.list.entries (x / 2) && eqb (end_at ps x) p) (sym pairs);
       };
     }
 
 pub recolour-requires : goal.recolour-requires
 recolour-requires c =
-    let pairs : c.as_slice-2.result.now ≡ c.args.pairs.now = c.as_slice-2.ensures ∙ ap (λ (r : Roomed (ℕ × ℕ)). r.entries) c.copy_pairs.ensures in
+    let pairs : c.as_slice-2.result.now ≡ c.args.pairs.now = c.as_slice-2.ensures
+    ∙ ap (λ (r : Roomed (ℕ × ℕ)). r.entries) c.copy_pairs.ensures in
     let count : length c.args.pairs.now ≡ length c.as_slice-2.result.now = sym (ap length pairs) in
-    let live : length c.as_slice-3.result.now ≡ length c.args.pairs.now = ap length (c.as_slice-3.ensures ∙ ap (λ (r : Roomed Bool). r.entries) c.fill.ensures) ∙ length-replicate (length c.args.pairs.now) true in
+    let live : length c.as_slice-3.result.now ≡ length c.args.pairs.now =
+    ap length (c.as_slice-3.ensures ∙ ap (λ (r : Roomed Bool). r.entries) c.fill.ensures)
+    ∙ length-replicate (length c.args.pairs.now) true in
     let room = ap (λ (s : Coloured). s.room) c.self.view_is in
     record {
-      pairs = InRange-as (sym (ap length c.as_mut_slice-3.ensures.value ∙ c.self.invariant.used_length ∙ ap (λ (s : Coloured). s.particles) c.self.view_is)) (sym pairs) c.requires.in_range;
+      pairs = InRange-as (sym (ap length c.as_mut_slice-3.ensures.value ∙ c.self.invariant.used_length
+          ∙ ap (λ (s : Coloured). s.particles) c.self.view_is)) (sym pairs) c.requires.in_range;
       live = live ∙ count;
-      colours = ap length c.as_mut_slice-4.ensures.value ∙ ap (λ (r : Roomed ℕ). length r.entries) c.fill-2.ensures ∙ length-replicate (length c.args.pairs.now) 0 ∙ count;
+      colours = ap length c.as_mut_slice-4.ensures.value ∙ ap (λ (r : Roomed ℕ). length r.entries) c.fill-2.ensures
+          ∙ length-replicate (length c.args.pairs.now) 0 ∙ count;
       few = omega (arith, live, c.requires.fits, room, c.self.invariant.few);
       numbers = omega (arith, live, c.requires.fits, room, c.self.invariant.order_room);
       starts = ap length c.as_mut_slice-5.ensures.value ∙ c.self.invariant.starts_length;

@@ -12,26 +12,32 @@ find_pairs-requires-clause-laid g c = rw c.as_slice.ensures c.link_all.ensures.l
 pub returns-clause-pairs : goal.returns-clause-pairs
 returns-clause-pairs g c =
     let is = side_is c.args.thickness _ c.requires.low (to_z-of_z w64 c.args.thickness c.ranges.thickness) in
-    subst (λ (t : ℤ). OnOk c.find_pairs.result (c.find_pairs.new.out.entries ≡ near_pairs c.args.places.now t (g.F.PairFilter.test c.args.filter.now))) is c.find_pairs.ensures.pairs
+    subst (λ (t : ℤ). OnOk c.find_pairs.result (c.find_pairs.new.out.entries
+    ≡ near_pairs c.args.places.now t (g.F.PairFilter.test c.args.filter.now))) is c.find_pairs.ensures.pairs
 
 pub returns-clause-fits : goal.returns-clause-fits
 returns-clause-fits g c =
     let is = side_is c.args.thickness _ c.requires.low (to_z-of_z w64 c.args.thickness c.ranges.thickness) in
-    subst (λ (t : ℤ). OnOk c.find_pairs.result (length (near_pairs c.args.places.now t (g.F.PairFilter.test c.args.filter.now)) ≤ c.args.out.now.room)) is c.find_pairs.ensures.fits
+    subst (λ (t : ℤ). OnOk c.find_pairs.result (length (near_pairs c.args.places.now t (g.F.PairFilter.test c.args.filter.now))
+    ≤ c.args.out.now.room)) is c.find_pairs.ensures.fits
 
 pub returns-clause-full : goal.returns-clause-full
 returns-clause-full g c =
     let is = side_is c.args.thickness _ c.requires.low (to_z-of_z w64 c.args.thickness c.ranges.thickness) in
-    subst (λ (t : ℤ). OnErr c.find_pairs.result (c.args.out.now.room < length (near_pairs c.args.places.now t (g.F.PairFilter.test c.args.filter.now)))) is c.find_pairs.ensures.full
+    subst (λ (t : ℤ). OnErr c.find_pairs.result (c.args.out.now.room
+    < length (near_pairs c.args.places.now t (g.F.PairFilter.test c.args.filter.now)))) is c.find_pairs.ensures.full
 
 pub returns-clause-looks : goal.returns-clause-looks
 returns-clause-looks g c =
     let is = side_is c.args.thickness _ c.requires.low (to_z-of_z w64 c.args.thickness c.ranges.thickness) in
-    subst (λ (n : ℕ). OnOk c.find_pairs.result (c.find_pairs.new.looks ≡ looks_for n c.args.thickness c.args.places.now)) (ap (λ (s : Searched). s.chains) c.self.view_is)
-    (subst (λ (t : ℤ). OnOk c.find_pairs.result (c.find_pairs.new.looks ≡ looks_for c.self.inside.count t c.args.places.now)) is c.find_pairs.ensures.looks)
+    subst (λ (n : ℕ). OnOk c.find_pairs.result (c.find_pairs.new.looks ≡ looks_for n c.args.thickness c.args.places.now))
+    (ap (λ (s : Searched). s.chains) c.self.view_is)
+    (subst (λ (t : ℤ). OnOk c.find_pairs.result (c.find_pairs.new.looks ≡ looks_for c.self.inside.count t c.args.places.now)) is
+    c.find_pairs.ensures.looks)
 
 pub returns-clause-most : goal.returns-clause-most
 returns-clause-most g c =
     let is = side_is c.args.thickness _ c.requires.low (to_z-of_z w64 c.args.thickness c.ranges.thickness) in
-    subst (λ (n : ℕ). c.find_pairs.new.looks ≤ looks_for n c.args.thickness c.args.places.now) (ap (λ (s : Searched). s.chains) c.self.view_is)
+    subst (λ (n : ℕ). c.find_pairs.new.looks ≤ looks_for n c.args.thickness c.args.places.now)
+    (ap (λ (s : Searched). s.chains) c.self.view_is)
     (subst (λ (t : ℤ). c.find_pairs.new.looks ≤ looks_for c.self.inside.count t c.args.places.now) is c.find_pairs.ensures.most)

@@ -13,7 +13,8 @@ returns-clause-value c = λ f way taken.
     let y = fits_signed_from_abs w32 c.args.taken.y (omega (arith, c.requires.y)) in
     let z = fits_signed_from_abs w32 c.args.taken.z (omega (arith, c.requires.z)) in
     let error = fits_signed_from_abs w32 c.args.self.error (omega (arith, c.requires.error)) in
-    let length = fits_signed_from_abs w32 c.args.self.length (omega (arith, size_at_most c.args.self.length 32767 c.requires.low c.requires.high)) in
+    let length = fits_signed_from_abs w32 c.args.self.length
+    (omega (arith, size_at_most c.args.self.length 32767 c.requires.low c.requires.high)) in
     let factor = fits_signed_from_abs w32 c.args.self.factor (omega (arith, c.requires.factor)) in
     let flag : FitsSigned w32 c.flag_of.result = record { sfits = c.flag_of.type_inv } in
     let share_x = fits_signed_from_abs w32 c.share-along_x.result.share (omega (arith, c.share-along_x.ensures.size)) in
@@ -34,7 +35,8 @@ returns-clause-value c = λ f way taken.
       y = c.share-along_y.ensures.size;
       z = c.share-along_z.ensures.size;
     } in
-    simp to_z-of_z (moved way c.args.taken c.args.self.length c.args.self.error c.args.self.factor move taken c.requires.high some l x_is y_is z_is size)
+    simp to_z-of_z (moved way c.args.taken c.args.self.length c.args.self.error c.args.self.factor move taken c.requires.high some l x_is
+    y_is z_is size)
 
 pub returns-clause-asked : goal.returns-clause-asked
 returns-clause-asked c = λ f.

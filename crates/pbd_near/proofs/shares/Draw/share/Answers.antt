@@ -7,14 +7,16 @@ use Rattle.pbd_near.proofs.shares.Draw.share.Goals as goal
 
 pub returns-clause-some : goal.returns-clause-some
 returns-clause-some c = λ t.
-    let length = fits_signed_from_abs w32 c.args.self.length (omega (arith, size_at_most c.args.self.length 32767 c.requires.low c.requires.high)) in
+    let length = fits_signed_from_abs w32 c.args.self.length
+    (omega (arith, size_at_most c.args.self.length 32767 c.requires.low c.requires.high)) in
     simp to_z-of_z at (c.test_of-tested.ensures.some t)
 
 pub returns-clause-value : goal.returns-clause-value
 returns-clause-value c = λ t.
     let axis = c.ranges.axis in
     let error = fits_signed_from_abs w32 c.args.self.error (omega (arith, c.requires.error)) in
-    let length = fits_signed_from_abs w32 c.args.self.length (omega (arith, size_at_most c.args.self.length 32767 c.requires.low c.requires.high)) in
+    let length = fits_signed_from_abs w32 c.args.self.length
+    (omega (arith, size_at_most c.args.self.length 32767 c.requires.low c.requires.high)) in
     let factor = fits_signed_from_abs w32 c.args.self.factor (omega (arith, c.requires.factor)) in
     let n : FitsSigned w32 c.product-n.result = record { sfits = c.product-n.type_inv } in
     let quotient = fits_signed_from_abs w32 c.test_of-tested.result.quotient (omega (arith, c.test_of-tested.ensures.size)) in

@@ -9,4 +9,5 @@ loop-j-preserved c =
     let x = fits_signed_from_abs w32 c.taken_of-taken.result.x (omega (arith, taken.x)) in
     let y = fits_signed_from_abs w32 c.taken_of-taken.result.y (omega (arith, taken.y)) in
     let z = fits_signed_from_abs w32 c.taken_of-taken.result.z (omega (arith, taken.z)) in
-    simp to_z-of_z (holds_more c.loop-j.j c.args.ways.now c.loop-j.self c.taken_of-taken.result (omega arith) taken.value c.loop-j.invariant)
+    simp to_z-of_z (holds_more c.loop-j.j c.args.ways.now c.loop-j.self c.taken_of-taken.result
+    (omega arith) taken.value c.loop-j.invariant)

@@ -24,7 +24,8 @@ second_free a b both none = let above = (and_parts (int_lt (pos 0) a) (int_lt (p
 
 pub returns-clause-first : goal.returns-clause-first
 returns-clause-first c = λ none. elim c.if-both.branch [
-  | then-both w ↦ absurd (second_free (to_z w64 (of_z w64 c.args.self.first)) (to_z w64 (of_z w64 c.args.self.second)) w.if-both.true (ap (λ (s : ℤ). to_z w64 (of_z w64 s)) none))
+  | then-both w ↦ absurd (second_free (to_z w64 (of_z w64 c.args.self.first)) (to_z w64 (of_z w64 c.args.self.second)) w.if-both.true
+      (ap (λ (s : ℤ). to_z w64 (of_z w64 s)) none))
   | else-both w ↦
       let k = c.ranges.k in
       let known = twice c.args.k c.requires.k in
@@ -36,7 +37,8 @@ returns-clause-first c = λ none. elim c.if-both.branch [
 
 pub returns-clause-second : goal.returns-clause-second
 returns-clause-second c = λ none. elim c.if-both.branch [
-  | then-both w ↦ absurd (first_free (to_z w64 (of_z w64 c.args.self.first)) (to_z w64 (of_z w64 c.args.self.second)) w.if-both.true (ap (λ (s : ℤ). to_z w64 (of_z w64 s)) none))
+  | then-both w ↦ absurd (first_free (to_z w64 (of_z w64 c.args.self.first)) (to_z w64 (of_z w64 c.args.self.second)) w.if-both.true
+      (ap (λ (s : ℤ). to_z w64 (of_z w64 s)) none))
   | else-both w ↦
       let k = c.ranges.k in
       let known = twice c.args.k c.requires.k in

@@ -9,7 +9,8 @@ load-requires g c = known_bonds c.requires.can
 
 pub between-requires : goal.between-requires
 between-requires g c =
-    let pairs = are_pairs c.requires.can c.load.new.self c.pairs-pairs.result c.load.ensures c.pairs-pairs.ensures.first c.pairs-pairs.ensures.second in (
+    let pairs = are_pairs c.requires.can c.load.new.self c.pairs-pairs.result c.load.ensures c.pairs-pairs.ensures.first
+    c.pairs-pairs.ensures.second in (
       omega arith,
       (
         c.requires.some_lanes,
@@ -24,8 +25,8 @@ between-requires g c =
       ),
     )
 
-pub try_moves-right-requires-clause-sized : goal.try_moves-right-requires-clause-sized
-try_moves-right-requires-clause-sized g c =
+pub try_moves-exact-requires-clause-sized : goal.try_moves-exact-requires-clause-sized
+try_moves-exact-requires-clause-sized g c =
     let can = c.requires.can in
     let firsts = c.pairs-pairs.ensures.first in
     let seconds = c.pairs-pairs.ensures.second in
@@ -35,8 +36,8 @@ try_moves-right-requires-clause-sized g c =
     sized can (taken_first can c.load.new.self c.pairs-pairs.result c.load.ensures firsts seconds)
     (taken_second can c.load.new.self c.pairs-pairs.result c.load.ensures firsts seconds) told
 
-pub try_moves-right-requires-clause-known : goal.try_moves-right-requires-clause-known
-try_moves-right-requires-clause-known g c = known_bonds c.requires.can
+pub try_moves-exact-requires-clause-known : goal.try_moves-exact-requires-clause-known
+try_moves-exact-requires-clause-known g c = known_bonds c.requires.can
 
 pub pull-requires : goal.pull-requires
 pull-requires g c =
@@ -44,12 +45,13 @@ pull-requires g c =
     let firsts = c.pairs-pairs.ensures.first in
     let seconds = c.pairs-pairs.ensures.second in
     let told = c.between.ensures.value in
-    let near = c.try_moves-right.ensures.near c.if-right.true in
+    let near = c.try_moves-exact.ensures.near c.if-exact.true in
     (omega arith, (c.requires.some_lanes, (c.requires.lanes, (can, (found_by _ can c.load.ensures firsts seconds told, near)))))
 
-pub returns-then-right-clause-cost : goal.returns-then-right-clause-cost
-returns-then-right-clause-cost g c =
-    let pairs = are_pairs c.requires.can c.load.new.self c.pairs-pairs.result c.load.ensures c.pairs-pairs.ensures.first c.pairs-pairs.ensures.second in
+pub returns-then-exact-clause-cost : goal.returns-then-exact-clause-cost
+returns-then-exact-clause-cost g c =
+    let pairs = are_pairs c.requires.can c.load.new.self c.pairs-pairs.result c.load.ensures c.pairs-pairs.ensures.first
+    c.pairs-pairs.ensures.second in
     omega (arith, c.between.ensures.cost, c.pull.ensures.cost, ap (λ (n : ℕ). blocks_of n g.row.L) pairs.first_long)
 
 pub project_exactly-requires : goal.project_exactly-requires
@@ -58,10 +60,11 @@ project_exactly-requires g c =
     let firsts = c.pairs-pairs.ensures.first in
     let seconds = c.pairs-pairs.ensures.second in
     let told = c.between.ensures.value in
-    let tried = c.try_moves-right.ensures.tried in
+    let tried = c.try_moves-exact.ensures.tried in
     (omega arith, (c.requires.some_lanes, (c.requires.lanes, (can, (found_by _ can c.load.ensures firsts seconds told, tried)))))
 
 pub returns-clause-cost : goal.returns-clause-cost
 returns-clause-cost g c =
-    let pairs = are_pairs c.requires.can c.load.new.self c.pairs-pairs.result c.load.ensures c.pairs-pairs.ensures.first c.pairs-pairs.ensures.second in
+    let pairs = are_pairs c.requires.can c.load.new.self c.pairs-pairs.result c.load.ensures c.pairs-pairs.ensures.first
+    c.pairs-pairs.ensures.second in
     omega (arith, c.between.ensures.cost, c.project_exactly.ensures.cost, ap (λ (n : ℕ). blocks_of n g.row.L) pairs.first_long)

@@ -34,7 +34,8 @@ returns-in-Err-clause-outcome g c =
     let limit = c.steps_on.store.limit in
     let m = motion_of c.steps_on.store c.steps_on.totals in
     let front = ap (λ (b : List ℕ). projected limit bond b m) (sym c.split_at.ensures.front) in
-    sym c.steps_on.invariant.same ∙ block_leaves limit bond c.min-size.result c.steps_on.rest.now m c.in-Err.left.element (front ∙ c.in-Err.ensures.outcome)
+    sym c.steps_on.invariant.same ∙ block_leaves limit bond c.min-size.result c.steps_on.rest.now m c.in-Err.left.element
+    (front ∙ c.in-Err.ensures.outcome)
 
 pub returns-in-Err-clause-limit : goal.returns-in-Err-clause-limit
 returns-in-Err-clause-limit g c = c.in-Err.ensures.limit ∙ c.steps_on.invariant.limit
@@ -66,18 +67,27 @@ steps_on-preserved g c =
     let left : length c.split_at.result.1.now ≡ length rest - k = omega (arith, c.split_at.ensures.back_len) in
     record {
       bound = subst (λ (z : ℤ). IsBound z) same_limit inv.bound;
-      batch = subst (λ (l : ℤ). IsBatch l (length c.project.new.store.particles) c.args.bonds c.split_at.result.1.now) same_limit (rw (whole, back)
+      batch = subst (λ (l : ℤ). IsBatch l (length c.project.new.store.particles) c.args.bonds c.split_at.result.1.now) same_limit
+          (rw (whole, back)
           (back_batch limit (length c.steps_on.store.particles) c.args.bonds rest k fits inv.batch));
       inside = subst (λ (l : ℤ). AreInside l c.project.new.store.particles) same_limit sound.inside;
       weights = weigh_same c.steps_on.store.particles c.project.new.store.particles fixed inv.weights;
       room = room_at _ (omega (arith, c.split_at.ensures.back_len, c.split_at.ensures.front_len, inv.shorter)) (sound.room _ inv.room);
-      grows = λ n h. room_at _ (omega (arith, c.split_at.ensures.back_len, c.split_at.ensures.front_len, inv.shorter)) (sound.room _ (inv.grows n h));
+      grows = λ n h. room_at _ (omega (arith, c.split_at.ensures.back_len, c.split_at.ensures.front_len, inv.shorter))
+          (sound.room _ (inv.grows n h));
       shorter = omega (arith, inv.shorter, left);
-      same = (λ i. projected (sym same_limit i) bond (back i) then) ∙ block_done limit bond k rest m then (front ∙ c.in_default.ensures.outcome) ∙ inv.same;
+      same = (λ i. projected (sym same_limit i) bond (back i) then) ∙ block_done limit bond k rest m then
+          (front ∙ c.in_default.ensures.outcome) ∙ inv.same;
       limit = c.project.ensures.limit ∙ inv.limit;
       copies = c.project.ensures.copies ∙ inv.copies;
       fixed = fixed ∙ inv.fixed;
-      cost = rw left (omega (arith, fewer, inv.cost, c.project.ensures.cost, ap (λ (x : ℕ). blocks_of x g.row.L) c.split_at.ensures.front_len));
+      cost = rw left (omega (
+        arith,
+        fewer,
+        inv.cost,
+        c.project.ensures.cost,
+        ap (λ (x : ℕ). blocks_of x g.row.L) c.split_at.ensures.front_len,
+      ));
     }
 
 pub steps_on-smaller : goal.steps_on-smaller
@@ -104,7 +114,8 @@ project-requires g c =
             bound = inv.bound;
             short = omega (arith, front);
             some = omega (arith, front, ne, some_chunk g.row.L c.requires.lanes_low c.requires.lanes_high);
-            batch = rw c.split_at.ensures.front (front_batch c.steps_on.store.limit (length c.steps_on.store.particles) c.args.bonds rest k fits inv.batch);
+            batch = rw c.split_at.ensures.front (front_batch c.steps_on.store.limit
+                (length c.steps_on.store.particles) c.args.bonds rest k fits inv.batch);
             inside = inv.inside;
             weights = inv.weights;
             room = room_at (2 ^ 124) (search rules) inv.room;
@@ -116,7 +127,8 @@ project-requires g c =
 pub returns-in-Err-clause-cost : goal.returns-in-Err-clause-cost
 returns-in-Err-clause-cost g c =
     let rest = c.steps_on.rest.now in
-    let size : c.min-size.result ≡ min (length rest) (128 / g.row.L * g.row.L) = c.min-size.ensures ∙ ap (min (length rest)) (sym (whole_chunk g.row.L)) in
+    let size : c.min-size.result ≡ min (length rest) (128 / g.row.L * g.row.L) = c.min-size.ensures
+    ∙ ap (min (length rest)) (sym (whole_chunk g.row.L)) in
     omega (
       arith,
       fewer_blocks (length rest) c.min-size.result (128 / g.row.L) g.row.L c.requires.lanes_low size,
@@ -127,7 +139,8 @@ returns-in-Err-clause-cost g c =
 
 pub returns-clause-outcome : goal.returns-clause-outcome
 returns-clause-outcome g c =
-    let none = nil_from_length c.steps_on.rest.now (eqb-true (length c.steps_on.rest.now) 0 (sym c.is_empty-in-steps_on.ensures ∙ c.steps_on-test.false)) in
+    let none = nil_from_length c.steps_on.rest.now (eqb-true (length c.steps_on.rest.now) 0
+    (sym c.is_empty-in-steps_on.ensures ∙ c.steps_on-test.false)) in
     sym c.steps_on.invariant.same ∙ ap (λ (b : List ℕ). projected c.steps_on.store.limit (bond_of c.args.bonds) b
     (motion_of c.steps_on.store c.steps_on.totals)) none
 

@@ -14,9 +14,11 @@ invariant-steps_on g l = record {
   inside : AreInside l.store.limit l.store.particles;
   weights : Weigh l.store.particles;
   room : HaveRoom (2 ^ 120 + (length l.initial.rest - length l.rest) * 2 ^ 32) (ledger_of l.totals);
-  grows : (n : ℕ) → HaveRoom n (ledger_of l.initial.totals) → HaveRoom (n + (length l.initial.rest - length l.rest) * 2 ^ 32) (ledger_of l.totals);
+  grows : (n : ℕ) → HaveRoom n (ledger_of l.initial.totals)
+      → HaveRoom (n + (length l.initial.rest - length l.rest) * 2 ^ 32) (ledger_of l.totals);
   shorter : length l.rest ≤ length l.initial.rest;
-  same : projected l.store.limit (bond_of l.bonds) l.rest (motion_of l.store l.totals) ≡ projected l.initial.store.limit (bond_of l.bonds) l.initial.rest
+  same : projected l.store.limit (bond_of l.bonds) l.rest (motion_of l.store l.totals)
+      ≡ projected l.initial.store.limit (bond_of l.bonds) l.initial.rest
       (motion_of l.initial.store l.initial.totals);
   limit : l.store.limit ≡ l.initial.store.limit;
   copies : l.store.copies ≡ l.initial.store.copies;

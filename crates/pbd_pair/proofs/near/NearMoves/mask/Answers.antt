@@ -62,10 +62,12 @@ loop-j-preserved c =
       same = inv.same;
       back = filled_more c.kept-back.result room back inv.back;
       forth = filled_more c.kept-forth.result room forth inv.forth;
-      sum = c.with_rows-pins.ensures ∙ ap (plus (vector_of c.loop-j.pins)) (minus_turned (vector_of c.kept-forth.result) (vector_of c.kept-back.result))
+      sum = c.with_rows-pins.ensures ∙ ap (plus (vector_of c.loop-j.pins))
+          (minus_turned (vector_of c.kept-forth.result) (vector_of c.kept-back.result))
           ∙ (λ i. plus (inv.sum i) (plus (opposite (vector_of (back i))) (vector_of (forth i))))
           ∙ ap (moved_below (kept_moves between.first_weight between.second_weight moves)) (sym (add-one j));
-      size = subst (λ (v : Vec3). Within ((j + 1) * 2 ^ 17) v) (sym c.with_rows-pins.ensures) (wider _ (j * 2 ^ 17 + 2 ^ 17) ((j + 1) * 2 ^ 17)
+      size = subst (λ (v : Vec3). Within ((j + 1) * 2 ^ 17) v) (sym c.with_rows-pins.ensures)
+          (wider _ (j * 2 ^ 17 + 2 ^ 17) ((j + 1) * 2 ^ 17)
           (omega arith) (both_within _ (j * 2 ^ 17) inv.size back_size forth_size));
     }
 
@@ -81,8 +83,10 @@ pub returns-clause-sum : goal.returns-clause-sum
 returns-clause-sum c =
     let inv = c.loop-j.invariant in
     let whole : c.loop-j.j ≡ c.args.count = omega arith in
-    c.vector.ensures ∙ inv.sum ∙ ap (moved_below (kept_moves c.args.between.now.first_weight c.args.between.now.second_weight c.args.self.now.moves)) whole
-    ∙ moved_same _ _ c.args.count (λ k p. λ i. plus (opposite (vector_of (sym (inv.back.below k (omega arith)) i))) (vector_of (sym (inv.forth.below k
+    c.vector.ensures ∙ inv.sum ∙ ap (moved_below (kept_moves c.args.between.now.first_weight c.args.between.now.second_weight
+    c.args.self.now.moves)) whole
+    ∙ moved_same _ _ c.args.count (λ k p. λ i. plus (opposite (vector_of (sym (inv.back.below k (omega arith)) i)))
+    (vector_of (sym (inv.forth.below k
     (omega arith)) i)))
 
 pub returns-clause-size : goal.returns-clause-size

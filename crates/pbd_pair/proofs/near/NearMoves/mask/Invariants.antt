@@ -12,8 +12,10 @@ use Rattle.pbd_pair.proofs.near.NearMoves.mask.Given as goal
 abbrev pub invariant-loop-j : goal.invariant-loop-j
 invariant-loop-j l = record {
   same : l.self.moves ≡ l.initial.self.moves;
-  back : Filled no_row (λ (i : ℕ) (r : Row). r ≡ kept_by (number_in l.between.first_weight i) (row_in l.initial.self.moves i)) l.j l.self.back;
-  forth : Filled no_row (λ (i : ℕ) (r : Row). r ≡ kept_by (number_in l.between.second_weight i) (row_in l.initial.self.moves i)) l.j l.self.forth;
+  back : Filled no_row (λ (i : ℕ) (r : Row). r ≡ kept_by (number_in l.between.first_weight i) (row_in l.initial.self.moves i)) l.j
+      l.self.back;
+  forth : Filled no_row (λ (i : ℕ) (r : Row). r ≡ kept_by (number_in l.between.second_weight i) (row_in l.initial.self.moves i)) l.j
+      l.self.forth;
   sum : vector_of l.pins ≡ moved_below (kept_moves l.between.first_weight l.between.second_weight l.initial.self.moves) l.j;
   size : Within (l.j * 2 ^ 17) (vector_of l.pins);
 }

@@ -2,7 +2,8 @@ use Rattle.std.proofs.Common.{ℕ, length, ap, sym, ◌∙◌, arith, Err}
 use Rattle.pbd_world.specs.Ledger.{ledger_of, added}
 use Rattle.pbd_world.specs.declared.totals.Class.TheVariants as classes
 use Rattle.pbd_world.proofs.Rooms.{room_at}
-use Rattle.pbd_pair.proofs.Settled.{apart_asked, back_short, forth_short, free_masked, near_done, near_leaves, nothing_booked, pairs_asked, sized_asked}
+use Rattle.pbd_pair.proofs.Settled.{apart_asked, back_short, forth_short, free_masked, near_done, near_leaves, nothing_booked, pairs_asked}
+use Rattle.pbd_pair.proofs.Settled.{sized_asked}
 use Rattle.pbd_pair.proofs.near.NearMoves.pull.Goals as goal
 
 pub pull-requires : goal.pull-requires
@@ -11,13 +12,22 @@ pull-requires g c =
     let found = c.requires.found in
     let masked = free_masked c.requires.near c.if-self.true in
     let back = back_short can found c.requires.near masked in
-    let forth = forth_short can found c.requires.near masked in
-    (omega arith, (c.requires.some_lanes, (c.requires.lanes, (pairs_asked can found, (apart_asked can found, (can.inside, (back, forth)))))))
+    let forth = forth_short can found c.requires.near masked in (
+      omega arith,
+      (
+        c.requires.some_lanes,
+        (
+          c.requires.lanes,
+          (pairs_asked can found, (apart_asked can found, (can.inside, (back, forth)))),
+        ),
+      ),
+    )
 
 pub returns-in-Err-clause-outcome : goal.returns-in-Err-clause-outcome
 returns-in-Err-clause-outcome g c =
     let masked = free_masked c.requires.near c.if-self.true in
-    near_leaves c.requires.can c.requires.found c.requires.near masked c.in-Err.ensures.outcome ∙ ap (λ (n : ℕ). Err n) (sym c.left_at.ensures)
+    near_leaves c.requires.can c.requires.found c.requires.near masked c.in-Err.ensures.outcome
+    ∙ ap (λ (n : ℕ). Err n) (sym c.left_at.ensures)
 
 pub returns-then-self-clause-outcome : goal.returns-then-self-clause-outcome
 returns-then-self-clause-outcome g c =
@@ -42,8 +52,16 @@ pull-requires-2 g c =
     let can = c.requires.can in
     let found = c.requires.found in
     let back = back_short can found c.requires.near c.mask-pins.ensures.masked in
-    let forth = forth_short can found c.requires.near c.mask-pins.ensures.masked in
-    (omega arith, (c.requires.some_lanes, (c.requires.lanes, (pairs_asked can found, (apart_asked can found, (can.inside, (back, forth)))))))
+    let forth = forth_short can found c.requires.near c.mask-pins.ensures.masked in (
+      omega arith,
+      (
+        c.requires.some_lanes,
+        (
+          c.requires.lanes,
+          (pairs_asked can found, (apart_asked can found, (can.inside, (back, forth)))),
+        ),
+      ),
+    )
 
 pub returns-in-Err-pull-clause-outcome : goal.returns-in-Err-pull-clause-outcome
 returns-in-Err-pull-clause-outcome g c =
@@ -60,6 +78,7 @@ pub returns-clause-sound : goal.returns-clause-sound
 returns-clause-sound g c =
     let books = c.book_pins.ensures.value ∙ ap (added (ledger_of c.args.totals.now) classes.Pin) c.mask-pins.ensures.sum in
     record {
-      inside = (near_done c.requires.can c.requires.found c.requires.near c.mask-pins.ensures.masked c.in_default-pull.ensures.outcome books).inside;
+      inside = (near_done c.requires.can c.requires.found c.requires.near c.mask-pins.ensures.masked c.in_default-pull.ensures.outcome
+          books).inside;
       room = λ n h. room_at _ (omega arith) (c.book_pins.ensures.room n _ c.mask-pins.ensures.size h);
     }

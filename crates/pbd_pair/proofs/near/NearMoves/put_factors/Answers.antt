@@ -27,8 +27,10 @@ loop-j-preserved c =
     let is = simp to_z-of_z at c.factor_of-factor.ensures in
     record {
       each = simp to_z-of_z (filled_more c.factor_of-factor.result room is inv.each);
-      first = λ t. let all = and_parts _ _ (simp to_z-of_z at t) in let one = and_parts _ _ all.0 in below_more _ _ (inv.first one.0) (less _ _ one.1);
-      second = λ t. let all = and_parts _ _ (simp to_z-of_z at t) in let one = and_parts _ _ all.0 in below_more _ _ (inv.second one.0) (less _ _ all.1);
+      first = λ t. let all = and_parts _ _ (simp to_z-of_z at t) in let one = and_parts _ _ all.0 in
+          below_more _ _ (inv.first one.0) (less _ _ one.1);
+      second = λ t. let all = and_parts _ _ (simp to_z-of_z at t) in let one = and_parts _ _ all.0 in
+          below_more _ _ (inv.second one.0) (less _ _ all.1);
     }
 
 pub returns-clause-each : goal.returns-clause-each

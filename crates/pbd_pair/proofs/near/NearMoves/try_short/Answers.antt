@@ -29,7 +29,8 @@ returns-clause-near c = λ right.
           (c.run.ensures.each j (told j p) flag) in
           near_moves (vector_of (row_in ways j)) (number_in between.first_weight j) (number_in between.second_weight j)
           (nth (bond_of c.args.chunk.now.bonds) numbers j) (row_in c.run.new.moves j)
-          (number_in c.args.columns.now.rest j) (number_in c.args.columns.now.k j) (number_in c.put_factors.new.self.factor j) c.are_contacts.result
+          (number_in c.args.columns.now.rest j) (number_in c.args.columns.now.k j)
+          (number_in c.put_factors.new.self.factor j) c.are_contacts.result
           (c.requires.sized.first_low j p) (c.requires.sized.second_low j p) (c.requires.loaded.rest j p) (c.requires.loaded.k j p)
           (c.put_factors.ensures.each j p) (c.are_contacts.ensures _) flag pulled;
       first = c.put_factors.ensures.first;

@@ -58,7 +58,8 @@ returns-clause-room g c = λ n h. room_at _ (omega (arith, c.loop-n-test.false))
 
 pub returns-clause-outcome : goal.returns-clause-outcome
 returns-clause-outcome g c =
-    let left : List ℕ → Result Motion ℕ = λ b. projected c.args.store.now.limit (bond_of c.args.bonds) b (motion_of c.loop-n.store c.loop-n.totals) in
+    let left : List ℕ → Result Motion ℕ = λ b. projected c.args.store.now.limit (bond_of c.args.bonds) b
+    (motion_of c.loop-n.store c.loop-n.totals) in
     sym c.loop-n.invariant.same ∙ at_drop_all left c.args.batch.now c.loop-n.n-index (omega (arith, c.loop-n-test.false))
 
 pub project_one-requires : goal.project_one-requires

@@ -12,7 +12,8 @@ invariant-loop-n g l =
       grows : (n : ℕ) → HaveRoom n (ledger_of l.initial.totals) → HaveRoom (n + l.n-index * 2 ^ 32) (ledger_of l.totals);
       inside : AreInside l.initial.store.limit l.store.particles;
       whole : length l.store.particles ≡ length l.initial.store.particles;
-      same : projected l.initial.store.limit (bond_of l.bonds) (drop l.n-index l.batch) (motion_of l.store l.totals) ≡ projected l.initial.store.limit
+      same : projected l.initial.store.limit (bond_of l.bonds) (drop l.n-index l.batch) (motion_of l.store l.totals)
+          ≡ projected l.initial.store.limit
           (bond_of l.bonds) l.batch (motion_of l.initial.store l.initial.totals);
       limit : l.store.limit ≡ l.initial.store.limit;
       copies : l.store.copies ≡ l.initial.store.copies;

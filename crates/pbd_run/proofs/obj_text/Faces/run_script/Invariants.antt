@@ -5,7 +5,8 @@ use Rattle.pbd_run.proofs.obj_text.Faces.run_script.Given as goal
 -- the session has come so far
 abbrev pub invariant-loop-command : goal.invariant-loop-command
 invariant-loop-command g l = record {
-  ran : Ran l.self.base l.self.mesh.now l.fn.session l.initial.script l.session l.script (g.K.Sink.written l.fn.sink) (g.K.Sink.written l.sink) l.refused;
+  ran : Ran l.self.base l.self.mesh.now l.fn.session l.initial.script l.session l.script (g.K.Sink.written l.fn.sink)
+      (g.K.Sink.written l.sink) l.refused;
   later : g.K.Sink.faults l.fn.sink ≤ g.K.Sink.faults l.sink;
 }
 

@@ -10,11 +10,13 @@ use Rattle.pbd_run.proofs.obj_text.Faces.write_frame.Goals as goal
 pub returns-in_err-write_header_after-clause-bytes : goal.returns-in_err-write_header_after-clause-bytes
 returns-in_err-write_header_after-clause-bytes g c =
     let p = err_from_is_err_and c.from_residual.result c.from_residual.ensures.1 in
-    rw (p.1, frame_is c.args.self.now.base c.args.self.now.mesh.now c.args.session.now) (prefix_longer _ _ (comment ++ header_line c.args.session.now) _ c.in_err-write_header_after.ensures.bytes)
+    rw (p.1, frame_is c.args.self.now.base c.args.self.now.mesh.now c.args.session.now)
+    (prefix_longer _ _ (comment ++ header_line c.args.session.now) _ c.in_err-write_header_after.ensures.bytes)
 
 pub returns-clause-bytes : goal.returns-clause-bytes
 returns-clause-bytes g c =
-    rw (frame_is c.args.self.now.base c.args.self.now.mesh.now c.args.session.now) (piece_then _ _ _ c.write_mesh.result _ _ c.in_ok-write_header_after.ensures.bytes c.write_mesh.ensures.bytes)
+    rw (frame_is c.args.self.now.base c.args.self.now.mesh.now c.args.session.now)
+    (piece_then _ _ _ c.write_mesh.result _ _ c.in_ok-write_header_after.ensures.bytes c.write_mesh.ensures.bytes)
 
 pub returns-clause-cause : goal.returns-clause-cause
 returns-clause-cause g c = cause_then _ _ _ c.write_mesh.result c.write_header_after.ensures.cause.later c.write_mesh.ensures.cause

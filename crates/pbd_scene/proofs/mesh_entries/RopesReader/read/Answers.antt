@@ -7,4 +7,5 @@ use Rattle.pbd_scene.proofs.mesh_entries.RopesReader.read.Goals as goal
 pub returns-clause-keeps : goal.returns-clause-keeps
 returns-clause-keeps c =
     let s = c.args.self.now in
-    one_more {A = RopeSpec} (λ x. rope_fits s.limit.units x ≡ true) (λ s. s.count) s.count c.args.before.now c.rope_of.result c.requires.so_far.1 c.rope_of.ensures.fits c.rope_of.ensures.room
+    one_more {A = RopeSpec} (λ x. rope_fits s.limit.units x ≡ true)
+    (λ s. s.count) s.count c.args.before.now c.rope_of.result c.requires.so_far.1 c.rope_of.ensures.fits c.rope_of.ensures.room

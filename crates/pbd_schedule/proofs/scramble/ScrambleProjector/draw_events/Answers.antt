@@ -19,7 +19,8 @@ draw-requires-clause-few c =
 pub returns : goal.returns
 returns c =
     let reads = c.as_mut_slice.ensures.value ∙ ap (λ (l : Roomed Event). l.entries) c.list_reads.ensures in
-    let many : length c.as_mut_slice.result.now ≡ c.args.n = ap (λ (l : List Event). length l) reads ∙ length-map-range_with_len Read 0 c.args.n in
+    let many : length c.as_mut_slice.result.now ≡ c.args.n = ap (λ (l : List Event). length l) reads
+    ∙ length-map-range_with_len Read 0 c.args.n in
     let old = c.self.view_is in
     let words = ap (λ (d : Drawing). d.words) old in
     let handed = ap (λ (d : Drawing). d.handed) old in

@@ -10,4 +10,5 @@ returns-clause-one_of_two g c =
     (formed (parts_of c.args.self.now) sound.well_formed).limit
 
 pub returns-clause-value : goal.returns-clause-value
-returns-clause-value g c = to_z-of_z w64 c.limit.result (record { sfits = c.limit.type_inv }) ∙ (c.limit.ensures.value ∙ ap (λ (w : World). w.limit) c.self.view_is)
+returns-clause-value g c = to_z-of_z w64 c.limit.result (record { sfits = c.limit.type_inv })
+    ∙ (c.limit.ensures.value ∙ ap (λ (w : World). w.limit) c.self.view_is)

@@ -10,7 +10,9 @@ pub take_over-requires : goal.take_over-requires
 take_over-requires g c =
     let mine = c.self.inside.state in
     let other = c.solver.inside.run.state in
-    let scene = subst (λ (v : World). AreOfOneScene v (world_of c.solver.inside.setting other)) (sym c.self.view_is) (subst (λ (v : World). AreOfOneScene c.args.self.now v) (sym (ap (λ (s : Solved g.row.P.Denot). s.world) c.solver.view_is)) c.requires.one_scene) in
+    let scene = subst (λ (v : World). AreOfOneScene v (world_of c.solver.inside.setting other)) (sym c.self.view_is)
+    (subst (λ (v : World). AreOfOneScene c.args.self.now v)
+    (sym (ap (λ (s : Solved g.row.P.Denot). s.world) c.solver.view_is)) c.requires.one_scene) in
     (omega arith, (c.requires.lanes_high, scene_alike c.self.inside.setting c.solver.inside.setting mine other scene))
 
 pub invariant_of-self : goal.invariant_of-self
@@ -18,7 +20,9 @@ invariant_of-self g c =
     let mine = c.self.inside.state in
     let other = c.solver.inside.run.state in
     let setting : Setting = record c.self.inside.setting { gravity = c.solver.inside.setting.gravity } in
-    let scene = subst (λ (v : World). AreOfOneScene v (world_of c.solver.inside.setting other)) (sym c.self.view_is) (subst (λ (v : World). AreOfOneScene c.args.self.now v) (sym (ap (λ (s : Solved g.row.P.Denot). s.world) c.solver.view_is)) c.requires.one_scene) in
+    let scene = subst (λ (v : World). AreOfOneScene v (world_of c.solver.inside.setting other)) (sym c.self.view_is)
+    (subst (λ (v : World). AreOfOneScene c.args.self.now v)
+    (sym (ap (λ (s : Solved g.row.P.Denot). s.world) c.solver.view_is)) c.requires.one_scene) in
     let same = c.take_over.ensures.world setting ∙ scene_world c.self.inside.setting c.solver.inside.setting mine other scene in
     subst (λ (w : World). IsSound w) (sym same) c.solver.invariant.sound
 
@@ -27,8 +31,11 @@ returns-clause-world g c =
     let mine = c.self.inside.state in
     let other = c.solver.inside.run.state in
     let setting : Setting = record c.self.inside.setting { gravity = c.solver.inside.setting.gravity } in
-    let scene = subst (λ (v : World). AreOfOneScene v (world_of c.solver.inside.setting other)) (sym c.self.view_is) (subst (λ (v : World). AreOfOneScene c.args.self.now v) (sym (ap (λ (s : Solved g.row.P.Denot). s.world) c.solver.view_is)) c.requires.one_scene) in
-    c.take_over.ensures.world setting ∙ scene_world c.self.inside.setting c.solver.inside.setting mine other scene ∙ ap (λ (s : Solved g.row.P.Denot). s.world) c.solver.view_is
+    let scene = subst (λ (v : World). AreOfOneScene v (world_of c.solver.inside.setting other)) (sym c.self.view_is)
+    (subst (λ (v : World). AreOfOneScene c.args.self.now v)
+    (sym (ap (λ (s : Solved g.row.P.Denot). s.world) c.solver.view_is)) c.requires.one_scene) in
+    c.take_over.ensures.world setting ∙ scene_world c.self.inside.setting c.solver.inside.setting mine other scene
+    ∙ ap (λ (s : Solved g.row.P.Denot). s.world) c.solver.view_is
 
 pub returns-clause-sound : goal.returns-clause-sound
 returns-clause-sound g c = invariant_of-self g c

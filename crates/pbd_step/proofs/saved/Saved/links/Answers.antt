@@ -5,4 +5,5 @@ use Rattle.pbd_step.proofs.Keeping.{formed_fit}
 use Rattle.pbd_step.proofs.saved.Saved.links.Goals as goal
 
 pub returns-clause-size : goal.returns-clause-size
-returns-clause-size g c = subst (λ (ls : List Link). length ls ≤ 524288) (sym c.deref.ensures.value) (formed_fit (world_of c.self.inside.setting c.self.inside.state) c.self.invariant.well_formed).links
+returns-clause-size g c = subst (λ (ls : List Link). length ls ≤ 524288) (sym c.deref.ensures.value)
+    (formed_fit (world_of c.self.inside.setting c.self.inside.state) c.self.invariant.well_formed).links

@@ -16,23 +16,49 @@ use Rattle.pbd_step.proofs.solver.Solver.assume.Goals as goal
 pub describe-requires : goal.describe-requires
 describe-requires g c =
     let seen = c.self.view_is in
-    let fit = formed_fit (world_of c.self.inside.setting c.self.inside.run.state) c.self.invariant.sound.well_formed in
-    (omega arith, (c.requires.lanes_high, (c.self.invariant.alike, (c.requires.particles ∙ sym (ap (λ (s : Solved g.row.P.Denot). length s.world.particles) seen), (c.requires.links ∙ sym (ap (λ (s : Solved g.row.P.Denot). length s.world.links) seen), fit.links)))))
+    let fit = formed_fit (world_of c.self.inside.setting c.self.inside.run.state) c.self.invariant.sound.well_formed in (
+      omega arith,
+      (
+        c.requires.lanes_high,
+        (
+          c.self.invariant.alike,
+          (
+            c.requires.particles ∙ sym (ap (λ (s : Solved g.row.P.Denot). length s.world.particles) seen),
+            (c.requires.links ∙ sym (ap (λ (s : Solved g.row.P.Denot). length s.world.links) seen), fit.links),
+          ),
+        ),
+      ),
+    )
 
 pub invariant_of-self : goal.invariant_of-self
-invariant_of-self g c = record { sound = c.self.invariant.sound; links = c.self.invariant.links; space = c.self.invariant.space; alike = told_alike (g.D.Described.seen c.args.described.now) c.self.inside.setting c.describe.new.state c.self.inside.run.state (c.describe.ensures.world c.self.inside.setting) }
+invariant_of-self g c = record {
+  sound = c.self.invariant.sound;
+  links = c.self.invariant.links;
+  space = c.self.invariant.space;
+  alike = told_alike (g.D.Described.seen c.args.described.now) c.self.inside.setting c.describe.new.state c.self.inside.run.state
+      (c.describe.ensures.world c.self.inside.setting);
+}
 
 pub returns-in-Err-clause-exact : goal.returns-in-Err-clause-exact
 returns-in-Err-clause-exact g c =
     let d = g.D.Described.seen c.args.described.now in
     let w = world_of c.self.inside.setting c.self.inside.run.state in
-    let h : Holds d c.self.inside.setting c.describe.new.state w c.gravity-gravity.result = record { gravity_is = c.gravity-gravity.ensures; world = c.describe.ensures.world c.self.inside.setting } in
-    judged c.as_slice-tracks.result.now c.numbers_of-numbers.result _ h c.as_slice-tracks.ensures c.numbers_of-numbers.ensures c.in-Err.ensures.value ∙ ap (λ (s : Solved g.row.P.Denot). soundness (told d s.world)) c.self.view_is
+    let h : Holds d c.self.inside.setting c.describe.new.state w c.gravity-gravity.result =
+    record { gravity_is = c.gravity-gravity.ensures; world = c.describe.ensures.world c.self.inside.setting } in
+    judged c.as_slice-tracks.result.now c.numbers_of-numbers.result _ h c.as_slice-tracks.ensures c.numbers_of-numbers.ensures
+    c.in-Err.ensures.value ∙ ap (λ (s : Solved g.row.P.Denot). soundness (told d s.world)) c.self.view_is
 
 pub returns-in-Err-clause-cost : goal.returns-in-Err-clause-cost
 returns-in-Err-clause-cost g c =
-    let alike = told_alike (g.D.Described.seen c.args.described.now) c.self.inside.setting c.describe.new.state c.self.inside.run.state (c.describe.ensures.world c.self.inside.setting) in
-    omega (arith, c.describe.ensures.cost, c.judge.ensures.cost, alike.particles, ap (λ (s : Solved g.row.P.Denot). length s.world.particles) c.self.view_is)
+    let alike = told_alike (g.D.Described.seen c.args.described.now) c.self.inside.setting c.describe.new.state c.self.inside.run.state
+    (c.describe.ensures.world c.self.inside.setting) in
+    omega (
+      arith,
+      c.describe.ensures.cost,
+      c.judge.ensures.cost,
+      alike.particles,
+      ap (λ (s : Solved g.row.P.Denot). length s.world.particles) c.self.view_is,
+    )
 
 pub restore-requires : goal.restore-requires
 restore-requires g c =
@@ -40,17 +66,33 @@ restore-requires g c =
     let mine = c.self.inside.run.state in
     let other = c.describe.new.state in
     let w = world_of c.self.inside.setting mine in
-    let h : Holds d c.self.inside.setting other w c.gravity-gravity.result = record { gravity_is = c.gravity-gravity.ensures; world = c.describe.ensures.world c.self.inside.setting } in
-    let exact = judged c.as_slice-tracks.result.now c.numbers_of-numbers.result _ h c.as_slice-tracks.ensures c.numbers_of-numbers.ensures c.judge.ensures.value in
-    let sound : IsSound (world_of (record c.self.inside.setting { gravity = c.gravity-gravity.result }) other) = subst (λ (v : World). IsSound v) (sym (held_world h)) (tested_sound d w c.self.invariant.sound (sym exact ∙ c.in_default.is)) in
-    let alike : AreAlike mine other = flipped other mine (told_alike d c.self.inside.setting other mine (c.describe.ensures.world c.self.inside.setting)) in
+    let h : Holds d c.self.inside.setting other w c.gravity-gravity.result =
+    record { gravity_is = c.gravity-gravity.ensures; world = c.describe.ensures.world c.self.inside.setting } in
+    let exact = judged c.as_slice-tracks.result.now c.numbers_of-numbers.result _ h c.as_slice-tracks.ensures c.numbers_of-numbers.ensures
+    c.judge.ensures.value in
+    let sound : IsSound (world_of (record c.self.inside.setting { gravity = c.gravity-gravity.result }) other) =
+    subst (λ (v : World). IsSound v) (sym (held_world h)) (tested_sound d w c.self.invariant.sound (sym exact ∙ c.in_default.is)) in
+    let alike : AreAlike mine other = flipped other mine (told_alike d c.self.inside.setting other mine
+    (c.describe.ensures.world c.self.inside.setting)) in
     let fit = formed_fit (world_of (record c.self.inside.setting { gravity = c.gravity-gravity.result }) other) sound.well_formed in
     let setting : Setting = record c.self.inside.setting { gravity = c.gravity-gravity.result } in
     let scene : AreOfOneScene w (world_of setting other) = subst (λ (v : World). AreOfOneScene w v) (sym (held_world h)) (told_scene d w) in
     let pairs = c.self.invariant.links.pairs ∙ scene_pairs c.self.inside.setting setting mine other scene in
     let room : length other.links.items ≤ c.self.inside.run.colours.room = omega (arith, c.self.invariant.links.room, alike.links) in
-    let space = subst (λ (m : ℕ). HaveSpace (length other.store.particles) m c.self.inside.run.tools) alike.links (subst (λ (n : ℕ). HaveSpace n (length mine.links.items) c.self.inside.run.tools) alike.particles c.self.invariant.space) in
-    (omega arith, (c.requires.lanes_high, (alike, (fit.links, (fit.in_range, (c.self.invariant.links.particles ∙ alike.particles, (pairs, (room, space))))))))
+    let space = subst (λ (m : ℕ). HaveSpace (length other.store.particles) m c.self.inside.run.scratch) alike.links
+    (subst (λ (n : ℕ). HaveSpace n (length mine.links.items) c.self.inside.run.scratch) alike.particles c.self.invariant.space) in (
+      omega arith,
+      (
+        c.requires.lanes_high,
+        (
+          alike,
+          (
+            fit.links,
+            (fit.in_range, (c.self.invariant.links.particles ∙ alike.particles, (pairs, (room, space)))),
+          ),
+        ),
+      ),
+    )
 
 pub invariant_of-self-2 : goal.invariant_of-self-2
 invariant_of-self-2 g c =
@@ -59,40 +101,61 @@ invariant_of-self-2 g c =
     let other = c.describe.new.state in
     let w = world_of c.self.inside.setting mine in
     let setting : Setting = record c.self.inside.setting { gravity = c.gravity-gravity.result } in
-    let h : Holds d c.self.inside.setting other w c.gravity-gravity.result = record { gravity_is = c.gravity-gravity.ensures; world = c.describe.ensures.world c.self.inside.setting } in
-    let exact = judged c.as_slice-tracks.result.now c.numbers_of-numbers.result _ h c.as_slice-tracks.ensures c.numbers_of-numbers.ensures c.judge.ensures.value in
+    let h : Holds d c.self.inside.setting other w c.gravity-gravity.result =
+    record { gravity_is = c.gravity-gravity.ensures; world = c.describe.ensures.world c.self.inside.setting } in
+    let exact = judged c.as_slice-tracks.result.now c.numbers_of-numbers.result _ h c.as_slice-tracks.ensures c.numbers_of-numbers.ensures
+    c.judge.ensures.value in
     let same = c.restore.ensures.world setting ∙ held_world h in
-    let now : AreAlike other c.restore.new.state = record { particles = ap (λ (ps : List Particle). length ps) (sym c.restore.ensures.particles); limit = sym c.restore.ensures.limit; links = ap (λ (ls : List Link). length ls) (sym c.restore.ensures.same_links) } in
-    kept_moved setting other c.restore.new.state other c.restore.new.colours c.restore.new.tools (subst (λ (v : World). IsSound v) (sym same) (tested_sound d w c.self.invariant.sound (sym exact ∙ c.in_default.is)))
+    let now : AreAlike other c.restore.new.state = record {
+      particles =
+          ap (λ (ps : List Particle). length ps) (sym c.restore.ensures.particles);
+      limit = sym c.restore.ensures.limit;
+      links = ap (λ (ls : List Link). length ls) (sym c.restore.ensures.same_links);
+    } in
+    kept_moved setting other c.restore.new.state other c.restore.new.colours c.restore.new.scratch
+    (subst (λ (v : World). IsSound v) (sym same) (tested_sound d w c.self.invariant.sound (sym exact ∙ c.in_default.is)))
     now (record { particles = refl; limit = refl; links = refl })
-    (subst (λ (ls : List Link). HasLinks (length other.store.particles) ls c.restore.new.colours) (sym c.restore.ensures.same_links) c.restore.ensures.links)
+    (subst (λ (ls : List Link). HasLinks (length other.store.particles) ls c.restore.new.colours)
+    (sym c.restore.ensures.same_links) c.restore.ensures.links)
     c.restore.ensures.space
 
 pub returns-clause-exact : goal.returns-clause-exact
 returns-clause-exact g c =
     let d = g.D.Described.seen c.args.described.now in
     let w = world_of c.self.inside.setting c.self.inside.run.state in
-    let h : Holds d c.self.inside.setting c.describe.new.state w c.gravity-gravity.result = record { gravity_is = c.gravity-gravity.ensures; world = c.describe.ensures.world c.self.inside.setting } in
-    sym c.in_default.is ∙ judged c.as_slice-tracks.result.now c.numbers_of-numbers.result _ h c.as_slice-tracks.ensures c.numbers_of-numbers.ensures c.judge.ensures.value ∙ ap (λ (s : Solved g.row.P.Denot). soundness (told d s.world)) c.self.view_is
+    let h : Holds d c.self.inside.setting c.describe.new.state w c.gravity-gravity.result =
+    record { gravity_is = c.gravity-gravity.ensures; world = c.describe.ensures.world c.self.inside.setting } in
+    sym c.in_default.is ∙ judged c.as_slice-tracks.result.now c.numbers_of-numbers.result _ h c.as_slice-tracks.ensures
+    c.numbers_of-numbers.ensures c.judge.ensures.value ∙ ap (λ (s : Solved g.row.P.Denot). soundness (told d s.world)) c.self.view_is
 
 pub returns-clause-world : goal.returns-clause-world
 returns-clause-world g c =
     let d = g.D.Described.seen c.args.described.now in
     let w = world_of c.self.inside.setting c.self.inside.run.state in
-    let h : Holds d c.self.inside.setting c.describe.new.state w c.gravity-gravity.result = record { gravity_is = c.gravity-gravity.ensures; world = c.describe.ensures.world c.self.inside.setting } in
-    c.restore.ensures.world (record c.self.inside.setting { gravity = c.gravity-gravity.result }) ∙ held_world h ∙ ap (λ (s : Solved g.row.P.Denot). told d s.world) c.self.view_is
+    let h : Holds d c.self.inside.setting c.describe.new.state w c.gravity-gravity.result =
+    record { gravity_is = c.gravity-gravity.ensures; world = c.describe.ensures.world c.self.inside.setting } in
+    c.restore.ensures.world (record c.self.inside.setting { gravity = c.gravity-gravity.result }) ∙ held_world h
+    ∙ ap (λ (s : Solved g.row.P.Denot). told d s.world) c.self.view_is
 
 pub returns-clause-sound : goal.returns-clause-sound
 returns-clause-sound g c = (invariant_of-self-2 g c).sound
 
 pub returns-clause-one_scene : goal.returns-clause-one_scene
 returns-clause-one_scene g c =
-    subst (λ (v : World). AreOfOneScene c.args.self.now.world v) (sym (returns-clause-world g c)) (told_scene (g.D.Described.seen c.args.described.now) c.args.self.now.world)
+    subst (λ (v : World). AreOfOneScene c.args.self.now.world v) (sym (returns-clause-world g c))
+    (told_scene (g.D.Described.seen c.args.described.now) c.args.self.now.world)
 
 pub returns-clause-cost : goal.returns-clause-cost
 returns-clause-cost g c =
-    let alike = told_alike (g.D.Described.seen c.args.described.now) c.self.inside.setting c.describe.new.state c.self.inside.run.state (c.describe.ensures.world c.self.inside.setting) in
-    omega (arith, c.describe.ensures.cost, c.judge.ensures.cost, alike.particles, ap (λ (s : Solved g.row.P.Denot). length s.world.particles) c.self.view_is)
+    let alike = told_alike (g.D.Described.seen c.args.described.now) c.self.inside.setting c.describe.new.state c.self.inside.run.state
+    (c.describe.ensures.world c.self.inside.setting) in
+    omega (
+      arith,
+      c.describe.ensures.cost,
+      c.judge.ensures.cost,
+      alike.particles,
+      ap (λ (s : Solved g.row.P.Denot). length s.world.particles) c.self.view_is,
+    )
 
 pub returns-in-Err-clause-kept : goal.returns-in-Err-clause-kept
 returns-in-Err-clause-kept g c =
@@ -107,4 +170,9 @@ pub returns-in-Err-clause-copies : goal.returns-in-Err-clause-copies
 returns-in-Err-clause-copies g c = omega (arith, c.describe.ensures.copies, ap (λ (s : Solved g.row.P.Denot). s.copies) c.self.view_is)
 
 pub returns-clause-copies : goal.returns-clause-copies
-returns-clause-copies g c = omega (arith, c.describe.ensures.copies, c.restore.ensures.copies, ap (λ (s : Solved g.row.P.Denot). s.copies) c.self.view_is)
+returns-clause-copies g c = omega (
+  arith,
+  c.describe.ensures.copies,
+  c.restore.ensures.copies,
+  ap (λ (s : Solved g.row.P.Denot). s.copies) c.self.view_is,
+)

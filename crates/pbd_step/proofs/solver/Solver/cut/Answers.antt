@@ -9,18 +9,30 @@ use Rattle.pbd_step.proofs.Keeping.{commanded, seen_commanded, cut_means, kept_c
 use Rattle.pbd_step.proofs.solver.Solver.cut.Goals as goal
 
 pub cut-requires : goal.cut-requires
-cut-requires g c = (omega arith, (c.requires.lanes_high, ((formed_fit (world_of c.self.inside.setting c.self.inside.run.state) c.self.invariant.sound.well_formed).links, c.self.invariant.links)))
+cut-requires g c = (
+  omega arith,
+  (
+    c.requires.lanes_high,
+    (
+      (formed_fit (world_of c.self.inside.setting c.self.inside.run.state) c.self.invariant.sound.well_formed).links,
+      c.self.invariant.links,
+    ),
+  ),
+)
 
 pub invariant_of-self : goal.invariant_of-self
 invariant_of-self g c =
     let w = world_of c.self.inside.setting c.self.inside.run.state in
-    kept_commanded c.self.invariant (commanded (commands.Cut c.args.l) c.cut.ensures.obeys c.self.invariant.sound (cut_means w c.args.l)) c.cut.ensures.links
+    kept_commanded c.self.invariant (commanded (commands.Cut c.args.l) c.cut.ensures.obeys c.self.invariant.sound (cut_means w c.args.l))
+    c.cut.ensures.links
 
 pub returns-clause-commanded : goal.returns-clause-commanded
 returns-clause-commanded g c =
     let w = world_of c.self.inside.setting c.self.inside.run.state in
-    seen_commanded (λ (v : World). cut v c.args.l) c.self.view_is (commanded (commands.Cut c.args.l) c.cut.ensures.obeys c.self.invariant.sound (cut_means w c.args.l))
+    seen_commanded (λ (v : World). cut v c.args.l) c.self.view_is
+    (commanded (commands.Cut c.args.l) c.cut.ensures.obeys c.self.invariant.sound (cut_means w c.args.l))
 
 pub returns-clause-copies : goal.returns-clause-copies
 returns-clause-copies g c =
-    ap (λ (s : State g.row.L). s.store.copies + c.self.inside.kept.store.copies) c.cut.ensures.same ∙ ap (λ (s : Solved g.row.P.Denot). s.copies) c.self.view_is
+    ap (λ (s : State g.row.L). s.store.copies + c.self.inside.kept.store.copies) c.cut.ensures.same
+    ∙ ap (λ (s : Solved g.row.P.Denot). s.copies) c.self.view_is

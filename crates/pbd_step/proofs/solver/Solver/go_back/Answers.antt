@@ -12,26 +12,49 @@ pub restore-requires : goal.restore-requires
 restore-requires g c =
     let mine = c.self.inside.run.state in
     let other = c.saved.inside.state in
-    let scene = subst (λ (v : World). AreOfOneScene v (world_of c.saved.inside.setting other)) (sym (ap (λ (s : Solved g.row.P.Denot). s.world) c.self.view_is)) (subst (λ (v : World). AreOfOneScene c.args.self.now.world v) (sym c.saved.view_is) c.requires.one_scene) in
+    let scene = subst (λ (v : World). AreOfOneScene v (world_of c.saved.inside.setting other))
+    (sym (ap (λ (s : Solved g.row.P.Denot). s.world) c.self.view_is))
+    (subst (λ (v : World). AreOfOneScene c.args.self.now.world v) (sym c.saved.view_is) c.requires.one_scene) in
     let alike : AreAlike mine other = scene_alike c.self.inside.setting c.saved.inside.setting mine other scene in
     let fit = formed_fit (world_of c.saved.inside.setting other) c.saved.invariant.well_formed in
     let pairs = c.self.invariant.links.pairs ∙ scene_pairs c.self.inside.setting c.saved.inside.setting mine other scene in
     let room : length other.links.items ≤ c.self.inside.run.colours.room = omega (arith, c.self.invariant.links.room, alike.links) in
-    let space = subst (λ (m : ℕ). HaveSpace (length other.store.particles) m c.self.inside.run.tools) alike.links (subst (λ (n : ℕ). HaveSpace n (length mine.links.items) c.self.inside.run.tools) alike.particles c.self.invariant.space) in
-    (omega arith, (c.requires.lanes_high, (alike, (fit.links, (fit.in_range, (c.self.invariant.links.particles ∙ alike.particles, (pairs, (room, space))))))))
+    let space = subst (λ (m : ℕ). HaveSpace (length other.store.particles) m c.self.inside.run.scratch) alike.links
+    (subst (λ (n : ℕ). HaveSpace n (length mine.links.items) c.self.inside.run.scratch) alike.particles c.self.invariant.space) in (
+      omega arith,
+      (
+        c.requires.lanes_high,
+        (
+          alike,
+          (
+            fit.links,
+            (fit.in_range, (c.self.invariant.links.particles ∙ alike.particles, (pairs, (room, space)))),
+          ),
+        ),
+      ),
+    )
 
 pub invariant_of-self : goal.invariant_of-self
 invariant_of-self g c =
     let mine = c.self.inside.run.state in
     let other = c.saved.inside.state in
     let setting : Setting = record c.self.inside.setting { gravity = c.saved.inside.setting.gravity } in
-    let scene = subst (λ (v : World). AreOfOneScene v (world_of c.saved.inside.setting other)) (sym (ap (λ (s : Solved g.row.P.Denot). s.world) c.self.view_is)) (subst (λ (v : World). AreOfOneScene c.args.self.now.world v) (sym c.saved.view_is) c.requires.one_scene) in
+    let scene = subst (λ (v : World). AreOfOneScene v (world_of c.saved.inside.setting other))
+    (sym (ap (λ (s : Solved g.row.P.Denot). s.world) c.self.view_is))
+    (subst (λ (v : World). AreOfOneScene c.args.self.now.world v) (sym c.saved.view_is) c.requires.one_scene) in
     let same = c.restore.ensures.world setting ∙ scene_world c.self.inside.setting c.saved.inside.setting mine other scene in
     let alike : AreAlike mine other = scene_alike c.self.inside.setting c.saved.inside.setting mine other scene in
-    let now : AreAlike other c.restore.new.state = record { particles = ap (λ (ps : List Particle). length ps) (sym c.restore.ensures.particles); limit = sym c.restore.ensures.limit; links = ap (λ (ls : List Link). length ls) (sym c.restore.ensures.same_links) } in
-    kept_moved setting other c.restore.new.state c.self.inside.kept c.restore.new.colours c.restore.new.tools (subst (λ (w : World). IsSound w) (sym same) c.saved.invariant)
+    let now : AreAlike other c.restore.new.state = record {
+      particles =
+          ap (λ (ps : List Particle). length ps) (sym c.restore.ensures.particles);
+      limit = sym c.restore.ensures.limit;
+      links = ap (λ (ls : List Link). length ls) (sym c.restore.ensures.same_links);
+    } in
+    kept_moved setting other c.restore.new.state c.self.inside.kept c.restore.new.colours c.restore.new.scratch
+    (subst (λ (w : World). IsSound w) (sym same) c.saved.invariant)
     now (alike_join c.self.inside.kept mine other c.self.invariant.alike alike)
-    (subst (λ (ls : List Link). HasLinks (length other.store.particles) ls c.restore.new.colours) (sym c.restore.ensures.same_links) c.restore.ensures.links)
+    (subst (λ (ls : List Link). HasLinks (length other.store.particles) ls c.restore.new.colours)
+    (sym c.restore.ensures.same_links) c.restore.ensures.links)
     c.restore.ensures.space
 
 pub returns-clause-world : goal.returns-clause-world
@@ -39,7 +62,9 @@ returns-clause-world g c =
     let mine = c.self.inside.run.state in
     let other = c.saved.inside.state in
     let setting : Setting = record c.self.inside.setting { gravity = c.saved.inside.setting.gravity } in
-    let scene = subst (λ (v : World). AreOfOneScene v (world_of c.saved.inside.setting other)) (sym (ap (λ (s : Solved g.row.P.Denot). s.world) c.self.view_is)) (subst (λ (v : World). AreOfOneScene c.args.self.now.world v) (sym c.saved.view_is) c.requires.one_scene) in
+    let scene = subst (λ (v : World). AreOfOneScene v (world_of c.saved.inside.setting other))
+    (sym (ap (λ (s : Solved g.row.P.Denot). s.world) c.self.view_is))
+    (subst (λ (v : World). AreOfOneScene c.args.self.now.world v) (sym c.saved.view_is) c.requires.one_scene) in
     c.restore.ensures.world setting ∙ scene_world c.self.inside.setting c.saved.inside.setting mine other scene ∙ c.saved.view_is
 
 pub returns-clause-sound : goal.returns-clause-sound

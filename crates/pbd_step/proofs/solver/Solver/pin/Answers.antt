@@ -17,7 +17,8 @@ invariant_of-self g c =
 pub returns-clause-commanded : goal.returns-clause-commanded
 returns-clause-commanded g c =
     let w = world_of c.self.inside.setting c.self.inside.run.state in
-    seen_commanded (λ (v : World). pin v c.args.i) c.self.view_is (commanded (commands.Pin c.args.i) c.pin.ensures.obeys c.self.invariant.sound (pin_means w c.args.i))
+    seen_commanded (λ (v : World). pin v c.args.i) c.self.view_is
+    (commanded (commands.Pin c.args.i) c.pin.ensures.obeys c.self.invariant.sound (pin_means w c.args.i))
 
 pub returns-clause-copies : goal.returns-clause-copies
 returns-clause-copies g c = omega (arith, c.pin.ensures.copies, ap (λ (s : Solved g.row.P.Denot). s.copies) c.self.view_is)

@@ -11,13 +11,15 @@ use Rattle.pbd_step.proofs.solver.Solver.place_held.Goals as goal
 pub invariant_of-self : goal.invariant_of-self
 invariant_of-self g c =
     let w = world_of c.self.inside.setting c.self.inside.run.state in
-    let done = commanded (commands.Move c.args.i c.args.to) c.place_held.ensures.obeys c.self.invariant.sound (place_means w c.args.i c.args.to) in
+    let done = commanded (commands.Move c.args.i c.args.to) c.place_held.ensures.obeys c.self.invariant.sound
+    (place_means w c.args.i c.args.to) in
     kept_linked c.self.invariant done (ap (λ (s : State g.row.L). s.links.items) c.place_held.ensures.same)
 
 pub returns-clause-commanded : goal.returns-clause-commanded
 returns-clause-commanded g c =
     let w = world_of c.self.inside.setting c.self.inside.run.state in
-    seen_commanded (λ (v : World). place_held v c.args.i c.args.to) c.self.view_is (commanded (commands.Move c.args.i c.args.to) c.place_held.ensures.obeys c.self.invariant.sound (place_means w c.args.i c.args.to))
+    seen_commanded (λ (v : World). place_held v c.args.i c.args.to) c.self.view_is
+    (commanded (commands.Move c.args.i c.args.to) c.place_held.ensures.obeys c.self.invariant.sound (place_means w c.args.i c.args.to))
 
 pub returns-clause-copies : goal.returns-clause-copies
 returns-clause-copies g c = omega (arith, c.place_held.ensures.copies, ap (λ (s : Solved g.row.P.Denot). s.copies) c.self.view_is)

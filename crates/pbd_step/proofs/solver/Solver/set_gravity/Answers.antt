@@ -10,12 +10,14 @@ use Rattle.pbd_step.proofs.solver.Solver.set_gravity.Goals as goal
 pub invariant_of-self : goal.invariant_of-self
 invariant_of-self g c =
     let w = world_of c.self.inside.setting c.self.inside.run.state in
-    kept_commanded c.self.invariant (commanded (commands.Gravity c.args.g) c.set_gravity.ensures.obeys c.self.invariant.sound (gravity_means w c.args.g)) c.self.invariant.links
+    kept_commanded c.self.invariant (commanded (commands.Gravity c.args.g) c.set_gravity.ensures.obeys c.self.invariant.sound
+    (gravity_means w c.args.g)) c.self.invariant.links
 
 pub returns-clause-commanded : goal.returns-clause-commanded
 returns-clause-commanded g c =
     let w = world_of c.self.inside.setting c.self.inside.run.state in
-    seen_commanded (λ (v : World). set_gravity v c.args.g) c.self.view_is (commanded (commands.Gravity c.args.g) c.set_gravity.ensures.obeys c.self.invariant.sound (gravity_means w c.args.g))
+    seen_commanded (λ (v : World). set_gravity v c.args.g) c.self.view_is
+    (commanded (commands.Gravity c.args.g) c.set_gravity.ensures.obeys c.self.invariant.sound (gravity_means w c.args.g))
 
 pub returns-clause-copies : goal.returns-clause-copies
 returns-clause-copies g c = ap (λ (s : Solved g.row.P.Denot). s.copies) c.self.view_is

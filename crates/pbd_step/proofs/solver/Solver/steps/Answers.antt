@@ -19,20 +19,25 @@ returns-then-n-lt1-clause-commanded g c =
 pub returns-then-from-count-clause-commanded : goal.returns-then-from-count-clause-commanded
 returns-then-from-count-clause-commanded g c =
     let w = world_of c.self.inside.setting c.self.inside.run.state in
-    let late = run_late w c.args.n (omega (arith, c.if-n-lt1.false)) (omega (arith, c.if-n-gt-MOST_STEPS.false)) (omega (arith, c.from.ensures, c.if-from-count.true)) in
+    let late = run_late w c.args.n (omega (arith, c.if-n-lt1.false)) (omega (arith, c.if-n-gt-MOST_STEPS.false))
+    (omega (arith, c.from.ensures, c.if-from-count.true)) in
     refused (λ (v : World). run_steps v c.args.n) c.self.view_is c.self.invariant.sound late
 
 pub returns-clause-commanded : goal.returns-clause-commanded
 returns-clause-commanded g c =
     let w = world_of c.self.inside.setting c.self.inside.run.state in
     let now = world_of c.self.inside.setting c.run_whole.new.run.state in
-    let goes = run_goes w c.args.n (omega (arith, c.if-n-lt1.false)) (omega (arith, c.if-n-gt-MOST_STEPS.false)) (omega (arith, c.from.ensures, c.if-from-count.false)) in
+    let goes = run_goes w c.args.n (omega (arith, c.if-n-lt1.false)) (omega (arith, c.if-n-gt-MOST_STEPS.false))
+    (omega (arith, c.from.ensures, c.if-from-count.false)) in
     let told = answers_so c.run_whole.result (run_steps w c.args.n) now (steps_of c.args.n w) goes c.run_whole.ensures.obeys.outcome in
-    let done = commanded {S = World} {world = λ v. v} {r = c.run_whole.result} {meant = run_steps w c.args.n} {old = w} {new = now} (commands.Step c.args.n) (record { outcome = told; kept = c.run_whole.ensures.obeys.kept }) c.self.invariant.sound (steps_mean w c.args.n) in
+    let done = commanded {S = World} {world = λ v. v} {r = c.run_whole.result} {meant = run_steps w c.args.n} {old = w} {new = now}
+    (commands.Step c.args.n) (record { outcome = told; kept = c.run_whole.ensures.obeys.kept }) c.self.invariant.sound
+    (steps_mean w c.args.n) in
     seen_commanded (λ (v : World). run_steps v c.args.n) c.self.view_is done
 
 pub returns-clause-not_fallen : goal.returns-clause-not_fallen
-returns-clause-not_fallen g c = subst (λ (s : Solved g.row.P.Denot). g.P.Projector.count s.projector ≤ g.P.Projector.count c.run_whole.new.run.projector) c.self.view_is c.run_whole.ensures.not_fallen
+returns-clause-not_fallen g c = subst (λ (s : Solved g.row.P.Denot). g.P.Projector.count s.projector
+    ≤ g.P.Projector.count c.run_whole.new.run.projector) c.self.view_is c.run_whole.ensures.not_fallen
 
 pub returns-clause-width : goal.returns-clause-width
 returns-clause-width g c = c.run_whole.ensures.width ∙ ap (λ (s : Solved g.row.P.Denot). g.P.Projector.width s.projector) c.self.view_is
@@ -42,7 +47,8 @@ returns-clause-cost g c =
     let run = c.self.inside.run in
     let w = world_of c.self.inside.setting run.state in
     let lanes = g.P.Projector.width in
-    let goes = steps_paid g.row.L (lanes run.projector) w c.args.n (omega (arith, c.if-n-lt1.false)) (omega (arith, c.if-n-gt-MOST_STEPS.false)) (omega (arith, c.from.ensures, c.if-from-count.false)) in
+    let goes = steps_paid g.row.L (lanes run.projector) w c.args.n (omega (arith, c.if-n-lt1.false))
+    (omega (arith, c.if-n-gt-MOST_STEPS.false)) (omega (arith, c.from.ensures, c.if-from-count.false)) in
     let seen = ap (λ (s : Solved g.row.P.Denot). steps_work g.row.L (lanes s.projector) c.args.n s.world) c.self.view_is in
     omega (arith, c.run_whole.ensures.cost, goes, seen)
 

@@ -17,7 +17,8 @@ invariant_of-self g c =
 pub returns-clause-commanded : goal.returns-clause-commanded
 returns-clause-commanded g c =
     let w = world_of c.self.inside.setting c.self.inside.run.state in
-    seen_commanded (λ (v : World). unpin v c.args.i) c.self.view_is (commanded (commands.Unpin c.args.i) c.unpin.ensures.obeys c.self.invariant.sound (unpin_means w c.args.i))
+    seen_commanded (λ (v : World). unpin v c.args.i) c.self.view_is
+    (commanded (commands.Unpin c.args.i) c.unpin.ensures.obeys c.self.invariant.sound (unpin_means w c.args.i))
 
 pub returns-clause-copies : goal.returns-clause-copies
 returns-clause-copies g c = omega (arith, c.unpin.ensures.copies, ap (λ (s : Solved g.row.P.Denot). s.copies) c.self.view_is)

@@ -5,4 +5,5 @@ use Rattle.pbd_step.proofs.Keeping.{formed_few}
 use Rattle.pbd_step.proofs.views.Shown.planes.Goals as goal
 
 pub returns-clause-size : goal.returns-clause-size
-returns-clause-size g c = subst (λ (xs : List Plane). length xs ≤ 256) (sym c.as_slice.ensures) (formed_few (world_of c.self.inside.setting.now c.self.inside.state.now) c.self.invariant.well_formed).planes
+returns-clause-size g c = subst (λ (xs : List Plane). length xs ≤ 256) (sym c.as_slice.ensures)
+    (formed_few (world_of c.self.inside.setting.now c.self.inside.state.now) c.self.invariant.well_formed).planes

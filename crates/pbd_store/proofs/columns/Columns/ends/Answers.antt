@@ -9,13 +9,26 @@ use Rattle.pbd_store.proofs.columns.Columns.ends.Goals as goal
 
 pub picked-requires : goal.picked-requires
 picked-requires g c =
-    let near = row_near c.self.invariant.padded c.self.view_is g.row.L c.args.indices.now c.args.set.now c.rows-rows.result c.rows-rows.ensures c.requires in
+    let near = row_near c.self.invariant.padded c.self.view_is g.row.L c.args.indices.now c.args.set.now c.rows-rows.result
+    c.rows-rows.ensures c.requires in
     (search rules, (search rules, (λ j p. omega (arith, p, near j p, c.self.invariant.padded.places))))
 
 pub picked_weights-requires : goal.picked_weights-requires
 picked_weights-requires g c =
-    let near = row_near c.self.invariant.padded c.self.view_is g.row.L c.args.indices.now c.args.set.now c.rows-rows.result c.rows-rows.ensures c.requires in
-    (search rules, (search rules, (λ j p. omega (arith, p, near j p, c.self.invariant.long, ap (λ (xs : List ℕ). length xs) c.deref.ensures.value))))
+    let near = row_near c.self.invariant.padded c.self.view_is g.row.L c.args.indices.now c.args.set.now c.rows-rows.result
+    c.rows-rows.ensures c.requires in (
+      search rules,
+      (
+        search rules,
+        (λ j p. omega (
+          arith,
+          p,
+          near j p,
+          c.self.invariant.long,
+          ap (λ (xs : List ℕ). length xs) c.deref.ensures.value,
+        )),
+      ),
+    )
 
 pub returns-clause-x : goal.returns-clause-x
 returns-clause-x g c = c.picked.ensures.x ∙ gathered_is c.self.invariant.padded c.self.view_is g.row.L c.args.indices.now c.args.set.now

@@ -8,7 +8,8 @@ pub set_where-requires : goal.set_where-requires
 set_where-requires g c =
     let count = count_is c.self.invariant.padded c.self.view_is in
     let below = below c.self.invariant.padded c.self.view_is g.row.L c.args.start c.args.set.now c.own-own.result
-    (c.own-own.ensures ∙ ap (λ (bs : List Bool). lanes_of g.row.L (λ (j : ℕ). is_set bs j && nat_lt (c.args.start + j) (length c.args.self.now)))
+    (c.own-own.ensures ∙ ap (λ (bs : List Bool). lanes_of g.row.L
+    (λ (j : ℕ). is_set bs j && nat_lt (c.args.start + j) (length c.args.self.now)))
     c.to_array.ensures) in (
       omega (arith, c.requires.lanes),
       (
@@ -24,7 +25,8 @@ pub set_where-requires-2 : goal.set_where-requires-2
 set_where-requires-2 g c =
     let count = count_is c.self.invariant.padded c.self.view_is in
     let below = below c.self.invariant.padded c.self.view_is g.row.L c.args.start c.args.set.now c.own-own.result
-    (c.own-own.ensures ∙ ap (λ (bs : List Bool). lanes_of g.row.L (λ (j : ℕ). is_set bs j && nat_lt (c.args.start + j) (length c.args.self.now)))
+    (c.own-own.ensures ∙ ap (λ (bs : List Bool). lanes_of g.row.L
+    (λ (j : ℕ). is_set bs j && nat_lt (c.args.start + j) (length c.args.self.now)))
     c.to_array.ensures) in (
       omega (arith, c.requires.lanes),
       (
@@ -39,7 +41,8 @@ set_where-requires-2 g c =
 pub invariant_of-self : goal.invariant_of-self
 invariant_of-self g c = record {
   padded = moved_padded c.self.invariant.padded c.self.view_is g.row.L c.args.start c.args.set.now c.own-own.result
-      (c.own-own.ensures ∙ ap (λ (bs : List Bool). lanes_of g.row.L (λ (j : ℕ). is_set bs j && nat_lt (c.args.start + j) (length c.args.self.now)))
+      (c.own-own.ensures ∙ ap (λ (bs : List Bool). lanes_of g.row.L
+      (λ (j : ℕ). is_set bs j && nat_lt (c.args.start + j) (length c.args.self.now)))
       c.to_array.ensures) c.set_where.new.self c.set_where-2.new.self (place_of c.args.at.now.x c.args.at.now.y c.args.at.now.z)
       (place_of c.args.before.now.x c.args.before.now.y c.args.before.now.z) c.set_where.ensures c.set_where-2.ensures;
   long = c.self.invariant.long;
@@ -48,6 +51,7 @@ invariant_of-self g c = record {
 
 pub returns : goal.returns
 returns g c = moved_saved c.self.invariant.padded c.self.view_is g.row.L c.args.start c.args.set.now c.own-own.result
-    (c.own-own.ensures ∙ ap (λ (bs : List Bool). lanes_of g.row.L (λ (j : ℕ). is_set bs j && nat_lt (c.args.start + j) (length c.args.self.now)))
+    (c.own-own.ensures ∙ ap (λ (bs : List Bool). lanes_of g.row.L
+    (λ (j : ℕ). is_set bs j && nat_lt (c.args.start + j) (length c.args.self.now)))
     c.to_array.ensures) c.set_where.new.self c.set_where-2.new.self (place_of c.args.at.now.x c.args.at.now.y c.args.at.now.z)
     (place_of c.args.before.now.x c.args.before.now.y c.args.before.now.z) c.set_where.ensures c.set_where-2.ensures

@@ -22,7 +22,8 @@ weight_at-requires g c = omega (arith, c.requires.start, count_is c.self.invaria
 pub loop-j-preserved : goal.loop-j-preserved
 loop-j-preserved g c =
     let f : FitsSigned w64 c.weight_at.result = search rules in
-    filled_more _ c.loop-j.invariant (omega arith) (simp to_z-of_z (c.weight_at.ensures ∙ ap (λ (xs : List ℕ). pos (get_or xs (c.args.start + c.loop-j.j) 0)) c.deref.ensures.value))
+    filled_more _ c.loop-j.invariant (omega arith) (simp to_z-of_z
+    (c.weight_at.ensures ∙ ap (λ (xs : List ℕ). pos (get_or xs (c.args.start + c.loop-j.j) 0)) c.deref.ensures.value))
 
 pub returns : goal.returns
 returns g c = c.from_array.ensures ∙ filled_all c.loop-j.j (omega arith) c.loop-j.invariant

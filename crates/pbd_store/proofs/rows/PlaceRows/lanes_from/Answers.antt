@@ -6,7 +6,8 @@ use Rattle.pbd_store.specs.Listed.{place_at}
 use Rattle.pbd_store.proofs.Listing.{lanes_alike}
 use Rattle.pbd_store.proofs.rows.PlaceRows.lanes_from.Goals as goal
 
-number_is : (n start : ℕ) {numbers : List ℕ} → numbers ≡ lanes_of n (λ (j : ℕ). start + j) → (j : ℕ) → j < n → index_at numbers j ≡ start + j
+number_is : (n start : ℕ) {numbers : List ℕ} → numbers ≡ lanes_of n (λ (j : ℕ). start + j) → (j : ℕ) → j < n
+    → index_at numbers j ≡ start + j
 number_is n start e j p = ap (λ (ks : List ℕ). index_at ks j) e ∙ get_or-map-range_with_len (λ (k : ℕ). start + k) 0 n j j 0 p (omega arith)
 
 pub picked-requires : goal.picked-requires

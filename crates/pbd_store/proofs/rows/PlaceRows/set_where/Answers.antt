@@ -20,10 +20,12 @@ set_if-requires g c = λ s. omega (
 pub loop-j-preserved : goal.loop-j-preserved
 loop-j-preserved g c =
     let chosen = c.to_array-chosen.result in
-    let next = written_more c.args.start chosen (place_of c.args.places.now.x c.args.places.now.y c.args.places.now.z) c.args.self.now c.loop-j.self
+    let next = written_more c.args.start chosen (place_of c.args.places.now.x c.args.places.now.y c.args.places.now.z) c.args.self.now
+    c.loop-j.self
     c.loop-j.j c.loop-j.invariant (λ s. c.requires.room c.loop-j.j (omega arith)
     (ap (λ (bs : List Bool). is_set bs c.loop-j.j) (sym c.to_array-chosen.ensures) ∙ s)) in
-    let new = c.set_if.ensures ∙ (λ t. cond (is_set chosen c.loop-j.j) (slice_set c.loop-j.self (c.args.start + c.loop-j.j) (c.place.ensures t))
+    let new = c.set_if.ensures ∙ (λ t. cond (is_set chosen c.loop-j.j)
+    (slice_set c.loop-j.self (c.args.start + c.loop-j.j) (c.place.ensures t))
     c.loop-j.self) in
     subst (λ (vs : List Vec3). WrittenWhere (c.loop-j.j + 1) c.args.start chosen
     (place_of c.args.places.now.x c.args.places.now.y c.args.places.now.z) c.args.self.now vs) (sym new) next
@@ -33,5 +35,6 @@ returns g c =
     let all : c.loop-j.j ≡ g.row.L = omega arith in
     subst (λ (n : ℕ). WrittenWhere n c.args.start c.args.set.now (place_of c.args.places.now.x c.args.places.now.y c.args.places.now.z)
     c.args.self.now c.loop-j.self) all
-    (subst (λ (bs : List Bool). WrittenWhere c.loop-j.j c.args.start bs (place_of c.args.places.now.x c.args.places.now.y c.args.places.now.z)
+    (subst (λ (bs : List Bool). WrittenWhere c.loop-j.j c.args.start bs
+    (place_of c.args.places.now.x c.args.places.now.y c.args.places.now.z)
     c.args.self.now c.loop-j.self) c.to_array-chosen.ensures c.loop-j.invariant)

@@ -11,7 +11,8 @@ pub returns-clause-places : goal.returns-clause-places
 returns-clause-places c =
     let read = place_read c.self.inside.rows.items c.self.view_is c.args.i c.index.result.now c.index.ensures c.requires.some in
     place_written c.self.inside.rows.items c.self.view_is c.args.i c.plus-place.result
-    (plus (place_at c.args.self.now c.args.i) (vector_of c.args.way)) (c.plus-place.ensures ∙ (λ t. row_of (plus (read t) (vector_of c.args.way))))
+    (plus (place_at c.args.self.now c.args.i) (vector_of c.args.way))
+    (c.plus-place.ensures ∙ (λ t. row_of (plus (read t) (vector_of c.args.way))))
 
 pub returns-clause-place : goal.returns-clause-place
 returns-clause-place c =

@@ -11,7 +11,8 @@ returns-then-not-inside g c =
     let l : FitsSigned w64 c.self.inside.limit = search rules in
     let test = simp to_z-of_z at c.both_within-inside.ensures in
     let limit = ap (λ (s : Stored). s.limit) (sym c.self.view_is) in
-    let outside = (λ t. is_within (limit t) (sym c.ends_of-ends.ensures.first t) && is_within (limit t) (sym c.ends_of-ends.ensures.second t))
+    let outside = (λ t. is_within (limit t) (sym c.ends_of-ends.ensures.first t)
+    && is_within (limit t) (sym c.ends_of-ends.ensures.second t))
     ∙ sym test ∙ c.if-not-inside.true in
     record { one = omega arith; before = c.loop-j.invariant.below; leaves = outside }
 
@@ -20,13 +21,15 @@ loop-j-preserved g c =
     let l : FitsSigned w64 c.self.inside.limit = search rules in
     let test = simp to_z-of_z at c.both_within-inside.ensures in
     let limit = ap (λ (s : Stored). s.limit) (sym c.self.view_is) in
-    let here : ends_within c.args.self.now.limit c.args.self.now.particles c.args.pairs.first.now c.args.pairs.second.now c.loop-j.j ≡ true =
+    let here : ends_within c.args.self.now.limit c.args.self.now.particles c.args.pairs.first.now c.args.pairs.second.now c.loop-j.j
+    ≡ true =
     (λ t. is_within (limit t) (sym c.ends_of-ends.ensures.first t) && is_within (limit t) (sym c.ends_of-ends.ensures.second t)) ∙ sym test
     ∙ c.if-not-inside.false in
     record {
       below = λ k q. elim (split_below k c.loop-j.j q) [
         | inl p ↦ c.loop-j.invariant.below k p
-        | inr e ↦ subst (λ (m : ℕ). IsTrue (ends_within c.args.self.now.limit c.args.self.now.particles c.args.pairs.first.now c.args.pairs.second.now
+        | inr e ↦ subst (λ (m : ℕ). IsTrue (ends_within c.args.self.now.limit c.args.self.now.particles c.args.pairs.first.now
+            c.args.pairs.second.now
             m)) (sym e) here
       ];
     }

@@ -19,10 +19,12 @@ move_pair-stays-requires g c =
     let j = c.loop-j.j in
     let are = c.requires.pairs in
     let size = ap unsigned_abs c.loop-j.invariant.limit in
-    let first = within_at size (ap (λ (p : Particle). p.at) (first_still c.args.pairs (length c.args.pairs.first.now) (first_moves c.args.moves.now)
+    let first = within_at size (ap (λ (p : Particle). p.at)
+    (first_still c.args.pairs (length c.args.pairs.first.now) (first_moves c.args.moves.now)
     (second_moves c.args.moves.now) c.args.self.now.particles c.loop-j.self.particles c.loop-j.j c.loop-j.invariant.done (omega arith)
     c.requires.pairs c.requires.apart)) (c.requires.inside.each (index_at c.args.pairs.first.now j) (are.first j (omega arith))) in
-    let second = within_at size (ap (λ (p : Particle). p.at) (second_still c.args.pairs (length c.args.pairs.first.now) (first_moves c.args.moves.now)
+    let second = within_at size (ap (λ (p : Particle). p.at)
+    (second_still c.args.pairs (length c.args.pairs.first.now) (first_moves c.args.moves.now)
     (second_moves c.args.moves.now) c.args.self.now.particles c.loop-j.self.particles c.loop-j.j c.loop-j.invariant.done (omega arith)
     c.requires.pairs c.requires.apart)) (c.requires.inside.each (index_at c.args.pairs.second.now j) (are.second j (omega arith))) in (
       omega arith,
@@ -30,11 +32,13 @@ move_pair-stays-requires g c =
         c.requires.lanes,
         (
           first_room c.args.pairs (length c.args.pairs.first.now) (first_moves c.args.moves.now)
-              (second_moves c.args.moves.now) c.args.self.now.particles c.loop-j.self.particles c.loop-j.j c.loop-j.invariant.done (omega arith)
+              (second_moves c.args.moves.now) c.args.self.now.particles c.loop-j.self.particles c.loop-j.j c.loop-j.invariant.done
+              (omega arith)
               c.requires.pairs c.requires.apart,
           (
             second_room c.args.pairs (length c.args.pairs.first.now) (first_moves c.args.moves.now)
-                (second_moves c.args.moves.now) c.args.self.now.particles c.loop-j.self.particles c.loop-j.j c.loop-j.invariant.done (omega arith)
+                (second_moves c.args.moves.now) c.args.self.now.particles c.loop-j.self.particles c.loop-j.j c.loop-j.invariant.done
+                (omega arith)
                 c.requires.pairs c.requires.apart,
             (first, (second, (c.requires.moves.first j (omega arith), c.requires.moves.second j (omega arith)))),
           ),
@@ -57,18 +61,22 @@ loop-j-preserved g c =
     c.args.self.now.particles c.loop-j.self.particles c.loop-j.j c.loop-j.invariant.done (omega arith) c.requires.pairs c.requires.apart in
     let new : c.move_pair-stays.new.self.particles ≡ placed (placed ps a v) b w = c.move_pair-stays.ensures.particles
     ∙ cond-true c.move_pair-stays.result (placed (placed ps a v) b w) ps c.if-not-stays.false in
-    let here : stays c.args.self.now.limit c.args.self.now.particles c.args.pairs.first.now c.args.pairs.second.now (first_moves c.args.moves.now)
+    let here : stays c.args.self.now.limit c.args.self.now.particles c.args.pairs.first.now c.args.pairs.second.now
+    (first_moves c.args.moves.now)
     (second_moves c.args.moves.now) j ≡ true = (λ t. is_within (sym k.limit t) (plus (sym first t).at (first_moves c.args.moves.now j))
-    && is_within (sym k.limit t) (plus (sym second t).at (second_moves c.args.moves.now j))) ∙ sym c.move_pair-stays.ensures.test ∙ c.if-not-stays.false in
+    && is_within (sym k.limit t) (plus (sym second t).at (second_moves c.args.moves.now j))) ∙ sym c.move_pair-stays.ensures.test
+    ∙ c.if-not-stays.false in
     record {
       done = subst (λ (qs : List Particle). Parted (j + 1) c.args.pairs.first.now c.args.pairs.second.now (first_moves c.args.moves.now)
           (second_moves c.args.moves.now) c.args.self.now.particles qs) (sym new)
           (parted_more c.args.pairs (length c.args.pairs.first.now) (first_moves c.args.moves.now) (second_moves c.args.moves.now)
-          c.args.self.now.particles c.loop-j.self.particles c.loop-j.j c.loop-j.invariant.done (omega arith) c.requires.pairs c.requires.apart v w
+          c.args.self.now.particles c.loop-j.self.particles c.loop-j.j c.loop-j.invariant.done
+          (omega arith) c.requires.pairs c.requires.apart v w
           (λ t. plus (first t).at (first_moves c.args.moves.now j)) (λ t. plus (second t).at (second_moves c.args.moves.now j)));
       stay = λ m q. elim (split_below m j q) [
         | inl p ↦ k.stay m p
-        | inr e ↦ subst (λ (i : ℕ). IsTrue (stays c.args.self.now.limit c.args.self.now.particles c.args.pairs.first.now c.args.pairs.second.now
+        | inr e ↦ subst (λ (i : ℕ). IsTrue (stays c.args.self.now.limit c.args.self.now.particles c.args.pairs.first.now
+            c.args.pairs.second.now
             (first_moves c.args.moves.now) (second_moves c.args.moves.now) i)) (sym e) here
       ];
       limit = c.move_pair-stays.ensures.limit ∙ k.limit;

@@ -22,10 +22,12 @@ returns-then-are_within-clause-outcome g c =
     }
 
 pub returns-clause-outcome : goal.returns-clause-outcome
-returns-clause-outcome g c = outcome_from (length c.args.pairs.first.now) c.args.self.now.limit c.args.pairs.first.now c.args.pairs.second.now
+returns-clause-outcome g c = outcome_from (length c.args.pairs.first.now) c.args.self.now.limit c.args.pairs.first.now
+    c.args.pairs.second.now
     (opposites_in c.args.back.now) (ways_in c.args.forth.now) c.args.self.now.particles c.pull_ends-sizes.new.self.particles
     c.pull_ends-sizes.ensures.particles c.find_outside.result
     (subst (λ (z : ℤ). MatchResult c.find_outside.result (λ _. (j : ℕ) → j < length c.args.pairs.first.now
     → IsTrue (ends_within z c.pull_ends-sizes.new.self.particles c.args.pairs.first.now c.args.pairs.second.now j))
-    (λ k. OutsideAt k (length c.args.pairs.first.now) z c.pull_ends-sizes.new.self.particles c.args.pairs.first.now c.args.pairs.second.now))
+    (λ k. OutsideAt k (length c.args.pairs.first.now) z c.pull_ends-sizes.new.self.particles c.args.pairs.first.now
+    c.args.pairs.second.now))
     c.pull_ends-sizes.ensures.limit c.find_outside.ensures)

@@ -19,10 +19,12 @@ greater-requires-clause-within g c =
     let j = c.loop-j.j in
     let inside = inside_both c.self.inside.limit c.self.inside.columns c.self.invariant
     (subst (λ (s : Stored). AreInside s.limit s.particles) (sym c.self.view_is) c.requires.inside) in
-    let are = subst (λ (s : Stored). ArePairs (length c.args.pairs.first.now) (length s.particles) c.args.pairs) (sym c.self.view_is) c.requires.pairs in
+    let are = subst (λ (s : Stored). ArePairs (length c.args.pairs.first.now) (length s.particles) c.args.pairs)
+    (sym c.self.view_is) c.requires.pairs in
     let still = first_still c.args.pairs (length c.args.pairs.first.now) (opposites_in c.args.back.now) (ways_in c.args.forth.now)
     c.self.inside.columns c.loop-j.self-inside.columns j c.loop-j.invariant.pulled.done (omega arith) are c.requires.apart in
-    let place = subst (λ (p : Particle). Within (2 ^ 29) p.at) (sym still) (inside.each (index_at c.args.pairs.first.now j) (are.first j (omega arith))) in
+    let place = subst (λ (p : Particle). Within (2 ^ 29) p.at) (sym still)
+    (inside.each (index_at c.args.pairs.first.now j) (are.first j (omega arith))) in
     stepped_within place c.opposite_of-away.ensures.size c.step-first.ensures.place
 
 pub greater-sizes-requires-clause-within : goal.greater-sizes-requires-clause-within
@@ -30,11 +32,14 @@ greater-sizes-requires-clause-within g c =
     let j = c.loop-j.j in
     let inside = inside_both c.self.inside.limit c.self.inside.columns c.self.invariant
     (subst (λ (s : Stored). AreInside s.limit s.particles) (sym c.self.view_is) c.requires.inside) in
-    let are = subst (λ (s : Stored). ArePairs (length c.args.pairs.first.now) (length s.particles) c.args.pairs) (sym c.self.view_is) c.requires.pairs in
+    let are = subst (λ (s : Stored). ArePairs (length c.args.pairs.first.now) (length s.particles) c.args.pairs)
+    (sym c.self.view_is) c.requires.pairs in
     let a = index_at c.args.pairs.first.now j in
     let b = index_at c.args.pairs.second.now j in
-    let then = ap (λ (ps : List Particle). particle_at ps b) c.step-first.ensures.particles ∙ second_then c.args.pairs (length c.args.pairs.first.now)
-    (opposites_in c.args.back.now) (ways_in c.args.forth.now) c.self.inside.columns c.loop-j.self-inside.columns j c.loop-j.invariant.pulled.done
+    let then = ap (λ (ps : List Particle). particle_at ps b) c.step-first.ensures.particles
+    ∙ second_then c.args.pairs (length c.args.pairs.first.now)
+    (opposites_in c.args.back.now) (ways_in c.args.forth.now) c.self.inside.columns c.loop-j.self-inside.columns j
+    c.loop-j.invariant.pulled.done
     (omega arith) are c.requires.apart _ in
     let place = subst (λ (p : Particle). Within (2 ^ 29) p.at) (sym then) (inside.each b (are.second j (omega arith))) in
     stepped_within place (c.requires.forth.each j (omega arith)) c.step-second.ensures.place
@@ -42,10 +47,12 @@ greater-sizes-requires-clause-within g c =
 pub loop-j-preserved : goal.loop-j-preserved
 loop-j-preserved g c =
     let j = c.loop-j.j in
-    let are = subst (λ (s : Stored). ArePairs (length c.args.pairs.first.now) (length s.particles) c.args.pairs) (sym c.self.view_is) c.requires.pairs in
+    let are = subst (λ (s : Stored). ArePairs (length c.args.pairs.first.now) (length s.particles) c.args.pairs)
+    (sym c.self.view_is) c.requires.pairs in
     let k = c.loop-j.invariant in
     record {
-      pulled = pulled_more c.args.pairs (length c.args.pairs.first.now) (opposites_in c.args.back.now) (ways_in c.args.forth.now) c.loop-j.sizes
+      pulled = pulled_more c.args.pairs (length c.args.pairs.first.now) (opposites_in c.args.back.now)
+          (ways_in c.args.forth.now) c.loop-j.sizes
           c.self.inside.columns c.loop-j.self-inside.columns j k.pulled (omega arith) are c.requires.apart
           (vector_of c.opposite_of-away.result) (vector_of (row_in c.args.forth.now j)) (vector_of c.step-first.result)
           (vector_of c.step-second.result) c.step-first.new.self c.step-second.new.self c.greater.result c.greater-sizes.result

@@ -18,7 +18,10 @@ move_where-requires g c = (
     omega (arith, c.requires.lanes),
     (
       omega (arith, c.requires.lanes),
-      (omega (arith, c.start_of-start.ensures.within, c.len.ensures.value, ap (λ (s : Stored). length s.particles) c.self.view_is), c.requires.lanes),
+      (
+        omega (arith, c.start_of-start.ensures.within, c.len.ensures.value, ap (λ (s : Stored). length s.particles) c.self.view_is),
+        c.requires.lanes,
+      ),
     ),
   ),
 )

@@ -1,0 +1,15 @@
+use Rattle.std.proofs.Common.{◌≡◌, ℕ, ◌+◌, ◌*◌, ◌^◌, ◌<◌, length, get_or, unsigned_abs}
+use Rattle.pbd_num.specs.Vectors.{Within, zero_vector}
+use Rattle.pbd_world.specs.Ledger.{ledger_of, HaveRoom}
+use Rattle.pbd_step.specs.Predicting.{bare_world}
+use Rattle.pbd_step.proofs.Advancing.{Advancing}
+use Rattle.pbd_step.proofs.predict.advance_one_by_one.Given as goal
+
+abbrev pub invariant-loop-j : goal.invariant-loop-j
+invariant-loop-j g l = record {
+  some : Advancing (bare_world l.fn.setting l.store.limit) g.row.L l.fn.block l.j l.places l.store.particles (ledger_of l.initial.totals)
+      (ledger_of l.totals);
+  whole : length l.places ≡ g.row.L;
+  within : (k : ℕ) → k < l.j → Within (unsigned_abs l.store.limit) (get_or l.places k zero_vector);
+  room : (n : ℕ) → HaveRoom n (ledger_of l.initial.totals) → HaveRoom (n + l.j * 2 ^ 31) (ledger_of l.totals);
+}
