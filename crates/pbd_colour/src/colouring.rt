@@ -2,7 +2,7 @@
 ghost use Rattle.std.specs.Prelude.{◌≡◌, ◌<◌, ◌≤◌, ◌++◌, [], ℕ, length, slice_index, replicate, IfOk, slice_range};
 ghost use Rattle.std.specs.Prelude.{◌+◌, ◌*◌, IsTrue, IsFalse, true, count_by};
 ghost use Rattle.std.specs.List.Sorted.{IsStrictlyIncreasing};
-ghost use Rattle.pbd_world.specs.Colours.{live_at, colour, joined, joins};
+ghost use Rattle.pbd_world.specs.Colours.{live_at, colour, order, joined, joins};
 ghost use Rattle.pbd_colour.specs.Pairs.{InRange, batch_of, dropped};
 ghost use Rattle.pbd_colour.specs.Batch.{AreApart, AreLive};
 ghost use Rattle.pbd_colour.specs.Coloured.{IsColoured};
@@ -241,6 +241,13 @@ impl Colouring {
         ensures live { AreLive self.now.pairs self.now.live result.now }
     {
         piece(self.order.as_slice(), self.starts.as_slice(), 63)
+    }
+
+    /// The live pairs of all colours, those of the least first. Of one colour they ascend.
+    pub fn order(&self) -> &[u32]
+        ensures { result.now ≡ order self.now.pairs self.now.live }
+    {
+        self.order.as_slice()
     }
 
     /// Whether a live pair joins two particles, in either order.

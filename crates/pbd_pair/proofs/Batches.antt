@@ -95,7 +95,7 @@ some_chunk l low high = omega (arith, mod-lt 128 low)
 
 -- ---- what stays with the fixed parts
 
-get_or-map_fixed : (ps : List Particle) (i : ℕ) → particle_at (fixed_parts ps) i ≡ record (particle_at ps i) { at = zero_vector }
+pub get_or-map_fixed : (ps : List Particle) (i : ℕ) → particle_at (fixed_parts ps) i ≡ record (particle_at ps i) { at = zero_vector }
 get_or-map_fixed [] i = refl
 get_or-map_fixed (p ∷ ps) zero = refl
 get_or-map_fixed (p ∷ ps) (suc i) = get_or-map_fixed ps i

@@ -5,6 +5,7 @@ use Rattle.std.proofs.lemmas.Int.{ints, fits_signed_from_abs}
 use Rattle.std.proofs.lemmas.Bool.{cases_eq, cases_lt}
 use Rattle.std.proofs.lemmas.List.{get_or-take, length-take}
 use Rattle.pbd_num.specs.declared.Vec3.{Vec3}
+use Rattle.pbd_num.specs.declared.row.Row.{Row}
 use Rattle.pbd_num.specs.Rows.{vector_of}
 use Rattle.pbd_num.specs.Vectors.{Within, minus}
 use Rattle.pbd_num.proofs.Ranges.{wider}
@@ -15,7 +16,7 @@ use Rattle.pbd_world.specs.declared.totals.Totals.{Totals}
 use Rattle.pbd_world.specs.Particles.{particle_at, effective_weight}
 use Rattle.pbd_store.specs.Gathering.{index_at}
 use Rattle.pbd_store.specs.Stored.{Stored}
-use Rattle.pbd_store.specs.Pairs.{row_in, ArePairs, PairsApart, AreBetween}
+use Rattle.pbd_store.specs.Pairs.{row_in, ArePairs, PairsApart, AreBetween, IsWay}
 use Rattle.pbd_store.specs.declared.pairs.Pairs.{Pairs}
 use Rattle.pbd_store.specs.declared.pairs.Between.{Between}
 use Rattle.pbd_pair.specs.declared.bonds.Bonds.{Bonds}
@@ -24,7 +25,12 @@ use Rattle.pbd_pair.specs.declared.chunk.Found.{Found}
 use Rattle.pbd_pair.specs.Bonds.{bond_of}
 use Rattle.pbd_pair.specs.Projecting.{CanProject}
 use Rattle.pbd_pair.specs.Moves.{moves_by, moves_at}
-use Rattle.pbd_pair.specs.Chunks.{number_in, AreKnown, AreLoaded, AreSized, IsFound}
+use Rattle.pbd_pair.specs.Chunks.{lying_in, rows_of, AreShared, AreEnds, AreKnown, AreSized, AreWeighed, HoldsFactor, HoldsRest, IsFound}
+use Rattle.pbd_pair.specs.Chunks.{LieBetween, Lying}
+use Rattle.pbd_pair.specs.declared.laid.Laid.{Laid}
+use Rattle.pbd_pair.specs.declared.laid.LaidBond.{LaidBond}
+use Rattle.pbd_pair.specs.Laid.{factor_of, laid_at, laid_bond, lists_of, number_in, weight_in, AreLaid, AreOfBatch, IsFirm, Lists}
+use Rattle.pbd_pair.proofs.Laying.{factor_held, short_held}
 use Rattle.pbd_pair.proofs.Ranges.{rest_fits}
 use Rattle.pbd_pair.proofs.Reaching.{nth}
 
@@ -32,14 +38,14 @@ use Rattle.pbd_pair.proofs.Reaching.{nth}
 pub short_fits : (z : ℤ) → pos 0 ≤ℤ z → z ≤ℤ pos 65535 → FitsSigned w32 z
 short_fits z low high = fits_signed_from_abs w32 z (omega (arith, size_at_most z 65535 low high))
 
-pub first_fits : {n : ℕ} {between : Between} → AreSized n between → (j : ℕ) → j < n → FitsSigned w32 (number_in between.first_weight j)
-first_fits {n} {between} h j p = short_fits (number_in between.first_weight j) (h.first_low j p) (h.first_high j p)
+pub share_fits : (z : ℤ) → neg_ℤ (pos 1) ≤ℤ z → z ≤ℤ pos 512 → FitsSigned w32 z
+share_fits z low high = fits_signed_from_abs w32 z (omega (arith, size_le z 512 high (omega (arith, ints))))
 
-pub second_fits : {n : ℕ} {between : Between} → AreSized n between → (j : ℕ) → j < n → FitsSigned w32 (number_in between.second_weight j)
-second_fits {n} {between} h j p = short_fits (number_in between.second_weight j) (h.second_low j p) (h.second_high j p)
+pub first_fits : {n : ℕ} {l : Lying} → AreSized n l → (j : ℕ) → j < n → FitsSigned w32 (number_in l.first_weight j)
+first_fits {n} {l} h j p = short_fits (number_in l.first_weight j) (h.first_low j p) (h.first_high j p)
 
-pub stiff_fits : (z : ℤ) → neg_ℤ (pos 1) ≤ℤ z → z ≤ℤ pos 256 → FitsSigned w32 z
-stiff_fits z low high = fits_signed_from_abs w32 z (omega (arith, size_le z 256 high (omega (arith, ints))))
+pub second_fits : {n : ℕ} {l : Lying} → AreSized n l → (j : ℕ) → j < n → FitsSigned w32 (number_in l.second_weight j)
+second_fits {n} {l} h j p = short_fits (number_in l.second_weight j) (h.second_low j p) (h.second_high j p)
 
 module _ {bonds : Bonds} {numbers : List ℕ} {s : Stored} {t : Totals} (can : CanProject 128 bonds numbers s t) where
   abbrev B : ℕ → Bond
@@ -57,7 +63,7 @@ module _ {bonds : Bonds} {numbers : List ℕ} {s : Stored} {t : Totals} (can : C
     };
   }
 
-  module _ (c : Columns) (pairs : Pairs) (loaded : AreLoaded (bond_of bonds) numbers c)
+  module _ (c : Columns) (pairs : Pairs) (loaded : AreEnds (bond_of bonds) numbers c)
       (firsts : pairs.first.now ≡ take (length numbers) c.first)
       (seconds : pairs.second.now ≡ take (length numbers) c.second) where
     pub taken_first : (j : ℕ) → j < length numbers → index_at pairs.first.now j ≡ (B j).a
@@ -77,10 +83,31 @@ module _ {bonds : Bonds} {numbers : List ℕ} {s : Stored} {t : Totals} (can : C
       second = λ j p. omega (arith, taken_second j p, (can.batch.bond j p).second);
     }
 
+  -- ends that are taken and kept
+  pub ends_kept : {c d : Columns} → AreEnds (bond_of bonds) numbers c → d.first ≡ c.first → d.second ≡ c.second
+      → AreEnds (bond_of bonds) numbers d
+  ends_kept ends e f = record {
+    first_long = ap (λ (xs : List ℕ). length xs) e ∙ ends.first_long;
+    second_long = ap (λ (xs : List ℕ). length xs) f ∙ ends.second_long;
+    first = λ j p. ap (λ (xs : List ℕ). index_at xs j) e ∙ ends.first j p;
+    second = λ j p. ap (λ (xs : List ℕ). index_at xs j) f ∙ ends.second j p;
+  }
+
+  -- the ways between the ends, told of other lists of the same ends
+  pub ways_of : (ways : List Row) (xs ys firsts seconds : List ℕ) → ((j : ℕ) → j < length numbers → IsWay (row_in ways j)
+      (particle_at s.particles (index_at xs j)).at (particle_at s.particles (index_at ys j)).at)
+      → ((j : ℕ) → j < length numbers → index_at xs j ≡ (B j).a)
+      → ((j : ℕ) → j < length numbers → index_at ys j ≡ (B j).b) → ((j : ℕ) → j < length numbers → index_at firsts j ≡ (B j).a) → ((j : ℕ)
+      → j < length numbers → index_at seconds j ≡ (B j).b) → (j : ℕ) → j < length numbers → IsWay (row_in ways j)
+      (particle_at s.particles (index_at firsts j)).at (particle_at s.particles (index_at seconds j)).at
+  ways_of ways xs ys firsts seconds told a b c d j p = coe 0 1
+      (i. IsWay (row_in ways j) (particle_at s.particles ((a j p ∙ sym (c j p)) i)).at
+      (particle_at s.particles ((b j p ∙ sym (d j p)) i)).at) (told j p)
+
   -- what lies between the ends
-  module _ {firsts seconds : List ℕ} {between : Between} (is_first : (j : ℕ) → j < length numbers → index_at firsts j ≡ (B j).a)
+  module _ {firsts seconds : List ℕ} {between : Lying} (is_first : (j : ℕ) → j < length numbers → index_at firsts j ≡ (B j).a)
       (is_second : (j : ℕ)
-      → j < length numbers → index_at seconds j ≡ (B j).b) (told : AreBetween (length numbers) s.particles firsts seconds between) where
+      → j < length numbers → index_at seconds j ≡ (B j).b) (told : LieBetween (length numbers) s.particles firsts seconds between) where
     way_is : (j : ℕ) → j < length numbers → vector_of (row_in between.ways j)
         ≡ minus (particle_at s.particles (B j).a).at (particle_at s.particles (B j).b).at
     way_is j p = (told.ways j p).0 ∙ (λ i. minus (particle_at s.particles (is_first j p i)).at
@@ -132,6 +159,110 @@ module _ {bonds : Bonds} {numbers : List ℕ} {s : Stored} {t : Totals} (can : C
         ∙ flag_case (particle_at s.particles (B j).b).held (particle_at s.particles
         (B j).b).weight (can.weights.low (B j).b (can.batch.bond j p).second)
 
+  -- ---- columns
+
+  module _ {l : Laid} (rows : AreOfBatch (bond_of bonds) numbers s.particles l) where
+    row_is : (j : ℕ) → j < length numbers → laid_at (lists_of l) j
+        ≡ laid_bond (B j) (pos (weight_in s.particles (B j).a)) (pos (weight_in s.particles
+        (B j).b))
+    row_is j p = rows.laid.each j p
+
+    pub laid_rest : (j : ℕ) → j < length numbers → HoldsRest (B j) (number_in l.rest.now j)
+    laid_rest j p = subst (λ (x : LaidBond). HoldsRest (B j) x.rest) (sym (row_is j p)) (short_held (B j) (known_bonds.firm j p))
+
+    pub laid_factor : (j : ℕ) → j < length numbers → HoldsFactor (B j) (number_in l.first_weight.now j) (number_in l.second_weight.now j)
+        (number_in l.factor.now j)
+    laid_factor j p =
+        subst (λ (x : LaidBond). HoldsFactor (B j) x.first_weight x.second_weight x.factor) (sym (row_is j p))
+        (factor_held (B j) _ _ (known_bonds.firm j p))
+
+    module _ (pairs : Pairs) (firsts : pairs.first.now ≡ l.first.now) (seconds : pairs.second.now ≡ l.second.now) where
+      pub laid_first : (j : ℕ) → j < length numbers → index_at pairs.first.now j ≡ (B j).a
+      laid_first j p = ap (λ (xs : List ℕ). get_or xs j 0) firsts ∙ ap (λ (x : LaidBond). x.first) (row_is j p)
+
+      pub laid_second : (j : ℕ) → j < length numbers → index_at pairs.second.now j ≡ (B j).b
+      laid_second j p = ap (λ (xs : List ℕ). get_or xs j 0) seconds ∙ ap (λ (x : LaidBond). x.second) (row_is j p)
+
+      pub laid_pairs : ArePairs (length numbers) (length s.particles) pairs
+      laid_pairs = record {
+        few = can.short;
+        first_long = ap (λ (xs : List ℕ). length xs) firsts ∙ rows.exact;
+        second_long = ap (λ (xs : List ℕ). length xs) seconds ∙ rows.laid.even.second ∙ rows.exact;
+        first = λ j p. omega (arith, laid_first j p, (can.batch.bond j p).first);
+        second = λ j p. omega (arith, laid_second j p, (can.batch.bond j p).second);
+      }
+
+      -- with the ways between the ends
+      pub lie_between : {ways : List Row} → ((j : ℕ) → j < length numbers
+          → IsWay (row_in ways j) (particle_at s.particles (index_at pairs.first.now j)).at
+          (particle_at s.particles (index_at pairs.second.now j)).at)
+          → LieBetween (length numbers) s.particles pairs.first.now pairs.second.now (record {
+            ways = ways;
+            first_weight = l.first_weight.now;
+            second_weight = l.second_weight.now;
+          })
+      lie_between told = record {
+        ways = told;
+        first_weights = λ j p. ap (λ (x : LaidBond). x.first_weight) (row_is j p)
+            ∙ ap (λ i. pos (weight_in s.particles i)) (sym (laid_first j p));
+        second_weights = λ j p. ap (λ (x : LaidBond). x.second_weight) (row_is j p)
+            ∙ ap (λ i. pos (weight_in s.particles i)) (sym (laid_second j p));
+      }
+
+  -- the columns of a chunk that came without
+  module _ (l : Laid) {c : Columns} {between : Between} {firsts seconds : List ℕ} (ends : AreEnds (bond_of bonds) numbers c)
+      (drawn : AreShared (bond_of bonds) numbers between c) (is_first : (j : ℕ) → j < length numbers → index_at firsts j ≡ (B j).a)
+      (is_second : (j : ℕ) → j < length numbers → index_at seconds j ≡ (B j).b)
+      (told : AreBetween (length numbers) s.particles firsts seconds between) (whole_first : length between.first_weight ≡ 128)
+      (whole_second : length between.second_weight ≡ 128) where
+    lie : LieBetween (length numbers) s.particles firsts seconds (record {
+      ways = between.ways;
+      first_weight = between.first_weight;
+      second_weight = between.second_weight;
+    })
+    lie = record { ways = told.ways; first_weights = told.first_weights; second_weights = told.second_weights }
+
+    full : {A : Type 0} (xs : List A) → length xs ≡ 128 → length (take (length numbers) xs) ≡ length numbers
+    full xs whole = length-take (length numbers) xs ∙ omega (arith, can.short, whole)
+
+    rows_laid : AreLaid (bond_of bonds) (weight_in s.particles) numbers (rows_of (length numbers) between c)
+    rows_laid = record {
+      even = record {
+        second = full c.second ends.second_long ∙ sym (full c.first ends.first_long);
+        rest = full c.rest drawn.rest_long ∙ sym (full c.first ends.first_long);
+        factor = full c.factor drawn.factor_long ∙ sym (full c.first ends.first_long);
+        first_weight = full between.first_weight whole_first ∙ sym (full c.first ends.first_long);
+        second_weight = full between.second_weight whole_second ∙ sym (full c.first ends.first_long);
+      };
+      long = omega (arith, full c.first ends.first_long);
+      each = λ j p.
+          let w1 = first_is is_first is_second lie j p in
+          let w2 = second_is is_first is_second lie j p in
+          λ t. record {
+            first = (get_or-take (length numbers) c.first j 0 p ∙ ends.first j p) t;
+            second = (get_or-take (length numbers) c.second j 0 p ∙ ends.second j p) t;
+            rest = (get_or-take (length numbers) c.rest j (pos 0) p ∙ drawn.rest j p) t;
+            factor = (get_or-take (length numbers) c.factor j (pos 0) p ∙ drawn.factor j p ∙ (λ i. factor_of (B j) (w1 i) (w2 i))) t;
+            first_weight = (get_or-take (length numbers) between.first_weight j (pos 0) p ∙ w1) t;
+            second_weight = (get_or-take (length numbers) between.second_weight j (pos 0) p ∙ w2) t;
+          };
+    }
+
+    pub numbers_laid : lists_of l ≡ rows_of (length numbers) between c → AreOfBatch (bond_of bonds) numbers s.particles l
+    numbers_laid e = record {
+      exact = ap (λ (ls : Lists). length ls.first) e ∙ full c.first ends.first_long;
+      laid = subst (λ (ls : Lists). AreLaid (bond_of bonds) (weight_in s.particles) numbers ls) (sym e) rows_laid;
+    }
+
+  pub weighed : {firsts seconds : List ℕ} {between : Between} → ((j : ℕ) → j < length numbers → index_at firsts j ≡ (B j).a) → ((j : ℕ)
+      → j < length numbers → index_at seconds j ≡ (B j).b) → AreBetween (length numbers) s.particles firsts seconds between
+      → AreWeighed (length numbers) between.first_weight between.second_weight
+  weighed {between = between} is_first is_second told =
+      let all = sized {between = record { ways = between.ways; first_weight = between.first_weight; second_weight = between.second_weight }}
+      is_first
+      is_second (record { ways = told.ways; first_weights = told.first_weights; second_weights = told.second_weights }) in
+      record { first_low = all.first_low; first_high = all.first_high; second_low = all.second_low; second_high = all.second_high }
+
   -- no two ends are one particle
   pub ends_apart : {pairs : Pairs} → ((j : ℕ) → j < length numbers → index_at pairs.first.now j ≡ (B j).a) → ((j : ℕ) → j < length numbers
       → index_at pairs.second.now j ≡ (B j).b) → PairsApart (length numbers) pairs
@@ -149,20 +280,3 @@ module _ {bonds : Bonds} {numbers : List ℕ} {s : Stored} {t : Totals} (can : C
             (can.batch.apart.each k j (omega (arith, d)) p).ba (sym e)
       ]
     ]
-
--- the ends by the columns of a chunk, and what the store tells of them
-pub found_by : {s : Stored} {t : Totals} {c : Columns} (found : Found) (can : CanProject 128 found.chunk.bonds found.chunk.numbers.now s t)
-    → AreLoaded (bond_of found.chunk.bonds) found.chunk.numbers.now c
-    → found.pairs.first.now ≡ take (length found.chunk.numbers.now) c.first
-    → found.pairs.second.now ≡ take (length found.chunk.numbers.now) c.second
-    → AreBetween (length found.pairs.first.now) s.particles found.pairs.first.now found.pairs.second.now found.between.now
-    → IsFound s.particles found
-found_by {s} {t} {c} found can loaded firsts seconds told =
-    let pairs = are_pairs can c found.pairs loaded firsts seconds in
-    record {
-      first = taken_first can c found.pairs loaded firsts seconds;
-      second = taken_second can c found.pairs loaded firsts seconds;
-      pairs = pairs;
-      between = subst (λ (n : ℕ). AreBetween n s.particles found.pairs.first.now found.pairs.second.now found.between.now) pairs.first_long
-          told;
-    }

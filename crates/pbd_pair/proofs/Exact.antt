@@ -1,15 +1,13 @@
--- The moves of a bond by its reach, and numbers that fit 32 bits.
+-- The moves of a bond by its reach.
 use Rattle.std.proofs.Common.{◌≡◌, ◌<◌, ◌^◌, ℤ, pos, ◌*ℤ◌, ◌≤ℤ◌, ◌<ℤ◌, int_le, int_lt, w32, FitsSigned, Bool, true, false, ◌&&◌, cond, refl}
-use Rattle.std.proofs.Common.{sym, ◌∙◌, arith, subst}
-use Rattle.std.proofs.lemmas.Int.{ints, fits_signed_from_abs}
-use Rattle.std.proofs.lemmas.Bool.{false≢true}
-use Rattle.pbd_num.proofs.Sizes.{size_at_most}
+use Rattle.std.proofs.Common.{ap, sym, ◌∙◌, arith, subst}
+use Rattle.std.proofs.lemmas.Int.{ints}
 use Rattle.pbd_num.specs.declared.Vec3.{Vec3}
 use Rattle.pbd_num.specs.Vectors.{zero_vector, length_of}
 use Rattle.pbd_num.specs.PairMove.{pair_moves}
 use Rattle.pbd_world.specs.declared.bond.Bond.{Bond}
 use Rattle.pbd_pair.specs.Moves.{moves_by}
-use Rattle.pbd_pair.specs.Chunks.{reach_of, IsFactor}
+use Rattle.pbd_pair.specs.Chunks.{reach_of}
 use Rattle.pbd_num.proofs.Tests.{beyond}
 
 at_least : (a b : ℤ) → int_le a b ≡ true → a ≤ℤ b
@@ -33,33 +31,3 @@ moves_by_reach way first second b m reach e short some none =
     (omega (arith, ints, short))
     (subst (λ (z : ℤ). pos (length_of way) <ℤ z → m ≡ pair_moves way zero_vector b.rest b.k first second) e some)
     (subst (λ (z : ℤ). z ≤ℤ pos (length_of way) → m ≡ (zero_vector, zero_vector)) e none)
-
--- ---- the factor of a bond with a held end
-
-pub alone_fits : (k : ℤ) → pos 0 ≤ℤ k → k ≤ℤ pos 256 → FitsSigned w32 (pos 2 *ℤ k)
-alone_fits k low high = fits_signed_from_abs w32 (pos 2 *ℤ k) (omega (
-  arith,
-  size_at_most (pos 2 *ℤ k) 512 (omega (arith, ints, low)) (omega (
-    arith,
-    ints,
-    high,
-  )),
-))
-
-pub above : (w : ℤ) → pos 0 <ℤ w → int_lt (pos 0) w ≡ true
-above w h = grind (arith, ints, h)
-
-pub alone_factor : (k first second : ℤ) → pos 0 ≤ℤ k → k ≤ℤ pos 256 → (int_lt (pos 0) first && int_lt (pos 0) second) ≡ false
-    → IsFactor k first second
-    (pos 2 *ℤ k)
-alone_factor k first second low high apart =
-    let never : pos 0 <ℤ first → pos 0 <ℤ second → ⊥ = λ a b. false≢true (sym apart ∙ (λ i. above first a i && above second b i)) in
-    record {
-      low = omega (arith, ints, low);
-      high = omega (arith, ints, high);
-      short = λ h. low;
-      even = λ h a b. absurd (never a b);
-      both = λ h a b. absurd (never a b);
-      first_held = λ h a. refl;
-      second_held = λ h a. refl;
-    }

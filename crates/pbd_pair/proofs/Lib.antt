@@ -10,6 +10,8 @@ pub mod Parting
 pub mod Pinning
 pub mod Batches
 pub mod Filling
+pub mod Laying
+pub mod LaidParts
 pub mod Chunks
 pub mod Exact
 pub mod NearBonds

@@ -12,8 +12,10 @@ use Rattle.pbd_num.proofs.Lengths.{pair_moves-none}
 use Rattle.pbd_world.specs.declared.bond.Bond.{Bond}
 use Rattle.pbd_near.specs.Moves.{IsPulled}
 use Rattle.pbd_pair.specs.Moves.{moves_by}
-use Rattle.pbd_pair.specs.Chunks.{kept_by, HoldsRest, HoldsStiffness, IsFactor, IsNear}
-use Rattle.pbd_pair.proofs.Exact.{above}
+use Rattle.pbd_pair.specs.Chunks.{kept_by, HoldsFactor, HoldsRest, IsNear}
+
+above : (w : ℤ) → pos 0 <ℤ w → int_lt (pos 0) w ≡ true
+above w h = grind (arith, ints, h)
 
 not_above : (w : ℤ) → w ≤ℤ pos 0 → int_lt (pos 0) w ≡ false
 not_above w h = grind (arith, ints, h)
@@ -105,16 +107,13 @@ module _ (way : Vec3) (first second : ℤ) (row : Row) (first_low : pos 0 ≤ℤ
     | inr h ↦ held_one rest k f (omega (arith, ints, h)) even both by_first by_second is
   ]
 
-pub near_moves : (way : Vec3) (first second : ℤ) (b : Bond) (row : Row) (rest k f : ℤ) (contact : Bool) → pos 0 ≤ℤ first → pos 0 ≤ℤ second
-    → HoldsRest b rest → HoldsStiffness b k → IsFactor k first second f → b.contact ≡ contact → row.flag ≡ pos 0
-    → IsPulled way rest f contact
+pub near_moves : (way : Vec3) (first second : ℤ) (b : Bond) (row : Row) (rest f : ℤ) (contact : Bool) → pos 0 ≤ℤ first → pos 0 ≤ℤ second
+    → HoldsRest b rest → HoldsFactor b first second f → b.contact ≡ contact → row.flag ≡ pos 0 → IsPulled way rest f contact
     (vector_of row) → IsNear way first second b row
 unfolding moves_by
-near_moves way first second b row rest k f contact first_low second_low r s factor kind flag pulled =
+near_moves way first second b row rest f contact first_low second_low r factor kind flag pulled =
     let named = pulled.asked in
-    let short = factor.short named in
-    let rest_is : rest ≡ b.rest = r.near (s.near short) in
-    let k_is : k ≡ b.k = s.value short in
+    let rest_is : rest ≡ b.rest = r.near (factor.short named) in
     let slack : Bool = b.contact && int_le b.rest (pos (length_of way)) in
     let told : vector_of row ≡ scaled (cond slack (pos 0) f) (pos 512) (corrections way rest) =
     pulled.value ∙ (λ i. scaled (cond (sym kind i && int_le (rest_is i) (pos (length_of way))) (pos 0) f) (pos 512) (corrections way rest))
@@ -122,7 +121,7 @@ near_moves way first second b row rest k f contact first_low second_low r s fact
     record {
       flag = flag;
       size = pulled.size;
-      moves = (λ i. cond slack (zero_vector, zero_vector) (pair_moves way zero_vector (sym rest_is i) (sym k_is i) first second))
-          ∙ moves_case way first second row first_low second_low pulled.apart slack rest k f (factor.even named) (factor.both named)
+      moves = (λ i. cond slack (zero_vector, zero_vector) (pair_moves way zero_vector (sym rest_is i) b.k first second))
+          ∙ moves_case way first second row first_low second_low pulled.apart slack rest b.k f (factor.even named) (factor.both named)
           (factor.second_held named) (factor.first_held named) told;
     }

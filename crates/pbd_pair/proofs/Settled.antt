@@ -1,6 +1,6 @@
 -- A chunk whose ends have moved, as its bonds one by one.
-use Rattle.std.proofs.Common.{◌≡◌, ℕ, ◌<◌, ◌^◌, ℤ, pos, ◌≤ℤ◌, ◌<ℤ◌, List, length, get_or, Bool, true, false, IsTrue, ◌&&◌, int_le, int_lt}
-use Rattle.std.proofs.Common.{cond, refl, ap, sym, ◌∙◌, arith, subst, Err}
+use Rattle.std.proofs.Common.{◌≡◌, ℕ, ◌<◌, ◌≤◌, ◌^◌, ℤ, pos, ◌≤ℤ◌, ◌<ℤ◌, List, length, get_or, Bool, true, false, IsTrue, ◌&&◌, int_le}
+use Rattle.std.proofs.Common.{int_lt, cond, refl, ap, sym, ◌∙◌, arith, subst, Err}
 use Rattle.std.proofs.lemmas.Int.{ints}
 use Rattle.pbd_num.specs.declared.Vec3.{Vec3}
 use Rattle.pbd_num.specs.declared.row.Row.{Row}
@@ -18,13 +18,13 @@ use Rattle.pbd_store.specs.Moving.{motion_of}
 use Rattle.pbd_store.specs.declared.pairs.Between.{Between}
 use Rattle.pbd_store.specs.declared.pairs.EndMoves.{EndMoves}
 use Rattle.pbd_pair.specs.declared.chunk.Found.{Found}
-use Rattle.pbd_pair.specs.declared.near.NearMoves.{NearMoves}
 use Rattle.pbd_store.specs.Pairs.{row_in, moves_in, ways_in, opposites_in, first_moves, second_moves, stays, ArePairs, PairsApart, AreMoves}
 use Rattle.pbd_store.specs.Pairs.{AreShort, EachMoved, LeavesAt}
 use Rattle.pbd_pair.specs.Bonds.{bond_of, shift_by}
 use Rattle.pbd_pair.specs.Projecting.{CanProject, ShareNone, projected_block}
 use Rattle.pbd_pair.specs.Moves.{moves_at, stay_at, entries_at, settled, moved_below}
-use Rattle.pbd_pair.specs.Chunks.{kept_by, number_in, entries_in, unplaced, AreExact, AreNear, AreSized, IsFound, IsMasked}
+use Rattle.pbd_pair.specs.Laid.{number_in}
+use Rattle.pbd_pair.specs.Chunks.{kept_by, entries_in, lying_in, unplaced, AreExact, AreNear, AreSized, IsFound, IsMasked, Lying}
 use Rattle.pbd_pair.proofs.ByWay.{same_entries, added_nothing}
 use Rattle.pbd_pair.proofs.Reaching.{nth}
 use Rattle.pbd_pair.proofs.Parting.{AreDone, chunk_done, chunk_leaves}
@@ -83,7 +83,7 @@ module _ {found : Found} {s : Stored} {t : Totals} (can : CanProject 128 found.c
   pub apart_asked : PairsApart asked found.pairs
   apart_asked = subst (λ (n : ℕ). PairsApart n found.pairs) (sym is.pairs.first_long) (ends_apart can is.first is.second)
 
-  pub sized_asked : AreSized (length numbers) found.between.now
+  pub sized_asked : AreSized (length numbers) (lying_in found)
   sized_asked = sized can is.first is.second is.between
 
   -- ends that have moved by what the bonds move them, wherever that leads
@@ -155,8 +155,8 @@ module _ {found : Found} {s : Stored} {t : Totals} (can : CanProject 128 found.c
 
   -- ---- in 32-bit numbers
 
-  module _ {near : NearMoves} {back forth : List Row} (short : AreNear (bond_of found.chunk.bonds) numbers found.between.now near)
-      (masked : IsMasked (length numbers) found.between.now near.moves back forth) where
+  module _ {moves back forth : List Row} (short : AreNear (bond_of found.chunk.bonds) numbers (lying_in found) moves)
+      (masked : IsMasked (length numbers) (lying_in found) moves back forth) where
     near_told : (j : ℕ) → j < length numbers → ◌≡◌ {A = Vec3 × Vec3} (opposite (vector_of (row_in back j)), vector_of (row_in forth j))
         (moves_at s.particles (B j))
     near_told j p = (λ i. (opposite (vector_of (masked.back j p i)), vector_of (masked.forth j p i))) ∙ sym (short.each j p).moves
@@ -171,17 +171,15 @@ module _ {found : Found} {s : Stored} {t : Totals} (can : CanProject 128 found.c
     pub back_short : AreShort asked back
     back_short = subst (λ (n : ℕ). AreShort n back) (sym is.pairs.first_long) (record {
       long = masked.back_long;
-      each = λ j p. kept_short (number_in found.between.now.first_weight j) (row_in near.moves j) (masked.back j p) (short.each j p).size;
-      flags = λ j p. kept_unflagged (number_in found.between.now.first_weight j) (row_in near.moves j) (masked.back j p)
-          (short.each j p).flag;
+      each = λ j p. kept_short (number_in found.laid.first_weight.now j) (row_in moves j) (masked.back j p) (short.each j p).size;
+      flags = λ j p. kept_unflagged (number_in found.laid.first_weight.now j) (row_in moves j) (masked.back j p) (short.each j p).flag;
     })
 
     pub forth_short : AreShort asked forth
     forth_short = subst (λ (n : ℕ). AreShort n forth) (sym is.pairs.first_long) (record {
       long = masked.forth_long;
-      each = λ j p. kept_short (number_in found.between.now.second_weight j) (row_in near.moves j) (masked.forth j p) (short.each j p).size;
-      flags = λ j p. kept_unflagged (number_in found.between.now.second_weight j) (row_in near.moves j) (masked.forth j p)
-          (short.each j p).flag;
+      each = λ j p. kept_short (number_in found.laid.second_weight.now j) (row_in moves j) (masked.forth j p) (short.each j p).size;
+      flags = λ j p. kept_unflagged (number_in found.laid.second_weight.now j) (row_in moves j) (masked.forth j p) (short.each j p).flag;
     })
 
     -- what is booked
@@ -190,9 +188,9 @@ module _ {found : Found} {s : Stored} {t : Totals} (can : CanProject 128 found.c
         (particle_at s.particles (B k).a)) (end_of (particle_at s.particles (B k).b)) (moves_at s.particles (B k)).0
         (moves_at s.particles (B k)).1)
     opposed k p =
-        let w1 = number_in found.between.now.first_weight k in
-        let w2 = number_in found.between.now.second_weight k in
-        let row = row_in near.moves k in
+        let w1 = number_in found.laid.first_weight.now k in
+        let w2 = number_in found.laid.second_weight.now k in
+        let row = row_in moves k in
         let f1 = first_flag can is.first is.second is.between k p in
         let f2 = second_flag can is.first is.second is.between k p in
         record {
@@ -228,14 +226,14 @@ module _ {found : Found} {s : Stored} {t : Totals} (can : CanProject 128 found.c
     near_leaves told = side_leaves first_near second_near told
 
 -- where all ends are free, nothing is booked
-pub free_masked : {bond : ℕ → Bond} {numbers : List ℕ} {between : Between} {near : NearMoves} → AreNear bond numbers between near
-    → IsTrue near.free
-    → IsMasked (length numbers) between near.moves near.moves near.moves
-free_masked short free = record {
-  back_long = short.long;
-  forth_long = short.long;
-  back = λ j p. sym (kept_some _ _ (short.first free j p));
-  forth = λ j p. sym (kept_some _ _ (short.second free j p));
+pub free_masked : {n : ℕ} (l : Lying) (moves : List Row) → n ≤ length moves → ((j : ℕ) → j < n → pos 0 <ℤ number_in l.first_weight j)
+    → ((j : ℕ)
+    → j < n → pos 0 <ℤ number_in l.second_weight j) → IsMasked n l moves moves moves
+free_masked {n} l moves long first second = record {
+  back_long = long;
+  forth_long = long;
+  back = λ j p. sym (kept_some _ _ (first j p));
+  forth = λ j p. sym (kept_some _ _ (second j p));
 }
 
 pub nothing_booked : (u : Ledger) (rows : List Row) (n : ℕ)

@@ -14,7 +14,8 @@ use Rattle.pbd_num.proofs.VectorSizes.{opposite_within}
 use Rattle.pbd_world.specs.declared.bond.Bond.{Bond}
 use Rattle.pbd_store.specs.declared.pairs.EndMoves.{EndMoves}
 use Rattle.pbd_pair.specs.Moves.{moves_by}
-use Rattle.pbd_pair.specs.Chunks.{draw_by, kept_by, reach_of, IsDraw, IsExact, IsFirm, IsMild, IsNear}
+use Rattle.pbd_pair.specs.Laid.{IsFirm}
+use Rattle.pbd_pair.specs.Chunks.{draw_by, kept_by, reach_of, IsDraw, IsExact, IsMild, IsNear}
 use Rattle.pbd_pair.proofs.Exact.{moves_by_reach}
 use Rattle.pbd_pair.proofs.NearBonds.{kept_none, kept_some, weightless}
 use Rattle.pbd_pair.proofs.Settled.{kept_size_by}

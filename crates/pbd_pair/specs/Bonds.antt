@@ -9,17 +9,21 @@ use Rattle.pbd_world.specs.declared.bond.Correction.{Correction}
 use Rattle.pbd_world.specs.declared.bond.Correction.TheVariants.{Slack, Leaves, Moves}
 use Rattle.pbd_world.specs.Bonds.{link_bond, contact_bond}
 use Rattle.pbd_pair.specs.declared.bonds.Bonds.{Bonds}
-use Rattle.pbd_pair.specs.declared.bonds.Bonds.TheVariants.{Links, Contacts}
+use Rattle.pbd_pair.specs.declared.bonds.Bonds.TheVariants.{Links, Contacts, LaidLinks, LaidContacts}
 
 -- bond n
 abbrev pub bond_of : Bonds → ℕ → Bond
 bond_of (Links links) n = link_bond links.now n
 bond_of (Contacts pairs thickness) n = contact_bond thickness pairs.now n
+bond_of (LaidLinks links laid) n = link_bond links.now n
+bond_of (LaidContacts pairs thickness laid) n = contact_bond thickness pairs.now n
 
 -- how many bonds there are
 abbrev pub bond_count : Bonds → ℕ
 bond_count (Links links) = length links.now
 bond_count (Contacts pairs thickness) = length pairs.now
+bond_count (LaidLinks links laid) = length links.now
+bond_count (LaidContacts pairs thickness laid) = length pairs.now
 
 -- a limit of at most 2^29
 pub record IsBound (limit : ℤ) : Type 0 where

@@ -1,6 +1,6 @@
 -- Bonds of a chunk, number by number.
 use Rattle.std.specs.Prelude.{◌≡◌, ℕ, ◌<◌, ◌≤◌, ◌^◌, ℤ, pos, neg_ℤ, ◌<ℤ◌, ◌≤ℤ◌, ◌*ℤ◌, int_lt, int_le, IsTrue, if◌then◌else◌, List, length}
-use Rattle.std.specs.Prelude.{slice_index_or}
+use Rattle.std.specs.Prelude.{slice_index_or, take}
 use Rattle.pbd_num.specs.declared.Vec3.{Vec3}
 use Rattle.pbd_num.specs.declared.row.Row.{Row}
 use Rattle.pbd_num.specs.declared.tried.Draw.{Draw}
@@ -10,28 +10,18 @@ use Rattle.pbd_world.specs.declared.parts.Particle.{Particle}
 use Rattle.pbd_world.specs.declared.bond.Bond.{Bond}
 use Rattle.pbd_world.specs.declared.bond.Shift.{Shift}
 use Rattle.pbd_world.specs.Ledger.{Entry}
+use Rattle.pbd_world.specs.Particles.{particle_at, effective_weight}
 use Rattle.pbd_world.specs.Bonds.{entries_of, class_of}
 use Rattle.pbd_store.specs.Gathering.{index_at}
 use Rattle.pbd_store.specs.declared.pairs.Between.{Between}
 use Rattle.pbd_store.specs.declared.pairs.EndMoves.{EndMoves}
-use Rattle.pbd_store.specs.Pairs.{row_in, moves_in, ArePairs, AreBetween}
+use Rattle.pbd_store.specs.Pairs.{row_in, moves_in, ArePairs, IsWay}
 use Rattle.pbd_pair.specs.declared.bonds.Bonds.{Bonds}
 use Rattle.pbd_pair.specs.declared.chunk.Columns.{Columns}
 use Rattle.pbd_pair.specs.declared.chunk.Found.{Found}
-use Rattle.pbd_pair.specs.declared.near.NearMoves.{NearMoves}
 use Rattle.pbd_pair.specs.Bonds.{bond_of, bond_count}
 use Rattle.pbd_pair.specs.Moves.{moves_by}
-
--- number j of a column
-abbrev pub number_in : List ℤ → ℕ → ℤ
-number_in xs j = slice_index_or xs j (pos 0)
-
--- a rest length of at most 2^31, and a stiffness in 0..=256
-pub record IsFirm (b : Bond) : Type 0 where
-  pub rest_low : pos 0 ≤ℤ b.rest
-  pub rest_high : b.rest ≤ℤ pos (2 ^ 31)
-  pub k_low : pos 0 ≤ℤ b.k
-  pub k_high : b.k ≤ℤ pos 256
+use Rattle.pbd_pair.specs.Laid.{factor_of, number_in, short_rest, IsFirm, Lists}
 
 -- at most 128 numbers of firm bonds
 pub record AreKnown (bonds : Bonds) (numbers : List ℕ) : Type 0 where
@@ -39,30 +29,70 @@ pub record AreKnown (bonds : Bonds) (numbers : List ℕ) : Type 0 where
   pub known : (j : ℕ) → j < length numbers → slice_index_or numbers j 0 < bond_count bonds
   pub firm : (j : ℕ) → j < length numbers → IsFirm (bond_of bonds (slice_index_or numbers j 0))
 
+-- the ends of a chunk's bonds are taken
+pub record AreEnds (bond : ℕ → Bond) (numbers : List ℕ) (c : Columns) : Type 0 where
+  pub first_long : length c.first ≡ 128
+  pub second_long : length c.second ≡ 128
+  pub first : (j : ℕ) → j < length numbers → index_at c.first j ≡ (bond (slice_index_or numbers j 0)).a
+  pub second : (j : ℕ) → j < length numbers → index_at c.second j ≡ (bond (slice_index_or numbers j 0)).b
+
+-- n weights each, in 0..=65,535
+pub record AreWeighed (n : ℕ) (firsts seconds : List ℤ) : Type 0 where
+  pub first_low : (j : ℕ) → j < n → pos 0 ≤ℤ number_in firsts j
+  pub first_high : (j : ℕ) → j < n → number_in firsts j ≤ℤ pos 65535
+  pub second_low : (j : ℕ) → j < n → pos 0 ≤ℤ number_in seconds j
+  pub second_high : (j : ℕ) → j < n → number_in seconds j ≤ℤ pos 65535
+
+-- the rest lengths and factors of a chunk's bonds, whose ends have these weights
+pub record AreShared (bond : ℕ → Bond) (numbers : List ℕ) (between : Between) (c : Columns) : Type 0 where
+  pub rest_long : length c.rest ≡ 128
+  pub factor_long : length c.factor ≡ 128
+  pub rest : (j : ℕ) → j < length numbers → number_in c.rest j ≡ short_rest (bond (slice_index_or numbers j 0)).rest
+  pub factor : (j : ℕ) → j < length numbers → number_in c.factor j
+      ≡ factor_of (bond (slice_index_or numbers j 0)) (number_in between.first_weight j) (number_in between.second_weight j)
+
+-- the first n rows of a chunk's columns
+abbrev pub rows_of : ℕ → Between → Columns → Lists
+rows_of n between c = record {
+  first = take n c.first;
+  second = take n c.second;
+  rest = take n c.rest;
+  factor = take n c.factor;
+  first_weight = take n between.first_weight;
+  second_weight = take n between.second_weight;
+}
+
+-- what lies between the ends of pairs: the ways from the second ends to the first, and their effective weights
+pub record Lying : Type 0 where
+  pub ways : List Row
+  pub first_weight : List ℤ
+  pub second_weight : List ℤ
+
+-- the same of n pairs of a list of particles
+pub record LieBetween (n : ℕ) (ps : List Particle) (first second : List ℕ) (l : Lying) : Type 0 where
+  pub ways : (j : ℕ) → j < n
+      → IsWay (row_in l.ways j) (particle_at ps (index_at first j)).at (particle_at ps (index_at second j)).at
+  pub first_weights : (j : ℕ) → j < n
+      → number_in l.first_weight j ≡ pos (effective_weight (particle_at ps (index_at first j)))
+  pub second_weights : (j : ℕ) → j < n
+      → number_in l.second_weight j ≡ pos (effective_weight (particle_at ps (index_at second j)))
+
+-- the same of a chunk
+abbrev pub lying_in : Found → Lying
+lying_in found = record {
+  ways = found.ways.now;
+  first_weight = found.laid.first_weight.now;
+  second_weight = found.laid.second_weight.now;
+}
+
 -- the rest length of a bond where it is below 16,384
 pub record HoldsRest (b : Bond) (rest : ℤ) : Type 0 where
   pub low : pos 0 ≤ℤ rest
   pub high : rest ≤ℤ pos 16383
   pub near : b.rest <ℤ pos 16384 → rest ≡ b.rest
 
--- the stiffness of a bond, or -1 where its rest length is 16,384 or more
-pub record HoldsStiffness (b : Bond) (k : ℤ) : Type 0 where
-  pub low : neg_ℤ (pos 1) ≤ℤ k
-  pub high : k ≤ℤ pos 256
-  pub near : pos 0 ≤ℤ k → b.rest <ℤ pos 16384
-  pub value : pos 0 ≤ℤ k → k ≡ b.k
-
--- the columns hold the bonds of a chunk
-pub record AreLoaded (bond : ℕ → Bond) (numbers : List ℕ) (c : Columns) : Type 0 where
-  pub first_long : length c.first ≡ 128
-  pub second_long : length c.second ≡ 128
-  pub first : (j : ℕ) → j < length numbers → index_at c.first j ≡ (bond (slice_index_or numbers j 0)).a
-  pub second : (j : ℕ) → j < length numbers → index_at c.second j ≡ (bond (slice_index_or numbers j 0)).b
-  pub rest : (j : ℕ) → j < length numbers → HoldsRest (bond (slice_index_or numbers j 0)) (number_in c.rest j)
-  pub k : (j : ℕ) → j < length numbers → HoldsStiffness (bond (slice_index_or numbers j 0)) (number_in c.k j)
-
 -- n ways of at most 2^30 an axis, and weights in 0..=65,535
-pub record AreSized (n : ℕ) (between : Between) : Type 0 where
+pub record AreSized (n : ℕ) (between : Lying) : Type 0 where
   pub way : (j : ℕ) → j < n → Within (2 ^ 30) (vector_of (row_in between.ways j))
   pub first_low : (j : ℕ) → j < n → pos 0 ≤ℤ number_in between.first_weight j
   pub first_high : (j : ℕ) → j < n → number_in between.first_weight j ≤ℤ pos 65535
@@ -70,14 +100,14 @@ pub record AreSized (n : ℕ) (between : Between) : Type 0 where
   pub second_high : (j : ℕ) → j < n → number_in between.second_weight j ≤ℤ pos 65535
 
 -- f / 512 is the share of a free end of a bond whose weights are even, and f is below 0 where the bond isn't short
-pub record IsFactor (k first second f : ℤ) : Type 0 where
+pub record HoldsFactor (b : Bond) (first second f : ℤ) : Type 0 where
   pub low : neg_ℤ (pos 1) ≤ℤ f
   pub high : f ≤ℤ pos 512
-  pub short : pos 0 ≤ℤ f → pos 0 ≤ℤ k
+  pub short : pos 0 ≤ℤ f → b.rest <ℤ pos 16384
   pub even : pos 0 ≤ℤ f → pos 0 <ℤ first → pos 0 <ℤ second → first ≡ second
-  pub both : pos 0 ≤ℤ f → pos 0 <ℤ first → pos 0 <ℤ second → f ≡ k
-  pub first_held : pos 0 ≤ℤ f → first ≡ pos 0 → f ≡ pos 2 *ℤ k
-  pub second_held : pos 0 ≤ℤ f → second ≡ pos 0 → f ≡ pos 2 *ℤ k
+  pub both : pos 0 ≤ℤ f → pos 0 <ℤ first → pos 0 <ℤ second → f ≡ b.k
+  pub first_held : pos 0 ≤ℤ f → first ≡ pos 0 → f ≡ pos 2 *ℤ b.k
+  pub second_held : pos 0 ≤ℤ f → second ≡ pos 0 → f ≡ pos 2 *ℤ b.k
 
 -- a row of a free end, and none of a held one
 abbrev pub kept_by : ℤ → Row → Row
@@ -89,35 +119,42 @@ pub record IsNear (way : Vec3) (first second : ℤ) (b : Bond) (row : Row) : Typ
   pub size : Within (2 ^ 16) (vector_of row)
   pub moves : moves_by way first second b ≡ (opposite (vector_of (kept_by first row)), vector_of (kept_by second row))
 
--- the same of each bond of a chunk, and whether all ends are free
-pub record AreNear (bond : ℕ → Bond) (numbers : List ℕ) (between : Between) (near : NearMoves) : Type 0 where
-  pub long : length numbers ≤ length near.moves
+-- the same of each bond of a chunk
+pub record AreNear (bond : ℕ → Bond) (numbers : List ℕ) (between : Lying) (moves : List Row) : Type 0 where
+  pub long : length numbers ≤ length moves
   pub each : (j : ℕ) → j < length numbers → IsNear (vector_of (row_in between.ways j)) (number_in between.first_weight j)
-      (number_in between.second_weight j) (bond (slice_index_or numbers j 0)) (row_in near.moves j)
-  pub first : IsTrue near.free → (j : ℕ) → j < length numbers → pos 0 <ℤ number_in between.first_weight j
-  pub second : IsTrue near.free → (j : ℕ) → j < length numbers → pos 0 <ℤ number_in between.second_weight j
+      (number_in between.second_weight j) (bond (slice_index_or numbers j 0)) (row_in moves j)
 
 -- a row of each bond of a chunk, which is its move where it has no flag
-pub record AreTried (bond : ℕ → Bond) (numbers : List ℕ) (between : Between) (rows : List Row) : Type 0 where
+pub record AreTried (bond : ℕ → Bond) (numbers : List ℕ) (between : Lying) (rows : List Row) : Type 0 where
   pub long : length numbers ≤ length rows
   pub each : (j : ℕ) → j < length numbers → (row_in rows j).flag ≡ pos 0 → IsNear (vector_of (row_in between.ways j))
       (number_in between.first_weight j) (number_in between.second_weight j) (bond (slice_index_or numbers j 0)) (row_in rows j)
 
 -- n rows as they are kept by both weights
-pub record IsMasked (n : ℕ) (between : Between) (moves firsts seconds : List Row) : Type 0 where
+pub record IsMasked (n : ℕ) (between : Lying) (moves firsts seconds : List Row) : Type 0 where
   pub back_long : n ≤ length firsts
   pub forth_long : n ≤ length seconds
   pub back : (j : ℕ) → j < n → row_in firsts j ≡ kept_by (number_in between.first_weight j) (row_in moves j)
   pub forth : (j : ℕ) → j < n → row_in seconds j ≡ kept_by (number_in between.second_weight j) (row_in moves j)
 
--- the pairs are the ends of a chunk's bonds, and what is between them is told
+-- a chunk's bonds are laid, and what lies between their ends is told
 pub record IsFound (ps : List Particle) (found : Found) : Type 0 where
   pub first : (j : ℕ) → j < length found.chunk.numbers.now
       → index_at found.pairs.first.now j ≡ (bond_of found.chunk.bonds (slice_index_or found.chunk.numbers.now j 0)).a
   pub second : (j : ℕ) → j < length found.chunk.numbers.now
       → index_at found.pairs.second.now j ≡ (bond_of found.chunk.bonds (slice_index_or found.chunk.numbers.now j 0)).b
   pub pairs : ArePairs (length found.chunk.numbers.now) (length ps) found.pairs
-  pub between : AreBetween (length found.chunk.numbers.now) ps found.pairs.first.now found.pairs.second.now found.between.now
+  pub between : LieBetween (length found.chunk.numbers.now) ps found.pairs.first.now found.pairs.second.now (lying_in found)
+  pub rest_long : length found.chunk.numbers.now ≤ length found.laid.rest.now
+  pub factor_long : length found.laid.factor.now ≡ length found.chunk.numbers.now
+  pub first_long : length found.laid.first_weight.now ≡ length found.chunk.numbers.now
+  pub second_long : length found.laid.second_weight.now ≡ length found.chunk.numbers.now
+  pub rest : (j : ℕ) → j < length found.chunk.numbers.now
+      → HoldsRest (bond_of found.chunk.bonds (slice_index_or found.chunk.numbers.now j 0)) (number_in found.laid.rest.now j)
+  pub factor : (j : ℕ) → j < length found.chunk.numbers.now
+      → HoldsFactor (bond_of found.chunk.bonds (slice_index_or found.chunk.numbers.now j 0)) (number_in found.laid.first_weight.now j)
+      (number_in found.laid.second_weight.now j) (number_in found.laid.factor.now j)
 
 -- the length from which on a bond does nothing: no length is 2^31
 abbrev pub reach_of : Bond → ℤ
@@ -158,8 +195,8 @@ pub record IsExact (way : Vec3) (weight other : ℤ) (b : Bond) (m : EndMoves) :
 -- the same of each bond of a chunk
 pub record AreExact (found : Found) (moves : List EndMoves) : Type 0 where
   pub whole : length moves ≡ 128
-  pub each : (j : ℕ) → j < length found.chunk.numbers.now → IsExact (vector_of (row_in found.between.now.ways j))
-      (number_in found.between.now.first_weight j) (number_in found.between.now.second_weight j)
+  pub each : (j : ℕ) → j < length found.chunk.numbers.now → IsExact (vector_of (row_in (lying_in found).ways j))
+      (number_in (lying_in found).first_weight j) (number_in (lying_in found).second_weight j)
       (bond_of found.chunk.bonds (slice_index_or found.chunk.numbers.now j 0)) (moves_in moves j)
 
 -- moves as a shift without places
@@ -168,7 +205,7 @@ unplaced first second = record { first = zero_vector; second = zero_vector; firs
 
 -- the entries of the bond with number j in a chunk
 abbrev pub entries_in : Found → List EndMoves → ℕ → List Entry
-entries_in found moves j = entries_of (int_le (number_in found.between.now.first_weight j) (pos 0))
-    (int_le (number_in found.between.now.second_weight j) (pos 0))
+entries_in found moves j = entries_of (int_le (number_in (lying_in found).first_weight j) (pos 0))
+    (int_le (number_in (lying_in found).second_weight j) (pos 0))
     (class_of (bond_of found.chunk.bonds (slice_index_or found.chunk.numbers.now j 0)))
     (unplaced (moves_in moves j).first (moves_in moves j).second)

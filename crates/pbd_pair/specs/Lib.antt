@@ -1,5 +1,6 @@
 pub mod Bonds
 pub mod Projecting
 pub mod Moves
+pub mod Laid
 pub mod Chunks
 pub mod Examples

@@ -1,36 +1,47 @@
 // The bonds of a chunk, number by number.
-ghost use Rattle.std.specs.Prelude.{◌≡◌, ◌<◌, ◌≤◌, pos, neg_ℤ, ◌<ℤ◌, ◌≤ℤ◌, length, slice_index_or, take};
+ghost use Rattle.std.specs.Prelude.{◌≡◌, ◌<◌, ◌≤◌, length, slice_index_or, take};
 ghost use Rattle.pbd_pair.specs.Bonds.{bond_of};
-ghost use Rattle.pbd_pair.specs.Chunks.{AreKnown, AreLoaded};
+ghost use Rattle.pbd_pair.specs.Laid.{lists_of, CanSplit, AreSplit};
+ghost use Rattle.pbd_pair.specs.Chunks.{rows_of, AreKnown, AreEnds, AreShared, AreWeighed};
 
 use crate::bonds::Bonds;
-use pbd_num::CHUNK;
+use crate::laid::{Laid, laid_of};
+use pbd_num::{CHUNK, Row};
 use pbd_store::{Between, Pairs};
 use pbd_world::Left;
 
-/// Up to 128 numbers of bonds.
+/// Up to 128 numbers of bonds, and their columns where there are some.
 #[derive(Clone, Copy)]
 pub(crate) struct Chunk<'a> {
     pub(crate) bonds: Bonds<'a>,
     pub(crate) numbers: &'a [u32],
+    pub(crate) laid: Option<Laid<'a>>,
 }
 
-/// A chunk of bonds, their ends, and what lies between them.
+/// A chunk of bonds in columns, and the ways from their second ends to the first.
 #[derive(Clone, Copy)]
 pub(crate) struct Found<'a> {
     pub(crate) chunk: Chunk<'a>,
     pub(crate) pairs: Pairs<'a>,
-    pub(crate) between: &'a Between,
+    pub(crate) laid: Laid<'a>,
+    pub(crate) ways: &'a [Row; CHUNK],
 }
 
-/// The bonds of a chunk: their ends, their rest lengths, in units of 1/65,536 metre and at most 16,383, and their
-/// stiffness, in parts of 256, or -1 where the rest length is above that.
+/// Bonds in columns, and the ways between their ends.
+#[derive(Clone, Copy)]
+pub(crate) struct Rows<'a> {
+    pub(crate) pairs: Pairs<'a>,
+    pub(crate) laid: Laid<'a>,
+    pub(crate) ways: &'a [Row; CHUNK],
+}
+
+/// The columns of a chunk whose bonds came without.
 #[derive(Drop)]
 pub(crate) struct Columns {
-    pub(crate) first: [u32; CHUNK],
-    pub(crate) second: [u32; CHUNK],
-    pub(crate) rest: [i32; CHUNK],
-    pub(crate) k: [i32; CHUNK],
+    first: [u32; CHUNK],
+    second: [u32; CHUNK],
+    rest: [i32; CHUNK],
+    factor: [i32; CHUNK],
 }
 
 /// That bond j of a chunk would leave the limit.
@@ -43,28 +54,21 @@ pub(crate) fn left_at(found: &Found<'_>, j: usize) -> Left
     }
 }
 
-// A rest length as 32-bit numbers go by it: up to a fourth of a metre.
-#[inline(always)]
-fn short_rest(rest: i64) -> i32
-    requires { pos 0 ≤ℤ rest }
-    ensures low { pos 0 ≤ℤ result }
-    ensures high { result ≤ℤ pos 16383 }
-    ensures near { rest <ℤ pos 16384 → result ≡ rest }
+/// The columns of the first bonds, and of those after them, where there are some.
+pub(crate) fn split_columns<'a>(
+    laid: Option<Laid<'a>>,
+    count: usize,
+) -> (Option<Laid<'a>>, Option<Laid<'a>>)
+    requires { CanSplit count laid }
+    ensures { AreSplit count laid.entry result.0 result.1 }
 {
-    rest.min(16_383) as i32
-}
-
-// The stiffness of a bond as short as that, else -1.
-#[inline(always)]
-fn short_k(rest: i64, k: i64) -> i32
-    requires low { pos 0 ≤ℤ k }
-    requires high { k ≤ℤ pos 256 }
-    ensures low { neg_ℤ (pos 1) ≤ℤ result }
-    ensures high { result ≤ℤ pos 256 }
-    ensures short { pos 0 ≤ℤ result → rest <ℤ pos 16384 }
-    ensures value { pos 0 ≤ℤ result → result ≡ k }
-{
-    if rest < 16_384 { k as i32 } else { -1 }
+    match laid {
+        None => (None, None),
+        Some(laid) => {
+            let (front, back) = laid.split_at(count);
+            (Some(front), Some(back))
+        }
+    }
 }
 
 impl Columns {
@@ -74,22 +78,20 @@ impl Columns {
             first: [0; CHUNK],
             second: [0; CHUNK],
             rest: [0; CHUNK],
-            k: [0; CHUNK],
+            factor: [0; CHUNK],
         }
     }
 
-    /// Puts the bonds of a chunk into the columns.
+    /// Takes the ends of a chunk's bonds.
     #[inline(never)]
-    pub(crate) fn load(&mut self, chunk: &Chunk<'_>)
+    pub(crate) fn take_ends(&mut self, chunk: &Chunk<'_>)
         requires { AreKnown chunk.now.bonds chunk.now.numbers.now }
-        ensures { AreLoaded (bond_of chunk.now.bonds) chunk.now.numbers.now self.new }
+        ensures { AreEnds (bond_of chunk.now.bonds) chunk.now.numbers.now self.new }
     {
         for (j, n) in chunk.numbers.iter().enumerate() {
             let bond = chunk.bonds.get(*n);
             self.first[j] = bond.a;
             self.second[j] = bond.b;
-            self.rest[j] = short_rest(bond.rest);
-            self.k[j] = short_k(bond.rest, bond.k);
         }
     }
 
@@ -103,6 +105,51 @@ impl Columns {
         Pairs {
             first: &self.first[..count],
             second: &self.second[..count],
+        }
+    }
+
+    /// Lays the bonds of a chunk, from the weights of their ends.
+    #[inline(never)]
+    pub(crate) fn lay(&mut self, chunk: &Chunk<'_>, between: &Between)
+        requires known { AreKnown chunk.now.bonds chunk.now.numbers.now }
+        requires sized { AreWeighed (length chunk.now.numbers.now) between.now.first_weight between.now.second_weight }
+        ensures ends { (self.new.first ≡ self.old.first) × (self.new.second ≡ self.old.second) }
+        ensures first_whole { length between.now.first_weight ≡ 128 }
+        ensures second_whole { length between.now.second_weight ≡ 128 }
+        ensures laid { AreShared (bond_of chunk.now.bonds) chunk.now.numbers.now between.now self.new }
+    {
+        for (j, n) in chunk.numbers.iter().enumerate() {
+            let bond = laid_of(
+                chunk.bonds.get(*n),
+                between.first_weight[j],
+                between.second_weight[j],
+            );
+            self.rest[j] = bond.rest;
+            self.factor[j] = bond.factor;
+        }
+    }
+
+    /// The first bonds in columns, and what lies between their ends.
+    #[inline(always)]
+    pub(crate) fn rows<'a>(&'a self, between: &'a Between, count: usize) -> Rows<'a>
+        requires { count ≤ 128 }
+        ensures first { result.pairs.first.now ≡ take count self.now.first }
+        ensures second { result.pairs.second.now ≡ take count self.now.second }
+        ensures laid { lists_of result.laid ≡ rows_of count between.now self.now }
+        ensures ways { result.ways.now ≡ between.now.ways }
+    {
+        let laid = Laid {
+            first: &self.first[..count],
+            second: &self.second[..count],
+            rest: &self.rest[..count],
+            factor: &self.factor[..count],
+            first_weight: &between.first_weight[..count],
+            second_weight: &between.second_weight[..count],
+        };
+        Rows {
+            pairs: laid.pairs(),
+            laid,
+            ways: &between.ways,
         }
     }
 }

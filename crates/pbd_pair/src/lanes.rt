@@ -2,7 +2,7 @@
 ghost use Rattle.std.specs.Prelude.{◌≡◌};
 
 use crate::bonds::Bonds;
-use crate::chunk::Chunk;
+use crate::chunk::{Chunk, split_columns};
 use crate::correct::limit_of;
 use crate::desk::Desk;
 use crate::projector::Projector;
@@ -54,14 +54,21 @@ impl<const L: usize> Projector<L> for LaneProjector<L> {
         let most = CHUNK - CHUNK % L;
         let mut desk = Desk::new();
         let mut rest = batch;
+        let mut columns = bonds.columns();
         'steps_on: while !rest.is_empty() {
             let size = rest.len().min(most);
             let (numbers, after) = rest.split_at(size);
-            let chunk = Chunk { bonds, numbers };
+            let (laid, laid_after) = split_columns(columns, size);
+            let chunk = Chunk {
+                bonds,
+                numbers,
+                laid,
+            };
             if let Err(left) = desk.project(store, chunk, totals, steps) {
                 return Err(left);
             }
             rest = after;
+            columns = laid_after;
         }
         Ok(())
     }

@@ -6,6 +6,7 @@ mod book;
 mod chunk;
 mod correct;
 mod desk;
+mod laid;
 mod lanes;
 mod near;
 mod one;
@@ -16,6 +17,7 @@ mod slow;
 mod wide;
 
 pub use bonds::Bonds;
+pub use laid::{BondColumns, Laid};
 pub use lanes::LaneProjector;
 pub use parts::{Note, book_moves, read_bond};
 pub use projector::Projector;

@@ -1,5 +1,5 @@
 // The bonds of a chunk by rows of 32-bit numbers.
-ghost use Rattle.std.specs.Prelude.{◌≡◌, ℕ, ◌+◌, ◌*◌, ◌<◌, ◌≤◌, ◌^◌, pos, neg_ℤ, ◌+ℤ◌, ◌-ℤ◌, ◌<ℤ◌, ◌≤ℤ◌, length, take, unsigned_abs, IsTrue, OnOk};
+ghost use Rattle.std.specs.Prelude.{◌≡◌, ℕ, ◌+◌, ◌*◌, ◌<◌, ◌≤◌, ◌^◌, pos, neg_ℤ, ◌+ℤ◌, ◌-ℤ◌, ◌<ℤ◌, ◌≤ℤ◌, length, slice_index_or, take, unsigned_abs, IsTrue, OnOk};
 ghost use Rattle.pbd_num.specs.Rows.{vector_of};
 ghost use Rattle.pbd_num.specs.Vectors.{Within, plus, minus, opposite};
 ghost use Rattle.pbd_world.specs.Ledger.{ledger_of, added, HaveRoom};
@@ -10,47 +10,67 @@ ghost use Rattle.pbd_store.specs.Pairs.{row_in};
 ghost use Rattle.pbd_pair.specs.Bonds.{bond_of};
 ghost use Rattle.pbd_pair.specs.Projecting.{CanProject, ComesTo, StaysSound};
 ghost use Rattle.pbd_pair.specs.Moves.{moved_below};
-ghost use Rattle.pbd_pair.specs.Chunks.{kept_by, number_in, AreKnown, AreLoaded, AreSized, AreNear, AreTried, IsFactor, IsFound, IsMasked};
+ghost use Rattle.pbd_pair.specs.Laid.{number_in};
+ghost use Rattle.pbd_pair.specs.Chunks.{kept_by, lying_in, AreKnown, AreSized, AreNear, AreTried, HoldsFactor, HoldsRest, IsFound, IsMasked};
 
-use crate::chunk::{Chunk, Columns, Found, left_at};
+use crate::chunk::{Found, left_at};
+use crate::slow::project_exactly;
 use crate::wide::try_rows;
 use pbd_near::Near;
 use pbd_num::{CHUNK, Row, Vec3};
-use pbd_store::{Between, Steps, Store};
+use pbd_store::{Steps, Store};
 use pbd_world::{Class, Left, Totals};
 use std::sync::ledger::Ledger;
 
-/// The moves of a chunk's bonds as rows of 32-bit numbers.
+/// The moves of a chunk's bonds in 32-bit numbers.
 #[derive(Drop)]
 pub(crate) struct NearMoves {
     near: Near,
-    /// The factors by which the moves are shared, in parts of 512, and -1 where a bond isn't for these numbers.
-    factor: [i32; CHUNK],
     /// The moves of the second ends, where no end is held.
-    pub(crate) moves: [Row; CHUNK],
+    moves: [Row; CHUNK],
     /// The opposites of the moves of the first ends.
     back: [Row; CHUNK],
     /// The moves of the second ends.
     forth: [Row; CHUNK],
-    /// Whether no end of the chunk is held.
-    free: bool,
 }
 
-// The factor of a bond: its stiffness where both ends are free and have one weight, twice that beside a held end.
-#[inline(always)]
-fn factor_of(k: i32, first: i32, second: i32) -> i32
-    requires low { neg_ℤ (pos 1) ≤ℤ k }
-    requires high { k ≤ℤ pos 256 }
-    ensures { IsFactor k first second result }
+// Whether each of some factors is one of a short bond.
+fn are_short(factors: &[i32]) -> bool
+    requires low { (j : ℕ) → j < length factors.now → neg_ℤ (pos 1) ≤ℤ number_in factors.now j }
+    requires high { (j : ℕ) → j < length factors.now → number_in factors.now j ≤ℤ pos 512 }
+    ensures { IsTrue result → (j : ℕ) → j < length factors.now → pos 0 ≤ℤ number_in factors.now j }
 {
-    let both = (0 < first) & (0 < second);
-    if (k < 0) | (both & (first != second)) {
-        -1
-    } else if both {
-        k
-    } else {
-        2 * k
+    let mut short = true;
+    for j in 0..factors.len() {
+        short = short & (0 <= factors[j]);
     }
+    short
+}
+
+// Whether each of some ends is free.
+fn are_free(weights: &[i32]) -> bool
+    requires low { (j : ℕ) → j < length weights.now → pos 0 ≤ℤ number_in weights.now j }
+    requires high { (j : ℕ) → j < length weights.now → number_in weights.now j ≤ℤ pos 65535 }
+    ensures { IsTrue result → (j : ℕ) → j < length weights.now → pos 0 <ℤ number_in weights.now j }
+{
+    let mut free = true;
+    for j in 0..weights.len() {
+        free = free & (0 < weights[j]);
+    }
+    free
+}
+
+// Whether no end of a chunk is held.
+fn ends_are_free(found: &Found<'_>) -> bool
+    requires first_long { length found.now.laid.first_weight.now ≡ length found.now.chunk.numbers.now }
+    requires second_long { length found.now.laid.second_weight.now ≡ length found.now.chunk.numbers.now }
+    requires sized { AreSized (length found.now.chunk.numbers.now) (lying_in found.now) }
+    ensures first { IsTrue result → (j : ℕ) → j < length found.now.chunk.numbers.now → pos 0 <ℤ number_in found.now.laid.first_weight.now j }
+    ensures second { IsTrue result → (j : ℕ) → j < length found.now.chunk.numbers.now → pos 0 <ℤ number_in found.now.laid.second_weight.now j }
+{
+    let first = are_free(found.laid.first_weight);
+    let second = are_free(found.laid.second_weight);
+    first & second
 }
 
 // A row where an end is free, and none where it is held.
@@ -111,102 +131,80 @@ impl NearMoves {
     pub(crate) fn new() -> NearMoves {
         NearMoves {
             near: Near::new(),
-            factor: [0; CHUNK],
             moves: [Row::ZERO; CHUNK],
             back: [Row::ZERO; CHUNK],
             forth: [Row::ZERO; CHUNK],
-            free: false,
         }
-    }
-
-    // The factors of the first bonds. False where one of them isn't for these numbers.
-    #[inline(never)]
-    fn put_factors(&mut self, columns: &Columns, between: &Between, count: usize) -> bool
-        requires few { count ≤ 128 }
-        requires sized { AreSized count between.now }
-        requires low { (j : ℕ) → j < count → neg_ℤ (pos 1) ≤ℤ number_in columns.now.k j }
-        requires high { (j : ℕ) → j < count → number_in columns.now.k j ≤ℤ pos 256 }
-        ensures each { (j : ℕ) → j < count → IsFactor (number_in columns.now.k j) (number_in between.now.first_weight j)
-            (number_in between.now.second_weight j) (number_in self.new.factor j) }
-        ensures first { IsTrue self.new.free → (j : ℕ) → j < count → pos 0 <ℤ number_in between.now.first_weight j }
-        ensures second { IsTrue self.new.free → (j : ℕ) → j < count → pos 0 <ℤ number_in between.now.second_weight j }
-    {
-        let mut free = true;
-        let mut fit = true;
-        for j in 0..count {
-            let first = between.first_weight[j];
-            let second = between.second_weight[j];
-            let factor = factor_of(columns.k[j], first, second);
-            self.factor[j] = factor;
-            free = free & (0 < first) & (0 < second);
-            fit = fit & (0 <= factor);
-        }
-        self.free = free;
-        fit
     }
 
     // Tries the moves of a chunk's bonds in 32-bit numbers. True where all of them are right.
-    fn try_short(&mut self, columns: &Columns, between: &Between, chunk: &Chunk<'_>) -> bool
-        requires few { length chunk.now.numbers.now ≤ 128 }
-        requires loaded { AreLoaded (bond_of chunk.now.bonds) chunk.now.numbers.now columns.now }
-        requires sized { AreSized (length chunk.now.numbers.now) between.now }
-        ensures near { IsTrue result → AreNear (bond_of chunk.now.bonds) chunk.now.numbers.now between.now self.new }
-        ensures first { IsTrue self.new.free → (j : ℕ) → j < length chunk.now.numbers.now
-            → pos 0 <ℤ number_in between.now.first_weight j }
-        ensures second { IsTrue self.new.free → (j : ℕ) → j < length chunk.now.numbers.now
-            → pos 0 <ℤ number_in between.now.second_weight j }
+    fn try_short(&mut self, found: &Found<'_>) -> bool
+        requires few { length found.now.chunk.numbers.now ≤ 128 }
+        requires rest_long { length found.now.chunk.numbers.now ≤ length found.now.laid.rest.now }
+        requires factor_long { length found.now.laid.factor.now ≡ length found.now.chunk.numbers.now }
+        requires sized { AreSized (length found.now.chunk.numbers.now) (lying_in found.now) }
+        requires rest { (j : ℕ) → j < length found.now.chunk.numbers.now
+            → HoldsRest (bond_of found.now.chunk.bonds (slice_index_or found.now.chunk.numbers.now j 0)) (number_in found.now.laid.rest.now j) }
+        requires factor { (j : ℕ) → j < length found.now.chunk.numbers.now
+            → HoldsFactor (bond_of found.now.chunk.bonds (slice_index_or found.now.chunk.numbers.now j 0))
+            (number_in found.now.laid.first_weight.now j) (number_in found.now.laid.second_weight.now j) (number_in found.now.laid.factor.now j) }
+        ensures { IsTrue result → AreNear (bond_of found.now.chunk.bonds) found.now.chunk.numbers.now (lying_in found.now) self.new.moves }
     {
-        let count = chunk.numbers.len();
-        if !self.put_factors(columns, between, count) {
+        if !are_short(found.laid.factor) {
             return false;
         }
-        let ways = first_of(&between.ways, count);
+        let ways = first_of(found.ways, found.chunk.numbers.len());
         self.near.run(
             ways,
-            &columns.rest,
-            &self.factor,
-            chunk.bonds.are_contacts(),
+            found.laid.rest,
+            found.laid.factor,
+            found.chunk.bonds.are_contacts(),
             &mut self.moves,
         )
     }
 
-    /// Tries the moves of a chunk's bonds in 32-bit numbers, and where one of them doesn't come out of those, all of them in
-    /// 64-bit numbers. True where all of them are right.
-    pub(crate) fn try_moves(
-        &mut self,
-        columns: &Columns,
-        between: &Between,
-        chunk: &Chunk<'_>,
-    ) -> bool
-        requires known { AreKnown chunk.now.bonds chunk.now.numbers.now }
-        requires loaded { AreLoaded (bond_of chunk.now.bonds) chunk.now.numbers.now columns.now }
-        requires sized { AreSized (length chunk.now.numbers.now) between.now }
-        ensures near { IsTrue result → AreNear (bond_of chunk.now.bonds) chunk.now.numbers.now between.now self.new }
-        ensures tried { AreTried (bond_of chunk.now.bonds) chunk.now.numbers.now between.now self.new.moves }
+    // Tries the moves of a chunk's bonds in 32-bit numbers, and where one of them doesn't come out of those, all of them in
+    // 64-bit numbers. True where all of them are right.
+    fn try_moves(&mut self, found: &Found<'_>) -> bool
+        requires known { AreKnown found.now.chunk.bonds found.now.chunk.numbers.now }
+        requires rest_long { length found.now.chunk.numbers.now ≤ length found.now.laid.rest.now }
+        requires factor_long { length found.now.laid.factor.now ≡ length found.now.chunk.numbers.now }
+        requires first_long { length found.now.laid.first_weight.now ≡ length found.now.chunk.numbers.now }
+        requires second_long { length found.now.laid.second_weight.now ≡ length found.now.chunk.numbers.now }
+        requires sized { AreSized (length found.now.chunk.numbers.now) (lying_in found.now) }
+        requires rest { (j : ℕ) → j < length found.now.chunk.numbers.now
+            → HoldsRest (bond_of found.now.chunk.bonds (slice_index_or found.now.chunk.numbers.now j 0)) (number_in found.now.laid.rest.now j) }
+        requires factor { (j : ℕ) → j < length found.now.chunk.numbers.now
+            → HoldsFactor (bond_of found.now.chunk.bonds (slice_index_or found.now.chunk.numbers.now j 0))
+            (number_in found.now.laid.first_weight.now j) (number_in found.now.laid.second_weight.now j) (number_in found.now.laid.factor.now j) }
+        ensures near { IsTrue result → AreNear (bond_of found.now.chunk.bonds) found.now.chunk.numbers.now (lying_in found.now) self.new.moves }
+        ensures tried { AreTried (bond_of found.now.chunk.bonds) found.now.chunk.numbers.now (lying_in found.now) self.new.moves }
     {
-        if self.try_short(columns, between, chunk) {
+        if self.try_short(found) {
             return true;
         }
-        try_rows(between, chunk, &mut self.moves)
+        try_rows(found, &mut self.moves)
     }
 
     // Takes the moves from held ends. What is left of a bond's two moves is that of the free end beside a held one: all of
     // them together are told.
     #[inline(never)]
-    fn mask(&mut self, between: &Between, count: usize) -> Vec3
-        requires few { count ≤ 128 }
-        requires sized { AreSized count between.now }
-        requires short { (j : ℕ) → j < count → Within (2 ^ 16) (vector_of (row_in self.old.moves j)) }
-        ensures masked { IsMasked count between.now self.old.moves self.new.back self.new.forth }
-        ensures sum { result
-            ≡ moved_below (λ j. plus (opposite (vector_of (row_in self.new.back j))) (vector_of (row_in self.new.forth j))) count }
-        ensures size { Within (count * 2 ^ 17) result }
+    fn mask(&mut self, found: &Found<'_>) -> Vec3
+        requires few { length found.now.chunk.numbers.now ≤ 128 }
+        requires first_long { length found.now.laid.first_weight.now ≡ length found.now.chunk.numbers.now }
+        requires second_long { length found.now.laid.second_weight.now ≡ length found.now.chunk.numbers.now }
+        requires sized { AreSized (length found.now.chunk.numbers.now) (lying_in found.now) }
+        requires short { (j : ℕ) → j < length found.now.chunk.numbers.now → Within (2 ^ 16) (vector_of (row_in self.old.moves j)) }
+        ensures masked { IsMasked (length found.now.chunk.numbers.now) (lying_in found.now) self.old.moves self.new.back self.new.forth }
+        ensures sum { result ≡ moved_below (λ j. plus (opposite (vector_of (row_in self.new.back j))) (vector_of (row_in self.new.forth j)))
+            (length found.now.chunk.numbers.now) }
+        ensures size { Within (length found.now.chunk.numbers.now * 2 ^ 17) result }
     {
         let mut pins = Row::ZERO;
-        for j in 0..count {
+        for j in 0..found.chunk.numbers.len() {
             let row = self.moves[j];
-            let back = kept(between.first_weight[j], row);
-            let forth = kept(between.second_weight[j], row);
+            let back = kept(found.laid.first_weight[j], row);
+            let forth = kept(found.laid.second_weight[j], row);
             self.back[j] = back;
             self.forth[j] = forth;
             pins = with_rows(pins, back, forth);
@@ -214,9 +212,9 @@ impl NearMoves {
         pins.vector()
     }
 
-    /// Moves the ends of a chunk's bonds, and books the moves beside held ends. Two free ends move oppositely, and add
-    /// nothing to any total.
-    pub(crate) fn pull<const L: usize, G: Ledger>(
+    // Moves the ends of a chunk's bonds, and books the moves beside held ends. Two free ends move oppositely, and add
+    // nothing to any total.
+    fn pull<const L: usize, G: Ledger>(
         &mut self,
         store: &mut Store<L>,
         found: &Found<'_>,
@@ -227,7 +225,7 @@ impl NearMoves {
         requires lanes { L ≤ 16 }
         requires can { CanProject 128 found.now.chunk.bonds found.now.chunk.numbers.now store.old totals.old }
         requires found { IsFound store.old.particles found.now }
-        requires near { AreNear (bond_of found.now.chunk.bonds) found.now.chunk.numbers.now found.now.between.now self.old }
+        requires near { AreNear (bond_of found.now.chunk.bonds) found.now.chunk.numbers.now (lying_in found.now) self.old.moves }
         ensures outcome { ComesTo found.now.chunk.bonds found.now.chunk.numbers.now store.old store.new totals.old totals.new result }
         ensures limit { store.new.limit ≡ store.old.limit }
         ensures copies { store.new.copies ≡ store.old.copies }
@@ -235,17 +233,44 @@ impl NearMoves {
         ensures sound { OnOk result (StaysSound (length found.now.chunk.numbers.now) store.old store.new totals.old totals.new) }
         ensures cost { steps.new ≡ steps.old + 2 * blocks_of (length found.now.chunk.numbers.now) L }
     {
-        if self.free {
+        let free = ends_are_free(found);
+        if free {
             if let Err(j) = store.pull(found.pairs, &self.moves, &self.moves, steps) {
                 return Err(left_at(found, j));
             }
             return Ok(());
         }
-        let pins = self.mask(found.between, found.chunk.numbers.len());
+        let pins = self.mask(found);
         if let Err(j) = store.pull(found.pairs, &self.back, &self.forth, steps) {
             return Err(left_at(found, j));
         }
         book_pins(totals, pins);
         Ok(())
+    }
+
+    /// Projects a chunk of bonds: side by side where the moves of all of them come out right so, else one by one.
+    pub(crate) fn project<const L: usize, G: Ledger>(
+        &mut self,
+        store: &mut Store<L>,
+        found: &Found<'_>,
+        totals: &mut Totals,
+        steps: &mut Steps<G>,
+    ) -> Result<(), Left>
+        requires some_lanes { 0 < L }
+        requires lanes { L ≤ 16 }
+        requires can { CanProject 128 found.now.chunk.bonds found.now.chunk.numbers.now store.old totals.old }
+        requires found { IsFound store.old.particles found.now }
+        ensures outcome { ComesTo found.now.chunk.bonds found.now.chunk.numbers.now store.old store.new totals.old totals.new result }
+        ensures limit { store.new.limit ≡ store.old.limit }
+        ensures copies { store.new.copies ≡ store.old.copies }
+        ensures fixed { fixed_parts store.new.particles ≡ fixed_parts store.old.particles }
+        ensures sound { OnOk result (StaysSound (length found.now.chunk.numbers.now) store.old store.new totals.old totals.new) }
+        ensures cost { steps.new ≡ steps.old + 2 * blocks_of (length found.now.chunk.numbers.now) L }
+    {
+        let right = self.try_moves(found);
+        if right {
+            return self.pull(store, found, totals, steps);
+        }
+        project_exactly(store, found, &self.moves, totals, steps)
     }
 }

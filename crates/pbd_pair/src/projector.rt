@@ -4,6 +4,7 @@ ghost use Rattle.pbd_world.specs.Ledger.{ledger_of, HaveRoom};
 ghost use Rattle.pbd_world.specs.Bonds.{projected};
 ghost use Rattle.pbd_store.specs.Blocks.{blocks_of};
 ghost use Rattle.pbd_pair.specs.Bonds.{bond_of};
+ghost use Rattle.pbd_pair.specs.Laid.{Suit};
 ghost use Rattle.pbd_store.specs.Moving.{motion_of, fixed_parts, AreInside, Weigh};
 ghost use Rattle.pbd_pair.specs.Projecting.{IsBatch};
 
@@ -34,7 +35,7 @@ pub trait Projector<const L: usize> {
     /// Projects a batch as its bonds do one by one, in the batch's order.
     ///
     /// `Left` has the number of the first bond that would move an end out of the store's limit. The places and
-    /// the totals are then any, and all else is as it was.
+    /// the totals are then any, and all else is as it was. Columns that come with the bonds are those of the batch.
     fn project<G: Ledger>(
         &mut self,
         store: &mut Store<L>,
@@ -46,6 +47,7 @@ pub trait Projector<const L: usize> {
         requires lanes_low { 0 < L }
         requires lanes_high { L ≤ 16 }
         requires batch { IsBatch store.old.limit (length store.old.particles) bonds batch.now }
+        requires columns { Suit bonds batch.now store.old.particles }
         requires inside { AreInside store.old.limit store.old.particles }
         requires weights { Weigh store.old.particles }
         requires room { HaveRoom (2 ^ 120) (ledger_of totals.old) }

@@ -9,7 +9,8 @@ ghost use Rattle.pbd_store.specs.Pairs.{moves_in};
 ghost use Rattle.pbd_pair.specs.Bonds.{bond_of, bond_count};
 ghost use Rattle.pbd_pair.specs.Projecting.{CanProject, ComesTo, StaysSound};
 ghost use Rattle.pbd_pair.specs.Moves.{moves_by, settled};
-ghost use Rattle.pbd_pair.specs.Chunks.{entries_in, kept_by, unplaced, AreExact, AreKnown, AreSized, AreTried, IsExact, IsFirm, IsFound, IsNear};
+ghost use Rattle.pbd_pair.specs.Laid.{IsFirm};
+ghost use Rattle.pbd_pair.specs.Chunks.{entries_in, kept_by, lying_in, unplaced, AreExact, AreKnown, AreSized, AreTried, IsExact, IsFound, IsNear};
 
 use crate::book::book;
 use crate::chunk::{Found, left_at};
@@ -81,16 +82,15 @@ fn moves_of(row: Row, way: Vec3, bond: Bond, weights: Weights) -> EndMoves
 #[inline(never)]
 fn exact_each(found: &Found<'_>, rows: &[Row; CHUNK], moves: &mut [EndMoves; CHUNK])
     requires known { AreKnown found.now.chunk.bonds found.now.chunk.numbers.now }
-    requires sized { AreSized (length found.now.chunk.numbers.now) found.now.between.now }
-    requires tried { AreTried (bond_of found.now.chunk.bonds) found.now.chunk.numbers.now found.now.between.now rows.now }
+    requires first_long { length found.now.laid.first_weight.now ≡ length found.now.chunk.numbers.now }
+    requires second_long { length found.now.laid.second_weight.now ≡ length found.now.chunk.numbers.now }
+    requires sized { AreSized (length found.now.chunk.numbers.now) (lying_in found.now) }
+    requires tried { AreTried (bond_of found.now.chunk.bonds) found.now.chunk.numbers.now (lying_in found.now) rows.now }
     ensures { AreExact found.now moves.new }
 {
     for (j, n) in found.chunk.numbers.iter().enumerate() {
-        let way = found.between.ways[j].vector();
-        let weights = weights_of(
-            found.between.first_weight[j],
-            found.between.second_weight[j],
-        );
+        let way = found.ways[j].vector();
+        let weights = weights_of(found.laid.first_weight[j], found.laid.second_weight[j]);
         moves[j] = moves_of(rows[j], way, found.chunk.bonds.get(*n), weights);
     }
 }
@@ -112,7 +112,9 @@ fn as_shift(moves: EndMoves) -> Shift
 #[inline(never)]
 fn book_each(totals: &mut Totals, found: &Found<'_>, moves: &[EndMoves; CHUNK])
     requires few { length found.now.chunk.numbers.now ≤ 128 }
-    requires sized { AreSized (length found.now.chunk.numbers.now) found.now.between.now }
+    requires first_long { length found.now.laid.first_weight.now ≡ length found.now.chunk.numbers.now }
+    requires second_long { length found.now.laid.second_weight.now ≡ length found.now.chunk.numbers.now }
+    requires sized { AreSized (length found.now.chunk.numbers.now) (lying_in found.now) }
     requires numbers { (j : ℕ) → j < length found.now.chunk.numbers.now
         → slice_index_or found.now.chunk.numbers.now j 0 < bond_count found.now.chunk.bonds }
     requires room { HaveRoom (2 ^ 124) (ledger_of totals.old) }
@@ -126,8 +128,8 @@ fn book_each(totals: &mut Totals, found: &Found<'_>, moves: &[EndMoves; CHUNK])
     for (j, n) in found.chunk.numbers.iter().enumerate() {
         book(
             totals,
-            found.between.first_weight[j] <= 0,
-            found.between.second_weight[j] <= 0,
+            found.laid.first_weight[j] <= 0,
+            found.laid.second_weight[j] <= 0,
             found.chunk.bonds.get(*n),
             as_shift(moves[j]),
         );
@@ -148,7 +150,7 @@ pub(crate) fn project_exactly<const L: usize, G: Ledger>(
     requires lanes { L ≤ 16 }
     requires can { CanProject 128 found.now.chunk.bonds found.now.chunk.numbers.now store.old totals.old }
     requires found { IsFound store.old.particles found.now }
-    requires tried { AreTried (bond_of found.now.chunk.bonds) found.now.chunk.numbers.now found.now.between.now rows.now }
+    requires tried { AreTried (bond_of found.now.chunk.bonds) found.now.chunk.numbers.now (lying_in found.now) rows.now }
     ensures outcome { ComesTo found.now.chunk.bonds found.now.chunk.numbers.now store.old store.new totals.old totals.new result }
     ensures limit { store.new.limit ≡ store.old.limit }
     ensures copies { store.new.copies ≡ store.old.copies }

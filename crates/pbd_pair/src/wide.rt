@@ -4,11 +4,10 @@ ghost use Rattle.pbd_num.specs.Rows.{vector_of};
 ghost use Rattle.pbd_num.specs.Vectors.{Within, opposite};
 ghost use Rattle.pbd_store.specs.Pairs.{row_in};
 ghost use Rattle.pbd_pair.specs.Bonds.{bond_of};
-ghost use Rattle.pbd_pair.specs.Chunks.{draw_by, reach_of, AreDrawn, AreKnown, AreSized, AreTried, IsMild, IsNear};
+ghost use Rattle.pbd_pair.specs.Chunks.{draw_by, lying_in, reach_of, AreDrawn, AreKnown, AreSized, AreTried, IsMild, IsNear};
 
-use crate::chunk::Chunk;
+use crate::chunk::{Chunk, Found};
 use pbd_num::{CHUNK, Draw, Row, TriedMoves, Vec3, Weights, try_moves};
-use pbd_store::Between;
 use pbd_world::Bond;
 
 // The length from which on a bond does nothing. No length is 2^31.
@@ -133,22 +132,19 @@ fn put_draws(chunk: &Chunk<'_>, draws: &mut [Draw; CHUNK])
 
 // The moves of the bonds. It has no branch, so that it is a loop over lanes.
 #[inline(never)]
-fn put_rows(
-    between: &Between,
-    chunk: &Chunk<'_>,
-    draws: &[Draw; CHUNK],
-    rows: &mut [Row; CHUNK],
-) -> bool
-    requires known { AreKnown chunk.now.bonds chunk.now.numbers.now }
-    requires sized { AreSized (length chunk.now.numbers.now) between.now }
-    requires drawn { AreDrawn (bond_of chunk.now.bonds) chunk.now.numbers.now draws.now }
-    ensures tried { AreTried (bond_of chunk.now.bonds) chunk.now.numbers.now between.now rows.new }
-    ensures all { IsTrue result → (j : ℕ) → j < length chunk.now.numbers.now → (row_in rows.new j).flag ≡ pos 0 }
+fn put_rows(found: &Found<'_>, draws: &[Draw; CHUNK], rows: &mut [Row; CHUNK]) -> bool
+    requires known { AreKnown found.now.chunk.bonds found.now.chunk.numbers.now }
+    requires first_long { length found.now.laid.first_weight.now ≡ length found.now.chunk.numbers.now }
+    requires second_long { length found.now.laid.second_weight.now ≡ length found.now.chunk.numbers.now }
+    requires sized { AreSized (length found.now.chunk.numbers.now) (lying_in found.now) }
+    requires drawn { AreDrawn (bond_of found.now.chunk.bonds) found.now.chunk.numbers.now draws.now }
+    ensures tried { AreTried (bond_of found.now.chunk.bonds) found.now.chunk.numbers.now (lying_in found.now) rows.new }
+    ensures all { IsTrue result → (j : ℕ) → j < length found.now.chunk.numbers.now → (row_in rows.new j).flag ≡ pos 0 }
 {
     let mut all = true;
-    for j in 0..chunk.numbers.len() {
-        let weights = weights_of(between.first_weight[j], between.second_weight[j]);
-        let row = wide_row(between.ways[j].vector(), draws[j], weights);
+    for j in 0..found.chunk.numbers.len() {
+        let weights = weights_of(found.laid.first_weight[j], found.laid.second_weight[j]);
+        let row = wide_row(found.ways[j].vector(), draws[j], weights);
         all = all & (row.flag == 0);
         rows[j] = row;
     }
@@ -157,11 +153,13 @@ fn put_rows(
 
 /// Tries the moves of a chunk's bonds in 64-bit numbers. True where all of them are exact.
 #[inline(never)]
-pub(crate) fn try_rows(between: &Between, chunk: &Chunk<'_>, rows: &mut [Row; CHUNK]) -> bool
-    requires known { AreKnown chunk.now.bonds chunk.now.numbers.now }
-    requires sized { AreSized (length chunk.now.numbers.now) between.now }
-    ensures tried { AreTried (bond_of chunk.now.bonds) chunk.now.numbers.now between.now rows.new }
-    ensures all { IsTrue result → (j : ℕ) → j < length chunk.now.numbers.now → (row_in rows.new j).flag ≡ pos 0 }
+pub(crate) fn try_rows(found: &Found<'_>, rows: &mut [Row; CHUNK]) -> bool
+    requires known { AreKnown found.now.chunk.bonds found.now.chunk.numbers.now }
+    requires first_long { length found.now.laid.first_weight.now ≡ length found.now.chunk.numbers.now }
+    requires second_long { length found.now.laid.second_weight.now ≡ length found.now.chunk.numbers.now }
+    requires sized { AreSized (length found.now.chunk.numbers.now) (lying_in found.now) }
+    ensures tried { AreTried (bond_of found.now.chunk.bonds) found.now.chunk.numbers.now (lying_in found.now) rows.new }
+    ensures all { IsTrue result → (j : ℕ) → j < length found.now.chunk.numbers.now → (row_in rows.new j).flag ≡ pos 0 }
 {
     let none = Draw {
         rest: 0,
@@ -169,6 +167,6 @@ pub(crate) fn try_rows(between: &Between, chunk: &Chunk<'_>, rows: &mut [Row; CH
         reach: 0,
     };
     let mut draws = [none; CHUNK];
-    put_draws(chunk, &mut draws);
-    put_rows(between, chunk, &draws, rows)
+    put_draws(&found.chunk, &mut draws);
+    put_rows(found, &draws, rows)
 }

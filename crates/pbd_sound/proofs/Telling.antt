@@ -1,6 +1,7 @@
 -- What is told of particles and links, item by item.
 use Rattle.std.proofs.Common.{◌≡◌, refl, sym, ap, ◌∙◌, ℕ, ◌+◌, ◌<◌, List, [], ◌∷◌, length, map, get_or, arith}
 use Rattle.std.specs.List.{AllZip, enumerate_from}
+use Rattle.std.proofs.Math.ListN.{get_or-map as read_mapped}
 use Rattle.std.proofs.lemmas.List.{ext_get_or, get_or-map}
 use Rattle.std.proofs.lemmas.List.FromFn.{length-enumerate_from, get_or-enumerate_from}
 use Rattle.pbd_world.specs.declared.parts.Particle.{Particle}
@@ -33,6 +34,13 @@ pub numbered_is : {A : Type 0} (f : ℕ → A → A) (xs ys : List A) (d : A) �
 numbered_is f xs ys d same each =
     ext_get_or d ys (numbered f 0 xs) (same ∙ sym (numbered_length f 0 xs))
     (λ i lt. let within : i < length xs = omega (arith, lt, same) in each i within ∙ sym (numbered_at f xs i d within))
+
+-- a list with f of each item is the mapped one
+pub mapped_is : {A B : Type 0} (f : A → B) (xs : List A) (ys : List B) (d : A) → length ys ≡ length xs
+    → ((i : ℕ) → i < length xs → get_or ys i (f d) ≡ f (get_or xs i d)) → ys ≡ map f xs
+mapped_is f xs ys d same each =
+    ext_get_or (f d) ys (map f xs) (same ∙ sym (length-mapped f xs))
+    (λ i lt. let within : i < length xs = omega (arith, lt, same) in each i within ∙ sym (read_mapped f xs i d))
 
 -- ---- weights and links stay
 

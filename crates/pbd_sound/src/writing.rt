@@ -1,5 +1,6 @@
 // Particles and links as they are told.
-ghost use Rattle.std.specs.Prelude.{◌≡◌, ◌+◌, ◌*◌, ◌<◌, ◌≤◌, length};
+ghost use Rattle.std.specs.Prelude.{◌≡◌, ◌+◌, ◌*◌, ◌<◌, ◌≤◌, length, map};
+ghost use Rattle.pbd_world.specs.Particles.{effective_weight};
 ghost use Rattle.pbd_sound.specs.Described.{particle_told, link_told, particles_told, links_told};
 
 use crate::Described;
@@ -19,23 +20,34 @@ fn particle_told<D: Described>(described: &D, i: u32, p: Particle) -> Particle
     }
 }
 
-/// Makes the particles of a store those of another one of the same length, as they are told: the weights are the other's.
+fn effective_weight_of(particle: Particle) -> u16
+    ensures { result ≡ effective_weight particle }
+{
+    if particle.held { 0 } else { particle.weight }
+}
+
+/// Makes the particles of a store those of another one of the same length, as they are told: the weights are the other's. The list
+/// is that of the effective weights.
 pub fn write_particles<const L: usize, D: Described, G: Ledger>(
     store: &mut Store<L>,
     other: &Store<L>,
     described: &D,
+    weights: &mut [u16],
     steps: &mut Steps<G>,
 )
     requires lanes { L ≤ 16 }
+    requires weights { length weights.old ≡ length other.now.particles }
     requires count { (D.seen described.now).particles ≡ length other.now.particles }
     requires same { length store.old.particles ≡ length other.now.particles }
     ensures particles { store.new.particles ≡ particles_told (D.seen described.now) other.now.particles }
     ensures limit { store.new.limit ≡ store.old.limit }
+    ensures weights { weights.new ≡ map effective_weight store.new.particles }
     ensures copies { store.new.copies ≡ store.old.copies }
     ensures cost { steps.new ≡ steps.old + 2 * length other.now.particles }
 {
     for i in 0..other.len() {
         let particle = particle_told(described, i, other.at(i, steps));
+        weights[i as usize] = effective_weight_of(particle);
         store.set(i, particle, steps);
     }
 }

@@ -10,7 +10,8 @@ use Rattle.pbd_sound.specs.Numbers.{standing}
 use Rattle.pbd_sound.proofs.Telling.{numbered_length}
 use Rattle.pbd_step.specs.declared.state.Setting.{Setting}
 use Rattle.pbd_step.specs.declared.state.State.{State}
-use Rattle.pbd_step.specs.States.{world_of}
+use Rattle.pbd_step.specs.States.{world_of, AreWeights}
+use Rattle.pbd_step.proofs.Keeping.{weights_many}
 use Rattle.pbd_step.specs.Solving.{AreAlike}
 
 -- the numbers of a state with this gravity
@@ -48,13 +49,16 @@ judged {l} {d} {setting} {kept} {w} {gravity} tracks numbers r h et en er =
     er ∙ (λ i. soundness (standing (et i) kept.store (en i))) ∙ standing_is setting kept gravity ∙ ap soundness (held_world h)
 
 pub flipped : {l : ℕ} (s t : State l) → AreAlike s t → AreAlike t s
-flipped s t h = record { particles = sym h.particles; limit = sym h.limit; links = sym h.links }
+flipped s t h = record { particles = sym h.particles; limit = sym h.limit; weights = sym h.weights; links = sym h.links }
 
 -- a state with the world that is told on another's has room for the same
-pub told_alike : {l : ℕ} (d : Description) (setting : Setting) (kept state : State l)
+pub told_alike : {l : ℕ} (d : Description) (setting : Setting) (kept state : State l) → AreWeights kept → AreWeights state
     → world_of (record setting { gravity = d.gravity }) kept ≡ told d (world_of setting state) → AreAlike kept state
-told_alike d setting kept state e = record {
-  particles = ap (λ (v : World). length v.particles) e ∙ numbered_length (particle_told d) 0 state.store.particles;
+told_alike d setting kept state wk ws e = record {
+  particles = many;
+  weights = weights_many kept wk ∙ many ∙ sym (weights_many state ws);
   limit = ap (λ (v : World). v.limit) e;
   links = ap (λ (v : World). length v.links) e ∙ numbered_length (link_told d) 0 state.links.items;
-}
+} where
+  many : length kept.store.particles ≡ length state.store.particles
+  many = ap (λ (v : World). length v.particles) e ∙ numbered_length (particle_told d) 0 state.store.particles

@@ -1,8 +1,10 @@
 -- Bonds one after another, as far as they have come.
 use Rattle.std.proofs.Common.{◌≡◌, ℕ, suc, ◌+◌, ◌-◌, ◌*◌, ◌^◌, ◌<◌, ◌≤◌, min, Bool, List, [], ◌∷◌, ◌++◌, length, get_or, length-append}
-use Rattle.std.proofs.Common.{drop, drop-cons, add-one, refl, ap, sym, ◌∙◌, subst, arith, ℤ, Result, Ok, Err, IsFalse}
+use Rattle.std.proofs.Common.{drop, drop-cons, add-one, append_assoc, refl, ap, sym, ◌∙◌, subst, arith, ℤ, Option, Some, Result, Ok, Err}
+use Rattle.std.proofs.Common.{IsFalse}
 use Rattle.std.proofs.lemmas.Bool.Decides.{nat_tests}
 use Rattle.pbd_world.specs.declared.bond.Bond.{Bond}
+use Rattle.pbd_world.specs.declared.parts.Particle.{Particle}
 use Rattle.pbd_world.specs.Outcomes.{◌>>=◌, in_turn}
 use Rattle.pbd_world.specs.declared.totals.Totals.{Totals}
 use Rattle.pbd_world.specs.Ledger.{HaveRoom}
@@ -17,7 +19,11 @@ use Rattle.pbd_colour.specs.Pairs.{batch_of}
 use Rattle.pbd_colour.specs.Batch.{AreLive, AreApart}
 use Rattle.pbd_colour.proofs.Batches.{order-batches}
 use Rattle.pbd_pair.specs.declared.bonds.Bonds.{Bonds}
+use Rattle.pbd_pair.specs.declared.laid.Laid.{Laid}
 use Rattle.pbd_pair.specs.Bonds.{bond_of, bond_count, IsBond}
+use Rattle.pbd_pair.specs.Laid.{back_of, laid_in, lists_of, AreOfBatch, Suit, SuitIf}
+use Rattle.pbd_pair.proofs.Laying.{suit_same}
+use Rattle.pbd_pair.proofs.LaidParts.{back_part}
 use Rattle.pbd_pair.specs.Projecting.{ShareNone, IsBatch}
 use Rattle.pbd_world.proofs.Rooms.{room_at}
 use Rattle.pbd_pair.proofs.OneByOne.{in_turn-append}
@@ -103,6 +109,27 @@ module _ (limit : ℤ) (n : ℕ) (bonds : Bonds) (pairs : List (ℕ × ℕ)) (h 
     at : (i : ℕ) → i < 1 → (Q : ℕ → Type 0) → Q k → Q (get_or (k ∷ []) i 0)
     at i p Q q = let e : i ≡ 0 = omega (arith, p) in subst (λ (m : ℕ). Q (get_or (k ∷ []) m 0)) (sym e) q
 
+-- ---- the same bonds, with columns
+
+pub same_bonds : (bonds others : Bonds) → ((n : ℕ) → bond_of others n ≡ bond_of bonds n) → bond_of others ≡ bond_of bonds
+same_bonds bonds others is = λ i n. is n i
+
+pub batch_with : {limit : ℤ} {n : ℕ} (bonds others : Bonds) (numbers : List ℕ) → ((n : ℕ) → bond_of others n ≡ bond_of bonds n)
+    → bond_count others ≡ bond_count bonds → IsBatch limit n bonds numbers → IsBatch limit n others numbers
+batch_with {limit} {n} bonds others numbers is count h = record {
+  numbers = λ i p. omega (arith, h.numbers i p, count);
+  bond = λ i p. subst (λ (bond : ℕ → Bond). IsBond limit n (bond (get_or numbers i 0))) (sym (same_bonds bonds others is)) (h.bond i p);
+  apart = record {
+    each = λ i j p q. subst (λ (bond : ℕ → Bond). ShareNone (bond (get_or numbers i 0)) (bond (get_or numbers j 0)))
+        (sym (same_bonds bonds others is)) (h.apart.each i j p q);
+  };
+}
+
+pub suits : {ps : List Particle} (bonds others : Bonds) (numbers : List ℕ) (laid : Laid) → ((n : ℕ) → bond_of others n ≡ bond_of bonds n)
+    → laid_in others ≡ Some laid → AreOfBatch (bond_of bonds) numbers ps laid → Suit others numbers ps
+suits {ps} bonds others numbers laid is e of = subst (λ (o : Option Laid). SuitIf o (bond_of others) numbers ps) (sym e)
+    (subst (λ (bond : ℕ → Bond). AreOfBatch bond numbers ps laid) (sym (same_bonds bonds others is)) of)
+
 -- ---- what is done so far, and the bonds that are left, make the whole
 
 pub record SoFar (limit : ℤ) (bond : ℕ → Bond) (whole left : List ℕ) (start now : Motion) (before given : ℕ) : Type 0 where
@@ -169,34 +196,70 @@ module _ {limit : ℤ} {bond : ℕ → Bond} {whole left : List ℕ} {start now 
   pub room_so_far : (n m : ℕ) → n + length whole * 2 ^ 32 ≤ m → HaveRoom n start.totals → HaveRoom m now.totals
   room_so_far n m le h = room_at _ (omega (arith, le, s.shorter)) (s.grows n h)
 
+-- ---- the rows of the bonds that are left
+
+-- they stay while places alone are changed
+pub still_rows : {ps qs : List Particle} (bond : ℕ → Bond) (numbers : List ℕ) (rows : Laid) → fixed_parts qs ≡ fixed_parts ps
+    → AreOfBatch bond numbers ps rows → AreOfBatch bond numbers qs rows
+still_rows {ps} {qs} bond numbers rows fixed of = suit_same bond numbers ps qs (Some rows) (sym fixed) of
+
+module _ (bond : ℕ → Bond) (pairs : List (ℕ × ℕ)) (live : List Bool) (ps : List Particle) (rows : Laid) where
+  abbrev pub left_from : ℕ → List ℕ
+  left_from c = parallel_from pairs live c ++ batch_of pairs live 63
+
+  pub all_rows : AreOfBatch bond (order pairs live) ps rows → AreOfBatch bond (left_from 0) ps rows
+  all_rows of = subst (λ (ns : List ℕ). AreOfBatch bond ns ps rows) (both_parts pairs live) of
+
+  -- those of colour c, and those of the colours after it
+  pub colour_rows : (c : ℕ) (numbers : List ℕ) → c < 63 → numbers ≡ batch_of pairs live c → AreOfBatch bond (left_from c) ps rows
+      → AreOfBatch bond (numbers ++ left_from (c + 1)) ps rows
+  colour_rows c numbers lt is of = subst (λ (ns : List ℕ). AreOfBatch bond ns ps rows)
+      (ap (λ (ns : List ℕ). ns ++ batch_of pairs live 63) (parallel_next pairs live c lt)
+      ∙ append_assoc (batch_of pairs live c) (parallel_from pairs live (c + 1)) (batch_of pairs live 63)
+      ∙ ap (λ (ns : List ℕ). ns ++ left_from (c + 1)) (sym is)) of
+
+  -- those of colour 63
+  pub serial_rows : (n : ℕ) (last : Laid) → lists_of last ≡ back_of n (lists_of rows)
+      → n + length (batch_of pairs live 63) ≡ length (order pairs live)
+      → AreOfBatch bond (order pairs live) ps rows → AreOfBatch bond (batch_of pairs live 63) ps last
+  serial_rows n last e is of =
+      let first : n ≡ length (parallel_from pairs live 0) = omega (arith, is, order_parts pairs live) in
+      back_part bond ps (parallel_from pairs live 0) (batch_of pairs live 63) rows (all_rows of) last
+      (e ∙ ap (λ (k : ℕ). back_of k (lists_of rows)) first)
+
 -- where a part is done, the bonds of other numbers can be projected as a batch, and those of all pairs one after another
-module _ {n before count : ℕ} {bonds : Bonds} {pairs : List (ℕ × ℕ)} {old : Stored} {t : Totals} {whole left : List ℕ} (new : Stored)
-    (u : Totals) (can : CanProjectAll n bonds pairs old t) (same : new.limit ≡ old.limit)
+module _ {n before count : ℕ} {bonds : Bonds} {laid : Laid} {pairs : List (ℕ × ℕ)} {live : List Bool} {old : Stored} {t : Totals}
+    {whole left : List ℕ} (new : Stored) (u : Totals) (can : CanProjectAll n bonds laid pairs live old t) (same : new.limit ≡ old.limit)
     (so : SoFar old.limit (bond_of bonds) whole left (motion_of old t) (motion_of new u) before count) where
   many : length new.particles ≡ length old.particles
   many = same_length new.particles old.particles so.fixed
 
-  one_batch : (numbers : List ℕ) → n + length whole * 2 ^ 32 ≤ 2 ^ 120 → IsBatch old.limit (length old.particles) bonds numbers
-      → CanProjectBatch bonds numbers new u
-  one_batch numbers few is = record {
+  one_batch : (numbers : List ℕ) (rows : Laid) → n + length whole * 2 ^ 32 ≤ 2 ^ 120
+      → IsBatch old.limit (length old.particles) bonds numbers
+      → AreOfBatch (bond_of bonds) numbers new.particles rows → CanProjectBatch bonds rows numbers new u
+  one_batch numbers rows few is of = record {
     batch = rw (same, many) is;
+    rows = of;
     inside = rw same so.inside;
     weights = weigh_same old.particles new.particles so.fixed can.movable.weights;
     room = room_so_far so n (2 ^ 120) few can.movable.room;
   }
 
-  pub batch_goes : n + length whole * 2 ^ 32 ≤ 2 ^ 120 → (live : List Bool) (numbers : List ℕ) → AreLive pairs live numbers
-      → AreApart pairs numbers → CanProjectBatch bonds numbers new u
-  batch_goes few live numbers alive apart = one_batch numbers few
-      (batch_is old.limit (length old.particles) bonds pairs can.fit live numbers alive apart)
+  pub batch_goes : n + length whole * 2 ^ 32 ≤ 2 ^ 120 → (numbers : List ℕ) (rows : Laid) → AreLive pairs live numbers
+      → AreApart pairs numbers
+      → AreOfBatch (bond_of bonds) numbers new.particles rows → CanProjectBatch bonds rows numbers new u
+  batch_goes few numbers rows alive apart of =
+      one_batch numbers rows few (batch_is old.limit (length old.particles) bonds pairs can.fit live numbers alive apart) of
 
-  pub single_goes : n + length whole * 2 ^ 32 ≤ 2 ^ 120 → (k : ℕ) → k < length pairs → CanProjectBatch bonds (k ∷ []) new u
-  single_goes few k h = one_batch (k ∷ []) few (single_is old.limit (length old.particles) bonds pairs can.fit k h)
+  pub single_goes : n + length whole * 2 ^ 32 ≤ 2 ^ 120 → (k : ℕ) (rows : Laid) → k < length pairs
+      → AreOfBatch (bond_of bonds) (k ∷ []) new.particles rows → CanProjectBatch bonds rows (k ∷ []) new u
+  single_goes few k rows h of = one_batch (k ∷ []) rows few (single_is old.limit (length old.particles) bonds pairs can.fit k h) of
 
-  pub all_go : (m : ℕ) → n + length whole * 2 ^ 32 ≤ m → CanProjectAll m bonds pairs new u
+  pub all_go : (m : ℕ) → n + length whole * 2 ^ 32 ≤ m → CanProjectAll m bonds laid pairs live new u
   all_go m few = record {
     fit = rw (same, many) can.fit;
     few = can.few;
+    rows = still_rows (bond_of bonds) (order pairs live) laid so.fixed can.rows;
     movable = record {
       inside = rw same so.inside;
       weights = weigh_same old.particles new.particles so.fixed can.movable.weights;

@@ -33,7 +33,8 @@ use Rattle.pbd_world.specs.Contacts.{link_pairs, live_flags}
 use Rattle.pbd_world.specs.Valid.{is_valid, is_well_formed, is_valid_link, are_valid_links}
 use Rattle.pbd_world.proofs.WorldParts.{Formed, formed}
 use Rattle.pbd_step.proofs.UnderWay.{link_is_bond, link_parts}
-use Rattle.pbd_step.specs.States.{world_of, HasLinks, HaveSpace}
+use Rattle.pbd_world.specs.Particles.{effective_weight}
+use Rattle.pbd_step.specs.States.{world_of, AreWeights, HasLinks, HaveSpace}
 use Rattle.pbd_world.proofs.OpenedLemmas.{opened-is_sound}
 use Rattle.pbd_step.specs.Opening.{AreCopied, IsFirst}
 use Rattle.pbd_step.specs.Solving.{AreAlike, IsKept, Solved}
@@ -122,12 +123,21 @@ scene_limit v w e = ap (λ (u : World). u.limit) e
 
 -- ---- what a solver keeps
 
+-- as many weights as particles
+pub weights_many : {l : ℕ} (s : State l) → AreWeights s → length s.weights.items ≡ length s.store.particles
+weights_many s w = ap (λ (ws : List ℕ). length ws) w ∙ length-mapped effective_weight s.store.particles
+
+as_many : {l : ℕ} (s t : State l) → AreWeights s → AreWeights t → length s.store.particles ≡ length t.store.particles
+    → length s.weights.items ≡ length t.weights.items
+as_many s t ws wt e = weights_many s ws ∙ e ∙ sym (weights_many t wt)
+
 -- two states of one scene have room for the same
-pub scene_alike : {l : ℕ} (setting setting' : Setting) (s t : State l) → AreOfOneScene (world_of setting s) (world_of setting' t)
-    → AreAlike s t
-scene_alike setting setting' s t e = record {
+pub scene_alike : {l : ℕ} (setting setting' : Setting) (s t : State l) → AreWeights s → AreWeights t
+    → AreOfOneScene (world_of setting s) (world_of setting' t) → AreAlike s t
+scene_alike setting setting' s t ws wt e = record {
   particles = scene_particles (world_of setting s) (world_of setting' t) e;
   limit = scene_limit (world_of setting s) (world_of setting' t) e;
+  weights = as_many s t ws wt (scene_particles (world_of setting s) (world_of setting' t) e);
   links = scene_links (world_of setting s) (world_of setting' t) e;
 }
 
@@ -140,24 +150,37 @@ pub scene_pairs : {l : ℕ} (setting setting' : Setting) (s t : State l)
 scene_pairs setting setting' s t e =
     sym (dead_pairs s.links.items) ∙ ap (λ (w : World). link_pairs w.links) e ∙ dead_pairs t.links.items
 
-pub same_alike : {l : ℕ} (s t : State l) (setting : Setting) → world_of setting s ≡ world_of setting t → AreAlike s t
-same_alike s t setting e = record {
+pub same_alike : {l : ℕ} (s t : State l) (setting : Setting) → s.weights.items ≡ t.weights.items → world_of setting s ≡ world_of setting t
+    → AreAlike s t
+same_alike s t setting w e = record {
   particles = ap (λ (u : World). length u.particles) e;
   limit = ap (λ (u : World). u.limit) e;
+  weights = ap (λ (ws : List ℕ). length ws) w;
   links = ap (λ (u : World). length u.links) e;
 }
 
+-- the weights of a state that was taken over
+pub weights_taken : {l : ℕ} (s t : State l) → s.weights.items ≡ t.weights.items → s.store.particles ≡ t.store.particles → AreWeights t
+    → AreWeights s
+weights_taken s t w e h = w ∙ h ∙ ap (λ (ps : List Particle). map effective_weight ps) (sym e)
+
 pub alike_join : {l : ℕ} (r s t : State l) → AreAlike r s → AreAlike s t → AreAlike r t
-alike_join r s t h k = record { particles = h.particles ∙ k.particles; limit = h.limit ∙ k.limit; links = h.links ∙ k.links }
+alike_join r s t h k = record {
+  particles = h.particles ∙ k.particles;
+  limit = h.limit ∙ k.limit;
+  weights = h.weights ∙ k.weights;
+  links = h.links ∙ k.links;
+}
 
 -- the same is kept of a state that moved, with the colours of its links and scratch of the same room
 pub kept_moved : {l : ℕ} (setting : Setting) (old new kept : State l) (colours : Coloured) (scratch : Scratch)
     → IsSound (world_of setting new)
-    → AreAlike old new
+    → AreWeights new → AreAlike old new
     → AreAlike kept old → HasLinks (length old.store.particles) new.links.items colours
     → HaveSpace (length old.store.particles) (length old.links.items) scratch → IsKept setting new kept colours scratch
-kept_moved setting old new kept colours scratch sound same alike links space = record {
+kept_moved setting old new kept colours scratch sound weights same alike links space = record {
   sound = sound;
+  weights = weights;
   links = subst (λ (n : ℕ). HasLinks n new.links.items colours) same.particles links;
   space = subst (λ (m : ℕ). HaveSpace (length new.store.particles) m scratch) same.links
       (subst (λ (n : ℕ). HaveSpace n (length old.links.items) scratch) same.particles space);
@@ -167,19 +190,21 @@ kept_moved setting old new kept colours scratch sound same alike links space = r
 -- the same is kept where a command has left particles and links of as many, with their colours
 pub kept_commanded : {l : ℕ} {setting setting' : Setting} {old new kept : State l} {colours colours' : Coloured} {scratch : Scratch}
     {r : Result (Unit {0}) Refusal} {meant : Result World Refusal} → IsKept setting old kept colours scratch
-    → Commanded r meant (world_of setting old) (world_of setting' new) → HasLinks (length old.store.particles) new.links.items colours'
+    → Commanded r meant (world_of setting old) (world_of setting' new) → AreWeights new
+    → HasLinks (length old.store.particles) new.links.items colours'
     → IsKept setting' new kept colours' scratch
-kept_commanded {l} {setting} {setting'} {old} {new} {kept} {colours} {colours'} {scratch} h done links =
-    kept_moved setting' old new kept colours' scratch done.sound (scene_alike setting setting' old new done.one_scene) h.alike links h.space
+kept_commanded {l} {setting} {setting'} {old} {new} {kept} {colours} {colours'} {scratch} h done weights links =
+    kept_moved setting' old new kept colours' scratch
+    done.sound weights (scene_alike setting setting' old new h.weights weights done.one_scene) h.alike links h.space
 
 -- the same where it has left the links as they were
 pub kept_linked : {l : ℕ} {setting : Setting} {old new kept : State l} {colours : Coloured} {scratch : Scratch}
     {r : Result (Unit {0}) Refusal}
     {meant : Result World Refusal} → IsKept setting old kept colours scratch
-    → Commanded r meant (world_of setting old) (world_of setting new) → new.links.items ≡ old.links.items
+    → Commanded r meant (world_of setting old) (world_of setting new) → AreWeights new → new.links.items ≡ old.links.items
     → IsKept setting new kept colours scratch
-kept_linked {l} {setting} {old} {new} {kept} {colours} h done same =
-    kept_commanded h done (subst (λ (ls : List Link). HasLinks (length old.store.particles) ls colours) (sym same) h.links)
+kept_linked {l} {setting} {old} {new} {kept} {colours} h done weights same =
+    kept_commanded h done weights (subst (λ (ls : List Link). HasLinks (length old.store.particles) ls colours) (sym same) h.links)
 
 -- ---- links in range
 
@@ -319,6 +344,7 @@ opened_kept parts setting state kept colours scratch n m valid h f k en em links
     let count : m ≡ length state.links.items = em ∙ sym (ap (λ (ls : List Link). length ls) f.links) in
     record {
       sound = subst IsSound (sym (opened_world parts setting state h f)) (opened-is_sound parts valid);
+      weights = f.weights;
       links = subst (λ (ls : List Link). HasLinks (length state.store.particles) ls colours) (sym f.links)
           (subst (λ (k : ℕ). HasLinks k parts.links colours) particles links);
       space = subst (λ (k : ℕ). HaveSpace (length state.store.particles) k scratch) count
@@ -326,6 +352,7 @@ opened_kept parts setting state kept colours scratch n m valid h f k en em links
       alike = record {
         particles = ap (λ (ps : List Particle). length ps) (k.particles ∙ sym f.particles);
         limit = k.limit ∙ sym f.limit;
+        weights = as_many kept state k.weights f.weights (ap (λ (ps : List Particle). length ps) (k.particles ∙ sym f.particles));
         links = ap (λ (ls : List Link). length ls) (k.links ∙ sym f.links);
       };
     }

@@ -14,6 +14,8 @@ pub mod Leading
 pub mod InOrder
 pub mod Settling
 pub mod Keeping
+pub mod Laying
+pub mod Weighing
 pub mod Staying
 pub mod Costing
 pub mod Parting

@@ -1,5 +1,5 @@
 -- What the parts of a step leave as it was, one after another.
-use Rattle.std.proofs.Common.{◌≡◌, refl, sym, ap, ◌∙◌, ℕ, ◌<◌, ◌≤◌, List, Bool, length, arith, subst}
+use Rattle.std.proofs.Common.{◌≡◌, refl, sym, ap, ◌∙◌, ℕ, ◌<◌, ◌≤◌, ℤ, List, Bool, length, map, arith, subst}
 use Rattle.pbd_colour.specs.Pairs.{Coloured}
 use Rattle.pbd_store.specs.Moving.{fixed_parts}
 use Rattle.pbd_store.proofs.Fixed.{same_length}
@@ -10,8 +10,12 @@ use Rattle.pbd_step.specs.declared.state.State.{State}
 use Rattle.pbd_step.specs.declared.state.Scratch.{Scratch}
 use Rattle.pbd_step.specs.declared.state.Running.{Running}
 use Rattle.pbd_step.specs.Solving.{AreAlike}
-use Rattle.pbd_step.specs.States.{world_of, HasLinks, HaveSpace, IsUnderWay}
-use Rattle.pbd_step.specs.Staying.{IsReady, IsGoing, IsMoved, StaysInPass, StaysInStep}
+use Rattle.pbd_step.specs.States.{world_of, AreWeights, HasLinks, HaveSpace, IsUnderWay}
+use Rattle.pbd_world.specs.Particles.{effective_weight}
+use Rattle.pbd_pair.specs.declared.laid.BondColumns.{BondColumns}
+use Rattle.pbd_pair.specs.Laid.{HaveRows}
+use Rattle.pbd_pair.proofs.LaidParts.{weights_kept}
+use Rattle.pbd_step.specs.Staying.{AreBondsLaid, AreContactsLaid, AreLinksLaid, IsReady, IsGoing, IsMoved, StaysInPass, StaysInStep}
 
 -- ---- states and scratch
 
@@ -22,6 +26,8 @@ same_room old new scratch flags n m h = record {
   touched = flags ∙ h.touched;
   pairs = omega (arith, ap (λ (t : Scratch). t.pairs.room) scratch, h.pairs);
   numbers = omega (arith, ap (λ (t : Scratch). t.numbers.room) scratch, h.numbers);
+  laid_links = subst (λ (t : Scratch). HaveRows m t.laid_links) (sym scratch) h.laid_links;
+  laid_contacts = subst (λ (t : Scratch). HaveRows 262144 t.laid_contacts) (sym scratch) h.laid_contacts;
 }
 
 pub both_moved : {l : ℕ} (old mid new : State l) → IsMoved old mid → IsMoved mid new → IsMoved old new
@@ -30,27 +36,66 @@ both_moved {l} old mid new h k = record {
   limit = k.limit ∙ h.limit;
   copies = k.copies ∙ h.copies;
   whole = k.whole ∙ h.whole;
+  weights = k.weights ∙ h.weights;
 }
 
+-- the weights of a state stay those of its particles
+pub weights_moved : {l : ℕ} (old new : State l) → IsMoved old new → AreWeights old → AreWeights new
+weights_moved {l} old new h w = ap (λ (s : State l). s.weights.items) h.same ∙ w ∙ sym h.weights
+
 pub moved_alike : {l : ℕ} (old new : State l) → IsMoved old new → AreAlike new old
-moved_alike {l} old new h = record { particles = h.whole; limit = h.limit; links = ap (λ (s : State l). length s.links.items) h.same }
+moved_alike {l} old new h = record {
+  particles = h.whole;
+  limit = h.limit;
+  weights = ap (λ (s : State l). length s.weights.items) h.same;
+  links = ap (λ (s : State l). length s.links.items) h.same;
+}
 
 -- with as many flags
 pub cleared : (scratch : Scratch) (flags : List Bool) → length flags ≡ length scratch.touched → (n m : ℕ) → HaveSpace n m scratch
     → HaveSpace n m (record scratch { touched = flags })
-cleared scratch flags many n m h = record { found = h.found; touched = many ∙ h.touched; pairs = h.pairs; numbers = h.numbers }
+cleared scratch flags many n m h = record {
+  found = h.found;
+  touched = many ∙ h.touched;
+  pairs = h.pairs;
+  numbers = h.numbers;
+  laid_links = h.laid_links;
+  laid_contacts = h.laid_contacts;
+}
+
+-- with other rows in the columns, as many, and as many flags
+pub prepared : (scratch : Scratch) (links contacts : BondColumns) (flags : List Bool)
+    → HaveRows (length scratch.laid_links.first.items) links
+    → HaveRows (length scratch.laid_contacts.first.items) contacts → length flags ≡ length scratch.touched → (n m : ℕ)
+    → HaveSpace n m scratch
+    → HaveSpace n m (record scratch { laid_links = links; laid_contacts = contacts; touched = flags })
+prepared scratch links contacts flags a b many n m h = record {
+  found = h.found;
+  touched = many ∙ h.touched;
+  pairs = h.pairs;
+  numbers = h.numbers;
+  laid_links = record { even = a.even; rows = a.rows ∙ h.laid_links.rows };
+  laid_contacts = record { even = b.even; rows = b.rows ∙ h.laid_contacts.rows };
+}
 
 -- with the contacts of as many particles
 pub refound : (scratch : Scratch) (found : Found) → found.particles ≡ scratch.found.particles → (n m : ℕ) → HaveSpace n m scratch
     → HaveSpace n m (record scratch { found = found })
-refound scratch found same n m h = record { found = same ∙ h.found; touched = h.touched; pairs = h.pairs; numbers = h.numbers }
+refound scratch found same n m h = record {
+  found = same ∙ h.found;
+  touched = h.touched;
+  pairs = h.pairs;
+  numbers = h.numbers;
+  laid_links = h.laid_links;
+  laid_contacts = h.laid_contacts;
+}
 
 -- ---- parts of a pass
 
 module _ {l : ℕ} {P : Type 0} {count : P → ℕ} {lanes : P → ℕ} where
   pub none_in_pass : (run : Running l P) → StaysInPass count lanes run run
   none_in_pass run = record {
-    moved = record { same = refl; limit = refl; copies = refl; whole = refl };
+    moved = record { same = refl; limit = refl; copies = refl; whole = refl; weights = refl };
     fixed = refl;
     colours = refl;
     scratch = refl;
@@ -84,6 +129,7 @@ module _ {l : ℕ} {P : Type 0} {count : P → ℕ} {lanes : P → ℕ} where
       limit = limit;
       copies = copies;
       whole = same_length state.store.particles run.state.store.particles fixed;
+      weights = weights_kept run.state.store.particles state.store.particles fixed;
     };
     fixed = fixed;
     colours = refl;
@@ -97,7 +143,8 @@ module _ {l : ℕ} {P : Type 0} {count : P → ℕ} {lanes : P → ℕ} where
 
   pub none_in_step : (run : Running l P) → StaysInStep count lanes run run
   none_in_step run = record {
-    alike = record { particles = refl; limit = refl; links = refl };
+    alike = record { particles = refl; limit = refl; weights = refl; links = refl };
+    weights = λ h. h;
     copies = refl;
     pairs = refl;
     space = λ n m h. h;
@@ -111,8 +158,10 @@ module _ {l : ℕ} {P : Type 0} {count : P → ℕ} {lanes : P → ℕ} where
     alike = record {
       particles = k.alike.particles ∙ h.alike.particles;
       limit = k.alike.limit ∙ h.alike.limit;
+      weights = k.alike.weights ∙ h.alike.weights;
       links = k.alike.links ∙ h.alike.links;
     };
+    weights = λ w. k.weights (h.weights w);
     copies = k.copies ∙ h.copies;
     pairs = k.pairs ∙ ap (λ (c : Coloured). record c { live = new.colours.live }) h.pairs;
     space = λ n m room. k.space n m (h.space n m room);
@@ -123,6 +172,7 @@ module _ {l : ℕ} {P : Type 0} {count : P → ℕ} {lanes : P → ℕ} where
   pub pass_in_step : (old new : Running l P) → StaysInPass count lanes old new → StaysInStep count lanes old new
   pass_in_step old new h = record {
     alike = moved_alike old.state new.state h.moved;
+    weights = weights_moved old.state new.state h.moved;
     copies = h.moved.copies;
     pairs = λ i. record (h.colours i) { live = new.colours.live };
     space = same_room old.scratch new.scratch h.scratch h.flags;
@@ -134,6 +184,7 @@ module _ {l : ℕ} {P : Type 0} {count : P → ℕ} {lanes : P → ℕ} where
       → StaysInStep count lanes run (record run { state = state })
   move_in_step run state h = record {
     alike = moved_alike run.state state h;
+    weights = weights_moved run.state state h;
     copies = h.copies;
     pairs = refl;
     space = λ n m room. room;
@@ -145,7 +196,8 @@ module _ {l : ℕ} {P : Type 0} {count : P → ℕ} {lanes : P → ℕ} where
   pub tools_in_step : (run : Running l P) (scratch : Scratch) → ((n m : ℕ) → HaveSpace n m run.scratch → HaveSpace n m scratch)
       → StaysInStep count lanes run (record run { scratch = scratch })
   tools_in_step run scratch space = record {
-    alike = record { particles = refl; limit = refl; links = refl };
+    alike = record { particles = refl; limit = refl; weights = refl; links = refl };
+    weights = λ h. h;
     copies = refl;
     pairs = refl;
     space = space;
@@ -163,6 +215,7 @@ module _ {l : ℕ} {P : Type 0} where
   pass_goes {count} {lanes} {bound} more setting old new g h under_way = record {
     count = omega (arith, ap (λ (s : State l). s.steps) h.moved.same, g.count);
     under_way = under_way;
+    weights = weights_moved old.state new.state h.moved g.weights;
     links = coe 0 1 (i. HasLinks (sym h.moved.whole i) (sym h.moved.same i).links.items (sym h.colours i)) g.links;
     space = coe 0 1 (i. HaveSpace (sym h.moved.whole i) (length (sym h.moved.same i).links.items) new.scratch)
         (same_room old.scratch new.scratch h.scratch h.flags (length old.state.store.particles) (length old.state.links.items) g.space);
@@ -174,6 +227,7 @@ module _ {l : ℕ} {P : Type 0} where
   begun_goes bound setting run state ready few h under_way = record {
     count = omega (arith, ap (λ (s : State l). s.steps) h.same, few);
     under_way = under_way;
+    weights = weights_moved run.state state h ready.weights;
     links = coe 0 1 (i. HasLinks (sym h.whole i) (sym h.same i).links.items run.colours) ready.links;
     space = coe 0 1 (i. HaveSpace (sym h.whole i) (length (sym h.same i).links.items) run.scratch) ready.space;
   }
@@ -185,6 +239,7 @@ module _ {l : ℕ} {P : Type 0} where
   tools_go setting run scratch space g = record {
     count = g.count;
     under_way = g.under_way;
+    weights = g.weights;
     links = g.links;
     space = space (length run.state.store.particles) (length run.state.links.items) g.space;
   }
@@ -195,7 +250,17 @@ module _ {l : ℕ} {P : Type 0} where
       → HasLinks (length old.state.store.particles) new.state.links.items new.colours → IsReady setting new
   ready_on setting old new h stays sound links = record {
     sound = sound;
+    weights = stays.weights h.weights;
     links = subst (λ (n : ℕ). HasLinks n new.state.links.items new.colours) (sym stays.alike.particles) links;
     space = coe 0 1 (i. HaveSpace (sym stays.alike.particles i) (sym stays.alike.links i) new.scratch)
         (stays.space (length old.state.store.particles) (length old.state.links.items) h.space);
+  }
+
+  -- bonds that are laid stay laid after a part of a pass
+  pub still_laid : {count : P → ℕ} {lanes : P → ℕ} (thickness : ℤ) (old new : Running l P) → StaysInPass count lanes old new
+      → AreBondsLaid thickness old.state old.scratch → AreBondsLaid thickness new.state new.scratch
+  still_laid thickness old new h laid = record {
+    links = coe 0 1 (i. AreLinksLaid (sym h.moved.same i) (sym h.scratch i).laid_links) laid.links;
+    contacts = coe 0 1 (i. AreContactsLaid thickness (sym h.moved.same i) (sym h.scratch i).found.pairs (sym h.scratch i).laid_contacts)
+        laid.contacts;
   }

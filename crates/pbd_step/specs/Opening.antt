@@ -5,6 +5,7 @@ use Rattle.pbd_world.specs.Ledger.{sum_of, ledger_of, zero_totals}
 use Rattle.pbd_world.specs.Momentum.{momentum}
 use Rattle.pbd_step.specs.declared.state.Setting.{Setting}
 use Rattle.pbd_step.specs.declared.state.State.{State}
+use Rattle.pbd_step.specs.States.{AreWeights}
 
 -- a setting has what no step changes of some parts
 pub record AreCopied (parts : Parts) (setting : Setting) : Type 0 where
@@ -22,6 +23,7 @@ pub record AreCopied (parts : Parts) (setting : Setting) : Type 0 where
 pub record IsFirst {l : ℕ} (parts : Parts) (state : State l) : Type 0 where
   pub particles : state.store.particles ≡ parts.particles
   pub limit : state.store.limit ≡ parts.limit
+  pub weights : AreWeights state
   pub copies : state.store.copies ≡ 0
   pub links : state.links.items ≡ parts.links
   pub totals : ledger_of state.totals ≡ zero_totals

@@ -6,11 +6,13 @@ use Rattle.pbd_world.specs.declared.totals.Totals.{Totals}
 use Rattle.pbd_world.specs.declared.command.Left.{Left}
 use Rattle.pbd_world.specs.Ledger.{Ledger, ledger_of, HaveRoom}
 use Rattle.pbd_world.specs.Bonds.{projected}
-use Rattle.pbd_world.specs.Colours.{pair_at}
+use Rattle.pbd_world.specs.Colours.{pair_at, order}
 use Rattle.pbd_store.specs.Stored.{Stored}
 use Rattle.pbd_store.specs.Moving.{motion_of, fixed_parts, AreInside, Weigh}
 use Rattle.pbd_colour.specs.Pairs.{batch_of}
 use Rattle.pbd_pair.specs.declared.bonds.Bonds.{Bonds}
+use Rattle.pbd_pair.specs.declared.laid.Laid.{Laid}
+use Rattle.pbd_pair.specs.Laid.{AreOfBatch}
 use Rattle.pbd_pair.specs.Bonds.{bond_of, bond_count, IsBond}
 use Rattle.pbd_pair.specs.Projecting.{IsBatch}
 
@@ -31,18 +33,22 @@ pub record AreMovable (bound : ℕ) (limit : ℤ) (ps : List Particle) (totals :
   pub weights : Weigh ps
   pub room : HaveRoom bound totals
 
--- the bonds of some numbers can be projected as one batch
-pub record CanProjectBatch (bonds : Bonds) (numbers : List ℕ) (s : Stored) (t : Totals) : Type 0 where
+-- the bonds of some numbers, which are laid in columns, can be projected as one batch
+pub record CanProjectBatch (bonds : Bonds) (laid : Laid) (numbers : List ℕ) (s : Stored) (t : Totals) : Type 0 where
   pub batch : IsBatch s.limit (length s.particles) bonds numbers
+  pub rows : AreOfBatch (bond_of bonds) numbers s.particles laid
   pub inside : AreInside s.limit s.particles
   pub weights : Weigh s.particles
   pub room : HaveRoom (2 ^ 120) (ledger_of t)
 
 -- the bonds of all pairs of a colouring can be projected one after another: each pair has its bond, there are at most 2^19 of
--- them, the particles of the store can be moved, and the totals have grown no further than to `bound`
-pub record CanProjectAll (bound : ℕ) (bonds : Bonds) (pairs : List (ℕ × ℕ)) (s : Stored) (t : Totals) : Type 0 where
+-- them, the live ones are laid in columns in their order, the particles of the store can be moved, and the totals have grown no
+-- further than to `bound`
+pub record CanProjectAll (bound : ℕ) (bonds : Bonds) (laid : Laid) (pairs : List (ℕ × ℕ)) (live : List Bool) (s : Stored)
+    (t : Totals) : Type 0 where
   pub fit : AreBondsOf s.limit (length s.particles) bonds pairs
   pub few : length pairs ≤ 524288
+  pub rows : AreOfBatch (bond_of bonds) (order pairs live) s.particles laid
   pub movable : AreMovable bound s.limit s.particles (ledger_of t)
 
 -- the bonds of some numbers were projected one after another, or the first that would leave the limit is told: of the particles

@@ -7,7 +7,7 @@ use Rattle.pbd_colour.specs.Pairs.{Coloured}
 use Rattle.pbd_step.specs.declared.state.Setting.{Setting}
 use Rattle.pbd_step.specs.declared.state.State.{State}
 use Rattle.pbd_step.specs.declared.state.Scratch.{Scratch}
-use Rattle.pbd_step.specs.States.{world_of, HasLinks, HaveSpace}
+use Rattle.pbd_step.specs.States.{world_of, AreWeights, HasLinks, HaveSpace}
 
 -- a world, the projector that its steps go through, and how often the stores of its two states were taken over as a whole
 pub record Solved (P : Type 0) : Type 0 where
@@ -32,11 +32,18 @@ bonds_over (suc n) w = bonds_from w (bonds_over n) (step w)
 pub record AreAlike {l : ℕ} (s t : State l) : Type 0 where
   pub particles : length s.store.particles ≡ length t.store.particles
   pub limit : s.store.limit ≡ t.store.limit
+  pub weights : length s.weights.items ≡ length t.weights.items
   pub links : length s.links.items ≡ length t.links.items
+
+-- a world that is kept is sound, with the weights of its particles
+pub record IsSaved {l : ℕ} (setting : Setting) (state : State l) : Type 0 where
+  pub sound : IsSound (world_of setting state)
+  pub weights : AreWeights state
 
 -- the world is sound, its links are coloured, and the scratch and the second state have room for it
 pub record IsKept {l : ℕ} (setting : Setting) (state kept : State l) (colours : Coloured) (scratch : Scratch) : Type 0 where
   pub sound : IsSound (world_of setting state)
+  pub weights : AreWeights state
   pub links : HasLinks (length state.store.particles) state.links.items colours
   pub space : HaveSpace (length state.store.particles) (length state.links.items) scratch
   pub alike : AreAlike kept state

@@ -1,13 +1,14 @@
 -- The world that the parts of a solver make up, and what they keep.
-use Rattle.std.specs.Prelude.{◌≡◌, ℕ, ◌≤◌, List, length, IsTrue}
+use Rattle.std.specs.Prelude.{◌≡◌, ℕ, ◌≤◌, List, length, map, IsTrue}
 use Rattle.pbd_world.specs.declared.parts.Link.{Link}
 use Rattle.pbd_world.specs.Ledger.{sum_of, ledger_of, HaveRoom}
 use Rattle.pbd_world.specs.Contacts.{link_pairs, live_flags}
-use Rattle.pbd_world.specs.Particles.{Motion}
+use Rattle.pbd_world.specs.Particles.{Motion, effective_weight}
 use Rattle.pbd_world.specs.World.{World, parts_of}
 use Rattle.pbd_world.specs.Valid.{is_well_formed}
 use Rattle.pbd_colour.specs.Pairs.{Coloured}
 use Rattle.pbd_store.specs.Moving.{motion_of}
+use Rattle.pbd_pair.specs.Laid.{HaveRows}
 use Rattle.pbd_step.specs.declared.state.Setting.{Setting}
 use Rattle.pbd_step.specs.declared.state.State.{State}
 use Rattle.pbd_step.specs.declared.state.Scratch.{Scratch}
@@ -36,6 +37,10 @@ world_of setting state = record {
 abbrev pub now_of : {l : ℕ} → State l → Motion
 now_of state = motion_of state.store state.totals
 
+-- the weights of a state are the effective ones of its particles
+abbrev pub AreWeights : {l : ℕ} → State l → Type 0
+AreWeights state = state.weights.items ≡ map effective_weight state.store.particles
+
 -- a colouring has the links, with those live that are
 pub record HasLinks (n : ℕ) (links : List Link) (colours : Coloured) : Type 0 where
   pub particles : colours.particles ≡ n
@@ -49,6 +54,8 @@ pub record HaveSpace (n m : ℕ) (scratch : Scratch) : Type 0 where
   pub touched : length scratch.touched ≡ n
   pub pairs : m ≤ scratch.pairs.room
   pub numbers : m ≤ scratch.numbers.room
+  pub laid_links : HaveRows m scratch.laid_links
+  pub laid_contacts : HaveRows 262144 scratch.laid_contacts
 
 -- a world in the middle of a step: places are inside, weights and all that no step changes are in their ranges, and totals have
 -- grown no further than to `bound`

@@ -1,22 +1,43 @@
 -- What a part of a step works on, and what it leaves as it was.
-use Rattle.std.specs.Prelude.{◌≡◌, ℕ, ◌+◌, ◌<◌, ◌≤◌, ◌^◌, List, length, MatchResult, OnOk, Result, Ok, Err}
+use Rattle.std.specs.Prelude.{◌≡◌, ℕ, ◌+◌, ◌<◌, ◌≤◌, ◌^◌, ℤ, List, length, map, MatchResult, OnOk, Result, Ok, Err}
 use Rattle.pbd_world.specs.declared.bond.Bond.{Bond}
 use Rattle.pbd_world.specs.declared.command.Left.{Left}
-use Rattle.pbd_world.specs.Bonds.{projected}
+use Rattle.pbd_world.specs.Bonds.{projected, link_bond, contact_bond}
 use Rattle.pbd_world.specs.Ledger.{ledger_of}
+use Rattle.pbd_world.specs.Particles.{effective_weight}
 use Rattle.pbd_store.specs.Moving.{fixed_parts}
-use Rattle.pbd_world.specs.Step.{Passing}
+use Rattle.pbd_world.specs.Step.{Passing, link_order, contact_order}
+use Rattle.pbd_store.specs.Gathering.{index_at}
+use Rattle.pbd_pair.specs.declared.laid.BondColumns.{BondColumns}
+use Rattle.pbd_pair.specs.Laid.{lists_in, AreLaid}
 use Rattle.pbd_world.specs.World.{IsSound}
 use Rattle.pbd_step.specs.declared.state.Setting.{Setting}
 use Rattle.pbd_step.specs.declared.state.State.{State}
+use Rattle.pbd_step.specs.declared.state.Scratch.{Scratch}
 use Rattle.pbd_step.specs.declared.state.Running.{Running}
 use Rattle.pbd_step.specs.Projecting.{AreMovable}
-use Rattle.pbd_step.specs.States.{world_of, now_of, HasLinks, HaveSpace, IsUnderWay}
+use Rattle.pbd_step.specs.States.{world_of, now_of, AreWeights, HasLinks, HaveSpace, IsUnderWay}
 use Rattle.pbd_step.specs.Solving.{AreAlike}
+
+-- the live links are laid in columns, in the order in which they are projected
+abbrev pub AreLinksLaid : {l : ℕ} → State l → BondColumns → Type 0
+AreLinksLaid state columns =
+    AreLaid (link_bond state.links.items) (index_at state.weights.items) (link_order state.links.items) (lists_in columns)
+
+-- the same of contacts
+abbrev pub AreContactsLaid : {l : ℕ} → ℤ → State l → List (ℕ × ℕ) → BondColumns → Type 0
+AreContactsLaid thickness state pairs columns =
+    AreLaid (contact_bond thickness pairs) (index_at state.weights.items) (contact_order pairs) (lists_in columns)
+
+-- the same of both
+pub record AreBondsLaid {l : ℕ} (thickness : ℤ) (state : State l) (scratch : Scratch) : Type 0 where
+  pub links : AreLinksLaid state scratch.laid_links
+  pub contacts : AreContactsLaid thickness state scratch.found.pairs scratch.laid_contacts
 
 -- a step may begin: the world is sound, its links are coloured, and the scratch have room
 pub record IsReady {l : ℕ} {P : Type 0} (setting : Setting) (run : Running l P) : Type 0 where
   pub sound : IsSound (world_of setting run.state)
+  pub weights : AreWeights run.state
   pub links : HasLinks (length run.state.store.particles) run.state.links.items run.colours
   pub space : HaveSpace (length run.state.store.particles) (length run.state.links.items) run.scratch
 
@@ -24,6 +45,7 @@ pub record IsReady {l : ℕ} {P : Type 0} (setting : Setting) (run : Running l P
 pub record IsGoing {l : ℕ} {P : Type 0} (bound : ℕ) (setting : Setting) (run : Running l P) : Type 0 where
   pub count : run.state.steps < 2 ^ 63
   pub under_way : IsUnderWay bound (world_of setting run.state)
+  pub weights : AreWeights run.state
   pub links : HasLinks (length run.state.store.particles) run.state.links.items run.colours
   pub space : HaveSpace (length run.state.store.particles) (length run.state.links.items) run.scratch
 
@@ -37,6 +59,7 @@ pub record IsMoved {l : ℕ} (old new : State l) : Type 0 where
   pub limit : new.store.limit ≡ old.store.limit
   pub copies : new.store.copies ≡ old.store.copies
   pub whole : length new.store.particles ≡ length old.store.particles
+  pub weights : map effective_weight new.store.particles ≡ map effective_weight old.store.particles
 
 -- a part of a pass changes the places, the totals, the flags of what was touched, and what the projector keeps of itself
 -- beside its width
@@ -62,10 +85,11 @@ pub record ProjectsInPass {l : ℕ} {P : Type 0} (count lanes : P → ℕ) (r : 
       ((n : ℕ) → AreMovable n old.state.store.limit old.state.store.particles (ledger_of old.state.totals)
       → AreMovable (n + 2 ^ 60) new.state.store.limit new.state.store.particles (ledger_of new.state.totals))
 
--- a part of a step leaves the limit, how many particles and links there are, how often the store was taken over, the coloured
--- pairs, the room of the scratch and the projector's width
+-- a part of a step leaves the limit, how many particles and links there are, whose weights are listed, how often the store was
+-- taken over, the coloured pairs, the room of the scratch and the projector's width
 pub record StaysInStep {l : ℕ} {P : Type 0} (count : P → ℕ) (lanes : P → ℕ) (old new : Running l P) : Type 0 where
   pub alike : AreAlike new.state old.state
+  pub weights : AreWeights old.state → AreWeights new.state
   pub copies : new.state.store.copies ≡ old.state.store.copies
   pub pairs : new.colours ≡ record old.colours { live = new.colours.live }
   pub space : (n m : ℕ) → HaveSpace n m old.scratch → HaveSpace n m new.scratch

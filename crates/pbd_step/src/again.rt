@@ -21,8 +21,10 @@ pub(crate) fn take_over<const L: usize>(state: &mut State<L>, other: &State<L>)
     ensures limit { state.new.store.limit ≡ other.now.store.limit }
     ensures copies { state.new.store.copies ≡ min (state.old.store.copies + 1) (2 ^ 64 - 1) }
     ensures links { state.new.links.items ≡ other.now.links.items }
+    ensures weights { state.new.weights.items ≡ other.now.weights.items }
 {
     state.store.copy_from(&other.store);
+    state.weights.copy_from_slice(&other.weights);
     state.links.copy_from_slice(&other.links);
     state.totals = other.totals;
     state.steps = other.steps;
@@ -114,6 +116,7 @@ pub(crate) fn restore<const L: usize>(
     ensures limit { state.new.store.limit ≡ other.now.store.limit }
     ensures copies { state.new.store.copies ≡ min (state.old.store.copies + 1) (2 ^ 64 - 1) }
     ensures same_links { state.new.links.items ≡ other.now.links.items }
+    ensures weights { state.new.weights.items ≡ other.now.weights.items }
     ensures links { HasLinks (length other.now.store.particles) other.now.links.items colours.new }
     ensures space { HaveSpace (length other.now.store.particles) (length other.now.links.items) scratch.new }
 {

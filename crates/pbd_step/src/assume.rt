@@ -4,7 +4,7 @@ ghost use Rattle.pbd_world.specs.World.{IsSound, AreOfOneScene};
 ghost use Rattle.pbd_sound.specs.Described.{told};
 ghost use Rattle.pbd_sound.specs.Soundness.{soundness};
 ghost use Rattle.pbd_step.specs.declared.state.Setting.{Setting};
-ghost use Rattle.pbd_step.specs.States.{world_of};
+ghost use Rattle.pbd_step.specs.States.{world_of, AreWeights};
 ghost use Rattle.pbd_step.specs.Solving.{AreAlike};
 
 use crate::Solver;
@@ -28,12 +28,20 @@ fn describe<const L: usize, D: Described, G: Ledger>(
     requires particles { (D.seen described.now).particles ≡ length other.now.store.particles }
     requires links { (D.seen described.now).links ≡ length other.now.links.items }
     requires few { length other.now.links.items ≤ 524288 }
+    requires weights { AreWeights other.now }
     ensures world { (setting : Setting) → world_of (record setting { gravity = (D.seen described.now).gravity }) state.new
         ≡ told (D.seen described.now) (world_of setting other.now) }
+    ensures weights { AreWeights state.new }
     ensures copies { state.new.store.copies ≡ state.old.store.copies }
     ensures cost { steps.new ≡ steps.old + 2 * length other.now.store.particles }
 {
-    write_particles(&mut state.store, &other.store, described, steps);
+    write_particles(
+        &mut state.store,
+        &other.store,
+        described,
+        state.weights.as_mut_slice(),
+        steps,
+    );
     write_links(state.links.as_mut_slice(), &other.links, described);
     state.totals = described.totals();
     state.steps = described.steps();

@@ -7,22 +7,24 @@ ghost use Rattle.pbd_store.specs.Blocks.{blocks_of};
 ghost use Rattle.pbd_step.specs.Projecting.{AreProjected, CanProjectAll, CanProjectBatch, parallel_from};
 
 use pbd_colour::Colouring;
-use pbd_pair::{Bonds, Projector};
+use pbd_pair::{Bonds, Laid, Projector};
 use pbd_store::{Steps, Store};
 use pbd_world::{Left, Totals};
 use std::sync::ledger::Ledger;
 
-/// Bonds, and the colouring of their pairs.
+/// Bonds, the colouring of their pairs, and the columns of the live ones in the order of their colours.
 #[derive(Drop)]
 pub(crate) struct BondList<'a> {
     pub(crate) bonds: Bonds<'a>,
+    pub(crate) laid: Laid<'a>,
     pub(crate) colours: &'a Colouring,
 }
 
-// Bonds of which no two share a particle, by their numbers.
+// Bonds of which no two share a particle, by their numbers, and in columns.
 #[derive(Drop)]
 struct Batch<'a> {
     bonds: Bonds<'a>,
+    laid: Laid<'a>,
     numbers: &'a [u32],
 }
 
@@ -43,14 +45,15 @@ fn project_batch<const L: usize, P: Projector<L>, G: Ledger>(
 ) -> Result<(), Left>
     requires lanes_low { 0 < L }
     requires lanes_high { L ≤ 16 }
-    requires can { CanProjectBatch batch.now.bonds batch.now.numbers.now store.old totals.old }
+    requires can { CanProjectBatch batch.now.bonds batch.now.laid batch.now.numbers.now store.old totals.old }
     ensures done { AreProjected result batch.now.bonds batch.now.numbers.now
         (length batch.now.numbers.now * 2 ^ 32) store.old store.new totals.old totals.new }
     ensures handed { P.count projector.new ≡ min (P.count projector.old + length batch.now.numbers.now) (2 ^ 64 - 1) }
     ensures width { P.width projector.new ≡ P.width projector.old }
     ensures cost { steps.new ≤ steps.old + 4 * blocks_of (length batch.now.numbers.now) (P.width projector.old) }
 {
-    projector.project(store, batch.bonds, batch.numbers, totals, steps)
+    let bonds = batch.bonds.with_columns(batch.laid);
+    projector.project(store, bonds, batch.numbers, totals, steps)
 }
 
 // The live pairs of the colours below 63, each colour as one batch.
@@ -63,22 +66,27 @@ fn project_colours<const L: usize, P: Projector<L>, G: Ledger>(
 ) -> Result<(), Left>
     requires lanes_low { 0 < L }
     requires lanes_high { L ≤ 16 }
-    requires can { CanProjectAll (2 ^ 119) list.now.bonds list.now.colours.now.pairs store.old totals.old }
+    requires can { CanProjectAll (2 ^ 119) list.now.bonds list.now.laid list.now.colours.now.pairs list.now.colours.now.live store.old totals.old }
     requires counted { P.count projector.old ≤ 2 ^ 64 - 1 }
     ensures done { AreProjected result list.now.bonds (parallel_from list.now.colours.now.pairs list.now.colours.now.live 0)
         (length (parallel_from list.now.colours.now.pairs list.now.colours.now.live 0) * 2 ^ 32) store.old store.new totals.old totals.new }
     ensures handed { OnOk result
         (P.count projector.new
         ≡ min (P.count projector.old + length (parallel_from list.now.colours.now.pairs list.now.colours.now.live 0)) (2 ^ 64 - 1)) }
-    ensures can { OnOk result (CanProjectAll (2 ^ 119 + 2 ^ 57) list.now.bonds list.now.colours.now.pairs store.new totals.new) }
+    ensures can { OnOk result (CanProjectAll (2 ^ 119 + 2 ^ 57) list.now.bonds list.now.laid list.now.colours.now.pairs list.now.colours.now.live store.new totals.new) }
     ensures not_fallen { P.count projector.old ≤ P.count projector.new }
     ensures width { P.width projector.new ≡ P.width projector.old }
     ensures cost { steps.new ≤ steps.old + colours_work (P.width projector.old) list.now.colours.now.pairs list.now.colours.now.live 0 63 }
 {
+    let mut rest = list.laid;
     for c in 0..63 {
+        let numbers = list.colours.batch(c);
+        let (laid, after) = rest.split_at(numbers.len());
+        rest = after;
         let batch = Batch {
             bonds: list.bonds,
-            numbers: list.colours.batch(c),
+            laid,
+            numbers,
         };
         if let Err(left) = project_batch(projector, store, &batch, totals, steps) {
             return Err(left);
@@ -97,7 +105,7 @@ fn project_serial<const L: usize, P: Projector<L>, G: Ledger>(
 ) -> Result<(), Left>
     requires lanes_low { 0 < L }
     requires lanes_high { L ≤ 16 }
-    requires can { CanProjectAll (2 ^ 119 + 2 ^ 57) list.now.bonds list.now.colours.now.pairs store.old totals.old }
+    requires can { CanProjectAll (2 ^ 119 + 2 ^ 57) list.now.bonds list.now.laid list.now.colours.now.pairs list.now.colours.now.live store.old totals.old }
     requires counted { P.count projector.old ≤ 2 ^ 64 - 1 }
     ensures done { AreProjected result list.now.bonds (batch_of list.now.colours.now.pairs list.now.colours.now.live 63)
         (length (batch_of list.now.colours.now.pairs list.now.colours.now.live 63) * 2 ^ 32) store.old store.new totals.old totals.new }
@@ -108,9 +116,16 @@ fn project_serial<const L: usize, P: Projector<L>, G: Ledger>(
     ensures width { P.width projector.new ≡ P.width projector.old }
     ensures cost { steps.new ≤ steps.old + 4 * length (batch_of list.now.colours.now.pairs list.now.colours.now.live 63) }
 {
-    for n in list.colours.serial() {
+    let serial = list.colours.serial();
+    let before = list.colours.order().len() - serial.len();
+    let (_, last) = list.laid.split_at(before);
+    let mut rest = last;
+    for n in serial {
+        let (laid, after) = rest.split_at(1);
+        rest = after;
         let batch = Batch {
             bonds: list.bonds,
+            laid,
             numbers: &[*n],
         };
         if let Err(left) = project_batch(projector, store, &batch, totals, steps) {
@@ -132,7 +147,7 @@ pub(crate) fn project_all<const L: usize, P: Projector<L>, G: Ledger>(
 ) -> Result<(), Left>
     requires lanes_low { 0 < L }
     requires lanes_high { L ≤ 16 }
-    requires can { CanProjectAll (2 ^ 119) list.now.bonds list.now.colours.now.pairs store.old totals.old }
+    requires can { CanProjectAll (2 ^ 119) list.now.bonds list.now.laid list.now.colours.now.pairs list.now.colours.now.live store.old totals.old }
     ensures done { AreProjected result list.now.bonds (order list.now.colours.now.pairs list.now.colours.now.live)
         (2 ^ 60) store.old store.new totals.old totals.new }
     ensures handed { OnOk result

@@ -4,7 +4,7 @@ ghost use Rattle.pbd_world.specs.Meaning.{pin as pinned_world, unpin as unpinned
 ghost use Rattle.pbd_num.specs.Vectors.{Within, opposite};
 ghost use Rattle.pbd_world.specs.Particles.{velocity};
 ghost use Rattle.pbd_world.specs.World.{IsSound, is_tracked};
-ghost use Rattle.pbd_step.specs.States.{world_of, HasLinks};
+ghost use Rattle.pbd_step.specs.States.{world_of, AreWeights, HasLinks};
 ghost use Rattle.pbd_step.specs.Obeying.{Obeys};
 
 use crate::state::{Setting, State};
@@ -66,8 +66,10 @@ pub(crate) fn pin<const L: usize, G: Ledger>(
 ) -> Result<(), Refusal>
     requires lanes { L ≤ 16 }
     requires sound { IsSound (world_of setting.now state.old) }
+    requires weights { AreWeights state.old }
     ensures obeys { Obeys (λ s. world_of setting.now s) result (pinned_world (world_of setting.now state.old) i) state.old state.new }
-    ensures same { state.new ≡ record state.old { store = state.new.store; totals = state.new.totals } }
+    ensures same { state.new ≡ record state.old { store = state.new.store; weights = state.new.weights; totals = state.new.totals } }
+    ensures weights { AreWeights state.new }
     ensures copies { state.new.store.copies ≡ state.old.store.copies }
     ensures cost { steps.new ≤ steps.old + 2 }
 {
@@ -81,6 +83,7 @@ pub(crate) fn pin<const L: usize, G: Ledger>(
     totals_with_room_take_moves();
     state.totals.add(Class::Pin, lost(p));
     state.store.set(n, resting(p.at, p.weight, true), steps);
+    state.weights[n as usize] = 0;
     Ok(())
 }
 
@@ -92,8 +95,10 @@ pub(crate) fn unpin<const L: usize, G: Ledger>(
     steps: &mut Steps<G>,
 ) -> Result<(), Refusal>
     requires lanes { L ≤ 16 }
+    requires weights { AreWeights state.old }
     ensures obeys { Obeys (λ s. world_of setting.now s) result (unpinned_world (world_of setting.now state.old) i) state.old state.new }
-    ensures same { state.new ≡ record state.old { store = state.new.store } }
+    ensures same { state.new ≡ record state.old { store = state.new.store; weights = state.new.weights } }
+    ensures weights { AreWeights state.new }
     ensures copies { state.new.store.copies ≡ state.old.store.copies }
     ensures cost { steps.new ≤ steps.old + 2 }
 {
@@ -108,6 +113,7 @@ pub(crate) fn unpin<const L: usize, G: Ledger>(
         return Err(Refusal::Tracked);
     }
     state.store.set(n, resting(p.at, p.weight, false), steps);
+    state.weights[n as usize] = p.weight;
     Ok(())
 }
 
@@ -120,8 +126,10 @@ pub(crate) fn place_held<const L: usize, G: Ledger>(
     steps: &mut Steps<G>,
 ) -> Result<(), Refusal>
     requires lanes { L ≤ 16 }
+    requires weights { AreWeights state.old }
     ensures obeys { Obeys (λ s. world_of setting.now s) result (placed_world (world_of setting.now state.old) i to) state.old state.new }
     ensures same { state.new ≡ record state.old { store = state.new.store } }
+    ensures weights { AreWeights state.new }
     ensures copies { state.new.store.copies ≡ state.old.store.copies }
     ensures cost { steps.new ≤ steps.old + 2 }
 {

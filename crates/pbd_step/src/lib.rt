@@ -7,6 +7,7 @@ mod bonds;
 mod commands;
 mod contacts;
 mod flight;
+mod lay;
 mod leaving;
 mod open;
 mod pass;

@@ -1,5 +1,7 @@
 // What a solver takes at its opening.
-ghost use Rattle.std.specs.Prelude.{◌≡◌, ◌≤◌, length, IfOk, IsTrue};
+ghost use Rattle.std.specs.Prelude.{◌≡◌, ◌≤◌, length, map, IfOk, IsTrue};
+ghost use Rattle.pbd_world.specs.Particles.{effective_weight};
+ghost use Rattle.pbd_pair.specs.Laid.{HaveRows};
 ghost use Rattle.pbd_world.specs.Valid.{is_valid};
 ghost use Rattle.pbd_step.specs.Opening.{AreCopied, IsFirst};
 ghost use Rattle.pbd_step.specs.States.{HasLinks, HaveSpace};
@@ -8,11 +10,11 @@ use crate::again::open_colours;
 use crate::state::{Running, Scratch, Setting, State};
 use pbd_colour::Colouring;
 use pbd_ledger::momentum_of;
-use pbd_pair::Projector;
+use pbd_pair::{BondColumns, Projector};
 use pbd_self::SelfContacts;
 use pbd_shape::Touched;
 use pbd_store::Store;
-use pbd_world::{List, Parts, RoomList, Totals, Track};
+use pbd_world::{Link, List, MOST_CONTACTS, Particle, Parts, RoomList, Totals, Track};
 use std::alloc::{AllocError, Global};
 
 fn copied_track(alloc: Global, track: &Track) -> Result<Track, AllocError>
@@ -58,6 +60,33 @@ fn open_setting(alloc: Global, parts: &Parts) -> Result<Setting, AllocError>
     })
 }
 
+// The effective weight of a particle.
+fn effective_weight_of(particle: Particle) -> u16
+    ensures { result ≡ effective_weight particle }
+{
+    if particle.held { 0 } else { particle.weight }
+}
+
+// The effective weights of the particles, and the links.
+fn open_weighed(alloc: Global, parts: &Parts) -> Result<(Vec<u16>, Vec<Link>), AllocError>
+    ensures weights { IfOk result (λ lists. lists.0.items ≡ map effective_weight parts.now.particles) }
+    ensures links { IfOk result (λ lists. lists.1.items ≡ parts.now.links) }
+{
+    let weights: Vec<u16> = parts
+        .particles
+        .as_slice()
+        .iter()
+        .map(|p| effective_weight_of(*p))
+        .collect(alloc)?;
+    match parts.links.as_slice().to_vec(alloc) {
+        Ok(links) => Ok((weights, links)),
+        Err(AllocError) => {
+            drop(weights);
+            Err(AllocError)
+        }
+    }
+}
+
 /// What steps change of some parts, before the first.
 fn open_state<const L: usize>(alloc: Global, parts: &Parts) -> Result<State<L>, AllocError>
     requires lanes { L ≤ 16 }
@@ -65,9 +94,10 @@ fn open_state<const L: usize>(alloc: Global, parts: &Parts) -> Result<State<L>, 
     ensures { IfOk result (λ state. IsFirst parts.now state) }
 {
     let store = Store::open(alloc, parts.particles.as_slice(), parts.limit)?;
-    match parts.links.as_slice().to_vec(alloc) {
-        Ok(links) => Ok(State {
+    match open_weighed(alloc, parts) {
+        Ok((weights, links)) => Ok(State {
             store,
+            weights,
             links,
             totals: Totals::zero(),
             steps: 0,
@@ -118,6 +148,55 @@ fn open_lists(
     }
 }
 
+// Columns with room for so many links, and for all contacts.
+fn open_columns(alloc: Global, links: u32) -> Result<(BondColumns, BondColumns), AllocError>
+    ensures links { IfOk result (λ both. HaveRows links both.0) }
+    ensures contacts { IfOk result (λ both. HaveRows 262144 both.1) }
+{
+    let laid_links = BondColumns::open(alloc, links)?;
+    match BondColumns::open(alloc, MOST_CONTACTS) {
+        Ok(laid_contacts) => Ok((laid_links, laid_contacts)),
+        Err(AllocError) => {
+            drop(laid_links);
+            Err(AllocError)
+        }
+    }
+}
+
+// What has room for some links: lists of their pairs and numbers, and columns of them and of contacts.
+#[derive(Drop)]
+struct Rooms {
+    pairs: RoomList<(u32, u32)>,
+    numbers: RoomList<u32>,
+    laid_links: BondColumns,
+    laid_contacts: BondColumns,
+}
+
+// Lists and columns with room for so many links, and for all contacts.
+fn open_rooms(alloc: Global, links: u32) -> Result<Rooms, AllocError>
+    ensures pairs { IfOk result (λ rooms. rooms.pairs.room ≡ links) }
+    ensures numbers { IfOk result (λ rooms. rooms.numbers.room ≡ links) }
+    ensures laid_links { IfOk result (λ rooms. HaveRows links rooms.laid_links) }
+    ensures laid_contacts { IfOk result (λ rooms. HaveRows 262144 rooms.laid_contacts) }
+{
+    match open_lists(alloc, links) {
+        Ok((pairs, numbers)) => match open_columns(alloc, links) {
+            Ok((laid_links, laid_contacts)) => Ok(Rooms {
+                pairs,
+                numbers,
+                laid_links,
+                laid_contacts,
+            }),
+            Err(AllocError) => {
+                drop(numbers);
+                drop(pairs);
+                Err(AllocError)
+            }
+        },
+        Err(AllocError) => Err(AllocError),
+    }
+}
+
 // Scratch of these contacts and flags, with room for so many links.
 fn with_room(
     alloc: Global,
@@ -128,12 +207,14 @@ fn with_room(
     requires { length touched ≡ found.particles }
     ensures { IfOk result (HaveSpace found.particles links) }
 {
-    match open_lists(alloc, links) {
-        Ok((pairs, numbers)) => Ok(Scratch {
+    match open_rooms(alloc, links) {
+        Ok(rooms) => Ok(Scratch {
             found,
             touched,
-            pairs,
-            numbers,
+            pairs: rooms.pairs,
+            numbers: rooms.numbers,
+            laid_links: rooms.laid_links,
+            laid_contacts: rooms.laid_contacts,
         }),
         Err(AllocError) => {
             drop(touched);

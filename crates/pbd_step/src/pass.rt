@@ -8,8 +8,8 @@ ghost use Rattle.pbd_world.specs.Valid.{is_between, is_limit, are_valid_links};
 ghost use Rattle.pbd_world.specs.Work.{contacts_work, links_work, pass_work};
 ghost use Rattle.pbd_world.specs.World.{live_count};
 ghost use Rattle.pbd_step.specs.Projecting.{AreMovable};
-ghost use Rattle.pbd_step.specs.States.{world_of, HasLinks, IsUnderWay};
-ghost use Rattle.pbd_step.specs.Staying.{IsGoing, ProjectsInPass, StaysInPass, passing_of};
+ghost use Rattle.pbd_step.specs.States.{world_of, AreWeights, HasLinks, IsUnderWay};
+ghost use Rattle.pbd_step.specs.Staying.{AreBondsLaid, AreContactsLaid, AreLinksLaid, IsGoing, ProjectsInPass, StaysInPass, passing_of};
 
 use crate::bonds::{BondList, counts, project_all};
 use crate::leaving::leaving;
@@ -29,6 +29,8 @@ fn project_links<const L: usize, P: Projector<L> + Drop, G: Ledger>(
     requires lanes_high { L ≤ 16 }
     requires valid { IsTrue (are_valid_links run.old.state.store.limit (length run.old.state.store.particles) run.old.state.links.items) }
     requires links { HasLinks (length run.old.state.store.particles) run.old.state.links.items run.old.colours }
+    requires weights { AreWeights run.old.state }
+    requires laid { AreLinksLaid run.old.state run.old.scratch.laid_links }
     requires movable { AreMovable (2 ^ 119) run.old.state.store.limit run.old.state.store.particles (ledger_of run.old.state.totals) }
     ensures done { ProjectsInPass P.count P.width result (link_bond run.old.state.links.items)
         (link_order run.old.state.links.items) run.old run.new }
@@ -38,6 +40,7 @@ fn project_links<const L: usize, P: Projector<L> + Drop, G: Ledger>(
 {
     let list = BondList {
         bonds: Bonds::Links(&run.state.links),
+        laid: run.scratch.laid_links.first_rows(run.colours.order().len()),
         colours: &run.colours,
     };
     project_all(
@@ -60,6 +63,8 @@ fn project_contacts<const L: usize, P: Projector<L> + Drop, G: Ledger>(
     requires limit { IsTrue (is_limit run.old.state.store.limit) }
     requires thickness { IsTrue (is_between (pos 0) (pos 1048576) thickness) }
     requires found { run.old.scratch.found.particles ≡ length run.old.state.store.particles }
+    requires weights { AreWeights run.old.state }
+    requires laid { AreContactsLaid thickness run.old.state run.old.scratch.found.pairs run.old.scratch.laid_contacts }
     requires movable { AreMovable (2 ^ 119) run.old.state.store.limit run.old.state.store.particles (ledger_of run.old.state.totals) }
     ensures done { ProjectsInPass P.count P.width result (contact_bond thickness run.old.scratch.found.pairs)
         (contact_order run.old.scratch.found.pairs) run.old run.new }
@@ -69,12 +74,14 @@ fn project_contacts<const L: usize, P: Projector<L> + Drop, G: Ledger>(
 {
     let projector = &mut run.projector;
     let found = &run.scratch.found;
+    let colours = found.colouring();
     let list = BondList {
         bonds: Bonds::Contacts {
             pairs: found.pairs(),
             thickness,
         },
-        colours: found.colouring(),
+        laid: run.scratch.laid_contacts.first_rows(colours.order().len()),
+        colours,
     };
     project_all(
         projector,
@@ -94,6 +101,7 @@ fn project_once<const L: usize, P: Projector<L> + Drop, G: Ledger>(
     requires lanes_low { 0 < L }
     requires lanes_high { L ≤ 16 }
     requires going { IsGoing (2 ^ 118) setting.now run.old }
+    requires laid { AreBondsLaid setting.now.thickness run.old.state run.old.scratch }
     ensures outcome { MatchResult result
         (λ _. passed (world_of setting.now run.old.state) run.old.scratch.found.pairs (passing_of run.old) ≡ Ok (passing_of run.new))
         (λ refusal. passed (world_of setting.now run.old.state) run.old.scratch.found.pairs (passing_of run.old) ≡ Err refusal) }
@@ -136,6 +144,7 @@ pub(crate) fn project_in_passes<const L: usize, P: Projector<L> + Drop, G: Ledge
     requires lanes_low { 0 < L }
     requires lanes_high { L ≤ 16 }
     requires going { IsGoing (2 ^ 100) setting.now run.old }
+    requires laid { AreBondsLaid setting.now.thickness run.old.state run.old.scratch }
     ensures outcome { MatchResult result
         (λ _. repeated setting.now.passes (passed (world_of setting.now run.old.state) run.old.scratch.found.pairs) (passing_of run.old)
         ≡ Ok (passing_of run.new))

@@ -19,14 +19,15 @@ pub struct Saved<const L: usize> {
 }
 
 impl<const L: usize> Model for Saved<L> {
-    ghost use Rattle.pbd_world.specs.World.{World, IsSound};
+    ghost use Rattle.pbd_world.specs.World.{World};
     ghost use Rattle.pbd_step.specs.States.{world_of};
+    ghost use Rattle.pbd_step.specs.Solving.{IsSaved};
 
     ghost Value = { World };
 
     ghost view = { λ s. world_of s.setting s.state };
 
-    ghost invariant = { λ s. IsSound (world_of s.setting s.state) };
+    ghost invariant = { λ s. IsSaved s.setting s.state };
 }
 
 impl<const L: usize> Saved<L> {

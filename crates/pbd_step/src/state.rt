@@ -1,7 +1,7 @@
 // What a solver is made of.
 use pbd_colour::Colouring;
 use pbd_num::Vec3;
-use pbd_pair::Projector;
+use pbd_pair::{BondColumns, Projector};
 use pbd_self::SelfContacts;
 use pbd_shape::Touched;
 use pbd_store::Store;
@@ -25,6 +25,8 @@ pub struct Setting {
 #[derive(Drop)]
 pub struct State<const L: usize> {
     pub(crate) store: Store<L>,
+    /// The effective weights of the particles.
+    pub(crate) weights: Vec<u16>,
     pub(crate) links: Vec<Link>,
     pub(crate) totals: Totals,
     pub(crate) steps: u64,
@@ -38,6 +40,9 @@ pub struct Scratch {
     pub(crate) touched: Touched,
     pub(crate) pairs: RoomList<(u32, u32)>,
     pub(crate) numbers: RoomList<u32>,
+    /// The live links, and the contacts, as they are projected.
+    pub(crate) laid_links: BondColumns,
+    pub(crate) laid_contacts: BondColumns,
 }
 
 /// A state, and what its steps work with.

@@ -15,6 +15,7 @@ ghost use Rattle.pbd_step.specs.Obeying.{Obeys};
 use crate::again::{restore, take_over};
 use crate::bonds::counts;
 use crate::contacts::find;
+use crate::lay::{lay_contacts, lay_links};
 use crate::leaving::leaving;
 use crate::pass::project_in_passes;
 use crate::predict::predict;
@@ -73,6 +74,13 @@ fn finish<const L: usize, P: Projector<L> + Drop, G: Ledger>(
     ensures cost { steps.new
         ≤ steps.old + finishing_work L (P.width run.old.projector) (world_of setting.now run.old.state) run.old.scratch.found.pairs }
 {
+    lay_links(&run.state, &run.colours, &mut run.scratch.laid_links);
+    lay_contacts(
+        setting.thickness,
+        &run.state,
+        &run.scratch.found,
+        &mut run.scratch.laid_contacts,
+    );
     run.scratch.touched.clear();
     if let Err(refusal) = project_in_passes(setting, run, steps) {
         return Err(refusal);

@@ -325,6 +325,21 @@ impl<const L: usize> Store<L> {
         self.take_weights(pairs, between);
     }
 
+    /// The ways between the ends of up to 128 pairs alone.
+    pub fn ways<G: Ledger>(&self, pairs: Pairs<'_>, between: &mut Between, steps: &mut Steps<G>)
+        requires some_lanes { 0 < L }
+        requires lanes { L ≤ 16 }
+        requires pairs { ArePairs (length pairs.first.now) (length self.now.particles) pairs }
+        requires inside { AreInside self.now.limit self.now.particles }
+        ensures value { (j : ℕ) → j < length pairs.entry.first.now → IsWay (row_in between.new.ways j)
+            (particle_at self.now.particles (index_at pairs.entry.first.now j)).at
+            (particle_at self.now.particles (index_at pairs.entry.second.now j)).at }
+        ensures cost { steps.new ≡ steps.old + 2 * blocks_of (length pairs.entry.first.now) L }
+    {
+        steps.add(accesses(pairs.first.len(), L));
+        self.take_ways(pairs, between);
+    }
+
     /// Moves the first ends of up to 128 pairs by the opposite of `back`, and the second ends by `forth`. The answer is the
     /// number of the first pair of which an end has left the limit, if there is one.
     #[inline(never)]

@@ -267,7 +267,7 @@ fn tried_by_axes(rt: &impl Abort, pair: &Pair, reach: i64) -> Option<[[i64; 3]; 
         second: wb as i64,
     };
     let tried = try_moves(first.minus(second), draw, weights);
-    if tried.right {
+    if tried.exact {
         Some([axes(tried.first), axes(tried.second)])
     } else {
         None

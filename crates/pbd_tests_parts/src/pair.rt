@@ -1,7 +1,8 @@
 //! Batches at each width, with both projectors.
-ghost use Rattle.std.specs.Prelude.{◌≡◌, ◌<◌, ◌≤◌, ◌^◌, pos, IsTrue, length};
+ghost use Rattle.std.specs.Prelude.{◌≡◌, ◌<◌, ◌≤◌, ◌^◌, pos, IsTrue, length, None};
 ghost use Rattle.std.specs.List.{list_all};
 ghost use Rattle.pbd_pair.specs.Examples.{is_placed, is_batch};
+ghost use Rattle.pbd_pair.specs.Laid.{laid_in};
 
 use crate::places::{held, link, place};
 use pbd_num::{RANGE, Vec3};
@@ -302,6 +303,7 @@ fn projected<G: Ledger, P: Projector<L>, const L: usize>(
     requires two { 2 ≤ length store.old.particles }
     requires placed { IsTrue (list_all (is_placed (pos (2 ^ 29))) store.old.particles) }
     requires batch { IsTrue (is_batch (pos (2 ^ 29)) (length store.old.particles) bonds batch.now) }
+    requires plain { laid_in bonds ≡ None }
 {
     let mut totals = Totals::zero();
     let outcome = projector.project(store, bonds, batch, &mut totals, steps);
@@ -333,6 +335,7 @@ fn holds<G: Ledger, P: Projector<L>, const L: usize>(
     requires size { length case.now.particles.now ≤ 65536 }
     requires placed { IsTrue (list_all (is_placed (pos (2 ^ 29))) case.now.particles.now) }
     requires batch { IsTrue (is_batch (pos (2 ^ 29)) (length case.now.particles.now) case.now.bonds case.now.batch.now) }
+    requires plain { laid_in case.now.bonds ≡ None }
 {
     match Store::<L>::open(alloc, case.particles, RANGE) {
         Ok(mut store) => {

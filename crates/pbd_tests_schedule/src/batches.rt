@@ -1,7 +1,8 @@
 //! A batch over six particles, and what it comes to.
-ghost use Rattle.std.specs.Prelude.{◌≡◌, ◌<◌, ◌≤◌, ◌^◌, pos, IsTrue, length};
+ghost use Rattle.std.specs.Prelude.{◌≡◌, ◌<◌, ◌≤◌, ◌^◌, pos, IsTrue, length, None};
 ghost use Rattle.std.specs.List.{list_all};
 ghost use Rattle.pbd_pair.specs.Examples.{is_placed, is_batch};
+ghost use Rattle.pbd_pair.specs.Laid.{laid_in};
 
 use pbd_num::RANGE;
 use pbd_pair::{Bonds, Projector};
@@ -134,6 +135,7 @@ fn project_in<const L: usize, P: Projector<L>, G: Ledger>(
     requires six { length store.old.particles ≡ 6 }
     requires placed { IsTrue (list_all (is_placed (pos (2 ^ 29))) store.old.particles) }
     requires batch { IsTrue (is_batch (pos (2 ^ 29)) 6 bonds batch.now) }
+    requires plain { laid_in bonds ≡ None }
 {
     let mut totals = Totals::zero();
     let outcome = projector.project(store, bonds, batch, &mut totals, steps);
@@ -165,6 +167,7 @@ pub(crate) fn by_projector<const L: usize, P: Projector<L>, G: Ledger>(
     requires six { length particles.now ≡ 6 }
     requires placed { IsTrue (list_all (is_placed (pos (2 ^ 29))) particles.now) }
     requires batch { IsTrue (is_batch (pos (2 ^ 29)) 6 bonds batch.now) }
+    requires plain { laid_in bonds ≡ None }
 {
     match Store::<L>::open(alloc, particles, RANGE) {
         Ok(mut store) => {

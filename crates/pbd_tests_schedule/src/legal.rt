@@ -1,7 +1,8 @@
 //! Every legal interleaving of two bonds and of three comes to what the scalar projector does.
-ghost use Rattle.std.specs.Prelude.{◌≡◌, ◌<◌, ◌≤◌, ◌^◌, pos, IsTrue, length};
+ghost use Rattle.std.specs.Prelude.{◌≡◌, ◌<◌, ◌≤◌, ◌^◌, pos, IsTrue, length, None};
 ghost use Rattle.std.specs.List.{list_all};
 ghost use Rattle.pbd_pair.specs.Examples.{is_placed, is_batch};
+ghost use Rattle.pbd_pair.specs.Laid.{laid_in};
 
 use crate::batches::{Seen, are_alike, by_events, by_projector};
 use pbd_num::Vec3;
@@ -100,6 +101,7 @@ fn all_interleavings<const L: usize, G: Ledger>(
     requires six { length particles.now ≡ 6 }
     requires placed { IsTrue (list_all (is_placed (pos (2 ^ 29))) particles.now) }
     requires batch { IsTrue (is_batch (pos (2 ^ 29)) 6 bonds batch.now) }
+    requires plain { laid_in bonds ≡ None }
     requires some { 0 < length batch.now }
     requires few { length batch.now ≤ 3 }
 {

@@ -3,7 +3,7 @@ use Rattle.std.proofs.lemmas.Int.{to_z-of_z}
 use Rattle.pbd_num.specs.declared.Vec3.{Vec3}
 use Rattle.pbd_num.specs.Vectors.{Within}
 use Rattle.pbd_world.specs.declared.bond.Bond.{Bond}
-use Rattle.pbd_pair.specs.Chunks.{IsFirm}
+use Rattle.pbd_pair.specs.Laid.{IsFirm}
 use Rattle.pbd_pair.proofs.Chunks.{first_fits, second_fits}
 use Rattle.pbd_pair.proofs.Filling.{filled_none, filled_more}
 use Rattle.pbd_pair.proofs.WideRows.{same_exact, same_row}
@@ -19,9 +19,8 @@ pub moves_of-requires-clause-row : goal.moves_of-requires-clause-row
 moves_of-requires-clause-row c = λ flag.
     let j = c.loop-j.j in
     let p : j < length c.args.found.now.chunk.numbers.now = omega arith in
-    let between = c.args.found.now.between.now in
-    let w1 = get_or between.first_weight j (pos 0) in
-    let w2 = get_or between.second_weight j (pos 0) in
+    let w1 = get_or c.args.found.now.laid.first_weight.now j (pos 0) in
+    let w2 = get_or c.args.found.now.laid.second_weight.now j (pos 0) in
     let f1 : FitsSigned w32 w1 = first_fits c.requires.sized j p in
     let f2 : FitsSigned w32 w2 = second_fits c.requires.sized j p in
     let first = simp to_z-of_z at c.weights_of-weights.ensures.first in
@@ -36,9 +35,8 @@ pub loop-j-preserved : goal.loop-j-preserved
 loop-j-preserved c =
     let j = c.loop-j.j in
     let p : j < length c.args.found.now.chunk.numbers.now = omega arith in
-    let between = c.args.found.now.between.now in
-    let w1 = get_or between.first_weight j (pos 0) in
-    let w2 = get_or between.second_weight j (pos 0) in
+    let w1 = get_or c.args.found.now.laid.first_weight.now j (pos 0) in
+    let w2 = get_or c.args.found.now.laid.second_weight.now j (pos 0) in
     let f1 : FitsSigned w32 w1 = first_fits c.requires.sized j p in
     let f2 : FitsSigned w32 w2 = second_fits c.requires.sized j p in
     let first = simp to_z-of_z at c.weights_of-weights.ensures.first in

@@ -13,10 +13,9 @@ loop-j-init c = filled_none (search rules)
 pub loop-j-preserved : goal.loop-j-preserved
 loop-j-preserved c =
     let j = c.loop-j.j in
-    let p : j < length c.args.chunk.now.numbers.now = omega arith in
-    let between = c.args.between.now in
-    let w1 = get_or between.first_weight j (pos 0) in
-    let w2 = get_or between.second_weight j (pos 0) in
+    let p : j < length c.args.found.now.chunk.numbers.now = omega arith in
+    let w1 = get_or c.args.found.now.laid.first_weight.now j (pos 0) in
+    let w2 = get_or c.args.found.now.laid.second_weight.now j (pos 0) in
     let f1 : FitsSigned w32 w1 = first_fits c.requires.sized j p in
     let f2 : FitsSigned w32 w2 = second_fits c.requires.sized j p in
     let first = simp to_z-of_z at c.weights_of-weights.ensures.first in

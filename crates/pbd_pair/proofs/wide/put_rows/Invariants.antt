@@ -3,11 +3,12 @@ use Rattle.pbd_num.specs.declared.row.Row.{Row}
 use Rattle.pbd_num.specs.Rows.{vector_of, no_row}
 use Rattle.pbd_store.specs.Pairs.{row_in}
 use Rattle.pbd_pair.specs.Bonds.{bond_of}
-use Rattle.pbd_pair.specs.Chunks.{number_in}
+use Rattle.pbd_pair.specs.Laid.{number_in}
 use Rattle.pbd_pair.proofs.Filling.{Filled}
 use Rattle.pbd_pair.proofs.WideRows.{IsRow}
 use Rattle.pbd_pair.proofs.wide.put_rows.Given as goal
 
 abbrev pub invariant-loop-j : goal.invariant-loop-j
-invariant-loop-j l = Filled no_row (λ (i : ℕ) (r : Row). IsRow (vector_of (row_in l.between.ways i)) (number_in l.between.first_weight i)
-    (number_in l.between.second_weight i) (bond_of l.chunk.bonds (get_or l.chunk.numbers.now i 0)) l.all r) l.j l.rows
+invariant-loop-j l = Filled no_row (λ (i : ℕ) (r : Row).
+    IsRow (vector_of (row_in l.found.ways.now i)) (number_in l.found.laid.first_weight.now i)
+    (number_in l.found.laid.second_weight.now i) (bond_of l.found.chunk.bonds (get_or l.found.chunk.numbers.now i 0)) l.all r) l.j l.rows

@@ -1,22 +1,57 @@
-use Rattle.std.proofs.Common.{◌≡◌, ◌+◌, ◌^◌, ◌++◌, arith, refl, ◌∙◌}
+use Rattle.std.proofs.Common.{◌≡◌, ℕ, ◌+◌, ◌*◌, ◌^◌, ◌++◌, ◌<◌, ◌≤◌, length, length-append, arith, refl, ap, ◌∙◌}
 use Rattle.pbd_store.specs.Moving.{motion_of}
+use Rattle.pbd_pair.specs.Bonds.{bond_of}
+use Rattle.pbd_pair.specs.Laid.{AreOfBatch}
+use Rattle.pbd_pair.proofs.LaidParts.{back_part, front_part}
 use Rattle.pbd_step.specs.Projecting.{parallel_from}
-use Rattle.pbd_step.proofs.InOrder.{all_go, batch_goes, parallel_next, parallel_none, parts_length, none_so_far, more_so_far, stops_so_far}
-use Rattle.pbd_step.proofs.InOrder.{whole_so_far}
+use Rattle.pbd_step.proofs.InOrder.{all_go, all_rows, colour_rows, left_from, still_rows, batch_goes, parallel_next, parallel_none}
+use Rattle.pbd_step.proofs.InOrder.{parts_length, none_so_far, more_so_far, stops_so_far, whole_so_far}
 use Rattle.pbd_step.proofs.Costing.{colour_paid, colours_left}
+use Rattle.pbd_step.proofs.bonds.project_colours.Goals.{After-batch-numbers}
 use Rattle.pbd_step.proofs.bonds.project_colours.Goals as goal
+
+-- the rows that are left, those of the colour first
+rows : (g : _) (c : After-batch-numbers g) → AreOfBatch (bond_of c.args.list.now.bonds) (c.batch-numbers.result.now ++ left_from
+    (bond_of c.args.list.now.bonds) c.args.list.now.colours.now.pairs c.args.list.now.colours.now.live c.loop-c.store.particles
+    c.loop-c.rest
+    (c.loop-c.c + 1)) c.loop-c.store.particles c.loop-c.rest
+rows g c = colour_rows (bond_of c.args.list.now.bonds) c.args.list.now.colours.now.pairs c.args.list.now.colours.now.live
+    c.loop-c.store.particles
+    c.loop-c.rest c.loop-c.c c.batch-numbers.result.now (omega arith) c.batch-numbers.ensures.value c.loop-c.invariant.laid
+
+pub split_at-requires-clause-even : goal.split_at-requires-clause-even
+split_at-requires-clause-even g c = c.loop-c.invariant.laid.laid.even
+
+pub split_at-requires-clause-fits : goal.split_at-requires-clause-fits
+split_at-requires-clause-fits g c =
+    let of = rows g (goal.at.split_at-requires-clause-fits g c).After-batch-numbers in
+    omega (
+      arith,
+      of.exact,
+      length-append c.batch-numbers.result.now (left_from (bond_of c.args.list.now.bonds)
+          c.args.list.now.colours.now.pairs c.args.list.now.colours.now.live c.loop-c.store.particles c.loop-c.rest (c.loop-c.c + 1)),
+    )
 
 pub project_batch-requires : goal.project_batch-requires
 project_batch-requires g c =
-    let inv = c.loop-c.invariant in (
+    let inv = c.loop-c.invariant in
+    let bond = bond_of c.args.list.now.bonds in
+    let pairs = c.args.list.now.colours.now.pairs in
+    let live = c.args.list.now.colours.now.live in
+    let numbers = c.batch-numbers.result.now in
+    let of = rows g (goal.at.project_batch-requires g c).After-batch-numbers in
+    let front = front_part bond c.loop-c.store.particles numbers
+    (left_from bond pairs live c.loop-c.store.particles c.loop-c.rest (c.loop-c.c + 1))
+    c.loop-c.rest of c.split_at.result.0 c.split_at.ensures.front in
+    let few : 2 ^ 119 + length (parallel_from pairs live 0) * 2 ^ 32
+    ≤ 2 ^ 120 = omega (arith, parts_length pairs live, c.requires.can.few) in (
       omega arith,
       (
         c.requires.lanes_low,
         (
           c.requires.lanes_high,
-          batch_goes c.loop-c.store c.loop-c.totals c.requires.can inv.limit inv.so_far
-              (omega (arith, parts_length c.args.list.now.colours.now.pairs c.args.list.now.colours.now.live, c.requires.can.few))
-              c.args.list.now.colours.now.live c.batch.result.now c.batch.ensures.live c.batch.ensures.apart,
+          batch_goes c.loop-c.store c.loop-c.totals c.requires.can inv.limit inv.so_far few
+              numbers c.split_at.result.0 c.batch-numbers.ensures.live c.batch-numbers.ensures.apart front,
         ),
       ),
     )
@@ -26,8 +61,8 @@ returns-in-Err-clause-done g c =
     let inv = c.loop-c.invariant in
     let pairs = c.args.list.now.colours.now.pairs in
     let live = c.args.list.now.colours.now.live in
-    let parts : parallel_from pairs live c.loop-c.c ≡ c.batch.result.now
-    ++ parallel_from pairs live (c.loop-c.c + 1) = rw c.batch.ensures.value (parallel_next pairs live c.loop-c.c (omega arith)) in
+    let parts : parallel_from pairs live c.loop-c.c ≡ c.batch-numbers.result.now
+    ++ parallel_from pairs live (c.loop-c.c + 1) = rw c.batch-numbers.ensures.value (parallel_next pairs live c.loop-c.c (omega arith)) in
     record {
       outcome = stops_so_far _ _ parts inv.limit inv.so_far c.in-Err.left.element c.in-Err.ensures.done.outcome;
       limit = c.project_batch.ensures.done.limit ∙ inv.limit;
@@ -46,13 +81,16 @@ returns-in-Err-clause-cost g c =
       arith,
       inv.cost,
       c.project_batch.ensures.cost,
-      colour_paid pairs live c.loop-c.c c.batch.ensures.value inv.width,
+      colour_paid pairs live c.loop-c.c c.batch-numbers.ensures.value inv.width,
       colours_left (g.P.Projector.width c.args.projector.now) pairs live c.loop-c.c (omega arith),
     )
 
 pub loop-c-init : goal.loop-c-init
 loop-c-init g c = record {
   so_far = none_so_far _ _ _ _ _ c.requires.can.movable.inside c.requires.counted;
+  laid = all_rows (bond_of c.args.list.now.bonds) c.args.list.now.colours.now.pairs c.args.list.now.colours.now.live
+      c.args.store.now.particles
+      c.args.list.now.laid c.requires.can.rows;
   limit = refl;
   copies = refl;
   width = refl;
@@ -64,12 +102,19 @@ loop-c-preserved g c =
     let inv = c.loop-c.invariant in
     let pairs = c.args.list.now.colours.now.pairs in
     let live = c.args.list.now.colours.now.live in
-    let parts : parallel_from pairs live c.loop-c.c ≡ c.batch.result.now
-    ++ parallel_from pairs live (c.loop-c.c + 1) = rw c.batch.ensures.value (parallel_next pairs live c.loop-c.c (omega arith)) in
+    let parts : parallel_from pairs live c.loop-c.c ≡ c.batch-numbers.result.now
+    ++ parallel_from pairs live (c.loop-c.c + 1) = rw c.batch-numbers.ensures.value (parallel_next pairs live c.loop-c.c (omega arith)) in
+    let bond = bond_of c.args.list.now.bonds in
+    let numbers = c.batch-numbers.result.now in
+    let left = left_from bond pairs live c.loop-c.store.particles c.loop-c.rest (c.loop-c.c + 1) in
+    let of = rows g (goal.at.loop-c-preserved g c).After-batch-numbers in
     record {
-      so_far = more_so_far c.batch.result.now (parallel_from pairs live (c.loop-c.c + 1)) parts inv.limit inv.so_far
+      so_far = more_so_far c.batch-numbers.result.now (parallel_from pairs live (c.loop-c.c + 1)) parts inv.limit inv.so_far
           (motion_of c.project_batch.new.store c.project_batch.new.totals) _ c.in_default.ensures.done.outcome
           c.project_batch.ensures.done.fixed c.in_default.ensures.done.inside c.in_default.ensures.done.room c.project_batch.ensures.handed;
+      laid = still_rows bond left c.split_at.result.1 c.project_batch.ensures.done.fixed
+          (back_part bond c.loop-c.store.particles numbers left c.loop-c.rest of
+          c.split_at.result.1 c.split_at.ensures.back);
       limit = c.project_batch.ensures.done.limit ∙ inv.limit;
       copies = c.project_batch.ensures.done.copies ∙ inv.copies;
       width = c.project_batch.ensures.width ∙ inv.width;
@@ -77,7 +122,7 @@ loop-c-preserved g c =
         arith,
         inv.cost,
         c.project_batch.ensures.cost,
-        colour_paid pairs live c.loop-c.c c.batch.ensures.value inv.width,
+        colour_paid pairs live c.loop-c.c c.batch-numbers.ensures.value inv.width,
         colours_left (g.P.Projector.width c.args.projector.now) pairs live c.loop-c.c (omega arith),
       );
     }

@@ -1,18 +1,64 @@
-use Rattle.std.proofs.Common.{◌≡◌, ◌+◌, ◌++◌, ◌∷◌, [], ◌<◌, List, ℕ, drop, drop_of_length-le, get_or, arith, refl, sym, ◌∙◌, length}
+use Rattle.std.proofs.Common.{◌≡◌, ◌+◌, ◌++◌, ◌∷◌, [], ◌<◌, List, ℕ, drop, drop_of_length-le, get_or, arith, refl, ap, sym, ◌∙◌, length}
+use Rattle.std.proofs.Common.{subst}
 use Rattle.pbd_store.specs.Moving.{motion_of}
 use Rattle.pbd_pair.specs.Bonds.{bond_of}
 use Rattle.pbd_colour.specs.Pairs.{batch_of}
-use Rattle.pbd_step.proofs.InOrder.{single_goes, serial_next, parts_length, none_so_far, more_so_far, stops_so_far, whole_so_far}
+use Rattle.pbd_pair.specs.Laid.{AreOfBatch}
+use Rattle.pbd_pair.proofs.LaidParts.{back_part, front_part}
+use Rattle.pbd_step.proofs.InOrder.{order_parts, serial_rows, single_goes, still_rows, serial_next, parts_length, none_so_far, more_so_far}
+use Rattle.pbd_step.proofs.InOrder.{stops_so_far, whole_so_far}
 use Rattle.pbd_step.proofs.Costing.{one_paid}
 use Rattle.pbd_step.proofs.bonds.project_serial.Goals as goal
 
+pub overflow_sub-before : goal.overflow_sub-before
+overflow_sub-before g c = omega (
+  arith,
+  ap (λ (ns : List ℕ). length ns) c.order.ensures,
+  ap (λ (ns : List ℕ). length ns) c.serial-serial.ensures.value,
+  order_parts c.args.list.now.colours.now.pairs c.args.list.now.colours.now.live,
+)
+
+pub project_batch-requires : goal.project_batch-requires
+project_batch-requires g c =
+    let inv = c.loop-n.invariant in
+    let bond = bond_of c.args.list.now.bonds in
+    let numbers : List ℕ = batch_of c.args.list.now.colours.now.pairs c.args.list.now.colours.now.live 63 in
+    let n = get_or c.serial-serial.result.now c.loop-n.n-index 0 in
+    let same = c.serial-serial.ensures.value in
+    let within : c.loop-n.n-index < length numbers = rw (sym same) (omega arith) in
+    let parts : drop c.loop-n.n-index numbers ≡ (n ∷ []) ++ drop (c.loop-n.n-index + 1) numbers =
+    rw same (serial_next numbers c.loop-n.n-index within) in
+    let of = subst (λ (ns : List ℕ). AreOfBatch bond ns c.loop-n.store.particles c.loop-n.rest) parts inv.laid in
+    let front = front_part bond c.loop-n.store.particles (n ∷ [])
+    (drop (c.loop-n.n-index + 1) numbers) c.loop-n.rest of c.split_at-in-loop-n.result.0
+    c.split_at-in-loop-n.ensures.front in (
+      omega arith,
+      (
+        c.requires.lanes_low,
+        (
+          c.requires.lanes_high,
+          inv.can n c.split_at-in-loop-n.result.0 (c.serial-serial.ensures.live.within c.loop-n.n-index
+              (omega arith)) front,
+        ),
+      ),
+    )
+
 pub loop-n-init : goal.loop-n-init
 loop-n-init g c =
-    let all = batch_of c.args.list.now.colours.now.pairs c.args.list.now.colours.now.live 63 in
+    let pairs = c.args.list.now.colours.now.pairs in
+    let live = c.args.list.now.colours.now.live in
+    let all = batch_of pairs live 63 in
     let so = none_so_far c.args.store.now.limit (bond_of c.args.list.now.bonds) all (motion_of c.args.store.now c.args.totals.now)
     (g.P.Projector.count c.args.projector.now) c.requires.can.movable.inside c.requires.counted in
     record {
       so_far = so;
+      laid = serial_rows (bond_of c.args.list.now.bonds) pairs live c.args.store.now.particles c.args.list.now.laid _ c.split_at.result.1
+          c.split_at.ensures.back (omega (
+            arith,
+            ap (λ (ns : List ℕ). length ns) c.order.ensures,
+            ap (λ (ns : List ℕ). length ns) c.serial-serial.ensures.value,
+            order_parts pairs live,
+          )) c.requires.can.rows;
       can = single_goes c.args.store.now c.args.totals.now c.requires.can refl so
           (omega (arith, parts_length c.args.list.now.colours.now.pairs c.args.list.now.colours.now.live, c.requires.can.few));
       limit = refl;
@@ -25,17 +71,24 @@ pub loop-n-preserved : goal.loop-n-preserved
 loop-n-preserved g c =
     let inv = c.loop-n.invariant in
     let numbers : List ℕ = batch_of c.args.list.now.colours.now.pairs c.args.list.now.colours.now.live 63 in
-    let same = c.serial-n-items.ensures.value in
+    let same = c.serial-serial.ensures.value in
     let within : c.loop-n.n-index < length numbers = rw (sym same) (omega arith) in
-    let parts : drop c.loop-n.n-index numbers ≡ (get_or c.serial-n-items.result.now c.loop-n.n-index 0 ∷ [])
+    let parts : drop c.loop-n.n-index numbers ≡ (get_or c.serial-serial.result.now c.loop-n.n-index 0 ∷ [])
     ++ drop (c.loop-n.n-index + 1) numbers = rw same (serial_next numbers c.loop-n.n-index within) in
-    let so = more_so_far (get_or c.serial-n-items.result.now c.loop-n.n-index 0 ∷ [])
+    let so = more_so_far (get_or c.serial-serial.result.now c.loop-n.n-index 0 ∷ [])
     (drop (c.loop-n.n-index + 1) numbers) parts inv.limit inv.so_far
     (motion_of c.project_batch.new.store c.project_batch.new.totals) _ c.in_default.ensures.done.outcome
     c.project_batch.ensures.done.fixed c.in_default.ensures.done.inside c.in_default.ensures.done.room c.project_batch.ensures.handed in
     let limit = c.project_batch.ensures.done.limit ∙ inv.limit in
+    let bond = bond_of c.args.list.now.bonds in
+    let n = get_or c.serial-serial.result.now c.loop-n.n-index 0 in
+    let left = drop (c.loop-n.n-index + 1) numbers in
+    let of = subst (λ (ns : List ℕ). AreOfBatch bond ns c.loop-n.store.particles c.loop-n.rest) parts inv.laid in
     record {
       so_far = so;
+      laid = still_rows bond left c.split_at-in-loop-n.result.1 c.project_batch.ensures.done.fixed
+          (back_part bond c.loop-n.store.particles (n ∷ []) left c.loop-n.rest of c.split_at-in-loop-n.result.1
+          c.split_at-in-loop-n.ensures.back);
       can = single_goes c.project_batch.new.store c.project_batch.new.totals c.requires.can limit so
           (omega (arith, parts_length c.args.list.now.colours.now.pairs c.args.list.now.colours.now.live, c.requires.can.few));
       limit = limit;
@@ -53,12 +106,12 @@ pub returns-in-Err-clause-done : goal.returns-in-Err-clause-done
 returns-in-Err-clause-done g c =
     let inv = c.loop-n.invariant in
     let numbers : List ℕ = batch_of c.args.list.now.colours.now.pairs c.args.list.now.colours.now.live 63 in
-    let same = c.serial-n-items.ensures.value in
+    let same = c.serial-serial.ensures.value in
     let within : c.loop-n.n-index < length numbers = rw (sym same) (omega arith) in
-    let parts : drop c.loop-n.n-index numbers ≡ (get_or c.serial-n-items.result.now c.loop-n.n-index 0 ∷ [])
+    let parts : drop c.loop-n.n-index numbers ≡ (get_or c.serial-serial.result.now c.loop-n.n-index 0 ∷ [])
     ++ drop (c.loop-n.n-index + 1) numbers = rw same (serial_next numbers c.loop-n.n-index within) in
     record {
-      outcome = stops_so_far (get_or c.serial-n-items.result.now c.loop-n.n-index 0 ∷ [])
+      outcome = stops_so_far (get_or c.serial-serial.result.now c.loop-n.n-index 0 ∷ [])
           (drop (c.loop-n.n-index + 1) numbers) parts inv.limit inv.so_far c.in-Err.left.element c.in-Err.ensures.done.outcome;
       limit = c.project_batch.ensures.done.limit ∙ inv.limit;
       copies = c.project_batch.ensures.done.copies ∙ inv.copies;
@@ -71,7 +124,7 @@ pub returns-clause-done : goal.returns-clause-done
 returns-clause-done g c =
     let so_far = c.loop-n.invariant.so_far in
     let whole = whole_so_far so_far (drop_of_length-le (batch_of c.args.list.now.colours.now.pairs c.args.list.now.colours.now.live 63)
-    (rw (sym c.serial-n-items.ensures.value) (omega arith))) in
+    (rw (sym c.serial-serial.ensures.value) (omega arith))) in
     record {
       outcome = whole.same;
       limit = c.loop-n.invariant.limit;
@@ -84,12 +137,12 @@ returns-clause-done g c =
 pub returns-clause-handed : goal.returns-clause-handed
 returns-clause-handed g c = (whole_so_far c.loop-n.invariant.so_far
     (drop_of_length-le (batch_of c.args.list.now.colours.now.pairs c.args.list.now.colours.now.live 63)
-    (rw (sym c.serial-n-items.ensures.value) (omega arith)))).count
+    (rw (sym c.serial-serial.ensures.value) (omega arith)))).count
 
 pub returns-in-Err-clause-cost : goal.returns-in-Err-clause-cost
 returns-in-Err-clause-cost g c =
     let numbers : List ℕ = batch_of c.args.list.now.colours.now.pairs c.args.list.now.colours.now.live 63 in
-    let within : c.loop-n.n-index < length numbers = rw (sym c.serial-n-items.ensures.value) (omega arith) in
+    let within : c.loop-n.n-index < length numbers = rw (sym c.serial-serial.ensures.value) (omega arith) in
     omega (
       arith,
       c.loop-n.invariant.cost,

@@ -2,6 +2,8 @@ use Rattle.std.proofs.Common.{◌≡◌, ◌+◌, ◌*◌, ◌<◌, ◌≤◌, �
 use Rattle.pbd_store.specs.Moving.{motion_of}
 use Rattle.pbd_colour.specs.Pairs.{batch_of}
 use Rattle.pbd_pair.specs.Bonds.{bond_of}
+use Rattle.pbd_pair.specs.declared.laid.Laid.{Laid}
+use Rattle.pbd_pair.specs.Laid.{AreOfBatch}
 use Rattle.pbd_step.specs.Projecting.{CanProjectBatch}
 use Rattle.pbd_step.proofs.InOrder.{SoFar}
 use Rattle.pbd_step.proofs.bonds.project_serial.Given as goal
@@ -12,7 +14,10 @@ invariant-loop-n g l = record {
       (drop l.n-index (batch_of l.list.colours.now.pairs l.list.colours.now.live 63))
       (motion_of l.initial.store l.initial.totals) (motion_of l.store l.totals) (g.P.Projector.count l.initial.projector)
       (g.P.Projector.count l.projector);
-  can : (k : ℕ) → k < length l.list.colours.now.pairs → CanProjectBatch l.list.bonds (k ∷ []) l.store l.totals;
+  laid : AreOfBatch (bond_of l.list.bonds) (drop l.n-index (batch_of l.list.colours.now.pairs l.list.colours.now.live 63)) l.store.particles
+      l.rest;
+  can : (k : ℕ) (rows : Laid) → k < length l.list.colours.now.pairs → AreOfBatch (bond_of l.list.bonds) (k ∷ []) l.store.particles rows
+      → CanProjectBatch l.list.bonds rows (k ∷ []) l.store l.totals;
   limit : l.store.limit ≡ l.initial.store.limit;
   copies : l.store.copies ≡ l.initial.store.copies;
   width : g.P.Projector.width l.projector ≡ g.P.Projector.width l.initial.projector;

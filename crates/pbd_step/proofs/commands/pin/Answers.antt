@@ -1,11 +1,13 @@
-use Rattle.std.proofs.Common.{sym, arith, ◌^◌, subst}
+use Rattle.std.proofs.Common.{sym, ap, arith, ◌^◌, subst}
 use Rattle.pbd_num.specs.Vectors.{Within}
 use Rattle.pbd_world.specs.declared.parts.Particle.{Particle}
 use Rattle.pbd_world.specs.declared.totals.Class.TheVariants as classes
 use Rattle.pbd_world.specs.Ledger.{ledger_of}
+use Rattle.pbd_world.specs.Particles.{effective_weight}
 use Rattle.pbd_step.specs.States.{world_of}
 use Rattle.pbd_step.proofs.Mild.{sound_mild}
 use Rattle.pbd_step.proofs.SoundRoom.{sound_room}
+use Rattle.pbd_step.proofs.Weighing.{weights_set}
 use Rattle.pbd_step.proofs.commands.pin.Goals as goal
 
 pub lost-requires-clause-at : goal.lost-requires-clause-at
@@ -24,3 +26,8 @@ pub add-requires : goal.add-requires
 add-requires g c =
     c.totals_with_room_take_moves.ensures.fits (ledger_of c.args.state.now.totals) classes.Pin c.lost.result (2 ^ 99) (2 ^ 30)
     (sound_room (world_of c.args.setting.now c.args.state.now) c.requires.sound) c.lost.ensures.size (omega arith)
+
+pub returns-clause-weights : goal.returns-clause-weights
+returns-clause-weights g c =
+    weights_set c.args.state.now.store.particles c.in-Some.n 0 c.resting.result c.requires.weights
+    (sym (ap effective_weight c.resting.ensures)) c.set.ensures.particles

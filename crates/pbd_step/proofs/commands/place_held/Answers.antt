@@ -1,12 +1,14 @@
-use Rattle.std.proofs.Common.{◌≡◌, ℕ, ℤ, true, not, slice_set, refl, sym, ap, ◌∙◌, arith}
+use Rattle.std.proofs.Common.{◌≡◌, ℕ, ℤ, true, not, slice_set, refl, sym, ap, ◌∙◌, arith, Bool, if◌then◌else◌}
 use Rattle.std.proofs.lemmas.Int.{to_z-of_z}
+use Rattle.std.proofs.lemmas.Bool.{not-false}
 use Rattle.pbd_num.specs.Vectors.{is_within}
 use Rattle.pbd_num.proofs.Sizes.{fits}
 use Rattle.pbd_world.specs.declared.parts.Particle.{Particle}
-use Rattle.pbd_world.specs.Particles.{particle_at}
+use Rattle.pbd_world.specs.Particles.{particle_at, effective_weight}
 use Rattle.pbd_world.specs.World.{is_tracked}
 use Rattle.pbd_step.specs.States.{world_of}
 use Rattle.pbd_step.proofs.Placing.{place_missing, place_outside, place_free, place_led, place_done, set_down}
+use Rattle.pbd_step.proofs.Weighing.{weights_stay}
 use Rattle.pbd_step.proofs.commands.place_held.Goals.{After-within, After-at-p}
 use Rattle.pbd_step.proofs.commands.place_held.Goals as goal
 
@@ -72,3 +74,11 @@ returns-clause-obeys g c =
           (sym (ap (λ (p : Particle). not p.held) p_is) ∙ c.if-not-p.false) led c.set.ensures.limit set;
       kept = search;
     }
+
+-- a held particle weighs nothing, wherever it is put
+pub returns-clause-weights : goal.returns-clause-weights
+returns-clause-weights g c =
+    let p = c.at-p.result in
+    let nothing = ap (λ (b : Bool). if b then 0 else p.weight) (not-false p.held c.if-not-p.false) in
+    weights_stay c.args.state.now.store.particles c.in-Some.n c.resting.result c.requires.weights
+    (ap effective_weight c.resting.ensures ∙ sym nothing ∙ ap effective_weight c.at-p.ensures.value) c.set.ensures.particles

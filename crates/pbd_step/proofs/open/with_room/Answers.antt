@@ -7,4 +7,6 @@ returns-in-Ok c = record {
   touched = c.requires;
   pairs = omega (arith, c.in-Ok.ensures.pairs);
   numbers = omega (arith, c.in-Ok.ensures.numbers);
+  laid_links = c.in-Ok.ensures.laid_links;
+  laid_contacts = c.in-Ok.ensures.laid_contacts;
 }

@@ -1,5 +1,5 @@
-use Rattle.std.proofs.Common.{◌≡◌, ◌+◌, ◌-◌, ◌^◌, ◌≤◌, ℕ, min, length, OnOk, MatchResult, Ok, Err, FitsSigned, to_z, of_z, w64, arith, refl}
-use Rattle.std.proofs.Common.{sym, ap, ◌∙◌, subst}
+use Rattle.std.proofs.Common.{◌≡◌, ◌+◌, ◌-◌, ◌^◌, ◌≤◌, ℕ, List, min, length, OnOk, MatchResult, Ok, Err, FitsSigned, to_z, of_z, w64, arith}
+use Rattle.std.proofs.Common.{refl, sym, ap, ◌∙◌, subst}
 use Rattle.std.proofs.lemmas.Int.{to_z-of_z}
 use Rattle.pbd_world.specs.Bonds.{projected, contact_bond}
 use Rattle.pbd_world.specs.Colours.{order}
@@ -7,11 +7,27 @@ use Rattle.pbd_world.specs.Work.{bonds_work}
 use Rattle.pbd_store.specs.Moving.{motion_of}
 use Rattle.pbd_colour.specs.Pairs.{InRange}
 use Rattle.pbd_pair.specs.declared.bonds.Bonds.TheVariants.{Contacts}
+use Rattle.pbd_world.specs.Step.{contact_order}
+use Rattle.pbd_pair.specs.Laid.{front_of, lists_in, AreOfBatch}
+use Rattle.pbd_pair.proofs.LaidParts.{first_laid, laid_by_weights}
 use Rattle.pbd_step.specs.Projecting.{AreBondsOf, CanProjectAll}
 use Rattle.pbd_world.proofs.OrderCounts.{contacts_count}
 use Rattle.pbd_step.proofs.Staying.{part_in_pass}
 use Rattle.pbd_step.proofs.UnderWay.{contact_bonds, ok_both, still_movable}
+use Rattle.pbd_step.proofs.pass.project_contacts.Goals.{After-order}
 use Rattle.pbd_step.proofs.pass.project_contacts.Goals as goal
+
+-- as many rows as contacts
+count : (g : _) (c : After-order g) → length c.order.result.now ≡ length (contact_order c.args.run.now.scratch.found.pairs)
+count g c =
+    let told = c.colouring-colours.ensures in
+    ap (λ (ns : List ℕ). length ns) c.order.ensures ∙ (λ i. length (order (told.pairs i) (told.live i)))
+
+pub first_rows-requires-clause-even : goal.first_rows-requires-clause-even
+first_rows-requires-clause-even g c = c.requires.laid.even
+
+pub first_rows-requires-clause-fits : goal.first_rows-requires-clause-fits
+first_rows-requires-clause-fits g c = omega (arith, count g (goal.at.first_rows-requires-clause-fits g c).After-order, c.requires.laid.long)
 
 pub project_all-requires : goal.project_all-requires
 project_all-requires g c =
@@ -21,14 +37,24 @@ project_all-requires g c =
     let fit : FitsSigned w64 c.args.thickness = c.ranges.thickness in
     let same : to_z w64 (of_z w64 c.args.thickness) ≡ c.args.thickness = to_z-of_z w64 c.args.thickness fit in
     let range : InRange n pairs = subst (λ (k : ℕ). InRange k pairs) c.requires.found c.pairs.ensures.in_range in
-    let these : pairs ≡ c.colouring.result.now.pairs = c.pairs.ensures.value ∙ sym c.colouring.ensures.pairs in
+    let these : pairs ≡ c.colouring-colours.result.now.pairs = c.pairs.ensures.value ∙ sym c.colouring-colours.ensures.pairs in
     let fits = contact_bonds limit c.args.thickness n pairs (Contacts c.pairs.result c.args.thickness) refl
     (λ k. refl) c.requires.limit c.requires.thickness range in
-    let bonds : AreBondsOf limit n (Contacts c.pairs.result (to_z w64 (of_z w64 c.args.thickness))) c.colouring.result.now.pairs =
+    let bonds : AreBondsOf limit n (Contacts c.pairs.result (to_z w64 (of_z w64 c.args.thickness))) c.colouring-colours.result.now.pairs =
     coe 0 1 (i. AreBondsOf limit n (Contacts c.pairs.result (sym same i)) (these i)) fits in
-    let can : CanProjectAll (2 ^ 119) (Contacts c.pairs.result (to_z w64 (of_z w64 c.args.thickness))) c.colouring.result.now.pairs
-    c.args.run.now.state.store c.args.run.now.state.totals = record {
+    let state = c.args.run.now.state in
+    let colours = c.colouring-colours.result.now in
+    let ps = state.store.particles in
+    let rows = c.first_rows.result in
+    let of = first_laid rows (c.first_rows.ensures ∙ ap (λ (k : ℕ). front_of k (lists_in c.args.run.now.scratch.laid_contacts)) (count g
+    (goal.at.project_all-requires g c).After-order)) (laid_by_weights ps c.requires.weights c.requires.laid) in
+    let can : CanProjectAll (2 ^ 119) (Contacts c.pairs.result (to_z w64 (of_z w64 c.args.thickness))) rows colours.pairs colours.live
+    state.store
+    state.totals = record {
       fit = bonds;
+      rows = coe 0 1 (i. AreOfBatch (contact_bond (sym same i) (sym c.pairs.ensures.value i))
+          (order (sym c.colouring-colours.ensures.pairs i)
+          (sym c.colouring-colours.ensures.live i)) ps rows) of;
       few = omega (arith, ap length these, c.pairs.ensures.few);
       movable = c.requires.movable;
     } in
@@ -40,8 +66,8 @@ returns-clause-done g c =
     let same : to_z w64 (of_z w64 c.args.thickness) ≡ c.args.thickness = to_z-of_z w64 c.args.thickness fit in
     let limit = c.args.run.now.state.store.limit in
     let value = c.pairs.ensures.value in
-    let pairs = c.colouring.ensures.pairs in
-    let live = c.colouring.ensures.live in
+    let pairs = c.colouring-colours.ensures.pairs in
+    let live = c.colouring-colours.ensures.live in
     let start = motion_of c.args.run.now.state.store c.args.run.now.state.totals in
     let now = motion_of c.project_all.new.store c.project_all.new.totals in
     let run = c.args.run.now in
@@ -62,12 +88,13 @@ pub returns-clause-handed : goal.returns-clause-handed
 returns-clause-handed g c =
     let before = g.P.Projector.count c.args.run.now.projector in
     let after = g.P.Projector.count c.project_all.new.projector in
-    let same : length (order c.colouring.result.now.pairs c.colouring.result.now.live)
-    ≡ length c.args.run.now.scratch.found.pairs = (λ i. length (order (c.colouring.ensures.pairs i) (c.colouring.ensures.live i)))
+    let same : length (order c.colouring-colours.result.now.pairs c.colouring-colours.result.now.live)
+    ≡ length c.args.run.now.scratch.found.pairs = (λ i. length
+    (order (c.colouring-colours.ensures.pairs i) (c.colouring-colours.ensures.live i)))
     ∙ contacts_count c.args.run.now.scratch.found.pairs in
     subst (λ (k : ℕ). OnOk c.project_all.result (after ≡ min (before + k) (2 ^ 64 - 1))) same c.project_all.ensures.handed
 
 pub returns-clause-cost : goal.returns-clause-cost
 returns-clause-cost g c =
     coe 0 1 (i. c.project_all.new.steps ≤ c.args.steps.now + bonds_work (g.P.Projector.width c.args.run.now.projector)
-    (c.colouring.ensures.pairs i) (c.colouring.ensures.live i)) c.project_all.ensures.cost
+    (c.colouring-colours.ensures.pairs i) (c.colouring-colours.ensures.live i)) c.project_all.ensures.cost

@@ -9,7 +9,7 @@ use Rattle.pbd_step.specs.declared.state.Scratch.{Scratch}
 use Rattle.pbd_step.specs.States.{world_of, IsUnderWay}
 use Rattle.pbd_step.specs.Staying.{passing_of}
 use Rattle.pbd_step.proofs.Passes.{same_pass, pass_on, pass_out, passes_done, passes_begin, counts_on}
-use Rattle.pbd_step.proofs.Staying.{none_in_pass, both_in_pass, pass_goes}
+use Rattle.pbd_step.proofs.Staying.{none_in_pass, both_in_pass, pass_goes, still_laid}
 use Rattle.pbd_step.proofs.UnderWay.{moved_world, more_under_way, passes_few}
 use Rattle.pbd_step.proofs.Costing.{pass_same}
 use Rattle.pbd_step.proofs.pass.project_in_passes.Goals as goal
@@ -26,6 +26,7 @@ loop-init g c =
       handed = omega (arith, c.counts.ensures);
       going = pass_goes {count = g.P.Projector.count} {lanes = g.P.Projector.width} (2 ^ 118) c.args.setting.now run run c.requires.going
           (none_in_pass run) (more_under_way (2 ^ 118) (omega arith) c.requires.going.under_way);
+      laid = c.requires.laid;
     }
 
 pub returns-in-Err-clause-outcome : goal.returns-in-Err-clause-outcome
@@ -83,6 +84,7 @@ loop-preserved g c =
       under_way = under_way;
       going = pass_goes (2 ^ 118) c.args.setting.now c.args.run.now c.project_once.new.run c.requires.going still
           (more_under_way (2 ^ 118) (omega (arith, few, within)) under_way);
+      laid = still_laid c.args.setting.now.thickness c.loop.run c.project_once.new.run c.project_once.ensures.stays inv.laid;
       rest = pass_on (pass w pairs) c.args.setting.now.passes i (omega arith) s t (sym same ∙ c.in_default.ensures.outcome) ∙ inv.rest;
       cost = omega (arith, inv.cost, c.project_once.ensures.cost, paid);
       handed = counts_on before given next k i inv.handed (c.in_default.ensures.handed

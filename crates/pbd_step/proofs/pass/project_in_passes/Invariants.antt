@@ -4,7 +4,7 @@ use Rattle.pbd_world.specs.Step.{pass}
 use Rattle.pbd_world.specs.Work.{pass_work}
 use Rattle.pbd_world.specs.World.{live_count}
 use Rattle.pbd_step.specs.States.{world_of, IsUnderWay}
-use Rattle.pbd_step.specs.Staying.{IsGoing, StaysInPass, passing_of}
+use Rattle.pbd_step.specs.Staying.{AreBondsLaid, IsGoing, StaysInPass, passing_of}
 use Rattle.pbd_step.proofs.pass.project_in_passes.Given as goal
 
 abbrev pub invariant-loop : goal.invariant-loop
@@ -21,4 +21,5 @@ invariant-loop g l = record {
   handed : g.P.Projector.count l.run.projector ≡ min (g.P.Projector.count l.initial.run.projector + l.counter
       * (live_count l.initial.run.state.links.items + length l.initial.run.scratch.found.pairs)) (2 ^ 64 - 1);
   going : IsGoing (2 ^ 118) l.setting l.run;
+  laid : AreBondsLaid l.setting.thickness l.run.state l.run.scratch;
 }

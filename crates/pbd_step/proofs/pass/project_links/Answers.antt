@@ -10,11 +10,27 @@ use Rattle.pbd_world.specs.World.{live_count}
 use Rattle.pbd_store.specs.Moving.{motion_of}
 use Rattle.pbd_pair.specs.declared.bonds.Bonds.{Bonds}
 use Rattle.pbd_pair.specs.declared.bonds.Bonds.TheVariants.{Links}
+use Rattle.pbd_world.specs.Step.{link_order}
+use Rattle.pbd_pair.specs.Laid.{front_of, lists_in, AreOfBatch}
+use Rattle.pbd_pair.proofs.LaidParts.{first_laid, laid_by_weights}
 use Rattle.pbd_step.specs.Projecting.{AreBondsOf, CanProjectAll}
 use Rattle.pbd_world.proofs.OrderCounts.{links_count}
 use Rattle.pbd_step.proofs.Staying.{part_in_pass}
 use Rattle.pbd_step.proofs.UnderWay.{link_bonds, few_links, ok_both, still_movable}
+use Rattle.pbd_step.proofs.pass.project_links.Goals.{After-order}
 use Rattle.pbd_step.proofs.pass.project_links.Goals as goal
+
+-- as many rows as live links
+count : (g : _) (c : After-order g) → length c.order.result.now ≡ length (link_order c.args.run.now.state.links.items)
+count g c =
+    let has = c.requires.links in
+    ap (λ (ns : List ℕ). length ns) c.order.ensures ∙ (λ i. length (order (has.pairs i) (has.live i)))
+
+pub first_rows-requires-clause-even : goal.first_rows-requires-clause-even
+first_rows-requires-clause-even g c = c.requires.laid.even
+
+pub first_rows-requires-clause-fits : goal.first_rows-requires-clause-fits
+first_rows-requires-clause-fits g c = omega (arith, count g (goal.at.first_rows-requires-clause-fits g c).After-order, c.requires.laid.long)
 
 pub project_all-requires : goal.project_all-requires
 project_all-requires g c =
@@ -30,8 +46,14 @@ project_all-requires g c =
     let fits : AreBondsOf limit n bonds c.args.run.now.colours.pairs =
     subst (λ (pairs : List (ℕ × ℕ)). AreBondsOf limit n bonds pairs) (ap (λ (ls : List Link). link_pairs ls) same ∙ sym has.pairs)
     (link_bonds limit n links bonds refl (λ k. refl) valid) in
-    let can : CanProjectAll (2 ^ 119) bonds c.args.run.now.colours.pairs state.store state.totals = record {
+    let colours = c.args.run.now.colours in
+    let ps = state.store.particles in
+    let rows = c.first_rows.result in
+    let of = first_laid rows (c.first_rows.ensures ∙ ap (λ (k : ℕ). front_of k (lists_in c.args.run.now.scratch.laid_links)) (count g
+    (goal.at.project_all-requires g c).After-order)) (laid_by_weights ps c.requires.weights c.requires.laid) in
+    let can : CanProjectAll (2 ^ 119) bonds rows colours.pairs colours.live state.store state.totals = record {
       fit = fits;
+      rows = coe 0 1 (i. AreOfBatch (link_bond (sym same i)) (order (sym has.pairs i) (sym has.live i)) ps rows) of;
       few = omega (arith, ap length has.pairs, few_links limit n state.links.items c.requires.valid);
       movable = c.requires.movable;
     } in

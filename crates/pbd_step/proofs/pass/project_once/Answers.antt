@@ -14,9 +14,9 @@ use Rattle.pbd_world.proofs.Rooms.{room_at}
 use Rattle.pbd_step.specs.declared.state.State.{State}
 use Rattle.pbd_step.specs.declared.state.Scratch.{Scratch}
 use Rattle.pbd_step.specs.States.{world_of, now_of, IsUnderWay}
-use Rattle.pbd_step.specs.Staying.{passing_of}
+use Rattle.pbd_step.specs.Staying.{passing_of, AreContactsLaid}
 use Rattle.pbd_step.proofs.Passes.{link_leaves, contact_leaves, shape_leaves, pass_done, contact_part_is, shape_part_is}
-use Rattle.pbd_step.proofs.Staying.{both_in_pass, part_in_pass}
+use Rattle.pbd_step.proofs.Staying.{both_in_pass, part_in_pass, still_laid, weights_moved}
 use Rattle.pbd_step.proofs.UnderWay.{movable, more_movable, moved_under_way, moved_world, particles_few, thickness_of, thickness_kept}
 use Rattle.pbd_step.proofs.pass.project_once.Goals as goal
 
@@ -25,8 +25,16 @@ project_links-requires g c =
     let going = c.requires.going in
     let w : World = world_of c.args.setting.now c.args.run.now.state in
     let f = formed (parts_of w) going.under_way.well_formed in
-    let ready = more_movable (2 ^ 119) (omega arith) (movable (2 ^ 118) w going.under_way) in
-    (omega arith, (c.requires.lanes_low, (c.requires.lanes_high, (f.links, (going.links, ready)))))
+    let ready = more_movable (2 ^ 119) (omega arith) (movable (2 ^ 118) w going.under_way) in (
+      omega arith,
+      (
+        c.requires.lanes_low,
+        (
+          c.requires.lanes_high,
+          (f.links, (going.links, (going.weights, (c.requires.laid.links, ready)))),
+        ),
+      ),
+    )
 
 pub project_contacts-requires : goal.project_contacts-requires
 project_contacts-requires g c =
@@ -41,7 +49,11 @@ project_contacts-requires g c =
     subst (λ (t : ℤ). IsTrue (is_between (pos 0) (pos 1048576) t)) (sym (thickness_kept w.thickness thin)) thin in
     let found = ap (λ (t : Scratch). t.found.particles) c.project_links.ensures.done.scratch ∙ going.space.found ∙ sym stays.moved.whole in
     let ready = more_movable (2 ^ 119) (omega arith) (c.in_default.ensures.done.movable (2 ^ 118) (movable (2 ^ 118) w going.under_way)) in
-    (omega arith, (c.requires.lanes_low, (c.requires.lanes_high, (limit, (thickness, (found, ready))))))
+    let weights = weights_moved c.args.run.now.state c.project_links.new.run.state stays.moved going.weights in
+    let laid = (still_laid w.thickness c.args.run.now c.project_links.new.run stays c.requires.laid).contacts in
+    let thin_laid = subst (λ (t : ℤ). AreContactsLaid t c.project_links.new.run.state c.project_links.new.run.scratch.found.pairs
+    c.project_links.new.run.scratch.laid_contacts) (sym (thickness_kept w.thickness thin)) laid in
+    (omega arith, (c.requires.lanes_low, (c.requires.lanes_high, (limit, (thickness, (found, (weights, (thin_laid, ready))))))))
 
 pub push_out-requires : goal.push_out-requires
 push_out-requires g c =

@@ -24,7 +24,7 @@ loop-block-init g c =
     record {
       rest = ap (λ (m : ℕ). predicted_from (bare_world setting state.store.limit) m (now_of state)) (none g.row.L)
           ∙ predicted_begins setting state;
-      moved = record { same = refl; limit = refl; copies = refl; whole = refl };
+      moved = record { same = refl; limit = refl; copies = refl; whole = refl; weights = refl };
       within = formed_within w c.requires.sound.well_formed;
       room = room_at _ (omega arith) (sound_room w c.requires.sound);
       cost = omega arith;

@@ -10,6 +10,7 @@ use Rattle.pbd_num.specs.Vectors.{Within, zero_vector}
 use Rattle.pbd_store.specs.Blocks.{filled_lanes, place_of}
 use Rattle.pbd_store.proofs.Saves.{place_loaded, held_loaded, filled_is, block_saved, saved_each}
 use Rattle.pbd_store.proofs.Places.{place_in, at_of}
+use Rattle.pbd_step.proofs.Weighing.{saved_weights}
 use Rattle.pbd_step.proofs.predict.advance_block.Given.{Over}
 use Rattle.pbd_step.proofs.predict.advance_block.Goals as goal
 
@@ -75,6 +76,27 @@ returns-in-Ok-clause-within g c =
       before = λ i h. saved_each start filled places (at_of g.row.L block ps) ps (λ i p. Within limit p.before) g.row.L qs saved
           (λ j h k. within.at (start + j) k) within.before i (omega (arith, h, saved.whole));
     }
+
+pub returns-in-Ok-clause-moved : goal.returns-in-Ok-clause-moved
+returns-in-Ok-clause-moved g c = record {
+  same = refl;
+  limit = c.save-in-Ok.ensures.limit;
+  copies = c.save-in-Ok.ensures.copies;
+  whole = c.save-in-Ok.ensures.particles.whole;
+  weights = saved_weights c.args.state.now.store.particles c.save-in-Ok.new.self.particles c.save-in-Ok.ensures.particles;
+}
+
+pub returns-in-Err-clause-moved : goal.returns-in-Err-clause-moved
+returns-in-Err-clause-moved g c = record { same = refl; limit = refl; copies = refl; whole = refl; weights = refl }
+
+pub returns-then-flown-clause-moved : goal.returns-then-flown-clause-moved
+returns-then-flown-clause-moved g c = record {
+  same = refl;
+  limit = c.save.ensures.limit;
+  copies = c.save.ensures.copies;
+  whole = c.save.ensures.particles.whole;
+  weights = saved_weights c.args.state.now.store.particles c.save.new.self.particles c.save.ensures.particles;
+}
 
 pub returns-in-Ok-clause-room : goal.returns-in-Ok-clause-room
 returns-in-Ok-clause-room g c = c.advance_one_by_one.ensures.room

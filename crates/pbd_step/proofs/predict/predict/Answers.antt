@@ -1,9 +1,11 @@
-use Rattle.std.proofs.Common.{◌∙◌, ◌≡◌, ◌^◌, sym, arith, subst}
+use Rattle.std.proofs.Common.{◌∙◌, ◌≡◌, ◌^◌, ap, sym, arith, subst}
 use Rattle.std.proofs.lemmas.Result.{err_from_is_err_and}
 use Rattle.pbd_world.specs.World.{World, parts_of}
 use Rattle.pbd_world.proofs.WorldParts.{formed}
+use Rattle.pbd_step.specs.declared.state.State.{State}
 use Rattle.pbd_step.specs.States.{world_of, now_of, IsUnderWay}
 use Rattle.pbd_step.proofs.Leading.{stops_led, goes_led, predicted_goes}
+use Rattle.pbd_step.proofs.Weighing.{attached_weights}
 use Rattle.pbd_step.proofs.predict.predict.Goals as goal
 
 pub returns-in_err-advance_all-clause-outcome : goal.returns-in_err-advance_all-clause-outcome
@@ -17,6 +19,18 @@ place-requires g c =
     let w = world_of c.args.setting.now c.args.state.now in
     let done = c.in_ok-advance_all.ensures in
     (omega arith, rw (c.as_slice.ensures, done.moved.limit, done.moved.whole) ((formed (parts_of w) c.requires.sound.well_formed).tracks))
+
+pub returns-clause-moved : goal.returns-clause-moved
+returns-clause-moved g c =
+    let done = c.in_ok-advance_all.ensures in
+    record {
+      same = ap (λ (s : State g.row.L). record s { store = c.place.new.store }) done.moved.same;
+      limit = c.place.ensures.limit ∙ done.moved.limit;
+      copies = c.place.ensures.copies ∙ done.moved.copies;
+      whole = c.place.ensures.particles.whole ∙ done.moved.whole;
+      weights = attached_weights c.advance_all.new.state.store.particles c.place.new.store.particles c.place.ensures.particles
+          ∙ done.moved.weights;
+    }
 
 pub returns-clause-outcome : goal.returns-clause-outcome
 returns-clause-outcome g c =

@@ -18,6 +18,7 @@ use Rattle.pbd_step.specs.Settling.{LetGo}
 use Rattle.pbd_step.proofs.Mild.{formed_within, formed_friction}
 use Rattle.pbd_step.proofs.Settling.{let_go_tears, torn_live, torn_coloured, still_many}
 use Rattle.pbd_step.proofs.Costing.{rubs_less}
+use Rattle.pbd_step.proofs.Weighing.{settled_weights}
 use Rattle.pbd_step.proofs.rub_and_tear.rub_and_tear.Goals as goal
 
 pub rub-requires : goal.rub-requires
@@ -116,11 +117,20 @@ returns-clause-stays g c =
       alike = record {
         particles = still_many c.rub.new.store.particles c.args.run.now.state.store.particles c.rub.ensures.settled;
         limit = c.rub.ensures.limit;
+        weights = refl;
         links = c.tear.ensures.links.whole;
       };
+      weights = λ h. h ∙ sym (settled_weights c.args.run.now.state.store.particles c.rub.new.store.particles c.rub.ensures.settled);
       copies = c.rub.ensures.copies;
       pairs = c.tear.ensures.colours ∙ (λ k. record c.args.run.now.colours { live = sym live k });
-      space = λ n m h. record { found = h.found; touched = h.touched; pairs = h.pairs; numbers = omega (arith, room, h.numbers) };
+      space = λ n m h. record {
+        found = h.found;
+        touched = h.touched;
+        pairs = h.pairs;
+        numbers = omega (arith, room, h.numbers);
+        laid_links = h.laid_links;
+        laid_contacts = h.laid_contacts;
+      };
       not_fallen = omega arith;
       width = refl;
     }

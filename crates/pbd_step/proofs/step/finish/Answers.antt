@@ -1,39 +1,72 @@
-use Rattle.std.proofs.Common.{arith, sym, ap, ◌∙◌, subst, ℕ, length, List, Bool, Ok, Err}
+use Rattle.std.proofs.Common.{arith, sym, ap, ◌∙◌, subst, ℕ, ℤ, pos, length, List, Bool, IsTrue, to_z, of_z, w64, Ok, Err}
 use Rattle.std.proofs.lemmas.List.{length-replicate}
 use Rattle.pbd_world.specs.Step.{settled, rub}
 use Rattle.pbd_world.specs.Ledger.{ledger_of}
-use Rattle.pbd_world.specs.World.{World}
+use Rattle.pbd_world.specs.Valid.{is_between}
+use Rattle.pbd_world.specs.World.{World, parts_of}
+use Rattle.pbd_world.proofs.WorldParts.{formed}
 use Rattle.pbd_world.proofs.WorkLemmas.{finishing_is}
 use Rattle.pbd_step.specs.declared.state.Scratch.{Scratch}
 use Rattle.pbd_step.specs.States.{world_of, now_of, HasLinks}
-use Rattle.pbd_step.specs.Staying.{passing_of}
-use Rattle.pbd_step.proofs.Staying.{cleared, tools_go, tools_in_step, pass_in_step, both_in_step, pass_goes}
+use Rattle.pbd_step.specs.Staying.{passing_of, AreBondsLaid, AreContactsLaid}
+use Rattle.pbd_step.proofs.Staying.{prepared, tools_go, tools_in_step, pass_in_step, both_in_step, pass_goes}
 use Rattle.pbd_step.proofs.Stepping.{no_flags, finished_is}
-use Rattle.pbd_step.proofs.UnderWay.{moved_world, more_under_way}
+use Rattle.pbd_step.proofs.UnderWay.{moved_world, more_under_way, thickness_kept, thickness_of}
 use Rattle.pbd_step.proofs.Costing.{settling_same}
 use Rattle.pbd_step.proofs.step.finish.Goals as goal
+
+pub lay_links-requires : goal.lay_links-requires
+lay_links-requires g c =
+    let going = c.requires.going in
+    let f = formed (parts_of (world_of c.args.setting.now c.args.run.now.state)) going.under_way.well_formed in
+    (omega arith, (c.requires.lanes_high, (f.limit, (f.links, (going.weights, (going.links, going.space.laid_links))))))
+
+pub lay_contacts-requires : goal.lay_contacts-requires
+lay_contacts-requires g c =
+    let going = c.requires.going in
+    let w : World = world_of c.args.setting.now c.args.run.now.state in
+    let f = formed (parts_of w) going.under_way.well_formed in
+    let thin = thickness_of w f in
+    let thickness : IsTrue (is_between (pos 0) (pos 1048576) (to_z w64 (of_z w64 w.thickness))) =
+    subst (λ (t : ℤ). IsTrue (is_between (pos 0) (pos 1048576) t)) (sym (thickness_kept w.thickness thin)) thin in
+    (omega arith, (c.requires.lanes_high, (f.limit, (thickness, (going.weights, (going.space.found, going.space.laid_contacts))))))
 
 pub project_in_passes-requires : goal.project_in_passes-requires
 project_in_passes-requires g c =
     let run = c.args.run.now in
-    let many = ap (λ (fs : List Bool). length fs) c.clear.ensures ∙ length-replicate _ _ in (
-      omega arith,
-      (
-        c.requires.lanes_low,
-        (
-          c.requires.lanes_high,
-          tools_go c.args.setting.now run (record run.scratch { touched = c.clear.new.self })
-              (cleared run.scratch c.clear.new.self many) c.requires.going,
-        ),
-      ),
-    )
+    let scratch : Scratch = record run.scratch {
+      laid_links = c.lay_links.new.columns;
+      laid_contacts = c.lay_contacts.new.columns;
+      touched = c.clear.new.self;
+    } in
+    let many = ap (λ (fs : List Bool). length fs) c.clear.ensures ∙ length-replicate _ _ in
+    let room = prepared run.scratch scratch.laid_links scratch.laid_contacts scratch.touched c.lay_links.ensures.rows
+    c.lay_contacts.ensures.rows
+    many in
+    let w : World = world_of c.args.setting.now run.state in
+    let thin = thickness_of w (formed (parts_of w) c.requires.going.under_way.well_formed) in
+    let laid : AreBondsLaid w.thickness run.state scratch = record {
+      links = c.lay_links.ensures.laid;
+      contacts = subst (λ (t : ℤ). AreContactsLaid t run.state run.scratch.found.pairs scratch.laid_contacts)
+          (thickness_kept w.thickness thin)
+          c.lay_contacts.ensures.laid;
+    } in
+    (omega arith, (c.requires.lanes_low, (c.requires.lanes_high, (tools_go c.args.setting.now run scratch room c.requires.going, laid))))
 
 pub rub_and_tear-requires : goal.rub_and_tear-requires
 rub_and_tear-requires g c =
     let run = c.args.run.now in
+    let scratch : Scratch = record run.scratch {
+      laid_links = c.lay_links.new.columns;
+      laid_contacts = c.lay_contacts.new.columns;
+      touched = c.clear.new.self;
+    } in
     let many = ap (λ (fs : List Bool). length fs) c.clear.ensures ∙ length-replicate _ _ in
-    let start = record run { scratch = record run.scratch { touched = c.clear.new.self } } in
-    let going = tools_go c.args.setting.now run start.scratch (cleared run.scratch c.clear.new.self many) c.requires.going in (
+    let room = prepared run.scratch scratch.laid_links scratch.laid_contacts scratch.touched c.lay_links.ensures.rows
+    c.lay_contacts.ensures.rows
+    many in
+    let start = record run { scratch = scratch } in
+    let going = tools_go c.args.setting.now run scratch room c.requires.going in (
       omega arith,
       (
         c.requires.lanes_low,
@@ -68,20 +101,34 @@ returns-clause-outcome g c =
 pub returns-in-Err-clause-stays : goal.returns-in-Err-clause-stays
 returns-in-Err-clause-stays g c =
     let run = c.args.run.now in
+    let scratch : Scratch = record run.scratch {
+      laid_links = c.lay_links.new.columns;
+      laid_contacts = c.lay_contacts.new.columns;
+      touched = c.clear.new.self;
+    } in
     let many = ap (λ (fs : List Bool). length fs) c.clear.ensures ∙ length-replicate _ _ in
-    let scratch : Scratch = record run.scratch { touched = c.clear.new.self } in
+    let room = prepared run.scratch scratch.laid_links scratch.laid_contacts scratch.touched c.lay_links.ensures.rows
+    c.lay_contacts.ensures.rows
+    many in
     let start = record run { scratch = scratch } in
-    both_in_step run start c.project_in_passes.new.run (tools_in_step run scratch (cleared run.scratch c.clear.new.self many))
+    both_in_step run start c.project_in_passes.new.run (tools_in_step run scratch room)
     (pass_in_step start c.project_in_passes.new.run c.project_in_passes.ensures.stays)
 
 pub returns-clause-stays : goal.returns-clause-stays
 returns-clause-stays g c =
     let run = c.args.run.now in
+    let scratch : Scratch = record run.scratch {
+      laid_links = c.lay_links.new.columns;
+      laid_contacts = c.lay_contacts.new.columns;
+      touched = c.clear.new.self;
+    } in
     let many = ap (λ (fs : List Bool). length fs) c.clear.ensures ∙ length-replicate _ _ in
-    let scratch : Scratch = record run.scratch { touched = c.clear.new.self } in
+    let room = prepared run.scratch scratch.laid_links scratch.laid_contacts scratch.touched c.lay_links.ensures.rows
+    c.lay_contacts.ensures.rows
+    many in
     let start = record run { scratch = scratch } in
     both_in_step run c.project_in_passes.new.run c.rub_and_tear.new.run
-    (both_in_step run start c.project_in_passes.new.run (tools_in_step run scratch (cleared run.scratch c.clear.new.self many))
+    (both_in_step run start c.project_in_passes.new.run (tools_in_step run scratch room)
     (pass_in_step start c.project_in_passes.new.run c.project_in_passes.ensures.stays)) c.rub_and_tear.ensures.stays
 
 pub returns-clause-links : goal.returns-clause-links

@@ -6,7 +6,8 @@ use Rattle.pbd_world.specs.Contacts.{link_pairs}
 use Rattle.pbd_colour.specs.Pairs.{Coloured}
 use Rattle.pbd_step.specs.States.{world_of, HasLinks, HaveSpace}
 use Rattle.pbd_step.specs.Solving.{AreAlike}
-use Rattle.pbd_step.proofs.Keeping.{formed_fit, taken_fit, same_alike, alike_join, kept_moved}
+use Rattle.pbd_step.proofs.Keeping.{formed_fit, taken_fit, same_alike, alike_join, kept_moved, weights_taken}
+use Rattle.pbd_step.proofs.Assuming.{flipped}
 use Rattle.pbd_step.proofs.step.run_whole.Goals as goal
 
 pub restore-requires : goal.restore-requires
@@ -20,6 +21,7 @@ restore-requires g c =
     let taken : AreAlike state kept = record {
       particles = ap (λ (ps : List Particle). length ps) (sym c.take_over.ensures.particles);
       limit = sym c.take_over.ensures.limit;
+      weights = ap (λ (ws : List ℕ). length ws) (sym c.take_over.ensures.weights);
       links = ap (λ (ls : List Link). length ls) (sym c.take_over.ensures.links);
     } in
     let alike : AreAlike c.take_steps.new.run.state kept = alike_join c.take_steps.new.run.state state kept stays.alike taken in
@@ -48,7 +50,11 @@ returns-in-Err-clause-kept g c =
     let links = ap (λ (ls : List Link). length ls) c.take_over.ensures.links in
     kept_moved setting state c.restore.new.state kept c.restore.new.colours c.restore.new.scratch
     (subst (λ (w : World). IsSound w) (sym same) c.requires.kept.sound)
-    (same_alike state c.restore.new.state setting (sym same)) (same_alike kept state setting (c.take_over.ensures.world setting))
+    (weights_taken c.restore.new.state state (c.restore.ensures.weights ∙ c.take_over.ensures.weights)
+    (c.restore.ensures.particles ∙ c.take_over.ensures.particles)
+    c.requires.kept.weights) (same_alike state c.restore.new.state setting (sym (c.restore.ensures.weights ∙ c.take_over.ensures.weights))
+    (sym same))
+    (same_alike kept state setting c.take_over.ensures.weights (c.take_over.ensures.world setting))
     (subst (λ (ls : List Link). HasLinks (length state.store.particles) ls c.restore.new.colours) (sym c.restore.ensures.same_links)
     (subst (λ (n : ℕ). HasLinks n kept.links.items c.restore.new.colours) many c.restore.ensures.links))
     (coe 0 1 (i. HaveSpace (many i) (links i) c.restore.new.scratch) c.restore.ensures.space)
@@ -58,15 +64,13 @@ returns-clause-kept g c =
     let ready = c.in_default.ensures.ready in
     record {
       sound = ready.sound;
+      weights = ready.weights;
       links = ready.links;
       space = ready.space;
       alike = alike_join c.take_over.new.state c.args.run.now.state c.take_steps.new.run.state
-          (same_alike c.take_over.new.state c.args.run.now.state c.args.setting.now (c.take_over.ensures.world c.args.setting.now))
-          (record {
-            particles = sym c.take_steps.ensures.stays.alike.particles;
-            limit = sym c.take_steps.ensures.stays.alike.limit;
-            links = sym c.take_steps.ensures.stays.alike.links;
-          });
+          (same_alike c.take_over.new.state c.args.run.now.state c.args.setting.now
+          c.take_over.ensures.weights (c.take_over.ensures.world c.args.setting.now))
+          (flipped c.take_steps.new.run.state c.args.run.now.state c.take_steps.ensures.stays.alike);
     }
 
 pub returns-in-Err-clause-not_fallen : goal.returns-in-Err-clause-not_fallen

@@ -1,7 +1,10 @@
-use Rattle.std.proofs.Common.{◌≡◌, ◌^◌, arith, pos, length}
+use Rattle.std.proofs.Common.{◌≡◌, ◌^◌, arith, pos, length, subst, sym, Option}
 use Rattle.std.proofs.lemmas.Int.{ints}
 use Rattle.pbd_world.specs.Ledger.{ledger_of}
 use Rattle.pbd_store.specs.Moving.{AreInside}
+use Rattle.pbd_pair.specs.declared.laid.Laid.{Laid}
+use Rattle.pbd_pair.specs.Bonds.{bond_of}
+use Rattle.pbd_pair.specs.Laid.{SuitIf}
 use Rattle.pbd_pair.specs.Projecting.{IsBatch}
 use Rattle.pbd_pair.proofs.Examples.{are_inside, weigh, batch_is, room_of_zero}
 use Rattle.pbd_store.proofs.Fixed.{same_length}
@@ -20,10 +23,13 @@ project-outcome-requires g c =
             coe 1 0 (i. IsBatch (limit i) (length ps) c.args.bonds c.args.batch.now)
                 (batch_is (pos (2 ^ 29)) (length ps) c.args.bonds c.args.batch.now c.requires.batch),
             (
-              coe 1 0 (i. AreInside (limit i) ps) (are_inside (pos (2 ^ 29)) ps (omega (arith, ints)) c.requires.placed),
+              subst (λ (o : Option Laid). SuitIf o (bond_of c.args.bonds) c.args.batch.now ps) (sym c.requires.plain) tt,
               (
-                weigh (pos (2 ^ 29)) ps (omega (arith, ints)) c.requires.placed,
-                room_of_zero (ledger_of c.zero-totals.result) c.zero-totals.ensures,
+                coe 1 0 (i. AreInside (limit i) ps) (are_inside (pos (2 ^ 29)) ps (omega (arith, ints)) c.requires.placed),
+                (
+                  weigh (pos (2 ^ 29)) ps (omega (arith, ints)) c.requires.placed,
+                  room_of_zero (ledger_of c.zero-totals.result) c.zero-totals.ensures,
+                ),
               ),
             ),
           ),

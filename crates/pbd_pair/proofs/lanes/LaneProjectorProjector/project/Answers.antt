@@ -1,11 +1,14 @@
-use Rattle.std.proofs.Common.{◌≡◌, ℕ, ◌-◌, ◌*◌, ◌/◌, ◌%◌, ◌^◌, rules, refl, ◌≤◌, min, length, List, ap, sym, ◌∙◌, arith, subst, ℤ}
+use Rattle.std.proofs.Common.{◌≡◌, ℕ, ◌-◌, ◌*◌, ◌/◌, ◌%◌, ◌^◌, rules, refl, ◌≤◌, min, length, List, ap, sym, ◌∙◌, arith, subst, ℤ, Option}
 use Rattle.std.proofs.lemmas.Bool.{eqb-false, eqb-true}
 use Rattle.std.proofs.lemmas.List.{nil_from_length}
 use Rattle.pbd_world.specs.Bonds.{projected}
 use Rattle.pbd_store.specs.Blocks.{blocks_of}
 use Rattle.pbd_pair.specs.Bonds.{bond_of, IsBound}
 use Rattle.pbd_store.specs.Moving.{motion_of, AreInside}
+use Rattle.pbd_pair.specs.declared.laid.Laid.{Laid}
+use Rattle.pbd_pair.specs.Laid.{SuitIf}
 use Rattle.pbd_pair.specs.Projecting.{IsBatch}
+use Rattle.pbd_pair.proofs.Laying.{can_split, suit_back, suit_front, suit_same}
 use Rattle.pbd_world.proofs.Rooms.{room_at}
 use Rattle.pbd_store.proofs.Fixed.{same_length}
 use Rattle.pbd_pair.proofs.OneByOne.{block_done, block_leaves}
@@ -16,6 +19,9 @@ pub steps_on-init : goal.steps_on-init
 steps_on-init g c = record {
   bound = subst (λ (z : ℤ). IsBound z) c.limit_of.ensures.value c.limit_of.ensures.bound;
   batch = c.requires.batch;
+  laid = subst (λ (o : Option Laid). SuitIf o (bond_of c.args.bonds) c.args.batch.now c.args.store.now.particles)
+      (sym c.columns-columns.ensures)
+      c.requires.columns;
   inside = c.requires.inside;
   weights = c.requires.weights;
   room = room_at _ (omega arith) c.requires.room;
@@ -70,6 +76,11 @@ steps_on-preserved g c =
       batch = subst (λ (l : ℤ). IsBatch l (length c.project.new.store.particles) c.args.bonds c.split_at.result.1.now) same_limit
           (rw (whole, back)
           (back_batch limit (length c.steps_on.store.particles) c.args.bonds rest k fits inv.batch));
+      laid = suit_same bond c.split_at.result.1.now c.steps_on.store.particles c.project.new.store.particles c.split_columns.result.1
+          (sym fixed)
+          (subst (λ (xs : List ℕ). SuitIf c.split_columns.result.1 bond xs c.steps_on.store.particles) (sym back)
+          (suit_back bond rest c.steps_on.store.particles k c.steps_on.columns c.split_columns.result.0 c.split_columns.result.1
+          c.split_columns.ensures inv.laid));
       inside = subst (λ (l : ℤ). AreInside l c.project.new.store.particles) same_limit sound.inside;
       weights = weigh_same c.steps_on.store.particles c.project.new.store.particles fixed inv.weights;
       room = room_at _ (omega (arith, c.split_at.ensures.back_len, c.split_at.ensures.front_len, inv.shorter)) (sound.room _ inv.room);
@@ -110,16 +121,22 @@ project-requires g c =
         c.requires.lanes_low,
         (
           c.requires.lanes_high,
-          record {
-            bound = inv.bound;
-            short = omega (arith, front);
-            some = omega (arith, front, ne, some_chunk g.row.L c.requires.lanes_low c.requires.lanes_high);
-            batch = rw c.split_at.ensures.front (front_batch c.steps_on.store.limit
-                (length c.steps_on.store.particles) c.args.bonds rest k fits inv.batch);
-            inside = inv.inside;
-            weights = inv.weights;
-            room = room_at (2 ^ 124) (search rules) inv.room;
-          },
+          (
+            record {
+              bound = inv.bound;
+              short = omega (arith, front);
+              some = omega (arith, front, ne, some_chunk g.row.L c.requires.lanes_low c.requires.lanes_high);
+              batch = rw c.split_at.ensures.front (front_batch c.steps_on.store.limit
+                  (length c.steps_on.store.particles) c.args.bonds rest k fits inv.batch);
+              inside = inv.inside;
+              weights = inv.weights;
+              room = room_at (2 ^ 124) (search rules) inv.room;
+            },
+            subst (λ (xs : List ℕ). SuitIf c.split_columns.result.0 (bond_of c.args.bonds) xs c.steps_on.store.particles)
+                (sym c.split_at.ensures.front)
+                (suit_front (bond_of c.args.bonds) rest c.steps_on.store.particles k c.steps_on.columns c.split_columns.result.0
+                c.split_columns.result.1 c.split_columns.ensures inv.laid),
+          ),
         ),
       ),
     )
@@ -161,3 +178,10 @@ returns-clause-room g c = λ n h. room_at _ (omega arith) (c.steps_on.invariant.
 
 pub returns-clause-cost : goal.returns-clause-cost
 returns-clause-cost g c = omega (arith, c.steps_on.invariant.cost)
+
+pub split_columns-requires : goal.split_columns-requires
+split_columns-requires g c =
+    let rest = c.steps_on.rest.now in
+    let size : c.min-size.result ≡ min (length rest) (128 - 128 % g.row.L) = c.min-size.ensures in
+    can_split (bond_of c.args.bonds) rest c.steps_on.store.particles c.min-size.result c.steps_on.columns
+    (omega arith) c.steps_on.invariant.laid

@@ -4,6 +4,7 @@ use Rattle.pbd_world.specs.Bonds.{projected}
 use Rattle.pbd_store.specs.Blocks.{blocks_of}
 use Rattle.pbd_store.specs.Moving.{motion_of, fixed_parts, AreInside, Weigh}
 use Rattle.pbd_pair.specs.Bonds.{bond_of, IsBound}
+use Rattle.pbd_pair.specs.Laid.{SuitIf}
 use Rattle.pbd_pair.specs.Projecting.{IsBatch}
 use Rattle.pbd_pair.proofs.lanes.LaneProjectorProjector.project.Given as goal
 
@@ -11,6 +12,7 @@ abbrev pub invariant-steps_on : goal.invariant-steps_on
 invariant-steps_on g l = record {
   bound : IsBound l.store.limit;
   batch : IsBatch l.store.limit (length l.store.particles) l.bonds l.rest;
+  laid : SuitIf l.columns (bond_of l.bonds) l.rest l.store.particles;
   inside : AreInside l.store.limit l.store.particles;
   weights : Weigh l.store.particles;
   room : HaveRoom (2 ^ 120 + (length l.initial.rest - length l.rest) * 2 ^ 32) (ledger_of l.totals);

@@ -1,4 +1,5 @@
-use Rattle.std.proofs.Common.{◌≡◌, ◌<◌, pos, ◌+◌, ◌*◌, ◌^◌, List, refl, ap, sym, ◌∙◌, add-one, arith, rules, subst, get_or, w32, FitsSigned}
+use Rattle.std.proofs.Common.{◌≡◌, ◌<◌, pos, ◌+◌, ◌*◌, ◌^◌, List, length, refl, ap, sym, ◌∙◌, add-one, arith, rules, subst, get_or, w32}
+use Rattle.std.proofs.Common.{FitsSigned}
 use Rattle.std.proofs.lemmas.Int.{to_z-of_z}
 use Rattle.pbd_num.specs.declared.Vec3.{Vec3}
 use Rattle.pbd_num.specs.declared.row.Row.{Row}
@@ -29,7 +30,7 @@ with_rows-pins-requires-clause-sum c = wider _ (c.loop-j.j * 2 ^ 17) (2 ^ 24) (o
 pub with_rows-pins-requires-clause-back : goal.with_rows-pins-requires-clause-back
 with_rows-pins-requires-clause-back c =
     let j = c.loop-j.j in
-    let w = get_or c.args.between.now.first_weight j (pos 0) in
+    let w = get_or c.args.found.now.laid.first_weight.now j (pos 0) in
     let f : FitsSigned w32 w = first_fits c.requires.sized j (omega arith) in
     let is = (simp to_z-of_z at c.kept-back.ensures) ∙ ap (λ (rows : List Row). kept_by w (row_in rows j)) c.loop-j.invariant.same in
     kept_short w (row_in c.args.self.now.moves j) is (c.requires.short j (omega arith))
@@ -37,7 +38,7 @@ with_rows-pins-requires-clause-back c =
 pub with_rows-pins-requires-clause-forth : goal.with_rows-pins-requires-clause-forth
 with_rows-pins-requires-clause-forth c =
     let j = c.loop-j.j in
-    let w = get_or c.args.between.now.second_weight j (pos 0) in
+    let w = get_or c.args.found.now.laid.second_weight.now j (pos 0) in
     let f : FitsSigned w32 w = second_fits c.requires.sized j (omega arith) in
     let is = (simp to_z-of_z at c.kept-forth.ensures) ∙ ap (λ (rows : List Row). kept_by w (row_in rows j)) c.loop-j.invariant.same in
     kept_short w (row_in c.args.self.now.moves j) is (c.requires.short j (omega arith))
@@ -46,12 +47,12 @@ pub loop-j-preserved : goal.loop-j-preserved
 loop-j-preserved c =
     let inv = c.loop-j.invariant in
     let j = c.loop-j.j in
-    let p : j < c.args.count = omega arith in
+    let p : j < length c.args.found.now.chunk.numbers.now = omega arith in
     let room : j < 128 = omega (arith, c.requires.few) in
-    let between = c.args.between.now in
+    let laid = c.args.found.now.laid in
     let moves = c.args.self.now.moves in
-    let w1 = get_or between.first_weight j (pos 0) in
-    let w2 = get_or between.second_weight j (pos 0) in
+    let w1 = get_or laid.first_weight.now j (pos 0) in
+    let w2 = get_or laid.second_weight.now j (pos 0) in
     let f1 : FitsSigned w32 w1 = first_fits c.requires.sized j p in
     let f2 : FitsSigned w32 w2 = second_fits c.requires.sized j p in
     let back = (simp to_z-of_z at c.kept-back.ensures) ∙ ap (λ (rows : List Row). kept_by w1 (row_in rows j)) inv.same in
@@ -65,7 +66,7 @@ loop-j-preserved c =
       sum = c.with_rows-pins.ensures ∙ ap (plus (vector_of c.loop-j.pins))
           (minus_turned (vector_of c.kept-forth.result) (vector_of c.kept-back.result))
           ∙ (λ i. plus (inv.sum i) (plus (opposite (vector_of (back i))) (vector_of (forth i))))
-          ∙ ap (moved_below (kept_moves between.first_weight between.second_weight moves)) (sym (add-one j));
+          ∙ ap (moved_below (kept_moves laid.first_weight.now laid.second_weight.now moves)) (sym (add-one j));
       size = subst (λ (v : Vec3). Within ((j + 1) * 2 ^ 17) v) (sym c.with_rows-pins.ensures)
           (wider _ (j * 2 ^ 17 + 2 ^ 17) ((j + 1) * 2 ^ 17)
           (omega arith) (both_within _ (j * 2 ^ 17) inv.size back_size forth_size));
@@ -82,13 +83,14 @@ returns-clause-masked c = record {
 pub returns-clause-sum : goal.returns-clause-sum
 returns-clause-sum c =
     let inv = c.loop-j.invariant in
-    let whole : c.loop-j.j ≡ c.args.count = omega arith in
-    c.vector.ensures ∙ inv.sum ∙ ap (moved_below (kept_moves c.args.between.now.first_weight c.args.between.now.second_weight
+    let whole : c.loop-j.j ≡ length c.args.found.now.chunk.numbers.now = omega arith in
+    c.vector.ensures ∙ inv.sum ∙ ap (moved_below (kept_moves c.args.found.now.laid.first_weight.now c.args.found.now.laid.second_weight.now
     c.args.self.now.moves)) whole
-    ∙ moved_same _ _ c.args.count (λ k p. λ i. plus (opposite (vector_of (sym (inv.back.below k (omega arith)) i)))
-    (vector_of (sym (inv.forth.below k
+    ∙ moved_same _ _ (length c.args.found.now.chunk.numbers.now)
+    (λ k p. λ i. plus (opposite (vector_of (sym (inv.back.below k (omega arith)) i))) (vector_of (sym (inv.forth.below k
     (omega arith)) i)))
 
 pub returns-clause-size : goal.returns-clause-size
-returns-clause-size c = subst (λ (v : Vec3). Within (c.args.count * 2 ^ 17) v) (sym c.vector.ensures) (wider _ (c.loop-j.j * 2 ^ 17)
-    (c.args.count * 2 ^ 17) (omega arith) c.loop-j.invariant.size)
+returns-clause-size c = subst (λ (v : Vec3). Within ((length c.args.found.now.chunk.numbers.now) * 2 ^ 17) v) (sym c.vector.ensures)
+    (wider _ (c.loop-j.j * 2 ^ 17)
+    ((length c.args.found.now.chunk.numbers.now) * 2 ^ 17) (omega arith) c.loop-j.invariant.size)

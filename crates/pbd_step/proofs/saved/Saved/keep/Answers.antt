@@ -3,7 +3,7 @@ use Rattle.pbd_world.specs.World.{World, IsSound, AreOfOneScene}
 use Rattle.pbd_step.specs.declared.state.Setting.{Setting}
 use Rattle.pbd_step.specs.States.{world_of}
 use Rattle.pbd_step.specs.Solving.{Solved}
-use Rattle.pbd_step.proofs.Keeping.{scene_alike, scene_world}
+use Rattle.pbd_step.proofs.Keeping.{scene_alike, scene_world, weights_taken}
 use Rattle.pbd_step.proofs.saved.Saved.keep.Goals as goal
 
 pub take_over-requires : goal.take_over-requires
@@ -12,8 +12,14 @@ take_over-requires g c =
     let other = c.solver.inside.run.state in
     let scene = subst (λ (v : World). AreOfOneScene v (world_of c.solver.inside.setting other)) (sym c.self.view_is)
     (subst (λ (v : World). AreOfOneScene c.args.self.now v)
-    (sym (ap (λ (s : Solved g.row.P.Denot). s.world) c.solver.view_is)) c.requires.one_scene) in
-    (omega arith, (c.requires.lanes_high, scene_alike c.self.inside.setting c.solver.inside.setting mine other scene))
+    (sym (ap (λ (s : Solved g.row.P.Denot). s.world) c.solver.view_is)) c.requires.one_scene) in (
+      omega arith,
+      (
+        c.requires.lanes_high,
+        scene_alike c.self.inside.setting c.solver.inside.setting mine other c.self.invariant.weights
+            c.solver.invariant.weights scene,
+      ),
+    )
 
 pub invariant_of-self : goal.invariant_of-self
 invariant_of-self g c =
@@ -24,7 +30,11 @@ invariant_of-self g c =
     (subst (λ (v : World). AreOfOneScene c.args.self.now v)
     (sym (ap (λ (s : Solved g.row.P.Denot). s.world) c.solver.view_is)) c.requires.one_scene) in
     let same = c.take_over.ensures.world setting ∙ scene_world c.self.inside.setting c.solver.inside.setting mine other scene in
-    subst (λ (w : World). IsSound w) (sym same) c.solver.invariant.sound
+    record {
+      sound = subst (λ (w : World). IsSound w) (sym same) c.solver.invariant.sound;
+      weights = weights_taken c.take_over.new.state other c.take_over.ensures.weights c.take_over.ensures.particles
+          c.solver.invariant.weights;
+    }
 
 pub returns-clause-world : goal.returns-clause-world
 returns-clause-world g c =
@@ -38,4 +48,4 @@ returns-clause-world g c =
     ∙ ap (λ (s : Solved g.row.P.Denot). s.world) c.solver.view_is
 
 pub returns-clause-sound : goal.returns-clause-sound
-returns-clause-sound g c = invariant_of-self g c
+returns-clause-sound g c = (invariant_of-self g c).sound

@@ -6,4 +6,4 @@ use Rattle.pbd_step.proofs.saved.Saved.links.Goals as goal
 
 pub returns-clause-size : goal.returns-clause-size
 returns-clause-size g c = subst (λ (ls : List Link). length ls ≤ 524288) (sym c.deref.ensures.value)
-    (formed_fit (world_of c.self.inside.setting c.self.inside.state) c.self.invariant.well_formed).links
+    (formed_fit (world_of c.self.inside.setting c.self.inside.state) c.self.invariant.sound.well_formed).links

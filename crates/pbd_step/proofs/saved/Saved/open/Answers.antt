@@ -11,8 +11,12 @@ pub invariant_of-result : goal.invariant_of-result
 invariant_of-result g c =
     let parts = c.parts-parts.result.now in
     let valid = subst (λ (p : Parts). IsTrue (is_valid p)) (sym c.parts-parts.ensures.parts) c.parts-parts.ensures.valid in
-    subst (λ (w : World). IsSound w) (sym (opened_world parts c.in-Ok.setting c.in-Ok.state c.in-Ok.ensures.setting c.in-Ok.ensures.state))
-    (opened-is_sound parts valid)
+    record {
+      sound = subst (λ (w : World). IsSound w) (sym (opened_world parts c.in-Ok.setting c.in-Ok.state c.in-Ok.ensures.setting
+          c.in-Ok.ensures.state))
+          (opened-is_sound parts valid);
+      weights = c.in-Ok.ensures.state.weights;
+    }
 
 pub returns-in-Ok-clause-world : goal.returns-in-Ok-clause-world
 returns-in-Ok-clause-world g c =
@@ -20,4 +24,4 @@ returns-in-Ok-clause-world g c =
     ∙ ap (λ (p : Parts). opened p) c.parts-parts.ensures.parts
 
 pub returns-in-Ok-clause-sound : goal.returns-in-Ok-clause-sound
-returns-in-Ok-clause-sound g c = invariant_of-result g c
+returns-in-Ok-clause-sound g c = (invariant_of-result g c).sound

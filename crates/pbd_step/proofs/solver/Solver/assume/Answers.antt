@@ -9,7 +9,7 @@ use Rattle.pbd_sound.proofs.Telling.{told_scene}
 use Rattle.pbd_step.specs.declared.state.Setting.{Setting}
 use Rattle.pbd_step.specs.States.{world_of, HasLinks, HaveSpace}
 use Rattle.pbd_step.specs.Solving.{Solved, AreAlike}
-use Rattle.pbd_step.proofs.Keeping.{formed_fit, scene_pairs, kept_moved}
+use Rattle.pbd_step.proofs.Keeping.{formed_fit, scene_pairs, kept_moved, weights_taken}
 use Rattle.pbd_step.proofs.Assuming.{Holds, held_world, judged, flipped, told_alike}
 use Rattle.pbd_step.proofs.solver.Solver.assume.Goals as goal
 
@@ -24,7 +24,10 @@ describe-requires g c =
           c.self.invariant.alike,
           (
             c.requires.particles ∙ sym (ap (λ (s : Solved g.row.P.Denot). length s.world.particles) seen),
-            (c.requires.links ∙ sym (ap (λ (s : Solved g.row.P.Denot). length s.world.links) seen), fit.links),
+            (
+              c.requires.links ∙ sym (ap (λ (s : Solved g.row.P.Denot). length s.world.links) seen),
+              (fit.links, c.self.invariant.weights),
+            ),
           ),
         ),
       ),
@@ -33,10 +36,11 @@ describe-requires g c =
 pub invariant_of-self : goal.invariant_of-self
 invariant_of-self g c = record {
   sound = c.self.invariant.sound;
+  weights = c.self.invariant.weights;
   links = c.self.invariant.links;
   space = c.self.invariant.space;
   alike = told_alike (g.D.Described.seen c.args.described.now) c.self.inside.setting c.describe.new.state c.self.inside.run.state
-      (c.describe.ensures.world c.self.inside.setting);
+      c.describe.ensures.weights c.self.invariant.weights (c.describe.ensures.world c.self.inside.setting);
 }
 
 pub returns-in-Err-clause-exact : goal.returns-in-Err-clause-exact
@@ -51,7 +55,7 @@ returns-in-Err-clause-exact g c =
 pub returns-in-Err-clause-cost : goal.returns-in-Err-clause-cost
 returns-in-Err-clause-cost g c =
     let alike = told_alike (g.D.Described.seen c.args.described.now) c.self.inside.setting c.describe.new.state c.self.inside.run.state
-    (c.describe.ensures.world c.self.inside.setting) in
+    c.describe.ensures.weights c.self.invariant.weights (c.describe.ensures.world c.self.inside.setting) in
     omega (
       arith,
       c.describe.ensures.cost,
@@ -73,7 +77,7 @@ restore-requires g c =
     let sound : IsSound (world_of (record c.self.inside.setting { gravity = c.gravity-gravity.result }) other) =
     subst (λ (v : World). IsSound v) (sym (held_world h)) (tested_sound d w c.self.invariant.sound (sym exact ∙ c.in_default.is)) in
     let alike : AreAlike mine other = flipped other mine (told_alike d c.self.inside.setting other mine
-    (c.describe.ensures.world c.self.inside.setting)) in
+    c.describe.ensures.weights c.self.invariant.weights (c.describe.ensures.world c.self.inside.setting)) in
     let fit = formed_fit (world_of (record c.self.inside.setting { gravity = c.gravity-gravity.result }) other) sound.well_formed in
     let setting : Setting = record c.self.inside.setting { gravity = c.gravity-gravity.result } in
     let scene : AreOfOneScene w (world_of setting other) = subst (λ (v : World). AreOfOneScene w v) (sym (held_world h)) (told_scene d w) in
@@ -107,14 +111,15 @@ invariant_of-self-2 g c =
     c.judge.ensures.value in
     let same = c.restore.ensures.world setting ∙ held_world h in
     let now : AreAlike other c.restore.new.state = record {
-      particles =
-          ap (λ (ps : List Particle). length ps) (sym c.restore.ensures.particles);
+      particles = ap (λ (ps : List Particle). length ps) (sym c.restore.ensures.particles);
       limit = sym c.restore.ensures.limit;
+      weights = ap (λ (ws : List ℕ). length ws) (sym c.restore.ensures.weights);
       links = ap (λ (ls : List Link). length ls) (sym c.restore.ensures.same_links);
     } in
     kept_moved setting other c.restore.new.state other c.restore.new.colours c.restore.new.scratch
     (subst (λ (v : World). IsSound v) (sym same) (tested_sound d w c.self.invariant.sound (sym exact ∙ c.in_default.is)))
-    now (record { particles = refl; limit = refl; links = refl })
+    (weights_taken c.restore.new.state other c.restore.ensures.weights c.restore.ensures.particles c.describe.ensures.weights)
+    now (record { particles = refl; limit = refl; weights = refl; links = refl })
     (subst (λ (ls : List Link). HasLinks (length other.store.particles) ls c.restore.new.colours)
     (sym c.restore.ensures.same_links) c.restore.ensures.links)
     c.restore.ensures.space
@@ -148,7 +153,7 @@ returns-clause-one_scene g c =
 pub returns-clause-cost : goal.returns-clause-cost
 returns-clause-cost g c =
     let alike = told_alike (g.D.Described.seen c.args.described.now) c.self.inside.setting c.describe.new.state c.self.inside.run.state
-    (c.describe.ensures.world c.self.inside.setting) in
+    c.describe.ensures.weights c.self.invariant.weights (c.describe.ensures.world c.self.inside.setting) in
     omega (
       arith,
       c.describe.ensures.cost,

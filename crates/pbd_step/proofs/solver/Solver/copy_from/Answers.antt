@@ -5,7 +5,7 @@ use Rattle.pbd_world.specs.World.{World, IsSound, AreOfOneScene}
 use Rattle.pbd_step.specs.declared.state.Setting.{Setting}
 use Rattle.pbd_step.specs.States.{world_of, HasLinks, HaveSpace}
 use Rattle.pbd_step.specs.Solving.{Solved, AreAlike}
-use Rattle.pbd_step.proofs.Keeping.{formed_fit, scene_alike, scene_pairs, scene_world, alike_join, kept_moved}
+use Rattle.pbd_step.proofs.Keeping.{formed_fit, scene_alike, scene_pairs, scene_world, alike_join, kept_moved, weights_taken}
 use Rattle.pbd_step.proofs.solver.Solver.copy_from.Goals as goal
 
 pub restore-requires : goal.restore-requires
@@ -16,7 +16,8 @@ restore-requires g c =
     (sym (ap (λ (s : Solved g.row.P.Denot). s.world) c.self.view_is))
     (subst (λ (v : World). AreOfOneScene c.args.self.now.world v)
     (sym (ap (λ (s : Solved g.row.P.Denot). s.world) c.other.view_is)) c.requires.one_scene) in
-    let alike : AreAlike mine other = scene_alike c.self.inside.setting c.other.inside.setting mine other scene in
+    let alike : AreAlike mine other = scene_alike c.self.inside.setting c.other.inside.setting mine other c.self.invariant.weights
+    c.other.invariant.weights scene in
     let fit = formed_fit (world_of c.other.inside.setting other) c.other.invariant.sound.well_formed in
     let pairs = c.self.invariant.links.pairs ∙ scene_pairs c.self.inside.setting c.other.inside.setting mine other scene in
     let room : length other.links.items ≤ c.self.inside.run.colours.room = omega (arith, c.self.invariant.links.room, alike.links) in
@@ -45,16 +46,18 @@ invariant_of-self g c =
     (subst (λ (v : World). AreOfOneScene c.args.self.now.world v)
     (sym (ap (λ (s : Solved g.row.P.Denot). s.world) c.other.view_is)) c.requires.one_scene) in
     let same = c.restore.ensures.world setting ∙ scene_world c.self.inside.setting c.other.inside.setting mine other scene in
-    let alike : AreAlike mine other = scene_alike c.self.inside.setting c.other.inside.setting mine other scene in
+    let alike : AreAlike mine other = scene_alike c.self.inside.setting c.other.inside.setting mine other c.self.invariant.weights
+    c.other.invariant.weights scene in
     let now : AreAlike other c.restore.new.state = record {
-      particles =
-          ap (λ (ps : List Particle). length ps) (sym c.restore.ensures.particles);
+      particles = ap (λ (ps : List Particle). length ps) (sym c.restore.ensures.particles);
       limit = sym c.restore.ensures.limit;
+      weights = ap (λ (ws : List ℕ). length ws) (sym c.restore.ensures.weights);
       links = ap (λ (ls : List Link). length ls) (sym c.restore.ensures.same_links);
     } in
     kept_moved setting other c.restore.new.state c.self.inside.kept c.restore.new.colours c.restore.new.scratch
     (subst (λ (w : World). IsSound w) (sym same) c.other.invariant.sound)
-    now (alike_join c.self.inside.kept mine other c.self.invariant.alike alike)
+    (weights_taken c.restore.new.state other c.restore.ensures.weights c.restore.ensures.particles c.other.invariant.weights) now
+    (alike_join c.self.inside.kept mine other c.self.invariant.alike alike)
     (subst (λ (ls : List Link). HasLinks (length other.store.particles) ls c.restore.new.colours)
     (sym c.restore.ensures.same_links) c.restore.ensures.links)
     c.restore.ensures.space

@@ -5,7 +5,7 @@ use Rattle.pbd_world.specs.World.{World, IsSound, AreOfOneScene}
 use Rattle.pbd_step.specs.declared.state.Setting.{Setting}
 use Rattle.pbd_step.specs.States.{world_of, HasLinks, HaveSpace}
 use Rattle.pbd_step.specs.Solving.{Solved, AreAlike}
-use Rattle.pbd_step.proofs.Keeping.{formed_fit, scene_alike, scene_pairs, scene_world, alike_join, kept_moved}
+use Rattle.pbd_step.proofs.Keeping.{formed_fit, scene_alike, scene_pairs, scene_world, alike_join, kept_moved, weights_taken}
 use Rattle.pbd_step.proofs.solver.Solver.go_back.Goals as goal
 
 pub restore-requires : goal.restore-requires
@@ -15,8 +15,9 @@ restore-requires g c =
     let scene = subst (λ (v : World). AreOfOneScene v (world_of c.saved.inside.setting other))
     (sym (ap (λ (s : Solved g.row.P.Denot). s.world) c.self.view_is))
     (subst (λ (v : World). AreOfOneScene c.args.self.now.world v) (sym c.saved.view_is) c.requires.one_scene) in
-    let alike : AreAlike mine other = scene_alike c.self.inside.setting c.saved.inside.setting mine other scene in
-    let fit = formed_fit (world_of c.saved.inside.setting other) c.saved.invariant.well_formed in
+    let alike : AreAlike mine other = scene_alike c.self.inside.setting c.saved.inside.setting mine other c.self.invariant.weights
+    c.saved.invariant.weights scene in
+    let fit = formed_fit (world_of c.saved.inside.setting other) c.saved.invariant.sound.well_formed in
     let pairs = c.self.invariant.links.pairs ∙ scene_pairs c.self.inside.setting c.saved.inside.setting mine other scene in
     let room : length other.links.items ≤ c.self.inside.run.colours.room = omega (arith, c.self.invariant.links.room, alike.links) in
     let space = subst (λ (m : ℕ). HaveSpace (length other.store.particles) m c.self.inside.run.scratch) alike.links
@@ -43,16 +44,18 @@ invariant_of-self g c =
     (sym (ap (λ (s : Solved g.row.P.Denot). s.world) c.self.view_is))
     (subst (λ (v : World). AreOfOneScene c.args.self.now.world v) (sym c.saved.view_is) c.requires.one_scene) in
     let same = c.restore.ensures.world setting ∙ scene_world c.self.inside.setting c.saved.inside.setting mine other scene in
-    let alike : AreAlike mine other = scene_alike c.self.inside.setting c.saved.inside.setting mine other scene in
+    let alike : AreAlike mine other = scene_alike c.self.inside.setting c.saved.inside.setting mine other c.self.invariant.weights
+    c.saved.invariant.weights scene in
     let now : AreAlike other c.restore.new.state = record {
-      particles =
-          ap (λ (ps : List Particle). length ps) (sym c.restore.ensures.particles);
+      particles = ap (λ (ps : List Particle). length ps) (sym c.restore.ensures.particles);
       limit = sym c.restore.ensures.limit;
+      weights = ap (λ (ws : List ℕ). length ws) (sym c.restore.ensures.weights);
       links = ap (λ (ls : List Link). length ls) (sym c.restore.ensures.same_links);
     } in
     kept_moved setting other c.restore.new.state c.self.inside.kept c.restore.new.colours c.restore.new.scratch
-    (subst (λ (w : World). IsSound w) (sym same) c.saved.invariant)
-    now (alike_join c.self.inside.kept mine other c.self.invariant.alike alike)
+    (subst (λ (w : World). IsSound w) (sym same) c.saved.invariant.sound)
+    (weights_taken c.restore.new.state other c.restore.ensures.weights c.restore.ensures.particles c.saved.invariant.weights) now
+    (alike_join c.self.inside.kept mine other c.self.invariant.alike alike)
     (subst (λ (ls : List Link). HasLinks (length other.store.particles) ls c.restore.new.colours)
     (sym c.restore.ensures.same_links) c.restore.ensures.links)
     c.restore.ensures.space

@@ -12,7 +12,7 @@ pub invariant_of-self : goal.invariant_of-self
 invariant_of-self g c =
     let w = world_of c.self.inside.setting c.self.inside.run.state in
     let done = commanded (commands.Pin c.args.i) c.pin.ensures.obeys c.self.invariant.sound (pin_means w c.args.i) in
-    kept_linked c.self.invariant done (ap (λ (s : State g.row.L). s.links.items) c.pin.ensures.same)
+    kept_linked c.self.invariant done c.pin.ensures.weights (ap (λ (s : State g.row.L). s.links.items) c.pin.ensures.same)
 
 pub returns-clause-commanded : goal.returns-clause-commanded
 returns-clause-commanded g c =

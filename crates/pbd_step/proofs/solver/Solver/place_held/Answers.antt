@@ -13,7 +13,7 @@ invariant_of-self g c =
     let w = world_of c.self.inside.setting c.self.inside.run.state in
     let done = commanded (commands.Move c.args.i c.args.to) c.place_held.ensures.obeys c.self.invariant.sound
     (place_means w c.args.i c.args.to) in
-    kept_linked c.self.invariant done (ap (λ (s : State g.row.L). s.links.items) c.place_held.ensures.same)
+    kept_linked c.self.invariant done c.place_held.ensures.weights (ap (λ (s : State g.row.L). s.links.items) c.place_held.ensures.same)
 
 pub returns-clause-commanded : goal.returns-clause-commanded
 returns-clause-commanded g c =

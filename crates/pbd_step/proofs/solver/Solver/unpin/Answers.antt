@@ -12,7 +12,7 @@ pub invariant_of-self : goal.invariant_of-self
 invariant_of-self g c =
     let w = world_of c.self.inside.setting c.self.inside.run.state in
     let done = commanded (commands.Unpin c.args.i) c.unpin.ensures.obeys c.self.invariant.sound (unpin_means w c.args.i) in
-    kept_linked c.self.invariant done (ap (λ (s : State g.row.L). s.links.items) c.unpin.ensures.same)
+    kept_linked c.self.invariant done c.unpin.ensures.weights (ap (λ (s : State g.row.L). s.links.items) c.unpin.ensures.same)
 
 pub returns-clause-commanded : goal.returns-clause-commanded
 returns-clause-commanded g c =

@@ -1,0 +1,99 @@
+use Rattle.std.proofs.Common.{ℕ, ◌∙◌, ◌<◌, List, length, ap, sym, arith, rules, subst}
+use Rattle.pbd_store.specs.Blocks.{blocks_of}
+use Rattle.pbd_store.specs.Pairs.{row_in, ArePairs, AreBetween, IsWay}
+use Rattle.pbd_num.specs.declared.row.Row.{Row}
+use Rattle.pbd_world.specs.Particles.{particle_at}
+use Rattle.pbd_store.specs.Gathering.{index_at}
+use Rattle.pbd_pair.specs.Laid.{Lists}
+use Rattle.pbd_pair.proofs.Chunks.{are_pairs, ends_kept, known_bonds, laid_factor, laid_first, laid_pairs, laid_rest, laid_second}
+use Rattle.pbd_pair.proofs.Chunks.{lie_between, numbers_laid, taken_first, taken_second, ways_of, weighed}
+use Rattle.pbd_pair.proofs.desk.Desk.project_numbers.Goals as goal
+
+pub take_ends-requires : goal.take_ends-requires
+take_ends-requires g c = known_bonds c.requires.can
+
+pub between-requires : goal.between-requires
+between-requires g c =
+    let pairs = are_pairs c.requires.can c.take_ends.new.self c.pairs-ends.result c.take_ends.ensures c.pairs-ends.ensures.first
+    c.pairs-ends.ensures.second in (
+      omega arith,
+      (
+        c.requires.some_lanes,
+        (
+          c.requires.lanes,
+          (
+            subst (λ (n : ℕ). ArePairs n (length c.args.store.now.particles) c.pairs-ends.result) (sym pairs.first_long) pairs,
+            c.requires.can.inside,
+          ),
+        ),
+      ),
+    )
+
+pub lay-requires-clause-known : goal.lay-requires-clause-known
+lay-requires-clause-known g c = known_bonds c.requires.can
+
+pub lay-requires-clause-sized : goal.lay-requires-clause-sized
+lay-requires-clause-sized g c =
+    let can = c.requires.can in
+    let e = c.take_ends.ensures in
+    let a = c.pairs-ends.ensures.first in
+    let b = c.pairs-ends.ensures.second in
+    let pairs = are_pairs can c.take_ends.new.self c.pairs-ends.result e a b in
+    let told = subst (λ (n : ℕ). AreBetween n c.args.store.now.particles c.pairs-ends.result.first.now c.pairs-ends.result.second.now
+    c.between.new.between) pairs.first_long c.between.ensures.value in
+    weighed can (taken_first can c.take_ends.new.self c.pairs-ends.result e a b)
+    (taken_second can c.take_ends.new.self c.pairs-ends.result e a b) told
+
+pub project-requires : goal.project-requires
+project-requires g c =
+    let can = c.requires.can in
+    let e = c.take_ends.ensures in
+    let a = c.pairs-ends.ensures.first in
+    let b = c.pairs-ends.ensures.second in
+    let ends = are_pairs can c.take_ends.new.self c.pairs-ends.result e a b in
+    let is_first = taken_first can c.take_ends.new.self c.pairs-ends.result e a b in
+    let is_second = taken_second can c.take_ends.new.self c.pairs-ends.result e a b in
+    let told = subst (λ (n : ℕ). AreBetween n c.args.store.now.particles c.pairs-ends.result.first.now c.pairs-ends.result.second.now
+    c.between.new.between) ends.first_long c.between.ensures.value in
+    let kept = ends_kept can e c.lay.ensures.ends.0 c.lay.ensures.ends.1 in
+    let laid = numbers_laid can c.rows-rows.result.laid kept c.lay.ensures.laid is_first is_second told c.lay.ensures.first_whole
+    c.lay.ensures.second_whole
+    c.rows-rows.ensures.laid in
+    let firsts = c.rows-rows.ensures.first ∙ sym (ap (λ (ls : Lists). ls.first) c.rows-rows.ensures.laid) in
+    let seconds = c.rows-rows.ensures.second ∙ sym (ap (λ (ls : Lists). ls.second) c.rows-rows.ensures.laid) in
+    let ways = subst (λ (rows : List Row). (j : ℕ) → j < length c.args.chunk.numbers.now → IsWay (row_in rows j)
+    (particle_at c.args.store.now.particles (index_at c.pairs-ends.result.first.now j)).at
+    (particle_at c.args.store.now.particles (index_at c.pairs-ends.result.second.now j)).at) (sym c.rows-rows.ensures.ways) told.ways in (
+      omega arith,
+      (
+        c.requires.some_lanes,
+        (
+          c.requires.lanes,
+          (
+            can,
+            record {
+              first = laid_first can laid c.rows-rows.result.pairs firsts seconds;
+              second = laid_second can laid c.rows-rows.result.pairs firsts seconds;
+              pairs = laid_pairs can laid c.rows-rows.result.pairs firsts seconds;
+              between = lie_between can laid c.rows-rows.result.pairs firsts seconds
+                  (ways_of can c.rows-rows.result.ways.now c.pairs-ends.result.first.now c.pairs-ends.result.second.now
+                  c.rows-rows.result.pairs.first.now c.rows-rows.result.pairs.second.now ways is_first is_second
+                  (laid_first can laid c.rows-rows.result.pairs firsts seconds)
+                  (laid_second can laid c.rows-rows.result.pairs firsts seconds));
+              rest_long = omega (arith, laid.exact, laid.laid.even.rest);
+              factor_long = laid.laid.even.factor ∙ laid.exact;
+              first_long = laid.laid.even.first_weight ∙ laid.exact;
+              second_long = laid.laid.even.second_weight ∙ laid.exact;
+              rest = laid_rest can laid;
+              factor = laid_factor can laid;
+            },
+          ),
+        ),
+      ),
+    )
+
+pub returns-clause-cost : goal.returns-clause-cost
+returns-clause-cost g c =
+    let pairs = are_pairs c.requires.can c.take_ends.new.self c.pairs-ends.result c.take_ends.ensures c.pairs-ends.ensures.first
+    c.pairs-ends.ensures.second in
+    omega (arith, c.between.ensures.cost, c.project.ensures.cost, ap (λ (n : ℕ). blocks_of n g.row.L) pairs.first_long)

@@ -1,0 +1,197 @@
+-- Bonds in columns.
+use Rattle.std.specs.Prelude.{◌≡◌, ℕ, ◌<◌, ◌≤◌, ◌^◌, ℤ, pos, neg_ℤ, ◌≤ℤ◌, ◌*ℤ◌, int_lt, int_le, ◌&&◌, ◌||◌, if◌then◌else◌, Bool, List}
+use Rattle.std.specs.Prelude.{length, slice_index_or, slice_set, take, drop, Option, Some, None}
+use Rattle.std.specs.Int.{int_min}
+use Rattle.pbd_world.specs.declared.parts.Particle.{Particle}
+use Rattle.pbd_world.specs.declared.bond.Bond.{Bond}
+use Rattle.pbd_world.specs.Particles.{particle_at, effective_weight}
+use Rattle.pbd_store.specs.Gathering.{index_at}
+use Rattle.pbd_pair.specs.declared.bonds.Bonds.{Bonds}
+use Rattle.pbd_pair.specs.declared.bonds.Bonds.TheVariants.{Links, Contacts, LaidLinks, LaidContacts}
+use Rattle.pbd_pair.specs.declared.laid.Laid.{Laid}
+use Rattle.pbd_pair.specs.declared.laid.LaidBond.{LaidBond}
+use Rattle.pbd_pair.specs.declared.laid.BondColumns.{BondColumns}
+use Rattle.pbd_pair.specs.Bonds.{bond_of, bond_count}
+
+-- number j of a column
+abbrev pub number_in : List ℤ → ℕ → ℤ
+number_in xs j = slice_index_or xs j (pos 0)
+
+-- a rest length of at most 2^31, and a stiffness in 0..=256
+pub record IsFirm (b : Bond) : Type 0 where
+  pub rest_low : pos 0 ≤ℤ b.rest
+  pub rest_high : b.rest ≤ℤ pos (2 ^ 31)
+  pub k_low : pos 0 ≤ℤ b.k
+  pub k_high : b.k ≤ℤ pos 256
+
+-- ---- one bond
+
+-- a rest length as short loops take it: at most 16,383
+abbrev pub short_rest : ℤ → ℤ
+short_rest rest = int_min rest (pos 16383)
+
+-- both ends are free
+abbrev pub are_free : ℤ → ℤ → Bool
+are_free first second = int_lt (pos 0) first && int_lt (pos 0) second
+
+-- two weights differ
+abbrev pub differ : ℤ → ℤ → Bool
+differ first second = int_lt first second || int_lt second first
+
+-- f / 512 is the share of a free end of a bond whose ends have these weights; -1 where its rest length is 16,384 or more, or where
+-- both ends are free and their weights differ
+unfoldable pub factor_of : Bond → ℤ → ℤ → ℤ
+factor_of b first second =
+    if int_le (pos 16384) b.rest || (are_free first second && differ first second) then neg_ℤ (pos 1)
+    else if are_free first second then b.k
+    else pos 2 *ℤ b.k
+
+-- a bond as short loops take it
+abbrev pub laid_bond : Bond → ℤ → ℤ → LaidBond
+laid_bond b first second = record {
+  first = b.a;
+  second = b.b;
+  rest = short_rest b.rest;
+  factor = factor_of b first second;
+  first_weight = first;
+  second_weight = second;
+}
+
+-- ---- many
+
+-- the columns
+pub record Lists : Type 0 where
+  pub first : List ℕ
+  pub second : List ℕ
+  pub rest : List ℤ
+  pub factor : List ℤ
+  pub first_weight : List ℤ
+  pub second_weight : List ℤ
+
+abbrev pub lists_of : Laid → Lists
+lists_of l = record {
+  first = l.first.now;
+  second = l.second.now;
+  rest = l.rest.now;
+  factor = l.factor.now;
+  first_weight = l.first_weight.now;
+  second_weight = l.second_weight.now;
+}
+
+abbrev pub lists_in : BondColumns → Lists
+lists_in c = record {
+  first = c.first.items;
+  second = c.second.items;
+  rest = c.rest.items;
+  factor = c.factor.items;
+  first_weight = c.first_weight.items;
+  second_weight = c.second_weight.items;
+}
+
+-- the columns are as long as the first
+pub record AreEven (ls : Lists) : Type 0 where
+  pub second : length ls.second ≡ length ls.first
+  pub rest : length ls.rest ≡ length ls.first
+  pub factor : length ls.factor ≡ length ls.first
+  pub first_weight : length ls.first_weight ≡ length ls.first
+  pub second_weight : length ls.second_weight ≡ length ls.first
+
+-- columns of n rows
+pub record HaveRows (n : ℕ) (c : BondColumns) : Type 0 where
+  pub even : AreEven (lists_in c)
+  pub rows : length c.first.items ≡ n
+
+-- the first n rows, and those after them
+abbrev pub front_of : ℕ → Lists → Lists
+front_of n ls = record {
+  first = take n ls.first;
+  second = take n ls.second;
+  rest = take n ls.rest;
+  factor = take n ls.factor;
+  first_weight = take n ls.first_weight;
+  second_weight = take n ls.second_weight;
+}
+
+abbrev pub back_of : ℕ → Lists → Lists
+back_of n ls = record {
+  first = drop n ls.first;
+  second = drop n ls.second;
+  rest = drop n ls.rest;
+  factor = drop n ls.factor;
+  first_weight = drop n ls.first_weight;
+  second_weight = drop n ls.second_weight;
+}
+
+-- row i is now this one
+abbrev pub with_row : ℕ → LaidBond → Lists → Lists
+with_row i l ls = record {
+  first = slice_set ls.first i l.first;
+  second = slice_set ls.second i l.second;
+  rest = slice_set ls.rest i l.rest;
+  factor = slice_set ls.factor i l.factor;
+  first_weight = slice_set ls.first_weight i l.first_weight;
+  second_weight = slice_set ls.second_weight i l.second_weight;
+}
+
+-- row j
+abbrev pub laid_at : Lists → ℕ → LaidBond
+laid_at ls j = record {
+  first = index_at ls.first j;
+  second = index_at ls.second j;
+  rest = number_in ls.rest j;
+  factor = number_in ls.factor j;
+  first_weight = number_in ls.first_weight j;
+  second_weight = number_in ls.second_weight j;
+}
+
+-- the rows are the laid bonds of some numbers, where the particles have these effective weights
+pub record AreLaid (bond : ℕ → Bond) (weight : ℕ → ℕ) (numbers : List ℕ) (ls : Lists) : Type 0 where
+  pub even : AreEven ls
+  pub long : length numbers ≤ length ls.first
+  pub each : (j : ℕ) → j < length numbers → laid_at ls j ≡ laid_bond (bond (slice_index_or numbers j 0))
+      (pos (weight (bond (slice_index_or numbers j 0)).a)) (pos (weight (bond (slice_index_or numbers j 0)).b))
+
+-- the bonds of some numbers can be laid: each is one of particles that have a weight
+pub record AreLayable (bonds : Bonds) (numbers weights : List ℕ) : Type 0 where
+  pub known : (j : ℕ) → j < length numbers → slice_index_or numbers j 0 < bond_count bonds
+  pub firm : (j : ℕ) → j < length numbers → IsFirm (bond_of bonds (slice_index_or numbers j 0))
+  pub first : (j : ℕ) → j < length numbers → (bond_of bonds (slice_index_or numbers j 0)).a < length weights
+  pub second : (j : ℕ) → j < length numbers → (bond_of bonds (slice_index_or numbers j 0)).b < length weights
+
+-- columns, where there are some, have n rows or more
+abbrev pub CanSplit : ℕ → Option Laid → Type 0
+CanSplit n None = Unit {0}
+CanSplit n (Some laid) = AreEven (lists_of laid) × (n ≤ length laid.first.now)
+
+-- the first n rows of columns, and those after them, where there are some
+abbrev pub AreSplit : ℕ → Option Laid → Option Laid → Option Laid → Type 0
+AreSplit n None front back = (front ≡ None) × (back ≡ None)
+AreSplit n (Some laid) None back = ⊥
+AreSplit n (Some laid) (Some front) None = ⊥
+AreSplit n (Some laid) (Some front) (Some back) = (lists_of front ≡ front_of n (lists_of laid)) × (lists_of back ≡ back_of n (lists_of laid))
+
+-- ---- what a projector may go by
+
+-- the columns that come with bonds
+abbrev pub laid_in : Bonds → Option Laid
+laid_in (Links links) = None
+laid_in (Contacts pairs thickness) = None
+laid_in (LaidLinks links laid) = Some laid
+laid_in (LaidContacts pairs thickness laid) = Some laid
+
+-- the weight of each of some particles, 0 where it is held
+abbrev pub weight_in : List Particle → ℕ → ℕ
+weight_in ps i = effective_weight (particle_at ps i)
+
+-- columns, where there are some, are those of the batch, row by row
+pub record AreOfBatch (bond : ℕ → Bond) (batch : List ℕ) (ps : List Particle) (l : Laid) : Type 0 where
+  pub exact : length l.first.now ≡ length batch
+  pub laid : AreLaid bond (weight_in ps) batch (lists_of l)
+
+abbrev pub SuitIf : Option Laid → (ℕ → Bond) → List ℕ → List Particle → Type 0
+SuitIf None bond batch ps = Unit {0}
+SuitIf (Some laid) bond batch ps = AreOfBatch bond batch ps laid
+
+-- the columns that come with the bonds, if there are some, are those of the batch
+abbrev pub Suit : Bonds → List ℕ → List Particle → Type 0
+Suit bonds batch ps = SuitIf (laid_in bonds) (bond_of bonds) batch ps
