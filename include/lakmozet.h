@@ -8,7 +8,8 @@
  *
  * What no call ever does: it starts no thread, uses no lock, no locale, no file, no clock and no floating point, and it writes
  * nowhere but through its arguments and into what the handle holds. After lak_open or lak_open_mesh no call on a handle takes
- * memory, until lak_close gives it back. lak_record and lak_replay, which have no handle, take memory and give it back before they return.
+ * memory, until lak_close gives it back. lak_mesh_triangles, lak_record and lak_replay, which have no handle, take memory and give
+ * it back before they return.
  *
  * What a caller has to take care of, and nothing checks:
  *   - A handle is all zero bytes ({0} in C, {} in C++) or what the last call left. It may be moved, and is never copied and
@@ -49,7 +50,7 @@ typedef struct {
 /* A place or a vector. Places are within 2^29 = 536,870,912 on each axis, 8,192 metres. */
 typedef struct {
     int64_t x, y, z;
-} lak_place;
+} lak_vec3;
 
 /* What is wrong with a scene, and where: see lak_open. What an answer doesn't tell is 0. */
 typedef struct {
@@ -68,7 +69,7 @@ typedef struct {
     uint8_t bends;                               /* 0 for no bend links: `bend` and `bend_tear` say nothing then */
 } lak_mesh_settings;
 
-/* What is wrong with a mesh, and where: see lak_open_mesh. What an answer doesn't tell is 0. */
+/* What is wrong with a mesh, and where: see lak_open_mesh and lak_mesh_triangles. What an answer doesn't tell is 0. */
 typedef struct {
     uint64_t number; /* of a vertex or a face, from 0 */
     uint8_t rule;    /* 1 to 6: see lak_mesh_rule_name */
@@ -166,7 +167,10 @@ enum {
     LAK_TOO_MANY_CONTACTS = 12 /* in a step there were more than 262,144 contacts */
 };
 
-/* What lak_open, lak_open_mesh, lak_record and lak_replay answer beside: the program's statuses, with 32 added to each. */
+/*
+ * What lak_open, lak_open_mesh, lak_mesh_triangles, lak_record and lak_replay answer beside: the program's statuses, with 32 added
+ * to each.
+ */
 enum {
     LAK_NO_LOG_ROOM = 35,    /* lak_record, lak_replay: there are more bytes than `room` */
     LAK_TOO_LONG = 36,       /* lak_record: the scene or the script is longer than 2^24 bytes; lak_replay: the log than 2^27 */
@@ -177,7 +181,7 @@ enum {
     LAK_MISMATCH = 42,       /* lak_replay: an entry differs, which is told */
     LAK_SOME_REFUSED = 43,   /* lak_record, lak_replay: all went well, but a command was refused */
     LAK_OUT_OF_MEMORY = 44,  /* there was no memory */
-    LAK_MESH_REFUSED = 46    /* lak_open_mesh: the mesh or its settings break a rule, which is told */
+    LAK_MESH_REFUSED = 46    /* lak_open_mesh, lak_mesh_triangles: the mesh or its settings break a rule, which is told */
 };
 
 /* ---- opening and closing */
@@ -214,7 +218,7 @@ int32_t lak_open(lak_cloth *cloth, const uint8_t *toml, size_t length, uint32_t 
  * the handle stays closed `mesh_fault` has zeros, and with LAK_MESH_REFUSED `fault` has. With LAK_DONE and LAK_IN_USE both are
  * left as they were. The scene is looked at before the mesh.
  */
-int32_t lak_open_mesh(lak_cloth *cloth, const uint8_t *toml, size_t length, const lak_place *vertices, size_t vertex_count,
+int32_t lak_open_mesh(lak_cloth *cloth, const uint8_t *toml, size_t length, const lak_vec3 *vertices, size_t vertex_count,
                       const uint32_t *sizes, size_t face_count, const uint32_t *corners, size_t corner_count,
                       lak_mesh_settings settings, uint32_t slots, lak_fault *fault, lak_mesh_fault *mesh_fault);
 
@@ -237,7 +241,7 @@ int32_t lak_pin(lak_cloth *cloth, uint64_t particle);
 int32_t lak_unpin(lak_cloth *cloth, uint64_t particle);
 
 /* Puts a held particle at a place. Answers LAK_NO_PARTICLE, LAK_OUT_OF_RANGE, LAK_NOT_HELD or LAK_TRACKED. */
-int32_t lak_move(lak_cloth *cloth, uint64_t particle, lak_place to);
+int32_t lak_move(lak_cloth *cloth, uint64_t particle, lak_vec3 to);
 
 /* Lets a link go. Answers LAK_NO_LINK or LAK_LINK_GONE. */
 int32_t lak_cut(lak_cloth *cloth, uint64_t link);
@@ -249,7 +253,7 @@ int32_t lak_cut(lak_cloth *cloth, uint64_t link);
 int32_t lak_cut_many(lak_cloth *cloth, const uint32_t *links, size_t length, size_t *refused);
 
 /* Sets gravity, within 2^29 on each axis. Answers LAK_OUT_OF_RANGE. */
-int32_t lak_gravity(lak_cloth *cloth, lak_place gravity);
+int32_t lak_gravity(lak_cloth *cloth, lak_vec3 gravity);
 
 /* ---- slots: LAK_DONE, LAK_CLOSED, or LAK_NO_SLOT, after which nothing is changed */
 
@@ -264,8 +268,11 @@ int32_t lak_restore(lak_cloth *cloth, uint32_t slot);
 int32_t lak_counts(lak_cloth *cloth, lak_counts_of_world *counts);
 int32_t lak_sums(lak_cloth *cloth, lak_sums_of_world *sums);
 
+/* How many contacts the last step found, as lak_counts tells it too. A world keeps how many, and not which. */
+int32_t lak_contacts(lak_cloth *cloth, uint64_t *contacts);
+
 /* Gravity, as it is now. */
-int32_t lak_gravity_now(lak_cloth *cloth, lak_place *gravity);
+int32_t lak_gravity_now(lak_cloth *cloth, lak_vec3 *gravity);
 
 /* Where momentum came from and went, as the program's command `ledger` tells it. */
 int32_t lak_ledger(lak_cloth *cloth, lak_ledger_of_world *ledger);
@@ -280,10 +287,10 @@ int32_t lak_link_between(lak_cloth *cloth, uint32_t a, uint32_t b, uint32_t *lin
  */
 
 /* The places of all particles, in the order of their numbers. */
-int32_t lak_places(lak_cloth *cloth, lak_place *into, size_t room, uint32_t *count);
+int32_t lak_places(lak_cloth *cloth, lak_vec3 *into, size_t room, uint32_t *count);
 
 /* Their places one step before: the difference is a particle's velocity. */
-int32_t lak_places_before(lak_cloth *cloth, lak_place *into, size_t room, uint32_t *count);
+int32_t lak_places_before(lak_cloth *cloth, lak_vec3 *into, size_t room, uint32_t *count);
 
 /* A 1 for each held particle and a 0 for each other, in the order of their numbers. */
 int32_t lak_held(lak_cloth *cloth, uint8_t *into, size_t room, uint32_t *count);
@@ -342,7 +349,7 @@ int32_t lak_checksum(lak_cloth *cloth, uint64_t *sum);
 /* The same of the world in a slot. Answers LAK_NO_SLOT too, and then leaves `sum`. */
 int32_t lak_checksum_slot(lak_cloth *cloth, uint32_t slot, uint64_t *sum);
 
-/* ---- to draw: triangles, as numbers of particles */
+/* ---- to draw: triangles, as numbers of particles or of vertices */
 
 /*
  * Writes the triangles of a cloth of the scene (a table `[[cloth]]`) whose first particle is number `first`: two for each cell of
@@ -362,6 +369,20 @@ static inline size_t lak_cloth_triangles(uint32_t first, uint32_t rows, uint32_t
         }
     return count;
 }
+
+/*
+ * Writes the triangles of a mesh, given as lak_open_mesh takes it, as numbers of its vertices from 0: face by face, each from its
+ * first corner to the sides that aren't at it, so that a face a b c d is a b c and a c d. A face of n corners is n - 2. It writes
+ * as many as there is room for, in `count` how many there are, and leaves what stands behind them. Vertex v is the particle v
+ * places behind the scene's own. They don't follow links that are cut or torn.
+ *
+ * LAK_DONE, LAK_NO_ROOM: they are written, or as many as fit; `mesh_fault` is left as it was. LAK_MESH_REFUSED: `mesh_fault` has
+ * the rule 1, 2 or 3 of lak_open_mesh, the first that is broken in its order, and its vertex or face. LAK_OUT_OF_MEMORY:
+ * `mesh_fault` has zeros. With these two nothing else is written.
+ */
+int32_t lak_mesh_triangles(const lak_vec3 *vertices, size_t vertex_count, const uint32_t *sizes, size_t face_count,
+                           const uint32_t *corners, size_t corner_count, uint32_t (*into)[3], size_t room, size_t *count,
+                           lak_mesh_fault *mesh_fault);
 
 /* ---- whole runs, from bytes to bytes */
 

@@ -43,7 +43,7 @@ static inline size_t lak_line_number(char *line, size_t length, bool minus, uint
 }
 
 /* The line of a word, of a count where there is one, and of a vector where there is one. */
-static inline size_t lak_line_of(char *into, size_t room, const char *word, const uint64_t *count, const lak_place *vector)
+static inline size_t lak_line_of(char *into, size_t room, const char *word, const uint64_t *count, const lak_vec3 *vector)
 {
     const uint64_t most = 999999999999999999u;
     char line[LAK_LINE_ROOM];
@@ -89,7 +89,7 @@ static inline size_t lak_line_unpin(char *into, size_t room, uint64_t particle)
 }
 
 /* The line of lak_move. */
-static inline size_t lak_line_move(char *into, size_t room, uint64_t particle, lak_place to)
+static inline size_t lak_line_move(char *into, size_t room, uint64_t particle, lak_vec3 to)
 {
     return lak_line_of(into, room, "move", &particle, &to);
 }
@@ -101,7 +101,7 @@ static inline size_t lak_line_cut(char *into, size_t room, uint64_t link)
 }
 
 /* The line of lak_gravity. */
-static inline size_t lak_line_gravity(char *into, size_t room, lak_place gravity)
+static inline size_t lak_line_gravity(char *into, size_t room, lak_vec3 gravity)
 {
     return lak_line_of(into, room, "gravity", NULL, &gravity);
 }

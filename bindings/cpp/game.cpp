@@ -155,6 +155,40 @@ static void refuse()
     must(rule == "WrongType" && table == "particle" && fault.position == 0 && key == "at", "the fault of the scene");
 }
 
+/* Sees that a mesh in memory is cloth, with its links and its triangles, and that one with a bad face is refused. */
+static void look_at_meshes()
+{
+    constexpr std::array<Place, 5> vertices = {{{0, 0, 0}, {6554, 0, 0}, {6554, 6554, 0}, {0, 6554, 0}, {3277, 9831, 0}}};
+    constexpr std::array<std::uint32_t, 2> sizes = {4, 3};
+    std::array<std::uint32_t, 7> corners = {0, 1, 2, 3, 3, 2, 4};
+    const lakmozet::Mesh square{vertices, sizes, corners};
+    const lakmozet::MeshSettings settings{0, 0, 0, 1, 256, 256, 40, 1};
+    lakmozet::Fault fault;
+    lakmozet::MeshFault mesh_fault;
+    Cloth cloth;
+    must(cloth.open_mesh("thickness = 7000\n", square, settings, 0, fault, mesh_fault) == Outcome::Done, "open_mesh");
+    std::array<lakmozet::Link, 10> links;
+    must(cloth.links(links).answer, "links");
+    must(links[5].kind == 0 && links[6].kind == 1 && links[8].kind == 2 && links[9].stiffness == 40, "the links of a mesh");
+    lakmozet::Counts counts;
+    std::uint64_t contacts = 0;
+    must(cloth.step(), "step");
+    must(cloth.counts(counts), "counts");
+    must(cloth.contacts(contacts), "contacts");
+    must(counts.particles == 5 && contacts == counts.contacts, "the contacts are counted");
+    std::array<lakmozet::Triangle, 4> triangles;
+    const auto cut = lakmozet::mesh_triangles(square, triangles, mesh_fault);
+    must(cut.outcome == Outcome::Done && cut.count == 3 && triangles[2] == lakmozet::Triangle{3, 2, 4}, "the triangles of a mesh");
+    must(lakmozet::mesh_triangles(square, std::span{triangles}.first(2), mesh_fault).outcome == Outcome::NoRoom, "room for two");
+    must(lakmozet::cloth_triangles(4, 2, 3, triangles) == 4, "the triangles of a cloth");
+    must(triangles[3] == lakmozet::Triangle{6, 8, 9}, "a triangle of a cloth");
+    corners[6] = 2;
+    cloth.close();
+    must(cloth.open_mesh("", square, settings, 0, fault, mesh_fault) == Outcome::MeshRefused, "a face that has a vertex twice");
+    must(lakmozet::mesh_triangles(square, triangles, mesh_fault).outcome == Outcome::MeshRefused, "no triangles of such a face");
+    must(std::string_view{lak_mesh_rule_name(mesh_fault.rule)} == "BadFace" && mesh_fault.number == 1, "the fault of the mesh");
+}
+
 /* Records the session, and replays its log: the text is what was printed. */
 static void replay(const Text &text, const std::string &printed)
 {
@@ -386,6 +420,7 @@ int main()
     std::fputs(printed.c_str(), stdout);
     replay(text, printed);
     refuse();
+    look_at_meshes();
     /* rollback: two players, a machine that joins them, and one that knows all in time */
     const Inputs inputs = drawn_inputs();
     std::array<Machine, PLAYERS> players = {Machine{std::move(dropped), inputs}, Machine{drop(text.scene), inputs}};

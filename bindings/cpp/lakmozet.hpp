@@ -11,6 +11,7 @@
 
 #include "lakmozet.h"
 
+#include <array>
 #include <cstddef>
 #include <cstdint>
 #include <optional>
@@ -21,10 +22,12 @@
 
 namespace lakmozet {
 
-using Place = lak_place;
+using Place = lak_vec3;
 using Hash = lak_hash;
 using Version = lak_version_of_library;
 using Fault = lak_fault;
+using MeshSettings = lak_mesh_settings;
+using MeshFault = lak_mesh_fault;
 using Left = lak_left;
 using Sums = lak_sums_of_world;
 using Counts = lak_counts_of_world;
@@ -53,7 +56,7 @@ enum class Answer : std::int32_t {
     NoState = LAK_NO_STATE
 };
 
-/* What opening, recording and replaying answer. */
+/* What opening, recording, replaying and cutting a mesh into triangles answer. */
 enum class Outcome : std::int32_t {
     Done = LAK_DONE,
     NoLogRoom = LAK_NO_LOG_ROOM,
@@ -65,8 +68,10 @@ enum class Outcome : std::int32_t {
     Mismatch = LAK_MISMATCH,
     SomeRefused = LAK_SOME_REFUSED,
     OutOfMemory = LAK_OUT_OF_MEMORY,
+    MeshRefused = LAK_MESH_REFUSED,
     InUse = LAK_IN_USE,
-    NoSlot = LAK_NO_SLOT
+    NoSlot = LAK_NO_SLOT,
+    NoRoom = LAK_NO_ROOM
 };
 
 /* An answer, and how many there are of a list. */
@@ -87,7 +92,16 @@ struct Sized {
     std::size_t size;
 };
 
-/* An outcome, and how many bytes were written. */
+/* A mesh in memory: its vertices, how many corners each face has, and those of all faces, by number of a vertex from 0. */
+struct Mesh {
+    std::span<const Place> vertices;
+    std::span<const std::uint32_t> sizes, corners;
+};
+
+/* Three particles, or vertices of a mesh. */
+using Triangle = std::array<std::uint32_t, 3>;
+
+/* An outcome, and how many bytes were written, or how many triangles there are. */
 struct Written {
     Outcome outcome;
     std::size_t count;
@@ -100,6 +114,12 @@ template <class T> T *start(std::span<T> it) noexcept
 {
     static std::remove_const_t<T> nothing{};
     return it.empty() ? &nothing : it.data();
+}
+
+/* (an array begins with its numbers) */
+inline std::uint32_t (*start(std::span<Triangle> it) noexcept)[3]
+{
+    return reinterpret_cast<std::uint32_t (*)[3]>(start<Triangle>(it));
 }
 
 inline const std::uint8_t *start(std::string_view text) noexcept
@@ -139,6 +159,16 @@ public:
             lak_scene_name(&handle, &name);
         return outcome;
     }
+    [[nodiscard]] Outcome open_mesh(std::string_view toml, const Mesh &mesh, MeshSettings settings, std::uint32_t slots, Fault &fault,
+                                    MeshFault &mesh_fault) noexcept
+    {
+        const Outcome outcome{lak_open_mesh(&handle, detail::start(toml), toml.size(), detail::start(mesh.vertices),
+                                            mesh.vertices.size(), detail::start(mesh.sizes), mesh.sizes.size(),
+                                            detail::start(mesh.corners), mesh.corners.size(), settings, slots, &fault, &mesh_fault)};
+        if (outcome == Outcome::Done)
+            lak_scene_name(&handle, &name);
+        return outcome;
+    }
     void close() noexcept { lak_close(&handle); }
 
     /* ---- commands */
@@ -170,6 +200,7 @@ public:
 
     [[nodiscard]] Answer counts(Counts &into) const noexcept { return Answer{lak_counts(&handle, &into)}; }
     [[nodiscard]] Answer sums(Sums &into) const noexcept { return Answer{lak_sums(&handle, &into)}; }
+    [[nodiscard]] Answer contacts(std::uint64_t &into) const noexcept { return Answer{lak_contacts(&handle, &into)}; }
     [[nodiscard]] Answer gravity_now(Place &into) const noexcept { return Answer{lak_gravity_now(&handle, &into)}; }
     [[nodiscard]] Answer ledger(Ledger &into) const noexcept { return Answer{lak_ledger(&handle, &into)}; }
     /* (nothing where no link joins the two, and where the cloth is closed) */
@@ -236,6 +267,23 @@ private:
     mutable lak_cloth handle{};
     Hash name{};
 };
+
+/* ---- to draw: a span is filled from its start, and the count says how many there are */
+
+/* Of a cloth of the scene whose first particle has that number. */
+inline std::size_t cloth_triangles(std::uint32_t first, std::uint32_t rows, std::uint32_t columns, std::span<Triangle> into) noexcept
+{
+    return lak_cloth_triangles(first, rows, columns, detail::start(into), into.size());
+}
+
+[[nodiscard]] inline Written mesh_triangles(const Mesh &mesh, std::span<Triangle> into, MeshFault &mesh_fault) noexcept
+{
+    std::size_t count = 0;
+    const Outcome outcome{lak_mesh_triangles(detail::start(mesh.vertices), mesh.vertices.size(), detail::start(mesh.sizes),
+                                             mesh.sizes.size(), detail::start(mesh.corners), mesh.corners.size(),
+                                             detail::start(into), into.size(), &count, &mesh_fault)};
+    return {outcome, count};
+}
 
 /* ---- whole runs, from bytes to bytes */
 

@@ -242,6 +242,49 @@ static class Game
         }
     }
 
+    /// <summary>Sees that a mesh in memory is cloth, with its links and its triangles, and that one with a bad face is refused.</summary>
+    private static void LookAtMeshes()
+    {
+        var square = new Mesh
+        {
+            Vertices = new[]
+            {
+                new Place(0, 0, 0), new Place(6554, 0, 0), new Place(6554, 6554, 0), new Place(0, 6554, 0), new Place(3277, 9831, 0)
+            },
+            Sizes = new uint[] { 4, 3 },
+            Corners = new uint[] { 0, 1, 2, 3, 3, 2, 4 }
+        };
+        var settings = new MeshSettings { Weight = 1, Stretch = 256, Shear = 256, Bend = 40, Bends = 1 };
+        using (var cloth = new Cloth())
+        {
+            var opened = cloth.OpenMesh(Encoding.UTF8.GetBytes("thickness = 7000\n"), square, settings, 0, out _, out _);
+            Must(opened == Outcome.Done, "OpenMesh");
+            Must(PlacesOf(cloth).SequenceEqual(square.Vertices), "the vertices are particles");
+            var links = new Link[10];
+            Must(cloth.Links(links, out _), "Links");
+            Must(links.Select(it => it.Kind).SequenceEqual(new byte[] { 0, 0, 0, 0, 0, 0, 1, 1, 2, 2 }), "the links of a mesh");
+            Must(links[9].Stiffness == 40, "how stiff a bend link is");
+            Must(cloth.Step(), "Step");
+            Must(cloth.Counts(out var counts), "Counts");
+            Must(cloth.Contacts(out var contacts), "Contacts");
+            Must(contacts == counts.Contacts, "the contacts are counted");
+        }
+        var triangles = new Triangle[4];
+        Must(Triangle.OfMesh(square, triangles, out var found, out _) == Outcome.Done && found == 3, "the triangles of a mesh");
+        Must(triangles[2].A == 3 && triangles[2].B == 2 && triangles[2].C == 4, "a triangle of a mesh");
+        Must(Triangle.OfMesh(square, triangles.AsSpan(0, 2), out found, out _) == Outcome.NoRoom && found == 3, "room for two");
+        Must(Triangle.OfCloth(4, 2, 3, triangles) == 4, "the triangles of a cloth");
+        Must(triangles[3].A == 6 && triangles[3].B == 8 && triangles[3].C == 9, "a triangle of a cloth");
+        square.Corners[6] = 2;
+        using (var cloth = new Cloth())
+        {
+            var outcome = cloth.OpenMesh(new byte[0], square, settings, 0, out _, out var fault);
+            Must(outcome == Outcome.MeshRefused && fault.Rule == MeshRule.BadFace && fault.Number == 1, "a face that has a vertex twice");
+            outcome = Triangle.OfMesh(square, triangles, out _, out fault);
+            Must(outcome == Outcome.MeshRefused && fault.Rule == MeshRule.BadFace && fault.Number == 1, "no triangles of such a face");
+        }
+    }
+
     /// <summary>Records the session, and replays its log: the text is what was printed.</summary>
     private static void Replay(byte[] scene, byte[] script, string printed)
     {
@@ -369,6 +412,7 @@ static class Game
             Console.Write(printed);
             Replay(scene, script, printed);
             Refuse();
+            LookAtMeshes();
             foreach (var machine in new[] { first, second, onTime })
                 machine.Begin();
             PlayLate(new[] { first, second }, late);

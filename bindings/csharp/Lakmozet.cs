@@ -32,7 +32,7 @@ namespace Lakmozet
         NoState = 68
     }
 
-    /// <summary>What opening, recording and replaying answer.</summary>
+    /// <summary>What opening, recording, replaying and cutting a mesh into triangles answer.</summary>
     public enum Outcome
     {
         Done = 0,
@@ -45,14 +45,22 @@ namespace Lakmozet
         Mismatch = 42,
         SomeRefused = 43,
         OutOfMemory = 44,
+        MeshRefused = 46,
         InUse = 65,
-        NoSlot = 66
+        NoSlot = 66,
+        NoRoom = 67
     }
 
     /// <summary>The rules that a scene may break.</summary>
     public enum Rule : byte
     {
         UnknownKey = 2, MissingKey, WrongType, OutOfRange, TooMany, BadIndex, SelfLink, DoubleLink, TooManyAtParticle, BadTrack
+    }
+
+    /// <summary>The rules that a mesh may break.</summary>
+    public enum MeshRule : byte
+    {
+        OutOfRange = 1, BadFace, BadCount, BadSettings, TooMany, TooManyAtParticle
     }
 
     /// <summary>The tables of a scene.</summary>
@@ -113,6 +121,72 @@ namespace Lakmozet
         public Rule Rule;
         public Table Table;
         public Key Key;
+    }
+
+    /// <summary>A mesh in memory: its vertices, how many corners each face has, and those of all faces, by number from 0.</summary>
+    public struct Mesh
+    {
+        public Place[] Vertices;
+        public uint[] Sizes, Corners;
+    }
+
+    /// <summary>How a mesh is made cloth: without bend links where Bends is 0.</summary>
+    [StructLayout(LayoutKind.Sequential)]
+    public struct MeshSettings
+    {
+        public long StretchTear, ShearTear, BendTear;
+        public ushort Weight, Stretch, Shear, Bend;
+        public byte Bends;
+    }
+
+    /// <summary>The first rule that a mesh or its settings break, and at which vertex or face, from 0.</summary>
+    [StructLayout(LayoutKind.Sequential)]
+    public struct MeshFault
+    {
+        public ulong Number;
+        public MeshRule Rule;
+    }
+
+    /// <summary>Three particles, or vertices of a mesh.</summary>
+    [StructLayout(LayoutKind.Sequential)]
+    public struct Triangle
+    {
+        public uint A, B, C;
+
+        /// <summary>Of a cloth of the scene whose first particle has that number: fills the span from its start, and says how many
+        /// there are.</summary>
+        public static int OfCloth(uint first, uint rows, uint columns, Span<Triangle> into)
+        {
+            var count = 0;
+            for (uint row = 0; row + 1 < rows; row++)
+            {
+                for (uint column = 0; column + 1 < columns; column++)
+                {
+                    uint here = first + row * columns + column, below = here + columns;
+                    if (count < into.Length)
+                        into[count] = new Triangle { A = here, B = below, C = here + 1 };
+                    if (count + 1 < into.Length)
+                        into[count + 1] = new Triangle { A = here + 1, B = below, C = below + 1 };
+                    count += 2;
+                }
+            }
+            return count;
+        }
+
+        /// <summary>Of a mesh, by number of a vertex from 0: fills the span from its start, and says how many there are.</summary>
+        public static unsafe Outcome OfMesh(Mesh mesh, Span<Triangle> into, out int count, out MeshFault fault)
+        {
+            fixed (Place* vertices = &Native.Start<Place>(mesh.Vertices))
+            fixed (uint* sizes = &Native.Start<uint>(mesh.Sizes), corners = &Native.Start<uint>(mesh.Corners))
+            fixed (Triangle* at = &Native.Start<Triangle>(into))
+            {
+                var outcome = Native.lak_mesh_triangles(vertices, Native.Length<Place>(mesh.Vertices), sizes,
+                    Native.Length<uint>(mesh.Sizes), corners, Native.Length<uint>(mesh.Corners), at, Native.Length<Triangle>(into),
+                    out var found, out fault);
+                count = (int)(uint)found;
+                return outcome;
+            }
+        }
     }
 
     /// <summary>Where a step was refused.</summary>
@@ -284,6 +358,9 @@ namespace Lakmozet
         [DllImport(Library)] internal static extern void lak_version(out LibraryVersion version);
         [DllImport(Library)] internal static extern Outcome lak_open(ref Handle cloth, byte* toml, UIntPtr length, uint slots,
             out Fault fault);
+        [DllImport(Library)] internal static extern Outcome lak_open_mesh(ref Handle cloth, byte* toml, UIntPtr length, Place* vertices,
+            UIntPtr vertexCount, uint* sizes, UIntPtr faceCount, uint* corners, UIntPtr cornerCount, MeshSettings settings, uint slots,
+            out Fault fault, out MeshFault meshFault);
         [DllImport(Library)] internal static extern void lak_close(ref Handle cloth);
         [DllImport(Library)] internal static extern Answer lak_step(ref Handle cloth, ulong n, out Left left);
         [DllImport(Library)] internal static extern Answer lak_pin(ref Handle cloth, ulong particle);
@@ -297,6 +374,7 @@ namespace Lakmozet
         [DllImport(Library)] internal static extern Answer lak_restore(ref Handle cloth, uint slot);
         [DllImport(Library)] internal static extern Answer lak_counts(ref Handle cloth, out Counts counts);
         [DllImport(Library)] internal static extern Answer lak_sums(ref Handle cloth, out Sums sums);
+        [DllImport(Library)] internal static extern Answer lak_contacts(ref Handle cloth, out ulong contacts);
         [DllImport(Library)] internal static extern Answer lak_gravity_now(ref Handle cloth, out Place gravity);
         [DllImport(Library)] internal static extern Answer lak_ledger(ref Handle cloth, out Ledger ledger);
         [DllImport(Library)] internal static extern Answer lak_link_between(ref Handle cloth, uint a, uint b, out uint link);
@@ -318,6 +396,8 @@ namespace Lakmozet
         [DllImport(Library)] internal static extern Answer lak_digest_slot(ref Handle cloth, uint slot, Hash name, out Hash digest);
         [DllImport(Library)] internal static extern Answer lak_checksum(ref Handle cloth, out ulong sum);
         [DllImport(Library)] internal static extern Answer lak_checksum_slot(ref Handle cloth, uint slot, out ulong sum);
+        [DllImport(Library)] internal static extern Outcome lak_mesh_triangles(Place* vertices, UIntPtr vertexCount, uint* sizes,
+            UIntPtr faceCount, uint* corners, UIntPtr cornerCount, Triangle* into, UIntPtr room, out UIntPtr count, out MeshFault fault);
         [DllImport(Library)] internal static extern Outcome lak_record(byte* scene, UIntPtr sceneLength, byte* script, UIntPtr scriptLength,
             byte* output, UIntPtr room, out UIntPtr written);
         [DllImport(Library)] internal static extern Outcome lak_replay(byte* log, UIntPtr length, byte* output, UIntPtr room,
@@ -349,6 +429,23 @@ namespace Lakmozet
             fixed (byte* at = &Native.Start(toml))
             {
                 var outcome = Native.lak_open(ref handle, at, Native.Length(toml), slots, out fault);
+                if (outcome == Outcome.Done)
+                    Native.lak_scene_name(ref handle, out name);
+                return outcome;
+            }
+        }
+
+        /// <summary>The same with a mesh behind the scene.</summary>
+        public Outcome OpenMesh(ReadOnlySpan<byte> toml, Mesh mesh, MeshSettings settings, uint slots, out Fault fault,
+            out MeshFault meshFault)
+        {
+            fixed (byte* at = &Native.Start(toml))
+            fixed (Place* vertices = &Native.Start<Place>(mesh.Vertices))
+            fixed (uint* sizes = &Native.Start<uint>(mesh.Sizes), corners = &Native.Start<uint>(mesh.Corners))
+            {
+                var outcome = Native.lak_open_mesh(ref handle, at, Native.Length(toml), vertices, Native.Length<Place>(mesh.Vertices),
+                    sizes, Native.Length<uint>(mesh.Sizes), corners, Native.Length<uint>(mesh.Corners), settings, slots, out fault,
+                    out meshFault);
                 if (outcome == Outcome.Done)
                     Native.lak_scene_name(ref handle, out name);
                 return outcome;
@@ -393,6 +490,7 @@ namespace Lakmozet
 
         public Answer Counts(out Counts counts) { return Native.lak_counts(ref handle, out counts); }
         public Answer Sums(out Sums sums) { return Native.lak_sums(ref handle, out sums); }
+        public Answer Contacts(out ulong contacts) { return Native.lak_contacts(ref handle, out contacts); }
         public Answer GravityNow(out Place gravity) { return Native.lak_gravity_now(ref handle, out gravity); }
         public Answer Ledger(out Ledger ledger) { return Native.lak_ledger(ref handle, out ledger); }
 

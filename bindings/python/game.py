@@ -4,7 +4,7 @@ from __future__ import annotations
 
 import hashlib
 import sys
-from typing import NamedTuple
+from typing import Callable, NamedTuple
 
 import lakmozet
 
@@ -60,13 +60,32 @@ def drop(library: lakmozet.Library, scene: bytes) -> tuple[lakmozet.Cloth, str]:
     return cloth, printed
 
 
-def refuse(library: lakmozet.Library, scene: bytes, outcome: lakmozet.Outcome, detail: lakmozet.Fault | int) -> None:
-    """Sees that a scene is refused, and where."""
+def refuse(outcome: lakmozet.Outcome, detail: lakmozet.Fault | lakmozet.MeshFault | int, call: Callable[..., object],
+           *given: object) -> None:
+    """Sees that a scene or a mesh is refused, and where."""
     try:
-        library.open(scene)
-        must(False, "the scene is refused")
+        call(*given)
+        must(False, "it is refused")
     except lakmozet.Failed as failed:
-        must(failed.outcome == outcome and failed.detail == detail, "what is wrong with a scene")
+        must(failed.outcome == outcome and failed.detail == detail, "what is wrong with a scene or a mesh")
+
+
+def look_at_meshes(library: lakmozet.Library) -> None:
+    """Sees that a mesh in memory is cloth, with its links and its triangles, and that one with a bad face is refused."""
+    square = lakmozet.Mesh(((0, 0, 0), (6554, 0, 0), (6554, 6554, 0), (0, 6554, 0), (3277, 9831, 0)), ((0, 1, 2, 3), (3, 2, 4)))
+    with library.open_mesh(b"thickness = 7000\n", square, lakmozet.MeshSettings(bend=40, bends=True)) as cloth:
+        must(cloth.places().tolist() == [list(place) for place in square.vertices], "the vertices are particles")
+        kinds = [it.kind for it in cloth.links()]
+        must(kinds == [0, 0, 0, 0, 0, 0, 1, 1, 2, 2] and cloth.links()[-1].stiffness == 40, "the links of a mesh")
+        cloth.step()
+        must(cloth.contacts() == cloth.counts().contacts, "the contacts are counted")
+    must(library.mesh_triangles(square).tolist() == [[0, 1, 2], [0, 2, 3], [3, 2, 4]], "the triangles of a mesh")
+    must(lakmozet.cloth_triangles(4, 2, 3) == [(4, 7, 5), (5, 7, 8), (5, 8, 6), (6, 8, 9)], "the triangles of a cloth")
+    folded, fault = square._replace(faces=((0, 1, 2), (0, 1, 0))), lakmozet.MeshFault(1, lakmozet.MeshRule.BadFace)
+    refuse(lakmozet.Outcome.MESH_REFUSED, fault, library.open_mesh, b"", folded)
+    refuse(lakmozet.Outcome.MESH_REFUSED, fault, library.mesh_triangles, folded)
+    heavy = lakmozet.MeshFault(0, lakmozet.MeshRule.BadSettings)
+    refuse(lakmozet.Outcome.MESH_REFUSED, heavy, library.open_mesh, b"", square, lakmozet.MeshSettings(weight=0))
 
 
 class Machine:
@@ -211,9 +230,10 @@ def main() -> None:
     print(printed, end="")
     # the same as a replay of its log
     must(library.replay(library.record(scene, script)) == (printed.encode(), None), "the replay prints the drop")
-    refuse(library, b"passes = 4\n= 5\n", lakmozet.Outcome.SCENE_NOT_TOML, 11)
+    refuse(lakmozet.Outcome.SCENE_NOT_TOML, 11, library.open, b"passes = 4\n= 5\n")
     fault = lakmozet.Fault(0, lakmozet.Rule.WrongType, lakmozet.Table.particle, lakmozet.Key.at)
-    refuse(library, b"[[particle]]\nat = 5\n", lakmozet.Outcome.SCENE_REFUSED, fault)
+    refuse(lakmozet.Outcome.SCENE_REFUSED, fault, library.open, b"[[particle]]\nat = 5\n")
+    look_at_meshes(library)
     # rollback: two players, a machine that joins them, and one that knows all in time
     inputs = drawn_inputs()
     players = [Machine(cloth, inputs), Machine(drop(library, scene)[0], inputs)]

@@ -51,7 +51,7 @@ class Answer(enum.IntEnum):
 
 
 class Outcome(enum.IntEnum):
-    """What opening, recording and replaying answer."""
+    """What opening, recording, replaying and cutting a mesh into triangles answer."""
 
     DONE = 0
     NO_LOG_ROOM = 35
@@ -63,8 +63,10 @@ class Outcome(enum.IntEnum):
     MISMATCH = 42
     SOME_REFUSED = 43
     OUT_OF_MEMORY = 44
+    MESH_REFUSED = 46
     IN_USE = 65
     NO_SLOT = 66
+    NO_ROOM = 67
 
 
 Rule = enum.IntEnum("Rule", "UnknownKey MissingKey WrongType OutOfRange TooMany BadIndex SelfLink DoubleLink TooManyAtParticle BadTrack",
@@ -74,6 +76,7 @@ Table = enum.IntEnum("Table", "scene particle cloth rope link plane sphere track
 Key = enum.IntEnum("Key", "- gravity passes damping thickness friction pins at velocity weight held origin across down rows columns"
                    " stretch shear bend stretch_tear shear_tear bend_tear spacing count a b rest stiffness tear normal offset centre radius"
                    " particle keys", start=0)
+MeshRule = enum.IntEnum("MeshRule", "OutOfRange BadFace BadCount BadSettings TooMany TooManyAtParticle")
 Field = enum.IntEnum("Field", "answer step phase element steps live contacts x y z before-x before-y before-z")
 
 
@@ -92,6 +95,33 @@ class Fault(NamedTuple):
     rule: Rule
     table: Table
     key: Key
+
+
+class Mesh(NamedTuple):
+    """Vertices, as places, and faces: each is three or more different vertices, by number from 0."""
+
+    vertices: Sequence[Sequence[int]]
+    faces: Sequence[Sequence[int]]
+
+
+class MeshSettings(NamedTuple):
+    """How a mesh is made cloth: tear lengths, the weight of vertices, and stiffness in 256ths; bend links only where there are bends."""
+
+    stretch_tear: int = 0
+    shear_tear: int = 0
+    bend_tear: int = 0
+    weight: int = 1
+    stretch: int = 256
+    shear: int = 256
+    bend: int = 256
+    bends: bool = False
+
+
+class MeshFault(NamedTuple):
+    """The first rule that a mesh or its settings break, and at which vertex or face, from 0."""
+
+    number: int
+    rule: MeshRule
 
 
 class Left(NamedTuple):
@@ -166,13 +196,13 @@ class Refused(Exception):
 
 
 class Failed(Exception):
-    """A scene that wasn't opened, or a run that wasn't made.
+    """A scene that wasn't opened, a run that wasn't made, or a mesh that has no triangles.
 
-    Of a refused scene, `detail` is its fault, of a text that is no TOML the offset at which its reader stopped, of a refused log its
-    stop.
+    Of a refused scene or mesh, `detail` is its fault, of a text that is no TOML the offset at which its reader stopped, of a refused
+    log its stop.
     """
 
-    def __init__(self, outcome: Outcome, detail: Fault | Stop | int | None = None) -> None:
+    def __init__(self, outcome: Outcome, detail: Fault | MeshFault | Stop | int | None = None) -> None:
         super().__init__(outcome.name if detail is None else f"{outcome.name}, {detail}")
         self.outcome = outcome
         self.detail = detail
@@ -190,6 +220,16 @@ class _Place(ctypes.Structure):
 
 class _Fault(ctypes.Structure):
     _fields_ = [("offset", c_uint64), ("position", c_uint32), ("rule", c_uint8), ("table", c_uint8), ("key", c_uint8)]
+
+
+class _MeshSettings(ctypes.Structure):
+    _fields_ = [(name, c_int64) for name in MeshSettings._fields[:3]] + [(name, c_uint16) for name in MeshSettings._fields[3:7]] + [
+        ("bends", c_uint8)
+    ]
+
+
+class _MeshFault(ctypes.Structure):
+    _fields_ = [("number", c_uint64), ("rule", c_uint8)]
 
 
 class _Left(ctypes.Structure):
@@ -231,9 +271,11 @@ class _Stop(ctypes.Structure):
 
 _HANDLE, _COUNT = POINTER(_Cloth), POINTER(c_uint32)
 _LIST = [c_size_t, _COUNT]
+_MESH = [POINTER(c_int64), c_size_t, POINTER(c_uint32), c_size_t, POINTER(c_uint32), c_size_t]
 CALLS = {
     "lak_version": [POINTER(_Version)],
     "lak_open": [_HANDLE, c_char_p, c_size_t, c_uint32, POINTER(_Fault)],
+    "lak_open_mesh": [_HANDLE, c_char_p, c_size_t, *_MESH, _MeshSettings, c_uint32, POINTER(_Fault), POINTER(_MeshFault)],
     "lak_close": [_HANDLE],
     "lak_step": [_HANDLE, c_uint64, POINTER(_Left)],
     "lak_pin": [_HANDLE, c_uint64],
@@ -246,6 +288,7 @@ CALLS = {
     "lak_restore": [_HANDLE, c_uint32],
     "lak_counts": [_HANDLE, POINTER(_Counts)],
     "lak_sums": [_HANDLE, POINTER(_Sums)],
+    "lak_contacts": [_HANDLE, POINTER(c_uint64)],
     "lak_gravity_now": [_HANDLE, POINTER(_Place)],
     "lak_ledger": [_HANDLE, POINTER(_Ledger)],
     "lak_link_between": [_HANDLE, c_uint32, c_uint32, POINTER(c_uint32)],
@@ -263,6 +306,7 @@ CALLS = {
     "lak_digest_slot": [_HANDLE, c_uint32, _Hash, POINTER(_Hash)],
     "lak_checksum": [_HANDLE, POINTER(c_uint64)],
     "lak_checksum_slot": [_HANDLE, c_uint32, POINTER(c_uint64)],
+    "lak_mesh_triangles": [*_MESH, POINTER(c_uint32), c_size_t, POINTER(c_size_t), POINTER(_MeshFault)],
     "lak_record": [c_char_p, c_size_t, c_char_p, c_size_t, POINTER(c_uint8), c_size_t, POINTER(c_size_t)],
     "lak_replay": [c_char_p, c_size_t, POINTER(c_uint8), c_size_t, POINTER(c_size_t), POINTER(_Stop)],
 }
@@ -278,6 +322,25 @@ def _fault(outcome: Outcome, it: _Fault) -> Fault | int | None:
     if outcome == Outcome.SCENE_NOT_TOML:
         return it.offset
     return Fault(it.position, Rule(it.rule), Table(it.table), Key(it.key)) if outcome == Outcome.SCENE_REFUSED else None
+
+
+def _mesh_fault(outcome: Outcome, it: _MeshFault) -> MeshFault | None:
+    return MeshFault(it.number, MeshRule(it.rule)) if outcome == Outcome.MESH_REFUSED else None
+
+
+def _numbers(kind: Any, numbers: Sequence[int]) -> Any:
+    """Returns memory that has these numbers."""
+    # (no call wants a null pointer, which an array of nothing would be)
+    return (kind * max(len(numbers), 1))(*map(int, numbers))
+
+
+def _in_memory(mesh: Mesh) -> tuple[Any, ...]:
+    """Returns a mesh as C takes it: its vertices, the sizes of its faces, and all corners, each with its count."""
+    axes = [axis for place in mesh.vertices for axis in place]
+    sizes = [len(face) for face in mesh.faces]
+    corners = [corner for face in mesh.faces for corner in face]
+    return (_numbers(c_int64, axes), len(mesh.vertices), _numbers(c_uint32, sizes), len(sizes),
+            _numbers(c_uint32, corners), len(corners))
 
 
 def _array(kind: Any, length: int, columns: int = 1) -> tuple[Any, Any]:
@@ -350,7 +413,7 @@ class Cloth:
     def cut_many(self, links: Sequence[int]) -> int:
         """Lets links go, one after another, and returns how many of these cuts were refused."""
         refused = c_size_t()
-        self._call("lak_cut_many", (c_uint32 * max(len(links), 1))(*links), len(links), refused)
+        self._call("lak_cut_many", _numbers(c_uint32, links), len(links), refused)
         return refused.value
 
     def gravity(self, gravity: tuple[int, int, int]) -> None:
@@ -375,6 +438,12 @@ class Cloth:
         sums = _Sums()
         self._call("lak_sums", sums)
         return _tuple(Sums, sums)
+
+    def contacts(self) -> int:
+        """How many contacts the last step found."""
+        contacts = c_uint64()
+        self._call("lak_contacts", contacts)
+        return contacts.value
 
     def gravity_now(self) -> Place:
         gravity = _Place()
@@ -473,6 +542,16 @@ class Cloth:
         return checksum.value
 
 
+def cloth_triangles(first: int, rows: int, columns: int) -> list[tuple[int, int, int]]:
+    """The triangles of a cloth of the scene whose first particle has that number: two for each cell, turned alike."""
+    found = []
+    for row in range(rows - 1):
+        for here in range(first + row * columns, first + (row + 1) * columns - 1):
+            below = here + columns
+            found += [(here, below, here + 1), (here + 1, below, below + 1)]
+    return found
+
+
 class Library:
     """The C library as a shared one."""
 
@@ -497,6 +576,27 @@ class Library:
             raise Failed(outcome, _fault(outcome, fault))
         cloth._call("lak_scene_name", cloth._name)
         return cloth
+
+    def open_mesh(self, toml: bytes, mesh: Mesh, settings: MeshSettings = MeshSettings(), slots: int = 0) -> Cloth:
+        """The same with a mesh behind the scene."""
+        cloth, fault, mesh_fault = Cloth(self._calls), _Fault(), _MeshFault()
+        outcome = Outcome(self._calls.lak_open_mesh(
+            cloth._handle, toml, len(toml), *_in_memory(mesh), _MeshSettings(*settings), slots, fault, mesh_fault))
+        if outcome != Outcome.DONE:
+            raise Failed(outcome, _mesh_fault(outcome, mesh_fault) or _fault(outcome, fault))
+        cloth._call("lak_scene_name", cloth._name)
+        return cloth
+
+    def mesh_triangles(self, mesh: Mesh) -> Any:
+        """The triangles of a mesh: a row of three vertices, by number from 0, for each. Raises Failed."""
+        # (a face of n corners is n - 2 triangles)
+        room = max(sum(len(face) - 2 for face in mesh.faces), 0)
+        memory, view = _array(c_uint32, room, 3)
+        count, fault = c_size_t(), _MeshFault()
+        outcome = Outcome(self._calls.lak_mesh_triangles(*_in_memory(mesh), memory, room, count, fault))
+        if outcome != Outcome.DONE:
+            raise Failed(outcome, _mesh_fault(outcome, fault))
+        return view
 
     def record(self, scene: bytes, script: bytes) -> bytes:
         """Runs a script on a scene, and returns the log of the session, or raises Failed."""

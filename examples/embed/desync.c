@@ -59,7 +59,7 @@ static bool have_equal_digests(void)
 /* How many particles have another place on one machine than on the other. */
 static int differing_places(void)
 {
-    static lak_place places[MACHINES][SIDE * SIDE];
+    static lak_vec3 places[MACHINES][SIDE * SIDE];
     uint32_t count;
     int differ = 0;
     for (int i = 0; i < MACHINES; i++)

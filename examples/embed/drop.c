@@ -6,7 +6,7 @@
 #include <string.h>
 
 static uint8_t text[1 << 16];
-static lak_place places[65536];
+static lak_vec3 places[65536];
 
 /* Reads the input up to its line %%, and returns how long that is. */
 static size_t read_scene(void)

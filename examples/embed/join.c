@@ -34,13 +34,13 @@ static const char scene[] =
     "centre = [23000, 98304, 23000]\n"
     "radius = 26000\n";
 
-static const lak_place corners[PLAYERS] = {{0, 131072, 0}, {45878, 131072, 0}, {0, 131072, 45878}};
+static const lak_vec3 corners[PLAYERS] = {{0, 131072, 0}, {45878, 131072, 0}, {0, 131072, 45878}};
 static const uint64_t pins[PLAYERS] = {0, 7, 56};
 
 /* What a player does in a turn: moves its corner, and cuts a link, or none, -1. One that isn't known is guessed to be nothing. */
 typedef struct {
     int64_t known, cut;
-    lak_place to;
+    lak_vec3 to;
 } input;
 
 /* A player's machine: its world, what it knows of each turn, and how many turns the world has. */
@@ -89,14 +89,14 @@ static int64_t draw(uint32_t *state, uint32_t below)
 
 static input drawn(uint32_t *state, int player)
 {
-    const lak_place at = corners[player];
+    const lak_vec3 at = corners[player];
     input it = {1, -1, {at.x + draw(state, 20001) - 10000, at.y + draw(state, 8001) - 4000, at.z}};
     if (draw(state, 8) == 0)
         it.cut = draw(state, 300);
     return it;
 }
 
-static bool is_bounded(lak_place to)
+static bool is_bounded(lak_vec3 to)
 {
     return -REACH <= to.x && to.x <= REACH && -REACH <= to.y && to.y <= REACH && -REACH <= to.z && to.z <= REACH;
 }

@@ -39,7 +39,7 @@ static const char scene[] =
 /* What a player does in a turn: moves its corner, and now and then cuts a link. */
 typedef struct {
     bool known;
-    lak_place to;
+    lak_vec3 to;
     bool cuts;
     uint64_t link;
 } input;

@@ -32,7 +32,7 @@ typedef struct {
 } session;
 
 /* Each of these plays a command, and keeps its line where it was done. */
-static void move(session *it, uint64_t particle, lak_place to)
+static void move(session *it, uint64_t particle, lak_vec3 to)
 {
     if (lak_move(&it->cloth, particle, to) == LAK_DONE)
         it->length += lak_line_move(it->script + it->length, sizeof it->script - it->length, particle, to);
@@ -67,7 +67,7 @@ static void go_back(session *it)
 static void play(session *it, int from, int to, int64_t reach)
 {
     for (int turn = from; turn < to; turn++) {
-        lak_place hand = {turn * reach, 131072 - turn * 300, turn % 7 * -900};
+        lak_vec3 hand = {turn * reach, 131072 - turn * 300, turn % 7 * -900};
         move(it, 0, hand);
         if (turn % 5 == 4)
             cut(it, (uint64_t)turn * 7);

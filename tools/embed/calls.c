@@ -22,9 +22,9 @@ static int32_t open_text(lak_cloth *cloth, const char *text, uint32_t slots, lak
     return lak_open(cloth, (const uint8_t *)text, strlen(text), slots, fault);
 }
 
-static lak_place at(int64_t x, int64_t y, int64_t z)
+static lak_vec3 at(int64_t x, int64_t y, int64_t z)
 {
-    lak_place it;
+    lak_vec3 it;
     it.x = x;
     it.y = y;
     it.z = z;
@@ -37,12 +37,13 @@ static void closed_handles(void)
     lak_left left = {7, 7, 7};
     lak_counts_of_world counts;
     lak_sums_of_world sums;
-    lak_place place = at(7, 7, 7);
+    lak_vec3 place = at(7, 7, 7);
     uint32_t count = 7, number = 7;
     uint8_t byte = 7;
     size_t refused = 7;
     lak_link link = {7, 7, 7, 7, 7, 7, 7};
     lak_ledger_of_world ledger;
+    uint64_t contacts = 7;
     memset(&ledger, 7, sizeof ledger);
     memset(&cloth, 0, sizeof cloth);
     MUST(lak_step(&cloth, 1, &left) == LAK_CLOSED && left.step == 0 && left.element == 0 && left.phase == 0);
@@ -55,6 +56,7 @@ static void closed_handles(void)
     MUST(lak_held(&cloth, &byte, 1, &count) == LAK_CLOSED && lak_links(&cloth, &link, 1, &count) == LAK_CLOSED);
     MUST(lak_cut_many(&cloth, &number, 1, &refused) == LAK_CLOSED && lak_link_between(&cloth, 0, 1, &number) == LAK_CLOSED);
     MUST(lak_gravity_now(&cloth, &place) == LAK_CLOSED && lak_ledger(&cloth, &ledger) == LAK_CLOSED);
+    MUST(lak_contacts(&cloth, &contacts) == LAK_CLOSED && contacts == 7);
     MUST(count == 7 && number == 7 && byte == 7 && place.x == 7 && refused == 7 && link.rest == 7);
     MUST(ledger.momentum[0].low == 0x0707070707070707);
     lak_close(&cloth);
@@ -77,12 +79,12 @@ static void wrong_scenes(void)
 }
 
 /* A mesh of two triangles that share an edge, whose far corners a bend link joins. */
-static const lak_place vertices[] = {{0, 0, 0}, {65536, 0, 0}, {0, 65536, 0}, {65536, 65536, 0}};
+static const lak_vec3 vertices[] = {{0, 0, 0}, {65536, 0, 0}, {0, 65536, 0}, {65536, 65536, 0}};
 static const uint32_t sizes[] = {3, 3}, corners[] = {0, 1, 2, 2, 1, 3};
 static const lak_mesh_settings bending = {0, 0, 90000, 2, 256, 256, 128, 1};
 
 /* Opens the four particles of the scene with a mesh behind them, whose two faces have these corners. */
-static int32_t open_mesh(lak_cloth *cloth, const lak_place *places, const uint32_t *numbers, size_t count, lak_mesh_settings settings,
+static int32_t open_mesh(lak_cloth *cloth, const lak_vec3 *places, const uint32_t *numbers, size_t count, lak_mesh_settings settings,
                          lak_mesh_fault *mesh_fault)
 {
     lak_fault fault = {7, 7, 7, 7, 7};
@@ -100,7 +102,7 @@ static void meshes(void)
     lak_counts_of_world counts, before;
     lak_fault fault;
     lak_link all[16];
-    lak_place places[8];
+    lak_vec3 places[8];
     lak_left left;
     uint32_t count = 0, number = 7;
     memset(&cloth, 0, sizeof cloth);
@@ -123,7 +125,7 @@ static void meshes(void)
 }
 
 /* Whether a mesh is refused, by the name of its rule and at this vertex or face. */
-static bool is_refused(const lak_place *places, const uint32_t *numbers, size_t count, lak_mesh_settings settings, const char *rule,
+static bool is_refused(const lak_vec3 *places, const uint32_t *numbers, size_t count, lak_mesh_settings settings, const char *rule,
                        uint64_t number)
 {
     lak_cloth cloth;
@@ -137,7 +139,7 @@ static bool is_refused(const lak_place *places, const uint32_t *numbers, size_t 
 static void crowds(void)
 {
     lak_cloth cloth;
-    lak_place around[40];
+    lak_vec3 around[40];
     uint32_t threes[17], fans[51];
     lak_fault fault;
     lak_mesh_fault mesh_fault = {7, 7};
@@ -155,7 +157,7 @@ static void crowds(void)
 static void too_many(void)
 {
     lak_cloth cloth;
-    lak_place *places = (lak_place *)calloc(65537, sizeof *places);
+    lak_vec3 *places = (lak_vec3 *)calloc(65537, sizeof *places);
     lak_fault fault = {7, 7, 7, 7, 7};
     lak_mesh_fault mesh_fault = {7, 7};
     const uint8_t *none = (const uint8_t *)"";
@@ -176,7 +178,7 @@ static void too_many(void)
 static void wrong_meshes(void)
 {
     static const uint32_t twice[] = {0, 1, 2, 2, 1, 2}, outside[] = {0, 1, 2, 2, 1, 4};
-    const lak_place far[] = {{0, 0, 0}, {65536, 0, 0}, {0, 536870913, 0}, {0, 0, INT64_MIN}};
+    const lak_vec3 far[] = {{0, 0, 0}, {65536, 0, 0}, {0, 536870913, 0}, {0, 0, INT64_MIN}};
     lak_mesh_settings light = bending, stiff = bending, long_tear = bending, without = bending;
     lak_cloth cloth;
     lak_mesh_fault fault;
@@ -191,6 +193,23 @@ static void wrong_meshes(void)
     MUST(open_mesh(&cloth, vertices, corners, 6, without, &fault) == LAK_DONE);
     lak_close(&cloth);
     MUST(strcmp(lak_mesh_rule_name(0), "-") == 0 && strcmp(lak_mesh_rule_name(7), "-") == 0);
+}
+
+/* Three particles, of which each two touch but the outer ones, until they were kept apart. */
+static void contacts(void)
+{
+    static const char near[] = "thickness = 3000\n[[particle]]\nat = [0, 0, 0]\n[[particle]]\nat = [2000, 0, 0]\n"
+                               "[[particle]]\nat = [4000, 0, 0]\n";
+    lak_cloth cloth;
+    lak_counts_of_world counts;
+    lak_fault fault;
+    lak_left left;
+    uint64_t found = 7;
+    memset(&cloth, 0, sizeof cloth);
+    MUST(open_text(&cloth, near, 0, &fault) == LAK_DONE && lak_contacts(&cloth, &found) == LAK_DONE && found == 0);
+    MUST(lak_step(&cloth, 1, &left) == LAK_DONE && lak_contacts(&cloth, &found) == LAK_DONE && found == 2);
+    MUST(lak_counts(&cloth, &counts) == LAK_DONE && counts.contacts == found);
+    lak_close(&cloth);
 }
 
 static void commands(lak_cloth *cloth)
@@ -233,7 +252,7 @@ static void links(lak_cloth *cloth)
     uint8_t held[5] = {7, 7, 7, 7, 7};
     uint32_t count = 0, number = 7;
     size_t refused = 7;
-    lak_place gravity;
+    lak_vec3 gravity;
     MUST(lak_counts(cloth, &counts) == LAK_DONE);
     MUST(lak_links(cloth, all, 16, &count) == LAK_DONE && count == counts.links);
     MUST(all[0].a == 0 && all[0].b == 1 && all[0].rest == 6554 && all[0].live == 1 && all[0].kind == 0 && all[0].tear == 0);
@@ -271,7 +290,7 @@ static void slots(lak_cloth *cloth)
 static void reading(lak_cloth *cloth)
 {
     lak_counts_of_world counts;
-    lak_place places[5], before[5];
+    lak_vec3 places[5], before[5];
     uint8_t live[16];
     uint32_t count = 0;
     memset(places, 7, sizeof places);
@@ -452,6 +471,39 @@ static void triangles(void)
     MUST(lak_cloth_triangles(4, 1, 3, some, 4) == 0 && lak_cloth_triangles(4, 0, 0, some, 4) == 0);
 }
 
+/* A square, a triangle at it, and a face of five corners, as triangles. */
+static void mesh_triangles(void)
+{
+    static const uint32_t sides[] = {4, 3, 5}, named[] = {0, 1, 2, 3, 3, 2, 4, 4, 3, 2, 1, 0};
+    static const uint32_t whole[6][3] = {{0, 1, 2}, {0, 2, 3}, {3, 2, 4}, {4, 3, 2}, {4, 2, 1}, {4, 1, 0}};
+    static const uint32_t twice[] = {0, 1, 2, 3, 3, 2, 2}, outside[] = {0, 1, 2, 5, 3, 2, 4};
+    lak_vec3 places[5];
+    uint32_t some[6][3], before[6][3];
+    size_t count = 7;
+    lak_mesh_fault fault = {7, 7};
+    memset(places, 0, sizeof places);
+    memset(some, 7, sizeof some);
+    memset(before, 7, sizeof before);
+    MUST(lak_mesh_triangles(places, 5, sides, 3, named, 12, some, 5, &count, &fault) == LAK_NO_ROOM && count == 6);
+    MUST(memcmp(some, whole, sizeof some[0] * 5) == 0 && some[5][0] == 0x07070707);
+    MUST(lak_mesh_triangles(places, 5, sides, 3, named, 12, some, 6, &count, &fault) == LAK_DONE && count == 6);
+    MUST(memcmp(some, whole, sizeof some) == 0);
+    MUST(lak_mesh_triangles(places, 0, sides, 0, named, 0, some, 0, &count, &fault) == LAK_DONE && count == 0);
+    MUST(fault.number == 7 && fault.rule == 7);
+    memset(some, 7, sizeof some);
+    count = 7;
+    MUST(lak_mesh_triangles(places, 5, sides, 3, named, 11, some, 6, &count, &fault) == LAK_MESH_REFUSED);
+    MUST(fault.number == 0 && strcmp(lak_mesh_rule_name(fault.rule), "BadCount") == 0);
+    MUST(lak_mesh_triangles(places, 5, sides, 2, twice, 7, some, 6, &count, &fault) == LAK_MESH_REFUSED);
+    MUST(fault.number == 1 && strcmp(lak_mesh_rule_name(fault.rule), "BadFace") == 0);
+    MUST(lak_mesh_triangles(places, 5, sides, 2, outside, 7, some, 6, &count, &fault) == LAK_MESH_REFUSED);
+    MUST(fault.number == 0 && strcmp(lak_mesh_rule_name(fault.rule), "BadFace") == 0);
+    places[3] = at(0, 0, -536870913);
+    MUST(lak_mesh_triangles(places, 5, sides, 2, twice, 7, some, 6, &count, &fault) == LAK_MESH_REFUSED);
+    MUST(fault.number == 3 && strcmp(lak_mesh_rule_name(fault.rule), "OutOfRange") == 0);
+    MUST(count == 7 && memcmp(some, before, sizeof some) == 0);
+}
+
 /* Whether a line of so many bytes is this text, and the byte behind it is as it was. */
 static int is_line(const char *line, size_t length, const char *text)
 {
@@ -490,6 +542,7 @@ int main(void)
     lak_fault fault = {7, 7, 7, 7, 7};
     versions();
     triangles();
+    mesh_triangles();
     names();
     memset(&cloth, 0, sizeof cloth);
     lines();
@@ -499,6 +552,7 @@ int main(void)
     wrong_meshes();
     crowds();
     too_many();
+    contacts();
     MUST(open_text(&cloth, scene, 2, &fault) == LAK_DONE);
     MUST(open_text(&cloth, scene, 2, &fault) == LAK_IN_USE);
     MUST(fault.offset == 7 && fault.position == 7 && fault.rule == 7 && fault.table == 7 && fault.key == 7);

@@ -24,7 +24,7 @@ int main(void)
     lak_fault fault;
     lak_left left;
     lak_counts_of_world counts;
-    lak_place place;
+    lak_vec3 place;
     uint32_t count;
     double began;
     if (lak_open(&cloth, (const uint8_t *)scene, strlen(scene), 1, &fault) != LAK_DONE)

@@ -2,7 +2,8 @@
  * Calls functions with random arguments on a few handles: fuzz SECONDS SEED. After each call it looks at what the header says
  * of it: a closed handle answers so, an answer other than LAK_DONE changes nothing, reading changes nothing, a restored world has
  * the sums and the state of the saved one, and one whose state was read has that and its digest. States are read as they were
- * written, by other handles, and with changes; what is taken is played on with.
+ * written, by other handles, and with changes; what is taken is played on with. Meshes are grids whose arrays are changed as often
+ * as not: what is wrong with one, and what its triangles are, is found here once more.
  */
 #include "lakmozet.h"
 
@@ -12,7 +13,7 @@
 #include <string.h>
 #include <time.h>
 
-enum { HANDLES = 4, MOST_SLOTS = 16, ROOM = 4096, STATE = 8192 };
+enum { HANDLES = 4, MOST_SLOTS = 16, ROOM = 4096, STATE = 8192, VERTICES = 25, FACES = 32, CORNERS = 96, TRIANGLES = 128 };
 
 /* What a world is told apart by: its sums, its checksum, and a sum of the bytes of its state. */
 typedef struct {
@@ -32,8 +33,15 @@ typedef struct {
     lak_hash digest;
 } tracked;
 
+/* A mesh, as it is handed in. */
+typedef struct {
+    lak_vec3 vertices[VERTICES];
+    uint32_t sizes[FACES], corners[CORNERS];
+    size_t vertex_count, face_count, corner_count;
+} mesh;
+
 static tracked handles[HANDLES];
-static uint64_t calls, opened, taken, state;
+static uint64_t calls, opened, with_mesh, taken, state;
 
 static uint64_t draw(void)
 {
@@ -69,9 +77,9 @@ static uint64_t number(void)
     }
 }
 
-static lak_place place(void)
+static lak_vec3 place(void)
 {
-    lak_place it = {(int64_t)(draw() % 400001) - 200000, (int64_t)(draw() % 400001) - 200000, (int64_t)(draw() % 400001) - 200000};
+    lak_vec3 it = {(int64_t)(draw() % 400001) - 200000, (int64_t)(draw() % 400001) - 200000, (int64_t)(draw() % 400001) - 200000};
     if (draw() % 8 == 0)
         it.x = (int64_t)number();
     if (draw() % 8 == 0)
@@ -119,12 +127,29 @@ static bool is_of_scene(int32_t answer)
     return answer == LAK_SCENE_NOT_TEXT || answer == LAK_SCENE_NOT_TOML || answer == LAK_SCENE_REFUSED;
 }
 
+/* A handle holds the world that it was opened with. */
+static void begin(tracked *it, uint32_t slots)
+{
+    it->open = true;
+    opened++;
+    it->slots = slots;
+    must(lak_scene_name(&it->cloth, &it->name) == LAK_DONE, "an open handle has no name");
+    it->now = see(it);
+    for (uint32_t k = 0; k < slots; k++)
+        it->saved[k] = it->now;
+}
+
+static uint32_t some_slots(void)
+{
+    return draw() % 8 == 0 ? (uint32_t)number() : (uint32_t)(draw() % 5);
+}
+
 static void open_some(tracked *it)
 {
     static char text[2048];
     lak_fault fault;
     size_t length = scene(text, sizeof text);
-    uint32_t slots = draw() % 8 == 0 ? (uint32_t)number() : (uint32_t)(draw() % 5);
+    uint32_t slots = some_slots();
     int32_t answer = lak_open(&it->cloth, (const uint8_t *)text, length, slots, &fault);
     if (it->open) {
         must(answer == LAK_IN_USE, "an open handle is opened");
@@ -132,16 +157,214 @@ static void open_some(tracked *it)
     }
     must(answer == LAK_DONE || answer == LAK_NO_SLOT || is_of_scene(answer), "lak_open answers something else");
     must((answer == LAK_SCENE_REFUSED) == (answer != LAK_DONE && fault.rule != 0), "a fault without a refusal");
-    it->open = answer == LAK_DONE;
-    if (it->open) {
-        opened++;
-        it->slots = slots;
-        must(lak_scene_name(&it->cloth, &it->name) == LAK_DONE, "an open handle has no name");
-        it->now = see(it);
-        for (uint32_t k = 0; k < slots; k++)
-            it->saved[k] = it->now;
+    if (answer == LAK_DONE)
+        begin(it, slots);
+}
+
+/* ---- meshes */
+
+static void push_face(mesh *it, uint32_t size, const uint32_t *corners)
+{
+    it->sizes[it->face_count++] = size;
+    for (uint32_t i = 0; i < size; i++)
+        it->corners[it->corner_count++] = corners[i];
+}
+
+/* A grid of at most four by four cells, each of which is a square, two triangles, or left out. */
+static void draw_grid(mesh *it)
+{
+    uint32_t rows = 1 + draw() % 4, columns = 1 + draw() % 4;
+    memset(it, 0, sizeof *it);
+    for (uint32_t row = 0; row <= rows; row++)
+        for (uint32_t column = 0; column <= columns; column++)
+            it->vertices[it->vertex_count++] = (lak_vec3) {6554 * (int64_t)column, (int64_t)(draw() % 9000), 6554 * (int64_t)row};
+    for (uint32_t row = 0; row < rows; row++)
+        for (uint32_t column = 0; column < columns; column++) {
+            uint32_t here = row * (columns + 1) + column, below = here + columns + 1;
+            uint32_t square[] = {here, here + 1, below + 1, below}, other[] = {here, below + 1, below};
+            uint64_t kind = draw() % 5;
+            if (kind < 2)
+                push_face(it, 4, square);
+            else if (kind < 4)
+                push_face(it, 3, square), push_face(it, 3, other);
+        }
+}
+
+/* One of the numbers of a mesh is changed: a place, a corner, a size, a count, or the sizes of two faces become one. */
+static void change_mesh(mesh *it)
+{
+    size_t face = draw() % FACES;
+    switch (draw() % 7) {
+    case 0:
+        it->vertices[draw() % VERTICES] = place();
+        break;
+    case 1:
+        it->corners[draw() % CORNERS] = (uint32_t)number();
+        break;
+    case 2:
+        it->sizes[face] = (uint32_t)number();
+        break;
+    case 3:
+        it->corner_count = draw() % (CORNERS + 1);
+        break;
+    case 4:
+        it->face_count = draw() % (FACES + 1);
+        break;
+    case 5:
+        it->vertex_count = draw() % (VERTICES + 1);
+        break;
+    default:
+        if (face + 1 < it->face_count) {
+            it->sizes[face] += it->sizes[face + 1];
+            memmove(it->sizes + face + 1, it->sizes + face + 2, (FACES - face - 2) * sizeof *it->sizes);
+            it->face_count--;
+        }
     }
 }
+
+static void draw_mesh(mesh *it)
+{
+    draw_grid(it);
+    for (uint64_t changes = draw() % 2 ? draw() % 4 : 0; changes > 0; changes--)
+        change_mesh(it);
+}
+
+static bool is_face(const uint32_t *corners, uint32_t size, size_t vertices)
+{
+    for (uint32_t i = 0; i < size; i++)
+        for (uint32_t k = i; k < size; k++)
+            if (corners[k] >= vertices || (k > i && corners[k] == corners[i]))
+                return false;
+    return size >= 3;
+}
+
+static bool is_outside(int64_t axis)
+{
+    return axis < -536870912 || 536870912 < axis;
+}
+
+/* The first rule that a mesh breaks, and its vertex or face, or zeros. */
+static lak_mesh_fault fault_of(const mesh *it)
+{
+    uint64_t total = 0;
+    const uint32_t *face = it->corners;
+    for (size_t f = 0; f < it->face_count; f++)
+        total += it->sizes[f];
+    if (total != it->corner_count)
+        return (lak_mesh_fault) {0, 3};
+    for (size_t v = 0; v < it->vertex_count; v++)
+        if (is_outside(it->vertices[v].x) || is_outside(it->vertices[v].y) || is_outside(it->vertices[v].z))
+            return (lak_mesh_fault) {v, 1};
+    for (size_t f = 0; f < it->face_count; face += it->sizes[f++])
+        if (!is_face(face, it->sizes[f], it->vertex_count))
+            return (lak_mesh_fault) {f, 2};
+    return (lak_mesh_fault) {0, 0};
+}
+
+static lak_mesh_settings draw_settings(void)
+{
+    lak_mesh_settings it = {0, 0, 0, (uint16_t)(1 + draw() % 9), (uint16_t)(draw() % 257), (uint16_t)(draw() % 257),
+                            (uint16_t)(draw() % 257), (uint8_t)(draw() % 3)};
+    int64_t *tears[] = {&it.stretch_tear, &it.shear_tear, &it.bend_tear};
+    uint16_t *numbers[] = {&it.weight, &it.stretch, &it.shear, &it.bend};
+    for (int k = 0; k < 3; k++)
+        *tears[k] = draw() % 2 ? 0 : 7000 + (int64_t)(draw() % 9000);
+    if (draw() % 8 == 0)
+        *tears[draw() % 3] = draw() % 2 ? (int64_t)number() : 2147483647 + (int64_t)(draw() % 3);
+    if (draw() % 8 == 0)
+        *numbers[draw() % 4] = (uint16_t)(draw() % 2 ? number() : 256 + draw() % 2);
+    return it;
+}
+
+static bool are_link_settings(uint16_t stiffness, int64_t tear)
+{
+    return stiffness <= 256 && 0 <= tear && tear <= 2147483648;
+}
+
+static bool are_settings(lak_mesh_settings it)
+{
+    return it.weight >= 1 && are_link_settings(it.stretch, it.stretch_tear) && are_link_settings(it.shear, it.shear_tear) &&
+           (it.bends == 0 || are_link_settings(it.bend, it.bend_tear));
+}
+
+/* The vertices are the last particles, and the sides of each face are joined, and of one with four corners all corners. */
+static void look_at_mesh(tracked *it, const mesh *made)
+{
+    static lak_vec3 places[ROOM];
+    lak_counts_of_world counts;
+    uint32_t count, link;
+    const uint32_t *face = made->corners;
+    must(lak_counts(&it->cloth, &counts) == LAK_DONE && counts.particles >= made->vertex_count, "the particles of a mesh");
+    must(lak_places(&it->cloth, places, ROOM, &count) == LAK_DONE, "the places of a mesh");
+    uint32_t base = counts.particles - (uint32_t)made->vertex_count;
+    must(memcmp(places + base, made->vertices, made->vertex_count * sizeof *places) == 0, "where vertices are");
+    for (size_t f = 0; f < made->face_count; face += made->sizes[f++])
+        for (uint32_t i = 0, size = made->sizes[f]; i < size; i++) {
+            must(lak_link_between(&it->cloth, base + face[i], base + face[(i + 1) % size], &link) == LAK_DONE, "a side is no link");
+            must(size != 4 || lak_link_between(&it->cloth, base + face[i], base + face[(i + 2) % 4], &link) == LAK_DONE,
+                 "a diagonal is no link");
+        }
+}
+
+static void open_with_mesh(tracked *it)
+{
+    static char text[2048];
+    mesh made;
+    lak_mesh_settings settings = draw_settings();
+    lak_fault fault = {7, 7, 7, 7, 7};
+    lak_mesh_fault mesh_fault = {7, 7}, wanted = {0, 4};
+    size_t length = draw() % 4 == 0 ? 0 : scene(text, sizeof text);
+    uint32_t slots = some_slots();
+    draw_mesh(&made);
+    int32_t answer = lak_open_mesh(&it->cloth, (const uint8_t *)text, length, made.vertices, made.vertex_count, made.sizes,
+                                   made.face_count, made.corners, made.corner_count, settings, slots, &fault, &mesh_fault);
+    if (it->open) {
+        must(answer == LAK_IN_USE && fault.rule == 7 && mesh_fault.rule == 7, "an open handle is opened with a mesh");
+        return;
+    }
+    if (are_settings(settings))
+        wanted = fault_of(&made);
+    if (answer == LAK_DONE) {
+        must(wanted.rule == 0 && fault.rule == 7 && mesh_fault.rule == 7, "a mesh that breaks a rule is taken");
+        begin(it, slots);
+        with_mesh++;
+        look_at_mesh(it, &made);
+    } else if (answer == LAK_MESH_REFUSED) {
+        /* (a mesh of so few vertices has at most 24 links at one) */
+        must(wanted.rule != 0 && mesh_fault.rule == wanted.rule && mesh_fault.number == wanted.number && fault.rule == 0,
+             "a mesh is refused for something else");
+    } else {
+        must(answer == LAK_NO_SLOT || is_of_scene(answer), "lak_open_mesh answers something else");
+        must((answer == LAK_SCENE_REFUSED) == (fault.rule != 0) && mesh_fault.rule == 0 && mesh_fault.number == 0, "two faults");
+    }
+}
+
+/* The triangles of a mesh, of which each face is a fan around its first corner. */
+static void cut_mesh(void)
+{
+    static uint32_t into[TRIANGLES + 1][3], all[TRIANGLES][3];
+    mesh made;
+    lak_mesh_fault fault = {7, 7};
+    size_t count = 7, found = 0, room = draw() % 3 ? TRIANGLES : draw() % 20;
+    const uint32_t *face = made.corners;
+    draw_mesh(&made);
+    memset(into, 7, sizeof into);
+    lak_mesh_fault wanted = fault_of(&made);
+    for (size_t f = 0; wanted.rule == 0 && f < made.face_count; face += made.sizes[f++])
+        for (uint32_t i = 2; i < made.sizes[f]; i++, found++)
+            all[found][0] = face[0], all[found][1] = face[i - 1], all[found][2] = face[i];
+    int32_t answer = lak_mesh_triangles(made.vertices, made.vertex_count, made.sizes, made.face_count, made.corners,
+                                        made.corner_count, into, room, &count, &fault);
+    must(answer == (wanted.rule ? LAK_MESH_REFUSED : room < found ? LAK_NO_ROOM : LAK_DONE), "lak_mesh_triangles answers something else");
+    if (wanted.rule)
+        must(fault.rule == wanted.rule && fault.number == wanted.number && count == 7, "a mesh has no triangles for something else");
+    else
+        must(fault.rule == 7 && count == found, "how many triangles there are");
+    size_t written = room < found ? room : found;
+    must(memcmp(into, all, written * sizeof *into) == 0 && into[written][0] == 0x07070707, "the triangles of a mesh");
+}
+
+/* ---- calls on an open handle, or a closed one */
 
 static void close_one(tracked *it)
 {
@@ -243,7 +466,7 @@ static void read_links(tracked *it, lak_counts_of_world counts, const uint8_t *l
 static void read_ledger(tracked *it)
 {
     lak_ledger_of_world l;
-    lak_place gravity = {7, 7, 7};
+    lak_vec3 gravity = {7, 7, 7};
     int32_t full = it->open ? LAK_DONE : LAK_CLOSED;
     memset(&l, 0, sizeof l);
     must(lak_gravity_now(&it->cloth, &gravity) == full && (it->open || gravity.y == 7), "gravity");
@@ -257,14 +480,16 @@ static void read_ledger(tracked *it)
 
 static void read_some(tracked *it)
 {
-    static lak_place places[ROOM];
+    static lak_vec3 places[ROOM];
     static uint8_t live[ROOM];
     static uint32_t gone[ROOM];
     lak_counts_of_world counts = {0, 0, 0, 0, 0, 0};
+    uint64_t contacts = 7;
     size_t room = draw() % 3 == 0 ? draw() % 40 : ROOM;
     uint32_t count = 0, slot = (uint32_t)(draw() % 5);
     int32_t full = it->open ? LAK_DONE : LAK_CLOSED;
     must(lak_counts(&it->cloth, &counts) == full, "lak_counts answers something else");
+    must(lak_contacts(&it->cloth, &contacts) == full && contacts == (it->open ? counts.contacts : 7), "the contacts");
     int32_t answer = draw() % 2 ? lak_places(&it->cloth, places, room, &count) : lak_places_before(&it->cloth, places, room, &count);
     must(answer == (it->open && room < counts.particles ? LAK_NO_ROOM : full) && count == counts.particles, "the places");
     count = 0;
@@ -393,10 +618,12 @@ static void call(void)
 {
     tracked *it = &handles[draw() % HANDLES];
     lak_left left;
-    uint64_t kind = draw() % 36;
+    uint64_t kind = draw() % 37;
     calls++;
-    if (kind < 2)
+    if (kind == 0)
         open_some(it);
+    else if (kind == 1)
+        open_with_mesh(it);
     else if (kind == 2 && draw() % 8 == 0)
         close_one(it);
     else if (kind < 8)
@@ -412,7 +639,7 @@ static void call(void)
     else if (kind == 17)
         cut_many(it);
     else if (kind < 20)
-        after_command(it, lak_gravity(&it->cloth, draw() % 4 ? (lak_place) {0, -(int64_t)(draw() % 300), 0} : place()));
+        after_command(it, lak_gravity(&it->cloth, draw() % 4 ? (lak_vec3) {0, -(int64_t)(draw() % 300), 0} : place()));
     else if (kind == 20)
         look_at_slot(it);
     else if (kind < 26)
@@ -423,6 +650,8 @@ static void call(void)
         write_state(it);
     else if (kind < 35)
         read_state(it);
+    else if (kind == 35)
+        cut_mesh();
     else if (draw() % 8 == 0)
         record_some();
 }
@@ -436,6 +665,7 @@ int main(int argc, char **argv)
             call();
     for (int i = 0; i < HANDLES; i++)
         lak_close(&handles[i].cloth);
-    printf("fuzz: %" PRIu64 " calls, %" PRIu64 " worlds opened, %" PRIu64 " changed states taken\n", calls, opened, taken);
+    printf("fuzz: %" PRIu64 " calls, %" PRIu64 " worlds opened, %" PRIu64 " of them with a mesh, %" PRIu64 " changed states taken\n",
+           calls, opened, with_mesh, taken);
     return 0;
 }

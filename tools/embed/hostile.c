@@ -349,7 +349,7 @@ static void open_world(const scene *it)
     must(lak_open(&cloth, (const uint8_t *)it->text, strlen(it->text), 0, &fault) == LAK_DONE, "the scene isn't opened");
     must(lak_scene_name(&cloth, &name) == LAK_DONE, "the scene has no name");
     must(lak_step(&cloth, 20, &left) == LAK_DONE && lak_cut(&cloth, 1) == LAK_DONE, "a command is refused");
-    must(lak_gravity(&cloth, (lak_place) {-20, -150, 30}) == LAK_DONE && lak_pin(&cloth, 2) == LAK_DONE, "a command is refused");
+    must(lak_gravity(&cloth, (lak_vec3) {-20, -150, 30}) == LAK_DONE && lak_pin(&cloth, 2) == LAK_DONE, "a command is refused");
     must(lak_step(&cloth, 20, &left) == LAK_DONE && lak_counts(&cloth, &counts) == LAK_DONE, "a command is refused");
     particles = counts.particles;
     links = counts.links;

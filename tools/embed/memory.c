@@ -1,7 +1,7 @@
 /*
  * What takes memory, and what happens where there is none. Linked with -Wl,--wrap=malloc,--wrap=realloc,--wrap=free, so that each
- * request can be counted, and made to fail: opening, recording and replaying have each of theirs fail in turn, and must give back
- * what they took; no other call makes one.
+ * request can be counted, and made to fail: opening, recording, replaying and cutting a mesh into triangles have each of theirs
+ * fail in turn, and must give back what they took; no other call makes one.
  */
 #include "lakmozet.h"
 
@@ -61,11 +61,13 @@ static int32_t open_it(lak_cloth *cloth)
     return lak_open(cloth, (const uint8_t *)scene, strlen(scene), 4, &fault);
 }
 
-/* The same with two triangles behind it that a bend link joins. */
+/* Two triangles. */
+static const lak_vec3 vertices[] = {{0, 0, 0}, {6554, 0, 0}, {0, 6554, 0}, {6554, 6554, 0}};
+static const uint32_t sizes[] = {3, 3}, corners[] = {0, 1, 2, 2, 1, 3};
+
+/* The scene with the triangles behind it, which a bend link joins. */
 static int32_t open_mesh(lak_cloth *cloth)
 {
-    static const lak_place vertices[] = {{0, 0, 0}, {6554, 0, 0}, {0, 6554, 0}, {6554, 6554, 0}};
-    static const uint32_t sizes[] = {3, 3}, corners[] = {0, 1, 2, 2, 1, 3};
     static const lak_mesh_settings settings = {0, 0, 0, 1, 256, 256, 64, 1};
     lak_fault fault;
     lak_mesh_fault mesh_fault;
@@ -129,18 +131,40 @@ static unsigned long replay_without_memory(void)
     }
 }
 
+/* Each request of cutting a mesh fails once: nothing is written, and all is given back. Returns how many there are. */
+static unsigned long cut_without_memory(void)
+{
+    uint32_t into[2][3];
+    for (unsigned long n = 1;; n++) {
+        size_t count = 7;
+        lak_mesh_fault fault = {7, 7};
+        memset(into, 7, sizeof into);
+        requests = 0, fails_at = n;
+        int32_t answer = lak_mesh_triangles(vertices, 4, sizes, 2, corners, 6, into, 2, &count, &fault);
+        fails_at = 0;
+        must(blocks == 0, "cutting gives all back");
+        if (answer == LAK_DONE) {
+            must(count == 2 && memcmp(into, corners, sizeof into) == 0, "triangles are as they are");
+            return n - 1;
+        }
+        must(answer == LAK_OUT_OF_MEMORY && count == 7 && into[0][0] == 0x07070707, "failed cutting writes nothing");
+        must(fault.number == 0 && fault.rule == 0, "want of memory is no fault");
+    }
+}
+
 /* What a program reads of a cloth, each list once. */
 static void read_all(lak_cloth *cloth)
 {
-    static lak_place places[64];
+    static lak_vec3 places[64];
     static lak_link links[4096];
     static uint8_t bytes[4096];
     static uint32_t gone[4096];
     lak_sums_of_world sums;
     lak_counts_of_world counts;
     lak_ledger_of_world ledger;
-    lak_place gravity;
+    lak_vec3 gravity;
     uint32_t count, link;
+    uint64_t contacts;
     must(lak_sums(cloth, &sums) == LAK_DONE && lak_counts(cloth, &counts) == LAK_DONE, "it reads");
     must(lak_places(cloth, places, 64, &count) == LAK_DONE && lak_places_before(cloth, places, 64, &count) == LAK_DONE, "it reads");
     must(lak_live(cloth, bytes, 4096, &count) == LAK_DONE && lak_gone_since(cloth, 0, gone, 4096, &count) == LAK_DONE, "it reads");
@@ -148,6 +172,7 @@ static void read_all(lak_cloth *cloth)
     must(lak_link_between(cloth, links[5].b, links[5].a, &link) == LAK_DONE && link == 5, "it finds a link");
     must(lak_link_between(cloth, 3, 3, &link) == LAK_NO_LINK, "it finds no link");
     must(lak_gravity_now(cloth, &gravity) == LAK_DONE && lak_ledger(cloth, &ledger) == LAK_DONE, "it reads");
+    must(lak_contacts(cloth, &contacts) == LAK_DONE && contacts == counts.contacts, "it reads");
 }
 
 /* Writes a state, hashes it, and reads it back, and bytes that are none. */
@@ -176,11 +201,11 @@ static void play_without_memory(void)
     requests = 0;
     for (int i = 0; i < 60; i++) {
         must(lak_save(&cloth, (uint32_t)i % 4) == LAK_DONE && lak_step(&cloth, 3, &left) == LAK_DONE, "it steps");
-        must(lak_move(&cloth, 0, (lak_place) {i * 300, 65536 + i * 100, 0}) == LAK_DONE, "it moves");
+        must(lak_move(&cloth, 0, (lak_vec3) {i * 300, 65536 + i * 100, 0}) == LAK_DONE, "it moves");
         lak_cut(&cloth, (uint64_t)i * 5);
         must(lak_pin(&cloth, 20) == LAK_DONE && lak_unpin(&cloth, 20) == LAK_DONE, "it pins");
         must(lak_cut_many(&cloth, stroke, 4, &refused) == LAK_DONE && refused >= 1, "it cuts many");
-        must(lak_gravity(&cloth, (lak_place) {i, -179, 0}) == LAK_DONE, "it sets gravity");
+        must(lak_gravity(&cloth, (lak_vec3) {i, -179, 0}) == LAK_DONE, "it sets gravity");
         read_all(&cloth);
         write_and_read(&cloth);
         if (i % 7 == 0)
@@ -194,10 +219,10 @@ static void play_without_memory(void)
 int main(void)
 {
     unsigned long opening = open_without_memory(open_it), meshes = open_without_memory(open_mesh);
-    unsigned long recording = record_without_memory(), replaying = replay_without_memory();
+    unsigned long recording = record_without_memory(), replaying = replay_without_memory(), cutting = cut_without_memory();
     play_without_memory();
-    printf("memory: %lu requests of an opening, %lu of one with a mesh, %lu of a record and %lu of a replay failed in turn; "
-           "the other calls make none\n",
-           opening, meshes, recording, replaying);
+    printf("memory: %lu requests of an opening, %lu of one with a mesh, %lu of a record, %lu of a replay and %lu of cutting a mesh "
+           "failed in turn; the other calls make none\n",
+           opening, meshes, recording, replaying, cutting);
     return 0;
 }

@@ -12,7 +12,7 @@
 
 static const char *const phases[] = {"", "predict", "link", "contact", "shape"};
 static uint8_t text[1 << 24];
-static lak_place places[65536];
+static lak_vec3 places[65536];
 static bool quiet; /* whether digests are all that is printed */
 
 static void print_reply(int32_t answer, const lak_left *left)
@@ -101,11 +101,11 @@ static void play(lak_cloth *cloth, const char *line)
     else if (strcmp(word, "unpin") == 0 && found == 2)
         print_reply(lak_unpin(cloth, (uint64_t)n[0]), &left);
     else if (strcmp(word, "move") == 0 && found == 5)
-        print_reply(lak_move(cloth, (uint64_t)n[0], (lak_place) {n[1], n[2], n[3]}), &left);
+        print_reply(lak_move(cloth, (uint64_t)n[0], (lak_vec3) {n[1], n[2], n[3]}), &left);
     else if (strcmp(word, "cut") == 0 && found == 2)
         print_reply(lak_cut(cloth, (uint64_t)n[0]), &left);
     else if (strcmp(word, "gravity") == 0 && found == 4)
-        print_reply(lak_gravity(cloth, (lak_place) {n[0], n[1], n[2]}), &left);
+        print_reply(lak_gravity(cloth, (lak_vec3) {n[0], n[1], n[2]}), &left);
     else
         print_reply(LAK_BAD_COMMAND, &left);
 }

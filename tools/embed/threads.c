@@ -46,14 +46,14 @@ static lak_hash digest_of(lak_cloth *cloth)
 static void play(lak_cloth *cloth, int turn)
 {
     uint8_t state[ROOM];
-    lak_place places[36];
+    lak_vec3 places[36];
     lak_hash name;
     lak_left left;
     size_t size;
     uint32_t count;
     uint64_t offset;
     must(lak_save(cloth, 1) == LAK_DONE && lak_step(cloth, 1, &left) == LAK_DONE && lak_restore(cloth, 1) == LAK_DONE, "a guess");
-    must(lak_move(cloth, 0, (lak_place) {turn * -300, 65536 + turn * 100, 0}) == LAK_DONE, "a move");
+    must(lak_move(cloth, 0, (lak_vec3) {turn * -300, 65536 + turn * 100, 0}) == LAK_DONE, "a move");
     lak_cut(cloth, (uint64_t)turn * 3);
     must(lak_step(cloth, 2, &left) == LAK_DONE && lak_places(cloth, places, 36, &count) == LAK_DONE, "steps");
     must(lak_scene_name(cloth, &name) == LAK_DONE, "a name");

@@ -5,7 +5,7 @@ import re
 
 TOP = pathlib.Path(__file__).resolve().parent.parent.parent
 # the lists of names in the header, and what they are called in the bindings, with the number of their first
-NAMES = {"rule": ("Rule", 2), "table": ("Table", 0), "key": ("Key", 0), "field": ("Field", 1)}
+NAMES = {"rule": ("Rule", 2), "mesh_rule": ("MeshRule", 1), "table": ("Table", 0), "key": ("Key", 0), "field": ("Field", 1)}
 
 
 def header():

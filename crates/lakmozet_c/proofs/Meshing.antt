@@ -1,15 +1,14 @@
 -- A scene that was read has the limit with which it was read, and no reason that a mesh isn't added has to do with slots.
 use Rattle.std.proofs.Common.{◌≡◌, ◌∙◌, sym, ap, refl, ℕ, ℤ, List, [], length, Option, Some, None, Result, Ok}
-use Rattle.std.specs.Prelude.{◌^◌, ◌≤◌, pos, IsTrue}
+use Rattle.std.specs.Prelude.{◌^◌, ◌≤◌, pos}
 use Rattle.toml.specs.Data.{Members}
 use Rattle.pbd_world.specs.declared.parts.Parts.{Parts}
-use Rattle.pbd_world.specs.Valid.{is_limit}
 use Rattle.pbd_mesh.proofs.Facts.{limit_bounds}
 use Rattle.pbd_scene.specs.declared.raw.LinkEntry.{LinkEntry}
 use Rattle.pbd_scene.specs.declared.raw.TrackEntry.{TrackEntry}
 use Rattle.pbd_scene.specs.Checks.{each}
 use Rattle.pbd_scene.specs.Naming.{all_links, pinned, placed_track}
-use Rattle.pbd_scene.specs.Scene.{plain_parts, scene_of, settings_of, tables_of, with_entries, with_meshes}
+use Rattle.pbd_scene.specs.Scene.{scene_of, settings_of, tables_of, with_entries, with_meshes}
 use Rattle.pbd_scene.proofs.Accepted.{same_ok, through}
 use Rattle.pbd_scene.proofs.Validity.{meshes_fit, tables_fit}
 use Rattle.pbd_obj.specs.declared.arrays.ArraysFault.{ArraysFault}

@@ -1,4 +1,5 @@
 pub mod Calls
+pub mod Drawn
 pub mod Faults
 pub mod Kept
 pub mod Logs

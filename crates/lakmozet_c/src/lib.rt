@@ -3,6 +3,7 @@
 
 mod commands;
 mod cuts;
+mod drawing;
 mod handle;
 mod meshes;
 mod naming;

@@ -92,14 +92,20 @@ fn push_vectors(places: &[Place], vectors: &mut List<Vec3>) -> Result<(), AllocE
     Ok(())
 }
 
-fn mesh_in(alloc: Global, given: &Given) -> Result<ObjMesh, ArraysFault>
-    ensures ok { IfOk result (λ mesh. mesh_in given.now.vertices.now given.now.sizes.now given.now.corners.now ≡ Ok mesh) }
-    ensures err { IfErr result (λ fault. IsArraysFault (mesh_in given.now.vertices.now given.now.sizes.now given.now.corners.now) fault) }
+/// The mesh that a program hands in.
+pub(crate) fn mesh_in(
+    alloc: Global,
+    vertices: &[Place],
+    sizes: &[u32],
+    corners: &[u32],
+) -> Result<ObjMesh, ArraysFault>
+    ensures ok { IfOk result (λ mesh. mesh_in vertices.now sizes.now corners.now ≡ Ok mesh) }
+    ensures err { IfErr result (λ fault. IsArraysFault (mesh_in vertices.now sizes.now corners.now) fault) }
     ensures mesh { IfOk result IsMesh }
 {
     let mut vectors = List::new(alloc);
-    push_vectors(given.vertices, &mut vectors)?;
-    mesh_of(alloc, vectors.as_slice(), given.sizes, given.corners)
+    push_vectors(vertices, &mut vectors)?;
+    mesh_of(alloc, vectors.as_slice(), sizes, corners)
 }
 
 // ---- a scene and a mesh
@@ -142,7 +148,7 @@ fn with_given(alloc: Global, given: &Given, scene: Scene) -> Result<Scene, Unfit
         drop(scene);
         return Err(Unfit::BadSettings);
     }
-    match mesh_in(alloc, given) {
+    match mesh_in(alloc, given.vertices, given.sizes, given.corners) {
         Ok(mesh) => match with_mesh(alloc, &mesh, &given.settings, scene) {
             Ok(whole) => Ok(whole),
             Err(fault) => Err(Unfit::NotAdded(fault)),
@@ -201,7 +207,7 @@ fn cloth_with_mesh(
 
 // ---- numbers of reasons
 
-fn unfit_number(why: Unfit) -> i32
+pub(crate) fn unfit_number(why: Unfit) -> i32
     ensures { result ≡ pos (unfit_number why) }
 {
     match why {
@@ -224,7 +230,7 @@ fn mesh_stop_number(why: &NoWhole) -> i32
 
 const NO_MESH_FAULT: MeshFault = MeshFault { number: 0, rule: 0 };
 
-fn unfit_fault(why: Unfit) -> MeshFault
+pub(crate) fn unfit_fault(why: Unfit) -> MeshFault
     ensures { result ≡ unfit_fault why }
 {
     match why {

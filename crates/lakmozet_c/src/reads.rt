@@ -14,10 +14,10 @@ use pbd_world::FrameSums;
 use std::alloc::Global;
 
 /// Whether so many fit.
-pub(crate) fn room_for(count: u32, room: usize) -> i32
+pub(crate) fn room_for(count: usize, room: usize) -> i32
     ensures { result ≡ pos (room_answer count room) }
 {
-    if count as usize <= room { 0 } else { NO_ROOM }
+    if count <= room { 0 } else { NO_ROOM }
 }
 
 fn sums_of(sums: &FrameSums) -> Sums
@@ -53,7 +53,7 @@ fn gone_since(cloth: &Cloth, slot: u32, into: &mut [u32], count: &mut u32) -> i3
 {
     if slot < cloth.slots() {
         *count = cloth.gone_since(slot, into);
-        return room_for(*count, into.len());
+        return room_for(*count as usize, into.len());
     }
     NO_SLOT
 }
@@ -94,6 +94,24 @@ pub extern "C" fn lak_sums(alloc: Global, handle: &mut Handle, sums: &mut Sums) 
     }
 }
 
+/// Writes how many contacts the last step found.
+#[unsafe(no_mangle)]
+pub extern "C" fn lak_contacts(alloc: Global, handle: &mut Handle, contacts: &mut u64) -> i32
+    ensures held { handle.new.held ≡ handle.old.held }
+    ensures sound { HoldsSound handle.new.held }
+    ensures answer { result ≡ pos (answered handle.old.held (λ _. 0)) }
+    ensures contacts { contacts.new ≡ read_from handle.old.held (λ c. c.world.contacts) contacts.old }
+{
+    match handle.take(alloc) {
+        Some(cloth) => {
+            *contacts = u64::from(cloth.contacts());
+            handle.put(alloc, cloth);
+            0
+        }
+        None => CLOSED,
+    }
+}
+
 /// Writes the places of the particles, as many as there is room for, and how many there are.
 #[unsafe(no_mangle)]
 pub extern "C" fn lak_places(
@@ -112,7 +130,7 @@ pub extern "C" fn lak_places(
         Some(cloth) => {
             *count = cloth.places(into);
             handle.put(alloc, cloth);
-            room_for(*count, into.len())
+            room_for(*count as usize, into.len())
         }
         None => CLOSED,
     }
@@ -136,7 +154,7 @@ pub extern "C" fn lak_places_before(
         Some(cloth) => {
             *count = cloth.places_before(into);
             handle.put(alloc, cloth);
-            room_for(*count, into.len())
+            room_for(*count as usize, into.len())
         }
         None => CLOSED,
     }
@@ -160,7 +178,7 @@ pub extern "C" fn lak_live(
         Some(cloth) => {
             *count = cloth.live(into);
             handle.put(alloc, cloth);
-            room_for(*count, into.len())
+            room_for(*count as usize, into.len())
         }
         None => CLOSED,
     }

@@ -78,7 +78,7 @@ pub extern "C" fn lak_links(
         Some(cloth) => {
             *count = cloth.link_entries(into);
             handle.put(alloc, cloth);
-            room_for(*count, into.len())
+            room_for(*count as usize, into.len())
         }
         None => CLOSED,
     }
@@ -102,7 +102,7 @@ pub extern "C" fn lak_held(
         Some(cloth) => {
             *count = cloth.held(into);
             handle.put(alloc, cloth);
-            room_for(*count, into.len())
+            room_for(*count as usize, into.len())
         }
         None => CLOSED,
     }

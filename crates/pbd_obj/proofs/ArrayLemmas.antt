@@ -1,14 +1,13 @@
 -- Arrays that are a mesh, face by face.
-use Rattle.std.proofs.Common.{◌≡◌, ◌≢◌, ◌∙◌, sym, ap, refl, ℕ, zero, suc, ◌+◌, ◌-◌, ◌<◌, ◌≤◌, Bool, true, false, not, ◌&&◌, List, [], ◌∷◌}
-use Rattle.std.proofs.Common.{◌++◌, length, get_or, take, drop, arith, inl, inr, append_assoc, length-drop, Option, Some, None, Ok, nat_le}
-use Rattle.std.proofs.Common.{pos, subst}
-use Rattle.std.specs.Prelude.{◌==◌, cond, nat_lt, All, sum, position, IsTrue}
-use Rattle.std.specs.List.{list_all, position_from, position_or_len, AllByRecursion}
+use Rattle.std.proofs.Common.{◌≡◌, ◌∙◌, sym, ap, refl, ℕ, ◌+◌, ◌-◌, ◌<◌, ◌≤◌, Bool, true, false, not, ◌&&◌, List, [], ◌∷◌, ◌++◌, length}
+use Rattle.std.proofs.Common.{get_or, take, drop, arith, inl, inr, length-drop, Some, None, Ok, nat_le, pos}
+use Rattle.std.specs.Prelude.{◌==◌, cond, nat_lt, sum, position, IsTrue}
+use Rattle.std.specs.List.{list_all, position_from, AllByRecursion}
 use Rattle.std.specs.Ordering.{nat_cmp}
 use Rattle.std.specs.BTreeMap.{is_at}
 use Rattle.std.specs.BTreeSet.{BTreeSet, contains}
-use Rattle.std.proofs.lemmas.Bool.{and_parts, and_from, and_left, and_right, eqb-true, cases_eq, eq-eqb, ne_eqb, false≢true, le-ltb, lt-ltb}
-use Rattle.std.proofs.lemmas.Bool.{leb-true, ltb-true, not-true}
+use Rattle.std.proofs.lemmas.Bool.{and_parts, and_from, and_left, and_right, eqb-true, cases_eq, eq-eqb, ne_eqb, le-ltb, lt-ltb, leb-true}
+use Rattle.std.proofs.lemmas.Bool.{ltb-true, not-true}
 use Rattle.std.proofs.lemmas.Iterator.Adapters.{position_from-zero}
 use Rattle.std.proofs.lemmas.List.{drop_all, drop_more, take-append-drop, take_all, take_more}
 use Rattle.std.proofs.lemmas.List.Elements.{All-from_recursion}
@@ -20,7 +19,7 @@ use Rattle.pbd_world.specs.Neighbours.{is_among}
 use Rattle.pbd_obj.specs.declared.mesh.ObjMesh.{ObjMesh}
 use Rattle.pbd_obj.specs.declared.arrays.ArraysFault.TheVariants.{BadCount, BadFace, OutOfRange}
 use Rattle.pbd_obj.specs.Arrays.{is_face_of, is_no_face, is_outside, mesh_of, IsArraysFault}
-use Rattle.pbd_obj.specs.Meshes.{cut, faces, IsFace, IsMesh}
+use Rattle.pbd_obj.specs.Meshes.{cut, IsFace, IsMesh}
 use Rattle.pbd_obj.specs.Reading.{is_face}
 use Rattle.pbd_obj.proofs.FaceLemmas.{marked_more, once, once_push, once_twice}
 

@@ -5,6 +5,7 @@ pub mod ReadLemmas
 pub mod MeshLemmas
 pub mod WriteLemmas
 pub mod NetLemmas
+pub mod FaceByFace
 pub mod EdgeLemmas
 pub mod SharedLemmas
 pub mod AddLemmas

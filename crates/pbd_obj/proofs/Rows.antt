@@ -14,6 +14,8 @@ use Rattle.pbd_obj.specs.Facing.{edge, edges, facing}
 use Rattle.pbd_obj.specs.declared.settings.MeshSettings.{MeshSettings}
 use Rattle.pbd_obj.specs.Settings.{stiff, stiff_settings}
 use Rattle.pbd_obj.specs.MeshLinks.{link, mesh_links}
+use Rattle.pbd_obj.specs.declared.triangles.Triangle.{Triangle}
+use Rattle.pbd_obj.specs.Triangles.{fan_triangle, triangles}
 use Rattle.pbd_obj.specs.Writing.{coordinate, vertex_line, face_line, mesh_text}
 
 -- ---- decimals
@@ -202,3 +204,14 @@ one_link_bends : mesh_links bent pair_of_triangles 7 ≡ joins Stretch 0 1 3 ∷
     ∷ joins Stretch 3 2 3 ∷ record (joins Bend 0 3 5) { k = 40; tear = pos 9 } ∷ []
 unfolding mesh_links link root pair_of_triangles joins place bent facing edge
 one_link_bends = refl
+
+-- ---- triangles
+
+abbrev drawn : ℕ → ℕ → ℕ → Triangle
+drawn a b c = record { a = a; b = b; c = c }
+
+-- a triangle, a square and a face of five corners
+fans : triangles (record { places = []; sizes = 3 ∷ 4 ∷ 5 ∷ []; corners = 2 ∷ 0 ∷ 1 ∷ 4 ∷ 5 ∷ 6 ∷ 7 ∷ 9 ∷ 8 ∷ 3 ∷ 2 ∷ 0 ∷ [] })
+    ≡ drawn 2 0 1 ∷ drawn 4 5 6 ∷ drawn 4 6 7 ∷ drawn 9 8 3 ∷ drawn 9 3 2 ∷ drawn 9 2 0 ∷ []
+unfolding fan_triangle
+fans = refl

@@ -6,6 +6,7 @@ pub mod Arrays
 pub mod Writing
 pub mod Settings
 pub mod Facing
+pub mod Triangles
 pub mod MeshLinks
 pub mod Nets
 pub mod SharedEdges

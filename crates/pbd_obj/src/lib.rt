@@ -10,6 +10,7 @@ mod links;
 mod mesh;
 mod reading;
 mod settings;
+mod triangles;
 mod words;
 mod writing;
 
@@ -22,4 +23,5 @@ pub use links::{add_mesh, add_mesh_with};
 pub use mesh::{ObjFault, ObjMesh};
 pub use reading::read_obj;
 pub use settings::{LinkSettings, MeshSettings};
+pub use triangles::{Triangle, triangles_of};
 pub use writing::{write_face, write_vertex};

@@ -7,6 +7,8 @@ mod drawn;
 #[cfg(test)]
 mod hostile;
 #[cfg(test)]
+mod names;
+#[cfg(test)]
 mod rows;
 #[cfg(test)]
 mod sessions;

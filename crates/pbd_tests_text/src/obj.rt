@@ -6,8 +6,8 @@ use crate::parts::{empty_parts, link, push_repeated};
 use pbd_io::MemSink;
 use pbd_num::{RANGE, Vec3, inside};
 use pbd_obj::{
-    LinkSettings, MeshSettings, ObjFault, add_mesh, add_mesh_with, read_obj, write_face,
-    write_vertex,
+    ArraysFault, LinkSettings, MeshSettings, ObjFault, Triangle, add_mesh, add_mesh_with, mesh_of,
+    read_obj, triangles_of, write_face, write_vertex,
 };
 use pbd_world::{Kind, Link, Parts};
 use std::alloc::Global;
@@ -417,6 +417,137 @@ static VERTICES: [Vec3; 4] = [
     place!(536_870_912, -536_870_912, 536_870_911),
     place!(32_768, 655_360, 8),
 ];
+
+/// The fault of arrays: how many corners each face has, and the corners.
+fn fault_of_arrays(alloc: Global, sizes: &[u32], corners: &[u32]) -> Option<ArraysFault> {
+    match mesh_of(alloc, &VERTICES, sizes, corners) {
+        Ok(mesh) => {
+            drop(mesh);
+            None
+        }
+        Err(fault) => Some(fault),
+    }
+}
+
+/// Faces of four vertices, and what is wrong with them.
+static ARRAYS: [(&[u32], &[u32], Option<ArraysFault>); 12] = [
+    (&[], &[], None),
+    (&[3, 4], &[3, 0, 1, 0, 1, 2, 3], None),
+    (&[3], &[0, 1, 2, 3], Some(ArraysFault::BadCount)),
+    (&[4], &[0, 1, 2], Some(ArraysFault::BadCount)),
+    (&[], &[0], Some(ArraysFault::BadCount)),
+    (
+        &[3, 4_294_967_295, 4],
+        &[0, 1, 2, 0, 1, 2],
+        Some(ArraysFault::BadCount),
+    ),
+    (&[0], &[], Some(ArraysFault::BadFace { face: 0 })),
+    (
+        &[3, 2],
+        &[0, 1, 2, 0, 1],
+        Some(ArraysFault::BadFace { face: 1 }),
+    ),
+    (&[3], &[0, 1, 4], Some(ArraysFault::BadFace { face: 0 })),
+    (&[3], &[0, 1, 0], Some(ArraysFault::BadFace { face: 0 })),
+    (
+        &[3, 3, 3],
+        &[0, 1, 2, 3, 3, 2, 9, 9, 9],
+        Some(ArraysFault::BadFace { face: 1 }),
+    ),
+    (
+        &[4],
+        &[0, 1, 2, 4_294_967_295],
+        Some(ArraysFault::BadFace { face: 0 }),
+    ),
+];
+
+#[test]
+fn arrays_that_are_a_mesh_or_none(rt: HostRuntime) {
+    for (sizes, corners, fault) in &ARRAYS {
+        assert!(rt;
+            fault_of_arrays(rt.alloc(), sizes, corners) == *fault,
+            "of {sizes:?} {corners:?}"
+        );
+    }
+}
+
+#[test]
+fn arrays_with_a_vertex_outside(rt: HostRuntime) {
+    let places = [
+        VERTICES[0],
+        place!(0, 536_870_913, 0),
+        place!(-536_870_913, 0, 0),
+    ];
+    match mesh_of(rt.alloc(), &places, &[3], &[0, 1, 9]) {
+        Ok(mesh) => {
+            drop(mesh);
+            assert!(rt; false, "it is none");
+        }
+        Err(fault) => assert!(rt; fault == ArraysFault::OutOfRange { vertex: 1 }),
+    }
+}
+
+macro_rules! triangle {
+    ($a:expr, $b:expr, $c:expr) => {
+        Triangle {
+            a: $a,
+            b: $b,
+            c: $c,
+        }
+    };
+}
+
+/// Compares the triangles of the faces of a mesh.
+fn compare_triangles(
+    rt: &impl Abort,
+    alloc: Global,
+    sizes: &[u32],
+    corners: &[u32],
+    triangles: &[Triangle],
+) {
+    match mesh_of(alloc, &[Vec3::ZERO; 7], sizes, corners) {
+        Ok(mesh) => {
+            let found = triangles_of(alloc, &mesh);
+            drop(mesh);
+            match found {
+                Ok(found) => {
+                    assert!(rt; found.as_slice() == triangles, "of {sizes:?} {corners:?}");
+                    drop(found);
+                }
+                Err(_) => assert!(rt; false, "no memory"),
+            }
+        }
+        Err(fault) => assert!(rt; false, "{fault:?} of {sizes:?} {corners:?}"),
+    }
+}
+
+/// Faces of seven vertices, and their triangles.
+static TRIANGLES: [(&[u32], &[u32], &[Triangle]); 4] = [
+    (&[], &[], &[]),
+    (&[3], &[6, 2, 4], &[triangle!(6, 2, 4)]),
+    (
+        &[4, 3],
+        &[0, 1, 2, 3, 3, 2, 4],
+        &[triangle!(0, 1, 2), triangle!(0, 2, 3), triangle!(3, 2, 4)],
+    ),
+    (
+        &[6],
+        &[5, 4, 6, 2, 1, 0],
+        &[
+            triangle!(5, 4, 6),
+            triangle!(5, 6, 2),
+            triangle!(5, 2, 1),
+            triangle!(5, 1, 0),
+        ],
+    ),
+];
+
+#[test]
+fn faces_are_cut_into_triangles(rt: HostRuntime) {
+    for (sizes, corners, triangles) in &TRIANGLES {
+        compare_triangles(&rt, rt.alloc(), sizes, corners, triangles);
+    }
+}
 
 static LINES: &[u8] =
     b"v 0 1 -1.5\nv 0.100006103515625 0.0000152587890625 -0.0000152587890625\nv 8192 -8192 8191.9999847412109375\nv 0.5 10 0.0001220703125\nf 1 4 100\nf 11 12 13 14\n";

@@ -1,10 +1,11 @@
 //! Meshes that become cloth.
 use crate::parts::kit::alloc::{AllocError, Global};
 use crate::parts::kit::CollectIn;
-use crate::parts::pbd_obj::{add_mesh_with, mesh_of, ArraysFault, ObjFault};
+use crate::parts::pbd_obj::{add_mesh_with, mesh_of, triangles_of, ArraysFault, ObjFault, ObjMesh};
 use crate::parts::pbd_world::{self, PartsFault};
 use crate::position::Position;
 use crate::scene::Scene;
+use alloc::vec::Vec;
 use core::error::Error;
 use core::fmt;
 
@@ -106,6 +107,41 @@ impl fmt::Display for MeshError {
 
 impl Error for MeshError {}
 
+impl Mesh<'_> {
+    /// The triangles of its faces, as numbers of vertices, to draw: a face a b c d is a b c and a c d. Vertex v of a mesh that was
+    /// added to a scene is the particle v places behind the scene's own.
+    ///
+    /// # Errors
+    ///
+    /// The first fault of the mesh, or that there is no memory.
+    ///
+    /// ```
+    /// use lakmozet::{Mesh, MeshError, Position};
+    ///
+    /// let square = [[0, 0, 0], [6554, 0, 0], [6554, 0, 6554], [0, 0, 6554]].map(Position::from);
+    /// let mesh = Mesh { vertices: &square, sizes: &[4], corners: &[0, 1, 2, 3] };
+    /// assert_eq!(mesh.triangles()?, [[0, 1, 2], [0, 2, 3]]);
+    ///
+    /// let more = Mesh { sizes: &[3], ..mesh };
+    /// assert_eq!(more.triangles(), Err(MeshError::BadCount));
+    /// # Ok::<(), MeshError>(())
+    /// ```
+    pub fn triangles(&self) -> Result<Vec<[u32; 3]>, MeshError> {
+        let triangles = triangles_of(Global, &self.found()?)?;
+        Ok(triangles
+            .as_slice()
+            .iter()
+            .map(|it| [it.a, it.b, it.c])
+            .collect())
+    }
+
+    fn found(&self) -> Result<ObjMesh, MeshError> {
+        let vertices = self.vertices.iter().map(|at| at.vector());
+        let vertices = vertices.collect_in(Global)?;
+        Ok(mesh_of(Global, &vertices, self.sizes, self.corners)?)
+    }
+}
+
 impl Scene {
     /// The scene with a mesh besides: its vertices are free particles at rest, numbered after those of the scene, and its links are
     /// numbered after the scene's.
@@ -134,9 +170,7 @@ impl Scene {
         if !settings.are_in_range() {
             return Err(MeshError::BadSettings);
         }
-        let vertices = mesh.vertices.iter().map(|at| at.vector());
-        let vertices = vertices.collect_in(Global)?;
-        let found = mesh_of(Global, &vertices, mesh.sizes, mesh.corners)?;
+        let found = mesh.found()?;
         let mut parts = self.parts.into_parts();
         add_mesh_with(Global, &found, settings, &mut parts)?;
         match pbd_world::Scene::from_parts(Global, parts) {

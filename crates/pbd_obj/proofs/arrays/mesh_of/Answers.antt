@@ -1,4 +1,4 @@
-use Rattle.std.proofs.Common.{◌≡◌, ◌∙◌, sym, true, None, length}
+use Rattle.std.proofs.Common.{◌≡◌, true, None, length}
 use Rattle.std.specs.Prelude.{◌==◌, position, sum}
 use Rattle.pbd_obj.specs.Arrays.{is_no_face, is_outside}
 use Rattle.pbd_obj.specs.Meshes.{cut}
