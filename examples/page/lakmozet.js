@@ -131,9 +131,9 @@ export class World {
         return this.sumBytes.slice();
     }
 
-    // The 32 bytes that two machines compare, as a copy: the SHA-256 of the state.
-    digest() {
-        this.lak.lak_digest(this.handle, this.nameAt, this.hashAt);
+    // The 32 bytes that two machines compare, as a copy: the SHA-256 of the state of the world in a slot.
+    digestOf(slot) {
+        this.lak.lak_digest_slot(this.handle, slot, this.nameAt, this.hashAt);
         return this.hashBytes.slice();
     }
     // All of the world that commands change, as a copy.

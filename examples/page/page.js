@@ -152,11 +152,12 @@ async function automaticRun() {
         game.clock = frame * 1000 / 60;
         const answers = await Promise.all(sides.map(side => side.frame(game.clock, frame + 1)));
         sides.forEach((side, id) => side.take(answers[id]));
-        if (!fast || frame % 20 === 0) drawAll(game.clock);
+        if (!fast || frame % 100 === 0) drawAll(game.clock);
         if (!fast) await new Promise(requestAnimationFrame);
         if (answers.every(it => it.tick === limit && it.sure === turns && it.compared === turns - 1)) break;
         if (frame > limit * 20) return fail("the run doesn't end");
     }
+    drawAll(game.clock);
     const ends = await Promise.all(sides.map(side => side.ask({ what: "finish", turns })));
     const same = ["sums", "script", "after"].every(it => String(ends[0][it]) === String(ends[1][it])), digests = ends.map(it => it.after.at(-1));
     const result = {

@@ -19,7 +19,8 @@ export class Player {
         this.known = 0;             // turns of the other that are known without a gap
         this.theyKnow = 0;          // my turns that the other has
         this.tick = 0;              // steps played
-        this.after = [];            // the digest after each turn, as it is played now
+        this.after = [];            // the digest after each turn that can't change any more
+        this.settled = 0;           // turns that have it
         this.theirs = [];           // digests that the other is sure of
         this.compared = 0;          // turns whose digests were compared
         this.desync = null;
@@ -33,6 +34,7 @@ export class Player {
         this.next = [];
         this.leads = [null, null];  // to show: what each leads
         this.whole = true;          // whether the inputs tell all of the world, from the scene's opening on
+        world.save(0);              // turn 0 begins
     }
 
     get turn() { return Math.floor(this.tick / STEPS); }
@@ -50,7 +52,8 @@ export class Player {
         this.inputs = session.map(list => [...list]);
         if (state) this.world.readState(state);
         for (; this.tick < turns * STEPS; this.tick++) if (!state) this.playStep(this.turn, this.tick % STEPS);
-        this.known = this.theyKnow = this.compared = turns;
+        this.world.save(turns % RING);
+        this.known = this.theyKnow = this.compared = this.settled = turns;
     }
 
     // What a function answers of a world that isn't this one, to which this one comes back.
@@ -63,11 +66,12 @@ export class Player {
 
     // The state and the digest after the last turn that can't change any more: those of the slot in which the next one begins.
     get sureWorld() {
-        const { sure, world } = this;
-        return this.elsewhere(() => {
-            if (sure * STEPS < this.tick) world.restore(sure % RING);
-            return { state: world.state(), digest: world.digest() };
+        const slot = this.sure % RING, { world } = this;
+        const state = this.elsewhere(() => {
+            world.restore(slot);
+            return world.state();
         });
+        return { state, digest: world.digestOf(slot) };
     }
 
     // How many bytes stand before what can't be in a state of this scene, or nothing where it is one.
@@ -113,23 +117,34 @@ export class Player {
             this.alone[turn] = this.secret?.(turn) ?? NOTHING;
             this.tell(now);
         }
-        const start = this.clock();
-        this.playStep(turn, this.tick % STEPS);
-        this.tick++;
-        this.busy += this.clock() - start;
-        this.played += 1 / STEPS;
+        this.spend(1 / STEPS, () => this.playStep(turn, this.tick++ % STEPS));
+        this.settle();
         return true;
     }
 
+    // Plays so many turns, and counts the time.
+    spend(turns, play) {
+        const start = this.clock();
+        play();
+        this.busy += this.clock() - start;
+        this.played += turns;
+    }
+
     playStep(turn, step) {
-        if (step === 0) this.world.save(turn % RING);
         for (const list of [this.inputs[0][turn] ?? NOTHING, this.inputs[1][turn] ?? NOTHING, this.alone[turn] ?? NOTHING]) {
             const now = list.filter(it => it[0] === step);
             for (const it of now) if (it[1] !== CUT) this.play(it);
             this.world.cutMany(now.filter(it => it[1] === CUT).map(it => it[2]));
         }
         this.world.step(1);
-        if (step === STEPS - 1) this.after[turn] = this.world.digest();
+        if (step === STEPS - 1) this.world.save((turn + 1) % RING);
+    }
+
+    // Gives the turns that can't change any more their digests: what a turn came to is in the slot in which the next one begins.
+    settle() {
+        this.spend(0, () => {
+            for (; this.settled < this.sure; this.settled++) this.after[this.settled] = this.world.digestOf((this.settled + 1) % RING);
+        });
     }
 
     // A refusal is an answer like any other: the same in both worlds, and nothing is changed by it. (A turn's cuts come last.)
@@ -143,34 +158,48 @@ export class Player {
 
     // Takes what has come; where a turn was played without an input that has come now, goes back to its slot and plays on.
     receive(now, packets) {
+        const from = Math.min(Infinity, ...packets.map(bytes => this.take(bytes)));
+        this.lastAgain = from < Infinity ? this.playAgain(from) : 0;
+        this.settle();
+        this.compare(now);
+        if (!this.keep) this.forget();
+        return this.lastAgain;
+    }
+
+    // Takes a packet, and answers the first turn that was played without an input that it has, or infinity.
+    take(bytes) {
+        const it = unpack(bytes);
         let from = Infinity;
-        for (const bytes of packets) {
-            const it = unpack(bytes);
-            if (!it) {
-                this.refused++;
-                continue;
-            }
-            this.theyKnow = Math.max(this.theyKnow, Math.min(it.known, this.turn + 1));
-            if (it.turn >= this.compared && it.turn < this.known + 64) this.theirs[it.turn] = it.digest;
-            for (let k = 0; k < it.inputs.length; k++) {
-                const turn = it.first + k;
-                if (turn !== this.known) continue;
-                this.inputs[1 - this.id][turn] = it.inputs[k];
-                this.known++;
-                this.note(1 - this.id, it.inputs[k]);
-                if (turn * STEPS < this.tick && it.inputs[k].length) from = Math.min(from, turn);
-            }
+        if (!it) {
+            this.refused++;
+            return from;
         }
-        this.lastAgain = 0;
-        if (from < Infinity) {
-            const start = this.clock();
+        this.theyKnow = Math.max(this.theyKnow, Math.min(it.known, this.turn + 1));
+        if (it.turn >= this.compared && it.turn < this.known + 64) this.theirs[it.turn] = it.digest;
+        it.inputs.forEach((input, k) => {
+            const turn = it.first + k;
+            if (turn !== this.known) return;
+            this.inputs[1 - this.id][turn] = input;
+            this.known++;
+            this.note(1 - this.id, input);
+            if (turn * STEPS < this.tick && input.length) from = Math.min(from, turn);
+        });
+        return from;
+    }
+
+    // Goes back to where a turn begins, plays on to where it was, and answers how many turns that were.
+    playAgain(from) {
+        this.spend(this.tick / STEPS - from, () => {
             this.world.restore(from % RING);
             for (let tick = from * STEPS; tick < this.tick; tick++) this.playStep(Math.floor(tick / STEPS), tick % STEPS);
-            this.lastAgain = Math.ceil(this.tick / STEPS) - from;
-            this.again += this.lastAgain;
-            this.busy += this.clock() - start;
-            this.played += this.tick / STEPS - from;
-        }
+        });
+        const turns = Math.ceil(this.tick / STEPS) - from;
+        this.again += turns;
+        return turns;
+    }
+
+    // Compares what the other told of turns with what they came to here.
+    compare(now) {
         while (this.compared < this.sure) {
             // A packet tells the digest of one turn; what no packet told is skipped, since a later one says as much.
             if (this.theirs[this.compared]) {
@@ -180,8 +209,6 @@ export class Player {
             } else if (this.theirs.length <= this.compared) break;
             delete this.theirs[this.compared++];
         }
-        if (this.keep !== true) this.forget();
-        return this.lastAgain;
     }
 
     // What is older than both can ask for again.

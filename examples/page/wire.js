@@ -51,8 +51,8 @@ export function traffic(now) {
     frames++;
     if (now < mark.at) mark = { at: now, bytes: 0 };
     if (now - mark.at < 1000 || real - since < 1000) return;
-    const rate = ((game.network.bytes - mark.bytes) / (now - mark.at) / 1.024).toFixed(1), drawn = Math.round(frames * 1000 / (real - since));
-    $("traffic").textContent = `${rate} KB/s both ways · ${game.network.lost} of ${game.network.sent} lost · ${drawn} frames/s`;
+    const rate = ((game.network.bytes - mark.bytes) / (now - mark.at) / 1.024).toFixed(1), drawn = frames * 1000 / (real - since);
+    $("traffic").textContent = `${rate} KB/s both ways · ${game.network.lost} of ${game.network.sent} lost · ${drawn.toFixed(drawn < 9.5 ? 1 : 0)} frames/s`;
     mark = { at: now, bytes: game.network.bytes };
     frames = 0;
     since = real;
