@@ -6,12 +6,12 @@ use Rattle.std.proofs.lemmas.Bool.{eqb-true}
 use Rattle.std.proofs.lemmas.List.{length-append}
 use Rattle.std.proofs.lemmas.List.Concat.{flat_map-cons}
 use Rattle.pbd_world.specs.declared.command.Command.{Command}
-use Rattle.pbd_world.specs.declared.command.Command.TheVariants.{Step, Frame, Pin, Unpin, Move, Cut, Gravity, Ledger, Bad}
+use Rattle.pbd_world.specs.Verbs.{row, verb_coded}
 use Rattle.pbd_log.specs.declared.entry.Entry.{Entry}
 use Rattle.pbd_log.specs.Laws.{IsBytes}
 use Rattle.pbd_log.specs.Entries.{number_bytes, command_bytes, answer_bytes, optional_bytes, entry_bytes, IsEntry}
 use Rattle.pbd_log.specs.Logs.{end_bytes, BeginsNoEntry}
-use Rattle.pbd_log.specs.Reading.{byte_at, number_at, operands_at, command_at, entry_at, then_more, entries_within, entries_of, after_end}
+use Rattle.pbd_log.specs.Reading.{byte_at, number_at, command_at, entry_at, then_more, entries_within, entries_of, after_end}
 use Rattle.pbd_log.proofs.Fields.{Takes, takes_then, step_takes, some_is, guard_some, number_field, byte_field}
 use Rattle.pbd_log.proofs.Entries.{entry_field, same_entry}
 
@@ -38,7 +38,7 @@ end_again count more lt = rw ((number_field 8).again count more lt, eqb_same cou
 
 -- an end is no entry
 pub no_entry_at_end : (count : ℕ) (more : List ℕ) → entry_at (end_bytes count ++ more) ≡ None
-unfolding entry_at command_at operands_at end_bytes
+unfolding entry_at command_at verb_coded row end_bytes
 no_entry_at_end count more = refl
 
 pub none_some : {A : Type 0} (x : A) → (let some : A → Option A = λ a. Some a in let none : Option A = None in none ≡ some x) → ⊥
@@ -74,15 +74,7 @@ same_entries (e ∷ es) (f ∷ fs) r s he hf hr hs same =
 -- an entry has bytes
 command_some : (c : Command) → 0 < length (command_bytes c)
 unfolding command_bytes
-command_some (Step n) = omega arith
-command_some Frame = omega arith
-command_some (Pin n) = omega arith
-command_some (Unpin n) = omega arith
-command_some (Move n to) = omega arith
-command_some (Cut n) = omega arith
-command_some (Gravity g) = omega arith
-command_some Ledger = omega arith
-command_some Bad = omega arith
+command_some c = omega arith
 
 entry_some : (e : Entry) → 0 < length (entry_bytes e)
 unfolding entry_bytes

@@ -5,17 +5,24 @@ use Rattle.std.specs.Prelude.{IfSome}
 use Rattle.std.proofs.lemmas.Bool.{eqb-true, leb-true, ltb-false, le-ltb}
 use Rattle.std.proofs.lemmas.Bool.Decides.{nat_tests}
 use Rattle.pbd_world.specs.declared.command.Command.{Command}
-use Rattle.pbd_world.specs.declared.command.Command.TheVariants.{Step, Frame, Pin, Unpin, Move, Cut, Gravity, Ledger, Bad}
+use Rattle.pbd_world.specs.declared.verb.Verb.{Verb}
+use Rattle.pbd_world.specs.declared.verb.OperandKind.{OperandKind}
+use Rattle.pbd_world.specs.declared.verb.OperandKind.TheVariants as kinds
+use Rattle.pbd_world.specs.declared.verb.Operands.{Operands}
+use Rattle.pbd_world.specs.declared.verb.Operands.TheVariants.{Nothing, Number, Vector, NumberAndVector}
+use Rattle.pbd_world.specs.Verbs.{row, verb_coded, verb_and_operands, command_with, kind_of}
+use Rattle.pbd_world.proofs.VerbLaws.{verb_found, code_is, together, parted}
 use Rattle.pbd_world.specs.declared.command.FrameSums.{FrameSums}
 use Rattle.pbd_log.specs.declared.entry.Answer.{Answer}
 use Rattle.pbd_log.specs.declared.entry.Entry.{Entry}
 use Rattle.pbd_log.specs.Laws.{IsBytes}
-use Rattle.pbd_log.specs.Entries.{number_bytes, vector_bytes, VectorFits, command_bytes, CommandFits, plain, leaves, too_many, IsAnswer}
+use Rattle.pbd_log.specs.Entries.{number_bytes, vector_bytes, VectorFits, operand_bytes, OperandsFit, command_bytes, CommandFits}
+use Rattle.pbd_log.specs.Entries.{plain, leaves, too_many, IsAnswer}
 use Rattle.pbd_log.specs.Entries.{answer_bytes, SumsFit, sums_bytes, axes_bytes, AreAxes, optional_bytes, StandExactly, has_sums, IsEntry}
 use Rattle.pbd_log.specs.Entries.{entry_bytes}
-use Rattle.pbd_log.specs.Reading.{byte_at, number_at, vector_at, numbered_at, move_at, gravity_at, operands_at, command_at, leaves_at}
+use Rattle.pbd_log.specs.Reading.{byte_at, number_at, vector_at, operands_at, command_at, leaves_at}
 use Rattle.pbd_log.specs.Reading.{too_many_at, carried_at, answer_at, axes_at, sums_at, optional_at, entry_at}
-use Rattle.pbd_log.proofs.Fields.{Takes, takes_then, IsField, step_takes, some_is, guard_none, number_field, vector_field, axes_field}
+use Rattle.pbd_log.proofs.Fields.{Takes, takes_then, IsField, step_takes, bind_some, some_is, guard_none, number_field, vector_field, axes_field}
 use Rattle.pbd_log.proofs.Fields.{regroup3}
 use Rattle.pbd_log.proofs.Fields.{byte_field}
 
@@ -28,118 +35,67 @@ none_some x e = cc
 
 -- ---- commands
 
--- a command's operands behind its code
-record HasOperands (code : ℕ) (bytes : List ℕ) (x : Command) (rest : List ℕ) : Type 0 where
-  pub operands : List ℕ
-  pub takes : Takes bytes operands rest
-  pub spelled : command_bytes x ≡ code ∷ operands
-  pub fits : CommandFits x
+-- operands of a kind that were taken from the front
+record AreOperands (kind : OperandKind) (bytes : List ℕ) (x : Operands) (rest : List ℕ) : Type 0 where
+  pub takes : Takes bytes (operand_bytes x) rest
+  pub fits : OperandsFit x
 
--- one of the commands that have a number
-record IsNumbered (code : ℕ) (command : ℕ → Command) : Type 0 where
-  pub spelled : (n : ℕ) → command_bytes (command n) ≡ code ∷ number_bytes 8 n
-  pub fits : (n : ℕ) → n < 256 ^ 8 → CommandFits (command n)
-
-numbered_takes : (code : ℕ) (command : ℕ → Command) (is : IsNumbered code command) (bytes : List ℕ) (x : Command) (rest : List ℕ)
-    → IsBytes bytes → numbered_at command bytes ≡ Some (x, rest) → HasOperands code bytes x rest
-unfolding numbered_at
-numbered_takes code command is bytes x rest fits e =
+operands_take : (kind : OperandKind) (bytes : List ℕ) (x : Operands) (rest : List ℕ) → IsBytes bytes
+    → operands_at kind bytes ≡ Some (x, rest) → AreOperands kind bytes x rest
+unfolding operands_at
+operands_take kinds.Nothing bytes x rest fits e =
+    subst (λ (q : Operands × List ℕ). AreOperands kinds.Nothing bytes q.0 q.1) (some_is _ _ e)
+    (record { takes = record { parts = refl; rest_fits = fits }; fits = tt })
+operands_take kinds.Number bytes x rest fits e =
     let a = step_takes (number_at 8) (number_bytes 8) (λ n. n < 256 ^ 8) (number_field 8) bytes _ (x, rest) fits e in
-    subst (λ (q : Command × List ℕ). HasOperands code bytes q.0 q.1) (some_is _ _ a.3)
-    (record { operands = number_bytes 8 a.0.0; takes = a.1; spelled = is.spelled a.0.0; fits = is.fits a.0.0 a.2 })
-
-step_is : IsNumbered 1 Step
-unfolding command_bytes
-step_is = record { spelled = λ n. refl; fits = λ n lt. lt }
-
-pin_is : IsNumbered 3 Pin
-unfolding command_bytes
-pin_is = record { spelled = λ n. refl; fits = λ n lt. lt }
-
-unpin_is : IsNumbered 4 Unpin
-unfolding command_bytes
-unpin_is = record { spelled = λ n. refl; fits = λ n lt. lt }
-
-cut_is : IsNumbered 6 Cut
-unfolding command_bytes
-cut_is = record { spelled = λ n. refl; fits = λ n lt. lt }
-
-move_takes : (bytes : List ℕ) (x : Command) (rest : List ℕ) → IsBytes bytes → move_at bytes ≡ Some (x, rest) → HasOperands 5 bytes x rest
-unfolding move_at command_bytes
-move_takes bytes x rest fits e =
+    subst (λ (q : Operands × List ℕ). AreOperands kinds.Number bytes q.0 q.1) (some_is _ _ a.3) (record { takes = a.1; fits = a.2 })
+operands_take kinds.Vector bytes x rest fits e =
+    let a = step_takes vector_at vector_bytes VectorFits vector_field bytes _ (x, rest) fits e in
+    subst (λ (q : Operands × List ℕ). AreOperands kinds.Vector bytes q.0 q.1) (some_is _ _ a.3) (record { takes = a.1; fits = a.2 })
+operands_take kinds.NumberAndVector bytes x rest fits e =
     let a = step_takes (number_at 8) (number_bytes 8) (λ n. n < 256 ^ 8) (number_field 8) bytes _ (x, rest) fits e in
     let b = step_takes vector_at vector_bytes VectorFits vector_field a.0.1 _ (x, rest) a.1.rest_fits a.3 in
-    subst (λ (q : Command × List ℕ). HasOperands 5 bytes q.0 q.1) (some_is _ _ b.3)
-    (record {
-      operands = number_bytes 8 a.0.0 ++ vector_bytes b.0.0;
-      takes = takes_then bytes (number_bytes 8 a.0.0) a.0.1 (vector_bytes b.0.0) b.0.1 a.1 b.1;
-      spelled = refl;
-      fits = (a.2, b.2);
-    })
+    subst (λ (q : Operands × List ℕ). AreOperands kinds.NumberAndVector bytes q.0 q.1) (some_is _ _ b.3)
+    (record { takes = takes_then bytes (number_bytes 8 a.0.0) a.0.1 (vector_bytes b.0.0) b.0.1 a.1 b.1; fits = (a.2, b.2) })
 
-gravity_takes : (bytes : List ℕ) (x : Command) (rest : List ℕ) → IsBytes bytes → gravity_at bytes ≡ Some (x, rest)
-    → HasOperands 7 bytes x rest
-unfolding gravity_at command_bytes
-gravity_takes bytes x rest fits e =
-    let a = step_takes vector_at vector_bytes VectorFits vector_field bytes _ (x, rest) fits e in
-    subst (λ (q : Command × List ℕ). HasOperands 7 bytes q.0 q.1) (some_is _ _ a.3)
-    (record { operands = vector_bytes a.0.0; takes = a.1; spelled = refl; fits = a.2 })
+operands_again : (x : Operands) (rest : List ℕ) → OperandsFit x → operands_at (kind_of x) (operand_bytes x ++ rest) ≡ Some (x, rest)
+unfolding operands_at
+operands_again Nothing rest fits = refl
+operands_again (Number n) rest fits = rw ((number_field 8).again n rest fits) refl
+operands_again (Vector v) rest fits = rw (vector_field.again v rest fits) refl
+operands_again (NumberAndVector n v) rest fits = rw (
+  append_assoc (number_bytes 8 n) (vector_bytes v) rest,
+  (number_field 8).again n (vector_bytes v ++ rest) fits.0,
+  vector_field.again v rest fits.1,
+) refl
 
--- a command without operands
-bare_takes : (code : ℕ) (command : Command) (bytes : List ℕ) (x : Command) (rest : List ℕ) → IsBytes bytes
-    → command_bytes command ≡ code ∷ [] → CommandFits command
-    → (let some : Command × List ℕ → Option (Command × List ℕ) = λ q. Some q in some (command, bytes) ≡ some (x, rest))
-    → HasOperands code bytes x rest
-bare_takes code command bytes x rest fits spelled fit e =
-    subst (λ (q : Command × List ℕ). HasOperands code bytes q.0 q.1) (some_is _ _ e)
-    (record { operands = []; takes = record { parts = refl; rest_fits = fits }; spelled = spelled; fits = fit })
-
--- the command with this code, or one that is looked for further on
-try_code : (code k : ℕ) (bytes : List ℕ) (x : Command) (rest : List ℕ) (here others : Option (Command × List ℕ))
-    → cond (eqb code k) here others ≡ Some (x, rest)
-    → (here ≡ Some (x, rest) → HasOperands k bytes x rest) → (others ≡ Some (x, rest) → HasOperands code bytes x rest)
-    → HasOperands code bytes x rest
-try_code code k bytes x rest here others e f g =
-    elim (chosen (eqb code k) here others (Some (x, rest)) e)
-    [ inl p ↦ subst (λ c. HasOperands c bytes x rest) (sym (eqb-true code k p.0)) (f p.1) | inr p ↦ g p.1 ]
-
-operands_takes : (code : ℕ) (bytes : List ℕ) (x : Command) (rest : List ℕ) → IsBytes bytes → operands_at code bytes ≡ Some (x, rest)
-    → HasOperands code bytes x rest
-unfolding operands_at command_bytes
-operands_takes code bytes x rest fits e =
-    try_code code 1 bytes x rest _ _ e (numbered_takes 1 Step step_is bytes x rest fits) (λ e2.
-    try_code code 2 bytes x rest _ _ e2 (bare_takes 2 Frame bytes x rest fits refl tt) (λ e3.
-    try_code code 3 bytes x rest _ _ e3 (numbered_takes 3 Pin pin_is bytes x rest fits) (λ e4.
-    try_code code 4 bytes x rest _ _ e4 (numbered_takes 4 Unpin unpin_is bytes x rest fits) (λ e5.
-    try_code code 5 bytes x rest _ _ e5 (move_takes bytes x rest fits) (λ e6.
-    try_code code 6 bytes x rest _ _ e6 (numbered_takes 6 Cut cut_is bytes x rest fits) (λ e7.
-    try_code code 7 bytes x rest _ _ e7 (gravity_takes bytes x rest fits) (λ e8.
-    try_code code 8 bytes x rest _ _ e8 (bare_takes 8 Ledger bytes x rest fits refl tt) (λ e9.
-    try_code code 9 bytes x rest _ _ e9 (bare_takes 9 Bad bytes x rest fits refl tt) (λ none. absurd (none_some (x, rest) none))))))))))
+-- a verb and its operands are those of their command
+spelled : (bytes : List ℕ) (v : Verb) (o : Operands) (x : Command) (rest : List ℕ) → verb_and_operands x ≡ (v, o)
+    → Takes bytes ((row v).code ∷ operand_bytes o) rest → OperandsFit o → Takes bytes (command_bytes x) rest × CommandFits x
+unfolding command_bytes
+spelled bytes v o x rest is takes fits =
+    subst (λ (p : Verb × Operands). Takes bytes ((row p.0).code ∷ operand_bytes p.1) rest × OperandsFit p.1) (sym is) (takes, fits)
 
 command_takes : (bytes : List ℕ) (x : Command) (rest : List ℕ) → IsBytes bytes → command_at bytes ≡ Some (x, rest)
     → Takes bytes (command_bytes x) rest × CommandFits x
 unfolding command_at
 command_takes bytes x rest fits e =
     let a = step_takes byte_at (λ b. b ∷ []) (λ b. b < 256) byte_field bytes _ (x, rest) fits e in
-    let o = operands_takes a.0.0 a.0.1 x rest a.1.rest_fits a.3 in
-    (rw o.spelled (takes_then bytes (a.0.0 ∷ []) a.0.1 o.operands rest a.1 o.takes), o.fits)
+    let v = bind_some (verb_coded a.0.0) _ (x, rest) a.3 in
+    let o = bind_some (operands_at (row v.0).kind a.0.1) _ (x, rest) v.2 in
+    let c = bind_some (command_with v.0 o.0.0) _ (x, rest) o.2 in
+    let are = operands_take (row v.0).kind a.0.1 o.0.0 o.0.1 a.1.rest_fits o.1 in
+    let took = takes_then bytes (a.0.0 ∷ []) a.0.1 (operand_bytes o.0.0) o.0.1 a.1 are.takes in
+    let here : Takes bytes ((row v.0).code ∷ operand_bytes o.0.0) o.0.1 = rw (code_is a.0.0 v.0 v.1) took in
+    subst (λ (q : Command × List ℕ). Takes bytes (command_bytes q.0) q.1 × CommandFits q.0) (some_is _ _ c.2)
+    (spelled bytes v.0 o.0.0 c.0 o.0.1 (parted v.0 o.0.0 c.0 c.1) here are.fits)
 
 command_again : (x : Command) (rest : List ℕ) → CommandFits x → command_at (command_bytes x ++ rest) ≡ Some (x, rest)
-unfolding command_at command_bytes operands_at numbered_at move_at gravity_at
-command_again (Step n) rest fits = rw ((number_field 8).again n rest fits) refl
-command_again Frame rest fits = refl
-command_again (Pin n) rest fits = rw ((number_field 8).again n rest fits) refl
-command_again (Unpin n) rest fits = rw ((number_field 8).again n rest fits) refl
-command_again (Move n to) rest fits = rw (
-  append_assoc (number_bytes 8 n) (vector_bytes to) rest,
-  (number_field 8).again n (vector_bytes to ++ rest) fits.0,
-  vector_field.again to rest fits.1,
-) refl
-command_again (Cut n) rest fits = rw ((number_field 8).again n rest fits) refl
-command_again (Gravity g) rest fits = rw (vector_field.again g rest fits) refl
-command_again Ledger rest fits = refl
-command_again Bad rest fits = refl
+unfolding command_at command_bytes
+command_again x rest fits =
+    let v = (verb_and_operands x).0 in
+    let o = (verb_and_operands x).1 in
+    rw ((verb_found v).coded, (together x).kind, operands_again o rest fits, (together x).again) refl
 
 command_field : IsField command_at command_bytes CommandFits
 command_field = record { takes = command_takes; again = command_again }

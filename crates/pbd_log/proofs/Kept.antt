@@ -1,10 +1,11 @@
 -- What a session keeps of a command is an entry in the log's grammar.
-use Rattle.std.proofs.Common.{◌≡◌, refl, ℕ, false, eqb, List, [], ◌∷◌, map, Result, Ok, Err}
+use Rattle.std.proofs.Common.{◌≡◌, sym, subst, refl, ℕ, ◌⊎◌, inl, inr, false, eqb, List, [], ◌∷◌, map, None, Result, Ok, Err}
 use Rattle.std.specs.List.{AllByRecursion}
 use Rattle.pbd_world.specs.declared.command.Command.{Command}
 use Rattle.pbd_world.specs.declared.command.Command.TheVariants.{Step, Frame, Pin, Unpin, Move, Cut, Gravity, Ledger, Bad}
 use Rattle.pbd_world.specs.declared.command.Refusal.{Refusal}
 use Rattle.pbd_world.specs.declared.command.Refusal.TheVariants as refusals
+use Rattle.pbd_world.specs.declared.command.Reply.{Reply}
 use Rattle.pbd_world.specs.World.{World}
 use Rattle.pbd_world.specs.Meaning.{done_or_refused, run_steps, meaning, after, reply}
 use Rattle.pbd_world.specs.Replay.{LogEntry, kept_sums, entry, logged}
@@ -32,17 +33,33 @@ step_stands : (v w : World) (n : ℕ) (r : Result World Refusal)
 step_stands v w n (Ok x) = refl
 step_stands v w n (Err refusal) = some_number refusal
 
-stands : (w : World) (c : Command) → StandExactly (has_sums c (answer_of (reply w c)).number) (kept_sums (after w c) c (reply w c))
+steps_stand : (w : World) (n : ℕ)
+    → StandExactly (has_sums (Step n) (answer_of (reply w (Step n))).number) (kept_sums (after w (Step n)) (Step n) (reply w (Step n)))
 unfolding meaning
-stands w (Step n) = step_stands (done_or_refused w (run_steps w n)).0 w n (run_steps w n)
-stands w Frame = refl
-stands w (Pin i) = refl
-stands w (Unpin i) = refl
-stands w (Move i to) = refl
-stands w (Cut n) = refl
-stands w (Gravity g) = refl
-stands w Ledger = refl
-stands w Bad = refl
+steps_stand w n = step_stands (done_or_refused w (run_steps w n)).0 w n (run_steps w n)
+
+-- no sums are kept of a command, whatever is answered
+pub record HasNoSums (c : Command) : Type 0 where
+  pub stand : (number : ℕ) → has_sums c number ≡ false
+  pub kept : (w : World) (r : Reply) → kept_sums w c r ≡ None
+
+pub steps_or_not : (c : Command) → ((n : ℕ) × (c ≡ Step n)) ⊎ HasNoSums c
+steps_or_not (Step n) = inl (n, refl)
+steps_or_not Frame = inr (record { stand = λ number. refl; kept = λ w r. refl })
+steps_or_not (Pin i) = inr (record { stand = λ number. refl; kept = λ w r. refl })
+steps_or_not (Unpin i) = inr (record { stand = λ number. refl; kept = λ w r. refl })
+steps_or_not (Move i to) = inr (record { stand = λ number. refl; kept = λ w r. refl })
+steps_or_not (Cut n) = inr (record { stand = λ number. refl; kept = λ w r. refl })
+steps_or_not (Gravity g) = inr (record { stand = λ number. refl; kept = λ w r. refl })
+steps_or_not Ledger = inr (record { stand = λ number. refl; kept = λ w r. refl })
+steps_or_not Bad = inr (record { stand = λ number. refl; kept = λ w r. refl })
+
+stands : (w : World) (c : Command) → StandExactly (has_sums c (answer_of (reply w c)).number) (kept_sums (after w c) c (reply w c))
+stands w c = elim (steps_or_not c) [
+  | inl steps ↦ subst (λ d. StandExactly (has_sums d (answer_of (reply w d)).number) (kept_sums (after w d) d (reply w d)))
+      (sym steps.1) (steps_stand w steps.0)
+  | inr none ↦ rw (none.stand (answer_of (reply w c)).number, none.kept (after w c) (reply w c)) refl
+]
 
 pub kept_is : (w : World) (command : Command) → IsGrammatical (entry_of (entry w command))
 kept_is w command = record { answer = answer_is (reply w command); sums = stands w command }

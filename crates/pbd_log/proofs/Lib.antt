@@ -1,3 +1,4 @@
+mod CommandRows
 pub mod Numbers
 pub mod Fields
 pub mod Entries

@@ -6,7 +6,7 @@ use Rattle.std.specs.List.{flat_map, AllByRecursion}
 use Rattle.byteorder.specs.Endian.{big_bytes}
 use Rattle.pbd_num.specs.declared.Vec3.{Vec3}
 use Rattle.pbd_world.specs.declared.command.Command.{Command}
-use Rattle.pbd_world.specs.declared.command.Command.TheVariants.{Step, Frame, Pin, Unpin, Move, Cut, Gravity, Ledger, Bad}
+use Rattle.pbd_world.specs.declared.command.Command.TheVariants.{Step}
 use Rattle.pbd_world.specs.declared.command.Phase.{Phase}
 use Rattle.pbd_world.specs.declared.command.Phase.TheVariants as phases
 use Rattle.pbd_world.specs.declared.command.Refusal.{Refusal}
@@ -14,6 +14,9 @@ use Rattle.pbd_world.specs.declared.command.Refusal.TheVariants as refusals
 use Rattle.pbd_world.specs.declared.command.Reply.{Reply}
 use Rattle.pbd_world.specs.declared.command.Reply.TheVariants as replies
 use Rattle.pbd_world.specs.declared.command.FrameSums.{FrameSums}
+use Rattle.pbd_world.specs.declared.verb.Operands.{Operands}
+use Rattle.pbd_world.specs.declared.verb.Operands.TheVariants.{Nothing, Number, Vector, NumberAndVector}
+use Rattle.pbd_world.specs.Verbs.{row, verb_and_operands}
 use Rattle.pbd_world.specs.Meaning.{refusal_number}
 use Rattle.pbd_world.specs.Replay.{LogEntry}
 use Rattle.pbd_log.specs.declared.entry.Answer.{Answer}
@@ -77,14 +80,14 @@ pub record IsGrammatical (e : Entry) : Type 0 where
 abbrev pub VectorFits : Vec3 → Type 0
 VectorFits v = FitsSigned w64 v.x × FitsSigned w64 v.y × FitsSigned w64 v.z
 
+abbrev pub OperandsFit : Operands → Type 0
+OperandsFit Nothing = ⊤
+OperandsFit (Number n) = n < 2 ^ 64
+OperandsFit (Vector v) = VectorFits v
+OperandsFit (NumberAndVector n v) = (n < 2 ^ 64) × VectorFits v
+
 abbrev pub CommandFits : Command → Type 0
-CommandFits (Step n) = n < 2 ^ 64
-CommandFits (Pin i) = i < 2 ^ 64
-CommandFits (Unpin i) = i < 2 ^ 64
-CommandFits (Move particle to) = (particle < 2 ^ 64) × VectorFits to
-CommandFits (Cut l) = l < 2 ^ 64
-CommandFits (Gravity g) = VectorFits g
-CommandFits command = ⊤
+CommandFits c = OperandsFit (verb_and_operands c).1
 
 -- three numbers, an axis each
 abbrev pub AreAxes : List ℤ → Type 0
@@ -124,17 +127,15 @@ signed_bytes z = number_bytes 8 (cast_unsigned w64 z)
 unfoldable pub vector_bytes : Vec3 → List ℕ
 vector_bytes v = signed_bytes v.x ++ signed_bytes v.y ++ signed_bytes v.z
 
--- a code, and the operands
+abbrev pub operand_bytes : Operands → List ℕ
+operand_bytes Nothing = []
+operand_bytes (Number n) = number_bytes 8 n
+operand_bytes (Vector v) = vector_bytes v
+operand_bytes (NumberAndVector n v) = number_bytes 8 n ++ vector_bytes v
+
+-- the code of its row, and its operands
 unfoldable pub command_bytes : Command → List ℕ
-command_bytes (Step n) = 1 ∷ number_bytes 8 n
-command_bytes Frame = 2 ∷ []
-command_bytes (Pin i) = 3 ∷ number_bytes 8 i
-command_bytes (Unpin i) = 4 ∷ number_bytes 8 i
-command_bytes (Move particle to) = 5 ∷ number_bytes 8 particle ++ vector_bytes to
-command_bytes (Cut l) = 6 ∷ number_bytes 8 l
-command_bytes (Gravity g) = 7 ∷ vector_bytes g
-command_bytes Ledger = 8 ∷ []
-command_bytes Bad = 9 ∷ []
+command_bytes c = (row (verb_and_operands c).0).code ∷ operand_bytes (verb_and_operands c).1
 
 -- the number, and what 11 and 12 carry
 unfoldable pub answer_bytes : Answer → List ℕ

@@ -5,7 +5,11 @@ use Rattle.std.specs.Int.{w64, cast_signed}
 use Rattle.byteorder.specs.Endian.{big_number}
 use Rattle.pbd_num.specs.declared.Vec3.{Vec3}
 use Rattle.pbd_world.specs.declared.command.Command.{Command}
-use Rattle.pbd_world.specs.declared.command.Command.TheVariants.{Step, Frame, Pin, Unpin, Move, Cut, Gravity, Ledger, Bad}
+use Rattle.pbd_world.specs.declared.verb.OperandKind.{OperandKind}
+use Rattle.pbd_world.specs.declared.verb.OperandKind.TheVariants as kinds
+use Rattle.pbd_world.specs.declared.verb.Operands.{Operands}
+use Rattle.pbd_world.specs.declared.verb.Operands.TheVariants.{Nothing, Number, Vector, NumberAndVector}
+use Rattle.pbd_world.specs.Verbs.{row, verb_coded, command_with}
 use Rattle.pbd_world.specs.declared.command.FrameSums.{FrameSums}
 use Rattle.pbd_log.specs.declared.entry.Answer.{Answer}
 use Rattle.pbd_log.specs.declared.entry.Entry.{Entry}
@@ -48,41 +52,28 @@ vector_at bytes = do
   z ← signed_at y.1
   Some (record { x = x.0; y = y.0; z = z.0 }, z.1)
 
--- a command that has one number
-unfoldable pub numbered_at : (ℕ → Command) → List ℕ → Option (Command × List ℕ)
-numbered_at command bytes = do
+-- the operands of a kind
+unfoldable pub operands_at : OperandKind → List ℕ → Option (Operands × List ℕ)
+operands_at kinds.Nothing bytes = Some (Nothing, bytes)
+operands_at kinds.Number bytes = do
   n ← number_at 8 bytes
-  Some (command n.0, n.1)
+  Some (Number n.0, n.1)
+operands_at kinds.Vector bytes = do
+  v ← vector_at bytes
+  Some (Vector v.0, v.1)
+operands_at kinds.NumberAndVector bytes = do
+  n ← number_at 8 bytes
+  v ← vector_at n.1
+  Some (NumberAndVector n.0 v.0, v.1)
 
-unfoldable pub move_at : List ℕ → Option (Command × List ℕ)
-move_at bytes = do
-  particle ← number_at 8 bytes
-  to ← vector_at particle.1
-  Some (Move particle.0 to.0, to.1)
-
-unfoldable pub gravity_at : List ℕ → Option (Command × List ℕ)
-gravity_at bytes = do
-  g ← vector_at bytes
-  Some (Gravity g.0, g.1)
-
--- the operands of the command with this code
-unfoldable pub operands_at : ℕ → List ℕ → Option (Command × List ℕ)
-operands_at code bytes =
-    if code == 1 then numbered_at Step bytes
-    else (if code == 2 then Some (Frame, bytes)
-    else (if code == 3 then numbered_at Pin bytes
-    else (if code == 4 then numbered_at Unpin bytes
-    else (if code == 5 then move_at bytes
-    else (if code == 6 then numbered_at Cut bytes
-    else (if code == 7 then gravity_at bytes
-    else (if code == 8 then Some (Ledger, bytes)
-    else (if code == 9 then Some (Bad, bytes)
-    else None))))))))
-
+-- a verb's code, and operands of its kind
 unfoldable pub command_at : List ℕ → Option (Command × List ℕ)
 command_at bytes = do
   code ← byte_at bytes
-  operands_at code.0 code.1
+  verb ← verb_coded code.0
+  operands ← operands_at (row verb).kind code.1
+  command ← command_with verb operands.0
+  Some (command, operands.1)
 
 unfoldable pub leaves_at : List ℕ → Option (Answer × List ℕ)
 leaves_at bytes = do

@@ -1,14 +1,13 @@
 // Reads the fields of an entry, each from the front of some bytes.
 ghost use Rattle.std.specs.Prelude.{◌≡◌, ◌==◌};
-ghost use Rattle.pbd_world.specs.declared.command.Command.TheVariants.{Step, Pin, Unpin, Cut};
 ghost use Rattle.pbd_log.specs.Entries.{has_sums};
 ghost use Rattle.pbd_log.specs.Laws.{IsBytes};
-ghost use Rattle.pbd_log.specs.Reading.{Gives, byte_at, number_at, signed_at, vector_at, move_at, gravity_at, operands_at, command_at, leaves_at, too_many_at, carried_at, answer_at, axes_at, sums_at, optional_at, entry_at, after_end};
+ghost use Rattle.pbd_log.specs.Reading.{Gives, byte_at, number_at, signed_at, vector_at, operands_at, command_at, leaves_at, too_many_at, carried_at, answer_at, axes_at, sums_at, optional_at, entry_at, after_end};
 
 use crate::{Answer, Entry};
 use byteorder::{BigEndian, ByteOrder};
 use pbd_num::Vec3;
-use pbd_world::{Command, FrameSums};
+use pbd_world::{Command, FrameSums, OperandKind, Operands, Verb};
 
 // Each reader answers a value and the bytes after it, or None where none stands at the front.
 
@@ -59,50 +58,25 @@ fn vector_of(bytes: &[u8]) -> Option<(Vec3, &[u8])>
     Some((Vec3 { x, y, z }, rest))
 }
 
-#[tactic(auto, unfolding(crate::specs::Reading::move_at))]
-fn move_of(bytes: &[u8]) -> Option<(Command, &[u8])>
-    ensures { Gives (λ x. (x.0, x.1.now)) result (move_at bytes.now) }
+#[tactic(auto, unfolding(crate::specs::Reading::operands_at))]
+fn operands_of(kind: OperandKind, bytes: &[u8]) -> Option<(Operands, &[u8])>
+    ensures { Gives (λ x. (x.0, x.1.now)) result (operands_at kind bytes.now) }
 {
-    let (particle, rest) = u64_of(bytes)?;
-    let (to, rest) = vector_of(rest)?;
-    Some((Command::Move { particle, to }, rest))
-}
-
-#[tactic(auto, unfolding(crate::specs::Reading::gravity_at))]
-fn gravity_of(bytes: &[u8]) -> Option<(Command, &[u8])>
-    ensures { Gives (λ x. (x.0, x.1.now)) result (gravity_at bytes.now) }
-{
-    let (gravity, rest) = vector_of(bytes)?;
-    Some((Command::Gravity(gravity), rest))
-}
-
-#[tactic(auto, unfolding(crate::specs::Reading::operands_at, crate::specs::Reading::numbered_at))]
-fn operands_of(code: u8, bytes: &[u8]) -> Option<(Command, &[u8])>
-    ensures { Gives (λ x. (x.0, x.1.now)) result (operands_at code bytes.now) }
-{
-    match code {
-        1 => {
-            let (count, rest) = u64_of(bytes)?;
-            Some((Command::Step(count), rest))
+    match kind {
+        OperandKind::Nothing => Some((Operands::Nothing, bytes)),
+        OperandKind::Number => {
+            let (number, rest) = u64_of(bytes)?;
+            Some((Operands::Number(number), rest))
         }
-        2 => Some((Command::Frame, bytes)),
-        3 => {
-            let (particle, rest) = u64_of(bytes)?;
-            Some((Command::Pin(particle), rest))
+        OperandKind::Vector => {
+            let (vector, rest) = vector_of(bytes)?;
+            Some((Operands::Vector(vector), rest))
         }
-        4 => {
-            let (particle, rest) = u64_of(bytes)?;
-            Some((Command::Unpin(particle), rest))
+        OperandKind::NumberAndVector => {
+            let (number, rest) = u64_of(bytes)?;
+            let (vector, rest) = vector_of(rest)?;
+            Some((Operands::NumberAndVector(number, vector), rest))
         }
-        5 => move_of(bytes),
-        6 => {
-            let (link, rest) = u64_of(bytes)?;
-            Some((Command::Cut(link), rest))
-        }
-        7 => gravity_of(bytes),
-        8 => Some((Command::Ledger, bytes)),
-        9 => Some((Command::Bad, bytes)),
-        _ => None,
     }
 }
 
@@ -111,7 +85,10 @@ fn command_of(bytes: &[u8]) -> Option<(Command, &[u8])>
     ensures { Gives (λ x. (x.0, x.1.now)) result (command_at bytes.now) }
 {
     let (code, rest) = byte_of(bytes)?;
-    operands_of(code, rest)
+    let verb = Verb::coded(code)?;
+    let (operands, rest) = operands_of(verb.row().kind, rest)?;
+    let command = verb.with(&operands)?;
+    Some((command, rest))
 }
 
 #[tactic(auto, unfolding(crate::specs::Reading::leaves_at))]

@@ -3,15 +3,32 @@ ghost use Rattle.std.specs.Prelude.{◌≡◌, ◌+◌, ◌≤◌, ◌<◌, ◌^
 ghost use Rattle.pbd_io.specs.Causes.{HasCause};
 ghost use Rattle.pbd_io.specs.Pieces.{WritesPiece};
 ghost use Rattle.pbd_world.specs.Valid.{is_limit};
-ghost use Rattle.pbd_log.specs.Entries.{command_bytes, answer_bytes, sums_bytes, entry_bytes, CommandFits, SumsFit, IsGrammatical, HasWidths, IsEntry};
+ghost use Rattle.pbd_log.specs.Entries.{operand_bytes, command_bytes, answer_bytes, sums_bytes, entry_bytes, OperandsFit, CommandFits, SumsFit, IsGrammatical, HasWidths, IsEntry};
 ghost use Rattle.pbd_log.specs.Logs.{header_bytes, end_bytes};
 
 use crate::pushes::{push_axes, push_byte, push_u32, push_u64, push_vector};
 use crate::{Answer, Entry};
 use pbd_io::{Failed, Sink};
 use pbd_line::Line;
-use pbd_world::{Command, FrameSums};
+use pbd_world::{Command, FrameSums, Operands};
 use std::marker::Model;
+
+fn push_operands(piece: &mut Line, operands: &Operands)
+    requires { length piece.old ≡ 1 }
+    ensures bytes { piece.new ≡ piece.old ++ operand_bytes operands.now }
+    ensures fits { OperandsFit operands.now }
+    ensures room { length piece.new ≤ 33 }
+{
+    match operands {
+        Operands::Nothing => {}
+        Operands::Number(number) => push_u64(piece, *number),
+        Operands::Vector(vector) => push_vector(piece, vector),
+        Operands::NumberAndVector(number, vector) => {
+            push_u64(piece, *number);
+            push_vector(piece, vector);
+        }
+    }
+}
 
 #[tactic(auto, unfolding(crate::specs::Entries::command_bytes))]
 fn push_command(piece: &mut Line, command: &Command)
@@ -20,36 +37,9 @@ fn push_command(piece: &mut Line, command: &Command)
     ensures fits { CommandFits command.now }
     ensures room { length piece.new ≤ 33 }
 {
-    match command {
-        Command::Step(count) => {
-            push_byte(piece, 1);
-            push_u64(piece, *count);
-        }
-        Command::Frame => push_byte(piece, 2),
-        Command::Pin(particle) => {
-            push_byte(piece, 3);
-            push_u64(piece, *particle);
-        }
-        Command::Unpin(particle) => {
-            push_byte(piece, 4);
-            push_u64(piece, *particle);
-        }
-        Command::Move { particle, to } => {
-            push_byte(piece, 5);
-            push_u64(piece, *particle);
-            push_vector(piece, to);
-        }
-        Command::Cut(link) => {
-            push_byte(piece, 6);
-            push_u64(piece, *link);
-        }
-        Command::Gravity(gravity) => {
-            push_byte(piece, 7);
-            push_vector(piece, gravity);
-        }
-        Command::Ledger => push_byte(piece, 8),
-        Command::Bad => push_byte(piece, 9),
-    }
+    let (verb, operands) = command.parts();
+    push_byte(piece, verb.row().code);
+    push_operands(piece, &operands);
 }
 
 #[tactic(auto, unfolding(crate::specs::Entries::answer_bytes))]

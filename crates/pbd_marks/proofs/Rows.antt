@@ -1,6 +1,7 @@
 -- Worked rows: what the definitions compute.
 use Rattle.std.specs.Prelude.{◌≡◌, refl, [], ◌∷◌, ◌++◌, codes, Some, None}
 use Rattle.pbd_world.specs.declared.command.Command.TheVariants.{Bad, Frame}
+use Rattle.pbd_world.specs.Verbs.{row, verb_named}
 use Rattle.pbd_script.specs.Commands.{form}
 use Rattle.pbd_marks.specs.declared.command.MarkCommand.TheVariants.{Plain, Mark, Rewind}
 use Rattle.pbd_marks.specs.Script.{mark_form, mark_line_command, mark_commands}
@@ -16,11 +17,11 @@ unfolding mark_form
 goes_back = refl
 
 no_count : mark_line_command (codes "mark x") ≡ Some (Plain Bad)
-unfolding mark_form form
+unfolding mark_form form verb_named row
 no_count = refl
 
 two_counts : mark_line_command (codes "rewind 1 2") ≡ Some (Plain Bad)
-unfolding mark_form form
+unfolding mark_form form verb_named row
 two_counts = refl
 
 comment : mark_line_command (codes "# mark 1") ≡ None
@@ -28,5 +29,5 @@ unfolding mark_form
 comment = refl
 
 script : mark_commands (codes "mark 0" ++ 13 ∷ 10 ∷ 10 ∷ codes "frame" ++ 10 ∷ codes "rewind 0") ≡ Mark 0 ∷ Plain Frame ∷ Rewind 0 ∷ []
-unfolding mark_commands mark_form form
+unfolding mark_commands mark_form form verb_named row
 script = refl

@@ -1,4 +1,5 @@
 -- What a session keeps of a script's commands can be written in a log.
+use Rattle.std.proofs.Common.{sym, subst, inl, inr}
 use Rattle.std.proofs.Common.{refl, ℕ, ◌+◌, ◌*◌, ◌<◌, ◌≤◌, ◌^◌, Bool, true, false, cond, List, [], ◌∷◌, length, map, None, Result, Ok, Err}
 use Rattle.std.proofs.Common.{arith, unsigned_abs}
 use Rattle.std.specs.Prelude.{IsTrue, filter, fold, nat_le}
@@ -11,7 +12,7 @@ use Rattle.pbd_num.proofs.Sizes.{fits, size-add}
 use Rattle.pbd_world.specs.declared.parts.Particle.{Particle}
 use Rattle.pbd_world.specs.declared.parts.Link.{Link}
 use Rattle.pbd_world.specs.declared.command.Command.{Command}
-use Rattle.pbd_world.specs.declared.command.Command.TheVariants.{Step, Frame, Pin, Unpin, Move, Cut, Gravity, Ledger, Bad}
+use Rattle.pbd_world.specs.declared.command.Command.TheVariants.{Step}
 use Rattle.pbd_world.specs.declared.command.Refusal.{Refusal}
 use Rattle.pbd_world.specs.declared.command.Refusal.TheVariants as refusals
 use Rattle.pbd_world.specs.declared.command.Reply.{Reply}
@@ -24,7 +25,7 @@ use Rattle.pbd_world.proofs.KeptLemmas.{IsLimit}
 use Rattle.pbd_world.proofs.WorldParts.{IsFit, all_fit, formed, limit_of}
 use Rattle.pbd_log.specs.declared.entry.Entry.{Entry}
 use Rattle.pbd_log.specs.Entries.{AreAxes, CommandFits, HasWidths, IsEntry, SumsFit, answer_of, entry_of, refusal_answer}
-use Rattle.pbd_log.proofs.Kept.{kept_is}
+use Rattle.pbd_log.proofs.Kept.{kept_is, steps_or_not}
 use Rattle.pbd_outcome.proofs.RefusalFits.{RefusalFits, ReplyFits, reply_fits, small}
 
 -- ---- sums
@@ -118,18 +119,18 @@ step_widths : (w : World) (n : ℕ) (r : Result World Refusal)
 step_widths w n (Ok v) fit replied sums = record { command = fit; step = omega arith; element = omega arith; sums = sums }
 step_widths w n (Err refusal) fit replied sums = bare_widths (Step n) (replies.Refused refusal) fit replied
 
-entry_widths : (w : World) (c : Command) → CommandFits c → ReplyFits (reply w c) → SumsFit (frame_sums (after w c))
-    → HasWidths (entry_of (entry w c))
+abbrev HaveWidths : World → Command → Type 0
+HaveWidths w c = CommandFits c → ReplyFits (reply w c) → SumsFit (frame_sums (after w c)) → HasWidths (entry_of (entry w c))
+
+steps_have_widths : (w : World) (n : ℕ) → HaveWidths w (Step n)
 unfolding meaning
-entry_widths w (Step n) fit replied sums = step_widths w n (run_steps w n) fit replied sums
-entry_widths w Frame fit replied sums = bare_widths Frame (reply w Frame) fit replied
-entry_widths w (Pin i) fit replied sums = bare_widths (Pin i) (reply w (Pin i)) fit replied
-entry_widths w (Unpin i) fit replied sums = bare_widths (Unpin i) (reply w (Unpin i)) fit replied
-entry_widths w (Move i to) fit replied sums = bare_widths (Move i to) (reply w (Move i to)) fit replied
-entry_widths w (Cut l) fit replied sums = bare_widths (Cut l) (reply w (Cut l)) fit replied
-entry_widths w (Gravity g) fit replied sums = bare_widths (Gravity g) (reply w (Gravity g)) fit replied
-entry_widths w Ledger fit replied sums = bare_widths Ledger (reply w Ledger) fit replied
-entry_widths w Bad fit replied sums = bare_widths Bad (reply w Bad) fit replied
+steps_have_widths w n = step_widths w n (run_steps w n)
+
+entry_widths : (w : World) (c : Command) → HaveWidths w c
+entry_widths w c = elim (steps_or_not c) [
+  | inl steps ↦ subst (λ d. HaveWidths w d) (sym steps.1) (steps_have_widths w steps.0)
+  | inr none ↦ λ fit replied sums. rw (none.kept (after w c) (reply w c)) (bare_widths c (reply w c) fit replied)
+]
 
 pub entries_are : (w : World) (cs : List Command) → IsSound w → AllByRecursion CommandFits cs
     → AllByRecursion IsEntry (map {A = LogEntry} {B = Entry} entry_of (logged w cs))

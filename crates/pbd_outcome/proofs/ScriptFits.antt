@@ -7,16 +7,20 @@ use Rattle.std.specs.Option.{option_map, option_and_then}
 use Rattle.std.specs.Str.Lines.{strip_carriage_return}
 use Rattle.std.proofs.Math.Nat.{mul-le-mul_right}
 use Rattle.std.proofs.lemmas.Bool.{and_parts, leb-true}
-use Rattle.std.proofs.lemmas.Bool.Decides.{nat_tests}
 use Rattle.pbd_num.specs.declared.Vec3.{Vec3}
 use Rattle.pbd_num.proofs.Sizes.{fits, size-neg}
 use Rattle.pbd_world.specs.declared.command.Command.{Command}
-use Rattle.pbd_world.specs.declared.command.Command.TheVariants.{Step, Frame, Pin, Unpin, Move, Cut, Gravity, Ledger, Bad}
+use Rattle.pbd_world.specs.declared.command.Command.TheVariants.{Bad}
+use Rattle.pbd_world.specs.declared.verb.OperandKind.{OperandKind}
+use Rattle.pbd_world.specs.declared.verb.OperandKind.TheVariants as kinds
+use Rattle.pbd_world.specs.declared.verb.Operands.{Operands}
+use Rattle.pbd_world.specs.declared.verb.Operands.TheVariants.{Nothing, Number, Vector, NumberAndVector}
+use Rattle.pbd_world.specs.Verbs.{row}
 use Rattle.pbd_script.specs.Lines.{pieces, words, is_digit, value, count, is_count, number, only_count}
-use Rattle.pbd_script.specs.Commands.{alone, vector_of, only_vector, moved, form, words_command, line_command, commands}
+use Rattle.pbd_script.specs.Commands.{nothing, vector_of, only_vector, number_and_vector, operands_in, form, words_command, line_command, commands}
 use Rattle.pbd_script.proofs.NumberLemmas.{of_digits, digit_small}
-use Rattle.pbd_log.specs.Entries.{CommandFits, VectorFits}
-use Rattle.pbd_outcome.proofs.ShortLines.{inspect, mapped, tried}
+use Rattle.pbd_log.specs.Entries.{CommandFits, OperandsFit, VectorFits}
+use Rattle.pbd_outcome.proofs.ShortLines.{inspect, mapped, form_is}
 
 -- ---- numbers
 
@@ -61,20 +65,19 @@ number_fits (first ∷ rest) z is = either_fits (first == 45) first rest z is
 
 -- ---- commands
 
-alone_fits : (command c : Command) (operands : List (List ℕ)) → CommandFits command → alone command operands ≡ Some c → CommandFits c
-alone_fits command c [] fit is = let e : command ≡ c = cc in subst CommandFits e fit
-alone_fits command c (operand ∷ more) fit is = absurd cc
+nothing_fits : (operands : List (List ℕ)) (o : Operands) → nothing operands ≡ Some o → OperandsFit o
+nothing_fits [] o is = let e : Nothing ≡ o = cc in subst OperandsFit e tt
+nothing_fits (operand ∷ more) o is = absurd cc
 
 only_below : (operands : List (List ℕ)) (n : ℕ) → only_count operands ≡ Some n → n < 1000000000000000000
 only_below [] n is = cc
 only_below (word ∷ []) n is = count_below word n is
 only_below (word ∷ next ∷ more) n is = cc
 
-count_fits : (command : ℕ → Command) (operands : List (List ℕ)) (c : Command) → ((n : ℕ) → n < 2 ^ 64 → CommandFits (command n))
-    → option_map (λ n. command n) (only_count operands) ≡ Some c → CommandFits c
-count_fits command operands c fit is =
-    let n = mapped (λ n. command n) (only_count operands) c is in
-    subst CommandFits n.2 (fit n.0 (omega (arith, only_below operands n.0 n.1)))
+number_operand_fits : (operands : List (List ℕ)) (o : Operands) → option_map (λ n. Number n) (only_count operands) ≡ Some o → OperandsFit o
+number_operand_fits operands o is =
+    let n = mapped (λ n. Number n) (only_count operands) o is in
+    subst OperandsFit n.2 (omega (arith, only_below operands n.0 n.1))
 
 vector_fits : (x y z : Option ℤ) (v : Vec3) → ((a : ℤ) → x ≡ Some a → FitsSigned w64 a) → ((a : ℤ) → y ≡ Some a → FitsSigned w64 a)
     → ((a : ℤ) → z ≡ Some a → FitsSigned w64 a) → vector_of x y z ≡ Some v → VectorFits v
@@ -92,33 +95,32 @@ only_fits (x ∷ y ∷ []) v is = absurd cc
 only_fits (x ∷ y ∷ z ∷ []) v is = vector_fits (number x) (number y) (number z) v (number_fits x) (number_fits y) (number_fits z) is
 only_fits (x ∷ y ∷ z ∷ w ∷ more) v is = absurd cc
 
-gravity_fits : (operands : List (List ℕ)) (c : Command) → option_map (λ v. Gravity v) (only_vector operands) ≡ Some c → CommandFits c
-gravity_fits operands c is =
-    let v = mapped (λ v. Gravity v) (only_vector operands) c is in
-    subst CommandFits v.2 (only_fits operands v.0 v.1)
+vector_operand_fits : (operands : List (List ℕ)) (o : Operands) → option_map (λ v. Vector v) (only_vector operands) ≡ Some o → OperandsFit o
+vector_operand_fits operands o is =
+    let v = mapped (λ v. Vector v) (only_vector operands) o is in
+    subst OperandsFit v.2 (only_fits operands v.0 v.1)
 
-placed_fits : (o : Option ℕ) (axes : List (List ℕ)) (c : Command) → ((n : ℕ) → o ≡ Some n → n < 1000000000000000000)
-    → option_and_then (λ p. option_map (λ to. Move p to) (only_vector axes)) o ≡ Some c → CommandFits c
-placed_fits None axes c below is = absurd cc
-placed_fits (Some p) axes c below is =
-    let to = mapped (λ to. Move p to) (only_vector axes) c is in
-    subst CommandFits to.2 (omega (arith, below p refl), only_fits axes to.0 to.1)
+counted_fits : (n : Option ℕ) (axes : List (List ℕ)) (o : Operands) → ((k : ℕ) → n ≡ Some k → k < 1000000000000000000)
+    → option_and_then (λ n. option_map (λ v. NumberAndVector n v) (only_vector axes)) n ≡ Some o → OperandsFit o
+counted_fits None axes o below is = absurd cc
+counted_fits (Some k) axes o below is =
+    let v = mapped (λ v. NumberAndVector k v) (only_vector axes) o is in
+    subst OperandsFit v.2 (omega (arith, below k refl), only_fits axes v.0 v.1)
 
-moved_fits : (operands : List (List ℕ)) (c : Command) → moved operands ≡ Some c → CommandFits c
-moved_fits [] c is = absurd cc
-moved_fits (particle ∷ axes) c is = placed_fits (count particle) axes c (count_below particle) is
+both_fit : (operands : List (List ℕ)) (o : Operands) → number_and_vector operands ≡ Some o → OperandsFit o
+both_fit [] o is = absurd cc
+both_fit (number ∷ axes) o is = counted_fits (count number) axes o (count_below number) is
+
+operands_fit : (kind : OperandKind) (operands : List (List ℕ)) (o : Operands) → operands_in kind operands ≡ Some o → OperandsFit o
+operands_fit kinds.Nothing operands o is = nothing_fits operands o is
+operands_fit kinds.Number operands o is = number_operand_fits operands o is
+operands_fit kinds.Vector operands o is = vector_operand_fits operands o is
+operands_fit kinds.NumberAndVector operands o is = both_fit operands o is
 
 form_fits : (word : List ℕ) (operands : List (List ℕ)) (c : Command) → form word operands ≡ Some c → CommandFits c
-unfolding form
 form_fits word operands c is =
-    tried (codes "step") word _ _ c is (λ _ here. count_fits (λ n. Step n) operands c (λ n lt. lt) here) (λ is1.
-    tried (codes "frame") word _ _ c is1 (λ _ here. alone_fits Frame c operands tt here) (λ is2.
-    tried (codes "pin") word _ _ c is2 (λ _ here. count_fits (λ n. Pin n) operands c (λ n lt. lt) here) (λ is3.
-    tried (codes "unpin") word _ _ c is3 (λ _ here. count_fits (λ n. Unpin n) operands c (λ n lt. lt) here) (λ is4.
-    tried (codes "move") word _ _ c is4 (λ _ here. moved_fits operands c here) (λ is5.
-    tried (codes "cut") word _ _ c is5 (λ _ here. count_fits (λ n. Cut n) operands c (λ n lt. lt) here) (λ is6.
-    tried (codes "gravity") word _ _ c is6 (λ _ here. gravity_fits operands c here) (λ is7.
-    tried (codes "ledger") word _ _ c is7 (λ _ here. alone_fits Ledger c operands tt here) (λ none. absurd cc))))))))
+    let f = form_is word operands c is in
+    rw f.parts (operands_fit (row f.verb).kind operands f.given f.read)
 
 read_fits : (word : List ℕ) (operands : List (List ℕ)) → CommandFits (unwrap_or (form word operands) Bad)
 read_fits word operands = elim (inspect (form word operands)) [

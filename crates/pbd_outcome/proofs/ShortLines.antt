@@ -1,18 +1,26 @@
 -- The entries of a script's commands are at most four times as long as its lines, but for their sums.
 use Rattle.std.proofs.Common.{◌≡◌, sym, ap, refl, ℕ, ◌+◌, ◌*◌, ◌<◌, ◌≤◌, ◌⊎◌, inl, inr, Bool, true, false, cond, List, [], ◌∷◌, length}
-use Rattle.std.proofs.Common.{Option, Some, None, ℤ, take, arith}
-use Rattle.std.specs.Prelude.{◌==◌, not, nat_eq, filter, filter_map, bytes_eq, codes, unwrap_or}
+use Rattle.std.proofs.Common.{Option, Some, None, ℤ, take, subst, arith}
+use Rattle.std.specs.Prelude.{◌==◌, ◌||◌, not, nat_eq, nat_le, filter, filter_map, codes, unwrap_or}
 use Rattle.std.specs.List.{cons_option, onto_first, slice_split, starts_with}
 use Rattle.std.specs.Option.{option_map, option_and_then}
 use Rattle.std.specs.Str.Lines.{strip_carriage_return}
 use Rattle.std.proofs.lemmas.List.{length-take}
 use Rattle.std.proofs.lemmas.List.Splits.{length-slice_split}
-use Rattle.std.proofs.lemmas.Slice.Eq.{bytes_eq-Decides}
+use Rattle.std.proofs.lemmas.Bool.{leb-true}
 use Rattle.pbd_num.specs.declared.Vec3.{Vec3}
 use Rattle.pbd_world.specs.declared.command.Command.{Command}
-use Rattle.pbd_world.specs.declared.command.Command.TheVariants.{Step, Frame, Pin, Unpin, Move, Cut, Gravity, Ledger, Bad}
+use Rattle.pbd_world.specs.declared.command.Command.TheVariants.{Bad}
+use Rattle.pbd_world.specs.declared.verb.Verb.{Verb}
+use Rattle.pbd_world.specs.declared.verb.OperandKind.{OperandKind}
+use Rattle.pbd_world.specs.declared.verb.OperandKind.TheVariants as kinds
+use Rattle.pbd_world.specs.declared.verb.Operands.{Operands}
+use Rattle.pbd_world.specs.declared.verb.Operands.TheVariants.{Nothing, Number, Vector, NumberAndVector}
+use Rattle.pbd_world.specs.Verbs.{TableRow, row, verb_named, verb_and_operands, command_with}
+use Rattle.pbd_world.proofs.VerbLaws.{rows_pass, word_is, parted}
 use Rattle.pbd_script.specs.Lines.{pieces, words, is_blank, count, number, only_count}
-use Rattle.pbd_script.specs.Commands.{alone, vector_of, only_vector, moved, form, words_command, line_command, commands}
+use Rattle.pbd_script.specs.Commands.{nothing, vector_of, only_vector, number_and_vector, operands_in, form, words_command, line_command, commands}
+use Rattle.pbd_script.proofs.AsciiLemmas.{chained}
 
 -- ---- the elements of lists, and one more for each list
 
@@ -54,17 +62,15 @@ words_room line =
 
 -- ---- what an entry takes
 
--- the most bytes that a command's entry has, but for its sums
+-- the most bytes that an entry with these operands has, but for its sums
+abbrev pub bytes_with : Operands → ℕ
+bytes_with Nothing = 2
+bytes_with (Number n) = 23
+bytes_with (Vector v) = 39
+bytes_with (NumberAndVector n v) = 47
+
 abbrev pub most_bytes : Command → ℕ
-most_bytes (Step n) = 23
-most_bytes Frame = 2
-most_bytes (Pin i) = 23
-most_bytes (Unpin i) = 23
-most_bytes (Move particle to) = 47
-most_bytes (Cut l) = 23
-most_bytes (Gravity g) = 39
-most_bytes Ledger = 2
-most_bytes Bad = 2
+most_bytes c = bytes_with (verb_and_operands c).1
 
 -- ---- numbers have digits
 
@@ -101,69 +107,76 @@ three_axes (x ∷ y ∷ z ∷ []) v is =
     omega (arith, number_long x three.0.0 three.0.1, number_long y three.1.0 three.1.1, number_long z three.2.0 three.2.1)
 three_axes (x ∷ y ∷ z ∷ w ∷ more) v is = cc
 
-placed : (o : Option ℕ) (axes : List (List ℕ)) (c : Command)
-    → option_and_then (λ p. option_map (λ to. Move p to) (only_vector axes)) o ≡ Some c
-    → (n : ℕ) × (o ≡ Some n) × (6 ≤ room axes) × (most_bytes c ≡ 47)
-placed None axes c is = cc
-placed (Some p) axes c is =
-    let to = mapped (λ to. Move p to) (only_vector axes) c is in
-    (p, refl, three_axes axes to.0 to.1, sym (ap most_bytes to.2))
-
 -- ---- each form has room for its entry
 
-abbrev IsShort : List ℕ → List (List ℕ) → Command → Type 0
-IsShort word operands c = most_bytes c ≤ 4 * room (word ∷ operands)
+abbrev is_nothing : OperandKind → Bool
+is_nothing kinds.Nothing = true
+is_nothing kind = false
 
-pub chosen : {A : Type 0} (test : Bool) (x y z : A) → cond test x y ≡ z → ((test ≡ true) × (x ≡ z)) ⊎ ((test ≡ false) × (y ≡ z))
-chosen true x y z is = inl (refl, is)
-chosen false x y z is = inr (refl, is)
+-- a verb with operands has a word of three letters at least
+abbrev is_long : TableRow → Bool
+is_long row = is_nothing row.kind || nat_le 3 (length row.word)
 
--- the form of this name, or one that is looked for further on
-pub tried : {P : Type 0} (name word : List ℕ) (here others : Option Command) (c : Command) → cond (bytes_eq word name) here others ≡ Some c
-    → (length word ≡ length name → here ≡ Some c → P) → (others ≡ Some c → P) → P
-tried name word here others c is f g = elim (chosen (bytes_eq word name) here others (Some c) is) [
-  | inl p ↦ f (ap length ((bytes_eq-Decides word name).0 p.0)) p.1
-  | inr q ↦ g q.1
-]
+all_long : (v : Verb) → is_long (row v) ≡ true
+unfolding row
+all_long v = rows_pass is_long refl v
 
-with_count : (command : ℕ → Command) (word : List ℕ) (operands : List (List ℕ)) (c : Command) → ((n : ℕ) → most_bytes (command n) ≡ 23)
-    → 3 ≤ length word → option_map (λ n. command n) (only_count operands) ≡ Some c → IsShort word operands c
-with_count command word operands c most named is =
-    let n = mapped (λ n. command n) (only_count operands) c is in
-    omega (arith, counted operands n.0 n.1, most n.0, ap most_bytes n.2)
+abbrev IsShort : List ℕ → List (List ℕ) → Operands → Type 0
+IsShort word operands o = bytes_with o ≤ 4 * room (word ∷ operands)
 
-by_itself : (command : Command) (word : List ℕ) (operands : List (List ℕ)) (c : Command) → most_bytes command ≡ 2
-    → alone command operands ≡ Some c → IsShort word operands c
-by_itself command word [] c most is = let e : command ≡ c = cc in omega (arith, ap most_bytes e)
-by_itself command word (operand ∷ more) c most is = cc
+none_short : (word : List ℕ) (operands : List (List ℕ)) (o : Operands) → nothing operands ≡ Some o → IsShort word operands o
+none_short word [] o is = let e : Nothing ≡ o = cc in omega (arith, ap bytes_with e)
+none_short word (operand ∷ more) o is = cc
 
-with_vector : (word : List ℕ) (operands : List (List ℕ)) (c : Command) → 7 ≤ length word
-    → option_map (λ v. Gravity v) (only_vector operands) ≡ Some c → IsShort word operands c
-with_vector word operands c named is =
-    let v = mapped (λ v. Gravity v) (only_vector operands) c is in
-    omega (arith, three_axes operands v.0 v.1, ap most_bytes v.2)
+either_short : (n : Option ℕ) (word : List ℕ) (axes : List (List ℕ)) (o : Operands)
+    → option_and_then (λ n. option_map (λ v. NumberAndVector n v) (only_vector axes)) n ≡ Some o
+    → (k : ℕ) × (n ≡ Some k) × (6 ≤ room axes) × (bytes_with o ≡ 47)
+either_short None word axes o is = cc
+either_short (Some k) word axes o is =
+    let v = mapped (λ v. NumberAndVector k v) (only_vector axes) o is in
+    (k, refl, three_axes axes v.0 v.1, sym (ap bytes_with v.2))
 
-with_place : (word : List ℕ) (operands : List (List ℕ)) (c : Command) → 4 ≤ length word → moved operands ≡ Some c → IsShort word operands c
-with_place word [] c named is = cc
-with_place word (particle ∷ axes) c named is =
-    let at = placed (count particle) axes c is in
-    omega (arith, count_long particle at.0 at.1, at.2, at.3)
+both_short : (word : List ℕ) (operands : List (List ℕ)) (o : Operands) → 3 ≤ length word → number_and_vector operands ≡ Some o
+    → IsShort word operands o
+both_short word [] o long is = cc
+both_short word (number ∷ axes) o long is =
+    let at = either_short (count number) word axes o is in
+    omega (arith, long, count_long number at.0 at.1, at.2, at.3)
 
-form_short : (word : List ℕ) (operands : List (List ℕ)) (c : Command) → form word operands ≡ Some c → IsShort word operands c
+operands_short : (kind : OperandKind) (word : List ℕ) (operands : List (List ℕ)) (o : Operands)
+    → (is_nothing kind || nat_le 3 (length word)) ≡ true → operands_in kind operands ≡ Some o → IsShort word operands o
+operands_short kinds.Nothing word operands o long is = none_short word operands o is
+operands_short kinds.Number word operands o long is =
+    let n = mapped (λ n. Number n) (only_count operands) o is in
+    omega (arith, leb-true 3 (length word) long, counted operands n.0 n.1, ap bytes_with n.2)
+operands_short kinds.Vector word operands o long is =
+    let v = mapped (λ v. Vector v) (only_vector operands) o is in
+    omega (arith, leb-true 3 (length word) long, three_axes operands v.0 v.1, ap bytes_with v.2)
+operands_short kinds.NumberAndVector word operands o long is = both_short word operands o (leb-true 3 (length word) long) is
+
+-- the verb and the operands of a form
+pub record IsForm (word : List ℕ) (operands : List (List ℕ)) (c : Command) : Type 0 where
+  pub verb : Verb
+  pub given : Operands
+  pub named : (row verb).word ≡ word
+  pub read : operands_in (row verb).kind operands ≡ Some given
+  pub parts : verb_and_operands c ≡ (verb, given)
+
+pub form_is : (word : List ℕ) (operands : List (List ℕ)) (c : Command) → form word operands ≡ Some c → IsForm word operands c
 unfolding form
+form_is word operands c is =
+    let v = chained (λ v. option_and_then (command_with v) (operands_in (row v).kind operands)) (verb_named word) c is in
+    let o = chained (command_with v.0) (operands_in (row v.0).kind operands) c v.2 in
+    record { verb = v.0; given = o.0; named = word_is word v.0 v.1; read = o.1; parts = parted v.0 o.0 c o.2 }
+
+form_short : (word : List ℕ) (operands : List (List ℕ)) (c : Command) → form word operands ≡ Some c
+    → most_bytes c ≤ 4 * room (word ∷ operands)
 form_short word operands c is =
-    tried (codes "step") word _ _ c is (λ named here. with_count (λ n. Step n) word operands c (λ n. refl) (omega (arith, named)) here)
-    (λ is1.
-    tried (codes "frame") word _ _ c is1 (λ named here. by_itself Frame word operands c refl here) (λ is2.
-    tried (codes "pin") word _ _ c is2 (λ named here. with_count (λ n. Pin n) word operands c (λ n. refl) (omega (arith, named)) here)
-    (λ is3.
-    tried (codes "unpin") word _ _ c is3 (λ named here. with_count (λ n. Unpin n) word operands c (λ n. refl) (omega (arith, named)) here)
-    (λ is4.
-    tried (codes "move") word _ _ c is4 (λ named here. with_place word operands c (omega (arith, named)) here) (λ is5.
-    tried (codes "cut") word _ _ c is5 (λ named here. with_count (λ n. Cut n) word operands c (λ n. refl) (omega (arith, named)) here)
-    (λ is6.
-    tried (codes "gravity") word _ _ c is6 (λ named here. with_vector word operands c (omega (arith, named)) here) (λ is7.
-    tried (codes "ledger") word _ _ c is7 (λ named here. by_itself Ledger word operands c refl here) (λ none. cc))))))))
+    let f = form_is word operands c is in
+    let kind = (row f.verb).kind in
+    let long : (is_nothing kind || nat_le 3 (length word)) ≡ true =
+    subst (λ w. (is_nothing kind || nat_le 3 (length w)) ≡ true) f.named (all_long f.verb) in
+    rw f.parts (operands_short kind word operands f.given long f.read)
 
 -- ---- the commands of a script
 

@@ -1,5 +1,5 @@
 -- The entries of a session take at most as many bytes as their commands allow, and the sums of each step besides.
-use Rattle.std.proofs.Common.{◌≡◌, refl, ℕ, zero, suc, ◌+◌, ◌*◌, ◌≤◌, Bool, true, false, cond, List, [], ◌∷◌, ◌++◌, length, Some, None}
+use Rattle.std.proofs.Common.{◌≡◌, ap, refl, ℕ, zero, suc, ◌+◌, ◌*◌, ◌≤◌, Bool, true, false, cond, List, [], ◌∷◌, ◌++◌, length, Some, None}
 use Rattle.std.proofs.Common.{Result, Ok, Err, ℤ, arith}
 use Rattle.std.specs.Prelude.{IfOk, ◌==◌, ◌&&◌, not, nat_le, nat_lt, unsigned_abs}
 use Rattle.std.specs.List.{flat_map}
@@ -9,6 +9,8 @@ use Rattle.std.specs.Int.{bytes_high_first}
 use Rattle.pbd_num.specs.declared.Vec3.{Vec3}
 use Rattle.pbd_world.specs.declared.command.Command.{Command}
 use Rattle.pbd_world.specs.declared.command.Command.TheVariants.{Step, Frame, Pin, Unpin, Move, Cut, Gravity, Ledger, Bad}
+use Rattle.pbd_world.specs.declared.verb.Operands.TheVariants.{Nothing, Number, Vector, NumberAndVector}
+use Rattle.pbd_world.specs.Verbs.{verb_and_operands}
 use Rattle.pbd_world.specs.declared.command.Refusal.{Refusal}
 use Rattle.pbd_world.specs.declared.command.Refusal.TheVariants.{TooManyContacts}
 use Rattle.pbd_world.specs.declared.command.Phase.TheVariants as phases
@@ -29,7 +31,7 @@ use Rattle.pbd_world.proofs.KeepingOn.{bind-keeps}
 use Rattle.pbd_world.proofs.CountingOn.{ok_weaker}
 use Rattle.pbd_world.proofs.CommandBalance.{unless-keeps}
 use Rattle.pbd_session.specs.Recording.{entries_of, log_bytes}
-use Rattle.pbd_outcome.proofs.ShortLines.{most_bytes, all_bytes}
+use Rattle.pbd_outcome.proofs.ShortLines.{bytes_with, most_bytes, all_bytes}
 
 -- ---- the fields of an entry
 
@@ -95,29 +97,18 @@ entry_length e = omega (
 abbrev HasRoom : Command → Type 0
 HasRoom c = length (command_bytes c) + 14 ≤ most_bytes c
 
-step_room : (n : ℕ) → HasRoom (Step n)
+number_room : (c : Command) (n : ℕ) → (verb_and_operands c).1 ≡ Number n → HasRoom c
 unfolding command_bytes
-step_room n = omega (arith, number_length 8 n)
+number_room c n is = rw is (omega (arith, number_length 8 n))
 
-pin_room : (i : ℕ) → HasRoom (Pin i)
+vector_room : (c : Command) (v : Vec3) → (verb_and_operands c).1 ≡ Vector v → HasRoom c
 unfolding command_bytes
-pin_room i = omega (arith, number_length 8 i)
+vector_room c v is = rw is (omega (arith, vector_length v))
 
-unpin_room : (i : ℕ) → HasRoom (Unpin i)
+both_room : (c : Command) (n : ℕ) (v : Vec3) → (verb_and_operands c).1 ≡ NumberAndVector n v → HasRoom c
 unfolding command_bytes
-unpin_room i = omega (arith, number_length 8 i)
-
-cut_room : (l : ℕ) → HasRoom (Cut l)
-unfolding command_bytes
-cut_room l = omega (arith, number_length 8 l)
-
-move_room : (i : ℕ) (to : Vec3) → HasRoom (Move i to)
-unfolding command_bytes
-move_room i to = omega (arith, length-append (number_bytes 8 i) (vector_bytes to), number_length 8 i, vector_length to)
-
-gravity_room : (g : Vec3) → HasRoom (Gravity g)
-unfolding command_bytes
-gravity_room g = omega (arith, vector_length g)
+both_room c n v is =
+    rw is (omega (arith, length-append (number_bytes 8 n) (vector_bytes v), number_length 8 n, vector_length v))
 
 abbrev bare : Command → Answer → Entry
 bare c a = record { command = c; answer = a; sums = None }
@@ -129,17 +120,9 @@ step_length : (n : ℕ) → length (command_bytes (Step n)) ≡ 9
 unfolding command_bytes
 step_length n = omega (arith, number_length 8 n)
 
-frame_length : length (command_bytes Frame) ≡ 1
+bare_length : (c : Command) → (verb_and_operands c).1 ≡ Nothing → length (command_bytes c) ≡ 1
 unfolding command_bytes
-frame_length = refl
-
-ledger_length : length (command_bytes Ledger) ≡ 1
-unfolding command_bytes
-ledger_length = refl
-
-bad_length : length (command_bytes Bad) ≡ 1
-unfolding command_bytes
-bad_length = refl
+bare_length c is = rw is refl
 
 done_length : length (answer_bytes (plain 0)) ≡ 1
 unfolding answer_bytes
@@ -228,7 +211,7 @@ step_fits w n (Ok v) rose = record {
   );
   within = λ le. rose.within;
 }
-step_fits w n (Err refusal) rose = still w w (Step n) (refusal_answer refusal) (step_room n) refl
+step_fits w n (Err refusal) rose = still w w (Step n) (refusal_answer refusal) (number_room (Step n) n refl) refl
 
 -- a command that is no step
 other_fits : (w : World) (c : Command) (r : Result World Refusal) (a : Answer) → HasRoom c → IfOk r (λ v. v.steps ≡ w.steps)
@@ -236,10 +219,12 @@ other_fits : (w : World) (c : Command) (r : Result World Refusal) (a : Answer) �
 other_fits w c (Ok v) a fits same = still w v c a fits same
 other_fits w c (Err refusal) a fits same = still w w c a fits refl
 
--- a command of one byte with an answer of one byte
-small : (w : World) (c : Command) (a : Answer) → 2 ≤ most_bytes c → length (command_bytes c) ≡ 1 → length (answer_bytes a) ≡ 1
-    → FitsIn w w c (bare c a)
-small w c a most one answered = record { short = omega (arith, entry_length (bare c a), most, one, answered); within = λ le. le }
+-- a command without operands, with an answer of one byte
+small : (w : World) (c : Command) (a : Answer) → (verb_and_operands c).1 ≡ Nothing → length (answer_bytes a) ≡ 1 → FitsIn w w c (bare c a)
+small w c a is answered = record {
+  short = omega (arith, entry_length (bare c a), ap bytes_with is, bare_length c is, answered);
+  within = λ le. le;
+}
 
 kept_steps : (w v : World) (tests : List (Bool × Refusal)) → v.steps ≡ w.steps → IfOk (unless tests v) (λ u. u.steps ≡ w.steps)
 kept_steps w v tests same = unless-keeps (λ u. u.steps ≡ w.steps) tests v (λ es. same)
@@ -247,18 +232,18 @@ kept_steps w v tests same = unless-keeps (λ u. u.steps ≡ w.steps) tests v (λ
 entry_fits : (w : World) (c : Command) → FitsIn w (after w c) c (entry_of (entry w c))
 unfolding meaning
 entry_fits w (Step n) = step_fits w n (run_steps w n) (run_rises w n)
-entry_fits w (Pin i) = other_fits w (Pin i) (pin w i) _ (pin_room i)
+entry_fits w (Pin i) = other_fits w (Pin i) (pin w i) _ (number_room (Pin i) i refl)
     (kept_steps w (pinned w i (particle_at w.particles i)) (refusals w (Pin i)) refl)
-entry_fits w (Unpin i) = other_fits w (Unpin i) (unpin w i) _ (unpin_room i)
+entry_fits w (Unpin i) = other_fits w (Unpin i) (unpin w i) _ (number_room (Unpin i) i refl)
     (kept_steps w (unpinned w i (particle_at w.particles i)) (refusals w (Unpin i)) refl)
-entry_fits w (Move i to) = other_fits w (Move i to) (place_held w i to) _ (move_room i to)
+entry_fits w (Move i to) = other_fits w (Move i to) (place_held w i to) _ (both_room (Move i to) i to refl)
     (kept_steps w (put_at w i (particle_at w.particles i) to) (refusals w (Move i to)) refl)
-entry_fits w (Cut l) = other_fits w (Cut l) (cut w l) _ (cut_room l) (kept_steps w (without_link w l) (refusals w (Cut l)) refl)
-entry_fits w (Gravity g) = other_fits w (Gravity g) (set_gravity w g) _ (gravity_room g)
+entry_fits w (Cut l) = other_fits w (Cut l) (cut w l) _ (number_room (Cut l) l refl) (kept_steps w (without_link w l) (refusals w (Cut l)) refl)
+entry_fits w (Gravity g) = other_fits w (Gravity g) (set_gravity w g) _ (vector_room (Gravity g) g refl)
     (kept_steps w (record w { gravity = g }) (refusals w (Gravity g)) refl)
-entry_fits w Frame = small w Frame (plain 0) (omega arith) frame_length done_length
-entry_fits w Ledger = small w Ledger (plain 0) (omega arith) ledger_length done_length
-entry_fits w Bad = small w Bad (plain 1) (omega arith) bad_length bad_answer
+entry_fits w Frame = small w Frame (plain 0) refl done_length
+entry_fits w Ledger = small w Ledger (plain 0) refl done_length
+entry_fits w Bad = small w Bad (plain 1) refl bad_answer
 
 -- ---- all entries
 

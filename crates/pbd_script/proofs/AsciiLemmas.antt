@@ -1,7 +1,7 @@
 -- No byte past ASCII stands in a line that has a form.
-use Rattle.std.proofs.Common.{◌≡◌, ◌∙◌, sym, ap, refl, ℕ, suc, ◌-◌, ◌<◌, ◌≤◌, ℤ, Bool, true, false, not, cond, List, [], ◌∷◌, ◌++◌, length}
+use Rattle.std.proofs.Common.{◌≡◌, ◌∙◌, sym, ap, subst, refl, ℕ, suc, ◌-◌, ◌<◌, ◌≤◌, ℤ, Bool, true, false, not, cond, List, [], ◌∷◌, ◌++◌, length}
 use Rattle.std.proofs.Common.{get_or, take, Option, Some, None, arith, inl, inr, neg_ℤ, pos, nat_lt, Any, IfSome, slice_index, codes}
-use Rattle.std.specs.Prelude.{◌==◌, ◌&&◌, ◌⊎◌, bytes_eq, filter, unwrap_or, if◌then◌else◌, nat_eq}
+use Rattle.std.specs.Prelude.{◌==◌, ◌&&◌, ◌⊎◌, filter, unwrap_or, if◌then◌else◌, nat_eq}
 use Rattle.std.specs.List.{list_all, slice_split, onto_first, starts_with}
 use Rattle.std.specs.Option.{option_map, option_and_then}
 use Rattle.std.specs.Str.Lines.{strip_carriage_return}
@@ -9,12 +9,18 @@ use Rattle.std.proofs.Math.Seq.{take-suc}
 use Rattle.std.proofs.lemmas.Bool.Decides.{nat_tests}
 use Rattle.std.proofs.lemmas.List.{take_all}
 use Rattle.std.proofs.lemmas.List.Folds.{list_all_at, list_all-append}
-use Rattle.std.proofs.lemmas.Slice.Eq.{bytes_eq-Decides}
 use Rattle.pbd_num.specs.declared.Vec3.{Vec3}
 use Rattle.pbd_world.specs.declared.command.Command.{Command}
-use Rattle.pbd_world.specs.declared.command.Command.TheVariants.{Step, Frame, Pin, Unpin, Move, Cut, Gravity, Ledger, Bad}
+use Rattle.pbd_world.specs.declared.command.Command.TheVariants.{Bad}
+use Rattle.pbd_world.specs.declared.verb.Verb.{Verb}
+use Rattle.pbd_world.specs.declared.verb.OperandKind.{OperandKind}
+use Rattle.pbd_world.specs.declared.verb.OperandKind.TheVariants as kinds
+use Rattle.pbd_world.specs.declared.verb.Operands.{Operands}
+use Rattle.pbd_world.specs.declared.verb.Operands.TheVariants.{Number, Vector, NumberAndVector}
+use Rattle.pbd_world.specs.Verbs.{row, verb_named, command_with}
+use Rattle.pbd_world.proofs.VerbLaws.{rows_pass, word_is}
 use Rattle.pbd_script.specs.Lines.{words, is_blank, is_digit, is_count, count, number, value, only_count}
-use Rattle.pbd_script.specs.Commands.{alone, vector_of, only_vector, moved, form, words_command, line_command}
+use Rattle.pbd_script.specs.Commands.{nothing, vector_of, only_vector, number_and_vector, operands_in, form, words_command, line_command}
 
 abbrev is_plain : ℕ → Bool
 is_plain b = nat_lt b 128
@@ -76,9 +82,9 @@ number_plain (b ∷ word) z is = number_case (b == 45) b word z refl is
 
 -- ---- what follows a first word
 
-alone_plain : (c d : Command) (ws : List (List ℕ)) → alone c ws ≡ Some d → all_plain ws ≡ true
-alone_plain c d [] is = refl
-alone_plain c d (w ∷ ws) is = cc
+nothing_plain : (o : Operands) (ws : List (List ℕ)) → nothing ws ≡ Some o → all_plain ws ≡ true
+nothing_plain o [] is = refl
+nothing_plain o (w ∷ ws) is = cc
 
 only_count_plain : (ws : List (List ℕ)) (n : ℕ) → only_count ws ≡ Some n → all_plain ws ≡ true
 only_count_plain [] n is = refl
@@ -102,46 +108,38 @@ only_vector_plain (x ∷ y ∷ z ∷ []) v is =
     (both (plain z) true (number_plain z each.2.0 each.2.1) refl))
 only_vector_plain (x ∷ y ∷ z ∷ more ∷ ws) v is = cc
 
-chained : {X Y : Type 0} (f : X → Option Y) (o : Option X) (y : Y) → option_and_then f o ≡ Some y → (x : X) × (o ≡ Some x) × (f x ≡ Some y)
+pub chained : {X Y : Type 0} (f : X → Option Y) (o : Option X) (y : Y) → option_and_then f o ≡ Some y → (x : X) × (o ≡ Some x) × (f x ≡ Some y)
 chained f None y e = cc
 chained f (Some x) y e = (x, refl, e)
 
-moved_plain : (ws : List (List ℕ)) (c : Command) → moved ws ≡ Some c → all_plain ws ≡ true
-moved_plain [] c is = refl
-moved_plain (w ∷ axes) c is =
-    let particle = chained (λ p. option_map (λ to. Move p to) (only_vector axes)) (count w) c is in
-    let to = came_from (λ v. Move particle.0 v) (only_vector axes) c particle.2 in
-    both (plain w) (all_plain axes) (count_plain w particle.0 particle.1) (only_vector_plain axes to.0 to.1)
+number_and_vector_plain : (ws : List (List ℕ)) (o : Operands) → number_and_vector ws ≡ Some o → all_plain ws ≡ true
+number_and_vector_plain [] o is = refl
+number_and_vector_plain (w ∷ axes) o is =
+    let n = chained (λ n. option_map (λ v. NumberAndVector n v) (only_vector axes)) (count w) o is in
+    let v = came_from (λ v. NumberAndVector n.0 v) (only_vector axes) o n.2 in
+    both (plain w) (all_plain axes) (count_plain w n.0 n.1) (only_vector_plain axes v.0 v.1)
+
+operands_plain : (kind : OperandKind) (ws : List (List ℕ)) (o : Operands) → operands_in kind ws ≡ Some o → all_plain ws ≡ true
+operands_plain kinds.Nothing ws o is = nothing_plain o ws is
+operands_plain kinds.Number ws o is = let n = came_from (λ k. Number k) (only_count ws) o is in only_count_plain ws n.0 n.1
+operands_plain kinds.Vector ws o is = let v = came_from (λ k. Vector k) (only_vector ws) o is in only_vector_plain ws v.0 v.1
+operands_plain kinds.NumberAndVector ws o is = number_and_vector_plain ws o is
 
 -- ---- the forms
 
 abbrev ArePlain : List ℕ → List (List ℕ) → Type 0
 ArePlain word ws = (plain word ≡ true) × (all_plain ws ≡ true)
 
-pick_case : (b : Bool) (word key : List ℕ) (ws : List (List ℕ)) (o rest : Option Command) (c : Command) → (b ≡ true → word ≡ key)
-    → plain key ≡ true → (o ≡ Some c → all_plain ws ≡ true) → (rest ≡ Some c → ArePlain word ws) → (if b then o else rest) ≡ Some c
-    → ArePlain word ws
-pick_case true word key ws o rest c same fine here there is = (rw (same refl) fine, here is)
-pick_case false word key ws o rest c same fine here there is = there is
-
-pick : (word key : List ℕ) (ws : List (List ℕ)) (o rest : Option Command) (c : Command) → plain key ≡ true
-    → (o ≡ Some c → all_plain ws ≡ true) → (rest ≡ Some c → ArePlain word ws) → (if bytes_eq word key then o else rest) ≡ Some c
-    → ArePlain word ws
-pick word key ws o rest c fine here there is = pick_case (bytes_eq word key) word key ws o rest c
-    (λ e. (bytes_eq-Decides word key).0 e) fine here there is
+verb_plain : (word : List ℕ) (v : Verb) → verb_named word ≡ Some v → plain word ≡ true
+unfolding row
+verb_plain word v is = subst (λ w. plain w ≡ true) (word_is word v is) (rows_pass (λ r. plain r.word) refl v)
 
 form_plain : (word : List ℕ) (ws : List (List ℕ)) (c : Command) → form word ws ≡ Some c → ArePlain word ws
 unfolding form
 form_plain word ws c is =
-    pick word (codes "step") ws _ _ c refl (λ e. let n = came_from (λ k. Step k) (only_count ws) c e in only_count_plain ws n.0 n.1)
-    (pick word (codes "frame") ws _ _ c refl (alone_plain Frame c ws)
-    (pick word (codes "pin") ws _ _ c refl (λ e. let n = came_from (λ k. Pin k) (only_count ws) c e in only_count_plain ws n.0 n.1)
-    (pick word (codes "unpin") ws _ _ c refl (λ e. let n = came_from (λ k. Unpin k) (only_count ws) c e in only_count_plain ws n.0 n.1)
-    (pick word (codes "move") ws _ _ c refl (moved_plain ws c)
-    (pick word (codes "cut") ws _ _ c refl (λ e. let n = came_from (λ k. Cut k) (only_count ws) c e in only_count_plain ws n.0 n.1)
-    (pick word (codes "gravity") ws _ _ c refl (λ e. let v = came_from (λ k. Gravity k) (only_vector ws) c e in
-    only_vector_plain ws v.0 v.1)
-    (pick word (codes "ledger") ws _ _ c refl (alone_plain Ledger c ws) (λ e. cc)))))))) is
+    let v = chained (λ v. option_and_then (command_with v) (operands_in (row v).kind ws)) (verb_named word) c is in
+    let o = chained (command_with v.0) (operands_in (row v.0).kind ws) c v.2 in
+    (verb_plain word v.0 v.1, operands_plain (row v.0).kind ws o.0 o.1)
 
 -- ---- from words to the line
 

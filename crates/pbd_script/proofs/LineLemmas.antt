@@ -1,7 +1,7 @@
 -- Pieces between newlines, and words between blanks.
 use Rattle.std.proofs.Common.{◌≡◌, ◌≢◌, ◌∙◌, sym, refl, ℕ, suc, ◌+◌, ◌<◌, ◌≤◌, Bool, true, false, not, List, [], ◌∷◌, ◌++◌, length, get_or}
 use Rattle.std.proofs.Common.{take, drop, Some, None, arith, inl, inr, zero, add-zero}
-use Rattle.std.specs.Prelude.{position, nat_lt, ◌==◌}
+use Rattle.std.specs.Prelude.{position, ◌==◌}
 use Rattle.std.specs.List.{position_or_len, slice_split, All}
 use Rattle.std.proofs.lemmas.Bool.{cases_lt, lt-ltb, not-false, not-true, le-ltb}
 use Rattle.std.proofs.lemmas.Bool.Decides.{nat_tests}

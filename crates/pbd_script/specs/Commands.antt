@@ -1,19 +1,24 @@
 -- The commands of a script.
-use Rattle.std.specs.Prelude.{ℕ, ℤ, nat_eq, if◌then◌else◌, codes, List, [], ◌∷◌, filter_map, bytes_eq, Option, Some, None, unwrap_or}
+use Rattle.std.specs.Prelude.{ℕ, ℤ, nat_eq, if◌then◌else◌, codes, List, [], ◌∷◌, filter_map, Option, Some, None, unwrap_or}
 use Rattle.std.specs.List.{starts_with}
 use Rattle.std.specs.Option.{option_map, option_and_then}
 use Rattle.std.specs.Str.Lines.{strip_carriage_return}
 use Rattle.pbd_num.specs.declared.Vec3.{Vec3}
 use Rattle.pbd_world.specs.declared.command.Command.{Command}
-use Rattle.pbd_world.specs.declared.command.Command.TheVariants.{Step, Frame, Pin, Unpin, Move, Cut, Gravity, Ledger, Bad}
+use Rattle.pbd_world.specs.declared.command.Command.TheVariants.{Bad}
+use Rattle.pbd_world.specs.declared.verb.OperandKind.{OperandKind}
+use Rattle.pbd_world.specs.declared.verb.OperandKind.TheVariants as kinds
+use Rattle.pbd_world.specs.declared.verb.Operands.{Operands}
+use Rattle.pbd_world.specs.declared.verb.Operands.TheVariants.{Nothing, Number, Vector, NumberAndVector}
+use Rattle.pbd_world.specs.Verbs.{row, verb_named, command_with}
 use Rattle.pbd_script.specs.Lines.{pieces, words, count, number, only_count}
 
 -- ---- what follows a first word
 
 -- nothing
-abbrev pub alone : Command → List (List ℕ) → Option Command
-alone command [] = Some command
-alone command (word ∷ operands) = None
+abbrev pub nothing : List (List ℕ) → Option Operands
+nothing [] = Some Nothing
+nothing (word ∷ operands) = None
 
 abbrev pub vector_of : Option ℤ → Option ℤ → Option ℤ → Option Vec3
 vector_of (Some x) (Some y) (Some z) = Some (record { x = x; y = y; z = z })
@@ -25,25 +30,22 @@ only_vector (x ∷ y ∷ z ∷ []) = vector_of (number x) (number y) (number z)
 only_vector operands = None
 
 -- a count and three numbers
-abbrev pub moved : List (List ℕ) → Option Command
-moved [] = None
-moved (particle ∷ axes) =
-    option_and_then (λ p. option_map (λ to. Move p to) (only_vector axes)) (count particle)
+abbrev pub number_and_vector : List (List ℕ) → Option Operands
+number_and_vector [] = None
+number_and_vector (n ∷ axes) = option_and_then (λ n. option_map (λ v. NumberAndVector n v) (only_vector axes)) (count n)
+
+-- the operands of a kind
+abbrev pub operands_in : OperandKind → List (List ℕ) → Option Operands
+operands_in kinds.Nothing operands = nothing operands
+operands_in kinds.Number operands = option_map (λ n. Number n) (only_count operands)
+operands_in kinds.Vector operands = option_map (λ v. Vector v) (only_vector operands)
+operands_in kinds.NumberAndVector operands = number_and_vector operands
 
 -- ---- lines
 
--- the command of a first word and what follows it, if they are one of the forms
+-- the command of a first word and what follows it, if they are a verb's word and operands of its kind
 unfoldable pub form : List ℕ → List (List ℕ) → Option Command
-form word operands =
-    if bytes_eq word (codes "step") then option_map (λ n. Step n) (only_count operands) else
-    if bytes_eq word (codes "frame") then alone Frame operands else
-    if bytes_eq word (codes "pin") then option_map (λ n. Pin n) (only_count operands) else
-    if bytes_eq word (codes "unpin") then option_map (λ n. Unpin n) (only_count operands) else
-    if bytes_eq word (codes "move") then moved operands else
-    if bytes_eq word (codes "cut") then option_map (λ n. Cut n) (only_count operands) else
-    if bytes_eq word (codes "gravity") then option_map (λ v. Gravity v) (only_vector operands) else
-    if bytes_eq word (codes "ledger") then alone Ledger operands else
-    None
+form word operands = option_and_then (λ verb. option_and_then (command_with verb) (operands_in (row verb).kind operands)) (verb_named word)
 
 -- no words, or a first word that begins with `#`, give no command; words of no form give `Bad`
 abbrev pub words_command : List (List ℕ) → Option Command

@@ -1,17 +1,17 @@
-//! The command of one line.
+//! The command of one line: a verb's word, and operands of its kind.
 ghost use Rattle.std.specs.Prelude.{◌≡◌};
-ghost use Rattle.pbd_script.specs.Commands.{alone, only_vector, moved, form, line_command};
+ghost use Rattle.pbd_script.specs.Commands.{nothing, only_vector, number_and_vector, operands_in, form, line_command};
 ghost use Rattle.pbd_script.specs.Lines.{words};
 
 use crate::lines::{count_of, next_word, number_of, only_count, without_return};
 use pbd_num::Vec3;
-use pbd_world::Command;
+use pbd_world::{Command, OperandKind, Operands, Verb};
 
-fn alone(command: Command, rest: &[u8]) -> Option<Command>
-    ensures { result ≡ alone command (words rest.now) }
+fn nothing(rest: &[u8]) -> Option<Operands>
+    ensures { result ≡ nothing (words rest.now) }
 {
     match next_word(rest) {
-        None => Some(command),
+        None => Some(Operands::Nothing),
         Some(_) => None,
     }
 }
@@ -32,39 +32,32 @@ fn only_vector(rest: &[u8]) -> Option<Vec3>
     }
 }
 
-fn moved(rest: &[u8]) -> Option<Command>
-    ensures { result ≡ moved (words rest.now) }
+fn number_and_vector(rest: &[u8]) -> Option<Operands>
+    ensures { result ≡ number_and_vector (words rest.now) }
 {
-    let (particle, axes) = next_word(rest)?;
-    Some(Command::Move {
-        particle: count_of(particle)?,
-        to: only_vector(axes)?,
-    })
+    let (number, axes) = next_word(rest)?;
+    Some(Operands::NumberAndVector(count_of(number)?, only_vector(axes)?))
+}
+
+/// The operands of this kind that the words of a text write.
+fn operands_of(kind: OperandKind, rest: &[u8]) -> Option<Operands>
+    ensures { result ≡ operands_in kind (words rest.now) }
+{
+    match kind {
+        OperandKind::Nothing => nothing(rest),
+        OperandKind::Number => only_count(rest).map(Operands::Number),
+        OperandKind::Vector => only_vector(rest).map(Operands::Vector),
+        OperandKind::NumberAndVector => number_and_vector(rest),
+    }
 }
 
 #[tactic(auto, unfolding(crate::specs::Commands::form))]
 fn form(word: &[u8], rest: &[u8]) -> Option<Command>
     ensures { result ≡ form word.now (words rest.now) }
 {
-    if word == b"step".as_slice() {
-        only_count(rest).map(Command::Step)
-    } else if word == b"frame".as_slice() {
-        alone(Command::Frame, rest)
-    } else if word == b"pin".as_slice() {
-        only_count(rest).map(Command::Pin)
-    } else if word == b"unpin".as_slice() {
-        only_count(rest).map(Command::Unpin)
-    } else if word == b"move".as_slice() {
-        moved(rest)
-    } else if word == b"cut".as_slice() {
-        only_count(rest).map(Command::Cut)
-    } else if word == b"gravity".as_slice() {
-        only_vector(rest).map(Command::Gravity)
-    } else if word == b"ledger".as_slice() {
-        alone(Command::Ledger, rest)
-    } else {
-        None
-    }
+    let verb = Verb::named(word)?;
+    let operands = operands_of(verb.row().kind, rest)?;
+    verb.with(&operands)
 }
 
 /// The command of a line without its newline. None comes exactly where the line has no words or

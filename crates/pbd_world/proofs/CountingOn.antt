@@ -1,5 +1,5 @@
 -- What grows by a share with each item, and how many items there are.
-use Rattle.std.proofs.Common.{◌≡◌, refl, ap, ℕ, zero, suc, ◌+◌, ◌*◌, ◌≤◌, Bool, true, false, List, [], ◌∷◌, length, length-append, arith}
+use Rattle.std.proofs.Common.{ℕ, zero, suc, ◌+◌, ◌*◌, ◌≤◌, Bool, true, false, List, [], ◌∷◌, length, length-append, arith}
 use Rattle.std.specs.Prelude.{Result, Ok, Err, IfOk, filter, cond, ◌&&◌, ◌==◌}
 use Rattle.std.specs.List.{AllByRecursion, range_with_len, flat_map}
 use Rattle.pbd_world.specs.Outcomes.{in_turn, repeated}

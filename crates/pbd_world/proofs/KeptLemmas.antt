@@ -1,16 +1,14 @@
 -- What the passes of a step keep of each particle, and of the ledger.
 use Rattle.std.proofs.Common.{◌≡◌, refl, sym, ap, ◌∙◌, ℕ, zero, suc, ◌+◌, ◌*◌, ◌<◌, ◌≤◌, ◌^◌, Bool, true, false, ◌&&◌, List, [], ◌∷◌}
-use Rattle.std.proofs.Common.{length, get_or, arith, ℤ, pos, ◌+ℤ◌, ◌*ℤ◌, ◌≤ℤ◌, neg_ℤ, unsigned_abs, inl, inr}
+use Rattle.std.proofs.Common.{length, get_or, arith, ℤ, pos, ◌+ℤ◌, ◌≤ℤ◌, neg_ℤ, unsigned_abs, inl, inr}
 use Rattle.std.specs.Prelude.{IfOk, IsTrue, if◌then◌else◌, slice_set as set}
 use Rattle.std.specs.List.{AllZip}
 use Rattle.std.proofs.lemmas.Int.{ints}
 use Rattle.std.proofs.lemmas.Bool.{cases_lt, and_parts}
 use Rattle.pbd_num.specs.declared.Vec3.{Vec3}
 use Rattle.pbd_num.specs.Vectors.{Within, is_within, zero_vector, plus, minus, opposite, length_of}
-use Rattle.pbd_num.specs.PairMove.{share_of, corrections, pair_moves}
+use Rattle.pbd_num.specs.PairMove.{corrections, pair_moves}
 use Rattle.pbd_num.proofs.Ranges.{within_facts, wider}
-use Rattle.pbd_num.proofs.Sizes.{size-mul}
-use Rattle.pbd_num.proofs.RoundingLemmas.{size-rdiv}
 use Rattle.pbd_num.proofs.Lengths.{pair_moves-none, pair_moves-some, pair_moves-equal}
 use Rattle.pbd_world.specs.declared.parts.Particle.{Particle}
 use Rattle.pbd_world.specs.declared.bond.Bond.{Bond}

@@ -1,6 +1,7 @@
 mod Rows
 mod WorkRows
 pub mod GreedyLemmas
+pub mod VerbLaws
 pub mod KeepingLemmas
 pub mod OpenedLemmas
 pub mod MomentumLemmas

@@ -1,6 +1,7 @@
 pub mod Room
 pub mod Lending
 pub mod Outcomes
+pub mod Verbs
 pub mod Ledger
 pub mod Particles
 pub mod Momentum

@@ -116,17 +116,13 @@ work_over width lanes (suc n) w = step_work width lanes w (found_in w) + work_fr
 unfoldable pub steps_work : ℕ → ℕ → ℕ → World → ℕ
 steps_work width lanes n w = work_from (work_over width lanes n) (unless (refusals w (commands.Step n)) w)
 
--- a command: a particle that it holds, frees or moves is read and written
+-- a command: a particle that it holds, frees or moves is read and written, and other commands but steps reach none
 unfoldable pub command_work : ℕ → ℕ → World → Command → ℕ
 command_work width lanes w (commands.Step n) = steps_work width lanes n w
-command_work width lanes w commands.Frame = 0
 command_work width lanes w (commands.Pin i) = 2
 command_work width lanes w (commands.Unpin i) = 2
 command_work width lanes w (commands.Move i to) = 2
-command_work width lanes w (commands.Cut n) = 0
-command_work width lanes w (commands.Gravity g) = 0
-command_work width lanes w commands.Ledger = 0
-command_work width lanes w commands.Bad = 0
+command_work width lanes w command = 0
 
 -- printing a reply: a frame reads each particle once, and so does the momentum of a ledger
 unfoldable pub reply_work : World → Reply → ℕ

@@ -1,10 +1,13 @@
 //! Laws of the definitions, each the contract of a function that does nothing.
-ghost use Rattle.std.specs.Prelude.{◌≡◌, ◌<◌, ◌≤◌, ◌+◌, ◌*◌, ◌/◌, ◌^◌, ◌==◌, ℕ, ℤ, pos, min, List, [], Bool, false, IsTrue, length, count_by, Contains, AllPairs};
+ghost use Rattle.std.specs.Prelude.{◌≡◌, ◌<◌, ◌≤◌, ◌+◌, ◌*◌, ◌/◌, ◌^◌, ◌==◌, ℕ, ℤ, pos, min, List, [], Bool, false, IsTrue, length, count_by, Contains, AllPairs, Some};
 ghost use Rattle.pbd_num.specs.declared.Vec3.{Vec3};
 ghost use Rattle.pbd_num.specs.Vectors.{Within};
 ghost use Rattle.pbd_world.specs.declared.command.Command.{Command};
 ghost use Rattle.pbd_world.specs.declared.command.Refusal.{Refusal};
 ghost use Rattle.pbd_world.specs.declared.command.Reply.TheVariants as replies;
+ghost use Rattle.pbd_world.specs.declared.verb.Verb.{Verb};
+ghost use Rattle.pbd_world.specs.declared.verb.Operands.{Operands};
+ghost use Rattle.pbd_world.specs.Verbs.{row, verb_named, verb_coded, verb_and_operands, command_with};
 ghost use Rattle.pbd_world.specs.declared.parts.Parts.{Parts};
 ghost use Rattle.pbd_world.specs.declared.totals.Class.{Class};
 ghost use Rattle.pbd_world.specs.Ledger.{Ledger, HaveRoom, SumFits, added, both_sums, sum_plus, total_of};
@@ -74,6 +77,18 @@ pub fn contacts_are_the_touching_pairs()
 pub fn refused_commands_change_nothing()
     ensures { (w : World) (command : Command) (refusal : Refusal)
         → reply w command ≡ replies.Refused refusal → after w command ≡ w }
+{}
+
+/// A verb is found by its word, and by its code.
+pub fn verbs_are_told_apart()
+    ensures word { (v : Verb) → verb_named (row v).word ≡ Some v }
+    ensures code { (v : Verb) → verb_coded (row v).code ≡ Some v }
+{}
+
+/// A command is put together from its verb and its operands, and from no others.
+pub fn commands_are_their_parts()
+    ensures together { (c : Command) → command_with (verb_and_operands c).0 (verb_and_operands c).1 ≡ Some c }
+    ensures apart { (v : Verb) (o : Operands) (c : Command) → command_with v o ≡ Some c → verb_and_operands c ≡ (v, o) }
 {}
 
 /// The world of a valid scene is sound before its first command.
