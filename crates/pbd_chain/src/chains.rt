@@ -3,6 +3,7 @@ ghost use Rattle.std.specs.Prelude.{◌≡◌, ◌+◌, ◌<◌, ◌≤◌, [], 
 ghost use Rattle.pbd_chain.specs.Linked.{Shows, chain_at, chains_of, is_linked, item_at, with_front, without};
 
 use crate::links::{Slot, link, unlink};
+use crate::targets::Targets;
 use std::alloc::{AllocError, Global};
 use std::marker::Model;
 
@@ -11,8 +12,11 @@ use std::marker::Model;
 /// Chains and items are numbers from 0 on. Only opening takes memory.
 #[derive(Drop)]
 pub struct Chains {
-    heads: Vec<Option<u32>>,
-    next: Vec<Option<u32>>,
+    /// The first item of each chain.
+    heads: Targets,
+    /// The item behind each.
+    next: Targets,
+    /// What leads to each item.
     back: Vec<Option<Slot>>,
 }
 
@@ -22,9 +26,9 @@ impl Model for Chains {
 
     ghost Value = { Linked };
 
-    ghost view = { λ s. record { items = length s.next.items; chains = chains_of s.heads.items s.next.items } };
+    ghost view = { λ s. record { items = length s.next; chains = chains_of s.heads s.next } };
 
-    ghost invariant = { λ s. Shows s.heads.items s.next.items s.back.items (chains_of s.heads.items s.next.items) };
+    ghost invariant = { λ s. Shows s.heads s.next s.back.items (chains_of s.heads s.next) };
 }
 
 // A list of n times None.
@@ -49,8 +53,8 @@ fn empty<T: Copy>(places: &mut [Option<T>])
 
 // Puts a free item before the first of a chain.
 fn link_shown(
-    heads: &mut [Option<u32>],
-    next: &mut [Option<u32>],
+    heads: &mut Targets,
+    next: &mut Targets,
     back: &mut [Option<Slot>],
     chain: u32,
     item: u32,
@@ -59,32 +63,29 @@ fn link_shown(
     requires chain { chain < length heads.old }
     requires item { item < length next.old }
     requires free { IsFalse (is_linked (chains_of heads.old next.old) item) }
-    ensures { Shows heads.new next.new back.new (with_front (chains_of heads.old next.old) chain item) }
+    ensures shows { Shows heads.new next.new back.new (with_front (chains_of heads.old next.old) chain item) }
+    ensures items { length next.new ≡ length next.old }
 {
     link(heads, next, back, chain, item);
 }
 
 // Takes a linked item out of its chain.
-fn unlink_shown(
-    heads: &mut [Option<u32>],
-    next: &mut [Option<u32>],
-    back: &mut [Option<Slot>],
-    item: u32,
-)
+fn unlink_shown(heads: &mut Targets, next: &mut Targets, back: &mut [Option<Slot>], item: u32)
     requires shows { Shows heads.old next.old back.old (chains_of heads.old next.old) }
     requires linked { IsTrue (is_linked (chains_of heads.old next.old) item) }
-    ensures { Shows heads.new next.new back.new (map (without item) (chains_of heads.old next.old)) }
+    ensures shows { Shows heads.new next.new back.new (map (without item) (chains_of heads.old next.old)) }
+    ensures items { length next.new ≡ length next.old }
 {
     unlink(heads, next, back, item);
 }
 
 // Empties all chains.
-fn clear_shown(heads: &mut [Option<u32>], next: &[Option<u32>], back: &mut [Option<Slot>])
+fn clear_shown(heads: &mut Targets, next: &Targets, back: &mut [Option<Slot>])
     requires few { length next.now ≤ 2097152 }
     requires backs { length back.old ≡ length next.now }
     ensures { Shows heads.new next.now back.new (replicate (length heads.old) []) }
 {
-    empty(heads);
+    heads.clear();
     empty(back);
 }
 
@@ -95,8 +96,8 @@ impl Chains {
         requires items { items ≤ 2097152 }
         ensures { IfOk result (λ c. c ≡ record { items = items; chains = replicate chains [] }) }
     {
-        let heads = nones(alloc, chains)?;
-        let next = nones(alloc, items)?;
+        let heads = Targets::open(alloc, chains)?;
+        let next = Targets::open(alloc, items)?;
         let back = nones(alloc, items)?;
         Ok(Chains { heads, next, back })
     }
@@ -109,8 +110,8 @@ impl Chains {
         ensures { self.new ≡ record self.old { chains = with_front self.old.chains chain item } }
     {
         link_shown(
-            self.heads.as_mut_slice(),
-            self.next.as_mut_slice(),
+            &mut self.heads,
+            &mut self.next,
             self.back.as_mut_slice(),
             chain,
             item,
@@ -123,8 +124,8 @@ impl Chains {
         ensures { self.new ≡ record self.old { chains = map (without item) self.old.chains } }
     {
         unlink_shown(
-            self.heads.as_mut_slice(),
-            self.next.as_mut_slice(),
+            &mut self.heads,
+            &mut self.next,
             self.back.as_mut_slice(),
             item,
         );
@@ -136,7 +137,7 @@ impl Chains {
         ensures value { result ≡ item_at self.now.chains chain 0 }
         ensures bounded { length (chain_at self.now.chains chain) ≤ self.now.items }
     {
-        self.heads[chain as usize]
+        self.heads.get(chain)
     }
 
     /// The item behind another, and none exactly behind the last of a chain.
@@ -144,7 +145,7 @@ impl Chains {
         requires { IsTrue (is_linked self.now.chains item) }
         ensures { (c k : ℕ) → item_at self.now.chains c k ≡ Some item → result ≡ item_at self.now.chains c (k + 1) }
     {
-        self.next[item as usize]
+        self.next.get(item)
     }
 
     /// Whether an item is in a chain.
@@ -159,24 +160,20 @@ impl Chains {
     pub fn items_stand_once(&self)
         ensures { (c d j k x : ℕ) → item_at self.now.chains c j ≡ Some x → item_at self.now.chains d k ≡ Some x → (c ≡ d) × (j ≡ k) }
     {
-        let _heads = self.heads.len();
+        let _items = self.next.len();
     }
 
     /// The number of items that there is room for, which no chain is longer than.
     pub fn items(&self) -> u32
         ensures { result ≡ self.now.items }
     {
-        self.next.len() as u32
+        self.next.len()
     }
 
     /// Empties all chains.
     pub fn clear(&mut self)
         ensures { self.new ≡ record self.old { chains = map (λ _. []) self.old.chains } }
     {
-        clear_shown(
-            self.heads.as_mut_slice(),
-            self.next.as_slice(),
-            self.back.as_mut_slice(),
-        );
+        clear_shown(&mut self.heads, &self.next, self.back.as_mut_slice());
     }
 }

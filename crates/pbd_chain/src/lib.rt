@@ -4,6 +4,7 @@
 mod chains;
 mod laws;
 mod links;
+mod targets;
 
 pub use chains::Chains;
 pub use laws::{

@@ -1,4 +1,6 @@
-//! Which particles the pairs of a particle may lead to: a set of residues for each, so that most others are told apart at once.
+//! Which particles the pairs of a particle may lead to: a set of residues by 54 for each, so that most others are told apart at once.
+// In a cloth with so many columns as a power of two, from 8 to 256, what the links of a particle lead to has other residues by 54
+// than what stands just behind, one row and two columns or two rows and one column on.
 ghost use Rattle.std.specs.Prelude.{◌≡◌, ◌<◌, ◌%◌, length};
 ghost use Rattle.pbd_colour.specs.Pairs.{InRange};
 ghost use Rattle.pbd_colour.specs.Used.{has};
@@ -14,15 +16,15 @@ pub(crate) fn tell_all(sets: &mut [u64], pairs: &[(u32, u32)])
     clear(sets);
     for i in 0..pairs.len() {
         let (a, b) = pairs[i];
-        mark(sets, a, b % 63);
-        mark(sets, b, a % 63);
+        mark(sets, a, b % 54);
+        mark(sets, b, a % 54);
     }
 }
 
 // Whether the set of particle i has the residue of j.
 pub(crate) fn may_lead(sets: &[u64], i: u32, j: u32) -> bool
     requires { i < length sets.now }
-    ensures { result ≡ has sets.now i (j % 63) }
+    ensures { result ≡ has sets.now i (j % 54) }
 {
-    (sets[i as usize] >> (j % 63)) & 1 == 1
+    (sets[i as usize] >> (j % 54)) & 1 == 1
 }

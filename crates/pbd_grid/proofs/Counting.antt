@@ -1,6 +1,6 @@
 -- How often chains are read.
 use Rattle.std.proofs.Common.{◌≡◌, ℕ, zero, suc, ◌+◌, ◌-◌, ◌*◌, ◌/◌, ◌%◌, ◌<◌, ◌≤◌, ◌^◌, ◌&&◌, Bool, true, false, cond, eqb, ltb, List, []}
-use Rattle.std.proofs.Common.{◌∷◌, length, map, take, set, Some, slice_get, refl, sym, ap, ◌∙◌, subst, arith, inl, inr, add-one}
+use Rattle.std.proofs.Common.{◌∷◌, ◌++◌, length, map, take, set, Option, Some, None, slice_get, refl, sym, ap, ◌∙◌, subst, arith, inl, inr, add-one}
 use Rattle.std.proofs.Common.{length-append}
 use Rattle.std.proofs.lemmas.Bool.{cases_eq, cases_lt, eq-eqb, ne_eqb, lt-ltb}
 use Rattle.std.proofs.lemmas.Bool.Decides.{nat_tests}
@@ -8,16 +8,19 @@ use Rattle.std.proofs.lemmas.List.{get_or-set_same, get_or-set_other, map-append
 use Rattle.std.proofs.lemmas.List.Elements.{filter-append}
 use Rattle.std.proofs.lemmas.List.FromFn.{length-range_with_len}
 use Rattle.std.proofs.lemmas.List.Sums.{sum_by_push}
+use Rattle.std.proofs.lemmas.Option.{slice_get_within}
 use Rattle.std.proofs.Math.Nat.{mul-le-mul_left}
 use Rattle.std.specs.List.{filter, range_with_len, sum_by}
-use Rattle.pbd_chain.specs.Linked.{chain_at}
-use Rattle.pbd_chain.proofs.Walks.{take_get}
+use Rattle.pbd_chain.specs.Linked.{chain_at, item_at, is_in}
+use Rattle.pbd_chain.proofs.Walks.{take_get, get_none, get_in}
 use Rattle.pbd_num.specs.declared.Vec3.{Vec3}
 use Rattle.pbd_grid.specs.declared.lookup.GridCell.{GridCell}
-use Rattle.pbd_grid.specs.Blocks.{AreLaid, IsFalling, beside, slot_of, corner_of, cube_at, cell_at}
+use Rattle.pbd_world.specs.Room.{Roomed}
+use Rattle.pbd_grid.specs.Blocks.{AreLaid, IsFalling, beside, slot_of, corner_of, cube_at, cell_at, picked}
 use Rattle.pbd_grid.specs.Looks.{looks_in, looks_round, looks_before}
 use Rattle.pbd_grid.proofs.Finding.{range_more}
-use Rattle.pbd_grid.proofs.Walking.{all_before}
+use Rattle.pbd_grid.proofs.Looking.{finds, finds_behind}
+use Rattle.pbd_grid.proofs.Walking.{all_before, kept_fits, IsKept, IsKept-none, IsKept-more, IsKept-all, IsKept-behind}
 use Rattle.pbd_world.proofs.CountingOn.{filter_length}
 
 -- ---- those that pass a test
@@ -68,6 +71,109 @@ pub looks_are : {chains : List (List ℕ)} {count t : ℕ} {cubes : List GridCel
 looks_are {chains = chains} {count = count} h i c looks s is l e =
     e ∙ ap (λ (n : ℕ). 1 + length (filter (ltb i) (chain_at chains (slot_of n c)))) h.counted
     ∙ ap (λ (n : ℕ). 1 + n) (h.shared i (slot_of count c) (omega (arith, is, l)))
+
+-- ---- a falling chain, followed as long as what stands there is behind i
+falling_length : (high : ℕ) (xs : List ℕ) → IsFalling high xs → length xs ≤ high
+falling_length high [] h = omega arith
+falling_length high (x ∷ xs) h = omega (arith, h.0, falling_length x xs h.1)
+
+falling_next : (high : ℕ) (xs : List ℕ) (k x y : ℕ) → IsFalling high xs → slice_get xs k ≡ Some x → slice_get xs (suc k) ≡ Some y → y < x
+falling_next high [] k x y h e f = absurd (let no : ⊥ = cc in no)
+falling_next high (z ∷ []) zero x y h e f = absurd (let no : ⊥ = cc in no)
+falling_next high (z ∷ w ∷ ws) zero x y h e f = let s : z ≡ x = cc in let r : w ≡ y = cc in omega (arith, h.1.0, s, r)
+falling_next high (z ∷ zs) (suc k) x y h e f = falling_next z zs k x y h.1 e f
+
+-- what stands before j in the chain was looked at, all of it behind i
+pub record IsFollowed (test : ℕ → Bool) (chain : List ℕ) (i j looks : ℕ) (old now : Roomed ℕ) : Type 0 where
+  pub before : ℕ
+  pub kept : IsKept test chain (Some j) before old now
+  pub looked : HasLooked chain i before looks
+
+pub IsFollowed-begins : (test : ℕ → Bool) (chain : List ℕ) (i j : ℕ) (old : Roomed ℕ) → slice_get chain 0 ≡ Some j
+    → IsFollowed test chain i j 1 old old
+IsFollowed-begins test chain i j old e = record {
+  before = 0;
+  kept = IsKept-none test chain (Some j) old (sym e);
+  looked = record { count = refl };
+}
+
+module _ {test : ℕ → Bool} {chain : List ℕ} {i j looks : ℕ} {old now : Roomed ℕ} (h : IsFollowed test chain i j looks old now) where
+  pub followed_fits : (b : Bool) → b ≡ test j → length old.entries + length (filter test chain) ≤ old.room
+      → length now.entries + length (cond b (j ∷ []) []) ≤ now.room
+  followed_fits b is fits = kept_fits h.kept j b refl is fits
+
+  pub followed_in : is_in j chain ≡ true
+  followed_in = get_in chain h.before j (sym h.kept.next)
+
+  pub followed_small : (high : ℕ) → IsFalling high chain → looks ≤ high
+  followed_small high falls = omega (
+    arith,
+    looked_small h.looked,
+    slice_get_within chain h.before j (sym h.kept.next),
+    falling_length high chain falls,
+  )
+
+  -- what a chain tells of the item behind j
+  module _ (next : Option ℕ) (behind : (k : ℕ) → slice_get chain k ≡ Some j → next ≡ slice_get chain (k + 1)) where
+    pub followed_next : (k : ℕ) → next ≡ Some k → slice_get chain (h.before + 1) ≡ Some k
+    followed_next k e = sym (behind h.before (sym h.kept.next)) ∙ e
+
+    at_end : next ≡ None → length chain ≤ h.before + 1
+    at_end e = get_none chain (h.before + 1) (sym (behind h.before (sym h.kept.next)) ∙ e)
+
+    pub read_all : next ≡ None → i < j → looks + 1 ≡ 1 + length (filter (ltb i) chain)
+    read_all e l = looked_all (looked_more h.looked j (sym h.kept.next) l) (at_end e)
+
+  pub found_all : (b : Bool) (new : Roomed ℕ) → b ≡ test j → new ≡ record now { entries = now.entries ++ cond b (j ∷ []) [] }
+      → (next : Option ℕ) → ((k : ℕ) → slice_get chain k ≡ Some j → next ≡ slice_get chain (k + 1)) → next ≡ None
+      → new ≡ record old { entries = old.entries ++ filter test chain }
+  found_all b new is push next behind e =
+      IsKept-all (IsKept-more h.kept j b new next refl is push (behind h.before (sym h.kept.next))) (at_end next behind e)
+
+  pub followed_smaller : (high k : ℕ) → IsFalling high chain → slice_get chain (h.before + 1) ≡ Some k → k < j
+  followed_smaller high k falls e = falling_next high chain h.before j k falls (sym h.kept.next)
+      (ap (slice_get chain) (sym (add-one h.before)) ∙ e)
+
+  pub IsFollowed-more : (b : Bool) (new : Roomed ℕ) (k : ℕ) → b ≡ test j → new ≡ record now { entries = now.entries ++ cond b (j ∷ []) [] }
+      → slice_get chain (h.before + 1) ≡ Some k → i < j → IsFollowed test chain i k (looks + 1) old new
+  IsFollowed-more b new k is push e l = record {
+    before = h.before + 1;
+    kept = IsKept-more h.kept j b new (Some k) refl is push (sym e);
+    looked = looked_more h.looked j (sym h.kept.next) l;
+  }
+
+  pub found_behind : (high : ℕ) → IsFalling high chain → j ≤ i → ((x : ℕ) → x ≤ i → test x ≡ false)
+      → now ≡ record old { entries = old.entries ++ filter test chain }
+  found_behind high falls le fails = IsKept-behind test i fails h.kept high j falls refl le
+
+  pub read_behind : (high : ℕ) → IsFalling high chain → j ≤ i → looks ≡ 1 + length (filter (ltb i) chain)
+  read_behind high falls le = looked_behind h.looked high j falls (sym h.kept.next) le
+
+-- a look-up that ends with the first of its chain
+module _ {chains : List (List ℕ)} {count t : ℕ} {cubes : List GridCell} {places : List Vec3} (h : AreLaid chains count cubes places t)
+    (test : ℕ → ℕ → Bool) (i s : ℕ) (c : GridCell) (is : s ≡ slot_of count c) (below : s < count) (first : Option ℕ)
+    (e : first ≡ item_at chains s 0) where
+  begins : first ≡ slice_get (chain_at chains (slot_of (length chains) c)) 0
+  begins = e ∙ ap (λ (n : ℕ). item_at chains n 0) (is ∙ ap (λ (n : ℕ). slot_of n c) (sym h.counted))
+
+  at_first : (old : Roomed ℕ) → IsKept (finds places t test i c) (chain_at chains (slot_of (length chains) c)) first 0 old old
+  at_first old = IsKept-none (finds places t test i c) (chain_at chains (slot_of (length chains) c)) first old begins
+
+  pub none_found : first ≡ None → (old : Roomed ℕ) → old ≡ record old { entries = old.entries ++ picked chains places t test i c }
+  none_found none old = IsKept-all (at_first old) (get_none (chain_at chains (slot_of (length chains) c)) 0 (sym begins ∙ none))
+
+  pub none_read : first ≡ None → 1 ≡ looks_in count t places i c
+  none_read none = looks_are h i c 1 s is below (looked_all {chain = chain_at chains (slot_of (length chains) c)} {i = i} {k = 0} {looks = 1}
+      (record { count = refl }) (get_none (chain_at chains (slot_of (length chains) c)) 0 (sym begins ∙ none)))
+
+  pub behind_found : (j : ℕ) → first ≡ Some j → j ≤ i → (old : Roomed ℕ)
+      → old ≡ record old { entries = old.entries ++ picked chains places t test i c }
+  behind_found j is_j le old = IsKept-behind (finds places t test i c) i (finds_behind places t test i c) (at_first old) (length places) j
+      (h.falling (slot_of (length chains) c)) is_j le
+
+  pub behind_read : (j : ℕ) → first ≡ Some j → j ≤ i → 1 ≡ looks_in count t places i c
+  behind_read j is_j le = looks_are h i c 1 s is below (looked_behind {chain = chain_at chains (slot_of (length chains) c)} {i = i} {k = 0}
+      {looks = 1} (record { count = refl }) (length places) j (h.falling (slot_of (length chains) c)) (sym begins ∙ is_j) le)
 
 -- ---- those behind i in a chain that is filled from 0 on
 linked_behind : (xss : List (List ℕ)) (c i : ℕ) → c < length xss → (j s : ℕ)

@@ -28,6 +28,12 @@ pub record IsKept (test : ℕ → Bool) (chain : List ℕ) (at : Option ℕ) (k 
   pub next : at ≡ slice_get chain k
   pub entries : now ≡ record old { entries = old.entries ++ filter test (take k chain) }
 
+pub IsKept-none : (test : ℕ → Bool) (chain : List ℕ) (at : Option ℕ) (old : Roomed ℕ) → at ≡ slice_get chain 0 → IsKept test chain at 0 old old
+IsKept-none test chain at old e = record {
+  next = e;
+  entries = ap (λ (xs : List ℕ). record old { entries = xs }) (sym (append-nil old.entries));
+}
+
 module _ {test : ℕ → Bool} {chain : List ℕ} {at : Option ℕ} {k : ℕ} {old now : Roomed ℕ} (h : IsKept test chain at k old now) where
   one_more : (x : ℕ) → at ≡ Some x → filter test (take (k + 1) chain) ≡ filter test (take k chain) ++ cond (test x) (x ∷ []) []
   one_more x e = ap (λ (n : ℕ). filter test (take n chain)) (add-one k) ∙ ap (filter test) (take_get chain k x (sym h.next ∙ e))

@@ -1,13 +1,20 @@
 -- What is searched, and what look-ups of it find.
-use Rattle.std.specs.Prelude.{ℕ, Bool, List}
+use Rattle.std.specs.Prelude.{◌≡◌, ◌<◌, ℕ, Bool, List, Some}
+use Rattle.pbd_chain.specs.Linked.{item_at}
 use Rattle.pbd_grid.specs.declared.lookup.GridCell.{GridCell}
 use Rattle.pbd_grid.specs.declared.lookup.Crowd.{Crowd}
-use Rattle.pbd_grid.specs.Blocks.{AreLaid, picked, all_picked, block_part}
+use Rattle.pbd_grid.specs.Blocks.{AreLaid, Below, slot_of, picked, all_picked, block_part}
 use Rattle.pbd_grid.specs.Looks.{looks_in, looks_round}
 
 -- the chains, the cubes and the side are those of the places
 abbrev pub IsLaid : Crowd → Type 0
 IsLaid crowd = AreLaid crowd.chains.now.chains crowd.count crowd.cubes.now crowd.places.now crowd.side
+
+-- the chain for cell c, which begins with x, is one of the chains
+pub record IsBegun (crowd : Crowd) (c : GridCell) (x : ℕ) : Type 0 where
+  pub within : Below 1073741825 c
+  pub slot : slot_of crowd.count c < crowd.count
+  pub first : item_at crowd.chains.now.chains (slot_of crowd.count c) 0 ≡ Some x
 
 -- what the look-up of a cell finds
 abbrev pub picked_in : Crowd → (ℕ → ℕ → Bool) → ℕ → GridCell → List ℕ

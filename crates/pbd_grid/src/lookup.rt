@@ -3,7 +3,7 @@ ghost use Rattle.std.specs.Prelude.{◌≡◌, ◌+◌, ◌/◌, ◌%◌, ◌<�
 ghost use Rattle.pbd_num.specs.Vectors.{Within};
 ghost use Rattle.pbd_grid.specs.Blocks.{Below, axis_cell, cube_of, home_of, corner_of, beside, cell_at, same_cell, slot_of};
 ghost use Rattle.pbd_grid.specs.Blocks.{keep, picked_one};
-ghost use Rattle.pbd_grid.specs.Crowds.{IsLaid, picked_in, picked_round, looked_in, looked_round};
+ghost use Rattle.pbd_grid.specs.Crowds.{IsLaid, IsBegun, picked_in, picked_round, looked_in, looked_round};
 
 use crate::near::near;
 use crate::pairs::PairFilter;
@@ -157,8 +157,48 @@ fn push_if(found: &mut RoomList<u32>, is_wanted: bool, j: u32)
     }
 }
 
-// Finds what is wanted with i in one cell, and counts how often the chain is read for it. What
-// stands behind i comes first in each chain.
+// A cell, and the first of its chain.
+#[derive(Clone, Copy)]
+struct Begun {
+    cell: GridCell,
+    first: u32,
+}
+
+// Finds what is wanted with i in one cell, from the first of its chain on, and counts how often the
+// chain is read for it. What stands behind i comes first in each chain. Most cells have no such
+// chain, so that this is kept apart from the look-up.
+#[inline(never)]
+fn follow<F: PairFilter>(
+    crowd: &Crowd,
+    filter: &F,
+    i: u32,
+    begun: Begun,
+    found: &mut RoomList<u32>,
+) -> u64
+    requires laid { IsLaid crowd.now }
+    requires filter { F.particles filter.now ≡ length crowd.now.places.now }
+    requires i { i < length crowd.now.places.now }
+    requires begun { IsBegun crowd.now begun.cell begun.first }
+    requires room { length found.old.entries + length (picked_in crowd.now (F.test filter.now) i begun.cell) ≤ found.old.room }
+    ensures found { found.new ≡ record found.old { entries = found.old.entries ++ picked_in crowd.now (F.test filter.now) i begun.cell } }
+    ensures looks { result ≡ looked_in crowd.now i begun.cell }
+{
+    let mut looks = 1;
+    let mut j = begun.first;
+    'behind: while i < j {
+        push_if(found, wanted(crowd, filter, i, begun.cell, j), j);
+        looks += 1;
+        let Some(next) = crowd.chains.next(j) else {
+            break;
+        };
+        j = next;
+    }
+    looks
+}
+
+// Finds what is wanted with i in one cell, and counts how often the chain is read for it: once
+// where nothing in it stands behind i.
+#[inline(always)]
 fn look_up<F: PairFilter>(
     crowd: &Crowd,
     filter: &F,
@@ -174,20 +214,13 @@ fn look_up<F: PairFilter>(
     ensures found { found.new ≡ record found.old { entries = found.old.entries ++ picked_in crowd.now (F.test filter.now) i cell } }
     ensures looks { result ≡ looked_in crowd.now i cell }
 {
-    let mut looks = 1;
-    let mut at = crowd.chains.first(slot(cell, crowd.count));
-    for _ in 0..crowd.chains.items() {
-        let Some(j) = at else {
-            break;
-        };
-        if j <= i {
-            break;
-        }
-        push_if(found, wanted(crowd, filter, i, cell, j), j);
-        looks += 1;
-        at = crowd.chains.next(j);
+    let Some(first) = crowd.chains.first(slot(cell, crowd.count)) else {
+        return 1;
+    };
+    if first <= i {
+        return 1;
     }
-    looks
+    follow(crowd, filter, i, Begun { cell, first }, found)
 }
 
 // Finds what is wanted with i in the eight cells from a corner on, and counts the readings.

@@ -9,6 +9,6 @@ link-requires-clause-first c z e = omega (
   c.requires.shows.backs,
 )
 
-pub returns : goal.returns
-returns c = Shown.Shows-link c.requires.shows c.link.auto.heads c.link.auto.next c.link.auto.back c.args.chain c.args.item c.requires.chain
-    c.requires.item c.requires.free c.link.ensures
+pub returns-clause-shows : goal.returns-clause-shows
+returns-clause-shows c = Shown.Shows-link c.requires.shows c.link.ensures.chains c.link.ensures.items c.link.auto.back c.args.chain c.args.item
+    c.requires.chain c.requires.item c.requires.free c.link.ensures.front

@@ -15,6 +15,6 @@ unlink-requires-clause-behind c z e = omega (
   c.requires.shows.backs,
 )
 
-pub returns : goal.returns
-returns c = Shown.Shows-unlink c.requires.shows c.unlink.auto.heads c.unlink.auto.next c.unlink.auto.back c.args.item c.requires.linked
-    c.unlink.ensures
+pub returns-clause-shows : goal.returns-clause-shows
+returns-clause-shows c = Shown.Shows-unlink c.requires.shows c.unlink.ensures.chains c.unlink.ensures.items c.unlink.auto.back c.args.item
+    c.requires.linked c.unlink.ensures.out
