@@ -23,7 +23,7 @@ pub(crate) struct Guess {
 }
 
 /// The guesses of a chunk.
-#[derive(Drop)]
+#[derive(Clone, Copy)]
 pub(crate) struct Guesses {
     up: [u32; 128],
     inverse: [i32; 128],

@@ -19,7 +19,7 @@ use shares::draw_of;
 use ways::Ways;
 
 /// The columns of a chunk, in which each loop finds what those before it wrote. They are for the stack of who projects bonds.
-#[derive(Drop)]
+#[derive(Clone, Copy)]
 pub struct Near {
     ways: Ways,
     guesses: Guesses,

@@ -8,7 +8,7 @@ use crate::shares::Taken;
 use pbd_num::Row;
 
 /// The axes of some ways, each brought within 2^15, and the squares of their lengths.
-#[derive(Drop)]
+#[derive(Clone, Copy)]
 pub(crate) struct Ways {
     pub(crate) x: [i32; 128],
     pub(crate) y: [i32; 128],

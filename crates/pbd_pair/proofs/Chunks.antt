@@ -21,15 +21,14 @@ use Rattle.pbd_store.specs.declared.pairs.Pairs.{Pairs}
 use Rattle.pbd_store.specs.declared.pairs.Between.{Between}
 use Rattle.pbd_pair.specs.declared.bonds.Bonds.{Bonds}
 use Rattle.pbd_pair.specs.declared.chunk.Columns.{Columns}
-use Rattle.pbd_pair.specs.declared.chunk.Found.{Found}
 use Rattle.pbd_pair.specs.Bonds.{bond_of}
 use Rattle.pbd_pair.specs.Projecting.{CanProject}
 use Rattle.pbd_pair.specs.Moves.{moves_by, moves_at}
-use Rattle.pbd_pair.specs.Chunks.{lying_in, rows_of, AreShared, AreEnds, AreKnown, AreSized, AreWeighed, HoldsFactor, HoldsRest, IsFound}
+use Rattle.pbd_pair.specs.Chunks.{rows_of, AreShared, AreEnds, AreKnown, AreSized, AreWeighed, HoldsFactor, HoldsRest}
 use Rattle.pbd_pair.specs.Chunks.{LieBetween, Lying}
 use Rattle.pbd_pair.specs.declared.laid.Laid.{Laid}
 use Rattle.pbd_pair.specs.declared.laid.LaidBond.{LaidBond}
-use Rattle.pbd_pair.specs.Laid.{factor_of, laid_at, laid_bond, lists_of, number_in, weight_in, AreLaid, AreOfBatch, IsFirm, Lists}
+use Rattle.pbd_pair.specs.Laid.{factor_of, laid_at, laid_bond, lists_of, number_in, weight_in, AreLaid, AreOfBatch, Lists}
 use Rattle.pbd_pair.proofs.Laying.{factor_held, short_held}
 use Rattle.pbd_pair.proofs.Ranges.{rest_fits}
 use Rattle.pbd_pair.proofs.Reaching.{nth}
@@ -40,6 +39,9 @@ short_fits z low high = fits_signed_from_abs w32 z (omega (arith, size_at_most z
 
 pub share_fits : (z : ℤ) → neg_ℤ (pos 1) ≤ℤ z → z ≤ℤ pos 512 → FitsSigned w32 z
 share_fits z low high = fits_signed_from_abs w32 z (omega (arith, size_le z 512 high (omega (arith, ints))))
+
+pub below_both : (a b c : ℤ) → a ≤ℤ b → b ≤ℤ c → a ≤ℤ c
+below_both a b c h k = omega (arith, ints)
 
 pub first_fits : {n : ℕ} {l : Lying} → AreSized n l → (j : ℕ) → j < n → FitsSigned w32 (number_in l.first_weight j)
 first_fits {n} {l} h j p = short_fits (number_in l.first_weight j) (h.first_low j p) (h.first_high j p)

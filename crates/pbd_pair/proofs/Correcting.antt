@@ -2,15 +2,14 @@
 use Rattle.std.proofs.Common.{◌≡◌, ℕ, ◌<◌, ℤ, List, length, Bool, true, false, refl, ap, sym, ◌∙◌, arith, inl, inr, subst, unsigned_abs, Ok}
 use Rattle.std.proofs.Common.{Err}
 use Rattle.std.proofs.lemmas.Bool.{cases_eq}
-use Rattle.std.proofs.Math.Seq.{map-set_same}
 use Rattle.pbd_num.specs.declared.Vec3.{Vec3}
-use Rattle.pbd_num.specs.Vectors.{Within, zero_vector}
+use Rattle.pbd_num.specs.Vectors.{Within}
 use Rattle.pbd_world.specs.declared.parts.Particle.{Particle}
 use Rattle.pbd_world.specs.declared.bond.Bond.{Bond}
 use Rattle.pbd_world.specs.declared.bond.Correction.{Correction}
 use Rattle.pbd_world.specs.declared.bond.Correction.TheVariants.{Slack, Leaves, Moves}
 use Rattle.pbd_world.specs.Ledger.{Ledger, booked}
-use Rattle.pbd_world.specs.Particles.{Motion, particle_at, placed, no_particle}
+use Rattle.pbd_world.specs.Particles.{Motion, particle_at, placed}
 use Rattle.pbd_world.specs.Bonds.{corrected, entries_of, class_of}
 use Rattle.pbd_store.proofs.Scattering.{placed_same, placed_other, length-placed}
 use Rattle.pbd_pair.specs.Bonds.{IsSound}

@@ -1,11 +1,11 @@
 -- Columns of a list in parts, by weights that stand in a list of their own.
-use Rattle.std.proofs.Common.{◌≡◌, ℕ, zero, suc, ◌<◌, ◌≤◌, pos, List, [], ◌∷◌, ◌++◌, length, get_or, take, drop, map, refl, ap, sym, ◌∙◌}
+use Rattle.std.proofs.Common.{◌≡◌, ℕ, zero, suc, pos, List, [], ◌∷◌, ◌++◌, length, get_or, map, refl, ap, sym, ◌∙◌}
 use Rattle.std.proofs.Common.{arith, subst}
 use Rattle.std.proofs.Math.Seq.{take-append_seam, drop-append_seam, take-length}
 use Rattle.std.proofs.lemmas.List.{length-append, length-take, length-drop}
 use Rattle.pbd_world.specs.declared.parts.Particle.{Particle}
 use Rattle.pbd_world.specs.declared.bond.Bond.{Bond}
-use Rattle.pbd_world.specs.Particles.{particle_at, effective_weight}
+use Rattle.pbd_world.specs.Particles.{effective_weight}
 use Rattle.pbd_store.specs.Gathering.{index_at}
 use Rattle.pbd_store.specs.Moving.{fixed_parts}
 use Rattle.pbd_pair.specs.declared.laid.Laid.{Laid}

@@ -1,20 +1,18 @@
 -- Bonds in columns: what their rows hold, and what is left of them behind the first.
-use Rattle.std.proofs.Common.{◌≡◌, ◌≢◌, ℕ, ◌+◌, ◌-◌, ◌<◌, ◌≤◌, ℤ, pos, negsuc, neg_ℤ, ◌≤ℤ◌, ◌<ℤ◌, ◌*ℤ◌, int_lt, int_le, ◌&&◌, ◌||◌, Bool}
-use Rattle.std.proofs.Common.{true, false, cond, List, length, get_or, take, drop, slice_set, refl, ap, sym, ◌∙◌, arith, subst, w32}
+use Rattle.std.proofs.Common.{◌≡◌, ℕ, ◌+◌, ◌<◌, ◌≤◌, ℤ, pos, neg_ℤ, ◌≤ℤ◌, ◌<ℤ◌, ◌*ℤ◌, int_lt, int_le, ◌&&◌, ◌||◌, Bool}
+use Rattle.std.proofs.Common.{true, false, cond, List, length, get_or, take, drop, refl, ap, sym, ◌∙◌, arith, subst, w32}
 use Rattle.std.proofs.Common.{FitsSigned, Option, Some, None}
 use Rattle.std.proofs.lemmas.Int.{ints, fits_signed_from_abs}
 use Rattle.pbd_num.proofs.Sizes.{size_at_most, size_le}
 use Rattle.std.proofs.lemmas.List.{get_or-take, get_or-drop, length-take, length-drop, length-set, get_or-set_same, get_or-set_other}
-use Rattle.std.specs.Int.{int_min}
 use Rattle.pbd_world.specs.declared.parts.Particle.{Particle}
 use Rattle.pbd_world.specs.declared.bond.Bond.{Bond}
 use Rattle.pbd_world.specs.Particles.{particle_at, effective_weight}
-use Rattle.pbd_num.specs.Vectors.{zero_vector}
 use Rattle.pbd_store.specs.Moving.{fixed_parts}
 use Rattle.pbd_pair.specs.declared.laid.Laid.{Laid}
 use Rattle.pbd_pair.specs.declared.laid.LaidBond.{LaidBond}
-use Rattle.pbd_pair.specs.Laid.{are_free, back_of, differ, factor_of, front_of, laid_at, laid_bond, lists_of, short_rest, weight_in}
-use Rattle.pbd_pair.specs.Laid.{with_row, AreEven, AreLaid, AreOfBatch, AreSplit, CanSplit, IsFirm, Lists, SuitIf}
+use Rattle.pbd_pair.specs.Laid.{are_free, back_of, differ, factor_of, front_of, laid_at, laid_bond, short_rest, weight_in}
+use Rattle.pbd_pair.specs.Laid.{with_row, AreEven, AreLaid, AreSplit, CanSplit, IsFirm, Lists, SuitIf}
 use Rattle.pbd_pair.specs.Chunks.{HoldsFactor, HoldsRest}
 use Rattle.pbd_pair.proofs.Batches.{get_or-map_fixed}
 

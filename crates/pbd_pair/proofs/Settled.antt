@@ -1,7 +1,8 @@
 -- A chunk whose ends have moved, as its bonds one by one.
-use Rattle.std.proofs.Common.{◌≡◌, ℕ, ◌<◌, ◌≤◌, ◌^◌, ℤ, pos, ◌≤ℤ◌, ◌<ℤ◌, List, length, get_or, Bool, true, false, IsTrue, ◌&&◌, int_le}
+use Rattle.std.proofs.Common.{◌≡◌, ℕ, ◌<◌, ◌≤◌, ◌^◌, ℤ, pos, ◌≤ℤ◌, ◌<ℤ◌, List, length, get_or, Bool, true, false, ◌&&◌, int_le}
 use Rattle.std.proofs.Common.{int_lt, cond, refl, ap, sym, ◌∙◌, arith, subst, Err}
 use Rattle.std.proofs.lemmas.Int.{ints}
+use Rattle.std.specs.Int.Signed.{<ℤ-≤ℤ_trans}
 use Rattle.pbd_num.specs.declared.Vec3.{Vec3}
 use Rattle.pbd_num.specs.declared.row.Row.{Row}
 use Rattle.pbd_num.specs.Rows.{vector_of, no_row}
@@ -15,7 +16,6 @@ use Rattle.pbd_world.specs.Particles.{particle_at}
 use Rattle.pbd_world.specs.Bonds.{end_of, class_of, entries_of}
 use Rattle.pbd_store.specs.Stored.{Stored}
 use Rattle.pbd_store.specs.Moving.{motion_of}
-use Rattle.pbd_store.specs.declared.pairs.Between.{Between}
 use Rattle.pbd_store.specs.declared.pairs.EndMoves.{EndMoves}
 use Rattle.pbd_pair.specs.declared.chunk.Found.{Found}
 use Rattle.pbd_store.specs.Pairs.{row_in, moves_in, ways_in, opposites_in, first_moves, second_moves, stays, ArePairs, PairsApart, AreMoves}
@@ -24,7 +24,7 @@ use Rattle.pbd_pair.specs.Bonds.{bond_of, shift_by}
 use Rattle.pbd_pair.specs.Projecting.{CanProject, ShareNone, projected_block}
 use Rattle.pbd_pair.specs.Moves.{moves_at, stay_at, entries_at, settled, moved_below}
 use Rattle.pbd_pair.specs.Laid.{number_in}
-use Rattle.pbd_pair.specs.Chunks.{kept_by, entries_in, lying_in, unplaced, AreExact, AreNear, AreSized, IsFound, IsMasked, Lying}
+use Rattle.pbd_pair.specs.Chunks.{kept_by, entries_in, lying_in, unplaced, AreExact, AreNear, AreSized, AreWeighed, IsFound, IsMasked, Lying}
 use Rattle.pbd_pair.proofs.ByWay.{same_entries, added_nothing}
 use Rattle.pbd_pair.proofs.Reaching.{nth}
 use Rattle.pbd_pair.proofs.Parting.{AreDone, chunk_done, chunk_leaves}
@@ -85,6 +85,14 @@ module _ {found : Found} {s : Stored} {t : Totals} (can : CanProject 128 found.c
 
   pub sized_asked : AreSized (length numbers) (lying_in found)
   sized_asked = sized can is.first is.second is.between
+
+  pub weighed_asked : AreWeighed (length found.laid.first_weight.now) found.laid.first_weight.now found.laid.second_weight.now
+  weighed_asked = record {
+    first_low = λ j p. sized_asked.first_low j (omega (arith, p, is.first_long));
+    first_high = λ j p. sized_asked.first_high j (omega (arith, p, is.first_long));
+    second_low = λ j p. sized_asked.second_low j (omega (arith, p, is.first_long));
+    second_high = λ j p. sized_asked.second_high j (omega (arith, p, is.first_long));
+  }
 
   -- ends that have moved by what the bonds move them, wherever that leads
   module _ {f g : ℕ → Vec3} (is_f : (j : ℕ) → j < length numbers → f j ≡ (moves_at s.particles (B j)).0)
@@ -226,14 +234,14 @@ module _ {found : Found} {s : Stored} {t : Totals} (can : CanProject 128 found.c
     near_leaves told = side_leaves first_near second_near told
 
 -- where all ends are free, nothing is booked
-pub free_masked : {n : ℕ} (l : Lying) (moves : List Row) → n ≤ length moves → ((j : ℕ) → j < n → pos 0 <ℤ number_in l.first_weight j)
-    → ((j : ℕ)
-    → j < n → pos 0 <ℤ number_in l.second_weight j) → IsMasked n l moves moves moves
-free_masked {n} l moves long first second = record {
+pub free_masked : {n m : ℕ} {least : ℤ} (l : Lying) (moves : List Row) → n ≤ length moves → m ≡ n → pos 0 <ℤ least
+    → ((j : ℕ) → j < m → least ≤ℤ number_in l.first_weight j) → ((j : ℕ) → j < m → least ≤ℤ number_in l.second_weight j)
+    → IsMasked n l moves moves moves
+free_masked {n} {m} {least} l moves long whole some first second = record {
   back_long = long;
   forth_long = long;
-  back = λ j p. sym (kept_some _ _ (first j p));
-  forth = λ j p. sym (kept_some _ _ (second j p));
+  back = λ j p. sym (kept_some _ _ (<ℤ-≤ℤ_trans some (first j (omega (arith, p, whole)))));
+  forth = λ j p. sym (kept_some _ _ (<ℤ-≤ℤ_trans some (second j (omega (arith, p, whole)))));
 }
 
 pub nothing_booked : (u : Ledger) (rows : List Row) (n : ℕ)

@@ -36,7 +36,7 @@ pub(crate) struct Rows<'a> {
 }
 
 /// The columns of a chunk whose bonds came without.
-#[derive(Drop)]
+#[derive(Clone, Copy)]
 pub(crate) struct Columns {
     first: [u32; CHUNK],
     second: [u32; CHUNK],

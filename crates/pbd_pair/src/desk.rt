@@ -14,7 +14,7 @@ use pbd_world::{Left, Totals};
 use std::sync::ledger::Ledger;
 
 /// What is written of one chunk after another.
-#[derive(Drop)]
+#[derive(Clone, Copy)]
 pub(crate) struct Desk {
     columns: Columns,
     between: Between,

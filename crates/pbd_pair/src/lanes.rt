@@ -15,13 +15,18 @@ use std::sync::ledger::Ledger;
 #[derive(Clone, Copy)]
 pub struct LaneProjector<const L: usize> {
     count: u64,
+    /// What each chunk writes before it reads it.
+    desk: Desk,
 }
 
 impl<const L: usize> LaneProjector<L> {
     pub fn new() -> LaneProjector<L>
         ensures { ⟦<LaneProjector<L> as Projector<L>>⟧.count result ≡ 0 }
     {
-        LaneProjector { count: 0 }
+        LaneProjector {
+            count: 0,
+            desk: Desk::new(),
+        }
     }
 }
 
@@ -52,7 +57,6 @@ impl<const L: usize> Projector<L> for LaneProjector<L> {
         }
         limit_of(store);
         let most = CHUNK - CHUNK % L;
-        let mut desk = Desk::new();
         let mut rest = batch;
         let mut columns = bonds.columns();
         'steps_on: while !rest.is_empty() {
@@ -64,7 +68,7 @@ impl<const L: usize> Projector<L> for LaneProjector<L> {
                 numbers,
                 laid,
             };
-            if let Err(left) = desk.project(store, chunk, totals, steps) {
+            if let Err(left) = self.desk.project(store, chunk, totals, steps) {
                 return Err(left);
             }
             rest = after;

@@ -11,7 +11,7 @@ ghost use Rattle.pbd_pair.specs.Bonds.{bond_of};
 ghost use Rattle.pbd_pair.specs.Projecting.{CanProject, ComesTo, StaysSound};
 ghost use Rattle.pbd_pair.specs.Moves.{moved_below};
 ghost use Rattle.pbd_pair.specs.Laid.{number_in};
-ghost use Rattle.pbd_pair.specs.Chunks.{kept_by, lying_in, AreKnown, AreSized, AreNear, AreTried, HoldsFactor, HoldsRest, IsFound, IsMasked};
+ghost use Rattle.pbd_pair.specs.Chunks.{kept_by, lying_in, AreKnown, AreSized, AreNear, AreTried, AreWeighed, HoldsFactor, HoldsRest, IsFound, IsMasked};
 
 use crate::chunk::{Found, left_at};
 use crate::slow::project_exactly;
@@ -23,7 +23,7 @@ use pbd_world::{Class, Left, Totals};
 use std::sync::ledger::Ledger;
 
 /// The moves of a chunk's bonds in 32-bit numbers.
-#[derive(Drop)]
+#[derive(Clone, Copy)]
 pub(crate) struct NearMoves {
     near: Near,
     /// The moves of the second ends, where no end is held.
@@ -34,43 +34,33 @@ pub(crate) struct NearMoves {
     forth: [Row; CHUNK],
 }
 
-// Whether each of some factors is one of a short bond.
-fn are_short(factors: &[i32]) -> bool
+// The least of some factors, or 512, which none is above.
+#[inline(never)]
+fn least_factor(factors: &[i32]) -> i32
     requires low { (j : ℕ) → j < length factors.now → neg_ℤ (pos 1) ≤ℤ number_in factors.now j }
     requires high { (j : ℕ) → j < length factors.now → number_in factors.now j ≤ℤ pos 512 }
-    ensures { IsTrue result → (j : ℕ) → j < length factors.now → pos 0 ≤ℤ number_in factors.now j }
+    ensures { (j : ℕ) → j < length factors.now → result ≤ℤ number_in factors.now j }
 {
-    let mut short = true;
+    let mut least: i32 = 512;
     for j in 0..factors.len() {
-        short = short & (0 <= factors[j]);
+        least = least.min(factors[j]);
     }
-    short
+    least
 }
 
-// Whether each of some ends is free.
-fn are_free(weights: &[i32]) -> bool
-    requires low { (j : ℕ) → j < length weights.now → pos 0 ≤ℤ number_in weights.now j }
-    requires high { (j : ℕ) → j < length weights.now → number_in weights.now j ≤ℤ pos 65535 }
-    ensures { IsTrue result → (j : ℕ) → j < length weights.now → pos 0 <ℤ number_in weights.now j }
+// The least of the effective weights of some pairs, or 65,535, which none is above.
+#[inline(never)]
+fn least_weight(first: &[i32], second: &[i32]) -> i32
+    requires even { length second.now ≡ length first.now }
+    requires weighed { AreWeighed (length first.now) first.now second.now }
+    ensures first { (j : ℕ) → j < length first.now → result ≤ℤ number_in first.now j }
+    ensures second { (j : ℕ) → j < length first.now → result ≤ℤ number_in second.now j }
 {
-    let mut free = true;
-    for j in 0..weights.len() {
-        free = free & (0 < weights[j]);
+    let mut least: i32 = 65_535;
+    for j in 0..first.len() {
+        least = least.min(first[j]).min(second[j]);
     }
-    free
-}
-
-// Whether no end of a chunk is held.
-fn ends_are_free(found: &Found<'_>) -> bool
-    requires first_long { length found.now.laid.first_weight.now ≡ length found.now.chunk.numbers.now }
-    requires second_long { length found.now.laid.second_weight.now ≡ length found.now.chunk.numbers.now }
-    requires sized { AreSized (length found.now.chunk.numbers.now) (lying_in found.now) }
-    ensures first { IsTrue result → (j : ℕ) → j < length found.now.chunk.numbers.now → pos 0 <ℤ number_in found.now.laid.first_weight.now j }
-    ensures second { IsTrue result → (j : ℕ) → j < length found.now.chunk.numbers.now → pos 0 <ℤ number_in found.now.laid.second_weight.now j }
-{
-    let first = are_free(found.laid.first_weight);
-    let second = are_free(found.laid.second_weight);
-    first & second
+    least
 }
 
 // A row where an end is free, and none where it is held.
@@ -150,7 +140,7 @@ impl NearMoves {
             (number_in found.now.laid.first_weight.now j) (number_in found.now.laid.second_weight.now j) (number_in found.now.laid.factor.now j) }
         ensures { IsTrue result → AreNear (bond_of found.now.chunk.bonds) found.now.chunk.numbers.now (lying_in found.now) self.new.moves }
     {
-        if !are_short(found.laid.factor) {
+        if least_factor(found.laid.factor) < 0 {
             return false;
         }
         let ways = first_of(found.ways, found.chunk.numbers.len());
@@ -233,7 +223,8 @@ impl NearMoves {
         ensures sound { OnOk result (StaysSound (length found.now.chunk.numbers.now) store.old store.new totals.old totals.new) }
         ensures cost { steps.new ≡ steps.old + 2 * blocks_of (length found.now.chunk.numbers.now) L }
     {
-        let free = ends_are_free(found);
+        let least = least_weight(found.laid.first_weight, found.laid.second_weight);
+        let free = 0 < least;
         if free {
             if let Err(j) = store.pull(found.pairs, &self.moves, &self.moves, steps) {
                 return Err(left_at(found, j));

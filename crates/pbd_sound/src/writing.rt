@@ -4,7 +4,7 @@ ghost use Rattle.pbd_world.specs.Particles.{effective_weight};
 ghost use Rattle.pbd_sound.specs.Described.{particle_told, link_told, particles_told, links_told};
 
 use crate::Described;
-use pbd_store::{Steps, Store};
+use pbd_store::{Steps, Store, effective_weight_of};
 use pbd_world::{Link, Particle};
 use std::sync::ledger::Ledger;
 
@@ -18,12 +18,6 @@ fn particle_told<D: Described>(described: &D, i: u32, p: Particle) -> Particle
         weight: p.weight,
         held: described.is_held(i),
     }
-}
-
-fn effective_weight_of(particle: Particle) -> u16
-    ensures { result ≡ effective_weight particle }
-{
-    if particle.held { 0 } else { particle.weight }
 }
 
 /// Makes the particles of a store those of another one of the same length, as they are told: the weights are the other's. The list

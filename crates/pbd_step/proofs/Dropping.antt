@@ -46,7 +46,7 @@ pub dropped_length : (numbers : List ℕ) (live : List Bool) → length (dropped
 dropped_length [] live = refl
 dropped_length (n ∷ ns) live = dropped_length ns (set live n false) ∙ length-set live n false
 
-flag_at : (links : List Link) (i : ℕ) → i < length links → live_at (live_flags links) i ≡ (link_at links i).live
+pub flag_at : (links : List Link) (i : ℕ) → i < length links → live_at (live_flags links) i ≡ (link_at links i).live
 flag_at links i lt = get_or-map (λ (l : Link). l.live) links i _ _ lt
 
 -- dropping numbers from the flags of links leaves the flags of other links, where these differ so from the first

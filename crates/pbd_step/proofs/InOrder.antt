@@ -53,6 +53,9 @@ module _ (pairs : List (ℕ × ℕ)) (live : List Bool) where
   unfolding parallel_from
   parallel_next c lt = let e : 63 - c ≡ suc (63 - (c + 1)) = omega (arith, lt) in rw e refl
 
+  pub parallel_past : (c : ℕ) → c < 63 → batch_of pairs live c ≡ [] → parallel_from pairs live c ≡ parallel_from pairs live (c + 1)
+  parallel_past c lt none = parallel_next c lt ∙ ap (λ (ns : List ℕ). ns ++ parallel_from pairs live (c + 1)) none
+
   pub parallel_none : (c : ℕ) → 63 ≤ c → parallel_from pairs live c ≡ []
   unfolding parallel_from
   parallel_none c le = let e : 63 - c ≡ 0 = omega (arith, le) in rw e refl

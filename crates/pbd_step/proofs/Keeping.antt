@@ -1,6 +1,6 @@
 -- What a solver keeps over its commands.
-use Rattle.std.proofs.Common.{◌≡◌, refl, sym, ap, ◌∙◌, ℕ, ◌<◌, ◌≤◌, List, [], ◌∷◌, Bool, true, false, length, map, ◌≢◌, arith, subst, cond}
-use Rattle.std.proofs.Common.{suc, ◌+◌, ℤ, MatchResult, OnErr, Result, Ok, Err, ◌⊎◌, inl, inr}
+use Rattle.std.proofs.Common.{◌≡◌, refl, sym, ap, ◌∙◌, ℕ, ◌<◌, ◌≤◌, List, [], ◌∷◌, Bool, true, false, length, map, ◌≢◌, arith, subst}
+use Rattle.std.proofs.Common.{◌+◌, ℤ, MatchResult, OnErr, Result, Ok, Err, ◌⊎◌, inl, inr}
 use Rattle.pbd_num.specs.Vectors.{zero_vector}
 use Rattle.pbd_world.specs.declared.parts.Particle.{Particle}
 use Rattle.pbd_world.specs.declared.parts.Link.{Link}
@@ -19,24 +19,29 @@ use Rattle.pbd_colour.specs.Pairs.{Coloured, InRange}
 use Rattle.pbd_step.specs.declared.state.Setting.{Setting}
 use Rattle.pbd_step.specs.declared.state.State.{State}
 use Rattle.pbd_step.specs.declared.state.Scratch.{Scratch}
-use Rattle.std.specs.Prelude.{IsTrue, count_by, filter, nat_le, nat_lt, not, ◌&&◌}
+use Rattle.std.specs.Prelude.{IsTrue, count_by, nat_le, nat_lt, not, ◌&&◌}
 use Rattle.std.proofs.lemmas.Bool.{le-leb, lt-leb, le-ltb, lt-ltb}
 use Rattle.std.proofs.lemmas.List.Sums.{length-filter}
 use Rattle.std.proofs.lemmas.Simd.{map-map}
 use Rattle.pbd_world.specs.declared.command.Refusal.TheVariants as refusals
 use Rattle.pbd_world.specs.Outcomes.{◌>>=◌, unless}
-use Rattle.std.proofs.lemmas.Bool.{and_parts, leb-true}
+use Rattle.std.proofs.lemmas.Bool.{and_parts, leb-true, false≢true}
 use Rattle.std.proofs.lemmas.List.{get_or-map}
 use Rattle.std.proofs.lemmas.List.Sums.{AllPass-from_list_all}
-use Rattle.pbd_world.specs.Bonds.{link_at, no_link}
+use Rattle.pbd_world.specs.Bonds.{link_at, no_link, link_bond}
+use Rattle.pbd_world.specs.Step.{link_order}
+use Rattle.pbd_store.specs.Gathering.{index_at}
+use Rattle.pbd_pair.specs.Laid.{lists_in, AreLaid}
 use Rattle.pbd_world.specs.Contacts.{link_pairs, live_flags}
 use Rattle.pbd_world.specs.Valid.{is_valid, is_well_formed, is_valid_link, are_valid_links}
 use Rattle.pbd_world.proofs.WorldParts.{Formed, formed}
 use Rattle.pbd_step.proofs.UnderWay.{link_is_bond, link_parts}
 use Rattle.pbd_world.specs.Particles.{effective_weight}
-use Rattle.pbd_step.specs.States.{world_of, AreWeights, HasLinks, HaveSpace}
+use Rattle.pbd_tear.specs.Tearing.{numbers_with_tear_length}
+use Rattle.pbd_step.specs.States.{world_of, fixed_links, AreWeights, HasLinks, HaveSpace, AreLinksLaid, KnowsLinks}
+use Rattle.pbd_step.proofs.Settling.{fixed_numbers, same_links}
 use Rattle.pbd_world.proofs.OpenedLemmas.{opened-is_sound}
-use Rattle.pbd_step.specs.Opening.{AreCopied, IsFirst}
+use Rattle.pbd_step.specs.Opening.{AreCopied, IsFirst, IsUnused}
 use Rattle.pbd_step.specs.Solving.{AreAlike, IsKept, Solved}
 use Rattle.pbd_step.specs.Obeying.{Obeys, Commanded}
 use Rattle.pbd_world.proofs.OrderCounts.{flags_kept}
@@ -141,6 +146,10 @@ scene_alike setting setting' s t ws wt e = record {
   links = scene_links (world_of setting s) (world_of setting' t) e;
 }
 
+pub scene_fixed : {l : ℕ} (setting setting' : Setting) (s t : State l)
+    → AreOfOneScene (world_of setting s) (world_of setting' t) → fixed_links s.links.items ≡ fixed_links t.links.items
+scene_fixed setting setting' s t e = ap (λ (w : World). w.links) e
+
 -- links join the same pairs whether they are live or not
 dead_pairs : (links : List Link) → link_pairs (map {A = Link} {B = Link} (λ l. record l { live = false }) links) ≡ link_pairs links
 dead_pairs links = map-map {A = Link} {B = Link} {C = ℕ × ℕ} (λ l. (l.a, l.b)) (λ l. record l { live = false }) links
@@ -177,34 +186,82 @@ pub kept_moved : {l : ℕ} (setting : Setting) (old new kept : State l) (colours
     → IsSound (world_of setting new)
     → AreWeights new → AreAlike old new
     → AreAlike kept old → HasLinks (length old.store.particles) new.links.items colours
-    → HaveSpace (length old.store.particles) (length old.links.items) scratch → IsKept setting new kept colours scratch
-kept_moved setting old new kept colours scratch sound weights same alike links space = record {
+    → HaveSpace (length old.store.particles) (length old.links.items) scratch → KnowsLinks new scratch
+    → IsKept setting new kept colours scratch
+kept_moved setting old new kept colours scratch sound weights same alike links space knows = record {
   sound = sound;
   weights = weights;
   links = subst (λ (n : ℕ). HasLinks n new.links.items colours) same.particles links;
   space = subst (λ (m : ℕ). HaveSpace (length new.store.particles) m scratch) same.links
       (subst (λ (n : ℕ). HaveSpace n (length old.links.items) scratch) same.particles space);
+  knows = knows;
   alike = alike_join kept old new alike same;
 }
 
--- the same is kept where a command has left particles and links of as many, with their colours
+said_room : {n m : ℕ} {scratch : Scratch} (said : Bool) → HaveSpace n m scratch
+    → HaveSpace n m (record scratch { are_links_laid = said })
+said_room said h = record {
+  found = h.found;
+  touched = h.touched;
+  pairs = h.pairs;
+  numbers = h.numbers;
+  laid_links = h.laid_links;
+  laid_contacts = h.laid_contacts;
+}
+
+-- where it is said that no links are laid, nothing is said of the columns
+pub none_laid : {A : Type 0} → IsTrue false → A
+none_laid {A} h = absurd (false≢true h)
+
+-- the same is kept where a command has left particles and links of as many, with their colours, and the scratch say rightly whether
+-- the live links are laid
 pub kept_commanded : {l : ℕ} {setting setting' : Setting} {old new kept : State l} {colours colours' : Coloured} {scratch : Scratch}
     {r : Result (Unit {0}) Refusal} {meant : Result World Refusal} → IsKept setting old kept colours scratch
     → Commanded r meant (world_of setting old) (world_of setting' new) → AreWeights new
     → HasLinks (length old.store.particles) new.links.items colours'
-    → IsKept setting' new kept colours' scratch
-kept_commanded {l} {setting} {setting'} {old} {new} {kept} {colours} {colours'} {scratch} h done weights links =
-    kept_moved setting' old new kept colours' scratch
-    done.sound weights (scene_alike setting setting' old new h.weights weights done.one_scene) h.alike links h.space
+    → (said : Bool) → (IsTrue said → AreLinksLaid new scratch.laid_links)
+    → IsKept setting' new kept colours' (record scratch { are_links_laid = said })
+kept_commanded {l} {setting} {setting'} {old} {new} {kept} {colours} {colours'} {scratch} h done weights links said laid =
+    kept_moved setting' old new kept colours' (record scratch { are_links_laid = said })
+    done.sound weights (scene_alike setting setting' old new h.weights weights done.one_scene) h.alike links (said_room said h.space)
+    (record {
+      numbers = h.knows.numbers ∙ fixed_numbers old.links.items new.links.items (ap (λ (w : World). w.links) done.one_scene);
+      laid = laid;
+    })
 
 -- the same where it has left the links as they were
 pub kept_linked : {l : ℕ} {setting : Setting} {old new kept : State l} {colours : Coloured} {scratch : Scratch}
     {r : Result (Unit {0}) Refusal}
     {meant : Result World Refusal} → IsKept setting old kept colours scratch
     → Commanded r meant (world_of setting old) (world_of setting new) → AreWeights new → new.links.items ≡ old.links.items
-    → IsKept setting new kept colours scratch
-kept_linked {l} {setting} {old} {new} {kept} {colours} h done weights same =
+    → (said : Bool) → (IsTrue said → AreLinksLaid new scratch.laid_links)
+    → IsKept setting new kept colours (record scratch { are_links_laid = said })
+kept_linked {l} {setting} {old} {new} {kept} {colours} h done weights same said laid =
     kept_commanded h done weights (subst (λ (ls : List Link). HasLinks (length old.store.particles) ls colours) (sym same) h.links)
+    said laid
+
+-- what is known of the links of a state that becomes another one of the same scene
+pub known_again : {l : ℕ} {old new : State l} (other : State l) {scratch then : Scratch} {flags : List Bool} {coloured weighed : Bool}
+    → KnowsLinks old scratch → fixed_links old.links.items ≡ fixed_links other.links.items
+    → new.links.items ≡ other.links.items → new.weights.items ≡ other.weights.items
+    → flags ≡ live_flags old.links.items → (IsTrue coloured → flags ≡ live_flags other.links.items)
+    → (IsTrue weighed → old.weights.items ≡ other.weights.items)
+    → then ≡ record scratch {
+      are_links_laid = (scratch.are_links_laid && coloured) && weighed;
+      pairs = then.pairs;
+      numbers = then.numbers;
+    } → KnowsLinks new then
+known_again {l} {old} {new} other {scratch} {then} h fixed el ew live coloured_so weighed_so kept = record {
+  numbers = ap (λ (t : Scratch). t.with_tear_length.entries) kept ∙ h.numbers ∙ fixed_numbers old.links.items other.links.items fixed
+      ∙ sym (ap numbers_with_tear_length el);
+  laid = λ is.
+      let last = and_parts _ _ (sym (ap (λ (t : Scratch). t.are_links_laid) kept) ∙ is) in
+      let first = and_parts _ _ last.0 in
+      let links = same_links old.links.items other.links.items fixed (sym live ∙ coloured_so first.1) ∙ sym el in
+      let weights = weighed_so last.1 ∙ sym ew in
+      coe 0 1 (i. AreLaid (link_bond (links i)) (index_at (weights i)) (link_order (links i)) (lists_in (sym kept i).laid_links))
+      (h.laid first.0);
+}
 
 -- ---- links in range
 
@@ -338,8 +395,8 @@ opened_world parts setting state h f = λ i. record {
 pub opened_kept : {l : ℕ} (parts : Parts) (setting : Setting) (state kept : State l) (colours : Coloured) (scratch : Scratch) (n m : ℕ)
     → IsTrue (is_valid parts) → AreCopied parts setting → IsFirst parts state → IsFirst parts kept
     → n ≡ length parts.particles → m ≡ length parts.links → HasLinks n parts.links colours → HaveSpace n m scratch
-    → IsKept setting state kept colours scratch
-opened_kept parts setting state kept colours scratch n m valid h f k en em links space =
+    → IsUnused parts.links scratch → IsKept setting state kept colours scratch
+opened_kept parts setting state kept colours scratch n m valid h f k en em links space unused =
     let particles : n ≡ length state.store.particles = en ∙ sym (ap (λ (ps : List Particle). length ps) f.particles) in
     let count : m ≡ length state.links.items = em ∙ sym (ap (λ (ls : List Link). length ls) f.links) in
     record {
@@ -349,6 +406,10 @@ opened_kept parts setting state kept colours scratch n m valid h f k en em links
           (subst (λ (k : ℕ). HasLinks k parts.links colours) particles links);
       space = subst (λ (k : ℕ). HaveSpace (length state.store.particles) k scratch) count
           (subst (λ (k : ℕ). HaveSpace k m scratch) particles space);
+      knows = record {
+        numbers = unused.numbers ∙ sym (ap numbers_with_tear_length f.links);
+        laid = λ is. absurd (false≢true (sym unused.unlaid ∙ is));
+      };
       alike = record {
         particles = ap (λ (ps : List Particle). length ps) (k.particles ∙ sym f.particles);
         limit = k.limit ∙ sym f.limit;

@@ -1,6 +1,6 @@
 -- The bonds of an order of pairs, as they are laid in columns.
-use Rattle.std.proofs.Common.{◌≡◌, ℕ, zero, suc, ◌<◌, ◌≤◌, ◌^◌, ℤ, pos, ◌≤ℤ◌, Bool, true, false, List, [], ◌∷◌, length, get_or, cond, map}
-use Rattle.std.proofs.Common.{ap, sym, ◌∙◌, arith, subst, IsTrue, unsigned_abs}
+use Rattle.std.proofs.Common.{◌≡◌, ℕ, zero, suc, ◌<◌, ◌≤◌, ℤ, Bool, true, false, List, [], ◌∷◌, length, get_or, cond, map}
+use Rattle.std.proofs.Common.{ap, sym, ◌∙◌, arith, subst, IsTrue}
 use Rattle.std.specs.Prelude.{filter}
 use Rattle.std.specs.List.{AllByRecursion}
 use Rattle.std.proofs.lemmas.Int.{ints}

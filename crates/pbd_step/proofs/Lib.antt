@@ -5,11 +5,8 @@ pub mod Passes
 pub mod Finding
 pub mod Stepping
 pub mod Running
-pub mod Flying
-pub mod Flights
 pub mod Mild
 pub mod Predicting
-pub mod Advancing
 pub mod Leading
 pub mod InOrder
 pub mod Settling
@@ -18,6 +15,5 @@ pub mod Laying
 pub mod Weighing
 pub mod Staying
 pub mod Costing
-pub mod Parting
 pub mod Placing
 pub mod Assuming

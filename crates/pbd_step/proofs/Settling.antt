@@ -1,6 +1,6 @@
 -- Links that are let go together, and their colours.
 use Rattle.std.proofs.Common.{◌≡◌, refl, sym, ap, ◌∙◌, ℕ, zero, suc, ◌<◌, not, ◌&&◌, Bool, true, false, cond, List, [], ◌∷◌, length, filter}
-use Rattle.std.proofs.Common.{get_or, arith}
+use Rattle.std.proofs.Common.{get_or, arith, pos, int_lt}
 use Rattle.std.specs.List.{range_with_len}
 use Rattle.std.proofs.lemmas.Bool.{and_parts}
 use Rattle.std.proofs.lemmas.List.{ext_get_or, get_or-map}
@@ -14,11 +14,12 @@ use Rattle.pbd_world.proofs.KeepingOn.{length-mapped}
 use Rattle.pbd_num.specs.Vectors.{zero_vector}
 use Rattle.pbd_shape.specs.Rubbing.{settled_parts}
 use Rattle.pbd_colour.specs.Pairs.{Coloured, dropped}
-use Rattle.pbd_tear.specs.Tearing.{AscendTo, torn_numbers}
+use Rattle.pbd_tear.specs.Tearing.{AscendTo, torn_numbers, numbers_with_tear_length}
 use Rattle.pbd_tear.proofs.Numbers.{numbers_go}
-use Rattle.pbd_step.specs.States.{HasLinks}
+use Rattle.pbd_step.specs.States.{fixed_links, HasLinks}
 use Rattle.pbd_step.specs.Settling.{LetGo}
-use Rattle.pbd_step.proofs.Dropping.{dropped_flags}
+use Rattle.pbd_step.proofs.Dropping.{dropped_flags, flag_at}
+use Rattle.std.proofs.lemmas.Simd.{map-map}
 use Rattle.pbd_world.proofs.StepBalance.{torn-count}
 
 -- ---- torn links
@@ -85,3 +86,54 @@ still_many ps qs e =
     let blank : Particle → Particle = λ p. record p { before = zero_vector } in
     sym (length-mapped {A = Particle} {B = Particle} blank ps) ∙ ap (λ (xs : List Particle). length xs) e
     ∙ length-mapped {A = Particle} {B = Particle} blank qs
+
+-- ---- what of links never changes
+
+fixed_many : (links : List Link) → length (fixed_links links) ≡ length links
+fixed_many links = length-mapped {A = Link} {B = Link} (λ l. record l { live = false }) links
+
+fixed_at : (links : List Link) (i : ℕ) → i < length links → link_at (fixed_links links) i ≡ record (link_at links i) { live = false }
+fixed_at links i lt = get_or-map (λ (l : Link). record l { live = false }) links i no_link no_link lt
+
+fixed_tear : (links : List Link) (i : ℕ) → (link_at (fixed_links links) i).tear ≡ (link_at links i).tear
+fixed_tear [] zero = refl
+fixed_tear [] (suc i) = refl
+fixed_tear (l ∷ links) zero = refl
+fixed_tear (l ∷ links) (suc i) = fixed_tear links i
+
+numbers_fixed : (links : List Link) → numbers_with_tear_length (fixed_links links) ≡ numbers_with_tear_length links
+unfolding numbers_with_tear_length
+numbers_fixed links = λ k. filter (λ i. int_lt (pos 0) (fixed_tear links i k)) (range_with_len 0 (fixed_many links k))
+
+-- links that differ in which are live alone have the same tear lengths
+pub fixed_numbers : (links others : List Link) → fixed_links links ≡ fixed_links others
+    → numbers_with_tear_length links ≡ numbers_with_tear_length others
+fixed_numbers links others e = sym (numbers_fixed links) ∙ ap numbers_with_tear_length e ∙ numbers_fixed others
+
+-- where the same of them are live they are the same
+pub same_links : (links others : List Link) → fixed_links links ≡ fixed_links others → live_flags links ≡ live_flags others
+    → links ≡ others
+same_links links others e f =
+    let many : length links ≡ length others = sym (fixed_many links) ∙ ap (λ (ls : List Link). length ls) e ∙ fixed_many others in
+    ext_get_or no_link links others many
+    (λ i lt.
+    let l : i < length others = omega (arith, lt, many) in
+    let rest = sym (fixed_at links i lt) ∙ ap (λ (ls : List Link). link_at ls i) e ∙ fixed_at others i l in
+    let live = sym (flag_at links i lt) ∙ ap (λ (fs : List Bool). live_at fs i) f ∙ flag_at others i l in
+    λ k. record (rest k) { live = live k })
+
+-- tearing changes which are live alone
+pub torn_fixed : (ps : List Particle) (links after : List Link) → after ≡ tear ps links → fixed_links after ≡ fixed_links links
+unfolding tear
+torn_fixed ps links after is = ap (λ (ls : List Link). fixed_links ls) is
+    ∙ map-map {A = Link} {B = Link} {C = Link} (λ l. record l { live = false })
+    (λ l. record l { live = l.live && not (is_torn ps l) }) links
+
+not_gone : (b : Bool) → (b && not false) ≡ b
+not_gone true = refl
+not_gone false = refl
+
+-- where none goes they are as they were
+pub none_go : (links after : List Link) → LetGo [] links after → after ≡ links
+none_go links after go = ext_get_or no_link after links go.whole (λ i lt.
+    go.each i (omega (arith, lt, go.whole)) ∙ (λ k. record (link_at links i) { live = not_gone (link_at links i).live k }))

@@ -1,5 +1,5 @@
 -- What the parts of a step leave as it was, one after another.
-use Rattle.std.proofs.Common.{◌≡◌, refl, sym, ap, ◌∙◌, ℕ, ◌<◌, ◌≤◌, ℤ, List, Bool, length, map, arith, subst}
+use Rattle.std.proofs.Common.{◌≡◌, refl, sym, ap, ◌∙◌, ℕ, ◌<◌, ◌≤◌, ℤ, List, Bool, length, arith, subst, IsTrue}
 use Rattle.pbd_colour.specs.Pairs.{Coloured}
 use Rattle.pbd_store.specs.Moving.{fixed_parts}
 use Rattle.pbd_store.proofs.Fixed.{same_length}
@@ -10,12 +10,12 @@ use Rattle.pbd_step.specs.declared.state.State.{State}
 use Rattle.pbd_step.specs.declared.state.Scratch.{Scratch}
 use Rattle.pbd_step.specs.declared.state.Running.{Running}
 use Rattle.pbd_step.specs.Solving.{AreAlike}
-use Rattle.pbd_step.specs.States.{world_of, AreWeights, HasLinks, HaveSpace, IsUnderWay}
-use Rattle.pbd_world.specs.Particles.{effective_weight}
+use Rattle.pbd_tear.specs.Tearing.{numbers_with_tear_length}
+use Rattle.pbd_step.specs.States.{world_of, fixed_links, AreWeights, HasLinks, HaveSpace, AreLinksLaid, KnowsLinks, IsUnderWay}
 use Rattle.pbd_pair.specs.declared.laid.BondColumns.{BondColumns}
 use Rattle.pbd_pair.specs.Laid.{HaveRows}
 use Rattle.pbd_pair.proofs.LaidParts.{weights_kept}
-use Rattle.pbd_step.specs.Staying.{AreBondsLaid, AreContactsLaid, AreLinksLaid, IsReady, IsGoing, IsMoved, StaysInPass, StaysInStep}
+use Rattle.pbd_step.specs.Staying.{AreBondsLaid, AreContactsLaid, IsReady, IsGoing, IsMoved, StaysInPass, StaysInStep}
 
 -- ---- states and scratch
 
@@ -43,6 +43,25 @@ both_moved {l} old mid new h k = record {
 pub weights_moved : {l : ℕ} (old new : State l) → IsMoved old new → AreWeights old → AreWeights new
 weights_moved {l} old new h w = ap (λ (s : State l). s.weights.items) h.same ∙ w ∙ sym h.weights
 
+-- what is known of the links stays so where places, totals and flags of what was touched change
+pub still_known : {l : ℕ} (old new : State l) (scratch then : Scratch) → new ≡ record old { store = new.store; totals = new.totals }
+    → then ≡ record scratch { touched = then.touched } → KnowsLinks old scratch → KnowsLinks new then
+still_known {l} old new scratch then same kept h = record {
+  numbers = coe 0 1 (i. (sym kept i).with_tear_length.entries ≡ numbers_with_tear_length (sym same i).links.items) h.numbers;
+  laid = coe 0 1 (i. IsTrue (sym kept i).are_links_laid → AreLinksLaid (sym same i) (sym kept i).laid_links) h.laid;
+}
+
+-- with other contacts and flags
+pub known_with : {l : ℕ} (state : State l) (scratch : Scratch) (found : Found) → KnowsLinks state scratch
+    → KnowsLinks state (record scratch { found = found })
+known_with {l} state scratch found h = record { numbers = h.numbers; laid = h.laid }
+
+-- with the links laid
+pub known_laid : {l : ℕ} (state : State l) (scratch : Scratch) (links contacts : BondColumns) (flags : List Bool) (said : Bool)
+    → AreLinksLaid state links → KnowsLinks state scratch
+    → KnowsLinks state (record scratch { laid_links = links; laid_contacts = contacts; are_links_laid = said; touched = flags })
+known_laid {l} state scratch links contacts flags said laid h = record { numbers = h.numbers; laid = λ is. laid }
+
 pub moved_alike : {l : ℕ} (old new : State l) → IsMoved old new → AreAlike new old
 moved_alike {l} old new h = record {
   particles = h.whole;
@@ -64,12 +83,12 @@ cleared scratch flags many n m h = record {
 }
 
 -- with other rows in the columns, as many, and as many flags
-pub prepared : (scratch : Scratch) (links contacts : BondColumns) (flags : List Bool)
+pub prepared : (scratch : Scratch) (links contacts : BondColumns) (flags : List Bool) (said : Bool)
     → HaveRows (length scratch.laid_links.first.items) links
     → HaveRows (length scratch.laid_contacts.first.items) contacts → length flags ≡ length scratch.touched → (n m : ℕ)
     → HaveSpace n m scratch
-    → HaveSpace n m (record scratch { laid_links = links; laid_contacts = contacts; touched = flags })
-prepared scratch links contacts flags a b many n m h = record {
+    → HaveSpace n m (record scratch { laid_links = links; laid_contacts = contacts; are_links_laid = said; touched = flags })
+prepared scratch links contacts flags said a b many n m h = record {
   found = h.found;
   touched = many ∙ h.touched;
   pairs = h.pairs;
@@ -145,6 +164,9 @@ module _ {l : ℕ} {P : Type 0} {count : P → ℕ} {lanes : P → ℕ} where
   none_in_step run = record {
     alike = record { particles = refl; limit = refl; weights = refl; links = refl };
     weights = λ h. h;
+    fixed = refl;
+    links = λ h. h;
+    knows = λ h. h;
     copies = refl;
     pairs = refl;
     space = λ n m h. h;
@@ -162,6 +184,9 @@ module _ {l : ℕ} {P : Type 0} {count : P → ℕ} {lanes : P → ℕ} where
       links = k.alike.links ∙ h.alike.links;
     };
     weights = λ w. k.weights (h.weights w);
+    fixed = k.fixed ∙ h.fixed;
+    links = λ has. k.links (h.links has);
+    knows = λ known. k.knows (h.knows known);
     copies = k.copies ∙ h.copies;
     pairs = k.pairs ∙ ap (λ (c : Coloured). record c { live = new.colours.live }) h.pairs;
     space = λ n m room. k.space n m (h.space n m room);
@@ -173,6 +198,9 @@ module _ {l : ℕ} {P : Type 0} {count : P → ℕ} {lanes : P → ℕ} where
   pass_in_step old new h = record {
     alike = moved_alike old.state new.state h.moved;
     weights = weights_moved old.state new.state h.moved;
+    fixed = ap (λ (s : State l). fixed_links s.links.items) h.moved.same;
+    links = λ has. coe 0 1 (i. HasLinks (sym h.moved.whole i) (sym h.moved.same i).links.items (sym h.colours i)) has;
+    knows = still_known old.state new.state old.scratch new.scratch h.moved.same h.scratch;
     copies = h.moved.copies;
     pairs = λ i. record (h.colours i) { live = new.colours.live };
     space = same_room old.scratch new.scratch h.scratch h.flags;
@@ -185,6 +213,9 @@ module _ {l : ℕ} {P : Type 0} {count : P → ℕ} {lanes : P → ℕ} where
   move_in_step run state h = record {
     alike = moved_alike run.state state h;
     weights = weights_moved run.state state h;
+    fixed = ap (λ (s : State l). fixed_links s.links.items) h.same;
+    links = λ has. coe 0 1 (i. HasLinks (sym h.whole i) (sym h.same i).links.items run.colours) has;
+    knows = still_known run.state state run.scratch run.scratch h.same refl;
     copies = h.copies;
     pairs = refl;
     space = λ n m room. room;
@@ -194,10 +225,14 @@ module _ {l : ℕ} {P : Type 0} {count : P → ℕ} {lanes : P → ℕ} where
 
   -- with flags, contacts or numbers alone
   pub tools_in_step : (run : Running l P) (scratch : Scratch) → ((n m : ℕ) → HaveSpace n m run.scratch → HaveSpace n m scratch)
+      → (KnowsLinks run.state run.scratch → KnowsLinks run.state scratch)
       → StaysInStep count lanes run (record run { scratch = scratch })
-  tools_in_step run scratch space = record {
+  tools_in_step run scratch space knows = record {
     alike = record { particles = refl; limit = refl; weights = refl; links = refl };
     weights = λ h. h;
+    fixed = refl;
+    links = λ h. h;
+    knows = knows;
     copies = refl;
     pairs = refl;
     space = space;
@@ -219,6 +254,7 @@ module _ {l : ℕ} {P : Type 0} where
     links = coe 0 1 (i. HasLinks (sym h.moved.whole i) (sym h.moved.same i).links.items (sym h.colours i)) g.links;
     space = coe 0 1 (i. HaveSpace (sym h.moved.whole i) (length (sym h.moved.same i).links.items) new.scratch)
         (same_room old.scratch new.scratch h.scratch h.flags (length old.state.store.particles) (length old.state.links.items) g.space);
+    knows = still_known old.state new.state old.scratch new.scratch h.moved.same h.scratch g.knows;
   }
 
   -- after its beginning
@@ -230,18 +266,21 @@ module _ {l : ℕ} {P : Type 0} where
     weights = weights_moved run.state state h ready.weights;
     links = coe 0 1 (i. HasLinks (sym h.whole i) (sym h.same i).links.items run.colours) ready.links;
     space = coe 0 1 (i. HaveSpace (sym h.whole i) (length (sym h.same i).links.items) run.scratch) ready.space;
+    knows = still_known run.state state run.scratch run.scratch h.same refl ready.knows;
   }
 
   -- with other scratch of the same room
   pub tools_go : {bound : ℕ} (setting : Setting) (run : Running l P) (scratch : Scratch)
-      → ((n m : ℕ) → HaveSpace n m run.scratch → HaveSpace n m scratch) → IsGoing bound setting run
+      → ((n m : ℕ) → HaveSpace n m run.scratch → HaveSpace n m scratch)
+      → (KnowsLinks run.state run.scratch → KnowsLinks run.state scratch) → IsGoing bound setting run
       → IsGoing bound setting (record run { scratch = scratch })
-  tools_go setting run scratch space g = record {
+  tools_go setting run scratch space knows g = record {
     count = g.count;
     under_way = g.under_way;
     weights = g.weights;
     links = g.links;
     space = space (length run.state.store.particles) (length run.state.links.items) g.space;
+    knows = knows g.knows;
   }
 
   -- a state that a step led to may begin the next one
@@ -254,6 +293,7 @@ module _ {l : ℕ} {P : Type 0} where
     links = subst (λ (n : ℕ). HasLinks n new.state.links.items new.colours) (sym stays.alike.particles) links;
     space = coe 0 1 (i. HaveSpace (sym stays.alike.particles i) (sym stays.alike.links i) new.scratch)
         (stays.space (length old.state.store.particles) (length old.state.links.items) h.space);
+    knows = stays.knows h.knows;
   }
 
   -- bonds that are laid stay laid after a part of a pass

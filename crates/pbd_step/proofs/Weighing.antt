@@ -1,16 +1,12 @@
 -- The effective weights of particles, as a state lists them.
-use Rattle.std.proofs.Common.{◌≡◌, ℕ, zero, suc, ◌<◌, List, [], ◌∷◌, length, map, slice_set, refl, ap, sym, ◌∙◌, arith}
+use Rattle.std.proofs.Common.{◌≡◌, ℕ, suc, ◌<◌, List, [], ◌∷◌, length, map, slice_set, refl, ap, sym, ◌∙◌, arith}
 use Rattle.std.proofs.Math.Seq.{map-set_same}
 use Rattle.std.proofs.lemmas.List.{map-set}
 use Rattle.pbd_world.specs.declared.parts.Particle.{Particle}
 use Rattle.pbd_world.specs.declared.parts.Track.{Track}
 use Rattle.pbd_world.specs.Particles.{effective_weight, no_particle, particle_at}
-use Rattle.pbd_store.specs.Blocks.{Saved}
-use Rattle.pbd_store.proofs.Saves.{saved_each}
 use Rattle.pbd_shape.specs.Rubbing.{settled_parts}
 use Rattle.pbd_track.specs.Tracking.{Attached}
-use Rattle.std.specs.Prelude.{Bool}
-use Rattle.pbd_num.specs.declared.Vec3.{Vec3}
 
 -- one particle has changed, and its weight
 pub weights_set : {weights : List ℕ} {qs : List Particle} (ps : List Particle) (n w : ℕ) (p : Particle)
@@ -34,12 +30,6 @@ same_weights [] (q ∷ qs) e each = absurd (omega (arith, e))
 same_weights (p ∷ ps) [] e each = absurd (omega (arith, e))
 same_weights (p ∷ ps) (q ∷ qs) e each =
     (λ i. each 0 (omega arith) i ∷ same_weights ps qs (omega (arith, e)) (λ k l. each (suc k) (omega (arith, l))) i)
-
--- saved lanes change places alone
-pub saved_weights : {n start : ℕ} {set : List Bool} {at before : ℕ → Vec3} (ps qs : List Particle) → Saved n start set at before ps qs
-    → map effective_weight qs ≡ map effective_weight ps
-saved_weights {n} {start} {set} {at} {before} ps qs saved = same_weights ps qs saved.whole (saved_each start set at before ps
-    (λ i p. effective_weight p ≡ effective_weight (particle_at ps i)) n qs saved (λ j h k. refl) (λ i h. refl))
 
 -- tracks change places alone
 pub attached_weights : {tracks : List Track} {t : ℕ} (ps qs : List Particle) → Attached tracks t ps qs

@@ -7,7 +7,7 @@ use Rattle.pbd_colour.specs.Pairs.{Coloured}
 use Rattle.pbd_step.specs.declared.state.Setting.{Setting}
 use Rattle.pbd_step.specs.declared.state.State.{State}
 use Rattle.pbd_step.specs.declared.state.Scratch.{Scratch}
-use Rattle.pbd_step.specs.States.{world_of, AreWeights, HasLinks, HaveSpace}
+use Rattle.pbd_step.specs.States.{world_of, AreWeights, HasLinks, HaveSpace, KnowsLinks}
 
 -- a world, the projector that its steps go through, and how often the stores of its two states were taken over as a whole
 pub record Solved (P : Type 0) : Type 0 where
@@ -40,10 +40,11 @@ pub record IsSaved {l : ℕ} (setting : Setting) (state : State l) : Type 0 wher
   pub sound : IsSound (world_of setting state)
   pub weights : AreWeights state
 
--- the world is sound, its links are coloured, and the scratch and the second state have room for it
+-- the world is sound, its links are coloured, the scratch have room for it and know its links, and the second state has room
 pub record IsKept {l : ℕ} (setting : Setting) (state kept : State l) (colours : Coloured) (scratch : Scratch) : Type 0 where
   pub sound : IsSound (world_of setting state)
   pub weights : AreWeights state
   pub links : HasLinks (length state.store.particles) state.links.items colours
   pub space : HaveSpace (length state.store.particles) (length state.links.items) scratch
+  pub knows : KnowsLinks state scratch
   pub alike : AreAlike kept state

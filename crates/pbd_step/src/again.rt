@@ -3,7 +3,7 @@ ghost use Rattle.std.specs.Prelude.{◌≡◌, ◌+◌, ◌-◌, ◌≤◌, ◌^
 ghost use Rattle.pbd_world.specs.Contacts.{link_pairs, live_flags};
 ghost use Rattle.pbd_colour.specs.Pairs.{InRange};
 ghost use Rattle.pbd_step.specs.declared.state.Setting.{Setting};
-ghost use Rattle.pbd_step.specs.States.{world_of, HasLinks, HaveSpace};
+ghost use Rattle.pbd_step.specs.States.{world_of, fixed_links, HasLinks, HaveSpace, KnowsLinks};
 ghost use Rattle.pbd_step.specs.Solving.{AreAlike};
 
 use crate::state::{Scratch, State};
@@ -79,9 +79,17 @@ fn are_live_by(flags: &[bool], links: &[Link]) -> bool
     true
 }
 
+/// Whether two lists of weights are the same.
+fn are_same(weights: &[u16], others: &[u16]) -> bool
+    ensures { IsTrue result → weights.now ≡ others.now }
+{
+    weights == others
+}
+
 /// Gives the colouring of links the live ones of these, which join the same pairs. The colours are made anew only where another
 /// link is live.
-fn recolour(links: &[Link], colours: &mut Colouring, scratch: &mut Scratch)
+fn recolour(are_coloured: bool, links: &[Link], colours: &mut Colouring, scratch: &mut Scratch)
+    requires coloured { IsTrue are_coloured → colours.old.live ≡ live_flags links.now }
     requires few { length links.now ≤ 524288 }
     requires in_range { InRange colours.old.particles (link_pairs links.now) }
     requires pairs { colours.old.pairs ≡ link_pairs links.now }
@@ -89,14 +97,15 @@ fn recolour(links: &[Link], colours: &mut Colouring, scratch: &mut Scratch)
     requires space { HaveSpace colours.old.particles (length links.now) scratch.old }
     ensures links { HasLinks colours.old.particles links.now colours.new }
     ensures space { HaveSpace colours.old.particles (length links.now) scratch.new }
+    ensures same { scratch.new ≡ record scratch.old { pairs = scratch.new.pairs; numbers = scratch.new.numbers } }
 {
-    if are_live_by(colours.live(), links) {
+    if are_coloured {
         return;
     }
     colour_again(links, colours, &mut scratch.pairs, &mut scratch.numbers);
 }
 
-/// Makes a state that of another one, with the colours of its links.
+/// Makes a state that of another one, with the colours of its links. They stay laid where the same are live, with the same weights.
 pub(crate) fn restore<const L: usize>(
     state: &mut State<L>,
     other: &State<L>,
@@ -111,6 +120,9 @@ pub(crate) fn restore<const L: usize>(
     requires pairs { colours.old.pairs ≡ link_pairs other.now.links.items }
     requires room { length other.now.links.items ≤ colours.old.room }
     requires space { HaveSpace (length other.now.store.particles) (length other.now.links.items) scratch.old }
+    requires fixed { fixed_links state.old.links.items ≡ fixed_links other.now.links.items }
+    requires live { colours.old.live ≡ live_flags state.old.links.items }
+    requires knows { KnowsLinks state.old scratch.old }
     ensures world { (setting : Setting) → world_of setting state.new ≡ world_of setting other.now }
     ensures particles { state.new.store.particles ≡ other.now.store.particles }
     ensures limit { state.new.store.limit ≡ other.now.store.limit }
@@ -119,9 +131,13 @@ pub(crate) fn restore<const L: usize>(
     ensures weights { state.new.weights.items ≡ other.now.weights.items }
     ensures links { HasLinks (length other.now.store.particles) other.now.links.items colours.new }
     ensures space { HaveSpace (length other.now.store.particles) (length other.now.links.items) scratch.new }
+    ensures knows { KnowsLinks state.new scratch.new }
 {
+    let are_coloured = are_live_by(colours.live(), &other.links);
+    let are_weighed = are_same(&state.weights, &other.weights);
+    scratch.are_links_laid = scratch.are_links_laid & are_coloured & are_weighed;
     take_over(state, other);
-    recolour(&state.links, colours, scratch);
+    recolour(are_coloured, &state.links, colours, scratch);
 }
 
 /// The colours of links that are all between so many particles.
@@ -137,6 +153,7 @@ pub(crate) fn open_colours(
     requires space { HaveSpace particles (length links.now) scratch.old }
     ensures links { IfOk result (HasLinks particles links.now) }
     ensures space { HaveSpace particles (length links.now) scratch.new }
+    ensures same { scratch.new ≡ record scratch.old { pairs = scratch.new.pairs; numbers = scratch.new.numbers } }
 {
     let mut colours = Colouring::open(alloc, particles, links.len() as u32)?;
     colour_again(

@@ -1,5 +1,5 @@
 // All live bonds of a list, projected colour by colour.
-ghost use Rattle.std.specs.Prelude.{◌≡◌, ◌+◌, ◌-◌, ◌*◌, ◌<◌, ◌≤◌, ◌^◌, min, length, OnOk};
+ghost use Rattle.std.specs.Prelude.{◌≡◌, ◌+◌, ◌-◌, ◌*◌, ◌<◌, ◌≤◌, ◌^◌, [], min, length, IsTrue, OnOk};
 ghost use Rattle.pbd_world.specs.Colours.{order};
 ghost use Rattle.pbd_world.specs.Work.{bonds_work, colours_work};
 ghost use Rattle.pbd_colour.specs.Pairs.{batch_of};
@@ -56,6 +56,13 @@ fn project_batch<const L: usize, P: Projector<L>, G: Ledger>(
     projector.project(store, bonds, batch.numbers, totals, steps)
 }
 
+/// Whether there are no numbers.
+pub(crate) fn are_none(numbers: &[u32]) -> bool
+    ensures { IsTrue result → numbers.now ≡ [] }
+{
+    numbers.is_empty()
+}
+
 // The live pairs of the colours below 63, each colour as one batch.
 fn project_colours<const L: usize, P: Projector<L>, G: Ledger>(
     projector: &mut P,
@@ -81,6 +88,9 @@ fn project_colours<const L: usize, P: Projector<L>, G: Ledger>(
     let mut rest = list.laid;
     for c in 0..63 {
         let numbers = list.colours.batch(c);
+        if are_none(numbers) {
+            continue;
+        }
         let (laid, after) = rest.split_at(numbers.len());
         rest = after;
         let batch = Batch {

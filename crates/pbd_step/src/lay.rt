@@ -2,19 +2,20 @@
 ghost use Rattle.std.specs.Prelude.{◌≡◌, ◌≤◌, pos, length, IsTrue};
 ghost use Rattle.pbd_world.specs.Valid.{is_between, is_limit, are_valid_links};
 ghost use Rattle.pbd_pair.specs.Laid.{HaveRows};
-ghost use Rattle.pbd_step.specs.States.{AreWeights, HasLinks};
-ghost use Rattle.pbd_step.specs.Staying.{AreContactsLaid, AreLinksLaid};
+ghost use Rattle.pbd_step.specs.States.{AreWeights, HasLinks, AreLinksLaid};
+ghost use Rattle.pbd_step.specs.Staying.{AreContactsLaid};
 
 use crate::state::State;
 use pbd_colour::Colouring;
 use pbd_pair::{BondColumns, Bonds};
 use pbd_self::SelfContacts;
 
-/// Lays the live links.
+/// Lays the live links, unless they are laid.
 pub(crate) fn lay_links<const L: usize>(
     state: &State<L>,
     colours: &Colouring,
     columns: &mut BondColumns,
+    are_laid: &mut bool,
 )
     requires lanes { L ≤ 16 }
     requires limit { IsTrue (is_limit state.now.store.limit) }
@@ -22,10 +23,15 @@ pub(crate) fn lay_links<const L: usize>(
     requires weights { AreWeights state.now }
     requires links { HasLinks (length state.now.store.particles) state.now.links.items colours.now }
     requires rows { HaveRows (length state.now.links.items) columns.old }
+    requires before { IsTrue are_laid.old → AreLinksLaid state.now columns.old }
     ensures laid { AreLinksLaid state.now columns.new }
     ensures rows { HaveRows (length columns.old.first.items) columns.new }
 {
+    if *are_laid {
+        return;
+    }
     columns.lay(Bonds::Links(&state.links), colours.order(), &state.weights);
+    *are_laid = true;
 }
 
 /// Lays the contacts that were found.

@@ -6,7 +6,6 @@ mod assume;
 mod bonds;
 mod commands;
 mod contacts;
-mod flight;
 mod lay;
 mod leaving;
 mod open;

@@ -3,7 +3,8 @@ ghost use Rattle.std.specs.Prelude.{◌≡◌, ◌≤◌, length, map, IfOk, IsT
 ghost use Rattle.pbd_world.specs.Particles.{effective_weight};
 ghost use Rattle.pbd_pair.specs.Laid.{HaveRows};
 ghost use Rattle.pbd_world.specs.Valid.{is_valid};
-ghost use Rattle.pbd_step.specs.Opening.{AreCopied, IsFirst};
+ghost use Rattle.pbd_tear.specs.Tearing.{numbers_with_tear_length};
+ghost use Rattle.pbd_step.specs.Opening.{AreCopied, IsFirst, IsUnused};
 ghost use Rattle.pbd_step.specs.States.{HasLinks, HaveSpace};
 
 use crate::again::open_colours;
@@ -13,8 +14,9 @@ use pbd_ledger::momentum_of;
 use pbd_pair::{BondColumns, Projector};
 use pbd_self::SelfContacts;
 use pbd_shape::Touched;
-use pbd_store::Store;
-use pbd_world::{Link, List, MOST_CONTACTS, Particle, Parts, RoomList, Totals, Track};
+use pbd_store::{Store, effective_weight_of};
+use pbd_tear::with_tear_length as find_with_tear_length;
+use pbd_world::{Link, List, MOST_CONTACTS, Parts, RoomList, Totals, Track};
 use std::alloc::{AllocError, Global};
 
 fn copied_track(alloc: Global, track: &Track) -> Result<Track, AllocError>
@@ -58,13 +60,6 @@ fn open_setting(alloc: Global, parts: &Parts) -> Result<Setting, AllocError>
         friction: parts.friction,
         opening,
     })
-}
-
-// The effective weight of a particle.
-fn effective_weight_of(particle: Particle) -> u16
-    ensures { result ≡ effective_weight particle }
-{
-    if particle.held { 0 } else { particle.weight }
 }
 
 // The effective weights of the particles, and the links.
@@ -130,19 +125,27 @@ pub(crate) fn open_kept<const L: usize>(
     }
 }
 
-// Lists of pairs and of numbers with room for so many links.
-fn open_lists(
-    alloc: Global,
-    links: u32,
-) -> Result<(RoomList<(u32, u32)>, RoomList<u32>), AllocError>
-    ensures pairs { IfOk result (λ lists. lists.0.room ≡ links) }
-    ensures numbers { IfOk result (λ lists. lists.1.room ≡ links) }
+// The numbers of the links with a tear length.
+fn open_with_tear_length(alloc: Global, links: &[Link]) -> Result<RoomList<u32>, AllocError>
+    requires { length links.now ≤ 524288 }
+    ensures { IfOk result (λ list. list.entries ≡ numbers_with_tear_length links.now) }
 {
-    let pairs = RoomList::open(alloc, links)?;
-    match RoomList::open(alloc, links) {
-        Ok(numbers) => Ok((pairs, numbers)),
+    let mut list = RoomList::open(alloc, links.len() as u32)?;
+    find_with_tear_length(links, &mut list);
+    Ok(list)
+}
+
+// A list of numbers with room for these links, and the numbers of those with a tear length.
+fn open_numbers(alloc: Global, links: &[Link]) -> Result<(RoomList<u32>, RoomList<u32>), AllocError>
+    requires { length links.now ≤ 524288 }
+    ensures numbers { IfOk result (λ lists. lists.0.room ≡ length links.now) }
+    ensures with_tear_length { IfOk result (λ lists. lists.1.entries ≡ numbers_with_tear_length links.now) }
+{
+    let numbers = RoomList::open(alloc, links.len() as u32)?;
+    match open_with_tear_length(alloc, links) {
+        Ok(with_tear_length) => Ok((numbers, with_tear_length)),
         Err(AllocError) => {
-            drop(pairs);
+            drop(numbers);
             Err(AllocError)
         }
     }
@@ -168,44 +171,56 @@ fn open_columns(alloc: Global, links: u32) -> Result<(BondColumns, BondColumns),
 struct Rooms {
     pairs: RoomList<(u32, u32)>,
     numbers: RoomList<u32>,
+    with_tear_length: RoomList<u32>,
     laid_links: BondColumns,
     laid_contacts: BondColumns,
 }
 
-// Lists and columns with room for so many links, and for all contacts.
-fn open_rooms(alloc: Global, links: u32) -> Result<Rooms, AllocError>
-    ensures pairs { IfOk result (λ rooms. rooms.pairs.room ≡ links) }
-    ensures numbers { IfOk result (λ rooms. rooms.numbers.room ≡ links) }
-    ensures laid_links { IfOk result (λ rooms. HaveRows links rooms.laid_links) }
+// Lists of the pairs and numbers of these links, and columns of them and of all contacts.
+fn open_rooms(alloc: Global, links: &[Link]) -> Result<Rooms, AllocError>
+    requires { length links.now ≤ 524288 }
+    ensures pairs { IfOk result (λ rooms. rooms.pairs.room ≡ length links.now) }
+    ensures numbers { IfOk result (λ rooms. rooms.numbers.room ≡ length links.now) }
+    ensures with_tear_length { IfOk result (λ rooms. rooms.with_tear_length.entries ≡ numbers_with_tear_length links.now) }
+    ensures laid_links { IfOk result (λ rooms. HaveRows (length links.now) rooms.laid_links) }
     ensures laid_contacts { IfOk result (λ rooms. HaveRows 262144 rooms.laid_contacts) }
 {
-    match open_lists(alloc, links) {
-        Ok((pairs, numbers)) => match open_columns(alloc, links) {
+    let count = links.len() as u32;
+    let pairs = RoomList::open(alloc, count)?;
+    match open_numbers(alloc, links) {
+        Ok((numbers, with_tear_length)) => match open_columns(alloc, count) {
             Ok((laid_links, laid_contacts)) => Ok(Rooms {
                 pairs,
                 numbers,
+                with_tear_length,
                 laid_links,
                 laid_contacts,
             }),
             Err(AllocError) => {
+                drop(with_tear_length);
                 drop(numbers);
                 drop(pairs);
                 Err(AllocError)
             }
         },
-        Err(AllocError) => Err(AllocError),
+        Err(AllocError) => {
+            drop(pairs);
+            Err(AllocError)
+        }
     }
 }
 
-// Scratch of these contacts and flags, with room for so many links.
+// Scratch of these contacts and flags, for these links.
 fn with_room(
     alloc: Global,
     found: SelfContacts,
     touched: Touched,
-    links: u32,
+    links: &[Link],
 ) -> Result<Scratch, AllocError>
-    requires { length touched ≡ found.particles }
-    ensures { IfOk result (HaveSpace found.particles links) }
+    requires touched { length touched ≡ found.particles }
+    requires few { length links.now ≤ 524288 }
+    ensures space { IfOk result (HaveSpace found.particles (length links.now)) }
+    ensures unused { IfOk result (IsUnused links.now) }
 {
     match open_rooms(alloc, links) {
         Ok(rooms) => Ok(Scratch {
@@ -213,8 +228,10 @@ fn with_room(
             touched,
             pairs: rooms.pairs,
             numbers: rooms.numbers,
+            with_tear_length: rooms.with_tear_length,
             laid_links: rooms.laid_links,
             laid_contacts: rooms.laid_contacts,
+            are_links_laid: false,
         }),
         Err(AllocError) => {
             drop(touched);
@@ -225,10 +242,11 @@ fn with_room(
 }
 
 /// Room for what a step works with.
-fn open_tools(alloc: Global, particles: u32, links: u32) -> Result<Scratch, AllocError>
+fn open_tools(alloc: Global, particles: u32, links: &[Link]) -> Result<Scratch, AllocError>
     requires particles { particles ≤ 65536 }
-    requires links { links ≤ 524288 }
-    ensures { IfOk result (HaveSpace particles links) }
+    requires links { length links.now ≤ 524288 }
+    ensures space { IfOk result (HaveSpace particles (length links.now)) }
+    ensures unused { IfOk result (IsUnused links.now) }
 {
     let found = SelfContacts::open(alloc, particles)?;
     match Touched::open(alloc, particles) {
@@ -245,10 +263,12 @@ fn open_coloured(alloc: Global, parts: &Parts) -> Result<(Scratch, Colouring), A
     requires { IsTrue (is_valid parts.now) }
     ensures links { IfOk result (λ both. HasLinks (length parts.now.particles) parts.now.links both.1) }
     ensures space { IfOk result (λ both. HaveSpace (length parts.now.particles) (length parts.now.links) both.0) }
+    ensures unused { IfOk result (λ both. IsUnused parts.now.links both.0) }
 {
     let particles = parts.particles.len() as u32;
-    let mut scratch = open_tools(alloc, particles, parts.links.len() as u32)?;
-    match open_colours(alloc, particles, parts.links.as_slice(), &mut scratch) {
+    let links = parts.links.as_slice();
+    let mut scratch = open_tools(alloc, particles, links)?;
+    match open_colours(alloc, particles, links, &mut scratch) {
         Ok(colours) => Ok((scratch, colours)),
         Err(AllocError) => {
             drop(scratch);
@@ -268,6 +288,7 @@ pub(crate) fn open_running<const L: usize, P: Projector<L> + Drop>(
     ensures state { IfOk result (λ run. IsFirst parts.now run.state) }
     ensures links { IfOk result (λ run. HasLinks (length parts.now.particles) parts.now.links run.colours) }
     ensures space { IfOk result (λ run. HaveSpace (length parts.now.particles) (length parts.now.links) run.scratch) }
+    ensures unused { IfOk result (λ run. IsUnused parts.now.links run.scratch) }
     ensures projector { IfOk result (λ run. run.projector ≡ projector) }
 {
     match open_coloured(alloc, parts) {

@@ -8,8 +8,8 @@ ghost use Rattle.pbd_world.specs.Valid.{is_between, is_limit, are_valid_links};
 ghost use Rattle.pbd_world.specs.Work.{contacts_work, links_work, pass_work};
 ghost use Rattle.pbd_world.specs.World.{live_count};
 ghost use Rattle.pbd_step.specs.Projecting.{AreMovable};
-ghost use Rattle.pbd_step.specs.States.{world_of, AreWeights, HasLinks, IsUnderWay};
-ghost use Rattle.pbd_step.specs.Staying.{AreBondsLaid, AreContactsLaid, AreLinksLaid, IsGoing, ProjectsInPass, StaysInPass, passing_of};
+ghost use Rattle.pbd_step.specs.States.{world_of, AreWeights, HasLinks, IsUnderWay, AreLinksLaid};
+ghost use Rattle.pbd_step.specs.Staying.{AreBondsLaid, AreContactsLaid, IsGoing, ProjectsInPass, StaysInPass, passing_of};
 
 use crate::bonds::{BondList, counts, project_all};
 use crate::leaving::leaving;

@@ -9,6 +9,7 @@ ghost use Rattle.pbd_step.specs.States.{world_of, HasLinks};
 ghost use Rattle.pbd_step.specs.Staying.{IsGoing, StaysInStep, passing_of};
 ghost use Rattle.pbd_step.specs.Settling.{LetGo};
 
+use crate::bonds::are_none;
 use crate::state::{Running, Setting};
 use pbd_colour::Colouring;
 use pbd_pair::Projector;
@@ -65,17 +66,18 @@ pub(crate) fn rub_and_tear<const L: usize, P: Projector<L> + Drop, G: Ledger>(
         &mut run.state.totals,
         steps,
     );
+    let with_tear_length = run.scratch.with_tear_length.as_slice();
     find_torn(
         &run.state.store,
         &run.state.links,
+        with_tear_length,
         &mut run.scratch.numbers,
         steps,
     );
-    tear(
-        &mut run.state.links,
-        &mut run.colours,
-        run.scratch.numbers.as_slice(),
-    );
+    let torn = run.scratch.numbers.as_slice();
+    tear(&mut run.state.links, &mut run.colours, torn);
+    let none_tore = are_none(torn);
+    run.scratch.are_links_laid = run.scratch.are_links_laid & none_tore;
     run.state.steps += 1;
     run.state.contacts = contacts;
 }

@@ -112,6 +112,7 @@ impl<const L: usize, P: Projector<L> + Drop> Solver<L, P> {
         ensures copies { self.new.copies ≡ self.old.copies }
         ensures cost { steps.new ≤ steps.old + 2 }
     {
+        self.run.scratch.are_links_laid = false;
         pin(&self.setting, &mut self.run.state, i, steps)
     }
 
@@ -125,6 +126,7 @@ impl<const L: usize, P: Projector<L> + Drop> Solver<L, P> {
         ensures copies { self.new.copies ≡ self.old.copies }
         ensures cost { steps.new ≤ steps.old + 2 }
     {
+        self.run.scratch.are_links_laid = false;
         unpin(&self.setting, &mut self.run.state, i, steps)
     }
 
@@ -155,6 +157,7 @@ impl<const L: usize, P: Projector<L> + Drop> Solver<L, P> {
         ensures projector { self.new.projector ≡ self.old.projector }
         ensures copies { self.new.copies ≡ self.old.copies }
     {
+        self.run.scratch.are_links_laid = false;
         cut(&self.setting, &mut self.run.state, &mut self.run.colours, l)
     }
 

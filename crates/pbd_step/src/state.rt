@@ -40,9 +40,13 @@ pub struct Scratch {
     pub(crate) touched: Touched,
     pub(crate) pairs: RoomList<(u32, u32)>,
     pub(crate) numbers: RoomList<u32>,
+    /// The numbers of the links with a tear length.
+    pub(crate) with_tear_length: RoomList<u32>,
     /// The live links, and the contacts, as they are projected.
     pub(crate) laid_links: BondColumns,
     pub(crate) laid_contacts: BondColumns,
+    /// Whether the live links are laid as they are now. What lets a link go, holds a particle or frees one says no here.
+    pub(crate) are_links_laid: bool,
 }
 
 /// A state, and what its steps work with.

@@ -74,7 +74,12 @@ fn finish<const L: usize, P: Projector<L> + Drop, G: Ledger>(
     ensures cost { steps.new
         ≤ steps.old + finishing_work L (P.width run.old.projector) (world_of setting.now run.old.state) run.old.scratch.found.pairs }
 {
-    lay_links(&run.state, &run.colours, &mut run.scratch.laid_links);
+    lay_links(
+        &run.state,
+        &run.colours,
+        &mut run.scratch.laid_links,
+        &mut run.scratch.are_links_laid,
+    );
     lay_contacts(
         setting.thickness,
         &run.state,

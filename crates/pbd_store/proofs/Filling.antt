@@ -1,4 +1,4 @@
-use Rattle.std.proofs.Common.{◌≡◌, ℕ, ◌<◌, ◌≤◌, List, length, get_or, slice_set, replicate, ◌+◌, ◌∙◌, sym, ap, refl, arith, Bool, true}
+use Rattle.std.proofs.Common.{◌≡◌, ℕ, ◌<◌, ◌≤◌, List, length, get_or, slice_set, replicate, ◌+◌, ◌∙◌, sym, ap, arith, Bool, true}
 use Rattle.std.proofs.Common.{false, ◌&&◌, nat_lt}
 use Rattle.std.proofs.lemmas.Bool.{lt-ltb}
 use Rattle.std.proofs.lemmas.List.{length-set, length-replicate, get_or-replicate}

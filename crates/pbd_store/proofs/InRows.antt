@@ -8,7 +8,7 @@ use Rattle.pbd_world.specs.declared.parts.Particle.{Particle}
 use Rattle.pbd_store.specs.declared.rows.Place.{Place}
 use Rattle.pbd_store.specs.InRows.{row_of, place_in_row, places_in, AreFlat}
 use Rattle.pbd_store.specs.Listed.{place_at}
-use Rattle.pbd_store.proofs.Listing.{padded_past}
+use Rattle.pbd_store.proofs.Listing.{any_default, padded_past}
 
 zeros : (n : ℕ) → places_in (replicate n (row_of zero_vector)) ≡ replicate n zero_vector
 zeros zero = refl
@@ -37,6 +37,15 @@ module _ (rows : List Place) {vs : List Vec3} (e : places_in rows ≡ vs) where
       ∙ sym (get_or-map (λ (q : Place). place_in_row q) rows i p zero_vector
       (omega (arith, h, ap (λ (ws : List Vec3). length ws) e, length-map rows (λ (q : Place). place_in_row q))))
       ∙ ap (λ (ws : List Vec3). place_at ws i) e
+
+  -- the same with the number that is spare
+  pub row_read : AreFlat rows → (i : ℕ) (p : Place) → p ≡ get_or rows i p → i < length vs → p ≡ row_of (place_at vs i)
+  row_read flat i p ep h =
+      let near : i < length rows
+      = omega (arith, h, ap (λ (ws : List Vec3). length ws) e, length-map rows (λ (q : Place). place_in_row q)) in
+      let spare : p.spare ≡ pos 0
+      = ap (λ (q : Place). q.spare) (ep ∙ any_default rows i p (row_of zero_vector) near) ∙ flat.each i in
+      (λ t. record p { spare = spare t }) ∙ ap (λ (v : Vec3). row_of v) (place_read i p ep h)
 
   -- a row that was written
   pub place_written : (i : ℕ) (p : Place) (v : Vec3) → p ≡ row_of v → places_in (slice_set rows i p) ≡ slice_set vs i v

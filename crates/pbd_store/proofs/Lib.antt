@@ -10,3 +10,7 @@ pub mod Starts
 pub mod Fixed
 pub mod Saves
 pub mod Places
+pub mod Reaching
+pub mod Axes
+pub mod Flights
+pub mod Landed

@@ -1,11 +1,13 @@
 -- Limits, and what is within them.
 use Rattle.std.proofs.Common.{◌≡◌, refl, sym, ap, ◌∙◌, ◌≤◌, ◌^◌, ◌||◌, Bool, true, false, List, arith, ℤ, pos, ◌≤ℤ◌, unsigned_abs, IsTrue}
+use Rattle.std.proofs.Common.{subst, w64, of_z, to_z}
 use Rattle.std.specs.Ordering.{int_eq}
-use Rattle.std.proofs.lemmas.Int.{ints}
+use Rattle.std.proofs.lemmas.Int.{ints, to_z-of_z}
 use Rattle.std.proofs.lemmas.Bool.{and_parts}
 use Rattle.std.proofs.lemmas.Bool.Decides.{Decides-int_eq}
 use Rattle.std.proofs.lemmas.List.Sums.{AllPass-from_list_all}
 use Rattle.pbd_num.proofs.Ranges.{within_facts}
+use Rattle.pbd_num.proofs.Sizes.{fits}
 use Rattle.pbd_world.specs.declared.parts.Particle.{Particle}
 use Rattle.pbd_world.specs.Particles.{no_particle}
 use Rattle.pbd_world.specs.Valid.{is_limit, is_valid_particle, are_valid_particles}
@@ -19,6 +21,15 @@ limit_size n h = by (int_eq n (pos (2 ^ 28))) refl
         (omega (arith, ints), omega (arith, ap unsigned_abs small))
     by false e = let large : n ≡ pos (2 ^ 29) = (Decides-int_eq n (pos (2 ^ 29))).0
         (ap (λ (b : Bool). b || int_eq n (pos (2 ^ 29))) (sym e) ∙ h) in (omega (arith, ints), omega (arith, ap unsigned_abs large))
+
+-- the same of a limit that was read from its bits
+pub read_limit : (n : ℤ) → IsTrue (is_limit n) → (pos 0 ≤ℤ to_z w64 (of_z w64 n)) × (unsigned_abs (to_z w64 (of_z w64 n)) ≤ 2 ^ 30)
+read_limit n h =
+    let size = limit_size n h in
+    let e = to_z-of_z w64 n (fits n (omega (arith, size.1))) in (
+      subst (λ (z : ℤ). pos 0 ≤ℤ z) (sym e) size.0,
+      omega (arith, ap (λ (z : ℤ). unsigned_abs z) e, size.1),
+    )
 
 -- what is within a limit is in the range of both
 pub inside_both : (limit : ℤ) (ps : List Particle) → IsTrue (is_limit limit) → AreInside limit ps → AreInside (pos (2 ^ 29)) ps

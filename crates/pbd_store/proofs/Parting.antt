@@ -5,16 +5,22 @@ use Rattle.std.specs.Prelude.{Result, Ok, Err, MatchResult}
 use Rattle.std.proofs.lemmas.Bool.{and_from}
 use Rattle.std.proofs.Math.Seq.{map-set_same}
 use Rattle.pbd_num.proofs.Ranges.{within_facts}
-use Rattle.pbd_num.proofs.Sizes.{size-add}
+use Rattle.pbd_num.proofs.Sizes.{size-add, size-neg}
 use Rattle.pbd_num.specs.declared.Vec3.{Vec3}
-use Rattle.pbd_num.specs.declared.row.Row.{Row}
-use Rattle.pbd_num.specs.Vectors.{Within, is_within, plus, zero_vector}
+use Rattle.pbd_num.specs.Vectors.{Within, is_within, opposite, plus, zero_vector}
 use Rattle.pbd_world.specs.declared.parts.Particle.{Particle}
 use Rattle.pbd_world.specs.Particles.{particle_at, no_particle, placed}
+use Rattle.pbd_world.specs.Valid.{is_limit}
 use Rattle.pbd_store.specs.Gathering.{index_at}
-use Rattle.pbd_store.specs.Moving.{fixed_parts}
+use Rattle.pbd_store.specs.Moving.{fixed_parts, AreInside}
 use Rattle.pbd_store.specs.declared.pairs.Pairs.{Pairs}
-use Rattle.pbd_store.specs.Pairs.{ArePairs, PairsApart, Parted, EachMoved, LeavesAt, OutsideAt, IsSized, ends_within, stays}
+use Rattle.pbd_store.specs.declared.reach.Reach.{Reach}
+use Rattle.pbd_store.specs.declared.rows.Place.{Place}
+use Rattle.pbd_store.specs.InRows.{place_in_row, row_of}
+use Rattle.pbd_store.specs.Pairs.{ArePairs, PairsApart, Parted, EachMoved, LeavesAt, OutsideAt, ends_within, stays}
+use Rattle.pbd_store.specs.Reaching.{Covers}
+use Rattle.pbd_store.specs.Stored.{Stored}
+use Rattle.pbd_store.proofs.Limits.{inside_both}
 use Rattle.pbd_store.proofs.Scattering.{placed_same, placed_other, length-placed, split_below}
 
 pub placed_fixed : (ps : List Particle) (i : ℕ) (v : Vec3) → fixed_parts (placed ps i v) ≡ fixed_parts ps
@@ -90,69 +96,112 @@ module _ (pairs : Pairs) (n : ℕ) (f s : ℕ → Vec3) (old new : List Particle
               ∙ h.others i (λ k q e. nf k (omega arith) e) (λ k q e. ns k (omega arith) e);
         }
 
--- pairs of which the first j are pulled, with the greatest sizes of their new places
-pub record Pulled (j : ℕ) (first second : List ℕ) (f s : ℕ → Vec3) (sizes : Row) (old new : List Particle) : Type 0 where
+-- pairs of which the first j are pulled, with the reach of their new places
+pub record Pulled (j : ℕ) (first second : List ℕ) (f s : ℕ → Vec3) (reach : Reach) (limit : ℤ) (old new : List Particle) : Type 0 where
   pub done : Parted j first second f s old new
-  pub first_sizes : (k : ℕ) → k < j → IsSized sizes (plus (particle_at old (index_at first k)).at (f k))
-  pub second_sizes : (k : ℕ) → k < j → IsSized sizes (plus (particle_at old (index_at second k)).at (s k))
+  pub first_covered : (k : ℕ) → k < j → Covers reach limit (plus (particle_at old (index_at first k)).at (f k))
+  pub second_covered : (k : ℕ) → k < j → Covers reach limit (plus (particle_at old (index_at second k)).at (s k))
   pub fixed : fixed_parts new ≡ fixed_parts old
 
-pub pulled_none : (first second : List ℕ) (f s : ℕ → Vec3) (sizes : Row) (ps : List Particle) → Pulled 0 first second f s sizes ps ps
-pulled_none first second f s sizes ps = record {
+pub pulled_none : (first second : List ℕ) (f s : ℕ → Vec3) (reach : Reach) (limit : ℤ) (ps : List Particle)
+    → Pulled 0 first second f s reach limit ps ps
+pulled_none first second f s reach limit ps = record {
   done = parted_none first second f s ps;
-  first_sizes = λ k h. absurd (omega arith);
-  second_sizes = λ k h. absurd (omega arith);
+  first_covered = λ k h. absurd (omega arith);
+  second_covered = λ k h. absurd (omega arith);
   fixed = refl;
 }
 
-module _ (pairs : Pairs) (n : ℕ) (f s : ℕ → Vec3) (sizes : Row) (old new : List Particle) (j : ℕ)
-    (h : Pulled j pairs.first.now pairs.second.now f s sizes old new) (p : j < n) (are : ArePairs n (length old) pairs)
+module _ (pairs : Pairs) (n : ℕ) (f s : ℕ → Vec3) (reach : Reach) (limit : ℤ) (old new : List Particle) (j : ℕ)
+    (h : Pulled j pairs.first.now pairs.second.now f s reach limit old new) (p : j < n) (are : ArePairs n (length old) pairs)
     (apart : PairsApart n pairs) where
   -- one pair more
-  pub pulled_more : (v w first second : Vec3) (then next : List Particle) (mid after : Row) → v ≡ f j → w ≡ s j
-      → then ≡ placed new (index_at pairs.first.now j) (plus (particle_at new (index_at pairs.first.now j)).at v)
-      → next ≡ placed then (index_at pairs.second.now j) (plus (particle_at then (index_at pairs.second.now j)).at w)
-      → first ≡ plus (particle_at new (index_at pairs.first.now j)).at v
-      → second ≡ plus (particle_at then (index_at pairs.second.now j)).at w
-      → ((u : Vec3) → IsSized sizes u → IsSized mid u) → IsSized mid first → ((u : Vec3) → IsSized mid u → IsSized after u)
-      → IsSized after second
-      → Pulled (j + 1) pairs.first.now pairs.second.now f s after old next
-  pulled_more v w first second then next mid after ev ew et en ef es k o l q =
+  pub pulled_more : (first second : Vec3) (then next : List Particle) (mid after : Reach)
+      → then ≡ placed new (index_at pairs.first.now j) first → next ≡ placed then (index_at pairs.second.now j) second
+      → first ≡ plus (particle_at new (index_at pairs.first.now j)).at (f j)
+      → second ≡ plus (particle_at then (index_at pairs.second.now j)).at (s j)
+      → ((u : Vec3) → Covers reach limit u → Covers mid limit u) → Covers mid limit first
+      → ((u : Vec3) → Covers mid limit u → Covers after limit u) → Covers after limit second
+      → Pulled (j + 1) pairs.first.now pairs.second.now f s after limit old next
+  pulled_more first second then next mid after et en ef es k o l q =
       let a = index_at pairs.first.now j in
       let b = index_at pairs.second.now j in
-      let goal = plus (particle_at new a).at v in
       let still = first_still pairs n f s old new j h.done p are apart in
       let then_still : particle_at then b ≡ particle_at old b = ap (λ (ps : List Particle). particle_at ps b) et
-      ∙ second_then pairs n f s old new j h.done p are apart goal in
-      let goal_is : goal ≡ plus (particle_at old a).at (f j) = λ t. plus (still t).at (ev t) in
-      let end_is : plus (particle_at then b).at w ≡ plus (particle_at old b).at (s j) = λ t. plus (then_still t).at (ew t) in
-      let last : next ≡ placed (placed new a goal) b (plus (particle_at then b).at w) = en
-      ∙ (λ t. placed (et t) b (plus (particle_at then b).at w)) in
+      ∙ second_then pairs n f s old new j h.done p are apart first in
+      let first_is : first ≡ plus (particle_at old a).at (f j) = ef ∙ (λ t. plus (still t).at (f j)) in
+      let second_is : second ≡ plus (particle_at old b).at (s j) = es ∙ (λ t. plus (then_still t).at (s j)) in
+      let last : next ≡ placed (placed new a first) b second = en ∙ (λ t. placed (et t) b second) in
       record {
         done = subst (λ (ps : List Particle). Parted (j + 1) pairs.first.now pairs.second.now f s old ps) (sym last)
-            (parted_more pairs n f s old new j h.done p are apart goal (plus (particle_at then b).at w) goal_is end_is);
-        first_sizes = λ m r. elim (split_below m j r) [
-          | inl i ↦ l _ (k _ (h.first_sizes m i))
-          | inr e ↦ subst (λ (i : ℕ). IsSized after (plus (particle_at old (index_at pairs.first.now i)).at (f i))) (sym e)
-              (l _ (subst (λ (u : Vec3). IsSized mid u) (ef ∙ goal_is) o))
+            (parted_more pairs n f s old new j h.done p are apart first second first_is second_is);
+        first_covered = λ m r. elim (split_below m j r) [
+          | inl i ↦ l _ (k _ (h.first_covered m i))
+          | inr e ↦ subst (λ (i : ℕ). Covers after limit (plus (particle_at old (index_at pairs.first.now i)).at (f i))) (sym e)
+              (l _ (subst (λ (u : Vec3). Covers mid limit u) first_is o))
         ];
-        second_sizes = λ m r. elim (split_below m j r) [
-          | inl i ↦ l _ (k _ (h.second_sizes m i))
-          | inr e ↦ subst (λ (i : ℕ). IsSized after (plus (particle_at old (index_at pairs.second.now i)).at (s i))) (sym e)
-              (subst (λ (u : Vec3). IsSized after u) (es ∙ end_is) q)
+        second_covered = λ m r. elim (split_below m j r) [
+          | inl i ↦ l _ (k _ (h.second_covered m i))
+          | inr e ↦ subst (λ (i : ℕ). Covers after limit (plus (particle_at old (index_at pairs.second.now i)).at (s i))) (sym e)
+              (subst (λ (u : Vec3). Covers after limit u) second_is q)
         ];
-        fixed = ap (λ (ps : List Particle). fixed_parts ps) en ∙ placed_fixed then b (plus (particle_at then b).at w)
-            ∙ ap (λ (ps : List Particle). fixed_parts ps) et ∙ placed_fixed new a goal ∙ h.fixed;
+        fixed = ap (λ (ps : List Particle). fixed_parts ps) en ∙ placed_fixed then b second
+            ∙ ap (λ (ps : List Particle). fixed_parts ps) et ∙ placed_fixed new a first ∙ h.fixed;
       }
 
+-- a row that is the place of a particle which is as it was
+row_within : {r : Place} {p q : Particle} {bound : ℕ} → r ≡ row_of p.at → p ≡ q → Within bound q.at → Within bound (place_in_row r)
+row_within {bound = bound} e still h = subst (λ (v : Vec3). Within bound v)
+    (sym (ap (λ (r : Place). place_in_row r) e ∙ ap (λ (p : Particle). p.at) still)) h
+
+pub opposite_within : {v : Vec3} {bound : ℕ} → Within bound v → Within bound (opposite v)
+opposite_within {v} h = record {
+  x = omega (arith, size-neg v.x, h.x);
+  y = omega (arith, size-neg v.y, h.y);
+  z = omega (arith, size-neg v.z, h.z);
+}
+
 -- a short way from a place within the range
-pub stepped_within : {u v r : Vec3} → Within (2 ^ 29) u → Within (2 ^ 16) v → r ≡ plus u v → Within (2 ^ 30) r
-stepped_within {u} {v} hu hv e = subst (λ (r : Vec3). Within (2 ^ 30) r) (sym e)
+pub stepped_within : {u v r : Vec3} → Within (2 ^ 29) u → Within (2 ^ 16) v → r ≡ plus u v → Within (2 ^ 62) r
+stepped_within {u} {v} hu hv e = subst (λ (r : Vec3). Within (2 ^ 62) r) (sym e)
     (record {
       x = omega (arith, size-add u.x v.x, hu.x, hv.x);
       y = omega (arith, size-add u.y v.y, hu.y, hv.y);
       z = omega (arith, size-add u.z v.z, hu.z, hv.z);
     })
+
+-- what a store is seen as
+abbrev stored : List Particle → ℤ → ℕ → Stored
+stored particles limit copies = record { particles = particles; limit = limit; copies = copies }
+
+-- the ends of the pair whose turn it is are within the range
+module _ {pairs : Pairs} {f s : ℕ → Vec3} {reach : Reach} {limit : ℤ} {old new : List Particle} {copies j : ℕ} {start : Stored}
+    (seen : stored old limit copies ≡ start) (l : IsTrue (is_limit limit))
+    (are : ArePairs (length pairs.first.now) (length start.particles) pairs) (apart : PairsApart (length pairs.first.now) pairs)
+    (inside : AreInside start.limit start.particles) (h : Pulled j pairs.first.now pairs.second.now f s reach limit old new)
+    (p : j < length pairs.first.now) where
+  pairs_here : ArePairs (length pairs.first.now) (length old) pairs
+  pairs_here = subst (λ (s : Stored). ArePairs (length pairs.first.now) (length s.particles) pairs) (sym seen) are
+
+  inside_here : AreInside (pos (2 ^ 29)) old
+  inside_here = inside_both limit old l (subst (λ (s : Stored). AreInside s.limit s.particles) (sym seen) inside)
+
+  pub first_in : {r : Place} → r ≡ row_of (particle_at new (index_at pairs.first.now j)).at → Within (2 ^ 29) (place_in_row r)
+  first_in e = row_within e (first_still pairs (length pairs.first.now) f s old new j h.done p pairs_here apart)
+      (inside_here.each (index_at pairs.first.now j) (pairs_here.first j p))
+
+  module _ {then : List Particle} (v : Vec3) (et : then ≡ placed new (index_at pairs.first.now j) v) where
+    pub second_in : {r : Place} → r ≡ row_of (particle_at then (index_at pairs.second.now j)).at → Within (2 ^ 29) (place_in_row r)
+    second_in e = row_within e (ap (λ (ps : List Particle). particle_at ps (index_at pairs.second.now j)) et
+        ∙ second_then pairs (length pairs.first.now) f s old new j h.done p pairs_here apart v)
+        (inside_here.each (index_at pairs.second.now j) (pairs_here.second j p))
+
+    pub second_near : index_at pairs.second.now j < length then
+    second_near = omega (
+      arith,
+      second_place pairs (length pairs.first.now) f s old new j h.done p pairs_here apart v,
+      ap (λ (ps : List Particle). length ps) et,
+    )
 
 -- two places within the limit pass its test
 pub both_stay : (limit : ℤ) (v w : Vec3) → pos 0 ≤ℤ limit → Within (unsigned_abs limit) v → Within (unsigned_abs limit) w

@@ -5,5 +5,7 @@ pub mod InRows
 pub mod Fields
 pub mod Listed
 pub mod Writing
+pub mod Reaching
 pub mod Moving
+pub mod Flying
 pub mod Pairs

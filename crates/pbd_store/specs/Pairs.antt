@@ -1,5 +1,5 @@
 -- Pairs of particles: what lies between their ends, and how the ends move.
-use Rattle.std.specs.Prelude.{◌≡◌, ℕ, ◌^◌, ◌<◌, ◌≤◌, ℤ, pos, ◌≤ℤ◌, unsigned_abs, List, length, slice_index_or, Bool, false, IsTrue, ◌&&◌}
+use Rattle.std.specs.Prelude.{◌≡◌, ℕ, ◌^◌, ◌<◌, ◌≤◌, ℤ, pos, List, length, slice_index_or, Bool, false, IsTrue, ◌&&◌}
 use Rattle.pbd_num.specs.declared.Vec3.{Vec3}
 use Rattle.pbd_num.specs.declared.row.Row.{Row}
 use Rattle.pbd_num.specs.Rows.{vector_of, no_row}
@@ -48,12 +48,6 @@ pub record AreBetween (n : ℕ) (ps : List Particle) (first second : List ℕ) (
       → slice_index_or between.first_weight j (pos 0) ≡ pos (effective_weight (particle_at ps (index_at first j)))
   pub second_weights : (j : ℕ) → j < n
       → slice_index_or between.second_weight j (pos 0) ≡ pos (effective_weight (particle_at ps (index_at second j)))
-
--- the axes of a place are at most these in size
-pub record IsSized (sizes : Row) (place : Vec3) : Type 0 where
-  pub x : pos (unsigned_abs place.x) ≤ℤ sizes.x
-  pub y : pos (unsigned_abs place.y) ≤ℤ sizes.y
-  pub z : pos (unsigned_abs place.z) ≤ℤ sizes.z
 
 -- n rows or more, the first n of them with axes of at most 2^16 and flag 0
 pub record AreShort (n : ℕ) (rows : List Row) : Type 0 where

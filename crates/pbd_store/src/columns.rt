@@ -1,16 +1,16 @@
 // The particles as columns.
-ghost use Rattle.std.specs.Prelude.{◌≡◌, ℕ, ◌<◌, ◌≤◌, ◌^◌, ◌+◌, ◌++◌, ◌&&◌, pos, false, length, map, replicate, slice_index, slice_index_or, slice_set, IfOk, IsTrue, vec_len, if◌then◌else◌, nat_lt};
-ghost use Rattle.pbd_num.specs.Rows.{vector_of};
-ghost use Rattle.pbd_num.specs.Vectors.{Within, plus, zero_vector};
+ghost use Rattle.std.specs.Prelude.{◌≡◌, ℕ, ◌<◌, ◌≤◌, ◌+◌, ◌++◌, ◌&&◌, pos, false, length, map, replicate, slice_index, slice_index_or, slice_set, IfOk, IsTrue, vec_len, if◌then◌else◌, nat_lt};
+ghost use Rattle.pbd_num.specs.Vectors.{zero_vector};
 ghost use Rattle.pbd_lanes.specs.Lane.{is_set, lanes_of};
 ghost use Rattle.pbd_world.specs.Particles.{particle_at, placed, effective_weight};
 ghost use Rattle.pbd_store.specs.Blocks.{place_of, Saved};
 ghost use Rattle.pbd_store.specs.Gathering.{index_at, gathered};
+ghost use Rattle.pbd_store.specs.InRows.{place_in_row, row_of};
 
 use crate::lanes3::{Ends, Lanes3};
-use crate::rows::{PlaceKind, PlaceRows, padded};
+use crate::rows::{Place, PlaceKind, PlaceRows, padded};
 use pbd_lanes::{Lanes, Mask};
-use pbd_num::{Row, Vec3};
+use pbd_num::Vec3;
 use pbd_world::Particle;
 use std::alloc::{AllocError, Global};
 use std::marker::Model;
@@ -19,11 +19,11 @@ use std::marker::Model;
 /// Each column has L zeros at its end, so that every block is whole.
 #[derive(Drop)]
 pub(crate) struct Columns<const L: usize> {
-    count: usize,
-    at: PlaceRows,
-    before: PlaceRows,
+    pub(crate) count: usize,
+    pub(crate) at: PlaceRows,
+    pub(crate) before: PlaceRows,
     weight: Vec<u16>,
-    held: Vec<bool>,
+    pub(crate) held: Vec<bool>,
     /// The weight, and 0 where the particle is held.
     effective: Vec<u16>,
 }
@@ -52,7 +52,8 @@ fn flags_of(alloc: Global, particles: &[Particle]) -> Result<Vec<bool>, AllocErr
     particles.iter().map(|p| p.held).collect(alloc)
 }
 
-fn effective_weight_of(particle: Particle) -> u16
+/// What a particle weighs for a bond: nothing where it is held.
+pub fn effective_weight_of(particle: Particle) -> u16
     ensures { result ≡ effective_weight particle }
 {
     if particle.held { 0 } else { particle.weight }
@@ -202,15 +203,13 @@ impl<const L: usize> Columns<L> {
         }
     }
 
-    /// The place of a particle in numbers of 32 bits.
+    /// The place of a particle as a row.
     #[inline(always)]
-    pub(crate) fn narrow(&self, i: u32) -> Row
-        requires some { i < length self.now }
-        requires within { Within (2 ^ 30) (particle_at self.now i).at }
-        ensures place { vector_of result ≡ (particle_at self.now i).at }
-        ensures flag { result.flag ≡ pos 0 }
+    pub(crate) fn place_row(&self, i: u32) -> Place
+        requires { i < length self.now }
+        ensures { result ≡ row_of (particle_at self.now i).at }
     {
-        self.at.narrow(i as usize)
+        self.at.row(i as usize)
     }
 
     /// The effective weight of a particle.
@@ -222,18 +221,14 @@ impl<const L: usize> Columns<L> {
         i32::from(self.effective[i as usize])
     }
 
-    /// Moves a particle by a short way, and gives its new place.
+    /// Moves a particle to the place in a row.
     #[inline(always)]
-    pub(crate) fn step(&mut self, i: u32, way: Row) -> Row
+    pub(crate) fn set_place_row(&mut self, i: u32, row: Place)
         requires some { i < length self.old }
-        requires place { Within (2 ^ 29) (particle_at self.old i).at }
-        requires way { Within (2 ^ 16) (vector_of way) }
-        requires flag { way.flag ≡ pos 0 }
-        ensures particles { self.new ≡ placed self.old i (plus (particle_at self.old i).at (vector_of way)) }
-        ensures place { vector_of result ≡ plus (particle_at self.old i).at (vector_of way) }
-        ensures flag { result.flag ≡ pos 0 }
+        requires spare { row.spare ≡ pos 0 }
+        ensures { self.new ≡ placed self.old i (place_in_row row) }
     {
-        self.at.step(i as usize, way)
+        self.at.set_row(i as usize, row);
     }
 
     #[inline(always)]

@@ -2,14 +2,19 @@
 #![tactic(auto)]
 
 mod columns;
+mod flight;
+mod fly;
 mod lanes3;
 mod laws;
 mod pairs;
+mod reach;
 mod rows;
 mod span;
 mod steps;
 mod store;
 
+pub use columns::effective_weight_of;
+pub use flight::{Air, Flown};
 pub use lanes3::{Block, Ends, Lanes3};
 pub use laws::valid_particles_are_inside;
 pub use pairs::{Between, EndMoves, Pairs};

@@ -1,14 +1,14 @@
 //! Pairs of particles: what lies between their ends, and how the ends move.
-ghost use Rattle.std.specs.Prelude.{◌≡◌, ℕ, ◌+◌, ◌-◌, ◌*◌, ◌^◌, ◌<◌, ◌≤◌, ◌≤ℤ◌, ◌-ℤ◌, ◌&&◌, if◌then◌else◌, pos, length, slice_index_or, unsigned_abs, IsTrue, MatchResult};
-ghost use Rattle.pbd_num.specs.Rows.{vector_of};
-ghost use Rattle.pbd_num.specs.Vectors.{Within, is_within, opposite, plus};
-ghost use Rattle.pbd_num.specs.declared.Vec3.{Vec3};
+ghost use Rattle.std.specs.Prelude.{◌≡◌, ℕ, ◌+◌, ◌-◌, ◌*◌, ◌^◌, ◌<◌, ◌≤◌, ◌≤ℤ◌, ◌&&◌, if◌then◌else◌, pos, length, slice_index_or, unsigned_abs, IsTrue, MatchResult};
+ghost use Rattle.pbd_num.specs.Vectors.{Within, is_within, plus};
 ghost use Rattle.pbd_world.specs.Particles.{particle_at, placed, effective_weight};
 ghost use Rattle.pbd_store.specs.Blocks.{blocks_of};
 ghost use Rattle.pbd_store.specs.Gathering.{index_at};
 ghost use Rattle.pbd_store.specs.Moving.{fixed_parts, AreInside};
-ghost use Rattle.pbd_store.specs.Pairs.{ArePairs, PairsApart, AreBetween, AreShort, AreMoves, Parted, EachMoved, LeavesAt, OutsideAt, IsWay, IsSized, row_in, ways_in, opposites_in, first_moves, second_moves, ends_within};
+ghost use Rattle.pbd_store.specs.Pairs.{ArePairs, PairsApart, AreBetween, AreShort, AreMoves, Parted, EachMoved, LeavesAt, OutsideAt, IsWay, row_in, ways_in, opposites_in, first_moves, second_moves, ends_within};
+ghost use Rattle.pbd_store.specs.Reaching.{Covers};
 
+use crate::reach::Reach;
 use crate::steps::Steps;
 use crate::store::Store;
 use pbd_num::{CHUNK, Row, Vec3, within};
@@ -22,7 +22,7 @@ pub struct Pairs<'a> {
 }
 
 /// What lies between the ends of up to 128 pairs.
-#[derive(Drop)]
+#[derive(Clone, Copy)]
 pub struct Between {
     /// The ways from the second ends to the first, with flag 0.
     pub ways: [Row; CHUNK],
@@ -58,97 +58,6 @@ fn accesses(n: usize, lanes: usize) -> u64
     ensures { result ≡ 2 * blocks_of n lanes }
 {
     2 * n.div_ceil(lanes) as u64
-}
-
-// The difference of two numbers.
-#[inline(always)]
-fn difference(a: i32, b: i32) -> i32
-    requires first { unsigned_abs a ≤ 2 ^ 29 }
-    requires second { unsigned_abs b ≤ 2 ^ 29 }
-    ensures { result ≡ a -ℤ b }
-{
-    a - b
-}
-
-// The way from the second place to the first.
-#[inline(always)]
-fn way_between(first: Row, second: Row) -> Row
-    requires first { Within (2 ^ 29) (vector_of first) }
-    requires second { Within (2 ^ 29) (vector_of second) }
-    requires first_flag { first.flag ≡ pos 0 }
-    requires second_flag { second.flag ≡ pos 0 }
-    ensures { IsWay result (vector_of first) (vector_of second) }
-{
-    Row {
-        x: difference(first.x, second.x),
-        y: difference(first.y, second.y),
-        z: difference(first.z, second.z),
-        flag: difference(first.flag, second.flag),
-    }
-}
-
-#[inline(always)]
-fn opposite_of(way: Row) -> Row
-    requires size { Within (2 ^ 16) (vector_of way) }
-    requires flag { way.flag ≡ pos 0 }
-    ensures way { vector_of result ≡ opposite (vector_of way) }
-    ensures size { Within (2 ^ 16) (vector_of result) }
-    ensures flag { result.flag ≡ pos 0 }
-{
-    Row {
-        x: -way.x,
-        y: -way.y,
-        z: -way.z,
-        flag: -way.flag,
-    }
-}
-
-// The greater of a size and that of an axis.
-#[inline(always)]
-fn greater_size(size: i32, axis: i32) -> i32
-    requires { unsigned_abs axis ≤ 2 ^ 30 }
-    ensures kept { (n : ℕ) → pos n ≤ℤ size → pos n ≤ℤ result }
-    ensures own { pos (unsigned_abs axis) ≤ℤ result }
-{
-    size.max(axis.abs())
-}
-
-// The greater of some sizes and those of a place.
-#[inline(always)]
-fn greater(sizes: Row, place: Row) -> Row
-    requires within { Within (2 ^ 30) (vector_of place) }
-    requires flag { place.flag ≡ pos 0 }
-    ensures kept { (v : Vec3) → IsSized sizes v → IsSized result v }
-    ensures own { IsSized result (vector_of place) }
-{
-    Row {
-        x: greater_size(sizes.x, place.x),
-        y: greater_size(sizes.y, place.y),
-        z: greater_size(sizes.z, place.z),
-        flag: greater_size(sizes.flag, place.flag),
-    }
-}
-
-// Whether all that is of this size is within the limit.
-#[inline(always)]
-fn is_size_within(size: i32, limit: i64) -> bool
-    requires { pos 0 ≤ℤ limit }
-    ensures { IsTrue result → (n : ℕ) → pos n ≤ℤ size → n ≤ unsigned_abs limit }
-{
-    i64::from(size) <= limit
-}
-
-// Whether places of these sizes are within the limit.
-#[inline(always)]
-fn are_within(sizes: Row, limit: i64) -> bool
-    requires { pos 0 ≤ℤ limit }
-    ensures { IsTrue result → (v : Vec3) → IsSized sizes v → Within (unsigned_abs limit) v }
-{
-    let x = is_size_within(sizes.x, limit);
-    let y = is_size_within(sizes.y, limit);
-    let z = is_size_within(sizes.z, limit);
-    let flag = is_size_within(sizes.flag, limit);
-    x & y & z & flag
 }
 
 // Where two moves lead.
@@ -191,10 +100,9 @@ impl<const L: usize> Store<L> {
             (particle_at self.now.particles (index_at pairs.entry.second.now j)).at }
     {
         for j in 0..pairs.first.len() {
-            let first = self.columns.narrow(pairs.first[j]);
-            let second = self.columns.narrow(pairs.second[j]);
-            let way = way_between(first, second);
-            between.ways[j] = way;
+            let first = self.columns.place_row(pairs.first[j]);
+            let second = self.columns.place_row(pairs.second[j]);
+            between.ways[j] = first.way_from(second);
         }
     }
 
@@ -215,10 +123,10 @@ impl<const L: usize> Store<L> {
         }
     }
 
-    // Moves the first ends by the opposite of `back`, and the second ends by `forth`, and tells the greatest sizes of
-    // the axes of the new places.
+    // Moves the first ends by the opposite of `back`, and the second ends by `forth`, and tells the reach of the new
+    // places.
     #[inline(always)]
-    fn pull_ends(&mut self, pairs: Pairs<'_>, back: &[Row], forth: &[Row]) -> Row
+    fn pull_ends(&mut self, pairs: Pairs<'_>, back: &[Row], forth: &[Row]) -> Reach
         requires lanes { L ≤ 16 }
         requires pairs { ArePairs (length pairs.first.now) (length self.old.particles) pairs }
         requires apart { PairsApart (length pairs.first.now) pairs }
@@ -229,21 +137,25 @@ impl<const L: usize> Store<L> {
             (opposites_in back.now) (ways_in forth.now)
             self.old.particles self.new.particles }
         ensures first { (j : ℕ) → j < length pairs.entry.first.now
-            → IsSized result (plus (particle_at self.old.particles (index_at pairs.entry.first.now j)).at (opposites_in back.now j)) }
+            → Covers result self.old.limit
+            (plus (particle_at self.old.particles (index_at pairs.entry.first.now j)).at (opposites_in back.now j)) }
         ensures second { (j : ℕ) → j < length pairs.entry.first.now
-            → IsSized result (plus (particle_at self.old.particles (index_at pairs.entry.second.now j)).at (ways_in forth.now j)) }
+            → Covers result self.old.limit
+            (plus (particle_at self.old.particles (index_at pairs.entry.second.now j)).at (ways_in forth.now j)) }
         ensures limit { self.new.limit ≡ self.old.limit }
         ensures copies { self.new.copies ≡ self.old.copies }
         ensures fixed { fixed_parts self.new.particles ≡ fixed_parts self.old.particles }
     {
-        let mut sizes = Row::ZERO;
+        let limit = self.limit;
+        let mut reach = Reach::NONE;
         for j in 0..pairs.first.len() {
-            let away = opposite_of(back[j]);
-            let first = self.columns.step(pairs.first[j], away);
-            let second = self.columns.step(pairs.second[j], forth[j]);
-            sizes = greater(greater(sizes, first), second);
+            let first = self.columns.place_row(pairs.first[j]).minus(back[j]);
+            self.columns.set_place_row(pairs.first[j], first);
+            let second = self.columns.place_row(pairs.second[j]).plus(forth[j]);
+            self.columns.set_place_row(pairs.second[j], second);
+            reach = reach.with(first, limit).with(second, limit);
         }
-        sizes
+        reach
     }
 
     // The first pair of which an end is outside the limit.
@@ -368,8 +280,8 @@ impl<const L: usize> Store<L> {
         ensures cost { steps.new ≡ steps.old + 2 * blocks_of (length pairs.entry.first.now) L }
     {
         steps.add(accesses(pairs.first.len(), L));
-        let sizes = self.pull_ends(pairs, back, forth);
-        if are_within(sizes, self.limit) {
+        let reach = self.pull_ends(pairs, back, forth);
+        if reach.is_within(self.limit) {
             return Ok(());
         }
         self.find_outside(pairs)

@@ -1,13 +1,14 @@
 // The places of all particles, each in a row of four numbers.
-ghost use Rattle.std.specs.Prelude.{◌≡◌, ℕ, ◌+◌, ◌++◌, ◌<◌, ◌≤◌, ◌^◌, pos, unsigned_abs, ◌+ℤ◌, length, map, replicate, slice_set, IfOk, IsTrue, if◌then◌else◌};
+ghost use Rattle.std.specs.Prelude.{◌≡◌, ℕ, ◌+◌, ◌++◌, ◌<◌, ◌≤◌, ◌^◌, pos, unsigned_abs, ◌+ℤ◌, ◌-ℤ◌, length, map, replicate, slice_set, IfOk, IsTrue, if◌then◌else◌};
 ghost use Rattle.pbd_num.specs.Rows.{vector_of};
-ghost use Rattle.pbd_num.specs.Vectors.{Within, plus, zero_vector};
+ghost use Rattle.pbd_num.specs.Vectors.{Within, minus, plus, zero_vector};
 ghost use Rattle.pbd_lanes.specs.Lane.{is_set, lanes_of};
 ghost use Rattle.pbd_store.specs.Blocks.{place_of};
 ghost use Rattle.pbd_store.specs.Fields.{place_of_kind};
 ghost use Rattle.pbd_store.specs.Gathering.{index_at};
 ghost use Rattle.pbd_store.specs.InRows.{place_in_row, row_of};
 ghost use Rattle.pbd_store.specs.Listed.{place_at};
+ghost use Rattle.pbd_store.specs.Pairs.{IsWay};
 ghost use Rattle.pbd_store.specs.Writing.{WrittenWhere};
 
 use crate::lanes3::Lanes3;
@@ -20,10 +21,10 @@ use std::marker::Model;
 /// A place in a row of four numbers, which a processor takes at once. The spare one is 0.
 #[derive(Clone, Copy)]
 pub(crate) struct Place {
-    x: i64,
-    y: i64,
-    z: i64,
-    spare: i64,
+    pub(crate) x: i64,
+    pub(crate) y: i64,
+    pub(crate) z: i64,
+    pub(crate) spare: i64,
 }
 
 // One axis of a place after a short way.
@@ -34,6 +35,26 @@ fn axis_after(axis: i64, way: i32) -> i64
     ensures { result ≡ axis +ℤ way }
 {
     axis + i64::from(way)
+}
+
+// One axis of a place before a short way.
+#[inline(always)]
+fn axis_before(axis: i64, way: i32) -> i64
+    requires axis { unsigned_abs axis ≤ 2 ^ 29 }
+    requires way { unsigned_abs way ≤ 2 ^ 16 }
+    ensures { result ≡ axis -ℤ way }
+{
+    axis - i64::from(way)
+}
+
+// One axis of the way to a place from another.
+#[inline(always)]
+fn axis_from(axis: i64, other: i64) -> i32
+    requires axis { unsigned_abs axis ≤ 2 ^ 29 }
+    requires other { unsigned_abs other ≤ 2 ^ 29 }
+    ensures { result ≡ axis -ℤ other }
+{
+    (axis - other) as i32
 }
 
 impl Place {
@@ -60,25 +81,26 @@ impl Place {
         }
     }
 
-    // The same numbers in 32 bits.
+    /// The way to this place from another.
     #[inline(always)]
-    fn narrow(self) -> Row
-        requires within { Within (2 ^ 30) (place_in_row self) }
+    pub(crate) fn way_from(self, other: Place) -> Row
+        requires place { Within (2 ^ 29) (place_in_row self) }
         requires spare { self.spare ≡ pos 0 }
-        ensures place { vector_of result ≡ place_in_row self }
-        ensures flag { result.flag ≡ pos 0 }
+        requires other { Within (2 ^ 29) (place_in_row other) }
+        requires other_spare { other.spare ≡ pos 0 }
+        ensures { IsWay result (place_in_row self) (place_in_row other) }
     {
         Row {
-            x: self.x as i32,
-            y: self.y as i32,
-            z: self.z as i32,
-            flag: self.spare as i32,
+            x: axis_from(self.x, other.x),
+            y: axis_from(self.y, other.y),
+            z: axis_from(self.z, other.z),
+            flag: axis_from(self.spare, other.spare),
         }
     }
 
-    // The place to which a short way leads.
+    /// The place to which a short way leads.
     #[inline(always)]
-    fn plus(self, way: Row) -> Place
+    pub(crate) fn plus(self, way: Row) -> Place
         requires place { Within (2 ^ 29) (place_in_row self) }
         requires spare { self.spare ≡ pos 0 }
         requires way { Within (2 ^ 16) (vector_of way) }
@@ -90,6 +112,23 @@ impl Place {
             y: axis_after(self.y, way.y),
             z: axis_after(self.z, way.z),
             spare: axis_after(self.spare, way.flag),
+        }
+    }
+
+    /// The place from which a short way leads here.
+    #[inline(always)]
+    pub(crate) fn minus(self, way: Row) -> Place
+        requires place { Within (2 ^ 29) (place_in_row self) }
+        requires spare { self.spare ≡ pos 0 }
+        requires way { Within (2 ^ 16) (vector_of way) }
+        requires flag { way.flag ≡ pos 0 }
+        ensures { result ≡ row_of (minus (place_in_row self) (vector_of way)) }
+    {
+        Place {
+            x: axis_before(self.x, way.x),
+            y: axis_before(self.y, way.y),
+            z: axis_before(self.z, way.z),
+            spare: axis_before(self.spare, way.flag),
         }
     }
 }
@@ -154,7 +193,7 @@ fn numbers_from<const L: usize>(start: usize) -> [usize; L]
 /// A list of places.
 #[derive(Drop)]
 pub(crate) struct PlaceRows {
-    rows: Vec<Place>,
+    pub(crate) rows: Vec<Place>,
 }
 
 impl Model for PlaceRows {
@@ -205,15 +244,13 @@ impl PlaceRows {
         self.rows[i].vector()
     }
 
-    /// The place at i in numbers of 32 bits.
+    /// The row of the place at i.
     #[inline(always)]
-    pub(crate) fn narrow(&self, i: usize) -> Row
-        requires some { i < length self.now }
-        requires within { Within (2 ^ 30) (place_at self.now i) }
-        ensures place { vector_of result ≡ place_at self.now i }
-        ensures flag { result.flag ≡ pos 0 }
+    pub(crate) fn row(&self, i: usize) -> Place
+        requires { i < length self.now }
+        ensures { result ≡ row_of (place_at self.now i) }
     {
-        self.rows[i].narrow()
+        self.rows[i]
     }
 
     /// Puts another place at i.
@@ -225,20 +262,14 @@ impl PlaceRows {
         self.rows[i] = Place::of(place);
     }
 
-    /// Moves the place at i by a short way, and gives the new place.
+    /// Puts another row at i.
     #[inline(always)]
-    pub(crate) fn step(&mut self, i: usize, way: Row) -> Row
+    pub(crate) fn set_row(&mut self, i: usize, row: Place)
         requires some { i < length self.old }
-        requires place { Within (2 ^ 29) (place_at self.old i) }
-        requires way { Within (2 ^ 16) (vector_of way) }
-        requires flag { way.flag ≡ pos 0 }
-        ensures places { self.new ≡ slice_set self.old i (plus (place_at self.old i) (vector_of way)) }
-        ensures place { vector_of result ≡ plus (place_at self.old i) (vector_of way) }
-        ensures flag { result.flag ≡ pos 0 }
+        requires spare { row.spare ≡ pos 0 }
+        ensures { self.new ≡ slice_set self.old i (place_in_row row) }
     {
-        let place = self.rows[i].plus(way);
-        self.rows[i] = place;
-        place.narrow()
+        self.rows[i] = row;
     }
 
     #[inline(always)]

@@ -1,6 +1,6 @@
 -- Torn numbers one by one, and valid links.
 use Rattle.std.proofs.Common.{◌≡◌, refl, sym, ap, ◌∙◌, ℕ, zero, suc, ◌+◌, ◌-◌, ◌*◌, ◌<◌, ◌≤◌, ◌^◌, ◌==◌, nat_lt, not, ◌&&◌, Bool, true}
-use Rattle.std.proofs.Common.{false, cond, List, [], ◌∷◌, ◌++◌, length, filter, get_or, drop, arith, ℤ, pos, ◌≤ℤ◌, ◌*ℤ◌, int_lt}
+use Rattle.std.proofs.Common.{false, cond, List, [], ◌∷◌, ◌++◌, length, filter, get_or, take, arith, ℤ, pos, ◌≤ℤ◌, ◌*ℤ◌, int_lt}
 use Rattle.std.proofs.Common.{unsigned_abs, IsTrue, inl, inr, append_assoc}
 use Rattle.std.specs.List.{list_any, range_with_len, AllByRecursion}
 use Rattle.std.specs.List.Sorted.{IsStrictlyIncreasing}
@@ -8,9 +8,11 @@ use Rattle.std.proofs.lemmas.List.Kept.{IsStrictlyIncreasing-filter}
 use Rattle.std.proofs.lemmas.List.FromFn.{length-range_with_len, get_or-range_with_len}
 use Rattle.pbd_world.proofs.KeepingOn.{all-at}
 use Rattle.std.proofs.lemmas.Int.{ints}
-use Rattle.std.proofs.lemmas.Bool.{and_parts, ltb-true, cases_eq, eq-eqb, ne_eqb}
+use Rattle.std.proofs.lemmas.Bool.{and_parts, ltb-true, cases_eq, eq-eqb, ne_eqb, false≢true}
 use Rattle.std.proofs.lemmas.Bool.Decides.{nat_tests}
-use Rattle.std.proofs.lemmas.List.{get_or-map, append-nil, length-append, at_drop_more}
+use Rattle.std.proofs.lemmas.List.{get_or-map, append-nil, length-append}
+use Rattle.std.proofs.lemmas.List.Elements.{filter_more}
+use Rattle.std.proofs.lemmas.List.Filters.{length-filter_both, length-filter_more}
 use Rattle.std.proofs.lemmas.List.Sums.{AllPass-from_list_all}
 use Rattle.pbd_num.specs.Vectors.{minus, squared_length}
 use Rattle.pbd_world.specs.declared.parts.Particle.{Particle}
@@ -20,10 +22,11 @@ use Rattle.pbd_world.specs.Particles.{particle_at}
 use Rattle.pbd_world.specs.Bonds.{link_at}
 use Rattle.pbd_world.specs.Step.{is_torn, tear}
 use Rattle.pbd_world.specs.Work.{tearable_count}
+use Rattle.pbd_world.proofs.OrderCounts.{kept_more}
 use Rattle.pbd_world.specs.Valid.{is_limit, is_between, is_valid_link, are_valid_links}
 use Rattle.pbd_store.proofs.Limits.{limit_size}
 use Rattle.pbd_store.proofs.Listing.{any_default}
-use Rattle.pbd_tear.specs.Tearing.{IsLink, AscendTo, torn_numbers, gone_numbers}
+use Rattle.pbd_tear.specs.Tearing.{IsLink, AscendTo, torn_numbers, numbers_with_tear_length, gone_numbers}
 
 -- ---- limits and links
 
@@ -61,24 +64,6 @@ pub never_torn : (ps : List Particle) (l : Link) → (l.live && int_lt (pos 0) l
 never_torn ps l may = sym (ap (λ (t : Bool). t && nat_lt (unsigned_abs l.tear * unsigned_abs l.tear)
     (squared_length (minus (particle_at ps l.a).at (particle_at ps l.b).at))) may)
 
--- of the links from i on, link i may tear, or not, and then the others
-tearable_more : (links : List Link) (i : ℕ) (d : Link) → i < length links
-    → 2 * tearable_count (drop i links) ≡ cond ((get_or links i d).live && int_lt (pos 0) (get_or links i d).tear) 2 0 + 2 * tearable_count
-    (drop (i + 1) links)
-tearable_more links i d lt = at_drop_more (λ ls. 2 * tearable_count ls) links i d lt
-    ∙ by ((get_or links i d).live && int_lt (pos 0) (get_or links i d).tear)
-    (filter {X = Link} (λ l. l.live && int_lt (pos 0) l.tear) (drop (i + 1) links))
-  where
-    by : (b : Bool) (rest : List Link) → 2 * length (cond b (get_or links i d ∷ rest) rest) ≡ cond b 2 0 + 2 * length rest
-    by true rest = omega arith
-    by false rest = omega arith
-
-pub cost_more : (begun old new : ℕ) (links : List Link) (i : ℕ) (d : Link) → i < length links
-    → new ≤ old + cond ((get_or links i d).live && int_lt (pos 0) (get_or links i d).tear) 2 0
-    → old + 2 * tearable_count (drop i links) ≤ begun + 2 * tearable_count links
-    → new + 2 * tearable_count (drop (i + 1) links) ≤ begun + 2 * tearable_count links
-cost_more begun old new links i d lt cost so_far = omega (arith, tearable_more links i d lt, cost, so_far)
-
 -- ---- numbers that pass a test, one by one
 
 -- the numbers so far, and those that pass among what is left, are all that pass
@@ -98,9 +83,9 @@ passing_more test n i so_far wanted lt e h = record { whole = rw e (by (test i) 
         rw (left, e) (append_assoc so_far (i ∷ []) (filter test (range_with_len (i + 1) (n - (i + 1)))))
     by false e = let left : n - i ≡ suc (n - (i + 1)) = omega (arith, lt) in rw (left, e) refl
 
-pub few_more : (wanted : Bool) (i : ℕ) (so_far : List ℕ) → length so_far ≤ i → length (cond wanted (so_far ++ i ∷ []) so_far) ≤ i + 1
-few_more true i so_far h = omega (arith, length-append so_far (i ∷ []), h)
-few_more false i so_far h = omega (arith, h)
+pub few_more : (wanted : Bool) (n i : ℕ) (so_far : List ℕ) → length so_far ≤ i → length (cond wanted (so_far ++ n ∷ []) so_far) ≤ i + 1
+few_more true n i so_far h = omega (arith, length-append so_far (n ∷ []), h)
+few_more false n i so_far h = omega (arith, h)
 
 passing_all : (test : ℕ → Bool) (n i : ℕ) (so_far : List ℕ) → n ≤ i → Passing test n i so_far → so_far ≡ filter test (range_with_len 0 n)
 passing_all test n i so_far le h =
@@ -135,26 +120,144 @@ pub gone_ascend : (links : List Link) → AscendTo (length links) (gone_numbers 
 unfolding gone_numbers
 gone_ascend links = ascends (λ i. not (link_at links i).live) (length links)
 
--- the torn numbers below i
-pub record TornSoFar (ps : List Particle) (links : List Link) (i : ℕ) (so_far : List ℕ) : Type 0 where
-  pub passing : Passing (λ n. is_torn ps (link_at links n)) (length links) i so_far
+-- the numbers below i of links that pass a test
+pub record Passed (test : Link → Bool) (links : List Link) (i : ℕ) (so_far : List ℕ) : Type 0 where
+  pub passing : Passing (λ n. test (link_at links n)) (length links) i so_far
 
-pub torn_none : (ps : List Particle) (links : List Link) → TornSoFar ps links 0 []
-torn_none ps links = record { passing = passing_none (λ n. is_torn ps (link_at links n)) (length links) }
+pub passed_none : (test : Link → Bool) (links : List Link) → Passed test links 0 []
+passed_none test links = record { passing = passing_none (λ n. test (link_at links n)) (length links) }
 
-pub torn_more : (ps : List Particle) (links : List Link) (i : ℕ) (so_far : List ℕ) (wanted : Bool) (d : Link) → i < length links
-    → wanted ≡ is_torn ps (get_or links i d) → TornSoFar ps links i so_far
-    → TornSoFar ps links (i + 1) (cond wanted (so_far ++ i ∷ []) so_far)
-torn_more ps links i so_far wanted d lt e h = record {
-  passing =
-      passing_more (λ n. is_torn ps (link_at links n)) (length links) i so_far wanted lt
-      (e ∙ ap (λ (l : Link). is_torn ps l) (any_default links i d _ lt)) h.passing;
+pub passed_more : (test : Link → Bool) (links : List Link) (i : ℕ) (so_far : List ℕ) (wanted : Bool) (d : Link) → i < length links
+    → wanted ≡ test (get_or links i d) → Passed test links i so_far → Passed test links (i + 1) (cond wanted (so_far ++ i ∷ []) so_far)
+passed_more test links i so_far wanted d lt e h = record {
+  passing = passing_more (λ n. test (link_at links n)) (length links) i so_far wanted lt (e ∙ ap test (any_default links i d _ lt)) h.passing;
 }
 
-pub torn_all : (ps : List Particle) (links : List Link) (i : ℕ) (so_far : List ℕ) → length links ≤ i → TornSoFar ps links i so_far
-    → so_far ≡ torn_numbers ps links
-unfolding torn_numbers
-torn_all ps links i so_far le h = passing_all (λ n. is_torn ps (link_at links n)) (length links) i so_far le h.passing
+-- ---- links that are live no longer, and links with a tear length
+
+abbrev pub is_gone : Link → Bool
+is_gone l = not l.live
+
+abbrev pub has_tear_length : Link → Bool
+has_tear_length l = int_lt (pos 0) l.tear
+
+pub gone_all : (links : List Link) (i : ℕ) (so_far : List ℕ) → length links ≤ i → Passed is_gone links i so_far
+    → so_far ≡ gone_numbers links
+unfolding gone_numbers
+gone_all links i so_far le h = passing_all (λ n. is_gone (link_at links n)) (length links) i so_far le h.passing
+
+pub with_tear_length_all : (links : List Link) (i : ℕ) (so_far : List ℕ) → length links ≤ i → Passed has_tear_length links i so_far
+    → so_far ≡ numbers_with_tear_length links
+unfolding numbers_with_tear_length
+with_tear_length_all links i so_far le h = passing_all (λ n. has_tear_length (link_at links n)) (length links) i so_far le h.passing
+
+pub with_tear_length_ascend : (links : List Link) → AscendTo (length links) (numbers_with_tear_length links)
+unfolding numbers_with_tear_length
+with_tear_length_ascend links = ascends (λ n. has_tear_length (link_at links n)) (length links)
+
+pub with_tear_length_few : (links : List Link) → length (numbers_with_tear_length links) ≤ length links
+unfolding numbers_with_tear_length
+with_tear_length_few links =
+    let test : ℕ → Bool = λ n. has_tear_length (link_at links n) in
+    let numbers = range_with_len 0 (length links) in
+    omega (arith, length-filter_both test (λ n. not (test n)) (λ n. refl) numbers, length-range_with_len 0 (length links))
+
+-- ---- torn links among those with a tear length
+
+-- what passes a test among those that pass a wider one
+filter_wider : (test wider : ℕ → Bool) → ((n : ℕ) → test n ≡ true → wider n ≡ true) → (ns : List ℕ)
+    → filter test (filter wider ns) ≡ filter test ns
+filter_wider test wider h [] = refl
+filter_wider test wider h (n ∷ ns) = by (wider n) (test n) refl (h n) (filter_wider test wider h ns)
+  where
+    by : (w t : Bool) → test n ≡ t → (t ≡ true → w ≡ true) → filter test (filter wider ns) ≡ filter test ns
+        → filter test (cond w (n ∷ filter wider ns) (filter wider ns)) ≡ cond t (n ∷ filter test ns) (filter test ns)
+    by true t e h same = ap (λ (b : Bool). cond b (n ∷ filter test (filter wider ns)) (filter test (filter wider ns))) e
+        ∙ ap (λ (ms : List ℕ). cond t (n ∷ ms) ms) same
+    by false true e h same = absurd (false≢true (h refl))
+    by false false e h same = same
+
+-- the numbers among some of the links that tear
+unfoldable pub torn_among : List Particle → List Link → List ℕ → List ℕ
+torn_among ps links numbers = filter (λ n. is_torn ps (link_at links n)) numbers
+
+-- how many links of some numbers may tear
+unfoldable pub tearable_among : List Link → List ℕ → ℕ
+tearable_among links numbers = length (filter (λ n. (link_at links n).live && int_lt (pos 0) (link_at links n).tear) numbers)
+
+pub torn_among_none : (ps : List Particle) (links : List Link) → torn_among ps links [] ≡ []
+unfolding torn_among
+torn_among_none ps links = refl
+
+pub torn_among_more : (ps : List Particle) (links : List Link) (numbers : List ℕ) (i : ℕ) (wanted : Bool) (d : Link) → i < length numbers
+    → get_or numbers i 0 < length links → wanted ≡ is_torn ps (get_or links (get_or numbers i 0) d)
+    → cond wanted (torn_among ps links (take i numbers) ++ get_or numbers i 0 ∷ []) (torn_among ps links (take i numbers))
+    ≡ torn_among ps links (take (i + 1) numbers)
+unfolding torn_among
+torn_among_more ps links numbers i wanted d lt known e =
+    let n = get_or numbers i 0 in
+    let torn = e ∙ ap (λ (l : Link). is_torn ps l) (any_default links n d _ known) in
+    by wanted (filter (λ m. is_torn ps (link_at links m)) (take i numbers))
+    ∙ ap (λ (b : Bool). filter (λ m. is_torn ps (link_at links m)) (take i numbers) ++ cond b (n ∷ []) []) torn
+    ∙ sym (filter_more (λ m. is_torn ps (link_at links m)) numbers i 0 lt)
+  where
+    by : (b : Bool) (so_far : List ℕ) → cond b (so_far ++ get_or numbers i 0 ∷ []) so_far ≡ so_far ++ cond b (get_or numbers i 0 ∷ []) []
+    by true so_far = refl
+    by false so_far = sym (append-nil so_far)
+
+-- those of all numbers with a tear length are all that tear
+pub torn_among_all : (ps : List Particle) (links : List Link) → torn_among ps links (numbers_with_tear_length links) ≡ torn_numbers ps links
+unfolding torn_among torn_numbers numbers_with_tear_length
+torn_among_all ps links = filter_wider (λ n. is_torn ps (link_at links n)) (λ n. has_tear_length (link_at links n))
+    (λ n h. (and_parts _ _ (and_parts _ _ h).0).1) (range_with_len 0 (length links))
+
+tearable_among_more : (links : List Link) (numbers : List ℕ) (i : ℕ) (d : Link) → i < length numbers
+    → get_or numbers i 0 < length links
+    → 2 * tearable_among links (take (i + 1) numbers) ≡ 2 * tearable_among links (take i numbers)
+    + cond ((get_or links (get_or numbers i 0) d).live && int_lt (pos 0) (get_or links (get_or numbers i 0) d).tear) 2 0
+unfolding tearable_among
+tearable_among_more links numbers i d lt known =
+    let may : Link → Bool = λ l. l.live && int_lt (pos 0) l.tear in
+    let n = get_or numbers i 0 in
+    let one = length-filter_more (λ m. may (link_at links m)) numbers i 0 lt
+    ∙ ap (λ (l : Link). length (filter (λ m. may (link_at links m)) (take i numbers)) + cond (may l) 1 0) (any_default links n _ d known) in
+    omega (arith, one, twice (may (get_or links n d)))
+  where
+    twice : (b : Bool) → 2 * cond {A = ℕ} b 1 0 ≡ cond b 2 0
+    twice true = refl
+    twice false = refl
+
+pub cost_more : (begun old new : ℕ) (links : List Link) (numbers : List ℕ) (i : ℕ) (d : Link) → i < length numbers
+    → get_or numbers i 0 < length links
+    → new ≤ old + cond ((get_or links (get_or numbers i 0) d).live && int_lt (pos 0) (get_or links (get_or numbers i 0) d).tear) 2 0
+    → old ≤ begun + 2 * tearable_among links (take i numbers) → new ≤ begun + 2 * tearable_among links (take (i + 1) numbers)
+cost_more begun old new links numbers i d lt known cost so_far =
+    omega (arith, tearable_among_more links numbers i d lt known, cost, so_far)
+
+-- as many numbers as links pass a test
+as_many_pass : (ok : ℕ → Bool) (test : Link → Bool) (a : ℕ) (links : List Link)
+    → ((k : ℕ) → k < length links → ok (a + k) ≡ test (link_at links k))
+    → length (filter ok (range_with_len a (length links))) ≡ length (filter test links)
+as_many_pass ok test a [] h = refl
+as_many_pass ok test a (l ∷ links) h =
+    let first : ok a ≡ test l = (let e : a + 0 ≡ a = omega arith in sym (ap ok e) ∙ h 0 (omega arith)) in
+    let rest = as_many_pass ok test (a + 1) links
+    (λ k lt. (let e : a + 1 + k ≡ a + suc k = omega arith in ap ok e ∙ h (suc k) (omega (arith, lt)))) in
+    omega (
+      arith,
+      kept_more ok a (range_with_len (a + 1) (length links)),
+      ap (λ (b : Bool). cond {A = ℕ} b 1 0) first,
+      rest,
+      kept_more {A = Link} test l links,
+    )
+
+pub tearable_among_all : (links : List Link) → tearable_among links (numbers_with_tear_length links) ≡ tearable_count links
+unfolding tearable_among numbers_with_tear_length
+tearable_among_all links =
+    let may : Link → Bool = λ l. l.live && int_lt (pos 0) l.tear in
+    ap length (filter_wider (λ n. may (link_at links n)) (λ n. has_tear_length (link_at links n)) (λ n h. (and_parts _ _ h).1)
+    (range_with_len 0 (length links)))
+    ∙ as_many_pass (λ n. may (link_at links n)) may 0 links (λ k lt. (let e : 0 + k ≡ k = omega arith in ap (λ n. may (link_at links n)) e))
 
 -- ---- what torn numbers mean
 
@@ -199,25 +302,6 @@ pub list_is : (o p : Roomed ℕ) (xs : List ℕ) → o.entries ≡ xs → o.room
 list_is o p xs e r = λ i. record { entries = e i; room = r i }
 
 -- ---- links that are live no longer
-
--- the numbers below i of links that are live no longer
-pub record GoneSoFar (links : List Link) (i : ℕ) (so_far : List ℕ) : Type 0 where
-  pub passing : Passing (λ n. not (link_at links n).live) (length links) i so_far
-
-pub gone_none : (links : List Link) → GoneSoFar links 0 []
-gone_none links = record { passing = passing_none (λ n. not (link_at links n).live) (length links) }
-
-pub gone_more : (links : List Link) (i : ℕ) (so_far : List ℕ) (wanted : Bool) (d : Link) → i < length links
-    → wanted ≡ not (get_or links i d).live → GoneSoFar links i so_far → GoneSoFar links (i + 1) (cond wanted (so_far ++ i ∷ []) so_far)
-gone_more links i so_far wanted d lt e h = record {
-  passing =
-      passing_more (λ n. not (link_at links n).live) (length links) i so_far wanted lt
-      (e ∙ ap (λ (l : Link). not l.live) (any_default links i d _ lt)) h.passing;
-}
-
-pub gone_all : (links : List Link) (i : ℕ) (so_far : List ℕ) → length links ≤ i → GoneSoFar links i so_far → so_far ≡ gone_numbers links
-unfolding gone_numbers
-gone_all links i so_far le h = passing_all (λ n. not (link_at links n).live) (length links) i so_far le h.passing
 
 pub numbers_gone : (links : List Link) (i : ℕ) → i < length links → list_any (λ n. n == i) (gone_numbers links) ≡ not (link_at links i).live
 unfolding gone_numbers

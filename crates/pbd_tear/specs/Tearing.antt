@@ -1,5 +1,5 @@
--- The numbers of the links that tear, and of those that are gone.
-use Rattle.std.specs.Prelude.{ℕ, ◌<◌, ◌≤◌, ◌^◌, unsigned_abs, List, length, filter, not, slice_index}
+-- The numbers of the links that tear, of those with a tear length, and of those that are gone.
+use Rattle.std.specs.Prelude.{ℕ, ◌<◌, ◌≤◌, ◌^◌, pos, int_lt, unsigned_abs, List, length, filter, not, slice_index}
 use Rattle.std.specs.List.{range_with_len}
 use Rattle.std.specs.List.Sorted.{IsStrictlyIncreasing}
 use Rattle.pbd_world.specs.declared.parts.Particle.{Particle}
@@ -10,6 +10,10 @@ use Rattle.pbd_world.specs.Step.{is_torn}
 -- the numbers of the links that tear, ascending
 unfoldable pub torn_numbers : List Particle → List Link → List ℕ
 torn_numbers ps links = filter (λ i. is_torn ps (link_at links i)) (range_with_len 0 (length links))
+
+-- the numbers of the links with a tear length, ascending: no other link ever tears
+unfoldable pub numbers_with_tear_length : List Link → List ℕ
+numbers_with_tear_length links = filter (λ i. int_lt (pos 0) (link_at links i).tear) (range_with_len 0 (length links))
 
 -- the numbers of the links that are live no longer, ascending
 unfoldable pub gone_numbers : List Link → List ℕ

@@ -7,7 +7,7 @@ ghost use Rattle.pbd_world.specs.Valid.{are_valid_links};
 ghost use Rattle.pbd_world.specs.Step.{is_torn};
 ghost use Rattle.pbd_world.specs.Work.{tearable_count};
 ghost use Rattle.pbd_store.specs.Moving.{AreInside};
-ghost use Rattle.pbd_tear.specs.Tearing.{IsLink, AscendTo, torn_numbers, gone_numbers};
+ghost use Rattle.pbd_tear.specs.Tearing.{IsLink, AscendTo, torn_numbers, numbers_with_tear_length, gone_numbers};
 
 use pbd_num::{Vec3, square};
 use pbd_store::{Steps, Store};
@@ -32,6 +32,12 @@ fn may_tear(link: Link) -> bool
     ensures { result ≡ (link.live && int_lt (pos 0) link.tear) }
 {
     link.live && 0 < link.tear
+}
+
+fn has_tear_length(link: Link) -> bool
+    ensures { result ≡ int_lt (pos 0) link.tear }
+{
+    0 < link.tear
 }
 
 fn is_torn<const L: usize, G: Ledger>(store: &Store<L>, link: Link, steps: &mut Steps<G>) -> bool
@@ -59,14 +65,17 @@ fn push_if(out: &mut RoomList<u32>, number: u32, wanted: bool)
 
 /// Leaves in `out` exactly the numbers of the live links that tear, ascending: those that may tear and
 /// are longer than their tear length. What `out` held before is dropped.
+/// It looks only at the links of these numbers, which are those with a tear length.
 /// It reaches the store at most twice for each link that may tear, and not at all for the others.
 pub fn torn<const L: usize, G: Ledger>(
     store: &Store<L>,
     links: &[Link],
+    numbers: &[u32],
     out: &mut RoomList<u32>,
     steps: &mut Steps<G>,
 )
     requires links { IsTrue (are_valid_links store.now.limit (length store.now.particles) links.now) }
+    requires with_tear_length { numbers.now ≡ numbers_with_tear_length links.now }
     requires inside { AreInside store.now.limit store.now.particles }
     requires room { length links.now ≤ out.old.room }
     ensures numbers { out.new ≡ record out.old { entries = torn_numbers store.now.particles links.now } }
@@ -76,9 +85,21 @@ pub fn torn<const L: usize, G: Ledger>(
     // By it the links and the places are in the range of both limits.
     let _limit = store.limit();
     out.clear();
+    for n in numbers {
+        let tears = is_torn(store, links[*n as usize], steps);
+        push_if(out, *n, tears);
+    }
+}
+
+/// Leaves in `out` exactly the numbers of the links with a tear length, ascending. What `out` held before is dropped.
+pub fn with_tear_length(links: &[Link], out: &mut RoomList<u32>)
+    requires few { length links.now ≤ 524288 }
+    requires room { length links.now ≤ out.old.room }
+    ensures { out.new ≡ record out.old { entries = numbers_with_tear_length links.now } }
+{
+    out.clear();
     for i in 0..links.len() {
-        let tears = is_torn(store, links[i], steps);
-        push_if(out, i as u32, tears);
+        push_if(out, i as u32, has_tear_length(links[i]));
     }
 }
 

@@ -1,13 +1,12 @@
-use Rattle.std.proofs.Common.{◌≡◌, ◌+◌, ◌*◌, ◌≤◌, length, drop}
-use Rattle.pbd_world.specs.Work.{tearable_count}
-use Rattle.pbd_tear.proofs.Numbers.{TornSoFar}
+use Rattle.std.proofs.Common.{◌≡◌, ◌+◌, ◌*◌, ◌≤◌, length, take}
+use Rattle.pbd_tear.proofs.Numbers.{torn_among, tearable_among}
 use Rattle.pbd_tear.proofs.torn.Given as goal
 
--- the torn numbers below i are in the list
-abbrev pub invariant-loop-i : goal.invariant-loop-i
-invariant-loop-i g l = record {
-  so_far : TornSoFar l.store.particles l.links l.i l.out.entries;
-  few : length l.out.entries ≤ l.i;
+-- of the numbers so far, those of links that tear are in the list
+abbrev pub invariant-loop-n : goal.invariant-loop-n
+invariant-loop-n g l = record {
+  so_far : l.out.entries ≡ torn_among l.store.particles l.links (take l.n-index l.numbers);
+  few : length l.out.entries ≤ l.n-index;
   room : l.out.room ≡ l.initial.out.room;
-  cost : l.steps + 2 * tearable_count (drop l.i l.links) ≤ l.initial.steps + 2 * tearable_count l.links;
+  cost : l.steps ≤ l.initial.steps + 2 * tearable_among l.links (take l.n-index l.numbers);
 }

@@ -1,8 +1,7 @@
-use Rattle.std.proofs.Common.{◌≡◌, ℕ, sym, arith, subst, MatchResult, Ok, Err}
+use Rattle.std.proofs.Common.{◌≡◌, ℕ, arith, subst, MatchResult, Ok, Err}
 use Rattle.pbd_world.specs.declared.bond.Bond.{Bond}
 use Rattle.pbd_world.specs.Bonds.{projected}
 use Rattle.pbd_store.specs.Moving.{motion_of}
-use Rattle.pbd_pair.specs.Bonds.{bond_of}
 use Rattle.pbd_step.proofs.InOrder.{batch_with, same_bonds, suits}
 use Rattle.pbd_step.proofs.bonds.project_batch.Goals as goal
 

@@ -1,10 +1,10 @@
-use Rattle.std.proofs.Common.{◌≡◌, ℕ, ◌+◌, ◌*◌, ◌^◌, ◌++◌, ◌<◌, ◌≤◌, length, length-append, arith, refl, ap, ◌∙◌}
+use Rattle.std.proofs.Common.{◌≡◌, ℕ, ◌+◌, ◌*◌, ◌^◌, ◌++◌, ◌≤◌, List, [], length, length-append, arith, refl, sym, subst, ◌∙◌}
 use Rattle.pbd_store.specs.Moving.{motion_of}
 use Rattle.pbd_pair.specs.Bonds.{bond_of}
 use Rattle.pbd_pair.specs.Laid.{AreOfBatch}
 use Rattle.pbd_pair.proofs.LaidParts.{back_part, front_part}
 use Rattle.pbd_step.specs.Projecting.{parallel_from}
-use Rattle.pbd_step.proofs.InOrder.{all_go, all_rows, colour_rows, left_from, still_rows, batch_goes, parallel_next, parallel_none}
+use Rattle.pbd_step.proofs.InOrder.{SoFar, all_go, all_rows, colour_rows, left_from, still_rows, batch_goes, parallel_next, parallel_past, parallel_none}
 use Rattle.pbd_step.proofs.InOrder.{parts_length, none_so_far, more_so_far, stops_so_far, whole_so_far}
 use Rattle.pbd_step.proofs.Costing.{colour_paid, colours_left}
 use Rattle.pbd_step.proofs.bonds.project_colours.Goals.{After-batch-numbers}
@@ -123,6 +123,32 @@ loop-c-preserved g c =
         inv.cost,
         c.project_batch.ensures.cost,
         colour_paid pairs live c.loop-c.c c.batch-numbers.ensures.value inv.width,
+        colours_left (g.P.Projector.width c.args.projector.now) pairs live c.loop-c.c (omega arith),
+      );
+    }
+
+-- a colour without live pairs
+pub loop-c-preserved-then-are_none : goal.loop-c-preserved-then-are_none
+loop-c-preserved-then-are_none g c =
+    let inv = c.loop-c.invariant in
+    let pairs = c.args.list.now.colours.now.pairs in
+    let live = c.args.list.now.colours.now.live in
+    let bond = bond_of c.args.list.now.bonds in
+    let none : c.batch-numbers.result.now ≡ [] = c.are_none.ensures c.if-are_none.true in
+    let past = parallel_past pairs live c.loop-c.c (omega arith) (sym c.batch-numbers.ensures.value ∙ none) in
+    let left = left_from bond pairs live c.loop-c.store.particles c.loop-c.rest (c.loop-c.c + 1) in
+    record {
+      so_far = coe 0 1 (i. SoFar c.args.store.now.limit bond (parallel_from pairs live 0) (past i)
+          (motion_of c.args.store.now c.args.totals.now) (motion_of c.loop-c.store c.loop-c.totals)
+          (g.P.Projector.count c.args.projector.now) (g.P.Projector.count c.loop-c.projector)) inv.so_far;
+      laid = subst (λ (ns : List ℕ). AreOfBatch bond (ns ++ left) c.loop-c.store.particles c.loop-c.rest) none
+          (rows g (goal.at.loop-c-preserved-then-are_none g c).After-batch-numbers);
+      limit = inv.limit;
+      copies = inv.copies;
+      width = inv.width;
+      cost = omega (
+        arith,
+        inv.cost,
         colours_left (g.P.Projector.width c.args.projector.now) pairs live c.loop-c.c (omega arith),
       );
     }

@@ -8,7 +8,6 @@ use Rattle.pbd_world.specs.Valid.{are_valid_links}
 use Rattle.pbd_store.specs.Gathering.{index_at}
 use Rattle.pbd_pair.specs.declared.bonds.Bonds.TheVariants.{Links}
 use Rattle.pbd_pair.specs.Laid.{lists_in, AreLaid}
-use Rattle.pbd_step.specs.States.{HasLinks}
 use Rattle.pbd_step.proofs.Laying.{a_weight_each, layable, order_few}
 use Rattle.pbd_step.proofs.UnderWay.{link_bonds}
 use Rattle.pbd_step.proofs.lay.lay_links.Goals as goal

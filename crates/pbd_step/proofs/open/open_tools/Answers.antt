@@ -5,10 +5,10 @@ use Rattle.pbd_self.specs.Touching.{Found}
 use Rattle.pbd_step.specs.States.{HaveSpace}
 use Rattle.pbd_step.proofs.open.open_tools.Goals as goal
 
-pub with_room-requires : goal.with_room-requires
-with_room-requires c = ap (λ (fs : List Bool). length fs) c.in-Ok.ensures ∙ length-replicate _ _
+pub with_room-requires-clause-touched : goal.with_room-requires-clause-touched
+with_room-requires-clause-touched c = ap (λ (fs : List Bool). length fs) c.in-Ok.ensures ∙ length-replicate _ _
     ∙ sym (ap (λ (f : Found). f.particles) c.in_ok-found.ensures.empty)
 
-pub returns-in-Ok : goal.returns-in-Ok
-returns-in-Ok c = subst (λ (n : ℕ). IfOk c.with_room.result (HaveSpace n c.args.links))
-    (ap (λ (f : Found). f.particles) c.in_ok-found.ensures.empty) c.with_room.ensures
+pub returns-in-Ok-clause-space : goal.returns-in-Ok-clause-space
+returns-in-Ok-clause-space c = subst (λ (n : ℕ). IfOk c.with_room.result (HaveSpace n (length c.args.links.now)))
+    (ap (λ (f : Found). f.particles) c.in_ok-found.ensures.empty) c.with_room.ensures.space

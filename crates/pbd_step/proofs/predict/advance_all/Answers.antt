@@ -1,85 +1,110 @@
-use Rattle.std.proofs.Common.{◌≡◌, ◌∙◌, ◌<◌, ◌≤◌, ◌+◌, ◌*◌, ◌-◌, ◌^◌, ℕ, ℤ, sym, refl, ap, min, arith, length, Err, subst}
-use Rattle.std.proofs.lemmas.Result.{err_from_is_err_and}
+use Rattle.std.proofs.Common.{◌≡◌, ◌∙◌, refl, sym, ap, ◌^◌, ◌<◌, ℕ, arith, List, length, map, subst, unsigned_abs, w64, FitsSigned}
+use Rattle.std.proofs.lemmas.Int.{to_z-of_z}
+use Rattle.pbd_num.specs.declared.Vec3.{Vec3}
+use Rattle.pbd_num.specs.Vectors.{Within}
+use Rattle.pbd_num.proofs.Sizes.{fits}
+use Rattle.pbd_world.specs.declared.parts.Particle.{Particle}
+use Rattle.pbd_world.specs.Ledger.{Ledger, ledger_of, HaveRoom}
+use Rattle.pbd_world.specs.Particles.{particle_at, effective_weight}
 use Rattle.pbd_world.proofs.Rooms.{room_at}
-use Rattle.pbd_world.specs.Ledger.{ledger_of, HaveRoom}
-use Rattle.pbd_store.specs.Blocks.{blocks_of}
-use Rattle.pbd_store.proofs.Starts.{block_begins, all_held, next_start, room_more}
-use Rattle.pbd_shape.specs.Rubbing.{AreWithin}
-use Rattle.pbd_step.specs.States.{world_of, now_of}
-use Rattle.pbd_step.specs.Predicting.{bare_world, predicted_from}
-use Rattle.pbd_step.proofs.Staying.{both_moved}
-use Rattle.pbd_step.proofs.SoundRoom.{sound_room}
+use Rattle.pbd_store.specs.declared.flight.Air.{Air}
+use Rattle.pbd_store.specs.Flying.{IsSmall, AllStay, LeavesFirst, after_flight}
+use Rattle.pbd_store.specs.Moving.{AreInside}
+use Rattle.pbd_store.proofs.Landed.{flown_long}
+use Rattle.pbd_step.specs.States.{world_of}
 use Rattle.pbd_step.proofs.Mild.{formed_within, sound_mild}
-use Rattle.pbd_step.proofs.Predicting.{predicted_begins, predicted_all}
+use Rattle.pbd_step.proofs.SoundRoom.{sound_room}
+use Rattle.pbd_step.proofs.Predicting.{air_of, sound_air, predicted_all, predicted_out, flown_weights, booked_room, with_both}
 use Rattle.pbd_step.proofs.predict.advance_all.Goals as goal
 
-none : (n : ℕ) → 0 * n ≡ 0
-none n = omega arith
+pub fly-requires : goal.fly-requires
+fly-requires g c =
+    let w = world_of c.args.setting.now c.args.state.now in
+    let f : FitsSigned w64 c.limit.result = record { sfits = c.limit.type_inv } in
+    let made = simp to_z-of_z at c.air_within-air.ensures in
+    let is_air : c.air_within-air.result ≡ air_of w = made
+    ∙ (λ t. record { damping = w.damping; gravity = w.gravity; limit = c.limit.ensures.value t }) in
+    let ps = c.args.state.now.store.particles in
+    let inside = formed_within w c.requires.sound.well_formed in
+    let at : AreInside w.limit ps = record { each = inside.at } in (
+      omega arith,
+      (
+        c.requires.lanes_low,
+        (
+          c.requires.lanes_high,
+          (
+            subst (λ (a : Air). IsSmall a) (sym is_air) (sound_air w c.requires.sound),
+            (
+              subst (λ (a : Air). AreInside a.limit ps) (sym is_air) at,
+              subst (λ (a : Air). (i : ℕ) → i < length ps → Within (unsigned_abs a.limit) (particle_at ps i).before) (sym is_air)
+                  inside.before,
+            ),
+          ),
+        ),
+      ),
+    )
 
-pub loop-block-init : goal.loop-block-init
-loop-block-init g c =
-    let setting = c.args.setting.now in
-    let state = c.args.state.now in
-    let w = world_of setting state in
+pub pulled_by-pulled-requires-clause-gravity : goal.pulled_by-pulled-requires-clause-gravity
+pulled_by-pulled-requires-clause-gravity g c = (sound_mild (world_of c.args.setting.now c.args.state.now) c.requires.sound).gravity
+
+pub book-requires-clause-room : goal.book-requires-clause-room
+book-requires-clause-room g c = room_at (2 ^ 120) (omega arith)
+    (sound_room (world_of c.args.setting.now c.args.state.now) c.requires.sound)
+
+pub returns-in-Err-clause-outcome : goal.returns-in-Err-clause-outcome
+returns-in-Err-clause-outcome g c =
+    let w = world_of c.args.setting.now c.args.state.now in
+    let f : FitsSigned w64 c.limit.result = record { sfits = c.limit.type_inv } in
+    let made = simp to_z-of_z at c.air_within-air.ensures in
+    let is_air : c.air_within-air.result ≡ air_of w = made
+    ∙ (λ t. record { damping = w.damping; gravity = w.gravity; limit = c.limit.ensures.value t }) in
+    let ps = c.args.state.now.store.particles in
+    let inside = formed_within w c.requires.sound.well_formed in
+    predicted_out w c.in-Err.element (sound_air w c.requires.sound).low inside.at
+    (subst (λ (a : Air). LeavesFirst a ps c.in-Err.element) is_air c.in-Err.ensures.outcome)
+
+pub returns-in-Err-clause-moved : goal.returns-in-Err-clause-moved
+returns-in-Err-clause-moved g c =
+    let ps = c.args.state.now.store.particles in
+    let air = c.air_within-air.result in
     record {
-      rest = ap (λ (m : ℕ). predicted_from (bare_world setting state.store.limit) m (now_of state)) (none g.row.L)
-          ∙ predicted_begins setting state;
-      moved = record { same = refl; limit = refl; copies = refl; whole = refl; weights = refl };
-      within = formed_within w c.requires.sound.well_formed;
-      room = room_at _ (omega arith) (sound_room w c.requires.sound);
-      cost = omega arith;
-      count = refl;
-      inside = formed_within w c.requires.sound.well_formed;
-      mild = sound_mild w c.requires.sound;
-      space = room_at (2 ^ 110) (omega arith) (sound_room w c.requires.sound);
+      same = refl;
+      limit = c.fly.ensures.limit;
+      copies = c.fly.ensures.copies;
+      whole = flown_long air ps c.fly.new.self.particles c.fly.ensures.particles;
+      weights = ap (λ (qs : List Particle). map effective_weight qs) c.fly.ensures.particles ∙ flown_weights air ps;
     }
 
-pub loop-block-preserved : goal.loop-block-preserved
-loop-block-preserved g c =
-    let inv = c.loop-block.invariant in
-    let done = c.in_ok-advance_block.ensures in
-    let setting = c.args.setting.now in
-    let start = c.loop-block.block * g.row.L in
-    let many = length c.args.state.now.store.particles in
-    let then = c.advance_block.new.state in
-    let begins : start < many = block_begins c.loop-block.block many g.row.L c.requires.lanes_low
-    (omega (arith, c.blocks-block-end.ensures, c.loop-block-test.true)) in
-    let did = subst (λ (l : ℤ). predicted_from (bare_world setting l) (start + g.row.L) (now_of then)
-    ≡ predicted_from (bare_world setting l) start (now_of c.loop-block.state)) inv.moved.limit done.outcome in
-    let moved = both_moved c.args.state.now c.loop-block.state then inv.moved done.moved in
-    let room : HaveRoom (2 ^ 99 + min ((c.loop-block.block + 1) * g.row.L) many * 2 ^ 31) (ledger_of then.totals) =
-    room_at _ (room_more (2 ^ 99) start _ many g.row.L begins (next_start c.loop-block.block g.row.L))
-    (subst (λ (m : ℕ). HaveRoom (2 ^ 99 + min start many * 2 ^ 31 + (min (start + g.row.L) m - start) * 2 ^ 31) (ledger_of then.totals))
-    inv.moved.whole (done.room _ inv.room)) in
+pub returns-in-Ok-clause-outcome : goal.returns-in-Ok-clause-outcome
+returns-in-Ok-clause-outcome g c =
+    let w = world_of c.args.setting.now c.args.state.now in
+    let f : FitsSigned w64 c.limit.result = record { sfits = c.limit.type_inv } in
+    let made = simp to_z-of_z at c.air_within-air.ensures in
+    let is_air : c.air_within-air.result ≡ air_of w = made
+    ∙ (λ t. record { damping = w.damping; gravity = w.gravity; limit = c.limit.ensures.value t }) in
+    let ps = c.args.state.now.store.particles in
+    let stay = subst (λ (a : Air). AllStay a ps c.in-Ok.flown) is_air c.in-Ok.ensures.outcome in
+    let free = fits c.in-Ok.flown.free (omega (arith, stay.few)) in
+    let pulled = simp to_z-of_z at c.pulled_by-pulled.ensures.value in
+    let particles = c.fly.ensures.particles ∙ (λ t. map (λ (p : Particle). after_flight (is_air t) p) ps) in
+    let books = c.book.ensures ∙ ap (λ (v : Vec3). with_both (ledger_of c.args.state.now.totals) v c.in-Ok.flown.lost) pulled in
+    predicted_all w c.in-Ok.flown c.fly.new.self.particles (ledger_of c.book.new.totals) stay particles books
+
+pub returns-in-Ok-clause-moved : goal.returns-in-Ok-clause-moved
+returns-in-Ok-clause-moved g c =
+    let ps = c.args.state.now.store.particles in
+    let air = c.air_within-air.result in
     record {
-      rest = ap (λ (m : ℕ). predicted_from (bare_world setting c.args.state.now.store.limit) m (now_of then))
-          (next_start c.loop-block.block g.row.L) ∙ did ∙ inv.rest;
-      moved = moved;
-      within = subst (λ (l : ℤ). AreWithin l then.store.particles) inv.moved.limit done.within;
-      room = room;
-      cost = omega (arith, done.cost, inv.cost);
-      count = ap (λ (m : ℕ). blocks_of m g.row.L) moved.whole;
-      inside = subst (λ (l : ℤ). AreWithin l then.store.particles) (sym done.moved.limit) done.within;
-      mild = inv.mild;
-      space = room_at (2 ^ 110) (omega (arith, c.len-len.ensures.value, c.len-len.ensures.size)) room;
+      same = refl;
+      limit = c.fly.ensures.limit;
+      copies = c.fly.ensures.copies;
+      whole = flown_long air ps c.fly.new.self.particles c.fly.ensures.particles;
+      weights = ap (λ (qs : List Particle). map effective_weight qs) c.fly.ensures.particles ∙ flown_weights air ps;
     }
 
-pub returns-in_err-advance_block-clause-outcome : goal.returns-in_err-advance_block-clause-outcome
-returns-in_err-advance_block-clause-outcome g c =
-    let inv = c.loop-block.invariant in
-    let left = c.in_err-advance_block.ensures.outcome in
-    let start = c.loop-block.block * g.row.L in
-    let out = subst (λ (l : ℤ). predicted_from (bare_world c.args.setting.now l) start (now_of c.loop-block.state)
-    ≡ Err c.in_err-advance_block.field-0.0.element) inv.moved.limit left in
-    let p = err_from_is_err_and c.from_residual.result c.from_residual.ensures.1 in
-    rw (p.1, p.2) (sym inv.rest ∙ out)
-
-pub returns-clause-outcome : goal.returns-clause-outcome
-returns-clause-outcome g c =
-    let inv = c.loop-block.invariant in
-    let start = c.loop-block.block * g.row.L in
-    let whole : length c.args.state.now.store.particles ≤ start =
-    all_held c.loop-block.block (length c.args.state.now.store.particles) g.row.L c.requires.lanes_low
-    (omega (arith, c.blocks-block-end.ensures, c.loop-block-test.false)) in
-    sym inv.rest ∙ predicted_all (bare_world c.args.setting.now c.args.state.now.store.limit) start (now_of c.loop-block.state)
-    (omega (arith, inv.moved.whole, whole))
+pub returns-in-Ok-clause-room : goal.returns-in-Ok-clause-room
+returns-in-Ok-clause-room g c =
+    let room = booked_room (ledger_of c.args.state.now.totals) c.pulled_by-pulled.result c.in-Ok.flown.lost (2 ^ 99)
+    c.pulled_by-pulled.ensures.size c.in-Ok.ensures.outcome.small
+    (sound_room (world_of c.args.setting.now c.args.state.now) c.requires.sound) in
+    subst (λ (t : Ledger). HaveRoom (2 ^ 100) t) (sym c.book.ensures) (room_at (2 ^ 100) (omega arith) room)

@@ -2,7 +2,11 @@ use Rattle.std.proofs.Common.{◌∙◌, ◌≡◌, ◌+◌, ◌^◌, ℕ, List,
 use Rattle.std.specs.List.Sorted.{IsStrictlyIncreasing}
 use Rattle.std.proofs.lemmas.Int.{to_z-of_z}
 use Rattle.pbd_num.proofs.Sizes.{fits}
-use Rattle.pbd_world.specs.Step.{tear}
+use Rattle.std.proofs.lemmas.Bool.{and_parts}
+use Rattle.pbd_world.specs.Bonds.{link_bond}
+use Rattle.pbd_world.specs.Step.{tear, link_order}
+use Rattle.pbd_store.specs.Gathering.{index_at}
+use Rattle.pbd_pair.specs.Laid.{lists_in, AreLaid}
 use Rattle.pbd_world.specs.declared.parts.Link.{Link}
 use Rattle.pbd_world.specs.Work.{blocks_in, tearable_count}
 use Rattle.pbd_world.specs.World.{parts_of}
@@ -13,10 +17,10 @@ use Rattle.pbd_world.proofs.Rooms.{room_at}
 use Rattle.pbd_tear.specs.Tearing.{AscendTo, torn_numbers}
 use Rattle.pbd_tear.proofs.Numbers.{torn_ascend}
 use Rattle.pbd_world.specs.Room.{Roomed}
-use Rattle.pbd_step.specs.States.{world_of}
+use Rattle.pbd_step.specs.States.{world_of, HasLinks}
 use Rattle.pbd_step.specs.Settling.{LetGo}
 use Rattle.pbd_step.proofs.Mild.{formed_within, formed_friction}
-use Rattle.pbd_step.proofs.Settling.{let_go_tears, torn_live, torn_coloured, still_many}
+use Rattle.pbd_step.proofs.Settling.{let_go_tears, torn_live, torn_coloured, still_many, torn_fixed, fixed_numbers, none_go}
 use Rattle.pbd_step.proofs.Costing.{rubs_less}
 use Rattle.pbd_step.proofs.Weighing.{settled_weights}
 use Rattle.pbd_step.proofs.rub_and_tear.rub_and_tear.Goals as goal
@@ -50,7 +54,10 @@ torn-requires g c =
       omega arith,
       (
         rw (c.deref.ensures.value, c.rub.ensures.limit, many) links,
-        (rw c.rub.ensures.limit (record { each = c.rub.ensures.within.at }), rw c.deref.ensures.value c.requires.going.space.numbers),
+        (
+          rw c.deref.ensures.value (c.as_slice-with_tear_length.ensures ∙ c.requires.going.knows.numbers),
+          (rw c.rub.ensures.limit (record { each = c.rub.ensures.within.at }), rw c.deref.ensures.value c.requires.going.space.numbers),
+        ),
       ),
     )
 
@@ -58,17 +65,17 @@ pub tear-requires-clause-within : goal.tear-requires-clause-within
 tear-requires-clause-within g c =
     let links = c.args.run.now.state.links.items in
     let all = subst (λ (ls : List Link). AscendTo (length ls) c.torn.new.out.entries) c.deref.ensures.value c.torn.ensures.ascending in
-    (subst (λ (ns : List ℕ). AscendTo (length links) ns) (sym c.as_slice.ensures) all).within
+    (subst (λ (ns : List ℕ). AscendTo (length links) ns) (sym c.as_slice-torn.ensures) all).within
 
 pub tear-requires-clause-increasing : goal.tear-requires-clause-increasing
 tear-requires-clause-increasing g c = subst (λ (ns : List ℕ). IsStrictlyIncreasing ns)
-    (sym c.as_slice.ensures) c.torn.ensures.ascending.rising
+    (sym c.as_slice-torn.ensures) c.torn.ensures.ascending.rising
 
 pub tear-requires-clause-live : goal.tear-requires-clause-live
 tear-requires-clause-live g c =
     let ps = c.rub.new.store.particles in
     let links = c.args.run.now.state.links.items in
-    let numbers : c.as_slice.result.now ≡ torn_numbers ps links = c.as_slice.ensures
+    let numbers : c.as_slice-torn.result.now ≡ torn_numbers ps links = c.as_slice-torn.ensures
     ∙ ap (λ (o : Roomed ℕ). o.entries) c.torn.ensures.numbers ∙ ap (torn_numbers ps) c.deref.ensures.value in
     rw (numbers, c.requires.going.links.live) (λ k lt. torn_live ps links k (torn_ascend ps links) lt)
 
@@ -83,7 +90,7 @@ returns-clause-world g c =
       (numbers_of w (formed (parts_of w) c.requires.going.under_way.well_formed)).friction_high,
     )) in
     let motion = simp to_z-of_z at c.rub.ensures.outcome in
-    let numbers : c.as_slice.result.now ≡ torn_numbers ps links = c.as_slice.ensures
+    let numbers : c.as_slice-torn.result.now ≡ torn_numbers ps links = c.as_slice-torn.ensures
     ∙ ap (λ (o : Roomed ℕ). o.entries) c.torn.ensures.numbers ∙ ap (torn_numbers ps) c.deref.ensures.value in
     let tears = let_go_tears ps links after (subst (λ (ns : List ℕ). LetGo ns links after) numbers c.tear.ensures.links) in
     let torn = tears ∙ (λ k. tear (motion k).particles links) in
@@ -101,7 +108,7 @@ returns-clause-links g c =
     let ps = c.rub.new.store.particles in
     let links = c.args.run.now.state.links.items in
     let after = c.tear.new.links.items in
-    let numbers : c.as_slice.result.now ≡ torn_numbers ps links = c.as_slice.ensures
+    let numbers : c.as_slice-torn.result.now ≡ torn_numbers ps links = c.as_slice-torn.ensures
     ∙ ap (λ (o : Roomed ℕ). o.entries) c.torn.ensures.numbers ∙ ap (torn_numbers ps) c.deref.ensures.value in
     let tears = let_go_tears ps links after (subst (λ (ns : List ℕ). LetGo ns links after) numbers c.tear.ensures.links) in
     let coloured = c.tear.ensures.colours ∙ ap (λ (ns : List ℕ).
@@ -113,6 +120,15 @@ pub returns-clause-stays : goal.returns-clause-stays
 returns-clause-stays g c =
     let room : c.torn.new.out.room ≡ c.args.run.now.scratch.numbers.room = ap (λ (o : Roomed ℕ). o.room) c.torn.ensures.numbers in
     let live = ap (λ (k : Coloured). k.live) c.tear.ensures.colours in
+    let run = c.args.run.now in
+    let ps = c.rub.new.store.particles in
+    let links = run.state.links.items in
+    let after = c.tear.new.links.items in
+    let many = still_many ps run.state.store.particles c.rub.ensures.settled in
+    let numbers : c.as_slice-torn.result.now ≡ torn_numbers ps links = c.as_slice-torn.ensures
+    ∙ ap (λ (o : Roomed ℕ). o.entries) c.torn.ensures.numbers ∙ ap (torn_numbers ps) c.deref.ensures.value in
+    let tears = let_go_tears ps links after (subst (λ (ns : List ℕ). LetGo ns links after) numbers c.tear.ensures.links) in
+    let fixed = torn_fixed ps links after tears in
     record {
       alike = record {
         particles = still_many c.rub.new.store.particles c.args.run.now.state.store.particles c.rub.ensures.settled;
@@ -121,6 +137,17 @@ returns-clause-stays g c =
         links = c.tear.ensures.links.whole;
       };
       weights = λ h. h ∙ sym (settled_weights c.args.run.now.state.store.particles c.rub.new.store.particles c.rub.ensures.settled);
+      fixed = fixed;
+      links = λ h. subst (λ (n : ℕ). HasLinks n after c.tear.new.colours) (sym many) (returns-clause-links g c);
+      knows = λ h. record {
+        numbers = h.numbers ∙ sym (fixed_numbers after links fixed);
+        laid = λ is.
+            let both = and_parts _ _ is in
+            let none = subst (λ (ns : List ℕ). LetGo ns links after) (c.are_none-none_tore.ensures both.1) c.tear.ensures.links in
+            let same = sym (none_go links after none) in
+            coe 0 1 (i. AreLaid (link_bond (same i)) (index_at run.state.weights.items) (link_order (same i))
+            (lists_in run.scratch.laid_links)) (h.laid both.0);
+      };
       copies = c.rub.ensures.copies;
       pairs = c.tear.ensures.colours ∙ (λ k. record c.args.run.now.colours { live = sym live k });
       space = λ n m h. record {

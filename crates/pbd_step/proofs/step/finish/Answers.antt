@@ -9,7 +9,7 @@ use Rattle.pbd_world.proofs.WorkLemmas.{finishing_is}
 use Rattle.pbd_step.specs.declared.state.Scratch.{Scratch}
 use Rattle.pbd_step.specs.States.{world_of, now_of, HasLinks}
 use Rattle.pbd_step.specs.Staying.{passing_of, AreBondsLaid, AreContactsLaid}
-use Rattle.pbd_step.proofs.Staying.{prepared, tools_go, tools_in_step, pass_in_step, both_in_step, pass_goes}
+use Rattle.pbd_step.proofs.Staying.{prepared, known_laid, tools_go, tools_in_step, pass_in_step, both_in_step, pass_goes}
 use Rattle.pbd_step.proofs.Stepping.{no_flags, finished_is}
 use Rattle.pbd_step.proofs.UnderWay.{moved_world, more_under_way, thickness_kept, thickness_of}
 use Rattle.pbd_step.proofs.Costing.{settling_same}
@@ -19,7 +19,7 @@ pub lay_links-requires : goal.lay_links-requires
 lay_links-requires g c =
     let going = c.requires.going in
     let f = formed (parts_of (world_of c.args.setting.now c.args.run.now.state)) going.under_way.well_formed in
-    (omega arith, (c.requires.lanes_high, (f.limit, (f.links, (going.weights, (going.links, going.space.laid_links))))))
+    (omega arith, (c.requires.lanes_high, (f.limit, (f.links, (going.weights, (going.links, (going.space.laid_links, going.knows.laid)))))))
 
 pub lay_contacts-requires : goal.lay_contacts-requires
 lay_contacts-requires g c =
@@ -37,12 +37,14 @@ project_in_passes-requires g c =
     let scratch : Scratch = record run.scratch {
       laid_links = c.lay_links.new.columns;
       laid_contacts = c.lay_contacts.new.columns;
+      are_links_laid = c.lay_links.new.are_laid;
       touched = c.clear.new.self;
     } in
     let many = ap (λ (fs : List Bool). length fs) c.clear.ensures ∙ length-replicate _ _ in
-    let room = prepared run.scratch scratch.laid_links scratch.laid_contacts scratch.touched c.lay_links.ensures.rows
-    c.lay_contacts.ensures.rows
-    many in
+    let room = prepared run.scratch scratch.laid_links scratch.laid_contacts scratch.touched scratch.are_links_laid
+    c.lay_links.ensures.rows c.lay_contacts.ensures.rows many in
+    let knows = known_laid run.state run.scratch scratch.laid_links scratch.laid_contacts scratch.touched scratch.are_links_laid
+    c.lay_links.ensures.laid in
     let w : World = world_of c.args.setting.now run.state in
     let thin = thickness_of w (formed (parts_of w) c.requires.going.under_way.well_formed) in
     let laid : AreBondsLaid w.thickness run.state scratch = record {
@@ -51,7 +53,7 @@ project_in_passes-requires g c =
           (thickness_kept w.thickness thin)
           c.lay_contacts.ensures.laid;
     } in
-    (omega arith, (c.requires.lanes_low, (c.requires.lanes_high, (tools_go c.args.setting.now run scratch room c.requires.going, laid))))
+    (omega arith, (c.requires.lanes_low, (c.requires.lanes_high, (tools_go c.args.setting.now run scratch room knows c.requires.going, laid))))
 
 pub rub_and_tear-requires : goal.rub_and_tear-requires
 rub_and_tear-requires g c =
@@ -59,14 +61,16 @@ rub_and_tear-requires g c =
     let scratch : Scratch = record run.scratch {
       laid_links = c.lay_links.new.columns;
       laid_contacts = c.lay_contacts.new.columns;
+      are_links_laid = c.lay_links.new.are_laid;
       touched = c.clear.new.self;
     } in
     let many = ap (λ (fs : List Bool). length fs) c.clear.ensures ∙ length-replicate _ _ in
-    let room = prepared run.scratch scratch.laid_links scratch.laid_contacts scratch.touched c.lay_links.ensures.rows
-    c.lay_contacts.ensures.rows
-    many in
+    let room = prepared run.scratch scratch.laid_links scratch.laid_contacts scratch.touched scratch.are_links_laid
+    c.lay_links.ensures.rows c.lay_contacts.ensures.rows many in
+    let knows = known_laid run.state run.scratch scratch.laid_links scratch.laid_contacts scratch.touched scratch.are_links_laid
+    c.lay_links.ensures.laid in
     let start = record run { scratch = scratch } in
-    let going = tools_go c.args.setting.now run scratch room c.requires.going in (
+    let going = tools_go c.args.setting.now run scratch room knows c.requires.going in (
       omega arith,
       (
         c.requires.lanes_low,
@@ -104,14 +108,16 @@ returns-in-Err-clause-stays g c =
     let scratch : Scratch = record run.scratch {
       laid_links = c.lay_links.new.columns;
       laid_contacts = c.lay_contacts.new.columns;
+      are_links_laid = c.lay_links.new.are_laid;
       touched = c.clear.new.self;
     } in
     let many = ap (λ (fs : List Bool). length fs) c.clear.ensures ∙ length-replicate _ _ in
-    let room = prepared run.scratch scratch.laid_links scratch.laid_contacts scratch.touched c.lay_links.ensures.rows
-    c.lay_contacts.ensures.rows
-    many in
+    let room = prepared run.scratch scratch.laid_links scratch.laid_contacts scratch.touched scratch.are_links_laid
+    c.lay_links.ensures.rows c.lay_contacts.ensures.rows many in
+    let knows = known_laid run.state run.scratch scratch.laid_links scratch.laid_contacts scratch.touched scratch.are_links_laid
+    c.lay_links.ensures.laid in
     let start = record run { scratch = scratch } in
-    both_in_step run start c.project_in_passes.new.run (tools_in_step run scratch room)
+    both_in_step run start c.project_in_passes.new.run (tools_in_step run scratch room knows)
     (pass_in_step start c.project_in_passes.new.run c.project_in_passes.ensures.stays)
 
 pub returns-clause-stays : goal.returns-clause-stays
@@ -120,15 +126,17 @@ returns-clause-stays g c =
     let scratch : Scratch = record run.scratch {
       laid_links = c.lay_links.new.columns;
       laid_contacts = c.lay_contacts.new.columns;
+      are_links_laid = c.lay_links.new.are_laid;
       touched = c.clear.new.self;
     } in
     let many = ap (λ (fs : List Bool). length fs) c.clear.ensures ∙ length-replicate _ _ in
-    let room = prepared run.scratch scratch.laid_links scratch.laid_contacts scratch.touched c.lay_links.ensures.rows
-    c.lay_contacts.ensures.rows
-    many in
+    let room = prepared run.scratch scratch.laid_links scratch.laid_contacts scratch.touched scratch.are_links_laid
+    c.lay_links.ensures.rows c.lay_contacts.ensures.rows many in
+    let knows = known_laid run.state run.scratch scratch.laid_links scratch.laid_contacts scratch.touched scratch.are_links_laid
+    c.lay_links.ensures.laid in
     let start = record run { scratch = scratch } in
     both_in_step run c.project_in_passes.new.run c.rub_and_tear.new.run
-    (both_in_step run start c.project_in_passes.new.run (tools_in_step run scratch room)
+    (both_in_step run start c.project_in_passes.new.run (tools_in_step run scratch room knows)
     (pass_in_step start c.project_in_passes.new.run c.project_in_passes.ensures.stays)) c.rub_and_tear.ensures.stays
 
 pub returns-clause-links : goal.returns-clause-links

@@ -4,7 +4,7 @@ use Rattle.pbd_world.specs.declared.parts.Link.{Link}
 use Rattle.pbd_world.specs.World.{World, IsSound}
 use Rattle.pbd_world.specs.Contacts.{link_pairs}
 use Rattle.pbd_colour.specs.Pairs.{Coloured}
-use Rattle.pbd_step.specs.States.{world_of, HasLinks, HaveSpace}
+use Rattle.pbd_step.specs.States.{world_of, fixed_links, HasLinks, HaveSpace}
 use Rattle.pbd_step.specs.Solving.{AreAlike}
 use Rattle.pbd_step.proofs.Keeping.{formed_fit, taken_fit, same_alike, alike_join, kept_moved, weights_taken}
 use Rattle.pbd_step.proofs.Assuming.{flipped}
@@ -32,7 +32,15 @@ restore-requires g c =
     omega (arith, ap (λ (k : Coloured). k.room) stays.pairs, c.requires.kept.links.room, taken.links) in
     let space = coe 0 1 (i. HaveSpace (taken.particles i) (taken.links i) c.take_steps.new.run.scratch)
     (stays.space (length state.store.particles) (length state.links.items) c.requires.kept.space) in
-    (omega arith, (c.requires.lanes_high, (alike, (fit.links, (fit.in_range, (colours, (pairs, (room, space))))))))
+    let fixed = stays.fixed ∙ ap fixed_links (sym c.take_over.ensures.links) in
+    let live = (stays.links c.requires.kept.links).live in
+    let knows = stays.knows c.requires.kept.knows in (
+      omega arith,
+      (
+        c.requires.lanes_high,
+        (alike, (fit.links, (fit.in_range, (colours, (pairs, (room, (space, (fixed, (live, knows))))))))),
+      ),
+    )
 
 pub returns-in-Err-clause-obeys : goal.returns-in-Err-clause-obeys
 returns-in-Err-clause-obeys g c =
@@ -57,7 +65,7 @@ returns-in-Err-clause-kept g c =
     (same_alike kept state setting c.take_over.ensures.weights (c.take_over.ensures.world setting))
     (subst (λ (ls : List Link). HasLinks (length state.store.particles) ls c.restore.new.colours) (sym c.restore.ensures.same_links)
     (subst (λ (n : ℕ). HasLinks n kept.links.items c.restore.new.colours) many c.restore.ensures.links))
-    (coe 0 1 (i. HaveSpace (many i) (links i) c.restore.new.scratch) c.restore.ensures.space)
+    (coe 0 1 (i. HaveSpace (many i) (links i) c.restore.new.scratch) c.restore.ensures.space) c.restore.ensures.knows
 
 pub returns-clause-kept : goal.returns-clause-kept
 returns-clause-kept g c =
@@ -67,6 +75,7 @@ returns-clause-kept g c =
       weights = ready.weights;
       links = ready.links;
       space = ready.space;
+      knows = ready.knows;
       alike = alike_join c.take_over.new.state c.args.run.now.state c.take_steps.new.run.state
           (same_alike c.take_over.new.state c.args.run.now.state c.args.setting.now
           c.take_over.ensures.weights (c.take_over.ensures.world c.args.setting.now))

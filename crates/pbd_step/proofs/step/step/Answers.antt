@@ -9,7 +9,7 @@ use Rattle.pbd_step.specs.declared.state.Running.{Running}
 use Rattle.pbd_step.specs.States.{world_of, now_of, HasLinks}
 use Rattle.pbd_step.specs.Staying.{IsGoing, StaysInStep}
 use Rattle.pbd_step.specs.Stepping.{finished}
-use Rattle.pbd_step.proofs.Staying.{move_in_step, tools_in_step, both_in_step, begun_goes, tools_go, refound}
+use Rattle.pbd_step.proofs.Staying.{move_in_step, tools_in_step, both_in_step, begun_goes, tools_go, refound, known_with}
 use Rattle.pbd_step.proofs.Stepping.{step_leaves, step_crowds, step_finishes, answers_so}
 use Rattle.pbd_step.proofs.UnderWay.{moved_world, more_under_way, ok_both}
 use Rattle.pbd_step.proofs.Costing.{finding_same, finishing_same, found_begun}
@@ -35,7 +35,8 @@ finish-requires g c =
     c.in_default.ensures.under_way in
     let found = c.find.new.run.scratch.found in
     let goes = tools_go c.args.setting.now start (record start.scratch { found = found })
-    (refound start.scratch found c.find.ensures.particles) going in (
+    (refound start.scratch found c.find.ensures.particles)
+    (known_with start.state start.scratch found) going in (
       omega arith,
       (
         c.requires.lanes_low,
@@ -84,7 +85,8 @@ returns-in-Err-find-clause-stays g c =
     subst (λ (r : Running g.row.L g.row.P.Denot). StaysInStep g.P.Projector.count g.P.Projector.width run r) (sym c.find.ensures.stays)
     (both_in_step run start (record start { scratch = record start.scratch { found = found } })
     (move_in_step run start.state c.begin.ensures.moved)
-    (tools_in_step start (record start.scratch { found = found }) (refound start.scratch found c.find.ensures.particles)))
+    (tools_in_step start (record start.scratch { found = found }) (refound start.scratch found c.find.ensures.particles)
+    (known_with start.state start.scratch found)))
 
 pub returns-clause-stays : goal.returns-clause-stays
 returns-clause-stays g c =
@@ -95,7 +97,8 @@ returns-clause-stays g c =
     (subst (λ (r : Running g.row.L g.row.P.Denot). StaysInStep g.P.Projector.count g.P.Projector.width run r) (sym c.find.ensures.stays)
     (both_in_step run start (record start { scratch = record start.scratch { found = found } })
     (move_in_step run start.state c.begin.ensures.moved)
-    (tools_in_step start (record start.scratch { found = found }) (refound start.scratch found c.find.ensures.particles))))
+    (tools_in_step start (record start.scratch { found = found }) (refound start.scratch found c.find.ensures.particles)
+    (known_with start.state start.scratch found))))
     c.finish.ensures.stays
 
 pub returns-clause-links : goal.returns-clause-links

@@ -1,4 +1,4 @@
-use Rattle.std.proofs.Common.{◌≡◌, ◌∙◌, ◌<◌, ℤ, length, pos, get_or, ap, arith, refl, rules, subst, sym, w32, FitsSigned}
+use Rattle.std.proofs.Common.{◌∙◌, ◌<◌, ℤ, length, pos, get_or, ap, arith, refl, rules, subst, sym, w32, FitsSigned}
 use Rattle.std.proofs.lemmas.Int.{to_z-of_z}
 use Rattle.pbd_world.specs.declared.bond.Bond.{Bond}
 use Rattle.pbd_pair.specs.declared.laid.LaidBond.{LaidBond}

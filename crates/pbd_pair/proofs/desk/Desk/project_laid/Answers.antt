@@ -1,4 +1,4 @@
-use Rattle.std.proofs.Common.{ℕ, ◌∙◌, ◌<◌, length, ap, sym, arith, rules, subst}
+use Rattle.std.proofs.Common.{ℕ, ◌∙◌, length, ap, sym, arith, subst}
 use Rattle.pbd_store.specs.Blocks.{blocks_of}
 use Rattle.pbd_store.specs.Pairs.{ArePairs}
 use Rattle.pbd_pair.proofs.Chunks.{laid_factor, laid_first, laid_pairs, laid_rest, laid_second, lie_between}

@@ -1,4 +1,4 @@
-use Rattle.std.proofs.Common.{ℕ, ◌∙◌, ◌<◌, List, length, ap, sym, arith, rules, subst}
+use Rattle.std.proofs.Common.{ℕ, ◌∙◌, ◌<◌, List, length, ap, sym, arith, subst}
 use Rattle.pbd_store.specs.Blocks.{blocks_of}
 use Rattle.pbd_store.specs.Pairs.{row_in, ArePairs, AreBetween, IsWay}
 use Rattle.pbd_num.specs.declared.row.Row.{Row}

@@ -1,10 +1,9 @@
-use Rattle.std.proofs.Common.{◌≡◌, ◌∙◌, ◌<◌, ℕ, length, pos, get_or, ap, arith, refl, rules, subst, sym, inl, inr, w32, FitsSigned}
+use Rattle.std.proofs.Common.{◌≡◌, ◌∙◌, ◌<◌, ℕ, length, pos, get_or, ap, arith, refl, subst, sym, inl, inr, w32, FitsSigned}
 use Rattle.std.proofs.lemmas.List.{length-set}
 use Rattle.std.proofs.lemmas.Int.{to_z-of_z}
 use Rattle.pbd_world.specs.declared.bond.Bond.{Bond}
 use Rattle.pbd_store.specs.Gathering.{index_at}
 use Rattle.pbd_store.proofs.Scattering.{split_below}
-use Rattle.pbd_pair.specs.declared.laid.LaidBond.{LaidBond}
 use Rattle.pbd_pair.specs.Bonds.{bond_of}
 use Rattle.pbd_pair.specs.Laid.{laid_at, laid_bond, lists_in, AreEven, Lists}
 use Rattle.pbd_pair.proofs.Laying.{even_put, laid_number, row_kept, row_put}

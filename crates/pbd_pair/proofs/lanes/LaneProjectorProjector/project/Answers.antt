@@ -31,6 +31,7 @@ steps_on-init g c = record {
   limit = refl;
   copies = refl;
   fixed = refl;
+  counted = refl;
   cost = omega arith;
 }
 
@@ -92,6 +93,7 @@ steps_on-preserved g c =
       limit = c.project.ensures.limit ∙ inv.limit;
       copies = c.project.ensures.copies ∙ inv.copies;
       fixed = fixed ∙ inv.fixed;
+      counted = inv.counted;
       cost = rw left (omega (
         arith,
         fewer,
@@ -153,6 +155,12 @@ returns-in-Err-clause-cost g c =
       c.in-Err.ensures.cost,
       ap (λ (x : ℕ). blocks_of x g.row.L) c.split_at.ensures.front_len,
     )
+
+pub returns-in-Err-clause-handed : goal.returns-in-Err-clause-handed
+returns-in-Err-clause-handed g c = c.steps_on.invariant.counted ∙ c.saturating_add-self.ensures
+
+pub returns-clause-handed : goal.returns-clause-handed
+returns-clause-handed g c = c.steps_on.invariant.counted ∙ c.saturating_add-self.ensures
 
 pub returns-clause-outcome : goal.returns-clause-outcome
 returns-clause-outcome g c =

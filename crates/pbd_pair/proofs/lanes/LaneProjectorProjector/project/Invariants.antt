@@ -25,6 +25,7 @@ invariant-steps_on g l = record {
   limit : l.store.limit ≡ l.initial.store.limit;
   copies : l.store.copies ≡ l.initial.store.copies;
   fixed : fixed_parts l.store.particles ≡ fixed_parts l.initial.store.particles;
+  counted : l.self.count ≡ l.initial.self.count;
   cost : l.steps + 4 * blocks_of (length l.rest) g.row.L ≤ l.initial.steps + 4 * blocks_of (length l.initial.rest) g.row.L;
 }
 

@@ -1,19 +1,22 @@
-use Rattle.std.proofs.Common.{ℕ, length, ap, sym, ◌∙◌, arith, Err}
+use Rattle.std.proofs.Common.{ℕ, length, ap, sym, ◌∙◌, arith, Err, w32, FitsSigned}
+use Rattle.std.proofs.lemmas.Int.{to_z-of_z}
+use Rattle.pbd_num.proofs.Tests.{less}
 use Rattle.pbd_world.specs.Ledger.{ledger_of, added}
 use Rattle.pbd_world.specs.declared.totals.Class.TheVariants as classes
 use Rattle.pbd_world.proofs.Rooms.{room_at}
 use Rattle.pbd_pair.specs.Chunks.{lying_in}
 use Rattle.pbd_pair.proofs.Settled.{apart_asked, back_short, forth_short, free_masked, near_done, near_leaves, nothing_booked, pairs_asked}
-use Rattle.pbd_pair.proofs.Settled.{sized_asked}
+use Rattle.pbd_pair.proofs.Settled.{sized_asked, weighed_asked}
 use Rattle.pbd_pair.proofs.near.NearMoves.pull.Goals as goal
 
 pub pull-requires : goal.pull-requires
 pull-requires g c =
     let can = c.requires.can in
     let found = c.requires.found in
-    let masked = free_masked (lying_in c.args.found.now) c.args.self.now.moves c.requires.near.long
-    (c.ends_are_free-free.ensures.first c.if-free.true)
-    (c.ends_are_free-free.ensures.second c.if-free.true) in
+    let fits : FitsSigned w32 c.least_weight-least.result = record { sfits = c.least_weight-least.type_inv } in
+    let some = less _ _ (simp to_z-of_z at c.if-free.true) in
+    let masked = free_masked (lying_in c.args.found.now) c.args.self.now.moves c.requires.near.long c.requires.found.first_long some
+    c.least_weight-least.ensures.first c.least_weight-least.ensures.second in
     let back = back_short can found c.requires.near masked in
     let forth = forth_short can found c.requires.near masked in (
       omega arith,
@@ -28,25 +31,28 @@ pull-requires g c =
 
 pub returns-in-Err-clause-outcome : goal.returns-in-Err-clause-outcome
 returns-in-Err-clause-outcome g c =
-    let masked = free_masked (lying_in c.args.found.now) c.args.self.now.moves c.requires.near.long
-    (c.ends_are_free-free.ensures.first c.if-free.true)
-    (c.ends_are_free-free.ensures.second c.if-free.true) in
+    let fits : FitsSigned w32 c.least_weight-least.result = record { sfits = c.least_weight-least.type_inv } in
+    let some = less _ _ (simp to_z-of_z at c.if-free.true) in
+    let masked = free_masked (lying_in c.args.found.now) c.args.self.now.moves c.requires.near.long c.requires.found.first_long some
+    c.least_weight-least.ensures.first c.least_weight-least.ensures.second in
     near_leaves c.requires.can c.requires.found c.requires.near masked c.in-Err.ensures.outcome
     ∙ ap (λ (n : ℕ). Err n) (sym c.left_at.ensures)
 
 pub returns-then-free-clause-outcome : goal.returns-then-free-clause-outcome
 returns-then-free-clause-outcome g c =
-    let masked = free_masked (lying_in c.args.found.now) c.args.self.now.moves c.requires.near.long
-    (c.ends_are_free-free.ensures.first c.if-free.true)
-    (c.ends_are_free-free.ensures.second c.if-free.true) in
+    let fits : FitsSigned w32 c.least_weight-least.result = record { sfits = c.least_weight-least.type_inv } in
+    let some = less _ _ (simp to_z-of_z at c.if-free.true) in
+    let masked = free_masked (lying_in c.args.found.now) c.args.self.now.moves c.requires.near.long c.requires.found.first_long some
+    c.least_weight-least.ensures.first c.least_weight-least.ensures.second in
     let books = nothing_booked (ledger_of c.args.totals.now) c.args.self.now.moves (length c.args.found.now.chunk.numbers.now) in
     (near_done c.requires.can c.requires.found c.requires.near masked c.in_default.ensures.outcome books).outcome
 
 pub returns-then-free-clause-sound : goal.returns-then-free-clause-sound
 returns-then-free-clause-sound g c =
-    let masked = free_masked (lying_in c.args.found.now) c.args.self.now.moves c.requires.near.long
-    (c.ends_are_free-free.ensures.first c.if-free.true)
-    (c.ends_are_free-free.ensures.second c.if-free.true) in
+    let fits : FitsSigned w32 c.least_weight-least.result = record { sfits = c.least_weight-least.type_inv } in
+    let some = less _ _ (simp to_z-of_z at c.if-free.true) in
+    let masked = free_masked (lying_in c.args.found.now) c.args.self.now.moves c.requires.near.long c.requires.found.first_long some
+    c.least_weight-least.ensures.first c.least_weight-least.ensures.second in
     let books = nothing_booked (ledger_of c.args.totals.now) c.args.self.now.moves (length c.args.found.now.chunk.numbers.now) in
     record {
       inside = (near_done c.requires.can c.requires.found c.requires.near masked c.in_default.ensures.outcome books).inside;
@@ -92,5 +98,8 @@ returns-clause-sound g c =
       room = λ n h. room_at _ (omega arith) (c.book_pins.ensures.room n _ c.mask-pins.ensures.size h);
     }
 
-pub ends_are_free-free-requires-clause-sized : goal.ends_are_free-free-requires-clause-sized
-ends_are_free-free-requires-clause-sized g c = sized_asked c.requires.can c.requires.found
+pub least_weight-least-requires-clause-even : goal.least_weight-least-requires-clause-even
+least_weight-least-requires-clause-even g c = omega (arith, c.requires.found.first_long, c.requires.found.second_long)
+
+pub least_weight-least-requires-clause-weighed : goal.least_weight-least-requires-clause-weighed
+least_weight-least-requires-clause-weighed g c = weighed_asked c.requires.can c.requires.found

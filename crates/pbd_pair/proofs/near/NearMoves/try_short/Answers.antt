@@ -47,8 +47,8 @@ run-requires-clause-factor_low c = λ j p. (c.requires.factor j (omega (arith, c
 pub run-requires-clause-factor_high : goal.run-requires-clause-factor_high
 run-requires-clause-factor_high c = λ j p. (c.requires.factor j (omega (arith, c.first_of-ways.ensures.long, p))).high
 
-pub are_short-requires-clause-low : goal.are_short-requires-clause-low
-are_short-requires-clause-low c = λ j p. (c.requires.factor j (omega (arith, c.requires.factor_long, p))).low
+pub least_factor-requires-clause-low : goal.least_factor-requires-clause-low
+least_factor-requires-clause-low c = λ j p. (c.requires.factor j (omega (arith, c.requires.factor_long, p))).low
 
-pub are_short-requires-clause-high : goal.are_short-requires-clause-high
-are_short-requires-clause-high c = λ j p. (c.requires.factor j (omega (arith, c.requires.factor_long, p))).high
+pub least_factor-requires-clause-high : goal.least_factor-requires-clause-high
+least_factor-requires-clause-high c = λ j p. (c.requires.factor j (omega (arith, c.requires.factor_long, p))).high

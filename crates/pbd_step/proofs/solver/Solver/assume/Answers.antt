@@ -9,7 +9,7 @@ use Rattle.pbd_sound.proofs.Telling.{told_scene}
 use Rattle.pbd_step.specs.declared.state.Setting.{Setting}
 use Rattle.pbd_step.specs.States.{world_of, HasLinks, HaveSpace}
 use Rattle.pbd_step.specs.Solving.{Solved, AreAlike}
-use Rattle.pbd_step.proofs.Keeping.{formed_fit, scene_pairs, kept_moved, weights_taken}
+use Rattle.pbd_step.proofs.Keeping.{formed_fit, scene_pairs, scene_fixed, kept_moved, weights_taken}
 use Rattle.pbd_step.proofs.Assuming.{Holds, held_world, judged, flipped, told_alike}
 use Rattle.pbd_step.proofs.solver.Solver.assume.Goals as goal
 
@@ -39,6 +39,7 @@ invariant_of-self g c = record {
   weights = c.self.invariant.weights;
   links = c.self.invariant.links;
   space = c.self.invariant.space;
+  knows = c.self.invariant.knows;
   alike = told_alike (g.D.Described.seen c.args.described.now) c.self.inside.setting c.describe.new.state c.self.inside.run.state
       c.describe.ensures.weights c.self.invariant.weights (c.describe.ensures.world c.self.inside.setting);
 }
@@ -81,6 +82,7 @@ restore-requires g c =
     let fit = formed_fit (world_of (record c.self.inside.setting { gravity = c.gravity-gravity.result }) other) sound.well_formed in
     let setting : Setting = record c.self.inside.setting { gravity = c.gravity-gravity.result } in
     let scene : AreOfOneScene w (world_of setting other) = subst (λ (v : World). AreOfOneScene w v) (sym (held_world h)) (told_scene d w) in
+    let fixed = scene_fixed c.self.inside.setting setting mine other scene in
     let pairs = c.self.invariant.links.pairs ∙ scene_pairs c.self.inside.setting setting mine other scene in
     let room : length other.links.items ≤ c.self.inside.run.colours.room = omega (arith, c.self.invariant.links.room, alike.links) in
     let space = subst (λ (m : ℕ). HaveSpace (length other.store.particles) m c.self.inside.run.scratch) alike.links
@@ -92,7 +94,13 @@ restore-requires g c =
           alike,
           (
             fit.links,
-            (fit.in_range, (c.self.invariant.links.particles ∙ alike.particles, (pairs, (room, space)))),
+            (
+              fit.in_range,
+              (
+                c.self.invariant.links.particles ∙ alike.particles,
+                (pairs, (room, (space, (fixed, (c.self.invariant.links.live, c.self.invariant.knows))))),
+              ),
+            ),
           ),
         ),
       ),
@@ -122,7 +130,7 @@ invariant_of-self-2 g c =
     now (record { particles = refl; limit = refl; weights = refl; links = refl })
     (subst (λ (ls : List Link). HasLinks (length other.store.particles) ls c.restore.new.colours)
     (sym c.restore.ensures.same_links) c.restore.ensures.links)
-    c.restore.ensures.space
+    c.restore.ensures.space c.restore.ensures.knows
 
 pub returns-clause-exact : goal.returns-clause-exact
 returns-clause-exact g c =

@@ -5,7 +5,7 @@ use Rattle.pbd_world.specs.World.{World, IsSound, AreOfOneScene}
 use Rattle.pbd_step.specs.declared.state.Setting.{Setting}
 use Rattle.pbd_step.specs.States.{world_of, HasLinks, HaveSpace}
 use Rattle.pbd_step.specs.Solving.{Solved, AreAlike}
-use Rattle.pbd_step.proofs.Keeping.{formed_fit, scene_alike, scene_pairs, scene_world, alike_join, kept_moved, weights_taken}
+use Rattle.pbd_step.proofs.Keeping.{formed_fit, scene_alike, scene_pairs, scene_fixed, scene_world, alike_join, kept_moved, weights_taken}
 use Rattle.pbd_step.proofs.solver.Solver.copy_from.Goals as goal
 
 pub restore-requires : goal.restore-requires
@@ -19,6 +19,7 @@ restore-requires g c =
     let alike : AreAlike mine other = scene_alike c.self.inside.setting c.other.inside.setting mine other c.self.invariant.weights
     c.other.invariant.weights scene in
     let fit = formed_fit (world_of c.other.inside.setting other) c.other.invariant.sound.well_formed in
+    let fixed = scene_fixed c.self.inside.setting c.other.inside.setting mine other scene in
     let pairs = c.self.invariant.links.pairs ∙ scene_pairs c.self.inside.setting c.other.inside.setting mine other scene in
     let room : length other.links.items ≤ c.self.inside.run.colours.room = omega (arith, c.self.invariant.links.room, alike.links) in
     let space = subst (λ (m : ℕ). HaveSpace (length other.store.particles) m c.self.inside.run.scratch) alike.links
@@ -30,7 +31,13 @@ restore-requires g c =
           alike,
           (
             fit.links,
-            (fit.in_range, (c.self.invariant.links.particles ∙ alike.particles, (pairs, (room, space)))),
+            (
+              fit.in_range,
+              (
+                c.self.invariant.links.particles ∙ alike.particles,
+                (pairs, (room, (space, (fixed, (c.self.invariant.links.live, c.self.invariant.knows))))),
+              ),
+            ),
           ),
         ),
       ),
@@ -60,7 +67,7 @@ invariant_of-self g c =
     (alike_join c.self.inside.kept mine other c.self.invariant.alike alike)
     (subst (λ (ls : List Link). HasLinks (length other.store.particles) ls c.restore.new.colours)
     (sym c.restore.ensures.same_links) c.restore.ensures.links)
-    c.restore.ensures.space
+    c.restore.ensures.space c.restore.ensures.knows
 
 pub returns-clause-world : goal.returns-clause-world
 returns-clause-world g c =

@@ -1,11 +1,11 @@
-use Rattle.std.proofs.Common.{◌+◌, ap, sym, ◌∙◌, arith, subst}
+use Rattle.std.proofs.Common.{◌+◌, ap, sym, ◌∙◌, arith, subst, false}
 use Rattle.pbd_world.specs.Meaning.{cut}
 use Rattle.pbd_world.specs.World.{World}
 use Rattle.pbd_world.specs.declared.command.Command.TheVariants as commands
 use Rattle.pbd_step.specs.declared.state.State.{State}
 use Rattle.pbd_step.specs.States.{world_of, AreWeights}
 use Rattle.pbd_step.specs.Solving.{Solved}
-use Rattle.pbd_step.proofs.Keeping.{commanded, seen_commanded, cut_means, kept_commanded, formed_fit}
+use Rattle.pbd_step.proofs.Keeping.{commanded, seen_commanded, cut_means, kept_commanded, none_laid, formed_fit}
 use Rattle.pbd_step.proofs.solver.Solver.cut.Goals as goal
 
 pub cut-requires : goal.cut-requires
@@ -25,6 +25,7 @@ invariant_of-self g c =
     let w = world_of c.self.inside.setting c.self.inside.run.state in
     kept_commanded c.self.invariant (commanded (commands.Cut c.args.l) c.cut.ensures.obeys c.self.invariant.sound (cut_means w c.args.l))
     (subst (λ (s : State g.row.L). AreWeights s) (sym c.cut.ensures.same) c.self.invariant.weights) c.cut.ensures.links
+    false none_laid
 
 pub returns-clause-commanded : goal.returns-clause-commanded
 returns-clause-commanded g c =

@@ -12,7 +12,7 @@ invariant_of-result g c =
     let opened = c.in_ok-run.ensures in
     opened_kept c.parts-parts.result.now c.in-Ok.setting run.state c.in-Ok.kept run.colours run.scratch _ _
     (subst (λ (p : Parts). IsTrue (is_valid p)) (sym c.parts-parts.ensures.parts) c.parts-parts.ensures.valid)
-    c.in-Ok.ensures.setting opened.state c.in-Ok.ensures.state refl refl opened.links opened.space
+    c.in-Ok.ensures.setting opened.state c.in-Ok.ensures.state refl refl opened.links opened.space opened.unused
 
 pub returns-in-Ok-clause-world : goal.returns-in-Ok-clause-world
 returns-in-Ok-clause-world g c =

@@ -12,6 +12,7 @@ invariant_of-self g c =
     let w = world_of c.self.inside.setting c.self.inside.run.state in
     kept_commanded c.self.invariant (commanded (commands.Gravity c.args.g) c.set_gravity.ensures.obeys c.self.invariant.sound
     (gravity_means w c.args.g)) c.self.invariant.weights c.self.invariant.links
+    c.self.inside.run.scratch.are_links_laid c.self.invariant.knows.laid
 
 pub returns-clause-commanded : goal.returns-clause-commanded
 returns-clause-commanded g c =

@@ -1,0 +1,10 @@
+-- What is known of places of which a reach was taken.
+use Rattle.std.specs.Prelude.{◌*◌, ◌≤◌, ℤ, unsigned_abs}
+use Rattle.pbd_num.specs.declared.Vec3.{Vec3}
+use Rattle.pbd_store.specs.declared.reach.Reach.{Reach}
+
+-- where no number of the reach is above twice the limit, the place is within the limit
+pub record Covers (reach : Reach) (limit : ℤ) (place : Vec3) : Type 0 where
+  pub x : reach.x ≤ 2 * unsigned_abs limit → unsigned_abs place.x ≤ unsigned_abs limit
+  pub y : reach.y ≤ 2 * unsigned_abs limit → unsigned_abs place.y ≤ unsigned_abs limit
+  pub z : reach.z ≤ 2 * unsigned_abs limit → unsigned_abs place.z ≤ unsigned_abs limit

@@ -1,0 +1,207 @@
+// All particles at the start of a step, in one pass over their rows.
+ghost use Rattle.std.specs.Prelude.{◌≡◌, ℕ, ◌+◌, ◌*◌, ◌<◌, ◌≤◌, ◌^◌, pos, ◌+ℤ◌, ◌≤ℤ◌, unsigned_abs, not, length, map, IsTrue, MatchResult};
+ghost use Rattle.pbd_num.specs.declared.Vec3.{Vec3};
+ghost use Rattle.pbd_num.specs.Vectors.{Within, is_within, plus};
+ghost use Rattle.pbd_lanes.specs.Lane.{is_set};
+ghost use Rattle.pbd_world.specs.Particles.{particle_at, is_free};
+ghost use Rattle.pbd_store.specs.Blocks.{blocks_of};
+ghost use Rattle.pbd_store.specs.Flying.{IsSmall, AllStay, LeavesFirst, WrittenFirst, WrittenRows, AreSummed, IsOutside, are_free, after_flight, places_at, one_if, row_at, place_in};
+ghost use Rattle.pbd_store.specs.InRows.{place_in_row};
+ghost use Rattle.pbd_store.specs.Listed.{place_at};
+ghost use Rattle.pbd_store.specs.Moving.{AreInside};
+ghost use Rattle.pbd_store.specs.Reaching.{Covers};
+
+use crate::columns::Columns;
+use crate::flight::{Air, Flown, RowFlown, fly_row};
+use crate::reach::Reach;
+use crate::rows::{Place, PlaceRows};
+use crate::steps::Steps;
+use crate::store::Store;
+use pbd_num::{Vec3, within};
+use std::sync::ledger::Ledger;
+
+/// What is summed up of rows that have flown: how many fly, what damping takes of them, and how far they reach.
+#[derive(Clone, Copy)]
+pub(crate) struct Sums {
+    free: i64,
+    lost: Vec3,
+    reach: Reach,
+}
+
+// A number with one more where it is wanted.
+#[inline(always)]
+fn counted(n: i64, wanted: bool) -> i64
+    requires { unsigned_abs n ≤ 2 ^ 16 }
+    ensures { result ≡ n +ℤ one_if wanted }
+{
+    n + i64::from(wanted)
+}
+
+#[inline(always)]
+fn sum(sum: i64, n: i64) -> i64
+    requires sum { unsigned_abs sum ≤ 2 ^ 46 }
+    requires n { unsigned_abs n ≤ 2 ^ 30 }
+    ensures { result ≡ sum +ℤ n }
+{
+    sum + n
+}
+
+// The sum of two vectors.
+#[inline(always)]
+fn both(first: Vec3, second: Vec3) -> Vec3
+    requires first { Within (2 ^ 46) first }
+    requires second { Within (2 ^ 30) second }
+    ensures { result ≡ plus first second }
+{
+    Vec3 {
+        x: sum(first.x, second.x),
+        y: sum(first.y, second.y),
+        z: sum(first.z, second.z),
+    }
+}
+
+impl Sums {
+    // Those of no row.
+    const NONE: Sums = Sums {
+        free: 0,
+        lost: Vec3::ZERO,
+        reach: Reach::NONE,
+    };
+
+    // The same with one more row.
+    #[inline(always)]
+    fn with(self, flies: bool, row: RowFlown, limit: i64) -> Sums
+        requires free { unsigned_abs self.free ≤ 2 ^ 16 }
+        requires lost { Within (2 ^ 46) self.lost }
+        requires row_lost { Within (2 ^ 30) row.lost }
+        requires row_to { Within (2 ^ 32) (place_in_row row.to) }
+        requires spare { row.to.spare ≡ pos 0 }
+        requires low { pos 0 ≤ℤ limit }
+        requires high { unsigned_abs limit ≤ 2 ^ 29 }
+        ensures free { result.free ≡ self.free +ℤ one_if flies }
+        ensures lost { result.lost ≡ plus self.lost row.lost }
+        ensures kept { (v : Vec3) → Covers self.reach limit v → Covers result.reach limit v }
+        ensures own { Covers result.reach limit (place_in_row row.to) }
+    {
+        Sums {
+            free: counted(self.free, flies),
+            lost: both(self.lost, row.lost),
+            reach: self.reach.with(row.to, limit),
+        }
+    }
+}
+
+// Lets the particles that aren't held fly, each in its row.
+#[inline(always)]
+fn fly_rows(air: Air, held: &[bool], at: &mut Vec<Place>, before: &mut Vec<Place>) -> Sums
+    requires air { IsSmall air }
+    requires few { length held.now ≤ 65536 }
+    requires at_long { length held.now ≤ length at.old.items }
+    requires before_long { length held.now ≤ length before.old.items }
+    requires at { (j : ℕ) → j < length held.now → Within (2 ^ 29) (place_in at.old.items j) }
+    requires before { (j : ℕ) → j < length held.now → Within (2 ^ 29) (place_in before.old.items j) }
+    requires spare { (j : ℕ) → j < length held.now → (row_at at.old.items j).spare ≡ pos 0 }
+    ensures rows { WrittenRows air held.now (length held.now) at.old.items before.old.items at.new.items before.new.items }
+    ensures sums { AreSummed air (length held.now) (are_free held.now) (place_in at.old.items) (place_in before.old.items)
+        (place_in at.new.items) result }
+{
+    // As many as there are flags: said by all three lengths, so that no index needs a test.
+    let count = held.len().min(at.len()).min(before.len());
+    let mut sums = Sums::NONE;
+    for i in 0..count {
+        let old = at[i];
+        let flies = !held[i];
+        let row = fly_row(air, flies, old, before[i]);
+        at[i] = row.to;
+        before[i] = old;
+        sums = sums.with(flies, row, air.limit);
+    }
+    sums
+}
+
+impl PlaceRows {
+    /// Lets the particles that aren't held fly, of as many places as there are flags. Their places become those before.
+    #[inline(never)]
+    pub(crate) fn fly(&mut self, before: &mut PlaceRows, held: &[bool], air: Air) -> Sums
+        requires air { IsSmall air }
+        requires few { length held.now ≤ 65536 }
+        requires at_long { length held.now ≤ length self.old }
+        requires before_long { length held.now ≤ length before.old }
+        requires at { (j : ℕ) → j < length held.now → Within (2 ^ 29) (place_at self.old j) }
+        requires before { (j : ℕ) → j < length held.now → Within (2 ^ 29) (place_at before.old j) }
+        ensures at { WrittenFirst (length held.now) (λ j. places_at air.damping air.gravity (not (is_set held.now j))
+            (place_at self.old j) (place_at before.old j)) self.old self.new }
+        ensures before { WrittenFirst (length held.now) (place_at self.old) before.old before.new }
+        ensures sums { AreSummed air (length held.now) (are_free held.now) (place_at self.old) (place_at before.old)
+            (place_at self.new) result }
+    {
+        fly_rows(air, held, &mut self.rows, &mut before.rows)
+    }
+}
+
+impl<const L: usize> Columns<L> {
+    /// Lets the free particles fly.
+    pub(crate) fn fly(&mut self, air: Air) -> Sums
+        requires lanes { L ≤ 16 }
+        requires air { IsSmall air }
+        requires at { (i : ℕ) → i < length self.old → Within (2 ^ 29) (particle_at self.old i).at }
+        requires before { (i : ℕ) → i < length self.old → Within (2 ^ 29) (particle_at self.old i).before }
+        ensures few { length self.old ≤ 65536 }
+        ensures particles { self.new ≡ map (after_flight air) self.old }
+        ensures sums { AreSummed air (length self.old) (λ i. is_free (particle_at self.old i)) (λ i. (particle_at self.old i).at)
+            (λ i. (particle_at self.old i).before) (λ i. (after_flight air (particle_at self.old i)).at) result }
+    {
+        let held = &self.held[..self.count];
+        self.at.fly(&mut self.before, held, air)
+    }
+
+    /// The first particle whose place is outside the limit, if there is one, of particles of this reach.
+    pub(crate) fn first_outside(&self, reach: Reach, limit: i64) -> Result<(), u32>
+        requires lanes { L ≤ 16 }
+        requires low { pos 0 ≤ℤ limit }
+        requires high { unsigned_abs limit ≤ 2 ^ 29 }
+        requires reach { (i : ℕ) → i < length self.now → Covers reach limit (particle_at self.now i).at }
+        ensures { MatchResult result
+            (λ _. (i : ℕ) → i < length self.now → IsTrue (is_within limit (particle_at self.now i).at))
+            (λ i. IsOutside i limit self.now) }
+    {
+        if reach.is_within(limit) {
+            return Ok(());
+        }
+        for i in 0..self.count {
+            let inside = within(self.at.get(i), limit);
+            if !inside {
+                return Err(i as u32);
+            }
+        }
+        Ok(())
+    }
+}
+
+impl<const L: usize> Store<L> {
+    /// Lets the free particles fly: each goes on as far as it came, less what damping takes, and by gravity. The answer is the
+    /// number of the first that has left the limit, if there is one.
+    pub fn fly<G: Ledger>(&mut self, air: Air, steps: &mut Steps<G>) -> Result<Flown, u32>
+        requires some_lanes { 0 < L }
+        requires lanes { L ≤ 16 }
+        requires air { IsSmall air }
+        requires at { AreInside air.limit self.old.particles }
+        requires before { (i : ℕ) → i < length self.old.particles
+            → Within (unsigned_abs air.limit) (particle_at self.old.particles i).before }
+        ensures particles { self.new.particles ≡ map (after_flight air) self.old.particles }
+        ensures outcome { MatchResult result (AllStay air self.old.particles) (LeavesFirst air self.old.particles) }
+        ensures limit { self.new.limit ≡ self.old.limit }
+        ensures copies { self.new.copies ≡ self.old.copies }
+        ensures cost { steps.new ≡ steps.old + 2 * blocks_of (length self.old.particles) L }
+    {
+        steps.add(2 * u64::from(self.blocks()));
+        let sums = self.columns.fly(air);
+        if let Err(i) = self.columns.first_outside(sums.reach, air.limit) {
+            return Err(i);
+        }
+        Ok(Flown {
+            free: sums.free,
+            lost: sums.lost,
+        })
+    }
+}
