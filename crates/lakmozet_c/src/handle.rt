@@ -97,3 +97,29 @@ pub(crate) fn looked_at(cloth: Box<Cloth>) -> Box<Cloth>
     let _slots = cloth.slots();
     cloth
 }
+
+/// Answers by the cloth that a handle holds, which is taken out for it and put back: `CLOSED` where it holds none.
+macro_rules! with_cloth {
+    ($alloc:expr, $handle:expr, $cloth:ident => $answer:expr) => {
+        match $handle.take($alloc) {
+            Some($cloth) => {
+                let answer = $answer;
+                $handle.put($alloc, $cloth);
+                answer
+            }
+            None => CLOSED,
+        }
+    };
+    ($alloc:expr, $handle:expr, mut $cloth:ident => $answer:expr) => {
+        match $handle.take($alloc) {
+            Some(mut $cloth) => {
+                let answer = $answer;
+                $handle.put($alloc, $cloth);
+                answer
+            }
+            None => CLOSED,
+        }
+    };
+}
+
+pub(crate) use with_cloth;

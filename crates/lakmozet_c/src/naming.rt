@@ -3,7 +3,7 @@ ghost use Rattle.std.specs.Prelude.{◌≡◌, pos};
 ghost use Rattle.pbd_state.specs.Naming.{scene_name};
 ghost use Rattle.lakmozet_c.specs.Calls.{answered, read_from, HoldsSound};
 
-use crate::handle::Handle;
+use crate::handle::{Handle, with_cloth};
 use crate::numbers::CLOSED;
 use crate::plain::Hash;
 use std::alloc::Global;
@@ -16,12 +16,8 @@ pub extern "C" fn lak_scene_name(alloc: Global, handle: &mut Handle, name: &mut 
     ensures answer { result ≡ pos (answered handle.old.held (λ _. 0)) }
     ensures name { name.new.bytes ≡ read_from handle.old.held (λ c. scene_name c.world) name.old.bytes }
 {
-    match handle.take(alloc) {
-        Some(cloth) => {
-            name.bytes = cloth.scene_name();
-            handle.put(alloc, cloth);
-            0
-        }
-        None => CLOSED,
-    }
+    with_cloth!(alloc, handle, cloth => {
+        name.bytes = cloth.scene_name();
+        0
+    })
 }

@@ -6,7 +6,7 @@ ghost use Rattle.pbd_cloth.specs.Reading.{places, places_before, live_bytes, gon
 ghost use Rattle.pbd_cloth.specs.Slots.{slot_at};
 ghost use Rattle.lakmozet_c.specs.Calls.{answered, counts_of, gone_answer, gone_count, gone_left, read_from, room_answer, sums_of, HoldsSound};
 
-use crate::handle::Handle;
+use crate::handle::{Handle, with_cloth};
 use crate::numbers::{CLOSED, NO_ROOM, NO_SLOT};
 use crate::plain::{Counts, Sums};
 use pbd_cloth::{Cloth, Place};
@@ -66,14 +66,10 @@ pub extern "C" fn lak_counts(alloc: Global, handle: &mut Handle, counts: &mut Co
     ensures answer { result ≡ pos (answered handle.old.held (λ _. 0)) }
     ensures counts { counts.new ≡ read_from handle.old.held counts_of counts.old }
 {
-    match handle.take(alloc) {
-        Some(cloth) => {
-            *counts = counts_of(&cloth);
-            handle.put(alloc, cloth);
-            0
-        }
-        None => CLOSED,
-    }
+    with_cloth!(alloc, handle, cloth => {
+        *counts = counts_of(&cloth);
+        0
+    })
 }
 
 /// Writes the sums that a log keeps of a world.
@@ -84,14 +80,10 @@ pub extern "C" fn lak_sums(alloc: Global, handle: &mut Handle, sums: &mut Sums) 
     ensures answer { result ≡ pos (answered handle.old.held (λ _. 0)) }
     ensures sums { sums.new ≡ read_from handle.old.held (λ c. sums_of (frame_sums c.world)) sums.old }
 {
-    match handle.take(alloc) {
-        Some(cloth) => {
-            *sums = sums_of(&cloth.sums());
-            handle.put(alloc, cloth);
-            0
-        }
-        None => CLOSED,
-    }
+    with_cloth!(alloc, handle, cloth => {
+        *sums = sums_of(&cloth.sums());
+        0
+    })
 }
 
 /// Writes how many contacts the last step found.
@@ -102,14 +94,10 @@ pub extern "C" fn lak_contacts(alloc: Global, handle: &mut Handle, contacts: &mu
     ensures answer { result ≡ pos (answered handle.old.held (λ _. 0)) }
     ensures contacts { contacts.new ≡ read_from handle.old.held (λ c. c.world.contacts) contacts.old }
 {
-    match handle.take(alloc) {
-        Some(cloth) => {
-            *contacts = u64::from(cloth.contacts());
-            handle.put(alloc, cloth);
-            0
-        }
-        None => CLOSED,
-    }
+    with_cloth!(alloc, handle, cloth => {
+        *contacts = u64::from(cloth.contacts());
+        0
+    })
 }
 
 /// Writes the places of the particles, as many as there is room for, and how many there are.
@@ -126,14 +114,10 @@ pub extern "C" fn lak_places(
     ensures count { count.new ≡ read_from handle.old.held (λ c. length c.world.particles) count.old }
     ensures written { into.new ≡ read_from handle.old.held (λ c. overwritten into.old (places c.world)) into.old }
 {
-    match handle.take(alloc) {
-        Some(cloth) => {
-            *count = cloth.places(into);
-            handle.put(alloc, cloth);
-            room_for(*count as usize, into.len())
-        }
-        None => CLOSED,
-    }
+    with_cloth!(alloc, handle, cloth => {
+        *count = cloth.places(into);
+        room_for(*count as usize, into.len())
+    })
 }
 
 /// Writes the places of one step before, as many as there is room for, and how many there are.
@@ -150,14 +134,10 @@ pub extern "C" fn lak_places_before(
     ensures count { count.new ≡ read_from handle.old.held (λ c. length c.world.particles) count.old }
     ensures written { into.new ≡ read_from handle.old.held (λ c. overwritten into.old (places_before c.world)) into.old }
 {
-    match handle.take(alloc) {
-        Some(cloth) => {
-            *count = cloth.places_before(into);
-            handle.put(alloc, cloth);
-            room_for(*count as usize, into.len())
-        }
-        None => CLOSED,
-    }
+    with_cloth!(alloc, handle, cloth => {
+        *count = cloth.places_before(into);
+        room_for(*count as usize, into.len())
+    })
 }
 
 /// Writes a 1 for each live link and a 0 for each other, as many as there is room for, and how many links there are.
@@ -174,14 +154,10 @@ pub extern "C" fn lak_live(
     ensures count { count.new ≡ read_from handle.old.held (λ c. length c.world.links) count.old }
     ensures written { into.new ≡ read_from handle.old.held (λ c. overwritten into.old (live_bytes c.world)) into.old }
 {
-    match handle.take(alloc) {
-        Some(cloth) => {
-            *count = cloth.live(into);
-            handle.put(alloc, cloth);
-            room_for(*count as usize, into.len())
-        }
-        None => CLOSED,
-    }
+    with_cloth!(alloc, handle, cloth => {
+        *count = cloth.live(into);
+        room_for(*count as usize, into.len())
+    })
 }
 
 /// Writes the numbers, ascending, of the links that are live in a slot's world and not live now, as many as there is room
@@ -200,12 +176,5 @@ pub extern "C" fn lak_gone_since(
     ensures count { count.new ≡ read_from handle.old.held (λ c. gone_count c slot count.old) count.old }
     ensures written { into.new ≡ read_from handle.old.held (λ c. gone_left c slot into.old) into.old }
 {
-    match handle.take(alloc) {
-        Some(cloth) => {
-            let answer = gone_since(&cloth, slot, into, count);
-            handle.put(alloc, cloth);
-            answer
-        }
-        None => CLOSED,
-    }
+    with_cloth!(alloc, handle, cloth => gone_since(&cloth, slot, into, count))
 }

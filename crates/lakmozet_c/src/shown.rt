@@ -6,7 +6,7 @@ ghost use Rattle.pbd_cloth.specs.Reading.{held_bytes, link_between, link_entries
 ghost use Rattle.lakmozet_c.specs.Calls.{answered, read_from, room_answer, HoldsSound};
 ghost use Rattle.lakmozet_c.specs.Shown.{balance_in, balance_of, found_answer, found_left, sum_in, wide_value};
 
-use crate::handle::Handle;
+use crate::handle::{Handle, with_cloth};
 use crate::numbers::{CLOSED, NO_LINK};
 use crate::plain::{Book, Wide};
 use crate::reads::room_for;
@@ -74,14 +74,10 @@ pub extern "C" fn lak_links(
     ensures count { count.new ≡ read_from handle.old.held (λ c. length c.world.links) count.old }
     ensures written { into.new ≡ read_from handle.old.held (λ c. overwritten into.old (link_entries c.world)) into.old }
 {
-    match handle.take(alloc) {
-        Some(cloth) => {
-            *count = cloth.link_entries(into);
-            handle.put(alloc, cloth);
-            room_for(*count as usize, into.len())
-        }
-        None => CLOSED,
-    }
+    with_cloth!(alloc, handle, cloth => {
+        *count = cloth.link_entries(into);
+        room_for(*count as usize, into.len())
+    })
 }
 
 /// Writes a 1 for each held particle and a 0 for each other, as many as there is room for, and how many particles there are.
@@ -98,14 +94,10 @@ pub extern "C" fn lak_held(
     ensures count { count.new ≡ read_from handle.old.held (λ c. length c.world.particles) count.old }
     ensures written { into.new ≡ read_from handle.old.held (λ c. overwritten into.old (held_bytes c.world)) into.old }
 {
-    match handle.take(alloc) {
-        Some(cloth) => {
-            *count = cloth.held(into);
-            handle.put(alloc, cloth);
-            room_for(*count as usize, into.len())
-        }
-        None => CLOSED,
-    }
+    with_cloth!(alloc, handle, cloth => {
+        *count = cloth.held(into);
+        room_for(*count as usize, into.len())
+    })
 }
 
 /// Writes the number of the link that joins two particles, in either order, live or not.
@@ -122,14 +114,7 @@ pub extern "C" fn lak_link_between(
     ensures answer { result ≡ pos (answered handle.old.held (λ c. found_answer (link_between c.world a b))) }
     ensures link { link.new ≡ read_from handle.old.held (λ c. found_left (link_between c.world a b) link.old) link.old }
 {
-    match handle.take(alloc) {
-        Some(cloth) => {
-            let answer = found(cloth.link_between(a, b), link);
-            handle.put(alloc, cloth);
-            answer
-        }
-        None => CLOSED,
-    }
+    with_cloth!(alloc, handle, cloth => found(cloth.link_between(a, b), link))
 }
 
 /// Writes gravity, in units per step squared.
@@ -140,14 +125,10 @@ pub extern "C" fn lak_gravity_now(alloc: Global, handle: &mut Handle, gravity: &
     ensures answer { result ≡ pos (answered handle.old.held (λ _. 0)) }
     ensures gravity { gravity.new ≡ read_from handle.old.held (λ c. place_of c.world.gravity) gravity.old }
 {
-    match handle.take(alloc) {
-        Some(cloth) => {
-            *gravity = Place::of(cloth.gravity());
-            handle.put(alloc, cloth);
-            0
-        }
-        None => CLOSED,
-    }
+    with_cloth!(alloc, handle, cloth => {
+        *gravity = Place::of(cloth.gravity());
+        0
+    })
 }
 
 /// Writes the momentum, that at opening, and the totals of what moved it since.
@@ -158,12 +139,8 @@ pub extern "C" fn lak_ledger(alloc: Global, handle: &mut Handle, book: &mut Book
     ensures answer { result ≡ pos (answered handle.old.held (λ _. 0)) }
     ensures book { balance_in book.new ≡ read_from handle.old.held (λ c. balance_of c.world) (balance_in book.old) }
 {
-    match handle.take(alloc) {
-        Some(cloth) => {
-            *book = book_of(&cloth);
-            handle.put(alloc, cloth);
-            0
-        }
-        None => CLOSED,
-    }
+    with_cloth!(alloc, handle, cloth => {
+        *book = book_of(&cloth);
+        0
+    })
 }

@@ -3,7 +3,7 @@ ghost use Rattle.std.specs.Prelude.{◌≡◌, pos};
 ghost use Rattle.lakmozet_c.specs.Calls.{answered, done_to, has_slot, restored_from, saved_in, HoldsSound};
 ghost use Rattle.pbd_cloth.specs.Slots.{AreSlots};
 
-use crate::handle::Handle;
+use crate::handle::{Handle, with_cloth};
 use crate::numbers::{CLOSED, NO_SLOT};
 use pbd_cloth::Cloth;
 use std::alloc::Global;
@@ -39,14 +39,7 @@ pub extern "C" fn lak_save(alloc: Global, handle: &mut Handle, slot: u32) -> i32
     ensures answer { result ≡ pos (answered handle.old.held (λ c. has_slot c slot)) }
     ensures sound { HoldsSound handle.new.held }
 {
-    match handle.take(alloc) {
-        Some(mut cloth) => {
-            let answer = save(&mut cloth, slot);
-            handle.put(alloc, cloth);
-            answer
-        }
-        None => CLOSED,
-    }
+    with_cloth!(alloc, handle, mut cloth => save(&mut cloth, slot))
 }
 
 /// Goes back to the world in a slot, and changes no slot.
@@ -56,12 +49,5 @@ pub extern "C" fn lak_restore(alloc: Global, handle: &mut Handle, slot: u32) -> 
     ensures answer { result ≡ pos (answered handle.old.held (λ c. has_slot c slot)) }
     ensures sound { HoldsSound handle.new.held }
 {
-    match handle.take(alloc) {
-        Some(mut cloth) => {
-            let answer = restore(&mut cloth, slot);
-            handle.put(alloc, cloth);
-            answer
-        }
-        None => CLOSED,
-    }
+    with_cloth!(alloc, handle, mut cloth => restore(&mut cloth, slot))
 }

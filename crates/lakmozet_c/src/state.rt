@@ -9,7 +9,7 @@ ghost use Rattle.pbd_cloth.specs.States.{resumed};
 ghost use Rattle.lakmozet_c.specs.Calls.{answered, done_to, has_slot, read_from, room_answer, HoldsSound};
 ghost use Rattle.lakmozet_c.specs.States.{offset_left, size_of, slot_left, state_answer, state_left};
 
-use crate::handle::Handle;
+use crate::handle::{Handle, with_cloth};
 use crate::numbers::{CLOSED, NO_ROOM, NO_SLOT, NO_STATE};
 use crate::plain::Hash;
 use pbd_cloth::Cloth;
@@ -24,14 +24,10 @@ pub extern "C" fn lak_state_size(alloc: Global, handle: &mut Handle, size: &mut 
     ensures answer { result ≡ pos (answered handle.old.held (λ _. 0)) }
     ensures size { size.new ≡ read_from handle.old.held (λ c. size_of c) size.old }
 {
-    match handle.take(alloc) {
-        Some(cloth) => {
-            *size = cloth.state_size();
-            handle.put(alloc, cloth);
-            0
-        }
-        None => CLOSED,
-    }
+    with_cloth!(alloc, handle, cloth => {
+        *size = cloth.state_size();
+        0
+    })
 }
 
 fn write(cloth: &Cloth, scene: &[u8; 32], into: &mut [u8]) -> i32
@@ -62,15 +58,10 @@ pub extern "C" fn lak_state_write(
     ensures size { size.new ≡ read_from handle.old.held (λ c. size_of c) size.old }
     ensures written { into.new ≡ read_from handle.old.held (λ c. state_left scene.bytes c into.old) into.old }
 {
-    match handle.take(alloc) {
-        Some(cloth) => {
-            *size = cloth.state_size();
-            let answer = write(&cloth, &scene.bytes, into);
-            handle.put(alloc, cloth);
-            answer
-        }
-        None => CLOSED,
-    }
+    with_cloth!(alloc, handle, cloth => {
+        *size = cloth.state_size();
+        write(&cloth, &scene.bytes, into)
+    })
 }
 
 fn read(cloth: &mut Cloth, scene: &[u8; 32], bytes: &[u8], offset: &mut u64) -> i32
@@ -102,14 +93,7 @@ pub extern "C" fn lak_state_read(
     ensures answer { result ≡ pos (answered handle.old.held (λ c. state_answer (reading scene.bytes c.world bytes.now))) }
     ensures offset { offset.new ≡ read_from handle.old.held (λ c. offset_left (reading scene.bytes c.world bytes.now) offset.old) offset.old }
 {
-    match handle.take(alloc) {
-        Some(mut cloth) => {
-            let answer = read(&mut cloth, &scene.bytes, bytes, offset);
-            handle.put(alloc, cloth);
-            answer
-        }
-        None => CLOSED,
-    }
+    with_cloth!(alloc, handle, mut cloth => read(&mut cloth, &scene.bytes, bytes, offset))
 }
 
 /// Writes the SHA-256 digest of the state of the world.
@@ -125,14 +109,10 @@ pub extern "C" fn lak_digest(
     ensures answer { result ≡ pos (answered handle.old.held (λ _. 0)) }
     ensures digest { digest.new.bytes ≡ read_from handle.old.held (λ c. sha256 (state_bytes scene.bytes c.world)) digest.old.bytes }
 {
-    match handle.take(alloc) {
-        Some(cloth) => {
-            digest.bytes = cloth.digest(&scene.bytes);
-            handle.put(alloc, cloth);
-            0
-        }
-        None => CLOSED,
-    }
+    with_cloth!(alloc, handle, cloth => {
+        digest.bytes = cloth.digest(&scene.bytes);
+        0
+    })
 }
 
 fn digest_slot(cloth: &Cloth, scene: &[u8; 32], slot: u32, digest: &mut Hash) -> i32
@@ -161,14 +141,7 @@ pub extern "C" fn lak_digest_slot(
     ensures digest { digest.new.bytes
         ≡ read_from handle.old.held (λ c. slot_left c slot (λ w. sha256 (state_bytes scene.bytes w)) digest.old.bytes) digest.old.bytes }
 {
-    match handle.take(alloc) {
-        Some(cloth) => {
-            let answer = digest_slot(&cloth, &scene.bytes, slot, digest);
-            handle.put(alloc, cloth);
-            answer
-        }
-        None => CLOSED,
-    }
+    with_cloth!(alloc, handle, cloth => digest_slot(&cloth, &scene.bytes, slot, digest))
 }
 
 /// Writes the checksum of the world, a 64-bit number for each turn.
@@ -179,14 +152,10 @@ pub extern "C" fn lak_checksum(alloc: Global, handle: &mut Handle, sum: &mut u64
     ensures answer { result ≡ pos (answered handle.old.held (λ _. 0)) }
     ensures sum { sum.new ≡ read_from handle.old.held (λ c. checksum c.world) sum.old }
 {
-    match handle.take(alloc) {
-        Some(cloth) => {
-            *sum = cloth.checksum();
-            handle.put(alloc, cloth);
-            0
-        }
-        None => CLOSED,
-    }
+    with_cloth!(alloc, handle, cloth => {
+        *sum = cloth.checksum();
+        0
+    })
 }
 
 fn checksum_slot(cloth: &Cloth, slot: u32, sum: &mut u64) -> i32
@@ -213,12 +182,5 @@ pub extern "C" fn lak_checksum_slot(
     ensures answer { result ≡ pos (answered handle.old.held (λ c. has_slot c slot)) }
     ensures sum { sum.new ≡ read_from handle.old.held (λ c. slot_left c slot checksum sum.old) sum.old }
 {
-    match handle.take(alloc) {
-        Some(cloth) => {
-            let answer = checksum_slot(&cloth, slot, sum);
-            handle.put(alloc, cloth);
-            answer
-        }
-        None => CLOSED,
-    }
+    with_cloth!(alloc, handle, cloth => checksum_slot(&cloth, slot, sum))
 }
