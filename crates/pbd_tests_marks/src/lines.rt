@@ -35,18 +35,28 @@ const LINES: [(&[u8], Option<MarkCommand>); 24] = [
 ];
 
 #[test]
-fn lines_and_what_they_ask_for(rt: HostRuntime) {
+fn a_line_asks_for_a_mark_or_a_command(rt: HostRuntime) {
+    let mut wrong = 0u32;
     for (line, command) in LINES {
-        assert_eq!(rt; MarkScript::new(line).next(), command, "of {line:?}");
+        let found = MarkScript::new(line).next();
+        if found != command {
+            let _ = eprintln!(rt; "{line:?}: {found:?}, not {command:?}");
+            wrong = wrong.saturating_add(1);
+        }
     }
+    assert!(rt; wrong == 0, "{wrong} rows");
 }
 
 #[test]
 fn a_script_is_its_lines(rt: HostRuntime) {
     let mut script = MarkScript::new(b"mark 1\n#\nstep 2\r\n\nrewind 1");
-    assert_eq!(rt; script.next(), Some(MarkCommand::Mark(1)));
-    assert_eq!(rt; script.next(), Some(MarkCommand::Plain(Command::Step(2))));
-    assert_eq!(rt; script.next(), Some(MarkCommand::Rewind(1)));
-    assert_eq!(rt; script.next(), None);
-    assert_eq!(rt; script.next(), None);
+    assert_eq!(rt; script.next(), Some(MarkCommand::Mark(1)), "line 1");
+    assert_eq!(rt;
+        script.next(),
+        Some(MarkCommand::Plain(Command::Step(2))),
+        "line 3"
+    );
+    assert_eq!(rt; script.next(), Some(MarkCommand::Rewind(1)), "line 5");
+    assert_eq!(rt; script.next(), None, "behind the last line");
+    assert_eq!(rt; script.next(), None, "behind the last line again");
 }

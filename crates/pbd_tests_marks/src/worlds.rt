@@ -138,7 +138,32 @@ const ROWS: &[Row] = &[
     (MarkCommand::Rewind(1), Answer::Done, 0, 2, 1000),
 ];
 
-fn falling(alloc: Global) -> Result<Parts, AllocError> {
+/// The same with a pass in each step: the link to the third particle pulls the first one, and goes back to as it was marked with
+/// the same pins and links, with other pins, with other links, and with one that tore.
+const PULLED: &[Row] = &[
+    (MarkCommand::Mark(1), Answer::Done, 0, 2, 1000),
+    (does!(Command::Step(1)), Answer::Done, 1, 1, 100),
+    (MarkCommand::Mark(2), Answer::Done, 1, 1, 100),
+    (does!(Command::Step(1)), Answer::Done, 2, 1, -100),
+    (MarkCommand::Rewind(2), Answer::Done, 1, 1, 100),
+    (does!(Command::Step(1)), Answer::Done, 2, 1, -100),
+    (does!(Command::Pin(0)), Answer::Done, 2, 1, -100),
+    (does!(Command::Step(1)), Answer::Done, 3, 1, -100),
+    (MarkCommand::Rewind(2), Answer::Done, 1, 1, 100),
+    (does!(Command::Step(1)), Answer::Done, 2, 1, -100),
+    (does!(Command::Unpin(2)), Answer::Done, 2, 1, -100),
+    (does!(Command::Step(1)), Answer::Done, 3, 1, -210),
+    (MarkCommand::Rewind(2), Answer::Done, 1, 1, 100),
+    (does!(Command::Step(1)), Answer::Done, 2, 1, -100),
+    (does!(Command::Cut(1)), Answer::Done, 2, 0, -100),
+    (does!(Command::Step(1)), Answer::Done, 3, 0, -310),
+    (MarkCommand::Rewind(2), Answer::Done, 1, 1, 100),
+    (does!(Command::Step(1)), Answer::Done, 2, 1, -100),
+    (MarkCommand::Rewind(1), Answer::Done, 0, 2, 1000),
+    (does!(Command::Step(1)), Answer::Done, 1, 1, 100),
+];
+
+fn falling(alloc: Global, passes: u32) -> Result<Parts, AllocError> {
     let mut particles = List::new(alloc);
     particles.push(particle!(0, 1000, false))?;
     particles.push(particle!(101, 1000, false))?;
@@ -153,7 +178,7 @@ fn falling(alloc: Global) -> Result<Parts, AllocError> {
         spheres: List::new(alloc),
         tracks: List::new(alloc),
         gravity: Vec3 { x: 0, y: -10, z: 0 },
-        passes: 0,
+        passes,
         damping: 0,
         thickness: 0,
         friction: 0,
@@ -326,7 +351,14 @@ fn at_each_width(alloc: Global, scene: &Scene, rows: &[Row]) -> Result<[usize; 5
 
 #[test]
 fn worlds_go_back_to_their_marks(rt: HostRuntime) -> Result<(), Fail> {
-    let scene = Scene::from_parts(rt.alloc(), falling(rt.alloc())?)?;
-    assert_eq!(rt; at_each_width(rt.alloc(), &scene, ROWS)?, [28; 5]);
+    let tables = [(0, ROWS), (1, PULLED)];
+    for (passes, rows) in tables {
+        let scene = Scene::from_parts(rt.alloc(), falling(rt.alloc(), passes)?)?;
+        assert_eq!(rt;
+            at_each_width(rt.alloc(), &scene, rows)?,
+            [rows.len(); 5],
+            "with {passes} passes, how many commands go as their rows say at widths 1, 2, 4, 8 and 16"
+        );
+    }
     Ok(())
 }

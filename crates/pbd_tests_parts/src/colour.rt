@@ -1,11 +1,11 @@
 //! Colours of pairs, before and after some are dropped.
-ghost use Rattle.std.specs.Prelude.{◌≡◌, ◌<◌, ◌≤◌, ℕ, IsTrue, IfOk, true, length, slice_index, replicate};
+ghost use Rattle.std.specs.Prelude.{◌≡◌, ◌<◌, ◌≤◌, ℕ, IsTrue, IfSome, true, length, slice_index, replicate};
 ghost use Rattle.std.specs.List.Sorted.{IsStrictlyIncreasing};
 
 use crate::pairs::are_in_range;
+use crate::told::{all_hold, wrong_row};
 use pbd_colour::Colouring;
-use std::alloc::{AllocError, Global};
-use std::process::Abort;
+use std::alloc::Global;
 
 // Whether numbers below n rise.
 fn are_rising(numbers: &[u32], n: u32) -> bool
@@ -23,34 +23,42 @@ fn are_rising(numbers: &[u32], n: u32) -> bool
     true
 }
 
-// A colouring of some pairs.
-fn coloured(
-    rt: &impl Abort,
-    alloc: Global,
-    particles: u32,
-    pairs: &[(u32, u32)],
-) -> Result<Colouring, AllocError>
-    ensures pairs { IfOk result (λ c. c.pairs ≡ pairs.now) }
-    ensures live { IfOk result (λ c. c.live ≡ replicate (length pairs.now) true) }
-    ensures particles { IfOk result (λ c. c.particles ≡ particles) }
-    ensures few { length pairs.now ≤ 2415 }
+// A colouring of some pairs. None where there is no memory, or one of them is no pair of particles.
+fn coloured(alloc: Global, particles: u32, pairs: &[(u32, u32)]) -> Option<Colouring>
+    ensures pairs { IfSome result (λ c. c.pairs ≡ pairs.now) }
+    ensures live { IfSome result (λ c. c.live ≡ replicate (length pairs.now) true) }
+    ensures particles { IfSome result (λ c. c.particles ≡ particles) }
+    ensures few { IfSome result (λ _. length pairs.now ≤ 2415) }
 {
-    assert!(rt; particles <= 70);
-    assert!(rt; pairs.len() <= 2415);
-    assert!(rt; are_in_range(pairs, particles));
-    let mut colouring = Colouring::open(alloc, particles, pairs.len() as u32)?;
-    colouring.refill(pairs);
-    Ok(colouring)
+    if particles > 70 {
+        return None;
+    }
+    if pairs.len() > 2415 {
+        return None;
+    }
+    if !are_in_range(pairs, particles) {
+        return None;
+    }
+    match Colouring::open(alloc, particles, pairs.len() as u32) {
+        Ok(mut colouring) => {
+            colouring.refill(pairs);
+            Some(colouring)
+        }
+        Err(_) => None,
+    }
 }
 
-// Drops some of the pairs, all of which are live.
-fn drop_some(rt: &impl Abort, colouring: &mut Colouring, count: u32, numbers: &[u32])
+// Drops some of the pairs, all of which are live, where their numbers rise.
+fn drop_some(colouring: &mut Colouring, count: u32, numbers: &[u32]) -> bool
     requires { colouring.old.live ≡ replicate count true }
     ensures pairs { colouring.new.pairs ≡ colouring.old.pairs }
     ensures particles { colouring.new.particles ≡ colouring.old.particles }
 {
-    assert!(rt; are_rising(numbers, count));
+    if !are_rising(numbers, count) {
+        return false;
+    }
     colouring.drop_pairs(numbers);
+    true
 }
 
 // Whether the live pairs have these colours, and the others none.
@@ -90,36 +98,49 @@ struct Case {
     unlinked: (u32, u32),
 }
 
-// Tries a colouring of a case's pairs, all of which are live: its colours before and after the drop, and then two
-// batches and two particles that aren't linked.
-fn try_colours(rt: &impl Abort, colouring: &mut Colouring, case: &Case)
+// Whether a colouring of a case's pairs, all of which are live, has its colours before the drop, what the drop says, and
+// whether it has its colours after it, its first and its last batch, and doesn't link its two particles. None where the case
+// has not a colour for each pair, or not two particles.
+fn try_colours(colouring: &mut Colouring, case: &Case) -> Option<[bool; 6]>
     requires pairs { colouring.old.pairs ≡ case.now.pairs.now }
     requires live { colouring.old.live ≡ replicate (length case.now.pairs.now) true }
     requires particles { colouring.old.particles ≡ case.now.particles }
     requires few { length case.now.pairs.now ≤ 2415 }
 {
     let count = case.pairs.len();
-    assert!(rt; case.colours.len() == count);
-    assert!(rt; case.mended.len() == count);
-    assert!(rt; has_colours(colouring, case.colours));
-    drop_some(rt, colouring, count as u32, case.dropped);
-    assert!(rt; has_colours(colouring, case.mended));
-    assert!(rt; has_batch(colouring, 0, case.first_batch));
-    assert!(rt; has_batch(colouring, case.last_batch.0, case.last_batch.1));
     let (a, b) = case.unlinked;
-    assert!(rt; a < case.particles);
-    assert!(rt; b < case.particles);
-    assert!(rt; !colouring.linked(a, b));
+    if case.colours.len() != count {
+        return None;
+    }
+    if case.mended.len() != count {
+        return None;
+    }
+    if a >= case.particles {
+        return None;
+    }
+    if b >= case.particles {
+        return None;
+    }
+    let before = has_colours(colouring, case.colours);
+    let dropped = drop_some(colouring, count as u32, case.dropped);
+    Some([
+        before,
+        dropped,
+        has_colours(colouring, case.mended),
+        has_batch(colouring, 0, case.first_batch),
+        has_batch(colouring, case.last_batch.0, case.last_batch.1),
+        !colouring.linked(a, b),
+    ])
 }
 
-fn try_case(rt: &impl Abort, alloc: Global, case: &Case) -> bool {
-    match coloured(rt, alloc, case.particles, case.pairs) {
-        Ok(mut colouring) => {
-            try_colours(rt, &mut colouring, case);
+fn try_case(alloc: Global, case: &Case) -> Option<[bool; 6]> {
+    match coloured(alloc, case.particles, case.pairs) {
+        Some(mut colouring) => {
+            let told = try_colours(&mut colouring, case);
             drop(colouring);
-            true
+            told
         }
-        Err(_) => false,
+        None => None,
     }
 }
 
@@ -193,10 +214,15 @@ const CLOTH: Case = Case {
 static CASES: [Case; 2] = [FOUR_PAIRS, CLOTH];
 
 #[test]
-fn colours_before_and_after_a_drop(rt: HostRuntime) {
+fn colours_are_mended_after_a_drop(rt: HostRuntime) {
+    let what =
+        "has its colours, is dropped from, has mended ones, a first and a last batch, and two that aren't linked";
+    let mut wrong = 0u32;
     for case in &CASES {
-        assert!(rt; try_case(&rt, rt.alloc(), case), "{}", case.name);
+        let told = try_case(rt.alloc(), case);
+        wrong = wrong.saturating_add(wrong_row(&rt, &case.name, what, &told, &Some([true; 6])));
     }
+    all_hold(&rt, wrong);
 }
 
 // Adds the pairs i < j of seventy particles.
@@ -257,56 +283,70 @@ fn first_numbers() -> [u32; 69] {
     numbers
 }
 
+// How many pairs of seventy particles are live and serial, and live without those of the first; and whether they have known
+// colours, the first are dropped, and the others have the colours that they have alone.
+type Seventy = ([usize; 3], [bool; 3]);
+
 // Drops the pairs of the first particle from a colouring of all pairs, and compares it with one of the others.
-fn try_without_first(rt: &impl Abort, all: &mut Colouring, pairs: &[(u32, u32)], fewer: &Colouring)
+fn without_first(all: &mut Colouring, pairs: &[(u32, u32)], fewer: &Colouring) -> Seventy
     requires pairs { all.old.pairs ≡ pairs.now }
     requires live { all.old.live ≡ replicate (length pairs.now) true }
     requires count { length pairs.now ≡ 2415 }
     requires fewer { length fewer.now.pairs ≡ 2346 }
 {
-    assert!(rt; all.live_count() == 2415);
-    assert!(rt; all.serial().len() == 384);
-    assert!(rt; has_known_colours(all, pairs));
-    drop_some(rt, all, pairs.len() as u32, &first_numbers());
-    assert!(rt; all.live_count() == 2346);
-    assert!(rt; has_colours_of(all, fewer));
+    let (live, serial) = (all.live_count() as usize, all.serial().len());
+    let known = has_known_colours(all, pairs);
+    let dropped = drop_some(all, pairs.len() as u32, &first_numbers());
+    let left = all.live_count() as usize;
+    (
+        [live, serial, left],
+        [known, dropped, has_colours_of(all, fewer)],
+    )
 }
 
-// Compares all pairs with a colouring of the others.
-fn try_all(rt: &impl Abort, alloc: Global, pairs: &[(u32, u32)], fewer: &Colouring) -> bool
+// The same, of a colouring of its own.
+fn try_all(alloc: Global, pairs: &[(u32, u32)], fewer: &Colouring) -> Option<Seventy>
     requires count { length pairs.now ≡ 2415 }
     requires fewer { length fewer.now.pairs ≡ 2346 }
 {
-    match coloured(rt, alloc, 70, pairs) {
-        Ok(mut all) => {
-            try_without_first(rt, &mut all, pairs, fewer);
+    match coloured(alloc, 70, pairs) {
+        Some(mut all) => {
+            let told = without_first(&mut all, pairs, fewer);
             drop(all);
-            true
+            Some(told)
         }
-        Err(_) => false,
+        None => None,
     }
 }
 
 // All pairs of seventy particles, and all but those of the first, which stand before the others.
-fn try_seventy(rt: &impl Abort, alloc: Global, pairs: &[(u32, u32)]) -> bool {
-    assert!(rt; pairs.len() == 2415);
+fn try_seventy(alloc: Global, pairs: &[(u32, u32)]) -> Option<Seventy> {
+    if pairs.len() != 2415 {
+        return None;
+    }
     let others = &pairs[69..];
-    assert!(rt; others.len() == 2346);
-    match coloured(rt, alloc, 70, others) {
-        Ok(fewer) => {
-            let tried = try_all(rt, alloc, pairs, &fewer);
+    if others.len() != 2346 {
+        return None;
+    }
+    match coloured(alloc, 70, others) {
+        Some(fewer) => {
+            let told = try_all(alloc, pairs, &fewer);
             drop(fewer);
-            tried
+            told
         }
-        Err(_) => false,
+        None => None,
     }
 }
 
 #[test]
-fn seventy_particles(rt: HostRuntime) {
+fn seventy_particles_use_all_colours(rt: HostRuntime) {
     let mut pairs = Vec::new(rt.alloc());
     let pushed = push_pairs(&mut pairs);
-    let tried = try_seventy(&rt, rt.alloc(), pairs.as_slice());
+    let told = try_seventy(rt.alloc(), pairs.as_slice());
     drop(pairs);
-    assert!(rt; pushed && tried);
+    assert!(rt; pushed, "no memory");
+    assert!(rt;
+        told == Some(([2415, 384, 2346], [true; 3])),
+        "pairs live, serial, and live without the first particle, and whether their colours are known, some were dropped, and the others are coloured as alone: {told:?}"
+    );
 }

@@ -3,11 +3,11 @@ ghost use Rattle.std.specs.Prelude.{◌≡◌, ◌≤◌, ◌≤ℤ◌, IsTrue, 
 ghost use Rattle.pbd_grid.specs.Near.{AllInside};
 
 use crate::places::{place, squared_distance};
+use crate::told::{all_hold, wrong_row};
 use pbd_grid::{Grid, PairFilter};
 use pbd_num::{RANGE, Vec3, inside};
 use pbd_world::RoomList;
-use std::alloc::{AllocError, Global};
-use std::process::Abort;
+use std::alloc::Global;
 
 // Keeps all pairs but one.
 #[derive(Clone, Copy, Drop)]
@@ -87,11 +87,8 @@ fn finds(near: &Near<'_>, grid: &mut Grid, out: &mut RoomList<(u32, u32)>) -> bo
     fits && out.as_slice() == near.wanted && grid.looks() == near.looks
 }
 
-// Whether it does, unless there is no memory.
-type Found = Result<bool, AllocError>;
-
-// The same with room for so many.
-fn finds_with(alloc: Global, near: &Near<'_>, grid: &mut Grid, room: u32) -> Found
+// The same with room for so many. None where there is no memory.
+fn finds_with(alloc: Global, near: &Near<'_>, grid: &mut Grid, room: u32) -> Option<bool>
     requires places { length near.now.places.now ≡ grid.old.particles }
     requires inside { AllInside near.now.places.now }
     requires count { near.now.filter.count ≡ grid.old.particles }
@@ -103,72 +100,72 @@ fn finds_with(alloc: Global, near: &Near<'_>, grid: &mut Grid, room: u32) -> Fou
         Ok(mut out) => {
             let found = finds(near, grid, &mut out);
             drop(out);
-            Ok(found)
+            Some(found)
         }
-        Err(error) => Err(error),
+        Err(_) => None,
     }
 }
 
-// Compares a grid with the wanted pairs, at a room that is just enough and at one too small.
-fn finds_both(alloc: Global, near: &Near<'_>, grid: &mut Grid) -> [Found; 2]
-    requires places { length near.now.places.now ≡ grid.old.particles }
+// Compares a grid of its own with the wanted pairs, at a room that is just enough and at one too small.
+fn finds_both(alloc: Global, near: &Near<'_>) -> [Option<bool>; 2]
+    requires few { length near.now.places.now ≤ 64 }
     requires inside { AllInside near.now.places.now }
-    requires count { near.now.filter.count ≡ grid.old.particles }
+    requires count { near.now.filter.count ≡ length near.now.places.now }
     requires low { pos 1 ≤ℤ near.now.thickness }
     requires high { near.now.thickness ≤ℤ pos 1048576 }
-    requires few { length near.now.wanted.now ≤ 64 }
+    requires wanted { length near.now.wanted.now ≤ 64 }
 {
     let room = near.wanted.len() as u32;
-    [
-        finds_with(alloc, near, grid, room),
-        finds_with(alloc, near, grid, room.saturating_sub(1)),
-    ]
-}
-
-// The same with a grid of its own.
-fn try_near(rt: &impl Abort, alloc: Global, near: &Near<'_>) -> [Found; 2] {
-    assert!(rt; near.places.len() <= 64);
-    assert!(rt; near.wanted.len() <= 64);
-    assert!(rt; near.filter.count as usize == near.places.len());
-    assert!(rt; are_inside(near.places));
-    assert!(rt; 1 <= near.thickness);
-    assert!(rt; near.thickness <= 1_048_576);
     match Grid::open(alloc, near.places.len() as u32) {
         Ok(mut grid) => {
-            let found = finds_both(alloc, near, &mut grid);
+            let found = [
+                finds_with(alloc, near, &mut grid, room),
+                finds_with(alloc, near, &mut grid, room.saturating_sub(1)),
+            ];
             drop(grid);
             found
         }
-        Err(error) => [Err(error); 2],
+        Err(_) => [None; 2],
     }
 }
 
 // A thickness, places, how many pairs are near, and how often a search reads its chains.
 type Row = (i64, &'static [Vec3], usize, u64);
 
-// Compares a grid with all pairs.
-fn try_places(rt: &impl Abort, alloc: Global, row: &Row) -> [Found; 2] {
-    let (thickness, places, wanted, looks) = *row;
-    assert!(rt; places.len() <= 64);
-    assert!(rt; wanted <= 64);
+// Compares a grid with all pairs. None where the row is out of range, or another number of pairs is near.
+fn try_places(alloc: Global, row: &Row, wanted: &mut Vec<(u32, u32)>) -> Option<[Option<bool>; 2]> {
+    let (thickness, places, count, looks) = *row;
+    if thickness < 1 {
+        return None;
+    }
+    if thickness > 1_048_576 {
+        return None;
+    }
+    if places.len() > 64 {
+        return None;
+    }
+    if !are_inside(places) {
+        return None;
+    }
     let filter = AllBut {
         count: places.len() as u32,
         first: 0,
         second: 2,
     };
-    let mut expected = Vec::new(alloc);
-    assert!(rt; push_near(&mut expected, places, thickness, &filter));
-    assert!(rt; expected.len() == wanted);
+    if !push_near(wanted, places, thickness, &filter) || wanted.len() != count {
+        return None;
+    }
+    if wanted.len() > 64 {
+        return None;
+    }
     let near = Near {
         places,
         thickness,
         filter,
-        wanted: expected.as_slice(),
+        wanted: wanted.as_slice(),
         looks,
     };
-    let found = try_near(rt, alloc, &near);
-    drop(expected);
-    found
+    Some(finds_both(alloc, &near))
 }
 
 const FAR: i64 = RANGE;
@@ -220,10 +217,18 @@ static PLACES: [Row; 5] = [
 
 #[test]
 fn near_pairs_are_those_of_all(rt: HostRuntime) {
+    let mut wrong = 0u32;
     for row in &PLACES {
-        assert!(rt;
-            try_places(&rt, rt.alloc(), row) == [Ok(true); 2],
-            "{row:?}"
-        );
+        let mut pairs = Vec::new(rt.alloc());
+        let told = try_places(rt.alloc(), row, &mut pairs);
+        drop(pairs);
+        wrong = wrong.saturating_add(wrong_row(
+            &rt,
+            row,
+            "with room and without",
+            &told,
+            &Some([Some(true); 2]),
+        ));
     }
+    all_hold(&rt, wrong);
 }

@@ -1,5 +1,5 @@
-//! Tests of numbers, short bonds, lanes, lists and scenes, of chains, colours, cells and contacts, and of stores and of what
-//! a step does to one: bonds, shapes, tracks, tears, and the momentum.
+//! Tests of numbers, short bonds, lanes, lists and scenes, of chains, colours, cells and contacts, of boxes taken apart, and of
+//! stores and of what a step does to one: bonds, shapes, tracks, tears, and the momentum.
 #![tactic(auto)]
 
 #[cfg(test)]
@@ -7,7 +7,11 @@ mod chain;
 #[cfg(test)]
 mod colour;
 #[cfg(test)]
+mod end_checks;
+#[cfg(test)]
 mod ends;
+#[cfg(test)]
+mod ends_rows;
 #[cfg(test)]
 mod grid;
 #[cfg(test)]
@@ -16,6 +20,8 @@ mod hard;
 mod lanes;
 #[cfg(test)]
 mod ledger;
+#[cfg(test)]
+mod loose;
 #[cfg(test)]
 mod near;
 #[cfg(test)]
@@ -34,6 +40,8 @@ mod shape;
 mod store;
 #[cfg(test)]
 mod tear;
+#[cfg(test)]
+mod told;
 #[cfg(test)]
 mod touching;
 #[cfg(test)]

@@ -1,13 +1,13 @@
 //! The moves of short bonds, many at a time, and their flags.
-ghost use Rattle.std.specs.Prelude.{◌≡◌, ℕ, ◌<◌, ◌≤◌, ◌≤ℤ◌, pos, neg_ℤ, length, slice_index_or};
+ghost use Rattle.std.specs.Prelude.{◌≡◌, ℕ, ◌<◌, ◌≤◌, pos, length, slice_index_or};
 
-use crate::num::is_pair;
+use crate::num::{apart, exact_moves};
 use crate::places::axes;
+use crate::told::{all_hold, wrong_row};
 use pbd_near::Near;
-use pbd_num::{Row, Vec3, distance, pair_move};
+use pbd_num::{Row, Vec3};
 use rand_core::utils::NextWord;
 use rand_pcg::Lcg64Xsh32;
-use std::process::Abort;
 
 /// The way between two ends, a rest length, and a factor.
 type Bond = ([i32; 3], u16, i16);
@@ -62,6 +62,8 @@ static OTHERS: [Bond; 11] = [
     ([6_500, 0, 0], 6_554, -1),
 ];
 
+const LINK_AND_CONTACT: &str = "as a link and as a contact";
+
 fn row(axes: [i32; 3]) -> Row {
     Row {
         x: axes[0],
@@ -77,130 +79,148 @@ fn alike(value: i32) -> [i32; 128]
     [value; 128]
 }
 
-/// The moves of bonds that differ in their ways alone.
+/// The moves of bonds that differ in their ways alone, and whether none of them is flagged. None where their rest length or
+/// their factor is out of range.
 fn run_alike(
     near: &mut Near,
     ways: &[Row],
-    rest: i32,
-    factor: i32,
+    rest: u16,
+    factor: i16,
     contact: bool,
-) -> ([Row; 128], bool)
+) -> Option<([Row; 128], bool)>
     requires count { length ways.now ≤ 128 }
-    requires rest_low { pos 0 ≤ℤ rest }
-    requires rest_high { rest ≤ℤ pos 16383 }
-    requires factor_low { neg_ℤ (pos 1) ≤ℤ factor }
-    requires factor_high { factor ≤ℤ pos 512 }
 {
+    if rest > 16_383 {
+        return None;
+    }
+    if factor < -1 {
+        return None;
+    }
+    if factor > 512 {
+        return None;
+    }
     let mut moves = [Row::ZERO; 128];
-    let rests = alike(rest);
-    let factors = alike(factor);
+    let rests = alike(i32::from(rest));
+    let factors = alike(i32::from(factor));
     let right = near.run(ways, &rests, &factors, contact, &mut moves);
-    (moves, right)
+    Some((moves, right))
 }
 
-/// The move of the second end of one bond, if it isn't flagged.
-fn moved(rt: &impl Abort, near: &mut Near, bond: Bond, contact: bool) -> Option<[i64; 3]> {
+/// The move of the second end of a bond, and none where it is flagged. Nothing where it is out of range, or where its flag and
+/// the answer for all bonds, of which it is the one, disagree.
+type Moved = Option<Option<[i64; 3]>>;
+
+fn moved(near: &mut Near, bond: Bond, contact: bool) -> Moved {
     let (way, rest, factor) = bond;
-    assert!(rt; rest <= 16_383);
-    assert!(rt; factor >= -1);
-    assert!(rt; factor <= 512);
     let ways = [row(way)];
-    let (moves, right) = run_alike(near, &ways, i32::from(rest), i32::from(factor), contact);
-    assert!(rt; right == (moves[0].flag == 0));
+    let (moves, right) = run_alike(near, &ways, rest, factor, contact)?;
+    if right != (moves[0].flag == 0) {
+        return None;
+    }
     if right {
-        Some(axes(moves[0].vector()))
+        Some(Some(axes(moves[0].vector())))
+    } else {
+        Some(None)
+    }
+}
+
+/// The same as a link and as a contact.
+fn moved_both(near: &mut Near, bond: Bond) -> [Moved; 2] {
+    [moved(near, bond, false), moved(near, bond, true)]
+}
+
+#[test]
+fn short_bonds_move_as_their_rows_say(rt: HostRuntime) {
+    let mut near = Near::new();
+    let mut wrong = 0u32;
+    for (bond, [link, contact]) in &BONDS {
+        let came_to = moved_both(&mut near, *bond);
+        let wanted = [Some(Some(*link)), Some(Some(*contact))];
+        wrong = wrong.saturating_add(wrong_row(&rt, bond, LINK_AND_CONTACT, &came_to, &wanted));
+    }
+    all_hold(&rt, wrong);
+}
+
+#[test]
+fn other_bonds_are_flagged(rt: HostRuntime) {
+    let mut near = Near::new();
+    let mut wrong = 0u32;
+    for bond in &OTHERS {
+        let came_to = moved_both(&mut near, *bond);
+        wrong = wrong.saturating_add(wrong_row(
+            &rt,
+            bond,
+            LINK_AND_CONTACT,
+            &came_to,
+            &[Some(None); 2],
+        ));
+    }
+    all_hold(&rt, wrong);
+}
+
+/// Whether the second end of a bond moves as the exact call says: of two free ends where `factor` is at most 256, else of one
+/// beside a held one. A contact that is no shorter than its rest length stays.
+fn is_exact(moved: Vec3, way: Vec3, rest: u16, factor: u16, contact: bool) -> bool {
+    let free = factor <= 256;
+    let k = if free { factor } else { factor / 2 };
+    let exact = exact_moves((way, Vec3::ZERO), u32::from(rest), k, (u16::from(free), 1));
+    match (exact, apart(way, Vec3::ZERO)) {
+        (Some((_, second)), Some(length)) => {
+            let slack = contact && i64::from(rest) <= length;
+            moved == if slack { Vec3::ZERO } else { second }
+        }
+        _ => false,
+    }
+}
+
+/// An axis of at most 2^14 in size, and mostly much smaller.
+fn random_axis(words: &mut Lcg64Xsh32) -> i32 {
+    let word = words.next_word();
+    ((word & 32_767) as i32 - 16_384) >> (word >> 29)
+}
+
+fn random_ways(words: &mut Lcg64Xsh32) -> [Row; 128] {
+    let mut ways = [Row::ZERO; 128];
+    for j in 0..128usize {
+        let x = random_axis(words);
+        let y = random_axis(words);
+        ways[j] = row([x, y, random_axis(words)]);
+    }
+    ways
+}
+
+/// How many of the moves of random bonds are flagged. None where another isn't that of the exact call.
+fn flagged(near: &mut Near, words: &mut Lcg64Xsh32, contact: bool) -> Option<u32> {
+    let ways = random_ways(words);
+    let rest = (words.next_word() & 16_383) as u16;
+    let factor = (words.next_word() & 510) as u16;
+    let (moves, right) = run_alike(near, &ways, rest, factor as i16, contact)?;
+    let mut count = 0u32;
+    for j in 0..128usize {
+        if moves[j].flag != 0 {
+            count = count.saturating_add(1);
+        } else if !is_exact(moves[j].vector(), ways[j].vector(), rest, factor, contact) {
+            return None;
+        }
+    }
+    if right == (count == 0) {
+        Some(count)
     } else {
         None
     }
 }
 
 #[test]
-fn moves_short_bonds(rt: HostRuntime) {
-    let mut near = Near::new();
-    for (bond, wanted) in &BONDS {
-        assert!(rt;
-            moved(&rt, &mut near, *bond, false) == Some(wanted[0]),
-            "{bond:?}"
-        );
-        assert!(rt;
-            moved(&rt, &mut near, *bond, true) == Some(wanted[1]),
-            "{bond:?}"
-        );
-    }
-}
-
-#[test]
-fn flags_other_bonds(rt: HostRuntime) {
-    let mut near = Near::new();
-    for bond in &OTHERS {
-        assert!(rt; moved(&rt, &mut near, *bond, false) == None, "{bond:?}");
-        assert!(rt; moved(&rt, &mut near, *bond, true) == None, "{bond:?}");
-    }
-}
-
-/// The move of the second end by the exact call, and the length: of two free ends where `factor` is at most 256, else of one
-/// beside a held one.
-fn exact(rt: &impl Abort, way: Vec3, rest: u16, factor: u16) -> (Vec3, i64) {
-    let (k, weight) = if factor <= 256 {
-        (factor, 1)
-    } else {
-        (factor / 2, 0)
-    };
-    assert!(rt; is_pair(way, Vec3::ZERO, u32::from(rest), k));
-    let (_, second) = pair_move(way, Vec3::ZERO, i64::from(rest), i64::from(k), weight, 1);
-    (second, distance(way, Vec3::ZERO))
-}
-
-/// An axis of at most 2^14 in size, and mostly much smaller.
-fn drawn_axis(words: &mut Lcg64Xsh32) -> i32 {
-    let word = words.next_word();
-    ((word & 32_767) as i32 - 16_384) >> (word >> 29)
-}
-
-fn drawn_ways(words: &mut Lcg64Xsh32) -> [Row; 128] {
-    let mut ways = [Row::ZERO; 128];
-    for j in 0..128usize {
-        let x = drawn_axis(words);
-        let y = drawn_axis(words);
-        ways[j] = row([x, y, drawn_axis(words)]);
-    }
-    ways
-}
-
-/// How many of the moves of drawn bonds are flagged. The others are those of the exact call.
-fn flagged(rt: &impl Abort, near: &mut Near, words: &mut Lcg64Xsh32, contact: bool) -> u32 {
-    let ways = drawn_ways(words);
-    let rest = (words.next_word() & 16_383) as u16;
-    let factor = (words.next_word() & 510) as u16;
-    let (moves, right) = run_alike(near, &ways, i32::from(rest), i32::from(factor), contact);
-    let mut count = 0u32;
-    for j in 0..128usize {
-        if moves[j].flag == 0 {
-            let (second, length) = exact(rt, ways[j].vector(), rest, factor);
-            let slack = contact && i64::from(rest) <= length;
-            let wanted = if slack { Vec3::ZERO } else { second };
-            assert!(rt;
-                moves[j].vector() == wanted,
-                "{:?} {rest} {factor}",
-                ways[j]
-            );
-        } else {
-            count = count.saturating_add(1);
-        }
-    }
-    assert!(rt; right == (count == 0));
-    count
-}
-
-#[test]
-fn moves_drawn_bonds_as_the_exact_call_does(rt: HostRuntime) {
+fn random_bonds_move_as_the_exact_call_says(rt: HostRuntime) {
     let mut near = Near::new();
     let mut words = Lcg64Xsh32::new(7, 0);
     let mut count = 0u32;
     for n in 0..32u32 {
-        let more = flagged(&rt, &mut near, &mut words, n % 2 == 1);
-        count = count.saturating_add(more);
+        match flagged(&mut near, &mut words, n % 2 == 1) {
+            Some(more) => count = count.saturating_add(more),
+            None => assert!(rt; false, "chunk {n} of 128 bonds moves otherwise"),
+        }
     }
     // of 4,096 hardly one
-    assert!(rt; count < 8, "{count}");
+    assert!(rt; count < 8, "{count} of 4,096 bonds are flagged");
 }

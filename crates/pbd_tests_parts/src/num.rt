@@ -1,10 +1,27 @@
 //! Quotients, vectors and the range.
-ghost use Rattle.std.specs.Prelude.{◌≤◌, ◌^◌, IsTrue};
+ghost use Rattle.std.specs.Prelude.{◌≤◌, ◌^◌, IsTrue, unsigned_abs};
 ghost use Rattle.pbd_num.specs.Vectors.{Within};
 
 use crate::places::place;
-use pbd_num::{RANGE, Vec3, distance, inside, rdiv, within};
-use std::process::Abort;
+use crate::told::{all_hold, wrong_row};
+use pbd_num::{RANGE, Vec3, distance, inside, pair_move, rdiv, within};
+
+// Whether an axis is within a bound.
+fn is_axis_within(axis: i64, bound: u64) -> bool
+    ensures { IsTrue result → unsigned_abs axis ≤ bound }
+{
+    axis.unsigned_abs() <= bound
+}
+
+/// Whether each axis is within a bound.
+pub(crate) fn is_within(v: Vec3, bound: u64) -> bool
+    ensures { IsTrue result → Within bound v }
+{
+    let x = is_axis_within(v.x, bound);
+    let y = is_axis_within(v.y, bound);
+    let z = is_axis_within(v.z, bound);
+    x && y && z
+}
 
 fn both_inside(a: Vec3, b: Vec3) -> bool
     ensures first { IsTrue result → Within (2 ^ 29) a }
@@ -16,30 +33,43 @@ fn both_inside(a: Vec3, b: Vec3) -> bool
     inside(b)
 }
 
-/// Whether the places, the length and the stiffness of a pair are in range.
-pub(crate) fn is_pair(a: Vec3, b: Vec3, rest: u32, k: u16) -> bool
-    ensures first { IsTrue result → Within (2 ^ 29) a }
-    ensures second { IsTrue result → Within (2 ^ 29) b }
-    ensures rest { IsTrue result → rest ≤ 2 ^ 31 }
-    ensures stiffness { IsTrue result → k ≤ 256 }
-{
+/// The moves of both ends of a pair. None where it is out of range.
+pub(crate) fn exact_moves(
+    ends: (Vec3, Vec3),
+    rest: u32,
+    k: u16,
+    weights: (u16, u16),
+) -> Option<(Vec3, Vec3)> {
+    let (a, b) = ends;
     if !both_inside(a, b) {
-        return false;
+        return None;
     }
     if rest > 1 << 31 {
-        return false;
+        return None;
     }
-    k <= 256
+    if k > 256 {
+        return None;
+    }
+    Some(pair_move(
+        a,
+        b,
+        rest as i64,
+        k as i64,
+        weights.0 as i64,
+        weights.1 as i64,
+    ))
 }
 
-/// The distance of places that are in range.
-fn apart(rt: &impl Abort, a: Vec3, b: Vec3) -> i64 {
-    assert!(rt; both_inside(a, b));
-    distance(a, b)
+/// The distance of two places. None where one of them is out of range.
+pub(crate) fn apart(a: Vec3, b: Vec3) -> Option<i64> {
+    if !both_inside(a, b) {
+        return None;
+    }
+    Some(distance(a, b))
 }
 
 #[test]
-fn rounds_halves_away_from_zero(rt: HostRuntime) {
+fn halves_are_rounded_away_from_zero(rt: HostRuntime) {
     let near_halves = [
         rdiv(5, 2),
         rdiv(-5, 2),
@@ -52,28 +82,37 @@ fn rounds_halves_away_from_zero(rt: HostRuntime) {
         rdiv(-(1 << 39), 1 << 40),
         rdiv((1 << 39) - 1, 1 << 40),
     ];
-    assert!(rt; near_halves == [3, -3, 1, -1, 0, 1 << 61, -2_097_152, 1, -1, 0]);
+    assert!(rt;
+        near_halves == [3, -3, 1, -1, 0, 1 << 61, -2_097_152, 1, -1, 0],
+        "quotients: {near_halves:?}"
+    );
 }
 
-/// The sum of places that are in range, and the ways from the second to the first and back.
-fn sum_and_ways(rt: &impl Abort, a: Vec3, b: Vec3) -> [Vec3; 3] {
-    assert!(rt; both_inside(a, b));
-    [a.plus(b), a.minus(b), b.minus(a)]
-}
-
-/// The opposite of a vector whose axes aren't above 2^30.
-fn opposite(rt: &impl Abort, v: Vec3) -> Vec3 {
-    assert!(rt; v.x.unsigned_abs() <= 1 << 30);
-    assert!(rt; v.y.unsigned_abs() <= 1 << 30);
-    assert!(rt; v.z.unsigned_abs() <= 1 << 30);
-    v.opposite()
-}
-
-/// The squared length of a place that is in range, its length, and the half of it.
-fn measured(rt: &impl Abort, a: Vec3) -> ([i64; 2], Vec3) {
-    assert!(rt; inside(a));
-    let lengths = [a.squared_length(), a.length()];
-    (lengths, a.scaled(1, 2))
+/// The sum of two places, the ways from the second to the first and back, the opposite of a way, half of the first place, and
+/// its squared length and length. None where an axis is above 2^30.
+fn calculated(a: Vec3, b: Vec3, way: Vec3) -> Option<([Vec3; 5], [i64; 2])> {
+    if !is_within(a, 1 << 61) {
+        return None;
+    }
+    if !is_within(b, 1 << 61) {
+        return None;
+    }
+    if !is_within(way, 1 << 61) {
+        return None;
+    }
+    if !is_within(a, 1 << 30) {
+        return None;
+    }
+    Some((
+        [
+            a.plus(b),
+            a.minus(b),
+            b.minus(a),
+            way.opposite(),
+            a.scaled(1, 2),
+        ],
+        [a.squared_length(), a.length()],
+    ))
 }
 
 /// Two places, their sum, the ways from the second to the first and back, and of the first place the half, the squared
@@ -98,16 +137,18 @@ static CALCULATED: [Calculated; 2] = [
 ];
 
 #[test]
-fn calculates_with_vectors(rt: HostRuntime) {
+fn vectors_are_calculated_axis_by_axis(rt: HostRuntime) {
+    let mut wrong = 0u32;
     for (a, b, (sum, way, back), half, lengths) in &CALCULATED {
-        assert!(rt; sum_and_ways(&rt, *a, *b) == [*sum, *way, *back]);
-        assert!(rt; opposite(&rt, *way) == *back);
-        assert!(rt; measured(&rt, *a) == (*lengths, *half));
+        let came_to = calculated(*a, *b, *way);
+        let wanted = Some(([*sum, *way, *back, *back, *half], *lengths));
+        wrong = wrong.saturating_add(wrong_row(&rt, &(a, b), "come to", &came_to, &wanted));
     }
+    all_hold(&rt, wrong);
 }
 
 #[test]
-fn knows_the_range(rt: HostRuntime) {
+fn the_range_has_its_limits(rt: HostRuntime) {
     let tests = [
         inside(place!(RANGE, -RANGE, 0)),
         inside(place!(0, 0, RANGE + 1)),
@@ -116,14 +157,16 @@ fn knows_the_range(rt: HostRuntime) {
         within(place!(5, -6, 5), 5),
         within(Vec3::ZERO, 0),
     ];
-    assert!(rt; tests == [true, false, false, true, false, true]);
+    assert!(rt;
+        tests == [true, false, false, true, false, true],
+        "within the range or a bound: {tests:?}"
+    );
     let lengths = [
-        apart(&rt, place!(0, 3, 0), place!(4, 0, 0)),
-        apart(
-            &rt,
-            place!(RANGE, RANGE, RANGE),
-            place!(-RANGE, -RANGE, -RANGE),
-        ),
+        apart(place!(0, 3, 0), place!(4, 0, 0)),
+        apart(place!(RANGE, RANGE, RANGE), place!(-RANGE, -RANGE, -RANGE)),
     ];
-    assert!(rt; lengths == [5, 1_859_775_393]);
+    assert!(rt;
+        lengths == [Some(5), Some(1_859_775_393)],
+        "distances: {lengths:?}"
+    );
 }

@@ -2,7 +2,10 @@
 ghost use Rattle.std.specs.Prelude.{◌≡◌, ◌<◌, ◌≤◌, ◌^◌, pos, IsTrue, length, None};
 ghost use Rattle.std.specs.List.{list_all};
 ghost use Rattle.pbd_pair.specs.Examples.{is_placed, is_batch};
-ghost use Rattle.pbd_pair.specs.Laid.{laid_in};
+ghost use Rattle.pbd_pair.specs.Laid.{laid_in, Suit};
+ghost use Rattle.pbd_pair.specs.Projecting.{IsBatch};
+ghost use Rattle.pbd_store.specs.Moving.{AreInside, Weigh};
+ghost use Rattle.pbd_world.specs.Ledger.{ledger_of, HaveRoom};
 
 use crate::places::{held, link, place};
 use pbd_num::{RANGE, Vec3};
@@ -289,6 +292,25 @@ fn ends_on_x<G: Ledger, const L: usize>(store: &Store<L>, steps: &mut Steps<G>) 
     ]
 }
 
+/// What a projector asks of a store and of a batch holds, where their tests do.
+fn are_ready<const L: usize>(store: &Store<L>, bonds: Bonds<'_>, batch: &[u32])
+    requires limit { store.now.limit ≡ pos (2 ^ 29) }
+    requires placed { IsTrue (list_all (is_placed (pos (2 ^ 29))) store.now.particles) }
+    requires batch { IsTrue (is_batch (pos (2 ^ 29)) (length store.now.particles) bonds batch.now) }
+    requires plain { laid_in bonds ≡ None }
+    ensures batch { IsBatch store.now.limit (length store.now.particles) bonds.entry batch.now }
+    ensures columns { Suit bonds.entry batch.now store.now.particles }
+    ensures inside { AreInside store.now.limit store.now.particles }
+    ensures weights { Weigh store.now.particles }
+{}
+
+/// Totals of nothing, to which any move may be added.
+fn no_totals() -> Totals
+    ensures { HaveRoom (2 ^ 120) (ledger_of result) }
+{
+    Totals::zero()
+}
+
 /// What a batch comes to in a store.
 fn projected<G: Ledger, P: Projector<L>, const L: usize>(
     steps: &mut Steps<G>,
@@ -305,7 +327,8 @@ fn projected<G: Ledger, P: Projector<L>, const L: usize>(
     requires batch { IsTrue (is_batch (pos (2 ^ 29)) (length store.old.particles) bonds batch.now) }
     requires plain { laid_in bonds ≡ None }
 {
-    let mut totals = Totals::zero();
+    let mut totals = no_totals();
+    are_ready(store, bonds, batch);
     let outcome = projector.project(store, bonds, batch, &mut totals, steps);
     let x = ends_on_x(store, steps);
     let left = match outcome {
@@ -403,6 +426,20 @@ fn batches<G: Ledger, P: Projector<L>, const L: usize>(
 /// The thirteen cases hand over 40 bonds.
 const ALL_HOLD: Told = ([true; 9], [true; 4], 40);
 
+fn one_by_one<G: Ledger, const L: usize>(alloc: Global, steps: &mut Steps<G>) -> Told
+    requires low { 0 < L }
+    requires high { L ≤ 16 }
+{
+    batches(alloc, steps, &mut Scalar::<L>::new())
+}
+
+fn side_by_side<G: Ledger, const L: usize>(alloc: Global, steps: &mut Steps<G>) -> Told
+    requires low { 0 < L }
+    requires high { L ≤ 16 }
+{
+    batches(alloc, steps, &mut LaneProjector::<L>::new())
+}
+
 /// What is told of two widths one by one, and of each width side by side.
 fn widths<G: Ledger>(alloc: Global, blank: Blank) -> [Told; 7]
     requires name { blank.name ≡ G.name }
@@ -411,21 +448,31 @@ fn widths<G: Ledger>(alloc: Global, blank: Blank) -> [Told; 7]
 {
     let mut steps: Steps<G> = Steps::open(blank);
     let told = [
-        batches(alloc, &mut steps, &mut Scalar::<1>::new()),
-        batches(alloc, &mut steps, &mut Scalar::<16>::new()),
-        batches(alloc, &mut steps, &mut LaneProjector::<1>::new()),
-        batches(alloc, &mut steps, &mut LaneProjector::<2>::new()),
-        batches(alloc, &mut steps, &mut LaneProjector::<4>::new()),
-        batches(alloc, &mut steps, &mut LaneProjector::<8>::new()),
-        batches(alloc, &mut steps, &mut LaneProjector::<16>::new()),
+        one_by_one::<G, 1>(alloc, &mut steps),
+        one_by_one::<G, 16>(alloc, &mut steps),
+        side_by_side::<G, 1>(alloc, &mut steps),
+        side_by_side::<G, 2>(alloc, &mut steps),
+        side_by_side::<G, 4>(alloc, &mut steps),
+        side_by_side::<G, 8>(alloc, &mut steps),
+        side_by_side::<G, 16>(alloc, &mut steps),
     ];
     drop(steps);
     told
 }
 
 #[test]
-fn one_by_one_and_side_by_side(rt: HostRuntime) {
-    assert!(rt; widths::<Brand>(rt.alloc(), Blank::new(1)) == [ALL_HOLD; 7]);
-    assert!(rt; Scalar::<4>::new().lanes() == 1);
-    assert!(rt; LaneProjector::<4>::new().lanes() == 4);
+fn batches_come_to_the_same_one_by_one_and_side_by_side(rt: HostRuntime) {
+    let told = widths::<Brand>(rt.alloc(), Blank::new(1));
+    assert!(rt;
+        told == [ALL_HOLD; 7],
+        "which cases hold one by one at widths 1 and 16, and side by side at 1, 2, 4, 8 and 16, and how many bonds were handed: {told:?}"
+    );
+    assert!(rt;
+        Scalar::<4>::new().lanes() == 1,
+        "bonds that go one by one aren't one lane"
+    );
+    assert!(rt;
+        LaneProjector::<4>::new().lanes() == 4,
+        "four lanes aren't four"
+    );
 }

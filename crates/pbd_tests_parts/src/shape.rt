@@ -314,7 +314,10 @@ fn shapes_push_places_out(rt: HostRuntime) {
         pushed(alloc, &BESIDE_ZERO, &[], &GREATEST_BALL),
         pushed(alloc, &BELOW_ZERO, &FLOOR, &BALL_OF_TEN),
     ];
-    assert!(rt; seen == PUSHED);
+    assert!(rt;
+        seen == PUSHED,
+        "places that shapes pushed out at each width"
+    );
 }
 
 static AT_THE_EDGE: [Particle; 2] = [resting!(536870912, 2, 0), resting!(536870912, 0, 0)];
@@ -328,7 +331,8 @@ static BEHIND_THE_EDGE: [Plane; 3] = [
 #[test]
 fn the_first_particle_leaves(rt: HostRuntime) {
     for seen in pushed(rt.alloc(), &AT_THE_EDGE, &BEHIND_THE_EDGE, &[]) {
-        assert!(rt; seen.expect(&rt, "no memory").left == Some(0));
+        let left = seen.expect(&rt, "no memory").left;
+        assert!(rt; left == Some(0), "the particle that leaves: {left:?}");
     }
 }
 
@@ -356,7 +360,10 @@ static RUBBED: [[Result<Seen, AllocError>; 5]; 2] = [
 fn friction_takes_of_velocities(rt: HostRuntime) {
     let alloc = rt.alloc();
     let seen = [rubbed(alloc, &MOVING, 128), rubbed(alloc, &MOVING, 256)];
-    assert!(rt; seen == RUBBED);
+    assert!(rt;
+        seen == RUBBED,
+        "velocities that friction took at each width"
+    );
 }
 
 #[test]
@@ -367,5 +374,8 @@ fn flags_are_set_and_cleared(rt: HostRuntime) {
     touched.clear();
     let cleared = touched.is_set(1);
     drop(touched);
-    assert!(rt; (set, cleared) == ([true, false], false));
+    assert!(rt;
+        (set, cleared) == ([true, false], false),
+        "set {set:?}, and cleared {cleared}"
+    );
 }

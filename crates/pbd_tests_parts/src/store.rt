@@ -287,8 +287,14 @@ static WALKED: [Result<Option<Seen>, AllocError>; 5] = [
 ];
 
 #[test]
-fn keeps_its_particles(rt: HostRuntime) {
+fn a_store_keeps_its_particles(rt: HostRuntime) {
     let (walked, scattered) = widths::<Brand>(rt.alloc(), Blank::new(1));
-    assert!(rt; walked == WALKED);
-    assert!(rt; scattered == [Ok([1, 13, 10, 11, 12, 50, 14]); 5]);
+    assert!(rt;
+        walked == WALKED,
+        "blocks that were loaded and saved at widths 1, 2, 4, 8 and 16"
+    );
+    assert!(rt;
+        scattered == [Ok([1, 13, 10, 11, 12, 50, 14]); 5],
+        "a lane that was gathered and scattered at widths 1, 2, 4, 8 and 16: {scattered:?}"
+    );
 }

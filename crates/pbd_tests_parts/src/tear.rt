@@ -4,9 +4,10 @@ ghost use Rattle.pbd_store.specs.Moving.{AreInside};
 ghost use Rattle.pbd_world.specs.Valid.{are_valid_links};
 
 use crate::places::{link, moved, place, resting};
+use crate::told::{WIDTHS, all_hold, wrong_row};
 use pbd_num::{RANGE, Vec3};
 use pbd_store::{Steps, Store};
-use pbd_tear::torn;
+use pbd_tear::{torn, with_tear_length};
 use pbd_world::{Kind, Link, Particle, RoomList};
 use std::alloc::{AllocError, Global};
 use std::marker::Brand;
@@ -46,16 +47,19 @@ fn first_torn<const L: usize, G: Ledger>(
     requires links { IsTrue (are_valid_links (pos (2 ^ 29)) (length particles.now) links.now) }
     requires four { length links.now ≤ 4 }
 {
+    let mut may_tear = RoomList::open(alloc, 4)?;
+    with_tear_length(links, &mut may_tear);
     let mut out = RoomList::open(alloc, 4)?;
     let numbers = match Store::<L>::open(alloc, particles, RANGE) {
         Ok(store) => {
-            torn(&store, links, &mut out, steps);
+            torn(&store, links, may_tear.as_slice(), &mut out, steps);
             drop(store);
             Ok(first_three(out.as_slice()))
         }
         Err(error) => Err(error),
     };
     drop(out);
+    drop(may_tear);
     numbers
 }
 
@@ -108,8 +112,10 @@ fn longer_links_tear_together(rt: HostRuntime) {
         (true, [Some(1), Some(3), None]),
         (false, [Some(1), None, None]),
     ];
+    let mut wrong = 0u32;
     for (last_live, wanted) in rows {
         let found = counted::<Brand>(rt.alloc(), Blank::new(1), last_live);
-        assert!(rt; found == [Ok(wanted); 5], "{wanted:?}");
+        wrong = wrong.saturating_add(wrong_row(&rt, &last_live, WIDTHS, &found, &[Ok(wanted); 5]));
     }
+    all_hold(&rt, wrong);
 }

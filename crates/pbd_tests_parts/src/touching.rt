@@ -1,17 +1,17 @@
 //! Contacts at each width, compared with all pairs.
-ghost use Rattle.std.specs.Prelude.{◌≡◌, ◌<◌, ◌≤◌, IsTrue, IfOk, pos, ◌≤ℤ◌, length};
+ghost use Rattle.std.specs.Prelude.{◌≡◌, ◌<◌, ◌≤◌, IsTrue, IfSome, pos, ◌≤ℤ◌, length};
 ghost use Rattle.pbd_store.specs.Moving.{AreInside};
 
 use crate::pairs::are_in_range;
 use crate::places::{held, moved, place, resting, squared_distance};
+use crate::told::{WIDTHS, all_hold, wrong_row};
 use pbd_colour::Colouring;
 use pbd_num::{RANGE, Vec3, inside};
 use pbd_self::SelfContacts;
 use pbd_store::{Steps, Store};
 use pbd_world::Particle;
-use std::alloc::{AllocError, Global};
+use std::alloc::Global;
 use std::marker::Brand;
-use std::process::Abort;
 use std::sync::ledger::{Blank, Ledger};
 
 // Particles and links, a thickness, and how many contacts there are.
@@ -71,21 +71,24 @@ fn push_touching(pairs: &mut Vec<(u32, u32)>, case: &Case<'_>) -> bool
     true
 }
 
-// The live links of so many particles.
-fn linked(
-    rt: &impl Abort,
-    alloc: Global,
-    particles: u32,
-    links: &[(u32, u32)],
-) -> Result<Colouring, AllocError>
+// The live links of so many particles. None where there is no memory, or one of them is no pair of particles.
+fn linked(alloc: Global, particles: u32, links: &[(u32, u32)]) -> Option<Colouring>
     requires { particles ≤ 1024 }
-    ensures { IfOk result (λ c. c.particles ≡ particles) }
+    ensures { IfSome result (λ c. c.particles ≡ particles) }
 {
-    assert!(rt; links.len() <= 64);
-    assert!(rt; are_in_range(links, particles));
-    let mut colouring = Colouring::open(alloc, particles, 64)?;
-    colouring.refill(links);
-    Ok(colouring)
+    if links.len() > 64 {
+        return None;
+    }
+    if !are_in_range(links, particles) {
+        return None;
+    }
+    match Colouring::open(alloc, particles, 64) {
+        Ok(mut colouring) => {
+            colouring.refill(links);
+            Some(colouring)
+        }
+        Err(_) => None,
+    }
 }
 
 // Whether contacts hold just these pairs, all live.
@@ -126,7 +129,7 @@ fn finds_in<const L: usize, G: Ledger>(
     thickness: i64,
     wanted: &[(u32, u32)],
     steps: &mut Steps<G>,
-) -> Result<bool, AllocError>
+) -> Option<bool>
     requires inside { AreInside store.now.limit store.now.particles }
     requires links { links.now.particles ≡ length store.now.particles }
     requires low { pos 0 ≤ℤ thickness }
@@ -136,9 +139,9 @@ fn finds_in<const L: usize, G: Ledger>(
         Ok(mut contacts) => {
             let found = are_found(&mut contacts, store, links, thickness, wanted, steps);
             drop(contacts);
-            Ok(found)
+            Some(found)
         }
-        Err(error) => Err(error),
+        Err(_) => None,
     }
 }
 
@@ -150,7 +153,7 @@ fn finds<const L: usize, G: Ledger>(
     thickness: i64,
     wanted: &[(u32, u32)],
     steps: &mut Steps<G>,
-) -> Result<bool, AllocError>
+) -> Option<bool>
     requires few { length particles.now ≤ 1024 }
     requires inside { AreInside (pos 536870912) particles.now }
     requires links { links.now.particles ≡ length particles.now }
@@ -163,69 +166,85 @@ fn finds<const L: usize, G: Ledger>(
             drop(store);
             found
         }
-        Err(error) => Err(error),
+        Err(_) => None,
     }
 }
 
-// The same, after what it asks for was seen to.
-fn finds_safely<const L: usize, G: Ledger>(
-    rt: &impl Abort,
+// The same with links of its own.
+fn finds_linked<const L: usize, G: Ledger>(
     alloc: Global,
     case: &Case<'_>,
     wanted: &[(u32, u32)],
     steps: &mut Steps<G>,
-) -> Result<bool, AllocError> {
+) -> Option<bool>
+    requires few { length case.now.particles.now ≤ 1024 }
+    requires inside { AreInside (pos 536870912) case.now.particles.now }
+    requires low { pos 0 ≤ℤ case.now.thickness }
+    requires high { case.now.thickness ≤ℤ pos 1048576 }
+{
     let particles = case.particles;
-    let links = case.links;
-    let thickness = case.thickness;
-    assert!(rt; particles.len() <= 1024);
-    assert!(rt; are_inside(particles));
-    assert!(rt; 0 <= thickness);
-    assert!(rt; thickness <= 1_048_576);
-    match linked(rt, alloc, particles.len() as u32, links) {
-        Ok(colouring) => {
-            let found = finds::<L, G>(alloc, particles, &colouring, thickness, wanted, steps);
-            drop(colouring);
+    match linked(alloc, particles.len() as u32, case.links) {
+        Some(links) => {
+            let found = finds::<L, G>(alloc, particles, &links, case.thickness, wanted, steps);
+            drop(links);
             found
         }
-        Err(error) => Err(error),
+        None => None,
     }
 }
 
-// Whether contacts are found, unless there is no memory.
-type Found = Result<bool, AllocError>;
+// Whether the wanted contacts are found at each width, where there is memory.
+type Found = [Option<bool>; 5];
 
-// Whether the wanted contacts are found, at each width.
 fn finds_counted<G: Ledger>(
-    rt: &impl Abort,
     alloc: Global,
     blank: Blank,
     case: &Case<'_>,
     wanted: &[(u32, u32)],
-) -> [Found; 5]
+) -> Found
     requires name { blank.name ≡ G.name }
     requires parts { blank.parts ≡ G.parts }
     requires some { 0 < blank.parts }
+    requires few { length case.now.particles.now ≤ 1024 }
+    requires inside { AreInside (pos 536870912) case.now.particles.now }
+    requires low { pos 0 ≤ℤ case.now.thickness }
+    requires high { case.now.thickness ≤ℤ pos 1048576 }
 {
     let mut steps: Steps<G> = Steps::open(blank);
     let found = [
-        finds_safely::<1, G>(rt, alloc, case, wanted, &mut steps),
-        finds_safely::<2, G>(rt, alloc, case, wanted, &mut steps),
-        finds_safely::<4, G>(rt, alloc, case, wanted, &mut steps),
-        finds_safely::<8, G>(rt, alloc, case, wanted, &mut steps),
-        finds_safely::<16, G>(rt, alloc, case, wanted, &mut steps),
+        finds_linked::<1, G>(alloc, case, wanted, &mut steps),
+        finds_linked::<2, G>(alloc, case, wanted, &mut steps),
+        finds_linked::<4, G>(alloc, case, wanted, &mut steps),
+        finds_linked::<8, G>(alloc, case, wanted, &mut steps),
+        finds_linked::<16, G>(alloc, case, wanted, &mut steps),
     ];
     drop(steps);
     found
 }
 
-// Compares what is found at each width with all pairs, of which so many touch.
-fn try_case(rt: &impl Abort, alloc: Global, case: &Case<'_>) -> [Found; 5] {
-    assert!(rt; case.particles.len() <= 1024);
+// Compares what is found at each width with all pairs. None where the case is out of range, or another number of pairs touch.
+fn try_pairs(alloc: Global, case: &Case<'_>, wanted: &mut Vec<(u32, u32)>) -> Option<Found> {
+    if case.particles.len() > 1024 {
+        return None;
+    }
+    if !are_inside(case.particles) {
+        return None;
+    }
+    if case.thickness < 0 {
+        return None;
+    }
+    if case.thickness > 1_048_576 {
+        return None;
+    }
+    if !push_touching(wanted, case) || wanted.len() != case.contacts {
+        return None;
+    }
+    Some(finds_counted::<Brand>(alloc, Blank::new(1), case, wanted.as_slice()))
+}
+
+fn try_case(alloc: Global, case: &Case<'_>) -> Option<Found> {
     let mut wanted = Vec::new(alloc);
-    assert!(rt; push_touching(&mut wanted, case));
-    assert!(rt; wanted.len() == case.contacts);
-    let found = finds_counted::<Brand>(rt, alloc, Blank::new(1), case, wanted.as_slice());
+    let found = try_pairs(alloc, case, &mut wanted);
     drop(wanted);
     found
 }
@@ -241,25 +260,22 @@ fn push_row(particles: &mut Vec<Particle>, count: u32) -> bool {
 }
 
 // Tries particles in a row, with no links.
-fn try_row(
-    rt: &impl Abort,
-    alloc: Global,
-    count: u32,
-    thickness: i64,
-    contacts: usize,
-) -> [Found; 5] {
+fn try_row(alloc: Global, count: u32, thickness: i64, contacts: usize) -> Option<Found> {
     let mut particles = Vec::new(alloc);
-    assert!(rt; push_row(&mut particles, count));
+    let pushed = push_row(&mut particles, count);
     let case = Case {
         particles: particles.as_slice(),
         links: &[],
         thickness,
         contacts,
     };
-    let found = try_case(rt, alloc, &case);
+    let found = if pushed { try_case(alloc, &case) } else { None };
     drop(particles);
     found
 }
+
+/// Whether contacts are found at each width.
+const ALL_FIND: Option<Found> = Some([Some(true); 5]);
 
 macro_rules! case {
     ($particles:expr, $links:expr, $thickness:expr, $contacts:expr) => {
@@ -333,13 +349,13 @@ static CASES: [Case<'static>; 11] = [
 ];
 
 #[test]
-fn few_particles(rt: HostRuntime) {
+fn contacts_of_few_particles_are_found(rt: HostRuntime) {
+    let mut wrong = 0u32;
     for (number, case) in CASES.iter().enumerate() {
-        assert!(rt;
-            try_case(&rt, rt.alloc(), case) == [Ok(true); 5],
-            "case {number}"
-        );
+        let told = try_case(rt.alloc(), case);
+        wrong = wrong.saturating_add(wrong_row(&rt, &number, WIDTHS, &told, &ALL_FIND));
     }
+    all_hold(&rt, wrong);
 }
 
 /// So many particles in a row, a thickness, and how many contacts there are: all pairs, just as many as there is room for,
@@ -347,9 +363,11 @@ fn few_particles(rt: HostRuntime) {
 static ROWS: [(u32, i64, usize); 3] = [(70, 100, 2415), (724, 1000, 261_726), (725, 1000, 262_450)];
 
 #[test]
-fn particles_in_a_row(rt: HostRuntime) {
-    for (count, thickness, contacts) in &ROWS {
-        let found = try_row(&rt, rt.alloc(), *count, *thickness, *contacts);
-        assert!(rt; found == [Ok(true); 5], "{count} in a row");
+fn contacts_of_particles_in_a_row_are_found(rt: HostRuntime) {
+    let mut wrong = 0u32;
+    for row in &ROWS {
+        let told = try_row(rt.alloc(), row.0, row.1, row.2);
+        wrong = wrong.saturating_add(wrong_row(&rt, row, WIDTHS, &told, &ALL_FIND));
     }
+    all_hold(&rt, wrong);
 }

@@ -3,6 +3,7 @@ ghost use Rattle.std.specs.Prelude.{◌≡◌, ◌<◌, ◌^◌, [], ◌∷◌, 
 ghost use Rattle.pbd_world.specs.Valid.{are_valid_tracks};
 
 use crate::places::{held, place};
+use crate::told::{WIDTHS, all_hold, wrong_row};
 use pbd_num::{RANGE, Vec3};
 use pbd_store::{Steps, Store};
 use pbd_track::{is_tracked, track_at};
@@ -132,9 +133,12 @@ static PLACES: [(u32, [i64; 4]); 5] = [
 
 #[test]
 fn tracks_move_at_every_width(rt: HostRuntime) {
+    let mut wrong = 0u32;
     for (t, wanted) in &PLACES {
-        assert!(rt; places(rt.alloc(), *t) == [Ok(*wanted); 5]);
+        let told = places(rt.alloc(), *t);
+        wrong = wrong.saturating_add(wrong_row(&rt, t, WIDTHS, &told, &[Ok(*wanted); 5]));
     }
+    all_hold(&rt, wrong);
 }
 
 #[test]
@@ -144,5 +148,9 @@ fn tracks_name_particles(rt: HostRuntime) {
     let tracks = [track];
     let tracked = [is_tracked(&tracks, 1), is_tracked(&tracks, 0)];
     drop(tracks);
-    assert!(rt; (place.x, tracked) == (5, [true, false]));
+    assert!(rt;
+        (place.x, tracked) == (5, [true, false]),
+        "at {} on x, and whether particles 1 and 0 are tracked: {tracked:?}",
+        place.x
+    );
 }

@@ -2,6 +2,7 @@
 ghost use Rattle.std.specs.Prelude.{◌<◌, ◌≤◌};
 
 use crate::places::{held, link, moved, place, resting};
+use crate::told::{all_hold, wrong_row};
 use pbd_num::{RANGE, Vec3};
 use pbd_world::{
     Class, Full, Key, Kind, Link, List, Particle, Parts, PartsFault, Phase, Plane, Refusal,
@@ -274,7 +275,8 @@ fn counted_beside(alloc: Global, beside: &Beside) -> Result<Option<Counts>, Part
 }
 
 #[test]
-fn takes_valid_parts_and_refuses_others(rt: HostRuntime) {
+fn valid_parts_are_a_scene_and_no_others(rt: HostRuntime) {
+    let mut wrong = 0u32;
     for row in &SCENES {
         let particles = 6usize.saturating_add(row.particles.len());
         let wanted = if row.fits {
@@ -282,12 +284,10 @@ fn takes_valid_parts_and_refuses_others(rt: HostRuntime) {
         } else {
             None
         };
-        assert!(rt;
-            counted_beside(rt.alloc(), row) == Ok(wanted),
-            "{}",
-            row.name
-        );
+        let told = counted_beside(rt.alloc(), row);
+        wrong = wrong.saturating_add(wrong_row(&rt, &row.name, "has", &told, &Ok(wanted)));
     }
+    all_hold(&rt, wrong);
 }
 
 /// Adds so many particles in a row, and from one of them on each one's links to so many behind it, round the end.
@@ -330,7 +330,7 @@ fn counted_ring(
 
 /// As many links as there may be, and those of the last of forty particles, as many as it may have and one more.
 #[test]
-fn takes_as_many_links_as_there_may_be(rt: HostRuntime) {
+fn a_scene_has_as_many_links_as_there_may_be(rt: HostRuntime) {
     let rings = [
         counted_ring(rt.alloc(), 65_536, 0, 8),
         counted_ring(rt.alloc(), 40, 39, 32),
@@ -341,11 +341,14 @@ fn takes_as_many_links_as_there_may_be(rt: HostRuntime) {
         Ok(Some((40, 32, 40))),
         Ok(None),
     ];
-    assert!(rt; rings == wanted);
+    assert!(rt;
+        rings == wanted,
+        "particles, links and particles of three rings: {rings:?}"
+    );
 }
 
 #[test]
-fn keeps_lists(rt: HostRuntime) {
+fn a_list_keeps_its_items(rt: HostRuntime) {
     let mut list = List::new(rt.alloc());
     let pushed = [list.push(3_u8), list.push(1), list.push(4)];
     let long = list.len();
@@ -353,7 +356,10 @@ fn keeps_lists(rt: HostRuntime) {
     list.truncate(5);
     let short = list.as_slice() == [3, 1].as_slice();
     drop(list);
-    assert!(rt; (pushed, long, short) == ([Ok(()); 3], 3, true));
+    assert!(rt;
+        (pushed, long, short) == ([Ok(()); 3], 3, true),
+        "three items, {long} of them there, and whether the first two stay: {short}"
+    );
 }
 
 /// Sets the items to 1, and says whether the list is two ones then.
@@ -363,14 +369,17 @@ fn becomes_ones(list: &mut RoomList<u8>) -> bool {
 }
 
 #[test]
-fn keeps_room_lists(rt: HostRuntime) {
+fn a_list_with_room_takes_no_more_items(rt: HostRuntime) {
     let mut list = RoomList::open(rt.alloc(), 2).expect(&rt, "no memory");
     let pushed = [list.push(7), list.push(8), list.push(9)];
     let ones = becomes_ones(&mut list);
     list.clear();
     let left = (list.as_slice().len(), list.room());
     drop(list);
-    assert!(rt; (pushed, ones, left) == ([Ok(()), Ok(()), Err(Full)], true, (0, 2)));
+    assert!(rt;
+        (pushed, ones, left) == ([Ok(()), Ok(()), Err(Full)], true, (0, 2)),
+        "three items for a room of two, whether they are ones then: {ones}, and items and room at the end: {left:?}"
+    );
 }
 
 const NOTHING: Totals = Totals {
@@ -388,20 +397,24 @@ static PINNED: Totals = Totals {
 };
 
 #[test]
-fn adds_to_one_total(rt: HostRuntime) {
+fn a_move_is_added_to_one_total(rt: HostRuntime) {
     let mut totals = Totals::zero();
     totals.add(Class::Pin, place!(1, -2, 3));
-    assert!(rt; totals == PINNED);
+    assert!(rt; totals == PINNED, "a move of a pin went elsewhere");
     let mut totals = Totals {
         link: [i128::MAX - 1, 0, i128::MIN + 1],
         ..NOTHING
     };
     totals.add(Class::Link, place!(1, 0, -1));
-    assert!(rt; totals.link == [i128::MAX, 0, i128::MIN]);
+    assert!(rt;
+        totals.link == [i128::MAX, 0, i128::MIN],
+        "the greatest totals of links: {:?}",
+        totals.link
+    );
 }
 
 #[test]
-fn counts_lanes_and_refusals(rt: HostRuntime) {
+fn widths_and_refusals_have_their_numbers(rt: HostRuntime) {
     let lanes = [
         Width::W1.lanes(),
         Width::W2.lanes(),
@@ -409,7 +422,7 @@ fn counts_lanes_and_refusals(rt: HostRuntime) {
         Width::W8.lanes(),
         Width::W16.lanes(),
     ];
-    assert!(rt; lanes == [1, 2, 4, 8, 16]);
+    assert!(rt; lanes == [1, 2, 4, 8, 16], "lanes of widths: {lanes:?}");
     let leaves = Refusal::LeavesRange {
         step: 1,
         phase: Phase::Link,
@@ -421,5 +434,8 @@ fn counts_lanes_and_refusals(rt: HostRuntime) {
         leaves.number(),
         Refusal::TooManyContacts { step: 1 }.number(),
     ];
-    assert!(rt; numbers == [1, 10, 11, 12]);
+    assert!(rt;
+        numbers == [1, 10, 11, 12],
+        "numbers of refusals: {numbers:?}"
+    );
 }

@@ -139,6 +139,10 @@ fn sixteen_sessions_print_what_each_prints_alone(rt: HostRuntime) {
     let (answer, written) = outcome.expect(&rt, "no memory");
     let other = first_other(rt.alloc(), &written);
     drop(written);
-    assert!(rt; made && answer == Status::SomeRefused);
-    assert!(rt; other.is_none(), "{other:?}");
+    assert!(rt;
+        made && answer == Status::SomeRefused,
+        "a host of sixteen ends with {}",
+        answer.code()
+    );
+    assert!(rt; other.is_none(), "session {other:?} isn't printed as alone");
 }

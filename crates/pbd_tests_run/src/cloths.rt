@@ -37,7 +37,10 @@ fn a_cloth_on_a_sphere_is_replayed(rt: HostRuntime) {
     let (_, log) = outcome.expect(&rt, "no memory");
     let so = is_replayed(rt.alloc(), &log);
     drop(log);
-    assert!(rt; so);
+    assert!(rt;
+        so,
+        "a log that isn't replayed as one lane writes, or whose ledger moves"
+    );
 }
 
 /// The frame and the ledger of the falling cloth: gravity took each of its 1,024 particles down by 327,570.
@@ -61,13 +64,16 @@ fn a_cloth_in_free_fall_keeps_its_form(rt: HostRuntime) {
     let output = text.as_str().as_bytes();
     let so = writes(rt.alloc(), "simulate *", IN_FREE_FALL, 0, output);
     drop(text);
-    assert!(rt; made && so);
+    assert!(rt; made && so, "60 steps of free fall at each width");
 }
 
 /// No search of all pairs of 65,536 particles ends two hundred times in a test's time.
 #[test]
 fn a_wide_cloth_at_rest_ends_in_time(rt: HostRuntime) {
-    assert!(rt; holds(rt.alloc(), AT_REST));
+    assert!(rt;
+        holds(rt.alloc(), AT_REST),
+        "200 steps of 65,536 particles at rest"
+    );
 }
 
 /// Words, others whose runs come to the same, what they are given, and how they may end, each end with the beginning of what
@@ -147,10 +153,14 @@ static CLOTHS: [Forms; 5] = [
 
 #[test]
 fn a_cloth_is_the_same_in_each_form(rt: HostRuntime) {
+    let mut wrong = 0u32;
     for (words, others, given, ends) in &CLOTHS {
-        assert!(rt;
-            are_alike(rt.alloc(), words, others, given, ends),
-            "{words}"
-        );
+        if !are_alike(rt.alloc(), words, others, given, ends) {
+            let _ = eprintln!(rt;
+                "{words} ends otherwise than a row says, or than one of {others:?}"
+            );
+            wrong = wrong.saturating_add(1);
+        }
     }
+    assert!(rt; wrong == 0, "{wrong} rows");
 }

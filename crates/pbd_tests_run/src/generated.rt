@@ -44,7 +44,10 @@ fn seventy_contacts_are_the_same_at_every_width(rt: HostRuntime) {
         &[(0, b"ok\nframe 1 70 0 2415\n")],
     );
     drop(input);
-    assert!(rt; made && alike);
+    assert!(rt;
+        made && alike,
+        "frame 1 70 0 2415 at width 1, and the same at widths 2, 4, 8 and 16"
+    );
 }
 
 /// Links of length 105 and of rest length 100, side by side.
@@ -143,8 +146,15 @@ fn holds(alloc: Global, words: &str, input: &[Lines], number: u8, output: &[Line
 
 #[test]
 fn runs_on_many_particles_and_links_end_and_write_as_their_rows_say(rt: HostRuntime) {
+    let mut wrong = 0u32;
     for (words, input, number, output) in &ROWS {
         let so = holds(rt.alloc(), words, input, *number, output);
-        assert!(rt; so, "{words} {number}");
+        if !so {
+            let _ = eprintln!(rt;
+                "{words} on {input:?} is to end with {number} and write {output:?}"
+            );
+            wrong = wrong.saturating_add(1);
+        }
     }
+    assert!(rt; wrong == 0, "{wrong} rows");
 }

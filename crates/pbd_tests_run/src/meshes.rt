@@ -52,5 +52,8 @@ fn a_frame_is_read_again_as_its_mesh(rt: HostRuntime) {
         is_its_mesh(rt.alloc(), &frame),
     ];
     drop(frame);
-    assert!(rt; so == [true; 5]);
+    assert!(rt;
+        so == [true; 5],
+        "whether the net was made, its run ends well, the frame begins and ends so, and is read as its mesh: {so:?}"
+    );
 }

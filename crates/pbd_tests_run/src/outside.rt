@@ -57,6 +57,7 @@ fn ends_at_each_read(alloc: Global, words: &str, input: &[u8], output: &[u8]) ->
 
 #[test]
 fn each_failed_read_ends_a_run(rt: HostRuntime) {
+    let mut wrong = 0u32;
     for (words, input, output) in &READERS {
         let both = Given {
             input: *input,
@@ -67,8 +68,14 @@ fn each_failed_read_ends_a_run(rt: HostRuntime) {
         let each = ends_at_each_read(rt.alloc(), words, input, output);
         let first = ends_at_read(rt.alloc(), words, input, 4096, 1);
         let twice = comes_to(run(rt.alloc(), words, &both), 3, b"error 2");
-        assert!(rt; [each, first, twice] == [true; 3], "{words}");
+        if [each, first, twice] != [true; 3] {
+            let _ = eprintln!(rt;
+                "{words}: at each read {each}, at the first of 4,096 bytes {first}, with a failed write {twice}"
+            );
+            wrong = wrong.saturating_add(1);
+        }
     }
+    assert!(rt; wrong == 0, "{wrong} rows");
 }
 
 /// Words, an input, what is written, and how many bytes each call of `write` is handed: each line of a reply or a mark by
@@ -143,9 +150,14 @@ fn ends_at_each_write(alloc: Global, writer: &Writer) -> bool {
 
 #[test]
 fn each_failed_write_ends_a_run(rt: HostRuntime) {
+    let mut wrong = 0u32;
     for writer in &WRITERS {
-        assert!(rt; ends_at_each_write(rt.alloc(), writer), "{}", writer.0);
+        if !ends_at_each_write(rt.alloc(), writer) {
+            let _ = eprintln!(rt; "{} by calls of {:?} bytes", writer.0, writer.3);
+            wrong = wrong.saturating_add(1);
+        }
     }
+    assert!(rt; wrong == 0, "{wrong} rows");
 }
 
 /// Words, and so many of a byte that they are too long an input.
@@ -170,7 +182,12 @@ fn is_too_long(alloc: Global, words: &str, byte: u8, count: usize) -> bool {
 
 #[test]
 fn an_input_too_long_stops_a_run(rt: HostRuntime) {
+    let mut wrong = 0u32;
     for (words, byte, count) in &TOO_LONG {
-        assert!(rt; is_too_long(rt.alloc(), words, *byte, *count), "{words}");
+        if !is_too_long(rt.alloc(), words, *byte, *count) {
+            let _ = eprintln!(rt; "{words} on {count} bytes isn't refused with status 4");
+            wrong = wrong.saturating_add(1);
+        }
     }
+    assert!(rt; wrong == 0, "{wrong} rows");
 }

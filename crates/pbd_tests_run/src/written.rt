@@ -7,6 +7,7 @@ use pbd_outcome::{Job, Status, job_of};
 use pbd_run::perform;
 use std::alloc::{AllocError, Global};
 use std::fmt::Write;
+use std::io::Eprint;
 
 /// How many bytes a run may write here.
 const ROOM: usize = 1_048_576;
@@ -198,14 +199,43 @@ pub(crate) fn holds(alloc: Global, row: &str) -> bool {
     so
 }
 
-/// The first line of a table that is no row or doesn't hold.
-pub(crate) fn first_wrong(alloc: Global, table: &str) -> Option<&str> {
-    for row in table.split('\n') {
-        if !holds(alloc, row) {
-            return Some(row);
+/// Says what a run to some words comes to.
+fn tell_run<R: Eprint>(rt: &R, words: &str, outcome: Outcome) {
+    match outcome {
+        Ok((answer, written)) => {
+            let text = str::from_utf8(&written).unwrap_or("no text");
+            let _ = eprintln!(rt; "  {words} ends with {} and writes {text:?}", answer.code());
+            drop(written);
+        }
+        Err(_) => {
+            let _ = eprintln!(rt; "  {words} has no memory");
         }
     }
-    None
+}
+
+/// Says what runs on an input come to, with each width in place of a `*` in the words.
+pub(crate) fn tell<R: Eprint>(rt: &R, alloc: Global, words: &str, input: &[u8]) {
+    for width in widths_of(words) {
+        if let Ok(words) = words.replace(alloc, "*", *width) {
+            tell_run(
+                rt,
+                words.as_str(),
+                run(alloc, words.as_str(), &all_of(input)),
+            );
+            drop(words);
+        }
+    }
+}
+
+/// Says of a row that doesn't hold what its runs come to.
+pub(crate) fn tell_row<R: Eprint>(rt: &R, alloc: Global, row: &str) {
+    let _ = eprintln!(rt; "{row}");
+    if let Some((words, input, _, _)) = parts_of(row) {
+        if let Ok(input) = lines_of(alloc, input) {
+            tell(rt, alloc, words, input.as_str().as_bytes());
+            drop(input);
+        }
+    }
 }
 
 /// Adds each of some texts, where there is memory.

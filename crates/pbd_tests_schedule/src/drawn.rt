@@ -168,7 +168,11 @@ fn seeds<G: Ledger>(alloc: Global, blank: Blank) -> Result<[bool; 3], AllocError
 }
 
 #[test]
-fn drawn_events(rt: HostRuntime) -> Result<(), Fail> {
-    assert_eq!(rt; seeds::<Brand>(rt.alloc(), Blank::new(1))?, [true; 3]);
+fn a_seed_draws_its_events(rt: HostRuntime) -> Result<(), Fail> {
+    assert_eq!(rt;
+        seeds::<Brand>(rt.alloc(), Blank::new(1))?,
+        [true; 3],
+        "seed 7, seed 8, and seed 7 behind a batch that leaves"
+    );
     Ok(())
 }

@@ -155,10 +155,11 @@ fn worked_lists<G: Ledger>(alloc: Global, blank: Blank) -> Result<[bool; 3], All
 }
 
 #[test]
-fn given_events(rt: HostRuntime) -> Result<(), Fail> {
+fn given_events_come_to_what_their_rows_say(rt: HostRuntime) -> Result<(), Fail> {
     assert_eq!(rt;
         worked_lists::<Brand>(rt.alloc(), Blank::new(1))?,
-        [true; 3]
+        [true; 3],
+        "lists of two bonds, of none, and of one that was only read"
     );
     Ok(())
 }

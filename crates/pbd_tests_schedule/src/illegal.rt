@@ -177,7 +177,10 @@ fn lists<G: Ledger>(alloc: Global, blank: Blank) -> Result<bool, AllocError>
 }
 
 #[test]
-fn lists_of_events(rt: HostRuntime) -> Result<(), Fail> {
-    assert!(rt; lists::<Brand>(rt.alloc(), Blank::new(1))?);
+fn all_other_lists_of_events_are_refused(rt: HostRuntime) -> Result<(), Fail> {
+    assert!(rt;
+        lists::<Brand>(rt.alloc(), Blank::new(1))?,
+        "of 335,923 lists of up to seven events 20 are legal"
+    );
     Ok(())
 }

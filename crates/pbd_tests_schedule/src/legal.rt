@@ -229,10 +229,11 @@ fn interleavings<G: Ledger>(alloc: Global, blank: Blank) -> Result<[bool; 6], Al
 }
 
 #[test]
-fn legal_interleavings(rt: HostRuntime) -> Result<(), Fail> {
+fn legal_interleavings_come_to_the_same(rt: HostRuntime) -> Result<(), Fail> {
     assert_eq!(rt;
         interleavings::<Brand>(rt.alloc(), Blank::new(1))?,
-        [true; 6]
+        [true; 6],
+        "two bonds at widths 1 and 4, three at 1 and 16, and two of three that leave at 1 and 8"
     );
     Ok(())
 }

@@ -22,6 +22,23 @@ const DIGEST: [u8; 32] = [
     252, 57, 130, 185, 105, 49, 168, 5, 228, 253, 85,
 ];
 
+/// Of pieces of a state, and of the state with a byte more.
+const LENGTHS: [usize; 13] = [
+    0,
+    1,
+    8,
+    95,
+    96,
+    127,
+    128,
+    271,
+    275,
+    277,
+    281,
+    SIZE - 1,
+    SIZE + 1,
+];
+
 /// A solver of the scene that the rows speak of.
 pub(crate) type Tested = Solver<4, Scalar<4>>;
 
@@ -125,43 +142,47 @@ fn fault_of<G: Ledger>(
     }
 }
 
-fn holds<G: Ledger>(
+/// How many rows don't hold. Each of them is told.
+fn wrong_rows<G: Ledger>(
+    rt: &impl Eprint,
     solver: &mut Tested,
     state: &[u8; SIZE],
-    row: &Row,
     steps: &mut Steps<G>,
-) -> bool {
-    let wrong = replaced(state, row.at, row.bytes);
-    fault_of(solver, &wrong, steps) == Ok(row.fault)
-}
-
-/// Whether pieces of a state from its front are refused where they end, and the state with a byte more too.
-fn are_cut_off<G: Ledger>(solver: &mut Tested, state: &[u8; SIZE], steps: &mut Steps<G>) -> bool {
-    for len in [0, 1, 8, 95, 96, 127, 128, 271, 275, 277, 281, SIZE - 1] {
-        if fault_of(solver, &state[..len], steps) != Ok(Some(len as u64)) {
-            return false;
+) -> u32 {
+    let mut wrong = 0u32;
+    for row in &ROWS {
+        let bytes = replaced(state, row.at, row.bytes);
+        let fault = fault_of(solver, &bytes, steps);
+        if fault != Ok(row.fault) {
+            let _ = eprintln!(rt;
+                "{}: bytes {:?} at {} are refused at {fault:?}, not at {:?}",
+                row.name, row.bytes, row.at, row.fault
+            );
+            wrong = wrong.saturating_add(1);
         }
     }
+    wrong
+}
+
+/// How many pieces of a state from its front, and the state with a byte more, aren't refused where they end. Each of them is
+/// told.
+fn wrong_pieces<G: Ledger>(
+    rt: &impl Eprint,
+    solver: &mut Tested,
+    state: &[u8; SIZE],
+    steps: &mut Steps<G>,
+) -> u32 {
     let mut longer = [0; SIZE + 1];
     longer[..SIZE].copy_from_slice(state);
-    fault_of(solver, &longer, steps) == Ok(Some(SIZE as u64))
-}
-
-/// The first row that doesn't hold, or what else doesn't.
-fn first_wrong<G: Ledger>(
-    solver: &mut Tested,
-    state: &[u8; SIZE],
-    steps: &mut Steps<G>,
-) -> Option<&'static str> {
-    for row in &ROWS {
-        if !holds(solver, state, row, steps) {
-            return Some(row.name);
+    let mut wrong = 0u32;
+    for len in LENGTHS {
+        let fault = fault_of(solver, &longer[..len], steps);
+        if fault != Ok(Some(len.min(SIZE) as u64)) {
+            let _ = eprintln!(rt; "{len} bytes are refused at {fault:?}");
+            wrong = wrong.saturating_add(1);
         }
     }
-    if !are_cut_off(solver, state, steps) {
-        return Some("pieces");
-    }
-    None
+    wrong
 }
 
 /// The state of a solver after one step, if it has the digest before it, and no fewer bytes than the rows say.
@@ -178,8 +199,13 @@ fn state_of<G: Ledger>(solver: &mut Tested, steps: &mut Steps<G>) -> Option<[u8;
     }
 }
 
-/// What is wrong where another solver reads the state of one.
-fn told<G: Ledger>(alloc: Global, blank: Blank, scene: &Scene) -> Option<&'static str>
+/// How many rows and pieces are wrong where a solver reads its own state, changed.
+fn told<G: Ledger>(
+    rt: &impl Eprint,
+    alloc: Global,
+    blank: Blank,
+    scene: &Scene,
+) -> Result<u32, &'static str>
     requires name { blank.name ≡ G.name }
     requires parts { blank.parts ≡ G.parts }
     requires some { 0 < blank.parts }
@@ -188,13 +214,17 @@ fn told<G: Ledger>(alloc: Global, blank: Blank, scene: &Scene) -> Option<&'stati
     let wrong = match Solver::open(alloc, scene, Scalar::<4>::new()) {
         Ok(mut solver) => {
             let wrong = match state_of(&mut solver, &mut steps) {
-                Some(state) => first_wrong(&mut solver, &state, &mut steps),
-                None => Some("a state"),
+                Some(state) => {
+                    let rows = wrong_rows(rt, &mut solver, &state, &mut steps);
+                    let pieces = wrong_pieces(rt, &mut solver, &state, &mut steps);
+                    Ok(rows.saturating_add(pieces))
+                }
+                None => Err("another size, digest or step"),
             };
             drop(solver);
             wrong
         }
-        Err(_) => Some("memory"),
+        Err(_) => Err("no memory"),
     };
     drop(steps);
     wrong
@@ -204,9 +234,12 @@ fn told<G: Ledger>(alloc: Global, blank: Blank, scene: &Scene) -> Option<&'stati
 fn hostile_bytes_are_refused_at_their_places(rt: HostRuntime) {
     match scene(rt.alloc()) {
         Ok(scene) => {
-            let wrong = told::<Brand>(rt.alloc(), Blank::new(1), &scene);
+            let wrong = told::<Brand>(&rt, rt.alloc(), Blank::new(1), &scene);
             drop(scene);
-            assert!(rt; wrong.is_none(), "{}", wrong.unwrap_or("nothing"));
+            assert!(rt;
+                wrong == Ok(0),
+                "wrong rows and pieces at width 4: {wrong:?}"
+            );
         }
         Err(_) => assert!(rt; false, "no scene"),
     }

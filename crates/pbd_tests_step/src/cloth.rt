@@ -73,6 +73,12 @@ fn a_cloth_goes_back_to_its_slots(rt: HostRuntime) {
     let mut cloth = opened.expect(&rt, "no cloth");
     let (replies, told) = played(&mut cloth);
     drop(cloth);
-    assert!(rt; replies == REPLIES);
-    assert!(rt; told == TOLD);
+    assert!(rt;
+        replies == REPLIES,
+        "answers to a step, two cuts and gravity: {replies:?}"
+    );
+    assert!(rt;
+        told == TOLD,
+        "live links, gone ones, their number, a height and the steps: {told:?}"
+    );
 }

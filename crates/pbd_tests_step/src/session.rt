@@ -433,12 +433,16 @@ static RUNS: [(Drawing, Job<'static>, ReplayEnd, &[u8]); 20] = [
 
 #[test]
 fn jobs_end_and_write_as_their_rows_say(rt: HostRuntime) {
+    let mut wrong = 0u32;
     for (drawing, job, ends, text) in &RUNS {
-        assert!(rt;
-            writes(rt.alloc(), drawing, *job, *ends, text),
-            "at {text:?}"
-        );
+        if !writes(rt.alloc(), drawing, *job, *ends, text) {
+            let _ = eprintln!(rt;
+                "a run that doesn't end {ends:?} and write {text:?} at widths 1, 2, 4, 8 and 16"
+            );
+            wrong = wrong.saturating_add(1);
+        }
     }
+    assert!(rt; wrong == 0, "{wrong} rows");
 }
 
 static TOO_MANY_TOUCH: Case<'static> = Case {
@@ -453,7 +457,7 @@ fn contacts_past_their_greatest_number_are_printed(rt: HostRuntime) {
     let scene = in_a_row(rt.alloc(), 725).expect(&rt, "no scene");
     let holds = holds(rt.alloc(), &scene, &TOO_MANY_TOUCH);
     drop(scene);
-    assert!(rt; holds);
+    assert!(rt; holds, "725 particles that touch each other");
 }
 
 const LEDGER: &[u8] =
@@ -475,9 +479,14 @@ static CALLS: [Calls<'static>; 5] = [
 
 #[test]
 fn each_line_and_each_part_of_a_log_is_one_call(rt: HostRuntime) {
+    let mut wrong = 0u32;
     for calls in &CALLS {
-        assert!(rt; stops_at_each_call(rt.alloc(), calls), "at {:?}", calls.1);
+        if !stops_at_each_call(rt.alloc(), calls) {
+            let _ = eprintln!(rt; "{:?} by calls of {:?} bytes", calls.1, calls.2);
+            wrong = wrong.saturating_add(1);
+        }
     }
+    assert!(rt; wrong == 0, "{wrong} rows");
 }
 
 static WRONG_ANSWERS: [Wrong<'static>; 3] = [
@@ -566,10 +575,24 @@ static WRONG_SUMS: [Wrong<'static>; 10] = [
 
 #[test]
 fn each_answer_and_each_sum_can_differ(rt: HostRuntime) {
+    let mut wrong = 0u32;
     for row in &WRONG_ANSWERS {
-        assert!(rt; differs(rt.alloc(), &LEAVING, &LEAVES, row), "at {}", row.0);
+        if !differs(rt.alloc(), &LEAVING, &LEAVES, row) {
+            let _ = eprintln!(rt;
+                "an answer with byte {} at {}, not told as {:?}",
+                row.1, row.0, row.3
+            );
+            wrong = wrong.saturating_add(1);
+        }
     }
     for row in &WRONG_SUMS {
-        assert!(rt; differs(rt.alloc(), &FALLING, &LONG, row), "at {}", row.0);
+        if !differs(rt.alloc(), &FALLING, &LONG, row) {
+            let _ = eprintln!(rt;
+                "a sum with byte {} at {}, not told as {:?}",
+                row.1, row.0, row.3
+            );
+            wrong = wrong.saturating_add(1);
+        }
     }
+    assert!(rt; wrong == 0, "{wrong} rows");
 }

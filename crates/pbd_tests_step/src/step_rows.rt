@@ -118,7 +118,7 @@ pub(crate) struct Row {
     pub(crate) places: &'static [Vec3],
 }
 
-pub(crate) static ROWS: [Row; 24] = [
+pub(crate) static ROWS: [Row; 28] = [
     // Links pull and tear.
     Row {
         name: "a link pulls",
@@ -169,6 +169,47 @@ pub(crate) static ROWS: [Row; 24] = [
             vector!(0, 1000, 0),
             vector!(101, 1000, 0),
         ],
+    },
+    // Links pull by what changed since the step before.
+    Row {
+        name: "an end is pinned between steps",
+        scene: PULLS,
+        script: &[
+            (Command::Step(1), Ok(())),
+            (Command::Pin(1), Ok(())),
+            (Command::Step(1), Ok(())),
+        ],
+        places: &[vector!(2, 0, 0), vector!(102, 0, 0)],
+    },
+    Row {
+        name: "an end is freed between steps",
+        scene: PULLS_AT_A_HELD_ONE,
+        script: &[
+            (Command::Step(1), Ok(())),
+            (Command::Unpin(0), Ok(())),
+            (Command::Step(1), Ok(())),
+        ],
+        places: &[vector!(-3, 0, 0), vector!(98, 0, 0)],
+    },
+    Row {
+        name: "a link is cut between steps",
+        scene: PULLS,
+        script: &[
+            (Command::Step(1), Ok(())),
+            (Command::Cut(0), Ok(())),
+            (Command::Step(1), Ok(())),
+        ],
+        places: &[vector!(6, 0, 0), vector!(99, 0, 0)],
+    },
+    Row {
+        name: "a link tears before the next step",
+        scene: Drawing {
+            particles: &[held!(0, 0), free!(1000, 0), held!(2000, 0)],
+            links: &[link!(0, 1, 100, 150), link!(1, 2, 100, 0)],
+            ..EMPTY
+        },
+        script: TWO_STEPS,
+        places: &[vector!(0, 0, 0), vector!(2100, 0, 0), vector!(2000, 0, 0)],
     },
     // Contacts and shapes push.
     Row {

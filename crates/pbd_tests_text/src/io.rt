@@ -72,14 +72,16 @@ static WRITES: [(&[u8], Result<(), Failed>, &[u8]); 8] = [
 #[test]
 fn a_sink_in_memory_fails_where_it_is_told(rt: HostRuntime) {
     let mut sink = failing_sink(rt.alloc()).expect(&rt, "no memory");
+    let mut wrong = 0u32;
     for (piece, answer, holds) in &WRITES {
         let answered = put(&mut sink, piece);
-        assert!(rt;
-            (answered, sink.written()) == (*answer, *holds),
-            "at {piece:?}"
-        );
+        if (answered, sink.written()) != (*answer, *holds) {
+            let _ = eprintln!(rt; "{piece:?}: {answered:?}, and {:?} is held", sink.written());
+            wrong = wrong.saturating_add(1);
+        }
     }
     drop(sink);
+    assert!(rt; wrong == 0, "{wrong} rows");
 }
 
 /// A source of seven bytes, at most three a call, that fails its second and its fifth call.
@@ -108,15 +110,17 @@ static READS: [(usize, Result<usize, Failed>, &[u8]); 7] = [
 #[test]
 fn a_source_in_memory_fails_where_it_is_told(rt: HostRuntime) {
     let mut source = failing_source(rt.alloc()).expect(&rt, "no memory");
+    let mut wrong = 0u32;
     for (room, answer, given) in &READS {
         let mut into = [b'.'; 4];
         let answered = get(&mut source, &mut into[..(*room).min(4)]);
-        assert!(rt;
-            (answered, into.as_slice()) == (*answer, *given),
-            "into {room}"
-        );
+        if (answered, into.as_slice()) != (*answer, *given) {
+            let _ = eprintln!(rt; "into {room}: {answered:?}, and {into:?} is there");
+            wrong = wrong.saturating_add(1);
+        }
     }
     drop(source);
+    assert!(rt; wrong == 0, "{wrong} rows");
 }
 
 #[test]
@@ -127,10 +131,16 @@ fn the_sure_ones_never_fail(rt: HostRuntime) {
     let second = get(&mut source, &mut into);
     let given = into;
     let third = get(&mut source, &mut into);
-    assert!(rt; ([first, second, third], given) == ([Ok(2), Ok(1), Ok(0)], *b"cb"));
+    assert!(rt;
+        ([first, second, third], given) == ([Ok(2), Ok(1), Ok(0)], *b"cb"),
+        "three reads of three bytes: {first:?}, {second:?} and {third:?}, with {given:?} after the second"
+    );
     let mut sink = SureSink::new();
     let written = [put(&mut sink, b"abc"), put(&mut sink, b"de")];
-    assert!(rt; (written, sink.taken()) == ([Ok(()), Ok(())], 5));
+    assert!(rt;
+        (written, sink.taken()) == ([Ok(()), Ok(())], 5),
+        "two writes of five bytes: {written:?}"
+    );
 }
 
 /// What four reads into three bytes answer and give.
@@ -148,12 +158,17 @@ fn a_reader_of_std_goes_on_after_a_fault(rt: HostRuntime) {
         inner: text,
         calls: 0,
     });
+    let mut wrong = 0u32;
     for (answer, given) in &STD_READS {
         let mut into = [b'.'; 3];
         let answered = get(&mut source, &mut into);
-        assert!(rt; (answered, into.as_slice()) == (*answer, *given));
+        if (answered, into.as_slice()) != (*answer, *given) {
+            let _ = eprintln!(rt; "{answered:?} and {into:?}, not {answer:?} and {given:?}");
+            wrong = wrong.saturating_add(1);
+        }
     }
     drop(source);
+    assert!(rt; wrong == 0, "{wrong} rows");
 }
 
 /// What is written, and the answer.
@@ -172,10 +187,19 @@ fn a_writer_of_std_fails_and_goes_on(rt: HostRuntime) {
         inner: &mut held,
         calls: 0,
     });
+    let mut wrong = 0u32;
     for (piece, answer) in &STD_WRITES {
-        assert!(rt; put(&mut sink, piece) == *answer, "at {piece:?}");
+        let answered = put(&mut sink, piece);
+        if answered != *answer {
+            let _ = eprintln!(rt; "{piece:?}: {answered:?}, not {answer:?}");
+            wrong = wrong.saturating_add(1);
+        }
     }
     drop(sink);
-    assert!(rt; held.as_slice() == b"abdehijk".as_slice());
+    assert!(rt;
+        held.as_slice() == b"abdehijk".as_slice(),
+        "{held:?} was written"
+    );
     drop(held);
+    assert!(rt; wrong == 0, "{wrong} rows");
 }

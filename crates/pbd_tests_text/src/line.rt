@@ -20,7 +20,8 @@ static NUMBERS: [(u64, i64, i128, &[u8]); 4] = [
 ];
 
 #[test]
-fn numbers_in_a_line(rt: HostRuntime) {
+fn a_line_has_numbers_of_three_kinds(rt: HostRuntime) {
+    let mut wrong = 0u32;
     for (number, signed, wide, bytes) in &NUMBERS {
         let mut line = Line::new();
         line.push_number(*number);
@@ -29,16 +30,28 @@ fn numbers_in_a_line(rt: HostRuntime) {
         line.push_bytes(b" ");
         line.push_wide(*wide);
         line.push("\n");
-        assert!(rt; line.as_slice() == *bytes);
+        if line.as_slice() != *bytes {
+            let _ = eprintln!(rt; "{number} {signed} {wide}: {:?}", line.as_slice());
+            wrong = wrong.saturating_add(1);
+        }
     }
+    assert!(rt; wrong == 0, "{wrong} rows");
 }
 
 #[test]
-fn a_full_line(rt: HostRuntime) {
+fn a_full_line_takes_no_more(rt: HostRuntime) {
     let mut line = Line::new();
     line.push("ab");
-    assert!(rt; line.room() == 254);
+    assert!(rt; line.room() == 254, "room for {} of 254 bytes", line.room());
     line.push_bytes(&[b'c'; 254]);
-    assert!(rt; line.room() == 0);
-    assert!(rt; line.as_slice()[..3] == b"abc"[..]);
+    assert!(rt;
+        line.room() == 0,
+        "room for {} bytes in a full line",
+        line.room()
+    );
+    assert!(rt;
+        line.as_slice()[..3] == b"abc"[..],
+        "the bytes of a full line: {:?}",
+        line.as_slice()
+    );
 }

@@ -11,7 +11,7 @@ use pbd_log::{Entry, LogView, LogWriter, answer_of, read_log};
 use pbd_num::Vec3;
 use pbd_world::{Command, FrameSums, Phase, Refusal, Reply};
 use std::alloc::{AllocError, Global};
-use std::process::Abort;
+use std::io::Eprint;
 
 const SCENE: [u8; 53] = [
     103, 114, 97, 118, 105, 116, 121, 32, 61, 32, 91, 48, 44, 32, 45, 49, 48, 44, 32, 48, 93, 10,
@@ -140,17 +140,25 @@ struct Held {
     sums: FrameSums,
 }
 
-/// Compares what is read of bytes with what they hold.
-fn compare_log(rt: &impl Abort, bytes: &[u8], held: &Held) {
+/// Whether what is read of bytes is what they hold. What differs is told.
+fn is_held(rt: &impl Eprint, bytes: &[u8], held: &Held) -> bool {
     match read_log(bytes) {
         Ok(mut view) => {
             let head = (view.version(), view.limit());
             let same = view.scene() == held.scene;
             let all = has_replies(&mut view, held.replies, &held.sums);
-            assert!(rt; (head, same, all) == (held.head, true, true));
+            if (head, same, all) == (held.head, true, true) {
+                return true;
+            }
+            let _ = eprintln!(rt;
+                "version and limit {head:?}, the scene {same}, the commands and replies {all} of {bytes:?}"
+            );
         }
-        Err(fault) => assert!(rt; false, "refused at {}", fault.offset),
+        Err(fault) => {
+            let _ = eprintln!(rt; "refused at {}: {bytes:?}", fault.offset);
+        }
     }
+    false
 }
 
 macro_rules! held {
@@ -204,10 +212,14 @@ static EXAMPLES: [(&[u8], Held); 6] = [
 ];
 
 #[test]
-fn reads_the_examples(rt: HostRuntime) {
+fn the_examples_are_read(rt: HostRuntime) {
+    let mut wrong = 0u32;
     for (bytes, held) in &EXAMPLES {
-        compare_log(&rt, bytes, held);
+        if !is_held(&rt, bytes, held) {
+            wrong = wrong.saturating_add(1);
+        }
     }
+    assert!(rt; wrong == 0, "{wrong} rows");
 }
 
 fn offset_of(bytes: &[u8]) -> Option<u64> {
@@ -249,13 +261,23 @@ fn first_wrong_cut(bytes: &[u8], rows: &[(usize, u64)]) -> Option<usize> {
 }
 
 #[test]
-fn refuses_each_cut_and_what_is_too_long(rt: HostRuntime) {
+fn each_cut_and_what_is_too_long_are_refused(rt: HostRuntime) {
+    let mut wrong = 0u32;
     for (bytes, rows) in &CUTS {
-        assert!(rt; first_wrong_cut(bytes, rows) == None);
+        let cut = first_wrong_cut(bytes, rows);
+        if cut.is_some() {
+            let _ = eprintln!(rt; "a log of {} bytes, cut at {cut:?}", bytes.len());
+            wrong = wrong.saturating_add(1);
+        }
     }
     for (bytes, offset) in &TOO_LONG {
-        assert!(rt; offset_of(bytes) == Some(*offset));
+        let found = offset_of(bytes);
+        if found != Some(*offset) {
+            let _ = eprintln!(rt; "refused at {offset}, not at {found:?}: {bytes:?}");
+            wrong = wrong.saturating_add(1);
+        }
     }
+    assert!(rt; wrong == 0, "{wrong} rows");
 }
 
 /// What becomes of the bytes with this one set.
@@ -270,11 +292,17 @@ fn offset_with<const N: usize>(bytes: &[u8; N], at: usize, byte: u8) -> Option<u
 /// A byte of a log, its wrong value, and the offset at which the log is refused then.
 type Wrong = (usize, u8, Option<u64>);
 
-/// Compares what becomes of a log with each wrong byte.
-fn compare_wrong<const N: usize>(rt: &impl Abort, bytes: &[u8; N], rows: &[Wrong]) {
+/// How many wrong bytes of a log don't have their offsets. Each of them is told.
+fn wrong_rows<const N: usize>(rt: &impl Eprint, bytes: &[u8; N], rows: &[Wrong]) -> u32 {
+    let mut wrong = 0u32;
     for (at, byte, offset) in rows {
-        assert!(rt; offset_with(bytes, *at, *byte) == *offset, "{byte} at {at}");
+        let found = offset_with(bytes, *at, *byte);
+        if found != *offset {
+            let _ = eprintln!(rt; "{byte} at {at}: refused at {found:?}, not at {offset:?}");
+            wrong = wrong.saturating_add(1);
+        }
     }
+    wrong
 }
 
 static SMALL_CHANGED: [Wrong; 17] = [
@@ -313,10 +341,13 @@ static OLD_LEAVES_CHANGED: [Wrong; 5] = [
 ];
 
 #[test]
-fn looks_at_each_field(rt: HostRuntime) {
-    compare_wrong(&rt, &SMALL, &SMALL_CHANGED);
-    compare_wrong(&rt, &OLD_SMALL, &OLD_SMALL_CHANGED);
-    compare_wrong(&rt, &OLD_LEAVES, &OLD_LEAVES_CHANGED);
+fn each_field_is_looked_at(rt: HostRuntime) {
+    let wrong = [
+        wrong_rows(&rt, &SMALL, &SMALL_CHANGED),
+        wrong_rows(&rt, &OLD_SMALL, &OLD_SMALL_CHANGED),
+        wrong_rows(&rt, &OLD_LEAVES, &OLD_LEAVES_CHANGED),
+    ];
+    assert!(rt; wrong == [0; 3], "{wrong:?} rows");
 }
 
 /// A header of version 1 with the greatest length of a scene, logs with bytes after the end, and where they are refused.
@@ -410,11 +441,15 @@ fn write_replies<K: Sink>(sink: &mut K, table: &[(Command, Reply)]) -> Result<()
 }
 
 #[test]
-fn reads_back_what_it_wrote(rt: HostRuntime) {
+fn what_was_written_is_read_back(rt: HostRuntime) {
     let mut sink = MemSink::open(rt.alloc(), 1000, Vec::new(rt.alloc())).expect(&rt, "no memory");
-    assert!(rt; write_replies(&mut sink, &REPLIES).is_ok());
-    compare_log(&rt, sink.written(), &WRITTEN);
+    assert!(rt;
+        write_replies(&mut sink, &REPLIES).is_ok(),
+        "no room for the replies"
+    );
+    let held = is_held(&rt, sink.written(), &WRITTEN);
     drop(sink);
+    assert!(rt; held, "what was written is read otherwise");
 }
 
 /// A call that fails, how many bytes it takes, and how many the sink holds then. No call has the number 0.
@@ -454,14 +489,22 @@ fn writes(alloc: Global, scene: &[u8], entries: &[Entry], log: &[u8], cut: &Cut)
 
 // The header, the scene, each entry and the end are one call each.
 #[test]
-fn stops_at_the_call_that_fails(rt: HostRuntime) {
+fn a_log_stops_at_the_call_that_fails(rt: HostRuntime) {
+    let mut wrong = 0u32;
     for cut in &LONG_CUTS {
         let entries = [step(), frame()];
-        assert!(rt; writes(rt.alloc(), &SCENE, &entries, &LONG, cut), "{cut:?}");
+        if !writes(rt.alloc(), &SCENE, &entries, &LONG, cut) {
+            let _ = eprintln!(rt; "call, bytes taken and bytes held of the long log: {cut:?}");
+            wrong = wrong.saturating_add(1);
+        }
     }
     for cut in &SMALL_CUTS {
-        assert!(rt; writes(rt.alloc(), &[], &[frame()], &SMALL, cut), "{cut:?}");
+        if !writes(rt.alloc(), &[], &[frame()], &SMALL, cut) {
+            let _ = eprintln!(rt; "call, bytes taken and bytes held of the small log: {cut:?}");
+            wrong = wrong.saturating_add(1);
+        }
     }
+    assert!(rt; wrong == 0, "{wrong} rows");
 }
 
 /// Writes a frame again whose first append fails.
@@ -476,9 +519,16 @@ fn append_again<K: Sink>(sink: &mut K) -> Result<(), Failed> {
 
 // After an append that failed the end has the number of the entries that were written.
 #[test]
-fn goes_on_after_a_failed_append(rt: HostRuntime) {
+fn a_log_goes_on_after_a_failed_append(rt: HostRuntime) {
     let mut sink = failing(rt.alloc(), 31, 2, 0).expect(&rt, "no memory");
-    assert!(rt; append_again(&mut sink).is_ok());
-    assert!(rt; sink.written() == SMALL.as_slice());
+    assert!(rt;
+        append_again(&mut sink).is_ok(),
+        "the second append fails too"
+    );
+    assert!(rt;
+        sink.written() == SMALL.as_slice(),
+        "{:?} was written",
+        sink.written()
+    );
     drop(sink);
 }

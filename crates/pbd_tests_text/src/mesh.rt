@@ -51,10 +51,21 @@ static CLOTH_LINKS: [Link; 13] = [
 #[test]
 fn cloth_has_the_links_of_its_kinds_in_order(rt: HostRuntime) {
     let mut parts = empty_parts(rt.alloc(), LIMIT);
-    assert!(rt; SQUARE.fits(LIMIT));
-    assert!(rt; cloth(rt.alloc(), &SQUARE, &mut parts) == Ok(()));
-    assert!(rt; parts.particles.len() == 6);
-    assert!(rt; parts.links.as_slice() == CLOTH_LINKS.as_slice());
+    assert!(rt; SQUARE.fits(LIMIT), "the square doesn't fit");
+    assert!(rt;
+        cloth(rt.alloc(), &SQUARE, &mut parts) == Ok(()),
+        "no memory"
+    );
+    assert!(rt;
+        parts.particles.len() == 6,
+        "{} particles of 6",
+        parts.particles.len()
+    );
+    assert!(rt;
+        parts.links.as_slice() == CLOTH_LINKS.as_slice(),
+        "links: {:?}",
+        parts.links.as_slice()
+    );
     drop(parts);
 }
 
@@ -67,10 +78,18 @@ static ROPE_LINKS: [Link; 3] = [
 #[test]
 fn rope_has_its_stretch_and_then_its_bend_links(rt: HostRuntime) {
     let mut parts = empty_parts(rt.alloc(), LIMIT);
-    assert!(rt; CORD.fits(LIMIT));
-    assert!(rt; rope(rt.alloc(), &CORD, &mut parts) == Ok(()));
-    assert!(rt; parts.particles.len() == 3);
-    assert!(rt; parts.links.as_slice() == ROPE_LINKS.as_slice());
+    assert!(rt; CORD.fits(LIMIT), "the cord doesn't fit");
+    assert!(rt; rope(rt.alloc(), &CORD, &mut parts) == Ok(()), "no memory");
+    assert!(rt;
+        parts.particles.len() == 3,
+        "{} particles of 3",
+        parts.particles.len()
+    );
+    assert!(rt;
+        parts.links.as_slice() == ROPE_LINKS.as_slice(),
+        "links: {:?}",
+        parts.links.as_slice()
+    );
     drop(parts);
 }
 
@@ -162,9 +181,14 @@ static CLOTHS: [(ClothSpec, bool); 12] = [
 
 #[test]
 fn cloths_fit_up_to_the_limit(rt: HostRuntime) {
+    let mut wrong = 0u32;
     for (spec, want) in &CLOTHS {
-        assert!(rt; spec.fits(LIMIT) == *want, "{spec:?}");
+        if spec.fits(LIMIT) != *want {
+            let _ = eprintln!(rt; "{spec:?} fits where {want} is wanted");
+            wrong = wrong.saturating_add(1);
+        }
     }
+    assert!(rt; wrong == 0, "{wrong} rows");
 }
 
 /// Ropes, and whether they fit.
@@ -217,7 +241,12 @@ static ROPES: [(RopeSpec, bool); 6] = [
 
 #[test]
 fn ropes_fit_up_to_the_limit(rt: HostRuntime) {
+    let mut wrong = 0u32;
     for (spec, want) in &ROPES {
-        assert!(rt; spec.fits(LIMIT) == *want, "{spec:?}");
+        if spec.fits(LIMIT) != *want {
+            let _ = eprintln!(rt; "{spec:?} fits where {want} is wanted");
+            wrong = wrong.saturating_add(1);
+        }
     }
+    assert!(rt; wrong == 0, "{wrong} rows");
 }

@@ -27,7 +27,7 @@ macro_rules! place {
 
 /// The fault of a short text.
 fn fault_of(rt: &impl Abort, alloc: Global, text: &[u8]) -> Option<ObjFault> {
-    assert!(rt; text.len() < 1_000);
+    assert!(rt; text.len() < 1_000, "a text of {} bytes", text.len());
     match read_obj(alloc, text) {
         Ok(mesh) => {
             drop(mesh);
@@ -113,24 +113,28 @@ static BAD_TEXTS: [(&[u8], ObjFault); 32] = [
 ];
 
 #[test]
-fn texts_with_a_bad_vertex_or_face(rt: HostRuntime) {
+fn a_bad_vertex_or_face_is_refused_at_its_line(rt: HostRuntime) {
+    let mut wrong = 0u32;
     for (text, fault) in &BAD_TEXTS {
-        assert!(rt;
-            fault_of(&rt, rt.alloc(), text) == Some(*fault),
-            "of {text:?}"
-        );
+        let found = fault_of(&rt, rt.alloc(), text);
+        if found != Some(*fault) {
+            let _ = eprintln!(rt; "{found:?}, not {fault:?}, of {text:?}");
+            wrong = wrong.saturating_add(1);
+        }
     }
+    assert!(rt; wrong == 0, "{wrong} rows");
 }
 
-/// Compares the places that a short text gives.
-fn compare_places(rt: &impl Abort, alloc: Global, text: &[u8], places: &[Vec3]) {
-    assert!(rt; text.len() < 1_000);
+/// Whether a short text gives these places.
+fn has_places(rt: &impl Abort, alloc: Global, text: &[u8], places: &[Vec3]) -> bool {
+    assert!(rt; text.len() < 1_000, "a text of {} bytes", text.len());
     match read_obj(alloc, text) {
         Ok(mesh) => {
-            assert!(rt; mesh.places.as_slice() == places, "of {text:?}");
+            let same = mesh.places.as_slice() == places;
             drop(mesh);
+            same
         }
-        Err(fault) => assert!(rt; false, "{fault:?} of {text:?}"),
+        Err(_) => false,
     }
 }
 
@@ -171,10 +175,15 @@ static PLACES: [(&[u8], &[Vec3]); 21] = [
 ];
 
 #[test]
-fn decimals_and_their_units(rt: HostRuntime) {
+fn decimals_become_whole_units(rt: HostRuntime) {
+    let mut wrong = 0u32;
     for (text, places) in &PLACES {
-        compare_places(&rt, rt.alloc(), text, places);
+        if !has_places(&rt, rt.alloc(), text, places) {
+            let _ = eprintln!(rt; "not {places:?} of {text:?}");
+            wrong = wrong.saturating_add(1);
+        }
     }
+    assert!(rt; wrong == 0, "{wrong} rows");
 }
 
 /// What becomes of parts to which the mesh of a text is added.
@@ -218,9 +227,18 @@ static TWO_FACES: [Link; 8] = [
 fn a_mesh_is_added_face_by_face(rt: HostRuntime) {
     let text = b"v 0 0 0\nv 1 0 0\nv 1 1 0\nv 0 1 0\nv 0.5 2 0\nf 1 2 3 4\nf 4 3 5\n";
     let mut parts = empty_parts(rt.alloc(), RANGE);
-    assert!(rt; added(rt.alloc(), text, &mut parts) == Ok(()));
-    assert!(rt; parts.particles.len() == 5);
-    assert!(rt; parts.links.as_slice() == TWO_FACES.as_slice());
+    let answer = added(rt.alloc(), text, &mut parts);
+    assert!(rt; answer == Ok(()), "a square and a triangle: {answer:?}");
+    assert!(rt;
+        parts.particles.len() == 5,
+        "{} particles of 5",
+        parts.particles.len()
+    );
+    assert!(rt;
+        parts.links.as_slice() == TWO_FACES.as_slice(),
+        "the links of two faces: {:?}",
+        parts.links.as_slice()
+    );
     drop(parts);
 }
 
@@ -246,15 +264,23 @@ static LIMITS: [Repeated; 4] = [
 
 #[test]
 fn a_mesh_has_at_most_32_links_at_a_vertex_and_65536_vertices(rt: HostRuntime) {
+    let mut wrong = 0u32;
     for (first, piece, count, outcome) in &LIMITS {
         let mut text = String::new(rt.alloc());
-        assert!(rt; push_repeated(&mut text, first, piece, *count, ""));
+        assert!(rt;
+            push_repeated(&mut text, first, piece, *count, ""),
+            "no memory"
+        );
         let bytes = text.as_bytes();
-        assert!(rt; bytes.len() < 1_000_000);
+        assert!(rt; bytes.len() < 1_000_000, "a text of {} bytes", bytes.len());
         let added = added_alone(rt.alloc(), bytes);
         drop(text);
-        assert!(rt; added == *outcome, "{count} times");
+        if added != *outcome {
+            let _ = eprintln!(rt; "{piece:?} {count} times: {added:?}, not {outcome:?}");
+            wrong = wrong.saturating_add(1);
+        }
     }
+    assert!(rt; wrong == 0, "{wrong} rows");
 }
 
 /// Another weight, stiffness and length for each.
@@ -274,21 +300,20 @@ static CLOTH: MeshSettings = MeshSettings {
     }),
 };
 
-/// Compares what a mesh is made with the settings of a cloth, as `tools/mesh-scene --bend 40` makes it.
-fn compare_links(rt: &impl Abort, alloc: Global, text: &[u8], links: &[Link]) {
-    assert!(rt; text.len() < 1_000);
+/// Whether a mesh has these links with the settings of a cloth, as `tools/mesh-scene --bend 40` makes it, and each particle
+/// the weight of the settings.
+fn has_links(alloc: Global, text: &[u8], links: &[Link]) -> Result<[bool; 2], ObjFault>
+    requires { length text.now < 1000000 }
+{
+    let mesh = read_obj(alloc, text)?;
     let mut parts = empty_parts(alloc, RANGE);
-    match read_obj(alloc, text) {
-        Ok(mesh) => {
-            let added = add_mesh_with(alloc, &mesh, &CLOTH, &mut parts);
-            drop(mesh);
-            assert!(rt; added == Ok(()), "of {text:?}");
-        }
-        Err(fault) => assert!(rt; false, "{fault:?} of {text:?}"),
-    }
-    assert!(rt; parts.links.as_slice() == links, "of {text:?}");
-    assert!(rt; parts.particles.as_slice().iter().all(|it| it.weight == 3));
+    let added = add_mesh_with(alloc, &mesh, &CLOTH, &mut parts);
+    drop(mesh);
+    let same = parts.links.as_slice() == links;
+    let heavy = parts.particles.as_slice().iter().all(|it| it.weight == 3);
     drop(parts);
+    added?;
+    Ok([same, heavy])
 }
 
 /// Two triangles, two squares, three triangles at one edge, a triangle and its back, and a body whose corners are all
@@ -358,26 +383,38 @@ static BENT: [(&[u8], &[Link]); 5] = [
 
 #[test]
 fn what_faces_each_other_across_an_edge_of_two_faces_is_joined(rt: HostRuntime) {
+    let mut wrong = 0u32;
     for (text, links) in &BENT {
-        compare_links(&rt, rt.alloc(), text, links);
+        assert!(rt; text.len() < 1_000, "a text of {} bytes", text.len());
+        let told = has_links(rt.alloc(), text, links);
+        if told != Ok([true; 2]) {
+            let _ = eprintln!(rt; "{text:?}: its links and weights: {told:?}, not {links:?}");
+            wrong = wrong.saturating_add(1);
+        }
     }
+    assert!(rt; wrong == 0, "{wrong} rows");
 }
 
-/// Compares the sizes and the corners that a short text gives.
-fn compare_faces(rt: &impl Abort, alloc: Global, text: &[u8], sizes: &[u32], corners: &[u32]) {
-    assert!(rt; text.len() < 1_000);
+/// A text, and the sizes and the corners of its faces.
+type Faces = (&'static [u8], &'static [u32], &'static [u32]);
+
+/// Whether a short text gives its faces.
+fn has_faces(rt: &impl Abort, alloc: Global, row: &Faces) -> bool {
+    let (text, sizes, corners) = *row;
+    assert!(rt; text.len() < 1_000, "a text of {} bytes", text.len());
     match read_obj(alloc, text) {
         Ok(mesh) => {
             let faces = (mesh.sizes.as_slice(), mesh.corners.as_slice());
-            assert!(rt; faces == (sizes, corners), "of {text:?}");
+            let same = faces == (sizes, corners);
             drop(mesh);
+            same
         }
-        Err(fault) => assert!(rt; false, "{fault:?} of {text:?}"),
+        Err(_) => false,
     }
 }
 
-/// Texts, and the sizes and the corners of their faces.
-static OTHER_PROGRAMS: [(&[u8], &[u32], &[u32]); 7] = [
+/// Faces as other programs write them.
+static OTHER_PROGRAMS: [Faces; 7] = [
     (SQUARE, &[4], &[0, 1, 2, 3]),
     (
         b"# Blender\r\nmtllib plane.mtl\r\no Plane\r\nv -1.000000 0.000000 1.000000\r\nv 1 0 1\r\nv 1 0 -1\r\nv -1 0 -1\r\nvn -0.0000 1.0000 -0.0000\r\nvt 0.0 1.0\r\ns 0\r\nusemtl None\r\nf 1/1/1 2/2/1 3/3/1 4/4/1\r\n",
@@ -405,9 +442,14 @@ static OTHER_PROGRAMS: [(&[u8], &[u32], &[u32]); 7] = [
 
 #[test]
 fn files_of_other_programs_are_read(rt: HostRuntime) {
-    for (text, sizes, corners) in &OTHER_PROGRAMS {
-        compare_faces(&rt, rt.alloc(), text, sizes, corners);
+    let mut wrong = 0u32;
+    for row in &OTHER_PROGRAMS {
+        if !has_faces(&rt, rt.alloc(), row) {
+            let _ = eprintln!(rt; "not {:?} and {:?} of {:?}", row.1, row.2, row.0);
+            wrong = wrong.saturating_add(1);
+        }
     }
+    assert!(rt; wrong == 0, "{wrong} rows");
 }
 
 /// Places, whose lines are the first of those below.
@@ -462,17 +504,20 @@ static ARRAYS: [(&[u32], &[u32], Option<ArraysFault>); 12] = [
 ];
 
 #[test]
-fn arrays_that_are_a_mesh_or_none(rt: HostRuntime) {
+fn arrays_are_a_mesh_or_are_refused_at_their_first_wrong_face(rt: HostRuntime) {
+    let mut wrong = 0u32;
     for (sizes, corners, fault) in &ARRAYS {
-        assert!(rt;
-            fault_of_arrays(rt.alloc(), sizes, corners) == *fault,
-            "of {sizes:?} {corners:?}"
-        );
+        let told = fault_of_arrays(rt.alloc(), sizes, corners);
+        if told != *fault {
+            let _ = eprintln!(rt; "{sizes:?} {corners:?}: {told:?}, not {fault:?}");
+            wrong = wrong.saturating_add(1);
+        }
     }
+    assert!(rt; wrong == 0, "{wrong} rows");
 }
 
 #[test]
-fn arrays_with_a_vertex_outside(rt: HostRuntime) {
+fn arrays_with_a_vertex_out_of_range_are_refused_at_it(rt: HostRuntime) {
     let places = [
         VERTICES[0],
         place!(0, 536_870_913, 0),
@@ -481,9 +526,12 @@ fn arrays_with_a_vertex_outside(rt: HostRuntime) {
     match mesh_of(rt.alloc(), &places, &[3], &[0, 1, 9]) {
         Ok(mesh) => {
             drop(mesh);
-            assert!(rt; false, "it is none");
+            assert!(rt; false, "a mesh with a vertex out of range");
         }
-        Err(fault) => assert!(rt; fault == ArraysFault::OutOfRange { vertex: 1 }),
+        Err(fault) => assert!(rt;
+            fault == ArraysFault::OutOfRange { vertex: 1 },
+            "a vertex 1 out of range: {fault:?}"
+        ),
     }
 }
 
@@ -497,27 +545,23 @@ macro_rules! triangle {
     };
 }
 
-/// Compares the triangles of the faces of a mesh.
-fn compare_triangles(
-    rt: &impl Abort,
+/// Whether the faces of seven vertices are cut into these triangles.
+fn has_triangles(
     alloc: Global,
     sizes: &[u32],
     corners: &[u32],
     triangles: &[Triangle],
-) {
-    match mesh_of(alloc, &[Vec3::ZERO; 7], sizes, corners) {
-        Ok(mesh) => {
-            let found = triangles_of(alloc, &mesh);
-            drop(mesh);
-            match found {
-                Ok(found) => {
-                    assert!(rt; found.as_slice() == triangles, "of {sizes:?} {corners:?}");
-                    drop(found);
-                }
-                Err(_) => assert!(rt; false, "no memory"),
-            }
+) -> Result<bool, ArraysFault> {
+    let mesh = mesh_of(alloc, &[Vec3::ZERO; 7], sizes, corners)?;
+    let found = triangles_of(alloc, &mesh);
+    drop(mesh);
+    match found {
+        Ok(found) => {
+            let same = found.as_slice() == triangles;
+            drop(found);
+            Ok(same)
         }
-        Err(fault) => assert!(rt; false, "{fault:?} of {sizes:?} {corners:?}"),
+        Err(_) => Err(ArraysFault::OutOfMemory),
     }
 }
 
@@ -544,23 +588,38 @@ static TRIANGLES: [(&[u32], &[u32], &[Triangle]); 4] = [
 
 #[test]
 fn faces_are_cut_into_triangles(rt: HostRuntime) {
+    let mut wrong = 0u32;
     for (sizes, corners, triangles) in &TRIANGLES {
-        compare_triangles(&rt, rt.alloc(), sizes, corners, triangles);
+        let told = has_triangles(rt.alloc(), sizes, corners, triangles);
+        if told != Ok(true) {
+            let _ = eprintln!(rt; "{sizes:?} {corners:?}: {told:?}, not {triangles:?}");
+            wrong = wrong.saturating_add(1);
+        }
     }
+    assert!(rt; wrong == 0, "{wrong} rows");
 }
 
 static LINES: &[u8] =
     b"v 0 1 -1.5\nv 0.100006103515625 0.0000152587890625 -0.0000152587890625\nv 8192 -8192 8191.9999847412109375\nv 0.5 10 0.0001220703125\nf 1 4 100\nf 11 12 13 14\n";
 
 #[test]
-fn lines_of_a_mesh(rt: HostRuntime) {
+fn vertices_and_faces_are_written_as_lines(rt: HostRuntime) {
     let mut sink = MemSink::open(rt.alloc(), 200, Vec::new(rt.alloc())).expect(&rt, "no memory");
     for place in &VERTICES {
-        assert!(rt; inside(*place));
-        assert!(rt; write_vertex(*place, &mut sink) == Ok(()));
+        assert!(rt; inside(*place), "{place:?} is out of range");
+        assert!(rt;
+            write_vertex(*place, &mut sink) == Ok(()),
+            "no room for {place:?}"
+        );
     }
-    assert!(rt; write_face(&[0, 3, 99], 0, &mut sink) == Ok(()));
-    assert!(rt; write_face(&[0, 1, 2, 3], 10, &mut sink) == Ok(()));
-    assert!(rt; sink.written() == LINES);
+    assert!(rt;
+        write_face(&[0, 3, 99], 0, &mut sink) == Ok(()),
+        "no room for three corners"
+    );
+    assert!(rt;
+        write_face(&[0, 1, 2, 3], 10, &mut sink) == Ok(()),
+        "no room for four corners"
+    );
+    assert!(rt; sink.written() == LINES, "{:?} was written", sink.written());
     drop(sink);
 }

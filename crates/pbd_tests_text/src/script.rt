@@ -70,10 +70,16 @@ static LINES: [(&[u8], Option<Command>); 44] = [
 ];
 
 #[test]
-fn lines_and_their_commands(rt: HostRuntime) {
+fn a_line_is_a_command_or_none(rt: HostRuntime) {
+    let mut wrong = 0u32;
     for (line, command) in &LINES {
-        assert!(rt; line_command(line) == *command, "of {line:?}");
+        let found = line_command(line);
+        if found != *command {
+            let _ = eprintln!(rt; "{line:?}: {found:?}, not {command:?}");
+            wrong = wrong.saturating_add(1);
+        }
     }
+    assert!(rt; wrong == 0, "{wrong} rows");
 }
 
 /// Scripts and their first three commands.
@@ -99,29 +105,46 @@ fn a_script_is_its_lines(rt: HostRuntime) {
     for (bytes, commands) in &SCRIPTS {
         let mut script = Script::new(*bytes);
         for command in commands {
-            assert!(rt; script.next() == *command, "in {bytes:?}");
+            let found = script.next();
+            assert!(rt;
+                found == *command,
+                "in {bytes:?}: {found:?}, not {command:?}"
+            );
         }
     }
 }
 
 #[test]
-fn words_and_numbers(rt: HostRuntime) {
+fn words_and_numbers_are_taken_from_lines(rt: HostRuntime) {
     let lines = [first_line(b"a\r\n\nb"), first_line(b"a\r")];
-    assert!(rt; lines == [(&b"a\r"[..], Some(&b"\nb"[..])), (&b"a\r"[..], None)]);
+    assert!(rt;
+        lines == [(&b"a\r"[..], Some(&b"\nb"[..])), (&b"a\r"[..], None)],
+        "first lines: {lines:?}"
+    );
     let words = (
         without_return(b"a\r\r"),
         next_word(b" \tab c "),
         next_word(b" \t"),
     );
-    assert!(rt; words == (&b"a\r"[..], Some((&b"ab"[..], &b" c "[..])), None));
-    assert!(rt; are_digits(b"") && are_digits(b"0129") && !are_digits(b"12/"));
+    assert!(rt;
+        words == (&b"a\r"[..], Some((&b"ab"[..], &b" c "[..])), None),
+        "first words: {words:?}"
+    );
+    let digits = [are_digits(b""), are_digits(b"0129"), are_digits(b"12/")];
+    assert!(rt;
+        digits == [true, true, false],
+        "whether all are digits: {digits:?}"
+    );
     let numbers = (
         count_of(b"0120"),
         number_of(b"-0120"),
         only_count(b" 7 "),
         only_count(b" 7 8"),
     );
-    assert!(rt; numbers == (Some(120), Some(-120), Some(7), None));
+    assert!(rt;
+        numbers == (Some(120), Some(-120), Some(7), None),
+        "numbers of words: {numbers:?}"
+    );
 }
 
 static VALUES: [(&[u8], u128); 4] = [
@@ -135,9 +158,13 @@ static VALUES: [(&[u8], u128); 4] = [
 ];
 
 #[test]
-fn digits_and_their_value(rt: HostRuntime) {
+fn digits_have_their_value(rt: HostRuntime) {
     for (word, value) in &VALUES {
-        assert!(rt; word.len() <= 38 && are_digits(word));
-        assert!(rt; value_of(word) == *value, "of {word:?}");
+        assert!(rt;
+            word.len() <= 38 && are_digits(word),
+            "{word:?} is no number of up to 38 digits"
+        );
+        let found = value_of(word);
+        assert!(rt; found == *value, "{word:?}: {found}, not {value}");
     }
 }

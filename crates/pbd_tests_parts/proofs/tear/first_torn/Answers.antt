@@ -1,4 +1,4 @@
-use Rattle.std.proofs.Common.{◌≡◌, ◌^◌, ap, arith, pos, length, ℕ}
+use Rattle.std.proofs.Common.{◌≡◌, ◌∙◌, ◌^◌, ap, arith, pos, length, ℕ}
 use Rattle.std.specs.Prelude.{IsTrue}
 use Rattle.pbd_world.specs.Room.{Roomed}
 use Rattle.pbd_world.specs.Valid.{are_valid_links}
@@ -14,8 +14,11 @@ torn-requires g c =
       (
         coe 1 0 (i. IsTrue (are_valid_links (limit i) (length (same i)) c.args.links.now)) c.requires.links,
         (
-          coe 1 0 (i. AreInside (limit i) (same i)) c.requires.inside,
-          omega (arith, c.requires.four, ap (λ (r : Roomed ℕ). r.room) c.in_ok-out.ensures),
+          c.as_slice.ensures ∙ ap (λ (r : Roomed ℕ). r.entries) c.with_tear_length.ensures,
+          (
+            coe 1 0 (i. AreInside (limit i) (same i)) c.requires.inside,
+            omega (arith, c.requires.four, ap (λ (r : Roomed ℕ). r.room) c.in_ok-out.ensures),
+          ),
         ),
       ),
     )

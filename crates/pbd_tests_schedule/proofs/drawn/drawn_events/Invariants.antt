@@ -1,4 +1,0 @@
-use Rattle.pbd_tests_schedule.proofs.drawn.drawn_events.Given as goal
-
-abbrev pub ghosts-seeds : goal.ghosts-seeds
-ghosts-seeds g a = record { name = a.blank.name; parts = a.blank.parts }

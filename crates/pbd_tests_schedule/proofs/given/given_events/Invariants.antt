@@ -1,4 +1,0 @@
-use Rattle.pbd_tests_schedule.proofs.given.given_events.Given as goal
-
-abbrev pub ghosts-worked_lists : goal.ghosts-worked_lists
-ghosts-worked_lists g a = record { name = a.blank.name; parts = a.blank.parts }
