@@ -24,12 +24,12 @@ use Rattle.pbd_pair.specs.declared.chunk.Columns.{Columns}
 use Rattle.pbd_pair.specs.Bonds.{bond_of}
 use Rattle.pbd_pair.specs.Projecting.{CanProject}
 use Rattle.pbd_pair.specs.Moves.{moves_by, moves_at}
-use Rattle.pbd_pair.specs.Chunks.{rows_of, AreShared, AreEnds, AreKnown, AreSized, AreWeighed, HoldsFactor, HoldsRest}
+use Rattle.pbd_pair.specs.Chunks.{rows_of, AreShared, AreEnds, AreKnown, AreSized, AreWeighed, HoldsFactor, HoldsRest, HoldsStiffness, IsGuess}
 use Rattle.pbd_pair.specs.Chunks.{LieBetween, Lying}
 use Rattle.pbd_pair.specs.declared.laid.Laid.{Laid}
 use Rattle.pbd_pair.specs.declared.laid.LaidBond.{LaidBond}
-use Rattle.pbd_pair.specs.Laid.{factor_of, laid_at, laid_bond, lists_of, number_in, weight_in, AreLaid, AreOfBatch, Lists}
-use Rattle.pbd_pair.proofs.Laying.{factor_held, short_held}
+use Rattle.pbd_pair.specs.Laid.{factor_of, laid_at, laid_bond, lists_of, number_in, portion_of, stiffness_of, weight_in, AreLaid, AreOfBatch, Lists}
+use Rattle.pbd_pair.proofs.Laying.{factor_held, portion_held, short_held, stiffness_held}
 use Rattle.pbd_pair.proofs.Ranges.{rest_fits}
 use Rattle.pbd_pair.proofs.Reaching.{nth}
 
@@ -178,6 +178,15 @@ module _ {bonds : Bonds} {numbers : List ℕ} {s : Stored} {t : Totals} (can : C
         subst (λ (x : LaidBond). HoldsFactor (B j) x.first_weight x.second_weight x.factor) (sym (row_is j p))
         (factor_held (B j) _ _ (known_bonds.firm j p))
 
+    pub laid_stiffness : (j : ℕ) → j < length numbers → HoldsStiffness (B j) (number_in l.first_weight.now j)
+        (number_in l.second_weight.now j) (number_in l.stiffness.now j)
+    laid_stiffness j p =
+        subst (λ (x : LaidBond). HoldsStiffness (B j) x.first_weight x.second_weight x.stiffness) (sym (row_is j p))
+        (stiffness_held (B j) _ _ (omega (arith, ints)) (omega (arith, ints)) (known_bonds.firm j p))
+
+    pub laid_portion : (j : ℕ) → j < length numbers → IsGuess (number_in l.portion.now j)
+    laid_portion j p = subst (λ (x : LaidBond). IsGuess x.portion) (sym (row_is j p)) (portion_held (B j) _ _)
+
     module _ (pairs : Pairs) (firsts : pairs.first.now ≡ l.first.now) (seconds : pairs.second.now ≡ l.second.now) where
       pub laid_first : (j : ℕ) → j < length numbers → index_at pairs.first.now j ≡ (B j).a
       laid_first j p = ap (λ (xs : List ℕ). get_or xs j 0) firsts ∙ ap (λ (x : LaidBond). x.first) (row_is j p)
@@ -233,6 +242,8 @@ module _ {bonds : Bonds} {numbers : List ℕ} {s : Stored} {t : Totals} (can : C
         second = full c.second ends.second_long ∙ sym (full c.first ends.first_long);
         rest = full c.rest drawn.rest_long ∙ sym (full c.first ends.first_long);
         factor = full c.factor drawn.factor_long ∙ sym (full c.first ends.first_long);
+        stiffness = full c.stiffness drawn.stiffness_long ∙ sym (full c.first ends.first_long);
+        portion = full c.portion drawn.portion_long ∙ sym (full c.first ends.first_long);
         first_weight = full between.first_weight whole_first ∙ sym (full c.first ends.first_long);
         second_weight = full between.second_weight whole_second ∙ sym (full c.first ends.first_long);
       };
@@ -245,6 +256,9 @@ module _ {bonds : Bonds} {numbers : List ℕ} {s : Stored} {t : Totals} (can : C
             second = (get_or-take (length numbers) c.second j 0 p ∙ ends.second j p) t;
             rest = (get_or-take (length numbers) c.rest j (pos 0) p ∙ drawn.rest j p) t;
             factor = (get_or-take (length numbers) c.factor j (pos 0) p ∙ drawn.factor j p ∙ (λ i. factor_of (B j) (w1 i) (w2 i))) t;
+            stiffness = (get_or-take (length numbers) c.stiffness j (pos 0) p ∙ drawn.stiffness j p
+                ∙ (λ i. stiffness_of (B j) (w1 i) (w2 i))) t;
+            portion = (get_or-take (length numbers) c.portion j (pos 0) p ∙ drawn.portion j p ∙ (λ i. portion_of (B j) (w1 i) (w2 i))) t;
             first_weight = (get_or-take (length numbers) between.first_weight j (pos 0) p ∙ w1) t;
             second_weight = (get_or-take (length numbers) between.second_weight j (pos 0) p ∙ w2) t;
           };

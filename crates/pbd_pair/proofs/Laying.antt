@@ -1,5 +1,5 @@
 -- Bonds in columns: what their rows hold, and what is left of them behind the first.
-use Rattle.std.proofs.Common.{◌≡◌, ℕ, ◌+◌, ◌<◌, ◌≤◌, ℤ, pos, neg_ℤ, ◌≤ℤ◌, ◌<ℤ◌, ◌*ℤ◌, int_lt, int_le, ◌&&◌, ◌||◌, Bool}
+use Rattle.std.proofs.Common.{◌≡◌, ℕ, ◌+◌, ◌<◌, ◌≤◌, ◌^◌, min, ℤ, pos, neg_ℤ, ◌≤ℤ◌, ◌<ℤ◌, ◌*ℤ◌, unsigned_abs, int_lt, int_le, ◌&&◌, ◌||◌, Bool}
 use Rattle.std.proofs.Common.{true, false, cond, List, length, get_or, take, drop, refl, ap, sym, ◌∙◌, arith, subst, w32}
 use Rattle.std.proofs.Common.{FitsSigned, Option, Some, None}
 use Rattle.std.proofs.lemmas.Int.{ints, fits_signed_from_abs}
@@ -11,9 +11,10 @@ use Rattle.pbd_world.specs.Particles.{particle_at, effective_weight}
 use Rattle.pbd_store.specs.Moving.{fixed_parts}
 use Rattle.pbd_pair.specs.declared.laid.Laid.{Laid}
 use Rattle.pbd_pair.specs.declared.laid.LaidBond.{LaidBond}
-use Rattle.pbd_pair.specs.Laid.{are_free, back_of, differ, factor_of, front_of, laid_at, laid_bond, short_rest, weight_in}
+use Rattle.pbd_pair.specs.Laid.{are_free, back_of, differ, factor_of, front_of, laid_at, laid_bond, portion_of, short_rest}
+use Rattle.pbd_pair.specs.Laid.{stiffness_of, weight_in}
 use Rattle.pbd_pair.specs.Laid.{with_row, AreEven, AreLaid, AreSplit, CanSplit, IsFirm, Lists, SuitIf}
-use Rattle.pbd_pair.specs.Chunks.{HoldsFactor, HoldsRest}
+use Rattle.pbd_pair.specs.Chunks.{HoldsFactor, HoldsRest, HoldsStiffness, IsGuess}
 use Rattle.pbd_pair.proofs.Batches.{get_or-map_fixed}
 
 -- ---- one bond
@@ -99,6 +100,70 @@ pub factor_alone : (b : Bond) (first second : ℤ) → (int_le (pos 16384) b.res
 unfolding factor_of
 factor_alone b first second e f = sym (λ i. cond (e i) (neg_ℤ (pos 1)) (cond (f i) b.k (pos 2 *ℤ b.k)))
 
+-- ---- unequal weights
+
+are_held : (first second : ℤ) → (int_le first (pos 0) && int_le second (pos 0)) ≡ true → pos 0 ≤ℤ first → pos 0 ≤ℤ second
+    → 0 < unsigned_abs first + unsigned_abs second → ⊥
+are_held first second e p q some = grind (arith, ints, e, p, q, some)
+
+not_held : (first second : ℤ) → (int_le first (pos 0) && int_le second (pos 0)) ≡ false → unsigned_abs first + unsigned_abs second ≡ 0 → ⊥
+not_held first second e none = grind (arith, ints, e, none)
+
+stiffness_case : (b : Bond) (first second : ℤ) (long held : Bool) → int_le (pos 16384) b.rest ≡ long
+    → (int_le first (pos 0) && int_le second (pos 0)) ≡ held → pos 0 ≤ℤ first → pos 0 ≤ℤ second → IsFirm b
+    → HoldsStiffness b first second (cond long (neg_ℤ (pos 1)) (cond held (pos 0) b.k))
+stiffness_case b first second true held el eh p q firm = record {
+  low = omega (arith, ints);
+  high = omega (arith, ints);
+  short = λ h. absurd (omega (arith, ints, h));
+  shared = λ h some. absurd (omega (arith, ints, h));
+  held = λ h none. absurd (omega (arith, ints, h));
+}
+stiffness_case b first second false true el eh p q firm = record {
+  low = omega (arith, ints);
+  high = omega (arith, ints);
+  short = λ h. below_long b.rest el;
+  shared = λ h some. absurd (are_held first second eh p q some);
+  held = λ h none. refl;
+}
+stiffness_case b first second false false el eh p q firm = record {
+  low = omega (arith, ints, firm.k_low);
+  high = omega (arith, ints, firm.k_high);
+  short = λ h. below_long b.rest el;
+  shared = λ h some. refl;
+  held = λ h none. absurd (not_held first second eh none);
+}
+
+pub stiffness_held : (b : Bond) (first second : ℤ) → pos 0 ≤ℤ first → pos 0 ≤ℤ second → IsFirm b
+    → HoldsStiffness b first second (stiffness_of b first second)
+unfolding stiffness_of
+stiffness_held b first second p q firm = stiffness_case b first second (int_le (pos 16384) b.rest)
+    (int_le first (pos 0) && int_le second (pos 0)) refl refl p q firm
+
+-- a stiffness as a number of 32 bits
+stiffness_bounds : (b : Bond) (long held : Bool) → IsFirm b → unsigned_abs (cond long (neg_ℤ (pos 1)) (cond held (pos 0) b.k)) ≤ 256
+stiffness_bounds b true held firm = omega arith
+stiffness_bounds b false true firm = omega arith
+stiffness_bounds b false false firm = size_at_most b.k 256 firm.k_low firm.k_high
+
+pub stiffness_fits : (b : Bond) (first second z : ℤ) → IsFirm b → z ≡ stiffness_of b first second → FitsSigned w32 z
+unfolding stiffness_of
+stiffness_fits b first second z firm e = fits_signed_from_abs w32 z (omega (
+  arith,
+  ap unsigned_abs e,
+  stiffness_bounds b (int_le (pos 16384) b.rest) (int_le first (pos 0) && int_le second (pos 0)) firm,
+))
+
+at_most : (m n : ℕ) → pos (min m n) ≤ℤ pos m
+at_most m n = omega (arith, ints)
+
+pub portion_held : (b : Bond) (first second : ℤ) → IsGuess (portion_of b first second)
+unfolding portion_of
+portion_held b first second = record { low = omega (arith, ints); high = at_most (2 ^ 30) _ }
+
+pub guess_fits : (z : ℤ) → IsGuess z → FitsSigned w32 z
+guess_fits z h = fits_signed_from_abs w32 z (omega (arith, size_at_most z (2 ^ 30) h.low h.high))
+
 pub k_fits : (b : Bond) → IsFirm b → FitsSigned w32 b.k
 k_fits b firm = fits_signed_from_abs w32 b.k (omega (arith, size_at_most b.k 256 firm.k_low firm.k_high))
 
@@ -122,6 +187,8 @@ module _ (ls : Lists) (even : AreEven ls) where
     second = length-take n ls.second ∙ omega (arith, even.second, length-take n ls.first);
     rest = length-take n ls.rest ∙ omega (arith, even.rest, length-take n ls.first);
     factor = length-take n ls.factor ∙ omega (arith, even.factor, length-take n ls.first);
+    stiffness = length-take n ls.stiffness ∙ omega (arith, even.stiffness, length-take n ls.first);
+    portion = length-take n ls.portion ∙ omega (arith, even.portion, length-take n ls.first);
     first_weight = length-take n ls.first_weight ∙ omega (arith, even.first_weight, length-take n ls.first);
     second_weight = length-take n ls.second_weight ∙ omega (arith, even.second_weight, length-take n ls.first);
   }
@@ -131,6 +198,8 @@ module _ (ls : Lists) (even : AreEven ls) where
     second = length-drop n ls.second ∙ omega (arith, even.second, length-drop n ls.first);
     rest = length-drop n ls.rest ∙ omega (arith, even.rest, length-drop n ls.first);
     factor = length-drop n ls.factor ∙ omega (arith, even.factor, length-drop n ls.first);
+    stiffness = length-drop n ls.stiffness ∙ omega (arith, even.stiffness, length-drop n ls.first);
+    portion = length-drop n ls.portion ∙ omega (arith, even.portion, length-drop n ls.first);
     first_weight = length-drop n ls.first_weight ∙ omega (arith, even.first_weight, length-drop n ls.first);
     second_weight = length-drop n ls.second_weight ∙ omega (arith, even.second_weight, length-drop n ls.first);
   }
@@ -140,6 +209,8 @@ module _ (ls : Lists) (even : AreEven ls) where
     second = length-set ls.second i l.second ∙ even.second ∙ sym (length-set ls.first i l.first);
     rest = length-set ls.rest i l.rest ∙ even.rest ∙ sym (length-set ls.first i l.first);
     factor = length-set ls.factor i l.factor ∙ even.factor ∙ sym (length-set ls.first i l.first);
+    stiffness = length-set ls.stiffness i l.stiffness ∙ even.stiffness ∙ sym (length-set ls.first i l.first);
+    portion = length-set ls.portion i l.portion ∙ even.portion ∙ sym (length-set ls.first i l.first);
     first_weight = length-set ls.first_weight i l.first_weight ∙ even.first_weight ∙ sym (length-set ls.first i l.first);
     second_weight = length-set ls.second_weight i l.second_weight ∙ even.second_weight ∙ sym (length-set ls.first i l.first);
   }
@@ -150,9 +221,20 @@ module _ (ls : Lists) (even : AreEven ls) where
       let b = get_or-set_same ls.second i l.second 0 (omega (arith, h, even.second)) in
       let c = get_or-set_same ls.rest i l.rest (pos 0) (omega (arith, h, even.rest)) in
       let d = get_or-set_same ls.factor i l.factor (pos 0) (omega (arith, h, even.factor)) in
-      let e = get_or-set_same ls.first_weight i l.first_weight (pos 0) (omega (arith, h, even.first_weight)) in
-      let f = get_or-set_same ls.second_weight i l.second_weight (pos 0) (omega (arith, h, even.second_weight)) in
-      λ t. record { first = a t; second = b t; rest = c t; factor = d t; first_weight = e t; second_weight = f t }
+      let e = get_or-set_same ls.stiffness i l.stiffness (pos 0) (omega (arith, h, even.stiffness)) in
+      let f = get_or-set_same ls.portion i l.portion (pos 0) (omega (arith, h, even.portion)) in
+      let g = get_or-set_same ls.first_weight i l.first_weight (pos 0) (omega (arith, h, even.first_weight)) in
+      let k = get_or-set_same ls.second_weight i l.second_weight (pos 0) (omega (arith, h, even.second_weight)) in
+      λ t. record {
+        first = a t;
+        second = b t;
+        rest = c t;
+        factor = d t;
+        stiffness = e t;
+        portion = f t;
+        first_weight = g t;
+        second_weight = k t;
+      }
 
 pub row_kept : (ls : Lists) (i k : ℕ) (l : LaidBond) → (k ≡ i → ⊥) → laid_at (with_row i l ls) k ≡ laid_at ls k
 row_kept ls i k l other = λ t. record {
@@ -160,6 +242,8 @@ row_kept ls i k l other = λ t. record {
   second = get_or-set_other ls.second i k l.second 0 other t;
   rest = get_or-set_other ls.rest i k l.rest (pos 0) other t;
   factor = get_or-set_other ls.factor i k l.factor (pos 0) other t;
+  stiffness = get_or-set_other ls.stiffness i k l.stiffness (pos 0) other t;
+  portion = get_or-set_other ls.portion i k l.portion (pos 0) other t;
   first_weight = get_or-set_other ls.first_weight i k l.first_weight (pos 0) other t;
   second_weight = get_or-set_other ls.second_weight i k l.second_weight (pos 0) other t;
 }
@@ -170,6 +254,8 @@ front_row n j ls h = λ t. record {
   second = get_or-take n ls.second j 0 h t;
   rest = get_or-take n ls.rest j (pos 0) h t;
   factor = get_or-take n ls.factor j (pos 0) h t;
+  stiffness = get_or-take n ls.stiffness j (pos 0) h t;
+  portion = get_or-take n ls.portion j (pos 0) h t;
   first_weight = get_or-take n ls.first_weight j (pos 0) h t;
   second_weight = get_or-take n ls.second_weight j (pos 0) h t;
 }
@@ -180,6 +266,8 @@ back_row n j ls = λ t. record {
   second = get_or-drop n ls.second j 0 t;
   rest = get_or-drop n ls.rest j (pos 0) t;
   factor = get_or-drop n ls.factor j (pos 0) t;
+  stiffness = get_or-drop n ls.stiffness j (pos 0) t;
+  portion = get_or-drop n ls.portion j (pos 0) t;
   first_weight = get_or-drop n ls.first_weight j (pos 0) t;
   second_weight = get_or-drop n ls.second_weight j (pos 0) t;
 }

@@ -1,6 +1,7 @@
 pub mod Ranges
 pub mod Steps
 pub mod Correcting
+pub mod Counted
 pub mod Single
 pub mod OneByOne
 pub mod Together
@@ -15,6 +16,9 @@ pub mod LaidParts
 pub mod Chunks
 pub mod Exact
 pub mod NearBonds
+pub mod SharedMoves
 pub mod Settled
 pub mod Examples
 pub mod WideRows
+pub mod Sharing
+pub mod Summing

@@ -1,5 +1,5 @@
 -- A row that isn't flagged, as the moves of its bond.
-use Rattle.std.proofs.Common.{◌≡◌, suc, zero, ◌+◌, ◌<◌, ℤ, pos, negsuc, ◌≤ℤ◌, ◌<ℤ◌, ◌*ℤ◌, int_lt, int_le, Bool, true, false, ◌&&◌, cond}
+use Rattle.std.proofs.Common.{◌≡◌, suc, zero, ◌+◌, ◌^◌, ◌<◌, ℤ, pos, negsuc, ◌≤ℤ◌, ◌<ℤ◌, ◌*ℤ◌, int_lt, int_le, Bool, true, false, ◌&&◌, cond}
 use Rattle.std.proofs.Common.{refl, ap, sym, ◌∙◌, arith, inl, inr, unsigned_abs, ◌⊎◌}
 use Rattle.std.proofs.lemmas.Int.{ints}
 use Rattle.pbd_num.specs.declared.Vec3.{Vec3}
@@ -9,6 +9,7 @@ use Rattle.pbd_num.specs.Vectors.{opposite, zero_vector, length_of, scaled}
 use Rattle.pbd_num.specs.PairMove.{pair_moves, corrections}
 use Rattle.pbd_num.proofs.Ends.{Even, parts_of, same_axes, both_moves, part_of_none}
 use Rattle.pbd_num.proofs.Lengths.{pair_moves-none}
+use Rattle.pbd_num.proofs.Ranges.{wider}
 use Rattle.pbd_world.specs.declared.bond.Bond.{Bond}
 use Rattle.pbd_near.specs.Moves.{IsPulled}
 use Rattle.pbd_pair.specs.Moves.{moves_by}
@@ -120,7 +121,7 @@ near_moves way first second b row rest f contact first_low second_low r factor k
     in
     record {
       flag = flag;
-      size = pulled.size;
+      size = wider _ (2 ^ 16) (2 ^ 22) (omega arith) pulled.size;
       moves = (λ i. cond slack (zero_vector, zero_vector) (pair_moves way zero_vector (sym rest_is i) b.k first second))
           ∙ moves_case way first second row first_low second_low pulled.apart slack rest b.k f (factor.even named) (factor.both named)
           (factor.second_held named) (factor.first_held named) told;

@@ -24,6 +24,15 @@ sum_then s v w = λ i. record { x = then_both s.x v.x w.x i; y = then_both s.y v
 sum_left : (s : Sum) (v : Vec3) → sum_plus (sum_plus s (opposite v)) v ≡ s
 sum_left s v = λ i. record { x = back_again s.x v.x i; y = back_again s.y v.y i; z = back_again s.z v.z i }
 
+-- two moves of one class
+pub both_added : (t : Ledger) (class : Class) (v w : Vec3) → added (added t class v) class w ≡ added t class (plus v w)
+both_added t classes.Gravity v w = ap (λ (s : Sum). record t { gravity = s }) (sum_then t.gravity v w)
+both_added t classes.Damping v w = ap (λ (s : Sum). record t { damping = s }) (sum_then t.damping v w)
+both_added t classes.Link v w = ap (λ (s : Sum). record t { link = s }) (sum_then t.link v w)
+both_added t classes.Contact v w = ap (λ (s : Sum). record t { contact = s }) (sum_then t.contact v w)
+both_added t classes.Pin v w = ap (λ (s : Sum). record t { pin = s }) (sum_then t.pin v w)
+both_added t classes.Shape v w = ap (λ (s : Sum). record t { shape = s }) (sum_then t.shape v w)
+
 -- opposite moves of one class
 nothing_left : (t : Ledger) (class : Class) (v : Vec3) → added (added t class (opposite v)) class v ≡ t
 nothing_left t classes.Gravity v = ap (λ (s : Sum). record t { gravity = s }) (sum_left t.gravity v)
@@ -38,17 +47,17 @@ plus_opposite s v = λ i. record { x = back s.x v.x i; y = back s.y v.y i; z = b
   back : (a b : ℤ) → a +ℤ (neg_ℤ b +ℤ b) ≡ a
   back a b = omega (arith, ints)
 
-first_alone : (s v : Vec3) → plus s (plus v zero_vector) ≡ plus s v
+pub first_alone : (s v : Vec3) → plus s (plus v zero_vector) ≡ plus s v
 first_alone s v = λ i. record { x = back s.x v.x i; y = back s.y v.y i; z = back s.z v.z i } where
   back : (a b : ℤ) → a +ℤ (b +ℤ pos 0) ≡ a +ℤ b
   back a b = omega (arith, ints)
 
-second_alone : (s v : Vec3) → plus s (plus zero_vector v) ≡ plus s v
+pub second_alone : (s v : Vec3) → plus s (plus zero_vector v) ≡ plus s v
 second_alone s v = λ i. record { x = back s.x v.x i; y = back s.y v.y i; z = back s.z v.z i } where
   back : (a b : ℤ) → a +ℤ (pos 0 +ℤ b) ≡ a +ℤ b
   back a b = omega (arith, ints)
 
-both_none : (s : Vec3) → plus s (plus zero_vector zero_vector) ≡ s
+pub both_none : (s : Vec3) → plus s (plus zero_vector zero_vector) ≡ s
 both_none s = λ i. record { x = back s.x i; y = back s.y i; z = back s.z i } where
   back : (a : ℤ) → a +ℤ (pos 0 +ℤ pos 0) ≡ a
   back a = omega (arith, ints)
@@ -58,11 +67,11 @@ minus_turned v w = λ i. record { x = turn v.x w.x i; y = turn v.y w.y i; z = tu
   turn : (a b : ℤ) → a -ℤ b ≡ neg_ℤ b +ℤ a
   turn a b = omega (arith, ints)
 
--- what two ends move more is at most 2^17 an axis where each of them moves by at most 2^16
-pub both_within : {back forth : Vec3} (sum : Vec3) (n : ℕ) → Within n sum → Within (2 ^ 16) back → Within (2 ^ 16) forth
-    → Within (n + 2 ^ 17) (plus sum (minus forth back))
-both_within {back} {forth} sum n h b f = wider _ (n + (2 ^ 16 + 2 ^ 16)) (n + 2 ^ 17) (omega arith) (plus_within sum (minus forth back) n
-    (2 ^ 16 + 2 ^ 16) h (minus_within forth back (2 ^ 16) (2 ^ 16) f b))
+-- what two ends move more is at most 2^23 an axis where each of them moves by at most 2^22
+pub both_within : {back forth : Vec3} (sum : Vec3) (n : ℕ) → Within n sum → Within (2 ^ 22) back → Within (2 ^ 22) forth
+    → Within (n + 2 ^ 23) (plus sum (minus forth back))
+both_within {back} {forth} sum n h b f = wider _ (n + (2 ^ 22 + 2 ^ 22)) (n + 2 ^ 23) (omega arith) (plus_within sum (minus forth back) n
+    (2 ^ 22 + 2 ^ 22) h (minus_within forth back (2 ^ 22) (2 ^ 22) f b))
 
 -- two free ends move oppositely, and a held one stays
 pub record Opposed (first_held second_held : Bool) (t : Shift) : Type 0 where
@@ -73,9 +82,6 @@ pub record Opposed (first_held second_held : Bool) (t : Shift) : Type 0 where
 abbrev pinned : Ledger → Vec3 → Ledger
 pinned t v = record t { pin = sum_plus t.pin v }
 
-pinned_then : (t : Ledger) (s v : Vec3) → added (pinned t s) classes.Pin v ≡ pinned t (plus s v)
-pinned_then t s v = ap (λ (x : Sum). record t { pin = x }) (sum_then t.pin s v)
-
 -- one bond
 pinned_more : (t : Ledger) (s : Vec3) (class : Class) (p q : Bool) (m : Shift) → Opposed p q m
     → booked (pinned t s) (entries_of p q class m) ≡ pinned t
@@ -85,10 +91,10 @@ pinned_more t s class false false m h =
     ap (λ (v : Vec3). added (added (pinned t s) class v) class m.second_move) e ∙ nothing_left (pinned t s) class m.second_move
     ∙ ap (pinned t) (sym (ap (λ (v : Vec3). plus s (plus v m.second_move)) e ∙ plus_opposite s m.second_move))
 pinned_more t s class false true m h =
-    pinned_then t s m.first_move ∙ ap (pinned t) (sym (ap (λ (v : Vec3). plus s (plus m.first_move v)) (h.second refl)
+    both_added t classes.Pin s m.first_move ∙ ap (pinned t) (sym (ap (λ (v : Vec3). plus s (plus m.first_move v)) (h.second refl)
     ∙ first_alone s m.first_move))
 pinned_more t s class true false m h =
-    pinned_then t s m.second_move ∙ ap (pinned t) (sym (ap (λ (v : Vec3). plus s (plus v m.second_move)) (h.first refl)
+    both_added t classes.Pin s m.second_move ∙ ap (pinned t) (sym (ap (λ (v : Vec3). plus s (plus v m.second_move)) (h.first refl)
     ∙ second_alone s m.second_move))
 pinned_more t s class true true m h =
     ap (pinned t) (sym ((λ i. plus s (plus (h.first refl i) (h.second refl i))) ∙ both_none s))

@@ -1,18 +1,20 @@
 -- A chunk whose ends have moved, as its bonds one by one.
 use Rattle.std.proofs.Common.{◌≡◌, ℕ, ◌<◌, ◌≤◌, ◌^◌, ℤ, pos, ◌≤ℤ◌, ◌<ℤ◌, List, length, get_or, Bool, true, false, ◌&&◌, int_le}
-use Rattle.std.proofs.Common.{int_lt, cond, refl, ap, sym, ◌∙◌, arith, subst, Err}
+use Rattle.std.proofs.Common.{◌||◌, not, int_lt, cond, refl, ap, sym, ◌∙◌, arith, subst, Err}
 use Rattle.std.proofs.lemmas.Int.{ints}
 use Rattle.std.specs.Int.Signed.{<ℤ-≤ℤ_trans}
 use Rattle.pbd_num.specs.declared.Vec3.{Vec3}
 use Rattle.pbd_num.specs.declared.row.Row.{Row}
 use Rattle.pbd_num.specs.Rows.{vector_of, no_row}
-use Rattle.pbd_num.specs.Vectors.{Within, plus, opposite, is_within}
+use Rattle.pbd_num.specs.Vectors.{Within, plus, minus, opposite, is_within, zero_vector}
 use Rattle.pbd_world.specs.declared.parts.Particle.{Particle}
 use Rattle.pbd_world.specs.declared.bond.Bond.{Bond}
+use Rattle.pbd_world.specs.declared.bond.Shift.{Shift}
 use Rattle.pbd_world.specs.declared.totals.Totals.{Totals}
+use Rattle.pbd_world.specs.declared.totals.Class.{Class}
 use Rattle.pbd_world.specs.declared.totals.Class.TheVariants as classes
 use Rattle.pbd_world.specs.Ledger.{Ledger, ledger_of, added, booked}
-use Rattle.pbd_world.specs.Particles.{particle_at}
+use Rattle.pbd_world.specs.Particles.{particle_at, effective_weight}
 use Rattle.pbd_world.specs.Bonds.{end_of, class_of, entries_of}
 use Rattle.pbd_store.specs.Stored.{Stored}
 use Rattle.pbd_store.specs.Moving.{motion_of}
@@ -22,12 +24,14 @@ use Rattle.pbd_store.specs.Pairs.{row_in, moves_in, ways_in, opposites_in, first
 use Rattle.pbd_store.specs.Pairs.{AreShort, EachMoved, LeavesAt}
 use Rattle.pbd_pair.specs.Bonds.{bond_of, shift_by}
 use Rattle.pbd_pair.specs.Projecting.{CanProject, ShareNone, projected_block}
-use Rattle.pbd_pair.specs.Moves.{moves_at, stay_at, entries_at, settled, moved_below}
+use Rattle.pbd_pair.specs.Moves.{moves_at, moves_by, stay_at, entries_at, settled, moved_below}
 use Rattle.pbd_pair.specs.Laid.{number_in}
-use Rattle.pbd_pair.specs.Chunks.{kept_by, entries_in, lying_in, unplaced, AreExact, AreNear, AreSized, AreWeighed, IsFound, IsMasked, Lying}
+use Rattle.pbd_pair.specs.Chunks.{kept_by, entries_in, has_held, lying_in, moved_if, unplaced, AreExact, AreInColumns, AreMoved, AreNear}
+use Rattle.pbd_pair.specs.Chunks.{AreSized, AreWeighed, IsFound, IsMasked, Lying}
 use Rattle.pbd_pair.proofs.ByWay.{same_entries, added_nothing}
 use Rattle.pbd_pair.proofs.Reaching.{nth}
 use Rattle.pbd_pair.proofs.Parting.{AreDone, chunk_done, chunk_leaves}
+use Rattle.pbd_pair.proofs.Counted.{HeldStay, counted_all, first_stays, second_stays, together_if}
 use Rattle.pbd_pair.proofs.Pinning.{Opposed, pinned_all, settled_same, moved_same, moved_nothing}
 use Rattle.pbd_pair.proofs.NearBonds.{kept_some, kept_none}
 use Rattle.pbd_pair.proofs.Chunks.{ends_apart, moves_told, first_flag, second_flag, sized}
@@ -38,7 +42,7 @@ weighs w e = grind (arith, ints, e)
 weightless : (w : ℤ) → int_le w (pos 0) ≡ true → w ≤ℤ pos 0
 weightless w e = grind (arith, ints, e)
 
-kept_size : (b : Bool) (row : Row) → Within (2 ^ 16) (vector_of row) → Within (2 ^ 16) (vector_of (cond b row no_row))
+kept_size : (b : Bool) (row : Row) → Within (2 ^ 22) (vector_of row) → Within (2 ^ 22) (vector_of (cond b row no_row))
 kept_size true row h = h
 kept_size false row h = record { x = omega arith; y = omega arith; z = omega arith }
 
@@ -52,12 +56,12 @@ kept_moves firsts seconds moves k = plus (opposite (vector_of (kept_by (number_i
     (vector_of (kept_by (number_in seconds k)
     (row_in moves k)))
 
-pub kept_size_by : (w : ℤ) (row : Row) → Within (2 ^ 16) (vector_of row) → Within (2 ^ 16) (vector_of (kept_by w row))
+pub kept_size_by : (w : ℤ) (row : Row) → Within (2 ^ 22) (vector_of row) → Within (2 ^ 22) (vector_of (kept_by w row))
 kept_size_by w row h = kept_size (int_lt (pos 0) w) row h
 
-pub kept_short : (w : ℤ) (row : Row) {kept : Row} → kept ≡ kept_by w row → Within (2 ^ 16) (vector_of row)
-    → Within (2 ^ 16) (vector_of kept)
-kept_short w row is h = subst (λ (r : Row). Within (2 ^ 16) (vector_of r)) (sym is) (kept_size_by w row h)
+pub kept_short : (w : ℤ) (row : Row) {kept : Row} → kept ≡ kept_by w row → Within (2 ^ 22) (vector_of row)
+    → Within (2 ^ 22) (vector_of kept)
+kept_short w row is h = subst (λ (r : Row). Within (2 ^ 22) (vector_of r)) (sym is) (kept_size_by w row h)
 
 kept_unflagged : (w : ℤ) (row : Row) {kept : Row} → kept ≡ kept_by w row → row.flag ≡ pos 0 → kept.flag ≡ pos 0
 kept_unflagged w row is h = ap (λ (r : Row). r.flag) is ∙ kept_flag (int_lt (pos 0) w) row h
@@ -92,6 +96,17 @@ module _ {found : Found} {s : Stored} {t : Totals} (can : CanProject 128 found.c
     first_high = λ j p. sized_asked.first_high j (omega (arith, p, is.first_long));
     second_low = λ j p. sized_asked.second_low j (omega (arith, p, is.first_long));
     second_high = λ j p. sized_asked.second_high j (omega (arith, p, is.first_long));
+  }
+
+  pub columns_asked : AreInColumns found
+  columns_asked = record {
+    rest_long = is.rest_long;
+    factor_long = is.factor_long;
+    first_long = is.first_long;
+    second_long = is.second_long;
+    sized = sized_asked;
+    rest = is.rest;
+    factor = is.factor;
   }
 
   -- ends that have moved by what the bonds move them, wherever that leads
@@ -163,32 +178,98 @@ module _ {found : Found} {s : Stored} {t : Totals} (can : CanProject 128 found.c
 
   -- ---- in 32-bit numbers
 
-  module _ {moves back forth : List Row} (short : AreNear (bond_of found.chunk.bonds) numbers (lying_in found) moves)
-      (masked : IsMasked (length numbers) (lying_in found) moves back forth) where
-    near_told : (j : ℕ) → j < length numbers → ◌≡◌ {A = Vec3 × Vec3} (opposite (vector_of (row_in back j)), vector_of (row_in forth j))
+  module _ {back forth : List Row} (moved : AreMoved (bond_of found.chunk.bonds) numbers (lying_in found) back forth) where
+    told_moves : (j : ℕ) → j < length numbers → ◌≡◌ {A = Vec3 × Vec3} (opposite (vector_of (row_in back j)), vector_of (row_in forth j))
         (moves_at s.particles (B j))
-    near_told j p = (λ i. (opposite (vector_of (masked.back j p i)), vector_of (masked.forth j p i))) ∙ sym (short.each j p).moves
-        ∙ moves_told can is.first is.second is.between j p
+    told_moves j p = sym (moved.each j p).moves ∙ moves_told can is.first is.second is.between j p
 
-    pub first_near : (j : ℕ) → j < length numbers → opposite (vector_of (row_in back j)) ≡ (moves_at s.particles (B j)).0
-    first_near j p = ap (λ (m : Vec3 × Vec3). m.0) (near_told j p)
+    pub first_moved : (j : ℕ) → j < length numbers → opposite (vector_of (row_in back j)) ≡ (moves_at s.particles (B j)).0
+    first_moved j p = ap (λ (m : Vec3 × Vec3). m.0) (told_moves j p)
 
-    pub second_near : (j : ℕ) → j < length numbers → vector_of (row_in forth j) ≡ (moves_at s.particles (B j)).1
-    second_near j p = ap (λ (m : Vec3 × Vec3). m.1) (near_told j p)
+    pub second_moved : (j : ℕ) → j < length numbers → vector_of (row_in forth j) ≡ (moves_at s.particles (B j)).1
+    second_moved j p = ap (λ (m : Vec3 × Vec3). m.1) (told_moves j p)
 
     pub back_short : AreShort asked back
     back_short = subst (λ (n : ℕ). AreShort n back) (sym is.pairs.first_long) (record {
-      long = masked.back_long;
-      each = λ j p. kept_short (number_in found.laid.first_weight.now j) (row_in moves j) (masked.back j p) (short.each j p).size;
-      flags = λ j p. kept_unflagged (number_in found.laid.first_weight.now j) (row_in moves j) (masked.back j p) (short.each j p).flag;
+      long = moved.back_long;
+      each = λ j p. (moved.each j p).back_size;
+      flags = λ j p. (moved.each j p).back_flag;
     })
 
     pub forth_short : AreShort asked forth
     forth_short = subst (λ (n : ℕ). AreShort n forth) (sym is.pairs.first_long) (record {
-      long = masked.forth_long;
-      each = λ j p. kept_short (number_in found.laid.second_weight.now j) (row_in moves j) (masked.forth j p) (short.each j p).size;
-      flags = λ j p. kept_unflagged (number_in found.laid.second_weight.now j) (row_in moves j) (masked.forth j p) (short.each j p).flag;
+      long = moved.forth_long;
+      each = λ j p. (moved.each j p).forth_size;
+      flags = λ j p. (moved.each j p).forth_flag;
     })
+
+    -- once the ends have moved by the rows
+    pub moved_done : {new : List Particle} {u : Ledger}
+        → EachMoved asked s.limit found.pairs.first.now found.pairs.second.now (opposites_in back) (ways_in forth) s.particles new
+        → u ≡ settled (λ k. entries_at s.particles (B k)) (length numbers) (ledger_of t)
+        → AreDone s.limit (bond_of found.chunk.bonds) numbers (motion_of s t) new u
+    moved_done told books = side_done first_moved second_moved told books
+
+    pub moved_leaves : {k : ℕ} → LeavesAt k asked s.limit found.pairs.first.now found.pairs.second.now (opposites_in back)
+        (ways_in forth) s.particles
+        → projected_block found.chunk.bonds numbers s t ≡ Err (get_or numbers k 0)
+    moved_leaves told = side_leaves first_moved second_moved told
+
+    -- what is booked where bonds are of one class
+    abbrev shift_at : ℕ → Shift
+    shift_at k = shift_by (end_of (particle_at s.particles (B k).a)) (end_of (particle_at s.particles (B k).b))
+        (moves_at s.particles (B k)).0 (moves_at s.particles (B k)).1
+
+    held_stay : (k : ℕ) → HeldStay (particle_at s.particles (B k).a).held (particle_at s.particles (B k).b).held (shift_at k)
+    held_stay k =
+        let p = particle_at s.particles (B k).a in
+        let q = particle_at s.particles (B k).b in
+        record {
+          first = λ e. ap (λ (h : Bool). (moves_by (minus p.at q.at) (pos (cond h 0 p.weight)) (pos (effective_weight q)) (B k)).0) e
+              ∙ first_stays (minus p.at q.at) (pos (effective_weight q)) (B k);
+          second = λ e. ap (λ (h : Bool). (moves_by (minus p.at q.at) (pos (effective_weight p)) (pos (cond h 0 q.weight)) (B k)).1) e
+              ∙ second_stays (minus p.at q.at) (pos (effective_weight p)) (B k);
+        }
+
+    -- whether a bond of the chunk has a held end
+    abbrev beside : ℕ → Bool
+    beside j = has_held (number_in found.laid.first_weight.now j) (number_in found.laid.second_weight.now j)
+
+    beside_is : (j : ℕ) → j < length numbers → beside j
+        ≡ ((particle_at s.particles (B j).a).held || (particle_at s.particles (B j).b).held)
+    beside_is j p = λ i. first_flag can is.first is.second is.between j p i || second_flag can is.first is.second is.between j p i
+
+    pub moved_books : (class : Class) {pins own : Vec3} (u : Ledger) → ((n : ℕ) → class_of (bond_of found.chunk.bonds n) ≡ class)
+        → pins ≡ moved_below (λ j. moved_if (beside j) (row_in back j) (row_in forth j)) (length numbers)
+        → own ≡ moved_below (λ j. moved_if (not (beside j)) (row_in back j) (row_in forth j)) (length numbers)
+        → added (added u classes.Pin pins) class own ≡ settled (λ k. entries_at s.particles (B k)) (length numbers) u
+    moved_books class {pins} {own} u kind pins_are own_are =
+        let held : ℕ → Bool = λ k. (particle_at s.particles (B k).a).held in
+        let held_second : ℕ → Bool = λ k. (particle_at s.particles (B k).b).held in
+        let pins_told = pins_are ∙ moved_same _ (λ k. together_if (held k || held_second k) (shift_at k)) (length numbers)
+        (λ k p. λ i. cond (beside_is k p i) (plus (first_moved k p i) (second_moved k p i)) zero_vector) in
+        let own_told = own_are ∙ moved_same _ (λ k. together_if (not (held k || held_second k)) (shift_at k)) (length numbers)
+        (λ k p. λ i. cond (not (beside_is k p i)) (plus (first_moved k p i) (second_moved k p i)) zero_vector) in
+        (λ i. added (added u classes.Pin (pins_told i)) class (own_told i))
+        ∙ sym (counted_all u class held held_second shift_at (length numbers) (λ k p. held_stay k))
+        ∙ settled_same (λ k. entries_of (held k) (held_second k) class (shift_at k)) (λ k. entries_at s.particles (B k)) (length numbers) u
+        (λ k p v. ap (λ (x : Class). booked v (entries_of (held k) (held_second k) x (shift_at k))) (sym (kind (get_or numbers k 0))))
+
+  -- one row for both ends of a bond
+  module _ {moves back forth : List Row} (near : AreNear (bond_of found.chunk.bonds) numbers (lying_in found) moves)
+      (masked : IsMasked (length numbers) (lying_in found) moves back forth) where
+    pub near_moved : AreMoved (bond_of found.chunk.bonds) numbers (lying_in found) back forth
+    near_moved = record {
+      back_long = masked.back_long;
+      forth_long = masked.forth_long;
+      each = λ j p. record {
+        back_flag = kept_unflagged (number_in found.laid.first_weight.now j) (row_in moves j) (masked.back j p) (near.each j p).flag;
+        forth_flag = kept_unflagged (number_in found.laid.second_weight.now j) (row_in moves j) (masked.forth j p) (near.each j p).flag;
+        back_size = kept_short (number_in found.laid.first_weight.now j) (row_in moves j) (masked.back j p) (near.each j p).size;
+        forth_size = kept_short (number_in found.laid.second_weight.now j) (row_in moves j) (masked.forth j p) (near.each j p).size;
+        moves = (near.each j p).moves ∙ (λ i. (opposite (vector_of (sym (masked.back j p) i)), vector_of (sym (masked.forth j p) i)));
+      };
+    }
 
     -- what is booked
     opposed : (k : ℕ) → k < length numbers → Opposed (particle_at s.particles (B k).a).held (particle_at s.particles (B k).b).held
@@ -202,36 +283,33 @@ module _ {found : Found} {s : Stored} {t : Totals} (can : CanProject 128 found.c
         let f1 = first_flag can is.first is.second is.between k p in
         let f2 = second_flag can is.first is.second is.between k p in
         record {
-          both = λ a b. sym (first_near k p) ∙ ap (λ (r : Row). opposite (vector_of r))
+          both = λ a b. sym (first_moved near_moved k p) ∙ ap (λ (r : Row). opposite (vector_of r))
               (masked.back k p ∙ kept_some w1 row (weighs w1 (f1 ∙ a)))
-              ∙ ap opposite (sym (ap vector_of (masked.forth k p ∙ kept_some w2 row (weighs w2 (f2 ∙ b))))) ∙ ap opposite (second_near k p);
-          first = λ a. sym (first_near k p) ∙ ap (λ (r : Row). opposite (vector_of r))
+              ∙ ap opposite (sym (ap vector_of (masked.forth k p ∙ kept_some w2 row (weighs w2 (f2 ∙ b)))))
+              ∙ ap opposite (second_moved near_moved k p);
+          first = λ a. sym (first_moved near_moved k p) ∙ ap (λ (r : Row). opposite (vector_of r))
               (masked.back k p ∙ kept_none w1 row (weightless w1 (f1 ∙ a)));
-          second = λ b. sym (second_near k p) ∙ ap vector_of (masked.forth k p ∙ kept_none w2 row (weightless w2 (f2 ∙ b)));
+          second = λ b. sym (second_moved near_moved k p) ∙ ap vector_of
+              (masked.forth k p ∙ kept_none w2 row (weightless w2 (f2 ∙ b)));
         }
 
     pub near_books : (u : Ledger) → added u classes.Pin (moved_below
         (λ j. plus (opposite (vector_of (row_in back j))) (vector_of (row_in forth j)))
         (length numbers)) ≡ settled (λ k. entries_at s.particles (B k)) (length numbers) u
     near_books u =
-        ap (added u classes.Pin) (moved_same _ _ (length numbers) (λ k p. λ i. plus (first_near k p i) (second_near k p i)))
+        ap (added u classes.Pin) (moved_same _ _ (length numbers)
+        (λ k p. λ i. plus (first_moved near_moved k p i) (second_moved near_moved k p i)))
         ∙ sym (pinned_all u (λ k. class_of (B k)) (λ k. (particle_at s.particles (B k).a).held)
         (λ k. (particle_at s.particles (B k).b).held)
         (λ k. shift_by (end_of (particle_at s.particles (B k).a)) (end_of (particle_at s.particles (B k).b)) (moves_at s.particles (B k)).0
         (moves_at s.particles (B k)).1) (length numbers) opposed)
 
-    -- once the ends have moved by the rows
     pub near_done : {new : List Particle} {u : Ledger}
         → EachMoved asked s.limit found.pairs.first.now found.pairs.second.now (opposites_in back) (ways_in forth) s.particles new
         → u ≡ added (ledger_of t) classes.Pin (moved_below (λ j. plus (opposite (vector_of (row_in back j))) (vector_of (row_in forth j)))
         (length numbers))
         → AreDone s.limit (bond_of found.chunk.bonds) numbers (motion_of s t) new u
-    near_done told books = side_done first_near second_near told (books ∙ near_books (ledger_of t))
-
-    pub near_leaves : {k : ℕ} → LeavesAt k asked s.limit found.pairs.first.now found.pairs.second.now (opposites_in back)
-        (ways_in forth) s.particles
-        → projected_block found.chunk.bonds numbers s t ≡ Err (get_or numbers k 0)
-    near_leaves told = side_leaves first_near second_near told
+    near_done told books = moved_done near_moved told (books ∙ near_books (ledger_of t))
 
 -- where all ends are free, nothing is booked
 pub free_masked : {n m : ℕ} {least : ℤ} (l : Lying) (moves : List Row) → n ≤ length moves → m ≡ n → pos 0 <ℤ least

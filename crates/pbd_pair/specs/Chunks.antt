@@ -1,11 +1,11 @@
 -- Bonds of a chunk, number by number.
-use Rattle.std.specs.Prelude.{◌≡◌, ℕ, ◌<◌, ◌≤◌, ◌^◌, ℤ, pos, neg_ℤ, ◌<ℤ◌, ◌≤ℤ◌, ◌*ℤ◌, int_lt, int_le, if◌then◌else◌, List, length}
-use Rattle.std.specs.Prelude.{slice_index_or, take}
+use Rattle.std.specs.Prelude.{◌≡◌, ℕ, ◌+◌, ◌<◌, ◌≤◌, ◌^◌, ℤ, pos, neg_ℤ, ◌<ℤ◌, ◌≤ℤ◌, ◌*ℤ◌, int_lt, int_le, if◌then◌else◌, List, length}
+use Rattle.std.specs.Prelude.{slice_index_or, take, unsigned_abs, Bool, ◌||◌}
 use Rattle.pbd_num.specs.declared.Vec3.{Vec3}
 use Rattle.pbd_num.specs.declared.row.Row.{Row}
 use Rattle.pbd_num.specs.declared.tried.Draw.{Draw}
 use Rattle.pbd_num.specs.Rows.{vector_of, no_row}
-use Rattle.pbd_num.specs.Vectors.{Within, opposite, zero_vector}
+use Rattle.pbd_num.specs.Vectors.{Within, plus, opposite, zero_vector}
 use Rattle.pbd_world.specs.declared.parts.Particle.{Particle}
 use Rattle.pbd_world.specs.declared.bond.Bond.{Bond}
 use Rattle.pbd_world.specs.declared.bond.Shift.{Shift}
@@ -21,7 +21,7 @@ use Rattle.pbd_pair.specs.declared.chunk.Columns.{Columns}
 use Rattle.pbd_pair.specs.declared.chunk.Found.{Found}
 use Rattle.pbd_pair.specs.Bonds.{bond_of, bond_count}
 use Rattle.pbd_pair.specs.Moves.{moves_by}
-use Rattle.pbd_pair.specs.Laid.{factor_of, number_in, short_rest, IsFirm, Lists}
+use Rattle.pbd_pair.specs.Laid.{factor_of, number_in, portion_of, short_rest, stiffness_of, IsFirm, Lists}
 
 -- at most 128 numbers of firm bonds
 pub record AreKnown (bonds : Bonds) (numbers : List ℕ) : Type 0 where
@@ -43,13 +43,19 @@ pub record AreWeighed (n : ℕ) (firsts seconds : List ℤ) : Type 0 where
   pub second_low : (j : ℕ) → j < n → pos 0 ≤ℤ number_in seconds j
   pub second_high : (j : ℕ) → j < n → number_in seconds j ≤ℤ pos 65535
 
--- the rest lengths and factors of a chunk's bonds, whose ends have these weights
+-- what loops go by of a chunk's bonds, whose ends have these weights
 pub record AreShared (bond : ℕ → Bond) (numbers : List ℕ) (between : Between) (c : Columns) : Type 0 where
   pub rest_long : length c.rest ≡ 128
   pub factor_long : length c.factor ≡ 128
+  pub stiffness_long : length c.stiffness ≡ 128
+  pub portion_long : length c.portion ≡ 128
   pub rest : (j : ℕ) → j < length numbers → number_in c.rest j ≡ short_rest (bond (slice_index_or numbers j 0)).rest
   pub factor : (j : ℕ) → j < length numbers → number_in c.factor j
       ≡ factor_of (bond (slice_index_or numbers j 0)) (number_in between.first_weight j) (number_in between.second_weight j)
+  pub stiffness : (j : ℕ) → j < length numbers → number_in c.stiffness j
+      ≡ stiffness_of (bond (slice_index_or numbers j 0)) (number_in between.first_weight j) (number_in between.second_weight j)
+  pub portion : (j : ℕ) → j < length numbers → number_in c.portion j
+      ≡ portion_of (bond (slice_index_or numbers j 0)) (number_in between.first_weight j) (number_in between.second_weight j)
 
 -- the first n rows of a chunk's columns
 abbrev pub rows_of : ℕ → Between → Columns → Lists
@@ -58,6 +64,8 @@ rows_of n between c = record {
   second = take n c.second;
   rest = take n c.rest;
   factor = take n c.factor;
+  stiffness = take n c.stiffness;
+  portion = take n c.portion;
   first_weight = take n between.first_weight;
   second_weight = take n between.second_weight;
 }
@@ -109,6 +117,20 @@ pub record HoldsFactor (b : Bond) (first second f : ℤ) : Type 0 where
   pub first_held : pos 0 ≤ℤ f → first ≡ pos 0 → f ≡ pos 2 *ℤ b.k
   pub second_held : pos 0 ≤ℤ f → second ≡ pos 0 → f ≡ pos 2 *ℤ b.k
 
+-- s / 256 is the part of a correction that both ends of a bond move by together, and s is below 0 where the bond isn't short; where both
+-- ends are held, neither moves
+pub record HoldsStiffness (b : Bond) (first second s : ℤ) : Type 0 where
+  pub low : neg_ℤ (pos 1) ≤ℤ s
+  pub high : s ≤ℤ pos 256
+  pub short : pos 0 ≤ℤ s → b.rest <ℤ pos 16384
+  pub shared : pos 0 ≤ℤ s → 0 < unsigned_abs first + unsigned_abs second → s ≡ b.k
+  pub held : pos 0 ≤ℤ s → unsigned_abs first + unsigned_abs second ≡ 0 → s ≡ pos 0
+
+-- a guess is bounded, and nothing else is said of it
+pub record IsGuess (guess : ℤ) : Type 0 where
+  pub low : pos 0 ≤ℤ guess
+  pub high : guess ≤ℤ pos (2 ^ 30)
+
 -- a row of a free end, and none of a held one
 abbrev pub kept_by : ℤ → Row → Row
 kept_by weight row = if int_lt (pos 0) weight then row else no_row
@@ -116,7 +138,7 @@ kept_by weight row = if int_lt (pos 0) weight then row else no_row
 -- a row is the move of the second end where that is free, and its opposite the move of the first where that is free
 pub record IsNear (way : Vec3) (first second : ℤ) (b : Bond) (row : Row) : Type 0 where
   pub flag : row.flag ≡ pos 0
-  pub size : Within (2 ^ 16) (vector_of row)
+  pub size : Within (2 ^ 22) (vector_of row)
   pub moves : moves_by way first second b ≡ (opposite (vector_of (kept_by first row)), vector_of (kept_by second row))
 
 -- the same of each bond of a chunk
@@ -138,6 +160,38 @@ pub record IsMasked (n : ℕ) (between : Lying) (moves firsts seconds : List Row
   pub back : (j : ℕ) → j < n → row_in firsts j ≡ kept_by (number_in between.first_weight j) (row_in moves j)
   pub forth : (j : ℕ) → j < n → row_in seconds j ≡ kept_by (number_in between.second_weight j) (row_in moves j)
 
+-- two rows are both moves of a bond: the first is the opposite of the first end's
+pub record IsMoved (way : Vec3) (first second : ℤ) (b : Bond) (back forth : Row) : Type 0 where
+  pub back_flag : back.flag ≡ pos 0
+  pub forth_flag : forth.flag ≡ pos 0
+  pub back_size : Within (2 ^ 22) (vector_of back)
+  pub forth_size : Within (2 ^ 22) (vector_of forth)
+  pub moves : moves_by way first second b ≡ (opposite (vector_of back), vector_of forth)
+
+-- the same of each bond of a chunk
+pub record AreMoved (bond : ℕ → Bond) (numbers : List ℕ) (between : Lying) (back forth : List Row) : Type 0 where
+  pub back_long : length numbers ≤ length back
+  pub forth_long : length numbers ≤ length forth
+  pub each : (j : ℕ) → j < length numbers → IsMoved (vector_of (row_in between.ways j)) (number_in between.first_weight j)
+      (number_in between.second_weight j) (bond (slice_index_or numbers j 0)) (row_in back j) (row_in forth j)
+
+-- one of two ends is held
+abbrev pub has_held : ℤ → ℤ → Bool
+has_held first second = int_le first (pos 0) || int_le second (pos 0)
+
+-- what both ends of a bond move by together, where that counts
+abbrev pub moved_if : Bool → Row → Row → Vec3
+moved_if counts back forth = if counts then plus (opposite (vector_of back)) (vector_of forth) else zero_vector
+
+-- the stiffnesses of a chunk's bonds, and guesses
+pub record HaveStiffness (found : Found) : Type 0 where
+  pub stiffness_long : length found.laid.stiffness.now ≡ length found.chunk.numbers.now
+  pub portion_long : length found.laid.portion.now ≡ length found.chunk.numbers.now
+  pub stiffness : (j : ℕ) → j < length found.chunk.numbers.now
+      → HoldsStiffness (bond_of found.chunk.bonds (slice_index_or found.chunk.numbers.now j 0)) (number_in found.laid.first_weight.now j)
+      (number_in found.laid.second_weight.now j) (number_in found.laid.stiffness.now j)
+  pub portion : (j : ℕ) → j < length found.chunk.numbers.now → IsGuess (number_in found.laid.portion.now j)
+
 -- a chunk's bonds are laid, and what lies between their ends is told
 pub record IsFound (ps : List Particle) (found : Found) : Type 0 where
   pub first : (j : ℕ) → j < length found.chunk.numbers.now
@@ -155,6 +209,7 @@ pub record IsFound (ps : List Particle) (found : Found) : Type 0 where
   pub factor : (j : ℕ) → j < length found.chunk.numbers.now
       → HoldsFactor (bond_of found.chunk.bonds (slice_index_or found.chunk.numbers.now j 0)) (number_in found.laid.first_weight.now j)
       (number_in found.laid.second_weight.now j) (number_in found.laid.factor.now j)
+  pub stiff : HaveStiffness found
 
 -- the length from which on a bond does nothing: no length is 2^31
 abbrev pub reach_of : Bond → ℤ
@@ -209,3 +264,22 @@ entries_in found moves j = entries_of (int_le (number_in (lying_in found).first_
     (int_le (number_in (lying_in found).second_weight j) (pos 0))
     (class_of (bond_of found.chunk.bonds (slice_index_or found.chunk.numbers.now j 0)))
     (unplaced (moves_in moves j).first (moves_in moves j).second)
+
+-- the columns of a chunk have as many rows as it has bonds, and hold their rest lengths and factors
+pub record AreInColumns (found : Found) : Type 0 where
+  pub rest_long : length found.chunk.numbers.now ≤ length found.laid.rest.now
+  pub factor_long : length found.laid.factor.now ≡ length found.chunk.numbers.now
+  pub first_long : length found.laid.first_weight.now ≡ length found.chunk.numbers.now
+  pub second_long : length found.laid.second_weight.now ≡ length found.chunk.numbers.now
+  pub sized : AreSized (length found.chunk.numbers.now) (lying_in found)
+  pub rest : (j : ℕ) → j < length found.chunk.numbers.now
+      → HoldsRest (bond_of found.chunk.bonds (slice_index_or found.chunk.numbers.now j 0)) (number_in found.laid.rest.now j)
+  pub factor : (j : ℕ) → j < length found.chunk.numbers.now
+      → HoldsFactor (bond_of found.chunk.bonds (slice_index_or found.chunk.numbers.now j 0)) (number_in found.laid.first_weight.now j)
+      (number_in found.laid.second_weight.now j) (number_in found.laid.factor.now j)
+
+-- a row without a flag is short, and tells the moves of two ends of these weights
+pub record IsTold (weight other : ℤ) (m : EndMoves) (row : Row) : Type 0 where
+  pub size : row.flag ≡ pos 0 → Within (2 ^ 22) (vector_of row)
+  pub first : row.flag ≡ pos 0 → m.first ≡ opposite (vector_of (kept_by weight row))
+  pub second : row.flag ≡ pos 0 → m.second ≡ vector_of (kept_by other row)

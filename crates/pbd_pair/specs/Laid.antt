@@ -1,5 +1,6 @@
 -- Bonds in columns.
-use Rattle.std.specs.Prelude.{◌≡◌, ℕ, ◌<◌, ◌≤◌, ◌^◌, ℤ, pos, neg_ℤ, ◌≤ℤ◌, ◌*ℤ◌, int_lt, int_le, ◌&&◌, ◌||◌, if◌then◌else◌, Bool, List}
+use Rattle.std.specs.Prelude.{◌≡◌, ℕ, ◌+◌, ◌*◌, ◌/◌, ◌<◌, ◌≤◌, ◌^◌, min, max, ℤ, pos, neg_ℤ, ◌≤ℤ◌, ◌*ℤ◌, unsigned_abs, int_lt, int_le, ◌&&◌, ◌||◌}
+use Rattle.std.specs.Prelude.{if◌then◌else◌, Bool, List}
 use Rattle.std.specs.Prelude.{length, slice_index_or, slice_set, take, drop, Option, Some, None}
 use Rattle.std.specs.Int.{int_min}
 use Rattle.pbd_world.specs.declared.parts.Particle.{Particle}
@@ -46,6 +47,19 @@ factor_of b first second =
     else if are_free first second then b.k
     else pos 2 *ℤ b.k
 
+-- the stiffness of a bond whose ends have these weights, as both of them share its correction; 0 where both are held, and -1 where its
+-- rest length is 16,384 or more
+unfoldable pub stiffness_of : Bond → ℤ → ℤ → ℤ
+stiffness_of b first second =
+    if int_le (pos 16384) b.rest then neg_ℤ (pos 1)
+    else if int_le first (pos 0) && int_le second (pos 0) then pos 0
+    else b.k
+
+-- 2^30 times the part of a bond's correction that the first end moves by, rounded up or one more: loops guess by it
+unfoldable pub portion_of : Bond → ℤ → ℤ → ℤ
+portion_of b first second = pos (min (2 ^ 30)
+    (unsigned_abs b.k * unsigned_abs first * 2 ^ 22 / max 1 (unsigned_abs first + unsigned_abs second) + 1))
+
 -- a bond as short loops take it
 abbrev pub laid_bond : Bond → ℤ → ℤ → LaidBond
 laid_bond b first second = record {
@@ -53,6 +67,8 @@ laid_bond b first second = record {
   second = b.b;
   rest = short_rest b.rest;
   factor = factor_of b first second;
+  stiffness = stiffness_of b first second;
+  portion = portion_of b first second;
   first_weight = first;
   second_weight = second;
 }
@@ -65,6 +81,8 @@ pub record Lists : Type 0 where
   pub second : List ℕ
   pub rest : List ℤ
   pub factor : List ℤ
+  pub stiffness : List ℤ
+  pub portion : List ℤ
   pub first_weight : List ℤ
   pub second_weight : List ℤ
 
@@ -74,6 +92,8 @@ lists_of l = record {
   second = l.second.now;
   rest = l.rest.now;
   factor = l.factor.now;
+  stiffness = l.stiffness.now;
+  portion = l.portion.now;
   first_weight = l.first_weight.now;
   second_weight = l.second_weight.now;
 }
@@ -84,6 +104,8 @@ lists_in c = record {
   second = c.second.items;
   rest = c.rest.items;
   factor = c.factor.items;
+  stiffness = c.stiffness.items;
+  portion = c.portion.items;
   first_weight = c.first_weight.items;
   second_weight = c.second_weight.items;
 }
@@ -93,6 +115,8 @@ pub record AreEven (ls : Lists) : Type 0 where
   pub second : length ls.second ≡ length ls.first
   pub rest : length ls.rest ≡ length ls.first
   pub factor : length ls.factor ≡ length ls.first
+  pub stiffness : length ls.stiffness ≡ length ls.first
+  pub portion : length ls.portion ≡ length ls.first
   pub first_weight : length ls.first_weight ≡ length ls.first
   pub second_weight : length ls.second_weight ≡ length ls.first
 
@@ -108,6 +132,8 @@ front_of n ls = record {
   second = take n ls.second;
   rest = take n ls.rest;
   factor = take n ls.factor;
+  stiffness = take n ls.stiffness;
+  portion = take n ls.portion;
   first_weight = take n ls.first_weight;
   second_weight = take n ls.second_weight;
 }
@@ -118,6 +144,8 @@ back_of n ls = record {
   second = drop n ls.second;
   rest = drop n ls.rest;
   factor = drop n ls.factor;
+  stiffness = drop n ls.stiffness;
+  portion = drop n ls.portion;
   first_weight = drop n ls.first_weight;
   second_weight = drop n ls.second_weight;
 }
@@ -129,6 +157,8 @@ with_row i l ls = record {
   second = slice_set ls.second i l.second;
   rest = slice_set ls.rest i l.rest;
   factor = slice_set ls.factor i l.factor;
+  stiffness = slice_set ls.stiffness i l.stiffness;
+  portion = slice_set ls.portion i l.portion;
   first_weight = slice_set ls.first_weight i l.first_weight;
   second_weight = slice_set ls.second_weight i l.second_weight;
 }
@@ -140,6 +170,8 @@ laid_at ls j = record {
   second = index_at ls.second j;
   rest = number_in ls.rest j;
   factor = number_in ls.factor j;
+  stiffness = number_in ls.stiffness j;
+  portion = number_in ls.portion j;
   first_weight = number_in ls.first_weight j;
   second_weight = number_in ls.second_weight j;
 }

@@ -3,4 +3,5 @@ pub mod Projecting
 pub mod Moves
 pub mod Laid
 pub mod Chunks
+pub mod Shares
 pub mod Examples

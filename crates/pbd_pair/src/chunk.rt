@@ -42,6 +42,8 @@ pub(crate) struct Columns {
     second: [u32; CHUNK],
     rest: [i32; CHUNK],
     factor: [i32; CHUNK],
+    stiffness: [i32; CHUNK],
+    portion: [i32; CHUNK],
 }
 
 /// That bond j of a chunk would leave the limit.
@@ -79,6 +81,8 @@ impl Columns {
             second: [0; CHUNK],
             rest: [0; CHUNK],
             factor: [0; CHUNK],
+            stiffness: [0; CHUNK],
+            portion: [0; CHUNK],
         }
     }
 
@@ -126,6 +130,8 @@ impl Columns {
             );
             self.rest[j] = bond.rest;
             self.factor[j] = bond.factor;
+            self.stiffness[j] = bond.stiffness;
+            self.portion[j] = bond.portion;
         }
     }
 
@@ -143,6 +149,8 @@ impl Columns {
             second: &self.second[..count],
             rest: &self.rest[..count],
             factor: &self.factor[..count],
+            stiffness: &self.stiffness[..count],
+            portion: &self.portion[..count],
             first_weight: &between.first_weight[..count],
             second_weight: &between.second_weight[..count],
         };

@@ -2,7 +2,7 @@
 ghost use Rattle.std.specs.Prelude.{◌≡◌, ◌<◌, ◌≤◌, pos, ◌≤ℤ◌, length, IfOk};
 ghost use Rattle.pbd_store.specs.Gathering.{index_at};
 ghost use Rattle.pbd_pair.specs.Bonds.{bond_of};
-ghost use Rattle.pbd_pair.specs.Laid.{back_of, factor_of, front_of, laid_bond, lists_in, lists_of, short_rest, with_row, AreEven, AreLaid, AreLayable, HaveRows, IsFirm};
+ghost use Rattle.pbd_pair.specs.Laid.{back_of, factor_of, front_of, laid_bond, lists_in, lists_of, portion_of, short_rest, stiffness_of, with_row, AreEven, AreLaid, AreLayable, HaveRows, IsFirm};
 
 use crate::bonds::Bonds;
 use pbd_store::Pairs;
@@ -10,13 +10,16 @@ use pbd_world::Bond;
 use std::alloc::{AllocError, Global};
 
 /// A bond as short loops take it: its ends, their effective weights, its rest length where that is below 16,384 units,
-/// and the part of a correction that a free end moves by, in 512, or -1 where it isn't for those loops.
+/// the part of a correction that a free end moves by, in 512, or -1 where it isn't for those loops; and for unequal weights
+/// its stiffness in 256, or -1, and 2^30 times the first end's part of a correction.
 #[derive(Clone, Copy)]
 pub(crate) struct LaidBond {
     pub(crate) first: u32,
     pub(crate) second: u32,
     pub(crate) rest: i32,
     pub(crate) factor: i32,
+    pub(crate) stiffness: i32,
+    pub(crate) portion: i32,
     pub(crate) first_weight: i32,
     pub(crate) second_weight: i32,
 }
@@ -28,6 +31,8 @@ pub struct Laid<'a> {
     pub(crate) second: &'a [u32],
     pub(crate) rest: &'a [i32],
     pub(crate) factor: &'a [i32],
+    pub(crate) stiffness: &'a [i32],
+    pub(crate) portion: &'a [i32],
     pub(crate) first_weight: &'a [i32],
     pub(crate) second_weight: &'a [i32],
 }
@@ -39,6 +44,8 @@ pub struct BondColumns {
     second: Vec<u32>,
     rest: Vec<i32>,
     factor: Vec<i32>,
+    stiffness: Vec<i32>,
+    portion: Vec<i32>,
     first_weight: Vec<i32>,
     second_weight: Vec<i32>,
 }
@@ -71,6 +78,37 @@ fn factor_of(bond: Bond, first: i32, second: i32) -> i32
     }
 }
 
+// The stiffness that both ends share: none where both are held, and -1 where the rest length is a fourth of a metre or more.
+#[inline(always)]
+#[tactic(auto, unfolding(crate::specs::Laid::stiffness_of))]
+fn stiffness_of(bond: Bond, first: i32, second: i32) -> i32
+    requires { IsFirm bond }
+    ensures { result ≡ stiffness_of bond first second }
+{
+    let held = (first <= 0) & (second <= 0);
+    if 16_384 <= bond.rest {
+        -1
+    } else if held {
+        0
+    } else {
+        bond.k as i32
+    }
+}
+
+// 2^30 times the first end's part of a correction. It is a little too much, so that where a share lies between two whole numbers
+// the guess is the upper one, as rounding has it.
+#[inline(always)]
+#[tactic(auto, unfolding(crate::specs::Laid::portion_of))]
+fn portion_of(bond: Bond, first: i32, second: i32) -> i32
+    requires { IsFirm bond }
+    ensures { result ≡ portion_of bond first second }
+{
+    let first = u64::from(first.unsigned_abs());
+    let total = (first + u64::from(second.unsigned_abs())).max(1);
+    let part = bond.k.unsigned_abs() * first * 4_194_304 / total;
+    (part + 1).min(1_073_741_824) as i32
+}
+
 /// A bond whose ends have these effective weights.
 #[inline(always)]
 pub(crate) fn laid_of(bond: Bond, first: i32, second: i32) -> LaidBond
@@ -82,6 +120,8 @@ pub(crate) fn laid_of(bond: Bond, first: i32, second: i32) -> LaidBond
         second: bond.b,
         rest: short_rest(bond.rest),
         factor: factor_of(bond, first, second),
+        stiffness: stiffness_of(bond, first, second),
+        portion: portion_of(bond, first, second),
         first_weight: first,
         second_weight: second,
     }
@@ -111,6 +151,8 @@ impl<'a> Laid<'a> {
         let (second, second_after) = self.second.split_at(count);
         let (rest, rest_after) = self.rest.split_at(count);
         let (factor, factor_after) = self.factor.split_at(count);
+        let (stiffness, stiffness_after) = self.stiffness.split_at(count);
+        let (portion, portion_after) = self.portion.split_at(count);
         let (first_weight, first_weight_after) = self.first_weight.split_at(count);
         let (second_weight, second_weight_after) = self.second_weight.split_at(count);
         let front = Laid {
@@ -118,6 +160,8 @@ impl<'a> Laid<'a> {
             second,
             rest,
             factor,
+            stiffness,
+            portion,
             first_weight,
             second_weight,
         };
@@ -126,6 +170,8 @@ impl<'a> Laid<'a> {
             second: second_after,
             rest: rest_after,
             factor: factor_after,
+            stiffness: stiffness_after,
+            portion: portion_after,
             first_weight: first_weight_after,
             second_weight: second_weight_after,
         };
@@ -142,6 +188,8 @@ impl BondColumns {
         let second = vec![in alloc; 0; room as usize]?;
         let rest = vec![in alloc; 0; room as usize]?;
         let factor = vec![in alloc; 0; room as usize]?;
+        let stiffness = vec![in alloc; 0; room as usize]?;
+        let portion = vec![in alloc; 0; room as usize]?;
         let first_weight = vec![in alloc; 0; room as usize]?;
         let second_weight = vec![in alloc; 0; room as usize]?;
         Ok(BondColumns {
@@ -149,6 +197,8 @@ impl BondColumns {
             second,
             rest,
             factor,
+            stiffness,
+            portion,
             first_weight,
             second_weight,
         })
@@ -165,6 +215,8 @@ impl BondColumns {
         self.second[i] = laid.second;
         self.rest[i] = laid.rest;
         self.factor[i] = laid.factor;
+        self.stiffness[i] = laid.stiffness;
+        self.portion[i] = laid.portion;
         self.first_weight[i] = laid.first_weight;
         self.second_weight[i] = laid.second_weight;
     }
@@ -196,6 +248,8 @@ impl BondColumns {
             second: &self.second[..count],
             rest: &self.rest[..count],
             factor: &self.factor[..count],
+            stiffness: &self.stiffness[..count],
+            portion: &self.portion[..count],
             first_weight: &self.first_weight[..count],
             second_weight: &self.second_weight[..count],
         }

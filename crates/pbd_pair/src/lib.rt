@@ -8,12 +8,15 @@ mod correct;
 mod desk;
 mod laid;
 mod lanes;
+mod mend;
 mod near;
 mod one;
 mod parts;
 mod projector;
 mod scalar;
 mod slow;
+mod sums;
+mod uneven;
 mod wide;
 
 pub use bonds::Bonds;

@@ -2,8 +2,9 @@
 ghost use Rattle.std.specs.Prelude.{◌≡◌, ℕ, ◌+◌, ◌*◌, ◌<◌, ◌≤◌, ◌^◌, pos, neg_ℤ, ◌+ℤ◌, ◌-ℤ◌, ◌<ℤ◌, ◌≤ℤ◌, length, slice_index_or, take, unsigned_abs, IsTrue, OnOk};
 ghost use Rattle.pbd_num.specs.Rows.{vector_of};
 ghost use Rattle.pbd_num.specs.Vectors.{Within, plus, minus, opposite};
+ghost use Rattle.pbd_near.specs.Moves.{IsPulled};
+ghost use Rattle.pbd_world.specs.Bonds.{class_of};
 ghost use Rattle.pbd_world.specs.Ledger.{ledger_of, added, HaveRoom};
-ghost use Rattle.pbd_world.specs.declared.totals.Class.TheVariants as classes;
 ghost use Rattle.pbd_store.specs.Blocks.{blocks_of};
 ghost use Rattle.pbd_store.specs.Moving.{fixed_parts};
 ghost use Rattle.pbd_store.specs.Pairs.{row_in};
@@ -11,11 +12,14 @@ ghost use Rattle.pbd_pair.specs.Bonds.{bond_of};
 ghost use Rattle.pbd_pair.specs.Projecting.{CanProject, ComesTo, StaysSound};
 ghost use Rattle.pbd_pair.specs.Moves.{moved_below};
 ghost use Rattle.pbd_pair.specs.Laid.{number_in};
-ghost use Rattle.pbd_pair.specs.Chunks.{kept_by, lying_in, AreKnown, AreSized, AreNear, AreTried, AreWeighed, HoldsFactor, HoldsRest, IsFound, IsMasked};
+ghost use Rattle.pbd_pair.specs.Chunks.{kept_by, lying_in, AreInColumns, AreMoved, AreNear, AreSized, AreWeighed, HaveStiffness, IsFound, IsMasked};
 
 use crate::chunk::{Found, left_at};
+use crate::mend::try_rows;
 use crate::slow::project_exactly;
-use crate::wide::try_rows;
+use crate::sums::sums_of;
+use crate::uneven::{Portions, share};
+use crate::wide::{begins_long, least_of};
 use pbd_near::Near;
 use pbd_num::{CHUNK, Row, Vec3};
 use pbd_store::{Steps, Store};
@@ -32,20 +36,6 @@ pub(crate) struct NearMoves {
     back: [Row; CHUNK],
     /// The moves of the second ends.
     forth: [Row; CHUNK],
-}
-
-// The least of some factors, or 512, which none is above.
-#[inline(never)]
-fn least_factor(factors: &[i32]) -> i32
-    requires low { (j : ℕ) → j < length factors.now → neg_ℤ (pos 1) ≤ℤ number_in factors.now j }
-    requires high { (j : ℕ) → j < length factors.now → number_in factors.now j ≤ℤ pos 512 }
-    ensures { (j : ℕ) → j < length factors.now → result ≤ℤ number_in factors.now j }
-{
-    let mut least: i32 = 512;
-    for j in 0..factors.len() {
-        least = least.min(factors[j]);
-    }
-    least
 }
 
 // The least of the effective weights of some pairs, or 65,535, which none is above.
@@ -84,20 +74,20 @@ fn first_of(rows: &[Row; CHUNK], count: usize) -> &[Row]
 // One axis of a sum of moves, and what two ends move more.
 #[inline(always)]
 fn with_axis(sum: i32, back: i32, forth: i32) -> i32
-    requires sum { unsigned_abs sum ≤ 2 ^ 24 }
-    requires back { unsigned_abs back ≤ 2 ^ 16 }
-    requires forth { unsigned_abs forth ≤ 2 ^ 16 }
+    requires sum { unsigned_abs sum ≤ 2 ^ 30 }
+    requires back { unsigned_abs back ≤ 2 ^ 22 }
+    requires forth { unsigned_abs forth ≤ 2 ^ 22 }
     ensures { result ≡ sum +ℤ (forth -ℤ back) }
 {
     sum + (forth - back)
 }
 
-// A sum of moves, and what two ends move more. The moves of a chunk's bonds come to at most 2^24, so that 32 bits hold them.
+// A sum of moves, and what two ends move more. The moves of a chunk's bonds come to at most 2^30, so that 32 bits hold them.
 #[inline(always)]
 fn with_rows(sum: Row, back: Row, forth: Row) -> Row
-    requires sum { Within (2 ^ 24) (vector_of sum) }
-    requires back { Within (2 ^ 16) (vector_of back) }
-    requires forth { Within (2 ^ 16) (vector_of forth) }
+    requires sum { Within (2 ^ 30) (vector_of sum) }
+    requires back { Within (2 ^ 22) (vector_of back) }
+    requires forth { Within (2 ^ 22) (vector_of forth) }
     ensures { vector_of result ≡ plus (vector_of sum) (minus (vector_of forth) (vector_of back)) }
 {
     let x = with_axis(sum.x, back.x, forth.x);
@@ -106,14 +96,25 @@ fn with_rows(sum: Row, back: Row, forth: Row) -> Row
     Row { x, y, z, flag: 0 }
 }
 
-// Adds what the free ends beside held ones move together to the total of pins.
-fn book_pins(totals: &mut Totals, moved: Vec3)
-    requires room { HaveRoom (2 ^ 124) (ledger_of totals.old) }
-    requires size { Within (2 ^ 24) moved }
-    ensures value { ledger_of totals.new ≡ added (ledger_of totals.old) classes.Pin moved }
+// Adds what some ends move together to the total of a class.
+fn book_sum(totals: &mut Totals, class: Class, moved: Vec3)
+    requires room { HaveRoom (2 ^ 125) (ledger_of totals.old) }
+    requires size { Within (2 ^ 30) moved }
+    ensures value { ledger_of totals.new ≡ added (ledger_of totals.old) class moved }
     ensures room { (n m : ℕ) → Within m moved → HaveRoom n (ledger_of totals.old) → HaveRoom (n + m) (ledger_of totals.new) }
 {
-    totals.add(Class::Pin, moved);
+    totals.add(class, moved);
+}
+
+// The class of a chunk's bonds.
+fn class_in(found: &Found<'_>) -> Class
+    ensures { (n : ℕ) → class_of (bond_of found.now.chunk.bonds n) ≡ result }
+{
+    if found.chunk.bonds.are_contacts() {
+        Class::Contact
+    } else {
+        Class::Link
+    }
 }
 
 impl NearMoves {
@@ -127,53 +128,66 @@ impl NearMoves {
         }
     }
 
-    // Tries the moves of a chunk's bonds in 32-bit numbers. True where all of them are right.
-    fn try_short(&mut self, found: &Found<'_>) -> bool
+    // Tries the parts of their corrections that some factors tell of a chunk's bonds. True where all of them are right.
+    #[inline(always)]
+    fn try_parts(&mut self, found: &Found<'_>, factors: &[i32]) -> bool
         requires few { length found.now.chunk.numbers.now ≤ 128 }
-        requires rest_long { length found.now.chunk.numbers.now ≤ length found.now.laid.rest.now }
-        requires factor_long { length found.now.laid.factor.now ≡ length found.now.chunk.numbers.now }
-        requires sized { AreSized (length found.now.chunk.numbers.now) (lying_in found.now) }
-        requires rest { (j : ℕ) → j < length found.now.chunk.numbers.now
-            → HoldsRest (bond_of found.now.chunk.bonds (slice_index_or found.now.chunk.numbers.now j 0)) (number_in found.now.laid.rest.now j) }
-        requires factor { (j : ℕ) → j < length found.now.chunk.numbers.now
-            → HoldsFactor (bond_of found.now.chunk.bonds (slice_index_or found.now.chunk.numbers.now j 0))
-            (number_in found.now.laid.first_weight.now j) (number_in found.now.laid.second_weight.now j) (number_in found.now.laid.factor.now j) }
-        ensures { IsTrue result → AreNear (bond_of found.now.chunk.bonds) found.now.chunk.numbers.now (lying_in found.now) self.new.moves }
+        requires columns { AreInColumns found.now }
+        requires long { length found.now.chunk.numbers.now ≤ length factors.now }
+        requires low { (j : ℕ) → j < length found.now.chunk.numbers.now → neg_ℤ (pos 1) ≤ℤ number_in factors.now j }
+        requires high { (j : ℕ) → j < length found.now.chunk.numbers.now → number_in factors.now j ≤ℤ pos 512 }
+        ensures long { length self.new.moves ≡ 128 }
+        ensures flags { IsTrue result → (j : ℕ) → j < length found.now.chunk.numbers.now → (row_in self.new.moves j).flag ≡ pos 0 }
+        ensures pulled { IsTrue result → (j : ℕ) → j < length found.now.chunk.numbers.now
+            → IsPulled (vector_of (row_in found.now.ways.now j)) (number_in found.now.laid.rest.now j) (number_in factors.now j)
+            (bond_of found.now.chunk.bonds (slice_index_or found.now.chunk.numbers.now j 0)).contact (vector_of (row_in self.new.moves j)) }
     {
-        if least_factor(found.laid.factor) < 0 {
+        if begins_long(found) {
             return false;
         }
-        let ways = first_of(found.ways, found.chunk.numbers.len());
         self.near.run(
-            ways,
+            first_of(found.ways, found.chunk.numbers.len()),
             found.laid.rest,
-            found.laid.factor,
+            factors,
             found.chunk.bonds.are_contacts(),
             &mut self.moves,
         )
     }
 
-    // Tries the moves of a chunk's bonds in 32-bit numbers, and where one of them doesn't come out of those, all of them in
-    // 64-bit numbers. True where all of them are right.
-    fn try_moves(&mut self, found: &Found<'_>) -> bool
-        requires known { AreKnown found.now.chunk.bonds found.now.chunk.numbers.now }
-        requires rest_long { length found.now.chunk.numbers.now ≤ length found.now.laid.rest.now }
-        requires factor_long { length found.now.laid.factor.now ≡ length found.now.chunk.numbers.now }
-        requires first_long { length found.now.laid.first_weight.now ≡ length found.now.chunk.numbers.now }
-        requires second_long { length found.now.laid.second_weight.now ≡ length found.now.chunk.numbers.now }
-        requires sized { AreSized (length found.now.chunk.numbers.now) (lying_in found.now) }
-        requires rest { (j : ℕ) → j < length found.now.chunk.numbers.now
-            → HoldsRest (bond_of found.now.chunk.bonds (slice_index_or found.now.chunk.numbers.now j 0)) (number_in found.now.laid.rest.now j) }
-        requires factor { (j : ℕ) → j < length found.now.chunk.numbers.now
-            → HoldsFactor (bond_of found.now.chunk.bonds (slice_index_or found.now.chunk.numbers.now j 0))
-            (number_in found.now.laid.first_weight.now j) (number_in found.now.laid.second_weight.now j) (number_in found.now.laid.factor.now j) }
-        ensures near { IsTrue result → AreNear (bond_of found.now.chunk.bonds) found.now.chunk.numbers.now (lying_in found.now) self.new.moves }
-        ensures tried { AreTried (bond_of found.now.chunk.bonds) found.now.chunk.numbers.now (lying_in found.now) self.new.moves }
+    // Tries the moves of a chunk's bonds in 32-bit numbers. True where all of them are right.
+    fn try_short(&mut self, found: &Found<'_>) -> bool
+        requires few { length found.now.chunk.numbers.now ≤ 128 }
+        requires columns { AreInColumns found.now }
+        ensures { IsTrue result → AreNear (bond_of found.now.chunk.bonds) found.now.chunk.numbers.now (lying_in found.now) self.new.moves }
     {
-        if self.try_short(found) {
-            return true;
+        if least_of(found.laid.factor) < 0 {
+            return false;
         }
-        try_rows(found, &mut self.moves)
+        self.try_parts(found, found.laid.factor)
+    }
+
+    // Tries both moves of each bond of a chunk in 32-bit numbers, whatever the weights of its ends: the whole of a correction
+    // first, and then both shares of it. True where all of them are right.
+    fn try_uneven(&mut self, found: &Found<'_>) -> bool
+        requires few { length found.now.chunk.numbers.now ≤ 128 }
+        requires columns { AreInColumns found.now }
+        requires stiff { HaveStiffness found.now }
+        ensures { IsTrue result → AreMoved (bond_of found.now.chunk.bonds) found.now.chunk.numbers.now (lying_in found.now) self.new.back self.new.forth }
+    {
+        if least_of(found.laid.stiffness) < 0 {
+            return false;
+        }
+        let whole = [512; CHUNK];
+        if !self.try_parts(found, &whole) {
+            return false;
+        }
+        let portions = Portions {
+            stiffness: found.laid.stiffness,
+            guess: found.laid.portion,
+            first: found.laid.first_weight,
+            second: found.laid.second_weight,
+        };
+        share(portions, &self.moves, &mut self.back, &mut self.forth)
     }
 
     // Takes the moves from held ends. What is left of a bond's two moves is that of the free end beside a held one: all of
@@ -184,17 +198,20 @@ impl NearMoves {
         requires first_long { length found.now.laid.first_weight.now ≡ length found.now.chunk.numbers.now }
         requires second_long { length found.now.laid.second_weight.now ≡ length found.now.chunk.numbers.now }
         requires sized { AreSized (length found.now.chunk.numbers.now) (lying_in found.now) }
-        requires short { (j : ℕ) → j < length found.now.chunk.numbers.now → Within (2 ^ 16) (vector_of (row_in self.old.moves j)) }
+        requires short { (j : ℕ) → j < length found.now.chunk.numbers.now → Within (2 ^ 22) (vector_of (row_in self.old.moves j)) }
         ensures masked { IsMasked (length found.now.chunk.numbers.now) (lying_in found.now) self.old.moves self.new.back self.new.forth }
         ensures sum { result ≡ moved_below (λ j. plus (opposite (vector_of (row_in self.new.back j))) (vector_of (row_in self.new.forth j)))
             (length found.now.chunk.numbers.now) }
-        ensures size { Within (length found.now.chunk.numbers.now * 2 ^ 17) result }
+        ensures size { Within (length found.now.chunk.numbers.now * 2 ^ 23) result }
     {
+        // Slices of its own, so that no write makes the loop read them anew.
+        let first = found.laid.first_weight;
+        let second = found.laid.second_weight;
         let mut pins = Row::ZERO;
         for j in 0..found.chunk.numbers.len() {
             let row = self.moves[j];
-            let back = kept(found.laid.first_weight[j], row);
-            let forth = kept(found.laid.second_weight[j], row);
+            let back = kept(first[j], row);
+            let forth = kept(second[j], row);
             self.back[j] = back;
             self.forth[j] = forth;
             pins = with_rows(pins, back, forth);
@@ -235,7 +252,37 @@ impl NearMoves {
         if let Err(j) = store.pull(found.pairs, &self.back, &self.forth, steps) {
             return Err(left_at(found, j));
         }
-        book_pins(totals, pins);
+        book_sum(totals, Class::Pin, pins);
+        Ok(())
+    }
+
+    // Moves the ends of a chunk's bonds, whose moves are told, and books them: the moves beside held ends to pins, and all others
+    // to the bonds' own class.
+    fn pull_uneven<const L: usize, G: Ledger>(
+        &self,
+        store: &mut Store<L>,
+        found: &Found<'_>,
+        totals: &mut Totals,
+        steps: &mut Steps<G>,
+    ) -> Result<(), Left>
+        requires some_lanes { 0 < L }
+        requires lanes { L ≤ 16 }
+        requires can { CanProject 128 found.now.chunk.bonds found.now.chunk.numbers.now store.old totals.old }
+        requires found { IsFound store.old.particles found.now }
+        requires moved { AreMoved (bond_of found.now.chunk.bonds) found.now.chunk.numbers.now (lying_in found.now) self.now.back self.now.forth }
+        ensures outcome { ComesTo found.now.chunk.bonds found.now.chunk.numbers.now store.old store.new totals.old totals.new result }
+        ensures limit { store.new.limit ≡ store.old.limit }
+        ensures copies { store.new.copies ≡ store.old.copies }
+        ensures fixed { fixed_parts store.new.particles ≡ fixed_parts store.old.particles }
+        ensures sound { OnOk result (StaysSound (length found.now.chunk.numbers.now) store.old store.new totals.old totals.new) }
+        ensures cost { steps.new ≡ steps.old + 2 * blocks_of (length found.now.chunk.numbers.now) L }
+    {
+        let moved = sums_of(found, &self.back, &self.forth);
+        if let Err(j) = store.pull(found.pairs, &self.back, &self.forth, steps) {
+            return Err(left_at(found, j));
+        }
+        book_sum(totals, Class::Pin, moved.pins);
+        book_sum(totals, class_in(found), moved.own);
         Ok(())
     }
 
@@ -258,8 +305,13 @@ impl NearMoves {
         ensures sound { OnOk result (StaysSound (length found.now.chunk.numbers.now) store.old store.new totals.old totals.new) }
         ensures cost { steps.new ≡ steps.old + 2 * blocks_of (length found.now.chunk.numbers.now) L }
     {
-        let right = self.try_moves(found);
-        if right {
+        if self.try_short(found) {
+            return self.pull(store, found, totals, steps);
+        }
+        if self.try_uneven(found) {
+            return self.pull_uneven(store, found, totals, steps);
+        }
+        if try_rows(found, &mut self.moves) {
             return self.pull(store, found, totals, steps);
         }
         project_exactly(store, found, &self.moves, totals, steps)

@@ -20,8 +20,8 @@ use pbd_store::{EndMoves, Steps, Store};
 use pbd_world::{Bond, Left, Shift, Totals};
 use std::sync::ledger::Ledger;
 
-// The moves of two ends.
-fn exact_moves(way: Vec3, bond: Bond, weights: Weights) -> EndMoves
+/// The moves of two ends.
+pub(crate) fn exact_moves(way: Vec3, bond: Bond, weights: Weights) -> EndMoves
     requires way { Within (2 ^ 30) way }
     requires bond { IsFirm bond }
     requires first_low { pos 0 ≤ℤ weights.first }
@@ -45,10 +45,10 @@ fn kept(weight: i64, row: Row) -> Vec3
     if free { row.vector() } else { Vec3::ZERO }
 }
 
-// What a row without a flag tells of two ends.
+/// What a row without a flag tells of two ends.
 #[inline(always)]
-fn row_moves(row: Row, weights: Weights) -> EndMoves
-    requires { Within (2 ^ 16) (vector_of row) }
+pub(crate) fn row_moves(row: Row, weights: Weights) -> EndMoves
+    requires { Within (2 ^ 22) (vector_of row) }
     ensures first { result.first ≡ opposite (vector_of (kept_by weights.first row)) }
     ensures second { result.second ≡ vector_of (kept_by weights.second row) }
 {

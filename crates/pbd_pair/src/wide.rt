@@ -1,25 +1,22 @@
 // The bonds of a chunk in 64-bit numbers.
-ghost use Rattle.std.specs.Prelude.{◌≡◌, ℕ, ◌<◌, ◌≤◌, ◌^◌, pos, ◌<ℤ◌, ◌≤ℤ◌, length, unsigned_abs, IsTrue};
+ghost use Rattle.std.specs.Prelude.{◌≡◌, ℕ, ◌/◌, ◌<◌, ◌≤◌, ◌^◌, pos, neg_ℤ, ◌<ℤ◌, ◌≤ℤ◌, length, unsigned_abs, IsTrue, if◌then◌else◌};
 ghost use Rattle.pbd_num.specs.Rows.{vector_of};
 ghost use Rattle.pbd_num.specs.Vectors.{Within, opposite};
 ghost use Rattle.pbd_store.specs.Pairs.{row_in};
 ghost use Rattle.pbd_pair.specs.Bonds.{bond_of};
-ghost use Rattle.pbd_pair.specs.Chunks.{draw_by, lying_in, reach_of, AreDrawn, AreKnown, AreSized, AreTried, IsMild, IsNear};
+ghost use Rattle.pbd_pair.specs.Laid.{number_in, IsFirm};
+ghost use Rattle.pbd_pair.specs.Chunks.{draw_by, lying_in, AreDrawn, AreInColumns, AreKnown, AreSized, AreTried, HoldsFactor, HoldsRest, IsDraw, IsMild, IsNear};
 
 use crate::chunk::{Chunk, Found};
-use pbd_num::{CHUNK, Draw, Row, TriedMoves, Vec3, Weights, try_moves};
+use pbd_num::{CHUNK, Draw, Row, Vec3, Weights, try_moves};
 use pbd_world::Bond;
 
 // The length from which on a bond does nothing. No length is 2^31.
 #[inline(always)]
-fn reach(bond: Bond) -> i64
-    ensures { result ≡ reach_of bond }
+fn reach(contact: bool, rest: i64) -> i64
+    ensures { result ≡ (if contact then rest else pos (2 ^ 31)) }
 {
-    if bond.contact {
-        bond.rest
-    } else {
-        2_147_483_648
-    }
+    if contact { rest } else { 2_147_483_648 }
 }
 
 /// What a bond draws its ends to.
@@ -30,7 +27,7 @@ pub(crate) fn draw_of(bond: Bond) -> Draw
     Draw {
         rest: bond.rest,
         k: bond.k,
-        reach: reach(bond),
+        reach: reach(bond.contact, bond.rest),
     }
 }
 
@@ -49,16 +46,16 @@ pub(crate) fn weights_of(first: i32, second: i32) -> Weights
 #[inline(always)]
 fn short_axis(axis: i64) -> i32
     requires { unsigned_abs axis ≤ 2 ^ 31 }
-    ensures { unsigned_abs result ≤ 2 ^ 16 → result ≡ axis }
+    ensures { unsigned_abs result ≤ 2 ^ 22 → result ≡ axis }
 {
     axis.min(2_147_483_647) as i32
 }
 
 #[inline(always)]
 fn is_short(axis: i32) -> bool
-    ensures { IsTrue result → unsigned_abs axis ≤ 2 ^ 16 }
+    ensures { IsTrue result → unsigned_abs axis ≤ 2 ^ 22 }
 {
-    (-65_536 <= axis) & (axis <= 65_536)
+    (-4_194_304 <= axis) & (axis <= 4_194_304)
 }
 
 #[inline(always)]
@@ -69,13 +66,13 @@ fn flag_of(exact: bool) -> i32
     if exact { 0 } else { 1 }
 }
 
-// A move as a row. It has flag 0 only where the move is exact, and at most a metre on each axis.
+/// A move as a row. It has flag 0 only where the move is exact, and at most 64 metres on each axis.
 #[inline(always)]
-fn row_of(axes: Vec3, exact: bool) -> Row
+pub(crate) fn row_of(axes: Vec3, exact: bool) -> Row
     requires { Within (2 ^ 31) axes }
     ensures exact { result.flag ≡ pos 0 → IsTrue exact }
     ensures value { result.flag ≡ pos 0 → vector_of result ≡ axes }
-    ensures size { result.flag ≡ pos 0 → Within (2 ^ 16) (vector_of result) }
+    ensures size { result.flag ≡ pos 0 → Within (2 ^ 22) (vector_of result) }
     ensures flag { unsigned_abs result.flag ≤ 1 }
 {
     let x = short_axis(axes.x);
@@ -90,17 +87,17 @@ fn row_of(axes: Vec3, exact: bool) -> Row
     }
 }
 
-// The move of the second end, or the opposite of that of the first where the second is held.
+/// The move of the second end, or the opposite of that of the first where the second is held.
 #[inline(always)]
-fn free_move(tried: TriedMoves, second: i64) -> Vec3
-    requires first { Within (2 ^ 31) tried.first }
-    requires second { Within (2 ^ 31) tried.second }
-    ensures free { pos 0 <ℤ second → result ≡ tried.second }
-    ensures held { second ≤ℤ pos 0 → result ≡ opposite tried.first }
+pub(crate) fn free_move(first: Vec3, second: Vec3, weight: i64) -> Vec3
+    requires first { Within (2 ^ 31) first }
+    requires second { Within (2 ^ 31) second }
+    ensures free { pos 0 <ℤ weight → result ≡ second }
+    ensures held { weight ≤ℤ pos 0 → result ≡ opposite first }
     ensures size { Within (2 ^ 31) result }
 {
-    let back = tried.first.opposite();
-    if 0 < second { tried.second } else { back }
+    let back = first.opposite();
+    if 0 < weight { second } else { back }
 }
 
 // The move of two ends as a row, whose flag is 0 only where it is exact.
@@ -116,7 +113,8 @@ fn wide_row(way: Vec3, draw: Draw, weights: Weights) -> Row
     ensures flag { unsigned_abs result.flag ≤ 1 }
 {
     let tried = try_moves(way, draw, weights);
-    row_of(free_move(tried, weights.second), tried.exact)
+    let axes = free_move(tried.first, tried.second, weights.second);
+    row_of(axes, tried.exact)
 }
 
 // What the bonds of a chunk draw their ends to.
@@ -130,7 +128,7 @@ fn put_draws(chunk: &Chunk<'_>, draws: &mut [Draw; CHUNK])
     }
 }
 
-// The moves of the bonds. It has no branch, so that it is a loop over lanes.
+// The moves of the bonds. It has no branch, and reads through slices of its own, so that it is a loop over lanes.
 #[inline(never)]
 fn put_rows(found: &Found<'_>, draws: &[Draw; CHUNK], rows: &mut [Row; CHUNK]) -> bool
     requires known { AreKnown found.now.chunk.bonds found.now.chunk.numbers.now }
@@ -141,23 +139,75 @@ fn put_rows(found: &Found<'_>, draws: &[Draw; CHUNK], rows: &mut [Row; CHUNK]) -
     ensures tried { AreTried (bond_of found.now.chunk.bonds) found.now.chunk.numbers.now (lying_in found.now) rows.new }
     ensures all { IsTrue result → (j : ℕ) → j < length found.now.chunk.numbers.now → (row_in rows.new j).flag ≡ pos 0 }
 {
+    let laid = found.laid;
+    let ways = found.ways;
     let mut all = true;
     for j in 0..found.chunk.numbers.len() {
-        let weights = weights_of(found.laid.first_weight[j], found.laid.second_weight[j]);
-        let row = wide_row(found.ways[j].vector(), draws[j], weights);
+        let weights = weights_of(laid.first_weight[j], laid.second_weight[j]);
+        let row = wide_row(ways[j].vector(), draws[j], weights);
         all = all & (row.flag == 0);
         rows[j] = row;
     }
     all
 }
 
-/// Tries the moves of a chunk's bonds in 64-bit numbers. True where all of them are exact.
+// The stiffness of a short bond whose ends have these weights.
+#[inline(always)]
+fn stiffness_by(factor: i64, weights: Weights) -> i64
+    requires { pos 0 ≤ℤ factor }
+    ensures both { pos 0 <ℤ weights.first → pos 0 <ℤ weights.second → result ≡ factor }
+    ensures first { weights.first ≤ℤ pos 0 → result ≡ pos (unsigned_abs factor / 2) }
+    ensures second { weights.second ≤ℤ pos 0 → result ≡ pos (unsigned_abs factor / 2) }
+{
+    let both = (0 < weights.first) & (0 < weights.second);
+    if both { factor } else { factor / 2 }
+}
+
+// What a short bond draws its ends to, by its columns.
+#[inline(always)]
+fn short_draw(rest: i32, factor: i32, weights: Weights, contact: bool) -> Draw
+    requires first { pos 0 ≤ℤ weights.first }
+    requires second { pos 0 ≤ℤ weights.second }
+    requires factor { pos 0 ≤ℤ factor }
+    ensures { (b : Bond) → IsFirm b → HoldsRest b rest → HoldsFactor b weights.first weights.second factor → b.contact ≡ contact
+        → IsDraw b result }
+{
+    let rest = i64::from(rest);
+    Draw {
+        rest,
+        k: stiffness_by(i64::from(factor), weights),
+        reach: reach(contact, rest),
+    }
+}
+
+// The moves of short bonds, as `put_rows` has them.
 #[inline(never)]
-pub(crate) fn try_rows(found: &Found<'_>, rows: &mut [Row; CHUNK]) -> bool
+fn put_short_rows(found: &Found<'_>, rows: &mut [Row; CHUNK]) -> bool
     requires known { AreKnown found.now.chunk.bonds found.now.chunk.numbers.now }
-    requires first_long { length found.now.laid.first_weight.now ≡ length found.now.chunk.numbers.now }
-    requires second_long { length found.now.laid.second_weight.now ≡ length found.now.chunk.numbers.now }
-    requires sized { AreSized (length found.now.chunk.numbers.now) (lying_in found.now) }
+    requires columns { AreInColumns found.now }
+    requires short { (j : ℕ) → j < length found.now.chunk.numbers.now → pos 0 ≤ℤ number_in found.now.laid.factor.now j }
+    ensures tried { AreTried (bond_of found.now.chunk.bonds) found.now.chunk.numbers.now (lying_in found.now) rows.new }
+    ensures all { IsTrue result → (j : ℕ) → j < length found.now.chunk.numbers.now → (row_in rows.new j).flag ≡ pos 0 }
+{
+    let contact = found.chunk.bonds.are_contacts();
+    let laid = found.laid;
+    let ways = found.ways;
+    let mut all = true;
+    for j in 0..found.chunk.numbers.len() {
+        let weights = weights_of(laid.first_weight[j], laid.second_weight[j]);
+        let draw = short_draw(laid.rest[j], laid.factor[j], weights, contact);
+        let row = wide_row(ways[j].vector(), draw, weights);
+        all = all & (row.flag == 0);
+        rows[j] = row;
+    }
+    all
+}
+
+// The moves of any bonds, as `put_rows` has them.
+#[inline(never)]
+fn put_drawn_rows(found: &Found<'_>, rows: &mut [Row; CHUNK]) -> bool
+    requires known { AreKnown found.now.chunk.bonds found.now.chunk.numbers.now }
+    requires columns { AreInColumns found.now }
     ensures tried { AreTried (bond_of found.now.chunk.bonds) found.now.chunk.numbers.now (lying_in found.now) rows.new }
     ensures all { IsTrue result → (j : ℕ) → j < length found.now.chunk.numbers.now → (row_in rows.new j).flag ≡ pos 0 }
 {
@@ -169,4 +219,40 @@ pub(crate) fn try_rows(found: &Found<'_>, rows: &mut [Row; CHUNK]) -> bool
     let mut draws = [none; CHUNK];
     put_draws(&found.chunk, &mut draws);
     put_rows(found, &draws, rows)
+}
+
+/// The least of some factors or stiffnesses, or 512, which none is above.
+#[inline(never)]
+pub(crate) fn least_of(numbers: &[i32]) -> i32
+    requires low { (j : ℕ) → j < length numbers.now → neg_ℤ (pos 1) ≤ℤ number_in numbers.now j }
+    requires high { (j : ℕ) → j < length numbers.now → number_in numbers.now j ≤ℤ pos 512 }
+    ensures { (j : ℕ) → j < length numbers.now → result ≤ℤ number_in numbers.now j }
+{
+    let mut least: i32 = 512;
+    for j in 0..numbers.len() {
+        least = least.min(numbers[j]);
+    }
+    least
+}
+
+/// Tries the moves of a chunk's bonds in 64-bit numbers. True where all of them are exact.
+pub(crate) fn try_wide(found: &Found<'_>, rows: &mut [Row; CHUNK]) -> bool
+    requires known { AreKnown found.now.chunk.bonds found.now.chunk.numbers.now }
+    requires columns { AreInColumns found.now }
+    ensures tried { AreTried (bond_of found.now.chunk.bonds) found.now.chunk.numbers.now (lying_in found.now) rows.new }
+    ensures all { IsTrue result → (j : ℕ) → j < length found.now.chunk.numbers.now → (row_in rows.new j).flag ≡ pos 0 }
+{
+    let short = 0 <= least_of(found.laid.factor);
+    if short {
+        return put_short_rows(found, rows);
+    }
+    put_drawn_rows(found, rows)
+}
+
+/// Whether the first of a chunk's bonds is longer than the loops of 32-bit numbers go, so that they needn't be tried.
+#[inline(always)]
+pub(crate) fn begins_long(found: &Found<'_>) -> bool {
+    let way = found.ways[0];
+    let size = way.x.unsigned_abs() | way.y.unsigned_abs() | way.z.unsigned_abs();
+    32_768 <= size
 }

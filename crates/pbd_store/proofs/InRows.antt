@@ -30,6 +30,17 @@ pub rows_flat : (f : Particle → Vec3) (ps : List Particle) (n : ℕ)
     → AreFlat (map (λ (p : Particle). row_of (f p)) ps ++ replicate n (row_of zero_vector))
 rows_flat f ps n = record { each = λ k. flat_at f ps n k }
 
+-- the place in a row
+pub place_seen : (rows : List Place) (j : ℕ) → place_at (places_in rows) j ≡ place_in_row (get_or rows j (row_of zero_vector))
+place_seen [] j = refl
+place_seen (p ∷ rows) zero = refl
+place_seen (p ∷ rows) (suc j) = place_seen rows j
+
+-- the row of a place
+pub row_seen : (rows : List Place) → AreFlat rows → (j : ℕ) → get_or rows j (row_of zero_vector) ≡ row_of (place_at (places_in rows) j)
+row_seen rows flat j = (λ t. record (get_or rows j (row_of zero_vector)) { spare = flat.each j t })
+    ∙ ap (λ (v : Vec3). row_of v) (sym (place_seen rows j))
+
 module _ (rows : List Place) {vs : List Vec3} (e : places_in rows ≡ vs) where
   -- a row that was read
   pub place_read : (i : ℕ) (p : Place) → p ≡ get_or rows i p → i < length vs → place_in_row p ≡ place_at vs i

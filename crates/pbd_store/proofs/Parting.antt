@@ -1,43 +1,46 @@
 -- Pairs whose ends move one after another.
-use Rattle.std.proofs.Common.{◌≡◌, ℕ, ◌+◌, ◌<◌, ℤ, pos, ◌≤ℤ◌, List, length, IsTrue, ◌&&◌, refl, sym, ◌∙◌, ap, arith, inl, inr, subst}
-use Rattle.std.proofs.Common.{unsigned_abs, ◌^◌}
+use Rattle.std.proofs.Common.{◌≡◌, ℕ, ◌+◌, ◌<◌, ◌≤◌, ℤ, pos, ◌≤ℤ◌, List, length, get_or, slice_set, Bool, IsTrue, ◌&&◌}
+use Rattle.std.proofs.Common.{refl, sym, ◌∙◌, ap, arith, inl, inr, subst, unsigned_abs, ◌^◌}
+use Rattle.std.specs.List.{range_with_len}
 use Rattle.std.specs.Prelude.{Result, Ok, Err, MatchResult}
 use Rattle.std.proofs.lemmas.Bool.{and_from}
+use Rattle.std.proofs.lemmas.List.{get_or-set_same, get_or-set_other, length-set, length-map}
+use Rattle.std.proofs.lemmas.Simd.{map-map}
 use Rattle.std.proofs.Math.Seq.{map-set_same}
 use Rattle.pbd_num.proofs.Ranges.{within_facts}
 use Rattle.pbd_num.proofs.Sizes.{size-add, size-neg}
 use Rattle.pbd_num.specs.declared.Vec3.{Vec3}
 use Rattle.pbd_num.specs.Vectors.{Within, is_within, opposite, plus, zero_vector}
+use Rattle.pbd_lanes.specs.Lane.{is_set}
 use Rattle.pbd_world.specs.declared.parts.Particle.{Particle}
 use Rattle.pbd_world.specs.Particles.{particle_at, no_particle, placed}
-use Rattle.pbd_world.specs.Valid.{is_limit}
 use Rattle.pbd_store.specs.Gathering.{index_at}
-use Rattle.pbd_store.specs.Moving.{fixed_parts, AreInside}
+use Rattle.pbd_store.specs.Listed.{place_at, row, listed, ArePadded}
+use Rattle.pbd_store.specs.Moving.{fixed_parts}
 use Rattle.pbd_store.specs.declared.pairs.Pairs.{Pairs}
 use Rattle.pbd_store.specs.declared.reach.Reach.{Reach}
 use Rattle.pbd_store.specs.declared.rows.Place.{Place}
-use Rattle.pbd_store.specs.InRows.{place_in_row, row_of}
-use Rattle.pbd_store.specs.Pairs.{ArePairs, PairsApart, Parted, EachMoved, LeavesAt, OutsideAt, ends_within, stays}
+use Rattle.pbd_store.specs.InRows.{place_in_row, places_in, row_of}
+use Rattle.pbd_store.specs.Pairs.{ArePairs, PairsApart, EndsChanged, Parted, PlacesParted, EachMoved, LeavesAt, OutsideAt, ends_within, stays}
 use Rattle.pbd_store.specs.Reaching.{Covers}
-use Rattle.pbd_store.specs.Stored.{Stored}
-use Rattle.pbd_store.proofs.Limits.{inside_both}
-use Rattle.pbd_store.proofs.Scattering.{placed_same, placed_other, length-placed, split_below}
+use Rattle.pbd_store.proofs.Listing.{shown, listed_long, count_is, row_is}
+use Rattle.pbd_store.proofs.Scattering.{split_below}
 
 pub placed_fixed : (ps : List Particle) (i : ℕ) (v : Vec3) → fixed_parts (placed ps i v) ≡ fixed_parts ps
 placed_fixed ps i v = map-set_same {B = Particle} (λ (p : Particle). record p { at = zero_vector }) ps i
     (record (particle_at ps i) { at = v }) no_particle refl
 
 -- nothing yet
-pub parted_none : (first second : List ℕ) (f s : ℕ → Vec3) (ps : List Particle) → Parted 0 first second f s ps ps
-parted_none first second f s ps = record {
+pub changed_none : {A : Type 0} (first second : List ℕ) (f s : ℕ → A → A) (d : A) (xs : List A) → EndsChanged 0 first second f s d xs xs
+changed_none first second f s d xs = record {
   whole = refl;
   firsts = λ j h. absurd (omega arith);
   seconds = λ j h. absurd (omega arith);
   others = λ i f g. refl;
 }
 
-module _ (pairs : Pairs) (n : ℕ) (f s : ℕ → Vec3) (old new : List Particle) (j : ℕ)
-    (h : Parted j pairs.first.now pairs.second.now f s old new)
+module _ {A : Type 0} (pairs : Pairs) (n : ℕ) (f s : ℕ → A → A) (d : A) (old new : List A) (j : ℕ)
+    (h : EndsChanged j pairs.first.now pairs.second.now f s d old new)
     (p : j < n) (are : ArePairs n (length old) pairs) (apart : PairsApart n pairs) where
   abbrev a : ℕ
   a = index_at pairs.first.now j
@@ -46,113 +49,227 @@ module _ (pairs : Pairs) (n : ℕ) (f s : ℕ → Vec3) (old new : List Particle
   b = index_at pairs.second.now j
 
   -- the ends of the next pair are as they were
-  pub first_still : particle_at new (index_at pairs.first.now j) ≡ particle_at old (index_at pairs.first.now j)
-  first_still = h.others a (λ k q e. apart.first k j q p e) (λ k q e. apart.across j k p (omega arith) (sym e))
+  pub first_same : get_or new (index_at pairs.first.now j) d ≡ get_or old (index_at pairs.first.now j) d
+  first_same = h.others a (λ k q e. apart.first k j q p e) (λ k q e. apart.across j k p (omega arith) (sym e))
 
-  pub second_still : particle_at new (index_at pairs.second.now j) ≡ particle_at old (index_at pairs.second.now j)
-  second_still = h.others b (λ k q e. apart.across k j (omega arith) p e) (λ k q e. apart.second k j q p e)
+  pub second_same : get_or new (index_at pairs.second.now j) d ≡ get_or old (index_at pairs.second.now j) d
+  second_same = h.others b (λ k q e. apart.across k j (omega arith) p e) (λ k q e. apart.second k j q p e)
 
-  pub first_room : index_at pairs.first.now j < length new
-  first_room = omega (arith, h.whole, are.first j p)
+  pub first_there : index_at pairs.first.now j < length new
+  first_there = omega (arith, h.whole, are.first j p)
 
-  pub second_room : index_at pairs.second.now j < length new
-  second_room = omega (arith, h.whole, are.second j p)
+  pub second_there : index_at pairs.second.now j < length new
+  second_there = omega (arith, h.whole, are.second j p)
 
-  module _ (v : Vec3) where
-    pub second_then : particle_at (placed new (index_at pairs.first.now j) v) (index_at pairs.second.now j)
-        ≡ particle_at old (index_at pairs.second.now j)
-    second_then = placed_other new a b v (λ e. apart.across j j p p (sym e)) ∙ second_still
+  module _ (v : A) where
+    pub second_after : get_or (slice_set new (index_at pairs.first.now j) v) (index_at pairs.second.now j) d
+        ≡ get_or old (index_at pairs.second.now j) d
+    second_after = get_or-set_other new a b v d (λ e. apart.across j j p p (sym e)) ∙ second_same
 
-    pub second_place : index_at pairs.second.now j < length (placed new (index_at pairs.first.now j) v)
-    second_place = omega (arith, length-placed new a v, second_room)
+    pub second_left : index_at pairs.second.now j < length (slice_set new (index_at pairs.first.now j) v)
+    second_left = omega (arith, length-set new a v, second_there)
 
     -- one pair more
-    pub parted_more : (w : Vec3) → v ≡ plus (particle_at old (index_at pairs.first.now j)).at (f j)
-        → w ≡ plus (particle_at old (index_at pairs.second.now j)).at (s j) → Parted (j + 1) pairs.first.now pairs.second.now f s old
-        (placed (placed new (index_at pairs.first.now j) v) (index_at pairs.second.now j) w)
-    parted_more w ev ew =
-        let then = placed new a v in
+    pub changed_more : (w : A) → v ≡ f j (get_or old (index_at pairs.first.now j) d)
+        → w ≡ s j (get_or old (index_at pairs.second.now j) d)
+        → EndsChanged (j + 1) pairs.first.now pairs.second.now f s d old
+        (slice_set (slice_set new (index_at pairs.first.now j) v) (index_at pairs.second.now j) w)
+    changed_more w ev ew =
+        let then = slice_set new a v in
         record {
-          whole = length-placed then b w ∙ length-placed new a v ∙ h.whole;
+          whole = length-set then b w ∙ length-set new a v ∙ h.whole;
           firsts = λ k q. elim (split_below k j q) [
-            | inl r ↦ placed_other then b (index_at pairs.first.now k) w (λ e. apart.across k j (omega arith) p e)
-                ∙ placed_other new a (index_at pairs.first.now k) v (λ e. apart.first k j r p e) ∙ h.firsts k r
-            | inr e ↦ subst (λ (m : ℕ). particle_at (placed then b w) (index_at pairs.first.now m)
-                ≡ record (particle_at old (index_at pairs.first.now m))
-                { at = plus (particle_at old (index_at pairs.first.now m)).at (f m) }) (sym e)
-                (placed_other then b a w (λ e. apart.across j j p p e) ∙ placed_same new a v first_room
-                ∙ (λ t. record (first_still t) { at = ev t }))
+            | inl r ↦ get_or-set_other then b (index_at pairs.first.now k) w d (λ e. apart.across k j (omega arith) p e)
+                ∙ get_or-set_other new a (index_at pairs.first.now k) v d (λ e. apart.first k j r p e) ∙ h.firsts k r
+            | inr e ↦ subst (λ (m : ℕ). get_or (slice_set then b w) (index_at pairs.first.now m) d
+                ≡ f m (get_or old (index_at pairs.first.now m) d)) (sym e)
+                (get_or-set_other then b a w d (λ e. apart.across j j p p e) ∙ get_or-set_same new a v d first_there ∙ ev)
           ];
           seconds = λ k q. elim (split_below k j q) [
-            | inl r ↦ placed_other then b (index_at pairs.second.now k) w (λ e. apart.second k j r p e)
-                ∙ placed_other new a (index_at pairs.second.now k) v (λ e. apart.across j k p (omega arith) (sym e)) ∙ h.seconds k r
-            | inr e ↦ subst (λ (m : ℕ). particle_at (placed then b w) (index_at pairs.second.now m)
-                ≡ record (particle_at old (index_at pairs.second.now m))
-                { at = plus (particle_at old (index_at pairs.second.now m)).at (s m) }) (sym e)
-                (placed_same then b w second_place ∙ (λ t. record (second_then t) { at = ew t }))
+            | inl r ↦ get_or-set_other then b (index_at pairs.second.now k) w d (λ e. apart.second k j r p e)
+                ∙ get_or-set_other new a (index_at pairs.second.now k) v d (λ e. apart.across j k p (omega arith) (sym e))
+                ∙ h.seconds k r
+            | inr e ↦ subst (λ (m : ℕ). get_or (slice_set then b w) (index_at pairs.second.now m) d
+                ≡ s m (get_or old (index_at pairs.second.now m) d)) (sym e) (get_or-set_same then b w d second_left ∙ ew)
           ];
-          others = λ i nf ns. placed_other then b i w (λ e. ns j (omega arith) (sym e))
-              ∙ placed_other new a i v (λ e. nf j (omega arith) (sym e))
+          others = λ i nf ns. get_or-set_other then b i w d (λ e. ns j (omega arith) (sym e))
+              ∙ get_or-set_other new a i v d (λ e. nf j (omega arith) (sym e))
               ∙ h.others i (λ k q e. nf k (omega arith) e) (λ k q e. ns k (omega arith) e);
         }
 
--- pairs of which the first j are pulled, with the reach of their new places
-pub record Pulled (j : ℕ) (first second : List ℕ) (f s : ℕ → Vec3) (reach : Reach) (limit : ℤ) (old new : List Particle) : Type 0 where
-  pub done : Parted j first second f s old new
-  pub first_covered : (k : ℕ) → k < j → Covers reach limit (plus (particle_at old (index_at first k)).at (f k))
-  pub second_covered : (k : ℕ) → k < j → Covers reach limit (plus (particle_at old (index_at second k)).at (s k))
-  pub fixed : fixed_parts new ≡ fixed_parts old
+-- a particle that is moved
+abbrev moved_by : (ℕ → Vec3) → ℕ → Particle → Particle
+moved_by f j p = record p { at = plus p.at (f j) }
 
-pub pulled_none : (first second : List ℕ) (f s : ℕ → Vec3) (reach : Reach) (limit : ℤ) (ps : List Particle)
-    → Pulled 0 first second f s reach limit ps ps
-pulled_none first second f s reach limit ps = record {
-  done = parted_none first second f s ps;
+-- ends that are moved have changed
+changed_from : (n : ℕ) (first second : List ℕ) (f s : ℕ → Vec3) (old new : List Particle) → Parted n first second f s old new
+    → EndsChanged n first second (moved_by f) (moved_by s) no_particle old new
+changed_from n first second f s old new h = record { whole = h.whole; firsts = h.firsts; seconds = h.seconds; others = h.others }
+
+pub parted_from : (n : ℕ) (first second : List ℕ) (f s : ℕ → Vec3) (old new : List Particle)
+    → EndsChanged n first second (λ j p. record p { at = plus p.at (f j) }) (λ j p. record p { at = plus p.at (s j) }) no_particle old new
+    → Parted n first second f s old new
+parted_from n first second f s old new h = record { whole = h.whole; firsts = h.firsts; seconds = h.seconds; others = h.others }
+
+pub parted_none : (first second : List ℕ) (f s : ℕ → Vec3) (ps : List Particle) → Parted 0 first second f s ps ps
+parted_none first second f s ps = parted_from 0 first second f s ps ps (changed_none first second (moved_by f) (moved_by s) no_particle ps)
+
+module _ (pairs : Pairs) (n : ℕ) (f s : ℕ → Vec3) (old new : List Particle) (j : ℕ)
+    (h : Parted j pairs.first.now pairs.second.now f s old new)
+    (p : j < n) (are : ArePairs n (length old) pairs) (apart : PairsApart n pairs) where
+  so_far : EndsChanged j pairs.first.now pairs.second.now (moved_by f) (moved_by s) no_particle old new
+  so_far = changed_from j pairs.first.now pairs.second.now f s old new h
+
+  -- the ends of the next pair are as they were
+  pub first_still : particle_at new (index_at pairs.first.now j) ≡ particle_at old (index_at pairs.first.now j)
+  first_still = first_same pairs n (moved_by f) (moved_by s) no_particle old new j so_far p are apart
+
+  pub second_still : particle_at new (index_at pairs.second.now j) ≡ particle_at old (index_at pairs.second.now j)
+  second_still = second_same pairs n (moved_by f) (moved_by s) no_particle old new j so_far p are apart
+
+  pub first_room : index_at pairs.first.now j < length new
+  first_room = first_there pairs n (moved_by f) (moved_by s) no_particle old new j so_far p are apart
+
+  pub second_room : index_at pairs.second.now j < length new
+  second_room = second_there pairs n (moved_by f) (moved_by s) no_particle old new j so_far p are apart
+
+  -- one pair more
+  pub parted_more : (v w : Vec3) → v ≡ plus (particle_at old (index_at pairs.first.now j)).at (f j)
+      → w ≡ plus (particle_at old (index_at pairs.second.now j)).at (s j) → Parted (j + 1) pairs.first.now pairs.second.now f s old
+      (placed (placed new (index_at pairs.first.now j) v) (index_at pairs.second.now j) w)
+  parted_more v w ev ew =
+      let one = record (particle_at new (index_at pairs.first.now j)) { at = v } in
+      let still = second_after pairs n (moved_by f) (moved_by s) no_particle old new j so_far p are apart one in
+      parted_from (j + 1) pairs.first.now pairs.second.now f s old
+      (placed (placed new (index_at pairs.first.now j) v) (index_at pairs.second.now j) w)
+      (changed_more pairs n (moved_by f) (moved_by s) no_particle old new j so_far p are apart one
+      (record (particle_at (placed new (index_at pairs.first.now j) v) (index_at pairs.second.now j)) { at = w })
+      (λ t. record (first_still t) { at = ev t }) (λ t. record (still t) { at = ew t }))
+
+-- places of pairs of which the first j are pulled, with the reach of the new ones
+pub record Pulled (j : ℕ) (first second : List ℕ) (f s : ℕ → Vec3) (reach : Reach) (limit : ℤ) (old new : List Vec3) : Type 0 where
+  pub done : PlacesParted j first second f s old new
+  pub first_covered : (k : ℕ) → k < j → Covers reach limit (plus (place_at old (index_at first k)) (f k))
+  pub second_covered : (k : ℕ) → k < j → Covers reach limit (plus (place_at old (index_at second k)) (s k))
+
+pub pulled_none : (first second : List ℕ) (f s : ℕ → Vec3) (reach : Reach) (limit : ℤ) (vs : List Vec3)
+    → Pulled 0 first second f s reach limit vs vs
+pulled_none first second f s reach limit vs = record {
+  done = changed_none first second _ _ zero_vector vs;
   first_covered = λ k h. absurd (omega arith);
   second_covered = λ k h. absurd (omega arith);
-  fixed = refl;
 }
 
-module _ (pairs : Pairs) (n : ℕ) (f s : ℕ → Vec3) (reach : Reach) (limit : ℤ) (old new : List Particle) (j : ℕ)
+module _ (pairs : Pairs) (n : ℕ) (f s : ℕ → Vec3) (reach : Reach) (limit : ℤ) (old new : List Vec3) (j : ℕ)
     (h : Pulled j pairs.first.now pairs.second.now f s reach limit old new) (p : j < n) (are : ArePairs n (length old) pairs)
     (apart : PairsApart n pairs) where
-  -- one pair more
-  pub pulled_more : (first second : Vec3) (then next : List Particle) (mid after : Reach)
-      → then ≡ placed new (index_at pairs.first.now j) first → next ≡ placed then (index_at pairs.second.now j) second
-      → first ≡ plus (particle_at new (index_at pairs.first.now j)).at (f j)
-      → second ≡ plus (particle_at then (index_at pairs.second.now j)).at (s j)
-      → ((u : Vec3) → Covers reach limit u → Covers mid limit u) → Covers mid limit first
-      → ((u : Vec3) → Covers mid limit u → Covers after limit u) → Covers after limit second
-      → Pulled (j + 1) pairs.first.now pairs.second.now f s after limit old next
-  pulled_more first second then next mid after et en ef es k o l q =
-      let a = index_at pairs.first.now j in
-      let b = index_at pairs.second.now j in
-      let still = first_still pairs n f s old new j h.done p are apart in
-      let then_still : particle_at then b ≡ particle_at old b = ap (λ (ps : List Particle). particle_at ps b) et
-      ∙ second_then pairs n f s old new j h.done p are apart first in
-      let first_is : first ≡ plus (particle_at old a).at (f j) = ef ∙ (λ t. plus (still t).at (f j)) in
-      let second_is : second ≡ plus (particle_at old b).at (s j) = es ∙ (λ t. plus (then_still t).at (s j)) in
-      let last : next ≡ placed (placed new a first) b second = en ∙ (λ t. placed (et t) b second) in
-      record {
-        done = subst (λ (ps : List Particle). Parted (j + 1) pairs.first.now pairs.second.now f s old ps) (sym last)
-            (parted_more pairs n f s old new j h.done p are apart first second first_is second_is);
-        first_covered = λ m r. elim (split_below m j r) [
-          | inl i ↦ l _ (k _ (h.first_covered m i))
-          | inr e ↦ subst (λ (i : ℕ). Covers after limit (plus (particle_at old (index_at pairs.first.now i)).at (f i))) (sym e)
-              (l _ (subst (λ (u : Vec3). Covers mid limit u) first_is o))
-        ];
-        second_covered = λ m r. elim (split_below m j r) [
-          | inl i ↦ l _ (k _ (h.second_covered m i))
-          | inr e ↦ subst (λ (i : ℕ). Covers after limit (plus (particle_at old (index_at pairs.second.now i)).at (s i))) (sym e)
-              (subst (λ (u : Vec3). Covers after limit u) second_is q)
-        ];
-        fixed = ap (λ (ps : List Particle). fixed_parts ps) en ∙ placed_fixed then b second
-            ∙ ap (λ (ps : List Particle). fixed_parts ps) et ∙ placed_fixed new a first ∙ h.fixed;
-      }
+  abbrev on : (ℕ → Vec3) → ℕ → Vec3 → Vec3
+  on g k v = plus v (g k)
 
--- a row that is the place of a particle which is as it was
-row_within : {r : Place} {p q : Particle} {bound : ℕ} → r ≡ row_of p.at → p ≡ q → Within bound q.at → Within bound (place_in_row r)
-row_within {bound = bound} e still h = subst (λ (v : Vec3). Within bound v)
-    (sym (ap (λ (r : Place). place_in_row r) e ∙ ap (λ (p : Particle). p.at) still)) h
+  -- the places of the next pair, the second one after a write to the first
+  pub first_in : {r : Place} → r ≡ row_of (place_at new (index_at pairs.first.now j))
+      → Within (2 ^ 29) (place_at old (index_at pairs.first.now j)) → Within (2 ^ 29) (place_in_row r)
+  first_in e w = subst (λ (v : Vec3). Within (2 ^ 29) v)
+      (sym (ap (λ (r : Place). place_in_row r) e ∙ first_same pairs n (on f) (on s) zero_vector old new j h.done p are apart)) w
+
+  module _ {then : List Vec3} (v : Vec3) (et : then ≡ slice_set new (index_at pairs.first.now j) v) where
+    then_still : place_at then (index_at pairs.second.now j) ≡ place_at old (index_at pairs.second.now j)
+    then_still = ap (λ (vs : List Vec3). place_at vs (index_at pairs.second.now j)) et
+        ∙ second_after pairs n (on f) (on s) zero_vector old new j h.done p are apart v
+
+    pub second_in : {r : Place} → r ≡ row_of (place_at then (index_at pairs.second.now j))
+        → Within (2 ^ 29) (place_at old (index_at pairs.second.now j)) → Within (2 ^ 29) (place_in_row r)
+    second_in e w = subst (λ (v : Vec3). Within (2 ^ 29) v) (sym (ap (λ (r : Place). place_in_row r) e ∙ then_still)) w
+
+    pub second_near : index_at pairs.second.now j < length then
+    second_near = omega (
+      arith,
+      second_left pairs n (on f) (on s) zero_vector old new j h.done p are apart v,
+      ap (λ (vs : List Vec3). length vs) et,
+    )
+
+    -- one pair more
+    pub pulled_more : (w : Vec3) (next : List Vec3) (mid after : Reach) → next ≡ slice_set then (index_at pairs.second.now j) w
+        → v ≡ plus (place_at new (index_at pairs.first.now j)) (f j) → w ≡ plus (place_at then (index_at pairs.second.now j)) (s j)
+        → ((u : Vec3) → Covers reach limit u → Covers mid limit u) → Covers mid limit v
+        → ((u : Vec3) → Covers mid limit u → Covers after limit u) → Covers after limit w
+        → Pulled (j + 1) pairs.first.now pairs.second.now f s after limit old next
+    pulled_more w next mid after en ev ew k o l q =
+        let still = first_same pairs n (on f) (on s) zero_vector old new j h.done p are apart in
+        let first_is : v ≡ plus (place_at old (index_at pairs.first.now j)) (f j) = ev ∙ (λ t. plus (still t) (f j)) in
+        let second_is : w ≡ plus (place_at old (index_at pairs.second.now j)) (s j) = ew ∙ (λ t. plus (then_still t) (s j)) in
+        let last : next ≡ slice_set (slice_set new (index_at pairs.first.now j) v) (index_at pairs.second.now j) w
+        = en ∙ (λ t. slice_set (et t) (index_at pairs.second.now j) w) in
+        record {
+          done = subst (λ (vs : List Vec3). PlacesParted (j + 1) pairs.first.now pairs.second.now f s old vs) (sym last)
+              (changed_more pairs n (on f) (on s) zero_vector old new j h.done p are apart v w first_is second_is);
+          first_covered = λ m r. elim (split_below m j r) [
+            | inl i ↦ l _ (k _ (h.first_covered m i))
+            | inr e ↦ subst (λ (i : ℕ). Covers after limit (plus (place_at old (index_at pairs.first.now i)) (f i))) (sym e)
+                (l _ (subst (λ (u : Vec3). Covers mid limit u) first_is o))
+          ];
+          second_covered = λ m r. elim (split_below m j r) [
+            | inl i ↦ l _ (k _ (h.second_covered m i))
+            | inr e ↦ subst (λ (i : ℕ). Covers after limit (plus (place_at old (index_at pairs.second.now i)) (s i))) (sym e)
+                (subst (λ (u : Vec3). Covers after limit u) second_is q)
+          ];
+        }
+
+-- pairs of particles are pairs of a longer list
+pub pairs_longer : {n count more : ℕ} {pairs : Pairs} → count ≤ more → ArePairs n count pairs → ArePairs n more pairs
+pairs_longer le are = record {
+  few = are.few;
+  first_long = are.first_long;
+  second_long = are.second_long;
+  first = λ j p. omega (arith, are.first j p, le);
+  second = λ j p. omega (arith, are.second j p, le);
+}
+
+-- pairs of rows are pairs of their places
+pub pairs_in_rows : {n : ℕ} {pairs : Pairs} (rows : List Place) → ArePairs n (length rows) pairs
+    → ArePairs n (length (places_in rows)) pairs
+pairs_in_rows rows are = pairs_longer (omega (arith, length-map rows (λ (p : Place). place_in_row p))) are
+
+-- columns of which the places are those of moved ends
+module _ {n spare : ℕ} {at before : List Vec3} {weight : List ℕ} {held : List Bool} (h : ArePadded n spare at before weight held)
+    {ps : List Particle} (e : listed n at before weight held ≡ ps) (pairs : Pairs) (m : ℕ) (are : ArePairs m (length ps) pairs)
+    (f s : ℕ → Vec3) (moved : List Vec3) (g : PlacesParted m pairs.first.now pairs.second.now f s at moved) where
+  beyond : (k : ℕ) → n ≤ k → place_at moved k ≡ place_at at k
+  beyond k q = g.others k (λ j p i. absurd (omega (arith, are.first j p, count_is h e, i)))
+      (λ j p i. absurd (omega (arith, are.second j p, count_is h e, i)))
+
+  -- a row with another place
+  row_now : (k : ℕ) (v : Vec3) → place_at moved k ≡ v
+      → row moved before weight held k ≡ record (row at before weight held k) { at = v }
+  row_now k v ev = λ t. record { at = ev t; before = place_at before k; weight = get_or weight k 0; held = is_set held k }
+
+  pub moved_padded : ArePadded n spare moved before weight held
+  moved_padded = record {
+    size = h.size;
+    places = g.whole ∙ h.places;
+    befores = h.befores;
+    weights = h.weights;
+    flags = h.flags;
+    padding = λ k q. row_now k (place_at at k) (beyond k q) ∙ h.padding k q;
+  }
+
+  seen : (k : ℕ) → particle_at (listed n moved before weight held) k ≡ row moved before weight held k
+  seen k = shown moved_padded k
+
+  pub moved_parted : Parted m pairs.first.now pairs.second.now f s ps (listed n moved before weight held)
+  moved_parted = record {
+    whole = listed_long moved_padded ∙ count_is h e;
+    firsts = λ j p. seen (index_at pairs.first.now j) ∙ row_now (index_at pairs.first.now j) _ (g.firsts j p)
+        ∙ ap (λ (q : Particle). record q { at = plus q.at (f j) }) (sym (row_is h e (index_at pairs.first.now j)));
+    seconds = λ j p. seen (index_at pairs.second.now j) ∙ row_now (index_at pairs.second.now j) _ (g.seconds j p)
+        ∙ ap (λ (q : Particle). record q { at = plus q.at (s j) }) (sym (row_is h e (index_at pairs.second.now j)));
+    others = λ i nf ns. seen i ∙ row_now i (place_at at i) (g.others i nf ns) ∙ sym (row_is h e i);
+  }
+
+  pub moved_fixed : fixed_parts (listed n moved before weight held) ≡ fixed_parts ps
+  moved_fixed = map-map (λ (p : Particle). record p { at = zero_vector }) (row moved before weight held) (range_with_len 0 n)
+      ∙ sym (map-map (λ (p : Particle). record p { at = zero_vector }) (row at before weight held) (range_with_len 0 n))
+      ∙ ap (λ (qs : List Particle). fixed_parts qs) e
 
 pub opposite_within : {v : Vec3} {bound : ℕ} → Within bound v → Within bound (opposite v)
 opposite_within {v} h = record {
@@ -162,46 +279,13 @@ opposite_within {v} h = record {
 }
 
 -- a short way from a place within the range
-pub stepped_within : {u v r : Vec3} → Within (2 ^ 29) u → Within (2 ^ 16) v → r ≡ plus u v → Within (2 ^ 62) r
+pub stepped_within : {u v r : Vec3} → Within (2 ^ 29) u → Within (2 ^ 22) v → r ≡ plus u v → Within (2 ^ 62) r
 stepped_within {u} {v} hu hv e = subst (λ (r : Vec3). Within (2 ^ 62) r) (sym e)
     (record {
       x = omega (arith, size-add u.x v.x, hu.x, hv.x);
       y = omega (arith, size-add u.y v.y, hu.y, hv.y);
       z = omega (arith, size-add u.z v.z, hu.z, hv.z);
     })
-
--- what a store is seen as
-abbrev stored : List Particle → ℤ → ℕ → Stored
-stored particles limit copies = record { particles = particles; limit = limit; copies = copies }
-
--- the ends of the pair whose turn it is are within the range
-module _ {pairs : Pairs} {f s : ℕ → Vec3} {reach : Reach} {limit : ℤ} {old new : List Particle} {copies j : ℕ} {start : Stored}
-    (seen : stored old limit copies ≡ start) (l : IsTrue (is_limit limit))
-    (are : ArePairs (length pairs.first.now) (length start.particles) pairs) (apart : PairsApart (length pairs.first.now) pairs)
-    (inside : AreInside start.limit start.particles) (h : Pulled j pairs.first.now pairs.second.now f s reach limit old new)
-    (p : j < length pairs.first.now) where
-  pairs_here : ArePairs (length pairs.first.now) (length old) pairs
-  pairs_here = subst (λ (s : Stored). ArePairs (length pairs.first.now) (length s.particles) pairs) (sym seen) are
-
-  inside_here : AreInside (pos (2 ^ 29)) old
-  inside_here = inside_both limit old l (subst (λ (s : Stored). AreInside s.limit s.particles) (sym seen) inside)
-
-  pub first_in : {r : Place} → r ≡ row_of (particle_at new (index_at pairs.first.now j)).at → Within (2 ^ 29) (place_in_row r)
-  first_in e = row_within e (first_still pairs (length pairs.first.now) f s old new j h.done p pairs_here apart)
-      (inside_here.each (index_at pairs.first.now j) (pairs_here.first j p))
-
-  module _ {then : List Particle} (v : Vec3) (et : then ≡ placed new (index_at pairs.first.now j) v) where
-    pub second_in : {r : Place} → r ≡ row_of (particle_at then (index_at pairs.second.now j)).at → Within (2 ^ 29) (place_in_row r)
-    second_in e = row_within e (ap (λ (ps : List Particle). particle_at ps (index_at pairs.second.now j)) et
-        ∙ second_then pairs (length pairs.first.now) f s old new j h.done p pairs_here apart v)
-        (inside_here.each (index_at pairs.second.now j) (pairs_here.second j p))
-
-    pub second_near : index_at pairs.second.now j < length then
-    second_near = omega (
-      arith,
-      second_place pairs (length pairs.first.now) f s old new j h.done p pairs_here apart v,
-      ap (λ (ps : List Particle). length ps) et,
-    )
 
 -- two places within the limit pass its test
 pub both_stay : (limit : ℤ) (v w : Vec3) → pos 0 ≤ℤ limit → Within (unsigned_abs limit) v → Within (unsigned_abs limit) w

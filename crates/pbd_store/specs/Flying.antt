@@ -10,17 +10,17 @@ use Rattle.pbd_lanes.specs.Lane.{is_set}
 use Rattle.pbd_store.specs.InRows.{place_in_row, row_of}
 use Rattle.pbd_store.specs.Listed.{place_at}
 use Rattle.pbd_store.specs.declared.rows.Place.{Place}
-use Rattle.pbd_store.specs.declared.flight.Air.{Air}
+use Rattle.pbd_store.specs.declared.flight.Forces.{Forces}
 use Rattle.pbd_store.specs.declared.flight.Flown.{Flown}
 use Rattle.pbd_store.specs.declared.fly.Sums.{Sums}
 use Rattle.pbd_store.specs.Reaching.{Covers}
 
 -- what acts on particles is as small as in worlds
-pub record IsSmall (air : Air) : Type 0 where
-  pub damping : unsigned_abs air.damping ≤ 1024
-  pub gravity : Within (2 ^ 29) air.gravity
-  pub low : pos 0 ≤ℤ air.limit
-  pub high : unsigned_abs air.limit ≤ 2 ^ 29
+pub record IsSmall (forces : Forces) : Type 0 where
+  pub damping : unsigned_abs forces.damping ≤ 1024
+  pub gravity : Within (2 ^ 29) forces.gravity
+  pub low : pos 0 ≤ℤ forces.limit
+  pub high : unsigned_abs forces.limit ≤ 2 ^ 29
 
 -- what damping takes on an axis of a particle that flies
 abbrev pub loss_at : ℤ → Bool → ℤ → ℤ → ℤ
@@ -50,16 +50,16 @@ places_at damping gravity flies at before = record {
 }
 
 -- a particle after its flight
-abbrev pub after_flight : Air → Particle → Particle
-after_flight air p = record p { at = places_at air.damping air.gravity (is_free p) p.at p.before; before = p.at }
+abbrev pub after_flight : Forces → Particle → Particle
+after_flight forces p = record p { at = places_at forces.damping forces.gravity (is_free p) p.at p.before; before = p.at }
 
 -- what damping takes of it
-abbrev pub lost_by : Air → Particle → Vec3
-lost_by air p = losses_at air.damping (is_free p) p.at p.before
+abbrev pub lost_by : Forces → Particle → Vec3
+lost_by forces p = losses_at forces.damping (is_free p) p.at p.before
 
 -- it stays within the limit
-abbrev pub stays_in : Air → Particle → Bool
-stays_in air p = is_within air.limit (after_flight air p).at
+abbrev pub stays_in : Forces → Particle → Bool
+stays_in forces p = is_within forces.limit (after_flight forces p).at
 
 abbrev pub one_if : Bool → ℤ
 one_if free = if free then pos 1 else pos 0
@@ -74,18 +74,18 @@ abbrev pub sums_below : (ℕ → Vec3) → ℕ → Vec3
 sums_below f n = record { x = sum_below (λ j. (f j).x) n; y = sum_below (λ j. (f j).y) n; z = sum_below (λ j. (f j).z) n }
 
 -- all particles stay within the limit: so many of them are free, and damping takes so much of all of them together
-pub record AllStay (air : Air) (ps : List Particle) (flown : Flown) : Type 0 where
-  pub within : (i : ℕ) → i < length ps → IsTrue (stays_in air (particle_at ps i))
+pub record AllStay (forces : Forces) (ps : List Particle) (flown : Flown) : Type 0 where
+  pub within : (i : ℕ) → i < length ps → IsTrue (stays_in forces (particle_at ps i))
   pub free : flown.free ≡ sum_below (λ i. one_if (is_free (particle_at ps i))) (length ps)
-  pub lost : flown.lost ≡ sums_below (λ i. lost_by air (particle_at ps i)) (length ps)
+  pub lost : flown.lost ≡ sums_below (λ i. lost_by forces (particle_at ps i)) (length ps)
   pub few : unsigned_abs flown.free ≤ 65536
   pub small : Within (2 ^ 46) flown.lost
 
 -- particle i is the first that would leave the limit
-pub record LeavesFirst (air : Air) (ps : List Particle) (i : ℕ) : Type 0 where
+pub record LeavesFirst (forces : Forces) (ps : List Particle) (i : ℕ) : Type 0 where
   pub one : i < length ps
-  pub before : (j : ℕ) → j < i → IsTrue (stays_in air (particle_at ps j))
-  pub leaves : stays_in air (particle_at ps i) ≡ false
+  pub before : (j : ℕ) → j < i → IsTrue (stays_in forces (particle_at ps j))
+  pub leaves : stays_in forces (particle_at ps i) ≡ false
 
 -- the first n of some places are given by f, and the others have not changed
 pub record WrittenFirst (n : ℕ) (f : ℕ → Vec3) (old new : List Vec3) : Type 0 where
@@ -111,19 +111,19 @@ abbrev pub are_free : List Bool → ℕ → Bool
 are_free held j = not (is_set held j)
 
 -- the first n rows have flown, and the others have not changed
-pub record WrittenRows (air : Air) (held : List Bool) (n : ℕ) (at before at' before' : List Place) : Type 0 where
+pub record WrittenRows (forces : Forces) (held : List Bool) (n : ℕ) (at before at' before' : List Place) : Type 0 where
   pub whole : length at' ≡ length at
   pub whole_before : length before' ≡ length before
   pub to : (j : ℕ) → j < n
-      → row_at at' j ≡ row_of (places_at air.damping air.gravity (not (is_set held j)) (place_in at j) (place_in before j))
+      → row_at at' j ≡ row_of (places_at forces.damping forces.gravity (not (is_set held j)) (place_in at j) (place_in before j))
   pub was : (j : ℕ) → j < n → row_at before' j ≡ row_at at j
   pub still : (j : ℕ) → n ≤ j → row_at at' j ≡ row_at at j
   pub still_before : (j : ℕ) → n ≤ j → row_at before' j ≡ row_at before j
 
 -- the first n of some particles, of which `flies` tells who is free, have flown between these places, and are summed up
-pub record AreSummed (air : Air) (n : ℕ) (flies : ℕ → Bool) (at before to : ℕ → Vec3) (sums : Sums) : Type 0 where
+pub record AreSummed (forces : Forces) (n : ℕ) (flies : ℕ → Bool) (at before to : ℕ → Vec3) (sums : Sums) : Type 0 where
   pub free : sums.free ≡ sum_below (λ j. one_if (flies j)) n
-  pub lost : sums.lost ≡ sums_below (λ j. losses_at air.damping (flies j) (at j) (before j)) n
+  pub lost : sums.lost ≡ sums_below (λ j. losses_at forces.damping (flies j) (at j) (before j)) n
   pub few : unsigned_abs sums.free ≤ n
   pub small : Within (n * 2 ^ 30) sums.lost
-  pub reach : (j : ℕ) → j < n → Covers sums.reach air.limit (to j)
+  pub reach : (j : ℕ) → j < n → Covers sums.reach forces.limit (to j)

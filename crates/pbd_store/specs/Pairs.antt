@@ -49,10 +49,10 @@ pub record AreBetween (n : ℕ) (ps : List Particle) (first second : List ℕ) (
   pub second_weights : (j : ℕ) → j < n
       → slice_index_or between.second_weight j (pos 0) ≡ pos (effective_weight (particle_at ps (index_at second j)))
 
--- n rows or more, the first n of them with axes of at most 2^16 and flag 0
+-- n rows or more, the first n of them with axes of at most 2^22 and flag 0
 pub record AreShort (n : ℕ) (rows : List Row) : Type 0 where
   pub long : n ≤ length rows
-  pub each : (j : ℕ) → j < n → Within (2 ^ 16) (vector_of (row_in rows j))
+  pub each : (j : ℕ) → j < n → Within (2 ^ 22) (vector_of (row_in rows j))
   pub flags : (j : ℕ) → j < n → (row_in rows j).flag ≡ pos 0
 
 -- each of n pairs has moved, its first end by f and its second by s, and nothing else has changed
@@ -64,6 +64,19 @@ pub record Parted (n : ℕ) (first second : List ℕ) (f s : ℕ → Vec3) (old 
       ≡ record (particle_at old (index_at second j)) { at = plus (particle_at old (index_at second j)).at (s j) }
   pub others : (i : ℕ) → ((j : ℕ) → j < n → index_at first j ≡ i → ⊥) → ((j : ℕ) → j < n → index_at second j ≡ i → ⊥)
       → particle_at new i ≡ particle_at old i
+
+-- each of n pairs of elements has changed, its first end by f and its second by s, and nothing else has
+pub record EndsChanged {A : Type 0} (n : ℕ) (first second : List ℕ) (f s : ℕ → A → A) (none : A) (old new : List A) : Type 0 where
+  pub whole : length new ≡ length old
+  pub firsts : (j : ℕ) → j < n → slice_index_or new (index_at first j) none ≡ f j (slice_index_or old (index_at first j) none)
+  pub seconds : (j : ℕ) → j < n → slice_index_or new (index_at second j) none ≡ s j (slice_index_or old (index_at second j) none)
+  pub others : (i : ℕ) → ((j : ℕ) → j < n → index_at first j ≡ i → ⊥) → ((j : ℕ) → j < n → index_at second j ≡ i → ⊥)
+      → slice_index_or new i none ≡ slice_index_or old i none
+
+-- the same of places that are moved
+abbrev pub PlacesParted : ℕ → List ℕ → List ℕ → (ℕ → Vec3) → (ℕ → Vec3) → List Vec3 → List Vec3 → Type 0
+PlacesParted n first second f s old new =
+    EndsChanged n first second (λ j v. plus v (f j)) (λ j v. plus v (s j)) zero_vector old new
 
 -- no moves
 abbrev pub no_moves : EndMoves

@@ -5,7 +5,8 @@ ghost use Rattle.pbd_lanes.specs.Lane.{is_set, lanes_of};
 ghost use Rattle.pbd_world.specs.Particles.{particle_at, placed, effective_weight};
 ghost use Rattle.pbd_store.specs.Blocks.{place_of, Saved};
 ghost use Rattle.pbd_store.specs.Gathering.{index_at, gathered};
-ghost use Rattle.pbd_store.specs.InRows.{place_in_row, row_of};
+ghost use Rattle.pbd_store.specs.InRows.{places_in, AreFlat};
+ghost use Rattle.pbd_store.specs.Listed.{place_at};
 
 use crate::lanes3::{Ends, Lanes3};
 use crate::rows::{Place, PlaceKind, PlaceRows, padded};
@@ -203,13 +204,14 @@ impl<const L: usize> Columns<L> {
         }
     }
 
-    /// The place of a particle as a row.
+    /// The rows of the places of all particles, and of some zeros.
     #[inline(always)]
-    pub(crate) fn place_row(&self, i: u32) -> Place
-        requires { i < length self.now }
-        ensures { result ≡ row_of (particle_at self.now i).at }
+    pub(crate) fn place_rows(&self) -> &[Place]
+        ensures long { length self.now ≤ length result.now }
+        ensures each { (i : ℕ) → i < length self.now → place_at (places_in result.now) i ≡ (particle_at self.now i).at }
+        ensures flat { AreFlat result.now }
     {
-        self.at.row(i as usize)
+        self.at.rows()
     }
 
     /// The effective weight of a particle.
@@ -219,16 +221,6 @@ impl<const L: usize> Columns<L> {
         ensures { result ≡ pos (effective_weight (particle_at self.now i)) }
     {
         i32::from(self.effective[i as usize])
-    }
-
-    /// Moves a particle to the place in a row.
-    #[inline(always)]
-    pub(crate) fn set_place_row(&mut self, i: u32, row: Place)
-        requires some { i < length self.old }
-        requires spare { row.spare ≡ pos 0 }
-        ensures { self.new ≡ placed self.old i (place_in_row row) }
-    {
-        self.at.set_row(i as usize, row);
     }
 
     #[inline(always)]

@@ -10,8 +10,8 @@ use pbd_num::Vec3;
 
 /// What acts on particles at the start of a step.
 #[derive(Clone, Copy)]
-pub struct Air {
-    /// What it takes of velocities, in 1/1,024.
+pub struct Forces {
+    /// What damping takes of velocities, in 1/1,024.
     pub damping: i64,
     pub gravity: Vec3,
     /// The limit of places.
@@ -34,7 +34,7 @@ pub(crate) struct RowFlown {
 
 // What acts along one axis.
 #[derive(Clone, Copy)]
-struct AxisAir {
+struct AxisForces {
     damping: i64,
     gravity: i64,
 }
@@ -135,49 +135,64 @@ fn flown_by(at: i64, way: i64, loss: i64, pull: i64) -> i64
 
 // One axis of a row.
 #[inline(always)]
-fn fly_axis(air: AxisAir, flies: bool, at: i64, before: i64) -> AxisFlown
-    requires damping { unsigned_abs air.damping ≤ 1024 }
-    requires gravity { unsigned_abs air.gravity ≤ 2 ^ 29 }
+fn fly_axis(forces: AxisForces, flies: bool, at: i64, before: i64) -> AxisFlown
+    requires damping { unsigned_abs forces.damping ≤ 1024 }
+    requires gravity { unsigned_abs forces.gravity ≤ 2 ^ 29 }
     requires at { unsigned_abs at ≤ 2 ^ 29 }
     requires before { unsigned_abs before ≤ 2 ^ 29 }
-    ensures to { result.to ≡ flown_at air.damping air.gravity flies at before }
-    ensures lost { result.lost ≡ loss_at air.damping flies at before }
+    ensures to { result.to ≡ flown_at forces.damping forces.gravity flies at before }
+    ensures lost { result.lost ≡ loss_at forces.damping flies at before }
     ensures to_size { unsigned_abs result.to ≤ 2 ^ 32 }
     ensures lost_size { unsigned_abs result.lost ≤ 2 ^ 30 }
 {
     let way = way_if(flies, at, before);
-    let lost = loss_of(way, air.damping);
-    let pull = pull_if(flies, air.gravity);
+    let lost = loss_of(way, forces.damping);
+    let pull = pull_if(flies, forces.gravity);
     let to = flown_by(at, way, lost, pull);
     AxisFlown { to, lost }
 }
 
-fn air_along(air: Air, gravity: i64) -> AxisAir
-    ensures damping { result.damping ≡ air.damping }
+fn forces_along(forces: Forces, gravity: i64) -> AxisForces
+    ensures damping { result.damping ≡ forces.damping }
     ensures gravity { result.gravity ≡ gravity }
 {
-    AxisAir {
-        damping: air.damping,
+    AxisForces {
+        damping: forces.damping,
         gravity,
     }
 }
 
 /// A row of which the particle flies, or stays.
 #[inline(always)]
-pub(crate) fn fly_row(air: Air, flies: bool, at: Place, before: Place) -> RowFlown
-    requires air { IsSmall air }
+pub(crate) fn fly_row(forces: Forces, flies: bool, at: Place, before: Place) -> RowFlown
+    requires forces { IsSmall forces }
     requires at { Within (2 ^ 29) (place_in_row at) }
     requires before { Within (2 ^ 29) (place_in_row before) }
     requires spare { at.spare ≡ pos 0 }
-    ensures to { result.to ≡ row_of (places_at air.damping air.gravity flies (place_in_row at) (place_in_row before)) }
-    ensures lost { result.lost ≡ losses_at air.damping flies (place_in_row at) (place_in_row before) }
+    ensures to { result.to ≡ row_of (places_at forces.damping forces.gravity flies (place_in_row at) (place_in_row before)) }
+    ensures lost { result.lost ≡ losses_at forces.damping flies (place_in_row at) (place_in_row before) }
     ensures to_size { Within (2 ^ 32) (place_in_row result.to) }
     ensures spare { result.to.spare ≡ pos 0 }
     ensures lost_size { Within (2 ^ 30) result.lost }
 {
-    let x = fly_axis(air_along(air, air.gravity.x), flies, at.x, before.x);
-    let y = fly_axis(air_along(air, air.gravity.y), flies, at.y, before.y);
-    let z = fly_axis(air_along(air, air.gravity.z), flies, at.z, before.z);
+    let x = fly_axis(
+        forces_along(forces, forces.gravity.x),
+        flies,
+        at.x,
+        before.x,
+    );
+    let y = fly_axis(
+        forces_along(forces, forces.gravity.y),
+        flies,
+        at.y,
+        before.y,
+    );
+    let z = fly_axis(
+        forces_along(forces, forces.gravity.z),
+        flies,
+        at.z,
+        before.z,
+    );
     RowFlown {
         to: Place {
             x: x.to,

@@ -12,7 +12,7 @@ ghost use Rattle.pbd_store.specs.Moving.{AreInside};
 ghost use Rattle.pbd_store.specs.Reaching.{Covers};
 
 use crate::columns::Columns;
-use crate::flight::{Air, Flown, RowFlown, fly_row};
+use crate::flight::{Flown, Forces, RowFlown, fly_row};
 use crate::reach::Reach;
 use crate::rows::{Place, PlaceRows};
 use crate::steps::Steps;
@@ -93,17 +93,17 @@ impl Sums {
 
 // Lets the particles that aren't held fly, each in its row.
 #[inline(always)]
-fn fly_rows(air: Air, held: &[bool], at: &mut Vec<Place>, before: &mut Vec<Place>) -> Sums
-    requires air { IsSmall air }
+fn fly_rows(forces: Forces, held: &[bool], at: &mut [Place], before: &mut [Place]) -> Sums
+    requires forces { IsSmall forces }
     requires few { length held.now ≤ 65536 }
-    requires at_long { length held.now ≤ length at.old.items }
-    requires before_long { length held.now ≤ length before.old.items }
-    requires at { (j : ℕ) → j < length held.now → Within (2 ^ 29) (place_in at.old.items j) }
-    requires before { (j : ℕ) → j < length held.now → Within (2 ^ 29) (place_in before.old.items j) }
-    requires spare { (j : ℕ) → j < length held.now → (row_at at.old.items j).spare ≡ pos 0 }
-    ensures rows { WrittenRows air held.now (length held.now) at.old.items before.old.items at.new.items before.new.items }
-    ensures sums { AreSummed air (length held.now) (are_free held.now) (place_in at.old.items) (place_in before.old.items)
-        (place_in at.new.items) result }
+    requires at_long { length held.now ≤ length at.old }
+    requires before_long { length held.now ≤ length before.old }
+    requires at { (j : ℕ) → j < length held.now → Within (2 ^ 29) (place_in at.old j) }
+    requires before { (j : ℕ) → j < length held.now → Within (2 ^ 29) (place_in before.old j) }
+    requires spare { (j : ℕ) → j < length held.now → (row_at at.old j).spare ≡ pos 0 }
+    ensures rows { WrittenRows forces held.now (length held.now) at.old before.old at.new before.new }
+    ensures sums { AreSummed forces (length held.now) (are_free held.now) (place_in at.old) (place_in before.old)
+        (place_in at.new) result }
 {
     // As many as there are flags: said by all three lengths, so that no index needs a test.
     let count = held.len().min(at.len()).min(before.len());
@@ -111,10 +111,10 @@ fn fly_rows(air: Air, held: &[bool], at: &mut Vec<Place>, before: &mut Vec<Place
     for i in 0..count {
         let old = at[i];
         let flies = !held[i];
-        let row = fly_row(air, flies, old, before[i]);
+        let row = fly_row(forces, flies, old, before[i]);
         at[i] = row.to;
         before[i] = old;
-        sums = sums.with(flies, row, air.limit);
+        sums = sums.with(flies, row, forces.limit);
     }
     sums
 }
@@ -122,37 +122,42 @@ fn fly_rows(air: Air, held: &[bool], at: &mut Vec<Place>, before: &mut Vec<Place
 impl PlaceRows {
     /// Lets the particles that aren't held fly, of as many places as there are flags. Their places become those before.
     #[inline(never)]
-    pub(crate) fn fly(&mut self, before: &mut PlaceRows, held: &[bool], air: Air) -> Sums
-        requires air { IsSmall air }
+    pub(crate) fn fly(&mut self, before: &mut PlaceRows, held: &[bool], forces: Forces) -> Sums
+        requires forces { IsSmall forces }
         requires few { length held.now ≤ 65536 }
         requires at_long { length held.now ≤ length self.old }
         requires before_long { length held.now ≤ length before.old }
         requires at { (j : ℕ) → j < length held.now → Within (2 ^ 29) (place_at self.old j) }
         requires before { (j : ℕ) → j < length held.now → Within (2 ^ 29) (place_at before.old j) }
-        ensures at { WrittenFirst (length held.now) (λ j. places_at air.damping air.gravity (not (is_set held.now j))
+        ensures at { WrittenFirst (length held.now) (λ j. places_at forces.damping forces.gravity (not (is_set held.now j))
             (place_at self.old j) (place_at before.old j)) self.old self.new }
         ensures before { WrittenFirst (length held.now) (place_at self.old) before.old before.new }
-        ensures sums { AreSummed air (length held.now) (are_free held.now) (place_at self.old) (place_at before.old)
+        ensures sums { AreSummed forces (length held.now) (are_free held.now) (place_at self.old) (place_at before.old)
             (place_at self.new) result }
     {
-        fly_rows(air, held, &mut self.rows, &mut before.rows)
+        fly_rows(
+            forces,
+            held,
+            self.rows.as_mut_slice(),
+            before.rows.as_mut_slice(),
+        )
     }
 }
 
 impl<const L: usize> Columns<L> {
     /// Lets the free particles fly.
-    pub(crate) fn fly(&mut self, air: Air) -> Sums
+    pub(crate) fn fly(&mut self, forces: Forces) -> Sums
         requires lanes { L ≤ 16 }
-        requires air { IsSmall air }
+        requires forces { IsSmall forces }
         requires at { (i : ℕ) → i < length self.old → Within (2 ^ 29) (particle_at self.old i).at }
         requires before { (i : ℕ) → i < length self.old → Within (2 ^ 29) (particle_at self.old i).before }
         ensures few { length self.old ≤ 65536 }
-        ensures particles { self.new ≡ map (after_flight air) self.old }
-        ensures sums { AreSummed air (length self.old) (λ i. is_free (particle_at self.old i)) (λ i. (particle_at self.old i).at)
-            (λ i. (particle_at self.old i).before) (λ i. (after_flight air (particle_at self.old i)).at) result }
+        ensures particles { self.new ≡ map (after_flight forces) self.old }
+        ensures sums { AreSummed forces (length self.old) (λ i. is_free (particle_at self.old i)) (λ i. (particle_at self.old i).at)
+            (λ i. (particle_at self.old i).before) (λ i. (after_flight forces (particle_at self.old i)).at) result }
     {
         let held = &self.held[..self.count];
-        self.at.fly(&mut self.before, held, air)
+        self.at.fly(&mut self.before, held, forces)
     }
 
     /// The first particle whose place is outside the limit, if there is one, of particles of this reach.
@@ -181,22 +186,22 @@ impl<const L: usize> Columns<L> {
 impl<const L: usize> Store<L> {
     /// Lets the free particles fly: each goes on as far as it came, less what damping takes, and by gravity. The answer is the
     /// number of the first that has left the limit, if there is one.
-    pub fn fly<G: Ledger>(&mut self, air: Air, steps: &mut Steps<G>) -> Result<Flown, u32>
+    pub fn fly<G: Ledger>(&mut self, forces: Forces, steps: &mut Steps<G>) -> Result<Flown, u32>
         requires some_lanes { 0 < L }
         requires lanes { L ≤ 16 }
-        requires air { IsSmall air }
-        requires at { AreInside air.limit self.old.particles }
+        requires forces { IsSmall forces }
+        requires at { AreInside forces.limit self.old.particles }
         requires before { (i : ℕ) → i < length self.old.particles
-            → Within (unsigned_abs air.limit) (particle_at self.old.particles i).before }
-        ensures particles { self.new.particles ≡ map (after_flight air) self.old.particles }
-        ensures outcome { MatchResult result (AllStay air self.old.particles) (LeavesFirst air self.old.particles) }
+            → Within (unsigned_abs forces.limit) (particle_at self.old.particles i).before }
+        ensures particles { self.new.particles ≡ map (after_flight forces) self.old.particles }
+        ensures outcome { MatchResult result (AllStay forces self.old.particles) (LeavesFirst forces self.old.particles) }
         ensures limit { self.new.limit ≡ self.old.limit }
         ensures copies { self.new.copies ≡ self.old.copies }
         ensures cost { steps.new ≡ steps.old + 2 * blocks_of (length self.old.particles) L }
     {
         steps.add(2 * u64::from(self.blocks()));
-        let sums = self.columns.fly(air);
-        if let Err(i) = self.columns.first_outside(sums.reach, air.limit) {
+        let sums = self.columns.fly(forces);
+        if let Err(i) = self.columns.first_outside(sums.reach, forces.limit) {
             return Err(i);
         }
         Ok(Flown {

@@ -7,6 +7,7 @@ mod fly;
 mod lanes3;
 mod laws;
 mod pairs;
+mod pulling;
 mod reach;
 mod rows;
 mod span;
@@ -14,7 +15,7 @@ mod steps;
 mod store;
 
 pub use columns::effective_weight_of;
-pub use flight::{Air, Flown};
+pub use flight::{Flown, Forces};
 pub use lanes3::{Block, Ends, Lanes3};
 pub use laws::valid_particles_are_inside;
 pub use pairs::{Between, EndMoves, Pairs};

@@ -8,6 +8,7 @@ ghost use Rattle.pbd_store.specs.Moving.{fixed_parts, AreInside};
 ghost use Rattle.pbd_store.specs.Pairs.{ArePairs, PairsApart, AreBetween, AreShort, AreMoves, Parted, EachMoved, LeavesAt, OutsideAt, IsWay, row_in, ways_in, opposites_in, first_moves, second_moves, ends_within};
 ghost use Rattle.pbd_store.specs.Reaching.{Covers};
 
+use crate::pulling::{RowMoves, put_ways};
 use crate::reach::Reach;
 use crate::steps::Steps;
 use crate::store::Store;
@@ -99,11 +100,7 @@ impl<const L: usize> Store<L> {
             (particle_at self.now.particles (index_at pairs.entry.first.now j)).at
             (particle_at self.now.particles (index_at pairs.entry.second.now j)).at }
     {
-        for j in 0..pairs.first.len() {
-            let first = self.columns.place_row(pairs.first[j]);
-            let second = self.columns.place_row(pairs.second[j]);
-            between.ways[j] = first.way_from(second);
-        }
+        put_ways(self.columns.place_rows(), pairs, &mut between.ways);
     }
 
     // Takes the effective weights of the ends.
@@ -146,16 +143,8 @@ impl<const L: usize> Store<L> {
         ensures copies { self.new.copies ≡ self.old.copies }
         ensures fixed { fixed_parts self.new.particles ≡ fixed_parts self.old.particles }
     {
-        let limit = self.limit;
-        let mut reach = Reach::NONE;
-        for j in 0..pairs.first.len() {
-            let first = self.columns.place_row(pairs.first[j]).minus(back[j]);
-            self.columns.set_place_row(pairs.first[j], first);
-            let second = self.columns.place_row(pairs.second[j]).plus(forth[j]);
-            self.columns.set_place_row(pairs.second[j], second);
-            reach = reach.with(first, limit).with(second, limit);
-        }
-        reach
+        self.columns
+            .pull(pairs, RowMoves { back, forth }, self.limit)
     }
 
     // The first pair of which an end is outside the limit.

@@ -6,7 +6,7 @@ ghost use Rattle.pbd_lanes.specs.Lane.{is_set, lanes_of};
 ghost use Rattle.pbd_store.specs.Blocks.{place_of};
 ghost use Rattle.pbd_store.specs.Fields.{place_of_kind};
 ghost use Rattle.pbd_store.specs.Gathering.{index_at};
-ghost use Rattle.pbd_store.specs.InRows.{place_in_row, row_of};
+ghost use Rattle.pbd_store.specs.InRows.{place_in_row, places_in, row_of, AreFlat};
 ghost use Rattle.pbd_store.specs.Listed.{place_at};
 ghost use Rattle.pbd_store.specs.Pairs.{IsWay};
 ghost use Rattle.pbd_store.specs.Writing.{WrittenWhere};
@@ -31,7 +31,7 @@ pub(crate) struct Place {
 #[inline(always)]
 fn axis_after(axis: i64, way: i32) -> i64
     requires axis { unsigned_abs axis ≤ 2 ^ 29 }
-    requires way { unsigned_abs way ≤ 2 ^ 16 }
+    requires way { unsigned_abs way ≤ 2 ^ 22 }
     ensures { result ≡ axis +ℤ way }
 {
     axis + i64::from(way)
@@ -41,7 +41,7 @@ fn axis_after(axis: i64, way: i32) -> i64
 #[inline(always)]
 fn axis_before(axis: i64, way: i32) -> i64
     requires axis { unsigned_abs axis ≤ 2 ^ 29 }
-    requires way { unsigned_abs way ≤ 2 ^ 16 }
+    requires way { unsigned_abs way ≤ 2 ^ 22 }
     ensures { result ≡ axis -ℤ way }
 {
     axis - i64::from(way)
@@ -103,7 +103,7 @@ impl Place {
     pub(crate) fn plus(self, way: Row) -> Place
         requires place { Within (2 ^ 29) (place_in_row self) }
         requires spare { self.spare ≡ pos 0 }
-        requires way { Within (2 ^ 16) (vector_of way) }
+        requires way { Within (2 ^ 22) (vector_of way) }
         requires flag { way.flag ≡ pos 0 }
         ensures { result ≡ row_of (plus (place_in_row self) (vector_of way)) }
     {
@@ -120,7 +120,7 @@ impl Place {
     pub(crate) fn minus(self, way: Row) -> Place
         requires place { Within (2 ^ 29) (place_in_row self) }
         requires spare { self.spare ≡ pos 0 }
-        requires way { Within (2 ^ 16) (vector_of way) }
+        requires way { Within (2 ^ 22) (vector_of way) }
         requires flag { way.flag ≡ pos 0 }
         ensures { result ≡ row_of (minus (place_in_row self) (vector_of way)) }
     {
@@ -190,6 +190,28 @@ fn numbers_from<const L: usize>(start: usize) -> [usize; L]
     numbers
 }
 
+/// The row of a place in a list of rows.
+#[inline(always)]
+pub(crate) fn row_in(rows: &[Place], i: u32) -> Place
+    requires some { i < length rows.now }
+    requires flat { AreFlat rows.now }
+    ensures { result ≡ row_of (place_at (places_in rows.now) i) }
+{
+    rows[i as usize]
+}
+
+/// Puts another row into a list of rows.
+#[inline(always)]
+pub(crate) fn put_row(rows: &mut [Place], i: u32, row: Place)
+    requires some { i < length rows.old }
+    requires flat { AreFlat rows.old }
+    requires spare { row.spare ≡ pos 0 }
+    ensures places { places_in rows.new ≡ slice_set (places_in rows.old) i (place_in_row row) }
+    ensures flat { AreFlat rows.new }
+{
+    rows[i as usize] = row;
+}
+
 /// A list of places.
 #[derive(Drop)]
 pub(crate) struct PlaceRows {
@@ -244,15 +266,6 @@ impl PlaceRows {
         self.rows[i].vector()
     }
 
-    /// The row of the place at i.
-    #[inline(always)]
-    pub(crate) fn row(&self, i: usize) -> Place
-        requires { i < length self.now }
-        ensures { result ≡ row_of (place_at self.now i) }
-    {
-        self.rows[i]
-    }
-
     /// Puts another place at i.
     #[inline(always)]
     pub(crate) fn set(&mut self, i: usize, place: Vec3)
@@ -260,16 +273,6 @@ impl PlaceRows {
         ensures { self.new ≡ slice_set self.old i place }
     {
         self.rows[i] = Place::of(place);
-    }
-
-    /// Puts another row at i.
-    #[inline(always)]
-    pub(crate) fn set_row(&mut self, i: usize, row: Place)
-        requires some { i < length self.old }
-        requires spare { row.spare ≡ pos 0 }
-        ensures { self.new ≡ slice_set self.old i (place_in_row row) }
-    {
-        self.rows[i] = row;
     }
 
     #[inline(always)]
@@ -336,6 +339,15 @@ impl PlaceRows {
         for j in 0..L {
             self.set_if(start + j, chosen[j], places.place(j));
         }
+    }
+
+    /// The rows of all places.
+    #[inline(always)]
+    pub(crate) fn rows(&self) -> &[Place]
+        ensures places { places_in result.now ≡ self.now }
+        ensures flat { AreFlat result.now }
+    {
+        self.rows.as_slice()
     }
 
     /// Takes over the places of a list of the same length.

@@ -10,7 +10,7 @@ pub opposite-requires : goal.opposite-requires
 opposite-requires c =
     let f : FitsSigned w64 c.args.weights.first = search rules in
     let is = simp to_z-of_z at c.kept-back.ensures in
-    subst (λ (v : Vec3). Within (2 ^ 61) v) (sym is) (wider _ (2 ^ 16) (2 ^ 61) (omega arith)
+    subst (λ (v : Vec3). Within (2 ^ 61) v) (sym is) (wider _ (2 ^ 22) (2 ^ 61) (omega arith)
     (kept_size_by c.args.weights.first c.args.row c.requires))
 
 pub returns-clause-first : goal.returns-clause-first

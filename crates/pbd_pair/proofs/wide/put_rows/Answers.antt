@@ -4,7 +4,7 @@ use Rattle.std.proofs.lemmas.Bool.{and_parts}
 use Rattle.pbd_near.proofs.Rows.{no_flag}
 use Rattle.pbd_pair.proofs.Chunks.{first_fits, second_fits}
 use Rattle.pbd_pair.proofs.Filling.{filled_as, filled_none, filled_more}
-use Rattle.pbd_pair.proofs.WideRows.{same_row}
+use Rattle.pbd_pair.proofs.WideRows.{rows_tried, same_row}
 use Rattle.pbd_pair.proofs.wide.put_rows.Goals as goal
 
 pub loop-j-init : goal.loop-j-init
@@ -30,10 +30,7 @@ pub wide_row-row-requires-clause-draw : goal.wide_row-row-requires-clause-draw
 wide_row-row-requires-clause-draw c = (c.requires.drawn.each c.loop-j.j (omega arith)).mild
 
 pub returns-clause-tried : goal.returns-clause-tried
-returns-clause-tried c = record {
-  long = omega (arith, c.loop-j.invariant.whole, c.requires.known.few);
-  each = λ j p. (c.loop-j.invariant.below j (omega arith)).near;
-}
+returns-clause-tried c = rows_tried c.requires.known.few (omega arith) c.loop-j.invariant
 
 pub returns-clause-all : goal.returns-clause-all
 returns-clause-all c = λ t j p. (c.loop-j.invariant.below j (omega arith)).flag t

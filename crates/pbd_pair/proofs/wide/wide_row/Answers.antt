@@ -17,8 +17,8 @@ returns-clause-near c = λ b drawn flag.
     let m = c.try_moves-tried.result in
     let both : Vec3 × Vec3 = (m.first, m.second) in
     let f2 : FitsSigned w64 second = search rules in
-    let free = simp to_z-of_z at c.free_move.ensures.free in
-    let held = simp to_z-of_z at c.free_move.ensures.held in
+    let free = simp to_z-of_z at c.free_move-axes.ensures.free in
+    let held = simp to_z-of_z at c.free_move-axes.ensures.held in
     let value = c.row_of.ensures.value flag in
     let exact = c.row_of.ensures.exact flag in
     wide_near first second c.row_of.result m.first m.second c.requires.first_low c.requires.second_low tried.first_held tried.second_held

@@ -6,7 +6,7 @@ use Rattle.pbd_store.proofs.fly.fly_rows.Given as goal
 abbrev pub invariant-loop-i : goal.invariant-loop-i
 invariant-loop-i l = record {
   count : l.count ≡ length l.held;
-  rows : WrittenRows l.fn.air l.held l.i l.initial.at.items l.initial.before.items l.at.items l.before.items;
-  sums : AreSummed l.fn.air l.i (are_free l.held) (place_in l.initial.at.items) (place_in l.initial.before.items)
-      (place_in l.at.items) l.sums;
+  rows : WrittenRows l.fn.forces l.held l.i l.initial.at l.initial.before l.at l.before;
+  sums : AreSummed l.fn.forces l.i (are_free l.held) (place_in l.initial.at) (place_in l.initial.before)
+      (place_in l.at) l.sums;
 }

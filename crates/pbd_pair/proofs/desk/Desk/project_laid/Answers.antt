@@ -1,7 +1,7 @@
 use Rattle.std.proofs.Common.{ℕ, ◌∙◌, length, ap, sym, arith, subst}
 use Rattle.pbd_store.specs.Blocks.{blocks_of}
 use Rattle.pbd_store.specs.Pairs.{ArePairs}
-use Rattle.pbd_pair.proofs.Chunks.{laid_factor, laid_first, laid_pairs, laid_rest, laid_second, lie_between}
+use Rattle.pbd_pair.proofs.Chunks.{laid_factor, laid_first, laid_pairs, laid_portion, laid_rest, laid_second, laid_stiffness, lie_between}
 use Rattle.pbd_pair.proofs.desk.Desk.project_laid.Goals as goal
 
 pub ways-requires : goal.ways-requires
@@ -46,6 +46,12 @@ project-requires g c =
               second_long = laid.laid.even.second_weight ∙ laid.exact;
               rest = laid_rest can laid;
               factor = laid_factor can laid;
+              stiff = record {
+                stiffness_long = laid.laid.even.stiffness ∙ laid.exact;
+                portion_long = laid.laid.even.portion ∙ laid.exact;
+                stiffness = laid_stiffness can laid;
+                portion = laid_portion can laid;
+              };
             },
           ),
         ),

@@ -5,8 +5,8 @@ use Rattle.pbd_num.specs.declared.row.Row.{Row}
 use Rattle.pbd_world.specs.Particles.{particle_at}
 use Rattle.pbd_store.specs.Gathering.{index_at}
 use Rattle.pbd_pair.specs.Laid.{Lists}
-use Rattle.pbd_pair.proofs.Chunks.{are_pairs, ends_kept, known_bonds, laid_factor, laid_first, laid_pairs, laid_rest, laid_second}
-use Rattle.pbd_pair.proofs.Chunks.{lie_between, numbers_laid, taken_first, taken_second, ways_of, weighed}
+use Rattle.pbd_pair.proofs.Chunks.{are_pairs, ends_kept, known_bonds, laid_factor, laid_first, laid_pairs, laid_portion, laid_rest, laid_second}
+use Rattle.pbd_pair.proofs.Chunks.{laid_stiffness, lie_between, numbers_laid, taken_first, taken_second, ways_of, weighed}
 use Rattle.pbd_pair.proofs.desk.Desk.project_numbers.Goals as goal
 
 pub take_ends-requires : goal.take_ends-requires
@@ -86,6 +86,12 @@ project-requires g c =
               second_long = laid.laid.even.second_weight ∙ laid.exact;
               rest = laid_rest can laid;
               factor = laid_factor can laid;
+              stiff = record {
+                stiffness_long = laid.laid.even.stiffness ∙ laid.exact;
+                portion_long = laid.laid.even.portion ∙ laid.exact;
+                stiffness = laid_stiffness can laid;
+                portion = laid_portion can laid;
+              };
             },
           ),
         ),

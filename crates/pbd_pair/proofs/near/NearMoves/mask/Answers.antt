@@ -25,7 +25,7 @@ loop-j-init c = record {
 }
 
 pub with_rows-pins-requires-clause-sum : goal.with_rows-pins-requires-clause-sum
-with_rows-pins-requires-clause-sum c = wider _ (c.loop-j.j * 2 ^ 17) (2 ^ 24) (omega (arith, c.requires.few)) c.loop-j.invariant.size
+with_rows-pins-requires-clause-sum c = wider _ (c.loop-j.j * 2 ^ 23) (2 ^ 30) (omega (arith, c.requires.few)) c.loop-j.invariant.size
 
 pub with_rows-pins-requires-clause-back : goal.with_rows-pins-requires-clause-back
 with_rows-pins-requires-clause-back c =
@@ -67,9 +67,9 @@ loop-j-preserved c =
           (minus_turned (vector_of c.kept-forth.result) (vector_of c.kept-back.result))
           ∙ (λ i. plus (inv.sum i) (plus (opposite (vector_of (back i))) (vector_of (forth i))))
           ∙ ap (moved_below (kept_moves laid.first_weight.now laid.second_weight.now moves)) (sym (add-one j));
-      size = subst (λ (v : Vec3). Within ((j + 1) * 2 ^ 17) v) (sym c.with_rows-pins.ensures)
-          (wider _ (j * 2 ^ 17 + 2 ^ 17) ((j + 1) * 2 ^ 17)
-          (omega arith) (both_within _ (j * 2 ^ 17) inv.size back_size forth_size));
+      size = subst (λ (v : Vec3). Within ((j + 1) * 2 ^ 23) v) (sym c.with_rows-pins.ensures)
+          (wider _ (j * 2 ^ 23 + 2 ^ 23) ((j + 1) * 2 ^ 23)
+          (omega arith) (both_within _ (j * 2 ^ 23) inv.size back_size forth_size));
     }
 
 pub returns-clause-masked : goal.returns-clause-masked
@@ -91,6 +91,6 @@ returns-clause-sum c =
     (omega arith)) i)))
 
 pub returns-clause-size : goal.returns-clause-size
-returns-clause-size c = subst (λ (v : Vec3). Within ((length c.args.found.now.chunk.numbers.now) * 2 ^ 17) v) (sym c.vector.ensures)
-    (wider _ (c.loop-j.j * 2 ^ 17)
-    ((length c.args.found.now.chunk.numbers.now) * 2 ^ 17) (omega arith) c.loop-j.invariant.size)
+returns-clause-size c = subst (λ (v : Vec3). Within ((length c.args.found.now.chunk.numbers.now) * 2 ^ 23) v) (sym c.vector.ensures)
+    (wider _ (c.loop-j.j * 2 ^ 23)
+    ((length c.args.found.now.chunk.numbers.now) * 2 ^ 23) (omega arith) c.loop-j.invariant.size)

@@ -18,5 +18,5 @@ invariant-loop-j l = record {
   forth : Filled no_row (λ (i : ℕ) (r : Row). r ≡ kept_by (number_in l.found.laid.second_weight.now i) (row_in l.initial.self.moves i)) l.j
       l.self.forth;
   sum : vector_of l.pins ≡ moved_below (kept_moves l.found.laid.first_weight.now l.found.laid.second_weight.now l.initial.self.moves) l.j;
-  size : Within (l.j * 2 ^ 17) (vector_of l.pins);
+  size : Within (l.j * 2 ^ 23) (vector_of l.pins);
 }

@@ -5,8 +5,8 @@ use Rattle.pbd_world.specs.Ledger.{ledger_of, added}
 use Rattle.pbd_world.specs.declared.totals.Class.TheVariants as classes
 use Rattle.pbd_world.proofs.Rooms.{room_at}
 use Rattle.pbd_pair.specs.Chunks.{lying_in}
-use Rattle.pbd_pair.proofs.Settled.{apart_asked, back_short, forth_short, free_masked, near_done, near_leaves, nothing_booked, pairs_asked}
-use Rattle.pbd_pair.proofs.Settled.{sized_asked, weighed_asked}
+use Rattle.pbd_pair.proofs.Settled.{apart_asked, back_short, forth_short, free_masked, moved_leaves, near_done, near_moved}
+use Rattle.pbd_pair.proofs.Settled.{nothing_booked, pairs_asked, sized_asked, weighed_asked}
 use Rattle.pbd_pair.proofs.near.NearMoves.pull.Goals as goal
 
 pub pull-requires : goal.pull-requires
@@ -17,8 +17,8 @@ pull-requires g c =
     let some = less _ _ (simp to_z-of_z at c.if-free.true) in
     let masked = free_masked (lying_in c.args.found.now) c.args.self.now.moves c.requires.near.long c.requires.found.first_long some
     c.least_weight-least.ensures.first c.least_weight-least.ensures.second in
-    let back = back_short can found c.requires.near masked in
-    let forth = forth_short can found c.requires.near masked in (
+    let back = back_short can found (near_moved can found c.requires.near masked) in
+    let forth = forth_short can found (near_moved can found c.requires.near masked) in (
       omega arith,
       (
         c.requires.some_lanes,
@@ -35,8 +35,8 @@ returns-in-Err-clause-outcome g c =
     let some = less _ _ (simp to_z-of_z at c.if-free.true) in
     let masked = free_masked (lying_in c.args.found.now) c.args.self.now.moves c.requires.near.long c.requires.found.first_long some
     c.least_weight-least.ensures.first c.least_weight-least.ensures.second in
-    near_leaves c.requires.can c.requires.found c.requires.near masked c.in-Err.ensures.outcome
-    ∙ ap (λ (n : ℕ). Err n) (sym c.left_at.ensures)
+    moved_leaves c.requires.can c.requires.found (near_moved c.requires.can c.requires.found c.requires.near masked)
+    c.in-Err.ensures.outcome ∙ ap (λ (n : ℕ). Err n) (sym c.left_at.ensures)
 
 pub returns-then-free-clause-outcome : goal.returns-then-free-clause-outcome
 returns-then-free-clause-outcome g c =
@@ -66,8 +66,8 @@ pub pull-requires-2 : goal.pull-requires-2
 pull-requires-2 g c =
     let can = c.requires.can in
     let found = c.requires.found in
-    let back = back_short can found c.requires.near c.mask-pins.ensures.masked in
-    let forth = forth_short can found c.requires.near c.mask-pins.ensures.masked in (
+    let back = back_short can found (near_moved can found c.requires.near c.mask-pins.ensures.masked) in
+    let forth = forth_short can found (near_moved can found c.requires.near c.mask-pins.ensures.masked) in (
       omega arith,
       (
         c.requires.some_lanes,
@@ -81,21 +81,21 @@ pull-requires-2 g c =
 pub returns-in-Err-pull-clause-outcome : goal.returns-in-Err-pull-clause-outcome
 returns-in-Err-pull-clause-outcome g c =
     let masked = c.mask-pins.ensures.masked in
-    near_leaves c.requires.can c.requires.found c.requires.near masked c.in-Err-pull.ensures.outcome ∙ ap (λ (n : ℕ). Err n)
-    (sym c.left_at-in-Err-pull.ensures)
+    moved_leaves c.requires.can c.requires.found (near_moved c.requires.can c.requires.found c.requires.near masked)
+    c.in-Err-pull.ensures.outcome ∙ ap (λ (n : ℕ). Err n) (sym c.left_at-in-Err-pull.ensures)
 
 pub returns-clause-outcome : goal.returns-clause-outcome
 returns-clause-outcome g c =
-    let books = c.book_pins.ensures.value ∙ ap (added (ledger_of c.args.totals.now) classes.Pin) c.mask-pins.ensures.sum in
+    let books = c.book_sum.ensures.value ∙ ap (added (ledger_of c.args.totals.now) classes.Pin) c.mask-pins.ensures.sum in
     (near_done c.requires.can c.requires.found c.requires.near c.mask-pins.ensures.masked c.in_default-pull.ensures.outcome books).outcome
 
 pub returns-clause-sound : goal.returns-clause-sound
 returns-clause-sound g c =
-    let books = c.book_pins.ensures.value ∙ ap (added (ledger_of c.args.totals.now) classes.Pin) c.mask-pins.ensures.sum in
+    let books = c.book_sum.ensures.value ∙ ap (added (ledger_of c.args.totals.now) classes.Pin) c.mask-pins.ensures.sum in
     record {
       inside = (near_done c.requires.can c.requires.found c.requires.near c.mask-pins.ensures.masked c.in_default-pull.ensures.outcome
           books).inside;
-      room = λ n h. room_at _ (omega arith) (c.book_pins.ensures.room n _ c.mask-pins.ensures.size h);
+      room = λ n h. room_at _ (omega arith) (c.book_sum.ensures.room n _ c.mask-pins.ensures.size h);
     }
 
 pub least_weight-least-requires-clause-even : goal.least_weight-least-requires-clause-even

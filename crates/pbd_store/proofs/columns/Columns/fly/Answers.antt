@@ -40,18 +40,18 @@ same g c j lt = cut_at c.deref.result.now c.self.inside.count j lt ∙ ap (λ (b
 
 pub invariant_of-self : goal.invariant_of-self
 invariant_of-self g c = record {
-  padded = flown_padded c.self.invariant.padded c.self.view_is c.args.air _ (long g c) (same g c) c.fly.new.self c.fly.new.before
+  padded = flown_padded c.self.invariant.padded c.self.view_is c.args.forces _ (long g c) (same g c) c.fly.new.self c.fly.new.before
       c.fly.ensures.at c.fly.ensures.before;
   long = c.self.invariant.long;
   weighs = c.self.invariant.weighs;
 }
 
 pub returns-clause-particles : goal.returns-clause-particles
-returns-clause-particles g c = flown_listed c.self.invariant.padded c.self.view_is c.args.air _ (long g c) (same g c) c.fly.new.self
+returns-clause-particles g c = flown_listed c.self.invariant.padded c.self.view_is c.args.forces _ (long g c) (same g c) c.fly.new.self
     c.fly.new.before c.fly.ensures.at c.fly.ensures.before
 
 pub returns-clause-sums : goal.returns-clause-sums
-returns-clause-sums g c = flown_summed c.self.invariant.padded c.self.view_is c.args.air _ (long g c) (same g c) c.fly.new.self
+returns-clause-sums g c = flown_summed c.self.invariant.padded c.self.view_is c.args.forces _ (long g c) (same g c) c.fly.new.self
     c.fly.new.before c.fly.ensures.at c.fly.ensures.before c.fly.result c.fly.ensures.sums
 
 pub returns-clause-few : goal.returns-clause-few

@@ -14,18 +14,18 @@ use Rattle.pbd_store.proofs.store.Store.fly.Goals as goal
 
 pub fly-sums-requires : goal.fly-sums-requires
 fly-sums-requires g c =
-    let limit = unsigned_abs c.args.air.limit in
-    let at = subst (λ (s : Stored). AreInside c.args.air.limit s.particles) (sym c.self.view_is) c.requires.at in
+    let limit = unsigned_abs c.args.forces.limit in
+    let at = subst (λ (s : Stored). AreInside c.args.forces.limit s.particles) (sym c.self.view_is) c.requires.at in
     let before = subst (λ (s : Stored). (i : ℕ) → i < length s.particles → Within limit (particle_at s.particles i).before)
     (sym c.self.view_is) c.requires.before in (
       omega arith,
       (
         c.requires.lanes,
         (
-          c.requires.air,
+          c.requires.forces,
           (
-            (λ i lt. wider _ limit (2 ^ 29) c.requires.air.high (at.each i lt)),
-            (λ i lt. wider _ limit (2 ^ 29) c.requires.air.high (before i lt)),
+            (λ i lt. wider _ limit (2 ^ 29) c.requires.forces.high (at.each i lt)),
+            (λ i lt. wider _ limit (2 ^ 29) c.requires.forces.high (before i lt)),
           ),
         ),
       ),
@@ -33,28 +33,28 @@ fly-sums-requires g c =
 
 pub first_outside-requires : goal.first_outside-requires
 first_outside-requires g c =
-    let f = fits c.args.air.limit (omega (arith, c.requires.air.high)) in
+    let f = fits c.args.forces.limit (omega (arith, c.requires.forces.high)) in
     let ps = c.self.inside.columns in
     let qs = c.fly-sums.new.self in
-    let many = flown_long c.args.air ps qs c.fly-sums.ensures.particles in
-    let reach = λ (i : ℕ) (lt : i < length qs). subst (λ (p : Particle). Covers c.fly-sums.result.reach c.args.air.limit p.at)
-    (sym (flown_at_is c.args.air ps qs c.fly-sums.ensures.particles i (omega (arith, lt, many))))
+    let many = flown_long c.args.forces ps qs c.fly-sums.ensures.particles in
+    let reach = λ (i : ℕ) (lt : i < length qs). subst (λ (p : Particle). Covers c.fly-sums.result.reach c.args.forces.limit p.at)
+    (sym (flown_at_is c.args.forces ps qs c.fly-sums.ensures.particles i (omega (arith, lt, many))))
     (c.fly-sums.ensures.sums.reach i (omega (arith, lt, many))) in
-    (omega arith, (c.requires.lanes, (simp to_z-of_z c.requires.air.low, (simp to_z-of_z c.requires.air.high, simp to_z-of_z reach))))
+    (omega arith, (c.requires.lanes, (simp to_z-of_z c.requires.forces.low, (simp to_z-of_z c.requires.forces.high, simp to_z-of_z reach))))
 
 pub returns-in-Err-clause-outcome : goal.returns-in-Err-clause-outcome
 returns-in-Err-clause-outcome g c =
-    let f = fits c.args.air.limit (omega (arith, c.requires.air.high)) in
+    let f = fits c.args.forces.limit (omega (arith, c.requires.forces.high)) in
     let new = c.fly-sums.ensures.particles
-    ∙ ap (λ (s : Stored). map (λ (p : Particle). after_flight c.args.air p) s.particles) c.self.view_is in
+    ∙ ap (λ (s : Stored). map (λ (p : Particle). after_flight c.args.forces p) s.particles) c.self.view_is in
     let outside = simp to_z-of_z at c.in-Err.ensures in
-    one_outside c.args.air c.args.self.now.particles c.fly-sums.new.self new c.in-Err.i outside
+    one_outside c.args.forces c.args.self.now.particles c.fly-sums.new.self new c.in-Err.i outside
 
 pub returns-clause-outcome : goal.returns-clause-outcome
 returns-clause-outcome g c =
-    let f = fits c.args.air.limit (omega (arith, c.requires.air.high)) in
+    let f = fits c.args.forces.limit (omega (arith, c.requires.forces.high)) in
     let new = c.fly-sums.ensures.particles
-    ∙ ap (λ (s : Stored). map (λ (p : Particle). after_flight c.args.air p) s.particles) c.self.view_is in
+    ∙ ap (λ (s : Stored). map (λ (p : Particle). after_flight c.args.forces p) s.particles) c.self.view_is in
     let inside = simp to_z-of_z at c.in_default.ensures in
     let few : length c.args.self.now.particles ≤ 65536 = omega (
       arith,
@@ -62,12 +62,12 @@ returns-clause-outcome g c =
       ap (λ (s : Stored). length s.particles)
           c.self.view_is,
     ) in
-    let sums = subst (λ (s : Stored). AreSummed c.args.air (length s.particles) (λ i. is_free (particle_at s.particles i))
+    let sums = subst (λ (s : Stored). AreSummed c.args.forces (length s.particles) (λ i. is_free (particle_at s.particles i))
     (λ i. (particle_at s.particles i).at) (λ i. (particle_at s.particles i).before)
-    (λ i. (after_flight c.args.air (particle_at s.particles i)).at) c.fly-sums.result) c.self.view_is c.fly-sums.ensures.sums in
+    (λ i. (after_flight c.args.forces (particle_at s.particles i)).at) c.fly-sums.result) c.self.view_is c.fly-sums.ensures.sums in
     let free = fits c.fly-sums.result.free (omega (arith, sums.few, few)) in
     record {
-      within = all_within c.args.air c.args.self.now.particles c.fly-sums.new.self new inside;
+      within = all_within c.args.forces c.args.self.now.particles c.fly-sums.new.self new inside;
       free = simp to_z-of_z sums.free;
       lost = sums.lost;
       few = simp to_z-of_z (omega (arith, sums.few, few));

@@ -1,0 +1,24 @@
+use Rattle.std.proofs.Common.{arith, rules, w32, FitsSigned}
+use Rattle.pbd_pair.proofs.WideRows.{no_flag, tried_more, unflagged_more}
+use Rattle.pbd_pair.proofs.mend.mend.Goals as goal
+
+pub loop-j-init : goal.loop-j-init
+loop-j-init c = record { tried = c.requires.tried; right = λ i h. absurd (omega (arith, h)) }
+
+pub loop-j-preserved : goal.loop-j-preserved
+loop-j-preserved c =
+    let row = c.mended-row.result in
+    let tried = c.loop-j.invariant.tried in
+    let fits : FitsSigned w32 row.flag = search rules in
+    record {
+      tried = tried_more c.loop-j.j row tried (omega arith) c.mended-row.ensures;
+      right = unflagged_more c.loop-j.rows c.loop-j.j row (omega (arith, tried.long)) (no_flag row.flag fits c.if-flagged.false)
+          c.loop-j.invariant.right;
+    }
+
+pub returns-then-flagged-clause-tried : goal.returns-then-flagged-clause-tried
+returns-then-flagged-clause-tried c =
+    tried_more c.loop-j.j c.mended-row.result c.loop-j.invariant.tried (omega arith) c.mended-row.ensures
+
+pub returns-clause-all : goal.returns-clause-all
+returns-clause-all c = λ right j p. c.loop-j.invariant.right j (omega arith)

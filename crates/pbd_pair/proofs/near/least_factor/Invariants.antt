@@ -1,6 +1,0 @@
-use Rattle.std.proofs.Common.{ℕ, ◌<◌, ◌≤ℤ◌}
-use Rattle.pbd_pair.specs.Laid.{number_in}
-use Rattle.pbd_pair.proofs.near.least_factor.Given as goal
-
-abbrev pub invariant-loop-j : goal.invariant-loop-j
-invariant-loop-j l = (i : ℕ) → i < l.j → l.least ≤ℤ number_in l.factors i

@@ -1,0 +1,43 @@
+use Rattle.std.proofs.Common.{◌<◌, length, arith, rules, refl, w32, FitsSigned}
+use Rattle.std.proofs.lemmas.Int.{to_z-of_z}
+use Rattle.std.proofs.lemmas.Bool.{and_parts}
+use Rattle.pbd_near.proofs.Rows.{no_flag}
+use Rattle.pbd_pair.specs.Laid.{number_in}
+use Rattle.pbd_pair.proofs.Chunks.{first_fits, second_fits}
+use Rattle.pbd_pair.proofs.Filling.{filled_as, filled_none, filled_more}
+use Rattle.pbd_pair.proofs.WideRows.{drawn_in_columns, rows_tried, same_row}
+use Rattle.pbd_pair.proofs.wide.put_short_rows.Goals as goal
+
+pub loop-j-init : goal.loop-j-init
+loop-j-init c = filled_none (search rules)
+
+pub wide_row-row-requires-clause-draw : goal.wide_row-row-requires-clause-draw
+wide_row-row-requires-clause-draw c =
+    let weights = c.weights_of-weights.ensures in
+    (drawn_in_columns c.requires.known c.requires.columns c.loop-j.j (omega arith) weights.first weights.second
+    c.are_contacts-contact.ensures c.short_draw-draw.ensures).mild
+
+pub loop-j-preserved : goal.loop-j-preserved
+loop-j-preserved c =
+    let j = c.loop-j.j in
+    let found = c.args.found.now in
+    let columns = c.requires.columns in
+    let p : j < length found.chunk.numbers.now = omega arith in
+    let weights = c.weights_of-weights.ensures in
+    let draw = drawn_in_columns c.requires.known columns j p weights.first weights.second c.are_contacts-contact.ensures
+    c.short_draw-draw.ensures in
+    let f1 : FitsSigned w32 (number_in found.laid.first_weight.now j) = first_fits columns.sized j p in
+    let f2 : FitsSigned w32 (number_in found.laid.second_weight.now j) = second_fits columns.sized j p in
+    let first = simp to_z-of_z at weights.first in
+    let second = simp to_z-of_z at weights.second in
+    let row = c.wide_row-row.ensures in
+    filled_more c.wide_row-row.result (omega (arith, c.requires.known.few)) (record {
+      near = λ f. same_row c.vector.ensures first second refl (row.near _ draw.value f);
+      flag = λ t. no_flag c.wide_row-row.result.flag row.flag (and_parts _ _ t).1;
+    }) (filled_as c.loop-j.invariant (λ i r h. record { near = h.near; flag = λ t. h.flag (and_parts _ _ t).0 }))
+
+pub returns-clause-tried : goal.returns-clause-tried
+returns-clause-tried c = rows_tried c.requires.known.few (omega arith) c.loop-j.invariant
+
+pub returns-clause-all : goal.returns-clause-all
+returns-clause-all c = λ t j p. (c.loop-j.invariant.below j (omega arith)).flag t
