@@ -11,7 +11,7 @@ use Rattle.pbd_chain.specs.Linked.{Linked, is_in, is_linked, chain_at, without}
 use Rattle.pbd_chain.proofs.Walks.{chain_linked, not_linked, in_linked, in_unlinked, any_here, any_found}
 use Rattle.pbd_world.specs.Colours.{pair_at, live_at, is_end, some_below, joins, joined}
 use Rattle.pbd_colour.specs.Pairs.{dropped}
-use Rattle.pbd_colour.specs.Held.{end_at, far_at, before, Holds}
+use Rattle.pbd_colour.specs.Held.{end_at, far_at, Holds}
 use Rattle.pbd_world.proofs.GreedyLemmas.{some_below-decides}
 
 pub even_half : (k : ℕ) → 2 * k / 2 ≡ k
@@ -70,19 +70,21 @@ length-set [] c xs = refl
 length-set (ys ∷ xss) zero xs = refl
 length-set (ys ∷ xss) (suc c) xs = ap suc (length-set xss c xs)
 
-not_below : (i : ℕ) → ltb i i ≡ false
+pub not_below : (i : ℕ) → ltb i i ≡ false
 not_below i = grind (arith, nat_tests)
 
-below_next : (i : ℕ) → ltb i (i + 1) ≡ true
+pub below_next : (i : ℕ) → ltb i (i + 1) ≡ true
 below_next i = lt-ltb i (i + 1) (omega arith)
 
-below_other : (k i : ℕ) → k ≢ i → ltb k i ≡ ltb k (i + 1)
+pub below_other : (k i : ℕ) → k ≢ i → ltb k i ≡ ltb k (i + 1)
 below_other k i ne = grind (arith, nat_tests)
 
-module _ {particles room : ℕ} (i : ℕ) {pairs : List (ℕ × ℕ)} {held : Linked} (h : Holds (before i) particles room pairs held) where
+-- ---- a pair that isn't held is put in
+module _ {particles room : ℕ} (i : ℕ) {pairs : List (ℕ × ℕ)} {held : Linked} {test : ℕ → Bool}
+    (h : Holds test particles room pairs held) (out : test i ≡ false) where
   pub first_free : is_linked held.chains (2 * i) ≡ false
-  first_free = not_linked held.chains (2 * i) (λ c l. h.holds c (2 * i) (omega (arith, h.count, l)) ∙ item_even (before i) pairs i c
-      ∙ rw (not_below i) refl)
+  first_free = not_linked held.chains (2 * i) (λ c l. h.holds c (2 * i) (omega (arith, h.count, l)) ∙ item_even test pairs i c
+      ∙ rw out refl)
 
   second_first : (first : Linked) → (pair_at pairs i).0 < particles
       → first ≡ record held { chains = set held.chains (pair_at pairs i).0 ((2 * i) ∷ chain_at held.chains (pair_at pairs i).0) }
@@ -97,18 +99,20 @@ module _ {particles room : ℕ} (i : ℕ) {pairs : List (ℕ × ℕ)} {held : Li
       let len : length first.chains ≡ length held.chains = ap (λ (q : Linked). length q.chains) e ∙ length-set held.chains _ _ in
       let differ : eqb (2 * i) (2 * i + 1) ≡ false = ne_eqb _ _ (λ s. absurd (omega arith)) in
       let old : is_in (2 * i + 1) (chain_at held.chains c) ≡ false = h.holds c (2 * i + 1) (omega (arith, h.count, len, l))
-      ∙ item_odd (before i) pairs i c ∙ rw (not_below i) refl in
+      ∙ item_odd test pairs i c ∙ rw out refl in
       second_first first la e c (2 * i + 1) ∙ rw (differ, old) (go (eqb (pair_at pairs i).0 c)))
     where
       go : (b : Bool) → ((b && false) || false) ≡ false
       go true = refl
       go false = refl
 
-  pub Holds-more : (first second : Linked) → (pair_at pairs i).0 < particles → (pair_at pairs i).1 < particles
+  -- the test passes pair i from now on, and else what it has passed
+  pub Holds-more : (next : ℕ → Bool) → next i ≡ true → ((k : ℕ) → k ≢ i → test k ≡ next k)
+      → (first second : Linked) → (pair_at pairs i).0 < particles → (pair_at pairs i).1 < particles
       → first ≡ record held { chains = set held.chains (pair_at pairs i).0 ((2 * i) ∷ chain_at held.chains (pair_at pairs i).0) }
       → second ≡ record first { chains = set first.chains (pair_at pairs i).1 ((2 * i + 1) ∷ chain_at first.chains (pair_at pairs i).1) }
-      → Holds (before (i + 1)) particles room pairs second
-  Holds-more first second la lb e f =
+      → Holds next particles room pairs second
+  Holds-more next in_now others first second la lb e f =
       let len : length first.chains ≡ length held.chains = ap (λ (q : Linked). length q.chains) e ∙ length-set held.chains _ _ in
       record {
         items = ap (λ (q : Linked). q.items) f ∙ ap (λ (q : Linked). q.items) e ∙ h.items;
@@ -138,17 +142,17 @@ module _ {particles room : ℕ} (i : ℕ) {pairs : List (ℕ × ℕ)} {held : Li
       rest false false r = refl
 
       go : (p x : ℕ) → Which i x → ((eqb (pair_at pairs i).1 p && eqb (2 * i + 1) x)
-          || ((eqb (pair_at pairs i).0 p && eqb (2 * i) x) || (ltb (x / 2) i && eqb (end_at pairs x) p)))
-          ≡ (ltb (x / 2) (i + 1) && eqb (end_at pairs x) p)
+          || ((eqb (pair_at pairs i).0 p && eqb (2 * i) x) || (test (x / 2) && eqb (end_at pairs x) p)))
+          ≡ (next (x / 2) && eqb (end_at pairs x) p)
       go p x (Even s) = let differ : eqb (2 * i + 1) (2 * i) ≡ false = ne_eqb _ _ (λ t. absurd (omega arith)) in
-          rw (s, differ, eq-eqb (2 * i) (2 * i) refl, end_even pairs i, even_half i, not_below i, below_next i)
+          rw (s, differ, eq-eqb (2 * i) (2 * i) refl, end_even pairs i, even_half i, out, in_now)
           (left (eqb (pair_at pairs i).0 p) (eqb (pair_at pairs i).1 p) (eqb (pair_at pairs i).0 p))
       go p x (Odd s) = let differ : eqb (2 * i) (2 * i + 1) ≡ false = ne_eqb _ _ (λ t. absurd (omega arith)) in
-          rw (s, differ, eq-eqb (2 * i + 1) (2 * i + 1) refl, end_odd pairs i, odd_half i, not_below i, below_next i)
+          rw (s, differ, eq-eqb (2 * i + 1) (2 * i + 1) refl, end_odd pairs i, odd_half i, out, in_now)
           (right (eqb (pair_at pairs i).0 p) (eqb (pair_at pairs i).1 p) (eqb (pair_at pairs i).1 p))
       go p x (Other na nb nk) =
-          rw (ne_eqb (2 * i + 1) x (λ t. nb (sym t)), ne_eqb (2 * i) x (λ t. na (sym t)), below_other (x / 2) i nk)
-          (rest (eqb (pair_at pairs i).0 p) (eqb (pair_at pairs i).1 p) (ltb (x / 2) (i + 1) && eqb (end_at pairs x) p))
+          rw (ne_eqb (2 * i + 1) x (λ t. nb (sym t)), ne_eqb (2 * i) x (λ t. na (sym t)), others (x / 2) nk)
+          (rest (eqb (pair_at pairs i).0 p) (eqb (pair_at pairs i).1 p) (next (x / 2) && eqb (end_at pairs x) p))
 
 -- ---- pairs are taken out
 module _ {particles room : ℕ} (i : ℕ) {pairs : List (ℕ × ℕ)} (live : List Bool) {held : Linked}
@@ -342,3 +346,22 @@ pub record AreGone (particles room : ℕ) (pairs : List (ℕ × ℕ)) (live : Li
   pub gone : (k : ℕ) → k < i → live_at live k ≡ false
   pub size : length live ≡ length pairs
   pub held : Holds (live_at live) particles room pairs chains
+
+-- the flags before place i are those of others
+pub record IsFollowing (particles room : ℕ) (pairs : List (ℕ × ℕ)) (live flags : List Bool) (chains : Linked) (i : ℕ) : Type 0 where
+  pub same : (k : ℕ) → k < i → live_at live k ≡ live_at flags k
+  pub size : length live ≡ length pairs
+  pub held : Holds (live_at live) particles room pairs chains
+
+-- a flag that is set already
+pub set_true : (live : List Bool) (i : ℕ) → live_at live i ≡ true → live ≡ set live i true
+set_true [] i e = refl
+set_true (b ∷ bs) zero e = ap (λ (c : Bool). c ∷ bs) e
+set_true (b ∷ bs) (suc i) e = ap (λ (cs : List Bool). b ∷ cs) (set_true bs i e)
+
+-- setting flag i passes pair i, and else what was passed
+pub set_in : (live : List Bool) (i : ℕ) → i < length live → live_at (set live i true) i ≡ true
+set_in live i l = get_or-set_same live i true false l
+
+pub set_others : (live : List Bool) (i : ℕ) (k : ℕ) → k ≢ i → live_at live k ≡ live_at (set live i true) k
+set_others live i k ne = sym (get_or-set_other live i k true false ne)

@@ -53,6 +53,10 @@ module _ {pairs : List (ℕ × ℕ)} {live : List Bool} {colours numbers starts 
   whole : numbers ≡ by_colour live (colour pairs live) (length pairs) 64
   whole = h.ordered ∙ sym (order_is pairs live)
 
+  -- no more numbers than pairs
+  pub numbers_few : length numbers ≤ length pairs
+  numbers_few = omega (arith, ap length whole, length-by_colour_le live (colour pairs live) (length pairs) 64)
+
   pub starts_ordered : (c : ℕ) → c < 64 → get_or starts c 0 ≤ get_or starts (c + 1) 0
   starts_ordered c l = omega (
     arith,

@@ -11,8 +11,8 @@ ghost use Rattle.pbd_colour.specs.Marked.{AreBlocked};
 ghost use Rattle.pbd_colour.specs.Swept.{ArePainted};
 
 use crate::gather::{gather, open_order};
-use crate::held::{hold_instead, leads};
-use crate::lists::{copy_pairs, fill, open_filled};
+use crate::held::{hold_as, hold_instead, leads};
+use crate::lists::{copy_all, copy_over, fill, open_filled};
 use crate::marks::{open_marks, unmark_all};
 use crate::mend::mend;
 use crate::paint::paint;
@@ -177,7 +177,7 @@ impl Colouring {
             self.live.as_mut_slice(),
             pairs,
         );
-        copy_pairs(&mut self.pairs, pairs);
+        copy_all(&mut self.pairs, pairs);
         tell_all(self.toward.as_mut_slice(), pairs);
         let count = pairs.len() as u32;
         fill(&mut self.live, true, count);
@@ -214,6 +214,23 @@ impl Colouring {
             self.starts.as_mut_slice(),
             sorted,
         );
+    }
+
+    /// Takes over which pairs are live, and their colours, from a colouring of the same pairs. It takes no memory, and as long as
+    /// copying the colours where few flags differ.
+    pub fn copy_from(&mut self, other: &Colouring)
+        requires { self.old.pairs ≡ other.now.pairs }
+        ensures { self.new ≡ record self.old { live = other.now.live } }
+    {
+        hold_as(
+            self.pairs.as_slice(),
+            self.live.as_mut_slice(),
+            &mut self.chains,
+            other.live.as_slice(),
+        );
+        copy_over(&mut self.colours, other.colours.as_slice());
+        copy_over(&mut self.starts, other.starts.as_slice());
+        copy_all(&mut self.order, other.order.as_slice());
     }
 
     /// The colour of a live pair, 0 to 63.

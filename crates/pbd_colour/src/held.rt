@@ -1,5 +1,5 @@
 //! The chains of the pairs of each particle, with an item for each end of a pair.
-ghost use Rattle.std.specs.Prelude.{◌≡◌, ◌+◌, ◌*◌, ◌/◌, ◌<◌, ◌≤◌, ◌==◌, ℕ, List, IsTrue, false, length, slice_index, slice_set};
+ghost use Rattle.std.specs.Prelude.{◌≡◌, ◌+◌, ◌*◌, ◌/◌, ◌<◌, ◌≤◌, ◌==◌, ℕ, List, IsTrue, true, false, length, slice_index, slice_set};
 ghost use Rattle.std.specs.List.{list_any};
 ghost use Rattle.pbd_chain.specs.Linked.{is_in, chain_at};
 ghost use Rattle.pbd_world.specs.Colours.{live_at};
@@ -41,6 +41,72 @@ fn let_go(_pairs: &[(u32, u32)], live: &mut [bool], chains: &mut Chains, i: u32)
     chains.unlink(item);
     chains.unlink(item + 1);
     live[i as usize] = false;
+}
+
+// Sets a pair's flag, and puts its ends into the chains.
+fn hold(pairs: &[(u32, u32)], live: &mut [bool], chains: &mut Chains, i: u32)
+    requires i { i < length pairs.now }
+    requires pairs { InRange (length chains.old.chains) pairs.now }
+    requires length { length live.old ≡ length pairs.now }
+    requires few { length pairs.now ≤ 524288 }
+    requires room { 2 * length pairs.now ≤ chains.old.items }
+    requires held { Holds (live_at live.old) (length chains.old.chains) chains.old.items pairs.now chains.old }
+    ensures live { live.new ≡ slice_set live.old i true }
+    ensures held { Holds (live_at live.new) (length chains.old.chains) chains.old.items pairs.now chains.new }
+{
+    if live[i as usize] {
+        return;
+    }
+    let (a, b) = pairs[i as usize];
+    let item = 2 * i;
+    chains.link_front(a, item);
+    chains.link_front(b, item + 1);
+    live[i as usize] = true;
+}
+
+// What the flag of a pair is to be.
+#[derive(Clone, Copy)]
+struct Change {
+    pair: u32,
+    is_live: bool,
+}
+
+// Gives a pair a flag. Its ends are in the chains where that is set.
+fn set_live(pairs: &[(u32, u32)], live: &mut [bool], chains: &mut Chains, change: Change)
+    requires i { change.pair < length pairs.now }
+    requires pairs { InRange (length chains.old.chains) pairs.now }
+    requires length { length live.old ≡ length pairs.now }
+    requires few { length pairs.now ≤ 524288 }
+    requires room { 2 * length pairs.now ≤ chains.old.items }
+    requires held { Holds (live_at live.old) (length chains.old.chains) chains.old.items pairs.now chains.old }
+    ensures live { live.new ≡ slice_set live.old change.pair change.is_live }
+    ensures held { Holds (live_at live.new) (length chains.old.chains) chains.old.items pairs.now chains.new }
+{
+    if change.is_live {
+        hold(pairs, live, chains, change.pair);
+        return;
+    }
+    let_go(pairs, live, chains, change.pair);
+}
+
+// Gives the pairs other flags. It goes to the chains only where a flag changes.
+pub(crate) fn hold_as(pairs: &[(u32, u32)], live: &mut [bool], chains: &mut Chains, flags: &[bool])
+    requires pairs { InRange (length chains.old.chains) pairs.now }
+    requires length { length live.old ≡ length pairs.now }
+    requires few { length pairs.now ≤ 524288 }
+    requires room { 2 * length pairs.now ≤ chains.old.items }
+    requires held { Holds (live_at live.old) (length chains.old.chains) chains.old.items pairs.now chains.old }
+    requires flags { length flags.now ≡ length pairs.now }
+    ensures live { live.new ≡ flags.now }
+    ensures held { Holds (live_at live.new) (length chains.old.chains) chains.old.items pairs.now chains.new }
+{
+    for i in 0..flags.len() {
+        let change = Change {
+            pair: i as u32,
+            is_live: flags[i],
+        };
+        set_live(pairs, live, chains, change);
+    }
 }
 
 // Takes the flags of the numbers away, and their ends out of the chains.

@@ -30,13 +30,41 @@ pub(crate) fn open_filled<T: Copy>(
     Ok(list)
 }
 
-// Takes the pairs of a slice.
-pub(crate) fn copy_pairs(list: &mut RoomList<(u32, u32)>, pairs: &[(u32, u32)])
-    requires { length pairs.now ≤ list.old.room }
-    ensures { list.new ≡ record list.old { entries = pairs.now } }
+// Empties a list that is longer than so many items.
+fn empty_if_longer<T: Copy>(list: &mut RoomList<T>, count: usize)
+    ensures room { list.new.room ≡ list.old.room }
+    ensures within { length list.new.entries ≤ count }
 {
-    list.clear();
-    for pair in pairs {
-        let _ = list.push(*pair);
+    if count < list.as_slice().len() {
+        list.clear();
     }
+}
+
+// Gives a list the length of a slice.
+fn take_length<T: Copy>(list: &mut RoomList<T>, items: &[T])
+    requires { length items.now ≤ list.old.room }
+    ensures room { list.new.room ≡ list.old.room }
+    ensures length { length list.new.entries ≡ length items.now }
+{
+    empty_if_longer(list, items.len());
+    for i in list.as_slice().len()..items.len() {
+        let _ = list.push(items[i]);
+    }
+}
+
+// Takes the items of a slice. What is as long as before, or longer, is copied at once.
+pub(crate) fn copy_all<T: Copy>(list: &mut RoomList<T>, items: &[T])
+    requires { length items.now ≤ list.old.room }
+    ensures { list.new ≡ record list.old { entries = items.now } }
+{
+    take_length(list, items);
+    copy_over(list, items);
+}
+
+// Takes the items of a slice that is as long as the list.
+pub(crate) fn copy_over<T: Copy>(list: &mut RoomList<T>, items: &[T])
+    requires { length items.now ≡ length list.old.entries }
+    ensures { list.new ≡ record list.old { entries = items.now } }
+{
+    list.as_mut_slice().copy_from_slice(items);
 }

@@ -1,15 +1,17 @@
 // Taking over another state, with the colours of its links.
 ghost use Rattle.std.specs.Prelude.{◌≡◌, ◌+◌, ◌-◌, ◌≤◌, ◌^◌, min, length, IfOk, IsTrue};
 ghost use Rattle.pbd_world.specs.Contacts.{link_pairs, live_flags};
+ghost use Rattle.pbd_world.specs.Valid.{is_valid};
 ghost use Rattle.pbd_colour.specs.Pairs.{InRange};
 ghost use Rattle.pbd_step.specs.declared.state.Setting.{Setting};
 ghost use Rattle.pbd_step.specs.States.{world_of, fixed_links, HasLinks, HaveSpace, KnowsLinks};
 ghost use Rattle.pbd_step.specs.Solving.{AreAlike};
 
-use crate::state::{Scratch, State};
+use crate::state::{Running, Scratch, State};
 use pbd_colour::Colouring;
+use pbd_pair::Projector;
 use pbd_tear::{gone as gone_links, gone_links_are_dead};
-use pbd_world::{Link, RoomList};
+use pbd_world::{Link, Parts, RoomList};
 use std::alloc::{AllocError, Global};
 
 /// Makes a state that of another one, which has as many particles and links and the same limit.
@@ -105,7 +107,7 @@ fn recolour(are_coloured: bool, links: &[Link], colours: &mut Colouring, scratch
     colour_again(links, colours, &mut scratch.pairs, &mut scratch.numbers);
 }
 
-/// Makes a state that of another one, with the colours of its links. They stay laid where the same are live, with the same weights.
+/// Makes a state that of another one, whose links are in no colouring. They stay laid where the same are live, with the same weights.
 pub(crate) fn restore<const L: usize>(
     state: &mut State<L>,
     other: &State<L>,
@@ -140,27 +142,74 @@ pub(crate) fn restore<const L: usize>(
     recolour(are_coloured, &state.links, colours, scratch);
 }
 
-/// The colours of links that are all between so many particles.
-pub(crate) fn open_colours(
-    alloc: Global,
-    particles: u32,
-    links: &[Link],
-    scratch: &mut Scratch,
-) -> Result<Colouring, AllocError>
-    requires particles { particles ≤ 65536 }
-    requires few { length links.now ≤ 524288 }
-    requires in_range { InRange particles (link_pairs links.now) }
-    requires space { HaveSpace particles (length links.now) scratch.old }
-    ensures links { IfOk result (HasLinks particles links.now) }
-    ensures space { HaveSpace particles (length links.now) scratch.new }
-    ensures same { scratch.new ≡ record scratch.old { pairs = scratch.new.pairs; numbers = scratch.new.numbers } }
+/// Whether two lists of flags are the same.
+fn are_same_flags(flags: &[bool], others: &[bool]) -> bool
+    requires { length flags.now ≡ length others.now }
+    ensures { IsTrue result → flags.now ≡ others.now }
 {
-    let mut colours = Colouring::open(alloc, particles, links.len() as u32)?;
-    colour_again(
-        links,
-        &mut colours,
-        &mut scratch.pairs,
-        &mut scratch.numbers,
-    );
+    for i in 0..flags.len() {
+        if flags[i] != others[i] {
+            return false;
+        }
+    }
+    true
+}
+
+/// A colouring takes over the flags and colours of another one of the same pairs, unless it has these flags, and so these colours.
+/// Whether it has them.
+pub(crate) fn take_colours(colours: &mut Colouring, other: &Colouring) -> bool
+    requires { colours.old.pairs ≡ other.now.pairs }
+    ensures taken { colours.new ≡ record colours.old { live = other.now.live } }
+    ensures same { IsTrue result → colours.old.live ≡ other.now.live }
+{
+    if are_same_flags(colours.live(), other.live()) {
+        return true;
+    }
+    colours.copy_from(other);
+    false
+}
+
+/// Makes a running state another one, and takes over the colours of its links. They stay laid where the same are live, with the
+/// same weights.
+pub(crate) fn restore_coloured<const L: usize, P: Projector<L> + Drop>(
+    run: &mut Running<L, P>,
+    other: &State<L>,
+    colours: &Colouring,
+)
+    requires lanes { L ≤ 16 }
+    requires alike { AreAlike run.old.state other.now }
+    requires fixed { fixed_links run.old.state.links.items ≡ fixed_links other.now.links.items }
+    requires mine { HasLinks (length run.old.state.store.particles) run.old.state.links.items run.old.colours }
+    requires others { HasLinks (length other.now.store.particles) other.now.links.items colours.now }
+    requires knows { KnowsLinks run.old.state run.old.scratch }
+    ensures world { (setting : Setting) → world_of setting run.new.state ≡ world_of setting other.now }
+    ensures particles { run.new.state.store.particles ≡ other.now.store.particles }
+    ensures limit { run.new.state.store.limit ≡ other.now.store.limit }
+    ensures copies { run.new.state.store.copies ≡ min (run.old.state.store.copies + 1) (2 ^ 64 - 1) }
+    ensures same_links { run.new.state.links.items ≡ other.now.links.items }
+    ensures weights { run.new.state.weights.items ≡ other.now.weights.items }
+    ensures links { HasLinks (length other.now.store.particles) other.now.links.items run.new.colours }
+    ensures scratch { run.new.scratch ≡ record run.old.scratch { are_links_laid = run.new.scratch.are_links_laid } }
+    ensures knows { KnowsLinks run.new.state run.new.scratch }
+    ensures projector { run.new.projector ≡ run.old.projector }
+{
+    let are_coloured = take_colours(&mut run.colours, colours);
+    let are_weighed = are_same(&run.state.weights, &other.weights);
+    run.scratch.are_links_laid = run.scratch.are_links_laid & are_coloured & are_weighed;
+    take_over(&mut run.state, other);
+}
+
+/// The colours of the links of some parts.
+pub(crate) fn open_colours(alloc: Global, parts: &Parts) -> Result<Colouring, AllocError>
+    requires { IsTrue (is_valid parts.now) }
+    ensures { IfOk result (HasLinks (length parts.now.particles) parts.now.links) }
+{
+    let particles = parts.particles.len() as u32;
+    let links = parts.links.as_slice();
+    let count = links.len() as u32;
+    let mut pairs = RoomList::open(alloc, count)?;
+    let mut gone = RoomList::open(alloc, count)?;
+    let mut colours = Colouring::open(alloc, particles, count)?;
+    colour_again(links, &mut colours, &mut pairs, &mut gone);
     Ok(colours)
 }

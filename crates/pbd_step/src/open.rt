@@ -265,13 +265,12 @@ fn open_coloured(alloc: Global, parts: &Parts) -> Result<(Scratch, Colouring), A
     ensures space { IfOk result (λ both. HaveSpace (length parts.now.particles) (length parts.now.links) both.0) }
     ensures unused { IfOk result (λ both. IsUnused parts.now.links both.0) }
 {
+    let colours = open_colours(alloc, parts)?;
     let particles = parts.particles.len() as u32;
-    let links = parts.links.as_slice();
-    let mut scratch = open_tools(alloc, particles, links)?;
-    match open_colours(alloc, particles, links, &mut scratch) {
-        Ok(colours) => Ok((scratch, colours)),
+    match open_tools(alloc, particles, parts.links.as_slice()) {
+        Ok(scratch) => Ok((scratch, colours)),
         Err(AllocError) => {
-            drop(scratch);
+            drop(colours);
             Err(AllocError)
         }
     }

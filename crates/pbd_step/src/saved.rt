@@ -2,20 +2,22 @@
 ghost use Rattle.std.specs.Prelude.{◌≡◌, ◌+◌, ◌<◌, ◌≤◌, IfOk, length};
 ghost use Rattle.pbd_world.specs.World.{opened, AreOfOneScene, IsSound};
 
-use crate::again::{restore, take_over};
+use crate::again::{open_colours, take_colours, take_over};
 use crate::open::open_kept;
 use crate::state::{Setting, State};
 use crate::{Shown, Solver};
+use pbd_colour::Colouring;
 use pbd_pair::Projector;
 use pbd_world::{Link, Scene};
 use std::alloc::{AllocError, Global};
 use std::marker::Model;
 
-/// A world that a solver was in, without what its steps work with. Only opening takes memory.
+/// A world that a solver was in, with the colours of its links, and without what else its steps work with. Only opening takes memory.
 #[derive(Drop)]
 pub struct Saved<const L: usize> {
     setting: Setting,
     state: State<L>,
+    colours: Colouring,
 }
 
 impl<const L: usize> Model for Saved<L> {
@@ -27,7 +29,7 @@ impl<const L: usize> Model for Saved<L> {
 
     ghost view = { λ s. world_of s.setting s.state };
 
-    ghost invariant = { λ s. IsSaved s.setting s.state };
+    ghost invariant = { λ s. IsSaved s.setting s.state s.colours };
 }
 
 impl<const L: usize> Saved<L> {
@@ -38,13 +40,21 @@ impl<const L: usize> Saved<L> {
         ensures sound { IfOk result (λ saved. IsSound saved) }
     {
         let parts = scene.parts();
+        let colours = open_colours(alloc, parts)?;
         match open_kept(alloc, parts) {
-            Ok((setting, state)) => Ok(Saved { setting, state }),
-            Err(AllocError) => Err(AllocError),
+            Ok((setting, state)) => Ok(Saved {
+                setting,
+                state,
+                colours,
+            }),
+            Err(AllocError) => {
+                drop(colours);
+                Err(AllocError)
+            }
         }
     }
 
-    /// Keeps the world of a solver of one scene. It takes over all particles once.
+    /// Keeps the world of a solver of one scene. It takes over all particles once, and colours only where other links are live.
     pub fn keep<P: Projector<L> + Drop>(&mut self, solver: &Solver<L, P>)
         requires lanes_high { L ≤ 16 }
         requires one_scene { AreOfOneScene self.old solver.now.world }
@@ -52,6 +62,7 @@ impl<const L: usize> Saved<L> {
         ensures sound { IsSound self.new }
     {
         self.setting.gravity = solver.setting.gravity;
+        let _ = take_colours(&mut self.colours, &solver.run.colours);
         take_over(&mut self.state, &solver.run.state);
     }
 
@@ -78,7 +89,8 @@ impl<const L: usize> Saved<L> {
 }
 
 impl<const L: usize, P: Projector<L> + Drop> Solver<L, P> {
-    /// Goes back to the world that was kept of a solver of one scene.
+    /// Goes back to the world that was kept of a solver of one scene. It takes over all particles once, and colours only where other
+    /// links are live.
     pub fn go_back(&mut self, saved: &Saved<L>)
         requires lanes_low { 0 < L }
         requires lanes_high { L ≤ 16 }
@@ -88,12 +100,6 @@ impl<const L: usize, P: Projector<L> + Drop> Solver<L, P> {
         ensures copies { self.new.copies ≤ self.old.copies + 1 }
         ensures sound { IsSound self.new.world }
     {
-        self.setting.gravity = saved.setting.gravity;
-        restore(
-            &mut self.run.state,
-            &saved.state,
-            &mut self.run.colours,
-            &mut self.run.scratch,
-        );
+        self.take_world(&saved.setting, &saved.state, &saved.colours);
     }
 }

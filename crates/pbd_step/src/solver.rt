@@ -7,14 +7,16 @@ ghost use Rattle.pbd_world.specs.Momentum.{momentum as momentum_of};
 ghost use Rattle.pbd_world.specs.Particles.{particle_at};
 ghost use Rattle.pbd_world.specs.Work.{steps_work};
 ghost use Rattle.pbd_world.specs.World.{opened, live_count, IsSound, AreOfOneScene};
-ghost use Rattle.pbd_step.specs.Solving.{bonds_over};
+ghost use Rattle.pbd_step.specs.States.{world_of};
+ghost use Rattle.pbd_step.specs.Solving.{bonds_over, IsSaved};
 ghost use Rattle.pbd_step.specs.Obeying.{Commanded};
 
-use crate::again::restore;
+use crate::again::restore_coloured;
 use crate::commands::{cut, pin, place_held, set_gravity, unpin};
 use crate::open::{open_kept, open_running};
 use crate::state::{Running, Setting, State};
 use crate::step::run_whole;
+use pbd_colour::Colouring;
 use pbd_ledger::momentum;
 use pbd_num::Vec3;
 use pbd_pair::Projector;
@@ -182,13 +184,22 @@ impl<const L: usize, P: Projector<L> + Drop> Solver<L, P> {
         ensures copies { self.new.copies ≤ self.old.copies + 1 }
         ensures sound { IsSound self.new.world }
     {
-        self.setting.gravity = other.setting.gravity;
-        restore(
-            &mut self.run.state,
-            &other.run.state,
-            &mut self.run.colours,
-            &mut self.run.scratch,
-        );
+        self.take_world(&other.setting, &other.run.state, &other.run.colours);
+    }
+
+    /// Takes over a world of one scene, with the colours of its links.
+    pub(crate) fn take_world(&mut self, setting: &Setting, state: &State<L>, colours: &Colouring)
+        requires lanes_low { 0 < L }
+        requires lanes_high { L ≤ 16 }
+        requires saved { IsSaved setting.now state.now colours.now }
+        requires one_scene { AreOfOneScene self.old.world (world_of setting.now state.now) }
+        ensures world { self.new.world ≡ world_of setting.now state.now }
+        ensures projector { self.new.projector ≡ self.old.projector }
+        ensures copies { self.new.copies ≤ self.old.copies + 1 }
+        ensures sound { IsSound self.new.world }
+    {
+        self.setting.gravity = setting.gravity;
+        restore_coloured(&mut self.run, state, colours);
     }
 
     // ---- what is there

@@ -12,7 +12,7 @@ use Rattle.pbd_colour.proofs.colouring.Colouring.refill.Goals as goal
 
 pub invariant_of-self : goal.invariant_of-self
 invariant_of-self c =
-    let pairs : c.copy_pairs.new.list.entries ≡ c.args.pairs.now = ap (λ (r : Roomed (ℕ × ℕ)). r.entries) c.copy_pairs.ensures in
+    let pairs : c.copy_all.new.list.entries ≡ c.args.pairs.now = ap (λ (r : Roomed (ℕ × ℕ)). r.entries) c.copy_all.ensures in
     let live = ap (λ (r : Roomed Bool). r.entries) c.fill.ensures in
     let colours_size : length c.recolour.new.colours ≡ length c.fill-2.new.list.entries = c.recolour.auto.colours
     ∙ ap length c.as_mut_slice-4.ensures.value in
@@ -29,7 +29,7 @@ invariant_of-self c =
     record {
       few = c.self.invariant.few;
       within = omega (arith, ap length pairs, c.requires.fits, ap (λ (s : Coloured). s.room) c.self.view_is);
-      pairs_room = ap (λ (r : Roomed (ℕ × ℕ)). r.room) c.copy_pairs.ensures ∙ c.self.invariant.pairs_room;
+      pairs_room = ap (λ (r : Roomed (ℕ × ℕ)). r.room) c.copy_all.ensures ∙ c.self.invariant.pairs_room;
       live_room = ap (λ (r : Roomed Bool). r.room) c.fill.ensures ∙ c.self.invariant.live_room;
       marks_room = c.unmark_all.ensures.marks_room ∙ c.self.invariant.marks_room;
       blocks_room = c.unmark_all.ensures.blocks_room ∙ c.self.invariant.blocks_room;
@@ -61,7 +61,7 @@ invariant_of-self c =
 pub recolour-requires : goal.recolour-requires
 recolour-requires c =
     let pairs : c.as_slice-2.result.now ≡ c.args.pairs.now = c.as_slice-2.ensures
-    ∙ ap (λ (r : Roomed (ℕ × ℕ)). r.entries) c.copy_pairs.ensures in
+    ∙ ap (λ (r : Roomed (ℕ × ℕ)). r.entries) c.copy_all.ensures in
     let count : length c.args.pairs.now ≡ length c.as_slice-2.result.now = sym (ap length pairs) in
     let live : length c.as_slice-3.result.now ≡ length c.args.pairs.now =
     ap length (c.as_slice-3.ensures ∙ ap (λ (r : Roomed Bool). r.entries) c.fill.ensures)

@@ -1,9 +1,9 @@
-use Rattle.std.proofs.Common.{sym, ap, ◌∙◌, arith, subst}
+use Rattle.std.proofs.Common.{sym, ap, ◌∙◌, arith, subst, length}
 use Rattle.pbd_world.specs.World.{World, IsSound, AreOfOneScene}
 use Rattle.pbd_step.specs.declared.state.Setting.{Setting}
-use Rattle.pbd_step.specs.States.{world_of}
+use Rattle.pbd_step.specs.States.{world_of, HasLinks}
 use Rattle.pbd_step.specs.Solving.{Solved}
-use Rattle.pbd_step.proofs.Keeping.{scene_alike, scene_world, weights_taken}
+use Rattle.pbd_step.proofs.Keeping.{scene_alike, scene_particles, scene_pairs, scene_fixed, scene_world, taken_links, weights_taken}
 use Rattle.pbd_step.proofs.saved.Saved.keep.Goals as goal
 
 pub take_over-requires : goal.take_over-requires
@@ -21,6 +21,16 @@ take_over-requires g c =
       ),
     )
 
+pub take_colours-requires : goal.take_colours-requires
+take_colours-requires g c =
+    let mine = c.self.inside.state in
+    let other = c.solver.inside.run.state in
+    let scene = subst (λ (v : World). AreOfOneScene v (world_of c.solver.inside.setting other)) (sym c.self.view_is)
+    (subst (λ (v : World). AreOfOneScene c.args.self.now v)
+    (sym (ap (λ (s : Solved g.row.P.Denot). s.world) c.solver.view_is)) c.requires.one_scene) in
+    c.self.invariant.links.pairs ∙ scene_pairs c.self.inside.setting c.solver.inside.setting mine other scene
+    ∙ sym c.solver.invariant.links.pairs
+
 pub invariant_of-self : goal.invariant_of-self
 invariant_of-self g c =
     let mine = c.self.inside.state in
@@ -34,6 +44,10 @@ invariant_of-self g c =
       sound = subst (λ (w : World). IsSound w) (sym same) c.solver.invariant.sound;
       weights = weights_taken c.take_over.new.state other c.take_over.ensures.weights c.take_over.ensures.particles
           c.solver.invariant.weights;
+      links = coe 0 1 (i. HasLinks (length (sym c.take_over.ensures.particles i)) (sym c.take_over.ensures.links i)
+          c.take_colours.new.colours) (taken_links c.self.invariant.links c.solver.invariant.links
+          (scene_particles (world_of c.self.inside.setting mine) (world_of c.solver.inside.setting other) scene)
+          (scene_fixed c.self.inside.setting c.solver.inside.setting mine other scene) c.take_colours.ensures.taken);
     }
 
 pub returns-clause-world : goal.returns-clause-world

@@ -1,9 +1,10 @@
-use Rattle.std.proofs.Common.{sym, ap, ◌∙◌, subst}
+use Rattle.std.proofs.Common.{sym, ap, ◌∙◌, subst, length}
 use Rattle.std.specs.Prelude.{IsTrue}
 use Rattle.pbd_world.specs.declared.parts.Parts.{Parts}
 use Rattle.pbd_world.specs.Valid.{is_valid}
 use Rattle.pbd_world.specs.World.{World, IsSound, opened}
 use Rattle.pbd_world.proofs.OpenedLemmas.{opened-is_sound}
+use Rattle.pbd_step.specs.States.{HasLinks}
 use Rattle.pbd_step.proofs.Keeping.{opened_world}
 use Rattle.pbd_step.proofs.saved.Saved.open.Goals as goal
 
@@ -16,6 +17,8 @@ invariant_of-result g c =
           c.in-Ok.ensures.state))
           (opened-is_sound parts valid);
       weights = c.in-Ok.ensures.state.weights;
+      links = coe 0 1 (i. HasLinks (length (sym c.in-Ok.ensures.state.particles i)) (sym c.in-Ok.ensures.state.links i) c.in_ok-colours.colours)
+          c.in_ok-colours.ensures;
     }
 
 pub returns-in-Ok-clause-world : goal.returns-in-Ok-clause-world
@@ -25,3 +28,6 @@ returns-in-Ok-clause-world g c =
 
 pub returns-in-Ok-clause-sound : goal.returns-in-Ok-clause-sound
 returns-in-Ok-clause-sound g c = (invariant_of-result g c).sound
+
+pub open_colours-requires : goal.open_colours-requires
+open_colours-requires g c = subst (λ (p : Parts). IsTrue (is_valid p)) (sym c.parts-parts.ensures.parts) c.parts-parts.ensures.valid
