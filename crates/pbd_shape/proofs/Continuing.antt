@@ -6,13 +6,11 @@ use Rattle.std.proofs.lemmas.List.{at_drop_more, at_drop_all, take_more_set, tak
 use Rattle.pbd_num.specs.declared.Vec3.{Vec3}
 use Rattle.pbd_num.specs.Vectors.{minus, plus, opposite}
 use Rattle.pbd_world.specs.declared.parts.Particle.{Particle}
-use Rattle.pbd_world.specs.declared.parts.Plane.{Plane}
-use Rattle.pbd_world.specs.declared.parts.Sphere.{Sphere}
 use Rattle.pbd_world.specs.declared.totals.Class.TheVariants as classes
 use Rattle.pbd_world.specs.Outcomes.{◌>>=◌, one_more, each_from}
 use Rattle.pbd_world.specs.Ledger.{Ledger, booked}
 use Rattle.pbd_world.specs.Particles.{Motion, Moved, particle_at, no_particle}
-use Rattle.pbd_world.specs.Shapes.{Shape, Way, Shaped, way_through, still, shaped_by, shaped, shapes_of, rubbed}
+use Rattle.pbd_world.specs.Shapes.{Shape, Way, Shaped, way_through, still, shaped_by, shaped, rubbed}
 use Rattle.pbd_world.specs.Step.{Passing, rub}
 use Rattle.pbd_shape.specs.Shaping.{all_pushed, shaped_after, pushed_from}
 use Rattle.pbd_shape.specs.Rubbing.{rubbed_from}
@@ -59,13 +57,13 @@ after_more n s x ss h k =
       touched = flags_more s.touched n x.touched flags k i;
     }
 
-module _ (limit : ℤ) (planes : List Plane) (spheres : List Sphere) where
+module _ (limit : ℤ) (shapes : List Shape) where
   abbrev way : Particle → Option Shaped
-  way p = shaped limit (shapes_of planes spheres) p
+  way p = shaped limit shapes p
 
   -- the first of what is left
   first : (n : ℕ) (s : Passing) → n < length s.motion.particles
-      → pushed_from limit planes spheres n s ≡ (one_more n (way (particle_at s.motion.particles n))
+      → pushed_from limit shapes n s ≡ (one_more n (way (particle_at s.motion.particles n))
       (each_from (n + 1) (λ i p. way p) (drop (n + 1) s.motion.particles)) >>= λ ss. Ok (shaped_after n s ss))
   unfolding pushed_from
   first n s h = at_drop_more (λ (ps : List Particle). each_from n (λ i p. way p) ps >>= λ ss. Ok (shaped_after n s ss)) s.motion.particles n
@@ -73,13 +71,13 @@ module _ (limit : ℤ) (planes : List Plane) (spheres : List Sphere) where
 
   -- where it stays within the limit
   pub pushed_on : (n : ℕ) (s : Passing) (x : Shaped) → n < length s.motion.particles → n < length s.touched
-      → Some x ≡ way (particle_at s.motion.particles n) → pushed_from limit planes spheres (n + 1) (one_shaped n s x)
-      ≡ pushed_from limit planes spheres n s
+      → Some x ≡ way (particle_at s.motion.particles n) → pushed_from limit shapes (n + 1) (one_shaped n s x)
+      ≡ pushed_from limit shapes n s
   unfolding pushed_from
   pushed_on n s x h k e =
       let ps = s.motion.particles in
       let rest = each_from (n + 1) (λ i p. way p) (drop (n + 1) ps) in
-      let keeps : pushed_from limit planes spheres (n + 1) (one_shaped n s x)
+      let keeps : pushed_from limit shapes (n + 1) (one_shaped n s x)
       ≡ (rest >>= λ ss. Ok (shaped_after (n + 1) (one_shaped n s x) ss)) =
       ap (λ (qs : List Particle). each_from (n + 1) (λ i p. way p) qs >>= λ ss. Ok (shaped_after (n + 1) (one_shaped n s x) ss))
       (drop-set-lt (n + 1) ps n x.moved.particle (omega arith)) in
@@ -92,13 +90,13 @@ module _ (limit : ℤ) (planes : List Plane) (spheres : List Sphere) where
 
   -- where it leaves
   pub pushed_out : (n : ℕ) (s : Passing) → n < length s.motion.particles → None ≡ way (particle_at s.motion.particles n)
-      → pushed_from limit planes spheres n s ≡ Err n
+      → pushed_from limit shapes n s ≡ Err n
   pushed_out n s h e = first n s h ∙ ap (λ (o : Option Shaped).
       one_more n o (each_from (n + 1) (λ i p. way p) (drop (n + 1) s.motion.particles)) >>= λ ss. Ok (shaped_after n s ss)) (sym e)
 
   -- where none is left
   pub pushed_all : (n : ℕ) (s : Passing) → length s.motion.particles ≤ n → length s.touched ≤ n
-      → pushed_from limit planes spheres n s ≡ Ok s
+      → pushed_from limit shapes n s ≡ Ok s
   unfolding pushed_from
   pushed_all n s h k =
       let ps = s.motion.particles in
@@ -109,7 +107,7 @@ module _ (limit : ℤ) (planes : List Plane) (spheres : List Sphere) where
             ∙ take_all n s.touched k) i;
       }))
 
-  pub pushed_begins : (s : Passing) → pushed_from limit planes spheres 0 s ≡ all_pushed limit planes spheres s
+  pub pushed_begins : (s : Passing) → pushed_from limit shapes 0 s ≡ all_pushed limit shapes s
   unfolding pushed_from
   pushed_begins s = refl
 

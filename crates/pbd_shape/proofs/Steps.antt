@@ -10,12 +10,10 @@ use Rattle.std.proofs.Math.Bool.{or-true, or-false}
 use Rattle.pbd_num.specs.declared.Vec3.{Vec3}
 use Rattle.pbd_num.specs.Vectors.{Within, zero_vector, plus, minus, opposite}
 use Rattle.pbd_world.specs.declared.parts.Particle.{Particle}
-use Rattle.pbd_world.specs.declared.parts.Plane.{Plane}
-use Rattle.pbd_world.specs.declared.parts.Sphere.{Sphere}
 use Rattle.pbd_world.specs.declared.totals.Class.TheVariants as classes
 use Rattle.pbd_world.specs.Ledger.{Ledger, added, booked}
 use Rattle.pbd_world.specs.Particles.{particle_at}
-use Rattle.pbd_world.specs.Shapes.{Shape, Way, way_through, shaped, shapes_of, stays, rubbed_away, slowed, rubbed}
+use Rattle.pbd_world.specs.Shapes.{Shape, Way, way_through, shaped, stays, rubbed_away, slowed, rubbed}
 use Rattle.pbd_world.specs.Step.{Passing}
 use Rattle.pbd_num.proofs.Sizes.{size_at_most}
 use Rattle.pbd_num.proofs.VectorSizes.{plus_nothing}
@@ -35,12 +33,12 @@ abbrev pub passing : List Particle → Ledger → List Bool → Passing
 passing ps t ts = record { motion = record { particles = ps; totals = t }; touched = ts }
 
 -- the first j lanes of a block are pushed to their places
-pub record Pushing (limit : ℤ) (planes : List Plane) (spheres : List Sphere) (n block j : ℕ) (places : List Vec3) (ps : List Particle)
+pub record Pushing (limit : ℤ) (shapes : List Shape) (n block j : ℕ) (places : List Vec3) (ps : List Particle)
     (t : Ledger) (ts : List Bool) (u : Ledger) (us : List Bool) : Type 0 where
   pub qs : List Particle
   pub saved : Saved j (block * n) (filled_lanes n block ps) (place_in places) (before_of n block ps) ps qs
-  pub same : pushed_from limit planes spheres (block * n + j) (passing qs u us)
-      ≡ pushed_from limit planes spheres (block * n) (passing ps t ts)
+  pub same : pushed_from limit shapes (block * n + j) (passing qs u us)
+      ≡ pushed_from limit shapes (block * n) (passing ps t ts)
 
 -- entries that are booked or not
 pub booked_one : (made : Bool) (t : Ledger) (by : Vec3) → cond made (added t classes.Shape by) t
@@ -53,31 +51,31 @@ pub flagged_one : (now : Bool) (ts : List Bool) (i : ℕ) → cond now (slice_se
 flagged_one true ts i = ap (λ (b : Bool). slice_set ts i b) (sym (or-true (get_or ts i false)))
 flagged_one false ts i = sym (ap (λ (b : Bool). slice_set ts i b) (or-false (get_or ts i false)) ∙ set-get_or ts i false)
 
-module _ (limit : ℤ) (planes : List Plane) (spheres : List Sphere) (n block : ℕ) (ps : List Particle) (t : Ledger) (ts : List Bool) where
-  pub pushing_none : (places : List Vec3) → Pushing limit planes spheres n block 0 places ps t ts t ts
+module _ (limit : ℤ) (shapes : List Shape) (n block : ℕ) (ps : List Particle) (t : Ledger) (ts : List Bool) where
+  pub pushing_none : (places : List Vec3) → Pushing limit shapes n block 0 places ps t ts t ts
   pushing_none places = record {
     qs = ps;
     saved = saved_none _ _ _ _ _;
-    same = ap (λ (k : ℕ). pushed_from limit planes spheres k (passing ps t ts)) (omega arith);
+    same = ap (λ (k : ℕ). pushed_from limit shapes k (passing ps t ts)) (omega arith);
   }
 
-  module _ (j : ℕ) (places : List Vec3) (u : Ledger) (us : List Bool) (h : Pushing limit planes spheres n block j places ps t ts u us)
+  module _ (j : ℕ) (places : List Vec3) (u : Ledger) (us : List Bool) (h : Pushing limit shapes n block j places ps t ts u us)
       (lane : j < n) (lt : block * n + j < length ps) where
     here : particle_at h.qs (block * n + j) ≡ particle_at ps (block * n + j)
     here = saved_not_yet (block * n) (filled_lanes n block ps) (place_in places) (before_of n block ps) ps h.qs j h.saved
 
     -- where the next lane leaves the limit
-    pub pushing_out : None ≡ shaped limit (shapes_of planes spheres) (particle_at ps (block * n + j))
-        → pushed_from limit planes spheres (block * n) (passing ps t ts) ≡ Err (block * n + j)
-    pushing_out e = sym h.same ∙ pushed_out limit planes spheres (block * n + j) (passing h.qs u us) (omega (arith, h.saved.whole))
-        (e ∙ ap (shaped limit (shapes_of planes spheres)) (sym here))
+    pub pushing_out : None ≡ shaped limit shapes (particle_at ps (block * n + j))
+        → pushed_from limit shapes (block * n) (passing ps t ts) ≡ Err (block * n + j)
+    pushing_out e = sym h.same ∙ pushed_out limit shapes (block * n + j) (passing h.qs u us) (omega (arith, h.saved.whole))
+        (e ∙ ap (shaped limit shapes) (sym here))
 
     -- where it stays
     pub pushing_on : (w : Way) (v : Ledger) (vs : List Bool) → length us ≡ length ps → j < length places
-        → Some (shaped_to (particle_at ps (block * n + j)) w) ≡ shaped limit (shapes_of planes spheres) (particle_at ps (block * n + j))
+        → Some (shaped_to (particle_at ps (block * n + j)) w) ≡ shaped limit shapes (particle_at ps (block * n + j))
         → v ≡ cond (not (particle_at ps (block * n + j)).held) (added u classes.Shape (minus w.at (particle_at ps (block * n + j)).at)) u
         → vs ≡ cond w.touched (slice_set us (block * n + j) true) us
-        → Pushing limit planes spheres n block (j + 1) (slice_set places j w.at) ps t ts v vs
+        → Pushing limit shapes n block (j + 1) (slice_set places j w.at) ps t ts v vs
     pushing_on w v vs flags room e ev evs =
         let i = block * n + j in
         let p = particle_at ps i in
@@ -93,44 +91,44 @@ module _ (limit : ℤ) (planes : List Plane) (spheres : List Sphere) (n block : 
         (cond (not (here k).held) ((classes.Shape, minus w.at (here k).at) ∷ []) []))
         ∙ sym (booked_one (not p.held) u (minus w.at p.at)) ∙ sym ev in
         let touched : slice_set us i (get_or us i false || w.touched) ≡ vs = sym (flagged_one w.touched us i) ∙ sym evs in
-        let one : pushed_from limit planes spheres (i + 1) (one_shaped i (passing h.qs u us) x)
-        ≡ pushed_from limit planes spheres i (passing h.qs u us) =
-        pushed_on limit planes spheres i (passing h.qs u us) x (omega (arith, h.saved.whole)) (omega (arith, flags))
-        (ap (λ (q : Particle). Some (shaped_to q w)) here ∙ e ∙ ap (shaped limit (shapes_of planes spheres)) (sym here)) in
+        let one : pushed_from limit shapes (i + 1) (one_shaped i (passing h.qs u us) x)
+        ≡ pushed_from limit shapes i (passing h.qs u us) =
+        pushed_on limit shapes i (passing h.qs u us) x (omega (arith, h.saved.whole)) (omega (arith, flags))
+        (ap (λ (q : Particle). Some (shaped_to q w)) here ∙ e ∙ ap (shaped limit shapes) (sym here)) in
         record {
           qs = slice_set h.qs i x.moved.particle;
           saved = subst (λ (q : Particle). Saved (j + 1) (block * n) (filled_lanes n block ps) next (before_of n block ps) ps
               (slice_set h.qs i q)) put (saved_on (block * n) (filled_lanes n block ps) next
               (before_of n block ps) ps h.qs j saved filled lt);
-          same = (λ k. pushed_from limit planes spheres (block * n + (j + 1))
+          same = (λ k. pushed_from limit shapes (block * n + (j + 1))
               (passing (slice_set h.qs i x.moved.particle) (sym totals k) (sym touched k)))
-              ∙ ap (λ (m : ℕ). pushed_from limit planes spheres m (one_shaped i (passing h.qs u us) x)) (omega arith)
+              ∙ ap (λ (m : ℕ). pushed_from limit shapes m (one_shaped i (passing h.qs u us) x)) (omega arith)
               ∙ one ∙ h.same;
         }
 
   -- once all lanes that have a particle are pushed, whatever has their places is pushed
-  pub pushing_all : (j : ℕ) (places : List Vec3) (u : Ledger) (us : List Bool) → Pushing limit planes spheres n block j places ps t ts u us
+  pub pushing_all : (j : ℕ) (places : List Vec3) (u : Ledger) (us : List Bool) → Pushing limit shapes n block j places ps t ts u us
       → length us ≡ length ps → j ≤ n → (j < n → block * n + j ≡ length ps)
       → (qs : List Particle) → Saved n (block * n) (filled_lanes n block ps) (place_in places) (before_of n block ps) ps qs
-      → pushed_from limit planes spheres (block * n + n) (passing qs u us)
-      ≡ pushed_from limit planes spheres (block * n) (passing ps t ts)
+      → pushed_from limit shapes (block * n + n) (passing qs u us)
+      ≡ pushed_from limit shapes (block * n) (passing ps t ts)
   pushing_all j places u us h flags le last qs saved = elim (cases_lt j n) [
     | inl p ↦ (let whole : block * n + j ≡ length ps = last p in
         let mine = saved_rest (block * n) (filled_lanes n block ps) (place_in places) (before_of n block ps) ps h.qs j n
         (omega arith) le h.saved in
         let both : qs ≡ h.qs = saved_once (block * n) (filled_lanes n block ps) (place_in places)
         (before_of n block ps) ps n qs h.qs saved mine in
-        ap (λ (rs : List Particle). pushed_from limit planes spheres (block * n + n) (passing rs u us)) both
-        ∙ pushed_all limit planes spheres (block * n + n) (passing h.qs u us) (omega (arith, h.saved.whole)) (omega (arith, flags))
-        ∙ sym (pushed_all limit planes spheres (block * n + j) (passing h.qs u us) (omega (arith, h.saved.whole)) (omega (arith, flags)))
+        ap (λ (rs : List Particle). pushed_from limit shapes (block * n + n) (passing rs u us)) both
+        ∙ pushed_all limit shapes (block * n + n) (passing h.qs u us) (omega (arith, h.saved.whole)) (omega (arith, flags))
+        ∙ sym (pushed_all limit shapes (block * n + j) (passing h.qs u us) (omega (arith, h.saved.whole)) (omega (arith, flags)))
         ∙ h.same)
     | inr p ↦ (let whole : j ≡ n = omega arith in
         let mine = subst (λ (m : ℕ). Saved m (block * n) (filled_lanes n block ps) (place_in places) (before_of n block ps) ps h.qs) whole
         h.saved in
         let both : qs ≡ h.qs = saved_once (block * n) (filled_lanes n block ps) (place_in places)
         (before_of n block ps) ps n qs h.qs saved mine in
-        ap (λ (rs : List Particle). pushed_from limit planes spheres (block * n + n) (passing rs u us)) both
-        ∙ ap (λ (m : ℕ). pushed_from limit planes spheres (block * n + m) (passing h.qs u us)) (sym whole)
+        ap (λ (rs : List Particle). pushed_from limit shapes (block * n + n) (passing rs u us)) both
+        ∙ ap (λ (m : ℕ). pushed_from limit shapes (block * n + m) (passing h.qs u us)) (sym whole)
         ∙ h.same)
   ]
 

@@ -16,12 +16,10 @@ use Rattle.pbd_num.proofs.Ranges.{wider}
 use Rattle.pbd_store.specs.Moving.{AreInside}
 use Rattle.pbd_num.proofs.VectorSizes.{plus_nothing}
 use Rattle.pbd_world.specs.declared.parts.Particle.{Particle}
-use Rattle.pbd_world.specs.declared.parts.Plane.{Plane}
-use Rattle.pbd_world.specs.declared.parts.Sphere.{Sphere}
 use Rattle.pbd_world.specs.declared.totals.Class.TheVariants as classes
 use Rattle.pbd_world.specs.Ledger.{Ledger, booked}
 use Rattle.pbd_world.specs.Particles.{particle_at, no_particle}
-use Rattle.pbd_world.specs.Shapes.{Shape, way_through, shaped, shapes_of, rubbed_away}
+use Rattle.pbd_world.specs.Shapes.{Shape, way_through, shaped, rubbed_away}
 use Rattle.pbd_world.specs.Step.{Passing, rub}
 use Rattle.pbd_world.specs.Valid.{is_between}
 use Rattle.pbd_shape.specs.Shaping.{all_pushed, pushed_from}
@@ -63,10 +61,10 @@ shaped_still limit shapes p h = shaped_is limit shapes p (Some (starting p.at)) 
     by true = refl
     by false = sym h
 
-module _ (limit : ℤ) (planes : List Plane) (spheres : List Sphere) (s : Passing)
+module _ (limit : ℤ) (shapes : List Shape) (s : Passing)
     (flags : length s.touched ≡ length s.motion.particles) where
-  one_still : (n : ℕ) → n < length s.motion.particles → IsStill limit (shapes_of planes spheres) (particle_at s.motion.particles n).at
-      → pushed_from limit planes spheres (n + 1) s ≡ pushed_from limit planes spheres n s
+  one_still : (n : ℕ) → n < length s.motion.particles → IsStill limit shapes (particle_at s.motion.particles n).at
+      → pushed_from limit shapes (n + 1) s ≡ pushed_from limit shapes n s
   one_still n lt h =
       let ps = s.motion.particles in
       let p = particle_at ps n in
@@ -78,32 +76,32 @@ module _ (limit : ℤ) (planes : List Plane) (spheres : List Sphere) (s : Passin
         };
         touched = (ap (λ (b : Bool). slice_set s.touched n b) (or-false (get_or s.touched n false)) ∙ set-get_or s.touched n false) i;
       } in
-      ap (λ (t : Passing). pushed_from limit planes spheres (n + 1) t) (sym same)
-      ∙ pushed_on limit planes spheres n s x lt (omega (arith, flags)) (shaped_still limit (shapes_of planes spheres) p h)
+      ap (λ (t : Passing). pushed_from limit shapes (n + 1) t) (sym same)
+      ∙ pushed_on limit shapes n s x lt (omega (arith, flags)) (shaped_still limit shapes p h)
 
   -- particles side by side that no shape moves
   pub pushed_still : (n k : ℕ) → ((j : ℕ) → j < k → n + j < length s.motion.particles
-      → IsStill limit (shapes_of planes spheres) (particle_at s.motion.particles (n + j)).at)
-      → pushed_from limit planes spheres (n + k) s ≡ pushed_from limit planes spheres n s
-  pushed_still n zero h = ap (λ (m : ℕ). pushed_from limit planes spheres m s) (omega arith)
-  pushed_still n (suc k) h = ap (λ (m : ℕ). pushed_from limit planes spheres m s) (omega arith) ∙ last
+      → IsStill limit shapes (particle_at s.motion.particles (n + j)).at)
+      → pushed_from limit shapes (n + k) s ≡ pushed_from limit shapes n s
+  pushed_still n zero h = ap (λ (m : ℕ). pushed_from limit shapes m s) (omega arith)
+  pushed_still n (suc k) h = ap (λ (m : ℕ). pushed_from limit shapes m s) (omega arith) ∙ last
       ∙ pushed_still n k (λ j lt. h j (omega arith))
     where
-      last : pushed_from limit planes spheres (n + k + 1) s ≡ pushed_from limit planes spheres (n + k) s
+      last : pushed_from limit shapes (n + k + 1) s ≡ pushed_from limit shapes (n + k) s
       last = elim (cases_lt (n + k) (length s.motion.particles)) [
         | inl p ↦ one_still (n + k) p (h k (omega arith) p)
-        | inr q ↦ pushed_all limit planes spheres (n + k + 1) s (omega arith) (omega (arith, flags))
-            ∙ sym (pushed_all limit planes spheres (n + k) s q (omega (arith, flags)))
+        | inr q ↦ pushed_all limit shapes (n + k + 1) s (omega arith) (omega (arith, flags))
+            ∙ sym (pushed_all limit shapes (n + k) s q (omega (arith, flags)))
       ]
 
   -- where no shape moves any particle
-  pub all_still : ((i : ℕ) → i < length s.motion.particles → IsStill limit (shapes_of planes spheres) (particle_at s.motion.particles i).at)
-      → all_pushed limit planes spheres s ≡ Ok s
+  pub all_still : ((i : ℕ) → i < length s.motion.particles → IsStill limit shapes (particle_at s.motion.particles i).at)
+      → all_pushed limit shapes s ≡ Ok s
   all_still h =
       let many = length s.motion.particles in
-      sym (pushed_begins limit planes spheres s)
+      sym (pushed_begins limit shapes s)
       ∙ sym (pushed_still 0 many (λ j lt within. h (0 + j) within))
-      ∙ pushed_all limit planes spheres (0 + many) s (omega arith) (omega (arith, flags))
+      ∙ pushed_all limit shapes (0 + many) s (omega arith) (omega (arith, flags))
 
 -- the place in a lane is in the range of both limits, also where there is no particle
 pub lane_within : (n block j : ℕ) (limit : ℤ) (ps : List Particle) {v : Vec3} → unsigned_abs limit ≤ 2 ^ 29 → AreInside limit ps
@@ -115,17 +113,14 @@ lane_within n block j limit ps high inside e = subst (Within (2 ^ 29)) (sym e) (
 ])
 
 -- no shape at all
-no_shapes : (planes : List Plane) (spheres : List Sphere) → length planes + length spheres ≡ 0 → shapes_of planes spheres ≡ []
-no_shapes [] [] e = refl
-no_shapes [] (s ∷ ss) e = absurd (omega (arith, e))
-no_shapes (p ∷ ps) spheres e = absurd (omega (arith, e))
+none_moves : (limit : ℤ) (shapes : List Shape) (at : Vec3) → length shapes ≡ 0 → IsStill limit shapes at
+none_moves limit [] at e = refl
+none_moves limit (shape ∷ shapes) at e = absurd (omega (arith, e))
 
-pub pushed_by_none : (limit : ℤ) (planes : List Plane) (spheres : List Sphere) (s : Passing) → length s.touched ≡ length s.motion.particles
-    → (length planes + length spheres == 0) ≡ true → all_pushed limit planes spheres s ≡ Ok s
-pushed_by_none limit planes spheres s flags none =
-    let shapes : shapes_of planes spheres ≡ [] = no_shapes planes spheres (eqb-true (length planes + length spheres) 0 none) in
-    all_still limit planes spheres s flags (λ i lt. ap (λ (shapes : List Shape).
-    way_through limit shapes (starting (particle_at s.motion.particles i).at)) shapes)
+pub pushed_by_none : (limit : ℤ) (shapes : List Shape) (s : Passing) → length s.touched ≡ length s.motion.particles
+    → (length shapes == 0) ≡ true → all_pushed limit shapes s ≡ Ok s
+pushed_by_none limit shapes s flags none = all_still limit shapes s flags
+    (λ i lt. none_moves limit shapes (particle_at s.motion.particles i).at (eqb-true (length shapes) 0 none))
 
 -- ---- friction
 

@@ -6,20 +6,23 @@ use Rattle.std.proofs.lemmas.Int.{ints}
 use Rattle.std.specs.Ordering.{int_eq}
 use Rattle.std.proofs.lemmas.Bool.{and_parts, or_cases, ltb-true}
 use Rattle.std.proofs.lemmas.Bool.Decides.{nat_tests, Decides-int_eq}
-use Rattle.std.proofs.lemmas.List.{drop_all}
+use Rattle.std.proofs.lemmas.List.{drop_all, length-append, length-map}
+use Rattle.std.proofs.lemmas.List.Elements.{All-from_get_or}
+use Rattle.std.specs.List.{All}
 use Rattle.std.proofs.lemmas.List.Sums.{AllPass-from_list_all}
-use Rattle.pbd_num.specs.Vectors.{is_axis_within}
+use Rattle.pbd_num.specs.Vectors.{is_axis_within, zero_vector}
 use Rattle.pbd_num.proofs.Ranges.{within_facts, axis_fact}
 use Rattle.pbd_num.proofs.Sizes.{size_le, size_above, size_below}
 use Rattle.pbd_world.specs.declared.parts.Particle.{Particle}
 use Rattle.pbd_world.specs.declared.parts.Plane.{Plane}
 use Rattle.pbd_world.specs.declared.parts.Sphere.{Sphere}
-use Rattle.pbd_world.specs.Shapes.{Shape, Way, past, way_through}
+use Rattle.pbd_world.specs.Shapes.{Shape, Way, plane_shape, sphere_shape, shapes_of, past, way_through}
 use Rattle.pbd_world.specs.Particles.{no_particle}
 use Rattle.pbd_world.specs.Valid.{is_limit, is_valid_particle, are_valid_particles, is_valid_plane, are_valid_planes, is_valid_sphere}
 use Rattle.pbd_world.specs.Valid.{are_valid_spheres}
 use Rattle.pbd_shape.specs.Rubbing.{AreWithin}
-use Rattle.pbd_shape.specs.Valid.{IsLimit, IsPlane, IsSphere}
+use Rattle.pbd_shape.specs.declared.shapes.Shapes.{Shapes}
+use Rattle.pbd_shape.specs.Valid.{IsLimit, IsPlane, IsSphere, AreInRange, AreValid}
 
 abbrev pub then_on : (Way → Option Way) → Option Way → Option Way
 then_on f o = elim o [ None ↦ None | Some next ↦ f next ]
@@ -54,6 +57,11 @@ ways_joined limit (x ∷ xs) ys way = after (λ w. ways_joined limit xs ys w) (p
     after h None = refl
     after h (Some w) = h w
 
+-- as many shapes as there are planes and spheres
+pub shape_count : (planes : List Plane) (spheres : List Sphere) → length (shapes_of planes spheres) ≡ length planes + length spheres
+shape_count planes spheres = length-append (map plane_shape planes) (map sphere_shape spheres)
+    ∙ (λ i. length-map planes plane_shape i + length-map spheres sphere_shape i)
+
 -- ---- valid shapes
 
 plane_is : (plane : Plane) → IsTrue (is_valid_plane plane) → IsPlane plane
@@ -69,9 +77,12 @@ plane_is plane h =
     offset_size : (n : ℤ) → IsTrue (is_axis_within (pos (2 ^ 40)) n) → unsigned_abs n ≤ 2 ^ 40
     offset_size n t = axis_fact (pos (2 ^ 40)) n (omega (arith, ints)) t
 
-pub plane_at : (planes : List Plane) (i : ℕ) (d : Plane) → IsTrue (are_valid_planes planes) → i < length planes
-    → IsPlane (get_or planes i d)
-plane_at planes i d h lt = plane_is (get_or planes i d) (AllPass-from_list_all is_valid_plane planes (and_parts _ _ h).1 i d lt)
+planes_are : (planes : List Plane) → IsTrue (are_valid_planes planes) → All IsPlane planes
+planes_are planes h = All-from_get_or IsPlane planes no_plane (λ i lt. plane_is (get_or planes i no_plane)
+    (AllPass-from_list_all is_valid_plane planes (and_parts _ _ h).1 i no_plane lt))
+  where
+    no_plane : Plane
+    no_plane = record { normal = zero_vector; offset = pos 0 }
 
 -- both ends of a reach are in a range, and so is its middle
 middle : (c r : ℤ) (b : ℕ) → unsigned_abs (c +ℤ r) ≤ b → unsigned_abs (c -ℤ r) ≤ b → unsigned_abs c ≤ b
@@ -102,10 +113,19 @@ sphere_is limit s lim h =
     not_below : (r : ℤ) → IsTrue (int_le (pos 1) r) → pos 0 ≤ℤ r
     not_below r t = grind (arith, ints, nat_tests)
 
-pub sphere_at : (limit : ℤ) (spheres : List Sphere) (i : ℕ) (d : Sphere) → IsLimit limit → IsTrue (are_valid_spheres limit spheres)
-    → i < length spheres → IsSphere (get_or spheres i d)
-sphere_at limit spheres i d lim h lt = sphere_is limit (get_or spheres i d) lim
-    (AllPass-from_list_all (is_valid_sphere limit) spheres (and_parts _ _ h).1 i d lt)
+spheres_are : (limit : ℤ) (spheres : List Sphere) → IsLimit limit → IsTrue (are_valid_spheres limit spheres) → All IsSphere spheres
+spheres_are limit spheres lim h = All-from_get_or IsSphere spheres no_sphere (λ i lt. sphere_is limit (get_or spheres i no_sphere) lim
+    (AllPass-from_list_all (is_valid_sphere limit) spheres (and_parts _ _ h).1 i no_sphere lt))
+  where
+    no_sphere : Sphere
+    no_sphere = record { centre = zero_vector; radius = pos 0 }
+
+-- valid shapes are in their ranges
+pub shapes_are : (limit : ℤ) (shapes : Shapes) → IsLimit limit → AreValid limit shapes → AreInRange shapes
+shapes_are limit shapes lim h = record {
+  planes = planes_are shapes.planes.now h.planes;
+  spheres = spheres_are limit shapes.spheres.now lim h.spheres;
+}
 
 -- ---- valid particles
 

@@ -1,26 +1,24 @@
 -- The shape part of a pass.
-use Rattle.std.specs.Prelude.{◌≡◌, ℕ, ◌+◌, ◌*◌, ◌^◌, ◌<◌, ◌≤◌, ◌==◌, ℤ, List, ◌++◌, length, map, zip, fold, take, drop, Bool, ◌||◌, IsTrue}
+use Rattle.std.specs.Prelude.{◌≡◌, ℕ, ◌*◌, ◌^◌, ◌<◌, ◌≤◌, ◌==◌, ℤ, List, ◌++◌, length, map, zip, fold, take, drop, Bool, ◌||◌}
 use Rattle.std.specs.Prelude.{if◌then◌else◌, Result, Ok}
 use Rattle.pbd_world.specs.declared.parts.Particle.{Particle}
-use Rattle.pbd_world.specs.declared.parts.Plane.{Plane}
-use Rattle.pbd_world.specs.declared.parts.Sphere.{Sphere}
 use Rattle.pbd_world.specs.Outcomes.{◌>>=◌, each_from}
 use Rattle.pbd_world.specs.Ledger.{Ledger, booked, HaveRoom}
 use Rattle.pbd_world.specs.Particles.{Moved}
-use Rattle.pbd_world.specs.Shapes.{Shaped, shaped, shapes_of}
+use Rattle.pbd_world.specs.Shapes.{Shape, Shaped, shaped}
 use Rattle.pbd_world.specs.Step.{Passing, all_shaped}
-use Rattle.pbd_world.specs.Valid.{are_valid_planes, are_valid_spheres}
 use Rattle.pbd_store.specs.Blocks.{blocks_of}
 use Rattle.pbd_store.specs.Moving.{AreInside}
+use Rattle.pbd_shape.specs.declared.shapes.Shapes.{Shapes}
+use Rattle.pbd_shape.specs.Valid.{AreValid}
 
 -- particle by particle, up to the first that leaves the limit
-abbrev pub all_pushed : ℤ → List Plane → List Sphere → Passing → Result Passing ℕ
-all_pushed limit planes spheres s = each_from 0
-    (λ i p. shaped limit (shapes_of planes spheres) p) s.motion.particles >>= λ ss. Ok (all_shaped s ss)
+abbrev pub all_pushed : ℤ → List Shape → Passing → Result Passing ℕ
+all_pushed limit shapes s = each_from 0 (λ i p. shaped limit shapes p) s.motion.particles >>= λ ss. Ok (all_shaped s ss)
 
 -- how often the shape part reaches a store at most: twice for each block, where there is a shape
-abbrev pub push_cost : List Plane → List Sphere → ℕ → ℕ
-push_cost planes spheres blocks = if length planes + length spheres == 0 then 0 else 2 * blocks
+abbrev pub push_cost : List Shape → ℕ → ℕ
+push_cost shapes blocks = if length shapes == 0 then 0 else 2 * blocks
 
 -- the same of the particles from n on, while those before n stay as they are
 abbrev pub shaped_after : ℕ → Passing → List Shaped → Passing
@@ -35,18 +33,16 @@ shaped_after n s ss =
           (λ pair. pair.0 || pair.1) (zip (drop n s.touched) (map {A = Shaped} {B = Bool} (λ x. x.touched) ss));
     }
 
-unfoldable pub pushed_from : ℤ → List Plane → List Sphere → ℕ → Passing → Result Passing ℕ
-pushed_from limit planes spheres n s = each_from n
-    (λ i p. shaped limit (shapes_of planes spheres) p) (drop n s.motion.particles) >>= λ ss. Ok (shaped_after n s ss)
+unfoldable pub pushed_from : ℤ → List Shape → ℕ → Passing → Result Passing ℕ
+pushed_from limit shapes n s = each_from n (λ i p. shaped limit shapes p) (drop n s.motion.particles) >>= λ ss. Ok (shaped_after n s ss)
 
 -- what has to hold so that the particles of a block of so many lanes can be pushed
-pub record CanPush (width number : ℕ) (limit : ℤ) (particles : List Particle)
-    (planes : List Plane) (spheres : List Sphere) (touched : List Bool) (totals : Ledger) : Type 0 where
+pub record CanPush (width number : ℕ) (limit : ℤ) (particles : List Particle) (shapes : Shapes) (touched : List Bool)
+    (totals : Ledger) : Type 0 where
   pub lanes_low : 0 < width
   pub lanes_high : width ≤ 16
   pub block : number < blocks_of (length particles) width
-  pub valid_planes : IsTrue (are_valid_planes planes)
-  pub valid_spheres : IsTrue (are_valid_spheres limit spheres)
+  pub valid : AreValid limit shapes
   pub inside : AreInside limit particles
   pub flags : length touched ≡ length particles
   pub room : HaveRoom (2 ^ 125) totals

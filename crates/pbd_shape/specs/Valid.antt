@@ -1,8 +1,11 @@
 -- Planes and spheres in their ranges, as facts.
-use Rattle.std.specs.Prelude.{◌<◌, ◌≤◌, ◌^◌, ℤ, pos, ◌≤ℤ◌, unsigned_abs}
+use Rattle.std.specs.Prelude.{◌<◌, ◌≤◌, ◌^◌, ℤ, pos, ◌≤ℤ◌, unsigned_abs, IsTrue}
+use Rattle.std.specs.List.{All}
 use Rattle.pbd_num.specs.Vectors.{Within, squared_length}
 use Rattle.pbd_world.specs.declared.parts.Plane.{Plane}
 use Rattle.pbd_world.specs.declared.parts.Sphere.{Sphere}
+use Rattle.pbd_world.specs.Valid.{are_valid_planes, are_valid_spheres}
+use Rattle.pbd_shape.specs.declared.shapes.Shapes.{Shapes}
 
 -- a limit of places
 pub record IsLimit (limit : ℤ) : Type 0 where
@@ -20,3 +23,13 @@ pub record IsSphere (sphere : Sphere) : Type 0 where
   pub centre : Within (2 ^ 29) sphere.centre
   pub low : pos 0 ≤ℤ sphere.radius
   pub high : unsigned_abs sphere.radius ≤ 2 ^ 29
+
+-- each shape is in its range
+pub record AreInRange (shapes : Shapes) : Type 0 where
+  pub planes : All IsPlane shapes.planes.now
+  pub spheres : All IsSphere shapes.spheres.now
+
+-- the shapes are valid, as those of a world
+pub record AreValid (limit : ℤ) (shapes : Shapes) : Type 0 where
+  pub planes : IsTrue (are_valid_planes shapes.planes.now)
+  pub spheres : IsTrue (are_valid_spheres limit shapes.spheres.now)

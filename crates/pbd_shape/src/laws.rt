@@ -2,6 +2,7 @@
 ghost use Rattle.std.specs.Prelude.{◌≡◌, ℤ, List, IsTrue};
 ghost use Rattle.pbd_world.specs.declared.parts.Particle.{Particle};
 ghost use Rattle.pbd_world.specs.World.{World};
+ghost use Rattle.pbd_world.specs.Shapes.{shapes_of};
 ghost use Rattle.pbd_world.specs.Step.{Passing, shape_part};
 ghost use Rattle.pbd_world.specs.Valid.{is_limit, are_valid_particles};
 ghost use Rattle.pbd_shape.specs.Shaping.{all_pushed};
@@ -9,7 +10,7 @@ ghost use Rattle.pbd_shape.specs.Rubbing.{AreWithin};
 
 /// The shape part of a pass pushes all particles out of the world's own planes and spheres.
 pub fn shape_parts_push_all()
-    ensures { (w : World) (s : Passing) → shape_part w s ≡ all_pushed w.limit w.planes w.spheres s }
+    ensures { (w : World) (s : Passing) → shape_part w s ≡ all_pushed w.limit (shapes_of w.planes w.spheres) s }
 {}
 
 /// Valid particles are within the limit, now and before.

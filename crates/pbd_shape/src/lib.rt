@@ -6,13 +6,14 @@ mod laws;
 mod plane;
 mod pushing;
 mod rubbing;
+mod shapes;
 mod short;
 mod sphere;
+mod touch;
 mod touched;
-mod touches;
 mod way;
+mod work;
 
 pub use laws::{shape_parts_push_all, valid_particles_are_within};
-pub use pushing::push_out;
-pub use rubbing::rub;
+pub use shapes::Shapes;
 pub use touched::Touched;

@@ -1,11 +1,12 @@
 // What a plane does with a place.
-ghost use Rattle.std.specs.Prelude.{◌≡◌, ◌≤◌, ◌^◌, pos, ◌+ℤ◌, ◌*ℤ◌, ◌<ℤ◌, int_lt, unsigned_abs};
+ghost use Rattle.std.specs.Prelude.{◌≡◌, ◌≤◌, ◌^◌, pos, ◌+ℤ◌, ◌*ℤ◌, ◌<ℤ◌, int_lt, unsigned_abs, false, None};
 ghost use Rattle.pbd_num.specs.Rounding.{rdiv as rounded};
 ghost use Rattle.pbd_num.specs.Vectors.{Within, dot as dot_product};
 ghost use Rattle.pbd_world.specs.Shapes.{plane_shape};
 ghost use Rattle.pbd_shape.specs.Valid.{IsPlane};
 
 use crate::short::short;
+use crate::touch::Touch;
 use pbd_num::{Vec3, rdiv};
 use pbd_world::Plane;
 
@@ -18,7 +19,7 @@ fn product(a: i64, b: i64) -> i64
     short(a) * short(b)
 }
 
-pub(crate) fn dot(n: Vec3, p: Vec3) -> i64
+fn dot(n: Vec3, p: Vec3) -> i64
     requires n { Within (2 ^ 10) n }
     requires p { Within (2 ^ 29) p }
     ensures value { result ≡ dot_product n p }
@@ -39,7 +40,7 @@ fn axis_out(from: i64, lack: i64, axis: i64, square: i64) -> i64
     from + rdiv(lack * axis, square)
 }
 
-pub(crate) fn is_behind(lack: i64) -> bool
+fn is_behind(lack: i64) -> bool
     ensures { result ≡ int_lt (pos 0) lack }
 {
     0 < lack
@@ -47,7 +48,7 @@ pub(crate) fn is_behind(lack: i64) -> bool
 
 /// The place in front of a plane to which it pushes a place behind it, along its normal, and `None` in front of it.
 #[tactic(auto, unfolding(pbd_world::specs::Shapes::plane_shape))]
-pub(crate) fn in_front(plane: Plane, p: Vec3) -> Option<Vec3>
+fn in_front(plane: Plane, p: Vec3) -> Option<Vec3>
     requires plane { IsPlane plane }
     requires place { Within (2 ^ 29) p }
     ensures { result ≡ plane_shape plane p }
@@ -63,4 +64,31 @@ pub(crate) fn in_front(plane: Plane, p: Vec3) -> Option<Vec3>
         y: axis_out(p.y, lack, n.y, square),
         z: axis_out(p.z, lack, n.z, square),
     })
+}
+
+// Whether a place is behind a plane.
+#[tactic(auto, unfolding(pbd_world::specs::Shapes::plane_shape))]
+#[inline(always)]
+fn reaches(plane: Plane, p: Vec3) -> bool
+    requires plane { IsPlane plane }
+    requires place { Within (2 ^ 29) p }
+    ensures { result ≡ false → plane_shape plane p ≡ None }
+{
+    is_behind(plane.offset - dot(plane.normal, p))
+}
+
+impl Touch for Plane {
+    ghost shape = { plane_shape };
+
+    ghost is_in_range = { IsPlane };
+
+    #[inline(always)]
+    fn touches(&self, p: Vec3) -> bool {
+        reaches(*self, p)
+    }
+
+    #[inline(always)]
+    fn push(&self, p: Vec3) -> Option<Vec3> {
+        in_front(*self, p)
+    }
 }

@@ -1,15 +1,17 @@
 // What a sphere does with a place.
-ghost use Rattle.std.specs.Prelude.{◌≡◌, ◌<◌, ◌^◌, pos, int_lt};
+ghost use Rattle.std.specs.Prelude.{◌≡◌, ◌<◌, ◌^◌, pos, int_lt, false, None};
 ghost use Rattle.pbd_num.specs.Vectors.{Within, minus, squared_length, length_of};
 ghost use Rattle.pbd_world.specs.Shapes.{onto_sphere, sphere_shape};
 ghost use Rattle.pbd_shape.specs.Valid.{IsSphere};
 
 use crate::short::short_axes;
+use crate::touch::Touch;
 use pbd_num::{Vec3, square};
 use pbd_world::Sphere;
 
 /// Whether a place is in a sphere. Squares tell it, so that only places that are pay for a root.
-pub(crate) fn holds(sphere: Sphere, p: Vec3) -> bool
+#[inline(always)]
+fn holds(sphere: Sphere, p: Vec3) -> bool
     requires sphere { IsSphere sphere }
     requires place { Within (2 ^ 29) p }
     ensures { result ≡ int_lt (pos (length_of (minus p sphere.centre))) sphere.radius }
@@ -44,7 +46,8 @@ fn onto(sphere: Sphere, p: Vec3) -> Vec3
 /// The place on a sphere to which it pushes a place in it: out from the centre, or straight up from the centre itself.
 /// `None` outside.
 #[tactic(auto, unfolding(pbd_world::specs::Shapes::sphere_shape))]
-pub(crate) fn outside(sphere: Sphere, p: Vec3) -> Option<Vec3>
+#[inline(always)]
+fn outside(sphere: Sphere, p: Vec3) -> Option<Vec3>
     requires sphere { IsSphere sphere }
     requires place { Within (2 ^ 29) p }
     ensures { result ≡ sphere_shape sphere p }
@@ -53,5 +56,32 @@ pub(crate) fn outside(sphere: Sphere, p: Vec3) -> Option<Vec3>
         Some(onto(sphere, p))
     } else {
         None
+    }
+}
+
+// The same test, for places of which only those in the sphere matter.
+#[tactic(auto, unfolding(pbd_world::specs::Shapes::sphere_shape))]
+#[inline(always)]
+fn surrounds(sphere: Sphere, p: Vec3) -> bool
+    requires sphere { IsSphere sphere }
+    requires place { Within (2 ^ 29) p }
+    ensures { result ≡ false → sphere_shape sphere p ≡ None }
+{
+    holds(sphere, p)
+}
+
+impl Touch for Sphere {
+    ghost shape = { sphere_shape };
+
+    ghost is_in_range = { IsSphere };
+
+    #[inline(always)]
+    fn touches(&self, p: Vec3) -> bool {
+        surrounds(*self, p)
+    }
+
+    #[inline(always)]
+    fn push(&self, p: Vec3) -> Option<Vec3> {
+        outside(*self, p)
     }
 }

@@ -154,10 +154,26 @@ scene_fixed setting setting' s t e = ap (λ (w : World). w.links) e
 dead_pairs : (links : List Link) → link_pairs (map {A = Link} {B = Link} (λ l. record l { live = false }) links) ≡ link_pairs links
 dead_pairs links = map-map {A = Link} {B = Link} {C = ℕ × ℕ} (λ l. (l.a, l.b)) (λ l. record l { live = false }) links
 
+pub fixed_pairs : (links others : List Link) → fixed_links links ≡ fixed_links others → link_pairs links ≡ link_pairs others
+fixed_pairs links others e = sym (dead_pairs links) ∙ ap link_pairs e ∙ dead_pairs others
+
 pub scene_pairs : {l : ℕ} (setting setting' : Setting) (s t : State l)
     → AreOfOneScene (world_of setting s) (world_of setting' t) → link_pairs s.links.items ≡ link_pairs t.links.items
 scene_pairs setting setting' s t e =
     sym (dead_pairs s.links.items) ∙ ap (λ (w : World). link_pairs w.links) e ∙ dead_pairs t.links.items
+
+fixed_count : (links others : List Link) → fixed_links links ≡ fixed_links others → length links ≡ length others
+fixed_count links others e = sym (dead_many links) ∙ ap (λ (ls : List Link). length ls) e ∙ dead_many others
+
+-- a colouring of links that has taken over which others are live, of the same pairs, has those
+pub taken_links : {n m : ℕ} {links others : List Link} {mine old new : Coloured} → HasLinks n links mine → HasLinks m others old → n ≡ m
+    → fixed_links links ≡ fixed_links others → new ≡ record mine { live = old.live } → HasLinks m others new
+taken_links {n} {m} {links} {others} h k many fixed is = record {
+  particles = ap (λ (c : Coloured). c.particles) is ∙ h.particles ∙ many;
+  pairs = ap (λ (c : Coloured). c.pairs) is ∙ h.pairs ∙ fixed_pairs links others fixed;
+  live = ap (λ (c : Coloured). c.live) is ∙ k.live;
+  room = omega (arith, h.room, ap (λ (c : Coloured). c.room) is, fixed_count links others fixed);
+}
 
 pub same_alike : {l : ℕ} (s t : State l) (setting : Setting) → s.weights.items ≡ t.weights.items → world_of setting s ≡ world_of setting t
     → AreAlike s t
@@ -198,7 +214,7 @@ kept_moved setting old new kept colours scratch sound weights same alike links s
   alike = alike_join kept old new alike same;
 }
 
-said_room : {n m : ℕ} {scratch : Scratch} (said : Bool) → HaveSpace n m scratch
+pub said_room : {n m : ℕ} {scratch : Scratch} (said : Bool) → HaveSpace n m scratch
     → HaveSpace n m (record scratch { are_links_laid = said })
 said_room said h = record {
   found = h.found;

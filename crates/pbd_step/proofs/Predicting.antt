@@ -18,7 +18,7 @@ use Rattle.pbd_world.specs.Step.{attached, flown, if_within, predicted, predict}
 use Rattle.pbd_world.specs.World.{World, parts_of, IsSound}
 use Rattle.pbd_world.proofs.WorldParts.{formed, limit_of}
 use Rattle.pbd_world.proofs.Rooms.{room_left, room_at}
-use Rattle.pbd_store.specs.declared.flight.Air.{Air}
+use Rattle.pbd_store.specs.declared.flight.Forces.{Forces}
 use Rattle.pbd_store.specs.declared.flight.Flown.{Flown}
 use Rattle.pbd_store.specs.Flying.{losses_at, places_at, pull_at, after_flight, lost_by, stays_in, one_if, sum_below, AllStay, LeavesFirst, IsSmall}
 use Rattle.pbd_step.specs.Predicting.{unled, times}
@@ -27,8 +27,8 @@ use Rattle.pbd_step.proofs.Mild.{sound_mild}
 abbrev pub particles_of : List Moved → List Particle
 particles_of ms = map {A = Moved} {B = Particle} (λ m. m.particle) ms
 
--- the air of a world
-abbrev pub air_of : World → Air
+-- the forces of a world
+abbrev pub air_of : World → Forces
 air_of w = record { damping = w.damping; gravity = w.gravity; limit = w.limit }
 
 -- ---- one particle
@@ -260,9 +260,9 @@ predicted_out w i low inside h =
     ∙ ap (λ (m : ℕ). Err m) (omega arith)
 
 -- what flies weighs what it did
-pub flown_weights : (air : Air) (ps : List Particle) → map effective_weight (map (after_flight air) ps) ≡ map effective_weight ps
-flown_weights air [] = refl
-flown_weights air (p ∷ ps) = ap (λ (ws : List ℕ). effective_weight p ∷ ws) (flown_weights air ps)
+pub flown_weights : (forces : Forces) (ps : List Particle) → map effective_weight (map (after_flight forces) ps) ≡ map effective_weight ps
+flown_weights forces [] = refl
+flown_weights forces (p ∷ ps) = ap (λ (ws : List ℕ). effective_weight p ∷ ws) (flown_weights forces ps)
 
 -- ---- room
 

@@ -35,10 +35,11 @@ pub record AreAlike {l : ℕ} (s t : State l) : Type 0 where
   pub weights : length s.weights.items ≡ length t.weights.items
   pub links : length s.links.items ≡ length t.links.items
 
--- a world that is kept is sound, with the weights of its particles
-pub record IsSaved {l : ℕ} (setting : Setting) (state : State l) : Type 0 where
+-- a world that is kept is sound, with the weights of its particles, and its links are coloured
+pub record IsSaved {l : ℕ} (setting : Setting) (state : State l) (colours : Coloured) : Type 0 where
   pub sound : IsSound (world_of setting state)
   pub weights : AreWeights state
+  pub links : HasLinks (length state.store.particles) state.links.items colours
 
 -- the world is sound, its links are coloured, the scratch have room for it and know its links, and the second state has room
 pub record IsKept {l : ℕ} (setting : Setting) (state kept : State l) (colours : Coloured) (scratch : Scratch) : Type 0 where

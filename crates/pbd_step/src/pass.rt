@@ -15,7 +15,6 @@ use crate::bonds::{BondList, counts, project_all};
 use crate::leaving::leaving;
 use crate::state::{Running, Setting};
 use pbd_pair::{Bonds, Projector};
-use pbd_shape::push_out;
 use pbd_store::Steps;
 use pbd_world::{Left, Phase, Refusal};
 use std::sync::ledger::Ledger;
@@ -121,10 +120,8 @@ fn project_once<const L: usize, P: Projector<L> + Drop, G: Ledger>(
     if let Err(left) = project_contacts(setting.thickness, run, steps) {
         return Err(leaving(taken, Phase::Contact, left));
     }
-    if let Err(left) = push_out(
+    if let Err(left) = setting.shapes().push_out(
         &mut run.state.store,
-        setting.planes.as_slice(),
-        setting.spheres.as_slice(),
         &mut run.scratch.touched,
         &mut run.state.totals,
         steps,

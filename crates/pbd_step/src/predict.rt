@@ -12,7 +12,7 @@ ghost use Rattle.pbd_step.specs.Predicting.{unled, times};
 
 use crate::state::{Setting, State};
 use pbd_num::Vec3;
-use pbd_store::{Air, Steps};
+use pbd_store::{Forces, Steps};
 use pbd_track::place;
 use pbd_world::{Class, Left, Totals};
 use std::sync::ledger::Ledger;
@@ -52,10 +52,10 @@ fn book(totals: &mut Totals, pulled: Vec3, lost: Vec3)
 }
 
 // What acts on particles at the start of a step.
-fn air_within(setting: &Setting, limit: i64) -> Air
+fn forces_within(setting: &Setting, limit: i64) -> Forces
     ensures { result ≡ record { damping = setting.now.damping; gravity = setting.now.gravity; limit = limit } }
 {
-    Air {
+    Forces {
         damping: setting.damping,
         gravity: setting.gravity,
         limit,
@@ -78,8 +78,8 @@ fn advance_all<const L: usize, G: Ledger>(
     ensures room { OnOk result (HaveRoom (2 ^ 100) (ledger_of state.new.totals)) }
     ensures cost { steps.new ≤ steps.old + 2 * blocks_of (length state.old.store.particles) L }
 {
-    let air = air_within(setting, state.store.limit());
-    match state.store.fly(air, steps) {
+    let forces = forces_within(setting, state.store.limit());
+    match state.store.fly(forces, steps) {
         Err(element) => Err(Left { element }),
         Ok(flown) => {
             let pulled = pulled_by(setting.gravity, flown.free);

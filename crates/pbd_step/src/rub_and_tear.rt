@@ -13,7 +13,6 @@ use crate::bonds::are_none;
 use crate::state::{Running, Setting};
 use pbd_colour::Colouring;
 use pbd_pair::Projector;
-use pbd_shape::rub;
 use pbd_store::Steps;
 use pbd_tear::torn as find_torn;
 use pbd_world::Link;
@@ -59,10 +58,9 @@ pub(crate) fn rub_and_tear<const L: usize, P: Projector<L> + Drop, G: Ledger>(
     ensures cost { steps.new ≤ steps.old + settling_work L (world_of setting.now run.old.state) }
 {
     let contacts = run.scratch.found.count();
-    rub(
-        &mut run.state.store,
+    run.scratch.touched.rub(
         setting.friction,
-        &run.scratch.touched,
+        &mut run.state.store,
         &mut run.state.totals,
         steps,
     );

@@ -1,9 +1,11 @@
 // What a solver is made of.
+ghost use Rattle.std.specs.Prelude.{◌≡◌};
+
 use pbd_colour::Colouring;
 use pbd_num::Vec3;
 use pbd_pair::{BondColumns, Projector};
 use pbd_self::SelfContacts;
-use pbd_shape::Touched;
+use pbd_shape::{Shapes, Touched};
 use pbd_store::Store;
 use pbd_world::{Link, List, Plane, RoomList, Sphere, Totals, Track};
 
@@ -19,6 +21,19 @@ pub struct Setting {
     pub(crate) thickness: i64,
     pub(crate) friction: i64,
     pub(crate) opening: [i128; 3],
+}
+
+impl Setting {
+    /// The scene's shapes.
+    pub(crate) fn shapes(&self) -> Shapes<'_>
+        ensures planes { result.planes.now ≡ self.now.planes }
+        ensures spheres { result.spheres.now ≡ self.now.spheres }
+    {
+        Shapes {
+            planes: self.planes.as_slice(),
+            spheres: self.spheres.as_slice(),
+        }
+    }
 }
 
 /// What steps change.

@@ -4,18 +4,16 @@ use Rattle.pbd_world.specs.Ledger.{ledger_of, HaveRoom}
 use Rattle.pbd_world.specs.Step.{Passing, contact_part}
 use Rattle.pbd_world.specs.Valid.{is_limit, is_between, are_valid_planes, are_valid_spheres}
 use Rattle.pbd_world.specs.World.{World, parts_of}
-use Rattle.pbd_world.specs.Work.{contacts_work, shapes_work}
+use Rattle.pbd_world.specs.Work.{contacts_work}
 use Rattle.pbd_world.proofs.WorkLemmas.{pass_is}
 use Rattle.pbd_world.proofs.WorldParts.{formed}
-use Rattle.pbd_store.specs.Blocks.{blocks_of}
-use Rattle.pbd_shape.specs.Shaping.{push_cost}
 use Rattle.pbd_store.specs.Moving.{AreInside}
 use Rattle.pbd_world.proofs.Rooms.{room_at}
 use Rattle.pbd_step.specs.declared.state.State.{State}
 use Rattle.pbd_step.specs.declared.state.Scratch.{Scratch}
 use Rattle.pbd_step.specs.States.{world_of, now_of, IsUnderWay}
 use Rattle.pbd_step.specs.Staying.{passing_of, AreContactsLaid}
-use Rattle.pbd_step.proofs.Passes.{link_leaves, contact_leaves, shape_leaves, pass_done, contact_part_is, shape_part_is}
+use Rattle.pbd_step.proofs.Passes.{link_leaves, contact_leaves, shape_leaves, pass_done, contact_part_is, shape_part_is, shape_cost_is}
 use Rattle.pbd_step.proofs.Staying.{both_in_pass, part_in_pass, still_laid, weights_moved}
 use Rattle.pbd_step.proofs.UnderWay.{movable, more_movable, moved_under_way, moved_world, particles_few, thickness_of, thickness_kept}
 use Rattle.pbd_step.proofs.pass.project_once.Goals as goal
@@ -65,8 +63,8 @@ push_out-requires g c =
     let now = c.project_contacts.new.run.state.store in
     let limit : now.limit ≡ w.limit = second.moved.limit ∙ first.moved.limit in
     let whole : length now.particles ≡ length w.particles = second.moved.whole ∙ first.moved.whole in
-    let planes : IsTrue (are_valid_planes c.as_slice.result.now) = rw c.as_slice.ensures f.planes in
-    let spheres : IsTrue (are_valid_spheres now.limit c.as_slice-2.result.now) = rw (limit, c.as_slice-2.ensures) f.spheres in
+    let planes : IsTrue (are_valid_planes c.shapes.result.planes.now) = rw c.shapes.ensures.planes f.planes in
+    let spheres : IsTrue (are_valid_spheres now.limit c.shapes.result.spheres.now) = rw (limit, c.shapes.ensures.spheres) f.spheres in
     let ready = c.in_default-project_contacts.ensures.done.movable (2 ^ 118 + 2 ^ 60)
     (c.in_default.ensures.done.movable (2 ^ 118) (movable (2 ^ 118) w going.under_way)) in
     let room : HaveRoom (2 ^ 120) (ledger_of c.project_contacts.new.run.state.totals) = room_at (2 ^ 120) (omega arith) ready.room in (
@@ -123,8 +121,8 @@ returns-in-Err-push_out-clause-outcome g c =
     let flags : two.scratch.touched ≡ s.touched = ap (λ (t : Scratch). t.touched)
     (c.project_contacts.ensures.done.scratch ∙ c.project_links.ensures.done.scratch) in
     shape_leaves w pairs s m c.in_default.ensures.done.outcome k touched n
-    (shape_part_is w (record s { motion = k }) two.scratch.touched two.state.store.limit c.as_slice.result.now c.as_slice-2.result.now
-    (Err n) flags limit c.as_slice.ensures c.as_slice-2.ensures c.in-Err-push_out.ensures.outcome)
+    (shape_part_is w (record s { motion = k }) two.scratch.touched two.state.store.limit c.shapes.result.planes.now c.shapes.result.spheres.now
+    (Err n) flags limit c.shapes.ensures.planes c.shapes.ensures.spheres c.in-Err-push_out.ensures.outcome)
     ∙ ap (λ (r : Refusal). Err r) (sym c.leaving-in-Err-push_out.ensures)
 
 pub returns-clause-outcome : goal.returns-clause-outcome
@@ -148,8 +146,8 @@ returns-clause-outcome g c =
     let flags : two.scratch.touched ≡ s.touched = ap (λ (t : Scratch). t.touched)
     (c.project_contacts.ensures.done.scratch ∙ c.project_links.ensures.done.scratch) in
     pass_done w pairs s m c.in_default.ensures.done.outcome k touched t
-    (shape_part_is w (record s { motion = k }) two.scratch.touched two.state.store.limit c.as_slice.result.now c.as_slice-2.result.now
-    (Ok t) flags limit c.as_slice.ensures c.as_slice-2.ensures c.in_default-push_out.ensures.outcome)
+    (shape_part_is w (record s { motion = k }) two.scratch.touched two.state.store.limit c.shapes.result.planes.now c.shapes.result.spheres.now
+    (Ok t) flags limit c.shapes.ensures.planes c.shapes.ensures.spheres c.in_default-push_out.ensures.outcome)
 
 -- ---- what stays
 
@@ -243,10 +241,9 @@ returns-in-Err-push_out-clause-cost g c =
     let contacts : contacts_work (lanes c.project_links.new.run.projector) c.project_links.new.run.scratch.found.pairs
     ≡ contacts_work (lanes run.projector) run.scratch.found.pairs =
     λ i. contacts_work (c.project_links.ensures.done.stays.width i) (c.project_links.ensures.done.scratch i).found.pairs in
-    let shapes : push_cost c.as_slice.result.now c.as_slice-2.result.now (blocks_of (length two.particles) g.row.L)
-    ≡ shapes_work g.row.L w =
-    λ i. push_cost (c.as_slice.ensures i) (c.as_slice-2.ensures i)
-    (blocks_of ((c.project_contacts.ensures.done.stays.moved.whole ∙ c.project_links.ensures.done.stays.moved.whole) i) g.row.L) in
+    let shapes = shape_cost_is g.row.L (length two.particles) w c.shapes.result.planes.now c.shapes.result.spheres.now
+    c.shapes.ensures.planes c.shapes.ensures.spheres
+    (c.project_contacts.ensures.done.stays.moved.whole ∙ c.project_links.ensures.done.stays.moved.whole) in
     omega (
       arith,
       c.project_links.ensures.cost,
@@ -266,10 +263,9 @@ returns-clause-cost g c =
     let contacts : contacts_work (lanes c.project_links.new.run.projector) c.project_links.new.run.scratch.found.pairs
     ≡ contacts_work (lanes run.projector) run.scratch.found.pairs =
     λ i. contacts_work (c.project_links.ensures.done.stays.width i) (c.project_links.ensures.done.scratch i).found.pairs in
-    let shapes : push_cost c.as_slice.result.now c.as_slice-2.result.now (blocks_of (length two.particles) g.row.L)
-    ≡ shapes_work g.row.L w =
-    λ i. push_cost (c.as_slice.ensures i) (c.as_slice-2.ensures i)
-    (blocks_of ((c.project_contacts.ensures.done.stays.moved.whole ∙ c.project_links.ensures.done.stays.moved.whole) i) g.row.L) in
+    let shapes = shape_cost_is g.row.L (length two.particles) w c.shapes.result.planes.now c.shapes.result.spheres.now
+    c.shapes.ensures.planes c.shapes.ensures.spheres
+    (c.project_contacts.ensures.done.stays.moved.whole ∙ c.project_links.ensures.done.stays.moved.whole) in
     omega (
       arith,
       c.project_links.ensures.cost,

@@ -7,7 +7,7 @@ use Rattle.pbd_world.specs.declared.parts.Particle.{Particle}
 use Rattle.pbd_world.specs.Ledger.{Ledger, ledger_of, HaveRoom}
 use Rattle.pbd_world.specs.Particles.{particle_at, effective_weight}
 use Rattle.pbd_world.proofs.Rooms.{room_at}
-use Rattle.pbd_store.specs.declared.flight.Air.{Air}
+use Rattle.pbd_store.specs.declared.flight.Forces.{Forces}
 use Rattle.pbd_store.specs.Flying.{IsSmall, AllStay, LeavesFirst, after_flight}
 use Rattle.pbd_store.specs.Moving.{AreInside}
 use Rattle.pbd_store.proofs.Landed.{flown_long}
@@ -21,8 +21,8 @@ pub fly-requires : goal.fly-requires
 fly-requires g c =
     let w = world_of c.args.setting.now c.args.state.now in
     let f : FitsSigned w64 c.limit.result = record { sfits = c.limit.type_inv } in
-    let made = simp to_z-of_z at c.air_within-air.ensures in
-    let is_air : c.air_within-air.result ≡ air_of w = made
+    let made = simp to_z-of_z at c.forces_within-forces.ensures in
+    let is_air : c.forces_within-forces.result ≡ air_of w = made
     ∙ (λ t. record { damping = w.damping; gravity = w.gravity; limit = c.limit.ensures.value t }) in
     let ps = c.args.state.now.store.particles in
     let inside = formed_within w c.requires.sound.well_formed in
@@ -33,10 +33,10 @@ fly-requires g c =
         (
           c.requires.lanes_high,
           (
-            subst (λ (a : Air). IsSmall a) (sym is_air) (sound_air w c.requires.sound),
+            subst (λ (a : Forces). IsSmall a) (sym is_air) (sound_air w c.requires.sound),
             (
-              subst (λ (a : Air). AreInside a.limit ps) (sym is_air) at,
-              subst (λ (a : Air). (i : ℕ) → i < length ps → Within (unsigned_abs a.limit) (particle_at ps i).before) (sym is_air)
+              subst (λ (a : Forces). AreInside a.limit ps) (sym is_air) at,
+              subst (λ (a : Forces). (i : ℕ) → i < length ps → Within (unsigned_abs a.limit) (particle_at ps i).before) (sym is_air)
                   inside.before,
             ),
           ),
@@ -55,35 +55,35 @@ pub returns-in-Err-clause-outcome : goal.returns-in-Err-clause-outcome
 returns-in-Err-clause-outcome g c =
     let w = world_of c.args.setting.now c.args.state.now in
     let f : FitsSigned w64 c.limit.result = record { sfits = c.limit.type_inv } in
-    let made = simp to_z-of_z at c.air_within-air.ensures in
-    let is_air : c.air_within-air.result ≡ air_of w = made
+    let made = simp to_z-of_z at c.forces_within-forces.ensures in
+    let is_air : c.forces_within-forces.result ≡ air_of w = made
     ∙ (λ t. record { damping = w.damping; gravity = w.gravity; limit = c.limit.ensures.value t }) in
     let ps = c.args.state.now.store.particles in
     let inside = formed_within w c.requires.sound.well_formed in
     predicted_out w c.in-Err.element (sound_air w c.requires.sound).low inside.at
-    (subst (λ (a : Air). LeavesFirst a ps c.in-Err.element) is_air c.in-Err.ensures.outcome)
+    (subst (λ (a : Forces). LeavesFirst a ps c.in-Err.element) is_air c.in-Err.ensures.outcome)
 
 pub returns-in-Err-clause-moved : goal.returns-in-Err-clause-moved
 returns-in-Err-clause-moved g c =
     let ps = c.args.state.now.store.particles in
-    let air = c.air_within-air.result in
+    let forces = c.forces_within-forces.result in
     record {
       same = refl;
       limit = c.fly.ensures.limit;
       copies = c.fly.ensures.copies;
-      whole = flown_long air ps c.fly.new.self.particles c.fly.ensures.particles;
-      weights = ap (λ (qs : List Particle). map effective_weight qs) c.fly.ensures.particles ∙ flown_weights air ps;
+      whole = flown_long forces ps c.fly.new.self.particles c.fly.ensures.particles;
+      weights = ap (λ (qs : List Particle). map effective_weight qs) c.fly.ensures.particles ∙ flown_weights forces ps;
     }
 
 pub returns-in-Ok-clause-outcome : goal.returns-in-Ok-clause-outcome
 returns-in-Ok-clause-outcome g c =
     let w = world_of c.args.setting.now c.args.state.now in
     let f : FitsSigned w64 c.limit.result = record { sfits = c.limit.type_inv } in
-    let made = simp to_z-of_z at c.air_within-air.ensures in
-    let is_air : c.air_within-air.result ≡ air_of w = made
+    let made = simp to_z-of_z at c.forces_within-forces.ensures in
+    let is_air : c.forces_within-forces.result ≡ air_of w = made
     ∙ (λ t. record { damping = w.damping; gravity = w.gravity; limit = c.limit.ensures.value t }) in
     let ps = c.args.state.now.store.particles in
-    let stay = subst (λ (a : Air). AllStay a ps c.in-Ok.flown) is_air c.in-Ok.ensures.outcome in
+    let stay = subst (λ (a : Forces). AllStay a ps c.in-Ok.flown) is_air c.in-Ok.ensures.outcome in
     let free = fits c.in-Ok.flown.free (omega (arith, stay.few)) in
     let pulled = simp to_z-of_z at c.pulled_by-pulled.ensures.value in
     let particles = c.fly.ensures.particles ∙ (λ t. map (λ (p : Particle). after_flight (is_air t) p) ps) in
@@ -93,13 +93,13 @@ returns-in-Ok-clause-outcome g c =
 pub returns-in-Ok-clause-moved : goal.returns-in-Ok-clause-moved
 returns-in-Ok-clause-moved g c =
     let ps = c.args.state.now.store.particles in
-    let air = c.air_within-air.result in
+    let forces = c.forces_within-forces.result in
     record {
       same = refl;
       limit = c.fly.ensures.limit;
       copies = c.fly.ensures.copies;
-      whole = flown_long air ps c.fly.new.self.particles c.fly.ensures.particles;
-      weights = ap (λ (qs : List Particle). map effective_weight qs) c.fly.ensures.particles ∙ flown_weights air ps;
+      whole = flown_long forces ps c.fly.new.self.particles c.fly.ensures.particles;
+      weights = ap (λ (qs : List Particle). map effective_weight qs) c.fly.ensures.particles ∙ flown_weights forces ps;
     }
 
 pub returns-in-Ok-clause-room : goal.returns-in-Ok-clause-room

@@ -1,0 +1,23 @@
+use Rattle.std.proofs.Common.{◌≡◌, ℕ, ◌+◌, ◌*◌, ◌^◌, ◌≤◌, min, length}
+use Rattle.pbd_world.specs.Ledger.{ledger_of, HaveRoom}
+use Rattle.pbd_world.specs.Step.{rub}
+use Rattle.pbd_store.specs.Moving.{motion_of}
+use Rattle.pbd_shape.specs.Rubbing.{AreWithin, settled_parts, rubbed_from}
+use Rattle.pbd_shape.proofs.touched.Touched.rub.Given as goal
+
+-- what is left of the particles makes the whole
+abbrev pub invariant-loop-block : goal.invariant-loop-block
+invariant-loop-block g l = record {
+  rest : rubbed_from l.fn.friction (l.block * g.row.L) (record { motion = motion_of l.work.store.now l.work.totals.now; touched = l.self })
+      ≡ rub l.fn.friction (record { motion = motion_of l.fn.store l.fn.totals; touched = l.self });
+  limit : l.work.store.now.limit ≡ l.fn.store.limit;
+  copies : l.work.store.now.copies ≡ l.fn.store.copies;
+  settled : settled_parts l.work.store.now.particles ≡ settled_parts l.fn.store.particles;
+  within : AreWithin l.fn.store.limit l.work.store.now.particles;
+  room : (n : ℕ) → HaveRoom n (ledger_of l.fn.totals)
+      → HaveRoom (n + min (l.block * g.row.L) (length l.fn.store.particles) * 2 ^ 31) (ledger_of l.work.totals.now);
+  cost : l.work.steps.now ≤ l.fn.steps + 2 * l.block;
+  store : l.work.store.ghost_name ≡ l.initial.work.store.ghost_name;
+  totals : l.work.totals.ghost_name ≡ l.initial.work.totals.ghost_name;
+  steps : l.work.steps.ghost_name ≡ l.initial.work.steps.ghost_name;
+}

@@ -1,0 +1,164 @@
+use Rattle.std.proofs.Common.{◌≡◌, refl, ap, ◌∙◌, ◌+◌, ◌*◌, ◌^◌, ◌<◌, ◌≤◌, arith, unsigned_abs, Bool, List, length, get_or, false, not}
+use Rattle.std.proofs.Common.{◌&&◌, cond}
+use Rattle.std.proofs.lemmas.Int.{to_z-of_z}
+use Rattle.std.proofs.lemmas.List.{length-replicate, length-set}
+use Rattle.pbd_num.specs.declared.Vec3.{Vec3}
+use Rattle.pbd_num.specs.Vectors.{zero_vector, plus, minus}
+use Rattle.pbd_world.specs.declared.totals.Class.TheVariants as classes
+use Rattle.pbd_world.specs.Ledger.{ledger_of, added}
+use Rattle.pbd_world.specs.Particles.{particle_at}
+use Rattle.pbd_world.specs.Shapes.{rubbed_away}
+use Rattle.pbd_world.proofs.Rooms.{room_at}
+use Rattle.pbd_num.proofs.Ranges.{wider}
+use Rattle.pbd_store.proofs.Places.{inside_more, within_at, below_count}
+use Rattle.pbd_shape.proofs.Steps.{rubbing_none, rubbing_on, rubbing_all, loss_of, loss_within, part_low, part_high}
+use Rattle.pbd_shape.proofs.touched.Touched.rub_one_by_one.Goals as goal
+
+pub span-span-requires : goal.span-span-requires
+span-span-requires g c =
+    let ready = c.requires.ready in (omega arith, (ready.lanes_low, (ready.lanes_high, ready.block)))
+
+pub place-requires : goal.place-requires
+place-requires g c =
+    let span = c.span-span.ensures in
+    let size = c.requires.ready.lanes_high in (omega (arith, size), omega (arith, span.count, c.loop-j-test.true))
+
+pub place-before-requires : goal.place-before-requires
+place-before-requires g c =
+    let span = c.span-span.ensures in
+    let size = c.requires.ready.lanes_high in (omega (arith, size), omega (arith, span.count, c.loop-j-test.true))
+
+pub loop-j-init : goal.loop-j-init
+loop-j-init g c =
+    let f = c.ranges.friction in
+    record {
+      some = simp to_z-of_z (rubbing_none _ _ _ _ _ _ _);
+      whole = length-replicate _ _;
+      within = λ k h. absurd (omega arith);
+      room = λ n h. room_at _ (omega arith) h;
+    }
+
+pub is_rubbed-rubs-requires : goal.is_rubbed-rubs-requires
+is_rubbed-rubs-requires g c =
+    let span = c.span-span.ensures in
+    omega (arith, span.within, c.requires.ready.flags, c.loop-j-test.true)
+
+-- a place, and the place before, in the range of both limits
+pub minus-requires : goal.minus-requires
+minus-requires g c =
+    let j = c.loop-j.j in
+    let span = c.span-span.ensures in
+    let lane : j < g.row.L = omega (arith, span.count, c.loop-j-test.true) in
+    let lt : c.args.loaded.block * g.row.L + j < length c.args.loaded.store.now.particles = omega (arith, span.first, span.within, c.loop-j-test.true) in
+    let wide : unsigned_abs c.limit-limit.result ≤ 2 ^ 61 = omega (arith, c.limit-limit.ensures.high) in
+    record {
+      first = wider _ _ (2 ^ 61) wide (within_at (ap unsigned_abs c.limit-limit.ensures.value) (c.place.ensures ∙ c.requires.at j lane)
+          (c.requires.ready.within.at _ lt));
+      second = wider _ _ (2 ^ 61) wide (within_at (ap unsigned_abs c.limit-limit.ensures.value)
+          (c.place-before.ensures ∙ c.requires.before j lane) (c.requires.ready.within.before _ lt));
+    }
+
+pub lost_if-loss-requires : goal.lost_if-loss-requires
+lost_if-loss-requires g c =
+    let f = c.ranges.friction in
+    let j = c.loop-j.j in
+    let span = c.span-span.ensures in
+    let lane : j < g.row.L = omega (arith, span.count, c.loop-j-test.true) in
+    let lt : c.args.loaded.block * g.row.L + j < length c.args.loaded.store.now.particles = omega (arith, span.first, span.within, c.loop-j-test.true) in
+    let at = wider _ _ (2 ^ 29) c.limit-limit.ensures.high
+    (within_at (ap unsigned_abs c.limit-limit.ensures.value) (c.place.ensures ∙ c.requires.at j lane) (c.requires.ready.within.at _ lt))
+    in
+    let before = wider _ _ (2 ^ 29) c.limit-limit.ensures.high
+    (within_at (ap unsigned_abs c.limit-limit.ensures.value) (c.place-before.ensures ∙ c.requires.before j lane)
+    (c.requires.ready.within.before _ lt)) in
+    record { friction = simp to_z-of_z c.requires.ready.valid_friction; velocity = c.minus.ensures.size (2 ^ 29) (2 ^ 29) at before }
+
+pub opposite-requires : goal.opposite-requires
+opposite-requires g c = wider _ (2 ^ 30) (2 ^ 61) (omega arith) c.lost_if-loss.ensures.size
+
+pub book_if-requires : goal.book_if-requires
+book_if-requires g c =
+    let span = c.span-span.ensures in
+    record {
+      room = room_at (2 ^ 126) (omega (arith, span.count, c.requires.ready.lanes_high, c.loop-j-test.true))
+          (c.loop-j.invariant.room (2 ^ 125) c.requires.ready.room);
+      short = wider _ (2 ^ 30) (2 ^ 31) (omega arith) (c.opposite.ensures.size (2 ^ 30) c.lost_if-loss.ensures.size);
+    }
+
+pub plus-requires : goal.plus-requires
+plus-requires g c =
+    let j = c.loop-j.j in
+    let span = c.span-span.ensures in
+    let lane : j < g.row.L = omega (arith, span.count, c.loop-j-test.true) in
+    let lt : c.args.loaded.block * g.row.L + j < length c.args.loaded.store.now.particles = omega (arith, span.first, span.within, c.loop-j-test.true) in
+    record {
+      first = wider _ _ (2 ^ 61) (omega (arith, c.limit-limit.ensures.high))
+          (within_at (ap unsigned_abs c.limit-limit.ensures.value) (c.place-before.ensures ∙ c.requires.before j lane)
+          (c.requires.ready.within.before _ lt));
+      second = wider _ (2 ^ 30) (2 ^ 61) (omega arith) c.lost_if-loss.ensures.size;
+    }
+
+pub loop-j-preserved : goal.loop-j-preserved
+loop-j-preserved g c =
+    let f = c.ranges.friction in
+    let inv = c.loop-j.invariant in
+    let friction = c.args.friction in
+    let j = c.loop-j.j in
+    let ps = c.args.loaded.store.now.particles in
+    let ts = c.args.self.now in
+    let i = c.args.loaded.block * g.row.L + j in
+    let p = particle_at ps i in
+    let u = ledger_of c.loop-j.totals in
+    let span = c.span-span.ensures in
+    let made = c.is_rubbed-rubs.result in
+    let loss = c.lost_if-loss.result in
+    let lane : j < g.row.L = omega (arith, span.count, c.loop-j-test.true) in
+    let lt : i < length ps = omega (arith, span.first, span.within, c.loop-j-test.true) in
+    let held = ap (λ (bs : List Bool). get_or bs j false) c.to_array-held.ensures ∙ c.requires.held j lane in
+    let before = c.place-before.ensures ∙ c.requires.before j lane in
+    let at = c.place.ensures ∙ c.requires.at j lane in
+    let makes : made ≡ (not p.held && get_or ts i false) = c.is_rubbed-rubs.ensures
+    ∙ (λ k. not (held k) && get_or ts (span.first k + j) false) in
+    let told = simp to_z-of_z at c.lost_if-loss.ensures.value in
+    let velocity = c.minus.ensures.value ∙ (λ k. minus (at k) (before k)) in
+    let loses : loss ≡ loss_of friction made p.before p.at = told
+    ∙ ap (λ (v : Vec3). cond made (rubbed_away friction v) zero_vector) velocity in
+    let comes : c.plus.result ≡ plus p.before loss = c.plus.ensures.value ∙ ap (λ (v : Vec3). plus v loss) before in
+    let books = c.book_if.ensures.value ∙ ap (λ (v : Vec3). cond made (added u classes.Shape v) u) c.opposite.ensures.value in
+    let room : j < length c.loop-j.places = omega (arith, inv.whole) in
+    let some = simp to_z-of_z at inv.some in
+    let stays = within_at refl (comes ∙ ap (plus p.before) loses)
+    (loss_within friction made p.before p.at (unsigned_abs c.args.loaded.store.now.limit) (part_low friction c.requires.ready.valid_friction)
+    (part_high friction c.requires.ready.valid_friction) (c.requires.ready.within.before i lt) (c.requires.ready.within.at i lt)) in
+    record {
+      some = simp to_z-of_z (rubbing_on friction g.row.L c.args.loaded.block ps _ ts j c.loop-j.places u some lane lt c.requires.ready.flags room
+          made loss c.plus.result _ makes loses comes books);
+      whole = length-set c.loop-j.places j c.plus.result ∙ inv.whole;
+      within = inside_more _ c.loop-j.places j c.plus.result room inv.within stays;
+      room = λ n h. room_at _ (omega arith) (c.book_if.ensures.room _ (inv.room n h));
+    }
+
+pub returns : goal.returns
+returns g c =
+    let f = c.ranges.friction in
+    let inv = c.loop-j.invariant in
+    let span = c.span-span.ensures in
+    let some = simp to_z-of_z at inv.some in
+    record {
+      outcome = rubbing_all c.args.friction g.row.L c.args.loaded.block c.args.loaded.store.now.particles _ _ c.loop-j.j c.loop-j.places _ some
+          (omega (arith, span.count, c.loop-j-test.false, c.loop-j.auto.j-end))
+          (λ p. omega (
+            arith,
+            span.first,
+            c.loop-j-test.false,
+            c.loop-j.auto.j-end,
+            span.last (omega (arith, c.loop-j-test.false, c.loop-j.auto.j-end)),
+          ));
+      within = λ j h k. inv.within j (omega (
+        arith,
+        c.loop-j-test.false,
+        below_count j c.span-span.result.count g.row.L c.span-span.result.first
+            (length c.args.loaded.store.now.particles) span.last span.count h (omega (arith, span.first)),
+      ));
+      room = λ n h. room_at _ (omega (arith, span.first, span.count, span.within, c.loop-j-test.false, c.loop-j.auto.j-end)) (inv.room n h);
+    }

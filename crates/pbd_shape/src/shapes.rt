@@ -1,0 +1,53 @@
+// All shapes of a world as one value.
+ghost use Rattle.std.specs.Prelude.{◌≡◌, ℕ, ℤ, ◌<◌, ◌≤◌, ◌^◌, ◌==◌, false, length, unsigned_abs, option_map, IfSome};
+ghost use Rattle.pbd_num.specs.Vectors.{Within};
+ghost use Rattle.pbd_world.specs.Shapes.{way_through};
+ghost use Rattle.pbd_store.specs.Blocks.{place_of};
+ghost use Rattle.pbd_shape.specs.Valid.{IsLimit, AreInRange};
+ghost use Rattle.pbd_shape.specs.Way.{way_of, shapes_in, starting, IsStill};
+
+use crate::touch::any_touches;
+use crate::way::{Pushed, past_all};
+use pbd_num::Vec3;
+use pbd_store::Lanes3;
+use pbd_world::{Plane, Sphere};
+
+/// What pushes particles out: the planes in order, and then the spheres in order.
+#[derive(Clone, Copy)]
+pub struct Shapes<'a> {
+    pub planes: &'a [Plane],
+    pub spheres: &'a [Sphere],
+}
+
+impl<'a> Shapes<'a> {
+    /// Whether there is no shape.
+    pub(crate) fn is_empty(self) -> bool
+        ensures { result ≡ (length (shapes_in self.entry) == 0) }
+    {
+        self.planes.is_empty() && self.spheres.is_empty()
+    }
+
+    /// The way of a place through all shapes, and `None` where it leaves the limit.
+    pub(crate) fn push(self, limit: i64, at: Vec3) -> Option<Pushed>
+        requires limit { IsLimit limit }
+        requires shapes { AreInRange self }
+        requires place { Within (unsigned_abs limit) at }
+        ensures value { option_map way_of result ≡ way_through limit (shapes_in self.entry) (starting at) }
+        ensures within { IfSome result (λ way. Within (unsigned_abs limit) way.at) }
+    {
+        let start = Pushed { at, touched: false };
+        let way = past_all(limit, self.planes, start)?;
+        past_all(limit, self.spheres, way)
+    }
+
+    /// Whether any shape touches any of L places where it lies. Where none does, none moves any of them.
+    pub(crate) fn touches<const L: usize>(self, at: &Lanes3<L>) -> bool
+        requires lanes { L ≤ 16 }
+        requires shapes { AreInRange self }
+        requires places { (j : ℕ) → j < L → Within (2 ^ 29) (place_of at.now.x at.now.y at.now.z j) }
+        ensures { result ≡ false → (limit : ℤ) (j : ℕ) → j < L
+            → IsStill limit (shapes_in self.entry) (place_of at.now.x at.now.y at.now.z j) }
+    {
+        any_touches(self.planes, at) || any_touches(self.spheres, at)
+    }
+}

@@ -1,0 +1,69 @@
+// What every kind of shape does with a place, and a quick look at L places side by side.
+ghost use Rattle.std.specs.Prelude.{◌≡◌, ℕ, ℤ, ◌<◌, ◌≤◌, ◌^◌, false, map, None};
+ghost use Rattle.std.specs.List.{All};
+ghost use Rattle.pbd_num.specs.Vectors.{Within};
+ghost use Rattle.pbd_world.specs.Shapes.{Shape};
+ghost use Rattle.pbd_store.specs.Blocks.{place_of};
+ghost use Rattle.pbd_shape.specs.Way.{IsStill};
+
+use pbd_num::Vec3;
+use pbd_store::Lanes3;
+
+/// A kind of shape, such as planes: what a world has a list of, and what pushes each place that it touches. What each kind
+/// does is inlined, so that a loop over one kind has no calls.
+pub(crate) trait Touch {
+    /// The new place of each place that it touches.
+    ghost shape: { Self → Shape };
+
+    /// Its numbers are in their ranges.
+    ghost is_in_range: { Self → Type 0 };
+
+    /// Whether it touches a place. It may say so of one that it doesn't touch.
+    fn touches(&self, p: Vec3) -> bool
+        requires shape { is_in_range self.now }
+        requires place { Within (2 ^ 29) p }
+        ensures { result ≡ false → shape self.now p ≡ None };
+
+    /// The place to which it pushes a place that it touches, and `None` where it doesn't touch.
+    fn push(&self, p: Vec3) -> Option<Vec3>
+        requires shape { is_in_range self.now }
+        requires place { Within (2 ^ 29) p }
+        ensures { result ≡ shape self.now p };
+}
+
+fn either(first: bool, second: bool) -> bool
+    ensures first { result ≡ false → first ≡ false }
+    ensures second { result ≡ false → second ≡ false }
+{
+    first | second
+}
+
+// Whether a shape touches one of L places.
+fn one_touches<S: Touch, const L: usize>(shape: &S, at: &Lanes3<L>) -> bool
+    requires lanes { L ≤ 16 }
+    requires shape { S.is_in_range shape.now }
+    requires places { (j : ℕ) → j < L → Within (2 ^ 29) (place_of at.now.x at.now.y at.now.z j) }
+    ensures { result ≡ false → (j : ℕ) → j < L → S.shape shape.now (place_of at.now.x at.now.y at.now.z j) ≡ None }
+{
+    let mut touched = false;
+    for j in 0..L {
+        touched = either(touched, shape.touches(at.place(j)));
+    }
+    touched
+}
+
+/// Whether any of some shapes of one kind touches any of L places where it lies. Where none does, none moves any of them.
+pub(crate) fn any_touches<S: Touch, const L: usize>(shapes: &[S], at: &Lanes3<L>) -> bool
+    requires lanes { L ≤ 16 }
+    requires shapes { All S.is_in_range shapes.now }
+    requires places { (j : ℕ) → j < L → Within (2 ^ 29) (place_of at.now.x at.now.y at.now.z j) }
+    ensures { result ≡ false → (limit : ℤ) (j : ℕ) → j < L
+        → IsStill limit (map S.shape shapes.now) (place_of at.now.x at.now.y at.now.z j) }
+{
+    for shape in shapes {
+        if one_touches(shape, at) {
+            return true;
+        }
+    }
+    false
+}
