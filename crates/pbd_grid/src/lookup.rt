@@ -19,15 +19,22 @@ pub(crate) struct GridCell {
     z: u32,
 }
 
-/// What is searched: places, their cubes of a side, and chains that hold the numbers of those in each cell.
+/// How places are put into cells.
+#[derive(Clone, Copy)]
+pub(crate) struct Cells {
+    /// The side of a cube, which is half that of a cell, in 1..=1,048,576.
+    pub(crate) side: u32,
+    /// How many chains there are for all cells: a power of two.
+    pub(crate) count: u32,
+}
+
+/// What is searched: places, their cubes, and chains that hold the numbers of those in each cell.
 #[derive(Drop)]
 pub(crate) struct Crowd<'a> {
     pub(crate) chains: &'a Chains,
-    /// The number of the chains.
-    pub(crate) count: u32,
     pub(crate) cubes: &'a [GridCell],
     pub(crate) places: &'a [Vec3],
-    pub(crate) side: u32,
+    pub(crate) cells: Cells,
 }
 
 // The number of the cube of a coordinate, by a division of 32 bits, which is much faster than one of 64.
@@ -122,31 +129,6 @@ fn is_in(cube: GridCell, cell: GridCell) -> bool
     cell.z == own.z && cell.y == own.y && cell.x == own.x
 }
 
-// Whether j, behind i, is to be found with i in a cell.
-fn wanted<F: PairFilter>(crowd: &Crowd, filter: &F, i: u32, cell: GridCell, j: u32) -> bool
-    requires laid { IsLaid crowd.now }
-    requires filter { F.particles filter.now ≡ length crowd.now.places.now }
-    requires i { i < length crowd.now.places.now }
-    requires behind { i < j }
-    ensures { result ≡ (same_cell cell (cell_at crowd.now.side crowd.now.places.now j)
-        && keep crowd.now.places.now crowd.now.side (F.test filter.now) i j) }
-{
-    if j as usize >= crowd.places.len() {
-        return false;
-    }
-    if !near(
-        crowd.places[i as usize],
-        crowd.places[j as usize],
-        crowd.side,
-    ) {
-        return false;
-    }
-    if !is_in(crowd.cubes[j as usize], cell) {
-        return false;
-    }
-    filter.keeps(i, j)
-}
-
 // Appends an item where it is wanted.
 fn push_if(found: &mut RoomList<u32>, is_wanted: bool, j: u32)
     requires { length found.old.entries + length (picked_one is_wanted j) ≤ found.old.room }
@@ -164,85 +146,113 @@ struct Begun {
     first: u32,
 }
 
-// Finds what is wanted with i in one cell, from the first of its chain on, and counts how often the
-// chain is read for it. What stands behind i comes first in each chain. Most cells have no such
-// chain, so that this is kept apart from the look-up.
-#[inline(never)]
-fn follow<F: PairFilter>(
-    crowd: &Crowd,
-    filter: &F,
-    i: u32,
-    begun: Begun,
-    found: &mut RoomList<u32>,
-) -> u64
-    requires laid { IsLaid crowd.now }
-    requires filter { F.particles filter.now ≡ length crowd.now.places.now }
-    requires i { i < length crowd.now.places.now }
-    requires begun { IsBegun crowd.now begun.cell begun.first }
-    requires room { length found.old.entries + length (picked_in crowd.now (F.test filter.now) i begun.cell) ≤ found.old.room }
-    ensures found { found.new ≡ record found.old { entries = found.old.entries ++ picked_in crowd.now (F.test filter.now) i begun.cell } }
-    ensures looks { result ≡ looked_in crowd.now i begun.cell }
-{
-    let mut looks = 1;
-    let mut j = begun.first;
-    'behind: while i < j {
-        push_if(found, wanted(crowd, filter, i, begun.cell, j), j);
-        looks += 1;
-        let Some(next) = crowd.chains.next(j) else {
-            break;
+impl Crowd<'_> {
+    // Whether j, behind i, is to be found with i in a cell.
+    fn wanted<F: PairFilter>(&self, filter: &F, i: u32, cell: GridCell, j: u32) -> bool
+        requires laid { IsLaid self.now }
+        requires filter { F.particles filter.now ≡ length self.now.places.now }
+        requires i { i < length self.now.places.now }
+        requires behind { i < j }
+        ensures { result ≡ (same_cell cell (cell_at self.now.cells.side self.now.places.now j)
+            && keep self.now.places.now self.now.cells.side (F.test filter.now) i j) }
+    {
+        if j as usize >= self.places.len() {
+            return false;
+        }
+        if !near(
+            self.places[i as usize],
+            self.places[j as usize],
+            self.cells.side,
+        ) {
+            return false;
+        }
+        if !is_in(self.cubes[j as usize], cell) {
+            return false;
+        }
+        filter.keeps(i, j)
+    }
+
+    // Finds what is wanted with i in one cell, from the first of its chain on, and counts how often the
+    // chain is read for it. What stands behind i comes first in each chain. Most cells have no such
+    // chain, so that this is kept apart from the look-up.
+    #[inline(never)]
+    fn follow<F: PairFilter>(
+        &self,
+        filter: &F,
+        i: u32,
+        begun: Begun,
+        found: &mut RoomList<u32>,
+    ) -> u64
+        requires laid { IsLaid self.now }
+        requires filter { F.particles filter.now ≡ length self.now.places.now }
+        requires i { i < length self.now.places.now }
+        requires begun { IsBegun self.now begun.cell begun.first }
+        requires room { length found.old.entries + length (picked_in self.now (F.test filter.now) i begun.cell) ≤ found.old.room }
+        ensures found { found.new
+            ≡ record found.old { entries = found.old.entries ++ picked_in self.now (F.test filter.now) i begun.cell } }
+        ensures looks { result ≡ looked_in self.now i begun.cell }
+    {
+        let mut looks = 1;
+        let mut j = begun.first;
+        'behind: while i < j {
+            push_if(found, self.wanted(filter, i, begun.cell, j), j);
+            looks += 1;
+            let Some(next) = self.chains.next(j) else {
+                break;
+            };
+            j = next;
+        }
+        looks
+    }
+
+    // Finds what is wanted with i in one cell, and counts how often the chain is read for it: once
+    // where nothing in it stands behind i.
+    #[inline(always)]
+    fn look_up<F: PairFilter>(
+        &self,
+        filter: &F,
+        i: u32,
+        cell: GridCell,
+        found: &mut RoomList<u32>,
+    ) -> u64
+        requires laid { IsLaid self.now }
+        requires filter { F.particles filter.now ≡ length self.now.places.now }
+        requires i { i < length self.now.places.now }
+        requires cell { Below 1073741825 cell }
+        requires room { length found.old.entries + length (picked_in self.now (F.test filter.now) i cell) ≤ found.old.room }
+        ensures found { found.new ≡ record found.old { entries = found.old.entries ++ picked_in self.now (F.test filter.now) i cell } }
+        ensures looks { result ≡ looked_in self.now i cell }
+    {
+        let Some(first) = self.chains.first(slot(cell, self.cells.count)) else {
+            return 1;
         };
-        j = next;
+        if first <= i {
+            return 1;
+        }
+        self.follow(filter, i, Begun { cell, first }, found)
     }
-    looks
-}
 
-// Finds what is wanted with i in one cell, and counts how often the chain is read for it: once
-// where nothing in it stands behind i.
-#[inline(always)]
-fn look_up<F: PairFilter>(
-    crowd: &Crowd,
-    filter: &F,
-    i: u32,
-    cell: GridCell,
-    found: &mut RoomList<u32>,
-) -> u64
-    requires laid { IsLaid crowd.now }
-    requires filter { F.particles filter.now ≡ length crowd.now.places.now }
-    requires i { i < length crowd.now.places.now }
-    requires cell { Below 1073741825 cell }
-    requires room { length found.old.entries + length (picked_in crowd.now (F.test filter.now) i cell) ≤ found.old.room }
-    ensures found { found.new ≡ record found.old { entries = found.old.entries ++ picked_in crowd.now (F.test filter.now) i cell } }
-    ensures looks { result ≡ looked_in crowd.now i cell }
-{
-    let Some(first) = crowd.chains.first(slot(cell, crowd.count)) else {
-        return 1;
-    };
-    if first <= i {
-        return 1;
+    // Finds what is wanted with i in the eight cells from a corner on, and counts the readings.
+    pub(crate) fn look_round<F: PairFilter>(
+        &self,
+        filter: &F,
+        i: u32,
+        from: GridCell,
+        found: &mut RoomList<u32>,
+    ) -> u64
+        requires laid { IsLaid self.now }
+        requires filter { F.particles filter.now ≡ length self.now.places.now }
+        requires i { i < length self.now.places.now }
+        requires from { Below 536870913 from }
+        requires room { length found.old.entries + length (picked_round self.now (F.test filter.now) i from) ≤ found.old.room }
+        ensures found { found.new ≡ record found.old { entries = found.old.entries ++ picked_round self.now (F.test filter.now) i from } }
+        ensures looks { result ≡ looked_round self.now i from }
+    {
+        let mut looks = 0;
+        for n in 0..8 {
+            let cell = part_of_block(from, n);
+            looks += self.look_up(filter, i, cell, found);
+        }
+        looks
     }
-    follow(crowd, filter, i, Begun { cell, first }, found)
-}
-
-// Finds what is wanted with i in the eight cells from a corner on, and counts the readings.
-pub(crate) fn look_round<F: PairFilter>(
-    crowd: &Crowd,
-    filter: &F,
-    i: u32,
-    from: GridCell,
-    found: &mut RoomList<u32>,
-) -> u64
-    requires laid { IsLaid crowd.now }
-    requires filter { F.particles filter.now ≡ length crowd.now.places.now }
-    requires i { i < length crowd.now.places.now }
-    requires from { Below 536870913 from }
-    requires room { length found.old.entries + length (picked_round crowd.now (F.test filter.now) i from) ≤ found.old.room }
-    ensures found { found.new ≡ record found.old { entries = found.old.entries ++ picked_round crowd.now (F.test filter.now) i from } }
-    ensures looks { result ≡ looked_round crowd.now i from }
-{
-    let mut looks = 0;
-    for n in 0..8 {
-        let cell = part_of_block(from, n);
-        looks += look_up(crowd, filter, i, cell, found);
-    }
-    looks
 }

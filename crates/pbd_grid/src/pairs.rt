@@ -4,7 +4,7 @@ ghost use Rattle.pbd_grid.specs.Crowds.{IsLaid};
 ghost use Rattle.pbd_grid.specs.Near.{AllInside, near_pairs};
 ghost use Rattle.pbd_grid.specs.Looks.{looks_for};
 
-use crate::lookup::{Crowd, GridCell};
+use crate::lookup::{Cells, Crowd, GridCell};
 use crate::rows::{append_row, find_row, link_all};
 use pbd_chain::Chains;
 use pbd_num::Vec3;
@@ -61,37 +61,40 @@ fn chains_for(particles: u32) -> u32
     (4 * particles.max(1)).next_power_of_two()
 }
 
-// Lists the near pairs row by row, from chains that hold each particle once, and counts how often
-// these are read.
-fn find_pairs<F: PairFilter>(
-    crowd: &Crowd,
-    filter: &F,
-    found: &mut RoomList<u32>,
-    looks: &mut u64,
-    out: &mut RoomList<(u32, u32)>,
-) -> Result<(), Full>
-    requires laid { IsLaid crowd.now }
-    requires filter { F.particles filter.now ≡ length crowd.now.places.now }
-    requires space { length crowd.now.places.now ≤ found.old.room }
-    ensures kept { found.new.room ≡ found.old.room }
-    ensures room { out.new.room ≡ out.old.room }
-    ensures pairs { OnOk result (out.new.entries ≡ near_pairs crowd.now.places.now (pos crowd.now.side) (F.test filter.now)) }
-    ensures fits { OnOk result (length (near_pairs crowd.now.places.now (pos crowd.now.side) (F.test filter.now)) ≤ out.old.room) }
-    ensures full { OnErr result (out.old.room < length (near_pairs crowd.now.places.now (pos crowd.now.side) (F.test filter.now))) }
-    ensures emptied { OnErr result (out.new.entries ≡ []) }
-    ensures looks { OnOk result (looks.new ≡ looks_for crowd.now.count (pos crowd.now.side) crowd.now.places.now) }
-    ensures most { looks.new ≤ looks_for crowd.now.count (pos crowd.now.side) crowd.now.places.now }
-{
-    out.clear();
-    *looks = 0;
-    for i in 0..crowd.places.len() as u32 {
-        *looks += find_row(crowd, filter, i, found);
-        if append_row(i, found.as_slice(), out).is_err() {
-            out.clear();
-            return Err(Full);
+impl Crowd<'_> {
+    // Lists the near pairs row by row, from chains that hold each particle once, and counts how often
+    // these are read.
+    fn find_pairs<F: PairFilter>(
+        &self,
+        filter: &F,
+        found: &mut RoomList<u32>,
+        looks: &mut u64,
+        out: &mut RoomList<(u32, u32)>,
+    ) -> Result<(), Full>
+        requires laid { IsLaid self.now }
+        requires filter { F.particles filter.now ≡ length self.now.places.now }
+        requires space { length self.now.places.now ≤ found.old.room }
+        ensures kept { found.new.room ≡ found.old.room }
+        ensures room { out.new.room ≡ out.old.room }
+        ensures pairs { OnOk result (out.new.entries ≡ near_pairs self.now.places.now (pos self.now.cells.side) (F.test filter.now)) }
+        ensures fits { OnOk result (length (near_pairs self.now.places.now (pos self.now.cells.side) (F.test filter.now)) ≤ out.old.room) }
+        ensures full { OnErr result
+            (out.old.room < length (near_pairs self.now.places.now (pos self.now.cells.side) (F.test filter.now))) }
+        ensures emptied { OnErr result (out.new.entries ≡ []) }
+        ensures looks { OnOk result (looks.new ≡ looks_for self.now.cells.count (pos self.now.cells.side) self.now.places.now) }
+        ensures most { looks.new ≤ looks_for self.now.cells.count (pos self.now.cells.side) self.now.places.now }
+    {
+        out.clear();
+        *looks = 0;
+        for i in 0..self.places.len() as u32 {
+            *looks += find_row(self, filter, i, found);
+            if append_row(i, found.as_slice(), out).is_err() {
+                out.clear();
+                return Err(Full);
+            }
         }
+        Ok(())
     }
-    Ok(())
 }
 
 impl Grid {
@@ -146,15 +149,18 @@ impl Grid {
     {
         // What is less than the thickness from a place is in two cells an axis, of twice that edge.
         let side = thickness as u32;
-        link_all(&mut self.chains, self.count, &mut self.cubes, places, side);
+        let cells = Cells {
+            side,
+            count: self.count,
+        };
+        link_all(&mut self.chains, &mut self.cubes, places, cells);
         let crowd = Crowd {
             chains: &self.chains,
-            count: self.count,
             cubes: self.cubes.as_slice(),
             places,
-            side,
+            cells,
         };
-        find_pairs(&crowd, filter, &mut self.found, &mut self.looks, out)
+        crowd.find_pairs(filter, &mut self.found, &mut self.looks, out)
     }
 
     /// How often the last search read its chains, which hold the particles by their cells.

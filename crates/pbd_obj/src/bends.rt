@@ -8,7 +8,7 @@ ghost use Rattle.pbd_obj.specs.MeshLinks.{bend_links, bends};
 ghost use Rattle.pbd_obj.specs.Nets.{Adds, FitsNet, HoldsJoined, IsStopped};
 
 use crate::edges::{Edge, edges_of};
-use crate::links::{FoundLinks, add, link};
+use crate::links::{FoundLinks, add};
 use crate::settings::{LinkSettings, MeshSettings};
 use crate::{ObjFault, ObjMesh};
 use pbd_world::Kind;
@@ -75,7 +75,7 @@ fn add_pair(
     if ends.0 == ends.1 {
         return Ok(());
     }
-    let bend = link(mesh, found.base, Kind::Bend, settings, ends);
+    let bend = found.link(mesh, Kind::Bend, settings, ends);
     add(found, bend)
 }
 
@@ -103,22 +103,28 @@ fn add_across(
     }
 }
 
+/// The edges of the faces of a mesh, one after another, and which of them are one.
+#[derive(Drop)]
+struct MeshEdges<'a> {
+    edges: &'a [Edge],
+    shared: &'a SharedEdges,
+}
+
 fn add_facing(
     mesh: &ObjMesh,
     settings: LinkSettings,
-    edges: &[Edge],
-    shared: &SharedEdges,
+    all: &MeshEdges<'_>,
     found: &mut FoundLinks,
 ) -> Result<(), ObjFault>
     requires mesh { FitsNet mesh.now found.old.base }
     requires joined { HoldsJoined found.old }
-    requires within { All (IsEdgeOf (length mesh.now.places)) edges.now }
-    requires shared { HoldsShared edges.now shared.now }
-    ensures ok { OnOk result (Adds (bends mesh.now found.old.base settings (facing edges.now)) found.old found.new) }
-    ensures err { IfErr result (λ fault. IsStopped (bends mesh.now found.old.base settings (facing edges.now)) found.old fault) }
+    requires within { All (IsEdgeOf (length mesh.now.places)) all.now.edges.now }
+    requires shared { HoldsShared all.now.edges.now all.now.shared.now }
+    ensures ok { OnOk result (Adds (bends mesh.now found.old.base settings (facing all.now.edges.now)) found.old found.new) }
+    ensures err { IfErr result (λ fault. IsStopped (bends mesh.now found.old.base settings (facing all.now.edges.now)) found.old fault) }
 {
-    for edge in edges {
-        let known = shared.get(&(edge.low, edge.high)).copied();
+    for edge in all.edges {
+        let known = all.shared.get(&(edge.low, edge.high)).copied();
         add_across(mesh, settings, known, found)?;
     }
     Ok(())
@@ -142,5 +148,9 @@ pub(crate) fn add_bends(
     };
     let edges = edges_of(alloc, mesh)?;
     let shared = shared_edges(alloc, edges.as_slice())?;
-    add_facing(mesh, bend, edges.as_slice(), &shared, found)
+    let all = MeshEdges {
+        edges: edges.as_slice(),
+        shared: &shared,
+    };
+    add_facing(mesh, bend, &all, found)
 }

@@ -33,6 +33,34 @@ pub struct FoundLinks {
     joined: BTreeSet<(u32, u32)>,
 }
 
+impl FoundLinks {
+    /// The link of two vertices, at the length between them.
+    #[tactic(auto, unfolding(crate::specs::MeshLinks::link))]
+    pub(crate) fn link(
+        &self,
+        mesh: &ObjMesh,
+        kind: Kind,
+        settings: LinkSettings,
+        ends: (u32, u32),
+    ) -> Link
+        requires mesh { FitsNet mesh.now self.now.base }
+        requires a { ends.0 < length mesh.now.places }
+        requires b { ends.1 < length mesh.now.places }
+        ensures { result ≡ link mesh.now self.now.base kind settings ends }
+    {
+        let places = mesh.places.as_slice();
+        Link {
+            a: self.base + ends.0,
+            b: self.base + ends.1,
+            rest: distance(places[ends.0 as usize], places[ends.1 as usize]),
+            k: settings.stiffness,
+            tear: settings.tear,
+            kind,
+            live: true,
+        }
+    }
+}
+
 #[tactic(auto, unfolding(crate::specs::Nets::ordered))]
 fn ordered(a: u32, b: u32) -> (u32, u32)
     ensures { result ≡ ordered a b }
@@ -56,31 +84,6 @@ pub(crate) fn add(found: &mut FoundLinks, link: Link) -> Result<(), ObjFault>
     Ok(())
 }
 
-#[tactic(auto, unfolding(crate::specs::MeshLinks::link))]
-pub(crate) fn link(
-    mesh: &ObjMesh,
-    base: u32,
-    kind: Kind,
-    settings: LinkSettings,
-    ends: (u32, u32),
-) -> Link
-    requires mesh { FitsNet mesh.now base }
-    requires a { ends.0 < length mesh.now.places }
-    requires b { ends.1 < length mesh.now.places }
-    ensures { result ≡ link mesh.now base kind settings ends }
-{
-    let places = mesh.places.as_slice();
-    Link {
-        a: base + ends.0,
-        b: base + ends.1,
-        rest: distance(places[ends.0 as usize], places[ends.1 as usize]),
-        k: settings.stiffness,
-        tear: settings.tear,
-        kind,
-        live: true,
-    }
-}
-
 /// Links each corner to the next, and the last to the first.
 fn add_ring(
     mesh: &ObjMesh,
@@ -96,7 +99,7 @@ fn add_ring(
 {
     for i in 0..face.len() {
         let ends = (face[i], face[(i + 1) % face.len()]);
-        let side = link(mesh, found.base, Kind::Stretch, settings, ends);
+        let side = found.link(mesh, Kind::Stretch, settings, ends);
         add(found, side)?;
     }
     Ok(())
@@ -118,29 +121,32 @@ fn add_diagonals(
     if face.len() != 4 {
         return Ok(());
     }
-    let first = link(mesh, found.base, Kind::Shear, settings, (face[0], face[2]));
-    let second = link(mesh, found.base, Kind::Shear, settings, (face[1], face[3]));
+    let first = found.link(mesh, Kind::Shear, settings, (face[0], face[2]));
+    let second = found.link(mesh, Kind::Shear, settings, (face[1], face[3]));
     add(found, first)?;
     add(found, second)
 }
 
-fn add_face(
-    mesh: &ObjMesh,
-    settings: &MeshSettings,
-    kind: Kind,
-    face: &[u32],
-    found: &mut FoundLinks,
-) -> Result<(), ObjFault>
-    requires mesh { FitsNet mesh.now found.old.base }
-    requires joined { HoldsJoined found.old }
-    requires face { Names mesh.now face.now }
-    ensures ok { OnOk result (Adds (face_links settings.now mesh.now found.old.base kind face.now) found.old found.new) }
-    ensures err { IfErr result (λ fault. IsStopped (face_links settings.now mesh.now found.old.base kind face.now) found.old fault) }
-{
-    match kind {
-        Kind::Stretch => add_ring(mesh, settings.stretch, face, found),
-        Kind::Shear => add_diagonals(mesh, settings.shear, face, found),
-        Kind::Bend | Kind::Plain => Ok(()),
+impl MeshSettings {
+    /// Adds the links of a kind that a face has of itself.
+    fn add_face(
+        &self,
+        mesh: &ObjMesh,
+        kind: Kind,
+        face: &[u32],
+        found: &mut FoundLinks,
+    ) -> Result<(), ObjFault>
+        requires mesh { FitsNet mesh.now found.old.base }
+        requires joined { HoldsJoined found.old }
+        requires face { Names mesh.now face.now }
+        ensures ok { OnOk result (Adds (face_links self.now mesh.now found.old.base kind face.now) found.old found.new) }
+        ensures err { IfErr result (λ fault. IsStopped (face_links self.now mesh.now found.old.base kind face.now) found.old fault) }
+    {
+        match kind {
+            Kind::Stretch => add_ring(mesh, self.stretch, face, found),
+            Kind::Shear => add_diagonals(mesh, self.shear, face, found),
+            Kind::Bend | Kind::Plain => Ok(()),
+        }
     }
 }
 
@@ -160,7 +166,7 @@ fn add_kind(
     let mut rest = mesh.corners.as_slice();
     for size in sizes {
         let (face, behind) = rest.split_at(*size as usize);
-        add_face(mesh, settings, kind, face, found)?;
+        settings.add_face(mesh, kind, face, found)?;
         rest = behind;
     }
     Ok(())

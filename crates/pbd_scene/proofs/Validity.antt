@@ -4,7 +4,6 @@ use Rattle.std.proofs.Common.{◌&&◌, ◌||◌, ◌==◌, Ok, map, arith, pos,
 use Rattle.std.specs.Prelude.{nat_le, nat_lt, IsTrue, fold, if◌then◌else◌}
 use Rattle.std.specs.List.{list_all, list_any}
 use Rattle.std.proofs.lemmas.Bool.{and_parts, and_from, not-true, or_left, or_right, eq-eqb, lt-ltb, le-leb, ltb-true}
-use Rattle.std.proofs.lemmas.Bool.Decides.{nat_tests}
 use Rattle.std.proofs.lemmas.List.{length-append}
 use Rattle.std.proofs.lemmas.List.Folds.{list_all-append, list_any-append}
 use Rattle.std.proofs.lemmas.List.Sums.{sum_by-cons}

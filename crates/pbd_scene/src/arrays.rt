@@ -7,7 +7,7 @@ ghost use Rattle.pbd_scene.specs.Values.{array_of, value_of, any_integer, four_o
 use crate::each::{Reader, read_each};
 use crate::fault::{KeyName, Place, SceneFault, SceneRule, TableName};
 use crate::raw::Row;
-use crate::values::{any_integer, broken, find, known, value_of};
+use crate::values::{Entry, any_integer, broken, find, known, value_of};
 use crate::vectors::axes_of;
 use pbd_world::List;
 use std::alloc::Global;
@@ -39,25 +39,6 @@ impl Reader for IntegerOf {
 
     fn read(&self, _before: &[i64], value: &Value) -> Result<i64, SceneFault> {
         any_integer(self.place, self.key, value)
-    }
-}
-
-/// The array of integers of a key, or none.
-#[tactic(auto, unfolding(crate::specs::Values::integers_of))]
-pub fn integers_of(
-    alloc: Global,
-    place: Place,
-    key: KeyName,
-    members: &Table,
-) -> Result<List<i64>, SceneFault>
-    ensures { Gives (λ ns. ns) result (integers_of place key (table_view members.now)) }
-{
-    match value_of(key, members) {
-        None => Ok(List::new(alloc)),
-        Some(value) => match array_of(value) {
-            None => broken(SceneRule::WrongType, place, key),
-            Some(items) => read_each(alloc, &IntegerOf { place, key }, items),
-        },
     }
 }
 
@@ -93,21 +74,34 @@ pub fn row(place: Place, key: KeyName, value: &Value) -> Result<Row, SceneFault>
     }
 }
 
-/// The array of a key that must be there.
-#[tactic(auto, unfolding(crate::specs::Values::required_array))]
-pub fn required_array<'a>(
-    place: Place,
-    key: KeyName,
-    members: &'a Table,
-) -> Result<&'a [Value], SceneFault>
-    ensures { Gives (λ vs. map view vs.now) result (required_array place key (table_view members.now)) }
-{
-    match value_of(key, members) {
-        None => broken(SceneRule::MissingKey, place, key),
-        Some(value) => match array_of(value) {
-            None => broken(SceneRule::WrongType, place, key),
-            Some(items) => Ok(items),
-        },
+impl<'a> Entry<'a> {
+    /// The array of integers of a key, or none.
+    #[tactic(auto, unfolding(crate::specs::Values::integers_of))]
+    pub fn integers_of(&self, alloc: Global, key: KeyName) -> Result<List<i64>, SceneFault>
+        ensures { Gives (λ ns. ns) result (integers_of self.now.place key (table_view self.now.members.now)) }
+    {
+        let place = self.place;
+        match value_of(key, self.members) {
+            None => Ok(List::new(alloc)),
+            Some(value) => match array_of(value) {
+                None => broken(SceneRule::WrongType, place, key),
+                Some(items) => read_each(alloc, &IntegerOf { place, key }, items),
+            },
+        }
+    }
+
+    /// The array of a key that must be there.
+    #[tactic(auto, unfolding(crate::specs::Values::required_array))]
+    pub fn required_array(&self, key: KeyName) -> Result<&'a [Value], SceneFault>
+        ensures { Gives (λ vs. map view vs.now) result (required_array self.now.place key (table_view self.now.members.now)) }
+    {
+        match value_of(key, self.members) {
+            None => broken(SceneRule::MissingKey, self.place, key),
+            Some(value) => match array_of(value) {
+                None => broken(SceneRule::WrongType, self.place, key),
+                Some(items) => Ok(items),
+            },
+        }
     }
 }
 

@@ -9,7 +9,7 @@ use crate::each::Reader;
 use crate::fault::{KeyName, Place, SceneFault, TableName};
 use crate::limit::Limit;
 use crate::raw::LinkEntry;
-use crate::values::{count_or, length_or_zero, optional_integer, required_any_integer};
+use crate::values::Entry;
 use toml::Value;
 
 #[derive(Clone, Copy)]
@@ -26,12 +26,13 @@ fn link_of(limit: &Limit, before: &[LinkEntry], value: &Value) -> Result<LinkEnt
         table: TableName::Link,
         position: before.len() as u32,
     };
-    let table = entry(place, value)?;
-    let a = required_any_integer(place, KeyName::A, table)?;
-    let b = required_any_integer(place, KeyName::B, table)?;
-    let rest = optional_integer(place, KeyName::Rest, 0, limit.four_times(), table)?;
-    let k = count_or(place, KeyName::Stiffness, 0, 256, 256, table)?;
-    let tear = length_or_zero(place, KeyName::Tear, limit, table)?;
+    let members = entry(place, value)?;
+    let entry = Entry { place, members };
+    let a = entry.required_any_integer(KeyName::A)?;
+    let b = entry.required_any_integer(KeyName::B)?;
+    let rest = entry.optional_integer(KeyName::Rest, 0, limit.four_times())?;
+    let k = entry.count_or(KeyName::Stiffness, 0, 256, 256)?;
+    let tear = entry.length_or_zero(KeyName::Tear, limit)?;
     Ok(LinkEntry {
         a,
         b,

@@ -82,19 +82,25 @@ fn room_for_link(place: Place, lists: &NeighbourLists, a: u32, b: u32) -> Result
     )
 }
 
+/// The links so far, and for each particle the other ends of those at it.
+#[derive(Drop)]
+struct LinksSoFar<'a> {
+    links: &'a [Link],
+    lists: &'a NeighbourLists,
+}
+
 /// The link of an entry, where `position` entries and these links stand before it.
 #[tactic(auto, unfolding(crate::specs::Naming::entry_link))]
 fn entry_link(
     particles: &[Particle],
     position: u32,
-    links: &[Link],
-    lists: &NeighbourLists,
+    so_far: &LinksSoFar<'_>,
     l: LinkEntry,
 ) -> Result<Link, SceneFault>
     requires few { length particles.now ≤ 65536 }
     requires places { All (λ p. Within (2 ^ 29) p.at) particles.now }
-    requires lists { HoldsNeighbours (length particles.now) links.now lists.now }
-    ensures { Gives (λ l. l) result (entry_link particles.now position links.now l) }
+    requires lists { HoldsNeighbours (length particles.now) so_far.now.links.now so_far.now.lists.now }
+    ensures { Gives (λ l. l) result (entry_link particles.now position so_far.now.links.now l) }
 {
     let place = Place {
         table: TableName::Link,
@@ -102,7 +108,7 @@ fn entry_link(
     };
     let count = particles.len() as u32;
     expect(
-        links.len() < MOST_LINKS,
+        so_far.links.len() < MOST_LINKS,
         SceneRule::TooMany,
         place,
         KeyName::NoKey,
@@ -110,7 +116,7 @@ fn entry_link(
     let a = particle_number(count, place, KeyName::A, l.a)?;
     let b = particle_number(count, place, KeyName::B, l.b)?;
     expect(a != b, SceneRule::SelfLink, place, KeyName::NoKey)?;
-    room_for_link(place, lists, a, b)?;
+    room_for_link(place, so_far.lists, a, b)?;
     Ok(plain_link(a, b, rest_of(particles, a, b, l.rest), l))
 }
 
@@ -128,7 +134,11 @@ pub fn add_links(
 {
     let mut lists = NeighbourLists::of(alloc, particles.len(), links.as_slice())?;
     for (i, entry) in entries.iter().enumerate() {
-        let link = entry_link(particles, i as u32, links.as_slice(), &lists, *entry)?;
+        let so_far = LinksSoFar {
+            links: links.as_slice(),
+            lists: &lists,
+        };
+        let link = entry_link(particles, i as u32, &so_far, *entry)?;
         lists.add(&link)?;
         links.push(link)?;
     }

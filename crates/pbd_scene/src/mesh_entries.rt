@@ -12,11 +12,10 @@ use crate::each::Reader;
 use crate::fault::{KeyName, Place, SceneFault, SceneRule, TableName};
 use crate::limit::Limit;
 use crate::raw::{ClothCounts, ClothStiffness, ClothTears, ClothVectors, RopeLinks, RopeParticles};
-use crate::values::{broken, count_or, expect, length_or_zero, required_count};
-use crate::vectors::required_vector;
+use crate::values::{Entry, broken, expect};
 use pbd_mesh::{ClothSpec, RopeSpec};
 use pbd_world::MOST_PARTICLES;
-use toml::{Table, Value};
+use toml::Value;
 
 // ---- cloths
 
@@ -51,37 +50,13 @@ fn room_for(place: Place, n: u32) -> Result<(), SceneFault>
     )
 }
 
-#[tactic(auto, unfolding(crate::specs::Entries::fitting_cloth))]
-fn fitting_cloth(
-    limit: &Limit,
-    count: u32,
-    before: &[ClothSpec],
-    place: Place,
-    spec: ClothSpec,
-) -> Result<ClothSpec, SceneFault>
-    requires room { count + all_cloths_size before.now ≤ 65536 }
-    ensures value { Gives (λ s. s) result (fitting_cloth limit.now.units count before.now place spec) }
-    ensures fits { IfOk result (λ s. cloth_fits limit.now.units s ≡ true) }
-    ensures room { IfOk result (λ s. count + all_cloths_size before.now + cloth_size s ≤ 65536) }
-{
-    if spec.fits(limit.units) {
-        room_for(
-            place,
-            count + all_cloths_size(before) + spec.rows * spec.columns,
-        )?;
-        Ok(spec)
-    } else {
-        broken(SceneRule::OutOfRange, place, KeyName::NoKey)
-    }
-}
-
 #[tactic(auto, unfolding(crate::specs::Entries::cloth_vectors_of))]
-fn cloth_vectors_of(place: Place, limit: &Limit, table: &Table) -> Result<ClothVectors, SceneFault>
-    ensures { Gives (λ v. v) result (cloth_vectors_of place limit.now.units (table_view table.now)) }
+fn cloth_vectors_of(entry: &Entry<'_>, limit: &Limit) -> Result<ClothVectors, SceneFault>
+    ensures { Gives (λ v. v) result (cloth_vectors_of entry.now.place limit.now.units (table_view entry.now.members.now)) }
 {
-    let origin = required_vector(place, KeyName::Origin, limit, table)?;
-    let across = required_vector(place, KeyName::Across, limit, table)?;
-    let down = required_vector(place, KeyName::Down, limit, table)?;
+    let origin = entry.required_vector(KeyName::Origin, limit)?;
+    let across = entry.required_vector(KeyName::Across, limit)?;
+    let down = entry.required_vector(KeyName::Down, limit)?;
     Ok(ClothVectors {
         origin,
         across,
@@ -90,12 +65,12 @@ fn cloth_vectors_of(place: Place, limit: &Limit, table: &Table) -> Result<ClothV
 }
 
 #[tactic(auto, unfolding(crate::specs::Entries::cloth_counts_of))]
-fn cloth_counts_of(place: Place, table: &Table) -> Result<ClothCounts, SceneFault>
-    ensures { Gives (λ n. n) result (cloth_counts_of place (table_view table.now)) }
+fn cloth_counts_of(entry: &Entry<'_>) -> Result<ClothCounts, SceneFault>
+    ensures { Gives (λ n. n) result (cloth_counts_of entry.now.place (table_view entry.now.members.now)) }
 {
-    let rows = required_count(place, KeyName::Rows, 1, 256, table)?;
-    let columns = required_count(place, KeyName::Columns, 1, 256, table)?;
-    let weight = count_or(place, KeyName::Weight, 1, 65_535, 1, table)?;
+    let rows = entry.required_count(KeyName::Rows, 1, 256)?;
+    let columns = entry.required_count(KeyName::Columns, 1, 256)?;
+    let weight = entry.count_or(KeyName::Weight, 1, 65_535, 1)?;
     Ok(ClothCounts {
         rows,
         columns,
@@ -104,12 +79,12 @@ fn cloth_counts_of(place: Place, table: &Table) -> Result<ClothCounts, SceneFaul
 }
 
 #[tactic(auto, unfolding(crate::specs::Entries::cloth_stiffness_of))]
-fn cloth_stiffness_of(place: Place, table: &Table) -> Result<ClothStiffness, SceneFault>
-    ensures { Gives (λ k. k) result (cloth_stiffness_of place (table_view table.now)) }
+fn cloth_stiffness_of(entry: &Entry<'_>) -> Result<ClothStiffness, SceneFault>
+    ensures { Gives (λ k. k) result (cloth_stiffness_of entry.now.place (table_view entry.now.members.now)) }
 {
-    let stretch = count_or(place, KeyName::Stretch, 0, 256, 256, table)?;
-    let shear = count_or(place, KeyName::Shear, 0, 256, 256, table)?;
-    let bend = count_or(place, KeyName::Bend, 0, 256, 64, table)?;
+    let stretch = entry.count_or(KeyName::Stretch, 0, 256, 256)?;
+    let shear = entry.count_or(KeyName::Shear, 0, 256, 256)?;
+    let bend = entry.count_or(KeyName::Bend, 0, 256, 64)?;
     Ok(ClothStiffness {
         stretch,
         shear,
@@ -118,12 +93,12 @@ fn cloth_stiffness_of(place: Place, table: &Table) -> Result<ClothStiffness, Sce
 }
 
 #[tactic(auto, unfolding(crate::specs::Entries::cloth_tears_of))]
-fn cloth_tears_of(place: Place, limit: &Limit, table: &Table) -> Result<ClothTears, SceneFault>
-    ensures { Gives (λ t. t) result (cloth_tears_of place limit.now.units (table_view table.now)) }
+fn cloth_tears_of(entry: &Entry<'_>, limit: &Limit) -> Result<ClothTears, SceneFault>
+    ensures { Gives (λ t. t) result (cloth_tears_of entry.now.place limit.now.units (table_view entry.now.members.now)) }
 {
-    let stretch = length_or_zero(place, KeyName::StretchTear, limit, table)?;
-    let shear = length_or_zero(place, KeyName::ShearTear, limit, table)?;
-    let bend = length_or_zero(place, KeyName::BendTear, limit, table)?;
+    let stretch = entry.length_or_zero(KeyName::StretchTear, limit)?;
+    let shear = entry.length_or_zero(KeyName::ShearTear, limit)?;
+    let bend = entry.length_or_zero(KeyName::BendTear, limit)?;
     Ok(ClothTears {
         stretch,
         shear,
@@ -157,36 +132,57 @@ fn cloth_with(
 }
 
 #[tactic(auto, unfolding(crate::specs::Entries::cloth_spec_of))]
-fn cloth_spec_of(place: Place, limit: &Limit, table: &Table) -> Result<ClothSpec, SceneFault>
-    ensures { Gives (λ s. s) result (cloth_spec_of place limit.now.units (table_view table.now)) }
+fn cloth_spec_of(entry: &Entry<'_>, limit: &Limit) -> Result<ClothSpec, SceneFault>
+    ensures { Gives (λ s. s) result (cloth_spec_of entry.now.place limit.now.units (table_view entry.now.members.now)) }
 {
-    let vectors = cloth_vectors_of(place, limit, table)?;
-    let counts = cloth_counts_of(place, table)?;
-    let stiffness = cloth_stiffness_of(place, table)?;
-    let tears = cloth_tears_of(place, limit, table)?;
+    let vectors = cloth_vectors_of(entry, limit)?;
+    let counts = cloth_counts_of(entry)?;
+    let stiffness = cloth_stiffness_of(entry)?;
+    let tears = cloth_tears_of(entry, limit)?;
     Ok(cloth_with(vectors, counts, stiffness, tears))
 }
 
-#[tactic(auto, unfolding(crate::specs::Entries::cloth_of))]
-fn cloth_of(
-    limit: &Limit,
-    count: u32,
-    before: &[ClothSpec],
-    value: &Value,
-) -> Result<ClothSpec, SceneFault>
-    requires few { length before.now < 64 }
-    requires room { count + all_cloths_size before.now ≤ 65536 }
-    ensures value { Gives (λ s. s) result (cloth_of limit.now.units count before.now (view value.now)) }
-    ensures fits { IfOk result (λ s. cloth_fits limit.now.units s ≡ true) }
-    ensures room { IfOk result (λ s. count + all_cloths_size before.now + cloth_size s ≤ 65536) }
-{
-    let place = Place {
-        table: TableName::Cloth,
-        position: before.len() as u32,
-    };
-    let table = entry(place, value)?;
-    let spec = cloth_spec_of(place, limit, table)?;
-    fitting_cloth(limit, count, before, place, spec)
+impl Cloths {
+    /// A cloth that fits, with room for its particles behind those of the cloths before it.
+    #[tactic(auto, unfolding(crate::specs::Entries::fitting_cloth))]
+    fn fitting(
+        &self,
+        before: &[ClothSpec],
+        place: Place,
+        spec: ClothSpec,
+    ) -> Result<ClothSpec, SceneFault>
+        requires room { self.now.count + all_cloths_size before.now ≤ 65536 }
+        ensures value { Gives (λ s. s) result (fitting_cloth self.now.limit.units self.now.count before.now place spec) }
+        ensures fits { IfOk result (λ s. cloth_fits self.now.limit.units s ≡ true) }
+        ensures room { IfOk result (λ s. self.now.count + all_cloths_size before.now + cloth_size s ≤ 65536) }
+    {
+        if spec.fits(self.limit.units) {
+            room_for(
+                place,
+                self.count + all_cloths_size(before) + spec.rows * spec.columns,
+            )?;
+            Ok(spec)
+        } else {
+            broken(SceneRule::OutOfRange, place, KeyName::NoKey)
+        }
+    }
+
+    #[tactic(auto, unfolding(crate::specs::Entries::cloth_of))]
+    fn cloth(&self, before: &[ClothSpec], value: &Value) -> Result<ClothSpec, SceneFault>
+        requires few { length before.now < 64 }
+        requires room { self.now.count + all_cloths_size before.now ≤ 65536 }
+        ensures value { Gives (λ s. s) result (cloth_of self.now.limit.units self.now.count before.now (view value.now)) }
+        ensures fits { IfOk result (λ s. cloth_fits self.now.limit.units s ≡ true) }
+        ensures room { IfOk result (λ s. self.now.count + all_cloths_size before.now + cloth_size s ≤ 65536) }
+    {
+        let place = Place {
+            table: TableName::Cloth,
+            position: before.len() as u32,
+        };
+        let members = entry(place, value)?;
+        let spec = cloth_spec_of(&Entry { place, members }, &self.limit)?;
+        self.fitting(before, place, spec)
+    }
 }
 
 impl Reader for Cloths {
@@ -199,7 +195,7 @@ impl Reader for Cloths {
     ghost reads = { λ s before d. cloth_of s.limit.units s.count before d };
 
     fn read(&self, before: &[ClothSpec], value: &Value) -> Result<ClothSpec, SceneFault> {
-        cloth_of(&self.limit, self.count, before, value)
+        self.cloth(before, value)
     }
 }
 
@@ -223,39 +219,14 @@ fn all_ropes_size(ropes: &[RopeSpec]) -> u32
     size
 }
 
-#[tactic(auto, unfolding(crate::specs::Entries::fitting_rope))]
-fn fitting_rope(
-    limit: &Limit,
-    count: u32,
-    before: &[RopeSpec],
-    place: Place,
-    spec: RopeSpec,
-) -> Result<RopeSpec, SceneFault>
-    requires room { count + all_ropes_size before.now ≤ 65536 }
-    ensures value { Gives (λ s. s) result (fitting_rope limit.now.units count before.now place spec) }
-    ensures fits { IfOk result (λ s. rope_fits limit.now.units s ≡ true) }
-    ensures room { IfOk result (λ s. count + all_ropes_size before.now + s.count ≤ 65536) }
-{
-    if spec.fits(limit.units) {
-        room_for(place, count + all_ropes_size(before) + spec.count)?;
-        Ok(spec)
-    } else {
-        broken(SceneRule::OutOfRange, place, KeyName::NoKey)
-    }
-}
-
 #[tactic(auto, unfolding(crate::specs::Entries::rope_particles_of))]
-fn rope_particles_of(
-    place: Place,
-    limit: &Limit,
-    table: &Table,
-) -> Result<RopeParticles, SceneFault>
-    ensures { Gives (λ p. p) result (rope_particles_of place limit.now.units (table_view table.now)) }
+fn rope_particles_of(entry: &Entry<'_>, limit: &Limit) -> Result<RopeParticles, SceneFault>
+    ensures { Gives (λ p. p) result (rope_particles_of entry.now.place limit.now.units (table_view entry.now.members.now)) }
 {
-    let origin = required_vector(place, KeyName::Origin, limit, table)?;
-    let spacing = required_vector(place, KeyName::Spacing, limit, table)?;
-    let count = required_count(place, KeyName::Count, 1, 4096, table)?;
-    let weight = count_or(place, KeyName::Weight, 1, 65_535, 1, table)?;
+    let origin = entry.required_vector(KeyName::Origin, limit)?;
+    let spacing = entry.required_vector(KeyName::Spacing, limit)?;
+    let count = entry.required_count(KeyName::Count, 1, 4096)?;
+    let weight = entry.count_or(KeyName::Weight, 1, 65_535, 1)?;
     Ok(RopeParticles {
         origin,
         spacing,
@@ -265,13 +236,13 @@ fn rope_particles_of(
 }
 
 #[tactic(auto, unfolding(crate::specs::Entries::rope_links_of))]
-fn rope_links_of(place: Place, limit: &Limit, table: &Table) -> Result<RopeLinks, SceneFault>
-    ensures { Gives (λ l. l) result (rope_links_of place limit.now.units (table_view table.now)) }
+fn rope_links_of(entry: &Entry<'_>, limit: &Limit) -> Result<RopeLinks, SceneFault>
+    ensures { Gives (λ l. l) result (rope_links_of entry.now.place limit.now.units (table_view entry.now.members.now)) }
 {
-    let stretch = count_or(place, KeyName::Stretch, 0, 256, 256, table)?;
-    let bend = count_or(place, KeyName::Bend, 0, 256, 64, table)?;
-    let stretch_tear = length_or_zero(place, KeyName::StretchTear, limit, table)?;
-    let bend_tear = length_or_zero(place, KeyName::BendTear, limit, table)?;
+    let stretch = entry.count_or(KeyName::Stretch, 0, 256, 256)?;
+    let bend = entry.count_or(KeyName::Bend, 0, 256, 64)?;
+    let stretch_tear = entry.length_or_zero(KeyName::StretchTear, limit)?;
+    let bend_tear = entry.length_or_zero(KeyName::BendTear, limit)?;
     Ok(RopeLinks {
         stretch,
         bend,
@@ -296,27 +267,46 @@ fn rope_with(particles: RopeParticles, links: RopeLinks) -> RopeSpec
     }
 }
 
-#[tactic(auto, unfolding(crate::specs::Entries::rope_of))]
-fn rope_of(
-    limit: &Limit,
-    count: u32,
-    before: &[RopeSpec],
-    value: &Value,
-) -> Result<RopeSpec, SceneFault>
-    requires few { length before.now < 64 }
-    requires room { count + all_ropes_size before.now ≤ 65536 }
-    ensures value { Gives (λ s. s) result (rope_of limit.now.units count before.now (view value.now)) }
-    ensures fits { IfOk result (λ s. rope_fits limit.now.units s ≡ true) }
-    ensures room { IfOk result (λ s. count + all_ropes_size before.now + s.count ≤ 65536) }
-{
-    let place = Place {
-        table: TableName::Rope,
-        position: before.len() as u32,
-    };
-    let table = entry(place, value)?;
-    let particles = rope_particles_of(place, limit, table)?;
-    let links = rope_links_of(place, limit, table)?;
-    fitting_rope(limit, count, before, place, rope_with(particles, links))
+impl Ropes {
+    /// A rope that fits, with room for its particles behind those of the ropes before it.
+    #[tactic(auto, unfolding(crate::specs::Entries::fitting_rope))]
+    fn fitting(
+        &self,
+        before: &[RopeSpec],
+        place: Place,
+        spec: RopeSpec,
+    ) -> Result<RopeSpec, SceneFault>
+        requires room { self.now.count + all_ropes_size before.now ≤ 65536 }
+        ensures value { Gives (λ s. s) result (fitting_rope self.now.limit.units self.now.count before.now place spec) }
+        ensures fits { IfOk result (λ s. rope_fits self.now.limit.units s ≡ true) }
+        ensures room { IfOk result (λ s. self.now.count + all_ropes_size before.now + s.count ≤ 65536) }
+    {
+        if spec.fits(self.limit.units) {
+            room_for(place, self.count + all_ropes_size(before) + spec.count)?;
+            Ok(spec)
+        } else {
+            broken(SceneRule::OutOfRange, place, KeyName::NoKey)
+        }
+    }
+
+    #[tactic(auto, unfolding(crate::specs::Entries::rope_of))]
+    fn rope(&self, before: &[RopeSpec], value: &Value) -> Result<RopeSpec, SceneFault>
+        requires few { length before.now < 64 }
+        requires room { self.now.count + all_ropes_size before.now ≤ 65536 }
+        ensures value { Gives (λ s. s) result (rope_of self.now.limit.units self.now.count before.now (view value.now)) }
+        ensures fits { IfOk result (λ s. rope_fits self.now.limit.units s ≡ true) }
+        ensures room { IfOk result (λ s. self.now.count + all_ropes_size before.now + s.count ≤ 65536) }
+    {
+        let place = Place {
+            table: TableName::Rope,
+            position: before.len() as u32,
+        };
+        let members = entry(place, value)?;
+        let entry = Entry { place, members };
+        let particles = rope_particles_of(&entry, &self.limit)?;
+        let links = rope_links_of(&entry, &self.limit)?;
+        self.fitting(before, place, rope_with(particles, links))
+    }
 }
 
 impl Reader for Ropes {
@@ -329,6 +319,6 @@ impl Reader for Ropes {
     ghost reads = { λ s before d. rope_of s.limit.units s.count before d };
 
     fn read(&self, before: &[RopeSpec], value: &Value) -> Result<RopeSpec, SceneFault> {
-        rope_of(&self.limit, self.count, before, value)
+        self.rope(before, value)
     }
 }

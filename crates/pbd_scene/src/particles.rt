@@ -9,8 +9,8 @@ use crate::arrays::entry;
 use crate::each::Reader;
 use crate::fault::{KeyName, Place, SceneFault, SceneRule, TableName};
 use crate::limit::Limit;
-use crate::values::{boolean_or, broken, count_or};
-use crate::vectors::{is_inside, required_vector, vector_or_zero};
+use crate::values::{Entry, broken};
+use crate::vectors::is_inside;
 use pbd_num::Vec3;
 use pbd_world::Particle;
 use toml::Value;
@@ -49,11 +49,12 @@ fn particle_of(limit: &Limit, before: &[Particle], value: &Value) -> Result<Part
         table: TableName::Particle,
         position: before.len() as u32,
     };
-    let table = entry(place, value)?;
-    let at = required_vector(place, KeyName::At, limit, table)?;
-    let velocity = vector_or_zero(place, KeyName::Velocity, limit.twice(), table)?;
-    let weight = count_or(place, KeyName::Weight, 1, 65_535, 1, table)?;
-    let held = boolean_or(place, KeyName::Held, false, table)?;
+    let members = entry(place, value)?;
+    let entry = Entry { place, members };
+    let at = entry.required_vector(KeyName::At, limit)?;
+    let velocity = entry.vector_or_zero(KeyName::Velocity, limit.twice())?;
+    let weight = entry.count_or(KeyName::Weight, 1, 65_535, 1)?;
+    let held = entry.boolean_or(KeyName::Held, false)?;
     let gone = inside_before(limit, place, at, velocity)?;
     Ok(Particle {
         at,

@@ -9,15 +9,13 @@ ghost use Rattle.pbd_scene.specs.Calls.{from_tracks, from_pins, from_tables};
 ghost use Rattle.pbd_scene.specs.Checks.{Gives};
 ghost use Rattle.pbd_scene.specs.Scene.{pins_of, numbers_of, settings_of, with_entries, scene_of, Reads};
 
-use crate::arrays::integers_of;
 use crate::fault::{KeyName, Place, SceneFault, SceneRule, TableName};
 use crate::linking::add_links;
 use crate::meshes::add_meshes;
 use crate::naming::{add_tracked, holding, pinned_particles, place_tracks};
 use crate::raw::{LinkEntry, Numbers, Settings, Shapes, TrackEntry};
 use crate::table_lists::tables_of;
-use crate::values::{broken, count_or, integer_or, known};
-use crate::vectors::vector_or_zero;
+use crate::values::{Entry, broken, known};
 use pbd_world::{List, MOST_PARTICLES, MOST_THICKNESS, Particle, Parts, PartsFault, Scene};
 use std::alloc::{AllocError, Global};
 use toml::Table;
@@ -31,7 +29,11 @@ const AT_SCENE: Place = Place {
 fn pins_of(alloc: Global, members: &Table) -> Result<List<i64>, SceneFault>
     ensures { Gives (λ ns. ns) result (pins_of (table_view members.now)) }
 {
-    let pins = integers_of(alloc, AT_SCENE, KeyName::Pins, members)?;
+    let scene = Entry {
+        place: AT_SCENE,
+        members,
+    };
+    let pins = scene.integers_of(alloc, KeyName::Pins)?;
     if pins.len() <= MOST_PARTICLES {
         Ok(pins)
     } else {
@@ -43,10 +45,14 @@ fn pins_of(alloc: Global, members: &Table) -> Result<List<i64>, SceneFault>
 fn numbers_of(members: &Table) -> Result<Numbers, SceneFault>
     ensures { Gives (λ n. n) result (numbers_of (table_view members.now)) }
 {
-    let passes = count_or(AT_SCENE, KeyName::Passes, 0, 64, 1, members)?;
-    let damping = integer_or(AT_SCENE, KeyName::Damping, 0, 1024, 0, members)?;
-    let thickness = integer_or(AT_SCENE, KeyName::Thickness, 0, MOST_THICKNESS, 0, members)?;
-    let friction = integer_or(AT_SCENE, KeyName::Friction, 0, 256, 0, members)?;
+    let scene = Entry {
+        place: AT_SCENE,
+        members,
+    };
+    let passes = scene.count_or(KeyName::Passes, 0, 64, 1)?;
+    let damping = scene.integer_or(KeyName::Damping, 0, 1024, 0)?;
+    let thickness = scene.integer_or(KeyName::Thickness, 0, MOST_THICKNESS, 0)?;
+    let friction = scene.integer_or(KeyName::Friction, 0, 256, 0)?;
     Ok(Numbers {
         passes: passes as u32,
         damping,
@@ -62,7 +68,11 @@ fn settings_of(alloc: Global, limit: i64, members: &Table) -> Result<Settings, S
     ensures { Gives (λ s. s) result (settings_of limit (table_view members.now)) }
 {
     known(AT_SCENE, members)?;
-    let gravity = vector_or_zero(AT_SCENE, KeyName::Gravity, limit, members)?;
+    let scene = Entry {
+        place: AT_SCENE,
+        members,
+    };
+    let gravity = scene.vector_or_zero(KeyName::Gravity, limit)?;
     let numbers = numbers_of(members)?;
     let pins = pins_of(alloc, members)?;
     Ok(Settings {

@@ -9,8 +9,8 @@ use crate::arrays::entry;
 use crate::each::Reader;
 use crate::fault::{KeyName, Place, SceneFault, SceneRule, TableName};
 use crate::limit::Limit;
-use crate::values::{broken, required_integer};
-use crate::vectors::{is_inside, required_vector};
+use crate::values::{Entry, broken};
+use crate::vectors::is_inside;
 use pbd_num::Vec3;
 use pbd_world::{Plane, Sphere};
 use toml::Value;
@@ -35,16 +35,11 @@ fn plane_of(before: &[Plane], value: &Value) -> Result<Plane, SceneFault>
         table: TableName::Plane,
         position: before.len() as u32,
     };
-    let table = entry(place, value)?;
+    let members = entry(place, value)?;
+    let entry = Entry { place, members };
     let most = Limit { units: 1024 };
-    let normal = required_vector(place, KeyName::Normal, &most, table)?;
-    let offset = required_integer(
-        place,
-        KeyName::Offset,
-        -1_099_511_627_776,
-        1_099_511_627_776,
-        table,
-    )?;
+    let normal = entry.required_vector(KeyName::Normal, &most)?;
+    let offset = entry.required_integer(KeyName::Offset, -1_099_511_627_776, 1_099_511_627_776)?;
     if has_length(normal) {
         Ok(Plane { normal, offset })
     } else {
@@ -116,9 +111,10 @@ fn sphere_of(limit: &Limit, before: &[Sphere], value: &Value) -> Result<Sphere, 
         table: TableName::Sphere,
         position: before.len() as u32,
     };
-    let table = entry(place, value)?;
-    let centre = required_vector(place, KeyName::Centre, limit, table)?;
-    let radius = required_integer(place, KeyName::Radius, 1, limit.units, table)?;
+    let members = entry(place, value)?;
+    let entry = Entry { place, members };
+    let centre = entry.required_vector(KeyName::Centre, limit)?;
+    let radius = entry.required_integer(KeyName::Radius, 1, limit.units)?;
     if reaches_within(limit, centre, radius) {
         Ok(Sphere { centre, radius })
     } else {

@@ -4,16 +4,16 @@ ghost use Rattle.toml.specs.View.{view, table_view};
 ghost use Rattle.pbd_scene.specs.Checks.{Gives, each};
 ghost use Rattle.pbd_scene.specs.Entries.{row_of, step_number, key_of, step_of, steps_rise, few_rows, rising_path, path_of, track_of};
 
-use crate::arrays::{entry, required_array, row};
+use crate::arrays::{entry, row};
 use crate::each::{Reader, read_each};
 use crate::fault::{KeyName, Place, SceneFault, SceneRule, TableName};
 use crate::limit::Limit;
 use crate::raw::{Row, TrackEntry};
-use crate::values::{broken, expect, required_any_integer};
+use crate::values::{Entry, broken, expect};
 use crate::vectors::is_inside;
 use pbd_world::{Key, LAST_STEP, List};
 use std::alloc::Global;
-use toml::{Table, Value};
+use toml::Value;
 
 #[derive(Clone, Copy)]
 pub struct Tracks {
@@ -152,17 +152,12 @@ fn rising_path(
 }
 
 #[tactic(auto, unfolding(crate::specs::Entries::path_of))]
-fn path_of(
-    alloc: Global,
-    place: Place,
-    limit: &Limit,
-    table: &Table,
-) -> Result<List<Key>, SceneFault>
-    ensures { Gives (λ ks. ks) result (path_of place limit.now.units (table_view table.now)) }
+fn path_of(alloc: Global, limit: &Limit, entry: &Entry<'_>) -> Result<List<Key>, SceneFault>
+    ensures { Gives (λ ks. ks) result (path_of entry.now.place limit.now.units (table_view entry.now.members.now)) }
 {
-    let values = required_array(place, KeyName::Keys, table)?;
-    few_rows(alloc, place, values)?;
-    rising_path(alloc, place, limit, values)
+    let values = entry.required_array(KeyName::Keys)?;
+    few_rows(alloc, entry.place, values)?;
+    rising_path(alloc, entry.place, limit, values)
 }
 
 #[tactic(auto, unfolding(crate::specs::Entries::track_of))]
@@ -179,9 +174,10 @@ fn track_of(
         table: TableName::Track,
         position: before.len() as u32,
     };
-    let table = entry(place, value)?;
-    let particle = required_any_integer(place, KeyName::Particle, table)?;
-    let keys = path_of(alloc, place, limit, table)?;
+    let members = entry(place, value)?;
+    let entry = Entry { place, members };
+    let particle = entry.required_any_integer(KeyName::Particle)?;
+    let keys = path_of(alloc, limit, &entry)?;
     Ok(TrackEntry { particle, keys })
 }
 

@@ -92,7 +92,7 @@ pub fn value_of(key: KeyName, members: &Table) -> Option<&Value>
     find(members, key.name())
 }
 
-// ---- integers
+// ---- the values of keys
 
 pub fn any_integer(place: Place, key: KeyName, value: &Value) -> Result<i64, SceneFault>
     ensures { Gives (λ n. n) result (any_integer place key (view value.now)) }
@@ -103,153 +103,135 @@ pub fn any_integer(place: Place, key: KeyName, value: &Value) -> Result<i64, Sce
     }
 }
 
-fn integer(
-    place: Place,
-    key: KeyName,
-    low: i64,
-    high: i64,
-    value: &Value,
-) -> Result<i64, SceneFault>
-    ensures value { Gives (λ n. n) result (integer place key low high (view value.now)) }
-    ensures low { IfOk result (λ n. low ≤ℤ n) }
-    ensures high { IfOk result (λ n. n ≤ℤ high) }
-{
-    let n = any_integer(place, key, value)?;
-    if low <= n && n <= high {
-        Ok(n)
-    } else {
-        broken(SceneRule::OutOfRange, place, key)
+/// The keys of an entry of a table, or of the scene itself, with their values.
+#[derive(Drop)]
+pub struct Entry<'a> {
+    pub place: Place,
+    pub members: &'a Table,
+}
+
+impl Entry<'_> {
+    fn integer(&self, key: KeyName, low: i64, high: i64, value: &Value) -> Result<i64, SceneFault>
+        ensures value { Gives (λ n. n) result (integer self.now.place key low high (view value.now)) }
+        ensures low { IfOk result (λ n. low ≤ℤ n) }
+        ensures high { IfOk result (λ n. n ≤ℤ high) }
+    {
+        let n = any_integer(self.place, key, value)?;
+        if low <= n && n <= high {
+            Ok(n)
+        } else {
+            broken(SceneRule::OutOfRange, self.place, key)
+        }
     }
-}
 
-/// The integer of a key that must be there.
-#[tactic(auto, unfolding(crate::specs::Values::required_any_integer))]
-pub fn required_any_integer(place: Place, key: KeyName, members: &Table) -> Result<i64, SceneFault>
-    ensures { Gives (λ n. n) result (required_any_integer place key (table_view members.now)) }
-{
-    match value_of(key, members) {
-        None => broken(SceneRule::MissingKey, place, key),
-        Some(value) => any_integer(place, key, value),
+    /// The integer of a key that must be there.
+    #[tactic(auto, unfolding(crate::specs::Values::required_any_integer))]
+    pub fn required_any_integer(&self, key: KeyName) -> Result<i64, SceneFault>
+        ensures { Gives (λ n. n) result (required_any_integer self.now.place key (table_view self.now.members.now)) }
+    {
+        match value_of(key, self.members) {
+            None => broken(SceneRule::MissingKey, self.place, key),
+            Some(value) => any_integer(self.place, key, value),
+        }
     }
-}
 
-#[tactic(auto, unfolding(crate::specs::Values::required_integer))]
-pub fn required_integer(
-    place: Place,
-    key: KeyName,
-    low: i64,
-    high: i64,
-    members: &Table,
-) -> Result<i64, SceneFault>
-    ensures value { Gives (λ n. n) result (required_integer place key low high (table_view members.now)) }
-    ensures low { IfOk result (λ n. low ≤ℤ n) }
-    ensures high { IfOk result (λ n. n ≤ℤ high) }
-{
-    match value_of(key, members) {
-        None => broken(SceneRule::MissingKey, place, key),
-        Some(value) => integer(place, key, low, high, value),
+    /// The integer in low..=high of a key that must be there.
+    #[tactic(auto, unfolding(crate::specs::Values::required_integer))]
+    pub fn required_integer(&self, key: KeyName, low: i64, high: i64) -> Result<i64, SceneFault>
+        ensures value { Gives (λ n. n) result (required_integer self.now.place key low high (table_view self.now.members.now)) }
+        ensures low { IfOk result (λ n. low ≤ℤ n) }
+        ensures high { IfOk result (λ n. n ≤ℤ high) }
+    {
+        match value_of(key, self.members) {
+            None => broken(SceneRule::MissingKey, self.place, key),
+            Some(value) => self.integer(key, low, high, value),
+        }
     }
-}
 
-#[tactic(auto, unfolding(crate::specs::Values::optional_integer))]
-pub fn optional_integer(
-    place: Place,
-    key: KeyName,
-    low: i64,
-    high: i64,
-    members: &Table,
-) -> Result<Option<i64>, SceneFault>
-    ensures { Gives (λ n. n) result (optional_integer place key low high (table_view members.now)) }
-{
-    match value_of(key, members) {
-        None => Ok(None),
-        Some(value) => Ok(Some(integer(place, key, low, high, value)?)),
+    /// The integer in low..=high of a key, if it is there.
+    #[tactic(auto, unfolding(crate::specs::Values::optional_integer))]
+    pub fn optional_integer(
+        &self,
+        key: KeyName,
+        low: i64,
+        high: i64,
+    ) -> Result<Option<i64>, SceneFault>
+        ensures { Gives (λ n. n) result (optional_integer self.now.place key low high (table_view self.now.members.now)) }
+    {
+        match value_of(key, self.members) {
+            None => Ok(None),
+            Some(value) => Ok(Some(self.integer(key, low, high, value)?)),
+        }
     }
-}
 
-#[tactic(auto, unfolding(crate::specs::Values::integer_or, crate::specs::Values::optional_integer))]
-pub fn integer_or(
-    place: Place,
-    key: KeyName,
-    low: i64,
-    high: i64,
-    default: i64,
-    members: &Table,
-) -> Result<i64, SceneFault>
-    requires low { low ≤ℤ default }
-    requires high { default ≤ℤ high }
-    ensures value { Gives (λ n. n) result (integer_or place key low high default (table_view members.now)) }
-    ensures low { IfOk result (λ n. low ≤ℤ n) }
-    ensures high { IfOk result (λ n. n ≤ℤ high) }
-{
-    match value_of(key, members) {
-        None => Ok(default),
-        Some(value) => integer(place, key, low, high, value),
+    /// The integer in low..=high of a key, or the default where it isn't there.
+    #[tactic(auto, unfolding(crate::specs::Values::integer_or, crate::specs::Values::optional_integer))]
+    pub fn integer_or(
+        &self,
+        key: KeyName,
+        low: i64,
+        high: i64,
+        default: i64,
+    ) -> Result<i64, SceneFault>
+        requires low { low ≤ℤ default }
+        requires high { default ≤ℤ high }
+        ensures value { Gives (λ n. n) result (integer_or self.now.place key low high default (table_view self.now.members.now)) }
+        ensures low { IfOk result (λ n. low ≤ℤ n) }
+        ensures high { IfOk result (λ n. n ≤ℤ high) }
+    {
+        match value_of(key, self.members) {
+            None => Ok(default),
+            Some(value) => self.integer(key, low, high, value),
+        }
     }
-}
 
-/// The number from 0 of a key that must be there.
-#[tactic(auto, unfolding(crate::specs::Values::required_count))]
-pub fn required_count(
-    place: Place,
-    key: KeyName,
-    low: u32,
-    high: u32,
-    members: &Table,
-) -> Result<u32, SceneFault>
-    ensures value { Gives (λ n. n) result (required_count place key low high (table_view members.now)) }
-    ensures high { IfOk result (λ n. n ≤ high) }
-{
-    let n = required_integer(place, key, low as i64, high as i64, members)?;
-    Ok(n as u32)
-}
+    /// The number from 0 of a key that must be there.
+    #[tactic(auto, unfolding(crate::specs::Values::required_count))]
+    pub fn required_count(&self, key: KeyName, low: u32, high: u32) -> Result<u32, SceneFault>
+        ensures value { Gives (λ n. n) result (required_count self.now.place key low high (table_view self.now.members.now)) }
+        ensures high { IfOk result (λ n. n ≤ high) }
+    {
+        let n = self.required_integer(key, low as i64, high as i64)?;
+        Ok(n as u32)
+    }
 
-#[tactic(auto, unfolding(crate::specs::Values::count_or))]
-pub fn count_or(
-    place: Place,
-    key: KeyName,
-    low: u16,
-    high: u16,
-    default: u16,
-    members: &Table,
-) -> Result<u16, SceneFault>
-    requires low { low ≤ default }
-    requires high { default ≤ high }
-    ensures value { Gives (λ n. n) result (count_or place key low high default (table_view members.now)) }
-    ensures high { IfOk result (λ n. n ≤ high) }
-{
-    let n = integer_or(place, key, low as i64, high as i64, default as i64, members)?;
-    Ok(n as u16)
-}
+    /// The number from 0 of a key, or the default where it isn't there.
+    #[tactic(auto, unfolding(crate::specs::Values::count_or))]
+    pub fn count_or(
+        &self,
+        key: KeyName,
+        low: u16,
+        high: u16,
+        default: u16,
+    ) -> Result<u16, SceneFault>
+        requires low { low ≤ default }
+        requires high { default ≤ high }
+        ensures value { Gives (λ n. n) result (count_or self.now.place key low high default (table_view self.now.members.now)) }
+        ensures high { IfOk result (λ n. n ≤ high) }
+    {
+        let n = self.integer_or(key, low as i64, high as i64, default as i64)?;
+        Ok(n as u16)
+    }
 
-/// A length of at most four limits, or 0.
-pub fn length_or_zero(
-    place: Place,
-    key: KeyName,
-    limit: &Limit,
-    members: &Table,
-) -> Result<i64, SceneFault>
-    ensures { Gives (λ n. n) result (integer_or place key (pos 0) (pos 4 *ℤ limit.now.units) (pos 0) (table_view members.now)) }
-{
-    integer_or(place, key, 0, limit.four_times(), 0, members)
-}
+    /// A length of at most four limits, or 0.
+    pub fn length_or_zero(&self, key: KeyName, limit: &Limit) -> Result<i64, SceneFault>
+        ensures { Gives (λ n. n) result
+            (integer_or self.now.place key (pos 0) (pos 4 *ℤ limit.now.units) (pos 0) (table_view self.now.members.now)) }
+    {
+        self.integer_or(key, 0, limit.four_times(), 0)
+    }
 
-// ---- true or false
-
-#[tactic(auto, unfolding(crate::specs::Values::boolean_or))]
-pub fn boolean_or(
-    place: Place,
-    key: KeyName,
-    default: bool,
-    members: &Table,
-) -> Result<bool, SceneFault>
-    ensures { Gives (λ b. b) result (boolean_or place key default (table_view members.now)) }
-{
-    match value_of(key, members) {
-        None => Ok(default),
-        Some(value) => match value.as_bool() {
-            None => broken(SceneRule::WrongType, place, key),
-            Some(b) => Ok(b),
-        },
+    /// Whether a key is true, or the default where it isn't there.
+    #[tactic(auto, unfolding(crate::specs::Values::boolean_or))]
+    pub fn boolean_or(&self, key: KeyName, default: bool) -> Result<bool, SceneFault>
+        ensures { Gives (λ b. b) result (boolean_or self.now.place key default (table_view self.now.members.now)) }
+    {
+        match value_of(key, self.members) {
+            None => Ok(default),
+            Some(value) => match value.as_bool() {
+                None => broken(SceneRule::WrongType, self.place, key),
+                Some(b) => Ok(b),
+            },
+        }
     }
 }

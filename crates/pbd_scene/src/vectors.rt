@@ -8,9 +8,9 @@ ghost use Rattle.pbd_scene.specs.Values.{value_of, three_of, three_integers, vec
 
 use crate::fault::{KeyName, Place, SceneFault, SceneRule};
 use crate::limit::Limit;
-use crate::values::{broken, value_of};
+use crate::values::{Entry, broken, value_of};
 use pbd_num::Vec3;
-use toml::{Table, Value};
+use toml::Value;
 
 /// The vector of these axes, where all are integers.
 pub fn axes_of(x: &Value, y: &Value, z: &Value) -> Option<Vec3>
@@ -76,38 +76,30 @@ pub fn is_inside(v: Vec3, limit: i64) -> bool
     x & y & z
 }
 
-/// The vector of a key that must be there.
-#[tactic(auto, unfolding(crate::specs::Values::required_vector))]
-pub fn required_vector(
-    place: Place,
-    key: KeyName,
-    limit: &Limit,
-    members: &Table,
-) -> Result<Vec3, SceneFault>
-    ensures value { Gives (λ v. v) result (required_vector place key limit.now.units (table_view members.now)) }
-    ensures within { IfOk result (λ v. Within (2 ^ 30) v) }
-{
-    match value_of(key, members) {
-        None => broken(SceneRule::MissingKey, place, key),
-        Some(value) => vector(place, key, limit.units, value),
+impl Entry<'_> {
+    /// The vector of a key that must be there.
+    #[tactic(auto, unfolding(crate::specs::Values::required_vector))]
+    pub fn required_vector(&self, key: KeyName, limit: &Limit) -> Result<Vec3, SceneFault>
+        ensures value { Gives (λ v. v) result (required_vector self.now.place key limit.now.units (table_view self.now.members.now)) }
+        ensures within { IfOk result (λ v. Within (2 ^ 30) v) }
+    {
+        match value_of(key, self.members) {
+            None => broken(SceneRule::MissingKey, self.place, key),
+            Some(value) => vector(self.place, key, limit.units, value),
+        }
     }
-}
 
-/// The vector of a key, or zero.
-#[tactic(auto, unfolding(crate::specs::Values::vector_or))]
-pub fn vector_or_zero(
-    place: Place,
-    key: KeyName,
-    limit: i64,
-    members: &Table,
-) -> Result<Vec3, SceneFault>
-    requires low { pos 0 ≤ℤ limit }
-    requires high { unsigned_abs limit ≤ 2 ^ 30 }
-    ensures value { Gives (λ v. v) result (vector_or place key limit zero_vector (table_view members.now)) }
-    ensures within { IfOk result (λ v. Within (2 ^ 30) v) }
-{
-    match value_of(key, members) {
-        None => Ok(Vec3::ZERO),
-        Some(value) => vector(place, key, limit, value),
+    /// The vector of a key, or zero.
+    #[tactic(auto, unfolding(crate::specs::Values::vector_or))]
+    pub fn vector_or_zero(&self, key: KeyName, limit: i64) -> Result<Vec3, SceneFault>
+        requires low { pos 0 ≤ℤ limit }
+        requires high { unsigned_abs limit ≤ 2 ^ 30 }
+        ensures value { Gives (λ v. v) result (vector_or self.now.place key limit zero_vector (table_view self.now.members.now)) }
+        ensures within { IfOk result (λ v. Within (2 ^ 30) v) }
+    {
+        match value_of(key, self.members) {
+            None => Ok(Vec3::ZERO),
+            Some(value) => vector(self.place, key, limit, value),
+        }
     }
 }

@@ -11,10 +11,10 @@ use pbd_world::{Full, RoomList};
 
 /// Keeps two particles that aren't both held and that no live link joins.
 #[derive(Drop)]
-struct Apart<'a> {
+pub(crate) struct Apart<'a> {
     /// For each particle whether it is held.
-    held: &'a [bool],
-    links: &'a Colouring,
+    pub(crate) held: &'a [bool],
+    pub(crate) links: &'a Colouring,
 }
 
 fn is_held(held: &[bool], i: u32) -> bool
@@ -38,30 +38,32 @@ impl<'a> PairFilter for Apart<'a> {
     }
 }
 
-/// Lists the near pairs of places that aren't both held and that no live link joins, in order.
-/// The list is empty where these are more than there is room for.
-pub(crate) fn find_apart(
-    grid: &mut Grid,
-    places: &[Vec3],
-    held: &[bool],
-    links: &Colouring,
-    thickness: i64,
-    out: &mut RoomList<(u32, u32)>,
-) -> Result<(), Full>
-    requires places { length places.now ≡ grid.old.particles }
-    requires links { links.now.particles ≡ grid.old.particles }
-    requires inside { AllInside places.now }
-    requires low { pos 1 ≤ℤ thickness }
-    requires high { thickness ≤ℤ pos 1048576 }
-    ensures same { grid.new ≡ record grid.old { looks = grid.new.looks } }
-    ensures room { out.new.room ≡ out.old.room }
-    ensures pairs { OnOk result (out.new.entries ≡ near_pairs places.now thickness (may_touch held.now links.now)) }
-    ensures fits { OnOk result (length (near_pairs places.now thickness (may_touch held.now links.now)) ≤ out.old.room) }
-    ensures full { OnErr result (out.old.room < length (near_pairs places.now thickness (may_touch held.now links.now))) }
-    ensures emptied { OnErr result (out.new.entries ≡ []) }
-    ensures looks { OnOk result (grid.new.looks ≡ looks_for grid.old.chains thickness places.now) }
-    ensures most { grid.new.looks ≤ looks_for grid.old.chains thickness places.now }
-{
-    let apart = Apart { held, links };
-    grid.pairs(places, thickness, &apart, out)
+impl Apart<'_> {
+    /// Lists the near pairs of places that are kept, in order. The list is empty where these are more than there is
+    /// room for.
+    pub(crate) fn find(
+        &self,
+        grid: &mut Grid,
+        places: &[Vec3],
+        thickness: i64,
+        out: &mut RoomList<(u32, u32)>,
+    ) -> Result<(), Full>
+        requires places { length places.now ≡ grid.old.particles }
+        requires links { self.now.links.now.particles ≡ grid.old.particles }
+        requires inside { AllInside places.now }
+        requires low { pos 1 ≤ℤ thickness }
+        requires high { thickness ≤ℤ pos 1048576 }
+        ensures same { grid.new ≡ record grid.old { looks = grid.new.looks } }
+        ensures room { out.new.room ≡ out.old.room }
+        ensures pairs { OnOk result (out.new.entries ≡ near_pairs places.now thickness (may_touch self.now.held.now self.now.links.now)) }
+        ensures fits { OnOk result
+            (length (near_pairs places.now thickness (may_touch self.now.held.now self.now.links.now)) ≤ out.old.room) }
+        ensures full { OnErr result
+            (out.old.room < length (near_pairs places.now thickness (may_touch self.now.held.now self.now.links.now))) }
+        ensures emptied { OnErr result (out.new.entries ≡ []) }
+        ensures looks { OnOk result (grid.new.looks ≡ looks_for grid.old.chains thickness places.now) }
+        ensures most { grid.new.looks ≤ looks_for grid.old.chains thickness places.now }
+    {
+        grid.pairs(places, thickness, self, out)
+    }
 }

@@ -4,7 +4,7 @@ ghost use Rattle.pbd_store.specs.Moving.{AreInside};
 ghost use Rattle.pbd_colour.specs.Pairs.{InRange};
 ghost use Rattle.pbd_self.specs.Touching.{touching, looks_at, AreOrdered};
 
-use crate::apart::find_apart;
+use crate::apart::Apart;
 use crate::places::copy_particles;
 use pbd_colour::Colouring;
 use pbd_grid::Grid;
@@ -153,14 +153,10 @@ impl SelfContacts {
         // By it the places are in the range of both limits.
         let _limit = store.limit();
         copy_particles(store, &mut self.places, &mut self.held, steps);
-        let found = find_apart(
-            &mut self.grid,
-            self.places.as_slice(),
-            self.held.as_slice(),
-            links,
-            thickness,
-            &mut self.pairs,
-        );
+        let places = self.places.as_slice();
+        let held = self.held.as_slice();
+        let apart = Apart { held, links };
+        let found = apart.find(&mut self.grid, places, thickness, &mut self.pairs);
         self.looks = self.grid.looks();
         colour(&mut self.colouring, self.pairs.as_slice());
         found

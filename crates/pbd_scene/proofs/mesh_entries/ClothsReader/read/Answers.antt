@@ -8,5 +8,5 @@ use Rattle.pbd_scene.proofs.mesh_entries.ClothsReader.read.Goals as goal
 pub returns-clause-keeps : goal.returns-clause-keeps
 returns-clause-keeps c =
     let s = c.args.self.now in
-    one_more {A = ClothSpec} (λ x. cloth_fits s.limit.units x ≡ true) cloth_size s.count c.args.before.now c.cloth_of.result
-    c.requires.so_far.1 c.cloth_of.ensures.fits c.cloth_of.ensures.room
+    one_more {A = ClothSpec} (λ x. cloth_fits s.limit.units x ≡ true) cloth_size s.count c.args.before.now c.cloth.result
+    c.requires.so_far.1 c.cloth.ensures.fits c.cloth.ensures.room

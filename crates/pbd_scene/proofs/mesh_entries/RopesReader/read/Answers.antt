@@ -8,4 +8,4 @@ pub returns-clause-keeps : goal.returns-clause-keeps
 returns-clause-keeps c =
     let s = c.args.self.now in
     one_more {A = RopeSpec} (λ x. rope_fits s.limit.units x ≡ true)
-    (λ s. s.count) s.count c.args.before.now c.rope_of.result c.requires.so_far.1 c.rope_of.ensures.fits c.rope_of.ensures.room
+    (λ s. s.count) s.count c.args.before.now c.rope.result c.requires.so_far.1 c.rope.ensures.fits c.rope.ensures.room
