@@ -167,6 +167,26 @@ def wrong_rows():
                     yield f"{title_of(path)}:{number}: there is no law `{name}`"
 
 
+def wrong_tests():
+    """Tests and tables of ROWS that aren't in the file of the crate that is named there, or before the table."""
+    path = f"{TOP}/docs/ROWS.md"
+    above = ""
+    for number, line in enumerate(prose_of(path).splitlines(), 1):
+        if not line.startswith("|"):
+            above = (crates_in(line) or [above])[0]
+            continue
+        crate, file = above, ""
+        for span in SPAN.findall(line.split("|")[2]):
+            found = re.fullmatch(r"(?:(\w+\.rt): )?(\w+)", span)
+            if not found or crates_in(f"`{span}`"):
+                crate = span if found else crate
+                continue
+            file = found.group(1) or file
+            source = f"{TOP}/crates/{crate}/src/{file}"
+            if not os.path.isfile(source) or not re.search(rf"\b(?:fn|static|const) {found.group(2)}\b", text_of(source)):
+                yield f"{title_of(path)}:{number}: {crate}/src/{file} has no `{found.group(2)}`"
+
+
 def wrong_modules():
     """Modules of `specs/` that ARCHITECTURE doesn't name, and crates that stand there on others than crates.txt says."""
     path = f"{TOP}/docs/ARCHITECTURE.md"
@@ -287,5 +307,5 @@ def wrong_numbers():
 
 def all_wrong():
     """Returns a line for each thing that is wrong."""
-    looks = [wrong_links, wrong_names, wrong_rows, wrong_modules, wrong_sayings, wrong_cells, wrong_numbers]
+    looks = [wrong_links, wrong_names, wrong_rows, wrong_tests, wrong_modules, wrong_sayings, wrong_cells, wrong_numbers]
     return [line for look in looks for line in look()]

@@ -285,21 +285,27 @@ fn all_go_so<const L: usize, P: Projector<L> + Drop, G: Ledger>(
     rows.len()
 }
 
-/// Does the rows with a solver of its own, beside marks of the same scene.
+/// A scene, and what is done in it.
+#[derive(Clone, Copy)]
+struct Story<'a> {
+    scene: &'a Scene,
+    rows: &'a [Row],
+}
+
+/// Does a story with a solver of its own, beside marks of its scene.
 fn with_solver<const L: usize, G: Ledger>(
     alloc: Global,
-    scene: &Scene,
-    rows: &[Row],
+    story: Story<'_>,
     marks: &mut Marks<L, LaneProjector<L>>,
     steps: &mut Steps<G>,
 ) -> Result<usize, AllocError>
     requires low { 0 < L }
     requires high { L ≤ 16 }
-    requires scene { marks.old.scene ≡ unchanging (opened scene.now) }
+    requires scene { marks.old.scene ≡ unchanging (opened story.scene.now) }
 {
-    match Solver::open(alloc, scene, LaneProjector::<L>::new()) {
+    match Solver::open(alloc, story.scene, LaneProjector::<L>::new()) {
         Ok(mut solver) => {
-            let count = all_go_so(rows, marks, &mut solver, steps);
+            let count = all_go_so(story.rows, marks, &mut solver, steps);
             drop(solver);
             Ok(count)
         }
@@ -309,16 +315,15 @@ fn with_solver<const L: usize, G: Ledger>(
 
 fn at_width<const L: usize, G: Ledger>(
     alloc: Global,
-    scene: &Scene,
-    rows: &[Row],
+    story: Story<'_>,
     steps: &mut Steps<G>,
 ) -> Result<usize, AllocError>
     requires low { 0 < L }
     requires high { L ≤ 16 }
 {
-    match Marks::open(alloc, scene, LaneProjector::<L>::new()) {
+    match Marks::open(alloc, story.scene, LaneProjector::<L>::new()) {
         Ok(mut marks) => {
-            let count = with_solver(alloc, scene, rows, &mut marks, steps);
+            let count = with_solver(alloc, story, &mut marks, steps);
             drop(marks);
             count
         }
@@ -329,24 +334,23 @@ fn at_width<const L: usize, G: Ledger>(
 fn counted<G: Ledger>(
     alloc: Global,
     blank: Blank,
-    scene: &Scene,
-    rows: &[Row],
+    story: Story<'_>,
 ) -> Result<[usize; 5], AllocError>
     requires name { blank.name ≡ G.name }
     requires parts { blank.parts ≡ G.parts }
     requires some { 0 < blank.parts }
 {
     let mut steps: Steps<G> = Steps::open(blank);
-    let one = at_width::<1, G>(alloc, scene, rows, &mut steps)?;
-    let two = at_width::<2, G>(alloc, scene, rows, &mut steps)?;
-    let four = at_width::<4, G>(alloc, scene, rows, &mut steps)?;
-    let eight = at_width::<8, G>(alloc, scene, rows, &mut steps)?;
-    let sixteen = at_width::<16, G>(alloc, scene, rows, &mut steps)?;
+    let one = at_width::<1, G>(alloc, story, &mut steps)?;
+    let two = at_width::<2, G>(alloc, story, &mut steps)?;
+    let four = at_width::<4, G>(alloc, story, &mut steps)?;
+    let eight = at_width::<8, G>(alloc, story, &mut steps)?;
+    let sixteen = at_width::<16, G>(alloc, story, &mut steps)?;
     Ok([one, two, four, eight, sixteen])
 }
 
-fn at_each_width(alloc: Global, scene: &Scene, rows: &[Row]) -> Result<[usize; 5], AllocError> {
-    counted::<Brand>(alloc, Blank::new(1), scene, rows)
+fn at_each_width(alloc: Global, story: Story<'_>) -> Result<[usize; 5], AllocError> {
+    counted::<Brand>(alloc, Blank::new(1), story)
 }
 
 #[test]
@@ -354,8 +358,12 @@ fn worlds_go_back_to_their_marks(rt: HostRuntime) -> Result<(), Fail> {
     let tables = [(0, ROWS), (1, PULLED)];
     for (passes, rows) in tables {
         let scene = Scene::from_parts(rt.alloc(), falling(rt.alloc(), passes)?)?;
+        let story = Story {
+            scene: &scene,
+            rows,
+        };
         assert_eq!(rt;
-            at_each_width(rt.alloc(), &scene, rows)?,
+            at_each_width(rt.alloc(), story)?,
             [rows.len(); 5],
             "with {passes} passes, how many commands go as their rows say at widths 1, 2, 4, 8 and 16"
         );

@@ -3,8 +3,8 @@ ghost use Rattle.std.specs.Prelude.{◌≡◌, ◌<◌, ◌≤◌, ℕ, IsTrue, 
 ghost use Rattle.std.specs.List.Sorted.{IsStrictlyIncreasing};
 
 use crate::pairs::are_in_range;
-use crate::told::{all_hold, wrong_row};
 use pbd_colour::Colouring;
+use pbd_tests_rows::{WrongRows, all_hold, wrong_row};
 use std::alloc::Global;
 
 // Whether numbers below n rise.
@@ -214,15 +214,15 @@ const CLOTH: Case = Case {
 static CASES: [Case; 2] = [FOUR_PAIRS, CLOTH];
 
 #[test]
-fn colours_are_mended_after_a_drop(rt: HostRuntime) {
+fn colours_are_mended_after_a_drop(rt: HostRuntime) -> Result<(), WrongRows> {
     let what =
         "has its colours, is dropped from, has mended ones, a first and a last batch, and two that aren't linked";
     let mut wrong = 0u32;
     for case in &CASES {
         let told = try_case(rt.alloc(), case);
-        wrong = wrong.saturating_add(wrong_row(&rt, &case.name, what, &told, &Some([true; 6])));
+        wrong = wrong.saturating_add(wrong_row(&rt, (&case.name, what), &told, &Some([true; 6])));
     }
-    all_hold(&rt, wrong);
+    all_hold(wrong)
 }
 
 // Adds the pairs i < j of seventy particles.

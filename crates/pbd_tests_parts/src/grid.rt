@@ -2,10 +2,9 @@
 ghost use Rattle.std.specs.Prelude.{◌≡◌, ◌≤◌, ◌≤ℤ◌, IsTrue, pos, length};
 ghost use Rattle.pbd_grid.specs.Near.{AllInside};
 
-use crate::places::{place, squared_distance};
-use crate::told::{all_hold, wrong_row};
 use pbd_grid::{Grid, PairFilter};
 use pbd_num::{RANGE, Vec3, inside};
+use pbd_tests_rows::{WrongRows, all_hold, place, squared_distance, wrong_row};
 use pbd_world::RoomList;
 use std::alloc::Global;
 
@@ -216,7 +215,7 @@ static PLACES: [Row; 5] = [
 ];
 
 #[test]
-fn near_pairs_are_those_of_all(rt: HostRuntime) {
+fn near_pairs_are_those_of_all(rt: HostRuntime) -> Result<(), WrongRows> {
     let mut wrong = 0u32;
     for row in &PLACES {
         let mut pairs = Vec::new(rt.alloc());
@@ -224,11 +223,10 @@ fn near_pairs_are_those_of_all(rt: HostRuntime) {
         drop(pairs);
         wrong = wrong.saturating_add(wrong_row(
             &rt,
-            row,
-            "with room and without",
+            (row, "with room and without"),
             &told,
             &Some([Some(true); 2]),
         ));
     }
-    all_hold(&rt, wrong);
+    all_hold(wrong)
 }

@@ -3,12 +3,11 @@ ghost use Rattle.std.specs.Prelude.{◌≡◌, ◌<◌, ◌≤◌, IsTrue, IfSom
 ghost use Rattle.pbd_store.specs.Moving.{AreInside};
 
 use crate::pairs::are_in_range;
-use crate::places::{held, moved, place, resting, squared_distance};
-use crate::told::{WIDTHS, all_hold, wrong_row};
 use pbd_colour::Colouring;
 use pbd_num::{RANGE, Vec3, inside};
 use pbd_self::SelfContacts;
 use pbd_store::{Steps, Store};
+use pbd_tests_rows::{WIDTHS, WrongRows, all_hold, held, resting, squared_distance, wrong_row};
 use pbd_world::Particle;
 use std::alloc::Global;
 use std::marker::Brand;
@@ -98,46 +97,50 @@ fn holds(contacts: &SelfContacts, wanted: &[(u32, u32)]) -> bool {
         && contacts.colouring().live_count() as usize == wanted.len()
 }
 
+// The links beside which contacts are looked for, the thickness, and the contacts that are to be found.
+#[derive(Clone, Copy)]
+struct Search<'a> {
+    links: &'a Colouring,
+    thickness: i64,
+    wanted: &'a [(u32, u32)],
+}
+
 // Whether contacts are the wanted ones where these fit, and none where they don't. Before these others are found.
 fn are_found<const L: usize, G: Ledger>(
     contacts: &mut SelfContacts,
     store: &Store<L>,
-    links: &Colouring,
-    thickness: i64,
-    wanted: &[(u32, u32)],
+    search: &Search<'_>,
     steps: &mut Steps<G>,
 ) -> bool
     requires contacts { contacts.old.particles ≡ length store.now.particles }
     requires inside { AreInside store.now.limit store.now.particles }
-    requires links { links.now.particles ≡ length store.now.particles }
-    requires low { pos 0 ≤ℤ thickness }
-    requires high { thickness ≤ℤ pos 1048576 }
+    requires links { search.now.links.now.particles ≡ length store.now.particles }
+    requires low { pos 0 ≤ℤ search.now.thickness }
+    requires high { search.now.thickness ≤ℤ pos 1048576 }
 {
-    let _ = contacts.detect(store, links, 8, steps);
-    let found = contacts.detect(store, links, thickness, steps);
-    if wanted.len() > 262_144 {
+    let _ = contacts.detect(store, search.links, 8, steps);
+    let found = contacts.detect(store, search.links, search.thickness, steps);
+    if search.wanted.len() > 262_144 {
         return found.is_err() && holds(contacts, &[]);
     }
-    found.is_ok() && holds(contacts, wanted)
+    found.is_ok() && holds(contacts, search.wanted)
 }
 
 // The same with contacts of its own.
 fn finds_in<const L: usize, G: Ledger>(
     alloc: Global,
     store: &Store<L>,
-    links: &Colouring,
-    thickness: i64,
-    wanted: &[(u32, u32)],
+    search: &Search<'_>,
     steps: &mut Steps<G>,
 ) -> Option<bool>
     requires inside { AreInside store.now.limit store.now.particles }
-    requires links { links.now.particles ≡ length store.now.particles }
-    requires low { pos 0 ≤ℤ thickness }
-    requires high { thickness ≤ℤ pos 1048576 }
+    requires links { search.now.links.now.particles ≡ length store.now.particles }
+    requires low { pos 0 ≤ℤ search.now.thickness }
+    requires high { search.now.thickness ≤ℤ pos 1048576 }
 {
     match SelfContacts::open(alloc, store.len()) {
         Ok(mut contacts) => {
-            let found = are_found(&mut contacts, store, links, thickness, wanted, steps);
+            let found = are_found(&mut contacts, store, search, steps);
             drop(contacts);
             Some(found)
         }
@@ -149,20 +152,18 @@ fn finds_in<const L: usize, G: Ledger>(
 fn finds<const L: usize, G: Ledger>(
     alloc: Global,
     particles: &[Particle],
-    links: &Colouring,
-    thickness: i64,
-    wanted: &[(u32, u32)],
+    search: &Search<'_>,
     steps: &mut Steps<G>,
 ) -> Option<bool>
     requires few { length particles.now ≤ 1024 }
     requires inside { AreInside (pos 536870912) particles.now }
-    requires links { links.now.particles ≡ length particles.now }
-    requires low { pos 0 ≤ℤ thickness }
-    requires high { thickness ≤ℤ pos 1048576 }
+    requires links { search.now.links.now.particles ≡ length particles.now }
+    requires low { pos 0 ≤ℤ search.now.thickness }
+    requires high { search.now.thickness ≤ℤ pos 1048576 }
 {
     match Store::<L>::open(alloc, particles, RANGE) {
         Ok(store) => {
-            let found = finds_in(alloc, &store, links, thickness, wanted, steps);
+            let found = finds_in(alloc, &store, search, steps);
             drop(store);
             found
         }
@@ -170,56 +171,57 @@ fn finds<const L: usize, G: Ledger>(
     }
 }
 
-// The same with links of its own.
-fn finds_linked<const L: usize, G: Ledger>(
-    alloc: Global,
-    case: &Case<'_>,
-    wanted: &[(u32, u32)],
-    steps: &mut Steps<G>,
-) -> Option<bool>
-    requires few { length case.now.particles.now ≤ 1024 }
-    requires inside { AreInside (pos 536870912) case.now.particles.now }
-    requires low { pos 0 ≤ℤ case.now.thickness }
-    requires high { case.now.thickness ≤ℤ pos 1048576 }
-{
-    let particles = case.particles;
-    match linked(alloc, particles.len() as u32, case.links) {
-        Some(links) => {
-            let found = finds::<L, G>(alloc, particles, &links, case.thickness, wanted, steps);
-            drop(links);
-            found
-        }
-        None => None,
-    }
-}
-
 // Whether the wanted contacts are found at each width, where there is memory.
 type Found = [Option<bool>; 5];
 
+// What is found in stores of each width.
 fn finds_counted<G: Ledger>(
     alloc: Global,
     blank: Blank,
-    case: &Case<'_>,
-    wanted: &[(u32, u32)],
+    particles: &[Particle],
+    search: &Search<'_>,
 ) -> Found
     requires name { blank.name ≡ G.name }
     requires parts { blank.parts ≡ G.parts }
     requires some { 0 < blank.parts }
+    requires few { length particles.now ≤ 1024 }
+    requires inside { AreInside (pos 536870912) particles.now }
+    requires links { search.now.links.now.particles ≡ length particles.now }
+    requires low { pos 0 ≤ℤ search.now.thickness }
+    requires high { search.now.thickness ≤ℤ pos 1048576 }
+{
+    let mut steps: Steps<G> = Steps::open(blank);
+    let found = [
+        finds::<1, G>(alloc, particles, search, &mut steps),
+        finds::<2, G>(alloc, particles, search, &mut steps),
+        finds::<4, G>(alloc, particles, search, &mut steps),
+        finds::<8, G>(alloc, particles, search, &mut steps),
+        finds::<16, G>(alloc, particles, search, &mut steps),
+    ];
+    drop(steps);
+    found
+}
+
+// Looks for a case's contacts, with its links.
+fn finds_linked(alloc: Global, case: &Case<'_>, wanted: &[(u32, u32)]) -> Option<Found>
     requires few { length case.now.particles.now ≤ 1024 }
     requires inside { AreInside (pos 536870912) case.now.particles.now }
     requires low { pos 0 ≤ℤ case.now.thickness }
     requires high { case.now.thickness ≤ℤ pos 1048576 }
 {
-    let mut steps: Steps<G> = Steps::open(blank);
-    let found = [
-        finds_linked::<1, G>(alloc, case, wanted, &mut steps),
-        finds_linked::<2, G>(alloc, case, wanted, &mut steps),
-        finds_linked::<4, G>(alloc, case, wanted, &mut steps),
-        finds_linked::<8, G>(alloc, case, wanted, &mut steps),
-        finds_linked::<16, G>(alloc, case, wanted, &mut steps),
-    ];
-    drop(steps);
-    found
+    match linked(alloc, case.particles.len() as u32, case.links) {
+        Some(links) => {
+            let search = Search {
+                links: &links,
+                thickness: case.thickness,
+                wanted,
+            };
+            let found = finds_counted::<Brand>(alloc, Blank::new(1), case.particles, &search);
+            drop(links);
+            Some(found)
+        }
+        None => None,
+    }
 }
 
 // Compares what is found at each width with all pairs. None where the case is out of range, or another number of pairs touch.
@@ -239,7 +241,7 @@ fn try_pairs(alloc: Global, case: &Case<'_>, wanted: &mut Vec<(u32, u32)>) -> Op
     if !push_touching(wanted, case) || wanted.len() != case.contacts {
         return None;
     }
-    Some(finds_counted::<Brand>(alloc, Blank::new(1), case, wanted.as_slice()))
+    finds_linked(alloc, case, wanted.as_slice())
 }
 
 fn try_case(alloc: Global, case: &Case<'_>) -> Option<Found> {
@@ -349,13 +351,13 @@ static CASES: [Case<'static>; 11] = [
 ];
 
 #[test]
-fn contacts_of_few_particles_are_found(rt: HostRuntime) {
+fn contacts_of_few_particles_are_found(rt: HostRuntime) -> Result<(), WrongRows> {
     let mut wrong = 0u32;
     for (number, case) in CASES.iter().enumerate() {
         let told = try_case(rt.alloc(), case);
-        wrong = wrong.saturating_add(wrong_row(&rt, &number, WIDTHS, &told, &ALL_FIND));
+        wrong = wrong.saturating_add(wrong_row(&rt, (&number, WIDTHS), &told, &ALL_FIND));
     }
-    all_hold(&rt, wrong);
+    all_hold(wrong)
 }
 
 /// So many particles in a row, a thickness, and how many contacts there are: all pairs, just as many as there is room for,
@@ -363,11 +365,11 @@ fn contacts_of_few_particles_are_found(rt: HostRuntime) {
 static ROWS: [(u32, i64, usize); 3] = [(70, 100, 2415), (724, 1000, 261_726), (725, 1000, 262_450)];
 
 #[test]
-fn contacts_of_particles_in_a_row_are_found(rt: HostRuntime) {
+fn contacts_of_particles_in_a_row_are_found(rt: HostRuntime) -> Result<(), WrongRows> {
     let mut wrong = 0u32;
     for row in &ROWS {
         let told = try_row(rt.alloc(), row.0, row.1, row.2);
-        wrong = wrong.saturating_add(wrong_row(&rt, row, WIDTHS, &told, &ALL_FIND));
+        wrong = wrong.saturating_add(wrong_row(&rt, (row, WIDTHS), &told, &ALL_FIND));
     }
-    all_hold(&rt, wrong);
+    all_hold(wrong)
 }

@@ -1,9 +1,8 @@
 //! Scenes that are valid and others that aren't, lists, totals, lanes and numbers of refusals.
 ghost use Rattle.std.specs.Prelude.{◌<◌, ◌≤◌};
 
-use crate::places::{held, link, moved, place, resting};
-use crate::told::{all_hold, wrong_row};
 use pbd_num::{RANGE, Vec3};
+use pbd_tests_rows::{WrongRows, all_hold, held, link, place, resting, wrong_row};
 use pbd_world::{
     Class, Full, Key, Kind, Link, List, Particle, Parts, PartsFault, Phase, Plane, Refusal,
     RoomList, Scene, Sphere, Totals, Track, Width,
@@ -275,7 +274,7 @@ fn counted_beside(alloc: Global, beside: &Beside) -> Result<Option<Counts>, Part
 }
 
 #[test]
-fn valid_parts_are_a_scene_and_no_others(rt: HostRuntime) {
+fn valid_parts_are_a_scene_and_no_others(rt: HostRuntime) -> Result<(), WrongRows> {
     let mut wrong = 0u32;
     for row in &SCENES {
         let particles = 6usize.saturating_add(row.particles.len());
@@ -285,9 +284,9 @@ fn valid_parts_are_a_scene_and_no_others(rt: HostRuntime) {
             None
         };
         let told = counted_beside(rt.alloc(), row);
-        wrong = wrong.saturating_add(wrong_row(&rt, &row.name, "has", &told, &Ok(wanted)));
+        wrong = wrong.saturating_add(wrong_row(&rt, (&row.name, "has"), &told, &Ok(wanted)));
     }
-    all_hold(&rt, wrong);
+    all_hold(wrong)
 }
 
 /// Adds so many particles in a row, and from one of them on each one's links to so many behind it, round the end.

@@ -12,6 +12,21 @@ use pbd_world::{Particle, Totals};
 use std::alloc::{AllocError, Global};
 use std::sync::ledger::Ledger;
 
+/// Six particles, bonds of them, and a batch of these.
+#[derive(Clone, Copy)]
+pub(crate) struct Work<'a> {
+    pub(crate) particles: &'a [Particle],
+    pub(crate) bonds: Bonds<'a>,
+    pub(crate) batch: &'a [u32],
+}
+
+/// Work, and the events by which it is done.
+#[derive(Clone, Copy)]
+pub(crate) struct Schedule<'a> {
+    pub(crate) work: Work<'a>,
+    pub(crate) events: &'a [Event],
+}
+
 /// What a batch came to: the answer, the particles and the totals.
 #[derive(Clone, Copy)]
 pub(crate) struct Seen {
@@ -41,25 +56,31 @@ fn all_particles<const L: usize, G: Ledger>(store: &Store<L>, steps: &mut Steps<
     ]
 }
 
-/// What a batch comes to by events, in a store.
+/// What work comes to by events, in a store.
 fn run_in<const L: usize, G: Ledger>(
     steps: &mut Steps<G>,
     notes: &mut Notes,
     store: &mut Store<L>,
-    bonds: Bonds<'_>,
-    batch: &[u32],
-    events: &[Event],
+    schedule: &Schedule<'_>,
 ) -> Seen
     requires low { 0 < L }
     requires high { L ≤ 16 }
     requires limit { store.old.limit ≡ pos (2 ^ 29) }
     requires six { length store.old.particles ≡ 6 }
     requires placed { IsTrue (list_all (is_placed (pos (2 ^ 29))) store.old.particles) }
-    requires batch { IsTrue (is_batch (pos (2 ^ 29)) 6 bonds batch.now) }
-    requires few { length events.now < 2 ^ 32 }
+    requires batch { IsTrue (is_batch (pos (2 ^ 29)) 6 schedule.now.work.bonds schedule.now.work.batch.now) }
+    requires few { length schedule.now.events.now < 2 ^ 32 }
 {
     let mut totals = Totals::zero();
-    let answer = run_events(notes, store, bonds, batch, events, &mut totals, steps);
+    let answer = run_events(
+        notes,
+        store,
+        schedule.work.bonds,
+        schedule.work.batch,
+        schedule.events,
+        &mut totals,
+        steps,
+    );
     let particles = all_particles(store, steps);
     Seen {
         answer,
@@ -73,21 +94,18 @@ pub(crate) fn by_events<const L: usize, G: Ledger>(
     alloc: Global,
     steps: &mut Steps<G>,
     notes: &mut Notes,
-    particles: &[Particle],
-    bonds: Bonds<'_>,
-    batch: &[u32],
-    events: &[Event],
+    schedule: &Schedule<'_>,
 ) -> Result<Seen, AllocError>
     requires low { 0 < L }
     requires high { L ≤ 16 }
-    requires six { length particles.now ≡ 6 }
-    requires placed { IsTrue (list_all (is_placed (pos (2 ^ 29))) particles.now) }
-    requires batch { IsTrue (is_batch (pos (2 ^ 29)) 6 bonds batch.now) }
-    requires few { length events.now < 2 ^ 32 }
+    requires six { length schedule.now.work.particles.now ≡ 6 }
+    requires placed { IsTrue (list_all (is_placed (pos (2 ^ 29))) schedule.now.work.particles.now) }
+    requires batch { IsTrue (is_batch (pos (2 ^ 29)) 6 schedule.now.work.bonds schedule.now.work.batch.now) }
+    requires few { length schedule.now.events.now < 2 ^ 32 }
 {
-    match Store::<L>::open(alloc, particles, RANGE) {
+    match Store::<L>::open(alloc, schedule.work.particles, RANGE) {
         Ok(mut store) => {
-            let seen = run_in(steps, notes, &mut store, bonds, batch, events);
+            let seen = run_in(steps, notes, &mut store, schedule);
             drop(store);
             Ok(seen)
         }
@@ -99,21 +117,18 @@ pub(crate) fn by_events<const L: usize, G: Ledger>(
 pub(crate) fn by_own_events<const L: usize, G: Ledger>(
     alloc: Global,
     steps: &mut Steps<G>,
-    particles: &[Particle],
-    bonds: Bonds<'_>,
-    batch: &[u32],
-    events: &[Event],
+    schedule: &Schedule<'_>,
 ) -> Result<Seen, AllocError>
     requires low { 0 < L }
     requires high { L ≤ 16 }
-    requires six { length particles.now ≡ 6 }
-    requires placed { IsTrue (list_all (is_placed (pos (2 ^ 29))) particles.now) }
-    requires batch { IsTrue (is_batch (pos (2 ^ 29)) 6 bonds batch.now) }
-    requires few { length events.now < 2 ^ 32 }
+    requires six { length schedule.now.work.particles.now ≡ 6 }
+    requires placed { IsTrue (list_all (is_placed (pos (2 ^ 29))) schedule.now.work.particles.now) }
+    requires batch { IsTrue (is_batch (pos (2 ^ 29)) 6 schedule.now.work.bonds schedule.now.work.batch.now) }
+    requires few { length schedule.now.events.now < 2 ^ 32 }
 {
     match Notes::open(alloc) {
         Ok(mut notes) => {
-            let seen = by_events::<L, G>(alloc, steps, &mut notes, particles, bonds, batch, events);
+            let seen = by_events::<L, G>(alloc, steps, &mut notes, schedule);
             drop(notes);
             seen
         }
@@ -121,24 +136,23 @@ pub(crate) fn by_own_events<const L: usize, G: Ledger>(
     }
 }
 
-/// What a batch comes to by a projector, in a store.
+/// What work comes to by a projector, in a store.
 fn project_in<const L: usize, P: Projector<L>, G: Ledger>(
     steps: &mut Steps<G>,
     projector: &mut P,
     store: &mut Store<L>,
-    bonds: Bonds<'_>,
-    batch: &[u32],
+    work: &Work<'_>,
 ) -> Seen
     requires low { 0 < L }
     requires high { L ≤ 16 }
     requires limit { store.old.limit ≡ pos (2 ^ 29) }
     requires six { length store.old.particles ≡ 6 }
     requires placed { IsTrue (list_all (is_placed (pos (2 ^ 29))) store.old.particles) }
-    requires batch { IsTrue (is_batch (pos (2 ^ 29)) 6 bonds batch.now) }
-    requires plain { laid_in bonds ≡ None }
+    requires batch { IsTrue (is_batch (pos (2 ^ 29)) 6 work.now.bonds work.now.batch.now) }
+    requires plain { laid_in work.now.bonds ≡ None }
 {
     let mut totals = Totals::zero();
-    let outcome = projector.project(store, bonds, batch, &mut totals, steps);
+    let outcome = projector.project(store, work.bonds, work.batch, &mut totals, steps);
     let particles = all_particles(store, steps);
     let answer = match outcome {
         Ok(()) => Ok(()),
@@ -158,20 +172,18 @@ pub(crate) fn by_projector<const L: usize, P: Projector<L>, G: Ledger>(
     alloc: Global,
     steps: &mut Steps<G>,
     projector: &mut P,
-    particles: &[Particle],
-    bonds: Bonds<'_>,
-    batch: &[u32],
+    work: &Work<'_>,
 ) -> Result<Seen, AllocError>
     requires low { 0 < L }
     requires high { L ≤ 16 }
-    requires six { length particles.now ≡ 6 }
-    requires placed { IsTrue (list_all (is_placed (pos (2 ^ 29))) particles.now) }
-    requires batch { IsTrue (is_batch (pos (2 ^ 29)) 6 bonds batch.now) }
-    requires plain { laid_in bonds ≡ None }
+    requires six { length work.now.particles.now ≡ 6 }
+    requires placed { IsTrue (list_all (is_placed (pos (2 ^ 29))) work.now.particles.now) }
+    requires batch { IsTrue (is_batch (pos (2 ^ 29)) 6 work.now.bonds work.now.batch.now) }
+    requires plain { laid_in work.now.bonds ≡ None }
 {
-    match Store::<L>::open(alloc, particles, RANGE) {
+    match Store::<L>::open(alloc, work.particles, RANGE) {
         Ok(mut store) => {
-            let seen = project_in(steps, projector, &mut store, bonds, batch);
+            let seen = project_in(steps, projector, &mut store, work);
             drop(store);
             Ok(seen)
         }

@@ -1,7 +1,7 @@
 //! Batches by events that are drawn.
 ghost use Rattle.std.specs.Prelude.{◌≡◌, ◌<◌};
 
-use crate::batches::{are_alike, by_projector};
+use crate::batches::{Work, are_alike, by_projector};
 use pbd_num::Vec3;
 use pbd_pair::{Bonds, Projector, Scalar};
 use pbd_schedule::{Event, EventFault, ScrambleProjector};
@@ -48,6 +48,42 @@ const AND_THEN: [Event; 6] = [
     Event::WriteB(0),
 ];
 
+const LINKS: Bonds<'static> = Bonds::Links(&[link!(0, 1), link!(2, 3), link!(4, 5)]);
+
+static PULLED: Work<'static> = Work {
+    particles: &[
+        free!(0, 0, 1),
+        free!(105, 0, 1),
+        free!(0, 1000, 1),
+        free!(110, 1000, 1),
+        free!(0, 2000, 1),
+        free!(100, 2000, 1),
+    ],
+    bonds: LINKS,
+    batch: &[2, 0, 1],
+};
+
+// The third link leaves.
+const LEAVES: Work<'static> = Work {
+    particles: &[
+        free!(0, 0, 1),
+        free!(105, 0, 1),
+        free!(0, 1000, 1),
+        free!(110, 1000, 1),
+        free!(536870912, 2000, 1),
+        free!(536870911, 2000, 1),
+    ],
+    bonds: LINKS,
+    batch: &[0, 2, 1],
+};
+
+static LEAVING: Work<'static> = LEAVES;
+
+static TWO_OTHERS: Work<'static> = Work {
+    batch: &[1, 0],
+    ..LEAVES
+};
+
 /// A projector draws these events for three bonds, and they come to what the scalar projector does.
 fn draws_with<G: Ledger>(
     alloc: Global,
@@ -56,22 +92,9 @@ fn draws_with<G: Ledger>(
     events: &[Event],
 ) -> Result<bool, AllocError> {
     let none_yet = projector.last_events().is_empty() && projector.handed() == 0;
-    let particles = [
-        free!(0, 0, 1),
-        free!(105, 0, 1),
-        free!(0, 1000, 1),
-        free!(110, 1000, 1),
-        free!(0, 2000, 1),
-        free!(100, 2000, 1),
-    ];
-    let links = [link!(0, 1), link!(2, 3), link!(4, 5)];
-    let bonds = Bonds::Links(&links);
-    let batch = [2, 0, 1];
-    let seen = by_projector::<1, ScrambleProjector, G>(
-        alloc, steps, projector, &particles, bonds, &batch,
-    )?;
+    let seen = by_projector::<1, ScrambleProjector, G>(alloc, steps, projector, &PULLED)?;
     let mut plain: Scalar<1> = Scalar::new();
-    let wanted = by_projector(alloc, steps, &mut plain, &particles, bonds, &batch)?;
+    let wanted = by_projector(alloc, steps, &mut plain, &PULLED)?;
     let moved = seen.answer == Ok(()) && seen.particles[0].at.x == 3;
     let drawn = projector.last_events() == events && projector.handed() == 3;
     Ok(none_yet && moved && are_alike(&seen, &wanted) && drawn)
@@ -101,33 +124,9 @@ fn goes_on_with<G: Ledger>(
     projector: &mut ScrambleProjector,
     events: &[Event],
 ) -> Result<bool, AllocError> {
-    let particles = [
-        free!(0, 0, 1),
-        free!(105, 0, 1),
-        free!(0, 1000, 1),
-        free!(110, 1000, 1),
-        free!(536870912, 2000, 1),
-        free!(536870911, 2000, 1),
-    ];
-    let links = [link!(0, 1), link!(2, 3), link!(4, 5)];
-    let bonds = Bonds::Links(&links);
-    let first = by_projector::<1, ScrambleProjector, G>(
-        alloc,
-        steps,
-        projector,
-        &particles,
-        bonds,
-        &[0, 2, 1],
-    )?;
+    let first = by_projector::<1, ScrambleProjector, G>(alloc, steps, projector, &LEAVING)?;
     let left = first.answer == Err(EventFault::Left { element: 2 });
-    let next = by_projector::<1, ScrambleProjector, G>(
-        alloc,
-        steps,
-        projector,
-        &particles,
-        bonds,
-        &[1, 0],
-    )?;
+    let next = by_projector::<1, ScrambleProjector, G>(alloc, steps, projector, &TWO_OTHERS)?;
     let drawn = projector.last_events() == events && projector.handed() == 5;
     Ok(left && next.answer == Ok(()) && drawn)
 }

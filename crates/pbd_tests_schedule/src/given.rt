@@ -1,7 +1,7 @@
 //! Worked lists of events.
-ghost use Rattle.std.specs.Prelude.{◌≡◌, ◌<◌, ◌^◌, length};
+ghost use Rattle.std.specs.Prelude.{◌≡◌, ◌<◌};
 
-use crate::batches::by_own_events;
+use crate::batches::{Schedule, Work, by_own_events};
 use pbd_num::Vec3;
 use pbd_pair::Bonds;
 use pbd_schedule::{Event, EventFault};
@@ -12,126 +12,152 @@ use std::marker::Brand;
 use std::sync::ledger::{Blank, Ledger};
 use std::test::Fail;
 
-fn bad(at: u32) -> Result<(), EventFault> {
-    Err(EventFault::BadEvent { at })
+macro_rules! bad {
+    ($at:expr) => {
+        Err(EventFault::BadEvent { at: $at })
+    };
 }
 
-/// Six particles in pairs at a distance of 105, with links of length 100 between the first two pairs: whether the
-/// events of both links have an answer and leave these places on x.
-fn comes_to<G: Ledger>(
-    alloc: Global,
-    steps: &mut Steps<G>,
-    events: &[Event],
-    answer: Result<(), EventFault>,
-    x: [i64; 6],
-) -> Result<bool, AllocError>
-    requires few { length events.now < 2 ^ 32 }
-{
-    let particles = [
+/// Six particles in pairs at a distance of 105, with links of length 100 between the first two pairs.
+static TWO: Work<'static> = Work {
+    particles: &[
         free!(0, 0, 1),
         free!(105, 0, 1),
         free!(0, 1000, 1),
         free!(105, 1000, 1),
         free!(0, 2000, 1),
         free!(105, 2000, 1),
-    ];
-    let links = [link!(0, 1), link!(2, 3)];
-    let seen = by_own_events::<1, G>(
-        alloc,
-        steps,
-        &particles,
-        Bonds::Links(&links),
-        &[0, 1],
-        events,
-    )?;
+    ],
+    bonds: Bonds::Links(&[link!(0, 1), link!(2, 3)]),
+    batch: &[0, 1],
+};
+
+/// Events of two bonds, and the answer and the places on x to which they come.
+#[derive(Clone, Copy)]
+struct Row {
+    events: &'static [Event],
+    answer: Result<(), EventFault>,
+    x: [i64; 6],
+}
+
+const PULLED: [i64; 6] = [3, 102, 3, 102, 0, 105];
+
+const AS_BEFORE: [i64; 6] = [0, 105, 0, 105, 0, 105];
+
+/// Events as lanes go and mixed, out of turn, cut short, of no bond of the batch, and of one that is done.
+static ROWS: [Row; 6] = [
+    Row {
+        events: &[
+            Event::Read(0),
+            Event::Read(1),
+            Event::WriteA(0),
+            Event::WriteA(1),
+            Event::WriteB(0),
+            Event::WriteB(1),
+        ],
+        answer: Ok(()),
+        x: PULLED,
+    },
+    Row {
+        events: &[
+            Event::Read(1),
+            Event::Read(0),
+            Event::WriteA(0),
+            Event::WriteA(1),
+            Event::WriteB(0),
+            Event::WriteB(1),
+        ],
+        answer: Ok(()),
+        x: PULLED,
+    },
+    Row {
+        events: &[Event::Read(0), Event::WriteB(0)],
+        answer: bad!(1),
+        x: AS_BEFORE,
+    },
+    Row {
+        events: &[Event::Read(0), Event::WriteA(0)],
+        answer: bad!(2),
+        x: AS_BEFORE,
+    },
+    Row {
+        events: &[Event::Read(2)],
+        answer: bad!(0),
+        x: AS_BEFORE,
+    },
+    Row {
+        events: &[
+            Event::Read(0),
+            Event::WriteA(0),
+            Event::WriteB(0),
+            Event::Read(0),
+        ],
+        answer: bad!(3),
+        x: AS_BEFORE,
+    },
+];
+
+/// Whether the events of both links come to what a row says. At most six events are run.
+fn comes_to<G: Ledger>(alloc: Global, steps: &mut Steps<G>, row: &Row) -> Result<bool, AllocError> {
+    if row.events.len() > 6 {
+        return Ok(false);
+    }
+    let schedule = Schedule {
+        work: TWO,
+        events: row.events,
+    };
+    let seen = by_own_events::<1, G>(alloc, steps, &schedule)?;
     let [p, q, r, s, t, u] = seen.particles;
-    let places = [p.at.x, q.at.x, r.at.x, s.at.x, t.at.x, u.at.x];
-    Ok(seen.answer == answer && places == x)
+    let x = [p.at.x, q.at.x, r.at.x, s.at.x, t.at.x, u.at.x];
+    Ok(seen.answer == row.answer && x == row.x)
 }
 
-/// A batch of no bonds has one legal list of events, the empty one.
-fn nothing_to_do<G: Ledger>(alloc: Global, steps: &mut Steps<G>) -> Result<bool, AllocError> {
-    let particles = [free!(0, 0, 1); 6];
-    let seen = by_own_events::<1, G>(alloc, steps, &particles, Bonds::Links(&[]), &[], &[])?;
-    Ok(seen.answer == Ok(()) && seen.particles == particles)
-}
-
-/// A batch of one bond, whose events end after its read: it stays as it was.
-fn cut_short<G: Ledger>(alloc: Global, steps: &mut Steps<G>) -> Result<bool, AllocError> {
-    let particles = [
-        free!(0, 0, 1),
-        free!(105, 0, 1),
-        free!(0, 0, 1),
-        free!(0, 0, 1),
-        free!(0, 0, 1),
-        free!(0, 0, 1),
-    ];
-    let links = [link!(0, 1)];
-    let seen = by_own_events::<1, G>(
-        alloc,
-        steps,
-        &particles,
-        Bonds::Links(&links),
-        &[0],
-        &[Event::Read(0)],
-    )?;
-    Ok(seen.answer == bad(1) && seen.particles == particles)
-}
-
-/// Events, and the answer and the places on x that two bonds come to by them.
-type Row<'a> = (&'a [Event], Result<(), EventFault>, [i64; 6]);
-
-/// Whether lists of at most six events come to what their rows say.
-fn all_come_to<G: Ledger>(
-    alloc: Global,
-    steps: &mut Steps<G>,
-    rows: &[Row<'_>],
-) -> Result<bool, AllocError> {
-    for (events, answer, places) in rows {
-        if events.len() > 6 || !comes_to(alloc, steps, events, *answer, *places)? {
+fn two_bonds<G: Ledger>(alloc: Global, steps: &mut Steps<G>) -> Result<bool, AllocError> {
+    for row in &ROWS {
+        if !comes_to(alloc, steps, row)? {
             return Ok(false);
         }
     }
     Ok(true)
 }
 
-/// Events as lanes go and mixed, out of turn, cut short, of no bond of the batch, and of one that is done.
-fn two_bonds<G: Ledger>(alloc: Global, steps: &mut Steps<G>) -> Result<bool, AllocError> {
-    let pulled = [3, 102, 3, 102, 0, 105];
-    let as_before = [0, 105, 0, 105, 0, 105];
-    let as_lanes = [
-        Event::Read(0),
-        Event::Read(1),
-        Event::WriteA(0),
-        Event::WriteA(1),
-        Event::WriteB(0),
-        Event::WriteB(1),
-    ];
-    let mixed = [
-        Event::Read(1),
-        Event::Read(0),
-        Event::WriteA(0),
-        Event::WriteA(1),
-        Event::WriteB(0),
-        Event::WriteB(1),
-    ];
-    let early = [Event::Read(0), Event::WriteB(0)];
-    let short = [Event::Read(0), Event::WriteA(0)];
-    let again = [
-        Event::Read(0),
-        Event::WriteA(0),
-        Event::WriteB(0),
-        Event::Read(0),
-    ];
-    let rows: [Row<'_>; 6] = [
-        (&as_lanes, Ok(()), pulled),
-        (&mixed, Ok(()), pulled),
-        (&early, bad(1), as_before),
-        (&short, bad(2), as_before),
-        (&[Event::Read(2)], bad(0), as_before),
-        (&again, bad(3), as_before),
-    ];
-    all_come_to(alloc, steps, &rows)
+/// No bonds, of which no event comes.
+static NOTHING_TO_DO: Schedule<'static> = Schedule {
+    work: Work {
+        particles: &[free!(0, 0, 1); 6],
+        bonds: Bonds::Links(&[]),
+        batch: &[],
+    },
+    events: &[],
+};
+
+/// One bond, whose events end after its read.
+static CUT_SHORT: Schedule<'static> = Schedule {
+    work: Work {
+        particles: &[
+            free!(0, 0, 1),
+            free!(105, 0, 1),
+            free!(0, 0, 1),
+            free!(0, 0, 1),
+            free!(0, 0, 1),
+            free!(0, 0, 1),
+        ],
+        bonds: Bonds::Links(&[link!(0, 1)]),
+        batch: &[0],
+    },
+    events: &[Event::Read(0)],
+};
+
+/// A batch of no bonds has one legal list of events, the empty one.
+fn nothing_to_do<G: Ledger>(alloc: Global, steps: &mut Steps<G>) -> Result<bool, AllocError> {
+    let seen = by_own_events::<1, G>(alloc, steps, &NOTHING_TO_DO)?;
+    Ok(seen.answer == Ok(()) && seen.particles.as_slice() == NOTHING_TO_DO.work.particles)
+}
+
+/// A bond that is only read stays as it was.
+fn cut_short<G: Ledger>(alloc: Global, steps: &mut Steps<G>) -> Result<bool, AllocError> {
+    let seen = by_own_events::<1, G>(alloc, steps, &CUT_SHORT)?;
+    Ok(seen.answer == bad!(1) && seen.particles.as_slice() == CUT_SHORT.work.particles)
 }
 
 /// Two bonds by several lists, no bond at all, and one bond that was only read.

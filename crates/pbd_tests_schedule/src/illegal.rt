@@ -1,9 +1,7 @@
 //! Every list of up to seven events over two bonds: the illegal ones are refused, each at its first wrong event.
-ghost use Rattle.std.specs.Prelude.{◌≡◌, ◌<◌, ◌≤◌, ◌^◌, pos, IsTrue, length};
-ghost use Rattle.std.specs.List.{list_all};
-ghost use Rattle.pbd_pair.specs.Examples.{is_placed, is_batch};
+ghost use Rattle.std.specs.Prelude.{◌≡◌, ◌<◌, ◌≤◌};
 
-use crate::batches::by_events;
+use crate::batches::{Schedule, Work, by_events};
 use pbd_num::Vec3;
 use pbd_pair::Bonds;
 use pbd_schedule::{Event, EventFault, Notes};
@@ -78,20 +76,30 @@ fn wanted(events: &[Event]) -> Result<(), EventFault> {
     }
 }
 
-/// Runs all lists of a length. There are as many as `numbers`.
+/// Two bonds that move.
+static TWO: Work<'static> = Work {
+    particles: &[
+        free!(0, 0, 1),
+        free!(105, 0, 2),
+        free!(0, 1000, 1),
+        free!(107, 1000, 1),
+        free!(0, 2000, 1),
+        free!(100, 2000, 1),
+    ],
+    bonds: Bonds::Links(&[link!(0, 1), link!(2, 3)]),
+    batch: &[0, 1],
+};
+
+/// How many lists of each length there are.
+const LISTS: [u32; 8] = [1, 6, 36, 216, 1296, 7776, 46656, 279936];
+
+/// Runs all lists of a length.
 fn all_lists_with<G: Ledger>(
     alloc: Global,
     steps: &mut Steps<G>,
     notes: &mut Notes,
-    particles: &[Particle],
-    bonds: Bonds<'_>,
-    batch: &[u32],
     size: usize,
-    numbers: u32,
 ) -> Result<Tally, AllocError>
-    requires six { length particles.now ≡ 6 }
-    requires placed { IsTrue (list_all (is_placed (pos (2 ^ 29))) particles.now) }
-    requires batch { IsTrue (is_batch (pos (2 ^ 29)) 6 bonds batch.now) }
     requires size { size ≤ 7 }
 {
     let mut tally = Tally {
@@ -99,15 +107,18 @@ fn all_lists_with<G: Ledger>(
         refused: 0,
         wrong: 0,
     };
-    for number in 0..numbers {
+    for number in 0..LISTS[size] {
         let events = events_named(number);
-        let events = &events[..size];
-        let seen = by_events::<1, G>(alloc, steps, notes, particles, bonds, batch, events)?;
-        if seen.answer != wanted(events) {
+        let schedule = Schedule {
+            work: TWO,
+            events: &events[..size],
+        };
+        let seen = by_events::<1, G>(alloc, steps, notes, &schedule)?;
+        if seen.answer != wanted(schedule.events) {
             tally.wrong = tally.wrong.saturating_add(1);
         } else if seen.answer.is_ok() {
             tally.ran = tally.ran.saturating_add(1);
-        } else if seen.particles.as_slice() == particles {
+        } else if seen.particles.as_slice() == schedule.work.particles {
             tally.refused = tally.refused.saturating_add(1);
         }
     }
@@ -118,22 +129,13 @@ fn all_lists_with<G: Ledger>(
 fn all_lists<G: Ledger>(
     alloc: Global,
     steps: &mut Steps<G>,
-    particles: &[Particle],
-    bonds: Bonds<'_>,
-    batch: &[u32],
     size: usize,
-    numbers: u32,
 ) -> Result<Tally, AllocError>
-    requires six { length particles.now ≡ 6 }
-    requires placed { IsTrue (list_all (is_placed (pos (2 ^ 29))) particles.now) }
-    requires batch { IsTrue (is_batch (pos (2 ^ 29)) 6 bonds batch.now) }
     requires size { size ≤ 7 }
 {
     match Notes::open(alloc) {
         Ok(mut notes) => {
-            let tally = all_lists_with(
-                alloc, steps, &mut notes, particles, bonds, batch, size, numbers,
-            );
+            let tally = all_lists_with(alloc, steps, &mut notes, size);
             drop(notes);
             tally
         }
@@ -143,24 +145,12 @@ fn all_lists<G: Ledger>(
 
 /// Lists of up to seven events, by their length. Of the 335,923 the 20 legal ones have six events.
 fn all_lengths<G: Ledger>(alloc: Global, steps: &mut Steps<G>) -> Result<bool, AllocError> {
-    let links = [link!(0, 1), link!(2, 3)];
-    let bonds = Bonds::Links(&links);
-    let particles = [
-        free!(0, 0, 1),
-        free!(105, 0, 2),
-        free!(0, 1000, 1),
-        free!(107, 1000, 1),
-        free!(0, 2000, 1),
-        free!(100, 2000, 1),
-    ];
-    let numbers = [1, 6, 36, 216, 1296, 7776, 46656, 279936];
     let mut good = true;
     for size in 0..8 {
-        let many = numbers[size];
-        let tally = all_lists(alloc, steps, &particles, bonds, &[0, 1], size, many)?;
+        let tally = all_lists(alloc, steps, size)?;
         let legal = if size == 6 { 20 } else { 0 };
         good = good && tally.ran == legal && tally.wrong == 0;
-        good = good && tally.refused.saturating_add(legal) == many;
+        good = good && tally.refused.saturating_add(legal) == LISTS[size];
     }
     Ok(good)
 }

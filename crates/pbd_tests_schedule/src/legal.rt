@@ -4,7 +4,7 @@ ghost use Rattle.std.specs.List.{list_all};
 ghost use Rattle.pbd_pair.specs.Examples.{is_placed, is_batch};
 ghost use Rattle.pbd_pair.specs.Laid.{laid_in};
 
-use crate::batches::{Seen, are_alike, by_events, by_projector};
+use crate::batches::{Schedule, Seen, Work, are_alike, by_events, by_projector};
 use pbd_num::Vec3;
 use pbd_pair::{Bonds, Scalar};
 use pbd_schedule::{Event, EventFault, Notes};
@@ -15,12 +15,22 @@ use std::marker::Brand;
 use std::sync::ledger::{Blank, Ledger};
 use std::test::Fail;
 
-/// How many interleavings there were, how many of them came to what the scalar projector does, and its answer.
+/// Work of two bonds or three, how many lists of its bonds are as long as its list of events, how many of these lists are
+/// interleavings, and what the scalar projector answers.
 #[derive(Clone, Copy)]
-struct Tally {
+struct Row {
+    work: Work<'static>,
+    lists: u32,
     all: u32,
-    alike: u32,
     answer: Result<(), EventFault>,
+}
+
+/// Work, so many lists of its bonds, and what their interleavings are to come to.
+#[derive(Clone, Copy)]
+struct Mixed {
+    work: Work<'static>,
+    lists: u32,
+    wanted: Seen,
 }
 
 /// The next event of bond k, of which so many came.
@@ -50,174 +60,165 @@ fn interleaving(number: u32, bonds: u32) -> Option<[Event; 9]>
     Some(events)
 }
 
-/// All interleavings of a batch that is to come to what is wanted. `numbers` is its length as often multiplied by itself
-/// as it has events.
+/// How many interleavings there are, and how many of them come to what is wanted.
 fn interleavings_with<const L: usize, G: Ledger>(
     alloc: Global,
     steps: &mut Steps<G>,
     notes: &mut Notes,
-    particles: &[Particle],
-    bonds: Bonds<'_>,
-    batch: &[u32],
-    numbers: u32,
-    wanted: &Seen,
-) -> Result<Tally, AllocError>
+    mixed: &Mixed,
+) -> Result<[u32; 2], AllocError>
     requires low { 0 < L }
     requires high { L ≤ 16 }
-    requires six { length particles.now ≡ 6 }
-    requires placed { IsTrue (list_all (is_placed (pos (2 ^ 29))) particles.now) }
-    requires batch { IsTrue (is_batch (pos (2 ^ 29)) 6 bonds batch.now) }
-    requires some { 0 < length batch.now }
-    requires few { length batch.now ≤ 3 }
+    requires six { length mixed.now.work.particles.now ≡ 6 }
+    requires placed { IsTrue (list_all (is_placed (pos (2 ^ 29))) mixed.now.work.particles.now) }
+    requires batch { IsTrue (is_batch (pos (2 ^ 29)) 6 mixed.now.work.bonds mixed.now.work.batch.now) }
+    requires some { 0 < length mixed.now.work.batch.now }
+    requires few { length mixed.now.work.batch.now ≤ 3 }
 {
+    let count = mixed.work.batch.len();
     let mut all = 0u32;
     let mut alike = 0u32;
-    for number in 0..numbers {
-        if let Some(events) = interleaving(number, batch.len() as u32) {
-            let events = &events[..3 * batch.len()];
-            let seen = by_events::<L, G>(alloc, steps, notes, particles, bonds, batch, events)?;
+    for number in 0..mixed.lists {
+        if let Some(events) = interleaving(number, count as u32) {
+            let schedule = Schedule {
+                work: mixed.work,
+                events: &events[..3 * count],
+            };
+            let seen = by_events::<L, G>(alloc, steps, notes, &schedule)?;
             all = all.saturating_add(1);
-            alike = alike.saturating_add(u32::from(are_alike(&seen, wanted)));
+            alike = alike.saturating_add(u32::from(are_alike(&seen, &mixed.wanted)));
         }
     }
-    Ok(Tally {
-        all,
-        alike,
-        answer: wanted.answer,
-    })
+    Ok([all, alike])
 }
 
-/// The same with notes of its own, and with what the scalar projector comes to.
-fn all_interleavings<const L: usize, G: Ledger>(
+/// Whether work has as many interleavings as its row says, all of which come to what the scalar projector does.
+fn are_as_told<const L: usize, G: Ledger>(
     alloc: Global,
     steps: &mut Steps<G>,
-    particles: &[Particle],
-    bonds: Bonds<'_>,
-    batch: &[u32],
-    numbers: u32,
-) -> Result<Tally, AllocError>
+    row: &Row,
+) -> Result<bool, AllocError>
     requires low { 0 < L }
     requires high { L ≤ 16 }
-    requires six { length particles.now ≡ 6 }
-    requires placed { IsTrue (list_all (is_placed (pos (2 ^ 29))) particles.now) }
-    requires batch { IsTrue (is_batch (pos (2 ^ 29)) 6 bonds batch.now) }
-    requires plain { laid_in bonds ≡ None }
-    requires some { 0 < length batch.now }
-    requires few { length batch.now ≤ 3 }
+    requires six { length row.now.work.particles.now ≡ 6 }
+    requires placed { IsTrue (list_all (is_placed (pos (2 ^ 29))) row.now.work.particles.now) }
+    requires batch { IsTrue (is_batch (pos (2 ^ 29)) 6 row.now.work.bonds row.now.work.batch.now) }
+    requires plain { laid_in row.now.work.bonds ≡ None }
+    requires some { 0 < length row.now.work.batch.now }
+    requires few { length row.now.work.batch.now ≤ 3 }
 {
     let mut plain: Scalar<L> = Scalar::new();
-    let wanted = by_projector(alloc, steps, &mut plain, particles, bonds, batch)?;
+    let wanted = by_projector(alloc, steps, &mut plain, &row.work)?;
+    let mixed = Mixed {
+        work: row.work,
+        lists: row.lists,
+        wanted,
+    };
     match Notes::open(alloc) {
         Ok(mut notes) => {
-            let tally = interleavings_with::<L, G>(
-                alloc, steps, &mut notes, particles, bonds, batch, numbers, &wanted,
-            );
+            let told = interleavings_with::<L, G>(alloc, steps, &mut notes, &mixed);
             drop(notes);
-            tally
+            Ok(told? == [row.all; 2] && wanted.answer == row.answer)
         }
         Err(error) => Err(error),
     }
 }
 
-/// Two bonds: 20 interleavings, of bonds that move and with one that leaves.
-fn two_bonds<const L: usize, G: Ledger>(
-    alloc: Global,
-    steps: &mut Steps<G>,
-) -> Result<bool, AllocError>
-    requires low { 0 < L }
-    requires high { L ≤ 16 }
-{
-    let links = [link!(0, 1), link!(2, 3)];
-    let bonds = Bonds::Links(&links);
-    let within = [
-        free!(0, 0, 1),
-        free!(105, 0, 2),
-        held!(0, 1000),
-        free!(107, 1000, 1),
-        free!(0, 2000, 1),
-        free!(100, 2000, 1),
-    ];
-    let moved = all_interleavings::<L, G>(alloc, steps, &within, bonds, &[1, 0], 64)?;
-    let edge = [
-        free!(0, 0, 1),
-        free!(105, 0, 2),
-        free!(536870912, 1000, 1),
-        free!(536870911, 1000, 1),
-        free!(0, 2000, 1),
-        free!(100, 2000, 1),
-    ];
-    let left = all_interleavings::<L, G>(alloc, steps, &edge, bonds, &[0, 1], 64)?;
-    Ok(
-        moved.all == 20
-            && moved.alike == 20
-            && moved.answer == Ok(())
-            && left.all == 20
-            && left.alike == 20
-            && left.answer == Err(EventFault::Left { element: 1 }),
-    )
-}
+const TWO: Bonds<'static> = Bonds::Links(&[link!(0, 1), link!(2, 3)]);
 
-/// Three bonds that move, one of them with a held end: 1,680 interleavings.
-fn three_bonds<const L: usize, G: Ledger>(
-    alloc: Global,
-    steps: &mut Steps<G>,
-) -> Result<bool, AllocError>
-    requires low { 0 < L }
-    requires high { L ≤ 16 }
-{
-    let links = [link!(0, 1), link!(2, 3), link!(4, 5)];
-    let bonds = Bonds::Links(&links);
-    let within = [
-        free!(0, 0, 1),
-        free!(105, 0, 2),
-        held!(0, 1000),
-        free!(107, 1000, 1),
-        free!(0, 2000, 3),
-        free!(80, 2000, 1),
-    ];
-    let moved = all_interleavings::<L, G>(alloc, steps, &within, bonds, &[2, 0, 1], 19683)?;
-    Ok(moved.all == 1680 && moved.alike == 1680 && moved.answer == Ok(()))
-}
+const THREE: Bonds<'static> = Bonds::Links(&[link!(0, 1), link!(2, 3), link!(4, 5)]);
 
-/// Three bonds of which two leave: 1,680 interleavings, each of which leaves with the first of them in the batch.
-fn two_of_three_leave<const L: usize, G: Ledger>(
-    alloc: Global,
-    steps: &mut Steps<G>,
-) -> Result<bool, AllocError>
-    requires low { 0 < L }
-    requires high { L ≤ 16 }
-{
-    let links = [link!(0, 1), link!(2, 3), link!(4, 5)];
-    let bonds = Bonds::Links(&links);
-    let edge = [
-        free!(536870912, 0, 1),
-        free!(536870911, 0, 1),
-        free!(0, 1000, 1),
-        free!(105, 1000, 1),
-        free!(-536870912, 2000, 1),
-        free!(-536870911, 2000, 1),
-    ];
-    let left = all_interleavings::<L, G>(alloc, steps, &edge, bonds, &[1, 2, 0], 19683)?;
-    Ok(
-        left.all == 1680
-            && left.alike == 1680
-            && left.answer == Err(EventFault::Left { element: 2 }),
-    )
-}
+/// Two bonds that move.
+static TWO_MOVE: Row = Row {
+    work: Work {
+        particles: &[
+            free!(0, 0, 1),
+            free!(105, 0, 2),
+            held!(0, 1000),
+            free!(107, 1000, 1),
+            free!(0, 2000, 1),
+            free!(100, 2000, 1),
+        ],
+        bonds: TWO,
+        batch: &[1, 0],
+    },
+    lists: 64,
+    all: 20,
+    answer: Ok(()),
+};
 
-/// All of them, each at two widths.
-fn at_two_widths<G: Ledger>(alloc: Global, steps: &mut Steps<G>) -> Result<[bool; 6], AllocError> {
+/// Two bonds of which one leaves.
+static ONE_OF_TWO_LEAVES: Row = Row {
+    work: Work {
+        particles: &[
+            free!(0, 0, 1),
+            free!(105, 0, 2),
+            free!(536870912, 1000, 1),
+            free!(536870911, 1000, 1),
+            free!(0, 2000, 1),
+            free!(100, 2000, 1),
+        ],
+        bonds: TWO,
+        batch: &[0, 1],
+    },
+    lists: 64,
+    all: 20,
+    answer: Err(EventFault::Left { element: 1 }),
+};
+
+/// Three bonds that move, one of them with a held end.
+static THREE_MOVE: Row = Row {
+    work: Work {
+        particles: &[
+            free!(0, 0, 1),
+            free!(105, 0, 2),
+            held!(0, 1000),
+            free!(107, 1000, 1),
+            free!(0, 2000, 3),
+            free!(80, 2000, 1),
+        ],
+        bonds: THREE,
+        batch: &[2, 0, 1],
+    },
+    lists: 19683,
+    all: 1680,
+    answer: Ok(()),
+};
+
+/// Three bonds of which two leave: each interleaving leaves with the first of them in the batch.
+static TWO_OF_THREE_LEAVE: Row = Row {
+    work: Work {
+        particles: &[
+            free!(536870912, 0, 1),
+            free!(536870911, 0, 1),
+            free!(0, 1000, 1),
+            free!(105, 1000, 1),
+            free!(-536870912, 2000, 1),
+            free!(-536870911, 2000, 1),
+        ],
+        bonds: THREE,
+        batch: &[1, 2, 0],
+    },
+    lists: 19683,
+    all: 1680,
+    answer: Err(EventFault::Left { element: 2 }),
+};
+
+/// Each row at two widths.
+fn at_two_widths<G: Ledger>(alloc: Global, steps: &mut Steps<G>) -> Result<[bool; 8], AllocError> {
     Ok([
-        two_bonds::<1, G>(alloc, steps)?,
-        two_bonds::<4, G>(alloc, steps)?,
-        three_bonds::<1, G>(alloc, steps)?,
-        three_bonds::<16, G>(alloc, steps)?,
-        two_of_three_leave::<1, G>(alloc, steps)?,
-        two_of_three_leave::<8, G>(alloc, steps)?,
+        are_as_told::<1, G>(alloc, steps, &TWO_MOVE)?,
+        are_as_told::<4, G>(alloc, steps, &TWO_MOVE)?,
+        are_as_told::<1, G>(alloc, steps, &ONE_OF_TWO_LEAVES)?,
+        are_as_told::<4, G>(alloc, steps, &ONE_OF_TWO_LEAVES)?,
+        are_as_told::<1, G>(alloc, steps, &THREE_MOVE)?,
+        are_as_told::<16, G>(alloc, steps, &THREE_MOVE)?,
+        are_as_told::<1, G>(alloc, steps, &TWO_OF_THREE_LEAVE)?,
+        are_as_told::<8, G>(alloc, steps, &TWO_OF_THREE_LEAVE)?,
     ])
 }
 
-fn interleavings<G: Ledger>(alloc: Global, blank: Blank) -> Result<[bool; 6], AllocError>
+fn interleavings<G: Ledger>(alloc: Global, blank: Blank) -> Result<[bool; 8], AllocError>
     requires name { blank.name ≡ G.name }
     requires parts { blank.parts ≡ G.parts }
     requires some { 0 < blank.parts }
@@ -232,8 +233,8 @@ fn interleavings<G: Ledger>(alloc: Global, blank: Blank) -> Result<[bool; 6], Al
 fn legal_interleavings_come_to_the_same(rt: HostRuntime) -> Result<(), Fail> {
     assert_eq!(rt;
         interleavings::<Brand>(rt.alloc(), Blank::new(1))?,
-        [true; 6],
-        "two bonds at widths 1 and 4, three at 1 and 16, and two of three that leave at 1 and 8"
+        [true; 8],
+        "two bonds and two of which one leaves at widths 1 and 4, three at 1 and 16, and three of which two leave at 1 and 8"
     );
     Ok(())
 }

@@ -39,6 +39,13 @@ struct State {
     digest: [u8; 32],
 }
 
+/// A session, and the state that was written of it.
+#[derive(Clone, Copy)]
+struct Kept<'a> {
+    session: &'a Session,
+    state: &'a State,
+}
+
 /// What six more commands answer, and the state behind them.
 #[derive(Clone, Copy)]
 struct End {
@@ -270,8 +277,7 @@ fn read_and_go_on<const L: usize, G: Ledger>(
 fn read_at<const L: usize, G: Ledger>(
     alloc: Global,
     scene: &Scene,
-    seed: u64,
-    state: &State,
+    kept: &Kept<'_>,
     steps: &mut Steps<G>,
 ) -> Result<(bool, End), Wrong>
     requires low { 0 < L }
@@ -279,7 +285,8 @@ fn read_at<const L: usize, G: Ledger>(
 {
     match Solver::open(alloc, scene, LaneProjector::<L>::new()) {
         Ok(mut solver) => {
-            let end = read_and_go_on(&mut solver, seed, state, steps);
+            let seed = kept.session.seed;
+            let end = read_and_go_on(&mut solver, seed, kept.state, steps);
             drop(solver);
             end
         }
@@ -308,16 +315,15 @@ fn written_by<G: Ledger>(
 fn read_by<G: Ledger>(
     alloc: Global,
     scene: &Scene,
-    session: &Session,
-    state: &State,
+    kept: &Kept<'_>,
     steps: &mut Steps<G>,
 ) -> Result<(bool, End), Wrong> {
-    match session.to {
-        1 => read_at::<1, G>(alloc, scene, session.seed, state, steps),
-        2 => read_at::<2, G>(alloc, scene, session.seed, state, steps),
-        4 => read_at::<4, G>(alloc, scene, session.seed, state, steps),
-        8 => read_at::<8, G>(alloc, scene, session.seed, state, steps),
-        _ => read_at::<16, G>(alloc, scene, session.seed, state, steps),
+    match kept.session.to {
+        1 => read_at::<1, G>(alloc, scene, kept, steps),
+        2 => read_at::<2, G>(alloc, scene, kept, steps),
+        4 => read_at::<4, G>(alloc, scene, kept, steps),
+        8 => read_at::<8, G>(alloc, scene, kept, steps),
+        _ => read_at::<16, G>(alloc, scene, kept, steps),
     }
 }
 
@@ -353,7 +359,11 @@ fn tell<G: Ledger>(
 ) -> Result<Told, Wrong> {
     match written_by(alloc, scene, session, steps) {
         Some((state, end)) => {
-            let (taken, other) = read_by(alloc, scene, session, &state, steps)?;
+            let kept = Kept {
+                session,
+                state: &state,
+            };
+            let (taken, other) = read_by(alloc, scene, &kept, steps)?;
             same_end(&end, &other)?;
             Ok(Told {
                 accepted: accepted(&end.answers),

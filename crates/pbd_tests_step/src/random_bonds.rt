@@ -61,9 +61,10 @@ const CONTACTS: Lengths = Lengths {
 };
 
 /// A chunk of 128 bonds, each with a held end or ends of one weight, goes by loops of 32-bit numbers where all rest lengths are
-/// below 16,384 and all ways within 32,768. Else those whose moves are within 65,536 go by loops of 64-bit numbers, and all
-/// others one by one.
-static LENGTHS: [Lengths; 27] = [
+/// below 16,384 and all ways within 32,768. Else it goes by loops of 64-bit numbers where all moves are within 4,194,304, and one
+/// by one elsewhere.
+// Links shorter than half a metre, but for strays.
+static SHORT_LINKS: [Lengths; 8] = [
     SHORT,
     Lengths {
         name: "links that are nearly as long as they should be",
@@ -106,6 +107,10 @@ static LENGTHS: [Lengths; 27] = [
         stray: 32_767,
         ..SHORT
     },
+];
+
+// Links of a fourth of a metre and more.
+static LONG_LINKS: [Lengths; 12] = [
     Lengths {
         name: "links of a metre",
         ways: 0x0001_ffff,
@@ -172,6 +177,32 @@ static LENGTHS: [Lengths; 27] = [
         rests: 3,
         ..SHORT
     },
+    Lengths {
+        name: "links of 64 metres that should have no length",
+        pairs: 2_048,
+        along: 4_194_305,
+        ways: 3,
+        rests: 3,
+        ..SHORT
+    },
+    Lengths {
+        name: "links of 128 metres that should have no length",
+        pairs: 2_048,
+        along: 8_388_607,
+        ways: 3,
+        rests: 3,
+        ..SHORT
+    },
+    Lengths {
+        name: "short links, one in 128 of which is 200 metres long",
+        pairs: 2_048,
+        stray: 13_107_200,
+        ..SHORT
+    },
+];
+
+// Pairs that touch.
+static TOUCHING: [Lengths; 6] = [
     CONTACTS,
     Lengths {
         name: "contacts, and pairs that don't touch",
@@ -204,6 +235,10 @@ static LENGTHS: [Lengths; 27] = [
         thickness: 16_384,
         ..CONTACTS
     },
+];
+
+// Links at the edge of the range, of which some leave it.
+static AT_THE_EDGE: [Lengths; 4] = [
     Lengths {
         name: "links of a few units, pulled out of the range at its edge",
         draws: 4,
@@ -624,10 +659,10 @@ fn first_wrong(alloc: Global, family: &Family) -> Option<(u64, Fault)> {
     None
 }
 
-#[test]
-fn random_bonds_come_to_the_same_at_each_width(rt: HostRuntime) {
+/// Tells which families of some lengths are wrong, and returns how many.
+fn wrong_families(rt: &HostRuntime, rows: &[Lengths]) -> u32 {
     let mut wrong = 0u32;
-    for lengths in &LENGTHS {
+    for lengths in rows {
         for masses in &MASSES {
             let family = Family {
                 lengths: *lengths,
@@ -639,5 +674,29 @@ fn random_bonds_come_to_the_same_at_each_width(rt: HostRuntime) {
             }
         }
     }
-    assert!(rt; wrong == 0, "{wrong} families");
+    wrong
+}
+
+#[test]
+fn random_short_links_come_to_the_same_at_each_width(rt: HostRuntime) {
+    let wrong = wrong_families(&rt, &SHORT_LINKS);
+    assert!(rt; wrong == 0, "{wrong} families of short links");
+}
+
+#[test]
+fn random_long_links_come_to_the_same_at_each_width(rt: HostRuntime) {
+    let wrong = wrong_families(&rt, &LONG_LINKS);
+    assert!(rt; wrong == 0, "{wrong} families of long links");
+}
+
+#[test]
+fn random_contacts_come_to_the_same_at_each_width(rt: HostRuntime) {
+    let wrong = wrong_families(&rt, &TOUCHING);
+    assert!(rt; wrong == 0, "{wrong} families of contacts");
+}
+
+#[test]
+fn random_links_at_the_edge_leave_it_alike_at_each_width(rt: HostRuntime) {
+    let wrong = wrong_families(&rt, &AT_THE_EDGE);
+    assert!(rt; wrong == 0, "{wrong} families at the edge");
 }

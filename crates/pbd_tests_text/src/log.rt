@@ -469,17 +469,25 @@ static LONG_CUTS: [Cut; 9] = [
 
 static SMALL_CUTS: [Cut; 4] = [(0, 0, 31), (1, 0, 0), (2, 0, 20), (3, 0, 22)];
 
-/// Whether a log of a scene and entries is this one, up to the call that fails.
-fn writes(alloc: Global, scene: &[u8], entries: &[Entry], log: &[u8], cut: &Cut) -> bool
-    requires scene { length scene.now < 2 ^ 32 }
-    requires grammar { All IsGrammatical entries.now }
-    requires room { length entries.now < 2 ^ 32 }
+/// A scene, entries, and their log.
+#[derive(Clone, Copy)]
+struct Logged<'a> {
+    scene: &'a [u8],
+    entries: &'a [Entry],
+    log: &'a [u8],
+}
+
+/// Whether a scene and entries are written as their log, up to the call that fails.
+fn writes(alloc: Global, logged: &Logged<'_>, cut: &Cut) -> bool
+    requires scene { length logged.now.scene.now < 2 ^ 32 }
+    requires grammar { All IsGrammatical logged.now.entries.now }
+    requires room { length logged.now.entries.now < 2 ^ 32 }
 {
     let (call, taken, held) = *cut;
-    match failing(alloc, log.len(), call, taken) {
+    match failing(alloc, logged.log.len(), call, taken) {
         Ok(mut sink) => {
-            let ended = write_log(&mut sink, 536_870_912, scene, entries).is_ok();
-            let same = sink.written().len() == held && log.starts_with(sink.written());
+            let ended = write_log(&mut sink, 536_870_912, logged.scene, logged.entries).is_ok();
+            let same = sink.written().len() == held && logged.log.starts_with(sink.written());
             drop(sink);
             same && ended == (call == 0)
         }
@@ -493,13 +501,24 @@ fn a_log_stops_at_the_call_that_fails(rt: HostRuntime) {
     let mut wrong = 0u32;
     for cut in &LONG_CUTS {
         let entries = [step(), frame()];
-        if !writes(rt.alloc(), &SCENE, &entries, &LONG, cut) {
+        let logged = Logged {
+            scene: &SCENE,
+            entries: &entries,
+            log: &LONG,
+        };
+        if !writes(rt.alloc(), &logged, cut) {
             let _ = eprintln!(rt; "call, bytes taken and bytes held of the long log: {cut:?}");
             wrong = wrong.saturating_add(1);
         }
     }
     for cut in &SMALL_CUTS {
-        if !writes(rt.alloc(), &[], &[frame()], &SMALL, cut) {
+        let entries = [frame()];
+        let logged = Logged {
+            scene: &[],
+            entries: &entries,
+            log: &SMALL,
+        };
+        if !writes(rt.alloc(), &logged, cut) {
             let _ = eprintln!(rt; "call, bytes taken and bytes held of the small log: {cut:?}");
             wrong = wrong.saturating_add(1);
         }

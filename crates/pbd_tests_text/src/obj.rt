@@ -267,10 +267,7 @@ fn a_mesh_has_at_most_32_links_at_a_vertex_and_65536_vertices(rt: HostRuntime) {
     let mut wrong = 0u32;
     for (first, piece, count, outcome) in &LIMITS {
         let mut text = String::new(rt.alloc());
-        assert!(rt;
-            push_repeated(&mut text, first, piece, *count, ""),
-            "no memory"
-        );
+        assert!(rt; push_repeated(&mut text, first, piece, *count), "no memory");
         let bytes = text.as_bytes();
         assert!(rt; bytes.len() < 1_000_000, "a text of {} bytes", bytes.len());
         let added = added_alone(rt.alloc(), bytes);

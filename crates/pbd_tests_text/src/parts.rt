@@ -33,8 +33,8 @@ macro_rules! link {
 
 pub(crate) use link;
 
-/// Adds a text, so many times another, and a last one, where there is memory.
-pub fn push_repeated(text: &mut String, first: &str, piece: &str, count: u32, last: &str) -> bool {
+/// Adds a text, and so many times another, where there is memory.
+pub fn push_repeated(text: &mut String, first: &str, piece: &str, count: u32) -> bool {
     if text.push_str(first).is_err() {
         return false;
     }
@@ -43,5 +43,5 @@ pub fn push_repeated(text: &mut String, first: &str, piece: &str, count: u32, la
             return false;
         }
     }
-    text.push_str(last).is_ok()
+    true
 }

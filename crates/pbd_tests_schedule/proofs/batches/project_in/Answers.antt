@@ -21,10 +21,10 @@ project-outcome-requires g c =
         (
           c.requires.high,
           (
-            coe 1 0 (i. IsBatch (limit i) (six i) c.args.bonds c.args.batch.now)
-                (batch_is (pos (2 ^ 29)) 6 c.args.bonds c.args.batch.now c.requires.batch),
+            coe 1 0 (i. IsBatch (limit i) (six i) c.args.work.now.bonds c.args.work.now.batch.now)
+                (batch_is (pos (2 ^ 29)) 6 c.args.work.now.bonds c.args.work.now.batch.now c.requires.batch),
             (
-              subst (λ (o : Option Laid). SuitIf o (bond_of c.args.bonds) c.args.batch.now ps) (sym c.requires.plain) tt,
+              subst (λ (o : Option Laid). SuitIf o (bond_of c.args.work.now.bonds) c.args.work.now.batch.now ps) (sym c.requires.plain) tt,
               (
                 coe 1 0 (i. AreInside (limit i) ps) (are_inside (pos (2 ^ 29)) ps (omega (arith, ints)) c.requires.placed),
                 (

@@ -18,8 +18,8 @@ run_events-answer-requires g c =
         (
           c.requires.high,
           (
-            coe 1 0 (i. IsBatch (limit i) (six i) c.args.bonds c.args.batch.now)
-                (batch_is (pos (2 ^ 29)) 6 c.args.bonds c.args.batch.now c.requires.batch),
+            coe 1 0 (i. IsBatch (limit i) (six i) c.args.schedule.now.work.bonds c.args.schedule.now.work.batch.now)
+                (batch_is (pos (2 ^ 29)) 6 c.args.schedule.now.work.bonds c.args.schedule.now.work.batch.now c.requires.batch),
             (
               coe 1 0 (i. AreInside (limit i) ps) (are_inside (pos (2 ^ 29)) ps (omega (arith, ints)) c.requires.placed),
               (

@@ -1,0 +1,34 @@
+//! What is told of a row of a table that comes to something else than it says.
+use std::fmt::Debug;
+use std::io::Eprint;
+
+/// One where a row came to something else than it says, which is told then behind the row and what it says of it, and else
+/// nothing.
+pub fn wrong_row<R: Debug, T: Debug + PartialEq>(
+    rt: &impl Eprint,
+    (row, what): (&R, &str),
+    came_to: &T,
+    wanted: &T,
+) -> u32 {
+    if came_to == wanted {
+        return 0;
+    }
+    let _ = eprintln!(rt; "{row:?} {what}: {came_to:?}, not {wanted:?}");
+    1
+}
+
+/// How many rows of a table are wrong.
+#[derive(Clone, Copy, Debug, Drop)]
+pub struct WrongRows(u32);
+
+/// Ends the test of a table, of which so many rows are wrong.
+pub fn all_hold(wrong: u32) -> Result<(), WrongRows> {
+    if wrong == 0 {
+        Ok(())
+    } else {
+        Err(WrongRows(wrong))
+    }
+}
+
+/// What five answers are of.
+pub const WIDTHS: &str = "at widths 1, 2, 4, 8 and 16";
