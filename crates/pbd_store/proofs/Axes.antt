@@ -108,8 +108,7 @@ flown_is false damping gravity at before way loss pull w l p = omega (arith, int
 -- the sum has its value where 64 bits hold each number of it
 pub flown_held : (at way loss pull : ℤ) → unsigned_abs at ≤ 2 ^ 29 → unsigned_abs way ≤ 2 ^ 30 → unsigned_abs loss ≤ 2 ^ 30
     → unsigned_abs pull ≤ 2 ^ 29
-    → (held (held (held at +ℤ held (held way -ℤ held loss)) +ℤ held pull) ≡ at +ℤ (way -ℤ loss) +ℤ pull)
-    × (unsigned_abs (at +ℤ (way -ℤ loss) +ℤ pull) ≤ 2 ^ 32)
+    → held (held (held at +ℤ held (held way -ℤ held loss)) +ℤ held pull) ≡ at +ℤ (way -ℤ loss) +ℤ pull
 flown_held at way loss pull ha hw hl hp =
     let fa = fits at (omega (arith, ha)) in
     let fw = fits way (omega (arith, hw)) in
@@ -117,8 +116,7 @@ flown_held at way loss pull ha hw hl hp =
     let fp = fits pull (omega (arith, hp)) in
     let rest : unsigned_abs (way -ℤ loss) ≤ 2 ^ 31 = omega (arith, size-sub way loss, hw, hl) in
     let there : unsigned_abs (at +ℤ (way -ℤ loss)) ≤ 2 ^ 31 + 2 ^ 29 = omega (arith, size-add at (way -ℤ loss), rest, ha) in
-    let all : unsigned_abs (at +ℤ (way -ℤ loss) +ℤ pull) ≤ 2 ^ 32 = omega (arith, size-add (at +ℤ (way -ℤ loss)) pull, there, hp) in
     let fr = fits (way -ℤ loss) (omega (arith, rest)) in
     let ft = fits (at +ℤ (way -ℤ loss)) (omega (arith, there)) in
-    let to = fits (at +ℤ (way -ℤ loss) +ℤ pull) (omega (arith, all)) in
-    (simp to_z-of_z, all)
+    let to = fits (at +ℤ (way -ℤ loss) +ℤ pull) (omega (arith, size-add (at +ℤ (way -ℤ loss)) pull, there, hp)) in
+    simp to_z-of_z

@@ -2,19 +2,21 @@
 use Rattle.std.proofs.Common.{◌≡◌, refl, sym, ap, ◌∙◌, ℕ, zero, suc, ◌+◌, ◌*◌, ◌^◌, ◌<◌, ◌≤◌, Bool, true, false, not, cond, subst, arith, add-one}
 use Rattle.std.proofs.Common.{List, length, slice_set, ℤ, pos, ◌+ℤ◌, unsigned_abs, inl, inr}
 use Rattle.std.proofs.lemmas.Bool.{cases_lt}
-use Rattle.std.proofs.lemmas.List.{get_or-set_same, get_or-set_other, length-set, length-map}
+use Rattle.std.proofs.lemmas.List.{get_or-set_same, get_or-set_other, length-set}
 use Rattle.pbd_num.specs.declared.Vec3.{Vec3}
 use Rattle.pbd_num.specs.Vectors.{Within, plus, zero_vector}
+use Rattle.pbd_num.proofs.Ranges.{wider}
 use Rattle.pbd_num.proofs.Sizes.{size-add}
 use Rattle.pbd_lanes.specs.Lane.{is_set}
+use Rattle.pbd_store.specs.declared.rows.High.{High}
 use Rattle.pbd_store.specs.declared.rows.Place.{Place}
 use Rattle.pbd_store.specs.declared.flight.Forces.{Forces}
 use Rattle.pbd_store.specs.declared.fly.Sums.{Sums}
-use Rattle.pbd_store.specs.InRows.{row_of, place_in_row, places_in, AreFlat}
+use Rattle.pbd_store.specs.InRows.{row_of, place_in_row, row_at, place_in, no_high, high_at, place_by, places_by, AreFlat, AreHalves}
 use Rattle.pbd_store.specs.Listed.{place_at}
 use Rattle.pbd_store.specs.Reaching.{Covers}
-use Rattle.pbd_store.specs.Flying.{places_at, losses_at, one_if, sum_below, sums_below, row_at, place_in, WrittenRows, WrittenFirst, AreSummed, are_free}
-use Rattle.pbd_store.proofs.InRows.{place_seen}
+use Rattle.pbd_store.specs.Flying.{places_at, losses_at, one_if, sum_below, sums_below, halves_at, WrittenRows, WrittenFirst, AreSummed, are_free}
+use Rattle.pbd_store.proofs.InRows.{by_long, seen_by, low_seen, place_seen}
 use Rattle.pbd_store.proofs.Scattering.{split_below}
 
 pub kept_size : (b : Bool) (n r : ℤ) (m : ℕ) → r ≡ cond b n (pos 0) → unsigned_abs n ≤ m → unsigned_abs r ≤ m
@@ -70,7 +72,8 @@ summed_none forces flies at before to sums free lost = record {
   reach = λ j lt. absurd (omega arith);
 }
 
-module _ (forces : Forces) (n : ℕ) (flies : ℕ → Bool) (at before to to' : ℕ → Vec3) (sums next : Sums) (h : AreSummed forces n flies at before to sums)
+module _ (forces : Forces) (n : ℕ) (flies : ℕ → Bool) (at before to to' : ℕ → Vec3) (sums next : Sums)
+    (h : AreSummed forces n flies at before to sums)
     (taken : Vec3) (free : next.free ≡ sums.free +ℤ one_if (flies n)) (lost : next.lost ≡ plus sums.lost taken)
     (is : taken ≡ losses_at forces.damping (flies n) (at n) (before n)) (few : Within (2 ^ 30) taken)
     (kept : (v : Vec3) → Covers sums.reach forces.limit v → Covers next.reach forces.limit v) (own : Covers next.reach forces.limit (to' n))
@@ -113,92 +116,152 @@ summed_as {forces} {n} {m} {flies} {flies'} {at} {at'} {before} {before'} {to} {
       reach = λ j lt. subst (λ (v : Vec3). Covers sums.reach forces.limit v) (et j lt) (h.reach j lt);
     })
 
-pub rows_none : (forces : Forces) (held : List Bool) (at before : List Place) → WrittenRows forces held 0 at before at before
-rows_none forces held at before = record {
+pub rows_none : (forces : Forces) (held : List Bool) (at : List Place) (high : List High) (before : List Place)
+    → WrittenRows forces held 0 at high before at high before
+rows_none forces held at high before = record {
   whole = refl;
+  whole_high = refl;
   whole_before = refl;
   to = λ j lt. absurd (omega arith);
+  flat = λ j lt. absurd (omega arith);
   was = λ j lt. absurd (omega arith);
   still = λ j le. refl;
+  still_high = λ j le. refl;
   still_before = λ j le. refl;
 }
 
-module _ (forces : Forces) (held : List Bool) (n : ℕ) (at before at' before' : List Place) (h : WrittenRows forces held n at before at' before')
-    (row old : Place) (room : n < length at) (room_before : n < length before) (is_old : old ≡ row_at at' n)
-    (is : row ≡ row_of (places_at forces.damping forces.gravity (not (is_set held n)) (place_in at n) (place_in before n))) where
-  pub rows_more : WrittenRows forces held (n + 1) at before (slice_set at' n row) (slice_set before' n old)
-  rows_more = record {
-    whole = length-set at' n row ∙ h.whole;
+-- what was written first is still there after a write behind it
+row_other : (rows : List Place) (n j : ℕ) (row : Place) → (j ≡ n → ⊥) → row_at (slice_set rows n row) j ≡ row_at rows j
+row_other rows n j row = get_or-set_other rows n j row (row_of zero_vector)
+
+row_same : (rows : List Place) (n : ℕ) (row : Place) → n < length rows → row_at (slice_set rows n row) n ≡ row
+row_same rows n row = get_or-set_same rows n row (row_of zero_vector)
+
+module _ (forces : Forces) (held : List Bool) (n : ℕ) (at : List Place) (high : List High) (before at' : List Place) (high' : List High)
+    (before' : List Place) (h : WrittenRows forces held n at high before at' high' before') (low : Place) (up : High) (old : Place)
+    (room : n < length at) (room_high : n < length high) (room_before : n < length before) where
+  -- the places of the rows before it stay
+  pub halves_other : (j : ℕ) → (j ≡ n → ⊥) → halves_at (slice_set at' n low) (slice_set high' n up) j ≡ halves_at at' high' j
+  halves_other j d = λ t. place_by (place_in_row (row_other at' n j low d t)) (get_or-set_other high' n j up no_high d t)
+
+  pub halves_same : halves_at (slice_set at' n low) (slice_set high' n up) n ≡ place_by (place_in_row low) up
+  halves_same = λ t. place_by (place_in_row (row_same at' n low (omega (arith, h.whole)) t))
+      (get_or-set_same high' n up no_high (omega (arith, h.whole_high)) t)
+
+  pub rows_more : old ≡ row_at at' n → low.spare ≡ pos 0
+      → place_by (place_in_row low) up ≡ places_at forces.damping forces.gravity (not (is_set held n)) (place_in at n) (place_in before n)
+      → WrittenRows forces held (n + 1) at high before (slice_set at' n low) (slice_set high' n up) (slice_set before' n old)
+  rows_more is_old spare is = record {
+    whole = length-set at' n low ∙ h.whole;
+    whole_high = length-set high' n up ∙ h.whole_high;
     whole_before = length-set before' n old ∙ h.whole_before;
     to = λ j lt. elim (split_below j n lt) [
-      | inl p ↦ get_or-set_other at' n j row (row_of zero_vector) (λ e. absurd (omega arith)) ∙ h.to j p
-      | inr e ↦ subst (λ (m : ℕ). row_at (slice_set at' n row) m
-          ≡ row_of (places_at forces.damping forces.gravity (not (is_set held m)) (place_in at m) (place_in before m))) (sym e)
-          (get_or-set_same at' n row (row_of zero_vector) (omega (arith, h.whole)) ∙ is)
+      | inl p ↦ halves_other j (λ e. absurd (omega arith)) ∙ h.to j p
+      | inr e ↦ subst (λ (m : ℕ). halves_at (slice_set at' n low) (slice_set high' n up) m
+          ≡ places_at forces.damping forces.gravity (not (is_set held m)) (place_in at m) (place_in before m)) (sym e) (halves_same ∙ is)
+    ];
+    flat = λ j lt. elim (split_below j n lt) [
+      | inl p ↦ ap (λ (r : Place). r.spare) (row_other at' n j low (λ e. absurd (omega arith))) ∙ h.flat j p
+      | inr e ↦ subst (λ (m : ℕ). (row_at (slice_set at' n low) m).spare ≡ pos 0) (sym e)
+          (ap (λ (r : Place). r.spare) (row_same at' n low (omega (arith, h.whole))) ∙ spare)
     ];
     was = λ j lt. elim (split_below j n lt) [
-      | inl p ↦ get_or-set_other before' n j old (row_of zero_vector) (λ e. absurd (omega arith)) ∙ h.was j p
+      | inl p ↦ row_other before' n j old (λ e. absurd (omega arith)) ∙ h.was j p
       | inr e ↦ subst (λ (m : ℕ). row_at (slice_set before' n old) m ≡ row_at at m) (sym e)
-          (get_or-set_same before' n old (row_of zero_vector) (omega (arith, h.whole_before)) ∙ is_old ∙ h.still n (omega arith))
+          (row_same before' n old (omega (arith, h.whole_before)) ∙ is_old ∙ h.still n (omega arith))
     ];
-    still = λ j le. get_or-set_other at' n j row (row_of zero_vector) (λ e. absurd (omega arith)) ∙ h.still j (omega arith);
-    still_before = λ j le. get_or-set_other before' n j old (row_of zero_vector) (λ e. absurd (omega arith))
-        ∙ h.still_before j (omega arith);
+    still = λ j le. row_other at' n j low (λ e. absurd (omega arith)) ∙ h.still j (omega arith);
+    still_high = λ j le. get_or-set_other high' n j up no_high (λ e. absurd (omega arith)) ∙ h.still_high j (omega arith);
+    still_before = λ j le. row_other before' n j old (λ e. absurd (omega arith)) ∙ h.still_before j (omega arith);
   }
-
-  -- the places of the rows before it stay
-  pub rows_before : (j : ℕ) → j < n → place_in (slice_set at' n row) j ≡ place_in at' j
-  rows_before j lt = ap (λ (p : Place). place_in_row p) (get_or-set_other at' n j row (row_of zero_vector) (λ e. absurd (omega arith)))
-
-  pub row_there : row_at (slice_set at' n row) n ≡ row
-  row_there = get_or-set_same at' n row (row_of zero_vector) (omega (arith, h.whole))
 
 -- ---- places, from those of the rows
 
 -- the same of lists that are the same
-pub written_as : {forces : Forces} {held : List Bool} {n : ℕ} {a b a' b' x y x' y' : List Place} → a ≡ x → b ≡ y → x' ≡ a' → y' ≡ b'
-    → WrittenRows forces held n a b a' b' → WrittenRows forces held n x y x' y'
-written_as {forces} {held} {n} ea eb ea' eb' h = coe 0 1 (t. WrittenRows forces held n (ea t) (eb t) (sym ea' t) (sym eb' t)) h
+pub written_as : {forces : Forces} {held : List Bool} {n : ℕ} {a b a' b' x y x' y' : List Place} {h h' u u' : List High} → a ≡ x → h ≡ u
+    → b ≡ y → x' ≡ a' → u' ≡ h' → y' ≡ b' → WrittenRows forces held n a h b a' h' b' → WrittenRows forces held n x u y x' u' y'
+written_as {forces} {held} {n} ea eh eb ea' eh' eb' w =
+    coe 0 1 (t. WrittenRows forces held n (ea t) (eh t) (eb t) (sym ea' t) (sym eh' t) (sym eb' t)) w
 
--- the first rows of two lists have flown
-module _ (forces : Forces) (held : List Bool) (rows before rows' before' : List Place)
-    (h : WrittenRows forces held (length held) rows before rows' before') where
-  whole : (old new : List Place) → length new ≡ length old → length (places_in new) ≡ length (places_in old)
-  whole old new e = length-map new (λ (p : Place). place_in_row p) ∙ e ∙ sym (length-map old (λ (p : Place). place_in_row p))
+-- a place within the limit is that of its low row
+pub low_place : (low : List Place) (high : List High) → length high ≡ length low → (j : ℕ)
+    → Within (2 ^ 29) (place_at (places_by low high) j) → place_in low j ≡ place_at (places_by low high) j
+low_place low high long j near = sym (low_seen low high long low refl j (wider _ (2 ^ 29) (2 ^ 30) (omega arith) near) ∙ place_seen low j)
 
-  pub at_written : WrittenFirst (length held) (λ j. places_at forces.damping forces.gravity (are_free held j) (place_at (places_in rows) j)
-      (place_at (places_in before) j)) (places_in rows) (places_in rows')
+-- rows of which the first n are flat, and the others too
+flat_parts : (n : ℕ) (rows : List Place) → ((j : ℕ) → j < n → (row_at rows j).spare ≡ pos 0)
+    → ((j : ℕ) → n ≤ j → (row_at rows j).spare ≡ pos 0) → AreFlat rows
+flat_parts n rows first others = record {
+  each = λ j. elim (cases_lt j n) [
+    | inl p ↦ first j p
+    | inr q ↦ others j q
+  ];
+}
+
+-- the first rows of two lists of halves have flown from near places, and the high halves of the places before are still there
+pub record HaveFlown (forces : Forces) (held : List Bool) (at : List Place) (high : List High) (before : List Place)
+    (high_before : List High) (at' : List Place) (high' : List High) (before' : List Place) : Type 0 where
+  pub rows : WrittenRows forces held (length held) at high before at' high' before'
+  pub halves : AreHalves at high
+  pub halves_before : AreHalves before high_before
+  pub near : (j : ℕ) → j < length held → Within (2 ^ 29) (place_at (places_by at high) j)
+  pub near_before : (j : ℕ) → j < length held → Within (2 ^ 29) (place_at (places_by before high_before) j)
+
+module _ {forces : Forces} {held : List Bool} {at : List Place} {high : List High} {before : List Place} {high_before : List High}
+    {at' : List Place} {high' : List High} {before' : List Place}
+    (h : HaveFlown forces held at high before high_before at' high' before') where
+  long' : length high' ≡ length at'
+  long' = h.rows.whole_high ∙ h.halves.long ∙ sym h.rows.whole
+
+  long_before' : length high_before ≡ length before'
+  long_before' = h.halves_before.long ∙ sym h.rows.whole_before
+
+  at_seen : (j : ℕ) → j < length held → place_in at j ≡ place_at (places_by at high) j
+  at_seen j lt = low_place at high h.halves.long j (h.near j lt)
+
+  before_seen : (j : ℕ) → j < length held → place_in before j ≡ place_at (places_by before high_before) j
+  before_seen j lt = low_place before high_before h.halves_before.long j (h.near_before j lt)
+
+  flown_to : (j : ℕ) → j < length held → place_at (places_by at' high') j ≡ places_at forces.damping forces.gravity (are_free held j)
+      (place_at (places_by at high) j) (place_at (places_by before high_before) j)
+  flown_to j lt = seen_by at' high' long' j ∙ h.rows.to j lt
+      ∙ (λ t. places_at forces.damping forces.gravity (are_free held j) (at_seen j lt t) (before_seen j lt t))
+
+  pub at_written : WrittenFirst (length held) (λ j. places_at forces.damping forces.gravity (are_free held j) (place_at (places_by at high) j)
+      (place_at (places_by before high_before) j)) (places_by at high) (places_by at' high')
   at_written = record {
-    whole = whole rows rows' h.whole;
-    first = λ j lt. place_seen rows' j ∙ ap (λ (p : Place). place_in_row p) (h.to j lt)
-        ∙ (λ i. places_at forces.damping forces.gravity (are_free held j) (sym (place_seen rows j) i) (sym (place_seen before j) i));
-    others = λ j le. place_seen rows' j ∙ ap (λ (p : Place). place_in_row p) (h.still j le) ∙ sym (place_seen rows j);
+    whole = by_long at' high' ∙ h.rows.whole ∙ sym (by_long at high);
+    first = flown_to;
+    others = λ j le. seen_by at' high' long' j ∙ (λ t. place_by (place_in_row (h.rows.still j le t)) (h.rows.still_high j le t))
+        ∙ sym (seen_by at high h.halves.long j);
   }
 
-  pub before_written : WrittenFirst (length held) (place_at (places_in rows)) (places_in before) (places_in before')
+  pub before_written : WrittenFirst (length held) (place_at (places_by at high)) (places_by before high_before)
+      (places_by before' high_before)
   before_written = record {
-    whole = whole before before' h.whole_before;
-    first = λ j lt. place_seen before' j ∙ ap (λ (p : Place). place_in_row p) (h.was j lt) ∙ sym (place_seen rows j);
-    others = λ j le. place_seen before' j ∙ ap (λ (p : Place). place_in_row p) (h.still_before j le) ∙ sym (place_seen before j);
+    whole = by_long before' high_before ∙ h.rows.whole_before ∙ sym (by_long before high_before);
+    first = λ j lt. low_seen before high_before h.halves_before.long before' h.rows.whole_before j
+        (wider _ (2 ^ 29) (2 ^ 30) (omega arith) (h.near_before j lt)) ∙ place_seen before' j
+        ∙ ap (λ (r : Place). place_in_row r) (h.rows.was j lt) ∙ at_seen j lt;
+    others = λ j le. seen_by before' high_before long_before' j
+        ∙ ap (λ (r : Place). place_by (place_in_row r) (high_at high_before j)) (h.rows.still_before j le)
+        ∙ sym (seen_by before high_before h.halves_before.long j);
   }
 
-  pub at_flat : AreFlat rows → AreFlat rows'
-  at_flat flat = record {
-    each = λ j. elim (cases_lt j (length held)) [
-      | inl p ↦ ap (λ (p : Place). p.spare) (h.to j p)
-      | inr q ↦ ap (λ (p : Place). p.spare) (h.still j q) ∙ flat.each j
-    ];
+  pub at_halves : AreHalves at' high'
+  at_halves = record {
+    long = long';
+    flat = flat_parts (length held) at' h.rows.flat (λ j q. ap (λ (r : Place). r.spare) (h.rows.still j q) ∙ h.halves.flat.each j);
   }
 
-  pub before_flat : AreFlat rows → AreFlat before → AreFlat before'
-  before_flat flat flat_before = record {
-    each = λ j. elim (cases_lt j (length held)) [
-      | inl p ↦ ap (λ (p : Place). p.spare) (h.was j p) ∙ flat.each j
-      | inr q ↦ ap (λ (p : Place). p.spare) (h.still_before j q) ∙ flat_before.each j
-    ];
+  pub before_halves : AreHalves before' high_before
+  before_halves = record {
+    long = long_before';
+    flat = flat_parts (length held) before' (λ j p. ap (λ (r : Place). r.spare) (h.rows.was j p) ∙ h.halves.flat.each j)
+        (λ j q. ap (λ (r : Place). r.spare) (h.rows.still_before j q) ∙ h.halves_before.flat.each j);
   }
 
-  pub places_summed : (sums : Sums) → AreSummed forces (length held) (are_free held) (place_in rows) (place_in before) (place_in rows') sums
-      → AreSummed forces (length held) (are_free held) (place_at (places_in rows)) (place_at (places_in before)) (place_at (places_in rows')) sums
-  places_summed sums s = summed_as refl (λ j lt. refl) (λ j lt. sym (place_seen rows j)) (λ j lt. sym (place_seen before j))
-      (λ j lt. sym (place_seen rows' j)) s
+  pub places_summed : (sums : Sums) → AreSummed forces (length held) (are_free held) (place_in at) (place_in before) (halves_at at' high') sums
+      → AreSummed forces (length held) (are_free held) (place_at (places_by at high)) (place_at (places_by before high_before))
+      (place_at (places_by at' high')) sums
+  places_summed sums s = summed_as refl (λ j lt. refl) at_seen before_seen (λ j lt. sym (seen_by at' high' long' j)) s

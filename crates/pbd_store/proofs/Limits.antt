@@ -23,7 +23,7 @@ limit_size n h = by (int_eq n (pos (2 ^ 28))) refl
         (ap (λ (b : Bool). b || int_eq n (pos (2 ^ 29))) (sym e) ∙ h) in (omega (arith, ints), omega (arith, ap unsigned_abs large))
 
 -- the same of a limit that was read from its bits
-pub read_limit : (n : ℤ) → IsTrue (is_limit n) → (pos 0 ≤ℤ to_z w64 (of_z w64 n)) × (unsigned_abs (to_z w64 (of_z w64 n)) ≤ 2 ^ 30)
+pub read_limit : (n : ℤ) → IsTrue (is_limit n) → (pos 0 ≤ℤ to_z w64 (of_z w64 n)) × (unsigned_abs (to_z w64 (of_z w64 n)) ≤ 2 ^ 29)
 read_limit n h =
     let size = limit_size n h in
     let e = to_z-of_z w64 n (fits n (omega (arith, size.1))) in (

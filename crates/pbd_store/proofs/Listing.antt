@@ -17,14 +17,14 @@ use Rattle.pbd_store.specs.Listed.{place_at, row, listed, ArePadded, AreKept}
 
 -- ---- a list that a function gives, with one element set
 
-pub written : (n i : ℕ) (f g : ℕ → Particle) (v : Particle) → i < n → g i ≡ v → ((k : ℕ) → (k ≡ i → ⊥) → g k ≡ f k)
+pub written : {A : Type 0} (none : A) (n i : ℕ) (f g : ℕ → A) (v : A) → i < n → g i ≡ v → ((k : ℕ) → (k ≡ i → ⊥) → g k ≡ f k)
     → lanes_of n g ≡ slice_set (lanes_of n f) i v
-written n i f g v h same other =
+written none n i f g v h same other =
     let long : length (lanes_of n f) ≡ n = length-map-range_with_len f 0 n in
-    sym (fill_by_all g (slice_set (lanes_of n f) i v) n no_particle (length-set (lanes_of n f) i v ∙ long) (λ k p. elim (cases_eq k i) [
-      | inl e ↦ ap (λ (m : ℕ). get_or (slice_set (lanes_of n f) i v) m no_particle) e
-          ∙ get_or-set_same (lanes_of n f) i v no_particle (omega arith) ∙ sym same ∙ ap g (sym e)
-      | inr d ↦ get_or-set_other (lanes_of n f) i k v no_particle d ∙ get_or-map-range_with_len f 0 n k k no_particle p (omega arith)
+    sym (fill_by_all g (slice_set (lanes_of n f) i v) n none (length-set (lanes_of n f) i v ∙ long) (λ k p. elim (cases_eq k i) [
+      | inl e ↦ ap (λ (m : ℕ). get_or (slice_set (lanes_of n f) i v) m none) e
+          ∙ get_or-set_same (lanes_of n f) i v none (omega arith) ∙ sym same ∙ ap g (sym e)
+      | inr d ↦ get_or-set_other (lanes_of n f) i k v none d ∙ get_or-map-range_with_len f 0 n k k none p (omega arith)
           ∙ sym (other k d)
     ]))
 
@@ -63,7 +63,7 @@ module _ {n spare : ℕ} {at before : List Vec3} {weight : List ℕ} {held : Lis
       (other : (k : ℕ) → (k ≡ i → ⊥) → row at' before' weight' held' k ≡ row at before weight held k) where
     pub listed_set : (v : Particle) → row at' before' weight' held' i ≡ v
         → listed n at' before' weight' held' ≡ slice_set (listed n at before weight held) i v
-    listed_set v same = written n i (row at before weight held) (row at' before' weight' held') v within same other
+    listed_set v same = written no_particle n i (row at before weight held) (row at' before' weight' held') v within same other
 
     pub padded_set : length at' ≡ n + spare → length before' ≡ n + spare → length weight' ≡ n + spare → length held' ≡ n + spare
         → ArePadded n spare at' before' weight' held'

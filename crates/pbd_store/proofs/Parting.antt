@@ -7,7 +7,7 @@ use Rattle.std.proofs.lemmas.Bool.{and_from}
 use Rattle.std.proofs.lemmas.List.{get_or-set_same, get_or-set_other, length-set, length-map}
 use Rattle.std.proofs.lemmas.Simd.{map-map}
 use Rattle.std.proofs.Math.Seq.{map-set_same}
-use Rattle.pbd_num.proofs.Ranges.{within_facts}
+use Rattle.pbd_num.proofs.Ranges.{wider, within_facts}
 use Rattle.pbd_num.proofs.Sizes.{size-add, size-neg}
 use Rattle.pbd_num.specs.declared.Vec3.{Vec3}
 use Rattle.pbd_num.specs.Vectors.{Within, is_within, opposite, plus, zero_vector}
@@ -19,10 +19,12 @@ use Rattle.pbd_store.specs.Listed.{place_at, row, listed, ArePadded}
 use Rattle.pbd_store.specs.Moving.{fixed_parts}
 use Rattle.pbd_store.specs.declared.pairs.Pairs.{Pairs}
 use Rattle.pbd_store.specs.declared.reach.Reach.{Reach}
+use Rattle.pbd_store.specs.declared.rows.High.{High}
 use Rattle.pbd_store.specs.declared.rows.Place.{Place}
-use Rattle.pbd_store.specs.InRows.{place_in_row, places_in, row_of}
+use Rattle.pbd_store.specs.InRows.{place_in_row, places_in, place_by, places_by, high_at, row_of}
 use Rattle.pbd_store.specs.Pairs.{ArePairs, PairsApart, EndsChanged, Parted, PlacesParted, EachMoved, LeavesAt, OutsideAt, ends_within, stays}
-use Rattle.pbd_store.specs.Reaching.{Covers}
+use Rattle.pbd_store.specs.Reaching.{Covers, CoversEnds}
+use Rattle.pbd_store.proofs.InRows.{by_long, seen_by, place_seen, low_seen, rows_long}
 use Rattle.pbd_store.proofs.Listing.{shown, listed_long, count_is, row_is}
 use Rattle.pbd_store.proofs.Scattering.{split_below}
 
@@ -149,15 +151,13 @@ module _ (pairs : Pairs) (n : ℕ) (f s : ℕ → Vec3) (old new : List Particle
 -- places of pairs of which the first j are pulled, with the reach of the new ones
 pub record Pulled (j : ℕ) (first second : List ℕ) (f s : ℕ → Vec3) (reach : Reach) (limit : ℤ) (old new : List Vec3) : Type 0 where
   pub done : PlacesParted j first second f s old new
-  pub first_covered : (k : ℕ) → k < j → Covers reach limit (plus (place_at old (index_at first k)) (f k))
-  pub second_covered : (k : ℕ) → k < j → Covers reach limit (plus (place_at old (index_at second k)) (s k))
+  pub covered : CoversEnds j first second f s reach limit (place_at old)
 
 pub pulled_none : (first second : List ℕ) (f s : ℕ → Vec3) (reach : Reach) (limit : ℤ) (vs : List Vec3)
     → Pulled 0 first second f s reach limit vs vs
 pulled_none first second f s reach limit vs = record {
   done = changed_none first second _ _ zero_vector vs;
-  first_covered = λ k h. absurd (omega arith);
-  second_covered = λ k h. absurd (omega arith);
+  covered = record { firsts = λ k h. absurd (omega arith); seconds = λ k h. absurd (omega arith) };
 }
 
 module _ (pairs : Pairs) (n : ℕ) (f s : ℕ → Vec3) (reach : Reach) (limit : ℤ) (old new : List Vec3) (j : ℕ)
@@ -203,17 +203,29 @@ module _ (pairs : Pairs) (n : ℕ) (f s : ℕ → Vec3) (reach : Reach) (limit :
         record {
           done = subst (λ (vs : List Vec3). PlacesParted (j + 1) pairs.first.now pairs.second.now f s old vs) (sym last)
               (changed_more pairs n (on f) (on s) zero_vector old new j h.done p are apart v w first_is second_is);
-          first_covered = λ m r. elim (split_below m j r) [
-            | inl i ↦ l _ (k _ (h.first_covered m i))
-            | inr e ↦ subst (λ (i : ℕ). Covers after limit (plus (place_at old (index_at pairs.first.now i)) (f i))) (sym e)
-                (l _ (subst (λ (u : Vec3). Covers mid limit u) first_is o))
-          ];
-          second_covered = λ m r. elim (split_below m j r) [
-            | inl i ↦ l _ (k _ (h.second_covered m i))
-            | inr e ↦ subst (λ (i : ℕ). Covers after limit (plus (place_at old (index_at pairs.second.now i)) (s i))) (sym e)
-                (subst (λ (u : Vec3). Covers after limit u) second_is q)
-          ];
+          covered = record {
+            firsts = λ m r. elim (split_below m j r) [
+              | inl i ↦ l _ (k _ (h.covered.firsts m i))
+              | inr e ↦ subst (λ (i : ℕ). Covers after limit (plus (place_at old (index_at pairs.first.now i)) (f i))) (sym e)
+                  (l _ (subst (λ (u : Vec3). Covers mid limit u) first_is o))
+            ];
+            seconds = λ m r. elim (split_below m j r) [
+              | inl i ↦ l _ (k _ (h.covered.seconds m i))
+              | inr e ↦ subst (λ (i : ℕ). Covers after limit (plus (place_at old (index_at pairs.second.now i)) (s i))) (sym e)
+                  (subst (λ (u : Vec3). Covers after limit u) second_is q)
+            ];
+          };
         }
+
+-- what covers where ends are moved covers it for a list that has the same places there
+pub covers_as : {n : ℕ} {first second : List ℕ} {f s : ℕ → Vec3} {reach : Reach} {limit : ℤ} {at at' : ℕ → Vec3}
+    → ((j : ℕ) → j < n → at (index_at first j) ≡ at' (index_at first j))
+    → ((j : ℕ) → j < n → at (index_at second j) ≡ at' (index_at second j))
+    → CoversEnds n first second f s reach limit at → CoversEnds n first second f s reach limit at'
+covers_as {f = f} {s = s} {reach = reach} {limit = limit} first_same second_same h = record {
+  firsts = λ j p. subst (λ (v : Vec3). Covers reach limit (plus v (f j))) (first_same j p) (h.firsts j p);
+  seconds = λ j p. subst (λ (v : Vec3). Covers reach limit (plus v (s j))) (second_same j p) (h.seconds j p);
+}
 
 -- pairs of particles are pairs of a longer list
 pub pairs_longer : {n count more : ℕ} {pairs : Pairs} → count ≤ more → ArePairs n count pairs → ArePairs n more pairs
@@ -229,6 +241,32 @@ pairs_longer le are = record {
 pub pairs_in_rows : {n : ℕ} {pairs : Pairs} (rows : List Place) → ArePairs n (length rows) pairs
     → ArePairs n (length (places_in rows)) pairs
 pairs_in_rows rows are = pairs_longer (omega (arith, length-map rows (λ (p : Place). place_in_row p))) are
+
+-- low rows of which the ends of pairs have moved, as places: the high halves of these ends are 0
+module _ (low : List Place) (high : List High) (long : length high ≡ length low) (new : List Place) {n : ℕ} {first second : List ℕ}
+    {f s : ℕ → Vec3} (g : PlacesParted n first second f s (places_in low) (places_in new))
+    (first_near : (j : ℕ) → j < n → Within (2 ^ 29) (place_at (places_by low high) (index_at first j)))
+    (second_near : (j : ℕ) → j < n → Within (2 ^ 29) (place_at (places_by low high) (index_at second j))) where
+  same_long : length new ≡ length low
+  same_long = rows_long low new g.whole
+
+  -- the place of an end, by its low row
+  end_moved : (i : ℕ) (v : Vec3) → Within (2 ^ 29) (place_at (places_by low high) i)
+      → place_at (places_in new) i ≡ plus (place_at (places_in low) i) v
+      → place_at (places_by new high) i ≡ plus (place_at (places_by low high) i) v
+  end_moved i v near e =
+      let within = wider _ (2 ^ 29) (2 ^ 30) (omega arith) near in
+      low_seen low high long new same_long i within ∙ e ∙ (λ t. plus (sym (low_seen low high long low refl i within) t) v)
+
+  pub halves_parted : PlacesParted n first second f s (places_by low high) (places_by new high)
+  halves_parted = record {
+    whole = by_long new high ∙ same_long ∙ sym (by_long low high);
+    firsts = λ j p. end_moved (index_at first j) (f j) (first_near j p) (g.firsts j p);
+    seconds = λ j p. end_moved (index_at second j) (s j) (second_near j p) (g.seconds j p);
+    others = λ i nf ns. seen_by new high (long ∙ sym same_long) i
+        ∙ ap (λ (v : Vec3). place_by v (high_at high i)) (sym (place_seen new i) ∙ g.others i nf ns ∙ place_seen low i)
+        ∙ sym (seen_by low high long i);
+  }
 
 -- columns of which the places are those of moved ends
 module _ {n spare : ℕ} {at before : List Vec3} {weight : List ℕ} {held : List Bool} (h : ArePadded n spare at before weight held)
@@ -279,8 +317,8 @@ opposite_within {v} h = record {
 }
 
 -- a short way from a place within the range
-pub stepped_within : {u v r : Vec3} → Within (2 ^ 29) u → Within (2 ^ 22) v → r ≡ plus u v → Within (2 ^ 62) r
-stepped_within {u} {v} hu hv e = subst (λ (r : Vec3). Within (2 ^ 62) r) (sym e)
+pub stepped_within : {u v r : Vec3} → Within (2 ^ 29) u → Within (2 ^ 22) v → r ≡ plus u v → Within (2 ^ 30) r
+stepped_within {u} {v} hu hv e = subst (λ (r : Vec3). Within (2 ^ 30) r) (sym e)
     (record {
       x = omega (arith, size-add u.x v.x, hu.x, hv.x);
       y = omega (arith, size-add u.y v.y, hu.y, hv.y);

@@ -1,14 +1,15 @@
 -- The start of a step: free particles fly on, and held ones rest.
 use Rattle.std.specs.Prelude.{◌≡◌, ℕ, zero, suc, ◌*◌, ◌<◌, ◌≤◌, ◌^◌, ℤ, pos, ◌+ℤ◌, ◌-ℤ◌, ◌*ℤ◌, ◌≤ℤ◌, unsigned_abs, Bool, false, not, if◌then◌else◌, IsTrue}
-use Rattle.std.specs.Prelude.{List, length, slice_index_or}
+use Rattle.std.specs.Prelude.{List, length}
 use Rattle.pbd_num.specs.declared.Vec3.{Vec3}
 use Rattle.pbd_num.specs.Rounding.{rdiv}
-use Rattle.pbd_num.specs.Vectors.{Within, is_within, zero_vector}
+use Rattle.pbd_num.specs.Vectors.{Within, is_within}
 use Rattle.pbd_world.specs.declared.parts.Particle.{Particle}
 use Rattle.pbd_world.specs.Particles.{is_free, particle_at}
 use Rattle.pbd_lanes.specs.Lane.{is_set}
-use Rattle.pbd_store.specs.InRows.{place_in_row, row_of}
+use Rattle.pbd_store.specs.InRows.{high_at, place_by, place_in, row_at}
 use Rattle.pbd_store.specs.Listed.{place_at}
+use Rattle.pbd_store.specs.declared.rows.High.{High}
 use Rattle.pbd_store.specs.declared.rows.Place.{Place}
 use Rattle.pbd_store.specs.declared.flight.Forces.{Forces}
 use Rattle.pbd_store.specs.declared.flight.Flown.{Flown}
@@ -99,25 +100,27 @@ pub record IsOutside (i : ℕ) (limit : ℤ) (ps : List Particle) : Type 0 where
   pub before : (j : ℕ) → j < i → IsTrue (is_within limit (particle_at ps j).at)
   pub leaves : is_within limit (particle_at ps i).at ≡ false
 
--- row i, and the place in it
-abbrev pub row_at : List Place → ℕ → Place
-row_at rows i = slice_index_or rows i (row_of zero_vector)
-
-abbrev pub place_in : List Place → ℕ → Vec3
-place_in rows i = place_in_row (row_at rows i)
-
 -- particle j is free by these flags of the held ones
 abbrev pub are_free : List Bool → ℕ → Bool
 are_free held j = not (is_set held j)
 
--- the first n rows have flown, and the others have not changed
-pub record WrittenRows (forces : Forces) (held : List Bool) (n : ℕ) (at before at' before' : List Place) : Type 0 where
+-- the place of low row j and the high halves at j
+abbrev pub halves_at : List Place → List High → ℕ → Vec3
+halves_at low high j = place_by (place_in low j) (high_at high j)
+
+-- of places whose low rows are `at` and whose high halves are `high`, and of low rows of those before, the first n have flown, and the
+-- others have not changed
+pub record WrittenRows (forces : Forces) (held : List Bool) (n : ℕ) (at : List Place) (high : List High) (before at' : List Place)
+    (high' : List High) (before' : List Place) : Type 0 where
   pub whole : length at' ≡ length at
+  pub whole_high : length high' ≡ length high
   pub whole_before : length before' ≡ length before
   pub to : (j : ℕ) → j < n
-      → row_at at' j ≡ row_of (places_at forces.damping forces.gravity (not (is_set held j)) (place_in at j) (place_in before j))
+      → halves_at at' high' j ≡ places_at forces.damping forces.gravity (not (is_set held j)) (place_in at j) (place_in before j)
+  pub flat : (j : ℕ) → j < n → (row_at at' j).spare ≡ pos 0
   pub was : (j : ℕ) → j < n → row_at before' j ≡ row_at at j
   pub still : (j : ℕ) → n ≤ j → row_at at' j ≡ row_at at j
+  pub still_high : (j : ℕ) → n ≤ j → high_at high' j ≡ high_at high j
   pub still_before : (j : ℕ) → n ≤ j → row_at before' j ≡ row_at before j
 
 -- the first n of some particles, of which `flies` tells who is free, have flown between these places, and are summed up

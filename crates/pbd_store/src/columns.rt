@@ -1,6 +1,6 @@
 // The particles as columns.
-ghost use Rattle.std.specs.Prelude.{◌≡◌, ℕ, ◌<◌, ◌≤◌, ◌+◌, ◌++◌, ◌&&◌, pos, false, length, map, replicate, slice_index, slice_index_or, slice_set, IfOk, IsTrue, vec_len, if◌then◌else◌, nat_lt};
-ghost use Rattle.pbd_num.specs.Vectors.{zero_vector};
+ghost use Rattle.std.specs.Prelude.{◌≡◌, ℕ, ◌<◌, ◌≤◌, ◌+◌, ◌^◌, ◌++◌, ◌&&◌, pos, false, length, map, replicate, slice_index, slice_index_or, slice_set, IfOk, IsTrue, vec_len, if◌then◌else◌, nat_lt};
+ghost use Rattle.pbd_num.specs.Vectors.{Within, zero_vector};
 ghost use Rattle.pbd_lanes.specs.Lane.{is_set, lanes_of};
 ghost use Rattle.pbd_world.specs.Particles.{particle_at, placed, effective_weight};
 ghost use Rattle.pbd_store.specs.Blocks.{place_of, Saved};
@@ -204,11 +204,12 @@ impl<const L: usize> Columns<L> {
         }
     }
 
-    /// The rows of the places of all particles, and of some zeros.
+    /// The low rows of the places of all particles, and of some zeros. Where no axis is above 2^30, they are the places.
     #[inline(always)]
     pub(crate) fn place_rows(&self) -> &[Place]
         ensures long { length self.now ≤ length result.now }
-        ensures each { (i : ℕ) → i < length self.now → place_at (places_in result.now) i ≡ (particle_at self.now i).at }
+        ensures each { (i : ℕ) → i < length self.now → Within (2 ^ 30) (particle_at self.now i).at
+            → place_at (places_in result.now) i ≡ (particle_at self.now i).at }
         ensures flat { AreFlat result.now }
     {
         self.at.rows()

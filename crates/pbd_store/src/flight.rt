@@ -2,7 +2,7 @@
 ghost use Rattle.std.specs.Prelude.{◌≡◌, ℕ, ◌<◌, ◌≤◌, ◌^◌, ℤ, pos, ◌+ℤ◌, ◌-ℤ◌, ◌*ℤ◌, Bool, unsigned_abs, if◌then◌else◌};
 ghost use Rattle.pbd_num.specs.Rounding.{rdiv as rounded};
 ghost use Rattle.pbd_num.specs.Vectors.{Within};
-ghost use Rattle.pbd_store.specs.InRows.{place_in_row, row_of};
+ghost use Rattle.pbd_store.specs.InRows.{place_in_row};
 ghost use Rattle.pbd_store.specs.Flying.{IsSmall, loss_at, flown_at, pull_at, losses_at, places_at};
 
 use crate::rows::Place;
@@ -28,7 +28,7 @@ pub struct Flown {
 /// Where a row comes to, and what damping takes of it.
 #[derive(Clone, Copy)]
 pub(crate) struct RowFlown {
-    pub(crate) to: Place,
+    pub(crate) to: Vec3,
     pub(crate) lost: Vec3,
 }
 
@@ -126,9 +126,8 @@ fn flown_by(at: i64, way: i64, loss: i64, pull: i64) -> i64
     requires way { unsigned_abs way ≤ 2 ^ 30 }
     requires loss { unsigned_abs loss ≤ 2 ^ 30 }
     requires pull { unsigned_abs pull ≤ 2 ^ 29 }
-    ensures value { (flies : Bool) (damping gravity before : ℤ) → way ≡ (if flies then at -ℤ before else pos 0)
+    ensures { (flies : Bool) (damping gravity before : ℤ) → way ≡ (if flies then at -ℤ before else pos 0)
         → loss ≡ loss_at damping flies at before → pull ≡ pull_at gravity flies → result ≡ flown_at damping gravity flies at before }
-    ensures size { unsigned_abs result ≤ 2 ^ 32 }
 {
     at + (way - loss) + pull
 }
@@ -142,7 +141,6 @@ fn fly_axis(forces: AxisForces, flies: bool, at: i64, before: i64) -> AxisFlown
     requires before { unsigned_abs before ≤ 2 ^ 29 }
     ensures to { result.to ≡ flown_at forces.damping forces.gravity flies at before }
     ensures lost { result.lost ≡ loss_at forces.damping flies at before }
-    ensures to_size { unsigned_abs result.to ≤ 2 ^ 32 }
     ensures lost_size { unsigned_abs result.lost ≤ 2 ^ 30 }
 {
     let way = way_if(flies, at, before);
@@ -168,37 +166,33 @@ pub(crate) fn fly_row(forces: Forces, flies: bool, at: Place, before: Place) -> 
     requires forces { IsSmall forces }
     requires at { Within (2 ^ 29) (place_in_row at) }
     requires before { Within (2 ^ 29) (place_in_row before) }
-    requires spare { at.spare ≡ pos 0 }
-    ensures to { result.to ≡ row_of (places_at forces.damping forces.gravity flies (place_in_row at) (place_in_row before)) }
+    ensures to { result.to ≡ places_at forces.damping forces.gravity flies (place_in_row at) (place_in_row before) }
     ensures lost { result.lost ≡ losses_at forces.damping flies (place_in_row at) (place_in_row before) }
-    ensures to_size { Within (2 ^ 32) (place_in_row result.to) }
-    ensures spare { result.to.spare ≡ pos 0 }
     ensures lost_size { Within (2 ^ 30) result.lost }
 {
     let x = fly_axis(
         forces_along(forces, forces.gravity.x),
         flies,
-        at.x,
-        before.x,
+        i64::from(at.x),
+        i64::from(before.x),
     );
     let y = fly_axis(
         forces_along(forces, forces.gravity.y),
         flies,
-        at.y,
-        before.y,
+        i64::from(at.y),
+        i64::from(before.y),
     );
     let z = fly_axis(
         forces_along(forces, forces.gravity.z),
         flies,
-        at.z,
-        before.z,
+        i64::from(at.z),
+        i64::from(before.z),
     );
     RowFlown {
-        to: Place {
+        to: Vec3 {
             x: x.to,
             y: y.to,
             z: z.to,
-            spare: at.spare,
         },
         lost: Vec3 {
             x: x.lost,

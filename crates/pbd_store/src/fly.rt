@@ -5,8 +5,8 @@ ghost use Rattle.pbd_num.specs.Vectors.{Within, is_within, plus};
 ghost use Rattle.pbd_lanes.specs.Lane.{is_set};
 ghost use Rattle.pbd_world.specs.Particles.{particle_at, is_free};
 ghost use Rattle.pbd_store.specs.Blocks.{blocks_of};
-ghost use Rattle.pbd_store.specs.Flying.{IsSmall, AllStay, LeavesFirst, WrittenFirst, WrittenRows, AreSummed, IsOutside, are_free, after_flight, places_at, one_if, row_at, place_in};
-ghost use Rattle.pbd_store.specs.InRows.{place_in_row};
+ghost use Rattle.pbd_store.specs.Flying.{IsSmall, AllStay, LeavesFirst, WrittenFirst, WrittenRows, AreSummed, IsOutside, are_free, after_flight, halves_at, places_at, one_if};
+ghost use Rattle.pbd_store.specs.InRows.{place_in};
 ghost use Rattle.pbd_store.specs.Listed.{place_at};
 ghost use Rattle.pbd_store.specs.Moving.{AreInside};
 ghost use Rattle.pbd_store.specs.Reaching.{Covers};
@@ -14,7 +14,7 @@ ghost use Rattle.pbd_store.specs.Reaching.{Covers};
 use crate::columns::Columns;
 use crate::flight::{Flown, Forces, RowFlown, fly_row};
 use crate::reach::Reach;
-use crate::rows::{Place, PlaceRows};
+use crate::rows::{Halves, High, Place, PlaceRows};
 use crate::steps::Steps;
 use crate::store::Store;
 use pbd_num::{Vec3, within};
@@ -74,49 +74,75 @@ impl Sums {
         requires free { unsigned_abs self.free ≤ 2 ^ 16 }
         requires lost { Within (2 ^ 46) self.lost }
         requires row_lost { Within (2 ^ 30) row.lost }
-        requires row_to { Within (2 ^ 32) (place_in_row row.to) }
-        requires spare { row.to.spare ≡ pos 0 }
         requires low { pos 0 ≤ℤ limit }
         requires high { unsigned_abs limit ≤ 2 ^ 29 }
         ensures free { result.free ≡ self.free +ℤ one_if flies }
         ensures lost { result.lost ≡ plus self.lost row.lost }
         ensures kept { (v : Vec3) → Covers self.reach limit v → Covers result.reach limit v }
-        ensures own { Covers result.reach limit (place_in_row row.to) }
+        ensures own { Covers result.reach limit row.to }
     {
         Sums {
             free: counted(self.free, flies),
             lost: both(self.lost, row.lost),
-            reach: self.reach.with(row.to, limit),
+            reach: self.reach.with_far(row.to, limit),
         }
     }
 }
 
+// What acts on some particles, and which of them are held.
+#[derive(Clone, Copy)]
+struct Flight<'a> {
+    forces: Forces,
+    held: &'a [bool],
+}
+
 // Lets the particles that aren't held fly, each in its row.
 #[inline(always)]
-fn fly_rows(forces: Forces, held: &[bool], at: &mut [Place], before: &mut [Place]) -> Sums
-    requires forces { IsSmall forces }
-    requires few { length held.now ≤ 65536 }
-    requires at_long { length held.now ≤ length at.old }
-    requires before_long { length held.now ≤ length before.old }
-    requires at { (j : ℕ) → j < length held.now → Within (2 ^ 29) (place_in at.old j) }
-    requires before { (j : ℕ) → j < length held.now → Within (2 ^ 29) (place_in before.old j) }
-    requires spare { (j : ℕ) → j < length held.now → (row_at at.old j).spare ≡ pos 0 }
-    ensures rows { WrittenRows forces held.now (length held.now) at.old before.old at.new before.new }
-    ensures sums { AreSummed forces (length held.now) (are_free held.now) (place_in at.old) (place_in before.old)
-        (place_in at.new) result }
+fn fly_rows(flight: Flight<'_>, at: &mut [Place], high: &mut [High], before: &mut [Place]) -> Sums
+    requires forces { IsSmall flight.forces }
+    requires few { length flight.held.now ≤ 65536 }
+    requires at_long { length flight.held.now ≤ length at.old }
+    requires high_long { length flight.held.now ≤ length high.old }
+    requires before_long { length flight.held.now ≤ length before.old }
+    requires at { (j : ℕ) → j < length flight.held.now → Within (2 ^ 29) (place_in at.old j) }
+    requires before { (j : ℕ) → j < length flight.held.now → Within (2 ^ 29) (place_in before.old j) }
+    ensures rows { WrittenRows flight.entry.forces flight.entry.held.now (length flight.entry.held.now) at.old high.old before.old
+        at.new high.new before.new }
+    ensures sums { AreSummed flight.entry.forces (length flight.entry.held.now) (are_free flight.entry.held.now)
+        (place_in at.old) (place_in before.old) (halves_at at.new high.new) result }
 {
-    // As many as there are flags: said by all three lengths, so that no index needs a test.
-    let count = held.len().min(at.len()).min(before.len());
-    let mut sums = Sums::NONE;
+    let held = flight.held;
+    // As many as there are flags: said by all four lengths, so that no index needs a test.
+    let count = held.len().min(at.len()).min(high.len()).min(before.len());
+    // What the loop reads and sums up is in locals of its own, so that no write of a row makes it go through memory.
+    let forces = Forces {
+        damping: flight.forces.damping,
+        gravity: Vec3 {
+            x: flight.forces.gravity.x,
+            y: flight.forces.gravity.y,
+            z: flight.forces.gravity.z,
+        },
+        limit: flight.forces.limit,
+    };
+    let Sums {
+        mut free,
+        mut lost,
+        mut reach,
+    } = Sums::NONE;
     for i in 0..count {
         let old = at[i];
         let flies = !held[i];
         let row = fly_row(forces, flies, old, before[i]);
-        at[i] = row.to;
+        let to = Halves::of(row.to);
+        at[i] = to.low;
+        high[i] = to.high;
         before[i] = old;
-        sums = sums.with(flies, row, forces.limit);
+        let sums = Sums { free, lost, reach }.with(flies, row, forces.limit);
+        free = sums.free;
+        lost = sums.lost;
+        reach = sums.reach;
     }
-    sums
+    Sums { free, lost, reach }
 }
 
 impl PlaceRows {
@@ -136,10 +162,10 @@ impl PlaceRows {
             (place_at self.new) result }
     {
         fly_rows(
-            forces,
-            held,
-            self.rows.as_mut_slice(),
-            before.rows.as_mut_slice(),
+            Flight { forces, held },
+            self.low.as_mut_slice(),
+            self.high.as_mut_slice(),
+            before.low.as_mut_slice(),
         )
     }
 }

@@ -6,7 +6,7 @@ ghost use Rattle.pbd_store.specs.Blocks.{blocks_of};
 ghost use Rattle.pbd_store.specs.Gathering.{index_at};
 ghost use Rattle.pbd_store.specs.Moving.{fixed_parts, AreInside};
 ghost use Rattle.pbd_store.specs.Pairs.{ArePairs, PairsApart, AreBetween, AreShort, AreMoves, Parted, EachMoved, LeavesAt, OutsideAt, IsWay, row_in, ways_in, opposites_in, first_moves, second_moves, ends_within};
-ghost use Rattle.pbd_store.specs.Reaching.{Covers};
+ghost use Rattle.pbd_store.specs.Reaching.{CoversEnds};
 
 use crate::pulling::{RowMoves, put_ways};
 use crate::reach::Reach;
@@ -133,12 +133,8 @@ impl<const L: usize> Store<L> {
         ensures particles { Parted (length pairs.entry.first.now) pairs.entry.first.now pairs.entry.second.now
             (opposites_in back.now) (ways_in forth.now)
             self.old.particles self.new.particles }
-        ensures first { (j : ℕ) → j < length pairs.entry.first.now
-            → Covers result self.old.limit
-            (plus (particle_at self.old.particles (index_at pairs.entry.first.now j)).at (opposites_in back.now j)) }
-        ensures second { (j : ℕ) → j < length pairs.entry.first.now
-            → Covers result self.old.limit
-            (plus (particle_at self.old.particles (index_at pairs.entry.second.now j)).at (ways_in forth.now j)) }
+        ensures covered { CoversEnds (length pairs.entry.first.now) pairs.entry.first.now pairs.entry.second.now
+            (opposites_in back.now) (ways_in forth.now) result self.old.limit (λ i. (particle_at self.old.particles i).at) }
         ensures limit { self.new.limit ≡ self.old.limit }
         ensures copies { self.new.copies ≡ self.old.copies }
         ensures fixed { fixed_parts self.new.particles ≡ fixed_parts self.old.particles }

@@ -1,14 +1,14 @@
 // Pairs of rows: the ways between them, and how they are pulled. What a loop reads is in slices of its own, so that no store
 // makes it read anew where they lie.
 ghost use Rattle.std.specs.Prelude.{◌≡◌, ℕ, ◌<◌, ◌≤◌, ◌^◌, ◌≤ℤ◌, pos, length, unsigned_abs};
-ghost use Rattle.pbd_num.specs.Vectors.{Within, plus};
+ghost use Rattle.pbd_num.specs.Vectors.{Within};
 ghost use Rattle.pbd_world.specs.Particles.{particle_at};
 ghost use Rattle.pbd_store.specs.Gathering.{index_at};
 ghost use Rattle.pbd_store.specs.InRows.{places_in, AreFlat};
 ghost use Rattle.pbd_store.specs.Listed.{place_at};
 ghost use Rattle.pbd_store.specs.Moving.{fixed_parts};
 ghost use Rattle.pbd_store.specs.Pairs.{ArePairs, PairsApart, AreShort, Parted, PlacesParted, IsWay, row_in, ways_in, opposites_in};
-ghost use Rattle.pbd_store.specs.Reaching.{Covers};
+ghost use Rattle.pbd_store.specs.Reaching.{CoversEnds};
 
 use crate::columns::Columns;
 use crate::pairs::Pairs;
@@ -58,14 +58,12 @@ fn pull_rows(rows: &mut [Place], pairs: Pairs<'_>, moves: RowMoves<'_>, limit: i
     requires back { AreShort (length pairs.first.now) moves.back.now }
     requires forth { AreShort (length pairs.first.now) moves.forth.now }
     requires low { pos 0 ≤ℤ limit }
-    requires high { unsigned_abs limit ≤ 2 ^ 30 }
+    requires high { unsigned_abs limit ≤ 2 ^ 29 }
     ensures places { PlacesParted (length pairs.entry.first.now) pairs.entry.first.now pairs.entry.second.now
         (opposites_in moves.entry.back.now) (ways_in moves.entry.forth.now) (places_in rows.old) (places_in rows.new) }
     ensures flat { AreFlat rows.new }
-    ensures first { (j : ℕ) → j < length pairs.entry.first.now → Covers result limit
-        (plus (place_at (places_in rows.old) (index_at pairs.entry.first.now j)) (opposites_in moves.entry.back.now j)) }
-    ensures second { (j : ℕ) → j < length pairs.entry.first.now → Covers result limit
-        (plus (place_at (places_in rows.old) (index_at pairs.entry.second.now j)) (ways_in moves.entry.forth.now j)) }
+    ensures covered { CoversEnds (length pairs.entry.first.now) pairs.entry.first.now pairs.entry.second.now
+        (opposites_in moves.entry.back.now) (ways_in moves.entry.forth.now) result limit (place_at (places_in rows.old)) }
 {
     let first = pairs.first;
     let second = pairs.second;
@@ -93,15 +91,13 @@ impl PlaceRows {
         requires back { AreShort (length pairs.first.now) moves.back.now }
         requires forth { AreShort (length pairs.first.now) moves.forth.now }
         requires low { pos 0 ≤ℤ limit }
-        requires high { unsigned_abs limit ≤ 2 ^ 30 }
+        requires high { unsigned_abs limit ≤ 2 ^ 29 }
         ensures places { PlacesParted (length pairs.entry.first.now) pairs.entry.first.now pairs.entry.second.now
             (opposites_in moves.entry.back.now) (ways_in moves.entry.forth.now) self.old self.new }
-        ensures first { (j : ℕ) → j < length pairs.entry.first.now → Covers result limit
-            (plus (place_at self.old (index_at pairs.entry.first.now j)) (opposites_in moves.entry.back.now j)) }
-        ensures second { (j : ℕ) → j < length pairs.entry.first.now → Covers result limit
-            (plus (place_at self.old (index_at pairs.entry.second.now j)) (ways_in moves.entry.forth.now j)) }
+        ensures covered { CoversEnds (length pairs.entry.first.now) pairs.entry.first.now pairs.entry.second.now
+            (opposites_in moves.entry.back.now) (ways_in moves.entry.forth.now) result limit (place_at self.old) }
     {
-        pull_rows(self.rows.as_mut_slice(), pairs, moves, limit)
+        pull_rows(self.low.as_mut_slice(), pairs, moves, limit)
     }
 }
 
@@ -116,13 +112,11 @@ impl<const L: usize> Columns<L> {
         requires back { AreShort (length pairs.first.now) moves.back.now }
         requires forth { AreShort (length pairs.first.now) moves.forth.now }
         requires low { pos 0 ≤ℤ limit }
-        requires high { unsigned_abs limit ≤ 2 ^ 30 }
+        requires high { unsigned_abs limit ≤ 2 ^ 29 }
         ensures particles { Parted (length pairs.entry.first.now) pairs.entry.first.now pairs.entry.second.now
             (opposites_in moves.entry.back.now) (ways_in moves.entry.forth.now) self.old self.new }
-        ensures first { (j : ℕ) → j < length pairs.entry.first.now → Covers result limit
-            (plus (particle_at self.old (index_at pairs.entry.first.now j)).at (opposites_in moves.entry.back.now j)) }
-        ensures second { (j : ℕ) → j < length pairs.entry.first.now → Covers result limit
-            (plus (particle_at self.old (index_at pairs.entry.second.now j)).at (ways_in moves.entry.forth.now j)) }
+        ensures covered { CoversEnds (length pairs.entry.first.now) pairs.entry.first.now pairs.entry.second.now
+            (opposites_in moves.entry.back.now) (ways_in moves.entry.forth.now) result limit (λ i. (particle_at self.old i).at) }
         ensures fixed { fixed_parts self.new ≡ fixed_parts self.old }
     {
         self.at.pull(pairs, moves, limit)

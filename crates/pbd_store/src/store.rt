@@ -29,8 +29,9 @@ fn start_of(block: u32, lanes: usize, len: u32) -> usize
 }
 
 /// The particles, with the limit within which their places are to stay.
-/// The calls that reach particles each raise the count of accesses by one. What takes over all particles at once is no
-/// access: the store counts it itself.
+/// The calls that reach one particle, or up to L of them, each raise the count of accesses by one. `fly`, `between`, `ways`,
+/// `pull` and `move_each` raise it by two for each block of L. What takes over all particles at once is no access: the store
+/// counts it itself.
 #[derive(Drop)]
 pub struct Store<const L: usize> {
     pub(crate) columns: Columns<L>,

@@ -4,7 +4,7 @@ ghost use Rattle.std.specs.Prelude.{◌≡◌, ◌<◌, ◌≤◌, length};
 use pbd_ledger::{balanced, momentum};
 use pbd_num::{RANGE, Vec3};
 use pbd_store::{Steps, Store};
-use pbd_tests_rows::{WIDTHS, WrongRows, all_hold, held, moved, resting, wrong_row};
+use pbd_tests_rows::{WIDTHS, WrongRows, all_hold, at_widths, held, moved, resting, wrong_row};
 use pbd_world::{Particle, Totals};
 use std::alloc::{AllocError, Global};
 use std::marker::Brand;
@@ -37,16 +37,7 @@ fn counted<G: Ledger>(alloc: Global, blank: Blank, particles: &[Particle]) -> [S
     requires parts { blank.parts ≡ G.parts }
     requires some { 0 < blank.parts }
 {
-    let mut steps: Steps<G> = Steps::open(blank);
-    let sums = [
-        sum_in::<1, G>(alloc, particles, &mut steps),
-        sum_in::<2, G>(alloc, particles, &mut steps),
-        sum_in::<4, G>(alloc, particles, &mut steps),
-        sum_in::<8, G>(alloc, particles, &mut steps),
-        sum_in::<16, G>(alloc, particles, &mut steps),
-    ];
-    drop(steps);
-    sums
+    at_widths!(blank, sum_in(alloc, particles))
 }
 
 const PULLED: [Particle; 3] = [

@@ -7,7 +7,7 @@ ghost use Rattle.pbd_shape.specs.Rubbing.{AreWithin};
 use pbd_num::{RANGE, Vec3};
 use pbd_shape::{Shapes, Touched};
 use pbd_store::{Steps, Store};
-use pbd_tests_rows::{axes, moved, place, resting};
+use pbd_tests_rows::{at_widths, axes, moved, place, resting};
 use pbd_world::{Particle, Plane, Sphere, Totals};
 use std::alloc::{AllocError, Global};
 use std::marker::Brand;
@@ -142,16 +142,7 @@ fn pushed_at_each<G: Ledger>(
     requires spheres { IsTrue (are_valid_spheres (pos (2 ^ 29)) case.now.shapes.spheres.now) }
     requires inside { AreInside (pos (2 ^ 29)) case.now.particles.now }
 {
-    let mut steps: Steps<G> = Steps::open(blank);
-    let seen = [
-        pushed_in::<1, G>(alloc, case, &mut steps),
-        pushed_in::<2, G>(alloc, case, &mut steps),
-        pushed_in::<4, G>(alloc, case, &mut steps),
-        pushed_in::<8, G>(alloc, case, &mut steps),
-        pushed_in::<16, G>(alloc, case, &mut steps),
-    ];
-    drop(steps);
-    seen
+    at_widths!(blank, pushed_in(alloc, case))
 }
 
 /// What is seen at each width.
@@ -231,16 +222,7 @@ fn rubbed_at_each<G: Ledger>(
     requires friction { IsTrue (is_between (pos 0) (pos 256) friction) }
     requires within { AreWithin (pos (2 ^ 29)) particles.now }
 {
-    let mut steps: Steps<G> = Steps::open(blank);
-    let seen = [
-        rubbed_in::<1, G>(alloc, particles, friction, &mut steps),
-        rubbed_in::<2, G>(alloc, particles, friction, &mut steps),
-        rubbed_in::<4, G>(alloc, particles, friction, &mut steps),
-        rubbed_in::<8, G>(alloc, particles, friction, &mut steps),
-        rubbed_in::<16, G>(alloc, particles, friction, &mut steps),
-    ];
-    drop(steps);
-    seen
+    at_widths!(blank, rubbed_in(alloc, particles, friction))
 }
 
 /// What is seen at each width.

@@ -234,6 +234,122 @@ fn one_lane<G: Ledger, const L: usize>(
     }
 }
 
+/// A place of which no axis fits 32 bits, and another.
+#[derive(Clone, Copy)]
+struct Far {
+    one: Vec3,
+    other: Vec3,
+}
+
+static FAR: [Far; 2] = [
+    Far {
+        one: place!(2147483648, -2147483649, 2147483648),
+        other: place!(-2147483649, 2147483648, -2147483649),
+    },
+    Far {
+        one: place!(i64::MAX, i64::MIN, i64::MAX),
+        other: place!(i64::MIN, i64::MAX, i64::MIN),
+    },
+];
+
+fn particle_at(place: Vec3) -> Particle {
+    Particle {
+        at: place,
+        before: place,
+        weight: 3,
+        held: false,
+    }
+}
+
+/// A place in each lane.
+fn in_all_lanes<const L: usize>(place: Vec3) -> Lanes3<L> {
+    Lanes3 {
+        x: Lanes::splat(place.x),
+        y: Lanes::splat(place.y),
+        z: Lanes::splat(place.z),
+    }
+}
+
+/// The places of particles that are all at `one`, as they are read: of particle 3, then after it was scattered to the other
+/// place; of particle 0, after it was saved there, put back, and replaced by one there.
+fn far_in<G: Ledger, const L: usize>(
+    store: &mut Store<L>,
+    far: Far,
+    steps: &mut Steps<G>,
+) -> [Vec3; 5]
+    requires low { 0 < L }
+    requires high { L ≤ 16 }
+    requires five { length store.old.particles ≡ 5 }
+{
+    let opened = store.at(3, steps).before;
+    let values = in_all_lanes::<L>(far.other);
+    store.scatter(&last_index::<L>(), &last_lane::<L>(), &values, steps);
+    let scattered = store.at(3, steps).at;
+    let mut block = store.load(0, steps);
+    block.at = values;
+    let mask = block.filled;
+    store.save(0, &block, &mask, steps);
+    let saved = store.at(0, steps).at;
+    store.put(0, far.one, steps);
+    let put = store.at(0, steps).at;
+    store.set(0, particle_at(far.other), steps);
+    [opened, scattered, saved, put, store.at(0, steps).before]
+}
+
+/// The same of five particles.
+fn seen_far<G: Ledger, const L: usize>(
+    alloc: Global,
+    far: Far,
+    steps: &mut Steps<G>,
+) -> Result<[Vec3; 5], AllocError>
+    requires low { 0 < L }
+    requires high { L ≤ 16 }
+{
+    match Store::<L>::open(alloc, &[particle_at(far.one); 5], 1 << 29) {
+        Ok(mut store) => {
+            let seen = far_in(&mut store, far, steps);
+            drop(store);
+            Ok(seen)
+        }
+        Err(error) => Err(error),
+    }
+}
+
+/// The same at each width.
+fn far_widths<G: Ledger>(
+    alloc: Global,
+    place: Far,
+    steps: &mut Steps<G>,
+) -> [Result<[Vec3; 5], AllocError>; 5] {
+    [
+        seen_far::<G, 1>(alloc, place, steps),
+        seen_far::<G, 2>(alloc, place, steps),
+        seen_far::<G, 4>(alloc, place, steps),
+        seen_far::<G, 8>(alloc, place, steps),
+        seen_far::<G, 16>(alloc, place, steps),
+    ]
+}
+
+/// Whether each width keeps these places.
+fn is_kept<G: Ledger>(alloc: Global, far: Far, steps: &mut Steps<G>) -> bool {
+    let Far { one, other } = far;
+    far_widths(alloc, far, steps) == [Ok([one, other, other, one, other]); 5]
+}
+
+fn all_kept<G: Ledger>(alloc: Global, blank: Blank) -> bool
+    requires name { blank.name ≡ G.name }
+    requires parts { blank.parts ≡ G.parts }
+    requires some { 0 < blank.parts }
+{
+    let mut steps: Steps<G> = Steps::open(blank);
+    let mut kept = true;
+    for far in &FAR {
+        kept = kept & is_kept(alloc, *far, &mut steps);
+    }
+    drop(steps);
+    kept
+}
+
 /// What is seen at each width, of particles that move and of one lane.
 type All = (
     [Result<Option<Seen>, AllocError>; 5],
@@ -296,5 +412,13 @@ fn a_store_keeps_its_particles(rt: HostRuntime) {
     assert!(rt;
         scattered == [Ok([1, 13, 10, 11, 12, 50, 14]); 5],
         "a lane that was gathered and scattered at widths 1, 2, 4, 8 and 16: {scattered:?}"
+    );
+}
+
+#[test]
+fn a_store_keeps_places_anywhere(rt: HostRuntime) {
+    assert!(rt;
+        all_kept::<Brand>(rt.alloc(), Blank::new(1)),
+        "places beyond 32 bits, opened, scattered, saved, put and replaced at widths 1, 2, 4, 8 and 16"
     );
 }

@@ -6,7 +6,7 @@ ghost use Rattle.pbd_world.specs.Valid.{are_valid_links};
 use pbd_num::{RANGE, Vec3};
 use pbd_store::{Steps, Store};
 use pbd_tear::{torn, with_tear_length};
-use pbd_tests_rows::{WIDTHS, WrongRows, all_hold, link, resting, wrong_row};
+use pbd_tests_rows::{WIDTHS, WrongRows, all_hold, at_widths, link, resting, wrong_row};
 use pbd_world::{Kind, Link, Particle, RoomList};
 use std::alloc::{AllocError, Global};
 use std::marker::Brand;
@@ -92,16 +92,7 @@ fn counted<G: Ledger>(alloc: Global, blank: Blank, last_live: bool) -> [Numbers;
     requires parts { blank.parts ≡ G.parts }
     requires some { 0 < blank.parts }
 {
-    let mut steps: Steps<G> = Steps::open(blank);
-    let numbers = [
-        numbers_in::<1, G>(alloc, last_live, &mut steps),
-        numbers_in::<2, G>(alloc, last_live, &mut steps),
-        numbers_in::<4, G>(alloc, last_live, &mut steps),
-        numbers_in::<8, G>(alloc, last_live, &mut steps),
-        numbers_in::<16, G>(alloc, last_live, &mut steps),
-    ];
-    drop(steps);
-    numbers
+    at_widths!(blank, numbers_in(alloc, last_live))
 }
 
 #[test]

@@ -4,7 +4,7 @@ ghost use Rattle.pbd_world.specs.Valid.{are_valid_tracks};
 
 use pbd_num::{RANGE, Vec3};
 use pbd_store::{Steps, Store};
-use pbd_tests_rows::{WIDTHS, WrongRows, all_hold, held, place, wrong_row};
+use pbd_tests_rows::{WIDTHS, WrongRows, all_hold, at_widths, held, place, wrong_row};
 use pbd_track::{is_tracked, track_at};
 use pbd_world::{Key, List, Particle, Track};
 use std::alloc::{AllocError, Global};
@@ -83,16 +83,7 @@ fn counted<G: Ledger>(alloc: Global, blank: Blank, tracks: &[Track], t: u32) -> 
     requires some { 0 < blank.parts }
     requires tracks { IsTrue (are_valid_tracks (pos (2 ^ 29)) 3 tracks.now) }
 {
-    let mut steps: Steps<G> = Steps::open(blank);
-    let places = [
-        places_in::<1, G>(alloc, tracks, t, &mut steps),
-        places_in::<2, G>(alloc, tracks, t, &mut steps),
-        places_in::<4, G>(alloc, tracks, t, &mut steps),
-        places_in::<8, G>(alloc, tracks, t, &mut steps),
-        places_in::<16, G>(alloc, tracks, t, &mut steps),
-    ];
-    drop(steps);
-    places
+    at_widths!(blank, places_in(alloc, tracks, t))
 }
 
 /// Both tracks.

@@ -1,15 +1,13 @@
-use Rattle.std.proofs.Common.{arith, ap, ◌∙◌, ℤ, subst, length, w64}
+use Rattle.std.proofs.Common.{◌≡◌, arith, ap, ◌∙◌, length, w64}
 use Rattle.std.proofs.lemmas.Int.{to_z-of_z}
 use Rattle.std.proofs.lemmas.List.{length-map}
-use Rattle.pbd_num.proofs.Sizes.{fits}
 use Rattle.pbd_num.specs.Rows.{vector_of}
 use Rattle.pbd_num.specs.Vectors.{minus, plus}
 use Rattle.pbd_store.specs.declared.rows.Place.{Place}
-use Rattle.pbd_store.specs.Gathering.{index_at}
 use Rattle.pbd_store.specs.InRows.{place_in_row, places_in}
 use Rattle.pbd_store.specs.Listed.{place_at}
 use Rattle.pbd_store.specs.Pairs.{opposites_in, ways_in, row_in}
-use Rattle.pbd_store.specs.Reaching.{Covers}
+use Rattle.pbd_store.specs.Reaching.{CoversEnds}
 use Rattle.pbd_store.proofs.Parting.{pairs_in_rows, pulled_more, first_in, second_in, second_near, opposite_within, stepped_within}
 use Rattle.pbd_store.proofs.pulling.pull_rows.Goals as goal
 
@@ -61,16 +59,9 @@ loop-j-preserved c =
       flat = c.put_row-in-loop-j.ensures.flat;
     }
 
-pub returns-clause-first : goal.returns-clause-first
-returns-clause-first c =
-    let e = to_z-of_z w64 c.args.limit (fits c.args.limit (omega (arith, c.requires.high))) in
-    λ j p. subst (λ (z : ℤ). Covers c.loop-j.reach z
-    (plus (place_at (places_in c.args.rows.now) (index_at c.args.pairs.first.now j)) (opposites_in c.args.moves.back.now j))) e
-    (c.loop-j.invariant.pulled.first_covered j (omega (arith, p)))
-
-pub returns-clause-second : goal.returns-clause-second
-returns-clause-second c =
-    let e = to_z-of_z w64 c.args.limit (fits c.args.limit (omega (arith, c.requires.high))) in
-    λ j p. subst (λ (z : ℤ). Covers c.loop-j.reach z
-    (plus (place_at (places_in c.args.rows.now) (index_at c.args.pairs.second.now j)) (ways_in c.args.moves.forth.now j))) e
-    (c.loop-j.invariant.pulled.second_covered j (omega (arith, p)))
+pub returns-clause-covered : goal.returns-clause-covered
+returns-clause-covered c =
+    let all : c.loop-j.j ≡ length c.args.pairs.first.now = omega arith in
+    coe 0 1 (t. CoversEnds (all t) c.args.pairs.first.now c.args.pairs.second.now (opposites_in c.args.moves.back.now)
+    (ways_in c.args.moves.forth.now) c.loop-j.reach (to_z-of_z w64 c.args.limit c.ranges.limit t) (place_at (places_in c.args.rows.now)))
+    c.loop-j.invariant.pulled.covered

@@ -1,15 +1,15 @@
-use Rattle.std.proofs.Common.{arith, ap, ◌∙◌, ◌+ℤ◌, ℤ, w64, of_z, to_z, FitsSigned}
-use Rattle.std.proofs.lemmas.Int.{to_z-of_z}
-use Rattle.pbd_num.proofs.Sizes.{fits, size-add}
+use Rattle.std.proofs.Common.{arith, ◌+ℤ◌, w32, FitsSigned}
+use Rattle.std.proofs.lemmas.Int.{fits_signed_from_abs, to_z-of_z}
+use Rattle.pbd_num.proofs.Sizes.{size-add}
 use Rattle.pbd_store.proofs.Reaching.{raised_within}
 use Rattle.pbd_store.proofs.reach.raised.Goals as goal
 
 pub returns : goal.returns
 returns c =
-    let sum = c.args.axis +ℤ c.args.limit in
-    let f : FitsSigned w64 sum = fits sum (omega (arith, size-add c.args.axis c.args.limit, c.requires.axis, c.requires.high)) in
-    let axis = to_z-of_z w64 c.args.axis c.ranges.axis in
-    let limit = to_z-of_z w64 c.args.limit c.ranges.limit in
-    let bits = c.cast_unsigned.ensures ∙ (λ t. of_z w64 (to_z w64 (of_z w64 (axis t +ℤ limit t))))
-    ∙ ap (λ (z : ℤ). of_z w64 z) (to_z-of_z w64 sum f) in
+    let axis = c.ranges.axis in
+    let limit = c.ranges.limit in
+    let short : FitsSigned w32 c.args.limit = fits_signed_from_abs w32 c.args.limit (omega (arith, c.requires.high)) in
+    let sum : FitsSigned w32 (c.args.axis +ℤ c.args.limit) = fits_signed_from_abs w32 (c.args.axis +ℤ c.args.limit)
+    (omega (arith, size-add c.args.axis c.args.limit, c.requires.axis, c.requires.high)) in
+    let bits = simp to_z-of_z at c.cast_unsigned.ensures in
     λ h. raised_within c.args.axis c.args.limit c.requires.low c.requires.axis c.requires.high (omega (arith, bits, h))

@@ -24,10 +24,10 @@ returns-then-is_within-clause-outcome g c =
           (both_stay c.self.inside.limit _ _ low
           (inside c.if-is_within.true _ (subst (λ (z : ℤ). Covers c.pull_ends-reach.result z
           (plus (particle_at c.args.self.now.particles (index_at c.args.pairs.first.now j)).at (opposites_in c.args.back.now j)))
-          (sym limit) (c.pull_ends-reach.ensures.first j p)))
+          (sym limit) (c.pull_ends-reach.ensures.covered.firsts j p)))
           (inside c.if-is_within.true _ (subst (λ (z : ℤ). Covers c.pull_ends-reach.result z
           (plus (particle_at c.args.self.now.particles (index_at c.args.pairs.second.now j)).at (ways_in c.args.forth.now j)))
-          (sym limit) (c.pull_ends-reach.ensures.second j p))));
+          (sym limit) (c.pull_ends-reach.ensures.covered.seconds j p))));
     }
 
 pub returns-clause-outcome : goal.returns-clause-outcome
