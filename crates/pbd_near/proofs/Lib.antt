@@ -1,3 +1,4 @@
+pub mod Multiplying
 pub mod Mending
 pub mod Taking
 pub mod Rows

@@ -2,7 +2,7 @@
 //! safe whatever the loop before it wrote, and nothing else is said of what it writes.
 ghost use Rattle.std.specs.Prelude.{◌<◌, ◌≤◌, ◌≤ℤ◌, pos, neg_ℤ, unsigned_abs};
 
-use crate::products::{long_product, low15, upper, upper_ten};
+use crate::products::{low15, product, upper, upper_ten};
 use crate::ways::Ways;
 use pbd_num::CHUNK;
 
@@ -120,7 +120,7 @@ fn guess_of(square: u32, seed: Seed, root: i32, rest: i32) -> Guess {
     Guess {
         up: seed.up,
         length,
-        ratio: (long_product(error, inverse) + 8_192) >> 14,
+        ratio: (product(error, inverse) + 8_192) >> 14,
     }
 }
 

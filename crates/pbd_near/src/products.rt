@@ -11,24 +11,13 @@ pub(crate) fn square_of(x: i32) -> u32
     (x * x) as u32
 }
 
-/// A product of two numbers of 16 bits.
+/// A product of a number of 16 bits and one of 17.
 #[inline(always)]
 pub(crate) fn product(a: i32, b: i32) -> i32
     requires a { unsigned_abs a ≤ 32768 }
-    requires b { unsigned_abs b ≤ 32767 }
-    ensures value { result ≡ a *ℤ b }
-    ensures size { unsigned_abs result ≤ 32768 * 32767 }
-{
-    a * b
-}
-
-/// A product of a number of 16 bits and one of 17.
-#[inline(always)]
-pub(crate) fn long_product(a: i32, b: i32) -> i32
-    requires a { unsigned_abs a ≤ 32768 }
     requires b { unsigned_abs b ≤ 65535 }
     ensures value { result ≡ a *ℤ b }
-    ensures size { unsigned_abs result ≤ 32768 * 65535 }
+    ensures size { unsigned_abs result ≤ 32768 * unsigned_abs b }
 {
     a * b
 }

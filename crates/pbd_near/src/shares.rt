@@ -7,7 +7,7 @@ ghost use Rattle.pbd_num.specs.Rows.{vector_of};
 ghost use Rattle.pbd_near.specs.Columns.{IsMove, IsTaken};
 
 use crate::guesses::Guess;
-use crate::products::{long_product, low15, product, square_of, upper};
+use crate::products::{low15, product, square_of, upper};
 use pbd_num::Row;
 
 /// The axes of a way, each brought within 2^15, and the square of their length.
@@ -80,7 +80,7 @@ fn quotient_of(axis: i32, shift: u32, ratio: i32) -> i32
     requires ratio { unsigned_abs ratio ≤ 65535 }
     ensures { unsigned_abs result ≤ 32768 }
 {
-    upper(long_product(upper(axis << shift), ratio) + 4_096)
+    upper(product(upper(axis << shift), ratio) + 4_096)
 }
 
 /// The greatest rest that a quotient of `n` may leave below 0: halves go away from zero, so that is half of `length`, but

@@ -1,7 +1,8 @@
 -- Rounded quotients of products, by sizes and signs.
-use Rattle.std.proofs.Common.{◌≡◌, ℕ, suc, ◌+◌, ◌*◌, ◌/◌, ◌<◌, ap, ◌∙◌, sym, arith, pos, negsuc, ℤ, neg_ℤ, ◌*ℤ◌, ◌<ℤ◌, ◌≤ℤ◌, unsigned_abs}
+use Rattle.std.proofs.Common.{◌≡◌, ℕ, suc, zero, ◌+◌, ◌*◌, ◌/◌, ◌<◌, ap, ◌∙◌, sym, arith, pos, negsuc, ℤ, neg_ℤ, ◌*ℤ◌, ◌<ℤ◌, ◌≤ℤ◌, unsigned_abs}
 use Rattle.std.proofs.lemmas.Int.{ints}
 use Rattle.std.proofs.Math.Nat.{mul-div-mul_right, mul-le-mul}
+use Rattle.std.proofs.Math.IntN.{*ℤ-zero, *ℤ-negsuc}
 use Rattle.pbd_num.specs.Rounding.{rdiv}
 use Rattle.pbd_num.specs.PairMove.{share_of}
 use Rattle.pbd_num.proofs.RoundingLemmas.{rdiv-neg, quotient_of_zero}
@@ -9,8 +10,28 @@ use Rattle.pbd_num.proofs.RoundingLemmas.{rdiv-neg, quotient_of_zero}
 turned_second : (a b : ℕ) → pos a *ℤ negsuc b ≡ neg_ℤ (pos (a * suc b))
 turned_second a b = omega (arith, ints)
 
-turned_first : (a b : ℕ) → negsuc a *ℤ pos b ≡ neg_ℤ (pos (suc a * b))
+pub turned_first : (a b : ℕ) → negsuc a *ℤ pos b ≡ neg_ℤ (pos (suc a * b))
 turned_first a b = omega (arith, ints)
+
+pub neg_times : (q : ℤ) (n : ℕ) → neg_ℤ q *ℤ pos n ≡ neg_ℤ (q *ℤ pos n)
+neg_times (pos zero) n = omega (arith, ints)
+neg_times (pos (suc b)) n = turned_first b n
+neg_times (negsuc b) n = omega (arith, ints, turned_first b n)
+
+times_neg : (a : ℤ) (n : ℕ) → a *ℤ neg_ℤ (pos n) ≡ neg_ℤ (a *ℤ pos n)
+times_neg a zero = *ℤ-zero a ∙ sym (ap neg_ℤ (*ℤ-zero a))
+times_neg a (suc n) = *ℤ-negsuc a n
+
+-- products of three numbers
+assoc_above : (a : ℤ) (k w : ℕ) → a *ℤ pos (k * w) ≡ (a *ℤ pos k) *ℤ pos w
+assoc_above (pos a) k w = ap pos (omega arith)
+assoc_above (negsuc a) k w = ap (λ n. neg_ℤ (pos n)) (omega arith) ∙ sym (neg_times (pos (suc a * k)) w)
+
+pub times_assoc : (a k : ℤ) (w : ℕ) → a *ℤ (k *ℤ pos w) ≡ (a *ℤ k) *ℤ pos w
+times_assoc a (pos k) w = assoc_above a k w
+times_assoc a (negsuc k) w =
+    times_neg a (suc k * w) ∙ ap neg_ℤ (assoc_above a (suc k) w) ∙ sym (neg_times (a *ℤ pos (suc k)) w)
+    ∙ ap (λ n. n *ℤ pos w) (sym (*ℤ-negsuc a k))
 
 pub first_below : (e d : ℤ) (len : ℕ) → 0 < len → e <ℤ pos 0 → pos 0 ≤ℤ d
     → rdiv (e *ℤ d) (pos len) ≡ neg_ℤ (pos ((2 * (unsigned_abs e * unsigned_abs d) + len) / (2 * len)))

@@ -1,5 +1,5 @@
 -- What the exact tests of guesses say.
-use Rattle.std.proofs.Common.{◌≡◌, false, ℕ, suc, zero, ◌+◌, ◌*◌, ◌/◌, ◌-◌, ◌<◌, ◌≤◌, ◌^◌, ap, sym, arith, pos, negsuc, ℤ, neg_ℤ, ◌+ℤ◌}
+use Rattle.std.proofs.Common.{◌≡◌, false, ℕ, suc, ◌+◌, ◌*◌, ◌/◌, ◌-◌, ◌<◌, ◌≤◌, ◌^◌, ap, sym, arith, pos, negsuc, ℤ, neg_ℤ, ◌+ℤ◌}
 use Rattle.std.proofs.Common.{◌-ℤ◌, ◌*ℤ◌, ◌<ℤ◌, ◌≤ℤ◌, unsigned_abs}
 use Rattle.std.specs.Prelude.{IsTrue, int_le, int_lt}
 use Rattle.std.proofs.lemmas.Bool.Decides.{nat_tests}
@@ -7,6 +7,7 @@ use Rattle.std.proofs.lemmas.Int.{ints}
 use Rattle.std.proofs.lemmas.Nat.{div-mul-add}
 use Rattle.pbd_num.specs.Rounding.{rdiv, root}
 use Rattle.pbd_num.proofs.RoundingLemmas.{root_is, rdiv-neg}
+use Rattle.pbd_num.proofs.Signs.{turned_first, neg_times}
 
 -- what tests say
 pub at_most : (a b : ℤ) → IsTrue (int_le a b) → a ≤ℤ b
@@ -25,14 +26,6 @@ root_by_rest (pos n) (pos r) h k low high = ap pos (root_is n r (omega (arith, i
 root_by_rest (negsuc n) r h k low high = absurd (omega (arith, ints))
 root_by_rest (pos n) (negsuc r) h k low high = absurd (omega (arith, ints))
 
-below_times : (b len : ℕ) → negsuc b *ℤ pos len ≡ neg_ℤ (pos (suc b * len))
-below_times b len = omega (arith, ints)
-
-neg_times : (q : ℤ) (len : ℕ) → neg_ℤ q *ℤ pos len ≡ neg_ℤ (q *ℤ pos len)
-neg_times (pos zero) len = omega (arith, ints)
-neg_times (pos (suc b)) len = below_times b len
-neg_times (negsuc b) len = omega (arith, ints, below_times b len)
-
 whole_quotient : (a b len : ℕ) → 0 < len → b * len ≤ a + len / 2 → a + len / 2 < b * len + len → b ≡ (2 * a + len) / (2 * len)
 whole_quotient a b len some low high =
     let double : b * (2 * len) ≡ 2 * (b * len) = omega arith in
@@ -46,7 +39,7 @@ quotient_from_zero : (n q : ℤ) (len : ℕ) → 0 < len → pos 0 ≤ℤ n → 
 unfolding rdiv
 quotient_from_zero (pos a) (pos b) len some h low high = ap pos (whole_quotient a b len some (omega (arith, ints)) (omega (arith, ints)))
 quotient_from_zero (pos a) (negsuc b) len some h low high =
-    let turned = below_times b len in
+    let turned = turned_first b len in
     let more : 1 * len ≤ suc b * len = omega (arith, some) in
     absurd (omega (arith, ints))
 quotient_from_zero (negsuc a) q len some h low high = absurd (omega (arith, ints))

@@ -23,6 +23,10 @@ minus a b = axis_by_axis (λ p q. p -ℤ q) a b
 abbrev pub opposite : Vec3 → Vec3
 opposite v = on_axes neg_ℤ v
 
+-- n times each axis
+abbrev pub times : ℤ → Vec3 → Vec3
+times n v = on_axes (λ axis. axis *ℤ n) v
+
 -- the part n / d of each axis, rounded
 abbrev pub scaled : ℤ → ℤ → Vec3 → Vec3
 scaled n d v = on_axes (λ axis. rdiv (axis *ℤ n) d) v

@@ -4,7 +4,7 @@
 ghost use Rattle.std.specs.Prelude.{◌≡◌, ◌↔◌, ◌≤◌, ◌<◌, ◌^◌, ◌+◌, ◌*◌, pos, ◌-ℤ◌, ◌*ℤ◌, ◌<ℤ◌, ◌≤ℤ◌, IsTrue, unsigned_abs};
 ghost use Rattle.pbd_num.specs.Rounding.{rdiv as rounded, root as whole_root};
 ghost use Rattle.pbd_num.specs.Vectors.{Within, minus, squared_length, length_of, opposite, zero_vector, is_axis_within, is_within};
-ghost use Rattle.pbd_num.specs.PairMove.{share_of, along, corrections, shares, pair_moves};
+ghost use Rattle.pbd_num.specs.PairMove.{corrections, shares, pair_moves};
 
 mod laws;
 mod near;
@@ -157,19 +157,7 @@ pub fn inside(v: Vec3) -> bool
     within(v, RANGE)
 }
 
-/// The part of an error `e` along an axis `d` of a vector of length `len`.
-fn part(e: i64, d: i64, len: i64) -> i64
-    requires error { unsigned_abs e ≤ 2 ^ 31 }
-    requires axis { unsigned_abs d ≤ 2 ^ 30 }
-    requires axis_in_length { unsigned_abs d ≤ unsigned_abs len }
-    requires length { pos 0 <ℤ len }
-    requires length_size { unsigned_abs len < 2 ^ 31 }
-    ensures value { result ≡ along e d (unsigned_abs len) }
-    ensures size { unsigned_abs result ≤ 2 ^ 31 }
-{
-    rdiv(e * d, len)
-}
-
+/// How far a vector `d` of length `len` is from the length `rest`, on each axis.
 fn correction(d: Vec3, len: i64, rest: i64) -> Vec3
     requires size { Within (2 ^ 30) d }
     requires length { len ≡ pos (length_of d) }
@@ -180,41 +168,21 @@ fn correction(d: Vec3, len: i64, rest: i64) -> Vec3
     ensures value { result ≡ corrections d rest }
     ensures size { Within (2 ^ 31) result }
 {
-    let e = len - rest;
-    Vec3 {
-        x: part(e, d.x, len),
-        y: part(e, d.y, len),
-        z: part(e, d.z, len),
-    }
+    d.scaled(len - rest, len)
 }
 
-/// The share of a correction `s` that stiffness k / 256 and weight `w` out of `total` give.
-fn share_axis(s: i64, k: i64, w: i64, total: i64) -> i64
-    requires size { unsigned_abs s ≤ 2 ^ 31 }
-    requires stiffness { unsigned_abs k ≤ 256 }
-    requires weight { unsigned_abs w ≤ unsigned_abs total }
-    requires total_low { pos 0 <ℤ total }
-    requires total_high { unsigned_abs total ≤ 131070 }
-    ensures value { result ≡ share_of s k w (unsigned_abs total) }
-    ensures size { unsigned_abs result ≤ 2 ^ 31 }
-{
-    rdiv(s * k * w, 256 * total)
-}
-
+/// The share of a correction `s` that stiffness k / 256 and weight `w` out of `total` give, on each axis.
 fn share(s: Vec3, k: i64, w: i64, total: i64) -> Vec3
     requires size { Within (2 ^ 31) s }
     requires stiffness { unsigned_abs k ≤ 256 }
+    requires weight_low { pos 0 ≤ℤ w }
     requires weight { unsigned_abs w ≤ unsigned_abs total }
     requires total_low { pos 0 <ℤ total }
     requires total_high { unsigned_abs total ≤ 131070 }
     ensures value { result ≡ shares s k w (unsigned_abs total) }
     ensures size { Within (2 ^ 31) result }
 {
-    Vec3 {
-        x: share_axis(s.x, k, w, total),
-        y: share_axis(s.y, k, w, total),
-        z: share_axis(s.z, k, w, total),
-    }
+    s.part_of(k * w, 256 * total)
 }
 
 /// The moves of two ends whose way is `way`, `len` long, by divisions.

@@ -1,7 +1,7 @@
 //! Sums, differences, parts and lengths of vectors.
 ghost use Rattle.std.specs.Prelude.{◌≡◌, ℕ, ◌≤◌, ◌<◌, ◌^◌, ◌+◌, ◌*◌, pos, ◌*ℤ◌, ◌<ℤ◌, unsigned_abs};
 ghost use Rattle.pbd_num.specs.Rounding.{rdiv as rounded};
-ghost use Rattle.pbd_num.specs.Vectors.{Within, plus, minus, opposite, scaled, squared_length, length_of};
+ghost use Rattle.pbd_num.specs.Vectors.{Within, plus, minus, opposite, times, scaled, squared_length, length_of};
 
 use crate::{Vec3, rdiv, root};
 
@@ -16,8 +16,7 @@ pub fn square(n: i64) -> i64
 
 /// The part `part / whole` of one axis.
 fn scaled_axis(axis: i64, part: i64, whole: i64) -> i64
-    requires axis { unsigned_abs axis ≤ 2 ^ 30 }
-    requires part { unsigned_abs part ≤ 2 ^ 31 }
+    requires product { unsigned_abs (axis *ℤ part) ≤ 2 ^ 61 }
     requires whole_low { pos 0 <ℤ whole }
     requires whole_high { unsigned_abs whole ≤ 2 ^ 40 }
     ensures value { result ≡ rounded (axis *ℤ part) whole }
@@ -74,6 +73,20 @@ impl Vec3 {
     pub fn scaled(self, part: i64, whole: i64) -> Vec3
         requires vector { Within (2 ^ 30) self }
         requires part { unsigned_abs part ≤ 2 ^ 31 }
+        requires whole_low { pos 0 <ℤ whole }
+        requires whole_high { unsigned_abs whole ≤ 2 ^ 40 }
+        ensures value { result ≡ scaled part whole self }
+        ensures fits { Within (2 ^ 61) result }
+        ensures size { (n : ℕ) → unsigned_abs part ≤ unsigned_abs whole → Within n self → Within n result }
+    {
+        self.part_of(part, whole)
+    }
+
+    /// The same, of any vector of which no axis times `part` is too great to be divided.
+    #[inline(always)]
+    pub(crate) fn part_of(self, part: i64, whole: i64) -> Vec3
+        requires vector { Within (2 ^ 61) self }
+        requires products { Within (2 ^ 61) (times part self) }
         requires whole_low { pos 0 <ℤ whole }
         requires whole_high { unsigned_abs whole ≤ 2 ^ 40 }
         ensures value { result ≡ scaled part whole self }

@@ -106,23 +106,29 @@ leaves_moving limit p q b hp hq = leaves_case limit p q (is_slack p q b)
     (pair_moves (minus p.at q.at) zero_vector b.rest b.k p.weight q.weight)
     (shift_of p q b) hp hq (shift_moves p q b)
 
-pub first_moving : (limit : ℤ) (p q : End) (b : Bond) (x : Particle) → p.at ≡ x.at → leaves_by (correction_of limit p q b) ≡ false
-    → first_by (correction_of limit p q b) x ≡ record x { at = plus x.at (moves_of p q b).0 }
+-- one end, whose place is `at`, where it moves
+end_moving : (by : Correction → Particle → Particle) (part : Vec3 × Vec3 → Vec3) (place : Shift → Vec3) (at : Vec3) (limit : ℤ) (p q : End)
+    (b : Bond) (x : Particle) → by Slack x ≡ x → part (zero_vector, zero_vector) ≡ zero_vector
+    → ((s : Shift) → by (Moves s) x ≡ record x { at = place s })
+    → ((m : Vec3 × Vec3) → place (shift_by p q m.0 m.1) ≡ plus at (part m)) → at ≡ x.at → leaves_by (correction_of limit p q b) ≡ false
+    → by (correction_of limit p q b) x ≡ record x { at = plus x.at (part (moves_of p q b)) }
 unfolding correction_of is_slack moves_by
-first_moving limit p q b x e h =
+end_moving by part place at limit p q b x still none moves placed e h =
     let s = shift_of p q b in
     let m = pair_moves (minus p.at q.at) zero_vector b.rest b.k p.weight q.weight in
-    end_case first_by (λ (m : Vec3 × Vec3). m.0) (is_slack p q b) (is_within limit s.first && is_within limit s.second) m s x refl refl
-    (ap (λ (v : Vec3). record x { at = v }) (ap (λ (t : Shift). t.first) (shift_moves p q b) ∙ ap (λ (v : Vec3). plus v m.0) e)) h
+    end_case by part (is_slack p q b) (is_within limit s.first && is_within limit s.second) m s x still none
+    (moves s ∙ ap (λ (v : Vec3). record x { at = v })
+    (ap place (shift_moves p q b) ∙ placed m ∙ ap (λ (v : Vec3). plus v (part m)) e)) h
+
+pub first_moving : (limit : ℤ) (p q : End) (b : Bond) (x : Particle) → p.at ≡ x.at → leaves_by (correction_of limit p q b) ≡ false
+    → first_by (correction_of limit p q b) x ≡ record x { at = plus x.at (moves_of p q b).0 }
+first_moving limit p q b x e h = end_moving first_by (λ (m : Vec3 × Vec3). m.0) (λ (t : Shift). t.first) p.at limit p q b x refl refl
+    (λ s. refl) (λ m. refl) e h
 
 pub second_moving : (limit : ℤ) (p q : End) (b : Bond) (x : Particle) → q.at ≡ x.at → leaves_by (correction_of limit p q b) ≡ false
     → second_by (correction_of limit p q b) x ≡ record x { at = plus x.at (moves_of p q b).1 }
-unfolding correction_of is_slack moves_by
-second_moving limit p q b x e h =
-    let s = shift_of p q b in
-    let m = pair_moves (minus p.at q.at) zero_vector b.rest b.k p.weight q.weight in
-    end_case second_by (λ (m : Vec3 × Vec3). m.1) (is_slack p q b) (is_within limit s.first && is_within limit s.second) m s x refl refl
-    (ap (λ (v : Vec3). record x { at = v }) (ap (λ (t : Shift). t.second) (shift_moves p q b) ∙ ap (λ (v : Vec3). plus v m.1) e)) h
+second_moving limit p q b x e h = end_moving second_by (λ (m : Vec3 × Vec3). m.1) (λ (t : Shift). t.second) q.at limit p q b x refl refl
+    (λ s. refl) (λ m. refl) e h
 
 pub books_moving : (limit : ℤ) (p q : End) (b : Bond) (f g : Bool) (t : Shift) (u : Ledger) → t.first_move ≡ (moves_of p q b).0
     → t.second_move ≡ (moves_of p q b).1 → leaves_by (correction_of limit p q b) ≡ false

@@ -1,11 +1,13 @@
 -- What is known of a chunk's bonds and of what lies between their ends.
 use Rattle.std.proofs.Common.{◌≡◌, ℕ, ◌<◌, ◌≤◌, ◌^◌, ℤ, pos, neg_ℤ, w32, FitsSigned, ◌≤ℤ◌, List, length, get_or, take, Bool, true, false}
 use Rattle.std.proofs.Common.{cond, int_le, refl, ap, sym, ◌∙◌, arith, subst, inl, inr}
-use Rattle.std.proofs.lemmas.Int.{ints, fits_signed_from_abs}
+use Rattle.std.proofs.Common.{to_z, of_z}
+use Rattle.std.proofs.lemmas.Int.{ints, fits_signed_from_abs, to_z-of_z}
 use Rattle.std.proofs.lemmas.Bool.{cases_eq, cases_lt}
 use Rattle.std.proofs.lemmas.List.{get_or-take, length-take}
 use Rattle.pbd_num.specs.declared.Vec3.{Vec3}
 use Rattle.pbd_num.specs.declared.row.Row.{Row}
+use Rattle.pbd_num.specs.declared.tried.Weights.{Weights}
 use Rattle.pbd_num.specs.Rows.{vector_of}
 use Rattle.pbd_num.specs.Vectors.{Within, minus}
 use Rattle.pbd_num.proofs.Ranges.{wider}
@@ -21,11 +23,12 @@ use Rattle.pbd_store.specs.declared.pairs.Pairs.{Pairs}
 use Rattle.pbd_store.specs.declared.pairs.Between.{Between}
 use Rattle.pbd_pair.specs.declared.bonds.Bonds.{Bonds}
 use Rattle.pbd_pair.specs.declared.chunk.Columns.{Columns}
+use Rattle.pbd_pair.specs.declared.chunk.Found.{Found}
 use Rattle.pbd_pair.specs.Bonds.{bond_of}
 use Rattle.pbd_pair.specs.Projecting.{CanProject}
 use Rattle.pbd_pair.specs.Moves.{moves_by, moves_at}
 use Rattle.pbd_pair.specs.Chunks.{rows_of, AreShared, AreEnds, AreKnown, AreSized, AreWeighed, HoldsFactor, HoldsRest, HoldsStiffness, IsGuess}
-use Rattle.pbd_pair.specs.Chunks.{LieBetween, Lying}
+use Rattle.pbd_pair.specs.Chunks.{AreWeights, IsFound, LieBetween, Lying}
 use Rattle.pbd_pair.specs.declared.laid.Laid.{Laid}
 use Rattle.pbd_pair.specs.declared.laid.LaidBond.{LaidBond}
 use Rattle.pbd_pair.specs.Laid.{factor_of, laid_at, laid_bond, lists_of, number_in, portion_of, stiffness_of, weight_in, AreLaid, AreOfBatch, Lists}
@@ -48,6 +51,24 @@ first_fits {n} {l} h j p = short_fits (number_in l.first_weight j) (h.first_low 
 
 pub second_fits : {n : ℕ} {l : Lying} → AreSized n l → (j : ℕ) → j < n → FitsSigned w32 (number_in l.second_weight j)
 second_fits {n} {l} h j p = short_fits (number_in l.second_weight j) (h.second_low j p) (h.second_high j p)
+
+-- the weights of pair j, by what words tell of them
+pub weights_told : {n : ℕ} {l : Lying} {first second : ℤ} → AreSized n l → (j : ℕ) → j < n
+    → first ≡ to_z w32 (of_z w32 (number_in l.first_weight j)) → second ≡ to_z w32 (of_z w32 (number_in l.second_weight j))
+    → (first ≡ number_in l.first_weight j) × (second ≡ number_in l.second_weight j)
+weights_told sized j p first second =
+    (first ∙ to_z-of_z w32 _ (first_fits sized j p), second ∙ to_z-of_z w32 _ (second_fits sized j p))
+
+pub weights_sized : {n : ℕ} {l : Lying} {w : Weights} → AreSized n l → (j : ℕ) → j < n
+    → w.first ≡ to_z w32 (of_z w32 (number_in l.first_weight j)) → w.second ≡ to_z w32 (of_z w32 (number_in l.second_weight j)) → AreWeights w
+weights_sized sized j p first second =
+    let told = weights_told sized j p first second in
+    record {
+      first_low = subst (λ (z : ℤ). pos 0 ≤ℤ z) (sym told.0) (sized.first_low j p);
+      first_high = subst (λ (z : ℤ). z ≤ℤ pos 65535) (sym told.0) (sized.first_high j p);
+      second_low = subst (λ (z : ℤ). pos 0 ≤ℤ z) (sym told.1) (sized.second_low j p);
+      second_high = subst (λ (z : ℤ). z ≤ℤ pos 65535) (sym told.1) (sized.second_high j p);
+    }
 
 module _ {bonds : Bonds} {numbers : List ℕ} {s : Stored} {t : Totals} (can : CanProject 128 bonds numbers s t) where
   abbrev B : ℕ → Bond
@@ -296,3 +317,29 @@ module _ {bonds : Bonds} {numbers : List ℕ} {s : Stored} {t : Totals} (can : C
             (can.batch.apart.each k j (omega (arith, d)) p).ba (sym e)
       ]
     ]
+
+-- bonds in columns that are those of a batch, and the ways between their ends
+pub is_found : {found : Found} {s : Stored} {t : Totals} (can : CanProject 128 found.chunk.bonds found.chunk.numbers.now s t)
+    (rows : AreOfBatch (bond_of found.chunk.bonds) found.chunk.numbers.now s.particles found.laid)
+    → found.pairs.first.now ≡ found.laid.first.now → found.pairs.second.now ≡ found.laid.second.now
+    → ((j : ℕ) → j < length found.chunk.numbers.now → IsWay (row_in found.ways.now j)
+    (particle_at s.particles (index_at found.pairs.first.now j)).at (particle_at s.particles (index_at found.pairs.second.now j)).at)
+    → IsFound s.particles found
+is_found {found} can rows firsts seconds told = record {
+  first = laid_first can rows found.pairs firsts seconds;
+  second = laid_second can rows found.pairs firsts seconds;
+  pairs = laid_pairs can rows found.pairs firsts seconds;
+  between = lie_between can rows found.pairs firsts seconds told;
+  rest_long = omega (arith, rows.exact, rows.laid.even.rest);
+  factor_long = rows.laid.even.factor ∙ rows.exact;
+  first_long = rows.laid.even.first_weight ∙ rows.exact;
+  second_long = rows.laid.even.second_weight ∙ rows.exact;
+  rest = laid_rest can rows;
+  factor = laid_factor can rows;
+  stiff = record {
+    stiffness_long = rows.laid.even.stiffness ∙ rows.exact;
+    portion_long = rows.laid.even.portion ∙ rows.exact;
+    stiffness = laid_stiffness can rows;
+    portion = laid_portion can rows;
+  };
+}

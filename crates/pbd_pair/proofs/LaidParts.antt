@@ -1,6 +1,6 @@
 -- Columns of a list in parts, by weights that stand in a list of their own.
 use Rattle.std.proofs.Common.{◌≡◌, ℕ, zero, suc, pos, List, [], ◌∷◌, ◌++◌, length, get_or, map, refl, ap, sym, ◌∙◌}
-use Rattle.std.proofs.Common.{arith, subst}
+use Rattle.std.proofs.Common.{arith}
 use Rattle.std.proofs.Math.Seq.{take-append_seam, drop-append_seam, take-length}
 use Rattle.std.proofs.lemmas.List.{length-append, length-take, length-drop}
 use Rattle.pbd_world.specs.declared.parts.Particle.{Particle}
@@ -10,7 +10,7 @@ use Rattle.pbd_store.specs.Gathering.{index_at}
 use Rattle.pbd_store.specs.Moving.{fixed_parts}
 use Rattle.pbd_pair.specs.declared.laid.Laid.{Laid}
 use Rattle.pbd_pair.specs.Laid.{back_of, front_of, laid_bond, lists_of, weight_in, AreLaid, AreOfBatch, Lists}
-use Rattle.pbd_pair.proofs.Laying.{laid_back, laid_front}
+use Rattle.pbd_pair.proofs.Laying.{batch_of, laid_back, laid_front}
 
 -- ---- the effective weights of particles
 
@@ -44,28 +44,17 @@ laid_by_weights {bond} {weights} {numbers} {ls} ps e laid = record {
 pub first_laid : {bond : ℕ → Bond} {numbers : List ℕ} {ls : Lists} {ps : List Particle} (l : Laid)
     → lists_of l ≡ front_of (length numbers) ls
     → AreLaid bond (weight_in ps) numbers ls → AreOfBatch bond numbers ps l
-first_laid {bond} {numbers} {ls} {ps} l e laid = record {
-  exact = ap (λ (xs : Lists). length xs.first) e ∙ length-take (length numbers) ls.first ∙ omega (arith, laid.long);
-  laid = subst (λ (xs : Lists). AreLaid bond (weight_in ps) numbers xs) (sym e)
-      (subst (λ (ns : List ℕ). AreLaid bond (weight_in ps) ns (front_of (length numbers) ls)) (take-length numbers)
-      (laid_front (length numbers) laid));
-}
+first_laid {bond} {numbers} {ls} {ps} l e laid = batch_of l e (length-take (length numbers) ls.first ∙ omega (arith, laid.long))
+    (laid_front (length numbers) laid) (take-length numbers)
 
 module _ (bond : ℕ → Bond) (ps : List Particle) (xs ys : List ℕ) (l : Laid) (rows : AreOfBatch bond (xs ++ ys) ps l) where
   -- the rows of the first part
   pub front_part : (front : Laid) → lists_of front ≡ front_of (length xs) (lists_of l) → AreOfBatch bond xs ps front
-  front_part front e = record {
-    exact = ap (λ (ls : Lists). length ls.first) e ∙ length-take (length xs) l.first.now ∙ omega (arith, rows.exact, length-append xs ys);
-    laid = subst (λ (ls : Lists). AreLaid bond (weight_in ps) xs ls) (sym e)
-        (subst (λ (ns : List ℕ). AreLaid bond (weight_in ps) ns (front_of (length xs) (lists_of l))) (take-append_seam xs ys)
-        (laid_front (length xs) rows.laid));
-  }
+  front_part front e =
+      batch_of front e (length-take (length xs) l.first.now ∙ omega (arith, rows.exact, length-append xs ys))
+      (laid_front (length xs) rows.laid) (take-append_seam xs ys)
 
   -- and of the second
   pub back_part : (back : Laid) → lists_of back ≡ back_of (length xs) (lists_of l) → AreOfBatch bond ys ps back
-  back_part back e = record {
-    exact = ap (λ (ls : Lists). length ls.first) e ∙ length-drop (length xs) l.first.now ∙ omega (arith, rows.exact, length-append xs ys);
-    laid = subst (λ (ls : Lists). AreLaid bond (weight_in ps) ys ls) (sym e)
-        (subst (λ (ns : List ℕ). AreLaid bond (weight_in ps) ns (back_of (length xs) (lists_of l))) (drop-append_seam xs ys)
-        (laid_back (length xs) rows.laid));
-  }
+  back_part back e = batch_of back e (length-drop (length xs) l.first.now ∙ omega (arith, rows.exact, length-append xs ys))
+      (laid_back (length xs) rows.laid) (drop-append_seam xs ys)

@@ -1,7 +1,7 @@
 -- Bonds in columns: what their rows hold, and what is left of them behind the first.
 use Rattle.std.proofs.Common.{◌≡◌, ℕ, ◌+◌, ◌<◌, ◌≤◌, ◌^◌, min, ℤ, pos, neg_ℤ, ◌≤ℤ◌, ◌<ℤ◌, ◌*ℤ◌, unsigned_abs, int_lt, int_le, ◌&&◌, ◌||◌, Bool}
 use Rattle.std.proofs.Common.{true, false, cond, List, length, get_or, take, drop, refl, ap, sym, ◌∙◌, arith, subst, w32}
-use Rattle.std.proofs.Common.{FitsSigned, Option, Some, None}
+use Rattle.std.proofs.Common.{FitsSigned, Option, Some, None, ◌-◌}
 use Rattle.std.proofs.lemmas.Int.{ints, fits_signed_from_abs}
 use Rattle.pbd_num.proofs.Sizes.{size_at_most, size_le}
 use Rattle.std.proofs.lemmas.List.{get_or-take, get_or-drop, length-take, length-drop, length-set, get_or-set_same, get_or-set_other}
@@ -11,9 +11,9 @@ use Rattle.pbd_world.specs.Particles.{particle_at, effective_weight}
 use Rattle.pbd_store.specs.Moving.{fixed_parts}
 use Rattle.pbd_pair.specs.declared.laid.Laid.{Laid}
 use Rattle.pbd_pair.specs.declared.laid.LaidBond.{LaidBond}
-use Rattle.pbd_pair.specs.Laid.{are_free, back_of, differ, factor_of, front_of, laid_at, laid_bond, portion_of, short_rest}
-use Rattle.pbd_pair.specs.Laid.{stiffness_of, weight_in}
-use Rattle.pbd_pair.specs.Laid.{with_row, AreEven, AreLaid, AreSplit, CanSplit, IsFirm, Lists, SuitIf}
+use Rattle.pbd_pair.specs.Laid.{each_column, are_free, back_of, differ, factor_of, front_of, laid_at, laid_bond, portion_of, short_rest}
+use Rattle.pbd_pair.specs.Laid.{lists_of, stiffness_of, weight_in}
+use Rattle.pbd_pair.specs.Laid.{with_row, AreEven, AreLaid, AreOfBatch, AreSplit, CanSplit, IsFirm, Lists, SuitIf}
 use Rattle.pbd_pair.specs.Chunks.{HoldsFactor, HoldsRest, HoldsStiffness, IsGuess}
 use Rattle.pbd_pair.proofs.Batches.{get_or-map_fixed}
 
@@ -181,28 +181,25 @@ factor_fits b first second f h = fits_signed_from_abs w32 f (omega (arith, size_
 
 -- ---- rows
 
+-- what is done with each column, and makes equal lengths of equal ones, leaves them even
+even_each : (f : List ℕ → List ℕ) (g : List ℤ → List ℤ) (long : ℕ → ℕ) (ls : Lists) → AreEven ls
+    → ((xs : List ℕ) → length (f xs) ≡ long (length xs)) → ((xs : List ℤ) → length (g xs) ≡ long (length xs)) → AreEven (each_column f g ls)
+even_each f g long ls even f_long g_long = record {
+  second = f_long ls.second ∙ ap long even.second ∙ sym (f_long ls.first);
+  rest = g_long ls.rest ∙ ap long even.rest ∙ sym (f_long ls.first);
+  factor = g_long ls.factor ∙ ap long even.factor ∙ sym (f_long ls.first);
+  stiffness = g_long ls.stiffness ∙ ap long even.stiffness ∙ sym (f_long ls.first);
+  portion = g_long ls.portion ∙ ap long even.portion ∙ sym (f_long ls.first);
+  first_weight = g_long ls.first_weight ∙ ap long even.first_weight ∙ sym (f_long ls.first);
+  second_weight = g_long ls.second_weight ∙ ap long even.second_weight ∙ sym (f_long ls.first);
+}
+
 module _ (ls : Lists) (even : AreEven ls) where
   pub even_front : (n : ℕ) → AreEven (front_of n ls)
-  even_front n = record {
-    second = length-take n ls.second ∙ omega (arith, even.second, length-take n ls.first);
-    rest = length-take n ls.rest ∙ omega (arith, even.rest, length-take n ls.first);
-    factor = length-take n ls.factor ∙ omega (arith, even.factor, length-take n ls.first);
-    stiffness = length-take n ls.stiffness ∙ omega (arith, even.stiffness, length-take n ls.first);
-    portion = length-take n ls.portion ∙ omega (arith, even.portion, length-take n ls.first);
-    first_weight = length-take n ls.first_weight ∙ omega (arith, even.first_weight, length-take n ls.first);
-    second_weight = length-take n ls.second_weight ∙ omega (arith, even.second_weight, length-take n ls.first);
-  }
+  even_front n = even_each (take n) (take n) (min n) ls even (length-take n) (length-take n)
 
   pub even_back : (n : ℕ) → AreEven (back_of n ls)
-  even_back n = record {
-    second = length-drop n ls.second ∙ omega (arith, even.second, length-drop n ls.first);
-    rest = length-drop n ls.rest ∙ omega (arith, even.rest, length-drop n ls.first);
-    factor = length-drop n ls.factor ∙ omega (arith, even.factor, length-drop n ls.first);
-    stiffness = length-drop n ls.stiffness ∙ omega (arith, even.stiffness, length-drop n ls.first);
-    portion = length-drop n ls.portion ∙ omega (arith, even.portion, length-drop n ls.first);
-    first_weight = length-drop n ls.first_weight ∙ omega (arith, even.first_weight, length-drop n ls.first);
-    second_weight = length-drop n ls.second_weight ∙ omega (arith, even.second_weight, length-drop n ls.first);
-  }
+  even_back n = even_each (drop n) (drop n) (λ k. k - n) ls even (length-drop n) (length-drop n)
 
   pub even_put : (i : ℕ) (l : LaidBond) → AreEven (with_row i l ls)
   even_put i l = record {
@@ -297,26 +294,36 @@ module _ {bond : ℕ → Bond} {weight : ℕ → ℕ} {numbers : List ℕ} {ls :
         back_row n j ls ∙ laid.each (n + j) r ∙ ap (laid_number bond weight) (sym (get_or-drop n numbers j 0));
   }
 
+-- rows that are those of some numbers
+pub batch_of : {bond : ℕ → Bond} {ps : List Particle} {numbers batch : List ℕ} {ls : Lists} (l : Laid) → lists_of l ≡ ls
+    → length ls.first ≡ length batch → AreLaid bond (weight_in ps) numbers ls → numbers ≡ batch → AreOfBatch bond batch ps l
+batch_of {bond} {ps} {numbers} {batch} {ls} l e long laid same = record {
+  exact = ap (λ (xs : Lists). length xs.first) e ∙ long;
+  laid = subst (λ (xs : Lists). AreLaid bond (weight_in ps) batch xs) (sym e)
+      (subst (λ (ns : List ℕ). AreLaid bond (weight_in ps) ns ls) same laid);
+}
+
 module _ (bond : ℕ → Bond) (numbers : List ℕ) (ps : List Particle) (n : ℕ) where
+  suit_parts : (laid front back : Option Laid) → AreSplit n laid front back → SuitIf laid bond numbers ps
+      → SuitIf front bond (take n numbers) ps × SuitIf back bond (drop n numbers) ps
+  suit_parts None front back split suit = (
+    subst (λ (l : Option Laid). SuitIf l bond (take n numbers) ps) (sym split.0) suit,
+    subst (λ (l : Option Laid). SuitIf l bond (drop n numbers) ps) (sym split.1) suit,
+  )
+  suit_parts (Some laid) None back split suit = absurd split
+  suit_parts (Some laid) (Some front) None split suit = absurd split
+  suit_parts (Some laid) (Some front) (Some back) split suit = (
+    batch_of front split.0 (omega (arith, length-take n laid.first.now, length-take n numbers, suit.exact)) (laid_front n suit.laid) refl,
+    batch_of back split.1 (omega (arith, length-drop n laid.first.now, length-drop n numbers, suit.exact)) (laid_back n suit.laid) refl,
+  )
+
   pub suit_front : (laid front back : Option Laid) → AreSplit n laid front back → SuitIf laid bond numbers ps
       → SuitIf front bond (take n numbers) ps
-  suit_front None front back split suit = subst (λ (l : Option Laid). SuitIf l bond (take n numbers) ps) (sym split.0) suit
-  suit_front (Some laid) None back split suit = absurd split
-  suit_front (Some laid) (Some front) None split suit = absurd split
-  suit_front (Some laid) (Some front) (Some back) split suit = record {
-    exact = ap (λ (ls : Lists). length ls.first) split.0 ∙ omega (arith, length-take n laid.first.now, length-take n numbers, suit.exact);
-    laid = subst (λ (ls : Lists). AreLaid bond (weight_in ps) (take n numbers) ls) (sym split.0) (laid_front n suit.laid);
-  }
+  suit_front laid front back split suit = (suit_parts laid front back split suit).0
 
   pub suit_back : (laid front back : Option Laid) → AreSplit n laid front back → SuitIf laid bond numbers ps
       → SuitIf back bond (drop n numbers) ps
-  suit_back None front back split suit = subst (λ (l : Option Laid). SuitIf l bond (drop n numbers) ps) (sym split.1) suit
-  suit_back (Some laid) None back split suit = absurd split
-  suit_back (Some laid) (Some front) None split suit = absurd split
-  suit_back (Some laid) (Some front) (Some back) split suit = record {
-    exact = ap (λ (ls : Lists). length ls.first) split.1 ∙ omega (arith, length-drop n laid.first.now, length-drop n numbers, suit.exact);
-    laid = subst (λ (ls : Lists). AreLaid bond (weight_in ps) (drop n numbers) ls) (sym split.1) (laid_back n suit.laid);
-  }
+  suit_back laid front back split suit = (suit_parts laid front back split suit).1
 
   pub can_split : (laid : Option Laid) → n ≤ length numbers → SuitIf laid bond numbers ps → CanSplit n laid
   can_split None fits suit = tt

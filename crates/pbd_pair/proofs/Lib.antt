@@ -1,4 +1,5 @@
 pub mod Ranges
+pub mod Asked
 pub mod Steps
 pub mod Correcting
 pub mod Counted

@@ -1,8 +1,10 @@
 -- A chunk whose ends have moved, as its bonds one by one.
 use Rattle.std.proofs.Common.{◌≡◌, ℕ, ◌<◌, ◌≤◌, ◌^◌, ℤ, pos, ◌≤ℤ◌, ◌<ℤ◌, List, length, get_or, Bool, true, false, ◌&&◌, int_le}
 use Rattle.std.proofs.Common.{◌||◌, not, int_lt, cond, refl, ap, sym, ◌∙◌, arith, subst, Err}
-use Rattle.std.proofs.lemmas.Int.{ints}
+use Rattle.std.proofs.Common.{IsTrue, to_z, of_z, w32, FitsSigned}
+use Rattle.std.proofs.lemmas.Int.{ints, to_z-of_z}
 use Rattle.std.specs.Int.Signed.{<ℤ-≤ℤ_trans}
+use Rattle.pbd_num.proofs.Tests.{less}
 use Rattle.pbd_num.specs.declared.Vec3.{Vec3}
 use Rattle.pbd_num.specs.declared.row.Row.{Row}
 use Rattle.pbd_num.specs.Rows.{vector_of, no_row}
@@ -27,7 +29,7 @@ use Rattle.pbd_pair.specs.Projecting.{CanProject, ShareNone, projected_block}
 use Rattle.pbd_pair.specs.Moves.{moves_at, moves_by, stay_at, entries_at, settled, moved_below}
 use Rattle.pbd_pair.specs.Laid.{number_in}
 use Rattle.pbd_pair.specs.Chunks.{kept_by, entries_in, has_held, lying_in, moved_if, unplaced, AreExact, AreInColumns, AreMoved, AreNear}
-use Rattle.pbd_pair.specs.Chunks.{AreSized, AreWeighed, IsFound, IsMasked, Lying}
+use Rattle.pbd_pair.specs.Chunks.{AreSized, AreTried, AreWeighed, IsFound, IsMasked, Lying}
 use Rattle.pbd_pair.proofs.ByWay.{same_entries, added_nothing}
 use Rattle.pbd_pair.proofs.Reaching.{nth}
 use Rattle.pbd_pair.proofs.Parting.{AreDone, chunk_done, chunk_leaves}
@@ -65,6 +67,12 @@ kept_short w row is h = subst (λ (r : Row). Within (2 ^ 22) (vector_of r)) (sym
 
 kept_unflagged : (w : ℤ) (row : Row) {kept : Row} → kept ≡ kept_by w row → row.flag ≡ pos 0 → kept.flag ≡ pos 0
 kept_unflagged w row is h = ap (λ (r : Row). r.flag) is ∙ kept_flag (int_lt (pos 0) w) row h
+
+-- opposite moves add nothing
+pub nothing_booked : (u : Ledger) (rows : List Row) (n : ℕ)
+    → u ≡ added u classes.Pin (moved_below (λ j. plus (opposite (vector_of (row_in rows j)))
+    (vector_of (row_in rows j))) n)
+nothing_booked u rows n = sym (ap (added u classes.Pin) (moved_nothing (λ j. vector_of (row_in rows j)) n) ∙ added_nothing u classes.Pin)
 
 module _ {found : Found} {s : Stored} {t : Totals} (can : CanProject 128 found.chunk.bonds found.chunk.numbers.now s t)
     (is : IsFound s.particles found) where
@@ -311,7 +319,23 @@ module _ {found : Found} {s : Stored} {t : Totals} (can : CanProject 128 found.c
         → AreDone s.limit (bond_of found.chunk.bonds) numbers (motion_of s t) new u
     near_done told books = moved_done near_moved told (books ∙ near_books (ledger_of t))
 
--- where all ends are free, nothing is booked
+  -- where all ends are free, nothing is booked
+  pub free_done : {moves : List Row} {new : List Particle} → AreNear (bond_of found.chunk.bonds) numbers (lying_in found) moves
+      → IsMasked (length numbers) (lying_in found) moves moves moves
+      → EachMoved asked s.limit found.pairs.first.now found.pairs.second.now (opposites_in moves) (ways_in moves) s.particles new
+      → AreDone s.limit (bond_of found.chunk.bonds) numbers (motion_of s t) new (ledger_of t)
+  free_done {moves} near masked told = near_done near masked told (nothing_booked (ledger_of t) moves (length numbers))
+
+-- rows without flags tell the moves
+pub near_tried : {bond : ℕ → Bond} {numbers : List ℕ} {l : Lying} {rows : List Row} → AreTried bond numbers l rows
+    → ((j : ℕ) → j < length numbers → (row_in rows j).flag ≡ pos 0) → AreNear bond numbers l rows
+near_tried tried flags = record { long = tried.long; each = λ j p. tried.each j p (flags j p) }
+
+-- a number is above 0 where its word is
+pub above_zero : {z : ℤ} → FitsSigned w32 z → IsTrue (int_lt (pos 0) (to_z w32 (of_z w32 z))) → pos 0 <ℤ z
+above_zero {z} fit t = less (pos 0) z (simp to_z-of_z at t)
+
+-- where all ends are free, no row is masked
 pub free_masked : {n m : ℕ} {least : ℤ} (l : Lying) (moves : List Row) → n ≤ length moves → m ≡ n → pos 0 <ℤ least
     → ((j : ℕ) → j < m → least ≤ℤ number_in l.first_weight j) → ((j : ℕ) → j < m → least ≤ℤ number_in l.second_weight j)
     → IsMasked n l moves moves moves
@@ -321,8 +345,3 @@ free_masked {n} {m} {least} l moves long whole some first second = record {
   back = λ j p. sym (kept_some _ _ (<ℤ-≤ℤ_trans some (first j (omega (arith, p, whole)))));
   forth = λ j p. sym (kept_some _ _ (<ℤ-≤ℤ_trans some (second j (omega (arith, p, whole)))));
 }
-
-pub nothing_booked : (u : Ledger) (rows : List Row) (n : ℕ)
-    → u ≡ added u classes.Pin (moved_below (λ j. plus (opposite (vector_of (row_in rows j)))
-    (vector_of (row_in rows j))) n)
-nothing_booked u rows n = sym (ap (added u classes.Pin) (moved_nothing (λ j. vector_of (row_in rows j)) n) ∙ added_nothing u classes.Pin)

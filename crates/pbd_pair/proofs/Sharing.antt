@@ -1,7 +1,7 @@
 -- Both shares of a correction, by what the first leaves.
 use Rattle.std.proofs.Common.{◌≡◌, ◌∙◌, ℕ, suc, zero, ap, sym, ◌+◌, ◌*◌, ◌/◌, ◌-◌, ◌<◌, ◌≤◌, arith, pos, negsuc, ℤ, neg_ℤ, ◌+ℤ◌, ◌-ℤ◌}
-use Rattle.std.proofs.Common.{◌*ℤ◌, ◌<ℤ◌, ◌≤ℤ◌, unsigned_abs, inl, inr, max, w32, FitsSigned, ◌^◌}
-use Rattle.std.proofs.lemmas.Int.{ints, clamps, fits_signed_from_abs}
+use Rattle.std.proofs.Common.{◌*ℤ◌, ◌<ℤ◌, ◌≤ℤ◌, unsigned_abs, inl, inr, max, w32, FitsSigned, ◌^◌, Bool, refl, to_z, of_z}
+use Rattle.std.proofs.lemmas.Int.{ints, clamps, fits_signed_from_abs, to_z-of_z}
 use Rattle.std.specs.Int.{int_max}
 use Rattle.std.specs.Prelude.{IsTrue, int_le, int_lt, ◌&&◌}
 use Rattle.std.proofs.lemmas.Bool.{and_parts, cases_lt}
@@ -10,7 +10,8 @@ use Rattle.pbd_num.specs.Rounding.{rdiv}
 use Rattle.pbd_num.specs.declared.Vec3.{Vec3}
 use Rattle.pbd_num.specs.declared.row.Row.{Row}
 use Rattle.pbd_num.specs.PairMove.{share_of, shares}
-use Rattle.pbd_num.specs.Vectors.{zero_vector}
+use Rattle.pbd_num.specs.Rows.{vector_of}
+use Rattle.pbd_num.specs.Vectors.{Within, zero_vector}
 use Rattle.pbd_num.proofs.Ends.{same_axes}
 use Rattle.pbd_num.proofs.Signs.{times_zero, rdiv_zero}
 use Rattle.pbd_pair.specs.declared.uneven.Portion.{Portion}
@@ -105,8 +106,8 @@ signed_share (negsuc a) share result k w t some is above below =
 -- a share is at most the axis
 pub share_size : (axis : ℤ) (k w t n : ℕ) → 0 < t → k ≤ 256 → w ≤ t → unsigned_abs axis ≤ n → unsigned_abs (share_of axis (pos k) (pos w) t) ≤ n
 share_size axis k w t n some few less size =
-    let drawn = size-mul axis (pos k) n 256 size few in
-    let part = size-mul (axis *ℤ pos k) (pos w) (n * 256) t drawn less in
+    let pulled = size-mul axis (pos k) n 256 size few in
+    let part = size-mul (axis *ℤ pos k) (pos w) (n * 256) t pulled less in
     size-rdiv ((axis *ℤ pos k) *ℤ pos w) (pos (256 * t)) n (omega (arith, some)) (omega (arith, part))
 
 -- ---- rows
@@ -129,28 +130,63 @@ share_as {s} {row} k k' w w' t t' some same none h = record {
   none = λ e. h.value some ∙ (λ i. shares s (none e i) w' t') ∙ none_shared s w' t' some;
 }
 
+-- the shares of three axes, as words, are the share of the correction
+abbrev word : ℤ → ℤ
+word z = to_z w32 (of_z w32 z)
+
+axis_shared : (axis share k w : ℤ) (t : ℕ) → unsigned_abs axis ≤ 2 ^ 16 → unsigned_abs share ≤ 2 ^ 16 → share ≡ share_of (word axis) k w t
+    → word share ≡ share_of axis k w t
+axis_shared axis share k w t axis_size size is =
+    let axis_is = to_z-of_z w32 axis (fits_signed_from_abs w32 axis (omega (arith, axis_size))) in
+    to_z-of_z w32 share (fits_signed_from_abs w32 share (omega (arith, size))) ∙ is ∙ ap (λ (a : ℤ). share_of a k w t) axis_is
+
+word_size : (share : ℤ) → unsigned_abs share ≤ 2 ^ 16 → unsigned_abs (word share) ≤ 2 ^ 16
+word_size share size = rw (to_z-of_z w32 share (fits_signed_from_abs w32 share (omega (arith, size)))) size
+
+pub rows_shared : (s : Row) {x y z k w : ℤ} {t : ℕ} {a b c : Bool} → 0 < t → Within (2 ^ 16) (vector_of s)
+    → (IsTrue a → unsigned_abs x ≤ 2 ^ 16) → (IsTrue b → unsigned_abs y ≤ 2 ^ 16) → (IsTrue c → unsigned_abs z ≤ 2 ^ 16)
+    → (IsTrue a → x ≡ share_of (word s.x) k w t) → (IsTrue b → y ≡ share_of (word s.y) k w t)
+    → (IsTrue c → z ≡ share_of (word s.z) k w t) → IsTrue (a && b && c)
+    → IsShare (vector_of s) k w t (record { x = word x; y = word y; z = word z; flag = pos 0 })
+rows_shared s {x} {y} {z} {k} {w} {t} {a} {b} {c} some size x_size y_size z_size x_is y_is z_is right =
+    let last = and_parts (a && b) c right in
+    let two = and_parts a b last.0 in
+    record {
+      flag = refl;
+      size = record { x = word_size x (x_size two.0); y = word_size y (y_size two.1); z = word_size z (z_size last.1) };
+      value = λ _. same_axes _ _ (axis_shared s.x x k w t size.x (x_size two.0) (x_is two.0)) (axis_shared s.y y k w t size.y (y_size two.1) (y_is two.1))
+          (axis_shared s.z z k w t size.z (z_size last.1) (z_is last.1));
+      none = λ e. absurd (omega (arith, e, some));
+    }
+
 -- ---- what a bond's corrections are shared by
 
-pub record ShareableFit (k first second guess : ℤ) : Type 0 where
-  pub k_fits : FitsSigned w32 k
-  pub first_fits : FitsSigned w32 first
-  pub second_fits : FitsSigned w32 second
-  pub sum_fits : FitsSigned w32 (first +ℤ second)
-  pub guess_fits : FitsSigned w32 guess
+short_word : (z : ℤ) (n : ℕ) → n < 2 ^ 31 → unsigned_abs z ≤ n → word z ≡ z
+short_word z n short size = to_z-of_z w32 z (fits_signed_from_abs w32 z (omega (arith, short, size)))
 
-pub shareable_fits : {k first second guess : ℤ} → IsShareable k first second guess → ShareableFit k first second guess
-shareable_fits {k} {first} {second} {guess} h = record {
-  k_fits = fits_signed_from_abs w32 k (omega (arith, size_at_most k 256 h.k_low h.k_high));
-  first_fits = fits_signed_from_abs w32 first (omega (arith, size_at_most first 65535 h.first_low h.first_high));
-  second_fits = fits_signed_from_abs w32 second (omega (arith, size_at_most second 65535 h.second_low h.second_high));
-  sum_fits = fits_signed_from_abs w32 (first +ℤ second) (omega (
-    arith,
-    size-add first second,
-    size_at_most first 65535 h.first_low h.first_high,
-    size_at_most second 65535 h.second_low h.second_high,
-  ));
-  guess_fits = fits_signed_from_abs w32 guess (omega (arith, size_at_most guess (2 ^ 30) h.guessed.low h.guessed.high));
-}
+-- what words say of a bond, and of the sum of its weights
+pub record SharedWords (k first second guess total : ℤ) : Type 0 where
+  pub k_is : word k ≡ k
+  pub first_is : word first ≡ first
+  pub guess_is : word guess ≡ guess
+  pub total_is : word total ≡ total
+  pub sum_is : total ≡ int_max (first +ℤ second) (pos 1)
+
+pub shared_words : {k first second guess total : ℤ} → IsShareable k first second guess → FitsSigned w32 total
+    → total ≡ int_max (word (word first +ℤ word second)) (pos 1) → SharedWords k first second guess total
+shared_words {k} {first} {second} {guess} {total} h fits is =
+    let a = size_at_most first 65535 h.first_low h.first_high in
+    let b = size_at_most second 65535 h.second_low h.second_high in
+    let first_is = short_word first 65535 (omega arith) a in
+    let second_is = short_word second 65535 (omega arith) b in
+    let both_is = short_word (first +ℤ second) 131070 (omega arith) (omega (arith, size-add first second, a, b)) in
+    record {
+      k_is = short_word k 256 (omega arith) (size_at_most k 256 h.k_low h.k_high);
+      first_is = first_is;
+      guess_is = short_word guess (2 ^ 30) (omega arith) (size_at_most guess (2 ^ 30) h.guessed.low h.guessed.high);
+      total_is = to_z-of_z w32 total fits;
+      sum_is = is ∙ (λ i. int_max (word (first_is i +ℤ second_is i)) (pos 1)) ∙ ap (λ (z : ℤ). int_max z (pos 1)) both_is;
+    }
 
 -- the sum of two weights, or 1 where that is 0
 weighed : (first second total : ℤ) → pos 0 ≤ℤ first → pos 0 ≤ℤ second → total ≡ int_max (first +ℤ second) (pos 1)

@@ -1,5 +1,5 @@
 -- One bond: what its steps answer, put together.
-use Rattle.std.proofs.Common.{◌≡◌, ℕ, ◌<◌, ℤ, pos, ◌≤ℤ◌, List, length, false, ◌&&◌, ap, sym, ◌∙◌, Ok, unsigned_abs}
+use Rattle.std.proofs.Common.{◌≡◌, ℕ, ◌<◌, ℤ, pos, ◌≤ℤ◌, List, length, Bool, false, ◌&&◌, ap, sym, ◌∙◌, Ok, unsigned_abs}
 use Rattle.std.proofs.lemmas.Bool.{cond-false}
 use Rattle.pbd_num.specs.Vectors.{Within, is_within}
 use Rattle.pbd_world.specs.declared.parts.Particle.{Particle}
@@ -29,17 +29,17 @@ pub same_correction : {l limit : ℤ} {p q : End} (b : Bond) (ps : List Particle
 same_correction b ps ec el ep eq = ec ∙ (λ i. correction_of (el i) (ep i) (eq i) b)
 
 pub moves_outcome : (n : ℕ) (b : Bond) (s : Shift) {c : Correction} (ps : List Particle) {ps1 ps2 : List Particle}
-    (t : Ledger) {t2 : Ledger} {p q : Particle} → Moves s ≡ c → ps1 ≡ placed ps b.a s.first → ps2 ≡ placed ps1 b.b s.second
-    → p ≡ particle_at ps b.a
-    → q ≡ particle_at ps b.b → t2 ≡ booked t (entries_of p.held q.held (class_of b) s) → corrected n b c (record {
+    (t : Ledger) {t2 : Ledger} {p_held q_held : Bool} → Moves s ≡ c → ps1 ≡ placed ps b.a s.first → ps2 ≡ placed ps1 b.b s.second
+    → p_held ≡ (particle_at ps b.a).held → q_held ≡ (particle_at ps b.b).held
+    → t2 ≡ booked t (entries_of p_held q_held (class_of b) s) → corrected n b c (record {
       particles = ps;
       totals = t;
     }) ≡ Ok (record { particles = ps2; totals = t2 })
-moves_outcome n b s {c} ps {ps1} {ps2} t {t2} {p} {q} ec e1 e2 ep eq et =
+moves_outcome n b s {c} ps {ps1} {ps2} t {t2} {p_held} {q_held} ec e1 e2 ep eq et =
     let m : Motion = record { particles = ps; totals = t } in
     let places : placed (placed ps b.a s.first) b.b s.second ≡ ps2 = ap (λ (x : List Particle). placed x b.b s.second) (sym e1) ∙ sym e2 in
-    let totals : booked t (entries_of (particle_at ps b.a).held (particle_at ps b.b).held (class_of b) s) ≡ t2 = (λ i. booked t (entries_of
-    (sym ep i).held (sym eq i).held (class_of b) s)) ∙ sym et in
+    let totals : booked t (entries_of (particle_at ps b.a).held (particle_at ps b.b).held (class_of b) s) ≡ t2 =
+    (λ i. booked t (entries_of (sym ep i) (sym eq i) (class_of b) s)) ∙ sym et in
     ap (λ (x : Correction). corrected n b x m) (sym ec) ∙ (λ i. Ok (record { particles = places i; totals = totals i }))
 
 pub leaves_case : (limit : ℤ) (p q : End) (b : Bond) (s : Shift) → is_slack p q b ≡ false → s ≡ shift_of p q b

@@ -1,11 +1,14 @@
 -- Sums of what the ends of bonds move by together.
 use Rattle.std.proofs.Common.{◌≡◌, ℕ, ◌+◌, ◌*◌, ◌^◌, ℤ, pos, neg_ℤ, ◌+ℤ◌, List, Bool, true, false, cond, refl, ap, sym, ◌∙◌, add-one, subst, arith}
+use Rattle.std.proofs.Common.{◌<◌, ◌≤◌, ◌-ℤ◌, unsigned_abs, to_z, of_z, w32}
+use Rattle.std.proofs.lemmas.Int.{to_z-of_z, fits_signed_from_abs}
 use Rattle.pbd_num.specs.declared.Vec3.{Vec3}
 use Rattle.pbd_num.specs.declared.row.Row.{Row}
 use Rattle.pbd_num.specs.Rows.{vector_of, no_row}
 use Rattle.pbd_num.specs.Vectors.{Within, plus}
 use Rattle.pbd_num.proofs.Ends.{same_axes}
 use Rattle.pbd_num.proofs.Ranges.{wider}
+use Rattle.pbd_num.proofs.Sizes.{size-add, size-sub}
 use Rattle.pbd_num.proofs.VectorSizes.{plus_nothing}
 use Rattle.pbd_store.specs.Pairs.{row_in}
 use Rattle.pbd_pair.specs.Moves.{moved_below}
@@ -16,9 +19,34 @@ use Rattle.pbd_pair.proofs.Pinning.{both_within, minus_turned}
 abbrev axis_if : Bool → ℤ → ℤ → ℤ
 axis_if counts back forth = cond counts (neg_ℤ back +ℤ forth) (pos 0)
 
-pub with_moved : (counts : Bool) (next sum back forth : Row) → next.x ≡ sum.x +ℤ axis_if counts back.x forth.x
+-- one axis of a sum and of two rows, as words tell of them
+short_is : (z : ℤ) (n : ℕ) → n < 2 ^ 31 → unsigned_abs z ≤ n → to_z w32 (of_z w32 z) ≡ z
+short_is z n short size = to_z-of_z w32 z (fits_signed_from_abs w32 z (omega (arith, short, size)))
+
+pub axis_added : (sum back forth : ℤ) {next : ℤ} → unsigned_abs sum ≤ 2 ^ 30 → unsigned_abs back ≤ 2 ^ 22 → unsigned_abs forth ≤ 2 ^ 22
+    → next ≡ to_z w32 (of_z w32 sum) +ℤ (to_z w32 (of_z w32 forth) -ℤ to_z w32 (of_z w32 back))
+    → to_z w32 (of_z w32 next) ≡ sum +ℤ (forth -ℤ back)
+axis_added sum back forth {next} s b f is =
+    let told : next ≡ sum +ℤ (forth -ℤ back) = is ∙ (λ i. short_is sum (2 ^ 30) (omega arith) s i
+    +ℤ (short_is forth (2 ^ 22) (omega arith) f i -ℤ short_is back (2 ^ 22) (omega arith) b i)) in
+    let size : unsigned_abs (sum +ℤ (forth -ℤ back)) ≤ 2 ^ 30 + 2 ^ 23 =
+    omega (arith, size-add sum (forth -ℤ back), size-sub forth back, s, b, f) in
+    ap (λ (z : ℤ). to_z w32 (of_z w32 z)) told ∙ short_is (sum +ℤ (forth -ℤ back)) (2 ^ 30 + 2 ^ 23) (omega arith) size
+
+pub axis_moved : (counts : Bool) (sum back forth : ℤ) {moved : ℤ} → unsigned_abs sum ≤ 2 ^ 30 → unsigned_abs back ≤ 2 ^ 22
+    → unsigned_abs forth ≤ 2 ^ 22 → moved ≡ axis_if counts (to_z w32 (of_z w32 back)) (to_z w32 (of_z w32 forth))
+    → unsigned_abs moved ≤ 2 ^ 23
+    → to_z w32 (of_z w32 (to_z w32 (of_z w32 sum) +ℤ to_z w32 (of_z w32 moved))) ≡ sum +ℤ axis_if counts back forth
+axis_moved counts sum back forth {moved} s b f is m =
+    let told : moved ≡ axis_if counts back forth =
+    is ∙ (λ i. axis_if counts (short_is back (2 ^ 22) (omega arith) b i) (short_is forth (2 ^ 22) (omega arith) f i)) in
+    let size : unsigned_abs (sum +ℤ moved) ≤ 2 ^ 30 + 2 ^ 23 = omega (arith, size-add sum moved, s, m) in
+    (λ i. to_z w32 (of_z w32 (short_is sum (2 ^ 30) (omega arith) s i +ℤ short_is moved (2 ^ 23) (omega arith) m i)))
+    ∙ short_is (sum +ℤ moved) (2 ^ 30 + 2 ^ 23) (omega arith) size ∙ ap (λ (z : ℤ). sum +ℤ z) told
+
+pub with_moved : (counts : Bool) (next : Vec3) (sum back forth : Row) → next.x ≡ sum.x +ℤ axis_if counts back.x forth.x
     → next.y ≡ sum.y +ℤ axis_if counts back.y forth.y → next.z ≡ sum.z +ℤ axis_if counts back.z forth.z
-    → vector_of next ≡ plus (vector_of sum) (moved_if counts back forth)
+    → next ≡ plus (vector_of sum) (moved_if counts back forth)
 with_moved true next sum back forth x y z = same_axes _ _ x y z
 with_moved false next sum back forth x y z = same_axes _ _ x y z
 

@@ -4,6 +4,7 @@ use Rattle.std.specs.Prelude.{slice_index_or, take, unsigned_abs, Bool, ◌||◌
 use Rattle.pbd_num.specs.declared.Vec3.{Vec3}
 use Rattle.pbd_num.specs.declared.row.Row.{Row}
 use Rattle.pbd_num.specs.declared.tried.Draw.{Draw}
+use Rattle.pbd_num.specs.declared.tried.Weights.{Weights}
 use Rattle.pbd_num.specs.Rows.{vector_of, no_row}
 use Rattle.pbd_num.specs.Vectors.{Within, plus, opposite, zero_vector}
 use Rattle.pbd_world.specs.declared.parts.Particle.{Particle}
@@ -35,6 +36,13 @@ pub record AreEnds (bond : ℕ → Bond) (numbers : List ℕ) (c : Columns) : Ty
   pub second_long : length c.second ≡ 128
   pub first : (j : ℕ) → j < length numbers → index_at c.first j ≡ (bond (slice_index_or numbers j 0)).a
   pub second : (j : ℕ) → j < length numbers → index_at c.second j ≡ (bond (slice_index_or numbers j 0)).b
+
+-- two weights in 0..=65,535
+pub record AreWeights (w : Weights) : Type 0 where
+  pub first_low : pos 0 ≤ℤ w.first
+  pub first_high : w.first ≤ℤ pos 65535
+  pub second_low : pos 0 ≤ℤ w.second
+  pub second_high : w.second ≤ℤ pos 65535
 
 -- n weights each, in 0..=65,535
 pub record AreWeighed (n : ℕ) (firsts seconds : List ℤ) : Type 0 where

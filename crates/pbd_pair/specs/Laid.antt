@@ -125,30 +125,25 @@ pub record HaveRows (n : ℕ) (c : BondColumns) : Type 0 where
   pub even : AreEven (lists_in c)
   pub rows : length c.first.items ≡ n
 
--- the first n rows, and those after them
-abbrev pub front_of : ℕ → Lists → Lists
-front_of n ls = record {
-  first = take n ls.first;
-  second = take n ls.second;
-  rest = take n ls.rest;
-  factor = take n ls.factor;
-  stiffness = take n ls.stiffness;
-  portion = take n ls.portion;
-  first_weight = take n ls.first_weight;
-  second_weight = take n ls.second_weight;
+-- the same done with each column
+abbrev pub each_column : (List ℕ → List ℕ) → (List ℤ → List ℤ) → Lists → Lists
+each_column f g ls = record {
+  first = f ls.first;
+  second = f ls.second;
+  rest = g ls.rest;
+  factor = g ls.factor;
+  stiffness = g ls.stiffness;
+  portion = g ls.portion;
+  first_weight = g ls.first_weight;
+  second_weight = g ls.second_weight;
 }
 
+-- the first n rows, and those after them
+abbrev pub front_of : ℕ → Lists → Lists
+front_of n ls = each_column (take n) (take n) ls
+
 abbrev pub back_of : ℕ → Lists → Lists
-back_of n ls = record {
-  first = drop n ls.first;
-  second = drop n ls.second;
-  rest = drop n ls.rest;
-  factor = drop n ls.factor;
-  stiffness = drop n ls.stiffness;
-  portion = drop n ls.portion;
-  first_weight = drop n ls.first_weight;
-  second_weight = drop n ls.second_weight;
-}
+back_of n ls = each_column (drop n) (drop n) ls
 
 -- row i is now this one
 abbrev pub with_row : ℕ → LaidBond → Lists → Lists

@@ -38,9 +38,9 @@ pub record IsPortionOf (stiffness weight other : ℤ) (p : Portion) : Type 0 whe
   pub first : pos p.first ≡ weight
   pub total : 0 < unsigned_abs weight + unsigned_abs other → p.total ≡ unsigned_abs weight + unsigned_abs other
 
--- what a share leaves of `drawn` * `first` / (256 * `total`), and a half
+-- what a share leaves of `pulled` * `first` / (256 * `total`), and a half
 abbrev pub Leaves : Portion → ℕ → ℕ → ℕ → Type 0
-Leaves p drawn share left = left + share * (256 * p.total) ≡ drawn * p.first + 128 * p.total
+Leaves p pulled share left = left + share * (256 * p.total) ≡ pulled * p.first + 128 * p.total
 
 -- a row is the share of a correction that stiffness k / 256 and weight w out of `total` give: none where that is 0
 pub record IsShare (s : Vec3) (k w : ℤ) (total : ℕ) (row : Row) : Type 0 where

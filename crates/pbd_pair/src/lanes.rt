@@ -1,4 +1,4 @@
-// The projector that projects as many bonds side by side as it has lanes.
+// The projector that projects bonds side by side, up to a chunk together.
 ghost use Rattle.std.specs.Prelude.{◌≡◌};
 
 use crate::bonds::Bonds;

@@ -5,8 +5,7 @@ ghost use Rattle.pbd_world.specs.Bonds.{corrected, correction_at};
 ghost use Rattle.pbd_pair.specs.Bonds.{IsBond};
 ghost use Rattle.pbd_store.specs.Moving.{motion_of, fixed_parts, AreInside};
 
-use crate::book::book;
-use crate::correct::{as_end, correct, limit_of};
+use crate::parts::{book_moves, read_bond};
 use pbd_store::{Steps, Store};
 use pbd_world::{Bond, Correction, Left, Totals};
 use std::sync::ledger::Ledger;
@@ -34,16 +33,14 @@ pub(crate) fn project_one<const L: usize, G: Ledger>(
     ensures room { (k : ℕ) → HaveRoom k (ledger_of totals.old) → HaveRoom (k + 2 ^ 32) (ledger_of totals.new) }
     ensures cost { steps.new ≤ steps.old + 4 }
 {
-    let limit = limit_of(store);
-    let p = store.at(bond.a, steps);
-    let q = store.at(bond.b, steps);
-    match correct(limit, as_end(p), as_end(q), bond) {
+    let note = read_bond(store, bond, steps);
+    match note.correction {
         Correction::Slack => Ok(()),
         Correction::Leaves => Err(Left { element: n }),
         Correction::Moves(shift) => {
             store.put(bond.a, shift.first, steps);
             store.put(bond.b, shift.second, steps);
-            book(totals, p.held, q.held, bond, shift);
+            book_moves(totals, note, bond, shift);
             Ok(())
         }
     }

@@ -10,7 +10,7 @@ ghost use Rattle.pbd_pair.specs.Bonds.{bond_of, bond_count};
 ghost use Rattle.pbd_pair.specs.Projecting.{CanProject, ComesTo, StaysSound};
 ghost use Rattle.pbd_pair.specs.Moves.{moves_by, settled};
 ghost use Rattle.pbd_pair.specs.Laid.{IsFirm};
-ghost use Rattle.pbd_pair.specs.Chunks.{entries_in, kept_by, lying_in, unplaced, AreExact, AreKnown, AreSized, AreTried, IsExact, IsFound, IsNear};
+ghost use Rattle.pbd_pair.specs.Chunks.{entries_in, kept_by, lying_in, unplaced, AreExact, AreKnown, AreSized, AreTried, AreWeights, IsExact, IsFound, IsNear};
 
 use crate::book::book;
 use crate::chunk::{Found, left_at};
@@ -24,10 +24,7 @@ use std::sync::ledger::Ledger;
 pub(crate) fn exact_moves(way: Vec3, bond: Bond, weights: Weights) -> EndMoves
     requires way { Within (2 ^ 30) way }
     requires bond { IsFirm bond }
-    requires first_low { pos 0 ≤ℤ weights.first }
-    requires first_high { weights.first ≤ℤ pos 65535 }
-    requires second_low { pos 0 ≤ℤ weights.second }
-    requires second_high { weights.second ≤ℤ pos 65535 }
+    requires weights { AreWeights weights }
     ensures moves { (result.first, result.second) ≡ moves_by way weights.first weights.second bond }
     ensures first { Within (2 ^ 31) result.first }
     ensures second { Within (2 ^ 31) result.second }
@@ -65,10 +62,7 @@ fn moves_of(row: Row, way: Vec3, bond: Bond, weights: Weights) -> EndMoves
     requires row { row.flag ≡ pos 0 → IsNear way weights.first weights.second bond row }
     requires way { Within (2 ^ 30) way }
     requires bond { IsFirm bond }
-    requires first_low { pos 0 ≤ℤ weights.first }
-    requires first_high { weights.first ≤ℤ pos 65535 }
-    requires second_low { pos 0 ≤ℤ weights.second }
-    requires second_high { weights.second ≤ℤ pos 65535 }
+    requires weights { AreWeights weights }
     ensures { IsExact way weights.first weights.second bond result }
 {
     let told = row.flag == 0;

@@ -84,13 +84,13 @@ fn low8(both: i32) -> u32
 
 // What the first end's share leaves for both, in 256, and a whole.
 #[inline(always)]
-fn left_for_both(drawn: u32, share: u32) -> i32
-    requires drawn { drawn ≤ 2 ^ 24 }
+fn left_for_both(pulled: u32, share: u32) -> i32
+    requires pulled { pulled ≤ 2 ^ 24 }
     requires share { share ≤ 2 ^ 16 }
-    ensures value { result ≡ pos (drawn + 256) -ℤ pos (256 * share) }
+    ensures value { result ≡ pos (pulled + 256) -ℤ pos (256 * share) }
     ensures size { unsigned_abs result ≤ 2 ^ 25 }
 {
-    (drawn + 256) as i32 - (256 * share) as i32
+    (pulled + 256) as i32 - (256 * share) as i32
 }
 
 // `whole`, or one less where `rest` is below `left`.
@@ -115,29 +115,29 @@ fn signed(axis: i32, share: i32) -> i32
 }
 
 impl Portion {
-    // What the first end's share leaves of its part of `drawn`: from 0 up and less than 256 * `total` where the share is right.
+    // What the first end's share leaves of its part of `pulled`: from 0 up and less than 256 * `total` where the share is right.
     #[inline(always)]
-    fn left(self, drawn: u32, share: u32) -> i64
+    fn left(self, pulled: u32, share: u32) -> i64
         requires portion { IsPortion self }
-        requires drawn { drawn ≤ 2 ^ 24 }
+        requires pulled { pulled ≤ 2 ^ 24 }
         requires share { share ≤ 2 ^ 16 }
-        ensures { pos 0 ≤ℤ result → Leaves self drawn share (unsigned_abs result) }
+        ensures { pos 0 ≤ℤ result → Leaves self pulled share (unsigned_abs result) }
     {
-        let part = i64::from(drawn) * i64::from(self.first) + i64::from(128 * self.total);
+        let part = i64::from(pulled) * i64::from(self.first) + i64::from(128 * self.total);
         part - i64::from(share) * i64::from(256 * self.total)
     }
 
     // The second end's share, of what the first end's leaves.
     #[inline(always)]
-    fn other(self, drawn: u32, share: u32, left: u32) -> i32
+    fn other(self, pulled: u32, share: u32, left: u32) -> i32
         requires portion { IsPortion self }
-        requires drawn { drawn ≤ 2 ^ 24 }
+        requires pulled { pulled ≤ 2 ^ 24 }
         requires share { share ≤ 2 ^ 16 }
-        ensures value { left < 256 * self.total → Leaves self drawn share left
-            → result ≡ rdiv (pos (drawn * (self.total - self.first))) (pos (256 * self.total)) }
+        ensures value { left < 256 * self.total → Leaves self pulled share left
+            → result ≡ rdiv (pos (pulled * (self.total - self.first))) (pos (256 * self.total)) }
         ensures size { unsigned_abs result ≤ 2 ^ 25 }
     {
-        let both = left_for_both(drawn, share);
+        let both = left_for_both(pulled, share);
         lowered(both >> 8, low8(both) * self.total, left)
     }
 
@@ -152,10 +152,10 @@ impl Portion {
         ensures second_size { IsTrue result.right → unsigned_abs result.second ≤ 2 ^ 16 }
     {
         let size = axis.unsigned_abs();
-        let drawn = size * self.k;
+        let pulled = size * self.k;
         let share = guessed(size, self.guess);
-        let left = self.left(drawn, share);
-        let other = self.other(drawn, share, low25(left));
+        let left = self.left(pulled, share);
+        let other = self.other(pulled, share, low25(left));
         Shares {
             first: signed(axis, share as i32),
             second: signed(axis, other),

@@ -5,7 +5,7 @@ ghost use Rattle.pbd_num.specs.Vectors.{Within, opposite};
 ghost use Rattle.pbd_store.specs.Pairs.{row_in};
 ghost use Rattle.pbd_pair.specs.Bonds.{bond_of};
 ghost use Rattle.pbd_pair.specs.Laid.{number_in, IsFirm};
-ghost use Rattle.pbd_pair.specs.Chunks.{draw_by, lying_in, AreDrawn, AreInColumns, AreKnown, AreSized, AreTried, HoldsFactor, HoldsRest, IsDraw, IsMild, IsNear};
+ghost use Rattle.pbd_pair.specs.Chunks.{draw_by, lying_in, AreDrawn, AreInColumns, AreKnown, AreSized, AreTried, AreWeights, HoldsFactor, HoldsRest, IsDraw, IsMild, IsNear};
 
 use crate::chunk::{Chunk, Found};
 use pbd_num::{CHUNK, Draw, Row, Vec3, Weights, try_moves};
@@ -105,10 +105,7 @@ pub(crate) fn free_move(first: Vec3, second: Vec3, weight: i64) -> Vec3
 fn wide_row(way: Vec3, draw: Draw, weights: Weights) -> Row
     requires way { Within (2 ^ 30) way }
     requires draw { IsMild draw }
-    requires first_low { pos 0 ≤ℤ weights.first }
-    requires first_high { weights.first ≤ℤ pos 65535 }
-    requires second_low { pos 0 ≤ℤ weights.second }
-    requires second_high { weights.second ≤ℤ pos 65535 }
+    requires weights { AreWeights weights }
     ensures near { (b : Bond) → draw ≡ draw_by b → result.flag ≡ pos 0 → IsNear way weights.first weights.second b result }
     ensures flag { unsigned_abs result.flag ≤ 1 }
 {

@@ -1,6 +1,8 @@
 use Rattle.std.proofs.Common.{arith, ◌≡◌, ◌≤◌, ◌^◌, ◌+◌, ℤ, ◌+ℤ◌, ◌<ℤ◌, ◌≤ℤ◌, pos, unsigned_abs, to_z, of_z, w64, FitsSigned, sym, ap, inl}
 use Rattle.std.proofs.Common.{inr}
 use Rattle.std.proofs.lemmas.Int.{to_z-of_z, ints}
+use Rattle.pbd_num.specs.declared.Vec3.{Vec3}
+use Rattle.pbd_num.specs.Vectors.{Within}
 use Rattle.pbd_num.proofs.Sizes.{fits, size-sum, size_at_most, size_pos}
 use Rattle.pbd_num.proofs.Lengths.{length_below}
 use Rattle.pbd_num.proofs.VectorSizes.{word}
@@ -34,23 +36,27 @@ total_of first second first_low first_high second_low second_high =
 size_none : (z : ℤ) → FitsSigned w64 z → of_z w64 z ≡ 0 → unsigned_abs z ≡ 0
 size_none z z_fits e = let is : to_z w64 (of_z w64 z) ≡ pos 0 = ap (to_z w64) e in ap unsigned_abs (simp to_z-of_z at is)
 
--- what a share asks besides its vector, of the weight w
-asked : (k w first second : ℤ) → Total first second → unsigned_abs k ≤ 256
+-- what a share of the vector v asks, of the weight w
+asked : (v : Vec3) (k w first second : ℤ) → Total first second → Within (2 ^ 31) v → unsigned_abs k ≤ 256 → pos 0 ≤ℤ w
     → unsigned_abs w ≤ unsigned_abs first + unsigned_abs second → (of_z w64 (word first +ℤ word second) ≡ 0 → ⊥)
     → record {
+      size : Within (2 ^ 31) v;
       stiffness : unsigned_abs (word k) ≤ 256;
+      weight_low : pos 0 ≤ℤ word w;
       weight : unsigned_abs (word w) ≤ unsigned_abs (word (word first +ℤ word second));
       total_low : pos 0 <ℤ word (word first +ℤ word second);
       total_high : unsigned_abs (word (word first +ℤ word second)) ≤ 131070;
     }
-asked k w first second total size part some =
+asked v k w first second total within size low part some =
     let k_fits = fits k (omega (arith, size)) in
     let a = total.first_fits in
     let b = total.second_fits in
     let all = total.sum_fits in
     let w_fits = fits w (omega (arith, part, total.sum, total.high)) in
     record {
+      size = within;
       stiffness = simp to_z-of_z size;
+      weight_low = simp to_z-of_z low;
       weight = simp to_z-of_z (omega (arith, total.sum, part));
       total_low = simp to_z-of_z (total.low (simp to_z-of_z at some));
       total_high = simp to_z-of_z total.high;
@@ -91,29 +97,15 @@ returns-clause-first_size c = c.opposite.ensures.size (2 ^ 31) c.share-first.ens
 
 pub share-first-requires : goal.share-first-requires
 share-first-requires c =
-    let w = c.args.weights in
-    let total = total_of w.first w.second c.requires.first_low c.requires.first_high c.requires.second_low c.requires.second_high in
-    let known = asked c.args.draw.k w.first w.first w.second total c.requires.stiffness (omega arith) c.if-total-eq0.false in
-    record {
-      size = c.correction-s.ensures.size;
-      stiffness = known.stiffness;
-      weight = known.weight;
-      total_low = known.total_low;
-      total_high = known.total_high;
-    }
+    let r = c.requires in
+    asked c.correction-s.result c.args.draw.k c.args.weights.first _ _ (total_of _ _ r.first_low r.first_high r.second_low r.second_high)
+    c.correction-s.ensures.size r.stiffness r.first_low (omega arith) c.if-total-eq0.false
 
 pub share-second-requires : goal.share-second-requires
 share-second-requires c =
-    let w = c.args.weights in
-    let total = total_of w.first w.second c.requires.first_low c.requires.first_high c.requires.second_low c.requires.second_high in
-    let known = asked c.args.draw.k w.second w.first w.second total c.requires.stiffness (omega arith) c.if-total-eq0.false in
-    record {
-      size = c.correction-s.ensures.size;
-      stiffness = known.stiffness;
-      weight = known.weight;
-      total_low = known.total_low;
-      total_high = known.total_high;
-    }
+    let r = c.requires in
+    asked c.correction-s.result c.args.draw.k c.args.weights.second _ _ (total_of _ _ r.first_low r.first_high r.second_low r.second_high)
+    c.correction-s.ensures.size r.stiffness r.second_low (omega arith) c.if-total-eq0.false
 
 pub correction-s-requires : goal.correction-s-requires
 correction-s-requires c =

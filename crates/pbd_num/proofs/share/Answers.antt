@@ -1,48 +1,72 @@
-use Rattle.std.proofs.Common.{ℤ, pos, ◌≤◌, ◌<ℤ◌, ◌^◌, unsigned_abs, arith, w64, FitsSigned}
-use Rattle.std.proofs.lemmas.Int.{to_z-of_z}
-use Rattle.pbd_num.proofs.Sizes.{fits}
-use Rattle.pbd_num.proofs.VectorSizes.{word, words_within}
+use Rattle.std.proofs.Common.{◌≡◌, ◌∙◌, ℤ, pos, ◌*◌, ◌≤◌, ◌*ℤ◌, ◌<ℤ◌, ◌^◌, unsigned_abs, arith, w64, FitsSigned}
+use Rattle.std.proofs.lemmas.Int.{to_z-of_z, ints, unsigned_abs-mul}
+use Rattle.pbd_num.proofs.Sizes.{fits, size-mul}
+use Rattle.pbd_num.proofs.Lengths.{shares_by_scaling}
+use Rattle.pbd_num.proofs.Ranges.{wider}
+use Rattle.pbd_num.proofs.VectorSizes.{word, times_within}
 use Rattle.pbd_num.proofs.share.Goals as goal
 
--- what the share of one axis asks
-asked : (s k w total : ℤ) → FitsSigned w64 k → FitsSigned w64 w → FitsSigned w64 total
-    → unsigned_abs s ≤ 2 ^ 31 → unsigned_abs k ≤ 256 → unsigned_abs w ≤ unsigned_abs total → pos 0 <ℤ total → unsigned_abs total ≤ 131070
-    → record {
-      size : unsigned_abs (word s) ≤ 2 ^ 31;
-      stiffness : unsigned_abs (word k) ≤ 256;
-      weight : unsigned_abs (word w) ≤ unsigned_abs (word total);
-      total_low : pos 0 <ℤ word total;
-      total_high : unsigned_abs (word total) ≤ 131070;
-    }
-asked s k w total k_fits w_fits total_fits size stiffness weight low high =
-    let s_fits = fits s (omega (arith, size)) in
+-- what a share is a part of, and what part, as they come to stand in 64 bits
+record Fraction (k w total : ℤ) : Type 0 where
+  part_fits : FitsSigned w64 (word k *ℤ word w)
+  part_is : word (word k *ℤ word w) ≡ k *ℤ w
+  part_size : unsigned_abs (k *ℤ w) ≤ 256 * 131070
+  whole_fits : FitsSigned w64 (pos 256 *ℤ word total)
+  whole_is : word (pos 256 *ℤ word total) ≡ pos 256 *ℤ total
+  whole_low : pos 0 <ℤ (pos 256 *ℤ total)
+  whole_high : unsigned_abs (pos 256 *ℤ total) ≤ 2 ^ 40
+  less : unsigned_abs (k *ℤ w) ≤ unsigned_abs (pos 256 *ℤ total)
+
+fraction : (k w total : ℤ) → FitsSigned w64 k → FitsSigned w64 w → FitsSigned w64 total → unsigned_abs k ≤ 256
+    → unsigned_abs w ≤ unsigned_abs total → pos 0 <ℤ total → unsigned_abs total ≤ 131070 → Fraction k w total
+fraction k w total k_fits w_fits total_fits stiffness weight some high =
+    let top = size-mul k w 256 (unsigned_abs total) stiffness weight in
+    let bottom = unsigned_abs-mul (pos 256) total in
+    let part = fits (k *ℤ w) (omega (arith, top)) in
+    let whole = fits (pos 256 *ℤ total) (omega (arith, bottom)) in
     record {
-      size = simp to_z-of_z size;
-      stiffness = simp to_z-of_z stiffness;
-      weight = simp to_z-of_z weight;
-      total_low = simp to_z-of_z low;
-      total_high = simp to_z-of_z high;
+      part_fits = simp to_z-of_z part;
+      part_is = simp to_z-of_z;
+      part_size = omega (arith, top);
+      whole_fits = simp to_z-of_z whole;
+      whole_is = simp to_z-of_z;
+      whole_low = omega (arith, ints);
+      whole_high = omega (arith, bottom);
+      less = omega (arith, top, bottom);
     }
 
-pub share_axis-requires : goal.share_axis-requires
-share_axis-requires c =
+pub overflow_mul-k : goal.overflow_mul-k
+overflow_mul-k c =
     let r = c.requires in
-    asked c.args.s.x c.args.k c.args.w c.args.total c.ranges.k c.ranges.w c.ranges.total r.size.x r.stiffness r.weight r.total_low
-    r.total_high
+    (fraction c.args.k c.args.w c.args.total c.ranges.k c.ranges.w c.ranges.total r.stiffness r.weight r.total_low r.total_high).part_fits
 
-pub share_axis-requires-2 : goal.share_axis-requires-2
-share_axis-requires-2 c =
+pub overflow_mul-total : goal.overflow_mul-total
+overflow_mul-total c =
     let r = c.requires in
-    asked c.args.s.y c.args.k c.args.w c.args.total c.ranges.k c.ranges.w c.ranges.total r.size.y r.stiffness r.weight r.total_low
-    r.total_high
+    (fraction c.args.k c.args.w c.args.total c.ranges.k c.ranges.w c.ranges.total r.stiffness r.weight r.total_low r.total_high).whole_fits
 
-pub share_axis-requires-3 : goal.share_axis-requires-3
-share_axis-requires-3 c =
+pub part_of-requires : goal.part_of-requires
+part_of-requires c =
     let r = c.requires in
-    asked c.args.s.z c.args.k c.args.w c.args.total c.ranges.k c.ranges.w c.ranges.total r.size.z r.stiffness r.weight r.total_low
-    r.total_high
+    let known = fraction c.args.k c.args.w c.args.total c.ranges.k c.ranges.w c.ranges.total r.stiffness r.weight r.total_low r.total_high in
+    record {
+      vector = wider c.args.s (2 ^ 31) (2 ^ 61) (omega arith) r.size;
+      products = rw known.part_is
+          (times_within (c.args.k *ℤ c.args.w) c.args.s (2 ^ 31) (256 * 131070) (2 ^ 61) r.size known.part_size (omega arith));
+      whole_low = rw known.whole_is known.whole_low;
+      whole_high = rw known.whole_is known.whole_high;
+    }
+
+pub returns-clause-value : goal.returns-clause-value
+returns-clause-value c =
+    let r = c.requires in
+    let known = fraction c.args.k c.args.w c.args.total c.ranges.k c.ranges.w c.ranges.total r.stiffness r.weight r.total_low r.total_high in
+    (simp (known.part_is, known.whole_is) at c.part_of.ensures.value)
+    ∙ shares_by_scaling c.args.s c.args.k c.args.w c.args.total r.weight_low r.total_low
 
 pub returns-clause-size : goal.returns-clause-size
 returns-clause-size c =
-    words_within (record { x = c.share_axis.result; y = c.share_axis-2.result; z = c.share_axis-3.result }) (2 ^ 31) (omega arith)
-    (record { x = c.share_axis.ensures.size; y = c.share_axis-2.ensures.size; z = c.share_axis-3.ensures.size })
+    let r = c.requires in
+    let known = fraction c.args.k c.args.w c.args.total c.ranges.k c.ranges.w c.ranges.total r.stiffness r.weight r.total_low r.total_high in
+    let size = simp (known.part_is, known.whole_is) at c.part_of.ensures.size in
+    size (2 ^ 31) known.less r.size

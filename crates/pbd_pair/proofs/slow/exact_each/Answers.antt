@@ -1,10 +1,9 @@
-use Rattle.std.proofs.Common.{◌<◌, ◌^◌, length, pos, get_or, sym, subst, arith, rules, w32, FitsSigned}
-use Rattle.std.proofs.lemmas.Int.{to_z-of_z}
+use Rattle.std.proofs.Common.{◌<◌, ◌^◌, length, sym, subst, arith, rules}
 use Rattle.pbd_num.specs.declared.Vec3.{Vec3}
 use Rattle.pbd_num.specs.Vectors.{Within}
 use Rattle.pbd_world.specs.declared.bond.Bond.{Bond}
 use Rattle.pbd_pair.specs.Laid.{IsFirm}
-use Rattle.pbd_pair.proofs.Chunks.{first_fits, second_fits}
+use Rattle.pbd_pair.proofs.Chunks.{weights_sized, weights_told}
 use Rattle.pbd_pair.proofs.Filling.{filled_none, filled_more}
 use Rattle.pbd_pair.proofs.WideRows.{same_exact, same_row}
 use Rattle.pbd_pair.proofs.slow.exact_each.Goals as goal
@@ -19,13 +18,12 @@ pub moves_of-requires-clause-row : goal.moves_of-requires-clause-row
 moves_of-requires-clause-row c = λ flag.
     let j = c.loop-j.j in
     let p : j < length c.args.found.now.chunk.numbers.now = omega arith in
-    let w1 = get_or c.args.found.now.laid.first_weight.now j (pos 0) in
-    let w2 = get_or c.args.found.now.laid.second_weight.now j (pos 0) in
-    let f1 : FitsSigned w32 w1 = first_fits c.requires.sized j p in
-    let f2 : FitsSigned w32 w2 = second_fits c.requires.sized j p in
-    let first = simp to_z-of_z at c.weights_of-weights.ensures.first in
-    let second = simp to_z-of_z at c.weights_of-weights.ensures.second in
-    same_row (sym c.vector-way.ensures) (sym first) (sym second) (sym c.get.ensures) (c.requires.tried.each j p flag)
+    let weights = weights_told c.requires.sized j p c.weights_of-weights.ensures.first c.weights_of-weights.ensures.second in
+    same_row (sym c.vector-way.ensures) (sym weights.0) (sym weights.1) (sym c.get.ensures) (c.requires.tried.each j p flag)
+
+pub moves_of-requires-clause-weights : goal.moves_of-requires-clause-weights
+moves_of-requires-clause-weights c = weights_sized c.requires.sized c.loop-j.j (omega arith) c.weights_of-weights.ensures.first
+    c.weights_of-weights.ensures.second
 
 pub moves_of-requires-clause-way : goal.moves_of-requires-clause-way
 moves_of-requires-clause-way c = subst (λ (v : Vec3). Within (2 ^ 30) v) (sym c.vector-way.ensures)
@@ -35,14 +33,9 @@ pub loop-j-preserved : goal.loop-j-preserved
 loop-j-preserved c =
     let j = c.loop-j.j in
     let p : j < length c.args.found.now.chunk.numbers.now = omega arith in
-    let w1 = get_or c.args.found.now.laid.first_weight.now j (pos 0) in
-    let w2 = get_or c.args.found.now.laid.second_weight.now j (pos 0) in
-    let f1 : FitsSigned w32 w1 = first_fits c.requires.sized j p in
-    let f2 : FitsSigned w32 w2 = second_fits c.requires.sized j p in
-    let first = simp to_z-of_z at c.weights_of-weights.ensures.first in
-    let second = simp to_z-of_z at c.weights_of-weights.ensures.second in
+    let weights = weights_told c.requires.sized j p c.weights_of-weights.ensures.first c.weights_of-weights.ensures.second in
     filled_more c.moves_of.result (omega (arith, c.requires.known.few))
-    (same_exact c.vector-way.ensures first second c.get.ensures c.moves_of.ensures) c.loop-j.invariant
+    (same_exact c.vector-way.ensures weights.0 weights.1 c.get.ensures c.moves_of.ensures) c.loop-j.invariant
 
 pub returns : goal.returns
 returns c = record { whole = c.loop-j.invariant.whole; each = λ j p. c.loop-j.invariant.below j (omega arith) }

@@ -1,4 +1,5 @@
 use Rattle.std.proofs.Common.{ℕ, ap, sym, ◌∙◌, arith, Err}
+use Rattle.pbd_pair.proofs.Asked.{asked}
 use Rattle.pbd_pair.proofs.Chunks.{known_bonds}
 use Rattle.pbd_pair.proofs.Settled.{apart_asked, are_moves, exact_done, exact_leaves, pairs_asked, sized_asked}
 use Rattle.pbd_pair.proofs.slow.project_exactly.Goals as goal
@@ -16,16 +17,8 @@ pub move_each-requires : goal.move_each-requires
 move_each-requires g c =
     let can = c.requires.can in
     let found = c.requires.found in
-    let exact = c.exact_each.ensures in (
-      omega arith,
-      (
-        c.requires.some_lanes,
-        (
-          c.requires.lanes,
-          (pairs_asked can found, (apart_asked can found, (can.inside, are_moves can found exact))),
-        ),
-      ),
-    )
+    asked (omega arith) c.requires.some_lanes c.requires.lanes (pairs_asked can found)
+    (apart_asked can found, (can.inside, are_moves can found c.exact_each.ensures))
 
 pub returns-in-Err-clause-outcome : goal.returns-in-Err-clause-outcome
 returns-in-Err-clause-outcome g c =

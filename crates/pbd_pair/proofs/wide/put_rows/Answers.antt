@@ -1,8 +1,7 @@
-use Rattle.std.proofs.Common.{◌<◌, length, pos, get_or, arith, rules, refl, w32, FitsSigned}
-use Rattle.std.proofs.lemmas.Int.{to_z-of_z}
+use Rattle.std.proofs.Common.{◌<◌, length, arith, rules, refl}
 use Rattle.std.proofs.lemmas.Bool.{and_parts}
 use Rattle.pbd_near.proofs.Rows.{no_flag}
-use Rattle.pbd_pair.proofs.Chunks.{first_fits, second_fits}
+use Rattle.pbd_pair.proofs.Chunks.{weights_sized, weights_told}
 use Rattle.pbd_pair.proofs.Filling.{filled_as, filled_none, filled_more}
 use Rattle.pbd_pair.proofs.WideRows.{rows_tried, same_row}
 use Rattle.pbd_pair.proofs.wide.put_rows.Goals as goal
@@ -14,20 +13,19 @@ pub loop-j-preserved : goal.loop-j-preserved
 loop-j-preserved c =
     let j = c.loop-j.j in
     let p : j < length c.args.found.now.chunk.numbers.now = omega arith in
-    let w1 = get_or c.args.found.now.laid.first_weight.now j (pos 0) in
-    let w2 = get_or c.args.found.now.laid.second_weight.now j (pos 0) in
-    let f1 : FitsSigned w32 w1 = first_fits c.requires.sized j p in
-    let f2 : FitsSigned w32 w2 = second_fits c.requires.sized j p in
-    let first = simp to_z-of_z at c.weights_of-weights.ensures.first in
-    let second = simp to_z-of_z at c.weights_of-weights.ensures.second in
+    let weights = weights_told c.requires.sized j p c.weights_of-weights.ensures.first c.weights_of-weights.ensures.second in
     let row = c.wide_row-row.ensures in
     filled_more c.wide_row-row.result (omega (arith, c.requires.known.few)) (record {
-      near = λ f. same_row c.vector.ensures first second refl (row.near _ (c.requires.drawn.each j p).value f);
+      near = λ f. same_row c.vector.ensures weights.0 weights.1 refl (row.near _ (c.requires.drawn.each j p).value f);
       flag = λ t. no_flag c.wide_row-row.result.flag row.flag (and_parts _ _ t).1;
     }) (filled_as c.loop-j.invariant (λ i r h. record { near = h.near; flag = λ t. h.flag (and_parts _ _ t).0 }))
 
 pub wide_row-row-requires-clause-draw : goal.wide_row-row-requires-clause-draw
 wide_row-row-requires-clause-draw c = (c.requires.drawn.each c.loop-j.j (omega arith)).mild
+
+pub wide_row-row-requires-clause-weights : goal.wide_row-row-requires-clause-weights
+wide_row-row-requires-clause-weights c = weights_sized c.requires.sized c.loop-j.j (omega arith) c.weights_of-weights.ensures.first
+    c.weights_of-weights.ensures.second
 
 pub returns-clause-tried : goal.returns-clause-tried
 returns-clause-tried c = rows_tried c.requires.known.few (omega arith) c.loop-j.invariant

@@ -1,9 +1,7 @@
-use Rattle.std.proofs.Common.{◌<◌, length, arith, rules, refl, w32, FitsSigned}
-use Rattle.std.proofs.lemmas.Int.{to_z-of_z}
+use Rattle.std.proofs.Common.{◌<◌, length, arith, rules, refl}
 use Rattle.std.proofs.lemmas.Bool.{and_parts}
 use Rattle.pbd_near.proofs.Rows.{no_flag}
-use Rattle.pbd_pair.specs.Laid.{number_in}
-use Rattle.pbd_pair.proofs.Chunks.{first_fits, second_fits}
+use Rattle.pbd_pair.proofs.Chunks.{weights_sized, weights_told}
 use Rattle.pbd_pair.proofs.Filling.{filled_as, filled_none, filled_more}
 use Rattle.pbd_pair.proofs.WideRows.{drawn_in_columns, rows_tried, same_row}
 use Rattle.pbd_pair.proofs.wide.put_short_rows.Goals as goal
@@ -17,6 +15,10 @@ wide_row-row-requires-clause-draw c =
     (drawn_in_columns c.requires.known c.requires.columns c.loop-j.j (omega arith) weights.first weights.second
     c.are_contacts-contact.ensures c.short_draw-draw.ensures).mild
 
+pub wide_row-row-requires-clause-weights : goal.wide_row-row-requires-clause-weights
+wide_row-row-requires-clause-weights c = weights_sized c.requires.columns.sized c.loop-j.j (omega arith) c.weights_of-weights.ensures.first
+    c.weights_of-weights.ensures.second
+
 pub loop-j-preserved : goal.loop-j-preserved
 loop-j-preserved c =
     let j = c.loop-j.j in
@@ -26,13 +28,10 @@ loop-j-preserved c =
     let weights = c.weights_of-weights.ensures in
     let draw = drawn_in_columns c.requires.known columns j p weights.first weights.second c.are_contacts-contact.ensures
     c.short_draw-draw.ensures in
-    let f1 : FitsSigned w32 (number_in found.laid.first_weight.now j) = first_fits columns.sized j p in
-    let f2 : FitsSigned w32 (number_in found.laid.second_weight.now j) = second_fits columns.sized j p in
-    let first = simp to_z-of_z at weights.first in
-    let second = simp to_z-of_z at weights.second in
+    let told = weights_told columns.sized j p weights.first weights.second in
     let row = c.wide_row-row.ensures in
     filled_more c.wide_row-row.result (omega (arith, c.requires.known.few)) (record {
-      near = λ f. same_row c.vector.ensures first second refl (row.near _ draw.value f);
+      near = λ f. same_row c.vector.ensures told.0 told.1 refl (row.near _ draw.value f);
       flag = λ t. no_flag c.wide_row-row.result.flag row.flag (and_parts _ _ t).1;
     }) (filled_as c.loop-j.invariant (λ i r h. record { near = h.near; flag = λ t. h.flag (and_parts _ _ t).0 }))
 

@@ -21,7 +21,7 @@ returns-clause-near c = λ b drawn flag.
     let held = simp to_z-of_z at c.free_move-axes.ensures.held in
     let value = c.row_of.ensures.value flag in
     let exact = c.row_of.ensures.exact flag in
-    wide_near first second c.row_of.result m.first m.second c.requires.first_low c.requires.second_low tried.first_held tried.second_held
+    wide_near first second c.row_of.result m.first m.second c.requires.weights.first_low c.requires.weights.second_low tried.first_held tried.second_held
     tried.opposed
     (λ h. value ∙ free h) (λ h. value ∙ held h) way b m.length (length_below way c.requires.way) (tried.length exact)
     (subst (λ (d : Draw). m.length <ℤ d.reach → both ≡ pair_moves way zero_vector d.rest d.k first second) drawn (tried.moves exact))

@@ -5,8 +5,9 @@ use Rattle.pbd_num.specs.declared.row.Row.{Row}
 use Rattle.pbd_world.specs.Particles.{particle_at}
 use Rattle.pbd_store.specs.Gathering.{index_at}
 use Rattle.pbd_pair.specs.Laid.{Lists}
-use Rattle.pbd_pair.proofs.Chunks.{are_pairs, ends_kept, known_bonds, laid_factor, laid_first, laid_pairs, laid_portion, laid_rest, laid_second}
-use Rattle.pbd_pair.proofs.Chunks.{laid_stiffness, lie_between, numbers_laid, taken_first, taken_second, ways_of, weighed}
+use Rattle.pbd_pair.proofs.Asked.{asked}
+use Rattle.pbd_pair.proofs.Chunks.{are_pairs, ends_kept, is_found, known_bonds, laid_first, laid_second, numbers_laid, taken_first, taken_second}
+use Rattle.pbd_pair.proofs.Chunks.{ways_of, weighed}
 use Rattle.pbd_pair.proofs.desk.Desk.project_numbers.Goals as goal
 
 pub take_ends-requires : goal.take_ends-requires
@@ -15,19 +16,10 @@ take_ends-requires g c = known_bonds c.requires.can
 pub between-requires : goal.between-requires
 between-requires g c =
     let pairs = are_pairs c.requires.can c.take_ends.new.self c.pairs-ends.result c.take_ends.ensures c.pairs-ends.ensures.first
-    c.pairs-ends.ensures.second in (
-      omega arith,
-      (
-        c.requires.some_lanes,
-        (
-          c.requires.lanes,
-          (
-            subst (λ (n : ℕ). ArePairs n (length c.args.store.now.particles) c.pairs-ends.result) (sym pairs.first_long) pairs,
-            c.requires.can.inside,
-          ),
-        ),
-      ),
-    )
+    c.pairs-ends.ensures.second in
+    asked (omega arith) c.requires.some_lanes c.requires.lanes
+    (subst (λ (n : ℕ). ArePairs n (length c.args.store.now.particles) c.pairs-ends.result) (sym pairs.first_long) pairs)
+    c.requires.can.inside
 
 pub lay-requires-clause-known : goal.lay-requires-clause-known
 lay-requires-clause-known g c = known_bonds c.requires.can
@@ -63,40 +55,11 @@ project-requires g c =
     let seconds = c.rows-rows.ensures.second ∙ sym (ap (λ (ls : Lists). ls.second) c.rows-rows.ensures.laid) in
     let ways = subst (λ (rows : List Row). (j : ℕ) → j < length c.args.chunk.numbers.now → IsWay (row_in rows j)
     (particle_at c.args.store.now.particles (index_at c.pairs-ends.result.first.now j)).at
-    (particle_at c.args.store.now.particles (index_at c.pairs-ends.result.second.now j)).at) (sym c.rows-rows.ensures.ways) told.ways in (
-      omega arith,
-      (
-        c.requires.some_lanes,
-        (
-          c.requires.lanes,
-          (
-            can,
-            record {
-              first = laid_first can laid c.rows-rows.result.pairs firsts seconds;
-              second = laid_second can laid c.rows-rows.result.pairs firsts seconds;
-              pairs = laid_pairs can laid c.rows-rows.result.pairs firsts seconds;
-              between = lie_between can laid c.rows-rows.result.pairs firsts seconds
-                  (ways_of can c.rows-rows.result.ways.now c.pairs-ends.result.first.now c.pairs-ends.result.second.now
-                  c.rows-rows.result.pairs.first.now c.rows-rows.result.pairs.second.now ways is_first is_second
-                  (laid_first can laid c.rows-rows.result.pairs firsts seconds)
-                  (laid_second can laid c.rows-rows.result.pairs firsts seconds));
-              rest_long = omega (arith, laid.exact, laid.laid.even.rest);
-              factor_long = laid.laid.even.factor ∙ laid.exact;
-              first_long = laid.laid.even.first_weight ∙ laid.exact;
-              second_long = laid.laid.even.second_weight ∙ laid.exact;
-              rest = laid_rest can laid;
-              factor = laid_factor can laid;
-              stiff = record {
-                stiffness_long = laid.laid.even.stiffness ∙ laid.exact;
-                portion_long = laid.laid.even.portion ∙ laid.exact;
-                stiffness = laid_stiffness can laid;
-                portion = laid_portion can laid;
-              };
-            },
-          ),
-        ),
-      ),
-    )
+    (particle_at c.args.store.now.particles (index_at c.pairs-ends.result.second.now j)).at) (sym c.rows-rows.ensures.ways) told.ways in
+    asked (omega arith) c.requires.some_lanes c.requires.lanes can
+    (is_found can laid firsts seconds (ways_of can c.rows-rows.result.ways.now c.pairs-ends.result.first.now c.pairs-ends.result.second.now
+    c.rows-rows.result.pairs.first.now c.rows-rows.result.pairs.second.now ways is_first is_second
+    (laid_first can laid c.rows-rows.result.pairs firsts seconds) (laid_second can laid c.rows-rows.result.pairs firsts seconds)))
 
 pub returns-clause-cost : goal.returns-clause-cost
 returns-clause-cost g c =

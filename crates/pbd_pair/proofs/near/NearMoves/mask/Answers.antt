@@ -1,5 +1,5 @@
-use Rattle.std.proofs.Common.{◌≡◌, ◌<◌, pos, ◌+◌, ◌*◌, ◌^◌, List, length, refl, ap, sym, ◌∙◌, add-one, arith, rules, subst, get_or, w32}
-use Rattle.std.proofs.Common.{FitsSigned}
+use Rattle.std.proofs.Common.{◌≡◌, ℕ, ℤ, ◌<◌, ◌+◌, ◌*◌, ◌^◌, List, length, refl, ap, sym, ◌∙◌, add-one, arith, rules, subst, to_z, of_z}
+use Rattle.std.proofs.Common.{w32, FitsSigned}
 use Rattle.std.proofs.lemmas.Int.{to_z-of_z}
 use Rattle.pbd_num.specs.declared.Vec3.{Vec3}
 use Rattle.pbd_num.specs.declared.row.Row.{Row}
@@ -8,6 +8,7 @@ use Rattle.pbd_num.specs.Vectors.{Within, plus, opposite}
 use Rattle.pbd_num.proofs.Ranges.{wider}
 use Rattle.pbd_store.specs.Pairs.{row_in}
 use Rattle.pbd_pair.specs.Moves.{moved_below}
+use Rattle.pbd_pair.specs.Laid.{number_in}
 use Rattle.pbd_pair.specs.Chunks.{kept_by}
 use Rattle.pbd_pair.proofs.Chunks.{first_fits, second_fits}
 use Rattle.pbd_pair.proofs.Filling.{filled_none, filled_more}
@@ -27,21 +28,23 @@ loop-j-init c = record {
 pub with_rows-pins-requires-clause-sum : goal.with_rows-pins-requires-clause-sum
 with_rows-pins-requires-clause-sum c = wider _ (c.loop-j.j * 2 ^ 23) (2 ^ 30) (omega (arith, c.requires.few)) c.loop-j.invariant.size
 
+-- what an end keeps of a row, by the word of its weight
+kept_told : {w : ℤ} {rows moves : List Row} (j : ℕ) {kept : Row} → FitsSigned w32 w
+    → kept ≡ kept_by (to_z w32 (of_z w32 w)) (row_in rows j) → rows ≡ moves → kept ≡ kept_by w (row_in moves j)
+kept_told {w} {rows} {moves} j fits is same =
+    is ∙ (λ i. kept_by (to_z-of_z w32 w fits i) (row_in (same i) j))
+
 pub with_rows-pins-requires-clause-back : goal.with_rows-pins-requires-clause-back
 with_rows-pins-requires-clause-back c =
     let j = c.loop-j.j in
-    let w = get_or c.args.found.now.laid.first_weight.now j (pos 0) in
-    let f : FitsSigned w32 w = first_fits c.requires.sized j (omega arith) in
-    let is = (simp to_z-of_z at c.kept-back.ensures) ∙ ap (λ (rows : List Row). kept_by w (row_in rows j)) c.loop-j.invariant.same in
-    kept_short w (row_in c.args.self.now.moves j) is (c.requires.short j (omega arith))
+    let is = kept_told j (first_fits c.requires.sized j (omega arith)) c.kept-back.ensures c.loop-j.invariant.same in
+    kept_short (number_in c.args.found.now.laid.first_weight.now j) (row_in c.args.self.now.moves j) is (c.requires.short j (omega arith))
 
 pub with_rows-pins-requires-clause-forth : goal.with_rows-pins-requires-clause-forth
 with_rows-pins-requires-clause-forth c =
     let j = c.loop-j.j in
-    let w = get_or c.args.found.now.laid.second_weight.now j (pos 0) in
-    let f : FitsSigned w32 w = second_fits c.requires.sized j (omega arith) in
-    let is = (simp to_z-of_z at c.kept-forth.ensures) ∙ ap (λ (rows : List Row). kept_by w (row_in rows j)) c.loop-j.invariant.same in
-    kept_short w (row_in c.args.self.now.moves j) is (c.requires.short j (omega arith))
+    let is = kept_told j (second_fits c.requires.sized j (omega arith)) c.kept-forth.ensures c.loop-j.invariant.same in
+    kept_short (number_in c.args.found.now.laid.second_weight.now j) (row_in c.args.self.now.moves j) is (c.requires.short j (omega arith))
 
 pub loop-j-preserved : goal.loop-j-preserved
 loop-j-preserved c =
@@ -51,14 +54,10 @@ loop-j-preserved c =
     let room : j < 128 = omega (arith, c.requires.few) in
     let laid = c.args.found.now.laid in
     let moves = c.args.self.now.moves in
-    let w1 = get_or laid.first_weight.now j (pos 0) in
-    let w2 = get_or laid.second_weight.now j (pos 0) in
-    let f1 : FitsSigned w32 w1 = first_fits c.requires.sized j p in
-    let f2 : FitsSigned w32 w2 = second_fits c.requires.sized j p in
-    let back = (simp to_z-of_z at c.kept-back.ensures) ∙ ap (λ (rows : List Row). kept_by w1 (row_in rows j)) inv.same in
-    let forth = (simp to_z-of_z at c.kept-forth.ensures) ∙ ap (λ (rows : List Row). kept_by w2 (row_in rows j)) inv.same in
-    let back_size = kept_short w1 (row_in moves j) back (c.requires.short j p) in
-    let forth_size = kept_short w2 (row_in moves j) forth (c.requires.short j p) in
+    let back = kept_told j (first_fits c.requires.sized j p) c.kept-back.ensures inv.same in
+    let forth = kept_told j (second_fits c.requires.sized j p) c.kept-forth.ensures inv.same in
+    let back_size = kept_short (number_in laid.first_weight.now j) (row_in moves j) back (c.requires.short j p) in
+    let forth_size = kept_short (number_in laid.second_weight.now j) (row_in moves j) forth (c.requires.short j p) in
     record {
       same = inv.same;
       back = filled_more c.kept-back.result room back inv.back;

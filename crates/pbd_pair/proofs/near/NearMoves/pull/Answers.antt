@@ -1,61 +1,46 @@
-use Rattle.std.proofs.Common.{ℕ, length, ap, sym, ◌∙◌, arith, Err, w32, FitsSigned}
-use Rattle.std.proofs.lemmas.Int.{to_z-of_z}
-use Rattle.pbd_num.proofs.Tests.{less}
+use Rattle.std.proofs.Common.{ℕ, ap, sym, ◌∙◌, arith, Err}
 use Rattle.pbd_world.specs.Ledger.{ledger_of, added}
 use Rattle.pbd_world.specs.declared.totals.Class.TheVariants as classes
 use Rattle.pbd_world.proofs.Rooms.{room_at}
 use Rattle.pbd_pair.specs.Chunks.{lying_in}
-use Rattle.pbd_pair.proofs.Settled.{apart_asked, back_short, forth_short, free_masked, moved_leaves, near_done, near_moved}
-use Rattle.pbd_pair.proofs.Settled.{nothing_booked, pairs_asked, sized_asked, weighed_asked}
+use Rattle.pbd_pair.proofs.Asked.{asked}
+use Rattle.pbd_pair.proofs.Settled.{above_zero, apart_asked, back_short, forth_short, free_done, free_masked, moved_leaves, near_done, near_moved}
+use Rattle.pbd_pair.proofs.Settled.{pairs_asked, sized_asked, weighed_asked}
 use Rattle.pbd_pair.proofs.near.NearMoves.pull.Goals as goal
 
 pub pull-requires : goal.pull-requires
 pull-requires g c =
     let can = c.requires.can in
     let found = c.requires.found in
-    let fits : FitsSigned w32 c.least_weight-least.result = record { sfits = c.least_weight-least.type_inv } in
-    let some = less _ _ (simp to_z-of_z at c.if-free.true) in
-    let masked = free_masked (lying_in c.args.found.now) c.args.self.now.moves c.requires.near.long c.requires.found.first_long some
-    c.least_weight-least.ensures.first c.least_weight-least.ensures.second in
-    let back = back_short can found (near_moved can found c.requires.near masked) in
-    let forth = forth_short can found (near_moved can found c.requires.near masked) in (
-      omega arith,
-      (
-        c.requires.some_lanes,
-        (
-          c.requires.lanes,
-          (pairs_asked can found, (apart_asked can found, (can.inside, (back, forth)))),
-        ),
-      ),
-    )
+    let masked = free_masked (lying_in c.args.found.now) c.args.self.now.moves c.requires.near.long c.requires.found.first_long
+    (above_zero (record { sfits = c.least_weight-least.type_inv }) c.if-free.true) c.least_weight-least.ensures.first
+    c.least_weight-least.ensures.second in
+    let moved = near_moved can found c.requires.near masked in
+    asked (omega arith) c.requires.some_lanes c.requires.lanes (pairs_asked can found)
+    (apart_asked can found, (can.inside, (back_short can found moved, forth_short can found moved)))
 
 pub returns-in-Err-clause-outcome : goal.returns-in-Err-clause-outcome
 returns-in-Err-clause-outcome g c =
-    let fits : FitsSigned w32 c.least_weight-least.result = record { sfits = c.least_weight-least.type_inv } in
-    let some = less _ _ (simp to_z-of_z at c.if-free.true) in
-    let masked = free_masked (lying_in c.args.found.now) c.args.self.now.moves c.requires.near.long c.requires.found.first_long some
-    c.least_weight-least.ensures.first c.least_weight-least.ensures.second in
+    let masked = free_masked (lying_in c.args.found.now) c.args.self.now.moves c.requires.near.long c.requires.found.first_long
+    (above_zero (record { sfits = c.least_weight-least.type_inv }) c.if-free.true) c.least_weight-least.ensures.first
+    c.least_weight-least.ensures.second in
     moved_leaves c.requires.can c.requires.found (near_moved c.requires.can c.requires.found c.requires.near masked)
     c.in-Err.ensures.outcome ∙ ap (λ (n : ℕ). Err n) (sym c.left_at.ensures)
 
 pub returns-then-free-clause-outcome : goal.returns-then-free-clause-outcome
 returns-then-free-clause-outcome g c =
-    let fits : FitsSigned w32 c.least_weight-least.result = record { sfits = c.least_weight-least.type_inv } in
-    let some = less _ _ (simp to_z-of_z at c.if-free.true) in
-    let masked = free_masked (lying_in c.args.found.now) c.args.self.now.moves c.requires.near.long c.requires.found.first_long some
-    c.least_weight-least.ensures.first c.least_weight-least.ensures.second in
-    let books = nothing_booked (ledger_of c.args.totals.now) c.args.self.now.moves (length c.args.found.now.chunk.numbers.now) in
-    (near_done c.requires.can c.requires.found c.requires.near masked c.in_default.ensures.outcome books).outcome
+    let masked = free_masked (lying_in c.args.found.now) c.args.self.now.moves c.requires.near.long c.requires.found.first_long
+    (above_zero (record { sfits = c.least_weight-least.type_inv }) c.if-free.true) c.least_weight-least.ensures.first
+    c.least_weight-least.ensures.second in
+    (free_done c.requires.can c.requires.found c.requires.near masked c.in_default.ensures.outcome).outcome
 
 pub returns-then-free-clause-sound : goal.returns-then-free-clause-sound
 returns-then-free-clause-sound g c =
-    let fits : FitsSigned w32 c.least_weight-least.result = record { sfits = c.least_weight-least.type_inv } in
-    let some = less _ _ (simp to_z-of_z at c.if-free.true) in
-    let masked = free_masked (lying_in c.args.found.now) c.args.self.now.moves c.requires.near.long c.requires.found.first_long some
-    c.least_weight-least.ensures.first c.least_weight-least.ensures.second in
-    let books = nothing_booked (ledger_of c.args.totals.now) c.args.self.now.moves (length c.args.found.now.chunk.numbers.now) in
+    let masked = free_masked (lying_in c.args.found.now) c.args.self.now.moves c.requires.near.long c.requires.found.first_long
+    (above_zero (record { sfits = c.least_weight-least.type_inv }) c.if-free.true) c.least_weight-least.ensures.first
+    c.least_weight-least.ensures.second in
     record {
-      inside = (near_done c.requires.can c.requires.found c.requires.near masked c.in_default.ensures.outcome books).inside;
+      inside = (free_done c.requires.can c.requires.found c.requires.near masked c.in_default.ensures.outcome).inside;
       room = λ n h. room_at _ (omega arith) h;
     }
 
@@ -66,17 +51,9 @@ pub pull-requires-2 : goal.pull-requires-2
 pull-requires-2 g c =
     let can = c.requires.can in
     let found = c.requires.found in
-    let back = back_short can found (near_moved can found c.requires.near c.mask-pins.ensures.masked) in
-    let forth = forth_short can found (near_moved can found c.requires.near c.mask-pins.ensures.masked) in (
-      omega arith,
-      (
-        c.requires.some_lanes,
-        (
-          c.requires.lanes,
-          (pairs_asked can found, (apart_asked can found, (can.inside, (back, forth)))),
-        ),
-      ),
-    )
+    let moved = near_moved can found c.requires.near c.mask-pins.ensures.masked in
+    asked (omega arith) c.requires.some_lanes c.requires.lanes (pairs_asked can found)
+    (apart_asked can found, (can.inside, (back_short can found moved, forth_short can found moved)))
 
 pub returns-in-Err-pull-clause-outcome : goal.returns-in-Err-pull-clause-outcome
 returns-in-Err-pull-clause-outcome g c =

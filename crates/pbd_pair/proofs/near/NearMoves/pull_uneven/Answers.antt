@@ -1,6 +1,7 @@
 use Rattle.std.proofs.Common.{ℕ, ◌^◌, ap, sym, ◌∙◌, arith, Err}
 use Rattle.pbd_world.specs.Ledger.{Ledger, ledger_of, added}
 use Rattle.pbd_world.proofs.Rooms.{room_at}
+use Rattle.pbd_pair.proofs.Asked.{asked}
 use Rattle.pbd_pair.proofs.Settled.{apart_asked, back_short, forth_short, moved_books, moved_done, moved_leaves, pairs_asked, sized_asked}
 use Rattle.pbd_pair.proofs.near.NearMoves.pull_uneven.Goals as goal
 
@@ -17,17 +18,9 @@ pub pull-requires : goal.pull-requires
 pull-requires g c =
     let can = c.requires.can in
     let found = c.requires.found in
-    let back = back_short can found c.requires.moved in
-    let forth = forth_short can found c.requires.moved in (
-      omega arith,
-      (
-        c.requires.some_lanes,
-        (
-          c.requires.lanes,
-          (pairs_asked can found, (apart_asked can found, (can.inside, (back, forth)))),
-        ),
-      ),
-    )
+    let moved = c.requires.moved in
+    asked (omega arith) c.requires.some_lanes c.requires.lanes (pairs_asked can found)
+    (apart_asked can found, (can.inside, (back_short can found moved, forth_short can found moved)))
 
 pub returns-in-Err-clause-outcome : goal.returns-in-Err-clause-outcome
 returns-in-Err-clause-outcome g c =

@@ -7,7 +7,7 @@ use Rattle.pbd_pair.proofs.uneven.Portion.other.Goals as goal
 pub returns-clause-value : goal.returns-clause-value
 returns-clause-value c = λ small is.
     let p = c.requires.portion in
-    let n = c.args.drawn in
+    let n = c.args.pulled in
     let q = c.args.share in
     let left_for = c.left_for_both-both.result in
     let result : FitsSigned w32 c.lowered.result = record { sfits = c.lowered.type_inv } in
@@ -17,7 +17,7 @@ returns-clause-value c = λ small is.
     let both_is : left_for ≡ pos both = c.left_for_both-both.ensures.value ∙ omega (arith, ints, low) in
     let whole_is : shr_z left_for 256 ≡ pos (both / 256) = ap (λ z. shr_z z 256) both_is in
     let fits : FitsSigned w32 (shr_z left_for 256) = subst (λ (z : ℤ). FitsSigned w32 z) (sym whole_is)
-    (fits_signed_from_abs w32 (pos (both / 256)) (omega (arith, c.requires.drawn))) in
+    (fits_signed_from_abs w32 (pos (both / 256)) (omega (arith, c.requires.pulled))) in
     let rest = simp to_z-of_z at c.low8.ensures.rest in
     let rest_is : c.low8.result ≡ both % 256 = rest (omega (arith, ints, both_is)) ∙ ap (λ z. unsigned_abs z % 256) both_is in
     let lower = simp to_z-of_z at c.lowered.ensures.lower in
