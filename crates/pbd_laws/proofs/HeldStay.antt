@@ -1,16 +1,14 @@
 -- A held particle without a track keeps its place.
 use Rattle.std.proofs.Common.{◌≡◌, ◌≢◌, refl, sym, ap, ◌∙◌, ℕ, zero, suc, ◌+◌, ◌<◌, Bool, true, false, not, ◌&&◌, ◌||◌, List, [], ◌∷◌}
-use Rattle.std.proofs.Common.{length, map, get_or, All, arith, ℤ, pos, inl, inr, subst, unsigned_abs}
+use Rattle.std.proofs.Common.{length, map, get_or, All, arith, ℤ, pos, inl, inr, subst}
 use Rattle.std.specs.Prelude.{Option, Some, None, IfSome, Result, Ok, Err, IfOk, if◌then◌else◌, ◌==◌, option_map}
 use Rattle.std.specs.List.{AllByRecursion, AllZip, zip, find}
-use Rattle.std.proofs.lemmas.Bool.{cases_eq, cases_lt, false≢true}
+use Rattle.std.proofs.lemmas.Bool.{cases_eq, false≢true}
 use Rattle.std.proofs.lemmas.List.{get_or-set_same, get_or-set_other}
 use Rattle.std.proofs.lemmas.List.Elements.{All-head, All-tail}
 use Rattle.pbd_num.specs.declared.Vec3.{Vec3}
-use Rattle.pbd_num.specs.Vectors.{minus, plus, opposite, zero_vector, length_of, is_within}
-use Rattle.pbd_num.specs.PairMove.{share_of, corrections, pair_moves}
-use Rattle.pbd_num.proofs.Signs.{share_none}
-use Rattle.pbd_num.proofs.Lengths.{pair_moves-none, pair_moves-some}
+use Rattle.pbd_num.specs.Vectors.{plus, is_within}
+use Rattle.pbd_num.specs.PairMove.{pair_moves}
 use Rattle.pbd_num.proofs.VectorSizes.{plus_nothing}
 use Rattle.pbd_world.specs.declared.parts.Particle.{Particle}
 use Rattle.pbd_world.specs.declared.parts.Track.{Track}
@@ -31,7 +29,7 @@ use Rattle.pbd_world.specs.Step.{contact_part, all_shaped, shape_part, leaves, p
 use Rattle.pbd_world.specs.Meaning.{refusals, run_steps, steps_of, meaning, after}
 use Rattle.pbd_world.specs.Session.{last_world}
 use Rattle.pbd_world.proofs.KeepingOn.{bind-keeps, fault-keeps, turn-keeps, repeat-keeps, each-keeps, length-mapped, length-zipped, zip-map}
-use Rattle.pbd_world.proofs.KeptLemmas.{zip_at}
+use Rattle.pbd_world.proofs.KeptLemmas.{zip_at, held_first, held_second}
 use Rattle.pbd_world.proofs.CommandBalance.{unless-keeps}
 use Rattle.pbd_laws.specs.Targets.{Target, target}
 use Rattle.pbd_laws.specs.Targets.Target.{OneParticle, OneLink, TheGravity}
@@ -41,37 +39,6 @@ use Rattle.pbd_world.proofs.PredictGoes.{untracked}
 
 -- ---- a bond doesn't move a held end
 
-no_shares : (s : Vec3) (k : ℤ) (total : ℕ) → 0 < total
-    → (let v : Vec3 = record { x = share_of s.x k (pos 0) total; y = share_of s.y k (pos 0) total; z = share_of s.z k (pos 0) total } in v)
-    ≡ zero_vector
-no_shares s k total some = λ i. record {
-  x = share_none s.x k total some i;
-  y = share_none s.y k total some i;
-  z = share_none s.z k total some i;
-}
-
-first_held : (a b : Vec3) (rest k w : ℤ) → (pair_moves a b rest k (pos 0) w).0 ≡ zero_vector
-first_held a b rest k w = elim (cases_lt 0 (length_of (minus a b))) [
-  | inl far ↦ elim (cases_lt 0 (unsigned_abs (pos 0) + unsigned_abs w)) [
-    | inl heavy ↦
-        ap (λ (m : Vec3 × Vec3). m.0) (pair_moves-some a b rest k (pos 0) w far heavy)
-        ∙ ap opposite (no_shares (corrections (minus a b) rest) k (unsigned_abs (pos 0) + unsigned_abs w) heavy)
-    | inr light ↦ ap (λ (m : Vec3 × Vec3). m.0) (pair_moves-none a b rest k (pos 0) w (inr (omega (arith, light))))
-  ]
-  | inr near ↦ ap (λ (m : Vec3 × Vec3). m.0) (pair_moves-none a b rest k (pos 0) w (inl (omega (arith, near))))
-]
-
-second_held : (a b : Vec3) (rest k w : ℤ) → (pair_moves a b rest k w (pos 0)).1 ≡ zero_vector
-second_held a b rest k w = elim (cases_lt 0 (length_of (minus a b))) [
-  | inl far ↦ elim (cases_lt 0 (unsigned_abs w + unsigned_abs (pos 0))) [
-    | inl heavy ↦
-        ap (λ (m : Vec3 × Vec3). m.1) (pair_moves-some a b rest k w (pos 0) far heavy)
-        ∙ no_shares (corrections (minus a b) rest) k (unsigned_abs w + unsigned_abs (pos 0)) heavy
-    | inr light ↦ ap (λ (m : Vec3 × Vec3). m.1) (pair_moves-none a b rest k w (pos 0) (inr (omega (arith, light))))
-  ]
-  | inr near ↦ ap (λ (m : Vec3 × Vec3). m.1) (pair_moves-none a b rest k w (pos 0) (inl (omega (arith, near))))
-]
-
 weighs_nothing : (p : Particle) → p.held ≡ true → effective_weight p ≡ 0
 weighs_nothing p e = ap (λ (b : Bool). if b then 0 else p.weight) e
 
@@ -79,13 +46,13 @@ first_stays : (p q : Particle) (bond : Bond) → p.held ≡ true → (shift_of (
 unfolding shift_of
 first_stays p q bond e =
     ap (λ n. plus p.at (pair_moves p.at q.at bond.rest bond.k (pos n) (pos (effective_weight q))).0) (weighs_nothing p e)
-    ∙ ap (plus p.at) (first_held p.at q.at bond.rest bond.k (pos (effective_weight q))) ∙ plus_nothing p.at
+    ∙ ap (plus p.at) (held_first p.at q.at bond.rest bond.k (pos (effective_weight q))) ∙ plus_nothing p.at
 
 second_stays : (p q : Particle) (bond : Bond) → q.held ≡ true → (shift_of (end_of p) (end_of q) bond).second ≡ q.at
 unfolding shift_of
 second_stays p q bond e =
     ap (λ n. plus q.at (pair_moves p.at q.at bond.rest bond.k (pos (effective_weight p)) (pos n)).1) (weighs_nothing q e)
-    ∙ ap (plus q.at) (second_held p.at q.at bond.rest bond.k (pos (effective_weight p))) ∙ plus_nothing q.at
+    ∙ ap (plus q.at) (held_second p.at q.at bond.rest bond.k (pos (effective_weight p))) ∙ plus_nothing q.at
 
 -- ---- particle i is p, which is held
 

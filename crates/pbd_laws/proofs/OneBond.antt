@@ -80,16 +80,17 @@ first_held_fair first second held free =
       high = λ s. omega (arith, ints, held_share s first total some held, (free_share s second total some all).1);
     }
 
+-- the two ends may be told in either order
+turned : (slack : ℕ) (first second : ℤ) (total : ℕ) → IsFair slack first second total → IsFair slack second first total
+turned slack first second total fair = record {
+  some = fair.some;
+  low = λ s. let low = fair.low s in omega (arith, ints, low);
+  high = λ s. let high = fair.high s in omega (arith, ints, high);
+}
+
 second_held_fair : (first second : ℤ) → second ≡ pos 0 → pos 0 <ℤ first → IsFair 0 first second (unsigned_abs first + unsigned_abs second)
-second_held_fair first second held free =
-    let total = unsigned_abs first + unsigned_abs second in
-    let some : 0 < total = omega (arith, positive_above first free) in
-    let all : first ≡ pos total = omega (arith, ints, positive_size first free, ap unsigned_abs held) in
-    record {
-      some = some;
-      low = λ s. omega (arith, ints, held_share s second total some held, (free_share s first total some all).0);
-      high = λ s. omega (arith, ints, held_share s second total some held, (free_share s first total some all).1);
-    }
+second_held_fair first second held free = subst (λ (total : ℕ). IsFair 0 first second total) (omega arith)
+    (turned 0 second first (unsigned_abs second + unsigned_abs first) (first_held_fair second first held free))
 
 -- ---- one axis
 

@@ -11,6 +11,7 @@ use Rattle.pbd_world.specs.declared.bond.Bond.{Bond}
 use Rattle.pbd_world.specs.declared.bond.End.{End}
 use Rattle.pbd_world.specs.declared.command.Command.TheVariants.{Cut, Move, Step}
 use Rattle.pbd_world.specs.Particles.{particle_at}
+use Rattle.pbd_world.specs.Valid.{no_parts}
 use Rattle.pbd_world.specs.World.{World, opened}
 use Rattle.pbd_world.specs.Bonds.{shift_of}
 use Rattle.pbd_world.specs.Shapes.{plane_shape, sphere_shape}
@@ -53,18 +54,8 @@ abbrev at : ℕ → ℕ → ℕ → Vec3
 at x y z = record { x = pos x; y = pos y; z = pos z }
 
 abbrev nailed : World
-nailed = opened (record {
+nailed = opened (record (no_parts (pos 536870912)) {
   particles = record { at = at 0 0 0; before = at 0 0 0; weight = 1; held = true } ∷ [];
-  links = [];
-  planes = [];
-  spheres = [];
-  tracks = [];
-  gravity = zero_vector;
-  passes = 1;
-  damping = pos 0;
-  thickness = pos 0;
-  friction = pos 0;
-  limit = pos 536870912;
 })
 
 -- the later one has its way

@@ -5,15 +5,9 @@ use Rattle.pbd_world.specs.declared.command.Refusal.{Refusal}
 use Rattle.pbd_world.specs.declared.command.Reply.{Reply}
 use Rattle.pbd_world.specs.declared.command.Reply.TheVariants as replies
 use Rattle.pbd_world.specs.Meaning.{meaning, done_or_refused}
-use Rattle.pbd_world.specs.World.{World, IsSound, AreOfOneScene}
+use Rattle.pbd_world.specs.World.{World}
 use Rattle.pbd_step.specs.Obeying.{Commanded}
-use Rattle.pbd_session.proofs.Running.{Does}
-
--- a command was done and answered as it is meant, and the world is sound and of the same scene
-pub record Applied (w v : World) (c : Command) (r : Reply) : Type 0 where
-  pub does : Does w v c r
-  pub sound : IsSound v
-  pub one_scene : AreOfOneScene w v
+use Rattle.pbd_session.specs.Applying.{Applied}
 
 -- a command that the solver did, whose outcome is told
 pub applied : {w v u : World} {c d : Command} {r : Result (Unit {0}) Refusal} {meant : Result World Refusal} {x : Reply}
@@ -26,10 +20,8 @@ applied {w} {v} {u} {c} {d} {r} {meant} {x} done is same seen told =
     -- the world and the reply that are meant
     as_meant : (s : Result World Refusal) → meant ≡ s → v ≡ (done_or_refused u s).0 → x ≡ (done_or_refused u s).1 → Applied u v d x
     as_meant s e there answer = record {
-      does = record {
-        world = there ∙ sym (ap (λ (p : World × Reply). p.0) is ∙ ap (λ (t : Result World Refusal). (done_or_refused u t).0) e);
-        reply = answer ∙ sym (ap (λ (p : World × Reply). p.1) is ∙ ap (λ (t : Result World Refusal). (done_or_refused u t).1) e);
-      };
+      world = there ∙ sym (ap (λ (p : World × Reply). p.0) is ∙ ap (λ (t : Result World Refusal). (done_or_refused u t).0) e);
+      reply = answer ∙ sym (ap (λ (p : World × Reply). p.1) is ∙ ap (λ (t : Result World Refusal). (done_or_refused u t).1) e);
       sound = done.sound;
       one_scene = done.one_scene;
     }

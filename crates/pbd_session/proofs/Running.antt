@@ -1,5 +1,5 @@
 -- A script's text, one command after another.
-use Rattle.std.proofs.Common.{◌≡◌, ◌∙◌, sym, refl, ℕ, ◌+◌, ◌<◌, ◌≤◌, List, [], ◌∷◌, ◌++◌, length, Option, arith, append_assoc, append-nil}
+use Rattle.std.proofs.Common.{◌≡◌, ◌∙◌, sym, refl, ℕ, ◌+◌, ◌<◌, ◌≤◌, ◌^◌, List, [], ◌∷◌, ◌++◌, length, Option, arith, append_assoc, append-nil}
 use Rattle.std.proofs.Common.{zero-add}
 use Rattle.std.specs.Prelude.{if◌then◌else◌}
 use Rattle.std.specs.Io.KnownBytes.{Appends}
@@ -40,6 +40,11 @@ counted_on start all w c cs refused counted = record {
   count = omega (arith, counted.count);
   few = omega (arith, counted.few, one_more (reply w c));
 }
+
+-- the refusals of a script fit 64 bits
+pub can_count : {start w : World} {all left : List Command} {refused : ℕ} (r : Reply) (more : ℕ) → Counted start all w left refused
+    → length all ≤ 2 ^ 31 + 1 → more ≡ (if is_refused r then 1 else 0) → refused + more < 2 ^ 64
+can_count r more counted short is = omega (arith, counted.few, short, is, one_more r)
 
 pub counted_all : (start : World) (all : List Command) (w : World) (refused : ℕ) → Counted start all w [] refused
     → refused ≡ refused_count start all

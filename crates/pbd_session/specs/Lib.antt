@@ -3,3 +3,4 @@ pub mod Recording
 pub mod Replaying
 pub mod Naming
 pub mod Lending
+pub mod Applying

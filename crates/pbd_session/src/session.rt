@@ -5,6 +5,7 @@ ghost use Rattle.pbd_world.specs.Meaning.{after, reply};
 ghost use Rattle.pbd_world.specs.Valid.{is_limit};
 ghost use Rattle.pbd_world.specs.Work.{command_work};
 ghost use Rattle.pbd_world.specs.World.{opened, IsSound, AreOfOneScene};
+ghost use Rattle.pbd_session.specs.Applying.{Applied};
 ghost use Rattle.pbd_session.specs.Lending.{LendsSolver};
 
 use pbd_pair::Projector;
@@ -71,17 +72,12 @@ impl<const L: usize, P: Projector<L> + Drop> Session<L, P> {
         reply
     }
 
-    /// Does a command. A refused command changes nothing.
+    /// What the solver does of a command, and the reply.
     #[tactic(auto, unfolding(pbd_world::specs::Meaning::meaning, pbd_world::specs::Work::command_work))]
-    pub fn apply<G: Ledger>(&mut self, command: &Command, steps: &mut Steps<G>) -> Reply
+    fn done<G: Ledger>(&mut self, command: &Command, steps: &mut Steps<G>) -> Reply
         requires lanes_low { 0 < L }
         requires lanes_high { L ≤ 16 }
-        ensures reply { result ≡ reply self.old command.now }
-        ensures world { self.new ≡ after self.old command.now }
-        ensures sound { IsSound self.new }
-        ensures one_scene { AreOfOneScene self.old self.new }
-        // The particles are reached at most as often as the command's work says, for as many bonds side by side as each
-        // projector of its type projects, also where it is refused.
+        ensures does { Applied self.old self.new command.now result }
         ensures cost { (lanes : ℕ) → 0 < lanes → ((projector : P) → lanes ≤ P.width projector)
             → steps.new ≤ steps.old + command_work L lanes self.old command.now }
     {
@@ -98,6 +94,22 @@ impl<const L: usize, P: Projector<L> + Drop> Session<L, P> {
             Command::Ledger => self.keep(Reply::Ledger),
             Command::Bad => self.keep(Reply::Refused(Refusal::BadCommand)),
         }
+    }
+
+    /// Does a command. A refused command changes nothing.
+    pub fn apply<G: Ledger>(&mut self, command: &Command, steps: &mut Steps<G>) -> Reply
+        requires lanes_low { 0 < L }
+        requires lanes_high { L ≤ 16 }
+        ensures reply { result ≡ reply self.old command.now }
+        ensures world { self.new ≡ after self.old command.now }
+        ensures sound { IsSound self.new }
+        ensures one_scene { AreOfOneScene self.old self.new }
+        // The particles are reached at most as often as the command's work says, for as many bonds side by side as each
+        // projector of its type projects, also where it is refused.
+        ensures cost { (lanes : ℕ) → 0 < lanes → ((projector : P) → lanes ≤ P.width projector)
+            → steps.new ≤ steps.old + command_work L lanes self.old command.now }
+    {
+        self.done(command, steps)
     }
 
     /// The solver, whose world is the session's.

@@ -1,6 +1,5 @@
 -- Every command keeps the balance of momentum and ledger.
-use Rattle.std.proofs.Common.{◌≡◌, ◌≢◌, refl, sym, ap, ◌∙◌, ℕ, ◌<◌, Bool, true, false, not, List, [], ◌∷◌, length, arith, ℤ, pos, ◌+ℤ◌}
-use Rattle.std.proofs.Common.{◌-ℤ◌, neg_ℤ}
+use Rattle.std.proofs.Common.{◌≡◌, ◌≢◌, refl, sym, ap, ◌∙◌, ℕ, ◌<◌, Bool, true, false, not, List, [], ◌∷◌, length, arith, ℤ, ◌+ℤ◌}
 use Rattle.std.specs.Prelude.{Result, Ok, Err, IfOk, IsTrue, if◌then◌else◌, slice_set, nat_le, ◌==◌}
 use Rattle.std.specs.List.{AllByRecursion, list_all}
 use Rattle.std.proofs.lemmas.Int.{ints}
@@ -13,7 +12,7 @@ use Rattle.pbd_world.specs.declared.command.Command.{Command}
 use Rattle.pbd_world.specs.declared.command.Command.TheVariants as commands
 use Rattle.pbd_world.specs.declared.command.Refusal.{Refusal}
 use Rattle.pbd_world.specs.declared.totals.Class.TheVariants as classes
-use Rattle.pbd_world.specs.Ledger.{Sum, sum_plus, both_sums, all_totals}
+use Rattle.pbd_world.specs.Ledger.{Sum, zero_sum, sum_plus, both_sums, all_totals}
 use Rattle.pbd_world.specs.Particles.{velocity, particle_at}
 use Rattle.pbd_world.specs.Momentum.{momentum, IsBalanced}
 use Rattle.pbd_world.specs.Valid.{is_valid_link, is_well_formed}
@@ -43,67 +42,60 @@ unless-keeps P (t ∷ tests) x h = refused_by P t.0 t.1 (unless tests x) (λ e. 
 pub there : (n i : ℕ) → nat_le n i ≡ false → i < n
 there n i e = leb-false n i e
 
-pin_terms : (n m at before o t : ℤ) → n +ℤ (pos 0 +ℤ (at -ℤ before)) ≡ m +ℤ pos 0 → m ≡ o +ℤ t → n ≡ o +ℤ (t +ℤ neg_ℤ (at -ℤ before))
-pin_terms n m at before o t h k = omega (arith, ints, h, k)
+set_terms : (n m a b s o t : ℤ) → n +ℤ a ≡ m +ℤ b → m ≡ o +ℤ s → b +ℤ s ≡ a +ℤ t → n ≡ o +ℤ t
+set_terms n m a b s o t h k e = omega (arith, ints, h, k, e)
 
-rest_terms : (n m at o t : ℤ) → n +ℤ pos 0 ≡ m +ℤ (pos 0 +ℤ (at -ℤ at)) → m ≡ o +ℤ t → n ≡ o +ℤ t
-rest_terms n m at o t h k = omega (arith, ints, h, k)
+-- another particle in place of particle i, where the totals get what it has less in the momentum
+exchanged : (w : World) (i : ℕ) (q : Particle) (t : Sum) → i < length w.particles
+    → both_sums (part q) (all_totals w.totals) ≡ both_sums (part (particle_at w.particles i)) t
+    → IsBalanced w.opening w.totals w.particles → momentum (slice_set w.particles i q) ≡ both_sums w.opening t
+exchanged w i q t h even k =
+    let n = momentum (slice_set w.particles i q) in
+    let m = momentum w.particles in
+    let a = part (particle_at w.particles i) in
+    let b = part q in
+    let s = all_totals w.totals in
+    let set = momentum_set w.particles i q h in
+    same_sum n (both_sums w.opening t)
+    (set_terms n.x m.x a.x b.x s.x w.opening.x t.x (ap (λ (u : Sum). u.x) set) (ap (λ (u : Sum). u.x) k) (ap (λ (u : Sum). u.x) even))
+    (set_terms n.y m.y a.y b.y s.y w.opening.y t.y (ap (λ (u : Sum). u.y) set) (ap (λ (u : Sum). u.y) k) (ap (λ (u : Sum). u.y) even))
+    (set_terms n.z m.z a.z b.z s.z w.opening.z t.z (ap (λ (u : Sum). u.z) set) (ap (λ (u : Sum). u.z) k) (ap (λ (u : Sum). u.z) even))
 
-still_terms : (n m o t : ℤ) → n +ℤ pos 0 ≡ m +ℤ pos 0 → m ≡ o +ℤ t → n ≡ o +ℤ t
-still_terms n m o t h k = omega (arith, ints, h, k)
+-- what is taken of a momentum and given to the totals
+given : (s : Sum) (v : Vec3) → both_sums zero_sum s ≡ both_sums (sum_plus zero_sum v) (sum_plus s (opposite v))
+given s v = same_sum (both_sums zero_sum s) (both_sums (sum_plus zero_sum v) (sum_plus s (opposite v))) (omega (arith, ints))
+    (omega (arith, ints)) (omega (arith, ints))
 
--- particle i for another, where it is known whether the first is held
-swapped : (ps : List Particle) (i : ℕ) (q : Particle) (held : Bool) → i < length ps → (particle_at ps i).held ≡ held
-    → both_sums (momentum (slice_set ps i q)) (part_by held (velocity (particle_at ps i))) ≡ both_sums (momentum ps) (part q)
-swapped ps i q held h e = ap (λ (x : Bool). both_sums (momentum (slice_set ps i q)) (part_by x (velocity (particle_at ps i)))) (sym e)
-    ∙ momentum_set ps i q h
+-- a particle at rest adds nothing
+resting : (s : Sum) (p : Particle) → both_sums (part_by false (velocity (record p { before = p.at }))) s ≡ both_sums zero_sum s
+resting s p = same_sum (both_sums (part_by false (velocity (record p { before = p.at }))) s) (both_sums zero_sum s) (omega (arith, ints))
+    (omega (arith, ints)) (omega (arith, ints))
 
 pinned-balanced : (w : World) (i : ℕ) → i < length w.particles → (particle_at w.particles i).held ≡ false
     → IsBalanced w.opening w.totals w.particles → IsBalanced w.opening (pinned w i (particle_at w.particles i)).totals
     (pinned w i (particle_at w.particles i)).particles
-pinned-balanced w i h e k =
+pinned-balanced w i h e =
     let p = particle_at w.particles i in
-    let q : Particle = record p { before = p.at; held = true } in
-    let n = momentum (slice_set w.particles i q) in
-    let m = momentum w.particles in
-    let o = w.opening in
-    let t = all_totals w.totals in
-    let s = swapped w.particles i q false h e in
-    same_sum n (both_sums o (sum_plus t (opposite (velocity p))))
-    (pin_terms n.x m.x p.at.x p.before.x o.x t.x (ap (λ (x : Sum). x.x) s) (ap (λ (x : Sum). x.x) k))
-    (pin_terms n.y m.y p.at.y p.before.y o.y t.y (ap (λ (x : Sum). x.y) s) (ap (λ (x : Sum). x.y) k))
-    (pin_terms n.z m.z p.at.z p.before.z o.z t.z (ap (λ (x : Sum). x.z) s) (ap (λ (x : Sum). x.z) k))
-    ∙ ap (both_sums o) (sym (added_all w.totals classes.Pin (opposite (velocity p))))
+    exchanged w i (record p { before = p.at; held = true }) (all_totals (pinned w i p).totals) h
+    (given (all_totals w.totals) (velocity p)
+    ∙ ap (λ (held : Bool). both_sums (part_by held (velocity p)) (sum_plus (all_totals w.totals) (opposite (velocity p)))) (sym e)
+    ∙ ap (both_sums (part p)) (sym (added_all w.totals classes.Pin (opposite (velocity p)))))
 
 unpinned-balanced : (w : World) (i : ℕ) → i < length w.particles → (particle_at w.particles i).held ≡ true
     → IsBalanced w.opening w.totals w.particles → IsBalanced w.opening w.totals (unpinned w i (particle_at w.particles i)).particles
-unpinned-balanced w i h e k =
+unpinned-balanced w i h e =
     let p = particle_at w.particles i in
-    let q : Particle = record p { before = p.at; held = false } in
-    let n = momentum (slice_set w.particles i q) in
-    let m = momentum w.particles in
-    let o = w.opening in
-    let t = all_totals w.totals in
-    let s = swapped w.particles i q true h e in
-    same_sum n (both_sums o t)
-    (rest_terms n.x m.x p.at.x o.x t.x (ap (λ (x : Sum). x.x) s) (ap (λ (x : Sum). x.x) k))
-    (rest_terms n.y m.y p.at.y o.y t.y (ap (λ (x : Sum). x.y) s) (ap (λ (x : Sum). x.y) k))
-    (rest_terms n.z m.z p.at.z o.z t.z (ap (λ (x : Sum). x.z) s) (ap (λ (x : Sum). x.z) k))
+    exchanged w i (record p { before = p.at; held = false }) (all_totals w.totals) h
+    (resting (all_totals w.totals) p ∙ ap (λ (held : Bool). both_sums (part_by held (velocity p)) (all_totals w.totals)) (sym e))
 
 put-balanced : (w : World) (i : ℕ) (to : Vec3) → i < length w.particles → (particle_at w.particles i).held ≡ true
     → IsBalanced w.opening w.totals w.particles → IsBalanced w.opening w.totals (put_at w i (particle_at w.particles i) to).particles
-put-balanced w i to h e k =
+put-balanced w i to h e =
     let p = particle_at w.particles i in
     let q : Particle = record p { at = to; before = to } in
-    let n = momentum (slice_set w.particles i q) in
-    let m = momentum w.particles in
-    let o = w.opening in
-    let t = all_totals w.totals in
-    let s = swapped w.particles i q true h e ∙ ap (λ (x : Bool). both_sums m (part_by x (velocity q))) e in
-    same_sum n (both_sums o t)
-    (still_terms n.x m.x o.x t.x (ap (λ (x : Sum). x.x) s) (ap (λ (x : Sum). x.x) k))
-    (still_terms n.y m.y o.y t.y (ap (λ (x : Sum). x.y) s) (ap (λ (x : Sum). x.y) k))
-    (still_terms n.z m.z o.z t.z (ap (λ (x : Sum). x.z) s) (ap (λ (x : Sum). x.z) k))
+    exchanged w i q (all_totals w.totals) h
+    (ap (λ (held : Bool). both_sums (part_by held (velocity q)) (all_totals w.totals)) e
+    ∙ ap (λ (held : Bool). both_sums (part_by held (velocity p)) (all_totals w.totals)) (sym e))
 
 -- ---- the commands
 

@@ -1,11 +1,12 @@
 -- A command leads from a sound world to a sound one of the same scene.
-use Rattle.std.proofs.Common.{◌≡◌, refl, sym, ◌∙◌, ℕ, zero, suc, ◌+◌, ◌<◌, ◌≤◌, true, false, [], ◌∷◌, length, arith}
-use Rattle.std.specs.Prelude.{Result, Ok, Err, IfOk, nat_le}
-use Rattle.std.specs.List.{list_all}
+use Rattle.std.proofs.Common.{◌≡◌, refl, sym, ◌∙◌, ℕ, zero, suc, ◌+◌, ◌<◌, ◌≤◌, true, false, List, [], ◌∷◌, length, arith}
+use Rattle.std.specs.Prelude.{Result, Ok, Err, IfOk, IsTrue, nat_le}
+use Rattle.std.specs.List.{AllByRecursion, list_all}
 use Rattle.std.proofs.lemmas.Bool.{and_parts, false≢true, ltb-false, not-false}
 use Rattle.pbd_num.specs.declared.Vec3.{Vec3}
 use Rattle.pbd_num.specs.Vectors.{is_within, opposite}
 use Rattle.pbd_world.specs.declared.parts.Particle.{Particle}
+use Rattle.pbd_world.specs.declared.parts.Link.{Link}
 use Rattle.pbd_world.specs.declared.totals.Class.TheVariants as classes
 use Rattle.pbd_world.specs.declared.command.Command.{Command}
 use Rattle.pbd_world.specs.declared.command.Command.TheVariants as commands
@@ -23,8 +24,8 @@ use Rattle.pbd_world.proofs.KeepingOn.{bind-keeps}
 use Rattle.pbd_world.proofs.CommandBalance.{unless-keeps, there, sound-balanced}
 use Rattle.pbd_world.proofs.ValidLemmas.{at_rest_from}
 use Rattle.pbd_world.proofs.PredictGoes.{rests_held, rests_free}
-use Rattle.pbd_world.proofs.SameShape.{all_unlive, links_valid, cut_same}
-use Rattle.pbd_world.proofs.WorldParts.{formed, from_formed, IsFit, all_fit}
+use Rattle.pbd_world.proofs.SameShape.{all_unlive, still_formed, cut_same}
+use Rattle.pbd_world.proofs.WorldParts.{formed, IsFit, all_fit}
 use Rattle.pbd_world.proofs.StepSound.{step_sound}
 use Rattle.pbd_world.proofs.OtherParticle.{fit_at, agree_with_itself, FitsIn, set_sound, set_scene}
 
@@ -33,11 +34,30 @@ use Rattle.pbd_world.proofs.OtherParticle.{fit_at, agree_with_itself, FitsIn, se
 abbrev Keeps : World → World → Type 0
 Keeps w v = (IsBalanced v.opening v.totals v.particles → IsSound v) × AreOfOneScene w v
 
-fit_of : (w : World) (i : ℕ) → IsSound w → i < length w.particles → IsFit w.limit (particle_at w.particles i)
-fit_of w i sound l =
+particles_fit : (w : World) → IsSound w → AllByRecursion (IsFit w.limit) w.particles
+particles_fit w sound =
     let form = formed (parts_of w) sound.well_formed in
     let counts = and_parts (nat_le (length w.particles) 65536) (list_all (is_valid_particle w.limit) w.particles) form.particles in
-    fit_at w.limit w.particles i (all_fit w.limit w.particles counts.1) l
+    all_fit w.limit w.particles counts.1
+
+fit_of : (w : World) (i : ℕ) → IsSound w → i < length w.particles → IsFit w.limit (particle_at w.particles i)
+fit_of w i sound l = fit_at w.limit w.particles i (particles_fit w sound) l
+
+-- with other links alive, and with another gravity
+reset_sound : (w : World) (ls : List Link) (g : Vec3) → IsSound w → all_unlive ls ≡ all_unlive w.links → IsTrue (is_within w.limit g)
+    → IsSound (record w { links = ls; gravity = g })
+reset_sound w ls g sound same near = record {
+  well_formed = still_formed (parts_of w) w.particles ls g (formed (parts_of w) sound.well_formed) refl (particles_fit w sound) same near;
+  tracked = sound.tracked;
+  at_rest = sound.at_rest;
+  steps = sound.steps;
+  contacts = sound.contacts;
+  bounded = sound.bounded;
+  opening = sound.opening;
+  balanced = sound.balanced;
+  undamped = sound.undamped;
+  one_weight = sound.one_weight;
+}
 
 pin_keeps : (w : World) (i : ℕ) → IsSound w → IfOk (pin w i) (Keeps w)
 pin_keeps w i sound = unless-keeps (Keeps w) (refusals w (commands.Pin i)) (pinned w i (particle_at w.particles i)) (λ es.
@@ -87,59 +107,16 @@ place_keeps w i to sound = unless-keeps (Keeps w) (refusals w (commands.Move i t
 
 cut_keeps : (w : World) (n : ℕ) → IsSound w → IfOk (cut w n) (Keeps w)
 cut_keeps w n sound = unless-keeps (Keeps w) (refusals w (commands.Cut n)) (without_link w n) (λ es.
-    let form = formed (parts_of w) sound.well_formed in
-    let same = cut_same w.links n in
-    let back : all_unlive w.links ≡ all_unlive (without_link w n).links = sym same in (
-      (λ balance. record {
-        well_formed = from_formed (parts_of (without_link w n)) (record {
-          limit = form.limit;
-          particles = form.particles;
-          links = links_valid w.limit (length w.particles) w.links (without_link w n).links same form.links;
-          planes = form.planes;
-          spheres = form.spheres;
-          tracks = form.tracks;
-          gravity = form.gravity;
-          numbers = form.numbers;
-        });
-        tracked = sound.tracked;
-        at_rest = sound.at_rest;
-        steps = sound.steps;
-        contacts = sound.contacts;
-        bounded = sound.bounded;
-        opening = sound.opening;
-        balanced = balance;
-        undamped = sound.undamped;
-        one_weight = sound.one_weight;
-      }),
+    let ls = (without_link w n).links in
+    let same : all_unlive ls ≡ all_unlive w.links = cut_same w.links n in
+    let back : all_unlive w.links ≡ all_unlive ls = sym same in (
+      (λ balance. reset_sound w ls w.gravity sound same (formed (parts_of w) sound.well_formed).gravity),
       (λ i. record (unchanging w) { links = back i }),
     ))
 
 gravity_keeps : (w : World) (g : Vec3) → IsSound w → IfOk (set_gravity w g) (Keeps w)
-gravity_keeps w g sound = unless-keeps (Keeps w) (refusals w (commands.Gravity g)) (record w { gravity = g }) (λ es.
-    let form = formed (parts_of w) sound.well_formed in (
-      (λ balance. record {
-        well_formed = from_formed (parts_of (record w { gravity = g })) (record {
-          limit = form.limit;
-          particles = form.particles;
-          links = form.links;
-          planes = form.planes;
-          spheres = form.spheres;
-          tracks = form.tracks;
-          gravity = not-false (is_within w.limit g) es.0;
-          numbers = form.numbers;
-        });
-        tracked = sound.tracked;
-        at_rest = sound.at_rest;
-        steps = sound.steps;
-        contacts = sound.contacts;
-        bounded = sound.bounded;
-        opening = sound.opening;
-        balanced = balance;
-        undamped = sound.undamped;
-        one_weight = sound.one_weight;
-      }),
-      refl,
-    ))
+gravity_keeps w g sound = unless-keeps (Keeps w) (refusals w (commands.Gravity g)) (record w { gravity = g })
+    (λ es. ((λ balance. reset_sound w w.links g sound refl (not-false (is_within w.limit g) es.0)), refl))
 
 steps_sound : (n : ℕ) (w : World) → IsSound w → w.steps + n ≤ 1000000 → IfOk (repeated n step w) (λ v. IsSound v × AreOfOneScene w v)
 steps_sound zero w sound l = (sound, refl)

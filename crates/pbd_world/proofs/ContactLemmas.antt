@@ -81,10 +81,10 @@ all_in Q (y ∷ ys) x h k = elim (first_or_rest y ys x k) [ inl e ↦ subst Q e 
 
 -- ---- all pairs
 
-abbrev IsPair : ℕ → ℕ × ℕ → Type 0
+abbrev pub IsPair : ℕ → ℕ × ℕ → Type 0
 IsPair n p = (p.0 < p.1) × (p.1 < n)
 
-row_pairs : (n i : ℕ) → AllByRecursion (IsPair n) (row n i)
+pub row_pairs : (n i : ℕ) → AllByRecursion (IsPair n) (row n i)
 row_pairs n i = all-map (IsPair n) (λ j. (i, j)) (range_with_len (i + 1) (n - (i + 1)))
     (all-range (λ j. IsPair n (i, j)) (i + 1) (n - (i + 1)) (λ j l u. (omega (arith, l), omega (arith, l, u))))
 

@@ -88,7 +88,7 @@ nothing_of z h = omega (arith, ints, h)
 same_vector : (v w : Vec3) → v.x ≡ w.x → v.y ≡ w.y → v.z ≡ w.z → v ≡ w
 same_vector v w x y z = λ i. record { x = x i; y = y i; z = z i }
 
-held_first : (a b : Vec3) (rest k wb : ℤ) → (pair_moves a b rest k (pos 0) wb).0 ≡ zero_vector
+pub held_first : (a b : Vec3) (rest k wb : ℤ) → (pair_moves a b rest k (pos 0) wb).0 ≡ zero_vector
 held_first a b rest k wb = elim (cases_lt 0 (length_of (minus a b))) [
   | inl far ↦ elim (cases_lt 0 (unsigned_abs (pos 0) + unsigned_abs wb)) [
     | inl heavy ↦
@@ -102,7 +102,7 @@ held_first a b rest k wb = elim (cases_lt 0 (length_of (minus a b))) [
   | inr near ↦ ap (λ (m : Vec3 × Vec3). m.0) (pair_moves-none a b rest k (pos 0) wb (inl (omega (arith, near))))
 ]
 
-held_second : (a b : Vec3) (rest k wa : ℤ) → (pair_moves a b rest k wa (pos 0)).1 ≡ zero_vector
+pub held_second : (a b : Vec3) (rest k wa : ℤ) → (pair_moves a b rest k wa (pos 0)).1 ≡ zero_vector
 held_second a b rest k wa = elim (cases_lt 0 (length_of (minus a b))) [
   | inl far ↦ elim (cases_lt 0 (unsigned_abs wa + unsigned_abs (pos 0))) [
     | inl heavy ↦

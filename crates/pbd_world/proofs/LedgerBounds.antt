@@ -6,64 +6,34 @@ use Rattle.pbd_num.specs.declared.Vec3.{Vec3}
 use Rattle.pbd_num.specs.Vectors.{Within}
 use Rattle.pbd_world.specs.declared.totals.Class.{Class}
 use Rattle.pbd_world.specs.declared.totals.Class.TheVariants as classes
-use Rattle.pbd_world.specs.Ledger.{Ledger, Entry, added, booked}
+use Rattle.pbd_world.specs.Ledger.{Ledger, Entry, zero_sum, added, booked, HaveRoom}
 use Rattle.pbd_world.specs.Particles.{Moved}
 use Rattle.pbd_world.specs.World.{AreBounded}
-use Rattle.pbd_world.proofs.Rooms.{sum_grows, sum_wider}
+use Rattle.pbd_world.proofs.Rooms.{room_at, room_left}
+
+-- the bounds are those of room, but for what pins put
+abbrev unpinned : Ledger → Ledger
+unpinned t = record t { pin = zero_sum }
+
+room_of : (t : Ledger) (b : ℕ) → AreBounded b t → HaveRoom b (unpinned t)
+room_of t b h = record {
+  gravity = h.gravity;
+  damping = h.damping;
+  link = h.link;
+  contact = h.contact;
+  pin = record { x = omega arith; y = omega arith; z = omega arith };
+  shape = h.shape;
+}
+
+bounds_of : (t : Ledger) (b : ℕ) → HaveRoom b (unpinned t) → AreBounded b t
+bounds_of t b h = record { gravity = h.gravity; damping = h.damping; link = h.link; contact = h.contact; shape = h.shape }
 
 pub bounded_weaker : (t : Ledger) (b c : ℕ) → b ≤ c → AreBounded b t → AreBounded c t
-bounded_weaker t b c l h = record {
-  gravity = sum_wider t.gravity b c l h.gravity;
-  damping = sum_wider t.damping b c l h.damping;
-  link = sum_wider t.link b c l h.link;
-  contact = sum_wider t.contact b c l h.contact;
-  shape = sum_wider t.shape b c l h.shape;
-}
+bounded_weaker t b c l h = bounds_of t c (room_at c l (room_of t b h))
 
-added_by : (t : Ledger) (class : Class) (v : Vec3) (b c : ℕ) → AreBounded b t → AreBounded (b + c) t → Within c v
-    → AreBounded (b + c) (added t class v)
-added_by t classes.Gravity v b c h a k = record {
-  gravity = sum_grows t.gravity v b c h.gravity k;
-  damping = a.damping;
-  link = a.link;
-  contact = a.contact;
-  shape = a.shape;
-}
-added_by t classes.Damping v b c h a k = record {
-  gravity = a.gravity;
-  damping = sum_grows t.damping v b c h.damping k;
-  link = a.link;
-  contact = a.contact;
-  shape = a.shape;
-}
-added_by t classes.Link v b c h a k = record {
-  gravity = a.gravity;
-  damping = a.damping;
-  link = sum_grows t.link v b c h.link k;
-  contact = a.contact;
-  shape = a.shape;
-}
-added_by t classes.Contact v b c h a k = record {
-  gravity = a.gravity;
-  damping = a.damping;
-  link = a.link;
-  contact = sum_grows t.contact v b c h.contact k;
-  shape = a.shape;
-}
-added_by t classes.Pin v b c h a k = record {
-  gravity = a.gravity;
-  damping = a.damping;
-  link = a.link;
-  contact = a.contact;
-  shape = a.shape;
-}
-added_by t classes.Shape v b c h a k = record {
-  gravity = a.gravity;
-  damping = a.damping;
-  link = a.link;
-  contact = a.contact;
-  shape = sum_grows t.shape v b c h.shape k;
-}
+added_by : (t : Ledger) (class : Class) (v : Vec3) (b c : ℕ) → AreBounded b t → Within c v → AreBounded (b + c) (added t class v)
+added_by t classes.Pin v b c h k = bounds_of (added t classes.Pin v) (b + c) (room_at (b + c) (omega arith) (room_of t b h))
+added_by t class v b c h k = bounds_of (added t class v) (b + c) (room_left (unpinned t) class v b c (room_of t b h) k)
 
 -- entries of at most c on each axis
 abbrev pub AreSmall : ℕ → List Entry → Type 0
@@ -73,7 +43,7 @@ pub booked_bounded : (es : List Entry) (t : Ledger) (b c : ℕ) → AreSmall c e
     → AreBounded (b + length es * c) (booked t es)
 booked_bounded [] t b c s h = bounded_weaker t b (b + length {A = Entry} [] * c) (omega arith) h
 booked_bounded (e ∷ es) t b c s h =
-    let one = added_by t e.0 e.1 b c h (bounded_weaker t b (b + c) (omega arith) h) s.0 in
+    let one = added_by t e.0 e.1 b c h s.0 in
     bounded_weaker (booked (added t e.0 e.1) es) ((b + c) + length es * c) (b + length (e ∷ es) * c) (omega arith)
     (booked_bounded es (added t e.0 e.1) (b + c) c s.1 one)
 

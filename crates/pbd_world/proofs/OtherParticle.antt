@@ -1,6 +1,6 @@
 -- A sound world with another particle in place of one.
 use Rattle.std.proofs.Common.{◌≡◌, refl, sym, ap, ◌∙◌, ℕ, zero, suc, ◌+◌, ◌<◌, Bool, true, false, not, ◌||◌, List, [], ◌∷◌, length}
-use Rattle.std.proofs.Common.{length-set, arith, ℤ, subst, inl, inr}
+use Rattle.std.proofs.Common.{length-set, arith, ℤ, inl, inr}
 use Rattle.std.specs.Prelude.{IsTrue, nat_le, ◌==◌, slice_set as set}
 use Rattle.std.specs.List.{AllByRecursion, AllZip, list_all, enumerate_from}
 use Rattle.std.proofs.lemmas.Bool.{and_parts, and_from, cases_eq, eq-eqb}
@@ -10,13 +10,13 @@ use Rattle.pbd_world.specs.declared.parts.Track.{Track}
 use Rattle.pbd_world.specs.Ledger.{Ledger}
 use Rattle.pbd_world.specs.Particles.{no_particle, particle_at}
 use Rattle.pbd_world.specs.Momentum.{IsBalanced}
-use Rattle.pbd_world.specs.Valid.{is_valid_particle, are_valid_links, are_valid_tracks, is_at_rest, are_tracked_held}
+use Rattle.pbd_world.specs.Valid.{is_valid_particle, is_at_rest, are_tracked_held}
 use Rattle.pbd_world.specs.World.{World, parts_of, is_tracked, IsSound, AreBounded, unchanging, AreOfOneScene}
 use Rattle.pbd_world.specs.Meaning.{with_particle}
 use Rattle.pbd_world.proofs.KeptLemmas.{zip_set}
 use Rattle.pbd_world.proofs.PredictGoes.{rests, all_rest}
-use Rattle.pbd_world.proofs.SameShape.{all_blank, weights_same, have_weight}
-use Rattle.pbd_world.proofs.WorldParts.{formed, from_formed, IsFit, all_fit, are_fit}
+use Rattle.pbd_world.proofs.SameShape.{all_blank, weights_same, have_weight, still_formed}
+use Rattle.pbd_world.proofs.WorldParts.{formed, IsFit, all_fit}
 
 fit_set : (limit : ℤ) (ps : List Particle) (i : ℕ) (q : Particle) → AllByRecursion (IsFit limit) ps → IsFit limit q
     → AllByRecursion (IsFit limit) (set ps i q)
@@ -118,22 +118,12 @@ set_sound w i q t sound l f agree balance =
     let form = formed (parts_of w) sound.well_formed in
     let ps = w.particles in
     let qs = set ps i q in
-    let same : length qs ≡ length ps = length-set ps i q in
     let counts = and_parts (nat_le (length ps) 65536) (list_all (is_valid_particle w.limit) ps) form.particles in
     let weights = zip_set {A = Particle} {B = Particle} (λ p r. r.weight ≡ p.weight) ps ps i no_particle q (weight_refl ps)
     (λ k. f.weight) in
     record {
-      well_formed = from_formed (parts_of (other w i q t)) (record {
-        limit = form.limit;
-        particles = and_from _ _ (ap (λ n. nat_le n 65536) same ∙ counts.0)
-            (are_fit w.limit qs (fit_set w.limit ps i q (all_fit w.limit ps counts.1) f.fit));
-        links = subst (λ (n : ℕ). IsTrue (are_valid_links w.limit n w.links)) (sym same) form.links;
-        planes = form.planes;
-        spheres = form.spheres;
-        tracks = subst (λ (n : ℕ). IsTrue (are_valid_tracks w.limit n w.tracks)) (sym same) form.tracks;
-        gravity = form.gravity;
-        numbers = form.numbers;
-      });
+      well_formed = still_formed (parts_of w) qs w.links w.gravity form (length-set ps i q)
+          (fit_set w.limit ps i q (all_fit w.limit ps counts.1) f.fit) refl form.gravity;
       tracked = tracked_set w.tracks ps i q l f.tracked sound.tracked;
       at_rest = rest_from w.tracks 0 qs (rest_set w.tracks 0 i i ps q (omega arith) f.rest (rest_to w.tracks 0 ps sound.at_rest));
       steps = sound.steps;

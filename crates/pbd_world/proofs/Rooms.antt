@@ -30,16 +30,6 @@ sum_grows s v b c h k = record {
 pub sum_wider : (s : Sum) (b c : ℕ) → b ≤ c → SumWithin b s → SumWithin c s
 sum_wider s b c l h = record { x = omega (arith, l, h.x); y = omega (arith, l, h.y); z = omega (arith, l, h.z) }
 
-pub room_at : {n : ℕ} {t : Ledger} (m : ℕ) → n ≤ m → HaveRoom n t → HaveRoom m t
-room_at {n} {t} m l h = record {
-  gravity = sum_wider t.gravity n m l h.gravity;
-  damping = sum_wider t.damping n m l h.damping;
-  link = sum_wider t.link n m l h.link;
-  contact = sum_wider t.contact n m l h.contact;
-  pin = sum_wider t.pin n m l h.pin;
-  shape = sum_wider t.shape n m l h.shape;
-}
-
 total_within : (t : Ledger) (class : Class) (b : ℕ) → HaveRoom b t → SumWithin b (total_of t class)
 total_within t classes.Gravity b h = h.gravity
 total_within t classes.Damping b h = h.damping
@@ -48,63 +38,36 @@ total_within t classes.Contact b h = h.contact
 total_within t classes.Pin b h = h.pin
 total_within t classes.Shape b h = h.shape
 
+room_from : (n : ℕ) (t : Ledger) → ((d : Class) → SumWithin n (total_of t d)) → HaveRoom n t
+room_from n t f = record {
+  gravity = f classes.Gravity;
+  damping = f classes.Damping;
+  link = f classes.Link;
+  contact = f classes.Contact;
+  pin = f classes.Pin;
+  shape = f classes.Shape;
+}
+
+pub room_at : {n : ℕ} {t : Ledger} (m : ℕ) → n ≤ m → HaveRoom n t → HaveRoom m t
+room_at {n} {t} m l h = room_from m t (λ d. sum_wider (total_of t d) n m l (total_within t d n h))
+
 -- with room, the totals take the move
 pub move_fits : (t : Ledger) (class : Class) (v : Vec3) (b c : ℕ) → HaveRoom b t → Within c v → b + c < 2 ^ 127
     → SumFits (sum_plus (total_of t class) v)
 move_fits t class v b c h k room = sum_fits (total_of t class) v b c (total_within t class b h) k room
 
--- and no total grows by more than the move
+-- a total after a move: greater by the move in its class, and as before elsewhere
+total_grows : (t : Ledger) (class d : Class) (v : Vec3) (b c : ℕ) → HaveRoom b t → HaveRoom (b + c) t → Within c v
+    → SumWithin (b + c) (total_of (added t class v) d)
+total_grows t classes.Gravity classes.Gravity v b c h a k = sum_grows t.gravity v b c h.gravity k
+total_grows t classes.Damping classes.Damping v b c h a k = sum_grows t.damping v b c h.damping k
+total_grows t classes.Link classes.Link v b c h a k = sum_grows t.link v b c h.link k
+total_grows t classes.Contact classes.Contact v b c h a k = sum_grows t.contact v b c h.contact k
+total_grows t classes.Pin classes.Pin v b c h a k = sum_grows t.pin v b c h.pin k
+total_grows t classes.Shape classes.Shape v b c h a k = sum_grows t.shape v b c h.shape k
+total_grows t class d v b c h a k = total_within t d (b + c) a
+
+-- so no total grows by more than the move
 pub room_left : (t : Ledger) (class : Class) (v : Vec3) (b c : ℕ) → HaveRoom b t → Within c v → HaveRoom (b + c) (added t class v)
-room_left t class v b c h k =
-    let all : HaveRoom (b + c) t = room_at (b + c) (omega arith) h in
-    in_class class all
-  where
-    in_class : (d : Class) → HaveRoom (b + c) t → HaveRoom (b + c) (added t d v)
-    in_class classes.Gravity a = record {
-      gravity = sum_grows t.gravity v b c h.gravity k;
-      damping = a.damping;
-      link = a.link;
-      contact = a.contact;
-      pin = a.pin;
-      shape = a.shape;
-    }
-    in_class classes.Damping a = record {
-      gravity = a.gravity;
-      damping = sum_grows t.damping v b c h.damping k;
-      link = a.link;
-      contact = a.contact;
-      pin = a.pin;
-      shape = a.shape;
-    }
-    in_class classes.Link a = record {
-      gravity = a.gravity;
-      damping = a.damping;
-      link = sum_grows t.link v b c h.link k;
-      contact = a.contact;
-      pin = a.pin;
-      shape = a.shape;
-    }
-    in_class classes.Contact a = record {
-      gravity = a.gravity;
-      damping = a.damping;
-      link = a.link;
-      contact = sum_grows t.contact v b c h.contact k;
-      pin = a.pin;
-      shape = a.shape;
-    }
-    in_class classes.Pin a = record {
-      gravity = a.gravity;
-      damping = a.damping;
-      link = a.link;
-      contact = a.contact;
-      pin = sum_grows t.pin v b c h.pin k;
-      shape = a.shape;
-    }
-    in_class classes.Shape a = record {
-      gravity = a.gravity;
-      damping = a.damping;
-      link = a.link;
-      contact = a.contact;
-      pin = a.pin;
-      shape = sum_grows t.shape v b c h.shape k;
-    }
+room_left t class v b c h k = room_from (b + c) (added t class v)
+    (λ d. total_grows t class d v b c h (room_at (b + c) (omega arith) h) k)

@@ -4,7 +4,6 @@ use Rattle.std.specs.List.{flat_map, AllByRecursion}
 use Rattle.std.specs.Fmt.{digits}
 use Rattle.pbd_num.specs.declared.Vec3.{Vec3}
 use Rattle.pbd_num.specs.Rounding.{rdiv, root}
-use Rattle.pbd_num.specs.Vectors.{zero_vector}
 use Rattle.pbd_num.specs.PairMove.{pair_moves}
 use Rattle.pbd_world.specs.declared.parts.Particle.{Particle}
 use Rattle.pbd_world.specs.declared.parts.Link.{Link}
@@ -16,6 +15,7 @@ use Rattle.pbd_world.specs.declared.parts.Track.{Track}
 use Rattle.pbd_world.specs.declared.parts.Parts.{Parts}
 use Rattle.pbd_world.specs.declared.command.Command.{Command}
 use Rattle.pbd_world.specs.declared.command.Command.TheVariants.{Step, Frame, Pin, Unpin, Move, Cut, Gravity, Ledger, Bad}
+use Rattle.pbd_world.specs.Valid.{no_parts}
 use Rattle.pbd_world.specs.World.{opened}
 use Rattle.pbd_world.specs.Bonds.{is_slack, shift_of, correction_of, one}
 use Rattle.pbd_world.specs.Colours.{least_free, colours, colour, order}
@@ -63,19 +63,11 @@ track particle keys = record { particle = particle; keys = keys }
 
 -- a scene with nothing in it and one pass
 abbrev empty : Parts
-empty = record {
-  particles = [];
-  links = [];
-  planes = [];
-  spheres = [];
-  tracks = [];
-  gravity = zero_vector;
-  passes = 1;
-  damping = pos 0;
-  thickness = pos 0;
-  friction = pos 0;
-  limit = pos 536870912;
-}
+empty = no_parts (pos 536870912)
+
+-- two particles joined by a link of 100
+abbrev linked : Particle → Particle → Parts
+linked first second = record empty { particles = first ∷ second ∷ []; links = link 0 1 (pos 100) 256 (pos 0) ∷ [] }
 
 -- ---- what a session prints
 
@@ -98,6 +90,10 @@ record Row : Type 0 where
 abbrev Prints : Row → Type 0
 Prints row = session_text (opened row.scene) row.script ≡ flat_map (λ l. l ++ 10 ∷ []) row.printed
 
+-- what a step prints, and a frame and the ledger after it
+abbrev once : Parts → List (List ℕ) → List (List ℕ) → Row
+once scene frame sums = record { scene = scene; script = Step 1 ∷ Frame ∷ Ledger ∷ []; printed = (codes "ok" ∷ frame) ++ sums }
+
 -- free fall: each step adds gravity to the velocity
 abbrev falls : Row
 falls = record {
@@ -112,55 +108,26 @@ falls = record {
 
 -- a link of 100 between two particles 105 apart: both move by half of what is too much, and the ledger sees nothing
 abbrev link_pulls : Row
-link_pulls = record {
-  scene = record empty {
-    particles = still 0 0 0 ∷ still 105 0 0 ∷ [];
-    links = link 0 1 (pos 100) 256 (pos 0) ∷ [];
-  };
-  script = Step 1 ∷ Frame ∷ Ledger ∷ [];
-  printed =
-      (codes "ok" ∷ codes "frame 1 2 1 0" ∷ codes "3 0 0" ∷ codes "102 0 0" ∷ [])
-      ++ ledger none none none none none none none none;
-}
+link_pulls = once (linked (still 0 0 0) (still 105 0 0)) (codes "frame 1 2 1 0" ∷ codes "3 0 0" ∷ codes "102 0 0" ∷ [])
+    (ledger none none none none none none none none)
 
 -- with one end held the other makes the whole move, which is booked as pin
 abbrev link_one_held : Row
-link_one_held = record {
-  scene = record empty {
-    particles = held 0 0 0 ∷ still 105 0 0 ∷ [];
-    links = link 0 1 (pos 100) 256 (pos 0) ∷ [];
-  };
-  script = Step 1 ∷ Frame ∷ Ledger ∷ [];
-  printed =
-      (codes "ok" ∷ codes "frame 1 2 1 0" ∷ codes "0 0 0" ∷ codes "100 0 0" ∷ [])
-      ++ ledger (codes "-5 0 0") none none none none none (codes "-5 0 0") none;
-}
+link_one_held = once (linked (held 0 0 0) (still 105 0 0)) (codes "frame 1 2 1 0" ∷ codes "0 0 0" ∷ codes "100 0 0" ∷ [])
+    (ledger (codes "-5 0 0") none none none none none (codes "-5 0 0") none)
 
 -- the end of weight 2 makes two thirds of the move
 abbrev link_weights : Row
-link_weights = record {
-  scene = record empty {
-    particles = still 0 0 0 ∷ particle (at 105 0 0) (at 105 0 0) 2 false ∷ [];
-    links = link 0 1 (pos 100) 256 (pos 0) ∷ [];
-  };
-  script = Step 1 ∷ Frame ∷ Ledger ∷ [];
-  printed =
-      (codes "ok" ∷ codes "frame 1 2 1 0" ∷ codes "2 0 0" ∷ codes "102 0 0" ∷ [])
-      ++ ledger (codes "-1 0 0") none none none (codes "-1 0 0") none none none;
-}
+link_weights = once (linked (still 0 0 0) (particle (at 105 0 0) (at 105 0 0) 2 false))
+    (codes "frame 1 2 1 0" ∷ codes "2 0 0" ∷ codes "102 0 0" ∷ [])
+    (ledger (codes "-1 0 0") none none none (codes "-1 0 0") none none none)
 
 -- half of the velocity 3 is lost, rounded away from zero
 abbrev damping_halves : Row
-damping_halves = record {
-  scene = record empty {
-    damping = pos 512;
-    particles = particle (at 0 0 0) (v (neg_ℤ (pos 3)) (pos 0) (pos 0)) 1 false ∷ [];
-  };
-  script = Step 1 ∷ Frame ∷ Ledger ∷ [];
-  printed =
-      (codes "ok" ∷ codes "frame 1 1 0 0" ∷ codes "1 0 0" ∷ [])
-      ++ ledger (codes "1 0 0") (codes "3 0 0") none (codes "-2 0 0") none none none none;
-}
+damping_halves = once (record empty {
+  damping = pos 512;
+  particles = particle (at 0 0 0) (v (neg_ℤ (pos 3)) (pos 0) (pos 0)) 1 false ∷ [];
+}) (codes "frame 1 1 0 0" ∷ codes "1 0 0" ∷ []) (ledger (codes "1 0 0") (codes "3 0 0") none (codes "-2 0 0") none none none none)
 
 -- two contacts: the first parts its ends by 1 each, and the second then has no length
 abbrev contacts_push : Row
@@ -176,29 +143,16 @@ contacts_push = record {
 
 -- out of a sphere along the radius, straight up from its centre, and not at all from its surface
 abbrev sphere_pushes : Row
-sphere_pushes = record {
-  scene = record empty {
-    spheres = sphere (at 0 0 0) (pos 10) ∷ [];
-    particles = still 3 4 0 ∷ still 0 0 0 ∷ still 10 0 0 ∷ [];
-  };
-  script = Step 1 ∷ Frame ∷ Ledger ∷ [];
-  printed =
-      (codes "ok" ∷ codes "frame 1 3 0 0" ∷ codes "6 8 0" ∷ codes "0 10 0" ∷ codes "10 0 0" ∷ [])
-      ++ ledger (codes "3 14 0") none none none none none none (codes "3 14 0");
-}
+sphere_pushes = once (record empty {
+  spheres = sphere (at 0 0 0) (pos 10) ∷ [];
+  particles = still 3 4 0 ∷ still 0 0 0 ∷ still 10 0 0 ∷ [];
+}) (codes "frame 1 3 0 0" ∷ codes "6 8 0" ∷ codes "0 10 0" ∷ codes "10 0 0" ∷ [])
+    (ledger (codes "3 14 0") none none none none none none (codes "3 14 0"))
 
 -- along the normal (1, 2, 2), as far as the place lacks
 abbrev plane_pushes : Row
-plane_pushes = record {
-  scene = record empty {
-    planes = plane (at 1 2 2) (pos 20) ∷ [];
-    particles = still 0 0 0 ∷ [];
-  };
-  script = Step 1 ∷ Frame ∷ Ledger ∷ [];
-  printed =
-      (codes "ok" ∷ codes "frame 1 1 0 0" ∷ codes "2 4 4" ∷ [])
-      ++ ledger (codes "2 4 4") none none none none none none (codes "2 4 4");
-}
+plane_pushes = once (record empty { planes = plane (at 1 2 2) (pos 20) ∷ []; particles = still 0 0 0 ∷ [] })
+    (codes "frame 1 1 0 0" ∷ codes "2 4 4" ∷ []) (ledger (codes "2 4 4") none none none none none none (codes "2 4 4"))
 
 -- half of the velocity that a shape gave is rubbed away
 abbrev friction_half : Row

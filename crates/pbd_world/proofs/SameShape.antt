@@ -1,18 +1,23 @@
 -- What validity and the scene of a world see of links and particles.
-use Rattle.std.proofs.Common.{◌≡◌, refl, sym, ap, ◌∙◌, ℕ, zero, suc, Bool, true, false, not, ◌&&◌, ◌||◌, List, [], ◌∷◌, length, map, ℤ}
+use Rattle.std.proofs.Common.{◌≡◌, refl, sym, ap, ◌∙◌, ℕ, zero, suc, Bool, true, false, not, ◌&&◌, ◌||◌, List, [], ◌∷◌, length, map, ℤ, subst}
 use Rattle.std.specs.Prelude.{IsTrue, cond, filter, nat_le, ◌==◌, slice_set as set}
 use Rattle.std.specs.List.{AllByRecursion, AllZip, list_all, list_any, range_with_len}
 use Rattle.std.proofs.lemmas.List.Elements.{All-from_recursion, recursion_from_All}
-use Rattle.pbd_num.specs.Vectors.{zero_vector}
+use Rattle.std.proofs.lemmas.Bool.{and_parts, and_from}
+use Rattle.pbd_num.specs.declared.Vec3.{Vec3}
+use Rattle.pbd_num.specs.Vectors.{zero_vector, is_within}
 use Rattle.pbd_world.specs.declared.parts.Particle.{Particle}
 use Rattle.pbd_world.specs.declared.parts.Link.{Link}
 use Rattle.pbd_world.specs.declared.parts.Track.{Track}
+use Rattle.pbd_world.specs.declared.parts.Parts.{Parts}
 use Rattle.pbd_world.specs.Particles.{particle_at}
-use Rattle.pbd_world.specs.Valid.{is_valid_link, none_twice, join_alike, links_at, are_valid_links, are_tracked_held}
+use Rattle.pbd_world.specs.Valid.{is_valid_particle, is_valid_link, none_twice, join_alike, links_at, are_valid_links, are_valid_tracks}
+use Rattle.pbd_world.specs.Valid.{is_well_formed, are_tracked_held}
 use Rattle.pbd_world.specs.World.{HaveWeight}
 use Rattle.pbd_world.specs.Bonds.{link_at}
 use Rattle.pbd_world.specs.Step.{tear}
 use Rattle.pbd_world.proofs.KeepingOn.{length-mapped}
+use Rattle.pbd_world.proofs.WorldParts.{Formed, from_formed, IsFit, are_fit}
 
 -- ---- links, whether live or not
 
@@ -77,6 +82,25 @@ cut_same [] zero = refl
 cut_same [] (suc n) = refl
 cut_same (l ∷ ls) zero = refl
 cut_same (l ∷ ls) (suc n) = ap (λ (ms : List Link). unlive l ∷ ms) (cut_same ls n)
+
+-- what a step or a command changes of parts leaves them well-formed: as many particles, all in range, links that
+-- differ in what is live alone, and a gravity within the limit
+pub still_formed : (parts : Parts) (ps : List Particle) (ls : List Link) (g : Vec3) → Formed parts → length ps ≡ length parts.particles
+    → AllByRecursion (IsFit parts.limit) ps → all_unlive ls ≡ all_unlive parts.links → IsTrue (is_within parts.limit g)
+    → IsTrue (is_well_formed (record parts { particles = ps; links = ls; gravity = g }))
+still_formed parts ps ls g form many fit same near =
+    let counts = and_parts (nat_le (length parts.particles) 65536) (list_all (is_valid_particle parts.limit) parts.particles) form.particles in
+    from_formed (record parts { particles = ps; links = ls; gravity = g }) (record {
+      limit = form.limit;
+      particles = and_from _ _ (ap (λ n. nat_le n 65536) many ∙ counts.0) (are_fit parts.limit ps fit);
+      links = subst (λ (n : ℕ). IsTrue (are_valid_links parts.limit n ls)) (sym many)
+          (links_valid parts.limit (length parts.particles) parts.links ls same form.links);
+      planes = form.planes;
+      spheres = form.spheres;
+      tracks = subst (λ (n : ℕ). IsTrue (are_valid_tracks parts.limit n parts.tracks)) (sym many) form.tracks;
+      gravity = near;
+      numbers = form.numbers;
+    })
 
 -- ---- particles of one weight
 

@@ -13,13 +13,13 @@ use Rattle.pbd_world.specs.declared.command.Phase.TheVariants as phases
 use Rattle.pbd_world.specs.declared.command.Refusal.TheVariants.{TooManyContacts}
 use Rattle.pbd_world.specs.Particles.{Motion, Moved, all_moved}
 use Rattle.pbd_world.specs.Momentum.{IsBalanced}
-use Rattle.pbd_world.specs.Valid.{is_valid_particle, is_valid_link, are_valid_links, are_valid_tracks, is_at_rest}
+use Rattle.pbd_world.specs.Valid.{is_valid_particle, is_valid_link, is_at_rest}
 use Rattle.pbd_world.specs.World.{World, parts_of, is_tracked, IsSound, unchanging, AreOfOneScene}
 use Rattle.pbd_world.specs.Outcomes.{◌>>=◌, with_fault, repeated, each_from}
 use Rattle.pbd_world.specs.Bonds.{link_bond}
 use Rattle.pbd_world.specs.Contacts.{contacts_of}
 use Rattle.pbd_world.specs.Step.{predicted, predict, Passing, untouched, leaves, pass, rub, tear, settled, after_contacts, step}
-use Rattle.pbd_world.proofs.KeepingOn.{bind-keeps, fault-keeps, each-keeps, length-mapped, length-zipped}
+use Rattle.pbd_world.proofs.KeepingOn.{bind-keeps, fault-keeps, each-keeps, length-mapped, length-zipped, zip-weaker}
 use Rattle.pbd_world.proofs.StepBalance.{AreEnds, ArePair, contact-pairs, IsReady, step-ready}
 use Rattle.pbd_world.proofs.CommandBalance.{sound-ready}
 use Rattle.pbd_world.proofs.LedgerBounds.{IsQuiet, all_booked, bounded_weaker, moved_bounded, moved_links, moved_contacts, moved_damping}
@@ -27,8 +27,8 @@ use Rattle.pbd_world.proofs.KeptLemmas.{Kept, Goes}
 use Rattle.pbd_world.proofs.CountingOn.{ok_weaker, repeat-counts}
 use Rattle.pbd_world.proofs.PartsGo.{PassGoes, pass_weaker, pass_goes}
 use Rattle.pbd_world.proofs.PredictGoes.{Starts, CanPredict, predicted_starts, rests, all_rest, predict_rests, Stops, rub_all, rub_stops}
-use Rattle.pbd_world.proofs.SameShape.{all_unlive, links_valid, torn_same, all_blank, weights_same, have_weight, tracked_held}
-use Rattle.pbd_world.proofs.WorldParts.{formed, from_formed, numbers_of, limit_of, IsFit, all_fit, are_fit}
+use Rattle.pbd_world.proofs.SameShape.{all_unlive, still_formed, torn_same, all_blank, weights_same, have_weight, tracked_held}
+use Rattle.pbd_world.proofs.WorldParts.{formed, numbers_of, limit_of, IsFit, all_fit}
 
 -- ---- the start
 
@@ -115,25 +115,8 @@ fit_steps limit (p ∷ ps) (r ∷ rs) f z = (
 )
 
 weight_steps : (limit : ℤ) (ps rs : List Particle) → AllZip (Steps limit) ps rs
-    → AllZip {A = Particle} {B = Particle} (λ p q. q.weight ≡ p.weight) ps rs
-weight_steps limit [] [] z = tt
-weight_steps limit [] (r ∷ rs) z = absurd z
-weight_steps limit (p ∷ ps) [] z = absurd z
-weight_steps limit (p ∷ ps) (r ∷ rs) z = (z.0.weight, weight_steps limit ps rs z.1)
-
-held_steps : (limit : ℤ) (ps rs : List Particle) → AllZip (Steps limit) ps rs
-    → AllZip {A = Particle} {B = Particle} (λ p q. q.held ≡ p.held) ps rs
-held_steps limit [] [] z = tt
-held_steps limit [] (r ∷ rs) z = absurd z
-held_steps limit (p ∷ ps) [] z = absurd z
-held_steps limit (p ∷ ps) (r ∷ rs) z = (z.0.held, held_steps limit ps rs z.1)
-
-weight_stops : (limit : ℤ) (ps rs : List Particle) → AllZip (Stops limit) ps rs
-    → AllZip {A = Particle} {B = Particle} (λ p q. q.weight ≡ p.weight) ps rs
-weight_stops limit [] [] z = tt
-weight_stops limit [] (r ∷ rs) z = absurd z
-weight_stops limit (p ∷ ps) [] z = absurd z
-weight_stops limit (p ∷ ps) (r ∷ rs) z = (z.0.weight, weight_stops limit ps rs z.1)
+    → AllZip {A = Particle} {B = Particle} (λ p r. r.weight ≡ p.weight) ps rs
+weight_steps limit = zip-weaker (Steps limit) (λ p r. r.weight ≡ p.weight) (λ p r s. s.weight)
 
 -- what a step gives, where its balance is known apart
 pub record Stepped (w v : World) : Type 0 where
@@ -170,18 +153,8 @@ settled_sound w ms s pairs f sound steps few fric small z rest go =
     let bound = moved_bounded (Unit {0}) rubs s.motion.totals (2 ^ 64 * w.steps + 2 ^ 47 + 2 ^ 63) quiet go.motion.bounded in
     record {
       sound = λ balance. record {
-        well_formed = from_formed (parts_of (settled w pairs (rub w.friction s))) (record {
-          limit = form.limit;
-          particles = and_from _ _ (ap (λ n. nat_le n 65536) many ∙ counts.0) (are_fit w.limit rs fits);
-          links = subst (λ (n : ℕ). IsTrue (are_valid_links w.limit n (tear rs w.links))) (sym many)
-              (links_valid w.limit (length w.particles) w.links (tear rs w.links) (torn_same rs w.links) form.links);
-          planes = form.planes;
-          spheres = form.spheres;
-          tracks = subst (λ (n : ℕ). IsTrue (are_valid_tracks w.limit n w.tracks)) (sym many) form.tracks;
-          gravity = form.gravity;
-          numbers = form.numbers;
-        });
-        tracked = tracked_held w.tracks w.particles rs (held_steps w.limit w.particles rs way) sound.tracked;
+        well_formed = still_formed (parts_of w) rs (tear rs w.links) w.gravity form many fits (torn_same rs w.links) form.gravity;
+        tracked = tracked_held w.tracks w.particles rs (zip-weaker (Steps w.limit) (λ p r. r.held ≡ p.held) (λ p r s. s.held) w.particles rs way) sound.tracked;
         at_rest = rest_stays w.tracks 0 w.limit ps rs stops rest;
         steps = steps;
         contacts = few;
@@ -192,7 +165,8 @@ settled_sound w ms s pairs f sound steps few fric small z rest go =
         undamped = λ e. moved_damping (Unit {0}) rubs s.motion.totals tt quiet ∙ go.motion.damping
             ∙ moved_damping (w.damping ≡ pos 0) ms w.totals e begun.0 ∙ sound.undamped e;
         one_weight = λ weight all.
-            let before = have_weight weight ps rs (weight_stops w.limit ps rs stops) all in
+            let before = have_weight weight ps rs
+            (zip-weaker (Stops w.limit) (λ p r. r.weight ≡ p.weight) (λ p r s. s.weight) ps rs stops) all in
             let first = have_weight weight w.particles rs (weight_steps w.limit w.particles rs way) all in
             let even = go.motion.even weight before in
             let old = sound.one_weight weight first in (

@@ -135,7 +135,7 @@ fn axis_reaches_within(limit: i64, centre: i64, radius: i64) -> bool
     requires radius { pos 1 ≤ℤ radius }
     ensures { result ≡ is_reach_within limit centre radius }
 {
-    radius - limit <= centre && centre <= limit - radius
+    is_between(radius - limit, limit - radius, centre)
 }
 
 fn reaches_within(limit: i64, centre: Vec3, radius: i64) -> bool

@@ -1,11 +1,15 @@
 use Rattle.std.proofs.Common.{◌∙◌, sym, arith, rules, ap}
+use Rattle.std.specs.List.{Contains}
 use Rattle.std.proofs.lemmas.Result.{err_from_is_err_and}
+use Rattle.pbd_io.specs.Pieces.{WritesPiece}
 use Rattle.pbd_log.specs.Logs.{Log}
-use Rattle.pbd_session.specs.Replaying.{difference}
+use Rattle.pbd_world.specs.Session.{worlds}
+use Rattle.pbd_session.specs.Replaying.{commands_of, difference, replayed}
 use Rattle.pbd_session.proofs.Running.{Does, one_more}
 use Rattle.pbd_session.proofs.Recorded.{is_entry}
 use Rattle.pbd_session.proofs.Replays.{agreed_begins, agreed_next, agreed_failed, agreed_ends, differs_piece, does_one_of, differs_ended}
 use Rattle.pbd_session.proofs.Replays.{differs_world}
+use Rattle.pbd_session.proofs.replay.run_replay.Goals.{After-from_residual}
 use Rattle.pbd_session.proofs.replay.run_replay.Goals as goal
 
 pub loop-entry-init : goal.loop-entry-init
@@ -14,53 +18,41 @@ loop-entry-init g c = record {
   later = search rules;
 }
 
-pub returns-in-Some-difference-clause-bytes : goal.returns-in-Some-difference-clause-bytes
-returns-in-Some-difference-clause-bytes g c =
+pub returns-in-Some-difference : goal.returns-in-Some-difference
+returns-in-Some-difference g c =
+    let agreed = c.loop-entry.invariant.agreed in
     let does : Does c.loop-entry.session c.apply-reply.new.self c.in-Some.entry.command c.apply-reply.result =
     record { world = c.apply-reply.ensures.world; reply = c.apply-reply.ensures.reply } in
     let is = ap (λ (l : Log). l.entries) c.in-Some.ensures.next in
     let other = ap (difference c.in-Some.entry) (sym (is_entry _ _ _ _ _ does c.entry-found.ensures)) ∙ sym c.in-Some-difference.ensures in
-    differs_piece _ _ _ _ _ _ _ _ _ _ _ _ _ _ _ c.loop-entry.invariant.agreed is does other c.write_mismatch.ensures.bytes
+    record {
+      bytes = differs_piece _ _ _ _ _ _ _ _ _ _ _ _ _ _ _ agreed is does other c.write_mismatch.ensures.bytes;
+      ended = rw (← differs_ended _ _ _ _ _ _ _ _ _ _ _ agreed is other) c.write_mismatch.ensures.ended;
+      world = differs_world _ _ _ _ _ _ _ _ _ _ _ _ _ c.write_mismatch.result agreed is does other;
+      one_of = does_one_of _ _ _ _ _ _ _ _ _ _ _ _ agreed is does;
+      cause = search rules;
+    }
 
-pub returns-in-Some-difference-clause-ended : goal.returns-in-Some-difference-clause-ended
-returns-in-Some-difference-clause-ended g c =
-    let does : Does c.loop-entry.session c.apply-reply.new.self c.in-Some.entry.command c.apply-reply.result =
-    record { world = c.apply-reply.ensures.world; reply = c.apply-reply.ensures.reply } in
-    let is = ap (λ (l : Log). l.entries) c.in-Some.ensures.next in
-    let other = ap (difference c.in-Some.entry) (sym (is_entry _ _ _ _ _ does c.entry-found.ensures)) ∙ sym c.in-Some-difference.ensures in
-    rw (← differs_ended _ _ _ _ _ _ _ _ _ _ _ c.loop-entry.invariant.agreed is other) c.write_mismatch.ensures.ended
-
-pub returns-in-Some-difference-clause-world : goal.returns-in-Some-difference-clause-world
-returns-in-Some-difference-clause-world g c =
-    let does : Does c.loop-entry.session c.apply-reply.new.self c.in-Some.entry.command c.apply-reply.result =
-    record { world = c.apply-reply.ensures.world; reply = c.apply-reply.ensures.reply } in
-    let is = ap (λ (l : Log). l.entries) c.in-Some.ensures.next in
-    let other = ap (difference c.in-Some.entry) (sym (is_entry _ _ _ _ _ does c.entry-found.ensures)) ∙ sym c.in-Some-difference.ensures in
-    differs_world _ _ _ _ _ _ _ _ _ _ _ _ _ c.write_mismatch.result c.loop-entry.invariant.agreed is does other
-
-pub returns-in-Some-difference-clause-one_of : goal.returns-in-Some-difference-clause-one_of
-returns-in-Some-difference-clause-one_of g c =
-    let does : Does c.loop-entry.session c.apply-reply.new.self c.in-Some.entry.command c.apply-reply.result =
-    record { world = c.apply-reply.ensures.world; reply = c.apply-reply.ensures.reply } in
-    let is = ap (λ (l : Log). l.entries) c.in-Some.ensures.next in
-    does_one_of _ _ _ _ _ _ _ _ _ _ _ _ c.loop-entry.invariant.agreed is does
-
-pub returns-in_err-write_reply-clause-bytes : goal.returns-in_err-write_reply-clause-bytes
-returns-in_err-write_reply-clause-bytes g c =
+-- a reply could not be written
+failed : (g : _) (c : After-from_residual g) → WritesPiece (g.K.Sink.written c.args.sink.now) (g.K.Sink.written c.write_reply.new.sink)
+    c.from_residual.result (replayed c.args.session.now c.args.view.entries).text
+    × Contains (worlds c.args.session.now (commands_of c.args.view.entries)) c.apply-reply.new.self
+failed g c =
     let p = err_from_is_err_and c.from_residual.result c.from_residual.ensures.1 in
     let does : Does c.loop-entry.session c.apply-reply.new.self c.in-Some.entry.command c.apply-reply.result =
     record { world = c.apply-reply.ensures.world; reply = c.apply-reply.ensures.reply } in
     let is = ap (λ (l : Log). l.entries) c.in-Some.ensures.next in
     let same = ap (difference c.in-Some.entry) (sym (is_entry _ _ _ _ _ does c.entry-found.ensures))
-    ∙ sym c.in_default-difference.ensures in
-    rw p.1 (agreed_failed _ _ _ _ _ _ _ _ _ _ _ _ _ c.loop-entry.invariant.agreed is does same c.in_err-write_reply.ensures.bytes)
+    ∙ sym c.in_default-difference.ensures in (
+      rw p.1 (agreed_failed _ _ _ _ _ _ _ _ _ _ _ _ _ c.loop-entry.invariant.agreed is does same c.in_err-write_reply.ensures.bytes),
+      does_one_of _ _ _ _ _ _ _ _ _ _ _ _ c.loop-entry.invariant.agreed is does,
+    )
+
+pub returns-in_err-write_reply-clause-bytes : goal.returns-in_err-write_reply-clause-bytes
+returns-in_err-write_reply-clause-bytes g c = (failed g (goal.at.returns-in_err-write_reply-clause-bytes g c).After-from_residual).0
 
 pub returns-in_err-write_reply-clause-one_of : goal.returns-in_err-write_reply-clause-one_of
-returns-in_err-write_reply-clause-one_of g c =
-    let does : Does c.loop-entry.session c.apply-reply.new.self c.in-Some.entry.command c.apply-reply.result =
-    record { world = c.apply-reply.ensures.world; reply = c.apply-reply.ensures.reply } in
-    let is = ap (λ (l : Log). l.entries) c.in-Some.ensures.next in
-    does_one_of _ _ _ _ _ _ _ _ _ _ _ _ c.loop-entry.invariant.agreed is does
+returns-in_err-write_reply-clause-one_of g c = (failed g (goal.at.returns-in_err-write_reply-clause-one_of g c).After-from_residual).1
 
 pub overflow_add-number : goal.overflow_add-number
 overflow_add-number g c =
@@ -80,29 +72,13 @@ loop-entry-preserved g c =
       later = omega (arith, c.loop-entry.invariant.later, c.write_reply.ensures.cause);
     }
 
-pub returns-clause-bytes : goal.returns-clause-bytes
-returns-clause-bytes g c = (agreed_ends _ _ _ _ _ _ _ _ c.loop-entry.invariant.agreed c.in_default.ensures.ended).bytes
-
-pub returns-clause-ended : goal.returns-clause-ended
-returns-clause-ended g c = (agreed_ends _ _ _ _ _ _ _ _ c.loop-entry.invariant.agreed c.in_default.ensures.ended).ended
-
-pub returns-clause-world : goal.returns-clause-world
-returns-clause-world g c = (agreed_ends _ _ _ _ _ _ _ _ c.loop-entry.invariant.agreed c.in_default.ensures.ended).world
-
-pub returns-clause-one_of : goal.returns-clause-one_of
-returns-clause-one_of g c = (agreed_ends _ _ _ _ _ _ _ _ c.loop-entry.invariant.agreed c.in_default.ensures.ended).one_of
+pub returns : goal.returns
+returns g c =
+    let ended = agreed_ends _ _ _ _ _ _ _ _ c.loop-entry.invariant.agreed c.in_default.ensures.ended in
+    record { bytes = ended.bytes; ended = ended.ended; world = ended.world; one_of = ended.one_of; cause = search rules }
 
 pub overflow_add-refused : goal.overflow_add-refused
 overflow_add-refused g c =
-    let more = one_more c.apply-reply.result in
-    record {
-      fits = omega (
-        arith,
-        c.loop-entry.invariant.agreed.few,
-        c.loop-entry.invariant.agreed.numbers,
-        c.bytes_left-bytes.ensures.few,
-        c.bytes_left-bytes.ensures.short,
-        c.refusals-refused.ensures,
-        more,
-      );
-    }
+    let agreed = c.loop-entry.invariant.agreed in
+    let bytes = c.bytes_left-bytes.ensures in
+    record { fits = omega (arith, agreed.few, agreed.numbers, bytes.few, bytes.short, c.refusals-refused.ensures, one_more c.apply-reply.result) }

@@ -1,11 +1,5 @@
 use Rattle.pbd_world.proofs.BatchLemmas.{session-coloured, sound-coloured, sound-none_last}
 use Rattle.pbd_world.proofs.laws.links_are_never_serial.Goals as goal
 
-pub returns-clause-coloured : goal.returns-clause-coloured
-returns-clause-coloured c = sound-coloured
-
-pub returns-clause-none_last : goal.returns-clause-none_last
-returns-clause-none_last c = sound-none_last
-
-pub returns-clause-ever : goal.returns-clause-ever
-returns-clause-ever c = session-coloured
+pub returns : goal.returns
+returns c = record { coloured = sound-coloured; none_last = sound-none_last; ever = session-coloured }
