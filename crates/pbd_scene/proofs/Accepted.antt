@@ -20,7 +20,7 @@ use Rattle.pbd_scene.specs.declared.fault.KeyName.TheVariants as keys
 use Rattle.pbd_scene.specs.Checks.{Checked, ◌>>=◌, expect, expect_some, each}
 use Rattle.pbd_scene.specs.Keys.{table_text}
 use Rattle.pbd_scene.specs.Values.{value_of, found, integer, any_integer, required_integer, optional_integer, integer_or, count_or, vector}
-use Rattle.pbd_scene.specs.Values.{three_integers, required_vector, vector_or, array_of, at, entries, entries_of, table_of}
+use Rattle.pbd_scene.specs.Values.{three_integers, required_vector, vector_or, array_of, at, entries, entries_of, entry, entry_of, table_of}
 
 -- ---- chains of checks
 
@@ -184,23 +184,34 @@ few_entries table most ms ds is =
         let t = tested (nat_le (length a.0) most) TooMany (at table 0) keys.NoKey a.0 ds a.2 in
         rw (← t.1) t.0
 
+-- an entry that is accepted was read from its members
+entry_read : {A P : Type 0} (table : TableName) (read : List A → Place → Members → Checked A) (front : List A) (d : Data) (y : A)
+    → entry_of table read front d ≡ Ok y → ((place : Place) (ms : Members) → read front place ms ≡ Ok y → P) → P
+unfolding entry_of
+entry_read table read front d y is k =
+    let place = at table (length front) in
+    through (entry place d) _ y is (λ ms known is_read. k place ms is_read)
+
 -- the entries of a table: few, and each passes
-pub table_pass : {A : Type 0} (table : TableName) (most : ℕ) (read : List A → Data → Checked A) (test : A → Bool)
-    → ((front : List A) (d : Data) (y : A) → read front d ≡ Ok y → test y ≡ true) → (ms : Members) (ys : List A)
+pub table_pass : {A : Type 0} (table : TableName) (most : ℕ) (read : List A → Place → Members → Checked A) (test : A → Bool)
+    → ((front : List A) (place : Place) (ms : Members) (y : A) → read front place ms ≡ Ok y → test y ≡ true) → (ms : Members) (ys : List A)
     → table_of table most read ms ≡ Ok ys → (list_all test ys ≡ true) × (length ys ≤ most)
 unfolding table_of
 table_pass table most read test fits ms ys is =
-    let ds = bind_ok (entries_of table most ms) (λ ds. each read [] ds) ys is in
-    (each_pass read test fits ds.0 ys ds.2, omega (arith, each_count read [] ds.0 ys ds.2, few_entries table most ms ds.0 ds.1))
+    let ds = bind_ok (entries_of table most ms) (λ ds. each (entry_of table read) [] ds) ys is in
+    let pass = each_pass (entry_of table read) test
+    (λ front d y e. entry_read table read front d y e (λ place ms is_read. fits front place ms y is_read)) ds.0 ys ds.2 in
+    (pass, omega (arith, each_count (entry_of table read) [] ds.0 ys ds.2, few_entries table most ms ds.0 ds.1))
 
 -- the same of a fact of the entries together
-pub table_keeps : {A : Type 0} (table : TableName) (most : ℕ) (read : List A → Data → Checked A) (P : List A → Type 0)
-    → ((front : List A) (d : Data) (y : A) → P front → read front d ≡ Ok y → P (front ++ y ∷ [])) → P [] → (ms : Members) (ys : List A)
-    → table_of table most read ms ≡ Ok ys → P ys
+pub table_keeps : {A : Type 0} (table : TableName) (most : ℕ) (read : List A → Place → Members → Checked A) (P : List A → Type 0)
+    → ((front : List A) (place : Place) (ms : Members) (y : A) → P front → read front place ms ≡ Ok y → P (front ++ y ∷ [])) → P []
+    → (ms : Members) (ys : List A) → table_of table most read ms ≡ Ok ys → P ys
 unfolding table_of
 table_keeps table most read P next none ms ys is =
-    let ds = bind_ok (entries_of table most ms) (λ ds. each read [] ds) ys is in
-    each_keeps read P next [] ds.0 ys none ds.2
+    let ds = bind_ok (entries_of table most ms) (λ ds. each (entry_of table read) [] ds) ys is in
+    each_keeps (entry_of table read) P
+    (λ front d y held e. entry_read table read front d y e (λ place ms is_read. next front place ms y held is_read)) [] ds.0 ys none ds.2
 
 -- the same where what is read passes a test
 pub each_keeps_where : {X A : Type 0} (read : List A → X → Checked A) (test : X → Bool) (P : List A → Type 0)

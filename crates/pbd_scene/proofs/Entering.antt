@@ -2,7 +2,7 @@
 use Rattle.std.proofs.Common.{suc, ◌≡◌, ◌∙◌, refl, ℕ, ◌+◌, ◌-◌, ◌≤◌, ◌<◌, List, [], ◌∷◌, ◌++◌, length, Bool, true, false, Ok, Option, Some}
 use Rattle.std.proofs.Common.{None, arith, pos, negsuc, ℤ}
 use Rattle.std.specs.Prelude.{unwrap_or, ◌&&◌, ◌||◌, not, nat_le, nat_lt, int_le, unsigned_abs, ◌*ℤ◌, ◌-ℤ◌, ◌≤ℤ◌, ◌^◌, if◌then◌else◌}
-use Rattle.std.specs.List.{list_all}
+use Rattle.std.specs.List.{list_all, sum_by}
 use Rattle.std.proofs.lemmas.Int.{ints}
 use Rattle.std.proofs.lemmas.Bool.{and_parts, and_from, le-leb, leb-true}
 use Rattle.std.proofs.lemmas.Bool.Decides.{nat_tests}
@@ -10,10 +10,6 @@ use Rattle.std.proofs.lemmas.List.Folds.{list_all-append}
 use Rattle.toml.specs.Data.{Data, Members}
 use Rattle.pbd_num.specs.declared.Vec3.{Vec3}
 use Rattle.pbd_num.specs.Vectors.{is_within, is_axis_within, zero_vector, minus, squared_length}
-use Rattle.pbd_mesh.specs.declared.spec.ClothSpec.{ClothSpec}
-use Rattle.pbd_mesh.specs.declared.spec.RopeSpec.{RopeSpec}
-use Rattle.pbd_mesh.specs.Cloth.{cloth_fits}
-use Rattle.pbd_mesh.specs.Rope.{rope_fits}
 use Rattle.pbd_mesh.proofs.Below.{below}
 use Rattle.pbd_world.specs.declared.parts.Particle.{Particle}
 use Rattle.pbd_world.specs.declared.parts.Plane.{Plane}
@@ -27,16 +23,15 @@ use Rattle.pbd_scene.specs.declared.raw.TrackEntry.{TrackEntry}
 use Rattle.pbd_scene.specs.declared.fault.SceneRule.TheVariants.{OutOfRange, TooMany, BadTrack}
 use Rattle.pbd_scene.specs.declared.fault.Place.{Place}
 use Rattle.pbd_scene.specs.declared.fault.KeyName.TheVariants as keys
-use Rattle.pbd_scene.specs.declared.fault.TableName.TheVariants as tables
-use Rattle.pbd_scene.specs.Checks.{expect, each}
-use Rattle.pbd_scene.specs.Values.{at, entry, required_vector, vector_or, required_integer, required_any_integer, optional_integer}
-use Rattle.pbd_scene.specs.Values.{integer_or, count_or, boolean_or, row, required_array}
-use Rattle.pbd_scene.specs.Entries.{particle_of, inside_before, place_before, cloth_spec_of, cloth_of, rope_particles_of, rope_links_of}
-use Rattle.pbd_scene.specs.Entries.{rope_with, rope_of, fitting_cloth, fitting_rope, room_for, cloth_size, all_cloths_size, all_ropes_size}
+use Rattle.pbd_scene.specs.declared.fault.TableName.{TableName}
+use Rattle.pbd_scene.specs.Checks.{Checked, expect, each}
+use Rattle.pbd_scene.specs.Values.{required_vector, vector_or, required_integer, required_any_integer, optional_integer, integer_or}
+use Rattle.pbd_scene.specs.Values.{count_or, boolean_or, row, required_array, table_of}
+use Rattle.pbd_scene.specs.Entries.{particle_of, inside_before, place_before, mesh_of, room_for}
 use Rattle.pbd_scene.specs.Entries.{link_of, plane_of, sphere_of, reaches_within, on_by, back_by, row_of, key_of, step_number, step_of}
 use Rattle.pbd_scene.specs.Entries.{steps_rise, few_rows, rising_path, path_of, track_of}
 use Rattle.pbd_scene.proofs.Accepted.{through, expect_ok, same_ok, tested, optional_some, between, required_integer_ok, integer_or_ok}
-use Rattle.pbd_scene.proofs.Accepted.{count_or_ok, required_vector_ok, each_pass, each_count}
+use Rattle.pbd_scene.proofs.Accepted.{count_or_ok, required_vector_ok, each_pass, each_count, table_keeps}
 
 -- ---- particles
 
@@ -62,13 +57,11 @@ unfolding inside_before
 inside_before_ok limit place at velocity v is = let t = tested (is_within limit (place_before at velocity)) OutOfRange place keys.Velocity
     (place_before at velocity) v is in rw (← t.1) t.0
 
-pub particle_passes : (limit : ℤ) (before : List Particle) (d : Data) (p : Particle) → particle_of limit before d ≡ Ok p
+pub particle_passes : (limit : ℤ) (place : Place) (ms : Members) (p : Particle) → particle_of limit place ms ≡ Ok p
     → is_entry_particle limit p ≡ true
 unfolding particle_of
-particle_passes limit before d p is =
-    let place = at tables.Particle (length before) in
-    through (entry place d) _ p is (λ ms e1 is1.
-    through (required_vector place keys.At limit ms) _ p is1 (λ here e2 is2.
+particle_passes limit place ms p is =
+    through (required_vector place keys.At limit ms) _ p is (λ here e2 is2.
     through (vector_or place keys.Velocity (pos 2 *ℤ limit) zero_vector ms) _ p is2 (λ velocity e3 is3.
     through (count_or place keys.Weight 1 65535 1 ms) _ p is3 (λ weight e4 is4.
     through (boolean_or place keys.Held false ms) _ p is4 (λ held e5 is5.
@@ -77,83 +70,49 @@ particle_passes limit before d p is =
     let all : Particle = record { at = here; before = if held then here else gone; weight = weight; held = held } in
     let same : all ≡ p = same_ok all p is6 in
     rw (← same) (particle_tests limit here gone weight held (required_vector_ok place keys.At limit ms here e2)
-    (inside_before_ok limit place here velocity gone e6) (le-leb 1 weight w.0) (le-leb weight 65535 w.1))))))))
+    (inside_before_ok limit place here velocity gone e6) (le-leb 1 weight w.0) (le-leb weight 65535 w.1)))))))
 
 -- ---- meshes
 
--- cloths that fit, and leave the particles few
-pub record CloseCloths (limit : ℤ) (count : ℕ) (cloths : List ClothSpec) : Type 0 where
-  pub fit : list_all (cloth_fits limit) cloths ≡ true
-  pub room : count + all_cloths_size cloths ≤ 65536
-
-pub record CloseRopes (limit : ℤ) (count : ℕ) (ropes : List RopeSpec) : Type 0 where
-  pub fit : list_all (rope_fits limit) ropes ≡ true
-  pub room : count + all_ropes_size ropes ≤ 65536
+-- meshes that fit, and leave the particles few
+pub record AreClose {A : Type 0} (fits : A → Bool) (size : A → ℕ) (count : ℕ) (meshes : List A) : Type 0 where
+  pub fit : list_all fits meshes ≡ true
+  pub room : count + sum_by size meshes ≤ 65536
 
 room_ok : (place : Place) (n : ℕ) (u : Unit {0}) → room_for place n ≡ Ok u → n ≤ 65536
 unfolding room_for
 room_ok place n u is = leb-true n 65536 (expect_ok (nat_le n 65536) TooMany place keys.NoKey u is)
 
-fitting_cloth_ok : (limit : ℤ) (count : ℕ) (before : List ClothSpec) (place : Place) (spec s : ClothSpec)
-    → fitting_cloth limit count before place spec ≡ Ok s → (cloth_fits limit s ≡ true)
-    × (count + all_cloths_size before + cloth_size s ≤ 65536)
-unfolding fitting_cloth
-fitting_cloth_ok limit count before place spec s is =
-    through (expect (cloth_fits limit spec) OutOfRange place keys.NoKey) _ s is (λ u e1 is1.
-    through (room_for place (count + all_cloths_size before + cloth_size spec)) _ s is1 (λ v e2 is2.
-    rw (← same_ok spec s is2) (
-      expect_ok (cloth_fits limit spec) OutOfRange place keys.NoKey u e1,
-      room_ok place (count + all_cloths_size before + cloth_size spec) v e2,
-    )))
+mesh_ok : {A : Type 0} (fits : A → Bool) (size : A → ℕ) (count : ℕ) (before : List A) (place : Place) (given : Checked A) (s : A)
+    → mesh_of fits size count before place given ≡ Ok s → (fits s ≡ true) × (count + sum_by size before + size s ≤ 65536)
+unfolding mesh_of
+mesh_ok fits size count before place given s is =
+    through given _ s is (λ spec e1 is1.
+    through (expect (fits spec) OutOfRange place keys.NoKey) _ s is1 (λ u e2 is2.
+    through (room_for place (count + sum_by size before + size spec)) _ s is2 (λ v e3 is3.
+    rw (← same_ok spec s is3) (
+      expect_ok (fits spec) OutOfRange place keys.NoKey u e2,
+      room_ok place (count + sum_by size before + size spec) v e3,
+    ))))
 
-fitting_rope_ok : (limit : ℤ) (count : ℕ) (before : List RopeSpec) (place : Place) (spec s : RopeSpec)
-    → fitting_rope limit count before place spec ≡ Ok s → (rope_fits limit s ≡ true) × (count + all_ropes_size before + s.count ≤ 65536)
-unfolding fitting_rope
-fitting_rope_ok limit count before place spec s is =
-    through (expect (rope_fits limit spec) OutOfRange place keys.NoKey) _ s is (λ u e1 is1.
-    through (room_for place (count + all_ropes_size before + spec.count)) _ s is1 (λ v e2 is2.
-    rw (← same_ok spec s is2) (
-      expect_ok (rope_fits limit spec) OutOfRange place keys.NoKey u e1,
-      room_ok place (count + all_ropes_size before + spec.count) v e2,
-    )))
-
-cloth_ok : (limit : ℤ) (count : ℕ) (before : List ClothSpec) (d : Data) (s : ClothSpec) → cloth_of limit count before d ≡ Ok s
-    → (cloth_fits limit s ≡ true) × (count + all_cloths_size before + cloth_size s ≤ 65536)
-unfolding cloth_of
-cloth_ok limit count before d s is =
-    let place = at tables.Cloth (length before) in
-    through (entry place d) _ s is (λ ms e1 is1.
-    through (cloth_spec_of place limit ms) _ s is1 (λ spec e2 is2.
-    fitting_cloth_ok limit count before place spec s is2))
-
-rope_ok : (limit : ℤ) (count : ℕ) (before : List RopeSpec) (d : Data) (s : RopeSpec) → rope_of limit count before d ≡ Ok s
-    → (rope_fits limit s ≡ true) × (count + all_ropes_size before + s.count ≤ 65536)
-unfolding rope_of
-rope_ok limit count before d s is =
-    let place = at tables.Rope (length before) in
-    through (entry place d) _ s is (λ ms e1 is1.
-    through (rope_particles_of place limit ms) _ s is1 (λ particles e2 is2.
-    through (rope_links_of place limit ms) _ s is2 (λ links e3 is3.
-    fitting_rope_ok limit count before place (rope_with particles links) s is3)))
-
-pub cloths_keep : (limit : ℤ) (count : ℕ) (before : List ClothSpec) (d : Data) (s : ClothSpec) → CloseCloths limit count before
-    → cloth_of limit count before d ≡ Ok s → CloseCloths limit count (before ++ s ∷ [])
-cloths_keep limit count before d s held is =
-    let t = cloth_ok limit count before d s is in
+close_next : {A : Type 0} (fits : A → Bool) (size : A → ℕ) (count : ℕ) (before : List A) (place : Place) (given : Checked A) (s : A)
+    → AreClose fits size count before → mesh_of fits size count before place given ≡ Ok s → AreClose fits size count (before ++ s ∷ [])
+close_next fits size count before place given s held is =
+    let t = mesh_ok fits size count before place given s is in
     record {
-      fit = rw (list_all-append (cloth_fits limit) before (s ∷ []), held.fit, t.0) refl;
-      room = omega (arith, t.1, sum_by-append cloth_size before (s ∷ []), sum_by-cons cloth_size s []);
-    }
-
-pub ropes_keep : (limit : ℤ) (count : ℕ) (before : List RopeSpec) (d : Data) (s : RopeSpec) → CloseRopes limit count before
-    → rope_of limit count before d ≡ Ok s → CloseRopes limit count (before ++ s ∷ [])
-ropes_keep limit count before d s held is =
-    let t = rope_ok limit count before d s is in
-    let size = λ (r : RopeSpec). r.count in
-    record {
-      fit = rw (list_all-append (rope_fits limit) before (s ∷ []), held.fit, t.0) refl;
+      fit = rw (list_all-append fits before (s ∷ []), held.fit, t.0) refl;
       room = omega (arith, t.1, sum_by-append size before (s ∷ []), sum_by-cons size s []);
     }
+
+-- the meshes of a table, where so many particles stand before them
+pub meshes_close : {A : Type 0} (table : TableName) (fits : A → Bool) (size : A → ℕ) (count : ℕ) (given : Place → Members → Checked A)
+    → count ≤ 65536 → (ms : Members) (meshes : List A)
+    → table_of table 64 (λ before place ms. mesh_of fits size count before place (given place ms)) ms ≡ Ok meshes
+    → AreClose fits size count meshes
+meshes_close table fits size count given few ms meshes is =
+    let none : AreClose fits size count [] = record { fit = refl; room = omega (arith, few) } in
+    table_keeps table 64 (λ before place ms. mesh_of fits size count before place (given place ms)) (AreClose fits size count)
+    (λ front place ms y held e. close_next fits size count front place (given place ms) y held e) none ms meshes is
 
 -- ---- links
 
@@ -179,13 +138,11 @@ rest_or limit (Some n) default h k = h
 zero_length : (limit : ℤ) → pos 0 ≤ℤ limit → between (pos 0) (pos 4 *ℤ limit) (pos 0) ≡ true
 zero_length limit low = grind (arith, ints, nat_tests)
 
-pub link_passes : (limit : ℤ) → pos 0 ≤ℤ limit → (before : List LinkEntry) (d : Data) (l : LinkEntry) → link_of limit before d ≡ Ok l
+pub link_passes : (limit : ℤ) → pos 0 ≤ℤ limit → (place : Place) (ms : Members) (l : LinkEntry) → link_of limit place ms ≡ Ok l
     → is_link_entry limit l ≡ true
 unfolding link_of
-link_passes limit low before d l is =
-    let place = at tables.Link (length before) in
-    through (entry place d) _ l is (λ ms e1 is1.
-    through (required_any_integer place keys.A ms) _ l is1 (λ a e2 is2.
+link_passes limit low place ms l is =
+    through (required_any_integer place keys.A ms) _ l is (λ a e2 is2.
     through (required_any_integer place keys.B ms) _ l is2 (λ b e3 is3.
     through (optional_integer place keys.Rest (pos 0) (pos 4 *ℤ limit) ms) _ l is3 (λ rest e4 is4.
     through (count_or place keys.Stiffness 0 256 256 ms) _ l is4 (λ k e5 is5.
@@ -197,22 +154,20 @@ link_passes limit low before d l is =
       integer_or_ok place keys.Tear (pos 0) (pos 4 *ℤ limit) (pos 0) ms tear (zero_length limit low) e6,
       le-leb k 256 stiff.1,
     )
-    refl)))))))
+    refl))))))
 
 -- ---- shapes
 
-pub plane_passes : (before : List Plane) (d : Data) (p : Plane) → plane_of before d ≡ Ok p → is_valid_plane p ≡ true
+pub plane_passes : (place : Place) (ms : Members) (p : Plane) → plane_of place ms ≡ Ok p → is_valid_plane p ≡ true
 unfolding plane_of
-plane_passes before d p is =
-    let place = at tables.Plane (length before) in
-    through (entry place d) _ p is (λ ms e1 is1.
-    through (required_vector place keys.Normal (pos 1024) ms) _ p is1 (λ normal e2 is2.
+plane_passes place ms p is =
+    through (required_vector place keys.Normal (pos 1024) ms) _ p is (λ normal e2 is2.
     through (required_integer place keys.Offset (negsuc 1099511627775) (pos 1099511627776) ms) _ p is2 (λ offset e3 is3.
     let all : Plane = record { normal = normal; offset = offset } in
     let t = tested (nat_lt 0 (squared_length normal)) OutOfRange place keys.Normal all p is3 in
     let far : is_axis_within (pos (2 ^ 40)) offset ≡ true =
     required_integer_ok place keys.Offset (negsuc 1099511627775) (pos 1099511627776) ms offset e3 in
-    rw (← t.1) (and_from _ _ (and_from _ _ (required_vector_ok place keys.Normal (pos 1024) ms normal e2) t.0) far))))
+    rw (← t.1) (and_from _ _ (and_from _ _ (required_vector_ok place keys.Normal (pos 1024) ms normal e2) t.0) far)))
 
 reach_parts : (limit : ℤ) (centre : Vec3) (radius : ℤ) → reaches_within limit centre radius ≡ true
     → (is_within limit (on_by radius centre) ≡ true) × (is_within limit (back_by radius centre) ≡ true)
@@ -227,19 +182,17 @@ sphere_tests limit centre radius one up down = and_from _ _ (and_from _ _ one up
 at_least_one : (limit radius : ℤ) → between (pos 1) limit radius ≡ true → int_le (pos 1) radius ≡ true
 at_least_one limit radius t = (and_parts (int_le (pos 1) radius) (int_le radius limit) t).0
 
-pub sphere_passes : (limit : ℤ) (before : List Sphere) (d : Data) (s : Sphere) → sphere_of limit before d ≡ Ok s
+pub sphere_passes : (limit : ℤ) (place : Place) (ms : Members) (s : Sphere) → sphere_of limit place ms ≡ Ok s
     → is_valid_sphere limit s ≡ true
 unfolding sphere_of
-sphere_passes limit before d s is =
-    let place = at tables.Sphere (length before) in
-    through (entry place d) _ s is (λ ms e1 is1.
-    through (required_vector place keys.Centre limit ms) _ s is1 (λ centre e2 is2.
+sphere_passes limit place ms s is =
+    through (required_vector place keys.Centre limit ms) _ s is (λ centre e2 is2.
     through (required_integer place keys.Radius (pos 1) limit ms) _ s is2 (λ radius e3 is3.
     let all : Sphere = record { centre = centre; radius = radius } in
     let t = tested (reaches_within limit centre radius) OutOfRange place keys.Radius all s is3 in
     let reach = reach_parts limit centre radius t.0 in
     rw (← t.1) (sphere_tests limit centre radius (at_least_one limit radius
-    (required_integer_ok place keys.Radius (pos 1) limit ms radius e3)) reach.0 reach.1))))
+    (required_integer_ok place keys.Radius (pos 1) limit ms radius e3)) reach.0 reach.1)))
 
 -- ---- tracks
 
@@ -320,13 +273,11 @@ path_passes limit place ms path is =
     through (few_rows place ds) _ path is1 (λ u e2 is2.
     track_path limit place ds path (rows_few place ds u e2) is2))
 
-pub track_passes : (limit : ℤ) (before : List TrackEntry) (d : Data) (t : TrackEntry) → track_of limit before d ≡ Ok t
+pub track_passes : (limit : ℤ) (place : Place) (ms : Members) (t : TrackEntry) → track_of limit place ms ≡ Ok t
     → has_keys limit t.keys ≡ true
 unfolding track_of
-track_passes limit before d t is =
-    let place = at tables.Track (length before) in
-    through (entry place d) _ t is (λ ms e1 is1.
-    through (required_any_integer place keys.Particle ms) _ t is1 (λ particle e2 is2.
+track_passes limit place ms t is =
+    through (required_any_integer place keys.Particle ms) _ t is (λ particle e2 is2.
     through (path_of place limit ms) _ t is2 (λ path e3 is3.
     let all : TrackEntry = record { particle = particle; keys = path } in
-    rw (← same_ok all t is3) (path_passes limit place ms path e3))))
+    rw (← same_ok all t is3) (path_passes limit place ms path e3)))

@@ -1,10 +1,10 @@
 -- What the tables of a tree give, while its parts are put together.
-use Rattle.std.proofs.Common.{◌≡◌, refl, ℕ, zero, suc, ◌+◌, ◌≤◌, ◌<◌, ◌^◌, List, [], ◌∷◌, length, Bool, true, arith, pos, ℤ, All, get_or}
+use Rattle.std.proofs.Common.{◌≡◌, refl, ◌+◌, ◌≤◌, ◌^◌, List, [], ◌∷◌, length, Bool, true, arith, ℤ, All, get_or}
 use Rattle.std.specs.Prelude.{IsTrue, fold}
 use Rattle.std.specs.List.{list_all}
 use Rattle.std.proofs.lemmas.Bool.{and_parts}
 use Rattle.std.proofs.lemmas.List.{length-append}
-use Rattle.std.proofs.lemmas.List.Elements.{All-from_get_or}
+use Rattle.std.proofs.lemmas.List.Elements.{All-from_get_or, All-cons, All-nil}
 use Rattle.std.proofs.lemmas.List.Sums.{sum_by-cons}
 use Rattle.pbd_num.specs.Vectors.{Within, is_within, zero_vector}
 use Rattle.pbd_num.proofs.Ranges.{within_facts}
@@ -25,41 +25,11 @@ use Rattle.pbd_scene.proofs.LiveLinks.{within_at}
 use Rattle.pbd_scene.proofs.Validity.{TablesFit, Meshed, meshes_fit}
 
 -- a test of all, as a fact of each
-at : {A : Type 0} (test : A → Bool) (xs : List A) (i : ℕ) (d : A) → list_all test xs ≡ true → i < length xs → test (get_or xs i d) ≡ true
-at test [] i d t within = absurd (omega (arith, within))
-at test (x ∷ xs) zero d t within = (and_parts (test x) (list_all test xs) t).0
-at test (x ∷ xs) (suc i) d t within = at test xs i d (and_parts (test x) (list_all test xs) t).1 (omega (arith, within))
-
-each_of : {A : Type 0} (test : A → Bool) (d : A) (xs : List A) → list_all test xs ≡ true → All (λ x. test x ≡ true) xs
-each_of test d xs t = All-from_get_or (λ x. test x ≡ true) xs d (λ i within. at test xs i d t within)
-
-no_cloth : ClothSpec
-no_cloth = record {
-  origin = zero_vector;
-  across = zero_vector;
-  down = zero_vector;
-  rows = 0;
-  columns = 0;
-  weight = 0;
-  stretch = 0;
-  shear = 0;
-  bend = 0;
-  stretch_tear = pos 0;
-  shear_tear = pos 0;
-  bend_tear = pos 0;
-}
-
-no_rope : RopeSpec
-no_rope = record {
-  origin = zero_vector;
-  spacing = zero_vector;
-  count = 0;
-  weight = 0;
-  stretch = 0;
-  bend = 0;
-  stretch_tear = pos 0;
-  bend_tear = pos 0;
-}
+each_of : {A : Type 0} (test : A → Bool) (xs : List A) → list_all test xs ≡ true → All (λ x. test x ≡ true) xs
+each_of test [] t = All-nil (λ x. test x ≡ true)
+each_of test (x ∷ xs) t =
+    let parts = and_parts (test x) (list_all test xs) t in
+    All-cons (λ x. test x ≡ true) x xs parts.0 (each_of test xs parts.1)
 
 no_particle : Particle
 no_particle = record { at = zero_vector; before = zero_vector; weight = 0; held = true }
@@ -67,7 +37,7 @@ no_particle = record { at = zero_vector; before = zero_vector; weight = 0; held 
 -- the cloths, and their room
 pub cloths_fit : (limit m : ℤ) (t : Tables) (xs : List ClothSpec) → xs ≡ t.cloths → m ≡ limit → TablesFit limit t
     → All (λ s. cloth_fits m s ≡ true) xs
-cloths_fit limit m t xs same is fit = rw (same, is) (each_of (cloth_fits limit) no_cloth t.cloths fit.cloths.fit)
+cloths_fit limit m t xs same is fit = rw (same, is) (each_of (cloth_fits limit) t.cloths fit.cloths.fit)
 
 -- ---- parts to which the cloths are added, and then the ropes
 
@@ -94,7 +64,7 @@ cloths_grow parts (s ∷ ss) = omega (
 
 pub ropes_fit : (limit m : ℤ) (t : Tables) (ys : List RopeSpec) → ys ≡ t.ropes → m ≡ limit → TablesFit limit t
     → All (λ s. rope_fits m s ≡ true) ys
-ropes_fit limit m t ys same is fit = rw (same, is) (each_of (rope_fits limit) no_rope t.ropes fit.ropes.fit)
+ropes_fit limit m t ys same is fit = rw (same, is) (each_of (rope_fits limit) t.ropes fit.ropes.fit)
 
 pub meshes_room : (limit : ℤ) (t : Tables) (xs : List ClothSpec) (ys : List RopeSpec) → xs ≡ t.cloths → ys ≡ t.ropes → TablesFit limit t
     → length t.particles + all_cloths_size xs + all_ropes_size ys ≤ 65536

@@ -1,6 +1,6 @@
 -- A list of values that is read one after another.
 use Rattle.std.proofs.Common.{◌≡◌, ◌∙◌, ap, sym, refl, ℕ, ◌+◌, ◌<◌, ◌≤◌, List, [], ◌∷◌, ◌++◌, length, get_or, drop, map, Ok, Err, arith}
-use Rattle.std.specs.Prelude.{Result, IfOk, IsErrAnd, Some, unwrap_or}
+use Rattle.std.specs.Prelude.{Result, IsErrAnd, Some, unwrap_or}
 use Rattle.std.specs.List.{All, sum_by}
 use Rattle.std.proofs.lemmas.List.{drop_more, drop_all, length-append, get_or_default}
 use Rattle.std.proofs.lemmas.List.Elements.{All-append, All-cons, All-nil}
@@ -118,11 +118,10 @@ found_gives view (Err e) r default fails = bind_fails e (r >>= λ x. Ok (Some x)
 
 -- ---- items of which each fits, and for which there is room together
 
-pub one_more : {A : Type 0} (fits : A → Type 0) (size : A → ℕ) (count : ℕ) (before : List A) (r : Result A SceneFault) → All fits before
-    → IfOk r fits → IfOk r (λ x. count + sum_by size before + size x ≤ 65536)
-    → IfOk r (λ x. (count + sum_by size (before ++ x ∷ []) ≤ 65536) × All fits (before ++ x ∷ []))
-one_more fits size count before (Ok x) all fit room = (
+pub one_more : {A : Type 0} (fits : A → Type 0) (size : A → ℕ) (count : ℕ) (before : List A) (x : A) → All fits before → fits x
+    → count + sum_by size before + size x ≤ 65536
+    → (count + sum_by size (before ++ x ∷ []) ≤ 65536) × All fits (before ++ x ∷ [])
+one_more fits size count before x all fit room = (
   omega (arith, room, sum_by_push size before x),
   All-append fits before (x ∷ []) all (All-cons fits x [] fit (All-nil fits)),
 )
-one_more fits size count before (Err e) all fit room = tt

@@ -2,7 +2,7 @@
 use Rattle.std.proofs.Common.{◌≡◌, ◌∙◌, ap, refl, ℕ, zero, suc, ◌+◌, ◌*◌, ◌≤◌, ◌<◌, List, [], ◌∷◌, ◌++◌, length, Bool, true, false, not}
 use Rattle.std.proofs.Common.{◌&&◌, ◌||◌, ◌==◌, Ok, map, arith, pos, ℤ, ◌≤ℤ◌, get_or, append_assoc}
 use Rattle.std.specs.Prelude.{nat_le, nat_lt, IsTrue, fold, if◌then◌else◌}
-use Rattle.std.specs.List.{list_all, list_any}
+use Rattle.std.specs.List.{list_all, list_any, sum_by}
 use Rattle.std.proofs.lemmas.Bool.{and_parts, and_from, not-true, or_left, or_right, eq-eqb, lt-ltb, le-leb, ltb-true}
 use Rattle.std.proofs.lemmas.List.{length-append}
 use Rattle.std.proofs.lemmas.List.Folds.{list_all-append, list_any-append}
@@ -10,8 +10,6 @@ use Rattle.std.proofs.lemmas.List.Sums.{sum_by-cons}
 use Rattle.toml.specs.Data.{Members}
 use Rattle.pbd_num.specs.Vectors.{is_within, zero_vector}
 use Rattle.pbd_num.proofs.Ranges.{within_facts}
-use Rattle.pbd_mesh.specs.declared.spec.ClothSpec.{ClothSpec}
-use Rattle.pbd_mesh.specs.declared.spec.RopeSpec.{RopeSpec}
 use Rattle.pbd_mesh.specs.Cloth.{cloth_fits, cloth_particles, cloth_links}
 use Rattle.pbd_mesh.specs.Rope.{rope_fits, rope_particles, rope_links}
 use Rattle.pbd_mesh.specs.Meshes.{is_free_and_valid, IsMesh}
@@ -37,15 +35,15 @@ use Rattle.pbd_scene.specs.declared.fault.TableName.TheVariants as tables
 use Rattle.pbd_scene.specs.Checks.{each}
 use Rattle.pbd_scene.specs.Keys.{known}
 use Rattle.pbd_scene.specs.Values.{at, vector_or, count_or, integer_or}
-use Rattle.pbd_scene.specs.Entries.{cloth_of, rope_of, particle_of, link_of, plane_of, sphere_of, track_of, cloth_size as size_of_cloth}
-use Rattle.pbd_scene.specs.Entries.{all_cloths_size, all_ropes_size}
+use Rattle.pbd_scene.specs.Entries.{cloth_spec_of, rope_spec_of, particle_of, link_of, plane_of, sphere_of, track_of, all_cloths_size}
+use Rattle.pbd_scene.specs.Entries.{cloth_size as size_of_cloth, rope_size as size_of_rope}
 use Rattle.pbd_scene.specs.Naming.{particle_number, all_links, pinned, placed_track, held_still, holding}
 use Rattle.pbd_scene.specs.Scene.{at_scene, pins_of, numbers_of, settings_of, particles_of, cloths_of, ropes_of, links_of, planes_of}
 use Rattle.pbd_scene.specs.Scene.{spheres_of, tracks_of, tables_of, with_cloth, with_rope, plain_parts, with_meshes, named, with_entries}
 use Rattle.pbd_scene.specs.Scene.{scene_of}
 use Rattle.pbd_scene.proofs.Accepted.{through, same_ok, tested, integer_or_ok, count_or_ok, vector_or_ok, each_keeps_where, table_pass}
-use Rattle.pbd_scene.proofs.Accepted.{table_keeps, each_count}
-use Rattle.pbd_scene.proofs.Entering.{at_rest, is_entry_particle, particle_passes, CloseCloths, CloseRopes, cloths_keep, ropes_keep}
+use Rattle.pbd_scene.proofs.Accepted.{each_count}
+use Rattle.pbd_scene.proofs.Entering.{at_rest, is_entry_particle, particle_passes, AreClose, meshes_close}
 use Rattle.pbd_scene.proofs.Entering.{is_link_entry, link_passes, plane_passes, sphere_passes, has_keys, track_passes}
 use Rattle.pbd_scene.proofs.LiveLinks.{LiveLinks, live_none, live_mesh, links_fit, number_ok}
 
@@ -53,8 +51,8 @@ use Rattle.pbd_scene.proofs.LiveLinks.{LiveLinks, live_none, live_mesh, links_fi
 
 pub record TablesFit (limit : ℤ) (t : Tables) : Type 0 where
   pub particles : list_all (is_entry_particle limit) t.particles ≡ true
-  pub cloths : CloseCloths limit (length t.particles) t.cloths
-  pub ropes : CloseRopes limit (length t.particles + all_cloths_size t.cloths) t.ropes
+  pub cloths : AreClose (cloth_fits limit) size_of_cloth (length t.particles) t.cloths
+  pub ropes : AreClose (rope_fits limit) size_of_rope (length t.particles + all_cloths_size t.cloths) t.ropes
   pub links : list_all (is_link_entry limit) t.links ≡ true
   pub few_links : length t.links ≤ 524288
   pub planes : list_all is_valid_plane t.planes ≡ true
@@ -83,22 +81,19 @@ tables_fit limit ms t low is =
       spheres = spheres;
       tracks = tracks;
     } in
-    let p = table_pass tables.Particle 65536 (particle_of limit) (is_entry_particle limit)
-    (λ front d y e. particle_passes limit front d y e) ms particles e1 in
-    let no_cloths : CloseCloths limit (length particles) [] = record { fit = refl; room = omega (arith, p.1) } in
-    let c = table_keeps tables.Cloth 64 (cloth_of limit (length particles)) (CloseCloths limit (length particles))
-    (λ front d y held e. cloths_keep limit (length particles) front d y held e) no_cloths ms cloths e2 in
-    let no_ropes : CloseRopes limit (length particles + all_cloths_size cloths) [] = record { fit = refl; room = omega (arith, c.room) } in
-    let r = table_keeps tables.Rope 64 (rope_of limit (length particles + all_cloths_size cloths))
-    (CloseRopes limit (length particles + all_cloths_size cloths))
-    (λ front d y held e. ropes_keep limit (length particles + all_cloths_size cloths) front d y held e) no_ropes ms ropes e3 in
-    let l = table_pass tables.Link 524288 (link_of limit) (is_link_entry limit)
-    (λ front d y e. link_passes limit low front d y e) ms links e4 in
-    let q = table_pass tables.Plane 256 plane_of is_valid_plane (λ front d y e. plane_passes front d y e) ms planes e5 in
-    let s = table_pass tables.Sphere 256 (sphere_of limit) (is_valid_sphere limit)
-    (λ front d y e. sphere_passes limit front d y e) ms spheres e6 in
-    let k = table_pass tables.Track 4096 (track_of limit) (λ t. has_keys limit t.keys)
-    (λ front d y e. track_passes limit front d y e) ms tracks e7 in
+    let p = table_pass tables.Particle 65536 (λ _. particle_of limit) (is_entry_particle limit)
+    (λ front place ms y e. particle_passes limit place ms y e) ms particles e1 in
+    let c = meshes_close tables.Cloth (cloth_fits limit) size_of_cloth (length particles) (λ place ms. cloth_spec_of place limit ms)
+    p.1 ms cloths e2 in
+    let r = meshes_close tables.Rope (rope_fits limit) size_of_rope (length particles + all_cloths_size cloths)
+    (λ place ms. rope_spec_of place limit ms) c.room ms ropes e3 in
+    let l = table_pass tables.Link 524288 (λ _. link_of limit) (is_link_entry limit)
+    (λ front place ms y e. link_passes limit low place ms y e) ms links e4 in
+    let q = table_pass tables.Plane 256 (λ _. plane_of) is_valid_plane (λ front place ms y e. plane_passes place ms y e) ms planes e5 in
+    let s = table_pass tables.Sphere 256 (λ _. sphere_of limit) (is_valid_sphere limit)
+    (λ front place ms y e. sphere_passes limit place ms y e) ms spheres e6 in
+    let k = table_pass tables.Track 4096 (λ _. track_of limit) (λ t. has_keys limit t.keys)
+    (λ front place ms y e. track_passes limit place ms y e) ms tracks e7 in
     let fit : TablesFit limit all = record {
       particles = p.0;
       cloths = c;
@@ -116,19 +111,12 @@ tables_fit limit ms t low is =
 
 -- ---- the scene's own keys
 
-pub record SettingsFit (limit : ℤ) (s : Settings) : Type 0 where
-  pub gravity : is_within limit s.gravity ≡ true
-  pub passes : nat_le s.passes 64 ≡ true
-  pub damping : is_between (pos 0) (pos 1024) s.damping ≡ true
-  pub thickness : is_between (pos 0) (pos 1048576) s.thickness ≡ true
-  pub friction : is_between (pos 0) (pos 256) s.friction ≡ true
-
 zero_within : (limit : ℤ) → IsTrue (is_limit limit) → is_within limit zero_vector ≡ true
 zero_within limit is = (within_facts limit zero_vector (limit_bounds limit is).0).1
     (record { x = omega arith; y = omega arith; z = omega arith })
 
 -- the numbers in their ranges
-record NumbersFit (n : Numbers) : Type 0 where
+pub record NumbersFit (n : Numbers) : Type 0 where
   pub passes : nat_le n.passes 64 ≡ true
   pub damping : is_between (pos 0) (pos 1024) n.damping ≡ true
   pub thickness : is_between (pos 0) (pos 1048576) n.thickness ≡ true
@@ -151,6 +139,10 @@ numbers_fit ms n is =
     } in
     rw (← same_ok all n is4) fit))))
 
+pub record SettingsFit (limit : ℤ) (s : Settings) : Type 0 where
+  pub gravity : is_within limit s.gravity ≡ true
+  pub numbers : NumbersFit s.numbers
+
 pub settings_fit : (limit : ℤ) (ms : Members) (s : Settings) → IsTrue (is_limit limit) → settings_of limit ms ≡ Ok s → SettingsFit limit s
 unfolding settings_of
 settings_fit limit ms s lim is =
@@ -158,21 +150,10 @@ settings_fit limit ms s lim is =
     through (vector_or at_scene keys.Gravity limit zero_vector ms) _ s is1 (λ gravity e2 is2.
     through (numbers_of ms) _ s is2 (λ n e3 is3.
     through (pins_of ms) _ s is3 (λ pins e4 is4.
-    let all : Settings = record {
-      gravity = gravity;
-      passes = n.passes;
-      damping = n.damping;
-      thickness = n.thickness;
-      friction = n.friction;
-      pins = pins;
-    } in
-    let ranges = numbers_fit ms n e3 in
+    let all : Settings = record { gravity = gravity; numbers = n; pins = pins } in
     let fit : SettingsFit limit all = record {
       gravity = vector_or_ok at_scene keys.Gravity limit zero_vector ms gravity (zero_within limit lim) e2;
-      passes = ranges.passes;
-      damping = ranges.damping;
-      thickness = ranges.thickness;
-      friction = ranges.friction;
+      numbers = numbers_fit ms n e3;
     } in
     rw (← same_ok all s is4) fit))))
 
@@ -205,33 +186,28 @@ meshed_next limit start parts ps ls m mesh room = record {
   size = omega (arith, m.size, mesh.size, length-append parts.particles ps, length-append parts.links ls);
 }
 
-pub cloths_meshed : (limit : ℤ) (start parts : Parts) (cloths : List ClothSpec) → IsTrue (is_limit limit) → Meshed limit start parts
-    → list_all (cloth_fits limit) cloths ≡ true → length parts.particles + all_cloths_size cloths ≤ 65536
-    → Meshed limit start (fold with_cloth parts cloths) × (length (fold with_cloth parts cloths).particles
-    ≡ length parts.particles + all_cloths_size cloths)
-cloths_meshed limit start parts [] lim m fit room = (m, omega arith)
-cloths_meshed limit start parts (s ∷ ss) lim m fit room =
-    let fits = and_parts (cloth_fits limit s) (list_all (cloth_fits limit) ss) fit in
-    let sum = sum_by-cons size_of_cloth s ss in
-    let size = cloth_size s in
-    let next = meshed_next limit start parts (cloth_particles s) (cloth_links s (length parts.particles)) m
-    (cloth_mesh limit (length parts.particles) s lim fits.0) (omega (arith, room, sum, size)) in
-    let grown = length-append parts.particles (cloth_particles s) in
-    let rest = cloths_meshed limit start (with_cloth parts s) ss lim next fits.1 (omega (arith, room, sum, size, grown)) in
-    (rest.0, omega (arith, rest.1, sum, size, grown))
+-- the same with how many particles there are then
+mesh_added : (limit : ℤ) (start parts : Parts) (ps : List Particle) (ls : List Link) (size : ℕ) → Meshed limit start parts
+    → IsMesh limit (length parts.particles) ps ls → length ps ≡ size → length parts.particles + size ≤ 65536
+    → Meshed limit start (record parts { particles = parts.particles ++ ps; links = parts.links ++ ls })
+    × (length (parts.particles ++ ps) ≡ length parts.particles + size)
+mesh_added limit start parts ps ls size m mesh is room =
+    (meshed_next limit start parts ps ls m mesh (omega (arith, room, is)), omega (arith, length-append parts.particles ps, is))
 
-pub ropes_meshed : (limit : ℤ) (start parts : Parts) (ropes : List RopeSpec) → IsTrue (is_limit limit) → Meshed limit start parts
-    → list_all (rope_fits limit) ropes ≡ true → length parts.particles + all_ropes_size ropes ≤ 65536
-    → Meshed limit start (fold with_rope parts ropes)
-ropes_meshed limit start parts [] lim m fit room = m
-ropes_meshed limit start parts (s ∷ ss) lim m fit room =
-    let fits = and_parts (rope_fits limit s) (list_all (rope_fits limit) ss) fit in
-    let sum = sum_by-cons (λ (r : RopeSpec). r.count) s ss in
-    let size = rope_size s in
-    let next = meshed_next limit start parts (rope_particles s) (rope_links s (length parts.particles)) m
-    (rope_mesh limit (length parts.particles) s lim fits.0) (omega (arith, room, sum, size)) in
-    let grown = length-append parts.particles (rope_particles s) in
-    ropes_meshed limit start (with_rope parts s) ss lim next fits.1 (omega (arith, room, sum, size, grown))
+-- meshes that fit are added one after another
+all_meshed : {A : Type 0} (fits : A → Bool) (size : A → ℕ) (add : Parts → A → Parts) (limit : ℤ) (start : Parts)
+    → ((parts : Parts) (s : A) → Meshed limit start parts → fits s ≡ true → length parts.particles + size s ≤ 65536
+    → Meshed limit start (add parts s) × (length (add parts s).particles ≡ length parts.particles + size s))
+    → (parts : Parts) (meshes : List A) → Meshed limit start parts → list_all fits meshes ≡ true
+    → length parts.particles + sum_by size meshes ≤ 65536
+    → Meshed limit start (fold add parts meshes) × (length (fold add parts meshes).particles ≡ length parts.particles + sum_by size meshes)
+all_meshed fits size add limit start next parts [] m fit room = (m, omega arith)
+all_meshed fits size add limit start next parts (s ∷ ss) m fit room =
+    let here = and_parts (fits s) (list_all fits ss) fit in
+    let sum = sum_by-cons size s ss in
+    let one = next parts s m here.0 (omega (arith, room, sum)) in
+    let rest = all_meshed fits size add limit start next (add parts s) ss one.0 here.1 (omega (arith, room, sum, one.1)) in
+    (rest.0, omega (arith, rest.1, sum, one.1))
 
 plain_meshed : (limit : ℤ) (s : Settings) (t : Tables) → TablesFit limit t → Meshed limit (plain_parts limit s t) (plain_parts limit s t)
 plain_meshed limit s t fit = record {
@@ -247,8 +223,15 @@ pub meshes_fit : (limit : ℤ) (s : Settings) (t : Tables) → IsTrue (is_limit 
 unfolding with_meshes
 meshes_fit limit s t lim fit =
     let start = plain_parts limit s t in
-    let c = cloths_meshed limit start start t.cloths lim (plain_meshed limit s t fit) fit.cloths.fit fit.cloths.room in
-    ropes_meshed limit start (fold with_cloth start t.cloths) t.ropes lim c.0 fit.ropes.fit (omega (arith, c.1, fit.ropes.room))
+    let c = all_meshed (cloth_fits limit) size_of_cloth with_cloth limit start
+    (λ parts s m fits room. mesh_added limit start parts (cloth_particles s) (cloth_links s (length parts.particles)) (size_of_cloth s) m
+    (cloth_mesh limit (length parts.particles) s lim fits) (cloth_size s) room) start t.cloths (plain_meshed limit s t fit)
+    fit.cloths.fit fit.cloths.room in
+    let r = all_meshed (rope_fits limit) size_of_rope with_rope limit start
+    (λ parts s m fits room. mesh_added limit start parts (rope_particles s) (rope_links s (length parts.particles)) (size_of_rope s) m
+    (rope_mesh limit (length parts.particles) s lim fits) (rope_size s) room) (fold with_cloth start t.cloths) t.ropes c.0
+    fit.ropes.fit (omega (arith, c.1, fit.ropes.room)) in
+    r.0
 
 -- ---- pins and tracks
 
@@ -415,10 +398,10 @@ entries_valid limit s t start m pins parts lim sf tf plain mf is =
     let its_planes : m.planes ≡ t.planes = ap (λ (q : Parts). q.planes) same in
     let its_spheres : m.spheres ≡ t.spheres = ap (λ (q : Parts). q.spheres) same in
     let its_gravity : m.gravity ≡ s.gravity = ap (λ (q : Parts). q.gravity) same in
-    let its_passes : m.passes ≡ s.passes = ap (λ (q : Parts). q.passes) same in
-    let its_damping : m.damping ≡ s.damping = ap (λ (q : Parts). q.damping) same in
-    let its_thickness : m.thickness ≡ s.thickness = ap (λ (q : Parts). q.thickness) same in
-    let its_friction : m.friction ≡ s.friction = ap (λ (q : Parts). q.friction) same in
+    let its_passes : m.passes ≡ s.numbers.passes = ap (λ (q : Parts). q.passes) same in
+    let its_damping : m.damping ≡ s.numbers.damping = ap (λ (q : Parts). q.damping) same in
+    let its_thickness : m.thickness ≡ s.numbers.thickness = ap (λ (q : Parts). q.thickness) same in
+    let its_friction : m.friction ≡ s.numbers.friction = ap (λ (q : Parts). q.friction) same in
     let asked : Asked all = record {
       limit = rw its_limit lim;
       particles = rw its_limit p.0;
@@ -429,7 +412,7 @@ entries_valid limit s t start m pins parts lim sf tf plain mf is =
           (le-leb (length tracks) 4096 (omega (arith, number, tf.few_tracks))) placed.valid) placed.once);
       gravity = rw (its_limit, its_gravity) sf.gravity;
       numbers = rw (its_passes, its_damping, its_thickness, its_friction)
-          (and_from _ _ (and_from _ _ (and_from _ _ sf.passes sf.damping) sf.thickness) sf.friction);
+          (and_from _ _ (and_from _ _ (and_from _ _ sf.numbers.passes sf.numbers.damping) sf.numbers.thickness) sf.numbers.friction);
       live = l.1;
       rest = p.1;
       held = tracked_held limit names m.particles tracks placed.valid (among_own held tracks);

@@ -55,18 +55,11 @@ settings_of limit ms = do
   gravity ← vector_or at_scene keys.Gravity limit zero_vector ms
   numbers ← numbers_of ms
   pins ← pins_of ms
-  Ok (record {
-    gravity = gravity;
-    passes = numbers.passes;
-    damping = numbers.damping;
-    thickness = numbers.thickness;
-    friction = numbers.friction;
-    pins = pins;
-  })
+  Ok (record { gravity = gravity; numbers = numbers; pins = pins })
 
 -- the entries of each table, where so many particles stand before the meshes of a table
 unfoldable pub particles_of : ℤ → Members → Checked (List Particle)
-particles_of limit ms = table_of tables.Particle 65536 (particle_of limit) ms
+particles_of limit ms = table_of tables.Particle 65536 (λ _. particle_of limit) ms
 
 unfoldable pub cloths_of : ℤ → ℕ → Members → Checked (List ClothSpec)
 cloths_of limit count ms = table_of tables.Cloth 64 (cloth_of limit count) ms
@@ -75,16 +68,16 @@ unfoldable pub ropes_of : ℤ → ℕ → Members → Checked (List RopeSpec)
 ropes_of limit count ms = table_of tables.Rope 64 (rope_of limit count) ms
 
 unfoldable pub links_of : ℤ → Members → Checked (List LinkEntry)
-links_of limit ms = table_of tables.Link 524288 (link_of limit) ms
+links_of limit ms = table_of tables.Link 524288 (λ _. link_of limit) ms
 
 unfoldable pub planes_of : Members → Checked (List Plane)
-planes_of ms = table_of tables.Plane 256 plane_of ms
+planes_of ms = table_of tables.Plane 256 (λ _. plane_of) ms
 
 unfoldable pub spheres_of : ℤ → Members → Checked (List Sphere)
-spheres_of limit ms = table_of tables.Sphere 256 (sphere_of limit) ms
+spheres_of limit ms = table_of tables.Sphere 256 (λ _. sphere_of limit) ms
 
 unfoldable pub tracks_of : ℤ → Members → Checked (List TrackEntry)
-tracks_of limit ms = table_of tables.Track 4096 (track_of limit) ms
+tracks_of limit ms = table_of tables.Track 4096 (λ _. track_of limit) ms
 
 -- the tables, one after another
 unfoldable pub tables_of : ℤ → Members → Checked Tables
@@ -105,10 +98,10 @@ plain_parts limit s t = record (no_parts limit) {
   planes = t.planes;
   spheres = t.spheres;
   gravity = s.gravity;
-  passes = s.passes;
-  damping = s.damping;
-  thickness = s.thickness;
-  friction = s.friction;
+  passes = s.numbers.passes;
+  damping = s.numbers.damping;
+  thickness = s.numbers.thickness;
+  friction = s.numbers.friction;
 }
 
 -- the same with the particles and links of the cloths and then of the ropes

@@ -1,8 +1,10 @@
 // Arrays of integers, and the arrays of tables.
-ghost use Rattle.std.specs.Prelude.{◌≡◌, [], ◌≤◌, ◌^◌, length, map, IfOk, option_map};
+ghost use Rattle.std.specs.Prelude.{◌≡◌, [], ◌∷◌, ◌++◌, ◌≤◌, ◌^◌, length, map, IfOk, option_map, List as Items};
+ghost use Rattle.toml.specs.Data.{Members, item, no_items};
 ghost use Rattle.toml.specs.View.{view, table_view, items_view};
-ghost use Rattle.pbd_scene.specs.Checks.{Gives, broken};
-ghost use Rattle.pbd_scene.specs.Values.{array_of, value_of, any_integer, four_of, four_integers, row, required_array, members, entry, entries, entries_of, table_of, integers_of};
+ghost use Rattle.pbd_scene.specs.declared.fault.Place.{Place};
+ghost use Rattle.pbd_scene.specs.Checks.{Checked, Gives, broken};
+ghost use Rattle.pbd_scene.specs.Values.{array_of, value_of, any_integer, four_of, four_integers, row, required_array, members, entry, entries, entries_of, entry_of, table_of, integers_of};
 
 use crate::each::{Reader, read_each};
 use crate::fault::{KeyName, Place, SceneFault, SceneRule, TableName};
@@ -42,15 +44,19 @@ impl Reader for IntegerOf {
     }
 }
 
+fn row_of(n: &Value, x: &Value, y: &Value, z: &Value) -> Option<Row>
+    ensures { result ≡ four_of (item (view n.now) (item (view x.now) (item (view y.now) (item (view z.now) no_items)))) }
+{
+    let step = n.as_integer()?;
+    let place = axes_of(x, y, z)?;
+    Some(Row { step, place })
+}
+
 fn four_of(items: &[Value]) -> Option<Row>
     ensures { result ≡ four_of (items_view items.now) }
 {
     match items {
-        [step, x, y, z] => {
-            let step = step.as_integer()?;
-            let place = axes_of(x, y, z)?;
-            Some(Row { step, place })
-        }
+        [n, x, y, z] => row_of(n, x, y, z),
         _ => None,
     }
 }
@@ -150,23 +156,64 @@ fn entries_of(table: TableName, most: usize, members: &Table) -> Result<&[Value]
     }
 }
 
+/// Reads an entry of a table by its keys, given the entries that were read before it.
+pub trait EntryReader {
+    type Item;
+
+    /// What is known of the entries so far.
+    ghost fits: { Self → Items Self.Item → Type 0 } = { λ _ _. Unit {0} };
+
+    ghost reads: { Self → Items Self.Item → Place → Members → Checked Self.Item };
+
+    fn read(&self, before: &[Self::Item], entry: &Entry<'_>) -> Result<Self::Item, SceneFault>
+        requires so_far { fits self.now before.now }
+        ensures value { Gives (λ x. x) result (reads self.now before.now entry.now.place (table_view entry.now.members.now)) }
+        ensures keeps { IfOk result (λ x. fits self.now (before.now ++ x ∷ [])) };
+}
+
+/// The entries of a table, and what reads each.
+#[derive(Clone, Copy)]
+pub struct EntriesOf<R> {
+    pub table: TableName,
+    pub reader: R,
+}
+
+impl<R: EntryReader> Reader for EntriesOf<R> {
+    type Item = R::Item;
+
+    ghost most = { 2 ^ 32 };
+
+    ghost fits = { λ s before. R.fits s.reader before };
+
+    ghost reads = { λ s before d. entry_of s.table (R.reads s.reader) before d };
+
+    #[tactic(auto, unfolding(crate::specs::Values::entry_of))]
+    fn read(&self, before: &[R::Item], value: &Value) -> Result<R::Item, SceneFault> {
+        let place = Place {
+            table: self.table,
+            position: before.len() as u32,
+        };
+        let members = entry(place, value)?;
+        self.reader.read(before, &Entry { place, members })
+    }
+}
+
 /// The entries of a table, each read in order.
 #[tactic(auto, unfolding(crate::specs::Values::table_of))]
-pub fn read_table<R: Reader>(
+pub fn read_table<R: EntryReader>(
     alloc: Global,
-    table: TableName,
     most: usize,
-    reader: &R,
+    reader: &EntriesOf<R>,
     members: &Table,
 ) -> Result<List<R::Item>, SceneFault>
 where
     R::Item: Drop,
-    requires few { most ≤ R.most }
-    requires begins { R.fits reader.now [] }
-    ensures value { Gives (λ xs. xs) result (table_of table most (R.reads reader.now) (table_view members.now)) }
-    ensures keeps { IfOk result (λ xs. R.fits reader.now xs) }
+    requires few { most ≤ 2 ^ 32 }
+    requires begins { R.fits reader.now.reader [] }
+    ensures value { Gives (λ xs. xs) result (table_of reader.now.table most (R.reads reader.now.reader) (table_view members.now)) }
+    ensures keeps { IfOk result (λ xs. R.fits reader.now.reader xs) }
     ensures few { IfOk result (λ xs. length xs ≤ most) }
 {
-    let values = entries_of(table, most, members)?;
+    let values = entries_of(reader.table, most, members)?;
     read_each(alloc, reader, values)
 }

@@ -1,21 +1,21 @@
 // The `[[cloth]]` and `[[rope]]` entries.
-ghost use Rattle.std.specs.Prelude.{◌≡◌, ◌≤◌, ◌<◌, ◌+◌, length, true, IfOk, ◌*◌};
+ghost use Rattle.std.specs.Prelude.{◌≡◌, ◌≤◌, ◌+◌, true, IfOk, IsTrue};
 ghost use Rattle.std.specs.List.{All};
-ghost use Rattle.toml.specs.View.{view, table_view};
+ghost use Rattle.toml.specs.View.{table_view};
 ghost use Rattle.pbd_mesh.specs.Cloth.{cloth_fits};
 ghost use Rattle.pbd_mesh.specs.Rope.{rope_fits};
-ghost use Rattle.pbd_scene.specs.Checks.{Gives};
-ghost use Rattle.pbd_scene.specs.Entries.{fitting_cloth, fitting_rope, cloth_size, all_cloths_size, all_ropes_size, room_for, cloth_vectors_of, cloth_counts_of, cloth_stiffness_of, cloth_tears_of, cloth_with, cloth_spec_of, cloth_of, rope_particles_of, rope_links_of, rope_with, rope_of};
+ghost use Rattle.pbd_scene.specs.declared.fault.SceneRule.TheVariants.{OutOfRange};
+ghost use Rattle.pbd_scene.specs.declared.fault.KeyName.TheVariants.{NoKey};
+ghost use Rattle.pbd_scene.specs.Checks.{Gives, expect};
+ghost use Rattle.pbd_scene.specs.Entries.{all_cloths_size, all_ropes_size, room_for, cloth_vectors_of, cloth_counts_of, cloth_stiffness_of, cloth_tears_of, cloth_with, cloth_spec_of, cloth_of, rope_particles_of, rope_links_of, rope_with, rope_spec_of, rope_of};
 
-use crate::arrays::entry;
-use crate::each::Reader;
-use crate::fault::{KeyName, Place, SceneFault, SceneRule, TableName};
+use crate::arrays::EntryReader;
+use crate::fault::{KeyName, Place, SceneFault, SceneRule};
 use crate::limit::Limit;
 use crate::raw::{ClothCounts, ClothStiffness, ClothTears, ClothVectors, RopeLinks, RopeParticles};
-use crate::values::{Entry, broken, expect};
+use crate::values::{Entry, expect};
 use pbd_mesh::{ClothSpec, RopeSpec};
 use pbd_world::MOST_PARTICLES;
-use toml::Value;
 
 // ---- cloths
 
@@ -35,6 +35,14 @@ pub fn all_cloths_size(cloths: &[ClothSpec]) -> u32
         size += s.rows * s.columns;
     }
     size
+}
+
+/// Refuses a mesh that doesn't fit.
+fn fitting(fits: bool, place: Place) -> Result<(), SceneFault>
+    ensures value { Gives (λ x. x) result (expect fits OutOfRange place NoKey) }
+    ensures holds { IfOk result (λ _. IsTrue fits) }
+{
+    expect(fits, SceneRule::OutOfRange, place, KeyName::NoKey)
 }
 
 #[tactic(auto, unfolding(crate::specs::Entries::room_for))]
@@ -142,60 +150,22 @@ fn cloth_spec_of(entry: &Entry<'_>, limit: &Limit) -> Result<ClothSpec, SceneFau
     Ok(cloth_with(vectors, counts, stiffness, tears))
 }
 
-impl Cloths {
-    /// A cloth that fits, with room for its particles behind those of the cloths before it.
-    #[tactic(auto, unfolding(crate::specs::Entries::fitting_cloth))]
-    fn fitting(
-        &self,
-        before: &[ClothSpec],
-        place: Place,
-        spec: ClothSpec,
-    ) -> Result<ClothSpec, SceneFault>
-        requires room { self.now.count + all_cloths_size before.now ≤ 65536 }
-        ensures value { Gives (λ s. s) result (fitting_cloth self.now.limit.units self.now.count before.now place spec) }
-        ensures fits { IfOk result (λ s. cloth_fits self.now.limit.units s ≡ true) }
-        ensures room { IfOk result (λ s. self.now.count + all_cloths_size before.now + cloth_size s ≤ 65536) }
-    {
-        if spec.fits(self.limit.units) {
-            room_for(
-                place,
-                self.count + all_cloths_size(before) + spec.rows * spec.columns,
-            )?;
-            Ok(spec)
-        } else {
-            broken(SceneRule::OutOfRange, place, KeyName::NoKey)
-        }
-    }
-
-    #[tactic(auto, unfolding(crate::specs::Entries::cloth_of))]
-    fn cloth(&self, before: &[ClothSpec], value: &Value) -> Result<ClothSpec, SceneFault>
-        requires few { length before.now < 64 }
-        requires room { self.now.count + all_cloths_size before.now ≤ 65536 }
-        ensures value { Gives (λ s. s) result (cloth_of self.now.limit.units self.now.count before.now (view value.now)) }
-        ensures fits { IfOk result (λ s. cloth_fits self.now.limit.units s ≡ true) }
-        ensures room { IfOk result (λ s. self.now.count + all_cloths_size before.now + cloth_size s ≤ 65536) }
-    {
-        let place = Place {
-            table: TableName::Cloth,
-            position: before.len() as u32,
-        };
-        let members = entry(place, value)?;
-        let spec = cloth_spec_of(&Entry { place, members }, &self.limit)?;
-        self.fitting(before, place, spec)
-    }
-}
-
-impl Reader for Cloths {
+impl EntryReader for Cloths {
     type Item = ClothSpec;
-
-    ghost most = { 64 };
 
     ghost fits = { λ s before. (s.count + all_cloths_size before ≤ 65536) × All (λ c. cloth_fits s.limit.units c ≡ true) before };
 
-    ghost reads = { λ s before d. cloth_of s.limit.units s.count before d };
+    ghost reads = { λ s before place ms. cloth_of s.limit.units s.count before place ms };
 
-    fn read(&self, before: &[ClothSpec], value: &Value) -> Result<ClothSpec, SceneFault> {
-        self.cloth(before, value)
+    #[tactic(auto, unfolding(crate::specs::Entries::mesh_of))]
+    fn read(&self, before: &[ClothSpec], entry: &Entry<'_>) -> Result<ClothSpec, SceneFault> {
+        let spec = cloth_spec_of(entry, &self.limit)?;
+        fitting(spec.fits(self.limit.units), entry.place)?;
+        room_for(
+            entry.place,
+            self.count + all_cloths_size(before) + spec.rows * spec.columns,
+        )?;
+        Ok(spec)
     }
 }
 
@@ -267,58 +237,30 @@ fn rope_with(particles: RopeParticles, links: RopeLinks) -> RopeSpec
     }
 }
 
-impl Ropes {
-    /// A rope that fits, with room for its particles behind those of the ropes before it.
-    #[tactic(auto, unfolding(crate::specs::Entries::fitting_rope))]
-    fn fitting(
-        &self,
-        before: &[RopeSpec],
-        place: Place,
-        spec: RopeSpec,
-    ) -> Result<RopeSpec, SceneFault>
-        requires room { self.now.count + all_ropes_size before.now ≤ 65536 }
-        ensures value { Gives (λ s. s) result (fitting_rope self.now.limit.units self.now.count before.now place spec) }
-        ensures fits { IfOk result (λ s. rope_fits self.now.limit.units s ≡ true) }
-        ensures room { IfOk result (λ s. self.now.count + all_ropes_size before.now + s.count ≤ 65536) }
-    {
-        if spec.fits(self.limit.units) {
-            room_for(place, self.count + all_ropes_size(before) + spec.count)?;
-            Ok(spec)
-        } else {
-            broken(SceneRule::OutOfRange, place, KeyName::NoKey)
-        }
-    }
-
-    #[tactic(auto, unfolding(crate::specs::Entries::rope_of))]
-    fn rope(&self, before: &[RopeSpec], value: &Value) -> Result<RopeSpec, SceneFault>
-        requires few { length before.now < 64 }
-        requires room { self.now.count + all_ropes_size before.now ≤ 65536 }
-        ensures value { Gives (λ s. s) result (rope_of self.now.limit.units self.now.count before.now (view value.now)) }
-        ensures fits { IfOk result (λ s. rope_fits self.now.limit.units s ≡ true) }
-        ensures room { IfOk result (λ s. self.now.count + all_ropes_size before.now + s.count ≤ 65536) }
-    {
-        let place = Place {
-            table: TableName::Rope,
-            position: before.len() as u32,
-        };
-        let members = entry(place, value)?;
-        let entry = Entry { place, members };
-        let particles = rope_particles_of(&entry, &self.limit)?;
-        let links = rope_links_of(&entry, &self.limit)?;
-        self.fitting(before, place, rope_with(particles, links))
-    }
+#[tactic(auto, unfolding(crate::specs::Entries::rope_spec_of))]
+fn rope_spec_of(entry: &Entry<'_>, limit: &Limit) -> Result<RopeSpec, SceneFault>
+    ensures { Gives (λ s. s) result (rope_spec_of entry.now.place limit.now.units (table_view entry.now.members.now)) }
+{
+    let particles = rope_particles_of(entry, limit)?;
+    let links = rope_links_of(entry, limit)?;
+    Ok(rope_with(particles, links))
 }
 
-impl Reader for Ropes {
+impl EntryReader for Ropes {
     type Item = RopeSpec;
-
-    ghost most = { 64 };
 
     ghost fits = { λ s before. (s.count + all_ropes_size before ≤ 65536) × All (λ r. rope_fits s.limit.units r ≡ true) before };
 
-    ghost reads = { λ s before d. rope_of s.limit.units s.count before d };
+    ghost reads = { λ s before place ms. rope_of s.limit.units s.count before place ms };
 
-    fn read(&self, before: &[RopeSpec], value: &Value) -> Result<RopeSpec, SceneFault> {
-        self.rope(before, value)
+    #[tactic(auto, unfolding(crate::specs::Entries::mesh_of))]
+    fn read(&self, before: &[RopeSpec], entry: &Entry<'_>) -> Result<RopeSpec, SceneFault> {
+        let spec = rope_spec_of(entry, &self.limit)?;
+        fitting(spec.fits(self.limit.units), entry.place)?;
+        room_for(
+            entry.place,
+            self.count + all_ropes_size(before) + spec.count,
+        )?;
+        Ok(spec)
     }
 }

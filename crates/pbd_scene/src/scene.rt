@@ -77,10 +77,7 @@ fn settings_of(alloc: Global, limit: i64, members: &Table) -> Result<Settings, S
     let pins = pins_of(alloc, members)?;
     Ok(Settings {
         gravity,
-        passes: numbers.passes,
-        damping: numbers.damping,
-        thickness: numbers.thickness,
-        friction: numbers.friction,
+        numbers,
         pins,
     })
 }
@@ -159,10 +156,10 @@ fn plain_parts(
       planes = shapes.planes;
       spheres = shapes.spheres;
       gravity = settings.now.gravity;
-      passes = settings.now.passes;
-      damping = settings.now.damping;
-      thickness = settings.now.thickness;
-      friction = settings.now.friction;
+      passes = settings.now.numbers.passes;
+      damping = settings.now.numbers.damping;
+      thickness = settings.now.numbers.thickness;
+      friction = settings.now.numbers.friction;
     } }
 {
     Parts {
@@ -172,10 +169,10 @@ fn plain_parts(
         spheres: shapes.spheres,
         tracks: List::new(alloc),
         gravity: settings.gravity,
-        passes: settings.passes,
-        damping: settings.damping,
-        thickness: settings.thickness,
-        friction: settings.friction,
+        passes: settings.numbers.passes,
+        damping: settings.numbers.damping,
+        thickness: settings.numbers.thickness,
+        friction: settings.numbers.friction,
         limit,
     }
 }

@@ -1,19 +1,14 @@
 // The `[[plane]]` and `[[sphere]]` entries.
-ghost use Rattle.std.specs.Prelude.{◌≡◌, ◌≤◌, ◌<◌, ◌^◌, length, unsigned_abs, nat_lt, ◌&&◌};
-ghost use Rattle.toml.specs.View.{view};
+ghost use Rattle.std.specs.Prelude.{◌≡◌, ◌≤◌, ◌^◌, unsigned_abs, nat_lt, ◌&&◌};
 ghost use Rattle.pbd_num.specs.Vectors.{Within, squared_length};
-ghost use Rattle.pbd_scene.specs.Checks.{Gives};
 ghost use Rattle.pbd_scene.specs.Entries.{on_by, back_by, plane_of, reaches_within, sphere_of};
 
-use crate::arrays::entry;
-use crate::each::Reader;
-use crate::fault::{KeyName, Place, SceneFault, SceneRule, TableName};
+use crate::arrays::EntryReader;
+use crate::fault::{KeyName, SceneFault, SceneRule};
 use crate::limit::Limit;
-use crate::values::{Entry, broken};
-use crate::vectors::is_inside;
+use crate::values::{Entry, expect};
 use pbd_num::Vec3;
 use pbd_world::{Plane, Sphere};
-use toml::Value;
 
 // ---- planes
 
@@ -26,36 +21,27 @@ fn has_length(v: Vec3) -> bool
     v.x != 0 || v.y != 0 || v.z != 0
 }
 
-#[tactic(auto, unfolding(crate::specs::Entries::plane_of))]
-fn plane_of(before: &[Plane], value: &Value) -> Result<Plane, SceneFault>
-    requires few { length before.now < 256 }
-    ensures { Gives (λ p. p) result (plane_of before.now (view value.now)) }
-{
-    let place = Place {
-        table: TableName::Plane,
-        position: before.len() as u32,
-    };
-    let members = entry(place, value)?;
-    let entry = Entry { place, members };
-    let most = Limit { units: 1024 };
-    let normal = entry.required_vector(KeyName::Normal, &most)?;
-    let offset = entry.required_integer(KeyName::Offset, -1_099_511_627_776, 1_099_511_627_776)?;
-    if has_length(normal) {
-        Ok(Plane { normal, offset })
-    } else {
-        broken(SceneRule::OutOfRange, place, KeyName::Normal)
-    }
-}
-
-impl Reader for Planes {
+impl EntryReader for Planes {
     type Item = Plane;
 
-    ghost most = { 256 };
+    ghost reads = { λ s before place ms. plane_of place ms };
 
-    ghost reads = { λ s before d. plane_of before d };
-
-    fn read(&self, before: &[Plane], value: &Value) -> Result<Plane, SceneFault> {
-        plane_of(before, value)
+    #[tactic(auto, unfolding(crate::specs::Entries::plane_of))]
+    fn read(&self, _before: &[Plane], entry: &Entry<'_>) -> Result<Plane, SceneFault> {
+        let most = Limit { units: 1024 };
+        let normal = entry.required_vector(KeyName::Normal, &most)?;
+        let offset = entry.required_integer(
+            KeyName::Offset,
+            -1_099_511_627_776,
+            1_099_511_627_776,
+        )?;
+        expect(
+            has_length(normal),
+            SceneRule::OutOfRange,
+            entry.place,
+            KeyName::Normal,
+        )?;
+        Ok(Plane { normal, offset })
     }
 }
 
@@ -99,37 +85,24 @@ fn reaches_within(limit: &Limit, centre: Vec3, radius: i64) -> bool
     requires radius { unsigned_abs radius ≤ 2 ^ 29 }
     ensures { result ≡ reaches_within limit.now.units centre radius }
 {
-    is_inside(above(centre, radius), limit.units) && is_inside(below(centre, radius), limit.units)
+    limit.holds(above(centre, radius)) && limit.holds(below(centre, radius))
 }
 
-#[tactic(auto, unfolding(crate::specs::Entries::sphere_of))]
-fn sphere_of(limit: &Limit, before: &[Sphere], value: &Value) -> Result<Sphere, SceneFault>
-    requires few { length before.now < 256 }
-    ensures { Gives (λ s. s) result (sphere_of limit.now.units before.now (view value.now)) }
-{
-    let place = Place {
-        table: TableName::Sphere,
-        position: before.len() as u32,
-    };
-    let members = entry(place, value)?;
-    let entry = Entry { place, members };
-    let centre = entry.required_vector(KeyName::Centre, limit)?;
-    let radius = entry.required_integer(KeyName::Radius, 1, limit.units)?;
-    if reaches_within(limit, centre, radius) {
-        Ok(Sphere { centre, radius })
-    } else {
-        broken(SceneRule::OutOfRange, place, KeyName::Radius)
-    }
-}
-
-impl Reader for Spheres {
+impl EntryReader for Spheres {
     type Item = Sphere;
 
-    ghost most = { 256 };
+    ghost reads = { λ s before place ms. sphere_of s.limit.units place ms };
 
-    ghost reads = { λ s before d. sphere_of s.limit.units before d };
-
-    fn read(&self, before: &[Sphere], value: &Value) -> Result<Sphere, SceneFault> {
-        sphere_of(&self.limit, before, value)
+    #[tactic(auto, unfolding(crate::specs::Entries::sphere_of))]
+    fn read(&self, _before: &[Sphere], entry: &Entry<'_>) -> Result<Sphere, SceneFault> {
+        let centre = entry.required_vector(KeyName::Centre, &self.limit)?;
+        let radius = entry.required_length(KeyName::Radius, &self.limit)?;
+        expect(
+            reaches_within(&self.limit, centre, radius),
+            SceneRule::OutOfRange,
+            entry.place,
+            KeyName::Radius,
+        )?;
+        Ok(Sphere { centre, radius })
     }
 }

@@ -5,7 +5,7 @@ ghost use Rattle.pbd_scene.specs.Checks.{Gives};
 ghost use Rattle.pbd_scene.specs.Entries.{all_cloths_size};
 ghost use Rattle.pbd_scene.specs.Scene.{particles_of, cloths_of, ropes_of, links_of, planes_of, spheres_of, tracks_of, tables_of};
 
-use crate::arrays::read_table;
+use crate::arrays::{EntriesOf, read_table};
 use crate::fault::{SceneFault, TableName};
 use crate::limit::Limit;
 use crate::link_entries::Links;
@@ -24,13 +24,11 @@ fn particles_of(alloc: Global, limit: &Limit, members: &Table) -> Result<List<Pa
     ensures value { Gives (λ xs. xs) result (particles_of limit.now.units (table_view members.now)) }
     ensures few { IfOk result (λ xs. length xs ≤ 65536) }
 {
-    read_table(
-        alloc,
-        TableName::Particle,
-        MOST_PARTICLES,
-        &Particles { limit: *limit },
-        members,
-    )
+    let particles = EntriesOf {
+        table: TableName::Particle,
+        reader: Particles { limit: *limit },
+    };
+    read_table(alloc, MOST_PARTICLES, &particles, members)
 }
 
 /// `count` particles stand before the first cloth.
@@ -45,16 +43,14 @@ fn cloths_of(
     ensures value { Gives (λ xs. xs) result (cloths_of limit.now.units count (table_view members.now)) }
     ensures room { IfOk result (λ xs. count + all_cloths_size xs ≤ 65536) }
 {
-    read_table(
-        alloc,
-        TableName::Cloth,
-        64,
-        &Cloths {
+    let cloths = EntriesOf {
+        table: TableName::Cloth,
+        reader: Cloths {
             limit: *limit,
             count,
         },
-        members,
-    )
+    };
+    read_table(alloc, 64, &cloths, members)
 }
 
 /// `count` particles stand before the first rope.
@@ -68,65 +64,61 @@ fn ropes_of(
     requires room { count ≤ 65536 }
     ensures value { Gives (λ xs. xs) result (ropes_of limit.now.units count (table_view members.now)) }
 {
-    read_table(
-        alloc,
-        TableName::Rope,
-        64,
-        &Ropes {
+    let ropes = EntriesOf {
+        table: TableName::Rope,
+        reader: Ropes {
             limit: *limit,
             count,
         },
-        members,
-    )
+    };
+    read_table(alloc, 64, &ropes, members)
 }
 
 #[tactic(auto, unfolding(crate::specs::Scene::links_of))]
 fn links_of(alloc: Global, limit: &Limit, members: &Table) -> Result<List<LinkEntry>, SceneFault>
     ensures value { Gives (λ xs. xs) result (links_of limit.now.units (table_view members.now)) }
 {
-    read_table(
-        alloc,
-        TableName::Link,
-        MOST_LINKS,
-        &Links { limit: *limit },
-        members,
-    )
+    let links = EntriesOf {
+        table: TableName::Link,
+        reader: Links { limit: *limit },
+    };
+    read_table(alloc, MOST_LINKS, &links, members)
 }
 
 #[tactic(auto, unfolding(crate::specs::Scene::planes_of))]
 fn planes_of(alloc: Global, members: &Table) -> Result<List<Plane>, SceneFault>
     ensures value { Gives (λ xs. xs) result (planes_of (table_view members.now)) }
 {
-    read_table(alloc, TableName::Plane, 256, &Planes, members)
+    let planes = EntriesOf {
+        table: TableName::Plane,
+        reader: Planes,
+    };
+    read_table(alloc, 256, &planes, members)
 }
 
 #[tactic(auto, unfolding(crate::specs::Scene::spheres_of))]
 fn spheres_of(alloc: Global, limit: &Limit, members: &Table) -> Result<List<Sphere>, SceneFault>
     ensures value { Gives (λ xs. xs) result (spheres_of limit.now.units (table_view members.now)) }
 {
-    read_table(
-        alloc,
-        TableName::Sphere,
-        256,
-        &Spheres { limit: *limit },
-        members,
-    )
+    let spheres = EntriesOf {
+        table: TableName::Sphere,
+        reader: Spheres { limit: *limit },
+    };
+    read_table(alloc, 256, &spheres, members)
 }
 
 #[tactic(auto, unfolding(crate::specs::Scene::tracks_of))]
 fn tracks_of(alloc: Global, limit: &Limit, members: &Table) -> Result<List<TrackEntry>, SceneFault>
     ensures value { Gives (λ xs. xs) result (tracks_of limit.now.units (table_view members.now)) }
 {
-    read_table(
-        alloc,
-        TableName::Track,
-        MOST_TRACKS,
-        &Tracks {
+    let tracks = EntriesOf {
+        table: TableName::Track,
+        reader: Tracks {
             limit: *limit,
             alloc,
         },
-        members,
-    )
+    };
+    read_table(alloc, MOST_TRACKS, &tracks, members)
 }
 
 /// Reads the links, shapes and tracks in place of those that are there, where the tables before them are read.

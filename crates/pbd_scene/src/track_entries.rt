@@ -4,13 +4,12 @@ ghost use Rattle.toml.specs.View.{view, table_view};
 ghost use Rattle.pbd_scene.specs.Checks.{Gives, each};
 ghost use Rattle.pbd_scene.specs.Entries.{row_of, step_number, key_of, step_of, steps_rise, few_rows, rising_path, path_of, track_of};
 
-use crate::arrays::{entry, row};
+use crate::arrays::{EntryReader, row};
 use crate::each::{Reader, read_each};
-use crate::fault::{KeyName, Place, SceneFault, SceneRule, TableName};
+use crate::fault::{KeyName, Place, SceneFault, SceneRule};
 use crate::limit::Limit;
 use crate::raw::{Row, TrackEntry};
 use crate::values::{Entry, broken, expect};
-use crate::vectors::is_inside;
 use pbd_world::{Key, LAST_STEP, List};
 use std::alloc::Global;
 use toml::Value;
@@ -61,14 +60,16 @@ fn key_of(place: Place, limit: &Limit, _before: &[Key], value: &Value) -> Result
 {
     let row = row(place, KeyName::Keys, value)?;
     let step = step_number(place, row.step)?;
-    if is_inside(row.place, limit.units) {
-        Ok(Key {
-            step,
-            place: row.place,
-        })
-    } else {
-        broken(SceneRule::OutOfRange, place, KeyName::Keys)
-    }
+    expect(
+        limit.holds(row.place),
+        SceneRule::OutOfRange,
+        place,
+        KeyName::Keys,
+    )?;
+    Ok(Key {
+        step,
+        place: row.place,
+    })
 }
 
 impl Reader for Keys {
@@ -160,35 +161,15 @@ fn path_of(alloc: Global, limit: &Limit, entry: &Entry<'_>) -> Result<List<Key>,
     rising_path(alloc, entry.place, limit, values)
 }
 
-#[tactic(auto, unfolding(crate::specs::Entries::track_of))]
-fn track_of(
-    alloc: Global,
-    limit: &Limit,
-    before: &[TrackEntry],
-    value: &Value,
-) -> Result<TrackEntry, SceneFault>
-    requires few { length before.now < 4096 }
-    ensures { Gives (λ t. t) result (track_of limit.now.units before.now (view value.now)) }
-{
-    let place = Place {
-        table: TableName::Track,
-        position: before.len() as u32,
-    };
-    let members = entry(place, value)?;
-    let entry = Entry { place, members };
-    let particle = entry.required_any_integer(KeyName::Particle)?;
-    let keys = path_of(alloc, limit, &entry)?;
-    Ok(TrackEntry { particle, keys })
-}
-
-impl Reader for Tracks {
+impl EntryReader for Tracks {
     type Item = TrackEntry;
 
-    ghost most = { 4096 };
+    ghost reads = { λ s before place ms. track_of s.limit.units place ms };
 
-    ghost reads = { λ s before d. track_of s.limit.units before d };
-
-    fn read(&self, before: &[TrackEntry], value: &Value) -> Result<TrackEntry, SceneFault> {
-        track_of(self.alloc, &self.limit, before, value)
+    #[tactic(auto, unfolding(crate::specs::Entries::track_of))]
+    fn read(&self, _before: &[TrackEntry], entry: &Entry<'_>) -> Result<TrackEntry, SceneFault> {
+        let particle = entry.required_any_integer(KeyName::Particle)?;
+        let keys = path_of(self.alloc, &self.limit, entry)?;
+        Ok(TrackEntry { particle, keys })
     }
 }

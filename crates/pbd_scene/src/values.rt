@@ -1,5 +1,5 @@
 // The keys of a table, and the kinds of single values that they take.
-ghost use Rattle.std.specs.Prelude.{◌≡◌, IsTrue, ◌≤◌, ◌≤ℤ◌, ◌*ℤ◌, pos, IfOk, option_map, string_bytes, Err};
+ghost use Rattle.std.specs.Prelude.{◌≡◌, IsTrue, ◌≤◌, ◌≤ℤ◌, ◌*ℤ◌, ◌^◌, pos, unsigned_abs, IfOk, option_map, string_bytes, Err};
 ghost use Rattle.std.specs.List.{list_all};
 ghost use Rattle.std.specs.BTreeMap.{keys};
 ghost use Rattle.toml.specs.View.{view, table_view};
@@ -213,12 +213,29 @@ impl Entry<'_> {
         Ok(n as u16)
     }
 
+    /// A length of at most four limits, if it is there.
+    pub fn optional_length(&self, key: KeyName, limit: &Limit) -> Result<Option<i64>, SceneFault>
+        ensures { Gives (λ n. n) result
+            (optional_integer self.now.place key (pos 0) (pos 4 *ℤ limit.now.units) (table_view self.now.members.now)) }
+    {
+        self.optional_integer(key, 0, limit.four_times())
+    }
+
     /// A length of at most four limits, or 0.
     pub fn length_or_zero(&self, key: KeyName, limit: &Limit) -> Result<i64, SceneFault>
         ensures { Gives (λ n. n) result
             (integer_or self.now.place key (pos 0) (pos 4 *ℤ limit.now.units) (pos 0) (table_view self.now.members.now)) }
     {
         self.integer_or(key, 0, limit.four_times(), 0)
+    }
+
+    /// A length of 1 unit to the limit that must be there.
+    pub fn required_length(&self, key: KeyName, limit: &Limit) -> Result<i64, SceneFault>
+        ensures value { Gives (λ n. n) result
+            (required_integer self.now.place key (pos 1) limit.now.units (table_view self.now.members.now)) }
+        ensures size { IfOk result (λ n. unsigned_abs n ≤ 2 ^ 29) }
+    {
+        self.required_integer(key, 1, limit.units)
     }
 
     /// Whether a key is true, or the default where it isn't there.

@@ -1,5 +1,5 @@
 // Vectors: arrays of three integers.
-ghost use Rattle.std.specs.Prelude.{◌≡◌, ◌≤◌, ◌^◌, ◌≤ℤ◌, pos, unsigned_abs, IfOk};
+ghost use Rattle.std.specs.Prelude.{◌≡◌, ◌≤◌, ◌^◌, ◌≤ℤ◌, ◌*ℤ◌, pos, unsigned_abs, IfOk};
 ghost use Rattle.toml.specs.Data.{item, no_items};
 ghost use Rattle.toml.specs.View.{view, table_view, items_view};
 ghost use Rattle.pbd_num.specs.Vectors.{Within, is_within, is_axis_within, zero_vector};
@@ -66,7 +66,7 @@ fn is_axis_within(n: i64, limit: i64) -> bool
 }
 
 /// Whether each axis lies in -limit..=limit.
-pub fn is_inside(v: Vec3, limit: i64) -> bool
+fn is_inside(v: Vec3, limit: i64) -> bool
     requires low { pos 0 ≤ℤ limit }
     ensures { result ≡ is_within limit v }
 {
@@ -74,6 +74,15 @@ pub fn is_inside(v: Vec3, limit: i64) -> bool
     let y = is_axis_within(v.y, limit);
     let z = is_axis_within(v.z, limit);
     x & y & z
+}
+
+impl Limit {
+    /// Whether each axis lies within it.
+    pub fn holds(&self, v: Vec3) -> bool
+        ensures { result ≡ is_within self.now.units v }
+    {
+        is_inside(v, self.units)
+    }
 }
 
 impl Entry<'_> {
@@ -101,5 +110,14 @@ impl Entry<'_> {
             None => Ok(Vec3::ZERO),
             Some(value) => vector(self.place, key, limit, value),
         }
+    }
+
+    /// The vector of a key within twice the limit, or zero.
+    pub fn velocity_or_zero(&self, key: KeyName, limit: &Limit) -> Result<Vec3, SceneFault>
+        ensures value { Gives (λ v. v) result
+            (vector_or self.now.place key (pos 2 *ℤ limit.now.units) zero_vector (table_view self.now.members.now)) }
+        ensures within { IfOk result (λ v. Within (2 ^ 30) v) }
+    {
+        self.vector_or_zero(key, limit.twice())
     }
 }

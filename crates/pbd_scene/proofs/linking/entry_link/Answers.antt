@@ -7,36 +7,6 @@ use Rattle.pbd_scene.proofs.linking.entry_link.Goals as goal
 pub rest_of-requires : goal.rest_of-requires
 rest_of-requires c = record { places = c.requires.places; a = c.in_ok-a.ensures.low; b = c.in_ok-b.ensures.low }
 
-pub returns-in_err-expect : goal.returns-in_err-expect
-unfolding entry_link
-returns-in_err-expect c = stops _ _ _ _ _ c.from_residual.ensures.1 c.in_err-expect.ensures.value
-
-pub returns-in_err-a : goal.returns-in_err-a
-unfolding entry_link
-returns-in_err-a c =
-    let same : to_z w64 (of_z w64 c.args.l.a) ≡ c.args.l.a = search rules in
-    let fails = rw same at c.in_err-a.ensures.number in
-    rw c.in_ok-expect.ensures.value (stops _ _ _ _ _ c.from_residual-in_err-a.ensures.1 fails)
-
-pub returns-in_err-b : goal.returns-in_err-b
-unfolding entry_link
-returns-in_err-b c =
-    let first : to_z w64 (of_z w64 c.args.l.a) ≡ c.args.l.a = search rules in
-    let second : to_z w64 (of_z w64 c.args.l.b) ≡ c.args.l.b = search rules in
-    let is_a = rw first at c.in_ok-a.ensures.number in
-    let fails = rw second at c.in_err-b.ensures.number in
-    rw (c.in_ok-expect.ensures.value, is_a) (stops _ _ _ _ _ c.from_residual-in_err-b.ensures.1 fails)
-
-pub returns-in_err-expect-2 : goal.returns-in_err-expect-2
-unfolding entry_link
-returns-in_err-expect-2 c =
-    let first : to_z w64 (of_z w64 c.args.l.a) ≡ c.args.l.a = search rules in
-    let second : to_z w64 (of_z w64 c.args.l.b) ≡ c.args.l.b = search rules in
-    let is_a = rw first at c.in_ok-a.ensures.number in
-    let is_b = rw second at c.in_ok-b.ensures.number in
-    rw (c.in_ok-expect.ensures.value, is_a, is_b) (stops _ _ _ _ _ c.from_residual-in_err-expect-2.ensures.1
-    c.in_err-expect-2.ensures.value)
-
 pub returns-in_err-room_for_link : goal.returns-in_err-room_for_link
 unfolding entry_link
 returns-in_err-room_for_link c =

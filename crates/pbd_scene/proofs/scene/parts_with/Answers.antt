@@ -16,73 +16,36 @@ tables_of-requires c =
     let bounds = limit_bounds c.args.limit c.requires in
     record { low = simp to_z-of_z bounds.0; high = simp to_z-of_z bounds.1 }
 
-pub add_meshes-meshed-requires-clause-limit : goal.add_meshes-meshed-requires-clause-limit
-add_meshes-meshed-requires-clause-limit c =
-    let fits = c.ranges.limit in
-    let its = simp to_z-of_z at (ap (λ (p : Parts). p.limit) c.plain_parts-parts.ensures) in
-    let room : FitsSigned w64 c.plain_parts-parts.result.limit = rw its fits in
-    rw its c.requires
-
-pub add_meshes-meshed-requires-clause-cloths : goal.add_meshes-meshed-requires-clause-cloths
-add_meshes-meshed-requires-clause-cloths c =
+pub add_meshes-meshed-requires : goal.add_meshes-meshed-requires
+add_meshes-meshed-requires c =
     let fits = c.ranges.limit in
     let its = simp to_z-of_z at (ap (λ (p : Parts). p.limit) c.plain_parts-parts.ensures) in
     let room : FitsSigned w64 c.plain_parts-parts.result.limit = rw its fits in
     let is = simp to_z-of_z at c.in_ok-tables.ensures in
     let fit = tables_fit c.args.limit (table_view c.args.members.now) c.in_ok-tables.tables (limit_bounds c.args.limit c.requires).0 is in
-    cloths_fit c.args.limit _ c.in_ok-tables.tables c.as_slice.result.now c.as_slice.ensures its fit
+    record {
+      limit = rw its c.requires;
+      cloths = cloths_fit c.args.limit _ c.in_ok-tables.tables c.as_slice.result.now c.as_slice.ensures its fit;
+      ropes = ropes_fit c.args.limit _ c.in_ok-tables.tables c.as_slice-2.result.now c.as_slice-2.ensures its fit;
+      room = rw (ap (λ (p : Parts). p.particles) c.plain_parts-parts.ensures)
+          (meshes_room c.args.limit c.in_ok-tables.tables c.as_slice.result.now c.as_slice-2.result.now c.as_slice.ensures
+          c.as_slice-2.ensures fit);
+    }
 
-pub add_meshes-meshed-requires-clause-ropes : goal.add_meshes-meshed-requires-clause-ropes
-add_meshes-meshed-requires-clause-ropes c =
-    let fits = c.ranges.limit in
-    let its = simp to_z-of_z at (ap (λ (p : Parts). p.limit) c.plain_parts-parts.ensures) in
-    let room : FitsSigned w64 c.plain_parts-parts.result.limit = rw its fits in
-    let is = simp to_z-of_z at c.in_ok-tables.ensures in
-    let fit = tables_fit c.args.limit (table_view c.args.members.now) c.in_ok-tables.tables (limit_bounds c.args.limit c.requires).0 is in
-    ropes_fit c.args.limit _ c.in_ok-tables.tables c.as_slice-2.result.now c.as_slice-2.ensures its fit
-
-pub add_meshes-meshed-requires-clause-room : goal.add_meshes-meshed-requires-clause-room
-add_meshes-meshed-requires-clause-room c =
-    let fits = c.ranges.limit in
-    let is = simp to_z-of_z at c.in_ok-tables.ensures in
-    let fit = tables_fit c.args.limit (table_view c.args.members.now) c.in_ok-tables.tables (limit_bounds c.args.limit c.requires).0 is in
-    rw (ap (λ (p : Parts). p.particles) c.plain_parts-parts.ensures)
-    (meshes_room c.args.limit c.in_ok-tables.tables c.as_slice.result.now c.as_slice-2.result.now c.as_slice.ensures c.as_slice-2.ensures
-    fit)
-
-pub with_entries-requires-clause-few : goal.with_entries-requires-clause-few
-with_entries-requires-clause-few c =
+pub with_entries-requires : goal.with_entries-requires
+with_entries-requires c =
     let fits = c.ranges.limit in
     let is = simp to_z-of_z at c.in_ok-tables.ensures in
     let fit = tables_fit c.args.limit (table_view c.args.members.now) c.in_ok-tables.tables (limit_bounds c.args.limit c.requires).0 is in
     let grown = simp (to_z-of_z, c.plain_parts-parts.ensures) at (IfOk-at_ok _ c.in-Ok.is c.add_meshes-meshed.ensures) in
     let meshed = meshed_now c.args.limit c.args.settings.now c.in_ok-tables.tables c.add_meshes-meshed.new.parts c.as_slice.result.now
     c.as_slice-2.result.now grown c.as_slice.ensures c.as_slice-2.ensures c.requires fit in
-    meshed.few
-
-pub with_entries-requires-clause-places : goal.with_entries-requires-clause-places
-with_entries-requires-clause-places c =
-    let fits = c.ranges.limit in
-    let is = simp to_z-of_z at c.in_ok-tables.ensures in
-    let fit = tables_fit c.args.limit (table_view c.args.members.now) c.in_ok-tables.tables (limit_bounds c.args.limit c.requires).0 is in
-    let grown = simp (to_z-of_z, c.plain_parts-parts.ensures) at (IfOk-at_ok _ c.in-Ok.is c.add_meshes-meshed.ensures) in
-    let meshed = meshed_now c.args.limit c.args.settings.now c.in_ok-tables.tables c.add_meshes-meshed.new.parts c.as_slice.result.now
-    c.as_slice-2.result.now grown c.as_slice.ensures c.as_slice-2.ensures c.requires fit in
-    places_within c.args.limit _ c.add_meshes-meshed.new.parts c.requires meshed
-
-pub with_entries-requires-clause-links : goal.with_entries-requires-clause-links
-with_entries-requires-clause-links c =
-    let fits = c.ranges.limit in
-    let is = simp to_z-of_z at c.in_ok-tables.ensures in
-    let fit = tables_fit c.args.limit (table_view c.args.members.now) c.in_ok-tables.tables (limit_bounds c.args.limit c.requires).0 is in
-    fit.few_links
-
-pub with_entries-requires-clause-tracks : goal.with_entries-requires-clause-tracks
-with_entries-requires-clause-tracks c =
-    let fits = c.ranges.limit in
-    let is = simp to_z-of_z at c.in_ok-tables.ensures in
-    let fit = tables_fit c.args.limit (table_view c.args.members.now) c.in_ok-tables.tables (limit_bounds c.args.limit c.requires).0 is in
-    fit.few_tracks
+    record {
+      few = meshed.few;
+      places = places_within c.args.limit _ c.add_meshes-meshed.new.parts c.requires meshed;
+      links = fit.few_links;
+      tracks = fit.few_tracks;
+    }
 
 pub returns-in_err-tables : goal.returns-in_err-tables
 unfolding from_tables

@@ -1,0 +1,34 @@
+use Rattle.std.proofs.Common.{◌≡◌, ◌∙◌, true, sym, arith}
+use Rattle.std.proofs.lemmas.Int.{to_z-of_z}
+use Rattle.pbd_mesh.specs.declared.spec.ClothSpec.{ClothSpec}
+use Rattle.pbd_mesh.specs.Cloth.{cloth_fits}
+use Rattle.pbd_scene.specs.Entries.{cloth_size}
+use Rattle.pbd_scene.proofs.Reading.{one_more}
+use Rattle.pbd_scene.proofs.Bounds.{limit_fits}
+use Rattle.pbd_scene.proofs.MeshSizes.{cloth_area}
+use Rattle.pbd_scene.proofs.mesh_entries.ClothsEntryReader.read.Goals as goal
+
+pub overflow_mul-spec : goal.overflow_mul-spec
+overflow_mul-spec c =
+    let limit = c.args.self.now.limit in
+    let wide = limit_fits limit.units limit.high in
+    let test = simp to_z-of_z at c.fits.ensures in
+    let small = cloth_area limit.units c.in_ok-spec.spec limit.low limit.high (sym test ∙ c.in_ok-fitting.ensures.holds) in
+    omega (arith, small)
+
+pub overflow_add-self-2 : goal.overflow_add-self-2
+overflow_add-self-2 c =
+    let limit = c.args.self.now.limit in
+    let wide = limit_fits limit.units limit.high in
+    let test = simp to_z-of_z at c.fits.ensures in
+    let small = cloth_area limit.units c.in_ok-spec.spec limit.low limit.high (sym test ∙ c.in_ok-fitting.ensures.holds) in
+    omega (arith, small, c.requires.so_far.0, c.all_cloths_size.ensures)
+
+pub returns-clause-keeps : goal.returns-clause-keeps
+returns-clause-keeps c =
+    let s = c.args.self.now in
+    let wide = limit_fits s.limit.units s.limit.high in
+    let test = simp to_z-of_z at c.fits.ensures in
+    let room = rw c.all_cloths_size.ensures at c.in_ok-room_for.ensures.room in
+    one_more {A = ClothSpec} (λ x. cloth_fits s.limit.units x ≡ true) cloth_size s.count c.args.before.now c.in_ok-spec.spec
+    c.requires.so_far.1 (sym test ∙ c.in_ok-fitting.ensures.holds) room
