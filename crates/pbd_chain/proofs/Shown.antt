@@ -255,9 +255,10 @@ Shows-none heads next back chains few lb lc hs bs cs = record {
   linked = λ x s e. let b = bs x in let no : ⊥ = cc in absurd no;
 }
 
-pub shows-kept : {h1 n1 h2 n2 : List (Option ℕ)} {b1 b2 : List (Option Slot)} {chains : List (List ℕ)} → h2 ≡ h1 → n2 ≡ n1 → b2 ≡ b1
-    → Shows h1 n1 b1 chains → Shows h2 n2 b2 (chains_of h2 n2)
-shows-kept eh en eb h = rw (eh, en, eb, shown_is h) h
+-- what shows chains shows those that it is seen as
+pub shows-seen : {heads next : List (Option ℕ)} {back : List (Option Slot)} {chains : List (List ℕ)} → Shows heads next back chains
+    → Shows heads next back (chains_of heads next)
+shows-seen h = rw (shown_is h) h
 
 abbrev pub shown : List (Option ℕ) → List (Option ℕ) → Linked
 shown heads next = record { items = length next; chains = chains_of heads next }
@@ -265,10 +266,9 @@ shown heads next = record { items = length next; chains = chains_of heads next }
 abbrev pub linked_as : ℕ → List (List ℕ) → Linked
 linked_as n xss = record { items = n; chains = xss }
 
-pub view-kept : {h1 n1 h2 n2 : List (Option ℕ)} {b1 : List (Option Slot)} {chains : List (List ℕ)} (items : ℕ) → h2 ≡ h1 → n2 ≡ n1
-    → length n1 ≡ items → Shows h1 n1 b1 chains
-    → shown h2 n2 ≡ linked_as items chains
-view-kept items eh en l h = rw (eh, en, shown_is h, l) refl
+pub view-shown : {heads next : List (Option ℕ)} {back : List (Option Slot)} {chains : List (List ℕ)} (items : ℕ)
+    → length next ≡ items → Shows heads next back chains → shown heads next ≡ linked_as items chains
+view-shown items l h = rw (shown_is h, l) refl
 
 pub all_empty : (chains : List (List ℕ)) → replicate (length chains) (none_of ℕ) ≡ map (λ _. none_of ℕ) chains
 all_empty [] = refl

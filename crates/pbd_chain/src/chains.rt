@@ -2,8 +2,7 @@
 ghost use Rattle.std.specs.Prelude.{◌≡◌, ◌+◌, ◌<◌, ◌≤◌, [], ℕ, IsTrue, IfOk, IsFalse, Some, length, map, replicate, slice_index_or, None};
 ghost use Rattle.pbd_chain.specs.Linked.{Shows, chain_at, chains_of, is_linked, item_at, with_front, without};
 
-use crate::links::{Slot, link, unlink};
-use crate::targets::Targets;
+use crate::links::Slots;
 use std::alloc::{AllocError, Global};
 use std::marker::Model;
 
@@ -12,12 +11,7 @@ use std::marker::Model;
 /// Chains and items are numbers from 0 on. Only opening takes memory.
 #[derive(Drop)]
 pub struct Chains {
-    /// The first item of each chain.
-    heads: Targets,
-    /// The item behind each.
-    next: Targets,
-    /// What leads to each item.
-    back: Vec<Option<Slot>>,
+    slots: Slots,
 }
 
 impl Model for Chains {
@@ -26,67 +20,9 @@ impl Model for Chains {
 
     ghost Value = { Linked };
 
-    ghost view = { λ s. record { items = length s.next; chains = chains_of s.heads s.next } };
+    ghost view = { λ s. record { items = length s.slots.next; chains = chains_of s.slots.heads s.slots.next } };
 
-    ghost invariant = { λ s. Shows s.heads s.next s.back.items (chains_of s.heads s.next) };
-}
-
-// A list of n times None.
-fn nones<T: Copy>(alloc: Global, n: u32) -> Result<Vec<Option<T>>, AllocError>
-    ensures { IfOk result (λ v. v.items ≡ replicate n None) }
-{
-    let mut v = Vec::with_capacity(alloc, n as usize)?;
-    for _ in 0..n {
-        v.push(None)?;
-    }
-    Ok(v)
-}
-
-// Writes None into each place.
-fn empty<T: Copy>(places: &mut [Option<T>])
-    ensures { (k : ℕ) → slice_index_or places.new k None ≡ None }
-{
-    for place in places.iter_mut() {
-        *place = None;
-    }
-}
-
-// Puts a free item before the first of a chain.
-fn link_shown(
-    heads: &mut Targets,
-    next: &mut Targets,
-    back: &mut [Option<Slot>],
-    chain: u32,
-    item: u32,
-)
-    requires shows { Shows heads.old next.old back.old (chains_of heads.old next.old) }
-    requires chain { chain < length heads.old }
-    requires item { item < length next.old }
-    requires free { IsFalse (is_linked (chains_of heads.old next.old) item) }
-    ensures shows { Shows heads.new next.new back.new (with_front (chains_of heads.old next.old) chain item) }
-    ensures items { length next.new ≡ length next.old }
-{
-    link(heads, next, back, chain, item);
-}
-
-// Takes a linked item out of its chain.
-fn unlink_shown(heads: &mut Targets, next: &mut Targets, back: &mut [Option<Slot>], item: u32)
-    requires shows { Shows heads.old next.old back.old (chains_of heads.old next.old) }
-    requires linked { IsTrue (is_linked (chains_of heads.old next.old) item) }
-    ensures shows { Shows heads.new next.new back.new (map (without item) (chains_of heads.old next.old)) }
-    ensures items { length next.new ≡ length next.old }
-{
-    unlink(heads, next, back, item);
-}
-
-// Empties all chains.
-fn clear_shown(heads: &mut Targets, next: &Targets, back: &mut [Option<Slot>])
-    requires few { length next.now ≤ 2097152 }
-    requires backs { length back.old ≡ length next.now }
-    ensures { Shows heads.new next.now back.new (replicate (length heads.old) []) }
-{
-    heads.clear();
-    empty(back);
+    ghost invariant = { λ s. Shows s.slots.heads s.slots.next s.slots.back.items (chains_of s.slots.heads s.slots.next) };
 }
 
 impl Chains {
@@ -96,10 +32,8 @@ impl Chains {
         requires items { items ≤ 2097152 }
         ensures { IfOk result (λ c. c ≡ record { items = items; chains = replicate chains [] }) }
     {
-        let heads = Targets::open(alloc, chains)?;
-        let next = Targets::open(alloc, items)?;
-        let back = nones(alloc, items)?;
-        Ok(Chains { heads, next, back })
+        let slots = Slots::open(alloc, chains, items)?;
+        Ok(Chains { slots })
     }
 
     /// Puts an item that is in no chain before the first of a chain.
@@ -109,13 +43,7 @@ impl Chains {
         requires free { IsFalse (is_linked self.old.chains item) }
         ensures { self.new ≡ record self.old { chains = with_front self.old.chains chain item } }
     {
-        link_shown(
-            &mut self.heads,
-            &mut self.next,
-            self.back.as_mut_slice(),
-            chain,
-            item,
-        );
+        self.slots.link(chain, item);
     }
 
     /// Takes an item out of its chain, whose other items keep their order.
@@ -123,12 +51,7 @@ impl Chains {
         requires { IsTrue (is_linked self.old.chains item) }
         ensures { self.new ≡ record self.old { chains = map (without item) self.old.chains } }
     {
-        unlink_shown(
-            &mut self.heads,
-            &mut self.next,
-            self.back.as_mut_slice(),
-            item,
-        );
+        self.slots.unlink(item);
     }
 
     /// The first item of a chain, and none exactly where the chain is empty.
@@ -137,7 +60,7 @@ impl Chains {
         ensures value { result ≡ item_at self.now.chains chain 0 }
         ensures bounded { length (chain_at self.now.chains chain) ≤ self.now.items }
     {
-        self.heads.get(chain)
+        self.slots.heads.get(chain)
     }
 
     /// The item behind another, and none exactly behind the last of a chain.
@@ -145,35 +68,30 @@ impl Chains {
         requires { IsTrue (is_linked self.now.chains item) }
         ensures { (c k : ℕ) → item_at self.now.chains c k ≡ Some item → result ≡ item_at self.now.chains c (k + 1) }
     {
-        self.next.get(item)
+        self.slots.next.get(item)
     }
 
-    /// Whether an item is in a chain.
+    /// Whether an item is in a chain. If so, it stands at one place of one chain.
     pub fn is_linked(&self, item: u32) -> bool
         requires { item < self.now.items }
-        ensures { result ≡ is_linked self.now.chains item }
+        ensures value { result ≡ is_linked self.now.chains item }
+        ensures once { (c d j k : ℕ) → item_at self.now.chains c j ≡ Some item → item_at self.now.chains d k ≡ Some item
+            → (c ≡ d) × (j ≡ k) }
     {
-        self.back[item as usize].is_some()
-    }
-
-    /// Each item stands at one place of one chain.
-    pub fn items_stand_once(&self)
-        ensures { (c d j k x : ℕ) → item_at self.now.chains c j ≡ Some x → item_at self.now.chains d k ≡ Some x → (c ≡ d) × (j ≡ k) }
-    {
-        let _items = self.next.len();
+        self.slots.back[item as usize].is_some()
     }
 
     /// The number of items that there is room for, which no chain is longer than.
     pub fn items(&self) -> u32
         ensures { result ≡ self.now.items }
     {
-        self.next.len()
+        self.slots.next.len()
     }
 
     /// Empties all chains.
     pub fn clear(&mut self)
         ensures { self.new ≡ record self.old { chains = map (λ _. []) self.old.chains } }
     {
-        clear_shown(&mut self.heads, &self.next, self.back.as_mut_slice());
+        self.slots.clear();
     }
 }

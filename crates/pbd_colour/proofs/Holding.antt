@@ -1,10 +1,10 @@
 -- The chains of the pairs of each particle.
-use Rattle.std.proofs.Common.{◌≡◌, ◌≢◌, ℕ, zero, suc, ◌+◌, ◌*◌, ◌/◌, ◌%◌, ◌<◌, ◌≤◌, ◌&&◌, ◌||◌, Bool, true, false, not, cond, eqb, ltb}
-use Rattle.std.proofs.Common.{List, [], ◌∷◌, get_or, set, map, length, take, refl, sym, ap, ◌∙◌, subst, arith, inl, inr, add-one, ◌⊎◌}
+use Rattle.std.proofs.Common.{◌≡◌, ◌≢◌, ℕ, zero, suc, ◌+◌, ◌-◌, ◌*◌, ◌/◌, ◌%◌, ◌<◌, ◌≤◌, ◌&&◌, ◌||◌, Bool, true, false, not, cond, eqb, ltb}
+use Rattle.std.proofs.Common.{List, [], ◌∷◌, get_or, set, map, length, take, drop, slice_range, refl, sym, ap, ◌∙◌, subst, arith, inl, inr, add-one, ◌⊎◌}
 use Rattle.std.proofs.Common.{Option, slice_get}
 use Rattle.std.proofs.lemmas.Bool.{cases_eq, cases_lt, eq-eqb, ne_eqb, and_parts, and_from, lt-ltb, false≢true, or_right, or_left}
 use Rattle.std.proofs.lemmas.Bool.Decides.{nat_tests}
-use Rattle.std.proofs.lemmas.List.{get_or-set_same, get_or-set_other, get_or_past, take_all}
+use Rattle.std.proofs.lemmas.List.{get_or-set_same, get_or-set_other, get_or_past, get_or-take, get_or-drop, take_all}
 use Rattle.std.specs.List.{list_any}
 use Rattle.std.specs.List.Sorted.{IsStrictlyIncreasing}
 use Rattle.pbd_chain.specs.Linked.{Linked, is_in, is_linked, chain_at, without}
@@ -335,11 +335,11 @@ pub record IsTaking (numbers : List ℕ) (particles room : ℕ) (pairs : List (�
   pub flags : live ≡ dropped (take i numbers) old
   pub held : Holds (live_at live) particles room pairs chains
 
--- a flag that is away already
-pub set_false : (live : List Bool) (i : ℕ) → live_at live i ≡ false → live ≡ set live i false
-set_false [] i e = refl
-set_false (b ∷ bs) zero e = ap (λ (c : Bool). c ∷ bs) e
-set_false (b ∷ bs) (suc i) e = ap (λ (cs : List Bool). b ∷ cs) (set_false bs i e)
+-- a flag that is so already
+pub set_same : (live : List Bool) (i : ℕ) (flag : Bool) → live_at live i ≡ flag → live ≡ set live i flag
+set_same [] i flag e = refl
+set_same (b ∷ bs) zero flag e = ap (λ (c : Bool). c ∷ bs) e
+set_same (b ∷ bs) (suc i) flag e = ap (λ (cs : List Bool). b ∷ cs) (set_same bs i flag e)
 
 -- the flags before place i are away
 pub record AreGone (particles room : ℕ) (pairs : List (ℕ × ℕ)) (live : List Bool) (chains : Linked) (i : ℕ) : Type 0 where
@@ -353,15 +353,17 @@ pub record IsFollowing (particles room : ℕ) (pairs : List (ℕ × ℕ)) (live 
   pub size : length live ≡ length pairs
   pub held : Holds (live_at live) particles room pairs chains
 
--- a flag that is set already
-pub set_true : (live : List Bool) (i : ℕ) → live_at live i ≡ true → live ≡ set live i true
-set_true [] i e = refl
-set_true (b ∷ bs) zero e = ap (λ (c : Bool). c ∷ bs) e
-set_true (b ∷ bs) (suc i) e = ap (λ (cs : List Bool). b ∷ cs) (set_true bs i e)
-
 -- setting flag i passes pair i, and else what was passed
 pub set_in : (live : List Bool) (i : ℕ) → i < length live → live_at (set live i true) i ≡ true
 set_in live i l = get_or-set_same live i true false l
 
 pub set_others : (live : List Bool) (i : ℕ) (k : ℕ) → k ≢ i → live_at live k ≡ live_at (set live i true) k
 set_others live i k ne = sym (get_or-set_other live i k true false ne)
+
+-- lists that are the same in a piece have the same flags there
+pub same_in_piece : (flags others : List Bool) (at end k : ℕ) → slice_range flags at end ≡ slice_range others at end → at ≤ k → k < end
+    → live_at flags k ≡ live_at others k
+same_in_piece flags others at end k same from to = sym (in_piece flags) ∙ ap (λ (fs : List Bool). live_at fs (k - at)) same ∙ in_piece others where
+  in_piece : (fs : List Bool) → live_at (slice_range fs at end) (k - at) ≡ live_at fs k
+  in_piece fs = get_or-take (end - at) (drop at fs) (k - at) false (omega (arith, from, to))
+      ∙ get_or-drop at fs (k - at) false ∙ ap (λ (i : ℕ). live_at fs i) (omega (arith, from))

@@ -36,6 +36,19 @@ IsColoured-gathered pairs live colours numbers starts len painted listed started
     ∙ ap (λ (n : ℕ). by_colour live (colour pairs live) n m) len in
     record { painted = painted; ordered = listed ∙ same 64 ∙ order_is pairs live; started = λ c l. started c l ∙ ap length (same c) }
 
+-- the same where what was listed is told of equal lists
+pub IsColoured-read : {pairs : List (ℕ × ℕ)} {live live' : List Bool} {colours colours' numbers starts starts' : List ℕ}
+    → live' ≡ live → colours' ≡ colours → starts' ≡ starts → length live ≡ length pairs → ArePainted pairs live colours
+    → numbers ≡ by_colour live' (λ k. get_or colours' k 0) (length live') 64
+    → ((c : ℕ) → c < 65 → get_or starts c 0 ≡ length (by_colour live' (λ k. get_or colours' k 0) (length live') c))
+    → IsColoured pairs live colours numbers starts'
+IsColoured-read {pairs} {live} {live'} {colours} {colours'} {numbers} {starts} l c s len painted listed started =
+    let same : (m : ℕ) → by_colour live' (λ k. get_or colours' k 0) (length live') m ≡ by_colour live (λ k. get_or colours k 0) (length live) m =
+    λ m. ap (λ (bs : List Bool). by_colour bs (λ k. get_or colours' k 0) (length bs) m) l
+    ∙ ap (λ (cs : List ℕ). by_colour live (λ k. get_or cs k 0) (length live) m) c in
+    subst (IsColoured pairs live colours numbers) (sym s)
+    (IsColoured-gathered pairs live colours numbers starts len painted (listed ∙ same 64) (λ d m. started d m ∙ ap length (same d)))
+
 IsColoured-none : (starts : List ℕ) → ((c : ℕ) → c < 65 → get_or starts c 0 ≡ 0) → IsColoured [] [] [] [] starts
 IsColoured-none starts none =
     let listed : (m : ℕ) → by_colour [] (λ k. get_or [] k 0) 0 m ≡ [] = λ m. no_more _ (length-by_colour_le [] (λ k. get_or [] k 0) 0 m) in
@@ -103,15 +116,6 @@ pub ArePainted-as : {pairs pairs' : List (ℕ × ℕ)} {live live' : List Bool} 
 ArePainted-as {pairs} {pairs'} {live} {live'} {colours} p l c h =
     subst (λ (cs : List ℕ). ArePainted pairs' live' cs) c (subst (λ (bs : List Bool). ArePainted pairs' bs colours) l
     (subst (λ (ps : List (ℕ × ℕ)). ArePainted ps live colours) p h))
-
-pub IsColoured-as : {pairs pairs' : List (ℕ × ℕ)} {live live' : List Bool} {colours colours' numbers starts starts' : List ℕ}
-    → pairs ≡ pairs' → live ≡ live' → colours ≡ colours' → starts ≡ starts' → IsColoured pairs live colours numbers starts
-    → IsColoured pairs' live' colours' numbers starts'
-IsColoured-as {pairs} {pairs'} {live} {live'} {colours} {colours'} {numbers} {starts} p l c s h =
-    subst (λ (ss : List ℕ). IsColoured pairs' live' colours' numbers ss) s
-    (subst (λ (cs : List ℕ). IsColoured pairs' live' cs numbers starts) c
-    (subst (λ (bs : List Bool). IsColoured pairs' bs colours numbers starts) l
-    (subst (λ (ps : List (ℕ × ℕ)). IsColoured ps live colours numbers starts) p h)))
 
 pub AreBlocked-as : {marks marks' blocks blocks' : List Bool} → marks ≡ marks' → blocks ≡ blocks' → AreBlocked marks blocks
     → AreBlocked marks' blocks'

@@ -6,9 +6,10 @@ use Rattle.std.proofs.lemmas.Bool.Decides.{nat_tests}
 use Rattle.std.proofs.lemmas.List.{get_or-set_same, get_or-set_other, get_or_past, length-set, length-replicate, get_or-replicate}
 use Rattle.std.specs.List.{list_any}
 use Rattle.pbd_chain.specs.Linked.{chain_at}
+use Rattle.pbd_world.specs.Room.{Roomed}
 use Rattle.pbd_world.specs.Colours.{pair_at, live_at}
 use Rattle.pbd_colour.specs.Mended.{is_later, meets}
-use Rattle.pbd_colour.specs.Marked.{AreBlocked, AreUnmarked}
+use Rattle.pbd_colour.specs.Marked.{AreAsMany, AreBlocked, AreUnmarked}
 use Rattle.pbd_colour.specs.Swept.{IsSwept}
 use Rattle.pbd_colour.proofs.Sweeping.{IsSwept-more_unmarked}
 
@@ -51,6 +52,10 @@ module _ {marks blocks : List Bool} (h : AreBlocked marks blocks) where
       | inr ne ↦ h.told j (sym (get_or-set_other marks k j false false ne) ∙ e)
     ];
   }
+
+-- marks with a room
+abbrev pub marks_in : ℕ → List Bool → Roomed Bool
+marks_in room marks = record { entries = marks; room = room }
 
 pub none_blocked : (marks blocks : List Bool) → length blocks ≡ length marks / 256 + 1 → ((k : ℕ) → live_at marks k ≡ false)
     → AreBlocked marks blocks
@@ -133,3 +138,41 @@ unmarked_next marks met i next li before same after k l m = elim (cases_eq k i) 
     | inr above ↦ after k (omega (arith, above, ne)) m
   ]
 ]
+
+-- the sweep comes to pair i
+pub record IsSweeping (pairs : List (ℕ × ℕ)) (live : List Bool) (cs : List ℕ) (marks : List Bool) (i : ℕ) : Type 0 where
+  pub within : i ≤ length pairs
+  pub swept : IsSwept pairs live cs marks i
+  pub unmarked : AreUnmarked marks 0 i
+
+module _ (pairs : List (ℕ × ℕ)) (live : List Bool) where
+  pub IsSweeping-begun : (cs : List ℕ) (marks : List Bool) (next : ℕ) → IsSwept pairs live cs marks 0 → next ≤ length pairs
+      → AreUnmarked marks 0 next → IsSweeping pairs live cs marks next
+  IsSweeping-begun cs marks next h le none =
+      record { within = le; swept = IsSwept-to pairs live cs marks 0 next h (omega arith) le none; unmarked = none }
+
+  -- pair i was looked at, its mark was taken away, and the next marked one was found
+  pub IsSweeping-on : {cs new : List ℕ} {marks met less : List Bool} {i next : ℕ} → IsSweeping pairs live cs marks i → less ≡ set met i false
+      → i < length met → IsSwept pairs live new met (i + 1) → ((k : ℕ) → k ≤ i → live_at met k ≡ live_at marks k) → i + 1 ≤ next
+      → next ≤ length pairs → AreUnmarked less (i + 1) next → IsSweeping pairs live new less next
+  IsSweeping-on {new = new} {marks = marks} {met = met} {i = i} {next = next} h e li swept same above le none =
+      let after = subst (λ (ms : List Bool). AreUnmarked ms (i + 1) next) e none in
+      subst (λ (ms : List Bool). IsSweeping pairs live new ms next) (sym e) (record {
+        within = le;
+        swept = IsSwept-to pairs live new (set met i false) (i + 1) next (IsSwept-unmark pairs live new met i swept) above le after;
+        unmarked = unmarked_next marks met i next li h.unmarked same after;
+      })
+
+-- as many marks
+pub as_many : {marks : Roomed Bool} → AreAsMany marks marks
+as_many = record { count = refl; room = refl }
+
+pub as_many_then : {marks next last : Roomed Bool} → AreAsMany marks next → AreAsMany next last → AreAsMany marks last
+as_many_then a b = record { count = b.count ∙ a.count; room = b.room ∙ a.room }
+
+pub as_many_as : {marks next last : Roomed Bool} → AreAsMany marks next → last ≡ next → AreAsMany marks last
+as_many_as {marks} a e = subst (AreAsMany marks) (sym e) a
+
+pub as_many_with : {marks next : Roomed Bool} (k : ℕ) (flag : Bool) → next ≡ marks_in marks.room (set marks.entries k flag)
+    → AreAsMany marks next
+as_many_with {marks} k flag e = as_many_as (record { count = length-set marks.entries k flag; room = refl }) e

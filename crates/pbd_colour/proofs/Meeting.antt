@@ -1,21 +1,26 @@
 -- The neighbours of a pair stand in the chains of its ends, and the sweep begins and goes on by them.
-use Rattle.std.proofs.Common.{◌≡◌, ℕ, suc, ◌+◌, ◌<◌, ◌&&◌, ◌||◌, Bool, true, false, eqb, ltb, List, [], ◌∷◌, get_or, set, length, refl, sym}
+use Rattle.std.proofs.Common.{◌≡◌, ℕ, suc, ◌+◌, ◌/◌, ◌<◌, ◌≤◌, ◌&&◌, ◌||◌, Bool, true, false, eqb, ltb, List, [], ◌∷◌, get_or, set, length, refl, sym}
 use Rattle.std.proofs.Common.{ap, ◌∙◌, arith, inl, inr}
 use Rattle.std.proofs.lemmas.Bool.{cases_eq, cases_lt, cases_Bool, eq-eqb, lt-ltb, and_from, or_cases, false≢true, or_right, or_left}
 use Rattle.std.proofs.lemmas.Bool.{or_parts}
 use Rattle.std.proofs.lemmas.List.{get_or-set_same, get_or-set_other, get_or_past, length-set}
 use Rattle.std.specs.List.{list_any}
-use Rattle.pbd_chain.specs.Linked.{Linked, chain_at}
+use Rattle.pbd_chain.specs.Linked.{Linked, chain_at, is_in}
 use Rattle.pbd_world.specs.Colours.{pair_at, live_at, is_end, share}
 use Rattle.pbd_world.proofs.GreedyLemmas.{some_below-decides}
 use Rattle.pbd_colour.specs.Pairs.{InRange, dropped}
-use Rattle.pbd_colour.specs.Held.{Holds}
+use Rattle.pbd_colour.specs.Held.{AreHeld, Holds}
 use Rattle.pbd_colour.specs.Mended.{is_later, meets, least_unheld}
 use Rattle.pbd_colour.specs.Swept.{ArePainted, IsSwept}
 use Rattle.pbd_colour.proofs.Batches.{share_turn}
-use Rattle.pbd_colour.proofs.Holding.{chain-tells}
+use Rattle.pbd_colour.proofs.Holding.{chain-tells, held_within}
 use Rattle.pbd_colour.proofs.Mending.{chains_tell}
 use Rattle.pbd_colour.proofs.Sweeping.{IsSwept-none, IsSwept-more_same, IsSwept-more_changed}
+
+-- an item of a chain is of one of the pairs
+pub items_within : {pairs : List (ℕ × ℕ)} {live : List Bool} {chains : Linked} → AreHeld pairs live chains → (n : ℕ) → length pairs ≤ n
+    → (p x : ℕ) → p < length chains.chains → is_in x (chain_at chains.chains p) ≡ true → x / 2 < n
+items_within {live = live} h n l p x lp i = omega (arith, held_within live h.held h.flags p lp x i, l)
 
 none : (a : Bool) → (a && false) ≡ false
 none true = refl
@@ -88,16 +93,14 @@ dropped_in (n ∷ ns) live i was dead = elim (cases_eq i n) [
 ]
 
 -- after the taking out and the marking, the sweep may begin
-pub IsSwept-begun : {particles room : ℕ} (pairs : List (ℕ × ℕ)) (live : List Bool) (numbers cs : List ℕ) (marks : List Bool) (held : Linked)
-    → ArePainted pairs live cs
-    → Holds (live_at (dropped numbers live)) particles room pairs held → length (dropped numbers live) ≡ length pairs
-    → InRange particles pairs
+pub IsSwept-begun : {pairs : List (ℕ × ℕ)} {live : List Bool} {cs : List ℕ} {marks : List Bool} {held : Linked} (was : List Bool) (numbers : List ℕ)
+    → live ≡ dropped numbers was → ArePainted pairs was cs → AreHeld pairs live held
     → ((m k : ℕ) → m < length numbers → meets pairs held.chains (get_or numbers m 0) k ≡ true → live_at marks k ≡ true)
-    → IsSwept pairs (dropped numbers live) cs marks 0
-IsSwept-begun pairs live numbers cs marks held painted h len range marked =
-    IsSwept-none pairs live (dropped numbers live) cs marks painted (dropped_live numbers live)
-    (λ i l a u j lj was dead. let w = dropped_in numbers live j was dead in
-    unmet (dropped numbers live) h len range j i lj l a (elim (cases_Bool (meets pairs held.chains j i)) [
+    → IsSwept pairs live cs marks 0
+IsSwept-begun {pairs} {live} {cs} {marks} {held} was numbers e painted h marked =
+    IsSwept-none pairs was live cs marks painted (λ i a. dropped_live numbers was i (ap (λ (bs : List Bool). live_at bs i) (sym e) ∙ a))
+    (λ i l a u j lj alive dead. let w = dropped_in numbers was j alive (ap (λ (bs : List Bool). live_at bs j) (sym e) ∙ dead) in
+    unmet live h.held h.flags h.in_range j i lj l a (elim (cases_Bool (meets pairs held.chains j i)) [
       | inl t ↦ absurd (false≢true (sym u ∙ marked w.0 i w.1 (ap (λ (n : ℕ). meets pairs held.chains n i) w.2 ∙ t)))
       | inr f ↦ f
     ]))

@@ -36,9 +36,9 @@ some_below-cut u v i (suc n) l = elim (cases_eq i (suc n)) [
     skip false r = refl
 
 -- a walk that gathers the colours
-pub record IsUsing (cs : List ℕ) (i : ℕ) (chain : List ℕ) (at : Option ℕ) (k set now : ℕ) : Type 0 where
+pub record IsUsing (cs : List ℕ) (i : ℕ) (chain : List ℕ) (at : Option ℕ) (k now : ℕ) : Type 0 where
   pub next : at ≡ slice_get chain k
-  pub has : (d : ℕ) → d < 63 → eqb (bit_at now d) 1 ≡ (eqb (bit_at set d) 1 || list_any (holds_before cs i d) (take k chain))
+  pub has : (d : ℕ) → d < 63 → eqb (bit_at now d) 1 ≡ list_any (holds_before cs i d) (take k chain)
   pub small : now < 9223372036854775808
 
 any_one : (p : ℕ → Bool) (xs : List ℕ) (k x : ℕ) → slice_get xs k ≡ Some x → list_any p (take (k + 1) xs) ≡ (list_any p (take k xs) || p x)
@@ -53,23 +53,20 @@ or_join : (a b c : Bool) → ((a || b) || c) ≡ (a || (b || c))
 or_join true b c = refl
 or_join false b c = refl
 
-pub IsUsing-more : (cs : List ℕ) (i : ℕ) (chain : List ℕ) (at : Option ℕ) (k set now : ℕ) → IsUsing cs i chain at k set now
+pub IsUsing-more : (cs : List ℕ) (i : ℕ) (chain : List ℕ) (at : Option ℕ) (k now : ℕ) → IsUsing cs i chain at k now
     → (x new : ℕ) (next : Option ℕ) → at ≡ Some x → ((d : ℕ) → d < 63
     → eqb (bit_at new d) 1 ≡ (eqb (bit_at now d) 1 || (ltb (x / 2) i && eqb (get_or cs (x / 2) 0) d))) → new < 9223372036854775808
-    → next ≡ slice_get chain (k + 1) → IsUsing cs i chain next (k + 1) set new
-IsUsing-more cs i chain at k set now h x new next e more small after = record {
+    → next ≡ slice_get chain (k + 1) → IsUsing cs i chain next (k + 1) new
+IsUsing-more cs i chain at k now h x new next e more small after = record {
   next = after;
   small = small;
   has = λ d l. more d l ∙ ap (λ (b : Bool). b || holds_before cs i d x) (h.has d l)
-      ∙ or_join (eqb (bit_at set d) 1) (list_any (holds_before cs i d) (take k chain)) (holds_before cs i d x)
-      ∙ ap (λ (b : Bool). eqb (bit_at set d) 1 || b) (sym (any_one (holds_before cs i d) chain k x (sym h.next ∙ e)));
+      ∙ sym (any_one (holds_before cs i d) chain k x (sym h.next ∙ e));
 }
 
-pub IsUsing-all : (cs : List ℕ) (i : ℕ) (chain : List ℕ) (at : Option ℕ) (k set now : ℕ) → IsUsing cs i chain at k set now
-    → length chain ≤ k
-    → (d : ℕ) → d < 63 → eqb (bit_at now d) 1 ≡ (eqb (bit_at set d) 1 || list_any (holds_before cs i d) chain)
-IsUsing-all cs i chain at k set now h l d m = h.has d m ∙ ap (λ (xs : List ℕ). eqb (bit_at set d) 1 || list_any (holds_before cs i d) xs)
-    (take_all k chain l)
+pub IsUsing-all : (cs : List ℕ) (i : ℕ) (chain : List ℕ) (at : Option ℕ) (k now : ℕ) → IsUsing cs i chain at k now
+    → length chain ≤ k → (d : ℕ) → d < 63 → eqb (bit_at now d) 1 ≡ list_any (holds_before cs i d) chain
+IsUsing-all cs i chain at k now h l d m = h.has d m ∙ ap (list_any (holds_before cs i d)) (take_all k chain l)
 
 module _ {particles room : ℕ} {pairs : List (ℕ × ℕ)} (live : List Bool) {held : Linked} (h : Holds (live_at live) particles room pairs held)
     (len : length live ≡ length pairs) (cs : List ℕ) (i : ℕ) (li : i ≤ length pairs) where

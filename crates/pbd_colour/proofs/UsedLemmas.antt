@@ -47,13 +47,11 @@ small-mark used p c lp lc h q = rw (shifted c lc) (elim (cases_eq p q) [
   | inr ne ↦ rw (get_or-set_other used p q _ 0 (λ e. ne (sym e))) (h q)
 ])
 
--- the lowest bit that is in neither set
-pub lowest-free : (used : List ℕ) (p q : ℕ) → AreSmall used
-    → (trailing_ones w64 (bit_or (get_or used p 0) (get_or used q 0)) ≡ least_free (λ d. has used p d || has used q d))
-    × (trailing_ones w64 (bit_or (get_or used p 0) (get_or used q 0)) ≤ 63)
-lowest-free used p q h =
-    let x : ℕ = get_or used p 0 in let y : ℕ = get_or used q 0 in
-    let small : bit_or x y < 9223372036854775808 = or_lt 63 x y (h p) (h q) in
+-- the lowest colour that isn't in either of two sets
+pub lowest-unset : (x y : ℕ) → x < 9223372036854775808 → y < 9223372036854775808
+    → (trailing_ones w64 (bit_or x y) ≡ least_free (λ d. eqb (bit_at x d) 1 || eqb (bit_at y d) 1)) × (trailing_ones w64 (bit_or x y) ≤ 63)
+lowest-unset x y hx hy =
+    let small : bit_or x y < 9223372036854775808 = or_lt 63 x y hx hy in
     let f = bit_at-trailing_ones w64 (bit_or x y) (omega (arith, small)) in (
       sym (least_free-is _ (trailing_ones w64 (bit_or x y)) (omega (arith, f.0)) (λ l. sym (in_union x y _) ∙ rw f.1 refl)
           (λ d l. sym (in_union x y d) ∙ rw (f.2 d l) refl)),
@@ -67,10 +65,3 @@ bit-with set c l d = rw (shifted c l) (in_union set (2 ^ c) d ∙ ap (λ (b : Bo
 
 pub small-with : (set c : ℕ) → c < 63 → set < 9223372036854775808 → bit_or set (1 * 2 ^ c % 18446744073709551616) < 9223372036854775808
 small-with set c l h = rw (shifted c l) (or_lt 63 set (2 ^ c) h (pow_below c 63 l))
-
--- the lowest colour that isn't in a set
-pub lowest-unset : (set : ℕ) → set < 9223372036854775808
-    → (trailing_ones w64 set ≡ least_free (λ d. eqb (bit_at set d) 1)) × (trailing_ones w64 set ≤ 63)
-lowest-unset set small =
-    let f = bit_at-trailing_ones w64 set (omega (arith, small)) in
-    (sym (least_free-is _ (trailing_ones w64 set) (omega (arith, f.0)) (λ l. rw f.1 refl) (λ d l. rw (f.2 d l) refl)), omega (arith, f.0))

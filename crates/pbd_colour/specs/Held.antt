@@ -1,7 +1,8 @@
 -- Chains of pairs: the pairs of each particle, with two items for each pair.
-use Rattle.std.specs.Prelude.{◌≡◌, ℕ, ◌/◌, ◌%◌, ◌<◌, nat_lt, ◌==◌, ◌&&◌, Bool, cond, List, length}
+use Rattle.std.specs.Prelude.{◌≡◌, ℕ, ◌/◌, ◌%◌, ◌<◌, ◌≤◌, nat_lt, ◌==◌, ◌&&◌, Bool, cond, List, length}
 use Rattle.pbd_chain.specs.Linked.{Linked, is_in, chain_at}
-use Rattle.pbd_world.specs.Colours.{pair_at}
+use Rattle.pbd_world.specs.Colours.{pair_at, live_at}
+use Rattle.pbd_colour.specs.Pairs.{InRange}
 
 -- item 2k is the first end of pair k, and item 2k + 1 the second: the particle at that end
 abbrev pub end_at : List (ℕ × ℕ) → ℕ → ℕ
@@ -20,3 +21,10 @@ pub record Holds (test : ℕ → Bool) (particles room : ℕ) (pairs : List (ℕ
   pub items : chains.items ≡ room
   pub count : length chains.chains ≡ particles
   pub holds : (p x : ℕ) → p < particles → is_in x (chain_at chains.chains p) ≡ (test (x / 2) && (end_at pairs x == p))
+
+-- pairs with a flag each, and the chains of the ends of those that are live
+pub record AreHeld (pairs : List (ℕ × ℕ)) (live : List Bool) (chains : Linked) : Type 0 where
+  pub few : length pairs ≤ 524288
+  pub in_range : InRange (length chains.chains) pairs
+  pub flags : length live ≡ length pairs
+  pub held : Holds (live_at live) (length chains.chains) chains.items pairs chains

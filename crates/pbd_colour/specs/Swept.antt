@@ -1,5 +1,6 @@
 -- The sweep that mends colours after pairs were dropped.
 use Rattle.std.specs.Prelude.{◌≡◌, ℕ, ◌<◌, ◌≤◌, ◌==◌, ◌&&◌, Bool, List, IsTrue, IsFalse, length, slice_index}
+use Rattle.pbd_colour.specs.Pairs.{dropped}
 use Rattle.pbd_world.specs.Colours.{live_at, blocks, some_below, least_free, colour}
 
 -- each live pair has its colour
@@ -13,6 +14,12 @@ holds pairs live cs i d j = blocks pairs live i j && slice_index cs j == d
 -- pair i has the least colour that no live pair before it which shares a particle with it holds now, or 63
 abbrev pub IsLocal : List (ℕ × ℕ) → List Bool → List ℕ → ℕ → Type 0
 IsLocal pairs live cs i = slice_index cs i ≡ least_free (λ d. some_below (holds pairs live cs i d) i)
+
+-- each pair that was live before some numbers were dropped has the colour that it had then
+pub record WerePainted (pairs : List (ℕ × ℕ)) (live : List Bool) (cs numbers : List ℕ) : Type 0 where
+  pub was : List Bool
+  pub dropped_from : live ≡ dropped numbers was
+  pub painted : ArePainted pairs was cs
 
 -- at place p of the sweep each live pair before p has its colour, and each live pair from p on that isn't
 -- marked has the least colour by what is held now

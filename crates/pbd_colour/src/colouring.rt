@@ -1,19 +1,16 @@
 //! A list of pairs with live flags, its greedy colours, and the chain of each particle's pairs.
 ghost use Rattle.std.specs.Prelude.{◌≡◌, ◌<◌, ◌≤◌, ◌++◌, [], ℕ, length, slice_index, replicate, IfOk, slice_range};
-ghost use Rattle.std.specs.Prelude.{◌+◌, ◌*◌, IsTrue, IsFalse, true, count_by};
+ghost use Rattle.std.specs.Prelude.{◌+◌, ◌*◌, IsTrue, true, count_by};
+ghost use Rattle.std.specs.Bool.{Decides};
 ghost use Rattle.std.specs.List.Sorted.{IsStrictlyIncreasing};
 ghost use Rattle.pbd_world.specs.Colours.{live_at, colour, order, joined, joins};
 ghost use Rattle.pbd_colour.specs.Pairs.{InRange, batch_of, dropped};
 ghost use Rattle.pbd_colour.specs.Batch.{AreApart, AreLive};
-ghost use Rattle.pbd_colour.specs.Coloured.{IsColoured};
-ghost use Rattle.pbd_colour.specs.Held.{Holds};
-ghost use Rattle.pbd_colour.specs.Marked.{AreBlocked};
-ghost use Rattle.pbd_colour.specs.Swept.{ArePainted};
 
 use crate::gather::{gather, open_order};
-use crate::held::{hold_as, hold_instead, leads};
+use crate::held::{Held, are_same, hold_as, hold_instead, leads, take_out};
 use crate::lists::{copy_all, copy_over, fill, open_filled};
-use crate::marks::{open_marks, unmark_all};
+use crate::marks::Marks;
 use crate::mend::mend;
 use crate::paint::paint;
 use crate::toward::{may_lead, tell_all};
@@ -34,8 +31,7 @@ pub struct Colouring {
     room: u32,
     pairs: RoomList<(u32, u32)>,
     live: RoomList<bool>,
-    marks: RoomList<bool>,
-    blocks: RoomList<bool>,
+    marks: Marks,
     colours: RoomList<u8>,
     used: RoomList<u64>,
     toward: RoomList<u64>,
@@ -53,7 +49,7 @@ impl Model for Colouring {
 
     ghost view = { λ s. record { particles = s.particles; room = s.room; pairs = s.pairs.entries; live = s.live.entries } };
 
-    ghost invariant = { λ s. IsKept s.particles s.room s.pairs s.live s.marks s.blocks
+    ghost invariant = { λ s. IsKept s.particles s.room s.pairs s.live s.marks
         s.colours s.used s.toward s.order s.starts s.chains };
 }
 
@@ -77,62 +73,6 @@ fn piece<'a>(order: &'a [u32], starts: &[u32], c: usize) -> &'a [u32]
     &order[starts[c] as usize..starts[c + 1] as usize]
 }
 
-// Colours from scratch, and lists the live numbers by colour.
-fn recolour(
-    pairs: &[(u32, u32)],
-    live: &[bool],
-    used: &mut [u64],
-    colours: &mut [u8],
-    order: &mut RoomList<u32>,
-    starts: &mut [u32],
-)
-    requires pairs { InRange (length used.old) pairs.now }
-    requires live { length live.now ≡ length pairs.now }
-    requires colours { length colours.old ≡ length pairs.now }
-    requires few { length live.now < 4294967296 }
-    requires numbers { length live.now ≤ order.old.room }
-    requires starts { length starts.old ≡ 65 }
-    ensures room { order.new.room ≡ order.old.room }
-    ensures coloured { IsColoured pairs.now live.now colours.new order.new.entries starts.new }
-{
-    paint(pairs, live, used, colours);
-    gather(live, colours, order, starts);
-}
-
-// Drops the pairs of some numbers, mends the colours of the others, and lists those by colour.
-fn recolour_without(
-    pairs: &[(u32, u32)],
-    live: &mut [bool],
-    chains: &mut Chains,
-    colours: &mut [u8],
-    marks: &mut [bool],
-    blocks: &mut [bool],
-    order: &mut RoomList<u32>,
-    starts: &mut [u32],
-    numbers: &[u32],
-)
-    requires few { length pairs.now ≤ 524288 }
-    requires pairs { InRange (length chains.old.chains) pairs.now }
-    requires length { length live.old ≡ length pairs.now }
-    requires colours { length colours.old ≡ length pairs.now }
-    requires marks { length marks.old ≡ length pairs.now }
-    requires numbers { length live.old ≤ order.old.room }
-    requires starts { length starts.old ≡ 65 }
-    requires held { Holds (live_at live.old) (length chains.old.chains) chains.old.items pairs.now chains.old }
-    requires painted { ArePainted pairs.now live.old colours.old }
-    requires in_range { (k : ℕ) → k < length numbers.now → slice_index numbers.now k < length live.old }
-    requires blocked { AreBlocked marks.old blocks.old }
-    ensures live { live.new ≡ dropped numbers.now live.old }
-    ensures unmarked { (k : ℕ) → IsFalse (live_at marks.new k) }
-    ensures blocked { AreBlocked marks.new blocks.new }
-    ensures held { Holds (live_at live.new) (length chains.old.chains) chains.old.items pairs.now chains.new }
-    ensures room { order.new.room ≡ order.old.room }
-    ensures coloured { IsColoured pairs.now live.new colours.new order.new.entries starts.new }
-{
-    mend(pairs, live, chains, colours, marks, blocks, numbers);
-    gather(live, colours, order, starts);
-}
-
 impl Colouring {
     /// Makes room for so many pairs, at most 524,288, of particles below `particles`, at most 65,536.
     /// There are no pairs yet.
@@ -145,7 +85,7 @@ impl Colouring {
         let pairs = RoomList::open(alloc, room)?;
         let live = RoomList::open(alloc, room)?;
         let colours = RoomList::open(alloc, room)?;
-        let (marks, blocks) = open_marks(alloc, room)?;
+        let marks = Marks::open(alloc, room)?;
         let (used, toward) = open_sets(alloc, particles)?;
         let (order, starts) = open_order(alloc, room)?;
         Ok(Colouring {
@@ -154,7 +94,6 @@ impl Colouring {
             pairs,
             live,
             marks,
-            blocks,
             colours,
             used,
             toward,
@@ -181,13 +120,17 @@ impl Colouring {
         tell_all(self.toward.as_mut_slice(), pairs);
         let count = pairs.len() as u32;
         fill(&mut self.live, true, count);
-        unmark_all(&mut self.marks, &mut self.blocks, count);
+        self.marks.refill(count);
         fill(&mut self.colours, 0, count);
-        recolour(
+        paint(
             self.pairs.as_slice(),
             self.live.as_slice(),
             self.used.as_mut_slice(),
             self.colours.as_mut_slice(),
+        );
+        gather(
+            self.live.as_slice(),
+            self.colours.as_slice(),
             &mut self.order,
             self.starts.as_mut_slice(),
         );
@@ -203,17 +146,31 @@ impl Colouring {
         if sorted.is_empty() {
             return;
         }
-        recolour_without(
+        take_out(
             self.pairs.as_slice(),
             self.live.as_mut_slice(),
             &mut self.chains,
-            self.colours.as_mut_slice(),
-            self.marks.as_mut_slice(),
-            self.blocks.as_mut_slice(),
-            &mut self.order,
-            self.starts.as_mut_slice(),
             sorted,
         );
+        let held = Held {
+            pairs: self.pairs.as_slice(),
+            live: self.live.as_slice(),
+            chains: &self.chains,
+        };
+        mend(held, sorted, self.colours.as_mut_slice(), &mut self.marks);
+        gather(
+            self.live.as_slice(),
+            self.colours.as_slice(),
+            &mut self.order,
+            self.starts.as_mut_slice(),
+        );
+    }
+
+    /// Whether the pairs that are live are those of another colouring of the same pairs.
+    pub fn has_flags_of(&self, other: &Colouring) -> bool
+        ensures { Decides result (self.now.live ≡ other.now.live) }
+    {
+        are_same(self.live.as_slice(), other.live.as_slice())
     }
 
     /// Takes over which pairs are live, and their colours, from a colouring of the same pairs. It takes no memory, and as long as

@@ -1,5 +1,6 @@
 //! The chains of the pairs of each particle, with an item for each end of a pair.
 ghost use Rattle.std.specs.Prelude.{◌≡◌, ◌+◌, ◌*◌, ◌/◌, ◌<◌, ◌≤◌, ◌==◌, ℕ, List, IsTrue, true, false, length, slice_index, slice_set};
+ghost use Rattle.std.specs.Bool.{Decides};
 ghost use Rattle.std.specs.List.{list_any};
 ghost use Rattle.pbd_chain.specs.Linked.{is_in, chain_at};
 ghost use Rattle.pbd_world.specs.Colours.{live_at};
@@ -7,6 +8,14 @@ ghost use Rattle.pbd_colour.specs.Pairs.{InRange, dropped};
 ghost use Rattle.pbd_colour.specs.Held.{Holds, before, far_at};
 
 use pbd_chain::Chains;
+
+/// Pairs, their flags, and the chains of the ends of those that are live.
+#[derive(Clone, Copy)]
+pub(crate) struct Held<'a> {
+    pub(crate) pairs: &'a [(u32, u32)],
+    pub(crate) live: &'a [bool],
+    pub(crate) chains: &'a Chains,
+}
 
 // Puts both ends of each pair into the chains of their particles, which hold nothing before.
 fn hold_all(chains: &mut Chains, pairs: &[(u32, u32)])
@@ -89,6 +98,55 @@ fn set_live(pairs: &[(u32, u32)], live: &mut [bool], chains: &mut Chains, change
     let_go(pairs, live, chains, change.pair);
 }
 
+// How many flags are compared at a time.
+const PIECE: usize = 64;
+
+// Whether two lists of flags are the same.
+pub(crate) fn are_same(flags: &[bool], others: &[bool]) -> bool
+    ensures { Decides result (flags.now ≡ others.now) }
+{
+    flags == others
+}
+
+// Whether two lists have the same flags in the piece that begins here.
+fn is_same_piece(flags: &[bool], others: &[bool], at: usize) -> bool
+    requires length { length flags.now ≡ length others.now }
+    requires at { at + 64 ≤ length flags.now }
+    ensures { IsTrue result → (k : ℕ) → at ≤ k → k < at + 64 → live_at flags.now k ≡ live_at others.now k }
+{
+    are_same(&flags[at..at + PIECE], &others[at..at + PIECE])
+}
+
+// Passes the pieces in which two lists have the same flags.
+fn skip_pieces(flags: &[bool], others: &[bool], start: usize) -> usize
+    requires length { length flags.now ≡ length others.now }
+    requires start { start ≤ length flags.now }
+    ensures forward { start ≤ result }
+    ensures within { result ≤ length flags.now }
+    ensures same { (k : ℕ) → start ≤ k → k < result → live_at flags.now k ≡ live_at others.now k }
+{
+    let mut at = start;
+    while PIECE <= flags.len() - at && is_same_piece(flags, others, at) {
+        at += PIECE;
+    }
+    at
+}
+
+// The first place from `start` on at which two lists have different flags, or their length.
+fn next_change(flags: &[bool], others: &[bool], start: usize) -> usize
+    requires length { length flags.now ≡ length others.now }
+    requires start { start ≤ length flags.now }
+    ensures forward { start ≤ result }
+    ensures within { result ≤ length flags.now }
+    ensures same { (k : ℕ) → start ≤ k → k < result → live_at flags.now k ≡ live_at others.now k }
+{
+    let mut at = skip_pieces(flags, others, start);
+    while at < flags.len() && flags[at] == others[at] {
+        at += 1;
+    }
+    at
+}
+
 // Gives the pairs other flags. It goes to the chains only where a flag changes.
 pub(crate) fn hold_as(pairs: &[(u32, u32)], live: &mut [bool], chains: &mut Chains, flags: &[bool])
     requires pairs { InRange (length chains.old.chains) pairs.now }
@@ -100,12 +158,14 @@ pub(crate) fn hold_as(pairs: &[(u32, u32)], live: &mut [bool], chains: &mut Chai
     ensures live { live.new ≡ flags.now }
     ensures held { Holds (live_at live.new) (length chains.old.chains) chains.old.items pairs.now chains.new }
 {
-    for i in 0..flags.len() {
+    let mut at = next_change(live, flags, 0);
+    while at < flags.len() {
         let change = Change {
-            pair: i as u32,
-            is_live: flags[i],
+            pair: at as u32,
+            is_live: flags[at],
         };
         set_live(pairs, live, chains, change);
+        at = next_change(live, flags, at + 1);
     }
 }
 

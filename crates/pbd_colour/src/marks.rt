@@ -6,18 +6,25 @@ ghost use Rattle.pbd_colour.specs.Marked.{AreBlocked, AreUnmarked};
 use crate::lists::{fill, open_filled};
 use pbd_world::RoomList;
 use std::alloc::{AllocError, Global};
+use std::marker::Model;
 
-// Room for the marks of so many numbers, and for those of their blocks. There are no numbers yet, and one block.
-pub(crate) fn open_marks(
-    alloc: Global,
-    room: u32,
-) -> Result<(RoomList<bool>, RoomList<bool>), AllocError>
-    ensures marks { IfOk result (λ both. both.0 ≡ record { entries = []; room = room }) }
-    ensures blocks { IfOk result (λ both. both.1 ≡ record { entries = replicate 1 false; room = room / 256 + 1 }) }
-{
-    let marks = RoomList::open(alloc, room)?;
-    let blocks = open_filled(alloc, room / 256 + 1, false, 1)?;
-    Ok((marks, blocks))
+/// Marks on numbers, seen as a flag for each. The block of a marked number is marked too.
+#[derive(Drop)]
+pub(crate) struct Marks {
+    numbers: RoomList<bool>,
+    blocks: RoomList<bool>,
+}
+
+impl Model for Marks {
+    ghost use Rattle.std.specs.Prelude.{◌≡◌, ◌+◌, ◌/◌, Bool};
+    ghost use Rattle.pbd_world.specs.Room.{Roomed};
+    ghost use Rattle.pbd_colour.specs.Marked.{AreBlocked};
+
+    ghost Value = { Roomed Bool };
+
+    ghost view = { λ s. s.numbers };
+
+    ghost invariant = { λ s. AreBlocked s.numbers.entries s.blocks.entries × (s.blocks.room ≡ s.numbers.room / 256 + 1) };
 }
 
 // Whether one of the two holds.
@@ -27,8 +34,8 @@ fn either(a: bool, b: bool) -> bool
     a || b
 }
 
-// Marks a number where it is to be.
-pub(crate) fn mark_if(marks: &mut [bool], blocks: &mut [bool], k: u32, is_met: bool)
+// Marks a number where it is to be, and so its block.
+fn mark_both(marks: &mut [bool], blocks: &mut [bool], k: u32, is_met: bool)
     requires k { k < length marks.old }
     requires blocked { AreBlocked marks.old blocks.old }
     ensures marks { marks.new ≡ slice_set marks.old k (live_at marks.old k || is_met) }
@@ -37,6 +44,14 @@ pub(crate) fn mark_if(marks: &mut [bool], blocks: &mut [bool], k: u32, is_met: b
     let block = (k / 256) as usize;
     marks[k as usize] = either(marks[k as usize], is_met);
     blocks[block] = either(blocks[block], is_met);
+}
+
+// Takes the mark of a number.
+fn take_mark(marks: &mut [bool], k: u32)
+    requires { k < length marks.old }
+    ensures { marks.new ≡ slice_set marks.old k false }
+{
+    marks[k as usize] = false;
 }
 
 // The first marked number of some, or their end.
@@ -73,7 +88,7 @@ fn first_of_block(marks: &[bool], blocks: &[bool], from: u32, to: u32) -> u32
 }
 
 // The first marked number from a number on, or how many numbers there are.
-pub(crate) fn next_marked(marks: &[bool], blocks: &[bool], from: u32) -> u32
+fn next_marked(marks: &[bool], blocks: &[bool], from: u32) -> u32
     requires few { length marks.now ≤ 524288 }
     requires from { from ≤ length marks.now }
     requires blocked { AreBlocked marks.now blocks.now }
@@ -95,7 +110,7 @@ pub(crate) fn next_marked(marks: &[bool], blocks: &[bool], from: u32) -> u32
 }
 
 // Takes the marks of all blocks away.
-pub(crate) fn forget(blocks: &mut [bool])
+fn clear(blocks: &mut [bool])
     ensures { (b : ℕ) → IsFalse (live_at blocks.new b) }
 {
     for block in blocks.iter_mut() {
@@ -103,16 +118,62 @@ pub(crate) fn forget(blocks: &mut [bool])
     }
 }
 
-// Takes the marks of so many numbers, none of which is marked.
-pub(crate) fn unmark_all(marks: &mut RoomList<bool>, blocks: &mut RoomList<bool>, count: u32)
-    requires marks { count ≤ marks.old.room }
-    requires blocks { count / 256 + 1 ≤ blocks.old.room }
-    ensures marks_room { marks.new.room ≡ marks.old.room }
-    ensures blocks_room { blocks.new.room ≡ blocks.old.room }
-    ensures count { length marks.new.entries ≡ count }
-    ensures unmarked { (k : ℕ) → IsFalse (live_at marks.new.entries k) }
-    ensures blocked { AreBlocked marks.new.entries blocks.new.entries }
-{
-    fill(marks, false, count);
-    fill(blocks, false, count / 256 + 1);
+impl Marks {
+    // Room for the marks of so many numbers. There are no numbers yet.
+    pub(crate) fn open(alloc: Global, room: u32) -> Result<Marks, AllocError>
+        ensures { IfOk result (λ marks. marks ≡ record { entries = []; room = room }) }
+    {
+        let numbers = RoomList::open(alloc, room)?;
+        let blocks = open_filled(alloc, room / 256 + 1, false, 1)?;
+        Ok(Marks { numbers, blocks })
+    }
+
+    // Takes so many numbers, of which none is marked.
+    pub(crate) fn refill(&mut self, count: u32)
+        requires { count ≤ self.old.room }
+        ensures { self.new ≡ record self.old { entries = replicate count false } }
+    {
+        fill(&mut self.numbers, false, count);
+        fill(&mut self.blocks, false, count / 256 + 1);
+    }
+
+    // Marks a number where it is to be.
+    pub(crate) fn mark_if(&mut self, k: u32, is_met: bool)
+        requires { k < length self.old.entries }
+        ensures { self.new ≡ record self.old { entries = slice_set self.old.entries k (live_at self.old.entries k || is_met) } }
+    {
+        mark_both(
+            self.numbers.as_mut_slice(),
+            self.blocks.as_mut_slice(),
+            k,
+            is_met,
+        );
+    }
+
+    // Takes the mark of a number.
+    pub(crate) fn unmark(&mut self, k: u32)
+        requires { k < length self.old.entries }
+        ensures { self.new ≡ record self.old { entries = slice_set self.old.entries k false } }
+    {
+        take_mark(self.numbers.as_mut_slice(), k);
+    }
+
+    // The first marked number from a number on, or how many numbers there are.
+    pub(crate) fn next(&self, from: u32) -> u32
+        requires few { length self.now.entries ≤ 524288 }
+        requires from { from ≤ length self.now.entries }
+        ensures above { from ≤ result }
+        ensures below { result ≤ length self.now.entries }
+        ensures unmarked { AreUnmarked self.now.entries from result }
+    {
+        next_marked(self.numbers.as_slice(), self.blocks.as_slice(), from)
+    }
+
+    // Takes the marks of all blocks away, where no number is marked.
+    pub(crate) fn forget(&mut self)
+        requires { (k : ℕ) → IsFalse (live_at self.old.entries k) }
+        ensures { self.new ≡ self.old }
+    {
+        clear(self.blocks.as_mut_slice());
+    }
 }

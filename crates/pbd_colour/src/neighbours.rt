@@ -1,14 +1,15 @@
 //! What the pairs of a particle tell: the colours that they hold, and which of them come later.
-ghost use Rattle.std.specs.Prelude.{◌≡◌, ◌<◌, ◌/◌, ◌==◌, ◌&&◌, ◌||◌, ℕ, IsTrue, length, slice_index};
+ghost use Rattle.std.specs.Prelude.{◌≡◌, ◌<◌, ◌≤◌, ◌/◌, ◌==◌, ◌&&◌, ◌||◌, ℕ, IsTrue, length, slice_index};
 ghost use Rattle.std.specs.List.{list_any};
 ghost use Rattle.std.specs.Int.{bit_at};
 ghost use Rattle.pbd_chain.specs.Linked.{is_in, chain_at};
 ghost use Rattle.pbd_colour.specs.Mended.{holds_before, is_later, least_unheld, meets};
-ghost use Rattle.pbd_colour.specs.Marked.{AreBlocked};
-ghost use Rattle.pbd_colour.specs.Pairs.{InRange};
+ghost use Rattle.pbd_colour.specs.Marked.{AreAsMany};
+ghost use Rattle.pbd_colour.specs.Held.{AreHeld};
 ghost use Rattle.pbd_world.specs.Colours.{live_at};
 
-use crate::marks::mark_if;
+use crate::held::Held;
+use crate::marks::Marks;
 use pbd_chain::Chains;
 
 // Puts a colour below 63 into a set where it is to go there.
@@ -24,16 +25,14 @@ fn with_colour(set: u64, is_held: bool, c: u8) -> u64
     }
 }
 
-// Adds the colours of the pairs before i in the chain of a particle to a set.
-pub(crate) fn used_by(colours: &[u8], chains: &Chains, p: u32, i: u32, set: u64) -> u64
+// The colours below 63 of the pairs before i in the chain of a particle, as a set.
+pub(crate) fn used_by(colours: &[u8], chains: &Chains, p: u32, i: u32) -> u64
     requires chain { p < length chains.now.chains }
     requires pairs { (x : ℕ) → IsTrue (is_in x (chain_at chains.now.chains p)) → x / 2 < length colours.now }
-    requires small { set < 9223372036854775808 }
-    ensures has { (d : ℕ) → d < 63 → (bit_at result d == 1)
-        ≡ ((bit_at set d == 1) || list_any (holds_before colours.now i d) (chain_at chains.now.chains p)) }
+    ensures has { (d : ℕ) → d < 63 → (bit_at result d == 1) ≡ list_any (holds_before colours.now i d) (chain_at chains.now.chains p) }
     ensures small { result < 9223372036854775808 }
 {
-    let mut now = set;
+    let mut now = 0;
     let mut at = chains.first(p);
     for _ in 0..chains.items() {
         let Some(x) = at else {
@@ -46,53 +45,46 @@ pub(crate) fn used_by(colours: &[u8], chains: &Chains, p: u32, i: u32, set: u64)
 }
 
 // Marks the pairs after i in the chain of a particle.
-pub(crate) fn mark_later(chains: &Chains, p: u32, i: u32, marks: &mut [bool], blocks: &mut [bool])
+pub(crate) fn mark_later(chains: &Chains, p: u32, i: u32, marks: &mut Marks)
     requires chain { p < length chains.now.chains }
-    requires pairs { (x : ℕ) → IsTrue (is_in x (chain_at chains.now.chains p)) → x / 2 < length marks.old }
-    requires blocked { AreBlocked marks.old blocks.old }
-    ensures marked { (k : ℕ) → live_at marks.new k ≡ (live_at marks.old k || list_any (is_later i k) (chain_at chains.now.chains p)) }
-    ensures blocked { AreBlocked marks.new blocks.new }
+    requires pairs { (x : ℕ) → IsTrue (is_in x (chain_at chains.now.chains p)) → x / 2 < length marks.old.entries }
+    ensures marked { (k : ℕ) → live_at marks.new.entries k
+        ≡ (live_at marks.old.entries k || list_any (is_later i k) (chain_at chains.now.chains p)) }
+    ensures sized { AreAsMany marks.old marks.new }
 {
     let mut at = chains.first(p);
     for _ in 0..chains.items() {
         let Some(x) = at else {
             break;
         };
-        mark_if(marks, blocks, x / 2, i < x / 2);
+        marks.mark_if(x / 2, i < x / 2);
         at = chains.next(x);
     }
 }
 
 // The least colour that no live pair before i which shares a particle with it holds now, or 63.
-pub(crate) fn free_colour(pairs: &[(u32, u32)], colours: &[u8], chains: &Chains, i: u32) -> u8
-    requires i { i < length pairs.now }
-    requires pairs { InRange (length chains.now.chains) pairs.now }
-    requires items { (p x : ℕ) → p < length chains.now.chains
-        → IsTrue (is_in x (chain_at chains.now.chains p)) → x / 2 < length colours.now }
-    ensures { result ≡ least_unheld pairs.now chains.now.chains colours.now i }
+pub(crate) fn free_colour(held: Held<'_>, colours: &[u8], i: u32) -> u8
+    requires i { i < length held.pairs.now }
+    requires held { AreHeld held.pairs.now held.live.now held.chains.now }
+    requires colours { length held.pairs.now ≤ length colours.now }
+    ensures { result ≡ least_unheld held.entry.pairs.now held.entry.chains.now.chains colours.now i }
 {
-    let (a, b) = pairs[i as usize];
-    let set = used_by(colours, chains, b, i, used_by(colours, chains, a, i, 0));
-    set.trailing_ones() as u8
+    let (a, b) = held.pairs[i as usize];
+    let first = used_by(colours, held.chains, a, i);
+    let second = used_by(colours, held.chains, b, i);
+    (first | second).trailing_ones() as u8
 }
 
 // Marks the live pairs after i that share a particle with it.
-pub(crate) fn mark_neighbours(
-    pairs: &[(u32, u32)],
-    chains: &Chains,
-    i: u32,
-    marks: &mut [bool],
-    blocks: &mut [bool],
-)
-    requires i { i < length pairs.now }
-    requires pairs { InRange (length chains.now.chains) pairs.now }
-    requires items { (p x : ℕ) → p < length chains.now.chains
-        → IsTrue (is_in x (chain_at chains.now.chains p)) → x / 2 < length marks.old }
-    requires blocked { AreBlocked marks.old blocks.old }
-    ensures marked { (k : ℕ) → live_at marks.new k ≡ (live_at marks.old k || meets pairs.now chains.now.chains i k) }
-    ensures blocked { AreBlocked marks.new blocks.new }
+pub(crate) fn mark_neighbours(held: Held<'_>, i: u32, marks: &mut Marks)
+    requires i { i < length held.pairs.now }
+    requires held { AreHeld held.pairs.now held.live.now held.chains.now }
+    requires marks { length held.pairs.now ≤ length marks.old.entries }
+    ensures marked { (k : ℕ) → live_at marks.new.entries k
+        ≡ (live_at marks.old.entries k || meets held.entry.pairs.now held.entry.chains.now.chains i k) }
+    ensures sized { AreAsMany marks.old marks.new }
 {
-    let (a, b) = pairs[i as usize];
-    mark_later(chains, a, i, marks, blocks);
-    mark_later(chains, b, i, marks, blocks);
+    let (a, b) = held.pairs[i as usize];
+    mark_later(held.chains, a, i, marks);
+    mark_later(held.chains, b, i, marks);
 }

@@ -1,8 +1,7 @@
 //! A batch over six particles, and what it comes to.
 ghost use Rattle.std.specs.Prelude.{◌≡◌, ◌<◌, ◌≤◌, ◌^◌, pos, IsTrue, length, None};
-ghost use Rattle.std.specs.List.{list_all};
-ghost use Rattle.pbd_pair.specs.Examples.{is_placed, is_batch};
 ghost use Rattle.pbd_pair.specs.Laid.{laid_in};
+ghost use Rattle.pbd_tests_schedule.specs.Work.{may_stand};
 
 use pbd_num::RANGE;
 use pbd_pair::{Bonds, Projector};
@@ -66,9 +65,7 @@ fn run_in<const L: usize, G: Ledger>(
     requires low { 0 < L }
     requires high { L ≤ 16 }
     requires limit { store.old.limit ≡ pos (2 ^ 29) }
-    requires six { length store.old.particles ≡ 6 }
-    requires placed { IsTrue (list_all (is_placed (pos (2 ^ 29))) store.old.particles) }
-    requires batch { IsTrue (is_batch (pos (2 ^ 29)) 6 schedule.now.work.bonds schedule.now.work.batch.now) }
+    requires work { IsTrue (may_stand store.old.particles schedule.now.work.bonds schedule.now.work.batch.now) }
     requires few { length schedule.now.events.now < 2 ^ 32 }
 {
     let mut totals = Totals::zero();
@@ -98,19 +95,13 @@ pub(crate) fn by_events<const L: usize, G: Ledger>(
 ) -> Result<Seen, AllocError>
     requires low { 0 < L }
     requires high { L ≤ 16 }
-    requires six { length schedule.now.work.particles.now ≡ 6 }
-    requires placed { IsTrue (list_all (is_placed (pos (2 ^ 29))) schedule.now.work.particles.now) }
-    requires batch { IsTrue (is_batch (pos (2 ^ 29)) 6 schedule.now.work.bonds schedule.now.work.batch.now) }
+    requires work { IsTrue (may_stand schedule.now.work.particles.now schedule.now.work.bonds schedule.now.work.batch.now) }
     requires few { length schedule.now.events.now < 2 ^ 32 }
 {
-    match Store::<L>::open(alloc, schedule.work.particles, RANGE) {
-        Ok(mut store) => {
-            let seen = run_in(steps, notes, &mut store, schedule);
-            drop(store);
-            Ok(seen)
-        }
-        Err(error) => Err(error),
-    }
+    let mut store = Store::<L>::open(alloc, schedule.work.particles, RANGE)?;
+    let seen = run_in(steps, notes, &mut store, schedule);
+    drop(store);
+    Ok(seen)
 }
 
 /// The same with notes of its own.
@@ -121,19 +112,13 @@ pub(crate) fn by_own_events<const L: usize, G: Ledger>(
 ) -> Result<Seen, AllocError>
     requires low { 0 < L }
     requires high { L ≤ 16 }
-    requires six { length schedule.now.work.particles.now ≡ 6 }
-    requires placed { IsTrue (list_all (is_placed (pos (2 ^ 29))) schedule.now.work.particles.now) }
-    requires batch { IsTrue (is_batch (pos (2 ^ 29)) 6 schedule.now.work.bonds schedule.now.work.batch.now) }
+    requires work { IsTrue (may_stand schedule.now.work.particles.now schedule.now.work.bonds schedule.now.work.batch.now) }
     requires few { length schedule.now.events.now < 2 ^ 32 }
 {
-    match Notes::open(alloc) {
-        Ok(mut notes) => {
-            let seen = by_events::<L, G>(alloc, steps, &mut notes, schedule);
-            drop(notes);
-            seen
-        }
-        Err(error) => Err(error),
-    }
+    let mut notes = Notes::open(alloc)?;
+    let seen = by_events::<L, G>(alloc, steps, &mut notes, schedule);
+    drop(notes);
+    seen
 }
 
 /// What work comes to by a projector, in a store.
@@ -146,9 +131,7 @@ fn project_in<const L: usize, P: Projector<L>, G: Ledger>(
     requires low { 0 < L }
     requires high { L ≤ 16 }
     requires limit { store.old.limit ≡ pos (2 ^ 29) }
-    requires six { length store.old.particles ≡ 6 }
-    requires placed { IsTrue (list_all (is_placed (pos (2 ^ 29))) store.old.particles) }
-    requires batch { IsTrue (is_batch (pos (2 ^ 29)) 6 work.now.bonds work.now.batch.now) }
+    requires work { IsTrue (may_stand store.old.particles work.now.bonds work.now.batch.now) }
     requires plain { laid_in work.now.bonds ≡ None }
 {
     let mut totals = Totals::zero();
@@ -176,17 +159,11 @@ pub(crate) fn by_projector<const L: usize, P: Projector<L>, G: Ledger>(
 ) -> Result<Seen, AllocError>
     requires low { 0 < L }
     requires high { L ≤ 16 }
-    requires six { length work.now.particles.now ≡ 6 }
-    requires placed { IsTrue (list_all (is_placed (pos (2 ^ 29))) work.now.particles.now) }
-    requires batch { IsTrue (is_batch (pos (2 ^ 29)) 6 work.now.bonds work.now.batch.now) }
+    requires work { IsTrue (may_stand work.now.particles.now work.now.bonds work.now.batch.now) }
     requires plain { laid_in work.now.bonds ≡ None }
 {
-    match Store::<L>::open(alloc, work.particles, RANGE) {
-        Ok(mut store) => {
-            let seen = project_in(steps, projector, &mut store, work);
-            drop(store);
-            Ok(seen)
-        }
-        Err(error) => Err(error),
-    }
+    let mut store = Store::<L>::open(alloc, work.particles, RANGE)?;
+    let seen = project_in(steps, projector, &mut store, work);
+    drop(store);
+    Ok(seen)
 }

@@ -1,7 +1,8 @@
 //! Every list of up to seven events over two bonds: the illegal ones are refused, each at its first wrong event.
-ghost use Rattle.std.specs.Prelude.{◌≡◌, ◌<◌, ◌≤◌};
+ghost use Rattle.std.specs.Prelude.{◌≤◌};
 
 use crate::batches::{Schedule, Work, by_events};
+use crate::counting::{Trial, tried};
 use pbd_num::Vec3;
 use pbd_pair::Bonds;
 use pbd_schedule::{Event, EventFault, Notes};
@@ -10,7 +11,6 @@ use pbd_world::{Kind, Link, Particle};
 use std::alloc::{AllocError, Global};
 use std::marker::Brand;
 use std::sync::ledger::{Blank, Ledger};
-use std::test::Fail;
 
 /// How many lists ran, how many were refused where they had to be, with the particles as before, and how many
 /// came to something else.
@@ -78,14 +78,7 @@ fn wanted(events: &[Event]) -> Result<(), EventFault> {
 
 /// Two bonds that move.
 static TWO: Work<'static> = Work {
-    particles: &[
-        free!(0, 0, 1),
-        free!(105, 0, 2),
-        free!(0, 1000, 1),
-        free!(107, 1000, 1),
-        free!(0, 2000, 1),
-        free!(100, 2000, 1),
-    ],
+    particles: three_pairs!((0, 1), (105, 2); (0, 1), (107, 1); (0, 1), (100, 1)),
     bonds: Bonds::Links(&[link!(0, 1), link!(2, 3)]),
     batch: &[0, 1],
 };
@@ -125,52 +118,32 @@ fn all_lists_with<G: Ledger>(
     Ok(tally)
 }
 
-/// The same with notes of its own.
-fn all_lists<G: Ledger>(
+/// Whether all lists of up to seven events are as told, by their length. Of the 335,923 the 20 legal ones have six events.
+fn all_lengths_with<G: Ledger>(
     alloc: Global,
     steps: &mut Steps<G>,
-    size: usize,
-) -> Result<Tally, AllocError>
-    requires size { size ≤ 7 }
-{
-    match Notes::open(alloc) {
-        Ok(mut notes) => {
-            let tally = all_lists_with(alloc, steps, &mut notes, size);
-            drop(notes);
-            tally
-        }
-        Err(error) => Err(error),
-    }
-}
-
-/// Lists of up to seven events, by their length. Of the 335,923 the 20 legal ones have six events.
-fn all_lengths<G: Ledger>(alloc: Global, steps: &mut Steps<G>) -> Result<bool, AllocError> {
+    notes: &mut Notes,
+) -> Result<usize, AllocError> {
     let mut good = true;
     for size in 0..8 {
-        let tally = all_lists(alloc, steps, size)?;
+        let tally = all_lists_with(alloc, steps, notes, size)?;
         let legal = if size == 6 { 20 } else { 0 };
         good = good && tally.ran == legal && tally.wrong == 0;
         good = good && tally.refused.saturating_add(legal) == LISTS[size];
     }
-    Ok(good)
+    Ok(usize::from(good))
 }
 
-fn lists<G: Ledger>(alloc: Global, blank: Blank) -> Result<bool, AllocError>
-    requires name { blank.name ≡ G.name }
-    requires parts { blank.parts ≡ G.parts }
-    requires some { 0 < blank.parts }
-{
-    let mut steps: Steps<G> = Steps::open(blank);
-    let told = all_lengths(alloc, &mut steps);
-    drop(steps);
+/// Lists of up to seven events.
+pub(crate) fn try_all<G: Ledger>(alloc: Global, steps: &mut Steps<G>) -> Result<usize, AllocError> {
+    let mut notes = Notes::open(alloc)?;
+    let told = all_lengths_with(alloc, steps, &mut notes);
+    drop(notes);
     told
 }
 
 #[test]
-fn all_other_lists_of_events_are_refused(rt: HostRuntime) -> Result<(), Fail> {
-    assert!(rt;
-        lists::<Brand>(rt.alloc(), Blank::new(1))?,
-        "of 335,923 lists of up to seven events 20 are legal"
-    );
-    Ok(())
+fn all_other_lists_of_events_are_refused(rt: HostRuntime) {
+    let told = tried::<Brand>(rt.alloc(), Blank::new(1), Trial::ShortLists);
+    assert_eq!(rt; told.ok(), Some(1), "of 335,923 lists 20 are legal");
 }

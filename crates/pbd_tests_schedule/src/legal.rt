@@ -1,10 +1,10 @@
 //! Every legal interleaving of two bonds and of three comes to what the scalar projector does.
-ghost use Rattle.std.specs.Prelude.{◌≡◌, ◌<◌, ◌≤◌, ◌^◌, pos, IsTrue, length, None};
-ghost use Rattle.std.specs.List.{list_all};
-ghost use Rattle.pbd_pair.specs.Examples.{is_placed, is_batch};
+ghost use Rattle.std.specs.Prelude.{◌≡◌, ◌<◌, ◌≤◌, IsTrue, length, None};
 ghost use Rattle.pbd_pair.specs.Laid.{laid_in};
+ghost use Rattle.pbd_tests_schedule.specs.Work.{may_stand};
 
 use crate::batches::{Schedule, Seen, Work, are_alike, by_events, by_projector};
+use crate::counting::{Trial, holding, tried};
 use pbd_num::Vec3;
 use pbd_pair::{Bonds, Scalar};
 use pbd_schedule::{Event, EventFault, Notes};
@@ -13,7 +13,6 @@ use pbd_world::{Kind, Link, Particle};
 use std::alloc::{AllocError, Global};
 use std::marker::Brand;
 use std::sync::ledger::{Blank, Ledger};
-use std::test::Fail;
 
 /// Work of two bonds or three, how many lists of its bonds are as long as its list of events, how many of these lists are
 /// interleavings, and what the scalar projector answers.
@@ -69,9 +68,7 @@ fn interleavings_with<const L: usize, G: Ledger>(
 ) -> Result<[u32; 2], AllocError>
     requires low { 0 < L }
     requires high { L ≤ 16 }
-    requires six { length mixed.now.work.particles.now ≡ 6 }
-    requires placed { IsTrue (list_all (is_placed (pos (2 ^ 29))) mixed.now.work.particles.now) }
-    requires batch { IsTrue (is_batch (pos (2 ^ 29)) 6 mixed.now.work.bonds mixed.now.work.batch.now) }
+    requires work { IsTrue (may_stand mixed.now.work.particles.now mixed.now.work.bonds mixed.now.work.batch.now) }
     requires some { 0 < length mixed.now.work.batch.now }
     requires few { length mixed.now.work.batch.now ≤ 3 }
 {
@@ -100,9 +97,7 @@ fn are_as_told<const L: usize, G: Ledger>(
 ) -> Result<bool, AllocError>
     requires low { 0 < L }
     requires high { L ≤ 16 }
-    requires six { length row.now.work.particles.now ≡ 6 }
-    requires placed { IsTrue (list_all (is_placed (pos (2 ^ 29))) row.now.work.particles.now) }
-    requires batch { IsTrue (is_batch (pos (2 ^ 29)) 6 row.now.work.bonds row.now.work.batch.now) }
+    requires work { IsTrue (may_stand row.now.work.particles.now row.now.work.bonds row.now.work.batch.now) }
     requires plain { laid_in row.now.work.bonds ≡ None }
     requires some { 0 < length row.now.work.batch.now }
     requires few { length row.now.work.batch.now ≤ 3 }
@@ -114,14 +109,10 @@ fn are_as_told<const L: usize, G: Ledger>(
         lists: row.lists,
         wanted,
     };
-    match Notes::open(alloc) {
-        Ok(mut notes) => {
-            let told = interleavings_with::<L, G>(alloc, steps, &mut notes, &mixed);
-            drop(notes);
-            Ok(told? == [row.all; 2] && wanted.answer == row.answer)
-        }
-        Err(error) => Err(error),
-    }
+    let mut notes = Notes::open(alloc)?;
+    let told = interleavings_with::<L, G>(alloc, steps, &mut notes, &mixed);
+    drop(notes);
+    Ok(told? == [row.all; 2] && wanted.answer == row.answer)
 }
 
 const TWO: Bonds<'static> = Bonds::Links(&[link!(0, 1), link!(2, 3)]);
@@ -131,14 +122,7 @@ const THREE: Bonds<'static> = Bonds::Links(&[link!(0, 1), link!(2, 3), link!(4, 
 /// Two bonds that move.
 static TWO_MOVE: Row = Row {
     work: Work {
-        particles: &[
-            free!(0, 0, 1),
-            free!(105, 0, 2),
-            held!(0, 1000),
-            free!(107, 1000, 1),
-            free!(0, 2000, 1),
-            free!(100, 2000, 1),
-        ],
+        particles: three_pairs!((0, 1), (105, 2); (0, held), (107, 1); (0, 1), (100, 1)),
         bonds: TWO,
         batch: &[1, 0],
     },
@@ -150,14 +134,7 @@ static TWO_MOVE: Row = Row {
 /// Two bonds of which one leaves.
 static ONE_OF_TWO_LEAVES: Row = Row {
     work: Work {
-        particles: &[
-            free!(0, 0, 1),
-            free!(105, 0, 2),
-            free!(536870912, 1000, 1),
-            free!(536870911, 1000, 1),
-            free!(0, 2000, 1),
-            free!(100, 2000, 1),
-        ],
+        particles: three_pairs!((0, 1), (105, 2); (536870912, 1), (536870911, 1); (0, 1), (100, 1)),
         bonds: TWO,
         batch: &[0, 1],
     },
@@ -169,14 +146,7 @@ static ONE_OF_TWO_LEAVES: Row = Row {
 /// Three bonds that move, one of them with a held end.
 static THREE_MOVE: Row = Row {
     work: Work {
-        particles: &[
-            free!(0, 0, 1),
-            free!(105, 0, 2),
-            held!(0, 1000),
-            free!(107, 1000, 1),
-            free!(0, 2000, 3),
-            free!(80, 2000, 1),
-        ],
+        particles: three_pairs!((0, 1), (105, 2); (0, held), (107, 1); (0, 3), (80, 1)),
         bonds: THREE,
         batch: &[2, 0, 1],
     },
@@ -188,14 +158,7 @@ static THREE_MOVE: Row = Row {
 /// Three bonds of which two leave: each interleaving leaves with the first of them in the batch.
 static TWO_OF_THREE_LEAVE: Row = Row {
     work: Work {
-        particles: &[
-            free!(536870912, 0, 1),
-            free!(536870911, 0, 1),
-            free!(0, 1000, 1),
-            free!(105, 1000, 1),
-            free!(-536870912, 2000, 1),
-            free!(-536870911, 2000, 1),
-        ],
+        particles: three_pairs!((536870912, 1), (536870911, 1); (0, 1), (105, 1); (-536870912, 1), (-536870911, 1)),
         bonds: THREE,
         batch: &[1, 2, 0],
     },
@@ -205,8 +168,8 @@ static TWO_OF_THREE_LEAVE: Row = Row {
 };
 
 /// Each row at two widths.
-fn at_two_widths<G: Ledger>(alloc: Global, steps: &mut Steps<G>) -> Result<[bool; 8], AllocError> {
-    Ok([
+pub(crate) fn try_all<G: Ledger>(alloc: Global, steps: &mut Steps<G>) -> Result<usize, AllocError> {
+    Ok(holding(&[
         are_as_told::<1, G>(alloc, steps, &TWO_MOVE)?,
         are_as_told::<4, G>(alloc, steps, &TWO_MOVE)?,
         are_as_told::<1, G>(alloc, steps, &ONE_OF_TWO_LEAVES)?,
@@ -215,26 +178,11 @@ fn at_two_widths<G: Ledger>(alloc: Global, steps: &mut Steps<G>) -> Result<[bool
         are_as_told::<16, G>(alloc, steps, &THREE_MOVE)?,
         are_as_told::<1, G>(alloc, steps, &TWO_OF_THREE_LEAVE)?,
         are_as_told::<8, G>(alloc, steps, &TWO_OF_THREE_LEAVE)?,
-    ])
-}
-
-fn interleavings<G: Ledger>(alloc: Global, blank: Blank) -> Result<[bool; 8], AllocError>
-    requires name { blank.name ≡ G.name }
-    requires parts { blank.parts ≡ G.parts }
-    requires some { 0 < blank.parts }
-{
-    let mut steps: Steps<G> = Steps::open(blank);
-    let told = at_two_widths(alloc, &mut steps);
-    drop(steps);
-    told
+    ]))
 }
 
 #[test]
-fn legal_interleavings_come_to_the_same(rt: HostRuntime) -> Result<(), Fail> {
-    assert_eq!(rt;
-        interleavings::<Brand>(rt.alloc(), Blank::new(1))?,
-        [true; 8],
-        "two bonds and two of which one leaves at widths 1 and 4, three at 1 and 16, and three of which two leave at 1 and 8"
-    );
-    Ok(())
+fn legal_interleavings_come_to_the_same(rt: HostRuntime) {
+    let told = tried::<Brand>(rt.alloc(), Blank::new(1), Trial::LegalLists);
+    assert_eq!(rt; told.ok(), Some(8), "four rows, each at two widths");
 }

@@ -2,7 +2,6 @@
 #![tactic(auto)]
 
 // A particle that rests at (x, y, 0).
-#[cfg(test)]
 macro_rules! free {
     ($x:expr, $y:expr, $weight:expr) => {
         Particle {
@@ -15,7 +14,6 @@ macro_rules! free {
 }
 
 // One that is held there.
-#[cfg(test)]
 macro_rules! held {
     ($x:expr, $y:expr) => {
         Particle {
@@ -27,8 +25,31 @@ macro_rules! held {
     };
 }
 
+// A particle at (x, y, 0) that is held, or is free with a weight.
+macro_rules! resting {
+    (($x:expr, held), $y:expr) => {
+        held!($x, $y)
+    };
+    (($x:expr, $weight:expr), $y:expr) => {
+        free!($x, $y, $weight)
+    };
+}
+
+// Three pairs of particles, at y 0, 1,000 and 2,000: the x of each, and its weight or that it is held.
+macro_rules! three_pairs {
+    ($a:tt, $b:tt; $c:tt, $d:tt; $e:tt, $f:tt) => {
+        &[
+            resting!($a, 0),
+            resting!($b, 0),
+            resting!($c, 1000),
+            resting!($d, 1000),
+            resting!($e, 2000),
+            resting!($f, 2000),
+        ]
+    };
+}
+
 // A stiff link of length 100.
-#[cfg(test)]
 macro_rules! link {
     ($a:expr, $b:expr) => {
         Link {
@@ -43,13 +64,9 @@ macro_rules! link {
     };
 }
 
-#[cfg(test)]
 mod batches;
-#[cfg(test)]
+mod counting;
 mod drawn;
-#[cfg(test)]
 mod given;
-#[cfg(test)]
 mod illegal;
-#[cfg(test)]
 mod legal;

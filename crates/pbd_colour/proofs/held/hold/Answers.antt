@@ -1,11 +1,11 @@
 use Rattle.std.proofs.Common.{◌<◌, length, true, arith}
 use Rattle.std.specs.Prelude.{slice_set}
 use Rattle.pbd_world.specs.Colours.{live_at}
-use Rattle.pbd_colour.proofs.Holding.{first_free, second_free, Holds-more, set_true, set_in, set_others}
+use Rattle.pbd_colour.proofs.Holding.{first_free, second_free, Holds-more, set_same, set_in, set_others}
 use Rattle.pbd_colour.proofs.held.hold.Goals as goal
 
 pub returns-then-live-i-clause-live : goal.returns-then-live-i-clause-live
-returns-then-live-i-clause-live c = set_true c.args.live.now c.args.i c.if-live-i.true
+returns-then-live-i-clause-live c = set_same c.args.live.now c.args.i true c.if-live-i.true
 
 pub link_front-requires-clause-free : goal.link_front-requires-clause-free
 link_front-requires-clause-free c = first_free c.args.i c.requires.held c.if-live-i.false

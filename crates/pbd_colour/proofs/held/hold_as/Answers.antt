@@ -4,6 +4,6 @@ use Rattle.pbd_colour.proofs.held.hold_as.Goals as goal
 
 pub returns-clause-live : goal.returns-clause-live
 returns-clause-live c =
-    let h = c.loop-i.invariant in
-    ext_get_or false c.loop-i.live c.args.flags.now (h.size ∙ sym c.requires.flags)
-    (λ k l. h.same k (omega (arith, l, h.size, c.requires.flags, c.loop-i-test.false)))
+    let h = c.loop-at.invariant.0 in
+    ext_get_or false c.loop-at.live c.args.flags.now (h.size ∙ sym c.requires.flags)
+    (λ k l. h.same k (omega (arith, l, h.size, c.requires.flags, c.loop-at-test.false)))

@@ -1,9 +1,9 @@
-use Rattle.std.proofs.Common.{◌<◌, length, arith}
-use Rattle.pbd_colour.proofs.Holding.{first_linked, second_linked, Holds-less, set_false}
+use Rattle.std.proofs.Common.{◌<◌, false, length, arith}
+use Rattle.pbd_colour.proofs.Holding.{first_linked, second_linked, Holds-less, set_same}
 use Rattle.pbd_colour.proofs.held.let_go.Goals as goal
 
 pub returns-then-not-live-i-clause-live : goal.returns-then-not-live-i-clause-live
-returns-then-not-live-i-clause-live c = set_false c.args.live.now c.args.i c.if-not-live-i.true
+returns-then-not-live-i-clause-live c = set_same c.args.live.now c.args.i false c.if-not-live-i.true
 
 pub unlink-requires : goal.unlink-requires
 unlink-requires c = let l = c.requires.pairs c.args.i c.requires.i in

@@ -3,4 +3,4 @@ use Rattle.pbd_colour.proofs.Mending.{IsUsing}
 use Rattle.pbd_colour.proofs.neighbours.used_by.Given as goal
 
 abbrev pub invariant-loop : goal.invariant-loop
-invariant-loop l = IsUsing l.colours l.i (chain_at l.chains.chains l.p) l.at l.counter l.set l.now
+invariant-loop l = IsUsing l.colours l.i (chain_at l.chains.chains l.p) l.at l.counter l.now

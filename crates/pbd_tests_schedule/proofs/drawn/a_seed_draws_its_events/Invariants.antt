@@ -1,4 +1,4 @@
 use Rattle.pbd_tests_schedule.proofs.drawn.a_seed_draws_its_events.Given as goal
 
-abbrev pub ghosts-seeds : goal.ghosts-seeds
-ghosts-seeds g a = record { name = a.blank.name; parts = a.blank.parts }
+abbrev pub ghosts-tried : goal.ghosts-tried
+ghosts-tried g a = record { name = a.blank.name; parts = a.blank.parts }

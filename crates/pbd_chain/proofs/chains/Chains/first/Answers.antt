@@ -7,7 +7,7 @@ get-requires c = let r = rw (← c.self.view_is) at c.requires in omega (arith, 
 
 pub returns-clause-value : goal.returns-clause-value
 returns-clause-value c = rw (← c.self.view_is) (let l : c.args.chain
-    < length c.self.inside.heads = (let r = rw (← c.self.view_is) at c.requires in omega (arith, r, c.self.invariant.count)) in
+    < length c.self.inside.slots.heads = (let r = rw (← c.self.view_is) at c.requires in omega (arith, r, c.self.invariant.count)) in
     c.get.ensures ∙ Shown.shown-first c.self.invariant c.args.chain l)
 
 pub returns-clause-bounded : goal.returns-clause-bounded

@@ -1,35 +1,28 @@
-use Rattle.std.proofs.Common.{◌≡◌, ◌∙◌, ◌+◌, ◌/◌, sym, ap, false, Bool, ℕ, length, arith}
+use Rattle.std.proofs.Common.{◌∙◌, ◌/◌, sym, ap, Bool, ℕ, length, arith}
 use Rattle.std.proofs.lemmas.List.{length-replicate}
 use Rattle.pbd_chain.specs.Linked.{Linked, is_in, chain_at}
 use Rattle.pbd_world.specs.Room.{Roomed}
 use Rattle.pbd_world.specs.Colours.{live_at}
 use Rattle.pbd_colour.proofs.KeptLemmas.{IsColoured-opened, no_items}
-use Rattle.pbd_colour.proofs.Marking.{none_blocked}
 use Rattle.pbd_colour.proofs.colouring.Colouring.open.Goals as goal
 
 pub invariant_of-result : goal.invariant_of-result
 invariant_of-result c =
     let no_pairs = ap (λ (r : Roomed (ℕ × ℕ)). length r.entries) c.in_ok-pairs.ensures in
     let no_live = ap (λ (r : Roomed Bool). length r.entries) c.in_ok-live.ensures in
-    let no_marks = ap (λ (r : Roomed Bool). length r.entries) c.in_ok-marks.ensures.marks in
+    let no_marks = ap (λ (r : Roomed Bool). length r.entries) c.in_ok-marks.ensures in
     let no_colours = ap (λ (r : Roomed ℕ). length r.entries) c.in_ok-colours.ensures in
-    let unmarked : (k : ℕ) → live_at c.in_ok-marks.marks.entries k
-    ≡ false = λ k. ap (λ (r : Roomed Bool). live_at r.entries k) c.in_ok-marks.ensures.marks in
     record {
       few = c.requires.room;
       within = omega (arith, no_pairs);
       pairs_room = ap (λ (r : Roomed (ℕ × ℕ)). r.room) c.in_ok-pairs.ensures;
       live_room = ap (λ (r : Roomed Bool). r.room) c.in_ok-live.ensures;
-      marks_room = ap (λ (r : Roomed Bool). r.room) c.in_ok-marks.ensures.marks;
-      blocks_room = ap (λ (r : Roomed Bool). r.room) c.in_ok-marks.ensures.blocks;
+      marks_room = ap (λ (r : Roomed Bool). r.room) c.in_ok-marks.ensures;
       colours_room = ap (λ (r : Roomed ℕ). r.room) c.in_ok-colours.ensures;
       order_room = ap (λ (r : Roomed ℕ). r.room) c.in_ok-order.ensures.order;
       live_length = no_live ∙ sym no_pairs;
       marks_length = no_marks ∙ sym no_pairs;
-      unmarked = unmarked;
-      blocked = none_blocked c.in_ok-marks.marks.entries c.in_ok-marks.blocks.entries
-          (ap (λ (r : Roomed Bool). length r.entries) c.in_ok-marks.ensures.blocks
-          ∙ sym (ap (λ (r : Roomed Bool). length r.entries / 256 + 1) c.in_ok-marks.ensures.marks)) unmarked;
+      unmarked = λ k. ap (λ (r : Roomed Bool). live_at r.entries k) c.in_ok-marks.ensures;
       colours_length = no_colours ∙ sym no_pairs;
       used_length = ap length c.in_ok-used.ensures.used ∙ length-replicate {A = ℕ} c.args.particles 0;
       toward_length = ap length c.in_ok-used.ensures.toward ∙ length-replicate {A = ℕ} c.args.particles 0;

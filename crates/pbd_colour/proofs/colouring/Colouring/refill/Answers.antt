@@ -1,4 +1,4 @@
-use Rattle.std.proofs.Common.{◌≡◌, ◌∙◌, ◌/◌, ◌&&◌, eqb, sym, ap, subst, true, Bool, ℕ, List, length, arith}
+use Rattle.std.proofs.Common.{◌≡◌, ◌∙◌, ◌/◌, ◌&&◌, eqb, sym, ap, subst, true, false, Bool, ℕ, List, length, arith}
 use Rattle.std.proofs.lemmas.List.{length-replicate}
 use Rattle.pbd_world.specs.Room.{Roomed}
 use Rattle.pbd_world.specs.Lending.{overwritten, overwritten_is}
@@ -6,46 +6,86 @@ use Rattle.pbd_world.specs.Colours.{live_at}
 use Rattle.pbd_colour.specs.Held.{end_at}
 use Rattle.pbd_colour.specs.Pairs.{Coloured}
 use Rattle.pbd_colour.specs.Toward.{AreTold}
-use Rattle.pbd_colour.proofs.KeptLemmas.{InRange-as, IsColoured-as}
-use Rattle.pbd_colour.proofs.Marking.{before_live}
+use Rattle.pbd_colour.proofs.KeptLemmas.{InRange-as, ArePainted-as, IsColoured-read, painted_within}
+use Rattle.pbd_colour.proofs.Marking.{before_live, all_unmarked}
 use Rattle.pbd_colour.proofs.colouring.Colouring.refill.Goals as goal
+
+pub fill-requires-2 : goal.fill-requires-2
+fill-requires-2 c = omega (arith, c.requires.fits, ap (λ (s : Coloured). s.room) c.self.view_is, c.self.invariant.colours_room)
+
+pub refill-requires : goal.refill-requires
+refill-requires c = omega (arith, c.requires.fits, ap (λ (s : Coloured). s.room) c.self.view_is, c.self.invariant.marks_room)
+
+pub paint-requires : goal.paint-requires
+paint-requires c =
+    let pairs : c.as_slice-2.result.now ≡ c.args.pairs.now = c.as_slice-2.ensures
+    ∙ ap (λ (r : Roomed (ℕ × ℕ)). r.entries) c.copy_all.ensures in
+    let used = ap length c.as_mut_slice-3.ensures.value ∙ c.self.invariant.used_length ∙ ap (λ (s : Coloured). s.particles) c.self.view_is in
+    record {
+      pairs = InRange-as (sym used) (sym pairs) c.requires.in_range;
+      live = ap length (c.as_slice-3.ensures ∙ ap (λ (r : Roomed Bool). r.entries) c.fill.ensures)
+          ∙ length-replicate (length c.args.pairs.now) true ∙ sym (ap length pairs);
+      colours = ap length (c.as_mut_slice-4.ensures.value ∙ ap (λ (r : Roomed ℕ). r.entries) c.fill-2.ensures)
+          ∙ length-replicate (length c.args.pairs.now) 0 ∙ sym (ap length pairs);
+    }
+
+pub gather-requires : goal.gather-requires
+gather-requires c =
+    let count : length c.copy_all.new.list.entries ≡ length c.args.pairs.now =
+    ap (λ (r : Roomed (ℕ × ℕ)). length r.entries) c.copy_all.ensures in
+    let flags : length c.fill.new.list.entries ≡ length c.copy_all.new.list.entries = ap (λ (r : Roomed Bool). length r.entries) c.fill.ensures
+    ∙ length-replicate (length c.args.pairs.now) true ∙ sym count in
+    let written = c.paint.auto.colours ∙ ap length c.as_mut_slice-4.ensures.value in
+    let colours = overwritten_is c.fill-2.new.list.entries c.paint.new.colours written in
+    let painted = ArePainted-as c.as_slice-2.ensures c.as_slice-3.ensures (sym colours) (λ i l a. c.paint.ensures i l) in
+    let room = ap (λ (s : Coloured). s.room) c.self.view_is in
+    rw (c.as_slice-4.ensures, c.as_slice-5.ensures) (record {
+      colours = ap length colours ∙ written ∙ ap (λ (r : Roomed ℕ). length r.entries) c.fill-2.ensures
+          ∙ length-replicate (length c.args.pairs.now) 0 ∙ sym (flags ∙ count);
+      within = painted_within c.copy_all.new.list.entries c.fill.new.list.entries _ painted flags;
+      few = omega (arith, flags, count, c.requires.fits, room, c.self.invariant.few);
+      numbers = omega (arith, flags, count, c.requires.fits, room, c.self.invariant.order_room);
+      starts = ap length c.as_mut_slice-5.ensures.value ∙ c.self.invariant.starts_length;
+    })
 
 pub invariant_of-self : goal.invariant_of-self
 invariant_of-self c =
     let pairs : c.copy_all.new.list.entries ≡ c.args.pairs.now = ap (λ (r : Roomed (ℕ × ℕ)). r.entries) c.copy_all.ensures in
     let live = ap (λ (r : Roomed Bool). r.entries) c.fill.ensures in
-    let colours_size : length c.recolour.new.colours ≡ length c.fill-2.new.list.entries = c.recolour.auto.colours
+    let marks = ap (λ (r : Roomed Bool). r.entries) c.refill.ensures in
+    let flags = ap length live ∙ length-replicate (length c.args.pairs.now) true ∙ sym (ap length pairs) in
+    let colours_size : length c.paint.new.colours ≡ length c.fill-2.new.list.entries = c.paint.auto.colours
     ∙ ap length c.as_mut_slice-4.ensures.value in
-    let used_size : length c.recolour.new.used ≡ length c.self.inside.used.entries = c.recolour.auto.used
+    let used_size : length c.paint.new.used ≡ length c.self.inside.used.entries = c.paint.auto.used
     ∙ ap length c.as_mut_slice-3.ensures.value in
     let sets_size : length c.tell_all.new.sets ≡ length c.self.inside.toward.entries = c.tell_all.auto.sets
     ∙ ap length c.as_mut_slice-2.ensures.value in
-    let starts_size : length c.recolour.new.starts ≡ length c.self.inside.starts.entries = c.recolour.auto.starts
+    let starts_size : length c.gather.new.starts ≡ length c.self.inside.starts.entries = c.gather.auto.starts
     ∙ ap length c.as_mut_slice-5.ensures.value in
-    let colours = overwritten_is c.fill-2.new.list.entries c.recolour.new.colours colours_size in
-    let used = overwritten_is c.self.inside.used.entries c.recolour.new.used used_size in
+    let colours = overwritten_is c.fill-2.new.list.entries c.paint.new.colours colours_size in
+    let used = overwritten_is c.self.inside.used.entries c.paint.new.used used_size in
     let sets = overwritten_is c.self.inside.toward.entries c.tell_all.new.sets sets_size in
-    let starts = overwritten_is c.self.inside.starts.entries c.recolour.new.starts starts_size in
+    let starts = overwritten_is c.self.inside.starts.entries c.gather.new.starts starts_size in
     record {
       few = c.self.invariant.few;
       within = omega (arith, ap length pairs, c.requires.fits, ap (λ (s : Coloured). s.room) c.self.view_is);
       pairs_room = ap (λ (r : Roomed (ℕ × ℕ)). r.room) c.copy_all.ensures ∙ c.self.invariant.pairs_room;
       live_room = ap (λ (r : Roomed Bool). r.room) c.fill.ensures ∙ c.self.invariant.live_room;
-      marks_room = c.unmark_all.ensures.marks_room ∙ c.self.invariant.marks_room;
-      blocks_room = c.unmark_all.ensures.blocks_room ∙ c.self.invariant.blocks_room;
+      marks_room = ap (λ (r : Roomed Bool). r.room) c.refill.ensures ∙ c.self.invariant.marks_room;
       colours_room = ap (λ (r : Roomed ℕ). r.room) c.fill-2.ensures ∙ c.self.invariant.colours_room;
-      order_room = c.recolour.ensures.room ∙ c.self.invariant.order_room;
-      live_length = ap length live ∙ length-replicate (length c.args.pairs.now) true ∙ sym (ap length pairs);
-      marks_length = c.unmark_all.ensures.count ∙ sym (ap length pairs);
-      unmarked = c.unmark_all.ensures.unmarked;
-      blocked = c.unmark_all.ensures.blocked;
+      order_room = c.gather.ensures.room ∙ c.self.invariant.order_room;
+      live_length = flags;
+      marks_length = ap length marks ∙ length-replicate (length c.args.pairs.now) false ∙ sym (ap length pairs);
+      unmarked = all_unmarked (length c.args.pairs.now) c.refill.new.self.entries marks;
       colours_length = ap length colours ∙ colours_size ∙ ap (λ (r : Roomed ℕ). length r.entries) c.fill-2.ensures
           ∙ length-replicate (length c.args.pairs.now) 0 ∙ sym (ap length pairs);
       used_length = ap length used ∙ used_size ∙ c.self.invariant.used_length;
       toward_length = ap length sets ∙ sets_size ∙ c.self.invariant.toward_length;
       starts_length = ap length starts ∙ starts_size ∙ c.self.invariant.starts_length;
       in_range = InRange-as (sym (ap (λ (s : Coloured). s.particles) c.self.view_is)) (sym pairs) c.requires.in_range;
-      coloured = IsColoured-as c.as_slice-2.ensures c.as_slice-3.ensures (sym colours) (sym starts) c.recolour.ensures.coloured;
+      coloured = IsColoured-read c.as_slice-4.ensures c.as_slice-5.ensures starts flags
+          (ArePainted-as c.as_slice-2.ensures c.as_slice-3.ensures (sym colours) (λ i l a. c.paint.ensures i l))
+          c.gather.ensures.entries c.gather.ensures.starts;
       told = subst (λ (ps : List (ℕ × ℕ)). AreTold ps (overwritten c.self.inside.toward.entries c.tell_all.new.sets)) (sym pairs)
           (subst (AreTold c.args.pairs.now) (sym sets) c.tell_all.ensures);
       held = record {
@@ -57,26 +97,3 @@ invariant_of-self c =
             ∙ ap (λ (ps : List (ℕ × ℕ)). live_at c.fill.new.list.entries (x / 2) && eqb (end_at ps x) p) (sym pairs);
       };
     }
-
-pub recolour-requires : goal.recolour-requires
-recolour-requires c =
-    let pairs : c.as_slice-2.result.now ≡ c.args.pairs.now = c.as_slice-2.ensures
-    ∙ ap (λ (r : Roomed (ℕ × ℕ)). r.entries) c.copy_all.ensures in
-    let count : length c.args.pairs.now ≡ length c.as_slice-2.result.now = sym (ap length pairs) in
-    let live : length c.as_slice-3.result.now ≡ length c.args.pairs.now =
-    ap length (c.as_slice-3.ensures ∙ ap (λ (r : Roomed Bool). r.entries) c.fill.ensures)
-    ∙ length-replicate (length c.args.pairs.now) true in
-    let room = ap (λ (s : Coloured). s.room) c.self.view_is in
-    record {
-      pairs = InRange-as (sym (ap length c.as_mut_slice-3.ensures.value ∙ c.self.invariant.used_length
-          ∙ ap (λ (s : Coloured). s.particles) c.self.view_is)) (sym pairs) c.requires.in_range;
-      live = live ∙ count;
-      colours = ap length c.as_mut_slice-4.ensures.value ∙ ap (λ (r : Roomed ℕ). length r.entries) c.fill-2.ensures
-          ∙ length-replicate (length c.args.pairs.now) 0 ∙ count;
-      few = omega (arith, live, c.requires.fits, room, c.self.invariant.few);
-      numbers = omega (arith, live, c.requires.fits, room, c.self.invariant.order_room);
-      starts = ap length c.as_mut_slice-5.ensures.value ∙ c.self.invariant.starts_length;
-    }
-
-pub fill-requires-2 : goal.fill-requires-2
-fill-requires-2 c = omega (arith, c.requires.fits, ap (λ (s : Coloured). s.room) c.self.view_is, c.self.invariant.colours_room)

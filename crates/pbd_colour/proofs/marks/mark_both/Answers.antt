@@ -1,6 +1,6 @@
 use Rattle.std.proofs.Common.{arith}
 use Rattle.pbd_colour.proofs.Marking.{AreBlocked-more}
-use Rattle.pbd_colour.proofs.marks.mark_if.Goals as goal
+use Rattle.pbd_colour.proofs.marks.mark_both.Goals as goal
 
 pub bounds-blocks-block : goal.bounds-blocks-block
 bounds-blocks-block c = omega (arith, c.requires.k, c.requires.blocked.count)

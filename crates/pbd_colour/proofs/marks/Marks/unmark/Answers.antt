@@ -1,0 +1,20 @@
+use Rattle.std.proofs.Common.{◌∙◌, Bool, List, set, false, sym, ap, length, refl, arith}
+use Rattle.pbd_world.specs.Lending.{overwritten_is}
+use Rattle.pbd_colour.proofs.KeptLemmas.{AreBlocked-as}
+use Rattle.pbd_colour.proofs.Marking.{AreBlocked-less, marks_in}
+use Rattle.pbd_colour.proofs.marks.Marks.unmark.Goals as goal
+
+pub take_mark-requires : goal.take_mark-requires
+take_mark-requires c = let k = rw (← c.self.view_is) at c.requires in omega (arith, k, ap length c.as_mut_slice.ensures.value)
+
+pub invariant_of-self : goal.invariant_of-self
+invariant_of-self c =
+    let numbers = overwritten_is c.self.inside.numbers.entries c.take_mark.new.marks
+    (c.take_mark.auto.marks ∙ ap length c.as_mut_slice.ensures.value) ∙ c.take_mark.ensures
+    ∙ ap (λ (ms : List Bool). set ms c.args.k false) c.as_mut_slice.ensures.value in
+    (AreBlocked-as (sym numbers) refl (AreBlocked-less c.self.invariant.0 c.args.k), c.self.invariant.1)
+
+pub returns : goal.returns
+returns c = rw (← c.self.view_is) (ap (marks_in c.self.inside.numbers.room) (overwritten_is c.self.inside.numbers.entries c.take_mark.new.marks
+    (c.take_mark.auto.marks ∙ ap length c.as_mut_slice.ensures.value) ∙ c.take_mark.ensures
+    ∙ ap (λ (ms : List Bool). set ms c.args.k false) c.as_mut_slice.ensures.value))
