@@ -15,7 +15,7 @@ use Rattle.pbd_encoding.specs.Encoding.{first_totals_bytes, last_totals_bytes, s
 use Rattle.pbd_encoding.specs.Described.{number_from, vector_from, sum_from, contacts_at, told_by}
 use Rattle.pbd_encoding.specs.Laws.{TotalsFit, NumbersFit, told_on}
 use Rattle.pbd_encoding.proofs.Lengths.{two_long, number_long, vector_long, sum_long, flag_long, header_long}
-use Rattle.pbd_encoding.proofs.Standing.{Stands, first_stands, second_stands, behind_front, stands_as, each_stands}
+use Rattle.pbd_encoding.proofs.Standing.{Stands, first_stands, second_stands, behind_front, stands_as, each_stands, byte_stands}
 use Rattle.pbd_encoding.proofs.Reading.{number_back, vector_back, sum_back, flag_back}
 use Rattle.pbd_encoding.proofs.Sections.{Sections, sections}
 use Rattle.pbd_encoding.proofs.Scenes.{as_many_particles, as_many_links, same_weight, same_link}
@@ -110,17 +110,13 @@ before_back scene bytes v i fit s lt =
 
 pub held_there : (scene bytes : List ℕ) (v : World) (i : ℕ) → Sections bytes scene v → i < length v.particles
     → Stands bytes (128 + 48 * length v.particles + i) (held_bytes (particle_at v.particles i))
-held_there scene bytes v i s lt =
-    let start = 128 + 48 * length v.particles in
-    let h = each_stands {A = Particle} bytes held_bytes 1 start v.particles i no_particle (λ p. flag_long p.held) lt s.held in
-    stands_as bytes (start + i * 1) (start + i) (held_bytes (particle_at v.particles i)) _ (omega arith) refl h
+held_there scene bytes v i s lt = byte_stands {A = Particle} bytes held_bytes (128 + 48 * length v.particles) v.particles i no_particle
+    (λ p. flag_long p.held) lt s.held
 
 pub live_there : (scene bytes : List ℕ) (v : World) (l : ℕ) → Sections bytes scene v → l < length v.links
     → Stands bytes (128 + 49 * length v.particles + l) (live_bytes (link_at v.links l))
-live_there scene bytes v l s lt =
-    let start = 128 + 49 * length v.particles in
-    let h = each_stands {A = Link} bytes live_bytes 1 start v.links l no_link (λ x. flag_long x.live) lt s.live in
-    stands_as bytes (start + l * 1) (start + l) (live_bytes (link_at v.links l)) _ (omega arith) refl h
+live_there scene bytes v l s lt = byte_stands {A = Link} bytes live_bytes (128 + 49 * length v.particles) v.links l no_link
+    (λ x. flag_long x.live) lt s.live
 
 -- ---- all of it
 

@@ -1,6 +1,6 @@
 -- The bytes of a world are bytes.
 use Rattle.std.proofs.Common.{ℕ, ◌-◌, Bool, true, false, ℤ, List, [], ◌∷◌, ◌++◌, length, refl, arith, inl, inr}
-use Rattle.std.specs.Int.{w64, w128, cast_unsigned}
+use Rattle.std.specs.Int.{Width, w64, w128, cast_unsigned}
 use Rattle.std.specs.Prelude.{IsTrue, nat_lt}
 use Rattle.std.specs.List.{flat_map, list_all}
 use Rattle.std.proofs.lemmas.Bool.{cases_lt, and_parts, ltb-true}
@@ -15,6 +15,7 @@ use Rattle.pbd_log.specs.Laws.{IsBytes}
 use Rattle.pbd_log.proofs.Numbers.{IsBytes-cons, IsBytes-number}
 use Rattle.pbd_encoding.specs.Encoding.{wide_bytes, sum_bytes, name, header_bytes, header_of, head_bytes, flag_bytes, at_bytes}
 use Rattle.pbd_encoding.specs.Encoding.{before_bytes, held_bytes, live_bytes, first_totals_bytes, last_totals_bytes, state_bytes}
+use Rattle.pbd_encoding.proofs.Axes.{axis_bytes, axes_bytes}
 
 both_bytes : (a b : List ℕ) → IsBytes a → IsBytes b → IsBytes (a ++ b)
 both_bytes a b ha hb i =
@@ -34,25 +35,21 @@ number_is : (n x : ℕ) → IsBytes (number_bytes n x)
 unfolding number_bytes
 number_is n x = IsBytes-number n x
 
-signed_is : (z : ℤ) → IsBytes (signed_bytes z)
-unfolding signed_bytes
-signed_is z = number_is 8 (cast_unsigned w64 z)
+axis_is : (w : Width) (n : ℕ) (z : ℤ) → IsBytes (axis_bytes w n z)
+axis_is w n z = number_is n (cast_unsigned w z)
+
+axes_are : (w : Width) (n : ℕ) (x y z : ℤ) → IsBytes (axes_bytes w n x y z)
+axes_are w n x y z =
+    both_bytes (axis_bytes w n x ++ axis_bytes w n y) (axis_bytes w n z)
+    (both_bytes (axis_bytes w n x) (axis_bytes w n y) (axis_is w n x) (axis_is w n y)) (axis_is w n z)
 
 vector_is : (v : Vec3) → IsBytes (vector_bytes v)
-unfolding vector_bytes
-vector_is v =
-    let x = signed_bytes v.x in let y = signed_bytes v.y in
-    both_bytes (x ++ y) (signed_bytes v.z) (both_bytes x y (signed_is v.x) (signed_is v.y)) (signed_is v.z)
-
-wide_is : (z : ℤ) → IsBytes (wide_bytes z)
-unfolding wide_bytes
-wide_is z = number_is 16 (cast_unsigned w128 z)
+unfolding vector_bytes signed_bytes
+vector_is v = axes_are w64 8 v.x v.y v.z
 
 sum_is : (s : Sum) → IsBytes (sum_bytes s)
-unfolding sum_bytes
-sum_is s =
-    let x = wide_bytes s.x in let y = wide_bytes s.y in
-    both_bytes (x ++ y) (wide_bytes s.z) (both_bytes x y (wide_is s.x) (wide_is s.y)) (wide_is s.z)
+unfolding sum_bytes wide_bytes
+sum_is s = axes_are w128 16 s.x s.y s.z
 
 flag_is : (flag : Bool) → IsBytes (flag_bytes flag)
 flag_is true = IsBytes-cons 1 [] (omega arith) none_bytes

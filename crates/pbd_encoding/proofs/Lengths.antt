@@ -1,6 +1,6 @@
 -- How many bytes each part of a state has.
 use Rattle.std.proofs.Common.{◌≡◌, refl, ℕ, ◌+◌, ◌*◌, Bool, ℤ, List, [], ◌∷◌, ◌++◌, length, arith}
-use Rattle.std.specs.Int.{w64, w128, cast_unsigned}
+use Rattle.std.specs.Int.{Width, w64, w128, cast_unsigned}
 use Rattle.std.specs.List.{flat_map}
 use Rattle.std.proofs.Math.Nat.{suc-mul}
 use Rattle.std.proofs.lemmas.List.{length-append}
@@ -11,6 +11,7 @@ use Rattle.pbd_world.specs.World.{World}
 use Rattle.pbd_log.specs.Entries.{number_bytes, signed_bytes, vector_bytes}
 use Rattle.pbd_encoding.specs.Encoding.{wide_bytes, sum_bytes, name, header_bytes, header_of, head_bytes, flag_bytes, first_totals_bytes}
 use Rattle.pbd_encoding.specs.Encoding.{last_totals_bytes}
+use Rattle.pbd_encoding.proofs.Axes.{axis_bytes, axes_bytes}
 
 -- two parts, one after the other
 pub two_long : (a b : List ℕ) (m n : ℕ) → length a ≡ m → length b ≡ n → length (a ++ b) ≡ m + n
@@ -20,25 +21,21 @@ pub number_long : (n x : ℕ) → length (number_bytes n x) ≡ n
 unfolding number_bytes
 number_long n x = length-bytes_high_first n x
 
-pub signed_long : (z : ℤ) → length (signed_bytes z) ≡ 8
-unfolding signed_bytes
-signed_long z = number_long 8 (cast_unsigned w64 z)
+axes_long : (w : Width) (n : ℕ) (x y z : ℤ) → length (axes_bytes w n x y z) ≡ 3 * n
+axes_long w n x y z =
+    let first_two = two_long (axis_bytes w n x) (axis_bytes w n y) n n (number_long n (cast_unsigned w x)) (number_long n (cast_unsigned w y)) in
+    omega (
+      arith,
+      two_long (axis_bytes w n x ++ axis_bytes w n y) (axis_bytes w n z) (n + n) n first_two (number_long n (cast_unsigned w z)),
+    )
 
 pub vector_long : (v : Vec3) → length (vector_bytes v) ≡ 24
-unfolding vector_bytes
-vector_long v =
-    two_long (signed_bytes v.x ++ signed_bytes v.y) (signed_bytes v.z) 16 8
-    (two_long (signed_bytes v.x) (signed_bytes v.y) 8 8 (signed_long v.x) (signed_long v.y)) (signed_long v.z)
-
-pub wide_long : (z : ℤ) → length (wide_bytes z) ≡ 16
-unfolding wide_bytes
-wide_long z = number_long 16 (cast_unsigned w128 z)
+unfolding vector_bytes signed_bytes
+vector_long v = axes_long w64 8 v.x v.y v.z
 
 pub sum_long : (s : Sum) → length (sum_bytes s) ≡ 48
-unfolding sum_bytes
-sum_long s =
-    two_long (wide_bytes s.x ++ wide_bytes s.y) (wide_bytes s.z) 32 16
-    (two_long (wide_bytes s.x) (wide_bytes s.y) 16 16 (wide_long s.x) (wide_long s.y)) (wide_long s.z)
+unfolding sum_bytes wide_bytes
+sum_long s = axes_long w128 16 s.x s.y s.z
 
 pub flag_long : (flag : Bool) → length (flag_bytes flag) ≡ 1
 flag_long flag = refl
@@ -86,3 +83,8 @@ each_long f size [] long = let none : 0 ≡ 0 * size = omega arith in none
 each_long f size (x ∷ xs) long =
     let more : length (x ∷ xs) * size ≡ length xs * size + size = suc-mul (length xs) size in
     omega (arith, length-append (f x) (flat_map f xs), long x, each_long f size xs long, more)
+
+-- the items behind n bytes
+pub longer_by_each : {A : Type 0} (a : List ℕ) (f : A → List ℕ) (n size : ℕ) (xs : List A) → length a ≡ n
+    → ((x : A) → length (f x) ≡ size) → length (a ++ flat_map f xs) ≡ n + length xs * size
+longer_by_each a f n size xs e long = two_long a (flat_map f xs) n (length xs * size) e (each_long f size xs long)

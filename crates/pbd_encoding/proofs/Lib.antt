@@ -1,4 +1,5 @@
 mod Rows
+pub mod Axes
 pub mod Lengths
 pub mod Standing
 pub mod Reading

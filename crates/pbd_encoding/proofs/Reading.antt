@@ -1,8 +1,8 @@
 -- A number or a flag that is read where it stands is what was written there.
 use Rattle.std.proofs.Common.{◌≡◌, refl, sym, ap, ◌∙◌, ℕ, zero, suc, ◌+◌, ◌^◌, ◌<◌, ◌≤◌, ◌==◌, Bool, true, false, ℤ, List, [], ◌∷◌, ◌++◌}
-use Rattle.std.proofs.Common.{length, drop, Some, arith, Fits, if◌then◌else◌}
+use Rattle.std.proofs.Common.{◌*◌, length, drop, Some, arith, if◌then◌else◌}
 use Rattle.std.specs.Prelude.{FitsSigned, nat_lt, slice_index}
-use Rattle.std.specs.Int.{w64, w128, cast_signed, cast_unsigned}
+use Rattle.std.specs.Int.{Width, cast_signed, cast_unsigned}
 use Rattle.std.proofs.lemmas.Bool.{le-ltb}
 use Rattle.std.proofs.lemmas.List.{drop-drop, drop_more, get_or-drop, length-drop}
 use Rattle.std.proofs.Math.Facts.{of_z-to_z, to_z-of_z, Fits-of_z}
@@ -17,7 +17,8 @@ use Rattle.pbd_log.proofs.Numbers.{IsBytes-drop}
 use Rattle.pbd_log.proofs.Fields.{number_field}
 use Rattle.pbd_encoding.specs.Described.{number_from, vector_from, sum_from}
 use Rattle.pbd_encoding.specs.Encoding.{wide_bytes, sum_bytes, flag_bytes}
-use Rattle.pbd_encoding.proofs.Lengths.{two_long, number_long, signed_long, wide_long}
+use Rattle.pbd_encoding.proofs.Axes.{Hold, eight, sixteen, axis_bytes, axes_bytes, axis_from}
+use Rattle.pbd_encoding.proofs.Lengths.{two_long, number_long}
 use Rattle.pbd_encoding.proofs.Standing.{Stands, both_stand, first_stands, second_stands}
 
 -- ---- numbers
@@ -45,78 +46,66 @@ pub number_back : (n x : ℕ) (bytes : List ℕ) (at : ℕ) → Stands bytes at 
 unfolding number_bytes number_from
 number_back n x bytes at h lt = ap (big_number n) h ∙ big_number-reads_back n x _ lt
 
-pub signed_stands : (bytes : List ℕ) (at : ℕ) → IsBytes bytes → at + 8 ≤ length bytes
-    → Stands bytes at (signed_bytes (cast_signed w64 (number_from 8 bytes at)))
-unfolding signed_bytes
-signed_stands bytes at fits long =
-    let f : Fits w64 (number_from 8 bytes at) = record { fits = number_small 8 bytes at fits } in
-    rw (of_z-to_z f) (number_stands 8 bytes at fits long)
+-- ---- axes, vectors and sums
 
-pub signed_back : (z : ℤ) (bytes : List ℕ) (at : ℕ) → Stands bytes at (signed_bytes z) → FitsSigned w64 z
-    → cast_signed w64 (number_from 8 bytes at) ≡ z
-unfolding signed_bytes
-signed_back z bytes at h fits =
-    let f : Fits w64 (cast_unsigned w64 z) = Fits-of_z fits in
-    ap (cast_signed w64) (number_back 8 (cast_unsigned w64 z) bytes at h f.fits) ∙ to_z-of_z fits
+axis_stands : {w : Width} {n : ℕ} → Hold w n → (bytes : List ℕ) (at : ℕ) → IsBytes bytes → at + n ≤ length bytes
+    → Stands bytes at (axis_bytes w n (axis_from w n bytes at))
+axis_stands {w} {n} hold bytes at fits long =
+    rw (of_z-to_z (hold.fit (number_from n bytes at) (number_small n bytes at fits))) (number_stands n bytes at fits long)
 
-pub wide_stands : (bytes : List ℕ) (at : ℕ) → IsBytes bytes → at + 16 ≤ length bytes
-    → Stands bytes at (wide_bytes (cast_signed w128 (number_from 16 bytes at)))
-unfolding wide_bytes
-wide_stands bytes at fits long =
-    let f : Fits w128 (number_from 16 bytes at) = record { fits = number_small 16 bytes at fits } in
-    rw (of_z-to_z f) (number_stands 16 bytes at fits long)
+axis_back : {w : Width} {n : ℕ} → Hold w n → (z : ℤ) (bytes : List ℕ) (at : ℕ) → Stands bytes at (axis_bytes w n z) → FitsSigned w z
+    → axis_from w n bytes at ≡ z
+axis_back {w} {n} hold z bytes at h fits =
+    ap (cast_signed w) (number_back n (cast_unsigned w z) bytes at h (hold.small (cast_unsigned w z) (Fits-of_z fits))) ∙ to_z-of_z fits
 
-pub wide_back : (z : ℤ) (bytes : List ℕ) (at : ℕ) → Stands bytes at (wide_bytes z) → FitsSigned w128 z
-    → cast_signed w128 (number_from 16 bytes at) ≡ z
-unfolding wide_bytes
-wide_back z bytes at h fits =
-    let f : Fits w128 (cast_unsigned w128 z) = Fits-of_z fits in
-    ap (cast_signed w128) (number_back 16 (cast_unsigned w128 z) bytes at h f.fits) ∙ to_z-of_z fits
+two_axes_long : (w : Width) (n : ℕ) (x y : ℤ) → length (axis_bytes w n x ++ axis_bytes w n y) ≡ 2 * n
+two_axes_long w n x y = omega (
+  arith,
+  two_long (axis_bytes w n x) (axis_bytes w n y) n n (number_long n (cast_unsigned w x)) (number_long n (cast_unsigned w y)),
+)
 
--- ---- vectors and sums
+axes_stand : {w : Width} {n : ℕ} → Hold w n → (bytes : List ℕ) (at : ℕ) → IsBytes bytes → at + 3 * n ≤ length bytes
+    → Stands bytes at (axes_bytes w n (axis_from w n bytes at) (axis_from w n bytes (at + n)) (axis_from w n bytes (at + 2 * n)))
+axes_stand {w} {n} hold bytes at fits long =
+    let x = axis_from w n bytes at in
+    let y = axis_from w n bytes (at + n) in
+    both_stand bytes at (axis_bytes w n x ++ axis_bytes w n y) _ (2 * n) (two_axes_long w n x y)
+    (both_stand bytes at (axis_bytes w n x) (axis_bytes w n y) n (number_long n (cast_unsigned w x))
+    (axis_stands hold bytes at fits (omega (arith, long)))
+    (axis_stands hold bytes (at + n) fits (omega (arith, long))))
+    (axis_stands hold bytes (at + 2 * n) fits (omega (arith, long)))
+
+axes_back : {w : Width} {n : ℕ} → Hold w n → (x y z : ℤ) (bytes : List ℕ) (at : ℕ) → Stands bytes at (axes_bytes w n x y z)
+    → FitsSigned w x → FitsSigned w y → FitsSigned w z
+    → (axis_from w n bytes at ≡ x) × (axis_from w n bytes (at + n) ≡ y) × (axis_from w n bytes (at + 2 * n) ≡ z)
+axes_back {w} {n} hold x y z bytes at h fx fy fz =
+    let a = axis_bytes w n x in let b = axis_bytes w n y in let c = axis_bytes w n z in
+    let both = first_stands bytes at (a ++ b) c h in (
+      axis_back hold x bytes at (first_stands bytes at a b both) fx,
+      axis_back hold y bytes (at + n) (second_stands bytes at a b n (number_long n (cast_unsigned w x)) both) fy,
+      axis_back hold z bytes (at + 2 * n) (second_stands bytes at (a ++ b) c (2 * n) (two_axes_long w n x y) h) fz,
+    )
 
 pub vector_stands : (bytes : List ℕ) (at : ℕ) → IsBytes bytes → at + 24 ≤ length bytes
     → Stands bytes at (vector_bytes (vector_from bytes at))
-unfolding vector_bytes vector_from
-vector_stands bytes at fits long =
-    let x = signed_bytes (cast_signed w64 (number_from 8 bytes at)) in
-    let y = signed_bytes (cast_signed w64 (number_from 8 bytes (at + 8))) in
-    both_stand bytes at (x ++ y) _ 16 (two_long x y 8 8 (signed_long _) (signed_long _))
-    (both_stand bytes at x y 8 (signed_long _) (signed_stands bytes at fits (omega (arith, long)))
-    (signed_stands bytes (at + 8) fits (omega (arith, long))))
-    (signed_stands bytes (at + 16) fits (omega (arith, long)))
+unfolding vector_bytes signed_bytes vector_from
+vector_stands bytes at fits long = axes_stand eight bytes at fits long
 
 pub vector_back : (v : Vec3) (bytes : List ℕ) (at : ℕ) → Stands bytes at (vector_bytes v) → VectorFits v → vector_from bytes at ≡ v
-unfolding vector_bytes vector_from
+unfolding vector_bytes signed_bytes vector_from
 vector_back v bytes at h fits =
-    let x = signed_bytes v.x in let y = signed_bytes v.y in let z = signed_bytes v.z in
-    let both = first_stands bytes at (x ++ y) z h in
-    let ex = signed_back v.x bytes at (first_stands bytes at x y both) fits.0 in
-    let ey = signed_back v.y bytes (at + 8) (second_stands bytes at x y 8 (signed_long v.x) both) fits.1 in
-    let ez = signed_back v.z bytes (at + 16) (second_stands bytes at (x ++ y) z 16 (two_long x y 8 8 (signed_long v.x) (signed_long v.y)) h)
-    fits.2 in
-    λ i. record { x = ex i; y = ey i; z = ez i }
+    let e = axes_back eight v.x v.y v.z bytes at h fits.0 fits.1 fits.2 in
+    λ i. record { x = e.0 i; y = e.1 i; z = e.2 i }
 
 pub sum_stands : (bytes : List ℕ) (at : ℕ) → IsBytes bytes → at + 48 ≤ length bytes → Stands bytes at (sum_bytes (sum_from bytes at))
-unfolding sum_bytes sum_from
-sum_stands bytes at fits long =
-    let x = wide_bytes (cast_signed w128 (number_from 16 bytes at)) in
-    let y = wide_bytes (cast_signed w128 (number_from 16 bytes (at + 16))) in
-    both_stand bytes at (x ++ y) _ 32 (two_long x y 16 16 (wide_long _) (wide_long _))
-    (both_stand bytes at x y 16 (wide_long _) (wide_stands bytes at fits (omega (arith, long)))
-    (wide_stands bytes (at + 16) fits (omega (arith, long))))
-    (wide_stands bytes (at + 32) fits (omega (arith, long)))
+unfolding sum_bytes wide_bytes sum_from
+sum_stands bytes at fits long = axes_stand sixteen bytes at fits long
 
 pub sum_back : (s : Sum) (bytes : List ℕ) (at : ℕ) → Stands bytes at (sum_bytes s) → SumFits s → sum_from bytes at ≡ s
-unfolding sum_bytes sum_from
+unfolding sum_bytes wide_bytes sum_from
 sum_back s bytes at h fits =
-    let x = wide_bytes s.x in let y = wide_bytes s.y in let z = wide_bytes s.z in
-    let both = first_stands bytes at (x ++ y) z h in
-    let ex = wide_back s.x bytes at (first_stands bytes at x y both) fits.x in
-    let ey = wide_back s.y bytes (at + 16) (second_stands bytes at x y 16 (wide_long s.x) both) fits.y in
-    let ez = wide_back s.z bytes (at + 32) (second_stands bytes at (x ++ y) z 32 (two_long x y 16 16 (wide_long s.x) (wide_long s.y)) h)
-    fits.z in
-    λ i. record { x = ex i; y = ey i; z = ez i }
+    let e = axes_back sixteen s.x s.y s.z bytes at h fits.x fits.y fits.z in
+    λ i. record { x = e.0 i; y = e.1 i; z = e.2 i }
 
 -- ---- flags
 

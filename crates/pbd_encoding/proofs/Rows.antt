@@ -1,5 +1,5 @@
 -- Worked rows: the bytes of a small world and of its scene, written out, and bytes that can and can not stand in it.
-use Rattle.std.specs.Prelude.{◌≡◌, refl, ℕ, zero, suc, pos, neg_ℤ, true, false, List, [], ◌∷◌, ◌++◌}
+use Rattle.std.specs.Prelude.{◌≡◌, refl, ℕ, zero, suc, pos, neg_ℤ, Bool, true, false, List, [], ◌∷◌, ◌++◌, map}
 use Rattle.pbd_num.specs.Vectors.{zero_vector}
 use Rattle.pbd_world.specs.declared.parts.Kind.TheVariants.{Plain}
 use Rattle.pbd_world.specs.Ledger.{Sum, zero_sum, zero_totals}
@@ -76,20 +76,7 @@ unfolding scene_bytes scene_head_bytes link_bytes key_bytes plane_bytes sphere_b
 led_row = refl
 
 -- of two particles and a link the flags stand at 224 to 226: a header's byte has to be the header's, and a flag 0 or 1
-header_row : is_foreign (many 96 7) 2 1 95 7 ≡ false
-header_row = refl
-
-other_header_row : is_foreign (many 96 7) 2 1 95 8 ≡ true
-other_header_row = refl
-
-place_row : is_foreign (many 96 7) 2 1 223 255 ≡ false
-place_row = refl
-
-flag_row : is_foreign (many 96 7) 2 1 224 2 ≡ true
-flag_row = refl
-
-set_row : is_foreign (many 96 7) 2 1 226 1 ≡ false
-set_row = refl
-
-totals_row : is_foreign (many 96 7) 2 1 227 255 ≡ false
-totals_row = refl
+foreign_rows : map {A = ℕ × ℕ} {B = Bool} (λ at_byte. is_foreign (many 96 7) 2 1 at_byte.0 at_byte.1)
+    ((95, 7) ∷ (95, 8) ∷ (223, 255) ∷ (224, 2) ∷ (226, 1) ∷ (227, 255) ∷ [])
+    ≡ false ∷ true ∷ false ∷ true ∷ false ∷ false ∷ []
+foreign_rows = refl

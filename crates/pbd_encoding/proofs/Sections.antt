@@ -1,14 +1,13 @@
 -- Where each part of a state stands.
 use Rattle.std.proofs.Common.{◌≡◌, refl, sym, ap, ◌∙◌, ℕ, ◌+◌, ◌*◌, List, ◌++◌, length, arith}
 use Rattle.std.specs.List.{flat_map}
-use Rattle.std.proofs.lemmas.List.{length-append}
 use Rattle.pbd_world.specs.declared.parts.Particle.{Particle}
 use Rattle.pbd_world.specs.declared.parts.Link.{Link}
 use Rattle.pbd_world.specs.World.{World}
 use Rattle.pbd_encoding.specs.Described.{contacts_at}
 use Rattle.pbd_encoding.specs.Encoding.{head_bytes, at_bytes, before_bytes, held_bytes, live_bytes, first_totals_bytes, last_totals_bytes}
 use Rattle.pbd_encoding.specs.Encoding.{state_bytes, state_size}
-use Rattle.pbd_encoding.proofs.Lengths.{two_long, vector_long, flag_long, head_long, first_totals_long, last_totals_long, each_long}
+use Rattle.pbd_encoding.proofs.Lengths.{two_long, vector_long, flag_long, head_long, first_totals_long, last_totals_long, longer_by_each}
 use Rattle.pbd_encoding.proofs.Standing.{Stands, first_stands, behind_front, both_front, whole_stands, stands_whole}
 
 -- ---- a state up to the end of each part
@@ -32,40 +31,27 @@ pub state_parts : (scene : List ℕ) (w : World) → state_bytes scene w ≡ to_
 unfolding state_bytes
 state_parts scene w = refl
 
-ats_long : (w : World) → length (flat_map at_bytes w.particles) ≡ length w.particles * 24
-ats_long w = each_long {A = Particle} at_bytes 24 w.particles (λ p. vector_long p.at)
-
-befores_long : (w : World) → length (flat_map before_bytes w.particles) ≡ length w.particles * 24
-befores_long w = each_long {A = Particle} before_bytes 24 w.particles (λ p. vector_long p.before)
-
-helds_long : (w : World) → length (flat_map held_bytes w.particles) ≡ length w.particles * 1
-helds_long w = each_long {A = Particle} held_bytes 1 w.particles (λ p. flag_long p.held)
-
-lives_long : (w : World) → length (flat_map live_bytes w.links) ≡ length w.links * 1
-lives_long w = each_long {A = Link} live_bytes 1 w.links (λ l. flag_long l.live)
-
 to_at_long : (scene : List ℕ) (w : World) → length scene ≡ 32 → length (to_at scene w) ≡ 128 + 24 * length w.particles
-to_at_long scene w e = omega (arith, length-append (head_bytes scene w) (flat_map at_bytes w.particles), head_long scene w e, ats_long w)
+to_at_long scene w e = omega (
+  arith,
+  longer_by_each {A = Particle} (head_bytes scene w) at_bytes 128 24 w.particles (head_long scene w e) (λ p. vector_long p.at),
+)
 
 to_before_long : (scene : List ℕ) (w : World) → length scene ≡ 32 → length (to_before scene w) ≡ 128 + 48 * length w.particles
-to_before_long scene w e = omega (
-  arith,
-  length-append (to_at scene w) (flat_map before_bytes w.particles),
-  to_at_long scene w e,
-  befores_long w,
-)
+to_before_long scene w e =
+    let longer = longer_by_each {A = Particle} (to_at scene w) before_bytes _ 24 w.particles (to_at_long scene w e) (λ p. vector_long p.before) in
+    omega (arith, longer)
 
 to_held_long : (scene : List ℕ) (w : World) → length scene ≡ 32 → length (to_held scene w) ≡ 128 + 49 * length w.particles
-to_held_long scene w e = omega (
-  arith,
-  length-append (to_before scene w) (flat_map held_bytes w.particles),
-  to_before_long scene w e,
-  helds_long w,
-)
+to_held_long scene w e =
+    let longer = longer_by_each {A = Particle} (to_before scene w) held_bytes _ 1 w.particles (to_before_long scene w e) (λ p. flag_long p.held) in
+    omega (arith, longer)
 
 to_live_long : (scene : List ℕ) (w : World) → length scene ≡ 32
     → length (to_live scene w) ≡ contacts_at (length w.particles) (length w.links)
-to_live_long scene w e = omega (arith, length-append (to_held scene w) (flat_map live_bytes w.links), to_held_long scene w e, lives_long w)
+to_live_long scene w e =
+    let longer = longer_by_each {A = Link} (to_held scene w) live_bytes _ 1 w.links (to_held_long scene w e) (λ l. flag_long l.live) in
+    omega (arith, longer)
 
 to_first_totals_long : (scene : List ℕ) (w : World) → length scene ≡ 32
     → length (to_first_totals scene w) ≡ contacts_at (length w.particles) (length w.links) + 148

@@ -81,3 +81,11 @@ all_stand bytes f size at (x ∷ xs) d long h =
     let next : at + suc i * size ≡ at + size + i * size = omega (arith, suc-mul i size) in
     stands_as bytes (at + suc i * size) (at + size + i * size) (f (get_or xs i d)) (f (get_or xs i d)) next refl
     (h (suc i) (omega (arith, lt)))))
+
+-- where each item is one byte
+pub byte_stands : {A : Type 0} (bytes : List ℕ) (f : A → List ℕ) (at : ℕ) (xs : List A) (i : ℕ) (d : A)
+    → ((x : A) → length (f x) ≡ 1)
+    → i < length xs → Stands bytes at (flat_map f xs) → Stands bytes (at + i) (f (get_or xs i d))
+byte_stands bytes f at xs i d long lt h =
+    let e : at + i * 1 ≡ at + i = omega arith in
+    stands_as bytes (at + i * 1) (at + i) (f (get_or xs i d)) (f (get_or xs i d)) e refl (each_stands bytes f 1 at xs i d long lt h)

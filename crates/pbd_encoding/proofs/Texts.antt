@@ -1,8 +1,7 @@
 -- Texts that tell what they spell, whatever follows them.
 use Rattle.std.proofs.Common.{◌≡◌, refl, sym, ap, ◌∙◌, ℕ, ◌+◌, ◌^◌, ◌<◌, ℤ, List, [], ◌∷◌, ◌++◌, length, drop, map, append_assoc, arith}
-use Rattle.std.proofs.Common.{Fits}
 use Rattle.std.specs.Prelude.{FitsSigned, slice_index}
-use Rattle.std.specs.Int.{w64, w128, cast_signed, cast_unsigned}
+use Rattle.std.specs.Int.{Width, w64, cast_signed, cast_unsigned}
 use Rattle.std.specs.List.{flat_map, AllByRecursion}
 use Rattle.std.proofs.lemmas.List.{drop_at}
 use Rattle.std.proofs.Math.Facts.{to_z-of_z, Fits-of_z}
@@ -13,6 +12,7 @@ use Rattle.pbd_world.specs.Ledger.{Sum, SumFits}
 use Rattle.pbd_log.specs.Entries.{number_bytes, signed_bytes, vector_bytes, VectorFits}
 use Rattle.pbd_encoding.specs.Encoding.{wide_bytes, sum_bytes}
 use Rattle.pbd_encoding.specs.Scene.{listed}
+use Rattle.pbd_encoding.proofs.Axes.{Hold, eight, sixteen, axis_bytes}
 use Rattle.pbd_encoding.proofs.Lengths.{number_long}
 
 -- where two texts go on as one, P holds, and so what follows is the same
@@ -50,21 +50,17 @@ number_tells n x y hx hy = record {
 pub byte_tells : (x y : ℕ) → Tells (x ∷ []) (y ∷ []) (x ≡ y)
 byte_tells x y = record { reads = λ r s h. (ap (λ (t : List ℕ). slice_index t 0) h, ap (λ (t : List ℕ). drop 1 t) h) }
 
+axis_tells : {w : Width} {n : ℕ} → Hold w n → (y z : ℤ) → FitsSigned w y → FitsSigned w z
+    → Tells (axis_bytes w n y) (axis_bytes w n z) (y ≡ z)
+axis_tells {w} {n} hold y z fy fz =
+    let small_y = hold.small (cast_unsigned w y) (Fits-of_z fy) in
+    let small_z = hold.small (cast_unsigned w z) (Fits-of_z fz) in
+    tells_so (number_tells n (cast_unsigned w y) (cast_unsigned w z) small_y small_z)
+    (λ e. sym (to_z-of_z fy) ∙ ap (cast_signed w) e ∙ to_z-of_z fz)
+
 pub signed_tells : (y z : ℤ) → FitsSigned w64 y → FitsSigned w64 z → Tells (signed_bytes y) (signed_bytes z) (y ≡ z)
 unfolding signed_bytes
-signed_tells y z fy fz =
-    let gy : Fits w64 (cast_unsigned w64 y) = Fits-of_z fy in
-    let gz : Fits w64 (cast_unsigned w64 z) = Fits-of_z fz in
-    tells_so (number_tells 8 (cast_unsigned w64 y) (cast_unsigned w64 z) gy.fits gz.fits)
-    (λ e. sym (to_z-of_z fy) ∙ ap (cast_signed w64) e ∙ to_z-of_z fz)
-
-wide_tells : (y z : ℤ) → FitsSigned w128 y → FitsSigned w128 z → Tells (wide_bytes y) (wide_bytes z) (y ≡ z)
-unfolding wide_bytes
-wide_tells y z fy fz =
-    let gy : Fits w128 (cast_unsigned w128 y) = Fits-of_z fy in
-    let gz : Fits w128 (cast_unsigned w128 z) = Fits-of_z fz in
-    tells_so (number_tells 16 (cast_unsigned w128 y) (cast_unsigned w128 z) gy.fits gz.fits)
-    (λ e. sym (to_z-of_z fy) ∙ ap (cast_signed w128) e ∙ to_z-of_z fz)
+signed_tells y z fy fz = axis_tells eight y z fy fz
 
 -- ---- vectors and sums
 
@@ -77,11 +73,11 @@ vector_tells u v fu fv =
     tells_so (both_tell (both_tell x y) z) (λ e i. record { x = e.0.0 i; y = e.0.1 i; z = e.1 i })
 
 pub sum_tells : (s t : Sum) → SumFits s → SumFits t → Tells (sum_bytes s) (sum_bytes t) (s ≡ t)
-unfolding sum_bytes
+unfolding sum_bytes wide_bytes
 sum_tells s t fs ft =
-    let x = wide_tells s.x t.x fs.x ft.x in
-    let y = wide_tells s.y t.y fs.y ft.y in
-    let z = wide_tells s.z t.z fs.z ft.z in
+    let x = axis_tells sixteen s.x t.x fs.x ft.x in
+    let y = axis_tells sixteen s.y t.y fs.y ft.y in
+    let z = axis_tells sixteen s.z t.z fs.z ft.z in
     tells_so (both_tell (both_tell x y) z) (λ e i. record { x = e.0.0 i; y = e.0.1 i; z = e.1 i })
 
 -- ---- lists

@@ -1,5 +1,5 @@
 -- The momentum of particles within the limit is far from 128 bits.
-use Rattle.std.proofs.Common.{◌≡◌, ap, ℕ, ◌+◌, ◌*◌, ◌≤◌, ◌^◌, Bool, true, false, List, [], ◌∷◌, length, arith, ℤ, ◌+ℤ◌, unsigned_abs, subst}
+use Rattle.std.proofs.Common.{◌≡◌, ap, ℕ, ◌+◌, ◌*◌, ◌≤◌, ◌^◌, Bool, true, false, List, [], ◌∷◌, length, arith, ℤ, ◌+ℤ◌, ◌-ℤ◌, unsigned_abs, subst}
 use Rattle.std.proofs.Common.{sym}
 use Rattle.std.specs.Prelude.{IsTrue}
 use Rattle.std.specs.List.{AllByRecursion}
@@ -7,7 +7,7 @@ use Rattle.std.proofs.lemmas.Int.{ints}
 use Rattle.pbd_num.specs.declared.Vec3.{Vec3}
 use Rattle.pbd_num.specs.Vectors.{Within, is_within}
 use Rattle.pbd_num.proofs.Ranges.{within_facts, wider}
-use Rattle.pbd_num.proofs.Sizes.{size_above, size_below, size_le}
+use Rattle.pbd_num.proofs.Sizes.{size-add, size-sub}
 use Rattle.pbd_world.specs.declared.parts.Particle.{Particle}
 use Rattle.pbd_world.specs.Ledger.{Sum, zero_sum, SumWithin}
 use Rattle.pbd_world.specs.Particles.{velocity}
@@ -48,42 +48,20 @@ momentum_within limit (p ∷ ps) lim placed =
 pub pin_axis : (m o g d l c p s : ℤ) (b : ℕ) → m ≡ o +ℤ (g +ℤ (d +ℤ (l +ℤ (c +ℤ (p +ℤ s))))) → unsigned_abs m ≤ b → unsigned_abs o ≤ b
     → unsigned_abs g ≤ b → unsigned_abs d ≤ b → unsigned_abs l ≤ b → unsigned_abs c ≤ b → unsigned_abs s ≤ b → unsigned_abs p ≤ 8 * b
 pin_axis m o g d l c p s b e hm ho hg hd hl hc hs =
-    size_le p (8 * b)
-    (omega (
+    let others = o +ℤ (g +ℤ (d +ℤ (l +ℤ (c +ℤ s)))) in
+    let rest : p ≡ m -ℤ others = omega (arith, ints, e) in
+    let far : unsigned_abs others ≤ 6 * b = omega (
       arith,
-      ints,
-      e,
-      size_above m,
-      size_below o,
-      size_below g,
-      size_below d,
-      size_below l,
-      size_below c,
-      size_below s,
-      hm,
+      size-add o (g +ℤ (d +ℤ (l +ℤ (c +ℤ s)))),
+      size-add g (d +ℤ (l +ℤ (c +ℤ s))),
+      size-add d (l +ℤ (c +ℤ s)),
+      size-add l (c +ℤ s),
+      size-add c s,
       ho,
       hg,
       hd,
       hl,
       hc,
       hs,
-    ))
-    (omega (
-      arith,
-      ints,
-      e,
-      size_below m,
-      size_above o,
-      size_above g,
-      size_above d,
-      size_above l,
-      size_above c,
-      size_above s,
-      hm,
-      ho,
-      hg,
-      hd,
-      hl,
-      hc,
-      hs,
-    ))
+    ) in
+    rw rest (omega (arith, size-sub m others, hm, far))

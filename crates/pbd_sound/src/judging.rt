@@ -52,10 +52,7 @@ pub fn judge<const L: usize, G: Ledger>(
     ensures value { result ≡ soundness (standing tracks.now store.now numbers.now) }
     ensures cost { steps.new ≤ steps.old + 5 * length store.now.particles + 1 }
 {
-    let limit = store.limit();
-    // By it there are few, so that their momentum is small.
-    let _count = store.len();
-    check_counts(limit, numbers)?;
+    check_counts(store.limit(), numbers)?;
     check_particles(tracks, store, steps)?;
     check_ledger(numbers, store, steps)
 }

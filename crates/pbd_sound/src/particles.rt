@@ -46,17 +46,19 @@ fn is_outside(place: Vec3, limit: i64) -> bool
     !within(place, limit)
 }
 
-/// Whether particle i fails a test.
-fn fails(test: Test, limit: i64, tracks: &[Track], i: u32, p: &Particle) -> bool
-    requires low { pos 0 ≤ℤ limit }
-    requires high { unsigned_abs limit ≤ 2 ^ 29 }
-    ensures { result ≡ fails test limit tracks.now i p.now }
-{
-    match test {
-        Test::Outside => is_outside(p.at, limit),
-        Test::WasOutside => is_outside(p.before, limit),
-        Test::HeldWrongly => is_held_wrongly(is_tracked(tracks, i), p),
-        Test::WeighsOtherwise(weight) => p.weight != weight,
+impl Test {
+    /// Whether particle i fails.
+    fn fails(self, limit: i64, tracks: &[Track], i: u32, p: &Particle) -> bool
+        requires low { pos 0 ≤ℤ limit }
+        requires high { unsigned_abs limit ≤ 2 ^ 29 }
+        ensures { result ≡ fails self limit tracks.now i p.now }
+    {
+        match self {
+            Test::Outside => is_outside(p.at, limit),
+            Test::WasOutside => is_outside(p.before, limit),
+            Test::HeldWrongly => is_held_wrongly(is_tracked(tracks, i), p),
+            Test::WeighsOtherwise(weight) => p.weight != weight,
+        }
     }
 }
 
@@ -69,12 +71,13 @@ fn first_that_fails<const L: usize, G: Ledger>(
 ) -> Option<u32>
     requires lanes { L ≤ 16 }
     ensures value { result ≡ first_where 0 (fails test store.now.limit tracks.now) store.now.particles }
+    ensures few { length store.now.particles ≤ 65536 }
     ensures cost { steps.new ≤ steps.old + length store.now.particles }
 {
     let limit = store.limit();
     for i in 0..store.len() {
         let p = store.at(i, steps);
-        if fails(test, limit, tracks, i, &p) {
+        if test.fails(limit, tracks, i, &p) {
             return Some(i);
         }
     }
@@ -90,6 +93,7 @@ pub(crate) fn check_particles<const L: usize, G: Ledger>(
 ) -> Result<(), Unsound>
     requires lanes { L ≤ 16 }
     ensures value { result ≡ particles_checked store.now.limit tracks.now store.now.particles }
+    ensures few { length store.now.particles ≤ 65536 }
     ensures cost { steps.new ≤ steps.old + 3 * length store.now.particles }
 {
     if let Some(i) = first_that_fails(Test::Outside, tracks, store, steps) {

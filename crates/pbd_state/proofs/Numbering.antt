@@ -1,6 +1,7 @@
 -- The fields of a state, one after the other, are the state.
 use Rattle.std.proofs.Common.{◌≡◌, refl, sym, ap, ◌∙◌, ℕ, zero, suc, ◌+◌, ◌-◌, ◌*◌, ◌<◌, ◌≤◌, List, [], ◌∷◌, ◌++◌, length, take, drop}
 use Rattle.std.proofs.Common.{get_or, append_assoc, append-nil, arith}
+use Rattle.std.specs.Prelude.{nat_lt, if◌then◌else◌}
 use Rattle.std.specs.List.{flat_map}
 use Rattle.std.proofs.lemmas.Bool.{lt-ltb, le-ltb}
 use Rattle.std.proofs.lemmas.List.{take_at, length-append}
@@ -52,11 +53,12 @@ is_live scene w k a b =
       lt-ltb k (3 * n + length w.links + 1) b,
     ) refl
 
-pub is_first_totals : (scene : List ℕ) (w : World) (k : ℕ) → 3 * length w.particles + length w.links + 1 ≤ k
-    → k < 3 * length w.particles + length w.links + 2
-    → field_bytes scene w k ≡ first_totals_bytes w.contacts w.totals
+-- behind the lists
+past_lists : (scene : List ℕ) (w : World) (k : ℕ) → 3 * length w.particles + length w.links + 1 ≤ k
+    → field_bytes scene w k ≡ (if nat_lt k (3 * length w.particles + length w.links + 2) then first_totals_bytes w.contacts w.totals
+    else last_totals_bytes w.totals)
 unfolding field_bytes
-is_first_totals scene w k a b =
+past_lists scene w k a =
     let n = length w.particles in let m = length w.links in
     rw (
       le-ltb k 1 (omega (arith, a)),
@@ -64,22 +66,17 @@ is_first_totals scene w k a b =
       le-ltb k (2 * n + 1) (omega (arith, a)),
       le-ltb k (3 * n + 1) (omega (arith, a)),
       le-ltb k (3 * n + m + 1) a,
-      lt-ltb k (3 * n + m + 2) b,
     ) refl
+
+pub is_first_totals : (scene : List ℕ) (w : World) (k : ℕ) → 3 * length w.particles + length w.links + 1 ≤ k
+    → k < 3 * length w.particles + length w.links + 2
+    → field_bytes scene w k ≡ first_totals_bytes w.contacts w.totals
+is_first_totals scene w k a b = past_lists scene w k a ∙ rw (lt-ltb k (3 * length w.particles + length w.links + 2) b) refl
 
 pub is_last_totals : (scene : List ℕ) (w : World) (k : ℕ) → 3 * length w.particles + length w.links + 2 ≤ k
     → field_bytes scene w k ≡ last_totals_bytes w.totals
-unfolding field_bytes
-is_last_totals scene w k a =
-    let n = length w.particles in let m = length w.links in
-    rw (
-      le-ltb k 1 (omega (arith, a)),
-      le-ltb k (n + 1) (omega (arith, a)),
-      le-ltb k (2 * n + 1) (omega (arith, a)),
-      le-ltb k (3 * n + 1) (omega (arith, a)),
-      le-ltb k (3 * n + m + 1) (omega (arith, a)),
-      le-ltb k (3 * n + m + 2) a,
-    ) refl
+is_last_totals scene w k a = past_lists scene w k (omega (arith, a))
+    ∙ rw (le-ltb k (3 * length w.particles + length w.links + 2) a) refl
 
 -- ---- one field more
 

@@ -6,6 +6,7 @@ use Rattle.std.proofs.lemmas.Bool.Decides.{nat_tests}
 use Rattle.pbd_world.specs.declared.bond.Bond.{Bond}
 use Rattle.pbd_world.specs.declared.parts.Particle.{Particle}
 use Rattle.pbd_world.specs.Outcomes.{◌>>=◌, in_turn}
+use Rattle.pbd_world.specs.declared.command.Left.{Left}
 use Rattle.pbd_world.specs.declared.totals.Totals.{Totals}
 use Rattle.pbd_world.specs.Ledger.{HaveRoom}
 use Rattle.pbd_world.specs.Particles.{Motion}
@@ -28,7 +29,7 @@ use Rattle.pbd_pair.specs.Projecting.{ShareNone, IsBatch}
 use Rattle.pbd_world.proofs.Rooms.{room_at}
 use Rattle.pbd_pair.proofs.OneByOne.{in_turn-append}
 use Rattle.pbd_pair.proofs.Batches.{weigh_same}
-use Rattle.pbd_step.specs.Projecting.{AreBondsOf, CanProjectAll, CanProjectBatch, parallel_from}
+use Rattle.pbd_step.specs.Projecting.{AreBondsOf, AreProjected, CanProjectAll, CanProjectBatch, parallel_from}
 
 -- ---- one list of items after another
 
@@ -70,6 +71,11 @@ module _ (pairs : List (ℕ × ℕ)) (live : List Bool) where
   -- both parts of an order are no longer than 64 times as many pairs
   pub parts_length : length (parallel_from pairs live 0) + length (batch_of pairs live 63) ≤ 64 * length pairs
   parts_length = omega (arith, order_length pairs live, order_parts)
+
+-- what is listed in order has as many numbers as the order of the same pairs and flags
+pub as_many_rows : {numbers : List ℕ} {pairs others : List (ℕ × ℕ)} {live flags : List Bool} → numbers ≡ order pairs live
+    → pairs ≡ others → live ≡ flags → length numbers ≡ length (order others flags)
+as_many_rows e ep el = ap (λ (ns : List ℕ). length ns) e ∙ (λ i. length (order (ep i) (el i)))
 
 pub serial_next : (xs : List ℕ) (k : ℕ) → k < length xs → drop k xs ≡ (get_or xs k 0 ∷ []) ++ drop (k + 1) xs
 serial_next xs k lt = drop-cons xs k 0 lt ∙ ap (λ (m : ℕ). get_or xs k 0 ∷ drop m xs) (sym (add-one k))
@@ -198,6 +204,31 @@ module _ {limit : ℤ} {bond : ℕ → Bond} {whole left : List ℕ} {start now 
 
   pub room_so_far : (n m : ℕ) → n + length whole * 2 ^ 32 ≤ m → HaveRoom n start.totals → HaveRoom m now.totals
   room_so_far n m le h = room_at _ (omega (arith, le, s.shorter)) (s.grows n h)
+
+-- the bonds of a list are projected where none is left, or one of a batch leaves the limit
+module _ {bonds : Bonds} {whole left : List ℕ} {old now : Stored} {t u : Totals} {before count : ℕ}
+    (s : SoFar old.limit (bond_of bonds) whole left (motion_of old t) (motion_of now u) before count)
+    (limit : now.limit ≡ old.limit) (copies : now.copies ≡ old.copies) where
+  pub all_projected : {x : Unit {0}} → left ≡ [] → AreProjected (Ok x) bonds whole (length whole * 2 ^ 32) old now t u
+  all_projected none = record {
+    outcome = (whole_so_far s none).same;
+    limit = limit;
+    copies = copies;
+    fixed = s.fixed;
+    inside = s.inside;
+    room = (whole_so_far s none).grows;
+  }
+
+  pub one_leaves : {e : Left} {new : Stored} {v : Totals} {grown more : ℕ} (batch rest : List ℕ) → left ≡ batch ++ rest
+      → AreProjected (Err e) bonds batch grown now new u v → AreProjected (Err e) bonds whole more old new t v
+  one_leaves {e} batch rest parts stopped = record {
+    outcome = stops_so_far batch rest parts limit s e.element stopped.outcome;
+    limit = stopped.limit ∙ limit;
+    copies = stopped.copies ∙ copies;
+    fixed = stopped.fixed ∙ s.fixed;
+    inside = tt;
+    room = tt;
+  }
 
 -- ---- the rows of the bonds that are left
 

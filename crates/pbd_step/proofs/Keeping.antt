@@ -42,7 +42,7 @@ use Rattle.pbd_step.specs.States.{world_of, fixed_links, AreWeights, HasLinks, H
 use Rattle.pbd_step.proofs.Settling.{fixed_numbers, same_links}
 use Rattle.pbd_world.proofs.OpenedLemmas.{opened-is_sound}
 use Rattle.pbd_step.specs.Opening.{AreCopied, IsFirst, IsUnused}
-use Rattle.pbd_step.specs.Solving.{AreAlike, IsKept, Solved}
+use Rattle.pbd_step.specs.Solving.{AreAlike, IsKept, IsTakenOver, Solved}
 use Rattle.pbd_step.specs.Obeying.{Obeys, Commanded}
 use Rattle.pbd_world.proofs.OrderCounts.{flags_kept}
 
@@ -77,6 +77,14 @@ pub seen_commanded : {P : Type 0} {inside seen : Solved P} {r : Result (Unit {0}
     → Commanded r (means seen.world) seen.world new
 seen_commanded {P} {inside} {seen} {r} {new} means is h = subst (λ (s : Solved P). Commanded r (means s.world) s.world new) is h
 
+-- a command that a part obeys, likewise
+pub seen_obeyed : {S P : Type 0} {world : S → World} {old new : S} {inside seen : Solved P} {r : Result (Unit {0}) Refusal}
+    (means : World → Result World Refusal) (c : Command) → Obeys world r (means (world old)) old new → IsSound (world old)
+    → meaning (world old) c ≡ done_or_refused (world old) (means (world old)) → inside ≡ seen → inside.world ≡ world old
+    → Commanded r (means seen.world) seen.world (world new)
+seen_obeyed {S} {P} {world} {old} {new} {inside} {seen} {r} means c h sound meant is same =
+    seen_commanded means is (subst (λ (w : World). Commanded r (means w) w (world new)) (sym same) (commanded c h sound meant))
+
 -- a refusal leaves it as it was
 pub refused : {P : Type 0} {inside seen : Solved P} {refusal : Refusal} (means : World → Result World Refusal) → inside ≡ seen
     → IsSound inside.world → means inside.world ≡ Err refusal → Commanded (Err refusal) (means seen.world) seen.world seen.world
@@ -109,6 +117,11 @@ unfolding meaning
 gravity_means w g = refl
 
 -- ---- worlds of one scene
+
+-- two worlds that callers see as worlds of one scene are of one
+pub inner_scene : {P : Type 0} {mine seen : World} {inside outside : Solved P} → mine ≡ seen → inside ≡ outside
+    → AreOfOneScene seen outside.world → AreOfOneScene mine inside.world
+inner_scene e f h = coe 0 1 (i. AreOfOneScene (sym e i) (sym f i).world) h
 
 blank_many : (ps : List Particle) → length (map {A = Particle} {B = Particle}
     (λ p. record p { at = zero_vector; before = zero_vector; held = false }) ps) ≡ length ps
@@ -184,6 +197,14 @@ same_alike s t setting w e = record {
   links = ap (λ (u : World). length u.links) e;
 }
 
+pub taken_alike : {l : ℕ} {old new other : State l} → IsTakenOver old new other → AreAlike other new
+taken_alike h = record {
+  particles = ap (λ (ps : List Particle). length ps) (sym h.particles);
+  limit = sym h.limit;
+  weights = ap (λ (ws : List ℕ). length ws) (sym h.weights);
+  links = ap (λ (ls : List Link). length ls) (sym h.links);
+}
+
 -- the weights of a state that was taken over
 pub weights_taken : {l : ℕ} (s t : State l) → s.weights.items ≡ t.weights.items → s.store.particles ≡ t.store.particles → AreWeights t
     → AreWeights s
@@ -216,14 +237,7 @@ kept_moved setting old new kept colours scratch sound weights same alike links s
 
 pub said_room : {n m : ℕ} {scratch : Scratch} (said : Bool) → HaveSpace n m scratch
     → HaveSpace n m (record scratch { are_links_laid = said })
-said_room said h = record {
-  found = h.found;
-  touched = h.touched;
-  pairs = h.pairs;
-  numbers = h.numbers;
-  laid_links = h.laid_links;
-  laid_contacts = h.laid_contacts;
-}
+said_room said h = search
 
 -- where it is said that no links are laid, nothing is said of the columns
 pub none_laid : {A : Type 0} → IsTrue false → A
@@ -245,16 +259,17 @@ kept_commanded {l} {setting} {setting'} {old} {new} {kept} {colours} {colours'} 
       laid = laid;
     })
 
--- the same where it has left the links as they were
+-- the same of a command that a state obeys, where it has left the links as they were
 pub kept_linked : {l : ℕ} {setting : Setting} {old new kept : State l} {colours : Coloured} {scratch : Scratch}
-    {r : Result (Unit {0}) Refusal}
-    {meant : Result World Refusal} → IsKept setting old kept colours scratch
-    → Commanded r meant (world_of setting old) (world_of setting new) → AreWeights new → new.links.items ≡ old.links.items
+    {r : Result (Unit {0}) Refusal} {meant : Result World Refusal} (c : Command) → IsKept setting old kept colours scratch
+    → Obeys (λ (s : State l). world_of setting s) r meant old new
+    → meaning (world_of setting old) c ≡ done_or_refused (world_of setting old) meant
+    → AreWeights new → new.links.items ≡ old.links.items
     → (said : Bool) → (IsTrue said → AreLinksLaid new scratch.laid_links)
     → IsKept setting new kept colours (record scratch { are_links_laid = said })
-kept_linked {l} {setting} {old} {new} {kept} {colours} h done weights same said laid =
-    kept_commanded h done weights (subst (λ (ls : List Link). HasLinks (length old.store.particles) ls colours) (sym same) h.links)
-    said laid
+kept_linked {l} {setting} {old} {new} {kept} {colours} c h obeys means weights same said laid =
+    kept_commanded h (commanded c obeys h.sound means) weights
+    (subst (λ (ls : List Link). HasLinks (length old.store.particles) ls colours) (sym same) h.links) said laid
 
 -- what is known of the links of a state that becomes another one of the same scene
 pub known_again : {l : ℕ} {old new : State l} (other : State l) {scratch then : Scratch} {flags : List Bool} {coloured weighed : Bool}

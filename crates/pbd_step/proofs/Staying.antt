@@ -1,7 +1,12 @@
 -- What the parts of a step leave as it was, one after another.
-use Rattle.std.proofs.Common.{◌≡◌, refl, sym, ap, ◌∙◌, ℕ, ◌<◌, ◌≤◌, ℤ, List, Bool, length, arith, subst, IsTrue}
+use Rattle.std.proofs.Common.{◌≡◌, refl, sym, ap, ◌∙◌, ℕ, ◌<◌, ◌≤◌, ◌^◌, ℤ, List, Bool, length, arith, subst, IsTrue, MatchResult, Result, Ok, Err}
 use Rattle.pbd_colour.specs.Pairs.{Coloured}
-use Rattle.pbd_store.specs.Moving.{fixed_parts}
+use Rattle.pbd_world.specs.declared.bond.Bond.{Bond}
+use Rattle.pbd_world.specs.declared.command.Left.{Left}
+use Rattle.pbd_world.specs.declared.totals.Totals.{Totals}
+use Rattle.pbd_world.specs.Bonds.{projected}
+use Rattle.pbd_store.specs.Stored.{Stored}
+use Rattle.pbd_store.specs.Moving.{motion_of, fixed_parts}
 use Rattle.pbd_store.proofs.Fixed.{same_length}
 use Rattle.pbd_self.specs.Touching.{Found}
 use Rattle.pbd_world.specs.World.{IsSound}
@@ -11,11 +16,15 @@ use Rattle.pbd_step.specs.declared.state.Scratch.{Scratch}
 use Rattle.pbd_step.specs.declared.state.Running.{Running}
 use Rattle.pbd_step.specs.Solving.{AreAlike}
 use Rattle.pbd_tear.specs.Tearing.{numbers_with_tear_length}
-use Rattle.pbd_step.specs.States.{world_of, fixed_links, AreWeights, HasLinks, HaveSpace, AreLinksLaid, KnowsLinks, IsUnderWay}
+use Rattle.pbd_step.specs.Projecting.{AreProjected}
+use Rattle.pbd_step.specs.States.{world_of, now_of, fixed_links, AreWeights, HasLinks, HaveSpace, AreLinksLaid, KnowsLinks, IsUnderWay}
 use Rattle.pbd_pair.specs.declared.laid.BondColumns.{BondColumns}
+use Rattle.pbd_pair.specs.declared.bonds.Bonds.{Bonds}
+use Rattle.pbd_pair.specs.Bonds.{bond_of}
 use Rattle.pbd_pair.specs.Laid.{HaveRows}
 use Rattle.pbd_pair.proofs.LaidParts.{weights_kept}
-use Rattle.pbd_step.specs.Staying.{AreBondsLaid, AreContactsLaid, IsReady, IsGoing, IsMoved, StaysInPass, StaysInStep}
+use Rattle.pbd_step.specs.Staying.{AreBondsLaid, AreContactsLaid, IsReady, IsGoing, IsMoved, StaysInPass, ProjectsInPass, StaysInStep}
+use Rattle.pbd_step.proofs.UnderWay.{ok_both, still_movable}
 
 -- ---- states and scratch
 
@@ -70,18 +79,6 @@ moved_alike {l} old new h = record {
   links = ap (λ (s : State l). length s.links.items) h.same;
 }
 
--- with as many flags
-pub cleared : (scratch : Scratch) (flags : List Bool) → length flags ≡ length scratch.touched → (n m : ℕ) → HaveSpace n m scratch
-    → HaveSpace n m (record scratch { touched = flags })
-cleared scratch flags many n m h = record {
-  found = h.found;
-  touched = many ∙ h.touched;
-  pairs = h.pairs;
-  numbers = h.numbers;
-  laid_links = h.laid_links;
-  laid_contacts = h.laid_contacts;
-}
-
 -- with other rows in the columns, as many, and as many flags
 pub prepared : (scratch : Scratch) (links contacts : BondColumns) (flags : List Bool) (said : Bool)
     → HaveRows (length scratch.laid_links.first.items) links
@@ -112,17 +109,6 @@ refound scratch found same n m h = record {
 -- ---- parts of a pass
 
 module _ {l : ℕ} {P : Type 0} {count : P → ℕ} {lanes : P → ℕ} where
-  pub none_in_pass : (run : Running l P) → StaysInPass count lanes run run
-  none_in_pass run = record {
-    moved = record { same = refl; limit = refl; copies = refl; whole = refl; weights = refl };
-    fixed = refl;
-    colours = refl;
-    scratch = refl;
-    flags = refl;
-    not_fallen = omega arith;
-    width = refl;
-  }
-
   pub both_in_pass : (old mid new : Running l P) → StaysInPass count lanes old mid → StaysInPass count lanes mid new
       → StaysInPass count lanes old new
   both_in_pass old mid new h k = record {
@@ -158,21 +144,28 @@ module _ {l : ℕ} {P : Type 0} {count : P → ℕ} {lanes : P → ℕ} where
     width = width;
   }
 
-  -- ---- parts of a step
-
-  pub none_in_step : (run : Running l P) → StaysInStep count lanes run run
-  none_in_step run = record {
-    alike = record { particles = refl; limit = refl; weights = refl; links = refl };
-    weights = λ h. h;
-    fixed = refl;
-    links = λ h. h;
-    knows = λ h. h;
-    copies = refl;
-    pairs = refl;
-    space = λ n m h. h;
-    not_fallen = omega arith;
-    width = refl;
+  -- what projects some bonds
+  pub projects : {r : Result (Unit {0}) Left} {bonds : Bonds} {bond : ℕ → Bond} {projected_ones numbers : List ℕ} (run : Running l P)
+      (store : Stored) (totals : Totals) (projector : P)
+      → AreProjected r bonds projected_ones (2 ^ 60) run.state.store store run.state.totals totals
+      → bond_of bonds ≡ bond → projected_ones ≡ numbers
+      → count run.projector ≤ count projector → lanes projector ≡ lanes run.projector
+      → ProjectsInPass count lanes r bond numbers run
+      (record run { state = record run.state { store = store; totals = totals }; projector = projector })
+  projects {r} run store totals projector done eb en not_fallen width = record {
+    outcome = coe 0 1 (i. MatchResult r
+        (λ _. projected run.state.store.limit (eb i) (en i) (now_of run.state) ≡ Ok (motion_of store totals))
+        (λ left. projected run.state.store.limit (eb i) (en i) (now_of run.state) ≡ Err left.element)) done.outcome;
+    stays = part_in_pass run (record run.state { store = store; totals = totals }) run.scratch.touched projector refl
+        done.limit done.copies done.fixed refl not_fallen width;
+    scratch = refl;
+    movable = ok_both r (still_movable (2 ^ 60) done.limit done.fixed) done.inside done.room;
   }
+
+  pub none_in_pass : (run : Running l P) → StaysInPass count lanes run run
+  none_in_pass run = part_in_pass run run.state run.scratch.touched run.projector refl refl refl refl refl (omega arith) refl
+
+  -- ---- parts of a step
 
   pub both_in_step : (old mid new : Running l P) → StaysInStep count lanes old mid → StaysInStep count lanes mid new
       → StaysInStep count lanes old new
@@ -239,6 +232,9 @@ module _ {l : ℕ} {P : Type 0} {count : P → ℕ} {lanes : P → ℕ} where
     not_fallen = omega arith;
     width = refl;
   }
+
+  pub none_in_step : (run : Running l P) → StaysInStep count lanes run run
+  none_in_step run = tools_in_step run run.scratch (λ n m h. h) (λ h. h)
 
 -- ---- a step that goes on
 

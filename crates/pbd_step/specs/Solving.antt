@@ -1,5 +1,5 @@
 -- What a solver is seen as and keeps, and how many bonds its steps hand to its projector.
-use Rattle.std.specs.Prelude.{◌≡◌, ℕ, zero, suc, ◌+◌, ◌*◌, length, Result, Ok, Err}
+use Rattle.std.specs.Prelude.{◌≡◌, ℕ, zero, suc, ◌+◌, ◌-◌, ◌*◌, ◌^◌, min, length, Result, Ok, Err}
 use Rattle.pbd_world.specs.declared.command.Refusal.{Refusal}
 use Rattle.pbd_world.specs.World.{World, IsSound, live_count}
 use Rattle.pbd_world.specs.Step.{step}
@@ -34,6 +34,15 @@ pub record AreAlike {l : ℕ} (s t : State l) : Type 0 where
   pub limit : s.store.limit ≡ t.store.limit
   pub weights : length s.weights.items ≡ length t.weights.items
   pub links : length s.links.items ≡ length t.links.items
+
+-- a state has become another one, and its store was taken over once more
+pub record IsTakenOver {l : ℕ} (old new other : State l) : Type 0 where
+  pub world : (setting : Setting) → world_of setting new ≡ world_of setting other
+  pub particles : new.store.particles ≡ other.store.particles
+  pub limit : new.store.limit ≡ other.store.limit
+  pub copies : new.store.copies ≡ min (old.store.copies + 1) (2 ^ 64 - 1)
+  pub links : new.links.items ≡ other.links.items
+  pub weights : new.weights.items ≡ other.weights.items
 
 -- a world that is kept is sound, with the weights of its particles, and its links are coloured
 pub record IsSaved {l : ℕ} (setting : Setting) (state : State l) (colours : Coloured) : Type 0 where

@@ -1,11 +1,10 @@
 // Taking over another state, with the colours of its links.
-ghost use Rattle.std.specs.Prelude.{◌≡◌, ◌+◌, ◌-◌, ◌≤◌, ◌^◌, min, length, IfOk, IsTrue};
+ghost use Rattle.std.specs.Prelude.{◌≡◌, ◌≤◌, length, IfOk, IsTrue};
 ghost use Rattle.pbd_world.specs.Contacts.{link_pairs, live_flags};
 ghost use Rattle.pbd_world.specs.Valid.{is_valid};
 ghost use Rattle.pbd_colour.specs.Pairs.{InRange};
-ghost use Rattle.pbd_step.specs.declared.state.Setting.{Setting};
-ghost use Rattle.pbd_step.specs.States.{world_of, fixed_links, HasLinks, HaveSpace, KnowsLinks};
-ghost use Rattle.pbd_step.specs.Solving.{AreAlike};
+ghost use Rattle.pbd_step.specs.States.{fixed_links, HasLinks, HaveSpace, KnowsLinks};
+ghost use Rattle.pbd_step.specs.Solving.{AreAlike, IsTakenOver};
 
 use crate::state::{Running, Scratch, State};
 use pbd_colour::Colouring;
@@ -18,12 +17,7 @@ use std::alloc::{AllocError, Global};
 pub(crate) fn take_over<const L: usize>(state: &mut State<L>, other: &State<L>)
     requires lanes { L ≤ 16 }
     requires alike { AreAlike state.old other.now }
-    ensures world { (setting : Setting) → world_of setting state.new ≡ world_of setting other.now }
-    ensures particles { state.new.store.particles ≡ other.now.store.particles }
-    ensures limit { state.new.store.limit ≡ other.now.store.limit }
-    ensures copies { state.new.store.copies ≡ min (state.old.store.copies + 1) (2 ^ 64 - 1) }
-    ensures links { state.new.links.items ≡ other.now.links.items }
-    ensures weights { state.new.weights.items ≡ other.now.weights.items }
+    ensures { IsTakenOver state.old state.new other.now }
 {
     state.store.copy_from(&other.store);
     state.weights.copy_from_slice(&other.weights);
@@ -125,12 +119,7 @@ pub(crate) fn restore<const L: usize>(
     requires fixed { fixed_links state.old.links.items ≡ fixed_links other.now.links.items }
     requires live { colours.old.live ≡ live_flags state.old.links.items }
     requires knows { KnowsLinks state.old scratch.old }
-    ensures world { (setting : Setting) → world_of setting state.new ≡ world_of setting other.now }
-    ensures particles { state.new.store.particles ≡ other.now.store.particles }
-    ensures limit { state.new.store.limit ≡ other.now.store.limit }
-    ensures copies { state.new.store.copies ≡ min (state.old.store.copies + 1) (2 ^ 64 - 1) }
-    ensures same_links { state.new.links.items ≡ other.now.links.items }
-    ensures weights { state.new.weights.items ≡ other.now.weights.items }
+    ensures taken { IsTakenOver state.old state.new other.now }
     ensures links { HasLinks (length other.now.store.particles) other.now.links.items colours.new }
     ensures space { HaveSpace (length other.now.store.particles) (length other.now.links.items) scratch.new }
     ensures knows { KnowsLinks state.new scratch.new }
@@ -142,19 +131,6 @@ pub(crate) fn restore<const L: usize>(
     recolour(are_coloured, &state.links, colours, scratch);
 }
 
-/// Whether two lists of flags are the same.
-fn are_same_flags(flags: &[bool], others: &[bool]) -> bool
-    requires { length flags.now ≡ length others.now }
-    ensures { IsTrue result → flags.now ≡ others.now }
-{
-    for i in 0..flags.len() {
-        if flags[i] != others[i] {
-            return false;
-        }
-    }
-    true
-}
-
 /// A colouring takes over the flags and colours of another one of the same pairs, unless it has these flags, and so these colours.
 /// Whether it has them.
 pub(crate) fn take_colours(colours: &mut Colouring, other: &Colouring) -> bool
@@ -162,7 +138,7 @@ pub(crate) fn take_colours(colours: &mut Colouring, other: &Colouring) -> bool
     ensures taken { colours.new ≡ record colours.old { live = other.now.live } }
     ensures same { IsTrue result → colours.old.live ≡ other.now.live }
 {
-    if are_same_flags(colours.live(), other.live()) {
+    if colours.has_flags_of(other) {
         return true;
     }
     colours.copy_from(other);
@@ -182,12 +158,7 @@ pub(crate) fn restore_coloured<const L: usize, P: Projector<L> + Drop>(
     requires mine { HasLinks (length run.old.state.store.particles) run.old.state.links.items run.old.colours }
     requires others { HasLinks (length other.now.store.particles) other.now.links.items colours.now }
     requires knows { KnowsLinks run.old.state run.old.scratch }
-    ensures world { (setting : Setting) → world_of setting run.new.state ≡ world_of setting other.now }
-    ensures particles { run.new.state.store.particles ≡ other.now.store.particles }
-    ensures limit { run.new.state.store.limit ≡ other.now.store.limit }
-    ensures copies { run.new.state.store.copies ≡ min (run.old.state.store.copies + 1) (2 ^ 64 - 1) }
-    ensures same_links { run.new.state.links.items ≡ other.now.links.items }
-    ensures weights { run.new.state.weights.items ≡ other.now.weights.items }
+    ensures taken { IsTakenOver run.old.state run.new.state other.now }
     ensures links { HasLinks (length other.now.store.particles) other.now.links.items run.new.colours }
     ensures scratch { run.new.scratch ≡ record run.old.scratch { are_links_laid = run.new.scratch.are_links_laid } }
     ensures knows { KnowsLinks run.new.state run.new.scratch }

@@ -35,27 +35,6 @@ pub(crate) fn counts<const L: usize, P: Projector<L>>(projector: &P)
     let _count = projector.handed();
 }
 
-// A batch, side by side as far as the projector goes.
-fn project_batch<const L: usize, P: Projector<L>, G: Ledger>(
-    projector: &mut P,
-    store: &mut Store<L>,
-    batch: &Batch<'_>,
-    totals: &mut Totals,
-    steps: &mut Steps<G>,
-) -> Result<(), Left>
-    requires lanes_low { 0 < L }
-    requires lanes_high { L ≤ 16 }
-    requires can { CanProjectBatch batch.now.bonds batch.now.laid batch.now.numbers.now store.old totals.old }
-    ensures done { AreProjected result batch.now.bonds batch.now.numbers.now
-        (length batch.now.numbers.now * 2 ^ 32) store.old store.new totals.old totals.new }
-    ensures handed { P.count projector.new ≡ min (P.count projector.old + length batch.now.numbers.now) (2 ^ 64 - 1) }
-    ensures width { P.width projector.new ≡ P.width projector.old }
-    ensures cost { steps.new ≤ steps.old + 4 * blocks_of (length batch.now.numbers.now) (P.width projector.old) }
-{
-    let bonds = batch.bonds.with_columns(batch.laid);
-    projector.project(store, bonds, batch.numbers, totals, steps)
-}
-
 /// Whether there are no numbers.
 pub(crate) fn are_none(numbers: &[u32]) -> bool
     ensures { IsTrue result → numbers.now ≡ [] }
@@ -63,116 +42,141 @@ pub(crate) fn are_none(numbers: &[u32]) -> bool
     numbers.is_empty()
 }
 
-// The live pairs of the colours below 63, each colour as one batch.
-fn project_colours<const L: usize, P: Projector<L>, G: Ledger>(
-    projector: &mut P,
-    store: &mut Store<L>,
-    list: &BondList<'_>,
-    totals: &mut Totals,
-    steps: &mut Steps<G>,
-) -> Result<(), Left>
-    requires lanes_low { 0 < L }
-    requires lanes_high { L ≤ 16 }
-    requires can { CanProjectAll (2 ^ 119) list.now.bonds list.now.laid list.now.colours.now.pairs list.now.colours.now.live store.old totals.old }
-    requires counted { P.count projector.old ≤ 2 ^ 64 - 1 }
-    ensures done { AreProjected result list.now.bonds (parallel_from list.now.colours.now.pairs list.now.colours.now.live 0)
-        (length (parallel_from list.now.colours.now.pairs list.now.colours.now.live 0) * 2 ^ 32) store.old store.new totals.old totals.new }
-    ensures handed { OnOk result
-        (P.count projector.new
-        ≡ min (P.count projector.old + length (parallel_from list.now.colours.now.pairs list.now.colours.now.live 0)) (2 ^ 64 - 1)) }
-    ensures can { OnOk result (CanProjectAll (2 ^ 119 + 2 ^ 57) list.now.bonds list.now.laid list.now.colours.now.pairs list.now.colours.now.live store.new totals.new) }
-    ensures not_fallen { P.count projector.old ≤ P.count projector.new }
-    ensures width { P.width projector.new ≡ P.width projector.old }
-    ensures cost { steps.new ≤ steps.old + colours_work (P.width projector.old) list.now.colours.now.pairs list.now.colours.now.live 0 63 }
-{
-    let mut rest = list.laid;
-    for c in 0..63 {
-        let numbers = list.colours.batch(c);
-        if are_none(numbers) {
-            continue;
-        }
-        let (laid, after) = rest.split_at(numbers.len());
-        rest = after;
-        let batch = Batch {
-            bonds: list.bonds,
-            laid,
-            numbers,
-        };
-        if let Err(left) = project_batch(projector, store, &batch, totals, steps) {
-            return Err(left);
-        }
+impl Batch<'_> {
+    /// Side by side as far as the projector goes.
+    fn project<const L: usize, P: Projector<L>, G: Ledger>(
+        &self,
+        projector: &mut P,
+        store: &mut Store<L>,
+        totals: &mut Totals,
+        steps: &mut Steps<G>,
+    ) -> Result<(), Left>
+        requires lanes_low { 0 < L }
+        requires lanes_high { L ≤ 16 }
+        requires can { CanProjectBatch self.now.bonds self.now.laid self.now.numbers.now store.old totals.old }
+        ensures done { AreProjected result self.now.bonds self.now.numbers.now
+            (length self.now.numbers.now * 2 ^ 32) store.old store.new totals.old totals.new }
+        ensures handed { P.count projector.new ≡ min (P.count projector.old + length self.now.numbers.now) (2 ^ 64 - 1) }
+        ensures width { P.width projector.new ≡ P.width projector.old }
+        ensures cost { steps.new ≤ steps.old + 4 * blocks_of (length self.now.numbers.now) (P.width projector.old) }
+    {
+        let bonds = self.bonds.with_columns(self.laid);
+        projector.project(store, bonds, self.numbers, totals, steps)
     }
-    Ok(())
 }
 
-// The live pairs of colour 63, one by one.
-fn project_serial<const L: usize, P: Projector<L>, G: Ledger>(
-    projector: &mut P,
-    store: &mut Store<L>,
-    list: &BondList<'_>,
-    totals: &mut Totals,
-    steps: &mut Steps<G>,
-) -> Result<(), Left>
-    requires lanes_low { 0 < L }
-    requires lanes_high { L ≤ 16 }
-    requires can { CanProjectAll (2 ^ 119 + 2 ^ 57) list.now.bonds list.now.laid list.now.colours.now.pairs list.now.colours.now.live store.old totals.old }
-    requires counted { P.count projector.old ≤ 2 ^ 64 - 1 }
-    ensures done { AreProjected result list.now.bonds (batch_of list.now.colours.now.pairs list.now.colours.now.live 63)
-        (length (batch_of list.now.colours.now.pairs list.now.colours.now.live 63) * 2 ^ 32) store.old store.new totals.old totals.new }
-    ensures handed { OnOk result
-        (P.count projector.new
-        ≡ min (P.count projector.old + length (batch_of list.now.colours.now.pairs list.now.colours.now.live 63)) (2 ^ 64 - 1)) }
-    ensures not_fallen { P.count projector.old ≤ P.count projector.new }
-    ensures width { P.width projector.new ≡ P.width projector.old }
-    ensures cost { steps.new ≤ steps.old + 4 * length (batch_of list.now.colours.now.pairs list.now.colours.now.live 63) }
-{
-    let serial = list.colours.serial();
-    let before = list.colours.order().len() - serial.len();
-    let (_, last) = list.laid.split_at(before);
-    let mut rest = last;
-    for n in serial {
-        let (laid, after) = rest.split_at(1);
-        rest = after;
-        let batch = Batch {
-            bonds: list.bonds,
-            laid,
-            numbers: &[*n],
-        };
-        if let Err(left) = project_batch(projector, store, &batch, totals, steps) {
+impl BondList<'_> {
+    /// The live pairs of the colours below 63, each colour as one batch.
+    fn project_colours<const L: usize, P: Projector<L>, G: Ledger>(
+        &self,
+        projector: &mut P,
+        store: &mut Store<L>,
+        totals: &mut Totals,
+        steps: &mut Steps<G>,
+    ) -> Result<(), Left>
+        requires lanes_low { 0 < L }
+        requires lanes_high { L ≤ 16 }
+        requires can { CanProjectAll (2 ^ 119) self.now.bonds self.now.laid self.now.colours.now.pairs self.now.colours.now.live store.old totals.old }
+        requires counted { P.count projector.old ≤ 2 ^ 64 - 1 }
+        ensures done { AreProjected result self.now.bonds (parallel_from self.now.colours.now.pairs self.now.colours.now.live 0)
+            (length (parallel_from self.now.colours.now.pairs self.now.colours.now.live 0) * 2 ^ 32) store.old store.new totals.old totals.new }
+        ensures handed { OnOk result
+            (P.count projector.new
+            ≡ min (P.count projector.old + length (parallel_from self.now.colours.now.pairs self.now.colours.now.live 0)) (2 ^ 64 - 1)) }
+        ensures can { OnOk result (CanProjectAll (2 ^ 119 + 2 ^ 57) self.now.bonds self.now.laid self.now.colours.now.pairs self.now.colours.now.live store.new totals.new) }
+        ensures not_fallen { P.count projector.old ≤ P.count projector.new }
+        ensures width { P.width projector.new ≡ P.width projector.old }
+        ensures cost { steps.new ≤ steps.old + colours_work (P.width projector.old) self.now.colours.now.pairs self.now.colours.now.live 0 63 }
+    {
+        let mut rest = self.laid;
+        for c in 0..63 {
+            let numbers = self.colours.batch(c);
+            if are_none(numbers) {
+                continue;
+            }
+            let (laid, after) = rest.split_at(numbers.len());
+            rest = after;
+            let batch = Batch {
+                bonds: self.bonds,
+                laid,
+                numbers,
+            };
+            if let Err(left) = batch.project(projector, store, totals, steps) {
+                return Err(left);
+            }
+        }
+        Ok(())
+    }
+
+    /// The live pairs of colour 63, one by one.
+    fn project_serial<const L: usize, P: Projector<L>, G: Ledger>(
+        &self,
+        projector: &mut P,
+        store: &mut Store<L>,
+        totals: &mut Totals,
+        steps: &mut Steps<G>,
+    ) -> Result<(), Left>
+        requires lanes_low { 0 < L }
+        requires lanes_high { L ≤ 16 }
+        requires can { CanProjectAll (2 ^ 119 + 2 ^ 57) self.now.bonds self.now.laid self.now.colours.now.pairs self.now.colours.now.live store.old totals.old }
+        requires counted { P.count projector.old ≤ 2 ^ 64 - 1 }
+        ensures done { AreProjected result self.now.bonds (batch_of self.now.colours.now.pairs self.now.colours.now.live 63)
+            (length (batch_of self.now.colours.now.pairs self.now.colours.now.live 63) * 2 ^ 32) store.old store.new totals.old totals.new }
+        ensures handed { OnOk result
+            (P.count projector.new
+            ≡ min (P.count projector.old + length (batch_of self.now.colours.now.pairs self.now.colours.now.live 63)) (2 ^ 64 - 1)) }
+        ensures not_fallen { P.count projector.old ≤ P.count projector.new }
+        ensures width { P.width projector.new ≡ P.width projector.old }
+        ensures cost { steps.new ≤ steps.old + 4 * length (batch_of self.now.colours.now.pairs self.now.colours.now.live 63) }
+    {
+        let serial = self.colours.serial();
+        let before = self.colours.order().len() - serial.len();
+        let (_, last) = self.laid.split_at(before);
+        let mut rest = last;
+        for n in serial {
+            let (laid, after) = rest.split_at(1);
+            rest = after;
+            let batch = Batch {
+                bonds: self.bonds,
+                laid,
+                numbers: &[*n],
+            };
+            if let Err(left) = batch.project(projector, store, totals, steps) {
+                return Err(left);
+            }
+        }
+        Ok(())
+    }
+
+    /// Projects the live pairs of a colouring, each as the bond of its number: colour by colour, each colour as one
+    /// batch, and then the serial pairs one by one. `Left` has the number of the first that would leave the limit;
+    /// places and totals are then any.
+    pub(crate) fn project_all<const L: usize, P: Projector<L>, G: Ledger>(
+        &self,
+        projector: &mut P,
+        store: &mut Store<L>,
+        totals: &mut Totals,
+        steps: &mut Steps<G>,
+    ) -> Result<(), Left>
+        requires lanes_low { 0 < L }
+        requires lanes_high { L ≤ 16 }
+        requires can { CanProjectAll (2 ^ 119) self.now.bonds self.now.laid self.now.colours.now.pairs self.now.colours.now.live store.old totals.old }
+        ensures done { AreProjected result self.now.bonds (order self.now.colours.now.pairs self.now.colours.now.live)
+            (2 ^ 60) store.old store.new totals.old totals.new }
+        ensures handed { OnOk result
+            (P.count projector.new
+            ≡ min (P.count projector.old + length (order self.now.colours.now.pairs self.now.colours.now.live)) (2 ^ 64 - 1)) }
+        ensures not_fallen { P.count projector.old ≤ P.count projector.new }
+        ensures width { P.width projector.new ≡ P.width projector.old }
+        ensures cost { steps.new ≤ steps.old + bonds_work (P.width projector.old) self.now.colours.now.pairs self.now.colours.now.live }
+    {
+        counts(projector);
+        if let Err(left) = self.project_colours(projector, store, totals, steps) {
             return Err(left);
         }
+        if let Err(left) = self.project_serial(projector, store, totals, steps) {
+            return Err(left);
+        }
+        Ok(())
     }
-    Ok(())
-}
-
-/// Projects the live pairs of a colouring, each as the bond of its number: colour by colour, each colour as one
-/// batch, and then the serial pairs one by one. `Left` has the number of the first that would leave the limit;
-/// places and totals are then any.
-pub(crate) fn project_all<const L: usize, P: Projector<L>, G: Ledger>(
-    projector: &mut P,
-    store: &mut Store<L>,
-    list: &BondList<'_>,
-    totals: &mut Totals,
-    steps: &mut Steps<G>,
-) -> Result<(), Left>
-    requires lanes_low { 0 < L }
-    requires lanes_high { L ≤ 16 }
-    requires can { CanProjectAll (2 ^ 119) list.now.bonds list.now.laid list.now.colours.now.pairs list.now.colours.now.live store.old totals.old }
-    ensures done { AreProjected result list.now.bonds (order list.now.colours.now.pairs list.now.colours.now.live)
-        (2 ^ 60) store.old store.new totals.old totals.new }
-    ensures handed { OnOk result
-        (P.count projector.new
-        ≡ min (P.count projector.old + length (order list.now.colours.now.pairs list.now.colours.now.live)) (2 ^ 64 - 1)) }
-    ensures not_fallen { P.count projector.old ≤ P.count projector.new }
-    ensures width { P.width projector.new ≡ P.width projector.old }
-    ensures cost { steps.new ≤ steps.old + bonds_work (P.width projector.old) list.now.colours.now.pairs list.now.colours.now.live }
-{
-    counts(projector);
-    if let Err(left) = project_colours(projector, store, list, totals, steps) {
-        return Err(left);
-    }
-    if let Err(left) = project_serial(projector, store, list, totals, steps) {
-        return Err(left);
-    }
-    Ok(())
 }

@@ -57,141 +57,138 @@ fn lost(p: Particle) -> Vec3
     p.at.minus(p.before).opposite()
 }
 
-/// Holds particle i where it is, and books its velocity to pin.
-pub(crate) fn pin<const L: usize, G: Ledger>(
-    setting: &Setting,
-    state: &mut State<L>,
-    i: u64,
-    steps: &mut Steps<G>,
-) -> Result<(), Refusal>
-    requires lanes { L ≤ 16 }
-    requires sound { IsSound (world_of setting.now state.old) }
-    requires weights { AreWeights state.old }
-    ensures obeys { Obeys (λ s. world_of setting.now s) result (pinned_world (world_of setting.now state.old) i) state.old state.new }
-    ensures same { state.new ≡ record state.old { store = state.new.store; weights = state.new.weights; totals = state.new.totals } }
-    ensures weights { AreWeights state.new }
-    ensures copies { state.new.store.copies ≡ state.old.store.copies }
-    ensures cost { steps.new ≤ steps.old + 2 }
-{
-    let Some(n) = number_of(&state.store, i) else {
-        return Err(Refusal::NoParticle);
-    };
-    let p = state.store.at(n, steps);
-    if p.held {
-        return Err(Refusal::Held);
-    }
-    totals_with_room_take_moves();
-    state.totals.add(Class::Pin, lost(p));
-    state.store.set(n, resting(p.at, p.weight, true), steps);
-    state.weights[n as usize] = 0;
-    Ok(())
-}
-
-/// Frees particle i, at rest.
-pub(crate) fn unpin<const L: usize, G: Ledger>(
-    setting: &Setting,
-    state: &mut State<L>,
-    i: u64,
-    steps: &mut Steps<G>,
-) -> Result<(), Refusal>
-    requires lanes { L ≤ 16 }
-    requires weights { AreWeights state.old }
-    ensures obeys { Obeys (λ s. world_of setting.now s) result (unpinned_world (world_of setting.now state.old) i) state.old state.new }
-    ensures same { state.new ≡ record state.old { store = state.new.store; weights = state.new.weights } }
-    ensures weights { AreWeights state.new }
-    ensures copies { state.new.store.copies ≡ state.old.store.copies }
-    ensures cost { steps.new ≤ steps.old + 2 }
-{
-    let Some(n) = number_of(&state.store, i) else {
-        return Err(Refusal::NoParticle);
-    };
-    let p = state.store.at(n, steps);
-    if !p.held {
-        return Err(Refusal::NotHeld);
-    }
-    if is_led(setting, n) {
-        return Err(Refusal::Tracked);
-    }
-    state.store.set(n, resting(p.at, p.weight, false), steps);
-    state.weights[n as usize] = p.weight;
-    Ok(())
-}
-
-/// Puts the held particle i at a place.
-pub(crate) fn place_held<const L: usize, G: Ledger>(
-    setting: &Setting,
-    state: &mut State<L>,
-    i: u64,
-    to: Vec3,
-    steps: &mut Steps<G>,
-) -> Result<(), Refusal>
-    requires lanes { L ≤ 16 }
-    requires weights { AreWeights state.old }
-    ensures obeys { Obeys (λ s. world_of setting.now s) result (placed_world (world_of setting.now state.old) i to) state.old state.new }
-    ensures same { state.new ≡ record state.old { store = state.new.store } }
-    ensures weights { AreWeights state.new }
-    ensures copies { state.new.store.copies ≡ state.old.store.copies }
-    ensures cost { steps.new ≤ steps.old + 2 }
-{
-    let Some(n) = number_of(&state.store, i) else {
-        return Err(Refusal::NoParticle);
-    };
-    let p = state.store.at(n, steps);
-    if !within(to, state.store.limit()) {
-        return Err(Refusal::OutOfRange);
-    }
-    if !p.held {
-        return Err(Refusal::NotHeld);
-    }
-    if is_led(setting, n) {
-        return Err(Refusal::Tracked);
-    }
-    state.store.set(n, resting(to, p.weight, true), steps);
-    Ok(())
-}
-
 /// A link that is live no longer.
 fn dead(link: Link) -> Link
     ensures { result ≡ record link { live = false } }
 {
     Link {
-        a: link.a,
-        b: link.b,
-        rest: link.rest,
-        k: link.k,
-        tear: link.tear,
-        kind: link.kind,
         live: false,
+        ..link
     }
 }
 
-/// Lets link l go, and mends the colours of the others.
-pub(crate) fn cut<const L: usize>(
-    setting: &Setting,
-    state: &mut State<L>,
-    colours: &mut Colouring,
-    l: u64,
-) -> Result<(), Refusal>
-    requires lanes { L ≤ 16 }
-    requires few { length state.old.links.items ≤ 524288 }
-    requires links { HasLinks (length state.old.store.particles) state.old.links.items colours.old }
-    ensures obeys { Obeys (λ s. world_of setting.now s) result (cut_world (world_of setting.now state.old) l) state.old state.new }
-    ensures same { state.new ≡ record state.old { links = state.new.links } }
-    ensures links_length { length state.new.links.items ≡ length state.old.links.items }
-    ensures links { HasLinks (length state.old.store.particles) state.new.links.items colours.new }
-{
-    let Ok(n) = usize::try_from(l) else {
-        return Err(Refusal::NoLink);
-    };
-    if state.links.len() <= n {
-        return Err(Refusal::NoLink);
+impl<const L: usize> State<L> {
+    /// Holds particle i where it is, and books its velocity to pin.
+    pub(crate) fn pin<G: Ledger>(
+        &mut self,
+        setting: &Setting,
+        i: u64,
+        steps: &mut Steps<G>,
+    ) -> Result<(), Refusal>
+        requires lanes { L ≤ 16 }
+        requires sound { IsSound (world_of setting.now self.old) }
+        requires weights { AreWeights self.old }
+        ensures obeys { Obeys (λ s. world_of setting.now s) result (pinned_world (world_of setting.now self.old) i) self.old self.new }
+        ensures same { self.new ≡ record self.old { store = self.new.store; weights = self.new.weights; totals = self.new.totals } }
+        ensures weights { AreWeights self.new }
+        ensures copies { self.new.store.copies ≡ self.old.store.copies }
+        ensures cost { steps.new ≤ steps.old + 2 }
+    {
+        let Some(n) = number_of(&self.store, i) else {
+            return Err(Refusal::NoParticle);
+        };
+        let p = self.store.at(n, steps);
+        if p.held {
+            return Err(Refusal::Held);
+        }
+        totals_with_room_take_moves();
+        self.totals.add(Class::Pin, lost(p));
+        self.store.set(n, resting(p.at, p.weight, true), steps);
+        self.weights[n as usize] = 0;
+        Ok(())
     }
-    if !state.links[n].live {
-        return Err(Refusal::LinkGone);
+
+    /// Frees particle i, at rest.
+    pub(crate) fn unpin<G: Ledger>(
+        &mut self,
+        setting: &Setting,
+        i: u64,
+        steps: &mut Steps<G>,
+    ) -> Result<(), Refusal>
+        requires lanes { L ≤ 16 }
+        requires weights { AreWeights self.old }
+        ensures obeys { Obeys (λ s. world_of setting.now s) result (unpinned_world (world_of setting.now self.old) i) self.old self.new }
+        ensures same { self.new ≡ record self.old { store = self.new.store; weights = self.new.weights } }
+        ensures weights { AreWeights self.new }
+        ensures copies { self.new.store.copies ≡ self.old.store.copies }
+        ensures cost { steps.new ≤ steps.old + 2 }
+    {
+        let Some(n) = number_of(&self.store, i) else {
+            return Err(Refusal::NoParticle);
+        };
+        let p = self.store.at(n, steps);
+        if !p.held {
+            return Err(Refusal::NotHeld);
+        }
+        if is_led(setting, n) {
+            return Err(Refusal::Tracked);
+        }
+        self.store.set(n, resting(p.at, p.weight, false), steps);
+        self.weights[n as usize] = p.weight;
+        Ok(())
     }
-    state.links[n] = dead(state.links[n]);
-    colours.drop_pairs(&[n as u32]);
-    Ok(())
+
+    /// Puts the held particle i at a place.
+    pub(crate) fn place_held<G: Ledger>(
+        &mut self,
+        setting: &Setting,
+        i: u64,
+        to: Vec3,
+        steps: &mut Steps<G>,
+    ) -> Result<(), Refusal>
+        requires lanes { L ≤ 16 }
+        requires weights { AreWeights self.old }
+        ensures obeys { Obeys (λ s. world_of setting.now s) result (placed_world (world_of setting.now self.old) i to) self.old self.new }
+        ensures same { self.new ≡ record self.old { store = self.new.store } }
+        ensures weights { AreWeights self.new }
+        ensures copies { self.new.store.copies ≡ self.old.store.copies }
+        ensures cost { steps.new ≤ steps.old + 2 }
+    {
+        let Some(n) = number_of(&self.store, i) else {
+            return Err(Refusal::NoParticle);
+        };
+        let p = self.store.at(n, steps);
+        if !within(to, self.store.limit()) {
+            return Err(Refusal::OutOfRange);
+        }
+        if !p.held {
+            return Err(Refusal::NotHeld);
+        }
+        if is_led(setting, n) {
+            return Err(Refusal::Tracked);
+        }
+        self.store.set(n, resting(to, p.weight, true), steps);
+        Ok(())
+    }
+
+    /// Lets link l go, and mends the colours of the others.
+    pub(crate) fn cut(
+        &mut self,
+        setting: &Setting,
+        colours: &mut Colouring,
+        l: u64,
+    ) -> Result<(), Refusal>
+        requires lanes { L ≤ 16 }
+        requires few { length self.old.links.items ≤ 524288 }
+        requires links { HasLinks (length self.old.store.particles) self.old.links.items colours.old }
+        ensures obeys { Obeys (λ s. world_of setting.now s) result (cut_world (world_of setting.now self.old) l) self.old self.new }
+        ensures same { self.new ≡ record self.old { links = self.new.links } }
+        ensures links_length { length self.new.links.items ≡ length self.old.links.items }
+        ensures links { HasLinks (length self.old.store.particles) self.new.links.items colours.new }
+    {
+        let Ok(n) = usize::try_from(l) else {
+            return Err(Refusal::NoLink);
+        };
+        if self.links.len() <= n {
+            return Err(Refusal::NoLink);
+        }
+        if !self.links[n].live {
+            return Err(Refusal::LinkGone);
+        }
+        self.links[n] = dead(self.links[n]);
+        colours.drop_pairs(&[n as u32]);
+        Ok(())
+    }
 }
 
 /// Sets gravity.

@@ -11,7 +11,7 @@ ghost use Rattle.pbd_step.specs.Projecting.{AreMovable};
 ghost use Rattle.pbd_step.specs.States.{world_of, AreWeights, HasLinks, IsUnderWay, AreLinksLaid};
 ghost use Rattle.pbd_step.specs.Staying.{AreBondsLaid, AreContactsLaid, IsGoing, ProjectsInPass, StaysInPass, passing_of};
 
-use crate::bonds::{BondList, counts, project_all};
+use crate::bonds::{BondList, counts};
 use crate::leaving::leaving;
 use crate::state::{Running, Setting};
 use pbd_pair::{Bonds, Projector};
@@ -42,10 +42,9 @@ fn project_links<const L: usize, P: Projector<L> + Drop, G: Ledger>(
         laid: run.scratch.laid_links.first_rows(run.colours.order().len()),
         colours: &run.colours,
     };
-    project_all(
+    list.project_all(
         &mut run.projector,
         &mut run.state.store,
-        &list,
         &mut run.state.totals,
         steps,
     )
@@ -82,10 +81,9 @@ fn project_contacts<const L: usize, P: Projector<L> + Drop, G: Ledger>(
         laid: run.scratch.laid_contacts.first_rows(colours.order().len()),
         colours,
     };
-    project_all(
+    list.project_all(
         projector,
         &mut run.state.store,
-        &list,
         &mut run.state.totals,
         steps,
     )

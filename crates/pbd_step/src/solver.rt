@@ -12,10 +12,9 @@ ghost use Rattle.pbd_step.specs.Solving.{bonds_over, IsSaved};
 ghost use Rattle.pbd_step.specs.Obeying.{Commanded};
 
 use crate::again::restore_coloured;
-use crate::commands::{cut, pin, place_held, set_gravity, unpin};
+use crate::commands::set_gravity;
 use crate::open::{open_kept, open_running};
 use crate::state::{Running, Setting, State};
-use crate::step::run_whole;
 use pbd_colour::Colouring;
 use pbd_ledger::momentum;
 use pbd_num::Vec3;
@@ -101,7 +100,7 @@ impl<const L: usize, P: Projector<L> + Drop> Solver<L, P> {
         if u64::from(LAST_STEP) < count + n {
             return Err(Refusal::StepLimit);
         }
-        run_whole(&self.setting, &mut self.run, &mut self.kept, n, steps)
+        self.run.run_whole(&self.setting, &mut self.kept, n, steps)
     }
 
     /// Holds particle i where it is, and books its velocity to pin. `NoParticle` where there is none, `Held` where it is
@@ -115,7 +114,7 @@ impl<const L: usize, P: Projector<L> + Drop> Solver<L, P> {
         ensures cost { steps.new ≤ steps.old + 2 }
     {
         self.run.scratch.are_links_laid = false;
-        pin(&self.setting, &mut self.run.state, i, steps)
+        self.run.state.pin(&self.setting, i, steps)
     }
 
     /// Frees particle i, at rest. `NoParticle` where there is none, `NotHeld` where it is free, `Tracked` where a track
@@ -129,7 +128,7 @@ impl<const L: usize, P: Projector<L> + Drop> Solver<L, P> {
         ensures cost { steps.new ≤ steps.old + 2 }
     {
         self.run.scratch.are_links_laid = false;
-        unpin(&self.setting, &mut self.run.state, i, steps)
+        self.run.state.unpin(&self.setting, i, steps)
     }
 
     /// Puts the held particle i at a place. `NoParticle` where there is none, `OutOfRange` where the place is outside
@@ -147,7 +146,7 @@ impl<const L: usize, P: Projector<L> + Drop> Solver<L, P> {
         ensures copies { self.new.copies ≡ self.old.copies }
         ensures cost { steps.new ≤ steps.old + 2 }
     {
-        place_held(&self.setting, &mut self.run.state, i, to, steps)
+        self.run.state.place_held(&self.setting, i, to, steps)
     }
 
     /// Lets link l go, and mends the colours of the others. `NoLink` where there is none, `LinkGone` where it is live no
@@ -160,7 +159,7 @@ impl<const L: usize, P: Projector<L> + Drop> Solver<L, P> {
         ensures copies { self.new.copies ≡ self.old.copies }
     {
         self.run.scratch.are_links_laid = false;
-        cut(&self.setting, &mut self.run.state, &mut self.run.colours, l)
+        self.run.state.cut(&self.setting, &mut self.run.colours, l)
     }
 
     /// Sets gravity, in units per step squared. `OutOfRange` where it is outside the limit.

@@ -155,34 +155,36 @@ fn take_steps<const L: usize, P: Projector<L> + Drop, G: Ledger>(
     Ok(())
 }
 
-/// Takes n steps, or none where one of them is refused: the state is then as before the first.
-pub(crate) fn run_whole<const L: usize, P: Projector<L> + Drop, G: Ledger>(
-    setting: &Setting,
-    run: &mut Running<L, P>,
-    kept: &mut State<L>,
-    n: u64,
-    steps: &mut Steps<G>,
-) -> Result<(), Refusal>
-    requires lanes_low { 0 < L }
-    requires lanes_high { L ≤ 16 }
-    requires kept { IsKept setting.now run.old.state kept.old run.old.colours run.old.scratch }
-    requires count { run.old.state.steps + n ≤ 1000000 }
-    ensures obeys { Obeys (λ w. w) result (steps_of n (world_of setting.now run.old.state))
-        (world_of setting.now run.old.state) (world_of setting.now run.new.state) }
-    ensures kept { IsKept setting.now run.new.state kept.new run.new.colours run.new.scratch }
-    ensures copies { MatchResult result
-        (λ _. run.new.state.store.copies + kept.new.store.copies ≤ run.old.state.store.copies + kept.old.store.copies + 1)
-        (λ _. run.new.state.store.copies + kept.new.store.copies ≤ run.old.state.store.copies + kept.old.store.copies + 2) }
-    ensures handed { OnOk result
-        (P.count run.new.projector ≡ min (P.count run.old.projector + bonds_over n (world_of setting.now run.old.state)) (2 ^ 64 - 1)) }
-    ensures not_fallen { P.count run.old.projector ≤ P.count run.new.projector }
-    ensures width { P.width run.new.projector ≡ P.width run.old.projector }
-    ensures cost { steps.new ≤ steps.old + work_over L (P.width run.old.projector) n (world_of setting.now run.old.state) }
-{
-    take_over(kept, &run.state);
-    if let Err(refusal) = take_steps(setting, run, n, steps) {
-        restore(&mut run.state, kept, &mut run.colours, &mut run.scratch);
-        return Err(refusal);
+impl<const L: usize, P: Projector<L> + Drop> Running<L, P> {
+    /// Takes n steps, or none where one of them is refused: the state is then as before the first.
+    pub(crate) fn run_whole<G: Ledger>(
+        &mut self,
+        setting: &Setting,
+        kept: &mut State<L>,
+        n: u64,
+        steps: &mut Steps<G>,
+    ) -> Result<(), Refusal>
+        requires lanes_low { 0 < L }
+        requires lanes_high { L ≤ 16 }
+        requires kept { IsKept setting.now self.old.state kept.old self.old.colours self.old.scratch }
+        requires count { self.old.state.steps + n ≤ 1000000 }
+        ensures obeys { Obeys (λ w. w) result (steps_of n (world_of setting.now self.old.state))
+            (world_of setting.now self.old.state) (world_of setting.now self.new.state) }
+        ensures kept { IsKept setting.now self.new.state kept.new self.new.colours self.new.scratch }
+        ensures copies { MatchResult result
+            (λ _. self.new.state.store.copies + kept.new.store.copies ≤ self.old.state.store.copies + kept.old.store.copies + 1)
+            (λ _. self.new.state.store.copies + kept.new.store.copies ≤ self.old.state.store.copies + kept.old.store.copies + 2) }
+        ensures handed { OnOk result
+            (P.count self.new.projector ≡ min (P.count self.old.projector + bonds_over n (world_of setting.now self.old.state)) (2 ^ 64 - 1)) }
+        ensures not_fallen { P.count self.old.projector ≤ P.count self.new.projector }
+        ensures width { P.width self.new.projector ≡ P.width self.old.projector }
+        ensures cost { steps.new ≤ steps.old + work_over L (P.width self.old.projector) n (world_of setting.now self.old.state) }
+    {
+        take_over(kept, &self.state);
+        if let Err(refusal) = take_steps(setting, self, n, steps) {
+            restore(&mut self.state, kept, &mut self.colours, &mut self.scratch);
+            return Err(refusal);
+        }
+        Ok(())
     }
-    Ok(())
 }

@@ -9,9 +9,9 @@ use Rattle.pbd_sound.proofs.judging.judge.Goals as goal
 pub check_ledger-requires : goal.check_ledger-requires
 check_ledger-requires g c =
     let store = c.args.store.now in
-    let either = subst (λ (l : ℤ). IsTrue (is_limit l)) c.limit-limit.ensures.value c.limit-limit.ensures.either in
+    let either = subst (λ (l : ℤ). IsTrue (is_limit l)) c.limit.ensures.value c.limit.ensures.either in
     let lim : IsLimit store.limit = record { low = limit_low store.limit either; high = limit_high store.limit either } in
-    let few : length store.particles ≤ 65536 = omega (arith, c.len-count.ensures.value, c.len-count.ensures.size) in (
+    let few : length store.particles ≤ 65536 = c.in_ok-check_particles.ensures.few in (
       omega arith,
       (
         c.requires.lanes,

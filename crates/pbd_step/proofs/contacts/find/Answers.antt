@@ -1,11 +1,21 @@
-use Rattle.std.proofs.Common.{rules, sym, ap, ◌∙◌, arith, refl, List, length, subst, FitsSigned, ℕ, ◌≤◌, ◌<◌}
+use Rattle.std.proofs.Common.{◌≡◌, ◌+◌, rules, sym, ap, ◌∙◌, arith, refl, List, length, subst, FitsSigned, ℕ, ◌≤◌, ◌<◌}
 use Rattle.std.specs.Int.{w64}
 use Rattle.std.proofs.lemmas.Int.{to_z-of_z}
-use Rattle.pbd_self.specs.Touching.{Found}
+use Rattle.pbd_world.specs.Contacts.{contacts_of}
+use Rattle.pbd_world.specs.Work.{finding_work}
+use Rattle.pbd_self.specs.Touching.{Found, touching}
 use Rattle.pbd_step.specs.States.{world_of}
 use Rattle.pbd_step.proofs.Finding.{thickness_range, places_inside}
 use Rattle.pbd_step.proofs.Costing.{looked_at}
+use Rattle.pbd_step.proofs.contacts.find.Goals.{After-detect, After-touching_pairs_are_contacts}
 use Rattle.pbd_step.proofs.contacts.find.Goals as goal
+
+-- the pairs that touch are the contacts of the world
+touching_are : (g : _) (c : After-touching_pairs_are_contacts g)
+    → touching c.args.setting.now.thickness c.args.run.now.colours c.args.run.now.state.store.particles
+    ≡ contacts_of c.args.setting.now.thickness c.args.run.now.state.links.items c.args.run.now.state.store.particles
+touching_are g c = c.touching_pairs_are_contacts.ensures c.args.setting.now.thickness c.args.run.now.state.links.items
+    c.args.run.now.state.store.particles c.args.run.now.colours c.requires.going.links.pairs c.requires.going.links.live
 
 pub detect-requires : goal.detect-requires
 detect-requires g c =
@@ -27,24 +37,21 @@ pub returns-in-Ok-clause-found : goal.returns-in-Ok-clause-found
 returns-in-Ok-clause-found g c =
     let f : FitsSigned w64 c.args.setting.now.thickness = search rules in
     let found = simp to_z-of_z at c.in-Ok.ensures.found in
-    let same = c.touching_pairs_are_contacts.ensures c.args.setting.now.thickness c.args.run.now.state.links.items
-    c.args.run.now.state.store.particles c.args.run.now.colours c.requires.going.links.pairs c.requires.going.links.live in
+    let same = touching_are g (goal.at.returns-in-Ok-clause-found g c).After-touching_pairs_are_contacts in
     ap (λ (f : Found). f.pairs) found ∙ same
 
 pub returns-in-Ok-clause-few : goal.returns-in-Ok-clause-few
 returns-in-Ok-clause-few g c =
     let f : FitsSigned w64 c.args.setting.now.thickness = search rules in
     let few = simp to_z-of_z at c.in-Ok.ensures.few in
-    let same = c.touching_pairs_are_contacts.ensures c.args.setting.now.thickness c.args.run.now.state.links.items
-    c.args.run.now.state.store.particles c.args.run.now.colours c.requires.going.links.pairs c.requires.going.links.live in
+    let same = touching_are g (goal.at.returns-in-Ok-clause-few g c).After-touching_pairs_are_contacts in
     subst (λ (pairs : List (ℕ × ℕ)). length pairs ≤ 262144) same few
 
 pub returns-in-Err-clause-full : goal.returns-in-Err-clause-full
 returns-in-Err-clause-full g c =
     let f : FitsSigned w64 c.args.setting.now.thickness = search rules in
     let full = simp to_z-of_z at c.in-Err.ensures.full in
-    let same = c.touching_pairs_are_contacts.ensures c.args.setting.now.thickness c.args.run.now.state.links.items
-    c.args.run.now.state.store.particles c.args.run.now.colours c.requires.going.links.pairs c.requires.going.links.live in
+    let same = touching_are g (goal.at.returns-in-Err-clause-full g c).After-touching_pairs_are_contacts in
     (subst (λ (pairs : List (ℕ × ℕ)). 262144 < length pairs) same full, refl)
 
 pub returns-in-Ok-clause-particles : goal.returns-in-Ok-clause-particles
@@ -53,16 +60,16 @@ returns-in-Ok-clause-particles g c = ap (λ (f : Found). f.particles) c.in-Ok.en
 pub returns-in-Err-clause-particles : goal.returns-in-Err-clause-particles
 returns-in-Err-clause-particles g c = ap (λ (f : Found). f.particles) c.in-Err.ensures.emptied
 
-pub returns-in-Ok-clause-cost : goal.returns-in-Ok-clause-cost
-returns-in-Ok-clause-cost g c =
+detecting_cost : (g : _) (c : After-detect g)
+    → c.detect.new.steps ≤ c.args.steps.now + finding_work (world_of c.args.setting.now c.args.run.now.state)
+detecting_cost g c =
     let f : FitsSigned w64 c.args.setting.now.thickness = search rules in
     let free = simp to_z-of_z at c.detect.ensures.free in
     looked_at (world_of c.args.setting.now c.args.run.now.state) c.args.steps.now c.detect.new.steps c.requires.going.space.found
     c.detect.ensures.cost free
 
+pub returns-in-Ok-clause-cost : goal.returns-in-Ok-clause-cost
+returns-in-Ok-clause-cost g c = detecting_cost g (goal.at.returns-in-Ok-clause-cost g c).After-detect
+
 pub returns-in-Err-clause-cost : goal.returns-in-Err-clause-cost
-returns-in-Err-clause-cost g c =
-    let f : FitsSigned w64 c.args.setting.now.thickness = search rules in
-    let free = simp to_z-of_z at c.detect.ensures.free in
-    looked_at (world_of c.args.setting.now c.args.run.now.state) c.args.steps.now c.detect.new.steps c.requires.going.space.found
-    c.detect.ensures.cost free
+returns-in-Err-clause-cost g c = detecting_cost g (goal.at.returns-in-Err-clause-cost g c).After-detect

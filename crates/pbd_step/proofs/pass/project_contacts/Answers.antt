@@ -12,22 +12,15 @@ use Rattle.pbd_pair.specs.Laid.{front_of, lists_in, AreOfBatch}
 use Rattle.pbd_pair.proofs.LaidParts.{first_laid, laid_by_weights}
 use Rattle.pbd_step.specs.Projecting.{AreBondsOf, CanProjectAll}
 use Rattle.pbd_world.proofs.OrderCounts.{contacts_count}
-use Rattle.pbd_step.proofs.Staying.{part_in_pass}
-use Rattle.pbd_step.proofs.UnderWay.{contact_bonds, ok_both, still_movable}
-use Rattle.pbd_step.proofs.pass.project_contacts.Goals.{After-order}
+use Rattle.pbd_step.proofs.InOrder.{as_many_rows}
+use Rattle.pbd_step.proofs.Staying.{projects}
+use Rattle.pbd_step.proofs.UnderWay.{contact_bonds}
 use Rattle.pbd_step.proofs.pass.project_contacts.Goals as goal
 
--- as many rows as contacts
-count : (g : _) (c : After-order g) → length c.order.result.now ≡ length (contact_order c.args.run.now.scratch.found.pairs)
-count g c =
-    let told = c.colouring-colours.ensures in
-    ap (λ (ns : List ℕ). length ns) c.order.ensures ∙ (λ i. length (order (told.pairs i) (told.live i)))
-
-pub first_rows-requires-clause-even : goal.first_rows-requires-clause-even
-first_rows-requires-clause-even g c = c.requires.laid.even
-
 pub first_rows-requires-clause-fits : goal.first_rows-requires-clause-fits
-first_rows-requires-clause-fits g c = omega (arith, count g (goal.at.first_rows-requires-clause-fits g c).After-order, c.requires.laid.long)
+first_rows-requires-clause-fits g c =
+    let told = c.colouring-colours.ensures in
+    omega (arith, as_many_rows c.order.ensures told.pairs told.live, c.requires.laid.long)
 
 pub project_all-requires : goal.project_all-requires
 project_all-requires g c =
@@ -46,8 +39,9 @@ project_all-requires g c =
     let colours = c.colouring-colours.result.now in
     let ps = state.store.particles in
     let rows = c.first_rows.result in
-    let of = first_laid rows (c.first_rows.ensures ∙ ap (λ (k : ℕ). front_of k (lists_in c.args.run.now.scratch.laid_contacts)) (count g
-    (goal.at.project_all-requires g c).After-order)) (laid_by_weights ps c.requires.weights c.requires.laid) in
+    let count = as_many_rows c.order.ensures c.colouring-colours.ensures.pairs c.colouring-colours.ensures.live in
+    let of = first_laid rows (c.first_rows.ensures ∙ ap (λ (k : ℕ). front_of k (lists_in c.args.run.now.scratch.laid_contacts)) count)
+    (laid_by_weights ps c.requires.weights c.requires.laid) in
     let can : CanProjectAll (2 ^ 119) (Contacts c.pairs.result (to_z w64 (of_z w64 c.args.thickness))) rows colours.pairs colours.live
     state.store
     state.totals = record {
@@ -64,25 +58,10 @@ pub returns-clause-done : goal.returns-clause-done
 returns-clause-done g c =
     let fit : FitsSigned w64 c.args.thickness = c.ranges.thickness in
     let same : to_z w64 (of_z w64 c.args.thickness) ≡ c.args.thickness = to_z-of_z w64 c.args.thickness fit in
-    let limit = c.args.run.now.state.store.limit in
-    let value = c.pairs.ensures.value in
-    let pairs = c.colouring-colours.ensures.pairs in
-    let live = c.colouring-colours.ensures.live in
-    let start = motion_of c.args.run.now.state.store c.args.run.now.state.totals in
-    let now = motion_of c.project_all.new.store c.project_all.new.totals in
-    let run = c.args.run.now in
-    let done = c.project_all.ensures.done in
-    record {
-      outcome = coe 0 1 (i. MatchResult c.project_all.result
-          (λ _. projected limit (contact_bond (same i) (value i)) (order (pairs i) (live i)) start ≡ Ok now)
-          (λ left. projected limit (contact_bond (same i) (value i)) (order (pairs i) (live i)) start ≡ Err left.element))
-          done.outcome;
-      stays = part_in_pass run (record run.state { store = c.project_all.new.store; totals = c.project_all.new.totals }) run.scratch.touched
-          c.project_all.new.projector refl done.limit done.copies done.fixed refl c.project_all.ensures.not_fallen
-          c.project_all.ensures.width;
-      scratch = refl;
-      movable = ok_both c.project_all.result (still_movable (2 ^ 60) done.limit done.fixed) done.inside done.room;
-    }
+    let told = c.colouring-colours.ensures in
+    projects c.args.run.now c.project_all.new.store c.project_all.new.totals c.project_all.new.projector
+    c.project_all.ensures.done (λ i. contact_bond (same i) (c.pairs.ensures.value i)) (λ i. order (told.pairs i) (told.live i))
+    c.project_all.ensures.not_fallen c.project_all.ensures.width
 
 pub returns-clause-handed : goal.returns-clause-handed
 returns-clause-handed g c =

@@ -15,22 +15,15 @@ use Rattle.pbd_pair.specs.Laid.{front_of, lists_in, AreOfBatch}
 use Rattle.pbd_pair.proofs.LaidParts.{first_laid, laid_by_weights}
 use Rattle.pbd_step.specs.Projecting.{AreBondsOf, CanProjectAll}
 use Rattle.pbd_world.proofs.OrderCounts.{links_count}
-use Rattle.pbd_step.proofs.Staying.{part_in_pass}
-use Rattle.pbd_step.proofs.UnderWay.{link_bonds, few_links, ok_both, still_movable}
-use Rattle.pbd_step.proofs.pass.project_links.Goals.{After-order}
+use Rattle.pbd_step.proofs.InOrder.{as_many_rows}
+use Rattle.pbd_step.proofs.Staying.{projects}
+use Rattle.pbd_step.proofs.UnderWay.{link_bonds, few_links}
 use Rattle.pbd_step.proofs.pass.project_links.Goals as goal
 
--- as many rows as live links
-count : (g : _) (c : After-order g) → length c.order.result.now ≡ length (link_order c.args.run.now.state.links.items)
-count g c =
-    let has = c.requires.links in
-    ap (λ (ns : List ℕ). length ns) c.order.ensures ∙ (λ i. length (order (has.pairs i) (has.live i)))
-
-pub first_rows-requires-clause-even : goal.first_rows-requires-clause-even
-first_rows-requires-clause-even g c = c.requires.laid.even
-
 pub first_rows-requires-clause-fits : goal.first_rows-requires-clause-fits
-first_rows-requires-clause-fits g c = omega (arith, count g (goal.at.first_rows-requires-clause-fits g c).After-order, c.requires.laid.long)
+first_rows-requires-clause-fits g c =
+    let has = c.requires.links in
+    omega (arith, as_many_rows c.order.ensures has.pairs has.live, c.requires.laid.long)
 
 pub project_all-requires : goal.project_all-requires
 project_all-requires g c =
@@ -49,8 +42,9 @@ project_all-requires g c =
     let colours = c.args.run.now.colours in
     let ps = state.store.particles in
     let rows = c.first_rows.result in
-    let of = first_laid rows (c.first_rows.ensures ∙ ap (λ (k : ℕ). front_of k (lists_in c.args.run.now.scratch.laid_links)) (count g
-    (goal.at.project_all-requires g c).After-order)) (laid_by_weights ps c.requires.weights c.requires.laid) in
+    let count = as_many_rows c.order.ensures c.requires.links.pairs c.requires.links.live in
+    let of = first_laid rows (c.first_rows.ensures ∙ ap (λ (k : ℕ). front_of k (lists_in c.args.run.now.scratch.laid_links)) count)
+    (laid_by_weights ps c.requires.weights c.requires.laid) in
     let can : CanProjectAll (2 ^ 119) bonds rows colours.pairs colours.live state.store state.totals = record {
       fit = fits;
       rows = coe 0 1 (i. AreOfBatch (link_bond (sym same i)) (order (sym has.pairs i) (sym has.live i)) ps rows) of;
@@ -61,25 +55,10 @@ project_all-requires g c =
 
 pub returns-clause-done : goal.returns-clause-done
 returns-clause-done g c =
-    let state = c.args.run.now.state in
-    let same : c.deref.result.now ≡ state.links.items = c.deref.ensures.value in
     let has = c.requires.links in
-    let limit = state.store.limit in
-    let start = motion_of state.store state.totals in
-    let now = motion_of c.project_all.new.store c.project_all.new.totals in
-    let run = c.args.run.now in
-    let done = c.project_all.ensures.done in
-    record {
-      outcome = coe 0 1 (i. MatchResult c.project_all.result
-          (λ _. projected limit (link_bond (same i)) (order (has.pairs i) (has.live i)) start ≡ Ok now)
-          (λ left. projected limit (link_bond (same i)) (order (has.pairs i) (has.live i)) start ≡ Err left.element))
-          done.outcome;
-      stays = part_in_pass run (record run.state { store = c.project_all.new.store; totals = c.project_all.new.totals }) run.scratch.touched
-          c.project_all.new.projector refl done.limit done.copies done.fixed refl c.project_all.ensures.not_fallen
-          c.project_all.ensures.width;
-      scratch = refl;
-      movable = ok_both c.project_all.result (still_movable (2 ^ 60) done.limit done.fixed) done.inside done.room;
-    }
+    projects c.args.run.now c.project_all.new.store c.project_all.new.totals c.project_all.new.projector
+    c.project_all.ensures.done (ap link_bond c.deref.ensures.value) (λ i. order (has.pairs i) (has.live i))
+    c.project_all.ensures.not_fallen c.project_all.ensures.width
 
 pub returns-clause-handed : goal.returns-clause-handed
 returns-clause-handed g c =

@@ -1,21 +1,27 @@
-use Rattle.std.proofs.Common.{◌≡◌, ◌+◌, ◌^◌, ℤ, pos, length, IsTrue, to_z, of_z, w64, arith, refl, sym, ap, ◌∙◌, subst, Ok, Err}
+use Rattle.std.proofs.Common.{◌≡◌, ◌+◌, ◌≤◌, ◌^◌, ℕ, ℤ, pos, length, IsTrue, to_z, of_z, w64, arith, refl, sym, ap, ◌∙◌, subst, Result, Ok, Err}
 use Rattle.pbd_world.specs.declared.command.Refusal.{Refusal}
 use Rattle.pbd_world.specs.Ledger.{ledger_of, HaveRoom}
-use Rattle.pbd_world.specs.Step.{Passing, contact_part}
+use Rattle.pbd_world.specs.Bonds.{projected, contact_bond}
+use Rattle.pbd_world.specs.Particles.{Motion}
+use Rattle.pbd_world.specs.Shapes.{shapes_of}
+use Rattle.pbd_world.specs.Step.{Passing, contact_order, contact_part, shape_part}
 use Rattle.pbd_world.specs.Valid.{is_limit, is_between, are_valid_planes, are_valid_spheres}
 use Rattle.pbd_world.specs.World.{World, parts_of}
-use Rattle.pbd_world.specs.Work.{contacts_work}
+use Rattle.pbd_world.specs.Work.{contacts_work, shapes_work, pass_work}
 use Rattle.pbd_world.proofs.WorkLemmas.{pass_is}
 use Rattle.pbd_world.proofs.WorldParts.{formed}
+use Rattle.pbd_store.specs.Blocks.{blocks_of}
 use Rattle.pbd_store.specs.Moving.{AreInside}
+use Rattle.pbd_shape.specs.Shaping.{all_pushed, push_cost}
 use Rattle.pbd_world.proofs.Rooms.{room_at}
 use Rattle.pbd_step.specs.declared.state.State.{State}
 use Rattle.pbd_step.specs.declared.state.Scratch.{Scratch}
 use Rattle.pbd_step.specs.States.{world_of, now_of, IsUnderWay}
-use Rattle.pbd_step.specs.Staying.{passing_of, AreContactsLaid}
+use Rattle.pbd_step.specs.Staying.{passing_of, AreContactsLaid, StaysInPass}
 use Rattle.pbd_step.proofs.Passes.{link_leaves, contact_leaves, shape_leaves, pass_done, contact_part_is, shape_part_is, shape_cost_is}
 use Rattle.pbd_step.proofs.Staying.{both_in_pass, part_in_pass, still_laid, weights_moved}
 use Rattle.pbd_step.proofs.UnderWay.{movable, more_movable, moved_under_way, moved_world, particles_few, thickness_of, thickness_kept}
+use Rattle.pbd_step.proofs.pass.project_once.Goals.{After-project_contacts, After-push_out}
 use Rattle.pbd_step.proofs.pass.project_once.Goals as goal
 
 pub project_links-requires : goal.project_links-requires
@@ -86,68 +92,65 @@ returns-in-Err-clause-outcome g c =
     (passing_of c.args.run.now) c.in-Err.left.element c.in-Err.ensures.done.outcome
     ∙ ap (λ (r : Refusal). Err r) (sym c.leaving.ensures)
 
+-- what the contacts come to is what they come to in the world
+contacts_told : (g : _) (c : After-project_contacts g) (r : Result Motion ℕ)
+    → projected c.project_links.new.run.state.store.limit
+    (contact_bond (to_z w64 (of_z w64 c.args.setting.now.thickness)) c.project_links.new.run.scratch.found.pairs)
+    (contact_order c.project_links.new.run.scratch.found.pairs) (now_of c.project_links.new.run.state) ≡ r
+    → contact_part (world_of c.args.setting.now c.args.run.now.state) c.args.run.now.scratch.found.pairs
+    (now_of c.project_links.new.run.state) ≡ r
+contacts_told g c r =
+    let w : World = world_of c.args.setting.now c.args.run.now.state in
+    let one = c.project_links.new.run in
+    let thin = thickness_of w (formed (parts_of w) c.requires.going.under_way.well_formed) in
+    contact_part_is w c.args.run.now.scratch.found.pairs one.scratch.found.pairs one.state.store.limit (to_z w64 (of_z w64 w.thickness))
+    (now_of one.state) r (ap (λ (t : Scratch). t.found.pairs) c.project_links.ensures.done.scratch)
+    c.project_links.ensures.done.stays.moved.limit (thickness_kept w.thickness thin)
+
+-- what the shapes come to likewise
+shapes_told : (g : _) (c : After-push_out g) (r : Result Passing ℕ)
+    → all_pushed c.project_contacts.new.run.state.store.limit (shapes_of c.shapes.result.planes.now c.shapes.result.spheres.now)
+    (passing_of c.project_contacts.new.run) ≡ r
+    → shape_part (world_of c.args.setting.now c.args.run.now.state)
+    (record (passing_of c.args.run.now) { motion = now_of c.project_contacts.new.run.state }) ≡ r
+shapes_told g c r =
+    let two = c.project_contacts.new.run in
+    shape_part_is (world_of c.args.setting.now c.args.run.now.state) (record (passing_of c.args.run.now) { motion = now_of two.state })
+    two.scratch.touched two.state.store.limit c.shapes.result.planes.now c.shapes.result.spheres.now r
+    (ap (λ (t : Scratch). t.touched) (c.project_contacts.ensures.done.scratch ∙ c.project_links.ensures.done.scratch))
+    (c.project_contacts.ensures.done.stays.moved.limit ∙ c.project_links.ensures.done.stays.moved.limit)
+    c.shapes.ensures.planes c.shapes.ensures.spheres
+
 pub returns-in-Err-project_contacts-clause-outcome : goal.returns-in-Err-project_contacts-clause-outcome
 returns-in-Err-project_contacts-clause-outcome g c =
-    let w : World = world_of c.args.setting.now c.args.run.now.state in
-    let f = formed (parts_of w) c.requires.going.under_way.well_formed in
-    let pairs = c.args.run.now.scratch.found.pairs in
-    let one = c.project_links.new.run in
-    let m = now_of one.state in
     let n = c.in-Err-project_contacts.left.element in
-    let found : one.scratch.found.pairs ≡ pairs = ap (λ (t : Scratch). t.found.pairs) c.project_links.ensures.done.scratch in
-    contact_leaves w pairs (passing_of c.args.run.now) m c.in_default.ensures.done.outcome n
-    (contact_part_is w pairs one.scratch.found.pairs one.state.store.limit (to_z w64 (of_z w64 w.thickness)) m
-    (Err n) found c.project_links.ensures.done.stays.moved.limit
-    (thickness_kept w.thickness (thickness_of w f)) c.in-Err-project_contacts.ensures.done.outcome)
+    let after = (goal.at.returns-in-Err-project_contacts-clause-outcome g c).After-project_contacts in
+    contact_leaves (world_of c.args.setting.now c.args.run.now.state) c.args.run.now.scratch.found.pairs (passing_of c.args.run.now)
+    (now_of c.project_links.new.run.state) c.in_default.ensures.done.outcome n
+    (contacts_told g after (Err n) c.in-Err-project_contacts.ensures.done.outcome)
     ∙ ap (λ (r : Refusal). Err r) (sym c.leaving-in-Err-project_contacts.ensures)
 
 pub returns-in-Err-push_out-clause-outcome : goal.returns-in-Err-push_out-clause-outcome
 returns-in-Err-push_out-clause-outcome g c =
-    let w : World = world_of c.args.setting.now c.args.run.now.state in
-    let f = formed (parts_of w) c.requires.going.under_way.well_formed in
-    let pairs = c.args.run.now.scratch.found.pairs in
-    let s : Passing = passing_of c.args.run.now in
-    let one = c.project_links.new.run in
-    let two = c.project_contacts.new.run in
-    let m = now_of one.state in
-    let k = now_of two.state in
     let n = c.in-Err-push_out.left.element in
-    let found : one.scratch.found.pairs ≡ pairs = ap (λ (t : Scratch). t.found.pairs) c.project_links.ensures.done.scratch in
-    let touched : contact_part w pairs m ≡ Ok k = contact_part_is w pairs one.scratch.found.pairs one.state.store.limit
-    (to_z w64 (of_z w64 w.thickness)) m (Ok k) found c.project_links.ensures.done.stays.moved.limit
-    (thickness_kept w.thickness (thickness_of w f)) c.in_default-project_contacts.ensures.done.outcome in
-    let limit : two.state.store.limit ≡ w.limit = c.project_contacts.ensures.done.stays.moved.limit
-    ∙ c.project_links.ensures.done.stays.moved.limit in
-    let flags : two.scratch.touched ≡ s.touched = ap (λ (t : Scratch). t.touched)
-    (c.project_contacts.ensures.done.scratch ∙ c.project_links.ensures.done.scratch) in
-    shape_leaves w pairs s m c.in_default.ensures.done.outcome k touched n
-    (shape_part_is w (record s { motion = k }) two.scratch.touched two.state.store.limit c.shapes.result.planes.now c.shapes.result.spheres.now
-    (Err n) flags limit c.shapes.ensures.planes c.shapes.ensures.spheres c.in-Err-push_out.ensures.outcome)
+    let k = now_of c.project_contacts.new.run.state in
+    let at = goal.at.returns-in-Err-push_out-clause-outcome g c in
+    let touched = contacts_told g at.After-project_contacts (Ok k) c.in_default-project_contacts.ensures.done.outcome in
+    shape_leaves (world_of c.args.setting.now c.args.run.now.state) c.args.run.now.scratch.found.pairs (passing_of c.args.run.now)
+    (now_of c.project_links.new.run.state) c.in_default.ensures.done.outcome k touched n
+    (shapes_told g at.After-push_out (Err n) c.in-Err-push_out.ensures.outcome)
     ∙ ap (λ (r : Refusal). Err r) (sym c.leaving-in-Err-push_out.ensures)
 
 pub returns-clause-outcome : goal.returns-clause-outcome
 returns-clause-outcome g c =
-    let w : World = world_of c.args.setting.now c.args.run.now.state in
-    let f = formed (parts_of w) c.requires.going.under_way.well_formed in
-    let pairs = c.args.run.now.scratch.found.pairs in
-    let s : Passing = passing_of c.args.run.now in
-    let one = c.project_links.new.run in
     let two = c.project_contacts.new.run in
-    let m = now_of one.state in
-    let k = now_of two.state in
     let new : State g.row.L = record two.state { store = c.push_out.new.store; totals = c.push_out.new.totals } in
     let t : Passing = record { motion = now_of new; touched = c.push_out.new.touched } in
-    let found : one.scratch.found.pairs ≡ pairs = ap (λ (t : Scratch). t.found.pairs) c.project_links.ensures.done.scratch in
-    let touched : contact_part w pairs m ≡ Ok k = contact_part_is w pairs one.scratch.found.pairs one.state.store.limit
-    (to_z w64 (of_z w64 w.thickness)) m (Ok k) found c.project_links.ensures.done.stays.moved.limit
-    (thickness_kept w.thickness (thickness_of w f)) c.in_default-project_contacts.ensures.done.outcome in
-    let limit : two.state.store.limit ≡ w.limit = c.project_contacts.ensures.done.stays.moved.limit
-    ∙ c.project_links.ensures.done.stays.moved.limit in
-    let flags : two.scratch.touched ≡ s.touched = ap (λ (t : Scratch). t.touched)
-    (c.project_contacts.ensures.done.scratch ∙ c.project_links.ensures.done.scratch) in
-    pass_done w pairs s m c.in_default.ensures.done.outcome k touched t
-    (shape_part_is w (record s { motion = k }) two.scratch.touched two.state.store.limit c.shapes.result.planes.now c.shapes.result.spheres.now
-    (Ok t) flags limit c.shapes.ensures.planes c.shapes.ensures.spheres c.in_default-push_out.ensures.outcome)
+    let at = goal.at.returns-clause-outcome g c in
+    pass_done (world_of c.args.setting.now c.args.run.now.state) c.args.run.now.scratch.found.pairs (passing_of c.args.run.now)
+    (now_of c.project_links.new.run.state) c.in_default.ensures.done.outcome (now_of two.state)
+    (contacts_told g at.After-project_contacts (Ok (now_of two.state)) c.in_default-project_contacts.ensures.done.outcome) t
+    (shapes_told g at.After-push_out (Ok t) c.in_default-push_out.ensures.outcome)
 
 -- ---- what stays
 
@@ -155,8 +158,13 @@ pub returns-in-Err-project_contacts-clause-stays : goal.returns-in-Err-project_c
 returns-in-Err-project_contacts-clause-stays g c = both_in_pass c.args.run.now c.project_links.new.run c.project_contacts.new.run
     c.project_links.ensures.done.stays c.project_contacts.ensures.done.stays
 
-pub returns-in-Err-push_out-clause-stays : goal.returns-in-Err-push_out-clause-stays
-returns-in-Err-push_out-clause-stays g c =
+-- what all three parts leave
+all_stays : (g : _) (c : After-push_out g) → StaysInPass g.P.Projector.count g.P.Projector.width c.args.run.now
+    (record c.project_contacts.new.run {
+      state = record c.project_contacts.new.run.state { store = c.push_out.new.store; totals = c.push_out.new.totals };
+      scratch = record c.project_contacts.new.run.scratch { touched = c.push_out.new.touched };
+    })
+all_stays g c =
     let two = c.project_contacts.new.run in
     let state = record two.state { store = c.push_out.new.store; totals = c.push_out.new.totals } in
     both_in_pass c.args.run.now two (record two { state = state; scratch = record two.scratch { touched = c.push_out.new.touched } })
@@ -164,14 +172,11 @@ returns-in-Err-push_out-clause-stays g c =
     (part_in_pass two state c.push_out.new.touched two.projector refl c.push_out.ensures.limit c.push_out.ensures.copies
     c.push_out.ensures.fixed c.push_out.ensures.flags (omega arith) refl)
 
+pub returns-in-Err-push_out-clause-stays : goal.returns-in-Err-push_out-clause-stays
+returns-in-Err-push_out-clause-stays g c = all_stays g (goal.at.returns-in-Err-push_out-clause-stays g c).After-push_out
+
 pub returns-clause-stays : goal.returns-clause-stays
-returns-clause-stays g c =
-    let two = c.project_contacts.new.run in
-    let state = record two.state { store = c.push_out.new.store; totals = c.push_out.new.totals } in
-    both_in_pass c.args.run.now two (record two { state = state; scratch = record two.scratch { touched = c.push_out.new.touched } })
-    (both_in_pass c.args.run.now c.project_links.new.run two c.project_links.ensures.done.stays c.project_contacts.ensures.done.stays)
-    (part_in_pass two state c.push_out.new.touched two.projector refl c.push_out.ensures.limit c.push_out.ensures.copies
-    c.push_out.ensures.fixed c.push_out.ensures.flags (omega arith) refl)
+returns-clause-stays g c = all_stays g (goal.at.returns-clause-stays g c).After-push_out
 
 pub returns-clause-under_way : goal.returns-clause-under_way
 returns-clause-under_way g c = λ n u.
@@ -217,61 +222,56 @@ returns-in-Err-clause-cost g c =
           (world_of c.args.setting.now c.args.run.now.state) c.args.run.now.scratch.found.pairs,
     )
 
+-- the contacts cost what they cost before the links
+contacts_cost : (g : _) (c : After-project_contacts g)
+    → contacts_work (g.P.Projector.width c.project_links.new.run.projector) c.project_links.new.run.scratch.found.pairs
+    ≡ contacts_work (g.P.Projector.width c.args.run.now.projector) c.args.run.now.scratch.found.pairs
+contacts_cost g c = λ i. contacts_work (c.project_links.ensures.done.stays.width i) (c.project_links.ensures.done.scratch i).found.pairs
+
 pub returns-in-Err-project_contacts-clause-cost : goal.returns-in-Err-project_contacts-clause-cost
 returns-in-Err-project_contacts-clause-cost g c =
-    let lanes = g.P.Projector.width in
     let run = c.args.run.now in
-    let contacts : contacts_work (lanes c.project_links.new.run.projector) c.project_links.new.run.scratch.found.pairs
-    ≡ contacts_work (lanes run.projector) run.scratch.found.pairs =
-    λ i. contacts_work (c.project_links.ensures.done.stays.width i) (c.project_links.ensures.done.scratch i).found.pairs in
     omega (
       arith,
       c.project_links.ensures.cost,
       c.project_contacts.ensures.cost,
+      contacts_cost g (goal.at.returns-in-Err-project_contacts-clause-cost g c).After-project_contacts,
+      pass_is g.row.L (g.P.Projector.width run.projector) (world_of c.args.setting.now run.state) run.scratch.found.pairs,
+    )
+
+shapes_cost : (g : _) (c : After-push_out g)
+    → push_cost (shapes_of c.shapes.result.planes.now c.shapes.result.spheres.now)
+    (blocks_of (length c.project_contacts.new.run.state.store.particles) g.row.L)
+    ≡ shapes_work g.row.L (world_of c.args.setting.now c.args.run.now.state)
+shapes_cost g c = shape_cost_is g.row.L (length c.project_contacts.new.run.state.store.particles)
+    (world_of c.args.setting.now c.args.run.now.state) c.shapes.result.planes.now c.shapes.result.spheres.now
+    c.shapes.ensures.planes c.shapes.ensures.spheres
+    (c.project_contacts.ensures.done.stays.moved.whole ∙ c.project_links.ensures.done.stays.moved.whole)
+
+-- what all three parts cost
+all_cost : (g : _) (c : After-push_out g)
+    → contacts_work (g.P.Projector.width c.project_links.new.run.projector) c.project_links.new.run.scratch.found.pairs
+    ≡ contacts_work (g.P.Projector.width c.args.run.now.projector) c.args.run.now.scratch.found.pairs
+    → c.push_out.new.steps ≤ c.args.steps.now + pass_work g.row.L (g.P.Projector.width c.args.run.now.projector)
+    (world_of c.args.setting.now c.args.run.now.state) c.args.run.now.scratch.found.pairs
+all_cost g c contacts =
+    let run = c.args.run.now in
+    omega (
+      arith,
+      c.project_links.ensures.cost,
+      c.project_contacts.ensures.cost,
+      c.push_out.ensures.cost,
       contacts,
-      pass_is g.row.L (lanes run.projector) (world_of c.args.setting.now run.state) run.scratch.found.pairs,
+      shapes_cost g c,
+      pass_is g.row.L (g.P.Projector.width run.projector) (world_of c.args.setting.now run.state) run.scratch.found.pairs,
     )
 
 pub returns-in-Err-push_out-clause-cost : goal.returns-in-Err-push_out-clause-cost
 returns-in-Err-push_out-clause-cost g c =
-    let lanes = g.P.Projector.width in
-    let run = c.args.run.now in
-    let w : World = world_of c.args.setting.now run.state in
-    let two = c.project_contacts.new.run.state.store in
-    let contacts : contacts_work (lanes c.project_links.new.run.projector) c.project_links.new.run.scratch.found.pairs
-    ≡ contacts_work (lanes run.projector) run.scratch.found.pairs =
-    λ i. contacts_work (c.project_links.ensures.done.stays.width i) (c.project_links.ensures.done.scratch i).found.pairs in
-    let shapes = shape_cost_is g.row.L (length two.particles) w c.shapes.result.planes.now c.shapes.result.spheres.now
-    c.shapes.ensures.planes c.shapes.ensures.spheres
-    (c.project_contacts.ensures.done.stays.moved.whole ∙ c.project_links.ensures.done.stays.moved.whole) in
-    omega (
-      arith,
-      c.project_links.ensures.cost,
-      c.project_contacts.ensures.cost,
-      c.push_out.ensures.cost,
-      contacts,
-      shapes,
-      pass_is g.row.L (lanes run.projector) w run.scratch.found.pairs,
-    )
+    let at = goal.at.returns-in-Err-push_out-clause-cost g c in
+    all_cost g at.After-push_out (contacts_cost g at.After-project_contacts)
 
 pub returns-clause-cost : goal.returns-clause-cost
 returns-clause-cost g c =
-    let lanes = g.P.Projector.width in
-    let run = c.args.run.now in
-    let w : World = world_of c.args.setting.now run.state in
-    let two = c.project_contacts.new.run.state.store in
-    let contacts : contacts_work (lanes c.project_links.new.run.projector) c.project_links.new.run.scratch.found.pairs
-    ≡ contacts_work (lanes run.projector) run.scratch.found.pairs =
-    λ i. contacts_work (c.project_links.ensures.done.stays.width i) (c.project_links.ensures.done.scratch i).found.pairs in
-    let shapes = shape_cost_is g.row.L (length two.particles) w c.shapes.result.planes.now c.shapes.result.spheres.now
-    c.shapes.ensures.planes c.shapes.ensures.spheres
-    (c.project_contacts.ensures.done.stays.moved.whole ∙ c.project_links.ensures.done.stays.moved.whole) in
-    omega (
-      arith,
-      c.project_links.ensures.cost,
-      c.project_contacts.ensures.cost,
-      c.push_out.ensures.cost,
-      contacts,
-      shapes,
-      pass_is g.row.L (lanes run.projector) w run.scratch.found.pairs,
-    )
+    let at = goal.at.returns-clause-cost g c in
+    all_cost g at.After-push_out (contacts_cost g at.After-project_contacts)

@@ -1,4 +1,4 @@
-use Rattle.std.proofs.Common.{arith, sym, ap, ◌∙◌, subst, ℕ, ℤ, pos, length, List, Bool, IsTrue, to_z, of_z, w64, Ok, Err}
+use Rattle.std.proofs.Common.{arith, sym, ap, ◌∙◌, ◌^◌, subst, ℕ, ℤ, pos, length, List, Bool, IsTrue, to_z, of_z, w64, Ok, Err}
 use Rattle.std.proofs.lemmas.List.{length-replicate}
 use Rattle.pbd_world.specs.Step.{settled, rub}
 use Rattle.pbd_world.specs.Ledger.{ledger_of}
@@ -7,13 +7,39 @@ use Rattle.pbd_world.specs.World.{World, parts_of}
 use Rattle.pbd_world.proofs.WorldParts.{formed}
 use Rattle.pbd_world.proofs.WorkLemmas.{finishing_is}
 use Rattle.pbd_step.specs.declared.state.Scratch.{Scratch}
-use Rattle.pbd_step.specs.States.{world_of, now_of, HasLinks}
-use Rattle.pbd_step.specs.Staying.{passing_of, AreBondsLaid, AreContactsLaid}
+use Rattle.pbd_step.specs.States.{world_of, now_of, HasLinks, HaveSpace, KnowsLinks}
+use Rattle.pbd_step.specs.Staying.{passing_of, AreBondsLaid, AreContactsLaid, IsGoing, StaysInStep}
 use Rattle.pbd_step.proofs.Staying.{prepared, known_laid, tools_go, tools_in_step, pass_in_step, both_in_step, pass_goes}
 use Rattle.pbd_step.proofs.Stepping.{no_flags, finished_is}
 use Rattle.pbd_step.proofs.UnderWay.{moved_world, more_under_way, thickness_kept, thickness_of}
 use Rattle.pbd_step.proofs.Costing.{settling_same}
+use Rattle.pbd_step.proofs.step.finish.Goals.{After-clear}
 use Rattle.pbd_step.proofs.step.finish.Goals as goal
+
+-- the scratch once the bonds are laid and the flags are cleared
+abbrev laid_scratch : (g : _) → After-clear g → Scratch
+laid_scratch g c = record c.args.run.now.scratch {
+  laid_links = c.lay_links.new.columns;
+  laid_contacts = c.lay_contacts.new.columns;
+  are_links_laid = c.lay_links.new.are_laid;
+  touched = c.clear.new.self;
+}
+
+has_space : (g : _) (c : After-clear g) (n m : ℕ) → HaveSpace n m c.args.run.now.scratch → HaveSpace n m (laid_scratch g c)
+has_space g c = prepared c.args.run.now.scratch c.lay_links.new.columns c.lay_contacts.new.columns c.clear.new.self c.lay_links.new.are_laid
+    c.lay_links.ensures.rows c.lay_contacts.ensures.rows (ap (λ (fs : List Bool). length fs) c.clear.ensures ∙ length-replicate _ _)
+
+knows : (g : _) (c : After-clear g) → KnowsLinks c.args.run.now.state c.args.run.now.scratch
+    → KnowsLinks c.args.run.now.state (laid_scratch g c)
+knows g c = known_laid c.args.run.now.state c.args.run.now.scratch c.lay_links.new.columns c.lay_contacts.new.columns c.clear.new.self
+    c.lay_links.new.are_laid c.lay_links.ensures.laid
+
+laid_in_step : (g : _) (c : After-clear g) → StaysInStep g.P.Projector.count g.P.Projector.width c.args.run.now
+    (record c.args.run.now { scratch = laid_scratch g c })
+laid_in_step g c = tools_in_step c.args.run.now (laid_scratch g c) (has_space g c) (knows g c)
+
+goes_on : (g : _) (c : After-clear g) → IsGoing (2 ^ 100) c.args.setting.now (record c.args.run.now { scratch = laid_scratch g c })
+goes_on g c = tools_go c.args.setting.now c.args.run.now (laid_scratch g c) (has_space g c) (knows g c) c.requires.going
 
 pub lay_links-requires : goal.lay_links-requires
 lay_links-requires g c =
@@ -34,49 +60,27 @@ lay_contacts-requires g c =
 pub project_in_passes-requires : goal.project_in_passes-requires
 project_in_passes-requires g c =
     let run = c.args.run.now in
-    let scratch : Scratch = record run.scratch {
-      laid_links = c.lay_links.new.columns;
-      laid_contacts = c.lay_contacts.new.columns;
-      are_links_laid = c.lay_links.new.are_laid;
-      touched = c.clear.new.self;
-    } in
-    let many = ap (λ (fs : List Bool). length fs) c.clear.ensures ∙ length-replicate _ _ in
-    let room = prepared run.scratch scratch.laid_links scratch.laid_contacts scratch.touched scratch.are_links_laid
-    c.lay_links.ensures.rows c.lay_contacts.ensures.rows many in
-    let knows = known_laid run.state run.scratch scratch.laid_links scratch.laid_contacts scratch.touched scratch.are_links_laid
-    c.lay_links.ensures.laid in
     let w : World = world_of c.args.setting.now run.state in
     let thin = thickness_of w (formed (parts_of w) c.requires.going.under_way.well_formed) in
-    let laid : AreBondsLaid w.thickness run.state scratch = record {
+    let cleared = (goal.at.project_in_passes-requires g c).After-clear in
+    let laid : AreBondsLaid w.thickness run.state (laid_scratch g cleared) = record {
       links = c.lay_links.ensures.laid;
-      contacts = subst (λ (t : ℤ). AreContactsLaid t run.state run.scratch.found.pairs scratch.laid_contacts)
+      contacts = subst (λ (t : ℤ). AreContactsLaid t run.state run.scratch.found.pairs c.lay_contacts.new.columns)
           (thickness_kept w.thickness thin)
           c.lay_contacts.ensures.laid;
     } in
-    (omega arith, (c.requires.lanes_low, (c.requires.lanes_high, (tools_go c.args.setting.now run scratch room knows c.requires.going, laid))))
+    (omega arith, (c.requires.lanes_low, (c.requires.lanes_high, (goes_on g cleared, laid))))
 
 pub rub_and_tear-requires : goal.rub_and_tear-requires
 rub_and_tear-requires g c =
-    let run = c.args.run.now in
-    let scratch : Scratch = record run.scratch {
-      laid_links = c.lay_links.new.columns;
-      laid_contacts = c.lay_contacts.new.columns;
-      are_links_laid = c.lay_links.new.are_laid;
-      touched = c.clear.new.self;
-    } in
-    let many = ap (λ (fs : List Bool). length fs) c.clear.ensures ∙ length-replicate _ _ in
-    let room = prepared run.scratch scratch.laid_links scratch.laid_contacts scratch.touched scratch.are_links_laid
-    c.lay_links.ensures.rows c.lay_contacts.ensures.rows many in
-    let knows = known_laid run.state run.scratch scratch.laid_links scratch.laid_contacts scratch.touched scratch.are_links_laid
-    c.lay_links.ensures.laid in
-    let start = record run { scratch = scratch } in
-    let going = tools_go c.args.setting.now run scratch room knows c.requires.going in (
+    let cleared = (goal.at.rub_and_tear-requires g c).After-clear in
+    let start = record c.args.run.now { scratch = laid_scratch g cleared } in (
       omega arith,
       (
         c.requires.lanes_low,
         (
           c.requires.lanes_high,
-          pass_goes _ c.args.setting.now start c.project_in_passes.new.run going c.project_in_passes.ensures.stays
+          pass_goes _ c.args.setting.now start c.project_in_passes.new.run (goes_on g cleared) c.project_in_passes.ensures.stays
               (more_under_way _ (omega arith) c.in_default.ensures.under_way),
         ),
       ),
@@ -103,41 +107,14 @@ returns-clause-outcome g c =
     ∙ (λ i. settled (moved i) (stays.scratch i).found.pairs (rub c.args.setting.now.friction s))))
 
 pub returns-in-Err-clause-stays : goal.returns-in-Err-clause-stays
-returns-in-Err-clause-stays g c =
-    let run = c.args.run.now in
-    let scratch : Scratch = record run.scratch {
-      laid_links = c.lay_links.new.columns;
-      laid_contacts = c.lay_contacts.new.columns;
-      are_links_laid = c.lay_links.new.are_laid;
-      touched = c.clear.new.self;
-    } in
-    let many = ap (λ (fs : List Bool). length fs) c.clear.ensures ∙ length-replicate _ _ in
-    let room = prepared run.scratch scratch.laid_links scratch.laid_contacts scratch.touched scratch.are_links_laid
-    c.lay_links.ensures.rows c.lay_contacts.ensures.rows many in
-    let knows = known_laid run.state run.scratch scratch.laid_links scratch.laid_contacts scratch.touched scratch.are_links_laid
-    c.lay_links.ensures.laid in
-    let start = record run { scratch = scratch } in
-    both_in_step run start c.project_in_passes.new.run (tools_in_step run scratch room knows)
-    (pass_in_step start c.project_in_passes.new.run c.project_in_passes.ensures.stays)
+returns-in-Err-clause-stays g c = both_in_step c.args.run.now _ c.project_in_passes.new.run
+    (laid_in_step g (goal.at.returns-in-Err-clause-stays g c).After-clear)
+    (pass_in_step _ c.project_in_passes.new.run c.project_in_passes.ensures.stays)
 
 pub returns-clause-stays : goal.returns-clause-stays
-returns-clause-stays g c =
-    let run = c.args.run.now in
-    let scratch : Scratch = record run.scratch {
-      laid_links = c.lay_links.new.columns;
-      laid_contacts = c.lay_contacts.new.columns;
-      are_links_laid = c.lay_links.new.are_laid;
-      touched = c.clear.new.self;
-    } in
-    let many = ap (λ (fs : List Bool). length fs) c.clear.ensures ∙ length-replicate _ _ in
-    let room = prepared run.scratch scratch.laid_links scratch.laid_contacts scratch.touched scratch.are_links_laid
-    c.lay_links.ensures.rows c.lay_contacts.ensures.rows many in
-    let knows = known_laid run.state run.scratch scratch.laid_links scratch.laid_contacts scratch.touched scratch.are_links_laid
-    c.lay_links.ensures.laid in
-    let start = record run { scratch = scratch } in
-    both_in_step run c.project_in_passes.new.run c.rub_and_tear.new.run
-    (both_in_step run start c.project_in_passes.new.run (tools_in_step run scratch room knows)
-    (pass_in_step start c.project_in_passes.new.run c.project_in_passes.ensures.stays)) c.rub_and_tear.ensures.stays
+returns-clause-stays g c = both_in_step c.args.run.now c.project_in_passes.new.run c.rub_and_tear.new.run
+    (both_in_step c.args.run.now _ c.project_in_passes.new.run (laid_in_step g (goal.at.returns-clause-stays g c).After-clear)
+    (pass_in_step _ c.project_in_passes.new.run c.project_in_passes.ensures.stays)) c.rub_and_tear.ensures.stays
 
 pub returns-clause-links : goal.returns-clause-links
 returns-clause-links g c =

@@ -1,18 +1,16 @@
 use Rattle.std.proofs.Common.{sym, ap, ◌∙◌, arith, subst, length}
-use Rattle.pbd_world.specs.World.{World, IsSound, AreOfOneScene}
+use Rattle.pbd_world.specs.World.{World, IsSound}
 use Rattle.pbd_step.specs.declared.state.Setting.{Setting}
 use Rattle.pbd_step.specs.States.{world_of, HasLinks}
 use Rattle.pbd_step.specs.Solving.{Solved}
-use Rattle.pbd_step.proofs.Keeping.{scene_alike, scene_particles, scene_pairs, scene_fixed, scene_world, taken_links, weights_taken}
+use Rattle.pbd_step.proofs.Keeping.{inner_scene, scene_alike, scene_particles, scene_pairs, scene_fixed, scene_world, taken_links, weights_taken}
 use Rattle.pbd_step.proofs.saved.Saved.keep.Goals as goal
 
 pub take_over-requires : goal.take_over-requires
 take_over-requires g c =
     let mine = c.self.inside.state in
     let other = c.solver.inside.run.state in
-    let scene = subst (λ (v : World). AreOfOneScene v (world_of c.solver.inside.setting other)) (sym c.self.view_is)
-    (subst (λ (v : World). AreOfOneScene c.args.self.now v)
-    (sym (ap (λ (s : Solved g.row.P.Denot). s.world) c.solver.view_is)) c.requires.one_scene) in (
+    let scene = inner_scene c.self.view_is c.solver.view_is c.requires.one_scene in (
       omega arith,
       (
         c.requires.lanes_high,
@@ -25,9 +23,7 @@ pub take_colours-requires : goal.take_colours-requires
 take_colours-requires g c =
     let mine = c.self.inside.state in
     let other = c.solver.inside.run.state in
-    let scene = subst (λ (v : World). AreOfOneScene v (world_of c.solver.inside.setting other)) (sym c.self.view_is)
-    (subst (λ (v : World). AreOfOneScene c.args.self.now v)
-    (sym (ap (λ (s : Solved g.row.P.Denot). s.world) c.solver.view_is)) c.requires.one_scene) in
+    let scene = inner_scene c.self.view_is c.solver.view_is c.requires.one_scene in
     c.self.invariant.links.pairs ∙ scene_pairs c.self.inside.setting c.solver.inside.setting mine other scene
     ∙ sym c.solver.invariant.links.pairs
 
@@ -36,9 +32,7 @@ invariant_of-self g c =
     let mine = c.self.inside.state in
     let other = c.solver.inside.run.state in
     let setting : Setting = record c.self.inside.setting { gravity = c.solver.inside.setting.gravity } in
-    let scene = subst (λ (v : World). AreOfOneScene v (world_of c.solver.inside.setting other)) (sym c.self.view_is)
-    (subst (λ (v : World). AreOfOneScene c.args.self.now v)
-    (sym (ap (λ (s : Solved g.row.P.Denot). s.world) c.solver.view_is)) c.requires.one_scene) in
+    let scene = inner_scene c.self.view_is c.solver.view_is c.requires.one_scene in
     let same = c.take_over.ensures.world setting ∙ scene_world c.self.inside.setting c.solver.inside.setting mine other scene in
     record {
       sound = subst (λ (w : World). IsSound w) (sym same) c.solver.invariant.sound;
@@ -55,9 +49,7 @@ returns-clause-world g c =
     let mine = c.self.inside.state in
     let other = c.solver.inside.run.state in
     let setting : Setting = record c.self.inside.setting { gravity = c.solver.inside.setting.gravity } in
-    let scene = subst (λ (v : World). AreOfOneScene v (world_of c.solver.inside.setting other)) (sym c.self.view_is)
-    (subst (λ (v : World). AreOfOneScene c.args.self.now v)
-    (sym (ap (λ (s : Solved g.row.P.Denot). s.world) c.solver.view_is)) c.requires.one_scene) in
+    let scene = inner_scene c.self.view_is c.solver.view_is c.requires.one_scene in
     c.take_over.ensures.world setting ∙ scene_world c.self.inside.setting c.solver.inside.setting mine other scene
     ∙ ap (λ (s : Solved g.row.P.Denot). s.world) c.solver.view_is
 

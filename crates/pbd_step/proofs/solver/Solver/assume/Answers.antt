@@ -1,4 +1,4 @@
-use Rattle.std.proofs.Common.{refl, sym, ap, ◌∙◌, ◌+◌, arith, subst, length, ℕ, ◌≤◌, List}
+use Rattle.std.proofs.Common.{◌≡◌, refl, sym, ap, ◌∙◌, ◌+◌, ◌*◌, arith, subst, length, ℕ, ◌≤◌, List}
 use Rattle.pbd_world.specs.declared.parts.Particle.{Particle}
 use Rattle.pbd_world.specs.declared.parts.Link.{Link}
 use Rattle.pbd_world.specs.World.{World, IsSound, AreOfOneScene}
@@ -9,8 +9,9 @@ use Rattle.pbd_sound.proofs.Telling.{told_scene}
 use Rattle.pbd_step.specs.declared.state.Setting.{Setting}
 use Rattle.pbd_step.specs.States.{world_of, HasLinks, HaveSpace}
 use Rattle.pbd_step.specs.Solving.{Solved, AreAlike}
-use Rattle.pbd_step.proofs.Keeping.{formed_fit, scene_pairs, scene_fixed, kept_moved, weights_taken}
+use Rattle.pbd_step.proofs.Keeping.{formed_fit, scene_pairs, scene_fixed, kept_moved, weights_taken, taken_alike}
 use Rattle.pbd_step.proofs.Assuming.{Holds, held_world, judged, flipped, told_alike}
+use Rattle.pbd_step.proofs.solver.Solver.assume.Goals.{After-gravity-gravity, After-judge}
 use Rattle.pbd_step.proofs.solver.Solver.assume.Goals as goal
 
 pub describe-requires : goal.describe-requires
@@ -44,17 +45,19 @@ invariant_of-self g c = record {
       c.describe.ensures.weights c.self.invariant.weights (c.describe.ensures.world c.self.inside.setting);
 }
 
-pub returns-in-Err-clause-exact : goal.returns-in-Err-clause-exact
-returns-in-Err-clause-exact g c =
-    let d = g.D.Described.seen c.args.described.now in
-    let w = world_of c.self.inside.setting c.self.inside.run.state in
-    let h : Holds d c.self.inside.setting c.describe.new.state w c.gravity-gravity.result =
-    record { gravity_is = c.gravity-gravity.ensures; world = c.describe.ensures.world c.self.inside.setting } in
-    judged c.as_slice-tracks.result.now c.numbers_of-numbers.result _ h c.as_slice-tracks.ensures c.numbers_of-numbers.ensures
-    c.in-Err.ensures.value ∙ ap (λ (s : Solved g.row.P.Denot). soundness (told d s.world)) c.self.view_is
+-- the second state holds the world that is told
+holds : (g : _) (c : After-gravity-gravity g) → Holds (g.D.Described.seen c.args.described.now) c.self.inside.setting c.describe.new.state
+    (world_of c.self.inside.setting c.self.inside.run.state) c.gravity-gravity.result
+holds g c = record { gravity_is = c.gravity-gravity.ensures; world = c.describe.ensures.world c.self.inside.setting }
 
-pub returns-in-Err-clause-cost : goal.returns-in-Err-clause-cost
-returns-in-Err-clause-cost g c =
+judged_so : (g : _) (c : After-judge g) → Holds (g.D.Described.seen c.args.described.now) c.self.inside.setting c.describe.new.state
+    (world_of c.self.inside.setting c.self.inside.run.state) c.gravity-gravity.result
+    → c.judge.result ≡ soundness (told (g.D.Described.seen c.args.described.now) (world_of c.self.inside.setting c.self.inside.run.state))
+judged_so g c h = judged c.as_slice-tracks.result.now c.numbers_of-numbers.result _ h c.as_slice-tracks.ensures c.numbers_of-numbers.ensures
+    c.judge.ensures.value
+
+judging_cost : (g : _) (c : After-judge g) → c.judge.new.steps ≤ c.args.steps.now + 7 * length c.args.self.now.world.particles + 1
+judging_cost g c =
     let alike = told_alike (g.D.Described.seen c.args.described.now) c.self.inside.setting c.describe.new.state c.self.inside.run.state
     c.describe.ensures.weights c.self.invariant.weights (c.describe.ensures.world c.self.inside.setting) in
     omega (
@@ -65,16 +68,23 @@ returns-in-Err-clause-cost g c =
       ap (λ (s : Solved g.row.P.Denot). length s.world.particles) c.self.view_is,
     )
 
+pub returns-in-Err-clause-exact : goal.returns-in-Err-clause-exact
+returns-in-Err-clause-exact g c =
+    let at = goal.at.returns-in-Err-clause-exact g c in
+    sym c.in-Err.is ∙ judged_so g at.After-judge (holds g at.After-gravity-gravity)
+    ∙ ap (λ (s : Solved g.row.P.Denot). soundness (told (g.D.Described.seen c.args.described.now) s.world)) c.self.view_is
+
+pub returns-in-Err-clause-cost : goal.returns-in-Err-clause-cost
+returns-in-Err-clause-cost g c = judging_cost g (goal.at.returns-in-Err-clause-cost g c).After-judge
+
 pub restore-requires : goal.restore-requires
 restore-requires g c =
     let d = g.D.Described.seen c.args.described.now in
     let mine = c.self.inside.run.state in
     let other = c.describe.new.state in
     let w = world_of c.self.inside.setting mine in
-    let h : Holds d c.self.inside.setting other w c.gravity-gravity.result =
-    record { gravity_is = c.gravity-gravity.ensures; world = c.describe.ensures.world c.self.inside.setting } in
-    let exact = judged c.as_slice-tracks.result.now c.numbers_of-numbers.result _ h c.as_slice-tracks.ensures c.numbers_of-numbers.ensures
-    c.judge.ensures.value in
+    let h = holds g (goal.at.restore-requires g c).After-gravity-gravity in
+    let exact = judged_so g (goal.at.restore-requires g c).After-judge h in
     let sound : IsSound (world_of (record c.self.inside.setting { gravity = c.gravity-gravity.result }) other) =
     subst (λ (v : World). IsSound v) (sym (held_world h)) (tested_sound d w c.self.invariant.sound (sym exact ∙ c.in_default.is)) in
     let alike : AreAlike mine other = flipped other mine (told_alike d c.self.inside.setting other mine
@@ -113,42 +123,29 @@ invariant_of-self-2 g c =
     let other = c.describe.new.state in
     let w = world_of c.self.inside.setting mine in
     let setting : Setting = record c.self.inside.setting { gravity = c.gravity-gravity.result } in
-    let h : Holds d c.self.inside.setting other w c.gravity-gravity.result =
-    record { gravity_is = c.gravity-gravity.ensures; world = c.describe.ensures.world c.self.inside.setting } in
-    let exact = judged c.as_slice-tracks.result.now c.numbers_of-numbers.result _ h c.as_slice-tracks.ensures c.numbers_of-numbers.ensures
-    c.judge.ensures.value in
-    let same = c.restore.ensures.world setting ∙ held_world h in
-    let now : AreAlike other c.restore.new.state = record {
-      particles = ap (λ (ps : List Particle). length ps) (sym c.restore.ensures.particles);
-      limit = sym c.restore.ensures.limit;
-      weights = ap (λ (ws : List ℕ). length ws) (sym c.restore.ensures.weights);
-      links = ap (λ (ls : List Link). length ls) (sym c.restore.ensures.same_links);
-    } in
+    let h = holds g (goal.at.invariant_of-self-2 g c).After-gravity-gravity in
+    let exact = judged_so g (goal.at.invariant_of-self-2 g c).After-judge h in
+    let same = c.restore.ensures.taken.world setting ∙ held_world h in
+    let now : AreAlike other c.restore.new.state = taken_alike c.restore.ensures.taken in
     kept_moved setting other c.restore.new.state other c.restore.new.colours c.restore.new.scratch
     (subst (λ (v : World). IsSound v) (sym same) (tested_sound d w c.self.invariant.sound (sym exact ∙ c.in_default.is)))
-    (weights_taken c.restore.new.state other c.restore.ensures.weights c.restore.ensures.particles c.describe.ensures.weights)
+    (weights_taken c.restore.new.state other c.restore.ensures.taken.weights c.restore.ensures.taken.particles c.describe.ensures.weights)
     now (record { particles = refl; limit = refl; weights = refl; links = refl })
     (subst (λ (ls : List Link). HasLinks (length other.store.particles) ls c.restore.new.colours)
-    (sym c.restore.ensures.same_links) c.restore.ensures.links)
+    (sym c.restore.ensures.taken.links) c.restore.ensures.links)
     c.restore.ensures.space c.restore.ensures.knows
 
 pub returns-clause-exact : goal.returns-clause-exact
 returns-clause-exact g c =
-    let d = g.D.Described.seen c.args.described.now in
-    let w = world_of c.self.inside.setting c.self.inside.run.state in
-    let h : Holds d c.self.inside.setting c.describe.new.state w c.gravity-gravity.result =
-    record { gravity_is = c.gravity-gravity.ensures; world = c.describe.ensures.world c.self.inside.setting } in
-    sym c.in_default.is ∙ judged c.as_slice-tracks.result.now c.numbers_of-numbers.result _ h c.as_slice-tracks.ensures
-    c.numbers_of-numbers.ensures c.judge.ensures.value ∙ ap (λ (s : Solved g.row.P.Denot). soundness (told d s.world)) c.self.view_is
+    let at = goal.at.returns-clause-exact g c in
+    sym c.in_default.is ∙ judged_so g at.After-judge (holds g at.After-gravity-gravity)
+    ∙ ap (λ (s : Solved g.row.P.Denot). soundness (told (g.D.Described.seen c.args.described.now) s.world)) c.self.view_is
 
 pub returns-clause-world : goal.returns-clause-world
 returns-clause-world g c =
-    let d = g.D.Described.seen c.args.described.now in
-    let w = world_of c.self.inside.setting c.self.inside.run.state in
-    let h : Holds d c.self.inside.setting c.describe.new.state w c.gravity-gravity.result =
-    record { gravity_is = c.gravity-gravity.ensures; world = c.describe.ensures.world c.self.inside.setting } in
-    c.restore.ensures.world (record c.self.inside.setting { gravity = c.gravity-gravity.result }) ∙ held_world h
-    ∙ ap (λ (s : Solved g.row.P.Denot). told d s.world) c.self.view_is
+    c.restore.ensures.taken.world (record c.self.inside.setting { gravity = c.gravity-gravity.result })
+    ∙ held_world (holds g (goal.at.returns-clause-world g c).After-gravity-gravity)
+    ∙ ap (λ (s : Solved g.row.P.Denot). told (g.D.Described.seen c.args.described.now) s.world) c.self.view_is
 
 pub returns-clause-sound : goal.returns-clause-sound
 returns-clause-sound g c = (invariant_of-self-2 g c).sound
@@ -159,16 +156,7 @@ returns-clause-one_scene g c =
     (told_scene (g.D.Described.seen c.args.described.now) c.args.self.now.world)
 
 pub returns-clause-cost : goal.returns-clause-cost
-returns-clause-cost g c =
-    let alike = told_alike (g.D.Described.seen c.args.described.now) c.self.inside.setting c.describe.new.state c.self.inside.run.state
-    c.describe.ensures.weights c.self.invariant.weights (c.describe.ensures.world c.self.inside.setting) in
-    omega (
-      arith,
-      c.describe.ensures.cost,
-      c.judge.ensures.cost,
-      alike.particles,
-      ap (λ (s : Solved g.row.P.Denot). length s.world.particles) c.self.view_is,
-    )
+returns-clause-cost g c = judging_cost g (goal.at.returns-clause-cost g c).After-judge
 
 pub returns-in-Err-clause-kept : goal.returns-in-Err-clause-kept
 returns-in-Err-clause-kept g c =
@@ -186,6 +174,6 @@ pub returns-clause-copies : goal.returns-clause-copies
 returns-clause-copies g c = omega (
   arith,
   c.describe.ensures.copies,
-  c.restore.ensures.copies,
+  c.restore.ensures.taken.copies,
   ap (λ (s : Solved g.row.P.Denot). s.copies) c.self.view_is,
 )

@@ -1,11 +1,11 @@
-use Rattle.std.proofs.Common.{◌+◌, ap, sym, ◌∙◌, arith, subst, false}
+use Rattle.std.proofs.Common.{refl, ◌+◌, ap, sym, ◌∙◌, arith, subst, false}
 use Rattle.pbd_world.specs.Meaning.{cut}
 use Rattle.pbd_world.specs.World.{World}
 use Rattle.pbd_world.specs.declared.command.Command.TheVariants as commands
 use Rattle.pbd_step.specs.declared.state.State.{State}
 use Rattle.pbd_step.specs.States.{world_of, AreWeights}
 use Rattle.pbd_step.specs.Solving.{Solved}
-use Rattle.pbd_step.proofs.Keeping.{commanded, seen_commanded, cut_means, kept_commanded, none_laid, formed_fit}
+use Rattle.pbd_step.proofs.Keeping.{commanded, seen_obeyed, cut_means, kept_commanded, none_laid, formed_fit}
 use Rattle.pbd_step.proofs.solver.Solver.cut.Goals as goal
 
 pub cut-requires : goal.cut-requires
@@ -29,9 +29,8 @@ invariant_of-self g c =
 
 pub returns-clause-commanded : goal.returns-clause-commanded
 returns-clause-commanded g c =
-    let w = world_of c.self.inside.setting c.self.inside.run.state in
-    seen_commanded (λ (v : World). cut v c.args.l) c.self.view_is
-    (commanded (commands.Cut c.args.l) c.cut.ensures.obeys c.self.invariant.sound (cut_means w c.args.l))
+    seen_obeyed (λ (w : World). cut w c.args.l) (commands.Cut c.args.l) c.cut.ensures.obeys c.self.invariant.sound
+    (cut_means _ c.args.l) c.self.view_is refl
 
 pub returns-clause-copies : goal.returns-clause-copies
 returns-clause-copies g c =

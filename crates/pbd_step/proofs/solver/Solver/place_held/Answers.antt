@@ -1,28 +1,25 @@
-use Rattle.std.proofs.Common.{ap, sym, arith, IsTrue}
+use Rattle.std.proofs.Common.{refl, ap, sym, arith, IsTrue}
 use Rattle.pbd_world.specs.Meaning.{place_held}
 use Rattle.pbd_world.specs.World.{World}
 use Rattle.pbd_world.specs.declared.command.Command.TheVariants as commands
-use Rattle.pbd_step.specs.States.{world_of, AreLinksLaid}
+use Rattle.pbd_step.specs.States.{AreLinksLaid}
 use Rattle.pbd_step.specs.Solving.{Solved}
 use Rattle.pbd_step.specs.declared.state.State.{State}
-use Rattle.pbd_step.proofs.Keeping.{commanded, seen_commanded, place_means, kept_linked}
+use Rattle.pbd_step.proofs.Keeping.{seen_obeyed, place_means, kept_linked}
 use Rattle.pbd_step.proofs.solver.Solver.place_held.Goals as goal
 
 pub invariant_of-self : goal.invariant_of-self
 invariant_of-self g c =
-    let w = world_of c.self.inside.setting c.self.inside.run.state in
-    let done = commanded (commands.Move c.args.i c.args.to) c.place_held.ensures.obeys c.self.invariant.sound
-    (place_means w c.args.i c.args.to) in
     let scratch = c.self.inside.run.scratch in
-    kept_linked c.self.invariant done c.place_held.ensures.weights (ap (λ (s : State g.row.L). s.links.items) c.place_held.ensures.same)
+    kept_linked (commands.Move c.args.i c.args.to) c.self.invariant c.place_held.ensures.obeys (place_means _ c.args.i c.args.to)
+    c.place_held.ensures.weights (ap (λ (s : State g.row.L). s.links.items) c.place_held.ensures.same)
     scratch.are_links_laid (coe 0 1 (i. IsTrue scratch.are_links_laid → AreLinksLaid (sym c.place_held.ensures.same i) scratch.laid_links)
     c.self.invariant.knows.laid)
 
 pub returns-clause-commanded : goal.returns-clause-commanded
 returns-clause-commanded g c =
-    let w = world_of c.self.inside.setting c.self.inside.run.state in
-    seen_commanded (λ (v : World). place_held v c.args.i c.args.to) c.self.view_is
-    (commanded (commands.Move c.args.i c.args.to) c.place_held.ensures.obeys c.self.invariant.sound (place_means w c.args.i c.args.to))
+    seen_obeyed (λ (w : World). place_held w c.args.i c.args.to) (commands.Move c.args.i c.args.to) c.place_held.ensures.obeys c.self.invariant.sound
+    (place_means _ c.args.i c.args.to) c.self.view_is refl
 
 pub returns-clause-copies : goal.returns-clause-copies
 returns-clause-copies g c = omega (arith, c.place_held.ensures.copies, ap (λ (s : Solved g.row.P.Denot). s.copies) c.self.view_is)

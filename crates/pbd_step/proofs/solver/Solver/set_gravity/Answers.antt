@@ -1,10 +1,10 @@
-use Rattle.std.proofs.Common.{ap}
+use Rattle.std.proofs.Common.{refl, ap}
 use Rattle.pbd_world.specs.Meaning.{set_gravity}
 use Rattle.pbd_world.specs.World.{World}
 use Rattle.pbd_world.specs.declared.command.Command.TheVariants as commands
 use Rattle.pbd_step.specs.States.{world_of}
 use Rattle.pbd_step.specs.Solving.{Solved}
-use Rattle.pbd_step.proofs.Keeping.{commanded, seen_commanded, gravity_means, kept_commanded}
+use Rattle.pbd_step.proofs.Keeping.{commanded, seen_obeyed, gravity_means, kept_commanded}
 use Rattle.pbd_step.proofs.solver.Solver.set_gravity.Goals as goal
 
 pub invariant_of-self : goal.invariant_of-self
@@ -16,9 +16,8 @@ invariant_of-self g c =
 
 pub returns-clause-commanded : goal.returns-clause-commanded
 returns-clause-commanded g c =
-    let w = world_of c.self.inside.setting c.self.inside.run.state in
-    seen_commanded (λ (v : World). set_gravity v c.args.g) c.self.view_is
-    (commanded (commands.Gravity c.args.g) c.set_gravity.ensures.obeys c.self.invariant.sound (gravity_means w c.args.g))
+    seen_obeyed (λ (w : World). set_gravity w c.args.g) (commands.Gravity c.args.g) c.set_gravity.ensures.obeys c.self.invariant.sound
+    (gravity_means _ c.args.g) c.self.view_is refl
 
 pub returns-clause-copies : goal.returns-clause-copies
 returns-clause-copies g c = ap (λ (s : Solved g.row.P.Denot). s.copies) c.self.view_is

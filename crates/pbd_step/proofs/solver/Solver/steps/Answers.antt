@@ -26,7 +26,7 @@ returns-then-from-count-clause-commanded g c =
 pub returns-clause-commanded : goal.returns-clause-commanded
 returns-clause-commanded g c =
     let w = world_of c.self.inside.setting c.self.inside.run.state in
-    let now = world_of c.self.inside.setting c.run_whole.new.run.state in
+    let now = world_of c.self.inside.setting c.run_whole.new.self.state in
     let goes = run_goes w c.args.n (omega (arith, c.if-n-lt1.false)) (omega (arith, c.if-n-gt-MOST_STEPS.false))
     (omega (arith, c.from.ensures, c.if-from-count.false)) in
     let told = answers_so c.run_whole.result (run_steps w c.args.n) now (steps_of c.args.n w) goes c.run_whole.ensures.obeys.outcome in
@@ -37,7 +37,7 @@ returns-clause-commanded g c =
 
 pub returns-clause-not_fallen : goal.returns-clause-not_fallen
 returns-clause-not_fallen g c = subst (λ (s : Solved g.row.P.Denot). g.P.Projector.count s.projector
-    ≤ g.P.Projector.count c.run_whole.new.run.projector) c.self.view_is c.run_whole.ensures.not_fallen
+    ≤ g.P.Projector.count c.run_whole.new.self.projector) c.self.view_is c.run_whole.ensures.not_fallen
 
 pub returns-clause-width : goal.returns-clause-width
 returns-clause-width g c = c.run_whole.ensures.width ∙ ap (λ (s : Solved g.row.P.Denot). g.P.Projector.width s.projector) c.self.view_is
@@ -54,6 +54,6 @@ returns-clause-cost g c =
 
 pub returns-clause-copies : goal.returns-clause-copies
 returns-clause-copies g c =
-    let now : ℕ = c.run_whole.new.run.state.store.copies + c.run_whole.new.kept.store.copies in
+    let now : ℕ = c.run_whole.new.self.state.store.copies + c.run_whole.new.kept.store.copies in
     subst (λ (s : Solved g.row.P.Denot). MatchResult c.run_whole.result (λ _. now ≤ s.copies + 1) (λ _. now ≤ s.copies + 2)) c.self.view_is
     c.run_whole.ensures.copies

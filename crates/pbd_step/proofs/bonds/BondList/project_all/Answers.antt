@@ -7,15 +7,15 @@ use Rattle.pbd_world.proofs.Rooms.{room_at}
 use Rattle.pbd_step.specs.Projecting.{parallel_from}
 use Rattle.pbd_step.proofs.InOrder.{both_parts, order_parts, parts_length, stops, then_part}
 use Rattle.pbd_world.proofs.WorkLemmas.{bonds_are}
-use Rattle.pbd_step.proofs.bonds.project_all.Goals as goal
+use Rattle.pbd_step.proofs.bonds.BondList.project_all.Goals as goal
 
 pub returns-in-Err-clause-done : goal.returns-in-Err-clause-done
 returns-in-Err-clause-done g c =
-    let pairs = c.args.list.now.colours.now.pairs in
-    let live = c.args.list.now.colours.now.live in
+    let pairs = c.args.self.now.colours.now.pairs in
+    let live = c.args.self.now.colours.now.live in
     let start = motion_of c.args.store.now c.args.totals.now in
     record {
-      outcome = ap (λ (xs : List ℕ). projected c.args.store.now.limit (bond_of c.args.list.now.bonds) xs start) (both_parts pairs live)
+      outcome = ap (λ (xs : List ℕ). projected c.args.store.now.limit (bond_of c.args.self.now.bonds) xs start) (both_parts pairs live)
           ∙ stops _ (parallel_from pairs live 0) (batch_of pairs live 63) start c.in-Err.left.element c.in-Err.ensures.done.outcome;
       limit = c.project_colours.ensures.done.limit;
       copies = c.project_colours.ensures.done.copies;
@@ -26,12 +26,12 @@ returns-in-Err-clause-done g c =
 
 pub returns-in-Err-project_serial-clause-done : goal.returns-in-Err-project_serial-clause-done
 returns-in-Err-project_serial-clause-done g c =
-    let pairs = c.args.list.now.colours.now.pairs in
-    let live = c.args.list.now.colours.now.live in
+    let pairs = c.args.self.now.colours.now.pairs in
+    let live = c.args.self.now.colours.now.live in
     let first = c.project_colours.ensures.done in
     let second = c.project_serial.ensures.done in
     record {
-      outcome = then_part (bond_of c.args.list.now.bonds) (parallel_from pairs live 0) (batch_of pairs live 63)
+      outcome = then_part (bond_of c.args.self.now.bonds) (parallel_from pairs live 0) (batch_of pairs live 63)
           (motion_of c.args.store.now c.args.totals.now) (motion_of c.project_colours.new.store c.project_colours.new.totals)
           (both_parts pairs live) first.limit c.in_default.ensures.done.outcome c.in-Err-project_serial.ensures.done.outcome;
       limit = second.limit ∙ first.limit;
@@ -43,12 +43,12 @@ returns-in-Err-project_serial-clause-done g c =
 
 pub returns-clause-done : goal.returns-clause-done
 returns-clause-done g c =
-    let pairs = c.args.list.now.colours.now.pairs in
-    let live = c.args.list.now.colours.now.live in
+    let pairs = c.args.self.now.colours.now.pairs in
+    let live = c.args.self.now.colours.now.live in
     let first = c.in_default.ensures.done in
     let second = c.in_default-project_serial.ensures.done in
     record {
-      outcome = then_part (bond_of c.args.list.now.bonds) (parallel_from pairs live 0) (batch_of pairs live 63)
+      outcome = then_part (bond_of c.args.self.now.bonds) (parallel_from pairs live 0) (batch_of pairs live 63)
           (motion_of c.args.store.now c.args.totals.now) (motion_of c.project_colours.new.store c.project_colours.new.totals)
           (both_parts pairs live) first.limit first.outcome second.outcome;
       limit = second.limit ∙ first.limit;
@@ -60,8 +60,8 @@ returns-clause-done g c =
 
 pub returns-clause-handed : goal.returns-clause-handed
 returns-clause-handed g c =
-    let pairs = c.args.list.now.colours.now.pairs in
-    let live = c.args.list.now.colours.now.live in
+    let pairs = c.args.self.now.colours.now.pairs in
+    let live = c.args.self.now.colours.now.live in
     omega (arith, order_parts pairs live, c.in_default.ensures.handed, c.in_default-project_serial.ensures.handed)
 
 pub returns-in-Err-clause-cost : goal.returns-in-Err-clause-cost
@@ -70,7 +70,7 @@ returns-in-Err-clause-cost g c =
       arith,
       c.project_colours.ensures.cost,
       bonds_are
-          (g.P.Projector.width c.args.projector.now) c.args.list.now.colours.now.pairs c.args.list.now.colours.now.live,
+          (g.P.Projector.width c.args.projector.now) c.args.self.now.colours.now.pairs c.args.self.now.colours.now.live,
     )
 
 pub returns-in-Err-project_serial-clause-cost : goal.returns-in-Err-project_serial-clause-cost
@@ -79,7 +79,7 @@ returns-in-Err-project_serial-clause-cost g c =
       arith,
       c.project_colours.ensures.cost,
       c.project_serial.ensures.cost,
-      bonds_are (g.P.Projector.width c.args.projector.now) c.args.list.now.colours.now.pairs c.args.list.now.colours.now.live,
+      bonds_are (g.P.Projector.width c.args.projector.now) c.args.self.now.colours.now.pairs c.args.self.now.colours.now.live,
     )
 
 pub returns-clause-cost : goal.returns-clause-cost
@@ -88,5 +88,5 @@ returns-clause-cost g c =
       arith,
       c.project_colours.ensures.cost,
       c.project_serial.ensures.cost,
-      bonds_are (g.P.Projector.width c.args.projector.now) c.args.list.now.colours.now.pairs c.args.list.now.colours.now.live,
+      bonds_are (g.P.Projector.width c.args.projector.now) c.args.self.now.colours.now.pairs c.args.self.now.colours.now.live,
     )

@@ -3,11 +3,11 @@ use Rattle.std.proofs.lemmas.List.{length-set}
 use Rattle.pbd_world.specs.declared.parts.Link.{Link}
 use Rattle.pbd_colour.specs.Pairs.{Coloured, dropped}
 use Rattle.pbd_step.proofs.Dropping.{cut_pairs, cut_flags}
-use Rattle.pbd_step.proofs.commands.cut.Goals as goal
+use Rattle.pbd_step.proofs.state.State.cut.Goals as goal
 
 pub returns-clause-links : goal.returns-clause-links
 returns-clause-links g c =
-    let links = c.args.state.now.links.items in
+    let links = c.args.self.now.links.items in
     let l = c.in-Ok.n in
     let is = c.dead.ensures ∙ ap (λ (x : Link). record x { live = false }) c.index-2.ensures in
     record {

@@ -9,36 +9,36 @@ use Rattle.pbd_world.specs.World.{is_tracked}
 use Rattle.pbd_step.specs.States.{world_of}
 use Rattle.pbd_step.proofs.Placing.{place_missing, place_outside, place_free, place_led, place_done, set_down}
 use Rattle.pbd_step.proofs.Weighing.{weights_stay}
-use Rattle.pbd_step.proofs.commands.place_held.Goals.{After-within, After-at-p}
-use Rattle.pbd_step.proofs.commands.place_held.Goals as goal
+use Rattle.pbd_step.proofs.state.State.place_held.Goals.{After-within, After-at-p}
+use Rattle.pbd_step.proofs.state.State.place_held.Goals as goal
 
 -- whether the place is within the limit of the world
-tested : (g : _) (c : After-within g) → c.within.result ≡ is_within c.args.state.now.store.limit c.args.to
+tested : (g : _) (c : After-within g) → c.within.result ≡ is_within c.args.self.now.store.limit c.args.to
 tested g c =
     let limit = fits c.limit.result (omega (arith, c.limit.ensures.high)) in
     let test : c.within.result ≡ is_within c.limit.result c.args.to = simp to_z-of_z at c.within.ensures.test in
     test ∙ ap (λ (l : ℤ). is_within l c.args.to) c.limit.ensures.value
 
 -- the particle of the number, as the world has it
-read : (g : _) (c : After-at-p g) → c.at-p.result ≡ particle_at c.args.state.now.store.particles c.args.i
-read g c = c.at-p.ensures.value ∙ ap (λ (n : ℕ). particle_at c.args.state.now.store.particles n) c.in-Some.ensures.there.0
+read : (g : _) (c : After-at-p g) → c.at-p.result ≡ particle_at c.args.self.now.store.particles c.args.i
+read g c = c.at-p.ensures.value ∙ ap (λ (n : ℕ). particle_at c.args.self.now.store.particles n) c.in-Some.ensures.there.0
 
 pub returns-in_default-clause-obeys : goal.returns-in_default-clause-obeys
 returns-in_default-clause-obeys g c = record {
   outcome =
-      place_missing (world_of c.args.setting.now c.args.state.now) c.args.i c.args.to c.in_default.ensures.missing;
+      place_missing (world_of c.args.setting.now c.args.self.now) c.args.i c.args.to c.in_default.ensures.missing;
   kept = refl;
 }
 
 pub returns-then-not-within-clause-obeys : goal.returns-then-not-within-clause-obeys
 returns-then-not-within-clause-obeys g c =
-    let w = world_of c.args.setting.now c.args.state.now in
+    let w = world_of c.args.setting.now c.args.self.now in
     let within = sym (tested g (goal.at.returns-then-not-within-clause-obeys g c).After-within) ∙ c.if-not-within.true in
     record { outcome = place_outside w c.args.i c.args.to c.in-Some.ensures.there.1 within; kept = refl }
 
 pub returns-then-not-p-clause-obeys : goal.returns-then-not-p-clause-obeys
 returns-then-not-p-clause-obeys g c =
-    let w = world_of c.args.setting.now c.args.state.now in
+    let w = world_of c.args.setting.now c.args.self.now in
     let there = c.in-Some.ensures.there in
     let within = sym (tested g (goal.at.returns-then-not-p-clause-obeys g c).After-within) ∙ c.if-not-within.false in
     let p_is = read g (goal.at.returns-then-not-p-clause-obeys g c).After-at-p in
@@ -49,7 +49,7 @@ returns-then-not-p-clause-obeys g c =
 
 pub returns-then-is_led-clause-obeys : goal.returns-then-is_led-clause-obeys
 returns-then-is_led-clause-obeys g c =
-    let w = world_of c.args.setting.now c.args.state.now in
+    let w = world_of c.args.setting.now c.args.self.now in
     let there = c.in-Some.ensures.there in
     let within = sym (tested g (goal.at.returns-then-is_led-clause-obeys g c).After-within) ∙ c.if-not-within.false in
     let p_is = read g (goal.at.returns-then-is_led-clause-obeys g c).After-at-p in
@@ -61,7 +61,7 @@ returns-then-is_led-clause-obeys g c =
 
 pub returns-clause-obeys : goal.returns-clause-obeys
 returns-clause-obeys g c =
-    let w = world_of c.args.setting.now c.args.state.now in
+    let w = world_of c.args.setting.now c.args.self.now in
     let there = c.in-Some.ensures.there in
     let within = sym (tested g (goal.at.returns-clause-obeys g c).After-within) ∙ c.if-not-within.false in
     let p_is = read g (goal.at.returns-clause-obeys g c).After-at-p in
@@ -80,5 +80,5 @@ pub returns-clause-weights : goal.returns-clause-weights
 returns-clause-weights g c =
     let p = c.at-p.result in
     let nothing = ap (λ (b : Bool). if b then 0 else p.weight) (not-false p.held c.if-not-p.false) in
-    weights_stay c.args.state.now.store.particles c.in-Some.n c.resting.result c.requires.weights
+    weights_stay c.args.self.now.store.particles c.in-Some.n c.resting.result c.requires.weights
     (ap effective_weight c.resting.ensures ∙ sym nothing ∙ ap effective_weight c.at-p.ensures.value) c.set.ensures.particles
