@@ -1,4 +1,3 @@
 mod Rows
-pub mod ScriptLemmas
 pub mod KeepingLemmas
 pub mod MarkedLaws

@@ -1,5 +1,5 @@
 -- The commands of a marks script.
-use Rattle.std.specs.Prelude.{ℕ, if◌then◌else◌, codes, List, [], ◌∷◌, filter_map, bytes_eq, Option, Some, None}
+use Rattle.std.specs.Prelude.{◌≡◌, refl, ℕ, if◌then◌else◌, codes, List, [], ◌∷◌, filter_map, bytes_eq, Option, Some, None}
 use Rattle.std.specs.Option.{option_map}
 use Rattle.std.specs.Str.Lines.{strip_carriage_return}
 use Rattle.pbd_script.specs.Lines.{pieces, words, only_count}
@@ -30,3 +30,7 @@ mark_line_command line = mark_or_plain (mark_words (words (strip_carriage_return
 -- the commands of a marks script in order
 unfoldable pub mark_commands : List ℕ → List MarkCommand
 mark_commands script = filter_map mark_line_command (pieces script)
+
+pub mark_commands_by_line : (script : List ℕ) → mark_commands script ≡ filter_map mark_line_command (pieces script)
+unfolding mark_commands
+mark_commands_by_line script = refl

@@ -2,12 +2,11 @@
 use Rattle.std.proofs.Common.{◌≡◌, ◌∙◌, sym, ap, subst, refl, ◌^◌, Bool, cond, zero, suc, ℕ, ◌+◌, ◌-◌, ◌<◌, ◌≤◌, true, false, List, [], ◌∷◌}
 use Rattle.std.proofs.Common.{◌++◌, length, take, drop, map, Option, Some, None, Result, Ok, Err, arith, inl, inr, ◌⊎◌, append_assoc}
 use Rattle.std.proofs.Common.{append-nil, codes, decimal, zero-add}
-use Rattle.std.specs.Prelude.{position, nat_le, option_map, ◌==◌, MatchOption}
+use Rattle.std.specs.Prelude.{position, nat_le, ◌==◌}
 use Rattle.std.specs.List.{join_with_byte, slice_split}
 use Rattle.std.proofs.lemmas.Bool.{cases_lt}
 use Rattle.std.proofs.lemmas.Bool.Decides.{nat_tests}
 use Rattle.std.proofs.lemmas.List.{drop_all, length-append, take_at}
-use Rattle.std.proofs.lemmas.List.Sums.{count_by-le-length}
 use Rattle.std.proofs.lemmas.List.Splits.{join_with_byte-slice_split, length-slice_split}
 use Rattle.pbd_script.specs.Lines.{pieces}
 use Rattle.pbd_script.proofs.LineLemmas.{split_none, split_some}
@@ -30,6 +29,7 @@ use Rattle.pbd_outcome.specs.Statuses.{line_in}
 use Rattle.pbd_outcome.proofs.HostLaws.{as_many, hosted_halves, hosted_on, hosted_scenes}
 use Rattle.pbd_run.specs.Calls.{AddsScene, Does, IsHostable, StopsAtScenes, StopsInScene}
 use Rattle.pbd_run.specs.Forms.{host_on}
+use Rattle.pbd_run.proofs.LoopLaws.{few_pieces}
 use Rattle.pbd_run.proofs.SplitLaws.{inspect}
 
 -- ---- the end of a line
@@ -116,10 +116,6 @@ too_many n many = grind (arith, nat_tests)
 
 -- ---- scenes, one after another
 
-abbrev pub left_of : Option (List ℕ) → List (List ℕ)
-left_of None = []
-left_of (Some r) = scenes r
-
 assoc : {A B C E : Type 0} (r : Result A E) (f : A → Result B E) (g : B → Result C E) → (r >>= f) >>= g ≡ (r >>= λ x. f x >>= g)
 assoc (Ok x) f g = refl
 assoc (Err e) f g = refl
@@ -151,9 +147,10 @@ next_scene : (n : ℕ) (text : List ℕ) (ts : List (List ℕ)) (p : Parts) → 
 unfolding scenes_in
 next_scene n text ts p is = rw is refl
 
-pub read_next : (all : List (List ℕ)) (text : List ℕ) (ts : List (List ℕ)) (read new : List Parts) → HasRead all (text ∷ ts) read
-    → AddsScene text read new → HasRead all ts new
-read_next all text ts read new has adds =
+pub read_next : (all left : List (List ℕ)) (text : List ℕ) (ts : List (List ℕ)) (read new : List Parts) → left ≡ text ∷ ts
+    → HasRead all left read → AddsScene text read new → HasRead all ts new
+read_next all left text ts read new here had adds =
+    let has : HasRead all (text ∷ ts) read = rw here at had in
     let longer : length (read ++ adds.parts ∷ []) ≡ length read + 1 = length-append read (adds.parts ∷ []) in
     rw adds.added (record {
       so_far = has.so_far ∙ ap (behind_read read) (next_scene (length read) text ts adds.parts adds.accepted)
@@ -162,9 +159,11 @@ read_next all text ts read new has adds =
       many = omega (arith, longer, has.many);
     })
 
-pub read_ends : (all : List (List ℕ)) (read : List Parts) → HasRead all [] read → scenes_in 0 all ≡ Ok read
+pub read_ends : (all left : List (List ℕ)) (read : List Parts) → left ≡ [] → HasRead all left read → scenes_in 0 all ≡ Ok read
 unfolding behind_read scenes_in
-read_ends all read has = has.so_far ∙ ap (λ (ps : List Parts). Ok ps) (append-nil read)
+read_ends all left read none had =
+    let has : HasRead all [] read = rw none at had in
+    has.so_far ∙ ap (λ (ps : List Parts). Ok ps) (append-nil read)
 
 stopped_next : (n : ℕ) (text : List ℕ) (ts : List (List ℕ)) (read : List Parts) (then : List Parts → Result Outcome Outcome)
     → behind_read read (scenes_in n (text ∷ ts)) >>= then ≡
@@ -177,18 +176,13 @@ stopped_next n text ts read then =
     ∙ assoc (with_fault (stops_in n) (scene_in range text))
     (λ parts. (scenes_in (n + 1) ts >>= λ more. Ok (parts ∷ more)) >>= λ more. Ok (read ++ more)) then
 
-pub read_stops : (all : List (List ℕ)) (text : List ℕ) (ts : List (List ℕ)) (read : List Parts) (a b : Option (List ℕ)) (m n : ℕ)
-    (s : Status) → HasRead all (text ∷ ts) read → StopsInScene (length read) text a b m n s → StopsAtScenes all a b m n s
-read_stops all text ts read a b m n s has stops = λ then.
+pub read_stops : (all left : List (List ℕ)) (text : List ℕ) (ts : List (List ℕ)) (read : List Parts) (a b : Option (List ℕ)) (m n : ℕ)
+    (s : Status) → left ≡ text ∷ ts → HasRead all left read → StopsInScene (length read) text a b m n s → StopsAtScenes all a b m n s
+read_stops all left text ts read a b m n s here had stops = λ then.
+    let has : HasRead all (text ∷ ts) read = rw here at had in
     rw (ap (λ r. settled (r >>= then)) has.so_far ∙ ap settled (stopped_next (length read) text ts read then)) (stops _)
 
--- ---- a scene that stops the run
-
 -- ---- the lines, one after another
-
-abbrev pub lines_of : Option (List ℕ) → List (List ℕ)
-lines_of None = []
-lines_of (Some b) = pieces b
 
 -- From the worlds and the lines at the start, it has come to these worlds and these lines, having appended the texts.
 pub record Serves (start : List World) (all : List (List ℕ)) (ws : List World) (left : List (List ℕ)) (old new : Option (List ℕ))
@@ -207,12 +201,13 @@ one_at_most : (b : Bool) → cond b 1 0 ≤ 1
 one_at_most true = omega arith
 one_at_most false = omega arith
 
-pub serves_next : (start ws vs : List World) (all : List (List ℕ)) (line : List ℕ) (left : List (List ℕ)) (a b c : Option (List ℕ))
-    (refused more : ℕ) (it : Served) → Serves start all ws (line ∷ left) a b refused → vs ≡ worlds_after ws (request_of (length ws) line)
+pub serves_next : (start ws vs : List World) (all ls : List (List ℕ)) (line : List ℕ) (left : List (List ℕ)) (a b c : Option (List ℕ))
+    (refused more : ℕ) (it : Served) → ls ≡ line ∷ left → Serves start all ws ls a b refused → vs ≡ worlds_after ws (request_of (length ws) line)
     → Appends b c (request_text ws (request_of (length ws) line)) → it ≡ served ws (request_of (length ws) line)
     → more ≡ cond (is_refusal it) 1 0 → Serves start all vs left a c (refused + more)
 unfolding hosted_text hosted_refused
-serves_next start ws vs all line left a b c refused more it has worlds wrote answer counts =
+serves_next start ws vs all ls line left a b c refused more it here had worlds wrote answer counts =
+    let has : Serves start all ws (line ∷ left) a b refused = rw here at had in
     let r : Request = request_of (length start) line in
     let same : request_of (length ws) line ≡ r = ap (λ n. request_of n line) has.many in
     let new : vs ≡ worlds_after ws r = worlds ∙ ap (worlds_after ws) same in
@@ -229,26 +224,32 @@ serves_next start ws vs all line left a b c refused more it has worlds wrote ans
       many = length-after ws r ∙ has.many;
     })
 
-pub serves_failed : (start ws : List World) (all : List (List ℕ)) (line : List ℕ) (left : List (List ℕ)) (a b c : Option (List ℕ))
-    (refused : ℕ) → Serves start all ws (line ∷ left) a b refused → AppendsPrefix b c (request_text ws (request_of (length ws) line))
+pub serves_failed : (start ws : List World) (all ls : List (List ℕ)) (line : List ℕ) (left : List (List ℕ)) (a b c : Option (List ℕ))
+    (refused : ℕ) → ls ≡ line ∷ left → Serves start all ws ls a b refused → AppendsPrefix b c (request_text ws (request_of (length ws) line))
     → AppendsPrefix a c (hosted_text start (requests_of (length start) all))
 unfolding hosted_text
-serves_failed start ws all line left a b c refused has wrote =
+serves_failed start ws all ls line left a b c refused here had wrote =
+    let has : Serves start all ws (line ∷ left) a b refused = rw here at had in
     let r : Request = request_of (length start) line in
     let same : request_of (length ws) line ≡ r = ap (λ n. request_of n line) has.many in
     let text : AppendsPrefix b c (request_text ws r) = subst (λ (q : Request). AppendsPrefix b c (request_text ws q)) same wrote in
     subst (λ (t : List ℕ). AppendsPrefix a c t) has.text (prefix_then a b c has.done _ has.bytes
     (prefix_longer b c (request_text ws r) (hosted_text (worlds_after ws r) (requests_of (length start) left)) text))
 
-pub serves_text : (start ws : List World) (all : List (List ℕ)) (a b : Option (List ℕ)) (refused : ℕ) → Serves start all ws [] a b refused
-    → Appends a b (hosted_text start (requests_of (length start) all))
-unfolding hosted_text
-serves_text start ws all a b refused has = subst (λ (t : List ℕ). Appends a b t) (sym (append-nil has.done) ∙ has.text) has.bytes
+-- what it has come to once no line is left
+pub record HasServed (start : List World) (all : List (List ℕ)) (old new : Option (List ℕ)) (refused : ℕ) : Type 0 where
+  pub bytes : Appends old new (hosted_text start (requests_of (length start) all))
+  pub count : refused ≡ hosted_refused start (requests_of (length start) all)
 
-pub serves_count : (start ws : List World) (all : List (List ℕ)) (a b : Option (List ℕ)) (refused : ℕ) → Serves start all ws [] a b refused
-    → refused ≡ hosted_refused start (requests_of (length start) all)
-unfolding hosted_refused
-serves_count start ws all a b refused has = omega (arith, has.count)
+pub serves_end : (start ws : List World) (all ls : List (List ℕ)) (a b : Option (List ℕ)) (refused : ℕ) → ls ≡ []
+    → Serves start all ws ls a b refused → HasServed start all a b refused
+unfolding hosted_text hosted_refused
+serves_end start ws all ls a b refused none had =
+    let has : Serves start all ws [] a b refused = rw none at had in
+    record {
+      bytes = subst (λ (t : List ℕ). Appends a b t) (sym (append-nil has.done) ∙ has.text) has.bytes;
+      count = omega (arith, has.count);
+    }
 
 -- ---- the whole input
 
@@ -292,49 +293,11 @@ hostable input text lines ps few read within short =
       short = omega (arith, within, short);
     }
 
--- ---- what is left at each turn, where `now` reads the bytes of a slice
-
-next_lines : {B : Type 0} (now : B → List ℕ) (all : List (List ℕ)) (x : List ℕ) (o : Option B)
-    → MatchOption o (all ≡ x ∷ []) (λ r. all ≡ x ∷ pieces (now r)) → all ≡ x ∷ lines_of (option_map now o)
-next_lines now all x None is = is
-next_lines now all x (Some r) is = is
-
-pub lines_here : {B : Type 0} (now : B → List ℕ) (rest : Option B) (b : B) (line : List ℕ) (later : Option B) → rest ≡ Some b
-    → MatchOption later (pieces (now b) ≡ line ∷ []) (λ r. pieces (now b) ≡ line ∷ pieces (now r))
-    → lines_of (option_map now rest) ≡ line ∷ lines_of (option_map now later)
-lines_here {B = B} now rest b line later is next = ap (λ (o : Option B). lines_of (option_map now o)) is
-    ∙ next_lines now (pieces (now b)) line later next
-
-pub lines_done : {B : Type 0} (now : B → List ℕ) (rest : Option B) → ((b : B) → rest ≡ Some b → ⊥) → lines_of (option_map now rest) ≡ []
-lines_done now None none = refl
-lines_done now (Some b) none = absurd (none b refl)
-
-next_scenes : {B : Type 0} (now : B → List ℕ) (all : List (List ℕ)) (x : List ℕ) (o : Option B)
-    → MatchOption o (all ≡ x ∷ []) (λ r. all ≡ x ∷ scenes (now r)) → all ≡ x ∷ left_of (option_map now o)
-next_scenes now all x None is = is
-next_scenes now all x (Some r) is = is
-
-pub scenes_here : {B : Type 0} (now : B → List ℕ) (rest : Option B) (b : B) (scene : List ℕ) (later : Option B) → rest ≡ Some b
-    → MatchOption later (scenes (now b) ≡ scene ∷ []) (λ r. scenes (now b) ≡ scene ∷ scenes (now r))
-    → left_of (option_map now rest) ≡ scene ∷ left_of (option_map now later)
-scenes_here {B = B} now rest b scene later is next = ap (λ (o : Option B). left_of (option_map now o)) is
-    ∙ next_scenes now (scenes (now b)) scene later next
-
-pub scenes_done : {B : Type 0} (now : B → List ℕ) (rest : Option B) → ((b : B) → rest ≡ Some b → ⊥) → left_of (option_map now rest) ≡ []
-scenes_done now None none = refl
-scenes_done now (Some b) none = absurd (none b refl)
-
-pub shorter : (ls : List (List ℕ)) (x : List ℕ) (left : List (List ℕ)) → ls ≡ x ∷ left → length left < length ls
-shorter ls x left is = omega (arith, ap length is)
-
 pub begins_with : (all : List (List ℕ)) (read : List Parts) → read ≡ [] → HasRead all all read
 begins_with all read none = rw none (read_begins all)
 
-pub few_pieces : (b : List ℕ) → length (pieces b) ≤ length b + 1
-few_pieces b = omega (arith, length-slice_split (λ x. x == 10) b, count_by-le-length (λ x. x == 10) b)
-
-pub counts_fit : (start ws : List World) (all : List (List ℕ)) (bytes line : List ℕ) (left : List (List ℕ)) (a b : Option (List ℕ))
-    (refused more : ℕ) (it : Served) → all ≡ pieces bytes → length bytes ≤ 2 ^ 31 → Serves start all ws (line ∷ left) a b refused
-    → more ≡ cond (is_refusal it) 1 0 → refused + more < 2 ^ 64
-counts_fit start ws all bytes line left a b refused more it is short has counts =
-    omega (arith, has.few, counts, one_at_most (is_refusal it), ap length is, few_pieces bytes, short)
+pub counts_fit : (start ws : List World) (bytes : List ℕ) (ls : List (List ℕ)) (line : List ℕ) (left : List (List ℕ))
+    (a b : Option (List ℕ)) (refused more : ℕ) (it : Served) → length bytes ≤ 2 ^ 31 → ls ≡ line ∷ left
+    → Serves start (pieces bytes) ws ls a b refused → more ≡ cond (is_refusal it) 1 0 → refused + more < 2 ^ 64
+counts_fit start ws bytes ls line left a b refused more it short here has counts =
+    omega (arith, has.few, counts, one_at_most (is_refusal it), ap length here, few_pieces bytes, short)

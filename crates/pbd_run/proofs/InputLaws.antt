@@ -1,11 +1,9 @@
 -- What the calls on an input did, by its halves or by the log that it is.
-use Rattle.std.proofs.Common.{◌≡◌, ◌∙◌, refl, ℕ, ◌≤◌, ◌^◌, length, List, [], Option, Some, None, Ok, inl, inr, arith, w64, FitsSigned}
+use Rattle.std.proofs.Common.{◌≡◌, ◌∙◌, refl, ℕ, ◌≤◌, ◌^◌, length, List, [], Option, Some, None, Ok, inl, inr, arith}
 use Rattle.std.specs.Prelude.{ℤ, IsTrue}
-use Rattle.pbd_num.proofs.Sizes.{fits}
 use Rattle.pbd_world.specs.declared.parts.Parts.{Parts}
 use Rattle.pbd_world.specs.Outcomes.{◌>>=◌}
 use Rattle.pbd_world.specs.Valid.{is_limit}
-use Rattle.pbd_mesh.proofs.Facts.{limit_bounds}
 use Rattle.pbd_log.specs.Logs.{Log, IsVersion}
 use Rattle.pbd_outcome.specs.declared.status.Status.{Status}
 use Rattle.pbd_outcome.specs.declared.status.Status.TheVariants.{NoScript}
@@ -13,9 +11,11 @@ use Rattle.pbd_outcome.specs.Outcome.{Outcome, log_outcome, range, recorded, sce
 use Rattle.pbd_outcome.specs.Split.{split}
 use Rattle.pbd_outcome.proofs.OutcomeLaws.{log_is, settled_ok}
 use Rattle.pbd_outcome.proofs.SceneLimits.{its_limit}
+use Rattle.pbd_run.specs.declared.inputs.ScriptJob.{ScriptJob}
+use Rattle.pbd_run.specs.declared.inputs.ScriptJob.TheVariants as scripts
 use Rattle.pbd_run.specs.declared.scene.SceneStop.{SceneStop}
-use Rattle.pbd_run.specs.Calls.{Does, EndsForScene, HasHalves, IsRecordable, Stops, StopsAtHalves, on_halves}
-use Rattle.pbd_run.specs.Forms.{marks_on, record_on, replay_on, simulate_on}
+use Rattle.pbd_run.specs.Calls.{Does, DoesSome, EndsForScene, HasHalves, IsOne, IsRecordable, Stops, StopsAtHalves, on_halves}
+use Rattle.pbd_run.specs.Forms.{job_of, marks_on, record_on, replay_on, script_on, simulate_on}
 use Rattle.pbd_run.proofs.SceneLaws.{scene_ended}
 
 -- ---- halves
@@ -46,52 +46,30 @@ recordable input text parts script has short = record {
   limit = its_limit range text parts has.scene;
 }
 
--- ---- forms on halves
+-- ---- jobs that run a script
 
-simulate_with : List ℕ → Parts → List ℕ → Outcome
-simulate_with text parts script = simulate_on parts script
+of_script : (job : ScriptJob) (input : List ℕ) → IsOne (job_of job) input (on_halves (script_on job) input)
+unfolding simulated recorded simulated_with_marks simulate_on record_on marks_on
+of_script (scripts.Simulate width) input = refl
+of_script (scripts.Record width) input = refl
+of_script (scripts.Scramble seed) input = refl
+of_script (scripts.Marks width) input = refl
 
-simulated_is : (input : List ℕ) → simulated input ≡ on_halves simulate_with input
-unfolding simulated simulate_with simulate_on
-simulated_is input = refl
+pub script_done : (job : ScriptJob) (input text : List ℕ) (parts : Parts) (script : List ℕ) (a b : Option (List ℕ)) (m n : ℕ) (s : Status)
+    → HasHalves input text parts script → Does (script_on job text parts script) a b m n s → DoesSome (IsOne (job_of job) input) a b m n s
+script_done job input text parts script a b m n s has does = record {
+  outcome = on_halves (script_on job) input;
+  its = of_script job input;
+  does = rw (of_halves (script_on job) input text parts script has) does;
+}
 
-pub simulated_did : (input text : List ℕ) (parts : Parts) (script : List ℕ) (a b : Option (List ℕ)) (m n : ℕ) (s : Status)
-    → HasHalves input text parts script → Does (simulate_on parts script) a b m n s → Does (simulated input) a b m n s
-unfolding simulate_with
-simulated_did input text parts script a b m n s has does =
-    rw (simulated_is input ∙ of_halves simulate_with input text parts script has) does
-
-pub simulated_stops : (input : List ℕ) (a b : Option (List ℕ)) (m n : ℕ) (s : Status) → StopsAtHalves input a b m n s
-    → Does (simulated input) a b m n s
-simulated_stops input a b m n s stopped = rw (simulated_is input) (stopped simulate_with)
-
-marks_with : List ℕ → Parts → List ℕ → Outcome
-marks_with text parts script = marks_on parts script
-
-with_marks_is : (input : List ℕ) → simulated_with_marks input ≡ on_halves marks_with input
-unfolding simulated_with_marks marks_with marks_on
-with_marks_is input = refl
-
-pub marks_did : (input text : List ℕ) (parts : Parts) (script : List ℕ) (a b : Option (List ℕ)) (m n : ℕ) (s : Status)
-    → HasHalves input text parts script → Does (marks_on parts script) a b m n s → Does (simulated_with_marks input) a b m n s
-unfolding marks_with
-marks_did input text parts script a b m n s has does = rw (with_marks_is input ∙ of_halves marks_with input text parts script has) does
-
-pub marks_stop : (input : List ℕ) (a b : Option (List ℕ)) (m n : ℕ) (s : Status) → StopsAtHalves input a b m n s
-    → Does (simulated_with_marks input) a b m n s
-marks_stop input a b m n s stopped = rw (with_marks_is input) (stopped marks_with)
-
-recorded_is : (input : List ℕ) → recorded input ≡ on_halves record_on input
-unfolding recorded record_on
-recorded_is input = refl
-
-pub recorded_did : (input text : List ℕ) (parts : Parts) (script : List ℕ) (a b : Option (List ℕ)) (m n : ℕ) (s : Status)
-    → HasHalves input text parts script → Does (record_on text parts script) a b m n s → Does (recorded input) a b m n s
-recorded_did input text parts script a b m n s has does = rw (recorded_is input ∙ of_halves record_on input text parts script has) does
-
-pub recorded_stops : (input : List ℕ) (a b : Option (List ℕ)) (m n : ℕ) (s : Status) → StopsAtHalves input a b m n s
-    → Does (recorded input) a b m n s
-recorded_stops input a b m n s stopped = rw (recorded_is input) (stopped record_on)
+pub script_stopped : (job : ScriptJob) (input : List ℕ) (a b : Option (List ℕ)) (m n : ℕ) (s : Status) → StopsAtHalves input a b m n s
+    → DoesSome (IsOne (job_of job) input) a b m n s
+script_stopped job input a b m n s stopped = record {
+  outcome = on_halves (script_on job) input;
+  its = of_script job input;
+  does = stopped (script_on job);
+}
 
 -- ---- a log
 

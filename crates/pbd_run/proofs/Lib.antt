@@ -3,9 +3,10 @@ pub mod GeneratedValid
 pub mod HostingLaws
 pub mod InputLaws
 pub mod LargeLaws
+pub mod LoopLaws
+pub mod MarkedRuns
 pub mod ObjLaws
 pub mod ObjTextLaws
-pub mod MarkedRuns
 pub mod RunLaws
 pub mod SceneLaws
 pub mod SessionLaws

@@ -1,27 +1,17 @@
 -- A session that is written as OBJ text, one command after another.
-use Rattle.std.proofs.Common.{◌≡◌, ◌∙◌, sym, ap, refl, subst, ℕ, ◌+◌, ◌≤◌, List, [], ◌∷◌, ◌++◌, length, Option, arith, append_assoc}
+use Rattle.std.proofs.Common.{◌≡◌, ◌∙◌, sym, refl, ℕ, ◌+◌, ◌≤◌, List, [], ◌∷◌, ◌++◌, length, Option, arith, append_assoc}
 use Rattle.std.proofs.Common.{append-nil, zero-add}
 use Rattle.std.specs.Prelude.{if◌then◌else◌}
 use Rattle.std.specs.Io.KnownBytes.{Appends}
-use Rattle.pbd_io.specs.Causes.{HasRisen}
 use Rattle.pbd_io.specs.Pieces.{AppendsPrefix}
 use Rattle.pbd_io.specs.Appending.{appends_nothing, appends_then, prefix_longer, prefix_then}
 use Rattle.pbd_world.specs.declared.command.Command.{Command}
 use Rattle.pbd_world.specs.declared.command.Reply.{Reply}
-use Rattle.pbd_world.specs.declared.command.Reply.TheVariants as replies
-use Rattle.pbd_world.specs.declared.parts.Parts.{Parts}
 use Rattle.pbd_world.specs.Meaning.{after, reply}
 use Rattle.pbd_world.specs.Session.{is_refused, refused_count}
-use Rattle.pbd_world.specs.World.{World, opened}
-use Rattle.pbd_script.specs.Commands.{commands}
+use Rattle.pbd_world.specs.World.{World}
 use Rattle.pbd_obj.specs.declared.mesh.ObjMesh.{ObjMesh}
-use Rattle.pbd_outcome.specs.declared.status.Status.{Status}
-use Rattle.pbd_outcome.specs.declared.status.Status.TheVariants.{WriteFault}
 use Rattle.pbd_outcome.specs.ObjText.{obj_session_text, obj_text}
-use Rattle.pbd_outcome.specs.Outcome.{ends_as, obj_outcome}
-use Rattle.pbd_run.specs.Calls.{Does}
-use Rattle.pbd_run.specs.Forms.{obj_on}
-use Rattle.pbd_run.proofs.SessionLaws.{ended}
 use Rattle.pbd_session.proofs.Running.{one_more}
 
 -- ---- the loop over the commands
@@ -92,32 +82,3 @@ ran_ends base mesh start all w left old new refused ran is =
       bytes = rw (sym (append-nil here.done) ∙ here.text) at here.bytes;
       count = omega (arith, here.count);
     }
-
--- ---- how it ended
-
--- The world v that a session has is the world w that its scene opens. These are stated over plain worlds, so that no step of
--- an opened world is computed.
-
-ended_in : (base : ℕ) (mesh : ObjMesh) (v w : World) (cs : List Command) (k : ℕ) (s : Status) (a b : Option (List ℕ)) (m n : ℕ) → v ≡ w
-    → s ≡ ends_as k → k ≡ refused_count v cs → Appends a b (obj_session_text base mesh v cs) → Does (obj_outcome base mesh w cs) a b m n s
-ended_in base mesh v w cs k s a b m n is ends refused wrote =
-    subst (λ (x : World). Does (obj_outcome base mesh x cs) a b m n s) is
-    (ended k s (obj_outcome base mesh v cs) a b m n ends (ap ends_as (sym refused)) wrote)
-
-failed_in : (base : ℕ) (mesh : ObjMesh) (v w : World) (cs : List Command) (a b : Option (List ℕ)) (m n : ℕ) → v ≡ w → HasRisen m n
-    → AppendsPrefix a b (obj_session_text base mesh v cs) → Does (obj_outcome base mesh w cs) a b m n WriteFault
-failed_in base mesh v w cs a b m n is rose wrote = subst (λ (x : World). Does (obj_outcome base mesh x cs) a b m n WriteFault) is
-    (rose, wrote)
-
-pub obj_ended : (base : ℕ) (mesh : ObjMesh) (v : World) (scene : Parts) (script : List ℕ) (k : ℕ) (s : Status) (a b : Option (List ℕ))
-    (m n : ℕ) → v ≡ opened scene → s ≡ ends_as k → k ≡ refused_count v (commands script)
-    → Appends a b (obj_session_text base mesh v (commands script)) → Does (obj_on base mesh scene script) a b m n s
-unfolding obj_on
-obj_ended base mesh v scene script k s a b m n is ends refused wrote =
-    ended_in base mesh v (opened scene) (commands script) k s a b m n is ends refused wrote
-
-pub obj_failed : (base : ℕ) (mesh : ObjMesh) (v : World) (scene : Parts) (script : List ℕ) (a b : Option (List ℕ)) (m n : ℕ)
-    → v ≡ opened scene → HasRisen m n → AppendsPrefix a b (obj_session_text base mesh v (commands script))
-    → Does (obj_on base mesh scene script) a b m n WriteFault
-unfolding obj_on
-obj_failed base mesh v scene script a b m n is rose wrote = failed_in base mesh v (opened scene) (commands script) a b m n is rose wrote

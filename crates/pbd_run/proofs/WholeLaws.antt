@@ -31,6 +31,8 @@ use Rattle.pbd_outcome.specs.Split.{split, host_split}
 use Rattle.pbd_outcome.specs.Outcome.{IsReplayed, Outcome, halves_in, large_outcome, log_outcome, mesh_in, meshed, parts_in, range}
 use Rattle.pbd_outcome.specs.Outcome.{recorded, replay_status, scene_in, settled, simulated, stops, summary_outcome, tree_in}
 use Rattle.pbd_outcome.specs.Outcome.{simulated_with_marks, few_in, host_halves_in, hosted, scenes_in, stops_in}
+use Rattle.pbd_outcome.specs.Outcome.{marks_outcome, record_outcome, session_outcome}
+use Rattle.pbd_run.specs.Calls.{on_halves}
 
 -- a status that an input may lead to: neither a fault of reading nor one of the words
 abbrev pub IsEnd : Status → Type 0
@@ -80,19 +82,31 @@ replay_ends : (end : ReplayEnd) → IsEnd (replay_status end)
 replay_ends (ends.Done refused) = either_ends (refused == 0)
 replay_ends (ends.Mismatch entry field recorded found) = tt
 
+-- what becomes of a scene and a script
+on_halves_whole : (outcome : List ℕ → Parts → List ℕ → Outcome)
+    → ((text : List ℕ) (parts : Parts) (script : List ℕ) → IsWhole (outcome text parts script)) → (input : List ℕ)
+    → IsWhole (on_halves outcome input)
+on_halves_whole outcome whole input =
+    then_whole (halves_in (split input)) _ (halves_whole (split input)) (λ h.
+    then_whole (scene_in range h.0) _ (scene_whole range h.0) (λ parts. whole h.0 parts h.1))
+
 pub simulated_whole : (input : List ℕ) → IsWhole (simulated input)
 unfolding simulated
-simulated_whole input =
-    then_whole (halves_in (split input)) _ (halves_whole (split input)) (λ h.
-    then_whole (scene_in range h.0) _ (scene_whole range h.0) (λ parts.
-    record { rest = refl; ended = either_ends (refused_count (opened parts) (commands h.1) == 0) }))
+simulated_whole input = on_halves_whole (λ text parts script. session_outcome (opened parts) (commands script))
+    (λ text parts script. record { rest = refl; ended = either_ends (refused_count (opened parts) (commands script) == 0) }) input
 
 pub recorded_whole : (input : List ℕ) → IsWhole (recorded input)
 unfolding recorded
-recorded_whole input =
-    then_whole (halves_in (split input)) _ (halves_whole (split input)) (λ h.
-    then_whole (scene_in range h.0) _ (scene_whole range h.0) (λ parts.
-    record { rest = refl; ended = either_ends (refused_count (opened parts) (commands h.1) == 0) }))
+recorded_whole input = on_halves_whole (λ text parts script. record_outcome text (opened parts) (commands script))
+    (λ text parts script. record { rest = refl; ended = either_ends (refused_count (opened parts) (commands script) == 0) }) input
+
+pub marks_whole : (input : List ℕ) → IsWhole (simulated_with_marks input)
+unfolding simulated_with_marks
+marks_whole input = on_halves_whole (λ text parts script. marks_outcome (unmarked (opened parts)) (mark_commands script))
+    (λ text parts script. record {
+      rest = refl;
+      ended = either_ends (marked_refused_count (unmarked (opened parts)) (mark_commands script) == 0);
+    }) input
 
 mesh_whole : {A : Type 0} (r : Result A ObjFault) → StopsWhole (mesh_in r)
 mesh_whole (Ok a) = tt
@@ -107,13 +121,6 @@ meshed_whole input =
     then_whole (mesh_in (read outer.0)) _ (mesh_whole (read outer.0)) (λ mesh.
     then_whole (mesh_in (with_mesh mesh parts)) _ (mesh_whole (with_mesh mesh parts)) (λ whole.
     record { rest = refl; ended = either_ends (refused_count (opened whole) (commands h.1) == 0) })))))
-
-pub marks_whole : (input : List ℕ) → IsWhole (simulated_with_marks input)
-unfolding simulated_with_marks
-marks_whole input =
-    then_whole (halves_in (split input)) _ (halves_whole (split input)) (λ h.
-    then_whole (scene_in range h.0) _ (scene_whole range h.0) (λ parts.
-    record { rest = refl; ended = either_ends (marked_refused_count (unmarked (opened parts)) (mark_commands h.1) == 0) }))
 
 log_whole : (log : Log) → IsWhole (log_outcome log)
 unfolding log_outcome

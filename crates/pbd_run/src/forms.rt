@@ -5,15 +5,10 @@ ghost use Rattle.pbd_outcome.specs.Clauses.{Promises, Reads, run_of};
 ghost use Rattle.pbd_run.specs.Calls.{DoesSome, IsOne, limit_of};
 
 use crate::host::host_input;
-use crate::large::large_run;
-use crate::marks::marks_input;
-use crate::obj::obj_input;
+use crate::inputs::{ScriptJob, obj_input, replay_input, script_input};
+use crate::large::{Large, large_run};
 use crate::reading::read_all;
-use crate::record::record_input;
-use crate::replay::replay_input;
 use crate::scene::{stop, stop_reading};
-use crate::scramble::scramble_input;
-use crate::simulate::simulate_input;
 use pbd_io::{Sink, Source};
 use pbd_outcome::{Job, Status};
 use std::alloc::Global;
@@ -43,12 +38,12 @@ fn on_input<K: Sink>(alloc: Global, job: Job, input: &[u8], sink: &mut K) -> Sta
     ensures { DoesSome (IsOne job input.now) (K.written sink.old) (K.written sink.new) (K.faults sink.old) (K.faults sink.new) result }
 {
     match job {
-        Job::Simulate(width) => simulate_input(alloc, width, input, sink),
-        Job::Record(width) => record_input(alloc, width, input, sink),
+        Job::Simulate(width) => script_input(alloc, ScriptJob::Simulate(width), input, sink),
+        Job::Record(width) => script_input(alloc, ScriptJob::Record(width), input, sink),
+        Job::Scramble { seed } => script_input(alloc, ScriptJob::Scramble { seed }, input, sink),
+        Job::Marks(width) => script_input(alloc, ScriptJob::Marks(width), input, sink),
         Job::Replay(width) => replay_input(alloc, width, input, sink),
-        Job::Scramble { seed } => scramble_input(alloc, seed, input, sink),
         Job::Obj(width) => obj_input(alloc, width, input, sink),
-        Job::Marks(width) => marks_input(alloc, width, input, sink),
         Job::Host(width) => host_input(alloc, width, input, sink),
         Job::Large { .. } => unreachable!(),
     }
@@ -80,7 +75,10 @@ pub fn perform<S: Source, K: Sink>(
         return stop(Status::Usage, sink);
     };
     match job {
-        Job::Large { width, seed, size } => large_run(alloc, width, seed, size, sink),
+        Job::Large { width, seed, size } => {
+            let large = Large { number: seed, size };
+            large_run(alloc, width, large, sink)
+        }
         _ => read_and_do(alloc, job, source, sink),
     }
 }

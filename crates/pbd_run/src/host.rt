@@ -10,15 +10,17 @@ ghost use Rattle.pbd_outcome.specs.Outcome.{hosted};
 ghost use Rattle.pbd_run.specs.Calls.{Does, IsHostable};
 ghost use Rattle.pbd_run.specs.Forms.{host_on};
 
+use crate::ending::status_of;
 use crate::form::{AtWidth, Form, Settled, with_counter};
 use crate::scene::stop;
 use crate::scenes::{are_few, read_scenes};
 use crate::split::split_at;
 use pbd_host::{Host, Served};
 use pbd_io::{Failed, Sink};
-use pbd_outcome::{Status, ends_as};
+use pbd_outcome::Status;
 use pbd_pair::{LaneProjector, Projector};
 use pbd_script::lines::first_line;
+use pbd_session::RunEnd;
 use pbd_store::Steps;
 use pbd_world::{Scene, Width};
 use std::alloc::{AllocError, Global};
@@ -41,32 +43,12 @@ impl<const L: usize> Form<L> for Hosting<'_> {
     fn over<G: Ledger, K: Sink>(self, alloc: Global, sink: &mut K, steps: &mut Steps<G>) -> Status {
         match Host::open(alloc, self.scenes, LaneProjector::<L>::new()) {
             Ok(mut host) => {
-                let status = on_host(self, &mut host, sink, steps);
+                let ended = serve_all(&mut host, self.lines, sink, steps);
                 drop(host);
-                status
+                status_of(ended)
             }
             Err(AllocError) => Status::OutOfMemory,
         }
-    }
-}
-
-/// Does what the lines ask of the sessions that the scenes opened.
-fn on_host<const L: usize, P: Projector<L> + Drop, G: Ledger, K: Sink>(
-    it: Hosting<'_>,
-    host: &mut Host<L, P>,
-    sink: &mut K,
-    steps: &mut Steps<G>,
-) -> Status
-    requires lanes_low { 0 < L }
-    requires lanes_high { L ≤ 16 }
-    requires ready { IsHostable it.scenes.now it.lines.now }
-    requires begins { host.old ≡ map opened it.scenes.now }
-    ensures { Does (host_on it.entry.scenes.now it.entry.lines.now)
-        (K.written sink.old) (K.written sink.new) (K.faults sink.old) (K.faults sink.new) result }
-{
-    match serve_all(host, it.lines, sink, steps) {
-        Ok(refused) => ends_as(refused),
-        Err(Failed) => Status::WriteFault,
     }
 }
 
@@ -86,13 +68,13 @@ fn serve_all<const L: usize, P: Projector<L> + Drop, G: Ledger, K: Sink>(
     lines: &[u8],
     sink: &mut K,
     steps: &mut Steps<G>,
-) -> Result<u64, Failed>
+) -> Result<RunEnd, Failed>
     requires lanes_low { 0 < L }
     requires lanes_high { L ≤ 16 }
     requires short { length lines.now ≤ 2 ^ 31 }
     ensures bytes { WritesPiece (K.written sink.old) (K.written sink.new) result
         (hosted_text host.old (requests_of (length host.old) (pieces lines.now))) }
-    ensures refused { IfOk result (λ n. n ≡ hosted_refused host.old (requests_of (length host.old) (pieces lines.now))) }
+    ensures refused { IfOk result (λ end. end.refused ≡ hosted_refused host.old (requests_of (length host.old) (pieces lines.now))) }
     ensures cause { HasCause (K.faults sink.old) (K.faults sink.new) result }
 {
     let mut refused = 0;
@@ -103,7 +85,7 @@ fn serve_all<const L: usize, P: Projector<L> + Drop, G: Ledger, K: Sink>(
         refused += refusals(served);
         rest = later;
     }
-    Ok(refused)
+    Ok(RunEnd { refused })
 }
 
 /// Does the tagged lines of an input on its scenes.

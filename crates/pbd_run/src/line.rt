@@ -54,7 +54,7 @@ fn push_word(line: &mut Line, word: &str)
 }
 
 /// The line of a scene that breaks a rule, without its newline.
-fn refused_words(rule: SceneRule, table: TableName, position: u32, key: KeyName) -> Line
+pub fn refused_words(rule: SceneRule, table: TableName, position: u32, key: KeyName) -> Line
     ensures bytes { result ++ 10 ∷ [] ≡ refused_line (broken_at rule table position key) }
     ensures short { length result ≤ 200 }
 {
@@ -79,7 +79,7 @@ pub fn refused_line(rule: SceneRule, table: TableName, position: u32, key: KeyNa
 }
 
 /// Ends a line with the number of its scene.
-fn push_in(line: &mut Line, n: u32)
+pub fn push_in(line: &mut Line, n: u32)
     requires { length line.old ≤ 200 }
     ensures { line.new ≡ line_in n (line.old ++ 10 ∷ []) }
 {
@@ -88,17 +88,13 @@ fn push_in(line: &mut Line, n: u32)
     line.push("\n");
 }
 
-/// The same for scene n of a host.
-pub fn refused_line_in(
-    n: u32,
-    rule: SceneRule,
-    table: TableName,
-    position: u32,
-    key: KeyName,
-) -> Line
-    ensures { result ≡ line_in n (refused_line (broken_at rule table position key)) }
+/// A line of these words and the number of its scene.
+fn words_in(words: &str, n: u32) -> Line
+    requires { length words.now ≤ 200 }
+    ensures { result ≡ line_in n (words.now ++ 10 ∷ []) }
 {
-    let mut line = refused_words(rule, table, position, key);
+    let mut line = Line::new();
+    line.push(words);
     push_in(&mut line, n);
     line
 }
@@ -107,20 +103,14 @@ pub fn refused_line_in(
 pub fn not_text_line_in(n: u32) -> Line
     ensures { result ≡ line_in n (status_line Status.SceneNotText) }
 {
-    let mut line = Line::new();
-    line.push("error 6 SceneNotText");
-    push_in(&mut line, n);
-    line
+    words_in("error 6 SceneNotText", n)
 }
 
 /// The line of a scene of a host that is no TOML.
 pub fn not_toml_line_in(n: u32) -> Line
     ensures { result ≡ line_in n (status_line Status.SceneNotToml) }
 {
-    let mut line = Line::new();
-    line.push("error 7 SceneNotToml");
-    push_in(&mut line, n);
-    line
+    words_in("error 7 SceneNotToml", n)
 }
 
 /// The line of bytes that are no log.

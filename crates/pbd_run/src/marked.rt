@@ -2,14 +2,14 @@
 ghost use Rattle.std.specs.Prelude.{◌≡◌, ◌<◌, ◌≤◌, ◌^◌, if◌then◌else◌, length, IfOk, OnOk, MatchResult, Ok, Err};
 ghost use Rattle.pbd_io.specs.Causes.{HasCause};
 ghost use Rattle.pbd_io.specs.Pieces.{WritesPiece};
-ghost use Rattle.pbd_world.specs.World.{opened};
-ghost use Rattle.pbd_marks.specs.Marked.{answer, answer_text, is_refused_answer, marked_after, marked_text, marked_refused_count, mark_refusal_line, unmarked};
+ghost use Rattle.pbd_marks.specs.Marked.{answer, answer_text, is_refused_answer, marked_after, marked_text, marked_refused_count, mark_refusal_line};
 ghost use Rattle.pbd_marks.specs.Script.{mark_commands};
+ghost use Rattle.pbd_run.specs.Marking.{begins_unmarked};
 
 use pbd_io::{Failed, Sink};
 use pbd_marks::{MarkCommand, MarkRefusal, MarkScript, Marks};
-use pbd_pair::Projector;
-use pbd_session::Session;
+use pbd_pair::LaneProjector;
+use pbd_session::{RunEnd, Session};
 use pbd_store::Steps;
 use pbd_world::{Reply, Scene};
 use std::alloc::{AllocError, Global};
@@ -21,12 +21,12 @@ pub type Answer = Result<Reply, MarkRefusal>;
 
 /// A session and its marks, seen as the world and the marks. Only opening takes memory.
 #[derive(Drop)]
-pub struct MarkedSession<const L: usize, P: Projector<L> + Drop> {
-    session: Session<L, P>,
-    marks: Marks<L, P>,
+pub struct MarkedSession<const L: usize> {
+    session: Session<L, LaneProjector<L>>,
+    marks: Marks<L, LaneProjector<L>>,
 }
 
-impl<const L: usize, P: Projector<L> + Drop> Model for MarkedSession<L, P> {
+impl<const L: usize> Model for MarkedSession<L> {
     ghost use Rattle.pbd_marks.specs.Keeping.{IsOfScene};
     ghost use Rattle.pbd_marks.specs.Marked.{Marked};
 
@@ -69,19 +69,15 @@ fn refusals(answer: &Answer) -> u64
     }
 }
 
-impl<const L: usize, P: Projector<L> + Drop> MarkedSession<L, P> {
+impl<const L: usize> MarkedSession<L> {
     /// The world of a scene before its first command, with empty marks. The only call that takes memory.
-    pub fn open(
-        alloc: Global,
-        scene: &Scene,
-        projector: P,
-    ) -> Result<MarkedSession<L, P>, AllocError>
-    where
-        P: Copy,
+    #[tactic(auto, unfolding(crate::specs::Marking::begins_unmarked))]
+    pub fn open(alloc: Global, scene: &Scene) -> Result<MarkedSession<L>, AllocError>
         requires lanes_low { 0 < L }
         requires lanes_high { L ≤ 16 }
-        ensures { IfOk result (λ marked. marked ≡ unmarked (opened scene.now)) }
+        ensures { IfOk result (λ marked. marked ≡ begins_unmarked scene.now) }
     {
+        let projector = LaneProjector::<L>::new();
         match Session::open(alloc, scene, projector) {
             Ok(session) => match Marks::open(alloc, scene, projector) {
                 Ok(marks) => Ok(MarkedSession { session, marks }),
@@ -134,12 +130,12 @@ impl<const L: usize, P: Projector<L> + Drop> MarkedSession<L, P> {
         script: &[u8],
         sink: &mut K,
         steps: &mut Steps<G>,
-    ) -> Result<u64, Failed>
+    ) -> Result<RunEnd, Failed>
         requires lanes_low { 0 < L }
         requires lanes_high { L ≤ 16 }
         requires script { length script.now ≤ 2 ^ 31 }
         ensures bytes { WritesPiece (K.written sink.old) (K.written sink.new) result (marked_text self.old (mark_commands script.now)) }
-        ensures refused { IfOk result (λ refused. refused ≡ marked_refused_count self.old (mark_commands script.now)) }
+        ensures refused { IfOk result (λ end. end.refused ≡ marked_refused_count self.old (mark_commands script.now)) }
         ensures cause { HasCause (K.faults sink.old) (K.faults sink.new) result }
     {
         let mut script = MarkScript::new(script);
@@ -149,6 +145,6 @@ impl<const L: usize, P: Projector<L> + Drop> MarkedSession<L, P> {
             self.write_answer(&answer, sink, steps)?;
             refused += refusals(&answer);
         }
-        Ok(refused)
+        Ok(RunEnd { refused })
     }
 }

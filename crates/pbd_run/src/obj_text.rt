@@ -74,23 +74,7 @@ impl Faces<'_> {
         Ok(())
     }
 
-    /// Writes the particles and then the faces.
-    fn write_mesh<const L: usize, P: Projector<L> + Drop, K: Sink, G: Ledger>(
-        &self,
-        session: &Session<L, P>,
-        sink: &mut K,
-        steps: &mut Steps<G>,
-    ) -> Result<(), Failed>
-        requires lanes_high { L ≤ 16 }
-        requires drawable { IsDrawable self.now.base self.now.mesh.now }
-        ensures bytes { WritesPiece (K.written sink.old) (K.written sink.new) result
-            (flat_map particle_line session.now.particles ++ flat_map (face_line self.now.base) (faces self.now.mesh.now)) }
-        ensures cause { HasCause (K.faults sink.old) (K.faults sink.new) result }
-    {
-        write_particles(session, sink, steps)?;
-        self.write_faces(sink)
-    }
-
+    /// Writes the first line, the particles and then the faces.
     fn write_frame<const L: usize, P: Projector<L> + Drop, K: Sink, G: Ledger>(
         &self,
         session: &Session<L, P>,
@@ -104,7 +88,8 @@ impl Faces<'_> {
         ensures cause { HasCause (K.faults sink.old) (K.faults sink.new) result }
     {
         session.write_header_after(COMMENT, sink)?;
-        self.write_mesh(session, sink, steps)
+        write_particles(session, sink, steps)?;
+        self.write_faces(sink)
     }
 
     /// Writes a reply, with frames and ledgers read from the session's world as it is now.

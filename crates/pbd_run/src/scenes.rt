@@ -4,7 +4,7 @@ ghost use Rattle.pbd_outcome.specs.Outcome.{scenes_in};
 ghost use Rattle.pbd_outcome.specs.Split.{scenes};
 ghost use Rattle.pbd_run.specs.Calls.{AddsScene, Does, EndsForSceneIn, IsPlain, StopsAtScenes, StopsInScene};
 
-use crate::line::{not_text_line_in, not_toml_line_in, refused_line_in};
+use crate::line::{not_text_line_in, not_toml_line_in, push_in, refused_words};
 use crate::scene::{SceneStop, scene_in};
 use crate::split::split;
 use pbd_io::{Failed, Sink};
@@ -71,7 +71,8 @@ fn stop_in<K: Sink>(n: u32, why: SceneStop, sink: &mut K) -> Status
                 key,
             },
         ) => {
-            let line = refused_line_in(n, rule, table, position, key);
+            let mut line = refused_words(rule, table, position, key);
+            push_in(&mut line, n);
             end_with(&line, Status::SceneRefused, sink)
         }
     }

@@ -6,29 +6,8 @@ use Rattle.std.specs.List.{cons_option, slice_split, onto_first}
 use Rattle.std.proofs.lemmas.List.Elements.{filter_map-append}
 use Rattle.std.proofs.lemmas.List.Splits.{length-slice_split}
 use Rattle.std.proofs.lemmas.List.Sums.{count_by-le-length}
-use Rattle.pbd_world.specs.declared.command.Command.{Command}
 use Rattle.pbd_script.specs.Lines.{pieces}
 use Rattle.pbd_script.specs.Commands.{line_command, commands}
-
-pub commands_nil : commands [] ≡ []
-unfolding commands
-commands_nil = refl
-
-pub step_some : (b p r : List ℕ) (c : Command) → pieces b ≡ p ∷ pieces r → line_command p ≡ Some c → commands b ≡ c ∷ commands r
-unfolding commands
-step_some b p r c parts is = rw (parts, is) refl
-
-pub step_none : (b p r : List ℕ) → pieces b ≡ p ∷ pieces r → line_command p ≡ None → commands b ≡ commands r
-unfolding commands
-step_none b p r parts is = rw (parts, is) refl
-
-pub last_some : (b p : List ℕ) (c : Command) → pieces b ≡ p ∷ [] → line_command p ≡ Some c → commands b ≡ c ∷ commands []
-unfolding commands
-last_some b p c parts is = rw (parts, is) refl
-
-pub last_none : (b p : List ℕ) → pieces b ≡ p ∷ [] → line_command p ≡ None → commands b ≡ []
-unfolding commands
-last_none b p parts is = rw (parts, is) refl
 
 pub cons_le : {Y : Type 0} (o : Option Y) (ys : List Y) → length (cons_option o ys) ≤ length ys + 1
 cons_le None ys = omega arith
@@ -38,15 +17,17 @@ pub filter_map_le : {X Y : Type 0} (f : X → Option Y) (xs : List X) → length
 filter_map_le f [] = omega arith
 filter_map_le f (x ∷ xs) = omega (arith, cons_le (f x) (filter_map f xs), filter_map_le f xs)
 
--- a script has no more commands than bytes, but for one
+-- a text has no more lines than bytes, but for one
+pub pieces_few : (s : List ℕ) → length (pieces s) ≤ length s + 1
+pieces_few s = omega (arith, length-slice_split (λ b. b == 10) s, count_by-le-length (λ b. b == 10) s)
+
+-- and no more commands than lines
+pub few_by_line : {C : Type 0} (f : List ℕ → Option C) (s : List ℕ) → length (filter_map f (pieces s)) ≤ length s + 1
+few_by_line f s = omega (arith, filter_map_le f (pieces s), pieces_few s)
+
 pub commands_few : (s : List ℕ) → length (commands s) ≤ length s + 1
 unfolding commands
-commands_few s = omega (
-  arith,
-  filter_map_le line_command (pieces s),
-  length-slice_split (λ b. b == 10) s,
-  count_by-le-length (λ b. b == 10) s,
-)
+commands_few s = few_by_line line_command s
 
 -- ---- texts side by side
 

@@ -1,5 +1,5 @@
 -- The commands of a script.
-use Rattle.std.specs.Prelude.{ℕ, ℤ, nat_eq, if◌then◌else◌, codes, List, [], ◌∷◌, filter_map, Option, Some, None, unwrap_or}
+use Rattle.std.specs.Prelude.{◌≡◌, refl, ℕ, ℤ, nat_eq, if◌then◌else◌, codes, List, [], ◌∷◌, filter_map, Option, Some, None, unwrap_or}
 use Rattle.std.specs.List.{starts_with}
 use Rattle.std.specs.Option.{option_map, option_and_then}
 use Rattle.std.specs.Str.Lines.{strip_carriage_return}
@@ -60,3 +60,7 @@ line_command line = words_command (words (strip_carriage_return line))
 -- the commands of a script in order
 unfoldable pub commands : List ℕ → List Command
 commands script = filter_map line_command (pieces script)
+
+pub commands_by_line : (script : List ℕ) → commands script ≡ filter_map line_command (pieces script)
+unfolding commands
+commands_by_line script = refl

@@ -1,12 +1,18 @@
 -- Lines, words and numbers in a text of bytes.
 use Rattle.std.specs.Prelude.{ℕ, ◌+◌, ◌-◌, ◌*◌, ◌^◌, ℤ, pos, neg_ℤ, Bool, ◌&&◌, ◌||◌, not, ◌==◌, nat_le, if◌then◌else◌, List, [], ◌∷◌}
 use Rattle.std.specs.Prelude.{length, drop, filter, Option, None, Some}
+use Rattle.std.specs.Borrow.{Bor}
 use Rattle.std.specs.List.{slice_split, position_or_len, before_first, list_all}
 use Rattle.std.specs.Option.{option_map}
 
 -- what stands between newlines: the last piece is empty where the text ends with one
 abbrev pub pieces : List ℕ → List (List ℕ)
 pieces bytes = slice_split (λ b. b == 10) bytes
+
+-- what is left of a text, seen as a list: nothing once all of it was read
+abbrev pub left_of : {A : Type 0} → (List ℕ → List A) → Option (Bor (List ℕ)) → List A
+left_of seen None = []
+left_of seen (Some bytes) = seen bytes.now
 
 -- a space or a tab
 abbrev pub is_blank : ℕ → Bool

@@ -11,4 +11,4 @@ pub use laws::{
     counts_are_read_back, lines_that_are_not_ascii_are_bad, numbers_are_read_back,
     scripts_are_read_line_by_line,
 };
-pub use script::Script;
+pub use script::{CommandLines, LineCommand, Script};

@@ -1,76 +1,92 @@
 //! The commands of a script in order.
-ghost use Rattle.std.specs.Prelude.{◌≡◌, ◌≤◌, ◌+◌, [], ◌∷◌, length, MatchOption};
-ghost use Rattle.pbd_script.specs.Commands.{commands};
+ghost use Rattle.std.specs.Prelude.{◌≡◌, ◌≤◌, ◌+◌, ℕ, List, Option, [], ◌∷◌, length, filter_map, MatchOption};
+ghost use Rattle.pbd_script.specs.Commands.{commands, commands_by_line, line_command};
+ghost use Rattle.pbd_script.specs.Lines.{pieces, left_of};
 
-use crate::line_command;
 use crate::lines::first_line;
 use pbd_world::Command;
-use std::marker::Model;
+use std::marker::{Model, PhantomData};
 
-/// The commands of a script that are still to come. Clauses see their list.
+/// What a line of a script can say.
+pub trait LineCommand: Sized + Drop {
+    ghost of_line: { List ℕ → Option Self };
+
+    ghost of_script: { List ℕ → List Self };
+
+    /// The command of a line without its newline, where it has one.
+    fn of_line(line: &[u8]) -> Option<Self>
+        ensures { result ≡ of_line line.now };
+
+    /// The commands of a script are those of its lines, in order.
+    ghost line_by_line: { (script : List ℕ) → of_script script ≡ filter_map of_line (pieces script) };
+}
+
+impl LineCommand for Command {
+    ghost of_line = { line_command };
+
+    ghost of_script = { commands };
+
+    ghost line_by_line = { commands_by_line };
+
+    fn of_line(line: &[u8]) -> Option<Command> {
+        crate::line_command(line)
+    }
+}
+
+/// The commands of lines that are still to come. Clauses see their list.
 #[derive(Drop)]
-pub struct Script<'a> {
-    rest: &'a [u8],
+pub struct CommandLines<'a, C: LineCommand> {
+    rest: Option<&'a [u8]>,
+    of: PhantomData<C>,
 }
 
-impl<'a> Model for Script<'a> {
-    ghost use Rattle.std.specs.Prelude.{List};
-    ghost use Rattle.pbd_world.specs.declared.command.Command.{Command};
-    ghost use Rattle.pbd_script.specs.Commands.{commands};
+impl<'a, C: LineCommand> Model for CommandLines<'a, C> {
+    ghost use Rattle.std.specs.Prelude.{List, filter_map};
+    ghost use Rattle.pbd_script.specs.Lines.{pieces, left_of};
 
-    ghost Value = { List Command };
+    ghost Value = { List C };
 
-    ghost view = { λ s. commands s.rest.now };
+    ghost view = { λ s. filter_map C.of_line (left_of pieces s.rest) };
 }
 
-impl<'a> Script<'a> {
+impl<'a, C: LineCommand> CommandLines<'a, C> {
     /// A script has at most one command more than bytes.
-    #[tactic(auto, using(crate::proofs::CommandLemmas::commands_few))]
-    pub fn new(bytes: &'a [u8]) -> Script<'a>
-        ensures all { result ≡ commands bytes.now }
+    pub fn new(bytes: &'a [u8]) -> CommandLines<'a, C>
+        ensures all { result ≡ C.of_script bytes.now }
         ensures few { length result ≤ length bytes.now + 1 }
     {
-        Script { rest: bytes }
+        CommandLines {
+            rest: Some(bytes),
+            of: PhantomData,
+        }
     }
 
     /// The next command. None comes exactly at the end.
-    pub fn next(&mut self) -> Option<Command>
+    pub fn next(&mut self) -> Option<C>
         ensures { MatchOption result ((self.old ≡ []) × (self.new ≡ []))
             (λ command. self.old ≡ command ∷ self.new) }
     {
-        match next_command(self.rest) {
-            Some((command, rest)) => {
-                self.rest = rest;
-                Some(command)
-            }
-            None => {
-                self.rest = &[];
-                None
-            }
-        }
+        let (command, rest) = next_command(self.rest)?;
+        self.rest = rest;
+        Some(command)
     }
 }
 
-#[tactic(auto, using(crate::proofs::CommandLemmas::step_some, crate::proofs::CommandLemmas::step_none, crate::proofs::CommandLemmas::last_some, crate::proofs::CommandLemmas::last_none))]
-fn next_command(bytes: &[u8]) -> Option<(Command, &[u8])>
-    ensures { MatchOption result (commands bytes.now ≡ [])
-        (λ x. commands bytes.now ≡ x.0 ∷ commands x.1.now) }
+/// The commands of a script that are still to come.
+pub type Script<'a> = CommandLines<'a, Command>;
+
+/// The first command of what is left of a script, and what is left behind its line.
+fn next_command<C: LineCommand>(script: Option<&[u8]>) -> Option<(C, Option<&[u8]>)>
+    ensures { MatchOption result (filter_map C.of_line (left_of pieces script.entry) ≡ [])
+        (λ x. filter_map C.of_line (left_of pieces script.entry) ≡ x.0 ∷ filter_map C.of_line (left_of pieces x.1)) }
 {
-    let mut rest = bytes;
-    loop {
-        match first_line(rest) {
-            (line, None) => {
-                return match line_command(line) {
-                    Some(command) => Some((command, &[])),
-                    None => None,
-                };
-            }
-            (line, Some(next)) => {
-                if let Some(command) = line_command(line) {
-                    return Some((command, next));
-                }
-                rest = next;
-            }
+    let mut rest = script;
+    while let Some(bytes) = rest {
+        let (line, later) = first_line(bytes);
+        if let Some(command) = C::of_line(line) {
+            return Some((command, later));
         }
+        rest = later;
     }
+    None
 }

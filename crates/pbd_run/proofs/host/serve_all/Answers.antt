@@ -1,10 +1,15 @@
-use Rattle.std.proofs.Common.{ℕ, List, Bor, arith, rules, refl, subst}
+use Rattle.std.proofs.Common.{◌≡◌, ◌∷◌, arith, rules}
 use Rattle.std.proofs.lemmas.Result.{err_from_is_err_and}
-use Rattle.std.specs.Prelude.{option_map}
 use Rattle.pbd_script.specs.Lines.{pieces}
-use Rattle.pbd_run.proofs.HostingLaws.{Serves, counts_fit, lines_done, lines_here, lines_of, serves_begin, serves_count, serves_failed}
-use Rattle.pbd_run.proofs.HostingLaws.{serves_next, serves_text, shorter}
+use Rattle.pbd_run.proofs.HostingLaws.{counts_fit, serves_begin, serves_end, serves_failed, serves_next}
+use Rattle.pbd_run.proofs.LoopLaws.{first_left, left_of, none_left, shorter}
 use Rattle.pbd_run.proofs.host.serve_all.Goals as goal
+
+-- the line of this turn, and those behind it
+here : (g : _) (c : goal.After-refusals-refused g) → left_of pieces c.loop-rest.rest
+    ≡ c.first_line.result.0.now ∷ left_of pieces c.first_line.result.1
+here g c = first_left pieces c.loop-rest.rest c.first_line.result.1 c.in-Some.bytes c.first_line.result.0.now c.in-Some.is
+    c.first_line.ensures.lines
 
 pub loop-rest-init : goal.loop-rest-init
 loop-rest-init g c = record {
@@ -15,57 +20,31 @@ loop-rest-init g c = record {
 pub returns-in_err-served-clause-bytes : goal.returns-in_err-served-clause-bytes
 returns-in_err-served-clause-bytes g c =
     let p = err_from_is_err_and c.from_residual.result c.from_residual.ensures.1 in
-    let left = lines_of (option_map (λ (r : Bor (List ℕ)). r.now) c.first_line.result.1) in
-    let here = lines_here {B = Bor (List ℕ)} (λ r. r.now) c.loop-rest.rest c.in-Some.bytes c.first_line.result.0.now c.first_line.result.1
-    c.in-Some.is c.first_line.ensures.lines in
-    let serves = subst (λ (ls : List (List ℕ)). Serves c.args.host.now (pieces c.args.lines.now) c.loop-rest.host ls
-    (g.K.Sink.written c.args.sink.now) (g.K.Sink.written c.loop-rest.sink) c.loop-rest.refused) here c.loop-rest.invariant.serves in
-    rw p.1 (serves_failed c.args.host.now c.loop-rest.host
-    (pieces c.args.lines.now) c.first_line.result.0.now left _ _ _ c.loop-rest.refused serves c.in_err-served.ensures.bytes)
+    let line = first_left pieces c.loop-rest.rest c.first_line.result.1 c.in-Some.bytes c.first_line.result.0.now c.in-Some.is
+    c.first_line.ensures.lines in
+    rw p.1 (serves_failed _ _ _ _ c.first_line.result.0.now _ _ _ _ _ line c.loop-rest.invariant.serves
+    c.in_err-served.ensures.bytes)
 
 pub overflow_add-refused : goal.overflow_add-refused
 overflow_add-refused g c =
-    let left = lines_of (option_map (λ (r : Bor (List ℕ)). r.now) c.first_line.result.1) in
-    let here = lines_here {B = Bor (List ℕ)} (λ r. r.now) c.loop-rest.rest c.in-Some.bytes c.first_line.result.0.now c.first_line.result.1
-    c.in-Some.is c.first_line.ensures.lines in
-    let serves = subst (λ (ls : List (List ℕ)). Serves c.args.host.now (pieces c.args.lines.now) c.loop-rest.host ls
-    (g.K.Sink.written c.args.sink.now) (g.K.Sink.written c.loop-rest.sink) c.loop-rest.refused) here c.loop-rest.invariant.serves in
-    let fits = counts_fit c.args.host.now c.loop-rest.host
-    (pieces c.args.lines.now) c.args.lines.now c.first_line.result.0.now left _ _ c.loop-rest.refused c.refusals-refused.result
-    c.in_ok-served.served refl c.requires.short serves c.refusals-refused.ensures in
+    let fits = counts_fit _ _ c.args.lines.now _ c.first_line.result.0.now _ _ _ _ _ _ c.requires.short (here g c)
+    c.loop-rest.invariant.serves c.refusals-refused.ensures in
     omega (arith, fits)
 
 pub loop-rest-smaller : goal.loop-rest-smaller
-loop-rest-smaller g c =
-    shorter (lines_of (option_map (λ (r : Bor (List ℕ)). r.now) c.loop-rest.rest)) c.first_line.result.0.now
-    (lines_of (option_map (λ (r : Bor (List ℕ)). r.now) c.first_line.result.1))
-    (lines_here {B = Bor (List ℕ)} (λ r. r.now) c.loop-rest.rest c.in-Some.bytes c.first_line.result.0.now c.first_line.result.1
-    c.in-Some.is c.first_line.ensures.lines)
+loop-rest-smaller g c = shorter _ _ _ (here g c)
 
 pub loop-rest-preserved : goal.loop-rest-preserved
-loop-rest-preserved g c =
-    let left = lines_of (option_map (λ (r : Bor (List ℕ)). r.now) c.first_line.result.1) in
-    let here = lines_here {B = Bor (List ℕ)} (λ r. r.now) c.loop-rest.rest c.in-Some.bytes c.first_line.result.0.now c.first_line.result.1
-    c.in-Some.is c.first_line.ensures.lines in
-    let serves = subst (λ (ls : List (List ℕ)). Serves c.args.host.now (pieces c.args.lines.now) c.loop-rest.host ls
-    (g.K.Sink.written c.args.sink.now) (g.K.Sink.written c.loop-rest.sink) c.loop-rest.refused) here c.loop-rest.invariant.serves in
-    record {
-      serves = serves_next c.args.host.now c.loop-rest.host c.serve_line.new.self
-          (pieces c.args.lines.now) c.first_line.result.0.now left _ _ _ c.loop-rest.refused c.refusals-refused.result c.in_ok-served.served
-          serves c.serve_line.ensures.worlds c.in_ok-served.ensures.bytes c.in_ok-served.ensures.served c.refusals-refused.ensures;
-      later = omega (arith, c.loop-rest.invariant.later, c.serve_line.ensures.cause);
-    }
+loop-rest-preserved g c = record {
+  serves = serves_next _ _ _ _ _ c.first_line.result.0.now _ _ _ _ _ _ _ (here g c) c.loop-rest.invariant.serves
+      c.serve_line.ensures.worlds c.in_ok-served.ensures.bytes c.in_ok-served.ensures.served c.refusals-refused.ensures;
+  later = omega (arith, c.loop-rest.invariant.later, c.serve_line.ensures.cause);
+}
 
 pub returns-clause-bytes : goal.returns-clause-bytes
-returns-clause-bytes g c =
-    let done = lines_done {B = Bor (List ℕ)} (λ r. r.now) c.loop-rest.rest c.in_default.not-Some in
-    serves_text c.args.host.now c.loop-rest.host (pieces c.args.lines.now) _ _ c.loop-rest.refused
-    (subst (λ (ls : List (List ℕ)). Serves c.args.host.now (pieces c.args.lines.now) c.loop-rest.host ls
-    (g.K.Sink.written c.args.sink.now) (g.K.Sink.written c.loop-rest.sink) c.loop-rest.refused) done c.loop-rest.invariant.serves)
+returns-clause-bytes g c = (serves_end _ _ _ _ _ _ _ (none_left pieces c.loop-rest.rest c.in_default.not-Some)
+    c.loop-rest.invariant.serves).bytes
 
 pub returns-clause-refused : goal.returns-clause-refused
-returns-clause-refused g c =
-    let done = lines_done {B = Bor (List ℕ)} (λ r. r.now) c.loop-rest.rest c.in_default.not-Some in
-    serves_count c.args.host.now c.loop-rest.host (pieces c.args.lines.now) _ _ c.loop-rest.refused
-    (subst (λ (ls : List (List ℕ)). Serves c.args.host.now (pieces c.args.lines.now) c.loop-rest.host ls
-    (g.K.Sink.written c.args.sink.now) (g.K.Sink.written c.loop-rest.sink) c.loop-rest.refused) done c.loop-rest.invariant.serves)
+returns-clause-refused g c = (serves_end _ _ _ _ _ _ _ (none_left pieces c.loop-rest.rest c.in_default.not-Some)
+    c.loop-rest.invariant.serves).count

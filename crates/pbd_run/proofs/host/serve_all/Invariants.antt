@@ -1,16 +1,16 @@
 use Rattle.std.proofs.Common.{◌≤◌, length}
-use Rattle.std.specs.Prelude.{option_map}
 use Rattle.pbd_script.specs.Lines.{pieces}
-use Rattle.pbd_run.proofs.HostingLaws.{Serves, lines_of}
+use Rattle.pbd_run.proofs.HostingLaws.{Serves}
+use Rattle.pbd_run.proofs.LoopLaws.{left_of}
 use Rattle.pbd_run.proofs.host.serve_all.Given as goal
 
 -- the lines so far are served
 abbrev pub invariant-loop-rest : goal.invariant-loop-rest
 invariant-loop-rest g l = record {
-  serves : Serves l.fn.host (pieces l.lines) l.host (lines_of (option_map (λ r. r.now) l.rest)) (g.K.Sink.written l.fn.sink)
-      (g.K.Sink.written l.sink) l.refused;
+  serves : Serves l.fn.host (pieces l.lines) l.host (left_of pieces l.rest) (g.K.Sink.written l.fn.sink) (g.K.Sink.written l.sink)
+      l.refused;
   later : g.K.Sink.faults l.fn.sink ≤ g.K.Sink.faults l.sink;
 }
 
 abbrev pub decreases-loop-rest : goal.decreases-loop-rest
-decreases-loop-rest g l = length (lines_of (option_map (λ r. r.now) l.rest))
+decreases-loop-rest g l = length (left_of pieces l.rest)

@@ -1,6 +1,7 @@
 use Rattle.std.proofs.Common.{arith, rules}
 use Rattle.std.proofs.lemmas.Result.{err_from_is_err_and}
 use Rattle.pbd_run.proofs.ObjLaws.{DoesOne, ran_begins, ran_next, ran_failed, ran_ends}
+use Rattle.pbd_run.proofs.LoopLaws.{refusals_fit}
 use Rattle.pbd_run.proofs.obj_text.Faces.run_script.Goals as goal
 use Rattle.pbd_session.proofs.Running.{one_more}
 
@@ -37,15 +38,7 @@ returns-clause-refused g c = rw (← c.new-script.ensures.all)
     ((ran_ends _ _ _ _ _ _ _ _ _ c.loop-command.invariant.ran c.in_default.ensures.0).count)
 
 pub overflow_add-refused : goal.overflow_add-refused
-overflow_add-refused g c =
-    let more = one_more c.apply-reply.result in
-    record {
-      fits = omega (
-        arith,
-        c.loop-command.invariant.ran.few,
-        c.new-script.ensures.few,
-        c.requires.script,
-        c.refusals-refused.ensures,
-        more,
-      );
-    }
+overflow_add-refused g c = record {
+  fits = refusals_fit _ _ _ _ _ _ c.loop-command.invariant.ran.few c.new-script.ensures.few c.requires.script c.refusals-refused.ensures
+      (one_more c.apply-reply.result);
+}

@@ -1,6 +1,8 @@
 //! What contracts see types by: nothing here.
 use super::sync::ledger::Ledger;
 
+pub use core::marker::PhantomData;
+
 /// How contracts see a type.
 pub trait Model {}
 

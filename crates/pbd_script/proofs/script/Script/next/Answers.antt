@@ -1,6 +1,0 @@
-use Rattle.std.proofs.Common.{◌∙◌, sym}
-use Rattle.pbd_script.proofs.CommandLemmas.{commands_nil}
-use Rattle.pbd_script.proofs.script.Script.next.Goals as goal
-
-pub returns-in-None : goal.returns-in-None
-returns-in-None c = (sym c.self.view_is ∙ c.in-None.ensures, commands_nil)
