@@ -1,7 +1,5 @@
 //! Tests of marks and their scripts.
 #![tactic(auto)]
 
-#[cfg(test)]
 mod lines;
-#[cfg(test)]
 mod worlds;

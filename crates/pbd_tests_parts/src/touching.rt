@@ -7,7 +7,9 @@ use pbd_colour::Colouring;
 use pbd_num::{RANGE, Vec3, inside};
 use pbd_self::SelfContacts;
 use pbd_store::{Steps, Store};
-use pbd_tests_rows::{WIDTHS, WrongRows, all_hold, held, resting, squared_distance, wrong_row};
+use pbd_tests_rows::{
+    WIDTHS, WrongRows, all_hold, at_widths, held, resting, squared_distance, wrong_row,
+};
 use pbd_world::Particle;
 use std::alloc::Global;
 use std::marker::Brand;
@@ -190,16 +192,7 @@ fn finds_counted<G: Ledger>(
     requires low { pos 0 ≤ℤ search.now.thickness }
     requires high { search.now.thickness ≤ℤ pos 1048576 }
 {
-    let mut steps: Steps<G> = Steps::open(blank);
-    let found = [
-        finds::<1, G>(alloc, particles, search, &mut steps),
-        finds::<2, G>(alloc, particles, search, &mut steps),
-        finds::<4, G>(alloc, particles, search, &mut steps),
-        finds::<8, G>(alloc, particles, search, &mut steps),
-        finds::<16, G>(alloc, particles, search, &mut steps),
-    ];
-    drop(steps);
-    found
+    at_widths!(blank, finds(alloc, particles, search))
 }
 
 // Looks for a case's contacts, with its links.

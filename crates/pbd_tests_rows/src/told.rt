@@ -32,3 +32,21 @@ pub fn all_hold(wrong: u32) -> Result<(), WrongRows> {
 
 /// What five answers are of.
 pub const WIDTHS: &str = "at widths 1, 2, 4, 8 and 16";
+
+/// What a function of this name comes to at widths 1, 2, 4, 8 and 16, with these arguments, and behind them the count `Steps<G>`
+/// of accesses that the blank opens.
+#[macro_export]
+macro_rules! at_widths {
+    ($blank:expr, $what:ident($($argument:expr),*)) => {{
+        let mut steps: Steps<G> = Steps::open($blank);
+        let come_to = [
+            $what::<1, G>($($argument,)* &mut steps),
+            $what::<2, G>($($argument,)* &mut steps),
+            $what::<4, G>($($argument,)* &mut steps),
+            $what::<8, G>($($argument,)* &mut steps),
+            $what::<16, G>($($argument,)* &mut steps),
+        ];
+        drop(steps);
+        come_to
+    }};
+}

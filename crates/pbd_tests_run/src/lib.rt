@@ -2,21 +2,12 @@
 //! lines, sixteen sessions in a hundred drawn orders, cloths, and sources and sinks that fail.
 #![tactic(auto)]
 
-#[cfg(test)]
 mod apart;
-#[cfg(test)]
 mod cloths;
-#[cfg(test)]
 mod generated;
-#[cfg(test)]
 mod logs;
-#[cfg(test)]
 mod meshes;
-#[cfg(test)]
 mod outside;
-#[cfg(test)]
 mod rows;
-#[cfg(test)]
 mod tags;
-#[cfg(test)]
 mod written;

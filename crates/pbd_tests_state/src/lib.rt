@@ -2,15 +2,9 @@
 //! another reads; digests and checksums.
 #![tactic(auto)]
 
-#[cfg(test)]
 mod drawn;
-#[cfg(test)]
 mod hostile;
-#[cfg(test)]
 mod names;
-#[cfg(test)]
 mod rows;
-#[cfg(test)]
 mod sessions;
-#[cfg(test)]
 mod sums;

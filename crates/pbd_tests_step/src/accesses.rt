@@ -6,6 +6,7 @@ use pbd_num::Vec3;
 use pbd_pair::{Bonds, LaneProjector, Projector};
 use pbd_step::Solver;
 use pbd_store::{Steps, Store};
+use pbd_tests_rows::at_widths;
 use pbd_world::{Kind, Left, Link, Particle, PartsFault, Scene, Totals};
 use std::alloc::{AllocError, Global};
 use std::marker::Brand;
@@ -177,16 +178,7 @@ fn counted<G: Ledger>(alloc: Global, blank: Blank, scene: &Scene, n: u64) -> [Ac
     requires parts { blank.parts ≡ G.parts }
     requires some { 0 < blank.parts }
 {
-    let mut steps: Steps<G> = Steps::open(blank);
-    let told = [
-        accesses::<1, G>(alloc, scene, n, &mut steps),
-        accesses::<2, G>(alloc, scene, n, &mut steps),
-        accesses::<4, G>(alloc, scene, n, &mut steps),
-        accesses::<8, G>(alloc, scene, n, &mut steps),
-        accesses::<16, G>(alloc, scene, n, &mut steps),
-    ];
-    drop(steps);
-    told
+    at_widths!(blank, accesses(alloc, scene, n))
 }
 
 /// What the bonds of a row may cost, at each width.

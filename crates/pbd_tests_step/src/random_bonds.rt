@@ -7,6 +7,7 @@ use pbd_num::{RANGE, Vec3};
 use pbd_pair::{LaneProjector, Projector, Scalar};
 use pbd_step::Solver;
 use pbd_store::Steps;
+use pbd_tests_rows::at_widths;
 use pbd_world::{Kind, Link, Particle, Parts, PartsFault, Refusal, Scene, Totals};
 use rand_core::utils::NextWord;
 use rand_pcg::Lcg64Xsh32;
@@ -615,16 +616,7 @@ fn counted<G: Ledger>(alloc: Global, blank: Blank, scene: &Scene) -> [Result<(),
     requires parts { blank.parts ≡ G.parts }
     requires some { 0 < blank.parts }
 {
-    let mut steps: Steps<G> = Steps::open(blank);
-    let alike = [
-        both_step_alike::<1, G>(alloc, scene, &mut steps),
-        both_step_alike::<2, G>(alloc, scene, &mut steps),
-        both_step_alike::<4, G>(alloc, scene, &mut steps),
-        both_step_alike::<8, G>(alloc, scene, &mut steps),
-        both_step_alike::<16, G>(alloc, scene, &mut steps),
-    ];
-    drop(steps);
-    alike
+    at_widths!(blank, both_step_alike(alloc, scene))
 }
 
 /// Takes a step of a scene with both projectors, at each width.

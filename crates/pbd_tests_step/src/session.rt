@@ -12,6 +12,7 @@ use pbd_num::Vec3;
 use pbd_pair::{LaneProjector, Projector, Scalar};
 use pbd_session::{Field, ReplayEnd, RunEnd, Session, run_record, run_replay, run_script};
 use pbd_store::Steps;
+use pbd_tests_rows::at_widths;
 use pbd_world::{Particle, Scene};
 use std::alloc::{AllocError, Global};
 use std::marker::Brand;
@@ -171,16 +172,7 @@ fn counted<G: Ledger>(alloc: Global, blank: Blank, scene: &Scene, case: &Case<'_
     requires parts { blank.parts ≡ G.parts }
     requires some { 0 < blank.parts }
 {
-    let mut steps: Steps<G> = Steps::open(blank);
-    let told = [
-        both_hold::<1, G>(alloc, scene, case, &mut steps),
-        both_hold::<2, G>(alloc, scene, case, &mut steps),
-        both_hold::<4, G>(alloc, scene, case, &mut steps),
-        both_hold::<8, G>(alloc, scene, case, &mut steps),
-        both_hold::<16, G>(alloc, scene, case, &mut steps),
-    ];
-    drop(steps);
-    told
+    at_widths!(blank, both_hold(alloc, scene, case))
 }
 
 /// Whether a case holds with both projectors, at each width.

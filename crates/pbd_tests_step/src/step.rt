@@ -7,6 +7,7 @@ use pbd_num::Vec3;
 use pbd_pair::{LaneProjector, Projector, Scalar};
 use pbd_step::Solver;
 use pbd_store::Steps;
+use pbd_tests_rows::at_widths;
 use pbd_world::{Command, Refusal, Scene};
 use std::alloc::Global;
 use std::marker::Brand;
@@ -131,16 +132,7 @@ fn counted<G: Ledger>(alloc: Global, blank: Blank, scene: &Scene, script: &Scrip
     requires parts { blank.parts ≡ G.parts }
     requires some { 0 < blank.parts }
 {
-    let mut steps: Steps<G> = Steps::open(blank);
-    let told = [
-        both_agree::<1, G>(alloc, scene, script, &mut steps),
-        both_agree::<2, G>(alloc, scene, script, &mut steps),
-        both_agree::<4, G>(alloc, scene, script, &mut steps),
-        both_agree::<8, G>(alloc, scene, script, &mut steps),
-        both_agree::<16, G>(alloc, scene, script, &mut steps),
-    ];
-    drop(steps);
-    told
+    at_widths!(blank, both_agree(alloc, scene, script))
 }
 
 /// Whether they do at each width.
