@@ -1,19 +1,22 @@
-/* What going back costs, in processor time: eight turns of a cloth of 32 by 32, a step of 8 passes each, gone back and played once
+/* What going back costs, in time: eight turns of a cloth of 32 by 32, a step of 8 passes each, gone back and played once
  * more, with the world saved before each; and lak_restore beside lak_save, where nothing but a step lies between the two, and where
- * a particle was let go or a link cut as well. The least of some rounds. */
+ * a particle was let go or a link cut as well. Both are timed right after a step, as a game calls them. The least of some rounds. */
 #include "lakmozet.h"
 
 #include <stdio.h>
 #include <time.h>
 
-enum { TURNS = 8, STEPS_BEFORE = 60, ROUNDS = 50, SAVES = 20 };
+enum { TURNS = 8, STEPS_BEFORE = 60, ROUNDS = 50 };
 
 /* What is done between a save and going back to it. */
 typedef enum { STEPPED, UNPINNED, CUT, DEEDS } deed;
 
+/* The time in microseconds. */
 static double now(void)
 {
-    return (double)clock() * 1e6 / CLOCKS_PER_SEC;
+    struct timespec time;
+    timespec_get(&time, TIME_UTC);
+    return (double)time.tv_sec * 1e6 + (double)time.tv_nsec / 1e3;
 }
 
 static void keep_least(double *least, double began)
@@ -63,12 +66,17 @@ static int32_t tell_turns(lak_cloth *cloth)
     return answer;
 }
 
-/* Saves, does a deed, and goes back. */
-static int32_t go_back(lak_cloth *cloth, deed done, double *least)
+/* Plays a step and saves, does a deed, plays a step and goes back. */
+static int32_t go_back(lak_cloth *cloth, deed done, double *save, double *back)
 {
     lak_left left;
     double began;
-    int32_t answer = lak_save(cloth, 0);
+    int32_t answer = lak_step(cloth, 1, &left);
+    if (answer != LAK_DONE)
+        return answer;
+    began = now();
+    answer = lak_save(cloth, 0);
+    keep_least(save, began);
     if (answer == LAK_DONE && done == UNPINNED)
         answer = lak_unpin(cloth, 0);
     if (answer == LAK_DONE && done == CUT)
@@ -79,7 +87,7 @@ static int32_t go_back(lak_cloth *cloth, deed done, double *least)
         return answer;
     began = now();
     answer = lak_restore(cloth, 0);
-    keep_least(least, began);
+    keep_least(back, began);
     return answer;
 }
 
@@ -89,16 +97,11 @@ static int32_t tell_restores(lak_cloth *cloth, int side)
     double save = 1e12, back[DEEDS] = {1e12, 1e12, 1e12};
     int32_t answer = LAK_DONE;
     for (int round = 0; round < ROUNDS && answer == LAK_DONE; round++) {
-        double began = now();
-        for (int i = 0; i < SAVES && answer == LAK_DONE; i++)
-            answer = lak_save(cloth, 0);
-        keep_least(&save, began);
         for (deed done = STEPPED; done < DEEDS && answer == LAK_DONE; done++)
-            answer = go_back(cloth, done, &back[done]);
+            answer = go_back(cloth, done, &save, &back[done]);
     }
-    save /= SAVES;
     if (answer == LAK_DONE)
-        printf("%d by %d: lak_save %.0f microseconds; lak_restore %.1f times that after a step, %.1f where a particle was let go, "
+        printf("%d by %d: lak_save %.1f microseconds; lak_restore %.1f times that after a step, %.1f where a particle was let go, "
                "%.1f where a link was cut\n",
             side, side, save, back[STEPPED] / save, back[UNPINNED] / save, back[CUT] / save);
     return answer;
