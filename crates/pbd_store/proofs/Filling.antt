@@ -1,4 +1,4 @@
-use Rattle.std.proofs.Common.{◌≡◌, ℕ, ◌<◌, ◌≤◌, List, length, get_or, slice_set, replicate, ◌+◌, ◌∙◌, sym, ap, arith, Bool, true}
+use Rattle.std.proofs.Common.{◌≡◌, ℕ, ◌<◌, ◌≤◌, List, length, get_or, slice_set, replicate, ◌+◌, ◌*◌, ◌∙◌, sym, ap, arith, Bool, true}
 use Rattle.std.proofs.Common.{false, ◌&&◌, nat_lt}
 use Rattle.std.proofs.lemmas.Bool.{lt-ltb}
 use Rattle.std.proofs.lemmas.List.{length-set, length-replicate, get_or-replicate}
@@ -6,7 +6,6 @@ use Rattle.std.proofs.lemmas.List.Edits.{fill_by_more}
 use Rattle.std.proofs.lemmas.List.FromFn.{fill_by_all, get_or-map-range_with_len, length-map-range_with_len}
 use Rattle.std.proofs.Math.Nat.{lt_of_lt_of_le}
 use Rattle.pbd_lanes.specs.Lane.{is_set, lanes_of}
-use Rattle.std.proofs.Math.Bool.{and-true}
 
 -- the first i of n lanes hold what `f` gives
 pub record Filled {A : Type 0} (d : A) (n : ℕ) (f : ℕ → A) (i : ℕ) (xs : List A) : Type 0 where
@@ -30,11 +29,6 @@ pub all_filled : (n start len : ℕ) → start + n ≤ len → replicate n true 
 all_filled n start len room = fill_by_all (λ j. nat_lt (start + j) len) (replicate n true) n false (length-replicate n true)
     (λ k p. get_or-replicate n k true false p ∙ sym (lt-ltb (start + k) len (omega arith)))
 
-pub all_own : (n start len : ℕ) (set : List Bool) → length set ≡ n → start + n ≤ len
-    → set ≡ lanes_of n (λ j. is_set set j && nat_lt (start + j) len)
-all_own n start len set long room = fill_by_all (λ j. is_set set j && nat_lt (start + j) len) set n false long
-    (λ k p. sym (ap (λ (b : Bool). is_set set k && b) (lt-ltb (start + k) len (omega arith)) ∙ and-true (is_set set k)))
-
 -- where some have none
 pub own_of : (n start len : ℕ) (set filled own : List Bool) → filled ≡ lanes_of n (λ j. nat_lt (start + j) len)
     → own ≡ lanes_of n (λ j. is_set set j && is_set filled j) → own ≡ lanes_of n (λ j. is_set set j && nat_lt (start + j) len)
@@ -44,3 +38,9 @@ own_of n start len set filled own ef eo = fill_by_all (λ j. is_set set j && nat
     (omega arith)
     ∙ ap (λ (b : Bool). is_set set k && b) (ap (λ (bs : List Bool). is_set bs k) ef
     ∙ get_or-map-range_with_len (λ j. nat_lt (start + j) len) 0 n k k false p (omega arith)))
+
+-- the same of a block
+pub own_block : (n block start len : ℕ) (set filled own : List Bool) → start ≡ block * n → filled ≡ lanes_of n (λ j. nat_lt (block * n + j) len)
+    → own ≡ lanes_of n (λ j. is_set set j && is_set filled j) → own ≡ lanes_of n (λ j. is_set set j && nat_lt (start + j) len)
+own_block n block start len set filled own es ef eo =
+    own_of n start len set filled own (ef ∙ (λ t. lanes_of n (λ j. nat_lt (sym es t + j) len))) eo

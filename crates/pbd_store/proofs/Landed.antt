@@ -12,7 +12,7 @@ use Rattle.pbd_store.specs.declared.flight.Forces.{Forces}
 use Rattle.pbd_store.specs.declared.fly.Sums.{Sums}
 use Rattle.pbd_store.specs.Listed.{place_at, row, listed, ArePadded}
 use Rattle.pbd_store.specs.Flying.{places_at, after_flight, stays_in, WrittenFirst, AreSummed, IsOutside, LeavesFirst, are_free}
-use Rattle.pbd_store.proofs.Listing.{count_is, row_is, place_is}
+use Rattle.pbd_store.proofs.Listing.{count_is, row_is, place_is, places_padded}
 use Rattle.pbd_store.proofs.Flights.{summed_as}
 
 module _ {n spare : ℕ} {at before : List Vec3} {weight : List ℕ} {held : List Bool} (h : ArePadded n spare at before weight held)
@@ -38,14 +38,7 @@ module _ {n spare : ℕ} {at before : List Vec3} {weight : List ℕ} {held : Lis
   }
 
   pub flown_padded : ArePadded n spare at' before' weight held
-  flown_padded = record {
-    size = h.size;
-    places = ea.whole ∙ h.places;
-    befores = eb.whole ∙ h.befores;
-    weights = h.weights;
-    flags = h.flags;
-    padding = λ k q. row_past k q ∙ h.padding k q;
-  }
+  flown_padded = places_padded h e ea.whole eb.whole row_past
 
   pub flown_listed : listed n at' before' weight held ≡ map (λ (p : Particle). after_flight forces p) ps
   flown_listed = sym (fill_by_all (row at' before' weight held) (map (λ (p : Particle). after_flight forces p) ps) n no_particle

@@ -1,6 +1,7 @@
 pub mod Limits
 pub mod Filling
 pub mod Listing
+pub mod Lengths
 pub mod InRows
 pub mod Scattering
 pub mod Parting

@@ -1,5 +1,5 @@
 -- Columns seen as a list of particles: what a read gives, and what a write makes of the list.
-use Rattle.std.proofs.Common.{◌≡◌, ℕ, ◌+◌, ◌++◌, ◌<◌, ◌≤◌, ℤ, pos, List, [], ◌∷◌, zero, suc, length, get_or, map, replicate, slice_set}
+use Rattle.std.proofs.Common.{◌≡◌, ℕ, ◌+◌, ◌*◌, ◌++◌, ◌<◌, ◌≤◌, ℤ, pos, List, [], ◌∷◌, zero, suc, length, get_or, map, replicate, slice_set}
 use Rattle.std.proofs.Common.{Bool, ◌&&◌, true, false, cond, IsTrue, nat_lt, refl, sym, ◌∙◌, ap, arith, inl, inr}
 use Rattle.std.proofs.lemmas.Bool.{cases_lt, cases_eq, and_parts, and_from, ltb-true, lt-ltb}
 use Rattle.std.proofs.lemmas.List.{get_or-set_same, get_or-set_other, get_or_past, get_or-replicate, length-set, length-map, length-append}
@@ -10,7 +10,7 @@ use Rattle.pbd_num.specs.Vectors.{zero_vector}
 use Rattle.pbd_lanes.specs.Lane.{is_set, lanes_of}
 use Rattle.pbd_world.specs.declared.parts.Particle.{Particle}
 use Rattle.pbd_world.specs.Particles.{particle_at, placed, effective_weight, no_particle}
-use Rattle.pbd_store.specs.Blocks.{Saved}
+use Rattle.pbd_store.specs.Blocks.{loaded, Saved}
 use Rattle.pbd_store.specs.Gathering.{index_at, gathered}
 use Rattle.pbd_store.specs.Writing.{WrittenWhere}
 use Rattle.pbd_store.specs.Listed.{place_at, row, listed, ArePadded, AreKept}
@@ -96,10 +96,20 @@ any_default [] i d e h = absurd (omega arith)
 any_default (x ∷ xs) zero d e h = refl
 any_default (x ∷ xs) (suc i) d e h = any_default xs i d e (omega arith)
 
+-- what a lane has of what f gives
+pub lane_is : {A : Type 0} (n : ℕ) (f : ℕ → A) (d : A) {xs : List A} → xs ≡ lanes_of n f → (j : ℕ) → j < n → get_or xs j d ≡ f j
+lane_is {A} n f d e j p = ap (λ (xs : List A). get_or xs j d) e ∙ get_or-map-range_with_len f 0 n j j d p (omega arith)
+
 -- lists of which each lane is alike
 pub lanes_alike : {A : Type 0} (n : ℕ) (f g : ℕ → A) → ((j : ℕ) → j < n → f j ≡ g j) → lanes_of n f ≡ lanes_of n g
 lanes_alike n f g h = fill_by_all g (lanes_of n f) n (g 0) (length-map-range_with_len f 0 n)
     (λ j p. get_or-map-range_with_len f 0 n j j (g 0) p (omega arith) ∙ h j p)
+
+-- what g gives of the rows of a block, where that is what f gives of their particles
+pub block_is : {A : Type 0} (n block : ℕ) {rows : List ℕ} → rows ≡ lanes_of n (λ j. block * n + j) → (ps : List Particle) (f : Particle → A)
+    (g : ℕ → A) → ((k : ℕ) → g k ≡ f (particle_at ps k)) → lanes_of n (λ j. g (index_at rows j)) ≡ loaded n block f ps
+block_is n block {rows} er ps f g eg = lanes_alike n (λ j. g (index_at rows j)) (λ j. f (particle_at ps (block * n + j))) (λ j p.
+    eg (index_at rows j) ∙ ap (λ (k : ℕ). f (particle_at ps k)) (lane_is n (λ (k : ℕ). block * n + k) 0 er j p))
 
 -- ---- the list that clauses see
 
@@ -115,6 +125,11 @@ module _ {n spare : ℕ} {at before : List Vec3} {weight : List ℕ} {held : Lis
   pub place_is : (k : ℕ) → (particle_at ps k).at ≡ place_at at k
   place_is k = ap (λ (p : Particle). p.at) (row_is k)
 
+  -- what f gives of the rows of a block
+  pub block_of : {A : Type 0} (l block : ℕ) {rows : List ℕ} → rows ≡ lanes_of l (λ j. block * l + j) → (f : Particle → A)
+      → lanes_of l (λ j. f (row at before weight held (index_at rows j))) ≡ loaded l block f ps
+  block_of l block er f = block_is l block er ps f (λ k. f (row at before weight held k)) (λ k. ap f (sym (row_is k)))
+
   -- what a row gives, be it of a particle that is wanted or the first of zeros
   pub end_is : {A : Type 0} (f : Particle → A) (i k : ℕ) (b : Bool) → k ≡ cond b i (length ps)
       → f (row at before weight held k) ≡ cond b (f (particle_at ps i)) (f no_particle)
@@ -127,8 +142,8 @@ module _ {n spare : ℕ} {at before : List Vec3} {weight : List ℕ} {held : Lis
       → lanes_of l (λ (j : ℕ). g (index_at rows j)) ≡ gathered l f ps is set
   gathered_is l is set rows er f z g eg = lanes_alike l (λ (j : ℕ). g (index_at rows j))
       (λ (j : ℕ). cond (is_set set j) (f (particle_at ps (index_at is j))) (pos 0)) (λ j p.
-      let at_row : index_at rows j ≡ cond (is_set set j) (index_at is j) (length ps) = ap (λ (ks : List ℕ). index_at ks j) er
-      ∙ get_or-map-range_with_len (λ (k : ℕ). cond (is_set set k) (index_at is k) (length ps)) 0 l j j 0 p (omega arith) in
+      let at_row : index_at rows j ≡ cond (is_set set j) (index_at is j) (length ps) =
+      lane_is l (λ (k : ℕ). cond (is_set set k) (index_at is k) (length ps)) 0 er j p in
       eg (index_at rows j) ∙ end_is f (index_at is j) (index_at rows j) (is_set set j) at_row
       ∙ ap (λ (d : ℤ). cond (is_set set j) (f (particle_at ps (index_at is j))) d) z)
 
@@ -137,8 +152,8 @@ module _ {n spare : ℕ} {at before : List Vec3} {weight : List ℕ} {held : Lis
       → rows ≡ lanes_of l (λ (j : ℕ). cond (is_set set j) (index_at is j) (length ps))
       → ((j : ℕ) → j < l → IsTrue (is_set set j) → index_at is j < length ps) → (j : ℕ) → j < l → index_at rows j ≤ n
   row_near l is set rows er within j p =
-      let at_row : index_at rows j ≡ cond (is_set set j) (index_at is j) (length ps) = ap (λ (ks : List ℕ). index_at ks j) er
-      ∙ get_or-map-range_with_len (λ (k : ℕ). cond (is_set set k) (index_at is k) (length ps)) 0 l j j 0 p (omega arith) in
+      let at_row : index_at rows j ≡ cond (is_set set j) (index_at is j) (length ps) =
+      lane_is l (λ (k : ℕ). cond (is_set set k) (index_at is k) (length ps)) 0 er j p in
       omega (arith, at_row, count_is, row_within (index_at is j) (length ps) (is_set set j) (within j p))
 
   -- another place
@@ -229,11 +244,22 @@ module _ {n spare : ℕ} {at before : List Vec3} {weight : List ℕ} {held : Lis
             listed_set h at' before' weight' held' i near other_all (record { at = v; before = b; weight = w; held = f }) all_now
             ∙ ap (λ (qs : List Particle). slice_set qs i (record { at = v; before = b; weight = w; held = f })) e
 
+  -- other places of particles
+  pub places_padded : {at' before' : List Vec3} → length at' ≡ length at → length before' ≡ length before
+      → ((k : ℕ) → n ≤ k → row at' before' weight held k ≡ row at before weight held k) → ArePadded n spare at' before' weight held
+  places_padded la lb past = record {
+    size = h.size;
+    places = la ∙ h.places;
+    befores = lb ∙ h.befores;
+    weights = h.weights;
+    flags = h.flags;
+    padding = λ k q. past k q ∙ h.padding k q;
+  }
+
   -- other places in those of m lanes from `start` on that are set and have a particle
   module _ (m start : ℕ) (set own : List Bool) (eo : own ≡ lanes_of m (λ (j : ℕ). is_set set j && nat_lt (start + j) (length ps))) where
     own_at : (j : ℕ) → j < m → is_set own j ≡ (is_set set j && nat_lt (start + j) (length ps))
-    own_at j p = ap (λ (bs : List Bool). is_set bs j) eo ∙ get_or-map-range_with_len
-        (λ (k : ℕ). is_set set k && nat_lt (start + k) (length ps)) 0 m j j false p (omega arith)
+    own_at = lane_is m (λ (k : ℕ). is_set set k && nat_lt (start + k) (length ps)) false eo
 
     set_of : (j : ℕ) → j < m → IsTrue (is_set own j) → IsTrue (is_set set j)
     set_of j p s = (and_parts (is_set set j) (nat_lt (start + j) (length ps)) (sym (own_at j p) ∙ s)).0
@@ -261,14 +287,8 @@ module _ {n spare : ℕ} {at before : List Vec3} {weight : List ℕ} {held : Lis
       row_elsewhere i f = λ t. record { at = ea.others i f t; before = eb.others i f t; weight = get_or weight i 0; held = is_set held i }
 
       pub moved_padded : ArePadded n spare at' before' weight held
-      moved_padded = record {
-        size = h.size;
-        places = ea.whole ∙ h.places;
-        befores = eb.whole ∙ h.befores;
-        weights = h.weights;
-        flags = h.flags;
-        padding = λ k q. row_elsewhere k (λ j p s f. absurd (omega (arith, count_is, below j p s))) ∙ h.padding k q;
-      }
+      moved_padded = places_padded ea.whole eb.whole
+          (λ k q. row_elsewhere k (λ j p s f. absurd (omega (arith, count_is, below j p s))))
 
       pub moved_saved : Saved m start set pa pb ps (listed n at' before' weight held)
       moved_saved = record {

@@ -27,16 +27,21 @@ scattered_none is set xs ys zs ps = record { whole = refl; lanes = λ j h. absur
 pub split_below : (k j : ℕ) → k < j + 1 → (k < j) ⊎ (k ≡ j)
 split_below k j h = elim (cases_eq k j) [ inl e ↦ inr e | inr n ↦ inl (omega (arith, n)) ]
 
+-- what holds of each set lane below j, where lane j isn't set
+pub set_below : (P : ℕ → Type 0) (set : List Bool) (j : ℕ) → is_set set j ≡ false → ((k : ℕ) → k < j → IsTrue (is_set set k) → P k)
+    → (k : ℕ) → k < j + 1 → IsTrue (is_set set k) → P k
+set_below P set j unset h k p s = elim (split_below k j p) [
+  | inl q ↦ h k q s
+  | inr e ↦ absurd (false≢true (sym unset ∙ ap (is_set set) (sym e) ∙ s))
+]
+
 module _ (is : List ℕ) (set : List Bool) (xs ys zs : List ℤ) (old new : List Particle) (j : ℕ)
     (h : Scattered j is set xs ys zs old new) where
   skipped : is_set set j ≡ false → Scattered (j + 1) is set xs ys zs old new
   skipped unset = record {
     whole = h.whole;
-    lanes = λ k p s. elim (split_below k j p) [
-      | inl q ↦ h.lanes k q s
-      | inr e ↦ absurd
-          (false≢true (sym unset ∙ ap (is_set set) (sym e) ∙ s))
-    ];
+    lanes = set_below (λ k. particle_at new (index_at is k) ≡ record (particle_at old (index_at is k)) { at = place_of xs ys zs k }) set j unset
+        h.lanes;
     others = λ i f. h.others i (λ k p s e. f k (omega arith) s e);
   }
 

@@ -1,7 +1,7 @@
 -- Places of a list that are written one after another: those of the set lanes, or the first ones.
 use Rattle.std.proofs.Common.{◌≡◌, ℕ, ◌+◌, ◌++◌, ◌<◌, List, length, get_or, map, replicate, slice_set, Bool, true, false, cond, IsTrue, refl, sym}
 use Rattle.std.proofs.Common.{◌∙◌, ap, arith, inl, inr, subst}
-use Rattle.std.proofs.lemmas.Bool.{cases_lt, false≢true}
+use Rattle.std.proofs.lemmas.Bool.{cases_lt}
 use Rattle.std.proofs.lemmas.List.{get_or-set_same, get_or-set_other, get_or_past, length-set}
 use Rattle.std.proofs.lemmas.List.FromFn.{fill_by_all}
 use Rattle.pbd_num.specs.declared.Vec3.{Vec3}
@@ -16,7 +16,7 @@ use Rattle.pbd_store.specs.Flying.{WrittenFirst}
 use Rattle.pbd_store.specs.Listed.{place_at}
 use Rattle.pbd_store.specs.Writing.{WrittenWhere}
 use Rattle.pbd_store.proofs.Listing.{column_is, column_long}
-use Rattle.pbd_store.proofs.Scattering.{split_below}
+use Rattle.pbd_store.proofs.Scattering.{set_below, split_below}
 
 -- nothing yet
 pub written_none : (start : ℕ) (set : List Bool) (values : ℕ → Vec3) (vs : List Vec3) → WrittenWhere 0 start set values vs vs
@@ -26,11 +26,7 @@ module _ (start : ℕ) (set : List Bool) (values : ℕ → Vec3) (old new : List
   skipped : is_set set j ≡ false → WrittenWhere (j + 1) start set values old new
   skipped unset = record {
     whole = h.whole;
-    lanes = λ k p s. elim (split_below k j p) [
-      | inl q ↦ h.lanes k q s
-      | inr e ↦ absurd
-          (false≢true (sym unset ∙ ap (is_set set) (sym e) ∙ s))
-    ];
+    lanes = set_below (λ k. place_at new (start + k) ≡ values k) set j unset h.lanes;
     others = λ i f. h.others i (λ k p s e. f k (omega arith) s e);
   }
 

@@ -1,5 +1,5 @@
 -- Pairs of particles: what lies between their ends, and how the ends move.
-use Rattle.std.specs.Prelude.{◌≡◌, ℕ, ◌^◌, ◌<◌, ◌≤◌, ℤ, pos, List, length, slice_index_or, Bool, false, IsTrue, ◌&&◌}
+use Rattle.std.specs.Prelude.{◌≡◌, ℕ, ◌^◌, ◌<◌, ◌≤◌, ◌≤ℤ◌, ℤ, pos, unsigned_abs, List, length, slice_index_or, Bool, false, IsTrue, ◌&&◌}
 use Rattle.pbd_num.specs.declared.Vec3.{Vec3}
 use Rattle.pbd_num.specs.declared.row.Row.{Row}
 use Rattle.pbd_num.specs.Rows.{vector_of, no_row}
@@ -10,6 +10,7 @@ use Rattle.pbd_store.specs.Gathering.{index_at}
 use Rattle.pbd_store.specs.declared.pairs.Pairs.{Pairs}
 use Rattle.pbd_store.specs.declared.pairs.Between.{Between}
 use Rattle.pbd_store.specs.declared.pairs.EndMoves.{EndMoves}
+use Rattle.pbd_store.specs.declared.pulling.RowMoves.{RowMoves}
 
 -- n pairs, at most 128, of `count` particles
 pub record ArePairs (n count : ℕ) (pairs : Pairs) : Type 0 where
@@ -54,6 +55,13 @@ pub record AreShort (n : ℕ) (rows : List Row) : Type 0 where
   pub long : n ≤ length rows
   pub each : (j : ℕ) → j < n → Within (2 ^ 22) (vector_of (row_in rows j))
   pub flags : (j : ℕ) → j < n → (row_in rows j).flag ≡ pos 0
+
+-- moves of n pairs that are short, and a limit from 0 to 2^29
+pub record CanPull (n : ℕ) (moves : RowMoves) (limit : ℤ) : Type 0 where
+  pub back : AreShort n moves.back.now
+  pub forth : AreShort n moves.forth.now
+  pub low : pos 0 ≤ℤ limit
+  pub high : unsigned_abs limit ≤ 2 ^ 29
 
 -- each of n pairs has moved, its first end by f and its second by s, and nothing else has changed
 pub record Parted (n : ℕ) (first second : List ℕ) (f s : ℕ → Vec3) (old new : List Particle) : Type 0 where

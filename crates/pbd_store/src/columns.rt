@@ -1,15 +1,16 @@
 // The particles as columns.
-ghost use Rattle.std.specs.Prelude.{◌≡◌, ℕ, ◌<◌, ◌≤◌, ◌+◌, ◌^◌, ◌++◌, ◌&&◌, pos, false, length, map, replicate, slice_index, slice_index_or, slice_set, IfOk, IsTrue, vec_len, if◌then◌else◌, nat_lt};
+ghost use Rattle.std.specs.Prelude.{◌≡◌, ℕ, ◌<◌, ◌≤◌, ◌+◌, ◌*◌, ◌^◌, ◌++◌, ◌&&◌, pos, false, length, map, replicate, slice_index, slice_index_or, slice_set, IfOk, IsTrue, vec_len, if◌then◌else◌, nat_lt};
 ghost use Rattle.pbd_num.specs.Vectors.{Within, zero_vector};
 ghost use Rattle.pbd_lanes.specs.Lane.{is_set, lanes_of};
 ghost use Rattle.pbd_world.specs.Particles.{particle_at, placed, effective_weight};
-ghost use Rattle.pbd_store.specs.Blocks.{place_of, Saved};
+ghost use Rattle.pbd_store.specs.Blocks.{blocks_of, loaded, filled_lanes, place_of, Saved};
 ghost use Rattle.pbd_store.specs.Gathering.{index_at, gathered};
 ghost use Rattle.pbd_store.specs.InRows.{places_in, AreFlat};
 ghost use Rattle.pbd_store.specs.Listed.{place_at};
 
-use crate::lanes3::{Ends, Lanes3};
-use crate::rows::{Place, PlaceKind, PlaceRows, padded};
+use crate::lanes3::{Block, Ends, Lanes3};
+use crate::rows::{Place, PlaceKind, PlaceRows, numbers_from, padded};
+use crate::span::particles_in;
 use pbd_lanes::{Lanes, Mask};
 use pbd_num::Vec3;
 use pbd_world::Particle;
@@ -103,6 +104,35 @@ fn set_flag(column: &mut Vec<bool>, i: usize, flag: bool)
     column[i] = flag;
 }
 
+// What particles weigh, and which of them are held, as columns.
+#[derive(Drop)]
+struct WeightColumns {
+    weight: Vec<u16>,
+    held: Vec<bool>,
+    effective: Vec<u16>,
+}
+
+impl WeightColumns {
+    // Those of each particle, and n zeros.
+    fn open(alloc: Global, particles: &[Particle], n: usize) -> Result<WeightColumns, AllocError>
+        ensures weight { IfOk result (λ c. c.weight.items ≡ map (λ p. p.weight) particles.now ++ replicate n 0) }
+        ensures held { IfOk result (λ c. c.held.items ≡ map (λ p. p.held) particles.now ++ replicate n false) }
+        ensures effective { IfOk result (λ c. c.effective.items ≡ map effective_weight particles.now ++ replicate n 0) }
+    {
+        let weights = weights_of(alloc, particles)?;
+        let weight = padded(weights, n, 0)?;
+        let flags = flags_of(alloc, particles)?;
+        let held = padded(flags, n, false)?;
+        let effective_weights = effective_weights_of(alloc, particles)?;
+        let effective = padded(effective_weights, n, 0)?;
+        Ok(WeightColumns {
+            weight,
+            held,
+            effective,
+        })
+    }
+}
+
 impl<const L: usize> Columns<L> {
     pub(crate) fn open(alloc: Global, particles: &[Particle]) -> Result<Columns<L>, AllocError>
         requires { length particles.now ≤ 65536 }
@@ -110,13 +140,8 @@ impl<const L: usize> Columns<L> {
     {
         let at = PlaceRows::open(alloc, particles, L, PlaceKind::At)?;
         let before = PlaceRows::open(alloc, particles, L, PlaceKind::Before)?;
-        let weights = weights_of(alloc, particles)?;
-        let weight = padded(weights, L, 0)?;
-        let flags = flags_of(alloc, particles)?;
-        let held = padded(flags, L, false)?;
-        let effective_weights = effective_weights_of(alloc, particles)?;
-        let effective = padded(effective_weights, L, 0)?;
-        Ok(Columns::put_together(particles, at, before, weight, held, effective))
+        let weights = WeightColumns::open(alloc, particles, L)?;
+        Ok(Columns::put_together(particles, at, before, weights))
     }
 
     // The columns of a list.
@@ -124,18 +149,21 @@ impl<const L: usize> Columns<L> {
         particles: &[Particle],
         at: PlaceRows,
         before: PlaceRows,
-        weight: Vec<u16>,
-        held: Vec<bool>,
-        effective: Vec<u16>,
+        weights: WeightColumns,
     ) -> Columns<L>
         requires few { length particles.now ≤ 65536 }
         requires at { at ≡ map (λ p. p.at) particles.now ++ replicate L zero_vector }
         requires before { before ≡ map (λ p. p.before) particles.now ++ replicate L zero_vector }
-        requires weight { weight.items ≡ map (λ p. p.weight) particles.now ++ replicate L 0 }
-        requires held { held.items ≡ map (λ p. p.held) particles.now ++ replicate L false }
-        requires effective { effective.items ≡ map effective_weight particles.now ++ replicate L 0 }
+        requires weight { weights.weight.items ≡ map (λ p. p.weight) particles.now ++ replicate L 0 }
+        requires held { weights.held.items ≡ map (λ p. p.held) particles.now ++ replicate L false }
+        requires effective { weights.effective.items ≡ map effective_weight particles.now ++ replicate L 0 }
         ensures { result ≡ particles.now }
     {
+        let WeightColumns {
+            weight,
+            held,
+            effective,
+        } = weights;
         Columns {
             count: particles.len(),
             at,
@@ -153,6 +181,7 @@ impl<const L: usize> Columns<L> {
         self.count
     }
 
+    #[tactic(auto, using(crate::proofs::Lengths::listed_length))]
     #[inline(always)]
     pub(crate) fn get(&self, i: usize) -> Particle
         requires { i < length self.now }
@@ -242,6 +271,7 @@ impl<const L: usize> Columns<L> {
         }
     }
 
+    #[tactic(auto, using(crate::proofs::Lengths::listed_length))]
     pub(crate) fn replace(&mut self, i: usize, particle: Particle)
         requires { i < length self.old }
         ensures { self.new ≡ slice_set self.old i particle }
@@ -253,40 +283,53 @@ impl<const L: usize> Columns<L> {
         set_weight(&mut self.effective, i, effective_weight_of(particle));
     }
 
-    // Those of L lanes from `start` on that are set and have a particle.
+    // The number of a block's first particle.
     #[inline(always)]
-    fn own(&self, start: usize, set: &[bool; L]) -> Mask<L>
-        requires start { start ≤ length self.now }
+    fn start(&self, block: u32) -> usize
+        requires some_lanes { 0 < L }
         requires lanes { L ≤ 16 }
-        ensures { result ≡ lanes_of L (λ j. is_set set.now j && nat_lt (start + j) (length self.now)) }
+        requires within { block < blocks_of (length self.now) L }
+        ensures value { result ≡ block * L }
+        ensures within { result ≤ length self.now }
+        ensures size { result ≤ 65536 }
     {
-        let count = self.len();
-        let mask = Mask::from_array(*set);
-        if start + L <= count {
-            return mask;
-        }
-        let filled = self.filled(start);
-        mask.and(&filled)
+        particles_in(block, L, self.len() as u32).first as usize
     }
 
-    /// Moves those of L particles from `start` on whose lanes are set.
+    // The numbers of the L rows of a block.
+    #[inline(always)]
+    fn rows_of(&self, block: u32) -> [usize; L]
+        requires some_lanes { 0 < L }
+        requires lanes { L ≤ 16 }
+        requires within { block < blocks_of (length self.now) L }
+        ensures each { result ≡ lanes_of L (λ j. block * L + j) }
+        ensures within { (j : ℕ) → j < L → index_at result j < length self.now + L }
+    {
+        numbers_from(self.start(block))
+    }
+
+    /// Moves those particles of a block whose lanes are set.
     pub(crate) fn move_where(
         &mut self,
-        start: usize,
+        block: u32,
         set: &Mask<L>,
         at: &Lanes3<L>,
         before: &Lanes3<L>,
     )
-        requires start { start ≤ length self.old }
+        requires some_lanes { 0 < L }
         requires lanes { L ≤ 16 }
-        ensures { Saved L start set.now (place_of at.now.x at.now.y at.now.z)
+        requires within { block < blocks_of (length self.old) L }
+        ensures { Saved L (block * L) set.now (place_of at.now.x at.now.y at.now.z)
             (place_of before.now.x before.now.y before.now.z) self.old self.new }
     {
-        let own = self.own(start, &set.to_array());
+        let start = self.start(block);
+        let filled = self.filled(block);
+        let own = set.and(&filled);
         self.at.set_where(start, &own, at);
         self.before.set_where(start, &own, before);
     }
 
+    #[tactic(auto, using(crate::proofs::Lengths::listed_length))]
     pub(crate) fn copy_from(&mut self, other: &Columns<L>)
         requires { length self.old ≡ length other.now }
         ensures { self.new ≡ other.now }
@@ -298,57 +341,52 @@ impl<const L: usize> Columns<L> {
         self.effective.copy_from_slice(&other.effective);
     }
 
-    /// The places of the L particles from `start` on.
-    pub(crate) fn at_lanes(&self, start: usize) -> Lanes3<L>
-        requires start { start ≤ length self.now }
-        requires lanes { L ≤ 16 }
-        ensures x { result.x ≡ lanes_of L (λ j. (particle_at self.now (start + j)).at.x) }
-        ensures y { result.y ≡ lanes_of L (λ j. (particle_at self.now (start + j)).at.y) }
-        ensures z { result.z ≡ lanes_of L (λ j. (particle_at self.now (start + j)).at.z) }
+    // Which of the particles of some rows are held.
+    #[inline(always)]
+    fn picked_flags(&self, rows: [usize; L]) -> [bool; L]
+        requires { (j : ℕ) → j < L → index_at rows j < length self.now + L }
+        ensures { result ≡ lanes_of L (λ j. (particle_at self.now (index_at rows.entry j)).held) }
     {
-        self.at.lanes_from(start)
-    }
-
-    /// Their places before.
-    pub(crate) fn before_lanes(&self, start: usize) -> Lanes3<L>
-        requires start { start ≤ length self.now }
-        requires lanes { L ≤ 16 }
-        ensures x { result.x ≡ lanes_of L (λ j. (particle_at self.now (start + j)).before.x) }
-        ensures y { result.y ≡ lanes_of L (λ j. (particle_at self.now (start + j)).before.y) }
-        ensures z { result.z ≡ lanes_of L (λ j. (particle_at self.now (start + j)).before.z) }
-    {
-        self.before.lanes_from(start)
-    }
-
-    pub(crate) fn weights(&self, start: usize) -> Lanes<L>
-        requires start { start ≤ length self.now }
-        requires lanes { L ≤ 16 }
-        ensures { result ≡ lanes_of L (λ j. pos (particle_at self.now (start + j)).weight) }
-    {
-        let mut values = [0; L];
+        let mut flags = [false; L];
         for j in 0..L {
-            values[j] = weight_at(&self.weight, start + j);
+            flags[j] = self.held[rows[j]];
         }
-        Lanes::from_array(values)
+        flags
     }
 
-    pub(crate) fn held(&self, start: usize) -> Mask<L>
-        requires start { start ≤ length self.now }
+    /// The particles of a block, side by side.
+    pub(crate) fn load(&self, block: u32) -> Block<L>
+        requires some_lanes { 0 < L }
         requires lanes { L ≤ 16 }
-        ensures { result ≡ lanes_of L (λ j. (particle_at self.now (start + j)).held) }
+        requires within { block < blocks_of (length self.now) L }
+        ensures at_x { result.at.x ≡ loaded L block (λ p. p.at.x) self.now }
+        ensures at_y { result.at.y ≡ loaded L block (λ p. p.at.y) self.now }
+        ensures at_z { result.at.z ≡ loaded L block (λ p. p.at.z) self.now }
+        ensures before_x { result.before.x ≡ loaded L block (λ p. p.before.x) self.now }
+        ensures before_y { result.before.y ≡ loaded L block (λ p. p.before.y) self.now }
+        ensures before_z { result.before.z ≡ loaded L block (λ p. p.before.z) self.now }
+        ensures weight { result.weight ≡ loaded L block (λ p. pos p.weight) self.now }
+        ensures held { result.held ≡ loaded L block (λ p. p.held) self.now }
+        ensures filled { result.filled ≡ filled_lanes L block self.now }
     {
-        let mut set = [false; L];
-        for j in 0..L {
-            set[j] = self.held[start + j];
+        let rows = self.rows_of(block);
+        Block {
+            at: self.at.picked(rows),
+            before: self.before.picked(rows),
+            weight: Lanes::from_array(picked_weights(&self.weight, rows)),
+            held: Mask::from_array(self.picked_flags(rows)),
+            filled: self.filled(block),
         }
-        Mask::from_array(set)
     }
 
-    pub(crate) fn filled(&self, start: usize) -> Mask<L>
-        requires start { start ≤ length self.now }
+    /// The lanes of a block that have a particle.
+    pub(crate) fn filled(&self, block: u32) -> Mask<L>
+        requires some_lanes { 0 < L }
         requires lanes { L ≤ 16 }
-        ensures { result ≡ lanes_of L (λ j. nat_lt (start + j) (length self.now)) }
+        requires within { block < blocks_of (length self.now) L }
+        ensures { result ≡ filled_lanes L block self.now }
     {
+        let start = self.start(block);
         let count = self.len();
         if start + L <= count {
             return Mask::from_array([true; L]);

@@ -37,29 +37,6 @@ fn counted(n: i64, wanted: bool) -> i64
     n + i64::from(wanted)
 }
 
-#[inline(always)]
-fn sum(sum: i64, n: i64) -> i64
-    requires sum { unsigned_abs sum ≤ 2 ^ 46 }
-    requires n { unsigned_abs n ≤ 2 ^ 30 }
-    ensures { result ≡ sum +ℤ n }
-{
-    sum + n
-}
-
-// The sum of two vectors.
-#[inline(always)]
-fn both(first: Vec3, second: Vec3) -> Vec3
-    requires first { Within (2 ^ 46) first }
-    requires second { Within (2 ^ 30) second }
-    ensures { result ≡ plus first second }
-{
-    Vec3 {
-        x: sum(first.x, second.x),
-        y: sum(first.y, second.y),
-        z: sum(first.z, second.z),
-    }
-}
-
 impl Sums {
     // Those of no row.
     const NONE: Sums = Sums {
@@ -83,7 +60,7 @@ impl Sums {
     {
         Sums {
             free: counted(self.free, flies),
-            lost: both(self.lost, row.lost),
+            lost: self.lost.plus(row.lost),
             reach: self.reach.with_far(row.to, limit),
         }
     }

@@ -7,7 +7,7 @@ ghost use Rattle.pbd_store.specs.Gathering.{index_at};
 ghost use Rattle.pbd_store.specs.InRows.{places_in, AreFlat};
 ghost use Rattle.pbd_store.specs.Listed.{place_at};
 ghost use Rattle.pbd_store.specs.Moving.{fixed_parts};
-ghost use Rattle.pbd_store.specs.Pairs.{ArePairs, PairsApart, AreShort, Parted, PlacesParted, IsWay, row_in, ways_in, opposites_in};
+ghost use Rattle.pbd_store.specs.Pairs.{ArePairs, PairsApart, CanPull, Parted, PlacesParted, IsWay, row_in, ways_in, opposites_in};
 ghost use Rattle.pbd_store.specs.Reaching.{CoversEnds};
 
 use crate::columns::Columns;
@@ -55,10 +55,7 @@ fn pull_rows(rows: &mut [Place], pairs: Pairs<'_>, moves: RowMoves<'_>, limit: i
         → Within (2 ^ 29) (place_at (places_in rows.old) (index_at pairs.first.now j)) }
     requires second { (j : ℕ) → j < length pairs.first.now
         → Within (2 ^ 29) (place_at (places_in rows.old) (index_at pairs.second.now j)) }
-    requires back { AreShort (length pairs.first.now) moves.back.now }
-    requires forth { AreShort (length pairs.first.now) moves.forth.now }
-    requires low { pos 0 ≤ℤ limit }
-    requires high { unsigned_abs limit ≤ 2 ^ 29 }
+    requires can { CanPull (length pairs.first.now) moves limit }
     ensures places { PlacesParted (length pairs.entry.first.now) pairs.entry.first.now pairs.entry.second.now
         (opposites_in moves.entry.back.now) (ways_in moves.entry.forth.now) (places_in rows.old) (places_in rows.new) }
     ensures flat { AreFlat rows.new }
@@ -88,10 +85,7 @@ impl PlaceRows {
         requires apart { PairsApart (length pairs.first.now) pairs }
         requires first { (j : ℕ) → j < length pairs.first.now → Within (2 ^ 29) (place_at self.old (index_at pairs.first.now j)) }
         requires second { (j : ℕ) → j < length pairs.first.now → Within (2 ^ 29) (place_at self.old (index_at pairs.second.now j)) }
-        requires back { AreShort (length pairs.first.now) moves.back.now }
-        requires forth { AreShort (length pairs.first.now) moves.forth.now }
-        requires low { pos 0 ≤ℤ limit }
-        requires high { unsigned_abs limit ≤ 2 ^ 29 }
+        requires can { CanPull (length pairs.first.now) moves limit }
         ensures places { PlacesParted (length pairs.entry.first.now) pairs.entry.first.now pairs.entry.second.now
             (opposites_in moves.entry.back.now) (ways_in moves.entry.forth.now) self.old self.new }
         ensures covered { CoversEnds (length pairs.entry.first.now) pairs.entry.first.now pairs.entry.second.now
@@ -109,10 +103,7 @@ impl<const L: usize> Columns<L> {
         requires pairs { ArePairs (length pairs.first.now) (length self.old) pairs }
         requires apart { PairsApart (length pairs.first.now) pairs }
         requires inside { (i : ℕ) → i < length self.old → Within (2 ^ 29) (particle_at self.old i).at }
-        requires back { AreShort (length pairs.first.now) moves.back.now }
-        requires forth { AreShort (length pairs.first.now) moves.forth.now }
-        requires low { pos 0 ≤ℤ limit }
-        requires high { unsigned_abs limit ≤ 2 ^ 29 }
+        requires can { CanPull (length pairs.first.now) moves limit }
         ensures particles { Parted (length pairs.entry.first.now) pairs.entry.first.now pairs.entry.second.now
             (opposites_in moves.entry.back.now) (ways_in moves.entry.forth.now) self.old self.new }
         ensures covered { CoversEnds (length pairs.entry.first.now) pairs.entry.first.now pairs.entry.second.now

@@ -305,9 +305,9 @@ fn repeated<T: Copy + Drop>(
     padded(column, n, entry)
 }
 
-// L numbers in their order.
+/// L numbers in their order.
 #[inline(always)]
-fn numbers_from<const L: usize>(start: usize) -> [usize; L]
+pub(crate) fn numbers_from<const L: usize>(start: usize) -> [usize; L]
     requires start { start ≤ 65536 }
     requires lanes { L ≤ 16 }
     ensures { result ≡ lanes_of L (λ j. start + j) }
@@ -443,19 +443,6 @@ impl PlaceRows {
         }
     }
 
-    /// The L places from `start` on.
-    #[inline(always)]
-    pub(crate) fn lanes_from<const L: usize>(&self, start: usize) -> Lanes3<L>
-        requires start { start ≤ 65536 }
-        requires lanes { L ≤ 16 }
-        requires room { start + L ≤ length self.now }
-        ensures x { result.x ≡ lanes_of L (λ j. (place_at self.now (start + j)).x) }
-        ensures y { result.y ≡ lanes_of L (λ j. (place_at self.now (start + j)).y) }
-        ensures z { result.z ≡ lanes_of L (λ j. (place_at self.now (start + j)).z) }
-    {
-        self.picked(numbers_from(start))
-    }
-
     /// Puts other places to those of L from `start` on whose lanes are set.
     #[inline(always)]
     pub(crate) fn set_where<const L: usize>(
@@ -466,7 +453,7 @@ impl PlaceRows {
     )
         requires start { start ≤ 65536 }
         requires lanes { L ≤ 16 }
-        requires room { (j : ℕ) → j < L → IsTrue (is_set set.now j) → start + j < length self.old }
+        requires room { start + L ≤ length self.old }
         ensures { WrittenWhere L start set.now (place_of places.now.x places.now.y places.now.z) self.old self.new }
     {
         let chosen = set.to_array();

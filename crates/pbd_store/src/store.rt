@@ -17,17 +17,6 @@ use std::alloc::{AllocError, Global};
 use std::marker::Model;
 use std::sync::ledger::Ledger;
 
-// The number of a block's first particle.
-fn start_of(block: u32, lanes: usize, len: u32) -> usize
-    requires some { 0 < lanes }
-    requires size { len ≤ 65536 }
-    requires within { block < blocks_of len lanes }
-    ensures value { result ≡ block * lanes }
-    ensures within { result ≤ len }
-{
-    block as usize * lanes
-}
-
 /// The particles, with the limit within which their places are to stay.
 /// The calls that reach one particle, or up to L of them, each raise the count of accesses by one. `fly`, `between`, `ways`,
 /// `pull` and `move_each` raise it by two for each block of L. What takes over all particles at once is no access: the store
@@ -179,14 +168,7 @@ impl<const L: usize> Store<L> {
         ensures cost { steps.new ≡ steps.old + 1 }
     {
         steps.tick();
-        let start = start_of(block, L, self.len());
-        Block {
-            at: self.columns.at_lanes(start),
-            before: self.columns.before_lanes(start),
-            weight: self.columns.weights(start),
-            held: self.columns.held(start),
-            filled: self.columns.filled(start),
-        }
+        self.columns.load(block)
     }
 
     /// Writes both places of the particles of a block whose lanes are set, and nothing else.
@@ -209,9 +191,8 @@ impl<const L: usize> Store<L> {
         ensures cost { steps.new ≡ steps.old + 1 }
     {
         steps.tick();
-        let start = start_of(block, L, self.len());
         self.columns
-            .move_where(start, mask, &values.at, &values.before);
+            .move_where(block, mask, &values.at, &values.before);
     }
 
     /// The places and effective weights of the particles that the set lanes name. Other lanes give 0.

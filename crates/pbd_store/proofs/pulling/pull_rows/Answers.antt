@@ -17,7 +17,7 @@ plus-other-requires-clause-place c = second_in c.args.pairs _ _ _ _ _ _ _ c.loop
     (c.requires.second c.loop-j.j (omega arith))
 
 pub plus-other-requires-clause-way : goal.plus-other-requires-clause-way
-plus-other-requires-clause-way c = c.requires.forth.each c.loop-j.j (omega arith)
+plus-other-requires-clause-way c = c.requires.can.forth.each c.loop-j.j (omega arith)
 
 pub put_row-requires-in-loop-j-clause-some : goal.put_row-requires-in-loop-j-clause-some
 put_row-requires-in-loop-j-clause-some c = omega (
@@ -31,7 +31,7 @@ pub with-requires-clause-place : goal.with-requires-clause-place
 with-requires-clause-place c =
     let place = first_in c.args.pairs _ _ _ _ _ _ _ c.loop-j.j c.loop-j.invariant.pulled (omega arith)
     (pairs_in_rows c.args.rows.now c.requires.pairs) c.requires.apart c.row_in.ensures (c.requires.first c.loop-j.j (omega arith)) in
-    stepped_within place (opposite_within (c.requires.back.each c.loop-j.j (omega arith)))
+    stepped_within place (opposite_within (c.requires.can.back.each c.loop-j.j (omega arith)))
     (ap (λ (r : Place). place_in_row r) c.minus-one.ensures)
 
 pub with-reach-requires-clause-place : goal.with-reach-requires-clause-place
@@ -39,7 +39,7 @@ with-reach-requires-clause-place c =
     let place = second_in c.args.pairs _ _ _ _ _ _ _ c.loop-j.j c.loop-j.invariant.pulled (omega arith)
     (pairs_in_rows c.args.rows.now c.requires.pairs) c.requires.apart _ c.put_row.ensures.places c.row_in-in-loop-j.ensures
     (c.requires.second c.loop-j.j (omega arith)) in
-    stepped_within place (c.requires.forth.each c.loop-j.j (omega arith)) (ap (λ (r : Place). place_in_row r) c.plus-other.ensures)
+    stepped_within place (c.requires.can.forth.each c.loop-j.j (omega arith)) (ap (λ (r : Place). place_in_row r) c.plus-other.ensures)
 
 pub loop-j-preserved : goal.loop-j-preserved
 loop-j-preserved c =

@@ -2,18 +2,6 @@ use Rattle.std.proofs.Common.{arith, sym, ◌∙◌, false}
 use Rattle.pbd_store.proofs.Listing.{count_is, row_is, any_default}
 use Rattle.pbd_store.proofs.columns.Columns.get.Goals as goal
 
-pub get-requires : goal.get-requires
-get-requires g c = omega (arith, c.requires, count_is c.self.invariant.padded c.self.view_is, c.self.invariant.padded.places)
-
-pub get-requires-2 : goal.get-requires-2
-get-requires-2 g c = omega (arith, c.requires, count_is c.self.invariant.padded c.self.view_is, c.self.invariant.padded.befores)
-
-pub index-requires : goal.index-requires
-index-requires g c = omega (arith, c.requires, count_is c.self.invariant.padded c.self.view_is, c.self.invariant.padded.weights)
-
-pub index-requires-2 : goal.index-requires-2
-index-requires-2 g c = omega (arith, c.requires, count_is c.self.invariant.padded c.self.view_is, c.self.invariant.padded.flags)
-
 pub returns : goal.returns
 returns g c =
     let count = count_is c.self.invariant.padded c.self.view_is in

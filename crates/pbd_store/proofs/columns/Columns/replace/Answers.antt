@@ -1,21 +1,6 @@
-use Rattle.std.proofs.Common.{arith, ap, ◌∙◌, ℕ, slice_set}
-use Rattle.pbd_store.proofs.Listing.{count_is, all_kept, all_listed}
+use Rattle.std.proofs.Common.{ap, ◌∙◌, ℕ, slice_set}
+use Rattle.pbd_store.proofs.Listing.{all_kept, all_listed}
 use Rattle.pbd_store.proofs.columns.Columns.replace.Goals as goal
-
-pub set-requires : goal.set-requires
-set-requires g c = omega (arith, c.requires, count_is c.self.invariant.padded c.self.view_is, c.self.invariant.padded.places)
-
-pub set-requires-2 : goal.set-requires-2
-set-requires-2 g c = omega (arith, c.requires, count_is c.self.invariant.padded c.self.view_is, c.self.invariant.padded.befores)
-
-pub set_weight-requires : goal.set_weight-requires
-set_weight-requires g c = omega (arith, c.requires, count_is c.self.invariant.padded c.self.view_is, c.self.invariant.padded.weights)
-
-pub set_flag-requires : goal.set_flag-requires
-set_flag-requires g c = omega (arith, c.requires, count_is c.self.invariant.padded c.self.view_is, c.self.invariant.padded.flags)
-
-pub set_weight-requires-2 : goal.set_weight-requires-2
-set_weight-requires-2 g c = omega (arith, c.requires, count_is c.self.invariant.padded c.self.view_is, c.self.invariant.long)
 
 pub invariant_of-self : goal.invariant_of-self
 invariant_of-self g c = all_kept c.self.invariant.padded c.self.view_is c.set.new.self c.args.i c.args.particle.at c.requires c.set.ensures

@@ -19,7 +19,7 @@ pull-requires g c =
       omega arith,
       (
         c.requires.lanes,
-        (are, (c.requires.apart, (inside.each, (c.requires.back, (c.requires.forth, (limit.0, limit.1)))))),
+        (are, (c.requires.apart, (inside.each, (record { back = c.requires.back; forth = c.requires.forth; low = limit.0; high = limit.1 })))),
       ),
     )
 
