@@ -19,6 +19,7 @@ pub mod Exact
 pub mod NearBonds
 pub mod SharedMoves
 pub mod Settled
+pub mod Telling
 pub mod Examples
 pub mod WideRows
 pub mod Sharing

@@ -1,5 +1,5 @@
 -- A row that isn't flagged, as the moves of its bond.
-use Rattle.std.proofs.Common.{◌≡◌, suc, zero, ◌+◌, ◌^◌, ◌<◌, ℤ, pos, negsuc, ◌≤ℤ◌, ◌<ℤ◌, ◌*ℤ◌, int_lt, int_le, Bool, true, false, ◌&&◌, cond}
+use Rattle.std.proofs.Common.{◌≡◌, suc, zero, ◌+◌, ◌^◌, ◌<◌, ℤ, pos, negsuc, ◌≤ℤ◌, ◌<ℤ◌, int_lt, int_le, Bool, true, false, ◌&&◌, cond}
 use Rattle.std.proofs.Common.{refl, ap, sym, ◌∙◌, arith, inl, inr, unsigned_abs, ◌⊎◌}
 use Rattle.std.proofs.lemmas.Int.{ints}
 use Rattle.pbd_num.specs.declared.Vec3.{Vec3}
@@ -67,45 +67,28 @@ module _ (way : Vec3) (first second : ℤ) (row : Row) (first_low : pos 0 ≤ℤ
         vector_of (kept_none second row (omega (arith, ints, f)) i),
       ))
 
-  held_one : (rest k f : ℤ) → 0 < unsigned_abs first + unsigned_abs second → (pos 0 <ℤ first → pos 0 <ℤ second → first ≡ second)
-      → (pos 0 <ℤ first
-      → pos 0 <ℤ second → f ≡ k) → (second ≡ pos 0 → f ≡ pos 2 *ℤ k) → (first ≡ pos 0 → f ≡ pos 2 *ℤ k) → vector_of row ≡ scaled f (pos 512)
-      (corrections way rest) → pair_moves way zero_vector rest k first second
-      ≡ (opposite (vector_of (kept_by first row)), vector_of (kept_by second row))
-  held_one rest k f weighs even both by_first by_second is =
-      let w : Even first second k f = record {
-        first_low = first_low;
-        second_low = second_low;
-        some = weighs;
-        even = even;
-        both = both;
-        by_first = by_first;
-        by_second = by_second;
-      } in
-      sym (along_moves way (vector_of row) (opposite (vector_of (kept_by first row)))
-      (vector_of (kept_by second row)) rest first second k f some w is
+  held_one : (rest k f : ℤ) → Even first second k f → vector_of row ≡ scaled f (pos 512) (corrections way rest)
+      → pair_moves way zero_vector rest k first second ≡ (opposite (vector_of (kept_by first row)), vector_of (kept_by second row))
+  held_one rest k f even is = sym (along_moves way (vector_of row) (opposite (vector_of (kept_by first row)))
+      (vector_of (kept_by second row)) rest first second k f some even is
       (λ h. ap (λ (r : Row). opposite (vector_of r)) (kept_some first row h))
       (λ h. ap (λ (r : Row). opposite (vector_of r)) (kept_none first row h))
       (λ h. ap vector_of (kept_some second row h))
       (λ h. ap vector_of (kept_none second row h)))
 
-  moves_case : (slack : Bool) (rest k f : ℤ) → (pos 0 <ℤ first → pos 0 <ℤ second → first ≡ second)
-      → (pos 0 <ℤ first → pos 0 <ℤ second → f ≡ k)
-      → (second ≡ pos 0 → f ≡ pos 2 *ℤ k) → (first ≡ pos 0 → f ≡ pos 2 *ℤ k) → vector_of row ≡ scaled (cond slack (pos 0) f) (pos 512)
-      (corrections way rest) → cond slack (zero_vector, zero_vector) (pair_moves way zero_vector rest k first second) ≡ (
-        opposite (vector_of
-            (kept_by first row)),
-        vector_of (kept_by second row),
-      )
-  moves_case true rest k f even both by_first by_second is =
+  moves_case : (slack : Bool) (rest k f : ℤ) → (0 < unsigned_abs first + unsigned_abs second → Even first second k f)
+      → vector_of row ≡ scaled (cond slack (pos 0) f) (pos 512) (corrections way rest)
+      → cond slack (zero_vector, zero_vector) (pair_moves way zero_vector rest k first second)
+      ≡ (opposite (vector_of (kept_by first row)), vector_of (kept_by second row))
+  moves_case true rest k f even is =
       let still = is ∙ none_moved way (pos 0) rest refl in
       sym (λ i. (opposite (kept_still (int_lt (pos 0) first) row still i), kept_still (int_lt (pos 0) second) row still i))
-  moves_case false rest k f even both by_first by_second is = elim (weightless first first_low) [
+  moves_case false rest k f even is = elim (weightless first first_low) [
     | inl e ↦ elim (weightless second second_low) [
       | inl g ↦ held_both rest k e g
-      | inr h ↦ held_one rest k f (omega (arith, ints, h)) even both by_first by_second is
+      | inr h ↦ held_one rest k f (even (omega (arith, ints, h))) is
     ]
-    | inr h ↦ held_one rest k f (omega (arith, ints, h)) even both by_first by_second is
+    | inr h ↦ held_one rest k f (even (omega (arith, ints, h))) is
   ]
 
 pub near_moves : (way : Vec3) (first second : ℤ) (b : Bond) (row : Row) (rest f : ℤ) (contact : Bool) → pos 0 ≤ℤ first → pos 0 ≤ℤ second
@@ -119,10 +102,18 @@ near_moves way first second b row rest f contact first_low second_low r factor k
     let told : vector_of row ≡ scaled (cond slack (pos 0) f) (pos 512) (corrections way rest) =
     pulled.value ∙ (λ i. scaled (cond (sym kind i && int_le (rest_is i) (pos (length_of way))) (pos 0) f) (pos 512) (corrections way rest))
     in
+    let even : 0 < unsigned_abs first + unsigned_abs second → Even first second b.k f = λ some. record {
+      first_low = first_low;
+      second_low = second_low;
+      some = some;
+      even = factor.even named;
+      both = factor.both named;
+      by_first = factor.second_held named;
+      by_second = factor.first_held named;
+    } in
     record {
       flag = flag;
       size = wider _ (2 ^ 16) (2 ^ 22) (omega arith) pulled.size;
       moves = (λ i. cond slack (zero_vector, zero_vector) (pair_moves way zero_vector (sym rest_is i) b.k first second))
-          ∙ moves_case way first second row first_low second_low pulled.apart slack rest b.k f (factor.even named) (factor.both named)
-          (factor.second_held named) (factor.first_held named) told;
+          ∙ moves_case way first second row first_low second_low pulled.apart slack rest b.k f even told;
     }

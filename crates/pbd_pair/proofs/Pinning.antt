@@ -1,28 +1,21 @@
--- What bonds add to the ledger whose free ends move oppositely: the moves beside held ends alone.
-use Rattle.std.proofs.Common.{◌≡◌, ℕ, zero, suc, ◌+◌, ◌<◌, ◌^◌, ℤ, pos, neg_ℤ, ◌+ℤ◌, ◌-ℤ◌, List, Bool, true, false, refl, ap, sym, ◌∙◌}
+-- Sums of moves, and what they add to the ledger.
+use Rattle.std.proofs.Common.{◌≡◌, ℕ, zero, suc, ◌+◌, ◌<◌, ◌^◌, ℤ, pos, neg_ℤ, ◌+ℤ◌, ◌-ℤ◌, List, refl, ap, ◌∙◌}
 use Rattle.std.proofs.Common.{arith}
 use Rattle.std.proofs.lemmas.Int.{ints}
 use Rattle.pbd_num.specs.declared.Vec3.{Vec3}
 use Rattle.pbd_num.specs.Vectors.{Within, plus, minus, opposite, zero_vector}
 use Rattle.pbd_num.proofs.Ranges.{wider}
 use Rattle.pbd_num.proofs.VectorSizes.{plus_within, minus_within}
-use Rattle.pbd_world.specs.declared.bond.Shift.{Shift}
 use Rattle.pbd_world.specs.declared.totals.Class.{Class}
 use Rattle.pbd_world.specs.declared.totals.Class.TheVariants as classes
 use Rattle.pbd_world.specs.Ledger.{Sum, Ledger, Entry, sum_plus, added, booked}
-use Rattle.pbd_world.specs.Bonds.{entries_of}
 use Rattle.pbd_pair.specs.Moves.{settled, moved_below}
-use Rattle.pbd_pair.proofs.ByWay.{added_nothing}
-use Rattle.pbd_world.proofs.KeptLemmas.{back_again}
 
 then_both : (s v w : ℤ) → (s +ℤ v) +ℤ w ≡ s +ℤ (v +ℤ w)
 then_both s v w = omega (arith, ints)
 
 sum_then : (s : Sum) (v w : Vec3) → sum_plus (sum_plus s v) w ≡ sum_plus s (plus v w)
 sum_then s v w = λ i. record { x = then_both s.x v.x w.x i; y = then_both s.y v.y w.y i; z = then_both s.z v.z w.z i }
-
-sum_left : (s : Sum) (v : Vec3) → sum_plus (sum_plus s (opposite v)) v ≡ s
-sum_left s v = λ i. record { x = back_again s.x v.x i; y = back_again s.y v.y i; z = back_again s.z v.z i }
 
 -- two moves of one class
 pub both_added : (t : Ledger) (class : Class) (v w : Vec3) → added (added t class v) class w ≡ added t class (plus v w)
@@ -32,15 +25,6 @@ both_added t classes.Link v w = ap (λ (s : Sum). record t { link = s }) (sum_th
 both_added t classes.Contact v w = ap (λ (s : Sum). record t { contact = s }) (sum_then t.contact v w)
 both_added t classes.Pin v w = ap (λ (s : Sum). record t { pin = s }) (sum_then t.pin v w)
 both_added t classes.Shape v w = ap (λ (s : Sum). record t { shape = s }) (sum_then t.shape v w)
-
--- opposite moves of one class
-nothing_left : (t : Ledger) (class : Class) (v : Vec3) → added (added t class (opposite v)) class v ≡ t
-nothing_left t classes.Gravity v = ap (λ (s : Sum). record t { gravity = s }) (sum_left t.gravity v)
-nothing_left t classes.Damping v = ap (λ (s : Sum). record t { damping = s }) (sum_left t.damping v)
-nothing_left t classes.Link v = ap (λ (s : Sum). record t { link = s }) (sum_left t.link v)
-nothing_left t classes.Contact v = ap (λ (s : Sum). record t { contact = s }) (sum_left t.contact v)
-nothing_left t classes.Pin v = ap (λ (s : Sum). record t { pin = s }) (sum_left t.pin v)
-nothing_left t classes.Shape v = ap (λ (s : Sum). record t { shape = s }) (sum_left t.shape v)
 
 pub plus_opposite : (s v : Vec3) → plus s (plus (opposite v) v) ≡ s
 plus_opposite s v = λ i. record { x = back s.x v.x i; y = back s.y v.y i; z = back s.z v.z i } where
@@ -72,41 +56,6 @@ pub both_within : {back forth : Vec3} (sum : Vec3) (n : ℕ) → Within n sum �
     → Within (n + 2 ^ 23) (plus sum (minus forth back))
 both_within {back} {forth} sum n h b f = wider _ (n + (2 ^ 22 + 2 ^ 22)) (n + 2 ^ 23) (omega arith) (plus_within sum (minus forth back) n
     (2 ^ 22 + 2 ^ 22) h (minus_within forth back (2 ^ 22) (2 ^ 22) f b))
-
--- two free ends move oppositely, and a held one stays
-pub record Opposed (first_held second_held : Bool) (t : Shift) : Type 0 where
-  pub both : first_held ≡ false → second_held ≡ false → t.first_move ≡ opposite t.second_move
-  pub first : first_held ≡ true → t.first_move ≡ zero_vector
-  pub second : second_held ≡ true → t.second_move ≡ zero_vector
-
-abbrev pinned : Ledger → Vec3 → Ledger
-pinned t v = record t { pin = sum_plus t.pin v }
-
--- one bond
-pinned_more : (t : Ledger) (s : Vec3) (class : Class) (p q : Bool) (m : Shift) → Opposed p q m
-    → booked (pinned t s) (entries_of p q class m) ≡ pinned t
-    (plus s (plus m.first_move m.second_move))
-pinned_more t s class false false m h =
-    let e = h.both refl refl in
-    ap (λ (v : Vec3). added (added (pinned t s) class v) class m.second_move) e ∙ nothing_left (pinned t s) class m.second_move
-    ∙ ap (pinned t) (sym (ap (λ (v : Vec3). plus s (plus v m.second_move)) e ∙ plus_opposite s m.second_move))
-pinned_more t s class false true m h =
-    both_added t classes.Pin s m.first_move ∙ ap (pinned t) (sym (ap (λ (v : Vec3). plus s (plus m.first_move v)) (h.second refl)
-    ∙ first_alone s m.first_move))
-pinned_more t s class true false m h =
-    both_added t classes.Pin s m.second_move ∙ ap (pinned t) (sym (ap (λ (v : Vec3). plus s (plus v m.second_move)) (h.first refl)
-    ∙ second_alone s m.second_move))
-pinned_more t s class true true m h =
-    ap (pinned t) (sym ((λ i. plus s (plus (h.first refl i) (h.second refl i))) ∙ both_none s))
-
--- all of them
-pub pinned_all : (t : Ledger) (class : ℕ → Class) (p q : ℕ → Bool) (m : ℕ → Shift) (n : ℕ) → ((k : ℕ) → k < n → Opposed (p k) (q k) (m k))
-    → settled (λ k. entries_of (p k) (q k) (class k) (m k)) n t
-    ≡ added t classes.Pin (moved_below (λ k. plus (m k).first_move (m k).second_move) n)
-pinned_all t class p q m zero o = sym (added_nothing t classes.Pin)
-pinned_all t class p q m (suc n) o =
-    ap (λ (u : Ledger). booked u (entries_of (p n) (q n) (class n) (m n))) (pinned_all t class p q m n (λ k l. o k (omega arith)))
-    ∙ pinned_more t (moved_below (λ k. plus (m k).first_move (m k).second_move) n) (class n) (p n) (q n) (m n) (o n (omega arith))
 
 -- equal entries, and equal moves, one by one
 pub settled_same : (e f : ℕ → List Entry) (n : ℕ) (t : Ledger) → ((k : ℕ) → k < n → (u : Ledger) → booked u (e k) ≡ booked u (f k))

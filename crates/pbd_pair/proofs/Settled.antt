@@ -1,8 +1,8 @@
 -- A chunk whose ends have moved, as its bonds one by one.
-use Rattle.std.proofs.Common.{◌≡◌, ℕ, ◌<◌, ◌≤◌, ◌^◌, ℤ, pos, ◌≤ℤ◌, ◌<ℤ◌, List, length, get_or, Bool, true, false, ◌&&◌, int_le}
+use Rattle.std.proofs.Common.{◌≡◌, ℕ, ◌<◌, ◌≤◌, ◌^◌, ℤ, pos, ◌≤ℤ◌, ◌<ℤ◌, List, length, get_or, Bool, true, false, ◌&&◌}
 use Rattle.std.proofs.Common.{◌||◌, not, int_lt, cond, refl, ap, sym, ◌∙◌, arith, subst, Err}
 use Rattle.std.proofs.Common.{IsTrue, to_z, of_z, w32, FitsSigned}
-use Rattle.std.proofs.lemmas.Int.{ints, to_z-of_z}
+use Rattle.std.proofs.lemmas.Int.{to_z-of_z}
 use Rattle.std.specs.Int.Signed.{<ℤ-≤ℤ_trans}
 use Rattle.pbd_num.proofs.Tests.{less}
 use Rattle.pbd_num.specs.declared.Vec3.{Vec3}
@@ -21,6 +21,8 @@ use Rattle.pbd_world.specs.Bonds.{end_of, class_of, entries_of}
 use Rattle.pbd_store.specs.Stored.{Stored}
 use Rattle.pbd_store.specs.Moving.{motion_of}
 use Rattle.pbd_store.specs.declared.pairs.EndMoves.{EndMoves}
+use Rattle.pbd_pair.specs.declared.bonds.Bonds.{Bonds}
+use Rattle.pbd_pair.specs.declared.bonds.Bonds.TheVariants.{Links, Contacts, LaidLinks, LaidContacts}
 use Rattle.pbd_pair.specs.declared.chunk.Found.{Found}
 use Rattle.pbd_store.specs.Pairs.{row_in, moves_in, ways_in, opposites_in, first_moves, second_moves, stays, ArePairs, PairsApart, AreMoves}
 use Rattle.pbd_store.specs.Pairs.{AreShort, EachMoved, LeavesAt}
@@ -29,20 +31,14 @@ use Rattle.pbd_pair.specs.Projecting.{CanProject, ShareNone, projected_block}
 use Rattle.pbd_pair.specs.Moves.{moves_at, moves_by, stay_at, entries_at, settled, moved_below}
 use Rattle.pbd_pair.specs.Laid.{number_in}
 use Rattle.pbd_pair.specs.Chunks.{kept_by, entries_in, has_held, lying_in, moved_if, unplaced, AreExact, AreInColumns, AreMoved, AreNear}
-use Rattle.pbd_pair.specs.Chunks.{AreSized, AreTried, AreWeighed, IsFound, IsMasked, Lying}
+use Rattle.pbd_pair.specs.Chunks.{AreSized, AreTried, IsFound, IsMasked, Lying}
 use Rattle.pbd_pair.proofs.ByWay.{same_entries, added_nothing}
 use Rattle.pbd_pair.proofs.Reaching.{nth}
 use Rattle.pbd_pair.proofs.Parting.{AreDone, chunk_done, chunk_leaves}
 use Rattle.pbd_pair.proofs.Counted.{HeldStay, counted_all, first_stays, second_stays, together_if}
-use Rattle.pbd_pair.proofs.Pinning.{Opposed, pinned_all, settled_same, moved_same, moved_nothing}
-use Rattle.pbd_pair.proofs.NearBonds.{kept_some, kept_none}
+use Rattle.pbd_pair.proofs.Pinning.{settled_same, moved_same}
+use Rattle.pbd_pair.proofs.NearBonds.{kept_some}
 use Rattle.pbd_pair.proofs.Chunks.{ends_apart, moves_told, first_flag, second_flag, sized}
-
-weighs : (w : ℤ) → int_le w (pos 0) ≡ false → pos 0 <ℤ w
-weighs w e = grind (arith, ints, e)
-
-weightless : (w : ℤ) → int_le w (pos 0) ≡ true → w ≤ℤ pos 0
-weightless w e = grind (arith, ints, e)
 
 kept_size : (b : Bool) (row : Row) → Within (2 ^ 22) (vector_of row) → Within (2 ^ 22) (vector_of (cond b row no_row))
 kept_size true row h = h
@@ -65,14 +61,22 @@ pub kept_short : (w : ℤ) (row : Row) {kept : Row} → kept ≡ kept_by w row �
     → Within (2 ^ 22) (vector_of kept)
 kept_short w row is h = subst (λ (r : Row). Within (2 ^ 22) (vector_of r)) (sym is) (kept_size_by w row h)
 
-kept_unflagged : (w : ℤ) (row : Row) {kept : Row} → kept ≡ kept_by w row → row.flag ≡ pos 0 → kept.flag ≡ pos 0
+pub kept_unflagged : (w : ℤ) (row : Row) {kept : Row} → kept ≡ kept_by w row → row.flag ≡ pos 0 → kept.flag ≡ pos 0
 kept_unflagged w row is h = ap (λ (r : Row). r.flag) is ∙ kept_flag (int_lt (pos 0) w) row h
 
--- opposite moves add nothing
-pub nothing_booked : (u : Ledger) (rows : List Row) (n : ℕ)
-    → u ≡ added u classes.Pin (moved_below (λ j. plus (opposite (vector_of (row_in rows j)))
-    (vector_of (row_in rows j))) n)
-nothing_booked u rows n = sym (ap (added u classes.Pin) (moved_nothing (λ j. vector_of (row_in rows j)) n) ∙ added_nothing u classes.Pin)
+-- the class of a chunk's bonds
+class_all : Bonds → Class
+class_all (Links links) = classes.Link
+class_all (Contacts pairs thickness) = classes.Contact
+class_all (LaidLinks links laid) = classes.Link
+class_all (LaidContacts pairs thickness laid) = classes.Contact
+
+class_is : (bonds : Bonds) (n : ℕ) → class_of (bond_of bonds n) ≡ class_all bonds
+unfolding class_all
+class_is (Links links) n = refl
+class_is (Contacts pairs thickness) n = refl
+class_is (LaidLinks links laid) n = refl
+class_is (LaidContacts pairs thickness laid) n = refl
 
 module _ {found : Found} {s : Stored} {t : Totals} (can : CanProject 128 found.chunk.bonds found.chunk.numbers.now s t)
     (is : IsFound s.particles found) where
@@ -97,14 +101,6 @@ module _ {found : Found} {s : Stored} {t : Totals} (can : CanProject 128 found.c
 
   pub sized_asked : AreSized (length numbers) (lying_in found)
   sized_asked = sized can is.first is.second is.between
-
-  pub weighed_asked : AreWeighed (length found.laid.first_weight.now) found.laid.first_weight.now found.laid.second_weight.now
-  weighed_asked = record {
-    first_low = λ j p. sized_asked.first_low j (omega (arith, p, is.first_long));
-    first_high = λ j p. sized_asked.first_high j (omega (arith, p, is.first_long));
-    second_low = λ j p. sized_asked.second_low j (omega (arith, p, is.first_long));
-    second_high = λ j p. sized_asked.second_high j (omega (arith, p, is.first_long));
-  }
 
   pub columns_asked : AreInColumns found
   columns_asked = record {
@@ -263,68 +259,14 @@ module _ {found : Found} {s : Stored} {t : Totals} (can : CanProject 128 found.c
         ∙ settled_same (λ k. entries_of (held k) (held_second k) class (shift_at k)) (λ k. entries_at s.particles (B k)) (length numbers) u
         (λ k p v. ap (λ (x : Class). booked v (entries_of (held k) (held_second k) x (shift_at k))) (sym (kind (get_or numbers k 0))))
 
-  -- one row for both ends of a bond
-  module _ {moves back forth : List Row} (near : AreNear (bond_of found.chunk.bonds) numbers (lying_in found) moves)
-      (masked : IsMasked (length numbers) (lying_in found) moves back forth) where
-    pub near_moved : AreMoved (bond_of found.chunk.bonds) numbers (lying_in found) back forth
-    near_moved = record {
-      back_long = masked.back_long;
-      forth_long = masked.forth_long;
-      each = λ j p. record {
-        back_flag = kept_unflagged (number_in found.laid.first_weight.now j) (row_in moves j) (masked.back j p) (near.each j p).flag;
-        forth_flag = kept_unflagged (number_in found.laid.second_weight.now j) (row_in moves j) (masked.forth j p) (near.each j p).flag;
-        back_size = kept_short (number_in found.laid.first_weight.now j) (row_in moves j) (masked.back j p) (near.each j p).size;
-        forth_size = kept_short (number_in found.laid.second_weight.now j) (row_in moves j) (masked.forth j p) (near.each j p).size;
-        moves = (near.each j p).moves ∙ (λ i. (opposite (vector_of (sym (masked.back j p) i)), vector_of (sym (masked.forth j p) i)));
-      };
-    }
-
-    -- what is booked
-    opposed : (k : ℕ) → k < length numbers → Opposed (particle_at s.particles (B k).a).held (particle_at s.particles (B k).b).held
-        (shift_by (end_of
-        (particle_at s.particles (B k).a)) (end_of (particle_at s.particles (B k).b)) (moves_at s.particles (B k)).0
-        (moves_at s.particles (B k)).1)
-    opposed k p =
-        let w1 = number_in found.laid.first_weight.now k in
-        let w2 = number_in found.laid.second_weight.now k in
-        let row = row_in moves k in
-        let f1 = first_flag can is.first is.second is.between k p in
-        let f2 = second_flag can is.first is.second is.between k p in
-        record {
-          both = λ a b. sym (first_moved near_moved k p) ∙ ap (λ (r : Row). opposite (vector_of r))
-              (masked.back k p ∙ kept_some w1 row (weighs w1 (f1 ∙ a)))
-              ∙ ap opposite (sym (ap vector_of (masked.forth k p ∙ kept_some w2 row (weighs w2 (f2 ∙ b)))))
-              ∙ ap opposite (second_moved near_moved k p);
-          first = λ a. sym (first_moved near_moved k p) ∙ ap (λ (r : Row). opposite (vector_of r))
-              (masked.back k p ∙ kept_none w1 row (weightless w1 (f1 ∙ a)));
-          second = λ b. sym (second_moved near_moved k p) ∙ ap vector_of
-              (masked.forth k p ∙ kept_none w2 row (weightless w2 (f2 ∙ b)));
-        }
-
-    pub near_books : (u : Ledger) → added u classes.Pin (moved_below
-        (λ j. plus (opposite (vector_of (row_in back j))) (vector_of (row_in forth j)))
-        (length numbers)) ≡ settled (λ k. entries_at s.particles (B k)) (length numbers) u
-    near_books u =
-        ap (added u classes.Pin) (moved_same _ _ (length numbers)
-        (λ k p. λ i. plus (first_moved near_moved k p i) (second_moved near_moved k p i)))
-        ∙ sym (pinned_all u (λ k. class_of (B k)) (λ k. (particle_at s.particles (B k).a).held)
-        (λ k. (particle_at s.particles (B k).b).held)
-        (λ k. shift_by (end_of (particle_at s.particles (B k).a)) (end_of (particle_at s.particles (B k).b)) (moves_at s.particles (B k)).0
-        (moves_at s.particles (B k)).1) (length numbers) opposed)
-
-    pub near_done : {new : List Particle} {u : Ledger}
-        → EachMoved asked s.limit found.pairs.first.now found.pairs.second.now (opposites_in back) (ways_in forth) s.particles new
-        → u ≡ added (ledger_of t) classes.Pin (moved_below (λ j. plus (opposite (vector_of (row_in back j))) (vector_of (row_in forth j)))
-        (length numbers))
-        → AreDone s.limit (bond_of found.chunk.bonds) numbers (motion_of s t) new u
-    near_done told books = moved_done near_moved told (books ∙ near_books (ledger_of t))
-
-  -- where all ends are free, nothing is booked
-  pub free_done : {moves : List Row} {new : List Particle} → AreNear (bond_of found.chunk.bonds) numbers (lying_in found) moves
-      → IsMasked (length numbers) (lying_in found) moves moves moves
-      → EachMoved asked s.limit found.pairs.first.now found.pairs.second.now (opposites_in moves) (ways_in moves) s.particles new
-      → AreDone s.limit (bond_of found.chunk.bonds) numbers (motion_of s t) new (ledger_of t)
-  free_done {moves} near masked told = near_done near masked told (nothing_booked (ledger_of t) moves (length numbers))
+    -- where the sums are nothing
+    pub nothing_books : (u : Ledger) → zero_vector ≡ moved_below (λ j. moved_if (beside j) (row_in back j) (row_in forth j)) (length numbers)
+        → zero_vector ≡ moved_below (λ j. moved_if (not (beside j)) (row_in back j) (row_in forth j)) (length numbers)
+        → u ≡ settled (λ k. entries_at s.particles (B k)) (length numbers) u
+    nothing_books u pins own =
+        let class = class_all found.chunk.bonds in
+        sym (added_nothing (added u classes.Pin zero_vector) class ∙ added_nothing u classes.Pin)
+        ∙ moved_books class u (class_is found.chunk.bonds) pins own
 
 -- rows without flags tell the moves
 pub near_tried : {bond : ℕ → Bond} {numbers : List ℕ} {l : Lying} {rows : List Row} → AreTried bond numbers l rows

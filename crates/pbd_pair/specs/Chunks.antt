@@ -1,6 +1,6 @@
 -- Bonds of a chunk, number by number.
 use Rattle.std.specs.Prelude.{◌≡◌, ℕ, ◌+◌, ◌<◌, ◌≤◌, ◌^◌, ℤ, pos, neg_ℤ, ◌<ℤ◌, ◌≤ℤ◌, ◌*ℤ◌, int_lt, int_le, if◌then◌else◌, List, length}
-use Rattle.std.specs.Prelude.{slice_index_or, take, unsigned_abs, Bool, ◌||◌}
+use Rattle.std.specs.Prelude.{slice_index_or, take, unsigned_abs, Bool, ◌||◌, IsTrue}
 use Rattle.pbd_num.specs.declared.Vec3.{Vec3}
 use Rattle.pbd_num.specs.declared.row.Row.{Row}
 use Rattle.pbd_num.specs.declared.tried.Draw.{Draw}
@@ -160,6 +160,11 @@ pub record AreTried (bond : ℕ → Bond) (numbers : List ℕ) (between : Lying)
   pub long : length numbers ≤ length rows
   pub each : (j : ℕ) → j < length numbers → (row_in rows j).flag ≡ pos 0 → IsNear (vector_of (row_in between.ways j))
       (number_in between.first_weight j) (number_in between.second_weight j) (bond (slice_index_or numbers j 0)) (row_in rows j)
+
+-- the same, and none has a flag where that is told
+pub record AreRightIf (told : Bool) (found : Found) (rows : List Row) : Type 0 where
+  pub tried : AreTried (bond_of found.chunk.bonds) found.chunk.numbers.now (lying_in found) rows
+  pub all : IsTrue told → (j : ℕ) → j < length found.chunk.numbers.now → (row_in rows j).flag ≡ pos 0
 
 -- n rows as they are kept by both weights
 pub record IsMasked (n : ℕ) (between : Lying) (moves firsts seconds : List Row) : Type 0 where

@@ -1,7 +1,9 @@
+pub mod Prelude
 pub mod Bonds
 pub mod Projecting
 pub mod Moves
 pub mod Laid
 pub mod Chunks
+pub mod Told
 pub mod Shares
 pub mod Examples

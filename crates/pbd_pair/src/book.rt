@@ -7,6 +7,13 @@ ghost use Rattle.pbd_world.specs.Bonds.{class_of, entries_of};
 use pbd_num::Vec3;
 use pbd_world::{Bond, Class, Shift, Totals};
 
+/// Which of two ends are held.
+#[derive(Clone, Copy)]
+pub(crate) struct HeldEnds {
+    pub(crate) first: bool,
+    pub(crate) second: bool,
+}
+
 // Adds one move to the total of a class.
 fn add(totals: &mut Totals, class: Class, by: Vec3)
     requires room { HaveRoom (2 ^ 126) (ledger_of totals.old) }
@@ -19,29 +26,24 @@ fn add(totals: &mut Totals, class: Class, by: Vec3)
 
 /// Adds both moves of two free ends to the total of the bond's class, or the move of the free end alone to
 /// that of pins.
-pub(crate) fn book(
-    totals: &mut Totals,
-    first_held: bool,
-    second_held: bool,
-    bond: Bond,
-    shift: Shift,
-)
+pub(crate) fn book(totals: &mut Totals, held: HeldEnds, bond: Bond, shift: Shift)
     requires room { HaveRoom (2 ^ 125) (ledger_of totals.old) }
     requires first { Within (2 ^ 31) shift.first_move }
     requires second { Within (2 ^ 31) shift.second_move }
-    ensures value { ledger_of totals.new ≡ booked (ledger_of totals.old) (entries_of first_held second_held (class_of bond) shift) }
+    ensures value { ledger_of totals.new ≡ booked (ledger_of totals.old) (entries_of held.first held.second (class_of bond) shift) }
     ensures room { (n : ℕ) → HaveRoom n (ledger_of totals.old) → HaveRoom (n + 2 ^ 32) (ledger_of totals.new) }
 {
+    let HeldEnds { first, second } = held;
     let class = if bond.contact {
         Class::Contact
     } else {
         Class::Link
     };
-    if first_held {
-        if !second_held {
+    if first {
+        if !second {
             add(totals, Class::Pin, shift.second_move);
         }
-    } else if second_held {
+    } else if second {
         add(totals, Class::Pin, shift.first_move);
     } else {
         add(totals, class, shift.first_move);

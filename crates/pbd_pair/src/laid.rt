@@ -184,23 +184,15 @@ impl BondColumns {
     pub fn open(alloc: Global, room: u32) -> Result<BondColumns, AllocError>
         ensures { IfOk result (λ columns. HaveRows room columns) }
     {
-        let first = vec![in alloc; 0; room as usize]?;
-        let second = vec![in alloc; 0; room as usize]?;
-        let rest = vec![in alloc; 0; room as usize]?;
-        let factor = vec![in alloc; 0; room as usize]?;
-        let stiffness = vec![in alloc; 0; room as usize]?;
-        let portion = vec![in alloc; 0; room as usize]?;
-        let first_weight = vec![in alloc; 0; room as usize]?;
-        let second_weight = vec![in alloc; 0; room as usize]?;
         Ok(BondColumns {
-            first,
-            second,
-            rest,
-            factor,
-            stiffness,
-            portion,
-            first_weight,
-            second_weight,
+            first: vec![in alloc; 0; room as usize]?,
+            second: vec![in alloc; 0; room as usize]?,
+            rest: vec![in alloc; 0; room as usize]?,
+            factor: vec![in alloc; 0; room as usize]?,
+            stiffness: vec![in alloc; 0; room as usize]?,
+            portion: vec![in alloc; 0; room as usize]?,
+            first_weight: vec![in alloc; 0; room as usize]?,
+            second_weight: vec![in alloc; 0; room as usize]?,
         })
     }
 

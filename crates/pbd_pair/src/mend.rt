@@ -1,11 +1,9 @@
 // The bonds of a chunk that the loops of 64-bit numbers left, each corrected exactly and told by a row where one row can.
-ghost use Rattle.std.specs.Prelude.{◌≡◌, ℕ, ◌<◌, ◌≤◌, ◌^◌, pos, ◌<ℤ◌, ◌≤ℤ◌, length, slice_index_or, IsTrue};
-ghost use Rattle.pbd_num.specs.Rows.{vector_of};
-ghost use Rattle.pbd_num.specs.Vectors.{Within, opposite};
-ghost use Rattle.pbd_store.specs.Pairs.{row_in};
+ghost use Rattle.std.specs.Prelude.{◌≡◌, ◌<◌, ◌≤◌, ◌^◌, pos, ◌<ℤ◌, ◌≤ℤ◌, length, slice_index_or, IsTrue};
+ghost use Rattle.pbd_pair.specs.Prelude.{opposite, row_in, vector_of, Within};
 ghost use Rattle.pbd_pair.specs.Bonds.{bond_of};
 ghost use Rattle.pbd_pair.specs.Laid.{number_in};
-ghost use Rattle.pbd_pair.specs.Chunks.{lying_in, AreInColumns, AreKnown, AreTried, IsNear, IsTold};
+ghost use Rattle.pbd_pair.specs.Chunks.{lying_in, AreInColumns, AreKnown, AreRightIf, AreTried, IsNear, IsTold};
 
 use crate::chunk::Found;
 use crate::slow::{exact_moves, row_moves};
@@ -82,8 +80,7 @@ fn mend(found: &Found<'_>, rows: &mut [Row; CHUNK]) -> bool
     requires known { AreKnown found.now.chunk.bonds found.now.chunk.numbers.now }
     requires columns { AreInColumns found.now }
     requires tried { AreTried (bond_of found.now.chunk.bonds) found.now.chunk.numbers.now (lying_in found.now) rows.old }
-    ensures tried { AreTried (bond_of found.now.chunk.bonds) found.now.chunk.numbers.now (lying_in found.now) rows.new }
-    ensures all { IsTrue result → (j : ℕ) → j < length found.now.chunk.numbers.now → (row_in rows.new j).flag ≡ pos 0 }
+    ensures { AreRightIf result found.now rows.new }
 {
     for j in 0..found.chunk.numbers.len() {
         let row = mended(found, j, rows[j]);
@@ -101,8 +98,7 @@ fn mend(found: &Found<'_>, rows: &mut [Row; CHUNK]) -> bool
 pub(crate) fn try_rows(found: &Found<'_>, rows: &mut [Row; CHUNK]) -> bool
     requires known { AreKnown found.now.chunk.bonds found.now.chunk.numbers.now }
     requires columns { AreInColumns found.now }
-    ensures tried { AreTried (bond_of found.now.chunk.bonds) found.now.chunk.numbers.now (lying_in found.now) rows.new }
-    ensures all { IsTrue result → (j : ℕ) → j < length found.now.chunk.numbers.now → (row_in rows.new j).flag ≡ pos 0 }
+    ensures { AreRightIf result found.now rows.new }
 {
     if try_wide(found, rows) {
         return true;

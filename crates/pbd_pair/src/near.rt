@@ -1,23 +1,18 @@
 // The bonds of a chunk by rows of 32-bit numbers.
 ghost use Rattle.std.specs.Prelude.{◌≡◌, ℕ, ◌+◌, ◌*◌, ◌<◌, ◌≤◌, ◌^◌, pos, neg_ℤ, ◌+ℤ◌, ◌-ℤ◌, ◌<ℤ◌, ◌≤ℤ◌, length, slice_index_or, take, unsigned_abs, IsTrue, OnOk};
-ghost use Rattle.pbd_num.specs.Rows.{vector_of};
-ghost use Rattle.pbd_num.specs.Vectors.{Within, plus, minus, opposite};
+ghost use Rattle.pbd_pair.specs.Prelude.{added, blocks_of, class_of, fixed_parts, ledger_of, minus, opposite, plus, row_in, vector_of, HaveRoom, Within};
 ghost use Rattle.pbd_near.specs.Moves.{IsPulled};
-ghost use Rattle.pbd_world.specs.Bonds.{class_of};
-ghost use Rattle.pbd_world.specs.Ledger.{ledger_of, added, HaveRoom};
-ghost use Rattle.pbd_store.specs.Blocks.{blocks_of};
-ghost use Rattle.pbd_store.specs.Moving.{fixed_parts};
-ghost use Rattle.pbd_store.specs.Pairs.{row_in};
 ghost use Rattle.pbd_pair.specs.Bonds.{bond_of};
 ghost use Rattle.pbd_pair.specs.Projecting.{CanProject, ComesTo, StaysSound};
 ghost use Rattle.pbd_pair.specs.Moves.{moved_below};
 ghost use Rattle.pbd_pair.specs.Laid.{number_in};
-ghost use Rattle.pbd_pair.specs.Chunks.{kept_by, lying_in, AreInColumns, AreMoved, AreNear, AreSized, AreWeighed, HaveStiffness, IsFound, IsMasked};
+ghost use Rattle.pbd_pair.specs.Chunks.{kept_by, lying_in, AreInColumns, AreKnown, AreMoved, AreNear, AreSized, AreWeighed, HaveStiffness, IsFound, IsMasked};
+ghost use Rattle.pbd_pair.specs.Told.{AreToldBy};
 
 use crate::chunk::{Found, left_at};
 use crate::mend::try_rows;
-use crate::slow::project_exactly;
-use crate::sums::sums_of;
+use crate::slow::{NO_MOVES, book_each, exact_each};
+use crate::sums::{Sums, sums_of};
 use crate::uneven::{Portions, share};
 use crate::wide::{begins_long, least_of};
 use pbd_near::Near;
@@ -25,6 +20,17 @@ use pbd_num::{CHUNK, Row, Vec3};
 use pbd_store::{Steps, Store};
 use pbd_world::{Class, Left, Totals};
 use std::sync::ledger::Ledger;
+
+/// How rows tell the moves of a chunk's bonds.
+#[derive(Clone, Copy)]
+pub(crate) enum Told {
+    /// One row tells both moves of a bond. No end is held, so that the moves come to nothing.
+    Alike,
+    /// A row for each end, and what they come to.
+    Apart(Sums),
+    /// Rows tell some of them.
+    InPart,
+}
 
 /// The moves of a chunk's bonds in 32-bit numbers.
 #[derive(Clone, Copy)]
@@ -219,71 +225,42 @@ impl NearMoves {
         pins.vector()
     }
 
-    // Moves the ends of a chunk's bonds, and books the moves beside held ends. Two free ends move oppositely, and add
-    // nothing to any total.
-    fn pull<const L: usize, G: Ledger>(
-        &mut self,
-        store: &mut Store<L>,
-        found: &Found<'_>,
-        totals: &mut Totals,
-        steps: &mut Steps<G>,
-    ) -> Result<(), Left>
-        requires some_lanes { 0 < L }
-        requires lanes { L ≤ 16 }
-        requires can { CanProject 128 found.now.chunk.bonds found.now.chunk.numbers.now store.old totals.old }
-        requires found { IsFound store.old.particles found.now }
+    // Tells the moves of a chunk's bonds by a row each, which tells both moves of a bond. Only where an end is held do any count.
+    fn tell_masked(&mut self, found: &Found<'_>) -> Told
+        requires few { length found.now.chunk.numbers.now ≤ 128 }
+        requires columns { AreInColumns found.now }
         requires near { AreNear (bond_of found.now.chunk.bonds) found.now.chunk.numbers.now (lying_in found.now) self.old.moves }
-        ensures outcome { ComesTo found.now.chunk.bonds found.now.chunk.numbers.now store.old store.new totals.old totals.new result }
-        ensures limit { store.new.limit ≡ store.old.limit }
-        ensures copies { store.new.copies ≡ store.old.copies }
-        ensures fixed { fixed_parts store.new.particles ≡ fixed_parts store.old.particles }
-        ensures sound { OnOk result (StaysSound (length found.now.chunk.numbers.now) store.old store.new totals.old totals.new) }
-        ensures cost { steps.new ≡ steps.old + 2 * blocks_of (length found.now.chunk.numbers.now) L }
+        ensures { AreToldBy found.now self.new result }
     {
         let least = least_weight(found.laid.first_weight, found.laid.second_weight);
         let free = 0 < least;
         if free {
-            if let Err(j) = store.pull(found.pairs, &self.moves, &self.moves, steps) {
-                return Err(left_at(found, j));
-            }
-            return Ok(());
+            return Told::Alike;
         }
         let pins = self.mask(found);
-        if let Err(j) = store.pull(found.pairs, &self.back, &self.forth, steps) {
-            return Err(left_at(found, j));
-        }
-        book_sum(totals, Class::Pin, pins);
-        Ok(())
+        Told::Apart(Sums {
+            pins,
+            own: Vec3::ZERO,
+        })
     }
 
-    // Moves the ends of a chunk's bonds, whose moves are told, and books them: the moves beside held ends to pins, and all others
-    // to the bonds' own class.
-    fn pull_uneven<const L: usize, G: Ledger>(
-        &self,
-        store: &mut Store<L>,
-        found: &Found<'_>,
-        totals: &mut Totals,
-        steps: &mut Steps<G>,
-    ) -> Result<(), Left>
-        requires some_lanes { 0 < L }
-        requires lanes { L ≤ 16 }
-        requires can { CanProject 128 found.now.chunk.bonds found.now.chunk.numbers.now store.old totals.old }
-        requires found { IsFound store.old.particles found.now }
-        requires moved { AreMoved (bond_of found.now.chunk.bonds) found.now.chunk.numbers.now (lying_in found.now) self.now.back self.now.forth }
-        ensures outcome { ComesTo found.now.chunk.bonds found.now.chunk.numbers.now store.old store.new totals.old totals.new result }
-        ensures limit { store.new.limit ≡ store.old.limit }
-        ensures copies { store.new.copies ≡ store.old.copies }
-        ensures fixed { fixed_parts store.new.particles ≡ fixed_parts store.old.particles }
-        ensures sound { OnOk result (StaysSound (length found.now.chunk.numbers.now) store.old store.new totals.old totals.new) }
-        ensures cost { steps.new ≡ steps.old + 2 * blocks_of (length found.now.chunk.numbers.now) L }
+    // Tells the moves of a chunk's bonds by rows, side by side, if all of them come out right so.
+    fn tell(&mut self, found: &Found<'_>) -> Told
+        requires known { AreKnown found.now.chunk.bonds found.now.chunk.numbers.now }
+        requires columns { AreInColumns found.now }
+        requires stiff { HaveStiffness found.now }
+        ensures { AreToldBy found.now self.new result }
     {
-        let moved = sums_of(found, &self.back, &self.forth);
-        if let Err(j) = store.pull(found.pairs, &self.back, &self.forth, steps) {
-            return Err(left_at(found, j));
+        if self.try_short(found) {
+            return self.tell_masked(found);
         }
-        book_sum(totals, Class::Pin, moved.pins);
-        book_sum(totals, class_in(found), moved.own);
-        Ok(())
+        if self.try_uneven(found) {
+            return Told::Apart(sums_of(found, &self.back, &self.forth));
+        }
+        if try_rows(found, &mut self.moves) {
+            return self.tell_masked(found);
+        }
+        Told::InPart
     }
 
     /// Projects a chunk of bonds: side by side where the moves of all of them come out right so, else one by one.
@@ -305,15 +282,30 @@ impl NearMoves {
         ensures sound { OnOk result (StaysSound (length found.now.chunk.numbers.now) store.old store.new totals.old totals.new) }
         ensures cost { steps.new ≡ steps.old + 2 * blocks_of (length found.now.chunk.numbers.now) L }
     {
-        if self.try_short(found) {
-            return self.pull(store, found, totals, steps);
+        match self.tell(found) {
+            Told::Alike => {
+                if let Err(j) = store.pull(found.pairs, &self.moves, &self.moves, steps) {
+                    return Err(left_at(found, j));
+                }
+                Ok(())
+            }
+            Told::Apart(sums) => {
+                if let Err(j) = store.pull(found.pairs, &self.back, &self.forth, steps) {
+                    return Err(left_at(found, j));
+                }
+                book_sum(totals, Class::Pin, sums.pins);
+                book_sum(totals, class_in(found), sums.own);
+                Ok(())
+            }
+            Told::InPart => {
+                let mut moves = [NO_MOVES; CHUNK];
+                exact_each(found, &self.moves, &mut moves);
+                if let Err(j) = store.move_each(found.pairs, &moves, steps) {
+                    return Err(left_at(found, j));
+                }
+                book_each(totals, found, &moves);
+                Ok(())
+            }
         }
-        if self.try_uneven(found) {
-            return self.pull_uneven(store, found, totals, steps);
-        }
-        if try_rows(found, &mut self.moves) {
-            return self.pull(store, found, totals, steps);
-        }
-        project_exactly(store, found, &self.moves, totals, steps)
     }
 }

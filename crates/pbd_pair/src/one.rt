@@ -10,38 +10,48 @@ use pbd_store::{Steps, Store};
 use pbd_world::{Bond, Correction, Left, Totals};
 use std::sync::ledger::Ledger;
 
-/// Projects bond n, unless that leaves the limit.
-pub(crate) fn project_one<const L: usize, G: Ledger>(
-    store: &mut Store<L>,
-    n: u32,
-    bond: Bond,
-    totals: &mut Totals,
-    steps: &mut Steps<G>,
-) -> Result<(), Left>
-    requires bond { IsBond store.old.limit (length store.old.particles) bond }
-    requires inside { AreInside store.old.limit store.old.particles }
-    requires room { HaveRoom (2 ^ 125) (ledger_of totals.old) }
-    ensures outcome { MatchResult result
-        (λ _. corrected n bond (correction_at store.old.limit store.old.particles bond) (motion_of store.old totals.old)
-        ≡ Ok (motion_of store.new totals.new))
-        (λ left. corrected n bond (correction_at store.old.limit store.old.particles bond) (motion_of store.old totals.old)
-        ≡ Err left.element) }
-    ensures inside { AreInside store.old.limit store.new.particles }
-    ensures limit { store.new.limit ≡ store.old.limit }
-    ensures copies { store.new.copies ≡ store.old.copies }
-    ensures fixed { fixed_parts store.new.particles ≡ fixed_parts store.old.particles }
-    ensures room { (k : ℕ) → HaveRoom k (ledger_of totals.old) → HaveRoom (k + 2 ^ 32) (ledger_of totals.new) }
-    ensures cost { steps.new ≤ steps.old + 4 }
-{
-    let note = read_bond(store, bond, steps);
-    match note.correction {
-        Correction::Slack => Ok(()),
-        Correction::Leaves => Err(Left { element: n }),
-        Correction::Moves(shift) => {
-            store.put(bond.a, shift.first, steps);
-            store.put(bond.b, shift.second, steps);
-            book_moves(totals, note, bond, shift);
-            Ok(())
+/// A bond, and its number.
+#[derive(Clone, Copy)]
+pub(crate) struct NumberedBond {
+    pub(crate) number: u32,
+    pub(crate) bond: Bond,
+}
+
+impl NumberedBond {
+    /// Projects the bond, unless that leaves the limit.
+    pub(crate) fn project<const L: usize, G: Ledger>(
+        self,
+        store: &mut Store<L>,
+        totals: &mut Totals,
+        steps: &mut Steps<G>,
+    ) -> Result<(), Left>
+        requires bond { IsBond store.old.limit (length store.old.particles) self.bond }
+        requires inside { AreInside store.old.limit store.old.particles }
+        requires room { HaveRoom (2 ^ 125) (ledger_of totals.old) }
+        ensures outcome { MatchResult result
+            (λ _. corrected self.number self.bond (correction_at store.old.limit store.old.particles self.bond)
+            (motion_of store.old totals.old) ≡ Ok (motion_of store.new totals.new))
+            (λ left. corrected self.number self.bond (correction_at store.old.limit store.old.particles self.bond)
+            (motion_of store.old totals.old) ≡ Err left.element) }
+        ensures inside { AreInside store.old.limit store.new.particles }
+        ensures limit { store.new.limit ≡ store.old.limit }
+        ensures copies { store.new.copies ≡ store.old.copies }
+        ensures fixed { fixed_parts store.new.particles ≡ fixed_parts store.old.particles }
+        ensures room { (k : ℕ) → HaveRoom k (ledger_of totals.old) → HaveRoom (k + 2 ^ 32) (ledger_of totals.new) }
+        ensures cost { steps.new ≤ steps.old + 4 }
+    {
+        let note = read_bond(store, self.bond, steps);
+        match note.correction {
+            Correction::Slack => Ok(()),
+            Correction::Leaves => Err(Left {
+                element: self.number,
+            }),
+            Correction::Moves(shift) => {
+                store.put(self.bond.a, shift.first, steps);
+                store.put(self.bond.b, shift.second, steps);
+                book_moves(totals, note, self.bond, shift);
+                Ok(())
+            }
         }
     }
 }

@@ -7,7 +7,7 @@ ghost use Rattle.pbd_world.specs.Bonds.{class_of, correction_at, entries_of};
 ghost use Rattle.pbd_store.specs.Moving.{AreInside};
 ghost use Rattle.pbd_pair.specs.Bonds.{IsBond, IsSound};
 
-use crate::book::book;
+use crate::book::{HeldEnds, book};
 use crate::correct::{as_end, correct, limit_of};
 use pbd_store::{Steps, Store};
 use pbd_world::{Bond, Correction, Shift, Totals};
@@ -57,5 +57,9 @@ pub fn book_moves(totals: &mut Totals, note: Note, bond: Bond, shift: Shift)
         (entries_of note.first_held note.second_held (class_of bond) shift) }
     ensures room { (n : ℕ) → HaveRoom n (ledger_of totals.old) → HaveRoom (n + 2 ^ 32) (ledger_of totals.new) }
 {
-    book(totals, note.first_held, note.second_held, bond, shift);
+    let held = HeldEnds {
+        first: note.first_held,
+        second: note.second_held,
+    };
+    book(totals, held, bond, shift);
 }

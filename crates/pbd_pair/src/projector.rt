@@ -1,11 +1,9 @@
 // What a projector is: how a batch of bonds is projected, and what that costs.
 ghost use Rattle.std.specs.Prelude.{◌≡◌, ℕ, ◌<◌, ◌≤◌, ◌^◌, ◌+◌, ◌-◌, ◌*◌, min, length, MatchResult, OnOk, Result, Ok, Err};
-ghost use Rattle.pbd_world.specs.Ledger.{ledger_of, HaveRoom};
+ghost use Rattle.pbd_pair.specs.Prelude.{blocks_of, fixed_parts, ledger_of, motion_of, AreInside, HaveRoom, Weigh};
 ghost use Rattle.pbd_world.specs.Bonds.{projected};
-ghost use Rattle.pbd_store.specs.Blocks.{blocks_of};
 ghost use Rattle.pbd_pair.specs.Bonds.{bond_of};
 ghost use Rattle.pbd_pair.specs.Laid.{Suit};
-ghost use Rattle.pbd_store.specs.Moving.{motion_of, fixed_parts, AreInside, Weigh};
 ghost use Rattle.pbd_pair.specs.Projecting.{IsBatch};
 
 use crate::bonds::Bonds;

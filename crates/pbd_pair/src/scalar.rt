@@ -2,7 +2,7 @@
 ghost use Rattle.std.specs.Prelude.{◌≡◌};
 
 use crate::bonds::Bonds;
-use crate::one::project_one;
+use crate::one::NumberedBond;
 use crate::projector::Projector;
 use pbd_store::{Steps, Store};
 use pbd_world::{Left, Totals};
@@ -45,7 +45,9 @@ impl<const L: usize> Projector<L> for Scalar<L> {
     ) -> Result<(), Left> {
         self.count = self.count.saturating_add(batch.len() as u64);
         for n in batch {
-            if let Err(left) = project_one(store, *n, bonds.get(*n), totals, steps) {
+            let bond = bonds.get(*n);
+            let one = NumberedBond { number: *n, bond };
+            if let Err(left) = one.project(store, totals, steps) {
                 return Err(left);
             }
         }

@@ -1,24 +1,25 @@
 // The bonds of a chunk, each corrected exactly.
 ghost use Rattle.std.specs.Prelude.{◌≡◌, ℕ, ◌+◌, ◌*◌, ◌<◌, ◌≤◌, ◌^◌, pos, ◌≤ℤ◌, length, slice_index_or, OnOk};
-ghost use Rattle.pbd_num.specs.Rows.{vector_of};
-ghost use Rattle.pbd_num.specs.Vectors.{Within, opposite};
-ghost use Rattle.pbd_world.specs.Ledger.{ledger_of, HaveRoom};
-ghost use Rattle.pbd_store.specs.Blocks.{blocks_of};
-ghost use Rattle.pbd_store.specs.Moving.{fixed_parts};
-ghost use Rattle.pbd_store.specs.Pairs.{moves_in};
+ghost use Rattle.pbd_pair.specs.Prelude.{blocks_of, fixed_parts, ledger_of, moves_in, opposite, vector_of, HaveRoom, Within};
 ghost use Rattle.pbd_pair.specs.Bonds.{bond_of, bond_count};
 ghost use Rattle.pbd_pair.specs.Projecting.{CanProject, ComesTo, StaysSound};
 ghost use Rattle.pbd_pair.specs.Moves.{moves_by, settled};
 ghost use Rattle.pbd_pair.specs.Laid.{IsFirm};
 ghost use Rattle.pbd_pair.specs.Chunks.{entries_in, kept_by, lying_in, unplaced, AreExact, AreKnown, AreSized, AreTried, AreWeights, IsExact, IsFound, IsNear};
 
-use crate::book::book;
+use crate::book::{HeldEnds, book};
 use crate::chunk::{Found, left_at};
 use crate::wide::{draw_of, weights_of};
 use pbd_num::{CHUNK, Row, Vec3, Weights, moves_along};
 use pbd_store::{EndMoves, Steps, Store};
 use pbd_world::{Bond, Left, Shift, Totals};
 use std::sync::ledger::Ledger;
+
+/// No moves.
+pub(crate) const NO_MOVES: EndMoves = EndMoves {
+    first: Vec3::ZERO,
+    second: Vec3::ZERO,
+};
 
 /// The moves of two ends.
 pub(crate) fn exact_moves(way: Vec3, bond: Bond, weights: Weights) -> EndMoves
@@ -72,9 +73,9 @@ fn moves_of(row: Row, way: Vec3, bond: Bond, weights: Weights) -> EndMoves
     exact_moves(way, bond, weights)
 }
 
-// The moves of a chunk's bonds, one by one.
+/// The moves of a chunk's bonds, one by one, from rows that tell those of some of them.
 #[inline(never)]
-fn exact_each(found: &Found<'_>, rows: &[Row; CHUNK], moves: &mut [EndMoves; CHUNK])
+pub(crate) fn exact_each(found: &Found<'_>, rows: &[Row; CHUNK], moves: &mut [EndMoves; CHUNK])
     requires known { AreKnown found.now.chunk.bonds found.now.chunk.numbers.now }
     requires first_long { length found.now.laid.first_weight.now ≡ length found.now.chunk.numbers.now }
     requires second_long { length found.now.laid.second_weight.now ≡ length found.now.chunk.numbers.now }
@@ -102,9 +103,9 @@ fn as_shift(moves: EndMoves) -> Shift
     }
 }
 
-// Adds the moves of a chunk's bonds to the totals.
+/// Adds the moves of a chunk's bonds to the totals.
 #[inline(never)]
-fn book_each(totals: &mut Totals, found: &Found<'_>, moves: &[EndMoves; CHUNK])
+pub(crate) fn book_each(totals: &mut Totals, found: &Found<'_>, moves: &[EndMoves; CHUNK])
     requires few { length found.now.chunk.numbers.now ≤ 128 }
     requires first_long { length found.now.laid.first_weight.now ≡ length found.now.chunk.numbers.now }
     requires second_long { length found.now.laid.second_weight.now ≡ length found.now.chunk.numbers.now }
@@ -120,47 +121,10 @@ fn book_each(totals: &mut Totals, found: &Found<'_>, moves: &[EndMoves; CHUNK])
         → HaveRoom (n + length found.now.chunk.numbers.now * 2 ^ 32) (ledger_of totals.new) }
 {
     for (j, n) in found.chunk.numbers.iter().enumerate() {
-        book(
-            totals,
-            found.laid.first_weight[j] <= 0,
-            found.laid.second_weight[j] <= 0,
-            found.chunk.bonds.get(*n),
-            as_shift(moves[j]),
-        );
+        let held = HeldEnds {
+            first: found.laid.first_weight[j] <= 0,
+            second: found.laid.second_weight[j] <= 0,
+        };
+        book(totals, held, found.chunk.bonds.get(*n), as_shift(moves[j]));
     }
-}
-
-/// Projects a chunk of bonds from what lies between their ends, whatever that is, and from rows that tell the moves of some
-/// of them.
-#[inline(never)]
-pub(crate) fn project_exactly<const L: usize, G: Ledger>(
-    store: &mut Store<L>,
-    found: &Found<'_>,
-    rows: &[Row; CHUNK],
-    totals: &mut Totals,
-    steps: &mut Steps<G>,
-) -> Result<(), Left>
-    requires some_lanes { 0 < L }
-    requires lanes { L ≤ 16 }
-    requires can { CanProject 128 found.now.chunk.bonds found.now.chunk.numbers.now store.old totals.old }
-    requires found { IsFound store.old.particles found.now }
-    requires tried { AreTried (bond_of found.now.chunk.bonds) found.now.chunk.numbers.now (lying_in found.now) rows.now }
-    ensures outcome { ComesTo found.now.chunk.bonds found.now.chunk.numbers.now store.old store.new totals.old totals.new result }
-    ensures limit { store.new.limit ≡ store.old.limit }
-    ensures copies { store.new.copies ≡ store.old.copies }
-    ensures fixed { fixed_parts store.new.particles ≡ fixed_parts store.old.particles }
-    ensures sound { OnOk result (StaysSound (length found.now.chunk.numbers.now) store.old store.new totals.old totals.new) }
-    ensures cost { steps.new ≡ steps.old + 2 * blocks_of (length found.now.chunk.numbers.now) L }
-{
-    let none = EndMoves {
-        first: Vec3::ZERO,
-        second: Vec3::ZERO,
-    };
-    let mut moves = [none; CHUNK];
-    exact_each(found, rows, &mut moves);
-    if let Err(j) = store.move_each(found.pairs, &moves, steps) {
-        return Err(left_at(found, j));
-    }
-    book_each(totals, found, &moves);
-    Ok(())
 }

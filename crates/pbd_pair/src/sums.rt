@@ -1,8 +1,6 @@
 //! What the ends of a chunk's bonds move by together, in two sums: of the bonds with a held end, and of the others.
 ghost use Rattle.std.specs.Prelude.{◌≡◌, ℕ, ◌*◌, ◌<◌, ◌≤◌, ◌^◌, ◌+ℤ◌, neg_ℤ, pos, length, unsigned_abs, if◌then◌else◌, not};
-ghost use Rattle.pbd_num.specs.Rows.{vector_of};
-ghost use Rattle.pbd_num.specs.Vectors.{Within, plus};
-ghost use Rattle.pbd_store.specs.Pairs.{row_in};
+ghost use Rattle.pbd_pair.specs.Prelude.{plus, row_in, vector_of, Within};
 ghost use Rattle.pbd_pair.specs.Moves.{moved_below};
 ghost use Rattle.pbd_pair.specs.Laid.{number_in};
 ghost use Rattle.pbd_pair.specs.Chunks.{has_held, lying_in, moved_if, AreSized};

@@ -2,11 +2,9 @@
 //! of 32-bit numbers as for all others, and here it is shared by both weights: the first end's share is guessed and tested
 //! by what it leaves, and the second end's comes of what the first leaves.
 ghost use Rattle.std.specs.Prelude.{◌≡◌, ℕ, ◌+◌, ◌*◌, ◌-◌, ◌%◌, ◌<◌, ◌≤◌, ◌^◌, ℤ, pos, ◌<ℤ◌, ◌≤ℤ◌, ◌-ℤ◌, neg_ℤ, length, unsigned_abs, IsTrue};
+ghost use Rattle.pbd_pair.specs.Prelude.{row_in, vector_of, Within};
 ghost use Rattle.pbd_num.specs.Rounding.{rdiv};
 ghost use Rattle.pbd_num.specs.PairMove.{share_of};
-ghost use Rattle.pbd_num.specs.Rows.{vector_of};
-ghost use Rattle.pbd_num.specs.Vectors.{Within};
-ghost use Rattle.pbd_store.specs.Pairs.{row_in};
 ghost use Rattle.pbd_pair.specs.Laid.{number_in};
 ghost use Rattle.pbd_pair.specs.Shares.{AreShareable, AreSharedOut, IsPortion, IsPortionOf, IsShare, Leaves};
 

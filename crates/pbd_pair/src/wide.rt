@@ -1,11 +1,9 @@
 // The bonds of a chunk in 64-bit numbers.
 ghost use Rattle.std.specs.Prelude.{◌≡◌, ℕ, ◌/◌, ◌<◌, ◌≤◌, ◌^◌, pos, neg_ℤ, ◌<ℤ◌, ◌≤ℤ◌, length, unsigned_abs, IsTrue, if◌then◌else◌};
-ghost use Rattle.pbd_num.specs.Rows.{vector_of};
-ghost use Rattle.pbd_num.specs.Vectors.{Within, opposite};
-ghost use Rattle.pbd_store.specs.Pairs.{row_in};
+ghost use Rattle.pbd_pair.specs.Prelude.{opposite, vector_of, Within};
 ghost use Rattle.pbd_pair.specs.Bonds.{bond_of};
 ghost use Rattle.pbd_pair.specs.Laid.{number_in, IsFirm};
-ghost use Rattle.pbd_pair.specs.Chunks.{draw_by, lying_in, AreDrawn, AreInColumns, AreKnown, AreSized, AreTried, AreWeights, HoldsFactor, HoldsRest, IsDraw, IsMild, IsNear};
+ghost use Rattle.pbd_pair.specs.Chunks.{draw_by, lying_in, AreDrawn, AreInColumns, AreKnown, AreRightIf, AreSized, AreWeights, HoldsFactor, HoldsRest, IsDraw, IsMild, IsNear};
 
 use crate::chunk::{Chunk, Found};
 use pbd_num::{CHUNK, Draw, Row, Vec3, Weights, try_moves};
@@ -133,8 +131,7 @@ fn put_rows(found: &Found<'_>, draws: &[Draw; CHUNK], rows: &mut [Row; CHUNK]) -
     requires second_long { length found.now.laid.second_weight.now ≡ length found.now.chunk.numbers.now }
     requires sized { AreSized (length found.now.chunk.numbers.now) (lying_in found.now) }
     requires drawn { AreDrawn (bond_of found.now.chunk.bonds) found.now.chunk.numbers.now draws.now }
-    ensures tried { AreTried (bond_of found.now.chunk.bonds) found.now.chunk.numbers.now (lying_in found.now) rows.new }
-    ensures all { IsTrue result → (j : ℕ) → j < length found.now.chunk.numbers.now → (row_in rows.new j).flag ≡ pos 0 }
+    ensures { AreRightIf result found.now rows.new }
 {
     let laid = found.laid;
     let ways = found.ways;
@@ -183,8 +180,7 @@ fn put_short_rows(found: &Found<'_>, rows: &mut [Row; CHUNK]) -> bool
     requires known { AreKnown found.now.chunk.bonds found.now.chunk.numbers.now }
     requires columns { AreInColumns found.now }
     requires short { (j : ℕ) → j < length found.now.chunk.numbers.now → pos 0 ≤ℤ number_in found.now.laid.factor.now j }
-    ensures tried { AreTried (bond_of found.now.chunk.bonds) found.now.chunk.numbers.now (lying_in found.now) rows.new }
-    ensures all { IsTrue result → (j : ℕ) → j < length found.now.chunk.numbers.now → (row_in rows.new j).flag ≡ pos 0 }
+    ensures { AreRightIf result found.now rows.new }
 {
     let contact = found.chunk.bonds.are_contacts();
     let laid = found.laid;
@@ -205,8 +201,7 @@ fn put_short_rows(found: &Found<'_>, rows: &mut [Row; CHUNK]) -> bool
 fn put_drawn_rows(found: &Found<'_>, rows: &mut [Row; CHUNK]) -> bool
     requires known { AreKnown found.now.chunk.bonds found.now.chunk.numbers.now }
     requires columns { AreInColumns found.now }
-    ensures tried { AreTried (bond_of found.now.chunk.bonds) found.now.chunk.numbers.now (lying_in found.now) rows.new }
-    ensures all { IsTrue result → (j : ℕ) → j < length found.now.chunk.numbers.now → (row_in rows.new j).flag ≡ pos 0 }
+    ensures { AreRightIf result found.now rows.new }
 {
     let none = Draw {
         rest: 0,
@@ -236,8 +231,7 @@ pub(crate) fn least_of(numbers: &[i32]) -> i32
 pub(crate) fn try_wide(found: &Found<'_>, rows: &mut [Row; CHUNK]) -> bool
     requires known { AreKnown found.now.chunk.bonds found.now.chunk.numbers.now }
     requires columns { AreInColumns found.now }
-    ensures tried { AreTried (bond_of found.now.chunk.bonds) found.now.chunk.numbers.now (lying_in found.now) rows.new }
-    ensures all { IsTrue result → (j : ℕ) → j < length found.now.chunk.numbers.now → (row_in rows.new j).flag ≡ pos 0 }
+    ensures { AreRightIf result found.now rows.new }
 {
     let short = 0 <= least_of(found.laid.factor);
     if short {

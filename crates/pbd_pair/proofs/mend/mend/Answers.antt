@@ -1,4 +1,5 @@
 use Rattle.std.proofs.Common.{arith, rules, w32, FitsSigned}
+use Rattle.std.proofs.lemmas.Bool.{false≢true}
 use Rattle.pbd_pair.proofs.WideRows.{no_flag, tried_more, unflagged_more}
 use Rattle.pbd_pair.proofs.mend.mend.Goals as goal
 
@@ -16,9 +17,11 @@ loop-j-preserved c =
           c.loop-j.invariant.right;
     }
 
-pub returns-then-flagged-clause-tried : goal.returns-then-flagged-clause-tried
-returns-then-flagged-clause-tried c =
-    tried_more c.loop-j.j c.mended-row.result c.loop-j.invariant.tried (omega arith) c.mended-row.ensures
+pub returns-then-flagged : goal.returns-then-flagged
+returns-then-flagged c = record {
+  tried = tried_more c.loop-j.j c.mended-row.result c.loop-j.invariant.tried (omega arith) c.mended-row.ensures;
+  all = λ right. absurd (false≢true right);
+}
 
-pub returns-clause-all : goal.returns-clause-all
-returns-clause-all c = λ right j p. c.loop-j.invariant.right j (omega arith)
+pub returns : goal.returns
+returns c = record { tried = c.loop-j.invariant.tried; all = λ right j p. c.loop-j.invariant.right j (omega arith) }

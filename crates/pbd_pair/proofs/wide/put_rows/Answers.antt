@@ -27,8 +27,8 @@ pub wide_row-row-requires-clause-weights : goal.wide_row-row-requires-clause-wei
 wide_row-row-requires-clause-weights c = weights_sized c.requires.sized c.loop-j.j (omega arith) c.weights_of-weights.ensures.first
     c.weights_of-weights.ensures.second
 
-pub returns-clause-tried : goal.returns-clause-tried
-returns-clause-tried c = rows_tried c.requires.known.few (omega arith) c.loop-j.invariant
-
-pub returns-clause-all : goal.returns-clause-all
-returns-clause-all c = λ t j p. (c.loop-j.invariant.below j (omega arith)).flag t
+pub returns : goal.returns
+returns c = record {
+  tried = rows_tried c.requires.known.few (omega arith) c.loop-j.invariant;
+  all = λ t j p. (c.loop-j.invariant.below j (omega arith)).flag t;
+}

@@ -35,8 +35,8 @@ loop-j-preserved c =
       flag = λ t. no_flag c.wide_row-row.result.flag row.flag (and_parts _ _ t).1;
     }) (filled_as c.loop-j.invariant (λ i r h. record { near = h.near; flag = λ t. h.flag (and_parts _ _ t).0 }))
 
-pub returns-clause-tried : goal.returns-clause-tried
-returns-clause-tried c = rows_tried c.requires.known.few (omega arith) c.loop-j.invariant
-
-pub returns-clause-all : goal.returns-clause-all
-returns-clause-all c = λ t j p. (c.loop-j.invariant.below j (omega arith)).flag t
+pub returns : goal.returns
+returns c = record {
+  tried = rows_tried c.requires.known.few (omega arith) c.loop-j.invariant;
+  all = λ t j p. (c.loop-j.invariant.below j (omega arith)).flag t;
+}

@@ -16,18 +16,17 @@ loop-n-preserved g c =
     let bond = bond_of c.args.bonds in
     let n = get_or c.args.batch.now c.loop-n.n-index 0 in
     let now = motion_of c.loop-n.store c.loop-n.totals in
-    let then = motion_of c.project_one.new.store c.project_one.new.totals in
-    let did = one_is limit bond n c.get.result now (Ok then) inv.limit c.get.ensures c.in_default.ensures.outcome in
+    let then = motion_of c.project.new.store c.project.new.totals in
+    let did = one_is limit bond n c.get-bond.result now (Ok then) inv.limit c.get-bond.ensures c.in_default.ensures.outcome in
     record {
-      room = room_at _ (omega arith) (c.project_one.ensures.room _ inv.room);
-      grows = λ n h. room_at _ (omega arith) (c.project_one.ensures.room _ (inv.grows n h));
-      inside = subst (λ (l : ℤ). AreInside l c.project_one.new.store.particles) inv.limit c.project_one.ensures.inside;
-      whole = same_length _ _ (c.project_one.ensures.fixed ∙ inv.fixed);
+      room = room_at _ (omega arith) (c.project.ensures.room _ inv.room);
+      grows = λ n h. room_at _ (omega arith) (c.project.ensures.room _ (inv.grows n h));
+      inside = subst (λ (l : ℤ). AreInside l c.project.new.store.particles) inv.limit c.project.ensures.inside;
       same = turn_on limit bond c.args.batch.now c.loop-n.n-index (omega arith) now then did ∙ inv.same;
-      limit = c.project_one.ensures.limit ∙ inv.limit;
-      copies = c.project_one.ensures.copies ∙ inv.copies;
-      fixed = c.project_one.ensures.fixed ∙ inv.fixed;
-      cost = omega (arith, c.project_one.ensures.cost, inv.cost);
+      limit = c.project.ensures.limit ∙ inv.limit;
+      copies = c.project.ensures.copies ∙ inv.copies;
+      fixed = c.project.ensures.fixed ∙ inv.fixed;
+      cost = omega (arith, c.project.ensures.cost, inv.cost);
     }
 
 pub returns-in-Err-clause-outcome : goal.returns-in-Err-clause-outcome
@@ -37,7 +36,7 @@ returns-in-Err-clause-outcome g c =
     let bond = bond_of c.args.bonds in
     let n = get_or c.args.batch.now c.loop-n.n-index 0 in
     let now = motion_of c.loop-n.store c.loop-n.totals in
-    let did = one_is limit bond n c.get.result now (Err c.in-Err.left.element) inv.limit c.get.ensures c.in-Err.ensures.outcome in
+    let did = one_is limit bond n c.get-bond.result now (Err c.in-Err.left.element) inv.limit c.get-bond.ensures c.in-Err.ensures.outcome in
     sym inv.same ∙ turn_out limit bond c.args.batch.now c.loop-n.n-index (omega arith) now c.in-Err.left.element did
 
 pub loop-n-init : goal.loop-n-init
@@ -45,7 +44,6 @@ loop-n-init g c = record {
   room = room_at _ (omega arith) c.requires.room;
   grows = λ n h. room_at _ (omega arith) h;
   inside = c.requires.inside;
-  whole = refl;
   same = refl;
   limit = refl;
   copies = refl;
@@ -62,13 +60,14 @@ returns-clause-outcome g c =
     (motion_of c.loop-n.store c.loop-n.totals) in
     sym c.loop-n.invariant.same ∙ at_drop_all left c.args.batch.now c.loop-n.n-index (omega (arith, c.loop-n-test.false))
 
-pub project_one-requires : goal.project_one-requires
-project_one-requires g c =
+pub project-requires : goal.project-requires
+project-requires g c =
     let inv = c.loop-n.invariant in
+    let whole = same_length c.loop-n.store.particles c.args.store.now.particles inv.fixed in
     let inside = subst (λ (l : ℤ). AreInside l c.loop-n.store.particles) (sym inv.limit) inv.inside in (
       omega arith,
       (
-        coe 1 0 (i. IsBond (inv.limit i) (inv.whole i) (c.get.ensures i)) (c.requires.batch.bond c.loop-n.n-index (omega arith)),
+        coe 1 0 (i. IsBond (inv.limit i) (whole i) (c.get-bond.ensures i)) (c.requires.batch.bond c.loop-n.n-index (omega arith)),
         (inside, room_at (2 ^ 125) (search rules) inv.room),
       ),
     )

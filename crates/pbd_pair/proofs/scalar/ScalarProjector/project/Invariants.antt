@@ -1,4 +1,4 @@
-use Rattle.std.proofs.Common.{◌≡◌, ℕ, ◌+◌, ◌*◌, ◌^◌, ◌≤◌, drop, length}
+use Rattle.std.proofs.Common.{◌≡◌, ℕ, ◌+◌, ◌*◌, ◌^◌, ◌≤◌, drop}
 use Rattle.pbd_world.specs.Ledger.{ledger_of, HaveRoom}
 use Rattle.pbd_world.specs.Bonds.{projected}
 use Rattle.pbd_pair.specs.Bonds.{bond_of}
@@ -11,7 +11,6 @@ invariant-loop-n g l =
       room : HaveRoom (2 ^ 120 + l.n-index * 2 ^ 32) (ledger_of l.totals);
       grows : (n : ℕ) → HaveRoom n (ledger_of l.initial.totals) → HaveRoom (n + l.n-index * 2 ^ 32) (ledger_of l.totals);
       inside : AreInside l.initial.store.limit l.store.particles;
-      whole : length l.store.particles ≡ length l.initial.store.particles;
       same : projected l.initial.store.limit (bond_of l.bonds) (drop l.n-index l.batch) (motion_of l.store l.totals)
           ≡ projected l.initial.store.limit
           (bond_of l.bonds) l.batch (motion_of l.initial.store l.initial.totals);
