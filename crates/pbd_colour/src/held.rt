@@ -5,7 +5,7 @@ ghost use Rattle.std.specs.List.{list_any};
 ghost use Rattle.pbd_chain.specs.Linked.{is_in, chain_at};
 ghost use Rattle.pbd_world.specs.Colours.{live_at};
 ghost use Rattle.pbd_colour.specs.Pairs.{InRange, dropped};
-ghost use Rattle.pbd_colour.specs.Held.{Holds, before, far_at};
+ghost use Rattle.pbd_colour.specs.Held.{Holds, AgreeTo, before, far_at};
 
 use pbd_chain::Chains;
 
@@ -121,9 +121,7 @@ fn is_same_piece(flags: &[bool], others: &[bool], at: usize) -> bool
 fn skip_pieces(flags: &[bool], others: &[bool], start: usize) -> usize
     requires length { length flags.now ≡ length others.now }
     requires start { start ≤ length flags.now }
-    ensures forward { start ≤ result }
-    ensures within { result ≤ length flags.now }
-    ensures same { (k : ℕ) → start ≤ k → k < result → live_at flags.now k ≡ live_at others.now k }
+    ensures { AgreeTo flags.now others.now start result }
 {
     let mut at = start;
     while PIECE <= flags.len() - at && is_same_piece(flags, others, at) {
@@ -136,9 +134,7 @@ fn skip_pieces(flags: &[bool], others: &[bool], start: usize) -> usize
 fn next_change(flags: &[bool], others: &[bool], start: usize) -> usize
     requires length { length flags.now ≡ length others.now }
     requires start { start ≤ length flags.now }
-    ensures forward { start ≤ result }
-    ensures within { result ≤ length flags.now }
-    ensures same { (k : ℕ) → start ≤ k → k < result → live_at flags.now k ≡ live_at others.now k }
+    ensures { AgreeTo flags.now others.now start result }
 {
     let mut at = skip_pieces(flags, others, start);
     while at < flags.len() && flags[at] == others[at] {

@@ -1,11 +1,12 @@
 //! The near pairs of all particles.
 ghost use Rattle.std.specs.Prelude.{◌≡◌, ◌+◌, ◌*◌, ◌<◌, ◌≤◌, [], ℕ, Bool, pos, ◌≤ℤ◌, length, IfOk, OnOk, OnErr};
-ghost use Rattle.pbd_grid.specs.Crowds.{IsLaid};
+ghost use Rattle.pbd_grid.specs.Blocks.{kept_row, corner_of, cube_at};
+ghost use Rattle.pbd_grid.specs.Crowds.{IsLaid, looked_round};
 ghost use Rattle.pbd_grid.specs.Near.{AllInside, near_pairs};
 ghost use Rattle.pbd_grid.specs.Looks.{looks_for};
 
-use crate::lookup::{Cells, Crowd, GridCell};
-use crate::rows::{append_row, find_row, link_all};
+use crate::lookup::{Cells, Crowd, GridCell, corner};
+use crate::rows::{append_row, link_all, sort_row};
 use pbd_chain::Chains;
 use pbd_num::Vec3;
 use pbd_world::{Full, RoomList};
@@ -62,6 +63,23 @@ fn chains_for(particles: u32) -> u32
 }
 
 impl Crowd<'_> {
+    // Finds the particles behind i that stand near it and that the filter keeps, and counts how often
+    // the chains are read for them.
+    fn find_row<F: PairFilter>(&self, filter: &F, i: u32, found: &mut RoomList<u32>) -> u64
+        requires laid { IsLaid self.now }
+        requires filter { F.particles filter.now ≡ length self.now.places.now }
+        requires i { i < length self.now.places.now }
+        requires room { length self.now.places.now ≤ found.old.room }
+        ensures found { found.new ≡ record found.old { entries = kept_row self.now.places.now self.now.cells.side (F.test filter.now) i } }
+        ensures looks { result ≡ looked_round self.now i (corner_of (cube_at self.now.cells.side self.now.places.now i)) }
+    {
+        let from = corner(self.cubes[i as usize]);
+        found.clear();
+        let looks = self.look_round(filter, i, from, found);
+        sort_row(found.as_mut_slice());
+        looks
+    }
+
     // Lists the near pairs row by row, from chains that hold each particle once, and counts how often
     // these are read.
     fn find_pairs<F: PairFilter>(
@@ -87,7 +105,7 @@ impl Crowd<'_> {
         out.clear();
         *looks = 0;
         for i in 0..self.places.len() as u32 {
-            *looks += find_row(self, filter, i, found);
+            *looks += self.find_row(filter, i, found);
             if append_row(i, found.as_slice(), out).is_err() {
                 out.clear();
                 return Err(Full);

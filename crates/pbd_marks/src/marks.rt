@@ -179,8 +179,6 @@ fn take_over<const L: usize, P: Projector<L> + Drop>(
     ensures worlds { worlds_in (first.new ∷ others.new.items) ≡ slice_set (worlds_in (first.old ∷ others.old.items)) k solver.now.world }
     ensures sound { IsSound solver.now.world }
 {
-    // The limit is asked for what comes with it: the world is sound.
-    let _limit = solver.limit();
     if k == 0 {
         first.copy_from(solver);
     } else {

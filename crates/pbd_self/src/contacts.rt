@@ -127,41 +127,6 @@ impl SelfContacts {
         self.colouring.refill(&[]);
     }
 
-    // Finds the pairs that touch at a thickness from 1.
-    fn find<const L: usize, G: Ledger>(
-        &mut self,
-        store: &Store<L>,
-        links: &Colouring,
-        thickness: i64,
-        steps: &mut Steps<G>,
-    ) -> Result<(), Full>
-        requires len { length store.now.particles ≡ self.old.particles }
-        requires colouring { links.now.particles ≡ self.old.particles }
-        requires low { pos 1 ≤ℤ thickness }
-        requires high { thickness ≤ℤ pos 1048576 }
-        requires inside { AreInside store.now.limit store.now.particles }
-        ensures found { OnOk result (self.new ≡ record self.old {
-          pairs = touching thickness links.now store.now.particles;
-          looks = looks_at self.old.chains thickness store.now.particles;
-        }) }
-        ensures few { OnOk result (length (touching thickness links.now store.now.particles) ≤ 262144) }
-        ensures full { OnErr result (262144 < length (touching thickness links.now store.now.particles)) }
-        ensures emptied { OnErr result (self.new ≡ record self.old { pairs = []; looks = self.new.looks }) }
-        ensures most { self.new.looks ≤ looks_at self.old.chains thickness store.now.particles }
-        ensures cost { steps.new ≤ steps.old + self.old.particles }
-    {
-        // By it the places are in the range of both limits.
-        let _limit = store.limit();
-        copy_particles(store, &mut self.places, &mut self.held, steps);
-        let places = self.places.as_slice();
-        let held = self.held.as_slice();
-        let apart = Apart { held, links };
-        let found = apart.find(&mut self.grid, places, thickness, &mut self.pairs);
-        self.looks = self.grid.looks();
-        colour(&mut self.colouring, self.pairs.as_slice());
-        found
-    }
-
     /// Finds the contacts of a step: the pairs of particles less than `thickness` apart that aren't
     /// both held and that no live link joins.
     ///
@@ -197,7 +162,16 @@ impl SelfContacts {
             self.clear();
             return Ok(());
         }
-        self.find(store, links, thickness, steps)
+        // By it the places are in the range of both limits.
+        let _limit = store.limit();
+        copy_particles(store, &mut self.places, &mut self.held, steps);
+        let places = self.places.as_slice();
+        let held = self.held.as_slice();
+        let apart = Apart { held, links };
+        let found = apart.find(&mut self.grid, places, thickness, &mut self.pairs);
+        self.looks = self.grid.looks();
+        colour(&mut self.colouring, self.pairs.as_slice());
+        found
     }
 
     /// The pairs that touch, each with the lower number first, in order.

@@ -88,6 +88,11 @@ pub one_more : (scene : List ℕ) (w : World) (k : ℕ) → fields_bytes scene w
 unfolding fields_bytes
 one_more scene w k = let e : k + 1 ≡ suc k = omega arith in rw e refl
 
+-- the fields so far and the piece of the next one are the fields with it
+pub piece_after : {piece : List ℕ} (scene : List ℕ) (w : World) (k : ℕ) → piece ≡ field_bytes scene w k
+    → fields_bytes scene w k ++ piece ≡ fields_bytes scene w (k + 1)
+piece_after scene w k is = ap (λ (t : List ℕ). fields_bytes scene w k ++ t) is ∙ sym (one_more scene w k)
+
 -- fields that are the items of a list
 column : {A : Type 0} (scene : List ℕ) (w : World) (f : A → List ℕ) (s : ℕ) (xs : List A) (d : A)
     → ((i : ℕ) → i < length xs → field_bytes scene w (s + i) ≡ f (get_or xs i d))

@@ -92,29 +92,25 @@ refused {P} {inside} {seen} {refusal} means is sound e =
     subst (λ (s : Solved P). Commanded (Err refusal) (means s.world) s.world s.world) is
     (record { obeys = record { outcome = e; kept = refl }; sound = sound; one_scene = refl })
 
-pub steps_mean : (w : World) (n : ℕ) → meaning w (commands.Step n) ≡ done_or_refused w (run_steps w n)
-unfolding meaning
-steps_mean w n = refl
+-- what each command that may be refused means
+pub record Meanings (w : World) : Type 0 where
+  pub steps : (n : ℕ) → meaning w (commands.Step n) ≡ done_or_refused w (run_steps w n)
+  pub pin : (i : ℕ) → meaning w (commands.Pin i) ≡ done_or_refused w (pin w i)
+  pub unpin : (i : ℕ) → meaning w (commands.Unpin i) ≡ done_or_refused w (unpin w i)
+  pub place : (i : ℕ) (to : Vec3) → meaning w (commands.Move i to) ≡ done_or_refused w (place_held w i to)
+  pub cut : (n : ℕ) → meaning w (commands.Cut n) ≡ done_or_refused w (cut w n)
+  pub gravity : (g : Vec3) → meaning w (commands.Gravity g) ≡ done_or_refused w (set_gravity w g)
 
-pub pin_means : (w : World) (i : ℕ) → meaning w (commands.Pin i) ≡ done_or_refused w (pin w i)
+pub means : (w : World) → Meanings w
 unfolding meaning
-pin_means w i = refl
-
-pub unpin_means : (w : World) (i : ℕ) → meaning w (commands.Unpin i) ≡ done_or_refused w (unpin w i)
-unfolding meaning
-unpin_means w i = refl
-
-pub place_means : (w : World) (i : ℕ) (to : Vec3) → meaning w (commands.Move i to) ≡ done_or_refused w (place_held w i to)
-unfolding meaning
-place_means w i to = refl
-
-pub cut_means : (w : World) (n : ℕ) → meaning w (commands.Cut n) ≡ done_or_refused w (cut w n)
-unfolding meaning
-cut_means w n = refl
-
-pub gravity_means : (w : World) (g : Vec3) → meaning w (commands.Gravity g) ≡ done_or_refused w (set_gravity w g)
-unfolding meaning
-gravity_means w g = refl
+means w = record {
+  steps = λ n. refl;
+  pin = λ i. refl;
+  unpin = λ i. refl;
+  place = λ i to. refl;
+  cut = λ n. refl;
+  gravity = λ g. refl;
+}
 
 -- ---- worlds of one scene
 

@@ -76,17 +76,22 @@ impl BondList<'_> {
     ) -> Result<(), Left>
         requires lanes_low { 0 < L }
         requires lanes_high { L ≤ 16 }
-        requires can { CanProjectAll (2 ^ 119) self.now.bonds self.now.laid self.now.colours.now.pairs self.now.colours.now.live store.old totals.old }
+        requires can { CanProjectAll (2 ^ 119) self.now.bonds self.now.laid self.now.colours.now.pairs self.now.colours.now.live
+            store.old totals.old }
         requires counted { P.count projector.old ≤ 2 ^ 64 - 1 }
         ensures done { AreProjected result self.now.bonds (parallel_from self.now.colours.now.pairs self.now.colours.now.live 0)
-            (length (parallel_from self.now.colours.now.pairs self.now.colours.now.live 0) * 2 ^ 32) store.old store.new totals.old totals.new }
+            (length (parallel_from self.now.colours.now.pairs self.now.colours.now.live 0) * 2 ^ 32)
+            store.old store.new totals.old totals.new }
         ensures handed { OnOk result
             (P.count projector.new
             ≡ min (P.count projector.old + length (parallel_from self.now.colours.now.pairs self.now.colours.now.live 0)) (2 ^ 64 - 1)) }
-        ensures can { OnOk result (CanProjectAll (2 ^ 119 + 2 ^ 57) self.now.bonds self.now.laid self.now.colours.now.pairs self.now.colours.now.live store.new totals.new) }
+        ensures can { OnOk result
+            (CanProjectAll (2 ^ 119 + 2 ^ 57) self.now.bonds self.now.laid self.now.colours.now.pairs self.now.colours.now.live
+            store.new totals.new) }
         ensures not_fallen { P.count projector.old ≤ P.count projector.new }
         ensures width { P.width projector.new ≡ P.width projector.old }
-        ensures cost { steps.new ≤ steps.old + colours_work (P.width projector.old) self.now.colours.now.pairs self.now.colours.now.live 0 63 }
+        ensures cost { steps.new ≤ steps.old
+            + colours_work (P.width projector.old) self.now.colours.now.pairs self.now.colours.now.live 0 63 }
     {
         let mut rest = self.laid;
         for c in 0..63 {
@@ -101,9 +106,7 @@ impl BondList<'_> {
                 laid,
                 numbers,
             };
-            if let Err(left) = batch.project(projector, store, totals, steps) {
-                return Err(left);
-            }
+            batch.project(projector, store, totals, steps)?;
         }
         Ok(())
     }
@@ -118,7 +121,8 @@ impl BondList<'_> {
     ) -> Result<(), Left>
         requires lanes_low { 0 < L }
         requires lanes_high { L ≤ 16 }
-        requires can { CanProjectAll (2 ^ 119 + 2 ^ 57) self.now.bonds self.now.laid self.now.colours.now.pairs self.now.colours.now.live store.old totals.old }
+        requires can { CanProjectAll (2 ^ 119 + 2 ^ 57) self.now.bonds self.now.laid self.now.colours.now.pairs self.now.colours.now.live
+            store.old totals.old }
         requires counted { P.count projector.old ≤ 2 ^ 64 - 1 }
         ensures done { AreProjected result self.now.bonds (batch_of self.now.colours.now.pairs self.now.colours.now.live 63)
             (length (batch_of self.now.colours.now.pairs self.now.colours.now.live 63) * 2 ^ 32) store.old store.new totals.old totals.new }
@@ -141,9 +145,7 @@ impl BondList<'_> {
                 laid,
                 numbers: &[*n],
             };
-            if let Err(left) = batch.project(projector, store, totals, steps) {
-                return Err(left);
-            }
+            batch.project(projector, store, totals, steps)?;
         }
         Ok(())
     }
@@ -160,7 +162,8 @@ impl BondList<'_> {
     ) -> Result<(), Left>
         requires lanes_low { 0 < L }
         requires lanes_high { L ≤ 16 }
-        requires can { CanProjectAll (2 ^ 119) self.now.bonds self.now.laid self.now.colours.now.pairs self.now.colours.now.live store.old totals.old }
+        requires can { CanProjectAll (2 ^ 119) self.now.bonds self.now.laid self.now.colours.now.pairs self.now.colours.now.live
+            store.old totals.old }
         ensures done { AreProjected result self.now.bonds (order self.now.colours.now.pairs self.now.colours.now.live)
             (2 ^ 60) store.old store.new totals.old totals.new }
         ensures handed { OnOk result
@@ -171,12 +174,8 @@ impl BondList<'_> {
         ensures cost { steps.new ≤ steps.old + bonds_work (P.width projector.old) self.now.colours.now.pairs self.now.colours.now.live }
     {
         counts(projector);
-        if let Err(left) = self.project_colours(projector, store, totals, steps) {
-            return Err(left);
-        }
-        if let Err(left) = self.project_serial(projector, store, totals, steps) {
-            return Err(left);
-        }
+        self.project_colours(projector, store, totals, steps)?;
+        self.project_serial(projector, store, totals, steps)?;
         Ok(())
     }
 }

@@ -1,6 +1,7 @@
 // The commands that are no steps. After a refusal the state is as it was.
 ghost use Rattle.std.specs.Prelude.{◌≡◌, ◌+◌, ◌<◌, ◌≤◌, ◌^◌, length, IfSome, IfNone, false};
-ghost use Rattle.pbd_world.specs.Meaning.{pin as pinned_world, unpin as unpinned_world, place_held as placed_world, cut as cut_world, set_gravity as pulled_world};
+ghost use Rattle.pbd_world.specs.Meaning.{pin as pinned_world, unpin as unpinned_world, place_held as placed_world};
+ghost use Rattle.pbd_world.specs.Meaning.{cut as cut_world, set_gravity as pulled_world};
 ghost use Rattle.pbd_num.specs.Vectors.{Within, opposite};
 ghost use Rattle.pbd_world.specs.Particles.{velocity};
 ghost use Rattle.pbd_world.specs.World.{IsSound, is_tracked};

@@ -5,7 +5,6 @@ mod again;
 mod assume;
 mod bonds;
 mod commands;
-mod contacts;
 mod lay;
 mod leaving;
 mod open;

@@ -1,20 +1,24 @@
 // The start of a step: held particles are attached and free ones predicted.
-ghost use Rattle.std.specs.Prelude.{◌≡◌, ℕ, ◌+◌, ◌*◌, ◌<◌, ◌≤◌, ◌^◌, ◌*ℤ◌, unsigned_abs, length, OnOk, MatchResult, Ok, Err};
+ghost use Rattle.std.specs.Prelude.{◌≡◌, ◌+◌, ◌*◌, ◌<◌, ◌≤◌, ◌^◌, ◌*ℤ◌, unsigned_abs, length, OnOk, MatchResult, Ok, Err};
 ghost use Rattle.pbd_num.specs.Vectors.{Within, opposite};
+ghost use Rattle.pbd_world.specs.declared.command.Phase.TheVariants as phases;
 ghost use Rattle.pbd_world.specs.declared.totals.Class.TheVariants as classes;
 ghost use Rattle.pbd_world.specs.Ledger.{ledger_of, added, HaveRoom};
-ghost use Rattle.pbd_world.specs.Step.{predict as predicted_motion};
+ghost use Rattle.pbd_world.specs.Outcomes.{with_fault};
+ghost use Rattle.pbd_world.specs.Step.{leaves, predict as predicted_motion};
+ghost use Rattle.pbd_world.specs.Work.{beginning_work};
 ghost use Rattle.pbd_world.specs.World.{IsSound};
 ghost use Rattle.pbd_store.specs.Blocks.{blocks_of};
 ghost use Rattle.pbd_step.specs.States.{world_of, now_of, IsUnderWay};
 ghost use Rattle.pbd_step.specs.Staying.{IsMoved};
 ghost use Rattle.pbd_step.specs.Predicting.{unled, times};
 
+use crate::leaving::leaving;
 use crate::state::{Setting, State};
 use pbd_num::Vec3;
 use pbd_store::{Forces, Steps};
 use pbd_track::place;
-use pbd_world::{Class, Left, Totals};
+use pbd_world::{Class, Left, Phase, Refusal, Totals};
 use std::sync::ledger::Ledger;
 
 fn product(g: i64, n: i64) -> i64
@@ -62,53 +66,56 @@ fn forces_within(setting: &Setting, limit: i64) -> Forces
     }
 }
 
-/// Advances all particles, up to the first that would leave the limit.
-fn advance_all<const L: usize, G: Ledger>(
-    setting: &Setting,
-    state: &mut State<L>,
-    steps: &mut Steps<G>,
-) -> Result<(), Left>
-    requires lanes_low { 0 < L }
-    requires lanes_high { L ≤ 16 }
-    requires sound { IsSound (world_of setting.now state.old) }
-    ensures outcome { MatchResult result
-        (λ _. predicted_motion (unled (world_of setting.now state.old)) ≡ Ok (now_of state.new))
-        (λ left. predicted_motion (unled (world_of setting.now state.old)) ≡ Err left.element) }
-    ensures moved { IsMoved state.old state.new }
-    ensures room { OnOk result (HaveRoom (2 ^ 100) (ledger_of state.new.totals)) }
-    ensures cost { steps.new ≤ steps.old + 2 * blocks_of (length state.old.store.particles) L }
-{
-    let forces = forces_within(setting, state.store.limit());
-    match state.store.fly(forces, steps) {
-        Err(element) => Err(Left { element }),
-        Ok(flown) => {
-            let pulled = pulled_by(setting.gravity, flown.free);
-            book(&mut state.totals, pulled, flown.lost);
-            Ok(())
+impl<const L: usize> State<L> {
+    /// Advances all particles, up to the first that would leave the limit.
+    fn advance<G: Ledger>(&mut self, setting: &Setting, steps: &mut Steps<G>) -> Result<(), Left>
+        requires lanes_low { 0 < L }
+        requires lanes_high { L ≤ 16 }
+        requires sound { IsSound (world_of setting.now self.old) }
+        ensures outcome { MatchResult result
+            (λ _. predicted_motion (unled (world_of setting.now self.old)) ≡ Ok (now_of self.new))
+            (λ left. predicted_motion (unled (world_of setting.now self.old)) ≡ Err left.element) }
+        ensures moved { IsMoved self.old self.new }
+        ensures room { OnOk result (HaveRoom (2 ^ 100) (ledger_of self.new.totals)) }
+        ensures cost { steps.new ≤ steps.old + 2 * blocks_of (length self.old.store.particles) L }
+    {
+        let forces = forces_within(setting, self.store.limit());
+        match self.store.fly(forces, steps) {
+            Err(element) => Err(Left { element }),
+            Ok(flown) => {
+                let pulled = pulled_by(setting.gravity, flown.free);
+                book(&mut self.totals, pulled, flown.lost);
+                Ok(())
+            }
         }
     }
 }
 
-/// Attaches the held particles and predicts the free ones, up to the first that would leave the limit
-/// (Verlet's step, Jakobsen 2001). After `Left` places and totals are any.
+/// Attaches the held particles and predicts the free ones (Verlet's step, Jakobsen 2001), or says in which step which
+/// particle would leave the limit. After a refusal places and totals are any.
 /// It reaches the store at most twice for each block, and once for each track.
 pub(crate) fn predict<const L: usize, G: Ledger>(
     setting: &Setting,
     state: &mut State<L>,
     steps: &mut Steps<G>,
-) -> Result<(), Left>
+) -> Result<(), Refusal>
     requires lanes_low { 0 < L }
     requires lanes_high { L ≤ 16 }
     requires sound { IsSound (world_of setting.now state.old) }
     ensures outcome { MatchResult result
-        (λ _. predicted_motion (world_of setting.now state.old) ≡ Ok (now_of state.new))
-        (λ left. predicted_motion (world_of setting.now state.old) ≡ Err left.element) }
+        (λ _. with_fault (leaves (world_of setting.now state.old) phases.Predict) (predicted_motion (world_of setting.now state.old))
+        ≡ Ok (now_of state.new))
+        (λ refusal. with_fault (leaves (world_of setting.now state.old) phases.Predict)
+        (predicted_motion (world_of setting.now state.old)) ≡ Err refusal) }
     ensures moved { IsMoved state.old state.new }
     ensures under_way { OnOk result (IsUnderWay (2 ^ 100) (world_of setting.now state.new)) }
-    ensures cost { steps.new ≤ steps.old + 2 * blocks_of (length state.old.store.particles) L + length setting.now.tracks }
+    ensures cost { steps.new ≤ steps.old + beginning_work L (world_of setting.now state.old) }
 {
-    advance_all(setting, state, steps)?;
-    let t = state.steps as u32 + 1;
+    let taken = state.steps;
+    if let Err(left) = state.advance(setting, steps) {
+        return Err(leaving(taken, Phase::Predict, left));
+    }
+    let t = taken as u32 + 1;
     place(setting.tracks.as_slice(), t, &mut state.store, steps);
     Ok(())
 }

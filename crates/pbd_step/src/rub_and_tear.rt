@@ -40,42 +40,41 @@ fn tear(links: &mut Vec<Link>, colours: &mut Colouring, numbers: &[u32])
     colours.drop_pairs(numbers);
 }
 
-/// Slows the particles that shapes touched, lets all links that are too long go together, mends the colours of
-/// the others, and counts the step.
-pub(crate) fn rub_and_tear<const L: usize, P: Projector<L> + Drop, G: Ledger>(
-    setting: &Setting,
-    run: &mut Running<L, P>,
-    steps: &mut Steps<G>,
-)
-    requires lanes_low { 0 < L }
-    requires lanes_high { L ≤ 16 }
-    requires going { IsGoing (2 ^ 102) setting.now run.old }
-    ensures world { world_of setting.now run.new.state
-        ≡ settled (world_of setting.now run.old.state) run.old.scratch.found.pairs (rubbed_motion setting.now.friction (passing_of run.old)) }
-    ensures links { HasLinks (length run.old.state.store.particles) run.new.state.links.items run.new.colours }
-    ensures stays { StaysInStep P.count P.width run.old run.new }
-    ensures projector { run.new.projector ≡ run.old.projector }
-    ensures cost { steps.new ≤ steps.old + settling_work L (world_of setting.now run.old.state) }
-{
-    let contacts = run.scratch.found.count();
-    run.scratch.touched.rub(
-        setting.friction,
-        &mut run.state.store,
-        &mut run.state.totals,
-        steps,
-    );
-    let with_tear_length = run.scratch.with_tear_length.as_slice();
-    find_torn(
-        &run.state.store,
-        &run.state.links,
-        with_tear_length,
-        &mut run.scratch.numbers,
-        steps,
-    );
-    let torn = run.scratch.numbers.as_slice();
-    tear(&mut run.state.links, &mut run.colours, torn);
-    let none_tore = are_none(torn);
-    run.scratch.are_links_laid = run.scratch.are_links_laid & none_tore;
-    run.state.steps += 1;
-    run.state.contacts = contacts;
+impl<const L: usize, P: Projector<L> + Drop> Running<L, P> {
+    /// Slows the particles that shapes touched, lets all links that are too long go together, mends the colours of
+    /// the others, and counts the step.
+    pub(crate) fn rub_and_tear<G: Ledger>(&mut self, setting: &Setting, steps: &mut Steps<G>)
+        requires lanes_low { 0 < L }
+        requires lanes_high { L ≤ 16 }
+        requires going { IsGoing (2 ^ 102) setting.now self.old }
+        ensures world { world_of setting.now self.new.state
+            ≡ settled (world_of setting.now self.old.state) self.old.scratch.found.pairs
+            (rubbed_motion setting.now.friction (passing_of self.old)) }
+        ensures links { HasLinks (length self.old.state.store.particles) self.new.state.links.items self.new.colours }
+        ensures stays { StaysInStep P.count P.width self.old self.new }
+        ensures projector { self.new.projector ≡ self.old.projector }
+        ensures cost { steps.new ≤ steps.old + settling_work L (world_of setting.now self.old.state) }
+    {
+        let contacts = self.scratch.found.count();
+        self.scratch.touched.rub(
+            setting.friction,
+            &mut self.state.store,
+            &mut self.state.totals,
+            steps,
+        );
+        let with_tear_length = self.scratch.with_tear_length.as_slice();
+        find_torn(
+            &self.state.store,
+            &self.state.links,
+            with_tear_length,
+            &mut self.scratch.numbers,
+            steps,
+        );
+        let torn = self.scratch.numbers.as_slice();
+        tear(&mut self.state.links, &mut self.colours, torn);
+        let none_tore = are_none(torn);
+        self.scratch.are_links_laid = self.scratch.are_links_laid & none_tore;
+        self.state.steps += 1;
+        self.state.contacts = contacts;
+    }
 }

@@ -2,7 +2,8 @@
 ghost use Rattle.std.specs.Prelude.{◌≡◌, ◌+◌, ◌-◌, ◌<◌, ◌≤◌, ◌^◌, min, length, IfOk, MatchResult, OnOk};
 ghost use Rattle.pbd_num.specs.Vectors.{Within};
 ghost use Rattle.pbd_world.specs.Ledger.{sum_of, ledger_of};
-ghost use Rattle.pbd_world.specs.Meaning.{run_steps, pin as pinned_world, unpin as unpinned_world, place_held as placed_world, cut as cut_world, set_gravity as pulled_world};
+ghost use Rattle.pbd_world.specs.Meaning.{run_steps, pin as pinned_world, unpin as unpinned_world, place_held as placed_world};
+ghost use Rattle.pbd_world.specs.Meaning.{cut as cut_world, set_gravity as pulled_world};
 ghost use Rattle.pbd_world.specs.Momentum.{momentum as momentum_of};
 ghost use Rattle.pbd_world.specs.Particles.{particle_at};
 ghost use Rattle.pbd_world.specs.Work.{steps_work};

@@ -1,5 +1,5 @@
-use Rattle.std.proofs.Common.{◌∙◌, ◌∷◌, ◌<◌, List, ap, sym, arith}
-use Rattle.pbd_world.specs.World.{unchanging}
+use Rattle.std.proofs.Common.{◌∙◌, ◌∷◌, ◌<◌, List, ap, sym, arith, subst}
+use Rattle.pbd_world.specs.World.{IsSound, unchanging}
 use Rattle.pbd_step.specs.Solving.{Solved}
 use Rattle.pbd_marks.specs.Keeping.{worlds_in}
 use Rattle.pbd_marks.proofs.KeepingLemmas.{at_later, set_later, length-worlds, world_of_scene, worlds_set}
@@ -31,3 +31,9 @@ returns-else-k-eq0-clause-worlds g c =
     let later : 0 < c.args.k = omega arith in
     ap (λ (ss : List (Solved g.row.P.Denot)). worlds_in ss) (sym (set_later first others c.args.k new later))
     ∙ worlds_set (first ∷ others) c.args.k new c.args.solver.now.world c.copy_from-else-k-eq0.ensures.world
+
+pub returns-then-k-eq0-clause-sound : goal.returns-then-k-eq0-clause-sound
+returns-then-k-eq0-clause-sound g c = subst IsSound c.copy_from.ensures.world c.copy_from.ensures.sound
+
+pub returns-else-k-eq0-clause-sound : goal.returns-else-k-eq0-clause-sound
+returns-else-k-eq0-clause-sound g c = subst IsSound c.copy_from-else-k-eq0.ensures.world c.copy_from-else-k-eq0.ensures.sound

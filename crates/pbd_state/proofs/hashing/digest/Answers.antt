@@ -1,8 +1,8 @@
-use Rattle.std.proofs.Common.{◌≡◌, sym, ap, ◌∙◌, subst, ℕ, List, ◌++◌, length, arith}
+use Rattle.std.proofs.Common.{◌≡◌, sym, ap, ◌∙◌, subst, ℕ, List, length, arith}
 use Rattle.sha2.specs.Hashers.{Holds256}
 use Rattle.sha2.specs.Sha256.{sha256}
-use Rattle.pbd_state.specs.Fields.{fields_bytes, field_bytes, fields_of}
-use Rattle.pbd_state.proofs.Numbering.{one_more, no_fields, all_fields}
+use Rattle.pbd_state.specs.Fields.{fields_bytes, fields_of}
+use Rattle.pbd_state.proofs.Numbering.{piece_after, no_fields, all_fields}
 use Rattle.pbd_state.proofs.hashing.digest.Goals as goal
 
 pub loop-k-init : goal.loop-k-init
@@ -13,14 +13,9 @@ loop-k-init g c = record {
 
 pub loop-k-preserved : goal.loop-k-preserved
 loop-k-preserved g c =
-    let w = c.args.shown.now in
-    let scene = c.args.scene.now in
-    let k = c.loop-k.k in
-    let done = fields_bytes scene w k in
-    let piece : c.as_slice.result.now ≡ field_bytes scene w k = c.as_slice.ensures ∙ c.field-piece.ensures.bytes in
-    let next = ap (λ (t : List ℕ). done ++ t) piece ∙ sym (one_more scene w k) in
+    let next = piece_after c.args.scene.now c.args.shown.now c.loop-k.k (c.as_slice.ensures ∙ c.field-piece.ensures.bytes) in
     record {
-      fed = subst (λ (t : List ℕ). Holds256 c.update.new.self t) next (c.update.ensures done c.loop-k.invariant.fed);
+      fed = subst (λ (t : List ℕ). Holds256 c.update.new.self t) next (c.update.ensures _ c.loop-k.invariant.fed);
       cost = omega (arith, c.field-piece.ensures.cost, c.loop-k.invariant.cost);
     }
 

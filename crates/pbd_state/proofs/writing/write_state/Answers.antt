@@ -1,7 +1,7 @@
 use Rattle.std.proofs.Common.{◌≡◌, sym, ap, ◌∙◌, ℕ, ◌+◌, ◌<◌, List, ◌++◌, length, drop, arith}
 use Rattle.std.proofs.lemmas.List.{length-append, length-drop}
-use Rattle.pbd_state.specs.Fields.{fields_bytes, field_bytes, fields_of}
-use Rattle.pbd_state.proofs.Numbering.{no_fields, one_more, field_within, put_next, all_put}
+use Rattle.pbd_state.specs.Fields.{fields_bytes, fields_of}
+use Rattle.pbd_state.proofs.Numbering.{no_fields, piece_after, field_within, put_next, all_put}
 use Rattle.pbd_state.proofs.writing.write_state.Goals as goal
 
 pub loop-k-init : goal.loop-k-init
@@ -39,8 +39,7 @@ loop-k-preserved g c =
     let at = c.loop-k.at in
     let done = fields_bytes scene w k in
     let text = c.as_slice.result.now in
-    let piece : text ≡ field_bytes scene w k = c.as_slice.ensures ∙ c.field-piece.ensures.bytes in
-    let all : done ++ text ≡ fields_bytes scene w (k + 1) = ap (λ (t : List ℕ). done ++ t) piece ∙ sym (one_more scene w k) in
+    let all = piece_after scene w k (c.as_slice.ensures ∙ c.field-piece.ensures.bytes) in
     record {
       at = omega (arith, c.put-at.ensures.end, c.loop-k.invariant.at, length-append done text, ap (λ (t : List ℕ). length t) all);
       written = c.put-at.ensures.bytes ∙ put_next done text c.args.into.now c.loop-k.into at

@@ -1,4 +1,5 @@
 use Rattle.std.proofs.Common.{◌≡◌, ℕ, ◌+◌, ◌*◌, ◌^◌, ◌++◌, ◌≤◌, List, [], length, length-append, arith, refl, sym, subst, ◌∙◌}
+use Rattle.std.proofs.lemmas.Result.{err_from_is_err_and}
 use Rattle.pbd_store.specs.Moving.{motion_of}
 use Rattle.pbd_pair.specs.Bonds.{bond_of}
 use Rattle.pbd_pair.specs.Laid.{AreOfBatch}
@@ -63,14 +64,15 @@ parts : (g : _) (c : After-batch-numbers g)
 parts g c = rw c.batch-numbers.ensures.value
     (parallel_next c.args.self.now.colours.now.pairs c.args.self.now.colours.now.live c.loop-c.c (omega arith))
 
-pub returns-in-Err-clause-done : goal.returns-in-Err-clause-done
-returns-in-Err-clause-done g c =
+pub returns-in_err-project-clause-done : goal.returns-in_err-project-clause-done
+returns-in_err-project-clause-done g c =
+    let p = err_from_is_err_and c.from_residual.result c.from_residual.ensures.1 in
     let inv = c.loop-c.invariant in
-    one_leaves inv.so_far inv.limit inv.copies c.batch-numbers.result.now _
-    (parts g (goal.at.returns-in-Err-clause-done g c).After-batch-numbers) c.in-Err.ensures.done
+    rw (p.1, p.2) (one_leaves inv.so_far inv.limit inv.copies c.batch-numbers.result.now _
+    (parts g (goal.at.returns-in_err-project-clause-done g c).After-batch-numbers) c.in_err-project.ensures.done)
 
-pub returns-in-Err-clause-cost : goal.returns-in-Err-clause-cost
-returns-in-Err-clause-cost g c =
+pub returns-in_err-project-clause-cost : goal.returns-in_err-project-clause-cost
+returns-in_err-project-clause-cost g c =
     let inv = c.loop-c.invariant in
     let pairs = c.args.self.now.colours.now.pairs in
     let live = c.args.self.now.colours.now.live in
@@ -106,8 +108,8 @@ loop-c-preserved g c =
     record {
       so_far = more_so_far c.batch-numbers.result.now (parallel_from pairs live (c.loop-c.c + 1))
           (parts g (goal.at.loop-c-preserved g c).After-batch-numbers) inv.limit inv.so_far
-          (motion_of c.project.new.store c.project.new.totals) _ c.in_default.ensures.done.outcome
-          c.project.ensures.done.fixed c.in_default.ensures.done.inside c.in_default.ensures.done.room c.project.ensures.handed;
+          (motion_of c.project.new.store c.project.new.totals) _ c.in_ok-project.ensures.done.outcome
+          c.project.ensures.done.fixed c.in_ok-project.ensures.done.inside c.in_ok-project.ensures.done.room c.project.ensures.handed;
       laid = still_rows bond left c.split_at.result.1 c.project.ensures.done.fixed
           (back_part bond c.loop-c.store.particles numbers left c.loop-c.rest of
           c.split_at.result.1 c.split_at.ensures.back);

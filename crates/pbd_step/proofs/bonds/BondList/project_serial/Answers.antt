@@ -1,5 +1,6 @@
 use Rattle.std.proofs.Common.{◌≡◌, ◌+◌, ◌++◌, ◌∷◌, [], ◌<◌, List, ℕ, drop, drop_of_length-le, get_or, arith, refl, ap, sym, ◌∙◌, length}
 use Rattle.std.proofs.Common.{subst}
+use Rattle.std.proofs.lemmas.Result.{err_from_is_err_and}
 use Rattle.pbd_store.specs.Moving.{motion_of}
 use Rattle.pbd_pair.specs.Bonds.{bond_of}
 use Rattle.pbd_colour.specs.Pairs.{batch_of}
@@ -84,8 +85,8 @@ loop-n-preserved g c =
     let next = parts g at in
     let so = more_so_far (get_or c.serial-serial.result.now c.loop-n.n-index 0 ∷ [])
     (drop (c.loop-n.n-index + 1) numbers) next inv.limit inv.so_far
-    (motion_of c.project.new.store c.project.new.totals) _ c.in_default.ensures.done.outcome
-    c.project.ensures.done.fixed c.in_default.ensures.done.inside c.in_default.ensures.done.room c.project.ensures.handed in
+    (motion_of c.project.new.store c.project.new.totals) _ c.in_ok-project.ensures.done.outcome
+    c.project.ensures.done.fixed c.in_ok-project.ensures.done.inside c.in_ok-project.ensures.done.room c.project.ensures.handed in
     let limit = c.project.ensures.done.limit ∙ inv.limit in
     let bond = bond_of c.args.self.now.bonds in
     let n = get_or c.serial-serial.result.now c.loop-n.n-index 0 in
@@ -109,11 +110,12 @@ loop-n-preserved g c =
       );
     }
 
-pub returns-in-Err-clause-done : goal.returns-in-Err-clause-done
-returns-in-Err-clause-done g c =
+pub returns-in_err-project-clause-done : goal.returns-in_err-project-clause-done
+returns-in_err-project-clause-done g c =
+    let p = err_from_is_err_and c.from_residual.result c.from_residual.ensures.1 in
     let inv = c.loop-n.invariant in
-    one_leaves inv.so_far inv.limit inv.copies (get_or c.serial-serial.result.now c.loop-n.n-index 0 ∷ []) _
-    (parts g (goal.at.returns-in-Err-clause-done g c).After-split_at-in-loop-n) c.in-Err.ensures.done
+    rw (p.1, p.2) (one_leaves inv.so_far inv.limit inv.copies (get_or c.serial-serial.result.now c.loop-n.n-index 0 ∷ []) _
+    (parts g (goal.at.returns-in_err-project-clause-done g c).After-split_at-in-loop-n) c.in_err-project.ensures.done)
 
 pub returns-clause-done : goal.returns-clause-done
 returns-clause-done g c =
@@ -127,10 +129,10 @@ returns-clause-handed g c = (whole_so_far c.loop-n.invariant.so_far
     (drop_of_length-le (batch_of c.args.self.now.colours.now.pairs c.args.self.now.colours.now.live 63)
     (rw (sym c.serial-serial.ensures.value) (omega arith)))).count
 
-pub returns-in-Err-clause-cost : goal.returns-in-Err-clause-cost
-returns-in-Err-clause-cost g c =
+pub returns-in_err-project-clause-cost : goal.returns-in_err-project-clause-cost
+returns-in_err-project-clause-cost g c =
     let numbers : List ℕ = batch_of c.args.self.now.colours.now.pairs c.args.self.now.colours.now.live 63 in
-    let there = within g (goal.at.returns-in-Err-clause-cost g c).After-split_at-in-loop-n in
+    let there = within g (goal.at.returns-in_err-project-clause-cost g c).After-split_at-in-loop-n in
     omega (
       arith,
       c.loop-n.invariant.cost,

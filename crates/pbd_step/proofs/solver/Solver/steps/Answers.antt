@@ -7,7 +7,7 @@ use Rattle.pbd_world.specs.World.{World}
 use Rattle.pbd_step.specs.States.{world_of}
 use Rattle.pbd_step.specs.Solving.{Solved}
 use Rattle.pbd_step.proofs.Stepping.{answers_so}
-use Rattle.pbd_step.proofs.Keeping.{commanded, seen_commanded, steps_mean, run_goes, refused, run_uncounted, run_late}
+use Rattle.pbd_step.proofs.Keeping.{commanded, seen_commanded, means, run_goes, refused, run_uncounted, run_late}
 use Rattle.pbd_step.proofs.Costing.{steps_paid}
 use Rattle.pbd_step.proofs.solver.Solver.steps.Goals as goal
 
@@ -32,7 +32,7 @@ returns-clause-commanded g c =
     let told = answers_so c.run_whole.result (run_steps w c.args.n) now (steps_of c.args.n w) goes c.run_whole.ensures.obeys.outcome in
     let done = commanded {S = World} {world = λ v. v} {r = c.run_whole.result} {meant = run_steps w c.args.n} {old = w} {new = now}
     (commands.Step c.args.n) (record { outcome = told; kept = c.run_whole.ensures.obeys.kept }) c.self.invariant.sound
-    (steps_mean w c.args.n) in
+    ((means w).steps c.args.n) in
     seen_commanded (λ (v : World). run_steps v c.args.n) c.self.view_is done
 
 pub returns-clause-not_fallen : goal.returns-clause-not_fallen

@@ -19,13 +19,13 @@ restore-requires g c =
     let fit = taken_fit kept.store.particles state.store.particles kept.links.items state.links.items c.take_over.ensures.particles
     c.take_over.ensures.links (formed_fit (world_of c.args.setting.now state) c.requires.kept.sound.well_formed) in
     let taken : AreAlike state kept = taken_alike c.take_over.ensures in
-    let alike : AreAlike c.take_steps.new.run.state kept = alike_join c.take_steps.new.run.state state kept stays.alike taken in
+    let alike : AreAlike c.take_steps.new.self.state kept = alike_join c.take_steps.new.self.state state kept stays.alike taken in
     let colours = ap (λ (k : Coloured). k.particles) stays.pairs ∙ c.requires.kept.links.particles ∙ taken.particles in
     let pairs = ap (λ (k : Coloured). k.pairs) stays.pairs ∙ c.requires.kept.links.pairs
     ∙ ap (λ (ls : List Link). link_pairs ls) (sym c.take_over.ensures.links) in
-    let room : length kept.links.items ≤ c.take_steps.new.run.colours.room =
+    let room : length kept.links.items ≤ c.take_steps.new.self.colours.room =
     omega (arith, ap (λ (k : Coloured). k.room) stays.pairs, c.requires.kept.links.room, taken.links) in
-    let space = coe 0 1 (i. HaveSpace (taken.particles i) (taken.links i) c.take_steps.new.run.scratch)
+    let space = coe 0 1 (i. HaveSpace (taken.particles i) (taken.links i) c.take_steps.new.self.scratch)
     (stays.space (length state.store.particles) (length state.links.items) c.requires.kept.space) in
     let fixed = stays.fixed ∙ ap fixed_links (sym c.take_over.ensures.links) in
     let live = (stays.links c.requires.kept.links).live in
@@ -71,10 +71,10 @@ returns-clause-kept g c =
       links = ready.links;
       space = ready.space;
       knows = ready.knows;
-      alike = alike_join c.take_over.new.state c.args.self.now.state c.take_steps.new.run.state
+      alike = alike_join c.take_over.new.state c.args.self.now.state c.take_steps.new.self.state
           (same_alike c.take_over.new.state c.args.self.now.state c.args.setting.now
           c.take_over.ensures.weights (c.take_over.ensures.world c.args.setting.now))
-          (flipped c.take_steps.new.run.state c.args.self.now.state c.take_steps.ensures.stays.alike);
+          (flipped c.take_steps.new.self.state c.args.self.now.state c.take_steps.ensures.stays.alike);
     }
 
 pub returns-in-Err-clause-not_fallen : goal.returns-in-Err-clause-not_fallen

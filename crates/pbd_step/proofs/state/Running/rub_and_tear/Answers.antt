@@ -23,11 +23,11 @@ use Rattle.pbd_step.proofs.Mild.{formed_within, formed_friction}
 use Rattle.pbd_step.proofs.Settling.{let_go_tears, torn_live, torn_coloured, still_many, torn_fixed, fixed_numbers, none_go}
 use Rattle.pbd_step.proofs.Costing.{rubs_less}
 use Rattle.pbd_step.proofs.Weighing.{settled_weights}
-use Rattle.pbd_step.proofs.rub_and_tear.rub_and_tear.Goals as goal
+use Rattle.pbd_step.proofs.state.Running.rub_and_tear.Goals as goal
 
 pub rub-requires : goal.rub-requires
 rub-requires g c =
-    let w = world_of c.args.setting.now c.args.run.now.state in
+    let w = world_of c.args.setting.now c.args.self.now.state in
     let whole = c.requires.going.under_way.well_formed in
     let small = fits c.args.setting.now.friction (omega (arith, (numbers_of w (formed (parts_of w) whole)).friction_high)) in (
       omega arith,
@@ -48,8 +48,8 @@ rub-requires g c =
 
 pub torn-requires : goal.torn-requires
 torn-requires g c =
-    let w = world_of c.args.setting.now c.args.run.now.state in
-    let many = still_many c.rub.new.store.particles c.args.run.now.state.store.particles c.rub.ensures.settled in
+    let w = world_of c.args.setting.now c.args.self.now.state in
+    let many = still_many c.rub.new.store.particles c.args.self.now.state.store.particles c.rub.ensures.settled in
     let links = (formed (parts_of w) c.requires.going.under_way.well_formed).links in (
       omega arith,
       (
@@ -63,7 +63,7 @@ torn-requires g c =
 
 pub tear-requires-clause-within : goal.tear-requires-clause-within
 tear-requires-clause-within g c =
-    let links = c.args.run.now.state.links.items in
+    let links = c.args.self.now.state.links.items in
     let all = subst (λ (ls : List Link). AscendTo (length ls) c.torn.new.out.entries) c.deref.ensures.value c.torn.ensures.ascending in
     (subst (λ (ns : List ℕ). AscendTo (length links) ns) (sym c.as_slice-torn.ensures) all).within
 
@@ -74,16 +74,16 @@ tear-requires-clause-increasing g c = subst (λ (ns : List ℕ). IsStrictlyIncre
 pub tear-requires-clause-live : goal.tear-requires-clause-live
 tear-requires-clause-live g c =
     let ps = c.rub.new.store.particles in
-    let links = c.args.run.now.state.links.items in
+    let links = c.args.self.now.state.links.items in
     let numbers : c.as_slice-torn.result.now ≡ torn_numbers ps links = c.as_slice-torn.ensures
     ∙ ap (λ (o : Roomed ℕ). o.entries) c.torn.ensures.numbers ∙ ap (torn_numbers ps) c.deref.ensures.value in
     rw (numbers, c.requires.going.links.live) (λ k lt. torn_live ps links k (torn_ascend ps links) lt)
 
 pub returns-clause-world : goal.returns-clause-world
 returns-clause-world g c =
-    let w = world_of c.args.setting.now c.args.run.now.state in
+    let w = world_of c.args.setting.now c.args.self.now.state in
     let ps = c.rub.new.store.particles in
-    let links = c.args.run.now.state.links.items in
+    let links = c.args.self.now.state.links.items in
     let after = c.tear.new.links.items in
     let small = fits c.args.setting.now.friction (omega (
       arith,
@@ -94,9 +94,9 @@ returns-clause-world g c =
     ∙ ap (λ (o : Roomed ℕ). o.entries) c.torn.ensures.numbers ∙ ap (torn_numbers ps) c.deref.ensures.value in
     let tears = let_go_tears ps links after (subst (λ (ns : List ℕ). LetGo ns links after) numbers c.tear.ensures.links) in
     let torn = tears ∙ (λ k. tear (motion k).particles links) in
-    λ k. record (world_of c.args.setting.now c.args.run.now.state) {
+    λ k. record (world_of c.args.setting.now c.args.self.now.state) {
       limit = c.rub.ensures.limit k;
-      steps = c.args.run.now.state.steps + 1;
+      steps = c.args.self.now.state.steps + 1;
       particles = (motion k).particles;
       links = torn k;
       contacts = c.count-contacts.ensures.value k;
@@ -106,21 +106,21 @@ returns-clause-world g c =
 pub returns-clause-links : goal.returns-clause-links
 returns-clause-links g c =
     let ps = c.rub.new.store.particles in
-    let links = c.args.run.now.state.links.items in
+    let links = c.args.self.now.state.links.items in
     let after = c.tear.new.links.items in
     let numbers : c.as_slice-torn.result.now ≡ torn_numbers ps links = c.as_slice-torn.ensures
     ∙ ap (λ (o : Roomed ℕ). o.entries) c.torn.ensures.numbers ∙ ap (torn_numbers ps) c.deref.ensures.value in
     let tears = let_go_tears ps links after (subst (λ (ns : List ℕ). LetGo ns links after) numbers c.tear.ensures.links) in
     let coloured = c.tear.ensures.colours ∙ ap (λ (ns : List ℕ).
-    record c.args.run.now.colours { live = dropped ns c.args.run.now.colours.live }) numbers in
-    torn_coloured (length c.args.run.now.state.store.particles) ps links after c.args.run.now.colours c.tear.new.colours
+    record c.args.self.now.colours { live = dropped ns c.args.self.now.colours.live }) numbers in
+    torn_coloured (length c.args.self.now.state.store.particles) ps links after c.args.self.now.colours c.tear.new.colours
     c.requires.going.links tears coloured
 
 pub returns-clause-stays : goal.returns-clause-stays
 returns-clause-stays g c =
-    let room : c.torn.new.out.room ≡ c.args.run.now.scratch.numbers.room = ap (λ (o : Roomed ℕ). o.room) c.torn.ensures.numbers in
+    let room : c.torn.new.out.room ≡ c.args.self.now.scratch.numbers.room = ap (λ (o : Roomed ℕ). o.room) c.torn.ensures.numbers in
     let live = ap (λ (k : Coloured). k.live) c.tear.ensures.colours in
-    let run = c.args.run.now in
+    let run = c.args.self.now in
     let ps = c.rub.new.store.particles in
     let links = run.state.links.items in
     let after = c.tear.new.links.items in
@@ -131,12 +131,12 @@ returns-clause-stays g c =
     let fixed = torn_fixed ps links after tears in
     record {
       alike = record {
-        particles = still_many c.rub.new.store.particles c.args.run.now.state.store.particles c.rub.ensures.settled;
+        particles = still_many c.rub.new.store.particles c.args.self.now.state.store.particles c.rub.ensures.settled;
         limit = c.rub.ensures.limit;
         weights = refl;
         links = c.tear.ensures.links.whole;
       };
-      weights = λ h. h ∙ sym (settled_weights c.args.run.now.state.store.particles c.rub.new.store.particles c.rub.ensures.settled);
+      weights = λ h. h ∙ sym (settled_weights c.args.self.now.state.store.particles c.rub.new.store.particles c.rub.ensures.settled);
       fixed = fixed;
       links = λ h. subst (λ (n : ℕ). HasLinks n after c.tear.new.colours) (sym many) (returns-clause-links g c);
       knows = λ h. record {
@@ -149,7 +149,7 @@ returns-clause-stays g c =
             (lists_in run.scratch.laid_links)) (h.laid both.0);
       };
       copies = c.rub.ensures.copies;
-      pairs = c.tear.ensures.colours ∙ (λ k. record c.args.run.now.colours { live = sym live k });
+      pairs = c.tear.ensures.colours ∙ (λ k. record c.args.self.now.colours { live = sym live k });
       space = λ n m h. record {
         found = h.found;
         touched = h.touched;
@@ -164,7 +164,7 @@ returns-clause-stays g c =
 
 pub returns-clause-cost : goal.returns-clause-cost
 returns-clause-cost g c =
-    let w = world_of c.args.setting.now c.args.run.now.state in
+    let w = world_of c.args.setting.now c.args.self.now.state in
     let small = fits c.args.setting.now.friction (omega (
       arith,
       (numbers_of w (formed (parts_of w) c.requires.going.under_way.well_formed)).friction_high,
@@ -177,6 +177,6 @@ returns-clause-cost g c =
       rubbed,
       c.torn.ensures.cost,
       links,
-      rubs_less w.friction c.args.run.now.scratch.touched (blocks_in g.row.L w),
+      rubs_less w.friction c.args.self.now.scratch.touched (blocks_in g.row.L w),
       settling_is g.row.L w,
     )

@@ -21,13 +21,13 @@ use Rattle.pbd_step.specs.Staying.{passing_of, AreContactsLaid, StaysInPass}
 use Rattle.pbd_step.proofs.Passes.{link_leaves, contact_leaves, shape_leaves, pass_done, contact_part_is, shape_part_is, shape_cost_is}
 use Rattle.pbd_step.proofs.Staying.{both_in_pass, part_in_pass, still_laid, weights_moved}
 use Rattle.pbd_step.proofs.UnderWay.{movable, more_movable, moved_under_way, moved_world, particles_few, thickness_of, thickness_kept}
-use Rattle.pbd_step.proofs.pass.project_once.Goals.{After-project_contacts, After-push_out}
-use Rattle.pbd_step.proofs.pass.project_once.Goals as goal
+use Rattle.pbd_step.proofs.state.Running.pass.Goals.{After-project_contacts, After-push_out}
+use Rattle.pbd_step.proofs.state.Running.pass.Goals as goal
 
 pub project_links-requires : goal.project_links-requires
 project_links-requires g c =
     let going = c.requires.going in
-    let w : World = world_of c.args.setting.now c.args.run.now.state in
+    let w : World = world_of c.args.setting.now c.args.self.now.state in
     let f = formed (parts_of w) going.under_way.well_formed in
     let ready = more_movable (2 ^ 119) (omega arith) (movable (2 ^ 118) w going.under_way) in (
       omega arith,
@@ -43,43 +43,42 @@ project_links-requires g c =
 pub project_contacts-requires : goal.project_contacts-requires
 project_contacts-requires g c =
     let going = c.requires.going in
-    let w : World = world_of c.args.setting.now c.args.run.now.state in
+    let w : World = world_of c.args.setting.now c.args.self.now.state in
     let f = formed (parts_of w) going.under_way.well_formed in
     let stays = c.project_links.ensures.done.stays in
-    let limit : IsTrue (is_limit c.project_links.new.run.state.store.limit) =
+    let limit : IsTrue (is_limit c.project_links.new.self.state.store.limit) =
     subst (λ (l : ℤ). IsTrue (is_limit l)) (sym stays.moved.limit) f.limit in
     let thin = thickness_of w f in
     let thickness : IsTrue (is_between (pos 0) (pos 1048576) (to_z w64 (of_z w64 w.thickness))) =
     subst (λ (t : ℤ). IsTrue (is_between (pos 0) (pos 1048576) t)) (sym (thickness_kept w.thickness thin)) thin in
     let found = ap (λ (t : Scratch). t.found.particles) c.project_links.ensures.done.scratch ∙ going.space.found ∙ sym stays.moved.whole in
     let ready = more_movable (2 ^ 119) (omega arith) (c.in_default.ensures.done.movable (2 ^ 118) (movable (2 ^ 118) w going.under_way)) in
-    let weights = weights_moved c.args.run.now.state c.project_links.new.run.state stays.moved going.weights in
-    let laid = (still_laid w.thickness c.args.run.now c.project_links.new.run stays c.requires.laid).contacts in
-    let thin_laid = subst (λ (t : ℤ). AreContactsLaid t c.project_links.new.run.state c.project_links.new.run.scratch.found.pairs
-    c.project_links.new.run.scratch.laid_contacts) (sym (thickness_kept w.thickness thin)) laid in
+    let weights = weights_moved c.args.self.now.state c.project_links.new.self.state stays.moved going.weights in
+    let laid = (still_laid w.thickness c.args.self.now c.project_links.new.self stays c.requires.laid).contacts in
+    let thin_laid = subst (λ (t : ℤ). AreContactsLaid t c.project_links.new.self.state c.project_links.new.self.scratch.found.pairs
+    c.project_links.new.self.scratch.laid_contacts) (sym (thickness_kept w.thickness thin)) laid in
     (omega arith, (c.requires.lanes_low, (c.requires.lanes_high, (limit, (thickness, (found, (weights, (thin_laid, ready))))))))
 
 pub push_out-requires : goal.push_out-requires
 push_out-requires g c =
-    let going = c.requires.going in
-    let w : World = world_of c.args.setting.now c.args.run.now.state in
-    let f = formed (parts_of w) going.under_way.well_formed in
+    let w : World = world_of c.args.setting.now c.args.self.now.state in
+    let f = formed (parts_of w) c.requires.going.under_way.well_formed in
     let first = c.project_links.ensures.done.stays in
     let second = c.project_contacts.ensures.done.stays in
-    let now = c.project_contacts.new.run.state.store in
+    let now = c.project_contacts.new.self.state.store in
     let limit : now.limit ≡ w.limit = second.moved.limit ∙ first.moved.limit in
     let whole : length now.particles ≡ length w.particles = second.moved.whole ∙ first.moved.whole in
     let planes : IsTrue (are_valid_planes c.shapes.result.planes.now) = rw c.shapes.ensures.planes f.planes in
     let spheres : IsTrue (are_valid_spheres now.limit c.shapes.result.spheres.now) = rw (limit, c.shapes.ensures.spheres) f.spheres in
     let ready = c.in_default-project_contacts.ensures.done.movable (2 ^ 118 + 2 ^ 60)
-    (c.in_default.ensures.done.movable (2 ^ 118) (movable (2 ^ 118) w going.under_way)) in
-    let room : HaveRoom (2 ^ 120) (ledger_of c.project_contacts.new.run.state.totals) = room_at (2 ^ 120) (omega arith) ready.room in (
+    (c.in_default.ensures.done.movable (2 ^ 118) (movable (2 ^ 118) w c.requires.going.under_way)) in
+    let room : HaveRoom (2 ^ 120) (ledger_of c.project_contacts.new.self.state.totals) = room_at (2 ^ 120) (omega arith) ready.room in (
       omega arith,
       (
         c.requires.lanes_low,
         (
           c.requires.lanes_high,
-          (planes, (spheres, (ready.inside, (second.flags ∙ first.flags ∙ going.space.touched ∙ sym whole, room)))),
+          (planes, (spheres, (ready.inside, (second.flags ∙ first.flags ∙ c.requires.going.space.touched ∙ sym whole, room)))),
         ),
       ),
     )
@@ -88,34 +87,34 @@ push_out-requires g c =
 
 pub returns-in-Err-clause-outcome : goal.returns-in-Err-clause-outcome
 returns-in-Err-clause-outcome g c =
-    link_leaves (world_of c.args.setting.now c.args.run.now.state) c.args.run.now.scratch.found.pairs
-    (passing_of c.args.run.now) c.in-Err.left.element c.in-Err.ensures.done.outcome
+    link_leaves (world_of c.args.setting.now c.args.self.now.state) c.args.self.now.scratch.found.pairs
+    (passing_of c.args.self.now) c.in-Err.left.element c.in-Err.ensures.done.outcome
     ∙ ap (λ (r : Refusal). Err r) (sym c.leaving.ensures)
 
 -- what the contacts come to is what they come to in the world
 contacts_told : (g : _) (c : After-project_contacts g) (r : Result Motion ℕ)
-    → projected c.project_links.new.run.state.store.limit
-    (contact_bond (to_z w64 (of_z w64 c.args.setting.now.thickness)) c.project_links.new.run.scratch.found.pairs)
-    (contact_order c.project_links.new.run.scratch.found.pairs) (now_of c.project_links.new.run.state) ≡ r
-    → contact_part (world_of c.args.setting.now c.args.run.now.state) c.args.run.now.scratch.found.pairs
-    (now_of c.project_links.new.run.state) ≡ r
+    → projected c.project_links.new.self.state.store.limit
+    (contact_bond (to_z w64 (of_z w64 c.args.setting.now.thickness)) c.project_links.new.self.scratch.found.pairs)
+    (contact_order c.project_links.new.self.scratch.found.pairs) (now_of c.project_links.new.self.state) ≡ r
+    → contact_part (world_of c.args.setting.now c.args.self.now.state) c.args.self.now.scratch.found.pairs
+    (now_of c.project_links.new.self.state) ≡ r
 contacts_told g c r =
-    let w : World = world_of c.args.setting.now c.args.run.now.state in
-    let one = c.project_links.new.run in
+    let w : World = world_of c.args.setting.now c.args.self.now.state in
+    let one = c.project_links.new.self in
     let thin = thickness_of w (formed (parts_of w) c.requires.going.under_way.well_formed) in
-    contact_part_is w c.args.run.now.scratch.found.pairs one.scratch.found.pairs one.state.store.limit (to_z w64 (of_z w64 w.thickness))
+    contact_part_is w c.args.self.now.scratch.found.pairs one.scratch.found.pairs one.state.store.limit (to_z w64 (of_z w64 w.thickness))
     (now_of one.state) r (ap (λ (t : Scratch). t.found.pairs) c.project_links.ensures.done.scratch)
     c.project_links.ensures.done.stays.moved.limit (thickness_kept w.thickness thin)
 
 -- what the shapes come to likewise
 shapes_told : (g : _) (c : After-push_out g) (r : Result Passing ℕ)
-    → all_pushed c.project_contacts.new.run.state.store.limit (shapes_of c.shapes.result.planes.now c.shapes.result.spheres.now)
-    (passing_of c.project_contacts.new.run) ≡ r
-    → shape_part (world_of c.args.setting.now c.args.run.now.state)
-    (record (passing_of c.args.run.now) { motion = now_of c.project_contacts.new.run.state }) ≡ r
+    → all_pushed c.project_contacts.new.self.state.store.limit (shapes_of c.shapes.result.planes.now c.shapes.result.spheres.now)
+    (passing_of c.project_contacts.new.self) ≡ r
+    → shape_part (world_of c.args.setting.now c.args.self.now.state)
+    (record (passing_of c.args.self.now) { motion = now_of c.project_contacts.new.self.state }) ≡ r
 shapes_told g c r =
-    let two = c.project_contacts.new.run in
-    shape_part_is (world_of c.args.setting.now c.args.run.now.state) (record (passing_of c.args.run.now) { motion = now_of two.state })
+    let two = c.project_contacts.new.self in
+    shape_part_is (world_of c.args.setting.now c.args.self.now.state) (record (passing_of c.args.self.now) { motion = now_of two.state })
     two.scratch.touched two.state.store.limit c.shapes.result.planes.now c.shapes.result.spheres.now r
     (ap (λ (t : Scratch). t.touched) (c.project_contacts.ensures.done.scratch ∙ c.project_links.ensures.done.scratch))
     (c.project_contacts.ensures.done.stays.moved.limit ∙ c.project_links.ensures.done.stays.moved.limit)
@@ -125,50 +124,50 @@ pub returns-in-Err-project_contacts-clause-outcome : goal.returns-in-Err-project
 returns-in-Err-project_contacts-clause-outcome g c =
     let n = c.in-Err-project_contacts.left.element in
     let after = (goal.at.returns-in-Err-project_contacts-clause-outcome g c).After-project_contacts in
-    contact_leaves (world_of c.args.setting.now c.args.run.now.state) c.args.run.now.scratch.found.pairs (passing_of c.args.run.now)
-    (now_of c.project_links.new.run.state) c.in_default.ensures.done.outcome n
+    contact_leaves (world_of c.args.setting.now c.args.self.now.state) c.args.self.now.scratch.found.pairs (passing_of c.args.self.now)
+    (now_of c.project_links.new.self.state) c.in_default.ensures.done.outcome n
     (contacts_told g after (Err n) c.in-Err-project_contacts.ensures.done.outcome)
     ∙ ap (λ (r : Refusal). Err r) (sym c.leaving-in-Err-project_contacts.ensures)
 
 pub returns-in-Err-push_out-clause-outcome : goal.returns-in-Err-push_out-clause-outcome
 returns-in-Err-push_out-clause-outcome g c =
     let n = c.in-Err-push_out.left.element in
-    let k = now_of c.project_contacts.new.run.state in
+    let k = now_of c.project_contacts.new.self.state in
     let at = goal.at.returns-in-Err-push_out-clause-outcome g c in
     let touched = contacts_told g at.After-project_contacts (Ok k) c.in_default-project_contacts.ensures.done.outcome in
-    shape_leaves (world_of c.args.setting.now c.args.run.now.state) c.args.run.now.scratch.found.pairs (passing_of c.args.run.now)
-    (now_of c.project_links.new.run.state) c.in_default.ensures.done.outcome k touched n
+    shape_leaves (world_of c.args.setting.now c.args.self.now.state) c.args.self.now.scratch.found.pairs (passing_of c.args.self.now)
+    (now_of c.project_links.new.self.state) c.in_default.ensures.done.outcome k touched n
     (shapes_told g at.After-push_out (Err n) c.in-Err-push_out.ensures.outcome)
     ∙ ap (λ (r : Refusal). Err r) (sym c.leaving-in-Err-push_out.ensures)
 
 pub returns-clause-outcome : goal.returns-clause-outcome
 returns-clause-outcome g c =
-    let two = c.project_contacts.new.run in
+    let two = c.project_contacts.new.self in
     let new : State g.row.L = record two.state { store = c.push_out.new.store; totals = c.push_out.new.totals } in
     let t : Passing = record { motion = now_of new; touched = c.push_out.new.touched } in
     let at = goal.at.returns-clause-outcome g c in
-    pass_done (world_of c.args.setting.now c.args.run.now.state) c.args.run.now.scratch.found.pairs (passing_of c.args.run.now)
-    (now_of c.project_links.new.run.state) c.in_default.ensures.done.outcome (now_of two.state)
+    pass_done (world_of c.args.setting.now c.args.self.now.state) c.args.self.now.scratch.found.pairs (passing_of c.args.self.now)
+    (now_of c.project_links.new.self.state) c.in_default.ensures.done.outcome (now_of two.state)
     (contacts_told g at.After-project_contacts (Ok (now_of two.state)) c.in_default-project_contacts.ensures.done.outcome) t
     (shapes_told g at.After-push_out (Ok t) c.in_default-push_out.ensures.outcome)
 
 -- ---- what stays
 
 pub returns-in-Err-project_contacts-clause-stays : goal.returns-in-Err-project_contacts-clause-stays
-returns-in-Err-project_contacts-clause-stays g c = both_in_pass c.args.run.now c.project_links.new.run c.project_contacts.new.run
+returns-in-Err-project_contacts-clause-stays g c = both_in_pass c.args.self.now c.project_links.new.self c.project_contacts.new.self
     c.project_links.ensures.done.stays c.project_contacts.ensures.done.stays
 
 -- what all three parts leave
-all_stays : (g : _) (c : After-push_out g) → StaysInPass g.P.Projector.count g.P.Projector.width c.args.run.now
-    (record c.project_contacts.new.run {
-      state = record c.project_contacts.new.run.state { store = c.push_out.new.store; totals = c.push_out.new.totals };
-      scratch = record c.project_contacts.new.run.scratch { touched = c.push_out.new.touched };
+all_stays : (g : _) (c : After-push_out g) → StaysInPass g.P.Projector.count g.P.Projector.width c.args.self.now
+    (record c.project_contacts.new.self {
+      state = record c.project_contacts.new.self.state { store = c.push_out.new.store; totals = c.push_out.new.totals };
+      scratch = record c.project_contacts.new.self.scratch { touched = c.push_out.new.touched };
     })
 all_stays g c =
-    let two = c.project_contacts.new.run in
+    let two = c.project_contacts.new.self in
     let state = record two.state { store = c.push_out.new.store; totals = c.push_out.new.totals } in
-    both_in_pass c.args.run.now two (record two { state = state; scratch = record two.scratch { touched = c.push_out.new.touched } })
-    (both_in_pass c.args.run.now c.project_links.new.run two c.project_links.ensures.done.stays c.project_contacts.ensures.done.stays)
+    both_in_pass c.args.self.now two (record two { state = state; scratch = record two.scratch { touched = c.push_out.new.touched } })
+    (both_in_pass c.args.self.now c.project_links.new.self two c.project_links.ensures.done.stays c.project_contacts.ensures.done.stays)
     (part_in_pass two state c.push_out.new.touched two.projector refl c.push_out.ensures.limit c.push_out.ensures.copies
     c.push_out.ensures.fixed c.push_out.ensures.flags (omega arith) refl)
 
@@ -180,8 +179,8 @@ returns-clause-stays g c = all_stays g (goal.at.returns-clause-stays g c).After-
 
 pub returns-clause-under_way : goal.returns-clause-under_way
 returns-clause-under_way g c = λ n u.
-    let old : State g.row.L = c.args.run.now.state in
-    let two = c.project_contacts.new.run.state in
+    let old : State g.row.L = c.args.self.now.state in
+    let two = c.project_contacts.new.self.state in
     let new : State g.row.L = record two { store = c.push_out.new.store; totals = c.push_out.new.totals } in
     let w : World = world_of c.args.setting.now old in
     let f = formed (parts_of w) u.well_formed in
@@ -218,19 +217,19 @@ returns-in-Err-clause-cost g c =
     omega (
       arith,
       c.project_links.ensures.cost,
-      pass_is g.row.L (g.P.Projector.width c.args.run.now.projector)
-          (world_of c.args.setting.now c.args.run.now.state) c.args.run.now.scratch.found.pairs,
+      pass_is g.row.L (g.P.Projector.width c.args.self.now.projector)
+          (world_of c.args.setting.now c.args.self.now.state) c.args.self.now.scratch.found.pairs,
     )
 
 -- the contacts cost what they cost before the links
 contacts_cost : (g : _) (c : After-project_contacts g)
-    → contacts_work (g.P.Projector.width c.project_links.new.run.projector) c.project_links.new.run.scratch.found.pairs
-    ≡ contacts_work (g.P.Projector.width c.args.run.now.projector) c.args.run.now.scratch.found.pairs
+    → contacts_work (g.P.Projector.width c.project_links.new.self.projector) c.project_links.new.self.scratch.found.pairs
+    ≡ contacts_work (g.P.Projector.width c.args.self.now.projector) c.args.self.now.scratch.found.pairs
 contacts_cost g c = λ i. contacts_work (c.project_links.ensures.done.stays.width i) (c.project_links.ensures.done.scratch i).found.pairs
 
 pub returns-in-Err-project_contacts-clause-cost : goal.returns-in-Err-project_contacts-clause-cost
 returns-in-Err-project_contacts-clause-cost g c =
-    let run = c.args.run.now in
+    let run = c.args.self.now in
     omega (
       arith,
       c.project_links.ensures.cost,
@@ -241,30 +240,23 @@ returns-in-Err-project_contacts-clause-cost g c =
 
 shapes_cost : (g : _) (c : After-push_out g)
     → push_cost (shapes_of c.shapes.result.planes.now c.shapes.result.spheres.now)
-    (blocks_of (length c.project_contacts.new.run.state.store.particles) g.row.L)
-    ≡ shapes_work g.row.L (world_of c.args.setting.now c.args.run.now.state)
-shapes_cost g c = shape_cost_is g.row.L (length c.project_contacts.new.run.state.store.particles)
-    (world_of c.args.setting.now c.args.run.now.state) c.shapes.result.planes.now c.shapes.result.spheres.now
+    (blocks_of (length c.project_contacts.new.self.state.store.particles) g.row.L)
+    ≡ shapes_work g.row.L (world_of c.args.setting.now c.args.self.now.state)
+shapes_cost g c = shape_cost_is g.row.L (length c.project_contacts.new.self.state.store.particles)
+    (world_of c.args.setting.now c.args.self.now.state) c.shapes.result.planes.now c.shapes.result.spheres.now
     c.shapes.ensures.planes c.shapes.ensures.spheres
     (c.project_contacts.ensures.done.stays.moved.whole ∙ c.project_links.ensures.done.stays.moved.whole)
 
 -- what all three parts cost
 all_cost : (g : _) (c : After-push_out g)
-    → contacts_work (g.P.Projector.width c.project_links.new.run.projector) c.project_links.new.run.scratch.found.pairs
-    ≡ contacts_work (g.P.Projector.width c.args.run.now.projector) c.args.run.now.scratch.found.pairs
-    → c.push_out.new.steps ≤ c.args.steps.now + pass_work g.row.L (g.P.Projector.width c.args.run.now.projector)
-    (world_of c.args.setting.now c.args.run.now.state) c.args.run.now.scratch.found.pairs
+    → contacts_work (g.P.Projector.width c.project_links.new.self.projector) c.project_links.new.self.scratch.found.pairs
+    ≡ contacts_work (g.P.Projector.width c.args.self.now.projector) c.args.self.now.scratch.found.pairs
+    → c.push_out.new.steps ≤ c.args.steps.now + pass_work g.row.L (g.P.Projector.width c.args.self.now.projector)
+    (world_of c.args.setting.now c.args.self.now.state) c.args.self.now.scratch.found.pairs
 all_cost g c contacts =
-    let run = c.args.run.now in
-    omega (
-      arith,
-      c.project_links.ensures.cost,
-      c.project_contacts.ensures.cost,
-      c.push_out.ensures.cost,
-      contacts,
-      shapes_cost g c,
-      pass_is g.row.L (g.P.Projector.width run.projector) (world_of c.args.setting.now run.state) run.scratch.found.pairs,
-    )
+    let run = c.args.self.now in
+    let parts = pass_is g.row.L (g.P.Projector.width run.projector) (world_of c.args.setting.now run.state) run.scratch.found.pairs in
+    omega (arith, c.project_links.ensures.cost, c.project_contacts.ensures.cost, c.push_out.ensures.cost, contacts, shapes_cost g c, parts)
 
 pub returns-in-Err-push_out-clause-cost : goal.returns-in-Err-push_out-clause-cost
 returns-in-Err-push_out-clause-cost g c =

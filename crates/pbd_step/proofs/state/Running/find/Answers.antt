@@ -7,19 +7,19 @@ use Rattle.pbd_self.specs.Touching.{Found, touching}
 use Rattle.pbd_step.specs.States.{world_of}
 use Rattle.pbd_step.proofs.Finding.{thickness_range, places_inside}
 use Rattle.pbd_step.proofs.Costing.{looked_at}
-use Rattle.pbd_step.proofs.contacts.find.Goals.{After-detect, After-touching_pairs_are_contacts}
-use Rattle.pbd_step.proofs.contacts.find.Goals as goal
+use Rattle.pbd_step.proofs.state.Running.find.Goals.{After-detect, After-touching_pairs_are_contacts}
+use Rattle.pbd_step.proofs.state.Running.find.Goals as goal
 
 -- the pairs that touch are the contacts of the world
 touching_are : (g : _) (c : After-touching_pairs_are_contacts g)
-    → touching c.args.setting.now.thickness c.args.run.now.colours c.args.run.now.state.store.particles
-    ≡ contacts_of c.args.setting.now.thickness c.args.run.now.state.links.items c.args.run.now.state.store.particles
-touching_are g c = c.touching_pairs_are_contacts.ensures c.args.setting.now.thickness c.args.run.now.state.links.items
-    c.args.run.now.state.store.particles c.args.run.now.colours c.requires.going.links.pairs c.requires.going.links.live
+    → touching c.args.setting.now.thickness c.args.self.now.colours c.args.self.now.state.store.particles
+    ≡ contacts_of c.args.setting.now.thickness c.args.self.now.state.links.items c.args.self.now.state.store.particles
+touching_are g c = c.touching_pairs_are_contacts.ensures c.args.setting.now.thickness c.args.self.now.state.links.items
+    c.args.self.now.state.store.particles c.args.self.now.colours c.requires.going.links.pairs c.requires.going.links.live
 
 pub detect-requires : goal.detect-requires
 detect-requires g c =
-    let w = world_of c.args.setting.now c.args.run.now.state in
+    let w = world_of c.args.setting.now c.args.self.now.state in
     let range = thickness_range w c.requires.going.under_way.well_formed in
     let f : FitsSigned w64 c.args.setting.now.thickness = search rules in
     simp to_z-of_z (
@@ -61,11 +61,11 @@ pub returns-in-Err-clause-particles : goal.returns-in-Err-clause-particles
 returns-in-Err-clause-particles g c = ap (λ (f : Found). f.particles) c.in-Err.ensures.emptied
 
 detecting_cost : (g : _) (c : After-detect g)
-    → c.detect.new.steps ≤ c.args.steps.now + finding_work (world_of c.args.setting.now c.args.run.now.state)
+    → c.detect.new.steps ≤ c.args.steps.now + finding_work (world_of c.args.setting.now c.args.self.now.state)
 detecting_cost g c =
     let f : FitsSigned w64 c.args.setting.now.thickness = search rules in
     let free = simp to_z-of_z at c.detect.ensures.free in
-    looked_at (world_of c.args.setting.now c.args.run.now.state) c.args.steps.now c.detect.new.steps c.requires.going.space.found
+    looked_at (world_of c.args.setting.now c.args.self.now.state) c.args.steps.now c.detect.new.steps c.requires.going.space.found
     c.detect.ensures.cost free
 
 pub returns-in-Ok-clause-cost : goal.returns-in-Ok-clause-cost
