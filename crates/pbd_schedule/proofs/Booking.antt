@@ -19,41 +19,12 @@ sum_swap s v w = λ i. record { x = axis_swap s.x v.x w.x i; y = axis_swap s.y v
 
 added_swap : (t : Ledger) (c d : Class) (v w : Vec3) → added (added t c v) d w ≡ added (added t d w) c v
 added_swap t classes.Gravity classes.Gravity v w = ap (λ (s : Sum). record t { gravity = s }) (sum_swap t.gravity v w)
-added_swap t classes.Gravity classes.Damping v w = refl
-added_swap t classes.Gravity classes.Link v w = refl
-added_swap t classes.Gravity classes.Contact v w = refl
-added_swap t classes.Gravity classes.Pin v w = refl
-added_swap t classes.Gravity classes.Shape v w = refl
-added_swap t classes.Damping classes.Gravity v w = refl
 added_swap t classes.Damping classes.Damping v w = ap (λ (s : Sum). record t { damping = s }) (sum_swap t.damping v w)
-added_swap t classes.Damping classes.Link v w = refl
-added_swap t classes.Damping classes.Contact v w = refl
-added_swap t classes.Damping classes.Pin v w = refl
-added_swap t classes.Damping classes.Shape v w = refl
-added_swap t classes.Link classes.Gravity v w = refl
-added_swap t classes.Link classes.Damping v w = refl
 added_swap t classes.Link classes.Link v w = ap (λ (s : Sum). record t { link = s }) (sum_swap t.link v w)
-added_swap t classes.Link classes.Contact v w = refl
-added_swap t classes.Link classes.Pin v w = refl
-added_swap t classes.Link classes.Shape v w = refl
-added_swap t classes.Contact classes.Gravity v w = refl
-added_swap t classes.Contact classes.Damping v w = refl
-added_swap t classes.Contact classes.Link v w = refl
 added_swap t classes.Contact classes.Contact v w = ap (λ (s : Sum). record t { contact = s }) (sum_swap t.contact v w)
-added_swap t classes.Contact classes.Pin v w = refl
-added_swap t classes.Contact classes.Shape v w = refl
-added_swap t classes.Pin classes.Gravity v w = refl
-added_swap t classes.Pin classes.Damping v w = refl
-added_swap t classes.Pin classes.Link v w = refl
-added_swap t classes.Pin classes.Contact v w = refl
 added_swap t classes.Pin classes.Pin v w = ap (λ (s : Sum). record t { pin = s }) (sum_swap t.pin v w)
-added_swap t classes.Pin classes.Shape v w = refl
-added_swap t classes.Shape classes.Gravity v w = refl
-added_swap t classes.Shape classes.Damping v w = refl
-added_swap t classes.Shape classes.Link v w = refl
-added_swap t classes.Shape classes.Contact v w = refl
-added_swap t classes.Shape classes.Pin v w = refl
 added_swap t classes.Shape classes.Shape v w = ap (λ (s : Sum). record t { shape = s }) (sum_swap t.shape v w)
+added_swap t c d v w = refl
 
 booked_added : (es : List Entry) (t : Ledger) (c : Class) (v : Vec3) → booked (added t c v) es ≡ added (booked t es) c v
 booked_added [] t c v = refl

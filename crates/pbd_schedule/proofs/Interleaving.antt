@@ -255,23 +255,17 @@ module _ (limit : ℤ) (bond : ℕ → Bond) (batch : List ℕ) (m : Motion)
   come_end x e = subst (Come limit (bond_at bond batch) (length batch) m.particles m.totals bonds apart events) (sym e)
       (come_all limit (bond_at bond batch) (length batch) m.particles m.totals bonds apart events legal)
 
-  pub come_to_left : (x : Mixed) → x ≡ mixed limit (bond_at bond batch) events
-      (mix_of m.particles m.totals (replicate (length batch) no_note)) → AreSound limit x.notes → (n : ℕ)
-      → first_leaving batch x.notes ≡ Some n → ComeTo limit bond batch events m (Err n)
-  come_to_left x e sound n f = record {
+  pub come_to : (x : Mixed) → x ≡ mixed limit (bond_at bond batch) events
+      (mix_of m.particles m.totals (replicate (length batch) no_note)) → AreSound limit x.notes → (o : Option ℕ)
+      → first_leaving batch x.notes ≡ o → ComeTo limit bond batch events m (unless_left o x)
+  come_to x e sound o f = record {
     legal = legal;
     mixed = ap (noted_outcome batch) (sym e) ∙ ap (λ (o : Option ℕ). unless_left o x) f;
-    in_order = in_order_leaves x (come_end x e) sound n f;
-  }
-
-  pub come_to_all : (x : Mixed) → x ≡ mixed limit (bond_at bond batch) events
-      (mix_of m.particles m.totals (replicate (length batch) no_note)) → AreSound limit x.notes → first_leaving batch x.notes ≡ None
-      → ComeTo limit bond batch events m (Ok (record { particles = x.particles; totals = x.totals }))
-  come_to_all x e sound f = record {
-    legal = legal;
-    mixed = ap (noted_outcome batch) (sym e) ∙ ap (λ (o : Option ℕ). unless_left o x) f;
-    in_order = in_order_stays x (come_end x e) sound f;
-  }
+    in_order = in_order o f;
+  } where
+    in_order : (o : Option ℕ) → first_leaving batch x.notes ≡ o → projected limit bond batch m ≡ unless_left o x
+    in_order (Some n) f = in_order_leaves x (come_end x e) sound n f
+    in_order None f = in_order_stays x (come_end x e) sound f
 
 pub none_left : (o : Option ℕ) → ((n : ℕ) → o ≡ Some n → ⊥) → o ≡ None
 none_left None h = refl

@@ -1,5 +1,5 @@
 -- Events that came in order begin a legal list, and no others do.
-use Rattle.std.proofs.Common.{◌≡◌, ℕ, zero, suc, ◌+◌, ◌<◌, ◌≤◌, ◌==◌, List, [], ◌∷◌, ◌++◌, length, take, drop, get_or, replicate, IsTrue}
+use Rattle.std.proofs.Common.{◌≡◌, ℕ, zero, suc, ◌+◌, ◌<◌, ◌≤◌, ◌==◌, List, [], ◌∷◌, ◌++◌, length, take, drop, replicate, IsTrue}
 use Rattle.std.proofs.Common.{Bool, true, false, cond, ◌&&◌, nat_lt, ◌≢◌, refl, sym, ◌∙◌, ap, arith, subst, inl, inr}
 use Rattle.std.specs.List.{list_all}
 use Rattle.std.proofs.lemmas.Bool.{ltb-true, lt-ltb, false≢true, eq-eqb, eqb-true, ne_eqb, cases_eq, and_from}

@@ -4,6 +4,8 @@ use Rattle.std.proofs.lemmas.Bool.{cases_eq, cases_lt}
 use Rattle.std.proofs.lemmas.List.{get_or-set_same, get_or-set_other, length-set}
 use Rattle.pbd_world.specs.declared.parts.Particle.{Particle}
 use Rattle.pbd_world.specs.declared.bond.Bond.{Bond}
+use Rattle.pbd_num.specs.declared.Vec3.{Vec3}
+use Rattle.pbd_world.specs.declared.bond.Shift.{Shift}
 use Rattle.pbd_world.specs.declared.bond.Correction.{Correction}
 use Rattle.pbd_world.specs.declared.bond.Correction.TheVariants.{Slack, Leaves, Moves}
 use Rattle.pbd_world.specs.Ledger.{Ledger}
@@ -80,56 +82,44 @@ booked_none f st (suc n) t h = ap (λ (s : ℕ). booked_at s (f n) (booked_up st
 
 -- ---- one end
 
-abbrev placed_first : List Particle → Bond → Correction → List Particle
-placed_first qs b Slack = qs
-placed_first qs b Leaves = qs
-placed_first qs b (Moves s) = placed qs b.a s.first
+-- an end that a correction moves is put where it says
+abbrev end_placed : (Shift → Vec3) → List Particle → ℕ → Correction → List Particle
+end_placed to qs e Slack = qs
+end_placed to qs e Leaves = qs
+end_placed to qs e (Moves s) = placed qs e (to s)
 
-abbrev placed_second : List Particle → Bond → Correction → List Particle
-placed_second qs b Slack = qs
-placed_second qs b Leaves = qs
-placed_second qs b (Moves s) = placed qs b.b s.second
+end_here : (by : Correction → Particle → Particle) (to : Shift → Vec3) → ((p : Particle) → p ≡ by Slack p) → ((p : Particle) → p ≡ by Leaves p)
+    → ((s : Shift) (p : Particle) → record p { at = to s } ≡ by (Moves s) p) → (qs : List Particle) (e : ℕ) (c : Correction) → e < length qs
+    → particle_at (end_placed to qs e c) e ≡ by c (particle_at qs e)
+end_here by to slack leaves moves qs e Slack h = slack (particle_at qs e)
+end_here by to slack leaves moves qs e Leaves h = leaves (particle_at qs e)
+end_here by to slack leaves moves qs e (Moves s) h = placed_same qs e (to s) h ∙ moves s (particle_at qs e)
 
-first_here : (qs : List Particle) (b : Bond) (c : Correction) → b.a < length qs
-    → particle_at (placed_first qs b c) b.a ≡ first_by c (particle_at qs b.a)
-first_here qs b Slack h = refl
-first_here qs b Leaves h = refl
-first_here qs b (Moves s) h = placed_same qs b.a s.first h
+end_there : (to : Shift → Vec3) (qs : List Particle) (e : ℕ) (c : Correction) (i : ℕ) → i ≢ e
+    → particle_at (end_placed to qs e c) i ≡ particle_at qs i
+end_there to qs e Slack i h = refl
+end_there to qs e Leaves i h = refl
+end_there to qs e (Moves s) i h = placed_other qs e i (to s) h
 
-first_there : (qs : List Particle) (b : Bond) (c : Correction) (i : ℕ) → i ≢ b.a → particle_at (placed_first qs b c) i ≡ particle_at qs i
-first_there qs b Slack i h = refl
-first_there qs b Leaves i h = refl
-first_there qs b (Moves s) i h = placed_other qs b.a i s.first h
+end_whole : (to : Shift → Vec3) (qs : List Particle) (e : ℕ) (c : Correction) → length (end_placed to qs e c) ≡ length qs
+end_whole to qs e Slack = refl
+end_whole to qs e Leaves = refl
+end_whole to qs e (Moves s) = length-placed qs e (to s)
 
-first_whole : (qs : List Particle) (b : Bond) (c : Correction) → length (placed_first qs b c) ≡ length qs
-first_whole qs b Slack = refl
-first_whole qs b Leaves = refl
-first_whole qs b (Moves s) = length-placed qs b.a s.first
+abbrev first_placed : List Particle → Bond → Correction → List Particle
+first_placed qs b c = end_placed (λ s. s.first) qs b.a c
 
-second_here : (qs : List Particle) (b : Bond) (c : Correction) → b.b < length qs
-    → particle_at (placed_second qs b c) b.b ≡ second_by c (particle_at qs b.b)
-second_here qs b Slack h = refl
-second_here qs b Leaves h = refl
-second_here qs b (Moves s) h = placed_same qs b.b s.second h
+abbrev second_placed : List Particle → Bond → Correction → List Particle
+second_placed qs b c = end_placed (λ s. s.second) qs b.b c
 
-second_there : (qs : List Particle) (b : Bond) (c : Correction) (i : ℕ) → i ≢ b.b → particle_at (placed_second qs b c) i ≡ particle_at qs i
-second_there qs b Slack i h = refl
-second_there qs b Leaves i h = refl
-second_there qs b (Moves s) i h = placed_other qs b.b i s.second h
-
-second_whole : (qs : List Particle) (b : Bond) (c : Correction) → length (placed_second qs b c) ≡ length qs
-second_whole qs b Slack = refl
-second_whole qs b Leaves = refl
-second_whole qs b (Moves s) = length-placed qs b.b s.second
-
-first_is : (b : Bond) (c : Correction) (x : Mixed) → first_written b c x ≡ record x { particles = placed_first x.particles b c }
+first_is : (b : Bond) (c : Correction) (x : Mixed) → first_written b c x ≡ record x { particles = first_placed x.particles b c }
 first_is b Slack x = refl
 first_is b Leaves x = refl
 first_is b (Moves s) x = refl
 
 second_is : (b : Bond) (note : Note) (c : Correction) (x : Mixed)
     → second_written b note c x ≡ record x {
-      particles = placed_second x.particles b c;
+      particles = second_placed x.particles b c;
       totals = booked_by note.first_held note.second_held b c x.totals;
     }
 second_is b note Slack x = refl
@@ -169,21 +159,35 @@ module _ (limit : ℤ) (B : ℕ → Bond) (m : ℕ) (ps : List Particle) (t : Le
       | inr d ↦ ap (F k) (others k d)
     ]
 
-    firsts_kept : {a b : ℕ} → st p ≡ a → st' p ≡ b → ((c : Correction) (q : Particle) → first_at b c q ≡ first_at a c q) → (k : ℕ)
-        → first_at (st' k) (correction_at limit ps (B k)) (particle_at ps (B k).a)
-        ≡ first_at (st k) (correction_at limit ps (B k)) (particle_at ps (B k).a)
-    firsts_kept {a} {b} ea eb f k = kept (λ j z. first_at z (correction_at limit ps (B j)) (particle_at ps (B j).a))
-        (ap (λ (z : ℕ). first_at z (correction_at limit ps (B p)) (particle_at ps (B p).a)) eb
-        ∙ f (correction_at limit ps (B p)) (particle_at ps (B p).a)
-        ∙ sym (ap (λ (z : ℕ). first_at z (correction_at limit ps (B p)) (particle_at ps (B p).a)) ea)) k
+    -- so are the ends of bonds, where both stages of bond p make the same of its end
+    ends_kept : (stage : ℕ → Correction → Particle → Particle) (end : Bond → ℕ) {a b : ℕ} → st p ≡ a → st' p ≡ b
+        → ((c : Correction) (q : Particle) → stage b c q ≡ stage a c q) → (k : ℕ)
+        → stage (st' k) (correction_at limit ps (B k)) (particle_at ps (end (B k)))
+        ≡ stage (st k) (correction_at limit ps (B k)) (particle_at ps (end (B k)))
+    ends_kept stage end {a} {b} ea eb f k = kept (λ j z. stage z (correction_at limit ps (B j)) (particle_at ps (end (B j))))
+        (ap (λ (z : ℕ). stage z (correction_at limit ps (B p)) (particle_at ps (end (B p)))) eb
+        ∙ f (correction_at limit ps (B p)) (particle_at ps (end (B p)))
+        ∙ sym (ap (λ (z : ℕ). stage z (correction_at limit ps (B p)) (particle_at ps (end (B p)))) ea)) k
 
-    seconds_kept : {a b : ℕ} → st p ≡ a → st' p ≡ b → ((c : Correction) (q : Particle) → second_at b c q ≡ second_at a c q) → (k : ℕ)
-        → second_at (st' k) (correction_at limit ps (B k)) (particle_at ps (B k).b)
-        ≡ second_at (st k) (correction_at limit ps (B k)) (particle_at ps (B k).b)
-    seconds_kept {a} {b} ea eb f k = kept (λ j z. second_at z (correction_at limit ps (B j)) (particle_at ps (B j).b))
-        (ap (λ (z : ℕ). second_at z (correction_at limit ps (B p)) (particle_at ps (B p).b)) eb
-        ∙ f (correction_at limit ps (B p)) (particle_at ps (B p).b)
-        ∙ sym (ap (λ (z : ℕ). second_at z (correction_at limit ps (B p)) (particle_at ps (B p).b)) ea)) k
+    -- and where an end of bond p alone goes where its correction says, from nothing done to all done
+    ends_moved : (stage : ℕ → Correction → Particle → Particle) (end : Bond → ℕ) (by : Correction → Particle → Particle) (qs : List Particle)
+        {a b : ℕ} → st p ≡ a → st' p ≡ b → ((c : Correction) (q : Particle) → stage a c q ≡ q)
+        → ((c : Correction) (q : Particle) → by c q ≡ stage b c q)
+        → ((k : ℕ) → k < m → particle_at x.particles (end (B k)) ≡ stage (st k) (correction_at limit ps (B k)) (particle_at ps (end (B k))))
+        → particle_at qs (end (B p)) ≡ by (correction_at limit ps (B p)) (particle_at x.particles (end (B p)))
+        → ((k : ℕ) → k < m → k ≢ p → particle_at qs (end (B k)) ≡ particle_at x.particles (end (B k))) → (k : ℕ) → k < m
+        → particle_at qs (end (B k)) ≡ stage (st' k) (correction_at limit ps (B k)) (particle_at ps (end (B k)))
+    ends_moved stage end by qs ea eb nothing all stood here there k q = elim (cases_eq k p) [
+      | inl r ↦ subst (λ (j : ℕ). particle_at qs (end (B j)) ≡ stage (st' j) (correction_at limit ps (B j)) (particle_at ps (end (B j))))
+          (sym r) (here
+          ∙ ap (by (correction_at limit ps (B p))) (stood p h
+          ∙ ap (λ (z : ℕ). stage z (correction_at limit ps (B p)) (particle_at ps (end (B p)))) ea
+          ∙ nothing (correction_at limit ps (B p)) (particle_at ps (end (B p))))
+          ∙ all (correction_at limit ps (B p)) (particle_at ps (end (B p)))
+          ∙ sym (ap (λ (z : ℕ). stage z (correction_at limit ps (B p)) (particle_at ps (end (B p)))) eb))
+      | inr d ↦ there k q d ∙ stood k q
+          ∙ sym (ap (λ (z : ℕ). stage z (correction_at limit ps (B k)) (particle_at ps (end (B k)))) (others k d))
+    ]
 
     totals_kept : {a b : ℕ} → st p ≡ a → st' p ≡ b → ((f : Ledger → Ledger) (u : Ledger) → booked_at b f u ≡ booked_at a f u)
         → booked_up st' (books limit B ps) m t ≡ booked_up st (books limit B ps) m t
@@ -201,8 +205,8 @@ module _ (limit : ℤ) (B : ℕ → Bond) (m : ℕ) (ps : List Particle) (t : Le
     pub stand_read : st p ≡ 0 → st' p ≡ 1 → Stand limit B m ps t st' (happened limit B (Read p) x)
     stand_read a b = record {
       whole = s.whole;
-      firsts = λ k q. s.firsts k q ∙ sym (firsts_kept a b (λ c r. refl) k);
-      seconds = λ k q. s.seconds k q ∙ sym (seconds_kept a b (λ c r. refl) k);
+      firsts = λ k q. s.firsts k q ∙ sym (ends_kept first_at (λ b. b.a) a b (λ c r. refl) k);
+      seconds = λ k q. s.seconds k q ∙ sym (ends_kept second_at (λ b. b.b) a b (λ c r. refl) k);
       others = s.others;
       size = length-set x.notes p (note_of limit x.particles (B p)) ∙ s.size;
       notes = λ k q y. elim (cases_eq k p) [
@@ -229,20 +233,14 @@ module _ (limit : ℤ) (B : ℕ → Bond) (m : ℕ) (ps : List Particle) (t : Le
     stand_first a b = subst (Stand limit B m ps t st') (sym
         (ap (λ (n : Note). first_written (B p) n.correction x) (s.notes p h (omega (arith, a)))
         ∙ first_is (B p) (correction_at limit ps (B p)) x)) (record {
-          whole = first_whole x.particles (B p) (correction_at limit ps (B p)) ∙ s.whole;
-          firsts = λ k q. elim (cases_eq k p) [
-            | inl r ↦ subst (λ (j : ℕ). particle_at (placed_first x.particles (B p) (correction_at limit ps (B p))) (B j).a
-                ≡ first_at (st' j) (correction_at limit ps (B j)) (particle_at ps (B j).a)) (sym r)
-                (first_here x.particles (B p) (correction_at limit ps (B p)) (omega (arith, (bonds p h).first, s.whole))
-                ∙ ap (first_by (correction_at limit ps (B p))) (s.firsts p h
-                ∙ ap (λ (z : ℕ). first_at z (correction_at limit ps (B p)) (particle_at ps (B p).a)) a)
-                ∙ sym (ap (λ (z : ℕ). first_at z (correction_at limit ps (B p)) (particle_at ps (B p).a)) b))
-            | inr d ↦ first_there x.particles (B p) (correction_at limit ps (B p)) (B k).a (differ k p d q h).aa ∙ s.firsts k q
-                ∙ sym (ap (λ (z : ℕ). first_at z (correction_at limit ps (B k)) (particle_at ps (B k).a)) (others k d))
-          ];
-          seconds = λ k q. first_there x.particles (B p) (correction_at limit ps (B p)) (B k).b (cross k q) ∙ s.seconds k q
-              ∙ sym (seconds_kept a b (λ c r. refl) k);
-          others = λ i f. first_there x.particles (B p) (correction_at limit ps (B p)) i (λ e. (f p h).0 (sym e)) ∙ s.others i f;
+          whole = end_whole (λ s. s.first) x.particles (B p).a (correction_at limit ps (B p)) ∙ s.whole;
+          firsts = ends_moved first_at (λ b. b.a) first_by (first_placed x.particles (B p) (correction_at limit ps (B p))) a b (λ c r. refl)
+              (λ c r. refl) s.firsts (end_here first_by (λ s. s.first) (λ q. refl) (λ q. refl) (λ s q. refl) x.particles (B p).a
+              (correction_at limit ps (B p)) (omega (arith, (bonds p h).first, s.whole)))
+              (λ k q d. end_there (λ s. s.first) x.particles (B p).a (correction_at limit ps (B p)) (B k).a (differ k p d q h).aa);
+          seconds = λ k q. end_there (λ s. s.first) x.particles (B p).a (correction_at limit ps (B p)) (B k).b (cross k q) ∙ s.seconds k q
+              ∙ sym (ends_kept second_at (λ b. b.b) a b (λ c r. refl) k);
+          others = λ i f. end_there (λ s. s.first) x.particles (B p).a (correction_at limit ps (B p)) i (λ e. (f p h).0 (sym e)) ∙ s.others i f;
           size = s.size;
           notes = noted_before (omega (arith, a));
           totals = s.totals ∙ sym (totals_kept a b (λ f u. refl));
@@ -257,20 +255,14 @@ module _ (limit : ℤ) (B : ℕ → Bond) (m : ℕ) (ps : List Particle) (t : Le
     stand_second a b = subst (Stand limit B m ps t st') (sym
         (ap (λ (n : Note). second_written (B p) n n.correction x) (s.notes p h (omega (arith, a)))
         ∙ second_is (B p) (note_of limit ps (B p)) (correction_at limit ps (B p)) x)) (record {
-          whole = second_whole x.particles (B p) (correction_at limit ps (B p)) ∙ s.whole;
-          firsts = λ k q. second_there x.particles (B p) (correction_at limit ps (B p)) (B k).a (cross k q) ∙ s.firsts k q
-              ∙ sym (firsts_kept a b (λ c r. refl) k);
-          seconds = λ k q. elim (cases_eq k p) [
-            | inl r ↦ subst (λ (j : ℕ). particle_at (placed_second x.particles (B p) (correction_at limit ps (B p))) (B j).b
-                ≡ second_at (st' j) (correction_at limit ps (B j)) (particle_at ps (B j).b)) (sym r)
-                (second_here x.particles (B p) (correction_at limit ps (B p)) (omega (arith, (bonds p h).second, s.whole))
-                ∙ ap (second_by (correction_at limit ps (B p))) (s.seconds p h
-                ∙ ap (λ (z : ℕ). second_at z (correction_at limit ps (B p)) (particle_at ps (B p).b)) a)
-                ∙ sym (ap (λ (z : ℕ). second_at z (correction_at limit ps (B p)) (particle_at ps (B p).b)) b))
-            | inr d ↦ second_there x.particles (B p) (correction_at limit ps (B p)) (B k).b (differ k p d q h).bb ∙ s.seconds k q
-                ∙ sym (ap (λ (z : ℕ). second_at z (correction_at limit ps (B k)) (particle_at ps (B k).b)) (others k d))
-          ];
-          others = λ i f. second_there x.particles (B p) (correction_at limit ps (B p)) i (λ e. (f p h).1 (sym e)) ∙ s.others i f;
+          whole = end_whole (λ s. s.second) x.particles (B p).b (correction_at limit ps (B p)) ∙ s.whole;
+          firsts = λ k q. end_there (λ s. s.second) x.particles (B p).b (correction_at limit ps (B p)) (B k).a (cross k q) ∙ s.firsts k q
+              ∙ sym (ends_kept first_at (λ b. b.a) a b (λ c r. refl) k);
+          seconds = ends_moved second_at (λ b. b.b) second_by (second_placed x.particles (B p) (correction_at limit ps (B p))) a b (λ c r. refl)
+              (λ c r. refl) s.seconds (end_here second_by (λ s. s.second) (λ q. refl) (λ q. refl) (λ s q. refl) x.particles (B p).b
+              (correction_at limit ps (B p)) (omega (arith, (bonds p h).second, s.whole)))
+              (λ k q d. end_there (λ s. s.second) x.particles (B p).b (correction_at limit ps (B p)) (B k).b (differ k p d q h).bb);
+          others = λ i f. end_there (λ s. s.second) x.particles (B p).b (correction_at limit ps (B p)) i (λ e. (f p h).1 (sym e)) ∙ s.others i f;
           size = s.size;
           notes = noted_before (omega (arith, a));
           totals = ap (books limit B ps p) s.totals ∙ sym (booked_more st st' (books limit B ps)

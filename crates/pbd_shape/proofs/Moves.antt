@@ -1,7 +1,8 @@
 -- How far a plane and a sphere move a place.
 use Rattle.std.proofs.Common.{◌≡◌, refl, sym, ap, ◌∙◌, ℕ, ◌+◌, ◌*◌, ◌<◌, ◌≤◌, ◌^◌, true, false, ◌==◌, arith, ℤ, pos, negsuc, ◌+ℤ◌, ◌-ℤ◌}
 use Rattle.std.proofs.Common.{◌*ℤ◌, ◌<ℤ◌, ◌≤ℤ◌, int_lt, unsigned_abs, inl, inr, ◌⊎◌, Some, None, ltb}
-use Rattle.std.proofs.lemmas.Int.{ints}
+use Rattle.std.proofs.Common.{w64, FitsSigned}
+use Rattle.std.proofs.lemmas.Int.{ints, to_z-of_z}
 use Rattle.std.proofs.lemmas.Bool.{cond-true, cond-false, cases_lt, lt-ltb, le-ltb, ne_eqb}
 use Rattle.std.proofs.Math.Nat.{mul-le-mul, lt_of_lt_of_le}
 use Rattle.pbd_num.specs.declared.Vec3.{Vec3}
@@ -10,7 +11,8 @@ use Rattle.pbd_num.specs.Vectors.{Within, on_axes, plus, minus, scaled, dot, squ
 use Rattle.pbd_world.specs.declared.parts.Plane.{Plane}
 use Rattle.pbd_world.specs.declared.parts.Sphere.{Sphere}
 use Rattle.pbd_world.specs.Shapes.{plane_shape, onto_sphere}
-use Rattle.pbd_num.proofs.Sizes.{size-mul, positive_above, square_of}
+use Rattle.pbd_num.proofs.Sizes.{fits, size-add, size-mul, positive_above, square_of}
+use Rattle.pbd_num.proofs.VectorSizes.{word}
 use Rattle.pbd_num.proofs.RoundingLemmas.{size-rdiv, root-square, root-next}
 use Rattle.pbd_num.proofs.Lengths.{squared_length_le}
 
@@ -20,6 +22,23 @@ pub plane_move : (lack axis square : ℤ) → unsigned_abs lack ≤ 2 ^ 42 → u
 plane_move lack axis square h k p =
     let some = positive_above square p in
     size-rdiv (lack *ℤ axis) square (2 ^ 52) some (omega (arith, size-mul lack axis (2 ^ 42) (2 ^ 10) h k, some))
+
+-- three products of a normal and a place: their sums in 64 bits
+pub record ProductsAdd (p q r : ℤ) : Type 0 where
+  pub all_fit : FitsSigned w64 (word (word p +ℤ word q) +ℤ word r)
+  pub sum : word (word (word p +ℤ word q) +ℤ word r) ≡ p +ℤ q +ℤ r
+  pub size : unsigned_abs (word (word (word p +ℤ word q) +ℤ word r)) ≤ 2 ^ 41
+
+pub products_add : (p q r : ℤ) → unsigned_abs p ≤ 2 ^ 39 → unsigned_abs q ≤ 2 ^ 39 → unsigned_abs r ≤ 2 ^ 39 → ProductsAdd p q r
+products_add p q r h k l =
+    let p_fits = fits p (omega (arith, h)) in
+    let q_fits = fits q (omega (arith, k)) in
+    let r_fits = fits r (omega (arith, l)) in
+    let two : unsigned_abs (p +ℤ q) ≤ 2 ^ 40 = omega (arith, size-add p q, h, k) in
+    let all : unsigned_abs (p +ℤ q +ℤ r) ≤ 2 ^ 41 = omega (arith, size-add (p +ℤ q) r, two, l) in
+    let two_fit = fits (p +ℤ q) (omega (arith, two)) in
+    let all_fit = fits (p +ℤ q +ℤ r) (omega (arith, all)) in
+    record { all_fit = simp to_z-of_z all_fit; sum = simp to_z-of_z; size = simp to_z-of_z all }
 
 -- a normal with itself
 dot_square : (n : Vec3) → dot n n ≡ pos (squared_length n)

@@ -22,7 +22,7 @@ use Rattle.pbd_world.proofs.BetweenLemmas.{between}
 use Rattle.pbd_lanes.specs.Lane.{is_set}
 use Rattle.pbd_store.specs.Blocks.{filled_lanes, Saved}
 use Rattle.pbd_store.proofs.Saving.{saved_none}
-use Rattle.pbd_store.proofs.Places.{place_in, at_of, before_of, places_more}
+use Rattle.pbd_store.proofs.Places.{place_in, at_of, before_of, places_more, below_count}
 use Rattle.pbd_shape.specs.Shaping.{pushed_from}
 use Rattle.pbd_shape.specs.Rubbing.{rubbed_from}
 use Rattle.pbd_shape.proofs.Continuing.{one_shaped, shaped_to, shaped_is, pushed_on, pushed_out, pushed_all, one_rubbed, rubbed_by}
@@ -31,6 +31,35 @@ use Rattle.pbd_store.proofs.Saves.{filled_is, saved_on, saved_as, saved_rest, sa
 
 abbrev pub passing : List Particle → Ledger → List Bool → Passing
 passing ps t ts = record { motion = record { particles = ps; totals = t }; touched = ts }
+
+-- ---- lanes
+
+-- lane j of a block has a particle
+pub record HasParticle (n block j : ℕ) (ps : List Particle) : Type 0 where
+  pub lane : j < n
+  pub within : block * n + j < length ps
+
+pub has_particle : {n block j first count : ℕ} {ps : List Particle} → first ≡ block * n → count ≤ n → first + count ≤ length ps → j < count
+    → HasParticle n block j ps
+has_particle starts high fits h = record { lane = omega arith; within = omega arith }
+
+-- the first j lanes of a block are all that have a particle
+pub record AreAll (n block j : ℕ) (ps : List Particle) : Type 0 where
+  pub high : j ≤ n
+  pub last : j < n → block * n + j ≡ length ps
+  pub each : (k : ℕ) → k < n → block * n + k < length ps → k < j
+
+pub are_all : {n block j first count : ℕ} {ps : List Particle} → first ≡ block * n → count ≤ n → (count < n → first + count ≡ length ps)
+    → count ≤ j → j ≤ count → AreAll n block j ps
+are_all {n} {block} {j} {first} {count} {ps} starts high last low le =
+    let ends : j < n → block * n + j ≡ length ps = λ h. omega (arith, last (omega arith)) in
+    record {
+      high = omega arith;
+      last = ends;
+      each = λ k h within. omega (arith, below_count k count n first (length ps) last high h (omega arith));
+    }
+
+-- ---- the shape part
 
 -- the first j lanes of a block are pushed to their places
 pub record Pushing (limit : ℤ) (shapes : List Shape) (n block j : ℕ) (places : List Vec3) (ps : List Particle)

@@ -28,7 +28,19 @@ fn dot(n: Vec3, p: Vec3) -> i64
     product(n.x, p.x) + product(n.y, p.y) + product(n.z, p.z)
 }
 
-// One axis, moved along a normal whose square is `square` by as much as the place lacks.
+// How far one axis moves along a normal whose square is `square`, for as much as the place lacks.
+fn shift(lack: i64, axis: i64, square: i64) -> i64
+    requires lack { unsigned_abs lack ≤ 2 ^ 42 }
+    requires axis { unsigned_abs axis ≤ 2 ^ 10 }
+    requires square { pos 0 <ℤ square }
+    requires square_size { unsigned_abs square ≤ 2 ^ 40 }
+    ensures value { result ≡ rounded (lack *ℤ axis) square }
+    ensures size { unsigned_abs result ≤ 2 ^ 52 }
+{
+    rdiv(lack * axis, square)
+}
+
+// Where that leads from the place that it has.
 fn axis_out(from: i64, lack: i64, axis: i64, square: i64) -> i64
     requires from { unsigned_abs from ≤ 2 ^ 29 }
     requires lack { unsigned_abs lack ≤ 2 ^ 42 }
@@ -37,7 +49,7 @@ fn axis_out(from: i64, lack: i64, axis: i64, square: i64) -> i64
     requires square_size { unsigned_abs square ≤ 2 ^ 40 }
     ensures { result ≡ from +ℤ rounded (lack *ℤ axis) square }
 {
-    from + rdiv(lack * axis, square)
+    from + shift(lack, axis, square)
 }
 
 fn is_behind(lack: i64) -> bool

@@ -133,6 +133,23 @@ passed_more test links i so_far wanted d lt e h = record {
   passing = passing_more (λ n. test (link_at links n)) (length links) i so_far wanted lt (e ∙ ap test (any_default links i d _ lt)) h.passing;
 }
 
+-- they are in a list, which keeps its room
+abbrev pub Listed : (Link → Bool) → List Link → ℕ → ℕ → Roomed ℕ → Type 0
+Listed test links i room out = record {
+  so_far : Passed test links i out.entries;
+  few : length out.entries ≤ i;
+  room : out.room ≡ room;
+}
+
+pub listed_more : (test : Link → Bool) (links : List Link) (i room : ℕ) (wanted : Bool) (d : Link) (out next : Roomed ℕ) → i < length links
+    → wanted ≡ test (get_or links i d) → next ≡ record out { entries = cond wanted (out.entries ++ i ∷ []) out.entries }
+    → Listed test links i room out → Listed test links (i + 1) room next
+listed_more test links i room wanted d out next lt e is h = rw is (record {
+  so_far = passed_more test links i out.entries wanted d lt e h.so_far;
+  few = few_more wanted i i out.entries h.few;
+  room = h.room;
+})
+
 -- ---- links that are live no longer, and links with a tear length
 
 abbrev pub is_gone : Link → Bool

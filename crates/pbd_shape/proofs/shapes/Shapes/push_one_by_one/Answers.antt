@@ -10,9 +10,9 @@ use Rattle.pbd_shape.specs.Valid.{IsLimit}
 use Rattle.pbd_shape.specs.Way.{way_of, shapes_in}
 use Rattle.pbd_world.proofs.Rooms.{room_at}
 use Rattle.pbd_num.proofs.Ranges.{wider}
-use Rattle.pbd_store.proofs.Places.{inside_more, within_at, below_count}
+use Rattle.pbd_store.proofs.Places.{inside_more, within_at}
 use Rattle.pbd_shape.proofs.Ways.{shapes_are}
-use Rattle.pbd_shape.proofs.Steps.{pushing_none, pushing_out, pushing_on, pushing_all, way_is, flagged_length}
+use Rattle.pbd_shape.proofs.Steps.{has_particle, are_all, pushing_none, pushing_out, pushing_on, pushing_all, way_is, flagged_length}
 use Rattle.pbd_shape.proofs.shapes.Shapes.push_one_by_one.Goals as goal
 
 pub span-span-requires : goal.span-span-requires
@@ -45,28 +45,24 @@ push_if_free-requires-clause-shapes g c =
 pub push_if_free-requires-clause-place : goal.push_if_free-requires-clause-place
 push_if_free-requires-clause-place g c =
     let f : FitsSigned w64 c.args.limit = c.ranges.limit in
-    let j = c.loop-j.j in
     let span = c.span-span.ensures in
-    let lane : j < g.row.L = omega (arith, span.count, c.loop-j-test.true) in
-    let lt : c.args.loaded.block * g.row.L + j < length c.args.loaded.store.now.particles = omega (arith, span.first, span.within, c.loop-j-test.true) in
-    simp to_z-of_z (within_at (ap unsigned_abs c.requires.same) (c.place-from.ensures ∙ c.requires.at j lane)
-    (c.requires.ready.inside.each _ lt))
+    let here = has_particle span.first span.count span.within c.loop-j-test.true in
+    simp to_z-of_z (within_at (ap unsigned_abs c.requires.same) (c.place-from.ensures ∙ c.requires.at _ here.lane)
+    (c.requires.ready.inside.each _ here.within))
 
 pub returns-in_default-clause-outcome : goal.returns-in_default-clause-outcome
 returns-in_default-clause-outcome g c =
     let f : FitsSigned w64 c.args.limit = c.ranges.limit in
     let j = c.loop-j.j in
     let ps = c.args.loaded.store.now.particles in
-    let i = c.args.loaded.block * g.row.L + j in
     let span = c.span-span.ensures in
-    let lane : j < g.row.L = omega (arith, span.count, c.loop-j-test.true) in
-    let lt : i < length ps = omega (arith, span.first, span.within, c.loop-j-test.true) in
-    let held = ap (λ (bs : List Bool). get_or bs j false) c.to_array-held.ensures ∙ c.requires.held j lane in
-    let at = c.place-from.ensures ∙ c.requires.at j lane in
+    let here = has_particle span.first span.count span.within c.loop-j-test.true in
+    let held = ap (λ (bs : List Bool). get_or bs j false) c.to_array-held.ensures ∙ c.requires.held _ here.lane in
+    let at = c.place-from.ensures ∙ c.requires.at _ here.lane in
     let value = simp to_z-of_z at c.in_default.ensures.value in
     pushing_out c.args.loaded.store.now.limit (shapes_in c.args.self) g.row.L c.args.loaded.block ps _ _ j c.loop-j.places _ _
-    c.loop-j.invariant.some lane lt (way_is (shapes_in c.args.self)
-    (particle_at ps i) c.requires.same held at value)
+    c.loop-j.invariant.some here.lane here.within (way_is (shapes_in c.args.self)
+    (particle_at ps (c.args.loaded.block * g.row.L + j)) c.requires.same held at value)
     ∙ ap (λ (m : ℕ). Err (m + j)) (sym span.first)
 
 pub returns-in_default-clause-room : goal.returns-in_default-clause-room
@@ -81,25 +77,21 @@ minus-requires-clause-first g c =
 
 pub minus-requires-clause-second : goal.minus-requires-clause-second
 minus-requires-clause-second g c =
-    let j = c.loop-j.j in
     let span = c.span-span.ensures in
-    let lane : j < g.row.L = omega (arith, span.count, c.loop-j-test.true) in
-    let lt : c.args.loaded.block * g.row.L + j < length c.args.loaded.store.now.particles = omega (arith, span.first, span.within, c.loop-j-test.true) in
+    let here = has_particle span.first span.count span.within c.loop-j-test.true in
     wider _ _ (2 ^ 61) (omega (arith, c.requires.limit.high))
-    (within_at (ap unsigned_abs c.requires.same) (c.place-from.ensures ∙ c.requires.at j lane)
-    (c.requires.ready.inside.each _ lt))
+    (within_at (ap unsigned_abs c.requires.same) (c.place-from.ensures ∙ c.requires.at _ here.lane)
+    (c.requires.ready.inside.each _ here.within))
 
 pub book_if-requires-clause-short : goal.book_if-requires-clause-short
 book_if-requires-clause-short g c =
     let f : FitsSigned w64 c.args.limit = c.ranges.limit in
-    let j = c.loop-j.j in
     let span = c.span-span.ensures in
-    let lane : j < g.row.L = omega (arith, span.count, c.loop-j-test.true) in
-    let lt : c.args.loaded.block * g.row.L + j < length c.args.loaded.store.now.particles = omega (arith, span.first, span.within, c.loop-j-test.true) in
+    let here = has_particle span.first span.count span.within c.loop-j-test.true in
     let to = wider _ _ (2 ^ 29) c.requires.limit.high (simp to_z-of_z at c.in-Some.ensures.within) in
     let from = wider _ _ (2 ^ 29) c.requires.limit.high
-    (within_at (ap unsigned_abs c.requires.same) (c.place-from.ensures ∙ c.requires.at j lane)
-    (c.requires.ready.inside.each _ lt)) in
+    (within_at (ap unsigned_abs c.requires.same) (c.place-from.ensures ∙ c.requires.at _ here.lane)
+    (c.requires.ready.inside.each _ here.within)) in
     wider _ (2 ^ 30) (2 ^ 31) (omega arith) (c.minus.ensures.size (2 ^ 29) (2 ^ 29) to from)
 
 pub book_if-requires-clause-room : goal.book_if-requires-clause-room
@@ -114,28 +106,25 @@ loop-j-preserved g c =
     let inv = c.loop-j.invariant in
     let j = c.loop-j.j in
     let ps = c.args.loaded.store.now.particles in
-    let i = c.args.loaded.block * g.row.L + j in
-    let p = particle_at ps i in
     let u = ledger_of c.loop-j.totals in
-    let us = c.loop-j.touched in
     let next = c.in-Some.next in
     let span = c.span-span.ensures in
-    let lane : j < g.row.L = omega (arith, span.count, c.loop-j-test.true) in
-    let lt : i < length ps = omega (arith, span.first, span.within, c.loop-j-test.true) in
-    let held = ap (λ (bs : List Bool). get_or bs j false) c.to_array-held.ensures ∙ c.requires.held j lane in
-    let at = c.place-from.ensures ∙ c.requires.at j lane in
+    let here = has_particle span.first span.count span.within c.loop-j-test.true in
+    let held = ap (λ (bs : List Bool). get_or bs j false) c.to_array-held.ensures ∙ c.requires.held _ here.lane in
+    let at = c.place-from.ensures ∙ c.requires.at _ here.lane in
     let value = simp to_z-of_z at c.in-Some.ensures.value in
     let within = simp to_z-of_z at c.in-Some.ensures.within in
-    let way = way_is (shapes_in c.args.self) p c.requires.same held at value in
+    let way = way_is (shapes_in c.args.self) (particle_at ps (c.args.loaded.block * g.row.L + j)) c.requires.same held at value in
     let books = c.book_if.ensures.value ∙ (λ k. cond (not (held k))
     (added u classes.Shape ((c.minus.ensures.value ∙ ap (minus next.at) at) k)) u) in
-    let flags = c.touch_if.ensures ∙ ap (λ (m : ℕ). cond next.touched (slice_set us (m + j) true) us) span.first in
+    let flags = c.touch_if.ensures
+    ∙ ap (λ (m : ℕ). cond next.touched (slice_set c.loop-j.touched (m + j) true) c.loop-j.touched) span.first in
     let room : j < length c.loop-j.places = omega (arith, inv.whole) in
     record {
-      some = pushing_on c.args.loaded.store.now.limit (shapes_in c.args.self) g.row.L c.args.loaded.block ps _ _ j c.loop-j.places u us
-          inv.some lane lt (way_of next) _ _ (inv.flags ∙ c.requires.ready.flags) room way books flags;
+      some = pushing_on c.args.loaded.store.now.limit (shapes_in c.args.self) g.row.L c.args.loaded.block ps _ _ j c.loop-j.places _ _
+          inv.some here.lane here.within (way_of next) _ _ (inv.flags ∙ c.requires.ready.flags) room way books flags;
       whole = length-set c.loop-j.places j next.at ∙ inv.whole;
-      flags = ap length c.touch_if.ensures ∙ flagged_length next.touched us _ ∙ inv.flags;
+      flags = ap length c.touch_if.ensures ∙ flagged_length next.touched _ _ ∙ inv.flags;
       inside = inside_more _ c.loop-j.places j next.at room inv.inside
           (within_at (ap unsigned_abs (sym c.requires.same)) refl within);
       room = λ n h. room_at _ (omega arith) (c.book_if.ensures.room _ (inv.room n h));
@@ -145,26 +134,15 @@ pub returns-clause-outcome : goal.returns-clause-outcome
 returns-clause-outcome g c =
     let span = c.span-span.ensures in
     let inv = c.loop-j.invariant in
+    let done = are_all span.first span.count span.last c.loop-j-test.false c.loop-j.auto.j-end in
     pushing_all c.args.loaded.store.now.limit (shapes_in c.args.self) g.row.L c.args.loaded.block c.args.loaded.store.now.particles _ _ c.loop-j.j
-    c.loop-j.places _ _ inv.some (inv.flags ∙ c.requires.ready.flags)
-    (omega (arith, span.count, c.loop-j-test.false, c.loop-j.auto.j-end))
-    (λ p. omega (
-      arith,
-      span.first,
-      c.loop-j-test.false,
-      c.loop-j.auto.j-end,
-      span.last (omega (arith, c.loop-j-test.false, c.loop-j.auto.j-end)),
-    ))
+    c.loop-j.places _ _ inv.some (inv.flags ∙ c.requires.ready.flags) done.high done.last
 
 pub returns-clause-inside : goal.returns-clause-inside
 returns-clause-inside g c =
     let span = c.span-span.ensures in
-    λ j h k. c.loop-j.invariant.inside j (omega (
-      arith,
-      c.loop-j-test.false,
-      below_count j c.span-span.result.count g.row.L c.span-span.result.first (length c.args.loaded.store.now.particles) span.last span.count h
-          (omega (arith, span.first)),
-    ))
+    let done = are_all span.first span.count span.last c.loop-j-test.false c.loop-j.auto.j-end in
+    λ j h k. c.loop-j.invariant.inside j (done.each j h k)
 
 pub returns-clause-room : goal.returns-clause-room
 returns-clause-room g c =

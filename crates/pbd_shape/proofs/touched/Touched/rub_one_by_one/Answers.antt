@@ -10,8 +10,8 @@ use Rattle.pbd_world.specs.Particles.{particle_at}
 use Rattle.pbd_world.specs.Shapes.{rubbed_away}
 use Rattle.pbd_world.proofs.Rooms.{room_at}
 use Rattle.pbd_num.proofs.Ranges.{wider}
-use Rattle.pbd_store.proofs.Places.{inside_more, within_at, below_count}
-use Rattle.pbd_shape.proofs.Steps.{rubbing_none, rubbing_on, rubbing_all, loss_of, loss_within, part_low, part_high}
+use Rattle.pbd_store.proofs.Places.{inside_more, within_at}
+use Rattle.pbd_shape.proofs.Steps.{has_particle, are_all, rubbing_none, rubbing_on, rubbing_all, loss_of, loss_within, part_low, part_high}
 use Rattle.pbd_shape.proofs.touched.Touched.rub_one_by_one.Goals as goal
 
 pub span-span-requires : goal.span-span-requires
@@ -46,31 +46,27 @@ is_rubbed-rubs-requires g c =
 -- a place, and the place before, in the range of both limits
 pub minus-requires : goal.minus-requires
 minus-requires g c =
-    let j = c.loop-j.j in
     let span = c.span-span.ensures in
-    let lane : j < g.row.L = omega (arith, span.count, c.loop-j-test.true) in
-    let lt : c.args.loaded.block * g.row.L + j < length c.args.loaded.store.now.particles = omega (arith, span.first, span.within, c.loop-j-test.true) in
+    let here = has_particle span.first span.count span.within c.loop-j-test.true in
     let wide : unsigned_abs c.limit-limit.result ≤ 2 ^ 61 = omega (arith, c.limit-limit.ensures.high) in
     record {
-      first = wider _ _ (2 ^ 61) wide (within_at (ap unsigned_abs c.limit-limit.ensures.value) (c.place.ensures ∙ c.requires.at j lane)
-          (c.requires.ready.within.at _ lt));
+      first = wider _ _ (2 ^ 61) wide (within_at (ap unsigned_abs c.limit-limit.ensures.value) (c.place.ensures ∙ c.requires.at _ here.lane)
+          (c.requires.ready.within.at _ here.within));
       second = wider _ _ (2 ^ 61) wide (within_at (ap unsigned_abs c.limit-limit.ensures.value)
-          (c.place-before.ensures ∙ c.requires.before j lane) (c.requires.ready.within.before _ lt));
+          (c.place-before.ensures ∙ c.requires.before _ here.lane) (c.requires.ready.within.before _ here.within));
     }
 
 pub lost_if-loss-requires : goal.lost_if-loss-requires
 lost_if-loss-requires g c =
     let f = c.ranges.friction in
-    let j = c.loop-j.j in
     let span = c.span-span.ensures in
-    let lane : j < g.row.L = omega (arith, span.count, c.loop-j-test.true) in
-    let lt : c.args.loaded.block * g.row.L + j < length c.args.loaded.store.now.particles = omega (arith, span.first, span.within, c.loop-j-test.true) in
+    let here = has_particle span.first span.count span.within c.loop-j-test.true in
     let at = wider _ _ (2 ^ 29) c.limit-limit.ensures.high
-    (within_at (ap unsigned_abs c.limit-limit.ensures.value) (c.place.ensures ∙ c.requires.at j lane) (c.requires.ready.within.at _ lt))
+    (within_at (ap unsigned_abs c.limit-limit.ensures.value) (c.place.ensures ∙ c.requires.at _ here.lane) (c.requires.ready.within.at _ here.within))
     in
     let before = wider _ _ (2 ^ 29) c.limit-limit.ensures.high
-    (within_at (ap unsigned_abs c.limit-limit.ensures.value) (c.place-before.ensures ∙ c.requires.before j lane)
-    (c.requires.ready.within.before _ lt)) in
+    (within_at (ap unsigned_abs c.limit-limit.ensures.value) (c.place-before.ensures ∙ c.requires.before _ here.lane)
+    (c.requires.ready.within.before _ here.within)) in
     record { friction = simp to_z-of_z c.requires.ready.valid_friction; velocity = c.minus.ensures.size (2 ^ 29) (2 ^ 29) at before }
 
 pub opposite-requires : goal.opposite-requires
@@ -87,14 +83,12 @@ book_if-requires g c =
 
 pub plus-requires : goal.plus-requires
 plus-requires g c =
-    let j = c.loop-j.j in
     let span = c.span-span.ensures in
-    let lane : j < g.row.L = omega (arith, span.count, c.loop-j-test.true) in
-    let lt : c.args.loaded.block * g.row.L + j < length c.args.loaded.store.now.particles = omega (arith, span.first, span.within, c.loop-j-test.true) in
+    let here = has_particle span.first span.count span.within c.loop-j-test.true in
     record {
       first = wider _ _ (2 ^ 61) (omega (arith, c.limit-limit.ensures.high))
-          (within_at (ap unsigned_abs c.limit-limit.ensures.value) (c.place-before.ensures ∙ c.requires.before j lane)
-          (c.requires.ready.within.before _ lt));
+          (within_at (ap unsigned_abs c.limit-limit.ensures.value) (c.place-before.ensures ∙ c.requires.before _ here.lane)
+          (c.requires.ready.within.before _ here.within));
       second = wider _ (2 ^ 30) (2 ^ 61) (omega arith) c.lost_if-loss.ensures.size;
     }
 
@@ -112,11 +106,10 @@ loop-j-preserved g c =
     let span = c.span-span.ensures in
     let made = c.is_rubbed-rubs.result in
     let loss = c.lost_if-loss.result in
-    let lane : j < g.row.L = omega (arith, span.count, c.loop-j-test.true) in
-    let lt : i < length ps = omega (arith, span.first, span.within, c.loop-j-test.true) in
-    let held = ap (λ (bs : List Bool). get_or bs j false) c.to_array-held.ensures ∙ c.requires.held j lane in
-    let before = c.place-before.ensures ∙ c.requires.before j lane in
-    let at = c.place.ensures ∙ c.requires.at j lane in
+    let here = has_particle span.first span.count span.within c.loop-j-test.true in
+    let held = ap (λ (bs : List Bool). get_or bs j false) c.to_array-held.ensures ∙ c.requires.held _ here.lane in
+    let before = c.place-before.ensures ∙ c.requires.before _ here.lane in
+    let at = c.place.ensures ∙ c.requires.at _ here.lane in
     let makes : made ≡ (not p.held && get_or ts i false) = c.is_rubbed-rubs.ensures
     ∙ (λ k. not (held k) && get_or ts (span.first k + j) false) in
     let told = simp to_z-of_z at c.lost_if-loss.ensures.value in
@@ -129,9 +122,9 @@ loop-j-preserved g c =
     let some = simp to_z-of_z at inv.some in
     let stays = within_at refl (comes ∙ ap (plus p.before) loses)
     (loss_within friction made p.before p.at (unsigned_abs c.args.loaded.store.now.limit) (part_low friction c.requires.ready.valid_friction)
-    (part_high friction c.requires.ready.valid_friction) (c.requires.ready.within.before i lt) (c.requires.ready.within.at i lt)) in
+    (part_high friction c.requires.ready.valid_friction) (c.requires.ready.within.before i here.within) (c.requires.ready.within.at i here.within)) in
     record {
-      some = simp to_z-of_z (rubbing_on friction g.row.L c.args.loaded.block ps _ ts j c.loop-j.places u some lane lt c.requires.ready.flags room
+      some = simp to_z-of_z (rubbing_on friction g.row.L c.args.loaded.block ps _ ts j c.loop-j.places u some here.lane here.within c.requires.ready.flags room
           made loss c.plus.result _ makes loses comes books);
       whole = length-set c.loop-j.places j c.plus.result ∙ inv.whole;
       within = inside_more _ c.loop-j.places j c.plus.result room inv.within stays;
@@ -143,22 +136,11 @@ returns g c =
     let f = c.ranges.friction in
     let inv = c.loop-j.invariant in
     let span = c.span-span.ensures in
+    let done = are_all span.first span.count span.last c.loop-j-test.false c.loop-j.auto.j-end in
     let some = simp to_z-of_z at inv.some in
     record {
       outcome = rubbing_all c.args.friction g.row.L c.args.loaded.block c.args.loaded.store.now.particles _ _ c.loop-j.j c.loop-j.places _ some
-          (omega (arith, span.count, c.loop-j-test.false, c.loop-j.auto.j-end))
-          (λ p. omega (
-            arith,
-            span.first,
-            c.loop-j-test.false,
-            c.loop-j.auto.j-end,
-            span.last (omega (arith, c.loop-j-test.false, c.loop-j.auto.j-end)),
-          ));
-      within = λ j h k. inv.within j (omega (
-        arith,
-        c.loop-j-test.false,
-        below_count j c.span-span.result.count g.row.L c.span-span.result.first
-            (length c.args.loaded.store.now.particles) span.last span.count h (omega (arith, span.first)),
-      ));
+          done.high done.last;
+      within = λ j h k. inv.within j (done.each j h k);
       room = λ n h. room_at _ (omega (arith, span.first, span.count, span.within, c.loop-j-test.false, c.loop-j.auto.j-end)) (inv.room n h);
     }
