@@ -69,22 +69,18 @@ count_concatenated test n f K p q h k = omega (arith, count_allowed test n f K p
 
 -- ---- lengths
 
+length_next : {A : Type 0} (n : ℕ) (f : ℕ → List A) → length (concatenated (suc n) f) ≡ length (concatenated n f) + length (f n)
+unfolding concatenated
+length_next n f = length-append (concatenated n f) (f n)
+
 pub length_concatenated : {A : Type 0} (n K : ℕ) (f : ℕ → List A) → ((i : ℕ) → i < n → length (f i) ≡ K) → length (concatenated n f) ≡ n * K
 unfolding concatenated
 length_concatenated zero K f h = omega arith
-length_concatenated (suc n) K f h = omega (
-  arith,
-  length_concatenated n K f (λ i w. h i (omega arith)),
-  h n (omega arith),
-  length-append (concatenated n f) (f n),
-)
+length_concatenated (suc n) K f h =
+    omega (arith, length_next n f, length_concatenated n K f (λ i w. h i (omega arith)), h n (omega arith))
 
 pub concatenated_most : {A : Type 0} (n K : ℕ) (f : ℕ → List A) → ((i : ℕ) → i < n → length (f i) ≤ K) → length (concatenated n f) ≤ n * K
 unfolding concatenated
 concatenated_most zero K f h = omega arith
-concatenated_most (suc n) K f h = omega (
-  arith,
-  concatenated_most n K f (λ i w. h i (omega arith)),
-  h n (omega arith),
-  length-append (concatenated n f) (f n),
-)
+concatenated_most (suc n) K f h =
+    omega (arith, length_next n f, concatenated_most n K f (λ i w. h i (omega arith)), h n (omega arith))

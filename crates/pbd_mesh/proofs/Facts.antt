@@ -16,7 +16,7 @@ use Rattle.pbd_mesh.specs.Numbered.{all_below}
 use Rattle.pbd_mesh.proofs.Below.{below}
 use Rattle.pbd_mesh.specs.Ranges.{is_count_between}
 use Rattle.pbd_mesh.specs.Cloth.{cloth_vectors_fit, cloth_counts_fit, cloth_settings_fit, cloth_tears_fit, cloth_in_ranges, cloth_is_inside}
-use Rattle.pbd_mesh.specs.Cloth.{cloth_place, is_in_cloth, cloth_fits, ClothBounds, ClothFacts}
+use Rattle.pbd_mesh.specs.Cloth.{cloth_place, is_in_cloth, cloth_fits, IsCell, ClothBounds, ClothFacts}
 use Rattle.pbd_mesh.specs.Rope.{rope_counts_fit, rope_settings_fit, rope_in_ranges, rope_is_inside, rope_place, rope_fits, RopeBounds}
 use Rattle.pbd_mesh.specs.Rope.{RopeFacts}
 
@@ -59,28 +59,10 @@ rope_bounds limit s low high t =
       spacing = inside_range limit s.spacing low high t1.1;
     }
 
-pub cloth_facts : (limit : ℤ) (s : ClothSpec) → pos 0 ≤ℤ limit → unsigned_abs limit ≤ 2 ^ 29 → IsTrue (cloth_in_ranges limit s)
-    → IsTrue (cloth_is_inside limit s) → ClothFacts s
-unfolding cloth_is_inside
-cloth_facts limit s low high ranges inside = record {
-  bounds = cloth_bounds limit s low high ranges;
-  place = λ r c row column. inside_range limit (cloth_place s r c) low high
-      (below s.columns (λ c. is_within limit (cloth_place s r c)) c
-      (below s.rows (λ r. all_below s.columns (λ c. is_within limit (cloth_place s r c))) r inside row) column);
-}
-
-pub rope_facts : (limit : ℤ) (s : RopeSpec) → pos 0 ≤ℤ limit → unsigned_abs limit ≤ 2 ^ 29 → IsTrue (rope_in_ranges limit s)
-    → IsTrue (rope_is_inside limit s) → RopeFacts s
-unfolding rope_is_inside
-rope_facts limit s low high ranges inside = record {
-  bounds = rope_bounds limit s low high ranges;
-  place = λ i row. inside_range limit (rope_place s i) low high (below s.count (λ i. is_within limit (rope_place s i)) i inside row);
-}
-
 -- a cell that is in the cloth
-pub in_cloth : (s : ClothSpec) (cell : Cell) → true ≡ is_in_cloth s cell → (cell.row < s.rows) × (cell.column < s.columns)
+pub in_cloth : (s : ClothSpec) (cell : Cell) → true ≡ is_in_cloth s cell → IsCell s cell
 in_cloth s cell t = let h = and_parts (nat_lt cell.row s.rows) (nat_lt cell.column s.columns) (sym t) in
-    (ltb-true cell.row s.rows h.0, ltb-true cell.column s.columns h.1)
+    record { row = ltb-true cell.row s.rows h.0; column = ltb-true cell.column s.columns h.1 }
 
 -- one of the two limits
 pub limit_bounds : (limit : ℤ) → IsTrue (is_limit limit) → (pos 0 ≤ℤ limit) × (unsigned_abs limit ≤ 2 ^ 29)
@@ -90,17 +72,26 @@ limit_bounds limit is = elim (cases_Bool (int_eq limit (pos (2 ^ 28)))) [
       rw same (omega (arith, ints), omega arith))
 ]
 
--- what fits has the facts
-pub cloth_facts_from_fits : (limit : ℤ) (s : ClothSpec) → IsTrue (is_limit limit) → IsTrue (cloth_fits limit s) → ClothFacts s
-unfolding cloth_fits
-cloth_facts_from_fits limit s is fits =
-    let h = and_parts (cloth_in_ranges limit s) (cloth_is_inside limit s) fits in
-    let b = limit_bounds limit is in
-    cloth_facts limit s b.0 b.1 h.0 h.1
+-- each of a row of places
+each_within : (limit : ℤ) (n : ℕ) (place : ℕ → Vec3) (i : ℕ) → IsTrue (is_limit limit) → IsTrue (all_below n (λ j. is_within limit (place j)))
+    → i < n → Within (2 ^ 29) (place i)
+each_within limit n place i is inside under = let b = limit_bounds limit is in
+    inside_range limit (place i) b.0 b.1 (below n (λ j. is_within limit (place j)) i inside under)
 
-pub rope_facts_from_fits : (limit : ℤ) (s : RopeSpec) → IsTrue (is_limit limit) → IsTrue (rope_fits limit s) → RopeFacts s
-unfolding rope_fits
-rope_facts_from_fits limit s is fits =
-    let h = and_parts (rope_in_ranges limit s) (rope_is_inside limit s) fits in
-    let b = limit_bounds limit is in
-    rope_facts limit s b.0 b.1 h.0 h.1
+-- what fits has the facts
+pub cloth_facts : (limit : ℤ) (s : ClothSpec) → IsTrue (is_limit limit) → IsTrue (cloth_fits limit s) → ClothFacts s
+unfolding cloth_fits cloth_is_inside
+cloth_facts limit s is fits = let h = and_parts (cloth_in_ranges limit s) (cloth_is_inside limit s) fits in
+    record {
+      bounds = cloth_bounds limit s (limit_bounds limit is).0 (limit_bounds limit is).1 h.0;
+      place = λ r c row column. each_within limit s.columns (λ c. cloth_place s r c) c is
+          (below s.rows (λ r. all_below s.columns (λ c. is_within limit (cloth_place s r c))) r h.1 row) column;
+    }
+
+pub rope_facts : (limit : ℤ) (s : RopeSpec) → IsTrue (is_limit limit) → IsTrue (rope_fits limit s) → RopeFacts s
+unfolding rope_fits rope_is_inside
+rope_facts limit s is fits = let h = and_parts (rope_in_ranges limit s) (rope_is_inside limit s) fits in
+    record {
+      bounds = rope_bounds limit s (limit_bounds limit is).0 (limit_bounds limit is).1 h.0;
+      place = λ i within. each_within limit s.count (λ i. rope_place s i) i is h.1 within;
+    }

@@ -24,7 +24,7 @@ use Rattle.pbd_mesh.specs.declared.spec.KindSettings.{KindSettings}
 use Rattle.pbd_mesh.specs.Numbered.{concatenated, all_below}
 use Rattle.pbd_mesh.specs.Cloth.{cell, cell_link, cloth_fits, cloth_in_ranges, cloth_counts_fit, cloth_settings_fit, cloth_tears_fit}
 use Rattle.pbd_mesh.specs.Cloth.{cloth_vectors_fit, cloth_is_inside, cloth_links, cloth_particles, cloth_place, cloth_settings, is_in_cloth}
-use Rattle.pbd_mesh.specs.Cloth.{links_of_cell, links_of_kind, number, resting}
+use Rattle.pbd_mesh.specs.Cloth.{link_of_cells, links_of_cell, links_of_kind, resting}
 use Rattle.pbd_mesh.specs.Rope.{rope_chain, rope_counts_fit, rope_fits, rope_in_ranges, rope_is_inside, rope_link, rope_links}
 use Rattle.pbd_mesh.specs.Rope.{rope_particles, rope_place, rope_settings_fit}
 use Rattle.pbd_mesh.specs.Meshes.{is_free_and_valid, is_mesh_link, IsMesh}
@@ -38,31 +38,19 @@ use Rattle.pbd_mesh.proofs.Facts.{limit_bounds, in_cloth}
 
 -- ---- the corners of a cloth's links
 
--- the link of two cells
-abbrev the_link : ClothSpec → ℕ → KindSettings → Cell → Cell → Link
-the_link s base t from to = record {
-  a = number s base from;
-  b = number s base to;
-  rest = pos (length_of (minus (cloth_place s from.row from.column) (cloth_place s to.row to.column)));
-  k = t.k;
-  tear = t.tear;
-  kind = t.kind;
-  live = true;
-}
-
 cell_every : (P : Link → Type 0) (s : ClothSpec) (base : ℕ) (t : KindSettings) (from to : Cell)
-    → (true ≡ is_in_cloth s from → true ≡ is_in_cloth s to → P (the_link s base t from to)) → Every P (cell_link s base t from to)
+    → (true ≡ is_in_cloth s from → true ≡ is_in_cloth s to → P (link_of_cells s base t from to)) → Every P (cell_link s base t from to)
 unfolding cell_link
 cell_every P s base t from to h = elim (cases_Bool (is_in_cloth s from && is_in_cloth s to)) [
   | inl e ↦ (let tests = and_parts (is_in_cloth s from) (is_in_cloth s to) e in
-      rw e (every_one P (the_link s base t from to) (h (sym tests.0) (sym tests.1))))
+      rw e (every_one P (link_of_cells s base t from to) (h (sym tests.0) (sym tests.1))))
   | inr e ↦ rw e (every_none P)
 ]
 
 cell_once : (s : ClothSpec) (base : ℕ) (t : KindSettings) (from to : Cell) → IsTrue (none_twice join_alike (cell_link s base t from to))
 unfolding cell_link
 cell_once s base t from to = elim (cases_Bool (is_in_cloth s from && is_in_cloth s to)) [
-  | inl e ↦ rw e (once_one join_alike (the_link s base t from to))
+  | inl e ↦ rw e (once_one join_alike (link_of_cells s base t from to))
   | inr e ↦ rw e (once_none join_alike)
 ]
 
@@ -72,12 +60,12 @@ cell_most s base t from to = elim (cases_Bool (is_in_cloth s from && is_in_cloth
     [ inl e ↦ rw e (omega arith) | inr e ↦ rw e (omega arith) ]
 
 cell_shaped : (s : ClothSpec) (base : ℕ) (t : KindSettings) (r h c d q : ℕ) → q ≡ r + h → (h ≡ 0 → c < d) → true ≡ is_in_cloth s (cell r c)
-    → true ≡ is_in_cloth s (cell q d) → Shaped s.columns base r h c d (the_link s base t (cell r c) (cell q d))
+    → true ≡ is_in_cloth s (cell q d) → Shaped s.columns base r h c d (link_of_cells s base t (cell r c) (cell q d))
 cell_shaped s base t r h c d q is ordered from to = record {
   a = refl;
   b = rw is refl;
-  first_within = (in_cloth s (cell r c) from).1;
-  second_within = (in_cloth s (cell q d) to).1;
+  first_within = (in_cloth s (cell r c) from).column;
+  second_within = (in_cloth s (cell q d) to).column;
   ordered = ordered;
 }
 
@@ -114,23 +102,34 @@ pub record CellFacts (s : ClothSpec) (base : ℕ) (kind : Kind) (total span r c 
 two_most : (xs ys : List Link) → length xs ≤ 1 → length ys ≤ 1 → length (xs ++ ys) ≤ 2
 two_most xs ys h k = omega (arith, length-append xs ys)
 
+-- two links from a cell, so far along the row and so far down the column
+straight_cell : (s : ClothSpec) (base : ℕ) (kind : Kind) (far r c : ℕ) → 0 < far
+    → links_of_cell s base kind r c ≡ cell_link s base (cloth_settings s kind) (cell r c) (cell r (c + far))
+    ++ cell_link s base (cloth_settings s kind) (cell r c) (cell (r + far) c) → CellFacts s base kind far far r c
+straight_cell s base kind far r c some is =
+    let t = cloth_settings s kind in
+    let xs = cell_link s base t (cell r c) (cell r (c + far)) in
+    let ys = cell_link s base t (cell r c) (cell (r + far) c) in
+    record {
+      corners = rw is (every_both (Corner s.columns base far far r c) xs ys
+          (corner_at s base t r 0 c (c + far) r far far c far (omega arith) (λ e. omega arith) (omega arith) (inl refl) (inr refl) (inl (refl, refl)))
+          (corner_at s base t r far c c (r + far) far far c 0 refl (λ e. absurd (omega arith)) (omega arith) (inr refl) (inl refl)
+          (inl (refl, omega arith))));
+      once = rw is (once_both join_alike xs ys (cell_once s base t (cell r c) (cell r (c + far)))
+          (cell_once s base t (cell r c) (cell (r + far) c))
+          (shapes_apart s.columns base r 0 c (c + far) far c c xs ys (λ e f. omega arith)
+          (shape_at s base t r 0 c (c + far) r (omega arith) (λ e. omega arith))
+          (shape_at s base t r far c c (r + far) refl (λ e. absurd (omega arith)))));
+      most = rw is (two_most xs ys (cell_most s base t (cell r c) (cell r (c + far))) (cell_most s base t (cell r c) (cell (r + far) c)));
+    }
+
 stretch_cell : (s : ClothSpec) (base r c : ℕ) → CellFacts s base Stretch 1 1 r c
 unfolding links_of_cell
-stretch_cell s base r c =
-    let t = cloth_settings s Stretch in
-    let xs = cell_link s base t (cell r c) (cell r (c + 1)) in
-    let ys = cell_link s base t (cell r c) (cell (r + 1) c) in
-    record {
-      corners = every_both (Corner s.columns base 1 1 r c) xs ys
-          (corner_at s base t r 0 c (c + 1) r 1 1 c 1 (omega arith) (λ e. omega arith) refl (inl refl) (inr refl) (inl (refl, refl)))
-          (corner_at s base t r 1 c c (r + 1) 1 1 c 0 refl (λ e. absurd (omega arith)) refl (inr refl) (inl refl)
-          (inl (refl, omega arith)));
-      once = once_both join_alike xs ys (cell_once s base t (cell r c) (cell r (c + 1))) (cell_once s base t (cell r c) (cell (r + 1) c))
-          (shapes_apart s.columns base r 0 c (c + 1) 1 c c xs ys (λ e f. omega arith)
-          (shape_at s base t r 0 c (c + 1) r (omega arith) (λ e. omega arith))
-          (shape_at s base t r 1 c c (r + 1) refl (λ e. absurd (omega arith))));
-      most = two_most xs ys (cell_most s base t (cell r c) (cell r (c + 1))) (cell_most s base t (cell r c) (cell (r + 1) c));
-    }
+stretch_cell s base r c = straight_cell s base Stretch 1 r c (omega arith) refl
+
+bend_cell : (s : ClothSpec) (base r c : ℕ) → CellFacts s base Bend 2 2 r c
+unfolding links_of_cell
+bend_cell s base r c = straight_cell s base Bend 2 r c (omega arith) refl
 
 shear_cell : (s : ClothSpec) (base r c : ℕ) → CellFacts s base Shear 2 1 r c
 unfolding links_of_cell
@@ -148,24 +147,6 @@ shear_cell s base r c =
           (shape_at s base t r 1 c (c + 1) (r + 1) refl (λ e. omega arith))
           (shape_at s base t r 1 (c + 1) c (r + 1) refl (λ e. absurd (omega arith))));
       most = two_most xs ys (cell_most s base t (cell r c) (cell (r + 1) (c + 1))) (cell_most s base t (cell r (c + 1)) (cell (r + 1) c));
-    }
-
-bend_cell : (s : ClothSpec) (base r c : ℕ) → CellFacts s base Bend 2 2 r c
-unfolding links_of_cell
-bend_cell s base r c =
-    let t = cloth_settings s Bend in
-    let xs = cell_link s base t (cell r c) (cell r (c + 2)) in
-    let ys = cell_link s base t (cell r c) (cell (r + 2) c) in
-    record {
-      corners = every_both (Corner s.columns base 2 2 r c) xs ys
-          (corner_at s base t r 0 c (c + 2) r 2 2 c 2 (omega arith) (λ e. omega arith) refl (inl refl) (inr refl) (inl (refl, refl)))
-          (corner_at s base t r 2 c c (r + 2) 2 2 c 0 refl (λ e. absurd (omega arith)) refl (inr refl) (inl refl)
-          (inl (refl, omega arith)));
-      once = once_both join_alike xs ys (cell_once s base t (cell r c) (cell r (c + 2))) (cell_once s base t (cell r c) (cell (r + 2) c))
-          (shapes_apart s.columns base r 0 c (c + 2) 2 c c xs ys (λ e f. omega arith)
-          (shape_at s base t r 0 c (c + 2) r (omega arith) (λ e. omega arith))
-          (shape_at s base t r 2 c c (r + 2) refl (λ e. absurd (omega arith))));
-      most = two_most xs ys (cell_most s base t (cell r c) (cell r (c + 2))) (cell_most s base t (cell r c) (cell (r + 2) c));
     }
 
 -- ---- the links of a kind
@@ -307,9 +288,9 @@ rest_fits limit p q low hp hq =
     let small : squared_length (minus p q) < (4 * m + 1) * (4 * m + 1) = omega (arith, squared_length_le (minus p q) (m + m) w) in
     length_fits limit (length_of (minus p q)) low (omega (arith, root_below (squared_length (minus p q)) (4 * m + 1) small))
 
-free_particle : (limit : ℤ) (at : Vec3) (weight : ℕ) → IsTrue (is_within limit at) → nat_le 1 weight ≡ true → nat_le weight 65535 ≡ true
+free_particle : (limit : ℤ) (at : Vec3) (weight : ℕ) → IsTrue (is_within limit at) → IsTrue (nat_le 1 weight && nat_le weight 65535)
     → IsTrue (is_free_and_valid limit (resting at weight))
-free_particle limit at weight inside low high = rw (inside, low, high) refl
+free_particle limit at weight inside range = let w = and_parts (nat_le 1 weight) (nat_le weight 65535) range in rw (inside, w.0, w.1) refl
 
 -- a link of two cells that have different numbers
 link_valid : (limit : ℤ) (base end : ℕ) (l : Link) → l.live ≡ true → base ≤ l.a → base ≤ l.b → l.a < end → l.b < end → (l.a ≡ l.b → ⊥)
@@ -341,6 +322,11 @@ shape_ends W base r h c d rows l p within under = (
       absurd (omega (arith, same.0, same.1, p.ordered (omega (arith, same.0))))),
 )
 
+-- what is asked of the limit and of a free particle's weight
+record FreeTests (limit : ℤ) (w : ℕ) : Type 0 where
+  pub low : pos 0 ≤ℤ limit
+  pub weight : IsTrue (nat_le 1 w && nat_le w 65535)
+
 -- what is asked of a kind's stiffness and tear length
 record AreSettings (limit : ℤ) (t : KindSettings) : Type 0 where
   pub k : nat_le t.k 256 ≡ true
@@ -348,10 +334,8 @@ record AreSettings (limit : ℤ) (t : KindSettings) : Type 0 where
 
 -- what a cloth that fits has
 record ClothTests (limit : ℤ) (s : ClothSpec) : Type 0 where
-  pub low : pos 0 ≤ℤ limit
+  pub free : FreeTests limit s.weight
   pub wide : 0 < s.columns
-  pub weight_low : nat_le 1 s.weight ≡ true
-  pub weight_high : nat_le s.weight 65535 ≡ true
   pub stretch : AreSettings limit (cloth_settings s Stretch)
   pub shear : AreSettings limit (cloth_settings s Shear)
   pub bend : AreSettings limit (cloth_settings s Bend)
@@ -370,17 +354,14 @@ cloth_tests limit s is fits =
     let c2 = and_parts ((nat_le 1 s.rows && nat_le s.rows 256) && (nat_le 1 s.columns && nat_le s.columns 256))
     (nat_le 1 s.weight && nat_le s.weight 65535) t1.1 in
     let c1 = and_parts (nat_le 1 s.rows && nat_le s.rows 256) (nat_le 1 s.columns && nat_le s.columns 256) c2.0 in
-    let w = and_parts (nat_le 1 s.weight) (nat_le s.weight 65535) c2.1 in
     let k2 = and_parts (nat_le s.stretch 256 && nat_le s.shear 256) (nat_le s.bend 256) t2.1 in
     let k1 = and_parts (nat_le s.stretch 256) (nat_le s.shear 256) k2.0 in
     let e2 = and_parts (is_between (pos 0) (pos 4 *ℤ limit) s.stretch_tear && is_between (pos 0) (pos 4 *ℤ limit) s.shear_tear)
     (is_between (pos 0) (pos 4 *ℤ limit) s.bend_tear) t3.1 in
     let e1 = and_parts (is_between (pos 0) (pos 4 *ℤ limit) s.stretch_tear) (is_between (pos 0) (pos 4 *ℤ limit) s.shear_tear) e2.0 in
     record {
-      low = (limit_bounds limit is).0;
+      free = record { low = (limit_bounds limit is).0; weight = c2.1 };
       wide = omega (arith, at_least 1 256 s.columns c1.1);
-      weight_low = w.0;
-      weight_high = w.1;
       stretch = record { k = k1.0; tear = e1.0 };
       shear = record { k = k1.1; tear = e1.1 };
       bend = record { k = k2.1; tear = e2.1 };
@@ -396,13 +377,13 @@ cell_valid : (limit : ℤ) (s : ClothSpec) (base : ℕ) (t : KindSettings) (r h 
 cell_valid limit s base t r h c d q tests settings is ordered =
     cell_every (λ l. IsTrue (is_mesh_link limit base (base + s.rows * s.columns) l)) s base t (cell r c) (cell q d)
     (λ from to.
-    let l = the_link s base t (cell r c) (cell q d) in
+    let l = link_of_cells s base t (cell r c) (cell q d) in
     let f = in_cloth s (cell r c) from in
     let g = in_cloth s (cell q d) to in
     let p = cell_shaped s base t r h c d q is ordered from to in
-    let ends = shape_ends s.columns base r h c d s.rows l p f.0 (omega (arith, is, g.0)) in
+    let ends = shape_ends s.columns base r h c d s.rows l p f.row (omega (arith, is, g.row)) in
     link_valid limit base (base + s.rows * s.columns) l refl (omega (arith, p.a)) (omega (arith, p.b)) ends.0 ends.1 ends.2
-    (rest_fits limit (cloth_place s r c) (cloth_place s q d) tests.low (tests.inside r c f.0 f.1) (tests.inside q d g.0 g.1))
+    (rest_fits limit (cloth_place s r c) (cloth_place s q d) tests.free.low (tests.inside r c f.row f.column) (tests.inside q d g.row g.column))
     settings.tear settings.k)
 
 kind_valid : (limit : ℤ) (s : ClothSpec) (base : ℕ) (kind : Kind)
@@ -452,7 +433,7 @@ cloth_particles_valid limit s tests = let P = λ (p : Particle). IsTrue (is_free
     every_concatenated P s.rows (λ r. concatenated s.columns (λ c. resting (cloth_place s r c) s.weight ∷ []))
     (λ r w. every_concatenated P s.columns (λ c. resting (cloth_place s r c) s.weight ∷ [])
     (λ c v. every_one P (resting (cloth_place s r c) s.weight)
-    (free_particle limit (cloth_place s r c) s.weight (tests.inside r c w v) tests.weight_low tests.weight_high)))
+    (free_particle limit (cloth_place s r c) s.weight (tests.inside r c w v) tests.free.weight)))
 
 -- the links of two kinds are not alike
 kinds_apart : (W base total span sum reach : ℕ) (xs ys : List Link) → (total ≡ sum → ⊥) → Every (SomeCorner W base total span) xs
@@ -508,10 +489,8 @@ cloth_mesh limit base s is fits =
 -- ---- ropes
 
 record RopeTests (limit : ℤ) (s : RopeSpec) : Type 0 where
-  pub low : pos 0 ≤ℤ limit
+  pub free : FreeTests limit s.weight
   pub count : 0 < s.count
-  pub weight_low : nat_le 1 s.weight ≡ true
-  pub weight_high : nat_le s.weight 65535 ≡ true
   pub stretch : AreSettings limit (record { kind = Stretch; k = s.stretch; tear = s.stretch_tear })
   pub bend : AreSettings limit (record { kind = Bend; k = s.bend; tear = s.bend_tear })
   pub inside : (i : ℕ) → i < s.count → IsTrue (is_within limit (rope_place s i))
@@ -523,16 +502,13 @@ rope_tests limit s is fits =
     let t2 = and_parts (is_within limit s.origin && is_within limit s.spacing && rope_counts_fit s) (rope_settings_fit limit s) h.0 in
     let t1 = and_parts (is_within limit s.origin && is_within limit s.spacing) (rope_counts_fit s) t2.0 in
     let c1 = and_parts (nat_le 1 s.count && nat_le s.count 4096) (nat_le 1 s.weight && nat_le s.weight 65535) t1.1 in
-    let w = and_parts (nat_le 1 s.weight) (nat_le s.weight 65535) c1.1 in
     let e3 = and_parts (nat_le s.stretch 256 && nat_le s.bend 256 && is_between (pos 0) (pos 4 *ℤ limit) s.stretch_tear)
     (is_between (pos 0) (pos 4 *ℤ limit) s.bend_tear) t2.1 in
     let e2 = and_parts (nat_le s.stretch 256 && nat_le s.bend 256) (is_between (pos 0) (pos 4 *ℤ limit) s.stretch_tear) e3.0 in
     let e1 = and_parts (nat_le s.stretch 256) (nat_le s.bend 256) e2.0 in
     record {
-      low = (limit_bounds limit is).0;
+      free = record { low = (limit_bounds limit is).0; weight = c1.1 };
       count = omega (arith, at_least 1 4096 s.count c1.0);
-      weight_low = w.0;
-      weight_high = w.1;
       stretch = record { k = e1.0; tear = e2.1 };
       bend = record { k = e1.1; tear = e3.1 };
       inside = λ i within. below s.count (λ i. is_within limit (rope_place s i)) i h.1 within;
@@ -607,7 +583,7 @@ unfolding rope_link
 rope_link_valid limit s base t step i tests settings moves within =
     link_valid limit base (base + s.count) (rope_link s base t step i) refl (omega arith) (omega arith) (omega arith) (omega arith)
     (λ e. absurd (omega arith))
-    (rest_fits limit (rope_place s i) (rope_place s (i + step)) tests.low (tests.inside i (omega arith)) (tests.inside (i + step) within))
+    (rest_fits limit (rope_place s i) (rope_place s (i + step)) tests.free.low (tests.inside i (omega arith)) (tests.inside (i + step) within))
     settings.tear settings.k
 
 chain_valid : (limit : ℤ) (s : RopeSpec) (base : ℕ) (t : KindSettings) (step : ℕ) → RopeTests limit s → AreSettings limit t → 0 < step
@@ -630,7 +606,7 @@ unfolding rope_particles
 rope_particles_valid limit s tests = let P = λ (p : Particle). IsTrue (is_free_and_valid limit p) in
     every_concatenated P s.count (λ i. resting (rope_place s i) s.weight ∷ [])
     (λ i w. every_one P (resting (rope_place s i) s.weight)
-    (free_particle limit (rope_place s i) s.weight (tests.inside i w) tests.weight_low tests.weight_high))
+    (free_particle limit (rope_place s i) s.weight (tests.inside i w) tests.free.weight))
 
 pub rope_mesh : (limit : ℤ) (base : ℕ) (s : RopeSpec) → IsTrue (is_limit limit) → IsTrue (rope_fits limit s)
     → IsMesh limit base (rope_particles s) (rope_links s base)

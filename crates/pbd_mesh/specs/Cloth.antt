@@ -13,6 +13,7 @@ use Rattle.pbd_mesh.specs.declared.spec.ClothSpec.{ClothSpec}
 use Rattle.pbd_mesh.specs.declared.spec.Cell.{Cell}
 use Rattle.pbd_mesh.specs.declared.spec.KindSettings.{KindSettings}
 use Rattle.pbd_mesh.specs.Numbered.{concatenated, all_below}
+use Rattle.pbd_mesh.specs.Appending.{with_more}
 
 abbrev pub times : ℕ → Vec3 → Vec3
 times n v = on_axes (λ axis. pos n *ℤ axis) v
@@ -36,24 +37,34 @@ cloth_particles s = concatenated s.rows (λ r. row_particles s r)
 abbrev pub is_in_cloth : ClothSpec → Cell → Bool
 is_in_cloth s cell = nat_lt cell.row s.rows && nat_lt cell.column s.columns
 
+pub record IsCell (s : ClothSpec) (cell : Cell) : Type 0 where
+  pub row : cell.row < s.rows
+  pub column : cell.column < s.columns
+
 -- the number of a cell's particle, where the cloth's first has the number base
 abbrev pub number : ClothSpec → ℕ → Cell → ℕ
 number s base cell = base + cell.row * s.columns + cell.column
 
--- the link of two cells, at its length, where both are in the cloth
+-- the link of particles a and b, at the length between their places
+abbrev pub link_between : KindSettings → ℕ → Vec3 → ℕ → Vec3 → Link
+link_between t a p b q = record {
+  a = a;
+  b = b;
+  rest = pos (length_of (minus p q));
+  k = t.k;
+  tear = t.tear;
+  kind = t.kind;
+  live = true;
+}
+
+-- the link of two cells, whether they are in the cloth or not
+abbrev pub link_of_cells : ClothSpec → ℕ → KindSettings → Cell → Cell → Link
+link_of_cells s base t from to =
+    link_between t (number s base from) (cloth_place s from.row from.column) (number s base to) (cloth_place s to.row to.column)
+
+-- the link of two cells where both are in the cloth
 unfoldable pub cell_link : ClothSpec → ℕ → KindSettings → Cell → Cell → List Link
-cell_link s base t from to =
-    if is_in_cloth s from && is_in_cloth s to
-    then record {
-      a = number s base from;
-      b = number s base to;
-      rest = pos (length_of (minus (cloth_place s from.row from.column) (cloth_place s to.row to.column)));
-      k = t.k;
-      tear = t.tear;
-      kind = t.kind;
-      live = true;
-    } ∷ []
-    else []
+cell_link s base t from to = if is_in_cloth s from && is_in_cloth s to then link_of_cells s base t from to ∷ [] else []
 
 abbrev pub cell : ℕ → ℕ → Cell
 cell r c = record { row = r; column = c }
@@ -87,10 +98,7 @@ cloth_links s base = links_of_kind s base Stretch ++ links_of_kind s base Shear 
 
 -- parts with a cloth after their own particles and links
 abbrev pub with_cloth : Parts → ClothSpec → Parts
-with_cloth parts s = record parts {
-  particles = parts.particles ++ cloth_particles s;
-  links = parts.links ++ cloth_links s (length parts.particles);
-}
+with_cloth parts s = with_more parts (cloth_particles s) (cloth_links s (length parts.particles))
 
 -- each number is in its range
 unfoldable pub cloth_vectors_fit : ℤ → ClothSpec → Bool

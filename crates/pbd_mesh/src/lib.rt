@@ -4,6 +4,7 @@
 mod cloths;
 mod fits;
 mod laws;
+mod mesh;
 mod place;
 mod ropes;
 mod spec;

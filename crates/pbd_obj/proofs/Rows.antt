@@ -1,5 +1,5 @@
 -- Worked rows: what the definitions compute.
-use Rattle.std.specs.Prelude.{◌≡◌, ◌+◌, true, refl, ℕ, pos, neg_ℤ, [], ◌∷◌, codes, Some, None, Ok, Err}
+use Rattle.std.specs.Prelude.{◌≡◌, ◌+◌, true, refl, ℕ, ℤ, pos, neg_ℤ, List, [], ◌∷◌, map, codes, Option, Some, None, Ok, Err}
 use Rattle.std.specs.Fmt.{digits}
 use Rattle.pbd_num.specs.declared.Vec3.{Vec3}
 use Rattle.pbd_num.specs.Rounding.{rdiv, root}
@@ -7,6 +7,7 @@ use Rattle.pbd_world.specs.declared.parts.Link.{Link}
 use Rattle.pbd_world.specs.declared.parts.Kind.{Kind}
 use Rattle.pbd_world.specs.declared.parts.Kind.TheVariants.{Stretch, Shear, Bend}
 use Rattle.pbd_obj.specs.declared.mesh.ObjMesh.{ObjMesh}
+use Rattle.pbd_obj.specs.declared.mesh.ObjFault.{ObjFault}
 use Rattle.pbd_obj.specs.declared.mesh.ObjFault.TheVariants.{BadNumber, BadFace, OutOfRange}
 use Rattle.pbd_obj.specs.Decimals.{decimal, scaled, units, units_of}
 use Rattle.pbd_obj.specs.Reading.{corner, with_line, read}
@@ -20,97 +21,61 @@ use Rattle.pbd_obj.specs.Writing.{coordinate, vertex_line, face_line, mesh_text}
 
 -- ---- decimals
 
-tenth : units_of (codes "0.1") ≡ Some (pos 6554)
-unfolding units_of decimal units scaled rdiv
-tenth = refl
+-- a word, and how many units it is
+abbrev decimal_rows : List (List ℕ × Option ℤ)
+decimal_rows =
+    (codes "0.1", Some (pos 6554))
+    ∷ (codes "1e-1", Some (pos 6554))
+    -- half a unit, and half a unit below zero, are rounded away from it
+    ∷ (codes "0.00000762939453125", Some (pos 1))
+    ∷ (codes "-0.00000762939453125", Some (neg_ℤ (pos 1)))
+    ∷ (codes "+2.", Some (pos 131072))
+    ∷ (codes ".5E+1", Some (pos 327680))
+    ∷ (codes "000000000000000000000000e99", Some (pos 0))
+    -- no digit, two points, 25 digits, an exponent of three digits, and one of none
+    ∷ (codes ".", None)
+    ∷ (codes "1.2.3", None)
+    ∷ (codes "0.000000000000000000000001", None)
+    ∷ (codes "1e100", None)
+    ∷ (codes "1e", None)
+    ∷ []
 
-tenth_by_exponent : units_of (codes "1e-1") ≡ Some (pos 6554)
+decimals_are_read : map (λ row. units_of row.0) decimal_rows ≡ map (λ row. row.1) decimal_rows
 unfolding units_of decimal units scaled rdiv
-tenth_by_exponent = refl
-
-half_unit : units_of (codes "0.00000762939453125") ≡ Some (pos 1)
-unfolding units_of decimal units scaled rdiv
-half_unit = refl
-
-half_unit_below : units_of (codes "-0.00000762939453125") ≡ Some (neg_ℤ (pos 1))
-unfolding units_of decimal units scaled rdiv
-half_unit_below = refl
-
-point_last : units_of (codes "+2.") ≡ Some (pos 131072)
-unfolding units_of decimal units scaled rdiv
-point_last = refl
-
-point_first : units_of (codes ".5E+1") ≡ Some (pos 327680)
-unfolding units_of decimal units scaled rdiv
-point_first = refl
-
-great_exponent : units_of (codes "000000000000000000000000e99") ≡ Some (pos 0)
-unfolding units_of decimal units scaled rdiv
-great_exponent = refl
-
-point_alone : units_of (codes ".") ≡ None
-unfolding units_of decimal units scaled rdiv
-point_alone = refl
-
-two_points : units_of (codes "1.2.3") ≡ None
-unfolding units_of decimal units scaled rdiv
-two_points = refl
-
-many_digits : units_of (codes "0.000000000000000000000001") ≡ None
-unfolding units_of decimal units scaled rdiv
-many_digits = refl
-
-long_exponent : units_of (codes "1e100") ≡ None
-unfolding units_of decimal units scaled rdiv
-long_exponent = refl
-
-no_exponent : units_of (codes "1e") ≡ None
-unfolding units_of decimal units scaled rdiv
-no_exponent = refl
+decimals_are_read = refl
 
 -- ---- corners
 
-first_of_four : corner 4 (codes "1") ≡ Some 0
-unfolding corner
-first_of_four = refl
+-- a word, and the vertex of four that it names
+abbrev corner_rows : List (List ℕ × Option ℕ)
+corner_rows =
+    (codes "1", Some 0)
+    ∷ (codes "2/7", Some 1)
+    ∷ (codes "-2//3", Some 2)
+    -- no vertex 0, no plus, at most nine digits, and at least one
+    ∷ (codes "-0", None)
+    ∷ (codes "+1", None)
+    ∷ (codes "0000000001", None)
+    ∷ (codes "/3", None)
+    ∷ []
 
-with_slashes : corner 4 (codes "2/7") ≡ Some 1
+corners_are_named : map (λ row. corner 4 row.0) corner_rows ≡ map (λ row. row.1) corner_rows
 unfolding corner
-with_slashes = refl
-
-from_last : corner 4 (codes "-2//3") ≡ Some 2
-unfolding corner
-from_last = refl
-
-no_zero : corner 4 (codes "-0") ≡ None
-unfolding corner
-no_zero = refl
-
-no_plus : corner 4 (codes "+1") ≡ None
-unfolding corner
-no_plus = refl
-
-ten_digits : corner 4 (codes "0000000001") ≡ None
-unfolding corner
-ten_digits = refl
-
-slash_first : corner 4 (codes "/3") ≡ None
-unfolding corner
-slash_first = refl
+corners_are_named = refl
 
 -- ---- texts
 
-bad_number : read (codes "v 1 2") ≡ Err (BadNumber 1)
-unfolding read with_line units_of decimal units scaled rdiv corner
-bad_number = refl
+-- a text, and why it is no mesh
+abbrev bad_text_rows : List (List ℕ × ObjFault)
+bad_text_rows =
+    (codes "v 1 2", BadNumber 1)
+    ∷ (codes "\nf 1 2 3", BadFace 2)
+    ∷ (codes "v 8193 0 0", OutOfRange 1)
+    ∷ []
 
-bad_face : read (codes "\nf 1 2 3") ≡ Err (BadFace 2)
+faults_are_found : map (λ row. read row.0) bad_text_rows ≡ map (λ row. Err row.1) bad_text_rows
 unfolding read with_line units_of decimal units scaled rdiv corner
-bad_face = refl
-
-out_of_range : read (codes "v 8193 0 0") ≡ Err (OutOfRange 1)
-unfolding read with_line units_of decimal units scaled rdiv corner
-out_of_range = refl
+faults_are_found = refl
 
 place : ℕ → ℕ → ℕ → Vec3
 place x y z = record { x = pos x; y = pos y; z = pos z }
@@ -207,11 +172,11 @@ one_link_bends = refl
 
 -- ---- triangles
 
-abbrev drawn : ℕ → ℕ → ℕ → Triangle
-drawn a b c = record { a = a; b = b; c = c }
+abbrev triangle : ℕ → ℕ → ℕ → Triangle
+triangle a b c = record { a = a; b = b; c = c }
 
 -- a triangle, a square and a face of five corners
 fans : triangles (record { places = []; sizes = 3 ∷ 4 ∷ 5 ∷ []; corners = 2 ∷ 0 ∷ 1 ∷ 4 ∷ 5 ∷ 6 ∷ 7 ∷ 9 ∷ 8 ∷ 3 ∷ 2 ∷ 0 ∷ [] })
-    ≡ drawn 2 0 1 ∷ drawn 4 5 6 ∷ drawn 4 6 7 ∷ drawn 9 8 3 ∷ drawn 9 3 2 ∷ drawn 9 2 0 ∷ []
+    ≡ triangle 2 0 1 ∷ triangle 4 5 6 ∷ triangle 4 6 7 ∷ triangle 9 8 3 ∷ triangle 9 3 2 ∷ triangle 9 2 0 ∷ []
 unfolding fan_triangle
 fans = refl

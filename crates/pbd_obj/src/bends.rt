@@ -130,27 +130,29 @@ fn add_facing(
     Ok(())
 }
 
-/// Adds bend links, if there are to be some.
-pub(crate) fn add_bends(
-    alloc: Global,
-    mesh: &ObjMesh,
-    settings: &MeshSettings,
-    found: &mut FoundLinks,
-) -> Result<(), ObjFault>
-    requires mesh { IsMesh mesh.now }
-    requires fits { FitsNet mesh.now found.old.base }
-    requires joined { HoldsJoined found.old }
-    ensures ok { OnOk result (Adds (bend_links settings.now mesh.now found.old.base) found.old found.new) }
-    ensures err { IfErr result (λ fault. IsStopped (bend_links settings.now mesh.now found.old.base) found.old fault) }
-{
-    let Some(bend) = settings.bend else {
-        return Ok(());
-    };
-    let edges = edges_of(alloc, mesh)?;
-    let shared = shared_edges(alloc, edges.as_slice())?;
-    let all = MeshEdges {
-        edges: edges.as_slice(),
-        shared: &shared,
-    };
-    add_facing(mesh, bend, &all, found)
+impl MeshSettings {
+    /// Adds bend links, if there are to be some.
+    pub(crate) fn add_bends(
+        &self,
+        alloc: Global,
+        mesh: &ObjMesh,
+        found: &mut FoundLinks,
+    ) -> Result<(), ObjFault>
+        requires mesh { IsMesh mesh.now }
+        requires fits { FitsNet mesh.now found.old.base }
+        requires joined { HoldsJoined found.old }
+        ensures ok { OnOk result (Adds (bend_links self.now mesh.now found.old.base) found.old found.new) }
+        ensures err { IfErr result (λ fault. IsStopped (bend_links self.now mesh.now found.old.base) found.old fault) }
+    {
+        let Some(bend) = self.bend else {
+            return Ok(());
+        };
+        let edges = edges_of(alloc, mesh)?;
+        let shared = shared_edges(alloc, edges.as_slice())?;
+        let all = MeshEdges {
+            edges: edges.as_slice(),
+            shared: &shared,
+        };
+        add_facing(mesh, bend, &all, found)
+    }
 }

@@ -3,10 +3,10 @@ ghost use Rattle.std.specs.Prelude.{◌≡◌, ◌+◌, ◌*◌, ◌^◌, ◌<�
 ghost use Rattle.std.specs.List.{list_all, position_or_len};
 ghost use Rattle.std.specs.Option.{option_map};
 ghost use Rattle.pbd_script.specs.Lines.{is_digit, value};
-ghost use Rattle.pbd_obj.specs.Decimals.{are_few_digits, decimal, exponent, is_mark, is_point, signed, split_decimal, units_of, with_digits};
+ghost use Rattle.pbd_obj.specs.Decimals.{are_few_digits, decimal, exponent, is_mark, signed, split_decimal, units_of, with_digits};
 ghost use Rattle.pbd_obj.specs.Sizes.{HasFewDigits, capped, capped_size, lowered, scaled_size};
 
-use crate::words::{is_minus, short_count, without_sign};
+use crate::words::{byte_at, is_minus, short_count, without_sign};
 use pbd_script::lines::{are_digits, value_of};
 
 /// The most digits of a number.
@@ -45,20 +45,6 @@ fn mark_at(word: &[u8]) -> usize
     ensures within { result ≤ length word.now }
 {
     first_mark(word).unwrap_or(word.len())
-}
-
-fn first_point(word: &[u8]) -> Option<usize>
-    ensures { result ≡ position is_point word.now }
-{
-    word.iter().position(|b| *b == b'.')
-}
-
-#[tactic(auto, using(crate::proofs::Numbers::position_end, crate::proofs::Numbers::position_most))]
-fn point_at(word: &[u8]) -> usize
-    ensures place { result ≡ position_or_len is_point word.now }
-    ensures within { result ≤ length word.now }
-{
-    first_point(word).unwrap_or(word.len())
 }
 
 /// The exponent behind a number, from its `e` on. None comes where it is not one.
@@ -126,7 +112,7 @@ fn split_decimal(minus: bool, mantissa: &[u8], mark: &[u8]) -> Option<Decimal>
     ensures value { result ≡ split_decimal minus mantissa.now mark.now }
     ensures bounds { IfSome result HasFewDigits }
 {
-    let point = point_at(mantissa);
+    let point = byte_at(mantissa, b'.');
     let whole = &mantissa[..point];
     with_digits(minus, whole, behind(mantissa, point), exponent(mark)?)
 }

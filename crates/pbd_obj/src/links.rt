@@ -10,7 +10,6 @@ ghost use Rattle.pbd_obj.specs.MeshLinks.{at_rest, diagonal_links, face_links, f
 ghost use Rattle.pbd_obj.specs.Reading.{IsFaultOf};
 ghost use Rattle.pbd_obj.specs.Nets.{counted_end, ordered, Adds, AreFew, CountsLink, FitsNet, HoldsJoined, IsFrom, IsFullAt, IsLinkFrom, IsStopped, Names};
 
-use crate::bends::add_bends;
 use crate::settings::{LinkSettings, MeshSettings};
 use crate::{ObjFault, ObjMesh};
 use pbd_mesh::resting;
@@ -196,7 +195,7 @@ fn mesh_links(
     };
     add_kind(mesh, settings, Kind::Stretch, &mut found)?;
     add_kind(mesh, settings, Kind::Shear, &mut found)?;
-    add_bends(alloc, mesh, settings, &mut found)?;
+    settings.add_bends(alloc, mesh, &mut found)?;
     let FoundLinks { links, .. } = found;
     Ok(links)
 }

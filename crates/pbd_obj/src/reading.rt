@@ -7,10 +7,10 @@ ghost use Rattle.pbd_script.specs.Lines.{words};
 ghost use Rattle.pbd_obj.specs.Decimals.{units_of};
 ghost use Rattle.pbd_obj.specs.Meshes.{IsMesh};
 ghost use Rattle.pbd_obj.specs.Sizes.{capped_axes};
-ghost use Rattle.pbd_obj.specs.Reading.{corner, face, is_slash, kth_vertex, named_by, no_mesh, read, vertex, with_face, with_line, with_vertex, with_words, IsFaultOf, PushesFace};
+ghost use Rattle.pbd_obj.specs.Reading.{corner, face, kth_vertex, named_by, no_mesh, read, vertex, with_face, with_line, with_vertex, with_words, IsFaultOf, PushesFace};
 
 use crate::decimal::units_of;
-use crate::words::{is_minus, short_count, without_minus};
+use crate::words::{byte_at, is_minus, short_count, without_minus};
 use crate::{ObjFault, ObjMesh};
 use pbd_num::{Vec3, inside};
 use pbd_script::lines::{first_line, next_word, without_return};
@@ -76,26 +76,11 @@ fn named_by(vertices: u32, part: &[u8]) -> Option<u32>
     kth_vertex(vertices, is_minus(part), k)
 }
 
-fn first_slash(word: &[u8]) -> Option<usize>
-    ensures { result ≡ position is_slash word.now }
-{
-    word.iter().position(|b| *b == b'/')
-}
-
-/// Where the first `/` stands, or the word's end.
-#[tactic(auto, using(crate::proofs::Numbers::position_end, crate::proofs::Numbers::position_most))]
-fn slash_at(word: &[u8]) -> usize
-    ensures place { result ≡ position_or_len is_slash word.now }
-    ensures within { result ≤ length word.now }
-{
-    first_slash(word).unwrap_or(word.len())
-}
-
 #[tactic(auto, unfolding(crate::specs::Reading::corner))]
 fn corner(vertices: u32, word: &[u8]) -> Option<u32>
     ensures { result ≡ corner vertices word.now }
 {
-    named_by(vertices, &word[..slash_at(word)])
+    named_by(vertices, &word[..byte_at(word, b'/')])
 }
 
 /// Pushes the corners that words name. Says whether they are a face.

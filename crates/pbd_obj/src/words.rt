@@ -1,5 +1,6 @@
-//! Words that are counts, and signs before them.
-ghost use Rattle.std.specs.Prelude.{◌≡◌, ◌<◌, ◌≤◌, ◌^◌, IfSome, length};
+//! Words that are counts, signs before them, and bytes in them.
+ghost use Rattle.std.specs.Prelude.{◌≡◌, ◌==◌, ◌<◌, ◌≤◌, ◌^◌, IfSome, length, position};
+ghost use Rattle.std.specs.List.{position_or_len};
 ghost use Rattle.pbd_obj.specs.Decimals.{is_minus, without_sign, short_count};
 ghost use Rattle.pbd_obj.specs.Reading.{without_minus};
 
@@ -32,6 +33,21 @@ pub fn without_minus(word: &[u8]) -> &[u8]
         [first, rest @ ..] if *first == b'-' => rest,
         _ => word,
     }
+}
+
+fn first_byte(word: &[u8], byte: u8) -> Option<usize>
+    ensures { result ≡ position (λ b. b == byte) word.now }
+{
+    word.iter().position(|b| *b == byte)
+}
+
+/// Where a byte first stands, or the word's end.
+#[tactic(auto, using(crate::proofs::Numbers::position_end, crate::proofs::Numbers::position_most))]
+pub fn byte_at(word: &[u8], byte: u8) -> usize
+    ensures place { result ≡ position_or_len (λ b. b == byte) word.now }
+    ensures within { result ≤ length word.now }
+{
+    first_byte(word, byte).unwrap_or(word.len())
 }
 
 /// The number that 1 to `most` digits write.

@@ -1,15 +1,22 @@
 -- The limit, and tests that are made with the numbers as the program has them.
-use Rattle.std.proofs.Common.{◌≡◌, ℤ, pos, ◌≤ℤ◌, ◌≤◌, ◌^◌, unsigned_abs, w64, FitsSigned, true, Ok, Err, arith}
-use Rattle.std.specs.Prelude.{Result, IfOk}
-use Rattle.std.proofs.lemmas.Int.{ints}
-use Rattle.pbd_num.proofs.Sizes.{fits, size_above, size_at_most}
+use Rattle.std.proofs.Common.{◌≡◌, ℤ, pos, ◌≤ℤ◌, ◌≤◌, ◌^◌, unsigned_abs, w64, to_z, of_z, FitsSigned, true, Ok, Err, arith}
+use Rattle.std.specs.Prelude.{Result, IfOk, IsTrue}
+use Rattle.std.proofs.lemmas.Int.{ints, to_z-of_z}
+use Rattle.pbd_num.proofs.Sizes.{fits as fits_below, size_above, size_at_most}
 use Rattle.pbd_num.proofs.Ranges.{within_facts}
 use Rattle.pbd_num.specs.declared.Vec3.{Vec3}
 use Rattle.pbd_num.specs.Vectors.{Within, is_within}
+use Rattle.pbd_world.specs.Valid.{is_limit}
+use Rattle.pbd_mesh.proofs.Facts.{limit_bounds}
 use Rattle.pbd_scene.specs.declared.fault.SceneFault.{SceneFault}
 
 pub limit_fits : (limit : ℤ) → unsigned_abs limit ≤ 2 ^ 29 → FitsSigned w64 limit
-limit_fits limit high = fits limit (omega arith)
+limit_fits limit high = fits_below limit (omega arith)
+
+-- one of the two limits, as the program has it
+pub limit_clauses : (limit : ℤ) → FitsSigned w64 limit → IsTrue (is_limit limit)
+    → (pos 0 ≤ℤ to_z w64 (of_z w64 limit)) × (unsigned_abs (to_z w64 (of_z w64 limit)) ≤ 2 ^ 29)
+limit_clauses limit fits is = let b = limit_bounds limit is in (simp to_z-of_z b.0, simp to_z-of_z b.1)
 
 -- a number from 1 to the limit
 at_most_limit : (limit n : ℤ) → pos 1 ≤ℤ n → n ≤ℤ limit → unsigned_abs limit ≤ 2 ^ 29 → unsigned_abs n ≤ 2 ^ 29

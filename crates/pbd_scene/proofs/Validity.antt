@@ -72,15 +72,6 @@ tables_fit limit ms t low is =
     through (planes_of ms) _ t is4 (λ planes e5 is5.
     through (spheres_of limit ms) _ t is5 (λ spheres e6 is6.
     through (tracks_of limit ms) _ t is6 (λ tracks e7 is7.
-    let all : Tables = record {
-      particles = particles;
-      cloths = cloths;
-      ropes = ropes;
-      links = links;
-      planes = planes;
-      spheres = spheres;
-      tracks = tracks;
-    } in
     let p = table_pass tables.Particle 65536 (λ _. particle_of limit) (is_entry_particle limit)
     (λ front place ms y e. particle_passes limit place ms y e) ms particles e1 in
     let c = meshes_close tables.Cloth (cloth_fits limit) size_of_cloth (length particles) (λ place ms. cloth_spec_of place limit ms)
@@ -94,7 +85,7 @@ tables_fit limit ms t low is =
     (λ front place ms y e. sphere_passes limit place ms y e) ms spheres e6 in
     let k = table_pass tables.Track 4096 (λ _. track_of limit) (λ t. has_keys limit t.keys)
     (λ front place ms y e. track_passes limit place ms y e) ms tracks e7 in
-    let fit : TablesFit limit all = record {
+    rw (← same_ok _ t is7) (record {
       particles = p.0;
       cloths = c;
       ropes = r;
@@ -106,8 +97,7 @@ tables_fit limit ms t low is =
       few_spheres = s.1;
       tracks = k.0;
       few_tracks = k.1;
-    } in
-    rw (← same_ok all t is7) fit)))))))
+    }))))))))
 
 -- ---- the scene's own keys
 

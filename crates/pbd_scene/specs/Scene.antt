@@ -91,6 +91,11 @@ tables_of limit ms = do
   tracks ← tracks_of limit ms
   Ok (record { particles = particles; cloths = cloths; ropes = ropes; links = links; planes = planes; spheres = spheres; tracks = tracks })
 
+-- parts that have so many particles more, and the same limit
+pub record IsGrown (old now : Parts) (more : ℕ) : Type 0 where
+  pub limit : now.limit ≡ old.limit
+  pub particles : length now.particles ≡ length old.particles + more
+
 -- the parts without meshes, links and tracks
 abbrev pub plain_parts : ℤ → Settings → Tables → Parts
 plain_parts limit s t = record (no_parts limit) {

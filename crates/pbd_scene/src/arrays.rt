@@ -20,10 +20,8 @@ use toml::{Table, Value};
 fn array_of(value: &Value) -> Option<&[Value]>
     ensures { option_map (λ vs. map view vs.now) result ≡ array_of (view value.now) }
 {
-    match value.as_array() {
-        None => None,
-        Some(items) => Some(items.as_slice()),
-    }
+    let items = value.as_array()?;
+    Some(items.as_slice())
 }
 
 #[derive(Clone, Copy)]
@@ -64,10 +62,8 @@ fn four_of(items: &[Value]) -> Option<Row>
 fn four_integers(value: &Value) -> Option<Row>
     ensures { result ≡ four_integers (view value.now) }
 {
-    match value.as_array() {
-        Some(items) => four_of(items.as_slice()),
-        None => None,
-    }
+    let items = value.as_array()?;
+    four_of(items.as_slice())
 }
 
 /// A step and a place.

@@ -8,7 +8,7 @@ ghost use Rattle.pbd_scene.specs.Naming.{particle_number, plain_link, room_for_l
 
 use crate::fault::{KeyName, Place, SceneFault, SceneRule, TableName};
 use crate::raw::LinkEntry;
-use crate::values::{broken, expect};
+use crate::values::broken;
 use pbd_num::distance;
 use pbd_world::{Kind, Link, List, MOST_AT_PARTICLE, MOST_LINKS, NeighbourLists, Particle};
 use std::alloc::Global;
@@ -62,24 +62,12 @@ fn room_for_link(place: Place, lists: &NeighbourLists, a: u32, b: u32) -> Result
     requires b { b < length lists.now }
     ensures { Gives (λ x. x) result (room_for_link place b (slice_index_or lists.now a []) (slice_index_or lists.now b [])) }
 {
-    expect(
-        !lists.are_linked(a, b),
-        SceneRule::DoubleLink,
-        place,
-        KeyName::NoKey,
-    )?;
-    expect(
-        lists.at(a).len() < MOST_AT_PARTICLE,
-        SceneRule::TooManyAtParticle,
-        place,
-        KeyName::A,
-    )?;
-    expect(
-        lists.at(b).len() < MOST_AT_PARTICLE,
-        SceneRule::TooManyAtParticle,
-        place,
-        KeyName::B,
-    )
+    let is_new = !lists.are_linked(a, b);
+    place.expect(is_new, SceneRule::DoubleLink, KeyName::NoKey)?;
+    let has_room = lists.at(a).len() < MOST_AT_PARTICLE;
+    place.expect(has_room, SceneRule::TooManyAtParticle, KeyName::A)?;
+    let has_room = lists.at(b).len() < MOST_AT_PARTICLE;
+    place.expect(has_room, SceneRule::TooManyAtParticle, KeyName::B)
 }
 
 /// The links so far, and for each particle the other ends of those at it.
@@ -107,15 +95,11 @@ fn entry_link(
         position,
     };
     let count = particles.len() as u32;
-    expect(
-        so_far.links.len() < MOST_LINKS,
-        SceneRule::TooMany,
-        place,
-        KeyName::NoKey,
-    )?;
+    let has_room = so_far.links.len() < MOST_LINKS;
+    place.expect(has_room, SceneRule::TooMany, KeyName::NoKey)?;
     let a = particle_number(count, place, KeyName::A, l.a)?;
     let b = particle_number(count, place, KeyName::B, l.b)?;
-    expect(a != b, SceneRule::SelfLink, place, KeyName::NoKey)?;
+    place.expect(a != b, SceneRule::SelfLink, KeyName::NoKey)?;
     room_for_link(place, so_far.lists, a, b)?;
     Ok(plain_link(a, b, rest_of(particles, a, b, l.rest), l))
 }

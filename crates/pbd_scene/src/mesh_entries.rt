@@ -1,40 +1,82 @@
 // The `[[cloth]]` and `[[rope]]` entries.
-ghost use Rattle.std.specs.Prelude.{◌≡◌, ◌≤◌, ◌+◌, true, IfOk, IsTrue};
-ghost use Rattle.std.specs.List.{All};
+ghost use Rattle.std.specs.Prelude.{◌≡◌, ◌≤◌, ◌+◌, ℕ, ℤ, Bool, true, length, IfOk, OnOk, IsTrue};
+ghost use Rattle.std.specs.List.{All, sum_by};
+ghost use Rattle.toml.specs.Data.{Members};
 ghost use Rattle.toml.specs.View.{table_view};
+ghost use Rattle.pbd_world.specs.declared.parts.Parts.{Parts};
+ghost use Rattle.pbd_world.specs.Valid.{is_limit};
 ghost use Rattle.pbd_mesh.specs.Cloth.{cloth_fits};
 ghost use Rattle.pbd_mesh.specs.Rope.{rope_fits};
+ghost use Rattle.pbd_scene.specs.declared.fault.Place.{Place};
 ghost use Rattle.pbd_scene.specs.declared.fault.SceneRule.TheVariants.{OutOfRange};
 ghost use Rattle.pbd_scene.specs.declared.fault.KeyName.TheVariants.{NoKey};
-ghost use Rattle.pbd_scene.specs.Checks.{Gives, expect};
-ghost use Rattle.pbd_scene.specs.Entries.{all_cloths_size, all_ropes_size, room_for, cloth_vectors_of, cloth_counts_of, cloth_stiffness_of, cloth_tears_of, cloth_with, cloth_spec_of, cloth_of, rope_particles_of, rope_links_of, rope_with, rope_spec_of, rope_of};
+ghost use Rattle.pbd_scene.specs.Checks.{Checked, Gives, expect};
+ghost use Rattle.pbd_scene.specs.Entries.{cloth_size, rope_size, room_for, mesh_of, cloth_vectors_of, cloth_counts_of, cloth_stiffness_of, cloth_tears_of};
+ghost use Rattle.pbd_scene.specs.Entries.{cloth_with, cloth_spec_of, rope_particles_of, rope_links_of, rope_with, rope_spec_of};
+ghost use Rattle.pbd_scene.specs.Scene.{with_cloth, with_rope, IsGrown};
 
 use crate::arrays::EntryReader;
 use crate::fault::{KeyName, Place, SceneFault, SceneRule};
 use crate::limit::Limit;
 use crate::raw::{ClothCounts, ClothStiffness, ClothTears, ClothVectors, RopeLinks, RopeParticles};
-use crate::values::{Entry, expect};
-use pbd_mesh::{ClothSpec, RopeSpec};
-use pbd_world::MOST_PARTICLES;
+use crate::values::Entry;
+use pbd_mesh::{ClothSpec, RopeSpec, cloth, rope};
+use pbd_world::{MOST_PARTICLES, Parts};
+use std::alloc::{AllocError, Global};
+use std::marker::PhantomData;
 
-// ---- cloths
+/// A mesh that an entry of its own table gives: a cloth or a rope.
+pub trait MeshEntry: Sized + Drop {
+    /// Its numbers are in their ranges, and its particles within a limit.
+    ghost fits: { ℤ → Self → Bool };
 
-#[derive(Clone, Copy)]
-pub struct Cloths {
-    pub limit: Limit,
-    /// How many particles stand before the first cloth.
-    pub count: u32,
+    /// The number of its particles.
+    ghost size: { Self → ℕ };
+
+    /// What the keys of an entry give, whether it fits or not.
+    ghost given: { Place → ℤ → Members → Checked Self };
+
+    /// Parts with its particles and links after their own.
+    ghost added: { Parts → Self → Parts };
+
+    fn given(entry: &Entry<'_>, limit: &Limit) -> Result<Self, SceneFault>
+        ensures { Gives (λ s. s) result (given entry.now.place limit.now.units (table_view entry.now.members.now)) };
+
+    /// Whether it fits. What fits has at most 65,536 particles.
+    fn is_fitting(&self, limit: &Limit) -> bool
+        ensures value { result ≡ fits limit.now.units self.now }
+        ensures few { IsTrue result → size self.now ≤ 65536 };
+
+    fn size(&self) -> u32
+        requires { size self.now ≤ 65536 }
+        ensures { result ≡ size self.now };
+
+    fn add_to(&self, alloc: Global, parts: &mut Parts) -> Result<(), AllocError>
+        requires limit { IsTrue (is_limit parts.old.limit) }
+        requires fits { IsTrue (fits parts.old.limit self.now) }
+        requires room { length parts.old.particles + size self.now ≤ 65536 }
+        ensures added { OnOk result (parts.new ≡ added parts.old self.now) }
+        ensures grown { OnOk result (IsGrown parts.old parts.new (size self.now)) };
 }
 
-pub fn all_cloths_size(cloths: &[ClothSpec]) -> u32
-    requires { all_cloths_size cloths.now ≤ 65536 }
-    ensures { result ≡ all_cloths_size cloths.now }
+/// Reads the meshes of a table, where `count` particles stand before the first.
+#[derive(Clone, Copy)]
+pub struct Meshes<M> {
+    pub limit: Limit,
+    pub count: u32,
+    pub of: PhantomData<M>,
+}
+
+/// The number of the meshes' particles.
+pub fn all_sizes<M: MeshEntry>(meshes: &[M]) -> u32
+    requires { sum_by M.size meshes.now ≤ 65536 }
+    ensures { result ≡ sum_by M.size meshes.now }
 {
-    let mut size = 0;
-    for s in cloths.iter() {
-        size += s.rows * s.columns;
+    let mut total = 0;
+    for mesh in meshes.iter() {
+        total += mesh.size();
     }
-    size
+    total
 }
 
 /// Refuses a mesh that doesn't fit.
@@ -42,7 +84,7 @@ fn fitting(fits: bool, place: Place) -> Result<(), SceneFault>
     ensures value { Gives (λ x. x) result (expect fits OutOfRange place NoKey) }
     ensures holds { IfOk result (λ _. IsTrue fits) }
 {
-    expect(fits, SceneRule::OutOfRange, place, KeyName::NoKey)
+    place.expect(fits, SceneRule::OutOfRange, KeyName::NoKey)
 }
 
 #[tactic(auto, unfolding(crate::specs::Entries::room_for))]
@@ -50,13 +92,27 @@ fn room_for(place: Place, n: u32) -> Result<(), SceneFault>
     ensures value { Gives (λ x. x) result (room_for place n) }
     ensures room { IfOk result (λ _. n ≤ 65536) }
 {
-    expect(
-        n as usize <= MOST_PARTICLES,
-        SceneRule::TooMany,
-        place,
-        KeyName::NoKey,
-    )
+    let has_room = n as usize <= MOST_PARTICLES;
+    place.expect(has_room, SceneRule::TooMany, KeyName::NoKey)
 }
+
+impl<M: MeshEntry> EntryReader for Meshes<M> {
+    type Item = M;
+
+    ghost fits = { λ s before. (s.count + sum_by M.size before ≤ 65536) × All (λ m. M.fits s.limit.units m ≡ true) before };
+
+    ghost reads = { λ s before place ms. mesh_of (M.fits s.limit.units) M.size s.count before place (M.given place s.limit.units ms) };
+
+    #[tactic(auto, unfolding(crate::specs::Entries::mesh_of))]
+    fn read(&self, before: &[M], entry: &Entry<'_>) -> Result<M, SceneFault> {
+        let mesh = M::given(entry, &self.limit)?;
+        fitting(mesh.is_fitting(&self.limit), entry.place)?;
+        room_for(entry.place, self.count + all_sizes(before) + mesh.size())?;
+        Ok(mesh)
+    }
+}
+
+// ---- cloths
 
 #[tactic(auto, unfolding(crate::specs::Entries::cloth_vectors_of))]
 fn cloth_vectors_of(entry: &Entry<'_>, limit: &Limit) -> Result<ClothVectors, SceneFault>
@@ -150,44 +206,33 @@ fn cloth_spec_of(entry: &Entry<'_>, limit: &Limit) -> Result<ClothSpec, SceneFau
     Ok(cloth_with(vectors, counts, stiffness, tears))
 }
 
-impl EntryReader for Cloths {
-    type Item = ClothSpec;
+impl MeshEntry for ClothSpec {
+    ghost fits = { cloth_fits };
 
-    ghost fits = { λ s before. (s.count + all_cloths_size before ≤ 65536) × All (λ c. cloth_fits s.limit.units c ≡ true) before };
+    ghost size = { cloth_size };
 
-    ghost reads = { λ s before place ms. cloth_of s.limit.units s.count before place ms };
+    ghost given = { cloth_spec_of };
 
-    #[tactic(auto, unfolding(crate::specs::Entries::mesh_of))]
-    fn read(&self, before: &[ClothSpec], entry: &Entry<'_>) -> Result<ClothSpec, SceneFault> {
-        let spec = cloth_spec_of(entry, &self.limit)?;
-        fitting(spec.fits(self.limit.units), entry.place)?;
-        room_for(
-            entry.place,
-            self.count + all_cloths_size(before) + spec.rows * spec.columns,
-        )?;
-        Ok(spec)
+    ghost added = { with_cloth };
+
+    fn given(entry: &Entry<'_>, limit: &Limit) -> Result<ClothSpec, SceneFault> {
+        cloth_spec_of(entry, limit)
+    }
+
+    fn is_fitting(&self, limit: &Limit) -> bool {
+        self.fits(limit.units)
+    }
+
+    fn size(&self) -> u32 {
+        self.rows * self.columns
+    }
+
+    fn add_to(&self, alloc: Global, parts: &mut Parts) -> Result<(), AllocError> {
+        cloth(alloc, self, parts)
     }
 }
 
 // ---- ropes
-
-#[derive(Clone, Copy)]
-pub struct Ropes {
-    pub limit: Limit,
-    /// How many particles stand before the first rope.
-    pub count: u32,
-}
-
-fn all_ropes_size(ropes: &[RopeSpec]) -> u32
-    requires { all_ropes_size ropes.now ≤ 65536 }
-    ensures { result ≡ all_ropes_size ropes.now }
-{
-    let mut size = 0;
-    for s in ropes.iter() {
-        size += s.count;
-    }
-    size
-}
 
 #[tactic(auto, unfolding(crate::specs::Entries::rope_particles_of))]
 fn rope_particles_of(entry: &Entry<'_>, limit: &Limit) -> Result<RopeParticles, SceneFault>
@@ -246,21 +291,28 @@ fn rope_spec_of(entry: &Entry<'_>, limit: &Limit) -> Result<RopeSpec, SceneFault
     Ok(rope_with(particles, links))
 }
 
-impl EntryReader for Ropes {
-    type Item = RopeSpec;
+impl MeshEntry for RopeSpec {
+    ghost fits = { rope_fits };
 
-    ghost fits = { λ s before. (s.count + all_ropes_size before ≤ 65536) × All (λ r. rope_fits s.limit.units r ≡ true) before };
+    ghost size = { rope_size };
 
-    ghost reads = { λ s before place ms. rope_of s.limit.units s.count before place ms };
+    ghost given = { rope_spec_of };
 
-    #[tactic(auto, unfolding(crate::specs::Entries::mesh_of))]
-    fn read(&self, before: &[RopeSpec], entry: &Entry<'_>) -> Result<RopeSpec, SceneFault> {
-        let spec = rope_spec_of(entry, &self.limit)?;
-        fitting(spec.fits(self.limit.units), entry.place)?;
-        room_for(
-            entry.place,
-            self.count + all_ropes_size(before) + spec.count,
-        )?;
-        Ok(spec)
+    ghost added = { with_rope };
+
+    fn given(entry: &Entry<'_>, limit: &Limit) -> Result<RopeSpec, SceneFault> {
+        rope_spec_of(entry, limit)
+    }
+
+    fn is_fitting(&self, limit: &Limit) -> bool {
+        self.fits(limit.units)
+    }
+
+    fn size(&self) -> u32 {
+        self.count
+    }
+
+    fn add_to(&self, alloc: Global, parts: &mut Parts) -> Result<(), AllocError> {
+        rope(alloc, self, parts)
     }
 }

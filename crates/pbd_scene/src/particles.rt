@@ -7,7 +7,7 @@ ghost use Rattle.pbd_scene.specs.Entries.{inside_before, particle_of};
 use crate::arrays::EntryReader;
 use crate::fault::{KeyName, Place, SceneFault, SceneRule};
 use crate::limit::Limit;
-use crate::values::{Entry, expect};
+use crate::values::Entry;
 use pbd_num::Vec3;
 use pbd_world::Particle;
 
@@ -29,12 +29,7 @@ fn inside_before(limit: &Limit, place: Place, at: Vec3, velocity: Vec3) -> Resul
     ensures { Gives (λ v. v) result (inside_before limit.now.units place at velocity) }
 {
     let gone = at.minus(velocity);
-    expect(
-        limit.holds(gone),
-        SceneRule::OutOfRange,
-        place,
-        KeyName::Velocity,
-    )?;
+    place.expect(limit.holds(gone), SceneRule::OutOfRange, KeyName::Velocity)?;
     Ok(gone)
 }
 

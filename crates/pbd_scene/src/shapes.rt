@@ -1,12 +1,12 @@
 // The `[[plane]]` and `[[sphere]]` entries.
 ghost use Rattle.std.specs.Prelude.{◌≡◌, ◌≤◌, ◌^◌, unsigned_abs, nat_lt, ◌&&◌};
 ghost use Rattle.pbd_num.specs.Vectors.{Within, squared_length};
-ghost use Rattle.pbd_scene.specs.Entries.{on_by, back_by, plane_of, reaches_within, sphere_of};
+ghost use Rattle.pbd_scene.specs.Entries.{plane_of, reaches_within, sphere_of};
 
 use crate::arrays::EntryReader;
 use crate::fault::{KeyName, SceneFault, SceneRule};
 use crate::limit::Limit;
-use crate::values::{Entry, expect};
+use crate::values::Entry;
 use pbd_num::Vec3;
 use pbd_world::{Plane, Sphere};
 
@@ -35,12 +35,9 @@ impl EntryReader for Planes {
             -1_099_511_627_776,
             1_099_511_627_776,
         )?;
-        expect(
-            has_length(normal),
-            SceneRule::OutOfRange,
-            entry.place,
-            KeyName::Normal,
-        )?;
+        entry
+            .place
+            .expect(has_length(normal), SceneRule::OutOfRange, KeyName::Normal)?;
         Ok(Plane { normal, offset })
     }
 }
@@ -61,31 +58,15 @@ fn on_each_axis(n: i64) -> Vec3
     Vec3 { x: n, y: n, z: n }
 }
 
-#[tactic(auto, unfolding(crate::specs::Entries::on_by))]
-fn above(centre: Vec3, radius: i64) -> Vec3
-    requires centre { Within (2 ^ 30) centre }
-    requires radius { unsigned_abs radius ≤ 2 ^ 29 }
-    ensures { result ≡ on_by radius centre }
-{
-    centre.plus(on_each_axis(radius))
-}
-
-#[tactic(auto, unfolding(crate::specs::Entries::back_by))]
-fn below(centre: Vec3, radius: i64) -> Vec3
-    requires centre { Within (2 ^ 30) centre }
-    requires radius { unsigned_abs radius ≤ 2 ^ 29 }
-    ensures { result ≡ back_by radius centre }
-{
-    centre.minus(on_each_axis(radius))
-}
-
+/// Whether the centre, so far to both sides on each axis, is within the limit.
 #[tactic(auto, unfolding(crate::specs::Entries::reaches_within))]
 fn reaches_within(limit: &Limit, centre: Vec3, radius: i64) -> bool
     requires centre { Within (2 ^ 30) centre }
     requires radius { unsigned_abs radius ≤ 2 ^ 29 }
     ensures { result ≡ reaches_within limit.now.units centre radius }
 {
-    limit.holds(above(centre, radius)) && limit.holds(below(centre, radius))
+    let way = on_each_axis(radius);
+    limit.holds(centre.plus(way)) && limit.holds(centre.minus(way))
 }
 
 impl EntryReader for Spheres {
@@ -97,12 +78,10 @@ impl EntryReader for Spheres {
     fn read(&self, _before: &[Sphere], entry: &Entry<'_>) -> Result<Sphere, SceneFault> {
         let centre = entry.required_vector(KeyName::Centre, &self.limit)?;
         let radius = entry.required_length(KeyName::Radius, &self.limit)?;
-        expect(
-            reaches_within(&self.limit, centre, radius),
-            SceneRule::OutOfRange,
-            entry.place,
-            KeyName::Radius,
-        )?;
+        let reaches = reaches_within(&self.limit, centre, radius);
+        entry
+            .place
+            .expect(reaches, SceneRule::OutOfRange, KeyName::Radius)?;
         Ok(Sphere { centre, radius })
     }
 }

@@ -9,7 +9,7 @@ use crate::arrays::{EntriesOf, read_table};
 use crate::fault::{SceneFault, TableName};
 use crate::limit::Limit;
 use crate::link_entries::Links;
-use crate::mesh_entries::{Cloths, Ropes, all_cloths_size};
+use crate::mesh_entries::{Meshes, all_sizes};
 use crate::particles::Particles;
 use crate::raw::{LinkEntry, Tables, TrackEntry};
 use crate::shapes::{Planes, Spheres};
@@ -17,6 +17,7 @@ use crate::track_entries::Tracks;
 use pbd_mesh::{ClothSpec, RopeSpec};
 use pbd_world::{List, MOST_LINKS, MOST_PARTICLES, MOST_TRACKS, Particle, Plane, Sphere};
 use std::alloc::Global;
+use std::marker::PhantomData;
 use toml::Table;
 
 #[tactic(auto, unfolding(crate::specs::Scene::particles_of))]
@@ -45,9 +46,10 @@ fn cloths_of(
 {
     let cloths = EntriesOf {
         table: TableName::Cloth,
-        reader: Cloths {
+        reader: Meshes {
             limit: *limit,
             count,
+            of: PhantomData,
         },
     };
     read_table(alloc, 64, &cloths, members)
@@ -66,9 +68,10 @@ fn ropes_of(
 {
     let ropes = EntriesOf {
         table: TableName::Rope,
-        reader: Ropes {
+        reader: Meshes {
             limit: *limit,
             count,
+            of: PhantomData,
         },
     };
     read_table(alloc, 64, &ropes, members)
@@ -155,7 +158,7 @@ fn fill(
     tables.particles = particles_of(alloc, limit, members)?;
     let count = tables.particles.len() as u32;
     tables.cloths = cloths_of(alloc, limit, count, members)?;
-    let count = count + all_cloths_size(tables.cloths.as_slice());
+    let count = count + all_sizes(tables.cloths.as_slice());
     tables.ropes = ropes_of(alloc, limit, count, members)?;
     fill_from_links(alloc, limit, members, tables)
 }

@@ -9,7 +9,7 @@ use crate::each::{Reader, read_each};
 use crate::fault::{KeyName, Place, SceneFault, SceneRule};
 use crate::limit::Limit;
 use crate::raw::{Row, TrackEntry};
-use crate::values::{Entry, broken, expect};
+use crate::values::{Entry, broken};
 use pbd_world::{Key, LAST_STEP, List};
 use std::alloc::Global;
 use toml::Value;
@@ -60,12 +60,7 @@ fn key_of(place: Place, limit: &Limit, _before: &[Key], value: &Value) -> Result
 {
     let row = row(place, KeyName::Keys, value)?;
     let step = step_number(place, row.step)?;
-    expect(
-        limit.holds(row.place),
-        SceneRule::OutOfRange,
-        place,
-        KeyName::Keys,
-    )?;
+    place.expect(limit.holds(row.place), SceneRule::OutOfRange, KeyName::Keys)?;
     Ok(Key {
         step,
         place: row.place,
@@ -110,12 +105,7 @@ fn few_rows(alloc: Global, place: Place, values: &[Value]) -> Result<(), SceneFa
 {
     let rows = read_each(alloc, &Rows { place }, values)?;
     drop(rows);
-    expect(
-        values.len() <= 1024,
-        SceneRule::TooMany,
-        place,
-        KeyName::Keys,
-    )
+    place.expect(values.len() <= 1024, SceneRule::TooMany, KeyName::Keys)
 }
 
 /// The keys of a track, each in its range.

@@ -24,15 +24,17 @@ pub fn broken<T>(rule: SceneRule, place: Place, key: KeyName) -> Result<T, Scene
     })
 }
 
-/// Refuses where a test doesn't hold.
-pub fn expect(test: bool, rule: SceneRule, place: Place, key: KeyName) -> Result<(), SceneFault>
-    ensures value { Gives (λ x. x) result (expect test rule place key) }
-    ensures holds { IfOk result (λ _. IsTrue test) }
-{
-    if test {
-        Ok(())
-    } else {
-        broken(rule, place, key)
+impl Place {
+    /// Refuses what stands here where a test doesn't hold.
+    pub fn expect(&self, test: bool, rule: SceneRule, key: KeyName) -> Result<(), SceneFault>
+        ensures value { Gives (λ x. x) result (expect test rule self.now key) }
+        ensures holds { IfOk result (λ _. IsTrue test) }
+    {
+        if test {
+            Ok(())
+        } else {
+            broken(rule, *self, key)
+        }
     }
 }
 
@@ -72,12 +74,8 @@ fn are_known(table: TableName, members: &Table) -> bool
 pub fn known(place: Place, members: &Table) -> Result<(), SceneFault>
     ensures { Gives (λ x. x) result (known place (table_view members.now)) }
 {
-    expect(
-        are_known(place.table, members),
-        SceneRule::UnknownKey,
-        place,
-        KeyName::NoKey,
-    )
+    let all = are_known(place.table, members);
+    place.expect(all, SceneRule::UnknownKey, KeyName::NoKey)
 }
 
 pub fn find<'a>(members: &'a Table, name: &str) -> Option<&'a Value>

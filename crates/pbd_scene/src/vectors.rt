@@ -34,10 +34,8 @@ fn three_of(items: &[Value]) -> Option<Vec3>
 fn three_integers(value: &Value) -> Option<Vec3>
     ensures { result ≡ three_integers (view value.now) }
 {
-    match value.as_array() {
-        Some(items) => three_of(items.as_slice()),
-        None => None,
-    }
+    let items = value.as_array()?;
+    three_of(items.as_slice())
 }
 
 fn vector(place: Place, key: KeyName, limit: i64, value: &Value) -> Result<Vec3, SceneFault>

@@ -1,4 +1,4 @@
-use Rattle.std.proofs.Common.{◌≡◌, refl, rules, w64, to_z, of_z, FitsSigned}
+use Rattle.std.proofs.Common.{refl, rules, w64, FitsSigned}
 use Rattle.std.proofs.lemmas.Int.{to_z-of_z}
 use Rattle.pbd_scene.specs.Naming.{entry_link}
 use Rattle.pbd_scene.proofs.Reading.{stops}
@@ -10,10 +10,8 @@ rest_of-requires c = record { places = c.requires.places; a = c.in_ok-a.ensures.
 pub returns-in_err-room_for_link : goal.returns-in_err-room_for_link
 unfolding entry_link
 returns-in_err-room_for_link c =
-    let first : to_z w64 (of_z w64 c.args.l.a) ≡ c.args.l.a = search rules in
-    let second : to_z w64 (of_z w64 c.args.l.b) ≡ c.args.l.b = search rules in
-    let is_a = rw first at c.in_ok-a.ensures.number in
-    let is_b = rw second at c.in_ok-b.ensures.number in
+    let is_a = rw (to_z-of_z w64 c.args.l.a (search rules)) at c.in_ok-a.ensures.number in
+    let is_b = rw (to_z-of_z w64 c.args.l.b (search rules)) at c.in_ok-b.ensures.number in
     let at_a = c.requires.lists.ends_at c.in_ok-a.a c.in_ok-a.ensures.low in
     let at_b = c.requires.lists.ends_at c.in_ok-b.b c.in_ok-b.ensures.low in
     let fails = simp (at_a, at_b) at c.in_err-room_for_link.ensures in
@@ -23,10 +21,8 @@ returns-in_err-room_for_link c =
 pub returns : goal.returns
 unfolding entry_link
 returns c =
-    let first : to_z w64 (of_z w64 c.args.l.a) ≡ c.args.l.a = search rules in
-    let second : to_z w64 (of_z w64 c.args.l.b) ≡ c.args.l.b = search rules in
-    let is_a = rw first at c.in_ok-a.ensures.number in
-    let is_b = rw second at c.in_ok-b.ensures.number in
+    let is_a = rw (to_z-of_z w64 c.args.l.a (search rules)) at c.in_ok-a.ensures.number in
+    let is_b = rw (to_z-of_z w64 c.args.l.b (search rules)) at c.in_ok-b.ensures.number in
     let at_a = c.requires.lists.ends_at c.in_ok-a.a c.in_ok-a.ensures.low in
     let at_b = c.requires.lists.ends_at c.in_ok-b.b c.in_ok-b.ensures.low in
     let has_room = simp (at_a, at_b) at c.in_ok-room_for_link.ensures in

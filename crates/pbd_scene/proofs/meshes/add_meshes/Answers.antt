@@ -1,11 +1,11 @@
 use Rattle.pbd_scene.proofs.Parted.{cloths_keep_limit, cloths_grow}
 use Rattle.pbd_scene.proofs.meshes.add_meshes.Goals as goal
 
-pub add_ropes-requires : goal.add_ropes-requires
-add_ropes-requires c =
+pub add_all-requires-2 : goal.add_all-requires-2
+add_all-requires-2 c =
     let same = cloths_keep_limit c.args.parts.now c.args.cloths.now in
     record {
-      limit = rw (c.in_ok-add_cloths.ensures, same) c.requires.limit;
-      fit = rw (c.in_ok-add_cloths.ensures, same) c.requires.ropes;
-      room = rw (c.in_ok-add_cloths.ensures, cloths_grow c.args.parts.now c.args.cloths.now) c.requires.room;
+      limit = rw (c.in_ok-add_all.ensures, same) c.requires.limit;
+      fit = rw (c.in_ok-add_all.ensures, same) c.requires.ropes;
+      room = rw (c.in_ok-add_all.ensures, cloths_grow c.args.parts.now c.args.cloths.now) c.requires.room;
     }

@@ -2,14 +2,13 @@ use Rattle.std.proofs.lemmas.Int.{to_z-of_z}
 use Rattle.pbd_scene.specs.Scene.{scene_of}
 use Rattle.pbd_scene.specs.Calls.{from_tables}
 use Rattle.pbd_scene.proofs.Reading.{bind_fails}
-use Rattle.pbd_mesh.proofs.Facts.{limit_bounds}
+use Rattle.pbd_scene.proofs.Bounds.{limit_clauses}
 use Rattle.pbd_scene.proofs.scene.parts_of.Goals as goal
 
 pub settings_of-requires : goal.settings_of-requires
 settings_of-requires c =
-    let fits = c.ranges.limit in
-    let bounds = limit_bounds c.args.limit c.requires in
-    record { low = simp to_z-of_z bounds.0; high = simp to_z-of_z bounds.1 }
+    let bounds = limit_clauses c.args.limit c.ranges.limit c.requires in
+    record { low = bounds.0; high = bounds.1 }
 
 pub returns-in-Ok : goal.returns-in-Ok
 unfolding scene_of from_tables

@@ -5,6 +5,7 @@ use Rattle.toml.specs.View.{table_view}
 use Rattle.pbd_world.specs.declared.parts.Parts.{Parts}
 use Rattle.pbd_mesh.proofs.Facts.{limit_bounds}
 use Rattle.pbd_scene.specs.Calls.{from_tables}
+use Rattle.pbd_scene.proofs.Bounds.{limit_clauses}
 use Rattle.pbd_scene.proofs.Reading.{stops}
 use Rattle.pbd_scene.proofs.Validity.{tables_fit}
 use Rattle.pbd_scene.proofs.Parted.{cloths_fit, ropes_fit, meshes_room, meshed_now, places_within}
@@ -12,9 +13,8 @@ use Rattle.pbd_scene.proofs.scene.parts_with.Goals as goal
 
 pub tables_of-requires : goal.tables_of-requires
 tables_of-requires c =
-    let fits = c.ranges.limit in
-    let bounds = limit_bounds c.args.limit c.requires in
-    record { low = simp to_z-of_z bounds.0; high = simp to_z-of_z bounds.1 }
+    let bounds = limit_clauses c.args.limit c.ranges.limit c.requires in
+    record { low = bounds.0; high = bounds.1 }
 
 pub add_meshes-meshed-requires : goal.add_meshes-meshed-requires
 add_meshes-meshed-requires c =

@@ -16,12 +16,12 @@ pub returns-in_err-tables-3 : goal.returns-in_err-tables-3
 unfolding tables_of
 returns-in_err-tables-3 c =
     let cloths = simp c.len-count.ensures at c.in_ok-tables-2.ensures.value in
-    let fails = simp (c.len-count.ensures, c.all_cloths_size.ensures, c.as_slice.ensures) at c.in_err-tables-3.ensures.value in
+    let fails = simp (c.len-count.ensures, c.all_sizes.ensures, c.as_slice.ensures) at c.in_err-tables-3.ensures.value in
     rw (c.in_ok-tables.ensures.value, cloths) (stops _ _ _ _ _ c.from_residual-in_err-tables-3.ensures.1 fails)
 
 pub fill_from_links-requires : goal.fill_from_links-requires
 fill_from_links-requires c = record {
   particles = c.in_ok-tables.ensures.value;
   cloths = simp c.len-count.ensures at c.in_ok-tables-2.ensures.value;
-  ropes = simp (c.len-count.ensures, c.all_cloths_size.ensures, c.as_slice.ensures) at c.in_ok-tables-3.ensures.value;
+  ropes = simp (c.len-count.ensures, c.all_sizes.ensures, c.as_slice.ensures) at c.in_ok-tables-3.ensures.value;
 }

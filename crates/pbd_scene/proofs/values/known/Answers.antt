@@ -6,5 +6,5 @@ use Rattle.pbd_scene.proofs.values.known.Goals as goal
 pub returns : goal.returns
 unfolding known
 returns c =
-    let all = c.are_known.ensures ∙ sym (all_known_view c.args.place.table c.args.members.now.entries) in
+    let all = c.are_known-all.ensures ∙ sym (all_known_view c.args.place.table c.args.members.now.entries) in
     rw all at c.expect.ensures.value

@@ -4,7 +4,7 @@ use Rattle.pbd_obj.specs.declared.edges.Edge.{Edge}
 use Rattle.pbd_obj.specs.Facing.{edges, IsEdgeOf}
 use Rattle.pbd_obj.specs.Meshes.{faces}
 use Rattle.pbd_obj.proofs.EdgeLemmas.{mesh_edges}
-use Rattle.pbd_obj.proofs.bends.add_bends.Goals as goal
+use Rattle.pbd_obj.proofs.settings.MeshSettings.add_bends.Goals as goal
 
 pub add_facing-requires-clause-within : goal.add_facing-requires-clause-within
 add_facing-requires-clause-within c =
