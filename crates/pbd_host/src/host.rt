@@ -3,7 +3,6 @@ ghost use Rattle.std.specs.Prelude.{◌≡◌, ◌<◌, ◌≤◌, ◌++◌, map
 ghost use Rattle.pbd_io.specs.Causes.{HasCause};
 ghost use Rattle.pbd_io.specs.Pieces.{WritesPiece};
 ghost use Rattle.pbd_world.specs.Meaning.{after, reply};
-ghost use Rattle.pbd_world.specs.Text.{text};
 ghost use Rattle.pbd_world.specs.World.{opened, IsSound};
 ghost use Rattle.pbd_host.specs.Tagged.{request_of};
 ghost use Rattle.pbd_host.specs.Hosted.{bad_tag_text, command_text, request_text, served, served_as, session_line, worlds_after};
@@ -81,10 +80,11 @@ impl<const L: usize, P: Projector<L> + Drop> Host<L, P> {
         ensures cause { HasCause (K.faults sink.old) (K.faults sink.new) result }
     {
         let place = number as usize;
+        let asked = Asked { number, command };
         if place == 0 {
-            return serve_in(&mut self.first, number, command, sink, steps);
+            return asked.serve_in(&mut self.first, sink, steps);
         }
-        serve_in(&mut self.others[place - 1], number, command, sink, steps)
+        asked.serve_in(&mut self.others[place - 1], sink, steps)
     }
 
     /// Does what a line asks for, a line without its newline, and writes the session's number and the reply, each
@@ -136,43 +136,35 @@ fn open_all<const L: usize, P: Projector<L> + Copy + Drop>(
     Ok(sessions)
 }
 
-/// Does a command in a session, and writes its number and the reply.
-fn serve_in<const L: usize, P: Projector<L> + Drop, K: Sink, G: Ledger>(
-    session: &mut Session<L, P>,
+/// A command for one session, and the session's number.
+#[derive(Clone, Copy)]
+struct Asked<'a> {
     number: u32,
-    command: &Command,
-    sink: &mut K,
-    steps: &mut Steps<G>,
-) -> Result<Served, Failed>
-    requires lanes_low { 0 < L }
-    requires lanes_high { L ≤ 16 }
-    ensures served { IfOk result (λ it. it ≡ served_as number (reply session.old command.now)) }
-    ensures bytes { WritesPiece (K.written sink.old) (K.written sink.new) result
-        (session_line number ++ command_text session.old command.now) }
-    ensures world { session.new ≡ after session.old command.now }
-    ensures sound { IsSound session.new }
-    ensures cause { HasCause (K.faults sink.old) (K.faults sink.new) result }
-{
-    let reply = session.apply(command, steps);
-    write_answer(session, number, &reply, sink, steps)
+    command: &'a Command,
 }
 
-/// Writes the number of a session, and a reply of it.
-fn write_answer<const L: usize, P: Projector<L> + Drop, K: Sink, G: Ledger>(
-    session: &Session<L, P>,
-    number: u32,
-    reply: &Reply,
-    sink: &mut K,
-    steps: &mut Steps<G>,
-) -> Result<Served, Failed>
-    requires lanes_high { L ≤ 16 }
-    ensures served { IfOk result (λ it. it ≡ served_as number reply.now) }
-    ensures bytes { WritesPiece (K.written sink.old) (K.written sink.new) result (session_line number ++ text session.now reply.now) }
-    ensures cause { HasCause (K.faults sink.old) (K.faults sink.new) result }
-{
-    sink.write(session_line(number).as_slice())?;
-    session.write_reply(reply, sink, steps)?;
-    Ok(served_as(number, reply))
+impl Asked<'_> {
+    /// Does the command in its session, and writes the session's number and the reply.
+    fn serve_in<const L: usize, P: Projector<L> + Drop, K: Sink, G: Ledger>(
+        &self,
+        session: &mut Session<L, P>,
+        sink: &mut K,
+        steps: &mut Steps<G>,
+    ) -> Result<Served, Failed>
+        requires lanes_low { 0 < L }
+        requires lanes_high { L ≤ 16 }
+        ensures served { IfOk result (λ it. it ≡ served_as self.now.number (reply session.old self.now.command.now)) }
+        ensures bytes { WritesPiece (K.written sink.old) (K.written sink.new) result
+            (session_line self.now.number ++ command_text session.old self.now.command.now) }
+        ensures world { session.new ≡ after session.old self.now.command.now }
+        ensures sound { IsSound session.new }
+        ensures cause { HasCause (K.faults sink.old) (K.faults sink.new) result }
+    {
+        let reply = session.apply(self.command, steps);
+        sink.write(session_line(self.number).as_slice())?;
+        session.write_reply(&reply, sink, steps)?;
+        Ok(served_as(self.number, &reply))
+    }
 }
 
 /// The first line of what a session answers.

@@ -7,6 +7,6 @@ mod sure;
 mod traits;
 
 pub use memory::{MemSink, MemSource};
-pub use standard::{StdSink, StdSource};
+pub use standard::{StdSink, StdSource, StdStream};
 pub use sure::{SureSink, SureSource};
 pub use traits::{Failed, Sink, Source};

@@ -9,31 +9,37 @@ use crate::{Failed, Sink, Source};
 use std::io::{Read, Write};
 use std::marker::Model;
 
-/// A reader of std as a source. It tells no content.
-/// Clauses see the reader, and how often it failed, a count that stays at 2^64 - 1.
+/// A reader or a writer of std as a source or a sink. It tells no content.
+/// Clauses see what it was made of, and how often that failed, a count that stays at 2^64 - 1.
 #[derive(Drop)]
-pub struct StdSource<R> {
-    inner: R,
+pub struct StdStream<T> {
+    inner: T,
     faults: u64,
 }
 
-impl<R> Model for StdSource<R> {
+/// A reader of std.
+pub type StdSource<R> = StdStream<R>;
+
+/// A writer of std.
+pub type StdSink<W> = StdStream<W>;
+
+impl<T> Model for StdStream<T> {
     ghost use Rattle.pbd_io.specs.Standard.{Adapted};
 
-    ghost Value = { Adapted R };
+    ghost Value = { Adapted T };
 
     ghost view = { λ s. record { inner = s.inner; faults = s.faults } };
 }
 
-impl<R> StdSource<R> {
-    pub fn new(inner: R) -> StdSource<R>
+impl<T> StdStream<T> {
+    pub fn new(inner: T) -> StdStream<T>
         ensures { result ≡ record { inner = inner; faults = 0 } }
     {
-        StdSource { inner, faults: 0 }
+        StdStream { inner, faults: 0 }
     }
 }
 
-impl<R: Read> Source for StdSource<R> {
+impl<R: Read> Source for StdStream<R> {
     ghost left = { λ s. None };
 
     ghost faults = { λ s. s.faults };
@@ -56,31 +62,7 @@ impl<R: Read> Source for StdSource<R> {
     }
 }
 
-/// A writer of std as a sink. It tells no content.
-/// Clauses see the writer, and how often it failed, a count that stays at 2^64 - 1.
-#[derive(Drop)]
-pub struct StdSink<W> {
-    inner: W,
-    faults: u64,
-}
-
-impl<W> Model for StdSink<W> {
-    ghost use Rattle.pbd_io.specs.Standard.{Adapted};
-
-    ghost Value = { Adapted W };
-
-    ghost view = { λ s. record { inner = s.inner; faults = s.faults } };
-}
-
-impl<W> StdSink<W> {
-    pub fn new(inner: W) -> StdSink<W>
-        ensures { result ≡ record { inner = inner; faults = 0 } }
-    {
-        StdSink { inner, faults: 0 }
-    }
-}
-
-impl<W: Write> Sink for StdSink<W> {
+impl<W: Write> Sink for StdStream<W> {
     ghost written = { λ s. None };
 
     ghost faults = { λ s. s.faults };

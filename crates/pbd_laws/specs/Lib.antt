@@ -1,3 +1,4 @@
+pub mod Prelude
 pub mod Machine
 pub mod Ring
 pub mod Targets

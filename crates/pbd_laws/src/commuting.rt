@@ -1,10 +1,7 @@
 //! Inputs that may come in either order.
 ghost use Rattle.std.specs.Prelude.{◌≡◌, ◌++◌, List};
-ghost use Rattle.pbd_world.specs.declared.command.Command.{Command};
 ghost use Rattle.pbd_world.specs.declared.command.Command.TheVariants.{Frame, Ledger};
-ghost use Rattle.pbd_world.specs.World.{World};
-ghost use Rattle.pbd_world.specs.Meaning.{after, reply};
-ghost use Rattle.pbd_world.specs.Session.{last_world};
+ghost use Rattle.pbd_laws.specs.Prelude.{Command, World, after, reply, last_world};
 ghost use Rattle.pbd_laws.specs.Targets.{AreApart, AreAllApart};
 
 /// Players need no agreed order for inputs that name different things: two commands of which each names a particle, a link or

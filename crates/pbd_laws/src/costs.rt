@@ -1,11 +1,8 @@
 //! What a session may cost, known before it is played; and what its log has of it.
 ghost use Rattle.std.specs.Prelude.{◌≡◌, ◌<◌, ◌≤◌, ◌*◌, ℕ, List, map, IsTrue};
-ghost use Rattle.pbd_world.specs.declared.command.Command.{Command};
-ghost use Rattle.pbd_world.specs.declared.parts.Parts.{Parts};
 ghost use Rattle.pbd_world.specs.Replay.{LogEntry, logged};
-ghost use Rattle.pbd_world.specs.Valid.{is_valid};
 ghost use Rattle.pbd_world.specs.Work.{session_work, steps_work};
-ghost use Rattle.pbd_world.specs.World.{World, IsSound, opened};
+ghost use Rattle.pbd_laws.specs.Prelude.{Command, Parts, is_valid, World, IsSound, opened};
 ghost use Rattle.pbd_laws.specs.Costs.{most_of_step, most_of_session};
 
 /// Before a session is played, its scene and its commands say how often it may reach the particles at most: each step costs no

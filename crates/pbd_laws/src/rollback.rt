@@ -1,7 +1,6 @@
 //! Rollback: worlds that are kept in slots, and gone back to.
 ghost use Rattle.std.specs.Prelude.{◌≡◌, ◌≢◌, ◌+◌, ◌≤◌, ◌<◌, ℕ, List, [], ◌∷◌, ◌++◌, length, All};
-ghost use Rattle.pbd_world.specs.World.{World};
-ghost use Rattle.pbd_world.specs.Session.{last_world};
+ghost use Rattle.pbd_laws.specs.Prelude.{World, last_world};
 ghost use Rattle.pbd_laws.specs.Machine.{Machine, Act, all_acted};
 ghost use Rattle.pbd_laws.specs.Machine.Act.{Save, Restore};
 ghost use Rattle.pbd_laws.specs.Ring.{Turns, Event, commands_of, all_taken, all_acts, AreInTime};

@@ -4,10 +4,9 @@ ghost use Rattle.pbd_num.specs.declared.Vec3.{Vec3};
 ghost use Rattle.pbd_num.specs.Vectors.{squared_length};
 ghost use Rattle.pbd_world.specs.declared.parts.Plane.{Plane};
 ghost use Rattle.pbd_world.specs.declared.parts.Sphere.{Sphere};
-ghost use Rattle.pbd_world.specs.Particles.{particle_at};
 ghost use Rattle.pbd_world.specs.Shapes.{plane_shape, sphere_shape};
 ghost use Rattle.pbd_world.specs.Step.{Passing, shape_part};
-ghost use Rattle.pbd_world.specs.World.{World, IsSound};
+ghost use Rattle.pbd_laws.specs.Prelude.{particle_at, World, IsSound};
 ghost use Rattle.pbd_laws.specs.Solids.{Solid, solids_of, last_solid, IsOut};
 ghost use Rattle.pbd_laws.specs.Solids.Solid.{APlane, ASphere};
 

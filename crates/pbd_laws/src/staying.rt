@@ -1,14 +1,8 @@
 //! What never changes in a session.
 ghost use Rattle.std.specs.Prelude.{◌≡◌, ◌≢◌, ℕ, List, Some, false, IsTrue, All};
-ghost use Rattle.pbd_world.specs.declared.command.Command.{Command};
-ghost use Rattle.pbd_world.specs.declared.command.Command.TheVariants.{Step};
-ghost use Rattle.pbd_world.specs.declared.parts.Parts.{Parts};
 ghost use Rattle.pbd_world.specs.Bonds.{link_at};
-ghost use Rattle.pbd_world.specs.Meaning.{after};
-ghost use Rattle.pbd_world.specs.Particles.{particle_at};
-ghost use Rattle.pbd_world.specs.Session.{last_world};
-ghost use Rattle.pbd_world.specs.Valid.{is_valid};
-ghost use Rattle.pbd_world.specs.World.{World, opened, is_tracked};
+ghost use Rattle.pbd_world.specs.World.{is_tracked};
+ghost use Rattle.pbd_laws.specs.Prelude.{Command, Step, Parts, after, particle_at, last_world, is_valid, World, opened};
 ghost use Rattle.pbd_laws.specs.Targets.{target};
 ghost use Rattle.pbd_laws.specs.Targets.Target.{OneParticle};
 ghost use Rattle.pbd_laws.specs.Scenes.{HasPartsOf};

@@ -1,12 +1,10 @@
 //! Steps add up, however they are grouped into commands.
 ghost use Rattle.std.specs.Prelude.{◌≡◌, ◌⊎◌, ◌+◌, ◌≤◌, ℕ, List, map, sum, Ok, Err};
-ghost use Rattle.pbd_world.specs.declared.command.Command.{Command};
-ghost use Rattle.pbd_world.specs.declared.command.Command.TheVariants.{Step};
 ghost use Rattle.pbd_world.specs.declared.command.Refusal.{Refusal};
 ghost use Rattle.pbd_world.specs.declared.command.Reply.TheVariants as replies;
-ghost use Rattle.pbd_world.specs.World.{World};
-ghost use Rattle.pbd_world.specs.Meaning.{after, reply, steps_of};
-ghost use Rattle.pbd_world.specs.Session.{last_world, refused_count};
+ghost use Rattle.pbd_world.specs.Meaning.{steps_of};
+ghost use Rattle.pbd_world.specs.Session.{refused_count};
+ghost use Rattle.pbd_laws.specs.Prelude.{Command, Step, World, after, reply, last_world};
 
 /// Step m and then step n is step m + n: a turn may be played as one command or as two. Where one of the two is refused, the
 /// whole is refused with the same step, phase and element, and its first part alone does as it does in the whole.

@@ -52,42 +52,42 @@ split t p (b ∷ bs) = kept (shows p b) b (split t (next t p b) bs)
 
 -- ---- the lines of a reply
 
-inside_own : (t : ℕ) (xs rest : List ℕ) → is_plain xs ≡ true
-    → split t (Inside true) (xs ++ 10 ∷ rest) ≡ xs ++ 10 ∷ split t (Begin true) rest
-inside_own t [] rest h = refl
-inside_own t (x ∷ xs) rest h =
-    let parts = and_parts (not (x == 10)) (is_plain xs) h in
-    ap (λ b. x ∷ split t (if b then Begin true else Inside true) (xs ++ 10 ∷ rest)) (not-true (x == 10) parts.0)
-    ∙ ap (λ (bs : List ℕ). x ∷ bs) (inside_own t xs rest parts.1)
+-- what stands of some bytes where a session shows them, or where another one's are left out
+abbrev shown : Bool → List ℕ → List ℕ → List ℕ
+shown true xs rest = xs ++ rest
+shown false xs rest = rest
 
-inside_other : (t : ℕ) (xs rest : List ℕ) → is_plain xs ≡ true → split t (Inside false) (xs ++ 10 ∷ rest) ≡ split t (Begin false) rest
-inside_other t [] rest h = refl
-inside_other t (x ∷ xs) rest h =
-    let parts = and_parts (not (x == 10)) (is_plain xs) h in
-    ap (λ b. split t (if b then Begin false else Inside false) (xs ++ 10 ∷ rest)) (not-true (x == 10) parts.0)
-    ∙ inside_other t xs rest parts.1
+nothing_shown : (mine : Bool) (rest : List ℕ) → rest ≡ shown mine [] rest
+nothing_shown true rest = refl
+nothing_shown false rest = refl
 
-line_own : (t : ℕ) (xs rest : List ℕ) → IsLine xs → split t (Begin true) (xs ++ 10 ∷ rest) ≡ xs ++ 10 ∷ split t (Begin true) rest
-line_own t [] rest h = refl
-line_own t (x ∷ xs) rest h =
-    let parts = and_parts (not (x == 10)) (is_plain xs) h.plain in
+one_shown : (mine : Bool) (x : ℕ) (xs rest : List ℕ) → kept mine x (shown mine xs rest) ≡ shown mine (x ∷ xs) rest
+one_shown true x xs rest = refl
+one_shown false x xs rest = refl
+
+both_shown : (mine : Bool) (xs ys rest : List ℕ) → shown mine xs (shown mine ys rest) ≡ shown mine (xs ++ ys) rest
+both_shown true xs ys rest = sym (append_assoc xs ys rest)
+both_shown false xs ys rest = refl
+
+inside : (t : ℕ) (mine : Bool) (xs rest : List ℕ) → is_plain xs ≡ true
+    → split t (Inside mine) (xs ++ 10 ∷ rest) ≡ shown mine (xs ++ 10 ∷ []) (split t (Begin mine) rest)
+inside t mine [] rest h =
+    ap (kept mine 10) (nothing_shown mine (split t (Begin mine) rest)) ∙ one_shown mine 10 [] (split t (Begin mine) rest)
+inside t mine (x ∷ xs) rest h =
+    let parts = and_parts (not (x == 10)) (is_plain xs) h in
+    ap (λ b. kept mine x (split t (if b then Begin mine else Inside mine) (xs ++ 10 ∷ rest))) (not-true (x == 10) parts.0)
+    ∙ ap (kept mine x) (inside t mine xs rest parts.1)
+    ∙ one_shown mine x (xs ++ 10 ∷ []) (split t (Begin mine) rest)
+
+line_goes : (t : ℕ) (mine : Bool) (xs rest : List ℕ) → IsLine xs
+    → split t (Begin mine) (xs ++ 10 ∷ rest) ≡ shown mine (xs ++ 10 ∷ []) (split t (Begin mine) rest)
+line_goes t mine [] rest h = inside t mine [] rest h.plain
+line_goes t mine (x ∷ xs) rest h =
     let later = xs ++ 10 ∷ rest in
-    ap (λ b. kept (if b then false else true) x (split t (if b then Head (x ∷ []) else (if x == 10 then Begin true else Inside true))
+    ap (λ b. kept (if b then false else mine) x (split t (if b then Head (x ∷ []) else (if x == 10 then Begin mine else Inside mine))
     later))
     (not-true (x == 115) h.own)
-    ∙ ap (λ b. x ∷ split t (if b then Begin true else Inside true) later) (not-true (x == 10) parts.0)
-    ∙ ap (λ (bs : List ℕ). x ∷ bs) (inside_own t xs rest parts.1)
-
-line_other : (t : ℕ) (xs rest : List ℕ) → IsLine xs → split t (Begin false) (xs ++ 10 ∷ rest) ≡ split t (Begin false) rest
-line_other t [] rest h = refl
-line_other t (x ∷ xs) rest h =
-    let parts = and_parts (not (x == 10)) (is_plain xs) h.plain in
-    let later = xs ++ 10 ∷ rest in
-    ap (λ b. kept (if b then false else false) x (split t (if b then Head (x ∷ []) else (if x == 10 then Begin false else Inside false))
-    later))
-    (not-true (x == 115) h.own)
-    ∙ ap (λ b. split t (if b then Begin false else Inside false) later) (not-true (x == 10) parts.0)
-    ∙ inside_other t xs rest parts.1
+    ∙ inside t mine (x ∷ xs) rest h.plain
 
 abbrev ended : List (List ℕ) → List ℕ
 ended ls = flat_map (λ l. l ++ 10 ∷ []) ls
@@ -95,26 +95,19 @@ ended ls = flat_map (λ l. l ++ 10 ∷ []) ls
 apart : (l : List ℕ) (ls : List (List ℕ)) (rest : List ℕ) → ended (l ∷ ls) ++ rest ≡ l ++ 10 ∷ (ended ls ++ rest)
 apart l ls rest = append_assoc (l ++ 10 ∷ []) (ended ls) rest ∙ append_assoc l (10 ∷ []) (ended ls ++ rest)
 
-lines_own : (t : ℕ) (ls : List (List ℕ)) (rest : List ℕ) → AllByRecursion IsLine ls
-    → split t (Begin true) (ended ls ++ rest) ≡ ended ls ++ split t (Begin true) rest
-lines_own t [] rest h = refl
-lines_own t (l ∷ ls) rest h =
-    ap (split t (Begin true)) (apart l ls rest) ∙ line_own t l (ended ls ++ rest) h.0
-    ∙ ap (λ (bs : List ℕ). l ++ 10 ∷ bs) (lines_own t ls rest h.1) ∙ sym (apart l ls (split t (Begin true) rest))
+lines_go : (t : ℕ) (mine : Bool) (ls : List (List ℕ)) (rest : List ℕ) → AllByRecursion IsLine ls
+    → split t (Begin mine) (ended ls ++ rest) ≡ shown mine (ended ls) (split t (Begin mine) rest)
+lines_go t mine [] rest h = nothing_shown mine (split t (Begin mine) rest)
+lines_go t mine (l ∷ ls) rest h =
+    ap (split t (Begin mine)) (apart l ls rest) ∙ line_goes t mine l (ended ls ++ rest) h.0
+    ∙ ap (shown mine (l ++ 10 ∷ [])) (lines_go t mine ls rest h.1)
+    ∙ both_shown mine (l ++ 10 ∷ []) (ended ls) (split t (Begin mine) rest)
 
-lines_other : (t : ℕ) (ls : List (List ℕ)) (rest : List ℕ) → AllByRecursion IsLine ls
-    → split t (Begin false) (ended ls ++ rest) ≡ split t (Begin false) rest
-lines_other t [] rest h = refl
-lines_other t (l ∷ ls) rest h = ap (split t (Begin false)) (apart l ls rest) ∙ line_other t l (ended ls ++ rest) h.0
-    ∙ lines_other t ls rest h.1
-
-text_own : (t : ℕ) (bs rest : List ℕ) → IsText bs → split t (Begin true) (bs ++ rest) ≡ bs ++ split t (Begin true) rest
-text_own t bs rest h =
-    ap (λ (xs : List ℕ). split t (Begin true) (xs ++ rest)) h.is ∙ lines_own t h.lines rest h.are
-    ∙ ap (λ (xs : List ℕ). xs ++ split t (Begin true) rest) (sym h.is)
-
-text_other : (t : ℕ) (bs rest : List ℕ) → IsText bs → split t (Begin false) (bs ++ rest) ≡ split t (Begin false) rest
-text_other t bs rest h = ap (λ (xs : List ℕ). split t (Begin false) (xs ++ rest)) h.is ∙ lines_other t h.lines rest h.are
+text_goes : (t : ℕ) (mine : Bool) (bs rest : List ℕ) → IsText bs
+    → split t (Begin mine) (bs ++ rest) ≡ shown mine bs (split t (Begin mine) rest)
+text_goes t mine bs rest h =
+    ap (λ (xs : List ℕ). split t (Begin mine) (xs ++ rest)) h.is ∙ lines_go t mine h.lines rest h.are
+    ∙ ap (λ (xs : List ℕ). shown mine xs (split t (Begin mine) rest)) (sym h.is)
 
 -- ---- the line `session T`
 
@@ -194,7 +187,7 @@ bad_goes t mine rest =
     let told = line (codes "refused" ∷ codes "15" ∷ codes "BadTag" ∷ []) in
     head_goes t (115 ∷ []) (codes "ession -") (told ++ rest) refl
     ∙ ap (λ b. split t (Begin b) (told ++ rest)) (dash_tag t)
-    ∙ text_other t told rest refused-text
+    ∙ text_goes t false told rest refused-text
 
 -- ---- without its first line
 
@@ -234,9 +227,9 @@ hosted_split t n ws (To s c ∷ rs) mine few among all =
         ++ own_text t (worlds_after ws (To s c)) rs
     by true mine_is other_is =
         let body = command_text (world_at ws s) c in
-        text_own t body (hosted_text (worlds_after ws (To s c)) rs) (text-is _ _) ∙ ap (λ (bs : List ℕ). body ++ bs) mine_is
+        text_goes t true body (hosted_text (worlds_after ws (To s c)) rs) (text-is _ _) ∙ ap (λ (bs : List ℕ). body ++ bs) mine_is
         ∙ ap (λ (bs : List ℕ). bs ++ own_text t (worlds_after ws (To s c)) rs) (sym (tag_dropped s body))
-    by false mine_is other_is = text_other t (command_text (world_at ws s) c) (hosted_text (worlds_after ws (To s c)) rs) (text-is _ _)
+    by false mine_is other_is = text_goes t false (command_text (world_at ws s) c) (hosted_text (worlds_after ws (To s c)) rs) (text-is _ _)
         ∙ other_is
 
 pub splits-alike : (t n : ℕ) (ws vs : List World) (rs qs : List Request) → n ≤ 16 → t < n → All (IsAmong n) rs → All (IsAmong n) qs

@@ -129,66 +129,36 @@ behind_opened : (bytes : List ℕ) (offset : ℕ) (f : FailsBehind bytes offset)
 behind_opened bytes offset f = opened bytes f.version f.limit f.scene (flat_map entry_bytes f.entries ++ f.rest) f.parts
 
 name_then : (bytes : List ℕ) (a b : ℕ) → FailsInName bytes a → IsFault bytes b → a ≡ b
-name_then bytes a b f g =
-    elim g [
-      | inl n ↦ f.place ∙ sym n.place
-      | inr g ↦ elim g [
-        | inl l ↦ absurd (f.none 2 l.rest (inr refl) l.named)
-        | inr g ↦ elim g [
-          | inl s ↦ absurd (name_not bytes a s.version s.limit s.rest f s.known s.opened)
-          | inr e ↦ absurd (name_not bytes a e.version e.limit _ f e.known (behind_opened bytes b e))
-        ]
-      ]
-    ]
+name_then bytes a b f (inl n) = f.place ∙ sym n.place
+name_then bytes a b f (inr (inl l)) = absurd (f.none 2 l.rest (inr refl) l.named)
+name_then bytes a b f (inr (inr (inl s))) = absurd (name_not bytes a s.version s.limit s.rest f s.known s.opened)
+name_then bytes a b f (inr (inr (inr e))) = absurd (name_not bytes a e.version e.limit _ f e.known (behind_opened bytes b e))
 
 limit_then : (bytes : List ℕ) (a b : ℕ) → FailsInLimit bytes a → IsFault bytes b → a ≡ b
-limit_then bytes a b f g =
-    elim g [
-      | inl n ↦ absurd (n.none 2 f.rest (inr refl) f.named)
-      | inr g ↦ elim g [
-        | inl l ↦ f.place ∙ sym l.place
-        | inr g ↦ elim g [
-          | inl s ↦ absurd (limit_not bytes a s.version s.limit s.rest f s.known s.opened)
-          | inr e ↦ absurd (limit_not bytes a e.version e.limit _ f e.known (behind_opened bytes b e))
-        ]
-      ]
-    ]
+limit_then bytes a b f (inl n) = absurd (n.none 2 f.rest (inr refl) f.named)
+limit_then bytes a b f (inr (inl l)) = f.place ∙ sym l.place
+limit_then bytes a b f (inr (inr (inl s))) = absurd (limit_not bytes a s.version s.limit s.rest f s.known s.opened)
+limit_then bytes a b f (inr (inr (inr e))) = absurd (limit_not bytes a e.version e.limit _ f e.known (behind_opened bytes b e))
 
 scene_then : (bytes : List ℕ) (a b : ℕ) → FailsInScene bytes a → IsFault bytes b → a ≡ b
-scene_then bytes a b f g =
-    elim g [
-      | inl n ↦ absurd (name_not bytes b f.version f.limit f.rest n f.known f.opened)
-      | inr g ↦ elim g [
-        | inl l ↦ absurd (limit_not bytes b f.version f.limit f.rest l f.known f.opened)
-        | inr g ↦ elim g [
-          | inl s ↦ same_scene bytes a b f s
-          | inr e ↦ absurd (scene_not bytes a e.version e.limit e.scene _ f e.known e.short (behind_opened bytes b e))
-        ]
-      ]
-    ]
+scene_then bytes a b f (inl n) = absurd (name_not bytes b f.version f.limit f.rest n f.known f.opened)
+scene_then bytes a b f (inr (inl l)) = absurd (limit_not bytes b f.version f.limit f.rest l f.known f.opened)
+scene_then bytes a b f (inr (inr (inl s))) = same_scene bytes a b f s
+scene_then bytes a b f (inr (inr (inr e))) =
+    absurd (scene_not bytes a e.version e.limit e.scene _ f e.known e.short (behind_opened bytes b e))
 
 behind_then : (bytes : List ℕ) (a b : ℕ) → FailsBehind bytes a → IsFault bytes b → a ≡ b
-behind_then bytes a b f g =
-    elim g [
-      | inl n ↦ absurd (name_not bytes b f.version f.limit _ n f.known (behind_opened bytes a f))
-      | inr g ↦ elim g [
-        | inl l ↦ absurd (limit_not bytes b f.version f.limit _ l f.known (behind_opened bytes a f))
-        | inr g ↦ elim g [
-          | inl s ↦ absurd (scene_not bytes b f.version f.limit f.scene _ s f.known f.short (behind_opened bytes a f))
-          | inr e ↦ same_behind bytes a b f e
-        ]
-      ]
-    ]
+behind_then bytes a b f (inl n) = absurd (name_not bytes b f.version f.limit _ n f.known (behind_opened bytes a f))
+behind_then bytes a b f (inr (inl l)) = absurd (limit_not bytes b f.version f.limit _ l f.known (behind_opened bytes a f))
+behind_then bytes a b f (inr (inr (inl s))) =
+    absurd (scene_not bytes b f.version f.limit f.scene _ s f.known f.short (behind_opened bytes a f))
+behind_then bytes a b f (inr (inr (inr e))) = same_behind bytes a b f e
 
 pub one_fault_lem : (bytes : List ℕ) (offset place : ℕ) → IsFault bytes offset → IsFault bytes place → offset ≡ place
-one_fault_lem bytes offset place f g =
-    elim f [
-      | inl n ↦ name_then bytes offset place n g
-      | inr f ↦ elim f [
-        | inl l ↦ limit_then bytes offset place l g
-        | inr f ↦ elim f [ inl s ↦ scene_then bytes offset place s g | inr e ↦ behind_then bytes offset place e g ]
-      ]
-    ]
+one_fault_lem bytes offset place (inl n) g = name_then bytes offset place n g
+one_fault_lem bytes offset place (inr (inl l)) g = limit_then bytes offset place l g
+one_fault_lem bytes offset place (inr (inr (inl s))) g = scene_then bytes offset place s g
+one_fault_lem bytes offset place (inr (inr (inr e))) g = behind_then bytes offset place e g
 
 -- ---- nothing is spelled there
 

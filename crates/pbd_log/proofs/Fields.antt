@@ -112,16 +112,40 @@ signed_field = record { takes = signed_takes; again = signed_again }
 pub regroup3 : (a b c d : List ℕ) → (a ++ b ++ c) ++ d ≡ a ++ (b ++ (c ++ d))
 regroup3 a b c d = append_assoc (a ++ b) c d ∙ append_assoc a b (c ++ d)
 
+-- three numbers one behind another, and what is made of them
+abbrev three_at : {X : Type 0} → (ℤ → ℤ → ℤ → X) → List ℕ → Option (X × List ℕ)
+three_at make bytes = do
+  x ← signed_at bytes
+  y ← signed_at x.1
+  z ← signed_at y.1
+  Some (make x.0 y.0 z.0, z.1)
+
+record AreThree {X : Type 0} (make : ℤ → ℤ → ℤ → X) (bytes : List ℕ) (made : X) (rest : List ℕ) : Type 0 where
+  x : ℤ
+  y : ℤ
+  z : ℤ
+  is : make x y z ≡ made
+  takes : Takes bytes (signed_bytes x ++ signed_bytes y ++ signed_bytes z) rest
+  fits : FitsSigned w64 x × FitsSigned w64 y × FitsSigned w64 z
+
+three_taken : {X : Type 0} (make : ℤ → ℤ → ℤ → X) (bytes : List ℕ) (made : X) (rest : List ℕ) → IsBytes bytes
+    → three_at make bytes ≡ Some (made, rest) → AreThree make bytes made rest
+three_taken {X} make bytes made rest fits e =
+    let a = step_takes signed_at signed_bytes (FitsSigned w64) signed_field bytes _ (made, rest) fits e in
+    let b = step_takes signed_at signed_bytes (FitsSigned w64) signed_field a.0.1 _ (made, rest) a.1.rest_fits a.3 in
+    let c = step_takes signed_at signed_bytes (FitsSigned w64) signed_field b.0.1 _ (made, rest) b.1.rest_fits b.3 in
+    let t = takes_then bytes (signed_bytes a.0.0 ++ signed_bytes b.0.0) b.0.1 (signed_bytes c.0.0) c.0.1
+    (takes_then bytes (signed_bytes a.0.0) a.0.1 (signed_bytes b.0.0) b.0.1 a.1 b.1) c.1 in
+    subst (λ (q : X × List ℕ). AreThree make bytes q.0 q.1) (some_is _ _ c.3)
+    (record { x = a.0.0; y = b.0.0; z = c.0.0; is = refl; takes = t; fits = (a.2, b.2, c.2) })
+
 vector_takes : (bytes : List ℕ) (v : Vec3) (rest : List ℕ) → IsBytes bytes → vector_at bytes ≡ Some (v, rest)
     → Takes bytes (vector_bytes v) rest × VectorFits v
 unfolding vector_at vector_bytes
 vector_takes bytes v rest fits e =
-    let a = step_takes signed_at signed_bytes (FitsSigned w64) signed_field bytes _ (v, rest) fits e in
-    let b = step_takes signed_at signed_bytes (FitsSigned w64) signed_field a.0.1 _ (v, rest) a.1.rest_fits a.3 in
-    let c = step_takes signed_at signed_bytes (FitsSigned w64) signed_field b.0.1 _ (v, rest) b.1.rest_fits b.3 in
-    let t = takes_then bytes (signed_bytes a.0.0 ++ signed_bytes b.0.0) b.0.1 (signed_bytes c.0.0) c.0.1
-    (takes_then bytes (signed_bytes a.0.0) a.0.1 (signed_bytes b.0.0) b.0.1 a.1 b.1) c.1 in
-    subst (λ (q : Vec3 × List ℕ). Takes bytes (vector_bytes q.0) q.1 × VectorFits q.0) (some_is _ _ c.3) (t, (a.2, b.2, c.2))
+    let make : ℤ → ℤ → ℤ → Vec3 = λ x y z. record { x = x; y = y; z = z } in
+    let read = three_taken make bytes v rest fits e in
+    subst (λ (u : Vec3). Takes bytes (vector_bytes u) rest × VectorFits u) read.is (read.takes, read.fits)
 
 vector_again : (v : Vec3) (rest : List ℕ) → VectorFits v → vector_at (vector_bytes v ++ rest) ≡ Some (v, rest)
 unfolding vector_at vector_bytes
@@ -146,13 +170,10 @@ axes_takes : (bytes : List ℕ) (zs : List ℤ) (rest : List ℕ) → IsBytes by
     → Takes bytes (axes_bytes zs) rest × AreAxes zs
 unfolding axes_at
 axes_takes bytes zs rest fits e =
-    let a = step_takes signed_at signed_bytes (FitsSigned w64) signed_field bytes _ (zs, rest) fits e in
-    let b = step_takes signed_at signed_bytes (FitsSigned w64) signed_field a.0.1 _ (zs, rest) a.1.rest_fits a.3 in
-    let c = step_takes signed_at signed_bytes (FitsSigned w64) signed_field b.0.1 _ (zs, rest) b.1.rest_fits b.3 in
-    let t = takes_then bytes (signed_bytes a.0.0 ++ signed_bytes b.0.0) b.0.1 (signed_bytes c.0.0) c.0.1
-    (takes_then bytes (signed_bytes a.0.0) a.0.1 (signed_bytes b.0.0) b.0.1 a.1 b.1) c.1 in
-    subst (λ (q : List ℤ × List ℕ). Takes bytes (axes_bytes q.0) q.1 × AreAxes q.0) (some_is _ _ c.3)
-    (rw (three a.0.0 b.0.0 c.0.0) t, (refl, (a.2, (b.2, (c.2, tt)))))
+    let make : ℤ → ℤ → ℤ → List ℤ = λ x y z. x ∷ y ∷ z ∷ [] in
+    let read = three_taken make bytes zs rest fits e in
+    subst (λ (us : List ℤ). Takes bytes (axes_bytes us) rest × AreAxes us) read.is
+    (rw (three read.x read.y read.z) read.takes, (refl, (read.fits.0, (read.fits.1, (read.fits.2, tt)))))
 
 axes_again : (zs : List ℤ) (rest : List ℕ) → AreAxes zs → axes_at (axes_bytes zs ++ rest) ≡ Some (zs, rest)
 unfolding axes_at

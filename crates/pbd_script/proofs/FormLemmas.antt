@@ -14,21 +14,24 @@ numbered : (command : ℕ → Command) (n : Option ℕ)
 numbered command None = refl
 numbered command (Some n) = refl
 
-step_lines : (ws : List (List ℕ)) → form (codes "step") ws ≡ option_map (λ n. Step n) (only_count ws)
-unfolding form verb_named row
-step_lines ws = numbered (λ n. Step n) (only_count ws)
+-- lines of this word give the command of the number that alone stands behind it
+abbrev GivesNumber : List ℕ → (ℕ → Command) → Type 0
+GivesNumber word command = (ws : List (List ℕ)) → form word ws ≡ option_map command (only_count ws)
 
-pin_lines : (ws : List (List ℕ)) → form (codes "pin") ws ≡ option_map (λ i. Pin i) (only_count ws)
-unfolding form verb_named row
-pin_lines ws = numbered (λ i. Pin i) (only_count ws)
+record NumberLines : Type 0 where
+  step : GivesNumber (codes "step") (λ n. Step n)
+  pin : GivesNumber (codes "pin") (λ i. Pin i)
+  unpin : GivesNumber (codes "unpin") (λ i. Unpin i)
+  cut : GivesNumber (codes "cut") (λ n. Cut n)
 
-unpin_lines : (ws : List (List ℕ)) → form (codes "unpin") ws ≡ option_map (λ i. Unpin i) (only_count ws)
+number_lines : NumberLines
 unfolding form verb_named row
-unpin_lines ws = numbered (λ i. Unpin i) (only_count ws)
-
-cut_lines : (ws : List (List ℕ)) → form (codes "cut") ws ≡ option_map (λ n. Cut n) (only_count ws)
-unfolding form verb_named row
-cut_lines ws = numbered (λ n. Cut n) (only_count ws)
+number_lines = record {
+  step = λ ws. numbered (λ n. Step n) (only_count ws);
+  pin = λ ws. numbered (λ i. Pin i) (only_count ws);
+  unpin = λ ws. numbered (λ i. Unpin i) (only_count ws);
+  cut = λ ws. numbered (λ n. Cut n) (only_count ws);
+}
 
 with_axes : (g : Option Vec3)
     → option_and_then (λ o. option_map (λ v. Gravity v) (the_vector o)) (option_map (λ v. Vector v) g) ≡ option_map (λ v. Gravity v) g
@@ -56,18 +59,14 @@ move_needs_more : form (codes "move") [] ≡ None
 unfolding form verb_named row
 move_needs_more = refl
 
-frame_lines : form (codes "frame") [] ≡ Some Frame
-unfolding form verb_named row
-frame_lines = refl
+-- lines of this word give the command where nothing stands behind it, and none where something does
+abbrev GivesAlone : List ℕ → Command → Type 0
+GivesAlone word command = (form word [] ≡ Some command) × ((w : List ℕ) (ws : List (List ℕ)) → form word (w ∷ ws) ≡ None)
 
-frame_stands_alone : (w : List ℕ) (ws : List (List ℕ)) → form (codes "frame") (w ∷ ws) ≡ None
+frame_lines : GivesAlone (codes "frame") Frame
 unfolding form verb_named row
-frame_stands_alone w ws = refl
+frame_lines = (refl, λ w ws. refl)
 
-ledger_lines : form (codes "ledger") [] ≡ Some Ledger
+ledger_lines : GivesAlone (codes "ledger") Ledger
 unfolding form verb_named row
-ledger_lines = refl
-
-ledger_stands_alone : (w : List ℕ) (ws : List (List ℕ)) → form (codes "ledger") (w ∷ ws) ≡ None
-unfolding form verb_named row
-ledger_stands_alone w ws = refl
+ledger_lines = (refl, λ w ws. refl)

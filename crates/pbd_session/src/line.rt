@@ -19,25 +19,30 @@ pub fn done_line() -> Line
     line
 }
 
-fn numbers_line(x: i64, y: i64, z: i64) -> Line
-    ensures { result ≡ line (signed_decimal x ∷ signed_decimal y ∷ signed_decimal z ∷ []) }
-{
-    let mut line = Line::new();
-    line.push_signed(x);
-    line.push(" ");
-    line.push_signed(y);
-    line.push(" ");
-    line.push_signed(z);
-    line.push("\n");
-    line
-}
-
+/// The place of a particle.
 #[tactic(auto, unfolding(pbd_world::specs::Text::place_line))]
 #[inline]
 pub fn place_line(p: &Particle) -> Line
     ensures { result ≡ place_line p.now }
 {
-    numbers_line(p.at.x, p.at.y, p.at.z)
+    let mut line = Line::new();
+    line.push_signed(p.at.x);
+    line.push(" ");
+    line.push_signed(p.at.y);
+    line.push(" ");
+    line.push_signed(p.at.z);
+    line.push("\n");
+    line
+}
+
+// A word, with what parts it from what stands before, and a count.
+fn push_count(line: &mut Line, word: &str, count: u64)
+    requires { length line.old + length word.now ≤ 236 }
+    ensures bytes { line.new ≡ (line.old ++ word.now) ++ decimal count }
+    ensures len { length line.new ≤ length line.old + length word.now + 20 }
+{
+    line.push(word);
+    line.push_number(count);
 }
 
 /// The first line of a frame.
@@ -47,14 +52,10 @@ pub fn header_line(steps: u64, particles: u32, live: u32, contacts: u32) -> Line
     ensures { result ≡ frame_header steps particles live contacts }
 {
     let mut line = Line::new();
-    line.push("frame ");
-    line.push_number(steps);
-    line.push(" ");
-    line.push_number(u64::from(particles));
-    line.push(" ");
-    line.push_number(u64::from(live));
-    line.push(" ");
-    line.push_number(u64::from(contacts));
+    push_count(&mut line, "frame ", steps);
+    push_count(&mut line, " ", u64::from(particles));
+    push_count(&mut line, " ", u64::from(live));
+    push_count(&mut line, " ", u64::from(contacts));
     line.push("\n");
     line
 }

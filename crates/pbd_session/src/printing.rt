@@ -88,21 +88,6 @@ fn write_places<const L: usize, P: Projector<L> + Drop, K: Sink, G: Ledger>(
     Ok(())
 }
 
-fn write_frame<const L: usize, P: Projector<L> + Drop, K: Sink, G: Ledger>(
-    solver: &Solver<L, P>,
-    prefix: &[u8],
-    sink: &mut K,
-    steps: &mut Steps<G>,
-) -> Result<(), Failed>
-    requires lanes_high { L ≤ 16 }
-    ensures bytes { WritesPiece (K.written sink.old) (K.written sink.new) result (text_after prefix.now solver.now.world Reply.Frame) }
-    ensures cause { HasCause (K.faults sink.old) (K.faults sink.new) result }
-    ensures cost { steps.new ≤ steps.old + length solver.now.world.particles }
-{
-    write_header(solver, prefix, sink)?;
-    write_places(solver, prefix, sink, steps)
-}
-
 /// The sums of the ledger in the order of its lines.
 fn named_sums<const L: usize, P: Projector<L> + Drop, G: Ledger>(
     solver: &Solver<L, P>,
@@ -138,20 +123,6 @@ fn write_sums<K: Sink>(sums: &[NamedTotal], prefix: &[u8], sink: &mut K) -> Resu
         write_line(prefix, &line, sink)?;
     }
     Ok(())
-}
-
-fn write_ledger<const L: usize, P: Projector<L> + Drop, K: Sink, G: Ledger>(
-    solver: &Solver<L, P>,
-    prefix: &[u8],
-    sink: &mut K,
-    steps: &mut Steps<G>,
-) -> Result<(), Failed>
-    requires lanes_high { L ≤ 16 }
-    ensures bytes { WritesPiece (K.written sink.old) (K.written sink.new) result (text_after prefix.now solver.now.world Reply.Ledger) }
-    ensures cause { HasCause (K.faults sink.old) (K.faults sink.new) result }
-    ensures cost { steps.new ≤ steps.old + length solver.now.world.particles }
-{
-    write_sums(&named_sums(solver, steps), prefix, sink)
 }
 
 impl<const L: usize, P: Projector<L> + Drop> Session<L, P> {
@@ -197,10 +168,14 @@ impl<const L: usize, P: Projector<L> + Drop> Session<L, P> {
         ensures cause { HasCause (K.faults sink.old) (K.faults sink.new) result }
         ensures cost { steps.new ≤ steps.old + reply_work self.now reply.now }
     {
+        let solver = self.solver();
         match reply {
             Reply::Done => write_line(prefix, &done_line(), sink),
-            Reply::Frame => write_frame(self.solver(), prefix, sink, steps),
-            Reply::Ledger => write_ledger(self.solver(), prefix, sink, steps),
+            Reply::Frame => {
+                write_header(solver, prefix, sink)?;
+                write_places(solver, prefix, sink, steps)
+            }
+            Reply::Ledger => write_sums(&named_sums(solver, steps), prefix, sink),
             Reply::Refused(refusal) => write_line(prefix, &refusal_line(refusal), sink),
         }
     }

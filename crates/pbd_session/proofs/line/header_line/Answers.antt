@@ -7,15 +7,11 @@ pub returns : goal.returns
 unfolding frame_header
 returns c =
     rw (
-      c.push-5.ensures,
-      c.push_number-4.ensures.bytes,
-      c.push-4.ensures,
-      c.push_number-3.ensures.bytes,
-      c.push-3.ensures,
-      c.push_number-2.ensures.bytes,
-      c.push-2.ensures,
-      c.push_number.ensures.bytes,
       c.push.ensures,
+      c.push_count-4.ensures.bytes,
+      c.push_count-3.ensures.bytes,
+      c.push_count-2.ensures.bytes,
+      c.push_count.ensures.bytes,
       c.new-line.ensures,
       c.from.ensures,
       c.from-2.ensures,
