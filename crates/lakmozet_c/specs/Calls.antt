@@ -1,16 +1,16 @@
 -- What the calls answer, and what a handle holds after them.
-use Rattle.std.specs.Prelude.{⊤, ℕ, ◌+◌, nat_le, nat_lt, if◌then◌else◌, List, length, Option, Some, None}
+use Rattle.std.specs.Prelude.{◌≡◌, ⊤, ℕ, ◌+◌, ℤ, pos, nat_le, nat_lt, if◌then◌else◌, List, length, Option, Some, None}
 use Rattle.pbd_num.specs.declared.Vec3.{Vec3}
 use Rattle.pbd_world.specs.declared.command.Command.{Command}
 use Rattle.pbd_world.specs.declared.command.FrameSums.{FrameSums}
 use Rattle.pbd_world.specs.Meaning.{reply}
-use Rattle.pbd_world.specs.World.{live_count}
+use Rattle.pbd_world.specs.World.{World, live_count}
 use Rattle.pbd_log.specs.declared.entry.Answer.{Answer}
 use Rattle.pbd_log.specs.Entries.{answer_of, plain}
 use Rattle.pbd_world.specs.Lending.{overwritten}
 use Rattle.pbd_cloth.specs.declared.place.Place.{Place}
 use Rattle.pbd_cloth.specs.Reading.{gone_since}
-use Rattle.pbd_cloth.specs.Slots.{Slotted, restored, saved, slot_at, AreSlots}
+use Rattle.pbd_cloth.specs.Slots.{Slotted, played, restored, saved, slot_at, AreSlots}
 use Rattle.lakmozet_c.specs.declared.plain.Left.{Left}
 use Rattle.lakmozet_c.specs.declared.plain.Sums.{Sums}
 use Rattle.lakmozet_c.specs.declared.plain.Counts.{Counts}
@@ -78,6 +78,26 @@ abbrev pub answered : Option Slotted → (Slotted → ℕ) → ℕ
 answered None f = closed
 answered (Some cloth) f = f cloth
 
+-- ---- what a call does to what a handle holds
+
+-- it does this, and answers so
+pub record Acts (does : Slotted → Slotted) (answers : Slotted → ℕ) (old new : Option Slotted) (number : ℤ) : Type 0 where
+  pub held : new ≡ done_to does old
+  pub answer : number ≡ pos (answered old answers)
+  pub sound : HoldsSound new
+
+-- it does a command, or refuses it and changes nothing
+pub record Obeys (command : Command) (old new : Option Slotted) (number : ℤ) : Type 0 where
+  pub held : new ≡ done_to (λ c. played c command) old
+  pub answer : number ≡ pos (answer_to old command).number
+  pub kept : (number ≡ pos 0 → ⊥) → new ≡ old
+  pub sound : HoldsSound new
+
+-- it changes nothing
+pub record Keeps (old new : Option Slotted) : Type 0 where
+  pub held : new ≡ old
+  pub sound : HoldsSound new
+
 -- ---- reading
 
 -- as many as there are and room for them, or not
@@ -88,6 +108,30 @@ room_answer count room = if nat_le count room then 0 else no_room
 abbrev pub read_from : {A : Type 0} → Option Slotted → (Slotted → A) → A → A
 read_from None f before = before
 read_from (Some cloth) f before = f cloth
+
+-- what is read of the world in a slot, or what was there where there is no such slot
+abbrev pub slot_left : {A : Type 0} → Slotted → ℕ → (World → A) → A → A
+slot_left cloth k f before = if nat_lt k (length cloth.slots) then f (slot_at cloth k) else before
+
+-- a call reads a value of what a handle holds
+pub record Reads {A : Type 0} (value : Slotted → A) (old new : Option Slotted) (number : ℤ) (before after : A) : Type 0 where
+  pub kept : Keeps old new
+  pub answer : number ≡ pos (answered old (λ _. 0))
+  pub written : after ≡ read_from old value before
+
+-- it reads a value of the world in a slot
+pub record ReadsSlot {A : Type 0} (value : World → A) (k : ℕ) (old new : Option Slotted) (number : ℤ) (before after : A) : Type 0 where
+  pub kept : Keeps old new
+  pub answer : number ≡ pos (answered old (λ c. has_slot c k))
+  pub written : after ≡ read_from old (λ c. slot_left c k value before) before
+
+-- it reads so many items, those of a list, as many as there is room for
+pub record ReadsList {A : Type 0} (many : Slotted → ℕ) (list : Slotted → List A) (old new : Option Slotted) (number : ℤ) (past count : ℕ)
+    (before after : List A) : Type 0 where
+  pub kept : Keeps old new
+  pub answer : number ≡ pos (answered old (λ c. room_answer (many c) (length before)))
+  pub count_written : count ≡ read_from old many past
+  pub written : after ≡ read_from old (λ c. overwritten before (list c)) before
 
 abbrev pub sums_of : FrameSums → Sums
 sums_of s = record { steps = s.steps; live = s.live; contacts = s.contacts; at = s.at; before = s.before }

@@ -4,6 +4,7 @@ pub mod Faults
 pub mod Kept
 pub mod Logs
 pub mod Meshed
+pub mod Prelude
 pub mod Replays
 pub mod Runs
 pub mod Shown

@@ -1,9 +1,8 @@
 -- What the calls on states answer and leave.
-use Rattle.std.specs.Prelude.{ℕ, nat_le, nat_lt, if◌then◌else◌, List, ◌++◌, drop, length, Ok, Err}
+use Rattle.std.specs.Prelude.{ℕ, nat_le, if◌then◌else◌, List, ◌++◌, drop, length, Ok, Err}
 use Rattle.pbd_encoding.specs.Encoding.{state_bytes, state_size}
 use Rattle.pbd_encoding.specs.Form.{Formed}
-use Rattle.pbd_world.specs.World.{World}
-use Rattle.pbd_cloth.specs.Slots.{Slotted, slot_at}
+use Rattle.pbd_cloth.specs.Slots.{Slotted}
 
 -- the bytes are no state of the scene
 abbrev pub no_state : ℕ
@@ -25,7 +24,3 @@ state_answer (Err fault) = no_state
 abbrev pub offset_left : Formed → ℕ → ℕ
 offset_left (Ok x) before = before
 offset_left (Err fault) before = fault.offset
-
--- what is read of the world in a slot, or what was there where there is no such slot
-abbrev pub slot_left : {A : Type 0} → Slotted → ℕ → (World → A) → A → A
-slot_left cloth k f before = if nat_lt k (length cloth.slots) then f (slot_at cloth k) else before

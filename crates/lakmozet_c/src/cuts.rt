@@ -1,9 +1,9 @@
 //! Many cuts in one call.
-ghost use Rattle.std.specs.Prelude.{◌≡◌, pos, map};
+ghost use Rattle.std.specs.Prelude.{◌≡◌, map};
 ghost use Rattle.pbd_world.specs.declared.command.Command.TheVariants as commands;
 ghost use Rattle.pbd_world.specs.Session.{refused_count};
 ghost use Rattle.pbd_cloth.specs.Slots.{last_played};
-ghost use Rattle.lakmozet_c.specs.Calls.{answered, done_to, read_from, HoldsSound};
+ghost use Rattle.lakmozet_c.specs.Calls.{read_from, Acts};
 
 use crate::handle::{Handle, looked_at};
 use crate::numbers::CLOSED;
@@ -17,9 +17,7 @@ pub extern "C" fn lak_cut_many(
     links: &[u32],
     refused: &mut usize,
 ) -> i32
-    ensures held { handle.new.held ≡ done_to (λ c. last_played c (map commands.Cut links.now)) handle.old.held }
-    ensures sound { HoldsSound handle.new.held }
-    ensures answer { result ≡ pos (answered handle.old.held (λ _. 0)) }
+    ensures cut { Acts (λ c. last_played c (map commands.Cut links.now)) (λ _. 0) handle.old.held handle.new.held result }
     ensures refused { refused.new ≡ read_from handle.old.held (λ c. refused_count c.world (map commands.Cut links.now)) refused.old }
 {
     match handle.take(alloc) {

@@ -5,9 +5,9 @@ ghost use Rattle.pbd_world.specs.Lending.{overwritten};
 ghost use Rattle.lakmozet_c.specs.Drawn.{AreTriangles, WritesTrianglesOr};
 ghost use Rattle.lakmozet_c.specs.Meshed.{mesh_in};
 
+use crate::lists::room_for;
 use crate::meshes::{Unfit, mesh_in, unfit_fault, unfit_number};
 use crate::plain::MeshFault;
-use crate::reads::room_for;
 use pbd_cloth::Place;
 use pbd_obj::{ArraysFault, Triangle, triangles_of};
 use pbd_world::List;

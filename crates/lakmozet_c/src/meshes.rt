@@ -2,8 +2,7 @@
 ghost use Rattle.std.specs.Prelude.{◌≡◌, ◌++◌, map, pos, take, IfErr, IfOk, IsTrue, MatchResult, Ok, OnOk};
 ghost use Rattle.pbd_num.specs.declared.Vec3.{Vec3};
 ghost use Rattle.pbd_cloth.specs.declared.place.Place.{Place};
-ghost use Rattle.pbd_cloth.specs.Slots.{AreSlots};
-ghost use Rattle.pbd_obj.specs.Arrays.{IsArraysFault};
+ghost use Rattle.lakmozet_c.specs.Prelude.{AreSlots, IsArraysFault};
 ghost use Rattle.pbd_obj.specs.MeshLinks.{with_mesh_as};
 ghost use Rattle.pbd_obj.specs.Meshes.{IsMesh};
 ghost use Rattle.pbd_obj.specs.Reading.{IsFaultOf};

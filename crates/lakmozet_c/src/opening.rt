@@ -1,10 +1,8 @@
 //! A cloth from the text of a scene, or why there is none.
 ghost use Rattle.std.specs.Prelude.{◌≡◌, ◌≤◌, ℤ, IfOk, IsTrue, MatchResult, None, pos};
-ghost use Rattle.std.specs.Str.{IsUtf8};
-ghost use Rattle.toml.specs.Parse.{parse_document};
+ghost use Rattle.lakmozet_c.specs.Prelude.{opened, parse_document, AreSlots, IsUtf8};
 ghost use Rattle.pbd_world.specs.Valid.{is_limit};
-ghost use Rattle.pbd_world.specs.World.{opened};
-ghost use Rattle.pbd_cloth.specs.Slots.{begun, AreSlots};
+ghost use Rattle.pbd_cloth.specs.Slots.{begun};
 ghost use Rattle.pbd_scene.specs.declared.fault.SceneFault.TheVariants.{OutOfMemory};
 ghost use Rattle.lakmozet_c.specs.declared.opening.NoCloth.TheVariants.{NoScene};
 ghost use Rattle.lakmozet_c.specs.Faults.{fault_of, key_number, stop_number, table_number, IsFaultIn, IsOpened, IsSceneIn, IsWhy, IsWhyIn};

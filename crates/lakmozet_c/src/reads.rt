@@ -1,24 +1,18 @@
-//! What a program reads of what its handle holds, which stays as it is.
-ghost use Rattle.std.specs.Prelude.{◌≡◌, pos, length};
-ghost use Rattle.pbd_world.specs.Lending.{overwritten};
+//! Single values that a program reads of what its handle holds, which stays as it is.
+ghost use Rattle.std.specs.Prelude.{◌≡◌, pos};
+ghost use Rattle.pbd_world.specs.Ledger.{sum_of};
 ghost use Rattle.pbd_world.specs.Replay.{frame_sums};
-ghost use Rattle.pbd_cloth.specs.Reading.{places, places_before, live_bytes, gone_since};
-ghost use Rattle.pbd_cloth.specs.Slots.{slot_at};
-ghost use Rattle.lakmozet_c.specs.Calls.{answered, counts_of, gone_answer, gone_count, gone_left, read_from, room_answer, sums_of, HoldsSound};
+ghost use Rattle.pbd_state.specs.Naming.{scene_name};
+ghost use Rattle.pbd_cloth.specs.Reading.{link_between, place_of};
+ghost use Rattle.lakmozet_c.specs.Calls.{answered, counts_of, read_from, sums_of, Keeps, Reads};
+ghost use Rattle.lakmozet_c.specs.Shown.{balance_in, balance_of, found_answer, found_left, sum_in, wide_value};
 
 use crate::handle::{Handle, with_cloth};
-use crate::numbers::{CLOSED, NO_ROOM, NO_SLOT};
-use crate::plain::{Counts, Sums};
+use crate::numbers::{CLOSED, NO_LINK};
+use crate::plain::{Book, Counts, Hash, Sums, Wide};
 use pbd_cloth::{Cloth, Place};
 use pbd_world::FrameSums;
 use std::alloc::Global;
-
-/// Whether so many fit.
-pub(crate) fn room_for(count: usize, room: usize) -> i32
-    ensures { result ≡ pos (room_answer count room) }
-{
-    if count <= room { 0 } else { NO_ROOM }
-}
 
 fn sums_of(sums: &FrameSums) -> Sums
     ensures { result ≡ sums_of sums.now }
@@ -45,26 +39,57 @@ fn counts_of(cloth: &Cloth) -> Counts
     }
 }
 
-/// Writes the numbers of the links that went since a slot was saved, and answers whether all fit.
-fn gone_since(cloth: &Cloth, slot: u32, into: &mut [u32], count: &mut u32) -> i32
-    ensures answer { result ≡ pos (gone_answer cloth.now slot (length into.old)) }
-    ensures count { count.new ≡ gone_count cloth.now slot count.old }
-    ensures written { into.new ≡ gone_left cloth.now slot into.old }
+fn wide(number: i128) -> Wide
+    ensures { wide_value result ≡ number }
 {
-    if slot < cloth.slots() {
-        *count = cloth.gone_since(slot, into);
-        return room_for(*count as usize, into.len());
+    let high = number >> 64;
+    Wide {
+        low: (number - high * 18_446_744_073_709_551_616) as u64,
+        high: high as i64,
     }
-    NO_SLOT
+}
+
+fn wides(sum: [i128; 3]) -> [Wide; 3]
+    ensures { sum_in result ≡ sum_of sum }
+{
+    [wide(sum[0]), wide(sum[1]), wide(sum[2])]
+}
+
+fn book_of(cloth: &Cloth) -> Book
+    ensures { balance_in result ≡ balance_of cloth.now.world }
+{
+    let balance = cloth.balance();
+    let totals = balance.totals;
+    Book {
+        momentum: wides(balance.momentum),
+        opening: wides(balance.opening),
+        gravity: wides(totals.gravity),
+        damping: wides(totals.damping),
+        link: wides(totals.link),
+        contact: wides(totals.contact),
+        pin: wides(totals.pin),
+        shape: wides(totals.shape),
+    }
+}
+
+/// Writes the number of a link that was found, and answers whether one was.
+fn found(link: Option<u32>, into: &mut u32) -> i32
+    ensures answer { result ≡ pos (found_answer link) }
+    ensures written { into.new ≡ found_left link into.old }
+{
+    match link {
+        Some(number) => {
+            *into = number;
+            0
+        }
+        None => NO_LINK,
+    }
 }
 
 /// Writes how many steps were taken, and how many particles, links, live links, contacts and slots there are.
 #[unsafe(no_mangle)]
 pub extern "C" fn lak_counts(alloc: Global, handle: &mut Handle, counts: &mut Counts) -> i32
-    ensures held { handle.new.held ≡ handle.old.held }
-    ensures sound { HoldsSound handle.new.held }
-    ensures answer { result ≡ pos (answered handle.old.held (λ _. 0)) }
-    ensures counts { counts.new ≡ read_from handle.old.held counts_of counts.old }
+    ensures { Reads counts_of handle.old.held handle.new.held result counts.old counts.new }
 {
     with_cloth!(alloc, handle, cloth => {
         *counts = counts_of(&cloth);
@@ -75,10 +100,7 @@ pub extern "C" fn lak_counts(alloc: Global, handle: &mut Handle, counts: &mut Co
 /// Writes the sums that a log keeps of a world.
 #[unsafe(no_mangle)]
 pub extern "C" fn lak_sums(alloc: Global, handle: &mut Handle, sums: &mut Sums) -> i32
-    ensures held { handle.new.held ≡ handle.old.held }
-    ensures sound { HoldsSound handle.new.held }
-    ensures answer { result ≡ pos (answered handle.old.held (λ _. 0)) }
-    ensures sums { sums.new ≡ read_from handle.old.held (λ c. sums_of (frame_sums c.world)) sums.old }
+    ensures { Reads (λ c. sums_of (frame_sums c.world)) handle.old.held handle.new.held result sums.old sums.new }
 {
     with_cloth!(alloc, handle, cloth => {
         *sums = sums_of(&cloth.sums());
@@ -89,10 +111,7 @@ pub extern "C" fn lak_sums(alloc: Global, handle: &mut Handle, sums: &mut Sums) 
 /// Writes how many contacts the last step found.
 #[unsafe(no_mangle)]
 pub extern "C" fn lak_contacts(alloc: Global, handle: &mut Handle, contacts: &mut u64) -> i32
-    ensures held { handle.new.held ≡ handle.old.held }
-    ensures sound { HoldsSound handle.new.held }
-    ensures answer { result ≡ pos (answered handle.old.held (λ _. 0)) }
-    ensures contacts { contacts.new ≡ read_from handle.old.held (λ c. c.world.contacts) contacts.old }
+    ensures { Reads (λ c. c.world.contacts) handle.old.held handle.new.held result contacts.old contacts.new }
 {
     with_cloth!(alloc, handle, cloth => {
         *contacts = u64::from(cloth.contacts());
@@ -100,81 +119,51 @@ pub extern "C" fn lak_contacts(alloc: Global, handle: &mut Handle, contacts: &mu
     })
 }
 
-/// Writes the places of the particles, as many as there is room for, and how many there are.
+/// Writes gravity, in units per step squared.
 #[unsafe(no_mangle)]
-pub extern "C" fn lak_places(
-    alloc: Global,
-    handle: &mut Handle,
-    into: &mut [Place],
-    count: &mut u32,
-) -> i32
-    ensures held { handle.new.held ≡ handle.old.held }
-    ensures sound { HoldsSound handle.new.held }
-    ensures answer { result ≡ pos (answered handle.old.held (λ c. room_answer (length c.world.particles) (length into.old))) }
-    ensures count { count.new ≡ read_from handle.old.held (λ c. length c.world.particles) count.old }
-    ensures written { into.new ≡ read_from handle.old.held (λ c. overwritten into.old (places c.world)) into.old }
+pub extern "C" fn lak_gravity_now(alloc: Global, handle: &mut Handle, gravity: &mut Place) -> i32
+    ensures { Reads (λ c. place_of c.world.gravity) handle.old.held handle.new.held result gravity.old gravity.new }
 {
     with_cloth!(alloc, handle, cloth => {
-        *count = cloth.places(into);
-        room_for(*count as usize, into.len())
+        *gravity = Place::of(cloth.gravity());
+        0
     })
 }
 
-/// Writes the places of one step before, as many as there is room for, and how many there are.
+/// Writes the momentum, that at opening, and the totals of what moved it since.
 #[unsafe(no_mangle)]
-pub extern "C" fn lak_places_before(
-    alloc: Global,
-    handle: &mut Handle,
-    into: &mut [Place],
-    count: &mut u32,
-) -> i32
-    ensures held { handle.new.held ≡ handle.old.held }
-    ensures sound { HoldsSound handle.new.held }
-    ensures answer { result ≡ pos (answered handle.old.held (λ c. room_answer (length c.world.particles) (length into.old))) }
-    ensures count { count.new ≡ read_from handle.old.held (λ c. length c.world.particles) count.old }
-    ensures written { into.new ≡ read_from handle.old.held (λ c. overwritten into.old (places_before c.world)) into.old }
+pub extern "C" fn lak_ledger(alloc: Global, handle: &mut Handle, book: &mut Book) -> i32
+    ensures { Reads (λ c. balance_of c.world) handle.old.held handle.new.held result (balance_in book.old) (balance_in book.new) }
 {
     with_cloth!(alloc, handle, cloth => {
-        *count = cloth.places_before(into);
-        room_for(*count as usize, into.len())
+        *book = book_of(&cloth);
+        0
     })
 }
 
-/// Writes a 1 for each live link and a 0 for each other, as many as there is room for, and how many links there are.
+/// Writes the name of the handle's scene: the SHA-256 digest of all that no command changes.
 #[unsafe(no_mangle)]
-pub extern "C" fn lak_live(
-    alloc: Global,
-    handle: &mut Handle,
-    into: &mut [u8],
-    count: &mut u32,
-) -> i32
-    ensures held { handle.new.held ≡ handle.old.held }
-    ensures sound { HoldsSound handle.new.held }
-    ensures answer { result ≡ pos (answered handle.old.held (λ c. room_answer (length c.world.links) (length into.old))) }
-    ensures count { count.new ≡ read_from handle.old.held (λ c. length c.world.links) count.old }
-    ensures written { into.new ≡ read_from handle.old.held (λ c. overwritten into.old (live_bytes c.world)) into.old }
+pub extern "C" fn lak_scene_name(alloc: Global, handle: &mut Handle, name: &mut Hash) -> i32
+    ensures { Reads (λ c. scene_name c.world) handle.old.held handle.new.held result name.old.bytes name.new.bytes }
 {
     with_cloth!(alloc, handle, cloth => {
-        *count = cloth.live(into);
-        room_for(*count as usize, into.len())
+        name.bytes = cloth.scene_name();
+        0
     })
 }
 
-/// Writes the numbers, ascending, of the links that are live in a slot's world and not live now, as many as there is room
-/// for, and how many there are.
+/// Writes the number of the link that joins two particles, in either order, live or not.
 #[unsafe(no_mangle)]
-pub extern "C" fn lak_gone_since(
+pub extern "C" fn lak_link_between(
     alloc: Global,
     handle: &mut Handle,
-    slot: u32,
-    into: &mut [u32],
-    count: &mut u32,
+    a: u32,
+    b: u32,
+    link: &mut u32,
 ) -> i32
-    ensures held { handle.new.held ≡ handle.old.held }
-    ensures sound { HoldsSound handle.new.held }
-    ensures answer { result ≡ pos (answered handle.old.held (λ c. gone_answer c slot (length into.old))) }
-    ensures count { count.new ≡ read_from handle.old.held (λ c. gone_count c slot count.old) count.old }
-    ensures written { into.new ≡ read_from handle.old.held (λ c. gone_left c slot into.old) into.old }
+    ensures kept { Keeps handle.old.held handle.new.held }
+    ensures answer { result ≡ pos (answered handle.old.held (λ c. found_answer (link_between c.world a b))) }
+    ensures link { link.new ≡ read_from handle.old.held (λ c. found_left (link_between c.world a b) link.old) link.old }
 {
-    with_cloth!(alloc, handle, cloth => gone_since(&cloth, slot, into, count))
+    with_cloth!(alloc, handle, cloth => found(cloth.link_between(a, b), link))
 }

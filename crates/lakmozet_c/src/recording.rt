@@ -1,9 +1,8 @@
 //! A script on a scene, recorded into a log, from bytes to bytes.
 ghost use Rattle.std.specs.Prelude.{◌≡◌, ◌⊎◌, ◌≤◌, ◌<◌, ◌^◌, [], Some, IfErr, IfOk, MatchResult, drop, length, take};
-ghost use Rattle.pbd_io.specs.Pieces.{WritesPiece};
+ghost use Rattle.lakmozet_c.specs.Prelude.{opened, WritesPiece};
 ghost use Rattle.pbd_script.specs.Commands.{commands};
 ghost use Rattle.pbd_world.specs.Session.{refused_count};
-ghost use Rattle.pbd_world.specs.World.{opened};
 ghost use Rattle.lakmozet_c.specs.Logs.{log_of, IsLog, IsNotRecorded, IsRecorded, IsWhyNot};
 ghost use Rattle.lakmozet_c.specs.Runs.{IsShortage};
 

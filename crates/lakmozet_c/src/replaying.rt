@@ -1,11 +1,8 @@
 //! A log, replayed from bytes to text.
 ghost use Rattle.std.specs.Prelude.{◌≡◌, ◌⊎◌, ◌≤◌, ◌<◌, [], Some, IfErr, IfOk, MatchResult, drop, length, pos, take};
-ghost use Rattle.std.specs.Str.{IsUtf8};
-ghost use Rattle.toml.specs.Parse.{parse_document};
-ghost use Rattle.pbd_io.specs.Pieces.{WritesPiece};
+ghost use Rattle.lakmozet_c.specs.Prelude.{opened, parse_document, IsUtf8, WritesPiece};
 ghost use Rattle.pbd_log.specs.Logs.{IsVersion};
 ghost use Rattle.pbd_session.specs.Replaying.{replayed};
-ghost use Rattle.pbd_world.specs.World.{opened};
 ghost use Rattle.lakmozet_c.specs.Faults.{IsSceneIn, IsWhyIn};
 ghost use Rattle.lakmozet_c.specs.Replays.{fault_at, field_number, no_replay_number, replay_number, stop_of, IsNotReplayed, IsReplay, IsReplayed, IsWhyNoReplay};
 ghost use Rattle.lakmozet_c.specs.Runs.{IsShortage};

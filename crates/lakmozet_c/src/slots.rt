@@ -1,43 +1,47 @@
 //! Saving and restoring whole worlds.
-ghost use Rattle.std.specs.Prelude.{◌≡◌, pos};
-ghost use Rattle.lakmozet_c.specs.Calls.{answered, done_to, has_slot, restored_from, saved_in, HoldsSound};
-ghost use Rattle.pbd_cloth.specs.Slots.{AreSlots};
+ghost use Rattle.std.specs.Prelude.{Some};
+ghost use Rattle.lakmozet_c.specs.Calls.{has_slot, restored_from, saved_in, Acts};
 
 use crate::handle::{Handle, with_cloth};
 use crate::numbers::{CLOSED, NO_SLOT};
 use pbd_cloth::Cloth;
 use std::alloc::Global;
 
+/// Answers by a slot of a cloth: `NO_SLOT` where it isn't there.
+macro_rules! with_slot {
+    ($cloth:ident, $slot:ident => $answer:expr) => {
+        if $slot < $cloth.slots() {
+            $answer
+        } else {
+            NO_SLOT
+        }
+    };
+}
+
+pub(crate) use with_slot;
+
 fn save(cloth: &mut Cloth, slot: u32) -> i32
-    ensures cloth { cloth.new ≡ saved_in cloth.old slot }
-    ensures answer { result ≡ pos (has_slot cloth.old slot) }
-    ensures sound { AreSlots cloth.new.world cloth.new.slots }
+    ensures { Acts (λ c. saved_in c slot) (λ c. has_slot c slot) (Some cloth.old) (Some cloth.new) result }
 {
-    if slot < cloth.slots() {
+    with_slot!(cloth, slot => {
         cloth.save(slot);
-        return 0;
-    }
-    NO_SLOT
+        0
+    })
 }
 
 fn restore(cloth: &mut Cloth, slot: u32) -> i32
-    ensures cloth { cloth.new ≡ restored_from cloth.old slot }
-    ensures answer { result ≡ pos (has_slot cloth.old slot) }
-    ensures sound { AreSlots cloth.new.world cloth.new.slots }
+    ensures { Acts (λ c. restored_from c slot) (λ c. has_slot c slot) (Some cloth.old) (Some cloth.new) result }
 {
-    if slot < cloth.slots() {
+    with_slot!(cloth, slot => {
         cloth.restore(slot);
-        return 0;
-    }
-    NO_SLOT
+        0
+    })
 }
 
 /// Keeps the world in a slot, and changes no other slot.
 #[unsafe(no_mangle)]
 pub extern "C" fn lak_save(alloc: Global, handle: &mut Handle, slot: u32) -> i32
-    ensures held { handle.new.held ≡ done_to (λ c. saved_in c slot) handle.old.held }
-    ensures answer { result ≡ pos (answered handle.old.held (λ c. has_slot c slot)) }
-    ensures sound { HoldsSound handle.new.held }
+    ensures { Acts (λ c. saved_in c slot) (λ c. has_slot c slot) handle.old.held handle.new.held result }
 {
     with_cloth!(alloc, handle, mut cloth => save(&mut cloth, slot))
 }
@@ -45,9 +49,7 @@ pub extern "C" fn lak_save(alloc: Global, handle: &mut Handle, slot: u32) -> i32
 /// Goes back to the world in a slot, and changes no slot.
 #[unsafe(no_mangle)]
 pub extern "C" fn lak_restore(alloc: Global, handle: &mut Handle, slot: u32) -> i32
-    ensures held { handle.new.held ≡ done_to (λ c. restored_from c slot) handle.old.held }
-    ensures answer { result ≡ pos (answered handle.old.held (λ c. has_slot c slot)) }
-    ensures sound { HoldsSound handle.new.held }
+    ensures { Acts (λ c. restored_from c slot) (λ c. has_slot c slot) handle.old.held handle.new.held result }
 {
     with_cloth!(alloc, handle, mut cloth => restore(&mut cloth, slot))
 }

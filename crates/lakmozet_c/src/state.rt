@@ -1,17 +1,17 @@
 //! Worlds as bytes: written, read and hashed.
-ghost use Rattle.std.specs.Prelude.{◌≡◌, pos, length};
+ghost use Rattle.std.specs.Prelude.{◌≡◌, pos, length, Some};
 ghost use Rattle.sha2.specs.Sha256.{sha256};
 ghost use Rattle.pbd_encoding.specs.Encoding.{state_bytes};
 ghost use Rattle.pbd_state.specs.Checksum.{checksum};
 ghost use Rattle.pbd_state.specs.Reading.{reading};
-ghost use Rattle.pbd_cloth.specs.Slots.{AreSlots};
 ghost use Rattle.pbd_cloth.specs.States.{resumed};
-ghost use Rattle.lakmozet_c.specs.Calls.{answered, done_to, has_slot, read_from, room_answer, HoldsSound};
-ghost use Rattle.lakmozet_c.specs.States.{offset_left, size_of, slot_left, state_answer, state_left};
+ghost use Rattle.lakmozet_c.specs.Calls.{answered, has_slot, read_from, room_answer, slot_left, Acts, Keeps, Reads, ReadsSlot};
+ghost use Rattle.lakmozet_c.specs.States.{offset_left, size_of, state_answer, state_left};
 
 use crate::handle::{Handle, with_cloth};
 use crate::numbers::{CLOSED, NO_ROOM, NO_SLOT, NO_STATE};
 use crate::plain::Hash;
+use crate::slots::with_slot;
 use pbd_cloth::Cloth;
 use pbd_state::NoRoom;
 use std::alloc::Global;
@@ -19,10 +19,7 @@ use std::alloc::Global;
 /// Says how many bytes a state of the handle's scene has.
 #[unsafe(no_mangle)]
 pub extern "C" fn lak_state_size(alloc: Global, handle: &mut Handle, size: &mut usize) -> i32
-    ensures held { handle.new.held ≡ handle.old.held }
-    ensures sound { HoldsSound handle.new.held }
-    ensures answer { result ≡ pos (answered handle.old.held (λ _. 0)) }
-    ensures size { size.new ≡ read_from handle.old.held (λ c. size_of c) size.old }
+    ensures { Reads (λ c. size_of c) handle.old.held handle.new.held result size.old size.new }
 {
     with_cloth!(alloc, handle, cloth => {
         *size = cloth.state_size();
@@ -52,8 +49,7 @@ pub extern "C" fn lak_state_write(
     into: &mut [u8],
     size: &mut usize,
 ) -> i32
-    ensures held { handle.new.held ≡ handle.old.held }
-    ensures sound { HoldsSound handle.new.held }
+    ensures kept { Keeps handle.old.held handle.new.held }
     ensures answer { result ≡ pos (answered handle.old.held (λ c. room_answer (size_of c) (length into.old))) }
     ensures size { size.new ≡ read_from handle.old.held (λ c. size_of c) size.old }
     ensures written { into.new ≡ read_from handle.old.held (λ c. state_left scene.bytes c into.old) into.old }
@@ -65,9 +61,8 @@ pub extern "C" fn lak_state_write(
 }
 
 fn read(cloth: &mut Cloth, scene: &[u8; 32], bytes: &[u8], offset: &mut u64) -> i32
-    ensures cloth { cloth.new ≡ resumed scene.now cloth.old bytes.now }
-    ensures sound { AreSlots cloth.new.world cloth.new.slots }
-    ensures answer { result ≡ pos (state_answer (reading scene.now cloth.old.world bytes.now)) }
+    ensures read { Acts (λ c. resumed scene.now c bytes.now) (λ c. state_answer (reading scene.now c.world bytes.now))
+        (Some cloth.old) (Some cloth.new) result }
     ensures offset { offset.new ≡ offset_left (reading scene.now cloth.old.world bytes.now) offset.old }
 {
     match cloth.read_state(scene, bytes) {
@@ -88,9 +83,8 @@ pub extern "C" fn lak_state_read(
     bytes: &[u8],
     offset: &mut u64,
 ) -> i32
-    ensures held { handle.new.held ≡ done_to (λ c. resumed scene.bytes c bytes.now) handle.old.held }
-    ensures sound { HoldsSound handle.new.held }
-    ensures answer { result ≡ pos (answered handle.old.held (λ c. state_answer (reading scene.bytes c.world bytes.now))) }
+    ensures read { Acts (λ c. resumed scene.bytes c bytes.now) (λ c. state_answer (reading scene.bytes c.world bytes.now))
+        handle.old.held handle.new.held result }
     ensures offset { offset.new ≡ read_from handle.old.held (λ c. offset_left (reading scene.bytes c.world bytes.now) offset.old) offset.old }
 {
     with_cloth!(alloc, handle, mut cloth => read(&mut cloth, &scene.bytes, bytes, offset))
@@ -104,10 +98,7 @@ pub extern "C" fn lak_digest(
     scene: Hash,
     digest: &mut Hash,
 ) -> i32
-    ensures held { handle.new.held ≡ handle.old.held }
-    ensures sound { HoldsSound handle.new.held }
-    ensures answer { result ≡ pos (answered handle.old.held (λ _. 0)) }
-    ensures digest { digest.new.bytes ≡ read_from handle.old.held (λ c. sha256 (state_bytes scene.bytes c.world)) digest.old.bytes }
+    ensures { Reads (λ c. sha256 (state_bytes scene.bytes c.world)) handle.old.held handle.new.held result digest.old.bytes digest.new.bytes }
 {
     with_cloth!(alloc, handle, cloth => {
         digest.bytes = cloth.digest(&scene.bytes);
@@ -119,11 +110,10 @@ fn digest_slot(cloth: &Cloth, scene: &[u8; 32], slot: u32, digest: &mut Hash) ->
     ensures answer { result ≡ pos (has_slot cloth.now slot) }
     ensures digest { digest.new.bytes ≡ slot_left cloth.now slot (λ w. sha256 (state_bytes scene.now w)) digest.old.bytes }
 {
-    if slot < cloth.slots() {
+    with_slot!(cloth, slot => {
         digest.bytes = cloth.digest_slot(scene, slot);
-        return 0;
-    }
-    NO_SLOT
+        0
+    })
 }
 
 /// Writes the SHA-256 digest of the state of the world in a slot.
@@ -135,11 +125,7 @@ pub extern "C" fn lak_digest_slot(
     scene: Hash,
     digest: &mut Hash,
 ) -> i32
-    ensures held { handle.new.held ≡ handle.old.held }
-    ensures sound { HoldsSound handle.new.held }
-    ensures answer { result ≡ pos (answered handle.old.held (λ c. has_slot c slot)) }
-    ensures digest { digest.new.bytes
-        ≡ read_from handle.old.held (λ c. slot_left c slot (λ w. sha256 (state_bytes scene.bytes w)) digest.old.bytes) digest.old.bytes }
+    ensures { ReadsSlot (λ w. sha256 (state_bytes scene.bytes w)) slot handle.old.held handle.new.held result digest.old.bytes digest.new.bytes }
 {
     with_cloth!(alloc, handle, cloth => digest_slot(&cloth, &scene.bytes, slot, digest))
 }
@@ -147,10 +133,7 @@ pub extern "C" fn lak_digest_slot(
 /// Writes the checksum of the world, a 64-bit number for each turn.
 #[unsafe(no_mangle)]
 pub extern "C" fn lak_checksum(alloc: Global, handle: &mut Handle, sum: &mut u64) -> i32
-    ensures held { handle.new.held ≡ handle.old.held }
-    ensures sound { HoldsSound handle.new.held }
-    ensures answer { result ≡ pos (answered handle.old.held (λ _. 0)) }
-    ensures sum { sum.new ≡ read_from handle.old.held (λ c. checksum c.world) sum.old }
+    ensures { Reads (λ c. checksum c.world) handle.old.held handle.new.held result sum.old sum.new }
 {
     with_cloth!(alloc, handle, cloth => {
         *sum = cloth.checksum();
@@ -162,11 +145,10 @@ fn checksum_slot(cloth: &Cloth, slot: u32, sum: &mut u64) -> i32
     ensures answer { result ≡ pos (has_slot cloth.now slot) }
     ensures sum { sum.new ≡ slot_left cloth.now slot checksum sum.old }
 {
-    if slot < cloth.slots() {
+    with_slot!(cloth, slot => {
         *sum = cloth.checksum_slot(slot);
-        return 0;
-    }
-    NO_SLOT
+        0
+    })
 }
 
 /// Writes the checksum of the world in a slot.
@@ -177,10 +159,7 @@ pub extern "C" fn lak_checksum_slot(
     slot: u32,
     sum: &mut u64,
 ) -> i32
-    ensures held { handle.new.held ≡ handle.old.held }
-    ensures sound { HoldsSound handle.new.held }
-    ensures answer { result ≡ pos (answered handle.old.held (λ c. has_slot c slot)) }
-    ensures sum { sum.new ≡ read_from handle.old.held (λ c. slot_left c slot checksum sum.old) sum.old }
+    ensures { ReadsSlot checksum slot handle.old.held handle.new.held result sum.old sum.new }
 {
     with_cloth!(alloc, handle, cloth => checksum_slot(&cloth, slot, sum))
 }

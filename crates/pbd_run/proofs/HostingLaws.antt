@@ -16,6 +16,7 @@ use Rattle.pbd_io.specs.Pieces.{AppendsPrefix}
 use Rattle.pbd_world.specs.declared.parts.Parts.{Parts}
 use Rattle.pbd_world.specs.Outcomes.{◌>>=◌, with_fault}
 use Rattle.pbd_world.specs.World.{World, opened}
+use Rattle.pbd_script.proofs.CommandLemmas.{pieces_few}
 use Rattle.pbd_host.specs.declared.request.Request.{Request}
 use Rattle.pbd_host.specs.declared.served.Served.{Served}
 use Rattle.pbd_host.specs.Hosted.{hosted_refused, hosted_text, is_refusal, request_text, served, worlds_after}
@@ -29,7 +30,6 @@ use Rattle.pbd_outcome.specs.Statuses.{line_in}
 use Rattle.pbd_outcome.proofs.HostLaws.{as_many, hosted_halves, hosted_on, hosted_scenes}
 use Rattle.pbd_run.specs.Calls.{AddsScene, Does, IsHostable, StopsAtScenes, StopsInScene}
 use Rattle.pbd_run.specs.Forms.{host_on}
-use Rattle.pbd_run.proofs.LoopLaws.{few_pieces}
 use Rattle.pbd_run.proofs.SplitLaws.{inspect}
 
 -- ---- the end of a line
@@ -300,4 +300,4 @@ pub counts_fit : (start ws : List World) (bytes : List ℕ) (ls : List (List ℕ
     (a b : Option (List ℕ)) (refused more : ℕ) (it : Served) → length bytes ≤ 2 ^ 31 → ls ≡ line ∷ left
     → Serves start (pieces bytes) ws ls a b refused → more ≡ cond (is_refusal it) 1 0 → refused + more < 2 ^ 64
 counts_fit start ws bytes ls line left a b refused more it short here has counts =
-    omega (arith, has.few, counts, one_at_most (is_refusal it), ap length here, few_pieces bytes, short)
+    omega (arith, has.few, counts, one_at_most (is_refusal it), ap length here, pieces_few bytes, short)

@@ -9,6 +9,7 @@ pub mod ObjLaws
 pub mod ObjTextLaws
 pub mod RunLaws
 pub mod SceneLaws
+pub mod Served
 pub mod SessionLaws
 pub mod SplitLaws
 pub mod ThirdsLaws

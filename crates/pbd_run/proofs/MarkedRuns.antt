@@ -1,10 +1,6 @@
--- The text of a script with marks, one command after another.
-use Rattle.std.proofs.Common.{◌≡◌, ◌∙◌, sym, ap, refl, ℕ, ◌+◌, ◌<◌, ◌≤◌, List, [], ◌∷◌, ◌++◌, length, Option, Result, Ok, Err, arith}
-use Rattle.std.proofs.Common.{append_assoc, append-nil}
+-- What commands and marks do, and what a script of them is answered.
+use Rattle.std.proofs.Common.{◌≡◌, ◌∙◌, ap, refl, ℕ, ◌+◌, List, [], ◌∷◌, ◌++◌, Option, Result, Ok, Err}
 use Rattle.std.specs.Prelude.{if◌then◌else◌, MatchResult, OnErr}
-use Rattle.std.specs.Io.KnownBytes.{Appends}
-use Rattle.pbd_io.specs.Pieces.{AppendsPrefix}
-use Rattle.pbd_io.specs.Appending.{appends_then, prefix_then, prefix_longer}
 use Rattle.pbd_world.specs.declared.command.Reply.{Reply}
 use Rattle.pbd_world.specs.declared.command.Reply.TheVariants as replies
 use Rattle.pbd_marks.specs.declared.command.MarkCommand.{MarkCommand}
@@ -14,28 +10,7 @@ use Rattle.pbd_marks.specs.Keeping.{Kept}
 use Rattle.pbd_marks.specs.Marked.{Marked, answer, answer_text, is_refused_answer, marked_after, marked_meaning, marked_refused_count}
 use Rattle.pbd_marks.specs.Marked.{marked_text, rewound, set, with_marks, with_world}
 use Rattle.pbd_world.specs.World.{World}
-
--- an answer is at most one refusal
-pub one_more : (a : Result Reply MarkRefusal) → (if is_refused_answer a then 1 else 0) ≤ 1
-one_more (Ok replies.Done) = omega arith
-one_more (Ok replies.Frame) = omega arith
-one_more (Ok replies.Ledger) = omega arith
-one_more (Ok (replies.Refused refusal)) = omega arith
-one_more (Err refusal) = omega arith
-
--- one command is done
-pub fewer : (left : List MarkCommand) (c : MarkCommand) (cs : List MarkCommand) → left ≡ c ∷ cs → length cs < length left
-fewer left c cs is = rw is (omega arith)
-
--- From the state and the commands at the start, it has come to this state and these commands, having appended the texts of
--- the answers.
-pub record Ran (start : Marked) (all : List MarkCommand) (m : Marked) (left : List MarkCommand) (old new : Option (List ℕ))
-    (refused : ℕ) : Type 0 where
-  pub done : List ℕ
-  pub bytes : Appends old new done
-  pub text : done ++ marked_text m left ≡ marked_text start all
-  pub count : refused + marked_refused_count m left ≡ marked_refused_count start all
-  pub few : refused + length left ≤ length all
+use Rattle.pbd_run.specs.Serving.{served_refusals, served_text}
 
 -- a command was done and answered
 pub record Did (m n : Marked) (c : MarkCommand) (a : Result Reply MarkRefusal) : Type 0 where
@@ -89,42 +64,16 @@ rewind_does before now world_of world marks c k r a is same outcome kept said =
       answer = ap (λ (p : Marked × Result Reply MarkRefusal). p.1) e;
     })
 
-pub ran_next : (start : Marked) (all : List MarkCommand) (m n : Marked) (left : List MarkCommand) (c : MarkCommand) (cs : List MarkCommand)
-    (old mid new : Option (List ℕ)) (refused : ℕ) (a : Result Reply MarkRefusal) → Ran start all m left old mid refused → left ≡ c ∷ cs
-    → Did m n c a → Appends mid new (answer_text n.world a) → Ran start all n cs old new (refused + (if is_refused_answer a then 1 else 0))
-unfolding marked_text marked_refused_count
-ran_next start all m n left c cs old mid new refused a ran is did wrote =
-    let here : Ran start all m (c ∷ cs) old mid refused = rw is at ran in
-    let wrote_that : Appends mid new (answer_text (marked_after m c).world (answer m c)) = rw (did.state, did.answer) at wrote in
-    rw (did.state, did.answer) (record {
-      done = here.done ++ answer_text (marked_after m c).world (answer m c);
-      bytes = appends_then _ _ _ _ _ here.bytes wrote_that;
-      text = append_assoc here.done (answer_text (marked_after m c).world (answer m c)) (marked_text (marked_after m c) cs) ∙ here.text;
-      count = omega (arith, here.count);
-      few = omega (arith, here.few, one_more (answer m c));
-    })
+-- ---- the commands of a script
 
-pub ran_failed : (start : Marked) (all : List MarkCommand) (m n : Marked) (left : List MarkCommand) (c : MarkCommand)
-    (cs : List MarkCommand) (old mid new : Option (List ℕ)) (refused : ℕ) (a : Result Reply MarkRefusal)
-    → Ran start all m left old mid refused → left ≡ c ∷ cs → Did m n c a → AppendsPrefix mid new (answer_text n.world a)
-    → AppendsPrefix old new (marked_text start all)
-unfolding marked_text
-ran_failed start all m n left c cs old mid new refused a ran is did wrote =
-    let here : Ran start all m (c ∷ cs) old mid refused = rw is at ran in
-    let wrote_that : AppendsPrefix mid new (answer_text (marked_after m c).world (answer m c)) = rw (did.state, did.answer) at wrote in
-    rw (← here.text) (prefix_then _ _ _ here.done _ here.bytes
-    (prefix_longer _ _ (answer_text (marked_after m c).world (answer m c)) (marked_text (marked_after m c) cs) wrote_that))
+pub served_marks : (m : Marked) (cs : List MarkCommand)
+    → served_text marked_after (λ m c. answer_text (marked_after m c).world (answer m c)) m cs ≡ marked_text m cs
+unfolding served_text marked_text
+served_marks m [] = refl
+served_marks m (c ∷ cs) = ap (λ t. answer_text (marked_after m c).world (answer m c) ++ t) (served_marks (marked_after m c) cs)
 
-pub record Ended (start : Marked) (all : List MarkCommand) (old new : Option (List ℕ)) (refused : ℕ) : Type 0 where
-  pub bytes : Appends old new (marked_text start all)
-  pub count : refused ≡ marked_refused_count start all
-
-pub ran_ends : (start : Marked) (all : List MarkCommand) (m : Marked) (left : List MarkCommand) (old new : Option (List ℕ)) (refused : ℕ)
-    → Ran start all m left old new refused → left ≡ [] → Ended start all old new refused
-unfolding marked_text marked_refused_count
-ran_ends start all m left old new refused ran is =
-    let here : Ran start all m [] old new refused = rw is at ran in
-    record {
-      bytes = rw (sym (append-nil here.done) ∙ here.text) at here.bytes;
-      count = omega (arith, here.count);
-    }
+pub refused_marks : (m : Marked) (cs : List MarkCommand)
+    → served_refusals marked_after (λ m c. is_refused_answer (answer m c)) m cs ≡ marked_refused_count m cs
+unfolding served_refusals marked_refused_count
+refused_marks m [] = refl
+refused_marks m (c ∷ cs) = ap (λ n. (if is_refused_answer (answer m c) then 1 else 0) + n) (refused_marks (marked_after m c) cs)

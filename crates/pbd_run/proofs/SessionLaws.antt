@@ -68,6 +68,11 @@ pub record Told {T E A : Type 0} (r : Result T E) (end : T → A) (text : List �
   pub ended : IfOk r (λ t. end t ≡ k)
   pub cause : HasCause m n r
 
+-- the same, with other words for the text and for the end
+pub told_as : {T E A : Type 0} {r : Result T E} {end : T → A} {text said : List ℕ} {k j : A} {a b : Option (List ℕ)} {m n : ℕ}
+    → text ≡ said → k ≡ j → Told r end text k a b m n → Told r end said j a b m n
+told_as same alike told = rw (← same, ← alike) told
+
 did : {T E A : Type 0} (o : Outcome) (r : Result T E) (end : T → A) (status : A → Status) (k : A) (a b : Option (List ℕ)) (m n : ℕ)
     → ((j : A) → IsEnding (status j)) → o.status ≡ status k → Told r end o.text k a b m n
     → Does o a b m n (status_in (λ t. status (end t)) r)

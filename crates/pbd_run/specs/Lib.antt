@@ -1,4 +1,5 @@
 pub mod Calls
 pub mod Forms
-pub mod Marking
+pub mod Prelude
 pub mod Reading
+pub mod Serving

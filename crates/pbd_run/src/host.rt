@@ -1,9 +1,7 @@
 //! `host`: opens a session for each scene, and does what the tagged lines ask of them.
 ghost use Rattle.std.specs.Prelude.{◌≡◌, ◌<◌, ◌≤◌, ◌^◌, map, length, if◌then◌else◌, IfOk};
-ghost use Rattle.pbd_io.specs.Causes.{HasCause};
-ghost use Rattle.pbd_io.specs.Pieces.{WritesPiece};
+ghost use Rattle.pbd_run.specs.Prelude.{opened, HasCause, WritesPiece};
 ghost use Rattle.pbd_script.specs.Lines.{pieces};
-ghost use Rattle.pbd_world.specs.World.{opened};
 ghost use Rattle.pbd_host.specs.Hosted.{hosted_refused, hosted_text, is_refusal};
 ghost use Rattle.pbd_host.specs.Tagged.{requests_of};
 ghost use Rattle.pbd_outcome.specs.Outcome.{hosted};

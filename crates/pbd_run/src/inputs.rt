@@ -7,7 +7,7 @@ ghost use Rattle.pbd_run.specs.Forms.{job_of, script_on};
 use crate::halves::{Halves, halves_of};
 use crate::marks::{Marking, run_marking};
 use crate::scene::{scene_in, stop_log, stop_scene};
-use crate::task::{OnScene, Task, run_scrambled, run_task};
+use crate::task::{BatchOrder, OnScene, Task, run_task};
 use crate::thirds::thirds_of;
 use pbd_io::Sink;
 use pbd_log::read_log;
@@ -33,25 +33,25 @@ fn on_halves<K: Sink>(alloc: Global, job: ScriptJob, halves: &Halves<'_>, sink: 
     let (text, scene, script) = (halves.text, &halves.scene, halves.script);
     match job {
         ScriptJob::Simulate(width) => {
-            let form = OnScene {
+            let on = OnScene {
                 scene,
                 task: Task::Simulate { script },
             };
-            run_task(alloc, width, form, sink)
+            run_task(alloc, BatchOrder::AtWidth(width), on, sink)
         }
         ScriptJob::Record(width) => {
-            let form = OnScene {
+            let on = OnScene {
                 scene,
                 task: Task::Record { text, script },
             };
-            run_task(alloc, width, form, sink)
+            run_task(alloc, BatchOrder::AtWidth(width), on, sink)
         }
         ScriptJob::Scramble { seed } => {
-            let form = OnScene {
+            let on = OnScene {
                 scene,
                 task: Task::Simulate { script },
             };
-            run_scrambled(alloc, seed, form, sink)
+            run_task(alloc, BatchOrder::Scrambled { seed }, on, sink)
         }
         ScriptJob::Marks(width) => run_marking(alloc, width, Marking { scene, script }, sink),
     }
@@ -75,7 +75,7 @@ pub fn obj_input<K: Sink>(alloc: Global, width: Width, input: &[u8], sink: &mut 
 {
     match thirds_of(alloc, input, sink) {
         Ok(thirds) => {
-            let form = OnScene {
+            let on = OnScene {
                 scene: &thirds.scene,
                 task: Task::Obj {
                     mesh: &thirds.mesh,
@@ -83,7 +83,7 @@ pub fn obj_input<K: Sink>(alloc: Global, width: Width, input: &[u8], sink: &mut 
                     script: thirds.script,
                 },
             };
-            run_task(alloc, width, form, sink)
+            run_task(alloc, BatchOrder::AtWidth(width), on, sink)
         }
         Err(status) => status,
     }
@@ -96,11 +96,11 @@ pub fn replay_input<K: Sink>(alloc: Global, width: Width, input: &[u8], sink: &m
     match read_log(input) {
         Ok(log) => match scene_in(alloc, log.scene(), log.limit()) {
             Ok(scene) => {
-                let form = OnScene {
+                let on = OnScene {
                     scene: &scene,
                     task: Task::Replay { log },
                 };
-                run_task(alloc, width, form, sink)
+                run_task(alloc, BatchOrder::AtWidth(width), on, sink)
             }
             Err(why) => stop_scene(why, sink),
         },

@@ -1,7 +1,6 @@
 //! `large`: takes thirty steps of a generated scene, and writes what came of them.
 ghost use Rattle.std.specs.Prelude.{◌<◌, ◌≡◌, ◌≤◌, [], IfOk};
-ghost use Rattle.pbd_io.specs.Causes.{HasCause};
-ghost use Rattle.pbd_io.specs.Pieces.{WritesPiece};
+ghost use Rattle.pbd_run.specs.Prelude.{HasCause, WritesPiece};
 ghost use Rattle.pbd_world.specs.Meaning.{after, reply};
 ghost use Rattle.pbd_world.specs.declared.command.Command.TheVariants.{Step};
 ghost use Rattle.pbd_outcome.specs.Generated.{summary, summary_head, summary_tail};
@@ -10,7 +9,7 @@ ghost use Rattle.pbd_run.specs.Calls.{Does};
 
 use crate::generated::generated;
 use crate::line::{large_line, sums_line};
-use crate::task::{OnScene, Task, run_task};
+use crate::task::{BatchOrder, OnScene, Task, run_task};
 use pbd_io::{Failed, Sink};
 use pbd_outcome::Status;
 use pbd_pair::Projector;
@@ -101,11 +100,11 @@ pub fn large_run<K: Sink>(alloc: Global, width: Width, large: Large, sink: &mut 
     };
     match Scene::from_parts(alloc, parts) {
         Ok(scene) => {
-            let form = OnScene {
+            let on = OnScene {
                 scene: &scene,
                 task: Task::Large { large },
             };
-            run_task(alloc, width, form, sink)
+            run_task(alloc, BatchOrder::AtWidth(width), on, sink)
         }
         Err(PartsFault::OutOfMemory) => Status::OutOfMemory,
         Err(PartsFault::NotValid) => unreachable!(),

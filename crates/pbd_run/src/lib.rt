@@ -16,6 +16,7 @@ mod obj_text;
 mod reading;
 mod scene;
 mod scenes;
+mod serving;
 mod split;
 mod task;
 mod thirds;

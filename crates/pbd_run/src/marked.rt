@@ -1,15 +1,13 @@
 //! A session, and the marks to which it goes back.
-ghost use Rattle.std.specs.Prelude.{◌≡◌, ◌<◌, ◌≤◌, ◌^◌, if◌then◌else◌, length, IfOk, OnOk, MatchResult, Ok, Err};
-ghost use Rattle.pbd_io.specs.Causes.{HasCause};
-ghost use Rattle.pbd_io.specs.Pieces.{WritesPiece};
-ghost use Rattle.pbd_marks.specs.Marked.{answer, answer_text, is_refused_answer, marked_after, marked_text, marked_refused_count, mark_refusal_line};
-ghost use Rattle.pbd_marks.specs.Script.{mark_commands};
-ghost use Rattle.pbd_run.specs.Marking.{begins_unmarked};
+ghost use Rattle.std.specs.Prelude.{◌≡◌, ◌<◌, ◌≤◌, if◌then◌else◌, IfOk, MatchResult, Ok, Err};
+ghost use Rattle.pbd_run.specs.Prelude.{opened, HasCause, WritesPiece};
+ghost use Rattle.pbd_marks.specs.Marked.{answer, answer_text, is_refused_answer, marked_after, mark_refusal_line, unmarked};
 
+use crate::serving::Serve;
 use pbd_io::{Failed, Sink};
-use pbd_marks::{MarkCommand, MarkRefusal, MarkScript, Marks};
+use pbd_marks::{MarkCommand, MarkRefusal, Marks};
 use pbd_pair::LaneProjector;
-use pbd_session::{RunEnd, Session};
+use pbd_session::Session;
 use pbd_store::Steps;
 use pbd_world::{Reply, Scene};
 use std::alloc::{AllocError, Global};
@@ -71,11 +69,10 @@ fn refusals(answer: &Answer) -> u64
 
 impl<const L: usize> MarkedSession<L> {
     /// The world of a scene before its first command, with empty marks. The only call that takes memory.
-    #[tactic(auto, unfolding(crate::specs::Marking::begins_unmarked))]
     pub fn open(alloc: Global, scene: &Scene) -> Result<MarkedSession<L>, AllocError>
         requires lanes_low { 0 < L }
         requires lanes_high { L ≤ 16 }
-        ensures { IfOk result (λ marked. marked ≡ begins_unmarked scene.now) }
+        ensures { IfOk result (λ marked. marked ≡ unmarked (opened scene.now)) }
     {
         let projector = LaneProjector::<L>::new();
         match Session::open(alloc, scene, projector) {
@@ -121,30 +118,32 @@ impl<const L: usize> MarkedSession<L> {
             Err(refusal) => sink.write(mark_refusal_line(*refusal).as_bytes()),
         }
     }
+}
 
-    /// Does the commands of a script of at most 2^31 bytes, and writes their answers. How many were refused comes back.
-    ///
-    /// `Failed` comes only where the sink's count of faults rose, and then a prefix of the text was appended.
-    pub fn run_script<K: Sink, G: Ledger>(
-        &mut self,
-        script: &[u8],
+/// What does commands and marks on a session that has marks.
+#[derive(Clone, Copy)]
+pub struct WithMarks;
+
+impl<const L: usize> Serve<MarkedSession<L>, MarkCommand> for WithMarks {
+    ghost ready = { λ _. (0 < L) × (L ≤ 16) };
+
+    ghost state_after = { λ _ m c. marked_after m c };
+
+    ghost answer_to = { λ _ m c. answer_text (marked_after m c).world (answer m c) };
+
+    ghost refuses = { λ _ m c. is_refused_answer (answer m c) };
+
+    fn serve<K: Sink, G: Ledger>(
+        &self,
+        state: &mut MarkedSession<L>,
+        command: MarkCommand,
         sink: &mut K,
         steps: &mut Steps<G>,
-    ) -> Result<RunEnd, Failed>
-        requires lanes_low { 0 < L }
-        requires lanes_high { L ≤ 16 }
-        requires script { length script.now ≤ 2 ^ 31 }
-        ensures bytes { WritesPiece (K.written sink.old) (K.written sink.new) result (marked_text self.old (mark_commands script.now)) }
-        ensures refused { IfOk result (λ end. end.refused ≡ marked_refused_count self.old (mark_commands script.now)) }
-        ensures cause { HasCause (K.faults sink.old) (K.faults sink.new) result }
-    {
-        let mut script = MarkScript::new(script);
-        let mut refused = 0;
-        while let Some(command) = script.next() {
-            let answer = self.apply(command, steps);
-            self.write_answer(&answer, sink, steps)?;
-            refused += refusals(&answer);
+    ) -> Result<u64, Failed> {
+        let answer = state.apply(command, steps);
+        match state.write_answer(&answer, sink, steps) {
+            Ok(()) => Ok(refusals(&answer)),
+            Err(failed) => Err(failed),
         }
-        Ok(RunEnd { refused })
     }
 }

@@ -1,13 +1,14 @@
 //! `marks`: runs a script on a scene and goes back to its marks, and writes the replies.
-ghost use Rattle.std.specs.Prelude.{◌≡◌};
+ghost use Rattle.std.specs.Prelude.{◌≡◌, ◌≤◌, ◌^◌, length};
 ghost use Rattle.pbd_run.specs.Calls.{Does};
 ghost use Rattle.pbd_run.specs.Forms.{marks_on};
-ghost use Rattle.pbd_run.specs.Marking.{IsMarkable, begins_unmarked};
 
 use crate::ending::status_of;
 use crate::form::{AtWidth, Form, Settled, with_counter};
-use crate::marked::MarkedSession;
+use crate::marked::{MarkedSession, WithMarks};
+use crate::serving::Serve;
 use pbd_io::Sink;
+use pbd_marks::MarkCommand;
 use pbd_outcome::Status;
 use pbd_store::Steps;
 use pbd_world::{Scene, Width};
@@ -22,7 +23,7 @@ pub struct Marking<'a> {
 }
 
 impl Settled for Marking<'_> {
-    ghost ready = { λ it. IsMarkable it.script.now };
+    ghost ready = { λ it. length it.script.now ≤ 2 ^ 31 };
 
     ghost outcome = { λ it. marks_on it.scene.now it.script.now };
 }
@@ -31,7 +32,13 @@ impl<const L: usize> Form<L> for Marking<'_> {
     fn over<G: Ledger, K: Sink>(self, alloc: Global, sink: &mut K, steps: &mut Steps<G>) -> Status {
         match MarkedSession::<L>::open(alloc, self.scene) {
             Ok(mut marked) => {
-                let ended = marked.run_script(self.script, sink, steps);
+                let ended = <WithMarks as Serve<MarkedSession<L>, MarkCommand>>::serve_script(
+                    &WithMarks,
+                    &mut marked,
+                    self.script,
+                    sink,
+                    steps,
+                );
                 drop(marked);
                 status_of(ended)
             }
@@ -42,7 +49,7 @@ impl<const L: usize> Form<L> for Marking<'_> {
 
 /// Runs a script with marks at a width.
 pub fn run_marking<K: Sink>(alloc: Global, width: Width, form: Marking<'_>, sink: &mut K) -> Status
-    requires { IsMarkable form.script.now }
+    requires { length form.script.now ≤ 2 ^ 31 }
     ensures { Does (marks_on form.entry.scene.now form.entry.script.now)
         (K.written sink.old) (K.written sink.new) (K.faults sink.old) (K.faults sink.new) result }
 {

@@ -1,22 +1,21 @@
 //! Replies as OBJ text: a frame is a mesh, and all else is comments.
-ghost use Rattle.std.specs.Prelude.{◌≡◌, ◌<◌, ◌≤◌, ◌^◌, ◌++◌, length, IfOk, if◌then◌else◌};
+ghost use Rattle.std.specs.Prelude.{◌≡◌, ◌<◌, ◌≤◌, if◌then◌else◌};
 ghost use Rattle.std.specs.List.{flat_map};
-ghost use Rattle.pbd_io.specs.Causes.{HasCause};
-ghost use Rattle.pbd_io.specs.Pieces.{WritesPiece};
+ghost use Rattle.pbd_run.specs.Prelude.{HasCause, WritesPiece};
 ghost use Rattle.pbd_obj.specs.Meshes.{faces};
 ghost use Rattle.pbd_obj.specs.Writing.{face_line};
-ghost use Rattle.pbd_script.specs.Commands.{commands};
-ghost use Rattle.pbd_world.specs.Session.{is_refused, refused_count};
-ghost use Rattle.pbd_outcome.specs.ObjText.{obj_frame, obj_session_text, obj_text, particle_line};
+ghost use Rattle.pbd_world.specs.Meaning.{after, reply};
+ghost use Rattle.pbd_world.specs.Session.{is_refused};
+ghost use Rattle.pbd_outcome.specs.ObjText.{obj_frame, obj_text, particle_line};
 ghost use Rattle.pbd_run.specs.Calls.{IsDrawable};
 
+use crate::serving::Serve;
 use pbd_io::{Failed, Sink};
 use pbd_obj::{ObjMesh, write_face, write_vertex};
 use pbd_pair::Projector;
-use pbd_script::Script;
-use pbd_session::{RunEnd, Session};
+use pbd_session::Session;
 use pbd_store::Steps;
-use pbd_world::Reply;
+use pbd_world::{Command, Reply};
 use std::sync::ledger::Ledger;
 
 /// What stands before a line that is no part of a mesh.
@@ -114,32 +113,28 @@ impl Faces<'_> {
             }
         }
     }
+}
 
-    /// Does the commands of a script, and writes their replies as OBJ text.
-    /// `Failed` comes only where the sink's count of faults rose, and then a prefix of these bytes was appended.
-    pub fn run_script<const L: usize, P: Projector<L> + Drop, K: Sink, G: Ledger>(
+impl<const L: usize, P: Projector<L> + Drop> Serve<Session<L, P>, Command> for Faces<'_> {
+    ghost ready = { λ it. (0 < L) × (L ≤ 16) × IsDrawable it.base it.mesh.now };
+
+    ghost state_after = { λ _ w c. after w c };
+
+    ghost answer_to = { λ it w c. obj_text it.base it.mesh.now (after w c) (reply w c) };
+
+    ghost refuses = { λ _ w c. is_refused (reply w c) };
+
+    fn serve<K: Sink, G: Ledger>(
         &self,
-        session: &mut Session<L, P>,
-        script: &[u8],
+        state: &mut Session<L, P>,
+        command: Command,
         sink: &mut K,
         steps: &mut Steps<G>,
-    ) -> Result<RunEnd, Failed>
-        requires lanes_low { 0 < L }
-        requires lanes_high { L ≤ 16 }
-        requires drawable { IsDrawable self.now.base self.now.mesh.now }
-        requires script { length script.now ≤ 2 ^ 31 }
-        ensures bytes { WritesPiece (K.written sink.old) (K.written sink.new) result
-            (obj_session_text self.now.base self.now.mesh.now session.old (commands script.now)) }
-        ensures refused { IfOk result (λ end. end.refused ≡ refused_count session.old (commands script.now)) }
-        ensures cause { HasCause (K.faults sink.old) (K.faults sink.new) result }
-    {
-        let mut script = Script::new(script);
-        let mut refused = 0;
-        while let Some(command) = script.next() {
-            let reply = session.apply(&command, steps);
-            self.write_reply(session, &reply, sink, steps)?;
-            refused += refusals(&reply);
+    ) -> Result<u64, Failed> {
+        let reply = state.apply(&command, steps);
+        match self.write_reply(state, &reply, sink, steps) {
+            Ok(()) => Ok(refusals(&reply)),
+            Err(failed) => Err(failed),
         }
-        Ok(RunEnd { refused })
     }
 }

@@ -8,6 +8,7 @@ use crate::ending::status_of;
 use crate::form::{AtWidth, Counted, Form, Settled, with_counter};
 use crate::large::Large;
 use crate::obj_text::Faces;
+use crate::serving::Serve;
 use pbd_io::Sink;
 use pbd_log::LogView;
 use pbd_obj::ObjMesh;
@@ -16,7 +17,7 @@ use pbd_pair::{LaneProjector, Projector};
 use pbd_schedule::ScrambleProjector;
 use pbd_session::{Session, run_record, run_replay, run_script};
 use pbd_store::Steps;
-use pbd_world::{Scene, Width};
+use pbd_world::{Command, Scene, Width};
 use std::alloc::{AllocError, Global};
 use std::sync::ledger::Ledger;
 
@@ -83,33 +84,44 @@ fn on_session<const L: usize, P: Projector<L> + Drop, G: Ledger, K: Sink>(
         }
         Task::Obj { mesh, base, script } => {
             let faces = Faces { mesh, base };
-            status_of(faces.run_script(session, script, sink, steps))
+            status_of(<Faces as Serve<Session<L, P>, Command>>::serve_script(
+                &faces, session, script, sink, steps,
+            ))
         }
         Task::Replay { log } => status_of(run_replay(session, log, sink, steps)),
         Task::Large { large } => status_of(large.run(session, sink, steps)),
     }
 }
 
-impl<const L: usize> Form<L> for OnScene<'_> {
-    fn over<G: Ledger, K: Sink>(self, alloc: Global, sink: &mut K, steps: &mut Steps<G>) -> Status {
-        match Session::open(alloc, self.scene, LaneProjector::<L>::new()) {
-            Ok(mut session) => {
-                let status = on_session(self, &mut session, sink, steps);
-                drop(session);
-                status
-            }
-            Err(AllocError) => Status::OutOfMemory,
+/// Does the task on what came of opening its session, and lets the session go.
+fn on_opened<const L: usize, P: Projector<L> + Drop, G: Ledger, K: Sink>(
+    it: OnScene<'_>,
+    outcome: Result<Session<L, P>, AllocError>,
+    sink: &mut K,
+    steps: &mut Steps<G>,
+) -> Status
+    requires lanes_low { 0 < L }
+    requires lanes_high { L ≤ 16 }
+    requires begins { IfOk outcome (λ session. session ≡ opened it.scene.now) }
+    requires ready { IsReady it.task it.scene.now }
+    ensures { Does (task_on it.entry.task it.entry.scene.now)
+        (K.written sink.old) (K.written sink.new) (K.faults sink.old) (K.faults sink.new) result }
+{
+    match outcome {
+        Ok(mut session) => {
+            let status = on_session(it, &mut session, sink, steps);
+            drop(session);
+            status
         }
+        Err(AllocError) => Status::OutOfMemory,
     }
 }
 
-/// Runs a task at a width.
-pub fn run_task<K: Sink>(alloc: Global, width: Width, form: OnScene<'_>, sink: &mut K) -> Status
-    requires { IsReady form.task form.scene.now }
-    ensures { Does (task_on form.entry.task form.entry.scene.now)
-        (K.written sink.old) (K.written sink.new) (K.faults sink.old) (K.faults sink.new) result }
-{
-    with_counter(alloc, AtWidth { width, form }, sink)
+impl<const L: usize> Form<L> for OnScene<'_> {
+    fn over<G: Ledger, K: Sink>(self, alloc: Global, sink: &mut K, steps: &mut Steps<G>) -> Status {
+        let outcome = Session::open(alloc, self.scene, LaneProjector::<L>::new());
+        on_opened(self, outcome, sink, steps)
+    }
 }
 
 /// A task on the session that a scene opens, with the reads and writes of each batch in an order that the words of a
@@ -144,22 +156,26 @@ fn open_scrambled(
 impl Counted for Scrambled<'_> {
     fn run<G: Ledger, K: Sink>(self, alloc: Global, sink: &mut K, steps: &mut Steps<G>) -> Status {
         let Scrambled { on, seed } = self;
-        match open_scrambled(alloc, on.scene, seed) {
-            Ok(mut session) => {
-                let status = on_session(on, &mut session, sink, steps);
-                drop(session);
-                status
-            }
-            Err(AllocError) => Status::OutOfMemory,
-        }
+        let outcome = open_scrambled(alloc, on.scene, seed);
+        on_opened(on, outcome, sink, steps)
     }
 }
 
-/// Runs a task with each batch in the orders of a seed.
-pub fn run_scrambled<K: Sink>(alloc: Global, seed: u64, on: OnScene<'_>, sink: &mut K) -> Status
+/// In which order the bonds of a batch are projected: side by side at a width, or as a seed draws it.
+#[derive(Clone, Copy, Debug, PartialEq, Eq)]
+pub enum BatchOrder {
+    AtWidth(Width),
+    Scrambled { seed: u64 },
+}
+
+/// Runs a task, in any order the same.
+pub fn run_task<K: Sink>(alloc: Global, order: BatchOrder, on: OnScene<'_>, sink: &mut K) -> Status
     requires { IsReady on.task on.scene.now }
     ensures { Does (task_on on.entry.task on.entry.scene.now)
         (K.written sink.old) (K.written sink.new) (K.faults sink.old) (K.faults sink.new) result }
 {
-    with_counter(alloc, Scrambled { on, seed }, sink)
+    match order {
+        BatchOrder::AtWidth(width) => with_counter(alloc, AtWidth { width, form: on }, sink),
+        BatchOrder::Scrambled { seed } => with_counter(alloc, Scrambled { on, seed }, sink),
+    }
 }

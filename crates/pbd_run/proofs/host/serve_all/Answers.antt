@@ -1,8 +1,8 @@
 use Rattle.std.proofs.Common.{◌≡◌, ◌∷◌, arith, rules}
 use Rattle.std.proofs.lemmas.Result.{err_from_is_err_and}
-use Rattle.pbd_script.specs.Lines.{pieces}
+use Rattle.pbd_script.specs.Lines.{left_of, pieces}
 use Rattle.pbd_run.proofs.HostingLaws.{counts_fit, serves_begin, serves_end, serves_failed, serves_next}
-use Rattle.pbd_run.proofs.LoopLaws.{first_left, left_of, none_left, shorter}
+use Rattle.pbd_run.proofs.LoopLaws.{first_left, none_left, shorter}
 use Rattle.pbd_run.proofs.host.serve_all.Goals as goal
 
 -- the line of this turn, and those behind it

@@ -1,7 +1,6 @@
 use Rattle.std.proofs.Common.{◌≤◌, length}
-use Rattle.pbd_script.specs.Lines.{pieces}
+use Rattle.pbd_script.specs.Lines.{left_of, pieces}
 use Rattle.pbd_run.proofs.HostingLaws.{Serves}
-use Rattle.pbd_run.proofs.LoopLaws.{left_of}
 use Rattle.pbd_run.proofs.host.serve_all.Given as goal
 
 -- the lines so far are served

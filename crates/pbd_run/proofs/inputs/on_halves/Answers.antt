@@ -7,10 +7,7 @@ pub returns-in-Record : goal.returns-in-Record
 returns-in-Record g c = rw c.in-Record.is c.run_task-in-Record.ensures
 
 pub returns-in-Scramble : goal.returns-in-Scramble
-returns-in-Scramble g c = rw c.in-Scramble.is c.run_scrambled.ensures
+returns-in-Scramble g c = rw c.in-Scramble.is c.run_task-in-Scramble.ensures
 
 pub returns-in-Marks : goal.returns-in-Marks
 returns-in-Marks g c = rw c.in-Marks.is c.run_marking.ensures
-
-pub run_marking-requires : goal.run_marking-requires
-run_marking-requires g c = record { short = c.requires.short_script }

@@ -1,7 +1,8 @@
 use Rattle.std.proofs.Common.{◌≡◌, ◌∙◌, ◌∷◌, refl}
 use Rattle.pbd_outcome.specs.Split.{scenes}
 use Rattle.pbd_run.proofs.HostingLaws.{begins_with, read_ends, read_next, read_stops}
-use Rattle.pbd_run.proofs.LoopLaws.{first_left, left_of, none_left, shorter}
+use Rattle.pbd_run.proofs.LoopLaws.{first_left, none_left, shorter}
+use Rattle.pbd_script.specs.Lines.{left_of}
 use Rattle.pbd_run.proofs.scenes.read_scenes.Goals as goal
 
 -- the scene of this turn, and those behind it

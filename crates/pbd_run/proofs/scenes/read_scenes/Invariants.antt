@@ -1,7 +1,7 @@
 use Rattle.std.proofs.Common.{◌≡◌, length}
 use Rattle.pbd_outcome.specs.Split.{scenes}
 use Rattle.pbd_run.proofs.HostingLaws.{HasRead}
-use Rattle.pbd_run.proofs.LoopLaws.{left_of}
+use Rattle.pbd_script.specs.Lines.{left_of}
 use Rattle.pbd_run.proofs.scenes.read_scenes.Given as goal
 
 -- so many scenes are read, and nothing is written

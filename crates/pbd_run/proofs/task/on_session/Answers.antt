@@ -1,4 +1,5 @@
-use Rattle.pbd_run.proofs.SessionLaws.{obj_did, record_did, replay_did, script_did, steps_did}
+use Rattle.pbd_run.proofs.ObjLaws.{refused_commands, served_obj}
+use Rattle.pbd_run.proofs.SessionLaws.{obj_did, record_did, replay_did, script_did, steps_did, told_as}
 use Rattle.pbd_run.proofs.task.on_session.Goals as goal
 
 pub returns-in-Simulate : goal.returns-in-Simulate
@@ -14,11 +15,17 @@ returns-in-Record g c =
     rw c.in-Record.is (record_did _ c.in-Record.text.now c.args.it.scene.now c.in-Record.script.now _ _ _ _ _ _ c.requires.begins ready.limit
     c.status_of-in-Record.ensures (record { bytes = run.bytes; ended = run.refused; cause = run.cause }))
 
+pub serve_script-requires-clause-ready : goal.serve_script-requires-clause-ready
+serve_script-requires-clause-ready g c =
+    let ready = rw c.in-Obj.is at c.requires.ready in
+    (c.requires.lanes_low, c.requires.lanes_high, ready.0)
+
 pub returns-in-Obj : goal.returns-in-Obj
 returns-in-Obj g c =
-    let run = c.run_script-in-Obj.ensures in
+    let run = c.serve_script.ensures in
     rw c.in-Obj.is (obj_did c.in-Obj.base c.in-Obj.mesh.now _ c.args.it.scene.now c.in-Obj.script.now _ _ _ _ _ _
-    c.requires.begins c.status_of-in-Obj.ensures (record { bytes = run.bytes; ended = run.refused; cause = run.cause }))
+    c.requires.begins c.status_of-in-Obj.ensures (told_as (served_obj _ _ _ _) (refused_commands _ _)
+    (record { bytes = run.bytes; ended = run.refused; cause = run.cause })))
 
 pub returns-in-Replay : goal.returns-in-Replay
 returns-in-Replay g c =
