@@ -14,7 +14,7 @@ FORMS = {"cape.txt": "obj", "rollback.txt": "marks", "host.txt": "host"}
 
 def rows():
     """Returns the inputs of the worked rows, each with its form."""
-    text = (TOP / "crates/pbd_tests_run/src/rows.rt").read_text()
+    text = (TOP / "crates/pbd_tests_run/src/tests/rows.rt").read_text()
     found = [(form, given.replace("\\r", "\r").replace("\\t", "\t").replace("; ", "\n")) for form, given in ROW.findall(text)]
     if len(found) < 80:
         raise SystemExit("rows.rt of pbd_tests_run has other rows than this tool reads")

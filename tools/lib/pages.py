@@ -182,7 +182,8 @@ def wrong_tests():
                 crate = span if found else crate
                 continue
             file = found.group(1) or file
-            source = f"{TOP}/crates/{crate}/src/{file}"
+            inner = f"{TOP}/crates/{crate}/src/tests/{file}"
+            source = inner if os.path.isfile(inner) else f"{TOP}/crates/{crate}/src/{file}"
             if not os.path.isfile(source) or not re.search(rf"\b(?:fn|static|const) {found.group(2)}\b", text_of(source)):
                 yield f"{title_of(path)}:{number}: {crate}/src/{file} has no `{found.group(2)}`"
 

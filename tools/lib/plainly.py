@@ -151,6 +151,8 @@ def in_rust(text, kit):
     """Returns a source without contracts with the traits and allocating calls that stand in for those of the sources."""
     text = in_code(r"#\[derive\(([^)]*)\)\]", derives, text)
     text = in_code(r"\bDrop\b", "Sized", text)
+    # (a method of a trait that no impl may have anew; Rust has no word for that yet)
+    text = in_code(r"\bfinal (?=fn\b)", "", text)
     text = in_code(r"(?<![\w:])(Vec|Box|String)\b(?=[<:])", rf"{kit}::\1", text)
     text = in_code(r"\.collect\((?=[^)])", ".collect_in(", text)
     return in_code(r"\.to_vec\((?=[^)])", ".copied_in(", text)

@@ -1,5 +1,5 @@
 //! Tests of marks and their scripts.
 #![tactic(auto)]
 
-mod lines;
-mod worlds;
+#[cfg(test)]
+mod tests;

@@ -1,6 +1,8 @@
-//! What tests of parts share: places and particles, whether a vector is within a bound, and what is told of a row of a table.
+//! What crates of tests share: places, particles, planes and links, whether a vector is within a bound, what is told of a row of
+//! a table, and bytes of logs.
 #![tactic(auto)]
 
+pub mod logs;
 mod places;
 mod told;
 mod within;

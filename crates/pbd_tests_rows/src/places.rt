@@ -1,4 +1,4 @@
-//! Places and particles.
+//! Places, particles, planes and links.
 use pbd_num::Vec3;
 
 /// The numbers of a place, axis by axis.
@@ -54,10 +54,19 @@ macro_rules! resting {
 macro_rules! held {
     ($x:expr, $y:expr, $z:expr) => {
         Particle {
-            at: $crate::place!($x, $y, $z),
-            before: $crate::place!($x, $y, $z),
-            weight: 1,
             held: true,
+            ..$crate::resting!($x, $y, $z)
+        }
+    };
+}
+
+/// A plane with this normal at this offset.
+#[macro_export]
+macro_rules! plane {
+    ($x:expr, $y:expr, $z:expr, $offset:expr) => {
+        Plane {
+            normal: $crate::place!($x, $y, $z),
+            offset: $offset,
         }
     };
 }

@@ -50,3 +50,17 @@ macro_rules! at_widths {
         come_to
     }};
 }
+
+/// Tests a table row by row: what a row comes to is what it wants. Each row that comes to something else is told, behind it what
+/// was asked of it, and the rest of the table runs.
+#[macro_export]
+macro_rules! each_row {
+    ($rt:expr, $rows:expr, $what:expr, $row:pat => $came_to:expr, $wanted:expr) => {{
+        let mut wrong = 0u32;
+        for row in $rows {
+            let $row = row;
+            wrong = wrong.saturating_add($crate::wrong_row(&$rt, (row, $what), &$came_to, $wanted));
+        }
+        $crate::all_hold(wrong)
+    }};
+}

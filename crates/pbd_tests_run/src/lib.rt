@@ -2,12 +2,5 @@
 //! lines, sixteen sessions in a hundred drawn orders, cloths, and sources and sinks that fail.
 #![tactic(auto)]
 
-mod apart;
-mod cloths;
-mod generated;
-mod logs;
-mod meshes;
-mod outside;
-mod rows;
-mod tags;
-mod written;
+#[cfg(test)]
+mod tests;

@@ -2,9 +2,5 @@
 //! another reads; digests and checksums.
 #![tactic(auto)]
 
-mod drawn;
-mod hostile;
-mod names;
-mod rows;
-mod sessions;
-mod sums;
+#[cfg(test)]
+mod tests;

@@ -2,20 +2,4 @@
 #![tactic(auto)]
 
 #[cfg(test)]
-mod io;
-#[cfg(test)]
-mod line;
-#[cfg(test)]
-mod log;
-#[cfg(test)]
-mod mesh;
-#[cfg(test)]
-mod obj;
-#[cfg(test)]
-mod parts;
-#[cfg(test)]
-mod scene;
-#[cfg(test)]
-mod scene_keys;
-#[cfg(test)]
-mod script;
+mod tests;

@@ -1,0 +1,3 @@
+//! The tests, of lines and of worlds.
+mod lines;
+mod worlds;

@@ -1,4 +1,0 @@
-use Rattle.pbd_tests_schedule.proofs.drawn.a_seed_draws_its_events.Given as goal
-
-abbrev pub ghosts-tried : goal.ghosts-tried
-ghosts-tried g a = record { name = a.blank.name; parts = a.blank.parts }

@@ -1,0 +1,662 @@
+//! A million projections of random bonds: links and contacts, short and long ones, of all weights. At each width both projectors
+//! come to the same worlds, or meet the same refusal.
+ghost use Rattle.std.specs.Prelude.{◌≡◌, ◌<◌, ◌≤◌, pos, neg_ℤ, ◌≤ℤ◌};
+
+use super::both::Both;
+use super::drawing::scene_of;
+use pbd_num::{RANGE, Vec3};
+use pbd_pair::Projector;
+use pbd_step::Solver;
+use pbd_store::Steps;
+use pbd_tests_rows::{WrongRows, all_hold, at_widths, wrong_row};
+use pbd_world::{Kind, Link, Particle, Parts, PartsFault, Refusal, Scene, Totals};
+use rand_core::utils::NextWord;
+use rand_pcg::Lcg64Xsh32;
+use std::alloc::{AllocError, Global};
+use std::marker::Brand;
+use std::sync::ledger::{Blank, Ledger};
+
+/// How far apart pairs of particles are, and how far they should be. Their first ends lie anywhere in a cube, and their second
+/// ends in another one: both have 2^n places a side. A pair is joined by a link, or, where there is a thickness, touches where
+/// it is nearer.
+#[derive(Clone, Copy)]
+struct Lengths {
+    name: &'static str,
+    /// How often they are drawn.
+    draws: u8,
+    pairs: u16,
+    /// Where the cube of first ends begins, on each axis.
+    from: i64,
+    places: u32,
+    /// How far from the first end the middle of the cube of second ends is, along one of the axes.
+    along: i64,
+    ways: u32,
+    /// How far that is in one pair of 128, where it isn't 0.
+    stray: i64,
+    /// The least rest length, and by how much others are greater.
+    rest: i64,
+    rests: u32,
+    thickness: i64,
+    passes: u32,
+}
+
+const SHORT: Lengths = Lengths {
+    name: "short links",
+    draws: 1,
+    pairs: 8_192,
+    from: -134_217_728,
+    places: 0x0fff_ffff,
+    along: 0,
+    ways: 0x3fff,
+    stray: 0,
+    rest: 0,
+    rests: 0x3fff,
+    thickness: 0,
+    passes: 3,
+};
+
+const CONTACTS: Lengths = Lengths {
+    name: "contacts",
+    ways: 0x1fff,
+    thickness: 15_000,
+    ..SHORT
+};
+
+/// A chunk of 128 bonds, each with a held end or ends of one weight, goes by loops of 32-bit numbers where all rest lengths are
+/// below 16,384 and all ways within 32,768. Else it goes by loops of 64-bit numbers where all moves are within 4,194,304, and one
+/// by one elsewhere.
+// Links shorter than half a metre, but for strays.
+static SHORT_LINKS: [Lengths; 8] = [
+    SHORT,
+    Lengths {
+        name: "links that are nearly as long as they should be",
+        ways: 0xff,
+        rests: 0xff,
+        ..SHORT
+    },
+    Lengths {
+        name: "longer links that are nearly as long as they should be",
+        along: 12_000,
+        ways: 0xff,
+        rest: 11_900,
+        rests: 0xff,
+        ..SHORT
+    },
+    Lengths {
+        name: "short links that are too long",
+        ways: 0xffff,
+        ..SHORT
+    },
+    Lengths {
+        name: "short links that are far too long",
+        ways: 0x000f_ffff,
+        ..SHORT
+    },
+    Lengths {
+        name: "short links, one in 128 of which is too long",
+        stray: 100_000,
+        ..SHORT
+    },
+    Lengths {
+        name: "short links, one in 128 of which is far too long",
+        stray: 500_000,
+        ..SHORT
+    },
+    Lengths {
+        name: "short links, one in 128 of which is half a metre long",
+        along: 20_000,
+        ways: 3,
+        stray: 32_767,
+        ..SHORT
+    },
+];
+
+// Links of a fourth of a metre and more.
+static LONG_LINKS: [Lengths; 12] = [
+    Lengths {
+        name: "links of a metre",
+        ways: 0x0001_ffff,
+        rests: 0xffff,
+        ..SHORT
+    },
+    Lengths {
+        name: "long links",
+        ways: 0x00ff_ffff,
+        rests: 0x01ff_ffff,
+        ..SHORT
+    },
+    Lengths {
+        name: "links that are just shorter than half a metre",
+        along: 32_765,
+        ways: 3,
+        rest: 16_380,
+        rests: 3,
+        ..SHORT
+    },
+    Lengths {
+        name: "links of half a metre",
+        along: 32_766,
+        ways: 3,
+        rest: 16_380,
+        rests: 3,
+        ..SHORT
+    },
+    Lengths {
+        name: "links of a fourth of a metre",
+        along: 16_383,
+        ways: 3,
+        rest: 16_381,
+        rests: 3,
+        ..SHORT
+    },
+    Lengths {
+        name: "links of half a metre, nearly as long as they should be",
+        along: 32_766,
+        ways: 3,
+        rest: 32_766,
+        rests: 3,
+        ..SHORT
+    },
+    Lengths {
+        name: "links of a metre that should have no length",
+        along: 65_537,
+        ways: 3,
+        rests: 3,
+        ..SHORT
+    },
+    Lengths {
+        name: "links of two metres that should be one metre long",
+        along: 131_071,
+        ways: 3,
+        rest: 65_534,
+        rests: 3,
+        ..SHORT
+    },
+    Lengths {
+        name: "links of two metres that should have no length",
+        along: 131_071,
+        ways: 3,
+        rests: 3,
+        ..SHORT
+    },
+    Lengths {
+        name: "links of 64 metres that should have no length",
+        pairs: 2_048,
+        along: 4_194_305,
+        ways: 3,
+        rests: 3,
+        ..SHORT
+    },
+    Lengths {
+        name: "links of 128 metres that should have no length",
+        pairs: 2_048,
+        along: 8_388_607,
+        ways: 3,
+        rests: 3,
+        ..SHORT
+    },
+    Lengths {
+        name: "short links, one in 128 of which is 200 metres long",
+        pairs: 2_048,
+        stray: 13_107_200,
+        ..SHORT
+    },
+];
+
+// Pairs that touch.
+static TOUCHING: [Lengths; 6] = [
+    CONTACTS,
+    Lengths {
+        name: "contacts, and pairs that don't touch",
+        ways: 0x7fff,
+        ..CONTACTS
+    },
+    Lengths {
+        name: "contacts of a crowd",
+        pairs: 4_096,
+        places: 0x0007_ffff,
+        ..CONTACTS
+    },
+    Lengths {
+        name: "contacts of the greatest thickness, and pairs that don't touch",
+        ways: 0x001f_ffff,
+        thickness: 1_048_576,
+        ..CONTACTS
+    },
+    Lengths {
+        name: "contacts just closer than a fourth of a metre",
+        along: 16_382,
+        ways: 3,
+        thickness: 16_383,
+        ..CONTACTS
+    },
+    Lengths {
+        name: "contacts closer than a fourth of a metre",
+        along: 16_383,
+        ways: 3,
+        thickness: 16_384,
+        ..CONTACTS
+    },
+];
+
+// Links at the edge of the range, of which some leave it.
+static AT_THE_EDGE: [Lengths; 4] = [
+    Lengths {
+        name: "links of a few units, pulled out of the range at its edge",
+        draws: 4,
+        pairs: 512,
+        from: RANGE - 0xffff,
+        places: 0xffff,
+        rests: 0x3fff,
+        ..SHORT
+    },
+    Lengths {
+        name: "short links, seldom pulled out of the range at its edge",
+        draws: 4,
+        pairs: 512,
+        from: RANGE - 0x003f_ffff,
+        places: 0x003f_ffff,
+        ..SHORT
+    },
+    Lengths {
+        name: "links of half a metre, seldom pulled out of the range at its edge",
+        draws: 4,
+        pairs: 512,
+        from: -RANGE,
+        places: 0x000f_ffff,
+        ways: 0xffff,
+        rests: 0x7fff,
+        ..SHORT
+    },
+    Lengths {
+        name: "links of any length, pushed out of the range",
+        draws: 4,
+        pairs: 64,
+        from: -RANGE,
+        places: 0x3fff_ffff,
+        ways: 0x1fff_ffff,
+        rests: 0x7fff_ffff,
+        passes: 1,
+        ..SHORT
+    },
+];
+
+/// The inverse masses of the ends.
+#[derive(Clone, Copy)]
+struct Masses {
+    name: &'static str,
+    /// Each end has one of these, where 0 is any from 1 to 65,535.
+    weights: [u16; 8],
+    /// What the second end of one pair in 128 has, where it isn't 0.
+    stray: u16,
+    /// How many of 64 ends are held.
+    held: u32,
+    /// Which words they are drawn from.
+    stream: u64,
+}
+
+static MASSES: [Masses; 6] = [
+    Masses {
+        name: "one weight",
+        weights: [1; 8],
+        stray: 0,
+        held: 0,
+        stream: 1,
+    },
+    Masses {
+        name: "one weight, one of eight ends held",
+        weights: [65_535; 8],
+        stray: 0,
+        held: 8,
+        stream: 2,
+    },
+    Masses {
+        name: "one weight, few ends held",
+        weights: [300; 8],
+        stray: 0,
+        held: 1,
+        stream: 3,
+    },
+    Masses {
+        name: "one weight but in one pair of 128",
+        weights: [2; 8],
+        stray: 300,
+        held: 0,
+        stream: 4,
+    },
+    Masses {
+        name: "any weights",
+        weights: [0; 8],
+        stray: 0,
+        held: 8,
+        stream: 5,
+    },
+    Masses {
+        name: "weights of which two are the same as often as not",
+        weights: [1, 1, 1, 1, 65_535, 65_535, 2, 300],
+        stray: 0,
+        held: 8,
+        stream: 6,
+    },
+];
+
+#[derive(Clone, Copy)]
+struct Family {
+    lengths: Lengths,
+    masses: Masses,
+}
+
+/// A number from 0 up to a greatest one, all of whose bits are set.
+fn up_to(words: &mut Lcg64Xsh32, greatest: u32) -> i64
+    ensures low { pos 0 ≤ℤ result }
+    ensures high { result ≤ℤ pos 4294967295 }
+{
+    i64::from(words.next_word() & greatest)
+}
+
+/// A number from one on, of so many, as far as the range goes.
+fn axis_from(words: &mut Lcg64Xsh32, from: i64, greatest: u32) -> i64
+    ensures low { neg_ℤ (pos 536870912) ≤ℤ result }
+    ensures high { result ≤ℤ pos 536870912 }
+{
+    (from.clamp(-RANGE, RANGE) + up_to(words, greatest)).clamp(-RANGE, RANGE)
+}
+
+/// A place in a cube with so many places a side.
+fn place_from(words: &mut Lcg64Xsh32, from: Vec3, greatest: u32) -> Vec3 {
+    Vec3 {
+        x: axis_from(words, from.x, greatest),
+        y: axis_from(words, from.y, greatest),
+        z: axis_from(words, from.z, greatest),
+    }
+}
+
+/// A way along one of the axes, forth or back.
+fn way_along(words: &mut Lcg64Xsh32, length: i64) -> Vec3 {
+    let length = length.clamp(-RANGE, RANGE);
+    let back = words.next_word() & 1 == 0;
+    let mut axes = [0i64; 3];
+    axes[(words.next_word() % 3) as usize] = if back { -length } else { length };
+    Vec3 {
+        x: axes[0],
+        y: axes[1],
+        z: axes[2],
+    }
+}
+
+/// Where a cube with so many places a side begins on one axis, whose middle is a way from a place.
+fn begin(place: i64, way: i64, greatest: u32) -> i64 {
+    place.clamp(-RANGE, RANGE) + way.clamp(-RANGE, RANGE) - i64::from(greatest / 2)
+}
+
+/// The corner of a cube with so many places a side, whose middle is a way from a place.
+fn corner(place: Vec3, way: Vec3, greatest: u32) -> Vec3 {
+    Vec3 {
+        x: begin(place.x, way.x, greatest),
+        y: begin(place.y, way.y, greatest),
+        z: begin(place.z, way.z, greatest),
+    }
+}
+
+/// The places of a pair.
+fn places_of(words: &mut Lcg64Xsh32, lengths: &Lengths, is_stray: bool) -> [Vec3; 2] {
+    let from = Vec3 {
+        x: lengths.from,
+        y: lengths.from,
+        z: lengths.from,
+    };
+    let first = place_from(words, from, lengths.places);
+    let is_stray = is_stray && lengths.stray != 0;
+    let along = if is_stray {
+        lengths.stray
+    } else {
+        lengths.along
+    };
+    let way = way_along(words, along);
+    let from = corner(first, way, lengths.ways);
+    [first, place_from(words, from, lengths.ways)]
+}
+
+/// A particle at rest.
+fn particle_at(words: &mut Lcg64Xsh32, at: Vec3, masses: &Masses) -> Particle {
+    let listed = masses.weights[(words.next_word() & 7) as usize];
+    let any = (1 + words.next_word() % 65_535) as u16;
+    Particle {
+        at,
+        before: at,
+        weight: if listed == 0 { any } else { listed },
+        held: words.next_word() & 63 < masses.held,
+    }
+}
+
+/// The link of pair j. Half of all have the whole stiffness.
+fn link_of(words: &mut Lcg64Xsh32, lengths: &Lengths, j: u16) -> Link {
+    let a = 2 * u32::from(j);
+    let whole = words.next_word() & 1 == 0;
+    let some = (words.next_word() % 257) as u16;
+    Link {
+        a,
+        b: a + 1,
+        rest: lengths.rest.clamp(0, RANGE) + up_to(words, lengths.rests),
+        k: if whole { 256 } else { some },
+        tear: 0,
+        kind: Kind::Plain,
+        live: true,
+    }
+}
+
+/// Adds pair j to parts.
+fn draw_pair(
+    words: &mut Lcg64Xsh32,
+    family: &Family,
+    j: u16,
+    parts: &mut Parts,
+) -> Result<(), AllocError> {
+    let lengths = &family.lengths;
+    let masses = &family.masses;
+    let is_stray = j % 128 == 77;
+    let places = places_of(words, lengths, is_stray);
+    let first = particle_at(words, places[0], masses);
+    let mut second = particle_at(words, places[1], masses);
+    if is_stray && masses.stray != 0 {
+        second.weight = masses.stray;
+    }
+    parts.particles.push(first)?;
+    parts.particles.push(second)?;
+    if lengths.thickness != 0 {
+        return Ok(());
+    }
+    parts.links.push(link_of(words, lengths, j))
+}
+
+/// What is drawn of a family.
+fn drawn(alloc: Global, family: &Family, seed: u64) -> Result<Parts, AllocError> {
+    let mut words = Lcg64Xsh32::new(seed, family.masses.stream);
+    let mut parts = Parts::empty(alloc, RANGE);
+    parts.passes = family.lengths.passes;
+    parts.thickness = family.lengths.thickness;
+    for j in 0..family.lengths.pairs {
+        draw_pair(&mut words, family, j, &mut parts)?;
+    }
+    Ok(parts)
+}
+
+/// What a step of a scene came to with one projector, and one particle of it.
+#[derive(Clone, Copy, Debug, PartialEq)]
+struct Outcome {
+    answer: Result<(), Refusal>,
+    count: u64,
+    particles: u32,
+    live: u32,
+    contacts: u32,
+    totals: Totals,
+    particle: Option<Particle>,
+}
+
+/// Why a draw is wrong.
+#[derive(Clone, Copy, Debug, PartialEq)]
+enum Fault {
+    NoScene(PartsFault),
+    NoMemory,
+    /// What a step came to at a width with `Scalar` and with `LaneProjector`, with the first particle that isn't the same, where
+    /// there is one.
+    Differs {
+        width: usize,
+        particle: u32,
+        scalar: Outcome,
+        lanes: Outcome,
+    },
+}
+
+fn particle_of<const L: usize, P: Projector<L> + Drop, G: Ledger>(
+    solver: &Solver<L, P>,
+    i: u32,
+    steps: &mut Steps<G>,
+) -> Option<Particle>
+    requires high { L ≤ 16 }
+{
+    if i < solver.particles() {
+        Some(solver.particle(i, steps))
+    } else {
+        None
+    }
+}
+
+/// What a solver came to, whose last command was answered so, and its particle i.
+fn outcome_of<const L: usize, P: Projector<L> + Drop, G: Ledger>(
+    solver: &Solver<L, P>,
+    answer: Result<(), Refusal>,
+    i: u32,
+    steps: &mut Steps<G>,
+) -> Outcome
+    requires high { L ≤ 16 }
+{
+    Outcome {
+        answer,
+        count: solver.step_count(),
+        particles: solver.particles(),
+        live: solver.live(),
+        contacts: solver.contacts(),
+        totals: *solver.totals(),
+        particle: particle_of(solver, i, steps),
+    }
+}
+
+/// Takes a step with both solvers, which comes to the same world, or is refused alike.
+fn step_alike<const L: usize, G: Ledger>(
+    both: &mut Both<L>,
+    steps: &mut Steps<G>,
+) -> Result<(), Fault>
+    requires low { 0 < L }
+    requires high { L ≤ 16 }
+{
+    let answers = [both.scalar.steps(1, steps), both.lanes.steps(1, steps)];
+    let particle = both.first_other(steps);
+    let scalar = outcome_of(&both.scalar, answers[0], particle, steps);
+    let lanes = outcome_of(&both.lanes, answers[1], particle, steps);
+    if scalar == lanes {
+        return Ok(());
+    }
+    Err(Fault::Differs {
+        width: L,
+        particle,
+        scalar,
+        lanes,
+    })
+}
+
+/// Takes a step of a scene with both projectors.
+fn both_step_alike<const L: usize, G: Ledger>(
+    alloc: Global,
+    scene: &Scene,
+    steps: &mut Steps<G>,
+) -> Result<(), Fault>
+    requires low { 0 < L }
+    requires high { L ≤ 16 }
+{
+    match Both::<L>::open(alloc, scene) {
+        Ok(mut both) => {
+            let alike = step_alike(&mut both, steps);
+            drop(both);
+            alike
+        }
+        Err(AllocError) => Err(Fault::NoMemory),
+    }
+}
+
+fn counted<G: Ledger>(alloc: Global, blank: Blank, scene: &Scene) -> [Result<(), Fault>; 5]
+    requires name { blank.name ≡ G.name }
+    requires parts { blank.parts ≡ G.parts }
+    requires some { 0 < blank.parts }
+{
+    at_widths!(blank, both_step_alike(alloc, scene))
+}
+
+/// Takes a step of a scene with both projectors, at each width.
+fn alike_at_each_width(alloc: Global, scene: &Scene) -> Result<(), Fault> {
+    let alike = counted::<Brand>(alloc, Blank::new(1), scene);
+    alike[0]
+        .and(alike[1])
+        .and(alike[2])
+        .and(alike[3])
+        .and(alike[4])
+}
+
+/// Takes a step of a drawn scene with both projectors, at each width.
+fn alike_at(alloc: Global, family: &Family, seed: u64) -> Result<(), Fault> {
+    match scene_of(alloc, drawn(alloc, family, seed)) {
+        Ok(scene) => {
+            let alike = alike_at_each_width(alloc, &scene);
+            drop(scene);
+            alike
+        }
+        Err(fault) => Err(Fault::NoScene(fault)),
+    }
+}
+
+/// The first wrong draw of a family.
+fn first_wrong(alloc: Global, family: &Family) -> Option<(u64, Fault)> {
+    for seed in 0..u64::from(family.lengths.draws) {
+        if let Err(fault) = alike_at(alloc, family, seed) {
+            return Some((seed, fault));
+        }
+    }
+    None
+}
+
+/// Tells which families of some lengths are wrong, and returns how many.
+fn wrong_families(rt: &HostRuntime, rows: &[Lengths]) -> u32 {
+    let mut wrong = 0u32;
+    for lengths in rows {
+        for masses in &MASSES {
+            let family = Family {
+                lengths: *lengths,
+                masses: *masses,
+            };
+            let name = (lengths.name, masses.name);
+            let told = first_wrong(rt.alloc(), &family);
+            wrong = wrong.saturating_add(wrong_row(rt, (&name, "by seed"), &told, &None));
+        }
+    }
+    wrong
+}
+
+#[test]
+fn random_short_links_come_to_the_same_at_each_width(rt: HostRuntime) -> Result<(), WrongRows> {
+    all_hold(wrong_families(&rt, &SHORT_LINKS))
+}
+
+#[test]
+fn random_long_links_come_to_the_same_at_each_width(rt: HostRuntime) -> Result<(), WrongRows> {
+    all_hold(wrong_families(&rt, &LONG_LINKS))
+}
+
+#[test]
+fn random_contacts_come_to_the_same_at_each_width(rt: HostRuntime) -> Result<(), WrongRows> {
+    all_hold(wrong_families(&rt, &TOUCHING))
+}
+
+#[test]
+fn random_links_at_the_edge_leave_it_alike_at_each_width(rt: HostRuntime) -> Result<(), WrongRows> {
+    all_hold(wrong_families(&rt, &AT_THE_EDGE))
+}

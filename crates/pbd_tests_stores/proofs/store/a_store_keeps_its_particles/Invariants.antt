@@ -1,4 +1,0 @@
-use Rattle.pbd_tests_stores.proofs.store.a_store_keeps_its_particles.Given as goal
-
-abbrev pub ghosts-widths : goal.ghosts-widths
-ghosts-widths g a = record { name = a.blank.name; parts = a.blank.parts }

@@ -1,0 +1,506 @@
+//! Logs byte by byte, cut and changed, sinks that fail, and what is read back.
+ghost use Rattle.std.specs.Prelude.{◌≡◌, ◌<◌, ◌^◌, ◌++◌, IsTrue, length, OnOk};
+ghost use Rattle.std.specs.Io.KnownBytes.{Appends};
+ghost use Rattle.std.specs.List.{All, flat_map};
+ghost use Rattle.pbd_world.specs.Valid.{is_limit};
+ghost use Rattle.pbd_log.specs.Entries.{IsGrammatical, entry_bytes};
+ghost use Rattle.pbd_log.specs.Logs.{header_bytes, end_bytes};
+
+use pbd_io::{Failed, MemSink, Sink};
+use pbd_log::{Entry, LogView, LogWriter, answer_of, read_log};
+use pbd_num::Vec3;
+use pbd_tests_rows::logs::{LONG, OLD, OLD_BAD_COUNT, SCENE, SMALL};
+use pbd_tests_rows::{WrongRows, each_row};
+use pbd_world::{Command, FrameSums, Phase, Refusal, Reply};
+use std::alloc::{AllocError, Global};
+use std::io::Eprint;
+
+const OLD_SMALL: [u8; 23] = [
+    80, 66, 68, 83, 76, 79, 71, 1, 0, 0, 0, 0, 2, 0, 0, 0, 0, 0, 0, 0, 0, 0, 1,
+];
+
+// One step, refused with 11: step 1, predict, element 0.
+const OLD_LEAVES: [u8; 44] = [
+    80, 66, 68, 83, 76, 79, 71, 1, 0, 0, 0, 0, 1, 0, 0, 0, 0, 0, 0, 0, 1, 11, 0, 0, 0, 0, 0, 0, 0,
+    1, 1, 0, 0, 0, 0, 0, 0, 0, 0, 0, 0, 0, 0, 1,
+];
+
+const STEP_SUMS: FrameSums = FrameSums {
+    steps: 3,
+    live: 0,
+    contacts: 0,
+    at: [0, 940, 0],
+    before: [0, 970, 0],
+};
+
+/// What a session keeps of this command and this reply, with these sums where sums stand.
+fn kept(command: Command, reply: &Reply, sums: FrameSums) -> Entry
+    ensures { IsGrammatical result }
+{
+    let answer = answer_of(reply);
+    let sums = match command {
+        Command::Step(_) if answer.number == 0 => Some(sums),
+        _ => None,
+    };
+    Entry {
+        command,
+        answer,
+        sums,
+    }
+}
+
+fn step() -> Entry
+    ensures { IsGrammatical result }
+{
+    kept(Command::Step(3), &Reply::Done, STEP_SUMS)
+}
+
+fn frame() -> Entry
+    ensures { IsGrammatical result }
+{
+    kept(Command::Frame, &Reply::Frame, STEP_SUMS)
+}
+
+/// A whole log of version 2, part by part: what it appends is known from the writer's clauses alone.
+fn write_log<K: Sink>(
+    sink: &mut K,
+    limit: i64,
+    scene: &[u8],
+    entries: &[Entry],
+) -> Result<(), Failed>
+    requires limit { IsTrue (is_limit limit) }
+    requires scene { length scene.now < 2 ^ 32 }
+    requires grammar { All IsGrammatical entries.now }
+    requires room { length entries.now < 2 ^ 32 }
+    ensures { OnOk result (Appends (K.written sink.old) (K.written sink.new) ((header_bytes 2 limit (length scene.now) ++ scene.now) ++ flat_map entry_bytes entries.now ++ end_bytes (length entries.now))) }
+{
+    let mut writer = LogWriter::begin(sink, limit, scene)?;
+    for entry in entries {
+        writer.append(sink, entry)?;
+    }
+    writer.finish(sink)
+}
+
+/// A sink with so much room, of which a call fails after so many bytes.
+fn failing(alloc: Global, room: usize, call: u64, taken: usize) -> Result<MemSink, AllocError> {
+    let fails = Vec::from_array(alloc, [(call, taken)])?;
+    MemSink::open(alloc, room, fails)
+}
+
+/// Whether a log goes on with just these commands and replies, and with these sums where sums stand.
+fn has_replies(view: &mut LogView<'_>, replies: &[(Command, Reply)], sums: &FrameSums) -> bool {
+    for (command, reply) in replies {
+        if view.next() != Some(kept(*command, reply, *sums)) {
+            return false;
+        }
+    }
+    view.next().is_none() && view.next().is_none()
+}
+
+/// What a log holds: its version and its limit, its scene, the commands with their replies, and the sums of its steps.
+struct Held {
+    head: (u8, i64),
+    scene: &'static [u8],
+    replies: &'static [(Command, Reply)],
+    sums: FrameSums,
+}
+
+/// Whether what is read of bytes is what they hold. What differs is told.
+fn is_held(rt: &impl Eprint, bytes: &[u8], held: &Held) -> bool {
+    match read_log(bytes) {
+        Ok(mut view) => {
+            let head = (view.version(), view.limit());
+            let same = view.scene() == held.scene;
+            let all = has_replies(&mut view, held.replies, &held.sums);
+            if (head, same, all) == (held.head, true, true) {
+                return true;
+            }
+            let _ = eprintln!(rt;
+                "version and limit {head:?}, the scene {same}, the commands and replies {all} of {bytes:?}"
+            );
+        }
+        Err(fault) => {
+            let _ = eprintln!(rt; "refused at {}: {bytes:?}", fault.offset);
+        }
+    }
+    false
+}
+
+macro_rules! held {
+    ($version:expr, $limit:expr, $scene:expr, $replies:expr) => {
+        Held {
+            head: ($version, $limit),
+            scene: $scene,
+            replies: $replies,
+            sums: STEP_SUMS,
+        }
+    };
+}
+
+const STEP_AND_FRAME: &[(Command, Reply)] = &[
+    (Command::Step(3), Reply::Done),
+    (Command::Frame, Reply::Frame),
+];
+
+const FRAME: &[(Command, Reply)] = &[(Command::Frame, Reply::Frame)];
+
+static EXAMPLES: [(&[u8], Held); 6] = [
+    (&LONG, held!(2, 536_870_912, SCENE, STEP_AND_FRAME)),
+    (&SMALL, held!(2, 536_870_912, &[], FRAME)),
+    (&OLD, held!(1, 268_435_456, SCENE, STEP_AND_FRAME)),
+    (&OLD_SMALL, held!(1, 268_435_456, &[], FRAME)),
+    (
+        &OLD_BAD_COUNT,
+        held!(
+            1,
+            268_435_456,
+            &[],
+            &[(Command::Step(u64::MAX), Reply::Refused(Refusal::BadCount))]
+        ),
+    ),
+    (
+        &OLD_LEAVES,
+        held!(
+            1,
+            268_435_456,
+            &[],
+            &[(
+                Command::Step(1),
+                Reply::Refused(Refusal::LeavesRange {
+                    step: 1,
+                    phase: Phase::Predict,
+                    element: 0,
+                })
+            )]
+        ),
+    ),
+];
+
+#[test]
+fn the_examples_are_read(rt: HostRuntime) {
+    let mut wrong = 0u32;
+    for (bytes, held) in &EXAMPLES {
+        if !is_held(&rt, bytes, held) {
+            wrong = wrong.saturating_add(1);
+        }
+    }
+    assert!(rt; wrong == 0, "{wrong} rows");
+}
+
+fn offset_of(bytes: &[u8]) -> Option<u64> {
+    match read_log(bytes) {
+        Ok(_) => None,
+        Err(fault) => Some(fault.offset),
+    }
+}
+
+/// The offset for the first n bytes: that of the first row that n isn't past.
+fn expected_at(n: usize, rows: &[(usize, u64)]) -> Option<u64> {
+    for (last, offset) in rows {
+        if n <= *last {
+            return Some(*offset);
+        }
+    }
+    None
+}
+
+/// Logs, and the offset at which each cut of them is refused, by the last of the cuts that have it.
+static CUTS: [(&[u8], &[(usize, u64)]); 4] = [
+    (
+        &LONG,
+        &[(7, 0), (15, 8), (72, 16), (146, 73), (148, 147), (157, 149)],
+    ),
+    (&OLD, &[(7, 0), (64, 8), (138, 65), (140, 139), (149, 141)]),
+    (&SMALL, &[(7, 0), (15, 8), (19, 16), (21, 20), (30, 22)]),
+    (&OLD_SMALL, &[(7, 0), (11, 8), (13, 12), (22, 14)]),
+];
+
+/// The first cut of a log that isn't refused as the rows say.
+fn first_wrong_cut(bytes: &[u8], rows: &[(usize, u64)]) -> Option<usize> {
+    for n in 0..=bytes.len() {
+        if offset_of(&bytes[..n]) != expected_at(n, rows) {
+            return Some(n);
+        }
+    }
+    None
+}
+
+#[test]
+fn each_cut_and_what_is_too_long_are_refused(rt: HostRuntime) -> Result<(), WrongRows> {
+    let cuts =
+        each_row!(rt, &CUTS, "is cut wrongly at", (bytes, rows) => first_wrong_cut(bytes, rows), &None);
+    each_row!(rt, &TOO_LONG, "is refused at", (bytes, offset) => offset_of(bytes), &Some(*offset))?;
+    cuts
+}
+
+/// What becomes of the bytes with this one set.
+fn offset_with<const N: usize>(bytes: &[u8; N], at: usize, byte: u8) -> Option<u64> {
+    let mut changed = *bytes;
+    if at < N {
+        changed[at] = byte;
+    }
+    offset_of(&changed)
+}
+
+/// A byte of a log, its wrong value, and the offset at which the log is refused then.
+type Wrong = (usize, u8, Option<u64>);
+
+/// How many wrong bytes of a log don't have their offsets. Each of them is told.
+fn wrong_rows<const N: usize>(rt: &impl Eprint, bytes: &[u8; N], rows: &[Wrong]) -> u32 {
+    let mut wrong = 0u32;
+    for (at, byte, offset) in rows {
+        let found = offset_with(bytes, *at, *byte);
+        if found != *offset {
+            let _ = eprintln!(rt; "{byte} at {at}: refused at {found:?}, not at {offset:?}");
+            wrong = wrong.saturating_add(1);
+        }
+    }
+    wrong
+}
+
+static SMALL_CHANGED: [Wrong; 17] = [
+    (0, 81, Some(0)),
+    (6, 103, Some(0)),
+    (7, 0, Some(0)),
+    (7, 3, Some(0)),
+    (8, 1, Some(8)),
+    (12, 16, None),
+    (12, 48, Some(8)),
+    (15, 1, Some(8)),
+    (16, 255, Some(16)),
+    (19, 12, Some(16)),
+    (20, 0, Some(29)),
+    (20, 10, Some(20)),
+    (21, 2, None),
+    (21, 13, Some(20)),
+    (22, 10, Some(22)),
+    (23, 1, Some(22)),
+    (30, 2, Some(22)),
+];
+
+static OLD_SMALL_CHANGED: [Wrong; 4] = [
+    (11, 12, Some(8)),
+    (12, 10, Some(12)),
+    (13, 13, Some(12)),
+    (22, 2, Some(14)),
+];
+
+static OLD_LEAVES_CHANGED: [Wrong; 5] = [
+    (21, 0, Some(12)),
+    (30, 0, Some(12)),
+    (30, 1, None),
+    (30, 4, None),
+    (30, 5, Some(12)),
+];
+
+#[test]
+fn each_field_is_looked_at(rt: HostRuntime) {
+    let wrong = [
+        wrong_rows(&rt, &SMALL, &SMALL_CHANGED),
+        wrong_rows(&rt, &OLD_SMALL, &OLD_SMALL_CHANGED),
+        wrong_rows(&rt, &OLD_LEAVES, &OLD_LEAVES_CHANGED),
+    ];
+    assert!(rt; wrong == [0; 3], "{wrong:?} rows");
+}
+
+/// A header of version 1 with the greatest length of a scene, logs with bytes after the end, and where they are refused.
+static TOO_LONG: [(&[u8], u64); 3] = [
+    (&[80, 66, 68, 83, 76, 79, 71, 1, 255, 255, 255, 255], 8),
+    (
+        &[
+            80, 66, 68, 83, 76, 79, 71, 2, 0, 0, 0, 0, 32, 0, 0, 0, 0, 0, 0, 0, 2, 0, 0, 0, 0, 0,
+            0, 0, 0, 0, 1, 0,
+        ],
+        31,
+    ),
+    (
+        &[
+            80, 66, 68, 83, 76, 79, 71, 1, 0, 0, 0, 0, 2, 0, 0, 0, 0, 0, 0, 0, 0, 0, 1, 2, 2, 2, 2,
+            2, 2, 2, 2, 2, 2, 2, 2, 2, 2, 2, 2, 2,
+        ],
+        23,
+    ),
+];
+
+const FAR: Vec3 = Vec3 {
+    x: i64::MIN,
+    y: -1,
+    z: i64::MAX,
+};
+
+/// Each command, and a reply to it.
+const REPLIES: [(Command, Reply); 13] = [
+    (Command::Step(u64::MAX), Reply::Refused(Refusal::BadCount)),
+    (Command::Step(1), Reply::Done),
+    (
+        Command::Step(1),
+        Reply::Refused(Refusal::LeavesRange {
+            step: 1_000_000,
+            phase: Phase::Shape,
+            element: 65_535,
+        }),
+    ),
+    (
+        Command::Step(256),
+        Reply::Refused(Refusal::TooManyContacts { step: u64::MAX }),
+    ),
+    (Command::Frame, Reply::Frame),
+    (Command::Pin(7), Reply::Done),
+    (Command::Unpin(65_536), Reply::Refused(Refusal::NotHeld)),
+    (
+        Command::Move {
+            particle: 3,
+            to: FAR,
+        },
+        Reply::Done,
+    ),
+    (
+        Command::Move {
+            particle: 4,
+            to: FAR,
+        },
+        Reply::Refused(Refusal::OutOfRange),
+    ),
+    (Command::Cut(0), Reply::Refused(Refusal::NoLink)),
+    (Command::Gravity(FAR), Reply::Done),
+    (Command::Ledger, Reply::Ledger),
+    (Command::Bad, Reply::Refused(Refusal::BadCommand)),
+];
+
+const FAR_SUMS: FrameSums = FrameSums {
+    steps: u64::MAX,
+    live: u32::MAX,
+    contacts: 65_536,
+    at: [i64::MIN, -256, 1],
+    before: [i64::MAX, 0, -1],
+};
+
+static WRITTEN: Held = Held {
+    head: (2, 268_435_456),
+    scene: &[],
+    replies: &REPLIES,
+    sums: FAR_SUMS,
+};
+
+/// Writes a log of these commands and replies.
+fn write_replies<K: Sink>(sink: &mut K, table: &[(Command, Reply)]) -> Result<(), Failed>
+    requires { length table.now < 2 ^ 32 }
+{
+    let mut writer = LogWriter::begin(sink, 268_435_456, &[])?;
+    for (command, reply) in table {
+        let _ = writer.append(sink, &kept(*command, reply, FAR_SUMS));
+    }
+    writer.finish(sink)
+}
+
+#[test]
+fn what_was_written_is_read_back(rt: HostRuntime) {
+    let mut sink = MemSink::open(rt.alloc(), 1000, Vec::new(rt.alloc())).expect(&rt, "no memory");
+    assert!(rt;
+        write_replies(&mut sink, &REPLIES).is_ok(),
+        "no room for the replies"
+    );
+    let held = is_held(&rt, sink.written(), &WRITTEN);
+    drop(sink);
+    assert!(rt; held, "what was written is read otherwise");
+}
+
+/// A call that fails, how many bytes it takes, and how many the sink holds then. No call has the number 0.
+type Cut = (u64, usize, usize);
+
+static LONG_CUTS: [Cut; 9] = [
+    (0, 0, 158),
+    (1, 0, 0),
+    (1, 19, 19),
+    (2, 0, 20),
+    (2, 52, 72),
+    (3, 1, 74),
+    (4, 0, 147),
+    (4, 2, 149),
+    (5, 8, 157),
+];
+
+static SMALL_CUTS: [Cut; 4] = [(0, 0, 31), (1, 0, 0), (2, 0, 20), (3, 0, 22)];
+
+/// A scene, entries, and their log.
+#[derive(Clone, Copy)]
+struct Logged<'a> {
+    scene: &'a [u8],
+    entries: &'a [Entry],
+    log: &'a [u8],
+}
+
+/// Whether a scene and entries are written as their log, up to the call that fails.
+fn writes(alloc: Global, logged: &Logged<'_>, cut: &Cut) -> bool
+    requires scene { length logged.now.scene.now < 2 ^ 32 }
+    requires grammar { All IsGrammatical logged.now.entries.now }
+    requires room { length logged.now.entries.now < 2 ^ 32 }
+{
+    let (call, taken, held) = *cut;
+    match failing(alloc, logged.log.len(), call, taken) {
+        Ok(mut sink) => {
+            let ended = write_log(&mut sink, 536_870_912, logged.scene, logged.entries).is_ok();
+            let same = sink.written().len() == held && logged.log.starts_with(sink.written());
+            drop(sink);
+            same && ended == (call == 0)
+        }
+        Err(_) => false,
+    }
+}
+
+// The header, the scene, each entry and the end are one call each.
+#[test]
+fn a_log_stops_at_the_call_that_fails(rt: HostRuntime) {
+    let mut wrong = 0u32;
+    for cut in &LONG_CUTS {
+        let entries = [step(), frame()];
+        let logged = Logged {
+            scene: SCENE,
+            entries: &entries,
+            log: &LONG,
+        };
+        if !writes(rt.alloc(), &logged, cut) {
+            let _ = eprintln!(rt; "call, bytes taken and bytes held of the long log: {cut:?}");
+            wrong = wrong.saturating_add(1);
+        }
+    }
+    for cut in &SMALL_CUTS {
+        let entries = [frame()];
+        let logged = Logged {
+            scene: &[],
+            entries: &entries,
+            log: &SMALL,
+        };
+        if !writes(rt.alloc(), &logged, cut) {
+            let _ = eprintln!(rt; "call, bytes taken and bytes held of the small log: {cut:?}");
+            wrong = wrong.saturating_add(1);
+        }
+    }
+    assert!(rt; wrong == 0, "{wrong} rows");
+}
+
+/// Writes a frame again whose first append fails.
+fn append_again<K: Sink>(sink: &mut K) -> Result<(), Failed> {
+    let mut writer = LogWriter::begin(sink, 536_870_912, &[])?;
+    if writer.append(sink, &frame()).is_ok() {
+        return Err(Failed);
+    }
+    writer.append(sink, &frame())?;
+    writer.finish(sink)
+}
+
+// After an append that failed the end has the number of the entries that were written.
+#[test]
+fn a_log_goes_on_after_a_failed_append(rt: HostRuntime) {
+    let mut sink = failing(rt.alloc(), 31, 2, 0).expect(&rt, "no memory");
+    assert!(rt;
+        append_again(&mut sink).is_ok(),
+        "the second append fails too"
+    );
+    assert!(rt;
+        sink.written() == SMALL.as_slice(),
+        "{:?} was written",
+        sink.written()
+    );
+    drop(sink);
+}

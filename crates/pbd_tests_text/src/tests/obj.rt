@@ -1,0 +1,524 @@
+//! Texts and their meshes, meshes and their links, and lines.
+ghost use Rattle.std.specs.Prelude.{◌≡◌, ◌≤◌, ◌<◌, IsTrue, IfOk, length, pos};
+ghost use Rattle.pbd_world.specs.Valid.{is_valid};
+ghost use Rattle.pbd_obj.specs.Meshes.{IsMesh};
+
+use super::parts::{compare_parts, empty_parts, link, links, push_repeated};
+use pbd_io::MemSink;
+use pbd_num::{RANGE, Vec3, inside};
+use pbd_obj::{
+    ArraysFault, LinkSettings, MeshSettings, ObjFault, ObjMesh, Triangle, add_mesh, add_mesh_with,
+    mesh_of, read_obj, triangles_of, write_face, write_vertex,
+};
+use pbd_tests_rows::{WrongRows, all_hold, each_row, place, wrong_row};
+use pbd_world::{Kind, Link, Parts};
+use std::alloc::Global;
+use std::process::Abort;
+
+const SQUARE: &[u8] = b"v 0 0 0\nv 1 0 0\nv 1 1 0\nv 0 1 0\nf 1 2/7 -2//3 4\n";
+
+/// Reads a short text.
+fn read_short(rt: &impl Abort, alloc: Global, text: &[u8]) -> Result<ObjMesh, ObjFault>
+    ensures { IfOk result IsMesh }
+{
+    assert!(rt; text.len() < 1_000, "a text of {} bytes", text.len());
+    read_obj(alloc, text)
+}
+
+/// The fault of a short text.
+fn fault_of(rt: &impl Abort, alloc: Global, text: &[u8]) -> Option<ObjFault> {
+    match read_short(rt, alloc, text) {
+        Ok(mesh) => {
+            drop(mesh);
+            None
+        }
+        Err(fault) => Some(fault),
+    }
+}
+
+/// What is wrong with texts that have a bad vertex or a bad face.
+static BAD_TEXTS: [(ObjFault, &[&str]); 7] = [
+    (
+        ObjFault::BadNumber { line: 1 },
+        &[
+            "v 1 2",
+            "v",
+            "v 1 2 .",
+            "v 1 2 1..",
+            "v 1 2 --3",
+            "v 1 2 3e",
+            "v 1 2 3e+",
+            "v 1 2 3e123",
+            "v 1 2 3e1.5",
+            "v 1 2 e5",
+            "v 1 2 0x3",
+            "v 1 2 nan",
+            "v 1 2 0000000000000000000000003",
+            "v 9999 2 x",
+        ],
+    ),
+    (ObjFault::BadNumber { line: 3 }, &["#\n\n v 1 2 x\r\n"]),
+    (
+        ObjFault::OutOfRange { line: 1 },
+        &[
+            "v 8193 0 0",
+            "v 0 -8192.0001 0",
+            "v 0 0 1e99",
+            "v 0 0 999999999999999999999999e99",
+        ],
+    ),
+    (
+        ObjFault::OutOfRange { line: 2 },
+        &["v 0 0 0\nv 0 0 9e3\nf 1 2 3"],
+    ),
+    (ObjFault::BadFace { line: 1 }, &["f 1 2 3"]),
+    (
+        ObjFault::BadFace { line: 3 },
+        &[
+            "v 0 0 0\nv 0 0 0\nf 1 2\n",
+            "v 0 0 0\nv 0 0 0\nf 1 2 3\nv 0 0 0\n",
+        ],
+    ),
+    (
+        ObjFault::BadFace { line: 4 },
+        &[
+            "v 0 0 0\nv 0 0 0\nv 0 0 0\nf 1 2 1\n",
+            "v 0 0 0\nv 0 0 0\nv 0 0 0\nf 1 2 -2\n",
+            "v 0 0 0\nv 0 0 0\nv 0 0 0\nf 1 2 4\n",
+            "v 0 0 0\nv 0 0 0\nv 0 0 0\nf 1 2 -4\n",
+            "v 0 0 0\nv 0 0 0\nv 0 0 0\nf 1 2 0\n",
+            "v 0 0 0\nv 0 0 0\nv 0 0 0\nf 1 2 +3\n",
+            "v 0 0 0\nv 0 0 0\nv 0 0 0\nf 1 2 /3\n",
+            "v 0 0 0\nv 0 0 0\nv 0 0 0\nf 1 2 3 # three\n",
+            "v 0 0 0\nv 0 0 0\nv 0 0 0\nf 1 2 0000000003\n",
+        ],
+    ),
+];
+
+#[test]
+fn a_bad_vertex_or_face_is_refused_at_its_line(rt: HostRuntime) -> Result<(), WrongRows> {
+    let mut wrong = 0u32;
+    for (fault, texts) in &BAD_TEXTS {
+        for text in *texts {
+            let found = fault_of(&rt, rt.alloc(), text.as_bytes());
+            wrong = wrong.saturating_add(wrong_row(
+                &rt,
+                (text, "is refused"),
+                &found,
+                &Some(*fault),
+            ));
+        }
+    }
+    all_hold(wrong)
+}
+
+/// Whether a short text gives these places.
+fn has_places(
+    rt: &impl Abort,
+    alloc: Global,
+    text: &[u8],
+    places: &[Vec3],
+) -> Result<bool, ObjFault> {
+    let mesh = read_short(rt, alloc, text)?;
+    let same = mesh.places.as_slice() == places;
+    drop(mesh);
+    Ok(same)
+}
+
+/// Texts and the places of their vertices.
+static PLACES: [(&[u8], &[Vec3]); 21] = [
+    (b"v 0.1 0 0", &[place!(6554, 0, 0)]),
+    (b"v 1e-1 0 0", &[place!(6554, 0, 0)]),
+    (b"\tv\t1E-01\t0\t0 7 colour\r\n", &[place!(6554, 0, 0)]),
+    (b"v 0.00000762939453125 0 0", &[place!(1, 0, 0)]),
+    (b"v -0.00000762939453125 0 0", &[place!(-1, 0, 0)]),
+    (b"v 0.000007629394531249 0 0", &[place!(0, 0, 0)]),
+    (b"v 762939453125e-17 0 0", &[place!(1, 0, 0)]),
+    (b"v 762939453124e-17 0 0", &[place!(0, 0, 0)]),
+    (b"v -0 0 0", &[place!(0, 0, 0)]),
+    (b"v +1. 0 0", &[place!(65_536, 0, 0)]),
+    (b"v .5 0 0", &[place!(32_768, 0, 0)]),
+    (b"v -8192 0 0", &[place!(-536_870_912, 0, 0)]),
+    (b"v 8192.000007 0 0", &[place!(536_870_912, 0, 0)]),
+    (b"v 0.00008192e8 0 0", &[place!(536_870_912, 0, 0)]),
+    (
+        b"v 81920000000000000000000e-19 0 0",
+        &[place!(536_870_912, 0, 0)],
+    ),
+    (b"v 0e99 0 0", &[place!(0, 0, 0)]),
+    (b"v 1e-99 0 0", &[place!(0, 0, 0)]),
+    (b"v 999999999999999999999999e-29 0 0", &[place!(1, 0, 0)]),
+    (b"v 999999999999999999999999e-30 0 0", &[place!(0, 0, 0)]),
+    (b"v 000000000000000000000001 0 0", &[place!(65_536, 0, 0)]),
+    (
+        SQUARE,
+        &[
+            place!(0, 0, 0),
+            place!(65_536, 0, 0),
+            place!(65_536, 65_536, 0),
+            place!(0, 65_536, 0),
+        ],
+    ),
+];
+
+#[test]
+fn decimals_become_whole_units(rt: HostRuntime) -> Result<(), WrongRows> {
+    each_row!(rt, &PLACES, "are its places", (text, places) => has_places(&rt, rt.alloc(), text, places), &Ok(true))
+}
+
+/// What becomes of parts to which the mesh of a text is added.
+fn added(alloc: Global, text: &[u8], parts: &mut Parts) -> Result<(), ObjFault>
+    requires text { length text.now < 1000000 }
+    requires valid { IsTrue (is_valid parts.old) }
+    requires limit { parts.old.limit ≡ pos 536870912 }
+{
+    let mesh = read_obj(alloc, text)?;
+    let added = add_mesh(alloc, &mesh, parts);
+    drop(mesh);
+    added
+}
+
+/// The same of parts with nothing in them.
+fn added_alone(alloc: Global, text: &[u8]) -> Result<(), ObjFault>
+    requires { length text.now < 1000000 }
+{
+    let mut parts = empty_parts(alloc, RANGE);
+    let outcome = added(alloc, text, &mut parts);
+    drop(parts);
+    outcome
+}
+
+static TWO_FACES: &[Link] = links!(
+    Stretch 256 0: 0 1 65_536, 1 2 65_536, 2 3 65_536, 3 0 65_536, 2 4 73_271, 4 3 73_271;
+    Shear 256 0: 0 2 92_681, 1 3 92_681
+);
+
+#[test]
+fn a_mesh_is_added_face_by_face(rt: HostRuntime) {
+    let text = b"v 0 0 0\nv 1 0 0\nv 1 1 0\nv 0 1 0\nv 0.5 2 0\nf 1 2 3 4\nf 4 3 5\n";
+    let mut parts = empty_parts(rt.alloc(), RANGE);
+    let answer = added(rt.alloc(), text, &mut parts);
+    assert!(rt; answer == Ok(()), "a square and a triangle: {answer:?}");
+    compare_parts(&rt, &parts, 5, TWO_FACES);
+    drop(parts);
+}
+
+/// A text, another that comes so many times behind it, and what becomes of no parts to which they are added.
+type Repeated = (&'static str, &'static str, u32, Result<(), ObjFault>);
+
+/// The first two vertices of a fan, and what each further one is: so many links meet at the first as there are others.
+const FAN: &str = "v 0 0 0\nv 0 0 0\n";
+
+const TRIANGLE: &str = "v 0 0 0\nf 1 -2 -1\n";
+
+static LIMITS: [Repeated; 4] = [
+    (FAN, TRIANGLE, 31, Ok(())),
+    (
+        FAN,
+        TRIANGLE,
+        32,
+        Err(ObjFault::TooManyAtParticle { vertex: 1 }),
+    ),
+    ("", "v 0 0 0\n", 65_536, Ok(())),
+    ("", "v 0 0 0\n", 65_537, Err(ObjFault::TooMany)),
+];
+
+/// What becomes of no parts to which the mesh of a row's text is added.
+fn added_repeated(rt: &impl Abort, alloc: Global, row: &Repeated) -> Result<(), ObjFault> {
+    let (first, piece, count, _) = *row;
+    let mut text = String::new(alloc);
+    assert!(rt; push_repeated(&mut text, first, piece, count), "no memory");
+    let bytes = text.as_bytes();
+    assert!(rt; bytes.len() < 1_000_000, "a text of {} bytes", bytes.len());
+    let added = added_alone(alloc, bytes);
+    drop(text);
+    added
+}
+
+#[test]
+fn a_mesh_has_at_most_32_links_at_a_vertex_and_65536_vertices(
+    rt: HostRuntime,
+) -> Result<(), WrongRows> {
+    each_row!(rt, &LIMITS, "is added", row => added_repeated(&rt, rt.alloc(), row), &row.3)
+}
+
+/// Another weight, stiffness and length for each.
+static CLOTH: MeshSettings = MeshSettings {
+    weight: 3,
+    stretch: LinkSettings {
+        stiffness: 200,
+        tear: 300_000,
+    },
+    shear: LinkSettings {
+        stiffness: 100,
+        tear: 400_000,
+    },
+    bend: Some(LinkSettings {
+        stiffness: 40,
+        tear: 500_000,
+    }),
+};
+
+/// Whether a mesh has these links with the settings of a cloth, as `tools/mesh-scene --bend 40` makes it, and each particle
+/// the weight of the settings.
+fn has_links(
+    rt: &impl Abort,
+    alloc: Global,
+    text: &[u8],
+    links: &[Link],
+) -> Result<[bool; 2], ObjFault> {
+    let mesh = read_short(rt, alloc, text)?;
+    let mut parts = empty_parts(alloc, RANGE);
+    let added = add_mesh_with(alloc, &mesh, &CLOTH, &mut parts);
+    drop(mesh);
+    let same = parts.links.as_slice() == links;
+    let heavy = parts.particles.as_slice().iter().all(|it| it.weight == 3);
+    drop(parts);
+    added?;
+    Ok([same, heavy])
+}
+
+/// Two triangles, two squares, three triangles at one edge, a triangle and its back, and a body whose corners are all
+/// joined already.
+static BENT: [(&[u8], &[Link]); 5] = [
+    (
+        b"v 0 0 0\nv 1 0 0\nv 0 1 0\nv 1 1 0\nf 1 2 3\nf 3 2 4\n",
+        links!(
+            Stretch 200 300_000: 0 1 65_536, 1 2 92_681, 2 0 65_536, 1 3 65_536, 3 2 65_536;
+            Bend 40 500_000: 0 3 92_681
+        ),
+    ),
+    (
+        b"v 0 0 0\nv 1 0 0\nv 1 1 0\nv 0 1 0\nv 2 0 0\nv 2 1 0\nf 1 2 3 4\nf 2 5 6 3\n",
+        links!(
+            Stretch 200 300_000: 0 1 65_536, 1 2 65_536, 2 3 65_536, 3 0 65_536, 1 4 65_536,
+                4 5 65_536, 5 2 65_536;
+            Shear 100 400_000: 0 2 92_681, 1 3 92_681, 1 5 92_681, 4 2 92_681;
+            Bend 40 500_000: 0 4 131_072, 3 5 131_072
+        ),
+    ),
+    (
+        b"v 0 0 0\nv 1 0 0\nv 0 1 0\nv 0 -1 0\nv 0 0 1\nf 1 2 3\nf 2 1 4\nf 1 2 5\n",
+        links!(
+            Stretch 200 300_000: 0 1 65_536, 1 2 92_681, 2 0 65_536, 0 3 65_536, 3 1 92_681,
+                1 4 92_681, 4 0 65_536
+        ),
+    ),
+    (
+        b"v 0 0 0\nv 1 0 0\nv 0 1 0\nf 1 2 3\nf 3 2 1\n",
+        links!(
+            Stretch 200 300_000: 0 1 65_536, 1 2 92_681, 2 0 65_536
+        ),
+    ),
+    (
+        b"v 0 0 0\nv 1 0 0\nv 0 1 0\nv 0 0 1\nf 1 2 3\nf 1 4 2\nf 2 4 3\nf 3 4 1\n",
+        links!(
+            Stretch 200 300_000: 0 1 65_536, 1 2 92_681, 2 0 65_536, 0 3 65_536, 3 1 92_681,
+                3 2 92_681
+        ),
+    ),
+];
+
+#[test]
+fn what_faces_each_other_across_an_edge_of_two_faces_is_joined(
+    rt: HostRuntime,
+) -> Result<(), WrongRows> {
+    each_row!(rt, &BENT, "are its links and weights", (text, links) => has_links(&rt, rt.alloc(), text, links), &Ok([true; 2]))
+}
+
+/// A text, and the sizes and the corners of its faces.
+type Faces = (&'static [u8], &'static [u32], &'static [u32]);
+
+/// Whether a short text gives its faces.
+fn has_faces(rt: &impl Abort, alloc: Global, row: &Faces) -> Result<bool, ObjFault> {
+    let (text, sizes, corners) = *row;
+    let mesh = read_short(rt, alloc, text)?;
+    let same = (mesh.sizes.as_slice(), mesh.corners.as_slice()) == (sizes, corners);
+    drop(mesh);
+    Ok(same)
+}
+
+/// Faces as other programs write them.
+static OTHER_PROGRAMS: [Faces; 7] = [
+    (SQUARE, &[4], &[0, 1, 2, 3]),
+    (
+        b"# Blender\r\nmtllib plane.mtl\r\no Plane\r\nv -1.000000 0.000000 1.000000\r\nv 1 0 1\r\nv 1 0 -1\r\nv -1 0 -1\r\nvn -0.0000 1.0000 -0.0000\r\nvt 0.0 1.0\r\ns 0\r\nusemtl None\r\nf 1/1/1 2/2/1 3/3/1 4/4/1\r\n",
+        &[4],
+        &[0, 1, 2, 3],
+    ),
+    (
+        b"v 0 0 0\nv 1 0 0\nv 1 1 0\nf -3 -2 -1\nv 2 2 0\nf -1 -2 -3\n",
+        &[3, 3],
+        &[0, 1, 2, 3, 2, 1],
+    ),
+    (
+        b"g hexagon\nv 1e0 0 0\nv 5E-1 .866 0\nv -5e-1 0.866 0.\nv -1e+00 0 0\nv -0.5 -.866 0\nv +.5 -.866 0\nf 6 5/1 4//1 3/1/1 2 1\n",
+        &[6],
+        &[5, 4, 3, 2, 1, 0],
+    ),
+    (
+        b"o first\nv 0 0 0\nv 1 0 0\nv 0 1 0\nf 1//1 2//1 3//1\no second\ng part\nv 0 0 1\nv 1 0 1\nv 0 1 1\nf 4 5 6\nf -3 2 -1\n",
+        &[3, 3, 3],
+        &[0, 1, 2, 3, 4, 5, 3, 1, 5],
+    ),
+    (b"v 0 0 0 1 0.5 0.25\nvp 1 2\np 1\nl 1 1\n", &[], &[]),
+    (b"\r\n\t\nfo 1 2 3\nV 1 2 x", &[], &[]),
+];
+
+#[test]
+fn files_of_other_programs_are_read(rt: HostRuntime) -> Result<(), WrongRows> {
+    each_row!(rt, &OTHER_PROGRAMS, "are its faces", row => has_faces(&rt, rt.alloc(), row), &Ok(true))
+}
+
+/// Places, whose lines are the first of those below.
+static VERTICES: [Vec3; 4] = [
+    place!(0, 65_536, -98_304),
+    place!(6554, 1, -1),
+    place!(536_870_912, -536_870_912, 536_870_911),
+    place!(32_768, 655_360, 8),
+];
+
+/// The fault of arrays: how many corners each face has, and the corners.
+fn fault_of_arrays(alloc: Global, sizes: &[u32], corners: &[u32]) -> Option<ArraysFault> {
+    match mesh_of(alloc, &VERTICES, sizes, corners) {
+        Ok(mesh) => {
+            drop(mesh);
+            None
+        }
+        Err(fault) => Some(fault),
+    }
+}
+
+/// Faces of four vertices, and what is wrong with them.
+static ARRAYS: [(&[u32], &[u32], Option<ArraysFault>); 12] = [
+    (&[], &[], None),
+    (&[3, 4], &[3, 0, 1, 0, 1, 2, 3], None),
+    (&[3], &[0, 1, 2, 3], Some(ArraysFault::BadCount)),
+    (&[4], &[0, 1, 2], Some(ArraysFault::BadCount)),
+    (&[], &[0], Some(ArraysFault::BadCount)),
+    (
+        &[3, 4_294_967_295, 4],
+        &[0, 1, 2, 0, 1, 2],
+        Some(ArraysFault::BadCount),
+    ),
+    (&[0], &[], Some(ArraysFault::BadFace { face: 0 })),
+    (
+        &[3, 2],
+        &[0, 1, 2, 0, 1],
+        Some(ArraysFault::BadFace { face: 1 }),
+    ),
+    (&[3], &[0, 1, 4], Some(ArraysFault::BadFace { face: 0 })),
+    (&[3], &[0, 1, 0], Some(ArraysFault::BadFace { face: 0 })),
+    (
+        &[3, 3, 3],
+        &[0, 1, 2, 3, 3, 2, 9, 9, 9],
+        Some(ArraysFault::BadFace { face: 1 }),
+    ),
+    (
+        &[4],
+        &[0, 1, 2, 4_294_967_295],
+        Some(ArraysFault::BadFace { face: 0 }),
+    ),
+];
+
+#[test]
+fn arrays_are_a_mesh_or_are_refused_at_their_first_wrong_face(
+    rt: HostRuntime,
+) -> Result<(), WrongRows> {
+    each_row!(rt, &ARRAYS, "are refused", (sizes, corners, fault) => fault_of_arrays(rt.alloc(), sizes, corners), fault)
+}
+
+#[test]
+fn arrays_with_a_vertex_out_of_range_are_refused_at_it(rt: HostRuntime) {
+    let places = [
+        VERTICES[0],
+        place!(0, 536_870_913, 0),
+        place!(-536_870_913, 0, 0),
+    ];
+    match mesh_of(rt.alloc(), &places, &[3], &[0, 1, 9]) {
+        Ok(mesh) => {
+            drop(mesh);
+            assert!(rt; false, "a mesh with a vertex out of range");
+        }
+        Err(fault) => assert!(rt;
+            fault == ArraysFault::OutOfRange { vertex: 1 },
+            "a vertex 1 out of range: {fault:?}"
+        ),
+    }
+}
+
+macro_rules! triangles {
+    ($($a:tt $b:tt $c:tt),*) => { &[$(Triangle { a: $a, b: $b, c: $c }),*] };
+}
+
+/// Whether the faces of seven vertices are cut into these triangles.
+fn has_triangles(
+    alloc: Global,
+    sizes: &[u32],
+    corners: &[u32],
+    triangles: &[Triangle],
+) -> Result<bool, ArraysFault> {
+    let mesh = mesh_of(alloc, &[Vec3::ZERO; 7], sizes, corners)?;
+    let found = triangles_of(alloc, &mesh);
+    drop(mesh);
+    match found {
+        Ok(found) => {
+            let same = found.as_slice() == triangles;
+            drop(found);
+            Ok(same)
+        }
+        Err(_) => Err(ArraysFault::OutOfMemory),
+    }
+}
+
+/// Faces of seven vertices, and their triangles.
+static TRIANGLES: [(&[u32], &[u32], &[Triangle]); 4] = [
+    (&[], &[], &[]),
+    (&[3], &[6, 2, 4], triangles!(6 2 4)),
+    (
+        &[4, 3],
+        &[0, 1, 2, 3, 3, 2, 4],
+        triangles!(0 1 2, 0 2 3, 3 2 4),
+    ),
+    (
+        &[6],
+        &[5, 4, 6, 2, 1, 0],
+        triangles!(5 4 6, 5 6 2, 5 2 1, 5 1 0),
+    ),
+];
+
+#[test]
+fn faces_are_cut_into_triangles(rt: HostRuntime) -> Result<(), WrongRows> {
+    each_row!(
+        rt,
+        &TRIANGLES,
+        "are cut into these triangles",
+        (sizes, corners, triangles) => has_triangles(rt.alloc(), sizes, corners, triangles),
+        &Ok(true)
+    )
+}
+
+static LINES: &[u8] =
+    b"v 0 1 -1.5\nv 0.100006103515625 0.0000152587890625 -0.0000152587890625\nv 8192 -8192 8191.9999847412109375\nv 0.5 10 0.0001220703125\nf 1 4 100\nf 11 12 13 14\n";
+
+#[test]
+fn vertices_and_faces_are_written_as_lines(rt: HostRuntime) {
+    let mut sink = MemSink::open(rt.alloc(), 200, Vec::new(rt.alloc())).expect(&rt, "no memory");
+    for place in &VERTICES {
+        assert!(rt; inside(*place), "{place:?} is out of range");
+        assert!(rt;
+            write_vertex(*place, &mut sink) == Ok(()),
+            "no room for {place:?}"
+        );
+    }
+    assert!(rt;
+        write_face(&[0, 3, 99], 0, &mut sink) == Ok(()),
+        "no room for three corners"
+    );
+    assert!(rt;
+        write_face(&[0, 1, 2, 3], 10, &mut sink) == Ok(()),
+        "no room for four corners"
+    );
+    assert!(rt; sink.written() == LINES, "{:?} was written", sink.written());
+    drop(sink);
+}
