@@ -80,15 +80,15 @@ pub flagged_one : (now : Bool) (ts : List Bool) (i : ℕ) → cond now (slice_se
 flagged_one true ts i = ap (λ (b : Bool). slice_set ts i b) (sym (or-true (get_or ts i false)))
 flagged_one false ts i = sym (ap (λ (b : Bool). slice_set ts i b) (or-false (get_or ts i false)) ∙ set-get_or ts i false)
 
-module _ (limit : ℤ) (shapes : List Shape) (n block : ℕ) (ps : List Particle) (t : Ledger) (ts : List Bool) where
-  pub pushing_none : (places : List Vec3) → Pushing limit shapes n block 0 places ps t ts t ts
-  pushing_none places = record {
+module _ {limit : ℤ} {shapes : List Shape} {n block : ℕ} {ps : List Particle} {t : Ledger} {ts : List Bool} where
+  pub pushing_none : {places : List Vec3} → Pushing limit shapes n block 0 places ps t ts t ts
+  pushing_none = record {
     qs = ps;
     saved = saved_none _ _ _ _ _;
     same = ap (λ (k : ℕ). pushed_from limit shapes k (passing ps t ts)) (omega arith);
   }
 
-  module _ (j : ℕ) (places : List Vec3) (u : Ledger) (us : List Bool) (h : Pushing limit shapes n block j places ps t ts u us)
+  module _ {j : ℕ} {places : List Vec3} {u : Ledger} {us : List Bool} (h : Pushing limit shapes n block j places ps t ts u us)
       (lane : j < n) (lt : block * n + j < length ps) where
     here : particle_at h.qs (block * n + j) ≡ particle_at ps (block * n + j)
     here = saved_not_yet (block * n) (filled_lanes n block ps) (place_in places) (before_of n block ps) ps h.qs j h.saved
@@ -136,12 +136,12 @@ module _ (limit : ℤ) (shapes : List Shape) (n block : ℕ) (ps : List Particle
         }
 
   -- once all lanes that have a particle are pushed, whatever has their places is pushed
-  pub pushing_all : (j : ℕ) (places : List Vec3) (u : Ledger) (us : List Bool) → Pushing limit shapes n block j places ps t ts u us
+  pub pushing_all : {j : ℕ} {places : List Vec3} {u : Ledger} {us : List Bool} → Pushing limit shapes n block j places ps t ts u us
       → length us ≡ length ps → j ≤ n → (j < n → block * n + j ≡ length ps)
       → (qs : List Particle) → Saved n (block * n) (filled_lanes n block ps) (place_in places) (before_of n block ps) ps qs
       → pushed_from limit shapes (block * n + n) (passing qs u us)
       ≡ pushed_from limit shapes (block * n) (passing ps t ts)
-  pushing_all j places u us h flags le last qs saved = elim (cases_lt j n) [
+  pushing_all {j} {places} {u} {us} h flags le last qs saved = elim (cases_lt j n) [
     | inl p ↦ (let whole : block * n + j ≡ length ps = last p in
         let mine = saved_rest (block * n) (filled_lanes n block ps) (place_in places) (before_of n block ps) ps h.qs j n
         (omega arith) le h.saved in
@@ -219,23 +219,23 @@ loss_within (negsuc f) made before at b low high h k = absurd (omega (arith, int
 loss_within (pos f) true before at b low high h k = between before at f 256 b (omega arith) (omega (arith, ints)) h k
 loss_within (pos f) false before at b low high h k = subst (Within b) (sym (plus_nothing before)) h
 
-module _ (friction : ℤ) (n block : ℕ) (ps : List Particle) (t : Ledger) (ts : List Bool) where
-  pub rubbing_none : (places : List Vec3) → Rubbing friction n block 0 places ps t ts t
-  rubbing_none places = record {
+module _ {friction : ℤ} {n block : ℕ} {ps : List Particle} {t : Ledger} {ts : List Bool} where
+  pub rubbing_none : {places : List Vec3} → Rubbing friction n block 0 places ps t ts t
+  rubbing_none = record {
     qs = ps;
     saved = saved_none _ _ _ _ _;
     same = ap (λ (k : ℕ). rubbed_from friction k (passing ps t ts)) (omega arith);
   }
 
   -- one lane more
-  pub rubbing_on : (j : ℕ) (places : List Vec3) (u : Ledger) → Rubbing friction n block j places ps t ts u → j < n
+  pub rubbing_on : {j : ℕ} {places : List Vec3} {u : Ledger} → Rubbing friction n block j places ps t ts u → j < n
       → block * n + j < length ps → length ts ≡ length ps → j < length places
       → (made : Bool) (loss v : Vec3) (w : Ledger) → made ≡ (not (particle_at ps (block * n + j)).held && get_or ts (block * n + j) false)
       → loss ≡ loss_of friction made (particle_at ps (block * n + j)).before (particle_at ps (block * n + j)).at
       → v ≡ plus (particle_at ps (block * n + j)).before loss
       → w ≡ cond made (added u classes.Shape (opposite loss)) u
       → Rubbing friction n block (j + 1) (slice_set places j v) ps t ts w
-  rubbing_on j places u h lane lt flags room made loss v w em el ev ew =
+  rubbing_on {j} {places} {u} h lane lt flags room made loss v w em el ev ew =
       let i = block * n + j in
       let here : particle_at h.qs i ≡ particle_at ps i = saved_not_yet (block * n) (filled_lanes n block ps) (at_of n block ps)
       (place_in places) ps h.qs j h.saved in
@@ -266,11 +266,11 @@ module _ (friction : ℤ) (n block : ℕ) (ps : List Particle) (t : Ledger) (ts 
       }
 
   -- once all lanes that have a particle are rubbed, whatever has their places before is rubbed
-  pub rubbing_all : (j : ℕ) (places : List Vec3) (u : Ledger) → Rubbing friction n block j places ps t ts u → j ≤ n
+  pub rubbing_all : {j : ℕ} {places : List Vec3} {u : Ledger} → Rubbing friction n block j places ps t ts u → j ≤ n
       → (j < n → block * n + j ≡ length ps)
       → (qs : List Particle) → Saved n (block * n) (filled_lanes n block ps) (at_of n block ps) (place_in places) ps qs
       → rubbed_from friction (block * n + n) (passing qs u ts) ≡ rubbed_from friction (block * n) (passing ps t ts)
-  rubbing_all j places u h le last qs saved = elim (cases_lt j n) [
+  rubbing_all {j} {places} {u} h le last qs saved = elim (cases_lt j n) [
     | inl p ↦ (let whole : block * n + j ≡ length ps = last p in
         let mine = saved_rest (block * n) (filled_lanes n block ps) (at_of n block ps) (place_in places) ps h.qs j n
         (omega arith) le h.saved in

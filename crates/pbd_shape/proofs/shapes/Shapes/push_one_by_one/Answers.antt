@@ -26,7 +26,7 @@ place-from-requires g c =
 
 pub loop-j-init : goal.loop-j-init
 loop-j-init g c = record {
-  some = pushing_none _ _ _ _ _ _ _ _;
+  some = pushing_none;
   whole = length-replicate _ _;
   flags = refl;
   inside = λ k h. absurd (omega arith);
@@ -60,8 +60,7 @@ returns-in_default-clause-outcome g c =
     let held = ap (λ (bs : List Bool). get_or bs j false) c.to_array-held.ensures ∙ c.requires.held _ here.lane in
     let at = c.place-from.ensures ∙ c.requires.at _ here.lane in
     let value = simp to_z-of_z at c.in_default.ensures.value in
-    pushing_out c.args.loaded.store.now.limit (shapes_in c.args.self) g.row.L c.args.loaded.block ps _ _ j c.loop-j.places _ _
-    c.loop-j.invariant.some here.lane here.within (way_is (shapes_in c.args.self)
+    pushing_out c.loop-j.invariant.some here.lane here.within (way_is (shapes_in c.args.self)
     (particle_at ps (c.args.loaded.block * g.row.L + j)) c.requires.same held at value)
     ∙ ap (λ (m : ℕ). Err (m + j)) (sym span.first)
 
@@ -121,8 +120,7 @@ loop-j-preserved g c =
     ∙ ap (λ (m : ℕ). cond next.touched (slice_set c.loop-j.touched (m + j) true) c.loop-j.touched) span.first in
     let room : j < length c.loop-j.places = omega (arith, inv.whole) in
     record {
-      some = pushing_on c.args.loaded.store.now.limit (shapes_in c.args.self) g.row.L c.args.loaded.block ps _ _ j c.loop-j.places _ _
-          inv.some here.lane here.within (way_of next) _ _ (inv.flags ∙ c.requires.ready.flags) room way books flags;
+      some = pushing_on inv.some here.lane here.within (way_of next) _ _ (inv.flags ∙ c.requires.ready.flags) room way books flags;
       whole = length-set c.loop-j.places j next.at ∙ inv.whole;
       flags = ap length c.touch_if.ensures ∙ flagged_length next.touched _ _ ∙ inv.flags;
       inside = inside_more _ c.loop-j.places j next.at room inv.inside
@@ -135,8 +133,7 @@ returns-clause-outcome g c =
     let span = c.span-span.ensures in
     let inv = c.loop-j.invariant in
     let done = are_all span.first span.count span.last c.loop-j-test.false c.loop-j.auto.j-end in
-    pushing_all c.args.loaded.store.now.limit (shapes_in c.args.self) g.row.L c.args.loaded.block c.args.loaded.store.now.particles _ _ c.loop-j.j
-    c.loop-j.places _ _ inv.some (inv.flags ∙ c.requires.ready.flags) done.high done.last
+    pushing_all inv.some (inv.flags ∙ c.requires.ready.flags) done.high done.last
 
 pub returns-clause-inside : goal.returns-clause-inside
 returns-clause-inside g c =

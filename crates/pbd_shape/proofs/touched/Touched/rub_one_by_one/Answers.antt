@@ -32,7 +32,7 @@ pub loop-j-init : goal.loop-j-init
 loop-j-init g c =
     let f = c.ranges.friction in
     record {
-      some = simp to_z-of_z (rubbing_none _ _ _ _ _ _ _);
+      some = simp to_z-of_z rubbing_none;
       whole = length-replicate _ _;
       within = λ k h. absurd (omega arith);
       room = λ n h. room_at _ (omega arith) h;
@@ -124,8 +124,8 @@ loop-j-preserved g c =
     (loss_within friction made p.before p.at (unsigned_abs c.args.loaded.store.now.limit) (part_low friction c.requires.ready.valid_friction)
     (part_high friction c.requires.ready.valid_friction) (c.requires.ready.within.before i here.within) (c.requires.ready.within.at i here.within)) in
     record {
-      some = simp to_z-of_z (rubbing_on friction g.row.L c.args.loaded.block ps _ ts j c.loop-j.places u some here.lane here.within c.requires.ready.flags room
-          made loss c.plus.result _ makes loses comes books);
+      some = simp to_z-of_z (rubbing_on some here.lane here.within c.requires.ready.flags room made loss c.plus.result _ makes loses
+          comes books);
       whole = length-set c.loop-j.places j c.plus.result ∙ inv.whole;
       within = inside_more _ c.loop-j.places j c.plus.result room inv.within stays;
       room = λ n h. room_at _ (omega arith) (c.book_if.ensures.room _ (inv.room n h));
@@ -139,8 +139,7 @@ returns g c =
     let done = are_all span.first span.count span.last c.loop-j-test.false c.loop-j.auto.j-end in
     let some = simp to_z-of_z at inv.some in
     record {
-      outcome = rubbing_all c.args.friction g.row.L c.args.loaded.block c.args.loaded.store.now.particles _ _ c.loop-j.j c.loop-j.places _ some
-          done.high done.last;
+      outcome = rubbing_all some done.high done.last;
       within = λ j h k. inv.within j (done.each j h k);
       room = λ n h. room_at _ (omega (arith, span.first, span.count, span.within, c.loop-j-test.false, c.loop-j.auto.j-end)) (inv.room n h);
     }
