@@ -123,9 +123,9 @@ none_of x (u ∷ us) h = elim (cases_eq u.particle x.particle) [
       ∙ none_of x us (past_or (x.particle == u.particle) (list_any (same_particle x) us) (ne_eqb x.particle u.particle (λ e. n (sym e))) h)
 ]
 
-pub next_valid : (x : Track) (left all : List Track) (t : ℕ) (limit : ℤ) (old now : List Particle)
+pub next_valid : {x : Track} {left all : List Track} {t : ℕ} {limit : ℤ} {old now : List Particle}
     → Following (x ∷ left) all t limit old now → IsTrue (is_valid_track limit (length old) x)
-next_valid x left all t limit old now h = (and_parts _ _ h.valid).0
+next_valid h = (and_parts _ _ h.valid).0
 
 pub next_within : (x : Track) (limit : ℤ) (n : ℕ) → IsTrue (is_valid_track limit n x) → x.particle < n
 next_within x limit n h = ltb-true x.particle n ((and_parts _ _ (and_parts _ _ (and_parts _ _ h).0).0).0)
@@ -150,10 +150,10 @@ at_other x left t now i n =
     (record (particle_at now x.particle) { at = place_at x.keys t }) no_particle (λ e. n (sym e)))
     ∙ sym (ap (λ (b : Bool). follow (cond b (Some x) (track_of left i)) t (particle_at now i)) (ne_eqb x.particle i n))
 
-pub following_more : (x : Track) (left all : List Track) (t : ℕ) (limit : ℤ) (old now : List Particle)
+pub following_more : {x : Track} {left all : List Track} {t : ℕ} {limit : ℤ} {old now : List Particle}
     → Following (x ∷ left) all t limit old now → Following left all t limit old (placed now x.particle (place_at x.keys t))
-following_more x left all t limit old now h =
-    let within : x.particle < length old = next_within x limit (length old) (next_valid x left all t limit old now h) in
+following_more {x} {left} {t} {limit} {old} {now} h =
+    let within : x.particle < length old = next_within x limit (length old) (next_valid h) in
     let apart = and_parts _ _ h.apart in
     let now_as : (i : ℕ) → attached_at left t (placed now x.particle (place_at x.keys t)) i ≡ attached_at (x ∷ left) t now i =
     λ i. elim (cases_eq x.particle i) [

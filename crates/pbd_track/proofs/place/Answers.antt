@@ -23,15 +23,14 @@ track_at-place-requires g c =
       limit = c.args.store.now.limit;
       particles = length c.args.store.now.particles;
       either = subst (λ (limit : ℤ). IsTrue (is_limit limit)) c.limit-limit.ensures.value c.limit-limit.ensures.either;
-      valid = next_valid _ _ _ _ _ _ _ next;
+      valid = next_valid next;
     }
 
 pub put-requires : goal.put-requires
 put-requires g c =
     let next = following_next c.args.tracks.now c.loop-track.track-index c.track-item.result c.args.t c.args.store.now.limit
     c.args.store.now.particles c.loop-track.store.particles c.loop-track-test.true c.track-item.is c.loop-track.invariant.following in
-    let within = next_within c.track-item.result c.args.store.now.limit (length c.args.store.now.particles)
-    (next_valid _ _ _ _ _ _ _ next) in
+    let within = next_within c.track-item.result c.args.store.now.limit (length c.args.store.now.particles) (next_valid next) in
     (omega arith, omega (arith, within, next.whole))
 
 pub loop-track-preserved : goal.loop-track-preserved
@@ -42,7 +41,7 @@ loop-track-preserved g c =
     c.track_at-place.ensures in
     record {
       following = subst (λ (ps : List Particle). Following (drop (c.loop-track.track-index + 1) c.args.tracks.now) c.args.tracks.now
-          c.args.t c.args.store.now.limit c.args.store.now.particles ps) (sym is) (following_more c.track-item.result _ _ _ _ _ _ next);
+          c.args.t c.args.store.now.limit c.args.store.now.particles ps) (sym is) (following_more next);
       limit = c.put.ensures.limit ∙ c.loop-track.invariant.limit;
       copies = c.put.ensures.copies ∙ c.loop-track.invariant.copies;
       cost = omega (arith, c.put.ensures.cost, c.loop-track.invariant.cost);
