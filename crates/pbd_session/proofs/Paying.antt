@@ -49,12 +49,12 @@ unfolding reply_work
 ledger_reads v w r same is = rw (same, is) refl
 
 -- once a command was done and answered, what is left and what was spent are at most what they were
-pub paid_next : (width lanes : ℕ) (w v : World) (left : List Command) (c : Command) (cs : List Command) (r : Reply) (whole mid next new : ℕ)
-    → left ≡ c ∷ cs → Does w v c r
+pub paid_next : (width lanes : ℕ) {w v : World} {left : List Command} {c : Command} {cs : List Command} {r : Reply}
+    {whole next new : ℕ} (mid : ℕ) → left ≡ c ∷ cs → Does w v c r
     → mid + session_work width lanes w left ≤ whole → next ≤ mid + command_work width lanes w c → new ≤ next + reply_work v r
     → new + session_work width lanes v cs ≤ whole
 unfolding session_work
-paid_next width lanes w v left c cs r whole mid next new is does spent done printed =
+paid_next width lanes {w} {c} {cs} {whole} mid is does spent done printed =
     let before : mid + session_work width lanes w (c ∷ cs) ≤ whole = rw is at spent in
     let wrote = rw (does.world, does.reply) at printed in
     rw does.world (omega (arith, before, done, wrote))

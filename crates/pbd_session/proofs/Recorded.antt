@@ -57,11 +57,11 @@ logged_begins w all limit scene old new wrote = record {
   leads = leads_begin w all;
 }
 
-pub logged_next : (start : World) (all : List Command) (limit : ℤ) (scene : List ℕ) (w v : World) (left : List Command) (c : Command)
-    (cs : List Command) (old mid new : Option (List ℕ)) (refused written : ℕ) (r : Reply) (e : Entry)
+pub logged_next : {start : World} {all : List Command} {limit : ℤ} {scene : List ℕ} {w v : World} {left : List Command} {c : Command}
+    {cs : List Command} {old mid new : Option (List ℕ)} {refused written : ℕ} {r : Reply} {e : Entry}
     → Logged start all limit scene w left old mid refused written → left ≡ c ∷ cs → Does w v c r → e ≡ entry_of (entry w c) → IsEntry e
     → Appends mid new (entry_bytes e) → Logged start all limit scene v cs old new (refused + (if is_refused r then 1 else 0)) (written + 1)
-logged_next start all limit scene w v left c cs old mid new refused written r e logged is does kept grammar wrote =
+logged_next {start} {all} {limit} {scene} {w} {c} {cs} {old} {mid} {new} {refused} {written} logged is does kept grammar wrote =
     let here : Logged start all limit scene w (c ∷ cs) old mid refused written = rw is at logged in
     let e' = entry_of (entry w c) in
     let wrote_that : Appends mid new (entry_bytes e') = rw kept at wrote in
@@ -85,11 +85,10 @@ pub is_grammatical : (w : World) (c : Command) (e : Entry) → e ≡ entry_of (e
 is_grammatical w c e is = rw is (kept_is w c)
 
 -- so many entries can be counted
-pub has_room : (start : World) (all : List Command) (limit : ℤ) (scene : List ℕ) (w : World) (left : List Command)
-    (old new : Option (List ℕ)) (refused written : ℕ) → Logged start all limit scene w left old new refused written
-    → length all ≤ 2 ^ 31 + 1
-    → written < 2 ^ 32
-has_room start all limit scene w left old new refused written logged few = omega (arith, logged.number, as_many start all, few)
+pub has_room : {start : World} {all : List Command} {limit : ℤ} {scene : List ℕ} {w : World} {left : List Command}
+    {old new : Option (List ℕ)} {refused written : ℕ} → Logged start all limit scene w left old new refused written
+    → length all ≤ 2 ^ 31 + 1 → written < 2 ^ 32
+has_room {start} {all} logged few = omega (arith, logged.number, as_many start all, few)
 
 -- what stands where a sink failed
 pub record Failed (start : World) (all : List Command) (limit : ℤ) (scene : List ℕ) (v : World) (old new : Option (List ℕ)) : Type 0 where
@@ -107,12 +106,12 @@ begin_failed w all limit scene old new wrote = record {
 regroup : (h d e m t : List ℕ) → ((h ++ d) ++ e) ++ (m ++ t) ≡ (h ++ (d ++ (e ++ m))) ++ t
 regroup h d e m t = simp append_assoc refl
 
-pub logged_failed : (start : World) (all : List Command) (limit : ℤ) (scene : List ℕ) (w v : World) (left : List Command) (c : Command)
-    (cs : List Command) (old mid new : Option (List ℕ)) (refused written : ℕ) (r : Reply) (e : Entry)
+pub logged_failed : {start : World} {all : List Command} {limit : ℤ} {scene : List ℕ} {w v : World} {left : List Command} {c : Command}
+    {cs : List Command} {old mid new : Option (List ℕ)} {refused written : ℕ} {r : Reply} {e : Entry}
     → Logged start all limit scene w left old mid refused written → left ≡ c ∷ cs → Does w v c r → e ≡ entry_of (entry w c)
     → AppendsPrefix mid new (entry_bytes e) → Failed start all limit scene v old new
 unfolding log_bytes
-logged_failed start all limit scene w v left c cs old mid new refused written r e logged is does kept wrote =
+logged_failed {start} {all} {limit} {scene} {w} {c} {cs} {old} {mid} {new} {refused} {written} logged is does kept wrote =
     let here : Logged start all limit scene w (c ∷ cs) old mid refused written = rw is at logged in
     let e' = entry_of (entry w c) in
     let wrote_that : AppendsPrefix mid new (entry_bytes e') = rw kept at wrote in
@@ -128,22 +127,22 @@ logged_failed start all limit scene w v left c cs old mid new refused written r 
       one_of = leads_among start all (after w c) cs (leads_on start all w c cs here.leads);
     })
 
-whole : (start : World) (all : List Command) (limit : ℤ) (scene : List ℕ) (w : World) (old mid new : Option (List ℕ)) (refused written : ℕ)
+whole : {start : World} {all : List Command} {limit : ℤ} {scene : List ℕ} {w : World} {old mid : Option (List ℕ)} {refused written : ℕ}
     → (here : Logged start all limit scene w [] old mid refused written)
     → ((head limit scene ++ here.done) ++ end_bytes written ≡ log_bytes limit scene (entries_of start all))
 unfolding log_bytes
-whole start all limit scene w old mid new refused written here =
+whole {start} {all} {written} here =
     let n : written ≡ length (entries_of start all) = omega (arith, here.number) in
     let d : here.done ≡ bytes_of (entries_of start all) = sym (append-nil here.done) ∙ here.entries in
     rw (d, n) refl
 
-pub finish_failed : (start : World) (all : List Command) (limit : ℤ) (scene : List ℕ) (w : World) (left : List Command)
-    (old mid new : Option (List ℕ)) (refused written : ℕ) → Logged start all limit scene w left old mid refused written → left ≡ []
+pub finish_failed : {start : World} {all : List Command} {limit : ℤ} {scene : List ℕ} {w : World} {left : List Command}
+    {old mid new : Option (List ℕ)} {refused written : ℕ} → Logged start all limit scene w left old mid refused written → left ≡ []
     → AppendsPrefix mid new (end_bytes written) → Failed start all limit scene w old new
-finish_failed start all limit scene w left old mid new refused written logged is wrote =
+finish_failed {start} {all} {limit} {scene} {w} {old} {mid} {refused} {written} logged is wrote =
     let here : Logged start all limit scene w [] old mid refused written = rw is at logged in
     record {
-      bytes = rw (← whole start all limit scene w old mid new refused written here) (prefix_then _ _ _ _ _ here.bytes wrote);
+      bytes = rw (← whole here) (prefix_then _ _ _ _ _ here.bytes wrote);
       one_of = leads_among start all w [] here.leads;
     }
 
@@ -154,15 +153,15 @@ pub record Ended (start : World) (all : List Command) (limit : ℤ) (scene : Lis
   pub count : refused ≡ refused_count start all
   pub world : w ≡ last_world start all
 
-pub logged_ends : (start : World) (all : List Command) (limit : ℤ) (scene : List ℕ) (w : World) (left : List Command)
-    (old mid new : Option (List ℕ)) (refused written : ℕ) → Logged start all limit scene w left old mid refused written → left ≡ []
+pub logged_ends : {start : World} {all : List Command} {limit : ℤ} {scene : List ℕ} {w : World} {left : List Command}
+    {old mid new : Option (List ℕ)} {refused written : ℕ} → Logged start all limit scene w left old mid refused written → left ≡ []
     → Appends mid new (end_bytes written) → IsTrue (is_limit limit) → length scene < 2 ^ 32 → length all < 2 ^ 64
     → Ended start all limit scene w old new refused
 unfolding log_bytes
-logged_ends start all limit scene w left old mid new refused written logged is wrote known short few =
+logged_ends {start} {all} {limit} {scene} {w} {old} {mid} {refused} {written} logged is wrote known short few =
     let here : Logged start all limit scene w [] old mid refused written = rw is at logged in
     record {
-      bytes = rw (← whole start all limit scene w old mid new refused written here) (appends_then _ _ _ _ _ here.bytes wrote);
+      bytes = rw (← whole here) (appends_then _ _ _ _ _ here.bytes wrote);
       spells = parts_spell limit scene (entries_of start all) known short (here.each tt) (omega (arith, as_many start all, few));
       count = counted_all start all w refused here.counted;
       world = leads_last start all w here.leads;

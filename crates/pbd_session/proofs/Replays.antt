@@ -56,12 +56,12 @@ more_then n m (ends.Done refused) = let e : (n + m) + refused ≡ n + (m + refus
 more_then n m (ends.Mismatch entry field recorded found) = refl
 
 -- an entry agrees, and its reply is written
-pub agreed_next : (start : World) (all : List Entry) (n : ℕ) (w v : World) (left : List Entry) (e : Entry) (es : List Entry)
-    (old mid new : Option (List ℕ)) (refused : ℕ) (r : Reply) → Agreed start all n w left old mid refused → left ≡ e ∷ es
+pub agreed_next : {start : World} {all : List Entry} {n : ℕ} {w v : World} {left : List Entry} {e : Entry} {es : List Entry}
+    {old mid new : Option (List ℕ)} {refused : ℕ} {r : Reply} → Agreed start all n w left old mid refused → left ≡ e ∷ es
     → Does w v e.command r → difference e (found_now w e) ≡ None → Appends mid new (text v r)
     → Agreed start all (n + 1) v es old new (refused + (if is_refused r then 1 else 0))
 unfolding replayed_from
-agreed_next start all n w v left e es old mid new refused r agreed is does same wrote =
+agreed_next {start} {all} {n} {w} {e} {es} {old} {mid} {new} {refused} agreed is does same wrote =
     let here : Agreed start all n w (e ∷ es) old mid refused = rw is at agreed in
     let w' = after w e.command in
     let r' = reply w e.command in
@@ -78,12 +78,12 @@ agreed_next start all n w v left e es old mid new refused r agreed is does same 
     })
 
 -- or a prefix of it
-pub agreed_failed : (start : World) (all : List Entry) (n : ℕ) (w v : World) (left : List Entry) (e : Entry) (es : List Entry)
-    (old mid new : Option (List ℕ)) (refused : ℕ) (r : Reply) → Agreed start all n w left old mid refused → left ≡ e ∷ es
+pub agreed_failed : {start : World} {all : List Entry} {n : ℕ} {w v : World} {left : List Entry} {e : Entry} {es : List Entry}
+    {old mid : Option (List ℕ)} {refused : ℕ} {r : Reply} (new : Option (List ℕ)) → Agreed start all n w left old mid refused → left ≡ e ∷ es
     → Does w v e.command r → difference e (found_now w e) ≡ None → AppendsPrefix mid new (text v r)
     → AppendsPrefix old new (replayed start all).text
 unfolding replayed_from
-agreed_failed start all n w v left e es old mid new refused r agreed is does same wrote =
+agreed_failed {start} {all} {n} {w} {e} {es} {old} {mid} {refused} new agreed is does same wrote =
     let here : Agreed start all n w (e ∷ es) old mid refused = rw is at agreed in
     let wrote_that : AppendsPrefix mid new (text (after w e.command) (reply w e.command)) = rw (does.world, does.reply) at wrote in
     rw (← (rw same at here.text)) (prefix_then _ _ _ here.done _ here.bytes
@@ -95,10 +95,10 @@ pub record Ended (start : World) (all : List Entry) (w : World) (old new : Optio
   pub world : w ≡ (replayed start all).world
   pub one_of : Contains (worlds start (commands_of all)) w
 
-pub agreed_ends : (start : World) (all : List Entry) (n : ℕ) (w : World) (left : List Entry) (old new : Option (List ℕ)) (refused : ℕ)
+pub agreed_ends : {start : World} {all : List Entry} {n : ℕ} {w : World} {left : List Entry} {old new : Option (List ℕ)} {refused : ℕ}
     → Agreed start all n w left old new refused → left ≡ [] → Ended start all w old new (ends.Done refused)
 unfolding replayed_from
-agreed_ends start all n w left old new refused agreed is =
+agreed_ends {start} {all} {n} {w} {old} {new} {refused} agreed is =
     let here : Agreed start all n w [] old new refused = rw is at agreed in
     record {
       bytes = rw (sym (append-nil here.done) ∙ here.text) at here.bytes;
@@ -109,37 +109,37 @@ agreed_ends start all n w left old new refused agreed is =
 
 -- ---- an entry differs, and its line is written
 
-pub differs_piece : {T E : Type 0} (start : World) (all : List Entry) (n : ℕ) (w v : World) (left : List Entry) (e : Entry)
-    (es : List Entry) (old mid new : Option (List ℕ)) (refused : ℕ) (r : Reply) (c : Compared) (out : Result T E)
-    → Agreed start all n w left old mid refused → left ≡ e ∷ es → Does w v e.command r → difference e (found_now w e) ≡ Some c
+pub differs_piece : {T E : Type 0} {start : World} {all : List Entry} {n : ℕ} {w : World} {left : List Entry} {e : Entry}
+    {es : List Entry} {old mid : Option (List ℕ)} {refused : ℕ} {c : Compared} (new : Option (List ℕ)) (out : Result T E)
+    → Agreed start all n w left old mid refused → left ≡ e ∷ es → difference e (found_now w e) ≡ Some c
     → WritesPiece mid new out (mismatch_line n c) → WritesPiece old new out (replayed start all).text
 unfolding replayed_from
-differs_piece start all n w v left e es old mid new refused r c out agreed is does other wrote =
+differs_piece {start} {all} {n} {w} {e} {es} {old} {mid} {refused} new out agreed is other wrote =
     let here : Agreed start all n w (e ∷ es) old mid refused = rw is at agreed in
     rw (← (rw other at here.text)) (piece_then _ _ _ out _ _ here.bytes wrote)
 
-pub differs_ended : (start : World) (all : List Entry) (n : ℕ) (w : World) (left : List Entry) (e : Entry) (es : List Entry)
-    (old mid : Option (List ℕ)) (refused : ℕ) (c : Compared) → Agreed start all n w left old mid refused → left ≡ e ∷ es
+pub differs_ended : {start : World} {all : List Entry} {n : ℕ} {w : World} {left : List Entry} {e : Entry} {es : List Entry}
+    {old mid : Option (List ℕ)} {refused : ℕ} {c : Compared} → Agreed start all n w left old mid refused → left ≡ e ∷ es
     → difference e (found_now w e) ≡ Some c → ends.Mismatch n c.field c.recorded c.found ≡ (replayed start all).ended
 unfolding replayed_from
-differs_ended start all n w left e es old mid refused c agreed is other =
+differs_ended {start} {all} {n} {w} {e} {es} {old} {mid} {refused} agreed is other =
     let here : Agreed start all n w (e ∷ es) old mid refused = rw is at agreed in
     rw other at here.ended
 
-pub differs_world : {T E : Type 0} (start : World) (all : List Entry) (n : ℕ) (w v : World) (left : List Entry) (e : Entry)
-    (es : List Entry) (old mid : Option (List ℕ)) (refused : ℕ) (r : Reply) (c : Compared) (out : Result T E)
+pub differs_world : {T E : Type 0} {start : World} {all : List Entry} {n : ℕ} {w v : World} {left : List Entry} {e : Entry}
+    {es : List Entry} {old mid : Option (List ℕ)} {refused : ℕ} {r : Reply} {c : Compared} (out : Result T E)
     → Agreed start all n w left old mid refused → left ≡ e ∷ es → Does w v e.command r → difference e (found_now w e) ≡ Some c
     → OnOk out (v ≡ (replayed start all).world)
 unfolding replayed_from
-differs_world start all n w v left e es old mid refused r c (Err x) agreed is does other = tt
-differs_world start all n w v left e es old mid refused r c (Ok x) agreed is does other =
+differs_world (Err x) agreed is does other = tt
+differs_world {start} {all} {n} {w} {e} {es} {old} {mid} {refused} (Ok x) agreed is does other =
     let here : Agreed start all n w (e ∷ es) old mid refused = rw is at agreed in
     does.world ∙ (rw other at here.world)
 
-pub does_one_of : (start : World) (all : List Entry) (n : ℕ) (w v : World) (left : List Entry) (e : Entry) (es : List Entry)
-    (old mid : Option (List ℕ)) (refused : ℕ) (r : Reply) → Agreed start all n w left old mid refused → left ≡ e ∷ es → Does w v e.command r
+pub does_one_of : {start : World} {all : List Entry} {n : ℕ} {w v : World} {left : List Entry} {e : Entry} {es : List Entry}
+    {old mid : Option (List ℕ)} {refused : ℕ} {r : Reply} → Agreed start all n w left old mid refused → left ≡ e ∷ es → Does w v e.command r
     → Contains (worlds start (commands_of all)) v
-does_one_of start all n w v left e es old mid refused r agreed is does =
+does_one_of {start} {all} {n} {w} {e} {es} {old} {mid} {refused} agreed is does =
     let here : Agreed start all n w (e ∷ es) old mid refused = rw is at agreed in
     rw does.world (leads_among start (commands_of all) (after w e.command) (commands_of es)
     (leads_on start (commands_of all) w e.command (commands_of es) here.leads))

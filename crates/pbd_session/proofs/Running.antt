@@ -75,11 +75,11 @@ pub record Does (w v : World) (c : Command) (r : Reply) : Type 0 where
   pub world : v ≡ after w c
   pub reply : r ≡ reply w c
 
-pub ran_next : (start : World) (all : List Command) (w v : World) (left : List Command) (c : Command) (cs : List Command)
-    (old mid new : Option (List ℕ)) (refused : ℕ) (r : Reply) → Ran start all w left old mid refused → left ≡ c ∷ cs → Does w v c r
+pub ran_next : {start : World} {all : List Command} {w v : World} {left : List Command} {c : Command} {cs : List Command}
+    {old mid new : Option (List ℕ)} {refused : ℕ} {r : Reply} → Ran start all w left old mid refused → left ≡ c ∷ cs → Does w v c r
     → Appends mid new (text v r) → Ran start all v cs old new (refused + (if is_refused r then 1 else 0))
 unfolding session_text
-ran_next start all w v left c cs old mid new refused r ran is does wrote =
+ran_next {start} {all} {w} {c} {cs} {old} {mid} {new} {refused} ran is does wrote =
     let here : Ran start all w (c ∷ cs) old mid refused = rw is at ran in
     let wrote_that : Appends mid new (text (after w c) (reply w c)) = rw (does.world, does.reply) at wrote in
     rw (does.world, does.reply) (record {
@@ -95,11 +95,11 @@ pub record Failed (start : World) (all : List Command) (v : World) (old new : Op
   pub bytes : AppendsPrefix old new (session_text start all)
   pub one_of : Contains (worlds start all) v
 
-pub ran_failed : (start : World) (all : List Command) (w v : World) (left : List Command) (c : Command) (cs : List Command)
-    (old mid new : Option (List ℕ)) (refused : ℕ) (r : Reply) → Ran start all w left old mid refused → left ≡ c ∷ cs → Does w v c r
+pub ran_failed : {start : World} {all : List Command} {w v : World} {left : List Command} {c : Command} {cs : List Command}
+    {old mid new : Option (List ℕ)} {refused : ℕ} {r : Reply} → Ran start all w left old mid refused → left ≡ c ∷ cs → Does w v c r
     → AppendsPrefix mid new (text v r) → Failed start all v old new
 unfolding session_text
-ran_failed start all w v left c cs old mid new refused r ran is does wrote =
+ran_failed {start} {all} {w} {c} {cs} {old} {mid} {new} {refused} ran is does wrote =
     let here : Ran start all w (c ∷ cs) old mid refused = rw is at ran in
     let wrote_that : AppendsPrefix mid new (text (after w c) (reply w c)) = rw (does.world, does.reply) at wrote in
     rw does.world (record {
@@ -113,10 +113,10 @@ pub record Ended (start : World) (all : List Command) (w : World) (old new : Opt
   pub count : refused ≡ refused_count start all
   pub world : w ≡ last_world start all
 
-pub ran_ends : (start : World) (all : List Command) (w : World) (left : List Command) (old new : Option (List ℕ)) (refused : ℕ)
+pub ran_ends : {start : World} {all : List Command} {w : World} {left : List Command} {old new : Option (List ℕ)} {refused : ℕ}
     → Ran start all w left old new refused → left ≡ [] → Ended start all w old new refused
 unfolding session_text
-ran_ends start all w left old new refused ran is =
+ran_ends {start} {all} {w} {old} {new} {refused} ran is =
     let here : Ran start all w [] old new refused = rw is at ran in
     record {
       bytes = rw (sym (append-nil here.done) ∙ here.text) at here.bytes;

@@ -36,7 +36,7 @@ entry_fails g c =
     let p = err_from_is_err_and c.from_residual-in_err-append.result c.from_residual-in_err-append.ensures.1 in
     let does : Does c.loop-command.session c.apply-reply.new.self c.in-Some.command c.apply-reply.result =
     record { world = c.apply-reply.ensures.world; reply = c.apply-reply.ensures.reply } in
-    let stands = logged_failed _ _ _ _ _ _ _ _ _ _ _ _ _ _ _ _ c.loop-command.invariant.logged c.in-Some.ensures does
+    let stands = logged_failed c.loop-command.invariant.logged c.in-Some.ensures does
     (is_entry _ _ _ _ _ does c.entry-entry.ensures) c.in_err-append.ensures.bytes in
     rw (p.1, ← c.new-script.ensures.all) (stands.bytes, stands.one_of)
 
@@ -65,7 +65,7 @@ append-requires-clause-grammar g c = is_grammatical c.loop-command.session c.in-
 
 pub append-requires-clause-room : goal.append-requires-clause-room
 append-requires-clause-room g c =
-    has_room _ _ _ _ _ _ _ _ _ _ c.loop-command.invariant.logged (omega (arith, c.new-script.ensures.few, c.requires.script))
+    has_room c.loop-command.invariant.logged (omega (arith, c.new-script.ensures.few, c.requires.script))
 
 pub returns-in_err-append-clause-bytes : goal.returns-in_err-append-clause-bytes
 returns-in_err-append-clause-bytes g c =
@@ -86,7 +86,7 @@ loop-command-preserved g c =
     let at = goal.at.loop-command-preserved g c in
     record {
       logged = rw (c.refusals-refused.ensures, c.in_ok-append.ensures.ok)
-          (logged_next _ _ _ _ _ _ _ _ _ _ _ _ _ _ _ _ c.loop-command.invariant.logged c.in-Some.ensures (did g at.After-apply-reply)
+          (logged_next c.loop-command.invariant.logged c.in-Some.ensures (did g at.After-apply-reply)
           (kept g at.After-entry-entry) c.append.ensures.entry c.in_ok-append.ensures.bytes);
       later = omega (arith, c.loop-command.invariant.later, c.append.ensures.cause);
     }
@@ -94,19 +94,19 @@ loop-command-preserved g c =
 pub returns-in_err-finish-clause-bytes : goal.returns-in_err-finish-clause-bytes
 returns-in_err-finish-clause-bytes g c =
     let p = err_from_is_err_and c.from_residual-in_err-finish.result c.from_residual-in_err-finish.ensures.1 in
-    rw (p.1, ← c.new-script.ensures.all) ((finish_failed _ _ _ _ _ _ _ _ _ _ _ c.loop-command.invariant.logged c.in_default.ensures.0
+    rw (p.1, ← c.new-script.ensures.all) ((finish_failed c.loop-command.invariant.logged c.in_default.ensures.0
     c.in_err-finish.ensures.bytes).bytes)
 
 pub returns-in_err-finish-clause-one_of : goal.returns-in_err-finish-clause-one_of
 returns-in_err-finish-clause-one_of g c =
     let p = err_from_is_err_and c.from_residual-in_err-finish.result c.from_residual-in_err-finish.ensures.1 in
-    rw (p.1, ← c.new-script.ensures.all) ((finish_failed _ _ _ _ _ _ _ _ _ _ _ c.loop-command.invariant.logged c.in_default.ensures.0
+    rw (p.1, ← c.new-script.ensures.all) ((finish_failed c.loop-command.invariant.logged c.in_default.ensures.0
     c.in_err-finish.ensures.bytes).one_of)
 
 pub returns : goal.returns
 returns g c =
     let few : length c.new-script.result < 2 ^ 64 = omega (arith, c.new-script.ensures.few, c.requires.script) in
-    let ended = logged_ends _ _ _ _ _ _ _ _ _ _ _ c.loop-command.invariant.logged c.in_default.ensures.0 c.in_ok-finish.ensures.bytes
+    let ended = logged_ends c.loop-command.invariant.logged c.in_default.ensures.0 c.in_ok-finish.ensures.bytes
     c.begin_log.ensures.known c.requires.scene few in
     let all = c.new-script.ensures.all in
     record {

@@ -26,10 +26,10 @@ returns-in-Some-difference g c =
     let is = ap (λ (l : Log). l.entries) c.in-Some.ensures.next in
     let other = ap (difference c.in-Some.entry) (sym (is_entry _ _ _ _ _ does c.entry-found.ensures)) ∙ sym c.in-Some-difference.ensures in
     record {
-      bytes = differs_piece _ _ _ _ _ _ _ _ _ _ _ _ _ _ _ agreed is does other c.write_mismatch.ensures.bytes;
-      ended = rw (← differs_ended _ _ _ _ _ _ _ _ _ _ _ agreed is other) c.write_mismatch.ensures.ended;
-      world = differs_world _ _ _ _ _ _ _ _ _ _ _ _ _ c.write_mismatch.result agreed is does other;
-      one_of = does_one_of _ _ _ _ _ _ _ _ _ _ _ _ agreed is does;
+      bytes = differs_piece _ c.write_mismatch.result agreed is other c.write_mismatch.ensures.bytes;
+      ended = rw (← differs_ended agreed is other) c.write_mismatch.ensures.ended;
+      world = differs_world c.write_mismatch.result agreed is does other;
+      one_of = does_one_of agreed is does;
       cause = search rules;
     }
 
@@ -44,8 +44,8 @@ failed g c =
     let is = ap (λ (l : Log). l.entries) c.in-Some.ensures.next in
     let same = ap (difference c.in-Some.entry) (sym (is_entry _ _ _ _ _ does c.entry-found.ensures))
     ∙ sym c.in_default-difference.ensures in (
-      rw p.1 (agreed_failed _ _ _ _ _ _ _ _ _ _ _ _ _ c.loop-entry.invariant.agreed is does same c.in_err-write_reply.ensures.bytes),
-      does_one_of _ _ _ _ _ _ _ _ _ _ _ _ c.loop-entry.invariant.agreed is does,
+      rw p.1 (agreed_failed _ c.loop-entry.invariant.agreed is does same c.in_err-write_reply.ensures.bytes),
+      does_one_of c.loop-entry.invariant.agreed is does,
     )
 
 pub returns-in_err-write_reply-clause-bytes : goal.returns-in_err-write_reply-clause-bytes
@@ -67,14 +67,14 @@ loop-entry-preserved g c =
     let same = ap (difference c.in-Some.entry) (sym (is_entry _ _ _ _ _ does c.entry-found.ensures))
     ∙ sym c.in_default-difference.ensures in
     record {
-      agreed = rw c.refusals-refused.ensures (agreed_next _ _ _ _ _ _ _ _ _ _ _ _ _ c.loop-entry.invariant.agreed is does same
+      agreed = rw c.refusals-refused.ensures (agreed_next c.loop-entry.invariant.agreed is does same
           c.in_ok-write_reply.ensures.bytes);
       later = omega (arith, c.loop-entry.invariant.later, c.write_reply.ensures.cause);
     }
 
 pub returns : goal.returns
 returns g c =
-    let ended = agreed_ends _ _ _ _ _ _ _ _ c.loop-entry.invariant.agreed c.in_default.ensures.ended in
+    let ended = agreed_ends c.loop-entry.invariant.agreed c.in_default.ensures.ended in
     record { bytes = ended.bytes; ended = ended.ended; world = ended.world; one_of = ended.one_of; cause = search rules }
 
 pub overflow_add-refused : goal.overflow_add-refused

@@ -22,13 +22,13 @@ failed g c =
     let p = err_from_is_err_and c.from_residual.result c.from_residual.ensures.1 in
     let does : Does c.loop-command.session c.apply-reply.new.self c.in-Some.command c.apply-reply.result =
     record { world = c.apply-reply.ensures.world; reply = c.apply-reply.ensures.reply } in
-    let stands = ran_failed _ _ _ _ _ _ _ _ _ _ _ _ c.loop-command.invariant.ran c.in-Some.ensures does c.in_err-write_reply.ensures.bytes in
+    let stands = ran_failed c.loop-command.invariant.ran c.in-Some.ensures does c.in_err-write_reply.ensures.bytes in
     rw (p.1, ← c.new-script.ensures.all) (stands.bytes, stands.one_of)
 
 -- all commands were done
 ended : (g : _) (c : In_default g) → Ended c.args.session.now (commands c.args.script.now) c.loop-command.session
     (g.K.Sink.written c.args.sink.now) (g.K.Sink.written c.loop-command.sink) c.loop-command.refused
-ended g c = rw (← c.new-script.ensures.all) (ran_ends _ _ _ _ _ _ _ c.loop-command.invariant.ran c.in_default.ensures.0)
+ended g c = rw (← c.new-script.ensures.all) (ran_ends c.loop-command.invariant.ran c.in_default.ensures.0)
 
 pub loop-command-init : goal.loop-command-init
 loop-command-init g c = record {
@@ -41,9 +41,9 @@ pub loop-command-preserved : goal.loop-command-preserved
 loop-command-preserved g c =
     let does = did g (goal.at.loop-command-preserved g c).After-apply-reply in
     record {
-      ran = rw c.refusals-refused.ensures (ran_next _ _ _ _ _ _ _ _ _ _ _ _ c.loop-command.invariant.ran c.in-Some.ensures does
+      ran = rw c.refusals-refused.ensures (ran_next c.loop-command.invariant.ran c.in-Some.ensures does
           c.in_ok-write_reply.ensures.bytes);
-      spent = λ lanes some all. paid_next g.row.L lanes _ _ _ _ _ _ _ _ _ _ c.in-Some.ensures does
+      spent = λ lanes some all. paid_next g.row.L lanes _ c.in-Some.ensures does
           (c.loop-command.invariant.spent lanes some all) (c.apply-reply.ensures.cost lanes some all) c.write_reply.ensures.cost;
       later = omega (arith, c.loop-command.invariant.later, c.write_reply.ensures.cause);
     }
@@ -66,7 +66,7 @@ returns-clause-world g c = (ended g (goal.at.returns-clause-world g c).In_defaul
 pub returns-in_err-write_reply-clause-cost : goal.returns-in_err-write_reply-clause-cost
 returns-in_err-write_reply-clause-cost g c = λ lanes some all.
     let does = did g (goal.at.returns-in_err-write_reply-clause-cost g c).After-apply-reply in
-    let paid = paid_next g.row.L lanes _ _ _ _ _ _ _ _ _ _ c.in-Some.ensures does (c.loop-command.invariant.spent lanes some all)
+    let paid = paid_next g.row.L lanes _ c.in-Some.ensures does (c.loop-command.invariant.spent lanes some all)
     (c.apply-reply.ensures.cost lanes some all) c.write_reply.ensures.cost in
     rw (← c.new-script.ensures.all) (omega (arith, paid))
 
