@@ -160,7 +160,7 @@ pulled_none first second f s reach limit vs = record {
   covered = record { firsts = λ k h. absurd (omega arith); seconds = λ k h. absurd (omega arith) };
 }
 
-module _ (pairs : Pairs) (n : ℕ) (f s : ℕ → Vec3) (reach : Reach) (limit : ℤ) (old new : List Vec3) (j : ℕ)
+module _ (pairs : Pairs) {n : ℕ} {f s : ℕ → Vec3} {reach : Reach} {limit : ℤ} {old new : List Vec3} (j : ℕ)
     (h : Pulled j pairs.first.now pairs.second.now f s reach limit old new) (p : j < n) (are : ArePairs n (length old) pairs)
     (apart : PairsApart n pairs) where
   abbrev on : (ℕ → Vec3) → ℕ → Vec3 → Vec3

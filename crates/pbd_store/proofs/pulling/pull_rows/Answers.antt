@@ -12,7 +12,7 @@ use Rattle.pbd_store.proofs.Parting.{pairs_in_rows, pulled_more, first_in, secon
 use Rattle.pbd_store.proofs.pulling.pull_rows.Goals as goal
 
 pub plus-other-requires-clause-place : goal.plus-other-requires-clause-place
-plus-other-requires-clause-place c = second_in c.args.pairs _ _ _ _ _ _ _ c.loop-j.j c.loop-j.invariant.pulled (omega arith)
+plus-other-requires-clause-place c = second_in c.args.pairs c.loop-j.j c.loop-j.invariant.pulled (omega arith)
     (pairs_in_rows c.args.rows.now c.requires.pairs) c.requires.apart _ c.put_row.ensures.places c.row_in-in-loop-j.ensures
     (c.requires.second c.loop-j.j (omega arith))
 
@@ -22,21 +22,21 @@ plus-other-requires-clause-way c = c.requires.can.forth.each c.loop-j.j (omega a
 pub put_row-requires-in-loop-j-clause-some : goal.put_row-requires-in-loop-j-clause-some
 put_row-requires-in-loop-j-clause-some c = omega (
   arith,
-  second_near c.args.pairs _ _ _ _ _ _ _ c.loop-j.j c.loop-j.invariant.pulled (omega arith)
+  second_near c.args.pairs c.loop-j.j c.loop-j.invariant.pulled (omega arith)
       (pairs_in_rows c.args.rows.now c.requires.pairs) c.requires.apart _ c.put_row.ensures.places,
   length-map c.put_row.new.rows (λ (p : Place). place_in_row p),
 )
 
 pub with-requires-clause-place : goal.with-requires-clause-place
 with-requires-clause-place c =
-    let place = first_in c.args.pairs _ _ _ _ _ _ _ c.loop-j.j c.loop-j.invariant.pulled (omega arith)
+    let place = first_in c.args.pairs c.loop-j.j c.loop-j.invariant.pulled (omega arith)
     (pairs_in_rows c.args.rows.now c.requires.pairs) c.requires.apart c.row_in.ensures (c.requires.first c.loop-j.j (omega arith)) in
     stepped_within place (opposite_within (c.requires.can.back.each c.loop-j.j (omega arith)))
     (ap (λ (r : Place). place_in_row r) c.minus-one.ensures)
 
 pub with-reach-requires-clause-place : goal.with-reach-requires-clause-place
 with-reach-requires-clause-place c =
-    let place = second_in c.args.pairs _ _ _ _ _ _ _ c.loop-j.j c.loop-j.invariant.pulled (omega arith)
+    let place = second_in c.args.pairs c.loop-j.j c.loop-j.invariant.pulled (omega arith)
     (pairs_in_rows c.args.rows.now c.requires.pairs) c.requires.apart _ c.put_row.ensures.places c.row_in-in-loop-j.ensures
     (c.requires.second c.loop-j.j (omega arith)) in
     stepped_within place (c.requires.can.forth.each c.loop-j.j (omega arith)) (ap (λ (r : Place). place_in_row r) c.plus-other.ensures)
@@ -45,10 +45,8 @@ pub loop-j-preserved : goal.loop-j-preserved
 loop-j-preserved c =
     let j = c.loop-j.j in
     record {
-      pulled = pulled_more c.args.pairs (length c.args.pairs.first.now) (opposites_in c.args.moves.back.now)
-          (ways_in c.args.moves.forth.now) c.loop-j.reach _ (places_in c.args.rows.now) (places_in c.loop-j.rows) j
-          c.loop-j.invariant.pulled (omega arith) (pairs_in_rows c.args.rows.now c.requires.pairs) c.requires.apart
-          (place_in_row c.minus-one.result) c.put_row.ensures.places
+      pulled = pulled_more c.args.pairs j c.loop-j.invariant.pulled (omega arith) (pairs_in_rows c.args.rows.now c.requires.pairs)
+          c.requires.apart (place_in_row c.minus-one.result) c.put_row.ensures.places
           (place_in_row c.plus-other.result) (places_in c.put_row-in-loop-j.new.rows) c.with.result c.with-reach.result
           c.put_row-in-loop-j.ensures.places
           (ap (λ (r : Place). place_in_row r) c.minus-one.ensures
