@@ -161,7 +161,11 @@ half_as_many limit n bonds batch h =
           (λ i q. one_hit B (length batch) i (λ k r. (h.bond k r).different) (λ k l p r. h.apart.each k l p r)),
     )
 
-pub books_once : (e : Event) → bookings e ≤ 1
-books_once (Read k) = omega arith
-books_once (WriteA k) = omega arith
-books_once (WriteB k) = omega arith
+-- each event books at most once
+pub few_bookings : (events : List Event) → sum_by bookings events ≤ length events
+few_bookings [] = omega arith
+few_bookings (e ∷ events) = omega (arith, sum_by-cons bookings e events, once e, few_bookings events) where
+  once : (e : Event) → bookings e ≤ 1
+  once (Read k) = omega arith
+  once (WriteA k) = omega arith
+  once (WriteB k) = omega arith

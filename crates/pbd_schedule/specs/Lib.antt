@@ -3,3 +3,4 @@ pub mod Mixed
 pub mod Drawn
 pub mod Notes
 pub mod Stages
+pub mod Mixing

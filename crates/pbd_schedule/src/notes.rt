@@ -1,8 +1,8 @@
 //! Runs of events.
-ghost use Rattle.std.specs.Prelude.{◌≡◌, ℕ, ◌<◌, ◌≤◌, ◌^◌, ◌+◌, ◌*◌, [], length, replicate, IfOk, MatchResult, OnOk, Ok};
+ghost use Rattle.std.specs.Prelude.{◌≡◌, ◌<◌, ◌≤◌, ◌^◌, ◌+◌, ◌*◌, [], length, replicate, IfOk, MatchResult, OnOk, Ok};
 ghost use Rattle.pbd_world.specs.Ledger.{ledger_of, HaveRoom};
 ghost use Rattle.pbd_pair.specs.Bonds.{bond_of};
-ghost use Rattle.pbd_pair.specs.Projecting.{IsBatch};
+ghost use Rattle.pbd_pair.specs.Projecting.{IsBatch, StaysSound};
 ghost use Rattle.pbd_store.specs.Moving.{motion_of, fixed_parts, AreInside, Weigh};
 ghost use Rattle.pbd_schedule.specs.Mixed.{no_note};
 ghost use Rattle.pbd_schedule.specs.Notes.{ComeTo, Faults};
@@ -10,7 +10,7 @@ ghost use Rattle.pbd_schedule.specs.Notes.{ComeTo, Faults};
 use crate::check::stops_at;
 use crate::event::{Event, EventFault};
 use crate::lists::fill;
-use crate::mix::{first_leaving, mix};
+use crate::mix::{Mix, first_leaving};
 use pbd_pair::{Bonds, Note};
 use pbd_store::{Steps, Store};
 use pbd_world::{Correction, RoomList, Totals};
@@ -107,25 +107,21 @@ pub fn run_events<const L: usize, G: Ledger>(
     ensures limit { store.new.limit ≡ store.old.limit }
     ensures copies { store.new.copies ≡ store.old.copies }
     ensures fixed { fixed_parts store.new.particles ≡ fixed_parts store.old.particles }
-    ensures inside { OnOk result (AreInside store.old.limit store.new.particles) }
-    ensures room { OnOk result ((n : ℕ) → HaveRoom n (ledger_of totals.old)
-        → HaveRoom (n + length batch.now * 2 ^ 32) (ledger_of totals.new)) }
+    ensures sound { OnOk result (StaysSound (length batch.now) store.old store.new totals.old totals.new) }
     ensures cost { steps.new ≤ steps.old + 4 * length batch.now }
 {
     notes.begin(count_bonds(store, bonds, batch));
     if let Some(at) = stops_at(notes.stages.as_mut_slice(), events) {
         return Err(EventFault::BadEvent { at });
     }
-    mix(
-        notes.notes.as_mut_slice(),
+    let mut mix = Mix {
+        notes: notes.notes.as_mut_slice(),
         store,
-        &bonds,
-        batch,
-        events,
         totals,
         steps,
-    );
-    if let Some(element) = first_leaving(batch, notes.notes.as_slice()) {
+    };
+    mix.run(&bonds, batch, events);
+    if let Some(element) = first_leaving(batch, mix.notes) {
         return Err(EventFault::Left { element });
     }
     Ok(())

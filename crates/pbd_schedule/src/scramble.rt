@@ -1,10 +1,8 @@
 //! Batches whose reads and writes are mixed as words of a generator draw.
-ghost use Rattle.std.specs.Prelude.{◌≡◌, ℕ, ◌<◌, ◌≤◌, ◌^◌, ◌+◌, ◌-◌, ◌*◌, [], min, length, IfOk, MatchResult, OnOk, Ok, Err};
+ghost use Rattle.std.specs.Prelude.{◌≡◌, ◌≤◌, ◌^◌, ◌+◌, ◌-◌, ◌*◌, [], min, length, IfOk, OnOk};
 ghost use Rattle.pbd_world.specs.Ledger.{ledger_of, HaveRoom};
-ghost use Rattle.pbd_world.specs.Bonds.{projected};
-ghost use Rattle.pbd_pair.specs.Bonds.{bond_of};
-ghost use Rattle.pbd_pair.specs.Projecting.{IsBatch};
-ghost use Rattle.pbd_store.specs.Moving.{motion_of, fixed_parts, AreInside, Weigh};
+ghost use Rattle.pbd_pair.specs.Projecting.{IsBatch, ComesTo, StaysSound};
+ghost use Rattle.pbd_store.specs.Moving.{fixed_parts, AreInside, Weigh};
 ghost use Rattle.pbd_schedule.specs.Drawn.{drawn, later, words_of};
 
 use crate::draw::draw;
@@ -87,16 +85,11 @@ impl ScrambleProjector {
         requires inside { AreInside store.old.limit store.old.particles }
         requires weights { Weigh store.old.particles }
         requires room { HaveRoom (2 ^ 120) (ledger_of totals.old) }
-        ensures outcome { MatchResult result
-            (λ _. projected store.old.limit (bond_of bonds.entry) batch.now (motion_of store.old totals.old)
-            ≡ Ok (motion_of store.new totals.new))
-            (λ left. projected store.old.limit (bond_of bonds.entry) batch.now (motion_of store.old totals.old) ≡ Err left.element) }
+        ensures outcome { ComesTo bonds.entry batch.now store.old store.new totals.old totals.new result }
         ensures limit { store.new.limit ≡ store.old.limit }
         ensures copies { store.new.copies ≡ store.old.copies }
         ensures fixed { fixed_parts store.new.particles ≡ fixed_parts store.old.particles }
-        ensures inside { OnOk result (AreInside store.old.limit store.new.particles) }
-        ensures room { OnOk result ((n : ℕ) → HaveRoom n (ledger_of totals.old)
-            → HaveRoom (n + length batch.now * 2 ^ 32) (ledger_of totals.new)) }
+        ensures sound { OnOk result (StaysSound (length batch.now) store.old store.new totals.old totals.new) }
         ensures cost { steps.new ≤ steps.old + 4 * length batch.now }
         ensures events { self.new.events ≡ drawn self.old.words (length batch.now) }
         ensures words { self.new.words ≡ later (3 * length batch.now) self.old.words }
