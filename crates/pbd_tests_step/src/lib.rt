@@ -1,4 +1,4 @@
-//! Tests of steps and sessions, at each width and with both projectors.
+//! Tests of steps and commands at each width and with both projectors, and of random bonds.
 #![tactic(auto)]
 
 #[cfg(test)]

@@ -1,9 +1,6 @@
-//! The tests, and the scenes that are drawn for them.
+//! The tests, of steps and of random bonds.
 mod accesses;
 mod both;
-mod cloth;
-mod drawing;
 mod random_bonds;
-mod session;
 mod step;
 mod step_rows;

@@ -1,12 +1,12 @@
 //! What steps hand to a projector, colour by colour: how often their bonds may reach the store, at each width.
 ghost use Rattle.std.specs.Prelude.{◌≡◌, ◌<◌, ◌≤◌};
 
-use super::drawing::{Drawing, EMPTY, free, free_at, link, links, particle, scene, vector};
 use pbd_num::Vec3;
 use pbd_pair::{Bonds, LaneProjector, Projector};
 use pbd_step::Solver;
 use pbd_store::{Steps, Store};
 use pbd_tests_rows::{WIDTHS, WrongRows, all_hold, at_widths, wrong_row};
+use pbd_tests_scenes::{Drawing, EMPTY, free, free_at, link, links, particle, scene};
 use pbd_world::{Kind, Left, Link, Particle, PartsFault, Scene, Totals};
 use std::alloc::{AllocError, Global};
 use std::marker::Brand;

@@ -3,13 +3,13 @@
 ghost use Rattle.std.specs.Prelude.{◌≡◌, ◌<◌, ◌≤◌, pos, neg_ℤ, ◌≤ℤ◌};
 
 use super::both::Both;
-use super::drawing::scene_of;
 use pbd_num::{RANGE, Vec3};
 use pbd_pair::Projector;
 use pbd_step::Solver;
 use pbd_store::Steps;
 use pbd_tests_rows::{WrongRows, all_hold, at_widths, wrong_row};
-use pbd_world::{Kind, Link, Particle, Parts, PartsFault, Refusal, Scene, Totals};
+use pbd_tests_scenes::{Drawing, EMPTY, parts_of, scene_of};
+use pbd_world::{Command, Kind, Link, Particle, Parts, PartsFault, Reply, Scene, Totals};
 use rand_core::utils::NextWord;
 use rand_pcg::Lcg64Xsh32;
 use std::alloc::{AllocError, Global};
@@ -65,8 +65,8 @@ const CONTACTS: Lengths = Lengths {
 /// A chunk of 128 bonds, each with a held end or ends of one weight, goes by loops of 32-bit numbers where all rest lengths are
 /// below 16,384 and all ways within 32,768. Else it goes by loops of 64-bit numbers where all moves are within 4,194,304, and one
 /// by one elsewhere.
-// Links shorter than half a metre, but for strays.
-static SHORT_LINKS: [Lengths; 8] = [
+static LINKS: [Lengths; 24] = [
+    // Links shorter than half a metre, but for strays.
     SHORT,
     Lengths {
         name: "links that are nearly as long as they should be",
@@ -109,10 +109,7 @@ static SHORT_LINKS: [Lengths; 8] = [
         stray: 32_767,
         ..SHORT
     },
-];
-
-// Links of a fourth of a metre and more.
-static LONG_LINKS: [Lengths; 12] = [
+    // Links of a fourth of a metre and more.
     Lengths {
         name: "links of a metre",
         ways: 0x0001_ffff,
@@ -201,46 +198,7 @@ static LONG_LINKS: [Lengths; 12] = [
         stray: 13_107_200,
         ..SHORT
     },
-];
-
-// Pairs that touch.
-static TOUCHING: [Lengths; 6] = [
-    CONTACTS,
-    Lengths {
-        name: "contacts, and pairs that don't touch",
-        ways: 0x7fff,
-        ..CONTACTS
-    },
-    Lengths {
-        name: "contacts of a crowd",
-        pairs: 4_096,
-        places: 0x0007_ffff,
-        ..CONTACTS
-    },
-    Lengths {
-        name: "contacts of the greatest thickness, and pairs that don't touch",
-        ways: 0x001f_ffff,
-        thickness: 1_048_576,
-        ..CONTACTS
-    },
-    Lengths {
-        name: "contacts just closer than a fourth of a metre",
-        along: 16_382,
-        ways: 3,
-        thickness: 16_383,
-        ..CONTACTS
-    },
-    Lengths {
-        name: "contacts closer than a fourth of a metre",
-        along: 16_383,
-        ways: 3,
-        thickness: 16_384,
-        ..CONTACTS
-    },
-];
-
-// Links at the edge of the range, of which some leave it.
-static AT_THE_EDGE: [Lengths; 4] = [
+    // Links at the edge of the range, of which some leave it.
     Lengths {
         name: "links of a few units, pulled out of the range at its edge",
         draws: 4,
@@ -278,6 +236,42 @@ static AT_THE_EDGE: [Lengths; 4] = [
         rests: 0x7fff_ffff,
         passes: 1,
         ..SHORT
+    },
+];
+
+/// Pairs that touch.
+static TOUCHING: [Lengths; 6] = [
+    CONTACTS,
+    Lengths {
+        name: "contacts, and pairs that don't touch",
+        ways: 0x7fff,
+        ..CONTACTS
+    },
+    Lengths {
+        name: "contacts of a crowd",
+        pairs: 4_096,
+        places: 0x0007_ffff,
+        ..CONTACTS
+    },
+    Lengths {
+        name: "contacts of the greatest thickness, and pairs that don't touch",
+        ways: 0x001f_ffff,
+        thickness: 1_048_576,
+        ..CONTACTS
+    },
+    Lengths {
+        name: "contacts just closer than a fourth of a metre",
+        along: 16_382,
+        ways: 3,
+        thickness: 16_383,
+        ..CONTACTS
+    },
+    Lengths {
+        name: "contacts closer than a fourth of a metre",
+        along: 16_383,
+        ways: 3,
+        thickness: 16_384,
+        ..CONTACTS
     },
 ];
 
@@ -472,9 +466,12 @@ fn draw_pair(
 /// What is drawn of a family.
 fn drawn(alloc: Global, family: &Family, seed: u64) -> Result<Parts, AllocError> {
     let mut words = Lcg64Xsh32::new(seed, family.masses.stream);
-    let mut parts = Parts::empty(alloc, RANGE);
-    parts.passes = family.lengths.passes;
-    parts.thickness = family.lengths.thickness;
+    let empty = Drawing {
+        passes: family.lengths.passes,
+        thickness: family.lengths.thickness,
+        ..EMPTY
+    };
+    let mut parts = parts_of(alloc, &empty)?;
     for j in 0..family.lengths.pairs {
         draw_pair(&mut words, family, j, &mut parts)?;
     }
@@ -484,7 +481,7 @@ fn drawn(alloc: Global, family: &Family, seed: u64) -> Result<Parts, AllocError>
 /// What a step of a scene came to with one projector, and one particle of it.
 #[derive(Clone, Copy, Debug, PartialEq)]
 struct Outcome {
-    answer: Result<(), Refusal>,
+    reply: Reply,
     count: u64,
     particles: u32,
     live: u32,
@@ -522,17 +519,17 @@ fn particle_of<const L: usize, P: Projector<L> + Drop, G: Ledger>(
     }
 }
 
-/// What a solver came to, whose last command was answered so, and its particle i.
+/// What a solver came to, that replied so to its last command, and its particle i.
 fn outcome_of<const L: usize, P: Projector<L> + Drop, G: Ledger>(
     solver: &Solver<L, P>,
-    answer: Result<(), Refusal>,
+    reply: Reply,
     i: u32,
     steps: &mut Steps<G>,
 ) -> Outcome
     requires high { L ≤ 16 }
 {
     Outcome {
-        answer,
+        reply,
         count: solver.step_count(),
         particles: solver.particles(),
         live: solver.live(),
@@ -542,7 +539,7 @@ fn outcome_of<const L: usize, P: Projector<L> + Drop, G: Ledger>(
     }
 }
 
-/// Takes a step with both solvers, which comes to the same world, or is refused alike.
+/// Takes a step with both sessions, which comes to the same world, or is refused alike.
 fn step_alike<const L: usize, G: Ledger>(
     both: &mut Both<L>,
     steps: &mut Steps<G>,
@@ -550,10 +547,10 @@ fn step_alike<const L: usize, G: Ledger>(
     requires low { 0 < L }
     requires high { L ≤ 16 }
 {
-    let answers = [both.scalar.steps(1, steps), both.lanes.steps(1, steps)];
+    let replies = both.apply(&Command::Step(1), steps);
     let particle = both.first_other(steps);
-    let scalar = outcome_of(&both.scalar, answers[0], particle, steps);
-    let lanes = outcome_of(&both.lanes, answers[1], particle, steps);
+    let scalar = outcome_of(both.scalar.solver(), replies[0], particle, steps);
+    let lanes = outcome_of(both.lanes.solver(), replies[1], particle, steps);
     if scalar == lanes {
         return Ok(());
     }
@@ -593,22 +590,16 @@ fn counted<G: Ledger>(alloc: Global, blank: Blank, scene: &Scene) -> [Result<(),
 }
 
 /// Takes a step of a scene with both projectors, at each width.
-fn alike_at_each_width(alloc: Global, scene: &Scene) -> Result<(), Fault> {
-    let alike = counted::<Brand>(alloc, Blank::new(1), scene);
-    alike[0]
-        .and(alike[1])
-        .and(alike[2])
-        .and(alike[3])
-        .and(alike[4])
-}
-
-/// Takes a step of a drawn scene with both projectors, at each width.
-fn alike_at(alloc: Global, family: &Family, seed: u64) -> Result<(), Fault> {
-    match scene_of(alloc, drawn(alloc, family, seed)) {
+fn alike_at_each_width(alloc: Global, scene: Result<Scene, PartsFault>) -> Result<(), Fault> {
+    match scene {
         Ok(scene) => {
-            let alike = alike_at_each_width(alloc, &scene);
+            let alike = counted::<Brand>(alloc, Blank::new(1), &scene);
             drop(scene);
-            alike
+            alike[0]
+                .and(alike[1])
+                .and(alike[2])
+                .and(alike[3])
+                .and(alike[4])
         }
         Err(fault) => Err(Fault::NoScene(fault)),
     }
@@ -617,7 +608,8 @@ fn alike_at(alloc: Global, family: &Family, seed: u64) -> Result<(), Fault> {
 /// The first wrong draw of a family.
 fn first_wrong(alloc: Global, family: &Family) -> Option<(u64, Fault)> {
     for seed in 0..u64::from(family.lengths.draws) {
-        if let Err(fault) = alike_at(alloc, family, seed) {
+        let scene = scene_of(alloc, drawn(alloc, family, seed));
+        if let Err(fault) = alike_at_each_width(alloc, scene) {
             return Some((seed, fault));
         }
     }
@@ -642,21 +634,11 @@ fn wrong_families(rt: &HostRuntime, rows: &[Lengths]) -> u32 {
 }
 
 #[test]
-fn random_short_links_come_to_the_same_at_each_width(rt: HostRuntime) -> Result<(), WrongRows> {
-    all_hold(wrong_families(&rt, &SHORT_LINKS))
-}
-
-#[test]
-fn random_long_links_come_to_the_same_at_each_width(rt: HostRuntime) -> Result<(), WrongRows> {
-    all_hold(wrong_families(&rt, &LONG_LINKS))
+fn random_links_come_to_the_same_at_each_width(rt: HostRuntime) -> Result<(), WrongRows> {
+    all_hold(wrong_families(&rt, &LINKS))
 }
 
 #[test]
 fn random_contacts_come_to_the_same_at_each_width(rt: HostRuntime) -> Result<(), WrongRows> {
     all_hold(wrong_families(&rt, &TOUCHING))
-}
-
-#[test]
-fn random_links_at_the_edge_leave_it_alike_at_each_width(rt: HostRuntime) -> Result<(), WrongRows> {
-    all_hold(wrong_families(&rt, &AT_THE_EDGE))
 }

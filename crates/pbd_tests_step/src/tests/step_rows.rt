@@ -1,15 +1,16 @@
-//! Scenes, commands with their answers, and the places that they come to.
-use super::drawing::{
-    AT_THE_EDGE, Drawing, EMPTY, FLIES, LED, NEAR_THE_EDGE, ON_A_SPHERE, PULLS,
-    PULLS_AT_A_HELD_ONE, PUSHES, TEARS, free, free_at, held, key, link, particle, vector,
-};
+//! Scenes, commands with their replies, and the places that they come to.
 use pbd_num::{RANGE, Vec3};
-use pbd_tests_rows::plane;
-use pbd_world::{Command, Key, Kind, Link, Particle, Phase, Plane, Refusal, Sphere};
+use pbd_tests_rows::{place, plane};
+use pbd_tests_scenes::{
+    AT_THE_EDGE, Drawing, EMPTY, FLIES, LED, NEAR_THE_EDGE, ON_A_SPHERE, PULLS,
+    PULLS_AT_A_HELD_ONE, PUSHES, TEARS, free, free_at, held, key, link, particle,
+};
+use pbd_world::{Command, Key, Kind, Link, Particle, Phase, Plane, Refusal, Reply, Sphere};
+use std::fmt;
 
 macro_rules! leaves {
     ($step:expr, $phase:ident, $element:expr) => {
-        Err(Refusal::LeavesRange {
+        Reply::Refused(Refusal::LeavesRange {
             step: $step,
             phase: Phase::$phase,
             element: $element,
@@ -71,11 +72,11 @@ const ROPE: Drawing = Drawing {
     ],
     planes: &[plane!(0, 1, 0, -9)],
     spheres: &[Sphere {
-        centre: vector!(300, -20, 0),
+        centre: place!(300, -20, 0),
         radius: 25,
     }],
     tracks: &[(0, &[key!(0, 0), key!(4, 40)])],
-    gravity: vector!(0, -3, 0),
+    gravity: place!(0, -3, 0),
     passes: 3,
     damping: 20,
     thickness: 80,
@@ -83,41 +84,50 @@ const ROPE: Drawing = Drawing {
     limit: RANGE,
 };
 
-const STEP: (Command, Result<(), Refusal>) = (Command::Step(1), Ok(()));
+/// A command and its reply.
+pub(crate) type Asked = (Command, Reply);
 
-const MANY: (Command, Result<(), Refusal>) = (Command::Step(100_000), Ok(()));
+const STEP: Asked = (Command::Step(1), Reply::Done);
+
+const MANY: Asked = (Command::Step(100_000), Reply::Done);
 
 /// A command that is done.
 macro_rules! done {
     ($name:ident $operands:tt) => {
-        (Command::$name $operands, Ok(()))
+        (Command::$name $operands, Reply::Done)
     };
 }
 
 /// A command that is refused.
 macro_rules! refused {
     ($name:ident $operands:tt, $why:ident) => {
-        (Command::$name $operands, Err(Refusal::$why))
+        (Command::$name $operands, Reply::Refused(Refusal::$why))
     };
 }
 
-/// A scene, commands with their answers, and where the first particles are then.
+/// A scene, commands with their replies, and where the first particles are then. It is told by its name.
 #[derive(Clone, Copy)]
 pub(crate) struct Row {
-    pub(crate) name: &'static str,
+    name: &'static str,
     pub(crate) scene: Drawing,
-    pub(crate) script: &'static [(Command, Result<(), Refusal>)],
+    pub(crate) commands: &'static [Asked],
     pub(crate) places: &'static [Vec3],
 }
 
-/// A row: its name, a scene, commands with their answers, and places.
+impl fmt::Debug for Row {
+    fn fmt<W: fmt::Write>(&self, f: &mut fmt::Formatter<W>) -> fmt::Result {
+        f.write_str(self.name)
+    }
+}
+
+/// A row: its name, a scene, commands with their replies, and places.
 macro_rules! row {
-    ($name:expr; $scene:expr; $script:tt => $($x:expr, $y:expr, $z:expr);*) => {
+    ($name:expr; $scene:expr; $commands:tt => $($x:expr, $y:expr, $z:expr);*) => {
         Row {
             name: $name,
             scene: $scene,
-            script: &$script,
-            places: &[$(vector!($x, $y, $z)),*],
+            commands: &$commands,
+            places: &[$(place!($x, $y, $z)),*],
         }
     };
 }
@@ -189,15 +199,15 @@ pub(crate) static ROWS: [Row; 28] = [
     row!("commands are refused"; FLIES;
         [
             done!(Pin(0)), refused!(Pin(0), Held),
-            done!(Move { particle: 0, to: vector!(1, 2, 3) }), done!(Unpin(0)),
+            done!(Move { particle: 0, to: place!(1, 2, 3) }), done!(Unpin(0)),
             refused!(Unpin(0), NotHeld), refused!(Pin(9), NoParticle), refused!(Cut(0), NoLink),
-            refused!(Gravity(vector!(RANGE + 1, 0, 0)), OutOfRange), refused!(Step(0), BadCount),
+            refused!(Gravity(place!(RANGE + 1, 0, 0)), OutOfRange), refused!(Step(0), BadCount),
             refused!(Step(100_001), BadCount)
         ] => 1, 2, 3),
     row!("tracks lead"; LED;
         [
             done!(Step(2)), STEP, refused!(Unpin(0), Tracked),
-            refused!(Move { particle: 1, to: vector!(1, 2, 3) }, Tracked)
+            refused!(Move { particle: 1, to: place!(1, 2, 3) }, Tracked)
         ] => 10, 0, 0; 5, 0, 0),
     row!("the step limit"; Drawing { passes: 0, ..FLIES };
         [
@@ -206,9 +216,9 @@ pub(crate) static ROWS: [Row; 28] = [
     row!("a rope does all"; ROPE;
         [
             STEP, done!(Step(2)), done!(Pin(5)), refused!(Pin(5), Held),
-            done!(Move { particle: 5, to: vector!(520, 30, 0) }), refused!(Unpin(0), Tracked),
+            done!(Move { particle: 5, to: place!(520, 30, 0) }), refused!(Unpin(0), Tracked),
             done!(Cut(1)), refused!(Cut(1), LinkGone), done!(Step(4)), done!(Unpin(5)),
-            done!(Gravity(vector!(1, -4, 2))), (Command::Step(9), leaves!(14, Predict, 8)),
+            done!(Gravity(place!(1, -4, 2))), (Command::Step(9), leaves!(14, Predict, 8)),
             (Command::Step(100), leaves!(14, Predict, 8))
         ] => 40, 0, 0),
 ];

@@ -1,9 +1,9 @@
 //! A cloth whose links tear and are cut, and that goes back to what its slots keep.
 ghost use Rattle.std.specs.Prelude.{◌≤◌, length};
 
-use super::drawing::{Drawing, TEARS, scene};
 use pbd_cloth::{Cloth, Place};
 use pbd_num::Vec3;
+use pbd_tests_scenes::{Drawing, TEARS, scene};
 use pbd_world::{Command, Refusal, Reply};
 
 static TEARING: Drawing = TEARS;

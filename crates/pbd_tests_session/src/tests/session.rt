@@ -2,10 +2,6 @@
 //! replays in which each field differs.
 ghost use Rattle.std.specs.Prelude.{◌≡◌, ◌<◌, ◌≤◌};
 
-use super::drawing::{
-    AT_THE_EDGE, Drawing, EMPTY, FLIES, LED, NEAR_THE_EDGE, ON_A_SPHERE, PULLS,
-    PULLS_AT_A_HELD_ONE, PUSHES, TEARS, in_a_row, particle, scene, vector,
-};
 use pbd_io::{Failed, MemSink};
 use pbd_log::read_log;
 use pbd_num::Vec3;
@@ -13,7 +9,11 @@ use pbd_pair::{LaneProjector, Projector, Scalar};
 use pbd_session::{Field, ReplayEnd, RunEnd, Session, run_record, run_replay, run_script};
 use pbd_store::Steps;
 use pbd_tests_rows::logs::{LONG, OLD, OLD_BAD_COUNT, SCENE, SMALL};
-use pbd_tests_rows::{WrongRows, all_hold, at_widths, each_row, wrong_row};
+use pbd_tests_rows::{WrongRows, all_hold, at_widths, each_row, place, wrong_row};
+use pbd_tests_scenes::{
+    AT_THE_EDGE, Drawing, EMPTY, FLIES, LED, NEAR_THE_EDGE, ON_A_SPHERE, PULLS,
+    PULLS_AT_A_HELD_ONE, PUSHES, TEARS, in_a_row, particle, scene,
+};
 use pbd_world::{Particle, PartsFault, Scene};
 use std::alloc::{AllocError, Global};
 use std::marker::Brand;
@@ -21,7 +21,7 @@ use std::sync::ledger::{Blank, Ledger};
 
 const FALLS: Drawing = Drawing {
     particles: &[particle!(0, 1000, 0, 1, false)],
-    gravity: vector!(0, -10, 0),
+    gravity: place!(0, -10, 0),
     ..EMPTY
 };
 
@@ -108,50 +108,30 @@ fn holds_in<const L: usize, P: Projector<L> + Drop, G: Ledger>(
     Ok(holds)
 }
 
+/// Whether it does in a session that was just opened, where there was memory for it.
+fn holds_once_open<const L: usize, P: Projector<L> + Drop, G: Ledger>(
+    alloc: Global,
+    opened: Result<Session<L, P>, AllocError>,
+    case: &Case<'_>,
+    steps: &mut Steps<G>,
+) -> Result<bool, AllocError>
+    requires low { 0 < L }
+    requires high { L ≤ 16 }
+{
+    match opened {
+        Ok(mut session) => {
+            let holds = holds_in(alloc, &mut session, case, steps);
+            drop(session);
+            holds
+        }
+        Err(fault) => Err(fault),
+    }
+}
+
 /// What is told of both projectors.
 type Told = [Result<bool, AllocError>; 2];
 
-/// Whether it does with bonds that are projected one by one.
-fn holds_one_by_one<const L: usize, G: Ledger>(
-    alloc: Global,
-    scene: &Scene,
-    case: &Case<'_>,
-    steps: &mut Steps<G>,
-) -> Result<bool, AllocError>
-    requires low { 0 < L }
-    requires high { L ≤ 16 }
-{
-    match Session::open(alloc, scene, Scalar::<L>::new()) {
-        Ok(mut session) => {
-            let holds = holds_in(alloc, &mut session, case, steps);
-            drop(session);
-            holds
-        }
-        Err(fault) => Err(fault),
-    }
-}
-
-/// Whether it does with bonds that are projected in lanes.
-fn holds_in_lanes<const L: usize, G: Ledger>(
-    alloc: Global,
-    scene: &Scene,
-    case: &Case<'_>,
-    steps: &mut Steps<G>,
-) -> Result<bool, AllocError>
-    requires low { 0 < L }
-    requires high { L ≤ 16 }
-{
-    match Session::open(alloc, scene, LaneProjector::<L>::new()) {
-        Ok(mut session) => {
-            let holds = holds_in(alloc, &mut session, case, steps);
-            drop(session);
-            holds
-        }
-        Err(fault) => Err(fault),
-    }
-}
-
-/// Whether it does one by one, and in lanes.
+/// Whether it does with bonds that are projected one by one, and in lanes.
 fn both_hold<const L: usize, G: Ledger>(
     alloc: Global,
     scene: &Scene,
@@ -161,10 +141,11 @@ fn both_hold<const L: usize, G: Ledger>(
     requires low { 0 < L }
     requires high { L ≤ 16 }
 {
-    [
-        holds_one_by_one::<L, G>(alloc, scene, case, steps),
-        holds_in_lanes::<L, G>(alloc, scene, case, steps),
-    ]
+    let one_by_one = Session::open(alloc, scene, Scalar::<L>::new());
+    let one_by_one = holds_once_open(alloc, one_by_one, case, steps);
+    let in_lanes = Session::open(alloc, scene, LaneProjector::<L>::new());
+    let in_lanes = holds_once_open(alloc, in_lanes, case, steps);
+    [one_by_one, in_lanes]
 }
 
 fn counted<G: Ledger>(alloc: Global, blank: Blank, scene: &Scene, case: &Case<'_>) -> [Told; 5]

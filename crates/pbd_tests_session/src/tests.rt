@@ -1,0 +1,3 @@
+//! The tests, of sessions and of a cloth.
+mod cloth;
+mod session;
