@@ -1,7 +1,5 @@
 // What calls on the ends of pairs ask of them, as tests that a case is put to before it is tried.
-ghost use Rattle.std.specs.Prelude.{◌≡◌, ℕ, ◌<◌, ◌≤◌, ◌^◌, pos, length, IsTrue, IfSome};
-ghost use Rattle.pbd_num.specs.Rows.{vector_of};
-ghost use Rattle.pbd_num.specs.Vectors.{Within};
+ghost use Rattle.std.specs.Prelude.{◌≡◌, ℕ, ◌<◌, length, IsTrue, IfSome};
 ghost use Rattle.pbd_store.specs.Gathering.{index_at};
 ghost use Rattle.pbd_store.specs.Moving.{AreInside};
 ghost use Rattle.pbd_store.specs.Pairs.{ArePairs, PairsApart, AreShort, AreMoves};
@@ -26,53 +24,30 @@ fn are_inside(particles: &[Particle], limit: i64) -> bool
     true
 }
 
-// Whether a way is short, and has no flag.
-fn is_short(way: Row) -> bool
-    ensures size { IsTrue result → Within (2 ^ 16) (vector_of way) }
-    ensures flag { IsTrue result → way.flag ≡ pos 0 }
+// Whether there are so many ways, all of them short and without a flag.
+pub(crate) fn are_short(ways: &[Row], count: usize) -> bool
+    ensures { IsTrue result → AreShort count ways.now }
 {
-    let short = is_within(way.vector(), 1 << 16);
-    short && way.flag == 0
-}
-
-// Whether there is a way for each of some ends, short and without a flag.
-pub(crate) fn are_short(ways: &[Row], ends: &[u32]) -> bool
-    ensures { IsTrue result → AreShort (length ends.now) ways.now }
-{
-    if ways.len() != ends.len() {
-        return false;
-    }
     for way in ways {
-        if !is_short(*way) {
+        if way.flag != 0 || !is_within(way.vector(), 1 << 16) {
             return false;
         }
     }
-    true
+    ways.len() == count
 }
 
-// Whether both moves of a pair are of at most 2^31 an axis.
-fn is_move(moves: EndMoves) -> bool
-    ensures first { IsTrue result → Within (2 ^ 31) moves.first }
-    ensures second { IsTrue result → Within (2 ^ 31) moves.second }
+// Whether there are so many moves, all of them of at most 2^31 an axis.
+pub(crate) fn are_moves(moves: &[EndMoves], count: usize) -> bool
+    ensures { IsTrue result → AreMoves count moves.now }
 {
-    let first = is_within(moves.first, 1 << 31);
-    let second = is_within(moves.second, 1 << 31);
-    first && second
-}
-
-// Whether there are moves for each of some ends, of at most 2^31 an axis.
-pub(crate) fn are_moves(moves: &[EndMoves], ends: &[u32]) -> bool
-    ensures { IsTrue result → AreMoves (length ends.now) moves.now }
-{
-    if moves.len() != ends.len() {
-        return false;
-    }
     for pair in moves {
-        if !is_move(*pair) {
+        let first = is_within(pair.first, 1 << 31);
+        let second = is_within(pair.second, 1 << 31);
+        if !first || !second {
             return false;
         }
     }
-    true
+    moves.len() == count
 }
 
 // Whether each number is below n.

@@ -1,47 +1,54 @@
 //! Pairs of particles of a store at each width: what lies between their ends, and how the ends move.
 ghost use Rattle.std.specs.Prelude.{◌≡◌, ◌+◌, ◌*◌, ◌<◌, ◌≤◌, length, IfSome};
 ghost use Rattle.pbd_store.specs.Blocks.{blocks_of};
+ghost use Rattle.pbd_store.specs.Moving.{AreInside, fixed_parts};
+ghost use Rattle.pbd_store.specs.Pairs.{ArePairs, PairsApart};
 
 use super::end_checks::{are_moves, are_short, store_of};
-use super::ends_rows::{MOVINGS, Moving, PULLINGS, Pulling, READINGS, Reading};
-use pbd_num::{CHUNK, Row};
+use super::ends_rows::{CASES, Case, Trial};
+use pbd_num::{Row, Vec3};
 use pbd_store::{Between, Steps, Store};
-use pbd_tests_rows::{WIDTHS, WrongRows, all_hold, at_widths, axes, wrong_row};
+use pbd_tests_rows::{WIDTHS, WrongRows, all_hold, at_widths, wrong_row};
 use pbd_world::Particle;
 use std::alloc::Global;
 use std::io::Eprint;
 use std::marker::Brand;
 use std::sync::ledger::{Blank, Ledger};
 
-// Whether particle i is at its new place, and all else of it is as it was.
-fn is_placed(now: Particle, i: usize, particles: &[Particle], places: &[[i64; 3]]) -> bool {
-    match (particles.get(i), places.get(i)) {
-        (Some(particle), Some(place)) => {
-            let there = Particle {
-                at: now.at,
-                ..*particle
-            };
-            axes(now.at) == *place && now == there
+// What particle i is to be: as it was, but for its place where it is one of those that have moved. It is taken off the count of
+// these then.
+fn wanted_at(
+    i: u32,
+    particles: &[Particle],
+    moved: &[(u32, Vec3)],
+    left: &mut usize,
+) -> Option<Particle> {
+    let mut particle = *particles.get(i as usize)?;
+    for (k, place) in moved {
+        if *k == i {
+            particle.at = *place;
+            *left = left.saturating_sub(1);
         }
-        _ => false,
     }
+    Some(particle)
 }
 
-// Whether the particles of a store are at these places, and all else of them is as it was.
-fn has_places<G: Ledger, const L: usize>(
+// Whether the particles of a store are as they were, but that these are at other places.
+fn have_moved<G: Ledger, const L: usize>(
     store: &Store<L>,
     particles: &[Particle],
-    places: &[[i64; 3]],
+    moved: &[(u32, Vec3)],
     steps: &mut Steps<G>,
 ) -> bool
     ensures { steps.new ≡ steps.old + length store.now.particles }
 {
-    let mut holds = places.len() == particles.len() && particles.len() == store.len() as usize;
+    let mut left = moved.len();
+    let mut holds = particles.len() == store.len() as usize;
     for i in 0..store.len() {
-        let now = store.at(i, steps);
-        holds &= is_placed(now, i as usize, particles, places);
+        let now = Some(store.at(i, steps));
+        holds &= now == wanted_at(i, particles, moved, &mut left);
     }
-    holds
+    holds && left == 0
 }
 
 // Whether what lies between the ends of pairs is this.
@@ -63,70 +70,54 @@ fn is_between(between: &Between, wanted: &[([i32; 3], [i32; 2])]) -> bool
     true
 }
 
-/// Whether what lies between the ends of pairs is as a case says. It is read once. None where there is no memory, or the case
-/// isn't sound.
-fn read<G: Ledger, const L: usize>(
-    alloc: Global,
-    case: &Reading,
+/// Whether a trial on the ends of a store's pairs is answered as its case says. They are reached once. None where the case isn't
+/// sound.
+fn answers_so<G: Ledger, const L: usize>(
+    store: &mut Store<L>,
+    case: &Case,
     steps: &mut Steps<G>,
 ) -> Option<bool>
     requires low { 0 < L }
     requires high { L ≤ 16 }
-    ensures { IfSome result (λ _. steps.new ≡ steps.old + 2 * blocks_of (length case.now.drawing.pairs.first.now) L) }
+    requires pairs { ArePairs (length case.now.drawing.pairs.first.now) (length store.old.particles) case.now.drawing.pairs }
+    requires apart { PairsApart (length case.now.drawing.pairs.first.now) case.now.drawing.pairs }
+    requires inside { AreInside store.old.limit store.old.particles }
+    ensures cost { IfSome result (λ _. steps.new ≡ steps.old + 2 * blocks_of (length case.now.drawing.pairs.first.now) L) }
+    ensures fixed { fixed_parts store.new.particles ≡ fixed_parts store.old.particles }
 {
     let pairs = case.drawing.pairs;
-    if case.between.len() > CHUNK {
-        return None;
-    }
-    if case.between.len() != pairs.first.len() {
-        return None;
-    }
-    match store_of::<L>(alloc, &case.drawing) {
-        Some(store) => {
+    let count = pairs.first.len();
+    match case.trial {
+        Trial::Read(wanted) => {
+            if wanted.len() != count {
+                return None;
+            }
             let mut between = Between::new();
             store.between(pairs, &mut between, steps);
-            drop(store);
-            let holds = is_between(&between, case.between);
+            let holds = is_between(&between, wanted);
             drop(between);
             Some(holds)
         }
-        None => None,
-    }
-}
-
-/// Whether a case's ends are pulled as it says. They are pulled once, and each particle is looked at.
-fn pull<G: Ledger, const L: usize>(
-    alloc: Global,
-    case: &Pulling,
-    steps: &mut Steps<G>,
-) -> Option<bool>
-    requires low { 0 < L }
-    requires high { L ≤ 16 }
-    ensures { IfSome result (λ _. steps.new ≡ steps.old + 2 * blocks_of (length case.now.drawing.pairs.first.now) L
-        + length case.now.drawing.particles.now) }
-{
-    let pairs = case.drawing.pairs;
-    if !are_short(case.back, pairs.first) {
-        return None;
-    }
-    if !are_short(case.forth, pairs.first) {
-        return None;
-    }
-    match store_of::<L>(alloc, &case.drawing) {
-        Some(mut store) => {
-            let answer = store.pull(pairs, case.back, case.forth, steps);
-            let placed = has_places(&store, case.drawing.particles, case.places, steps);
-            drop(store);
-            Some(placed & (answer == case.answer))
+        Trial::Pull(back, forth) => {
+            if !are_short(back, count) || !are_short(forth, count) {
+                return None;
+            }
+            Some(store.pull(pairs, back, forth, steps) == case.answer)
         }
-        None => None,
+        Trial::Move(moves) => {
+            if !are_moves(moves, count) {
+                return None;
+            }
+            Some(store.move_each(pairs, moves, steps) == case.answer)
+        }
     }
 }
 
-/// The same of ends that are moved pair by pair.
-fn move_all<G: Ledger, const L: usize>(
+/// Whether a case comes to what it says. Its ends are reached once, and then each particle is looked at. None where there is no
+/// memory, or the case isn't sound.
+fn comes_to<const L: usize, G: Ledger>(
     alloc: Global,
-    case: &Moving,
+    case: &Case,
     steps: &mut Steps<G>,
 ) -> Option<bool>
     requires low { 0 < L }
@@ -134,16 +125,15 @@ fn move_all<G: Ledger, const L: usize>(
     ensures { IfSome result (λ _. steps.new ≡ steps.old + 2 * blocks_of (length case.now.drawing.pairs.first.now) L
         + length case.now.drawing.particles.now) }
 {
-    let pairs = case.drawing.pairs;
-    if !are_moves(case.moves, pairs.first) {
-        return None;
-    }
     match store_of::<L>(alloc, &case.drawing) {
         Some(mut store) => {
-            let answer = store.move_each(pairs, case.moves, steps);
-            let placed = has_places(&store, case.drawing.particles, case.places, steps);
+            let answered = answers_so(&mut store, case, steps);
+            let moved = have_moved(&store, case.drawing.particles, case.moved, steps);
             drop(store);
-            Some(placed & (answer == case.answer))
+            match answered {
+                Some(as_told) => Some(as_told & moved),
+                None => None,
+            }
         }
         None => None,
     }
@@ -158,67 +148,22 @@ fn seventeen_pairs_are_reached()
     ensures sixteen { 2 * blocks_of 17 16 ≡ 4 }
 {}
 
-/// What is tried in a store.
-#[derive(Clone, Copy)]
-enum Trial {
-    Read(&'static Reading),
-    Pull(&'static Pulling),
-    Move(&'static Moving),
-}
-
-/// Whether a trial comes to what its case says.
-fn try_one<const L: usize, G: Ledger>(
-    alloc: Global,
-    trial: Trial,
-    steps: &mut Steps<G>,
-) -> Option<bool>
-    requires low { 0 < L }
-    requires high { L ≤ 16 }
-{
-    match trial {
-        Trial::Read(case) => read::<G, L>(alloc, case, steps),
-        Trial::Pull(case) => pull::<G, L>(alloc, case, steps),
-        Trial::Move(case) => move_all::<G, L>(alloc, case, steps),
-    }
-}
-
-fn at_each<G: Ledger>(alloc: Global, blank: Blank, trial: Trial) -> [Option<bool>; 5]
+/// One where a case doesn't come to what it says at each width, which is told then, and else nothing.
+fn wrong_case<G: Ledger>(rt: &impl Eprint, alloc: Global, blank: Blank, case: &Case) -> u32
     requires name { blank.name ≡ G.name }
     requires parts { blank.parts ≡ G.parts }
     requires some { 0 < blank.parts }
 {
-    at_widths!(blank, try_one(alloc, trial))
-}
-
-/// One where a trial doesn't come to what its case says at each width, which is told then, and else nothing.
-fn wrong_case(rt: &impl Eprint, alloc: Global, name: &str, trial: Trial) -> u32 {
-    let told = at_each::<Brand>(alloc, Blank::new(1), trial);
-    wrong_row(rt, (&name, WIDTHS), &told, &[Some(true); 5])
+    let told = at_widths!(blank, comes_to(alloc, case));
+    wrong_row(rt, (&case.name, WIDTHS), &told, &[Some(true); 5])
 }
 
 #[test]
-fn what_lies_between_ends_is_read_at_each_width(rt: HostRuntime) -> Result<(), WrongRows> {
+fn ends_are_read_pulled_and_moved_at_each_width(rt: HostRuntime) -> Result<(), WrongRows> {
     let mut wrong = 0u32;
-    for case in &READINGS {
-        wrong = wrong.saturating_add(wrong_case(&rt, rt.alloc(), case.name, Trial::Read(case)));
-    }
-    all_hold(wrong)
-}
-
-#[test]
-fn ends_are_pulled_at_each_width(rt: HostRuntime) -> Result<(), WrongRows> {
-    let mut wrong = 0u32;
-    for case in &PULLINGS {
-        wrong = wrong.saturating_add(wrong_case(&rt, rt.alloc(), case.name, Trial::Pull(case)));
-    }
-    all_hold(wrong)
-}
-
-#[test]
-fn ends_are_moved_pair_by_pair_at_each_width(rt: HostRuntime) -> Result<(), WrongRows> {
-    let mut wrong = 0u32;
-    for case in &MOVINGS {
-        wrong = wrong.saturating_add(wrong_case(&rt, rt.alloc(), case.name, Trial::Move(case)));
+    for case in &CASES {
+        let told = wrong_case::<Brand>(&rt, rt.alloc(), Blank::new(1), case);
+        wrong = wrong.saturating_add(told);
     }
     all_hold(wrong)
 }

@@ -12,33 +12,25 @@ pub(crate) struct Drawing {
     pub(crate) pairs: Pairs<'static>,
 }
 
-/// What lies between the ends of pairs: the way from the second end to the first, and the weights of both.
+/// What is done with the ends of pairs.
 #[derive(Clone, Copy)]
-pub(crate) struct Reading {
-    pub(crate) name: &'static str,
-    pub(crate) drawing: Drawing,
-    pub(crate) between: &'static [([i32; 3], [i32; 2])],
+pub(crate) enum Trial {
+    /// They are looked at, and this lies between them: the way from the second end to the first, and the weights of both.
+    Read(&'static [([i32; 3], [i32; 2])]),
+    /// The first ends go back by the first ways, and the second ends forth by the others.
+    Pull(&'static [Row], &'static [Row]),
+    /// They are moved pair by pair, as long as none leaves.
+    Move(&'static [EndMoves]),
 }
 
-/// The ways by which the first ends go back and the second forth, the first pair that leaves, and all places then.
+/// What is done with the ends of pairs, the first pair that leaves, and the particles that are elsewhere then, with their places.
 #[derive(Clone, Copy)]
-pub(crate) struct Pulling {
+pub(crate) struct Case {
     pub(crate) name: &'static str,
     pub(crate) drawing: Drawing,
-    pub(crate) back: &'static [Row],
-    pub(crate) forth: &'static [Row],
+    pub(crate) trial: Trial,
     pub(crate) answer: Result<(), usize>,
-    pub(crate) places: &'static [[i64; 3]],
-}
-
-/// Moves of the ends, the first pair that would leave, and all places then.
-#[derive(Clone, Copy)]
-pub(crate) struct Moving {
-    pub(crate) name: &'static str,
-    pub(crate) drawing: Drawing,
-    pub(crate) moves: &'static [EndMoves],
-    pub(crate) answer: Result<(), usize>,
-    pub(crate) places: &'static [[i64; 3]],
+    pub(crate) moved: &'static [(u32, Vec3)],
 }
 
 macro_rules! particle {
@@ -69,6 +61,36 @@ macro_rules! moves {
             first: place!($x, $y, $z),
             second: place!($second_x, $second_y, $second_z),
         }
+    };
+}
+
+// A case by its name, its drawing, what it comes to and its trial; and the particles that are elsewhere then.
+macro_rules! case {
+    ($name:literal, $drawing:ident, $answer:expr, $trial:expr; $($i:literal: ($x:expr, $y:expr, $z:expr)),*) => {
+        Case {
+            name: $name,
+            drawing: $drawing,
+            trial: $trial,
+            answer: $answer,
+            moved: &[$(($i, place!($x, $y, $z))),*],
+        }
+    };
+}
+
+// The way back of the first end of each pair, and the way forth of its second.
+macro_rules! pull {
+    ($(($x:expr, $y:expr, $z:expr) ($forth_x:expr, $forth_y:expr, $forth_z:expr)),*) => {
+        Trial::Pull(
+            &[$(way!($x, $y, $z)),*],
+            &[$(way!($forth_x, $forth_y, $forth_z)),*],
+        )
+    };
+}
+
+// The moves of the ends of each pair.
+macro_rules! each {
+    ($($first:tt $second:tt),*) => {
+        Trial::Move(&[$(moves!($first, $second)),*])
     };
 }
 
@@ -134,255 +156,96 @@ const WIDER: Drawing = Drawing {
     ..SMALLER
 };
 
-pub(crate) static READINGS: [Reading; 3] = [
-    Reading {
-        name: "three pairs",
-        drawing: THREE,
-        between: &[
-            ([-40, 5, -5], [7, 1]),
-            ([0, -40, 0], [3, 0]),
-            ([7, -8, -4], [0, 65_535]),
-        ],
-    },
-    Reading {
-        name: "near the limit",
-        drawing: NEAR_THE_LIMIT,
-        between: &[
+pub(crate) static CASES: [Case; 21] = [
+    case!(
+        "three pairs, read", THREE, Ok(()),
+        Trial::Read(&[([-40, 5, -5], [7, 1]), ([0, -40, 0], [3, 0]), ([7, -8, -4], [0, 65_535])]);
+    ),
+    case!(
+        "near the limit, read", NEAR_THE_LIMIT, Ok(()),
+        Trial::Read(&[
             ([536_870_902, 0, 0], [1, 1]),
             ([0, -536_870_902, -536_870_910], [1, 1]),
-            ([-7, -7, -536_870_912], [1, 1]),
-        ],
-    },
-    Reading {
-        name: "no pairs",
-        drawing: NO_PAIRS,
-        between: &[],
-    },
-];
-
-const UNMOVED: &[[i64; 3]] = &[
-    [10, -20, 30],
-    [100, 0, 0],
-    [-7, 8, 9],
-    [0, 0, 5],
-    [60, 5, -5],
-    [1, 2, 3],
-    [10, 20, 30],
-];
-
-// Each pair moves, but for the held ends.
-const ALL_MOVED: &[[i64; 3]] = &[
-    [10, -13, 30],
-    [103, 0, 0],
-    [-6, 10, 6],
-    [0, 0, 5],
-    [55, 5, -5],
-    [1, 2, 3],
-    [10, 20, 30],
-];
-
-// Four ends are at the limit.
-const AT_THE_LIMIT: &[[i64; 3]] = &[
-    [RANGE, 0, 0],
-    [1, 0, 0],
-    [0, -RANGE, 0],
-    [0, 0, RANGE],
-    [0, 0, 0],
-    [7, 7, RANGE],
-];
-
-// Pair 0 has moved, and no other.
-const FIRST_MOVED: &[[i64; 3]] = &[
-    [RANGE, 0, 0],
-    [1, 0, 0],
-    [0, 10 - RANGE, 0],
-    [0, 0, RANGE - 2],
-    [0, 0, 0],
-    [7, 7, RANGE],
-];
-
-const PULLED: Pulling = Pulling {
-    name: "three pairs",
-    drawing: THREE,
-    back: &[way!(5, 0, 0), way!(0, -7, 0), Row::ZERO],
-    forth: &[way!(3, 0, 0), Row::ZERO, way!(1, 2, -3)],
-    answer: Ok(()),
-    places: ALL_MOVED,
-};
-
-const PULLED_TO_THE_LIMIT: Pulling = Pulling {
-    name: "to the limit",
-    drawing: NEAR_THE_LIMIT,
-    back: &[way!(-10, 0, 0), way!(0, 10, 0), Row::ZERO],
-    forth: &[way!(1, 0, 0), way!(0, 0, 2), Row::ZERO],
-    answer: Ok(()),
-    places: AT_THE_LIMIT,
-};
-
-pub(crate) static PULLINGS: [Pulling; 9] = [
-    PULLED,
-    Pulling {
-        name: "no pairs",
-        drawing: NO_PAIRS,
-        back: &[],
-        forth: &[],
-        places: UNMOVED,
-        ..PULLED
-    },
-    Pulling {
-        name: "the longest ways",
-        back: &[way!(65_536, -65_536, 0), Row::ZERO, Row::ZERO],
-        forth: &[way!(0, 65_536, -65_536), Row::ZERO, Row::ZERO],
-        places: &[
-            [10, -20, 30],
-            [100, 65_536, -65_536],
-            [-7, 8, 9],
-            [0, 0, 5],
-            [-65_476, 65_541, -5],
-            [1, 2, 3],
-            [10, 20, 30],
-        ],
-        ..PULLED
-    },
-    PULLED_TO_THE_LIMIT,
-    Pulling {
-        name: "a first end leaves",
-        back: &[way!(-10, 0, 0), way!(0, 11, 0), Row::ZERO],
-        answer: Err(1),
-        places: &[
-            [RANGE, 0, 0],
-            [1, 0, 0],
-            [0, -1 - RANGE, 0],
-            [0, 0, RANGE],
-            [0, 0, 0],
-            [7, 7, RANGE],
-        ],
-        ..PULLED_TO_THE_LIMIT
-    },
-    Pulling {
-        name: "a second end leaves",
-        forth: &[way!(1, 0, 0), way!(0, 0, 3), Row::ZERO],
-        answer: Err(1),
-        places: &[
-            [RANGE, 0, 0],
-            [1, 0, 0],
-            [0, -RANGE, 0],
-            [0, 0, 1 + RANGE],
-            [0, 0, 0],
-            [7, 7, RANGE],
-        ],
-        ..PULLED_TO_THE_LIMIT
-    },
-    Pulling {
-        name: "the last two leave",
-        forth: &[way!(1, 0, 0), way!(0, 0, 3), way!(0, 0, 1)],
-        answer: Err(1),
-        places: &[
-            [RANGE, 0, 0],
-            [1, 0, 0],
-            [0, -RANGE, 0],
-            [0, 0, 1 + RANGE],
-            [0, 0, 0],
-            [7, 7, 1 + RANGE],
-        ],
-        ..PULLED_TO_THE_LIMIT
-    },
-    Pulling {
-        name: "out of a smaller limit",
-        drawing: SMALLER,
-        back: &[way!(-1, 0, 0)],
-        forth: &[Row::ZERO],
-        answer: Err(0),
-        places: &[[268_435_457, 0, 0], [0, 0, 0]],
-    },
-    Pulling {
-        name: "within a wider limit",
-        drawing: WIDER,
-        back: &[way!(-1, 0, 0)],
-        forth: &[Row::ZERO],
-        answer: Ok(()),
-        places: &[[268_435_457, 0, 0], [0, 0, 0]],
-    },
-];
-
-const MOVED: Moving = Moving {
-    name: "three pairs",
-    drawing: THREE,
-    moves: &[
-        moves!((-5, 0, 0), (3, 0, 0)),
-        moves!((0, 7, 0), (0, 0, 0)),
-        moves!((0, 0, 0), (1, 2, -3)),
-    ],
-    answer: Ok(()),
-    places: ALL_MOVED,
-};
-
-const MOVED_TO_THE_LIMIT: Moving = Moving {
-    name: "to the limit",
-    drawing: NEAR_THE_LIMIT,
-    moves: &[
-        moves!((10, 0, 0), (1, 0, 0)),
-        moves!((0, -10, 0), (0, 0, 2)),
-        moves!((0, 0, 0), (0, 0, 0)),
-    ],
-    answer: Ok(()),
-    places: AT_THE_LIMIT,
-};
-
-// The name, the first pair that leaves, and the places then; and the moves of each pair.
-macro_rules! leaving {
-    ($name:literal, $pair:literal, $places:ident; $($first:tt $second:tt),*) => {
-        Moving {
-            name: $name,
-            moves: &[$(moves!($first, $second)),*],
-            answer: Err($pair),
-            places: $places,
-            ..MOVED_TO_THE_LIMIT
-        }
-    };
-}
-
-pub(crate) static MOVINGS: [Moving; 9] = [
-    MOVED,
-    Moving {
-        name: "no pairs",
-        drawing: NO_PAIRS,
-        moves: &[],
-        places: UNMOVED,
-        ..MOVED
-    },
-    MOVED_TO_THE_LIMIT,
-    leaving!(
-        "a first end leaves", 1, FIRST_MOVED;
-        (10, 0, 0) (1, 0, 0), (0, -11, 0) (0, 0, 2), (3, 3, 3) (0, 0, 0)
+            ([-7, -7, -536_870_912], [1, 1])
+        ]);
     ),
-    leaving!(
-        "a second end leaves", 1, FIRST_MOVED;
-        (10, 0, 0) (1, 0, 0), (0, -10, 0) (0, 0, 3), (0, 0, 0) (0, 0, 1)
+    case!("no pairs, read", NO_PAIRS, Ok(()), Trial::Read(&[]);),
+    case!(
+        "three pairs, pulled", THREE, Ok(()),
+        pull!((5, 0, 0) (3, 0, 0), (0, -7, 0) (0, 0, 0), (0, 0, 0) (1, 2, -3));
+        0: (10, -13, 30), 1: (103, 0, 0), 2: (-6, 10, 6), 4: (55, 5, -5)
     ),
-    leaving!(
-        "the last pair leaves by the longest moves", 2, AT_THE_LIMIT;
-        (10, 0, 0) (1, 0, 0), (0, -10, 0) (0, 0, 2), (2_147_483_648, 0, 0) (0, -2_147_483_648, 0)
+    case!("no pairs, pulled", NO_PAIRS, Ok(()), pull!();),
+    case!(
+        "the longest ways", THREE, Ok(()),
+        pull!((65_536, -65_536, 0) (0, 65_536, -65_536), (0, 0, 0) (0, 0, 0), (0, 0, 0) (0, 0, 0));
+        1: (100, 65_536, -65_536), 4: (-65_476, 65_541, -5)
     ),
-    Moving {
-        name: "across the range",
-        drawing: WIDER,
-        moves: &[moves!((-805_306_368, 0, 0), (0, 536_870_912, 0))],
-        answer: Ok(()),
-        places: &[[-RANGE, 0, 0], [0, RANGE, 0]],
-    },
-    Moving {
-        name: "out of a smaller limit",
-        drawing: SMALLER,
-        moves: &[moves!((1, 0, 0), (5, 5, 5))],
-        answer: Err(0),
-        places: &[[268_435_456, 0, 0], [0, 0, 0]],
-    },
-    Moving {
-        name: "within a wider limit",
-        drawing: WIDER,
-        moves: &[moves!((1, 0, 0), (5, 5, 5))],
-        answer: Ok(()),
-        places: &[[268_435_457, 0, 0], [5, 5, 5]],
-    },
+    case!(
+        "to the limit, pulled", NEAR_THE_LIMIT, Ok(()),
+        pull!((-10, 0, 0) (1, 0, 0), (0, 10, 0) (0, 0, 2), (0, 0, 0) (0, 0, 0));
+        0: (RANGE, 0, 0), 1: (1, 0, 0), 2: (0, -RANGE, 0), 3: (0, 0, RANGE)
+    ),
+    case!(
+        "a first end leaves, pulled", NEAR_THE_LIMIT, Err(1),
+        pull!((-10, 0, 0) (1, 0, 0), (0, 11, 0) (0, 0, 2), (0, 0, 0) (0, 0, 0));
+        0: (RANGE, 0, 0), 1: (1, 0, 0), 2: (0, -1 - RANGE, 0), 3: (0, 0, RANGE)
+    ),
+    case!(
+        "a second end leaves, pulled", NEAR_THE_LIMIT, Err(1),
+        pull!((-10, 0, 0) (1, 0, 0), (0, 10, 0) (0, 0, 3), (0, 0, 0) (0, 0, 0));
+        0: (RANGE, 0, 0), 1: (1, 0, 0), 2: (0, -RANGE, 0), 3: (0, 0, 1 + RANGE)
+    ),
+    case!(
+        "the last two leave, pulled", NEAR_THE_LIMIT, Err(1),
+        pull!((-10, 0, 0) (1, 0, 0), (0, 10, 0) (0, 0, 3), (0, 0, 0) (0, 0, 1));
+        0: (RANGE, 0, 0), 1: (1, 0, 0), 2: (0, -RANGE, 0), 3: (0, 0, 1 + RANGE), 5: (7, 7, 1 + RANGE)
+    ),
+    case!(
+        "out of a smaller limit, pulled", SMALLER, Err(0),
+        pull!((-1, 0, 0) (0, 0, 0));
+        0: (268_435_457, 0, 0)
+    ),
+    case!(
+        "within a wider limit, pulled", WIDER, Ok(()),
+        pull!((-1, 0, 0) (0, 0, 0));
+        0: (268_435_457, 0, 0)
+    ),
+    case!(
+        "three pairs, moved", THREE, Ok(()),
+        each!((-5, 0, 0) (3, 0, 0), (0, 7, 0) (0, 0, 0), (0, 0, 0) (1, 2, -3));
+        0: (10, -13, 30), 1: (103, 0, 0), 2: (-6, 10, 6), 4: (55, 5, -5)
+    ),
+    case!("no pairs, moved", NO_PAIRS, Ok(()), each!();),
+    case!(
+        "to the limit, moved", NEAR_THE_LIMIT, Ok(()),
+        each!((10, 0, 0) (1, 0, 0), (0, -10, 0) (0, 0, 2), (0, 0, 0) (0, 0, 0));
+        0: (RANGE, 0, 0), 1: (1, 0, 0), 2: (0, -RANGE, 0), 3: (0, 0, RANGE)
+    ),
+    case!(
+        "a first end leaves, moved", NEAR_THE_LIMIT, Err(1),
+        each!((10, 0, 0) (1, 0, 0), (0, -11, 0) (0, 0, 2), (3, 3, 3) (0, 0, 0));
+        0: (RANGE, 0, 0), 1: (1, 0, 0)
+    ),
+    case!(
+        "a second end leaves, moved", NEAR_THE_LIMIT, Err(1),
+        each!((10, 0, 0) (1, 0, 0), (0, -10, 0) (0, 0, 3), (0, 0, 0) (0, 0, 1));
+        0: (RANGE, 0, 0), 1: (1, 0, 0)
+    ),
+    case!(
+        "the last pair leaves by the longest moves", NEAR_THE_LIMIT, Err(2),
+        each!((10, 0, 0) (1, 0, 0), (0, -10, 0) (0, 0, 2), (2_147_483_648, 0, 0) (0, -2_147_483_648, 0));
+        0: (RANGE, 0, 0), 1: (1, 0, 0), 2: (0, -RANGE, 0), 3: (0, 0, RANGE)
+    ),
+    case!(
+        "across the range, moved", WIDER, Ok(()),
+        each!((-805_306_368, 0, 0) (0, 536_870_912, 0));
+        0: (-RANGE, 0, 0), 1: (0, RANGE, 0)
+    ),
+    case!("out of a smaller limit, moved", SMALLER, Err(0), each!((1, 0, 0) (5, 5, 5));),
+    case!(
+        "within a wider limit, moved", WIDER, Ok(()),
+        each!((1, 0, 0) (5, 5, 5));
+        0: (268_435_457, 0, 0), 1: (5, 5, 5)
+    ),
 ];

@@ -61,10 +61,23 @@ macro_rules! leaves {
     };
 }
 
+/// A particle at this place on x and y, which is held, or free of this weight, or of weight 1.
+macro_rules! end {
+    (($x:literal held) $y:literal) => {
+        held!($x, $y, 0)
+    };
+    (($x:literal $weight:literal) $y:literal) => {
+        free!($x, $y, $weight)
+    };
+    ($x:literal $y:literal) => {
+        free!($x, $y, 1)
+    };
+}
+
 /// Two particles side by side at these places on x, at each of these heights.
 macro_rules! ends {
-    ($($first:literal $second:literal $y:literal);*) => {
-        [$(free!($first, $y, 1), free!($second, $y, 1)),*]
+    ($($first:tt $second:tt $y:literal);*) => {
+        [$(end!($first $y), end!($second $y)),*]
     };
 }
 
@@ -180,14 +193,7 @@ static SEVENTEEN: Case = Case {
 
 // Short bonds with a held second end, a held first end and none.
 static BESIDE_HELD: Case = Case {
-    particles: &[
-        free!(0, 0, 1),
-        held!(105, 0, 0),
-        held!(0, 10, 0),
-        free!(110, 10, 1),
-        free!(0, 20, 1),
-        free!(105, 20, 1),
-    ],
+    particles: &ends!(0 (105 held) 0; (0 held) 110 10; 0 105 20),
     bonds: Bonds::Links(&[link!(0, 1, 100), link!(2, 3, 100), link!(4, 5, 100)]),
     batch: &[0, 1, 2],
     seen: stays!([5, 105, 3, 102], 2, 0, 0, -5),
@@ -195,12 +201,7 @@ static BESIDE_HELD: Case = Case {
 
 // A long bond, of unequal weights, beside a short one with a held end.
 static LONG: Case = Case {
-    particles: &[
-        free!(0, 0, 1),
-        free!(20012, 0, 3),
-        held!(0, 10, 0),
-        free!(105, 10, 1),
-    ],
+    particles: &ends!(0 (20012 3) 0; (0 held) 105 10),
     bonds: Bonds::Links(&[link!(0, 1, 20000), link!(2, 3, 100)]),
     batch: &[1, 0],
     seen: stays!([3, 20003, 0, 100], 1, -6, 0, -5),
