@@ -10,7 +10,7 @@ use pbd_io::{Failed, MemSink, Sink};
 use pbd_log::{Entry, LogView, LogWriter, answer_of, read_log};
 use pbd_num::Vec3;
 use pbd_tests_rows::logs::{LONG, OLD, OLD_BAD_COUNT, SCENE, SMALL};
-use pbd_tests_rows::{WrongRows, each_row};
+use pbd_tests_rows::{WrongRows, each_row, wrong_row};
 use pbd_world::{Command, FrameSums, Phase, Refusal, Reply};
 use std::alloc::{AllocError, Global};
 use std::io::Eprint;
@@ -234,7 +234,7 @@ fn each_cut_and_what_is_too_long_are_refused(rt: HostRuntime) -> Result<(), Wron
 }
 
 /// What becomes of the bytes with this one set.
-fn offset_with<const N: usize>(bytes: &[u8; N], at: usize, byte: u8) -> Option<u64> {
+fn offset_with<const N: usize>(bytes: &[u8; N], (at, byte): (usize, u8)) -> Option<u64> {
     let mut changed = *bytes;
     if at < N {
         changed[at] = byte;
@@ -242,55 +242,40 @@ fn offset_with<const N: usize>(bytes: &[u8; N], at: usize, byte: u8) -> Option<u
     offset_of(&changed)
 }
 
-/// A byte of a log, its wrong value, and the offset at which the log is refused then.
-type Wrong = (usize, u8, Option<u64>);
+/// Where a log is refused that has a wrong byte, and such bytes, each behind its index.
+type Wrong = (Option<u64>, &'static [(usize, u8)]);
 
 /// How many wrong bytes of a log don't have their offsets. Each of them is told.
 fn wrong_rows<const N: usize>(rt: &impl Eprint, bytes: &[u8; N], rows: &[Wrong]) -> u32 {
     let mut wrong = 0u32;
-    for (at, byte, offset) in rows {
-        let found = offset_with(bytes, *at, *byte);
-        if found != *offset {
-            let _ = eprintln!(rt; "{byte} at {at}: refused at {found:?}, not at {offset:?}");
-            wrong = wrong.saturating_add(1);
+    for (offset, changes) in rows {
+        for change in *changes {
+            let found = offset_with(bytes, *change);
+            wrong = wrong.saturating_add(wrong_row(rt, (change, "is refused at"), &found, offset));
         }
     }
     wrong
 }
 
-static SMALL_CHANGED: [Wrong; 17] = [
-    (0, 81, Some(0)),
-    (6, 103, Some(0)),
-    (7, 0, Some(0)),
-    (7, 3, Some(0)),
-    (8, 1, Some(8)),
-    (12, 16, None),
-    (12, 48, Some(8)),
-    (15, 1, Some(8)),
-    (16, 255, Some(16)),
-    (19, 12, Some(16)),
-    (20, 0, Some(29)),
-    (20, 10, Some(20)),
-    (21, 2, None),
-    (21, 13, Some(20)),
-    (22, 10, Some(22)),
-    (23, 1, Some(22)),
-    (30, 2, Some(22)),
+static SMALL_CHANGED: [Wrong; 7] = [
+    (Some(0), &[(0, 81), (6, 103), (7, 0), (7, 3)]),
+    (Some(8), &[(8, 1), (12, 48), (15, 1)]),
+    (Some(16), &[(16, 255), (19, 12)]),
+    (Some(20), &[(20, 10), (21, 13)]),
+    (Some(22), &[(22, 10), (23, 1), (30, 2)]),
+    (Some(29), &[(20, 0)]),
+    (None, &[(12, 16), (21, 2)]),
 ];
 
-static OLD_SMALL_CHANGED: [Wrong; 4] = [
-    (11, 12, Some(8)),
-    (12, 10, Some(12)),
-    (13, 13, Some(12)),
-    (22, 2, Some(14)),
+static OLD_SMALL_CHANGED: [Wrong; 3] = [
+    (Some(8), &[(11, 12)]),
+    (Some(12), &[(12, 10), (13, 13)]),
+    (Some(14), &[(22, 2)]),
 ];
 
-static OLD_LEAVES_CHANGED: [Wrong; 5] = [
-    (21, 0, Some(12)),
-    (30, 0, Some(12)),
-    (30, 1, None),
-    (30, 4, None),
-    (30, 5, Some(12)),
+static OLD_LEAVES_CHANGED: [Wrong; 2] = [
+    (Some(12), &[(21, 0), (30, 0), (30, 5)]),
+    (None, &[(30, 1), (30, 4)]),
 ];
 
 #[test]

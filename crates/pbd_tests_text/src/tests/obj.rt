@@ -10,30 +10,49 @@ use pbd_obj::{
     ArraysFault, LinkSettings, MeshSettings, ObjFault, ObjMesh, Triangle, add_mesh, add_mesh_with,
     mesh_of, read_obj, triangles_of, write_face, write_vertex,
 };
-use pbd_tests_rows::{WrongRows, all_hold, each_row, place, wrong_row};
+use pbd_tests_rows::{WrongRows, each_row, place, wrong_row};
 use pbd_world::{Kind, Link, Parts};
 use std::alloc::Global;
+use std::io::Eprint;
 use std::process::Abort;
 
-const SQUARE: &[u8] = b"v 0 0 0\nv 1 0 0\nv 1 1 0\nv 0 1 0\nf 1 2/7 -2//3 4\n";
+const SQUARE: &str = "v 0 0 0\nv 1 0 0\nv 1 1 0\nv 0 1 0\nf 1 2/7 -2//3 4\n";
 
 /// Reads a short text.
-fn read_short(rt: &impl Abort, alloc: Global, text: &[u8]) -> Result<ObjMesh, ObjFault>
+fn read_short(rt: &impl Abort, alloc: Global, text: &str) -> Result<ObjMesh, ObjFault>
     ensures { IfOk result IsMesh }
 {
-    assert!(rt; text.len() < 1_000, "a text of {} bytes", text.len());
-    read_obj(alloc, text)
+    let bytes = text.as_bytes();
+    assert!(rt; bytes.len() < 1_000, "a text of {} bytes", bytes.len());
+    read_obj(alloc, bytes)
 }
 
-/// The fault of a short text.
-fn fault_of(rt: &impl Abort, alloc: Global, text: &[u8]) -> Option<ObjFault> {
-    match read_short(rt, alloc, text) {
-        Ok(mesh) => {
-            drop(mesh);
-            None
-        }
-        Err(fault) => Some(fault),
+/// Whether a short text gives these places.
+fn has_places(
+    rt: &impl Abort,
+    alloc: Global,
+    text: &str,
+    places: &[Vec3],
+) -> Result<bool, ObjFault> {
+    let mesh = read_short(rt, alloc, text)?;
+    let same = mesh.places.as_slice() == places;
+    drop(mesh);
+    Ok(same)
+}
+
+/// How many of some texts aren't answered so where it is asked whether they give these places. Each of them is told.
+fn wrong_texts(
+    rt: &(impl Abort + Eprint),
+    alloc: Global,
+    texts: &[&str],
+    (places, answer): (&[Vec3], Result<bool, ObjFault>),
+) -> u32 {
+    let mut wrong = 0u32;
+    for text in texts {
+        let told = has_places(rt, alloc, text, places);
+        wrong = wrong.saturating_add(wrong_row(rt, (text, "gives its places"), &told, &answer));
     }
+    wrong
 }
 
 /// What is wrong with texts that have a bad vertex or a bad face.
@@ -97,73 +116,63 @@ static BAD_TEXTS: [(ObjFault, &[&str]); 7] = [
 
 #[test]
 fn a_bad_vertex_or_face_is_refused_at_its_line(rt: HostRuntime) -> Result<(), WrongRows> {
-    let mut wrong = 0u32;
-    for (fault, texts) in &BAD_TEXTS {
-        for text in *texts {
-            let found = fault_of(&rt, rt.alloc(), text.as_bytes());
-            wrong = wrong.saturating_add(wrong_row(
-                &rt,
-                (text, "is refused"),
-                &found,
-                &Some(*fault),
-            ));
-        }
-    }
-    all_hold(wrong)
+    each_row!(rt, &BAD_TEXTS, "has wrong texts", (fault, texts) => wrong_texts(&rt, rt.alloc(), texts, (&[], Err(*fault))), &0)
 }
 
-/// Whether a short text gives these places.
-fn has_places(
-    rt: &impl Abort,
-    alloc: Global,
-    text: &[u8],
-    places: &[Vec3],
-) -> Result<bool, ObjFault> {
-    let mesh = read_short(rt, alloc, text)?;
-    let same = mesh.places.as_slice() == places;
-    drop(mesh);
-    Ok(same)
-}
-
-/// Texts and the places of their vertices.
-static PLACES: [(&[u8], &[Vec3]); 21] = [
-    (b"v 0.1 0 0", &[place!(6554, 0, 0)]),
-    (b"v 1e-1 0 0", &[place!(6554, 0, 0)]),
-    (b"\tv\t1E-01\t0\t0 7 colour\r\n", &[place!(6554, 0, 0)]),
-    (b"v 0.00000762939453125 0 0", &[place!(1, 0, 0)]),
-    (b"v -0.00000762939453125 0 0", &[place!(-1, 0, 0)]),
-    (b"v 0.000007629394531249 0 0", &[place!(0, 0, 0)]),
-    (b"v 762939453125e-17 0 0", &[place!(1, 0, 0)]),
-    (b"v 762939453124e-17 0 0", &[place!(0, 0, 0)]),
-    (b"v -0 0 0", &[place!(0, 0, 0)]),
-    (b"v +1. 0 0", &[place!(65_536, 0, 0)]),
-    (b"v .5 0 0", &[place!(32_768, 0, 0)]),
-    (b"v -8192 0 0", &[place!(-536_870_912, 0, 0)]),
-    (b"v 8192.000007 0 0", &[place!(536_870_912, 0, 0)]),
-    (b"v 0.00008192e8 0 0", &[place!(536_870_912, 0, 0)]),
+/// Places, and texts that have vertices there.
+static PLACES: [(&[Vec3], &[&str]); 9] = [
     (
-        b"v 81920000000000000000000e-19 0 0",
-        &[place!(536_870_912, 0, 0)],
+        &[place!(6554, 0, 0)],
+        &["v 0.1 0 0", "v 1e-1 0 0", "\tv\t1E-01\t0\t0 7 colour\r\n"],
     ),
-    (b"v 0e99 0 0", &[place!(0, 0, 0)]),
-    (b"v 1e-99 0 0", &[place!(0, 0, 0)]),
-    (b"v 999999999999999999999999e-29 0 0", &[place!(1, 0, 0)]),
-    (b"v 999999999999999999999999e-30 0 0", &[place!(0, 0, 0)]),
-    (b"v 000000000000000000000001 0 0", &[place!(65_536, 0, 0)]),
     (
-        SQUARE,
+        &[place!(1, 0, 0)],
+        &[
+            "v 0.00000762939453125 0 0",
+            "v 762939453125e-17 0 0",
+            "v 999999999999999999999999e-29 0 0",
+        ],
+    ),
+    (&[place!(-1, 0, 0)], &["v -0.00000762939453125 0 0"]),
+    (
+        &[place!(0, 0, 0)],
+        &[
+            "v 0.000007629394531249 0 0",
+            "v 762939453124e-17 0 0",
+            "v -0 0 0",
+            "v 0e99 0 0",
+            "v 1e-99 0 0",
+            "v 999999999999999999999999e-30 0 0",
+        ],
+    ),
+    (
+        &[place!(65_536, 0, 0)],
+        &["v +1. 0 0", "v 000000000000000000000001 0 0"],
+    ),
+    (&[place!(32_768, 0, 0)], &["v .5 0 0"]),
+    (&[place!(-536_870_912, 0, 0)], &["v -8192 0 0"]),
+    (
+        &[place!(536_870_912, 0, 0)],
+        &[
+            "v 8192.000007 0 0",
+            "v 0.00008192e8 0 0",
+            "v 81920000000000000000000e-19 0 0",
+        ],
+    ),
+    (
         &[
             place!(0, 0, 0),
             place!(65_536, 0, 0),
             place!(65_536, 65_536, 0),
             place!(0, 65_536, 0),
         ],
+        &[SQUARE],
     ),
 ];
 
 #[test]
 fn decimals_become_whole_units(rt: HostRuntime) -> Result<(), WrongRows> {
-    each_row!(rt, &PLACES, "are its places", (text, places) => has_places(&rt, rt.alloc(), text, places), &Ok(true))
+    each_row!(rt, &PLACES, "has wrong texts", (places, texts) => wrong_texts(&rt, rt.alloc(), texts, (places, Ok(true))), &0)
 }
 
 /// What becomes of parts to which the mesh of a text is added.
@@ -264,7 +273,7 @@ static CLOTH: MeshSettings = MeshSettings {
 fn has_links(
     rt: &impl Abort,
     alloc: Global,
-    text: &[u8],
+    text: &str,
     links: &[Link],
 ) -> Result<[bool; 2], ObjFault> {
     let mesh = read_short(rt, alloc, text)?;
@@ -280,16 +289,16 @@ fn has_links(
 
 /// Two triangles, two squares, three triangles at one edge, a triangle and its back, and a body whose corners are all
 /// joined already.
-static BENT: [(&[u8], &[Link]); 5] = [
+static BENT: [(&str, &[Link]); 5] = [
     (
-        b"v 0 0 0\nv 1 0 0\nv 0 1 0\nv 1 1 0\nf 1 2 3\nf 3 2 4\n",
+        "v 0 0 0\nv 1 0 0\nv 0 1 0\nv 1 1 0\nf 1 2 3\nf 3 2 4\n",
         links!(
             Stretch 200 300_000: 0 1 65_536, 1 2 92_681, 2 0 65_536, 1 3 65_536, 3 2 65_536;
             Bend 40 500_000: 0 3 92_681
         ),
     ),
     (
-        b"v 0 0 0\nv 1 0 0\nv 1 1 0\nv 0 1 0\nv 2 0 0\nv 2 1 0\nf 1 2 3 4\nf 2 5 6 3\n",
+        "v 0 0 0\nv 1 0 0\nv 1 1 0\nv 0 1 0\nv 2 0 0\nv 2 1 0\nf 1 2 3 4\nf 2 5 6 3\n",
         links!(
             Stretch 200 300_000: 0 1 65_536, 1 2 65_536, 2 3 65_536, 3 0 65_536, 1 4 65_536,
                 4 5 65_536, 5 2 65_536;
@@ -298,20 +307,20 @@ static BENT: [(&[u8], &[Link]); 5] = [
         ),
     ),
     (
-        b"v 0 0 0\nv 1 0 0\nv 0 1 0\nv 0 -1 0\nv 0 0 1\nf 1 2 3\nf 2 1 4\nf 1 2 5\n",
+        "v 0 0 0\nv 1 0 0\nv 0 1 0\nv 0 -1 0\nv 0 0 1\nf 1 2 3\nf 2 1 4\nf 1 2 5\n",
         links!(
             Stretch 200 300_000: 0 1 65_536, 1 2 92_681, 2 0 65_536, 0 3 65_536, 3 1 92_681,
                 1 4 92_681, 4 0 65_536
         ),
     ),
     (
-        b"v 0 0 0\nv 1 0 0\nv 0 1 0\nf 1 2 3\nf 3 2 1\n",
+        "v 0 0 0\nv 1 0 0\nv 0 1 0\nf 1 2 3\nf 3 2 1\n",
         links!(
             Stretch 200 300_000: 0 1 65_536, 1 2 92_681, 2 0 65_536
         ),
     ),
     (
-        b"v 0 0 0\nv 1 0 0\nv 0 1 0\nv 0 0 1\nf 1 2 3\nf 1 4 2\nf 2 4 3\nf 3 4 1\n",
+        "v 0 0 0\nv 1 0 0\nv 0 1 0\nv 0 0 1\nf 1 2 3\nf 1 4 2\nf 2 4 3\nf 3 4 1\n",
         links!(
             Stretch 200 300_000: 0 1 65_536, 1 2 92_681, 2 0 65_536, 0 3 65_536, 3 1 92_681,
                 3 2 92_681
@@ -327,7 +336,7 @@ fn what_faces_each_other_across_an_edge_of_two_faces_is_joined(
 }
 
 /// A text, and the sizes and the corners of its faces.
-type Faces = (&'static [u8], &'static [u32], &'static [u32]);
+type Faces = (&'static str, &'static [u32], &'static [u32]);
 
 /// Whether a short text gives its faces.
 fn has_faces(rt: &impl Abort, alloc: Global, row: &Faces) -> Result<bool, ObjFault> {
@@ -342,27 +351,27 @@ fn has_faces(rt: &impl Abort, alloc: Global, row: &Faces) -> Result<bool, ObjFau
 static OTHER_PROGRAMS: [Faces; 7] = [
     (SQUARE, &[4], &[0, 1, 2, 3]),
     (
-        b"# Blender\r\nmtllib plane.mtl\r\no Plane\r\nv -1.000000 0.000000 1.000000\r\nv 1 0 1\r\nv 1 0 -1\r\nv -1 0 -1\r\nvn -0.0000 1.0000 -0.0000\r\nvt 0.0 1.0\r\ns 0\r\nusemtl None\r\nf 1/1/1 2/2/1 3/3/1 4/4/1\r\n",
+        "# Blender\r\nmtllib plane.mtl\r\no Plane\r\nv -1.000000 0.000000 1.000000\r\nv 1 0 1\r\nv 1 0 -1\r\nv -1 0 -1\r\nvn -0.0000 1.0000 -0.0000\r\nvt 0.0 1.0\r\ns 0\r\nusemtl None\r\nf 1/1/1 2/2/1 3/3/1 4/4/1\r\n",
         &[4],
         &[0, 1, 2, 3],
     ),
     (
-        b"v 0 0 0\nv 1 0 0\nv 1 1 0\nf -3 -2 -1\nv 2 2 0\nf -1 -2 -3\n",
+        "v 0 0 0\nv 1 0 0\nv 1 1 0\nf -3 -2 -1\nv 2 2 0\nf -1 -2 -3\n",
         &[3, 3],
         &[0, 1, 2, 3, 2, 1],
     ),
     (
-        b"g hexagon\nv 1e0 0 0\nv 5E-1 .866 0\nv -5e-1 0.866 0.\nv -1e+00 0 0\nv -0.5 -.866 0\nv +.5 -.866 0\nf 6 5/1 4//1 3/1/1 2 1\n",
+        "g hexagon\nv 1e0 0 0\nv 5E-1 .866 0\nv -5e-1 0.866 0.\nv -1e+00 0 0\nv -0.5 -.866 0\nv +.5 -.866 0\nf 6 5/1 4//1 3/1/1 2 1\n",
         &[6],
         &[5, 4, 3, 2, 1, 0],
     ),
     (
-        b"o first\nv 0 0 0\nv 1 0 0\nv 0 1 0\nf 1//1 2//1 3//1\no second\ng part\nv 0 0 1\nv 1 0 1\nv 0 1 1\nf 4 5 6\nf -3 2 -1\n",
+        "o first\nv 0 0 0\nv 1 0 0\nv 0 1 0\nf 1//1 2//1 3//1\no second\ng part\nv 0 0 1\nv 1 0 1\nv 0 1 1\nf 4 5 6\nf -3 2 -1\n",
         &[3, 3, 3],
         &[0, 1, 2, 3, 4, 5, 3, 1, 5],
     ),
-    (b"v 0 0 0 1 0.5 0.25\nvp 1 2\np 1\nl 1 1\n", &[], &[]),
-    (b"\r\n\t\nfo 1 2 3\nV 1 2 x", &[], &[]),
+    ("v 0 0 0 1 0.5 0.25\nvp 1 2\np 1\nl 1 1\n", &[], &[]),
+    ("\r\n\t\nfo 1 2 3\nV 1 2 x", &[], &[]),
 ];
 
 #[test]

@@ -1,6 +1,6 @@
 //! Scenes, each with the first rule that it breaks, and what an accepted one holds.
 use super::parts::{compare_parts, link, push_repeated};
-use super::scene_keys::KEY_CASES;
+use super::scene_keys::{KEY_CASES, table_cases};
 use pbd_num::Vec3;
 use pbd_scene::{SceneFault, read_scene};
 use pbd_tests_rows::{WrongRows, all_hold, each_row, place, wrong_row};
@@ -144,13 +144,15 @@ fn holds(alloc: Global, case: &str) -> bool {
 
 #[test]
 fn the_first_broken_rule_is_told(rt: HostRuntime) -> Result<(), WrongRows> {
+    let made = table_cases(rt.alloc()).expect(&rt, "no memory");
     let mut wrong = 0u32;
-    for cases in [CASES, KEY_CASES] {
+    for cases in [CASES, KEY_CASES, made.as_str()] {
         for case in cases.lines() {
             let told = holds(rt.alloc(), case);
             wrong = wrong.saturating_add(wrong_row(&rt, (&case, "is told"), &told, &true));
         }
     }
+    drop(made);
     all_hold(wrong)
 }
 
@@ -158,39 +160,22 @@ fn the_first_broken_rule_is_told(rt: HostRuntime) -> Result<(), WrongRows> {
 /// so much more.
 type Lines = (u32, u32, &'static str, &'static [(u32, &'static str)]);
 
-fn push_number(text: &mut String, number: u32, behind: &str) -> Result<(), AllocError> {
-    write!(text, "{number}")?;
-    text.push_str(behind)
-}
-
-fn push_line(text: &mut String, number: u32, lines: &Lines) -> bool {
-    if text.push_str(lines.2).is_err() {
-        return false;
-    }
+fn push_line(text: &mut String, number: u32, lines: &Lines) -> Result<(), AllocError> {
+    text.push_str(lines.2)?;
     for (more, behind) in lines.3 {
-        if push_number(text, number.saturating_add(*more), behind).is_err() {
-            return false;
-        }
+        write!(text, "{}", number.saturating_add(*more))?;
+        text.push_str(behind)?;
     }
-    true
+    Ok(())
 }
 
-fn push_lines(text: &mut String, lines: &Lines) -> bool {
-    for number in lines.0..lines.1 {
-        if !push_line(text, number, lines) {
-            return false;
-        }
-    }
-    true
-}
-
-fn push_all(text: &mut String, parts: &[Lines]) -> bool {
+fn push_all(text: &mut String, parts: &[Lines]) -> Result<(), AllocError> {
     for lines in parts {
-        if !push_lines(text, lines) {
-            return false;
+        for number in lines.0..lines.1 {
+            push_line(text, number, lines)?;
         }
     }
-    true
+    Ok(())
 }
 
 /// Whether this is told of a text that was written whole. None where there was no memory for it.
@@ -207,7 +192,7 @@ fn answers_whole(alloc: Global, text: String, is_whole: bool, answer: &str) -> O
 /// Whether this is told of a scene of these texts.
 fn answers_all(alloc: Global, parts: &[Lines], answer: &str) -> Option<bool> {
     let mut text = String::new(alloc);
-    let is_whole = push_all(&mut text, parts);
+    let is_whole = push_all(&mut text, parts).is_ok();
     answers_whole(alloc, text, is_whole, answer)
 }
 

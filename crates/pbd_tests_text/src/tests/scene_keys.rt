@@ -1,7 +1,9 @@
 //! Scenes for each key of each table.
+use std::alloc::{AllocError, Global};
+use std::fmt::Write;
 
-/// Each known table with one key left out, of another kind, or out of its range on either side, and pairs of keys of
-/// which the earlier is told. Written as the cases beside it.
+/// Values of other kinds in place of a table, of an entry and of each key beside the tables, and numbers out of range. Written as
+/// the cases beside it.
 pub static KEY_CASES: &str = "gravity=1 => 4 scene 0 gravity
 damping=true => 4 scene 0 damping
 thickness=[1] => 4 scene 0 thickness
@@ -12,152 +14,160 @@ damping=-1 => 5 scene 0 damping
 thickness=1048577 => 5 scene 0 thickness
 friction=-1 => 5 scene 0 friction
 particle=[1] => 4 particle 0 -
-particle=[{at=true,velocity=[0,0,0],weight=1,held=false,zebra=1}] => 2 particle 0 -
-particle=[{velocity=[0,0,0],weight=1,held=false}] => 3 particle 0 at
-particle=[{at=2,velocity=[0,0,0],weight=1,held=false}] => 4 particle 0 at
-particle=[{at=[0,536870913,0],velocity=[0,0,0],weight=1,held=false}] => 5 particle 0 at
-particle=[{at=[0,0,0],velocity=2,weight=1,held=false}] => 4 particle 0 velocity
-particle=[{at=[0,0,0],velocity=[0,0,-1073741825],weight=1,held=false}] => 5 particle 0 velocity
-particle=[{at=[0,0,0],velocity=[0,0,0],weight=true,held=false}] => 4 particle 0 weight
-particle=[{at=[0,0,0],velocity=[0,0,0],weight=0,held=false}] => 5 particle 0 weight
-particle=[{at=[0,0,0],velocity=[0,0,0],weight=65536,held=false}] => 5 particle 0 weight
-particle=[{at=[0,0,0],velocity=[0,0,0],weight=1,held=2}] => 4 particle 0 held
-particle=[{at='x',velocity='x',weight=1,held=false}] => 4 particle 0 at
-particle=[{at=[0,0,0],velocity='x',weight='x',held=false}] => 4 particle 0 velocity
-particle=[{at=[0,0,0],velocity=[0,0,0],weight='x',held='x'}] => 4 particle 0 weight
 cloth=1 => 4 cloth 0 -
 cloth=[1] => 4 cloth 0 -
-cloth=[{origin=true,across=[1,0,0],down=[0,0,1],rows=2,columns=2,weight=1,stretch=1,shear=1,bend=1,stretch_tear=1,shear_tear=1,bend_tear=1,zebra=1}] => 2 cloth 0 -
-cloth=[{across=[1,0,0],down=[0,0,1],rows=2,columns=2,weight=1,stretch=1,shear=1,bend=1,stretch_tear=1,shear_tear=1,bend_tear=1}] => 3 cloth 0 origin
-cloth=[{origin=2,across=[1,0,0],down=[0,0,1],rows=2,columns=2,weight=1,stretch=1,shear=1,bend=1,stretch_tear=1,shear_tear=1,bend_tear=1}] => 4 cloth 0 origin
-cloth=[{origin=[-536870913,0,0],across=[1,0,0],down=[0,0,1],rows=2,columns=2,weight=1,stretch=1,shear=1,bend=1,stretch_tear=1,shear_tear=1,bend_tear=1}] => 5 cloth 0 origin
-cloth=[{origin=[0,0,0],down=[0,0,1],rows=2,columns=2,weight=1,stretch=1,shear=1,bend=1,stretch_tear=1,shear_tear=1,bend_tear=1}] => 3 cloth 0 across
-cloth=[{origin=[0,0,0],across=2,down=[0,0,1],rows=2,columns=2,weight=1,stretch=1,shear=1,bend=1,stretch_tear=1,shear_tear=1,bend_tear=1}] => 4 cloth 0 across
-cloth=[{origin=[0,0,0],across=[0,536870913,0],down=[0,0,1],rows=2,columns=2,weight=1,stretch=1,shear=1,bend=1,stretch_tear=1,shear_tear=1,bend_tear=1}] => 5 cloth 0 across
-cloth=[{origin=[0,0,0],across=[1,0,0],rows=2,columns=2,weight=1,stretch=1,shear=1,bend=1,stretch_tear=1,shear_tear=1,bend_tear=1}] => 3 cloth 0 down
-cloth=[{origin=[0,0,0],across=[1,0,0],down=2,rows=2,columns=2,weight=1,stretch=1,shear=1,bend=1,stretch_tear=1,shear_tear=1,bend_tear=1}] => 4 cloth 0 down
-cloth=[{origin=[0,0,0],across=[1,0,0],down=[0,0,-536870913],rows=2,columns=2,weight=1,stretch=1,shear=1,bend=1,stretch_tear=1,shear_tear=1,bend_tear=1}] => 5 cloth 0 down
-cloth=[{origin=[0,0,0],across=[1,0,0],down=[0,0,1],columns=2,weight=1,stretch=1,shear=1,bend=1,stretch_tear=1,shear_tear=1,bend_tear=1}] => 3 cloth 0 rows
-cloth=[{origin=[0,0,0],across=[1,0,0],down=[0,0,1],rows=true,columns=2,weight=1,stretch=1,shear=1,bend=1,stretch_tear=1,shear_tear=1,bend_tear=1}] => 4 cloth 0 rows
-cloth=[{origin=[0,0,0],across=[1,0,0],down=[0,0,1],rows=0,columns=2,weight=1,stretch=1,shear=1,bend=1,stretch_tear=1,shear_tear=1,bend_tear=1}] => 5 cloth 0 rows
-cloth=[{origin=[0,0,0],across=[1,0,0],down=[0,0,1],rows=257,columns=2,weight=1,stretch=1,shear=1,bend=1,stretch_tear=1,shear_tear=1,bend_tear=1}] => 5 cloth 0 rows
-cloth=[{origin=[0,0,0],across=[1,0,0],down=[0,0,1],rows=2,weight=1,stretch=1,shear=1,bend=1,stretch_tear=1,shear_tear=1,bend_tear=1}] => 3 cloth 0 columns
-cloth=[{origin=[0,0,0],across=[1,0,0],down=[0,0,1],rows=2,columns=true,weight=1,stretch=1,shear=1,bend=1,stretch_tear=1,shear_tear=1,bend_tear=1}] => 4 cloth 0 columns
-cloth=[{origin=[0,0,0],across=[1,0,0],down=[0,0,1],rows=2,columns=0,weight=1,stretch=1,shear=1,bend=1,stretch_tear=1,shear_tear=1,bend_tear=1}] => 5 cloth 0 columns
-cloth=[{origin=[0,0,0],across=[1,0,0],down=[0,0,1],rows=2,columns=257,weight=1,stretch=1,shear=1,bend=1,stretch_tear=1,shear_tear=1,bend_tear=1}] => 5 cloth 0 columns
-cloth=[{origin=[0,0,0],across=[1,0,0],down=[0,0,1],rows=2,columns=2,weight=true,stretch=1,shear=1,bend=1,stretch_tear=1,shear_tear=1,bend_tear=1}] => 4 cloth 0 weight
-cloth=[{origin=[0,0,0],across=[1,0,0],down=[0,0,1],rows=2,columns=2,weight=0,stretch=1,shear=1,bend=1,stretch_tear=1,shear_tear=1,bend_tear=1}] => 5 cloth 0 weight
-cloth=[{origin=[0,0,0],across=[1,0,0],down=[0,0,1],rows=2,columns=2,weight=65536,stretch=1,shear=1,bend=1,stretch_tear=1,shear_tear=1,bend_tear=1}] => 5 cloth 0 weight
-cloth=[{origin=[0,0,0],across=[1,0,0],down=[0,0,1],rows=2,columns=2,weight=1,stretch=true,shear=1,bend=1,stretch_tear=1,shear_tear=1,bend_tear=1}] => 4 cloth 0 stretch
-cloth=[{origin=[0,0,0],across=[1,0,0],down=[0,0,1],rows=2,columns=2,weight=1,stretch=-1,shear=1,bend=1,stretch_tear=1,shear_tear=1,bend_tear=1}] => 5 cloth 0 stretch
-cloth=[{origin=[0,0,0],across=[1,0,0],down=[0,0,1],rows=2,columns=2,weight=1,stretch=257,shear=1,bend=1,stretch_tear=1,shear_tear=1,bend_tear=1}] => 5 cloth 0 stretch
-cloth=[{origin=[0,0,0],across=[1,0,0],down=[0,0,1],rows=2,columns=2,weight=1,stretch=1,shear=true,bend=1,stretch_tear=1,shear_tear=1,bend_tear=1}] => 4 cloth 0 shear
-cloth=[{origin=[0,0,0],across=[1,0,0],down=[0,0,1],rows=2,columns=2,weight=1,stretch=1,shear=-1,bend=1,stretch_tear=1,shear_tear=1,bend_tear=1}] => 5 cloth 0 shear
-cloth=[{origin=[0,0,0],across=[1,0,0],down=[0,0,1],rows=2,columns=2,weight=1,stretch=1,shear=257,bend=1,stretch_tear=1,shear_tear=1,bend_tear=1}] => 5 cloth 0 shear
-cloth=[{origin=[0,0,0],across=[1,0,0],down=[0,0,1],rows=2,columns=2,weight=1,stretch=1,shear=1,bend=true,stretch_tear=1,shear_tear=1,bend_tear=1}] => 4 cloth 0 bend
-cloth=[{origin=[0,0,0],across=[1,0,0],down=[0,0,1],rows=2,columns=2,weight=1,stretch=1,shear=1,bend=-1,stretch_tear=1,shear_tear=1,bend_tear=1}] => 5 cloth 0 bend
-cloth=[{origin=[0,0,0],across=[1,0,0],down=[0,0,1],rows=2,columns=2,weight=1,stretch=1,shear=1,bend=257,stretch_tear=1,shear_tear=1,bend_tear=1}] => 5 cloth 0 bend
-cloth=[{origin=[0,0,0],across=[1,0,0],down=[0,0,1],rows=2,columns=2,weight=1,stretch=1,shear=1,bend=1,stretch_tear=true,shear_tear=1,bend_tear=1}] => 4 cloth 0 stretch_tear
-cloth=[{origin=[0,0,0],across=[1,0,0],down=[0,0,1],rows=2,columns=2,weight=1,stretch=1,shear=1,bend=1,stretch_tear=-1,shear_tear=1,bend_tear=1}] => 5 cloth 0 stretch_tear
-cloth=[{origin=[0,0,0],across=[1,0,0],down=[0,0,1],rows=2,columns=2,weight=1,stretch=1,shear=1,bend=1,stretch_tear=2147483649,shear_tear=1,bend_tear=1}] => 5 cloth 0 stretch_tear
-cloth=[{origin=[0,0,0],across=[1,0,0],down=[0,0,1],rows=2,columns=2,weight=1,stretch=1,shear=1,bend=1,stretch_tear=1,shear_tear=true,bend_tear=1}] => 4 cloth 0 shear_tear
-cloth=[{origin=[0,0,0],across=[1,0,0],down=[0,0,1],rows=2,columns=2,weight=1,stretch=1,shear=1,bend=1,stretch_tear=1,shear_tear=-1,bend_tear=1}] => 5 cloth 0 shear_tear
-cloth=[{origin=[0,0,0],across=[1,0,0],down=[0,0,1],rows=2,columns=2,weight=1,stretch=1,shear=1,bend=1,stretch_tear=1,shear_tear=2147483649,bend_tear=1}] => 5 cloth 0 shear_tear
-cloth=[{origin=[0,0,0],across=[1,0,0],down=[0,0,1],rows=2,columns=2,weight=1,stretch=1,shear=1,bend=1,stretch_tear=1,shear_tear=1,bend_tear=true}] => 4 cloth 0 bend_tear
-cloth=[{origin=[0,0,0],across=[1,0,0],down=[0,0,1],rows=2,columns=2,weight=1,stretch=1,shear=1,bend=1,stretch_tear=1,shear_tear=1,bend_tear=-1}] => 5 cloth 0 bend_tear
-cloth=[{origin=[0,0,0],across=[1,0,0],down=[0,0,1],rows=2,columns=2,weight=1,stretch=1,shear=1,bend=1,stretch_tear=1,shear_tear=1,bend_tear=2147483649}] => 5 cloth 0 bend_tear
-cloth=[{origin='x',across='x',down=[0,0,1],rows=2,columns=2,weight=1,stretch=1,shear=1,bend=1,stretch_tear=1,shear_tear=1,bend_tear=1}] => 4 cloth 0 origin
-cloth=[{origin=[0,0,0],across='x',down='x',rows=2,columns=2,weight=1,stretch=1,shear=1,bend=1,stretch_tear=1,shear_tear=1,bend_tear=1}] => 4 cloth 0 across
-cloth=[{origin=[0,0,0],across=[1,0,0],down='x',rows='x',columns=2,weight=1,stretch=1,shear=1,bend=1,stretch_tear=1,shear_tear=1,bend_tear=1}] => 4 cloth 0 down
-cloth=[{origin=[0,0,0],across=[1,0,0],down=[0,0,1],rows='x',columns='x',weight=1,stretch=1,shear=1,bend=1,stretch_tear=1,shear_tear=1,bend_tear=1}] => 4 cloth 0 rows
-cloth=[{origin=[0,0,0],across=[1,0,0],down=[0,0,1],rows=2,columns='x',weight='x',stretch=1,shear=1,bend=1,stretch_tear=1,shear_tear=1,bend_tear=1}] => 4 cloth 0 columns
-cloth=[{origin=[0,0,0],across=[1,0,0],down=[0,0,1],rows=2,columns=2,weight='x',stretch='x',shear=1,bend=1,stretch_tear=1,shear_tear=1,bend_tear=1}] => 4 cloth 0 weight
-cloth=[{origin=[0,0,0],across=[1,0,0],down=[0,0,1],rows=2,columns=2,weight=1,stretch='x',shear='x',bend=1,stretch_tear=1,shear_tear=1,bend_tear=1}] => 4 cloth 0 stretch
-cloth=[{origin=[0,0,0],across=[1,0,0],down=[0,0,1],rows=2,columns=2,weight=1,stretch=1,shear='x',bend='x',stretch_tear=1,shear_tear=1,bend_tear=1}] => 4 cloth 0 shear
-cloth=[{origin=[0,0,0],across=[1,0,0],down=[0,0,1],rows=2,columns=2,weight=1,stretch=1,shear=1,bend='x',stretch_tear='x',shear_tear=1,bend_tear=1}] => 4 cloth 0 bend
-cloth=[{origin=[0,0,0],across=[1,0,0],down=[0,0,1],rows=2,columns=2,weight=1,stretch=1,shear=1,bend=1,stretch_tear='x',shear_tear='x',bend_tear=1}] => 4 cloth 0 stretch_tear
-cloth=[{origin=[0,0,0],across=[1,0,0],down=[0,0,1],rows=2,columns=2,weight=1,stretch=1,shear=1,bend=1,stretch_tear=1,shear_tear='x',bend_tear='x'}] => 4 cloth 0 shear_tear
 rope=1 => 4 rope 0 -
 rope=[1] => 4 rope 0 -
-rope=[{origin=true,spacing=[1,0,0],count=2,weight=1,stretch=1,bend=1,stretch_tear=1,bend_tear=1,zebra=1}] => 2 rope 0 -
-rope=[{spacing=[1,0,0],count=2,weight=1,stretch=1,bend=1,stretch_tear=1,bend_tear=1}] => 3 rope 0 origin
-rope=[{origin=2,spacing=[1,0,0],count=2,weight=1,stretch=1,bend=1,stretch_tear=1,bend_tear=1}] => 4 rope 0 origin
-rope=[{origin=[-536870913,0,0],spacing=[1,0,0],count=2,weight=1,stretch=1,bend=1,stretch_tear=1,bend_tear=1}] => 5 rope 0 origin
-rope=[{origin=[0,0,0],count=2,weight=1,stretch=1,bend=1,stretch_tear=1,bend_tear=1}] => 3 rope 0 spacing
-rope=[{origin=[0,0,0],spacing=2,count=2,weight=1,stretch=1,bend=1,stretch_tear=1,bend_tear=1}] => 4 rope 0 spacing
-rope=[{origin=[0,0,0],spacing=[0,0,536870913],count=2,weight=1,stretch=1,bend=1,stretch_tear=1,bend_tear=1}] => 5 rope 0 spacing
-rope=[{origin=[0,0,0],spacing=[1,0,0],weight=1,stretch=1,bend=1,stretch_tear=1,bend_tear=1}] => 3 rope 0 count
-rope=[{origin=[0,0,0],spacing=[1,0,0],count=true,weight=1,stretch=1,bend=1,stretch_tear=1,bend_tear=1}] => 4 rope 0 count
-rope=[{origin=[0,0,0],spacing=[1,0,0],count=0,weight=1,stretch=1,bend=1,stretch_tear=1,bend_tear=1}] => 5 rope 0 count
-rope=[{origin=[0,0,0],spacing=[1,0,0],count=4097,weight=1,stretch=1,bend=1,stretch_tear=1,bend_tear=1}] => 5 rope 0 count
-rope=[{origin=[0,0,0],spacing=[1,0,0],count=2,weight=true,stretch=1,bend=1,stretch_tear=1,bend_tear=1}] => 4 rope 0 weight
-rope=[{origin=[0,0,0],spacing=[1,0,0],count=2,weight=0,stretch=1,bend=1,stretch_tear=1,bend_tear=1}] => 5 rope 0 weight
-rope=[{origin=[0,0,0],spacing=[1,0,0],count=2,weight=65536,stretch=1,bend=1,stretch_tear=1,bend_tear=1}] => 5 rope 0 weight
-rope=[{origin=[0,0,0],spacing=[1,0,0],count=2,weight=1,stretch=true,bend=1,stretch_tear=1,bend_tear=1}] => 4 rope 0 stretch
-rope=[{origin=[0,0,0],spacing=[1,0,0],count=2,weight=1,stretch=-1,bend=1,stretch_tear=1,bend_tear=1}] => 5 rope 0 stretch
-rope=[{origin=[0,0,0],spacing=[1,0,0],count=2,weight=1,stretch=257,bend=1,stretch_tear=1,bend_tear=1}] => 5 rope 0 stretch
-rope=[{origin=[0,0,0],spacing=[1,0,0],count=2,weight=1,stretch=1,bend=true,stretch_tear=1,bend_tear=1}] => 4 rope 0 bend
-rope=[{origin=[0,0,0],spacing=[1,0,0],count=2,weight=1,stretch=1,bend=-1,stretch_tear=1,bend_tear=1}] => 5 rope 0 bend
-rope=[{origin=[0,0,0],spacing=[1,0,0],count=2,weight=1,stretch=1,bend=257,stretch_tear=1,bend_tear=1}] => 5 rope 0 bend
-rope=[{origin=[0,0,0],spacing=[1,0,0],count=2,weight=1,stretch=1,bend=1,stretch_tear=true,bend_tear=1}] => 4 rope 0 stretch_tear
-rope=[{origin=[0,0,0],spacing=[1,0,0],count=2,weight=1,stretch=1,bend=1,stretch_tear=-1,bend_tear=1}] => 5 rope 0 stretch_tear
-rope=[{origin=[0,0,0],spacing=[1,0,0],count=2,weight=1,stretch=1,bend=1,stretch_tear=2147483649,bend_tear=1}] => 5 rope 0 stretch_tear
-rope=[{origin=[0,0,0],spacing=[1,0,0],count=2,weight=1,stretch=1,bend=1,stretch_tear=1,bend_tear=true}] => 4 rope 0 bend_tear
-rope=[{origin=[0,0,0],spacing=[1,0,0],count=2,weight=1,stretch=1,bend=1,stretch_tear=1,bend_tear=-1}] => 5 rope 0 bend_tear
-rope=[{origin=[0,0,0],spacing=[1,0,0],count=2,weight=1,stretch=1,bend=1,stretch_tear=1,bend_tear=2147483649}] => 5 rope 0 bend_tear
-rope=[{origin='x',spacing='x',count=2,weight=1,stretch=1,bend=1,stretch_tear=1,bend_tear=1}] => 4 rope 0 origin
-rope=[{origin=[0,0,0],spacing='x',count='x',weight=1,stretch=1,bend=1,stretch_tear=1,bend_tear=1}] => 4 rope 0 spacing
-rope=[{origin=[0,0,0],spacing=[1,0,0],count='x',weight='x',stretch=1,bend=1,stretch_tear=1,bend_tear=1}] => 4 rope 0 count
-rope=[{origin=[0,0,0],spacing=[1,0,0],count=2,weight='x',stretch='x',bend=1,stretch_tear=1,bend_tear=1}] => 4 rope 0 weight
-rope=[{origin=[0,0,0],spacing=[1,0,0],count=2,weight=1,stretch='x',bend='x',stretch_tear=1,bend_tear=1}] => 4 rope 0 stretch
-rope=[{origin=[0,0,0],spacing=[1,0,0],count=2,weight=1,stretch=1,bend='x',stretch_tear='x',bend_tear=1}] => 4 rope 0 bend
-rope=[{origin=[0,0,0],spacing=[1,0,0],count=2,weight=1,stretch=1,bend=1,stretch_tear='x',bend_tear='x'}] => 4 rope 0 stretch_tear
 link=1 => 4 link 0 -
 particle=[{at=[0,0,0]},{at=[3,4,0]}]; link=[1] => 4 link 0 -
-particle=[{at=[0,0,0]},{at=[3,4,0]}]; link=[{a=true,b=1,rest=1,stiffness=1,tear=1,zebra=1}] => 2 link 0 -
-particle=[{at=[0,0,0]},{at=[3,4,0]}]; link=[{b=1,rest=1,stiffness=1,tear=1}] => 3 link 0 a
-particle=[{at=[0,0,0]},{at=[3,4,0]}]; link=[{a=true,b=1,rest=1,stiffness=1,tear=1}] => 4 link 0 a
-particle=[{at=[0,0,0]},{at=[3,4,0]}]; link=[{a=0,rest=1,stiffness=1,tear=1}] => 3 link 0 b
-particle=[{at=[0,0,0]},{at=[3,4,0]}]; link=[{a=0,b=true,rest=1,stiffness=1,tear=1}] => 4 link 0 b
-particle=[{at=[0,0,0]},{at=[3,4,0]}]; link=[{a=0,b=1,rest=true,stiffness=1,tear=1}] => 4 link 0 rest
-particle=[{at=[0,0,0]},{at=[3,4,0]}]; link=[{a=0,b=1,rest=-1,stiffness=1,tear=1}] => 5 link 0 rest
-particle=[{at=[0,0,0]},{at=[3,4,0]}]; link=[{a=0,b=1,rest=2147483649,stiffness=1,tear=1}] => 5 link 0 rest
-particle=[{at=[0,0,0]},{at=[3,4,0]}]; link=[{a=0,b=1,rest=1,stiffness=true,tear=1}] => 4 link 0 stiffness
-particle=[{at=[0,0,0]},{at=[3,4,0]}]; link=[{a=0,b=1,rest=1,stiffness=-1,tear=1}] => 5 link 0 stiffness
-particle=[{at=[0,0,0]},{at=[3,4,0]}]; link=[{a=0,b=1,rest=1,stiffness=257,tear=1}] => 5 link 0 stiffness
-particle=[{at=[0,0,0]},{at=[3,4,0]}]; link=[{a=0,b=1,rest=1,stiffness=1,tear=true}] => 4 link 0 tear
-particle=[{at=[0,0,0]},{at=[3,4,0]}]; link=[{a=0,b=1,rest=1,stiffness=1,tear=-1}] => 5 link 0 tear
-particle=[{at=[0,0,0]},{at=[3,4,0]}]; link=[{a=0,b=1,rest=1,stiffness=1,tear=2147483649}] => 5 link 0 tear
-particle=[{at=[0,0,0]},{at=[3,4,0]}]; link=[{a='x',b='x',rest=1,stiffness=1,tear=1}] => 4 link 0 a
-particle=[{at=[0,0,0]},{at=[3,4,0]}]; link=[{a=0,b='x',rest='x',stiffness=1,tear=1}] => 4 link 0 b
-particle=[{at=[0,0,0]},{at=[3,4,0]}]; link=[{a=0,b=1,rest='x',stiffness='x',tear=1}] => 4 link 0 rest
-particle=[{at=[0,0,0]},{at=[3,4,0]}]; link=[{a=0,b=1,rest=1,stiffness='x',tear='x'}] => 4 link 0 stiffness
 plane=1 => 4 plane 0 -
 plane=[1] => 4 plane 0 -
-plane=[{normal=true,offset=0,zebra=1}] => 2 plane 0 -
-plane=[{offset=0}] => 3 plane 0 normal
-plane=[{normal=2,offset=0}] => 4 plane 0 normal
-plane=[{normal=[1025,0,0],offset=0}] => 5 plane 0 normal
-plane=[{normal=[0,1,0]}] => 3 plane 0 offset
-plane=[{normal=[0,1,0],offset=true}] => 4 plane 0 offset
-plane=[{normal=[0,1,0],offset=1099511627777}] => 5 plane 0 offset
-plane=[{normal='x',offset='x'}] => 4 plane 0 normal
 sphere=1 => 4 sphere 0 -
 sphere=[1] => 4 sphere 0 -
-sphere=[{centre=true,radius=1,zebra=1}] => 2 sphere 0 -
-sphere=[{radius=1}] => 3 sphere 0 centre
-sphere=[{centre=2,radius=1}] => 4 sphere 0 centre
-sphere=[{centre=[536870913,0,0],radius=1}] => 5 sphere 0 centre
-sphere=[{centre=[0,0,0]}] => 3 sphere 0 radius
-sphere=[{centre=[0,0,0],radius=true}] => 4 sphere 0 radius
-sphere=[{centre=[0,0,0],radius=0}] => 5 sphere 0 radius
-sphere=[{centre=[0,0,0],radius=536870913}] => 5 sphere 0 radius
-sphere=[{centre='x',radius='x'}] => 4 sphere 0 centre
-particle=[{at=[0,0,0]},{at=[3,4,0]}]; track=[1] => 4 track 0 -
-particle=[{at=[0,0,0]},{at=[3,4,0]}]; track=[{particle=true,keys=[[0,0,0,0]],zebra=1}] => 2 track 0 -
-particle=[{at=[0,0,0]},{at=[3,4,0]}]; track=[{keys=[[0,0,0,0]]}] => 3 track 0 particle
-particle=[{at=[0,0,0]},{at=[3,4,0]}]; track=[{particle=true,keys=[[0,0,0,0]]}] => 4 track 0 particle
-particle=[{at=[0,0,0]},{at=[3,4,0]}]; track=[{particle=0}] => 3 track 0 keys
-particle=[{at=[0,0,0]},{at=[3,4,0]}]; track=[{particle=0,keys=2}] => 4 track 0 keys
-particle=[{at=[0,0,0]},{at=[3,4,0]}]; track=[{particle=0,keys=[[0,536870913,0,0]]}] => 5 track 0 keys
-particle=[{at=[0,0,0]},{at=[3,4,0]}]; track=[{particle='x',keys='x'}] => 4 track 0 particle";
+particle=[{at=[0,0,0]},{at=[3,4,0]}]; track=[1] => 4 track 0 -";
+
+/// A key: its name, a value of it, and what is refused in that value's place, each behind the number of the rule that it breaks.
+/// Where nothing is in its place the key is left out.
+type Key = (&'static str, &'static str, &'static [(u8, &'static str)]);
+
+/// A table: the lines before it, its name, and its keys, in the order in which they are looked at.
+type Table = (&'static str, &'static str, &'static [Key]);
+
+macro_rules! refused {
+    ([$($rule:literal $value:literal),*]) => {
+        &[$(($rule, $value)),*]
+    };
+}
+
+/// Keys with their values, and what is refused there.
+macro_rules! keys {
+    ($($($key:literal)+ = $value:literal $refused:tt),*) => {
+        &[$($(($key, $value, refused!($refused))),+),*]
+    };
+}
+
+const TWO_PARTICLES: &str = "particle=[{at=[0,0,0]},{at=[3,4,0]}]; ";
+
+static TABLES: [Table; 7] = [
+    (
+        "",
+        "particle",
+        keys!(
+            "at" = "[0,0,0]" [3 "", 4 "2", 5 "[0,536870913,0]"],
+            "velocity" = "[0,0,0]" [4 "2", 5 "[0,0,-1073741825]"],
+            "weight" = "1" [4 "true", 5 "0", 5 "65536"],
+            "held" = "false" [4 "2"]
+        ),
+    ),
+    (
+        "",
+        "cloth",
+        keys!(
+            "origin" = "[0,0,0]" [3 "", 4 "2", 5 "[-536870913,0,0]"],
+            "across" = "[1,0,0]" [3 "", 4 "2", 5 "[0,536870913,0]"],
+            "down" = "[0,0,1]" [3 "", 4 "2", 5 "[0,0,-536870913]"],
+            "rows" "columns" = "2" [3 "", 4 "true", 5 "0", 5 "257"],
+            "weight" = "1" [4 "true", 5 "0", 5 "65536"],
+            "stretch" "shear" "bend" = "1" [4 "true", 5 "-1", 5 "257"],
+            "stretch_tear" "shear_tear" "bend_tear" = "1" [4 "true", 5 "-1", 5 "2147483649"]
+        ),
+    ),
+    (
+        "",
+        "rope",
+        keys!(
+            "origin" = "[0,0,0]" [3 "", 4 "2", 5 "[-536870913,0,0]"],
+            "spacing" = "[1,0,0]" [3 "", 4 "2", 5 "[0,0,536870913]"],
+            "count" = "2" [3 "", 4 "true", 5 "0", 5 "4097"],
+            "weight" = "1" [4 "true", 5 "0", 5 "65536"],
+            "stretch" "bend" = "1" [4 "true", 5 "-1", 5 "257"],
+            "stretch_tear" "bend_tear" = "1" [4 "true", 5 "-1", 5 "2147483649"]
+        ),
+    ),
+    (
+        TWO_PARTICLES,
+        "link",
+        keys!(
+            "a" = "0" [3 "", 4 "true"],
+            "b" = "1" [3 "", 4 "true"],
+            "rest" = "1" [4 "true", 5 "-1", 5 "2147483649"],
+            "stiffness" = "1" [4 "true", 5 "-1", 5 "257"],
+            "tear" = "1" [4 "true", 5 "-1", 5 "2147483649"]
+        ),
+    ),
+    (
+        "",
+        "plane",
+        keys!(
+            "normal" = "[0,1,0]" [3 "", 4 "2", 5 "[1025,0,0]"],
+            "offset" = "0" [3 "", 4 "true", 5 "1099511627777"]
+        ),
+    ),
+    (
+        "",
+        "sphere",
+        keys!(
+            "centre" = "[0,0,0]" [3 "", 4 "2", 5 "[536870913,0,0]"],
+            "radius" = "1" [3 "", 4 "true", 5 "0", 5 "536870913"]
+        ),
+    ),
+    (
+        TWO_PARTICLES,
+        "track",
+        keys!(
+            "particle" = "0" [3 "", 4 "true"],
+            "keys" = "[[0,0,0,0]]" [3 "", 4 "2", 5 "[[0,536870913,0,0]]"]
+        ),
+    ),
+];
+
+/// Adds a key of an entry, the first of which opens it, or nothing where there is no value.
+fn push_key(text: &mut String, key: &str, value: &str) -> Result<(), AllocError> {
+    if value.is_empty() {
+        return Ok(());
+    }
+    let is_first = text.as_bytes().last() == Some(&b'[');
+    text.push_str(if is_first { "{" } else { "," })?;
+    write!(text, "{key}={value}")
+}
+
+/// Adds the entry of a table, up to its end, in which the keys from the first on and below the second have this value.
+fn push_entry(
+    text: &mut String,
+    table: &Table,
+    (first, end): (usize, usize),
+    value: &str,
+) -> Result<(), AllocError> {
+    let (before, name, keys) = *table;
+    write!(text, "{before}{name}=[")?;
+    for (i, (key, valid, _)) in keys.iter().enumerate() {
+        let is_changed = first <= i && i < end;
+        push_key(text, key, if is_changed { value } else { valid })?;
+    }
+    Ok(())
+}
+
+/// Adds the cases of a table: each key with each of its refused values, and with a value of another kind where the next key has
+/// one too, so that the earlier is told; and a key that there isn't.
+fn push_cases(text: &mut String, table: &Table) -> Result<(), AllocError> {
+    let (_, name, keys) = *table;
+    for (i, (key, _, refused)) in keys.iter().enumerate() {
+        for (rule, value) in *refused {
+            push_entry(text, table, (i, i.saturating_add(1)), value)?;
+            writeln!(text, "}}] => {rule} {name} 0 {key}")?;
+        }
+        push_entry(text, table, (i, i.saturating_add(2)), "'x'")?;
+        writeln!(text, "}}] => 4 {name} 0 {key}")?;
+    }
+    push_entry(text, table, (0, 1), "true")?;
+    writeln!(text, ",zebra=1}}] => 2 {name} 0 -")
+}
+
+/// The cases of all tables, a line each.
+pub fn table_cases(alloc: Global) -> Result<String, AllocError> {
+    let mut text = String::new(alloc);
+    for table in &TABLES {
+        push_cases(&mut text, table)?;
+    }
+    Ok(text)
+}
