@@ -19,22 +19,19 @@ static CLOTH_PARTICLES: [Particle; 6] = [
     resting!(200, 0, 100),
 ];
 
+/// Links of full stiffness, by their rest lengths and the particles between which they are.
+macro_rules! links {
+    ($($rest:literal: $($a:literal $b:literal),*);*) => {
+        [$($(link!($a, $b, $rest)),*),*]
+    };
+}
+
 /// All their links.
-static CLOTH_LINKS: [Link; 13] = [
-    link!(0, 1, 100),
-    link!(0, 3, 100),
-    link!(1, 2, 100),
-    link!(1, 4, 100),
-    link!(2, 5, 100),
-    link!(3, 4, 100),
-    link!(4, 5, 100),
-    link!(0, 4, 141),
-    link!(1, 3, 141),
-    link!(1, 5, 141),
-    link!(2, 4, 141),
-    link!(0, 2, 200),
-    link!(3, 5, 200),
-];
+static CLOTH_LINKS: [Link; 13] = links!(
+    100: 0 1, 0 3, 1 2, 1 4, 2 5, 3 4, 4 5;
+    141: 0 4, 1 3, 1 5, 2 4;
+    200: 0 2, 3 5
+);
 
 /// What a scene has beside a cloth, and whether it is one.
 #[derive(Clone, Copy)]
@@ -305,28 +302,24 @@ fn a_list_with_room_takes_no_more_items(rt: HostRuntime) {
     );
 }
 
-const NOTHING: Totals = Totals {
-    gravity: [0; 3],
-    damping: [0; 3],
-    link: [0; 3],
-    contact: [0; 3],
-    pin: [0; 3],
-    shape: [0; 3],
-};
-
-static PINNED: Totals = Totals {
-    pin: [1, -2, 3],
-    ..NOTHING
-};
-
 #[test]
 fn a_move_is_added_to_one_total(rt: HostRuntime) {
     let mut totals = Totals::zero();
     totals.add(Class::Pin, place!(1, -2, 3));
-    assert!(rt; totals == PINNED, "a move of a pin went elsewhere");
+    let others = [
+        totals.gravity,
+        totals.damping,
+        totals.link,
+        totals.contact,
+        totals.shape,
+    ];
+    assert!(rt;
+        totals.pin == [1, -2, 3] && others == [[0; 3]; 5],
+        "a move of a pin went elsewhere"
+    );
     let mut totals = Totals {
         link: [i128::MAX - 1, 0, i128::MIN + 1],
-        ..NOTHING
+        ..Totals::zero()
     };
     totals.add(Class::Link, place!(1, 0, -1));
     assert!(rt;
