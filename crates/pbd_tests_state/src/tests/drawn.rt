@@ -5,12 +5,13 @@ use pbd_num::{RANGE, Vec3};
 use pbd_pair::Projector;
 use pbd_step::Solver;
 use pbd_store::Steps;
+use pbd_tests_scenes::{Drawing, EMPTY, parts_of};
 use pbd_world::{
     Key, Kind, Link, List, Particle, Parts, PartsFault, Plane, Refusal, Scene, Sphere, Track,
 };
 use rand_core::utils::NextWord;
 use rand_pcg::Lcg64Xsh32;
-use std::alloc::Global;
+use std::alloc::{AllocError, Global};
 use std::sync::ledger::Ledger;
 
 /// How the particles of a body are joined.
@@ -209,24 +210,27 @@ fn draw_track(alloc: Global, words: &mut Lcg64Xsh32, parts: &mut Parts) -> bool 
     }
 }
 
-/// Draws the numbers of a scene. One of three scenes has contacts.
-fn draw_numbers(words: &mut Lcg64Xsh32, parts: &mut Parts) {
-    parts.gravity = vector(words, 21);
-    parts.passes = words.next_word() % 4;
-    parts.damping = pick(words, 0, 100);
-    parts.friction = pick(words, 0, 257);
-    if one_of(words, 3) {
-        parts.thickness = pick(words, 20, 150);
+/// The numbers of a scene. One of three scenes has contacts.
+fn drawn_numbers(words: &mut Lcg64Xsh32) -> Drawing {
+    Drawing {
+        gravity: vector(words, 21),
+        passes: words.next_word() % 4,
+        damping: pick(words, 0, 100),
+        friction: pick(words, 0, 257),
+        thickness: if one_of(words, 3) {
+            pick(words, 20, 150)
+        } else {
+            0
+        },
+        ..EMPTY
     }
 }
 
-/// Draws a scene, where there is memory.
-fn draw(alloc: Global, words: &mut Lcg64Xsh32, parts: &mut Parts) -> bool {
-    let body = drawn_body(words);
-    draw_numbers(words, parts);
+/// Draws a body and shapes, where there is memory.
+fn draw(alloc: Global, words: &mut Lcg64Xsh32, body: &Body, parts: &mut Parts) -> bool {
     let drawn = [
-        draw_particles(words, &body, parts),
-        draw_links(words, &body, parts),
+        draw_particles(words, body, parts),
+        draw_links(words, body, parts),
         draw_shapes(words, parts),
         !body.tracked || draw_track(alloc, words, parts),
     ];
@@ -236,12 +240,17 @@ fn draw(alloc: Global, words: &mut Lcg64Xsh32, parts: &mut Parts) -> bool {
 /// The scene of a session.
 pub(crate) fn drawn_scene(alloc: Global, seed: u64) -> Result<Scene, PartsFault> {
     let mut words = Lcg64Xsh32::new(seed, 1);
-    let mut parts = Parts::empty(alloc, RANGE);
-    if draw(alloc, &mut words, &mut parts) {
-        Scene::from_parts(alloc, parts)
-    } else {
-        drop(parts);
-        Err(PartsFault::OutOfMemory)
+    let body = drawn_body(&mut words);
+    match parts_of(alloc, &drawn_numbers(&mut words)) {
+        Ok(mut parts) => {
+            if draw(alloc, &mut words, &body, &mut parts) {
+                Scene::from_parts(alloc, parts)
+            } else {
+                drop(parts);
+                Err(PartsFault::OutOfMemory)
+            }
+        }
+        Err(AllocError) => Err(PartsFault::OutOfMemory),
     }
 }
 

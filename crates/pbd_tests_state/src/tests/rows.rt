@@ -1,11 +1,16 @@
 //! What is done to the bytes of a state, and where it is refused.
 
-/// Some bytes of a state replaced, and the offset of the fault, or none where the state is taken.
+/// How many bytes the state has that the rows speak of.
+pub(crate) const SIZE: usize = 569;
+
+/// Some bytes of a state replaced, how many bytes from its front are handed over, and the offset of the fault, or none where
+/// they are taken. A byte 0 stands behind the state.
 #[derive(Clone, Copy)]
 pub(crate) struct Row {
     pub(crate) name: &'static str,
     pub(crate) at: usize,
     pub(crate) bytes: &'static [u8],
+    pub(crate) len: usize,
     pub(crate) fault: Option<u64>,
 }
 
@@ -15,13 +20,27 @@ macro_rules! row {
             name: $name,
             at: $at,
             bytes: &$bytes,
+            len: SIZE,
             fault: $fault,
         }
     };
 }
 
+/// The state cut to a length, or with a byte more.
+macro_rules! piece {
+    ($len:expr => $fault:expr) => {
+        Row {
+            name: "another length",
+            at: 0,
+            bytes: &[],
+            len: $len,
+            fault: Some($fault),
+        }
+    };
+}
+
 /// Of a state after one step, with three particles, of which the first is held, and two links.
-pub(crate) static ROWS: [Row; 33] = [
+pub(crate) static ROWS: [Row; 46] = [
     row!("name"; 0; [81] => Some(0)),
     row!("version"; 7; [2] => Some(7)),
     row!("scene"; 8; [8] => Some(8)),
@@ -55,4 +74,17 @@ pub(crate) static ROWS: [Row; 33] = [
     row!("link total"; 392; [9] => Some(521)),
     row!("shape total"; 488; [1] => Some(521)),
     row!("pin total"; 568; [1] => Some(521)),
+    piece!(0 => 0),
+    piece!(1 => 1),
+    piece!(8 => 8),
+    piece!(95 => 95),
+    piece!(96 => 96),
+    piece!(127 => 127),
+    piece!(128 => 128),
+    piece!(271 => 271),
+    piece!(275 => 275),
+    piece!(277 => 277),
+    piece!(281 => 281),
+    piece!(SIZE - 1 => 568),
+    piece!(SIZE + 1 => 569),
 ];

@@ -232,18 +232,21 @@ fn with_a_wrong_byte(words: &mut Lcg64Xsh32, state: &State) -> State {
 /// one before.
 fn takes_a_wrong_byte<const L: usize, G: Ledger>(
     solver: &mut Solver<L, LaneProjector<L>>,
-    seed: u64,
-    state: &State,
+    kept: &Kept<'_>,
     steps: &mut Steps<G>,
 ) -> Result<bool, Wrong>
     requires low { 0 < L }
     requires high { L ≤ 16 }
 {
-    let wrong = with_a_wrong_byte(&mut Lcg64Xsh32::new(seed, 4), state);
+    let wrong = with_a_wrong_byte(&mut Lcg64Xsh32::new(kept.session.seed, 4), kept.state);
     let answer = read_state(&NAME, solver, bytes_of(&wrong), steps);
     let now = state_of(solver, steps);
     if answer.is_err() {
-        return match same_state(state, &now, "a refused state changes the world at byte") {
+        return match same_state(
+            kept.state,
+            &now,
+            "a refused state changes the world at byte",
+        ) {
             Ok(()) => Ok(false),
             Err(error) => Err(error),
         };
@@ -260,17 +263,16 @@ fn takes_a_wrong_byte<const L: usize, G: Ledger>(
 /// Reads a state, a wrong one, and the first again, goes on, and says whether the wrong one was taken, and how it ends.
 fn read_and_go_on<const L: usize, G: Ledger>(
     solver: &mut Solver<L, LaneProjector<L>>,
-    seed: u64,
-    state: &State,
+    kept: &Kept<'_>,
     steps: &mut Steps<G>,
 ) -> Result<(bool, End), Wrong>
     requires low { 0 < L }
     requires high { L ≤ 16 }
 {
-    read(solver, state, steps)?;
-    let taken = takes_a_wrong_byte(solver, seed, state, steps)?;
-    read(solver, state, steps)?;
-    Ok((taken, go_on(solver, seed, steps)))
+    read(solver, kept.state, steps)?;
+    let taken = takes_a_wrong_byte(solver, kept, steps)?;
+    read(solver, kept.state, steps)?;
+    Ok((taken, go_on(solver, kept.session.seed, steps)))
 }
 
 /// The same on a solver of its own.
@@ -285,8 +287,7 @@ fn read_at<const L: usize, G: Ledger>(
 {
     match Solver::open(alloc, scene, LaneProjector::<L>::new()) {
         Ok(mut solver) => {
-            let seed = kept.session.seed;
-            let end = read_and_go_on(&mut solver, seed, kept.state, steps);
+            let end = read_and_go_on(&mut solver, kept, steps);
             drop(solver);
             end
         }

@@ -2,11 +2,12 @@
 ghost use Rattle.std.specs.Prelude.{◌≡◌, ◌<◌};
 ghost use Rattle.pbd_world.specs.World.{AreOfOneScene};
 
-use super::hostile::{NAME, Tested, scene};
+use super::hostile::{DRAWING, NAME, Tested};
 use pbd_pair::Scalar;
 use pbd_state::{checksum, digest};
 use pbd_step::{Saved, Shown, Solver};
 use pbd_store::Steps;
+use pbd_tests_scenes::scene;
 use pbd_world::Scene;
 use std::alloc::Global;
 use std::marker::Brand;
@@ -83,7 +84,7 @@ fn told<G: Ledger>(alloc: Global, blank: Blank, scene: &Scene) -> Option<&'stati
 
 #[test]
 fn a_kept_world_keeps_its_digest_and_checksum(rt: HostRuntime) {
-    let scene = scene(rt.alloc()).expect(&rt, "no scene");
+    let scene = scene(rt.alloc(), &DRAWING).expect(&rt, "no scene");
     let wrong = told::<Brand>(rt.alloc(), Blank::new(1), &scene);
     drop(scene);
     assert!(rt; wrong.is_none(), "{}", wrong.unwrap_or("nothing"));
