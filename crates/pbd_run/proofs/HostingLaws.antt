@@ -201,12 +201,12 @@ one_at_most : (b : Bool) → cond b 1 0 ≤ 1
 one_at_most true = omega arith
 one_at_most false = omega arith
 
-pub serves_next : (start ws vs : List World) (all ls : List (List ℕ)) (line : List ℕ) (left : List (List ℕ)) (a b c : Option (List ℕ))
-    (refused more : ℕ) (it : Served) → ls ≡ line ∷ left → Serves start all ws ls a b refused → vs ≡ worlds_after ws (request_of (length ws) line)
-    → Appends b c (request_text ws (request_of (length ws) line)) → it ≡ served ws (request_of (length ws) line)
-    → more ≡ cond (is_refusal it) 1 0 → Serves start all vs left a c (refused + more)
+pub serves_next : {start ws vs : List World} {all ls : List (List ℕ)} {line : List ℕ} {left : List (List ℕ)} {a b c : Option (List ℕ)}
+    {refused more : ℕ} {it : Served} → ls ≡ line ∷ left → Serves start all ws ls a b refused
+    → vs ≡ worlds_after ws (request_of (length ws) line) → Appends b c (request_text ws (request_of (length ws) line))
+    → it ≡ served ws (request_of (length ws) line) → more ≡ cond (is_refusal it) 1 0 → Serves start all vs left a c (refused + more)
 unfolding hosted_text hosted_refused
-serves_next start ws vs all ls line left a b c refused more it here had worlds wrote answer counts =
+serves_next {start} {ws} {vs} {all} {line} {left} {a} {b} {c} {refused} {more} here had worlds wrote answer counts =
     let has : Serves start all ws (line ∷ left) a b refused = rw here at had in
     let r : Request = request_of (length start) line in
     let same : request_of (length ws) line ≡ r = ap (λ n. request_of n line) has.many in
@@ -224,11 +224,11 @@ serves_next start ws vs all ls line left a b c refused more it here had worlds w
       many = length-after ws r ∙ has.many;
     })
 
-pub serves_failed : (start ws : List World) (all ls : List (List ℕ)) (line : List ℕ) (left : List (List ℕ)) (a b c : Option (List ℕ))
-    (refused : ℕ) → ls ≡ line ∷ left → Serves start all ws ls a b refused → AppendsPrefix b c (request_text ws (request_of (length ws) line))
-    → AppendsPrefix a c (hosted_text start (requests_of (length start) all))
+pub serves_failed : {start ws : List World} {all ls : List (List ℕ)} {line : List ℕ} {left : List (List ℕ)} {a b : Option (List ℕ)}
+    {refused : ℕ} (c : Option (List ℕ)) → ls ≡ line ∷ left → Serves start all ws ls a b refused
+    → AppendsPrefix b c (request_text ws (request_of (length ws) line)) → AppendsPrefix a c (hosted_text start (requests_of (length start) all))
 unfolding hosted_text
-serves_failed start ws all ls line left a b c refused here had wrote =
+serves_failed {start} {ws} {all} {line} {left} {a} {b} {refused} c here had wrote =
     let has : Serves start all ws (line ∷ left) a b refused = rw here at had in
     let r : Request = request_of (length start) line in
     let same : request_of (length ws) line ≡ r = ap (λ n. request_of n line) has.many in
@@ -241,10 +241,10 @@ pub record HasServed (start : List World) (all : List (List ℕ)) (old new : Opt
   pub bytes : Appends old new (hosted_text start (requests_of (length start) all))
   pub count : refused ≡ hosted_refused start (requests_of (length start) all)
 
-pub serves_end : (start ws : List World) (all ls : List (List ℕ)) (a b : Option (List ℕ)) (refused : ℕ) → ls ≡ []
+pub serves_end : {start ws : List World} {all ls : List (List ℕ)} {a b : Option (List ℕ)} {refused : ℕ} → ls ≡ []
     → Serves start all ws ls a b refused → HasServed start all a b refused
 unfolding hosted_text hosted_refused
-serves_end start ws all ls a b refused none had =
+serves_end {start} {ws} {all} {a} {b} {refused} none had =
     let has : Serves start all ws [] a b refused = rw none at had in
     record {
       bytes = subst (λ (t : List ℕ). Appends a b t) (sym (append-nil has.done) ∙ has.text) has.bytes;
@@ -296,8 +296,8 @@ hostable input text lines ps few read within short =
 pub begins_with : (all : List (List ℕ)) (read : List Parts) → read ≡ [] → HasRead all all read
 begins_with all read none = rw none (read_begins all)
 
-pub counts_fit : (start ws : List World) (bytes : List ℕ) (ls : List (List ℕ)) (line : List ℕ) (left : List (List ℕ))
-    (a b : Option (List ℕ)) (refused more : ℕ) (it : Served) → length bytes ≤ 2 ^ 31 → ls ≡ line ∷ left
+pub counts_fit : {start ws : List World} (bytes : List ℕ) {ls : List (List ℕ)} {line : List ℕ} {left : List (List ℕ)}
+    {a b : Option (List ℕ)} {refused more : ℕ} (it : Served) → length bytes ≤ 2 ^ 31 → ls ≡ line ∷ left
     → Serves start (pieces bytes) ws ls a b refused → more ≡ cond (is_refusal it) 1 0 → refused + more < 2 ^ 64
-counts_fit start ws bytes ls line left a b refused more it short here has counts =
+counts_fit bytes it short here has counts =
     omega (arith, has.few, counts, one_at_most (is_refusal it), ap length here, pieces_few bytes, short)

@@ -22,13 +22,11 @@ returns-in_err-served-clause-bytes g c =
     let p = err_from_is_err_and c.from_residual.result c.from_residual.ensures.1 in
     let line = first_left pieces c.loop-rest.rest c.first_line.result.1 c.in-Some.bytes c.first_line.result.0.now c.in-Some.is
     c.first_line.ensures.lines in
-    rw p.1 (serves_failed _ _ _ _ c.first_line.result.0.now _ _ _ _ _ line c.loop-rest.invariant.serves
-    c.in_err-served.ensures.bytes)
+    rw p.1 (serves_failed _ line c.loop-rest.invariant.serves c.in_err-served.ensures.bytes)
 
 pub overflow_add-refused : goal.overflow_add-refused
 overflow_add-refused g c =
-    let fits = counts_fit _ _ c.args.lines.now _ c.first_line.result.0.now _ _ _ _ _ _ c.requires.short (here g c)
-    c.loop-rest.invariant.serves c.refusals-refused.ensures in
+    let fits = counts_fit c.args.lines.now _ c.requires.short (here g c) c.loop-rest.invariant.serves c.refusals-refused.ensures in
     omega (arith, fits)
 
 pub loop-rest-smaller : goal.loop-rest-smaller
@@ -36,15 +34,13 @@ loop-rest-smaller g c = shorter _ _ _ (here g c)
 
 pub loop-rest-preserved : goal.loop-rest-preserved
 loop-rest-preserved g c = record {
-  serves = serves_next _ _ _ _ _ c.first_line.result.0.now _ _ _ _ _ _ _ (here g c) c.loop-rest.invariant.serves
-      c.serve_line.ensures.worlds c.in_ok-served.ensures.bytes c.in_ok-served.ensures.served c.refusals-refused.ensures;
+  serves = serves_next (here g c) c.loop-rest.invariant.serves c.serve_line.ensures.worlds c.in_ok-served.ensures.bytes
+      c.in_ok-served.ensures.served c.refusals-refused.ensures;
   later = omega (arith, c.loop-rest.invariant.later, c.serve_line.ensures.cause);
 }
 
 pub returns-clause-bytes : goal.returns-clause-bytes
-returns-clause-bytes g c = (serves_end _ _ _ _ _ _ _ (none_left pieces c.loop-rest.rest c.in_default.not-Some)
-    c.loop-rest.invariant.serves).bytes
+returns-clause-bytes g c = (serves_end (none_left pieces c.loop-rest.rest c.in_default.not-Some) c.loop-rest.invariant.serves).bytes
 
 pub returns-clause-refused : goal.returns-clause-refused
-returns-clause-refused g c = (serves_end _ _ _ _ _ _ _ (none_left pieces c.loop-rest.rest c.in_default.not-Some)
-    c.loop-rest.invariant.serves).count
+returns-clause-refused g c = (serves_end (none_left pieces c.loop-rest.rest c.in_default.not-Some) c.loop-rest.invariant.serves).count

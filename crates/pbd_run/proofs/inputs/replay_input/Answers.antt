@@ -1,6 +1,6 @@
 use Rattle.std.proofs.Common.{refl, inl, inr, w64}
 use Rattle.std.proofs.lemmas.Int.{to_z-of_z}
-use Rattle.pbd_outcome.specs.Outcome.{log_outcome, log_refused}
+use Rattle.pbd_outcome.specs.Outcome.{log_outcome, log_refused, scene_in}
 use Rattle.pbd_outcome.proofs.OutcomeLaws.{log_is}
 use Rattle.pbd_run.proofs.InputLaws.{log_did, version_limit}
 use Rattle.pbd_run.proofs.SceneLaws.{scene_ended}
@@ -23,7 +23,7 @@ pub returns-in-Err-scene_in : goal.returns-in-Err-scene_in
 returns-in-Err-scene_in g c = record {
   outcome = log_outcome c.in-Ok.log;
   its = inl (c.in-Ok.log, c.in-Ok.ensures.found, refl);
-  does = rw (log_is c.in-Ok.log) (scene_ended c.in-Err-scene_in.why _ _ _ _ _ _ _
+  does = rw (log_is c.in-Ok.log) (scene_ended c.in-Err-scene_in.why (scene_in c.in-Ok.log.limit c.in-Ok.log.scene) _ _ _ _ _ _
       (rw (
         c.limit.ensures,
         to_z-of_z w64 c.in-Ok.log.limit

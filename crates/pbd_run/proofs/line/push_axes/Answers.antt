@@ -12,18 +12,18 @@ one_longer old new is = rw is (length_push old 32)
 grouped : (l x y z : List ℕ) → (((((l ++ 32 ∷ []) ++ x) ++ 32 ∷ []) ++ y) ++ 32 ∷ []) ++ z ≡ l ++ 32 ∷ (x ++ 32 ∷ (y ++ 32 ∷ z))
 grouped l x y z = simp append_assoc refl
 
-axes_pushed : (l l1 l2 l3 l4 l5 l6 : List ℕ) (a b c x y z : ℤ) → l1 ≡ l ++ 32 ∷ [] → l2 ≡ l1 ++ signed_decimal a → l3 ≡ l2 ++ 32 ∷ []
-    → l4 ≡ l3 ++ signed_decimal b → l5 ≡ l4 ++ 32 ∷ [] → l6 ≡ l5 ++ signed_decimal c → a ≡ x → b ≡ y → c ≡ z
+axes_pushed : (l : List ℕ) {l1 l2 l3 l4 l5 l6 : List ℕ} {a b c x y z : ℤ} → l1 ≡ l ++ 32 ∷ [] → l2 ≡ l1 ++ signed_decimal a
+    → l3 ≡ l2 ++ 32 ∷ [] → l4 ≡ l3 ++ signed_decimal b → l5 ≡ l4 ++ 32 ∷ [] → l6 ≡ l5 ++ signed_decimal c → a ≡ x → b ≡ y → c ≡ z
     → l6 ≡ l ++ 32 ∷ (signed_decimal x ++ 32 ∷ (signed_decimal y ++ 32 ∷ signed_decimal z))
-axes_pushed l l1 l2 l3 l4 l5 l6 a b c x y z e1 e2 e3 e4 e5 e6 ax by cz =
+axes_pushed l {x} {y} {z} e1 e2 e3 e4 e5 e6 ax by cz =
     rw (e6, e5, e4, e3, e2, e1, ax, by, cz) (grouped l (signed_decimal x) (signed_decimal y) (signed_decimal z))
 
 pub returns-clause-bytes : goal.returns-clause-bytes
 returns-clause-bytes c =
     let f : FitsSigned w64 (axis c.args.axes.now 0) = search rules in
-    axes_pushed c.args.line.now _ _ _ _ _ _ _ _ _ _ _ _ c.push.ensures c.push_signed.ensures.bytes c.push-2.ensures
-    c.push_signed-2.ensures.bytes c.push-3.ensures c.push_signed-3.ensures.bytes
-    (to_z-of_z w64 (axis c.args.axes.now 0) f) (search (rules, to_z-of_z)) (search (arith, ints, to_z-of_z))
+    axes_pushed c.args.line.now c.push.ensures c.push_signed.ensures.bytes c.push-2.ensures c.push_signed-2.ensures.bytes
+    c.push-3.ensures c.push_signed-3.ensures.bytes (to_z-of_z w64 (axis c.args.axes.now 0) f) (search (rules, to_z-of_z))
+    (search (arith, ints, to_z-of_z))
 
 pub push-requires-3 : goal.push-requires-3
 push-requires-3 c =
