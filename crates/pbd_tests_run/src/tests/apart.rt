@@ -1,8 +1,8 @@
 //! Sixteen sessions in one host, whose commands come in a hundred orders that a generator draws: each prints what it
 //! prints alone.
-use super::written::{all_of, push_each, run, writes};
+use super::written::{push_each, run_on, whole, writes};
 use pbd_outcome::Status;
-use std::alloc::Global;
+use std::alloc::{AllocError, Global};
 
 /// What each session is asked in turn. Session t begins with entry t mod 4.
 static COMMANDS: [&str; 4] = ["step 1", "frame", "fly", "gravity 0 -3 0"];
@@ -16,7 +16,7 @@ static NUMBERS: [&str; 16] = [
 const ORDERS: usize = 100;
 
 /// A free particle that falls as fast as its session's number says, behind a text.
-fn push_scene(input: &mut String, before: &str, number: &str) -> bool {
+fn push_scene(input: &mut String, before: &str, number: &str) -> Result<(), AllocError> {
     let pieces = [
         before,
         "gravity = [0, -",
@@ -43,64 +43,62 @@ fn drawn_order(state: &mut u64) -> [usize; 64] {
     order
 }
 
-fn push_order(input: &mut String, state: &mut u64) -> bool {
+fn push_order(input: &mut String, state: &mut u64) -> Result<(), AllocError> {
     let mut next: [usize; 16] = [0, 1, 2, 3, 0, 1, 2, 3, 0, 1, 2, 3, 0, 1, 2, 3];
     for session in drawn_order(state) {
         let session = session % 16;
         let command = next[session] % 4;
         next[session] = command + 1;
-        if !push_each(input, &[NUMBERS[session], " ", COMMANDS[command], "\n"]) {
-            return false;
-        }
+        push_each(input, &[NUMBERS[session], " ", COMMANDS[command], "\n"])?;
     }
-    true
+    Ok(())
 }
 
-fn push_scenes(input: &mut String) -> bool {
+fn push_scenes(input: &mut String) -> Result<(), AllocError> {
     let mut before = "";
     for number in &NUMBERS {
-        if !push_scene(input, before, *number) {
-            return false;
-        }
+        push_scene(input, before, *number)?;
         before = "%%\n";
     }
-    input.push_str("%%%\n").is_ok()
+    input.push_str("%%%\n")
 }
 
-fn push_host_input(input: &mut String) -> bool {
-    let scenes = push_scenes(input);
+fn push_host_input(input: &mut String) -> Result<(), AllocError> {
+    push_scenes(input)?;
     let mut state = 7;
     for _ in 0..ORDERS {
-        if !push_order(input, &mut state) {
-            return false;
-        }
+        push_order(input, &mut state)?;
     }
-    scenes
+    Ok(())
+}
+
+fn host_input(alloc: Global) -> Result<String, AllocError> {
+    let mut input = String::new(alloc);
+    let added = push_host_input(&mut input);
+    whole(input, added)
 }
 
 /// The scene and the commands of one session.
-fn push_own_input(input: &mut String, session: usize) -> bool {
-    let scene = push_scene(input, "", NUMBERS[session % 16]);
-    let script = input.push_str("%%\n").is_ok();
+fn push_own_input(input: &mut String, session: usize) -> Result<(), AllocError> {
+    push_scene(input, "", NUMBERS[session % 16])?;
+    input.push_str("%%\n")?;
     for place in 0..4 * ORDERS {
-        if !push_each(input, &[COMMANDS[(session % 4 + place) % 4], "\n"]) {
-            return false;
-        }
+        push_each(input, &[COMMANDS[(session % 4 + place) % 4], "\n"])?;
     }
-    scene && script
+    Ok(())
 }
 
 /// What a host printed for the session of a number, without the lines that name it.
-fn push_own_text(text: &mut String, written: &str, number: &str) -> bool {
+fn push_own_text(text: &mut String, written: &str, number: &str) -> Result<(), AllocError> {
     let mut is_own = false;
     for line in written.split('\n') {
         if let Some(named) = line.strip_prefix("session ") {
             is_own = named == number;
-        } else if is_own && !line.is_empty() && !push_each(text, &[line, "\n"]) {
-            return false;
+        } else if is_own && !line.is_empty() {
+            push_each(text, &[line, "\n"])?;
         }
     }
-    true
+    Ok(())
 }
 
 /// Whether a session, one of whose commands is refused, prints alone what a host printed for it, which is something.
@@ -110,13 +108,13 @@ fn is_apart(alloc: Global, written: &str, session: usize) -> bool {
     let made = [
         push_own_input(&mut input, session),
         push_own_text(&mut text, written, NUMBERS[session % 16]),
-        !text.as_str().is_empty(),
     ];
     let (given, own) = (input.as_str().as_bytes(), text.as_str().as_bytes());
     let same = writes(alloc, "simulate 1", given, Status::SomeRefused.code(), own);
+    let is_told = !own.is_empty();
     drop(input);
     drop(text);
-    made == [true; 3] && same
+    made == [Ok(()); 2] && is_told && same
 }
 
 /// The first session that isn't printed as alone.
@@ -132,15 +130,12 @@ fn first_other(alloc: Global, written: &[u8]) -> Option<usize> {
 
 #[test]
 fn sixteen_sessions_print_what_each_prints_alone(rt: HostRuntime) {
-    let mut input = String::new(rt.alloc());
-    let made = push_host_input(&mut input);
-    let outcome = run(rt.alloc(), "host 4", &all_of(input.as_str().as_bytes()));
-    drop(input);
+    let outcome = run_on(rt.alloc(), "host 4", host_input(rt.alloc()));
     let (answer, written) = outcome.expect(&rt, "no memory");
     let other = first_other(rt.alloc(), &written);
     drop(written);
     assert!(rt;
-        made && answer == Status::SomeRefused,
+        answer == Status::SomeRefused,
         "a host of sixteen ends with {}",
         answer.code()
     );

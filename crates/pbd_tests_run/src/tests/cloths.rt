@@ -1,6 +1,6 @@
 //! Cloths: on a sphere, in free fall, at rest, generated, and as large as they may be.
 use super::written::{Given, all_of, are_alike, comes_to, holds, push_line, run, writes};
-use std::alloc::Global;
+use std::alloc::{AllocError, Global};
 
 const ON_A_SPHERE: &[u8] =
     b"gravity = [0, -179, 0]\npasses = 8\nthickness = 3000\npins = [0, 31]\n[[cloth]]\norigin = [0, 65536, 0]\nacross = [6554, 0, 0]\ndown = [0, 0, 6554]\nrows = 32\ncolumns = 32\n[[sphere]]\ncentre = [101587, -65536, 101587]\nradius = 45000\n%%\nstep 60\nframe\nledger\n";
@@ -44,17 +44,14 @@ fn a_cloth_on_a_sphere_is_replayed(rt: HostRuntime) {
 }
 
 /// The frame and the ledger of the falling cloth: gravity took each of its 1,024 particles down by 327,570.
-fn push_fallen(text: &mut String) -> bool {
-    let begun = text.push_str("ok\nframe 60 1024 5826 0\n").is_ok();
+fn push_fallen(text: &mut String) -> Result<(), AllocError> {
+    text.push_str("ok\nframe 60 1024 5826 0\n")?;
     for n in 0..1024u32 {
-        if !push_line(text, "# -262034 #\n", &[6554 * (n % 32), 6554 * (n / 32)]) {
-            return false;
-        }
+        push_line(text, "# -262034 #\n", &[6554 * (n % 32), 6554 * (n / 32)])?;
     }
-    let ended = text.push_str(
+    text.push_str(
         "ledger momentum 0 -10997760 0\nledger opening 0 0 0\nledger gravity 0 -10997760 0\nledger damping 0 0 0\nledger link 0 0 0\nledger contact 0 0 0\nledger pin 0 0 0\nledger shape 0 0 0\n",
-    );
-    begun && ended.is_ok()
+    )
 }
 
 #[test]
@@ -64,7 +61,7 @@ fn a_cloth_in_free_fall_keeps_its_form(rt: HostRuntime) {
     let output = text.as_str().as_bytes();
     let so = writes(rt.alloc(), "simulate *", IN_FREE_FALL, 0, output);
     drop(text);
-    assert!(rt; made && so, "60 steps of free fall at each width");
+    assert!(rt; made.is_ok() && so, "60 steps of free fall at each width");
 }
 
 /// No search of all pairs of 65,536 particles ends two hundred times in a test's time.

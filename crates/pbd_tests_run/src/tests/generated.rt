@@ -1,27 +1,28 @@
 //! Inputs that are generated: particles in a row, links side by side, and links that meet at one particle.
-use super::written::{all_of, are_alike, push_line, writes};
-use std::alloc::Global;
+use super::written::{all_of, are_alike, push_line, whole, writes};
+use std::alloc::{AllocError, Global};
 
 /// A line for each number from the first on and below the second, which stands at each `#` of it.
 type Lines = (u32, u32, &'static str);
 
-fn push_lines(text: &mut String, lines: &Lines) -> bool {
-    let (from, to, line) = *lines;
+fn push_lines(text: &mut String, (from, to, line): Lines) -> Result<(), AllocError> {
     for number in from..to {
-        if !push_line(text, line, &[number, number]) {
-            return false;
-        }
+        push_line(text, line, &[number, number])?;
     }
-    true
+    Ok(())
 }
 
-fn push_all(text: &mut String, parts: &[Lines]) -> bool {
+fn push_all(text: &mut String, parts: &[Lines]) -> Result<(), AllocError> {
     for lines in parts {
-        if !push_lines(text, lines) {
-            return false;
-        }
+        push_lines(text, *lines)?;
     }
-    true
+    Ok(())
+}
+
+fn text_of(alloc: Global, parts: &[Lines]) -> Result<String, AllocError> {
+    let mut text = String::new(alloc);
+    let added = push_all(&mut text, parts);
+    whole(text, added)
 }
 
 const PARTICLE: &str = "[[particle]]\nat = [#, 0, 0]\n";
@@ -34,8 +35,7 @@ static SEVENTY: [Lines; 3] = [
 
 #[test]
 fn seventy_contacts_are_the_same_at_every_width(rt: HostRuntime) {
-    let mut input = String::new(rt.alloc());
-    let made = push_all(&mut input, &SEVENTY);
+    let input = text_of(rt.alloc(), &SEVENTY).expect(&rt, "no memory");
     let alike = are_alike(
         rt.alloc(),
         "simulate 1",
@@ -45,7 +45,7 @@ fn seventy_contacts_are_the_same_at_every_width(rt: HostRuntime) {
     );
     drop(input);
     assert!(rt;
-        made && alike,
+        alike,
         "frame 1 70 0 2415 at width 1, and the same at widths 2, 4, 8 and 16"
     );
 }
@@ -128,28 +128,32 @@ static ROWS: [(&str, &[Lines], u8, &[Lines]); 5] = [
     ),
 ];
 
-fn holds(alloc: Global, words: &str, input: &[Lines], number: u8, output: &[Lines]) -> bool {
-    let mut given = String::new(alloc);
-    let mut wanted = String::new(alloc);
-    let made = [push_all(&mut given, input), push_all(&mut wanted, output)];
-    let so = writes(
-        alloc,
-        words,
-        given.as_str().as_bytes(),
-        number,
-        wanted.as_str().as_bytes(),
-    );
-    drop(given);
-    drop(wanted);
-    so && made == [true; 2]
+fn holds(
+    alloc: Global,
+    (words, input, number, output): &(&str, &[Lines], u8, &[Lines]),
+) -> Result<bool, AllocError> {
+    let given = text_of(alloc, input)?;
+    match text_of(alloc, output) {
+        Ok(wanted) => {
+            let (input, output) = (given.as_str().as_bytes(), wanted.as_str().as_bytes());
+            let so = writes(alloc, words, input, *number, output);
+            drop(wanted);
+            drop(given);
+            Ok(so)
+        }
+        Err(error) => {
+            drop(given);
+            Err(error)
+        }
+    }
 }
 
 #[test]
 fn runs_on_many_particles_and_links_end_and_write_as_their_rows_say(rt: HostRuntime) {
     let mut wrong = 0u32;
-    for (words, input, number, output) in &ROWS {
-        let so = holds(rt.alloc(), words, input, *number, output);
-        if !so {
+    for row in &ROWS {
+        if holds(rt.alloc(), row) != Ok(true) {
+            let (words, input, number, output) = row;
             let _ = eprintln!(rt;
                 "{words} on {input:?} is to end with {number} and write {output:?}"
             );

@@ -1,29 +1,37 @@
 //! A mesh of many faces.
-use super::written::{all_of, comes_to, push_line, run};
+use super::written::{all_of, comes_to, push_line, run, run_on, whole};
 use pbd_outcome::Status;
-use std::alloc::Global;
+use std::alloc::{AllocError, Global};
 
 /// The vertices of a net of 100 by 100.
-fn push_vertices(text: &mut String) -> bool {
+fn push_vertices(text: &mut String) -> Result<(), AllocError> {
     for n in 0..10_000u32 {
-        if !push_line(text, "v #.5 -# 1e-3\n", &[n / 100, n % 100]) {
-            return false;
-        }
+        push_line(text, "v #.5 -# 1e-3\n", &[n / 100, n % 100])?;
     }
-    true
+    Ok(())
 }
 
-/// A net of 100 by 100 with a face between each four neighbours, and a frame of it.
-fn push_net(text: &mut String) -> bool {
-    let made = push_vertices(text);
+/// A face between each four neighbours of such a net.
+fn push_faces(text: &mut String) -> Result<(), AllocError> {
     for n in 0..9_801u32 {
         let first = 100 * (n / 99) + n % 99 + 1;
         let below = first + 100;
-        if !push_line(text, "f # # # #\n", &[first, first + 1, below + 1, below]) {
-            return false;
-        }
+        push_line(text, "f # # # #\n", &[first, first + 1, below + 1, below])?;
     }
-    made && text.push_str("%%\n%%\nframe\n").is_ok()
+    Ok(())
+}
+
+/// A net of 100 by 100, and a frame of it.
+fn push_net(text: &mut String) -> Result<(), AllocError> {
+    push_vertices(text)?;
+    push_faces(text)?;
+    text.push_str("%%\n%%\nframe\n")
+}
+
+fn net(alloc: Global) -> Result<String, AllocError> {
+    let mut text = String::new(alloc);
+    let added = push_net(&mut text);
+    whole(text, added)
 }
 
 /// Whether a frame comes to itself where it is read as a mesh.
@@ -39,13 +47,9 @@ fn is_its_mesh(alloc: Global, frame: &[u8]) -> bool {
 
 #[test]
 fn a_frame_is_read_again_as_its_mesh(rt: HostRuntime) {
-    let mut net = String::new(rt.alloc());
-    let made = push_net(&mut net);
-    let outcome = run(rt.alloc(), "obj 1", &all_of(net.as_str().as_bytes()));
-    drop(net);
+    let outcome = run_on(rt.alloc(), "obj 1", net(rt.alloc()));
     let (answer, frame) = outcome.expect(&rt, "no memory");
     let so = [
-        made,
         answer == Status::Done,
         frame.starts_with(b"# frame 0 10000 39402 0\nv 0.5 0 0.001007080078125\nv 0.5 -1 "),
         frame.ends_with(b"\nf 9899 9900 10000 9999\n"),
@@ -53,7 +57,7 @@ fn a_frame_is_read_again_as_its_mesh(rt: HostRuntime) {
     ];
     drop(frame);
     assert!(rt;
-        so == [true; 5],
-        "whether the net was made, its run ends well, the frame begins and ends so, and is read as its mesh: {so:?}"
+        so == [true; 4],
+        "whether the net's run ends well, the frame begins and ends so, and is read as its mesh: {so:?}"
     );
 }

@@ -52,7 +52,7 @@ fn prints(alloc: Global, line: &[&str], text: &str, status: Status) -> bool {
     let given = input.as_str().as_bytes();
     let same = writes(alloc, "host 8", given, status.code(), text.as_bytes());
     drop(input);
-    same && made
+    same && made.is_ok()
 }
 
 #[test]

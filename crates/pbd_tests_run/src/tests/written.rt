@@ -90,6 +90,18 @@ fn sink_of(alloc: Global, given: &Given<'_>) -> Result<MemSink, AllocError> {
     MemSink::open(alloc, ROOM, given.writes.to_vec(alloc)?)
 }
 
+/// What a run on a text answers and writes.
+pub(crate) fn run_on(alloc: Global, words: &str, input: Result<String, AllocError>) -> Outcome {
+    match input {
+        Ok(input) => {
+            let outcome = run(alloc, words, &all_of(input.as_str().as_bytes()));
+            drop(input);
+            outcome
+        }
+        Err(error) => Err(error),
+    }
+}
+
 /// Whether a run ended with the status of this number, and wrote this.
 pub(crate) fn comes_to(outcome: Outcome, number: u8, output: &[u8]) -> bool {
     match outcome {
@@ -161,13 +173,8 @@ pub(crate) fn writes(alloc: Global, words: &str, input: &[u8], number: u8, outpu
 fn lines_of(alloc: Global, text: &str) -> Result<String, AllocError> {
     let end = if text.is_empty() { "" } else { "\n" };
     let mut lines = text.replace(alloc, "; ", "\n")?;
-    match lines.push_str(end) {
-        Ok(()) => Ok(lines),
-        Err(error) => {
-            drop(lines);
-            Err(error)
-        }
-    }
+    let ended = lines.push_str(end);
+    whole(lines, ended)
 }
 
 /// The parts of a row `WORDS < INPUT => STATUS OUTPUT`.
@@ -238,26 +245,35 @@ pub(crate) fn tell_row<R: Eprint>(rt: &R, alloc: Global, row: &str) {
     }
 }
 
-/// Adds each of some texts, where there is memory.
-pub(crate) fn push_each(text: &mut String, pieces: &[&str]) -> bool {
+/// Adds each of some texts.
+pub(crate) fn push_each(text: &mut String, pieces: &[&str]) -> Result<(), AllocError> {
     for piece in pieces {
-        if text.push_str(*piece).is_err() {
-            return false;
-        }
+        text.push_str(*piece)?;
     }
-    true
+    Ok(())
 }
 
-/// Adds a line, in which the next number stands for each `#`, where there is memory.
-pub(crate) fn push_line(text: &mut String, line: &str, numbers: &[u32]) -> bool {
+/// Adds a line, in which the next number stands for each `#`.
+pub(crate) fn push_line(text: &mut String, line: &str, numbers: &[u32]) -> Result<(), AllocError> {
     let mut rest = line;
     for number in numbers {
         if let Some((before, behind)) = rest.split_once('#') {
             if write!(text, "{before}{number}").is_err() {
-                return false;
+                return Err(AllocError);
             }
             rest = behind;
         }
     }
-    text.push_str(rest).is_ok()
+    text.push_str(rest)
+}
+
+/// A text, where there was memory for the last that was added to it.
+pub(crate) fn whole(text: String, added: Result<(), AllocError>) -> Result<String, AllocError> {
+    match added {
+        Ok(()) => Ok(text),
+        Err(error) => {
+            drop(text);
+            Err(error)
+        }
+    }
 }
