@@ -1,9 +1,9 @@
 -- What the parts of a step cost, part by part.
 use Rattle.std.proofs.Common.{◌≡◌, refl, sym, ap, ◌∙◌, ℕ, zero, suc, ◌+◌, ◌-◌, ◌*◌, ◌<◌, ◌≤◌, ◌&&◌, Bool, true, false, List, length, drop}
-use Rattle.std.proofs.Common.{length-drop, arith, ℤ, pos, negsuc, Result, Ok, Err}
+use Rattle.std.proofs.Common.{length-drop, arith, inl, inr, ℤ, pos, negsuc, Result, Ok, Err}
 use Rattle.std.specs.Prelude.{int_lt, unsigned_abs, if◌then◌else◌, ◌==◌}
 use Rattle.std.specs.List.{list_any}
-use Rattle.std.proofs.lemmas.Bool.{ne_eqb}
+use Rattle.std.proofs.lemmas.Bool.{ne_eqb, cases_lt}
 use Rattle.pbd_world.specs.declared.command.Refusal.{Refusal}
 use Rattle.pbd_world.specs.declared.command.Phase.TheVariants as phases
 use Rattle.pbd_world.specs.declared.parts.Particle.{Particle}
@@ -21,26 +21,48 @@ use Rattle.pbd_world.proofs.WorkLemmas.{colours_next, finding_is, finishing_is}
 use Rattle.pbd_store.specs.Blocks.{blocks_of}
 use Rattle.pbd_shape.specs.Rubbing.{rub_cost}
 use Rattle.pbd_colour.specs.Pairs.{batch_of}
+use Rattle.pbd_step.specs.Projecting.{nth_batch}
+use Rattle.pbd_step.proofs.InOrder.{nth_parallel, nth_serial}
 use Rattle.pbd_step.proofs.Keeping.{goes_on}
 use Rattle.pbd_step.proofs.Running.{left_one}
 
 -- ---- bonds
 
--- the colours that are left are the next one and those after it
-pub colours_left : (lanes : ℕ) (pairs : List (ℕ × ℕ)) (live : List Bool) (c : ℕ) → c < 63
-    → colours_work lanes pairs live c (63 - c) ≡ colour_work lanes pairs live c + colours_work lanes pairs live (c + 1) (63 - (c + 1))
-colours_left lanes pairs live c lt = (let e : 63 - c ≡ suc (63 - (c + 1)) = omega (arith, lt) in
-    ap (λ (n : ℕ). colours_work lanes pairs live c n) e) ∙ colours_next lanes pairs live c (63 - (c + 1))
+-- what the batches from k on cost: the colours below 63, and then each serial pair
+abbrev pub batches_work : ℕ → List (ℕ × ℕ) → List Bool → ℕ → ℕ
+batches_work lanes pairs live k = colours_work lanes pairs live k (63 - k) + 4 * length (drop (k - 63) (batch_of pairs live 63))
 
--- a projector is paid for the batch of a colour
-pub colour_paid : {now lanes : ℕ} {numbers : List ℕ} (pairs : List (ℕ × ℕ)) (live : List Bool) (c : ℕ) → numbers ≡ batch_of pairs live c
-    → now ≡ lanes → 4 * blocks_of (length numbers) now ≡ colour_work lanes pairs live c
-colour_paid pairs live c is same = λ i. 4 * blocks_of (length (is i)) (same i)
+no_colours : (lanes : ℕ) (pairs : List (ℕ × ℕ)) (live : List Bool) (c : ℕ) → 63 ≤ c → colours_work lanes pairs live c (63 - c) ≡ 0
+unfolding colours_work
+no_colours lanes pairs live c le = let e : 63 - c ≡ 0 = omega (arith, le) in rw e refl
 
--- and for a bond alone
-pub one_paid : (lanes : ℕ) (numbers : List ℕ) (i : ℕ) → i < length numbers
-    → 4 * blocks_of 1 lanes + 4 * length (drop (i + 1) numbers) ≤ 4 * length (drop i numbers)
-one_paid lanes numbers i lt = omega (arith, lt, pieces_one lanes, length-drop i numbers, length-drop (i + 1) numbers)
+-- a projector is paid for a batch by what is left less
+pub batch_paid : {now lanes : ℕ} {numbers : List ℕ} (pairs : List (ℕ × ℕ)) (live : List Bool) (k : ℕ)
+    → k < 63 + length (batch_of pairs live 63) → numbers ≡ nth_batch pairs live k → now ≡ lanes
+    → 4 * blocks_of (length numbers) now + batches_work lanes pairs live (k + 1) ≤ batches_work lanes pairs live k
+batch_paid {now} {lanes} {numbers} pairs live k lt is same = elim (cases_lt k 63) [
+  | inl low ↦ (let numbers_are = is ∙ nth_parallel pairs live k low in
+      let paid : 4 * blocks_of (length numbers) now ≡ colour_work lanes pairs live k =
+      λ i. 4 * blocks_of (length (numbers_are i)) (same i) in
+      let e : 63 - k ≡ suc (63 - (k + 1)) = omega (arith, low) in
+      let left = ap (λ (n : ℕ). colours_work lanes pairs live k n) e ∙ colours_next lanes pairs live k (63 - (k + 1)) in
+      let none : (k + 1) - 63 ≡ k - 63 = omega (arith, low) in
+      let serial = ap (λ (n : ℕ). length (drop n (batch_of pairs live 63))) none in
+      omega (arith, paid, left, serial))
+  | inr high ↦ (let numbers_are = is ∙ nth_serial pairs live k high in
+      let paid : 4 * blocks_of (length numbers) now ≡ 4 * blocks_of 1 lanes = λ i. 4 * blocks_of (length (numbers_are i)) (same i) in
+      omega (
+        arith,
+        paid,
+        pieces_one lanes,
+        no_colours lanes pairs live k high,
+        no_colours lanes pairs live (k + 1) (omega (arith, high)),
+        length-drop (k - 63) (batch_of pairs live 63),
+        length-drop ((k + 1) - 63) (batch_of pairs live 63),
+        lt,
+        high,
+      ))
+]
 
 -- ---- a world whose places and totals alone changed asks for as much
 

@@ -1,6 +1,6 @@
 -- Lists of bonds that belong to the pairs of a colouring.
-use Rattle.std.specs.Prelude.{◌≡◌, ℕ, ◌+◌, ◌-◌, ◌<◌, ◌≤◌, ◌^◌, ℤ, Bool, List, length, MatchResult, OnOk, Result, Ok, Err}
-use Rattle.std.specs.List.{range_with_len, flat_map}
+use Rattle.std.specs.Prelude.{◌≡◌, ℕ, ◌+◌, ◌-◌, ◌<◌, ◌≤◌, ℤ, Bool, List, [], ◌∷◌, if◌then◌else◌, nat_lt, length, slice_index}
+use Rattle.std.specs.Prelude.{MatchResult, OnOk, Result, Ok, Err}
 use Rattle.pbd_world.specs.declared.parts.Particle.{Particle}
 use Rattle.pbd_world.specs.declared.totals.Totals.{Totals}
 use Rattle.pbd_world.specs.declared.command.Left.{Left}
@@ -14,7 +14,6 @@ use Rattle.pbd_pair.specs.declared.bonds.Bonds.{Bonds}
 use Rattle.pbd_pair.specs.declared.laid.Laid.{Laid}
 use Rattle.pbd_pair.specs.Laid.{AreOfBatch}
 use Rattle.pbd_pair.specs.Bonds.{bond_of, bond_count, IsBond}
-use Rattle.pbd_pair.specs.Projecting.{IsBatch}
 
 -- bond k joins the particles of pair k, and is one of n particles in the ranges of the limit
 pub record AreBondsOf (limit : ℤ) (n : ℕ) (bonds : Bonds) (pairs : List (ℕ × ℕ)) : Type 0 where
@@ -23,23 +22,15 @@ pub record AreBondsOf (limit : ℤ) (n : ℕ) (bonds : Bonds) (pairs : List (ℕ
   pub second : (k : ℕ) → k < length pairs → (bond_of bonds k).b ≡ (pair_at pairs k).1
   pub bond : (k : ℕ) → k < length pairs → IsBond limit n (bond_of bonds k)
 
--- the live numbers of colour c, then those of the next colour, and so on up to colour 62
-unfoldable pub parallel_from : List (ℕ × ℕ) → List Bool → ℕ → List ℕ
-parallel_from pairs live c = flat_map (batch_of pairs live) (range_with_len c (63 - c))
+-- the k-th of the batches in which live pairs are projected: colour k where k is below 63, and behind these each serial pair alone
+unfoldable pub nth_batch : List (ℕ × ℕ) → List Bool → ℕ → List ℕ
+nth_batch pairs live k = if nat_lt k 63 then batch_of pairs live k else slice_index (batch_of pairs live 63) (k - 63) ∷ []
 
 -- particles within the limit and with weights in their range, and totals that have grown no further than to `bound`
 pub record AreMovable (bound : ℕ) (limit : ℤ) (ps : List Particle) (totals : Ledger) : Type 0 where
   pub inside : AreInside limit ps
   pub weights : Weigh ps
   pub room : HaveRoom bound totals
-
--- the bonds of some numbers, which are laid in columns, can be projected as one batch
-pub record CanProjectBatch (bonds : Bonds) (laid : Laid) (numbers : List ℕ) (s : Stored) (t : Totals) : Type 0 where
-  pub batch : IsBatch s.limit (length s.particles) bonds numbers
-  pub rows : AreOfBatch (bond_of bonds) numbers s.particles laid
-  pub inside : AreInside s.limit s.particles
-  pub weights : Weigh s.particles
-  pub room : HaveRoom (2 ^ 120) (ledger_of t)
 
 -- the bonds of all pairs of a colouring can be projected one after another: each pair has its bond, there are at most 2^19 of
 -- them, the live ones are laid in columns in their order, the particles of the store can be moved, and the totals have grown no
