@@ -48,16 +48,20 @@ use Rattle.pbd_world.proofs.OrderCounts.{flags_kept}
 
 -- ---- what a command leads to
 
+-- what a command means is what a function of worlds comes to, or its refusal
+pub record Means (c : Command) (meant : World → Result World Refusal) : Type 0 where
+  pub says : (w : World) → meaning w c ≡ done_or_refused w (meant w)
+
 -- a command that a part obeys leads from a sound world to a sound world of the same scene
-pub commanded : {S : Type 0} {world : S → World} {r : Result (Unit {0}) Refusal} {meant : Result World Refusal} {old new : S} (c : Command)
-    → Obeys world r meant old new → IsSound (world old) → meaning (world old) c ≡ done_or_refused (world old) meant
-    → Commanded r meant (world old) (world new)
-commanded {S} {world} {r} {meant} {old} {new} c h sound is = by r h.outcome h.kept
+pub commanded : {S : Type 0} {world : S → World} {r : Result (Unit {0}) Refusal} {old new : S} {c : Command}
+    {meant : World → Result World Refusal} → Means c meant → Obeys world r (meant (world old)) old new → IsSound (world old)
+    → Commanded r (meant (world old)) (world old) (world new)
+commanded {S} {world} {r} {old} {new} {c} {meant} is h sound = by r h.outcome h.kept
   where
-    by : (r : Result (Unit {0}) Refusal) → MatchResult r (λ x. meant ≡ Ok (world new)) (λ refusal. meant ≡ Err refusal)
-        → OnErr r (new ≡ old) → Commanded r meant (world old) (world new)
+    by : (r : Result (Unit {0}) Refusal) → MatchResult r (λ x. meant (world old) ≡ Ok (world new)) (λ refusal. meant (world old) ≡ Err refusal)
+        → OnErr r (new ≡ old) → Commanded r (meant (world old)) (world old) (world new)
     by (Ok x) e kept =
-        let there : after (world old) c ≡ world new = ap (λ (p : World × Reply). p.0) is
+        let there : after (world old) c ≡ world new = ap (λ (p : World × Reply). p.0) (is.says (world old))
         ∙ ap (λ (s : Result World Refusal). (done_or_refused (world old) s).0) e in
         record {
           obeys = record { outcome = e; kept = kept };
@@ -73,17 +77,16 @@ commanded {S} {world} {r} {meant} {old} {new} c h sound is = by r h.outcome h.ke
 
 -- the same of the world as callers see it
 pub seen_commanded : {P : Type 0} {inside seen : Solved P} {r : Result (Unit {0}) Refusal} {new : World}
-    (means : World → Result World Refusal) → inside ≡ seen → Commanded r (means inside.world) inside.world new
-    → Commanded r (means seen.world) seen.world new
-seen_commanded {P} {inside} {seen} {r} {new} means is h = subst (λ (s : Solved P). Commanded r (means s.world) s.world new) is h
+    (meant : World → Result World Refusal) → inside ≡ seen → Commanded r (meant inside.world) inside.world new
+    → Commanded r (meant seen.world) seen.world new
+seen_commanded {P} {inside} {seen} {r} {new} meant is h = subst (λ (s : Solved P). Commanded r (meant s.world) s.world new) is h
 
 -- a command that a part obeys, likewise
-pub seen_obeyed : {S P : Type 0} {world : S → World} {old new : S} {inside seen : Solved P} {r : Result (Unit {0}) Refusal}
-    (means : World → Result World Refusal) (c : Command) → Obeys world r (means (world old)) old new → IsSound (world old)
-    → meaning (world old) c ≡ done_or_refused (world old) (means (world old)) → inside ≡ seen → inside.world ≡ world old
-    → Commanded r (means seen.world) seen.world (world new)
-seen_obeyed {S} {P} {world} {old} {new} {inside} {seen} {r} means c h sound meant is same =
-    seen_commanded means is (subst (λ (w : World). Commanded r (means w) w (world new)) (sym same) (commanded c h sound meant))
+pub seen_obeyed : {S P : Type 0} {world : S → World} {old new : S} {inside seen : Solved P} {r : Result (Unit {0}) Refusal} {c : Command}
+    {meant : World → Result World Refusal} → Means c meant → Obeys world r (meant (world old)) old new → IsSound (world old)
+    → inside ≡ seen → inside.world ≡ world old → Commanded r (meant seen.world) seen.world (world new)
+seen_obeyed {S} {P} {world} {old} {new} {inside} {seen} {r} {c} {meant} told h sound is same =
+    seen_commanded meant is (subst (λ (w : World). Commanded r (meant w) w (world new)) (sym same) (commanded told h sound))
 
 -- a refusal leaves it as it was
 pub refused : {P : Type 0} {inside seen : Solved P} {refusal : Refusal} (means : World → Result World Refusal) → inside ≡ seen
@@ -111,6 +114,24 @@ means w = record {
   cut = λ n. refl;
   gravity = λ g. refl;
 }
+
+pub mean_steps : (n : ℕ) → Means (commands.Step n) (λ w. run_steps w n)
+mean_steps n = record { says = λ w. (means w).steps n }
+
+pub mean_pin : (i : ℕ) → Means (commands.Pin i) (λ w. pin w i)
+mean_pin i = record { says = λ w. (means w).pin i }
+
+pub mean_unpin : (i : ℕ) → Means (commands.Unpin i) (λ w. unpin w i)
+mean_unpin i = record { says = λ w. (means w).unpin i }
+
+pub mean_place : (i : ℕ) (to : Vec3) → Means (commands.Move i to) (λ w. place_held w i to)
+mean_place i to = record { says = λ w. (means w).place i to }
+
+pub mean_cut : (n : ℕ) → Means (commands.Cut n) (λ w. cut w n)
+mean_cut n = record { says = λ w. (means w).cut n }
+
+pub mean_gravity : (g : Vec3) → Means (commands.Gravity g) (λ w. set_gravity w g)
+mean_gravity g = record { says = λ w. (means w).gravity g }
 
 -- ---- worlds of one scene
 
@@ -257,14 +278,13 @@ kept_commanded {l} {setting} {setting'} {old} {new} {kept} {colours} {colours'} 
 
 -- the same of a command that a state obeys, where it has left the links as they were
 pub kept_linked : {l : ℕ} {setting : Setting} {old new kept : State l} {colours : Coloured} {scratch : Scratch}
-    {r : Result (Unit {0}) Refusal} {meant : Result World Refusal} (c : Command) → IsKept setting old kept colours scratch
-    → Obeys (λ (s : State l). world_of setting s) r meant old new
-    → meaning (world_of setting old) c ≡ done_or_refused (world_of setting old) meant
+    {r : Result (Unit {0}) Refusal} {c : Command} {meant : World → Result World Refusal} → Means c meant
+    → IsKept setting old kept colours scratch → Obeys (λ (s : State l). world_of setting s) r (meant (world_of setting old)) old new
     → AreWeights new → new.links.items ≡ old.links.items
     → (said : Bool) → (IsTrue said → AreLinksLaid new scratch.laid_links)
     → IsKept setting new kept colours (record scratch { are_links_laid = said })
-kept_linked {l} {setting} {old} {new} {kept} {colours} c h obeys means weights same said laid =
-    kept_commanded h (commanded c obeys h.sound means) weights
+kept_linked {l} {setting} {old} {new} {kept} {colours} told h obeys weights same said laid =
+    kept_commanded h (commanded told obeys h.sound) weights
     (subst (λ (ls : List Link). HasLinks (length old.store.particles) ls colours) (sym same) h.links) said laid
 
 -- what is known of the links of a state that becomes another one of the same scene

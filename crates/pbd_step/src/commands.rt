@@ -1,10 +1,12 @@
 // The commands that are no steps. After a refusal the state is as it was.
-ghost use Rattle.std.specs.Prelude.{◌≡◌, ◌+◌, ◌<◌, ◌≤◌, ◌^◌, length, IfSome, IfNone, false};
+ghost use Rattle.std.specs.Prelude.{◌≡◌, ℕ, ◌+◌, ◌<◌, ◌≤◌, ◌^◌, length, IfSome, IfNone, false};
 ghost use Rattle.pbd_world.specs.Meaning.{pin as pinned_world, unpin as unpinned_world, place_held as placed_world};
 ghost use Rattle.pbd_world.specs.Meaning.{cut as cut_world, set_gravity as pulled_world};
 ghost use Rattle.pbd_num.specs.Vectors.{Within, opposite};
-ghost use Rattle.pbd_world.specs.Particles.{velocity};
-ghost use Rattle.pbd_world.specs.World.{IsSound, is_tracked};
+ghost use Rattle.pbd_world.specs.Ledger.{ledger_of, HaveRoom};
+ghost use Rattle.pbd_world.specs.Particles.{particle_at, velocity};
+ghost use Rattle.pbd_world.specs.World.{is_tracked};
+ghost use Rattle.pbd_step.specs.declared.state.Setting.{Setting};
 ghost use Rattle.pbd_step.specs.States.{world_of, AreWeights, HasLinks};
 ghost use Rattle.pbd_step.specs.Obeying.{Obeys};
 
@@ -16,17 +18,23 @@ use pbd_track::is_tracked;
 use pbd_world::{Class, Link, Particle, Refusal, totals_with_room_take_moves};
 use std::sync::ledger::Ledger;
 
-/// The number of particle i, if there is one.
-fn number_of<const L: usize>(store: &Store<L>, i: u64) -> Option<u32>
+/// Particle i and its number, if there is one.
+fn particle_of<const L: usize, G: Ledger>(
+    store: &Store<L>,
+    i: u64,
+    steps: &mut Steps<G>,
+) -> Option<(u32, Particle)>
     requires lanes { L ≤ 16 }
-    ensures there { IfSome result (λ n. (n ≡ i) × (i < length store.now.particles)) }
+    ensures there { IfSome result (λ found. (found.0 ≡ i) × (i < length store.now.particles)) }
+    ensures particle { IfSome result (λ found. found.1 ≡ particle_at store.now.particles i) }
     ensures missing { IfNone result (length store.now.particles ≤ i) }
+    ensures cost { steps.new ≤ steps.old + 1 }
 {
-    if i < u64::from(store.len()) {
-        Some(i as u32)
-    } else {
-        None
+    if u64::from(store.len()) <= i {
+        return None;
     }
+    let n = i as u32;
+    Some((n, store.at(n, steps)))
 }
 
 /// Whether a track leads particle n.
@@ -70,25 +78,22 @@ fn dead(link: Link) -> Link
 
 impl<const L: usize> State<L> {
     /// Holds particle i where it is, and books its velocity to pin.
-    pub(crate) fn pin<G: Ledger>(
-        &mut self,
-        setting: &Setting,
-        i: u64,
-        steps: &mut Steps<G>,
-    ) -> Result<(), Refusal>
+    pub(crate) fn pin<G: Ledger>(&mut self, i: u64, steps: &mut Steps<G>) -> Result<(), Refusal>
         requires lanes { L ≤ 16 }
-        requires sound { IsSound (world_of setting.now self.old) }
+        requires at { (k : ℕ) → k < length self.old.store.particles → Within (2 ^ 29) (particle_at self.old.store.particles k).at }
+        requires before { (k : ℕ) → k < length self.old.store.particles → Within (2 ^ 29) (particle_at self.old.store.particles k).before }
+        requires room { HaveRoom (2 ^ 99) (ledger_of self.old.totals) }
         requires weights { AreWeights self.old }
-        ensures obeys { Obeys (λ s. world_of setting.now s) result (pinned_world (world_of setting.now self.old) i) self.old self.new }
+        ensures obeys { (setting : Setting) → Obeys (λ s. world_of setting s) result (pinned_world (world_of setting self.old) i)
+            self.old self.new }
         ensures same { self.new ≡ record self.old { store = self.new.store; weights = self.new.weights; totals = self.new.totals } }
         ensures weights { AreWeights self.new }
         ensures copies { self.new.store.copies ≡ self.old.store.copies }
         ensures cost { steps.new ≤ steps.old + 2 }
     {
-        let Some(n) = number_of(&self.store, i) else {
+        let Some((n, p)) = particle_of(&self.store, i, steps) else {
             return Err(Refusal::NoParticle);
         };
-        let p = self.store.at(n, steps);
         if p.held {
             return Err(Refusal::Held);
         }
@@ -114,10 +119,9 @@ impl<const L: usize> State<L> {
         ensures copies { self.new.store.copies ≡ self.old.store.copies }
         ensures cost { steps.new ≤ steps.old + 2 }
     {
-        let Some(n) = number_of(&self.store, i) else {
+        let Some((n, p)) = particle_of(&self.store, i, steps) else {
             return Err(Refusal::NoParticle);
         };
-        let p = self.store.at(n, steps);
         if !p.held {
             return Err(Refusal::NotHeld);
         }
@@ -145,10 +149,9 @@ impl<const L: usize> State<L> {
         ensures copies { self.new.store.copies ≡ self.old.store.copies }
         ensures cost { steps.new ≤ steps.old + 2 }
     {
-        let Some(n) = number_of(&self.store, i) else {
+        let Some((n, p)) = particle_of(&self.store, i, steps) else {
             return Err(Refusal::NoParticle);
         };
-        let p = self.store.at(n, steps);
         if !within(to, self.store.limit()) {
             return Err(Refusal::OutOfRange);
         }
@@ -163,16 +166,12 @@ impl<const L: usize> State<L> {
     }
 
     /// Lets link l go, and mends the colours of the others.
-    pub(crate) fn cut(
-        &mut self,
-        setting: &Setting,
-        colours: &mut Colouring,
-        l: u64,
-    ) -> Result<(), Refusal>
+    pub(crate) fn cut(&mut self, colours: &mut Colouring, l: u64) -> Result<(), Refusal>
         requires lanes { L ≤ 16 }
         requires few { length self.old.links.items ≤ 524288 }
         requires links { HasLinks (length self.old.store.particles) self.old.links.items colours.old }
-        ensures obeys { Obeys (λ s. world_of setting.now s) result (cut_world (world_of setting.now self.old) l) self.old self.new }
+        ensures obeys { (setting : Setting) → Obeys (λ s. world_of setting s) result (cut_world (world_of setting self.old) l)
+            self.old self.new }
         ensures same { self.new ≡ record self.old { links = self.new.links } }
         ensures links_length { length self.new.links.items ≡ length self.old.links.items }
         ensures links { HasLinks (length self.old.store.particles) self.new.links.items colours.new }

@@ -115,7 +115,7 @@ impl<const L: usize, P: Projector<L> + Drop> Solver<L, P> {
         ensures cost { steps.new ≤ steps.old + 2 }
     {
         self.run.scratch.are_links_laid = false;
-        self.run.state.pin(&self.setting, i, steps)
+        self.run.state.pin(i, steps)
     }
 
     /// Frees particle i, at rest. `NoParticle` where there is none, `NotHeld` where it is free, `Tracked` where a track
@@ -160,7 +160,7 @@ impl<const L: usize, P: Projector<L> + Drop> Solver<L, P> {
         ensures copies { self.new.copies ≡ self.old.copies }
     {
         self.run.scratch.are_links_laid = false;
-        self.run.state.cut(&self.setting, &mut self.run.colours, l)
+        self.run.state.cut(&mut self.run.colours, l)
     }
 
     /// Sets gravity, in units per step squared. `OutOfRange` where it is outside the limit.

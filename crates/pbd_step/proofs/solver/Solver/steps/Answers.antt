@@ -1,13 +1,12 @@
 use Rattle.std.proofs.Common.{◌+◌, ◌≤◌, ℕ, ap, ◌∙◌, arith, subst}
 use Rattle.std.specs.Prelude.{MatchResult}
-use Rattle.pbd_world.specs.declared.command.Command.TheVariants as commands
 use Rattle.pbd_world.specs.Meaning.{run_steps, steps_of}
 use Rattle.pbd_world.specs.Work.{steps_work}
 use Rattle.pbd_world.specs.World.{World}
 use Rattle.pbd_step.specs.States.{world_of}
 use Rattle.pbd_step.specs.Solving.{Solved}
 use Rattle.pbd_step.proofs.Stepping.{answers_so}
-use Rattle.pbd_step.proofs.Keeping.{commanded, seen_commanded, means, run_goes, refused, run_uncounted, run_late}
+use Rattle.pbd_step.proofs.Keeping.{commanded, seen_commanded, mean_steps, run_goes, refused, run_uncounted, run_late}
 use Rattle.pbd_step.proofs.Costing.{steps_paid}
 use Rattle.pbd_step.proofs.solver.Solver.steps.Goals as goal
 
@@ -30,9 +29,8 @@ returns-clause-commanded g c =
     let goes = run_goes w c.args.n (omega (arith, c.if-n-lt1.false)) (omega (arith, c.if-n-gt-MOST_STEPS.false))
     (omega (arith, c.from.ensures, c.if-from-count.false)) in
     let told = answers_so c.run_whole.result (run_steps w c.args.n) now (steps_of c.args.n w) goes c.run_whole.ensures.obeys.outcome in
-    let done = commanded {S = World} {world = λ v. v} {r = c.run_whole.result} {meant = run_steps w c.args.n} {old = w} {new = now}
-    (commands.Step c.args.n) (record { outcome = told; kept = c.run_whole.ensures.obeys.kept }) c.self.invariant.sound
-    ((means w).steps c.args.n) in
+    let done = commanded {S = World} {world = λ v. v} {r = c.run_whole.result} {old = w} {new = now}
+    (mean_steps c.args.n) (record { outcome = told; kept = c.run_whole.ensures.obeys.kept }) c.self.invariant.sound in
     seen_commanded (λ (v : World). run_steps v c.args.n) c.self.view_is done
 
 pub returns-clause-not_fallen : goal.returns-clause-not_fallen

@@ -9,7 +9,7 @@ use Rattle.pbd_world.specs.World.{is_tracked}
 use Rattle.pbd_step.specs.States.{world_of}
 use Rattle.pbd_step.proofs.Placing.{place_missing, place_outside, place_free, place_led, place_done, set_down}
 use Rattle.pbd_step.proofs.Weighing.{weights_stay}
-use Rattle.pbd_step.proofs.state.State.place_held.Goals.{After-within, After-at-p}
+use Rattle.pbd_step.proofs.state.State.place_held.Goals.{After-within}
 use Rattle.pbd_step.proofs.state.State.place_held.Goals as goal
 
 -- whether the place is within the limit of the world
@@ -18,10 +18,6 @@ tested g c =
     let limit = fits c.limit.result (omega (arith, c.limit.ensures.high)) in
     let test : c.within.result ≡ is_within c.limit.result c.args.to = simp to_z-of_z at c.within.ensures.test in
     test ∙ ap (λ (l : ℤ). is_within l c.args.to) c.limit.ensures.value
-
--- the particle of the number, as the world has it
-read : (g : _) (c : After-at-p g) → c.at-p.result ≡ particle_at c.args.self.now.store.particles c.args.i
-read g c = c.at-p.ensures.value ∙ ap (λ (n : ℕ). particle_at c.args.self.now.store.particles n) c.in-Some.ensures.there.0
 
 pub returns-in_default-clause-obeys : goal.returns-in_default-clause-obeys
 returns-in_default-clause-obeys g c = record {
@@ -41,7 +37,7 @@ returns-then-not-p-clause-obeys g c =
     let w = world_of c.args.setting.now c.args.self.now in
     let there = c.in-Some.ensures.there in
     let within = sym (tested g (goal.at.returns-then-not-p-clause-obeys g c).After-within) ∙ c.if-not-within.false in
-    let p_is = read g (goal.at.returns-then-not-p-clause-obeys g c).After-at-p in
+    let p_is = c.in-Some.ensures.particle in
     record {
       outcome = place_free w c.args.i c.args.to there.1 within (sym (ap (λ (p : Particle). not p.held) p_is) ∙ c.if-not-p.true);
       kept = refl;
@@ -52,7 +48,7 @@ returns-then-is_led-clause-obeys g c =
     let w = world_of c.args.setting.now c.args.self.now in
     let there = c.in-Some.ensures.there in
     let within = sym (tested g (goal.at.returns-then-is_led-clause-obeys g c).After-within) ∙ c.if-not-within.false in
-    let p_is = read g (goal.at.returns-then-is_led-clause-obeys g c).After-at-p in
+    let p_is = c.in-Some.ensures.particle in
     let led = sym (c.is_led.ensures ∙ ap (λ (n : ℕ). is_tracked w.tracks n) there.0) ∙ c.if-is_led.true in
     record {
       outcome = place_led w c.args.i c.args.to there.1 within (sym (ap (λ (p : Particle). not p.held) p_is) ∙ c.if-not-p.false) led;
@@ -64,7 +60,7 @@ returns-clause-obeys g c =
     let w = world_of c.args.setting.now c.args.self.now in
     let there = c.in-Some.ensures.there in
     let within = sym (tested g (goal.at.returns-clause-obeys g c).After-within) ∙ c.if-not-within.false in
-    let p_is = read g (goal.at.returns-clause-obeys g c).After-at-p in
+    let p_is = c.in-Some.ensures.particle in
     let led = sym (c.is_led.ensures ∙ ap (λ (n : ℕ). is_tracked w.tracks n) there.0) ∙ c.if-is_led.false in
     let down : c.resting.result ≡ set_down w c.args.i c.args.to = c.resting.ensures
     ∙ ap (λ (p : Particle). record { at = c.args.to; before = c.args.to; weight = p.weight; held = true }) p_is in
@@ -78,7 +74,8 @@ returns-clause-obeys g c =
 -- a held particle weighs nothing, wherever it is put
 pub returns-clause-weights : goal.returns-clause-weights
 returns-clause-weights g c =
-    let p = c.at-p.result in
+    let p = c.in-Some.p in
+    let held = c.in-Some.ensures.particle ∙ ap (λ (n : ℕ). particle_at c.args.self.now.store.particles n) (sym c.in-Some.ensures.there.0) in
     let nothing = ap (λ (b : Bool). if b then 0 else p.weight) (not-false p.held c.if-not-p.false) in
     weights_stay c.args.self.now.store.particles c.in-Some.n c.resting.result c.requires.weights
-    (ap effective_weight c.resting.ensures ∙ sym nothing ∙ ap effective_weight c.at-p.ensures.value) c.set.ensures.particles
+    (ap effective_weight c.resting.ensures ∙ sym nothing ∙ ap effective_weight held) c.set.ensures.particles
