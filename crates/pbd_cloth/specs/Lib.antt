@@ -1,3 +1,4 @@
+pub mod Counting
 pub mod Slots
 pub mod States
 pub mod Reading

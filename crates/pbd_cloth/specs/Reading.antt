@@ -4,11 +4,10 @@ use Rattle.std.specs.List.{position, range_with_len}
 use Rattle.pbd_num.specs.declared.Vec3.{Vec3}
 use Rattle.pbd_world.specs.declared.parts.Particle.{Particle}
 use Rattle.pbd_world.specs.declared.parts.Link.{Link}
-use Rattle.pbd_world.specs.declared.parts.Kind.{Kind}
-use Rattle.pbd_world.specs.declared.parts.Kind.TheVariants.{Stretch, Shear, Bend, Plain}
 use Rattle.pbd_world.specs.Bonds.{link_at}
 use Rattle.pbd_world.specs.Colours.{joins}
 use Rattle.pbd_world.specs.World.{World}
+use Rattle.pbd_encoding.specs.Scene.{kind_number}
 use Rattle.pbd_cloth.specs.declared.place.Place.{Place}
 use Rattle.pbd_cloth.specs.declared.entry.LinkEntry.{LinkEntry}
 
@@ -44,12 +43,6 @@ live_byte l = if l.live then 1 else 0
 -- a 1 for each live link
 abbrev pub live_bytes : World → List ℕ
 live_bytes w = map live_byte w.links
-
-abbrev pub kind_number : Kind → ℕ
-kind_number Stretch = 0
-kind_number Shear = 1
-kind_number Bend = 2
-kind_number Plain = 3
 
 abbrev pub link_entry : Link → LinkEntry
 link_entry l = record {

@@ -1,19 +1,19 @@
 //! A session with slots.
 ghost use Rattle.std.specs.Prelude.{◌≡◌, ◌<◌, ◌≤◌, length, replicate, slice_set, IfOk, IsTrue};
-ghost use Rattle.pbd_world.specs.Meaning.{after, reply};
+ghost use Rattle.pbd_world.specs.Meaning.{reply};
 ghost use Rattle.pbd_world.specs.Replay.{frame_sums};
 ghost use Rattle.pbd_world.specs.Session.{is_refused};
 ghost use Rattle.pbd_world.specs.World.{opened, AreOfOneScene, IsSound};
 ghost use Rattle.pbd_cloth.specs.Slots.{begun, played, saved, restored, AreSlots};
 
+use crate::counted::{apply_counted, sums_counted};
 use pbd_pair::LaneProjector;
 use pbd_session::Session;
 use pbd_step::Saved;
-use pbd_store::Steps;
 use pbd_world::{Command, FrameSums, Reply, Scene, refused_commands_change_nothing};
 use std::alloc::{AllocError, Global};
 use std::marker::{Brand, Model};
-use std::sync::ledger::{Blank, Ledger};
+use std::sync::ledger::Blank;
 
 /// How many bonds are projected side by side. What a cloth does is the same at every width.
 pub const LANES: usize = 8;
@@ -106,37 +106,6 @@ fn open_slots(alloc: Global, scene: &Scene, n: u32) -> Result<Vec<Saved<LANES>>,
         kept.push(saved)?;
     }
     Ok(kept)
-}
-
-// Does a command with a count of its own, which nobody sees.
-fn apply_counted<G: Ledger>(
-    blank: Blank,
-    playing: &mut Session<LANES, LaneProjector<LANES>>,
-    command: &Command,
-) -> Reply
-    requires name { blank.name ≡ G.name }
-    requires parts { blank.parts ≡ G.parts }
-    requires some { 0 < blank.parts }
-    ensures reply { result ≡ reply playing.old command.now }
-    ensures world { playing.new ≡ after playing.old command.now }
-    ensures sound { IsSound playing.new }
-    ensures one_scene { AreOfOneScene playing.old playing.new }
-{
-    let mut steps: Steps<G> = Steps::open(blank);
-    playing.apply(command, &mut steps)
-}
-
-fn sums_counted<G: Ledger>(
-    blank: Blank,
-    playing: &Session<LANES, LaneProjector<LANES>>,
-) -> FrameSums
-    requires name { blank.name ≡ G.name }
-    requires parts { blank.parts ≡ G.parts }
-    requires some { 0 < blank.parts }
-    ensures { result ≡ frame_sums playing.now }
-{
-    let mut steps: Steps<G> = Steps::open(blank);
-    playing.frame_sums(&mut steps)
 }
 
 fn keep(kept: &mut Vec<Saved<LANES>>, slot: usize, playing: &Session<LANES, LaneProjector<LANES>>)

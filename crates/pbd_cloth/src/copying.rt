@@ -2,7 +2,9 @@
 ghost use Rattle.std.specs.Prelude.{◌≡◌, ◌<◌, length, map};
 ghost use Rattle.pbd_world.specs.Lending.{overwritten};
 ghost use Rattle.pbd_world.specs.Particles.{particle_at};
-ghost use Rattle.pbd_cloth.specs.Reading.{place_now, place_before, held_byte, kind_number, link_entry, live_byte};
+ghost use Rattle.pbd_encoding.specs.Scene.{kind_number};
+ghost use Rattle.pbd_cloth.specs.Counting.{IsBlankOf};
+ghost use Rattle.pbd_cloth.specs.Reading.{place_now, place_before, held_byte, link_entry, live_byte};
 
 use crate::entry::LinkEntry;
 use crate::{LANES, Place};
@@ -86,12 +88,7 @@ impl Reading<Link, LinkEntry> for Whole {
 fn kind_number(kind: Kind) -> u8
     ensures { result ≡ kind_number kind }
 {
-    match kind {
-        Kind::Stretch => 0,
-        Kind::Shear => 1,
-        Kind::Bend => 2,
-        Kind::Plain => 3,
-    }
+    kind as u8
 }
 
 // What is read of particle i.
@@ -125,9 +122,7 @@ pub(crate) fn write_particles<T: Copy, R: Reading<Particle, T>, G: Ledger>(
     solver: &Solver<LANES, LaneProjector<LANES>>,
     into: &mut [T],
 )
-    requires name { blank.name ≡ G.name }
-    requires parts { blank.parts ≡ G.parts }
-    requires some { 0 < blank.parts }
+    requires { IsBlankOf G.name G.parts blank }
     ensures { into.new ≡ overwritten into.old (map R.value solver.now.world.particles) }
 {
     let mut steps: Steps<G> = Steps::open(blank);

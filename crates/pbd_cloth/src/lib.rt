@@ -3,6 +3,7 @@
 
 mod cloth;
 mod copying;
+mod counted;
 mod cuts;
 mod entry;
 mod laws;

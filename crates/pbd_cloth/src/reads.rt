@@ -10,14 +10,12 @@ ghost use Rattle.pbd_cloth.specs.Slots.{slot_at, AreSlots};
 ghost use Rattle.pbd_cloth.specs.Reading.{places, places_before, live_bytes, held_bytes, link_entries, joins_ends, link_between, has_gone, gone_numbers, gone_since};
 
 use crate::copying::{Before, Held, Live, Now, Whole, write_links, write_particles};
-use crate::{Cloth, LANES, LinkEntry, Place};
+use crate::counted::balance_counted;
+use crate::{Cloth, LinkEntry, Place};
 use pbd_num::Vec3;
-use pbd_pair::LaneProjector;
-use pbd_step::Solver;
-use pbd_store::Steps;
 use pbd_world::{Link, Totals};
 use std::marker::Brand;
-use std::sync::ledger::{Blank, Ledger};
+use std::sync::ledger::Blank;
 
 /// The momentum of the particles that aren't held, that at opening, and what moved it since, in units per step.
 #[derive(Clone, Copy)]
@@ -179,23 +177,6 @@ impl Cloth {
             self.playing.solver().links(),
             into,
         )
-    }
-}
-
-// Sums the velocities with a count of accesses of its own, which nobody sees.
-fn balance_counted<G: Ledger>(blank: Blank, solver: &Solver<LANES, LaneProjector<LANES>>) -> Balance
-    requires name { blank.name ≡ G.name }
-    requires parts { blank.parts ≡ G.parts }
-    requires some { 0 < blank.parts }
-    ensures momentum { sum_of result.momentum ≡ momentum solver.now.world.particles }
-    ensures opening { sum_of result.opening ≡ solver.now.world.opening }
-    ensures totals { ledger_of result.totals ≡ solver.now.world.totals }
-{
-    let mut steps: Steps<G> = Steps::open(blank);
-    Balance {
-        momentum: solver.momentum(&mut steps),
-        opening: *solver.opening(),
-        totals: *solver.totals(),
     }
 }
 

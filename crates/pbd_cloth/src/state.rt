@@ -1,23 +1,18 @@
 //! The world of a cloth as bytes.
-ghost use Rattle.std.specs.Prelude.{◌≡◌, ◌<◌, ◌≤◌, ◌++◌, drop, length, IfOk, OnErr, OnOk};
+ghost use Rattle.std.specs.Prelude.{◌≡◌, ◌<◌, ◌≤◌, ◌++◌, drop, length, IfOk, OnErr};
 ghost use Rattle.sha2.specs.Sha256.{sha256};
-ghost use Rattle.pbd_world.specs.World.{AreOfOneScene, IsSound};
 ghost use Rattle.pbd_encoding.specs.Encoding.{state_bytes, state_size};
-ghost use Rattle.pbd_encoding.specs.Laws.{told_on};
 ghost use Rattle.pbd_state.specs.Checksum.{checksum as checksum_of};
 ghost use Rattle.pbd_state.specs.Reading.{reading};
 ghost use Rattle.pbd_cloth.specs.Slots.{slot_at, AreSlots};
 ghost use Rattle.pbd_cloth.specs.States.{resumed};
 
-use crate::{Cloth, LANES};
+use crate::Cloth;
+use crate::counted::{checksum_counted, digest_counted, read_counted, write_counted};
 use pbd_encoding::StateFault;
-use pbd_pair::LaneProjector;
-use pbd_session::Session;
-use pbd_state::{NoRoom, checksum, digest, read_state, state_size, write_state};
-use pbd_step::Shown;
-use pbd_store::Steps;
+use pbd_state::{NoRoom, state_size};
 use std::marker::Brand;
-use std::sync::ledger::{Blank, Ledger};
+use std::sync::ledger::Blank;
 
 impl Cloth {
     /// How many bytes a state of the cloth's scene has, at most 3,735,972.
@@ -84,63 +79,4 @@ impl Cloth {
     {
         checksum_counted::<Brand>(Blank::new(1), &self.kept[slot as usize].shown())
     }
-}
-
-// Each with a count of accesses of its own, which nobody sees.
-
-fn write_counted<G: Ledger>(
-    blank: Blank,
-    scene: &[u8; 32],
-    shown: &Shown<'_, LANES>,
-    into: &mut [u8],
-) -> Result<usize, NoRoom>
-    requires name { blank.name ≡ G.name }
-    requires parts { blank.parts ≡ G.parts }
-    requires some { 0 < blank.parts }
-    ensures written { IfOk result (λ len. into.new ≡ state_bytes scene.now shown.now ++ drop len into.old) }
-    ensures size { IfOk result (λ len. len ≡ state_size (length shown.now.particles) (length shown.now.links)) }
-    ensures kept { OnErr result (into.new ≡ into.old) }
-    ensures short { OnErr result (length into.old < state_size (length shown.now.particles) (length shown.now.links)) }
-{
-    let mut steps: Steps<G> = Steps::open(blank);
-    write_state(scene, shown, into, &mut steps)
-}
-
-fn read_counted<G: Ledger>(
-    blank: Blank,
-    scene: &[u8; 32],
-    playing: &mut Session<LANES, LaneProjector<LANES>>,
-    bytes: &[u8],
-) -> Result<(), StateFault>
-    requires name { blank.name ≡ G.name }
-    requires parts { blank.parts ≡ G.parts }
-    requires some { 0 < blank.parts }
-    ensures value { result ≡ reading scene.now playing.old bytes.now }
-    ensures world { OnOk result (playing.new ≡ told_on playing.old bytes.now) }
-    ensures kept { OnErr result (playing.new ≡ playing.old) }
-    ensures sound { IsSound playing.new }
-    ensures one_scene { AreOfOneScene playing.old playing.new }
-{
-    let mut steps: Steps<G> = Steps::open(blank);
-    read_state(scene, playing.solver_mut(), bytes, &mut steps)
-}
-
-fn digest_counted<G: Ledger>(blank: Blank, scene: &[u8; 32], shown: &Shown<'_, LANES>) -> [u8; 32]
-    requires name { blank.name ≡ G.name }
-    requires parts { blank.parts ≡ G.parts }
-    requires some { 0 < blank.parts }
-    ensures { result ≡ sha256 (state_bytes scene.now shown.now) }
-{
-    let mut steps: Steps<G> = Steps::open(blank);
-    digest(scene, shown, &mut steps)
-}
-
-fn checksum_counted<G: Ledger>(blank: Blank, shown: &Shown<'_, LANES>) -> u64
-    requires name { blank.name ≡ G.name }
-    requires parts { blank.parts ≡ G.parts }
-    requires some { 0 < blank.parts }
-    ensures { result ≡ checksum_of shown.now }
-{
-    let mut steps: Steps<G> = Steps::open(blank);
-    checksum(shown, &mut steps)
 }
