@@ -1,5 +1,5 @@
 -- What opening answers, and why it opened nothing.
-use Rattle.std.specs.Prelude.{◌≡◌, ◌⊎◌, ⊤, ℕ, ◌<◌, ◌≤◌, ◌^◌, ℤ, pos, List, length, Option, Some, None, Ok}
+use Rattle.std.specs.Prelude.{◌≡◌, ◌⊎◌, ⊤, ℕ, ◌<◌, ◌≤◌, ◌^◌, ℤ, pos, List, [], ◌∷◌, length, slice_get, Option, Some, None, Ok}
 use Rattle.std.specs.Str.{IsUtf8}
 use Rattle.toml.specs.Data.{Members}
 use Rattle.toml.specs.Parse.{parse_document}
@@ -9,6 +9,7 @@ use Rattle.pbd_scene.specs.declared.fault.TableName.{TableName}
 use Rattle.pbd_scene.specs.declared.fault.TableName.TheVariants as tables
 use Rattle.pbd_scene.specs.declared.fault.KeyName.{KeyName}
 use Rattle.pbd_scene.specs.declared.fault.KeyName.TheVariants as keys
+use Rattle.pbd_scene.specs.declared.fault.SceneRule.{SceneRule}
 use Rattle.pbd_scene.specs.declared.fault.SceneFault.{SceneFault}
 use Rattle.pbd_scene.specs.declared.fault.SceneFault.TheVariants.{NotToml, Refused, OutOfMemory}
 use Rattle.pbd_scene.specs.Checks.{broken}
@@ -22,52 +23,20 @@ use Rattle.lakmozet_c.specs.Calls.{in_use, no_slot, status}
 
 -- ---- numbers of names
 
-abbrev pub table_number : TableName → ℕ
-table_number tables.Scene = 0
-table_number tables.Particle = 1
-table_number tables.Cloth = 2
-table_number tables.Rope = 3
-table_number tables.Link = 4
-table_number tables.Plane = 5
-table_number tables.Sphere = 6
-table_number tables.Track = 7
+-- the tables of a scene: the number of each is its place, from 0
+abbrev pub table_names : List TableName
+table_names = tables.Scene ∷ tables.Particle ∷ tables.Cloth ∷ tables.Rope ∷ tables.Link ∷ tables.Plane ∷ tables.Sphere ∷ tables.Track ∷ []
 
-abbrev pub key_number : KeyName → ℕ
-key_number keys.NoKey = 0
-key_number keys.Gravity = 1
-key_number keys.Passes = 2
-key_number keys.Damping = 3
-key_number keys.Thickness = 4
-key_number keys.Friction = 5
-key_number keys.Pins = 6
-key_number keys.At = 7
-key_number keys.Velocity = 8
-key_number keys.Weight = 9
-key_number keys.Held = 10
-key_number keys.Origin = 11
-key_number keys.Across = 12
-key_number keys.Down = 13
-key_number keys.Rows = 14
-key_number keys.Columns = 15
-key_number keys.Stretch = 16
-key_number keys.Shear = 17
-key_number keys.Bend = 18
-key_number keys.StretchTear = 19
-key_number keys.ShearTear = 20
-key_number keys.BendTear = 21
-key_number keys.Spacing = 22
-key_number keys.Count = 23
-key_number keys.A = 24
-key_number keys.B = 25
-key_number keys.Rest = 26
-key_number keys.Stiffness = 27
-key_number keys.Tear = 28
-key_number keys.Normal = 29
-key_number keys.Offset = 30
-key_number keys.Centre = 31
-key_number keys.Radius = 32
-key_number keys.Particle = 33
-key_number keys.Keys = 34
+-- the keys, five a line
+abbrev pub key_names : List KeyName
+key_names =
+    keys.NoKey ∷ keys.Gravity ∷ keys.Passes ∷ keys.Damping ∷ keys.Thickness ∷
+    keys.Friction ∷ keys.Pins ∷ keys.At ∷ keys.Velocity ∷ keys.Weight ∷
+    keys.Held ∷ keys.Origin ∷ keys.Across ∷ keys.Down ∷ keys.Rows ∷
+    keys.Columns ∷ keys.Stretch ∷ keys.Shear ∷ keys.Bend ∷ keys.StretchTear ∷
+    keys.ShearTear ∷ keys.BendTear ∷ keys.Spacing ∷ keys.Count ∷ keys.A ∷
+    keys.B ∷ keys.Rest ∷ keys.Stiffness ∷ keys.Tear ∷ keys.Normal ∷
+    keys.Offset ∷ keys.Centre ∷ keys.Radius ∷ keys.Particle ∷ keys.Keys ∷ []
 
 -- ---- why nothing was opened
 
@@ -80,12 +49,22 @@ stop_number (NoScene NotToml) = status 7
 stop_number (NoScene (Refused rule table position key)) = status 8
 stop_number (NoScene OutOfMemory) = status 12
 
--- where the text stops being TOML, or the broken rule, if one of these is the reason
-abbrev pub fault_of : NoCloth → Fault
-fault_of (NoToml offset) = record { offset = offset; position = 0; rule = 0; table = 0; key = 0 }
-fault_of (NoScene (Refused rule table position key)) =
-    record { offset = 0; position = position; rule = rule_number rule; table = table_number table; key = key_number key }
-fault_of why = record { offset = 0; position = 0; rule = 0; table = 0; key = 0 }
+abbrev pub nothing_wrong : Fault
+nothing_wrong = record { offset = 0; position = 0; rule = 0; table = 0; key = 0 }
+
+-- a broken rule is told, with the numbers of its table and of its key
+pub record TellsRule (r : SceneRule) (t : TableName) (at : ℕ) (k : KeyName) (f : Fault) : Type 0 where
+  pub offset : f.offset ≡ 0
+  pub position : f.position ≡ at
+  pub rule : f.rule ≡ rule_number r
+  pub table : slice_get table_names f.table ≡ Some t
+  pub key : slice_get key_names f.key ≡ Some k
+
+-- it is told where the text stops being TOML, or the broken rule, if one of these is the reason
+abbrev pub TellsWhy : NoCloth → Fault → Type 0
+TellsWhy (NoToml offset) f = f ≡ record nothing_wrong { offset = offset }
+TellsWhy (NoScene (Refused rule table position key)) f = TellsRule rule table position key f
+TellsWhy why f = f ≡ nothing_wrong
 
 -- the parts of the scene that a text is, read with a limit, which reads as this tree
 abbrev pub IsSceneIn : ℤ → Option Members → Parts → Type 0
@@ -140,7 +119,7 @@ pub record StaysClosed (bytes : List ℕ) (slots : ℕ) (held : Option Slotted) 
   pub why : NoCloth
   pub reason : IsWhy bytes slots why
   pub number : answer ≡ pos (stop_number why)
-  pub place : fault ≡ fault_of why
+  pub place : TellsWhy why fault
 
 -- what opening does to what a handle held: an open one stays as it is, and no fault is told
 abbrev pub OpensOr : Option Slotted → List ℕ → ℕ → Option Slotted → ℤ → Fault → Fault → Type 0

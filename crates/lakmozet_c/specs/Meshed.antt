@@ -21,12 +21,13 @@ use Rattle.pbd_cloth.specs.Slots.{Slotted, begun}
 use Rattle.lakmozet_c.specs.declared.plain.Fault.{Fault}
 use Rattle.lakmozet_c.specs.declared.plain.MeshEntry.{MeshEntry}
 use Rattle.lakmozet_c.specs.declared.plain.MeshFault.{MeshFault}
+use Rattle.lakmozet_c.specs.declared.meshes.MeshArrays.{MeshArrays}
 use Rattle.lakmozet_c.specs.declared.meshes.NoWhole.{NoWhole}
 use Rattle.lakmozet_c.specs.declared.meshes.NoWhole.TheVariants.{ByScene, ByMesh}
 use Rattle.lakmozet_c.specs.declared.meshes.Unfit.{Unfit}
 use Rattle.lakmozet_c.specs.declared.meshes.Unfit.TheVariants.{BadSettings, NoArrays, NotAdded}
 use Rattle.lakmozet_c.specs.Calls.{in_use, status, vector_of}
-use Rattle.lakmozet_c.specs.Faults.{fault_of, stop_number, IsScene, IsWhy}
+use Rattle.lakmozet_c.specs.Faults.{nothing_wrong, stop_number, IsScene, IsWhy, TellsWhy}
 
 -- ---- what a program hands in
 
@@ -45,6 +46,10 @@ settings_of e = record {
 -- the mesh that arrays are, or the first fault
 abbrev pub mesh_in : List Place → List ℕ → List ℕ → Result ObjMesh ArraysFault
 mesh_in vertices sizes corners = mesh_of (map {A = Place} {B = Vec3} vector_of vertices) sizes corners
+
+-- the same of arrays that are handed on as one
+abbrev pub mesh_of_arrays : MeshArrays → Result ObjMesh ArraysFault
+mesh_of_arrays a = mesh_in a.vertices.now a.sizes.now a.corners.now
 
 -- ---- a scene and a mesh
 
@@ -118,9 +123,9 @@ mesh_fault_of (ByScene why) = mesh_fault 0 0
 mesh_fault_of (ByMesh why) = unfit_fault why
 
 -- zeros where a mesh is the reason
-abbrev pub scene_fault_of : NoWhole → Fault
-scene_fault_of (ByScene why) = fault_of why
-scene_fault_of (ByMesh why) = record { offset = 0; position = 0; rule = 0; table = 0; key = 0 }
+abbrev pub TellsSceneWhy : NoWhole → Fault → Type 0
+TellsSceneWhy (ByScene why) f = TellsWhy why f
+TellsSceneWhy (ByMesh why) f = f ≡ nothing_wrong
 
 -- ---- what opening does
 
@@ -148,7 +153,7 @@ pub record StaysClosedOf (bytes : List ℕ) (slots : ℕ) (t : MeshSettings) (me
   pub why : NoWhole
   pub reason : IsMeshWhy bytes slots t meant why
   pub number : answer ≡ pos (mesh_stop_number why)
-  pub place : fault ≡ scene_fault_of why
+  pub place : TellsSceneWhy why fault
   pub vertex : mesh_fault ≡ mesh_fault_of why
 
 -- what opening does to what a handle held: an open one stays as it is, and no fault is told

@@ -1,5 +1,5 @@
 -- What the replay of a log writes, and why nothing was replayed.
-use Rattle.std.specs.Prelude.{◌≡◌, ⊤, ◌<◌, ◌^◌, ℕ, ℤ, pos, List, length}
+use Rattle.std.specs.Prelude.{◌≡◌, ⊤, ◌<◌, ◌^◌, ℕ, ℤ, pos, List, [], ◌∷◌, length, map, slice_get, Option, None, Some}
 use Rattle.std.specs.Str.{IsUtf8}
 use Rattle.toml.specs.Parse.{parse_document}
 use Rattle.pbd_world.specs.declared.parts.Parts.{Parts}
@@ -26,26 +26,24 @@ abbrev pub replay_number : ReplayEnd → ℕ
 replay_number (Done refused) = end_number refused
 replay_number (Mismatch entry field recorded found) = status 10
 
--- in the order of the comparison
-abbrev pub field_number : Field → ℕ
-field_number fields.Answer = 1
-field_number fields.Step = 2
-field_number fields.Phase = 3
-field_number fields.Element = 4
-field_number fields.Steps = 5
-field_number fields.Live = 6
-field_number fields.Contacts = 7
-field_number fields.X = 8
-field_number fields.Y = 9
-field_number fields.Z = 10
-field_number fields.BeforeX = 11
-field_number fields.BeforeY = 12
-field_number fields.BeforeZ = 13
+-- the fields of an entry in the order of the comparison: the number of each is its place, and 0 is none's
+abbrev pub field_names : List (Option Field)
+field_names = None ∷ map {A = Field} {B = Option Field} (λ field. Some field) (fields.Answer ∷ fields.Step ∷ fields.Phase ∷ fields.Element ∷
+    fields.Steps ∷ fields.Live ∷ fields.Contacts ∷ fields.X ∷ fields.Y ∷ fields.Z ∷ fields.BeforeX ∷ fields.BeforeY ∷ fields.BeforeZ ∷ [])
 
--- the first entry that differs, and its field, if one does
-abbrev pub stop_of : ReplayEnd → Stop
-stop_of (Done refused) = record { offset = 0; entry = 0; field = 0 }
-stop_of (Mismatch entry field recorded found) = record { offset = 0; entry = entry; field = field_number field }
+abbrev pub nowhere : Stop
+nowhere = record { offset = 0; entry = 0; field = 0 }
+
+-- an entry that differs is told, with the number of its field
+pub record TellsField (number : ℕ) (f : Field) (s : Stop) : Type 0 where
+  pub offset : s.offset ≡ 0
+  pub entry : s.entry ≡ number
+  pub field : slice_get field_names s.field ≡ Some (Some f)
+
+-- the first that differs, if one does
+abbrev pub TellsStop : ReplayEnd → Stop → Type 0
+TellsStop (Done refused) s = s ≡ nowhere
+TellsStop (Mismatch entry field recorded found) s = TellsField entry field s
 
 -- ---- why nothing was replayed
 
@@ -56,8 +54,8 @@ no_replay_number (Stopped why) = no_run_number why
 
 -- where the bytes stop being a log, if that is the reason
 abbrev pub fault_at : NoReplay → Stop
-fault_at (NoLog offset) = record { offset = offset; entry = 0; field = 0 }
-fault_at (Stopped why) = record { offset = 0; entry = 0; field = 0 }
+fault_at (NoLog offset) = record nowhere { offset = offset }
+fault_at (Stopped why) = nowhere
 
 abbrev pub IsSpelled : List ℕ → Log → Type 0
 IsSpelled bytes log = Spells bytes log.version log.limit log.scene log.entries
@@ -99,7 +97,7 @@ IsWhyNoReplay bytes room (Stopped NoMemory) = ⊤
 pub record IsReplayed (bytes : List ℕ) (answer : ℤ) (text : List ℕ) (stop : Stop) : Type 0 where
   pub ended : ReplayEnd
   pub done : answer ≡ pos (replay_number ended)
-  pub place : stop ≡ stop_of ended
+  pub place : TellsStop ended stop
   pub replay : IsReplay bytes text ended
 
 -- nothing was written, for a reason that is told

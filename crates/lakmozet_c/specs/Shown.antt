@@ -1,8 +1,9 @@
 -- What a program reads of a cloth's links and of its ledger.
-use Rattle.std.specs.Prelude.{ℕ, ◌^◌, ℤ, pos, ◌+ℤ◌, ◌*ℤ◌, List, slice_index_or, Option, Some, None}
-use Rattle.pbd_world.specs.Ledger.{Ledger, Sum}
+use Rattle.std.specs.Prelude.{◌≡◌, ℕ, ◌^◌, ℤ, pos, ◌+ℤ◌, ◌*ℤ◌, List, slice_index_or, Option, Some, None}
+use Rattle.pbd_world.specs.Ledger.{Sum}
 use Rattle.pbd_world.specs.Momentum.{momentum}
 use Rattle.pbd_world.specs.World.{World}
+use Rattle.pbd_cloth.specs.Slots.{Slotted}
 use Rattle.lakmozet_c.specs.declared.plain.Wide.{Wide}
 use Rattle.lakmozet_c.specs.declared.plain.Book.{Book}
 
@@ -33,25 +34,18 @@ wide_at ws n = wide_value (slice_index_or ws n (record { low = 0; high = pos 0 }
 abbrev pub sum_in : List Wide → Sum
 sum_in ws = record { x = wide_at ws 0; y = wide_at ws 1; z = wide_at ws 2 }
 
--- the momentum, that at opening, and the totals
-pub record Balance : Type 0 where
-  pub momentum : Sum
-  pub opening : Sum
-  pub totals : Ledger
+-- a book tells the momentum of a world, that at opening, and the totals of what moved it since
+pub record IsBookOf (w : World) (b : Book) : Type 0 where
+  pub momentum : sum_in b.momentum ≡ momentum w.particles
+  pub opening : sum_in b.opening ≡ w.opening
+  pub gravity : sum_in b.gravity ≡ w.totals.gravity
+  pub damping : sum_in b.damping ≡ w.totals.damping
+  pub link : sum_in b.link ≡ w.totals.link
+  pub contact : sum_in b.contact ≡ w.totals.contact
+  pub pin : sum_in b.pin ≡ w.totals.pin
+  pub shape : sum_in b.shape ≡ w.totals.shape
 
-abbrev pub balance_in : Book → Balance
-balance_in b = record {
-  momentum = sum_in b.momentum;
-  opening = sum_in b.opening;
-  totals = record {
-    gravity = sum_in b.gravity;
-    damping = sum_in b.damping;
-    link = sum_in b.link;
-    contact = sum_in b.contact;
-    pin = sum_in b.pin;
-    shape = sum_in b.shape;
-  };
-}
-
-abbrev pub balance_of : World → Balance
-balance_of w = record { momentum = momentum w.particles; opening = w.opening; totals = w.totals }
+-- what a call leaves of a book: what it was where the handle is closed
+abbrev pub WritesBook : Option Slotted → Book → Book → Type 0
+WritesBook None before after = after ≡ before
+WritesBook (Some cloth) before after = IsBookOf cloth.world after

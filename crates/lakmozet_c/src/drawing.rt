@@ -3,10 +3,10 @@ ghost use Rattle.std.specs.Prelude.{◌≡◌, IfErr, IfOk};
 ghost use Rattle.pbd_obj.specs.Arrays.{IsArraysFault};
 ghost use Rattle.pbd_world.specs.Lending.{overwritten};
 ghost use Rattle.lakmozet_c.specs.Drawn.{AreTriangles, WritesTrianglesOr};
-ghost use Rattle.lakmozet_c.specs.Meshed.{mesh_in};
+ghost use Rattle.lakmozet_c.specs.Meshed.{mesh_in, mesh_of_arrays};
 
 use crate::lists::room_for;
-use crate::meshes::{Unfit, mesh_in, unfit_fault, unfit_number};
+use crate::meshes::{MeshArrays, Unfit, mesh_in, unfit_fault, unfit_number};
 use crate::plain::MeshFault;
 use pbd_cloth::Place;
 use pbd_obj::{ArraysFault, Triangle, triangles_of};
@@ -14,16 +14,11 @@ use pbd_world::List;
 use std::alloc::Global;
 
 /// The triangles of the mesh that a program hands in.
-fn triangles_in(
-    alloc: Global,
-    vertices: &[Place],
-    sizes: &[u32],
-    corners: &[u32],
-) -> Result<List<Triangle>, ArraysFault>
-    ensures ok { IfOk result (AreTriangles (mesh_in vertices.now sizes.now corners.now)) }
-    ensures err { IfErr result (λ fault. IsArraysFault (mesh_in vertices.now sizes.now corners.now) fault) }
+fn triangles_in(alloc: Global, arrays: &MeshArrays) -> Result<List<Triangle>, ArraysFault>
+    ensures ok { IfOk result (AreTriangles (mesh_of_arrays arrays.now)) }
+    ensures err { IfErr result (λ fault. IsArraysFault (mesh_of_arrays arrays.now) fault) }
 {
-    let mesh = mesh_in(alloc, vertices, sizes, corners)?;
+    let mesh = mesh_in(alloc, arrays)?;
     Ok(triangles_of(alloc, &mesh)?)
 }
 
@@ -51,7 +46,12 @@ pub extern "C" fn lak_mesh_triangles(
     ensures { WritesTrianglesOr (mesh_in vertices.now sizes.now corners.now) into.old into.new result
         count.old count.new mesh_fault.old mesh_fault.new }
 {
-    match triangles_in(alloc, vertices, sizes, corners) {
+    let arrays = MeshArrays {
+        vertices,
+        sizes,
+        corners,
+    };
+    match triangles_in(alloc, &arrays) {
         Ok(triangles) => {
             write_over(triangles.as_slice(), into);
             *count = triangles.len();

@@ -8,7 +8,7 @@ ghost use Rattle.pbd_obj.specs.Meshes.{IsMesh};
 ghost use Rattle.pbd_obj.specs.Reading.{IsFaultOf};
 ghost use Rattle.pbd_obj.specs.Settings.{are_settings};
 ghost use Rattle.lakmozet_c.specs.Calls.{vector_of, HoldsSound};
-ghost use Rattle.lakmozet_c.specs.Meshed.{mesh_fault_of, mesh_in, mesh_stop_number, scene_fault_of, settings_of, some_settings, unfit_fault, unfit_number, IsMeshOpened, IsMeshWhy, IsUnfit, IsWhole, IsWith, OpensMeshOr};
+ghost use Rattle.lakmozet_c.specs.Meshed.{mesh_fault_of, mesh_in, mesh_of_arrays, mesh_stop_number, settings_of, some_settings, unfit_fault, unfit_number, IsMeshOpened, IsMeshWhy, IsUnfit, IsWhole, IsWith, OpensMeshOr, TellsSceneWhy};
 
 use crate::commands::vector_of;
 use crate::handle::Handle;
@@ -24,14 +24,20 @@ use pbd_obj::{
 use pbd_world::{List, PartsFault, Scene};
 use std::alloc::{AllocError, Global};
 
-/// A mesh of a program's, in its memory, and how it is made cloth.
+/// A mesh of a program's, in its memory.
+#[derive(Clone, Copy)]
+pub struct MeshArrays<'a> {
+    pub vertices: &'a [Place],
+    /// How many corners each face has.
+    pub sizes: &'a [u32],
+    /// Those of all faces, one face after another: vertices by number from 0.
+    pub corners: &'a [u32],
+}
+
+/// A mesh of a program's, and how it is made cloth.
 #[derive(Clone, Copy)]
 struct Given<'a> {
-    vertices: &'a [Place],
-    /// How many corners each face has.
-    sizes: &'a [u32],
-    /// Those of all faces, one face after another: vertices by number from 0.
-    corners: &'a [u32],
+    arrays: MeshArrays<'a>,
     settings: MeshSettings,
 }
 
@@ -92,19 +98,14 @@ fn push_vectors(places: &[Place], vectors: &mut List<Vec3>) -> Result<(), AllocE
 }
 
 /// The mesh that a program hands in.
-pub(crate) fn mesh_in(
-    alloc: Global,
-    vertices: &[Place],
-    sizes: &[u32],
-    corners: &[u32],
-) -> Result<ObjMesh, ArraysFault>
-    ensures ok { IfOk result (λ mesh. mesh_in vertices.now sizes.now corners.now ≡ Ok mesh) }
-    ensures err { IfErr result (λ fault. IsArraysFault (mesh_in vertices.now sizes.now corners.now) fault) }
+pub(crate) fn mesh_in(alloc: Global, arrays: &MeshArrays) -> Result<ObjMesh, ArraysFault>
+    ensures ok { IfOk result (λ mesh. mesh_of_arrays arrays.now ≡ Ok mesh) }
+    ensures err { IfErr result (λ fault. IsArraysFault (mesh_of_arrays arrays.now) fault) }
     ensures mesh { IfOk result IsMesh }
 {
     let mut vectors = List::new(alloc);
-    push_vectors(vertices, &mut vectors)?;
-    mesh_of(alloc, vectors.as_slice(), sizes, corners)
+    push_vectors(arrays.vertices, &mut vectors)?;
+    mesh_of(alloc, vectors.as_slice(), arrays.sizes, arrays.corners)
 }
 
 // ---- a scene and a mesh
@@ -140,14 +141,14 @@ fn with_mesh(
 fn with_given(alloc: Global, given: &Given, scene: Scene) -> Result<Scene, Unfit>
     requires { scene.limit ≡ pos 536870912 }
     ensures { MatchResult result
-        (λ whole. IsWith given.now.settings (mesh_in given.now.vertices.now given.now.sizes.now given.now.corners.now) scene whole)
-        (λ why. IsUnfit given.now.settings (mesh_in given.now.vertices.now given.now.sizes.now given.now.corners.now) scene why) }
+        (λ whole. IsWith given.now.settings (mesh_of_arrays given.now.arrays) scene whole)
+        (λ why. IsUnfit given.now.settings (mesh_of_arrays given.now.arrays) scene why) }
 {
     if !given.settings.are_in_range() {
         drop(scene);
         return Err(Unfit::BadSettings);
     }
-    match mesh_in(alloc, given.vertices, given.sizes, given.corners) {
+    match mesh_in(alloc, &given.arrays) {
         Ok(mesh) => match with_mesh(alloc, &mesh, &given.settings, scene) {
             Ok(whole) => Ok(whole),
             Err(fault) => Err(Unfit::NotAdded(fault)),
@@ -163,10 +164,8 @@ fn with_given(alloc: Global, given: &Given, scene: Scene) -> Result<Scene, Unfit
 #[tactic(auto, using(crate::proofs::Meshing::its_limit))]
 fn whole_of(alloc: Global, toml: &[u8], given: &Given) -> Result<Scene, NoWhole>
     ensures { MatchResult result
-        (λ whole. IsWhole toml.now given.now.settings
-        (mesh_in given.now.vertices.now given.now.sizes.now given.now.corners.now) whole)
-        (λ why. IsMeshWhy toml.now 0 given.now.settings
-        (mesh_in given.now.vertices.now given.now.sizes.now given.now.corners.now) why) }
+        (λ whole. IsWhole toml.now given.now.settings (mesh_of_arrays given.now.arrays) whole)
+        (λ why. IsMeshWhy toml.now 0 given.now.settings (mesh_of_arrays given.now.arrays) why) }
 {
     match scene_in(alloc, toml, RANGE) {
         Ok(scene) => match with_given(alloc, given, scene) {
@@ -186,10 +185,8 @@ fn cloth_with_mesh(
     given: &Given,
 ) -> Result<Box<Cloth>, NoWhole>
     ensures cloth { MatchResult result
-        (λ cloth. IsMeshOpened toml.now slots given.now.settings
-        (mesh_in given.now.vertices.now given.now.sizes.now given.now.corners.now) cloth.value)
-        (λ why. IsMeshWhy toml.now slots given.now.settings
-        (mesh_in given.now.vertices.now given.now.sizes.now given.now.corners.now) why) }
+        (λ cloth. IsMeshOpened toml.now slots given.now.settings (mesh_of_arrays given.now.arrays) cloth.value)
+        (λ why. IsMeshWhy toml.now slots given.now.settings (mesh_of_arrays given.now.arrays) why) }
     ensures sound { IfOk result (λ cloth. AreSlots cloth.value.world cloth.value.slots) }
 {
     if MOST_SLOTS < slots {
@@ -264,7 +261,7 @@ fn mesh_fault_of(why: &NoWhole) -> MeshFault
 
 /// What is wrong with the scene, if that is the reason.
 fn scene_fault_of(why: &NoWhole) -> Fault
-    ensures { result ≡ scene_fault_of why.now }
+    ensures { TellsSceneWhy why.now result }
 {
     match why {
         NoWhole::ByScene(why) => fault_of(why),
@@ -293,9 +290,11 @@ pub extern "C" fn lak_open_mesh(
     ensures sound { HoldsSound handle.new.held }
 {
     let given = Given {
-        vertices,
-        sizes,
-        corners,
+        arrays: MeshArrays {
+            vertices,
+            sizes,
+            corners,
+        },
         settings: settings_of(&settings),
     };
     match handle.take(alloc) {

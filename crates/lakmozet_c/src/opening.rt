@@ -1,11 +1,11 @@
 //! A cloth from the text of a scene, or why there is none.
-ghost use Rattle.std.specs.Prelude.{◌≡◌, ◌≤◌, ℤ, IfOk, IsTrue, MatchResult, None, pos};
+ghost use Rattle.std.specs.Prelude.{◌≡◌, ◌≤◌, ℤ, IfOk, IsTrue, MatchResult, None, Some, pos, slice_get};
 ghost use Rattle.lakmozet_c.specs.Prelude.{opened, parse_document, AreSlots, IsUtf8};
 ghost use Rattle.pbd_world.specs.Valid.{is_limit};
 ghost use Rattle.pbd_cloth.specs.Slots.{begun};
 ghost use Rattle.pbd_scene.specs.declared.fault.SceneFault.TheVariants.{OutOfMemory};
 ghost use Rattle.lakmozet_c.specs.declared.opening.NoCloth.TheVariants.{NoScene};
-ghost use Rattle.lakmozet_c.specs.Faults.{fault_of, key_number, stop_number, table_number, IsFaultIn, IsOpened, IsSceneIn, IsWhy, IsWhyIn};
+ghost use Rattle.lakmozet_c.specs.Faults.{key_names, stop_number, table_names, IsFaultIn, IsOpened, IsSceneIn, IsWhy, IsWhyIn, TellsWhy};
 
 use crate::numbers::{NO_SLOT, OUT_OF_MEMORY, SCENE_NOT_TEXT, SCENE_NOT_TOML, SCENE_REFUSED};
 use crate::plain::Fault;
@@ -109,60 +109,15 @@ pub(crate) fn cloth_of(alloc: Global, toml: &[u8], slots: u32) -> Result<Box<Clo
 }
 
 fn table_number(table: TableName) -> u8
-    ensures { result ≡ table_number table }
+    ensures { slice_get table_names result ≡ Some table }
 {
-    match table {
-        TableName::Scene => 0,
-        TableName::Particle => 1,
-        TableName::Cloth => 2,
-        TableName::Rope => 3,
-        TableName::Link => 4,
-        TableName::Plane => 5,
-        TableName::Sphere => 6,
-        TableName::Track => 7,
-    }
+    table as u8
 }
 
 fn key_number(key: KeyName) -> u8
-    ensures { result ≡ key_number key }
+    ensures { slice_get key_names result ≡ Some key }
 {
-    match key {
-        KeyName::NoKey => 0,
-        KeyName::Gravity => 1,
-        KeyName::Passes => 2,
-        KeyName::Damping => 3,
-        KeyName::Thickness => 4,
-        KeyName::Friction => 5,
-        KeyName::Pins => 6,
-        KeyName::At => 7,
-        KeyName::Velocity => 8,
-        KeyName::Weight => 9,
-        KeyName::Held => 10,
-        KeyName::Origin => 11,
-        KeyName::Across => 12,
-        KeyName::Down => 13,
-        KeyName::Rows => 14,
-        KeyName::Columns => 15,
-        KeyName::Stretch => 16,
-        KeyName::Shear => 17,
-        KeyName::Bend => 18,
-        KeyName::StretchTear => 19,
-        KeyName::ShearTear => 20,
-        KeyName::BendTear => 21,
-        KeyName::Spacing => 22,
-        KeyName::Count => 23,
-        KeyName::A => 24,
-        KeyName::B => 25,
-        KeyName::Rest => 26,
-        KeyName::Stiffness => 27,
-        KeyName::Tear => 28,
-        KeyName::Normal => 29,
-        KeyName::Offset => 30,
-        KeyName::Centre => 31,
-        KeyName::Radius => 32,
-        KeyName::Particle => 33,
-        KeyName::Keys => 34,
-    }
+    key as u8
 }
 
 /// The number of a reason, a status of the program's where it has one.
@@ -188,7 +143,7 @@ pub(crate) const NOTHING_WRONG: Fault = Fault {
 
 /// Where the text stops being TOML, or the rule that the scene breaks, if one of these is the reason.
 pub(crate) fn fault_of(why: &NoCloth) -> Fault
-    ensures { result ≡ fault_of why.now }
+    ensures { TellsWhy why.now result }
 {
     match *why {
         NoCloth::NoScene(

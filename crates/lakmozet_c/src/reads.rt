@@ -5,7 +5,7 @@ ghost use Rattle.pbd_world.specs.Replay.{frame_sums};
 ghost use Rattle.pbd_state.specs.Naming.{scene_name};
 ghost use Rattle.pbd_cloth.specs.Reading.{link_between, place_of};
 ghost use Rattle.lakmozet_c.specs.Calls.{answered, counts_of, read_from, sums_of, Keeps, Reads};
-ghost use Rattle.lakmozet_c.specs.Shown.{balance_in, balance_of, found_answer, found_left, sum_in, wide_value};
+ghost use Rattle.lakmozet_c.specs.Shown.{found_answer, found_left, sum_in, wide_value, IsBookOf, WritesBook};
 
 use crate::handle::{Handle, with_cloth};
 use crate::numbers::{CLOSED, NO_LINK};
@@ -56,7 +56,7 @@ fn wides(sum: [i128; 3]) -> [Wide; 3]
 }
 
 fn book_of(cloth: &Cloth) -> Book
-    ensures { balance_in result ≡ balance_of cloth.now.world }
+    ensures { IsBookOf cloth.now.world result }
 {
     let balance = cloth.balance();
     let totals = balance.totals;
@@ -133,7 +133,9 @@ pub extern "C" fn lak_gravity_now(alloc: Global, handle: &mut Handle, gravity: &
 /// Writes the momentum, that at opening, and the totals of what moved it since.
 #[unsafe(no_mangle)]
 pub extern "C" fn lak_ledger(alloc: Global, handle: &mut Handle, book: &mut Book) -> i32
-    ensures { Reads (λ c. balance_of c.world) handle.old.held handle.new.held result (balance_in book.old) (balance_in book.new) }
+    ensures kept { Keeps handle.old.held handle.new.held }
+    ensures answer { result ≡ pos (answered handle.old.held (λ _. 0)) }
+    ensures book { WritesBook handle.old.held book.old book.new }
 {
     with_cloth!(alloc, handle, cloth => {
         *book = book_of(&cloth);

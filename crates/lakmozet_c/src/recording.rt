@@ -8,7 +8,7 @@ ghost use Rattle.lakmozet_c.specs.Runs.{IsShortage};
 
 use crate::opening::scene_in;
 use crate::room_sink::RoomSink;
-use crate::runs::{NoRun, copied, end_number, no_run_number};
+use crate::runs::{NoRun, copied, end_number, no_run_number, session_on};
 use pbd_cloth::LANES;
 use pbd_io::Failed;
 use pbd_num::RANGE;
@@ -23,71 +23,71 @@ use std::sync::ledger::{Blank, Ledger};
 /// How many bytes a scene and a script may have.
 const MOST: usize = 16_777_216;
 
-// Records with a count of accesses of its own, which nobody sees.
-fn record_counted<G: Ledger>(
-    blank: Blank,
-    session: &mut Session<LANES, LaneProjector<LANES>>,
-    scene: &[u8],
-    script: &[u8],
-    sink: &mut RoomSink,
-) -> Result<RunEnd, Failed>
-    requires name { blank.name ≡ G.name }
-    requires parts { blank.parts ≡ G.parts }
-    requires some { 0 < blank.parts }
-    requires scene { length scene.now < 2 ^ 32 }
-    requires script { length script.now ≤ 2 ^ 31 }
-    ensures bytes { WritesPiece (Some sink.old.bytes.items) (Some sink.new.bytes.items) result
-        (log_of session.old scene.now script.now) }
-    ensures refused { IfOk result (λ end. end.refused ≡ refused_count session.old (commands script.now)) }
-{
-    let mut steps: Steps<G> = Steps::open(blank);
-    run_record(session, scene, script, sink, &mut steps)
+/// What is recorded, as bytes.
+#[derive(Clone, Copy)]
+struct Texts<'a> {
+    /// The TOML text of a scene.
+    scene: &'a [u8],
+    /// The commands on it, a line each.
+    script: &'a [u8],
 }
 
-/// Records the script on a session of the scene, which is let go.
-#[tactic(auto, using(crate::proofs::Shortages::of_whole))]
-fn log_on(
-    alloc: Global,
-    scene: Scene,
-    text: &[u8],
-    script: &[u8],
-    sink: &mut RoomSink,
-) -> Result<u64, NoRun>
-    requires text { length text.now < 2 ^ 32 }
-    requires script { length script.now ≤ 2 ^ 31 }
-    requires empty { sink.old.bytes.items ≡ [] }
-    ensures log { IfOk result (λ _. sink.new.bytes.items ≡ log_of (opened scene) text.now script.now) }
-    ensures count { IfOk result (λ refused. refused ≡ refused_count (opened scene) (commands script.now)) }
-    ensures none { IfErr result (λ why. IsShortage sink.old.room (log_of (opened scene) text.now script.now) why) }
-{
-    let room = sink.room;
-    let outcome = Session::open(alloc, &scene, LaneProjector::<LANES>::new());
-    drop(scene);
-    match outcome {
-        Ok(mut session) => {
-            let end = record_counted::<Brand>(Blank::new(1), &mut session, text, script, sink);
-            drop(session);
-            match end {
+impl Texts<'_> {
+    // Records on a session, which is let go, with a count of accesses of its own, which nobody sees.
+    fn record_counted<G: Ledger>(
+        &self,
+        blank: Blank,
+        mut session: Session<LANES, LaneProjector<LANES>>,
+        sink: &mut RoomSink,
+    ) -> Result<RunEnd, Failed>
+        requires name { blank.name ≡ G.name }
+        requires parts { blank.parts ≡ G.parts }
+        requires some { 0 < blank.parts }
+        requires scene { length self.now.scene.now < 2 ^ 32 }
+        requires script { length self.now.script.now ≤ 2 ^ 31 }
+        ensures bytes { WritesPiece (Some sink.old.bytes.items) (Some sink.new.bytes.items) result
+            (log_of session self.now.scene.now self.now.script.now) }
+        ensures refused { IfOk result (λ end. end.refused ≡ refused_count session (commands self.now.script.now)) }
+    {
+        let mut steps: Steps<G> = Steps::open(blank);
+        let end = run_record(&mut session, self.scene, self.script, sink, &mut steps);
+        drop(session);
+        end
+    }
+
+    /// Records the script on the scene, which is let go.
+    #[tactic(auto, using(crate::proofs::Shortages::of_whole))]
+    fn log_on(&self, alloc: Global, scene: Scene, sink: &mut RoomSink) -> Result<u64, NoRun>
+        requires text { length self.now.scene.now < 2 ^ 32 }
+        requires script { length self.now.script.now ≤ 2 ^ 31 }
+        requires empty { sink.old.bytes.items ≡ [] }
+        ensures log { IfOk result (λ _. sink.new.bytes.items ≡ log_of (opened scene) self.now.scene.now self.now.script.now) }
+        ensures count { IfOk result (λ refused. refused ≡ refused_count (opened scene) (commands self.now.script.now)) }
+        ensures none { IfErr result (λ why. IsShortage sink.old.room (log_of (opened scene) self.now.scene.now self.now.script.now) why) }
+    {
+        let room = sink.room;
+        match session_on(alloc, scene) {
+            Ok(session) => match self.record_counted::<Brand>(Blank::new(1), session, sink) {
                 Ok(end) => Ok(end.refused),
                 Err(Failed) => Err(sink.why_failed(room)),
-            }
+            },
+            Err(why) => Err(why),
         }
-        Err(AllocError) => Err(NoRun::NoMemory),
     }
-}
 
-/// Records the script on the scene of a text.
-#[tactic(auto, using(crate::proofs::Shortages::no_log))]
-fn logged(alloc: Global, scene: &[u8], script: &[u8], sink: &mut RoomSink) -> Result<u64, NoRun>
-    requires scene { length scene.now < 2 ^ 32 }
-    requires script { length script.now ≤ 2 ^ 31 }
-    requires empty { sink.old.bytes.items ≡ [] }
-    ensures { MatchResult result (λ refused. IsLog scene.now script.now sink.new.bytes.items refused)
-        (λ why. IsWhyNot scene.now script.now sink.old.room why) }
-{
-    match scene_in(alloc, scene, RANGE) {
-        Ok(parts) => log_on(alloc, parts, scene, script, sink),
-        Err(why) => Err(NoRun::NoScene(why)),
+    /// Records the script on the scene of the text.
+    #[tactic(auto, using(crate::proofs::Shortages::no_log))]
+    fn logged(&self, alloc: Global, sink: &mut RoomSink) -> Result<u64, NoRun>
+        requires scene { length self.now.scene.now < 2 ^ 32 }
+        requires script { length self.now.script.now ≤ 2 ^ 31 }
+        requires empty { sink.old.bytes.items ≡ [] }
+        ensures { MatchResult result (λ refused. IsLog self.now.scene.now self.now.script.now sink.new.bytes.items refused)
+            (λ why. IsWhyNot self.now.scene.now self.now.script.now sink.old.room why) }
+    {
+        match scene_in(alloc, self.scene, RANGE) {
+            Ok(parts) => self.log_on(alloc, parts, sink),
+            Err(why) => Err(NoRun::NoScene(why)),
+        }
     }
 }
 
@@ -108,7 +108,7 @@ fn recorded(
         return Err(NoRun::TooLong);
     }
     match RoomSink::open(alloc, output.len()) {
-        Ok(mut sink) => match logged(alloc, scene, script, &mut sink) {
+        Ok(mut sink) => match (Texts { scene, script }).logged(alloc, &mut sink) {
             Ok(refused) => match copied(&sink.bytes, output) {
                 Ok(count) => Ok((count, refused)),
                 Err(why) => Err(why),

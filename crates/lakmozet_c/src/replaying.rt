@@ -1,17 +1,17 @@
 //! A log, replayed from bytes to text.
-ghost use Rattle.std.specs.Prelude.{◌≡◌, ◌⊎◌, ◌≤◌, ◌<◌, [], Some, IfErr, IfOk, MatchResult, drop, length, pos, take};
+ghost use Rattle.std.specs.Prelude.{◌≡◌, ◌⊎◌, ◌≤◌, ◌<◌, [], Some, IfErr, IfOk, MatchResult, drop, length, pos, slice_get, take};
 ghost use Rattle.lakmozet_c.specs.Prelude.{opened, parse_document, IsUtf8, WritesPiece};
 ghost use Rattle.pbd_log.specs.Logs.{IsVersion};
 ghost use Rattle.pbd_session.specs.Replaying.{replayed};
 ghost use Rattle.lakmozet_c.specs.Faults.{IsSceneIn, IsWhyIn};
-ghost use Rattle.lakmozet_c.specs.Replays.{fault_at, field_number, no_replay_number, replay_number, stop_of, IsNotReplayed, IsReplay, IsReplayed, IsWhyNoReplay};
+ghost use Rattle.lakmozet_c.specs.Replays.{fault_at, field_names, no_replay_number, replay_number, IsNotReplayed, IsReplay, IsReplayed, IsWhyNoReplay, TellsStop};
 ghost use Rattle.lakmozet_c.specs.Runs.{IsShortage};
 
 use crate::numbers::{LOG_REFUSED, MISMATCH};
 use crate::opening::{NoCloth, scene_in};
 use crate::plain::Stop;
 use crate::room_sink::RoomSink;
-use crate::runs::{NoRun, copied, end_number, no_run_number};
+use crate::runs::{NoRun, copied, end_number, no_run_number, session_on};
 use pbd_cloth::LANES;
 use pbd_io::Failed;
 use pbd_log::{LogView, read_log};
@@ -35,10 +35,10 @@ pub enum NoReplay {
     Stopped(NoRun),
 }
 
-// Replays with a count of accesses of its own, which nobody sees.
+// Replays on a session, which is let go, with a count of accesses of its own, which nobody sees.
 fn replay_counted<G: Ledger>(
     blank: Blank,
-    session: &mut Session<LANES, LaneProjector<LANES>>,
+    mut session: Session<LANES, LaneProjector<LANES>>,
     log: LogView<'_>,
     sink: &mut RoomSink,
 ) -> Result<ReplayEnd, Failed>
@@ -46,14 +46,16 @@ fn replay_counted<G: Ledger>(
     requires parts { blank.parts ≡ G.parts }
     requires some { 0 < blank.parts }
     ensures bytes { WritesPiece (Some sink.old.bytes.items) (Some sink.new.bytes.items) result
-        (replayed session.old log.entry.entries).text }
-    ensures ended { IfOk result (λ end. end ≡ (replayed session.old log.entry.entries).ended) }
+        (replayed session log.entry.entries).text }
+    ensures ended { IfOk result (λ end. end ≡ (replayed session log.entry.entries).ended) }
 {
     let mut steps: Steps<G> = Steps::open(blank);
-    run_replay(session, log, sink, &mut steps)
+    let end = run_replay(&mut session, log, sink, &mut steps);
+    drop(session);
+    end
 }
 
-/// Replays the log on a session of the scene, which is let go.
+/// Replays the log on its scene, which is let go.
 #[tactic(auto, using(crate::proofs::Shortages::of_whole))]
 fn replay_on(
     alloc: Global,
@@ -67,18 +69,12 @@ fn replay_on(
     ensures none { IfErr result (λ why. IsShortage sink.old.room (replayed (opened scene) log.entry.entries).text why) }
 {
     let room = sink.room;
-    let outcome = Session::open(alloc, &scene, LaneProjector::<LANES>::new());
-    drop(scene);
-    match outcome {
-        Ok(mut session) => {
-            let end = replay_counted::<Brand>(Blank::new(1), &mut session, log, sink);
-            drop(session);
-            match end {
-                Ok(end) => Ok(end),
-                Err(Failed) => Err(sink.why_failed(room)),
-            }
-        }
-        Err(AllocError) => Err(NoRun::NoMemory),
+    match session_on(alloc, scene) {
+        Ok(session) => match replay_counted::<Brand>(Blank::new(1), session, log, sink) {
+            Ok(end) => Ok(end),
+            Err(Failed) => Err(sink.why_failed(room)),
+        },
+        Err(why) => Err(why),
     }
 }
 
@@ -134,7 +130,7 @@ fn replayed(alloc: Global, log: &[u8], output: &mut [u8]) -> Result<(usize, Repl
 }
 
 fn field_number(field: Field) -> u8
-    ensures { result ≡ field_number field }
+    ensures { slice_get field_names result ≡ Some (Some field) }
 {
     match field {
         Field::Answer => 1,
@@ -164,7 +160,7 @@ fn replay_number(ended: &ReplayEnd) -> i32
 
 /// The first entry that differs and its field, if one does.
 fn stop_of(ended: &ReplayEnd) -> Stop
-    ensures { result ≡ stop_of ended.now }
+    ensures { TellsStop ended.now result }
 {
     match *ended {
         ReplayEnd::Done { .. } => Stop {

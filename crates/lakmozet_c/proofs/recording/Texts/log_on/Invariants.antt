@@ -1,4 +1,4 @@
-use Rattle.lakmozet_c.proofs.recording.log_on.Given as goal
+use Rattle.lakmozet_c.proofs.recording.Texts.log_on.Given as goal
 
 abbrev pub ghosts-record_counted : goal.ghosts-record_counted
 ghosts-record_counted a = record { name = a.blank.name; parts = a.blank.parts }
