@@ -22,15 +22,16 @@ take_out-requires c =
 pub mend-requires : goal.mend-requires
 mend-requires c =
     let i = c.self.invariant in
+    let held = c.take_out.ensures.held in
     let written = c.take_out.auto.live ∙ ap length c.as_mut_slice.ensures.value in
     let live = sym (c.as_slice-3.ensures ∙ overwritten_is c.self.inside.live.entries c.take_out.new.live written) in
     let count = ap length c.as_slice-2.ensures in
     record {
       held = record {
         few = omega (arith, count, i.within, i.few);
-        in_range = InRange-as (sym (c.take_out.ensures.held.count ∙ i.held.count)) (sym c.as_slice-2.ensures) i.in_range;
+        in_range = InRange-as (sym (held.count ∙ i.held.count)) (sym c.as_slice-2.ensures) i.in_range;
         flags = ap length (sym live) ∙ written ∙ i.live_length ∙ sym count;
-        held = Holds-as live (sym c.take_out.ensures.held.count) (sym c.take_out.ensures.held.items) (c.as_slice.ensures ∙ sym c.as_slice-2.ensures) c.take_out.ensures.held;
+        held = Holds-as live (sym held.count) (sym held.items) (c.as_slice.ensures ∙ sym c.as_slice-2.ensures) held;
       };
       in_range = λ k l. omega (
         arith,
