@@ -1,17 +1,16 @@
 //! A world that goes back to its marks: torn and cut links, held particles, gravity and refused steps are as they were.
 ghost use Rattle.std.specs.Prelude.{◌≡◌, ◌<◌, ◌≤◌};
-ghost use Rattle.pbd_world.specs.World.{AreOfOneScene, opened, unchanging};
-ghost use Rattle.pbd_marks.specs.Keeping.{IsOfScene};
+ghost use Rattle.pbd_world.specs.World.{AreOfOneScene};
 
 use pbd_marks::{MarkCommand, MarkRefusal, Marks};
 use pbd_num::{RANGE, Vec3};
-use pbd_pair::{LaneProjector, Projector};
+use pbd_pair::LaneProjector;
 use pbd_step::Solver;
 use pbd_store::Steps;
 use pbd_tests_rows::{WIDTHS, at_widths, held, link, resting};
 use pbd_world::{Command, Kind, Link, List, Particle, Parts, Phase, Refusal, Scene};
 use std::alloc::{AllocError, Global};
-use std::marker::Brand;
+use std::marker::{Brand, Model};
 use std::sync::ledger::{Blank, Ledger};
 use std::test::Fail;
 
@@ -87,29 +86,31 @@ const ROWS: &[Row] = &[
 ];
 
 /// The same with a pass in each step: the link to the third particle pulls the first one, and goes back to as it was marked with
-/// the same pins and links, with other pins, with other links, and with one that tore.
-const PULLED: &[Row] = &[
-    (MarkCommand::Mark(1), Answer::Done, 0, 2, 1000),
-    (does!(Command::Step(1)), Answer::Done, 1, 1, 100),
-    (MarkCommand::Mark(2), Answer::Done, 1, 1, 100),
-    (does!(Command::Step(1)), Answer::Done, 2, 1, -100),
-    (MarkCommand::Rewind(2), Answer::Done, 1, 1, 100),
-    (does!(Command::Step(1)), Answer::Done, 2, 1, -100),
-    (does!(Command::Pin(0)), Answer::Done, 2, 1, -100),
-    (does!(Command::Step(1)), Answer::Done, 3, 1, -100),
-    (MarkCommand::Rewind(2), Answer::Done, 1, 1, 100),
-    (does!(Command::Step(1)), Answer::Done, 2, 1, -100),
-    (does!(Command::Unpin(2)), Answer::Done, 2, 1, -100),
-    (does!(Command::Step(1)), Answer::Done, 3, 1, -210),
-    (MarkCommand::Rewind(2), Answer::Done, 1, 1, 100),
-    (does!(Command::Step(1)), Answer::Done, 2, 1, -100),
-    (does!(Command::Cut(1)), Answer::Done, 2, 0, -100),
-    (does!(Command::Step(1)), Answer::Done, 3, 0, -310),
-    (MarkCommand::Rewind(2), Answer::Done, 1, 1, 100),
-    (does!(Command::Step(1)), Answer::Done, 2, 1, -100),
-    (MarkCommand::Rewind(1), Answer::Done, 0, 2, 1000),
-    (does!(Command::Step(1)), Answer::Done, 1, 1, 100),
-];
+/// the same pins and links, after each of these changes, and with one that tore. Behind a change stand how many links are live
+/// then, and the height a step later.
+macro_rules! pulled {
+    ($($change:expr, $live:literal, $high:literal);*) => {
+        &[
+            (MarkCommand::Mark(1), Answer::Done, 0, 2, 1000),
+            (does!(Command::Step(1)), Answer::Done, 1, 1, 100),
+            (MarkCommand::Mark(2), Answer::Done, 1, 1, 100),
+            (does!(Command::Step(1)), Answer::Done, 2, 1, -100),
+            $(
+                (MarkCommand::Rewind(2), Answer::Done, 1, 1, 100),
+                (does!(Command::Step(1)), Answer::Done, 2, 1, -100),
+                (does!($change), Answer::Done, 2, $live, -100),
+                (does!(Command::Step(1)), Answer::Done, 3, $live, $high),
+            )*
+            (MarkCommand::Rewind(2), Answer::Done, 1, 1, 100),
+            (does!(Command::Step(1)), Answer::Done, 2, 1, -100),
+            (MarkCommand::Rewind(1), Answer::Done, 0, 2, 1000),
+            (does!(Command::Step(1)), Answer::Done, 1, 1, 100),
+        ]
+    };
+}
+
+const PULLED: &[Row] =
+    pulled!(Command::Pin(0), 1, -100; Command::Unpin(2), 1, -210; Command::Cut(1), 0, -310);
 
 fn falling(alloc: Global, passes: u32) -> Result<Parts, AllocError> {
     let mut particles = List::new(alloc);
@@ -137,8 +138,8 @@ fn falling(alloc: Global, passes: u32) -> Result<Parts, AllocError> {
     })
 }
 
-fn apply<const L: usize, P: Projector<L> + Drop, G: Ledger>(
-    solver: &mut Solver<L, P>,
+fn apply<const L: usize, G: Ledger>(
+    solver: &mut Solver<L, LaneProjector<L>>,
     command: Command,
     steps: &mut Steps<G>,
 ) -> Result<(), Refusal>
@@ -170,70 +171,85 @@ fn mark_refused(outcome: Result<(), MarkRefusal>) -> Answer {
     }
 }
 
-fn answer_of<const L: usize, P: Projector<L> + Drop, G: Ledger>(
-    command: MarkCommand,
-    marks: &mut Marks<L, P>,
-    solver: &mut Solver<L, P>,
-    steps: &mut Steps<G>,
-) -> Answer
-    requires low { 0 < L }
-    requires high { L ≤ 16 }
-    requires one_scene { IsOfScene marks.old.scene solver.old.world }
-    ensures { IsOfScene marks.new.scene solver.new.world }
-{
-    match command {
-        MarkCommand::Plain(command) => refused(apply(solver, command, steps)),
-        MarkCommand::Mark(k) => mark_refused(marks.set(k, solver)),
-        MarkCommand::Rewind(k) => mark_refused(marks.rewind(k, solver)),
-    }
+/// A solver beside marks of its scene, seen as its world and what is marked.
+#[derive(Drop)]
+struct Marked<const L: usize> {
+    solver: Solver<L, LaneProjector<L>>,
+    marks: Marks<L, LaneProjector<L>>,
 }
 
-fn height<const L: usize, P: Projector<L> + Drop, G: Ledger>(
-    solver: &Solver<L, P>,
-    steps: &mut Steps<G>,
-) -> i64
-    requires high { L ≤ 16 }
-{
-    if solver.particles() == 0 {
-        return 0;
-    }
-    solver.particle(0, steps).at.y
+impl<const L: usize> Model for Marked<L> {
+    ghost use Rattle.pbd_world.specs.World.{World};
+    ghost use Rattle.pbd_marks.specs.Keeping.{IsOfScene, Kept};
+
+    ghost Value = { World × Kept };
+
+    ghost view = { λ s. (s.solver.world, s.marks) };
+
+    ghost invariant = { λ s. IsOfScene s.marks.scene s.solver.world };
 }
 
-/// Whether a command goes as its row says.
-fn goes_so<const L: usize, P: Projector<L> + Drop, G: Ledger>(
-    row: &Row,
-    marks: &mut Marks<L, P>,
-    solver: &mut Solver<L, P>,
-    steps: &mut Steps<G>,
-) -> bool
-    requires low { 0 < L }
-    requires high { L ≤ 16 }
-    requires one_scene { IsOfScene marks.old.scene solver.old.world }
-    ensures { IsOfScene marks.new.scene solver.new.world }
-{
-    let answered = answer_of(row.0, marks, solver, steps);
-    let high = height(solver, steps);
-    answered == row.1 && solver.step_count() == row.2 && solver.live() == row.3 && high == row.4
-}
-
-/// How many rows go as they say, up to the first that doesn't.
-fn all_go_so<const L: usize, P: Projector<L> + Drop, G: Ledger>(
-    rows: &[Row],
-    marks: &mut Marks<L, P>,
-    solver: &mut Solver<L, P>,
-    steps: &mut Steps<G>,
-) -> usize
-    requires low { 0 < L }
-    requires high { L ≤ 16 }
-    requires one_scene { IsOfScene marks.old.scene solver.old.world }
-{
-    for i in 0..rows.len() {
-        if !goes_so(&rows[i], marks, solver, steps) {
-            return i;
+impl<const L: usize> Marked<L> {
+    /// The world of a scene, with empty marks.
+    fn open(alloc: Global, scene: &Scene) -> Result<Marked<L>, AllocError>
+        requires low { 0 < L }
+        requires high { L ≤ 16 }
+    {
+        let projector = LaneProjector::<L>::new();
+        let marks = Marks::open(alloc, scene, projector)?;
+        match Solver::open(alloc, scene, projector) {
+            Ok(solver) => Ok(Marked { solver, marks }),
+            Err(error) => {
+                drop(marks);
+                Err(error)
+            }
         }
     }
-    rows.len()
+
+    /// Does a command.
+    fn answer_to<G: Ledger>(&mut self, command: MarkCommand, steps: &mut Steps<G>) -> Answer
+        requires low { 0 < L }
+        requires high { L ≤ 16 }
+    {
+        match command {
+            MarkCommand::Plain(command) => refused(apply(&mut self.solver, command, steps)),
+            MarkCommand::Mark(k) => mark_refused(self.marks.set(k, &self.solver)),
+            MarkCommand::Rewind(k) => mark_refused(self.marks.rewind(k, &mut self.solver)),
+        }
+    }
+
+    /// The height of particle 0.
+    fn height<G: Ledger>(&self, steps: &mut Steps<G>) -> i64
+        requires high { L ≤ 16 }
+    {
+        if self.solver.particles() == 0 {
+            return 0;
+        }
+        self.solver.particle(0, steps).at.y
+    }
+
+    /// Whether a command goes as its row says.
+    fn goes_so<G: Ledger>(&mut self, row: &Row, steps: &mut Steps<G>) -> bool
+        requires low { 0 < L }
+        requires high { L ≤ 16 }
+    {
+        let answered = self.answer_to(row.0, steps);
+        let counts = (self.solver.step_count(), self.solver.live());
+        answered == row.1 && counts == (row.2, row.3) && self.height(steps) == row.4
+    }
+
+    /// How many rows go as they say, up to the first that doesn't.
+    fn rows_that_go_so<G: Ledger>(&mut self, rows: &[Row], steps: &mut Steps<G>) -> usize
+        requires low { 0 < L }
+        requires high { L ≤ 16 }
+    {
+        for i in 0..rows.len() {
+            if !self.goes_so(&rows[i], steps) {
+                return i;
+            }
+        }
+        rows.len()
+    }
 }
 
 /// A scene, and what is done in it.
@@ -241,27 +257,6 @@ fn all_go_so<const L: usize, P: Projector<L> + Drop, G: Ledger>(
 struct Story<'a> {
     scene: &'a Scene,
     rows: &'a [Row],
-}
-
-/// Does a story with a solver of its own, beside marks of its scene.
-fn with_solver<const L: usize, G: Ledger>(
-    alloc: Global,
-    story: Story<'_>,
-    marks: &mut Marks<L, LaneProjector<L>>,
-    steps: &mut Steps<G>,
-) -> Result<usize, AllocError>
-    requires low { 0 < L }
-    requires high { L ≤ 16 }
-    requires scene { marks.old.scene ≡ unchanging (opened story.scene.now) }
-{
-    match Solver::open(alloc, story.scene, LaneProjector::<L>::new()) {
-        Ok(mut solver) => {
-            let count = all_go_so(story.rows, marks, &mut solver, steps);
-            drop(solver);
-            Ok(count)
-        }
-        Err(error) => Err(error),
-    }
 }
 
 fn at_width<const L: usize, G: Ledger>(
@@ -272,14 +267,10 @@ fn at_width<const L: usize, G: Ledger>(
     requires low { 0 < L }
     requires high { L ≤ 16 }
 {
-    match Marks::open(alloc, story.scene, LaneProjector::<L>::new()) {
-        Ok(mut marks) => {
-            let count = with_solver(alloc, story, &mut marks, steps);
-            drop(marks);
-            count
-        }
-        Err(error) => Err(error),
-    }
+    let mut marked = Marked::<L>::open(alloc, story.scene)?;
+    let count = marked.rows_that_go_so(story.rows, steps);
+    drop(marked);
+    Ok(count)
 }
 
 fn counted<G: Ledger>(
