@@ -633,15 +633,20 @@ fn wrong_families(rt: &HostRuntime, rows: &[Lengths]) -> u32 {
     wrong
 }
 
-// (a test has a minute, so links are two)
+// (a test has a minute, also on a machine that is busy, so links are three)
 #[test]
 fn random_short_links_come_to_the_same_at_each_width(rt: HostRuntime) -> Result<(), WrongRows> {
     all_hold(wrong_families(&rt, &LINKS[..8]))
 }
 
 #[test]
-fn random_longer_links_come_to_the_same_at_each_width(rt: HostRuntime) -> Result<(), WrongRows> {
-    all_hold(wrong_families(&rt, &LINKS[8..]))
+fn random_long_links_come_to_the_same_at_each_width(rt: HostRuntime) -> Result<(), WrongRows> {
+    all_hold(wrong_families(&rt, &LINKS[8..16]))
+}
+
+#[test]
+fn random_links_far_off_and_at_the_edge_come_to_the_same(rt: HostRuntime) -> Result<(), WrongRows> {
+    all_hold(wrong_families(&rt, &LINKS[16..]))
 }
 
 #[test]
