@@ -1,10 +1,10 @@
 -- Rows and columns that are filled one after another.
-use Rattle.std.proofs.Common.{◌≡◌, ◌∙◌, ℕ, ◌+◌, ◌<◌, ◌⊎◌, inl, inr, sym, subst, arith, List, length, get_or, slice_set, ℤ, pos, Bool, ◌&&◌}
+use Rattle.std.proofs.Common.{◌≡◌, ◌∙◌, ℕ, ◌+◌, ◌<◌, ◌⊎◌, inl, inr, refl, sym, subst, arith, List, length, get_or, slice_set, ℤ, pos, Bool, true, ◌&&◌}
 use Rattle.std.proofs.Common.{◌==◌, ◌≤◌, ap, unsigned_abs, to_z, of_z, w32}
 use Rattle.std.proofs.lemmas.Int.{to_z-of_z, fits_signed_from_abs}
 use Rattle.std.specs.Prelude.{IsTrue}
 use Rattle.std.proofs.lemmas.List.{length-set, get_or-set_same, get_or-set_other}
-use Rattle.std.proofs.lemmas.Bool.{cases_lt, and_parts, eqb-true}
+use Rattle.std.proofs.lemmas.Bool.{cases_lt, and_from, and_parts, eq-eqb, eqb-true}
 use Rattle.pbd_num.specs.declared.row.Row.{Row}
 use Rattle.pbd_num.specs.Rows.{no_row}
 use Rattle.pbd_near.specs.declared.shares.Taken.{Taken}
@@ -22,6 +22,12 @@ rows_more P rows j row room is before k q = elim (split_below k j q) [
   | inr e ↦ subst (λ (n : ℕ). P n (get_or (slice_set rows j row) n no_row)) (sym e)
       (subst (P j) (sym (get_or-set_same rows j row no_row room)) is)
 ]
+
+-- what holds of the first j rows together with the next holds of the first j
+rows_before : (P : Row → Type 0) (rows : List Row) (j : ℕ) (row : Row)
+    → ((k : ℕ) → k < j + 1 → P (get_or (slice_set rows j row) k no_row)) → (k : ℕ) → k < j → P (get_or rows k no_row)
+rows_before P rows j row after k q =
+    subst P (get_or-set_other rows j k row no_row (λ e. absurd (omega (arith, q, e)))) (after k (omega (arith, q)))
 
 -- ---- ways
 
@@ -82,17 +88,32 @@ no_flag flag size t =
     let fits = fits_signed_from_abs w32 flag (omega (arith, size)) in
     sym (to_z-of_z w32 flag fits) ∙ ap (to_z w32) (eqb-true (of_z w32 flag) 0 t)
 
--- the first n rows are found, and `right` is true only where none of them is flagged
+-- a word is 0 where the flag is
+pub zero_flag : (flag : ℤ) → flag ≡ pos 0 → IsTrue (of_z w32 flag == 0)
+zero_flag flag e = eq-eqb (of_z w32 flag) 0 (ap (of_z w32) e)
+
+-- the first n rows are found, and `right` is true exactly where none of them is flagged
 pub record Found (n : ℕ) (ways : Ways) (rest factor : List ℤ) (contact right : Bool) (moves : List Row) : Type 0 where
   pub each : (k : ℕ) → k < n → IsFound (taken_at ways k) (get_or rest k (pos 0)) (get_or factor k (pos 0)) contact (get_or moves k no_row)
   pub all : IsTrue right → (k : ℕ) → k < n → (get_or moves k no_row).flag ≡ pos 0
+  pub only : ((k : ℕ) → k < n → (get_or moves k no_row).flag ≡ pos 0) → IsTrue right
+
+pub found_none : (ways : Ways) (rest factor : List ℤ) (contact : Bool) (moves : List Row) → Found 0 ways rest factor contact true moves
+found_none ways rest factor contact moves = record {
+  each = λ k q. absurd (omega (arith, q));
+  all = λ t k q. absurd (omega (arith, q));
+  only = λ none. refl;
+}
 
 pub found_more : (n : ℕ) (ways : Ways) (rest factor : List ℤ) (contact all next : Bool) (moves : List Row) (row : Row) → n < length moves
     → IsFound (taken_at ways n) (get_or rest n (pos 0)) (get_or factor n (pos 0)) contact row → (IsTrue next → row.flag ≡ pos 0)
+    → (row.flag ≡ pos 0 → IsTrue next)
     → Found n ways rest factor contact all moves → Found (n + 1) ways rest factor contact (all && next) (slice_set moves n row)
-found_more n ways rest factor contact all next moves row room is unflagged h = record {
+found_more n ways rest factor contact all next moves row room is unflagged next_right h = record {
   each = rows_more (λ k r. IsFound (taken_at ways k) (get_or rest k (pos 0)) (get_or factor k (pos 0)) contact r) moves n row room is
       h.each;
   all = λ t. let both = and_parts all next t in
       rows_more (λ k r. r.flag ≡ pos 0) moves n row room (unflagged both.1) (h.all both.0);
+  only = λ none. and_from all next (h.only (rows_before (λ r. r.flag ≡ pos 0) moves n row none))
+      (next_right (ap (λ (r : Row). r.flag) (sym (get_or-set_same moves n row no_row room)) ∙ none n (omega arith)));
 }

@@ -59,6 +59,7 @@ impl Near {
         ensures each { (j : ℕ) → j < self.now.ways.count → IsFound (taken_at self.now.ways j) (slice_index_or rest.now j (pos 0))
             (slice_index_or factor.now j (pos 0)) contact (slice_index_or moves.new j no_row) }
         ensures all { IsTrue result → (j : ℕ) → j < self.now.ways.count → (slice_index_or moves.new j no_row).flag ≡ pos 0 }
+        ensures only { ((j : ℕ) → j < self.now.ways.count → (slice_index_or moves.new j no_row).flag ≡ pos 0) → IsTrue result }
     {
         let slack = slack_of(contact);
         let mut all = true;
@@ -76,7 +77,7 @@ impl Near {
     /// weight, with half of `factor` as stiffness, and of a free end beside a held one with a quarter of it. Where `contact` is
     /// set, a bond that isn't shorter than its rest length does nothing.
     ///
-    /// A move with a flag other than 0 may be anything, and the answer is true only where there is none: flagged are
+    /// A move with a flag other than 0 may be anything, and the answer is true exactly where there is none: flagged are
     /// bonds from half a metre up (32,768 units), those of length 0, and those with a factor of -1.
     pub fn run(
         &mut self,
@@ -98,6 +99,7 @@ impl Near {
             → IsPulled (vector_of (slice_index_or ways.now j no_row)) (slice_index_or rest.now j (pos 0))
             (slice_index_or factor.now j (pos 0)) contact (vector_of (slice_index_or moves.new j no_row)) }
         ensures all { IsTrue result → (j : ℕ) → j < length ways.now → (slice_index_or moves.new j no_row).flag ≡ pos 0 }
+        ensures only { ((j : ℕ) → j < length ways.now → (slice_index_or moves.new j no_row).flag ≡ pos 0) → IsTrue result }
     {
         self.ways.squares(ways);
         self.guesses.seeds(&self.ways);

@@ -3,10 +3,13 @@ use Rattle.std.proofs.lemmas.Int.{ints, to_z-of_z, fits_signed_from_abs}
 use Rattle.pbd_num.specs.Rows.{vector_of}
 use Rattle.pbd_num.proofs.Sizes.{size_at_most, size_le}
 use Rattle.pbd_near.proofs.Taking.{pulled}
-use Rattle.pbd_near.proofs.Rows.{found_more, no_flag}
+use Rattle.pbd_near.proofs.Rows.{found_more, found_none, no_flag, zero_flag}
 use Rattle.pbd_near.specs.declared.shares.Taken.{Taken}
 use Rattle.pbd_near.specs.Columns.{IsTaken}
 use Rattle.pbd_near.proofs.Near.moves.Goals as goal
+
+pub loop-j-init : goal.loop-j-init
+loop-j-init c = found_none c.args.self.now.ways c.args.rest.now c.args.factor.now c.args.contact c.args.moves.now
 
 pub loop-j-preserved : goal.loop-j-preserved
 loop-j-preserved c =
@@ -31,7 +34,11 @@ loop-j-preserved c =
     c.slack_of-slack.ensures error_is d.error_size none some (asked (c.row-row.ensures.asked f))
     (c.row-row.ensures.value f way (subst (λ (t : Taken). IsTaken way t) (sym c.taken.ensures) taken)))
     (no_flag c.row-row.result.flag c.row-row.ensures.flag)
+    (zero_flag c.row-row.result.flag)
     c.loop-j.invariant
 
 pub returns-clause-each : goal.returns-clause-each
 returns-clause-each c = λ j q. c.loop-j.invariant.each j (omega arith)
+
+pub returns-clause-only : goal.returns-clause-only
+returns-clause-only c = λ none. c.loop-j.invariant.only (λ j q. none j (omega arith))
