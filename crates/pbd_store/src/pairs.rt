@@ -1,5 +1,6 @@
 //! Pairs of particles: what lies between their ends, and how the ends move.
-ghost use Rattle.std.specs.Prelude.{◌≡◌, ℕ, ◌+◌, ◌-◌, ◌*◌, ◌^◌, ◌<◌, ◌≤◌, ◌≤ℤ◌, ◌&&◌, if◌then◌else◌, pos, length, slice_index_or, unsigned_abs, IsTrue, MatchResult};
+ghost use Rattle.std.specs.Prelude.{◌≡◌, ℕ, ◌+◌, ◌-◌, ◌*◌, ◌^◌, ◌<◌, ◌≤◌, ◌≤ℤ◌, ◌&&◌, if◌then◌else◌, pos, length, replicate, slice_index_or, unsigned_abs, IsTrue, MatchResult};
+ghost use Rattle.pbd_num.specs.Rows.{no_row};
 ghost use Rattle.pbd_num.specs.Vectors.{Within, is_within, plus};
 ghost use Rattle.pbd_world.specs.Particles.{particle_at, placed, effective_weight};
 ghost use Rattle.pbd_store.specs.Blocks.{blocks_of};
@@ -35,7 +36,11 @@ pub struct Between {
 
 impl Between {
     /// Nothing but zeros.
-    pub fn new() -> Between {
+    pub fn new() -> Between
+        ensures ways { result.ways ≡ replicate 128 no_row }
+        ensures first_weight { result.first_weight ≡ replicate 128 (pos 0) }
+        ensures second_weight { result.second_weight ≡ replicate 128 (pos 0) }
+    {
         Between {
             ways: [Row::ZERO; CHUNK],
             first_weight: [0; CHUNK],
