@@ -9,7 +9,7 @@ import subprocess
 
 TOP = os.path.dirname(os.path.dirname(os.path.dirname(os.path.realpath(__file__))))
 # the folders of a crate
-OF_CRATES = ("src", "specs", "proofs", "must-fail")
+OF_CRATES = ("src", "specs", "proofs", "must-fail", "more-edits")
 FENCED = re.compile(r"^```.*?^```$", re.M | re.S)
 SPAN = re.compile(r"`([^`\n]+)`")
 LINK = re.compile(r"\[([^\]]*)\]\(([^)\s]+)\)")
