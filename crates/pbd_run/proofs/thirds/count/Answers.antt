@@ -15,4 +15,4 @@ pub overflow_cast-result : goal.overflow_cast-result
 overflow_cast-result c = omega (arith, few c)
 
 pub returns-clause-most : goal.returns-clause-most
-returns-clause-most c = few c
+returns-clause-most c = omega (arith, few c)
