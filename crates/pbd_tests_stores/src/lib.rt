@@ -1,4 +1,4 @@
-//! Tests of stores, and of what a step does to one: bonds, shapes, tracks, tears, and the momentum.
+//! Tests of stores, of tracks and tears in one, and of the momentum.
 #![tactic(auto)]
 
 #[cfg(test)]

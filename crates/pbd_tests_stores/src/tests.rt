@@ -1,10 +1,5 @@
-//! The tests, and what is looked at and told for them.
-mod end_checks;
-mod ends;
-mod ends_rows;
+//! The tests.
 mod ledger;
-mod pair;
-mod shape;
 mod store;
 mod tear;
 mod track;

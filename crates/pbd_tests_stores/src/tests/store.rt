@@ -38,7 +38,7 @@ macro_rules! five {
 
 /// What the last block of five particles holds after a move and a replacement, and the places on x after its
 /// lanes were saved with another number.
-#[derive(Clone, Copy, Debug, Drop, PartialEq)]
+#[derive(Clone, Copy, Debug, PartialEq)]
 struct Seen {
     blocks: u32,
     limit: i64,
@@ -47,13 +47,14 @@ struct Seen {
     x: [i64; 5],
 }
 
-/// The greatest number, and -1 where there is none above it.
-fn greatest(numbers: &[i64]) -> i64 {
-    let mut found = -1;
+/// How many numbers aren't 0, and the greatest of them, or -1 where there is none above it.
+fn count_and_greatest(numbers: &[i64]) -> (i64, i64) {
+    let (mut count, mut greatest) = (0i64, -1);
     for number in numbers {
-        found = found.max(*number);
+        count = count.saturating_add(i64::from(*number != 0));
+        greatest = greatest.max(*number);
     }
-    found
+    (count, greatest)
 }
 
 /// How many lanes are set.
@@ -61,15 +62,6 @@ fn set_lanes(lanes: &[bool]) -> usize {
     let mut count = 0usize;
     for lane in lanes {
         count = count.saturating_add(usize::from(*lane));
-    }
-    count
-}
-
-/// How many numbers aren't 0.
-fn numbers_but_0(numbers: &[i64]) -> i64 {
-    let mut count = 0i64;
-    for number in numbers {
-        count = count.saturating_add(i64::from(*number != 0));
     }
     count
 }
@@ -104,7 +96,7 @@ fn save_last<G: Ledger, const L: usize>(
         return None;
     }
     let mut values = store.load(blocks - 1, steps);
-    let loaded = greatest(&values.at.x.to_array());
+    let (_, loaded) = count_and_greatest(&values.at.x.to_array());
     let filled = set_lanes(&values.filled.to_array());
     values.at.x = Lanes::splat(9);
     let mask = values.filled;
@@ -193,6 +185,15 @@ fn last_index<const L: usize>() -> [u32; L]
     indices
 }
 
+/// A place in each lane.
+fn in_all_lanes<const L: usize>(place: Vec3) -> Lanes3<L> {
+    Lanes3 {
+        x: Lanes::splat(place.x),
+        y: Lanes::splat(place.y),
+        z: Lanes::splat(place.z),
+    }
+}
+
 /// The places on x after the last lane alone was scattered, and before them how many numbers that were
 /// gathered aren't 0, and the greatest of them.
 fn one_lane_in<G: Ledger, const L: usize>(store: &mut Store<L>, steps: &mut Steps<G>) -> [i64; 7]
@@ -203,14 +204,8 @@ fn one_lane_in<G: Ledger, const L: usize>(store: &mut Store<L>, steps: &mut Step
     let mask = last_lane::<L>();
     let indices = last_index::<L>();
     let ends = store.gather(&indices, &mask, steps);
-    let places = ends.at.x.to_array();
-    let (count, greatest) = (numbers_but_0(&places), greatest(&places));
-    let values = Lanes3 {
-        x: Lanes::splat(50),
-        y: Lanes::splat(5),
-        z: Lanes::splat(-5),
-    };
-    store.scatter(&indices, &mask, &values, steps);
+    store.scatter(&indices, &mask, &in_all_lanes(place!(50, 5, -5)), steps);
+    let (count, greatest) = count_and_greatest(&ends.at.x.to_array());
     let [first, second, third, fourth, fifth] = places_on_x(store, steps);
     [count, greatest, first, second, third, fourth, fifth]
 }
@@ -262,13 +257,21 @@ fn particle_at(place: Vec3) -> Particle {
     }
 }
 
-/// A place in each lane.
-fn in_all_lanes<const L: usize>(place: Vec3) -> Lanes3<L> {
-    Lanes3 {
-        x: Lanes::splat(place.x),
-        y: Lanes::splat(place.y),
-        z: Lanes::splat(place.z),
-    }
+/// Saves these places in the first block.
+fn save_first<G: Ledger, const L: usize>(
+    store: &mut Store<L>,
+    places: &Lanes3<L>,
+    steps: &mut Steps<G>,
+)
+    requires low { 0 < L }
+    requires high { L ≤ 16 }
+    requires some { 0 < length store.old.particles }
+    ensures { length store.new.particles ≡ length store.old.particles }
+{
+    let mut block = store.load(0, steps);
+    block.at = *places;
+    let mask = block.filled;
+    store.save(0, &block, &mask, steps);
 }
 
 /// The places of particles that are all at `one`, as they are read: of particle 3, then after it was scattered to the other
@@ -286,10 +289,7 @@ fn far_in<G: Ledger, const L: usize>(
     let values = in_all_lanes::<L>(far.other);
     store.scatter(&last_index::<L>(), &last_lane::<L>(), &values, steps);
     let scattered = store.at(3, steps).at;
-    let mut block = store.load(0, steps);
-    block.at = values;
-    let mask = block.filled;
-    store.save(0, &block, &mask, steps);
+    save_first(store, &values, steps);
     let saved = store.at(0, steps).at;
     store.put(0, far.one, steps);
     let put = store.at(0, steps).at;
@@ -377,12 +377,10 @@ static WALKED: [Both; 5] = [
 ];
 
 #[test]
-fn a_store_keeps_its_particles(rt: HostRuntime) {
+fn a_store_keeps_its_particles(rt: HostRuntime) -> Result<(), WrongRows> {
     let found = widths::<Brand>(rt.alloc(), Blank::new(1));
-    assert!(rt;
-        found == WALKED,
-        "blocks that were loaded and saved, and a lane that was gathered and scattered {WIDTHS}: {found:?}"
-    );
+    let calls = "blocks that were loaded and saved, and a lane that was gathered and scattered";
+    all_hold(wrong_row(&rt, (&calls, WIDTHS), &found, &WALKED))
 }
 
 #[test]

@@ -33,9 +33,7 @@ fn one_way(alloc: Global) -> Result<Track, AllocError>
           ∷ record { step = 3; place = record { x = pos 10; y = negsuc 9; z = pos 0 } } ∷ [];
     }) }
 {
-    let mut keys = List::new(alloc);
-    keys.push(START)?;
-    keys.push(END)?;
+    let keys = List::copied(alloc, &[START, END])?;
     Ok(Track { particle: 0, keys })
 }
 
@@ -45,8 +43,7 @@ fn one_place(alloc: Global) -> Result<Track, AllocError>
       keys = record { step = 2; place = record { x = pos 5; y = pos 0; z = pos 0 } } ∷ [];
     }) }
 {
-    let mut keys = List::new(alloc);
-    keys.push(ALONE)?;
+    let keys = List::copied(alloc, &[ALONE])?;
     Ok(Track { particle: 1, keys })
 }
 
@@ -132,15 +129,19 @@ fn tracks_move_at_every_width(rt: HostRuntime) -> Result<(), WrongRows> {
 }
 
 #[test]
-fn tracks_name_particles(rt: HostRuntime) {
+fn tracks_name_particles(rt: HostRuntime) -> Result<(), WrongRows> {
     let track = one_place(rt.alloc()).expect(&rt, "no memory");
     let place = track_at(&track, 7);
     let tracks = [track];
     let tracked = [is_tracked(&tracks, 1), is_tracked(&tracks, 0)];
     drop(tracks);
-    assert!(rt;
-        (place.x, tracked) == (5, [true, false]),
-        "at {} on x, and whether particles 1 and 0 are tracked: {tracked:?}",
-        place.x
-    );
+    all_hold(wrong_row(
+        &rt,
+        (
+            &"a track",
+            "is at on x, and is of particle 1 and of particle 0",
+        ),
+        &(place.x, tracked),
+        &(5, [true, false]),
+    ))
 }

@@ -1,0 +1,47 @@
+-- What tests ask of the particles, pairs and shapes that they draw, as tests that compute.
+use Rattle.std.specs.Prelude.{ℕ, ◌^◌, ℤ, pos, nat_le, nat_lt, ◌==◌, ◌&&◌, not, Bool, true, List, [], ◌∷◌, length}
+use Rattle.std.specs.List.{list_all}
+use Rattle.pbd_world.specs.declared.parts.Particle.{Particle}
+use Rattle.pbd_world.specs.declared.parts.Plane.{Plane}
+use Rattle.pbd_world.specs.declared.parts.Sphere.{Sphere}
+use Rattle.pbd_world.specs.Valid.{is_limit, are_valid_particles, are_valid_planes, are_valid_spheres}
+use Rattle.pbd_store.specs.declared.pairs.Pairs.{Pairs}
+
+-- no number stands twice
+abbrev pub are_different : List ℕ → Bool
+are_different [] = true
+are_different (x ∷ xs) = list_all (λ y. not (x == y)) xs && are_different xs
+
+-- no number is in both lists
+abbrev pub share_none : List ℕ → List ℕ → Bool
+share_none xs ys = list_all (λ x. list_all (λ y. not (x == y)) ys) xs
+
+-- at most 128 pairs of n particles
+abbrev pub are_pairs : ℕ → Pairs → Bool
+are_pairs n pairs =
+    nat_le (length pairs.first.now) 128
+    && length pairs.second.now == length pairs.first.now
+    && list_all (λ i. nat_lt i n) pairs.first.now
+    && list_all (λ i. nat_lt i n) pairs.second.now
+
+-- no particle is an end twice
+abbrev pub are_apart : Pairs → Bool
+are_apart pairs =
+    are_different pairs.first.now
+    && are_different pairs.second.now
+    && share_none pairs.first.now pairs.second.now
+
+-- particles within a limit, and pairs of them with different ends
+abbrev pub may_part : ℤ → List Particle → Pairs → Bool
+may_part limit particles pairs =
+    is_limit limit
+    && are_valid_particles limit particles
+    && are_pairs (length particles) pairs
+    && are_apart pairs
+
+-- particles within the greatest limit, and planes and spheres that may push them
+abbrev pub may_push : List Particle → List Plane → List Sphere → Bool
+may_push particles planes spheres =
+    are_valid_particles (pos (2 ^ 29)) particles
+    && are_valid_planes planes
+    && are_valid_spheres (pos (2 ^ 29)) spheres
