@@ -1,8 +1,8 @@
--- What calls on pairs ask, of what tests draw.
+-- What calls ask, of what tests draw.
 use Rattle.std.proofs.Common.{◌≡◌, ℕ, zero, suc, ◌<◌, ◌≤◌, ◌==◌, not, nat_lt, ℤ, List, [], ◌∷◌, length, IsTrue, arith, refl, sym, ap, ◌∙◌}
 use Rattle.std.proofs.Common.{◌^◌, ◌||◌, Bool, true, false, pos, unsigned_abs, w64, of_z, to_z}
 use Rattle.std.specs.Ordering.{int_eq}
-use Rattle.std.proofs.lemmas.Int.{to_z-of_z}
+use Rattle.std.proofs.lemmas.Int.{ints, to_z-of_z}
 use Rattle.std.proofs.lemmas.Bool.Decides.{Decides-int_eq}
 use Rattle.std.specs.List.{list_all}
 use Rattle.std.proofs.lemmas.Bool.{and_parts, leb-true, ltb-true, eqb-true, eq-eqb, false≢true}
@@ -14,10 +14,15 @@ use Rattle.pbd_world.specs.declared.parts.Sphere.{Sphere}
 use Rattle.pbd_world.specs.Valid.{is_limit, are_valid_planes, are_valid_spheres}
 use Rattle.pbd_store.specs.declared.pairs.Pairs.{Pairs}
 use Rattle.pbd_store.specs.Gathering.{index_at}
-use Rattle.pbd_store.specs.Moving.{AreInside}
+use Rattle.pbd_store.specs.Moving.{AreInside, Weigh}
 use Rattle.pbd_store.specs.Pairs.{ArePairs, PairsApart}
 use Rattle.pbd_store.proofs.Limits.{valid_inside}
-use Rattle.pbd_tests_pairs.specs.Drawn.{are_different, share_none, are_pairs, are_apart, may_part, may_push}
+use Rattle.pbd_pair.specs.declared.bonds.Bonds.{Bonds}
+use Rattle.pbd_pair.specs.declared.bonds.Bonds.TheVariants.{Links, Contacts, LaidLinks, LaidContacts}
+use Rattle.pbd_pair.specs.Laid.{Suit}
+use Rattle.pbd_pair.specs.Projecting.{IsBatch}
+use Rattle.pbd_pair.proofs.Examples.{are_inside, weigh, batch_is}
+use Rattle.pbd_tests_pairs.specs.Drawn.{are_different, share_none, are_pairs, are_apart, are_plain, may_part, may_push, may_project}
 
 below : (n : ℕ) (xs : List ℕ) → IsTrue (list_all (λ i. nat_lt i n) xs) → (j : ℕ) → j < length xs → index_at xs j < n
 below n xs h j lt = ltb-true (index_at xs j) n (AllPass-from_list_all (λ i. nat_lt i n) xs h j 0 lt)
@@ -110,4 +115,34 @@ pushed particles planes spheres h =
       inside = valid_inside (pos (2 ^ 29)) particles refl half.0;
       valid_planes = half.1;
       valid_spheres = most.1;
+    }
+
+suits : (bonds : Bonds) (batch : List ℕ) (particles : List Particle) → IsTrue (are_plain bonds) → Suit bonds batch particles
+suits (Links links) batch particles h = tt
+suits (Contacts pairs thickness) batch particles h = tt
+suits (LaidLinks links laid) batch particles h = absurd (false≢true h)
+suits (LaidContacts pairs thickness laid) batch particles h = absurd (false≢true h)
+
+pub record MayProject (particles : List Particle) (bonds : Bonds) (batch : List ℕ) : Type 0 where
+  pub two : 2 ≤ length particles
+  pub few : length particles ≤ 65536
+  pub batched : IsBatch (pos (2 ^ 29)) (length particles) bonds batch
+  pub columns : Suit bonds batch particles
+  pub inside : AreInside (pos (2 ^ 29)) particles
+  pub weights : Weigh particles
+
+pub projected : (particles : List Particle) (bonds : Bonds) (batch : List ℕ) → IsTrue (may_project particles bonds batch)
+    → MayProject particles bonds batch
+projected particles bonds batch h =
+    let most = and_parts _ _ h in
+    let three = and_parts _ _ most.0 in
+    let half = and_parts _ _ three.0 in
+    let sizes = and_parts _ _ half.0 in
+    record {
+      two = leb-true _ _ sizes.0;
+      few = leb-true _ _ sizes.1;
+      batched = batch_is (pos (2 ^ 29)) (length particles) bonds batch three.1;
+      columns = suits bonds batch particles most.1;
+      inside = are_inside (pos (2 ^ 29)) particles (omega (arith, ints)) half.1;
+      weights = weigh (pos (2 ^ 29)) particles (omega (arith, ints)) half.1;
     }

@@ -1,11 +1,14 @@
--- What tests ask of the particles, pairs and shapes that they draw, as tests that compute.
-use Rattle.std.specs.Prelude.{ℕ, ◌^◌, ℤ, pos, nat_le, nat_lt, ◌==◌, ◌&&◌, not, Bool, true, List, [], ◌∷◌, length}
+-- What tests ask of the particles, bonds, pairs and shapes that they draw, as tests that compute.
+use Rattle.std.specs.Prelude.{ℕ, ◌^◌, ℤ, pos, nat_le, nat_lt, ◌==◌, ◌&&◌, not, Bool, true, false, List, [], ◌∷◌, length}
 use Rattle.std.specs.List.{list_all}
 use Rattle.pbd_world.specs.declared.parts.Particle.{Particle}
 use Rattle.pbd_world.specs.declared.parts.Plane.{Plane}
 use Rattle.pbd_world.specs.declared.parts.Sphere.{Sphere}
 use Rattle.pbd_world.specs.Valid.{is_limit, are_valid_particles, are_valid_planes, are_valid_spheres}
 use Rattle.pbd_store.specs.declared.pairs.Pairs.{Pairs}
+use Rattle.pbd_pair.specs.declared.bonds.Bonds.{Bonds}
+use Rattle.pbd_pair.specs.declared.bonds.Bonds.TheVariants.{Links, Contacts, LaidLinks, LaidContacts}
+use Rattle.pbd_pair.specs.Examples.{is_placed, is_batch}
 
 -- no number stands twice
 abbrev pub are_different : List ℕ → Bool
@@ -45,3 +48,19 @@ may_push particles planes spheres =
     are_valid_particles (pos (2 ^ 29)) particles
     && are_valid_planes planes
     && are_valid_spheres (pos (2 ^ 29)) spheres
+
+-- bonds that come without columns
+abbrev pub are_plain : Bonds → Bool
+are_plain (Links links) = true
+are_plain (Contacts pairs thickness) = true
+are_plain (LaidLinks links laid) = false
+are_plain (LaidContacts pairs thickness laid) = false
+
+-- two particles or more within the greatest limit, and a batch of bonds of them
+abbrev pub may_project : List Particle → Bonds → List ℕ → Bool
+may_project particles bonds batch =
+    nat_le 2 (length particles)
+    && nat_le (length particles) 65536
+    && list_all (is_placed (pos (2 ^ 29))) particles
+    && is_batch (pos (2 ^ 29)) (length particles) bonds batch
+    && are_plain bonds

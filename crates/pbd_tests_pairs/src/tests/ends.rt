@@ -7,9 +7,9 @@ ghost use Rattle.pbd_store.specs.Pairs.{ArePairs, PairsApart};
 ghost use Rattle.pbd_tests_pairs.specs.Drawn.{may_part};
 
 use super::end_checks::{are_moves, are_short};
-use super::ends_rows::{CASES, Case, Drawing, Trial};
+use super::ends_rows::{Case, DRAWINGS, Drawing, Trial};
 use pbd_num::{Row, Vec3};
-use pbd_store::{Between, Steps, Store};
+use pbd_store::{Between, Pairs, Steps, Store};
 use pbd_tests_rows::{WIDTHS, WrongRows, all_hold, at_widths, wrong_row};
 use pbd_world::Particle;
 use std::alloc::Global;
@@ -76,18 +76,18 @@ fn is_between(between: &Between, wanted: &[([i32; 3], [i32; 2])]) -> bool
 /// be made with what its case hands it.
 fn answers_so<G: Ledger, const L: usize>(
     store: &mut Store<L>,
+    pairs: Pairs<'_>,
     case: &Case,
     steps: &mut Steps<G>,
 ) -> Option<bool>
     requires low { 0 < L }
     requires high { L ≤ 16 }
-    requires pairs { ArePairs (length case.now.drawing.pairs.first.now) (length store.old.particles) case.now.drawing.pairs }
-    requires apart { PairsApart (length case.now.drawing.pairs.first.now) case.now.drawing.pairs }
+    requires pairs { ArePairs (length pairs.first.now) (length store.old.particles) pairs }
+    requires apart { PairsApart (length pairs.first.now) pairs }
     requires inside { AreInside store.old.limit store.old.particles }
-    ensures cost { IfSome result (λ _. steps.new ≡ steps.old + 2 * blocks_of (length case.now.drawing.pairs.first.now) L) }
+    ensures cost { IfSome result (λ _. steps.new ≡ steps.old + 2 * blocks_of (length pairs.entry.first.now) L) }
     ensures fixed { fixed_parts store.new.particles ≡ fixed_parts store.old.particles }
 {
-    let pairs = case.drawing.pairs;
     let count = pairs.first.len();
     match case.trial {
         Trial::Read(wanted) => {
@@ -133,19 +133,20 @@ fn store_of<const L: usize>(alloc: Global, drawing: &Drawing) -> Option<Store<L>
 /// memory, or the case's call may not be made.
 fn comes_to<const L: usize, G: Ledger>(
     alloc: Global,
+    drawing: &Drawing,
     case: &Case,
     steps: &mut Steps<G>,
 ) -> Option<bool>
     requires low { 0 < L }
     requires high { L ≤ 16 }
-    requires drawn { IsTrue (may_part case.now.drawing.limit case.now.drawing.particles.now case.now.drawing.pairs) }
-    ensures { IfSome result (λ _. steps.new ≡ steps.old + 2 * blocks_of (length case.now.drawing.pairs.first.now) L
-        + length case.now.drawing.particles.now) }
+    requires drawn { IsTrue (may_part drawing.now.limit drawing.now.particles.now drawing.now.pairs) }
+    ensures { IfSome result (λ _. steps.new ≡ steps.old + 2 * blocks_of (length drawing.now.pairs.first.now) L
+        + length drawing.now.particles.now) }
 {
-    match store_of::<L>(alloc, &case.drawing) {
+    match store_of::<L>(alloc, drawing) {
         Some(mut store) => {
-            let answered = answers_so(&mut store, case, steps);
-            let moved = have_moved(&store, case.drawing.particles, case.moved, steps);
+            let answered = answers_so(&mut store, drawing.pairs, case, steps);
+            let moved = have_moved(&store, drawing.particles, case.moved, steps);
             drop(store);
             match answered {
                 Some(as_told) => Some(as_told & moved),
@@ -166,29 +167,46 @@ fn seventeen_pairs_are_reached()
 {}
 
 /// One where a case doesn't come to what it says at each width, which is told then, and else nothing.
-fn wrong_case<G: Ledger>(rt: &impl Eprint, alloc: Global, blank: Blank, case: &Case) -> u32
+fn wrong_case<G: Ledger>(
+    rt: &impl Eprint,
+    alloc: Global,
+    blank: Blank,
+    drawing: &Drawing,
+    case: &Case,
+) -> u32
     requires name { blank.name ≡ G.name }
     requires parts { blank.parts ≡ G.parts }
     requires some { 0 < blank.parts }
-    requires drawn { IsTrue (may_part case.now.drawing.limit case.now.drawing.particles.now case.now.drawing.pairs) }
+    requires drawn { IsTrue (may_part drawing.now.limit drawing.now.particles.now drawing.now.pairs) }
 {
-    let told = at_widths!(blank, comes_to(alloc, case));
+    let told = at_widths!(blank, comes_to(alloc, drawing, case));
     wrong_row(rt, (&case.name, WIDTHS), &told, &[Some(true); 5])
 }
 
-/// How many cases don't come to what they say.
-fn wrong_cases(rt: &impl Eprint, alloc: Global, cases: &[Case]) -> u32
-    requires { IsTrue (list_all (λ (c : Case). may_part c.drawing.limit c.drawing.particles.now c.drawing.pairs) cases.now) }
+/// How many cases of a drawing don't come to what they say.
+fn wrong_cases(rt: &impl Eprint, alloc: Global, drawing: &Drawing) -> u32
+    requires { IsTrue (may_part drawing.now.limit drawing.now.particles.now drawing.now.pairs) }
 {
     let mut wrong = 0u32;
-    for case in cases {
-        let told = wrong_case::<Brand>(rt, alloc, Blank::new(1), case);
+    for case in drawing.cases {
+        let told = wrong_case::<Brand>(rt, alloc, Blank::new(1), drawing, case);
         wrong = wrong.saturating_add(told);
+    }
+    wrong
+}
+
+/// How many cases of all drawings don't.
+fn wrong_drawings(rt: &impl Eprint, alloc: Global, drawings: &[Drawing]) -> u32
+    requires { IsTrue (list_all (λ (d : Drawing). may_part d.limit d.particles.now d.pairs) drawings.now) }
+{
+    let mut wrong = 0u32;
+    for drawing in drawings {
+        wrong = wrong.saturating_add(wrong_cases(rt, alloc, drawing));
     }
     wrong
 }
 
 #[test]
 fn ends_are_read_pulled_and_moved_at_each_width(rt: HostRuntime) -> Result<(), WrongRows> {
-    all_hold(wrong_cases(&rt, rt.alloc(), &CASES))
+    all_hold(wrong_drawings(&rt, rt.alloc(), &DRAWINGS))
 }

@@ -4,14 +4,6 @@ use pbd_store::{EndMoves, Pairs};
 use pbd_tests_rows::place;
 use pbd_world::Particle;
 
-/// Particles with a limit, and pairs of them.
-#[derive(Clone, Copy)]
-pub(crate) struct Drawing {
-    pub(crate) limit: i64,
-    pub(crate) particles: &'static [Particle],
-    pub(crate) pairs: Pairs<'static>,
-}
-
 /// What is done with the ends of pairs.
 #[derive(Clone, Copy)]
 pub(crate) enum Trial {
@@ -27,10 +19,18 @@ pub(crate) enum Trial {
 #[derive(Clone, Copy)]
 pub(crate) struct Case {
     pub(crate) name: &'static str,
-    pub(crate) drawing: Drawing,
     pub(crate) trial: Trial,
     pub(crate) answer: Result<(), usize>,
     pub(crate) moved: &'static [(u32, Vec3)],
+}
+
+/// Particles with a limit, pairs of them, and what is tried on these.
+#[derive(Clone, Copy)]
+pub(crate) struct Drawing {
+    pub(crate) limit: i64,
+    pub(crate) particles: &'static [Particle],
+    pub(crate) pairs: Pairs<'static>,
+    pub(crate) cases: &'static [Case],
 }
 
 macro_rules! particle {
@@ -64,12 +64,11 @@ macro_rules! moves {
     };
 }
 
-// A case by its name, its drawing, what it comes to and its trial; and the particles that are elsewhere then.
+// A case by its name, what it comes to and its trial; and the particles that are elsewhere then.
 macro_rules! case {
-    ($name:literal, $drawing:ident, $answer:expr, $trial:expr; $($i:literal: ($x:expr, $y:expr, $z:expr)),*) => {
+    ($name:literal, $answer:expr, $trial:expr; $($i:literal: ($x:expr, $y:expr, $z:expr)),*) => {
         Case {
             name: $name,
-            drawing: $drawing,
             trial: $trial,
             answer: $answer,
             moved: &[$(($i, place!($x, $y, $z))),*],
@@ -110,6 +109,27 @@ const THREE: Drawing = Drawing {
         first: &[4, 0, 3],
         second: &[1, 6, 2],
     },
+    cases: &[
+        case!(
+            "three pairs, read", Ok(()),
+            Trial::Read(&[([-40, 5, -5], [7, 1]), ([0, -40, 0], [3, 0]), ([7, -8, -4], [0, 65_535])]);
+        ),
+        case!(
+            "three pairs, pulled", Ok(()),
+            pull!((5, 0, 0) (3, 0, 0), (0, -7, 0) (0, 0, 0), (0, 0, 0) (1, 2, -3));
+            0: (10, -13, 30), 1: (103, 0, 0), 2: (-6, 10, 6), 4: (55, 5, -5)
+        ),
+        case!(
+            "the longest ways", Ok(()),
+            pull!((65_536, -65_536, 0) (0, 65_536, -65_536), (0, 0, 0) (0, 0, 0), (0, 0, 0) (0, 0, 0));
+            1: (100, 65_536, -65_536), 4: (-65_476, 65_541, -5)
+        ),
+        case!(
+            "three pairs, moved", Ok(()),
+            each!((-5, 0, 0) (3, 0, 0), (0, 7, 0) (0, 0, 0), (0, 0, 0) (1, 2, -3));
+            0: (10, -13, 30), 1: (103, 0, 0), 2: (-6, 10, 6), 4: (55, 5, -5)
+        ),
+    ],
 };
 
 const NO_PAIRS: Drawing = Drawing {
@@ -117,6 +137,11 @@ const NO_PAIRS: Drawing = Drawing {
         first: &[],
         second: &[],
     },
+    cases: &[
+        case!("no pairs, read", Ok(()), Trial::Read(&[]);),
+        case!("no pairs, pulled", Ok(()), pull!();),
+        case!("no pairs, moved", Ok(()), each!();),
+    ],
     ..THREE
 };
 
@@ -135,6 +160,56 @@ const NEAR_THE_LIMIT: Drawing = Drawing {
         first: &[0, 2, 4],
         second: &[1, 3, 5],
     },
+    cases: &[
+        case!(
+            "near the limit, read", Ok(()),
+            Trial::Read(&[
+                ([536_870_902, 0, 0], [1, 1]),
+                ([0, -536_870_902, -536_870_910], [1, 1]),
+                ([-7, -7, -536_870_912], [1, 1])
+            ]);
+        ),
+        case!(
+            "to the limit, pulled", Ok(()),
+            pull!((-10, 0, 0) (1, 0, 0), (0, 10, 0) (0, 0, 2), (0, 0, 0) (0, 0, 0));
+            0: (RANGE, 0, 0), 1: (1, 0, 0), 2: (0, -RANGE, 0), 3: (0, 0, RANGE)
+        ),
+        case!(
+            "a first end leaves, pulled", Err(1),
+            pull!((-10, 0, 0) (1, 0, 0), (0, 11, 0) (0, 0, 2), (0, 0, 0) (0, 0, 0));
+            0: (RANGE, 0, 0), 1: (1, 0, 0), 2: (0, -1 - RANGE, 0), 3: (0, 0, RANGE)
+        ),
+        case!(
+            "a second end leaves, pulled", Err(1),
+            pull!((-10, 0, 0) (1, 0, 0), (0, 10, 0) (0, 0, 3), (0, 0, 0) (0, 0, 0));
+            0: (RANGE, 0, 0), 1: (1, 0, 0), 2: (0, -RANGE, 0), 3: (0, 0, 1 + RANGE)
+        ),
+        case!(
+            "the last two leave, pulled", Err(1),
+            pull!((-10, 0, 0) (1, 0, 0), (0, 10, 0) (0, 0, 3), (0, 0, 0) (0, 0, 1));
+            0: (RANGE, 0, 0), 1: (1, 0, 0), 2: (0, -RANGE, 0), 3: (0, 0, 1 + RANGE), 5: (7, 7, 1 + RANGE)
+        ),
+        case!(
+            "to the limit, moved", Ok(()),
+            each!((10, 0, 0) (1, 0, 0), (0, -10, 0) (0, 0, 2), (0, 0, 0) (0, 0, 0));
+            0: (RANGE, 0, 0), 1: (1, 0, 0), 2: (0, -RANGE, 0), 3: (0, 0, RANGE)
+        ),
+        case!(
+            "a first end leaves, moved", Err(1),
+            each!((10, 0, 0) (1, 0, 0), (0, -11, 0) (0, 0, 2), (3, 3, 3) (0, 0, 0));
+            0: (RANGE, 0, 0), 1: (1, 0, 0)
+        ),
+        case!(
+            "a second end leaves, moved", Err(1),
+            each!((10, 0, 0) (1, 0, 0), (0, -10, 0) (0, 0, 3), (0, 0, 0) (0, 0, 1));
+            0: (RANGE, 0, 0), 1: (1, 0, 0)
+        ),
+        case!(
+            "the last pair leaves by the longest moves", Err(2),
+            each!((10, 0, 0) (1, 0, 0), (0, -10, 0) (0, 0, 2), (2_147_483_648, 0, 0) (0, -2_147_483_648, 0));
+            0: (RANGE, 0, 0), 1: (1, 0, 0), 2: (0, -RANGE, 0), 3: (0, 0, RANGE)
+        ),
+    ],
 };
 
 // A pair at a limit that is half of the greatest.
@@ -148,104 +223,37 @@ const SMALLER: Drawing = Drawing {
         first: &[0],
         second: &[1],
     },
+    cases: &[
+        case!(
+            "out of a smaller limit, pulled", Err(0),
+            pull!((-1, 0, 0) (0, 0, 0));
+            0: (268_435_457, 0, 0)
+        ),
+        case!("out of a smaller limit, moved", Err(0), each!((1, 0, 0) (5, 5, 5));),
+    ],
 };
 
 // The same within the greatest limit.
 const WIDER: Drawing = Drawing {
     limit: RANGE,
+    cases: &[
+        case!(
+            "within a wider limit, pulled", Ok(()),
+            pull!((-1, 0, 0) (0, 0, 0));
+            0: (268_435_457, 0, 0)
+        ),
+        case!(
+            "across the range, moved", Ok(()),
+            each!((-805_306_368, 0, 0) (0, 536_870_912, 0));
+            0: (-RANGE, 0, 0), 1: (0, RANGE, 0)
+        ),
+        case!(
+            "within a wider limit, moved", Ok(()),
+            each!((1, 0, 0) (5, 5, 5));
+            0: (268_435_457, 0, 0), 1: (5, 5, 5)
+        ),
+    ],
     ..SMALLER
 };
 
-pub(crate) static CASES: [Case; 21] = [
-    case!(
-        "three pairs, read", THREE, Ok(()),
-        Trial::Read(&[([-40, 5, -5], [7, 1]), ([0, -40, 0], [3, 0]), ([7, -8, -4], [0, 65_535])]);
-    ),
-    case!(
-        "near the limit, read", NEAR_THE_LIMIT, Ok(()),
-        Trial::Read(&[
-            ([536_870_902, 0, 0], [1, 1]),
-            ([0, -536_870_902, -536_870_910], [1, 1]),
-            ([-7, -7, -536_870_912], [1, 1])
-        ]);
-    ),
-    case!("no pairs, read", NO_PAIRS, Ok(()), Trial::Read(&[]);),
-    case!(
-        "three pairs, pulled", THREE, Ok(()),
-        pull!((5, 0, 0) (3, 0, 0), (0, -7, 0) (0, 0, 0), (0, 0, 0) (1, 2, -3));
-        0: (10, -13, 30), 1: (103, 0, 0), 2: (-6, 10, 6), 4: (55, 5, -5)
-    ),
-    case!("no pairs, pulled", NO_PAIRS, Ok(()), pull!();),
-    case!(
-        "the longest ways", THREE, Ok(()),
-        pull!((65_536, -65_536, 0) (0, 65_536, -65_536), (0, 0, 0) (0, 0, 0), (0, 0, 0) (0, 0, 0));
-        1: (100, 65_536, -65_536), 4: (-65_476, 65_541, -5)
-    ),
-    case!(
-        "to the limit, pulled", NEAR_THE_LIMIT, Ok(()),
-        pull!((-10, 0, 0) (1, 0, 0), (0, 10, 0) (0, 0, 2), (0, 0, 0) (0, 0, 0));
-        0: (RANGE, 0, 0), 1: (1, 0, 0), 2: (0, -RANGE, 0), 3: (0, 0, RANGE)
-    ),
-    case!(
-        "a first end leaves, pulled", NEAR_THE_LIMIT, Err(1),
-        pull!((-10, 0, 0) (1, 0, 0), (0, 11, 0) (0, 0, 2), (0, 0, 0) (0, 0, 0));
-        0: (RANGE, 0, 0), 1: (1, 0, 0), 2: (0, -1 - RANGE, 0), 3: (0, 0, RANGE)
-    ),
-    case!(
-        "a second end leaves, pulled", NEAR_THE_LIMIT, Err(1),
-        pull!((-10, 0, 0) (1, 0, 0), (0, 10, 0) (0, 0, 3), (0, 0, 0) (0, 0, 0));
-        0: (RANGE, 0, 0), 1: (1, 0, 0), 2: (0, -RANGE, 0), 3: (0, 0, 1 + RANGE)
-    ),
-    case!(
-        "the last two leave, pulled", NEAR_THE_LIMIT, Err(1),
-        pull!((-10, 0, 0) (1, 0, 0), (0, 10, 0) (0, 0, 3), (0, 0, 0) (0, 0, 1));
-        0: (RANGE, 0, 0), 1: (1, 0, 0), 2: (0, -RANGE, 0), 3: (0, 0, 1 + RANGE), 5: (7, 7, 1 + RANGE)
-    ),
-    case!(
-        "out of a smaller limit, pulled", SMALLER, Err(0),
-        pull!((-1, 0, 0) (0, 0, 0));
-        0: (268_435_457, 0, 0)
-    ),
-    case!(
-        "within a wider limit, pulled", WIDER, Ok(()),
-        pull!((-1, 0, 0) (0, 0, 0));
-        0: (268_435_457, 0, 0)
-    ),
-    case!(
-        "three pairs, moved", THREE, Ok(()),
-        each!((-5, 0, 0) (3, 0, 0), (0, 7, 0) (0, 0, 0), (0, 0, 0) (1, 2, -3));
-        0: (10, -13, 30), 1: (103, 0, 0), 2: (-6, 10, 6), 4: (55, 5, -5)
-    ),
-    case!("no pairs, moved", NO_PAIRS, Ok(()), each!();),
-    case!(
-        "to the limit, moved", NEAR_THE_LIMIT, Ok(()),
-        each!((10, 0, 0) (1, 0, 0), (0, -10, 0) (0, 0, 2), (0, 0, 0) (0, 0, 0));
-        0: (RANGE, 0, 0), 1: (1, 0, 0), 2: (0, -RANGE, 0), 3: (0, 0, RANGE)
-    ),
-    case!(
-        "a first end leaves, moved", NEAR_THE_LIMIT, Err(1),
-        each!((10, 0, 0) (1, 0, 0), (0, -11, 0) (0, 0, 2), (3, 3, 3) (0, 0, 0));
-        0: (RANGE, 0, 0), 1: (1, 0, 0)
-    ),
-    case!(
-        "a second end leaves, moved", NEAR_THE_LIMIT, Err(1),
-        each!((10, 0, 0) (1, 0, 0), (0, -10, 0) (0, 0, 3), (0, 0, 0) (0, 0, 1));
-        0: (RANGE, 0, 0), 1: (1, 0, 0)
-    ),
-    case!(
-        "the last pair leaves by the longest moves", NEAR_THE_LIMIT, Err(2),
-        each!((10, 0, 0) (1, 0, 0), (0, -10, 0) (0, 0, 2), (2_147_483_648, 0, 0) (0, -2_147_483_648, 0));
-        0: (RANGE, 0, 0), 1: (1, 0, 0), 2: (0, -RANGE, 0), 3: (0, 0, RANGE)
-    ),
-    case!(
-        "across the range, moved", WIDER, Ok(()),
-        each!((-805_306_368, 0, 0) (0, 536_870_912, 0));
-        0: (-RANGE, 0, 0), 1: (0, RANGE, 0)
-    ),
-    case!("out of a smaller limit, moved", SMALLER, Err(0), each!((1, 0, 0) (5, 5, 5));),
-    case!(
-        "within a wider limit, moved", WIDER, Ok(()),
-        each!((1, 0, 0) (5, 5, 5));
-        0: (268_435_457, 0, 0), 1: (5, 5, 5)
-    ),
-];
+pub(crate) static DRAWINGS: [Drawing; 5] = [THREE, NO_PAIRS, NEAR_THE_LIMIT, SMALLER, WIDER];

@@ -85,34 +85,42 @@ macro_rules! alone {
 
 const NOTHING: Seen = alone!([0; 3], false, [0; 3]);
 
-/// Pushes the particles of a store out, with flags that are clear. What is left behind where one leaves isn't looked at.
+/// Pushes the particles of a store out, with flags that are clear, unless there is no memory for these. What is left behind where
+/// one leaves isn't looked at.
 fn pushed_by<const L: usize, G: Ledger>(
+    alloc: Global,
     store: &mut Store<L>,
     case: &Case,
-    touched: &mut Touched,
     steps: &mut Steps<G>,
-) -> Seen
+) -> Option<Seen>
     requires low { 0 < L }
     requires high { L ≤ 16 }
     requires planes { IsTrue (are_valid_planes case.now.shapes.planes.now) }
     requires spheres { IsTrue (are_valid_spheres store.old.limit case.now.shapes.spheres.now) }
     requires inside { AreInside store.old.limit store.old.particles }
-    requires flags { length touched.old ≡ length store.old.particles }
 {
     let len = store.len();
+    let mut touched = match Touched::open(alloc, len) {
+        Ok(touched) => touched,
+        Err(_) => return None,
+    };
     let mut totals = Totals::zero();
-    if let Err(left) = case.shapes.push_out(store, touched, &mut totals, steps) {
-        return Seen {
+    let done = case
+        .shapes
+        .push_out(store, &mut touched, &mut totals, steps);
+    let [first, second, third] = first_three(store, &touched, len, steps);
+    drop(touched);
+    Some(match done {
+        Ok(()) => stay!(
+            [axes(first.0.at), axes(second.0.at), axes(third.0.at)],
+            [first.1, second.1, third.1],
+            totals.shape
+        ),
+        Err(left) => Seen {
             left: Some(left.element),
             ..NOTHING
-        };
-    }
-    let [first, second, third] = first_three(store, touched, len, steps);
-    stay!(
-        [axes(first.0.at), axes(second.0.at), axes(third.0.at)],
-        [first.1, second.1, third.1],
-        totals.shape
-    )
+        },
+    })
 }
 
 /// A store of a case's particles. None where there is no memory.
@@ -138,17 +146,14 @@ fn pushed_in<const L: usize, G: Ledger>(
     requires high { L ≤ 16 }
     requires drawn { IsTrue (may_push case.now.particles.now case.now.shapes.planes.now case.now.shapes.spheres.now) }
 {
-    let mut store = store_of::<L>(alloc, case)?;
-    let seen = match Touched::open(alloc, store.len()) {
-        Ok(mut touched) => {
-            let seen = pushed_by(&mut store, case, &mut touched, steps);
-            drop(touched);
-            Some(seen)
+    match store_of::<L>(alloc, case) {
+        Some(mut store) => {
+            let seen = pushed_by(alloc, &mut store, case, steps);
+            drop(store);
+            seen
         }
-        Err(_) => None,
-    };
-    drop(store);
-    seen
+        None => None,
+    }
 }
 
 /// One where a case doesn't come to what it says at each width, which is told then, and else nothing.

@@ -36,14 +36,16 @@ macro_rules! five {
     };
 }
 
-/// What the last block of five particles holds after a move and a replacement, and the places on x after its
-/// lanes were saved with another number.
+/// What the last block of five particles holds after a move and a replacement; and after its lanes were saved with another number,
+/// what a copy then tells, with the copies of both, and its places on x.
 #[derive(Clone, Copy, Debug, PartialEq)]
 struct Seen {
     blocks: u32,
-    limit: i64,
     loaded: i64,
     filled: usize,
+    len: u32,
+    limit: i64,
+    copies: [u64; 2],
     x: [i64; 5],
 }
 
@@ -70,13 +72,11 @@ fn set_lanes(lanes: &[bool]) -> usize {
 fn places_on_x<G: Ledger, const L: usize>(store: &Store<L>, steps: &mut Steps<G>) -> [i64; 5]
     requires { length store.now.particles ≡ 5 }
 {
-    [
-        store.at(0, steps).at.x,
-        store.at(1, steps).at.x,
-        store.at(2, steps).at.x,
-        store.at(3, steps).at.x,
-        store.at(4, steps).at.x,
-    ]
+    let mut places = [0; 5];
+    for i in 0..5 {
+        places[i as usize] = store.at(i, steps).at.x;
+    }
+    places
 }
 
 /// Moves a particle, replaces another, and saves the last block with another number. Says how many blocks there are, the
@@ -88,6 +88,8 @@ fn save_last<G: Ledger, const L: usize>(
     requires low { 0 < L }
     requires high { L ≤ 16 }
     requires five { length store.old.particles ≡ 5 }
+    ensures len { length store.new.particles ≡ 5 }
+    ensures limit { store.new.limit ≡ store.old.limit }
 {
     store.put(1, place!(70, 5, -5), steps);
     store.set(4, particle!(40), steps);
@@ -104,24 +106,7 @@ fn save_last<G: Ledger, const L: usize>(
     Some((blocks, loaded, filled))
 }
 
-/// The limit of a copy, and the places on x there.
-fn copied<G: Ledger, const L: usize>(
-    store: &Store<L>,
-    copy: &mut Store<L>,
-    steps: &mut Steps<G>,
-) -> Option<(i64, [i64; 5])>
-    requires high { L ≤ 16 }
-{
-    if copy.len() != store.len() || copy.limit() != store.limit() {
-        return None;
-    }
-    copy.copy_from(store);
-    if copy.len() != 5 || copy.copies() != 1 || store.copies() != 0 {
-        return None;
-    }
-    Some((copy.limit(), places_on_x(copy, steps)))
-}
-
+/// What is seen of a store, and of a copy that takes it over.
 fn walk_in<G: Ledger, const L: usize>(
     store: &mut Store<L>,
     copy: &mut Store<L>,
@@ -130,21 +115,25 @@ fn walk_in<G: Ledger, const L: usize>(
     requires low { 0 < L }
     requires high { L ≤ 16 }
     requires five { length store.old.particles ≡ 5 }
+    requires alike { length copy.old.particles ≡ 5 }
+    requires limit { copy.old.limit ≡ store.old.limit }
 {
     let (blocks, loaded, filled) = save_last(store, steps)?;
-    let (limit, x) = copied(store, copy, steps)?;
+    copy.copy_from(store);
     Some(Seen {
         blocks,
-        limit,
         loaded,
         filled,
-        x,
+        len: copy.len(),
+        limit: copy.limit(),
+        copies: [copy.copies(), store.copies()],
+        x: places_on_x(copy, steps),
     })
 }
 
 static WALKING: [Particle; 5] = five!(0);
 
-/// The same in two stores of its own.
+/// The same of two stores of their own.
 fn walk<G: Ledger, const L: usize>(
     alloc: Global,
     steps: &mut Steps<G>,
@@ -194,9 +183,10 @@ fn in_all_lanes<const L: usize>(place: Vec3) -> Lanes3<L> {
     }
 }
 
-/// The places on x after the last lane alone was scattered, and before them how many numbers that were
-/// gathered aren't 0, and the greatest of them.
-fn one_lane_in<G: Ledger, const L: usize>(store: &mut Store<L>, steps: &mut Steps<G>) -> [i64; 7]
+/// How many numbers that were gathered aren't 0, the greatest of them, and the places on x after the last lane alone was scattered.
+type OneLane = (i64, i64, [i64; 5]);
+
+fn one_lane_in<G: Ledger, const L: usize>(store: &mut Store<L>, steps: &mut Steps<G>) -> OneLane
     requires low { 0 < L }
     requires high { L ≤ 16 }
     requires five { length store.old.particles ≡ 5 }
@@ -206,8 +196,7 @@ fn one_lane_in<G: Ledger, const L: usize>(store: &mut Store<L>, steps: &mut Step
     let ends = store.gather(&indices, &mask, steps);
     store.scatter(&indices, &mask, &in_all_lanes(place!(50, 5, -5)), steps);
     let (count, greatest) = count_and_greatest(&ends.at.x.to_array());
-    let [first, second, third, fourth, fifth] = places_on_x(store, steps);
-    [count, greatest, first, second, third, fourth, fifth]
+    (count, greatest, places_on_x(store, steps))
 }
 
 static STANDING: [Particle; 5] = five!(10);
@@ -216,7 +205,7 @@ static STANDING: [Particle; 5] = five!(10);
 fn one_lane<G: Ledger, const L: usize>(
     alloc: Global,
     steps: &mut Steps<G>,
-) -> Result<[i64; 7], AllocError>
+) -> Result<OneLane, AllocError>
     requires low { 0 < L }
     requires high { L ≤ 16 }
 {
@@ -265,9 +254,11 @@ fn save_first<G: Ledger, const L: usize>(
 )
     requires low { 0 < L }
     requires high { L ≤ 16 }
-    requires some { 0 < length store.old.particles }
     ensures { length store.new.particles ≡ length store.old.particles }
 {
+    if store.blocks() == 0 {
+        return;
+    }
     let mut block = store.load(0, steps);
     block.at = *places;
     let mask = block.filled;
@@ -332,7 +323,7 @@ fn far_widths<G: Ledger>(
 /// What is seen of particles that move, and of one lane.
 type Both = (
     Result<Option<Seen>, AllocError>,
-    Result<[i64; 7], AllocError>,
+    Result<OneLane, AllocError>,
 );
 
 fn see_both<const L: usize, G: Ledger>(alloc: Global, steps: &mut Steps<G>) -> Both
@@ -357,12 +348,14 @@ macro_rules! walked {
         (
             Ok(Some(Seen {
                 blocks: $blocks,
-                limit: 536870912,
                 loaded: $loaded,
                 filled: $filled,
+                len: 5,
+                limit: 536870912,
+                copies: [1, 0],
                 x: $x,
             })),
-            Ok([1, 13, 10, 11, 12, 50, 14]),
+            Ok((1, 13, [10, 11, 12, 50, 14])),
         )
     };
 }

@@ -64,10 +64,12 @@ fn places_in<const L: usize, G: Ledger>(
     match Store::<L>::open(alloc, &THREE, RANGE) {
         Ok(mut store) => {
             pbd_track::place(tracks, t, &mut store, steps);
-            let first = store.at(0, steps).at;
-            let second = store.at(1, steps).at;
-            let third = store.at(2, steps).at;
+            let mut places = [Vec3::ZERO; 3];
+            for i in 0..3 {
+                places[i as usize] = store.at(i, steps).at;
+            }
             drop(store);
+            let [first, second, third] = places;
             Ok([first.x, first.y, second.x, third.x])
         }
         Err(error) => Err(error),
