@@ -1,4 +1,4 @@
-//! Tests of what reads and writes: sources and sinks, lines, scripts, meshes, scenes, OBJ and logs.
+//! Tests of what reads and writes bytes: sources and sinks, lines, scripts and logs.
 #![tactic(auto)]
 
 #[cfg(test)]

@@ -2,9 +2,4 @@
 mod io;
 mod line;
 mod log;
-mod mesh;
-mod obj;
-mod parts;
-mod scene;
-mod scene_keys;
 mod script;

@@ -1,5 +1,6 @@
 //! Each source and sink through its trait, with calls that fail once in mid-stream.
 use pbd_io::{Failed, MemSink, MemSource, Sink, Source, StdSink, StdSource, SureSink, SureSource};
+use pbd_tests_rows::{WrongRows, all_hold, each_row, wrong_row};
 use std::alloc::{AllocError, Global};
 use std::io::{self, ErrorKind, Read, Write};
 
@@ -51,37 +52,37 @@ impl<T: Write> Write for Halting<T> {
     }
 }
 
-/// A sink with room for 8 bytes that fails its second and its fourth call.
-fn failing_sink(alloc: Global) -> Result<MemSink, AllocError> {
-    let fails = [(2, 1), (4, 9), (2, 5)].to_vec(alloc)?;
-    MemSink::open(alloc, 8, fails)
+/// A sink with so much room that fails these calls, each after so many bytes.
+pub fn failing_sink(
+    alloc: Global,
+    room: usize,
+    fails: &[(u64, usize)],
+) -> Result<MemSink, AllocError> {
+    MemSink::open(alloc, room, fails.to_vec(alloc)?)
 }
 
-/// What is written, the answer, and what the sink holds then.
-static WRITES: [(&[u8], Result<(), Failed>, &[u8]); 8] = [
-    (b"abc", Ok(()), b"abc"),
-    (b"de", Err(Failed), b"abcd"),
-    (b"efghi", Err(Failed), b"abcd"),
-    (b"xy", Err(Failed), b"abcdxy"),
-    (b"", Ok(()), b"abcdxy"),
-    (b"zw", Ok(()), b"abcdxyzw"),
-    (b"q", Err(Failed), b"abcdxyzw"),
-    (b"", Ok(()), b"abcdxyzw"),
+/// The second and the fourth call. Of two entries for one call the first counts.
+static FAILS: [(u64, usize); 3] = [(2, 1), (4, 9), (2, 5)];
+
+/// What is written, and the answer with what the sink holds then.
+static WRITES: [(&[u8], (Result<(), Failed>, &[u8])); 8] = [
+    (b"abc", (Ok(()), b"abc")),
+    (b"de", (Err(Failed), b"abcd")),
+    (b"efghi", (Err(Failed), b"abcd")),
+    (b"xy", (Err(Failed), b"abcdxy")),
+    (b"", (Ok(()), b"abcdxy")),
+    (b"zw", (Ok(()), b"abcdxyzw")),
+    (b"q", (Err(Failed), b"abcdxyzw")),
+    (b"", (Ok(()), b"abcdxyzw")),
 ];
 
 #[test]
-fn a_sink_in_memory_fails_where_it_is_told(rt: HostRuntime) {
-    let mut sink = failing_sink(rt.alloc()).expect(&rt, "no memory");
-    let mut wrong = 0u32;
-    for (piece, answer, holds) in &WRITES {
-        let answered = put(&mut sink, piece);
-        if (answered, sink.written()) != (*answer, *holds) {
-            let _ = eprintln!(rt; "{piece:?}: {answered:?}, and {:?} is held", sink.written());
-            wrong = wrong.saturating_add(1);
-        }
-    }
+fn a_sink_in_memory_fails_where_it_is_told(rt: HostRuntime) -> Result<(), WrongRows> {
+    let mut sink = failing_sink(rt.alloc(), 8, &FAILS).expect(&rt, "no memory");
+    let held =
+        each_row!(rt, &WRITES, "is written", (piece, told) => (put(&mut sink, piece), sink.written()), told);
     drop(sink);
-    assert!(rt; wrong == 0, "{wrong} rows");
+    held
 }
 
 /// A source of seven bytes, at most three a call, that fails its second and its fifth call.
@@ -96,79 +97,70 @@ fn failing_source(alloc: Global) -> Result<MemSource, AllocError> {
     }
 }
 
-/// How much is read at most, the answer, and what the buffer holds then.
-static READS: [(usize, Result<usize, Failed>, &[u8]); 7] = [
-    (4, Ok(3), b"abc."),
-    (4, Err(Failed), b"...."),
-    (2, Ok(2), b"de.."),
-    (0, Ok(0), b"...."),
-    (4, Err(Failed), b"...."),
-    (4, Ok(2), b"fg.."),
-    (4, Ok(0), b"...."),
+/// How much is read at most, and the answer with what the buffer holds then.
+static READS: [(usize, (Result<usize, Failed>, [u8; 4])); 7] = [
+    (4, (Ok(3), *b"abc.")),
+    (4, (Err(Failed), *b"....")),
+    (2, (Ok(2), *b"de..")),
+    (0, (Ok(0), *b"....")),
+    (4, (Err(Failed), *b"....")),
+    (4, (Ok(2), *b"fg..")),
+    (4, (Ok(0), *b"....")),
 ];
 
 #[test]
-fn a_source_in_memory_fails_where_it_is_told(rt: HostRuntime) {
+fn a_source_in_memory_fails_where_it_is_told(rt: HostRuntime) -> Result<(), WrongRows> {
     let mut source = failing_source(rt.alloc()).expect(&rt, "no memory");
-    let mut wrong = 0u32;
-    for (room, answer, given) in &READS {
+    let held = each_row!(rt, &READS, "are read", (room, told) => {
         let mut into = [b'.'; 4];
-        let answered = get(&mut source, &mut into[..(*room).min(4)]);
-        if (answered, into.as_slice()) != (*answer, *given) {
-            let _ = eprintln!(rt; "into {room}: {answered:?}, and {into:?} is there");
-            wrong = wrong.saturating_add(1);
-        }
-    }
+        (get(&mut source, &mut into[..(*room).min(4)]), into)
+    }, told);
     drop(source);
-    assert!(rt; wrong == 0, "{wrong} rows");
+    held
 }
 
 #[test]
-fn the_sure_ones_never_fail(rt: HostRuntime) {
+fn the_sure_ones_never_fail(rt: HostRuntime) -> Result<(), WrongRows> {
     let mut source = SureSource::new(b"abc");
     let mut into = [b'.'; 2];
     let first = get(&mut source, &mut into);
     let second = get(&mut source, &mut into);
     let given = into;
     let third = get(&mut source, &mut into);
-    assert!(rt;
-        ([first, second, third], given) == ([Ok(2), Ok(1), Ok(0)], *b"cb"),
-        "three reads of three bytes: {first:?}, {second:?} and {third:?}, with {given:?} after the second"
-    );
     let mut sink = SureSink::new();
     let written = [put(&mut sink, b"abc"), put(&mut sink, b"de")];
-    assert!(rt;
-        (written, sink.taken()) == ([Ok(()), Ok(())], 5),
-        "two writes of five bytes: {written:?}"
-    );
+    all_hold(wrong_row(
+        &rt,
+        (
+            &"three bytes",
+            "are read three times, and five written twice",
+        ),
+        &([first, second, third], given, written, sink.taken()),
+        &([Ok(2), Ok(1), Ok(0)], *b"cb", [Ok(()), Ok(())], 5),
+    ))
 }
 
 /// What four reads into three bytes answer and give.
-static STD_READS: [(Result<usize, Failed>, &[u8]); 4] = [
-    (Ok(2), b"ab."),
-    (Err(Failed), b"..."),
-    (Ok(1), b"c.."),
-    (Ok(0), b"..."),
+static STD_READS: [(Result<usize, Failed>, [u8; 3]); 4] = [
+    (Ok(2), *b"ab."),
+    (Err(Failed), *b"..."),
+    (Ok(1), *b"c.."),
+    (Ok(0), *b"..."),
 ];
 
 #[test]
-fn a_reader_of_std_goes_on_after_a_fault(rt: HostRuntime) {
+fn a_reader_of_std_goes_on_after_a_fault(rt: HostRuntime) -> Result<(), WrongRows> {
     let text: &[u8] = b"abc";
     let mut source = StdSource::new(Halting {
         inner: text,
         calls: 0,
     });
-    let mut wrong = 0u32;
-    for (answer, given) in &STD_READS {
+    let held = each_row!(rt, &STD_READS, "are read", told => {
         let mut into = [b'.'; 3];
-        let answered = get(&mut source, &mut into);
-        if (answered, into.as_slice()) != (*answer, *given) {
-            let _ = eprintln!(rt; "{answered:?} and {into:?}, not {answer:?} and {given:?}");
-            wrong = wrong.saturating_add(1);
-        }
-    }
+        (get(&mut source, &mut into), into)
+    }, told);
     drop(source);
-    assert!(rt; wrong == 0, "{wrong} rows");
+    held
 }
 
 /// What is written, and the answer.
@@ -181,7 +173,7 @@ static STD_WRITES: [(&[u8], Result<(), Failed>); 5] = [
 ];
 
 #[test]
-fn a_writer_of_std_fails_and_goes_on(rt: HostRuntime) {
+fn a_writer_of_std_fails_and_goes_on(rt: HostRuntime) -> Result<(), WrongRows> {
     let mut held = Vec::new(rt.alloc());
     let mut sink = StdSink::new(Halting {
         inner: &mut held,
@@ -190,16 +182,11 @@ fn a_writer_of_std_fails_and_goes_on(rt: HostRuntime) {
     let mut wrong = 0u32;
     for (piece, answer) in &STD_WRITES {
         let answered = put(&mut sink, piece);
-        if answered != *answer {
-            let _ = eprintln!(rt; "{piece:?}: {answered:?}, not {answer:?}");
-            wrong = wrong.saturating_add(1);
-        }
+        wrong = wrong.saturating_add(wrong_row(&rt, (piece, "is written"), &answered, answer));
     }
     drop(sink);
-    assert!(rt;
-        held.as_slice() == b"abdehijk".as_slice(),
-        "{held:?} was written"
-    );
+    let taken = &b"abdehijk".as_slice();
+    let all = wrong_row(&rt, (&"all", "that is taken"), &held.as_slice(), taken);
     drop(held);
-    assert!(rt; wrong == 0, "{wrong} rows");
+    all_hold(wrong.saturating_add(all))
 }

@@ -1,5 +1,6 @@
 //! Lines of bytes.
 use pbd_line::Line;
+use pbd_tests_rows::{WrongRows, all_hold, wrong_row};
 
 /// Numbers of three kinds, and a line with them.
 static NUMBERS: [(u64, i64, i128, &[u8]); 4] = [
@@ -20,9 +21,10 @@ static NUMBERS: [(u64, i64, i128, &[u8]); 4] = [
 ];
 
 #[test]
-fn a_line_has_numbers_of_three_kinds(rt: HostRuntime) {
+fn a_line_has_numbers_of_three_kinds(rt: HostRuntime) -> Result<(), WrongRows> {
     let mut wrong = 0u32;
-    for (number, signed, wide, bytes) in &NUMBERS {
+    for row in &NUMBERS {
+        let (number, signed, wide, bytes) = row;
         let mut line = Line::new();
         line.push_number(*number);
         line.push(" ");
@@ -30,28 +32,22 @@ fn a_line_has_numbers_of_three_kinds(rt: HostRuntime) {
         line.push_bytes(b" ");
         line.push_wide(*wide);
         line.push("\n");
-        if line.as_slice() != *bytes {
-            let _ = eprintln!(rt; "{number} {signed} {wide}: {:?}", line.as_slice());
-            wrong = wrong.saturating_add(1);
-        }
+        wrong = wrong.saturating_add(wrong_row(&rt, (row, "is its line"), &line.as_slice(), bytes));
     }
-    assert!(rt; wrong == 0, "{wrong} rows");
+    all_hold(wrong)
 }
 
 #[test]
-fn a_full_line_takes_no_more(rt: HostRuntime) {
+fn a_full_line_takes_no_more(rt: HostRuntime) -> Result<(), WrongRows> {
     let mut line = Line::new();
     line.push("ab");
-    assert!(rt; line.room() == 254, "room for {} of 254 bytes", line.room());
+    let room = line.room();
     line.push_bytes(&[b'c'; 254]);
-    assert!(rt;
-        line.room() == 0,
-        "room for {} bytes in a full line",
-        line.room()
-    );
-    assert!(rt;
-        line.as_slice()[..3] == b"abc"[..],
-        "the bytes of a full line: {:?}",
-        line.as_slice()
-    );
+    let told = ([room, line.room()], &line.as_slice()[..3]);
+    all_hold(wrong_row(
+        &rt,
+        (&"two bytes and 254", "leave room, and begin the line"),
+        &told,
+        &([254, 0], b"abc".as_slice()),
+    ))
 }

@@ -6,13 +6,14 @@ ghost use Rattle.pbd_world.specs.Valid.{is_limit};
 ghost use Rattle.pbd_log.specs.Entries.{IsGrammatical, entry_bytes};
 ghost use Rattle.pbd_log.specs.Logs.{header_bytes, end_bytes};
 
-use pbd_io::{Failed, MemSink, Sink};
+use super::io::failing_sink;
+use pbd_io::{Failed, Sink};
 use pbd_log::{Entry, LogView, LogWriter, answer_of, read_log};
 use pbd_num::Vec3;
 use pbd_tests_rows::logs::{LONG, OLD, OLD_BAD_COUNT, SCENE, SMALL};
-use pbd_tests_rows::{WrongRows, each_row, wrong_row};
+use pbd_tests_rows::{WrongRows, all_hold, wrong_row};
 use pbd_world::{Command, FrameSums, Phase, Refusal, Reply};
-use std::alloc::{AllocError, Global};
+use std::alloc::Global;
 use std::io::Eprint;
 
 const OLD_SMALL: [u8; 23] = [
@@ -81,12 +82,6 @@ fn write_log<K: Sink>(
     writer.finish(sink)
 }
 
-/// A sink with so much room, of which a call fails after so many bytes.
-fn failing(alloc: Global, room: usize, call: u64, taken: usize) -> Result<MemSink, AllocError> {
-    let fails = Vec::from_array(alloc, [(call, taken)])?;
-    MemSink::open(alloc, room, fails)
-}
-
 /// Whether a log goes on with just these commands and replies, and with these sums where sums stand.
 fn has_replies(view: &mut LogView<'_>, replies: &[(Command, Reply)], sums: &FrameSums) -> bool {
     for (command, reply) in replies {
@@ -105,25 +100,21 @@ struct Held {
     sums: FrameSums,
 }
 
-/// Whether what is read of bytes is what they hold. What differs is told.
-fn is_held(rt: &impl Eprint, bytes: &[u8], held: &Held) -> bool {
+/// The version and the limit of a log, and whether its scene, and its commands and replies, are as they should be; or where it
+/// is refused.
+type Told = Result<((u8, i64), [bool; 2]), u64>;
+
+/// What is told of bytes beside what they hold.
+fn told_of(bytes: &[u8], held: &Held) -> Told {
     match read_log(bytes) {
         Ok(mut view) => {
             let head = (view.version(), view.limit());
-            let same = view.scene() == held.scene;
-            let all = has_replies(&mut view, held.replies, &held.sums);
-            if (head, same, all) == (held.head, true, true) {
-                return true;
-            }
-            let _ = eprintln!(rt;
-                "version and limit {head:?}, the scene {same}, the commands and replies {all} of {bytes:?}"
-            );
+            let is_scene = view.scene() == held.scene;
+            let are_replies = has_replies(&mut view, held.replies, &held.sums);
+            Ok((head, [is_scene, are_replies]))
         }
-        Err(fault) => {
-            let _ = eprintln!(rt; "refused at {}: {bytes:?}", fault.offset);
-        }
+        Err(fault) => Err(fault.offset),
     }
-    false
 }
 
 macro_rules! held {
@@ -177,14 +168,14 @@ static EXAMPLES: [(&[u8], Held); 6] = [
 ];
 
 #[test]
-fn the_examples_are_read(rt: HostRuntime) {
+fn the_examples_are_read(rt: HostRuntime) -> Result<(), WrongRows> {
     let mut wrong = 0u32;
     for (bytes, held) in &EXAMPLES {
-        if !is_held(&rt, bytes, held) {
-            wrong = wrong.saturating_add(1);
-        }
+        let told = told_of(bytes, held);
+        let wanted = Ok((held.head, [true; 2]));
+        wrong = wrong.saturating_add(wrong_row(&rt, (bytes, "is read"), &told, &wanted));
     }
-    assert!(rt; wrong == 0, "{wrong} rows");
+    all_hold(wrong)
 }
 
 fn offset_of(bytes: &[u8]) -> Option<u64> {
@@ -227,10 +218,21 @@ fn first_wrong_cut(bytes: &[u8], rows: &[(usize, u64)]) -> Option<usize> {
 
 #[test]
 fn each_cut_and_what_is_too_long_are_refused(rt: HostRuntime) -> Result<(), WrongRows> {
-    let cuts =
-        each_row!(rt, &CUTS, "is cut wrongly at", (bytes, rows) => first_wrong_cut(bytes, rows), &None);
-    each_row!(rt, &TOO_LONG, "is refused at", (bytes, offset) => offset_of(bytes), &Some(*offset))?;
-    cuts
+    let mut wrong = 0u32;
+    for (bytes, rows) in &CUTS {
+        let cut = first_wrong_cut(bytes, rows);
+        wrong = wrong.saturating_add(wrong_row(&rt, (bytes, "is cut wrongly at"), &cut, &None));
+    }
+    for (bytes, offset) in &TOO_LONG {
+        let found = offset_of(bytes);
+        wrong = wrong.saturating_add(wrong_row(
+            &rt,
+            (bytes, "is refused at"),
+            &found,
+            &Some(*offset),
+        ));
+    }
+    all_hold(wrong)
 }
 
 /// What becomes of the bytes with this one set.
@@ -279,13 +281,11 @@ static OLD_LEAVES_CHANGED: [Wrong; 2] = [
 ];
 
 #[test]
-fn each_field_is_looked_at(rt: HostRuntime) {
-    let wrong = [
-        wrong_rows(&rt, &SMALL, &SMALL_CHANGED),
-        wrong_rows(&rt, &OLD_SMALL, &OLD_SMALL_CHANGED),
-        wrong_rows(&rt, &OLD_LEAVES, &OLD_LEAVES_CHANGED),
-    ];
-    assert!(rt; wrong == [0; 3], "{wrong:?} rows");
+fn each_field_is_looked_at(rt: HostRuntime) -> Result<(), WrongRows> {
+    let small = wrong_rows(&rt, &SMALL, &SMALL_CHANGED);
+    let old = wrong_rows(&rt, &OLD_SMALL, &OLD_SMALL_CHANGED);
+    let leaves = wrong_rows(&rt, &OLD_LEAVES, &OLD_LEAVES_CHANGED);
+    all_hold(small.saturating_add(old).saturating_add(leaves))
 }
 
 /// A header of version 1 with the greatest length of a scene, logs with bytes after the end, and where they are refused.
@@ -379,15 +379,13 @@ fn write_replies<K: Sink>(sink: &mut K, table: &[(Command, Reply)]) -> Result<()
 }
 
 #[test]
-fn what_was_written_is_read_back(rt: HostRuntime) {
-    let mut sink = MemSink::open(rt.alloc(), 1000, Vec::new(rt.alloc())).expect(&rt, "no memory");
-    assert!(rt;
-        write_replies(&mut sink, &REPLIES).is_ok(),
-        "no room for the replies"
-    );
-    let held = is_held(&rt, sink.written(), &WRITTEN);
+fn what_was_written_is_read_back(rt: HostRuntime) -> Result<(), WrongRows> {
+    let mut sink = failing_sink(rt.alloc(), 1000, &[]).expect(&rt, "no memory");
+    let written = write_replies(&mut sink, &REPLIES);
+    let told = (written, told_of(sink.written(), &WRITTEN));
     drop(sink);
-    assert!(rt; held, "what was written is read otherwise");
+    let wanted = (Ok(()), Ok((WRITTEN.head, [true; 2])));
+    all_hold(wrong_row(&rt, (&REPLIES, "are written and read"), &told, &wanted))
 }
 
 /// A call that fails, how many bytes it takes, and how many the sink holds then. No call has the number 0.
@@ -407,9 +405,10 @@ static LONG_CUTS: [Cut; 9] = [
 
 static SMALL_CUTS: [Cut; 4] = [(0, 0, 31), (1, 0, 0), (2, 0, 20), (3, 0, 22)];
 
-/// A scene, entries, and their log.
+/// A scene, entries, and their log, with what is told of a wrong cut of it.
 #[derive(Clone, Copy)]
 struct Logged<'a> {
+    name: &'a str,
     scene: &'a [u8],
     entries: &'a [Entry],
     log: &'a [u8],
@@ -422,7 +421,7 @@ fn writes(alloc: Global, logged: &Logged<'_>, cut: &Cut) -> bool
     requires room { length logged.now.entries.now < 2 ^ 32 }
 {
     let (call, taken, held) = *cut;
-    match failing(alloc, logged.log.len(), call, taken) {
+    match failing_sink(alloc, logged.log.len(), &[(call, taken)]) {
         Ok(mut sink) => {
             let ended = write_log(&mut sink, 536_870_912, logged.scene, logged.entries).is_ok();
             let same = sink.written().len() == held && logged.log.starts_with(sink.written());
@@ -433,59 +432,59 @@ fn writes(alloc: Global, logged: &Logged<'_>, cut: &Cut) -> bool
     }
 }
 
-// The header, the scene, each entry and the end are one call each.
-#[test]
-fn a_log_stops_at_the_call_that_fails(rt: HostRuntime) {
+/// How many cuts of a log aren't so. Each of them is told.
+fn wrong_cuts(rt: &impl Eprint, alloc: Global, logged: &Logged<'_>, cuts: &[Cut]) -> u32
+    requires scene { length logged.now.scene.now < 2 ^ 32 }
+    requires grammar { All IsGrammatical logged.now.entries.now }
+    requires room { length logged.now.entries.now < 2 ^ 32 }
+{
     let mut wrong = 0u32;
-    for cut in &LONG_CUTS {
-        let entries = [step(), frame()];
-        let logged = Logged {
-            scene: SCENE,
-            entries: &entries,
-            log: &LONG,
-        };
-        if !writes(rt.alloc(), &logged, cut) {
-            let _ = eprintln!(rt; "call, bytes taken and bytes held of the long log: {cut:?}");
-            wrong = wrong.saturating_add(1);
-        }
+    for cut in cuts {
+        let holds = writes(alloc, logged, cut);
+        wrong = wrong.saturating_add(wrong_row(rt, (cut, logged.name), &holds, &true));
     }
-    for cut in &SMALL_CUTS {
-        let entries = [frame()];
-        let logged = Logged {
-            scene: &[],
-            entries: &entries,
-            log: &SMALL,
-        };
-        if !writes(rt.alloc(), &logged, cut) {
-            let _ = eprintln!(rt; "call, bytes taken and bytes held of the small log: {cut:?}");
-            wrong = wrong.saturating_add(1);
-        }
-    }
-    assert!(rt; wrong == 0, "{wrong} rows");
+    wrong
 }
 
-/// Writes a frame again whose first append fails.
-fn append_again<K: Sink>(sink: &mut K) -> Result<(), Failed> {
+// The header, the scene, each entry and the end are one call each.
+#[test]
+fn a_log_stops_at_the_call_that_fails(rt: HostRuntime) -> Result<(), WrongRows> {
+    let entries = [step(), frame()];
+    let long = Logged {
+        name: "cuts the long log",
+        scene: SCENE,
+        entries: &entries,
+        log: &LONG,
+    };
+    let small = Logged {
+        name: "cuts the small log",
+        scene: &[],
+        entries: &entries[1..],
+        log: &SMALL,
+    };
+    let wrong = wrong_cuts(&rt, rt.alloc(), &long, &LONG_CUTS);
+    all_hold(wrong.saturating_add(wrong_cuts(&rt, rt.alloc(), &small, &SMALL_CUTS)))
+}
+
+/// Writes a frame whose first append fails, and again, and ends. Whether each of the three went well.
+fn append_again<K: Sink>(sink: &mut K) -> Result<[bool; 3], Failed> {
     let mut writer = LogWriter::begin(sink, 536_870_912, &[])?;
-    if writer.append(sink, &frame()).is_ok() {
-        return Err(Failed);
-    }
-    writer.append(sink, &frame())?;
-    writer.finish(sink)
+    let first = writer.append(sink, &frame()).is_ok();
+    let again = writer.append(sink, &frame()).is_ok();
+    Ok([first, again, writer.finish(sink).is_ok()])
 }
 
 // After an append that failed the end has the number of the entries that were written.
 #[test]
-fn a_log_goes_on_after_a_failed_append(rt: HostRuntime) {
-    let mut sink = failing(rt.alloc(), 31, 2, 0).expect(&rt, "no memory");
-    assert!(rt;
-        append_again(&mut sink).is_ok(),
-        "the second append fails too"
-    );
-    assert!(rt;
-        sink.written() == SMALL.as_slice(),
-        "{:?} was written",
-        sink.written()
+fn a_log_goes_on_after_a_failed_append(rt: HostRuntime) -> Result<(), WrongRows> {
+    let mut sink = failing_sink(rt.alloc(), 31, &[(2, 0)]).expect(&rt, "no memory");
+    let ended = append_again(&mut sink);
+    let wrong = wrong_row(
+        &rt,
+        (&"a frame", "is appended again"),
+        &(ended, sink.written()),
+        &(Ok([false, true, true]), SMALL.as_slice()),
     );
     drop(sink);
+    all_hold(wrong)
 }

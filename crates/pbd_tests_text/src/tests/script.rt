@@ -4,7 +4,7 @@ use pbd_script::lines::{
     are_digits, count_of, first_line, next_word, number_of, only_count, value_of, without_return,
 };
 use pbd_script::{Script, line_command};
-use pbd_tests_rows::{WrongRows, each_row};
+use pbd_tests_rows::{WrongRows, all_hold, each_row, wrong_row};
 use pbd_world::Command;
 
 const TO: Vec3 = Vec3 {
@@ -94,50 +94,49 @@ static SCRIPTS: [(&[u8], [Option<Command>; 3]); 5] = [
 ];
 
 #[test]
-fn a_script_is_its_lines(rt: HostRuntime) {
-    for (bytes, commands) in &SCRIPTS {
+fn a_script_is_its_lines(rt: HostRuntime) -> Result<(), WrongRows> {
+    each_row!(rt, &SCRIPTS, "has its commands", (bytes, commands) => {
         let mut script = Script::new(*bytes);
-        for command in commands {
-            let found = script.next();
-            assert!(rt;
-                found == *command,
-                "in {bytes:?}: {found:?}, not {command:?}"
-            );
-        }
-    }
+        [script.next(), script.next(), script.next()]
+    }, commands)
 }
 
+type Bytes = &'static [u8];
+
+/// First lines with what is behind them; a line without its return, and first words with what is behind them; whether all are
+/// digits; and the numbers of words and of lines.
+type Taken = (
+    ((Bytes, Option<Bytes>), (Bytes, Option<Bytes>)),
+    (Bytes, Option<(Bytes, Bytes)>, Option<(Bytes, Bytes)>),
+    [bool; 3],
+    (Option<u64>, Option<i64>, Option<u64>, Option<u64>),
+);
+
+static TAKEN: Taken = (
+    ((b"a\r", Some(b"\nb")), (b"a\r", None)),
+    (b"a\r", Some((b"ab", b" c ")), None),
+    [true, true, false],
+    (Some(120), Some(-120), Some(7), None),
+);
+
 #[test]
-fn words_and_numbers_are_taken_from_lines(rt: HostRuntime) {
-    let lines = [first_line(b"a\r\n\nb"), first_line(b"a\r")];
-    assert!(rt;
-        lines == [(&b"a\r"[..], Some(&b"\nb"[..])), (&b"a\r"[..], None)],
-        "first lines: {lines:?}"
+fn words_and_numbers_are_taken_from_lines(rt: HostRuntime) -> Result<(), WrongRows> {
+    let taken = (
+        (first_line(b"a\r\n\nb"), first_line(b"a\r")),
+        (
+            without_return(b"a\r\r"),
+            next_word(b" \tab c "),
+            next_word(b" \t"),
+        ),
+        [are_digits(b""), are_digits(b"0129"), are_digits(b"12/")],
+        (
+            count_of(b"0120"),
+            number_of(b"-0120"),
+            only_count(b" 7 "),
+            only_count(b" 7 8"),
+        ),
     );
-    let words = (
-        without_return(b"a\r\r"),
-        next_word(b" \tab c "),
-        next_word(b" \t"),
-    );
-    assert!(rt;
-        words == (&b"a\r"[..], Some((&b"ab"[..], &b" c "[..])), None),
-        "first words: {words:?}"
-    );
-    let digits = [are_digits(b""), are_digits(b"0129"), are_digits(b"12/")];
-    assert!(rt;
-        digits == [true, true, false],
-        "whether all are digits: {digits:?}"
-    );
-    let numbers = (
-        count_of(b"0120"),
-        number_of(b"-0120"),
-        only_count(b" 7 "),
-        only_count(b" 7 8"),
-    );
-    assert!(rt;
-        numbers == (Some(120), Some(-120), Some(7), None),
-        "numbers of words: {numbers:?}"
-    );
+    all_hold(wrong_row(&rt, (&"what is taken", "from eleven texts"), &taken, &TAKEN))
 }
 
 static VALUES: [(&[u8], u128); 4] = [
@@ -151,13 +150,12 @@ static VALUES: [(&[u8], u128); 4] = [
 ];
 
 #[test]
-fn digits_have_their_value(rt: HostRuntime) {
-    for (word, value) in &VALUES {
-        assert!(rt;
-            word.len() <= 38 && are_digits(word),
-            "{word:?} is no number of up to 38 digits"
-        );
-        let found = value_of(word);
-        assert!(rt; found == *value, "{word:?}: {found}, not {value}");
-    }
+fn digits_have_their_value(rt: HostRuntime) -> Result<(), WrongRows> {
+    each_row!(rt, &VALUES, "is its value", (word, value) => {
+        if word.len() <= 38 && are_digits(word) {
+            Some(value_of(word))
+        } else {
+            None
+        }
+    }, &Some(*value))
 }

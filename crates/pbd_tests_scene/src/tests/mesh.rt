@@ -1,8 +1,8 @@
 //! Cloths and ropes: their links in order, and which fit.
-use super::parts::{compare_parts, empty_parts, link, links};
+use super::parts::{empty_parts, link, links};
 use pbd_mesh::{ClothSpec, RopeSpec, cloth, rope};
 use pbd_num::Vec3;
-use pbd_tests_rows::{WrongRows, each_row, place};
+use pbd_tests_rows::{WrongRows, all_hold, each_row, place, wrong_row};
 use pbd_world::{Kind, Link};
 
 const LIMIT: i64 = 268_435_456;
@@ -40,15 +40,14 @@ static CLOTH_LINKS: &[Link] = links!(
 );
 
 #[test]
-fn cloth_has_the_links_of_its_kinds_in_order(rt: HostRuntime) {
+fn cloth_has_the_links_of_its_kinds_in_order(rt: HostRuntime) -> Result<(), WrongRows> {
     let mut parts = empty_parts(rt.alloc(), LIMIT);
-    assert!(rt; SQUARE.fits(LIMIT), "the square doesn't fit");
-    assert!(rt;
-        cloth(rt.alloc(), &SQUARE, &mut parts) == Ok(()),
-        "no memory"
-    );
-    compare_parts(&rt, &parts, 6, CLOTH_LINKS);
+    let fits = SQUARE.fits(LIMIT);
+    let is_made = fits && cloth(rt.alloc(), &SQUARE, &mut parts).is_ok();
+    let told = (is_made, parts.particles.len(), parts.links.as_slice());
+    let wrong = wrong_row(&rt, (&SQUARE, "is made"), &told, &(true, 6, CLOTH_LINKS));
     drop(parts);
+    all_hold(wrong)
 }
 
 static ROPE_LINKS: &[Link] = links!(
@@ -57,12 +56,14 @@ static ROPE_LINKS: &[Link] = links!(
 );
 
 #[test]
-fn rope_has_its_stretch_and_then_its_bend_links(rt: HostRuntime) {
+fn rope_has_its_stretch_and_then_its_bend_links(rt: HostRuntime) -> Result<(), WrongRows> {
     let mut parts = empty_parts(rt.alloc(), LIMIT);
-    assert!(rt; CORD.fits(LIMIT), "the cord doesn't fit");
-    assert!(rt; rope(rt.alloc(), &CORD, &mut parts) == Ok(()), "no memory");
-    compare_parts(&rt, &parts, 3, ROPE_LINKS);
+    let fits = CORD.fits(LIMIT);
+    let is_made = fits && rope(rt.alloc(), &CORD, &mut parts).is_ok();
+    let told = (is_made, parts.particles.len(), parts.links.as_slice());
+    let wrong = wrong_row(&rt, (&CORD, "is made"), &told, &(true, 3, ROPE_LINKS));
     drop(parts);
+    all_hold(wrong)
 }
 
 /// The square with its origin and the way across along one axis.

@@ -1,18 +1,21 @@
 //! Scenes, each with the first rule that it breaks, and what an accepted one holds.
-use super::parts::{compare_parts, link, push_repeated};
-use super::scene_keys::{KEY_CASES, table_cases};
+use super::parts::link;
+use super::scene_keys::{
+    CLOTH_KEYS, LINK_KEYS, PARTICLE_KEYS, PLANE_KEYS, ROPE_KEYS, SCENE_KEYS, SPHERE_KEYS,
+    TRACK_KEYS,
+};
 use pbd_num::Vec3;
 use pbd_scene::{SceneFault, read_scene};
-use pbd_tests_rows::{WrongRows, all_hold, each_row, place, wrong_row};
+use pbd_tests_rows::{WrongRows, all_hold, place, wrong_row};
 use pbd_world::{Kind, Link, Particle, Parts};
-use std::alloc::{AllocError, Global};
-use std::fmt::Write;
-use std::process::Abort;
+use std::alloc::Global;
+use std::fmt::{Debug, Write};
+use std::io::Eprint;
 
 const LIMIT: i64 = 536_870_912;
 
 /// Scenes, each with the number, table, position and key of the first rule that it breaks. `;` ends a line of a scene.
-static CASES: &str = " => ok
+const RULES: &str = " => ok
 gravity=[0,-10,0]; particle=[{at=[0,1000,0]}] => ok
 = 1 => not toml
 zebra=1; cloth=[{}] => 2 scene 0 -
@@ -91,68 +94,81 @@ particle=[{at=[0,0,0]}]; track=[{particle=0,keys=[[3,5,6,7],[4,1,1,1]]}] => ok
 track=1; sphere=[2] => 4 sphere 0 -
 track=1 => 4 track 0 -";
 
-/// Whether a fault is the one of an answer: its rule, table, position and key.
-fn is_told(fault: SceneFault, answer: &str) -> bool {
-    match fault {
-        SceneFault::NotToml => answer == "not toml",
-        SceneFault::OutOfMemory => false,
-        SceneFault::Refused {
-            rule,
-            table,
-            position,
-            key,
-        } => {
-            let (number, rest) = answer.split_once(' ').unwrap_or(("", ""));
-            let (name, rest) = rest.split_once(' ').unwrap_or(("", ""));
-            let (place, last) = rest.split_once(' ').unwrap_or(("", ""));
-            number.parse::<u8>().ok() == Some(rule.number())
-                && name == table.name()
-                && place.parse::<u32>().ok() == Some(position)
-                && last == key.name()
-        }
-    }
-}
-
-/// Whether this is told of a text.
-fn answers(alloc: Global, text: &str, answer: &str) -> bool {
+/// Adds what is told of a text, where there is memory for it.
+fn push_told(told: &mut String, alloc: Global, text: &str) -> bool {
     match read_scene(alloc, text, LIMIT) {
         Ok(scene) => {
             drop(scene);
-            answer == "ok"
+            told.push_str("ok").is_ok()
         }
-        Err(fault) => is_told(fault, answer),
+        Err(SceneFault::NotToml) => told.push_str("not toml").is_ok(),
+        Err(SceneFault::OutOfMemory) => false,
+        Err(
+            SceneFault::Refused {
+                rule,
+                table,
+                position,
+                key,
+            },
+        ) => {
+            let (rule, table, key) = (rule.number(), table.name(), key.name());
+            write!(told, "{rule} {table} {position} {key}").is_ok()
+        }
     }
 }
 
-/// Whether this is told of a scene whose lines end with `;`.
-fn answers_lines(alloc: Global, scene: &str, answer: &str) -> bool {
+/// One where something else is told of a text, or nothing, which is told then behind the row. Else nothing.
+fn wrong_text<R: Debug>(
+    rt: &impl Eprint,
+    alloc: Global,
+    (row, text): (&R, &str),
+    answer: &str,
+) -> u32 {
+    let mut told = String::new(alloc);
+    let is_told = push_told(&mut told, alloc, text);
+    let wrong = wrong_row(
+        rt,
+        (row, "is told"),
+        &(is_told, told.as_str()),
+        &(true, answer),
+    );
+    drop(told);
+    wrong
+}
+
+/// The same of a case, in which `;` ends a line.
+fn wrong_case(rt: &impl Eprint, alloc: Global, case: &str) -> u32 {
+    let (scene, answer) = case.split_once(" => ").unwrap_or((case, "no answer"));
     match scene.replace(alloc, ";", "\n") {
         Ok(text) => {
-            let same = answers(alloc, text.as_str(), answer);
+            let wrong = wrong_text(rt, alloc, (&case, text.as_str()), answer);
             drop(text);
-            same
+            wrong
         }
-        Err(_) => false,
+        Err(_) => wrong_text(rt, alloc, (&case, scene), "memory for its lines"),
     }
 }
 
-/// Whether a case is answered as it says.
-fn holds(alloc: Global, case: &str) -> bool {
-    let (scene, answer) = case.split_once(" => ").unwrap_or((case, "no answer"));
-    answers_lines(alloc, scene, answer)
-}
+static CASES: [&str; 9] = [
+    RULES,
+    SCENE_KEYS,
+    PARTICLE_KEYS,
+    CLOTH_KEYS,
+    ROPE_KEYS,
+    LINK_KEYS,
+    PLANE_KEYS,
+    SPHERE_KEYS,
+    TRACK_KEYS,
+];
 
 #[test]
 fn the_first_broken_rule_is_told(rt: HostRuntime) -> Result<(), WrongRows> {
-    let made = table_cases(rt.alloc()).expect(&rt, "no memory");
     let mut wrong = 0u32;
-    for cases in [CASES, KEY_CASES, made.as_str()] {
+    for cases in &CASES {
         for case in cases.lines() {
-            let told = holds(rt.alloc(), case);
-            wrong = wrong.saturating_add(wrong_row(&rt, (&case, "is told"), &told, &true));
+            wrong = wrong.saturating_add(wrong_case(&rt, rt.alloc(), case));
         }
     }
-    drop(made);
     all_hold(wrong)
 }
 
@@ -160,50 +176,34 @@ fn the_first_broken_rule_is_told(rt: HostRuntime) -> Result<(), WrongRows> {
 /// so much more.
 type Lines = (u32, u32, &'static str, &'static [(u32, &'static str)]);
 
-fn push_line(text: &mut String, number: u32, lines: &Lines) -> Result<(), AllocError> {
-    text.push_str(lines.2)?;
+fn push_line(text: &mut String, number: u32, lines: &Lines) -> bool {
+    let mut is_whole = text.push_str(lines.2).is_ok();
     for (more, behind) in lines.3 {
-        write!(text, "{}", number.saturating_add(*more))?;
-        text.push_str(behind)?;
+        let number = number.saturating_add(*more);
+        is_whole &= write!(text, "{number}{behind}").is_ok();
     }
-    Ok(())
+    is_whole
 }
 
-fn push_all(text: &mut String, parts: &[Lines]) -> Result<(), AllocError> {
+fn push_all(text: &mut String, parts: &[Lines]) -> bool {
+    let mut is_whole = true;
     for lines in parts {
         for number in lines.0..lines.1 {
-            push_line(text, number, lines)?;
+            is_whole &= push_line(text, number, lines);
         }
     }
-    Ok(())
+    is_whole
 }
 
-/// Whether this is told of a text that was written whole. None where there was no memory for it.
-fn answers_whole(alloc: Global, text: String, is_whole: bool, answer: &str) -> Option<bool> {
-    let told = if is_whole {
-        Some(answers(alloc, text.as_str(), answer))
-    } else {
-        None
-    };
+/// One where something else is told of a scene of a row's texts, which is told then behind the row. Else nothing.
+fn wrong_limit(rt: &impl Eprint, alloc: Global, row: &(&[Lines], &str)) -> u32 {
+    let (parts, answer) = *row;
+    let mut text = String::new(alloc);
+    let is_whole = push_all(&mut text, parts);
+    let answer = if is_whole { answer } else { "memory" };
+    let wrong = wrong_text(rt, alloc, (row, text.as_str()), answer);
     drop(text);
-    told
-}
-
-/// Whether this is told of a scene of these texts.
-fn answers_all(alloc: Global, parts: &[Lines], answer: &str) -> Option<bool> {
-    let mut text = String::new(alloc);
-    let is_whole = push_all(&mut text, parts).is_ok();
-    answers_whole(alloc, text, is_whole, answer)
-}
-
-/// The same of a scene of one list with so many entries.
-fn answers_list(
-    alloc: Global,
-    (begin, entry, count, answer): (&str, &str, u32, &str),
-) -> Option<bool> {
-    let mut text = String::new(alloc);
-    let is_whole = push_repeated(&mut text, begin, entry, count) && text.push_str("]").is_ok();
-    answers_whole(alloc, text, is_whole, answer)
+    wrong
 }
 
 const TWO: Lines = (
@@ -232,17 +232,33 @@ const SPOKES: Lines = (1, 33, "[[link]]\na = ", &[(0, "\nb = 0\n")]);
 
 const END: Lines = (0, 1, "]", &[]);
 
-/// How a list of a scene begins, an entry that comes once too often in it, how often, and what is told.
-static LISTS: [(&str, &str, u32, &str); 8] = [
-    ("particle=[", "{},", 65_537, "6 particle 0 -"),
-    ("cloth=[", "{},", 65, "6 cloth 0 -"),
-    ("rope=[", "{},", 65, "6 rope 0 -"),
-    ("link=[", "{},", 524_289, "6 link 0 -"),
-    ("plane=[", "{},", 257, "6 plane 0 -"),
-    ("sphere=[", "{},", 257, "6 sphere 0 -"),
-    ("track=[", "{},", 4_097, "6 track 0 -"),
-    ("pins=[", "0,", 65_537, "6 scene 0 pins"),
+/// A scene of one list: how it begins, an entry, and how often it comes.
+macro_rules! list {
+    ($begin:literal, $entry:literal, $count:literal) => {
+        &[(0, 1, $begin, &[]), (0, $count, $entry, &[]), END]
+    };
+}
+
+/// Lists with an entry more than their greatest number, and what is told of them.
+static LISTS: [(&[Lines], &str); 8] = [
+    (list!("particle=[", "{},", 65_537), "6 particle 0 -"),
+    (list!("cloth=[", "{},", 65), "6 cloth 0 -"),
+    (list!("rope=[", "{},", 65), "6 rope 0 -"),
+    (list!("link=[", "{},", 524_289), "6 link 0 -"),
+    (list!("plane=[", "{},", 257), "6 plane 0 -"),
+    (list!("sphere=[", "{},", 257), "6 sphere 0 -"),
+    (list!("track=[", "{},", 4_097), "6 track 0 -"),
+    (list!("pins=[", "0,", 65_537), "6 scene 0 pins"),
 ];
+
+#[test]
+fn a_list_past_its_greatest_number_is_refused(rt: HostRuntime) -> Result<(), WrongRows> {
+    let mut wrong = 0u32;
+    for row in &LISTS {
+        wrong = wrong.saturating_add(wrong_limit(&rt, rt.alloc(), row));
+    }
+    all_hold(wrong)
+}
 
 /// Scenes, and what is told of them: keys, links of meshes and entries, and links of one particle up to their greatest numbers
 /// and past them.
@@ -288,10 +304,11 @@ static LIMITS: [(&[Lines], &str); 7] = [
 
 #[test]
 fn what_is_past_the_greatest_numbers_is_refused(rt: HostRuntime) -> Result<(), WrongRows> {
-    let lists =
-        each_row!(rt, &LISTS, "is told", row => answers_list(rt.alloc(), *row), &Some(true));
-    each_row!(rt, &LIMITS, "is told", (parts, answer) => answers_all(rt.alloc(), parts, answer), &Some(true))?;
-    lists
+    let mut wrong = 0u32;
+    for row in &LIMITS {
+        wrong = wrong.saturating_add(wrong_limit(&rt, rt.alloc(), row));
+    }
+    all_hold(wrong)
 }
 
 static ENTRY_LINKS: [Link; 1] = [link!(Kind::Plain, 1, 0, 5, 256, 0)];
@@ -314,25 +331,27 @@ static ENTRIES: [Particle; 4] = [
     particle!(place!(5, 5, 5), place!(5, 5, 5), 1, true),
 ];
 
-/// Compares the links and the particles of the scene below, and its own numbers with what they are where it has gravity alone.
-fn compare_entries(rt: &impl Abort, parts: &Parts) {
-    compare_parts(rt, parts, ENTRIES.len(), &ENTRY_LINKS);
-    assert!(rt;
-        parts.particles.as_slice() == ENTRIES.as_slice(),
-        "particles: {:?}",
-        parts.particles.as_slice()
-    );
-    assert!(rt; parts.gravity.y == -10, "gravity: {:?}", parts.gravity);
-    let numbers = (parts.passes, parts.damping, parts.thickness, parts.friction);
-    assert!(rt;
-        numbers == (1, 0, 0, 0),
-        "passes, damping, thickness and friction: {numbers:?}"
-    );
-    assert!(rt; parts.limit == LIMIT, "a limit of {}", parts.limit);
+/// One where the parts of the scene below hold something else, which is told then. Else nothing. Its own numbers are what they
+/// are where a scene has gravity alone.
+fn wrong_entries(rt: &impl Eprint, parts: &Parts) -> u32 {
+    let shares = [parts.damping, parts.thickness, parts.friction];
+    let numbers = (parts.passes, parts.gravity, shares, parts.limit);
+    let (particles, links) = (parts.particles.as_slice(), parts.links.as_slice());
+    let gravity = place!(0, -10, 0);
+    wrong_row(
+        rt,
+        (&"the scene", "holds"),
+        &(particles, links, numbers),
+        &(
+            ENTRIES.as_slice(),
+            ENTRY_LINKS.as_slice(),
+            (1, gravity, [0; 3], LIMIT),
+        ),
+    )
 }
 
 #[test]
-fn what_a_scene_leaves_out_has_its_default(rt: HostRuntime) {
+fn what_a_scene_leaves_out_has_its_default(rt: HostRuntime) -> Result<(), WrongRows> {
     let text = "
         gravity = [0, -10, 0]
         pins = [2]
@@ -342,9 +361,10 @@ fn what_a_scene_leaves_out_has_its_default(rt: HostRuntime) {
     ";
     match read_scene(rt.alloc(), text, LIMIT) {
         Ok(scene) => {
-            compare_entries(&rt, scene.parts());
+            let wrong = wrong_entries(&rt, scene.parts());
             drop(scene);
+            all_hold(wrong)
         }
-        Err(fault) => assert!(rt; false, "refused: {fault:?}"),
+        Err(fault) => all_hold(wrong_row(&rt, (&text, "is read"), &Some(fault), &None)),
     }
 }

@@ -1,10 +1,9 @@
-//! Parts with nothing in them yet, what parts hold, and links beside a table.
+//! Parts with nothing in them yet, and tables of links.
 ghost use Rattle.std.specs.Prelude.{◌≡◌, [], IsTrue};
 ghost use Rattle.pbd_world.specs.Valid.{is_valid, is_limit};
 
-use pbd_world::{Link, Parts};
+use pbd_world::Parts;
 use std::alloc::Global;
-use std::process::Abort;
 
 /// No particles, links, shapes or tracks.
 #[tactic(auto, unfolding(pbd_world::specs::Valid::is_valid, pbd_world::specs::Valid::is_well_formed))]
@@ -15,20 +14,6 @@ pub fn empty_parts(alloc: Global, limit: i64) -> Parts
     ensures particles { result.particles ≡ [] }
 {
     Parts::empty(alloc, limit)
-}
-
-/// Compares how many particles there are, and the links.
-pub fn compare_parts(rt: &impl Abort, parts: &Parts, particles: usize, links: &[Link]) {
-    assert!(rt;
-        parts.particles.len() == particles,
-        "{} particles of {particles}",
-        parts.particles.len()
-    );
-    assert!(rt;
-        parts.links.as_slice() == links,
-        "links: {:?}",
-        parts.links.as_slice()
-    );
 }
 
 /// A live link: its kind, ends, rest, stiffness and tear.
@@ -55,16 +40,3 @@ macro_rules! links {
 
 pub(crate) use link;
 pub(crate) use links;
-
-/// Adds a text, and so many times another, where there is memory.
-pub fn push_repeated(text: &mut String, first: &str, piece: &str, count: u32) -> bool {
-    if text.push_str(first).is_err() {
-        return false;
-    }
-    for _ in 0..count {
-        if text.push_str(piece).is_err() {
-            return false;
-        }
-    }
-    true
-}
