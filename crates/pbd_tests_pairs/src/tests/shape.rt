@@ -13,7 +13,7 @@ use pbd_tests_rows::{
     WIDTHS, WrongRows, all_hold, at_widths, axes, moved, place, plane, resting, wrong_row,
 };
 use pbd_world::{Particle, Plane, Sphere, Totals};
-use std::alloc::{AllocError, Global};
+use std::alloc::Global;
 use std::io::Eprint;
 use std::marker::Brand;
 use std::sync::ledger::{Blank, Ledger};
@@ -36,6 +36,17 @@ struct Seen {
     touched: [bool; 3],
     shape: [i128; 3],
     left: Option<u32>,
+}
+
+/// Clear flags of so many particles. None where there is no memory.
+fn clear_flags(alloc: Global, len: u32) -> Option<Touched>
+    requires { len ≤ 65536 }
+    ensures { IfSome result (λ touched. length touched ≡ len) }
+{
+    match Touched::open(alloc, len) {
+        Ok(touched) => Some(touched),
+        Err(_) => None,
+    }
 }
 
 /// The first three of `len` particles, with their flags.
@@ -100,10 +111,7 @@ fn pushed_by<const L: usize, G: Ledger>(
     requires inside { AreInside store.old.limit store.old.particles }
 {
     let len = store.len();
-    let mut touched = match Touched::open(alloc, len) {
-        Ok(touched) => touched,
-        Err(_) => return None,
-    };
+    let mut touched = clear_flags(alloc, len)?;
     let mut totals = Totals::zero();
     let done = case
         .shapes
@@ -213,26 +221,26 @@ fn rubbed_by<const L: usize, G: Ledger>(
     )
 }
 
-/// The same in a store of its own.
+/// The same in a store of its own, unless there is no memory.
 fn rubbed_in<const L: usize, G: Ledger>(
     alloc: Global,
     friction: i64,
     steps: &mut Steps<G>,
-) -> Result<Seen, AllocError>
+) -> Option<Seen>
     requires low { 0 < L }
     requires high { L ≤ 16 }
     requires friction { IsTrue (is_between (pos 0) (pos 256) friction) }
 {
-    let mut touched = Touched::open(alloc, 3)?;
+    let mut touched = clear_flags(alloc, 3)?;
     touched.set(0);
     touched.set(1);
     let seen = match Store::<L>::open(alloc, &MOVING, RANGE) {
         Ok(mut store) => {
             let seen = rubbed_by(&mut store, friction, &touched, steps);
             drop(store);
-            Ok(seen)
+            Some(seen)
         }
-        Err(error) => Err(error),
+        Err(_) => None,
     };
     drop(touched);
     seen
@@ -252,7 +260,7 @@ fn wrong_rub<G: Ledger>(
     requires friction { IsTrue (is_between (pos 0) (pos 256) friction) }
 {
     let told = at_widths!(blank, rubbed_in(alloc, friction));
-    wrong_row(rt, (&friction, WIDTHS), &told, &[Ok(*seen); 5])
+    wrong_row(rt, (&friction, WIDTHS), &told, &[Some(*seen); 5])
 }
 
 static PUSHES: [Case; 5] = [
