@@ -1,11 +1,11 @@
 //! Lines of scripts with marks, and what they ask for.
 use pbd_marks::{MarkCommand, MarkScript};
-use pbd_tests_rows::{WrongRows, each_row};
+use pbd_tests_rows::{WrongRows, all_hold, wrong_row};
 use pbd_world::Command;
 
 const BAD: Option<MarkCommand> = Some(MarkCommand::Plain(Command::Bad));
 
-const LINES: [(&[u8], Option<MarkCommand>); 24] = [
+static LINES: [(&[u8], Option<MarkCommand>); 24] = [
     (b"mark 2", Some(MarkCommand::Mark(2))),
     (b"\t mark\t\t0012 \t\r", Some(MarkCommand::Mark(12))),
     (b"mark 8\n", Some(MarkCommand::Mark(8))),
@@ -35,21 +35,39 @@ const LINES: [(&[u8], Option<MarkCommand>); 24] = [
     (b"", None),
 ];
 
-#[test]
-fn a_line_asks_for_a_mark_or_a_command(rt: HostRuntime) -> Result<(), WrongRows> {
-    each_row!(rt, &LINES, "asks for", (line, command) => MarkScript::new(line).next(), command)
+/// How many lines ask for something else than they should.
+fn wrong_lines(rt: &HostRuntime, lines: &[(&[u8], Option<MarkCommand>)]) -> u32 {
+    let mut wrong = 0u32;
+    for (line, command) in lines {
+        let asked = MarkScript::new(*line).next();
+        wrong = wrong.saturating_add(wrong_row(rt, (line, "asks for"), &asked, command));
+    }
+    wrong
 }
 
 #[test]
-fn a_script_is_its_lines(rt: HostRuntime) {
+fn a_line_asks_for_a_mark_or_a_command(rt: HostRuntime) -> Result<(), WrongRows> {
+    all_hold(wrong_lines(&rt, &LINES))
+}
+
+/// What a script of five lines asks for, of which the second and the fourth are no commands, and what it gives behind them.
+static ASKED: [Option<MarkCommand>; 5] = [
+    Some(MarkCommand::Mark(1)),
+    Some(MarkCommand::Plain(Command::Step(2))),
+    Some(MarkCommand::Rewind(1)),
+    None,
+    None,
+];
+
+#[test]
+fn a_script_is_its_lines(rt: HostRuntime) -> Result<(), WrongRows> {
     let mut script = MarkScript::new(b"mark 1\n#\nstep 2\r\n\nrewind 1");
-    assert_eq!(rt; script.next(), Some(MarkCommand::Mark(1)), "line 1");
-    assert_eq!(rt;
+    let told = [
         script.next(),
-        Some(MarkCommand::Plain(Command::Step(2))),
-        "line 3"
-    );
-    assert_eq!(rt; script.next(), Some(MarkCommand::Rewind(1)), "line 5");
-    assert_eq!(rt; script.next(), None, "behind the last line");
-    assert_eq!(rt; script.next(), None, "behind the last line again");
+        script.next(),
+        script.next(),
+        script.next(),
+        script.next(),
+    ];
+    all_hold(wrong_row(&rt, (&"five calls", "give"), &told, &ASKED))
 }

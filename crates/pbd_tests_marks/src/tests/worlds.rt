@@ -7,23 +7,24 @@ use pbd_num::{RANGE, Vec3};
 use pbd_pair::LaneProjector;
 use pbd_step::Solver;
 use pbd_store::Steps;
-use pbd_tests_rows::{WIDTHS, at_widths, held, link, resting};
-use pbd_world::{Command, Kind, Link, List, Particle, Parts, Phase, Refusal, Scene};
+use pbd_tests_rows::{WrongRows, all_hold, at_widths, place, wrong_row};
+use pbd_tests_scenes::{Drawing, EMPTY, free, held, link, scene};
+use pbd_world::{Command, Kind, Link, Particle, PartsFault, Phase, Refusal, Scene};
 use std::alloc::{AllocError, Global};
 use std::marker::{Brand, Model};
 use std::sync::ledger::{Blank, Ledger};
-use std::test::Fail;
 
-/// What a command is answered.
-#[derive(Clone, Copy, Debug, PartialEq, Eq)]
-enum Answer {
-    Done,
-    Refused(Refusal),
-    MarkRefused(MarkRefusal),
-}
+/// What a command is answered: that of a mark is refused by the marks, and each other one by the solver.
+type Answer = Result<Result<(), Refusal>, MarkRefusal>;
 
-/// A command, its answer, and then the step count, the live links and the height of particle 0.
-type Row = (MarkCommand, Answer, u64, u32, i64);
+/// What a command is answered, and then the step count, the live links and the height of particle 0.
+type Seen = (Answer, u64, u32, i64);
+
+/// A command, and what is seen then.
+type Row = (MarkCommand, Seen);
+
+/// A command that doesn't go as its row says, what is seen then, and what the row says.
+type Wrong = (MarkCommand, [Seen; 2]);
 
 macro_rules! does {
     ($command:expr) => {
@@ -31,19 +32,21 @@ macro_rules! does {
     };
 }
 
-const LEAVES: Answer = Answer::Refused(Refusal::LeavesRange {
+const DONE: Answer = Ok(Ok(()));
+
+const LEAVES: Answer = Ok(Err(Refusal::LeavesRange {
     step: 3,
     phase: Phase::Predict,
     element: 0,
-});
+}));
 
-const GONE: Answer = Answer::Refused(Refusal::LinkGone);
+const GONE: Answer = Ok(Err(Refusal::LinkGone));
 
-const NOT_HELD: Answer = Answer::Refused(Refusal::NotHeld);
+const NOT_HELD: Answer = Ok(Err(Refusal::NotHeld));
 
-const EMPTY: Answer = Answer::MarkRefused(MarkRefusal::MarkEmpty);
+const UNMARKED: Answer = Err(MarkRefusal::MarkEmpty);
 
-const BAD: Answer = Answer::MarkRefused(MarkRefusal::BadMark);
+const BAD: Answer = Err(MarkRefusal::BadMark);
 
 const UP: Vec3 = Vec3 {
     x: 0,
@@ -55,34 +58,34 @@ const NOWHERE: Vec3 = Vec3 { x: 0, y: 0, z: 0 };
 
 /// Two free particles fall by 10 a step and a step, and the link between them tears in the first one. The third is held.
 const ROWS: &[Row] = &[
-    (MarkCommand::Rewind(1), EMPTY, 0, 2, 1000),
-    (MarkCommand::Mark(1), Answer::Done, 0, 2, 1000),
-    (does!(Command::Step(2)), Answer::Done, 2, 1, 970),
-    (MarkCommand::Mark(7), Answer::Done, 2, 1, 970),
-    (does!(Command::Cut(1)), Answer::Done, 2, 0, 970),
-    (does!(Command::Pin(0)), Answer::Done, 2, 0, 970),
-    (does!(Command::Gravity(NOWHERE)), Answer::Done, 2, 0, 970),
-    (does!(Command::Step(1)), Answer::Done, 3, 0, 970),
-    (MarkCommand::Rewind(7), Answer::Done, 2, 1, 970),
-    (does!(Command::Step(1)), Answer::Done, 3, 1, 940),
-    (does!(Command::Cut(0)), GONE, 3, 1, 940),
-    (MarkCommand::Rewind(1), Answer::Done, 0, 2, 1000),
-    (does!(Command::Cut(0)), Answer::Done, 0, 1, 1000),
-    (MarkCommand::Rewind(1), Answer::Done, 0, 2, 1000),
-    (does!(Command::Step(1)), Answer::Done, 1, 1, 990),
-    (MarkCommand::Rewind(7), Answer::Done, 2, 1, 970),
-    (does!(Command::Unpin(0)), NOT_HELD, 2, 1, 970),
-    (does!(Command::Gravity(UP)), Answer::Done, 2, 1, 970),
-    (does!(Command::Step(5)), LEAVES, 2, 1, 970),
-    (MarkCommand::Mark(0), Answer::Done, 2, 1, 970),
-    (MarkCommand::Rewind(1), Answer::Done, 0, 2, 1000),
-    (does!(Command::Step(1)), Answer::Done, 1, 1, 990),
-    (MarkCommand::Rewind(0), Answer::Done, 2, 1, 970),
-    (does!(Command::Step(1)), LEAVES, 2, 1, 970),
-    (MarkCommand::Mark(8), BAD, 2, 1, 970),
-    (MarkCommand::Rewind(8), BAD, 2, 1, 970),
-    (MarkCommand::Rewind(6), EMPTY, 2, 1, 970),
-    (MarkCommand::Rewind(1), Answer::Done, 0, 2, 1000),
+    (MarkCommand::Rewind(1), (UNMARKED, 0, 2, 1000)),
+    (MarkCommand::Mark(1), (DONE, 0, 2, 1000)),
+    (does!(Command::Step(2)), (DONE, 2, 1, 970)),
+    (MarkCommand::Mark(7), (DONE, 2, 1, 970)),
+    (does!(Command::Cut(1)), (DONE, 2, 0, 970)),
+    (does!(Command::Pin(0)), (DONE, 2, 0, 970)),
+    (does!(Command::Gravity(NOWHERE)), (DONE, 2, 0, 970)),
+    (does!(Command::Step(1)), (DONE, 3, 0, 970)),
+    (MarkCommand::Rewind(7), (DONE, 2, 1, 970)),
+    (does!(Command::Step(1)), (DONE, 3, 1, 940)),
+    (does!(Command::Cut(0)), (GONE, 3, 1, 940)),
+    (MarkCommand::Rewind(1), (DONE, 0, 2, 1000)),
+    (does!(Command::Cut(0)), (DONE, 0, 1, 1000)),
+    (MarkCommand::Rewind(1), (DONE, 0, 2, 1000)),
+    (does!(Command::Step(1)), (DONE, 1, 1, 990)),
+    (MarkCommand::Rewind(7), (DONE, 2, 1, 970)),
+    (does!(Command::Unpin(0)), (NOT_HELD, 2, 1, 970)),
+    (does!(Command::Gravity(UP)), (DONE, 2, 1, 970)),
+    (does!(Command::Step(5)), (LEAVES, 2, 1, 970)),
+    (MarkCommand::Mark(0), (DONE, 2, 1, 970)),
+    (MarkCommand::Rewind(1), (DONE, 0, 2, 1000)),
+    (does!(Command::Step(1)), (DONE, 1, 1, 990)),
+    (MarkCommand::Rewind(0), (DONE, 2, 1, 970)),
+    (does!(Command::Step(1)), (LEAVES, 2, 1, 970)),
+    (MarkCommand::Mark(8), (BAD, 2, 1, 970)),
+    (MarkCommand::Rewind(8), (BAD, 2, 1, 970)),
+    (MarkCommand::Rewind(6), (UNMARKED, 2, 1, 970)),
+    (MarkCommand::Rewind(1), (DONE, 0, 2, 1000)),
 ];
 
 /// The same with a pass in each step: the link to the third particle pulls the first one, and goes back to as it was marked with
@@ -91,20 +94,20 @@ const ROWS: &[Row] = &[
 macro_rules! pulled {
     ($($change:expr, $live:literal, $high:literal);*) => {
         &[
-            (MarkCommand::Mark(1), Answer::Done, 0, 2, 1000),
-            (does!(Command::Step(1)), Answer::Done, 1, 1, 100),
-            (MarkCommand::Mark(2), Answer::Done, 1, 1, 100),
-            (does!(Command::Step(1)), Answer::Done, 2, 1, -100),
+            (MarkCommand::Mark(1), (DONE, 0, 2, 1000)),
+            (does!(Command::Step(1)), (DONE, 1, 1, 100)),
+            (MarkCommand::Mark(2), (DONE, 1, 1, 100)),
+            (does!(Command::Step(1)), (DONE, 2, 1, -100)),
             $(
-                (MarkCommand::Rewind(2), Answer::Done, 1, 1, 100),
-                (does!(Command::Step(1)), Answer::Done, 2, 1, -100),
-                (does!($change), Answer::Done, 2, $live, -100),
-                (does!(Command::Step(1)), Answer::Done, 3, $live, $high),
+                (MarkCommand::Rewind(2), (DONE, 1, 1, 100)),
+                (does!(Command::Step(1)), (DONE, 2, 1, -100)),
+                (does!($change), (DONE, 2, $live, -100)),
+                (does!(Command::Step(1)), (DONE, 3, $live, $high)),
             )*
-            (MarkCommand::Rewind(2), Answer::Done, 1, 1, 100),
-            (does!(Command::Step(1)), Answer::Done, 2, 1, -100),
-            (MarkCommand::Rewind(1), Answer::Done, 0, 2, 1000),
-            (does!(Command::Step(1)), Answer::Done, 1, 1, 100),
+            (MarkCommand::Rewind(2), (DONE, 1, 1, 100)),
+            (does!(Command::Step(1)), (DONE, 2, 1, -100)),
+            (MarkCommand::Rewind(1), (DONE, 0, 2, 1000)),
+            (does!(Command::Step(1)), (DONE, 1, 1, 100)),
         ]
     };
 }
@@ -112,31 +115,16 @@ macro_rules! pulled {
 const PULLED: &[Row] =
     pulled!(Command::Pin(0), 1, -100; Command::Unpin(2), 1, -210; Command::Cut(1), 0, -310);
 
-fn falling(alloc: Global, passes: u32) -> Result<Parts, AllocError> {
-    let mut particles = List::new(alloc);
-    particles.push(resting!(0, 1000, 0))?;
-    particles.push(resting!(101, 1000, 0))?;
-    particles.push(held!(0, 0, 0))?;
-    let mut links = List::new(alloc);
-    links.push(Link {
-        tear: 100,
-        ..link!(0, 1, 100)
-    })?;
-    links.push(link!(0, 2, 100))?;
-    Ok(Parts {
-        particles,
-        links,
-        planes: List::new(alloc),
-        spheres: List::new(alloc),
-        tracks: List::new(alloc),
-        gravity: Vec3 { x: 0, y: -10, z: 0 },
-        passes,
-        damping: 0,
-        thickness: 0,
-        friction: 0,
-        limit: RANGE,
-    })
-}
+const FALLS: Drawing = Drawing {
+    particles: &[free!(0, 1000), free!(101, 1000), held!(0, 0)],
+    links: &[link!(0, 1, 100, 100), link!(0, 2, 100, 0)],
+    gravity: place!(0, -10, 0),
+    passes: 0,
+    ..EMPTY
+};
+
+/// Scenes, and what is done in them.
+static STORIES: [(Drawing, &[Row]); 2] = [(FALLS, ROWS), (Drawing { passes: 1, ..FALLS }, PULLED)];
 
 fn apply<const L: usize, G: Ledger>(
     solver: &mut Solver<L, LaneProjector<L>>,
@@ -154,20 +142,6 @@ fn apply<const L: usize, G: Ledger>(
         Command::Cut(l) => solver.cut(l),
         Command::Gravity(g) => solver.set_gravity(g),
         _ => Err(Refusal::BadCommand),
-    }
-}
-
-fn refused(outcome: Result<(), Refusal>) -> Answer {
-    match outcome {
-        Ok(()) => Answer::Done,
-        Err(refusal) => Answer::Refused(refusal),
-    }
-}
-
-fn mark_refused(outcome: Result<(), MarkRefusal>) -> Answer {
-    match outcome {
-        Ok(()) => Answer::Done,
-        Err(refusal) => Answer::MarkRefused(refusal),
     }
 }
 
@@ -212,97 +186,92 @@ impl<const L: usize> Marked<L> {
         requires high { L ≤ 16 }
     {
         match command {
-            MarkCommand::Plain(command) => refused(apply(&mut self.solver, command, steps)),
-            MarkCommand::Mark(k) => mark_refused(self.marks.set(k, &self.solver)),
-            MarkCommand::Rewind(k) => mark_refused(self.marks.rewind(k, &mut self.solver)),
+            MarkCommand::Plain(command) => Ok(apply(&mut self.solver, command, steps)),
+            MarkCommand::Mark(k) => self.marks.set(k, &self.solver).and(DONE),
+            MarkCommand::Rewind(k) => self.marks.rewind(k, &mut self.solver).and(DONE),
         }
     }
 
-    /// The height of particle 0.
-    fn height<G: Ledger>(&self, steps: &mut Steps<G>) -> i64
-        requires high { L ≤ 16 }
-    {
-        if self.solver.particles() == 0 {
-            return 0;
-        }
-        self.solver.particle(0, steps).at.y
-    }
-
-    /// Whether a command goes as its row says.
-    fn goes_so<G: Ledger>(&mut self, row: &Row, steps: &mut Steps<G>) -> bool
+    /// What is seen after a command.
+    fn seen_after<G: Ledger>(&mut self, command: MarkCommand, steps: &mut Steps<G>) -> Seen
         requires low { 0 < L }
         requires high { L ≤ 16 }
     {
-        let answered = self.answer_to(row.0, steps);
-        let counts = (self.solver.step_count(), self.solver.live());
-        answered == row.1 && counts == (row.2, row.3) && self.height(steps) == row.4
+        let answer = self.answer_to(command, steps);
+        let height = if self.solver.particles() == 0 {
+            0
+        } else {
+            self.solver.particle(0, steps).at.y
+        };
+        (answer, self.solver.step_count(), self.solver.live(), height)
     }
 
-    /// How many rows go as they say, up to the first that doesn't.
-    fn rows_that_go_so<G: Ledger>(&mut self, rows: &[Row], steps: &mut Steps<G>) -> usize
+    /// The first command that doesn't go as its row says, with what is seen and what its row says.
+    fn first_wrong<G: Ledger>(&mut self, rows: &[Row], steps: &mut Steps<G>) -> Option<Wrong>
         requires low { 0 < L }
         requires high { L ≤ 16 }
     {
-        for i in 0..rows.len() {
-            if !self.goes_so(&rows[i], steps) {
-                return i;
+        for (command, wanted) in rows {
+            let seen = self.seen_after(*command, steps);
+            if seen != *wanted {
+                return Some((*command, [seen, *wanted]));
             }
         }
-        rows.len()
+        None
     }
-}
-
-/// A scene, and what is done in it.
-#[derive(Clone, Copy)]
-struct Story<'a> {
-    scene: &'a Scene,
-    rows: &'a [Row],
 }
 
 fn at_width<const L: usize, G: Ledger>(
     alloc: Global,
-    story: Story<'_>,
+    scene: &Scene,
+    rows: &[Row],
     steps: &mut Steps<G>,
-) -> Result<usize, AllocError>
+) -> Result<Option<Wrong>, AllocError>
     requires low { 0 < L }
     requires high { L ≤ 16 }
 {
-    let mut marked = Marked::<L>::open(alloc, story.scene)?;
-    let count = marked.rows_that_go_so(story.rows, steps);
+    let mut marked = Marked::<L>::open(alloc, scene)?;
+    let wrong = marked.first_wrong(rows, steps);
     drop(marked);
-    Ok(count)
+    Ok(wrong)
 }
 
-fn counted<G: Ledger>(
-    alloc: Global,
-    blank: Blank,
-    story: Story<'_>,
-) -> [Result<usize, AllocError>; 5]
+/// The first wrong command at each width.
+type AtWidths = [Result<Option<Wrong>, AllocError>; 5];
+
+fn counted<G: Ledger>(alloc: Global, blank: Blank, scene: &Scene, rows: &[Row]) -> AtWidths
     requires name { blank.name ≡ G.name }
     requires parts { blank.parts ≡ G.parts }
     requires some { 0 < blank.parts }
 {
-    at_widths!(blank, at_width(alloc, story))
+    at_widths!(blank, at_width(alloc, scene, rows))
 }
 
-fn at_each_width(alloc: Global, story: Story<'_>) -> [Result<usize, AllocError>; 5] {
-    counted::<Brand>(alloc, Blank::new(1), story)
+fn at_each_width(
+    alloc: Global,
+    scene: Result<Scene, PartsFault>,
+    rows: &[Row],
+) -> Result<AtWidths, PartsFault> {
+    let scene = scene?;
+    let wrong = counted::<Brand>(alloc, Blank::new(1), &scene, rows);
+    drop(scene);
+    Ok(wrong)
+}
+
+const GO_WRONG: &str = "passes in each step: the first wrong command at widths 1, 2, 4, 8 and 16";
+
+/// How many stories go otherwise than their rows say.
+fn wrong_stories(rt: &HostRuntime, stories: &[(Drawing, &[Row])]) -> u32 {
+    let mut wrong = 0u32;
+    for (drawing, rows) in stories {
+        let told = at_each_width(rt.alloc(), scene(rt.alloc(), drawing), *rows);
+        let row = (&drawing.passes, GO_WRONG);
+        wrong = wrong.saturating_add(wrong_row(rt, row, &told, &Ok([Ok(None); 5])));
+    }
+    wrong
 }
 
 #[test]
-fn worlds_go_back_to_their_marks(rt: HostRuntime) -> Result<(), Fail> {
-    let tables = [(0, ROWS), (1, PULLED)];
-    for (passes, rows) in tables {
-        let scene = Scene::from_parts(rt.alloc(), falling(rt.alloc(), passes)?)?;
-        let story = Story {
-            scene: &scene,
-            rows,
-        };
-        assert_eq!(rt;
-            at_each_width(rt.alloc(), story),
-            [Ok(rows.len()); 5],
-            "with {passes} passes, how many commands go as their rows say {WIDTHS}"
-        );
-    }
-    Ok(())
+fn worlds_go_back_to_their_marks(rt: HostRuntime) -> Result<(), WrongRows> {
+    all_hold(wrong_stories(&rt, &STORIES))
 }
