@@ -3,6 +3,7 @@ ghost use Rattle.std.specs.Prelude.{◌≤◌, length};
 
 use pbd_cloth::{Cloth, Place};
 use pbd_num::Vec3;
+use pbd_tests_rows::{WrongRows, all_hold, wrong_row};
 use pbd_tests_scenes::{Drawing, TEARS, scene};
 use pbd_world::{Command, Refusal, Reply};
 
@@ -65,20 +66,16 @@ static TOLD: [Seen; 4] = [
     ([1, 1, 1, 7], [9, 9], 0, 2000, 0),
 ];
 
+const SEEN: &str =
+    "are the answers to a step, two cuts and gravity, and then live links, gone ones, their number, a height and the steps";
+
 #[test]
-fn a_cloth_goes_back_to_its_slots(rt: HostRuntime) {
+fn a_cloth_goes_back_to_its_slots(rt: HostRuntime) -> Result<(), WrongRows> {
     let scene = scene(rt.alloc(), &TEARING).expect(&rt, "no scene");
     let opened = Cloth::open(rt.alloc(), &scene, 2);
     drop(scene);
     let mut cloth = opened.expect(&rt, "no cloth");
-    let (replies, told) = played(&mut cloth);
+    let told = played(&mut cloth);
     drop(cloth);
-    assert!(rt;
-        replies == REPLIES,
-        "answers to a step, two cuts and gravity: {replies:?}"
-    );
-    assert!(rt;
-        told == TOLD,
-        "live links, gone ones, their number, a height and the steps: {told:?}"
-    );
+    all_hold(wrong_row(&rt, (&"a cloth", SEEN), &told, &(REPLIES, TOLD)))
 }

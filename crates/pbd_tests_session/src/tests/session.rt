@@ -9,13 +9,14 @@ use pbd_pair::{LaneProjector, Projector, Scalar};
 use pbd_session::{Field, ReplayEnd, RunEnd, Session, run_record, run_replay, run_script};
 use pbd_store::Steps;
 use pbd_tests_rows::logs::{LONG, OLD, OLD_BAD_COUNT, SCENE, SMALL};
-use pbd_tests_rows::{WrongRows, all_hold, at_widths, each_row, place, wrong_row};
+use pbd_tests_rows::{WrongRows, all_hold, at_widths, place, wrong_row};
 use pbd_tests_scenes::{
     AT_THE_EDGE, Drawing, EMPTY, FLIES, LED, NEAR_THE_EDGE, ON_A_SPHERE, PULLS,
     PULLS_AT_A_HELD_ONE, PUSHES, TEARS, in_a_row, particle, scene,
 };
 use pbd_world::{Particle, PartsFault, Scene};
 use std::alloc::{AllocError, Global};
+use std::fmt::Debug;
 use std::marker::Brand;
 use std::sync::ledger::{Blank, Ledger};
 
@@ -86,11 +87,6 @@ struct Case<'a> {
     text: &'a [u8],
 }
 
-/// A sink with these failures.
-fn failing(alloc: Global, fails: &[(u64, usize)]) -> Result<MemSink, AllocError> {
-    MemSink::open(alloc, 1000, fails.to_vec(alloc)?)
-}
-
 /// Whether a job ends in a session and writes as a case says.
 fn holds_in<const L: usize, P: Projector<L> + Drop, G: Ledger>(
     alloc: Global,
@@ -101,7 +97,7 @@ fn holds_in<const L: usize, P: Projector<L> + Drop, G: Ledger>(
     requires low { 0 < L }
     requires high { L ≤ 16 }
 {
-    let mut sink = failing(alloc, case.fails)?;
+    let mut sink = MemSink::open(alloc, 1000, case.fails.to_vec(alloc)?)?;
     let ends = ended(session, case.job, &mut sink, steps);
     let holds = ends == case.ends && sink.written() == case.text;
     drop(sink);
@@ -156,80 +152,67 @@ fn counted<G: Ledger>(alloc: Global, blank: Blank, scene: &Scene, case: &Case<'_
     at_widths!(blank, both_hold(alloc, scene, case))
 }
 
-/// Whether a case holds with both projectors, at each width.
-fn holds(alloc: Global, scene: &Scene, case: &Case<'_>) -> [Told; 5] {
-    counted::<Brand>(alloc, Blank::new(1), scene, case)
-}
-
-/// The same on a drawing.
-fn holds_on(alloc: Global, drawing: &Drawing, case: &Case<'_>) -> Result<[Told; 5], PartsFault> {
-    let scene = scene(alloc, drawing)?;
-    let told = holds(alloc, &scene, case);
-    drop(scene);
-    Ok(told)
-}
+const WITH_BOTH: &str = "with both projectors at widths 1, 2, 4, 8 and 16";
 
 /// What is told of a case that holds.
 const ALL_HOLD: [Told; 5] = [[Ok(true); 2]; 5];
 
+/// One where a case doesn't hold on a scene, which is told then.
+fn wrong_case<R: Debug>(
+    rt: &HostRuntime,
+    name: &R,
+    scene: Result<Scene, PartsFault>,
+    case: &Case<'_>,
+) -> u32 {
+    let told = match scene {
+        Ok(scene) => {
+            let told = counted::<Brand>(rt.alloc(), Blank::new(1), &scene, case);
+            drop(scene);
+            Ok(told)
+        }
+        Err(fault) => Err(fault),
+    };
+    wrong_row(rt, (name, WITH_BOTH), &told, &Ok(ALL_HOLD))
+}
+
 /// A job, its text, and how many bytes of it each call to the sink is handed.
 type Calls<'a> = (Job<'a>, &'a [u8], &'a [usize]);
 
-/// Whether a job stops at a call that fails after some bytes, and leaves so many bytes of its text.
-fn stops(alloc: Global, calls: &Calls<'_>, fail: (u64, usize), len: usize) -> bool {
+/// How often a job doesn't stop at this call, wherever in its piece of so many bytes the call fails, or leaves other bytes than
+/// those up to there.
+fn wrong_call(rt: &HostRuntime, calls: &Calls<'_>, call: u64, piece: (usize, usize)) -> u32 {
     let (job, text, _) = *calls;
-    let (text, _) = text.split_at(len.min(text.len()));
-    let case = Case {
-        job,
-        fails: &[fail],
-        ends: None,
-        text,
-    };
-    text.len() == len && holds_on(alloc, &FALLING, &case) == Ok(ALL_HOLD)
-}
-
-/// Whether a job stops at this call, wherever in its piece of so many bytes the call fails.
-fn stops_in(alloc: Global, calls: &Calls<'_>, call: u64, piece: (usize, usize)) -> bool {
     let (before, len) = piece;
-    for n in 0..=len {
-        if !stops(alloc, calls, (call, n), before.saturating_add(n)) {
-            return false;
-        }
+    let mut wrong = 0u32;
+    // (a call that is to fail after more bytes than it is handed takes them all)
+    for n in 0..len.saturating_add(2) {
+        let end = before.saturating_add(n.min(len));
+        let text = text.get(..end).unwrap_or(b"less than is written");
+        let case = Case {
+            job,
+            fails: &[(call, n)],
+            ends: None,
+            text,
+        };
+        let scene = scene(rt.alloc(), &FALLING);
+        wrong = wrong.saturating_add(wrong_case(rt, &(job, call, n), scene, &case));
     }
-    // A call that is to fail after more bytes than it is handed takes them all.
-    let more = len.saturating_add(1);
-    stops(alloc, calls, (call, more), before.saturating_add(len))
+    wrong
 }
 
-/// Whether a job writes its text by one call for each of the lengths, and stops at each call that fails.
-fn stops_at_each_call(alloc: Global, calls: &Calls<'_>) -> bool {
-    let (_, text, lengths) = *calls;
+/// How often a job that writes its text by one call for each of the lengths doesn't stop at a call that fails.
+fn wrong_calls(rt: &HostRuntime, calls: &Calls<'_>) -> u32 {
+    let (job, text, lengths) = *calls;
+    let mut wrong = 0u32;
     let mut call: u64 = 0;
     let mut before: usize = 0;
     for len in lengths {
         call = call.saturating_add(1);
-        if !stops_in(alloc, calls, call, (before, *len)) {
-            return false;
-        }
+        wrong = wrong.saturating_add(wrong_call(rt, calls, call, (before, *len)));
         before = before.saturating_add(*len);
     }
-    before == text.len()
-}
-
-/// Whether a job on a sink that doesn't fail ends so, and writes this text.
-fn writes(
-    alloc: Global,
-    drawing: &Drawing,
-    job: Job<'_>,
-    (ends, text): (ReplayEnd, &[u8]),
-) -> Result<[Told; 5], PartsFault> {
-    let case = Case {
-        job,
-        fails: &[],
-        ends: Some(ends),
-        text,
-    };
-    holds_on(alloc, drawing, &case)
+    let bytes = (&job, "hands on so many bytes");
+    wrong.saturating_add(wrong_row(rt, bytes, &before, &text.len()))
 }
 
 macro_rules! done {
@@ -251,12 +234,20 @@ const LEAVES: [u8; 52] = [
 /// What is to be done on a drawing, how many commands are refused, and what is written.
 macro_rules! run {
     ($drawing:ident; $job:expr; $refused:expr => $text:expr) => {
-        ($drawing, $job, done!($refused), $text)
+        (
+            $drawing,
+            Case {
+                job: $job,
+                fails: &[],
+                ends: Some(done!($refused)),
+                text: $text,
+            },
+        )
     };
 }
 
-/// Drawings, what is to be done on them, how it ends, and what is written: scripts, records and replays.
-static RUNS: [(Drawing, Job<'static>, ReplayEnd, &[u8]); 20] = [
+/// Drawings, and what is to be done on them: scripts, records and replays.
+static RUNS: [(Drawing, Case<'static>); 20] = [
     run!(EMPTY; Job::Script(b"\n \nframe\n"); 0 => b"frame 0 0 0 0\n"),
     run!(FALLS; Job::Script(SCRIPT); 0 => TEXT),
     run!(AT_THE_EDGE; Job::Script(b"step 1\nframe\n"); 1 =>
@@ -285,28 +276,34 @@ static RUNS: [(Drawing, Job<'static>, ReplayEnd, &[u8]); 20] = [
     run!(AT_THE_EDGE; Job::Replay(&LEAVES); 1 => b"refused 11 LeavesRange step 1 phase predict element 0\n"),
     (
         FALLS,
-        Job::Replay(&LEAVES),
-        ReplayEnd::Mismatch {
-            entry: 1,
-            field: Field::Answer,
-            recorded: 11,
-            found: 0,
+        Case {
+            job: Job::Replay(&LEAVES),
+            fails: &[],
+            ends: Some(ReplayEnd::Mismatch {
+                entry: 1,
+                field: Field::Answer,
+                recorded: 11,
+                found: 0,
+            }),
+            text: b"error 10 Mismatch record 1 field answer recorded 11 found 0\n",
         },
-        b"error 10 Mismatch record 1 field answer recorded 11 found 0\n",
     ),
 ];
 
-const WITH_BOTH: &str = "with both projectors at widths 1, 2, 4, 8 and 16";
+/// How many jobs don't end and write as their rows say.
+fn wrong_jobs(rt: &HostRuntime, rows: &[(Drawing, Case<'_>)]) -> u32 {
+    let mut wrong = 0u32;
+    for (drawing, case) in rows {
+        let scene = scene(rt.alloc(), drawing);
+        let name = (case.job, case.ends, case.text);
+        wrong = wrong.saturating_add(wrong_case(rt, &name, scene, case));
+    }
+    wrong
+}
 
 #[test]
 fn jobs_end_and_write_as_their_rows_say(rt: HostRuntime) -> Result<(), WrongRows> {
-    let mut wrong = 0u32;
-    for (drawing, job, ends, text) in &RUNS {
-        let told = writes(rt.alloc(), drawing, *job, (*ends, text));
-        let row = (job, ends, text);
-        wrong = wrong.saturating_add(wrong_row(&rt, (&row, WITH_BOTH), &told, &Ok(ALL_HOLD)));
-    }
-    all_hold(wrong)
+    all_hold(wrong_jobs(&rt, &RUNS))
 }
 
 static TOO_MANY_TOUCH: Case<'static> = Case {
@@ -317,14 +314,10 @@ static TOO_MANY_TOUCH: Case<'static> = Case {
 };
 
 #[test]
-fn contacts_past_their_greatest_number_are_printed(rt: HostRuntime) {
-    let scene = in_a_row(rt.alloc(), 725).expect(&rt, "no scene");
-    let holds = holds(rt.alloc(), &scene, &TOO_MANY_TOUCH);
-    drop(scene);
-    assert!(rt;
-        holds == ALL_HOLD,
-        "725 particles that touch each other {WITH_BOTH}: {holds:?}"
-    );
+fn contacts_past_their_greatest_number_are_printed(rt: HostRuntime) -> Result<(), WrongRows> {
+    let name = "725 particles that touch each other";
+    let scene = in_a_row(rt.alloc(), 725);
+    all_hold(wrong_case(&rt, &name, scene, &TOO_MANY_TOUCH))
 }
 
 const LEDGER: &[u8] =
@@ -344,100 +337,96 @@ static CALLS: [Calls<'static>; 5] = [
     (Job::Record(SCENE, SCRIPT), &LONG, &[20, 53, 74, 2, 9]),
 ];
 
-#[test]
-fn each_line_and_each_part_of_a_log_is_one_call(rt: HostRuntime) -> Result<(), WrongRows> {
-    each_row!(rt, &CALLS, "by its calls", row => stops_at_each_call(rt.alloc(), row), &true)
+/// How often that is so of some jobs.
+fn wrong_texts(rt: &HostRuntime, texts: &[Calls<'_>]) -> u32 {
+    let mut wrong = 0u32;
+    for calls in texts {
+        wrong = wrong.saturating_add(wrong_calls(rt, calls));
+    }
+    wrong
 }
 
-/// A byte of a log, its wrong value, and what differs then: the record, its field and the name of that, and the numbers that
-/// are recorded and found.
+#[test]
+fn each_line_and_each_part_of_a_log_is_one_call(rt: HostRuntime) -> Result<(), WrongRows> {
+    all_hold(wrong_texts(&rt, &CALLS))
+}
+
+/// A byte of a log, its wrong value, how its replay ends then, and what is printed: the first record that differs, its field,
+/// and the numbers that are recorded and found, behind the reply to a step that is done.
 struct Wrong {
     at: usize,
     byte: u8,
-    record: u64,
-    field: Field,
-    name: &'static str,
-    recorded: i64,
-    found: i64,
+    ends: ReplayEnd,
+    text: &'static [u8],
 }
 
 macro_rules! wrong {
-    ($at:expr, $byte:expr; $record:expr, $field:ident $name:expr; $recorded:expr, $found:expr) => {
+    ($at:expr, $byte:expr; $record:expr, $field:ident, $recorded:expr, $found:expr => $text:expr) => {
         Wrong {
             at: $at,
             byte: $byte,
-            record: $record,
-            field: Field::$field,
-            name: $name,
-            recorded: $recorded,
-            found: $found,
+            ends: ReplayEnd::Mismatch {
+                entry: $record,
+                field: Field::$field,
+                recorded: $recorded,
+                found: $found,
+            },
+            text: $text,
         }
     };
-}
-
-/// What is printed of a log up to its first record that differs, which is the first one or the one behind a step that is done.
-fn told_of(alloc: Global, row: &Wrong) -> Result<String, AllocError> {
-    let before = if row.record == 1 { "" } else { "ok\n" };
-    format!(in alloc;
-        "{before}error 10 Mismatch record {} field {} recorded {} found {}\n",
-        row.record, row.name, row.recorded, row.found
-    )
-}
-
-/// Whether the replay of a log with a wrong byte ends and prints so.
-fn differs(
-    alloc: Global,
-    drawing: &Drawing,
-    log: &[u8],
-    row: &Wrong,
-) -> Result<[Told; 5], PartsFault> {
-    let ends = ReplayEnd::Mismatch {
-        entry: row.record,
-        field: row.field,
-        recorded: i128::from(row.recorded),
-        found: i128::from(row.found),
-    };
-    match (log.to_vec(alloc), told_of(alloc, row)) {
-        (Ok(mut wrong), Ok(text)) => {
-            if row.at < wrong.len() {
-                wrong[row.at] = row.byte;
-            }
-            let told = (ends, text.as_str().as_bytes());
-            let holds = writes(alloc, drawing, Job::Replay(&wrong), told);
-            drop(wrong);
-            drop(text);
-            holds
-        }
-        _ => Err(PartsFault::OutOfMemory),
-    }
 }
 
 static WRONG_ANSWERS: [Wrong; 3] = [
-    wrong!(37, 2; 1, Step "step"; 2, 1),
-    wrong!(38, 3; 1, Phase "phase"; 3, 1),
-    wrong!(42, 6; 1, Element "element"; 6, 0),
+    wrong!(37, 2; 1, Step, 2, 1 => b"error 10 Mismatch record 1 field step recorded 2 found 1\n"),
+    wrong!(38, 3; 1, Phase, 3, 1 => b"error 10 Mismatch record 1 field phase recorded 3 found 1\n"),
+    wrong!(42, 6; 1, Element, 6, 0 => b"error 10 Mismatch record 1 field element recorded 6 found 0\n"),
 ];
 
 static WRONG_SUMS: [Wrong; 10] = [
-    wrong!(90, 4; 1, Steps "steps"; 4, 3),
-    wrong!(94, 1; 1, Live "live"; 1, 0),
-    wrong!(98, 2; 1, Contacts "contacts"; 2, 0),
-    wrong!(106, 5; 1, X "x"; 5, 0),
-    wrong!(114, 173; 1, Y "y"; 941, 940),
-    wrong!(122, 7; 1, Z "z"; 7, 0),
-    wrong!(130, 8; 1, BeforeX "before-x"; 8, 0),
-    wrong!(138, 203; 1, BeforeY "before-y"; 971, 970),
-    wrong!(146, 9; 1, BeforeZ "before-z"; 9, 0),
-    wrong!(148, 2; 2, Answer "answer"; 2, 0),
+    wrong!(90, 4; 1, Steps, 4, 3 => b"error 10 Mismatch record 1 field steps recorded 4 found 3\n"),
+    wrong!(94, 1; 1, Live, 1, 0 => b"error 10 Mismatch record 1 field live recorded 1 found 0\n"),
+    wrong!(98, 2; 1, Contacts, 2, 0 => b"error 10 Mismatch record 1 field contacts recorded 2 found 0\n"),
+    wrong!(106, 5; 1, X, 5, 0 => b"error 10 Mismatch record 1 field x recorded 5 found 0\n"),
+    wrong!(114, 173; 1, Y, 941, 940 => b"error 10 Mismatch record 1 field y recorded 941 found 940\n"),
+    wrong!(122, 7; 1, Z, 7, 0 => b"error 10 Mismatch record 1 field z recorded 7 found 0\n"),
+    wrong!(130, 8; 1, BeforeX, 8, 0 => b"error 10 Mismatch record 1 field before-x recorded 8 found 0\n"),
+    wrong!(138, 203; 1, BeforeY, 971, 970 => b"error 10 Mismatch record 1 field before-y recorded 971 found 970\n"),
+    wrong!(146, 9; 1, BeforeZ, 9, 0 => b"error 10 Mismatch record 1 field before-z recorded 9 found 0\n"),
+    wrong!(148, 2; 2, Answer, 2, 0 => b"ok\nerror 10 Mismatch record 2 field answer recorded 2 found 0\n"),
 ];
 
-/// Tells which wrong bytes of a log aren't told as their rows say, and returns how many.
+/// One where the replay of a log with a wrong byte doesn't end and print so, which is told then.
+fn wrong_replay(rt: &HostRuntime, drawing: &Drawing, job: Job<'_>, row: &Wrong) -> u32 {
+    let case = Case {
+        job,
+        fails: &[],
+        ends: Some(row.ends),
+        text: row.text,
+    };
+    let name = (row.at, row.byte, row.ends);
+    wrong_case(rt, &name, scene(rt.alloc(), drawing), &case)
+}
+
+/// The same of a log before its byte is wrong.
+fn wrong_byte(rt: &HostRuntime, drawing: &Drawing, log: &[u8], row: &Wrong) -> u32 {
+    match log.to_vec(rt.alloc()) {
+        Ok(mut wrong) => {
+            if row.at < wrong.len() {
+                wrong[row.at] = row.byte;
+            }
+            let told = wrong_replay(rt, drawing, Job::Replay(&wrong), row);
+            drop(wrong);
+            told
+        }
+        Err(error) => wrong_row(rt, (&row.at, "has a log"), &Err(error), &Ok(())),
+    }
+}
+
+/// How many wrong bytes of a log aren't told as their rows say.
 fn wrong_bytes(rt: &HostRuntime, drawing: &Drawing, log: &[u8], rows: &[Wrong]) -> u32 {
     let mut wrong = 0u32;
     for row in rows {
-        let told = differs(rt.alloc(), drawing, log, row);
-        let name = (row.at, row.byte, row.name);
-        wrong = wrong.saturating_add(wrong_row(rt, (&name, WITH_BOTH), &told, &Ok(ALL_HOLD)));
+        wrong = wrong.saturating_add(wrong_byte(rt, drawing, log, row));
     }
     wrong
 }
