@@ -1,20 +1,13 @@
 //! A million projections of random bonds: links and contacts, short and long ones, of all weights. At each width both projectors
 //! come to the same worlds, or meet the same refusal.
-ghost use Rattle.std.specs.Prelude.{◌≡◌, ◌<◌, ◌≤◌, pos, neg_ℤ, ◌≤ℤ◌};
-
-use super::both::Both;
+use super::both::{Script, wrong_script};
 use pbd_num::{RANGE, Vec3};
-use pbd_pair::Projector;
-use pbd_step::Solver;
-use pbd_store::Steps;
-use pbd_tests_rows::{WrongRows, all_hold, at_widths, wrong_row};
+use pbd_tests_rows::{WrongRows, all_hold};
 use pbd_tests_scenes::{Drawing, EMPTY, parts_of, scene_of};
-use pbd_world::{Command, Kind, Link, Particle, Parts, PartsFault, Reply, Scene, Totals};
+use pbd_world::{Command, Kind, Link, Particle, Parts};
 use rand_core::utils::NextWord;
 use rand_pcg::Lcg64Xsh32;
 use std::alloc::{AllocError, Global};
-use std::marker::Brand;
-use std::sync::ledger::{Blank, Ledger};
 
 /// How far apart pairs of particles are, and how far they should be. Their first ends lie anywhere in a cube, and their second
 /// ends in another one: both have 2^n places a side. A pair is joined by a link, or, where there is a thickness, touches where
@@ -334,81 +327,56 @@ static MASSES: [Masses; 6] = [
     },
 ];
 
-#[derive(Clone, Copy)]
-struct Family {
-    lengths: Lengths,
-    masses: Masses,
-}
-
-/// A number from 0 up to a greatest one, all of whose bits are set.
-fn up_to(words: &mut Lcg64Xsh32, greatest: u32) -> i64
-    ensures low { pos 0 ≤ℤ result }
-    ensures high { result ≤ℤ pos 4294967295 }
-{
-    i64::from(words.next_word() & greatest)
-}
-
-/// A number from one on, of so many, as far as the range goes.
-fn axis_from(words: &mut Lcg64Xsh32, from: i64, greatest: u32) -> i64
-    ensures low { neg_ℤ (pos 536870912) ≤ℤ result }
-    ensures high { result ≤ℤ pos 536870912 }
-{
-    (from.clamp(-RANGE, RANGE) + up_to(words, greatest)).clamp(-RANGE, RANGE)
+/// A number about a middle one, of so many, as far as the range goes.
+fn axis_about(words: &mut Lcg64Xsh32, middle: i64, greatest: u32) -> i64 {
+    let from = middle.saturating_sub(i64::from(greatest / 2));
+    let off = i64::from(words.next_word() & greatest);
+    from.clamp(-RANGE, RANGE)
+        .saturating_add(off)
+        .clamp(-RANGE, RANGE)
 }
 
 /// A place in a cube with so many places a side.
-fn place_from(words: &mut Lcg64Xsh32, from: Vec3, greatest: u32) -> Vec3 {
+fn place_about(words: &mut Lcg64Xsh32, middle: Vec3, greatest: u32) -> Vec3 {
     Vec3 {
-        x: axis_from(words, from.x, greatest),
-        y: axis_from(words, from.y, greatest),
-        z: axis_from(words, from.z, greatest),
+        x: axis_about(words, middle.x, greatest),
+        y: axis_about(words, middle.y, greatest),
+        z: axis_about(words, middle.z, greatest),
     }
 }
 
-/// A way along one of the axes, forth or back.
-fn way_along(words: &mut Lcg64Xsh32, length: i64) -> Vec3 {
-    let length = length.clamp(-RANGE, RANGE);
+/// The place that is so far from another one along one of the axes, forth or back.
+fn moved_along(words: &mut Lcg64Xsh32, place: Vec3, length: i64) -> Vec3 {
     let back = words.next_word() & 1 == 0;
     let mut axes = [0i64; 3];
-    axes[(words.next_word() % 3) as usize] = if back { -length } else { length };
+    axes[(words.next_word() % 3) as usize] = if back {
+        0i64.saturating_sub(length)
+    } else {
+        length
+    };
     Vec3 {
-        x: axes[0],
-        y: axes[1],
-        z: axes[2],
-    }
-}
-
-/// Where a cube with so many places a side begins on one axis, whose middle is a way from a place.
-fn begin(place: i64, way: i64, greatest: u32) -> i64 {
-    place.clamp(-RANGE, RANGE) + way.clamp(-RANGE, RANGE) - i64::from(greatest / 2)
-}
-
-/// The corner of a cube with so many places a side, whose middle is a way from a place.
-fn corner(place: Vec3, way: Vec3, greatest: u32) -> Vec3 {
-    Vec3 {
-        x: begin(place.x, way.x, greatest),
-        y: begin(place.y, way.y, greatest),
-        z: begin(place.z, way.z, greatest),
+        x: place.x.saturating_add(axes[0]),
+        y: place.y.saturating_add(axes[1]),
+        z: place.z.saturating_add(axes[2]),
     }
 }
 
 /// The places of a pair.
 fn places_of(words: &mut Lcg64Xsh32, lengths: &Lengths, is_stray: bool) -> [Vec3; 2] {
-    let from = Vec3 {
-        x: lengths.from,
-        y: lengths.from,
-        z: lengths.from,
+    let middle = lengths.from.saturating_add(i64::from(lengths.places / 2));
+    let middle = Vec3 {
+        x: middle,
+        y: middle,
+        z: middle,
     };
-    let first = place_from(words, from, lengths.places);
-    let is_stray = is_stray && lengths.stray != 0;
-    let along = if is_stray {
+    let first = place_about(words, middle, lengths.places);
+    let along = if is_stray && lengths.stray != 0 {
         lengths.stray
     } else {
         lengths.along
     };
-    let way = way_along(words, along);
-    let from = corner(first, way, lengths.ways);
-    [first, place_from(words, from, lengths.ways)]
+    let middle = moved_along(words, first, along);
+    [first, place_about(words, middle, lengths.ways)]
 }
 
 /// A particle at rest.
@@ -431,7 +399,9 @@ fn link_of(words: &mut Lcg64Xsh32, lengths: &Lengths, j: u16) -> Link {
     Link {
         a,
         b: a + 1,
-        rest: lengths.rest.clamp(0, RANGE) + up_to(words, lengths.rests),
+        rest: lengths
+            .rest
+            .saturating_add(i64::from(words.next_word() & lengths.rests)),
         k: if whole { 256 } else { some },
         tear: 0,
         kind: Kind::Plain,
@@ -439,15 +409,13 @@ fn link_of(words: &mut Lcg64Xsh32, lengths: &Lengths, j: u16) -> Link {
     }
 }
 
-/// Adds pair j to parts.
+/// Adds pair j to parts, where there is memory.
 fn draw_pair(
     words: &mut Lcg64Xsh32,
-    family: &Family,
+    (lengths, masses): (&Lengths, &Masses),
     j: u16,
     parts: &mut Parts,
-) -> Result<(), AllocError> {
-    let lengths = &family.lengths;
-    let masses = &family.masses;
+) -> bool {
     let is_stray = j % 128 == 77;
     let places = places_of(words, lengths, is_stray);
     let first = particle_at(words, places[0], masses);
@@ -455,179 +423,57 @@ fn draw_pair(
     if is_stray && masses.stray != 0 {
         second.weight = masses.stray;
     }
-    parts.particles.push(first)?;
-    parts.particles.push(second)?;
+    let drawn = parts.particles.push(first).is_ok() & parts.particles.push(second).is_ok();
     if lengths.thickness != 0 {
-        return Ok(());
+        return drawn;
     }
-    parts.links.push(link_of(words, lengths, j))
+    drawn & parts.links.push(link_of(words, lengths, j)).is_ok()
 }
 
 /// What is drawn of a family.
-fn drawn(alloc: Global, family: &Family, seed: u64) -> Result<Parts, AllocError> {
-    let mut words = Lcg64Xsh32::new(seed, family.masses.stream);
+fn drawn(alloc: Global, family: (&Lengths, &Masses), seed: u64) -> Result<Parts, AllocError> {
+    let (lengths, masses) = family;
+    let mut words = Lcg64Xsh32::new(seed, masses.stream);
     let empty = Drawing {
-        passes: family.lengths.passes,
-        thickness: family.lengths.thickness,
+        passes: lengths.passes,
+        thickness: lengths.thickness,
         ..EMPTY
     };
     let mut parts = parts_of(alloc, &empty)?;
-    for j in 0..family.lengths.pairs {
-        draw_pair(&mut words, family, j, &mut parts)?;
+    let mut drawn = true;
+    for j in 0..lengths.pairs {
+        drawn = drawn & draw_pair(&mut words, family, j, &mut parts);
     }
-    Ok(parts)
-}
-
-/// What a step of a scene came to with one projector, and one particle of it.
-#[derive(Clone, Copy, Debug, PartialEq)]
-struct Outcome {
-    reply: Reply,
-    count: u64,
-    particles: u32,
-    live: u32,
-    contacts: u32,
-    totals: Totals,
-    particle: Option<Particle>,
-}
-
-/// Why a draw is wrong.
-#[derive(Clone, Copy, Debug, PartialEq)]
-enum Fault {
-    NoScene(PartsFault),
-    NoMemory,
-    /// What a step came to at a width with `Scalar` and with `LaneProjector`, with the first particle that isn't the same, where
-    /// there is one.
-    Differs {
-        width: usize,
-        particle: u32,
-        scalar: Outcome,
-        lanes: Outcome,
-    },
-}
-
-fn particle_of<const L: usize, P: Projector<L> + Drop, G: Ledger>(
-    solver: &Solver<L, P>,
-    i: u32,
-    steps: &mut Steps<G>,
-) -> Option<Particle>
-    requires high { L ≤ 16 }
-{
-    if i < solver.particles() {
-        Some(solver.particle(i, steps))
+    if drawn {
+        Ok(parts)
     } else {
-        None
+        drop(parts);
+        Err(AllocError)
     }
 }
 
-/// What a solver came to, that replied so to its last command, and its particle i.
-fn outcome_of<const L: usize, P: Projector<L> + Drop, G: Ledger>(
-    solver: &Solver<L, P>,
-    reply: Reply,
-    i: u32,
-    steps: &mut Steps<G>,
-) -> Outcome
-    requires high { L ≤ 16 }
-{
-    Outcome {
-        reply,
-        count: solver.step_count(),
-        particles: solver.particles(),
-        live: solver.live(),
-        contacts: solver.contacts(),
-        totals: *solver.totals(),
-        particle: particle_of(solver, i, steps),
+/// Tells which draws of a family are wrong, and returns how many.
+fn wrong_draws(rt: &HostRuntime, lengths: &Lengths, masses: &Masses) -> u32 {
+    let script = Script {
+        commands: &[(Command::Step(1), None)],
+        particles: 2 * lengths.pairs as usize,
+        places: &[],
+    };
+    let mut wrong = 0u32;
+    for seed in 0..u64::from(lengths.draws) {
+        let scene = scene_of(rt.alloc(), drawn(rt.alloc(), (lengths, masses), seed));
+        let name = (lengths.name, masses.name, seed);
+        wrong = wrong.saturating_add(wrong_script(rt, &name, scene, &script));
     }
+    wrong
 }
 
-/// Takes a step with both sessions, which comes to the same world, or is refused alike.
-fn step_alike<const L: usize, G: Ledger>(
-    both: &mut Both<L>,
-    steps: &mut Steps<G>,
-) -> Result<(), Fault>
-    requires low { 0 < L }
-    requires high { L ≤ 16 }
-{
-    let replies = both.apply(&Command::Step(1), steps);
-    let particle = both.first_other(steps);
-    let scalar = outcome_of(both.scalar.solver(), replies[0], particle, steps);
-    let lanes = outcome_of(both.lanes.solver(), replies[1], particle, steps);
-    if scalar == lanes {
-        return Ok(());
-    }
-    Err(Fault::Differs {
-        width: L,
-        particle,
-        scalar,
-        lanes,
-    })
-}
-
-/// Takes a step of a scene with both projectors.
-fn both_step_alike<const L: usize, G: Ledger>(
-    alloc: Global,
-    scene: &Scene,
-    steps: &mut Steps<G>,
-) -> Result<(), Fault>
-    requires low { 0 < L }
-    requires high { L ≤ 16 }
-{
-    match Both::<L>::open(alloc, scene) {
-        Ok(mut both) => {
-            let alike = step_alike(&mut both, steps);
-            drop(both);
-            alike
-        }
-        Err(AllocError) => Err(Fault::NoMemory),
-    }
-}
-
-fn counted<G: Ledger>(alloc: Global, blank: Blank, scene: &Scene) -> [Result<(), Fault>; 5]
-    requires name { blank.name ≡ G.name }
-    requires parts { blank.parts ≡ G.parts }
-    requires some { 0 < blank.parts }
-{
-    at_widths!(blank, both_step_alike(alloc, scene))
-}
-
-/// Takes a step of a scene with both projectors, at each width.
-fn alike_at_each_width(alloc: Global, scene: Result<Scene, PartsFault>) -> Result<(), Fault> {
-    match scene {
-        Ok(scene) => {
-            let alike = counted::<Brand>(alloc, Blank::new(1), &scene);
-            drop(scene);
-            alike[0]
-                .and(alike[1])
-                .and(alike[2])
-                .and(alike[3])
-                .and(alike[4])
-        }
-        Err(fault) => Err(Fault::NoScene(fault)),
-    }
-}
-
-/// The first wrong draw of a family.
-fn first_wrong(alloc: Global, family: &Family) -> Option<(u64, Fault)> {
-    for seed in 0..u64::from(family.lengths.draws) {
-        let scene = scene_of(alloc, drawn(alloc, family, seed));
-        if let Err(fault) = alike_at_each_width(alloc, scene) {
-            return Some((seed, fault));
-        }
-    }
-    None
-}
-
-/// Tells which families of some lengths are wrong, and returns how many.
+/// Tells which families of some lengths are wrong, and returns how many of their draws are.
 fn wrong_families(rt: &HostRuntime, rows: &[Lengths]) -> u32 {
     let mut wrong = 0u32;
     for lengths in rows {
         for masses in &MASSES {
-            let family = Family {
-                lengths: *lengths,
-                masses: *masses,
-            };
-            let name = (lengths.name, masses.name);
-            let told = first_wrong(rt.alloc(), &family);
-            wrong = wrong.saturating_add(wrong_row(rt, (&name, "by seed"), &told, &None));
+            wrong = wrong.saturating_add(wrong_draws(rt, lengths, masses));
         }
     }
     wrong

@@ -1,4 +1,5 @@
 //! Scenes, commands with their replies, and the places that they come to.
+use super::both::Asked;
 use pbd_num::{RANGE, Vec3};
 use pbd_tests_rows::{place, plane};
 use pbd_tests_scenes::{
@@ -6,15 +7,14 @@ use pbd_tests_scenes::{
     PULLS_AT_A_HELD_ONE, PUSHES, TEARS, free, free_at, held, key, link, particle,
 };
 use pbd_world::{Command, Key, Kind, Link, Particle, Phase, Plane, Refusal, Reply, Sphere};
-use std::fmt;
 
 macro_rules! leaves {
     ($step:expr, $phase:ident, $element:expr) => {
-        Reply::Refused(Refusal::LeavesRange {
+        Some(Reply::Refused(Refusal::LeavesRange {
             step: $step,
             phase: Phase::$phase,
             element: $element,
-        })
+        }))
     };
 }
 
@@ -84,40 +84,31 @@ const ROPE: Drawing = Drawing {
     limit: RANGE,
 };
 
-/// A command and its reply.
-pub(crate) type Asked = (Command, Reply);
+const STEP: Asked = (Command::Step(1), Some(Reply::Done));
 
-const STEP: Asked = (Command::Step(1), Reply::Done);
-
-const MANY: Asked = (Command::Step(100_000), Reply::Done);
+const MANY: Asked = (Command::Step(100_000), Some(Reply::Done));
 
 /// A command that is done.
 macro_rules! done {
     ($name:ident $operands:tt) => {
-        (Command::$name $operands, Reply::Done)
+        (Command::$name $operands, Some(Reply::Done))
     };
 }
 
 /// A command that is refused.
 macro_rules! refused {
     ($name:ident $operands:tt, $why:ident) => {
-        (Command::$name $operands, Reply::Refused(Refusal::$why))
+        (Command::$name $operands, Some(Reply::Refused(Refusal::$why)))
     };
 }
 
-/// A scene, commands with their replies, and where the first particles are then. It is told by its name.
+/// A scene, commands with their replies, and where the first particles are then.
 #[derive(Clone, Copy)]
 pub(crate) struct Row {
-    name: &'static str,
+    pub(crate) name: &'static str,
     pub(crate) scene: Drawing,
     pub(crate) commands: &'static [Asked],
     pub(crate) places: &'static [Vec3],
-}
-
-impl fmt::Debug for Row {
-    fn fmt<W: fmt::Write>(&self, f: &mut fmt::Formatter<W>) -> fmt::Result {
-        f.write_str(self.name)
-    }
 }
 
 /// A row: its name, a scene, commands with their replies, and places.

@@ -1,4 +1,4 @@
-use Rattle.pbd_tests_step.proofs.tests.random_bonds.alike_at_each_width.Given as goal
+use Rattle.pbd_tests_step.proofs.tests.both.at_each_width.Given as goal
 
 abbrev pub ghosts-counted : goal.ghosts-counted
 ghosts-counted a = record { name = a.blank.name; parts = a.blank.parts }
