@@ -1,7 +1,8 @@
 //! Sixteen sessions in one host, whose commands come in a hundred orders that a generator draws: each prints what it
 //! prints alone.
-use super::written::{push_each, run_on, whole, writes};
+use super::written::{push_each, run_on, whole, wrong_runs_of, wrong_texts};
 use pbd_outcome::Status;
+use pbd_tests_rows::{WrongRows, all_hold, wrong_row};
 use std::alloc::{AllocError, Global};
 
 /// What each session is asked in turn. Session t begins with entry t mod 4.
@@ -101,43 +102,44 @@ fn push_own_text(text: &mut String, written: &str, number: &str) -> Result<(), A
     Ok(())
 }
 
-/// Whether a session, one of whose commands is refused, prints alone what a host printed for it, which is something.
-fn is_apart(alloc: Global, written: &str, session: usize) -> bool {
-    let mut input = String::new(alloc);
-    let mut text = String::new(alloc);
-    let made = [
-        push_own_input(&mut input, session),
-        push_own_text(&mut text, written, NUMBERS[session % 16]),
-    ];
-    let (given, own) = (input.as_str().as_bytes(), text.as_str().as_bytes());
-    let same = writes(alloc, "simulate 1", given, Status::SomeRefused.code(), own);
-    let is_told = !own.is_empty();
-    drop(input);
+/// How many runs are wrong of the one of a session, of whose commands some are refused: alone it prints what a host printed for
+/// it, which is something.
+fn wrong_alone(rt: &HostRuntime, written: &str, session: usize) -> u32 {
+    let number = NUMBERS[session % 16];
+    let mut text = String::new(rt.alloc());
+    let read = push_own_input(&mut text, session);
+    let at = text.len();
+    let own = push_own_text(&mut text, written, number);
+    let is_told = at < text.len();
+    let wrong = wrong_runs_of(
+        rt,
+        "simulate 1",
+        (text.as_str(), at),
+        Status::SomeRefused.code(),
+    );
     drop(text);
-    made == [Ok(()); 2] && is_told && same
+    wrong
+        .saturating_add(wrong_texts(rt, number, [read, own]))
+        .saturating_add(u32::from(!is_told))
 }
 
-/// The first session that isn't printed as alone.
-fn first_other(alloc: Global, written: &[u8]) -> Option<usize> {
+/// The same of all sessions.
+fn wrong_sessions(rt: &HostRuntime, written: &[u8]) -> u32 {
     let written = str::from_utf8(written).unwrap_or("");
+    let mut wrong = 0u32;
     for session in 0..16usize {
-        if !is_apart(alloc, written, session) {
-            return Some(session);
-        }
+        wrong = wrong.saturating_add(wrong_alone(rt, written, session));
     }
-    None
+    wrong
 }
 
 #[test]
-fn sixteen_sessions_print_what_each_prints_alone(rt: HostRuntime) {
+fn sixteen_sessions_print_what_each_prints_alone(rt: HostRuntime) -> Result<(), WrongRows> {
     let outcome = run_on(rt.alloc(), "host 4", host_input(rt.alloc()));
     let (answer, written) = outcome.expect(&rt, "no memory");
-    let other = first_other(rt.alloc(), &written);
+    let wrong = wrong_sessions(&rt, &written);
     drop(written);
-    assert!(rt;
-        answer == Status::SomeRefused,
-        "a host of sixteen ends with {}",
-        answer.code()
-    );
-    assert!(rt; other.is_none(), "session {other:?} isn't printed as alone");
+    let ended = (answer.code(), Status::SomeRefused.code());
+    let told = wrong_row(&rt, (&"a host of sixteen", "ends with"), &ended.0, &ended.1);
+    all_hold(wrong.saturating_add(told))
 }

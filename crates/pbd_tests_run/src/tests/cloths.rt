@@ -1,6 +1,7 @@
 //! Cloths: on a sphere, in free fall, at rest, generated, and as large as they may be.
-use super::written::{Given, all_of, are_alike, comes_to, holds, push_line, run, writes};
-use std::alloc::{AllocError, Global};
+use super::written::{Given, all_of, push_line, run, wrong_alike, wrong_in, wrong_run, wrong_runs};
+use pbd_tests_rows::{WrongRows, all_hold, wrong_row};
+use std::alloc::AllocError;
 
 const ON_A_SPHERE: &[u8] =
     b"gravity = [0, -179, 0]\npasses = 8\nthickness = 3000\npins = [0, 31]\n[[cloth]]\norigin = [0, 65536, 0]\nacross = [6554, 0, 0]\ndown = [0, 0, 6554]\nrows = 32\ncolumns = 32\n[[sphere]]\ncentre = [101587, -65536, 101587]\nradius = 45000\n%%\nstep 60\nframe\nledger\n";
@@ -14,33 +15,30 @@ const AT_REST: &str =
 const LARGEST: &[u8] =
     b"[[cloth]]\norigin = [0, 0, 0]\nacross = [0, 0, 0]\ndown = [0, 0, 0]\nrows = 256\ncolumns = 256\n%%\nframe\n";
 
-/// Whether a log of the cloth on a sphere is replayed as what one lane writes, in whose ledger only gravity, pins and shapes move.
-fn is_replayed(alloc: Global, log: &[u8]) -> bool {
-    match run(alloc, "simulate 1", &all_of(ON_A_SPHERE)) {
+const QUIET: &str = "ledger damping 0 0 0\nledger link 0 0 0\nledger contact 0 0 0\n";
+
+/// How many runs are wrong of those of the cloth on a sphere: its log is replayed as what one lane writes, in whose ledger only
+/// gravity, pins and shapes move.
+fn wrong_replay(rt: &HostRuntime, log: &[u8]) -> u32 {
+    match run(rt.alloc(), &all_of("simulate 1", ON_A_SPHERE)) {
         Ok((answer, written)) => {
             let text = str::from_utf8(&written).unwrap_or("");
-            let quiet = text.contains(
-                "ledger damping 0 0 0\nledger link 0 0 0\nledger contact 0 0 0\n",
-            );
-            let replayed = run(alloc, "replay 16", &all_of(log));
-            let so = comes_to(replayed, answer.code(), &written) && quiet;
+            let quiet = wrong_row(rt, (&QUIET, "is written"), &text.contains(QUIET), &true);
+            let replayed = wrong_run(rt, &all_of("replay 16", log), (answer.code(), &written));
             drop(written);
-            so
+            quiet.saturating_add(replayed)
         }
-        Err(_) => false,
+        Err(error) => wrong_row(rt, (&"one lane", "writes"), &Err(error), &Ok(())),
     }
 }
 
 #[test]
-fn a_cloth_on_a_sphere_is_replayed(rt: HostRuntime) {
-    let outcome = run(rt.alloc(), "record 4", &all_of(ON_A_SPHERE));
+fn a_cloth_on_a_sphere_is_replayed(rt: HostRuntime) -> Result<(), WrongRows> {
+    let outcome = run(rt.alloc(), &all_of("record 4", ON_A_SPHERE));
     let (_, log) = outcome.expect(&rt, "no memory");
-    let so = is_replayed(rt.alloc(), &log);
+    let wrong = wrong_replay(&rt, &log);
     drop(log);
-    assert!(rt;
-        so,
-        "a log that isn't replayed as one lane writes, or whose ledger moves"
-    );
+    all_hold(wrong)
 }
 
 /// The frame and the ledger of the falling cloth: gravity took each of its 1,024 particles down by 327,570.
@@ -55,44 +53,49 @@ fn push_fallen(text: &mut String) -> Result<(), AllocError> {
 }
 
 #[test]
-fn a_cloth_in_free_fall_keeps_its_form(rt: HostRuntime) {
+fn a_cloth_in_free_fall_keeps_its_form(rt: HostRuntime) -> Result<(), WrongRows> {
     let mut text = String::new(rt.alloc());
     let made = push_fallen(&mut text);
     let output = text.as_str().as_bytes();
-    let so = writes(rt.alloc(), "simulate *", IN_FREE_FALL, 0, output);
+    let wrong = wrong_runs(&rt, &all_of("simulate *", IN_FREE_FALL), (0, output));
     drop(text);
-    assert!(rt; made.is_ok() && so, "60 steps of free fall at each width");
+    all_hold(wrong.saturating_add(u32::from(made.is_err())))
 }
 
 /// No search of all pairs of 65,536 particles ends two hundred times in a test's time.
 #[test]
-fn a_wide_cloth_at_rest_ends_in_time(rt: HostRuntime) {
-    assert!(rt;
-        holds(rt.alloc(), AT_REST),
-        "200 steps of 65,536 particles at rest"
-    );
+fn a_wide_cloth_at_rest_ends_in_time(rt: HostRuntime) -> Result<(), WrongRows> {
+    all_hold(wrong_in(&rt, AT_REST))
 }
 
-/// Words, others whose runs come to the same, what they are given, and how they may end, each end with the beginning of what
+/// Words and what they are given, others whose runs come to the same, and how they may end, each end with the beginning of what
 /// is written then.
 type Forms = (
-    &'static str,
-    &'static [&'static str],
     Given<'static>,
+    &'static [&'static str],
     &'static [(u8, &'static [u8])],
 );
+
+const READ: Given<'static> = Given {
+    words: "simulate 1",
+    width: "",
+    input: ON_A_SPHERE,
+    piece: 4096,
+    reads: &[],
+    writes: &[],
+};
 
 /// Reads nothing: the first read would fail.
 const UNREAD: Given<'static> = Given {
     input: b"",
     piece: 1,
     reads: &[1],
-    writes: &[],
+    ..READ
 };
 
 static CLOTHS: [Forms; 5] = [
     (
-        "simulate 1",
+        READ,
         &[
             "simulate 2",
             "simulate 4",
@@ -101,63 +104,59 @@ static CLOTHS: [Forms; 5] = [
             "scramble 7",
             "scramble 8",
         ],
-        Given {
-            input: ON_A_SPHERE,
-            piece: 4096,
-            reads: &[],
-            writes: &[],
-        },
         &[(0, b"ok\nframe 60 1024 5826 ")],
     ),
     (
-        "simulate 1",
-        &[],
         Given {
             input: LARGEST,
-            piece: 4096,
-            reads: &[],
-            writes: &[],
+            ..READ
         },
+        &[],
         &[(0, b"frame 0 65536 ")],
     ),
     (
-        "large 1 7 016",
+        Given {
+            words: "large 1 7 016",
+            ..UNREAD
+        },
         &[
             "large 2 7 16",
             "large 4 7 16",
             "large 8 7 16",
             "large 16 07 16",
         ],
-        UNREAD,
         &[
             (0, b"large 7 16\nok\nsums 30 1378 "),
             (11, b"large 7 16\nrefused 1"),
         ],
     ),
     (
-        "large 1 7 32",
+        Given {
+            words: "large 1 7 32",
+            ..UNREAD
+        },
         &["large 16 7 32"],
-        UNREAD,
         &[(0, b"large 7 32\n"), (11, b"large 7 32\n")],
     ),
     (
-        "large 1 7 128",
+        Given {
+            words: "large 1 7 128",
+            ..UNREAD
+        },
         &["large 16 7 128"],
-        UNREAD,
         &[(0, b"large 7 128\n"), (11, b"large 7 128\n")],
     ),
 ];
 
-#[test]
-fn a_cloth_is_the_same_in_each_form(rt: HostRuntime) {
+fn wrong_forms(rt: &HostRuntime, forms: &[Forms]) -> u32 {
     let mut wrong = 0u32;
-    for (words, others, given, ends) in &CLOTHS {
-        if !are_alike(rt.alloc(), words, others, given, ends) {
-            let _ = eprintln!(rt;
-                "{words} ends otherwise than a row says, or than one of {others:?}"
-            );
-            wrong = wrong.saturating_add(1);
-        }
+    for (one, others, ends) in forms {
+        wrong = wrong.saturating_add(wrong_alike(rt, one, *others, *ends));
     }
-    assert!(rt; wrong == 0, "{wrong} rows");
+    wrong
+}
+
+#[test]
+fn a_cloth_is_the_same_in_each_form(rt: HostRuntime) -> Result<(), WrongRows> {
+    all_hold(wrong_forms(&rt, &CLOTHS))
 }

@@ -1,6 +1,7 @@
 //! Inputs that are generated: particles in a row, links side by side, and links that meet at one particle.
-use super::written::{all_of, are_alike, push_line, whole, writes};
-use std::alloc::{AllocError, Global};
+use super::written::{all_of, push_line, wrong_alike, wrong_runs_of, wrong_texts};
+use pbd_tests_rows::{WrongRows, all_hold};
+use std::alloc::AllocError;
 
 /// A line for each number from the first on and below the second, which stands at each `#` of it.
 type Lines = (u32, u32, &'static str);
@@ -19,12 +20,6 @@ fn push_all(text: &mut String, parts: &[Lines]) -> Result<(), AllocError> {
     Ok(())
 }
 
-fn text_of(alloc: Global, parts: &[Lines]) -> Result<String, AllocError> {
-    let mut text = String::new(alloc);
-    let added = push_all(&mut text, parts);
-    whole(text, added)
-}
-
 const PARTICLE: &str = "[[particle]]\nat = [#, 0, 0]\n";
 
 static SEVENTY: [Lines; 3] = [
@@ -34,20 +29,17 @@ static SEVENTY: [Lines; 3] = [
 ];
 
 #[test]
-fn seventy_contacts_are_the_same_at_every_width(rt: HostRuntime) {
-    let input = text_of(rt.alloc(), &SEVENTY).expect(&rt, "no memory");
-    let alike = are_alike(
-        rt.alloc(),
-        "simulate 1",
+fn seventy_contacts_are_the_same_at_every_width(rt: HostRuntime) -> Result<(), WrongRows> {
+    let mut text = String::new(rt.alloc());
+    let made = push_all(&mut text, &SEVENTY);
+    let wrong = wrong_alike(
+        &rt,
+        &all_of("simulate 1", text.as_str().as_bytes()),
         &["simulate 2", "simulate 4", "simulate 8", "simulate 16"],
-        &all_of(input.as_str().as_bytes()),
         &[(0, b"ok\nframe 1 70 0 2415\n")],
     );
-    drop(input);
-    assert!(rt;
-        alike,
-        "frame 1 70 0 2415 at width 1, and the same at widths 2, 4, 8 and 16"
-    );
+    drop(text);
+    all_hold(wrong.saturating_add(wrong_texts(&rt, "seventy", [made, Ok(())])))
 }
 
 /// Links of length 105 and of rest length 100, side by side.
@@ -128,37 +120,31 @@ static ROWS: [(&str, &[Lines], u8, &[Lines]); 5] = [
     ),
 ];
 
-fn holds(
-    alloc: Global,
+/// How many runs of a row are wrong.
+fn wrong_in(
+    rt: &HostRuntime,
     (words, input, number, output): &(&str, &[Lines], u8, &[Lines]),
-) -> Result<bool, AllocError> {
-    let given = text_of(alloc, input)?;
-    match text_of(alloc, output) {
-        Ok(wanted) => {
-            let (input, output) = (given.as_str().as_bytes(), wanted.as_str().as_bytes());
-            let so = writes(alloc, words, input, *number, output);
-            drop(wanted);
-            drop(given);
-            Ok(so)
-        }
-        Err(error) => {
-            drop(given);
-            Err(error)
-        }
+) -> u32 {
+    let mut text = String::new(rt.alloc());
+    let read = push_all(&mut text, *input);
+    let at = text.len();
+    let written = push_all(&mut text, *output);
+    let wrong = wrong_runs_of(rt, *words, (text.as_str(), at), *number);
+    drop(text);
+    wrong.saturating_add(wrong_texts(rt, *words, [read, written]))
+}
+
+fn wrong_rows(rt: &HostRuntime, rows: &[(&str, &[Lines], u8, &[Lines])]) -> u32 {
+    let mut wrong = 0u32;
+    for row in rows {
+        wrong = wrong.saturating_add(wrong_in(rt, row));
     }
+    wrong
 }
 
 #[test]
-fn runs_on_many_particles_and_links_end_and_write_as_their_rows_say(rt: HostRuntime) {
-    let mut wrong = 0u32;
-    for row in &ROWS {
-        if holds(rt.alloc(), row) != Ok(true) {
-            let (words, input, number, output) = row;
-            let _ = eprintln!(rt;
-                "{words} on {input:?} is to end with {number} and write {output:?}"
-            );
-            wrong = wrong.saturating_add(1);
-        }
-    }
-    assert!(rt; wrong == 0, "{wrong} rows");
+fn runs_on_many_particles_and_links_end_and_write_as_their_rows_say(
+    rt: HostRuntime,
+) -> Result<(), WrongRows> {
+    all_hold(wrong_rows(&rt, &ROWS))
 }

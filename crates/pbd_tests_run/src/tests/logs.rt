@@ -1,7 +1,7 @@
 //! Logs: written, replayed, changed and cut, as this version and the one before it wrote them; and bytes that are no text.
-use super::written::{tell, writes};
+use super::written::{all_of, wrong_run, wrong_runs};
 use pbd_outcome::Status;
-use std::alloc::Global;
+use pbd_tests_rows::{WrongRows, all_hold};
 
 /// The log of a particle that falls for three steps, and a frame.
 pub(crate) const LOG: &[u8] =
@@ -129,52 +129,46 @@ static BYTES: [(&str, &[u8], &[u8], Status); 19] = [
     ),
 ];
 
-#[test]
-fn bytes_are_read_and_written_as_their_rows_say(rt: HostRuntime) {
+/// How many runs of some rows are wrong.
+fn wrong_rows(rt: &HostRuntime, rows: &[(&str, &[u8], &[u8], Status)]) -> u32 {
     let mut wrong = 0u32;
-    for (words, input, output, status) in &BYTES {
-        if !writes(rt.alloc(), words, input, status.code(), output) {
-            let _ = eprintln!(rt;
-                "{words} on {input:?} is to end with {} and write {output:?}",
-                status.code()
-            );
-            tell(&rt, rt.alloc(), words, input);
-            wrong = wrong.saturating_add(1);
-        }
+    for (words, input, output, status) in rows {
+        let wanted = (status.code(), *output);
+        wrong = wrong.saturating_add(wrong_runs(rt, &all_of(*words, *input), wanted));
     }
-    assert!(rt; wrong == 0, "{wrong} rows");
+    wrong
+}
+
+#[test]
+fn bytes_are_read_and_written_as_their_rows_say(rt: HostRuntime) -> Result<(), WrongRows> {
+    all_hold(wrong_rows(&rt, &BYTES))
 }
 
 /// From which length on a log that is cut to it is refused how: each line from there up to the length of the next.
-type Refusals = &'static [(usize, &'static [u8])];
+type Refusals<'a> = &'a [(usize, &'a [u8])];
 
-static CUTS: [(&[u8], Refusals); 2] = [
-    (
-        LOG,
-        &[
-            (0, b"error 9 LogRefused offset 0\n"),
-            (8, b"error 9 LogRefused offset 8\n"),
-            (16, b"error 9 LogRefused offset 16\n"),
-            (73, b"error 9 LogRefused offset 73\n"),
-            (147, b"error 9 LogRefused offset 147\n"),
-            (149, b"error 9 LogRefused offset 149\n"),
-        ],
-    ),
-    (
-        OLD_LOG,
-        &[
-            (0, b"error 9 LogRefused offset 0\n"),
-            (8, b"error 9 LogRefused offset 8\n"),
-            (65, b"error 9 LogRefused offset 65\n"),
-            (139, b"error 9 LogRefused offset 139\n"),
-            (141, b"error 9 LogRefused offset 141\n"),
-        ],
-    ),
+/// Where the log is refused.
+static CUTS: [(usize, &[u8]); 6] = [
+    (0, b"error 9 LogRefused offset 0\n"),
+    (8, b"error 9 LogRefused offset 8\n"),
+    (16, b"error 9 LogRefused offset 16\n"),
+    (73, b"error 9 LogRefused offset 73\n"),
+    (147, b"error 9 LogRefused offset 147\n"),
+    (149, b"error 9 LogRefused offset 149\n"),
+];
+
+/// Where the same of version 1 is.
+static OLD_CUTS: [(usize, &[u8]); 5] = [
+    (0, b"error 9 LogRefused offset 0\n"),
+    (8, b"error 9 LogRefused offset 8\n"),
+    (65, b"error 9 LogRefused offset 65\n"),
+    (139, b"error 9 LogRefused offset 139\n"),
+    (141, b"error 9 LogRefused offset 141\n"),
 ];
 
 /// The line of a log that is cut to this length: that of the last row which begins at or before it.
-fn line_of(len: usize, refusals: Refusals) -> &'static [u8] {
-    let mut found: &[u8] = b"";
+fn line_of<'a>(len: usize, refusals: Refusals<'a>) -> &'a [u8] {
+    let mut found: &'a [u8] = b"";
     for (from, line) in refusals {
         if *from <= len {
             found = *line;
@@ -183,24 +177,19 @@ fn line_of(len: usize, refusals: Refusals) -> &'static [u8] {
     found
 }
 
-/// The first length to which a log is cut and isn't refused where it goes wrong.
-fn first_wrong_cut(alloc: Global, log: &[u8], refusals: Refusals) -> Option<usize> {
+/// How many lengths there are to which a log is cut and isn't refused where it goes wrong.
+fn wrong_cuts(rt: &HostRuntime, log: &[u8], refusals: Refusals<'_>) -> u32 {
+    let mut wrong = 0u32;
     for len in 0..log.len() {
-        if !writes(alloc, "replay 1", &log[..len], 9, line_of(len, refusals)) {
-            return Some(len);
-        }
+        let wanted = (9, line_of(len, refusals));
+        wrong = wrong.saturating_add(wrong_run(rt, &all_of("replay 1", &log[..len]), wanted));
     }
-    None
+    wrong
 }
 
 #[test]
-fn a_log_that_is_cut_is_refused_where_it_goes_wrong(rt: HostRuntime) {
-    let mut wrong = 0u32;
-    for (log, refusals) in &CUTS {
-        if let Some(len) = first_wrong_cut(rt.alloc(), *log, *refusals) {
-            let _ = eprintln!(rt; "a log of {} bytes, cut to {len}", log.len());
-            wrong = wrong.saturating_add(1);
-        }
-    }
-    assert!(rt; wrong == 0, "{wrong} rows");
+fn a_log_that_is_cut_is_refused_where_it_goes_wrong(rt: HostRuntime) -> Result<(), WrongRows> {
+    let new = wrong_cuts(&rt, LOG, &CUTS);
+    let old = wrong_cuts(&rt, OLD_LOG, &OLD_CUTS);
+    all_hold(new.saturating_add(old))
 }

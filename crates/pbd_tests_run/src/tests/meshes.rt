@@ -1,6 +1,7 @@
 //! A mesh of many faces.
-use super::written::{all_of, comes_to, push_line, run, run_on, whole};
+use super::written::{all_of, push_line, run_on, whole, wrong_run, wrong_texts};
 use pbd_outcome::Status;
+use pbd_tests_rows::{WrongRows, all_hold, wrong_row};
 use std::alloc::{AllocError, Global};
 
 /// The vertices of a net of 100 by 100.
@@ -34,30 +35,31 @@ fn net(alloc: Global) -> Result<String, AllocError> {
     whole(text, added)
 }
 
-/// Whether a frame comes to itself where it is read as a mesh.
-fn is_its_mesh(alloc: Global, frame: &[u8]) -> bool {
-    let Ok(mut input) = frame.to_vec(alloc) else {
-        return false;
-    };
-    let made = input.extend_from_slice(b"%%\n%%\nframe\n").is_ok();
-    let outcome = run(alloc, "obj 16", &all_of(&input));
+/// One where a frame doesn't come to itself where it is read as a mesh, which is told then.
+fn wrong_mesh(rt: &HostRuntime, frame: &[u8]) -> u32 {
+    let mut input = Vec::new(rt.alloc());
+    let made = [
+        input.extend_from_slice(frame),
+        input.extend_from_slice(b"%%\n%%\nframe\n"),
+    ];
+    let wrong = wrong_run(rt, &all_of("obj 16", &input), (0, frame));
     drop(input);
-    comes_to(outcome, 0, frame) && made
+    wrong.saturating_add(wrong_texts(rt, "a frame as a mesh", made))
 }
 
+const FRAME: &str = "ends well, and its frame begins and ends so";
+
 #[test]
-fn a_frame_is_read_again_as_its_mesh(rt: HostRuntime) {
+fn a_frame_is_read_again_as_its_mesh(rt: HostRuntime) -> Result<(), WrongRows> {
     let outcome = run_on(rt.alloc(), "obj 1", net(rt.alloc()));
     let (answer, frame) = outcome.expect(&rt, "no memory");
     let so = [
         answer == Status::Done,
         frame.starts_with(b"# frame 0 10000 39402 0\nv 0.5 0 0.001007080078125\nv 0.5 -1 "),
         frame.ends_with(b"\nf 9899 9900 10000 9999\n"),
-        is_its_mesh(rt.alloc(), &frame),
     ];
+    let wrong = wrong_mesh(&rt, &frame);
     drop(frame);
-    assert!(rt;
-        so == [true; 4],
-        "whether the net's run ends well, the frame begins and ends so, and is read as its mesh: {so:?}"
-    );
+    let told = wrong_row(&rt, (&"the net's run", FRAME), &so, &[true; 3]);
+    all_hold(wrong.saturating_add(told))
 }

@@ -1,7 +1,7 @@
 //! Sources and sinks that fail at each call, and inputs that are no text or too long.
 use super::logs::{LOG, OLD_LOG};
-use super::written::{Given, comes_to, run, writes};
-use std::alloc::Global;
+use super::written::{Given, all_of, wrong_run};
+use pbd_tests_rows::{WrongRows, all_hold, wrong_row};
 
 const FALLS: &[u8] = b"gravity = [0, -10, 0]\n[[particle]]\nat = [0, 1000, 0]\n%%\nstep 3\nframe\n";
 
@@ -26,56 +26,54 @@ static READERS: [(&str, &[u8], &[u8]); 7] = [
     ),
 ];
 
-/// Whether a run ends with a fault where the read of this number fails, of at most so many bytes each.
-fn ends_at_read(alloc: Global, words: &str, input: &[u8], piece: usize, call: u64) -> bool {
-    let given = Given {
-        input,
-        piece,
+/// How many runs are wrong whose source gives so many bytes a call, and whose read of this number fails, each with a fault.
+fn wrong_read(rt: &HostRuntime, run: &Given<'_>, call: u64) -> u32 {
+    let failing = Given {
         reads: &[call],
-        writes: &[],
+        ..*run
     };
-    comes_to(run(alloc, words, &given), 2, b"error 2 ReadFault\n")
+    wrong_run(rt, &failing, (2, b"error 2 ReadFault\n"))
 }
 
-/// Whether a run whose source gives a byte a call ends with a fault at whichever read fails, of all that it makes.
-fn ends_at_each_read(alloc: Global, words: &str, input: &[u8], output: &[u8]) -> bool {
-    let past = (input.len() as u64).saturating_add(2);
-    for call in 1..past {
-        if !ends_at_read(alloc, words, input, 1, call) {
-            return false;
-        }
-    }
-    // The read after the last one isn't made.
-    let given = Given {
-        input,
-        piece: 1,
+/// How many runs are wrong whose source gives a byte a call and fails at one of them, at each that is made and at the next.
+fn wrong_reads(rt: &HostRuntime, bytes: &Given<'_>, output: &[u8]) -> u32 {
+    let past = (bytes.input.len() as u64).saturating_add(2);
+    let unmade = Given {
         reads: &[past],
-        writes: &[],
+        ..*bytes
     };
-    comes_to(run(alloc, words, &given), 0, output)
+    let mut wrong = wrong_run(rt, &unmade, (0, output));
+    for call in 1..past {
+        wrong = wrong.saturating_add(wrong_read(rt, bytes, call));
+    }
+    wrong
+}
+
+/// How many runs of some rows are wrong where a read fails, or a read and a write.
+fn wrong_readers(rt: &HostRuntime, rows: &[(&str, &[u8], &[u8])]) -> u32 {
+    let mut wrong = 0u32;
+    for (words, input, output) in rows {
+        let pieces = Given {
+            piece: 4096,
+            ..all_of(*words, *input)
+        };
+        let bytes = Given { piece: 1, ..pieces };
+        let both = Given {
+            reads: &[1],
+            writes: &[(1, 7)],
+            ..pieces
+        };
+        wrong = wrong
+            .saturating_add(wrong_reads(rt, &bytes, *output))
+            .saturating_add(wrong_read(rt, &pieces, 1))
+            .saturating_add(wrong_run(rt, &both, (3, b"error 2")));
+    }
+    wrong
 }
 
 #[test]
-fn each_failed_read_ends_a_run(rt: HostRuntime) {
-    let mut wrong = 0u32;
-    for (words, input, output) in &READERS {
-        let both = Given {
-            input: *input,
-            piece: 4096,
-            reads: &[1],
-            writes: &[(1, 7)],
-        };
-        let each = ends_at_each_read(rt.alloc(), words, input, output);
-        let first = ends_at_read(rt.alloc(), words, input, 4096, 1);
-        let twice = comes_to(run(rt.alloc(), words, &both), 3, b"error 2");
-        if [each, first, twice] != [true; 3] {
-            let _ = eprintln!(rt;
-                "{words}: at each read {each}, at the first of 4,096 bytes {first}, with a failed write {twice}"
-            );
-            wrong = wrong.saturating_add(1);
-        }
-    }
-    assert!(rt; wrong == 0, "{wrong} rows");
+fn each_failed_read_ends_a_run(rt: HostRuntime) -> Result<(), WrongRows> {
+    all_hold(wrong_readers(&rt, &READERS))
 }
 
 /// Words, an input, what is written, and how many bytes each call of `write` is handed: each line of a reply or a mark by
@@ -114,50 +112,47 @@ static WRITERS: [Writer; 14] = [
     ),
 ];
 
-/// Whether a run ends at the call of `write` that fails, wherever in its piece, which has so many bytes before it.
-fn ends_at_write(alloc: Global, writer: &Writer, call: u64, before: usize, len: usize) -> bool {
+/// How many runs are wrong whose call of `write` fails, wherever in its piece, which has so many bytes before it.
+fn wrong_write(rt: &HostRuntime, writer: &Writer, call: u64, (before, len): (usize, usize)) -> u32 {
     let (words, input, output, _) = *writer;
+    let mut wrong = 0u32;
     for count in 0..15usize {
-        let Some(front) = output.get(..before.saturating_add(count.min(len))) else {
-            return false;
-        };
-        let given = Given {
-            input,
+        let end = before.saturating_add(count.min(len));
+        let failing = Given {
             piece: 4096,
-            reads: &[],
             writes: &[(call, count)],
+            ..all_of(words, input)
         };
-        if !comes_to(run(alloc, words, &given), 3, front) {
-            return false;
-        }
+        let front = output.get(..end).unwrap_or(b"less than is written");
+        wrong = wrong.saturating_add(wrong_run(rt, &failing, (3, front)));
     }
-    true
+    wrong
 }
 
-/// Whether a run hands on its text by one call for each of the lengths, and ends at each of them that fails.
-fn ends_at_each_write(alloc: Global, writer: &Writer) -> bool {
+/// How many runs are wrong where a text is handed on by one call for each of the lengths, and one of them fails.
+fn wrong_writes(rt: &HostRuntime, writer: &Writer) -> u32 {
+    let mut wrong = 0u32;
     let mut call: u64 = 0;
     let mut before: usize = 0;
     for len in writer.3 {
         call = call.saturating_add(1);
-        if !ends_at_write(alloc, writer, call, before, *len) {
-            return false;
-        }
+        wrong = wrong.saturating_add(wrong_write(rt, writer, call, (before, *len)));
         before = before.saturating_add(*len);
     }
-    true
+    wrong
+}
+
+fn wrong_writers(rt: &HostRuntime, writers: &[Writer]) -> u32 {
+    let mut wrong = 0u32;
+    for writer in writers {
+        wrong = wrong.saturating_add(wrong_writes(rt, writer));
+    }
+    wrong
 }
 
 #[test]
-fn each_failed_write_ends_a_run(rt: HostRuntime) {
-    let mut wrong = 0u32;
-    for writer in &WRITERS {
-        if !ends_at_each_write(rt.alloc(), writer) {
-            let _ = eprintln!(rt; "{} by calls of {:?} bytes", writer.0, writer.3);
-            wrong = wrong.saturating_add(1);
-        }
-    }
-    assert!(rt; wrong == 0, "{wrong} rows");
+fn each_failed_write_ends_a_run(rt: HostRuntime) -> Result<(), WrongRows> {
+    all_hold(wrong_writers(&rt, &WRITERS))
 }
 
 /// Words, and so many of a byte that they are too long an input.
@@ -171,23 +166,28 @@ static TOO_LONG: [(&str, u8, usize); 7] = [
     ("replay 1", 0, 134_217_729),
 ];
 
-fn is_too_long(alloc: Global, words: &str, byte: u8, count: usize) -> bool {
-    let Ok(input) = vec![in alloc; byte; count] else {
-        return false;
-    };
-    let so = writes(alloc, words, &input, 4, b"error 4 InputTooLong\n");
-    drop(input);
-    so
+/// How many runs are wrong that read so many bytes of one kind.
+fn wrong_length(rt: &HostRuntime, (words, byte, count): &(&str, u8, usize)) -> u32 {
+    match vec![in rt.alloc(); *byte; *count] {
+        Ok(input) => {
+            let wanted: (u8, &[u8]) = (4, b"error 4 InputTooLong\n");
+            let wrong = wrong_run(rt, &all_of(*words, &input), wanted);
+            drop(input);
+            wrong
+        }
+        Err(error) => wrong_row(rt, (words, "has an input"), &Err(error), &Ok(())),
+    }
+}
+
+fn wrong_lengths(rt: &HostRuntime, rows: &[(&str, u8, usize)]) -> u32 {
+    let mut wrong = 0u32;
+    for row in rows {
+        wrong = wrong.saturating_add(wrong_length(rt, row));
+    }
+    wrong
 }
 
 #[test]
-fn an_input_too_long_stops_a_run(rt: HostRuntime) {
-    let mut wrong = 0u32;
-    for (words, byte, count) in &TOO_LONG {
-        if !is_too_long(rt.alloc(), words, *byte, *count) {
-            let _ = eprintln!(rt; "{words} on {count} bytes isn't refused with status 4");
-            wrong = wrong.saturating_add(1);
-        }
-    }
-    assert!(rt; wrong == 0, "{wrong} rows");
+fn an_input_too_long_stops_a_run(rt: HostRuntime) -> Result<(), WrongRows> {
+    all_hold(wrong_lengths(&rt, &TOO_LONG))
 }

@@ -1,5 +1,6 @@
 //! Inputs beside what is written, of `simulate`, `marks`, `host` and `obj`, and runs that stop before the first reply.
-use super::written::{holds, tell_row};
+use super::written::wrong_in;
+use pbd_tests_rows::{WrongRows, all_hold};
 
 /// Steps, frames, refusals and ledgers.
 const RUNS: &str =
@@ -137,16 +138,25 @@ static TABLES: [&str; 8] = [
     STOPS,
 ];
 
-#[test]
-fn runs_end_and_write_as_their_rows_say(rt: HostRuntime) {
+/// How many runs of some rows are wrong.
+fn wrong_rows(rt: &HostRuntime, rows: &str) -> u32 {
     let mut wrong = 0u32;
-    for table in &TABLES {
-        for row in table.split('\n') {
-            if !holds(rt.alloc(), row) {
-                tell_row(&rt, rt.alloc(), row);
-                wrong = wrong.saturating_add(1);
-            }
-        }
+    for row in rows.split('\n') {
+        wrong = wrong.saturating_add(wrong_in(rt, row));
     }
-    assert!(rt; wrong == 0, "{wrong} rows");
+    wrong
+}
+
+/// The same of some tables.
+fn wrong_tables(rt: &HostRuntime, tables: &[&str]) -> u32 {
+    let mut wrong = 0u32;
+    for rows in tables {
+        wrong = wrong.saturating_add(wrong_rows(rt, *rows));
+    }
+    wrong
+}
+
+#[test]
+fn runs_end_and_write_as_their_rows_say(rt: HostRuntime) -> Result<(), WrongRows> {
+    all_hold(wrong_tables(&rt, &TABLES))
 }

@@ -1,7 +1,7 @@
 //! Tagged lines, one by one, on two empty scenes.
-use super::written::{push_each, writes};
+use super::written::{all_of, push_each, wrong_run};
 use pbd_outcome::Status;
-use std::alloc::Global;
+use pbd_tests_rows::{WrongRows, all_hold};
 
 const BAD: &str = "session -\nrefused 15 BadTag\n";
 
@@ -45,29 +45,28 @@ static LINES: [(&str, &str, Status); 20] = [
     ),
 ];
 
-/// Whether a host of which the line is the only one prints this and ends so.
-fn prints(alloc: Global, line: &[&str], text: &str, status: Status) -> bool {
-    let mut input = String::new(alloc);
-    let made = push_each(&mut input, line);
-    let given = input.as_str().as_bytes();
-    let same = writes(alloc, "host 8", given, status.code(), text.as_bytes());
+/// How many runs are wrong of a host of which the line is the only one, with and without its end.
+fn wrong_line(rt: &HostRuntime, line: &str, wanted: (u8, &[u8])) -> u32 {
+    let mut input = String::new(rt.alloc());
+    let made = push_each(&mut input, &["%%\n%%%\n", line, "\n"]);
+    let ended = input.as_str().as_bytes();
+    let (open, _) = ended.split_at(ended.len().saturating_sub(1));
+    let wrong = wrong_run(rt, &all_of("host 8", ended), wanted);
+    let wrong = wrong.saturating_add(wrong_run(rt, &all_of("host 8", open), wanted));
     drop(input);
-    same && made.is_ok()
+    wrong.saturating_add(u32::from(made.is_err()))
+}
+
+fn wrong_lines(rt: &HostRuntime, lines: &[(&str, &str, Status)]) -> u32 {
+    let mut wrong = 0u32;
+    for (line, text, status) in lines {
+        let wanted = (status.code(), text.as_bytes());
+        wrong = wrong.saturating_add(wrong_line(rt, *line, wanted));
+    }
+    wrong
 }
 
 #[test]
-fn a_tagged_line_prints_what_its_row_says(rt: HostRuntime) {
-    let mut wrong = 0u32;
-    for (line, text, status) in &LINES {
-        let open = prints(rt.alloc(), &["%%\n%%%\n", *line], text, *status);
-        let ended = prints(rt.alloc(), &["%%\n%%%\n", *line, "\n"], text, *status);
-        if !open || !ended {
-            let _ = eprintln!(rt;
-                "{line:?} is to end with {} and print {text:?}: {open}, and with its end {ended}",
-                status.code()
-            );
-            wrong = wrong.saturating_add(1);
-        }
-    }
-    assert!(rt; wrong == 0, "{wrong} rows");
+fn a_tagged_line_prints_what_its_row_says(rt: HostRuntime) -> Result<(), WrongRows> {
+    all_hold(wrong_lines(&rt, &LINES))
 }
