@@ -2,7 +2,7 @@
 ghost use Rattle.std.specs.Prelude.{◌<◌, ◌≤◌};
 
 use pbd_num::{RANGE, Vec3};
-use pbd_pair::Projector;
+use pbd_pair::LaneProjector;
 use pbd_step::Solver;
 use pbd_store::Steps;
 use pbd_tests_scenes::{Drawing, EMPTY, parts_of};
@@ -107,18 +107,12 @@ fn particle(words: &mut Lcg64Xsh32, body: &Body, i: u32) -> Particle {
     }
 }
 
-fn draw_particles(words: &mut Lcg64Xsh32, body: &Body, parts: &mut Parts) -> bool {
-    let mut drawn = true;
-    for i in 0..body.rows.saturating_mul(body.columns) {
-        drawn = drawn & parts.particles.push(particle(words, body, i)).is_ok();
-    }
-    drawn
-}
-
-/// What a link of particle a and the one that comes so many after it is, where there is one.
-fn kind(words: &mut Lcg64Xsh32, body: &Body, a: u32, after: u32) -> Option<Kind> {
+/// What a link of the particles a and b is, where there is one.
+fn kind(words: &mut Lcg64Xsh32, body: &Body, a: u32, b: u32) -> Option<Kind> {
+    let after = b.saturating_sub(a);
     let last = (a % body.columns.max(1)).saturating_add(1) == body.columns;
     match body.form {
+        _ if after == 0 => None,
         Form::Rope if after == 1 => Some(Kind::Stretch),
         Form::Rope if after == 2 => Some(Kind::Bend),
         Form::Cloth if after == 1 && !last => Some(Kind::Stretch),
@@ -152,22 +146,16 @@ fn link(words: &mut Lcg64Xsh32, body: &Body, ends: (u32, u32), kind: Kind) -> Li
     }
 }
 
-/// Adds the links of particle a to those after it.
-fn draw_links_of(words: &mut Lcg64Xsh32, body: &Body, a: u32, parts: &mut Parts) -> bool {
+/// Adds the links of each particle to those after it.
+fn draw_links(words: &mut Lcg64Xsh32, body: &Body, parts: &mut Parts) -> bool {
+    let count = body.rows.saturating_mul(body.columns).max(1);
     let mut drawn = true;
-    for after in 1..body.rows.saturating_mul(body.columns).saturating_sub(a) {
-        if let Some(kind) = kind(words, body, a, after) {
-            let joined = link(words, body, (a, a.saturating_add(after)), kind);
+    for pair in 0..count.saturating_mul(count) {
+        let (a, b) = (pair / count, pair % count);
+        if let Some(kind) = kind(words, body, a, b) {
+            let joined = link(words, body, (a, b), kind);
             drawn = drawn & parts.links.push(joined).is_ok();
         }
-    }
-    drawn
-}
-
-fn draw_links(words: &mut Lcg64Xsh32, body: &Body, parts: &mut Parts) -> bool {
-    let mut drawn = true;
-    for a in 0..body.rows.saturating_mul(body.columns) {
-        drawn = drawn & draw_links_of(words, body, a, parts);
     }
     drawn
 }
@@ -228,13 +216,16 @@ fn drawn_numbers(words: &mut Lcg64Xsh32) -> Drawing {
 
 /// Draws a body and shapes, where there is memory.
 fn draw(alloc: Global, words: &mut Lcg64Xsh32, body: &Body, parts: &mut Parts) -> bool {
-    let drawn = [
-        draw_particles(words, body, parts),
+    let mut drawn = true;
+    for i in 0..body.rows.saturating_mul(body.columns) {
+        drawn = drawn & parts.particles.push(particle(words, body, i)).is_ok();
+    }
+    let others = [
         draw_links(words, body, parts),
         draw_shapes(words, parts),
         !body.tracked || draw_track(alloc, words, parts),
     ];
-    drawn == [true; 4]
+    drawn && others == [true; 3]
 }
 
 /// The scene of a session.
@@ -265,9 +256,9 @@ fn short_or_far(words: &mut Lcg64Xsh32, size: u32) -> Vec3 {
 }
 
 /// Plays a command. Some particles and links that it names aren't there.
-pub(crate) fn play<const L: usize, P: Projector<L> + Drop, G: Ledger>(
+pub(crate) fn play<const L: usize, G: Ledger>(
     words: &mut Lcg64Xsh32,
-    solver: &mut Solver<L, P>,
+    solver: &mut Solver<L, LaneProjector<L>>,
     steps: &mut Steps<G>,
 ) -> Result<(), Refusal>
     requires low { 0 < L }

@@ -54,10 +54,12 @@ pub(crate) fn solver_of(
     }
 }
 
-/// The bytes of a state as a row changes them, and a byte more.
-fn changed(state: &[u8; SIZE], row: &Row) -> [u8; SIZE + 1] {
-    let mut wrong = [0; SIZE + 1];
-    wrong[..SIZE].copy_from_slice(state);
+/// The bytes of a state, and a byte 0.
+type Bytes = [u8; SIZE + 1];
+
+/// The bytes of a state as a row changes them, and the byte behind it.
+fn changed(state: &Bytes, row: &Row) -> Bytes {
+    let mut wrong = *state;
     let mut to = row.at;
     for byte in row.bytes {
         if let Some(place) = wrong.get_mut(to) {
@@ -69,11 +71,11 @@ fn changed(state: &[u8; SIZE], row: &Row) -> [u8; SIZE + 1] {
 }
 
 /// The state of a solver, or zeros if it is of another size.
-fn written<G: Ledger>(solver: &Tested, steps: &mut Steps<G>) -> [u8; SIZE] {
-    let mut state = [0; SIZE];
+fn written<G: Ledger>(solver: &Tested, steps: &mut Steps<G>) -> Bytes {
+    let mut state = [0; SIZE + 1];
     match write_state(&NAME, &solver.shown(), &mut state, steps) {
         Ok(SIZE) => state,
-        _ => [0; SIZE],
+        _ => [0; SIZE + 1],
     }
 }
 
@@ -85,10 +87,12 @@ fn fault_of<G: Ledger>(
     steps: &mut Steps<G>,
 ) -> Result<Option<u64>, &'static str> {
     let before = written(solver, steps);
-    match read_state(&NAME, solver, bytes, steps) {
-        Ok(()) if written(solver, steps).as_slice() == bytes => Ok(None),
+    let answer = read_state(&NAME, solver, bytes, steps);
+    let now = written(solver, steps);
+    match answer {
+        Ok(()) if now.get(..SIZE) == Some(bytes) => Ok(None),
         Ok(()) => Err("another state"),
-        Err(fault) if written(solver, steps) == before => Ok(Some(fault.offset)),
+        Err(fault) if now == before => Ok(Some(fault.offset)),
         Err(_) => Err("another world"),
     }
 }
@@ -114,12 +118,17 @@ fn wrong_start<G: Ledger>(rt: &impl Eprint, solver: &mut Tested, steps: &mut Ste
 }
 
 /// How many rows don't hold where a solver reads its own state, changed. Each of them is told.
-fn wrong_rows<G: Ledger>(rt: &impl Eprint, solver: &mut Tested, steps: &mut Steps<G>) -> u32 {
-    let mut wrong = wrong_start(rt, solver, steps);
-    let state = written(solver, steps);
-    for row in &ROWS {
+fn wrong_rows<G: Ledger>(rt: &impl Eprint, blank: Blank, solver: &mut Tested, rows: &[Row]) -> u32
+    requires name { blank.name ≡ G.name }
+    requires parts { blank.parts ≡ G.parts }
+    requires some { 0 < blank.parts }
+{
+    let mut steps: Steps<G> = Steps::open(blank);
+    let mut wrong = wrong_start(rt, solver, &mut steps);
+    let state = written(solver, &mut steps);
+    for row in rows {
         let bytes = changed(&state, row);
-        let fault = fault_of(solver, &bytes[..row.len.min(SIZE + 1)], steps);
+        let fault = fault_of(solver, bytes.get(..row.len).unwrap_or(&bytes), &mut steps);
         let change = (row.name, row.at, row.bytes, row.len);
         wrong = wrong.saturating_add(wrong_row(
             rt,
@@ -128,16 +137,6 @@ fn wrong_rows<G: Ledger>(rt: &impl Eprint, solver: &mut Tested, steps: &mut Step
             &Ok(row.fault),
         ));
     }
-    wrong
-}
-
-fn counted<G: Ledger>(rt: &impl Eprint, blank: Blank, solver: &mut Tested) -> u32
-    requires name { blank.name ≡ G.name }
-    requires parts { blank.parts ≡ G.parts }
-    requires some { 0 < blank.parts }
-{
-    let mut steps: Steps<G> = Steps::open(blank);
-    let wrong = wrong_rows(rt, solver, &mut steps);
     drop(steps);
     wrong
 }
@@ -146,7 +145,7 @@ fn counted<G: Ledger>(rt: &impl Eprint, blank: Blank, solver: &mut Tested) -> u3
 fn hostile_bytes_are_refused_at_their_places(rt: HostRuntime) -> Result<(), WrongRows> {
     let opened = solver_of(rt.alloc(), scene(rt.alloc(), &DRAWING));
     let mut solver = opened.expect(&rt, "no solver");
-    let wrong = counted::<Brand>(&rt, Blank::new(1), &mut solver);
+    let wrong = wrong_rows::<Brand>(&rt, Blank::new(1), &mut solver, &ROWS);
     drop(solver);
     all_hold(wrong)
 }

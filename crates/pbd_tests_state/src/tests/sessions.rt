@@ -7,6 +7,7 @@ use pbd_pair::LaneProjector;
 use pbd_state::{digest, read_state, write_state};
 use pbd_step::Solver;
 use pbd_store::Steps;
+use pbd_tests_rows::{WrongRows, all_hold, wrong_row};
 use pbd_world::{Refusal, Scene};
 use rand_core::utils::NextWord;
 use rand_pcg::Lcg64Xsh32;
@@ -23,14 +24,6 @@ const NAME: [u8; 32] = [42; 32];
 
 static WIDTHS: [u32; 5] = [1, 2, 4, 8, 16];
 
-/// A session, and the widths at which its state is written and read.
-#[derive(Clone, Copy)]
-struct Session {
-    seed: u64,
-    from: u32,
-    to: u32,
-}
-
 /// The state of a world, as many bytes as there are, and its digest.
 #[derive(Clone, Copy)]
 struct State {
@@ -39,43 +32,35 @@ struct State {
     digest: [u8; 32],
 }
 
-/// A session, and the state that was written of it.
+/// At which width a session is played, what it is drawn from, and the state that it reads in place of its first commands.
 #[derive(Clone, Copy)]
-struct Kept<'a> {
-    session: &'a Session,
-    state: &'a State,
+struct Start<'a> {
+    width: u32,
+    seed: u64,
+    kept: Option<&'a State>,
 }
 
-/// What six more commands answer, and the state behind them.
+/// What six commands answer.
+type Answers = [Result<(), Refusal>; 6];
+
+/// The state after a session's first commands, whether a wrong byte of it was taken, what six more commands answer, and the
+/// state behind them.
 #[derive(Clone, Copy)]
-struct End {
-    answers: [Result<(), Refusal>; 6],
-    state: State,
-}
-
-/// What went wrong, and at which byte or command.
-#[derive(Clone, Copy, Drop)]
-struct Wrong {
-    what: &'static str,
-    at: u64,
-}
-
-/// How many of the further commands were accepted, and whether the wrong byte was.
-#[derive(Clone, Copy, Drop)]
-struct Told {
-    accepted: u32,
+struct Played {
+    begun: State,
     taken: bool,
+    answers: Answers,
+    end: State,
 }
 
-/// A session of a seed: each pair of different widths has one of twenty.
-fn session_of(seed: u64) -> Session {
+/// What went wrong, and at which byte, or at how many bytes where states differ in their length or their digest alone.
+type Wrong = (&'static str, usize);
+
+/// The widths at which the state of a session is written and read: each pair of different ones has one of twenty seeds.
+fn widths_of(seed: u64) -> (u32, u32) {
     let from = seed % 5;
     let to = (seed / 5 % 4).wrapping_add(from).wrapping_add(1) % 5;
-    Session {
-        seed,
-        from: WIDTHS[from as usize],
-        to: WIDTHS[to as usize],
-    }
+    (WIDTHS[from as usize], WIDTHS[to as usize])
 }
 
 fn state_of<const L: usize, G: Ledger>(
@@ -86,10 +71,7 @@ fn state_of<const L: usize, G: Ledger>(
 {
     let world = &solver.shown();
     let mut bytes = [0; ROOM];
-    let len = match write_state(&NAME, world, &mut bytes, steps) {
-        Ok(len) => len,
-        Err(_) => 0,
-    };
+    let len = write_state(&NAME, world, &mut bytes, steps).unwrap_or(0);
     State {
         bytes,
         len,
@@ -102,97 +84,39 @@ fn bytes_of(state: &State) -> &[u8] {
     state.bytes.get(..state.len).unwrap_or(&[])
 }
 
-/// Plays the first commands of a session.
-fn begin<const L: usize, G: Ledger>(
+/// Plays six commands.
+fn play_six<const L: usize, G: Ledger>(
+    words: &mut Lcg64Xsh32,
     solver: &mut Solver<L, LaneProjector<L>>,
-    seed: u64,
     steps: &mut Steps<G>,
-)
+) -> Answers
     requires low { 0 < L }
     requires high { L ≤ 16 }
 {
-    let mut words = Lcg64Xsh32::new(seed, 2);
-    for _ in 0..6 {
-        let _ = play(&mut words, solver, steps);
-    }
+    [
+        play(words, solver, steps),
+        play(words, solver, steps),
+        play(words, solver, steps),
+        play(words, solver, steps),
+        play(words, solver, steps),
+        play(words, solver, steps),
+    ]
 }
 
-/// Plays six more commands.
-fn go_on<const L: usize, G: Ledger>(
-    solver: &mut Solver<L, LaneProjector<L>>,
-    seed: u64,
-    steps: &mut Steps<G>,
-) -> End
-    requires low { 0 < L }
-    requires high { L ≤ 16 }
-{
-    let mut words = Lcg64Xsh32::new(seed, 3);
-    let answers = [
-        play(&mut words, solver, steps),
-        play(&mut words, solver, steps),
-        play(&mut words, solver, steps),
-        play(&mut words, solver, steps),
-        play(&mut words, solver, steps),
-        play(&mut words, solver, steps),
-    ];
-    End {
-        answers,
-        state: state_of(solver, steps),
-    }
-}
-
-/// The state after a session's first commands, and how it ends, at one width.
-fn written<const L: usize, G: Ledger>(
-    alloc: Global,
-    scene: &Scene,
-    seed: u64,
-    steps: &mut Steps<G>,
-) -> Option<(State, End)>
-    requires low { 0 < L }
-    requires high { L ≤ 16 }
-{
-    match Solver::open(alloc, scene, LaneProjector::<L>::new()) {
-        Ok(mut solver) => {
-            begin(&mut solver, seed, steps);
-            let state = state_of(&solver, steps);
-            let end = go_on(&mut solver, seed, steps);
-            drop(solver);
-            Some((state, end))
-        }
-        Err(_) => None,
-    }
-}
-
-/// The first place at which bytes differ.
-fn first_difference(one: &[u8], other: &[u8]) -> Option<u64> {
-    let mut at = 0u64;
-    for (a, b) in one.iter().zip(other) {
+/// Whether two states are the same, and else what is said of that, and where they differ.
+fn same_state(what: &'static str, one: &State, other: &State) -> Result<(), Wrong> {
+    let mut at = 0usize;
+    for (a, b) in one.bytes.iter().zip(other.bytes.iter()) {
         if a != b {
-            return Some(at);
+            return Err((what, at));
         }
         at = at.saturating_add(1);
     }
-    None
-}
-
-/// Whether two states are the same, and else where they differ.
-fn same_state(one: &State, other: &State, what: &'static str) -> Result<(), Wrong> {
-    if one.len != other.len {
-        return Err(Wrong {
-            what,
-            at: one.len.min(other.len) as u64,
-        });
+    if one.len == other.len && one.digest == other.digest {
+        Ok(())
+    } else {
+        Err((what, at))
     }
-    if let Some(at) = first_difference(&one.bytes, &other.bytes) {
-        return Err(Wrong { what, at });
-    }
-    if one.digest != other.digest {
-        return Err(Wrong {
-            what: "digests differ though the states are the same",
-            at: 0,
-        });
-    }
-    Ok(())
 }
 
 /// Reads a state, of which the solver's world is then the one.
@@ -206,19 +130,17 @@ fn read<const L: usize, G: Ledger>(
 {
     match read_state(&NAME, solver, bytes_of(state), steps) {
         Ok(()) => same_state(
+            "the state that was read differs at byte",
             state,
             &state_of(solver, steps),
-            "the state that was read differs at byte",
         ),
-        Err(fault) => Err(Wrong {
-            what: "the state is refused at byte",
-            at: fault.offset,
-        }),
+        Err(fault) => Err(("the state is refused at byte", fault.offset as usize)),
     }
 }
 
 /// A state with one byte changed.
-fn with_a_wrong_byte(words: &mut Lcg64Xsh32, state: &State) -> State {
+fn with_a_wrong_byte(seed: u64, state: &State) -> State {
+    let mut words = Lcg64Xsh32::new(seed, 4);
     let mut wrong = *state;
     let at = words.next_word() as usize % state.len.max(1);
     let change = (1 + words.next_word() % 255) as u8;
@@ -232,104 +154,109 @@ fn with_a_wrong_byte(words: &mut Lcg64Xsh32, state: &State) -> State {
 /// one before.
 fn takes_a_wrong_byte<const L: usize, G: Ledger>(
     solver: &mut Solver<L, LaneProjector<L>>,
-    kept: &Kept<'_>,
+    seed: u64,
+    state: &State,
     steps: &mut Steps<G>,
 ) -> Result<bool, Wrong>
     requires low { 0 < L }
     requires high { L ≤ 16 }
 {
-    let wrong = with_a_wrong_byte(&mut Lcg64Xsh32::new(kept.session.seed, 4), kept.state);
+    let mut wrong = with_a_wrong_byte(seed, state);
     let answer = read_state(&NAME, solver, bytes_of(&wrong), steps);
     let now = state_of(solver, steps);
-    if answer.is_err() {
-        return match same_state(
-            kept.state,
+    let same = if answer.is_ok() {
+        wrong.digest = now.digest;
+        same_state(
+            "a wrong state is taken as another one at byte",
+            &wrong,
             &now,
-            "a refused state changes the world at byte",
-        ) {
-            Ok(()) => Ok(false),
-            Err(error) => Err(error),
-        };
-    }
-    match first_difference(&wrong.bytes, &now.bytes) {
-        None => Ok(true),
-        Some(at) => Err(Wrong {
-            what: "a wrong state is taken as another one at byte",
-            at,
-        }),
-    }
+        )
+    } else {
+        same_state("a refused state changes the world at byte", state, &now)
+    };
+    same?;
+    Ok(answer.is_ok())
 }
 
-/// Reads a state, a wrong one, and the first again, goes on, and says whether the wrong one was taken, and how it ends.
-fn read_and_go_on<const L: usize, G: Ledger>(
+/// Reads a state, a wrong one, and the first again, and says whether the wrong one was taken.
+fn read_again<const L: usize, G: Ledger>(
     solver: &mut Solver<L, LaneProjector<L>>,
-    kept: &Kept<'_>,
+    seed: u64,
+    state: &State,
     steps: &mut Steps<G>,
-) -> Result<(bool, End), Wrong>
+) -> Result<bool, Wrong>
     requires low { 0 < L }
     requires high { L ≤ 16 }
 {
-    read(solver, kept.state, steps)?;
-    let taken = takes_a_wrong_byte(solver, kept, steps)?;
-    read(solver, kept.state, steps)?;
-    Ok((taken, go_on(solver, kept.session.seed, steps)))
+    read(solver, state, steps)?;
+    let taken = takes_a_wrong_byte(solver, seed, state, steps)?;
+    read(solver, state, steps)?;
+    Ok(taken)
+}
+
+/// Plays a session.
+fn play_on<const L: usize, G: Ledger>(
+    solver: &mut Solver<L, LaneProjector<L>>,
+    start: &Start<'_>,
+    steps: &mut Steps<G>,
+) -> Result<Played, Wrong>
+    requires low { 0 < L }
+    requires high { L ≤ 16 }
+{
+    let taken = match start.kept {
+        Some(state) => read_again(solver, start.seed, state, steps)?,
+        None => {
+            let _ = play_six(&mut Lcg64Xsh32::new(start.seed, 2), solver, steps);
+            false
+        }
+    };
+    let begun = state_of(solver, steps);
+    let answers = play_six(&mut Lcg64Xsh32::new(start.seed, 3), solver, steps);
+    Ok(Played {
+        begun,
+        taken,
+        answers,
+        end: state_of(solver, steps),
+    })
 }
 
 /// The same on a solver of its own.
-fn read_at<const L: usize, G: Ledger>(
+fn play_at<const L: usize, G: Ledger>(
     alloc: Global,
     scene: &Scene,
-    kept: &Kept<'_>,
+    start: &Start<'_>,
     steps: &mut Steps<G>,
-) -> Result<(bool, End), Wrong>
+) -> Result<Played, Wrong>
     requires low { 0 < L }
     requires high { L ≤ 16 }
 {
     match Solver::open(alloc, scene, LaneProjector::<L>::new()) {
         Ok(mut solver) => {
-            let end = read_and_go_on(&mut solver, kept, steps);
+            let played = play_on(&mut solver, start, steps);
             drop(solver);
-            end
+            played
         }
-        Err(_) => Err(Wrong {
-            what: "no memory",
-            at: 0,
-        }),
+        Err(_) => Err(("no memory", 0)),
     }
 }
 
-fn written_by<G: Ledger>(
+fn play_by_width<G: Ledger>(
     alloc: Global,
     scene: &Scene,
-    session: &Session,
+    start: &Start<'_>,
     steps: &mut Steps<G>,
-) -> Option<(State, End)> {
-    match session.from {
-        1 => written::<1, G>(alloc, scene, session.seed, steps),
-        2 => written::<2, G>(alloc, scene, session.seed, steps),
-        4 => written::<4, G>(alloc, scene, session.seed, steps),
-        8 => written::<8, G>(alloc, scene, session.seed, steps),
-        _ => written::<16, G>(alloc, scene, session.seed, steps),
-    }
-}
-
-fn read_by<G: Ledger>(
-    alloc: Global,
-    scene: &Scene,
-    kept: &Kept<'_>,
-    steps: &mut Steps<G>,
-) -> Result<(bool, End), Wrong> {
-    match kept.session.to {
-        1 => read_at::<1, G>(alloc, scene, kept, steps),
-        2 => read_at::<2, G>(alloc, scene, kept, steps),
-        4 => read_at::<4, G>(alloc, scene, kept, steps),
-        8 => read_at::<8, G>(alloc, scene, kept, steps),
-        _ => read_at::<16, G>(alloc, scene, kept, steps),
+) -> Result<Played, Wrong> {
+    match start.width {
+        1 => play_at::<1, G>(alloc, scene, start, steps),
+        2 => play_at::<2, G>(alloc, scene, start, steps),
+        4 => play_at::<4, G>(alloc, scene, start, steps),
+        8 => play_at::<8, G>(alloc, scene, start, steps),
+        _ => play_at::<16, G>(alloc, scene, start, steps),
     }
 }
 
 /// How many commands were accepted.
-fn accepted(answers: &[Result<(), Refusal>]) -> u32 {
+fn accepted(answers: &Answers) -> u32 {
     let mut count = 0u32;
     for answer in answers {
         count = count.saturating_add(u32::from(answer.is_ok()));
@@ -337,103 +264,73 @@ fn accepted(answers: &[Result<(), Refusal>]) -> u32 {
     count
 }
 
-/// Whether two sessions end alike, and else what differs.
-fn same_end(one: &End, other: &End) -> Result<(), Wrong> {
+/// How many of a session's further commands were accepted, and of its wrong byte, where both widths come to the same.
+type Counts = Result<(u32, u32), Wrong>;
+
+fn counts_on<G: Ledger>(alloc: Global, scene: &Scene, seed: u64, steps: &mut Steps<G>) -> Counts {
+    let (from, to) = widths_of(seed);
+    let first = Start {
+        width: from,
+        seed,
+        kept: None,
+    };
+    let one = play_by_width(alloc, scene, &first, steps)?;
+    let second = Start {
+        width: to,
+        seed,
+        kept: Some(&one.begun),
+    };
+    let other = play_by_width(alloc, scene, &second, steps)?;
     if one.answers != other.answers {
-        return Err(Wrong {
-            what: "answers differ",
-            at: 0,
-        });
+        return Err(("answers differ", 0));
     }
-    same_state(
-        &one.state,
-        &other.state,
-        "the states at the end differ at byte",
-    )
+    same_state("the states at the end differ at byte", &one.end, &other.end)?;
+    Ok((accepted(&one.answers), u32::from(other.taken)))
 }
 
-fn tell<G: Ledger>(
-    alloc: Global,
-    scene: &Scene,
-    session: &Session,
-    steps: &mut Steps<G>,
-) -> Result<Told, Wrong> {
-    match written_by(alloc, scene, session, steps) {
-        Some((state, end)) => {
-            let kept = Kept {
-                session,
-                state: &state,
-            };
-            let (taken, other) = read_by(alloc, scene, &kept, steps)?;
-            same_end(&end, &other)?;
-            Ok(Told {
-                accepted: accepted(&end.answers),
-                taken,
-            })
+/// The same on the scene of a seed.
+fn counts_of_seed<G: Ledger>(alloc: Global, seed: u64, steps: &mut Steps<G>) -> Counts {
+    match drawn_scene(alloc, seed) {
+        Ok(scene) => {
+            let counts = counts_on(alloc, &scene, seed, steps);
+            drop(scene);
+            counts
         }
-        None => Err(Wrong {
-            what: "no memory",
-            at: 0,
-        }),
+        Err(_) => Err(("no scene", 0)),
     }
 }
 
-/// What a session comes to, with a counter of its own.
-fn counted<G: Ledger>(
-    alloc: Global,
-    blank: Blank,
-    scene: &Scene,
-    session: &Session,
-) -> Result<Told, Wrong>
+/// What is said of all sessions: that some of their commands and wrong bytes were accepted, and some refused.
+const COUNTED: &str = "of 6,000 commands and of 1,000 wrong bytes were accepted";
+
+const WRITES: &str =
+    "is a seed, and the widths at which the state of its session is written and read";
+
+/// How many sessions don't come to the same at two widths, and one more where all of them accept too little or too much. Each
+/// is told.
+fn wrong_sessions<G: Ledger>(rt: &impl Eprint, alloc: Global, blank: Blank) -> u32
     requires name { blank.name ≡ G.name }
     requires parts { blank.parts ≡ G.parts }
     requires some { 0 < blank.parts }
 {
     let mut steps: Steps<G> = Steps::open(blank);
-    let told = tell(alloc, scene, session, &mut steps);
-    drop(steps);
-    told
-}
-
-fn outcome(alloc: Global, session: &Session) -> Result<Told, Wrong> {
-    match drawn_scene(alloc, session.seed) {
-        Ok(scene) => {
-            let told = counted::<Brand>(alloc, Blank::new(1), &scene, session);
-            drop(scene);
-            told
-        }
-        Err(_) => Err(Wrong {
-            what: "no scene",
-            at: 0,
-        }),
+    let mut wrong = 0u32;
+    let mut commands = 0u32;
+    let mut bytes = 0u32;
+    for seed in 0..SESSIONS {
+        let counts = counts_of_seed(alloc, seed, &mut steps);
+        let (accepted, taken) = counts.unwrap_or((0, 0));
+        commands = commands.saturating_add(accepted);
+        bytes = bytes.saturating_add(taken);
+        let session = (seed, widths_of(seed));
+        wrong = wrong.saturating_add(wrong_row(rt, (&session, WRITES), &counts.err(), &None));
     }
+    drop(steps);
+    let wanted = (commands.clamp(2_001, 5_999), bytes.clamp(1, 499));
+    wrong.saturating_add(wrong_row(rt, (&"all sessions", COUNTED), &(commands, bytes), &wanted))
 }
 
 #[test]
-fn a_state_that_one_width_writes_another_reads(rt: HostRuntime) {
-    let mut wrong = 0u32;
-    let mut accepted = 0u32;
-    let mut taken = 0u32;
-    for seed in 0..SESSIONS {
-        let session = session_of(seed);
-        match outcome(rt.alloc(), &session) {
-            Ok(told) => {
-                accepted = accepted.saturating_add(told.accepted);
-                taken = taken.saturating_add(u32::from(told.taken));
-            }
-            Err(why) => {
-                let _ = eprintln!(rt;
-                    "session {seed}, written at width {} and read at width {}: {} {}",
-                    session.from, session.to, why.what, why.at
-                );
-                wrong = wrong.saturating_add(1);
-            }
-        }
-    }
-    assert!(rt; wrong == 0, "{wrong} of {SESSIONS} sessions");
-    assert!(rt;
-        2_000 < accepted && accepted < 6_000,
-        "{accepted} of 6,000 commands were accepted"
-    );
-    assert!(rt; 0 < taken && taken < 500, "{taken} wrong bytes were taken");
+fn a_state_that_one_width_writes_another_reads(rt: HostRuntime) -> Result<(), WrongRows> {
+    all_hold(wrong_sessions::<Brand>(&rt, rt.alloc(), Blank::new(1)))
 }

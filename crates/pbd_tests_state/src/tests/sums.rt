@@ -7,6 +7,7 @@ use pbd_pair::Scalar;
 use pbd_state::{checksum, digest};
 use pbd_step::{Saved, Shown, Solver};
 use pbd_store::Steps;
+use pbd_tests_rows::{WrongRows, all_hold, wrong_row};
 use pbd_tests_scenes::scene;
 use pbd_world::Scene;
 use std::alloc::Global;
@@ -16,76 +17,71 @@ use std::sync::ledger::{Blank, Ledger};
 /// Of the world before the first step, as a fold in Python gives it of words that were put together by hand.
 const CHECKSUM: u64 = 5_398_114_305_768_885_009;
 
-#[derive(Drop, PartialEq)]
-struct Sums {
-    digest: [u8; 32],
-    checksum: u64,
-}
+/// A digest and a checksum.
+type Sums = ([u8; 32], u64);
 
 fn sums_of<G: Ledger>(shown: &Shown<'_, 4>, steps: &mut Steps<G>) -> Sums {
-    Sums {
-        digest: digest(&NAME, shown, steps),
-        checksum: checksum(shown, steps),
-    }
+    (digest(&NAME, shown, steps), checksum(shown, steps))
 }
 
-/// What is wrong with the sums of a first world, or of one that a slot keeps while its solver goes on.
-fn wrong_of<G: Ledger>(
+/// What is told of the sums of a first world, and of one that a slot keeps while its solver goes on.
+const HOLD: &str =
+    "has its checksum, two steps are done, the first of which a slot keeps with its sums, and the second changes them";
+
+/// Whether that holds, part by part.
+fn parts_that_hold<G: Ledger>(
     solver: &mut Tested,
     saved: &mut Saved<4>,
     steps: &mut Steps<G>,
-) -> Option<&'static str>
+) -> [bool; 5]
     requires { AreOfOneScene saved.old solver.old.world }
 {
-    if checksum(&solver.shown(), steps) != CHECKSUM {
-        return Some("the checksum of the first world");
-    }
-    if solver.steps(1, steps).is_err() {
-        return Some("a step");
-    }
+    let first = checksum(&solver.shown(), steps);
+    let stepped = solver.steps(1, steps);
     saved.keep(solver);
     let before = sums_of(&solver.shown(), steps);
-    if solver.steps(1, steps).is_err() {
-        return Some("another step");
-    }
-    if sums_of(&saved.shown(), steps) != before {
-        return Some("the sums of a slot");
-    }
-    if sums_of(&solver.shown(), steps) == before {
-        return Some("the sums of another world");
-    }
-    None
+    let again = solver.steps(1, steps);
+    let kept = sums_of(&saved.shown(), steps);
+    let other = sums_of(&solver.shown(), steps);
+    [
+        first == CHECKSUM,
+        stepped.is_ok(),
+        again.is_ok(),
+        kept == before,
+        other != before,
+    ]
 }
 
-fn told<G: Ledger>(alloc: Global, blank: Blank, scene: &Scene) -> Option<&'static str>
+/// The same in a slot and a solver of their own, where there is memory for them.
+fn told<G: Ledger>(alloc: Global, blank: Blank, scene: &Scene) -> Option<[bool; 5]>
     requires name { blank.name ≡ G.name }
     requires parts { blank.parts ≡ G.parts }
     requires some { 0 < blank.parts }
 {
     let mut steps: Steps<G> = Steps::open(blank);
-    let wrong = match Saved::open(alloc, scene) {
+    let told = match Saved::open(alloc, scene) {
         Ok(mut saved) => {
-            let wrong = match Solver::open(alloc, scene, Scalar::<4>::new()) {
+            let told = match Solver::open(alloc, scene, Scalar::<4>::new()) {
                 Ok(mut solver) => {
-                    let wrong = wrong_of(&mut solver, &mut saved, &mut steps);
+                    let told = parts_that_hold(&mut solver, &mut saved, &mut steps);
                     drop(solver);
-                    wrong
+                    Some(told)
                 }
-                Err(_) => Some("memory"),
+                Err(_) => None,
             };
             drop(saved);
-            wrong
+            told
         }
-        Err(_) => Some("memory"),
+        Err(_) => None,
     };
     drop(steps);
-    wrong
+    told
 }
 
 #[test]
-fn a_kept_world_keeps_its_digest_and_checksum(rt: HostRuntime) {
+fn a_kept_world_keeps_its_digest_and_checksum(rt: HostRuntime) -> Result<(), WrongRows> {
     let scene = scene(rt.alloc(), &DRAWING).expect(&rt, "no scene");
-    let wrong = told::<Brand>(rt.alloc(), Blank::new(1), &scene);
+    let told = told::<Brand>(rt.alloc(), Blank::new(1), &scene);
     drop(scene);
-    assert!(rt; wrong.is_none(), "{}", wrong.unwrap_or("nothing"));
+    all_hold(wrong_row(&rt, (&"the first world", HOLD), &told, &Some([true; 5])))
 }
