@@ -216,7 +216,7 @@ SAID = {
         ("include/lakmozet.h", r'LAK_VERSION "(.*)"'), ("CHANGELOG.md", r"^## (\d.*)"),
     ],
     "the time of the first proof": [
-        ("README.md", r"it took (\d+) minutes on four processors"), ("docs/GATE.md", r"of the clock on the same machine, (\d+) minutes"),
+        ("README.md", r"it took (\d+) minutes on four processors"), ("docs/GATE.md", r"seconds of the clock, (\d+) minutes"),
     ],
     "the most particles": [
         ("docs/FORMATS.md", r"entries: `particle` ([\d,]*\d)"), ("docs/SOLVER.md", r"^\| particles; links; links at one particle \| ([\d,]+);"),
