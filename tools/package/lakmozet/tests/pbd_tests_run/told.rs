@@ -3,7 +3,11 @@ use std::fmt::Debug;
 
 /// One where a row came to something else than it says, which is told then behind the row and what it says of it, and else
 /// nothing.
-pub fn wrong_row<R: Debug, T: Debug + PartialEq>((row, what): (&R, &str), came_to: &T, wanted: &T) -> u32 {
+pub fn wrong_row<R: Debug, T: Debug + PartialEq>(
+    (row, what): (&R, &str),
+    came_to: &T,
+    wanted: &T,
+) -> u32 {
     if came_to == wanted {
         return 0;
     }
