@@ -25,6 +25,7 @@ use Rattle.pbd_world.specs.Step.{step}
 use Rattle.pbd_world.proofs.MomentumLemmas.{same_sum, part_by, part, momentum_set, added_all}
 use Rattle.pbd_world.proofs.KeepingOn.{bind-keeps, repeat-keeps, all-at}
 use Rattle.pbd_world.proofs.StepBalance.{IsReady, step-ready}
+use Rattle.pbd_world.proofs.WorldParts.{formed}
 
 -- ---- a value that no test refuses
 
@@ -166,11 +167,8 @@ link_ends limit n l t =
 
 well_formed-links : (w : World) → IsTrue (is_well_formed (parts_of w))
     → IsTrue (list_all (is_valid_link w.limit (length w.particles)) w.links)
-unfolding is_well_formed
 well_formed-links w t =
-    let p8 = and_parts _ _ t in let p7 = and_parts _ _ p8.0 in let p6 = and_parts _ _ p7.0 in let p5 = and_parts _ _ p6.0 in
-    let p4 = and_parts _ _ p5.0 in let p3 = and_parts _ _ p4.0 in
-    let q3 = and_parts _ _ p3.1 in let q2 = and_parts _ _ q3.0 in let q1 = and_parts _ _ q2.0 in q1.1
+    let q3 = and_parts _ _ (formed (parts_of w) t).links in let q2 = and_parts _ _ q3.0 in let q1 = and_parts _ _ q2.0 in q1.1
 
 pub sound-ready : (w : World) → IsSound w → IsReady w
 sound-ready w s = record {

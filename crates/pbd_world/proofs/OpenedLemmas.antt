@@ -19,6 +19,7 @@ use Rattle.pbd_world.specs.Momentum.{momentum}
 use Rattle.pbd_world.specs.Valid.{is_limit, is_valid_particle, are_valid_particles, is_at_rest, is_well_formed, is_valid}
 use Rattle.pbd_world.specs.World.{opened, is_tracked, IsSound}
 use Rattle.pbd_world.proofs.Rooms.{sum_grows, sum_wider}
+use Rattle.pbd_world.proofs.WorldParts.{formed}
 
 -- ---- the size of the momentum
 
@@ -94,23 +95,15 @@ nothing_more s =
 nothing : (n : ℕ) → SumWithin n zero_sum
 nothing n = record { x = omega arith; y = omega arith; z = omega arith }
 
--- the limit and the particles of well formed parts
-well_formed-begins : (parts : Parts) → IsTrue (is_well_formed parts)
-    → IsTrue (is_limit parts.limit) × IsTrue (are_valid_particles parts.limit parts.particles)
-unfolding is_well_formed
-well_formed-begins parts t =
-    let p8 = and_parts _ _ t in let p7 = and_parts _ _ p8.0 in let p6 = and_parts _ _ p7.0 in let p5 = and_parts _ _ p6.0 in
-    let p4 = and_parts _ _ p5.0 in let p3 = and_parts _ _ p4.0 in and_parts _ _ p3.0
-
 pub opened-is_sound : (parts : Parts) → IsTrue (is_valid parts) → IsSound (opened parts)
 unfolding is_valid
 opened-is_sound parts v =
     let p4 = and_parts _ _ v in
     let p3 = and_parts _ _ p4.0 in
     let p2 = and_parts _ _ p3.0 in
-    let begins = well_formed-begins parts p2.0 in
-    let limit = limit_fact parts.limit begins.0 in
-    let particles = and_parts (nat_le (length parts.particles) 65536) (list_all (is_valid_particle parts.limit) parts.particles) begins.1 in
+    let form = formed parts p2.0 in
+    let limit = limit_fact parts.limit form.limit in
+    let particles = and_parts (nat_le (length parts.particles) 65536) (list_all (is_valid_particle parts.limit) parts.particles) form.particles in
     let few : length parts.particles ≤ 65536 = leb-true (length parts.particles) 65536 particles.0 in
     record {
       well_formed = p2.0;

@@ -200,9 +200,9 @@ pub shapes_go : (w : World) (ps : List Particle) (t : Ledger) (b : ℕ) (s : Pas
 shapes_go w ps t b s lim few h =
     let R : Particle → Shaped → Type 0 = λ p x. IsTrue (is_within w.limit p.at) → MovesIn w.limit p x.moved in
     bind-keeps (AllZip R s.motion.particles) (PassGoes w.limit ps t (b + 2 ^ 47))
-    (each_from 0 (λ i p. shaped w.limit (shapes_of w.planes w.spheres) p) s.motion.particles) (λ ss. Ok (all_shaped s ss))
-    (each-keeps R (λ i p. shaped w.limit (shapes_of w.planes w.spheres) p)
-    (λ i p. shaped_in w.limit (shapes_of w.planes w.spheres) p lim) 0 s.motion.particles)
+    (each_from 0 (λ i p. shaped w.limit (shapes_of w.shapes) p) s.motion.particles) (λ ss. Ok (all_shaped s ss))
+    (each-keeps R (λ i p. shaped w.limit (shapes_of w.shapes) p)
+    (λ i p. shaped_in w.limit (shapes_of w.shapes) p lim) 0 s.motion.particles)
     (λ ss z. all_shaped_goes w.limit ps t b s ss few h z)
 
 -- ---- a pass

@@ -15,8 +15,7 @@ use Rattle.pbd_world.specs.declared.parts.Track.{Track}
 use Rattle.pbd_world.specs.declared.parts.Parts.{Parts}
 use Rattle.pbd_world.specs.declared.command.Command.{Command}
 use Rattle.pbd_world.specs.declared.command.Command.TheVariants.{Step, Frame, Pin, Unpin, Move, Cut, Gravity, Ledger, Bad}
-use Rattle.pbd_world.specs.Valid.{no_parts}
-use Rattle.pbd_world.specs.World.{opened}
+use Rattle.pbd_world.specs.World.{opened, no_parts}
 use Rattle.pbd_world.specs.Bonds.{is_slack, shift_of, correction_of, one}
 use Rattle.pbd_world.specs.Colours.{least_free, colours, colour, order}
 use Rattle.pbd_world.specs.Contacts.{contacts_of}

@@ -95,8 +95,7 @@ still_formed parts ps ls g form many fit same near =
       particles = and_from _ _ (ap (λ n. nat_le n 65536) many ∙ counts.0) (are_fit parts.limit ps fit);
       links = subst (λ (n : ℕ). IsTrue (are_valid_links parts.limit n ls)) (sym many)
           (links_valid parts.limit (length parts.particles) parts.links ls same form.links);
-      planes = form.planes;
-      spheres = form.spheres;
+      shapes = form.shapes;
       tracks = subst (λ (n : ℕ). IsTrue (are_valid_tracks parts.limit n parts.tracks)) (sym many) form.tracks;
       gravity = near;
       numbers = form.numbers;

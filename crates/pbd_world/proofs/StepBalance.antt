@@ -127,9 +127,9 @@ shaped-keeps n o s ss h z =
 shape_part-keeps : (n : ℕ) (o : Sum) (w : World) (s : Passing) → PassKeeps n o s → IfOk (shape_part w s) (PassKeeps n o)
 shape_part-keeps n o w s h =
     bind-keeps (AllZip (λ p x. Carries p x.moved) s.motion.particles) (PassKeeps n o)
-    (each_from 0 (λ i p. shaped w.limit (shapes_of w.planes w.spheres) p) s.motion.particles) (λ ss. Ok (all_shaped s ss))
-    (each-keeps (λ p x. Carries p x.moved) (λ i p. shaped w.limit (shapes_of w.planes w.spheres) p)
-    (λ i p. shaped_carries w.limit (shapes_of w.planes w.spheres) p) 0 s.motion.particles)
+    (each_from 0 (λ i p. shaped w.limit (shapes_of w.shapes) p) s.motion.particles) (λ ss. Ok (all_shaped s ss))
+    (each-keeps (λ p x. Carries p x.moved) (λ i p. shaped w.limit (shapes_of w.shapes) p)
+    (λ i p. shaped_carries w.limit (shapes_of w.shapes) p) 0 s.motion.particles)
     (λ ss z. shaped-keeps n o s ss h z)
 
 link_part-keeps : (n : ℕ) (o : Sum) (w : World) (m : Motion) → ((k : ℕ) → k < length w.links → AreEnds n (link_bond w.links k))

@@ -12,7 +12,8 @@ use Rattle.pbd_num.specs.Vectors.{is_axis_within, is_within, on_axes, plus, minu
 use Rattle.pbd_world.specs.declared.parts.Particle.{Particle}
 use Rattle.pbd_world.specs.declared.parts.Key.{Key}
 use Rattle.pbd_world.specs.declared.parts.Sphere.{Sphere}
-use Rattle.pbd_world.specs.Valid.{is_next_key, are_valid_keys, is_reach_within, is_valid_sphere, is_at_rest}
+use Rattle.pbd_world.specs.Valid.{is_next_key, are_valid_keys, is_at_rest}
+use Rattle.pbd_world.specs.Shapes.{is_reach_within, is_valid_sphere}
 
 -- two tests of which each follows from the other
 pub same_test : (a b : Bool) → (IsTrue a → IsTrue b) → (IsTrue b → IsTrue a) → a ≡ b

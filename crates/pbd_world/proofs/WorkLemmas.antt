@@ -19,6 +19,7 @@ use Rattle.pbd_world.specs.Particles.{Motion, particle_at}
 use Rattle.pbd_world.specs.Meaning.{after, refusals}
 use Rattle.pbd_world.specs.Outcomes.{unless}
 use Rattle.pbd_world.specs.Step.{predict, step}
+use Rattle.pbd_world.specs.Shapes.{shapes_of}
 use Rattle.pbd_world.specs.World.{World, IsSound, live_count}
 use Rattle.pbd_world.specs.Work.{blocks_in, of_colour_count, colour_work, colours_work, bonds_work, links_work, contacts_work, colours_used}
 use Rattle.pbd_world.specs.Work.{beginning_work, finding_work, shapes_work, pass_work, friction_work, tearable_count, settling_work}
@@ -223,7 +224,7 @@ step_wider width lanes wider_width more_lanes w contacts some wide any more =
     let fewer : blocks_in wider_width w ≤ blocks_in width w = pieces_fewer (length w.particles) width wider_width some wide in
     let twice : 2 * blocks_in wider_width w ≤ 2 * blocks_in width w = omega (arith, fewer) in
     let shapes : shapes_work wider_width w ≤ shapes_work width w =
-    if_less (length w.planes + length w.spheres == 0) (2 * blocks_in wider_width w) (2 * blocks_in width w) twice in
+    if_less (length (shapes_of w.shapes) == 0) (2 * blocks_in wider_width w) (2 * blocks_in width w) twice in
     let friction : friction_work wider_width w ≤ friction_work width w =
     if_less_else (int_lt (pos 0) w.friction) (2 * blocks_in wider_width w) (2 * blocks_in width w) twice in
     let links : links_work more_lanes w.links ≤ links_work lanes w.links =
@@ -313,7 +314,7 @@ step_few width lanes w contacts some s = by (nat_lt 262144 (length contacts)) re
     going_on few =
         let sum : ℕ = live_count w.links / lanes + colours_used w.links + length contacts + blocks_in width w in
         let shapes : shapes_work width w ≤ 2 * blocks_in width w =
-        if_most (length w.planes + length w.spheres == 0) (2 * blocks_in width w) in
+        if_most (length (shapes_of w.shapes) == 0) (2 * blocks_in width w) in
         let friction : friction_work width w ≤ 2 * blocks_in width w = if_most_else (int_lt (pos 0) w.friction) (2 * blocks_in width w) in
         let pass : pass_work width lanes w contacts ≤ 4 * sum =
         omega (arith, pass_is width lanes w contacts, shapes, links_few lanes w some s, contacts_each lanes contacts some) in

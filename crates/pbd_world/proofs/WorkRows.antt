@@ -4,8 +4,7 @@ use Rattle.pbd_num.specs.Rounding.{rdiv}
 use Rattle.pbd_world.specs.declared.parts.Particle.{Particle}
 use Rattle.pbd_world.specs.declared.parts.Link.{Link}
 use Rattle.pbd_world.specs.declared.parts.Kind.TheVariants.{Plain}
-use Rattle.pbd_world.specs.Valid.{no_parts}
-use Rattle.pbd_world.specs.World.{World, opened}
+use Rattle.pbd_world.specs.World.{World, opened, no_parts}
 use Rattle.pbd_world.specs.Colours.{least_free, colours, colour}
 use Rattle.pbd_world.specs.Contacts.{contacts_of}
 use Rattle.pbd_world.specs.Step.{predict}

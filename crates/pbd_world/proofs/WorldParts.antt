@@ -9,8 +9,9 @@ use Rattle.pbd_num.specs.Vectors.{is_within}
 use Rattle.pbd_num.proofs.Sizes.{size_at_most}
 use Rattle.pbd_world.specs.declared.parts.Particle.{Particle}
 use Rattle.pbd_world.specs.declared.parts.Parts.{Parts}
-use Rattle.pbd_world.specs.Valid.{is_between, is_limit, is_valid_particle, are_valid_particles, are_valid_links, are_valid_planes}
-use Rattle.pbd_world.specs.Valid.{are_valid_spheres, are_valid_tracks, are_valid_numbers, is_well_formed}
+use Rattle.pbd_world.specs.Valid.{is_between, is_limit, is_valid_particle, are_valid_particles, are_valid_links}
+use Rattle.pbd_world.specs.Valid.{are_valid_tracks, are_valid_numbers, is_well_formed}
+use Rattle.pbd_world.specs.Shapes.{shapes_in, are_valid_shapes}
 use Rattle.pbd_world.specs.World.{World, parts_of}
 use Rattle.pbd_world.proofs.WholeLemmas.{limit_low, limit_high}
 use Rattle.pbd_world.proofs.KeptLemmas.{IsLimit}
@@ -20,8 +21,7 @@ pub record Formed (parts : Parts) : Type 0 where
   pub limit : IsTrue (is_limit parts.limit)
   pub particles : IsTrue (are_valid_particles parts.limit parts.particles)
   pub links : IsTrue (are_valid_links parts.limit (length parts.particles) parts.links)
-  pub planes : IsTrue (are_valid_planes parts.planes)
-  pub spheres : IsTrue (are_valid_spheres parts.limit parts.spheres)
+  pub shapes : IsTrue (are_valid_shapes parts.limit (shapes_in parts))
   pub tracks : IsTrue (are_valid_tracks parts.limit (length parts.particles) parts.tracks)
   pub gravity : IsTrue (is_within parts.limit parts.gravity)
   pub numbers : IsTrue (are_valid_numbers parts)
@@ -29,14 +29,14 @@ pub record Formed (parts : Parts) : Type 0 where
 pub formed : (parts : Parts) → IsTrue (is_well_formed parts) → Formed parts
 unfolding is_well_formed
 formed parts h =
-    let p7 = and_parts _ _ h in let p6 = and_parts _ _ p7.0 in let p5 = and_parts _ _ p6.0 in let p4 = and_parts _ _ p5.0 in
+    let p6 = and_parts _ _ h in let p5 = and_parts _ _ p6.0 in let p4 = and_parts _ _ p5.0 in
     let p3 = and_parts _ _ p4.0 in let p2 = and_parts _ _ p3.0 in let p1 = and_parts _ _ p2.0 in
-    record { limit = p1.0; particles = p1.1; links = p2.1; planes = p3.1; spheres = p4.1; tracks = p5.1; gravity = p6.1; numbers = p7.1 }
+    record { limit = p1.0; particles = p1.1; links = p2.1; shapes = p3.1; tracks = p4.1; gravity = p5.1; numbers = p6.1 }
 
 pub from_formed : (parts : Parts) → Formed parts → IsTrue (is_well_formed parts)
 unfolding is_well_formed
-from_formed parts f = and_from _ _ (and_from _ _ (and_from _ _
-    (and_from _ _ (and_from _ _ (and_from _ _ (and_from _ _ f.limit f.particles) f.links) f.planes) f.spheres) f.tracks) f.gravity)
+from_formed parts f = and_from _ _ (and_from _ _
+    (and_from _ _ (and_from _ _ (and_from _ _ (and_from _ _ f.limit f.particles) f.links) f.shapes) f.tracks) f.gravity)
     f.numbers
 
 between_low : (high n : ℤ) → IsTrue (is_between (pos 0) high n) → pos 0 ≤ℤ n

@@ -3,15 +3,14 @@ use Rattle.std.specs.Prelude.{◌≢◌, ℕ, ◌^◌, ◌<◌, ◌≤◌, nat_l
 use Rattle.std.specs.Prelude.{◌||◌, IsTrue, List, [], ◌∷◌, length, filter, All}
 use Rattle.std.specs.List.{list_all, list_any, range_with_len}
 use Rattle.std.specs.Ordering.{int_eq}
-use Rattle.pbd_num.specs.Vectors.{is_within, is_axis_within, squared_length, on_axes, plus, minus, zero_vector}
+use Rattle.pbd_num.specs.Vectors.{is_within, squared_length, minus}
 use Rattle.pbd_world.specs.declared.parts.Particle.{Particle}
 use Rattle.pbd_world.specs.declared.parts.Link.{Link}
-use Rattle.pbd_world.specs.declared.parts.Plane.{Plane}
-use Rattle.pbd_world.specs.declared.parts.Sphere.{Sphere}
 use Rattle.pbd_world.specs.declared.parts.Key.{Key}
 use Rattle.pbd_world.specs.declared.parts.Track.{Track}
 use Rattle.pbd_world.specs.declared.parts.Parts.{Parts}
 use Rattle.pbd_world.specs.Particles.{particle_at}
+use Rattle.pbd_world.specs.Shapes.{shapes_in, are_valid_shapes}
 
 abbrev pub is_between : ℤ → ℤ → ℤ → Bool
 is_between low high n = int_le low n && int_le n high
@@ -76,29 +75,6 @@ pub record ValidLinks (limit : ℤ) (n : ℕ) (links : List Link) : Type 0 where
   pub once : IsTrue (none_twice join_alike links)
   pub few : (i : ℕ) → i < n → links_at links i ≤ 32
 
--- the normal isn't zero
-abbrev pub is_valid_plane : Plane → Bool
-is_valid_plane plane =
-    is_within (pos 1024) plane.normal
-    && nat_lt 0 (squared_length plane.normal)
-    && is_axis_within (pos (2 ^ 40)) plane.offset
-
-abbrev pub are_valid_planes : List Plane → Bool
-are_valid_planes planes = nat_le (length planes) 256 && list_all is_valid_plane planes
-
--- on an axis, all that is up to the radius from the centre is within the limit
-unfoldable pub is_reach_within : ℤ → ℤ → ℤ → Bool
-is_reach_within limit centre radius = is_axis_within limit (centre +ℤ radius) && is_axis_within limit (centre -ℤ radius)
-
--- all of it is within the limit on each axis
-abbrev pub is_valid_sphere : ℤ → Sphere → Bool
-is_valid_sphere limit sphere =
-    let reach = on_axes (λ axis. sphere.radius) sphere.centre in
-    int_le (pos 1) sphere.radius && is_within limit (plus sphere.centre reach) && is_within limit (minus sphere.centre reach)
-
-abbrev pub are_valid_spheres : ℤ → List Sphere → Bool
-are_valid_spheres limit spheres = nat_le (length spheres) 256 && list_all (is_valid_sphere limit) spheres
-
 -- steps up to 1,000,000 that increase, and places within the limit
 abbrev pub are_valid_keys : ℤ → List Key → Bool
 are_valid_keys limit [] = true
@@ -140,8 +116,7 @@ is_well_formed parts =
     is_limit parts.limit
     && are_valid_particles parts.limit parts.particles
     && are_valid_links parts.limit (length parts.particles) parts.links
-    && are_valid_planes parts.planes
-    && are_valid_spheres parts.limit parts.spheres
+    && are_valid_shapes parts.limit (shapes_in parts)
     && are_valid_tracks parts.limit (length parts.particles) parts.tracks
     && is_within parts.limit parts.gravity
     && are_valid_numbers parts
@@ -160,19 +135,3 @@ is_valid parts =
     && list_all (λ l. l.live) parts.links
     && list_all (λ p. not p.held || is_at_rest p) parts.particles
     && are_tracked_held parts.tracks parts.particles
-
--- no parts yet: one pass of nothing, without gravity, damping, thickness and friction
-abbrev pub no_parts : ℤ → Parts
-no_parts limit = record {
-  particles = [];
-  links = [];
-  planes = [];
-  spheres = [];
-  tracks = [];
-  gravity = zero_vector;
-  passes = 1;
-  damping = pos 0;
-  thickness = pos 0;
-  friction = pos 0;
-  limit = limit;
-}

@@ -14,6 +14,7 @@ use Rattle.pbd_world.specs.Outcomes.{unless}
 use Rattle.pbd_world.specs.Particles.{Motion}
 use Rattle.pbd_world.specs.Colours.{colour, of_colour}
 use Rattle.pbd_world.specs.Contacts.{contacts_of, link_pairs, live_flags}
+use Rattle.pbd_world.specs.Shapes.{shapes_of}
 use Rattle.pbd_world.specs.Step.{predict, step}
 use Rattle.pbd_world.specs.Meaning.{after, refusals, reply}
 
@@ -66,7 +67,7 @@ finding_work w = if unsigned_abs w.thickness == 0 then 0 else length w.particles
 
 -- the shapes, where there are some: two accesses for each block
 abbrev pub shapes_work : ℕ → World → ℕ
-shapes_work width w = if length w.planes + length w.spheres == 0 then 0 else 2 * blocks_in width w
+shapes_work width w = if length (shapes_of w.shapes) == 0 then 0 else 2 * blocks_in width w
 
 -- one pass: the links, the contacts, the shapes
 unfoldable pub pass_work : ℕ → ℕ → World → List (ℕ × ℕ) → ℕ

@@ -1,16 +1,16 @@
 -- Worlds, which of them are sound, and which are of one scene.
-use Rattle.std.specs.Prelude.{◌≡◌, ℕ, ◌≤◌, ◌*◌, ◌^◌, ◌==◌, ℤ, pos, Bool, false, not, ◌||◌, IsTrue, List, length, filter, map, All}
+use Rattle.std.specs.Prelude.{◌≡◌, ℕ, ◌≤◌, ◌*◌, ◌^◌, ◌==◌, ℤ, pos, Bool, false, not, ◌||◌, IsTrue, List, [], length, filter, map, All}
 use Rattle.std.specs.List.{list_all, list_any, enumerate_from}
 use Rattle.pbd_num.specs.declared.Vec3.{Vec3}
 use Rattle.pbd_num.specs.Vectors.{zero_vector}
 use Rattle.pbd_world.specs.declared.parts.Particle.{Particle}
 use Rattle.pbd_world.specs.declared.parts.Link.{Link}
-use Rattle.pbd_world.specs.declared.parts.Plane.{Plane}
-use Rattle.pbd_world.specs.declared.parts.Sphere.{Sphere}
+use Rattle.pbd_world.specs.declared.parts.ShapeLists.{ShapeLists}
 use Rattle.pbd_world.specs.declared.parts.Track.{Track}
 use Rattle.pbd_world.specs.declared.parts.Parts.{Parts}
 use Rattle.pbd_world.specs.Ledger.{Sum, Ledger, zero_sum, zero_totals, SumWithin}
 use Rattle.pbd_world.specs.Momentum.{momentum, IsBalanced}
+use Rattle.pbd_world.specs.Shapes.{shapes_in}
 use Rattle.pbd_world.specs.Valid.{is_well_formed, is_at_rest, are_tracked_held}
 
 -- all that a command can see or change
@@ -20,8 +20,7 @@ pub record World : Type 0 where
   pub particles : List Particle
   pub links : List Link
   pub tracks : List Track
-  pub planes : List Plane
-  pub spheres : List Sphere
+  pub shapes : ShapeLists
   pub gravity : Vec3
   pub passes : ℕ
   pub damping : ℤ
@@ -39,8 +38,7 @@ opened parts = record {
   particles = parts.particles;
   links = parts.links;
   tracks = parts.tracks;
-  planes = parts.planes;
-  spheres = parts.spheres;
+  shapes = shapes_in parts;
   gravity = parts.gravity;
   passes = parts.passes;
   damping = parts.damping;
@@ -56,8 +54,8 @@ abbrev pub parts_of : World → Parts
 parts_of w = record {
   particles = w.particles;
   links = w.links;
-  planes = w.planes;
-  spheres = w.spheres;
+  planes = w.shapes.planes;
+  spheres = w.shapes.spheres;
   tracks = w.tracks;
   gravity = w.gravity;
   passes = w.passes;
@@ -65,6 +63,22 @@ parts_of w = record {
   thickness = w.thickness;
   friction = w.friction;
   limit = w.limit;
+}
+
+-- no parts yet: one pass of nothing, without gravity, damping, thickness and friction
+abbrev pub no_parts : ℤ → Parts
+no_parts limit = record {
+  particles = [];
+  links = [];
+  planes = [];
+  spheres = [];
+  tracks = [];
+  gravity = zero_vector;
+  passes = 1;
+  damping = pos 0;
+  thickness = pos 0;
+  friction = pos 0;
+  limit = limit;
 }
 
 -- how many links are live

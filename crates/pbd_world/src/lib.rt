@@ -33,7 +33,7 @@ pub use limits::{
 };
 pub use list::List;
 pub use neighbours::NeighbourLists;
-pub use parts::{Key, Kind, Link, Particle, Parts, Plane, Sphere, Track};
+pub use parts::{Key, Kind, Link, Particle, Parts, Plane, ShapeLists, Sphere, Track};
 pub use room_list::{Full, RoomList};
 pub use scene::{PartsFault, Scene};
 pub use totals::{Class, Totals};

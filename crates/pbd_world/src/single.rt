@@ -1,7 +1,8 @@
 // Whether the single parts of a scene are in their ranges.
 ghost use Rattle.std.specs.Prelude.{◌≡◌, ◌≤◌, ◌==◌, ◌&&◌, ◌||◌, not, ◌^◌, nat_lt, pos, ◌≤ℤ◌, ◌*ℤ◌, unsigned_abs};
 ghost use Rattle.std.specs.List.{list_all};
-ghost use Rattle.pbd_world.specs.Valid.{is_between, is_limit, is_valid_particle, are_valid_particles, is_valid_link, is_valid_plane, are_valid_planes, is_reach_within, is_valid_sphere, are_valid_spheres, are_valid_keys, is_valid_track, are_valid_numbers, is_at_rest, is_next_key, are_tracked_held};
+ghost use Rattle.pbd_world.specs.Valid.{is_between, is_limit, is_valid_particle, are_valid_particles, is_valid_link, are_valid_keys, is_valid_track, are_valid_numbers, is_at_rest, is_next_key, are_tracked_held};
+ghost use Rattle.pbd_world.specs.Shapes.{shapes_in, is_valid_plane, are_valid_planes, is_reach_within, is_valid_sphere, are_valid_spheres, are_valid_shapes};
 ghost use Rattle.pbd_world.specs.Particles.{particle_at};
 
 use crate::limits::{LAST_STEP, MOST_PARTICLES, MOST_THICKNESS, OLD_RANGE};
@@ -122,7 +123,7 @@ fn all_planes(planes: &[Plane]) -> bool
     planes.iter().all(is_valid_plane)
 }
 
-pub fn are_valid_planes(planes: &[Plane]) -> bool
+fn are_valid_planes(planes: &[Plane]) -> bool
     ensures { result ≡ are_valid_planes planes.now }
 {
     planes.len() <= 256 && all_planes(planes)
@@ -171,12 +172,21 @@ fn all_spheres(limit: i64, spheres: &[Sphere]) -> bool
         .all(|s| is_ball_within(limit, s.centre, s.radius))
 }
 
-pub fn are_valid_spheres(limit: i64, spheres: &[Sphere]) -> bool
+fn are_valid_spheres(limit: i64, spheres: &[Sphere]) -> bool
     requires low { pos 0 ≤ℤ limit }
     requires high { unsigned_abs limit ≤ 2 ^ 29 }
     ensures { result ≡ are_valid_spheres limit spheres.now }
 {
     spheres.len() <= 256 && all_spheres(limit, spheres)
+}
+
+pub fn are_valid_shapes(limit: i64, parts: &Parts) -> bool
+    requires low { pos 0 ≤ℤ limit }
+    requires high { unsigned_abs limit ≤ 2 ^ 29 }
+    ensures { result ≡ are_valid_shapes limit (shapes_in parts.now) }
+{
+    are_valid_planes(parts.planes.as_slice())
+        && are_valid_spheres(limit, parts.spheres.as_slice())
 }
 
 // ---- tracks

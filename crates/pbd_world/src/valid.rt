@@ -7,7 +7,7 @@ use crate::limits::{MOST_LINKS, MOST_TRACKS};
 use crate::parts::{Link, Parts, Track};
 use crate::single::{
     all_links, all_tracks, are_held_at_rest, are_live, are_tracked_held, are_valid_numbers,
-    are_valid_particles, are_valid_planes, are_valid_spheres, is_limit,
+    are_valid_particles, are_valid_shapes, is_limit,
 };
 use pbd_num::within;
 use std::alloc::{AllocError, Global};
@@ -61,8 +61,7 @@ fn is_well_formed(alloc: Global, parts: &Parts) -> Result<bool, AllocError>
     let tracks = are_valid_tracks(alloc, limit, count, parts.tracks.as_slice())?;
     Ok(
         links
-            && are_valid_planes(parts.planes.as_slice())
-            && are_valid_spheres(limit, parts.spheres.as_slice())
+            && are_valid_shapes(limit, parts)
             && tracks
             && within(parts.gravity, limit)
             && are_valid_numbers(parts),

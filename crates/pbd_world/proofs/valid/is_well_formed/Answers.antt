@@ -21,8 +21,8 @@ pub are_valid_tracks-requires : goal.are_valid_tracks-requires
 are_valid_tracks-requires c = asked (to_z w64 (of_z w64 c.args.parts.now.limit)) c.is_limit.result c.is_limit.ensures
     c.if-not-is_limit.false
 
-pub are_valid_spheres-requires : goal.are_valid_spheres-requires
-are_valid_spheres-requires c = asked (to_z w64 (of_z w64 c.args.parts.now.limit)) c.is_limit.result c.is_limit.ensures
+pub are_valid_shapes-requires : goal.are_valid_shapes-requires
+are_valid_shapes-requires c = asked (to_z w64 (of_z w64 c.args.parts.now.limit)) c.is_limit.result c.is_limit.ensures
     c.if-not-is_limit.false
 
 pub within-requires : goal.within-requires
