@@ -85,7 +85,8 @@ impl<const L: usize> Store<L> {
     /// How many blocks of L hold the particles.
     pub fn blocks(&self) -> u32
         requires { 0 < L }
-        ensures { result ≡ blocks_of (length self.now.particles) L }
+        ensures value { result ≡ blocks_of (length self.now.particles) L }
+        ensures few { length self.now.particles ≤ 65536 }
     {
         self.columns.len().div_ceil(L) as u32
     }

@@ -1,5 +1,5 @@
 // A list with a fixed room.
-ghost use Rattle.std.specs.Prelude.{◌≡◌, ◌<◌, ◌++◌, [], ◌∷◌, length, IfOk, OnOk, OnErr, IsOk};
+ghost use Rattle.std.specs.Prelude.{◌≡◌, ◌<◌, ◌≤◌, ◌++◌, [], ◌∷◌, length, replicate, IfOk, OnOk, OnErr, IsOk};
 ghost use Rattle.std.specs.Borrow.{sem};
 ghost use Rattle.pbd_world.specs.Lending.{LendsItems};
 
@@ -75,6 +75,17 @@ impl<T: Copy> RoomList<T> {
         ensures { self.new ≡ record self.old { entries = [] } }
     {
         self.entries.clear();
+    }
+
+    /// Makes it n copies of an item, in place of what it held.
+    pub fn fill(&mut self, item: T, n: u32)
+        requires { n ≤ self.old.room }
+        ensures { self.new ≡ record self.old { entries = replicate n item } }
+    {
+        self.clear();
+        for _ in 0..n {
+            let _ = self.push(item);
+        }
     }
 
     /// How many items there may be.
