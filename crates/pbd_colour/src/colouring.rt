@@ -9,7 +9,7 @@ ghost use Rattle.pbd_colour.specs.Batch.{AreApart, AreLive};
 
 use crate::gather::{gather, open_order};
 use crate::held::{Held, are_same, hold_as, hold_instead, leads, take_out};
-use crate::lists::{copy_all, copy_over, fill, open_filled};
+use crate::lists::{copy_all, copy_over, open_filled};
 use crate::marks::Marks;
 use crate::mend::mend;
 use crate::paint::paint;
@@ -119,9 +119,9 @@ impl Colouring {
         copy_all(&mut self.pairs, pairs);
         tell_all(self.toward.as_mut_slice(), pairs);
         let count = pairs.len() as u32;
-        fill(&mut self.live, true, count);
+        self.live.fill(true, count);
         self.marks.refill(count);
-        fill(&mut self.colours, 0, count);
+        self.colours.fill(0, count);
         paint(
             self.pairs.as_slice(),
             self.live.as_slice(),

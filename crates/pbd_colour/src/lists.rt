@@ -4,17 +4,6 @@ ghost use Rattle.std.specs.Prelude.{◌≡◌, ◌≤◌, length, replicate, IfO
 use pbd_world::RoomList;
 use std::alloc::{AllocError, Global};
 
-// Fills a list with n copies of an item.
-pub(crate) fn fill<T: Copy>(list: &mut RoomList<T>, item: T, n: u32)
-    requires { n ≤ list.old.room }
-    ensures { list.new ≡ record list.old { entries = replicate n item } }
-{
-    list.clear();
-    for _ in 0..n {
-        let _ = list.push(item);
-    }
-}
-
 // A list with so much room, which begins with n copies of an item.
 pub(crate) fn open_filled<T: Copy>(
     alloc: Global,
@@ -26,7 +15,7 @@ pub(crate) fn open_filled<T: Copy>(
     ensures { IfOk result (λ list. list ≡ record { entries = replicate n item; room = room }) }
 {
     let mut list = RoomList::open(alloc, room)?;
-    fill(&mut list, item, n);
+    list.fill(item, n);
     Ok(list)
 }
 

@@ -3,7 +3,7 @@ ghost use Rattle.std.specs.Prelude.{◌≡◌, ◌+◌, ◌*◌, ◌/◌, ◌<�
 ghost use Rattle.pbd_world.specs.Colours.{live_at};
 ghost use Rattle.pbd_colour.specs.Marked.{AreBlocked, AreUnmarked};
 
-use crate::lists::{fill, open_filled};
+use crate::lists::open_filled;
 use pbd_world::RoomList;
 use std::alloc::{AllocError, Global};
 use std::marker::Model;
@@ -133,8 +133,8 @@ impl Marks {
         requires { count ≤ self.old.room }
         ensures { self.new ≡ record self.old { entries = replicate count false } }
     {
-        fill(&mut self.numbers, false, count);
-        fill(&mut self.blocks, false, count / 256 + 1);
+        self.numbers.fill(false, count);
+        self.blocks.fill(false, count / 256 + 1);
     }
 
     // Marks a number where it is to be.

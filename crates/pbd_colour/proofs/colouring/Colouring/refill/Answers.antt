@@ -33,16 +33,16 @@ pub gather-requires : goal.gather-requires
 gather-requires c =
     let count : length c.copy_all.new.list.entries ≡ length c.args.pairs.now =
     ap (λ (r : Roomed (ℕ × ℕ)). length r.entries) c.copy_all.ensures in
-    let flags : length c.fill.new.list.entries ≡ length c.copy_all.new.list.entries = ap (λ (r : Roomed Bool). length r.entries) c.fill.ensures
+    let flags : length c.fill.new.self.entries ≡ length c.copy_all.new.list.entries = ap (λ (r : Roomed Bool). length r.entries) c.fill.ensures
     ∙ length-replicate (length c.args.pairs.now) true ∙ sym count in
     let written = c.paint.auto.colours ∙ ap length c.as_mut_slice-4.ensures.value in
-    let colours = overwritten_is c.fill-2.new.list.entries c.paint.new.colours written in
+    let colours = overwritten_is c.fill-2.new.self.entries c.paint.new.colours written in
     let painted = ArePainted-as c.as_slice-2.ensures c.as_slice-3.ensures (sym colours) (λ i l a. c.paint.ensures i l) in
     let room = ap (λ (s : Coloured). s.room) c.self.view_is in
     rw (c.as_slice-4.ensures, c.as_slice-5.ensures) (record {
       colours = ap length colours ∙ written ∙ ap (λ (r : Roomed ℕ). length r.entries) c.fill-2.ensures
           ∙ length-replicate (length c.args.pairs.now) 0 ∙ sym (flags ∙ count);
-      within = painted_within c.copy_all.new.list.entries c.fill.new.list.entries _ painted flags;
+      within = painted_within c.copy_all.new.list.entries c.fill.new.self.entries _ painted flags;
       few = omega (arith, flags, count, c.requires.fits, room, c.self.invariant.few);
       numbers = omega (arith, flags, count, c.requires.fits, room, c.self.invariant.order_room);
       starts = ap length c.as_mut_slice-5.ensures.value ∙ c.self.invariant.starts_length;
@@ -54,7 +54,7 @@ invariant_of-self c =
     let live = ap (λ (r : Roomed Bool). r.entries) c.fill.ensures in
     let marks = ap (λ (r : Roomed Bool). r.entries) c.refill.ensures in
     let flags = ap length live ∙ length-replicate (length c.args.pairs.now) true ∙ sym (ap length pairs) in
-    let colours_size : length c.paint.new.colours ≡ length c.fill-2.new.list.entries = c.paint.auto.colours
+    let colours_size : length c.paint.new.colours ≡ length c.fill-2.new.self.entries = c.paint.auto.colours
     ∙ ap length c.as_mut_slice-4.ensures.value in
     let used_size : length c.paint.new.used ≡ length c.self.inside.used.entries = c.paint.auto.used
     ∙ ap length c.as_mut_slice-3.ensures.value in
@@ -62,7 +62,7 @@ invariant_of-self c =
     ∙ ap length c.as_mut_slice-2.ensures.value in
     let starts_size : length c.gather.new.starts ≡ length c.self.inside.starts.entries = c.gather.auto.starts
     ∙ ap length c.as_mut_slice-5.ensures.value in
-    let colours = overwritten_is c.fill-2.new.list.entries c.paint.new.colours colours_size in
+    let colours = overwritten_is c.fill-2.new.self.entries c.paint.new.colours colours_size in
     let used = overwritten_is c.self.inside.used.entries c.paint.new.used used_size in
     let sets = overwritten_is c.self.inside.toward.entries c.tell_all.new.sets sets_size in
     let starts = overwritten_is c.self.inside.starts.entries c.gather.new.starts starts_size in
@@ -93,7 +93,7 @@ invariant_of-self c =
         count = c.hold_instead.ensures.count ∙ c.self.invariant.held.count;
         holds = λ p x l. c.hold_instead.ensures.holds p x (omega (arith, l, c.self.invariant.held.count))
             ∙ ap (λ (b : Bool). b && eqb (end_at c.args.pairs.now x) p)
-            (before_live (length c.args.pairs.now) (x / 2) c.fill.new.list.entries live)
-            ∙ ap (λ (ps : List (ℕ × ℕ)). live_at c.fill.new.list.entries (x / 2) && eqb (end_at ps x) p) (sym pairs);
+            (before_live (length c.args.pairs.now) (x / 2) c.fill.new.self.entries live)
+            ∙ ap (λ (ps : List (ℕ × ℕ)). live_at c.fill.new.self.entries (x / 2) && eqb (end_at ps x) p) (sym pairs);
       };
     }

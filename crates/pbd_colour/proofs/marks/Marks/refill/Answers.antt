@@ -13,11 +13,11 @@ fill-requires-2 c = let few = rw (← c.self.view_is) at c.requires in omega (ar
 pub invariant_of-self : goal.invariant_of-self
 invariant_of-self c =
     let numbers = ap (λ (r : Roomed Bool). r.entries) c.fill.ensures in
-    let count : length c.fill.new.list.entries ≡ c.args.count = ap length numbers ∙ length-replicate c.args.count false in
-    let blocks : length c.fill-2.new.list.entries ≡ c.args.count / 256 + 1 = ap (λ (r : Roomed Bool). length r.entries) c.fill-2.ensures
+    let count : length c.fill.new.self.entries ≡ c.args.count = ap length numbers ∙ length-replicate c.args.count false in
+    let blocks : length c.fill-2.new.self.entries ≡ c.args.count / 256 + 1 = ap (λ (r : Roomed Bool). length r.entries) c.fill-2.ensures
     ∙ length-replicate (c.args.count / 256 + 1) false in (
-      none_blocked c.fill.new.list.entries c.fill-2.new.list.entries (blocks ∙ ap (λ (n : ℕ). n / 256 + 1) (sym count))
-          (all_unmarked c.args.count c.fill.new.list.entries numbers),
+      none_blocked c.fill.new.self.entries c.fill-2.new.self.entries (blocks ∙ ap (λ (n : ℕ). n / 256 + 1) (sym count))
+          (all_unmarked c.args.count c.fill.new.self.entries numbers),
       ap (λ (r : Roomed Bool). r.room) c.fill-2.ensures ∙ c.self.invariant.1
           ∙ ap (λ (r : Roomed Bool). r.room / 256 + 1) (sym c.fill.ensures),
     )
