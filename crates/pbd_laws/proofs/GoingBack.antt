@@ -8,7 +8,6 @@ use Rattle.std.proofs.lemmas.Bool.{cases_lt}
 use Rattle.std.proofs.lemmas.List.{get_or-set_same, get_or-set_other, take-set, take-append-le, take-append-drop, length-take}
 use Rattle.pbd_world.specs.declared.command.Command.{Command}
 use Rattle.pbd_world.specs.World.{World}
-use Rattle.pbd_world.specs.Meaning.{after}
 use Rattle.pbd_world.specs.Session.{last_world}
 use Rattle.pbd_laws.specs.Machine.{Machine, slot_at, kept_or, acted, all_acted}
 use Rattle.pbd_laws.specs.Machine.Act.{Play, Save, Restore}

@@ -1,8 +1,8 @@
 -- A held particle without a track keeps its place.
 use Rattle.std.proofs.Common.{◌≡◌, ◌≢◌, refl, sym, ap, ◌∙◌, ℕ, zero, suc, ◌+◌, ◌<◌, Bool, true, false, not, ◌&&◌, ◌||◌, List, [], ◌∷◌}
 use Rattle.std.proofs.Common.{length, map, get_or, All, arith, ℤ, pos, inl, inr, subst}
-use Rattle.std.specs.Prelude.{Option, Some, None, IfSome, Result, Ok, Err, IfOk, if◌then◌else◌, ◌==◌, option_map}
-use Rattle.std.specs.List.{AllByRecursion, AllZip, zip, find}
+use Rattle.std.specs.Prelude.{Option, Some, None, IfSome, Result, Ok, Err, IfOk, if◌then◌else◌, option_map}
+use Rattle.std.specs.List.{AllByRecursion, AllZip, zip}
 use Rattle.std.proofs.lemmas.Bool.{cases_eq, false≢true}
 use Rattle.std.proofs.lemmas.List.{get_or-set_same, get_or-set_other}
 use Rattle.std.proofs.lemmas.List.Elements.{All-head, All-tail}
@@ -21,7 +21,7 @@ use Rattle.pbd_world.specs.declared.command.Phase.TheVariants as phases
 use Rattle.pbd_world.specs.Particles.{Motion, Moved, all_moved, no_particle, particle_at, placed, effective_weight}
 use Rattle.pbd_world.specs.World.{World, is_tracked}
 use Rattle.pbd_world.specs.Outcomes.{with_fault, unless, one_more, each_from}
-use Rattle.pbd_world.specs.Tracks.{track_of, held_place}
+use Rattle.pbd_world.specs.Tracks.{held_place}
 use Rattle.pbd_world.specs.Bonds.{link_bond, contact_bond, end_of, is_slack, shift_of, correction_of, corrected, one, projected}
 use Rattle.pbd_world.specs.Shapes.{Shape, Way, Shaped, stays, still, shaped_by, way_through, shaped, shapes_of, rubbed, slowed}
 use Rattle.pbd_world.specs.Step.{attached, flown, if_within, predicted, predict, Passing, link_order, contact_order, link_part}
@@ -172,9 +172,9 @@ all_shaped_holds i p s ss h z =
 shapes_hold : (i : ℕ) (p : Particle) (w : World) (s : Passing) → PassHolds i p s → IfOk (shape_part w s) (PassHolds i p)
 shapes_hold i p w s h =
     bind-keeps (AllZip (λ q x. q.held ≡ true → x.moved.particle ≡ q) s.motion.particles) (PassHolds i p)
-    (each_from 0 (λ j q. shaped w.limit (shapes_of w.planes w.spheres) q) s.motion.particles) (λ ss. Ok (all_shaped s ss))
-    (each-keeps (λ q x. q.held ≡ true → x.moved.particle ≡ q) (λ j q. shaped w.limit (shapes_of w.planes w.spheres) q)
-    (λ j q. shaped_stays w.limit (shapes_of w.planes w.spheres) q) 0 s.motion.particles)
+    (each_from 0 (λ j q. shaped w.limit (shapes_of w.shapes) q) s.motion.particles) (λ ss. Ok (all_shaped s ss))
+    (each-keeps (λ q x. q.held ≡ true → x.moved.particle ≡ q) (λ j q. shaped w.limit (shapes_of w.shapes) q)
+    (λ j q. shaped_stays w.limit (shapes_of w.shapes) q) 0 s.motion.particles)
     (λ ss z. all_shaped_holds i p s ss h z)
 
 -- ---- a pass

@@ -1,10 +1,12 @@
--- Where planes and spheres leave a particle.
+-- Where shapes leave a particle.
 use borrow.Author.Differences.{up, down, sum_is_lem, product_is}
 use Rattle.std.proofs.Common.{◌≡◌, refl, sym, ap, ◌∙◌, ℕ, zero, suc, ◌+◌, ◌*◌, ◌<◌, ◌≤◌, Bool, true, false, List, [], ◌∷◌, length, map}
 use Rattle.std.proofs.Common.{arith, pos, negsuc, ℤ, ◌+ℤ◌, ◌-ℤ◌, ◌*ℤ◌, ◌≤ℤ◌, unsigned_abs, subst}
-use Rattle.std.specs.Prelude.{Option, Some, None, IfSome, Result, Ok, IfOk, IsTrue, if◌then◌else◌, int_lt, ◌==◌, nat_le, nat_lt, option_map}
+use Rattle.std.specs.Prelude.{Option, Some, None, IfSome, Ok, IfOk, IsTrue, if◌then◌else◌, int_lt, ◌==◌, nat_lt, option_map}
 use Rattle.std.specs.List.{AllByRecursion, AllZip, list_all}
 use Rattle.std.proofs.lemmas.Int.{ints}
+use Rattle.std.proofs.lemmas.List.{map-append}
+use Rattle.std.proofs.lemmas.Simd.{map-map}
 use Rattle.std.proofs.lemmas.Bool.{and_parts, false≢true, ltb-true}
 use Rattle.std.proofs.Math.Nat.{mul-le-mul}
 use Rattle.pbd_num.specs.declared.Vec3.{Vec3}
@@ -15,17 +17,17 @@ use Rattle.pbd_num.proofs.Sizes.{square_of}
 use Rattle.pbd_world.specs.declared.parts.Particle.{Particle}
 use Rattle.pbd_world.specs.declared.parts.Plane.{Plane}
 use Rattle.pbd_world.specs.declared.parts.Sphere.{Sphere}
+use Rattle.pbd_world.specs.declared.parts.ShapeLists.{ShapeLists}
 use Rattle.pbd_world.specs.Particles.{Moved, no_particle, particle_at}
-use Rattle.pbd_world.specs.Valid.{is_valid_plane}
 use Rattle.pbd_world.specs.World.{World, parts_of, IsSound}
 use Rattle.pbd_world.specs.Outcomes.{each_from}
 use Rattle.pbd_world.specs.Shapes.{Shape, plane_shape, sphere_shape, onto_sphere, shapes_of, Way, past, way_through, Shaped, still}
-use Rattle.pbd_world.specs.Shapes.{shaped_by, shaped}
+use Rattle.pbd_world.specs.Shapes.{shaped_by, shaped, is_valid_plane, are_valid_planes, are_valid_spheres, are_valid_shapes}
 use Rattle.pbd_world.specs.Step.{Passing, all_shaped, shape_part}
 use Rattle.pbd_world.proofs.KeepingOn.{bind-keeps, each-keeps, zip-map, all-map, all-append}
 use Rattle.pbd_world.proofs.KeptLemmas.{zip_at}
 use Rattle.pbd_world.proofs.WorldParts.{formed}
-use Rattle.pbd_laws.specs.Solids.{Solid, solids_of, shape_by, later_or, last_from, last_solid, size_sum, IsOut}
+use Rattle.pbd_laws.specs.Solids.{Solid, solids_of, shape_by, CanPush, later_or, last_from, last_solid, size_sum, IsOut}
 use Rattle.pbd_laws.specs.Solids.Solid.{APlane, ASphere}
 use Rattle.pbd_laws.proofs.Rounded.{IsNear, near, cancel, far-vector}
 use Rattle.pbd_laws.proofs.Counting.{ok_at}
@@ -85,7 +87,7 @@ positive : (z : ℤ) → int_lt (pos 0) z ≡ true → z ≡ pos (unsigned_abs z
 positive (pos n) e = refl
 positive (negsuc n) e = absurd (false≢true e)
 
-pub plane-out : (plane : Plane) (p to : Vec3) → 0 < squared_length plane.normal → plane_shape plane p ≡ Some to → IsOut (APlane plane) to
+plane-out : (plane : Plane) (p to : Vec3) → 0 < squared_length plane.normal → plane_shape plane p ≡ Some to → IsOut (APlane plane) to
 unfolding plane_shape plane_to
 plane-out plane p to some h = by (int_lt (pos 0) (plane.offset -ℤ dot plane.normal p)) refl h
   where
@@ -159,7 +161,7 @@ onto_far k sphere p is =
     subst (λ r. k ≤ length_of (minus (sphere_to sphere p r (length_of (minus p sphere.centre) == 0)) sphere.centre)) (sym is)
     (to_far k sphere p (length_of (minus p sphere.centre) == 0) refl)
 
-pub sphere-out : (sphere : Sphere) (p to : Vec3) → sphere_shape sphere p ≡ Some to → IsOut (ASphere sphere) to
+sphere-out : (sphere : Sphere) (p to : Vec3) → sphere_shape sphere p ≡ Some to → IsOut (ASphere sphere) to
 unfolding sphere_shape
 sphere-out sphere p to h = by (int_lt (pos (length_of (minus p sphere.centre))) sphere.radius) refl h
   where
@@ -176,14 +178,9 @@ sphere-out sphere p to h = by (int_lt (pos (length_of (minus p sphere.centre))) 
 
 -- ---- the way through all of them
 
--- a plane's normal isn't zero
-abbrev HasNormal : Solid → Type 0
-HasNormal (APlane plane) = 0 < squared_length plane.normal
-HasNormal (ASphere sphere) = Unit {0}
-
-solid_out : (solid : Solid) (p to : Vec3) → HasNormal solid → shape_by solid p ≡ Some to → IsOut solid to
-solid_out (APlane plane) p to some h = plane-out plane p to some h
-solid_out (ASphere sphere) p to some h = sphere-out sphere p to h
+pub solid-out : (solid : Solid) (p to : Vec3) → CanPush solid → shape_by solid p ≡ Some to → IsOut solid to
+solid-out (APlane plane) p to some h = plane-out plane p to some h
+solid-out (ASphere sphere) p to some h = sphere-out sphere p to h
 
 -- out of the last solid, or where it was
 abbrev Comes : Option Solid → Vec3 → Vec3 → Type 0
@@ -198,7 +195,7 @@ ok_some : {A : Type 0} (P Q : A → Type 0) (o : Option A) → ((x : A) → P x 
 ok_some P Q None f h = tt
 ok_some P Q (Some x) f h = f x h
 
-way_comes : (limit : ℤ) (ss : List Solid) (way : Way) → AllByRecursion HasNormal ss
+way_comes : (limit : ℤ) (ss : List Solid) (way : Way) → AllByRecursion CanPush ss
     → IfSome (way_through limit (map shape_by ss) way) (λ v. Comes (last_solid ss way.at) way.at v.at)
 way_comes limit [] way all = refl
 way_comes limit (s ∷ ss) way all = by (shape_by s way.at) refl (λ next. way_comes limit ss next all.1)
@@ -218,14 +215,14 @@ way_comes limit (s ∷ ss) way all = by (shape_by s way.at) refl (λ next. way_c
         → IfSome (elim (past limit way o) [ None ↦ None | Some next ↦ way_through limit (map shape_by ss) next ])
         (λ v. Comes (last_from s (last_solid ss) way.at o) way.at v.at)
     by None e rest = rest way
-    by (Some to) e rest = inside to (is_within limit to) (solid_out s way.at to all.0 e) rest
+    by (Some to) e rest = inside to (is_within limit to) (solid-out s way.at to all.0 e) rest
 
 -- a particle and where the shape part leaves it
 pub record IsLeft (ss : List Solid) (p : Particle) (to : Vec3) : Type 0 where
   pub free : p.held ≡ false → Comes (last_solid ss p.at) p.at to
   pub held : p.held ≡ true → to ≡ p.at
 
-shaped_left : (limit : ℤ) (ss : List Solid) (p : Particle) → AllByRecursion HasNormal ss
+shaped_left : (limit : ℤ) (ss : List Solid) (p : Particle) → AllByRecursion CanPush ss
     → IfSome (shaped limit (map shape_by ss) p) (λ x. IsLeft ss p x.moved.particle.at)
 unfolding shaped
 shaped_left limit ss p all = by p.held refl
@@ -245,59 +242,57 @@ shaped_left limit ss p all = by p.held refl
 
 -- ---- all particles
 
-spheres_are : (spheres : List Sphere) → map sphere_shape spheres ≡ map shape_by (map (λ sphere. ASphere sphere) spheres)
-spheres_are [] = refl
-spheres_are (s ∷ ss) = ap (λ (xs : List Shape). sphere_shape s ∷ xs) (spheres_are ss)
+shapes_are : (lists : ShapeLists) → shapes_of lists ≡ map shape_by (solids_of lists)
+shapes_are lists = rw (
+  map-append shape_by (map (λ plane. APlane plane) lists.planes) (map (λ sphere. ASphere sphere) lists.spheres),
+  map-map shape_by (λ plane. APlane plane) lists.planes,
+  map-map shape_by (λ sphere. ASphere sphere) lists.spheres,
+) refl
 
-shapes_are : (planes : List Plane) (spheres : List Sphere) → shapes_of planes spheres ≡ map shape_by (solids_of planes spheres)
-shapes_are [] spheres = spheres_are spheres
-shapes_are (p ∷ ps) spheres = ap (λ (xs : List Shape). plane_shape p ∷ xs) (shapes_are ps spheres)
-
-planes_normal : (planes : List Plane) → IsTrue (list_all is_valid_plane planes) → AllByRecursion (λ p. HasNormal (APlane p)) planes
-planes_normal [] h = tt
-planes_normal (p ∷ ps) h =
+planes_push : (planes : List Plane) → IsTrue (list_all is_valid_plane planes) → AllByRecursion (λ p. CanPush (APlane p)) planes
+planes_push [] h = tt
+planes_push (p ∷ ps) h =
     let parts = and_parts (is_valid_plane p) (list_all is_valid_plane ps) h in
     let tests = and_parts _ _ parts.0 in
     let normal = and_parts (is_within (pos 1024) p.normal) (nat_lt 0 (squared_length p.normal)) tests.0 in
-    (ltb-true 0 (squared_length p.normal) normal.1, planes_normal ps parts.1)
+    (ltb-true 0 (squared_length p.normal) normal.1, planes_push ps parts.1)
 
-spheres_normal : (spheres : List Sphere) → AllByRecursion (λ s. HasNormal (ASphere s)) spheres
-spheres_normal [] = tt
-spheres_normal (s ∷ ss) = (tt, spheres_normal ss)
+spheres_push : (spheres : List Sphere) → AllByRecursion (λ s. CanPush (ASphere s)) spheres
+spheres_push [] = tt
+spheres_push (s ∷ ss) = (tt, spheres_push ss)
 
-solids_normal : (w : World) → IsSound w → AllByRecursion HasNormal (solids_of w.planes w.spheres)
-solids_normal w sound =
-    let planes = (and_parts (nat_le (length w.planes) 256) (list_all is_valid_plane w.planes)
-    (formed (parts_of w) sound.well_formed).planes).1 in
-    all-append HasNormal (map (λ plane. APlane plane) w.planes) (map (λ sphere. ASphere sphere) w.spheres)
-    (all-map HasNormal (λ plane. APlane plane) w.planes (planes_normal w.planes planes))
-    (all-map HasNormal (λ sphere. ASphere sphere) w.spheres (spheres_normal w.spheres))
+solids_push : (limit : ℤ) (lists : ShapeLists) → IsTrue (are_valid_shapes limit lists) → AllByRecursion CanPush (solids_of lists)
+solids_push limit lists valid =
+    let planes = (and_parts _ _ (and_parts (are_valid_planes lists.planes) (are_valid_spheres limit lists.spheres) valid).0).1 in
+    all-append CanPush (map (λ plane. APlane plane) lists.planes) (map (λ sphere. ASphere sphere) lists.spheres)
+    (all-map CanPush (λ plane. APlane plane) lists.planes (planes_push lists.planes planes))
+    (all-map CanPush (λ sphere. ASphere sphere) lists.spheres (spheres_push lists.spheres))
 
 part_left : (w : World) (s : Passing) → IsSound w
-    → IfOk (shape_part w s) (λ t. AllZip (λ p r. IsLeft (solids_of w.planes w.spheres) p r.at) s.motion.particles t.motion.particles)
+    → IfOk (shape_part w s) (λ t. AllZip (λ p r. IsLeft (solids_of w.shapes) p r.at) s.motion.particles t.motion.particles)
 part_left w s sound =
-    let ss = solids_of w.planes w.spheres in
+    let ss = solids_of w.shapes in
     let R : Particle → Shaped → Type 0 = λ p x. IsLeft ss p x.moved.particle.at in
-    let one : (i : ℕ) (p : Particle) → IfSome (shaped w.limit (shapes_of w.planes w.spheres) p) (R p) =
-    λ i p. subst (λ (xs : List Shape). IfSome (shaped w.limit xs p) (R p)) (sym (shapes_are w.planes w.spheres))
-    (shaped_left w.limit ss p (solids_normal w sound)) in
+    let one : (i : ℕ) (p : Particle) → IfSome (shaped w.limit (shapes_of w.shapes) p) (R p) =
+    λ i p. subst (λ (xs : List Shape). IfSome (shaped w.limit xs p) (R p)) (sym (shapes_are w.shapes))
+    (shaped_left w.limit ss p (solids_push w.limit w.shapes (formed (parts_of w) sound.well_formed).shapes)) in
     bind-keeps (AllZip R s.motion.particles) (λ t. AllZip (λ p r. IsLeft ss p r.at) s.motion.particles t.motion.particles)
-    (each_from 0 (λ i p. shaped w.limit (shapes_of w.planes w.spheres) p) s.motion.particles) (λ xs. Ok (all_shaped s xs))
-    (each-keeps R (λ i p. shaped w.limit (shapes_of w.planes w.spheres) p) one 0 s.motion.particles)
+    (each_from 0 (λ i p. shaped w.limit (shapes_of w.shapes) p) s.motion.particles) (λ xs. Ok (all_shaped s xs))
+    (each-keeps R (λ i p. shaped w.limit (shapes_of w.shapes) p) one 0 s.motion.particles)
     (λ xs z.
     zip-map (λ p r. IsLeft ss p r.at) (λ (m : Moved). m.particle) s.motion.particles _
     (zip-map (λ p m. IsLeft ss p m.particle.at) (λ (x : Shaped). x.moved) s.motion.particles xs z))
 
 left_at : (w : World) (s t : Passing) (i : ℕ) → IsSound w → shape_part w s ≡ Ok t → i < length s.motion.particles
-    → IsLeft (solids_of w.planes w.spheres) (particle_at s.motion.particles i) (particle_at t.motion.particles i).at
+    → IsLeft (solids_of w.shapes) (particle_at s.motion.particles i) (particle_at t.motion.particles i).at
 left_at w s t i sound e l =
-    let z = ok_at (λ t. AllZip (λ p r. IsLeft (solids_of w.planes w.spheres) p r.at) s.motion.particles t.motion.particles)
+    let z = ok_at (λ t. AllZip (λ p r. IsLeft (solids_of w.shapes) p r.at) s.motion.particles t.motion.particles)
     (shape_part w s) t e
     (part_left w s sound) in
-    zip_at (λ p r. IsLeft (solids_of w.planes w.spheres) p r.at) s.motion.particles t.motion.particles i no_particle no_particle z l
+    zip_at (λ p r. IsLeft (solids_of w.shapes) p r.at) s.motion.particles t.motion.particles i no_particle no_particle z l
 
 pub last-out : (w : World) (s t : Passing) (i : ℕ) (solid : Solid) → IsSound w → shape_part w s ≡ Ok t → i < length s.motion.particles
-    → (particle_at s.motion.particles i).held ≡ false → last_solid (solids_of w.planes w.spheres) (particle_at s.motion.particles i).at
+    → (particle_at s.motion.particles i).held ≡ false → last_solid (solids_of w.shapes) (particle_at s.motion.particles i).at
     ≡ Some solid
     → IsOut solid (particle_at t.motion.particles i).at
 last-out w s t i solid sound e l free last =
@@ -305,12 +300,12 @@ last-out w s t i solid sound e l free last =
     ((left_at w s t i sound e l).free free)
 
 pub none-out : (w : World) (s t : Passing) (i : ℕ) → IsSound w → shape_part w s ≡ Ok t → i < length s.motion.particles
-    → last_solid (solids_of w.planes w.spheres) (particle_at s.motion.particles i).at ≡ None
+    → last_solid (solids_of w.shapes) (particle_at s.motion.particles i).at ≡ None
     → (particle_at t.motion.particles i).at ≡ (particle_at s.motion.particles i).at
 none-out w s t i sound e l none = by (particle_at s.motion.particles i).held refl (left_at w s t i sound e l)
   where
     by : (held : Bool) → (particle_at s.motion.particles i).held ≡ held
-        → IsLeft (solids_of w.planes w.spheres) (particle_at s.motion.particles i) (particle_at t.motion.particles i).at
+        → IsLeft (solids_of w.shapes) (particle_at s.motion.particles i) (particle_at t.motion.particles i).at
         → (particle_at t.motion.particles i).at ≡ (particle_at s.motion.particles i).at
     by true h left = left.held h
     by false h left = subst (λ o. Comes o (particle_at s.motion.particles i).at (particle_at t.motion.particles i).at) none (left.free h)

@@ -11,10 +11,9 @@ use Rattle.pbd_world.specs.declared.bond.Bond.{Bond}
 use Rattle.pbd_world.specs.declared.bond.End.{End}
 use Rattle.pbd_world.specs.declared.command.Command.TheVariants.{Cut, Move, Step}
 use Rattle.pbd_world.specs.Particles.{particle_at}
-use Rattle.pbd_world.specs.Valid.{no_parts}
-use Rattle.pbd_world.specs.World.{World, opened}
+use Rattle.pbd_world.specs.World.{World, opened, no_parts}
 use Rattle.pbd_world.specs.Bonds.{shift_of}
-use Rattle.pbd_world.specs.Shapes.{plane_shape, sphere_shape}
+use Rattle.pbd_world.specs.Shapes.{no_shapes, plane_shape, sphere_shape}
 use Rattle.pbd_world.specs.Meaning.{meaning}
 use Rattle.pbd_world.specs.Session.{last_world}
 use Rattle.pbd_laws.specs.Machine.Act.{Play, Save, Restore}
@@ -76,10 +75,10 @@ abbrev ball : ℕ → Sphere
 ball radius = record { centre = zero_vector; radius = pos radius }
 
 -- both planes touch the place; in the other order the first alone does; higher up none; and the sphere after a plane
-last_solids : (last_solid (solids_of (above 10 ∷ above 20 ∷ []) []) (at 0 0 0) ≡ Some (APlane (above 20)))
-    × (last_solid (solids_of (above 20 ∷ above 10 ∷ []) []) (at 0 0 0) ≡ Some (APlane (above 20)))
-    × (last_solid (solids_of (above 20 ∷ above 10 ∷ []) []) (at 0 30 0) ≡ None)
-    × (last_solid (solids_of (above 5 ∷ []) (ball 10 ∷ [])) (at 0 0 0) ≡ Some (ASphere (ball 10)))
+last_solids : (last_solid (solids_of (record no_shapes { planes = above 10 ∷ above 20 ∷ [] })) (at 0 0 0) ≡ Some (APlane (above 20)))
+    × (last_solid (solids_of (record no_shapes { planes = above 20 ∷ above 10 ∷ [] })) (at 0 0 0) ≡ Some (APlane (above 20)))
+    × (last_solid (solids_of (record no_shapes { planes = above 20 ∷ above 10 ∷ [] })) (at 0 30 0) ≡ None)
+    × (last_solid (solids_of (record no_shapes { planes = above 5 ∷ []; spheres = ball 10 ∷ [] })) (at 0 0 0) ≡ Some (ASphere (ball 10)))
 unfolding rdiv root plane_shape sphere_shape
 last_solids = (refl, refl, refl, refl)
 

@@ -28,8 +28,7 @@ session-keeps parts cs valid =
     record {
       limit = ap (λ (x : World). x.limit) e;
       tracks = ap (λ (x : World). x.tracks) e;
-      planes = ap (λ (x : World). x.planes) e;
-      spheres = ap (λ (x : World). x.spheres) e;
+      shapes = ap (λ (x : World). x.shapes) e;
       passes = ap (λ (x : World). x.passes) e;
       damping = ap (λ (x : World). x.damping) e;
       thickness = ap (λ (x : World). x.thickness) e;

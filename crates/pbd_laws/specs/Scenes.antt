@@ -3,14 +3,14 @@ use Rattle.std.specs.Prelude.{◌≡◌, map}
 use Rattle.pbd_world.specs.declared.parts.Particle.{Particle}
 use Rattle.pbd_world.specs.declared.parts.Link.{Link}
 use Rattle.pbd_world.specs.declared.parts.Parts.{Parts}
+use Rattle.pbd_world.specs.Shapes.{shapes_in}
 use Rattle.pbd_world.specs.World.{World}
 
 -- all but what commands and steps may change: places, holds, which links are live, gravity, counts and the ledger
 pub record HasPartsOf (parts : Parts) (w : World) : Type 0 where
   pub limit : w.limit ≡ parts.limit
   pub tracks : w.tracks ≡ parts.tracks
-  pub planes : w.planes ≡ parts.planes
-  pub spheres : w.spheres ≡ parts.spheres
+  pub shapes : w.shapes ≡ shapes_in parts
   pub passes : w.passes ≡ parts.passes
   pub damping : w.damping ≡ parts.damping
   pub thickness : w.thickness ≡ parts.thickness

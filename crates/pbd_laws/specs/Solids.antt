@@ -1,22 +1,29 @@
--- Which plane or sphere touches a place last on its way through all of them, and where that leaves it.
-use Rattle.std.specs.Prelude.{ℕ, ◌+◌, pos, ◌+ℤ◌, ◌*ℤ◌, ◌≤ℤ◌, unsigned_abs, List, [], ◌∷◌, ◌++◌, map, Option, Some, None}
+-- Which shape touches a place last on its way through all of them, and where that leaves it.
+use Rattle.std.specs.Prelude.{ℕ, ◌+◌, ◌<◌, pos, ◌+ℤ◌, ◌*ℤ◌, ◌≤ℤ◌, unsigned_abs, List, [], ◌∷◌, ◌++◌, map, Option, Some, None}
 use Rattle.pbd_num.specs.declared.Vec3.{Vec3}
-use Rattle.pbd_num.specs.Vectors.{minus, dot, length_of}
+use Rattle.pbd_num.specs.Vectors.{minus, dot, length_of, squared_length}
 use Rattle.pbd_world.specs.declared.parts.Plane.{Plane}
 use Rattle.pbd_world.specs.declared.parts.Sphere.{Sphere}
+use Rattle.pbd_world.specs.declared.parts.ShapeLists.{ShapeLists}
 use Rattle.pbd_world.specs.Shapes.{Shape, plane_shape, sphere_shape}
 
+-- a shape of any kind
 pub data Solid : Type 0 where
   APlane : Plane → Solid
   ASphere : Sphere → Solid
 
 -- the planes in order, then the spheres in order
-abbrev pub solids_of : List Plane → List Sphere → List Solid
-solids_of planes spheres = map (λ plane. APlane plane) planes ++ map (λ sphere. ASphere sphere) spheres
+abbrev pub solids_of : ShapeLists → List Solid
+solids_of lists = map (λ plane. APlane plane) lists.planes ++ map (λ sphere. ASphere sphere) lists.spheres
 
 abbrev pub shape_by : Solid → Shape
 shape_by (APlane plane) = plane_shape plane
 shape_by (ASphere sphere) = sphere_shape sphere
+
+-- a plane has a normal, by whose length it divides; of a sphere nothing is asked
+abbrev pub CanPush : Solid → Type 0
+CanPush (APlane plane) = 0 < squared_length plane.normal
+CanPush (ASphere sphere) = Unit {0}
 
 -- a later solid, or else this one
 abbrev pub later_or : Solid → Option Solid → Option Solid

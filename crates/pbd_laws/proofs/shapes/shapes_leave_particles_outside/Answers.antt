@@ -1,5 +1,5 @@
-use Rattle.pbd_laws.proofs.LeftOutside.{plane-out, sphere-out, last-out, none-out}
+use Rattle.pbd_laws.proofs.LeftOutside.{solid-out, last-out, none-out}
 use Rattle.pbd_laws.proofs.shapes.shapes_leave_particles_outside.Goals as goal
 
 pub returns : goal.returns
-returns c = record { plane = plane-out; sphere = sphere-out; last = last-out; none = none-out }
+returns c = record { touched = solid-out; last = last-out; none = none-out }
