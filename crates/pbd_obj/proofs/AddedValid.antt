@@ -324,8 +324,7 @@ all_valid t mesh parts set light is valid limit few few_links none =
           (le-leb (length (parts.particles ++ particles t.weight mesh)) 65536 (omega (arith, size, few)))
           (all_joined (is_valid_particle parts.limit) parts.particles (particles t.weight mesh) ps.1 new_particles);
       links = new_links;
-      planes = f.planes;
-      spheres = f.spheres;
+      shapes = f.shapes;
       tracks = tracks_valid parts.limit base (length (parts.particles ++ particles t.weight mesh)) parts.tracks grows f.tracks;
       gravity = f.gravity;
       numbers = f.numbers;

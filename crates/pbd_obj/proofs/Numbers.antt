@@ -1,6 +1,6 @@
 -- What digits write, and numbers times powers of ten.
 use Rattle.std.proofs.Common.{◌≡◌, ◌∙◌, sym, ap, refl, ℕ, zero, suc, ◌+◌, ◌-◌, ◌*◌, ◌/◌, ◌^◌, ◌<◌, ◌≤◌, min, Bool, true, false, ◌&&◌, List}
-use Rattle.std.proofs.Common.{[], ◌∷◌, ◌++◌, length, Option, Some, None, nat_le, nat_lt, arith, lit<, inl, inr, length-append, ℤ, pos}
+use Rattle.std.proofs.Common.{[], ◌∷◌, ◌++◌, length, Option, Some, None, nat_le, arith, lit<, inl, inr, length-append, ℤ, pos}
 use Rattle.std.proofs.Common.{negsuc, neg_ℤ, unsigned_abs, ◌<ℤ◌, ◌≤ℤ◌}
 use Rattle.std.specs.Prelude.{position, unwrap_or, IfSome, IsTrue, cond}
 use Rattle.std.specs.List.{list_all, position_or_len}
