@@ -7,8 +7,7 @@ use Rattle.pbd_world.specs.declared.command.Reply.{Reply}
 use Rattle.pbd_world.specs.Meaning.{after, reply}
 use Rattle.pbd_world.specs.Session.{is_refused}
 use Rattle.pbd_world.specs.Text.{line, text}
-use Rattle.pbd_world.specs.Valid.{no_parts}
-use Rattle.pbd_world.specs.World.{World, opened, IsSound}
+use Rattle.pbd_world.specs.World.{World, opened, IsSound, no_parts}
 use Rattle.pbd_host.specs.declared.served.Served.{Served}
 use Rattle.pbd_host.specs.declared.served.Served.TheVariants as answers
 use Rattle.pbd_host.specs.declared.request.Request.{Request}

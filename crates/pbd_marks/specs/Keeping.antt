@@ -1,7 +1,6 @@
 -- What callers see of eight marks, and what holds of them.
 use Rattle.std.specs.Prelude.{◌≡◌, pos, ℕ, Bool, false, if◌then◌else◌, List, [], ◌∷◌, length, map, Option, Some, None, All, IfSome}
-use Rattle.pbd_world.specs.Valid.{no_parts}
-use Rattle.pbd_world.specs.World.{World, IsSound, opened, unchanging}
+use Rattle.pbd_world.specs.World.{World, IsSound, opened, unchanging, no_parts}
 use Rattle.pbd_step.specs.Solving.{Solved}
 
 -- the scene, as far as no command changes it, and the marks
