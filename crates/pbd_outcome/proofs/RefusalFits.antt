@@ -130,8 +130,8 @@ shape_ends : (w : World) (s : Passing) (k : ℕ) → HasMany k s.motion
 shape_ends w s k many =
     let ps : List Particle = s.motion.particles in
     bind_ends (λ ss. length ss ≡ length ps) (λ t. HasMany k t.motion) (λ e. e < length ps)
-    (each_from 0 (λ i p. shaped w.limit (shapes_of w.planes w.spheres) p) ps) (λ ss. Ok (all_shaped s ss))
-    (all_end (λ i p. shaped w.limit (shapes_of w.planes w.spheres) p) ps)
+    (each_from 0 (λ i p. shaped w.limit (shapes_of w.shapes) p) ps) (λ ss. Ok (all_shaped s ss))
+    (all_end (λ i p. shaped w.limit (shapes_of w.shapes) p) ps)
     (λ ss same. length-mapped {A = Moved} {B = Particle} (λ m. m.particle) (map {A = Shaped} {B = Moved} (λ x. x.moved) ss)
     ∙ length-mapped {A = Shaped} {B = Moved} (λ x. x.moved) ss ∙ same ∙ many)
 

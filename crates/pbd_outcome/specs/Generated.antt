@@ -16,7 +16,7 @@ use Rattle.pbd_world.specs.declared.command.Reply.{Reply}
 use Rattle.pbd_world.specs.declared.command.Reply.TheVariants.{Ledger}
 use Rattle.pbd_world.specs.Replay.{frame_sums}
 use Rattle.pbd_world.specs.Text.{line, text}
-use Rattle.pbd_world.specs.World.{World}
+use Rattle.pbd_world.specs.World.{World, no_parts}
 use Rattle.pbd_session.specs.Replaying.{axis}
 
 abbrev pub vector : ℤ → ℤ → ℤ → Vec3
@@ -81,18 +81,12 @@ words_of number = started 64 multiplier_64 number (increment_of 64 0)
 
 -- the scene without its cloth
 abbrev pub bare_parts : ℕ → Parts
-bare_parts size = record {
-  particles = [];
-  links = [];
-  planes = [];
+bare_parts size = record (no_parts (pos (2 ^ 29))) {
   spheres = middle_sphere size ∷ [];
-  tracks = [];
   gravity = vector (pos 0) (neg_ℤ (pos 179)) (pos 0);
   passes = 8;
   damping = pos 10;
   thickness = pos 3000;
-  friction = pos 0;
-  limit = pos (2 ^ 29);
 }
 
 unfoldable pub generated : ℕ → ℕ → Parts

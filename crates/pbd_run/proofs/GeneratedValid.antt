@@ -12,8 +12,8 @@ use Rattle.pbd_num.specs.Vectors.{Within, is_within, minus, plus, on_axes}
 use Rattle.pbd_num.proofs.Ranges.{within_facts}
 use Rattle.pbd_world.specs.declared.parts.Particle.{Particle}
 use Rattle.pbd_world.specs.declared.parts.Link.{Link}
-use Rattle.pbd_world.specs.Valid.{are_valid_links, is_at_rest, is_valid, is_valid_link, is_valid_particle, is_valid_sphere, is_well_formed}
-use Rattle.pbd_world.specs.Valid.{links_at}
+use Rattle.pbd_world.specs.Shapes.{is_valid_sphere}
+use Rattle.pbd_world.specs.Valid.{are_valid_links, is_at_rest, is_valid, is_valid_link, is_valid_particle, is_well_formed, links_at}
 use Rattle.pbd_world.proofs.TwiceLemmas.{range_all}
 use Rattle.pbd_mesh.specs.Cloth.{cloth_links, cloth_particles, cloth_place}
 use Rattle.pbd_mesh.specs.Meshes.{IsMesh, is_mesh_link}

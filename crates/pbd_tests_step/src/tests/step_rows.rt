@@ -81,7 +81,7 @@ const ROPE: Drawing = Drawing {
     damping: 20,
     thickness: 80,
     friction: 64,
-    limit: RANGE,
+    ..EMPTY
 };
 
 const STEP: Asked = (Command::Step(1), Some(Reply::Done));
