@@ -1,5 +1,5 @@
 // Reads the fields of an entry, each from the front of some bytes.
-ghost use Rattle.std.specs.Prelude.{◌≡◌, ◌==◌};
+ghost use Rattle.std.specs.Prelude.{◌≡◌, ◌<◌, ◌^◌, ◌==◌, length};
 ghost use Rattle.pbd_log.specs.Entries.{has_sums};
 ghost use Rattle.pbd_log.specs.Laws.{IsBytes};
 ghost use Rattle.pbd_log.specs.Reading.{Gives, byte_at, number_at, signed_at, vector_at, operands_at, command_at, leaves_at, too_many_at, carried_at, answer_at, axes_at, sums_at, optional_at, entry_at, after_end};
@@ -233,6 +233,7 @@ fn entry_of(bytes: &[u8]) -> Option<(Entry, &[u8])>
 pub fn next_entry(bytes: &[u8]) -> Option<(Entry, &[u8])>
     ensures gives { Gives (λ x. (x.0, x.1.now)) result (entry_at bytes.now) }
     ensures fits { IsBytes bytes.now }
+    ensures short { length bytes.now < 2 ^ 63 }
 {
     entry_of(bytes)
 }

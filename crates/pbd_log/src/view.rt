@@ -180,19 +180,13 @@ impl<'a> LogView<'a> {
         self.scene
     }
 
-    /// How many bytes are left, which are no fewer than the entries still to come.
-    pub fn bytes_left(&self) -> usize
-        ensures few { length self.now.entries ≤ result }
-        ensures short { result < 2 ^ 63 }
-    {
-        self.rest.len()
-    }
-
     /// The next entry. None comes exactly after the last one.
     pub fn next(&mut self) -> Option<Entry>
         ensures next { IfSome result (λ entry. self.old ≡ record self.new { entries = entry ∷ self.new.entries }) }
         ensures ended { IfNone result (self.old.entries ≡ []) }
         ensures same { IfNone result (self.new ≡ self.old) }
+        // No more entries are still to come than bytes, so they can be counted.
+        ensures few { length self.old.entries < 2 ^ 63 }
     {
         match next_entry(self.rest) {
             Some((entry, rest)) => {

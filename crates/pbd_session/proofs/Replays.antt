@@ -1,5 +1,5 @@
 -- A replay's text, one entry after another.
-use Rattle.std.proofs.Common.{◌≡◌, ◌∙◌, sym, refl, ℕ, ◌+◌, ◌<◌, List, [], ◌∷◌, ◌++◌, length, Option, Some, None, Result, Ok, Err, arith}
+use Rattle.std.proofs.Common.{◌≡◌, ◌∙◌, sym, refl, ℕ, zero, suc, ◌+◌, ◌<◌, ◌^◌, List, [], ◌∷◌, ◌++◌, length, Option, Some, None, Result, Ok, Err, arith}
 use Rattle.std.proofs.Common.{append_assoc, append-nil, zero-add}
 use Rattle.std.specs.Prelude.{if◌then◌else◌, OnOk}
 use Rattle.std.specs.Io.KnownBytes.{Appends}
@@ -31,6 +31,16 @@ pub record Agreed (start : World) (all : List Entry) (n : ℕ) (w : World) (left
   pub leads : Leads start (commands_of all) w (commands_of left)
   pub numbers : n + length left ≡ 1 + length all
   pub few : refused < n
+
+all_before : (n left all : ℕ) → n + left ≡ 1 + all → (1 < n → all < 2 ^ 63) → left < 2 ^ 63 → all < 2 ^ 63
+all_before zero left all is known few = omega (arith, is, few)
+all_before (suc zero) left all is known few = omega (arith, is, few)
+all_before (suc (suc n)) left all is known few = known (omega arith)
+
+-- all entries can be counted, where those that are left can, and all could since the first one was read
+pub all_countable : {start : World} {all : List Entry} {n : ℕ} {w : World} {left : List Entry} {old new : Option (List ℕ)} {refused : ℕ}
+    → Agreed start all n w left old new refused → (1 < n → length all < 2 ^ 63) → length left < 2 ^ 63 → length all < 2 ^ 63
+all_countable {start} {all} {n} {w} {left} agreed known few = all_before n (length left) (length all) agreed.numbers known few
 
 nothing_more : (end : ReplayEnd) → with_refused 0 end ≡ end
 nothing_more (ends.Done refused) = rw (zero-add refused) refl

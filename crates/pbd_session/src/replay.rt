@@ -37,8 +37,6 @@ pub fn run_replay<const L: usize, P: Projector<L> + Drop, K: Sink, G: Ledger>(
     ensures cause { HasCause (K.faults sink.old) (K.faults sink.new) result }
 {
     let mut view = view;
-    // There are no more entries than bytes, so they can be counted.
-    let _bytes = view.bytes_left();
     let mut refused = 0;
     let mut number = 1;
     while let Some(entry) = view.next() {

@@ -8,13 +8,14 @@ use Rattle.pbd_session.specs.Replaying.{commands_of, difference, replayed}
 use Rattle.pbd_session.proofs.Running.{Does, one_more}
 use Rattle.pbd_session.proofs.Recorded.{is_entry}
 use Rattle.pbd_session.proofs.Replays.{agreed_begins, agreed_next, agreed_failed, agreed_ends, differs_piece, does_one_of, differs_ended}
-use Rattle.pbd_session.proofs.Replays.{differs_world}
+use Rattle.pbd_session.proofs.Replays.{differs_world, all_countable}
 use Rattle.pbd_session.proofs.replay.run_replay.Goals.{After-from_residual}
 use Rattle.pbd_session.proofs.replay.run_replay.Goals as goal
 
 pub loop-entry-init : goal.loop-entry-init
 loop-entry-init g c = record {
   agreed = agreed_begins c.args.session.now c.args.view.entries (g.K.Sink.written c.args.sink.now);
+  countable = λ l. absurd (omega (arith, l));
   later = search rules;
 }
 
@@ -56,8 +57,8 @@ returns-in_err-write_reply-clause-one_of g c = (failed g (goal.at.returns-in_err
 
 pub overflow_add-number : goal.overflow_add-number
 overflow_add-number g c =
-    let is = ap (λ (l : Log). l.entries) c.in-Some.ensures.next in
-    record { fits = omega (arith, c.loop-entry.invariant.agreed.numbers, c.bytes_left-bytes.ensures.few, c.bytes_left-bytes.ensures.short) }
+    let agreed = c.loop-entry.invariant.agreed in
+    record { fits = omega (arith, agreed.numbers, all_countable agreed c.loop-entry.invariant.countable c.in-Some.ensures.few) }
 
 pub loop-entry-preserved : goal.loop-entry-preserved
 loop-entry-preserved g c =
@@ -69,6 +70,7 @@ loop-entry-preserved g c =
     record {
       agreed = rw c.refusals-refused.ensures (agreed_next c.loop-entry.invariant.agreed is does same
           c.in_ok-write_reply.ensures.bytes);
+      countable = λ l. all_countable c.loop-entry.invariant.agreed c.loop-entry.invariant.countable c.in-Some.ensures.few;
       later = omega (arith, c.loop-entry.invariant.later, c.write_reply.ensures.cause);
     }
 
@@ -80,5 +82,5 @@ returns g c =
 pub overflow_add-refused : goal.overflow_add-refused
 overflow_add-refused g c =
     let agreed = c.loop-entry.invariant.agreed in
-    let bytes = c.bytes_left-bytes.ensures in
-    record { fits = omega (arith, agreed.few, agreed.numbers, bytes.few, bytes.short, c.refusals-refused.ensures, one_more c.apply-reply.result) }
+    let all = all_countable agreed c.loop-entry.invariant.countable c.in-Some.ensures.few in
+    record { fits = omega (arith, agreed.few, agreed.numbers, all, c.refusals-refused.ensures, one_more c.apply-reply.result) }
