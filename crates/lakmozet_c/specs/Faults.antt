@@ -5,10 +5,10 @@ use Rattle.toml.specs.Data.{Members}
 use Rattle.toml.specs.Parse.{parse_document}
 use Rattle.pbd_world.specs.declared.parts.Parts.{Parts}
 use Rattle.pbd_world.specs.World.{opened}
-use Rattle.pbd_scene.specs.declared.fault.TableName.{TableName}
-use Rattle.pbd_scene.specs.declared.fault.TableName.TheVariants as tables
-use Rattle.pbd_scene.specs.declared.fault.KeyName.{KeyName}
-use Rattle.pbd_scene.specs.declared.fault.KeyName.TheVariants as keys
+use Rattle.pbd_scene.specs.declared.tables.TableName.{TableName}
+use Rattle.pbd_scene.specs.declared.tables.TableName.TheVariants as tables
+use Rattle.pbd_scene.specs.declared.tables.KeyName.{KeyName}
+use Rattle.pbd_scene.specs.declared.tables.KeyName.TheVariants as keys
 use Rattle.pbd_scene.specs.declared.fault.SceneRule.{SceneRule}
 use Rattle.pbd_scene.specs.declared.fault.SceneFault.{SceneFault}
 use Rattle.pbd_scene.specs.declared.fault.SceneFault.TheVariants.{NotToml, Refused, OutOfMemory}

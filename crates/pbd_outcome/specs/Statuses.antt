@@ -2,8 +2,8 @@
 use Rattle.std.specs.Prelude.{ℕ, ◌-◌, ◌++◌, codes, decimal, List, [], ◌∷◌, length, take}
 use Rattle.pbd_world.specs.Text.{line}
 use Rattle.pbd_scene.specs.declared.fault.SceneRule.{SceneRule}
-use Rattle.pbd_scene.specs.declared.fault.TableName.{TableName}
-use Rattle.pbd_scene.specs.declared.fault.KeyName.{KeyName}
+use Rattle.pbd_scene.specs.declared.tables.TableName.{TableName}
+use Rattle.pbd_scene.specs.declared.tables.KeyName.{KeyName}
 use Rattle.pbd_scene.specs.Checks.{Broken}
 use Rattle.pbd_scene.specs.Keys.{key_text, table_text, rule_number, rule_text}
 use Rattle.pbd_outcome.specs.declared.status.Status.{Status}

@@ -14,9 +14,9 @@ use Rattle.pbd_num.specs.Vectors.{is_within}
 use Rattle.pbd_scene.specs.declared.fault.SceneRule.{SceneRule}
 use Rattle.pbd_scene.specs.declared.fault.SceneRule.TheVariants.{MissingKey, WrongType, OutOfRange, TooMany}
 use Rattle.pbd_scene.specs.declared.fault.Place.{Place}
-use Rattle.pbd_scene.specs.declared.fault.KeyName.{KeyName}
-use Rattle.pbd_scene.specs.declared.fault.TableName.{TableName}
-use Rattle.pbd_scene.specs.declared.fault.KeyName.TheVariants as keys
+use Rattle.pbd_scene.specs.declared.tables.KeyName.{KeyName}
+use Rattle.pbd_scene.specs.declared.tables.TableName.{TableName}
+use Rattle.pbd_scene.specs.declared.tables.KeyName.TheVariants as keys
 use Rattle.pbd_scene.specs.Checks.{Checked, ◌>>=◌, expect, expect_some, each}
 use Rattle.pbd_scene.specs.Keys.{table_text}
 use Rattle.pbd_scene.specs.Values.{value_of, found, integer, any_integer, required_integer, optional_integer, integer_or, count_or, vector}

@@ -15,23 +15,26 @@ use Rattle.pbd_world.specs.declared.parts.Particle.{Particle}
 use Rattle.pbd_world.specs.declared.parts.Plane.{Plane}
 use Rattle.pbd_world.specs.declared.parts.Sphere.{Sphere}
 use Rattle.pbd_world.specs.declared.parts.Key.{Key}
-use Rattle.pbd_world.specs.Valid.{is_valid_particle, is_at_rest, is_valid_plane, is_valid_sphere, are_valid_keys}
+use Rattle.pbd_world.specs.declared.parts.ShapeLists.{ShapeLists}
+use Rattle.pbd_world.specs.Shapes.{is_valid_plane, is_valid_sphere, are_valid_shapes}
+use Rattle.pbd_world.specs.Valid.{is_valid_particle, is_at_rest, are_valid_keys}
 use Rattle.pbd_world.proofs.ValidLemmas.{rising, rising_begins}
 use Rattle.std.proofs.lemmas.List.Sums.{sum_by-append, sum_by-cons}
 use Rattle.pbd_scene.specs.declared.raw.LinkEntry.{LinkEntry}
 use Rattle.pbd_scene.specs.declared.raw.TrackEntry.{TrackEntry}
 use Rattle.pbd_scene.specs.declared.fault.SceneRule.TheVariants.{OutOfRange, TooMany, BadTrack}
 use Rattle.pbd_scene.specs.declared.fault.Place.{Place}
-use Rattle.pbd_scene.specs.declared.fault.KeyName.TheVariants as keys
-use Rattle.pbd_scene.specs.declared.fault.TableName.{TableName}
+use Rattle.pbd_scene.specs.declared.tables.KeyName.TheVariants as keys
+use Rattle.pbd_scene.specs.declared.tables.TableName.{TableName}
+use Rattle.pbd_scene.specs.declared.tables.TableName.TheVariants as tables
 use Rattle.pbd_scene.specs.Checks.{Checked, expect, each}
 use Rattle.pbd_scene.specs.Values.{required_vector, vector_or, required_integer, required_any_integer, optional_integer, integer_or}
 use Rattle.pbd_scene.specs.Values.{count_or, boolean_or, row, required_array, table_of}
 use Rattle.pbd_scene.specs.Entries.{particle_of, inside_before, place_before, mesh_of, room_for}
-use Rattle.pbd_scene.specs.Entries.{link_of, plane_of, sphere_of, reaches_within, on_by, back_by, row_of, key_of, step_number, step_of}
-use Rattle.pbd_scene.specs.Entries.{steps_rise, few_rows, rising_path, path_of, track_of}
+use Rattle.pbd_scene.specs.Entries.{link_of, plane_of, planes_of, sphere_of, spheres_of, shape_lists_of, reaches_within, on_by, back_by}
+use Rattle.pbd_scene.specs.Entries.{row_of, key_of, step_number, step_of, steps_rise, few_rows, rising_path, path_of, track_of}
 use Rattle.pbd_scene.proofs.Accepted.{through, expect_ok, same_ok, tested, optional_some, between, required_integer_ok, integer_or_ok}
-use Rattle.pbd_scene.proofs.Accepted.{count_or_ok, required_vector_ok, each_pass, each_count, table_keeps}
+use Rattle.pbd_scene.proofs.Accepted.{count_or_ok, required_vector_ok, each_pass, each_count, table_pass, table_keeps}
 
 -- ---- particles
 
@@ -193,6 +196,19 @@ sphere_passes limit place ms s is =
     let reach = reach_parts limit centre radius t.0 in
     rw (← t.1) (sphere_tests limit centre radius (at_least_one limit radius
     (required_integer_ok place keys.Radius (pos 1) limit ms radius e3)) reach.0 reach.1)))
+
+pub shapes_pass : (limit : ℤ) (ms : Members) (shapes : ShapeLists) → shape_lists_of limit ms ≡ Ok shapes
+    → are_valid_shapes limit shapes ≡ true
+unfolding shape_lists_of planes_of spheres_of
+shapes_pass limit ms shapes is =
+    through (planes_of ms) _ shapes is (λ planes e1 is1.
+    through (spheres_of limit ms) _ shapes is1 (λ spheres e2 is2.
+    let all : ShapeLists = record { planes = planes; spheres = spheres } in
+    let p = table_pass tables.Plane 256 (λ _. plane_of) is_valid_plane (λ front place ms y e. plane_passes place ms y e) ms planes e1 in
+    let s = table_pass tables.Sphere 256 (λ _. sphere_of limit) (is_valid_sphere limit)
+    (λ front place ms y e. sphere_passes limit place ms y e) ms spheres e2 in
+    rw (← same_ok all shapes is2) (and_from _ _ (and_from _ _ (le-leb (length planes) 256 p.1) p.0)
+    (and_from _ _ (le-leb (length spheres) 256 s.1) s.0))))
 
 -- ---- tracks
 

@@ -20,9 +20,9 @@ use Rattle.pbd_world.proofs.ValidLinks.{between_facts, links_join, links_more, n
 use Rattle.pbd_scene.specs.declared.raw.LinkEntry.{LinkEntry}
 use Rattle.pbd_scene.specs.declared.fault.SceneRule.TheVariants.{BadIndex, SelfLink, DoubleLink, TooMany, TooManyAtParticle}
 use Rattle.pbd_scene.specs.declared.fault.Place.{Place}
-use Rattle.pbd_scene.specs.declared.fault.KeyName.{KeyName}
-use Rattle.pbd_scene.specs.declared.fault.KeyName.TheVariants as keys
-use Rattle.pbd_scene.specs.declared.fault.TableName.TheVariants as tables
+use Rattle.pbd_scene.specs.declared.tables.KeyName.{KeyName}
+use Rattle.pbd_scene.specs.declared.tables.KeyName.TheVariants as keys
+use Rattle.pbd_scene.specs.declared.tables.TableName.TheVariants as tables
 use Rattle.pbd_scene.specs.Checks.{expect, each}
 use Rattle.pbd_scene.specs.Values.{at}
 use Rattle.pbd_scene.specs.Naming.{particle_number, plain_link, length_between, room_for_link, entry_link, link_after, all_links}

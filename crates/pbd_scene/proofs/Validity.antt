@@ -1,5 +1,5 @@
 -- The parts of a tree that breaks no rule are valid.
-use Rattle.std.proofs.Common.{◌≡◌, ◌∙◌, ap, refl, ℕ, zero, suc, ◌+◌, ◌*◌, ◌≤◌, ◌<◌, List, [], ◌∷◌, ◌++◌, length, Bool, true, false, not}
+use Rattle.std.proofs.Common.{◌≡◌, ◌∙◌, ap, sym, subst, refl, ℕ, zero, suc, ◌+◌, ◌*◌, ◌≤◌, ◌<◌, List, [], ◌∷◌, ◌++◌, length, Bool, true, false, not}
 use Rattle.std.proofs.Common.{◌&&◌, ◌||◌, ◌==◌, Ok, map, arith, pos, ℤ, ◌≤ℤ◌, get_or, append_assoc}
 use Rattle.std.specs.Prelude.{nat_le, nat_lt, IsTrue, fold, if◌then◌else◌}
 use Rattle.std.specs.List.{list_all, list_any, sum_by}
@@ -21,30 +21,30 @@ use Rattle.pbd_world.specs.declared.parts.Link.{Link}
 use Rattle.pbd_world.specs.declared.parts.Track.{Track}
 use Rattle.pbd_world.specs.declared.parts.Parts.{Parts}
 use Rattle.pbd_world.specs.Neighbours.{is_among}
-use Rattle.pbd_world.specs.Valid.{is_limit, is_between, is_valid, is_well_formed, is_valid_particle, is_at_rest, is_valid_plane}
-use Rattle.pbd_world.specs.Valid.{is_valid_sphere, is_valid_track, are_valid_keys, are_valid_particles, are_valid_links, are_valid_planes}
-use Rattle.pbd_world.specs.Valid.{are_valid_spheres, are_valid_tracks, are_tracked_held, are_valid_numbers, none_twice}
+use Rattle.pbd_world.specs.Shapes.{shapes_in, are_valid_shapes}
+use Rattle.pbd_world.specs.Valid.{is_limit, is_between, is_valid, is_valid_particle, is_at_rest, is_valid_track, are_valid_keys}
+use Rattle.pbd_world.specs.Valid.{are_valid_particles, are_valid_links, are_tracked_held, are_valid_numbers, none_twice}
 use Rattle.pbd_world.proofs.ValidLinks.{links_facts}
+use Rattle.pbd_world.proofs.WorldParts.{Formed, from_formed}
 use Rattle.pbd_scene.specs.declared.raw.TrackEntry.{TrackEntry}
 use Rattle.pbd_scene.specs.declared.raw.Numbers.{Numbers}
 use Rattle.pbd_scene.specs.declared.raw.Settings.{Settings}
 use Rattle.pbd_scene.specs.declared.raw.Tables.{Tables}
 use Rattle.pbd_scene.specs.declared.fault.SceneRule.TheVariants.{BadTrack}
-use Rattle.pbd_scene.specs.declared.fault.KeyName.TheVariants as keys
-use Rattle.pbd_scene.specs.declared.fault.TableName.TheVariants as tables
+use Rattle.pbd_scene.specs.declared.tables.KeyName.TheVariants as keys
+use Rattle.pbd_scene.specs.declared.tables.TableName.TheVariants as tables
 use Rattle.pbd_scene.specs.Checks.{each}
 use Rattle.pbd_scene.specs.Keys.{known}
 use Rattle.pbd_scene.specs.Values.{at, vector_or, count_or, integer_or}
-use Rattle.pbd_scene.specs.Entries.{cloth_spec_of, rope_spec_of, particle_of, link_of, plane_of, sphere_of, track_of, all_cloths_size}
+use Rattle.pbd_scene.specs.Entries.{cloth_spec_of, rope_spec_of, particle_of, link_of, shape_lists_of, track_of, all_cloths_size}
 use Rattle.pbd_scene.specs.Entries.{cloth_size as size_of_cloth, rope_size as size_of_rope}
 use Rattle.pbd_scene.specs.Naming.{particle_number, all_links, pinned, placed_track, held_still, holding}
-use Rattle.pbd_scene.specs.Scene.{at_scene, pins_of, numbers_of, settings_of, particles_of, cloths_of, ropes_of, links_of, planes_of}
-use Rattle.pbd_scene.specs.Scene.{spheres_of, tracks_of, tables_of, with_cloth, with_rope, plain_parts, with_meshes, named, with_entries}
-use Rattle.pbd_scene.specs.Scene.{scene_of}
+use Rattle.pbd_scene.specs.Scene.{at_scene, pins_of, numbers_of, settings_of, particles_of, cloths_of, ropes_of, links_of, tracks_of}
+use Rattle.pbd_scene.specs.Scene.{tables_of, with_cloth, with_rope, plain_parts, with_meshes, named, with_entries, scene_of}
 use Rattle.pbd_scene.proofs.Accepted.{through, same_ok, tested, integer_or_ok, count_or_ok, vector_or_ok, each_keeps_where, table_pass}
 use Rattle.pbd_scene.proofs.Accepted.{each_count}
 use Rattle.pbd_scene.proofs.Entering.{at_rest, is_entry_particle, particle_passes, AreClose, meshes_close}
-use Rattle.pbd_scene.proofs.Entering.{is_link_entry, link_passes, plane_passes, sphere_passes, has_keys, track_passes}
+use Rattle.pbd_scene.proofs.Entering.{is_link_entry, link_passes, shapes_pass, has_keys, track_passes}
 use Rattle.pbd_scene.proofs.LiveLinks.{LiveLinks, live_none, live_mesh, links_fit, number_ok}
 
 -- ---- the tables
@@ -55,23 +55,19 @@ pub record TablesFit (limit : ℤ) (t : Tables) : Type 0 where
   pub ropes : AreClose (rope_fits limit) size_of_rope (length t.particles + all_cloths_size t.cloths) t.ropes
   pub links : list_all (is_link_entry limit) t.links ≡ true
   pub few_links : length t.links ≤ 524288
-  pub planes : list_all is_valid_plane t.planes ≡ true
-  pub few_planes : length t.planes ≤ 256
-  pub spheres : list_all (is_valid_sphere limit) t.spheres ≡ true
-  pub few_spheres : length t.spheres ≤ 256
+  pub shapes : are_valid_shapes limit t.shapes ≡ true
   pub tracks : list_all {X = TrackEntry} (λ t. has_keys limit t.keys) t.tracks ≡ true
   pub few_tracks : length t.tracks ≤ 4096
 
 pub tables_fit : (limit : ℤ) (ms : Members) (t : Tables) → pos 0 ≤ℤ limit → tables_of limit ms ≡ Ok t → TablesFit limit t
-unfolding tables_of particles_of cloths_of ropes_of links_of planes_of spheres_of tracks_of
+unfolding tables_of particles_of cloths_of ropes_of links_of tracks_of
 tables_fit limit ms t low is =
     through (particles_of limit ms) _ t is (λ particles e1 is1.
     through (cloths_of limit (length particles) ms) _ t is1 (λ cloths e2 is2.
     through (ropes_of limit (length particles + all_cloths_size cloths) ms) _ t is2 (λ ropes e3 is3.
     through (links_of limit ms) _ t is3 (λ links e4 is4.
-    through (planes_of ms) _ t is4 (λ planes e5 is5.
-    through (spheres_of limit ms) _ t is5 (λ spheres e6 is6.
-    through (tracks_of limit ms) _ t is6 (λ tracks e7 is7.
+    through (shape_lists_of limit ms) _ t is4 (λ shapes e5 is5.
+    through (tracks_of limit ms) _ t is5 (λ tracks e6 is6.
     let p = table_pass tables.Particle 65536 (λ _. particle_of limit) (is_entry_particle limit)
     (λ front place ms y e. particle_passes limit place ms y e) ms particles e1 in
     let c = meshes_close tables.Cloth (cloth_fits limit) size_of_cloth (length particles) (λ place ms. cloth_spec_of place limit ms)
@@ -80,24 +76,18 @@ tables_fit limit ms t low is =
     (λ place ms. rope_spec_of place limit ms) c.room ms ropes e3 in
     let l = table_pass tables.Link 524288 (λ _. link_of limit) (is_link_entry limit)
     (λ front place ms y e. link_passes limit low place ms y e) ms links e4 in
-    let q = table_pass tables.Plane 256 (λ _. plane_of) is_valid_plane (λ front place ms y e. plane_passes place ms y e) ms planes e5 in
-    let s = table_pass tables.Sphere 256 (λ _. sphere_of limit) (is_valid_sphere limit)
-    (λ front place ms y e. sphere_passes limit place ms y e) ms spheres e6 in
     let k = table_pass tables.Track 4096 (λ _. track_of limit) (λ t. has_keys limit t.keys)
-    (λ front place ms y e. track_passes limit place ms y e) ms tracks e7 in
-    rw (← same_ok _ t is7) (record {
+    (λ front place ms y e. track_passes limit place ms y e) ms tracks e6 in
+    rw (← same_ok _ t is6) (record {
       particles = p.0;
       cloths = c;
       ropes = r;
       links = l.0;
       few_links = l.1;
-      planes = q.0;
-      few_planes = q.1;
-      spheres = s.0;
-      few_spheres = s.1;
+      shapes = shapes_pass limit ms shapes e5;
       tracks = k.0;
       few_tracks = k.1;
-    }))))))))
+    })))))))
 
 -- ---- the scene's own keys
 
@@ -334,24 +324,14 @@ split_all f g (x ∷ xs) t =
 
 -- what is asked of parts
 record Asked (parts : Parts) : Type 0 where
-  pub limit : IsTrue (is_limit parts.limit)
-  pub particles : are_valid_particles parts.limit parts.particles ≡ true
-  pub links : are_valid_links parts.limit (length parts.particles) parts.links ≡ true
-  pub planes : are_valid_planes parts.planes ≡ true
-  pub spheres : are_valid_spheres parts.limit parts.spheres ≡ true
-  pub tracks : are_valid_tracks parts.limit (length parts.particles) parts.tracks ≡ true
-  pub gravity : is_within parts.limit parts.gravity ≡ true
-  pub numbers : are_valid_numbers parts ≡ true
+  pub formed : Formed parts
   pub live : list_all {X = Link} (λ l. l.live) parts.links ≡ true
   pub rest : list_all {X = Particle} (λ p. not p.held || is_at_rest p) parts.particles ≡ true
   pub held : are_tracked_held parts.tracks parts.particles ≡ true
 
 all_asked : (parts : Parts) → Asked parts → is_valid parts ≡ true
-unfolding is_valid is_well_formed
-all_asked parts a = and_from _ _ (and_from _ _ (and_from _ _
-    (and_from _ _ (and_from _ _ (and_from _ _ (and_from _ _
-    (and_from _ _ (and_from _ _ (and_from _ _ a.limit a.particles) a.links) a.planes) a.spheres) a.tracks) a.gravity) a.numbers)
-    a.live) a.rest) a.held
+unfolding is_valid
+all_asked parts a = and_from _ _ (and_from _ _ (and_from _ _ (from_formed parts a.formed) a.live) a.rest) a.held
 
 particles_asked : (limit : ℤ) (ps : List Particle) → list_all (is_entry_particle limit) ps ≡ true → length ps ≤ 65536
     → (are_valid_particles limit ps ≡ true) × (list_all {X = Particle} (λ p. not p.held || is_at_rest p) ps ≡ true)
@@ -385,24 +365,19 @@ entries_valid limit s t start m pins parts lim sf tf plain mf is =
     let p = particles_asked limit ps (holding_passes limit names 0 m.particles mf.particles) (omega (arith, size, mf.few)) in
     let l = links_asked limit n links live in
     let its_limit : m.limit ≡ limit = ap (λ (q : Parts). q.limit) same in
-    let its_planes : m.planes ≡ t.planes = ap (λ (q : Parts). q.planes) same in
-    let its_spheres : m.spheres ≡ t.spheres = ap (λ (q : Parts). q.spheres) same in
-    let its_gravity : m.gravity ≡ s.gravity = ap (λ (q : Parts). q.gravity) same in
-    let its_passes : m.passes ≡ s.numbers.passes = ap (λ (q : Parts). q.passes) same in
-    let its_damping : m.damping ≡ s.numbers.damping = ap (λ (q : Parts). q.damping) same in
-    let its_thickness : m.thickness ≡ s.numbers.thickness = ap (λ (q : Parts). q.thickness) same in
-    let its_friction : m.friction ≡ s.numbers.friction = ap (λ (q : Parts). q.friction) same in
-    let asked : Asked all = record {
+    let formed : Formed all = record {
       limit = rw its_limit lim;
       particles = rw its_limit p.0;
       links = rw (its_limit, size) l.0;
-      planes = rw its_planes (and_from _ _ (le-leb (length t.planes) 256 tf.few_planes) tf.planes);
-      spheres = rw (its_limit, its_spheres) (and_from _ _ (le-leb (length t.spheres) 256 tf.few_spheres) tf.spheres);
+      shapes = subst (λ (q : Parts). are_valid_shapes q.limit (shapes_in q) ≡ true) (sym same) tf.shapes;
       tracks = rw (its_limit, size) (and_from _ _ (and_from _ _
           (le-leb (length tracks) 4096 (omega (arith, number, tf.few_tracks))) placed.valid) placed.once);
-      gravity = rw (its_limit, its_gravity) sf.gravity;
-      numbers = rw (its_passes, its_damping, its_thickness, its_friction)
+      gravity = subst (λ (q : Parts). is_within q.limit q.gravity ≡ true) (sym same) sf.gravity;
+      numbers = subst (λ (q : Parts). are_valid_numbers q ≡ true) (sym same)
           (and_from _ _ (and_from _ _ (and_from _ _ sf.numbers.passes sf.numbers.damping) sf.numbers.thickness) sf.numbers.friction);
+    } in
+    let asked : Asked all = record {
+      formed = formed;
       live = l.1;
       rest = p.1;
       held = tracked_held limit names m.particles tracks placed.valid (among_own held tracks);

@@ -4,10 +4,10 @@ use Rattle.std.specs.List.{list_any}
 use Rattle.toml.specs.Data.{Members, no_members, member}
 use Rattle.pbd_scene.specs.declared.fault.SceneRule.{SceneRule}
 use Rattle.pbd_scene.specs.declared.fault.SceneRule.TheVariants as rules
-use Rattle.pbd_scene.specs.declared.fault.TableName.{TableName}
-use Rattle.pbd_scene.specs.declared.fault.TableName.TheVariants as tables
-use Rattle.pbd_scene.specs.declared.fault.KeyName.{KeyName}
-use Rattle.pbd_scene.specs.declared.fault.KeyName.TheVariants as keys
+use Rattle.pbd_scene.specs.declared.tables.TableName.{TableName}
+use Rattle.pbd_scene.specs.declared.tables.TableName.TheVariants as tables
+use Rattle.pbd_scene.specs.declared.tables.KeyName.{KeyName}
+use Rattle.pbd_scene.specs.declared.tables.KeyName.TheVariants as keys
 use Rattle.pbd_scene.specs.declared.fault.Place.{Place}
 use Rattle.pbd_scene.specs.Checks.{Checked, expect}
 

@@ -13,9 +13,9 @@ use Rattle.pbd_scene.specs.declared.raw.LinkEntry.{LinkEntry}
 use Rattle.pbd_scene.specs.declared.raw.TrackEntry.{TrackEntry}
 use Rattle.pbd_scene.specs.declared.fault.SceneRule.TheVariants.{BadIndex, SelfLink, DoubleLink, TooMany, TooManyAtParticle, BadTrack}
 use Rattle.pbd_scene.specs.declared.fault.Place.{Place}
-use Rattle.pbd_scene.specs.declared.fault.KeyName.{KeyName}
-use Rattle.pbd_scene.specs.declared.fault.TableName.TheVariants as tables
-use Rattle.pbd_scene.specs.declared.fault.KeyName.TheVariants as keys
+use Rattle.pbd_scene.specs.declared.tables.KeyName.{KeyName}
+use Rattle.pbd_scene.specs.declared.tables.TableName.TheVariants as tables
+use Rattle.pbd_scene.specs.declared.tables.KeyName.TheVariants as keys
 use Rattle.pbd_scene.specs.Checks.{Checked, expect, ◌>>=◌, each}
 use Rattle.pbd_scene.specs.Values.{at}
 

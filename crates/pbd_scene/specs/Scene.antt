@@ -3,11 +3,10 @@ use Rattle.std.specs.Prelude.{ℕ, ◌+◌, ℤ, pos, List, [], ◌++◌, length
 use Rattle.toml.specs.Data.{Members}
 use Rattle.pbd_num.specs.Vectors.{zero_vector}
 use Rattle.pbd_world.specs.declared.parts.Particle.{Particle}
-use Rattle.pbd_world.specs.declared.parts.Plane.{Plane}
-use Rattle.pbd_world.specs.declared.parts.Sphere.{Sphere}
 use Rattle.pbd_world.specs.declared.parts.Track.{Track}
 use Rattle.pbd_world.specs.declared.parts.Parts.{Parts}
-use Rattle.pbd_world.specs.Valid.{no_parts}
+use Rattle.pbd_world.specs.Shapes.{with_shapes}
+use Rattle.pbd_world.specs.World.{no_parts}
 use Rattle.pbd_mesh.specs.declared.spec.ClothSpec.{ClothSpec}
 use Rattle.pbd_mesh.specs.declared.spec.RopeSpec.{RopeSpec}
 pub use Rattle.pbd_mesh.specs.Cloth.{with_cloth}
@@ -19,14 +18,14 @@ use Rattle.pbd_scene.specs.declared.raw.Settings.{Settings}
 use Rattle.pbd_scene.specs.declared.raw.Tables.{Tables}
 use Rattle.pbd_scene.specs.declared.fault.SceneRule.TheVariants.{TooMany}
 use Rattle.pbd_scene.specs.declared.fault.Place.{Place}
-use Rattle.pbd_scene.specs.declared.fault.TableName.TheVariants as tables
-use Rattle.pbd_scene.specs.declared.fault.KeyName.TheVariants as keys
+use Rattle.pbd_scene.specs.declared.tables.TableName.TheVariants as tables
+use Rattle.pbd_scene.specs.declared.tables.KeyName.TheVariants as keys
 use Rattle.pbd_scene.specs.declared.fault.SceneFault.{SceneFault}
 use Rattle.pbd_scene.specs.declared.fault.SceneFault.TheVariants as faults
 use Rattle.pbd_scene.specs.Keys.{known}
 use Rattle.pbd_scene.specs.Checks.{Checked, expect, ◌>>=◌, each, Gives}
 use Rattle.pbd_scene.specs.Values.{at, integers_of, vector_or, count_or, integer_or, table_of}
-use Rattle.pbd_scene.specs.Entries.{particle_of, cloth_of, rope_of, link_of, plane_of, sphere_of, track_of, all_cloths_size}
+use Rattle.pbd_scene.specs.Entries.{particle_of, cloth_of, rope_of, link_of, shape_lists_of, track_of, all_cloths_size}
 use Rattle.pbd_scene.specs.Naming.{all_links, pinned, placed_track, holding}
 
 abbrev pub at_scene : Place
@@ -70,12 +69,6 @@ ropes_of limit count ms = table_of tables.Rope 64 (rope_of limit count) ms
 unfoldable pub links_of : ℤ → Members → Checked (List LinkEntry)
 links_of limit ms = table_of tables.Link 524288 (λ _. link_of limit) ms
 
-unfoldable pub planes_of : Members → Checked (List Plane)
-planes_of ms = table_of tables.Plane 256 (λ _. plane_of) ms
-
-unfoldable pub spheres_of : ℤ → Members → Checked (List Sphere)
-spheres_of limit ms = table_of tables.Sphere 256 (λ _. sphere_of limit) ms
-
 unfoldable pub tracks_of : ℤ → Members → Checked (List TrackEntry)
 tracks_of limit ms = table_of tables.Track 4096 (λ _. track_of limit) ms
 
@@ -86,10 +79,9 @@ tables_of limit ms = do
   cloths ← cloths_of limit (length particles) ms
   ropes ← ropes_of limit (length particles + all_cloths_size cloths) ms
   links ← links_of limit ms
-  planes ← planes_of ms
-  spheres ← spheres_of limit ms
+  shapes ← shape_lists_of limit ms
   tracks ← tracks_of limit ms
-  Ok (record { particles = particles; cloths = cloths; ropes = ropes; links = links; planes = planes; spheres = spheres; tracks = tracks })
+  Ok (record { particles = particles; cloths = cloths; ropes = ropes; links = links; shapes = shapes; tracks = tracks })
 
 -- parts that have so many particles more, and the same limit
 pub record IsGrown (old now : Parts) (more : ℕ) : Type 0 where
@@ -98,16 +90,14 @@ pub record IsGrown (old now : Parts) (more : ℕ) : Type 0 where
 
 -- the parts without meshes, links and tracks
 abbrev pub plain_parts : ℤ → Settings → Tables → Parts
-plain_parts limit s t = record (no_parts limit) {
+plain_parts limit s t = with_shapes t.shapes (record (no_parts limit) {
   particles = t.particles;
-  planes = t.planes;
-  spheres = t.spheres;
   gravity = s.gravity;
   passes = s.numbers.passes;
   damping = s.numbers.damping;
   thickness = s.numbers.thickness;
   friction = s.numbers.friction;
-}
+})
 
 -- the same with the particles and links of the cloths and then of the ropes
 unfoldable pub with_meshes : ℤ → Settings → Tables → Parts

@@ -7,8 +7,9 @@ ghost use Rattle.pbd_scene.specs.Checks.{Checked, Gives, broken};
 ghost use Rattle.pbd_scene.specs.Values.{array_of, value_of, any_integer, four_of, four_integers, row, required_array, members, entry, entries, entries_of, entry_of, table_of, integers_of};
 
 use crate::each::{Reader, read_each};
-use crate::fault::{KeyName, Place, SceneFault, SceneRule, TableName};
+use crate::fault::{Place, SceneFault, SceneRule};
 use crate::raw::Row;
+use crate::tables::{KeyName, TableName};
 use crate::values::{Entry, any_integer, broken, find, known, value_of};
 use crate::vectors::axes_of;
 use pbd_world::List;

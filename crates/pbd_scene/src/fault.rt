@@ -1,8 +1,9 @@
 // The rules that a scene may break, and where.
 ghost use Rattle.std.specs.Prelude.{◌≡◌};
 ghost use Rattle.pbd_scene.specs.declared.fault.SceneFault.TheVariants.{OutOfMemory};
-ghost use Rattle.pbd_scene.specs.Keys.{key_text, table_text, rule_number, rule_text};
+ghost use Rattle.pbd_scene.specs.Keys.{rule_number, rule_text};
 
+use crate::tables::{KeyName, TableName};
 use std::alloc::{AllocError, AllocFailed};
 use std::fmt;
 
@@ -69,135 +70,7 @@ impl SceneRule {
     }
 }
 
-/// The scene itself, or one of its arrays of tables.
-#[derive(Clone, Copy, Debug, PartialEq, Eq)]
-pub enum TableName {
-    Scene,
-    Particle,
-    Cloth,
-    Rope,
-    Link,
-    Plane,
-    Sphere,
-    Track,
-}
-
-/// A key of the scene or of an entry, or none.
-#[derive(Clone, Copy, Debug, PartialEq, Eq)]
-pub enum KeyName {
-    NoKey,
-    Gravity,
-    Passes,
-    Damping,
-    Thickness,
-    Friction,
-    Pins,
-    At,
-    Velocity,
-    Weight,
-    Held,
-    Origin,
-    Across,
-    Down,
-    Rows,
-    Columns,
-    Stretch,
-    Shear,
-    Bend,
-    StretchTear,
-    ShearTear,
-    BendTear,
-    Spacing,
-    Count,
-    A,
-    B,
-    Rest,
-    Stiffness,
-    Tear,
-    Normal,
-    Offset,
-    Centre,
-    Radius,
-    Particle,
-    Keys,
-}
-
-impl TableName {
-    /// The table's name in a scene.
-    pub fn name(&self) -> &'static str
-        ensures { result.now ≡ table_text self.now }
-    {
-        match self {
-            TableName::Scene => "scene",
-            TableName::Particle => "particle",
-            TableName::Cloth => "cloth",
-            TableName::Rope => "rope",
-            TableName::Link => "link",
-            TableName::Plane => "plane",
-            TableName::Sphere => "sphere",
-            TableName::Track => "track",
-        }
-    }
-}
-
-impl KeyName {
-    /// The key as a scene writes it.
-    pub fn name(&self) -> &'static str
-        ensures { result.now ≡ key_text self.now }
-    {
-        match self {
-            KeyName::NoKey => "-",
-            KeyName::Gravity => "gravity",
-            KeyName::Passes => "passes",
-            KeyName::Damping => "damping",
-            KeyName::Thickness => "thickness",
-            KeyName::Friction => "friction",
-            KeyName::Pins => "pins",
-            KeyName::At => "at",
-            KeyName::Velocity => "velocity",
-            KeyName::Weight => "weight",
-            KeyName::Held => "held",
-            KeyName::Origin => "origin",
-            KeyName::Across => "across",
-            KeyName::Down => "down",
-            KeyName::Rows => "rows",
-            KeyName::Columns => "columns",
-            KeyName::Stretch => "stretch",
-            KeyName::Shear => "shear",
-            KeyName::Bend => "bend",
-            KeyName::StretchTear => "stretch_tear",
-            KeyName::ShearTear => "shear_tear",
-            KeyName::BendTear => "bend_tear",
-            KeyName::Spacing => "spacing",
-            KeyName::Count => "count",
-            KeyName::A => "a",
-            KeyName::B => "b",
-            KeyName::Rest => "rest",
-            KeyName::Stiffness => "stiffness",
-            KeyName::Tear => "tear",
-            KeyName::Normal => "normal",
-            KeyName::Offset => "offset",
-            KeyName::Centre => "centre",
-            KeyName::Radius => "radius",
-            KeyName::Particle => "particle",
-            KeyName::Keys => "keys",
-        }
-    }
-}
-
 impl fmt::Display for SceneRule {
-    fn fmt<W: fmt::Write>(&self, f: &mut fmt::Formatter<W>) -> Result<(), fmt::Error> {
-        f.write_str(self.name())
-    }
-}
-
-impl fmt::Display for TableName {
-    fn fmt<W: fmt::Write>(&self, f: &mut fmt::Formatter<W>) -> Result<(), fmt::Error> {
-        f.write_str(self.name())
-    }
-}
-
-impl fmt::Display for KeyName {
     fn fmt<W: fmt::Write>(&self, f: &mut fmt::Formatter<W>) -> Result<(), fmt::Error> {
         f.write_str(self.name())
     }

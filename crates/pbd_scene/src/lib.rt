@@ -21,6 +21,7 @@ mod track_entries;
 mod values;
 mod vectors;
 
-pub use fault::{KeyName, SceneFault, SceneRule, TableName};
+pub use fault::{SceneFault, SceneRule};
 pub use laws::accepted_scenes_are_valid;
 pub use scene::read_scene;
+pub use tables::{KeyName, TableName};

@@ -2,9 +2,10 @@
 ghost use Rattle.pbd_scene.specs.Entries.{link_of};
 
 use crate::arrays::EntryReader;
-use crate::fault::{KeyName, SceneFault};
+use crate::fault::SceneFault;
 use crate::limit::Limit;
 use crate::raw::LinkEntry;
+use crate::tables::KeyName;
 use crate::values::Entry;
 
 #[derive(Clone, Copy)]

@@ -6,8 +6,9 @@ ghost use Rattle.pbd_world.specs.Neighbours.{HoldsNeighbours};
 ghost use Rattle.pbd_scene.specs.Checks.{Gives};
 ghost use Rattle.pbd_scene.specs.Naming.{particle_number, plain_link, room_for_link, entry_link, length_between, all_links};
 
-use crate::fault::{KeyName, Place, SceneFault, SceneRule, TableName};
+use crate::fault::{Place, SceneFault, SceneRule};
 use crate::raw::LinkEntry;
+use crate::tables::{KeyName, TableName};
 use crate::values::broken;
 use pbd_num::distance;
 use pbd_world::{Kind, Link, List, MOST_AT_PARTICLE, MOST_LINKS, NeighbourLists, Particle};

@@ -6,9 +6,10 @@ ghost use Rattle.pbd_scene.specs.Checks.{Gives, each};
 ghost use Rattle.pbd_scene.specs.Naming.{pinned, placed_track, held_still, holding};
 ghost use Rattle.pbd_scene.specs.Scene.{named};
 
-use crate::fault::{KeyName, Place, SceneFault, SceneRule, TableName};
+use crate::fault::{Place, SceneFault, SceneRule};
 use crate::linking::particle_number;
 use crate::raw::TrackEntry;
+use crate::tables::{KeyName, TableName};
 use crate::values::broken;
 use pbd_world::{Key, List, Particle, Track};
 use std::alloc::{AllocError, Global};

@@ -5,8 +5,9 @@ ghost use Rattle.pbd_scene.specs.Checks.{Gives};
 ghost use Rattle.pbd_scene.specs.Entries.{inside_before, particle_of};
 
 use crate::arrays::EntryReader;
-use crate::fault::{KeyName, Place, SceneFault, SceneRule};
+use crate::fault::{Place, SceneFault, SceneRule};
 use crate::limit::Limit;
+use crate::tables::KeyName;
 use crate::values::Entry;
 use pbd_num::Vec3;
 use pbd_world::Particle;

@@ -4,19 +4,24 @@ ghost use Rattle.std.specs.List.{All};
 ghost use Rattle.toml.specs.View.{table_view};
 ghost use Rattle.toml.specs.Parse.{parse_document};
 ghost use Rattle.pbd_num.specs.Vectors.{Within};
-ghost use Rattle.pbd_world.specs.Valid.{is_limit, is_valid, no_parts};
+ghost use Rattle.pbd_world.specs.Shapes.{with_shapes};
+ghost use Rattle.pbd_world.specs.Valid.{is_limit, is_valid};
+ghost use Rattle.pbd_world.specs.World.{no_parts};
 ghost use Rattle.pbd_scene.specs.Calls.{from_tracks, from_pins, from_tables};
 ghost use Rattle.pbd_scene.specs.Checks.{Gives};
 ghost use Rattle.pbd_scene.specs.Scene.{pins_of, numbers_of, settings_of, with_entries, scene_of, Reads};
 
-use crate::fault::{KeyName, Place, SceneFault, SceneRule, TableName};
+use crate::fault::{Place, SceneFault, SceneRule};
 use crate::linking::add_links;
 use crate::meshes::add_meshes;
 use crate::naming::{add_tracked, holding, pinned_particles, place_tracks};
-use crate::raw::{LinkEntry, Numbers, Settings, Shapes, TrackEntry};
+use crate::raw::{LinkEntry, Numbers, Settings, TrackEntry};
 use crate::table_lists::tables_of;
+use crate::tables::{KeyName, TableName};
 use crate::values::{Entry, broken, known};
-use pbd_world::{List, MOST_PARTICLES, MOST_THICKNESS, Particle, Parts, PartsFault, Scene};
+use pbd_world::{
+    List, MOST_PARTICLES, MOST_THICKNESS, Particle, Parts, PartsFault, Scene, ShapeLists,
+};
 use std::alloc::{AllocError, Global};
 use toml::Table;
 
@@ -149,32 +154,28 @@ fn plain_parts(
     limit: i64,
     settings: &Settings,
     particles: List<Particle>,
-    shapes: Shapes,
+    shapes: ShapeLists,
 ) -> Parts
-    ensures { result ≡ record (no_parts limit) {
+    ensures { result ≡ with_shapes shapes (record (no_parts limit) {
       particles = particles;
-      planes = shapes.planes;
-      spheres = shapes.spheres;
       gravity = settings.now.gravity;
       passes = settings.now.numbers.passes;
       damping = settings.now.numbers.damping;
       thickness = settings.now.numbers.thickness;
       friction = settings.now.numbers.friction;
-    } }
+    }) }
 {
-    Parts {
+    let mut parts = Parts {
         particles,
-        links: List::new(alloc),
-        planes: shapes.planes,
-        spheres: shapes.spheres,
-        tracks: List::new(alloc),
         gravity: settings.gravity,
         passes: settings.numbers.passes,
         damping: settings.numbers.damping,
         thickness: settings.numbers.thickness,
         friction: settings.numbers.friction,
-        limit,
-    }
+        ..Parts::empty(alloc, limit)
+    };
+    shapes.put_into(&mut parts);
+    parts
 }
 
 /// Adds the links, pins and tracks that the entries name to parts, and drops the entries.
@@ -215,11 +216,7 @@ fn parts_with(
     ensures { Gives (λ parts. parts) result (from_tables limit settings.now (table_view members.now)) }
 {
     let tables = tables_of(alloc, limit, members)?;
-    let shapes = Shapes {
-        planes: tables.planes,
-        spheres: tables.spheres,
-    };
-    let mut parts = plain_parts(alloc, limit, settings, tables.particles, shapes);
+    let mut parts = plain_parts(alloc, limit, settings, tables.particles, tables.shapes);
     let meshed = add_meshes(
         alloc,
         tables.cloths.as_slice(),

@@ -1,19 +1,24 @@
-// The `[[plane]]` and `[[sphere]]` entries.
+// The shapes: the `[[plane]]` and `[[sphere]]` entries.
 ghost use Rattle.std.specs.Prelude.{◌≡◌, ◌≤◌, ◌^◌, unsigned_abs, nat_lt, ◌&&◌};
+ghost use Rattle.toml.specs.View.{table_view};
 ghost use Rattle.pbd_num.specs.Vectors.{Within, squared_length};
-ghost use Rattle.pbd_scene.specs.Entries.{plane_of, reaches_within, sphere_of};
+ghost use Rattle.pbd_scene.specs.Checks.{Gives};
+ghost use Rattle.pbd_scene.specs.Entries.{plane_of, planes_of, reaches_within, sphere_of, spheres_of, shape_lists_of};
 
-use crate::arrays::EntryReader;
-use crate::fault::{KeyName, SceneFault, SceneRule};
+use crate::arrays::{EntriesOf, EntryReader, read_table};
+use crate::fault::{SceneFault, SceneRule};
 use crate::limit::Limit;
+use crate::tables::{KeyName, TableName};
 use crate::values::Entry;
 use pbd_num::Vec3;
-use pbd_world::{Plane, Sphere};
+use pbd_world::{List, Plane, ShapeLists, Sphere};
+use std::alloc::Global;
+use toml::Table;
 
 // ---- planes
 
 #[derive(Clone, Copy)]
-pub struct Planes;
+struct Planes;
 
 fn has_length(v: Vec3) -> bool
     ensures { result ≡ nat_lt 0 (squared_length v) }
@@ -42,11 +47,22 @@ impl EntryReader for Planes {
     }
 }
 
+#[tactic(auto, unfolding(crate::specs::Entries::planes_of))]
+fn planes_of(alloc: Global, members: &Table) -> Result<List<Plane>, SceneFault>
+    ensures value { Gives (λ xs. xs) result (planes_of (table_view members.now)) }
+{
+    let planes = EntriesOf {
+        table: TableName::Plane,
+        reader: Planes,
+    };
+    read_table(alloc, 256, &planes, members)
+}
+
 // ---- spheres
 
 #[derive(Clone, Copy)]
-pub struct Spheres {
-    pub limit: Limit,
+struct Spheres {
+    limit: Limit,
 }
 
 /// The way by so much along each axis.
@@ -84,4 +100,31 @@ impl EntryReader for Spheres {
             .expect(reaches, SceneRule::OutOfRange, KeyName::Radius)?;
         Ok(Sphere { centre, radius })
     }
+}
+
+#[tactic(auto, unfolding(crate::specs::Entries::spheres_of))]
+fn spheres_of(alloc: Global, limit: &Limit, members: &Table) -> Result<List<Sphere>, SceneFault>
+    ensures value { Gives (λ xs. xs) result (spheres_of limit.now.units (table_view members.now)) }
+{
+    let spheres = EntriesOf {
+        table: TableName::Sphere,
+        reader: Spheres { limit: *limit },
+    };
+    read_table(alloc, 256, &spheres, members)
+}
+
+// ---- all shapes
+
+/// The entries of the tables of shapes, one table after another.
+#[tactic(auto, unfolding(crate::specs::Entries::shape_lists_of))]
+pub fn shape_lists_of(
+    alloc: Global,
+    limit: &Limit,
+    members: &Table,
+) -> Result<ShapeLists, SceneFault>
+    ensures { Gives (λ shapes. shapes) result (shape_lists_of limit.now.units (table_view members.now)) }
+{
+    let planes = planes_of(alloc, members)?;
+    let spheres = spheres_of(alloc, limit, members)?;
+    Ok(ShapeLists { planes, spheres })
 }

@@ -2,20 +2,21 @@
 ghost use Rattle.std.specs.Prelude.{◌≡◌, ◌+◌, ◌≤◌, ◌≤ℤ◌, ◌^◌, IfOk, pos, unsigned_abs, length};
 ghost use Rattle.toml.specs.View.{table_view};
 ghost use Rattle.pbd_scene.specs.Checks.{Gives};
-ghost use Rattle.pbd_scene.specs.Entries.{all_cloths_size};
-ghost use Rattle.pbd_scene.specs.Scene.{particles_of, cloths_of, ropes_of, links_of, planes_of, spheres_of, tracks_of, tables_of};
+ghost use Rattle.pbd_scene.specs.Entries.{all_cloths_size, shape_lists_of};
+ghost use Rattle.pbd_scene.specs.Scene.{particles_of, cloths_of, ropes_of, links_of, tracks_of, tables_of};
 
 use crate::arrays::{EntriesOf, read_table};
-use crate::fault::{SceneFault, TableName};
+use crate::fault::SceneFault;
 use crate::limit::Limit;
 use crate::link_entries::Links;
 use crate::mesh_entries::{Meshes, all_sizes};
 use crate::particles::Particles;
 use crate::raw::{LinkEntry, Tables, TrackEntry};
-use crate::shapes::{Planes, Spheres};
+use crate::shapes::shape_lists_of;
+use crate::tables::TableName;
 use crate::track_entries::Tracks;
 use pbd_mesh::{ClothSpec, RopeSpec};
-use pbd_world::{List, MOST_LINKS, MOST_PARTICLES, MOST_TRACKS, Particle, Plane, Sphere};
+use pbd_world::{List, MOST_LINKS, MOST_PARTICLES, MOST_TRACKS, Particle, ShapeLists};
 use std::alloc::Global;
 use std::marker::PhantomData;
 use toml::Table;
@@ -88,28 +89,6 @@ fn links_of(alloc: Global, limit: &Limit, members: &Table) -> Result<List<LinkEn
     read_table(alloc, MOST_LINKS, &links, members)
 }
 
-#[tactic(auto, unfolding(crate::specs::Scene::planes_of))]
-fn planes_of(alloc: Global, members: &Table) -> Result<List<Plane>, SceneFault>
-    ensures value { Gives (λ xs. xs) result (planes_of (table_view members.now)) }
-{
-    let planes = EntriesOf {
-        table: TableName::Plane,
-        reader: Planes,
-    };
-    read_table(alloc, 256, &planes, members)
-}
-
-#[tactic(auto, unfolding(crate::specs::Scene::spheres_of))]
-fn spheres_of(alloc: Global, limit: &Limit, members: &Table) -> Result<List<Sphere>, SceneFault>
-    ensures value { Gives (λ xs. xs) result (spheres_of limit.now.units (table_view members.now)) }
-{
-    let spheres = EntriesOf {
-        table: TableName::Sphere,
-        reader: Spheres { limit: *limit },
-    };
-    read_table(alloc, 256, &spheres, members)
-}
-
 #[tactic(auto, unfolding(crate::specs::Scene::tracks_of))]
 fn tracks_of(alloc: Global, limit: &Limit, members: &Table) -> Result<List<TrackEntry>, SceneFault>
     ensures value { Gives (λ xs. xs) result (tracks_of limit.now.units (table_view members.now)) }
@@ -139,8 +118,7 @@ fn fill_from_links(
     ensures { Gives (λ _. tables.new) result (tables_of limit.now.units (table_view members.now)) }
 {
     tables.links = links_of(alloc, limit, members)?;
-    tables.planes = planes_of(alloc, members)?;
-    tables.spheres = spheres_of(alloc, limit, members)?;
+    tables.shapes = shape_lists_of(alloc, limit, members)?;
     tables.tracks = tracks_of(alloc, limit, members)?;
     Ok(())
 }
@@ -174,8 +152,7 @@ pub fn tables_of(alloc: Global, limit: i64, members: &Table) -> Result<Tables, S
         cloths: List::new(alloc),
         ropes: List::new(alloc),
         links: List::new(alloc),
-        planes: List::new(alloc),
-        spheres: List::new(alloc),
+        shapes: ShapeLists::empty(alloc),
         tracks: List::new(alloc),
     };
     let limit = Limit { units: limit };

@@ -6,9 +6,10 @@ ghost use Rattle.pbd_scene.specs.Entries.{row_of, step_number, key_of, step_of, 
 
 use crate::arrays::{EntryReader, row};
 use crate::each::{Reader, read_each};
-use crate::fault::{KeyName, Place, SceneFault, SceneRule};
+use crate::fault::{Place, SceneFault, SceneRule};
 use crate::limit::Limit;
 use crate::raw::{Row, TrackEntry};
+use crate::tables::KeyName;
 use crate::values::{Entry, broken};
 use pbd_world::{Key, LAST_STEP, List};
 use std::alloc::Global;

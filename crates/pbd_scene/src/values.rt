@@ -8,9 +8,9 @@ ghost use Rattle.pbd_scene.specs.Checks.{Gives, broken, expect};
 ghost use Rattle.pbd_scene.specs.Keys.{is_key_of, is_table_of, is_known, known};
 ghost use Rattle.pbd_scene.specs.Values.{value_of, any_integer, integer, required_any_integer, required_integer, optional_integer, integer_or, required_count, count_or, boolean_or, members};
 
-use crate::fault::{KeyName, Place, SceneFault, SceneRule, TableName};
+use crate::fault::{Place, SceneFault, SceneRule};
 use crate::limit::Limit;
-use crate::tables::{all_tables, entry_keys};
+use crate::tables::{KeyName, TableName, all_tables, entry_keys};
 use toml::{Table, Value};
 
 pub fn broken<T>(rule: SceneRule, place: Place, key: KeyName) -> Result<T, SceneFault>

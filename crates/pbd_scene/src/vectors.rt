@@ -6,8 +6,9 @@ ghost use Rattle.pbd_num.specs.Vectors.{Within, is_within, is_axis_within, zero_
 ghost use Rattle.pbd_scene.specs.Checks.{Gives, broken};
 ghost use Rattle.pbd_scene.specs.Values.{value_of, three_of, three_integers, vector, required_vector, vector_or, members};
 
-use crate::fault::{KeyName, Place, SceneFault, SceneRule};
+use crate::fault::{Place, SceneFault, SceneRule};
 use crate::limit::Limit;
+use crate::tables::KeyName;
 use crate::values::{Entry, broken, value_of};
 use pbd_num::Vec3;
 use toml::Value;
