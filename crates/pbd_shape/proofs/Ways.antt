@@ -6,7 +6,7 @@ use Rattle.std.proofs.lemmas.Int.{ints}
 use Rattle.std.specs.Ordering.{int_eq}
 use Rattle.std.proofs.lemmas.Bool.{and_parts, or_cases, ltb-true}
 use Rattle.std.proofs.lemmas.Bool.Decides.{nat_tests, Decides-int_eq}
-use Rattle.std.proofs.lemmas.List.{drop_all, length-append, length-map}
+use Rattle.std.proofs.lemmas.List.{drop_all}
 use Rattle.std.proofs.lemmas.List.Elements.{All-from_get_or}
 use Rattle.std.specs.List.{All}
 use Rattle.std.proofs.lemmas.List.Sums.{AllPass-from_list_all}
@@ -16,13 +16,13 @@ use Rattle.pbd_num.proofs.Sizes.{size_le, size_above, size_below}
 use Rattle.pbd_world.specs.declared.parts.Particle.{Particle}
 use Rattle.pbd_world.specs.declared.parts.Plane.{Plane}
 use Rattle.pbd_world.specs.declared.parts.Sphere.{Sphere}
-use Rattle.pbd_world.specs.Shapes.{Shape, Way, plane_shape, sphere_shape, shapes_of, past, way_through}
+use Rattle.pbd_world.specs.Shapes.{Shape, Way, past, way_through, is_valid_plane, are_valid_planes, is_valid_sphere, are_valid_spheres}
+use Rattle.pbd_world.specs.Shapes.{are_valid_shapes}
 use Rattle.pbd_world.specs.Particles.{no_particle}
-use Rattle.pbd_world.specs.Valid.{is_limit, is_valid_particle, are_valid_particles, is_valid_plane, are_valid_planes, is_valid_sphere}
-use Rattle.pbd_world.specs.Valid.{are_valid_spheres}
+use Rattle.pbd_world.specs.Valid.{is_limit, is_valid_particle, are_valid_particles}
 use Rattle.pbd_shape.specs.Rubbing.{AreWithin}
 use Rattle.pbd_shape.specs.declared.shapes.Shapes.{Shapes}
-use Rattle.pbd_shape.specs.Valid.{IsLimit, IsPlane, IsSphere, AreInRange, AreValid}
+use Rattle.pbd_shape.specs.Valid.{lists_of, IsLimit, IsPlane, IsSphere, AreInRange}
 
 abbrev pub then_on : (Way → Option Way) → Option Way → Option Way
 then_on f o = elim o [ None ↦ None | Some next ↦ f next ]
@@ -56,11 +56,6 @@ ways_joined limit (x ∷ xs) ys way = after (λ w. ways_joined limit xs ys w) (p
         → then_on (way_through limit (xs ++ ys)) o ≡ then_on (way_through limit ys) (then_on (way_through limit xs) o)
     after h None = refl
     after h (Some w) = h w
-
--- as many shapes as there are planes and spheres
-pub shape_count : (planes : List Plane) (spheres : List Sphere) → length (shapes_of planes spheres) ≡ length planes + length spheres
-shape_count planes spheres = length-append (map plane_shape planes) (map sphere_shape spheres)
-    ∙ (λ i. length-map planes plane_shape i + length-map spheres sphere_shape i)
 
 -- ---- valid shapes
 
@@ -121,11 +116,10 @@ spheres_are limit spheres lim h = All-from_get_or IsSphere spheres no_sphere (λ
     no_sphere = record { centre = zero_vector; radius = pos 0 }
 
 -- valid shapes are in their ranges
-pub shapes_are : (limit : ℤ) (shapes : Shapes) → IsLimit limit → AreValid limit shapes → AreInRange shapes
-shapes_are limit shapes lim h = record {
-  planes = planes_are shapes.planes.now h.planes;
-  spheres = spheres_are limit shapes.spheres.now lim h.spheres;
-}
+pub shapes_are : (limit : ℤ) (shapes : Shapes) → IsLimit limit → IsTrue (are_valid_shapes limit (lists_of shapes)) → AreInRange shapes
+shapes_are limit shapes lim h =
+    let valid = and_parts _ _ h in
+    record { planes = planes_are shapes.planes.now valid.0; spheres = spheres_are limit shapes.spheres.now lim valid.1 }
 
 -- ---- valid particles
 

@@ -1,16 +1,16 @@
 -- The shape part of a pass.
 use Rattle.std.specs.Prelude.{◌≡◌, ℕ, ◌*◌, ◌^◌, ◌<◌, ◌≤◌, ◌==◌, ℤ, List, ◌++◌, length, map, zip, fold, take, drop, Bool, ◌||◌}
-use Rattle.std.specs.Prelude.{if◌then◌else◌, Result, Ok}
+use Rattle.std.specs.Prelude.{if◌then◌else◌, IsTrue, Result, Ok}
 use Rattle.pbd_world.specs.declared.parts.Particle.{Particle}
 use Rattle.pbd_world.specs.Outcomes.{◌>>=◌, each_from}
 use Rattle.pbd_world.specs.Ledger.{Ledger, booked, HaveRoom}
 use Rattle.pbd_world.specs.Particles.{Moved}
-use Rattle.pbd_world.specs.Shapes.{Shape, Shaped, shaped}
+use Rattle.pbd_world.specs.Shapes.{Shape, Shaped, are_valid_shapes, shaped}
 use Rattle.pbd_world.specs.Step.{Passing, all_shaped}
 use Rattle.pbd_store.specs.Blocks.{blocks_of}
 use Rattle.pbd_store.specs.Moving.{AreInside}
 use Rattle.pbd_shape.specs.declared.shapes.Shapes.{Shapes}
-use Rattle.pbd_shape.specs.Valid.{AreValid}
+use Rattle.pbd_shape.specs.Valid.{lists_of}
 
 -- particle by particle, up to the first that leaves the limit
 abbrev pub all_pushed : ℤ → List Shape → Passing → Result Passing ℕ
@@ -42,7 +42,7 @@ pub record CanPush (width number : ℕ) (limit : ℤ) (particles : List Particle
   pub lanes_low : 0 < width
   pub lanes_high : width ≤ 16
   pub block : number < blocks_of (length particles) width
-  pub valid : AreValid limit shapes
+  pub valid : IsTrue (are_valid_shapes limit (lists_of shapes))
   pub inside : AreInside limit particles
   pub flags : length touched ≡ length particles
   pub room : HaveRoom (2 ^ 125) totals

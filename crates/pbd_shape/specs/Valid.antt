@@ -1,11 +1,15 @@
--- Planes and spheres in their ranges, as facts.
-use Rattle.std.specs.Prelude.{◌<◌, ◌≤◌, ◌^◌, ℤ, pos, ◌≤ℤ◌, unsigned_abs, IsTrue}
+-- Shapes as the lists of a world, and in their ranges as facts.
+use Rattle.std.specs.Prelude.{◌<◌, ◌≤◌, ◌^◌, ℤ, pos, ◌≤ℤ◌, unsigned_abs}
 use Rattle.std.specs.List.{All}
 use Rattle.pbd_num.specs.Vectors.{Within, squared_length}
 use Rattle.pbd_world.specs.declared.parts.Plane.{Plane}
 use Rattle.pbd_world.specs.declared.parts.Sphere.{Sphere}
-use Rattle.pbd_world.specs.Valid.{are_valid_planes, are_valid_spheres}
+use Rattle.pbd_world.specs.declared.parts.ShapeLists.{ShapeLists}
 use Rattle.pbd_shape.specs.declared.shapes.Shapes.{Shapes}
+
+-- the shapes as a world has them
+abbrev pub lists_of : Shapes → ShapeLists
+lists_of shapes = record { planes = shapes.planes.now; spheres = shapes.spheres.now }
 
 -- a limit of places
 pub record IsLimit (limit : ℤ) : Type 0 where
@@ -28,8 +32,3 @@ pub record IsSphere (sphere : Sphere) : Type 0 where
 pub record AreInRange (shapes : Shapes) : Type 0 where
   pub planes : All IsPlane shapes.planes.now
   pub spheres : All IsSphere shapes.spheres.now
-
--- the shapes are valid, as those of a world
-pub record AreValid (limit : ℤ) (shapes : Shapes) : Type 0 where
-  pub planes : IsTrue (are_valid_planes shapes.planes.now)
-  pub spheres : IsTrue (are_valid_spheres limit shapes.spheres.now)

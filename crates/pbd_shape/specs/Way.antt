@@ -4,10 +4,11 @@ use Rattle.pbd_num.specs.declared.Vec3.{Vec3}
 use Rattle.pbd_world.specs.Shapes.{Shape, Way, shapes_of, way_through}
 use Rattle.pbd_shape.specs.declared.shapes.Shapes.{Shapes}
 use Rattle.pbd_shape.specs.declared.way.Pushed.{Pushed}
+use Rattle.pbd_shape.specs.Valid.{lists_of}
 
--- the planes and then the spheres, as what they do with a place
+-- all shapes in order, as what they do with a place
 abbrev pub shapes_in : Shapes → List Shape
-shapes_in shapes = shapes_of shapes.planes.now shapes.spheres.now
+shapes_in shapes = shapes_of (lists_of shapes)
 
 abbrev pub way_of : Pushed → Way
 way_of w = record { at = w.at; touched = w.touched }

@@ -5,11 +5,10 @@ ghost use Rattle.pbd_world.specs.Ledger.{ledger_of, HaveRoom};
 ghost use Rattle.pbd_world.specs.declared.parts.Particle.{Particle};
 ghost use Rattle.pbd_world.specs.Particles.{particle_at};
 ghost use Rattle.pbd_lanes.specs.Lane.{is_set};
-ghost use Rattle.pbd_world.specs.Shapes.{way_through};
-ghost use Rattle.pbd_world.specs.Valid.{are_valid_planes, are_valid_spheres};
+ghost use Rattle.pbd_world.specs.Shapes.{are_valid_shapes, way_through};
 ghost use Rattle.pbd_store.specs.Blocks.{blocks_of, filled_lanes, place_of, Saved};
 ghost use Rattle.pbd_store.specs.Moving.{motion_of, fixed_parts, AreInside};
-ghost use Rattle.pbd_shape.specs.Valid.{IsLimit, AreInRange};
+ghost use Rattle.pbd_shape.specs.Valid.{lists_of, IsLimit, AreInRange};
 ghost use Rattle.pbd_shape.specs.Way.{way_of, shapes_in, starting};
 ghost use Rattle.pbd_shape.specs.Shaping.{CanPush, all_pushed, push_cost, pushed_from};
 
@@ -24,10 +23,9 @@ use pbd_world::{Left, Totals};
 use std::sync::ledger::Ledger;
 
 impl<'a> Shapes<'a> {
-    /// The shape part of a pass: each free particle in turn goes through the planes in order and then the spheres in
-    /// order. A plane pushes a place behind it out along its normal, and a sphere pushes a place in it out from its centre.
-    /// Each move is added to the total of shapes, and each particle that a shape touches is flagged, also where
-    /// the move is zero; flags that were set stay.
+    /// The shape part of a pass: each free particle in turn goes through the shapes in order, and a shape that touches the
+    /// place to which it has come gives it a new one. Each move is added to the total of shapes, and each particle that a
+    /// shape touches is flagged, also where the move is zero; flags that were set stay.
     ///
     /// `Left` has the number of the first particle whose way leaves the store's limit. The places, the totals and the
     /// flags are then any, and all else is as it was.
@@ -41,8 +39,7 @@ impl<'a> Shapes<'a> {
     ) -> Result<(), Left>
         requires lanes_low { 0 < L }
         requires lanes_high { L ≤ 16 }
-        requires planes { IsTrue (are_valid_planes self.planes.now) }
-        requires spheres { IsTrue (are_valid_spheres store.old.limit self.spheres.now) }
+        requires shapes { IsTrue (are_valid_shapes store.old.limit (lists_of self)) }
         requires inside { AreInside store.old.limit store.old.particles }
         requires flags { length touched.old ≡ length store.old.particles }
         requires room { HaveRoom (2 ^ 120) (ledger_of totals.old) }
@@ -62,8 +59,6 @@ impl<'a> Shapes<'a> {
             → HaveRoom (n + length store.old.particles * 2 ^ 31) (ledger_of totals.new)) }
         ensures cost { steps.new ≤ steps.old + push_cost (shapes_in self.entry) (blocks_of (length store.old.particles) L) }
     {
-        // By it the totals have room.
-        let _len = store.len();
         if self.is_empty() {
             return Ok(());
         }

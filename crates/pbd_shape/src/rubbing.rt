@@ -80,8 +80,6 @@ impl Touched {
             → HaveRoom (n + length store.old.particles * 2 ^ 31) (ledger_of totals.new) }
         ensures cost { steps.new ≤ steps.old + rub_cost friction self.now (blocks_of (length store.old.particles) L) }
     {
-        // By it the totals have room.
-        let _len = store.len();
         if !rubs_any(friction, self) {
             return;
         }

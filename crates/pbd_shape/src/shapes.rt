@@ -3,14 +3,14 @@ ghost use Rattle.std.specs.Prelude.{◌≡◌, ℕ, ℤ, ◌<◌, ◌≤◌, ◌
 ghost use Rattle.pbd_num.specs.Vectors.{Within};
 ghost use Rattle.pbd_world.specs.Shapes.{way_through};
 ghost use Rattle.pbd_store.specs.Blocks.{place_of};
-ghost use Rattle.pbd_shape.specs.Valid.{IsLimit, AreInRange};
+ghost use Rattle.pbd_shape.specs.Valid.{lists_of, IsLimit, AreInRange};
 ghost use Rattle.pbd_shape.specs.Way.{way_of, shapes_in, starting, IsStill};
 
 use crate::touch::any_touches;
 use crate::way::{Pushed, past_all};
 use pbd_num::Vec3;
 use pbd_store::Lanes3;
-use pbd_world::{Plane, Sphere};
+use pbd_world::{Plane, ShapeLists, Sphere};
 
 /// What pushes particles out: the planes in order, and then the spheres in order.
 #[derive(Clone, Copy)]
@@ -19,7 +19,25 @@ pub struct Shapes<'a> {
     pub spheres: &'a [Sphere],
 }
 
+impl Shapes<'static> {
+    /// No shapes: the others of a value that names those of one kind.
+    pub const NONE: Shapes<'static> = Shapes {
+        planes: &[],
+        spheres: &[],
+    };
+}
+
 impl<'a> Shapes<'a> {
+    /// The shapes of some lists, such as those of a world.
+    pub fn of(lists: &'a ShapeLists) -> Shapes<'a>
+        ensures { lists_of result ≡ lists.now }
+    {
+        Shapes {
+            planes: lists.planes.as_slice(),
+            spheres: lists.spheres.as_slice(),
+        }
+    }
+
     /// Whether there is no shape.
     pub(crate) fn is_empty(self) -> bool
         ensures { result ≡ (length (shapes_in self.entry) == 0) }

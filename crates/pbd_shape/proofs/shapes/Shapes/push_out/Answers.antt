@@ -1,10 +1,11 @@
 use Rattle.std.proofs.Common.{rules, ◌≡◌, refl, sym, ap, ◌∙◌, ℕ, ◌+◌, ◌-◌, ◌*◌, ◌^◌, min, ◌<◌, ◌≤◌, arith, subst, IsTrue, ℤ, length, Err}
 use Rattle.pbd_world.specs.Ledger.{ledger_of, HaveRoom}
 use Rattle.pbd_world.specs.Step.{Passing}
-use Rattle.pbd_world.specs.Valid.{are_valid_spheres}
+use Rattle.pbd_world.specs.Shapes.{are_valid_shapes}
 use Rattle.pbd_store.specs.Blocks.{blocks_of}
 use Rattle.pbd_store.specs.Moving.{motion_of, AreInside}
 use Rattle.pbd_store.proofs.Starts.{block_begins, all_held, next_start, room_more, room_whole}
+use Rattle.pbd_shape.specs.Valid.{lists_of}
 use Rattle.pbd_shape.specs.Way.{shapes_in}
 use Rattle.pbd_shape.specs.Shaping.{push_cost, pushed_from}
 use Rattle.pbd_shape.proofs.Continuing.{pushed_begins, pushed_all}
@@ -46,20 +47,17 @@ push_block-requires g c =
     let ps = c.loop-block.work.store.now.particles in
     let len : length ps ≡ length c.args.store.now.particles = same_length ps c.args.store.now.particles inv.fixed in
     let block : c.loop-block.block < blocks_of (length c.args.store.now.particles) g.row.L =
-    omega (arith, c.blocks-blocks.ensures, c.loop-block-test.true) in (
+    omega (arith, c.blocks-blocks.ensures.value, c.loop-block-test.true) in (
       omega arith,
       record {
         lanes_low = r.lanes_low;
         lanes_high = r.lanes_high;
         block = subst (λ (m : ℕ). c.loop-block.block < blocks_of m g.row.L) (sym len) block;
-        valid = record {
-          planes = r.planes;
-          spheres = subst (λ (l : ℤ). IsTrue (are_valid_spheres l c.args.self.spheres.now)) (sym inv.limit) r.spheres;
-        };
+        valid = subst (λ (l : ℤ). IsTrue (are_valid_shapes l (lists_of c.args.self))) (sym inv.limit) r.shapes;
         inside = subst (λ (l : ℤ). AreInside l ps) (sym inv.limit) inv.inside;
         flags = inv.flags ∙ r.flags ∙ sym len;
         room = room_at (2 ^ 125) (room_enough (c.loop-block.block * g.row.L) (length c.args.store.now.particles)
-            (omega (arith, c.len-len.ensures.value, c.len-len.ensures.size))) (inv.room (2 ^ 120) r.room);
+            c.blocks-blocks.ensures.few) (inv.room (2 ^ 120) r.room);
       },
     )
 
@@ -76,7 +74,7 @@ loop-block-preserved g c =
     same_length c.loop-block.work.store.now.particles c.args.store.now.particles inv.fixed in
     let begins : start < length c.args.store.now.particles =
     block_begins c.loop-block.block (length c.args.store.now.particles) g.row.L c.requires.lanes_low
-    (omega (arith, c.blocks-blocks.ensures, c.loop-block-test.true)) in
+    (omega (arith, c.blocks-blocks.ensures.value, c.loop-block-test.true)) in
     let did = subst (λ (l : ℤ). pushed_from l shapes (start + g.row.L) then ≡ pushed_from l shapes start now) inv.limit
     c.in_default.ensures.outcome in
     record {
@@ -130,7 +128,7 @@ returns-in-Err-clause-cost g c =
       arith,
       c.push_block.ensures.cost,
       c.loop-block.invariant.cost,
-      c.blocks-blocks.ensures,
+      c.blocks-blocks.ensures.value,
       c.loop-block-test.true,
     )) in
     search rules
@@ -147,7 +145,7 @@ returns-clause-outcome g c =
     let len : length ps ≡ length c.args.store.now.particles = same_length ps c.args.store.now.particles inv.fixed in
     let whole : length c.args.store.now.particles ≤ start =
     all_held c.loop-block.block (length c.args.store.now.particles) g.row.L c.requires.lanes_low
-    (omega (arith, c.blocks-blocks.ensures, c.loop-block-test.false)) in
+    (omega (arith, c.blocks-blocks.ensures.value, c.loop-block-test.false)) in
     let outcome = sym inv.rest ∙ pushed_all c.args.store.now.limit (shapes_in c.args.self) start now (omega (arith, len, whole))
     (omega (arith, inv.flags, c.requires.flags, whole)) in
     search rules
@@ -161,7 +159,7 @@ returns-clause-room g c =
     let start = c.loop-block.block * g.row.L in
     let whole : length c.args.store.now.particles ≤ start =
     all_held c.loop-block.block (length c.args.store.now.particles) g.row.L c.requires.lanes_low
-    (omega (arith, c.blocks-blocks.ensures, c.loop-block-test.false)) in
+    (omega (arith, c.blocks-blocks.ensures.value, c.loop-block-test.false)) in
     λ n h.
     let room : HaveRoom (n + length c.args.store.now.particles * 2 ^ 31) (ledger_of c.loop-block.work.totals.now) =
     room_at _ (room_whole n start (length c.args.store.now.particles)) (inv.room n h) in
@@ -172,5 +170,5 @@ returns-clause-cost g c =
     let most = push_cost (shapes_in c.args.self) (blocks_of (length c.args.store.now.particles) g.row.L) in
     let cost : c.loop-block.work.steps.now ≤ c.args.steps.now + most =
     unless_cost _ _ _ _ (sym c.is_empty.ensures ∙ c.if-is_empty.false)
-    (omega (arith, c.loop-block.invariant.cost, c.blocks-blocks.ensures, c.loop-block.auto.block-end)) in
+    (omega (arith, c.loop-block.invariant.cost, c.blocks-blocks.ensures.value, c.loop-block.auto.block-end)) in
     search rules

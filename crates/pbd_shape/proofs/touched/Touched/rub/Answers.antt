@@ -53,7 +53,7 @@ rub_block-requires g c =
     let ps = c.loop-block.work.store.now.particles in
     let len : length ps ≡ length c.args.store.now.particles = same_length_by settled ps c.args.store.now.particles inv.settled in
     let block : c.loop-block.block < blocks_of (length c.args.store.now.particles) g.row.L =
-    omega (arith, c.blocks-blocks.ensures, c.loop-block-test.true) in (
+    omega (arith, c.blocks-blocks.ensures.value, c.loop-block-test.true) in (
       omega arith,
       record {
         lanes_low = r.lanes_low;
@@ -63,7 +63,7 @@ rub_block-requires g c =
         flags = r.flags ∙ sym len;
         within = subst (λ (l : ℤ). AreWithin l ps) (sym inv.limit) inv.within;
         room = room_at (2 ^ 125) (room_enough (c.loop-block.block * g.row.L) (length c.args.store.now.particles)
-            (omega (arith, c.len-len.ensures.value, c.len-len.ensures.size))) (inv.room (2 ^ 120) r.room);
+            c.blocks-blocks.ensures.few) (inv.room (2 ^ 120) r.room);
       },
     )
 
@@ -78,7 +78,7 @@ loop-block-preserved g c =
     same_length_by settled c.loop-block.work.store.now.particles c.args.store.now.particles inv.settled in
     let begins : start < length c.args.store.now.particles =
     block_begins c.loop-block.block (length c.args.store.now.particles) g.row.L c.requires.lanes_low
-    (omega (arith, c.blocks-blocks.ensures, c.loop-block-test.true)) in
+    (omega (arith, c.blocks-blocks.ensures.value, c.loop-block-test.true)) in
     let outcome = simp to_z-of_z at e.outcome in
     let rest = simp to_z-of_z at inv.rest in
     record {
@@ -110,7 +110,7 @@ returns-clause-outcome g c =
     let len : length ps ≡ length c.args.store.now.particles = same_length_by settled ps c.args.store.now.particles inv.settled in
     let whole : length c.args.store.now.particles ≤ start =
     all_held c.loop-block.block (length c.args.store.now.particles) g.row.L c.requires.lanes_low
-    (omega (arith, c.blocks-blocks.ensures, c.loop-block-test.false)) in
+    (omega (arith, c.blocks-blocks.ensures.value, c.loop-block-test.false)) in
     let rest = simp to_z-of_z at inv.rest in
     let outcome = sym (rubbed_all c.args.friction start now (omega (arith, len, whole))) ∙ rest in
     search rules
@@ -121,7 +121,7 @@ returns-clause-room g c =
     let start = c.loop-block.block * g.row.L in
     let whole : length c.args.store.now.particles ≤ start =
     all_held c.loop-block.block (length c.args.store.now.particles) g.row.L c.requires.lanes_low
-    (omega (arith, c.blocks-blocks.ensures, c.loop-block-test.false)) in
+    (omega (arith, c.blocks-blocks.ensures.value, c.loop-block-test.false)) in
     λ n h.
     let room : HaveRoom (n + length c.args.store.now.particles * 2 ^ 31) (ledger_of c.loop-block.work.totals.now) =
     room_at _ (room_whole n start (length c.args.store.now.particles)) (inv.room n h) in
