@@ -9,6 +9,7 @@ use Rattle.pbd_world.specs.Meaning.{after, reply}
 use Rattle.pbd_world.specs.Session.{is_refused, refused_count}
 use Rattle.pbd_world.specs.World.{World}
 use Rattle.pbd_cloth.specs.Slots.{Slotted, last_played, played}
+use Rattle.pbd_world.proofs.WorkLemmas.{if_most_else}
 
 abbrev pub cuts_from : ℕ → List ℕ → List Command
 cuts_from i links = drop i (map {A = ℕ} {B = Command} Cut links)
@@ -36,10 +37,6 @@ refused_none w = refl
 pub cut_none : (links : List ℕ) (start : Slotted) → AreCut links 0 0 start start
 cut_none links start = record { led = refl; counted = omega arith; few = omega arith }
 
-if_most : (b : Bool) → (if b then 1 else 0) ≤ 1
-if_most true = omega arith
-if_most false = omega arith
-
 pub cut_next : (links : List ℕ) (i d l count n : ℕ) (start now new : Slotted) → i < length links → AreCut links i count start now
     → l ≡ get_or links i d → n ≡ (if is_refused (reply now.world (Cut l)) then 1 else 0) → new ≡ played now (Cut l)
     → AreCut links (i + 1) (count + n) start new
@@ -51,7 +48,7 @@ cut_next links i d l count n start now new lt so_far at is done =
     let here : AreCut links (i + 1) (count + n) start (played now c) = record {
       led = sym (ap (λ (cs : List Command). last_played now cs) next) ∙ so_far.led;
       counted = omega (arith, is, more, so_far.counted);
-      few = omega (arith, is, if_most (is_refused (reply now.world c)), so_far.few);
+      few = omega (arith, is, if_most_else (is_refused (reply now.world c)) 1, so_far.few);
     } in
     subst (λ (s : Slotted). AreCut links (i + 1) (count + n) start s) (sym done) here
 

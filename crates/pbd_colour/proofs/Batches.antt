@@ -13,6 +13,7 @@ use Rattle.pbd_colour.specs.Batch.{AreApart, AreLive}
 use Rattle.pbd_world.proofs.GreedyLemmas.{colour-is_greedy}
 use Rattle.pbd_colour.proofs.Gathering.{by_colour_more, order_is}
 use Rattle.pbd_colour.proofs.Holding.{rising_at}
+use Rattle.pbd_world.proofs.Ranges.{range_increases}
 
 -- what is kept passes, and has what all had
 filter_at : (p : ℕ → Bool) (n : ℕ) (xs : List ℕ) → ((k : ℕ) → k < length xs → get_or xs k 0 < n) → (k : ℕ) → k < length (filter p xs)
@@ -30,10 +31,6 @@ filter_at p n (x ∷ xs) h = go (p x) refl (filter_at p n xs (λ k l. h (suc k) 
 
 range_below : (n k : ℕ) → k < length (range_with_len 0 n) → get_or (range_with_len 0 n) k 0 < n
 range_below n k l = let s = length-range_with_len 0 n in omega (arith, l, s, get_or-range_with_len 0 n k 0 (omega (arith, l, s)))
-
-range_rises : (n : ℕ) → IsStrictlyIncreasing (range_with_len 0 n)
-range_rises n k l = let s = length-range_with_len 0 n in
-    omega (arith, get_or-range_with_len 0 n k 0 (omega (arith, l, s)), get_or-range_with_len 0 n (k + 1) 0 (omega (arith, l, s)))
 
 eqb_turn : (a b : ℕ) → eqb a b ≡ eqb b a
 eqb_turn a b = elim (cases_eq a b) [
@@ -64,7 +61,7 @@ module _ (pairs : List (ℕ × ℕ)) (live : List Bool) (c : ℕ) where
 
   rises : IsStrictlyIncreasing (batch_of pairs live c)
   rises = IsStrictlyIncreasing-filter (λ i. live_at live i && eqb (colour pairs live i) c) (range_with_len 0 (length pairs))
-      (range_rises (length pairs))
+      (range_increases (length pairs))
 
   before_apart : c < 63 → (j k : ℕ) → j < k → k < length (batch_of pairs live c)
       → share (pair_at pairs (get_or (batch_of pairs live c) j 0)) (pair_at pairs (get_or (batch_of pairs live c) k 0)) ≡ false

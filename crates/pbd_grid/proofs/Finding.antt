@@ -9,11 +9,7 @@ use Rattle.pbd_world.specs.Room.{Roomed}
 use Rattle.pbd_num.specs.declared.Vec3.{Vec3}
 use Rattle.pbd_world.specs.Contacts.{row}
 use Rattle.pbd_grid.specs.Near.{place_at, is_near, near_pairs}
-
-pub range_push : (a n : ℕ) → range_with_len a (suc n) ≡ range_with_len a n ++ (a + n) ∷ []
-range_push a zero = ap (λ (x : ℕ). x ∷ []) (omega arith)
-range_push a (suc n) = ap (λ (xs : List ℕ). a ∷ xs) (range_push (a + 1) n
-    ∙ ap (λ (x : ℕ). range_with_len (a + 1) n ++ x ∷ []) (omega arith))
+use Rattle.pbd_world.proofs.Ranges.{range_push}
 
 pub range_more : (a n j : ℕ) → j ≡ a + n → range_with_len a (n + 1) ≡ range_with_len a n ++ j ∷ []
 range_more a n j e = ap (range_with_len a) (add-one n) ∙ range_push a n ∙ ap (λ (x : ℕ). range_with_len a n ++ x ∷ []) (sym e)

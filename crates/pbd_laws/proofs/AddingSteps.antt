@@ -15,7 +15,7 @@ use Rattle.pbd_world.specs.Step.{step}
 use Rattle.pbd_world.specs.Meaning.{steps_of, run_steps, done_or_refused, meaning, after, reply}
 use Rattle.pbd_world.specs.Session.{last_world, is_refused, refused_count}
 use Rattle.pbd_world.proofs.KeepingOn.{bind-keeps}
-use Rattle.pbd_laws.proofs.StepsLead.{step-leads}
+use Rattle.pbd_world.proofs.StepsLead.{step-leads, step_counts}
 
 -- ---- steps, without commands
 
@@ -38,10 +38,6 @@ go-on m n w v h = steps-add m n w ∙ ap (λ (r : Result World Refusal). r >>= s
 
 pub stop-there : (m n : ℕ) (w : World) (refusal : Refusal) → steps_of m w ≡ Err refusal → steps_of (m + n) w ≡ Err refusal
 stop-there m n w refusal h = steps-add m n w ∙ ap (λ (r : Result World Refusal). r >>= steps_of n) h
-
--- each step counts once
-step_counts : (w : World) → IfOk (step w) (λ v. v.steps ≡ w.steps + 1)
-step_counts w = step-leads (λ v. v.steps ≡ w.steps + 1) w (λ pairs m. refl)
 
 steps_count : (n : ℕ) (w : World) → IfOk (steps_of n w) (λ v. v.steps ≡ w.steps + n)
 steps_count zero w = omega arith

@@ -15,7 +15,7 @@ use Rattle.pbd_world.specs.Meaning.{set_gravity, meaning, after}
 use Rattle.pbd_world.specs.Session.{last_world}
 use Rattle.pbd_world.proofs.KeepingOn.{bind-keeps, repeat-keeps}
 use Rattle.pbd_world.proofs.CommandBalance.{unless-keeps}
-use Rattle.pbd_laws.proofs.StepsLead.{step-leads, done-leads}
+use Rattle.pbd_world.proofs.StepsLead.{step-leads, done-leads}
 
 abbrev IsGone : ℕ → World → Type 0
 IsGone n w = (link_at w.links n).live ≡ false

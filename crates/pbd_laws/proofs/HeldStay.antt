@@ -33,7 +33,7 @@ use Rattle.pbd_world.proofs.KeptLemmas.{zip_at, held_first, held_second}
 use Rattle.pbd_world.proofs.CommandBalance.{unless-keeps}
 use Rattle.pbd_laws.specs.Targets.{Target, target}
 use Rattle.pbd_laws.specs.Targets.Target.{OneParticle, OneLink, TheGravity}
-use Rattle.pbd_laws.proofs.StepsLead.{step-keeps, done-leads}
+use Rattle.pbd_world.proofs.StepsLead.{step-keeps, done-leads}
 use Rattle.pbd_laws.proofs.Edits.{Edit, edited, edit_of, place_of, same_place, Verdict, verdict, either, after-is, Agree, edited-agrees}
 use Rattle.pbd_world.proofs.PredictGoes.{untracked}
 

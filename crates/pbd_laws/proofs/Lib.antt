@@ -1,4 +1,3 @@
-pub mod StepsLead
 pub mod AddingSteps
 pub mod Slots
 pub mod GoingBack

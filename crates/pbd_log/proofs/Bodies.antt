@@ -13,7 +13,7 @@ use Rattle.pbd_log.specs.Entries.{number_bytes, command_bytes, answer_bytes, opt
 use Rattle.pbd_log.specs.Logs.{end_bytes, BeginsNoEntry}
 use Rattle.pbd_log.specs.Reading.{byte_at, number_at, command_at, entry_at, then_more, entries_within, entries_of, after_end}
 use Rattle.pbd_log.proofs.Fields.{Takes, takes_then, step_takes, some_is, guard_some, number_field, byte_field}
-use Rattle.pbd_log.proofs.Entries.{entry_field, same_entry}
+use Rattle.pbd_log.proofs.Entries.{entry_field, same_entry, none_some}
 
 -- ---- the end
 
@@ -40,9 +40,6 @@ end_again count more lt = rw ((number_field 8).again count more lt, eqb_same cou
 pub no_entry_at_end : (count : ℕ) (more : List ℕ) → entry_at (end_bytes count ++ more) ≡ None
 unfolding entry_at command_at verb_coded row end_bytes
 no_entry_at_end count more = refl
-
-pub none_some : {A : Type 0} (x : A) → (let some : A → Option A = λ a. Some a in let none : Option A = None in none ≡ some x) → ⊥
-none_some x e = cc
 
 -- where no entry can be read none begins
 pub begins_none : (rest : List ℕ) → entry_at rest ≡ None → BeginsNoEntry rest

@@ -30,7 +30,7 @@ chosen : {A : Type 0} (b : Bool) (x y z : A) → cond b x y ≡ z → ((b ≡ tr
 chosen true x y z e = inl (refl, e)
 chosen false x y z e = inr (refl, e)
 
-none_some : {A : Type 0} (x : A) → (let some : A → Option A = λ a. Some a in let none : Option A = None in none ≡ some x) → ⊥
+pub none_some : {A : Type 0} (x : A) → (let some : A → Option A = λ a. Some a in let none : Option A = None in none ≡ some x) → ⊥
 none_some x e = cc
 
 -- ---- commands

@@ -11,9 +11,10 @@ use Rattle.pbd_log.specs.Entries.{number_bytes, entry_bytes, IsEntry}
 use Rattle.pbd_log.specs.Logs.{name, IsKnown, IsVersion, opening_bytes, header_bytes, end_bytes, Spells, SpellsNothing, BeginsNoEntry}
 use Rattle.pbd_log.specs.Logs.{FailsInName, FailsInLimit, FailsInScene, FailsToEnd, FailsBehind, IsFault}
 use Rattle.pbd_log.specs.Reading.{◌>>>◌, or_at, Head, head_at, version_at, limit_at, scene_at, length_offset}
-use Rattle.pbd_log.proofs.Heads.{IsHead, head_again, version_takes, opening_takes, named_again, limit_again, scene_again}
-use Rattle.pbd_log.proofs.Bodies.{none_some, same_entries}
-use Rattle.pbd_log.proofs.Logs.{body_of, spelled_is, ends_in_none, same_head}
+use Rattle.pbd_log.proofs.Heads.{IsHead, head_again, version_takes, opening_takes, named_again, limit_again, scene_again, ok_is}
+use Rattle.pbd_log.proofs.Bodies.{same_entries}
+use Rattle.pbd_log.proofs.Logs.{body_of, spelled_is, ends_in_none}
+use Rattle.pbd_log.proofs.Entries.{none_some}
 
 -- ---- two ways to begin
 
@@ -119,7 +120,7 @@ behind_is bytes offset f = ap head_at f.parts ∙ head_again f.version f.limit f
 
 same_behind : (bytes : List ℕ) (a b : ℕ) → FailsBehind bytes a → FailsBehind bytes b → a ≡ b
 same_behind bytes a b f g =
-    let h = same_head _ _ (sym (behind_is bytes a f) ∙ behind_is bytes b g) in
+    let h = ok_is _ _ (sym (behind_is bytes a f) ∙ behind_is bytes b g) in
     let body : flat_map entry_bytes f.entries ++ f.rest ≡ flat_map entry_bytes g.entries ++ g.rest = ap (λ (x : Head). x.body) h in
     let same = same_entries f.entries g.entries f.rest g.rest f.each g.each f.no_entry g.no_entry body in
     same_end (length bytes) (length f.entries) f.rest a b f.no_end (rw (same.0, same.1) g.no_end)
@@ -173,7 +174,7 @@ behind_not : (bytes : List ℕ) (offset version : ℕ) (limit : ℤ) (scene : Li
     → Spells bytes version limit scene entries → ⊥
 behind_not bytes offset version limit scene entries f s =
     let n = length entries in
-    let h = same_head _ _ (sym (behind_is bytes offset f) ∙ spelled_is bytes version limit scene entries s) in
+    let h = ok_is _ _ (sym (behind_is bytes offset f) ∙ spelled_is bytes version limit scene entries s) in
     let body : flat_map entry_bytes f.entries ++ f.rest ≡ body_of entries = ap (λ (x : Head). x.body) h in
     let same = same_entries f.entries entries f.rest (end_bytes n) f.each s.each f.no_entry (ends_in_none n) body in
     let fails : FailsToEnd (length bytes) n (end_bytes n) offset =

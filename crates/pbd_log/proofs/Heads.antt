@@ -155,7 +155,7 @@ bind_at : {A B : Type 0} (place : ℕ) (o : Option A) (f : A → Result B ℕ) (
 bind_at place (Some x) f y e = (x, refl, e)
 bind_at place None f y e = absurd cc
 
-ok_is : (x y : Head) → (let ok : Head → Result Head ℕ = λ h. Ok h in ok x ≡ ok y) → x ≡ y
+pub ok_is : (x y : Head) → (let ok : Head → Result Head ℕ = λ h. Ok h in ok x ≡ ok y) → x ≡ y
 ok_is x y e = cc
 
 pub head_takes : (bytes : List ℕ) (head : Head) → IsBytes bytes → head_at bytes ≡ Ok head → IsHead bytes head

@@ -11,8 +11,9 @@ use Rattle.pbd_log.specs.Entries.{entry_bytes, IsEntry}
 use Rattle.pbd_world.specs.Valid.{is_limit}
 use Rattle.pbd_log.specs.Logs.{IsVersion, header_bytes, end_bytes, Spells, BeginsNoEntry, FailsToEnd}
 use Rattle.pbd_log.specs.Reading.{entries_of, after_end, Head, head_at}
-use Rattle.pbd_log.proofs.Heads.{IsHead, head_again, limit_cases}
-use Rattle.pbd_log.proofs.Bodies.{end_takes, end_again, none_some, end_begins_none, same_entries, entries_are}
+use Rattle.pbd_log.proofs.Heads.{IsHead, head_again, limit_cases, ok_is}
+use Rattle.pbd_log.proofs.Bodies.{end_takes, end_again, end_begins_none, same_entries, entries_are}
+use Rattle.pbd_log.proofs.Entries.{none_some}
 
 abbrev pub body_of : List Entry → List ℕ
 body_of entries = flat_map entry_bytes entries ++ end_bytes (length entries)
@@ -32,15 +33,12 @@ spelled_is bytes version limit scene entries s =
 pub ends_in_none : (count : ℕ) → BeginsNoEntry (end_bytes count)
 ends_in_none count = subst BeginsNoEntry (append-nil (end_bytes count)) (end_begins_none count [])
 
-pub same_head : (x y : Head) → (let ok : Head → Result Head ℕ = λ h. Ok h in ok x ≡ ok y) → x ≡ y
-same_head x y e = cc
-
 pub one_reading_lem : (bytes : List ℕ) (version version' : ℕ) (limit limit' : ℤ) (scene scene' : List ℕ) (entries entries' : List Entry) →
     Spells bytes version limit scene entries → Spells bytes version' limit' scene' entries'
     → SameLog version version' limit limit' scene scene' entries entries'
 one_reading_lem bytes version version' limit limit' scene scene' entries entries' s s' =
     let h : spelled_head version limit scene entries ≡ spelled_head version' limit' scene' entries' =
-    same_head _ _ (sym (spelled_is bytes version limit scene entries s) ∙ spelled_is bytes version' limit' scene' entries' s') in
+    ok_is _ _ (sym (spelled_is bytes version limit scene entries s) ∙ spelled_is bytes version' limit' scene' entries' s') in
     let b : body_of entries ≡ body_of entries' = ap (λ (x : Head). x.body) h in
     record {
       same_version = ap (λ (x : Head). x.version) h;

@@ -10,9 +10,7 @@ use Rattle.pbd_num.specs.Rows.{no_row}
 use Rattle.pbd_near.specs.declared.shares.Taken.{Taken}
 use Rattle.pbd_near.specs.declared.ways.Ways.{Ways}
 use Rattle.pbd_near.specs.Columns.{IsTaken, IsFound, taken_at}
-
-split_below : (k j : ℕ) → k < j + 1 → (k < j) ⊎ (k ≡ j)
-split_below k j q = elim (cases_lt k j) [ inl p ↦ inl p | inr p ↦ inr (omega arith) ]
+use Rattle.pbd_num.proofs.Below.{split_below}
 
 -- what holds of the first j rows, and of the next
 rows_more : (P : ℕ → Row → Type 0) (rows : List Row) (j : ℕ) (row : Row) → j < length rows → P j row

@@ -27,17 +27,9 @@ use Rattle.pbd_log.specs.declared.entry.Entry.{Entry}
 use Rattle.pbd_log.specs.Entries.{AreAxes, CommandFits, HasWidths, IsEntry, SumsFit, answer_of, entry_of, refusal_answer}
 use Rattle.pbd_log.proofs.Kept.{kept_is, steps_or_not}
 use Rattle.pbd_outcome.proofs.RefusalFits.{RefusalFits, ReplyFits, reply_fits, small}
+use Rattle.pbd_world.proofs.WorkLemmas.{live_few}
 
 -- ---- sums
-
-kept_few : (keep : Bool) (x : Link) (some all : List Link) → length some ≤ length all
-    → length (cond keep (x ∷ some) some) ≤ length (x ∷ all)
-kept_few true x some all le = omega (arith, le)
-kept_few false x some all le = omega (arith, le)
-
-live_few : (links : List Link) → live_count links ≤ length links
-live_few [] = omega arith
-live_few (l ∷ links) = kept_few l.live l (filter {X = Link} (λ l. l.live) links) links (live_few links)
 
 sum_size : (f : Particle → Vec3) (ps : List Particle) (b : ℕ) (v : Vec3) → Within b v
     → AllByRecursion {X = Particle} (λ p. Within (2 ^ 29) (f p)) ps → Within (b + length ps * 2 ^ 29) (fold plus v (map f ps))

@@ -32,6 +32,7 @@ use Rattle.pbd_world.proofs.CountingOn.{ok_weaker}
 use Rattle.pbd_world.proofs.CommandBalance.{unless-keeps}
 use Rattle.pbd_session.specs.Recording.{entries_of, log_bytes}
 use Rattle.pbd_outcome.proofs.ShortLines.{bytes_with, most_bytes, all_bytes}
+use Rattle.pbd_world.proofs.StepsLead.{step_counts}
 
 -- ---- the fields of an entry
 
@@ -134,32 +135,10 @@ bad_answer = refl
 
 -- ---- the steps of a world rise by those that were done
 
-any : {A E : Type 0} (r : Result A E) → IfOk r (λ x. Unit {0})
-any (Ok x) = tt
-any (Err e) = tt
-
-few_rise : (many : Bool) (w : World) (pairs : List (ℕ × ℕ)) (m : Motion)
-    → IfOk (cond many (Err (TooManyContacts (w.steps + 1)))
-    (repeated w.passes (pass w pairs) (untouched m) >>= λ s. Ok (settled w pairs (rub w.friction s)))) (λ v. v.steps ≡ w.steps + 1)
-few_rise true w pairs m = tt
-few_rise false w pairs m =
-    bind-keeps (λ s. Unit {0}) (λ v. v.steps ≡ w.steps + 1) (repeated w.passes (pass w pairs) (untouched m))
-    (λ s. Ok (settled w pairs (rub w.friction s)))
-    (any (repeated w.passes (pass w pairs) (untouched m))) (λ s h. refl)
-
-step_rises : (w : World) → IfOk (step w) (λ v. v.steps ≡ w.steps + 1)
-unfolding step
-step_rises w =
-    bind-keeps (λ m. Unit {0}) (λ v. v.steps ≡ w.steps + 1) (with_fault (leaves w phases.Predict) (predict w))
-    (λ m. after_contacts w m (contacts_of w.thickness w.links m.particles))
-    (any (with_fault (leaves w phases.Predict) (predict w)))
-    (λ m h. few_rise (nat_lt 262144 (length (contacts_of w.thickness w.links m.particles))) w
-    (contacts_of w.thickness w.links m.particles) m)
-
 steps_rise : (n : ℕ) (w : World) → IfOk (repeated n step w) (λ v. v.steps ≡ w.steps + n)
 steps_rise zero w = omega arith
 steps_rise (suc n) w =
-    bind-keeps (λ v. v.steps ≡ w.steps + 1) (λ v. v.steps ≡ w.steps + suc n) (step w) (repeated n step) (step_rises w)
+    bind-keeps (λ v. v.steps ≡ w.steps + 1) (λ v. v.steps ≡ w.steps + suc n) (step w) (repeated n step) (step_counts w)
     (λ u one. ok_weaker (λ v. v.steps ≡ u.steps + n) (λ v. v.steps ≡ w.steps + suc n) (repeated n step u)
     (λ v rest. omega (arith, one, rest)) (steps_rise n u))
 

@@ -19,14 +19,9 @@ use Rattle.pbd_world.specs.Bonds.{entries_of}
 use Rattle.pbd_pair.specs.Moves.{moves_by, settled, moved_below}
 use Rattle.pbd_pair.proofs.ByWay.{added_nothing}
 use Rattle.pbd_pair.proofs.Pinning.{both_added, first_alone, second_alone, both_none}
+use Rattle.pbd_world.proofs.MovedLemmas.{sum_in_turn}
 
 -- ---- a move of one class, and one of pins
-
-in_turn : (s v w : ℤ) → (s +ℤ v) +ℤ w ≡ (s +ℤ w) +ℤ v
-in_turn s v w = omega (arith, ints)
-
-sum_in_turn : (s : Sum) (v w : Vec3) → sum_plus (sum_plus s v) w ≡ sum_plus (sum_plus s w) v
-sum_in_turn s v w = λ i. record { x = in_turn s.x v.x w.x i; y = in_turn s.y v.y w.y i; z = in_turn s.z v.z w.z i }
 
 pins_first : (t : Ledger) (class : Class) (v w : Vec3) → added (added t class v) classes.Pin w ≡ added (added t classes.Pin w) class v
 pins_first t classes.Gravity v w = refl

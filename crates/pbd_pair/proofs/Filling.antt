@@ -1,7 +1,7 @@
 -- Columns that are filled from the front.
 use Rattle.std.proofs.Common.{◌≡◌, ℕ, ◌+◌, ◌<◌, List, length, get_or, slice_set, sym, ◌∙◌, arith, inl, inr, subst}
 use Rattle.std.proofs.lemmas.List.{length-set, get_or-set_same, get_or-set_other}
-use Rattle.pbd_store.proofs.Scattering.{split_below}
+use Rattle.pbd_num.proofs.Below.{split_below}
 
 -- a column of 128, of which the first j are what P says
 pub record Filled {A : Type 0} (d : A) (P : ℕ → A → Type 0) (j : ℕ) (xs : List A) : Type 0 where

@@ -13,7 +13,6 @@ use Rattle.pbd_world.specs.Particles.{Motion, particle_at, no_particle}
 use Rattle.pbd_world.specs.Bonds.{projected, correction_at, end_of}
 use Rattle.pbd_store.specs.Gathering.{index_at}
 use Rattle.pbd_store.specs.Moving.{fixed_parts, AreInside}
-use Rattle.pbd_store.proofs.Scattering.{split_below}
 use Rattle.pbd_store.specs.Pairs.{Parted}
 use Rattle.pbd_pair.specs.Bonds.{IsBond}
 use Rattle.pbd_pair.specs.Projecting.{ShareNone}
@@ -21,6 +20,7 @@ use Rattle.pbd_pair.specs.Moves.{moves_at, stay_at, entries_at, settled}
 use Rattle.pbd_pair.proofs.Correcting.{leaves_by}
 use Rattle.pbd_pair.proofs.ByWay.{leaves_moving, first_moving, second_moving, books_moving}
 use Rattle.pbd_pair.proofs.Reaching.{nth, books, reached, reached_leaves, reached_all}
+use Rattle.pbd_num.proofs.Below.{split_below}
 
 -- all bonds of a chunk are done
 pub record AreDone (limit : ℤ) (bond : ℕ → Bond) (block : List ℕ) (m : Motion) (ps : List Particle) (t : Ledger) : Type 0 where

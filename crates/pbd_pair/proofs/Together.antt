@@ -7,10 +7,11 @@ use Rattle.pbd_world.specs.declared.bond.Correction.TheVariants.{Slack, Leaves, 
 use Rattle.pbd_world.specs.Ledger.{Ledger}
 use Rattle.pbd_world.specs.Particles.{particle_at, placed}
 use Rattle.pbd_world.specs.Bonds.{end_of, correction_of, correction_at}
-use Rattle.pbd_store.proofs.Scattering.{placed_same, placed_other, length-placed, split_below}
+use Rattle.pbd_store.proofs.Scattering.{placed_same, placed_other, length-placed}
 use Rattle.pbd_pair.specs.Bonds.{IsBond}
 use Rattle.pbd_pair.specs.Projecting.{ShareNone}
 use Rattle.pbd_pair.proofs.Correcting.{placed_by, booked_by}
+use Rattle.pbd_num.proofs.Below.{split_below}
 
 -- what a correction makes of its two particles
 abbrev pub first_by : Correction → Particle → Particle

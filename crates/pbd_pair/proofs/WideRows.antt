@@ -16,7 +16,6 @@ use Rattle.pbd_num.proofs.VectorSizes.{opposite_within}
 use Rattle.pbd_world.specs.declared.bond.Bond.{Bond}
 use Rattle.pbd_store.specs.declared.pairs.EndMoves.{EndMoves}
 use Rattle.pbd_store.specs.Pairs.{row_in}
-use Rattle.pbd_store.proofs.Scattering.{split_below}
 use Rattle.pbd_pair.specs.Moves.{moves_by}
 use Rattle.pbd_pair.specs.declared.chunk.Found.{Found}
 use Rattle.pbd_pair.specs.Bonds.{bond_of}
@@ -29,6 +28,7 @@ use Rattle.pbd_pair.proofs.Filling.{Filled}
 use Rattle.pbd_pair.proofs.Laying.{rest_fits_short}
 use Rattle.pbd_pair.proofs.NearBonds.{kept_none, kept_some, weightless}
 use Rattle.pbd_pair.proofs.Settled.{kept_size_by}
+use Rattle.pbd_num.proofs.Below.{split_below}
 
 -- what a firm bond draws its ends to
 pub is_draw : {b : Bond} {d : Draw} → d ≡ draw_by b → IsFirm b → IsDraw b d

@@ -31,6 +31,7 @@ use Rattle.pbd_outcome.proofs.HostLaws.{as_many, hosted_halves, hosted_on, hoste
 use Rattle.pbd_run.specs.Calls.{AddsScene, Does, IsHostable, StopsAtScenes, StopsInScene}
 use Rattle.pbd_run.specs.Forms.{host_on}
 use Rattle.pbd_run.proofs.SplitLaws.{inspect}
+use Rattle.pbd_world.proofs.WorkLemmas.{if_most_else}
 
 -- ---- the end of a line
 
@@ -197,10 +198,6 @@ pub record Serves (start : List World) (all : List (List ℕ)) (ws : List World)
 pub serves_begin : (ws : List World) (all : List (List ℕ)) (old : Option (List ℕ)) → Serves ws all ws all old old 0
 serves_begin ws all old = record { done = []; bytes = appends_nothing old; text = refl; count = zero-add _; few = omega arith; many = refl }
 
-one_at_most : (b : Bool) → cond b 1 0 ≤ 1
-one_at_most true = omega arith
-one_at_most false = omega arith
-
 pub serves_next : {start ws vs : List World} {all ls : List (List ℕ)} {line : List ℕ} {left : List (List ℕ)} {a b c : Option (List ℕ)}
     {refused more : ℕ} {it : Served} → ls ≡ line ∷ left → Serves start all ws ls a b refused
     → vs ≡ worlds_after ws (request_of (length ws) line) → Appends b c (request_text ws (request_of (length ws) line))
@@ -220,7 +217,7 @@ serves_next {start} {ws} {vs} {all} {line} {left} {a} {b} {c} {refused} {more} h
       bytes = appends_then a b c _ _ has.bytes text;
       text = append_assoc has.done (request_text ws r) (hosted_text (worlds_after ws r) rest) ∙ has.text;
       count = omega (arith, has.count, one);
-      few = omega (arith, has.few, one, one_at_most (is_refusal (served ws r)));
+      few = omega (arith, has.few, one, if_most_else (is_refusal (served ws r)) 1);
       many = length-after ws r ∙ has.many;
     })
 
@@ -300,4 +297,4 @@ pub counts_fit : {start ws : List World} (bytes : List ℕ) {ls : List (List ℕ
     {a b : Option (List ℕ)} {refused more : ℕ} (it : Served) → length bytes ≤ 2 ^ 31 → ls ≡ line ∷ left
     → Serves start (pieces bytes) ws ls a b refused → more ≡ cond (is_refusal it) 1 0 → refused + more < 2 ^ 64
 counts_fit bytes it short here has counts =
-    omega (arith, has.few, counts, one_at_most (is_refusal it), ap length here, pieces_few bytes, short)
+    omega (arith, has.few, counts, if_most_else (is_refusal it) 1, ap length here, pieces_few bytes, short)

@@ -12,9 +12,6 @@ use Rattle.pbd_run.specs.Forms.{large_on}
 
 -- ---- one piece after another
 
-pub prefix_of_two : (a b : Option (List ℕ)) (x y : List ℕ) → AppendsPrefix a b x → AppendsPrefix a b (x ++ y)
-prefix_of_two a b x y front = prefix_longer a b x y front
-
 pub cause_then : {T E : Type 0} (a b c : ℕ) (r : Result T E) → a ≤ b → HasCause b c r → HasCause a c r
 cause_then a b c (Ok t) le cause = record { later = omega (arith, le, cause.later); failed = cause.failed }
 cause_then a b c (Err e) le cause = record { later = omega (arith, le, cause.later); failed = rose_later a b c le cause.failed }

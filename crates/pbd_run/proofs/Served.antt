@@ -6,6 +6,7 @@ use Rattle.std.specs.Io.KnownBytes.{Appends}
 use Rattle.pbd_io.specs.Pieces.{AppendsPrefix}
 use Rattle.pbd_io.specs.Appending.{appends_nothing, appends_then, prefix_longer, prefix_then}
 use Rattle.pbd_run.specs.Serving.{served_refusals, served_text}
+use Rattle.pbd_world.proofs.WorkLemmas.{if_most_else}
 
 -- From the state and the commands at the start, it has come to this state and these commands, having appended the
 -- texts of the answers.
@@ -16,10 +17,6 @@ pub record Served {S C : Type 0} (after : S → C → S) (answer : S → C → L
   pub text : done ++ served_text after answer s left ≡ served_text after answer start all
   pub count : refused + served_refusals after refuses s left ≡ served_refusals after refuses start all
   pub few : refused + length left ≤ length all
-
-one_at_most : (b : Bool) → (if b then 1 else 0) ≤ 1
-one_at_most true = omega arith
-one_at_most false = omega arith
 
 module _ {S C : Type 0} {after : S → C → S} {answer : S → C → List ℕ} {refuses : S → C → Bool} where
   pub served_at_first : (s : S) (all : List C) (old : Option (List ℕ)) → Served after answer refuses s all s all old old 0
@@ -42,7 +39,7 @@ module _ {S C : Type 0} {after : S → C → S} {answer : S → C → List ℕ} 
         bytes = appends_then _ _ _ _ _ here.bytes wrote;
         text = append_assoc here.done (answer s c) (served_text after answer (after s c) cs) ∙ here.text;
         count = omega (arith, here.count);
-        few = omega (arith, here.few, one_at_most (refuses s c));
+        few = omega (arith, here.few, if_most_else (refuses s c) 1);
       })
 
   pub served_in_part : {start s : S} {all left cs : List C} {c : C} {old mid : Option (List ℕ)} {refused : ℕ} (new : Option (List ℕ))
@@ -67,4 +64,4 @@ module _ {S C : Type 0} {after : S → C → S} {answer : S → C → List ℕ} 
       → Served after answer refuses start all s left old new refused → length all ≤ bytes + 1 → bytes ≤ 2 ^ 31
       → more ≡ (if refuses s c then 1 else 0) → refused + more < 2 ^ 64
   served_refusals_fit {s = s} c bytes so_far many short is =
-      omega (arith, so_far.few, many, short, is, one_at_most (refuses s c))
+      omega (arith, so_far.few, many, short, is, if_most_else (refuses s c) 1)

@@ -10,20 +10,15 @@ use Rattle.pbd_world.specs.declared.bond.Correction.TheVariants.{Slack, Leaves, 
 use Rattle.pbd_world.specs.Ledger.{Sum, Ledger, Entry, sum_plus, added, booked}
 use Rattle.pbd_world.specs.Bonds.{entries_of, class_of}
 use Rattle.pbd_pair.proofs.Correcting.{booked_by}
-
-axis_swap : (a b c : ℤ) → (a +ℤ b) +ℤ c ≡ (a +ℤ c) +ℤ b
-axis_swap a b c = omega (arith, ints)
-
-sum_swap : (s : Sum) (v w : Vec3) → sum_plus (sum_plus s v) w ≡ sum_plus (sum_plus s w) v
-sum_swap s v w = λ i. record { x = axis_swap s.x v.x w.x i; y = axis_swap s.y v.y w.y i; z = axis_swap s.z v.z w.z i }
+use Rattle.pbd_world.proofs.MovedLemmas.{sum_in_turn}
 
 added_swap : (t : Ledger) (c d : Class) (v w : Vec3) → added (added t c v) d w ≡ added (added t d w) c v
-added_swap t classes.Gravity classes.Gravity v w = ap (λ (s : Sum). record t { gravity = s }) (sum_swap t.gravity v w)
-added_swap t classes.Damping classes.Damping v w = ap (λ (s : Sum). record t { damping = s }) (sum_swap t.damping v w)
-added_swap t classes.Link classes.Link v w = ap (λ (s : Sum). record t { link = s }) (sum_swap t.link v w)
-added_swap t classes.Contact classes.Contact v w = ap (λ (s : Sum). record t { contact = s }) (sum_swap t.contact v w)
-added_swap t classes.Pin classes.Pin v w = ap (λ (s : Sum). record t { pin = s }) (sum_swap t.pin v w)
-added_swap t classes.Shape classes.Shape v w = ap (λ (s : Sum). record t { shape = s }) (sum_swap t.shape v w)
+added_swap t classes.Gravity classes.Gravity v w = ap (λ (s : Sum). record t { gravity = s }) (sum_in_turn t.gravity v w)
+added_swap t classes.Damping classes.Damping v w = ap (λ (s : Sum). record t { damping = s }) (sum_in_turn t.damping v w)
+added_swap t classes.Link classes.Link v w = ap (λ (s : Sum). record t { link = s }) (sum_in_turn t.link v w)
+added_swap t classes.Contact classes.Contact v w = ap (λ (s : Sum). record t { contact = s }) (sum_in_turn t.contact v w)
+added_swap t classes.Pin classes.Pin v w = ap (λ (s : Sum). record t { pin = s }) (sum_in_turn t.pin v w)
+added_swap t classes.Shape classes.Shape v w = ap (λ (s : Sum). record t { shape = s }) (sum_in_turn t.shape v w)
 added_swap t c d v w = refl
 
 booked_added : (es : List Entry) (t : Ledger) (c : Class) (v : Vec3) → booked (added t c v) es ≡ added (booked t es) c v

@@ -25,6 +25,7 @@ use Rattle.pbd_grid.specs.Near.{AllInside, place_at, is_near, near_pairs}
 use Rattle.pbd_self.specs.Apart.{held_at, may_touch}
 use Rattle.pbd_grid.specs.Looks.{looks_for}
 use Rattle.pbd_self.specs.Touching.{Found, touches, touching, looks_at, AreOrdered}
+use Rattle.pbd_world.proofs.ContactLemmas.{row_pairs}
 
 -- ---- what the grid finds
 
@@ -137,10 +138,6 @@ none_touch thickness links ps e = ap (λ (t : ℤ). touching t links ps) e ∙ n
 
 abbrev IsPair : ℕ → ℕ × ℕ → Type 0
 IsPair n p = (p.0 < p.1) × (p.1 < n)
-
-row_pairs : (n i : ℕ) → AllByRecursion (IsPair n) (row n i)
-row_pairs n i = all-map (IsPair n) (λ j. (i, j)) (range_with_len (i + 1) (n - (i + 1)))
-    (all-range (λ j. IsPair n (i, j)) (i + 1) (n - (i + 1)) (λ j l u. (omega (arith, l), omega (arith, l, u))))
 
 pub touching_ordered : (thickness : ℤ) (links : Coloured) (ps : List Particle) → AreOrdered (length ps) (touching thickness links ps)
 unfolding touching

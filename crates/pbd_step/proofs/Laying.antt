@@ -15,12 +15,13 @@ use Rattle.pbd_world.specs.World.{live_count}
 use Rattle.pbd_world.proofs.KeepingOn.{length-mapped}
 use Rattle.pbd_world.proofs.OrderCounts.{links_count}
 use Rattle.pbd_world.proofs.StepBalance.{all-order}
-use Rattle.pbd_store.proofs.Limits.{limit_size}
 use Rattle.pbd_pair.specs.declared.bonds.Bonds.{Bonds}
 use Rattle.pbd_pair.specs.Bonds.{bond_of, IsBound}
 use Rattle.pbd_pair.specs.Laid.{AreLayable}
 use Rattle.pbd_pair.proofs.Ranges.{rest_fits}
 use Rattle.pbd_step.specs.Projecting.{AreBondsOf}
+use Rattle.pbd_world.proofs.WholeLemmas.{limit_low, limit_high}
+use Rattle.pbd_world.proofs.WorkLemmas.{live_few}
 
 each_of : (Q : ℕ → Type 0) (xs : List ℕ) → AllByRecursion Q xs → (k : ℕ) → k < length xs → Q (get_or xs k 0)
 each_of Q [] h k l = absurd (omega (arith, l))
@@ -33,7 +34,7 @@ pub order_within : (pairs : List (ℕ × ℕ)) (live : List Bool) (k : ℕ) → 
 order_within pairs live = each_of (λ n. n < length pairs) (order pairs live) (all-order (λ n. n < length pairs) pairs live (λ k h. h))
 
 limit_bound : (limit : ℤ) → IsTrue (is_limit limit) → IsBound limit
-limit_bound limit h = record { low = (limit_size limit h).0; high = grind (arith, ints, nat_tests); size = (limit_size limit h).1 }
+limit_bound limit h = record { low = (limit_low limit h); high = grind (arith, ints, nat_tests); size = (limit_high limit h) }
 
 -- the bonds of an order of pairs can be laid, by a weight for each particle
 pub layable : {limit : ℤ} {n : ℕ} {bonds : Bonds} {pairs : List (ℕ × ℕ)} (live : List Bool) {numbers weights : List ℕ}
@@ -54,15 +55,6 @@ layable {limit} {n} {bonds} {pairs} live {numbers} {weights} l fit is many =
       first = λ j p. omega (arith, (fit.bond (get_or (order pairs live) j 0) (order_within pairs live j p)).first, many);
       second = λ j p. omega (arith, (fit.bond (get_or (order pairs live) j 0) (order_within pairs live j p)).second, many);
     })
-
-live_few : (links : List Link) → live_count links ≤ length links
-live_few [] = omega arith
-live_few (l ∷ links) = by l.live (live_few links)
-  where
-    by : (b : Bool) → live_count links ≤ length links
-        → length (cond b (l ∷ filter {X = Link} (λ k. k.live) links) (filter {X = Link} (λ k. k.live) links)) ≤ suc (length links)
-    by true h = omega (arith, h)
-    by false h = omega (arith, h)
 
 -- no more links are laid than there are
 pub order_few : (links : List Link) → length (link_order links) ≤ length links

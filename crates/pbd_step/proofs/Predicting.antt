@@ -23,6 +23,7 @@ use Rattle.pbd_store.specs.declared.flight.Flown.{Flown}
 use Rattle.pbd_store.specs.Flying.{losses_at, places_at, pull_at, after_flight, lost_by, stays_in, one_if, sum_below, AllStay, LeavesFirst, IsSmall}
 use Rattle.pbd_step.specs.Predicting.{unled, times}
 use Rattle.pbd_step.proofs.Mild.{sound_mild}
+use Rattle.std.proofs.Math.IntN.{+ℤ_assoc}
 
 abbrev pub particles_of : List Moved → List Particle
 particles_of ms = map {A = Moved} {B = Particle} (λ m. m.particle) ms
@@ -112,9 +113,6 @@ lost_in w ps = record { x = loss_in w ps (λ v. v.x); y = loss_in w ps (λ v. v.
 abbrev pub with_both : Ledger → Vec3 → Vec3 → Ledger
 with_both t pulled lost = added (added t classes.Gravity pulled) classes.Damping (opposite lost)
 
-joined : (a b c : ℤ) → (a +ℤ b) +ℤ c ≡ a +ℤ (b +ℤ c)
-joined a b c = omega (arith, ints)
-
 once_more : (g n : ℤ) → g +ℤ g *ℤ n ≡ g *ℤ (pos 1 +ℤ n)
 once_more (pos a) (pos b) = omega (arith, ints)
 once_more (negsuc a) (pos b) = omega (arith, ints)
@@ -143,9 +141,9 @@ one_booked : (w : World) (t : Ledger) (pulled lost loss : Vec3) (free : Bool) �
     (plus lost loss)
 one_booked w t pulled lost loss true none = (λ i. record t {
   gravity = record {
-    x = joined t.gravity.x pulled.x w.gravity.x i;
-    y = joined t.gravity.y pulled.y w.gravity.y i;
-    z = joined t.gravity.z pulled.z w.gravity.z i;
+    x = +ℤ_assoc t.gravity.x pulled.x w.gravity.x i;
+    y = +ℤ_assoc t.gravity.y pulled.y w.gravity.y i;
+    z = +ℤ_assoc t.gravity.z pulled.z w.gravity.z i;
   };
   damping = record { x = taken t.damping.x lost.x loss.x i; y = taken t.damping.y lost.y loss.y i; z = taken t.damping.z lost.z loss.z i };
 })
@@ -167,7 +165,7 @@ pulled_first : (w : World) (p : Particle) (ps : List Particle) (a : Vec3)
 pulled_first w p ps a = λ i. record { x = axis a.x w.gravity.x i; y = axis a.y w.gravity.y i; z = axis a.z w.gravity.z i }
   where
     axis : (b g : ℤ) → (b +ℤ pull_at g (is_free p)) +ℤ g *ℤ free_in ps ≡ b +ℤ g *ℤ free_in (p ∷ ps)
-    axis b g = joined b (pull_at g (is_free p)) (g *ℤ free_in ps) ∙ ap (λ (z : ℤ). b +ℤ z) (pulled_more g (free_in ps) (is_free p)
+    axis b g = +ℤ_assoc b (pull_at g (is_free p)) (g *ℤ free_in ps) ∙ ap (λ (z : ℤ). b +ℤ z) (pulled_more g (free_in ps) (is_free p)
         ∙ ap (λ (n : ℤ). g *ℤ n) (sym (sum_first (λ i. one_if (is_free (particle_at (p ∷ ps) i))) (length ps))))
 
 lost_first : (w : World) (p : Particle) (ps : List Particle) (a : Vec3)
@@ -175,7 +173,7 @@ lost_first : (w : World) (p : Particle) (ps : List Particle) (a : Vec3)
 lost_first w p ps a = λ i. record { x = axis a.x (λ v. v.x) i; y = axis a.y (λ v. v.y) i; z = axis a.z (λ v. v.z) i }
   where
     axis : (b : ℤ) (f : Vec3 → ℤ) → (b +ℤ f (lost_by (air_of w) p)) +ℤ loss_in w ps f ≡ b +ℤ loss_in w (p ∷ ps) f
-    axis b f = joined b (f (lost_by (air_of w) p)) (loss_in w ps f) ∙ ap (λ (z : ℤ). b +ℤ z)
+    axis b f = +ℤ_assoc b (f (lost_by (air_of w) p)) (loss_in w ps f) ∙ ap (λ (z : ℤ). b +ℤ z)
         (sym (sum_first (λ i. f (lost_by (air_of w) (particle_at (p ∷ ps) i))) (length ps)))
 
 no_loss : (w : World) (p : Particle) (free : Bool) → free ≡ false → losses_at w.damping free p.at p.before ≡ zero_vector

@@ -22,7 +22,7 @@ use Rattle.pbd_world.specs.Valid.{is_limit, is_between, is_valid_particle, is_va
 use Rattle.pbd_world.specs.World.{World, parts_of}
 use Rattle.pbd_world.proofs.WorldParts.{Formed, formed, from_formed, numbers_of, IsFit, all_fit, are_fit}
 use Rattle.pbd_store.specs.Moving.{fixed_parts, AreInside}
-use Rattle.pbd_store.proofs.Limits.{limit_size, valid_inside}
+use Rattle.pbd_store.proofs.Limits.{valid_inside}
 use Rattle.pbd_colour.specs.Pairs.{InRange}
 use Rattle.pbd_pair.specs.declared.bonds.Bonds.{Bonds}
 use Rattle.pbd_pair.specs.Bonds.{bond_of, bond_count, IsBond}
@@ -33,6 +33,7 @@ use Rattle.pbd_step.specs.declared.state.Setting.{Setting}
 use Rattle.pbd_step.specs.declared.state.State.{State}
 use Rattle.pbd_step.specs.Projecting.{AreBondsOf, AreMovable}
 use Rattle.pbd_step.specs.States.{world_of, IsUnderWay}
+use Rattle.pbd_world.proofs.WholeLemmas.{limit_low}
 
 -- ---- links and contacts as bonds
 
@@ -158,7 +159,7 @@ moved_under_way n bound w ps t u e inside room =
     let fits = and_parts (nat_le (length w.particles) 65536) (list_all (is_valid_particle w.limit) w.particles) f.particles in
     let whole : length w.particles ≡ length ps = sym (same_length ps w.particles e) in
     let some = ap (λ (k : ℕ). nat_le k 65536) (sym whole) ∙ fits.0 in
-    let all = are_fit w.limit ps (all_moved_fit w.limit w.particles ps (limit_size w.limit f.limit).0 e inside.each
+    let all = are_fit w.limit ps (all_moved_fit w.limit w.particles ps (limit_low w.limit f.limit) e inside.each
     (all_fit w.limit w.particles fits.1)) in
     record {
       well_formed = from_formed (parts_of (record w { particles = ps; totals = t })) (record {

@@ -17,7 +17,7 @@ use Rattle.pbd_store.specs.Listed.{place_at}
 use Rattle.pbd_store.specs.Reaching.{Covers}
 use Rattle.pbd_store.specs.Flying.{places_at, losses_at, one_if, sum_below, sums_below, halves_at, WrittenRows, WrittenFirst, AreSummed, are_free}
 use Rattle.pbd_store.proofs.InRows.{by_long, seen_by, low_seen, place_seen}
-use Rattle.pbd_store.proofs.Scattering.{split_below}
+use Rattle.pbd_num.proofs.Below.{split_below}
 
 pub kept_size : (b : Bool) (n r : ℤ) (m : ℕ) → r ≡ cond b n (pos 0) → unsigned_abs n ≤ m → unsigned_abs r ≤ m
 kept_size b n r m e h = subst (λ (z : ℤ). unsigned_abs z ≤ m) (sym e) (by b)

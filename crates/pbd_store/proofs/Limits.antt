@@ -12,29 +12,20 @@ use Rattle.pbd_world.specs.declared.parts.Particle.{Particle}
 use Rattle.pbd_world.specs.Particles.{no_particle}
 use Rattle.pbd_world.specs.Valid.{is_limit, is_valid_particle, are_valid_particles}
 use Rattle.pbd_store.specs.Moving.{AreInside}
-
-pub limit_size : (n : ℤ) → IsTrue (is_limit n) → (pos 0 ≤ℤ n) × (unsigned_abs n ≤ 2 ^ 29)
-limit_size n h = by (int_eq n (pos (2 ^ 28))) refl
-  where
-    by : (b : Bool) → int_eq n (pos (2 ^ 28)) ≡ b → (pos 0 ≤ℤ n) × (unsigned_abs n ≤ 2 ^ 29)
-    by true e = let small : n ≡ pos (2 ^ 28) = (Decides-int_eq n (pos (2 ^ 28))).0 e in
-        (omega (arith, ints), omega (arith, ap unsigned_abs small))
-    by false e = let large : n ≡ pos (2 ^ 29) = (Decides-int_eq n (pos (2 ^ 29))).0
-        (ap (λ (b : Bool). b || int_eq n (pos (2 ^ 29))) (sym e) ∙ h) in (omega (arith, ints), omega (arith, ap unsigned_abs large))
+use Rattle.pbd_world.proofs.WholeLemmas.{limit_low, limit_high}
 
 -- the same of a limit that was read from its bits
 pub read_limit : (n : ℤ) → IsTrue (is_limit n) → (pos 0 ≤ℤ to_z w64 (of_z w64 n)) × (unsigned_abs (to_z w64 (of_z w64 n)) ≤ 2 ^ 29)
 read_limit n h =
-    let size = limit_size n h in
-    let e = to_z-of_z w64 n (fits n (omega (arith, size.1))) in (
-      subst (λ (z : ℤ). pos 0 ≤ℤ z) (sym e) size.0,
-      omega (arith, ap (λ (z : ℤ). unsigned_abs z) e, size.1),
+    let e = to_z-of_z w64 n (fits n (omega (arith, limit_high n h))) in (
+      subst (λ (z : ℤ). pos 0 ≤ℤ z) (sym e) (limit_low n h),
+      omega (arith, ap (λ (z : ℤ). unsigned_abs z) e, limit_high n h),
     )
 
 -- what is within a limit is in the range of both
 pub inside_both : (limit : ℤ) (ps : List Particle) → IsTrue (is_limit limit) → AreInside limit ps → AreInside (pos (2 ^ 29)) ps
 inside_both limit ps l h =
-    let size = (limit_size limit l).1 in
+    let size = limit_high limit l in
     record {
       each = λ i lt. (let w = h.each i lt in record {
         x = omega (arith, w.x, size);
@@ -46,7 +37,7 @@ inside_both limit ps l h =
 -- the places of valid particles
 pub valid_inside : (limit : ℤ) (ps : List Particle) → IsTrue (is_limit limit) → IsTrue (are_valid_particles limit ps) → AreInside limit ps
 valid_inside limit ps l h = record {
-  each = λ i lt. (within_facts limit _ (limit_size limit l).0).0
+  each = λ i lt. (within_facts limit _ (limit_low limit l)).0
       ((and_parts _ _ (and_parts _ _ (and_parts _ _ (AllPass-from_list_all (is_valid_particle limit) ps
       (and_parts _ _ h).1 i no_particle lt)).0).0).0);
 }

@@ -26,7 +26,7 @@ use Rattle.pbd_store.specs.Pairs.{ArePairs, PairsApart, EndsChanged, Parted, Pla
 use Rattle.pbd_store.specs.Reaching.{Covers, CoversEnds}
 use Rattle.pbd_store.proofs.InRows.{by_long, seen_by, place_seen, low_seen, rows_long}
 use Rattle.pbd_store.proofs.Listing.{shown, listed_long, count_is, row_is}
-use Rattle.pbd_store.proofs.Scattering.{split_below}
+use Rattle.pbd_num.proofs.Below.{split_below}
 
 pub placed_fixed : (ps : List Particle) (i : ℕ) (v : Vec3) → fixed_parts (placed ps i v) ≡ fixed_parts ps
 placed_fixed ps i v = map-set_same {B = Particle} (λ (p : Particle). record p { at = zero_vector }) ps i

@@ -6,7 +6,7 @@ use Rattle.pbd_num.specs.declared.Vec3.{Vec3}
 use Rattle.pbd_num.specs.Vectors.{Within, zero_vector}
 use Rattle.pbd_world.specs.declared.parts.Particle.{Particle}
 use Rattle.pbd_world.specs.Particles.{particle_at}
-use Rattle.pbd_store.proofs.Scattering.{split_below}
+use Rattle.pbd_num.proofs.Below.{split_below}
 
 -- the place of lane j
 abbrev pub at_of : ℕ → ℕ → List Particle → ℕ → Vec3

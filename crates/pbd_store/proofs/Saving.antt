@@ -7,7 +7,7 @@ use Rattle.pbd_world.specs.declared.parts.Particle.{Particle}
 use Rattle.pbd_lanes.specs.Lane.{is_set}
 use Rattle.pbd_store.specs.Blocks.{Saved}
 use Rattle.pbd_world.specs.Particles.{particle_at, no_particle}
-use Rattle.pbd_store.proofs.Scattering.{split_below}
+use Rattle.pbd_num.proofs.Below.{split_below}
 
 -- nothing yet
 pub saved_none : (start : ℕ) (set : List Bool) (at before : ℕ → Vec3) (ps : List Particle) → Saved 0 start set at before ps ps

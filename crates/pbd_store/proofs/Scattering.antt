@@ -8,6 +8,7 @@ use Rattle.pbd_lanes.specs.Lane.{is_set}
 use Rattle.pbd_store.specs.Gathering.{index_at, NamesApart, Scattered}
 use Rattle.pbd_store.specs.Blocks.{place_of}
 use Rattle.pbd_world.specs.Particles.{particle_at, no_particle, placed}
+use Rattle.pbd_num.proofs.Below.{split_below}
 
 -- a placed particle, and each other
 pub placed_same : (ps : List Particle) (i : ℕ) (v : Vec3) → i < length ps
@@ -23,9 +24,6 @@ length-placed ps i v = length-set ps i (record (particle_at ps i) { at = v })
 -- nothing yet
 pub scattered_none : (is : List ℕ) (set : List Bool) (xs ys zs : List ℤ) (ps : List Particle) → Scattered 0 is set xs ys zs ps ps
 scattered_none is set xs ys zs ps = record { whole = refl; lanes = λ j h. absurd (omega arith); others = λ i h. refl }
-
-pub split_below : (k j : ℕ) → k < j + 1 → (k < j) ⊎ (k ≡ j)
-split_below k j h = elim (cases_eq k j) [ inl e ↦ inr e | inr n ↦ inl (omega (arith, n)) ]
 
 -- what holds of each set lane below j, where lane j isn't set
 pub set_below : (P : ℕ → Type 0) (set : List Bool) (j : ℕ) → is_set set j ≡ false → ((k : ℕ) → k < j → IsTrue (is_set set k) → P k)

@@ -16,7 +16,8 @@ use Rattle.pbd_store.specs.Flying.{WrittenFirst}
 use Rattle.pbd_store.specs.Listed.{place_at}
 use Rattle.pbd_store.specs.Writing.{WrittenWhere}
 use Rattle.pbd_store.proofs.Listing.{column_is, column_long}
-use Rattle.pbd_store.proofs.Scattering.{set_below, split_below}
+use Rattle.pbd_store.proofs.Scattering.{set_below}
+use Rattle.pbd_num.proofs.Below.{split_below}
 
 -- nothing yet
 pub written_none : (start : ℕ) (set : List Bool) (values : ℕ → Vec3) (vs : List Vec3) → WrittenWhere 0 start set values vs vs

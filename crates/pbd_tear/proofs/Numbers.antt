@@ -24,9 +24,10 @@ use Rattle.pbd_world.specs.Step.{is_torn, tear}
 use Rattle.pbd_world.specs.Work.{tearable_count}
 use Rattle.pbd_world.proofs.OrderCounts.{kept_more}
 use Rattle.pbd_world.specs.Valid.{is_limit, is_between, is_valid_link, are_valid_links}
-use Rattle.pbd_store.proofs.Limits.{limit_size}
 use Rattle.pbd_store.proofs.Listing.{any_default}
 use Rattle.pbd_tear.specs.Tearing.{IsLink, AscendTo, torn_numbers, numbers_with_tear_length, gone_numbers}
+use Rattle.pbd_world.proofs.WholeLemmas.{limit_low, limit_high}
+use Rattle.pbd_world.proofs.Ranges.{range_increases}
 
 -- ---- limits and links
 
@@ -41,8 +42,7 @@ is_link limit n l h valid =
     let p3 = and_parts _ _ p4.0 in
     let p2 = and_parts _ _ p3.0 in
     let p1 = and_parts _ _ p2.0 in
-    let size = limit_size limit h in
-    record { a = ltb-true l.a n p1.0; b = ltb-true l.b n p1.1; tear = tear_size limit l.tear size.0 size.1 p4.1 }
+    record { a = ltb-true l.a n p1.0; b = ltb-true l.b n p1.1; tear = tear_size limit l.tear (limit_low limit h) (limit_high limit h) p4.1 }
 
 pub link_is : (limit : ℤ) (n : ℕ) (links : List Link) (i : ℕ) (d : Link) → IsTrue (is_limit limit) → IsTrue (are_valid_links limit n links)
     → i < length links → IsLink n (get_or links i d)
@@ -92,11 +92,6 @@ passing_all test n i so_far le h =
     let none : n - i ≡ 0 = omega (arith, le) in
     sym (append-nil so_far) ∙ ap (λ (k : ℕ). so_far ++ filter test (range_with_len i k)) (sym none) ∙ h.whole
 
--- what passes of a range ascends within it
-range_rises : (n : ℕ) → IsStrictlyIncreasing (range_with_len 0 n)
-range_rises n k l = let e = length-range_with_len 0 n in
-    rw (get_or-range_with_len 0 n k 0 (omega (arith, l, e)), get_or-range_with_len 0 n (k + 1) 0 (omega (arith, l, e))) (omega arith)
-
 all_below : (test : ℕ → Bool) (a n m : ℕ) → a + n ≤ m → AllByRecursion (λ i. i < m) (filter test (range_with_len a n))
 all_below test a zero m le = tt
 all_below test a (suc n) m le = by (test a) (all_below test (a + 1) n m (omega (arith, le)))
@@ -108,7 +103,7 @@ all_below test a (suc n) m le = by (test a) (all_below test (a + 1) n m (omega (
 
 pub ascends : (test : ℕ → Bool) (n : ℕ) → AscendTo n (filter test (range_with_len 0 n))
 ascends test n = record {
-  rising = IsStrictlyIncreasing-filter test (range_with_len 0 n) (range_rises n);
+  rising = IsStrictlyIncreasing-filter test (range_with_len 0 n) (range_increases n);
   within = λ k l. all-at (λ i. i < n) (filter test (range_with_len 0 n)) k 0 l (all_below test 0 n n (omega arith));
 }
 

@@ -16,16 +16,16 @@ use Rattle.pbd_world.specs.declared.parts.Particle.{Particle}
 use Rattle.pbd_world.specs.Particles.{particle_at, no_particle, placed}
 use Rattle.pbd_world.specs.Tracks.{place_between, place_after, place_at, track_of, held_place}
 use Rattle.pbd_world.specs.Valid.{is_limit, none_twice, are_valid_keys, is_valid_track, are_valid_tracks}
-use Rattle.pbd_store.proofs.Limits.{limit_size}
 use Rattle.pbd_track.specs.Tracking.{IsKey, IsTrack, attached_at, Attached}
+use Rattle.pbd_world.proofs.WholeLemmas.{limit_low, limit_high}
 
 -- ---- limits and keys
 
 within_limit : (limit : ℤ) (v : Vec3) → IsTrue (is_limit limit) → IsTrue (is_within limit v) → Within (2 ^ 29) v
 within_limit limit v l h =
-    let size = limit_size limit l in
-    let w = (within_facts limit v size.0).0 h in
-    record { x = omega (arith, w.x, size.1); y = omega (arith, w.y, size.1); z = omega (arith, w.z, size.1) }
+    let size = limit_high limit l in
+    let w = (within_facts limit v (limit_low limit l)).0 h in
+    record { x = omega (arith, w.x, size); y = omega (arith, w.y, size); z = omega (arith, w.z, size) }
 
 pub keys_are : (limit : ℤ) (keys : List Key) → IsTrue (is_limit limit) → IsTrue (are_valid_keys limit keys) → (k : ℕ) (d : Key)
     → k < length keys → IsKey (get_or keys k d)

@@ -30,6 +30,8 @@ pub mod PartsGo
 pub mod PredictGoes
 pub mod SameShape
 pub mod StepSound
+pub mod StepsLead
+pub mod Ranges
 pub mod CommandSound
 pub mod SessionSound
 pub mod WorldParts

@@ -13,6 +13,8 @@ use Rattle.pbd_world.specs.Shapes.{Shape, Way, stays, still, shaped_by, way_thro
 use Rattle.pbd_world.specs.Step.{attached, damped_away, flown, if_within, predicted}
 use Rattle.pbd_world.proofs.MomentumLemmas.{same_sum, part_by, part, momentum_cons, added_all}
 use Rattle.pbd_world.proofs.BalanceLemmas.{Balances}
+use Rattle.std.proofs.Math.IntN.{+ℤ_assoc}
+use Rattle.pbd_num.specs.declared.Vec3.{Vec3}
 
 -- ---- the moves of entries
 
@@ -33,9 +35,6 @@ plus_zero s = same_sum s (both_sums s zero_sum) (zero_term s.x) (zero_term s.y) 
 late_terms : (a b c : ℤ) → (a +ℤ b) +ℤ c ≡ a +ℤ (c +ℤ b)
 late_terms a b c = omega (arith, ints)
 
-both_terms : (a b c : ℤ) → (a +ℤ b) +ℤ c ≡ a +ℤ (b +ℤ c)
-both_terms a b c = omega (arith, ints)
-
 booked_all : (es : List Entry) (t : Ledger) → all_totals (booked t es) ≡ both_sums (all_totals t) (moves_of es)
 booked_all [] t = plus_zero (all_totals t)
 booked_all (e ∷ es) t =
@@ -55,8 +54,8 @@ moved_all (m ∷ ms) t =
     let c = all_moves ms in
     moved_all ms (booked t m.entries)
     ∙ ap (λ (s : Sum). both_sums s c) (booked_all m.entries t)
-    ∙ same_sum (both_sums (both_sums a b) c) (both_sums a (both_sums b c)) (both_terms a.x b.x c.x) (both_terms a.y b.y c.y)
-    (both_terms a.z b.z c.z)
+    ∙ same_sum (both_sums (both_sums a b) c) (both_sums a (both_sums b c)) (+ℤ_assoc a.x b.x c.x) (+ℤ_assoc a.y b.y c.y)
+    (+ℤ_assoc a.z b.z c.z)
 
 -- ---- a particle that carries its entries
 
@@ -93,8 +92,8 @@ moved-balanced o ps t ms h balance =
     let d = all_moves ms in
     carried ps ms h
     ∙ ap (λ (s : Sum). both_sums s d) balance
-    ∙ same_sum (both_sums (both_sums o a) d) (both_sums o (both_sums a d)) (both_terms o.x a.x d.x) (both_terms o.y a.y d.y)
-    (both_terms o.z a.z d.z)
+    ∙ same_sum (both_sums (both_sums o a) d) (both_sums o (both_sums a d)) (+ℤ_assoc o.x a.x d.x) (+ℤ_assoc o.y a.y d.y)
+    (+ℤ_assoc o.z a.z d.z)
     ∙ ap (both_sums o) (sym (moved_all ms t))
 
 -- ---- those of a step
@@ -184,3 +183,11 @@ rubbed_with friction p false true e = slowed_carries friction p e
 pub rubbed_carries : (friction : ℤ) (p : Particle) (touched : Bool) → Carries p (rubbed friction p touched)
 unfolding rubbed
 rubbed_carries friction p touched = rubbed_with friction p p.held touched refl
+
+-- ---- two shares in either order
+
+in_turn : (s v w : ℤ) → (s +ℤ v) +ℤ w ≡ (s +ℤ w) +ℤ v
+in_turn s v w = omega (arith, ints)
+
+pub sum_in_turn : (s : Sum) (v w : Vec3) → sum_plus (sum_plus s v) w ≡ sum_plus (sum_plus s w) v
+sum_in_turn s v w = λ i. record { x = in_turn s.x v.x w.x i; y = in_turn s.y v.y w.y i; z = in_turn s.z v.z w.z i }

@@ -20,6 +20,7 @@ use Rattle.pbd_world.specs.Valid.{is_limit, is_valid_particle, are_valid_particl
 use Rattle.pbd_world.specs.World.{opened, is_tracked, IsSound}
 use Rattle.pbd_world.proofs.Rooms.{sum_grows, sum_wider}
 use Rattle.pbd_world.proofs.WorldParts.{formed}
+use Rattle.pbd_world.proofs.WholeLemmas.{limit_low, limit_high}
 
 -- ---- the size of the momentum
 
@@ -58,15 +59,6 @@ momentum_from limit b (p ∷ ps) s a h hb v w =
     one_more limit b p ps s a p.held
     (λ t u x. momentum_from limit b ps t u h hb parts.1 x) w (velocity_within limit b p h hb parts.0)
 
--- ---- the limit
-
-limit_fact : (n : ℤ) → IsTrue (is_limit n) → (pos 0 ≤ℤ n) × (unsigned_abs n ≤ 2 ^ 29)
-limit_fact n t = elim (cases_Bool (int_eq n (pos (2 ^ 28)))) [
-  | inl e ↦ (let is = (Decides-int_eq n (pos (2 ^ 28))).0 e in rw is (omega (arith, ints), omega arith))
-  | inr f ↦ (let u : IsTrue (int_eq n (pos (2 ^ 29))) = rw f at t in let is = (Decides-int_eq n (pos (2 ^ 29))).0 u in
-      rw is (omega (arith, ints), omega arith))
-]
-
 -- ---- what is held
 
 either : (a b c : Bool) → IsTrue (a || c) → IsTrue (a || b || c)
@@ -102,7 +94,6 @@ opened-is_sound parts v =
     let p3 = and_parts _ _ p4.0 in
     let p2 = and_parts _ _ p3.0 in
     let form = formed parts p2.0 in
-    let limit = limit_fact parts.limit form.limit in
     let particles = and_parts (nat_le (length parts.particles) 65536) (list_all (is_valid_particle parts.limit) parts.particles) form.particles in
     let few : length parts.particles ≤ 65536 = leb-true (length parts.particles) 65536 particles.0 in
     record {
@@ -113,7 +104,7 @@ opened-is_sound parts v =
       contacts = omega arith;
       bounded = record { gravity = nothing 0; damping = nothing 0; link = nothing 0; contact = nothing 0; shape = nothing 0 };
       opening = sum_wider (momentum parts.particles) (0 + length parts.particles * (2 * 2 ^ 29)) (2 ^ 46) (omega arith)
-          (momentum_from parts.limit (2 ^ 29) parts.particles zero_sum 0 limit.0 limit.1 particles.1 (nothing 0));
+          (momentum_from parts.limit (2 ^ 29) parts.particles zero_sum 0 (limit_low parts.limit form.limit) (limit_high parts.limit form.limit) particles.1 (nothing 0));
       balanced = nothing_more (momentum parts.particles);
       undamped = λ e. refl;
       one_weight = λ weight all. (refl, refl);

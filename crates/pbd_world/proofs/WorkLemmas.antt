@@ -1,5 +1,5 @@
 -- What steps may cost: at other widths, at most, and without a thickness.
-use Rattle.std.proofs.Common.{◌≡◌, refl, ap, sym, ◌∙◌, subst, ℕ, zero, suc, ◌+◌, ◌*◌, ◌/◌, ◌<◌, ◌≤◌, ◌==◌, min, Bool, true, false, List, []}
+use Rattle.std.proofs.Common.{◌≡◌, refl, ap, sym, ◌∙◌, subst, ℕ, zero, suc, ◌+◌, ◌*◌, ◌/◌, ◌<◌, ◌≤◌, ◌==◌, min, Bool, true, false, List, [], cond}
 use Rattle.std.proofs.Common.{◌∷◌, length, map, filter, arith, ℤ, pos, Result, Ok, Err}
 use Rattle.std.specs.Prelude.{nat_lt, int_lt, unsigned_abs, if◌then◌else◌}
 use Rattle.std.specs.List.{range_with_len}
@@ -213,7 +213,7 @@ if_most : (b : Bool) (n : ℕ) → (if b then 0 else n) ≤ n
 if_most true n = omega arith
 if_most false n = omega arith
 
-if_most_else : (b : Bool) (n : ℕ) → (if b then n else 0) ≤ n
+pub if_most_else : (b : Bool) (n : ℕ) → (if b then n else 0) ≤ n
 if_most_else true n = omega arith
 if_most_else false n = omega arith
 
@@ -369,3 +369,14 @@ none_looked w e = finding_is w ∙ ap (λ (t : ℤ). if unsigned_abs t == 0 then
 
 pub none_projected : (lanes : ℕ) (w : World) → 0 < lanes → w.thickness ≡ pos 0 → contacts_work lanes (found_in w) ≡ 0
 none_projected lanes w some e = omega (arith, contacts_each lanes (found_in w) some, ap (λ (c : List (ℕ × ℕ)). length c) (none_found w e))
+
+-- ---- how many links are live
+
+kept_few : (keep : Bool) (x : Link) (some all : List Link) → length some ≤ length all
+    → length (cond keep (x ∷ some) some) ≤ length (x ∷ all)
+kept_few true x some all le = omega (arith, le)
+kept_few false x some all le = omega (arith, le)
+
+pub live_few : (links : List Link) → live_count links ≤ length links
+live_few [] = omega arith
+live_few (l ∷ links) = kept_few l.live l (filter {X = Link} (λ l. l.live) links) links (live_few links)

@@ -7,8 +7,8 @@ use Rattle.pbd_store.specs.Gathering.{index_at}
 use Rattle.pbd_store.specs.InRows.{place_in_row, places_in}
 use Rattle.pbd_store.specs.Listed.{place_at}
 use Rattle.pbd_store.specs.Pairs.{IsWay, row_in}
-use Rattle.pbd_store.proofs.Scattering.{split_below}
 use Rattle.pbd_store.proofs.pulling.put_ways.Goals as goal
+use Rattle.pbd_num.proofs.Below.{split_below}
 
 pub loop-j-preserved : goal.loop-j-preserved
 loop-j-preserved c =

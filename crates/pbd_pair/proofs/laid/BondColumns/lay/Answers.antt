@@ -3,11 +3,11 @@ use Rattle.std.proofs.lemmas.List.{length-set}
 use Rattle.std.proofs.lemmas.Int.{to_z-of_z}
 use Rattle.pbd_world.specs.declared.bond.Bond.{Bond}
 use Rattle.pbd_store.specs.Gathering.{index_at}
-use Rattle.pbd_store.proofs.Scattering.{split_below}
 use Rattle.pbd_pair.specs.Bonds.{bond_of}
 use Rattle.pbd_pair.specs.Laid.{laid_at, laid_bond, lists_in, AreEven, Lists}
 use Rattle.pbd_pair.proofs.Laying.{even_put, laid_number, row_kept, row_put}
 use Rattle.pbd_pair.proofs.laid.BondColumns.lay.Goals as goal
+use Rattle.pbd_num.proofs.Below.{split_below}
 
 pub loop-i-init : goal.loop-i-init
 loop-i-init c = record { even = c.requires.even; rows = refl; below = λ k p. absurd (omega (arith, p)) }

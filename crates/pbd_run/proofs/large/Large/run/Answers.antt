@@ -1,12 +1,11 @@
-use Rattle.pbd_io.specs.Appending.{appends_then, prefix_then}
+use Rattle.pbd_io.specs.Appending.{appends_then, prefix_then, prefix_longer}
 use Rattle.pbd_outcome.specs.Generated.{summary, summary_head, summary_tail}
-use Rattle.pbd_run.proofs.LargeLaws.{prefix_of_two}
 use Rattle.pbd_run.proofs.large.Large.run.Goals as goal
 
 pub returns-in-Err-clause-bytes : goal.returns-in-Err-clause-bytes
 unfolding summary
 returns-in-Err-clause-bytes g c = rw (← c.apply-reply.ensures.world, ← c.apply-reply.ensures.reply)
-    (prefix_of_two _ _ (summary_head c.args.self.number c.args.self.size c.apply-reply.new.self c.apply-reply.result)
+    (prefix_longer _ _ (summary_head c.args.self.number c.args.self.size c.apply-reply.new.self c.apply-reply.result)
     (summary_tail c.apply-reply.new.self) c.in-Err.ensures.bytes)
 
 pub returns-in-Ok-clause-bytes : goal.returns-in-Ok-clause-bytes

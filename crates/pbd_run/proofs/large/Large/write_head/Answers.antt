@@ -1,10 +1,10 @@
-use Rattle.pbd_io.specs.Appending.{piece_then}
+use Rattle.pbd_io.specs.Appending.{piece_then, prefix_longer}
 use Rattle.pbd_outcome.specs.Generated.{large_line}
-use Rattle.pbd_run.proofs.LargeLaws.{cause_then, prefix_of_two}
+use Rattle.pbd_run.proofs.LargeLaws.{cause_then}
 use Rattle.pbd_run.proofs.large.Large.write_head.Goals as goal
 
 pub returns-in-Err-clause-bytes : goal.returns-in-Err-clause-bytes
-returns-in-Err-clause-bytes g c = prefix_of_two _ _ (large_line c.args.self.number c.args.self.size) _
+returns-in-Err-clause-bytes g c = prefix_longer _ _ (large_line c.args.self.number c.args.self.size) _
     (rw (c.as_slice.ensures, c.large_line.ensures) at c.in-Err.ensures.bytes)
 
 pub returns-in-Err-clause-cause : goal.returns-in-Err-clause-cause

@@ -5,8 +5,8 @@ use Rattle.pbd_num.proofs.Ranges.{within_facts}
 use Rattle.pbd_world.specs.Particles.{particle_at}
 use Rattle.pbd_store.specs.Listed.{place_at}
 use Rattle.pbd_store.proofs.Listing.{count_is, place_is}
-use Rattle.pbd_store.proofs.Scattering.{split_below}
 use Rattle.pbd_store.proofs.columns.Columns.first_outside.Goals as goal
+use Rattle.pbd_num.proofs.Below.{split_below}
 
 pub returns-then-is_within : goal.returns-then-is_within
 returns-then-is_within g c =

@@ -3,8 +3,8 @@ use Rattle.std.proofs.lemmas.Int.{to_z-of_z}
 use Rattle.pbd_num.specs.Vectors.{is_within}
 use Rattle.pbd_store.specs.Stored.{Stored}
 use Rattle.pbd_store.specs.Pairs.{ends_within}
-use Rattle.pbd_store.proofs.Scattering.{split_below}
 use Rattle.pbd_store.proofs.store.Store.find_outside.Goals as goal
+use Rattle.pbd_num.proofs.Below.{split_below}
 
 pub returns-then-not-inside : goal.returns-then-not-inside
 returns-then-not-inside g c =

@@ -8,8 +8,8 @@ use Rattle.pbd_store.specs.Moving.{fixed_parts}
 use Rattle.pbd_store.specs.Pairs.{Parted, first_moves, second_moves, stays}
 use Rattle.pbd_store.proofs.Parting.{parted_none, parted_more, first_still, second_still, first_room, second_room, placed_fixed}
 use Rattle.pbd_store.proofs.Places.{within_at}
-use Rattle.pbd_store.proofs.Scattering.{split_below}
 use Rattle.pbd_store.proofs.store.Store.move_each.Goals as goal
+use Rattle.pbd_num.proofs.Below.{split_below}
 
 pub loop-j-init : goal.loop-j-init
 loop-j-init g c = record { done = parted_none _ _ _ _ _; stay = λ k h. absurd (omega arith); limit = refl; copies = refl; fixed = refl }

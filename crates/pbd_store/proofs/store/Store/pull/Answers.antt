@@ -7,16 +7,16 @@ use Rattle.pbd_store.specs.Gathering.{index_at}
 use Rattle.pbd_store.specs.Pairs.{opposites_in, ways_in, ends_within, stays, OutsideAt}
 use Rattle.pbd_store.specs.Reaching.{Covers}
 use Rattle.pbd_store.specs.Stored.{Stored}
-use Rattle.pbd_store.proofs.Limits.{limit_size}
 use Rattle.pbd_store.proofs.Parting.{both_stay, outcome_from}
 use Rattle.pbd_store.proofs.store.Store.pull.Goals as goal
+use Rattle.pbd_world.proofs.WholeLemmas.{limit_low}
 
 pub returns-then-is_within-clause-outcome : goal.returns-then-is_within-clause-outcome
 returns-then-is_within-clause-outcome g c =
     let l : FitsSigned w64 c.self.inside.limit = search rules in
     let inside = simp to_z-of_z at c.is_within.ensures in
     let limit = ap (λ (s : Stored). s.limit) c.self.view_is ∙ c.pull_ends-reach.ensures.limit in
-    let low = (limit_size c.self.inside.limit c.self.invariant).0 in
+    let low = (limit_low c.self.inside.limit c.self.invariant) in
     record {
       parted = c.pull_ends-reach.ensures.particles;
       stay = λ j p. subst (λ (z : ℤ). IsTrue (stays z c.args.self.now.particles c.args.pairs.first.now c.args.pairs.second.now

@@ -1,5 +1,5 @@
 -- What holds of the world that a step or a command comes to.
-use Rattle.std.proofs.Common.{ℕ, ◌+◌, Bool, true, false, List, length}
+use Rattle.std.proofs.Common.{ℕ, ◌+◌, Bool, true, false, List, length, ◌≡◌, refl}
 use Rattle.std.specs.Prelude.{Result, Ok, Err, IfOk, if◌then◌else◌, nat_lt}
 use Rattle.pbd_world.specs.declared.command.Phase.TheVariants as phases
 use Rattle.pbd_world.specs.declared.command.Refusal.{Refusal}
@@ -49,3 +49,7 @@ step-leads R w ends =
 pub done-leads : (P : World → Type 0) (w : World) (r : Result World Refusal) → P w → IfOk r P → P (done_or_refused w r).0
 done-leads P w (Ok v) h k = k
 done-leads P w (Err e) h k = h
+
+-- each step counts once
+pub step_counts : (w : World) → IfOk (step w) (λ v. v.steps ≡ w.steps + 1)
+step_counts w = step-leads (λ v. v.steps ≡ w.steps + 1) w (λ pairs m. refl)
