@@ -9,7 +9,7 @@ ghost use Rattle.pbd_cloth.specs.Slots.{begun, played, saved, restored, AreSlots
 use crate::counted::{apply_counted, sums_counted};
 use pbd_pair::LaneProjector;
 use pbd_session::Session;
-use pbd_step::Saved;
+use pbd_step::Snapshot;
 use pbd_world::{Command, FrameSums, Reply, Scene, refused_commands_change_nothing};
 use std::alloc::{AllocError, Global};
 use std::marker::{Brand, Model};
@@ -27,7 +27,7 @@ pub const MOST_SLOTS: u32 = 16;
 #[derive(Drop)]
 pub struct Cloth {
     pub(crate) playing: Session<LANES, LaneProjector<LANES>>,
-    pub(crate) kept: Vec<Saved<LANES>>,
+    pub(crate) kept: Vec<Snapshot<LANES>>,
 }
 
 impl Model for Cloth {
@@ -97,18 +97,18 @@ impl Cloth {
 }
 
 /// So many slots with the world of a scene before its first command.
-fn open_slots(alloc: Global, scene: &Scene, n: u32) -> Result<Vec<Saved<LANES>>, AllocError>
+fn open_slots(alloc: Global, scene: &Scene, n: u32) -> Result<Vec<Snapshot<LANES>>, AllocError>
     ensures { IfOk result (λ kept. kept.items ≡ replicate n (opened scene.now)) }
 {
     let mut kept = Vec::new(alloc);
     for _ in 0..n {
-        let saved = Saved::open(alloc, scene)?;
+        let saved = Snapshot::open(alloc, scene)?;
         kept.push(saved)?;
     }
     Ok(kept)
 }
 
-fn keep(kept: &mut Vec<Saved<LANES>>, slot: usize, playing: &Session<LANES, LaneProjector<LANES>>)
+fn keep(kept: &mut Vec<Snapshot<LANES>>, slot: usize, playing: &Session<LANES, LaneProjector<LANES>>)
     requires within { slot < length kept.old.items }
     requires slots { AreSlots playing.now kept.old.items }
     ensures { kept.new.items ≡ slice_set kept.old.items slot playing.now }
@@ -116,7 +116,7 @@ fn keep(kept: &mut Vec<Saved<LANES>>, slot: usize, playing: &Session<LANES, Lane
     kept[slot].keep(playing.solver());
 }
 
-fn go_back(playing: &mut Session<LANES, LaneProjector<LANES>>, saved: &Saved<LANES>)
+fn go_back(playing: &mut Session<LANES, LaneProjector<LANES>>, saved: &Snapshot<LANES>)
     requires { AreOfOneScene playing.old saved.now }
     ensures world { playing.new ≡ saved.now }
     ensures sound { IsSound playing.new }

@@ -4,13 +4,13 @@ use Rattle.pbd_num.specs.declared.Vec3.{Vec3}
 use Rattle.pbd_num.specs.Vectors.{Within, length_of, scaled}
 use Rattle.pbd_num.specs.PairMove.{corrections}
 
--- the factor that counts: a contact whose ends are no nearer than `rest` isn't drawn
-abbrev pub drawn_by : ℤ → Bool → ℤ → ℕ → ℤ
-drawn_by factor contact rest length = if contact && int_le rest (pos length) then pos 0 else factor
+-- the factor that counts: a contact whose ends are no nearer than `rest` isn't pulled
+abbrev pub pulled_by : ℤ → Bool → ℤ → ℕ → ℤ
+pulled_by factor contact rest length = if contact && int_le rest (pos length) then pos 0 else factor
 
 -- `move` is the part factor / 512 of how far `way` is from the length `rest`
 pub record IsPulled (way : Vec3) (rest factor : ℤ) (contact : Bool) (move : Vec3) : Type 0 where
   pub asked : pos 0 ≤ℤ factor
   pub apart : 0 < length_of way
-  pub value : move ≡ scaled (drawn_by factor contact rest (length_of way)) (pos 512) (corrections way rest)
+  pub value : move ≡ scaled (pulled_by factor contact rest (length_of way)) (pos 512) (corrections way rest)
   pub size : Within (2 ^ 16) move

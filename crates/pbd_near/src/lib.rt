@@ -15,7 +15,7 @@ mod ways;
 
 use guesses::Guesses;
 use pbd_num::Row;
-use shares::draw_of;
+use shares::pull_of;
 use ways::Ways;
 
 /// The columns of a chunk, in which each loop finds what those before it wrote. They are for the stack of who projects bonds.
@@ -25,7 +25,7 @@ pub struct Near {
     guesses: Guesses,
 }
 
-// The least error of a bond that isn't drawn: an error is less than 2^15.
+// The least error of a bond that isn't pulled: an error is less than 2^15.
 #[inline(always)]
 fn slack_of(contact: bool) -> i32
     ensures { result ≡ (if contact then pos 0 else pos 32768) }
@@ -64,8 +64,8 @@ impl Near {
         let slack = slack_of(contact);
         let mut all = true;
         for j in 0..self.ways.count {
-            let draw = draw_of(self.guesses.guess(j), rest[j], factor[j], slack);
-            let row = draw.row(self.ways.taken(j));
+            let pull = pull_of(self.guesses.guess(j), rest[j], factor[j], slack);
+            let row = pull.row(self.ways.taken(j));
             all = all & (row.flag == 0);
             moves[j] = row;
         }

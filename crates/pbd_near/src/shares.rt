@@ -21,7 +21,7 @@ pub(crate) struct Taken {
 
 /// What the axes of a bond are moved by: its guesses, what its length is too great by, and the factor that counts.
 #[derive(Clone, Copy)]
-pub(crate) struct Draw {
+pub(crate) struct Pull {
     pub(crate) shift: u32,
     pub(crate) ratio: i32,
     pub(crate) error: i32,
@@ -46,7 +46,7 @@ struct Tested {
 }
 
 #[inline(always)]
-pub(crate) fn draw_of(guess: Guess, rest: i32, factor: i32, slack: i32) -> Draw
+pub(crate) fn pull_of(guess: Guess, rest: i32, factor: i32, slack: i32) -> Pull
     requires rest_low { pos 0 ≤ℤ rest }
     requires rest_high { rest ≤ℤ pos 16383 }
     requires factor { unsigned_abs factor ≤ 512 }
@@ -57,13 +57,13 @@ pub(crate) fn draw_of(guess: Guess, rest: i32, factor: i32, slack: i32) -> Draw
     ensures error { result.error ≡ result.length -ℤ rest }
     ensures error_size { unsigned_abs result.error ≤ 32767 }
     ensures slack { slack ≤ℤ result.error → result.factor ≡ pos 0 }
-    ensures drawn { result.error <ℤ slack → result.factor ≡ factor }
+    ensures pulled { result.error <ℤ slack → result.factor ≡ factor }
     ensures factor_size { unsigned_abs result.factor ≤ 512 }
     ensures asked { IsTrue result.asked → pos 0 ≤ℤ factor }
 {
     let length = low15(guess.length) as i32;
     let error = length - rest;
-    Draw {
+    Pull {
         shift: (guess.up & 30) / 2 + 15,
         ratio: guess.ratio.clamp(-65_535, 65_535),
         error,
@@ -206,7 +206,7 @@ fn flag_of(right: bool) -> i32
     if right { 0 } else { -1 }
 }
 
-impl Draw {
+impl Pull {
     #[inline(always)]
     fn share(self, axis: i32) -> Share
         requires axis { unsigned_abs axis ≤ 32768 }

@@ -19,7 +19,7 @@ pub use laws::{
 use near::near_root;
 pub use row::Row;
 use tried::is_root;
-pub use tried::{Draw, TriedMoves, Weights, try_moves};
+pub use tried::{Pull, TriedMoves, Weights, try_moves};
 pub use vectors::square;
 
 /// The greatest size of a coordinate, in units of 1/65,536 metre.
@@ -187,17 +187,17 @@ fn share(s: Vec3, k: i64, w: i64, total: i64) -> Vec3
 
 /// The moves of two ends whose way is `way`, `len` long, by divisions.
 #[inline(never)]
-fn divided_moves(way: Vec3, len: i64, draw: Draw, weights: Weights) -> (Vec3, Vec3)
+fn divided_moves(way: Vec3, len: i64, pull: Pull, weights: Weights) -> (Vec3, Vec3)
     requires way { Within (2 ^ 30) way }
     requires length { len ≡ pos (length_of way) }
-    requires rest_low { pos 0 ≤ℤ draw.rest }
-    requires rest_high { draw.rest ≤ℤ pos (2 ^ 31) }
-    requires stiffness { unsigned_abs draw.k ≤ 256 }
+    requires rest_low { pos 0 ≤ℤ pull.rest }
+    requires rest_high { pull.rest ≤ℤ pos (2 ^ 31) }
+    requires stiffness { unsigned_abs pull.k ≤ 256 }
     requires first_low { pos 0 ≤ℤ weights.first }
     requires first_high { weights.first ≤ℤ pos 65535 }
     requires second_low { pos 0 ≤ℤ weights.second }
     requires second_high { weights.second ≤ℤ pos 65535 }
-    ensures moves { result ≡ pair_moves way zero_vector draw.rest draw.k weights.first weights.second }
+    ensures moves { result ≡ pair_moves way zero_vector pull.rest pull.k weights.first weights.second }
     ensures first_size { Within (2 ^ 31) result.0 }
     ensures second_size { Within (2 ^ 31) result.1 }
 {
@@ -205,38 +205,38 @@ fn divided_moves(way: Vec3, len: i64, draw: Draw, weights: Weights) -> (Vec3, Ve
     if len == 0 || total == 0 {
         return (Vec3::ZERO, Vec3::ZERO);
     }
-    let s = correction(way, len, draw.rest);
-    let first = share(s, draw.k, weights.first, total);
-    let second = share(s, draw.k, weights.second, total);
+    let s = correction(way, len, pull.rest);
+    let first = share(s, pull.k, weights.first, total);
+    let second = share(s, pull.k, weights.second, total);
     (first.opposite(), second)
 }
 
 /// The moves of two ends by the way from the second to the first: as [`pair_move`] gives them where they are nearer than
-/// `draw.reach`, and none elsewhere.
-pub fn moves_along(way: Vec3, draw: Draw, weights: Weights) -> (Vec3, Vec3)
+/// `pull.reach`, and none elsewhere.
+pub fn moves_along(way: Vec3, pull: Pull, weights: Weights) -> (Vec3, Vec3)
     requires way { Within (2 ^ 30) way }
-    requires rest_low { pos 0 ≤ℤ draw.rest }
-    requires rest_high { draw.rest ≤ℤ pos (2 ^ 31) }
-    requires stiffness { unsigned_abs draw.k ≤ 256 }
+    requires rest_low { pos 0 ≤ℤ pull.rest }
+    requires rest_high { pull.rest ≤ℤ pos (2 ^ 31) }
+    requires stiffness { unsigned_abs pull.k ≤ 256 }
     requires first_low { pos 0 ≤ℤ weights.first }
     requires first_high { weights.first ≤ℤ pos 65535 }
     requires second_low { pos 0 ≤ℤ weights.second }
     requires second_high { weights.second ≤ℤ pos 65535 }
-    ensures moves { pos (length_of way) <ℤ draw.reach
-        → result ≡ pair_moves way zero_vector draw.rest draw.k weights.first weights.second }
-    ensures rests { draw.reach ≤ℤ pos (length_of way) → result ≡ (zero_vector, zero_vector) }
+    ensures moves { pos (length_of way) <ℤ pull.reach
+        → result ≡ pair_moves way zero_vector pull.rest pull.k weights.first weights.second }
+    ensures rests { pull.reach ≤ℤ pos (length_of way) → result ≡ (zero_vector, zero_vector) }
     ensures first_size { Within (2 ^ 31) result.0 }
     ensures second_size { Within (2 ^ 31) result.1 }
 {
-    let tried = try_moves(way, draw, weights);
+    let tried = try_moves(way, pull, weights);
     if tried.exact {
         return (tried.first, tried.second);
     }
     let len = way.length();
-    if draw.reach <= len {
+    if pull.reach <= len {
         return (Vec3::ZERO, Vec3::ZERO);
     }
-    divided_moves(way, len, draw, weights)
+    divided_moves(way, len, pull, weights)
 }
 
 /// The moves of two ends toward the distance `rest`, with stiffness k / 256: the distance correction
@@ -257,7 +257,7 @@ pub fn pair_move(a: Vec3, b: Vec3, rest: i64, k: i64, wa: i64, wb: i64) -> (Vec3
     ensures first_size { Within (2 ^ 31) result.0 }
     ensures second_size { Within (2 ^ 31) result.1 }
 {
-    let draw = Draw {
+    let pull = Pull {
         rest,
         k,
         reach: 2_147_483_648,
@@ -266,7 +266,7 @@ pub fn pair_move(a: Vec3, b: Vec3, rest: i64, k: i64, wa: i64, wb: i64) -> (Vec3
         first: wa,
         second: wb,
     };
-    moves_along(a.minus(b), draw, weights)
+    moves_along(a.minus(b), pull, weights)
 }
 
 /// The distance of two places in range, rounded down.

@@ -13,7 +13,7 @@ use crate::near::{NearRoot, near_root};
 /// What two ends of a constraint are pulled to: the distance `rest`, in units of 1/65,536 metre, with stiffness `k` / 256,
 /// where they are nearer than `reach`.
 #[derive(Clone, Copy)]
-pub struct Draw {
+pub struct Pull {
     pub rest: i64,
     pub k: i64,
     pub reach: i64,
@@ -304,32 +304,32 @@ fn moved(weight: i64, parts: Vec3) -> Vec3
 }
 
 #[inline(always)]
-fn pulled(length: i64, draw: Draw) -> i64
-    requires { unsigned_abs draw.k ≤ 256 }
-    ensures near { length <ℤ draw.reach → result ≡ draw.k }
-    ensures far { draw.reach ≤ℤ length → result ≡ pos 0 }
+fn pulled(length: i64, pull: Pull) -> i64
+    requires { unsigned_abs pull.k ≤ 256 }
+    ensures near { length <ℤ pull.reach → result ≡ pull.k }
+    ensures far { pull.reach ≤ℤ length → result ≡ pos 0 }
     ensures size { unsigned_abs result ≤ 256 }
 {
-    if length < draw.reach { draw.k } else { 0 }
+    if length < pull.reach { pull.k } else { 0 }
 }
 
 /// The moves of two ends by the way from the second to the first, as [`crate::moves_along`] gives them: guessed, and
 /// tested.
 #[inline(always)]
-pub fn try_moves(way: Vec3, draw: Draw, weights: Weights) -> TriedMoves
+pub fn try_moves(way: Vec3, pull: Pull, weights: Weights) -> TriedMoves
     requires way { Within (2 ^ 30) way }
-    requires rest_low { pos 0 ≤ℤ draw.rest }
-    requires rest_high { draw.rest ≤ℤ pos (2 ^ 31) }
-    requires stiffness { unsigned_abs draw.k ≤ 256 }
+    requires rest_low { pos 0 ≤ℤ pull.rest }
+    requires rest_high { pull.rest ≤ℤ pos (2 ^ 31) }
+    requires stiffness { unsigned_abs pull.k ≤ 256 }
     requires first_low { pos 0 ≤ℤ weights.first }
     requires first_high { weights.first ≤ℤ pos 65535 }
     requires second_low { pos 0 ≤ℤ weights.second }
     requires second_high { weights.second ≤ℤ pos 65535 }
     ensures length { IsTrue result.exact → result.length ≡ pos (length_of way) }
-    ensures moves { IsTrue result.exact → result.length <ℤ draw.reach
-        → (result.first, result.second) ≡ pair_moves way zero_vector draw.rest draw.k weights.first weights.second }
-    ensures first_rests { IsTrue result.exact → draw.reach ≤ℤ result.length → result.first ≡ zero_vector }
-    ensures second_rests { IsTrue result.exact → draw.reach ≤ℤ result.length → result.second ≡ zero_vector }
+    ensures moves { IsTrue result.exact → result.length <ℤ pull.reach
+        → (result.first, result.second) ≡ pair_moves way zero_vector pull.rest pull.k weights.first weights.second }
+    ensures first_rests { IsTrue result.exact → pull.reach ≤ℤ result.length → result.first ≡ zero_vector }
+    ensures second_rests { IsTrue result.exact → pull.reach ≤ℤ result.length → result.second ≡ zero_vector }
     ensures first_held { weights.first ≡ pos 0 → result.first ≡ zero_vector }
     ensures second_held { weights.second ≡ pos 0 → result.second ≡ zero_vector }
     ensures opposed { pos 0 <ℤ weights.first → pos 0 <ℤ weights.second → result.first ≡ opposite result.second }
@@ -338,8 +338,8 @@ pub fn try_moves(way: Vec3, draw: Draw, weights: Weights) -> TriedMoves
 {
     let way = short_way(way);
     let tried = way.try_length();
-    let stretch = stretch_of(tried.near, tried.length, draw.rest);
-    let factor = weights.factor(pulled(tried.length, draw));
+    let stretch = stretch_of(tried.near, tried.length, pull.rest);
+    let factor = weights.factor(pulled(tried.length, pull));
     let x = stretch.try_part(way.x, factor);
     let y = stretch.try_part(way.y, factor);
     let z = stretch.try_part(way.z, factor);

@@ -78,7 +78,7 @@ module _ {bonds : Bonds} {numbers : List ℕ} {s : Stored} {t : Totals} (can : C
   known_bonds = record {
     few = can.short;
     known = can.batch.numbers;
-    firm = λ j p. let d = (can.batch.bond j p).drawn in record {
+    firm = λ j p. let d = (can.batch.bond j p).pulled in record {
       rest_low = d.rest_low;
       rest_high = rest_fits s.limit (B j) can.bound d;
       k_low = d.k_low;
@@ -243,7 +243,7 @@ module _ {bonds : Bonds} {numbers : List ℕ} {s : Stored} {t : Totals} (can : C
 
   -- the columns of a chunk that came without
   module _ (l : Laid) {c : Columns} {between : Between} {firsts seconds : List ℕ} (ends : AreEnds (bond_of bonds) numbers c)
-      (drawn : AreShared (bond_of bonds) numbers between c) (is_first : (j : ℕ) → j < length numbers → index_at firsts j ≡ (B j).a)
+      (pulled : AreShared (bond_of bonds) numbers between c) (is_first : (j : ℕ) → j < length numbers → index_at firsts j ≡ (B j).a)
       (is_second : (j : ℕ) → j < length numbers → index_at seconds j ≡ (B j).b)
       (told : AreBetween (length numbers) s.particles firsts seconds between) (whole_first : length between.first_weight ≡ 128)
       (whole_second : length between.second_weight ≡ 128) where
@@ -261,10 +261,10 @@ module _ {bonds : Bonds} {numbers : List ℕ} {s : Stored} {t : Totals} (can : C
     rows_laid = record {
       even = record {
         second = full c.second ends.second_long ∙ sym (full c.first ends.first_long);
-        rest = full c.rest drawn.rest_long ∙ sym (full c.first ends.first_long);
-        factor = full c.factor drawn.factor_long ∙ sym (full c.first ends.first_long);
-        stiffness = full c.stiffness drawn.stiffness_long ∙ sym (full c.first ends.first_long);
-        portion = full c.portion drawn.portion_long ∙ sym (full c.first ends.first_long);
+        rest = full c.rest pulled.rest_long ∙ sym (full c.first ends.first_long);
+        factor = full c.factor pulled.factor_long ∙ sym (full c.first ends.first_long);
+        stiffness = full c.stiffness pulled.stiffness_long ∙ sym (full c.first ends.first_long);
+        portion = full c.portion pulled.portion_long ∙ sym (full c.first ends.first_long);
         first_weight = full between.first_weight whole_first ∙ sym (full c.first ends.first_long);
         second_weight = full between.second_weight whole_second ∙ sym (full c.first ends.first_long);
       };
@@ -275,11 +275,11 @@ module _ {bonds : Bonds} {numbers : List ℕ} {s : Stored} {t : Totals} (can : C
           λ t. record {
             first = (get_or-take (length numbers) c.first j 0 p ∙ ends.first j p) t;
             second = (get_or-take (length numbers) c.second j 0 p ∙ ends.second j p) t;
-            rest = (get_or-take (length numbers) c.rest j (pos 0) p ∙ drawn.rest j p) t;
-            factor = (get_or-take (length numbers) c.factor j (pos 0) p ∙ drawn.factor j p ∙ (λ i. factor_of (B j) (w1 i) (w2 i))) t;
-            stiffness = (get_or-take (length numbers) c.stiffness j (pos 0) p ∙ drawn.stiffness j p
+            rest = (get_or-take (length numbers) c.rest j (pos 0) p ∙ pulled.rest j p) t;
+            factor = (get_or-take (length numbers) c.factor j (pos 0) p ∙ pulled.factor j p ∙ (λ i. factor_of (B j) (w1 i) (w2 i))) t;
+            stiffness = (get_or-take (length numbers) c.stiffness j (pos 0) p ∙ pulled.stiffness j p
                 ∙ (λ i. stiffness_of (B j) (w1 i) (w2 i))) t;
-            portion = (get_or-take (length numbers) c.portion j (pos 0) p ∙ drawn.portion j p ∙ (λ i. portion_of (B j) (w1 i) (w2 i))) t;
+            portion = (get_or-take (length numbers) c.portion j (pos 0) p ∙ pulled.portion j p ∙ (λ i. portion_of (B j) (w1 i) (w2 i))) t;
             first_weight = (get_or-take (length numbers) between.first_weight j (pos 0) p ∙ w1) t;
             second_weight = (get_or-take (length numbers) between.second_weight j (pos 0) p ∙ w2) t;
           };

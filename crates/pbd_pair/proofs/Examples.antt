@@ -10,10 +10,10 @@ use Rattle.pbd_world.specs.declared.bond.Bond.{Bond}
 use Rattle.pbd_world.specs.Ledger.{Ledger, zero_sum, zero_totals, SumWithin, HaveRoom}
 use Rattle.pbd_world.specs.Particles.{particle_at}
 use Rattle.pbd_pair.specs.declared.bonds.Bonds.{Bonds}
-use Rattle.pbd_pair.specs.Bonds.{bond_of, bond_count, IsDrawn, IsBond}
+use Rattle.pbd_pair.specs.Bonds.{bond_of, bond_count, HasPull, IsBond}
 use Rattle.pbd_store.specs.Moving.{AreInside, Weigh}
 use Rattle.pbd_pair.specs.Projecting.{ShareNone, IsBatch}
-use Rattle.pbd_pair.specs.Examples.{is_placed, is_drawn, is_bond, share_none, is_batch}
+use Rattle.pbd_pair.specs.Examples.{is_placed, has_pull, is_bond, share_none, is_batch}
 use Rattle.pbd_num.proofs.Tests.{at_most}
 
 pub left : (a b : Bool) → IsTrue (a && b) → IsTrue a
@@ -51,8 +51,8 @@ module _ (limit : ℤ) (ps : List Particle) (low : pos 0 ≤ℤ limit) (h : IsTr
     high = λ i q. let w = (particle_at ps i).weight in leb-true w 65535 (right (nat_le 1 w) (nat_le w 65535) (weighs i q));
   }
 
-drawn : (limit : ℤ) (b : Bond) → IsTrue (is_drawn limit b) → IsDrawn limit b
-drawn limit b h =
+pulled : (limit : ℤ) (b : Bond) → IsTrue (has_pull limit b) → HasPull limit b
+pulled limit b h =
     let h1 = right (int_le (pos 0) b.rest) (int_le b.rest (pos 4 *ℤ limit) && (int_le (pos 0) b.k && int_le b.k (pos 256))) h in
     let h2 = right (int_le b.rest (pos 4 *ℤ limit)) (int_le (pos 0) b.k && int_le b.k (pos 256)) h1 in
     record {
@@ -65,13 +65,13 @@ drawn limit b h =
 
 bond_is : (limit : ℤ) (n : ℕ) (b : Bond) → IsTrue (is_bond limit n b) → IsBond limit n b
 bond_is limit n b h =
-    let h1 = right (nat_lt b.a n) (nat_lt b.b n && (not (b.a == b.b) && is_drawn limit b)) h in
-    let h2 = right (nat_lt b.b n) (not (b.a == b.b) && is_drawn limit b) h1 in
+    let h1 = right (nat_lt b.a n) (nat_lt b.b n && (not (b.a == b.b) && has_pull limit b)) h in
+    let h2 = right (nat_lt b.b n) (not (b.a == b.b) && has_pull limit b) h1 in
     record {
-      first = ltb-true b.a n (left (nat_lt b.a n) (nat_lt b.b n && (not (b.a == b.b) && is_drawn limit b)) h);
-      second = ltb-true b.b n (left (nat_lt b.b n) (not (b.a == b.b) && is_drawn limit b) h1);
-      different = differ b.a b.b (left (not (b.a == b.b)) (is_drawn limit b) h2);
-      drawn = drawn limit b (right (not (b.a == b.b)) (is_drawn limit b) h2);
+      first = ltb-true b.a n (left (nat_lt b.a n) (nat_lt b.b n && (not (b.a == b.b) && has_pull limit b)) h);
+      second = ltb-true b.b n (left (nat_lt b.b n) (not (b.a == b.b) && has_pull limit b) h1);
+      different = differ b.a b.b (left (not (b.a == b.b)) (has_pull limit b) h2);
+      pulled = pulled limit b (right (not (b.a == b.b)) (has_pull limit b) h2);
     }
 
 none_shared : (b c : Bond) → IsTrue (share_none b c) → ShareNone b c

@@ -1,4 +1,4 @@
--- Sums of what the ends of bonds move by together.
+-- MoveSums of what the ends of bonds move by together.
 use Rattle.std.proofs.Common.{◌≡◌, ℕ, ◌+◌, ◌*◌, ◌^◌, ℤ, pos, neg_ℤ, ◌+ℤ◌, List, Bool, true, false, cond, refl, ap, sym, ◌∙◌, add-one, subst, arith}
 use Rattle.std.proofs.Common.{◌<◌, ◌≤◌, ◌-ℤ◌, unsigned_abs, to_z, of_z, w32}
 use Rattle.std.proofs.lemmas.Int.{to_z-of_z, fits_signed_from_abs}

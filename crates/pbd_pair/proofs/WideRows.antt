@@ -6,7 +6,7 @@ use Rattle.std.proofs.lemmas.Int.{ints, to_z-of_z}
 use Rattle.std.proofs.lemmas.List.{length-set, get_or-set_same, get_or-set_other}
 use Rattle.pbd_num.specs.declared.Vec3.{Vec3}
 use Rattle.pbd_num.specs.declared.row.Row.{Row}
-use Rattle.pbd_num.specs.declared.tried.Draw.{Draw}
+use Rattle.pbd_num.specs.declared.tried.Pull.{Pull}
 use Rattle.pbd_num.specs.Rows.{vector_of, no_row}
 use Rattle.pbd_num.specs.Vectors.{Within, opposite, zero_vector, length_of}
 use Rattle.pbd_num.specs.PairMove.{pair_moves}
@@ -20,7 +20,7 @@ use Rattle.pbd_pair.specs.Moves.{moves_by}
 use Rattle.pbd_pair.specs.declared.chunk.Found.{Found}
 use Rattle.pbd_pair.specs.Bonds.{bond_of}
 use Rattle.pbd_pair.specs.Laid.{number_in, IsFirm}
-use Rattle.pbd_pair.specs.Chunks.{draw_by, kept_by, reach_of, AreInColumns, AreKnown, AreTried, HoldsFactor, HoldsRest, IsDraw, IsExact, IsMild}
+use Rattle.pbd_pair.specs.Chunks.{pull_by, kept_by, reach_of, AreInColumns, AreKnown, AreTried, HoldsFactor, HoldsRest, IsPull, IsExact, IsMild}
 use Rattle.pbd_pair.specs.Chunks.{IsNear, IsTold, Lying}
 use Rattle.pbd_pair.proofs.Chunks.{first_fits, second_fits, share_fits}
 use Rattle.pbd_pair.proofs.Exact.{moves_by_reach}
@@ -30,11 +30,11 @@ use Rattle.pbd_pair.proofs.NearBonds.{kept_none, kept_some, weightless}
 use Rattle.pbd_pair.proofs.Settled.{kept_size_by}
 use Rattle.pbd_num.proofs.Below.{split_below}
 
--- what a firm bond draws its ends to
-pub is_draw : {b : Bond} {d : Draw} → d ≡ draw_by b → IsFirm b → IsDraw b d
-is_draw {b} {d} e firm = record {
+-- what a firm bond pulls its ends to
+pub is_pull : {b : Bond} {d : Pull} → d ≡ pull_by b → IsFirm b → IsPull b d
+is_pull {b} {d} e firm = record {
   value = e;
-  mild = subst (λ (x : Draw). IsMild x) (sym e) (record {
+  mild = subst (λ (x : Pull). IsMild x) (sym e) (record {
     rest_low = firm.rest_low;
     rest_high = firm.rest_high;
     k_low = firm.k_low;
@@ -153,7 +153,7 @@ unflagged_more rows j row room flag before k q = elim (split_below k j q) [
       ∙ ap (λ (r : Row). r.flag) (get_or-set_same rows j row no_row room) ∙ flag
 ]
 
--- ---- what a short bond draws its ends to, by its columns
+-- ---- what a short bond pulls its ends to, by its columns
 
 half_of_twice : (f k : ℤ) → pos 0 ≤ℤ k → f ≡ pos 2 *ℤ k → pos (unsigned_abs f / 2) ≡ k
 half_of_twice f (pos n) low e = ap (λ (z : ℤ). pos (unsigned_abs z / 2)) e ∙ ap pos (omega arith)
@@ -176,15 +176,15 @@ same_factor {b} {f} {g} {h} {k} {x} first second is =
     subst (λ (z : ℤ). HoldsFactor b z k x) first (subst (λ (z : ℤ). HoldsFactor b f z x) second is)
 
 -- of bond j of a chunk, by what words tell of its columns
-pub drawn_in_columns : {found : Found} {first second : ℤ} {contact : Bool} {d : Draw} → AreKnown found.chunk.bonds found.chunk.numbers.now
+pub pulled_in_columns : {found : Found} {first second : ℤ} {contact : Bool} {d : Pull} → AreKnown found.chunk.bonds found.chunk.numbers.now
     → AreInColumns found → (j : ℕ) → j < length found.chunk.numbers.now
     → first ≡ to_z w32 (of_z w32 (number_in found.laid.first_weight.now j))
     → second ≡ to_z w32 (of_z w32 (number_in found.laid.second_weight.now j))
     → ((n : ℕ) → (bond_of found.chunk.bonds n).contact ≡ contact)
     → ((b : Bond) → IsFirm b → HoldsRest b (to_z w32 (of_z w32 (number_in found.laid.rest.now j)))
-    → HoldsFactor b first second (to_z w32 (of_z w32 (number_in found.laid.factor.now j))) → b.contact ≡ contact → IsDraw b d)
-    → IsDraw (bond_of found.chunk.bonds (get_or found.chunk.numbers.now j 0)) d
-drawn_in_columns {found} {first} {second} {contact} {d} known columns j p first_is second_is kind told =
+    → HoldsFactor b first second (to_z w32 (of_z w32 (number_in found.laid.factor.now j))) → b.contact ≡ contact → IsPull b d)
+    → IsPull (bond_of found.chunk.bonds (get_or found.chunk.numbers.now j 0)) d
+pulled_in_columns {found} {first} {second} {contact} {d} known columns j p first_is second_is kind told =
     let rest = columns.rest j p in
     let factor = columns.factor j p in
     let f1 : FitsSigned w32 (number_in found.laid.first_weight.now j) = first_fits columns.sized j p in
@@ -193,8 +193,8 @@ drawn_in_columns {found} {first} {second} {contact} {d} known columns j p first_
     let f4 : FitsSigned w32 (number_in found.laid.factor.now j) = share_fits _ factor.low factor.high in
     let a = simp to_z-of_z at first_is in
     let b = simp to_z-of_z at second_is in
-    let drawn = simp to_z-of_z at told in
-    drawn _ (known.firm j p) rest (same_factor (sym a) (sym b) factor) (kind _)
+    let pulled = simp to_z-of_z at told in
+    pulled _ (known.firm j p) rest (same_factor (sym a) (sym b) factor) (kind _)
 
 -- ---- rows that are all written
 

@@ -32,18 +32,18 @@ pub record IsBound (limit : ℤ) : Type 0 where
   pub size : unsigned_abs limit ≤ 2 ^ 29
 
 -- a rest length in 0..=4*limit, and a stiffness in 0..=256
-pub record IsDrawn (limit : ℤ) (b : Bond) : Type 0 where
+pub record HasPull (limit : ℤ) (b : Bond) : Type 0 where
   pub rest_low : pos 0 ≤ℤ b.rest
   pub rest_high : b.rest ≤ℤ (pos 4 *ℤ limit)
   pub k_low : pos 0 ≤ℤ b.k
   pub k_high : b.k ≤ℤ pos 256
 
--- two different ones of n particles, drawn to a distance
+-- two different ones of n particles, pulled to a distance
 pub record IsBond (limit : ℤ) (n : ℕ) (b : Bond) : Type 0 where
   pub first : b.a < n
   pub second : b.b < n
   pub different : b.a ≢ b.b
-  pub drawn : IsDrawn limit b
+  pub pulled : HasPull limit b
 
 -- an end within the limit, of a weight in 0..=65,535
 pub record IsEnd (limit : ℤ) (e : End) : Type 0 where

@@ -3,7 +3,7 @@ use Rattle.std.specs.Prelude.{◌≡◌, ℕ, ◌+◌, ◌<◌, ◌≤◌, ◌^�
 use Rattle.std.specs.Prelude.{slice_index_or, take, unsigned_abs, Bool, ◌||◌, IsTrue}
 use Rattle.pbd_num.specs.declared.Vec3.{Vec3}
 use Rattle.pbd_num.specs.declared.row.Row.{Row}
-use Rattle.pbd_num.specs.declared.tried.Draw.{Draw}
+use Rattle.pbd_num.specs.declared.tried.Pull.{Pull}
 use Rattle.pbd_num.specs.declared.tried.Weights.{Weights}
 use Rattle.pbd_num.specs.Rows.{vector_of, no_row}
 use Rattle.pbd_num.specs.Vectors.{Within, plus, opposite, zero_vector}
@@ -228,31 +228,31 @@ pub record IsFound (ps : List Particle) (found : Found) : Type 0 where
 abbrev pub reach_of : Bond → ℤ
 reach_of b = if b.contact then b.rest else pos (2 ^ 31)
 
--- what a bond draws its ends to
-abbrev pub draw_by : Bond → Draw
-draw_by b = record { rest = b.rest; k = b.k; reach = reach_of b }
+-- what a bond pulls its ends to
+abbrev pub pull_by : Bond → Pull
+pull_by b = record { rest = b.rest; k = b.k; reach = reach_of b }
 
-abbrev pub no_draw : Draw
-no_draw = record { rest = pos 0; k = pos 0; reach = pos 0 }
+abbrev pub no_pull : Pull
+no_pull = record { rest = pos 0; k = pos 0; reach = pos 0 }
 
-abbrev pub draw_in : List Draw → ℕ → Draw
-draw_in draws j = slice_index_or draws j no_draw
+abbrev pub pull_in : List Pull → ℕ → Pull
+pull_in pulls j = slice_index_or pulls j no_pull
 
 -- a length of at most 2^31, and a stiffness in 0..=256
-pub record IsMild (d : Draw) : Type 0 where
+pub record IsMild (d : Pull) : Type 0 where
   pub rest_low : pos 0 ≤ℤ d.rest
   pub rest_high : d.rest ≤ℤ pos (2 ^ 31)
   pub k_low : pos 0 ≤ℤ d.k
   pub k_high : d.k ≤ℤ pos 256
 
--- what a firm bond draws its ends to
-pub record IsDraw (b : Bond) (d : Draw) : Type 0 where
-  pub value : d ≡ draw_by b
+-- what a firm bond pulls its ends to
+pub record IsPull (b : Bond) (d : Pull) : Type 0 where
+  pub value : d ≡ pull_by b
   pub mild : IsMild d
 
 -- the same of each bond of a chunk
-pub record AreDrawn (bond : ℕ → Bond) (numbers : List ℕ) (draws : List Draw) : Type 0 where
-  pub each : (j : ℕ) → j < length numbers → IsDraw (bond (slice_index_or numbers j 0)) (draw_in draws j)
+pub record ArePulled (bond : ℕ → Bond) (numbers : List ℕ) (pulls : List Pull) : Type 0 where
+  pub each : (j : ℕ) → j < length numbers → IsPull (bond (slice_index_or numbers j 0)) (pull_in pulls j)
 
 -- both moves of a bond, which are short
 pub record IsExact (way : Vec3) (weight other : ℤ) (b : Bond) (m : EndMoves) : Type 0 where

@@ -11,12 +11,12 @@ use Rattle.pbd_pair.specs.Bonds.{bond_of, bond_count}
 abbrev pub is_placed : ℤ → Particle → Bool
 is_placed limit p = is_within limit p.at && (nat_le 1 p.weight && nat_le p.weight 65535)
 
-abbrev pub is_drawn : ℤ → Bond → Bool
-is_drawn limit b = int_le (pos 0) b.rest && (int_le b.rest (pos 4 *ℤ limit) && (int_le (pos 0) b.k && int_le b.k (pos 256)))
+abbrev pub has_pull : ℤ → Bond → Bool
+has_pull limit b = int_le (pos 0) b.rest && (int_le b.rest (pos 4 *ℤ limit) && (int_le (pos 0) b.k && int_le b.k (pos 256)))
 
 -- a bond of two different ones of n particles
 abbrev pub is_bond : ℤ → ℕ → Bond → Bool
-is_bond limit n b = nat_lt b.a n && (nat_lt b.b n && (not (b.a == b.b) && is_drawn limit b))
+is_bond limit n b = nat_lt b.a n && (nat_lt b.b n && (not (b.a == b.b) && has_pull limit b))
 
 abbrev pub share_none : Bond → Bond → Bool
 share_none b c = not (b.a == c.a) && (not (b.a == c.b) && (not (b.b == c.a) && not (b.b == c.b)))

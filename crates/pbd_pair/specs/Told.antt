@@ -8,7 +8,7 @@ use Rattle.pbd_pair.specs.declared.chunk.Found.{Found}
 use Rattle.pbd_pair.specs.declared.near.NearMoves.{NearMoves}
 use Rattle.pbd_pair.specs.declared.near.Told.{Told}
 use Rattle.pbd_pair.specs.declared.near.Told.TheVariants.{Alike, Apart, InPart}
-use Rattle.pbd_pair.specs.declared.sums.Sums.{Sums}
+use Rattle.pbd_pair.specs.declared.sums.MoveSums.{MoveSums}
 use Rattle.pbd_pair.specs.Bonds.{bond_of}
 use Rattle.pbd_pair.specs.Moves.{moved_below}
 use Rattle.pbd_pair.specs.Laid.{number_in}
@@ -23,7 +23,7 @@ abbrev pub sum_where : (ℕ → Bool) → List Row → List Row → Found → Ve
 sum_where counts back forth found = moved_below (λ j. moved_if (counts j) (row_in back j) (row_in forth j)) (length found.chunk.numbers.now)
 
 -- two rows a bond tell the moves of a chunk's bonds, and these are their sums: of the bonds with a held end, and of the others
-pub record AreSummed (found : Found) (back forth : List Row) (sums : Sums) : Type 0 where
+pub record AreSummed (found : Found) (back forth : List Row) (sums : MoveSums) : Type 0 where
   pub moved : AreMoved (bond_of found.chunk.bonds) found.chunk.numbers.now (lying_in found) back forth
   pub pins : sums.pins ≡ sum_where (beside found) back forth found
   pub own : sums.own ≡ sum_where (λ j. not (beside found j)) back forth found
@@ -31,7 +31,7 @@ pub record AreSummed (found : Found) (back forth : List Row) (sums : Sums) : Typ
   pub own_size : Within (length found.chunk.numbers.now * 2 ^ 23) sums.own
 
 -- nothing moves together
-abbrev pub no_sums : Sums
+abbrev pub no_sums : MoveSums
 no_sums = record { pins = zero_vector; own = zero_vector }
 
 -- the moves of a chunk's bonds are told so

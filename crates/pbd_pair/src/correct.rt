@@ -3,7 +3,7 @@ ghost use Rattle.std.specs.Prelude.{◌≡◌, ◌≤◌, ◌^◌, pos, unsigned
 ghost use Rattle.pbd_num.specs.Vectors.{Within, plus, is_within};
 ghost use Rattle.pbd_world.specs.Particles.{effective_weight};
 ghost use Rattle.pbd_world.specs.Bonds.{end_of, is_slack, shift_of, correction_of};
-ghost use Rattle.pbd_pair.specs.Bonds.{IsBound, IsDrawn, IsEnd, IsSound, shift_by};
+ghost use Rattle.pbd_pair.specs.Bonds.{IsBound, HasPull, IsEnd, IsSound, shift_by};
 
 use pbd_num::{Vec3, distance, pair_move, within};
 use pbd_store::Store;
@@ -103,7 +103,7 @@ pub(crate) fn correct(limit: i64, p: End, q: End, bond: Bond) -> Correction
     requires limit { IsBound limit }
     requires p { IsEnd limit p }
     requires q { IsEnd limit q }
-    requires drawn { IsDrawn limit bond }
+    requires pulled { HasPull limit bond }
     ensures value { result ≡ correction_of limit p q bond }
     ensures sound { IsSound limit result }
 {

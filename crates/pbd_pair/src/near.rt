@@ -12,7 +12,7 @@ ghost use Rattle.pbd_pair.specs.Told.{AreToldBy};
 use crate::chunk::{Found, left_at};
 use crate::mend::try_rows;
 use crate::slow::{NO_MOVES, book_each, exact_each};
-use crate::sums::{Sums, sums_of};
+use crate::sums::{MoveSums, sums_of};
 use crate::uneven::{Portions, share};
 use crate::wide::{begins_long, least_of};
 use pbd_near::Near;
@@ -27,7 +27,7 @@ pub(crate) enum Told {
     /// One row tells both moves of a bond. No end is held, so that the moves come to nothing.
     Alike,
     /// A row for each end, and what they come to.
-    Apart(Sums),
+    Apart(MoveSums),
     /// Rows tell some of them.
     InPart,
 }
@@ -238,7 +238,7 @@ impl NearMoves {
             return Told::Alike;
         }
         let pins = self.mask(found);
-        Told::Apart(Sums {
+        Told::Apart(MoveSums {
             pins,
             own: Vec3::ZERO,
         })

@@ -9,7 +9,7 @@ ghost use Rattle.pbd_pair.specs.Chunks.{entries_in, kept_by, lying_in, unplaced,
 
 use crate::book::{HeldEnds, book};
 use crate::chunk::{Found, left_at};
-use crate::wide::{draw_of, weights_of};
+use crate::wide::{pull_of, weights_of};
 use pbd_num::{CHUNK, Row, Vec3, Weights, moves_along};
 use pbd_store::{EndMoves, Steps, Store};
 use pbd_world::{Bond, Left, Shift, Totals};
@@ -30,7 +30,7 @@ pub(crate) fn exact_moves(way: Vec3, bond: Bond, weights: Weights) -> EndMoves
     ensures first { Within (2 ^ 31) result.first }
     ensures second { Within (2 ^ 31) result.second }
 {
-    let (first, second) = moves_along(way, draw_of(bond), weights);
+    let (first, second) = moves_along(way, pull_of(bond), weights);
     EndMoves { first, second }
 }
 

@@ -10,7 +10,7 @@ use pbd_num::{CHUNK, Row, Vec3};
 
 /// What the ends of bonds move by together.
 #[derive(Clone, Copy)]
-pub(crate) struct Sums {
+pub(crate) struct MoveSums {
     /// Of the bonds with a held end.
     pub(crate) pins: Vec3,
     /// Of the others.
@@ -54,10 +54,10 @@ fn has_held(first: i32, second: i32) -> bool
     (first <= 0) | (second <= 0)
 }
 
-/// Sums what the ends of a chunk's bonds move by: `back` are the opposites of the moves of the first ends, and `forth` the
+/// MoveSums what the ends of a chunk's bonds move by: `back` are the opposites of the moves of the first ends, and `forth` the
 /// moves of the second ends. They come to at most 2^30, so that 32 bits hold them.
 #[inline(never)]
-pub(crate) fn sums_of(found: &Found<'_>, back: &[Row; CHUNK], forth: &[Row; CHUNK]) -> Sums
+pub(crate) fn sums_of(found: &Found<'_>, back: &[Row; CHUNK], forth: &[Row; CHUNK]) -> MoveSums
     requires few { length found.now.chunk.numbers.now ≤ 128 }
     requires first_long { length found.now.laid.first_weight.now ≡ length found.now.chunk.numbers.now }
     requires second_long { length found.now.laid.second_weight.now ≡ length found.now.chunk.numbers.now }
@@ -83,7 +83,7 @@ pub(crate) fn sums_of(found: &Found<'_>, back: &[Row; CHUNK], forth: &[Row; CHUN
         pins = with_rows_if(held, pins, back[j], forth[j]);
         own = with_rows_if(!held, own, back[j], forth[j]);
     }
-    Sums {
+    MoveSums {
         pins: pins.vector(),
         own: own.vector(),
     }

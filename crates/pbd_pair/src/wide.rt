@@ -3,10 +3,10 @@ ghost use Rattle.std.specs.Prelude.{◌≡◌, ℕ, ◌/◌, ◌<◌, ◌≤◌,
 ghost use Rattle.pbd_pair.specs.Prelude.{opposite, vector_of, Within};
 ghost use Rattle.pbd_pair.specs.Bonds.{bond_of};
 ghost use Rattle.pbd_pair.specs.Laid.{number_in, IsFirm};
-ghost use Rattle.pbd_pair.specs.Chunks.{draw_by, lying_in, AreDrawn, AreInColumns, AreKnown, AreRightIf, AreSized, AreWeights, HoldsFactor, HoldsRest, IsDraw, IsMild, IsNear};
+ghost use Rattle.pbd_pair.specs.Chunks.{pull_by, lying_in, ArePulled, AreInColumns, AreKnown, AreRightIf, AreSized, AreWeights, HoldsFactor, HoldsRest, IsPull, IsMild, IsNear};
 
 use crate::chunk::{Chunk, Found};
-use pbd_num::{CHUNK, Draw, Row, Vec3, Weights, try_moves};
+use pbd_num::{CHUNK, Pull, Row, Vec3, Weights, try_moves};
 use pbd_world::Bond;
 
 // The length from which on a bond does nothing. No length is 2^31.
@@ -17,12 +17,12 @@ fn reach(contact: bool, rest: i64) -> i64
     if contact { rest } else { 2_147_483_648 }
 }
 
-/// What a bond draws its ends to.
+/// What a bond pulls its ends to.
 #[inline(always)]
-pub(crate) fn draw_of(bond: Bond) -> Draw
-    ensures { result ≡ draw_by bond }
+pub(crate) fn pull_of(bond: Bond) -> Pull
+    ensures { result ≡ pull_by bond }
 {
-    Draw {
+    Pull {
         rest: bond.rest,
         k: bond.k,
         reach: reach(bond.contact, bond.rest),
@@ -100,37 +100,37 @@ pub(crate) fn free_move(first: Vec3, second: Vec3, weight: i64) -> Vec3
 
 // The move of two ends as a row, whose flag is 0 only where it is exact.
 #[inline(always)]
-fn wide_row(way: Vec3, draw: Draw, weights: Weights) -> Row
+fn wide_row(way: Vec3, pull: Pull, weights: Weights) -> Row
     requires way { Within (2 ^ 30) way }
-    requires draw { IsMild draw }
+    requires pull { IsMild pull }
     requires weights { AreWeights weights }
-    ensures near { (b : Bond) → draw ≡ draw_by b → result.flag ≡ pos 0 → IsNear way weights.first weights.second b result }
+    ensures near { (b : Bond) → pull ≡ pull_by b → result.flag ≡ pos 0 → IsNear way weights.first weights.second b result }
     ensures flag { unsigned_abs result.flag ≤ 1 }
 {
-    let tried = try_moves(way, draw, weights);
+    let tried = try_moves(way, pull, weights);
     let axes = free_move(tried.first, tried.second, weights.second);
     row_of(axes, tried.exact)
 }
 
-// What the bonds of a chunk draw their ends to.
+// What the bonds of a chunk pull their ends to.
 #[inline(never)]
-fn put_draws(chunk: &Chunk<'_>, draws: &mut [Draw; CHUNK])
+fn put_pulls(chunk: &Chunk<'_>, pulls: &mut [Pull; CHUNK])
     requires { AreKnown chunk.now.bonds chunk.now.numbers.now }
-    ensures { AreDrawn (bond_of chunk.now.bonds) chunk.now.numbers.now draws.new }
+    ensures { ArePulled (bond_of chunk.now.bonds) chunk.now.numbers.now pulls.new }
 {
     for (j, n) in chunk.numbers.iter().enumerate() {
-        draws[j] = draw_of(chunk.bonds.get(*n));
+        pulls[j] = pull_of(chunk.bonds.get(*n));
     }
 }
 
 // The moves of the bonds. It has no branch, and reads through slices of its own, so that it is a loop over lanes.
 #[inline(never)]
-fn put_rows(found: &Found<'_>, draws: &[Draw; CHUNK], rows: &mut [Row; CHUNK]) -> bool
+fn put_rows(found: &Found<'_>, pulls: &[Pull; CHUNK], rows: &mut [Row; CHUNK]) -> bool
     requires known { AreKnown found.now.chunk.bonds found.now.chunk.numbers.now }
     requires first_long { length found.now.laid.first_weight.now ≡ length found.now.chunk.numbers.now }
     requires second_long { length found.now.laid.second_weight.now ≡ length found.now.chunk.numbers.now }
     requires sized { AreSized (length found.now.chunk.numbers.now) (lying_in found.now) }
-    requires drawn { AreDrawn (bond_of found.now.chunk.bonds) found.now.chunk.numbers.now draws.now }
+    requires pulled { ArePulled (bond_of found.now.chunk.bonds) found.now.chunk.numbers.now pulls.now }
     ensures { AreRightIf result found.now rows.new }
 {
     let laid = found.laid;
@@ -138,7 +138,7 @@ fn put_rows(found: &Found<'_>, draws: &[Draw; CHUNK], rows: &mut [Row; CHUNK]) -
     let mut all = true;
     for j in 0..found.chunk.numbers.len() {
         let weights = weights_of(laid.first_weight[j], laid.second_weight[j]);
-        let row = wide_row(ways[j].vector(), draws[j], weights);
+        let row = wide_row(ways[j].vector(), pulls[j], weights);
         all = all & (row.flag == 0);
         rows[j] = row;
     }
@@ -157,17 +157,17 @@ fn stiffness_by(factor: i64, weights: Weights) -> i64
     if both { factor } else { factor / 2 }
 }
 
-// What a short bond draws its ends to, by its columns.
+// What a short bond pulls its ends to, by its columns.
 #[inline(always)]
-fn short_draw(rest: i32, factor: i32, weights: Weights, contact: bool) -> Draw
+fn short_pull(rest: i32, factor: i32, weights: Weights, contact: bool) -> Pull
     requires first { pos 0 ≤ℤ weights.first }
     requires second { pos 0 ≤ℤ weights.second }
     requires factor { pos 0 ≤ℤ factor }
     ensures { (b : Bond) → IsFirm b → HoldsRest b rest → HoldsFactor b weights.first weights.second factor → b.contact ≡ contact
-        → IsDraw b result }
+        → IsPull b result }
 {
     let rest = i64::from(rest);
-    Draw {
+    Pull {
         rest,
         k: stiffness_by(i64::from(factor), weights),
         reach: reach(contact, rest),
@@ -188,8 +188,8 @@ fn put_short_rows(found: &Found<'_>, rows: &mut [Row; CHUNK]) -> bool
     let mut all = true;
     for j in 0..found.chunk.numbers.len() {
         let weights = weights_of(laid.first_weight[j], laid.second_weight[j]);
-        let draw = short_draw(laid.rest[j], laid.factor[j], weights, contact);
-        let row = wide_row(ways[j].vector(), draw, weights);
+        let pull = short_pull(laid.rest[j], laid.factor[j], weights, contact);
+        let row = wide_row(ways[j].vector(), pull, weights);
         all = all & (row.flag == 0);
         rows[j] = row;
     }
@@ -198,19 +198,19 @@ fn put_short_rows(found: &Found<'_>, rows: &mut [Row; CHUNK]) -> bool
 
 // The moves of any bonds, as `put_rows` has them.
 #[inline(never)]
-fn put_drawn_rows(found: &Found<'_>, rows: &mut [Row; CHUNK]) -> bool
+fn put_pulled_rows(found: &Found<'_>, rows: &mut [Row; CHUNK]) -> bool
     requires known { AreKnown found.now.chunk.bonds found.now.chunk.numbers.now }
     requires columns { AreInColumns found.now }
     ensures { AreRightIf result found.now rows.new }
 {
-    let none = Draw {
+    let none = Pull {
         rest: 0,
         k: 0,
         reach: 0,
     };
-    let mut draws = [none; CHUNK];
-    put_draws(&found.chunk, &mut draws);
-    put_rows(found, &draws, rows)
+    let mut pulls = [none; CHUNK];
+    put_pulls(&found.chunk, &mut pulls);
+    put_rows(found, &pulls, rows)
 }
 
 /// The least of some factors or stiffnesses, or 512, which none is above.
@@ -237,7 +237,7 @@ pub(crate) fn try_wide(found: &Found<'_>, rows: &mut [Row; CHUNK]) -> bool
     if short {
         return put_short_rows(found, rows);
     }
-    put_drawn_rows(found, rows)
+    put_pulled_rows(found, rows)
 }
 
 /// Whether the first of a chunk's bonds is longer than the loops of 32-bit numbers go, so that they needn't be tried.

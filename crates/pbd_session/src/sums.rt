@@ -13,7 +13,7 @@ use std::sync::ledger::Ledger;
 
 /// The sums of the places and of the places before over some particles.
 #[derive(Clone, Copy)]
-pub struct Sums {
+pub struct PlaceSums {
     at: Vec3,
     before: Vec3,
 }
@@ -22,7 +22,7 @@ pub struct Sums {
 fn summed<const L: usize, P: Projector<L> + Drop, G: Ledger>(
     solver: &Solver<L, P>,
     steps: &mut Steps<G>,
-) -> Sums
+) -> PlaceSums
     requires lanes_high { L ≤ 16 }
     ensures at { result.at ≡ sum_over (λ p. p.at) solver.now.world.particles }
     ensures before { result.before ≡ sum_over (λ p. p.before) solver.now.world.particles }
@@ -35,7 +35,7 @@ fn summed<const L: usize, P: Projector<L> + Drop, G: Ledger>(
         at = at.plus(particle.at);
         before = before.plus(particle.before);
     }
-    Sums { at, before }
+    PlaceSums { at, before }
 }
 
 fn axes(v: Vec3) -> [i64; 3]

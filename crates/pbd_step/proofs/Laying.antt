@@ -45,7 +45,7 @@ layable {limit} {n} {bonds} {pairs} live {numbers} {weights} l fit is many =
       known = λ j p. omega (arith, order_within pairs live j p, fit.count);
       firm = λ j p.
           let k = get_or (order pairs live) j 0 in
-          let d = (fit.bond k (order_within pairs live j p)).drawn in
+          let d = (fit.bond k (order_within pairs live j p)).pulled in
           record {
             rest_low = d.rest_low;
             rest_high = rest_fits limit (bond_of bonds k) (limit_bound limit l) d;

@@ -57,7 +57,7 @@ link_is_bond limit n l valid =
       first = ltb-true l.a n p1.0;
       second = ltb-true l.b n p1.1;
       different = differ l.a l.b p2.1;
-      drawn = record { rest_low = rest.0; rest_high = rest.1; k_low = omega (arith, ints); k_high = omega (arith, ints, stiff) };
+      pulled = record { rest_low = rest.0; rest_high = rest.1; k_low = omega (arith, ints); k_high = omega (arith, ints, stiff) };
     }
 
 pub link_parts : (limit : ℤ) (n : ℕ) (links : List Link) → IsTrue (are_valid_links limit n links)
@@ -102,7 +102,7 @@ contact_bonds limit thickness n pairs bonds count is l t range =
         first = (range k lt).0;
         second = (range k lt).1;
         different = (range k lt).2;
-        drawn = record {
+        pulled = record {
           rest_low = thin.0;
           rest_high = thickness_fits limit thickness l thin.1;
           k_low = omega (arith, ints);

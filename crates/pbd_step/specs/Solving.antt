@@ -45,7 +45,7 @@ pub record IsTakenOver {l : ℕ} (old new other : State l) : Type 0 where
   pub weights : new.weights.items ≡ other.weights.items
 
 -- a world that is kept is sound, with the weights of its particles, and its links are coloured
-pub record IsSaved {l : ℕ} (setting : Setting) (state : State l) (colours : Coloured) : Type 0 where
+pub record IsSnapshot {l : ℕ} (setting : Setting) (state : State l) (colours : Coloured) : Type 0 where
   pub sound : IsSound (world_of setting state)
   pub weights : AreWeights state
   pub links : HasLinks (length state.store.particles) state.links.items colours

@@ -11,12 +11,12 @@ mod open;
 mod pass;
 mod predict;
 mod rub_and_tear;
-mod saved;
+mod snapshot;
 mod solver;
 mod state;
 mod step;
 mod views;
 
-pub use saved::Saved;
+pub use snapshot::Snapshot;
 pub use solver::Solver;
 pub use views::Shown;

@@ -242,7 +242,7 @@ fn with_room(
 }
 
 /// Room for what a step works with.
-fn open_tools(alloc: Global, particles: u32, links: &[Link]) -> Result<Scratch, AllocError>
+fn open_scratch(alloc: Global, particles: u32, links: &[Link]) -> Result<Scratch, AllocError>
     requires particles { particles ≤ 65536 }
     requires links { length links.now ≤ 524288 }
     ensures space { IfOk result (HaveSpace particles (length links.now)) }
@@ -267,7 +267,7 @@ fn open_coloured(alloc: Global, parts: &Parts) -> Result<(Scratch, Colouring), A
 {
     let colours = open_colours(alloc, parts)?;
     let particles = parts.particles.len() as u32;
-    match open_tools(alloc, particles, parts.links.as_slice()) {
+    match open_scratch(alloc, particles, parts.links.as_slice()) {
         Ok(scratch) => Ok((scratch, colours)),
         Err(AllocError) => {
             drop(colours);

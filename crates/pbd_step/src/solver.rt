@@ -9,7 +9,7 @@ ghost use Rattle.pbd_world.specs.Particles.{particle_at};
 ghost use Rattle.pbd_world.specs.Work.{steps_work};
 ghost use Rattle.pbd_world.specs.World.{opened, live_count, IsSound, AreOfOneScene};
 ghost use Rattle.pbd_step.specs.States.{world_of};
-ghost use Rattle.pbd_step.specs.Solving.{bonds_over, IsSaved};
+ghost use Rattle.pbd_step.specs.Solving.{bonds_over, IsSnapshot};
 ghost use Rattle.pbd_step.specs.Obeying.{Commanded};
 
 use crate::again::restore_coloured;
@@ -191,7 +191,7 @@ impl<const L: usize, P: Projector<L> + Drop> Solver<L, P> {
     pub(crate) fn take_world(&mut self, setting: &Setting, state: &State<L>, colours: &Colouring)
         requires lanes_low { 0 < L }
         requires lanes_high { L ≤ 16 }
-        requires saved { IsSaved setting.now state.now colours.now }
+        requires saved { IsSnapshot setting.now state.now colours.now }
         requires one_scene { AreOfOneScene self.old.world (world_of setting.now state.now) }
         ensures world { self.new.world ≡ world_of setting.now state.now }
         ensures projector { self.new.projector ≡ self.old.projector }

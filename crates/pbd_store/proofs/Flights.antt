@@ -11,7 +11,7 @@ use Rattle.pbd_lanes.specs.Lane.{is_set}
 use Rattle.pbd_store.specs.declared.rows.High.{High}
 use Rattle.pbd_store.specs.declared.rows.Place.{Place}
 use Rattle.pbd_store.specs.declared.flight.Forces.{Forces}
-use Rattle.pbd_store.specs.declared.fly.Sums.{Sums}
+use Rattle.pbd_store.specs.declared.fly.FlightSums.{FlightSums}
 use Rattle.pbd_store.specs.InRows.{row_of, place_in_row, row_at, place_in, no_high, high_at, place_by, places_by, AreFlat, AreHalves}
 use Rattle.pbd_store.specs.Listed.{place_at}
 use Rattle.pbd_store.specs.Reaching.{Covers}
@@ -58,7 +58,7 @@ sum_size : (n : ℕ) (a b : ℤ) {r : ℤ} → unsigned_abs a ≤ n * 2 ^ 30 →
     → unsigned_abs r ≤ (n + 1) * 2 ^ 30
 sum_size n a b h k e = subst (λ (z : ℤ). unsigned_abs z ≤ (n + 1) * 2 ^ 30) (sym e) (omega (arith, size-add a b, h, k))
 
-pub summed_none : (forces : Forces) (flies : ℕ → Bool) (at before to : ℕ → Vec3) (sums : Sums) → sums.free ≡ pos 0 → sums.lost ≡ zero_vector
+pub summed_none : (forces : Forces) (flies : ℕ → Bool) (at before to : ℕ → Vec3) (sums : FlightSums) → sums.free ≡ pos 0 → sums.lost ≡ zero_vector
     → AreSummed forces 0 flies at before to sums
 summed_none forces flies at before to sums free lost = record {
   free = free ∙ sum_none _;
@@ -72,7 +72,7 @@ summed_none forces flies at before to sums free lost = record {
   reach = λ j lt. absurd (omega arith);
 }
 
-module _ (forces : Forces) (n : ℕ) (flies : ℕ → Bool) (at before to to' : ℕ → Vec3) (sums next : Sums)
+module _ (forces : Forces) (n : ℕ) (flies : ℕ → Bool) (at before to to' : ℕ → Vec3) (sums next : FlightSums)
     (h : AreSummed forces n flies at before to sums)
     (taken : Vec3) (free : next.free ≡ sums.free +ℤ one_if (flies n)) (lost : next.lost ≡ plus sums.lost taken)
     (is : taken ≡ losses_at forces.damping (flies n) (at n) (before n)) (few : Within (2 ^ 30) taken)
@@ -102,7 +102,7 @@ module _ (forces : Forces) (n : ℕ) (flies : ℕ → Bool) (at before to to' : 
   }
 
 -- the same of other names
-pub summed_as : {forces : Forces} {n m : ℕ} {flies flies' : ℕ → Bool} {at at' before before' to to' : ℕ → Vec3} {sums : Sums} → n ≡ m
+pub summed_as : {forces : Forces} {n m : ℕ} {flies flies' : ℕ → Bool} {at at' before before' to to' : ℕ → Vec3} {sums : FlightSums} → n ≡ m
     → ((j : ℕ) → j < n → flies j ≡ flies' j) → ((j : ℕ) → j < n → at j ≡ at' j) → ((j : ℕ) → j < n → before j ≡ before' j)
     → ((j : ℕ) → j < n → to j ≡ to' j) → AreSummed forces n flies at before to sums → AreSummed forces m flies' at' before' to' sums
 summed_as {forces} {n} {m} {flies} {flies'} {at} {at'} {before} {before'} {to} {to'} {sums} e ef ea eb et h =
@@ -261,7 +261,7 @@ module _ {forces : Forces} {held : List Bool} {at : List Place} {high : List Hig
         (λ j q. ap (λ (r : Place). r.spare) (h.rows.still_before j q) ∙ h.halves_before.flat.each j);
   }
 
-  pub places_summed : (sums : Sums) → AreSummed forces (length held) (are_free held) (place_in at) (place_in before) (halves_at at' high') sums
+  pub places_summed : (sums : FlightSums) → AreSummed forces (length held) (are_free held) (place_in at) (place_in before) (halves_at at' high') sums
       → AreSummed forces (length held) (are_free held) (place_at (places_by at high)) (place_at (places_by before high_before))
       (place_at (places_by at' high')) sums
   places_summed sums s = summed_as refl (λ j lt. refl) at_seen before_seen (λ j lt. sym (seen_by at' high' long' j)) s

@@ -9,7 +9,7 @@ use Rattle.pbd_lanes.specs.Lane.{is_set}
 use Rattle.pbd_world.specs.declared.parts.Particle.{Particle}
 use Rattle.pbd_world.specs.Particles.{particle_at, no_particle, is_free}
 use Rattle.pbd_store.specs.declared.flight.Forces.{Forces}
-use Rattle.pbd_store.specs.declared.fly.Sums.{Sums}
+use Rattle.pbd_store.specs.declared.fly.FlightSums.{FlightSums}
 use Rattle.pbd_store.specs.Listed.{place_at, row, listed, ArePadded}
 use Rattle.pbd_store.specs.Flying.{places_at, after_flight, stays_in, WrittenFirst, AreSummed, IsOutside, LeavesFirst, are_free}
 use Rattle.pbd_store.proofs.Listing.{count_is, row_is, place_is, places_padded}
@@ -48,7 +48,7 @@ module _ {n spare : ℕ} {at before : List Vec3} {weight : List ℕ} {held : Lis
   free_is : (j : ℕ) → j < n → not (is_set flags j) ≡ is_free (particle_at ps j)
   free_is j lt = ap (λ (b : Bool). not b) (same j lt) ∙ ap (λ (p : Particle). is_free p) (sym (row_is h e j))
 
-  pub flown_summed : (sums : Sums) → AreSummed forces (length flags) (are_free flags) (place_at at) (place_at before) (place_at at') sums
+  pub flown_summed : (sums : FlightSums) → AreSummed forces (length flags) (are_free flags) (place_at at) (place_at before) (place_at at') sums
       → AreSummed forces (length ps) (λ i. is_free (particle_at ps i)) (λ i. (particle_at ps i).at) (λ i. (particle_at ps i).before)
       (λ i. (after_flight forces (particle_at ps i)).at) sums
   flown_summed sums s = summed_as (long ∙ count_is h e) (λ j lt. free_is j (omega (arith, long)))

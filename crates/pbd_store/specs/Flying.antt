@@ -13,7 +13,7 @@ use Rattle.pbd_store.specs.declared.rows.High.{High}
 use Rattle.pbd_store.specs.declared.rows.Place.{Place}
 use Rattle.pbd_store.specs.declared.flight.Forces.{Forces}
 use Rattle.pbd_store.specs.declared.flight.Flown.{Flown}
-use Rattle.pbd_store.specs.declared.fly.Sums.{Sums}
+use Rattle.pbd_store.specs.declared.fly.FlightSums.{FlightSums}
 use Rattle.pbd_store.specs.Reaching.{Covers}
 
 -- what acts on particles is as small as in worlds
@@ -124,7 +124,7 @@ pub record WrittenRows (forces : Forces) (held : List Bool) (n : ℕ) (at : List
   pub still_before : (j : ℕ) → n ≤ j → row_at before' j ≡ row_at before j
 
 -- the first n of some particles, of which `flies` tells who is free, have flown between these places, and are summed up
-pub record AreSummed (forces : Forces) (n : ℕ) (flies : ℕ → Bool) (at before to : ℕ → Vec3) (sums : Sums) : Type 0 where
+pub record AreSummed (forces : Forces) (n : ℕ) (flies : ℕ → Bool) (at before to : ℕ → Vec3) (sums : FlightSums) : Type 0 where
   pub free : sums.free ≡ sum_below (λ j. one_if (flies j)) n
   pub lost : sums.lost ≡ sums_below (λ j. losses_at forces.damping (flies j) (at j) (before j)) n
   pub few : unsigned_abs sums.free ≤ n

@@ -22,7 +22,7 @@ use std::sync::ledger::Ledger;
 
 /// What is summed up of rows that have flown: how many fly, what damping takes of them, and how far they reach.
 #[derive(Clone, Copy)]
-pub(crate) struct Sums {
+pub(crate) struct FlightSums {
     free: i64,
     lost: Vec3,
     reach: Reach,
@@ -37,9 +37,9 @@ fn counted(n: i64, wanted: bool) -> i64
     n + i64::from(wanted)
 }
 
-impl Sums {
+impl FlightSums {
     // Those of no row.
-    const NONE: Sums = Sums {
+    const NONE: FlightSums = FlightSums {
         free: 0,
         lost: Vec3::ZERO,
         reach: Reach::NONE,
@@ -47,7 +47,7 @@ impl Sums {
 
     // The same with one more row.
     #[inline(always)]
-    fn with(self, flies: bool, row: RowFlown, limit: i64) -> Sums
+    fn with(self, flies: bool, row: RowFlown, limit: i64) -> FlightSums
         requires free { unsigned_abs self.free ≤ 2 ^ 16 }
         requires lost { Within (2 ^ 46) self.lost }
         requires row_lost { Within (2 ^ 30) row.lost }
@@ -58,7 +58,7 @@ impl Sums {
         ensures kept { (v : Vec3) → Covers self.reach limit v → Covers result.reach limit v }
         ensures own { Covers result.reach limit row.to }
     {
-        Sums {
+        FlightSums {
             free: counted(self.free, flies),
             lost: self.lost.plus(row.lost),
             reach: self.reach.with_far(row.to, limit),
@@ -75,7 +75,7 @@ struct Flight<'a> {
 
 // Lets the particles that aren't held fly, each in its row.
 #[inline(always)]
-fn fly_rows(flight: Flight<'_>, at: &mut [Place], high: &mut [High], before: &mut [Place]) -> Sums
+fn fly_rows(flight: Flight<'_>, at: &mut [Place], high: &mut [High], before: &mut [Place]) -> FlightSums
     requires forces { IsSmall flight.forces }
     requires few { length flight.held.now ≤ 65536 }
     requires at_long { length flight.held.now ≤ length at.old }
@@ -101,11 +101,11 @@ fn fly_rows(flight: Flight<'_>, at: &mut [Place], high: &mut [High], before: &mu
         },
         limit: flight.forces.limit,
     };
-    let Sums {
+    let FlightSums {
         mut free,
         mut lost,
         mut reach,
-    } = Sums::NONE;
+    } = FlightSums::NONE;
     for i in 0..count {
         let old = at[i];
         let flies = !held[i];
@@ -114,18 +114,18 @@ fn fly_rows(flight: Flight<'_>, at: &mut [Place], high: &mut [High], before: &mu
         at[i] = to.low;
         high[i] = to.high;
         before[i] = old;
-        let sums = Sums { free, lost, reach }.with(flies, row, forces.limit);
+        let sums = FlightSums { free, lost, reach }.with(flies, row, forces.limit);
         free = sums.free;
         lost = sums.lost;
         reach = sums.reach;
     }
-    Sums { free, lost, reach }
+    FlightSums { free, lost, reach }
 }
 
 impl PlaceRows {
     /// Lets the particles that aren't held fly, of as many places as there are flags. Their places become those before.
     #[inline(never)]
-    pub(crate) fn fly(&mut self, before: &mut PlaceRows, held: &[bool], forces: Forces) -> Sums
+    pub(crate) fn fly(&mut self, before: &mut PlaceRows, held: &[bool], forces: Forces) -> FlightSums
         requires forces { IsSmall forces }
         requires few { length held.now ≤ 65536 }
         requires at_long { length held.now ≤ length self.old }
@@ -149,7 +149,7 @@ impl PlaceRows {
 
 impl<const L: usize> Columns<L> {
     /// Lets the free particles fly.
-    pub(crate) fn fly(&mut self, forces: Forces) -> Sums
+    pub(crate) fn fly(&mut self, forces: Forces) -> FlightSums
         requires lanes { L ≤ 16 }
         requires forces { IsSmall forces }
         requires at { (i : ℕ) → i < length self.old → Within (2 ^ 29) (particle_at self.old i).at }

@@ -69,7 +69,7 @@ returns-then-len-eq0-clause-moves c =
     let a = total.first_fits in
     let b = total.second_fits in
     let all = total.sum_fits in
-    sym (along-none c.args.way c.args.draw.rest c.args.draw.k w.first w.second
+    sym (along-none c.args.way c.args.pull.rest c.args.pull.k w.first w.second
     (elim c.then-len-eq0.either [
       | inl e ↦ inl (omega (arith, ap unsigned_abs c.requires.length, size_none c.args.len c.ranges.len e))
       | inr p ↦ inr (omega (arith, total.sum, size_none (w.first +ℤ w.second) all (simp to_z-of_z at p.1)))
@@ -82,10 +82,10 @@ returns-clause-moves c =
     let a = total.first_fits in
     let b = total.second_fits in
     let all = total.sum_fits in
-    let k = fits c.args.draw.k (omega (arith, c.requires.stiffness)) in
-    let rest = fits c.args.draw.rest (omega (arith, size_at_most c.args.draw.rest (2 ^ 31) c.requires.rest_low c.requires.rest_high)) in
+    let k = fits c.args.pull.k (omega (arith, c.requires.stiffness)) in
+    let rest = fits c.args.pull.rest (omega (arith, size_at_most c.args.pull.rest (2 ^ 31) c.requires.rest_low c.requires.rest_high)) in
     along-by_steps c.args.way c.correction-s.result c.share-first.result c.share-second.result c.opposite.result
-    c.args.draw.rest c.args.draw.k w.first w.second (unsigned_abs (w.first +ℤ w.second))
+    c.args.pull.rest c.args.pull.k w.first w.second (unsigned_abs (w.first +ℤ w.second))
     (simp to_z-of_z at c.correction-s.ensures.value) (simp to_z-of_z at c.share-first.ensures.value)
     (simp to_z-of_z at c.share-second.ensures.value)
     c.opposite.ensures.value total.sum
@@ -98,19 +98,19 @@ returns-clause-first_size c = c.opposite.ensures.size (2 ^ 31) c.share-first.ens
 pub share-first-requires : goal.share-first-requires
 share-first-requires c =
     let r = c.requires in
-    asked c.correction-s.result c.args.draw.k c.args.weights.first _ _ (total_of _ _ r.first_low r.first_high r.second_low r.second_high)
+    asked c.correction-s.result c.args.pull.k c.args.weights.first _ _ (total_of _ _ r.first_low r.first_high r.second_low r.second_high)
     c.correction-s.ensures.size r.stiffness r.first_low (omega arith) c.if-total-eq0.false
 
 pub share-second-requires : goal.share-second-requires
 share-second-requires c =
     let r = c.requires in
-    asked c.correction-s.result c.args.draw.k c.args.weights.second _ _ (total_of _ _ r.first_low r.first_high r.second_low r.second_high)
+    asked c.correction-s.result c.args.pull.k c.args.weights.second _ _ (total_of _ _ r.first_low r.first_high r.second_low r.second_high)
     c.correction-s.ensures.size r.stiffness r.second_low (omega arith) c.if-total-eq0.false
 
 pub correction-s-requires : goal.correction-s-requires
 correction-s-requires c =
     let len = c.ranges.len in
-    let rest = fits c.args.draw.rest (omega (arith, size_at_most c.args.draw.rest (2 ^ 31) c.requires.rest_low c.requires.rest_high)) in
+    let rest = fits c.args.pull.rest (omega (arith, size_at_most c.args.pull.rest (2 ^ 31) c.requires.rest_low c.requires.rest_high)) in
     record {
       size = c.requires.way;
       length = simp to_z-of_z c.requires.length;

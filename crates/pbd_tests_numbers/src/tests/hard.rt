@@ -1,6 +1,6 @@
 //! The moves of pairs, among them hard ones: short lengths, quotients at halves, all weights.
 use super::num::exact_moves;
-use pbd_num::{Draw, RANGE, TriedMoves, Vec3, Weights, try_moves};
+use pbd_num::{Pull, RANGE, TriedMoves, Vec3, Weights, try_moves};
 use pbd_tests_rows::{WrongRows, all_hold, is_within, place, wrong_row};
 
 /// Two places, a length, a stiffness, two effective weights, and how both places move.
@@ -113,7 +113,7 @@ fn guessed(pair: &Pair, reach: i64) -> Option<TriedMoves> {
     if k > 256 {
         return None;
     }
-    let draw = Draw {
+    let pull = Pull {
         rest: rest as i64,
         k: k as i64,
         reach,
@@ -122,7 +122,7 @@ fn guessed(pair: &Pair, reach: i64) -> Option<TriedMoves> {
         first: weights.0 as i64,
         second: weights.1 as i64,
     };
-    Some(try_moves(way, draw, weights))
+    Some(try_moves(way, pull, weights))
 }
 
 /// Whether a guess is said not to be exact, or is these moves.

@@ -5,7 +5,7 @@ ghost use Rattle.pbd_world.specs.World.{AreOfOneScene};
 use super::hostile::{DRAWING, NAME, Tested};
 use pbd_pair::Scalar;
 use pbd_state::{checksum, digest};
-use pbd_step::{Saved, Shown, Solver};
+use pbd_step::{Snapshot, Shown, Solver};
 use pbd_store::Steps;
 use pbd_tests_rows::{WrongRows, all_hold, wrong_row};
 use pbd_tests_scenes::scene;
@@ -31,7 +31,7 @@ const HOLD: &str =
 /// Whether that holds, part by part.
 fn parts_that_hold<G: Ledger>(
     solver: &mut Tested,
-    saved: &mut Saved<4>,
+    saved: &mut Snapshot<4>,
     steps: &mut Steps<G>,
 ) -> [bool; 5]
     requires { AreOfOneScene saved.old solver.old.world }
@@ -59,7 +59,7 @@ fn told<G: Ledger>(alloc: Global, blank: Blank, scene: &Scene) -> Option<[bool; 
     requires some { 0 < blank.parts }
 {
     let mut steps: Steps<G> = Steps::open(blank);
-    let told = match Saved::open(alloc, scene) {
+    let told = match Snapshot::open(alloc, scene) {
         Ok(mut saved) => {
             let told = match Solver::open(alloc, scene, Scalar::<4>::new()) {
                 Ok(mut solver) => {

@@ -15,22 +15,22 @@ pub loop-j-preserved : goal.loop-j-preserved
 loop-j-preserved c =
     let j = c.loop-j.j in
     let r = c.requires in
-    let d = c.draw_of-draw.ensures in
-    let draw = c.draw_of-draw.result in
+    let d = c.pull_of-pull.ensures in
+    let pull = c.pull_of-pull.result in
     let rest_size = size_at_most (get_or c.args.rest.now j (pos 0)) 16383 (r.rest_low j (omega arith)) (r.rest_high j (omega arith)) in
     let factor_size = size_le (get_or c.args.factor.now j (pos 0)) 512 (r.factor_high j (omega arith))
     (omega (arith, ints, r.factor_low j (omega arith))) in
     let rest = fits_signed_from_abs w32 (get_or c.args.rest.now j (pos 0)) (omega (arith, rest_size)) in
     let given = fits_signed_from_abs w32 (get_or c.args.factor.now j (pos 0)) (omega (arith, factor_size)) in
     let slack : FitsSigned w32 c.slack_of-slack.result = record { sfits = c.slack_of-slack.type_inv } in
-    let error = fits_signed_from_abs w32 draw.error (omega (arith, d.error_size)) in
+    let error = fits_signed_from_abs w32 pull.error (omega (arith, d.error_size)) in
     let flag = fits_signed_from_abs w32 c.row-row.result.flag (omega (arith, c.row-row.ensures.flag)) in
     let error_is = simp to_z-of_z at d.error in
     let none = simp to_z-of_z at d.slack in
-    let some = simp to_z-of_z at d.drawn in
+    let some = simp to_z-of_z at d.pulled in
     let asked = simp to_z-of_z at d.asked in
     found_more j _ _ _ _ _ _ c.loop-j.moves c.row-row.result (omega arith)
-    (λ f way taken. pulled (vector_of way) draw.length draw.error draw.factor _ _ c.slack_of-slack.result c.args.contact _
+    (λ f way taken. pulled (vector_of way) pull.length pull.error pull.factor _ _ c.slack_of-slack.result c.args.contact _
     c.slack_of-slack.ensures error_is d.error_size none some (asked (c.row-row.ensures.asked f))
     (c.row-row.ensures.value f way (subst (λ (t : Taken). IsTaken way t) (sym c.taken.ensures) taken)))
     (no_flag c.row-row.result.flag c.row-row.ensures.flag)

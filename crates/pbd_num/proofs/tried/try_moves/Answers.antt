@@ -59,14 +59,14 @@ length_is c right =
 
 -- the parts
 parted : (c : goal.After-struct_told-12-1) → Right c
-    → guessed c ≡ parts_of c.args.way c.try_length-tried.result.length c.args.draw.rest c.factor-factor.result
+    → guessed c ≡ parts_of c.args.way c.try_length-tried.result.length c.args.pull.rest c.factor-factor.result
 parted c right =
     let l_fits = length_fits c in
     let axes = parts_fit c in
     let x_fits = axes.x in
     let y_fits = axes.y in
     let z_fits = axes.z in
-    let rest_fits = fits c.args.draw.rest (omega (arith, size_at_most c.args.draw.rest (2 ^ 31) c.requires.rest_low c.requires.rest_high))
+    let rest_fits = fits c.args.pull.rest (omega (arith, size_at_most c.args.pull.rest (2 ^ 31) c.requires.rest_low c.requires.rest_high))
     in
     let f_fits = fits_signed_from_abs w32 c.factor-factor.result (omega (arith, c.factor-factor.ensures.size)) in
     let way_x = fits_signed_from_abs w32 c.short_way-way.result.x
@@ -115,8 +115,8 @@ moves_are c =
     }
 
 -- what the factor is
-even_factor : (c : goal.After-struct_told-12-1) → Right c → c.try_length-tried.result.length <ℤ c.args.draw.reach
-    → Even c.args.weights.first c.args.weights.second c.args.draw.k c.factor-factor.result
+even_factor : (c : goal.After-struct_told-12-1) → Right c → c.try_length-tried.result.length <ℤ c.args.pull.reach
+    → Even c.args.weights.first c.args.weights.second c.args.pull.k c.factor-factor.result
 even_factor c right near =
     let l_fits = length_fits c in
     let first = first_fits c in
@@ -137,13 +137,13 @@ even_factor c right near =
       by_second = (λ e. by_second e ∙ ap (λ k. pos 2 *ℤ k) k_is);
     }
 
-no_parts : (c : goal.After-struct_told-12-1) → Right c → c.args.draw.reach ≤ℤ c.try_length-tried.result.length → guessed c ≡ zero_vector
+no_parts : (c : goal.After-struct_told-12-1) → Right c → c.args.pull.reach ≤ℤ c.try_length-tried.result.length → guessed c ≡ zero_vector
 no_parts c right far =
     let l_fits = length_fits c in
     let k_fits = fits c.pulled.result (omega (arith, c.pulled.ensures.size)) in
     let none = simp to_z-of_z at c.factor-factor.ensures.none in
-    let undrawn = simp to_z-of_z at c.pulled.ensures.far in
-    let f_is = none (undrawn far) in
+    let unpulled = simp to_z-of_z at c.pulled.ensures.far in
+    let f_is = none (unpulled far) in
     let is = parted c right in
     same_axes _ _ (part_of_none _ _ _ f_is (ap (λ v. v.x) is)) (part_of_none _ _ _ f_is (ap (λ v. v.y) is))
     (part_of_none _ _ _ f_is (ap (λ v. v.z) is))
@@ -151,7 +151,7 @@ no_parts c right far =
 pub stretch_of-stretch-requires : goal.stretch_of-stretch-requires
 stretch_of-stretch-requires c =
     let l_fits = fits_from_zero c.try_length-tried.result.length c.try_length-tried.ensures.low c.try_length-tried.ensures.high in
-    let rest_fits = fits c.args.draw.rest (omega (arith, size_at_most c.args.draw.rest (2 ^ 31) c.requires.rest_low c.requires.rest_high))
+    let rest_fits = fits c.args.pull.rest (omega (arith, size_at_most c.args.pull.rest (2 ^ 31) c.requires.rest_low c.requires.rest_high))
     in
     record {
       low = simp to_z-of_z c.try_length-tried.ensures.low;
@@ -241,7 +241,7 @@ returns-clause-moves c right near =
     let all = each_right c right in
     let moves = moves_are c in
     both_moves c.args.way (guessed c) c.opposite.result c.moved.result c.moved-2.result
-    c.try_length-tried.result.length c.args.draw.rest c.args.weights.first c.args.weights.second c.args.draw.k c.factor-factor.result
+    c.try_length-tried.result.length c.args.pull.rest c.args.weights.first c.args.weights.second c.args.pull.k c.factor-factor.result
     (length_is c all) (c.try_length-tried.ensures.some all.length) (even_factor c all near') (parted c all) (turned c)
     moves.first_free moves.first_held moves.second_free moves.second_held
 

@@ -16,12 +16,12 @@ loop-j-preserved c =
     let weights = weights_told c.requires.sized j p c.weights_of-weights.ensures.first c.weights_of-weights.ensures.second in
     let row = c.wide_row-row.ensures in
     filled_more c.wide_row-row.result (omega (arith, c.requires.known.few)) (record {
-      near = λ f. same_row c.vector.ensures weights.0 weights.1 refl (row.near _ (c.requires.drawn.each j p).value f);
+      near = λ f. same_row c.vector.ensures weights.0 weights.1 refl (row.near _ (c.requires.pulled.each j p).value f);
       flag = λ t. no_flag c.wide_row-row.result.flag row.flag (and_parts _ _ t).1;
     }) (filled_as c.loop-j.invariant (λ i r h. record { near = h.near; flag = λ t. h.flag (and_parts _ _ t).0 }))
 
-pub wide_row-row-requires-clause-draw : goal.wide_row-row-requires-clause-draw
-wide_row-row-requires-clause-draw c = (c.requires.drawn.each c.loop-j.j (omega arith)).mild
+pub wide_row-row-requires-clause-pull : goal.wide_row-row-requires-clause-pull
+wide_row-row-requires-clause-pull c = (c.requires.pulled.each c.loop-j.j (omega arith)).mild
 
 pub wide_row-row-requires-clause-weights : goal.wide_row-row-requires-clause-weights
 wide_row-row-requires-clause-weights c = weights_sized c.requires.sized c.loop-j.j (omega arith) c.weights_of-weights.ensures.first

@@ -1,7 +1,7 @@
 use Rattle.std.proofs.Common.{◌≡◌, ◌<ℤ◌, ◌≤ℤ◌, ◌∙◌, rules, subst, w64, FitsSigned}
 use Rattle.std.proofs.lemmas.Int.{to_z-of_z}
 use Rattle.pbd_num.specs.declared.Vec3.{Vec3}
-use Rattle.pbd_num.specs.declared.tried.Draw.{Draw}
+use Rattle.pbd_num.specs.declared.tried.Pull.{Pull}
 use Rattle.pbd_num.specs.Vectors.{zero_vector}
 use Rattle.pbd_num.specs.PairMove.{pair_moves}
 use Rattle.pbd_num.proofs.Lengths.{length_below}
@@ -9,7 +9,7 @@ use Rattle.pbd_pair.proofs.WideRows.{wide_near}
 use Rattle.pbd_pair.proofs.wide.wide_row.Goals as goal
 
 pub returns-clause-near : goal.returns-clause-near
-returns-clause-near c = λ b drawn flag.
+returns-clause-near c = λ b pulled flag.
     let way = c.args.way in
     let first = c.args.weights.first in
     let second = c.args.weights.second in
@@ -24,7 +24,7 @@ returns-clause-near c = λ b drawn flag.
     wide_near first second c.row_of.result m.first m.second c.requires.weights.first_low c.requires.weights.second_low tried.first_held tried.second_held
     tried.opposed
     (λ h. value ∙ free h) (λ h. value ∙ held h) way b m.length (length_below way c.requires.way) (tried.length exact)
-    (subst (λ (d : Draw). m.length <ℤ d.reach → both ≡ pair_moves way zero_vector d.rest d.k first second) drawn (tried.moves exact))
-    (subst (λ (d : Draw). d.reach ≤ℤ m.length → m.first ≡ zero_vector) drawn (tried.first_rests exact))
-    (subst (λ (d : Draw). d.reach ≤ℤ m.length → m.second ≡ zero_vector) drawn (tried.second_rests exact))
+    (subst (λ (d : Pull). m.length <ℤ d.reach → both ≡ pair_moves way zero_vector d.rest d.k first second) pulled (tried.moves exact))
+    (subst (λ (d : Pull). d.reach ≤ℤ m.length → m.first ≡ zero_vector) pulled (tried.first_rests exact))
+    (subst (λ (d : Pull). d.reach ≤ℤ m.length → m.second ≡ zero_vector) pulled (tried.second_rests exact))
     flag (c.row_of.ensures.size flag)

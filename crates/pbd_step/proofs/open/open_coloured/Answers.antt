@@ -10,11 +10,11 @@ overflow_cast-particles c =
     let few : c.len-particles.result ≤ 65536 = omega (arith, c.len-particles.ensures, (valid_fit c.args.parts.now c.requires).particles) in
     search rules
 
-pub open_tools-requires-clause-particles : goal.open_tools-requires-clause-particles
-open_tools-requires-clause-particles c = omega (arith, c.len-particles.ensures, (valid_fit c.args.parts.now c.requires).particles)
+pub open_scratch-requires-clause-particles : goal.open_scratch-requires-clause-particles
+open_scratch-requires-clause-particles c = omega (arith, c.len-particles.ensures, (valid_fit c.args.parts.now c.requires).particles)
 
-pub open_tools-requires-clause-links : goal.open_tools-requires-clause-links
-open_tools-requires-clause-links c = subst (λ (ls : List Link). length ls ≤ 524288) (sym c.as_slice.ensures)
+pub open_scratch-requires-clause-links : goal.open_scratch-requires-clause-links
+open_scratch-requires-clause-links c = subst (λ (ls : List Link). length ls ≤ 524288) (sym c.as_slice.ensures)
     (valid_fit c.args.parts.now c.requires).links
 
 pub returns-in-Ok-clause-space : goal.returns-in-Ok-clause-space

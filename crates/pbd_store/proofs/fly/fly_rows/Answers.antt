@@ -4,7 +4,7 @@ use Rattle.pbd_num.specs.Vectors.{Within}
 use Rattle.pbd_num.proofs.Sizes.{fits}
 use Rattle.pbd_lanes.specs.Lane.{is_set}
 use Rattle.pbd_num.specs.declared.Vec3.{Vec3}
-use Rattle.pbd_store.specs.declared.fly.Sums.{Sums}
+use Rattle.pbd_store.specs.declared.fly.FlightSums.{FlightSums}
 use Rattle.pbd_store.specs.declared.rows.Place.{Place}
 use Rattle.pbd_store.specs.InRows.{place_in_row, place_in, row_at}
 use Rattle.pbd_store.specs.Reaching.{Covers}
@@ -55,7 +55,7 @@ loop-i-preserved c =
     let was = c.args.before.now in
     let i = c.loop-i.i in
     let inv = c.loop-i.invariant in
-    let sums : Sums = record { free = to_z w64 c.loop-i.free-bits; lost = c.loop-i.lost; reach = c.loop-i.reach } in
+    let sums : FlightSums = record { free = to_z w64 c.loop-i.free-bits; lost = c.loop-i.lost; reach = c.loop-i.reach } in
     let here = inv.rows.still i (omega arith) in
     let before = inv.rows.still_before i (omega arith) in
     let flies = not (is_set held i) in

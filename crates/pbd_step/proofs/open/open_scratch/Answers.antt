@@ -3,7 +3,7 @@ use Rattle.std.specs.Prelude.{IfOk}
 use Rattle.std.proofs.lemmas.List.{length-replicate}
 use Rattle.pbd_self.specs.Touching.{Found}
 use Rattle.pbd_step.specs.States.{HaveSpace}
-use Rattle.pbd_step.proofs.open.open_tools.Goals as goal
+use Rattle.pbd_step.proofs.open.open_scratch.Goals as goal
 
 pub with_room-requires-clause-touched : goal.with_room-requires-clause-touched
 with_room-requires-clause-touched c = ap (λ (fs : List Bool). length fs) c.in-Ok.ensures ∙ length-replicate _ _

@@ -1,7 +1,7 @@
 use Rattle.std.proofs.Common.{◌/◌, ◌^◌, ℤ, pos, unsigned_abs, ap, sym, cond, ◌∙◌, w32, w64, FitsSigned}
 use Rattle.std.proofs.lemmas.Int.{to_z-of_z}
-use Rattle.pbd_pair.proofs.WideRows.{is_draw, short_stiffness}
-use Rattle.pbd_pair.proofs.wide.short_draw.Goals as goal
+use Rattle.pbd_pair.proofs.WideRows.{is_pull, short_stiffness}
+use Rattle.pbd_pair.proofs.wide.short_pull.Goals as goal
 
 pub returns : goal.returns
 returns c =
@@ -22,4 +22,4 @@ returns c =
     let k_is = short_stiffness c.requires.first c.requires.second firm holds named (λ h g. k.both h g ∙ factor) (λ h. k.first h ∙ half)
     (λ h. k.second h ∙ half) in
     let reach_is = reach ∙ (λ i. cond (sym kind i) (rest_is i) (pos (2 ^ 31))) in
-    is_draw (λ i. record { rest = rest_is i; k = k_is i; reach = reach_is i }) firm)
+    is_pull (λ i. record { rest = rest_is i; k = k_is i; reach = reach_is i }) firm)

@@ -14,27 +14,27 @@ use std::marker::Model;
 
 /// A world that a solver was in, with the colours of its links, and without what else its steps work with. Only opening takes memory.
 #[derive(Drop)]
-pub struct Saved<const L: usize> {
+pub struct Snapshot<const L: usize> {
     setting: Setting,
     state: State<L>,
     colours: Colouring,
 }
 
-impl<const L: usize> Model for Saved<L> {
+impl<const L: usize> Model for Snapshot<L> {
     ghost use Rattle.pbd_world.specs.World.{World};
     ghost use Rattle.pbd_step.specs.States.{world_of};
-    ghost use Rattle.pbd_step.specs.Solving.{IsSaved};
+    ghost use Rattle.pbd_step.specs.Solving.{IsSnapshot};
 
     ghost Value = { World };
 
     ghost view = { λ s. world_of s.setting s.state };
 
-    ghost invariant = { λ s. IsSaved s.setting s.state s.colours };
+    ghost invariant = { λ s. IsSnapshot s.setting s.state s.colours };
 }
 
-impl<const L: usize> Saved<L> {
+impl<const L: usize> Snapshot<L> {
     /// The world of a scene before its first command. The only call that takes memory.
-    pub fn open(alloc: Global, scene: &Scene) -> Result<Saved<L>, AllocError>
+    pub fn open(alloc: Global, scene: &Scene) -> Result<Snapshot<L>, AllocError>
         requires lanes_high { L ≤ 16 }
         ensures world { IfOk result (λ saved. saved ≡ opened scene.now) }
         ensures sound { IfOk result (λ saved. IsSound saved) }
@@ -42,7 +42,7 @@ impl<const L: usize> Saved<L> {
         let parts = scene.parts();
         let colours = open_colours(alloc, parts)?;
         match open_kept(alloc, parts) {
-            Ok((setting, state)) => Ok(Saved {
+            Ok((setting, state)) => Ok(Snapshot {
                 setting,
                 state,
                 colours,
@@ -91,7 +91,7 @@ impl<const L: usize> Saved<L> {
 impl<const L: usize, P: Projector<L> + Drop> Solver<L, P> {
     /// Goes back to the world that was kept of a solver of one scene. It takes over all particles once, and colours only where other
     /// links are live.
-    pub fn go_back(&mut self, saved: &Saved<L>)
+    pub fn go_back(&mut self, saved: &Snapshot<L>)
         requires lanes_low { 0 < L }
         requires lanes_high { L ≤ 16 }
         requires one_scene { AreOfOneScene self.old.world saved.now }

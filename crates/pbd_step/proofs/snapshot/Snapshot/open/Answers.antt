@@ -6,7 +6,7 @@ use Rattle.pbd_world.specs.World.{World, IsSound, opened}
 use Rattle.pbd_world.proofs.OpenedLemmas.{opened-is_sound}
 use Rattle.pbd_step.specs.States.{HasLinks}
 use Rattle.pbd_step.proofs.Keeping.{opened_world}
-use Rattle.pbd_step.proofs.saved.Saved.open.Goals as goal
+use Rattle.pbd_step.proofs.snapshot.Snapshot.open.Goals as goal
 
 pub invariant_of-result : goal.invariant_of-result
 invariant_of-result g c =

@@ -1,9 +1,0 @@
-use Rattle.std.proofs.Common.{ℕ, get_or}
-use Rattle.pbd_num.specs.declared.tried.Draw.{Draw}
-use Rattle.pbd_pair.specs.Bonds.{bond_of}
-use Rattle.pbd_pair.specs.Chunks.{no_draw, IsDraw}
-use Rattle.pbd_pair.proofs.Filling.{Filled}
-use Rattle.pbd_pair.proofs.wide.put_draws.Given as goal
-
-abbrev pub invariant-loop-j : goal.invariant-loop-j
-invariant-loop-j l = Filled no_draw (λ (i : ℕ) (d : Draw). IsDraw (bond_of l.chunk.bonds (get_or l.chunk.numbers.now i 0)) d) l.j l.draws
