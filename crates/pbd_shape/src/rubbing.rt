@@ -7,7 +7,7 @@ ghost use Rattle.pbd_world.specs.Ledger.{ledger_of, HaveRoom};
 ghost use Rattle.pbd_world.specs.Particles.{particle_at};
 ghost use Rattle.pbd_world.specs.Shapes.{rubbed_away};
 ghost use Rattle.pbd_world.specs.Step.{rub as all_rubbed};
-ghost use Rattle.pbd_world.specs.Valid.{is_between};
+ghost use Rattle.pbd_world.specs.Valid.{is_between, is_limit};
 ghost use Rattle.pbd_lanes.specs.Lane.{is_set};
 ghost use Rattle.pbd_store.specs.Blocks.{blocks_of, filled_lanes, place_of, Saved};
 ghost use Rattle.pbd_store.specs.Moving.{motion_of};
@@ -139,6 +139,7 @@ impl Touched {
     ) -> [Vec3; L]
         requires ready { CanRub L loaded.block friction loaded.store.now.limit loaded.store.now.particles self.now
             (ledger_of totals.old) }
+        requires limit { IsTrue (is_limit loaded.store.now.limit) }
         requires at { (j : ℕ) → j < L → place_of loaded.lanes.now.at.x loaded.lanes.now.at.y loaded.lanes.now.at.z j
             ≡ (particle_at loaded.store.now.particles (loaded.block * L + j)).at }
         requires before { (j : ℕ) → j < L → place_of loaded.lanes.now.before.x loaded.lanes.now.before.y loaded.lanes.now.before.z j
@@ -159,8 +160,6 @@ impl Touched {
             → HaveRoom (n + (min (loaded.entry.block * L + L) (length loaded.entry.store.now.particles) - loaded.entry.block * L) * 2 ^ 31)
             (ledger_of totals.new) }
     {
-        // By it the places are in the range of both limits.
-        let _limit = loaded.store.limit();
         let span = loaded.store.span(loaded.block);
         let held = loaded.lanes.held.to_array();
         let mut places = [Vec3::ZERO; L];

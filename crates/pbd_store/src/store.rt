@@ -109,6 +109,7 @@ impl<const L: usize> Store<L> {
     pub fn at<G: Ledger>(&self, i: u32, steps: &mut Steps<G>) -> Particle
         requires { i < length self.now.particles }
         ensures value { result ≡ particle_at self.now.particles i }
+        ensures limit { IsTrue (is_limit self.now.limit) }
         ensures cost { steps.new ≡ steps.old + 1 }
     {
         steps.tick();
@@ -166,6 +167,7 @@ impl<const L: usize> Store<L> {
         ensures weight { result.weight ≡ loaded L block (λ p. pos p.weight) self.now.particles }
         ensures held { result.held ≡ loaded L block (λ p. p.held) self.now.particles }
         ensures filled { result.filled ≡ filled_lanes L block self.now.particles }
+        ensures limit { IsTrue (is_limit self.now.limit) }
         ensures cost { steps.new ≡ steps.old + 1 }
     {
         steps.tick();

@@ -35,7 +35,7 @@ tear_size : (limit t : ℤ) → pos 0 ≤ℤ limit → unsigned_abs limit ≤ 2 
     → unsigned_abs t ≤ 2 ^ 31
 tear_size limit t low high h = grind (arith, ints, nat_tests)
 
-is_link : (limit : ℤ) (n : ℕ) (l : Link) → IsTrue (is_limit limit) → IsTrue (is_valid_link limit n l) → IsLink n l
+pub is_link : (limit : ℤ) (n : ℕ) (l : Link) → IsTrue (is_limit limit) → IsTrue (is_valid_link limit n l) → IsLink n l
 is_link limit n l h valid =
     let p5 = and_parts _ _ valid in
     let p4 = and_parts _ _ p5.0 in
@@ -44,11 +44,16 @@ is_link limit n l h valid =
     let p1 = and_parts _ _ p2.0 in
     record { a = ltb-true l.a n p1.0; b = ltb-true l.b n p1.1; tear = tear_size limit l.tear (limit_low limit h) (limit_high limit h) p4.1 }
 
-pub link_is : (limit : ℤ) (n : ℕ) (links : List Link) (i : ℕ) (d : Link) → IsTrue (is_limit limit) → IsTrue (are_valid_links limit n links)
-    → i < length links → IsLink n (get_or links i d)
-link_is limit n links i d h valid lt =
+pub ends_in : (limit : ℤ) (n : ℕ) (l : Link) → IsTrue (is_valid_link limit n l) → record { first : l.a < n; second : l.b < n }
+ends_in limit n l valid =
+    let ends = and_parts _ _ (and_parts _ _ (and_parts _ _ (and_parts _ _ (and_parts _ _ valid).0).0).0).0 in
+    record { first = ltb-true l.a n ends.0; second = ltb-true l.b n ends.1 }
+
+pub valid_at : (limit : ℤ) (n : ℕ) (links : List Link) (i : ℕ) (d : Link) → IsTrue (are_valid_links limit n links) → i < length links
+    → IsTrue (is_valid_link limit n (get_or links i d))
+valid_at limit n links i d valid lt =
     let few = and_parts _ _ (and_parts _ _ (and_parts _ _ valid).0).0 in
-    is_link limit n (get_or links i d) h (AllPass-from_list_all (is_valid_link limit n) links few.1 i d lt)
+    AllPass-from_list_all (is_valid_link limit n) links few.1 i d lt
 
 -- a link that may tear, by the particles at its ends
 pub torn_by : (ps : List Particle) (l : Link) (a b : Particle) → (l.live && int_lt (pos 0) l.tear) ≡ true → a ≡ particle_at ps l.a

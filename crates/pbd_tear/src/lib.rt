@@ -3,11 +3,11 @@
 
 ghost use Rattle.std.specs.Prelude.{◌≡◌, ◌+◌, ◌*◌, ◌<◌, ◌≤◌, ◌^◌, ◌++◌, ◌∷◌, [], pos, unsigned_abs, nat_lt, int_lt, ◌&&◌, length, IsTrue, if◌then◌else◌};
 ghost use Rattle.pbd_num.specs.Vectors.{Within, minus, squared_length};
-ghost use Rattle.pbd_world.specs.Valid.{are_valid_links};
+ghost use Rattle.pbd_world.specs.Valid.{is_valid_link, are_valid_links};
 ghost use Rattle.pbd_world.specs.Step.{is_torn};
 ghost use Rattle.pbd_world.specs.Work.{tearable_count};
 ghost use Rattle.pbd_store.specs.Moving.{AreInside};
-ghost use Rattle.pbd_tear.specs.Tearing.{IsLink, AscendTo, torn_numbers, numbers_with_tear_length, gone_numbers};
+ghost use Rattle.pbd_tear.specs.Tearing.{AscendTo, torn_numbers, numbers_with_tear_length, gone_numbers};
 
 use pbd_num::{Vec3, square};
 use pbd_store::{Steps, Store};
@@ -41,8 +41,8 @@ fn has_tear_length(link: Link) -> bool
 }
 
 fn is_torn<const L: usize, G: Ledger>(store: &Store<L>, link: Link, steps: &mut Steps<G>) -> bool
-    requires link { IsLink (length store.now.particles) link }
-    requires inside { AreInside (pos (2 ^ 29)) store.now.particles }
+    requires link { IsTrue (is_valid_link store.now.limit (length store.now.particles) link) }
+    requires inside { AreInside store.now.limit store.now.particles }
     ensures value { result ≡ is_torn store.now.particles link }
     ensures cost { steps.new ≤ steps.old + (if link.live && int_lt (pos 0) link.tear then 2 else 0) }
 {
@@ -82,8 +82,6 @@ pub fn torn<const L: usize, G: Ledger>(
     ensures ascending { AscendTo (length links.now) out.new.entries }
     ensures cost { steps.new ≤ steps.old + 2 * tearable_count links.now }
 {
-    // By it the links and the places are in the range of both limits.
-    let _limit = store.limit();
     out.clear();
     for n in numbers {
         let tears = is_torn(store, links[*n as usize], steps);

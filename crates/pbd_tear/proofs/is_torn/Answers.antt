@@ -1,7 +1,8 @@
-use Rattle.std.proofs.Common.{◌∙◌, ◌≡◌, ◌+◌, ◌≤◌, ℕ, Bool, true, cond, sym, arith}
+use Rattle.std.proofs.Common.{◌∙◌, ◌≡◌, ◌+◌, ◌≤◌, ℕ, Bool, true, cond, sym, arith, length}
 use Rattle.std.proofs.lemmas.Int.{to_z-of_z}
 use Rattle.pbd_num.proofs.Sizes.{fits}
-use Rattle.pbd_tear.proofs.Numbers.{torn_by, never_torn}
+use Rattle.pbd_tear.proofs.Numbers.{ends_in, is_link, torn_by, never_torn}
+use Rattle.pbd_store.proofs.Limits.{inside_both}
 use Rattle.pbd_tear.proofs.is_torn.Goals as goal
 
 pub returns-then-not-may_tear-clause-value : goal.returns-then-not-may_tear-clause-value
@@ -11,20 +12,34 @@ returns-then-not-may_tear-clause-value g c = never_torn c.args.store.now.particl
 pub returns-then-not-may_tear-clause-cost : goal.returns-then-not-may_tear-clause-cost
 returns-then-not-may_tear-clause-cost g c = omega arith
 
+pub at-a-requires : goal.at-a-requires
+at-a-requires g c = (ends_in c.args.store.now.limit (length c.args.store.now.particles) c.args.link c.requires.link).first
+
+pub at-b-requires : goal.at-b-requires
+at-b-requires g c = (ends_in c.args.store.now.limit (length c.args.store.now.particles) c.args.link c.requires.link).second
+
 pub are_farther-requires-clause-a : goal.are_farther-requires-clause-a
-are_farther-requires-clause-a g c = rw c.at-a.ensures.value (c.requires.inside.each c.args.link.a c.requires.link.a)
+are_farther-requires-clause-a g c =
+    let link = is_link c.args.store.now.limit (length c.args.store.now.particles) c.args.link c.at-a.ensures.limit c.requires.link in
+    let inside = inside_both c.args.store.now.limit c.args.store.now.particles c.at-a.ensures.limit c.requires.inside in
+    rw c.at-a.ensures.value (inside.each c.args.link.a link.a)
 
 pub are_farther-requires-clause-b : goal.are_farther-requires-clause-b
-are_farther-requires-clause-b g c = rw c.at-b.ensures.value (c.requires.inside.each c.args.link.b c.requires.link.b)
+are_farther-requires-clause-b g c =
+    let link = is_link c.args.store.now.limit (length c.args.store.now.particles) c.args.link c.at-a.ensures.limit c.requires.link in
+    let inside = inside_both c.args.store.now.limit c.args.store.now.particles c.at-a.ensures.limit c.requires.inside in
+    rw c.at-b.ensures.value (inside.each c.args.link.b link.b)
 
 pub are_farther-requires-clause-length : goal.are_farther-requires-clause-length
 are_farther-requires-clause-length g c =
-    let tear = fits c.args.link.tear (omega (arith, c.requires.link.tear)) in
-    simp to_z-of_z c.requires.link.tear
+    let link = is_link c.args.store.now.limit (length c.args.store.now.particles) c.args.link c.at-a.ensures.limit c.requires.link in
+    let tear = fits c.args.link.tear (omega (arith, link.tear)) in
+    simp to_z-of_z link.tear
 
 pub returns-clause-value : goal.returns-clause-value
 returns-clause-value g c =
-    let tear = fits c.args.link.tear (omega (arith, c.requires.link.tear)) in
+    let link = is_link c.args.store.now.limit (length c.args.store.now.particles) c.args.link c.at-a.ensures.limit c.requires.link in
+    let tear = fits c.args.link.tear (omega (arith, link.tear)) in
     let farther = simp to_z-of_z at c.are_farther.ensures in
     farther ∙ torn_by c.args.store.now.particles c.args.link c.at-a.result c.at-b.result
     (sym c.may_tear.ensures ∙ c.if-not-may_tear.false) c.at-a.ensures.value c.at-b.ensures.value

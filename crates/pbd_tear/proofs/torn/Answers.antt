@@ -2,10 +2,8 @@ use Rattle.std.proofs.Common.{◌∙◌, ◌≡◌, sym, ap, refl, subst, arith,
 use Rattle.std.proofs.lemmas.List.{take_all}
 use Rattle.pbd_world.specs.declared.parts.Link.{Link}
 use Rattle.pbd_world.specs.Room.{Roomed}
-use Rattle.pbd_world.specs.Valid.{is_limit}
 use Rattle.pbd_tear.specs.Tearing.{AscendTo, torn_numbers, numbers_with_tear_length}
-use Rattle.pbd_store.proofs.Limits.{inside_both}
-use Rattle.pbd_tear.proofs.Numbers.{link_is, torn_among, torn_among_none, torn_among_more, torn_among_all, tearable_among, cost_more}
+use Rattle.pbd_tear.proofs.Numbers.{valid_at, torn_among, torn_among_none, torn_among_more, torn_among_all, tearable_among, cost_more}
 use Rattle.pbd_tear.proofs.Numbers.{tearable_among_all, with_tear_length_ascend, with_tear_length_few, few_more, list_is, torn_ascend}
 use Rattle.pbd_tear.proofs.torn.Goals.{After-loop-n}
 use Rattle.pbd_tear.proofs.torn.Goals as goal
@@ -18,13 +16,12 @@ known numbers links i e lt = subst (λ (ns : List ℕ). get_or ns i 0 < length l
 
 pub is_torn-tears-requires : goal.is_torn-tears-requires
 is_torn-tears-requires g c =
-    let limit : IsTrue (is_limit c.args.store.now.limit) =
-    subst (λ (limit : ℤ). IsTrue (is_limit limit)) c.limit-limit.ensures.value c.limit-limit.ensures.either in (
+    (
       omega arith,
       (
-        link_is c.args.store.now.limit (length c.args.store.now.particles) c.args.links.now (get_or c.args.numbers.now c.loop-n.n-index 0) _
-            limit c.requires.links (known c.args.numbers.now c.args.links.now c.loop-n.n-index c.requires.with_tear_length (omega arith)),
-        inside_both c.args.store.now.limit c.args.store.now.particles limit c.requires.inside,
+        valid_at c.args.store.now.limit (length c.args.store.now.particles) c.args.links.now (get_or c.args.numbers.now c.loop-n.n-index 0) _
+            c.requires.links (known c.args.numbers.now c.args.links.now c.loop-n.n-index c.requires.with_tear_length (omega arith)),
+        c.requires.inside,
       ),
     )
 

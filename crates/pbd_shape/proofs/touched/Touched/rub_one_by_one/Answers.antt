@@ -13,6 +13,7 @@ use Rattle.pbd_num.proofs.Ranges.{wider}
 use Rattle.pbd_store.proofs.Places.{inside_more, within_at}
 use Rattle.pbd_shape.proofs.Steps.{has_particle, are_all, rubbing_none, rubbing_on, rubbing_all, loss_of, loss_within, part_low, part_high}
 use Rattle.pbd_shape.proofs.touched.Touched.rub_one_by_one.Goals as goal
+use Rattle.pbd_world.proofs.WholeLemmas.{limit_high}
 
 pub span-span-requires : goal.span-span-requires
 span-span-requires g c =
@@ -48,11 +49,11 @@ pub minus-requires : goal.minus-requires
 minus-requires g c =
     let span = c.span-span.ensures in
     let here = has_particle span.first span.count span.within c.loop-j-test.true in
-    let wide : unsigned_abs c.limit-limit.result ≤ 2 ^ 61 = omega (arith, c.limit-limit.ensures.high) in
+    let wide : unsigned_abs c.args.loaded.store.now.limit ≤ 2 ^ 61 = omega (arith, limit_high c.args.loaded.store.now.limit c.requires.limit) in
     record {
-      first = wider _ _ (2 ^ 61) wide (within_at (ap unsigned_abs c.limit-limit.ensures.value) (c.place.ensures ∙ c.requires.at _ here.lane)
+      first = wider _ _ (2 ^ 61) wide (within_at refl (c.place.ensures ∙ c.requires.at _ here.lane)
           (c.requires.ready.within.at _ here.within));
-      second = wider _ _ (2 ^ 61) wide (within_at (ap unsigned_abs c.limit-limit.ensures.value)
+      second = wider _ _ (2 ^ 61) wide (within_at refl
           (c.place-before.ensures ∙ c.requires.before _ here.lane) (c.requires.ready.within.before _ here.within));
     }
 
@@ -61,11 +62,11 @@ lost_if-loss-requires g c =
     let f = c.ranges.friction in
     let span = c.span-span.ensures in
     let here = has_particle span.first span.count span.within c.loop-j-test.true in
-    let at = wider _ _ (2 ^ 29) c.limit-limit.ensures.high
-    (within_at (ap unsigned_abs c.limit-limit.ensures.value) (c.place.ensures ∙ c.requires.at _ here.lane) (c.requires.ready.within.at _ here.within))
+    let at = wider _ _ (2 ^ 29) (limit_high c.args.loaded.store.now.limit c.requires.limit)
+    (within_at refl (c.place.ensures ∙ c.requires.at _ here.lane) (c.requires.ready.within.at _ here.within))
     in
-    let before = wider _ _ (2 ^ 29) c.limit-limit.ensures.high
-    (within_at (ap unsigned_abs c.limit-limit.ensures.value) (c.place-before.ensures ∙ c.requires.before _ here.lane)
+    let before = wider _ _ (2 ^ 29) (limit_high c.args.loaded.store.now.limit c.requires.limit)
+    (within_at refl (c.place-before.ensures ∙ c.requires.before _ here.lane)
     (c.requires.ready.within.before _ here.within)) in
     record { friction = simp to_z-of_z c.requires.ready.valid_friction; velocity = c.minus.ensures.size (2 ^ 29) (2 ^ 29) at before }
 
@@ -86,8 +87,8 @@ plus-requires g c =
     let span = c.span-span.ensures in
     let here = has_particle span.first span.count span.within c.loop-j-test.true in
     record {
-      first = wider _ _ (2 ^ 61) (omega (arith, c.limit-limit.ensures.high))
-          (within_at (ap unsigned_abs c.limit-limit.ensures.value) (c.place-before.ensures ∙ c.requires.before _ here.lane)
+      first = wider _ _ (2 ^ 61) (omega (arith, (limit_high c.args.loaded.store.now.limit c.requires.limit)))
+          (within_at refl (c.place-before.ensures ∙ c.requires.before _ here.lane)
           (c.requires.ready.within.before _ here.within));
       second = wider _ (2 ^ 30) (2 ^ 61) (omega arith) c.lost_if-loss.ensures.size;
     }
