@@ -74,17 +74,18 @@ grid_finds t thickness links ps old places old_flags flags xs bs e x p b f =
     rw (e, xs_is, bs_is) (found_is_touching thickness links ps)
 
 -- the places within a limit of at most 2^29 are within 2^29
-pub places_inside : (limit : ℤ) (ps : List Particle) (places old : Roomed Vec3) (xs : List Vec3) → unsigned_abs limit ≤ 2 ^ 29
-    → AreInside limit ps → places ≡ record old { entries = places_of ps } → xs ≡ places.entries → AllInside xs
+pub places_inside : (limit : ℤ) (ps : List Particle) (places old : Roomed Vec3) (xs : List Vec3)
+    → (0 < length ps → unsigned_abs limit ≤ 2 ^ 29) → AreInside limit ps → places ≡ record old { entries = places_of ps } → xs ≡ places.entries → AllInside xs
 places_inside limit ps places old xs small inside p x i lt =
     let xs_is : xs ≡ places_of ps = x ∙ ap (λ (r : Roomed Vec3). r.entries) p in
     let size : length xs ≡ length ps = ap length xs_is ∙ length-map ps (λ (q : Particle). q.at) in
     let here : place_at xs i ≡ (particle_at ps i).at = ap (λ (ys : List Vec3). place_at ys i) xs_is ∙ place_of ps i in
     let within = inside.each i (omega (arith, lt, size)) in
+    let high = small (omega (arith, lt, size)) in
     subst (λ (v : Vec3). Within (2 ^ 29) v) (sym here) (record {
-      x = omega (arith, within.x, small);
-      y = omega (arith, within.y, small);
-      z = omega (arith, within.z, small);
+      x = omega (arith, within.x, high);
+      y = omega (arith, within.y, high);
+      z = omega (arith, within.z, high);
     })
 
 -- ---- what a search costs

@@ -162,8 +162,6 @@ impl SelfContacts {
             self.clear();
             return Ok(());
         }
-        // By it the places are in the range of both limits.
-        let _limit = store.limit();
         copy_particles(store, &mut self.places, &mut self.held, steps);
         let places = self.places.as_slice();
         let held = self.held.as_slice();

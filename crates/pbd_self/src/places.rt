@@ -1,5 +1,5 @@
 //! The places and held flags of a store's particles, copied.
-ghost use Rattle.std.specs.Prelude.{◌≡◌, ◌+◌, ◌≤◌, map, length};
+ghost use Rattle.std.specs.Prelude.{◌≡◌, ◌+◌, ◌<◌, ◌≤◌, ◌^◌, map, length, unsigned_abs};
 
 use pbd_num::Vec3;
 use pbd_store::{Steps, Store};
@@ -17,6 +17,7 @@ pub(crate) fn copy_particles<const L: usize, G: Ledger>(
     requires held { length store.now.particles ≤ held.old.room }
     ensures places { places.new ≡ record places.old { entries = map (λ p. p.at) store.now.particles } }
     ensures held { held.new ≡ record held.old { entries = map (λ p. p.held) store.now.particles } }
+    ensures limit { 0 < length store.now.particles → unsigned_abs store.now.limit ≤ 2 ^ 29 }
     ensures cost { steps.new ≡ steps.old + length store.now.particles }
 {
     places.clear();

@@ -89,7 +89,7 @@ find-found-requires-clause-places g c =
 pub find-found-requires-clause-inside : goal.find-found-requires-clause-inside
 find-found-requires-clause-inside g c =
     places_inside c.args.store.now.limit c.args.store.now.particles c.copy_particles.new.places c.self.inside.places c.as_slice-places.result.now
-    (omega (arith, ap unsigned_abs c.limit-limit.ensures.value, c.limit-limit.ensures.high)) c.requires.inside
+    c.copy_particles.ensures.limit c.requires.inside
     c.copy_particles.ensures.places c.as_slice-places.ensures
 
 pub colour-requires-clause-in_range : goal.colour-requires-clause-in_range
