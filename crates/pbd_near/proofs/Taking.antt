@@ -62,11 +62,11 @@ moved way t length error factor move taken high some is x y z size =
     }
 
 -- the factor that counts, by the least error that isn't pulled
-pulled : (contact : Bool) (slack error factor given rest : ℤ) (n : ℕ) → slack ≡ cond contact (pos 0) (pos 32768) → error ≡ pos n -ℤ rest
+factor_counts : (contact : Bool) (slack error factor given rest : ℤ) (n : ℕ) → slack ≡ cond contact (pos 0) (pos 32768) → error ≡ pos n -ℤ rest
     → unsigned_abs error ≤ 32767 → (slack ≤ℤ error → factor ≡ pos 0) → (error <ℤ slack → factor ≡ given)
     → factor ≡ pulled_by given contact rest n
-pulled false slack error factor given rest n s e size none some = some (omega (arith, ints, s, size_above error))
-pulled true slack error factor given rest n s e size none some = by_lt_z error (pos 0)
+factor_counts false slack error factor given rest n s e size none some = some (omega (arith, ints, s, size_above error))
+factor_counts true slack error factor given rest n s e size none some = by_lt_z error (pos 0)
     (λ h. some (omega (arith, ints, s)) ∙ sym (cond-false (int_le rest (pos n)) (pos 0) given (grind (arith, ints, nat_tests))))
     (λ h. none (omega (arith, ints, s)) ∙ sym (cond-true (int_le rest (pos n)) (pos 0) given (grind (arith, ints, nat_tests))))
 
@@ -77,7 +77,7 @@ pub pulled : (way : Vec3) (length error factor given rest slack : ℤ) (contact 
 pulled way length error factor given rest slack contact move s e size none some asked m =
     let back : length -ℤ error ≡ rest = omega (arith, ints, e) in
     let short : error ≡ pos (length_of way) -ℤ rest = omega (arith, ints, e, m.long) in
-    let counts = pulled contact slack error factor given rest (length_of way) s short size none some in
+    let counts = factor_counts contact slack error factor given rest (length_of way) s short size none some in
     record {
       asked = asked;
       apart = m.apart;
