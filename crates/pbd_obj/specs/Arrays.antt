@@ -29,7 +29,8 @@ unless_bad None None mesh = Ok mesh
 unfoldable pub mesh_of : List Vec3 → List ℕ → List ℕ → Result ObjMesh ArraysFault
 mesh_of places sizes corners =
     if sum sizes == length corners
-    then unless_bad (position is_outside places) (position (is_no_face (length places)) (cut sizes corners)) (record { places = places; sizes = sizes; corners = corners })
+    then unless_bad (position is_outside places) (position (is_no_face (length places)) (cut sizes corners))
+    (record { places = places; sizes = sizes; corners = corners })
     else Err BadCount
 
 -- a fault is that of the arrays, or want of memory
