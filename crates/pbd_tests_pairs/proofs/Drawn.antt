@@ -9,9 +9,9 @@ use Rattle.std.proofs.lemmas.Bool.{and_parts, leb-true, ltb-true, eqb-true, eq-e
 use Rattle.std.proofs.lemmas.List.Sums.{AllPass-from_list_all}
 use Rattle.pbd_num.proofs.Sizes.{fits}
 use Rattle.pbd_world.specs.declared.parts.Particle.{Particle}
-use Rattle.pbd_world.specs.declared.parts.Plane.{Plane}
-use Rattle.pbd_world.specs.declared.parts.Sphere.{Sphere}
-use Rattle.pbd_world.specs.Valid.{is_limit, are_valid_planes, are_valid_spheres}
+use Rattle.pbd_world.specs.declared.parts.ShapeLists.{ShapeLists}
+use Rattle.pbd_world.specs.Shapes.{are_valid_shapes}
+use Rattle.pbd_world.specs.Valid.{is_limit}
 use Rattle.pbd_store.specs.declared.pairs.Pairs.{Pairs}
 use Rattle.pbd_store.specs.Gathering.{index_at}
 use Rattle.pbd_store.specs.Moving.{AreInside, Weigh}
@@ -99,22 +99,18 @@ drawn limit particles pairs h =
       inside = valid_inside limit particles world.0 world.1;
     }
 
-pub record MayPush (particles : List Particle) (planes : List Plane) (spheres : List Sphere) : Type 0 where
+pub record MayPush (particles : List Particle) (lists : ShapeLists) : Type 0 where
   pub few : length particles ≤ 65536
   pub inside : AreInside (pos (2 ^ 29)) particles
-  pub valid_planes : IsTrue (are_valid_planes planes)
-  pub valid_spheres : IsTrue (are_valid_spheres (pos (2 ^ 29)) spheres)
+  pub valid : IsTrue (are_valid_shapes (pos (2 ^ 29)) lists)
 
-pub pushed : (particles : List Particle) (planes : List Plane) (spheres : List Sphere) → IsTrue (may_push particles planes spheres)
-    → MayPush particles planes spheres
-pushed particles planes spheres h =
-    let most = and_parts _ _ h in
-    let half = and_parts _ _ most.0 in
+pub pushed : (particles : List Particle) (lists : ShapeLists) → IsTrue (may_push particles lists) → MayPush particles lists
+pushed particles lists h =
+    let both = and_parts _ _ h in
     record {
-      few = leb-true _ _ (and_parts _ _ half.0).0;
-      inside = valid_inside (pos (2 ^ 29)) particles refl half.0;
-      valid_planes = half.1;
-      valid_spheres = most.1;
+      few = leb-true _ _ (and_parts _ _ both.0).0;
+      inside = valid_inside (pos (2 ^ 29)) particles refl both.0;
+      valid = both.1;
     }
 
 suits : (bonds : Bonds) (batch : List ℕ) (particles : List Particle) → IsTrue (are_plain bonds) → Suit bonds batch particles

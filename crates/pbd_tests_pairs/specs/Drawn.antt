@@ -2,9 +2,9 @@
 use Rattle.std.specs.Prelude.{ℕ, ◌^◌, ℤ, pos, nat_le, nat_lt, ◌==◌, ◌&&◌, not, Bool, true, false, List, [], ◌∷◌, length}
 use Rattle.std.specs.List.{list_all}
 use Rattle.pbd_world.specs.declared.parts.Particle.{Particle}
-use Rattle.pbd_world.specs.declared.parts.Plane.{Plane}
-use Rattle.pbd_world.specs.declared.parts.Sphere.{Sphere}
-use Rattle.pbd_world.specs.Valid.{is_limit, are_valid_particles, are_valid_planes, are_valid_spheres}
+use Rattle.pbd_world.specs.declared.parts.ShapeLists.{ShapeLists}
+use Rattle.pbd_world.specs.Shapes.{are_valid_shapes}
+use Rattle.pbd_world.specs.Valid.{is_limit, are_valid_particles}
 use Rattle.pbd_store.specs.declared.pairs.Pairs.{Pairs}
 use Rattle.pbd_pair.specs.declared.bonds.Bonds.{Bonds}
 use Rattle.pbd_pair.specs.declared.bonds.Bonds.TheVariants.{Links, Contacts, LaidLinks, LaidContacts}
@@ -42,12 +42,9 @@ may_part limit particles pairs =
     && are_pairs (length particles) pairs
     && are_apart pairs
 
--- particles within the greatest limit, and planes and spheres that may push them
-abbrev pub may_push : List Particle → List Plane → List Sphere → Bool
-may_push particles planes spheres =
-    are_valid_particles (pos (2 ^ 29)) particles
-    && are_valid_planes planes
-    && are_valid_spheres (pos (2 ^ 29)) spheres
+-- particles within the greatest limit, and shapes that may push them
+abbrev pub may_push : List Particle → ShapeLists → Bool
+may_push particles lists = are_valid_particles (pos (2 ^ 29)) particles && are_valid_shapes (pos (2 ^ 29)) lists
 
 -- bonds that come without columns
 abbrev pub are_plain : Bonds → Bool

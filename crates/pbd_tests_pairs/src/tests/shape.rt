@@ -1,9 +1,11 @@
 //! Shapes that push places out, and friction, at each width.
 ghost use Rattle.std.specs.Prelude.{◌≡◌, ◌<◌, ◌≤◌, pos, length, IfSome, IsTrue};
 ghost use Rattle.std.specs.List.{list_all};
-ghost use Rattle.pbd_world.specs.Valid.{is_between, are_valid_planes, are_valid_spheres};
+ghost use Rattle.pbd_world.specs.Shapes.{are_valid_shapes};
+ghost use Rattle.pbd_world.specs.Valid.{is_between};
 ghost use Rattle.pbd_store.specs.Moving.{AreInside};
 ghost use Rattle.pbd_shape.specs.Rubbing.{AreWithin};
+ghost use Rattle.pbd_shape.specs.Valid.{lists_of};
 ghost use Rattle.pbd_tests_pairs.specs.Drawn.{may_push};
 
 use pbd_num::{RANGE, Vec3};
@@ -106,8 +108,7 @@ fn pushed_by<const L: usize, G: Ledger>(
 ) -> Option<Seen>
     requires low { 0 < L }
     requires high { L ≤ 16 }
-    requires planes { IsTrue (are_valid_planes case.now.shapes.planes.now) }
-    requires spheres { IsTrue (are_valid_spheres store.old.limit case.now.shapes.spheres.now) }
+    requires shapes { IsTrue (are_valid_shapes store.old.limit (lists_of case.now.shapes)) }
     requires inside { AreInside store.old.limit store.old.particles }
 {
     let len = store.len();
@@ -133,9 +134,8 @@ fn pushed_by<const L: usize, G: Ledger>(
 
 /// A store of a case's particles. None where there is no memory.
 fn store_of<const L: usize>(alloc: Global, case: &Case) -> Option<Store<L>>
-    requires { IsTrue (may_push case.now.particles.now case.now.shapes.planes.now case.now.shapes.spheres.now) }
-    ensures planes { IsTrue (are_valid_planes case.now.shapes.planes.now) }
-    ensures spheres { IfSome result (λ s. IsTrue (are_valid_spheres s.limit case.now.shapes.spheres.now)) }
+    requires { IsTrue (may_push case.now.particles.now (lists_of case.now.shapes)) }
+    ensures shapes { IfSome result (λ s. IsTrue (are_valid_shapes s.limit (lists_of case.now.shapes))) }
     ensures inside { IfSome result (λ s. AreInside s.limit s.particles) }
 {
     match Store::open(alloc, case.particles, RANGE) {
@@ -152,7 +152,7 @@ fn pushed_in<const L: usize, G: Ledger>(
 ) -> Option<Seen>
     requires low { 0 < L }
     requires high { L ≤ 16 }
-    requires drawn { IsTrue (may_push case.now.particles.now case.now.shapes.planes.now case.now.shapes.spheres.now) }
+    requires drawn { IsTrue (may_push case.now.particles.now (lists_of case.now.shapes)) }
 {
     match store_of::<L>(alloc, case) {
         Some(mut store) => {
@@ -169,7 +169,7 @@ fn wrong_push<G: Ledger>(rt: &impl Eprint, alloc: Global, blank: Blank, case: &C
     requires name { blank.name ≡ G.name }
     requires parts { blank.parts ≡ G.parts }
     requires some { 0 < blank.parts }
-    requires drawn { IsTrue (may_push case.now.particles.now case.now.shapes.planes.now case.now.shapes.spheres.now) }
+    requires drawn { IsTrue (may_push case.now.particles.now (lists_of case.now.shapes)) }
 {
     let told = at_widths!(blank, pushed_in(alloc, case));
     wrong_row(rt, (&case.name, WIDTHS), &told, &[Some(case.seen); 5])
@@ -177,7 +177,7 @@ fn wrong_push<G: Ledger>(rt: &impl Eprint, alloc: Global, blank: Blank, case: &C
 
 /// How many cases don't come to what they say.
 fn wrong_pushes(rt: &impl Eprint, alloc: Global, cases: &[Case]) -> u32
-    requires { IsTrue (list_all (λ (c : Case). may_push c.particles.now c.shapes.planes.now c.shapes.spheres.now) cases.now) }
+    requires { IsTrue (list_all (λ (c : Case). may_push c.particles.now (lists_of c.shapes)) cases.now) }
 {
     let mut wrong = 0u32;
     for case in cases {
@@ -263,13 +263,19 @@ fn wrong_rub<G: Ledger>(
     wrong_row(rt, (&friction, WIDTHS), &told, &[Some(*seen); 5])
 }
 
+/// A plane that pushes what is below 5 up to there.
+const LIFTING: Shapes<'static> = Shapes {
+    planes: &[plane!(0, 1, 0, 5)],
+    ..Shapes::NONE
+};
+
 static PUSHES: [Case; 5] = [
     Case {
         name: "three in a ball",
         particles: &[resting!(3, 4, 0), resting!(0, 0, 0), resting!(10, 0, 0)],
         shapes: Shapes {
-            planes: &[],
             spheres: &[ball!(10)],
+            ..Shapes::NONE
         },
         seen: stay!(
             [[6, 8, 0], [0, 10, 0], [10, 0, 0]],
@@ -282,7 +288,7 @@ static PUSHES: [Case; 5] = [
         particles: &[resting!(0, 0, 0)],
         shapes: Shapes {
             planes: &[plane!(1, 2, 2, 20)],
-            spheres: &[],
+            ..Shapes::NONE
         },
         seen: alone!([2, 4, 4], true, [2, 4, 4]),
     },
@@ -291,7 +297,7 @@ static PUSHES: [Case; 5] = [
         particles: &[resting!(0, 0, 0)],
         shapes: Shapes {
             planes: &[plane!(3, 0, 0, 1)],
-            spheres: &[],
+            ..Shapes::NONE
         },
         seen: alone!([0, 0, 0], true, [0, 0, 0]),
     },
@@ -299,8 +305,8 @@ static PUSHES: [Case; 5] = [
         name: "one in the greatest ball, which goes to the edge of the range",
         particles: &[resting!(1, 0, 0)],
         shapes: Shapes {
-            planes: &[],
             spheres: &[ball!(536870912)],
+            ..Shapes::NONE
         },
         seen: alone!([536870912, 0, 0], true, [536870911, 0, 0]),
     },
@@ -308,8 +314,8 @@ static PUSHES: [Case; 5] = [
         name: "one that a plane pushes before a ball does",
         particles: &[resting!(0, -3, 0)],
         shapes: Shapes {
-            planes: &[plane!(0, 1, 0, 5)],
             spheres: &[ball!(10)],
+            ..LIFTING
         },
         seen: alone!([0, 10, 0], true, [0, 13, 0]),
     },
@@ -329,7 +335,7 @@ static AT_THE_EDGE: [Case; 1] = [Case {
             plane!(0, 1, 0, -5),
             plane!(1, 0, 1, 536870914),
         ],
-        spheres: &[],
+        ..Shapes::NONE
     },
     seen: Seen {
         left: Some(0),
