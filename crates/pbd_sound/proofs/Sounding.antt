@@ -315,8 +315,7 @@ told_sound d w sound h =
             (placed_from w.limit 0 v.particles h.particles.at h.particles.before)));
         links = subst (λ (n : ℕ). IsTrue (are_valid_links w.limit n v.links)) (sym many)
             (links_valid w.limit (length w.particles) w.links v.links (told_unlive d 0 w.links) form.links);
-        planes = form.planes;
-        spheres = form.spheres;
+        shapes = form.shapes;
         tracks = tracks;
         gravity = h.gravity;
         numbers = form.numbers;

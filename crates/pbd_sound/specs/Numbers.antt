@@ -2,11 +2,12 @@
 use Rattle.std.specs.Prelude.{ℕ, ◌≤◌, ◌^◌, pos, List, []}
 use Rattle.pbd_world.specs.declared.parts.Track.{Track}
 use Rattle.pbd_world.specs.Ledger.{sum_of, ledger_of}
+use Rattle.pbd_world.specs.Shapes.{no_shapes}
 use Rattle.pbd_world.specs.World.{World}
 use Rattle.pbd_store.specs.Stored.{Stored}
 use Rattle.pbd_sound.specs.declared.judging.Numbers.{Numbers}
 
--- a world of some tracks, particles and numbers, with no link, plane or sphere in it
+-- a world of some tracks, particles and numbers, with no link and no shape in it
 abbrev pub standing : List Track → Stored → Numbers → World
 standing tracks store numbers = record {
   limit = store.limit;
@@ -14,8 +15,7 @@ standing tracks store numbers = record {
   particles = store.particles;
   links = [];
   tracks = tracks;
-  planes = [];
-  spheres = [];
+  shapes = no_shapes;
   gravity = numbers.gravity;
   passes = 0;
   damping = numbers.damping;
