@@ -1,52 +1,27 @@
 -- The numbers of a sound world that no command changes are in the ranges that its bytes have room for.
-use Rattle.std.proofs.Common.{◌≡◌, refl, ℕ, ◌+◌, ◌<◌, ◌≤◌, ◌^◌, Bool, ◌&&◌, List, [], ◌∷◌, length, arith, ℤ, pos, ◌≤ℤ◌, ◌+ℤ◌, ◌-ℤ◌, ◌*ℤ◌}
-use Rattle.std.proofs.Common.{unsigned_abs}
-use Rattle.std.specs.Prelude.{IsTrue, FitsSigned, nat_le, nat_lt, int_le}
-use Rattle.std.specs.Int.{w64, w128}
+use Rattle.std.proofs.Common.{ℕ, ◌<◌, ◌≤◌, ◌^◌, ◌&&◌, List, [], ◌∷◌, length, arith, ℤ, pos, ◌≤ℤ◌, ◌*ℤ◌, unsigned_abs}
+use Rattle.std.specs.Prelude.{IsTrue, FitsSigned, nat_le, nat_lt}
+use Rattle.std.specs.Int.{w64}
 use Rattle.std.specs.List.{AllByRecursion, list_all}
-use Rattle.std.proofs.lemmas.Int.{ints, fits_signed_from_abs}
+use Rattle.std.proofs.lemmas.Int.{ints}
 use Rattle.std.proofs.lemmas.Bool.{and_parts, leb-true, ltb-true}
-use Rattle.std.proofs.lemmas.List.Elements.{All-from_recursion, recursion_from_All}
-use Rattle.pbd_num.specs.declared.Vec3.{Vec3}
-use Rattle.pbd_num.specs.Vectors.{Within, is_within, is_axis_within}
-use Rattle.pbd_num.proofs.Ranges.{within_facts, axis_fact}
-use Rattle.pbd_num.proofs.Sizes.{fits, size_at_most, size_above, size_below, size_le}
+use Rattle.std.proofs.lemmas.List.Elements.{recursion_from_All}
+use Rattle.pbd_num.specs.Vectors.{is_within}
+use Rattle.pbd_num.proofs.Sizes.{fits}
 use Rattle.pbd_world.specs.declared.parts.Particle.{Particle}
 use Rattle.pbd_world.specs.declared.parts.Link.{Link}
 use Rattle.pbd_world.specs.declared.parts.Key.{Key}
 use Rattle.pbd_world.specs.declared.parts.Track.{Track}
-use Rattle.pbd_world.specs.declared.parts.Plane.{Plane}
-use Rattle.pbd_world.specs.declared.parts.Sphere.{Sphere}
-use Rattle.pbd_world.specs.Ledger.{Sum, SumWithin, SumFits}
-use Rattle.pbd_world.specs.Valid.{is_between, is_valid_particle, is_valid_plane, is_valid_sphere, is_valid_track, are_valid_keys}
-use Rattle.pbd_world.specs.Valid.{are_valid_numbers, ValidLink}
+use Rattle.pbd_world.specs.Ledger.{SumFits}
+use Rattle.pbd_world.specs.Valid.{is_between, is_valid_particle, is_valid_track, are_valid_keys, ValidLink}
 use Rattle.pbd_world.specs.World.{World, IsSound, parts_of}
 use Rattle.pbd_world.proofs.KeptLemmas.{IsLimit}
-use Rattle.pbd_world.proofs.ValidLinks.{between_facts, links_facts}
+use Rattle.pbd_world.proofs.ValidLinks.{links_facts}
 use Rattle.pbd_world.proofs.WorldParts.{Formed, formed, limit_of, IsFit, all_fit}
 use Rattle.pbd_log.specs.Entries.{VectorFits}
+use Rattle.pbd_encoding.proofs.Ranges.{inside_fits, between_fits, sum_fits, few_from}
+use Rattle.pbd_encoding.proofs.Shapes.{ShapesFit, shapes_fit}
 use Rattle.pbd_encoding.proofs.Texts.{AreFew}
-
--- ---- vectors and sums
-
-pub vector_fits : (v : Vec3) (b : ℕ) → b < 2 ^ 63 → Within b v → VectorFits v
-vector_fits v b lt h = (fits v.x (omega (arith, lt, h.x)), fits v.y (omega (arith, lt, h.y)), fits v.z (omega (arith, lt, h.z)))
-
-wide_fits : (z : ℤ) → unsigned_abs z ≤ 2 ^ 99 → FitsSigned w128 z
-wide_fits z h = fits_signed_from_abs w128 z (omega (arith, h))
-
-pub sum_fits : (s : Sum) → SumWithin (2 ^ 99) s → SumFits s
-sum_fits s h = record { x = wide_fits s.x h.x; y = wide_fits s.y h.y; z = wide_fits s.z h.z }
-
-inside_fits : (limit : ℤ) (v : Vec3) → IsLimit limit → IsTrue (is_within limit v) → VectorFits v
-inside_fits limit v lim h =
-    let w = (within_facts limit v lim.low).0 h in
-    vector_fits v (unsigned_abs limit) (omega (arith, lim.high)) w
-
-between_fits : (high : ℕ) (z : ℤ) → high < 2 ^ 63 → IsTrue (is_between (pos 0) (pos high) z) → FitsSigned w64 z
-between_fits high z lt h =
-    let f = (between_facts (pos 0) (pos high) z).0 h in
-    fits z (omega (arith, lt, size_at_most z high f.0 f.1))
 
 -- ---- the settings
 
@@ -77,13 +52,6 @@ settings_fit w sound f =
     }
 
 -- ---- items
-
--- what a test of each item says of it
-each_from : {A : Type 0} (test : A → Bool) (Fit : A → Type 0) (xs : List A) → ((x : A) → IsTrue (test x) → Fit x)
-    → IsTrue (list_all test xs)
-    → AllByRecursion Fit xs
-each_from test Fit [] so h = tt
-each_from test Fit (x ∷ xs) so h = let p = and_parts (test x) (list_all test xs) h in (so x p.0, each_from test Fit xs so p.1)
 
 abbrev pub WeightFits : Particle → Type 0
 WeightFits p = p.weight < 2 ^ 16
@@ -145,48 +113,6 @@ track_fits limit n t lim few h =
       keys = record { few = omega (arith, leb-true (length t.keys) 1024 p2.1); each = keys_fit limit t.keys lim p3.1 };
     }
 
-pub record PlaneFits (plane : Plane) : Type 0 where
-  pub normal : VectorFits plane.normal
-  pub offset : FitsSigned w64 plane.offset
-
-offset_fits : (z : ℤ) → IsTrue (is_axis_within (pos (2 ^ 40)) z) → FitsSigned w64 z
-offset_fits z h = fits z (omega (arith, axis_fact (pos (2 ^ 40)) z (omega (arith, ints)) h))
-
-plane_fits : (plane : Plane) → IsTrue (is_valid_plane plane) → PlaneFits plane
-plane_fits plane h =
-    let p = and_parts _ _ h in
-    let q = and_parts _ _ p.0 in
-    let w = (within_facts (pos 1024) plane.normal (omega (arith, ints))).0 q.0 in
-    record { normal = vector_fits plane.normal 1024 (omega arith) w; offset = offset_fits plane.offset p.1 }
-
-pub record SphereFits (sphere : Sphere) : Type 0 where
-  pub centre : VectorFits sphere.centre
-  pub radius : FitsSigned w64 sphere.radius
-
--- the middle of a reach, and half of it, are no greater than its ends
-reach_parts : (c r : ℤ) (b : ℕ) → unsigned_abs (c +ℤ r) ≤ b → unsigned_abs (c -ℤ r) ≤ b → (unsigned_abs c ≤ b) × (unsigned_abs r ≤ b)
-reach_parts c r b h k =
-    let up = size_above (c +ℤ r) in let down = size_below (c +ℤ r) in
-    let high = size_above (c -ℤ r) in let low = size_below (c -ℤ r) in (
-      size_le c b (omega (arith, ints, up, high, h, k)) (omega (arith, ints, down, low, h, k)),
-      size_le r b (omega (arith, ints, up, low, h, k)) (omega (arith, ints, down, high, h, k)),
-    )
-
-sphere_fits : (limit : ℤ) (s : Sphere) → IsLimit limit → IsTrue (is_valid_sphere limit s) → SphereFits s
-sphere_fits limit s lim h =
-    let p = and_parts _ _ h in
-    let q = and_parts _ _ p.0 in
-    let above = (within_facts limit _ lim.low).0 q.1 in
-    let below = (within_facts limit _ lim.low).0 p.1 in
-    let b = unsigned_abs limit in
-    let x = reach_parts s.centre.x s.radius b above.x below.x in
-    let y = reach_parts s.centre.y s.radius b above.y below.y in
-    let z = reach_parts s.centre.z s.radius b above.z below.z in
-    record {
-      centre = vector_fits s.centre b (omega (arith, lim.high)) (record { x = x.0; y = y.0; z = z.0 });
-      radius = fits s.radius (omega (arith, lim.high, x.1));
-    }
-
 -- ---- all of it
 
 pub record FixedFit (w : World) : Type 0 where
@@ -194,8 +120,7 @@ pub record FixedFit (w : World) : Type 0 where
   pub weights : AreFew WeightFits w.particles
   pub links : AreFew LinkFits w.links
   pub tracks : AreFew TrackFits w.tracks
-  pub planes : AreFew PlaneFits w.planes
-  pub spheres : AreFew SphereFits w.spheres
+  pub shapes : ShapesFit w.shapes
 
 pub fixed_fit : (w : World) → IsSound w → FixedFit w
 fixed_fit w sound =
@@ -205,9 +130,6 @@ fixed_fit w sound =
     let particles = and_parts (nat_le n 65536) (list_all (is_valid_particle w.limit) w.particles) f.particles in
     let few = leb-true n 65536 particles.0 in
     let links = (links_facts w.limit n w.links).0 f.links in
-    let planes = and_parts (nat_le (length w.planes) 256) (list_all is_valid_plane w.planes) f.planes in
-    let spheres = and_parts (nat_le (length w.spheres) 256) (list_all (is_valid_sphere w.limit) w.spheres) f.spheres in
-    let tracks = and_parts (nat_le (length w.tracks) 4096) (list_all (is_valid_track w.limit n) w.tracks) (and_parts _ _ f.tracks).0 in
     record {
       settings = settings_fit w sound f;
       weights = record { few = omega (arith, few); each = weights_fit w.limit w.particles (all_fit w.limit w.particles particles.1) };
@@ -215,16 +137,7 @@ fixed_fit w sound =
         few = omega (arith, links.number);
         each = links_fit w.limit n w.links lim few (recursion_from_All (ValidLink w.limit n) w.links links.each);
       };
-      tracks = record {
-        few = omega (arith, leb-true (length w.tracks) 4096 tracks.0);
-        each = each_from (is_valid_track w.limit n) TrackFits w.tracks (λ t h. track_fits w.limit n t lim few h) tracks.1;
-      };
-      planes = record {
-        few = omega (arith, leb-true (length w.planes) 256 planes.0);
-        each = each_from is_valid_plane PlaneFits w.planes plane_fits planes.1;
-      };
-      spheres = record {
-        few = omega (arith, leb-true (length w.spheres) 256 spheres.0);
-        each = each_from (is_valid_sphere w.limit) SphereFits w.spheres (λ s h. sphere_fits w.limit s lim h) spheres.1;
-      };
+      tracks = few_from 4096 (is_valid_track w.limit n) TrackFits w.tracks (omega arith) (λ t h. track_fits w.limit n t lim few h)
+          (and_parts _ _ f.tracks).0;
+      shapes = shapes_fit w.limit w.shapes lim f.shapes;
     }

@@ -1,7 +1,6 @@
 -- The bytes of a scene are the same for two sound worlds exactly where they are of one scene.
-use Rattle.std.proofs.Common.{◌≡◌, refl, sym, ap, ◌∙◌, ℕ, zero, suc, false, List, [], ◌∷◌, ◌++◌, length, map}
+use Rattle.std.proofs.Common.{◌≡◌, refl, sym, ap, ◌∙◌, ℕ, zero, suc, false, List, [], ◌∷◌, ◌++◌, map}
 use Rattle.std.specs.List.{flat_map}
-use Rattle.std.proofs.lemmas.List.{map-id}
 use Rattle.std.proofs.lemmas.List.Folds.{flat_map-map}
 use Rattle.pbd_num.specs.Vectors.{zero_vector}
 use Rattle.pbd_world.specs.declared.parts.Particle.{Particle}
@@ -10,18 +9,17 @@ use Rattle.pbd_world.specs.declared.parts.Kind.{Kind}
 use Rattle.pbd_world.specs.declared.parts.Kind.TheVariants.{Stretch, Shear, Bend, Plain}
 use Rattle.pbd_world.specs.declared.parts.Key.{Key}
 use Rattle.pbd_world.specs.declared.parts.Track.{Track}
-use Rattle.pbd_world.specs.declared.parts.Plane.{Plane}
-use Rattle.pbd_world.specs.declared.parts.Sphere.{Sphere}
 use Rattle.pbd_world.specs.Ledger.{zero_totals}
 use Rattle.pbd_world.specs.World.{World, IsSound, AreOfOneScene, unchanging}
 use Rattle.pbd_world.proofs.KeepingOn.{length-mapped}
 use Rattle.pbd_world.proofs.SameShape.{blank, unlive}
 use Rattle.pbd_log.specs.Entries.{number_bytes}
 use Rattle.pbd_encoding.specs.Scene.{listed, settings_of, scene_head_bytes, weight_bytes, kind_number, link_bytes, key_bytes, track_bytes}
-use Rattle.pbd_encoding.specs.Scene.{plane_bytes, sphere_bytes, scene_bytes}
+use Rattle.pbd_encoding.specs.Scene.{shape_bytes, scene_bytes}
 use Rattle.pbd_encoding.proofs.Texts.{Tells, both_tell, tells_so, number_tells, byte_tells, signed_tells, vector_tells, sum_tells}
-use Rattle.pbd_encoding.proofs.Texts.{list_tells, AreFew}
-use Rattle.pbd_encoding.proofs.Fitting.{WeightFits, LinkFits, KeyFits, TrackFits, PlaneFits, SphereFits, FixedFit, fixed_fit}
+use Rattle.pbd_encoding.proofs.Texts.{list_tells, items_tell}
+use Rattle.pbd_encoding.proofs.Fitting.{WeightFits, LinkFits, KeyFits, TrackFits, FixedFit, fixed_fit}
+use Rattle.pbd_encoding.proofs.Shapes.{shapes_tell}
 
 -- ---- what each part tells
 
@@ -96,27 +94,10 @@ key_tells j k f g =
     tells_so (both_tell (number_tells 4 j.step k.step f.step g.step) (vector_tells j.place k.place f.place g.place))
     (λ e i. record { step = e.0 i; place = e.1 i })
 
--- lists that look alike item by item are alike
-alike : {A : Type 0} (xs ys : List A) → map (λ (x : A). x) xs ≡ map (λ (x : A). x) ys → xs ≡ ys
-alike xs ys e = sym (map-id xs) ∙ e ∙ map-id ys
-
 track_tells : (t u : Track) → TrackFits t → TrackFits u → Tells (track_bytes t) (track_bytes u) (t ≡ u)
 track_tells t u f g =
-    let keys = list_tells {A = Key} key_bytes (λ key. key) KeyFits t.keys u.keys key_tells f.keys g.keys in
-    tells_so (both_tell (number_tells 4 t.particle u.particle f.particle g.particle) keys)
-    (λ e i. record { particle = e.0 i; keys = alike t.keys u.keys e.1 i })
-
-plane_tells : (p q : Plane) → PlaneFits p → PlaneFits q → Tells (plane_bytes p) (plane_bytes q) (p ≡ q)
-unfolding plane_bytes
-plane_tells p q f g =
-    tells_so (both_tell (vector_tells p.normal q.normal f.normal g.normal) (signed_tells p.offset q.offset f.offset g.offset))
-    (λ e i. record { normal = e.0 i; offset = e.1 i })
-
-sphere_tells : (s t : Sphere) → SphereFits s → SphereFits t → Tells (sphere_bytes s) (sphere_bytes t) (s ≡ t)
-unfolding sphere_bytes
-sphere_tells s t f g =
-    tells_so (both_tell (vector_tells s.centre t.centre f.centre g.centre) (signed_tells s.radius t.radius f.radius g.radius))
-    (λ e i. record { centre = e.0 i; radius = e.1 i })
+    let keys = items_tell key_bytes KeyFits t.keys u.keys key_tells f.keys g.keys in
+    tells_so (both_tell (number_tells 4 t.particle u.particle f.particle g.particle) keys) (λ e i. record { particle = e.0 i; keys = e.1 i })
 
 -- ---- all of it
 
@@ -127,25 +108,23 @@ scene_tells v w f g =
     let weights = list_tells {A = Particle} weight_bytes (λ p. blank p) WeightFits v.particles w.particles weight_tells f.weights g.weights
     in
     let links = list_tells {A = Link} link_bytes (λ l. unlive l) LinkFits v.links w.links link_tells f.links g.links in
-    let tracks = list_tells {A = Track} track_bytes (λ t. t) TrackFits v.tracks w.tracks track_tells f.tracks g.tracks in
-    let planes = list_tells {A = Plane} plane_bytes (λ p. p) PlaneFits v.planes w.planes plane_tells f.planes g.planes in
-    let spheres = list_tells {A = Sphere} sphere_bytes (λ s. s) SphereFits v.spheres w.spheres sphere_tells f.spheres g.spheres in
-    tells_so (both_tell (both_tell (both_tell (both_tell (both_tell head weights) links) tracks) planes) spheres) (λ e i. record {
-      limit = (e.0.0.0.0.0.settings i).limit;
+    let tracks = items_tell track_bytes TrackFits v.tracks w.tracks track_tells f.tracks g.tracks in
+    let shapes = shapes_tell v.shapes w.shapes f.shapes g.shapes in
+    tells_so (both_tell (both_tell (both_tell (both_tell head weights) links) tracks) shapes) (λ e i. record {
+      limit = (e.0.0.0.0.settings i).limit;
       steps = 0;
-      particles = e.0.0.0.0.1 i;
-      links = e.0.0.0.1 i;
-      tracks = alike v.tracks w.tracks e.0.0.1 i;
-      planes = alike v.planes w.planes e.0.1 i;
-      spheres = alike v.spheres w.spheres e.1 i;
+      particles = e.0.0.0.1 i;
+      links = e.0.0.1 i;
+      tracks = e.0.1 i;
+      shapes = e.1 i;
       gravity = zero_vector;
-      passes = (e.0.0.0.0.0.settings i).passes;
-      damping = (e.0.0.0.0.0.settings i).damping;
-      thickness = (e.0.0.0.0.0.settings i).thickness;
-      friction = (e.0.0.0.0.0.settings i).friction;
+      passes = (e.0.0.0.0.settings i).passes;
+      damping = (e.0.0.0.0.settings i).damping;
+      thickness = (e.0.0.0.0.settings i).thickness;
+      friction = (e.0.0.0.0.settings i).friction;
       contacts = 0;
       totals = zero_totals;
-      opening = e.0.0.0.0.0.opening i;
+      opening = e.0.0.0.0.opening i;
     })
 
 pub scenes_differ : (v w : World) → IsSound v → IsSound w → scene_bytes v ≡ scene_bytes w → AreOfOneScene v w
@@ -169,8 +148,7 @@ unfolding scene_bytes
 unchanged w =
     let weights = list_same {A = Particle} weight_bytes (λ p. blank p) w.particles (λ p. refl) in
     let links = list_same {A = Link} link_bytes (λ l. unlive l) w.links link_same in
-    λ i. scene_head_bytes (settings_of w) w.opening ++ weights i ++ links i ++ listed track_bytes w.tracks ++ listed plane_bytes w.planes
-    ++ listed sphere_bytes w.spheres
+    λ i. scene_head_bytes (settings_of w) w.opening ++ weights i ++ links i ++ listed track_bytes w.tracks ++ shape_bytes w.shapes
 
 pub one_text : (v w : World) → AreOfOneScene v w → scene_bytes v ≡ scene_bytes w
 one_text v w same = sym (unchanged v) ∙ ap scene_bytes same ∙ unchanged w

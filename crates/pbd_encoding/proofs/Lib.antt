@@ -11,5 +11,7 @@ pub mod Forming
 pub mod Bytes
 pub mod Going
 pub mod Texts
+pub mod Ranges
+pub mod Shapes
 pub mod Fitting
 pub mod Fixed

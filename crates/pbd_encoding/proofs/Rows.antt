@@ -3,11 +3,12 @@ use Rattle.std.specs.Prelude.{◌≡◌, refl, ℕ, zero, suc, pos, neg_ℤ, Boo
 use Rattle.pbd_num.specs.Vectors.{zero_vector}
 use Rattle.pbd_world.specs.declared.parts.Kind.TheVariants.{Plain}
 use Rattle.pbd_world.specs.Ledger.{Sum, zero_sum, zero_totals}
+use Rattle.pbd_world.specs.Shapes.{no_shapes}
 use Rattle.pbd_world.specs.World.{World}
 use Rattle.pbd_log.specs.Entries.{number_bytes, signed_bytes, vector_bytes}
 use Rattle.pbd_encoding.specs.Encoding.{wide_bytes, sum_bytes, header_bytes, head_bytes, first_totals_bytes, last_totals_bytes, state_bytes}
 use Rattle.pbd_encoding.specs.Form.{is_foreign}
-use Rattle.pbd_encoding.specs.Scene.{scene_head_bytes, link_bytes, key_bytes, plane_bytes, sphere_bytes, scene_bytes}
+use Rattle.pbd_encoding.specs.Scene.{scene_head_bytes, link_bytes, key_bytes, plane_bytes, sphere_bytes, shape_bytes, scene_bytes}
 
 -- n bytes of one value
 abbrev many : ℕ → ℕ → List ℕ
@@ -26,8 +27,7 @@ small = record {
       ∷ record { at = zero_vector; before = record { x = pos 3; y = pos 0; z = pos 0 }; weight = 1; held = true } ∷ [];
   links = record { a = 0; b = 1; rest = pos 1; k = 256; tear = pos 0; kind = Plain; live = false } ∷ [];
   tracks = [];
-  planes = [];
-  spheres = [];
+  shapes = no_shapes;
   gravity = record { x = pos 0; y = neg_ℤ (pos 10); z = pos 0 };
   passes = 4;
   damping = pos 0;
@@ -61,7 +61,7 @@ small_row = refl
 abbrev led : World
 led = record small {
   tracks = record { particle = 1; keys = record { step = 7; place = zero_vector } ∷ [] } ∷ [];
-  planes = record { normal = record { x = pos 0; y = pos 1; z = pos 0 }; offset = neg_ℤ (pos 1) } ∷ [];
+  shapes = record no_shapes { planes = record { normal = record { x = pos 0; y = pos 1; z = pos 0 }; offset = neg_ℤ (pos 1) } ∷ [] };
 }
 
 led_row : scene_bytes led ≡
@@ -71,8 +71,8 @@ led_row : scene_bytes led ≡
     ++ 0 ∷ 0 ∷ 0 ∷ 1 ∷ [] ++ 0 ∷ 0 ∷ 0 ∷ 1 ∷ 0 ∷ 0 ∷ 0 ∷ 1 ∷ [] ++ 0 ∷ 0 ∷ 0 ∷ 7 ∷ [] ++ many 24 0
     ++ 0 ∷ 0 ∷ 0 ∷ 1 ∷ [] ++ many 15 0 ++ 1 ∷ [] ++ many 8 0 ++ many 8 255
     ++ many 4 0
-unfolding scene_bytes scene_head_bytes link_bytes key_bytes plane_bytes sphere_bytes sum_bytes wide_bytes vector_bytes signed_bytes
-    number_bytes
+unfolding scene_bytes scene_head_bytes link_bytes key_bytes plane_bytes sphere_bytes shape_bytes sum_bytes wide_bytes vector_bytes
+    signed_bytes number_bytes
 led_row = refl
 
 -- of two particles and a link the flags stand at 224 to 226: a header's byte has to be the header's, and a flag 0 or 1

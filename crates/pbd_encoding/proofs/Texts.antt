@@ -1,9 +1,9 @@
 -- Texts that tell what they spell, whatever follows them.
-use Rattle.std.proofs.Common.{◌≡◌, refl, sym, ap, ◌∙◌, ℕ, ◌+◌, ◌^◌, ◌<◌, ℤ, List, [], ◌∷◌, ◌++◌, length, drop, map, append_assoc, arith}
+use Rattle.std.proofs.Common.{◌≡◌, refl, sym, ap, ◌∙◌, ℕ, ◌^◌, ◌<◌, ℤ, List, [], ◌∷◌, ◌++◌, length, drop, map, append_assoc, arith}
 use Rattle.std.specs.Prelude.{FitsSigned, slice_index}
 use Rattle.std.specs.Int.{Width, w64, cast_signed, cast_unsigned}
 use Rattle.std.specs.List.{flat_map, AllByRecursion}
-use Rattle.std.proofs.lemmas.List.{drop_at}
+use Rattle.std.proofs.lemmas.List.{drop_at, map-id}
 use Rattle.std.proofs.Math.Facts.{to_z-of_z, Fits-of_z}
 use Rattle.byteorder.specs.Endian.{big_number}
 use Rattle.byteorder.specs.Numbers.{big_number-reads_back}
@@ -105,3 +105,9 @@ pub list_tells : {A B : Type 0} (text : A → List ℕ) (seen : A → B) (Fit : 
 list_tells text seen Fit xs ys each fx fy =
     let number = number_tells 4 (length xs) (length ys) (omega (arith, fx.few)) (omega (arith, fy.few)) in
     tells_so (then_tells number (λ e. each_tell text seen Fit xs ys each fx.each fy.each e)) (λ p. p.1)
+
+-- items of which each is told in full
+pub items_tell : {A : Type 0} (text : A → List ℕ) (Fit : A → Type 0) (xs ys : List A) → EachTells text (λ (x : A). x) Fit
+    → AreFew Fit xs → AreFew Fit ys → Tells (listed text xs) (listed text ys) (xs ≡ ys)
+items_tell {A} text Fit xs ys each fx fy =
+    tells_so (list_tells text (λ (x : A). x) Fit xs ys each fx fy) (λ e. sym (map-id xs) ∙ e ∙ map-id ys)

@@ -9,6 +9,7 @@ use Rattle.pbd_world.specs.declared.parts.Key.{Key}
 use Rattle.pbd_world.specs.declared.parts.Track.{Track}
 use Rattle.pbd_world.specs.declared.parts.Plane.{Plane}
 use Rattle.pbd_world.specs.declared.parts.Sphere.{Sphere}
+use Rattle.pbd_world.specs.declared.parts.ShapeLists.{ShapeLists}
 use Rattle.pbd_world.specs.Ledger.{Sum}
 use Rattle.pbd_world.specs.World.{World}
 use Rattle.pbd_log.specs.Entries.{number_bytes, signed_bytes, vector_bytes}
@@ -57,6 +58,10 @@ plane_bytes plane = vector_bytes plane.normal ++ signed_bytes plane.offset
 unfoldable pub sphere_bytes : Sphere → List ℕ
 sphere_bytes sphere = vector_bytes sphere.centre ++ signed_bytes sphere.radius
 
+-- the planes, then the spheres
+unfoldable pub shape_bytes : ShapeLists → List ℕ
+shape_bytes lists = listed plane_bytes lists.planes ++ listed sphere_bytes lists.spheres
+
 -- the bytes of a world's scene: the settings, the opening momentum, the weights, the links, the tracks and the shapes
 unfoldable pub scene_bytes : World → List ℕ
 scene_bytes w =
@@ -64,5 +69,4 @@ scene_bytes w =
     ++ listed weight_bytes w.particles
     ++ listed link_bytes w.links
     ++ listed track_bytes w.tracks
-    ++ listed plane_bytes w.planes
-    ++ listed sphere_bytes w.spheres
+    ++ shape_bytes w.shapes
