@@ -9,7 +9,6 @@ ghost use Rattle.pbd_schedule.specs.Notes.{ComeTo, Faults};
 
 use crate::check::stops_at;
 use crate::event::{Event, EventFault};
-use crate::lists::fill;
 use crate::mix::{Mix, first_leaving};
 use pbd_pair::{Bonds, Note};
 use pbd_store::{Steps, Store};
@@ -59,8 +58,8 @@ impl Notes {
             first_held: false,
             second_held: false,
         };
-        fill(&mut self.notes, none, n);
-        fill(&mut self.stages, 0, n);
+        self.notes.fill(none, n);
+        self.stages.fill(0, n);
     }
 }
 
