@@ -1,20 +1,22 @@
 -- The bytes of a scene, as a hasher takes them up piece by piece.
-use Rattle.std.proofs.Common.{◌≡◌, refl, sym, ap, ◌∙◌, subst, ℕ, suc, ◌+◌, ◌<◌, ◌≤◌, ◌^◌, List, [], ◌∷◌, ◌++◌, length, take, get_or}
+use Rattle.std.proofs.Common.{◌≡◌, refl, sym, ap, ◌∙◌, subst, ℕ, suc, ◌+◌, ◌<◌, ◌≤◌, ◌^◌, List, [], ◌∷◌, ◌++◌, length, take, get_or, ℤ}
 use Rattle.std.proofs.Common.{add-one, append_assoc, append-nil, arith}
+use Rattle.std.specs.Prelude.{IsTrue}
 use Rattle.std.specs.List.{flat_map, AllByRecursion}
 use Rattle.std.proofs.Math.Seq.{take-suc}
+use Rattle.std.proofs.lemmas.Bool.{and_parts, leb-true}
 use Rattle.std.proofs.lemmas.List.{flat_map_more, take_all}
 use Rattle.std.proofs.lemmas.List.Elements.{All-from_recursion}
 use Rattle.sha2.specs.declared.Sha256.{Sha256}
 use Rattle.sha2.specs.Hashers.{Holds256}
 use Rattle.pbd_world.specs.declared.parts.Track.{Track}
 use Rattle.pbd_world.specs.declared.parts.Link.{Link}
-use Rattle.pbd_world.specs.declared.parts.Plane.{Plane}
-use Rattle.pbd_world.specs.declared.parts.Sphere.{Sphere}
+use Rattle.pbd_world.specs.declared.parts.ShapeLists.{ShapeLists}
+use Rattle.pbd_world.specs.Shapes.{are_valid_planes, are_valid_spheres, are_valid_shapes}
 use Rattle.pbd_world.specs.World.{World, IsSound}
 use Rattle.pbd_log.specs.Entries.{number_bytes}
-use Rattle.pbd_encoding.specs.Scene.{listed, scene_head_bytes, settings_of, weight_bytes, link_bytes, track_bytes, plane_bytes}
-use Rattle.pbd_encoding.specs.Scene.{sphere_bytes, scene_bytes}
+use Rattle.pbd_encoding.specs.Scene.{listed, scene_head_bytes, settings_of, weight_bytes, link_bytes, track_bytes, shape_bytes}
+use Rattle.pbd_encoding.specs.Scene.{scene_bytes}
 use Rattle.pbd_encoding.proofs.Fitting.{TrackFits, fixed_fit}
 use Rattle.pbd_state.specs.Feeding.{Fed}
 use Rattle.pbd_state.specs.Naming.{HaveFewKeys}
@@ -44,15 +46,12 @@ pub all_items : {A : Type 0} (front : List ℕ) (f : A → List ℕ) (xs : List 
 all_items front f xs k le = ap (λ (ys : List _). front ++ flat_map f ys) (take_all k xs le)
 
 -- all that was fed is the bytes of the scene
-pub scene_fed : (w : World) (head : List ℕ) (links : List Link) (tracks : List Track) (planes : List Plane) (spheres : List Sphere)
-    → head ≡ scene_head_bytes (settings_of w) w.opening → links ≡ w.links → tracks ≡ w.tracks → planes ≡ w.planes → spheres ≡ w.spheres
-    → head ++ listed weight_bytes w.particles ++ listed link_bytes links ++ listed track_bytes tracks ++ listed plane_bytes planes
-    ++ listed sphere_bytes spheres
-    ≡ scene_bytes w
+pub scene_fed : (w : World) (head : List ℕ) (links : List Link) (tracks : List Track)
+    → head ≡ scene_head_bytes (settings_of w) w.opening → links ≡ w.links → tracks ≡ w.tracks
+    → head ++ listed weight_bytes w.particles ++ listed link_bytes links ++ listed track_bytes tracks ++ shape_bytes w.shapes ≡ scene_bytes w
 unfolding scene_bytes
-scene_fed w head links tracks planes spheres eh el et ep es = λ i.
-    eh i ++ listed weight_bytes w.particles ++ listed link_bytes (el i) ++ listed track_bytes (et i) ++ listed plane_bytes (ep i)
-    ++ listed sphere_bytes (es i)
+scene_fed w head links tracks eh el et = λ i.
+    eh i ++ listed weight_bytes w.particles ++ listed link_bytes (el i) ++ listed track_bytes (et i) ++ shape_bytes w.shapes
 
 -- ---- tracks
 
@@ -66,3 +65,13 @@ keys_of (t ∷ tracks) h = (h.0.keys.few, keys_of tracks h.1)
 
 pub few_keys : (w : World) → IsSound w → HaveFewKeys w.tracks
 few_keys w sound = keys_of w.tracks (fixed_fit w sound).tracks.each
+
+-- ---- shapes
+
+pub few_shapes : (limit : ℤ) (lists : ShapeLists) → IsTrue (are_valid_shapes limit lists)
+    → (length lists.planes ≤ 256) × (length lists.spheres ≤ 256)
+few_shapes limit lists h =
+    let p = and_parts (are_valid_planes lists.planes) (are_valid_spheres limit lists.spheres) h in (
+      leb-true (length lists.planes) 256 (and_parts _ _ p.0).0,
+      leb-true (length lists.spheres) 256 (and_parts _ _ p.1).0,
+    )

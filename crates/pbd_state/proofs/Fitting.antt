@@ -4,7 +4,7 @@ use Rattle.pbd_world.specs.World.{World, IsSound}
 use Rattle.pbd_step.proofs.Mild.{sound_mild}
 use Rattle.pbd_step.proofs.SoundRoom.{sound_room}
 use Rattle.pbd_encoding.specs.Laws.{NumbersFit}
-use Rattle.pbd_encoding.proofs.Fitting.{vector_fits, sum_fits}
+use Rattle.pbd_encoding.proofs.Ranges.{vector_fits, sum_fits}
 
 pub numbers_fit : (w : World) → IsSound w → NumbersFit w
 numbers_fit w sound =

@@ -1,6 +1,6 @@
 // The name of a scene.
 ghost use Rattle.std.specs.Prelude.{◌≡◌, ◌+◌, ◌<◌, ◌≤◌, ◌^◌, length};
-ghost use Rattle.pbd_encoding.specs.Scene.{listed, settings_of, weight_bytes, track_bytes};
+ghost use Rattle.pbd_encoding.specs.Scene.{listed, settings_of, weight_bytes, track_bytes, shape_bytes};
 ghost use Rattle.pbd_state.specs.Feeding.{Fed};
 ghost use Rattle.pbd_state.specs.Naming.{scene_name as name_of, HaveFewKeys};
 
@@ -80,6 +80,17 @@ fn feed_tracks(hasher: &mut Sha256, tracks: &[Track])
     }
 }
 
+/// Feeds the shapes of each kind: how many there are, and each.
+#[tactic(auto, using(crate::proofs::Feeding::few_shapes), unfolding(pbd_encoding::specs::Scene::shape_bytes))]
+fn feed_shapes<const L: usize>(hasher: &mut Sha256, shown: &Shown<'_, L>)
+    requires lanes { L ≤ 16 }
+    ensures { Fed hasher.old hasher.new (shape_bytes shown.now.shapes) }
+{
+    let shapes = shown.shapes();
+    feed_all(hasher, shapes.planes.as_slice());
+    feed_all(hasher, shapes.spheres.as_slice());
+}
+
 /// The name of a world's scene: the SHA-256 digest of all that no command changes. So worlds of one scene have one name, and
 /// the bytes that are hashed tell scenes apart. They are fed piece by piece, which takes no memory.
 pub fn scene_name<const L: usize, G: Ledger>(shown: &Shown<'_, L>, steps: &mut Steps<G>) -> [u8; 32]
@@ -93,7 +104,6 @@ pub fn scene_name<const L: usize, G: Ledger>(shown: &Shown<'_, L>, steps: &mut S
     feed_weights(&mut hasher, shown, steps);
     feed_all(&mut hasher, shown.links());
     feed_tracks(&mut hasher, shown.tracks());
-    feed_all(&mut hasher, shown.planes());
-    feed_all(&mut hasher, shown.spheres());
+    feed_shapes(&mut hasher, shown);
     hasher.finalize()
 }

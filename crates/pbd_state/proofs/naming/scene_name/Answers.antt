@@ -17,6 +17,5 @@ returns-clause-value g c =
     c.as_slice.ensures ∙ c.scene_head-head.ensures ∙ (λ i. scene_head_bytes (c.settings_of.ensures i) (c.opening.ensures.value i)) in
     let begun = c.feed_weights.ensures.fed _ (c.update.ensures _ c.new-hasher.ensures) in
     let tracked = c.feed_tracks.ensures _ (c.feed_all.ensures _ begun) in
-    let all = c.feed_all-3.ensures _ (c.feed_all-2.ensures _ tracked) in
-    c.finalize.ensures _ all
-    ∙ ap sha256 (scene_fed w _ _ _ _ _ head c.links.ensures.value c.tracks.ensures.value c.planes.ensures.value c.spheres.ensures.value)
+    let all = c.feed_shapes.ensures _ tracked in
+    c.finalize.ensures _ all ∙ ap sha256 (scene_fed w _ _ _ head c.links.ensures.value c.tracks.ensures.value)
