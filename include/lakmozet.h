@@ -3,19 +3,19 @@
  *
  * What to link is what tools/install puts into a folder, or an archive; docs/EMBEDDING.md has the commands.
  *
- * Every call is total: no argument of its type breaks it, none aborts, and each answers a number. What the exports promise is
- * proved of the sources; that these lines agree with the archive is tested by tools/embed-check.
+ * Every call is total: no argument of its type breaks it, none aborts, and each but lak_version and lak_close answers a number.
+ * What the exports promise is proved of the sources; that these lines agree with the archive is tested by tools/embed-check.
  *
- * What no call ever does: it starts no thread, uses no lock, no locale, no file, no clock and no floating point, and it writes
- * nowhere but through its arguments and into what the handle holds. After lak_open or lak_open_mesh no call on a handle takes
- * memory, until lak_close gives it back. lak_mesh_triangles, lak_record and lak_replay, which have no handle, take memory and give
- * it back before they return.
+ * What no call ever does: it starts no thread, uses no lock but malloc's, no locale, no file, no clock and no floating point (but
+ * to read a float in a scene's text, which no scene may have), and it writes nowhere but through its arguments and into what the
+ * handle holds. After lak_open or lak_open_mesh no call on a handle takes memory, until lak_close gives it back.
+ * lak_mesh_triangles, lak_record and lak_replay, which have no handle, take memory and give it back before they return.
  *
  * What a caller has to take care of, and nothing checks:
  *   - A handle is all zero bytes ({0} in C, {} in C++) or what the last call left. It may be moved, and is never copied and
  *     used twice. Its members are not for use.
  *   - A handle is used by one call at a time, on any thread: where a call follows one of another thread, something stands
- *     between them that orders the two, as a lock, a join or a message does. Handles of their own share nothing.
+ *     between them that orders the two, as a lock, a join or a message does. Handles of their own share nothing but malloc.
  *   - Pointers are not null, also where a length is 0; they have room for what their type and length say, and are aligned.
  *   - Arguments of one call don't overlap.
  *   - malloc, realloc and free are one allocator's, whose blocks are aligned as C asks. No call is made from a signal handler,
@@ -54,7 +54,7 @@ typedef struct {
 
 /* What is wrong with a scene, and where: see lak_open. What an answer doesn't tell is 0. */
 typedef struct {
-    uint64_t offset;   /* of a text that is no TOML: how many bytes stand before the place where its reader stopped */
+    uint64_t offset;   /* of a text that is no TOML: where its reader stopped. Proved is that it is at most the text's length */
     uint32_t position; /* in the array of the table, from 0 */
     uint8_t rule;      /* 2 to 11: see lak_rule_name */
     uint8_t table;     /* 0 to 7: see lak_table_name */
@@ -118,8 +118,8 @@ typedef struct {
 } lak_wide;
 
 /*
- * The momentum of the particles that aren't held (the sum of their velocities, axis by axis), that at opening, and the sums of
- * all moves since, by what made them: momentum is opening and the six totals together.
+ * The momentum of the particles that aren't held (the sum of their velocities, axis by axis), that at opening, and the totals of
+ * what moved it since, one for each cause: momentum is opening and the six totals together.
  */
 typedef struct {
     lak_wide momentum[3], opening[3];
@@ -141,13 +141,13 @@ typedef struct {
     uint32_t slots;     /* at most 16 */
 } lak_counts_of_world;
 
-/* What every call on a handle may answer beside its own answers. */
+/* LAK_DONE, and the library's own answers, of which each call on a handle but opening and closing may answer LAK_CLOSED. */
 enum {
     LAK_DONE = 0,
     LAK_CLOSED = 64,  /* the handle holds nothing; nothing was done, and nothing written but zeros into `left` */
     LAK_IN_USE = 65,  /* lak_open, lak_open_mesh: the handle holds a cloth, which it keeps */
     LAK_NO_SLOT = 66, /* there is no such slot; lak_open, lak_open_mesh: more than 16 slots */
-    LAK_NO_ROOM = 67, /* not all was written, since the memory is too short; the count says how much there is */
+    LAK_NO_ROOM = 67, /* not all was written, or nothing of a state: the memory is too short. The count says how much there is */
     LAK_NO_STATE = 68 /* lak_state_read: the bytes are no state of the scene; where they go wrong is told */
 };
 
@@ -180,7 +180,7 @@ enum {
     LAK_LOG_REFUSED = 41,    /* lak_replay: the bytes are no log; where they stop being one is told */
     LAK_MISMATCH = 42,       /* lak_replay: an entry differs, which is told */
     LAK_SOME_REFUSED = 43,   /* lak_record, lak_replay: all went well, but a command was refused */
-    LAK_OUT_OF_MEMORY = 44,  /* there was no memory */
+    LAK_OUT_OF_MEMORY = 44,  /* there was no memory; when that is, no clause says */
     LAK_MESH_REFUSED = 46    /* lak_open_mesh, lak_mesh_triangles: the mesh or its settings break a rule, which is told */
 };
 
@@ -207,8 +207,9 @@ int32_t lak_open(lak_cloth *cloth, const uint8_t *toml, size_t length, uint32_t 
  * another, as numbers of vertices from 0, and no face names a vertex twice. Nothing of them is kept.
  *
  * The links come behind those of the scene: along the sides of each face, then across each face with four corners, and where
- * `bends` isn't 0 across each edge that two faces share, from the corner beside it in one to that in the other. No two join the
- * same particles. With the weight 1, stiffness 256, no tearing and no bend links the world is that of the program's `obj`.
+ * `bends` isn't 0 across each edge that exactly two faces share, from the corner beside each of its ends in one to the corner
+ * beside that end in the other. Of those that join the same two particles the first alone is a link. With the weight 1,
+ * stiffness 256, no tearing and no bend links the world is that of the program's `obj`.
  *
  * Answers as lak_open's, and LAK_MESH_REFUSED: the handle stays closed, and `mesh_fault` has the first rule that is broken, the
  * settings first, then the number of corners, the vertices, the faces, and then what they make together:
@@ -260,10 +261,10 @@ int32_t lak_gravity(lak_cloth *cloth, lak_vec3 gravity);
 /* Keeps the whole world in a slot, from 0. No other slot changes. Takes no memory, and always succeeds where there is a slot. */
 int32_t lak_save(lak_cloth *cloth, uint32_t slot);
 
-/* Goes back to the world in a slot: all that follows is what followed after lak_save. No slot changes. */
+/* Goes back to the world in a slot: the same calls come to the same from there as after lak_save. No slot changes. */
 int32_t lak_restore(lak_cloth *cloth, uint32_t slot);
 
-/* ---- reading: LAK_DONE or LAK_CLOSED. No reading call changes what the handle holds. */
+/* ---- reading: LAK_DONE, LAK_CLOSED, or what is said below. No reading call changes what the handle holds. */
 
 int32_t lak_counts(lak_cloth *cloth, lak_counts_of_world *counts);
 int32_t lak_sums(lak_cloth *cloth, lak_sums_of_world *sums);
@@ -289,7 +290,7 @@ int32_t lak_link_between(lak_cloth *cloth, uint32_t a, uint32_t b, uint32_t *lin
 /* The places of all particles, in the order of their numbers. */
 int32_t lak_places(lak_cloth *cloth, lak_vec3 *into, size_t room, uint32_t *count);
 
-/* Their places one step before: the difference is a particle's velocity. */
+/* Their places one step before, as friction and commands left them: the difference is a particle's velocity. */
 int32_t lak_places_before(lak_cloth *cloth, lak_vec3 *into, size_t room, uint32_t *count);
 
 /* A 1 for each held particle and a 0 for each other, in the order of their numbers. */
@@ -307,9 +308,9 @@ int32_t lak_gone_since(lak_cloth *cloth, uint32_t slot, uint32_t *into, size_t r
 /* ---- the world as bytes: saved games, players who join late, and what two machines compare */
 
 /*
- * Writes the name of the handle's scene: the SHA-256 digest of all of it that no command changes, however it was opened. States
- * and digests carry it, so that those of another scene are refused. It is the same for all worlds of the scene, so an engine
- * asks once and keeps it beside the handle. LAK_DONE or LAK_CLOSED. docs/FORMATS.md has the bytes of a scene and of a state.
+ * Writes the name of the handle's scene: the SHA-256 digest of all of it that no command changes, however it was opened. A state
+ * carries the `name` that it is written with, and is refused under any other. The scene's is the same for all its worlds, so an
+ * engine asks once and keeps it beside the handle. LAK_DONE or LAK_CLOSED. docs/FORMATS.md has the bytes of a scene and of a state.
  */
 int32_t lak_scene_name(lak_cloth *cloth, lak_hash *name);
 
@@ -318,25 +319,26 @@ int32_t lak_state_size(lak_cloth *cloth, size_t *size);
 
 /*
  * Writes the state of the world: all of it that commands change, and nothing of the slots. `size` says how many bytes it has.
- * LAK_DONE, LAK_CLOSED, or LAK_NO_ROOM, and then nothing is written. Takes no memory.
+ * LAK_DONE, LAK_CLOSED, or LAK_NO_ROOM, and then `into` is left. Takes no memory.
  */
 int32_t lak_state_write(lak_cloth *cloth, lak_hash name, uint8_t *into, size_t room, size_t *size);
 
 /*
- * Goes over to the world whose state the bytes are, on a handle that was opened on the scene. What follows is what follows on
- * the machine that wrote it. No slot changes. Takes no memory. LAK_DONE, LAK_CLOSED, or LAK_NO_STATE, and then nothing changes,
- * and `offset` says how many bytes stand before the one that can't stand there, or before the field that is unsound. Bytes of
- * anybody can be handed in: what is taken is a sound world of the scene, and its state is those bytes.
+ * Goes over to the world whose state the bytes are, on a handle that was opened on the scene. The same calls come to the same
+ * from there as where it was written. No slot changes. Takes no memory. LAK_DONE, LAK_CLOSED, or LAK_NO_STATE, and then nothing
+ * changes, and `offset` says how many bytes stand before the one that can't stand there, or before the field that is unsound.
+ * Bytes of anybody can be handed in: what is taken is a sound world of the scene, and its state is those bytes.
  */
 int32_t lak_state_read(lak_cloth *cloth, lak_hash name, const uint8_t *state, size_t length, uint64_t *offset);
 
 /*
- * Writes the SHA-256 digest of the state. Equal worlds have equal digests, and worlds that differ in anything have
- * different states. LAK_DONE or LAK_CLOSED.
+ * Writes the SHA-256 digest of the state. Equal worlds have equal digests under one name, and worlds of one scene that differ in
+ * anything have different states. LAK_DONE or LAK_CLOSED.
  */
 int32_t lak_digest(lak_cloth *cloth, lak_hash name, lak_hash *digest);
 
-/* The same of the world in a slot: of the turn that all machines have confirmed. Answers LAK_NO_SLOT too, and then leaves `digest`. */
+/* The same of the world in a slot, as of a turn that all machines have confirmed. Answers LAK_NO_SLOT too, and then leaves
+ * `digest`. */
 int32_t lak_digest_slot(lak_cloth *cloth, uint32_t slot, lak_hash name, lak_hash *digest);
 
 /*
@@ -373,8 +375,8 @@ static inline size_t lak_cloth_triangles(uint32_t first, uint32_t rows, uint32_t
 /*
  * Writes the triangles of a mesh, given as lak_open_mesh takes it, as numbers of its vertices from 0: face by face, each from its
  * first corner to the sides that aren't at it, so that a face a b c d is a b c and a c d. A face of n corners is n - 2. It writes
- * as many as there is room for, in `count` how many there are, and leaves what stands behind them. Vertex v is the particle v
- * places behind the scene's own. They don't follow links that are cut or torn.
+ * as many as there is room for, in `count` how many there are, and leaves what stands behind them. Where the scene has n particles
+ * of its own, vertex v is particle n + v. The triangles don't follow links that are cut or torn.
  *
  * LAK_DONE, LAK_NO_ROOM: they are written, or as many as fit; `mesh_fault` is left as it was. LAK_MESH_REFUSED: `mesh_fault` has
  * the rule 1, 2 or 3 of lak_open_mesh, the first that is broken in its order, and its vertex or face. LAK_OUT_OF_MEMORY:
@@ -412,7 +414,7 @@ int32_t lak_record(const uint8_t *scene, size_t scene_length, const uint8_t *scr
  */
 int32_t lak_replay(const uint8_t *log, size_t length, uint8_t *output, size_t room, size_t *written, lak_stop *stop);
 
-/* ---- names, as the program prints them */
+/* ---- names: of refusals, rules of scenes, tables, keys and fields as the program prints them, of others the library's own */
 
 /* Of an answer: a refusal, a status, or one of the library's own. No two of them have one number. */
 static inline const char *lak_answer_name(int32_t answer)

@@ -1,9 +1,9 @@
 /*
  * Lakmozet for C++20: a handle that closes itself, spans for memory, and an answer from each call.
  *
- * Nothing here throws, takes memory or copies: each call is one call of lakmozet.h, which says what it does, its units and its
- * answers, and a cloth also keeps the name of its scene. The parts stand in that header's order, and what is added there gets its
- * line here. Compile with -std=c++20, also with -fno-exceptions, and link what a C program links. An empty span or text is fine,
+ * Nothing here throws, or takes memory by itself: each function stands for one of lakmozet.h, which says what it does, its units
+ * and its answers. Opening also asks for the name of the scene, which a cloth keeps. The parts stand in that header's order, and
+ * what is added there gets its line here. Compile with -std=c++20, also with -fno-exceptions, and link what a C program links. An empty span or text is fine,
  * also one that points nowhere.
  */
 #ifndef LAKMOZET_HPP
@@ -302,7 +302,7 @@ inline std::size_t cloth_triangles(std::uint32_t first, std::uint32_t rows, std:
     return {outcome, written};
 }
 
-/* ---- names, as the program prints them: those of the parts of a fault and a stop are lak_rule_name and its like */
+/* ---- names of answers: those of the parts of a fault and a stop are lak_rule_name and its like */
 
 [[nodiscard]] inline const char *name_of(Answer answer) noexcept { return lak_answer_name(static_cast<std::int32_t>(answer)); }
 [[nodiscard]] inline const char *name_of(Outcome outcome) noexcept { return lak_answer_name(static_cast<std::int32_t>(outcome)); }

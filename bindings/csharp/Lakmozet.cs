@@ -1,10 +1,11 @@
 // Lakmozet for C#: one file over the C library, with spans for memory and an answer from each call.
 //
-// Each call is one call of lakmozet.h, which says what it does, its units and its answers; the parts stand in that header's order,
-// and what is added there gets its line in Native and its line below. Compile with /unsafe. The library is found as a shared one
+// Each method stands for a call of lakmozet.h, which says what it does, its units and its answers; the parts stand in that header's
+// order, and what is added there gets its line in Native and its line below. Compile with /unsafe. The library is found as a shared one
 // by the name Native.Library: liblakmozet.so, liblakmozet.dylib or lakmozet.dll.
 //
-// A Cloth also keeps the name of its scene, which states and digests carry. It is used by one call at a time, on any thread.
+// A Cloth also keeps the name of its scene, for which opening asks, and hands it to the calls on states and digests. It is used by
+// one call at a time, on any thread.
 // Dispose it; where that is forgotten, its finalizer gives the memory back.
 using System;
 using System.Runtime.InteropServices;
@@ -261,7 +262,7 @@ namespace Lakmozet
         public Wide X, Y, Z;
     }
 
-    /// <summary>The momentum, that at opening, and the sums of all moves since, by what made them.</summary>
+    /// <summary>The momentum, that at opening, and the totals of what moved it since, one for each cause.</summary>
     [StructLayout(LayoutKind.Sequential)]
     public struct Ledger
     {
@@ -538,7 +539,7 @@ namespace Lakmozet
 
         // ---- the world as bytes
 
-        /// <summary>The name of the scene, which states and digests carry.</summary>
+        /// <summary>The name of the scene, which states carry.</summary>
         public Hash SceneName { get { return name; } }
 
         /// <summary>How many bytes a state of the scene has.</summary>

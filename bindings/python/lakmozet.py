@@ -7,11 +7,12 @@
         cloth.step()
         places = cloth.places()     # places[3, 1] is how high particle 3 is
 
-Each call is one call of lakmozet.h, which says what it does, its units and its answers: the parts stand in that header's order,
-and what is added there gets its line in CALLS and its method. A refused command raises Refused, and the world is what it was. Lists
-of numbers are arrays of NumPy where NumPy is there, and memoryviews where it isn't, over memory that the library wrote. A cloth
-also keeps the name of its scene, which states and digests carry. It is used by one call at a time, on any thread; a call lets
-other threads of Python run meanwhile. Close it; where that is forgotten, its memory is given back with it.
+Each method stands for a call of lakmozet.h, which says what it does, its units and its answers; one that reads a list or a state
+asks before how long that is. The parts stand in that header's order, and what is added there gets its line in CALLS and its
+method. A refused command raises Refused, and the world is what it was. Lists of numbers are arrays of NumPy where NumPy is there,
+and memoryviews where it isn't, over memory that the library wrote. A cloth also keeps the name of its scene, for which opening
+asks, and hands it to the calls on states and digests. It is used by one call at a time, on any thread; a call lets other threads
+of Python run meanwhile. Close it; where that is forgotten, its memory is given back with it.
 """
 from __future__ import annotations
 
@@ -166,7 +167,7 @@ class Link(NamedTuple):
 
 
 class Ledger(NamedTuple):
-    """The momentum, that at opening, and the sums of all moves since, by what made them."""
+    """The momentum, that at opening, and the totals of what moved it since, one for each cause."""
 
     momentum: Place
     opening: Place
@@ -198,8 +199,8 @@ class Refused(Exception):
 class Failed(Exception):
     """A scene that wasn't opened, a run that wasn't made, or a mesh that has no triangles.
 
-    Of a refused scene or mesh, `detail` is its fault, of a text that is no TOML the offset at which its reader stopped, of a refused
-    log its stop.
+    Where a scene or a mesh is refused as it is opened, or a mesh as it is cut, `detail` is its fault, where a text that is opened is
+    no TOML the offset at which its reader stopped, and of a refused log its stop. With all others it is None.
     """
 
     def __init__(self, outcome: Outcome, detail: Fault | MeshFault | Stop | int | None = None) -> None:
@@ -494,7 +495,7 @@ class Cloth:
     # ---- the world as bytes
 
     def scene_name(self) -> bytes:
-        """The name of the scene, which states and digests carry."""
+        """The name of the scene, which states carry."""
         return bytes(self._name.bytes)
 
     def state_size(self) -> int:
