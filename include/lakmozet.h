@@ -175,7 +175,7 @@ enum {
     LAK_NO_LOG_ROOM = 35,    /* lak_record, lak_replay: there are more bytes than `room` */
     LAK_TOO_LONG = 36,       /* lak_record: the scene or the script is longer than 2^24 bytes; lak_replay: the log than 2^27 */
     LAK_SCENE_NOT_TEXT = 38, /* the scene is no UTF-8 */
-    LAK_SCENE_NOT_TOML = 39, /* the scene is no TOML */
+    LAK_SCENE_NOT_TOML = 39, /* the scene is no TOML, or deeper or longer than is read (docs/FORMATS.md) */
     LAK_SCENE_REFUSED = 40,  /* the scene breaks a rule, which is told */
     LAK_LOG_REFUSED = 41,    /* lak_replay: the bytes are no log; where they stop being one is told */
     LAK_MISMATCH = 42,       /* lak_replay: an entry differs, which is told */
