@@ -13,7 +13,7 @@ use core::fmt;
 /// | `Predict` | its velocity and gravity | a particle |
 /// | `Link` | a pass over the links | a link |
 /// | `Contact` | a pass over the contacts | a contact, by its position in the list |
-/// | `Shape` | a plane or a sphere | a particle |
+/// | `Shape` | a shape | a particle |
 #[doc(inline)]
 pub use crate::parts::pbd_world::Phase;
 
