@@ -25,7 +25,7 @@ numbers_of setting state gravity = record {
   opening = setting.opening;
 }
 
--- a test of soundness looks at no link, plane and sphere
+-- a test of soundness looks at no link and at no shape
 standing_is : {l : ℕ} (setting : Setting) (state : State l) (gravity : Vec3)
     → soundness (standing setting.tracks state.store (numbers_of setting state gravity))
     ≡ soundness (world_of (record setting { gravity = gravity }) state)

@@ -12,6 +12,7 @@ use Rattle.pbd_world.specs.Contacts.{contacts_of}
 use Rattle.pbd_world.specs.Ledger.{Ledger}
 use Rattle.pbd_world.specs.Outcomes.{with_fault}
 use Rattle.pbd_world.specs.Particles.{Motion}
+use Rattle.pbd_world.specs.Shapes.{shapes_of}
 use Rattle.pbd_world.specs.Step.{predict, leaves, step}
 use Rattle.pbd_world.specs.Work.{pieces_of, colour_work, colours_work, links_work, contacts_work, pass_work, finding_work, settling_work}
 use Rattle.pbd_world.specs.Work.{finishing_work, step_work, tearable_count, found_after, found_in, work_from, work_over, steps_work}
@@ -82,7 +83,7 @@ module _ (width : ℕ) (w v : World) (ps : List Particle) (t : Ledger) (moved : 
     unfolding pass_work
     pass_same = ap (λ (u : World). pass_work width now u pairs) moved
         ∙ (λ i. links_work (same i) w.links + contacts_work (same i) (found i)
-        + (if length w.planes + length w.spheres == 0 then 0 else 2 * pieces_of (whole i) width))
+        + (if length (shapes_of w.shapes) == 0 then 0 else 2 * pieces_of (whole i) width))
 
     pub finishing_same : finishing_work width now v pairs ≡ finishing_work width lanes w contacts
     finishing_same =

@@ -336,20 +336,9 @@ formed_fit w h =
       in_range = links_in_range w.limit (length w.particles) w.links f.links;
     }
 
--- so many tracks and shapes as a world may have
-pub record HasFew (w : World) : Type 0 where
-  pub tracks : length w.tracks ≤ 4096
-  pub planes : length w.planes ≤ 256
-  pub spheres : length w.spheres ≤ 256
-
-pub formed_few : (w : World) → IsTrue (is_well_formed (parts_of w)) → HasFew w
-formed_few w h =
-    let f = formed (parts_of w) h in
-    record {
-      tracks = leb-true (length w.tracks) 4096 (and_parts _ _ (and_parts _ _ f.tracks).0).0;
-      planes = leb-true (length w.planes) 256 (and_parts _ _ f.planes).0;
-      spheres = leb-true (length w.spheres) 256 (and_parts _ _ f.spheres).0;
-    }
+-- so many tracks as a world may have
+pub formed_tracks : (w : World) → IsTrue (is_well_formed (parts_of w)) → length w.tracks ≤ 4096
+formed_tracks w h = leb-true (length w.tracks) 4096 (and_parts _ _ (and_parts _ _ (formed (parts_of w) h).tracks).0).0
 
 pub taken_fit : (ps qs : List Particle) (links others : List Link) → ps ≡ qs → links ≡ others → HasFit qs others → HasFit ps links
 taken_fit ps qs links others e f h = subst (λ (xs : List Particle). HasFit xs links) (sym e)
@@ -398,8 +387,7 @@ pub scene_world : {l : ℕ} (mine other : Setting) (state now : State l) → Are
     → world_of (record mine { gravity = other.gravity }) now ≡ world_of other now
 scene_world mine other state now e = λ i. record (world_of other now) {
   tracks = (ap (λ (u : World). u.tracks) e) i;
-  planes = (ap (λ (u : World). u.planes) e) i;
-  spheres = (ap (λ (u : World). u.spheres) e) i;
+  shapes = (ap (λ (u : World). u.shapes) e) i;
   passes = (ap (λ (u : World). u.passes) e) i;
   damping = (ap (λ (u : World). u.damping) e) i;
   thickness = (ap (λ (u : World). u.thickness) e) i;
@@ -426,8 +414,7 @@ opened_world parts setting state h f = λ i. record {
   particles = f.particles i;
   links = f.links i;
   tracks = h.tracks i;
-  planes = h.planes i;
-  spheres = h.spheres i;
+  shapes = h.shapes i;
   gravity = h.gravity i;
   passes = h.passes i;
   damping = h.damping i;

@@ -199,8 +199,7 @@ predicted_goes bound w m sound e room =
         particles = and_from _ _ (ap (λ n. nat_le n 65536) all ∙ counts.0)
             (subst (λ (qs : List Particle). IsTrue (list_all (is_valid_particle w.limit) qs)) is (are_fit w.limit ps fits));
         links = subst (λ (n : ℕ). IsTrue (are_valid_links w.limit n w.links)) (sym all) form.links;
-        planes = form.planes;
-        spheres = form.spheres;
+        shapes = form.shapes;
         tracks = subst (λ (n : ℕ). IsTrue (are_valid_tracks w.limit n w.tracks)) (sym all) form.tracks;
         gravity = form.gravity;
         numbers = form.numbers;

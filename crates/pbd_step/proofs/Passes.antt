@@ -1,22 +1,20 @@
 -- One pass by its three parts, and passes one after another.
 use Rattle.std.proofs.Common.{◌≡◌, ap, sym, ◌∙◌, ℕ, suc, ◌+◌, ◌-◌, ◌*◌, ◌^◌, ◌<◌, ◌≤◌, min, add-mul, one-mul, Bool, List, arith, ℤ, Result}
-use Rattle.std.proofs.Common.{Ok, Err, cond, length, ◌==◌}
+use Rattle.std.proofs.Common.{Ok, Err, length}
 use Rattle.pbd_world.specs.declared.command.Phase.TheVariants as phases
 use Rattle.pbd_world.specs.declared.command.Refusal.{Refusal}
 use Rattle.pbd_world.specs.declared.parts.Particle.{Particle}
-use Rattle.pbd_world.specs.declared.parts.Plane.{Plane}
-use Rattle.pbd_world.specs.declared.parts.Sphere.{Sphere}
+use Rattle.pbd_world.specs.declared.parts.ShapeLists.{ShapeLists}
 use Rattle.pbd_world.specs.Outcomes.{◌>>=◌, with_fault, repeated}
 use Rattle.pbd_world.specs.Ledger.{Ledger}
 use Rattle.pbd_world.specs.Particles.{Motion}
 use Rattle.pbd_world.specs.World.{World}
-use Rattle.pbd_world.specs.Work.{blocks_in, shapes_work}
+use Rattle.pbd_world.specs.Work.{shapes_work}
 use Rattle.pbd_world.specs.Shapes.{shapes_of}
 use Rattle.pbd_world.specs.Bonds.{projected, contact_bond}
 use Rattle.pbd_world.specs.Step.{Passing, pass, leaves, contact_order, link_part, contact_part, shape_part}
 use Rattle.pbd_store.specs.Blocks.{blocks_of}
 use Rattle.pbd_shape.specs.Shaping.{all_pushed, push_cost}
-use Rattle.pbd_shape.proofs.Ways.{shape_count}
 
 stage : {A C E F : Type 0} (f : E → F) (r : Result A E) (x : A) (k : A → Result C F) → r ≡ Ok x → (with_fault f r >>= k) ≡ k x
 stage {A} {C} {E} {F} f r x k e = ap (λ (q : Result A E). with_fault f q >>= k) e
@@ -60,17 +58,16 @@ pub contact_part_is : (w : World) (contacts found : List (ℕ × ℕ)) (l t : �
 contact_part_is w contacts found l t m r ef el et h = (λ i.
     projected (sym el i) (contact_bond (sym et i) (sym ef i)) (contact_order (sym ef i)) m) ∙ h
 
-pub shape_part_is : (w : World) (s : Passing) (flags : List Bool) (l : ℤ) (planes : List Plane) (spheres : List Sphere)
-    (r : Result Passing ℕ) → flags ≡ s.touched → l ≡ w.limit → planes ≡ w.planes → spheres ≡ w.spheres
-    → all_pushed l (shapes_of planes spheres) (record s { touched = flags }) ≡ r → shape_part w s ≡ r
-shape_part_is w s flags l planes spheres r ef el ep es h =
-    (λ i. all_pushed (sym el i) (shapes_of (sym ep i) (sym es i)) (record s { touched = sym ef i })) ∙ h
+pub shape_part_is : (w : World) (s : Passing) (flags : List Bool) (l : ℤ) (lists : ShapeLists) (r : Result Passing ℕ)
+    → flags ≡ s.touched → l ≡ w.limit → lists ≡ w.shapes
+    → all_pushed l (shapes_of lists) (record s { touched = flags }) ≡ r → shape_part w s ≡ r
+shape_part_is w s flags l lists r ef el es h =
+    (λ i. all_pushed (sym el i) (shapes_of (sym es i)) (record s { touched = sym ef i })) ∙ h
 
 -- what the shape part costs
-pub shape_cost_is : (width many : ℕ) (w : World) (planes : List Plane) (spheres : List Sphere) → planes ≡ w.planes → spheres ≡ w.spheres
-    → many ≡ length w.particles → push_cost (shapes_of planes spheres) (blocks_of many width) ≡ shapes_work width w
-shape_cost_is width many w planes spheres ep es em = (λ i. push_cost (shapes_of (ep i) (es i)) (blocks_of (em i) width))
-    ∙ ap (λ (n : ℕ). cond (n == 0) 0 (2 * blocks_in width w)) (shape_count w.planes w.spheres)
+pub shape_cost_is : (width many : ℕ) (w : World) (lists : ShapeLists) → lists ≡ w.shapes → many ≡ length w.particles
+    → push_cost (shapes_of lists) (blocks_of many width) ≡ shapes_work width w
+shape_cost_is width many w lists es em = λ i. push_cost (shapes_of (es i)) (blocks_of (em i) width)
 
 -- a pass doesn't look at the particles and totals of its world
 pub same_pass : (w v : World) (ps : List Particle) (t : Ledger) (contacts : List (ℕ × ℕ)) (s : Passing)

@@ -4,6 +4,7 @@ use Rattle.pbd_world.specs.declared.parts.Link.{Link}
 use Rattle.pbd_world.specs.declared.parts.Parts.{Parts}
 use Rattle.pbd_world.specs.Ledger.{sum_of, ledger_of, zero_totals}
 use Rattle.pbd_world.specs.Momentum.{momentum}
+use Rattle.pbd_world.specs.Shapes.{shapes_in}
 use Rattle.pbd_step.specs.declared.state.Setting.{Setting}
 use Rattle.pbd_step.specs.declared.state.State.{State}
 use Rattle.pbd_step.specs.declared.state.Scratch.{Scratch}
@@ -13,8 +14,7 @@ use Rattle.pbd_step.specs.States.{AreWeights}
 -- a setting has what no step changes of some parts
 pub record AreCopied (parts : Parts) (setting : Setting) : Type 0 where
   pub tracks : setting.tracks ≡ parts.tracks
-  pub planes : setting.planes ≡ parts.planes
-  pub spheres : setting.spheres ≡ parts.spheres
+  pub shapes : setting.shapes ≡ shapes_in parts
   pub gravity : setting.gravity ≡ parts.gravity
   pub passes : setting.passes ≡ parts.passes
   pub damping : setting.damping ≡ parts.damping

@@ -16,7 +16,7 @@ use pbd_self::SelfContacts;
 use pbd_shape::Touched;
 use pbd_store::{Store, effective_weight_of};
 use pbd_tear::with_tear_length as find_with_tear_length;
-use pbd_world::{Link, List, MOST_CONTACTS, Parts, RoomList, Totals, Track};
+use pbd_world::{Link, List, MOST_CONTACTS, Parts, RoomList, ShapeLists, Totals, Track};
 use std::alloc::{AllocError, Global};
 
 fn copied_track(alloc: Global, track: &Track) -> Result<Track, AllocError>
@@ -47,12 +47,10 @@ fn open_setting(alloc: Global, parts: &Parts) -> Result<Setting, AllocError>
 {
     let opening = momentum_of(parts.particles.as_slice());
     let tracks = copied_tracks(alloc, parts.tracks.as_slice())?;
-    let planes = List::copied(alloc, parts.planes.as_slice())?;
-    let spheres = List::copied(alloc, parts.spheres.as_slice())?;
+    let shapes = ShapeLists::copied(alloc, parts)?;
     Ok(Setting {
         tracks,
-        planes,
-        spheres,
+        shapes,
         gravity: parts.gravity,
         passes: parts.passes,
         damping: parts.damping,

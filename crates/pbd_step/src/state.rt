@@ -1,5 +1,6 @@
 // What a solver is made of.
 ghost use Rattle.std.specs.Prelude.{◌≡◌};
+ghost use Rattle.pbd_shape.specs.Valid.{lists_of};
 
 use pbd_colour::Colouring;
 use pbd_num::Vec3;
@@ -7,14 +8,13 @@ use pbd_pair::{BondColumns, Projector};
 use pbd_self::SelfContacts;
 use pbd_shape::{Shapes, Touched};
 use pbd_store::Store;
-use pbd_world::{Link, List, Plane, RoomList, Sphere, Totals, Track};
+use pbd_world::{Link, List, RoomList, ShapeLists, Totals, Track};
 
 /// What no step changes: the scene's shapes and numbers, gravity, and the momentum at opening.
 #[derive(Drop)]
 pub struct Setting {
     pub(crate) tracks: List<Track>,
-    pub(crate) planes: List<Plane>,
-    pub(crate) spheres: List<Sphere>,
+    pub(crate) shapes: ShapeLists,
     pub(crate) gravity: Vec3,
     pub(crate) passes: u32,
     pub(crate) damping: i64,
@@ -26,13 +26,9 @@ pub struct Setting {
 impl Setting {
     /// The scene's shapes.
     pub(crate) fn shapes(&self) -> Shapes<'_>
-        ensures planes { result.planes.now ≡ self.now.planes }
-        ensures spheres { result.spheres.now ≡ self.now.spheres }
+        ensures { lists_of result ≡ self.now.shapes }
     {
-        Shapes {
-            planes: self.planes.as_slice(),
-            spheres: self.spheres.as_slice(),
-        }
+        Shapes::of(&self.shapes)
     }
 }
 

@@ -1,8 +1,9 @@
 // What a world shows to a reader, whether a solver plays it or it was kept.
-ghost use Rattle.std.specs.Prelude.{◌≡◌, ◌+◌, ◌<◌, ◌≤◌, ◌^◌, length};
+ghost use Rattle.std.specs.Prelude.{◌≡◌, ◌+◌, ◌<◌, ◌≤◌, ◌^◌, length, IsTrue};
 ghost use Rattle.pbd_num.specs.Vectors.{Within};
 ghost use Rattle.pbd_world.specs.Ledger.{sum_of, ledger_of};
 ghost use Rattle.pbd_world.specs.Particles.{particle_at};
+ghost use Rattle.pbd_world.specs.Shapes.{are_valid_shapes};
 ghost use Rattle.pbd_world.specs.World.{IsSound};
 
 use crate::Solver;
@@ -10,7 +11,7 @@ use crate::state::{Setting, State};
 use pbd_num::Vec3;
 use pbd_pair::Projector;
 use pbd_store::Steps;
-use pbd_world::{Link, Particle, Plane, Sphere, Totals, Track};
+use pbd_world::{Link, Particle, ShapeLists, Totals, Track};
 use std::marker::Model;
 use std::sync::ledger::Ledger;
 
@@ -162,22 +163,13 @@ impl<'a, const L: usize> Shown<'a, L> {
         self.setting.tracks.as_slice()
     }
 
-    /// The planes, at most 256.
-    pub fn planes(&self) -> &[Plane]
+    /// The shapes. They are valid, so there are at most 256 of each kind.
+    pub fn shapes(&self) -> &ShapeLists
         requires lanes_high { L ≤ 16 }
-        ensures value { result.now ≡ self.now.planes }
-        ensures size { length result.now ≤ 256 }
+        ensures value { result.now ≡ self.now.shapes }
+        ensures valid { IsTrue (are_valid_shapes self.now.limit result.now) }
     {
-        self.setting.planes.as_slice()
-    }
-
-    /// The spheres, at most 256.
-    pub fn spheres(&self) -> &[Sphere]
-        requires lanes_high { L ≤ 16 }
-        ensures value { result.now ≡ self.now.spheres }
-        ensures size { length result.now ≤ 256 }
-    {
-        self.setting.spheres.as_slice()
+        &self.setting.shapes
     }
 }
 

@@ -3,9 +3,9 @@ use Rattle.pbd_world.specs.declared.command.Refusal.{Refusal}
 use Rattle.pbd_world.specs.Ledger.{ledger_of, HaveRoom}
 use Rattle.pbd_world.specs.Bonds.{projected, contact_bond}
 use Rattle.pbd_world.specs.Particles.{Motion}
-use Rattle.pbd_world.specs.Shapes.{shapes_of}
+use Rattle.pbd_world.specs.Shapes.{shapes_of, are_valid_shapes}
 use Rattle.pbd_world.specs.Step.{Passing, contact_order, contact_part, shape_part}
-use Rattle.pbd_world.specs.Valid.{is_limit, is_between, are_valid_planes, are_valid_spheres}
+use Rattle.pbd_world.specs.Valid.{is_limit, is_between}
 use Rattle.pbd_world.specs.World.{World, parts_of}
 use Rattle.pbd_world.specs.Work.{contacts_work, shapes_work, pass_work}
 use Rattle.pbd_world.proofs.WorkLemmas.{pass_is}
@@ -13,6 +13,7 @@ use Rattle.pbd_world.proofs.WorldParts.{formed}
 use Rattle.pbd_store.specs.Blocks.{blocks_of}
 use Rattle.pbd_store.specs.Moving.{AreInside}
 use Rattle.pbd_shape.specs.Shaping.{all_pushed, push_cost}
+use Rattle.pbd_shape.specs.Valid.{lists_of}
 use Rattle.pbd_world.proofs.Rooms.{room_at}
 use Rattle.pbd_step.specs.declared.state.State.{State}
 use Rattle.pbd_step.specs.declared.state.Scratch.{Scratch}
@@ -68,8 +69,7 @@ push_out-requires g c =
     let now = c.project_contacts.new.self.state.store in
     let limit : now.limit ≡ w.limit = second.moved.limit ∙ first.moved.limit in
     let whole : length now.particles ≡ length w.particles = second.moved.whole ∙ first.moved.whole in
-    let planes : IsTrue (are_valid_planes c.shapes.result.planes.now) = rw c.shapes.ensures.planes f.planes in
-    let spheres : IsTrue (are_valid_spheres now.limit c.shapes.result.spheres.now) = rw (limit, c.shapes.ensures.spheres) f.spheres in
+    let shapes : IsTrue (are_valid_shapes now.limit (lists_of c.shapes.result)) = (λ i. are_valid_shapes (limit i) (c.shapes.ensures i)) ∙ f.shapes in
     let ready = c.in_default-project_contacts.ensures.done.movable (2 ^ 118 + 2 ^ 60)
     (c.in_default.ensures.done.movable (2 ^ 118) (movable (2 ^ 118) w c.requires.going.under_way)) in
     let room : HaveRoom (2 ^ 120) (ledger_of c.project_contacts.new.self.state.totals) = room_at (2 ^ 120) (omega arith) ready.room in (
@@ -78,7 +78,7 @@ push_out-requires g c =
         c.requires.lanes_low,
         (
           c.requires.lanes_high,
-          (planes, (spheres, (ready.inside, (second.flags ∙ first.flags ∙ c.requires.going.space.touched ∙ sym whole, room)))),
+          (shapes, (ready.inside, (second.flags ∙ first.flags ∙ c.requires.going.space.touched ∙ sym whole, room))),
         ),
       ),
     )
@@ -108,17 +108,17 @@ contacts_told g c r =
 
 -- what the shapes come to likewise
 shapes_told : (g : _) (c : After-push_out g) (r : Result Passing ℕ)
-    → all_pushed c.project_contacts.new.self.state.store.limit (shapes_of c.shapes.result.planes.now c.shapes.result.spheres.now)
+    → all_pushed c.project_contacts.new.self.state.store.limit (shapes_of (lists_of c.shapes.result))
     (passing_of c.project_contacts.new.self) ≡ r
     → shape_part (world_of c.args.setting.now c.args.self.now.state)
     (record (passing_of c.args.self.now) { motion = now_of c.project_contacts.new.self.state }) ≡ r
 shapes_told g c r =
     let two = c.project_contacts.new.self in
     shape_part_is (world_of c.args.setting.now c.args.self.now.state) (record (passing_of c.args.self.now) { motion = now_of two.state })
-    two.scratch.touched two.state.store.limit c.shapes.result.planes.now c.shapes.result.spheres.now r
+    two.scratch.touched two.state.store.limit (lists_of c.shapes.result) r
     (ap (λ (t : Scratch). t.touched) (c.project_contacts.ensures.done.scratch ∙ c.project_links.ensures.done.scratch))
     (c.project_contacts.ensures.done.stays.moved.limit ∙ c.project_links.ensures.done.stays.moved.limit)
-    c.shapes.ensures.planes c.shapes.ensures.spheres
+    c.shapes.ensures
 
 pub returns-in-Err-project_contacts-clause-outcome : goal.returns-in-Err-project_contacts-clause-outcome
 returns-in-Err-project_contacts-clause-outcome g c =
@@ -239,12 +239,11 @@ returns-in-Err-project_contacts-clause-cost g c =
     )
 
 shapes_cost : (g : _) (c : After-push_out g)
-    → push_cost (shapes_of c.shapes.result.planes.now c.shapes.result.spheres.now)
+    → push_cost (shapes_of (lists_of c.shapes.result))
     (blocks_of (length c.project_contacts.new.self.state.store.particles) g.row.L)
     ≡ shapes_work g.row.L (world_of c.args.setting.now c.args.self.now.state)
 shapes_cost g c = shape_cost_is g.row.L (length c.project_contacts.new.self.state.store.particles)
-    (world_of c.args.setting.now c.args.self.now.state) c.shapes.result.planes.now c.shapes.result.spheres.now
-    c.shapes.ensures.planes c.shapes.ensures.spheres
+    (world_of c.args.setting.now c.args.self.now.state) (lists_of c.shapes.result) c.shapes.ensures
     (c.project_contacts.ensures.done.stays.moved.whole ∙ c.project_links.ensures.done.stays.moved.whole)
 
 -- what all three parts cost

@@ -1,9 +1,0 @@
-use Rattle.std.proofs.Common.{sym, subst, List, length, ◌≤◌}
-use Rattle.pbd_world.specs.declared.parts.Sphere.{Sphere}
-use Rattle.pbd_step.specs.States.{world_of}
-use Rattle.pbd_step.proofs.Keeping.{formed_few}
-use Rattle.pbd_step.proofs.views.Shown.spheres.Goals as goal
-
-pub returns-clause-size : goal.returns-clause-size
-returns-clause-size g c = subst (λ (xs : List Sphere). length xs ≤ 256) (sym c.as_slice.ensures)
-    (formed_few (world_of c.self.inside.setting.now c.self.inside.state.now) c.self.invariant.well_formed).spheres
