@@ -13,10 +13,10 @@ pub returns-then-not-may_tear-clause-cost : goal.returns-then-not-may_tear-claus
 returns-then-not-may_tear-clause-cost g c = omega arith
 
 pub at-a-requires : goal.at-a-requires
-at-a-requires g c = (ends_in c.args.store.now.limit (length c.args.store.now.particles) c.args.link c.requires.link).first
+at-a-requires g c = (omega arith, (ends_in c.args.store.now.limit (length c.args.store.now.particles) c.args.link c.requires.link).first)
 
 pub at-b-requires : goal.at-b-requires
-at-b-requires g c = (ends_in c.args.store.now.limit (length c.args.store.now.particles) c.args.link c.requires.link).second
+at-b-requires g c = (omega arith, (ends_in c.args.store.now.limit (length c.args.store.now.particles) c.args.link c.requires.link).second)
 
 pub are_farther-requires-clause-a : goal.are_farther-requires-clause-a
 are_farther-requires-clause-a g c =

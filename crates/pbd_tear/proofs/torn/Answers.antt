@@ -15,15 +15,14 @@ known numbers links i e lt = subst (λ (ns : List ℕ). get_or ns i 0 < length l
     ((with_tear_length_ascend links).within i (subst (λ (ns : List ℕ). i < length ns) e lt))
 
 pub is_torn-tears-requires : goal.is_torn-tears-requires
-is_torn-tears-requires g c =
-    (
-      omega arith,
-      (
-        valid_at c.args.store.now.limit (length c.args.store.now.particles) c.args.links.now (get_or c.args.numbers.now c.loop-n.n-index 0) _
-            c.requires.links (known c.args.numbers.now c.args.links.now c.loop-n.n-index c.requires.with_tear_length (omega arith)),
-        c.requires.inside,
-      ),
-    )
+is_torn-tears-requires g c = (
+  omega arith,
+  (
+    valid_at c.args.store.now.limit (length c.args.store.now.particles) c.args.links.now (get_or c.args.numbers.now c.loop-n.n-index 0) _
+        c.requires.links (known c.args.numbers.now c.args.links.now c.loop-n.n-index c.requires.with_tear_length (omega arith)),
+    c.requires.inside,
+  ),
+)
 
 pub bounds-links-n : goal.bounds-links-n
 bounds-links-n g c = known c.args.numbers.now c.args.links.now c.loop-n.n-index c.requires.with_tear_length (omega arith)
