@@ -104,7 +104,8 @@ opened-is_sound parts v =
       contacts = omega arith;
       bounded = record { gravity = nothing 0; damping = nothing 0; link = nothing 0; contact = nothing 0; shape = nothing 0 };
       opening = sum_wider (momentum parts.particles) (0 + length parts.particles * (2 * 2 ^ 29)) (2 ^ 46) (omega arith)
-          (momentum_from parts.limit (2 ^ 29) parts.particles zero_sum 0 (limit_low parts.limit form.limit) (limit_high parts.limit form.limit) particles.1 (nothing 0));
+          (momentum_from parts.limit (2 ^ 29) parts.particles zero_sum 0 (limit_low parts.limit form.limit)
+          (limit_high parts.limit form.limit) particles.1 (nothing 0));
       balanced = nothing_more (momentum parts.particles);
       undamped = λ e. refl;
       one_weight = λ weight all. (refl, refl);

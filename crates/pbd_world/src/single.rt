@@ -185,8 +185,7 @@ pub fn are_valid_shapes(limit: i64, parts: &Parts) -> bool
     requires high { unsigned_abs limit ≤ 2 ^ 29 }
     ensures { result ≡ are_valid_shapes limit (shapes_in parts.now) }
 {
-    are_valid_planes(parts.planes.as_slice())
-        && are_valid_spheres(limit, parts.spheres.as_slice())
+    are_valid_planes(parts.planes.as_slice()) && are_valid_spheres(limit, parts.spheres.as_slice())
 }
 
 // ---- tracks
