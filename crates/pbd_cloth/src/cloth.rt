@@ -108,7 +108,11 @@ fn open_slots(alloc: Global, scene: &Scene, n: u32) -> Result<Vec<Snapshot<LANES
     Ok(kept)
 }
 
-fn keep(kept: &mut Vec<Snapshot<LANES>>, slot: usize, playing: &Session<LANES, LaneProjector<LANES>>)
+fn keep(
+    kept: &mut Vec<Snapshot<LANES>>,
+    slot: usize,
+    playing: &Session<LANES, LaneProjector<LANES>>,
+)
     requires within { slot < length kept.old.items }
     requires slots { AreSlots playing.now kept.old.items }
     ensures { kept.new.items ≡ slice_set kept.old.items slot playing.now }

@@ -75,7 +75,12 @@ struct Flight<'a> {
 
 // Lets the particles that aren't held fly, each in its row.
 #[inline(always)]
-fn fly_rows(flight: Flight<'_>, at: &mut [Place], high: &mut [High], before: &mut [Place]) -> FlightSums
+fn fly_rows(
+    flight: Flight<'_>,
+    at: &mut [Place],
+    high: &mut [High],
+    before: &mut [Place],
+) -> FlightSums
     requires forces { IsSmall flight.forces }
     requires few { length flight.held.now ≤ 65536 }
     requires at_long { length flight.held.now ≤ length at.old }
@@ -125,7 +130,12 @@ fn fly_rows(flight: Flight<'_>, at: &mut [Place], high: &mut [High], before: &mu
 impl PlaceRows {
     /// Lets the particles that aren't held fly, of as many places as there are flags. Their places become those before.
     #[inline(never)]
-    pub(crate) fn fly(&mut self, before: &mut PlaceRows, held: &[bool], forces: Forces) -> FlightSums
+    pub(crate) fn fly(
+        &mut self,
+        before: &mut PlaceRows,
+        held: &[bool],
+        forces: Forces,
+    ) -> FlightSums
         requires forces { IsSmall forces }
         requires few { length held.now ≤ 65536 }
         requires at_long { length held.now ≤ length self.old }

@@ -5,7 +5,7 @@ ghost use Rattle.pbd_world.specs.World.{AreOfOneScene};
 use super::hostile::{DRAWING, NAME, Tested};
 use pbd_pair::Scalar;
 use pbd_state::{checksum, digest};
-use pbd_step::{Snapshot, Shown, Solver};
+use pbd_step::{Shown, Snapshot, Solver};
 use pbd_store::Steps;
 use pbd_tests_rows::{WrongRows, all_hold, wrong_row};
 use pbd_tests_scenes::scene;

@@ -19,13 +19,16 @@ rub_one_by_one-places-requires g c =
         omega (arith, size),
         (
           simp to_z-of_z c.requires,
-          (e.limit, (
-            (λ j h. place_loaded (λ p. p.at) g.row.L c.args.block j ps e.at_x e.at_y e.at_z h),
+          (
+            e.limit,
             (
-              (λ j h. place_loaded (λ p. p.before) g.row.L c.args.block j ps e.before_x e.before_y e.before_z h),
-              (λ j h. held_loaded g.row.L c.args.block j ps e.held h),
+              (λ j h. place_loaded (λ p. p.at) g.row.L c.args.block j ps e.at_x e.at_y e.at_z h),
+              (
+                (λ j h. place_loaded (λ p. p.before) g.row.L c.args.block j ps e.before_x e.before_y e.before_z h),
+                (λ j h. held_loaded g.row.L c.args.block j ps e.held h),
+              ),
             ),
-          )),
+          ),
         ),
       ),
     )
