@@ -155,7 +155,7 @@ enum {
 enum {
     LAK_BAD_COMMAND = 1,       /* never comes from these calls */
     LAK_NO_PARTICLE = 2,       /* no particle has this number */
-    LAK_NO_LINK = 3,           /* no link has this number */
+    LAK_NO_LINK = 3,           /* no link has this number; lak_link_between: none joins the two */
     LAK_LINK_GONE = 4,         /* the link was cut or torn before */
     LAK_OUT_OF_RANGE = 5,      /* the place or the gravity is outside the limit */
     LAK_NOT_HELD = 6,          /* the particle is free */
@@ -176,7 +176,7 @@ enum {
     LAK_TOO_LONG = 36,       /* lak_record: the scene or the script is longer than 2^24 bytes; lak_replay: the log than 2^27 */
     LAK_SCENE_NOT_TEXT = 38, /* the scene is no UTF-8 */
     LAK_SCENE_NOT_TOML = 39, /* the scene is no TOML, or deeper or longer than is read (docs/FORMATS.md) */
-    LAK_SCENE_REFUSED = 40,  /* the scene breaks a rule, which is told */
+    LAK_SCENE_REFUSED = 40,  /* the scene breaks a rule, which lak_open and lak_open_mesh tell */
     LAK_LOG_REFUSED = 41,    /* lak_replay: the bytes are no log; where they stop being one is told */
     LAK_MISMATCH = 42,       /* lak_replay: an entry differs, which is told */
     LAK_SOME_REFUSED = 43,   /* lak_record, lak_replay: all went well, but a command was refused */
@@ -208,8 +208,8 @@ int32_t lak_open(lak_cloth *cloth, const uint8_t *toml, size_t length, uint32_t 
  *
  * The links come behind those of the scene: along the sides of each face, then across each face with four corners, and where
  * `bends` isn't 0 across each edge that exactly two faces share, from the corner beside each of its ends in one to the corner
- * beside that end in the other. Of those that join the same two particles the first alone is a link. With the weight 1,
- * stiffness 256, no tearing and no bend links the world is that of the program's `obj`.
+ * beside that end in the other, unless both are one vertex. Of those that join the same two particles the first alone is a link.
+ * With the weight 1, stiffness 256, no tearing and no bend links the world is that of the program's `obj`.
  *
  * Answers as lak_open's, and LAK_MESH_REFUSED: the handle stays closed, and `mesh_fault` has the first rule that is broken, the
  * settings first, then the number of corners, the vertices, the faces, and then what they make together:
@@ -261,7 +261,7 @@ int32_t lak_gravity(lak_cloth *cloth, lak_vec3 gravity);
 /* Keeps the whole world in a slot, from 0. No other slot changes. Takes no memory, and always succeeds where there is a slot. */
 int32_t lak_save(lak_cloth *cloth, uint32_t slot);
 
-/* Goes back to the world in a slot: the same calls come to the same from there as after lak_save. No slot changes. */
+/* Goes back to the world in a slot: the same commands come to the same from there as after lak_save. No slot changes. */
 int32_t lak_restore(lak_cloth *cloth, uint32_t slot);
 
 /* ---- reading: LAK_DONE, LAK_CLOSED, or what is said below. No reading call changes what the handle holds. */
@@ -324,10 +324,10 @@ int32_t lak_state_size(lak_cloth *cloth, size_t *size);
 int32_t lak_state_write(lak_cloth *cloth, lak_hash name, uint8_t *into, size_t room, size_t *size);
 
 /*
- * Goes over to the world whose state the bytes are, on a handle that was opened on the scene. The same calls come to the same
- * from there as where it was written. No slot changes. Takes no memory. LAK_DONE, LAK_CLOSED, or LAK_NO_STATE, and then nothing
- * changes, and `offset` says how many bytes stand before the one that can't stand there, or before the field that is unsound.
- * Bytes of anybody can be handed in: what is taken is a sound world of the scene, and its state is those bytes.
+ * Goes over to the world whose state the bytes are, on a handle that was opened on the scene. The same commands come to the
+ * same from there as where it was written. No slot changes. Takes no memory. LAK_DONE, LAK_CLOSED, or LAK_NO_STATE, and then
+ * nothing changes, and `offset` says how many bytes stand before the one that can't stand there, or before the field that is
+ * unsound. Bytes of anybody can be handed in: what is taken is a sound world of the scene, and its state is those bytes.
  */
 int32_t lak_state_read(lak_cloth *cloth, lak_hash name, const uint8_t *state, size_t length, uint64_t *offset);
 

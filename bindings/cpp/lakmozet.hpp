@@ -3,8 +3,8 @@
  *
  * Nothing here throws, or takes memory by itself: each function stands for one of lakmozet.h, which says what it does, its units
  * and its answers. Opening also asks for the name of the scene, which a cloth keeps. The parts stand in that header's order, and
- * what is added there gets its line here. Compile with -std=c++20, also with -fno-exceptions, and link what a C program links. An empty span or text is fine,
- * also one that points nowhere.
+ * what is added there gets its line here. Compile with -std=c++20, also with -fno-exceptions, and link what a C program links. An
+ * empty span or text is fine, also one that points nowhere.
  */
 #ifndef LAKMOZET_HPP
 #define LAKMOZET_HPP

@@ -1,12 +1,11 @@
 // Lakmozet for C#: one file over the C library, with spans for memory and an answer from each call.
 //
-// Each method stands for a call of lakmozet.h, which says what it does, its units and its answers; the parts stand in that header's
-// order, and what is added there gets its line in Native and its line below. Compile with /unsafe. The library is found as a shared one
-// by the name Native.Library: liblakmozet.so, liblakmozet.dylib or lakmozet.dll.
+// Each method stands for a call of lakmozet.h, which says what it does, its units and its answers; those of a Cloth stand in that
+// header's parts, in their order, and what is added there gets its line in Native and its line below. Compile with /unsafe. The
+// library is found as a shared one by the name Native.Library: liblakmozet.so, liblakmozet.dylib or lakmozet.dll.
 //
 // A Cloth also keeps the name of its scene, for which opening asks, and hands it to the calls on states and digests. It is used by
-// one call at a time, on any thread.
-// Dispose it; where that is forgotten, its finalizer gives the memory back.
+// one call at a time, on any thread. Dispose it; where that is forgotten, its finalizer gives the memory back.
 using System;
 using System.Runtime.InteropServices;
 

@@ -8,11 +8,11 @@
         places = cloth.places()     # places[3, 1] is how high particle 3 is
 
 Each method stands for a call of lakmozet.h, which says what it does, its units and its answers; one that reads a list or a state
-asks before how long that is. The parts stand in that header's order, and what is added there gets its line in CALLS and its
-method. A refused command raises Refused, and the world is what it was. Lists of numbers are arrays of NumPy where NumPy is there,
-and memoryviews where it isn't, over memory that the library wrote. A cloth also keeps the name of its scene, for which opening
-asks, and hands it to the calls on states and digests. It is used by one call at a time, on any thread; a call lets other threads
-of Python run meanwhile. Close it; where that is forgotten, its memory is given back with it.
+asks before how long that is. Those of a Cloth stand in that header's parts, in their order, and what is added there gets its line
+in CALLS and its method. A refused command raises Refused, and the world is what it was. Lists of numbers are arrays of NumPy where
+NumPy is there, and memoryviews where it isn't, over memory that the library wrote. A cloth also keeps the name of its scene, for
+which opening asks, and hands it to the calls on states and digests. It is used by one call at a time, on any thread; a call lets
+other threads of Python run meanwhile. Close it; where that is forgotten, its memory is given back with it.
 """
 from __future__ import annotations
 
