@@ -1,8 +1,8 @@
 /*
  * Two players play a game with rollback (rollback.c), and a third joins them late, on a machine of its own: a second process, at
- * the other end of a pipe. It opens the scene, reads the state of a world that is confirmed, of which all inputs are known, and
- * plays on from there as the others do. In each turn since, all three compare the digests of the confirmed world. At the end
- * the world is kept in a file, as a saved game, and read from it.
+ * the other end of two pipes. It opens the scene, reads the state of a world that is confirmed, of which all inputs are known, and
+ * plays on from there as the others do. In each turn since, the digests that all three have of the confirmed world are compared.
+ * At the end the world is kept in a file, as a saved game, and read from it.
  *
  * What comes from another machine is looked at before it is played: the length of a state is that of the own scene's, its bytes
  * are refused by lak_state_read where they are no state, and inputs beyond REACH are left out, by all machines alike.
@@ -199,7 +199,7 @@ static void get(wire from, void *bytes, size_t length)
     must(fread(bytes, 1, length, from.in) == length, "the other end speaks");
 }
 
-/* The third player, a process that has nothing but its end of the pipe. Which turn the state is of, its steps say. */
+/* The third player, a process that has nothing but its ends of the pipes. Which turn the state is of, its steps say. */
 static void join(wire host)
 {
     static machine it;

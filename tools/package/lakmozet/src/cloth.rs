@@ -167,7 +167,7 @@ impl Cloth {
         Ok(())
     }
 
-    /// Goes back to the world in a slot: all that follows is what followed after it was saved. No slot changes.
+    /// Goes back to the world in a slot: the same commands come to the same from there as after it was saved. No slot changes.
     ///
     /// # Errors
     ///

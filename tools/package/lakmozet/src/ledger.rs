@@ -1,7 +1,7 @@
 //! The ledger of momentum.
 use crate::parts::pbd_cloth::Balance;
 
-/// What moved the momentum since opening: each is the sum of all moves that this made, axis by axis, in units per step.
+/// What moved the momentum since opening: each is the total of what one cause moved, axis by axis, in units per step.
 #[doc(inline)]
 pub use crate::parts::pbd_world::Totals;
 

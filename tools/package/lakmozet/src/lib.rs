@@ -1,5 +1,5 @@
 //! Cloth and ropes for games that have to be the same everywhere: the same scene and the same inputs give the same bits, in
-//! every run, on every machine. All numbers are whole numbers, and there is no floating point in a step.
+//! every run, on every machine. All numbers of a world are whole numbers, and there is no floating point in a step.
 //!
 //! ```
 //! use lakmozet::{Cloth, Scene};

@@ -13,11 +13,11 @@ pub struct Link {
     pub a: usize,
     /// The number of the particle at the other end.
     pub b: usize,
-    /// The length that it keeps, in units of 1/65,536 metre.
+    /// The length that it is drawn to, in units of 1/65,536 metre.
     pub rest_length: i64,
     /// The length above which it tears, in the same units, if there is one.
     pub tear_length: Option<i64>,
-    /// How much of its error a pass takes away, in 256ths, at most 256.
+    /// How much of its error one projection takes away, in 256ths, at most 256.
     pub stiffness: u16,
     /// What it is in a mesh.
     pub kind: LinkKind,

@@ -9,8 +9,8 @@ use alloc::vec::Vec;
 /// A state has all of a world that commands change, and nothing of the slots. It says nothing that the scene fixes: it is read
 /// into a cloth that was opened on the same scene, on any machine. `docs/FORMATS.md` of the repository has its fields.
 impl Cloth {
-    /// The name of the scene: the SHA-256 digest of all of it that no command changes. States and digests carry it, so that
-    /// those of another scene are refused.
+    /// The name of the scene: the SHA-256 digest of all of it that no command changes. States carry it, and one with another name
+    /// is refused.
     #[must_use]
     pub fn scene_name(&self) -> [u8; 32] {
         self.scene
@@ -67,8 +67,8 @@ impl Cloth {
         written.map_err(|_| NoRoom)
     }
 
-    /// Goes over to the world whose state the bytes are: all that follows is what follows on the machine that wrote it. No slot
-    /// changes, and no memory is taken.
+    /// Goes over to the world whose state the bytes are: the same commands come to the same from there as where it was written.
+    /// No slot changes, and no memory is taken.
     ///
     /// The bytes may come from anybody: what is taken is a sound world of the scene, and its state is those bytes.
     ///
@@ -92,8 +92,8 @@ impl Cloth {
         Ok(())
     }
 
-    /// The SHA-256 digest of the state, what two machines compare: equal worlds have equal digests, and worlds that differ in
-    /// anything have different states.
+    /// The SHA-256 digest of the state, what two machines compare: equal worlds have equal digests, and worlds of one scene
+    /// that differ in anything have different states.
     ///
     /// ```
     /// use lakmozet::{Cloth, Scene};
