@@ -29,7 +29,7 @@ export class World {
         if (status !== DONE) throw new Error(`lak_open answers ${status}`);
         lak.lak_scene_name(this.handle, this.nameAt);
         lak.lak_give(scene, text.length);
-        lak.lak_give(fault, 8);
+        lak.lak_give(fault, 16);
         lak.lak_counts(this.handle, this.countsAt);
         const counts = new DataView(lak.memory.buffer, this.countsAt, 32);
         this.particles = counts.getUint32(8, true);
