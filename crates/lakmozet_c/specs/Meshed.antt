@@ -130,7 +130,8 @@ TellsSceneWhy (ByMesh why) f = f ≡ nothing_wrong
 -- ---- what opening does
 
 -- the world of the scene and the mesh, before its first command, which is in each slot too
-pub record IsMeshOpened (bytes : List ℕ) (slots : ℕ) (t : MeshSettings) (meant : Result ObjMesh ArraysFault) (cloth : Slotted) : Type 0 where
+pub record IsMeshOpened (bytes : List ℕ) (slots : ℕ) (t : MeshSettings) (meant : Result ObjMesh ArraysFault) (cloth : Slotted)
+    : Type 0 where
   pub whole : Parts
   pub parts : IsWhole bytes t meant whole
   pub few : slots ≤ 16

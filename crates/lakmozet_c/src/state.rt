@@ -85,7 +85,8 @@ pub extern "C" fn lak_state_read(
 ) -> i32
     ensures read { Acts (λ c. resumed scene.bytes c bytes.now) (λ c. state_answer (reading scene.bytes c.world bytes.now))
         handle.old.held handle.new.held result }
-    ensures offset { offset.new ≡ read_from handle.old.held (λ c. offset_left (reading scene.bytes c.world bytes.now) offset.old) offset.old }
+    ensures offset { offset.new
+        ≡ read_from handle.old.held (λ c. offset_left (reading scene.bytes c.world bytes.now) offset.old) offset.old }
 {
     with_cloth!(alloc, handle, mut cloth => read(&mut cloth, &scene.bytes, bytes, offset))
 }
@@ -98,7 +99,8 @@ pub extern "C" fn lak_digest(
     scene: Hash,
     digest: &mut Hash,
 ) -> i32
-    ensures { Reads (λ c. sha256 (state_bytes scene.bytes c.world)) handle.old.held handle.new.held result digest.old.bytes digest.new.bytes }
+    ensures { Reads (λ c. sha256 (state_bytes scene.bytes c.world))
+        handle.old.held handle.new.held result digest.old.bytes digest.new.bytes }
 {
     with_cloth!(alloc, handle, cloth => {
         digest.bytes = cloth.digest(&scene.bytes);
@@ -125,7 +127,8 @@ pub extern "C" fn lak_digest_slot(
     scene: Hash,
     digest: &mut Hash,
 ) -> i32
-    ensures { ReadsSlot (λ w. sha256 (state_bytes scene.bytes w)) slot handle.old.held handle.new.held result digest.old.bytes digest.new.bytes }
+    ensures { ReadsSlot (λ w. sha256 (state_bytes scene.bytes w)) slot
+        handle.old.held handle.new.held result digest.old.bytes digest.new.bytes }
 {
     with_cloth!(alloc, handle, cloth => digest_slot(&cloth, &scene.bytes, slot, digest))
 }

@@ -17,7 +17,8 @@ fn mark_all(held: Held<'_>, numbers: &[u32], marks: &mut Marks)
     requires in_range { (k : ℕ) → k < length numbers.now → slice_index numbers.now k < length held.pairs.now }
     requires marks { length held.pairs.now ≤ length marks.old.entries }
     ensures marked { (m k : ℕ) → m < length numbers.now
-        → IsTrue (meets held.entry.pairs.now held.entry.chains.now.chains (slice_index numbers.now m) k) → IsTrue (live_at marks.new.entries k) }
+        → IsTrue (meets held.entry.pairs.now held.entry.chains.now.chains (slice_index numbers.now m) k)
+        → IsTrue (live_at marks.new.entries k) }
     ensures sized { AreAsMany marks.old marks.new }
 {
     for i in numbers {

@@ -195,7 +195,8 @@ abbrev pub AreSplit : ℕ → Option Laid → Option Laid → Option Laid → Ty
 AreSplit n None front back = (front ≡ None) × (back ≡ None)
 AreSplit n (Some laid) None back = ⊥
 AreSplit n (Some laid) (Some front) None = ⊥
-AreSplit n (Some laid) (Some front) (Some back) = (lists_of front ≡ front_of n (lists_of laid)) × (lists_of back ≡ back_of n (lists_of laid))
+AreSplit n (Some laid) (Some front) (Some back) =
+    (lists_of front ≡ front_of n (lists_of laid)) × (lists_of back ≡ back_of n (lists_of laid))
 
 -- ---- what a projector may go by
 

@@ -178,7 +178,8 @@ impl NearMoves {
         requires few { length found.now.chunk.numbers.now ≤ 128 }
         requires columns { AreInColumns found.now }
         requires stiff { HaveStiffness found.now }
-        ensures { IsTrue result → AreMoved (bond_of found.now.chunk.bonds) found.now.chunk.numbers.now (lying_in found.now) self.new.back self.new.forth }
+        ensures { IsTrue result → AreMoved (bond_of found.now.chunk.bonds) found.now.chunk.numbers.now (lying_in found.now)
+            self.new.back self.new.forth }
     {
         if least_of(found.laid.stiffness) < 0 {
             return false;

@@ -60,7 +60,8 @@ fn on_halves<K: Sink>(alloc: Global, job: ScriptJob, halves: &Halves<'_>, sink: 
 /// Does a job that runs a script, on an input that has a scene and a script.
 pub fn script_input<K: Sink>(alloc: Global, job: ScriptJob, input: &[u8], sink: &mut K) -> Status
     requires { length input.now ≤ 2 ^ 31 }
-    ensures { DoesSome (IsOne (job_of job) input.now) (K.written sink.old) (K.written sink.new) (K.faults sink.old) (K.faults sink.new) result }
+    ensures { DoesSome (IsOne (job_of job) input.now)
+        (K.written sink.old) (K.written sink.new) (K.faults sink.old) (K.faults sink.new) result }
 {
     match halves_of(alloc, input, sink) {
         Ok(halves) => on_halves(alloc, job, &halves, sink),
