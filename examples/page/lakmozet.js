@@ -23,7 +23,7 @@ export class World {
         this.count = this.take(8);
         this.nameAt = this.take(HASH);
         this.hashAt = this.take(HASH);
-        const scene = this.take(text.length), fault = this.take(8);
+        const scene = this.take(text.length), fault = this.take(16);
         new Uint8Array(lak.memory.buffer, scene, text.length).set(text);
         const status = lak.lak_open(this.handle, scene, text.length, slots, fault);
         if (status !== DONE) throw new Error(`lak_open answers ${status}`);
