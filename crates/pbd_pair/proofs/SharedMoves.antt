@@ -29,8 +29,8 @@ of_one (negsuc a) = let e : (2 * (a + 1) + 1) / 2 ≡ suc a = omega arith in ap 
 whole_axis : (z : ℤ) → rdiv (z *ℤ pos 512) (pos 512) ≡ z
 whole_axis z = rdiv-cancel z 512 1 (omega arith) (omega arith) ∙ of_one z
 
-whole : (v : Vec3) → scaled (pos 512) (pos 512) v ≡ v
-whole v = same_axes _ _ (whole_axis v.x) (whole_axis v.y) (whole_axis v.z)
+scaled_by_one : (v : Vec3) → scaled (pos 512) (pos 512) v ≡ v
+scaled_by_one v = same_axes _ _ (whole_axis v.x) (whole_axis v.y) (whole_axis v.z)
 
 nothing : (v : Vec3) → scaled (pos 0) (pos 512) v ≡ zero_vector
 nothing v = same_axes _ _ (part_of_none v.x (pos 0) _ refl refl) (part_of_none v.y (pos 0) _ refl refl) (part_of_none v.z (pos 0) _ refl refl)
@@ -64,7 +64,7 @@ module _ (way : Vec3) (first second : ℤ) where
       sym (λ i. (opposite (first_none i), second_none i))
   shared_case false rest k correction back forth apart some is first_is second_is =
       sym (along-by_steps way correction back forth (opposite back) rest k first second (unsigned_abs first + unsigned_abs second)
-      (is ∙ whole (corrections way rest)) first_is second_is refl refl apart some)
+      (is ∙ scaled_by_one (corrections way rest)) first_is second_is refl refl apart some)
 
   -- where both ends are held
   held_case : (slack : Bool) (rest k : ℤ) (back forth : Vec3) → unsigned_abs first + unsigned_abs second ≡ 0 → back ≡ zero_vector

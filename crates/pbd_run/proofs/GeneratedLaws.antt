@@ -61,8 +61,8 @@ level_fits size low high =
     (near_place size r c (omega (arith, wr)) (omega (arith, wc))))) in
     rw (one, two, inside) refl
 
-pub few : (size : ℕ) → size ≤ 128 → size * size ≤ 65536
-few size high = let p : size * size ≤ 128 * 128 = mul-le-mul high high in omega (arith, p)
+pub square_few : (size : ℕ) → size ≤ 128 → size * size ≤ 65536
+square_few size high = let p : size * size ≤ 128 * 128 = mul-le-mul high high in omega (arith, p)
 
 -- ---- the particles set off
 
@@ -120,4 +120,4 @@ all_near size high =
 
 -- and they are few
 pub few_particles : (size : ℕ) → size ≤ 128 → length (cloth_particles (level_cloth size)) ≤ 65536
-few_particles size high = omega (arith, cloth_size (level_cloth size), few size high)
+few_particles size high = omega (arith, cloth_size (level_cloth size), square_few size high)

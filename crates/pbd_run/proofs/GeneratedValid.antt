@@ -21,7 +21,7 @@ use Rattle.pbd_mesh.proofs.Every.{every_from_test, every_concatenated, every_mor
 use Rattle.pbd_mesh.proofs.Meshes.{cloth_mesh, cloth_size}
 use Rattle.pbd_outcome.specs.Generated.{after_three, all_set_off, generated, is_hung, level_cloth, middle_sphere, set_off, speed}
 use Rattle.pbd_outcome.specs.Generated.{velocity_of, words_of}
-use Rattle.pbd_run.proofs.GeneratedLaws.{close_place, few, level_fits}
+use Rattle.pbd_run.proofs.GeneratedLaws.{close_place, level_fits, square_few}
 
 -- ---- velocities
 
@@ -161,7 +161,7 @@ generated_valid number size low small =
     let ps : List Particle = cloth_particles spec in
     let all : List Particle = all_set_off size 0 (words_of number) ps in
     let count : length all ≡ length ps = as_many size 0 (words_of number) ps in
-    let most : length ps ≤ 65536 = omega (arith, cloth_size spec, few size small) in
+    let most : length ps ≤ 65536 = omega (arith, cloth_size spec, square_few size small) in
     let mesh : IsMesh (pos (2 ^ 29)) 0 ps (cloth_links spec 0) = cloth_mesh (pos (2 ^ 29)) 0 spec refl (level_fits size low small) in
     let same : length all ≡ 0 + length ps = omega (arith, count) in
     let links : Linked (length all) (cloth_links spec 0) = rw same (linked ps (cloth_links spec 0) most mesh) in

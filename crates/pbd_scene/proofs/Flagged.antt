@@ -104,15 +104,15 @@ pub record TracksSoFar (count : ℕ) (entries : List TrackEntry) (i : ℕ) (trac
   pub rest : each (placed_track count) tracks (drop i entries) ≡ each (placed_track count) [] entries
   pub told : HoldsTracked count tracks flags
 
-whole : {A : Type 0} (xs : List A) → drop 0 xs ≡ xs
-whole [] = refl
-whole (x ∷ xs) = refl
+none_dropped : {A : Type 0} (xs : List A) → drop 0 xs ≡ xs
+none_dropped [] = refl
+none_dropped (x ∷ xs) = refl
 
 pub tracks_begin : (count : ℕ) (entries : List TrackEntry) (flags : List Bool) → flags ≡ replicate count false
     → TracksSoFar count entries 0 [] flags
 tracks_begin count entries flags is = record {
   number = refl;
-  rest = ap (each (placed_track count) []) (whole entries);
+  rest = ap (each (placed_track count) []) (none_dropped entries);
   told = record {
     size = ap length is ∙ length-replicate count false;
     flag = λ i within. ap (λ fs. get_or fs i false) is ∙ get_or-replicate count i false false within;

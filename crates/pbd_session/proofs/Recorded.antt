@@ -127,11 +127,11 @@ logged_failed {start} {all} {limit} {scene} {w} {c} {cs} {old} {mid} {new} {refu
       one_of = leads_among start all (after w c) cs (leads_on start all w c cs here.leads);
     })
 
-whole : {start : World} {all : List Command} {limit : ℤ} {scene : List ℕ} {w : World} {old mid : Option (List ℕ)} {refused written : ℕ}
+written_so_far : {start : World} {all : List Command} {limit : ℤ} {scene : List ℕ} {w : World} {old mid : Option (List ℕ)} {refused written : ℕ}
     → (here : Logged start all limit scene w [] old mid refused written)
     → ((head limit scene ++ here.done) ++ end_bytes written ≡ log_bytes limit scene (entries_of start all))
 unfolding log_bytes
-whole {start} {all} {written} here =
+written_so_far {start} {all} {written} here =
     let n : written ≡ length (entries_of start all) = omega (arith, here.number) in
     let d : here.done ≡ bytes_of (entries_of start all) = sym (append-nil here.done) ∙ here.entries in
     rw (d, n) refl
@@ -142,7 +142,7 @@ pub finish_failed : {start : World} {all : List Command} {limit : ℤ} {scene : 
 finish_failed {start} {all} {limit} {scene} {w} {old} {mid} {refused} {written} logged is wrote =
     let here : Logged start all limit scene w [] old mid refused written = rw is at logged in
     record {
-      bytes = rw (← whole here) (prefix_then _ _ _ _ _ here.bytes wrote);
+      bytes = rw (← written_so_far here) (prefix_then _ _ _ _ _ here.bytes wrote);
       one_of = leads_among start all w [] here.leads;
     }
 
@@ -161,7 +161,7 @@ unfolding log_bytes
 logged_ends {start} {all} {limit} {scene} {w} {old} {mid} {refused} {written} logged is wrote known short few =
     let here : Logged start all limit scene w [] old mid refused written = rw is at logged in
     record {
-      bytes = rw (← whole here) (appends_then _ _ _ _ _ here.bytes wrote);
+      bytes = rw (← written_so_far here) (appends_then _ _ _ _ _ here.bytes wrote);
       spells = parts_spell limit scene (entries_of start all) known short (here.each tt) (omega (arith, as_many start all, few));
       count = counted_all start all w refused here.counted;
       world = leads_last start all w here.leads;

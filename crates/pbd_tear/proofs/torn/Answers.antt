@@ -63,19 +63,19 @@ loop-n-preserved g c =
     }
 
 -- the list has all that tear, once all numbers are done
-whole : (g : _) (c : After-loop-n g) → length c.args.numbers.now ≤ c.loop-n.n-index
+all_looked_at : (g : _) (c : After-loop-n g) → length c.args.numbers.now ≤ c.loop-n.n-index
     → c.loop-n.out.entries ≡ torn_numbers c.args.store.now.particles c.args.links.now
-whole g c le = c.loop-n.invariant.so_far
+all_looked_at g c le = c.loop-n.invariant.so_far
     ∙ ap (λ (ns : List ℕ). torn_among c.args.store.now.particles c.args.links.now ns)
     (take_all c.loop-n.n-index c.args.numbers.now le ∙ c.requires.with_tear_length)
     ∙ torn_among_all c.args.store.now.particles c.args.links.now
 
 pub returns-clause-numbers : goal.returns-clause-numbers
 returns-clause-numbers g c = list_is c.loop-n.out c.args.out.now (torn_numbers c.args.store.now.particles c.args.links.now)
-    (whole g c c.loop-n-test.false) (c.loop-n.invariant.room ∙ ap (λ (o : Roomed ℕ). o.room) c.clear.ensures)
+    (all_looked_at g c c.loop-n-test.false) (c.loop-n.invariant.room ∙ ap (λ (o : Roomed ℕ). o.room) c.clear.ensures)
 
 pub returns-clause-ascending : goal.returns-clause-ascending
-returns-clause-ascending g c = subst (λ (xs : List ℕ). AscendTo (length c.args.links.now) xs) (sym (whole g c c.loop-n-test.false))
+returns-clause-ascending g c = subst (λ (xs : List ℕ). AscendTo (length c.args.links.now) xs) (sym (all_looked_at g c c.loop-n-test.false))
     (torn_ascend c.args.store.now.particles c.args.links.now)
 
 pub returns-clause-cost : goal.returns-clause-cost

@@ -14,8 +14,8 @@ use Rattle.pbd_pair.proofs.near.NearMoves.try_uneven.Goals as goal
 not_below : (a : ℤ) → int_lt a (pos 0) ≡ false → pos 0 ≤ℤ a
 not_below a e = grind (arith, ints, e)
 
-whole : (j n : ℕ) → j < n → n ≤ 128 → number_in (replicate 128 (pos 512)) j ≡ pos 512
-whole j n p few = get_or-replicate 128 j (pos 512) (pos 0) (omega (arith, p, few))
+factor_of_each : (j n : ℕ) → j < n → n ≤ 128 → number_in (replicate 128 (pos 512)) j ≡ pos 512
+factor_of_each j n p few = get_or-replicate 128 j (pos 512) (pos 0) (omega (arith, p, few))
 
 pub returns : goal.returns
 returns c = λ right.
@@ -37,14 +37,14 @@ returns c = λ right.
           (c.requires.stiff.stiffness j p) (below_both _ _ _ least (c.least_of.ensures j r)) refl
           (subst (λ (z : ℤ). IsPulled (vector_of (row_in found.ways.now j)) (number_in laid.rest.now j) z
           (nth (bond_of found.chunk.bonds) numbers j).contact (vector_of (row_in c.try_parts.new.self.moves j)))
-          (whole j (length numbers) p c.requires.few) (c.try_parts.ensures.pulled c.if-not-try_parts.false j p))
+          (factor_of_each j (length numbers) p c.requires.few) (c.try_parts.ensures.pulled c.if-not-try_parts.false j p))
           (shared.back j q) (shared.forth j q);
     }
 
 pub try_parts-requires-clause-low : goal.try_parts-requires-clause-low
 try_parts-requires-clause-low c = λ j p.
-    subst (λ (z : ℤ). neg_ℤ (pos 1) ≤ℤ z) (sym (whole j (length c.args.found.now.chunk.numbers.now) p c.requires.few)) (omega (arith, ints))
+    subst (λ (z : ℤ). neg_ℤ (pos 1) ≤ℤ z) (sym (factor_of_each j (length c.args.found.now.chunk.numbers.now) p c.requires.few)) (omega (arith, ints))
 
 pub try_parts-requires-clause-high : goal.try_parts-requires-clause-high
 try_parts-requires-clause-high c = λ j p.
-    subst (λ (z : ℤ). z ≤ℤ pos 512) (sym (whole j (length c.args.found.now.chunk.numbers.now) p c.requires.few)) (omega (arith, ints))
+    subst (λ (z : ℤ). z ≤ℤ pos 512) (sym (factor_of_each j (length c.args.found.now.chunk.numbers.now) p c.requires.few)) (omega (arith, ints))

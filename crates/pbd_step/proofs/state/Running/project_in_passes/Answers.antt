@@ -30,10 +30,10 @@ moved g c = moved_world c.args.setting.now c.args.self.now.state c.loop.self.sta
     c.loop.invariant.stays.moved.limit
 
 -- a pass is what it would be in the world of the first one, and costs as much
-same : (g : _) (c : After-pass g)
+passes_on : (g : _) (c : After-pass g)
     → pass (world_of c.args.setting.now c.loop.self.state) c.loop.self.scratch.found.pairs (passing_of c.loop.self)
     ≡ pass (world_of c.args.setting.now c.args.self.now.state) c.args.self.now.scratch.found.pairs (passing_of c.loop.self)
-same g c =
+passes_on g c =
     ap (λ (ps : List (ℕ × ℕ)). pass (world_of c.args.setting.now c.loop.self.state) ps (passing_of c.loop.self)) (found g c)
     ∙ same_pass (world_of c.args.setting.now c.args.self.now.state) (world_of c.args.setting.now c.loop.self.state)
     c.loop.self.state.store.particles (ledger_of c.loop.self.state.totals) c.args.self.now.scratch.found.pairs (passing_of c.loop.self) (moved g c)
@@ -68,7 +68,7 @@ returns-in_err-pass-clause-outcome g c =
     let w : World = world_of c.args.setting.now c.args.self.now.state in
     rw (p.1, p.2) (sym c.loop.invariant.rest ∙ pass_out (pass w c.args.self.now.scratch.found.pairs) c.args.setting.now.passes c.loop.counter (omega arith)
     (passing_of c.loop.self) c.in_err-pass.field-0.0
-    (sym (same g (goal.at.returns-in_err-pass-clause-outcome g c).After-pass) ∙ c.in_err-pass.ensures.outcome))
+    (sym (passes_on g (goal.at.returns-in_err-pass-clause-outcome g c).After-pass) ∙ c.in_err-pass.ensures.outcome))
 
 pub returns-in_err-pass-clause-stays : goal.returns-in_err-pass-clause-stays
 returns-in_err-pass-clause-stays g c = both_in_pass c.args.self.now c.loop.self c.pass.new.self c.loop.invariant.stays
@@ -101,7 +101,7 @@ loop-preserved g c =
           (more_under_way (2 ^ 118) (omega (arith, few, within)) under_way);
       laid = still_laid c.args.setting.now.thickness c.loop.self c.pass.new.self c.pass.ensures.stays inv.laid;
       rest = pass_on (pass w pairs) c.args.setting.now.passes i (omega arith) (passing_of c.loop.self) (passing_of c.pass.new.self)
-          (sym (same g at) ∙ c.in_ok-pass.ensures.outcome) ∙ inv.rest;
+          (sym (passes_on g at) ∙ c.in_ok-pass.ensures.outcome) ∙ inv.rest;
       cost = omega (arith, inv.cost, c.pass.ensures.cost, paid g at);
       handed = counts_on before given next k i inv.handed (c.in_ok-pass.ensures.handed
           ∙ (λ i. min (given + (links i + length (found g at i))) (2 ^ 64 - 1)));

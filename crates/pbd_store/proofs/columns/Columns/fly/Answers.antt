@@ -34,24 +34,24 @@ cut_at [] (suc n) j lt = refl
 cut_at (b ∷ flags) (suc n) zero lt = refl
 cut_at (b ∷ flags) (suc n) (suc j) lt = cut_at flags n j (omega arith)
 
-same : (g : _) (c : After-fly g) (j : ℕ) → j < c.self.inside.count
+held_as_flagged : (g : _) (c : After-fly g) (j : ℕ) → j < c.self.inside.count
     → is_set (take c.self.inside.count c.deref.result.now) j ≡ is_set c.self.inside.held.items j
-same g c j lt = cut_at c.deref.result.now c.self.inside.count j lt ∙ ap (λ (bs : List Bool). is_set bs j) c.deref.ensures.value
+held_as_flagged g c j lt = cut_at c.deref.result.now c.self.inside.count j lt ∙ ap (λ (bs : List Bool). is_set bs j) c.deref.ensures.value
 
 pub invariant_of-self : goal.invariant_of-self
 invariant_of-self g c = record {
-  padded = flown_padded c.self.invariant.padded c.self.view_is c.args.forces _ (long g c) (same g c) c.fly.new.self c.fly.new.before
+  padded = flown_padded c.self.invariant.padded c.self.view_is c.args.forces _ (long g c) (held_as_flagged g c) c.fly.new.self c.fly.new.before
       c.fly.ensures.at c.fly.ensures.before;
   long = c.self.invariant.long;
   weighs = c.self.invariant.weighs;
 }
 
 pub returns-clause-particles : goal.returns-clause-particles
-returns-clause-particles g c = flown_listed c.self.invariant.padded c.self.view_is c.args.forces _ (long g c) (same g c) c.fly.new.self
+returns-clause-particles g c = flown_listed c.self.invariant.padded c.self.view_is c.args.forces _ (long g c) (held_as_flagged g c) c.fly.new.self
     c.fly.new.before c.fly.ensures.at c.fly.ensures.before
 
 pub returns-clause-sums : goal.returns-clause-sums
-returns-clause-sums g c = flown_summed c.self.invariant.padded c.self.view_is c.args.forces _ (long g c) (same g c) c.fly.new.self
+returns-clause-sums g c = flown_summed c.self.invariant.padded c.self.view_is c.args.forces _ (long g c) (held_as_flagged g c) c.fly.new.self
     c.fly.new.before c.fly.ensures.at c.fly.ensures.before c.fly.result c.fly.ensures.sums
 
 pub returns-clause-few : goal.returns-clause-few
