@@ -1,9 +1,6 @@
 //! Scenes, each with the first rule that it breaks, and what an accepted one holds.
 use super::parts::link;
-use super::scene_keys::{
-    CLOTH_KEYS, LINK_KEYS, PARTICLE_KEYS, PLANE_KEYS, ROPE_KEYS, SCENE_KEYS, SPHERE_KEYS,
-    TRACK_KEYS,
-};
+use super::scene_keys::{KEYS, TOO_MANY};
 use pbd_num::Vec3;
 use pbd_scene::{SceneFault, read_scene};
 use pbd_tests_rows::{WrongRows, all_hold, place, wrong_row};
@@ -149,25 +146,20 @@ fn wrong_case(rt: &impl Eprint, alloc: Global, case: &str) -> u32 {
     }
 }
 
-static CASES: [&str; 9] = [
-    RULES,
-    SCENE_KEYS,
-    PARTICLE_KEYS,
-    CLOTH_KEYS,
-    ROPE_KEYS,
-    LINK_KEYS,
-    PLANE_KEYS,
-    SPHERE_KEYS,
-    TRACK_KEYS,
-];
+/// How many of some cases, a line each, are wrong. Each of them is told.
+fn wrong_cases(rt: &impl Eprint, alloc: Global, cases: &str) -> u32 {
+    let mut wrong = 0u32;
+    for case in cases.lines() {
+        wrong = wrong.saturating_add(wrong_case(rt, alloc, case));
+    }
+    wrong
+}
 
 #[test]
 fn the_first_broken_rule_is_told(rt: HostRuntime) -> Result<(), WrongRows> {
-    let mut wrong = 0u32;
-    for cases in &CASES {
-        for case in cases.lines() {
-            wrong = wrong.saturating_add(wrong_case(&rt, rt.alloc(), case));
-        }
+    let mut wrong = wrong_cases(&rt, rt.alloc(), RULES);
+    for cases in &KEYS {
+        wrong = wrong.saturating_add(wrong_cases(&rt, rt.alloc(), cases));
     }
     all_hold(wrong)
 }
@@ -232,30 +224,13 @@ const SPOKES: Lines = (1, 33, "[[link]]\na = ", &[(0, "\nb = 0\n")]);
 
 const END: Lines = (0, 1, "]", &[]);
 
-/// A scene of one list: how it begins, an entry, and how often it comes.
-macro_rules! list {
-    ($begin:literal, $entry:literal, $count:literal) => {
-        &[(0, 1, $begin, &[]), (0, $count, $entry, &[]), END]
-    };
-}
-
-/// Lists with an entry more than their greatest number, and what is told of them.
-static LISTS: [(&[Lines], &str); 8] = [
-    (list!("particle=[", "{},", 65_537), "6 particle 0 -"),
-    (list!("cloth=[", "{},", 65), "6 cloth 0 -"),
-    (list!("rope=[", "{},", 65), "6 rope 0 -"),
-    (list!("link=[", "{},", 524_289), "6 link 0 -"),
-    (list!("plane=[", "{},", 257), "6 plane 0 -"),
-    (list!("sphere=[", "{},", 257), "6 sphere 0 -"),
-    (list!("track=[", "{},", 4_097), "6 track 0 -"),
-    (list!("pins=[", "0,", 65_537), "6 scene 0 pins"),
-];
-
 #[test]
 fn a_list_past_its_greatest_number_is_refused(rt: HostRuntime) -> Result<(), WrongRows> {
     let mut wrong = 0u32;
-    for row in &LISTS {
-        wrong = wrong.saturating_add(wrong_limit(&rt, rt.alloc(), row));
+    for (begin, entry, count, told) in &TOO_MANY {
+        let list: [Lines; 3] = [(0, 1, *begin, &[]), (0, *count, *entry, &[]), END];
+        let row: (&[Lines], &str) = (&list, *told);
+        wrong = wrong.saturating_add(wrong_limit(&rt, rt.alloc(), &row));
     }
     all_hold(wrong)
 }

@@ -190,3 +190,27 @@ particle=[{at=[0,0,0]},{at=[3,4,0]}]; track=[{particle=0,keys=2}] => 4 track 0 k
 particle=[{at=[0,0,0]},{at=[3,4,0]}]; track=[{particle=0,keys=[[0,536870913,0,0]]}] => 5 track 0 keys
 particle=[{at=[0,0,0]},{at=[3,4,0]}]; track=[{particle=0,keys='x'}] => 4 track 0 keys
 particle=[{at=[0,0,0]},{at=[3,4,0]}]; track=[{particle=true,keys=[[0,0,0,0]],zebra=1}] => 2 track 0 -";
+
+/// The keys of the scene and of each table.
+pub static KEYS: [&str; 8] = [
+    SCENE_KEYS,
+    PARTICLE_KEYS,
+    CLOTH_KEYS,
+    ROPE_KEYS,
+    LINK_KEYS,
+    PLANE_KEYS,
+    SPHERE_KEYS,
+    TRACK_KEYS,
+];
+
+/// Lists with an entry more than their greatest number: how each begins, an entry, how often it comes, and what is told.
+pub static TOO_MANY: [(&str, &str, u32, &str); 8] = [
+    ("particle=[", "{},", 65_537, "6 particle 0 -"),
+    ("cloth=[", "{},", 65, "6 cloth 0 -"),
+    ("rope=[", "{},", 65, "6 rope 0 -"),
+    ("link=[", "{},", 524_289, "6 link 0 -"),
+    ("plane=[", "{},", 257, "6 plane 0 -"),
+    ("sphere=[", "{},", 257, "6 sphere 0 -"),
+    ("track=[", "{},", 4_097, "6 track 0 -"),
+    ("pins=[", "0,", 65_537, "6 scene 0 pins"),
+];
