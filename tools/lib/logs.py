@@ -1,11 +1,30 @@
 """Reads logs, as docs/FORMATS.md has them, and says where bytes stop being one."""
+import os
+import re
 import struct
 
 NAME = b"PBDSLOG"
 OLD_LIMIT, LIMIT = 2**28, 2**29
-# the words of the commands, and the numbers behind each: u for one without a sign, i for one with it
-COMMANDS = {1: ("step", "u"), 2: ("frame", ""), 3: ("pin", "u"), 4: ("unpin", "u"), 5: ("move", "uiii"), 6: ("cut", "u"),
-            7: ("gravity", "iii"), 8: ("ledger", ""), 9: ("a line of no form", "")}  # fmt: skip
+FORMATS = os.path.join(os.path.dirname(os.path.realpath(__file__)), "../../docs/FORMATS.md")
+# what the table of entries says of a command: its words, its byte, and the numbers behind it
+ROW = re.compile(r"^\| ([a-z][a-z ]*) \| `([0-9a-f]{2})`((?:, (?:u64|i64|three i64)\b[ a-z]*)*) \|$", re.M)
+KINDS = {"u64": "u", "i64": "i", "three i64": "iii"}
+
+
+def commands():
+    """Returns the words of the commands by their bytes, and the numbers behind each: u for one without a sign, i for one with it."""
+    with open(FORMATS, encoding="utf-8") as file:
+        text = file.read()
+    start = text.index("### An entry")
+    table = {}
+    for words, byte, numbers in ROW.findall(text[start:text.index("| answer | bytes |", start)]):
+        kinds = "".join(KINDS[kind] for kind in re.findall(r"three i64|u64|i64", numbers))
+        # (of a line of no form all words tell it, and of a command the first)
+        table[int(byte, 16)] = (words if words.startswith("a line") else words.split()[0], kinds)
+    return table
+
+
+COMMANDS = commands()
 PHASES = {1: "predict", 2: "link", 3: "contact", 4: "shape"}
 SUMS = 64
 

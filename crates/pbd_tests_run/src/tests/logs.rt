@@ -87,7 +87,7 @@ static BYTES: [(&str, &[u8], &[u8], Status); 19] = [
     ),
     (
         "replay 1",
-        b"PBDSLOG\x01\x00\x00\x00\x00\n\x00\x00\x00\x00\x00\x00\x00\x00\x00\x01",
+        b"PBDSLOG\x01\x00\x00\x00\x00\xff\x00\x00\x00\x00\x00\x00\x00\x00\x00\x01",
         b"error 9 LogRefused offset 12\n",
         Status::LogRefused,
     ),

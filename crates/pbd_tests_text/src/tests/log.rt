@@ -73,7 +73,9 @@ fn write_log<K: Sink>(
     requires scene { length scene.now < 2 ^ 32 }
     requires grammar { All IsGrammatical entries.now }
     requires room { length entries.now < 2 ^ 32 }
-    ensures { OnOk result (Appends (K.written sink.old) (K.written sink.new) ((header_bytes 2 limit (length scene.now) ++ scene.now) ++ flat_map entry_bytes entries.now ++ end_bytes (length entries.now))) }
+    ensures { OnOk result (Appends (K.written sink.old) (K.written sink.new)
+        ((header_bytes 2 limit (length scene.now) ++ scene.now)
+        ++ flat_map entry_bytes entries.now ++ end_bytes (length entries.now))) }
 {
     let mut writer = LogWriter::begin(sink, limit, scene)?;
     for entry in entries {
@@ -263,7 +265,7 @@ static SMALL_CHANGED: [Wrong; 7] = [
     (Some(0), &[(0, 81), (6, 103), (7, 0), (7, 3)]),
     (Some(8), &[(8, 1), (12, 48), (15, 1)]),
     (Some(16), &[(16, 255), (19, 12)]),
-    (Some(20), &[(20, 10), (21, 13)]),
+    (Some(20), &[(20, 255), (21, 13)]),
     (Some(22), &[(22, 10), (23, 1), (30, 2)]),
     (Some(29), &[(20, 0)]),
     (None, &[(12, 16), (21, 2)]),
@@ -271,7 +273,7 @@ static SMALL_CHANGED: [Wrong; 7] = [
 
 static OLD_SMALL_CHANGED: [Wrong; 3] = [
     (Some(8), &[(11, 12)]),
-    (Some(12), &[(12, 10), (13, 13)]),
+    (Some(12), &[(12, 255), (13, 13)]),
     (Some(14), &[(22, 2)]),
 ];
 
