@@ -266,7 +266,7 @@ static SMALL_CHANGED: [Wrong; 7] = [
     (Some(8), &[(8, 1), (12, 48), (15, 1)]),
     (Some(16), &[(16, 255), (19, 12)]),
     (Some(20), &[(20, 255), (21, 13)]),
-    (Some(22), &[(22, 10), (23, 1), (30, 2)]),
+    (Some(22), &[(22, 255), (23, 1), (30, 2)]),
     (Some(29), &[(20, 0)]),
     (None, &[(12, 16), (21, 2)]),
 ];
@@ -315,7 +315,7 @@ const FAR: Vec3 = Vec3 {
     z: i64::MAX,
 };
 
-/// Each command, and a reply to it.
+/// Commands with each kind of operands, and replies to them.
 const REPLIES: [(Command, Reply); 13] = [
     (Command::Step(u64::MAX), Reply::Refused(Refusal::BadCount)),
     (Command::Step(1), Reply::Done),
