@@ -22,7 +22,7 @@
  *     or in the forked child of a process with threads.
  *
  * Lengths are in units of 1/65,536 metre; velocities are per step, and gravity is per step squared. There is no time step: at
- * 60 steps a second, 9.81 m/s2 is 179.
+ * 60 steps a second, about 9.81 m/s2 is 179.
  */
 #ifndef LAKMOZET_H
 #define LAKMOZET_H
