@@ -5,7 +5,7 @@
 //! use lakmozet::{Cloth, Scene};
 //!
 //! let scene = Scene::read(
-//!     "gravity = [0, -179, 0]        # 9.81 m/s² at 60 steps a second
+//!     "gravity = [0, -179, 0]        # about 9.81 m/s² at 60 steps a second
 //!      passes = 8
 //!      pins = [0]                    # particle 0 stays where it is
 //!      [[rope]]
@@ -29,7 +29,7 @@
 //! ```
 //!
 //! Lengths are in units of 1/65,536 metre ([`UNITS_PER_METRE`]); velocities are per step, and gravity is per step squared. There
-//! is no time step: at 60 steps a second, 9.81 m/s² is 179. `docs/SCENES.md` and `docs/FORMATS.md` of the repository say how to
+//! is no time step: at 60 steps a second, 9.81 m/s² is about 179. `docs/SCENES.md` and `docs/FORMATS.md` of the repository say how to
 //! make a scene, and have every key of one.
 //!
 //! # What is proved
