@@ -326,8 +326,9 @@ int32_t lak_state_write(lak_cloth *cloth, lak_hash name, uint8_t *into, size_t r
 /*
  * Goes over to the world whose state the bytes are, on a handle that was opened on the scene. The same commands come to the
  * same from there as where it was written. No slot changes. Takes no memory. LAK_DONE, LAK_CLOSED, or LAK_NO_STATE, and then
- * nothing changes, and `offset` says how many bytes stand before the one that can't stand there, or before the field that is
- * unsound. Bytes of anybody can be handed in: what is taken is a sound world of the scene, and its state is those bytes.
+ * nothing changes, and `offset` says how many bytes stand before the one that can't stand there, before the end where bytes are
+ * missing, or before the field that is unsound. Bytes of anybody can be handed in: what is taken is a sound world of the scene,
+ * and its state is those bytes.
  */
 int32_t lak_state_read(lak_cloth *cloth, lak_hash name, const uint8_t *state, size_t length, uint64_t *offset);
 

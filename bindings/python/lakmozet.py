@@ -8,7 +8,7 @@
         places = cloth.places()     # places[3, 1] is how high particle 3 is
 
 Each method stands for a call of lakmozet.h, which says what it does, its units and its answers; one that reads a list or a state
-asks before how long that is. Those of a Cloth stand in that header's parts, in their order, and what is added there gets its line
+asks before how long that may be. Those of a Cloth stand in that header's parts, in their order, and what is added there gets its line
 in CALLS and its method. A refused command raises Refused, and the world is what it was. Lists of numbers are arrays of NumPy where
 NumPy is there, and memoryviews where it isn't, over memory that the library wrote. A cloth also keeps the name of its scene, for
 which opening asks, and hands it to the calls on states and digests. It is used by one call at a time, on any thread; a call lets
@@ -197,7 +197,7 @@ class Refused(Exception):
 
 
 class Failed(Exception):
-    """A scene that wasn't opened, a run that wasn't made, or a mesh that has no triangles.
+    """A scene that wasn't opened, a run that wasn't made, or a mesh that wasn't cut into triangles.
 
     Where a scene or a mesh is refused as it is opened, or a mesh as it is cut, `detail` is its fault, where a text that is opened is
     no TOML the offset at which its reader stopped, and of a refused log its stop. With all others it is None.

@@ -38,7 +38,7 @@ pub use crate::parts::pbd_world::Refusal;
 #[derive(Clone, Copy, Debug, PartialEq, Eq)]
 #[non_exhaustive]
 pub enum SceneError {
-    /// The text is no TOML.
+    /// The text is no TOML, or deeper or longer than is read.
     #[non_exhaustive]
     NotToml {
         /// How many bytes stand before those that can't stand there.
@@ -162,7 +162,8 @@ impl Error for NoRoom {}
 #[derive(Clone, Copy, Debug, PartialEq, Eq)]
 #[non_exhaustive]
 pub struct StateError {
-    /// How many bytes stand before the one that can't stand there, or before the field that no sound world of the scene has.
+    /// How many bytes stand before the one that can't stand there, before the end where bytes are missing, or before the field that
+    /// is unsound.
     pub offset: u64,
 }
 

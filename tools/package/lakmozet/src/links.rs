@@ -1,8 +1,9 @@
 //! Links.
 use crate::parts::pbd_cloth::LinkEntry;
 
-/// Which links of a mesh a link is of: those along rows, columns and ropes (`Stretch`), those across squares (`Shear`), those over
-/// two of them (`Bend`), or a link that the scene lists by itself (`Plain`).
+/// Which links a link is of: those along rows, columns, ropes and the sides of a mesh's faces (`Stretch`), those across squares
+/// (`Shear`), those to the particle after the next and across the sides that two faces of a mesh share (`Bend`), or a link that the
+/// scene lists by itself (`Plain`).
 #[doc(inline)]
 pub use crate::parts::pbd_world::Kind as LinkKind;
 

@@ -108,8 +108,8 @@ impl fmt::Display for MeshError {
 impl Error for MeshError {}
 
 impl Mesh<'_> {
-    /// The triangles of its faces, as numbers of vertices, to draw: a face a b c d is a b c and a c d. Vertex v of a mesh that was
-    /// added to a scene is the particle v places behind the scene's own.
+    /// The triangles of its faces, as numbers of vertices, to draw: a face a b c d is a b c and a c d. Where a scene
+    /// has n particles, vertex v of a mesh that is added to it becomes particle n + v.
     ///
     /// # Errors
     ///
@@ -148,7 +148,7 @@ impl Scene {
     ///
     /// # Errors
     ///
-    /// The first fault of the mesh, or that there is no memory.
+    /// The first fault of the settings and the mesh, or that there is no memory.
     ///
     /// ```
     /// use lakmozet::{Cloth, Mesh, MeshError, MeshSettings, Position, Scene};

@@ -4,7 +4,7 @@ use crate::parts::pbd_num::Vec3;
 /// How many units a metre has.
 pub const UNITS_PER_METRE: i64 = 65_536;
 
-/// Within 2^29 = 536,870,912 on each axis, 8,192 metres.
+/// Where a particle is, or may be put: within 2^29 = 536,870,912 on each axis, 8,192 metres. A call refuses one beyond that.
 ///
 /// ```
 /// use lakmozet::Position;

@@ -20,7 +20,7 @@ impl Scene {
     ///
     /// # Errors
     ///
-    /// The first rule that the scene breaks, and where; or that the text is no TOML; or that there is no memory.
+    /// The first rule that the scene breaks, and where; or that the text is no TOML that is read; or that there is no memory.
     ///
     /// ```
     /// use lakmozet::{Scene, SceneError, SceneRule};
