@@ -4,7 +4,7 @@
  *
  * Each of these writes the line of one call of lakmozet.h, with its newline and without a zero byte behind it, and returns how
  * many bytes it has. It returns 0, and writes nothing, where the room is too short, or where a number has more than 18 digits,
- * which no accepted command has. LAK_LINE_ROOM bytes are always enough. They use no locale, no memory and no other file.
+ * which no accepted command has. LAK_LINE_ROOM bytes are always enough. They use no locale and take no memory.
  *
  *     if (lak_move(&cloth, 0, hand) == LAK_DONE)
  *         length += lak_line_move(script + length, sizeof script - length, 0, hand);

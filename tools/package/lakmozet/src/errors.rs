@@ -41,7 +41,7 @@ pub enum SceneError {
     /// The text is no TOML, or deeper or longer than is read.
     #[non_exhaustive]
     NotToml {
-        /// How many bytes stand before those that can't stand there.
+        /// Where its reader stopped: how many bytes stand before that.
         offset: usize,
     },
     /// The scene breaks a rule; this is the first that it breaks.

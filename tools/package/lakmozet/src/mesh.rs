@@ -16,7 +16,7 @@ pub use crate::parts::pbd_obj::LinkSettings;
 
 /// How a mesh becomes cloth: the weight of each particle, 1 to 65,535, and the links along the sides of faces (`stretch`), across
 /// faces of four corners (`shear`), and across each side that exactly two faces share (`bend`), if there are to be such.
-/// `MeshSettings::stiff()` has those of the program's form `obj`: links that give way to nothing, and none that bend.
+/// `MeshSettings::stiff()` has those of the program's form `obj`: weight 1, stiffness 256, no tearing and no bend links.
 #[doc(inline)]
 pub use crate::parts::pbd_obj::MeshSettings;
 

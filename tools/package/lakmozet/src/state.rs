@@ -6,9 +6,9 @@ use alloc::vec::Vec;
 
 /// The world as bytes: saved games, players who join late, and what two machines compare.
 ///
-/// A state has all of a world that commands change, and nothing of the slots. Behind its first 96 bytes it says nothing that the
-/// scene fixes: it is read into a cloth that was opened on the same scene, on any machine. `docs/FORMATS.md` of the repository has
-/// its fields.
+/// A state has all of a world that commands change, and nothing of the slots. Weights, ends and lengths of links, tracks, shapes
+/// and the scene's numbers but gravity aren't in it: it is read into a cloth that was opened on the same scene, on any machine.
+/// `docs/FORMATS.md` of the repository has its fields.
 impl Cloth {
     /// The name of the scene: the SHA-256 digest of all of it that no command changes. States carry it, and one with another name
     /// is refused.
