@@ -10,7 +10,9 @@
  *         length += lak_line_move(script + length, sizeof script - length, 0, hand);
  *
  * A refused command changes nothing, so a script without it comes to the same world. lak_save has no line, and lak_restore takes
- * back what was played since: keep the script's length beside each slot, and go back to that length.
+ * back what was played since: keep the script's length beside each slot, and go back to that length; for a slot that was saved in
+ * what was taken back since, keep the script itself. A mesh that was opened and a state that was read have no line either: the log
+ * is of a session that began with a scene's text alone.
  */
 #ifndef LAKMOZET_LINES_H
 #define LAKMOZET_LINES_H

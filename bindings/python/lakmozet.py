@@ -489,7 +489,7 @@ class Cloth:
         return self._list("lak_live", c_uint8, self.counts().links)
 
     def gone_since(self, slot: int) -> Any:
-        """The numbers of the links that went since a slot was saved."""
+        """The numbers of the links that are live in a slot's world and are so no longer."""
         return self._list("lak_gone_since", c_uint32, self.counts().links, 1, slot)
 
     # ---- the world as bytes
