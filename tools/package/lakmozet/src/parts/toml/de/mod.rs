@@ -21,7 +21,7 @@ impl Error {
         self.fault == ParseError::OutOfMemory
     }
 
-    /// The bytes of the text that can't stand there. An error of memory has none.
+    /// The bytes of the text that its reader didn't expect. An error of memory has none.
     pub fn span(&self) -> Option<Range<usize>> {
         let ParseError::At(_, from, to) = self.fault else {
             return None;
