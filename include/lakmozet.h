@@ -86,7 +86,7 @@ typedef struct {
 typedef struct {
     uint64_t steps;             /* taken so far, at most 1,000,000 */
     uint32_t live, contacts;    /* live links, and contacts that the last step found */
-    int64_t at[3], before[3];   /* the sums of all places, and of all places of one step before */
+    int64_t at[3], before[3];   /* the sums of all places, and of those that lak_places_before writes */
 } lak_sums_of_world;
 
 /* A SHA-256 digest: the name of a scene, or what two machines compare. */

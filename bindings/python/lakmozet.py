@@ -469,7 +469,7 @@ class Cloth:
         return self._list("lak_places", c_int64, self.counts().particles, 3)
 
     def places_before(self) -> Any:
-        """Their places one step before, in the same form."""
+        """Their places one step before, as friction and commands left them, in the same form."""
         return self._list("lak_places_before", c_int64, self.counts().particles, 3)
 
     def held(self) -> Any:

@@ -223,7 +223,7 @@ impl Cloth {
         into.len().min(self.particles())
     }
 
-    /// The same one step before: the difference is a particle's velocity.
+    /// The same one step before, as friction and commands left them: the difference is a particle's velocity.
     pub fn positions_before_into(&self, into: &mut [Position]) -> usize {
         self.playing.places_before(into);
         into.len().min(self.particles())

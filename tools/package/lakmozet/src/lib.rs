@@ -89,6 +89,6 @@ pub const MOST_SLOTS: usize = parts::pbd_cloth::MOST_SLOTS as usize;
 /// Counts and sums of a world, which logs keep: equal worlds have equal sums. They don't see all; a [digest](Cloth::digest) does.
 ///
 /// `steps` were taken so far, at most 1,000,000; `live` links are there, and the last step found so many `contacts`. `at` and
-/// `before` are the sums of all positions, now and one step before, axis by axis.
+/// `before` are the sums of all positions, now and one step before as friction and commands left those, axis by axis.
 #[doc(inline)]
 pub use parts::pbd_world::FrameSums as Sums;
