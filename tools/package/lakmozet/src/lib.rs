@@ -34,9 +34,9 @@
 //!
 //! # What is proved
 //!
-//! The sources that this package was made of carry contracts, and a prover checked every function against its own. A tool took
-//! the contracts off, and what stands here is plain Rust; nothing here is proved again. That it writes the same bytes is tested.
-//! [`SOURCE`] says which sources these are.
+//! The sources that this package was made of carry contracts, and a prover checked every function against its own, for a `usize`
+//! of 64 bits. A tool took the contracts off, and what stands here is plain Rust; nothing here is proved again. That it writes the
+//! same bytes is tested. [`SOURCE`] says which sources these are.
 //!
 //! # What two machines agree on
 //!
