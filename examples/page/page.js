@@ -73,7 +73,7 @@ $("share").addEventListener("click", async () => {
     if (!address) return told("This session began from a file, so its inputs don’t tell all of it. Save it as a file again.");
     history.replaceState(null, "", address);
     await navigator.clipboard?.writeText(address).catch(() => {});
-    told("The address has all inputs that both know, and was copied. Whoever opens it sees the frame they come to.");
+    told("The address has all turns of which the first player has both inputs, and was copied. Opened in a new tab, it shows the frame they come to.");
 });
 
 // ---- a world as a file: its state, as the library writes it
