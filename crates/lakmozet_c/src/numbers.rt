@@ -28,7 +28,7 @@ pub(crate) const TOO_LONG: i32 = 36;
 /// The scene is no UTF-8.
 pub(crate) const SCENE_NOT_TEXT: i32 = 38;
 
-/// The scene is no TOML.
+/// The scene is no TOML, or deeper or longer than is read.
 pub(crate) const SCENE_NOT_TOML: i32 = 39;
 
 /// The scene breaks a rule.

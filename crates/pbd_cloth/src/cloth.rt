@@ -15,7 +15,7 @@ use std::alloc::{AllocError, Global};
 use std::marker::{Brand, Model};
 use std::sync::ledger::Blank;
 
-/// How many bonds are projected side by side. What a cloth does is the same at every width.
+/// The lane width of a cloth. What it does is the same at every width.
 pub const LANES: usize = 8;
 
 /// How many slots there can be.

@@ -9,7 +9,8 @@ ghost use Rattle.pbd_encoding.specs.Form.{AreCounts, is_foreign, form_checked};
 /// Bytes that are no state of a scene.
 #[derive(Clone, Copy, Debug, PartialEq, Eq)]
 pub struct StateFault {
-    /// How many bytes stand before the one that can't stand there, or before the field that is unsound.
+    /// How many bytes stand before the one that can't stand there, or before the field that is unsound; how many there are,
+    /// where the state only goes on behind them.
     pub offset: u64,
 }
 

@@ -1,6 +1,6 @@
-//! The moves of short bonds, up to a chunk together: short loops over columns of 32-bit numbers, with no division, no branch
-//! and no operation that wraps. Four loops guess, and the fifth tests what they guessed, so that nothing has to be known of
-//! a guess: a move whose tests fail is flagged.
+//! The moves of short bonds, up to a chunk together: five loops over columns of 32-bit numbers, which divide by 2 alone, choose
+//! between numbers where others branch, and in which no sum, difference or product wraps. The first takes the ways over, three
+//! guess, and the last tests what they guessed, so that nothing has to be known of a guess: a move whose tests fail is flagged.
 #![tactic(auto)]
 
 ghost use Rattle.std.specs.Prelude.{◌≡◌, ℕ, ◌<◌, ◌≤◌, ◌≤ℤ◌, pos, neg_ℤ, length, slice_index_or, unsigned_abs, IsTrue, if◌then◌else◌};

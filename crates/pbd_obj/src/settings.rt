@@ -23,7 +23,7 @@ pub struct MeshSettings {
 }
 
 impl MeshSettings {
-    /// Those of the form `obj`: the weight 1, links that give way to nothing, and none that bend.
+    /// Those of the form `obj`: the weight 1, links of stiffness 256 that never tear, and no bend links.
     pub fn stiff() -> MeshSettings
         ensures { result ≡ stiff_settings }
     {

@@ -22,7 +22,7 @@ pub enum Status {
     NoScript,
     /// The scene is no UTF-8.
     SceneNotText,
-    /// The scene is no TOML.
+    /// The scene is no TOML, or deeper or longer than is read.
     SceneNotToml,
     /// The scene breaks a rule.
     SceneRefused,

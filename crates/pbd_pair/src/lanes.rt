@@ -11,7 +11,8 @@ use pbd_store::{Steps, Store};
 use pbd_world::{Left, Totals};
 use std::sync::ledger::Ledger;
 
-/// Projects up to 128 bonds side by side, whole lanes of L.
+/// Projects bonds side by side, up to 128 together: a multiple of L of them, but for the last of a batch. A bond whose move isn't
+/// found exactly so is projected alone.
 #[derive(Clone, Copy)]
 pub struct LaneProjector<const L: usize> {
     count: u64,

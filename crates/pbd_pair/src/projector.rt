@@ -14,13 +14,13 @@ use std::sync::ledger::Ledger;
 /// What projects batches of constraints: bonds of which no two share a particle, so that the order within a batch
 /// has no effect, as between the colours of a Gauss-Seidel sweep.
 pub trait Projector<const L: usize> {
-    /// How many bonds it projects side by side.
+    /// Its lane width.
     ghost width: { Self → ℕ };
 
     /// How many bonds it was handed.
     ghost count: { Self → ℕ };
 
-    /// How many bonds it projects side by side, at least 1.
+    /// Its lane width, at least 1.
     fn lanes(&self) -> usize
         requires { 0 < L }
         ensures value { result ≡ width self.now }

@@ -79,7 +79,7 @@ impl fmt::Display for SceneRule {
 /// Why a text is no scene.
 #[derive(Clone, Copy, Debug, PartialEq, Eq)]
 pub enum SceneFault {
-    /// The text is no TOML document.
+    /// The text is no TOML document, or one that is deeper or longer than is read.
     NotToml,
     /// The first rule that the scene breaks, with the table, the position in its array from 0, and the key.
     Refused {

@@ -7,8 +7,8 @@ use Rattle.pbd_shape.specs.declared.way.Pushed.{Pushed}
 use Rattle.pbd_shape.specs.Valid.{lists_of}
 
 -- all shapes in order, as what they do with a place
-abbrev pub shapes_in : Shapes → List Shape
-shapes_in shapes = shapes_of (lists_of shapes)
+abbrev pub all_shapes : Shapes → List Shape
+all_shapes shapes = shapes_of (lists_of shapes)
 
 abbrev pub way_of : Pushed → Way
 way_of w = record { at = w.at; touched = w.touched }

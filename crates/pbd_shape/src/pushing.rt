@@ -9,7 +9,7 @@ ghost use Rattle.pbd_world.specs.Shapes.{are_valid_shapes, way_through};
 ghost use Rattle.pbd_store.specs.Blocks.{blocks_of, filled_lanes, place_of, Saved};
 ghost use Rattle.pbd_store.specs.Moving.{motion_of, fixed_parts, AreInside};
 ghost use Rattle.pbd_shape.specs.Valid.{lists_of, IsLimit, AreInRange};
-ghost use Rattle.pbd_shape.specs.Way.{way_of, shapes_in, starting};
+ghost use Rattle.pbd_shape.specs.Way.{way_of, all_shapes, starting};
 ghost use Rattle.pbd_shape.specs.Shaping.{CanPush, all_pushed, push_cost, pushed_from};
 
 use crate::book::{book_if, touch_if};
@@ -44,10 +44,10 @@ impl<'a> Shapes<'a> {
         requires flags { length touched.old ≡ length store.old.particles }
         requires room { HaveRoom (2 ^ 120) (ledger_of totals.old) }
         ensures outcome { MatchResult result
-            (λ _. all_pushed store.old.limit (shapes_in self.entry)
+            (λ _. all_pushed store.old.limit (all_shapes self.entry)
             (record { motion = motion_of store.old totals.old; touched = touched.old })
             ≡ Ok (record { motion = motion_of store.new totals.new; touched = touched.new }))
-            (λ left. all_pushed store.old.limit (shapes_in self.entry)
+            (λ left. all_pushed store.old.limit (all_shapes self.entry)
             (record { motion = motion_of store.old totals.old; touched = touched.old }) ≡ Err left.element) }
         ensures limit { store.new.limit ≡ store.old.limit }
         ensures copies { store.new.copies ≡ store.old.copies }
@@ -57,7 +57,7 @@ impl<'a> Shapes<'a> {
         ensures room { OnOk result
             ((n : ℕ) → HaveRoom n (ledger_of totals.old)
             → HaveRoom (n + length store.old.particles * 2 ^ 31) (ledger_of totals.new)) }
-        ensures cost { steps.new ≤ steps.old + push_cost (shapes_in self.entry) (blocks_of (length store.old.particles) L) }
+        ensures cost { steps.new ≤ steps.old + push_cost (all_shapes self.entry) (blocks_of (length store.old.particles) L) }
     {
         if self.is_empty() {
             return Ok(());
@@ -90,11 +90,11 @@ impl<'a> Shapes<'a> {
         ensures totals { work.new.totals.ghost_name ≡ work.old.totals.ghost_name }
         ensures steps { work.new.steps.ghost_name ≡ work.old.steps.ghost_name }
         ensures outcome { MatchResult result
-            (λ _. pushed_from work.old.store.now.limit (shapes_in self.entry) (block * L + L)
+            (λ _. pushed_from work.old.store.now.limit (all_shapes self.entry) (block * L + L)
             (record { motion = motion_of work.new.store.now work.new.totals.now; touched = touched.new })
-            ≡ pushed_from work.old.store.now.limit (shapes_in self.entry) (block * L)
+            ≡ pushed_from work.old.store.now.limit (all_shapes self.entry) (block * L)
             (record { motion = motion_of work.old.store.now work.old.totals.now; touched = touched.old }))
-            (λ left. pushed_from work.old.store.now.limit (shapes_in self.entry) (block * L)
+            (λ left. pushed_from work.old.store.now.limit (all_shapes self.entry) (block * L)
             (record { motion = motion_of work.old.store.now work.old.totals.now; touched = touched.old }) ≡ Err left.element) }
         ensures limit { work.new.store.now.limit ≡ work.old.store.now.limit }
         ensures copies { work.new.store.now.copies ≡ work.old.store.now.copies }
@@ -150,11 +150,11 @@ impl<'a> Shapes<'a> {
             (λ j. slice_index_or places j zero_vector)
             (λ j. (particle_at loaded.entry.store.now.particles (loaded.entry.block * L + j)).before)
             loaded.entry.store.now.particles qs
-            → pushed_from loaded.entry.store.now.limit (shapes_in self.entry) (loaded.entry.block * L + L)
+            → pushed_from loaded.entry.store.now.limit (all_shapes self.entry) (loaded.entry.block * L + L)
             (record { motion = record { particles = qs; totals = ledger_of totals.new }; touched = touched.new })
-            ≡ pushed_from loaded.entry.store.now.limit (shapes_in self.entry) (loaded.entry.block * L)
+            ≡ pushed_from loaded.entry.store.now.limit (all_shapes self.entry) (loaded.entry.block * L)
             (record { motion = motion_of loaded.entry.store.now totals.old; touched = touched.old }))
-            (λ left. pushed_from loaded.entry.store.now.limit (shapes_in self.entry) (loaded.entry.block * L)
+            (λ left. pushed_from loaded.entry.store.now.limit (all_shapes self.entry) (loaded.entry.block * L)
             (record { motion = motion_of loaded.entry.store.now totals.old; touched = touched.old }) ≡ Err left.element) }
         ensures inside { IfOk result
             (λ places. (j : ℕ) → j < L → loaded.entry.block * L + j < length loaded.entry.store.now.particles
@@ -186,7 +186,7 @@ impl<'a> Shapes<'a> {
         requires shapes { AreInRange self }
         requires place { Within (unsigned_abs limit) at }
         ensures value { option_map way_of result
-            ≡ (if held then Some (starting at) else way_through limit (shapes_in self.entry) (starting at)) }
+            ≡ (if held then Some (starting at) else way_through limit (all_shapes self.entry) (starting at)) }
         ensures within { IfSome result (λ way. Within (unsigned_abs limit) way.at) }
     {
         if held {

@@ -4,7 +4,7 @@ ghost use Rattle.pbd_num.specs.Vectors.{Within};
 ghost use Rattle.pbd_world.specs.Shapes.{way_through};
 ghost use Rattle.pbd_store.specs.Blocks.{place_of};
 ghost use Rattle.pbd_shape.specs.Valid.{lists_of, IsLimit, AreInRange};
-ghost use Rattle.pbd_shape.specs.Way.{way_of, shapes_in, starting, IsStill};
+ghost use Rattle.pbd_shape.specs.Way.{way_of, all_shapes, starting, IsStill};
 
 use crate::touch::any_touches;
 use crate::way::{Pushed, past_all};
@@ -40,7 +40,7 @@ impl<'a> Shapes<'a> {
 
     /// Whether there is no shape.
     pub(crate) fn is_empty(self) -> bool
-        ensures { result ≡ (length (shapes_in self.entry) == 0) }
+        ensures { result ≡ (length (all_shapes self.entry) == 0) }
     {
         self.planes.is_empty() && self.spheres.is_empty()
     }
@@ -50,7 +50,7 @@ impl<'a> Shapes<'a> {
         requires limit { IsLimit limit }
         requires shapes { AreInRange self }
         requires place { Within (unsigned_abs limit) at }
-        ensures value { option_map way_of result ≡ way_through limit (shapes_in self.entry) (starting at) }
+        ensures value { option_map way_of result ≡ way_through limit (all_shapes self.entry) (starting at) }
         ensures within { IfSome result (λ way. Within (unsigned_abs limit) way.at) }
     {
         let start = Pushed { at, touched: false };
@@ -64,7 +64,7 @@ impl<'a> Shapes<'a> {
         requires shapes { AreInRange self }
         requires places { (j : ℕ) → j < L → Within (2 ^ 29) (place_of at.now.x at.now.y at.now.z j) }
         ensures { result ≡ false → (limit : ℤ) (j : ℕ) → j < L
-            → IsStill limit (shapes_in self.entry) (place_of at.now.x at.now.y at.now.z j) }
+            → IsStill limit (all_shapes self.entry) (place_of at.now.x at.now.y at.now.z j) }
     {
         any_touches(self.planes, at) || any_touches(self.spheres, at)
     }

@@ -7,7 +7,7 @@ use Rattle.pbd_world.specs.declared.totals.Class.TheVariants as classes
 use Rattle.pbd_world.specs.Ledger.{ledger_of, added}
 use Rattle.pbd_world.specs.Particles.{particle_at}
 use Rattle.pbd_shape.specs.Valid.{IsLimit}
-use Rattle.pbd_shape.specs.Way.{way_of, shapes_in}
+use Rattle.pbd_shape.specs.Way.{way_of, all_shapes}
 use Rattle.pbd_world.proofs.Rooms.{room_at}
 use Rattle.pbd_num.proofs.Ranges.{wider}
 use Rattle.pbd_store.proofs.Places.{inside_more, within_at}
@@ -60,7 +60,7 @@ returns-in_default-clause-outcome g c =
     let held = ap (λ (bs : List Bool). get_or bs j false) c.to_array-held.ensures ∙ c.requires.held _ here.lane in
     let at = c.place-from.ensures ∙ c.requires.at _ here.lane in
     let value = simp to_z-of_z at c.in_default.ensures.value in
-    pushing_out c.loop-j.invariant.some here.lane here.within (way_is (shapes_in c.args.self)
+    pushing_out c.loop-j.invariant.some here.lane here.within (way_is (all_shapes c.args.self)
     (particle_at ps (c.args.loaded.block * g.row.L + j)) c.requires.same held at value)
     ∙ ap (λ (m : ℕ). Err (m + j)) (sym span.first)
 
@@ -113,7 +113,7 @@ loop-j-preserved g c =
     let at = c.place-from.ensures ∙ c.requires.at _ here.lane in
     let value = simp to_z-of_z at c.in-Some.ensures.value in
     let within = simp to_z-of_z at c.in-Some.ensures.within in
-    let way = way_is (shapes_in c.args.self) (particle_at ps (c.args.loaded.block * g.row.L + j)) c.requires.same held at value in
+    let way = way_is (all_shapes c.args.self) (particle_at ps (c.args.loaded.block * g.row.L + j)) c.requires.same held at value in
     let books = c.book_if.ensures.value ∙ (λ k. cond (not (held k))
     (added u classes.Shape ((c.minus.ensures.value ∙ ap (minus next.at) at) k)) u) in
     let flags = c.touch_if.ensures

@@ -6,7 +6,7 @@ use Rattle.pbd_store.specs.Blocks.{blocks_of}
 use Rattle.pbd_store.specs.Moving.{motion_of, AreInside}
 use Rattle.pbd_store.proofs.Starts.{block_begins, all_held, next_start, room_more, room_whole}
 use Rattle.pbd_shape.specs.Valid.{lists_of}
-use Rattle.pbd_shape.specs.Way.{shapes_in}
+use Rattle.pbd_shape.specs.Way.{all_shapes}
 use Rattle.pbd_shape.specs.Shaping.{push_cost, pushed_from}
 use Rattle.pbd_shape.proofs.Continuing.{pushed_begins, pushed_all}
 use Rattle.pbd_store.proofs.Fixed.{same_length}
@@ -20,9 +20,9 @@ none n = omega arith
 
 pub loop-block-init : goal.loop-block-init
 loop-block-init g c = record {
-  rest = ap (λ (m : ℕ). pushed_from c.args.store.now.limit (shapes_in c.args.self) m
+  rest = ap (λ (m : ℕ). pushed_from c.args.store.now.limit (all_shapes c.args.self) m
       (record { motion = motion_of c.args.store.now c.args.totals.now; touched = c.args.touched.now })) (none g.row.L)
-      ∙ pushed_begins c.args.store.now.limit (shapes_in c.args.self)
+      ∙ pushed_begins c.args.store.now.limit (all_shapes c.args.self)
       (record { motion = motion_of c.args.store.now c.args.totals.now; touched = c.args.touched.now });
   limit = refl;
   copies = refl;
@@ -37,7 +37,7 @@ loop-block-init g c = record {
 }
 
 pub returns-then-is_empty-clause-outcome : goal.returns-then-is_empty-clause-outcome
-returns-then-is_empty-clause-outcome g c = pushed_by_none c.args.store.now.limit (shapes_in c.args.self) _ c.requires.flags
+returns-then-is_empty-clause-outcome g c = pushed_by_none c.args.store.now.limit (all_shapes c.args.self) _ c.requires.flags
     (sym c.is_empty.ensures ∙ c.if-is_empty.true)
 
 pub push_block-requires : goal.push_block-requires
@@ -66,7 +66,7 @@ loop-block-preserved g c =
     let inv = c.loop-block.invariant in
     let e = c.push_block.ensures in
     let limit = c.args.store.now.limit in
-    let shapes = shapes_in c.args.self in
+    let shapes = all_shapes c.args.self in
     let start = c.loop-block.block * g.row.L in
     let now : Passing = record { motion = motion_of c.loop-block.work.store.now c.loop-block.work.totals.now; touched = c.loop-block.touched } in
     let then : Passing = record { motion = motion_of c.push_block.new.work.store.now c.push_block.new.work.totals.now; touched = c.push_block.new.touched } in
@@ -102,7 +102,7 @@ returns-in-Err-clause-outcome g c =
       motion = motion_of c.loop-block.work.store.now c.loop-block.work.totals.now;
       touched = c.loop-block.touched;
     } in
-    sym inv.rest ∙ subst (λ (l : ℤ). pushed_from l (shapes_in c.args.self) start now ≡ Err c.in-Err.left.element) inv.limit
+    sym inv.rest ∙ subst (λ (l : ℤ). pushed_from l (all_shapes c.args.self) start now ≡ Err c.in-Err.left.element) inv.limit
     c.in-Err.ensures.outcome
 
 pub returns-in-Err-clause-limit : goal.returns-in-Err-clause-limit
@@ -122,7 +122,7 @@ returns-in-Err-clause-flags g c = c.push_block.ensures.flags ∙ c.loop-block.in
 
 pub returns-in-Err-clause-cost : goal.returns-in-Err-clause-cost
 returns-in-Err-clause-cost g c =
-    let most = push_cost (shapes_in c.args.self) (blocks_of (length c.args.store.now.particles) g.row.L) in
+    let most = push_cost (all_shapes c.args.self) (blocks_of (length c.args.store.now.particles) g.row.L) in
     let cost : c.push_block.new.work.steps.now ≤ c.args.steps.now + most =
     unless_cost _ _ _ _ (sym c.is_empty.ensures ∙ c.if-is_empty.false) (omega (
       arith,
@@ -146,7 +146,7 @@ returns-clause-outcome g c =
     let whole : length c.args.store.now.particles ≤ start =
     all_held c.loop-block.block (length c.args.store.now.particles) g.row.L c.requires.lanes_low
     (omega (arith, c.blocks-blocks.ensures.value, c.loop-block-test.false)) in
-    let outcome = sym inv.rest ∙ pushed_all c.args.store.now.limit (shapes_in c.args.self) start now (omega (arith, len, whole))
+    let outcome = sym inv.rest ∙ pushed_all c.args.store.now.limit (all_shapes c.args.self) start now (omega (arith, len, whole))
     (omega (arith, inv.flags, c.requires.flags, whole)) in
     search rules
 
@@ -167,7 +167,7 @@ returns-clause-room g c =
 
 pub returns-clause-cost : goal.returns-clause-cost
 returns-clause-cost g c =
-    let most = push_cost (shapes_in c.args.self) (blocks_of (length c.args.store.now.particles) g.row.L) in
+    let most = push_cost (all_shapes c.args.self) (blocks_of (length c.args.store.now.particles) g.row.L) in
     let cost : c.loop-block.work.steps.now ≤ c.args.steps.now + most =
     unless_cost _ _ _ _ (sym c.is_empty.ensures ∙ c.if-is_empty.false)
     (omega (arith, c.loop-block.invariant.cost, c.blocks-blocks.ensures.value, c.loop-block.auto.block-end)) in

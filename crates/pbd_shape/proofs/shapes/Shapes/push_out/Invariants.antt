@@ -1,16 +1,16 @@
 use Rattle.std.proofs.Common.{◌≡◌, ℕ, ◌+◌, ◌*◌, ◌^◌, ◌≤◌, min, length}
 use Rattle.pbd_world.specs.Ledger.{ledger_of, HaveRoom}
 use Rattle.pbd_store.specs.Moving.{motion_of, fixed_parts, AreInside}
-use Rattle.pbd_shape.specs.Way.{shapes_in}
+use Rattle.pbd_shape.specs.Way.{all_shapes}
 use Rattle.pbd_shape.specs.Shaping.{all_pushed, pushed_from}
 use Rattle.pbd_shape.proofs.shapes.Shapes.push_out.Given as goal
 
 -- what is left of the shape part makes the whole
 abbrev pub invariant-loop-block : goal.invariant-loop-block
 invariant-loop-block g l = record {
-  rest : pushed_from l.fn.store.limit (shapes_in l.self) (l.block * g.row.L)
+  rest : pushed_from l.fn.store.limit (all_shapes l.self) (l.block * g.row.L)
       (record { motion = motion_of l.work.store.now l.work.totals.now; touched = l.touched })
-      ≡ all_pushed l.fn.store.limit (shapes_in l.self) (record {
+      ≡ all_pushed l.fn.store.limit (all_shapes l.self) (record {
         motion = motion_of l.fn.store l.fn.totals;
         touched = l.initial.touched;
       });
