@@ -114,7 +114,7 @@ impl Slots {
         self.back[item as usize] = None;
     }
 
-    // Lets nothing lead to an item.
+    // Empties each chain, and forgets what leads to each item. What stands behind an item stays noted.
     pub(crate) fn clear(&mut self)
         ensures heads { (c : ℕ) → slice_index_or self.new.heads c None ≡ None }
         ensures next { self.new.next ≡ self.old.next }

@@ -48,7 +48,8 @@ pub record Below (n : ℕ) (c : GridCell) : Type 0 where
   pub y : c.y < n
   pub z : c.z < n
 
--- the number of the chain for a cell, of n: cells beside each other on x have chains beside each other
+-- the number of the chain for a cell, of n, a power of two: cells beside each other on x have chains beside each other, or the
+-- last and the first
 unfoldable pub slot_of : ℕ → GridCell → ℕ
 slot_of n c = bit_and ((c.y * 2654435769 + c.z * 2246822507) % 4294967296 / 2048 + c.x) (n - 1)
 

@@ -3,8 +3,8 @@ ghost use Rattle.std.specs.Prelude.{◌*◌, ◌≤◌, ℕ, ℤ, List, length};
 ghost use Rattle.pbd_num.specs.declared.Vec3.{Vec3};
 ghost use Rattle.pbd_grid.specs.Looks.{looks_for};
 
-/// A search reads its chains eight times for each particle at least, and at most as often for each
-/// two of them: the more, the more of them share a chain.
+/// A finished search reads its chains at least eight times for each particle, and at most eight
+/// times the square of their number: the more often, the more of them share a chain.
 pub fn searches_read_eight_chains_a_particle()
     ensures least { (chains : ℕ) (thickness : ℤ) (places : List Vec3) → 8 * length places ≤ looks_for chains thickness places }
     ensures most { (chains : ℕ) (thickness : ℤ) (places : List Vec3)

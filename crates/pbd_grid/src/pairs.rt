@@ -143,7 +143,8 @@ impl Grid {
     /// thickness is 1 to 1,048,576, both in units of 1/65,536 metre. `Full` comes where the pairs
     /// are more than there is room for, and the list is then empty.
     ///
-    /// What the search costs is told by `looks`, exactly where it ends, and at most where it is full.
+    /// `looks` then tells how often the search read its chains. After `Full` that is at most as often
+    /// as a search to the end would.
     pub fn pairs<F: PairFilter>(
         &mut self,
         places: &[Vec3],

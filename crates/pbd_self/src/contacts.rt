@@ -70,7 +70,7 @@ pub struct SelfContacts {
     colouring: Colouring,
     places: RoomList<Vec3>,
     held: RoomList<bool>,
-    /// How often the last search read its chains.
+    /// How often the last search read its chains, and 0 where the thickness was 0.
     looks: u64,
 }
 
@@ -132,7 +132,7 @@ impl SelfContacts {
     ///
     /// The store has so many particles, all within its limit, and the colouring of the links is over
     /// as many. The thickness is 0 to 1,048,576, in units of 1/65,536 metre; at 0 there are no
-    /// contacts. `Full` comes exactly where the contacts are more than 262,144, and none are held
+    /// contacts. `Full` comes exactly where the contacts are more than 262,144, and none are kept
     /// then. The store is reached at most once for each particle, and not at all where the thickness is 0.
     /// What the search costs besides is told by `looks`.
     pub fn detect<const L: usize, G: Ledger>(
@@ -182,7 +182,8 @@ impl SelfContacts {
         self.pairs.as_slice()
     }
 
-    /// How often the last search read the chains in which it looks particles up, as `Grid::looks` tells it.
+    /// How often the last search read the chains in which it looks particles up, as `Grid::looks` tells it, and 0 where the
+    /// thickness was 0.
     pub fn looks(&self) -> u64
         ensures { result ≡ self.now.looks }
     {

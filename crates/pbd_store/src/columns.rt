@@ -233,7 +233,7 @@ impl<const L: usize> Columns<L> {
         }
     }
 
-    /// The low rows of the places of all particles, and of some zeros. Where no axis is above 2^30, they are the places.
+    /// The low rows of the places of all particles, and of some zeros. Where no axis is above 2^30 in size, they are the places.
     #[inline(always)]
     pub(crate) fn place_rows(&self) -> &[Place]
         ensures long { length self.now ≤ length result.now }
@@ -308,7 +308,7 @@ impl<const L: usize> Columns<L> {
         numbers_from(self.start(block))
     }
 
-    /// Moves those particles of a block whose lanes are set.
+    /// Writes both places of those particles of a block whose lanes are set.
     pub(crate) fn move_where(
         &mut self,
         block: u32,

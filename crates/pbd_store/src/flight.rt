@@ -11,10 +11,11 @@ use pbd_num::Vec3;
 /// What acts on particles at the start of a step.
 #[derive(Clone, Copy)]
 pub struct Forces {
-    /// What damping takes of velocities, in 1/1,024.
+    /// What damping takes of velocities, in 1/1,024, at most 1,024 in size.
     pub damping: i64,
+    /// In units per step squared, each axis at most 2^29 in size.
     pub gravity: Vec3,
-    /// The limit of places.
+    /// The limit of places, in 0..=2^29.
     pub limit: i64,
 }
 
@@ -46,7 +47,7 @@ struct AxisFlown {
     lost: i64,
 }
 
-// The product of two numbers that are raised above 0 first, so that it is one of 32 bits by 32 bits with no sign.
+// The product of two numbers that are raised first, so that neither is below 0 and it is one of 32 bits by 32 bits with no sign.
 #[inline(always)]
 fn product_of_raised(s: i64, f: i64) -> i64
     requires s { unsigned_abs s ≤ 2 ^ 30 }
@@ -87,7 +88,7 @@ fn kept_if(flies: bool, n: i64) -> i64
     if flies { n } else { 0 }
 }
 
-// The way of a particle that flies.
+// How far a particle that flies came, and 0 of one that stays.
 #[inline(always)]
 fn way_if(flies: bool, at: i64, before: i64) -> i64
     requires at { unsigned_abs at ≤ 2 ^ 29 }

@@ -1,4 +1,4 @@
-// All particles at the start of a step, in one pass over their rows.
+// All particles at the start of a step, in one loop over their rows.
 ghost use Rattle.std.specs.Prelude.{◌≡◌, ℕ, ◌+◌, ◌*◌, ◌<◌, ◌≤◌, ◌^◌, pos, ◌+ℤ◌, ◌≤ℤ◌, unsigned_abs, not, length, map, IsTrue, MatchResult};
 ghost use Rattle.pbd_num.specs.declared.Vec3.{Vec3};
 ghost use Rattle.pbd_num.specs.Vectors.{Within, is_within, plus};
@@ -128,7 +128,8 @@ fn fly_rows(
 }
 
 impl PlaceRows {
-    /// Lets the particles that aren't held fly, of as many places as there are flags. Their places become those before.
+    /// Lets the particles that aren't held fly, of as many places as there are flags. The places of held ones too become those
+    /// before.
     #[inline(never)]
     pub(crate) fn fly(
         &mut self,
@@ -158,7 +159,7 @@ impl PlaceRows {
 }
 
 impl<const L: usize> Columns<L> {
-    /// Lets the free particles fly.
+    /// Lets the free particles fly, and the held ones rest.
     pub(crate) fn fly(&mut self, forces: Forces) -> FlightSums
         requires lanes { L ≤ 16 }
         requires forces { IsSmall forces }
@@ -197,8 +198,8 @@ impl<const L: usize> Columns<L> {
 }
 
 impl<const L: usize> Store<L> {
-    /// Lets the free particles fly: each goes on as far as it came, less what damping takes, and by gravity. The answer is the
-    /// number of the first that has left the limit, if there is one.
+    /// Lets the free particles fly: each goes on as far as it came, less what damping takes, and by gravity. The held ones rest.
+    /// The error is the number of the first that has left the limit; all have flown then too.
     pub fn fly<G: Ledger>(&mut self, forces: Forces, steps: &mut Steps<G>) -> Result<Flown, u32>
         requires some_lanes { 0 < L }
         requires lanes { L ≤ 16 }

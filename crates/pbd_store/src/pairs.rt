@@ -242,8 +242,9 @@ impl<const L: usize> Store<L> {
         self.take_ways(pairs, between);
     }
 
-    /// Moves the first ends of up to 128 pairs by the opposite of `back`, and the second ends by `forth`. The answer is the
-    /// number of the first pair of which an end has left the limit, if there is one.
+    /// Moves the first ends of up to 128 pairs by the opposite of `back`, and the second ends by `forth`. No two ends are one
+    /// particle, and no axis of a move is above 2^22 in size. The error is the number of the first pair of which an end has
+    /// left the limit.
     #[inline(never)]
     pub fn pull<G: Ledger>(
         &mut self,
@@ -277,7 +278,8 @@ impl<const L: usize> Store<L> {
         self.find_outside(pairs)
     }
 
-    /// Moves the ends of up to 128 pairs, pair by pair, until one would leave the limit: then its number is told.
+    /// Moves the ends of up to 128 pairs, pair by pair, until one would leave the limit: then its number is told. No two ends
+    /// are one particle, and no axis of a move is above 2^31 in size.
     pub fn move_each<G: Ledger>(
         &mut self,
         pairs: Pairs<'_>,

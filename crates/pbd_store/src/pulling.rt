@@ -1,4 +1,4 @@
-// Pairs of rows: the ways between them, and how they are pulled. What a loop reads is in slices of its own, so that no store
+// Pairs of rows: the ways between them, and how they are pulled. What a loop reads is in slices of its own, so that no write
 // makes it read anew where they lie.
 ghost use Rattle.std.specs.Prelude.{◌≡◌, ℕ, ◌<◌, ◌≤◌, ◌^◌, ◌≤ℤ◌, pos, length, unsigned_abs};
 ghost use Rattle.pbd_num.specs.Vectors.{Within};

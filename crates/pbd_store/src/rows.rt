@@ -87,7 +87,7 @@ fn above(axis: i64) -> u64
     axis as u64
 }
 
-// The low half of a number below -1.
+// The low half of the number that is n below -1.
 #[inline(always)]
 fn low_below(n: u64) -> i32
     ensures { result ≡ negsuc (n % 2 ^ 31) }
@@ -462,7 +462,7 @@ impl PlaceRows {
         }
     }
 
-    /// The low rows of all places. Where no axis is above 2^30, they are the places.
+    /// The low rows of all places. Where no axis is above 2^30 in size, they are the places.
     #[inline(always)]
     pub(crate) fn rows(&self) -> &[Place]
         ensures long { length result.now ≡ length self.now }

@@ -19,8 +19,8 @@ use std::sync::ledger::Ledger;
 
 /// The particles, with the limit within which their places are to stay.
 /// The calls that reach one particle, or up to L of them, each raise the count of accesses by one. `fly`, `between`, `ways`,
-/// `pull` and `move_each` raise it by two for each block of L. What takes over all particles at once is no access: the store
-/// counts it itself.
+/// `pull` and `move_each` raise it by two for each block of L particles or pairs. What takes over all particles at once is no
+/// access: the store counts it itself.
 #[derive(Drop)]
 pub struct Store<const L: usize> {
     pub(crate) columns: Columns<L>,
@@ -41,7 +41,7 @@ impl<const L: usize> Model for Store<L> {
 }
 
 impl<const L: usize> Store<L> {
-    /// The only call of a store that takes memory. The limit is 2^28 or 2^29.
+    /// The only call of a store that takes memory. There are at most 65,536 particles, and the limit is 2^28 or 2^29.
     pub fn open(alloc: Global, particles: &[Particle], limit: i64) -> Result<Store<L>, AllocError>
         requires particles { length particles.now ≤ 65536 }
         requires limit { IsTrue (is_limit limit) }
@@ -217,7 +217,7 @@ impl<const L: usize> Store<L> {
         self.columns.ends(indices, &mask.to_array())
     }
 
-    /// Moves the particles that the set lanes name, each to the place of its lane.
+    /// Moves the particles that the set lanes name, no two of them the same, each to the place of its lane.
     #[inline(always)]
     pub fn scatter<G: Ledger>(
         &mut self,

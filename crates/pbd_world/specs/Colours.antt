@@ -30,7 +30,7 @@ first_free taken (suc n) c = if taken c then first_free taken n (c + 1) else c
 unfoldable pub least_free : (ℕ → Bool) → ℕ
 least_free taken = first_free taken 63 0
 
--- a live pair before pair i that shares a particle with it
+-- pair j is live and shares a particle with pair i
 abbrev pub blocks : List (ℕ × ℕ) → List Bool → ℕ → ℕ → Bool
 blocks pairs live i j = live_at live j && share (pair_at pairs j) (pair_at pairs i)
 

@@ -12,7 +12,7 @@ pub record Sum : Type 0 where
   pub y : ℤ
   pub z : ℤ
 
--- the sums of all moves since opening, by what made them
+-- where momentum came from since opening, by what made it
 pub record Ledger : Type 0 where
   pub gravity : Sum
   pub damping : Sum

@@ -15,7 +15,7 @@ use Rattle.pbd_world.specs.Meaning.{after, reply}
 abbrev pub sum_over : (Particle → Vec3) → List Particle → Vec3
 sum_over f ps = fold plus zero_vector (map f ps)
 
--- the counts of a world, and the sums of its places
+-- the counts of a world, and the sums of its places and places before
 abbrev pub frame_sums : World → FrameSums
 frame_sums w = record {
   steps = w.steps;
@@ -25,13 +25,13 @@ frame_sums w = record {
   before = axes (sum_over (λ p. p.before) w.particles);
 }
 
--- a command as a log keeps it: with its reply, and the sums after a step that was done
+-- a command as a log keeps it: with its reply, and the sums after a command of steps that was done
 pub record LogEntry : Type 0 where
   pub command : Command
   pub answer : Reply
   pub sums : Option FrameSums
 
--- the sums stand exactly after a step that was done
+-- the sums stand exactly after a command of steps that was done
 abbrev pub kept_sums : World → Command → Reply → Option FrameSums
 kept_sums w (Step n) Done = Some (frame_sums w)
 kept_sums w _ _ = None

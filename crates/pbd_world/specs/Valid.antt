@@ -60,7 +60,7 @@ join_alike l m = l.a == m.a && l.b == m.b || l.a == m.b && l.b == m.a
 abbrev pub links_at : List Link → ℕ → ℕ
 links_at links i = length (filter (λ l. l.a == i || l.b == i) links)
 
--- each is valid, at most one joins two particles, and at most 32 are at a particle
+-- at most 524,288, each valid, of which at most one joins two particles, and at most 32 are at a particle
 abbrev pub are_valid_links : ℤ → ℕ → List Link → Bool
 are_valid_links limit n links =
     nat_le (length links) 524288
@@ -88,7 +88,7 @@ are_valid_keys limit (key ∷ keys) =
 abbrev pub is_next_key : ℤ → ℕ → Key → Bool
 is_next_key limit low key = nat_le low key.step && nat_le key.step 1000000 && is_within limit key.place
 
--- a track of one of n particles with 1 to 1,024 keys
+-- a track of one of n particles with 1 to 1,024 valid keys
 abbrev pub is_valid_track : ℤ → ℕ → Track → Bool
 is_valid_track limit n track =
     nat_lt track.particle n
@@ -128,7 +128,7 @@ is_at_rest p = nat_le (squared_length (minus p.at p.before)) 0
 abbrev pub are_tracked_held : List Track → List Particle → Bool
 are_tracked_held tracks ps = list_all (λ t. (particle_at ps t.particle).held) tracks
 
--- parts that are a scene: all links are live, held particles are at rest, and tracked ones are held
+-- parts that are a scene: well formed, all links are live, held particles are at rest, and tracked ones are held
 unfoldable pub is_valid : Parts → Bool
 is_valid parts =
     is_well_formed parts

@@ -1,5 +1,5 @@
 -- What commands may cost: how often they reach the particles, at most, to be added up by hand. One access reads or writes
--- a particle, a block of as many particles as the width says, or as many ends of bonds as are projected side by side.
+-- a particle, a block of as many particles as the width says, or as many ends of bonds as count as side by side.
 use Rattle.std.specs.Prelude.{ℕ, zero, suc, ◌+◌, ◌-◌, ◌*◌, ◌/◌, ◌==◌, ◌&&◌, nat_lt, pos, int_lt, unsigned_abs, if◌then◌else◌, Bool, true}
 use Rattle.std.specs.Prelude.{List, [], ◌∷◌, length, map, filter, sum_by, Result, Ok, Err}
 use Rattle.std.specs.List.{range_with_len}
@@ -32,7 +32,7 @@ blocks_in width w = pieces_of (length w.particles) width
 abbrev pub of_colour_count : List (ℕ × ℕ) → List Bool → ℕ → ℕ
 of_colour_count pairs live c = length (of_colour live (colour pairs live) (length pairs) c)
 
--- the pairs of colour c as one batch: both ends of as many as are projected side by side are read and written
+-- the pairs of colour c as one batch: both ends of as many as count as side by side are read and written
 abbrev pub colour_work : ℕ → List (ℕ × ℕ) → List Bool → ℕ → ℕ
 colour_work lanes pairs live c = 4 * pieces_of (of_colour_count pairs live c) lanes
 
@@ -113,7 +113,7 @@ unfoldable pub work_over : ℕ → ℕ → ℕ → World → ℕ
 work_over width lanes zero w = 0
 work_over width lanes (suc n) w = step_work width lanes w (found_in w) + work_from (work_over width lanes n) (step w)
 
--- a command of n steps, which costs nothing where there are none, or too many
+-- a command of n steps, which costs nothing where it is refused before its first step
 unfoldable pub steps_work : ℕ → ℕ → ℕ → World → ℕ
 steps_work width lanes n w = work_from (work_over width lanes n) (unless (refusals w (commands.Step n)) w)
 

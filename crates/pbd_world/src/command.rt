@@ -1,7 +1,7 @@
 // What a line of a script asks for, and what a session answers.
 use pbd_num::Vec3;
 
-/// How many bonds are projected side by side.
+/// The lane width: how many particles a block has, as shapes push them side by side.
 #[derive(Clone, Copy, Debug, PartialEq, Eq)]
 pub enum Width {
     W1,
@@ -49,7 +49,7 @@ pub enum Command {
     Cut(u64),
     Gravity(Vec3),
     Ledger,
-    /// A line of no form.
+    /// A line that is none of these.
     Bad,
 }
 
@@ -69,17 +69,24 @@ pub enum Refusal {
     NoParticle,
     NoLink,
     LinkGone,
+    /// A place or a gravity is outside the limit.
     OutOfRange,
     NotHeld,
     Held,
+    /// A track leads the particle.
     Tracked,
+    /// The count of steps is 0 or above 100,000.
     BadCount,
+    /// The steps would go on past step 1,000,000.
     StepLimit,
+    /// A place would leave the limit in this step, counted from opening. The element is the number of the link or the
+    /// contact in these phases, and of the particle in the others.
     LeavesRange {
         step: u64,
         phase: Phase,
         element: u32,
     },
+    /// There would be more than 262,144 contacts in this step, counted from opening.
     TooManyContacts {
         step: u64,
     },
@@ -110,7 +117,7 @@ impl Refusal {
     }
 }
 
-/// What a log keeps of a world: counts, and the sums of the places over all particles.
+/// What a log keeps of a world: counts, and the sums of the places and the places before over all particles.
 #[derive(Clone, Copy, Debug, PartialEq, Eq)]
 pub struct FrameSums {
     pub steps: u64,
@@ -120,7 +127,7 @@ pub struct FrameSums {
     pub before: [i64; 3],
 }
 
-/// The first element of a batch or list whose place would leave the range.
+/// The number of the first bond of a batch, or particle of a list, that would leave the range.
 #[derive(Clone, Copy, Debug, PartialEq, Eq)]
 pub struct Left {
     pub element: u32,

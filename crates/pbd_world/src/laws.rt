@@ -22,7 +22,7 @@ ghost use Rattle.pbd_world.specs.Meaning.{after, reply};
 ghost use Rattle.pbd_world.specs.Session.{last_world};
 ghost use Rattle.pbd_world.specs.Work.{step_work, command_work, session_work, finding_work, links_work, contacts_work, colours_used, blocks_in, tearable_count, found_in};
 
-/// Each pair has the least colour that no earlier live pair which shares a particle with it has.
+/// Each pair has the least colour in 0..=62 that no earlier live pair which shares a particle with it has, or 63.
 pub fn colours_are_greedy()
     ensures { (pairs : List (ℕ × ℕ)) (live : List Bool) (i : ℕ)
         → IsGreedy pairs live (colour pairs live) i (colour pairs live i) }
@@ -157,9 +157,9 @@ pub fn twice_the_lanes_halve_the_links()
         → 2 * links_work (2 * lanes) w.links ≤ links_work lanes w.links + 4 * colours_used w.links }
 {}
 
-/// Nothing in a step grows with a square: it may cost four accesses for each block, and in each pass for each block, each
-/// whole piece of links, each colour of links and each contact, of which it projects 262,144 at most; and one for each track,
-/// for each particle where there is a thickness, and for each end of a live link that may tear.
+/// What a step may cost is a sum: four accesses for each block, and in each pass for each block, each whole piece of links,
+/// each colour of links and each contact, of which it projects 262,144 at most; and one for each track, for each particle
+/// where there is a thickness, and for each end of a live link that may tear.
 pub fn steps_cost_a_sum()
     ensures { (width lanes : ℕ) (w : World) (contacts : List (ℕ × ℕ)) → 0 < lanes → IsSound w
         → step_work width lanes w contacts

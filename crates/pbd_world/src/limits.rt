@@ -21,8 +21,8 @@ pub const MOST_STEPS: u64 = 100_000;
 /// Contacts of a step.
 pub const MOST_CONTACTS: u32 = 262_144;
 
-/// The greatest thickness, in units.
+/// The greatest thickness, in units of 1/65,536 metre.
 pub const MOST_THICKNESS: i64 = 1_048_576;
 
-/// The greatest size of a coordinate in an old log, in units.
+/// The greatest size of a coordinate in an old log, in units of 1/65,536 metre.
 pub const OLD_RANGE: i64 = 268_435_456;

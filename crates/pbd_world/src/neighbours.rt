@@ -22,7 +22,7 @@ impl Model for NeighbourLists {
     ghost view = { λ s. s.ends.items };
 }
 
-/// Notes that `to` is at the other end of a link at `from`. Other numbers are left out.
+/// Notes that `to` is at the other end of a link at `from`. A `from` that is no particle of the lists is left out.
 fn put(from: u32, to: u32, ends: &mut Vec<List<u32>>) -> Result<(), AllocError>
     ensures { OnOk result (ends.new.items ≡ slice_set ends.old.items from (slice_index_or ends.old.items from [] ++ to ∷ [])) }
 {

@@ -77,7 +77,7 @@ impl<T: Copy> RoomList<T> {
         self.entries.clear();
     }
 
-    /// Makes it n copies of an item, in place of what it held.
+    /// Makes it n copies of an item, in place of what it had.
     pub fn fill(&mut self, item: T, n: u32)
         requires { n ≤ self.old.room }
         ensures { self.new ≡ record self.old { entries = replicate n item } }

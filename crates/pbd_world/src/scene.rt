@@ -35,8 +35,8 @@ impl Scene {
     ghost use Rattle.pbd_world.specs.declared.scene.PartsFault.TheVariants.{NotValid};
     ghost use Rattle.pbd_world.specs.Valid.{is_valid};
 
-    /// Checks the parts in time in proportion to them. `NotValid` comes exactly where they are not
-    /// valid; they are dropped then.
+    /// Checks the parts in time in proportion to them. `NotValid` comes only where they are not
+    /// valid, and `OutOfMemory` where there was no memory for the check; they are dropped then.
     pub fn from_parts(alloc: Global, parts: Parts) -> Result<Scene, PartsFault>
         ensures ok { IfOk result (λ scene. scene ≡ parts) }
         ensures valid { OnOk result (IsTrue (is_valid parts)) }

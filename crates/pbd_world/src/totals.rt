@@ -1,10 +1,10 @@
-// The sums of all moves since opening, by what made them.
+// The ledger: six totals that say where momentum came from.
 ghost use Rattle.std.specs.Prelude.{◌≡◌, ◌+ℤ◌, FitsSigned};
 ghost use Rattle.std.specs.Int.{w128};
 
 use pbd_num::Vec3;
 
-/// What moved a particle, in the ledger.
+/// What changed the momentum, in the ledger.
 #[derive(Clone, Copy, Debug, PartialEq, Eq)]
 pub enum Class {
     Gravity,
@@ -15,7 +15,7 @@ pub enum Class {
     Shape,
 }
 
-/// The sums of all moves since opening, by what made them: each is three axes.
+/// Where momentum came from since opening, by what made it: each total is three axes, in units per step.
 #[derive(Clone, Copy, Debug, PartialEq, Eq)]
 pub struct Totals {
     pub gravity: [i128; 3],
