@@ -29,7 +29,7 @@ pub record AreHeld (pairs : List (ℕ × ℕ)) (live : List Bool) (chains : Link
   pub flags : length live ≡ length pairs
   pub held : Holds (live_at live) (length chains.chains) chains.items pairs chains
 
--- two lists of flags are the same from one pair on up to another, which is none past the first list
+-- two lists of flags are the same from `start` up to `end`, which is at most the length of the first
 abbrev pub AgreeTo : List Bool → List Bool → ℕ → ℕ → Type 0
 AgreeTo flags others start end =
     start ≤ end × end ≤ length flags × ((k : ℕ) → start ≤ k → k < end → live_at flags k ≡ live_at others k)

@@ -1,4 +1,4 @@
-//! A list of pairs with live flags, its greedy colours, and the chain of each particle's pairs.
+//! A list of pairs with live flags, its greedy colours, and the chain of each particle's live pairs.
 ghost use Rattle.std.specs.Prelude.{◌≡◌, ◌<◌, ◌≤◌, ◌++◌, [], ℕ, length, slice_index, replicate, IfOk, slice_range};
 ghost use Rattle.std.specs.Prelude.{◌+◌, ◌*◌, IsTrue, true, count_by};
 ghost use Rattle.std.specs.Bool.{Decides};

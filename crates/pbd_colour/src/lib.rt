@@ -1,4 +1,4 @@
-//! Greedy colours of pairs, so that the pairs of one colour share no particle.
+//! Greedy colours of pairs, so that the live pairs of one colour below 63 share no particle.
 #![tactic(auto)]
 
 mod colouring;

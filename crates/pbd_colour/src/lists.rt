@@ -41,7 +41,7 @@ fn take_length<T: Copy>(list: &mut RoomList<T>, items: &[T])
     }
 }
 
-// Takes the items of a slice. What is as long as before, or longer, is copied at once.
+// Takes the items of a slice. The list is given its length item by item, unless it has it, and then all are copied at once.
 pub(crate) fn copy_all<T: Copy>(list: &mut RoomList<T>, items: &[T])
     requires { length items.now ≤ list.old.room }
     ensures { list.new ≡ record list.old { entries = items.now } }

@@ -26,7 +26,7 @@ fn mark_all(held: Held<'_>, numbers: &[u32], marks: &mut Marks)
     }
 }
 
-// Gives pair i its colour where it is live and marked, and marks its neighbours where that changed.
+// Gives pair i its colour where it is live, and marks the later pairs that share a particle with it where that changed.
 fn look_again(held: Held<'_>, colours: &mut [u8], marks: &mut Marks, i: u32)
     requires i { i < length held.pairs.now }
     requires held { AreHeld held.pairs.now held.live.now held.chains.now }

@@ -14,7 +14,7 @@ use Rattle.pbd_host.specs.declared.request.Request.TheVariants.{Blank, BadTag, T
 abbrev pub session_of : ℕ → List ℕ → Option ℕ
 session_of sessions word = option_and_then (λ t. if nat_lt t sessions then Some t else None) (count word)
 
--- the command of what follows a tag, which is read as a script of one line
+-- the command of what follows a tag, which is read as a script of one line, and `Bad` where that has none
 abbrev pub command_behind : List ℕ → Command
 command_behind rest = unwrap_or (line_command rest) Bad
 

@@ -31,7 +31,7 @@ fn session_of(sessions: usize, word: &[u8]) -> Option<u32>
     }
 }
 
-/// The command of what follows a tag.
+/// The command of what follows a tag, and `Bad` where there is none.
 fn command_behind(rest: &[u8]) -> Command
     ensures { result ≡ command_behind rest.now }
 {

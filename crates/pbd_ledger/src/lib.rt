@@ -89,7 +89,7 @@ fn same(a: &[i128; 3], b: &[i128; 3]) -> bool
 }
 
 /// Whether `now` is the opening momentum and the six totals together, on each axis.
-/// The sums on the way have to fit 128 bits, as they do where the totals have room.
+/// The sums on the way have to fit 128 bits, as they do where the opening momentum and the totals are at most 2^120 in size.
 pub fn balanced(opening: &[i128; 3], now: &[i128; 3], totals: &Totals) -> bool
     requires { SumsFit (sum_of opening.now) (ledger_of totals.now) }
     ensures { IsTrue result ↔ (sum_of now.now ≡ both_sums (sum_of opening.now) (all_totals (ledger_of totals.now))) }

@@ -7,6 +7,6 @@ use Rattle.pbd_session.specs.declared.printing.NamedTotal.{NamedTotal}
 abbrev pub named_of : NamedTotal → NamedSum
 named_of s = record { name = s.name.now; sum = sum_of s.sum }
 
--- a name of the ledger
+-- its name has at most 8 bytes, as those of the ledger have
 abbrev pub IsShort : NamedTotal → Type 0
 IsShort s = length s.name.now ≤ 8

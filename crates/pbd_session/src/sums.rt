@@ -45,7 +45,7 @@ fn axes(v: Vec3) -> [i64; 3]
 }
 
 impl<const L: usize, P: Projector<L> + Drop> Session<L, P> {
-    /// What a log keeps of the world: counts, and the sums of the places over all particles.
+    /// What a log keeps of the world: counts, and the sums of the places and of the places before over all particles.
     pub fn frame_sums<G: Ledger>(&self, steps: &mut Steps<G>) -> FrameSums
         requires lanes_high { L ≤ 16 }
         ensures value { result ≡ frame_sums self.now }

@@ -20,7 +20,7 @@ all_pushed limit shapes s = each_from 0 (λ i p. shaped limit shapes p) s.motion
 abbrev pub push_cost : List Shape → ℕ → ℕ
 push_cost shapes blocks = if length shapes == 0 then 0 else 2 * blocks
 
--- the same of the particles from n on, while those before n stay as they are
+-- the particles from n on after the shapes, while those before n stay as they are
 abbrev pub shaped_after : ℕ → Passing → List Shaped → Passing
 shaped_after n s ss =
     let ms = map {A = Shaped} {B = Moved} (λ x. x.moved) ss in

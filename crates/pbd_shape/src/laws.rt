@@ -8,7 +8,7 @@ ghost use Rattle.pbd_world.specs.Valid.{is_limit, are_valid_particles};
 ghost use Rattle.pbd_shape.specs.Shaping.{all_pushed};
 ghost use Rattle.pbd_shape.specs.Rubbing.{AreWithin};
 
-/// The shape part of a pass pushes all particles out of the world's own shapes.
+/// The shape part of a pass takes the particles one by one through the world's own shapes, up to the first that leaves the limit.
 pub fn shape_parts_push_all()
     ensures { (w : World) (s : Passing) → shape_part w s ≡ all_pushed w.limit (shapes_of w.shapes) s }
 {}

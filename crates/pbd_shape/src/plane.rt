@@ -58,7 +58,8 @@ fn is_behind(lack: i64) -> bool
     0 < lack
 }
 
-/// The place in front of a plane to which it pushes a place behind it, along its normal, and `None` in front of it.
+/// The place to which a plane pushes a place behind it: along its normal, as far as the place lacks, rounded axis by axis.
+/// `None` where it isn't behind.
 #[tactic(auto, unfolding(pbd_world::specs::Shapes::plane_shape))]
 fn in_front(plane: Plane, p: Vec3) -> Option<Vec3>
     requires plane { IsPlane plane }

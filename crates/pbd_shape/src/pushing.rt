@@ -76,8 +76,8 @@ impl<'a> Shapes<'a> {
         Ok(())
     }
 
-    // Pushes the particles of a block: one access reads them, and another writes them, where a shape touches one and none
-    // leaves the limit.
+    // Pushes the particles of a block: one access reads them, and another writes them, where a shape may touch one of the
+    // block's places and no particle leaves the limit.
     fn push_block<const L: usize, G: Ledger>(
         self,
         work: &mut Work<'_, L, G>,

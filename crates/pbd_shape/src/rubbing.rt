@@ -45,7 +45,7 @@ fn is_rubbed(held: bool, touched: &Touched, i: u32) -> bool
     touched.is_set(i)
 }
 
-// Whether friction takes anything of any particle.
+// Whether there is friction, and a particle was touched.
 fn rubs_any(friction: i64, touched: &Touched) -> bool
     ensures { result ≡ (int_lt (pos 0) friction && list_any (λ t. t) touched.now) }
 {

@@ -20,7 +20,7 @@ pub struct Shapes<'a> {
 }
 
 impl Shapes<'static> {
-    /// No shapes: the others of a value that names those of one kind.
+    /// No shapes. A value that names the shapes of one kind has those of the other from here.
     pub const NONE: Shapes<'static> = Shapes {
         planes: &[],
         spheres: &[],

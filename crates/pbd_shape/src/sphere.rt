@@ -43,8 +43,8 @@ fn onto(sphere: Sphere, p: Vec3) -> Vec3
     centre.plus(way.scaled(sphere.radius, length))
 }
 
-/// The place on a sphere to which it pushes a place in it: out from the centre, or straight up from the centre itself.
-/// `None` outside.
+/// The place to which a sphere pushes a place in it: out from the centre, rounded axis by axis, or straight up from the
+/// centre itself. `None` where it isn't in the sphere.
 #[tactic(auto, unfolding(pbd_world::specs::Shapes::sphere_shape))]
 #[inline(always)]
 fn outside(sphere: Sphere, p: Vec3) -> Option<Vec3>

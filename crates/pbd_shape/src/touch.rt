@@ -9,8 +9,8 @@ ghost use Rattle.pbd_shape.specs.Way.{IsStill};
 use pbd_num::Vec3;
 use pbd_store::Lanes3;
 
-/// A kind of shape, such as planes: what a world has a list of, and what pushes each place that it touches. What each kind
-/// does is inlined, so that a loop over one kind has no calls.
+/// A kind of shape, such as planes: what a world has a list of, and what pushes each place that it touches. Each kind's
+/// `touches` and `push` are inlined, so that a loop over one kind doesn't call them.
 pub(crate) trait Touch {
     /// The new place of each place that it touches.
     ghost shape: { Self → Shape };

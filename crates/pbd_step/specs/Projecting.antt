@@ -43,7 +43,7 @@ pub record CanProjectAll (bound : ℕ) (bonds : Bonds) (laid : Laid) (pairs : Li
   pub movable : AreMovable bound s.limit s.particles (ledger_of t)
 
 -- the bonds of some numbers were projected one after another, or the first that would leave the limit is told: of the particles
--- the places alone were changed, and the totals have grown by no more than `grown`
+-- the places alone were changed, and where none would leave, the totals have grown by no more than `grown`
 pub record AreProjected (r : Result (Unit {0}) Left) (bonds : Bonds) (numbers : List ℕ) (grown : ℕ)
     (s new : Stored) (t u : Totals) : Type 0 where
   pub outcome : MatchResult r

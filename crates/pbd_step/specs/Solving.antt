@@ -15,7 +15,7 @@ pub record Solved (P : Type 0) : Type 0 where
   pub projector : P
   pub copies : ℕ
 
--- the bonds that a step from w to v projects: in each pass, the links that are live before it and the contacts found in it
+-- how many bonds a step from w to v projects: in each pass, the links that are live before the step and the contacts found in it
 abbrev pub bonds_of : World → World → ℕ
 bonds_of w v = w.passes * (live_count w.links + v.contacts)
 
@@ -23,12 +23,12 @@ abbrev pub bonds_from : World → (World → ℕ) → Result World Refusal → �
 bonds_from w rest (Ok v) = bonds_of w v + rest v
 bonds_from w rest (Err refusal) = 0
 
--- the bonds that n steps project
+-- how many bonds n steps project, or those before the first that is refused
 unfoldable pub bonds_over : ℕ → World → ℕ
 bonds_over zero w = 0
 bonds_over (suc n) w = bonds_from w (bonds_over n) (step w)
 
--- two states have room for the same
+-- two states have room for the same, within the same limit
 pub record AreAlike {l : ℕ} (s t : State l) : Type 0 where
   pub particles : length s.store.particles ≡ length t.store.particles
   pub limit : s.store.limit ≡ t.store.limit

@@ -51,7 +51,8 @@ pub record IsGoing {l : ℕ} {P : Type 0} (bound : ℕ) (setting : Setting) (run
 abbrev pub passing_of : {l : ℕ} {P : Type 0} → Running l P → Passing
 passing_of run = record { motion = now_of run.state; touched = run.scratch.touched }
 
--- of a state the places and the totals alone were changed, and no store was taken over
+-- of a state the particles and the totals alone were changed: there are as many, with the same effective weights and within the
+-- same limit, and no store was taken over
 pub record IsMoved {l : ℕ} (old new : State l) : Type 0 where
   pub same : new ≡ record old { store = new.store; totals = new.totals }
   pub limit : new.store.limit ≡ old.store.limit
@@ -71,7 +72,7 @@ pub record StaysInPass {l : ℕ} {P : Type 0} (count : P → ℕ) (lanes : P →
   pub width : lanes new.projector ≡ lanes old.projector
 
 -- a part of a pass projects the bonds of some numbers one after another, or the first that would leave the limit is told; it
--- leaves the scratch, and the totals grow by no more than 2^60
+-- leaves the scratch, and where none would leave the limit, the totals grow by no more than 2^60
 pub record ProjectsInPass {l : ℕ} {P : Type 0} (count lanes : P → ℕ) (r : Result (Unit {0}) Left) (bond : ℕ → Bond)
     (numbers : List ℕ) (old new : Running l P) : Type 0 where
   pub outcome : MatchResult r
@@ -83,7 +84,7 @@ pub record ProjectsInPass {l : ℕ} {P : Type 0} (count lanes : P → ℕ) (r : 
       ((n : ℕ) → AreMovable n old.state.store.limit old.state.store.particles (ledger_of old.state.totals)
       → AreMovable (n + 2 ^ 60) new.state.store.limit new.state.store.particles (ledger_of new.state.totals))
 
--- a part of a step leaves the limit, how many particles there are, the links but for those that it lets go, whose weights are
+-- a part of a step leaves the limit, how many particles there are, the links but for which of them are live, whose weights are
 -- listed and which links are coloured and known, how often the store was taken over, the coloured pairs, the room of the scratch
 -- and the projector's width
 pub record StaysInStep {l : ℕ} {P : Type 0} (count : P → ℕ) (lanes : P → ℕ) (old new : Running l P) : Type 0 where

@@ -82,8 +82,8 @@ fn are_same(weights: &[u16], others: &[u16]) -> bool
     weights == others
 }
 
-/// Gives the colouring of links the live ones of these, which join the same pairs. The colours are made anew only where another
-/// link is live.
+/// Gives the colouring of links the live ones of these, which join the same pairs. The colours are made anew unless it is told
+/// that the same are live.
 fn recolour(are_coloured: bool, links: &[Link], colours: &mut Colouring, scratch: &mut Scratch)
     requires coloured { IsTrue are_coloured → colours.old.live ≡ live_flags links.now }
     requires few { length links.now ≤ 524288 }

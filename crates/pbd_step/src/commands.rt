@@ -77,7 +77,7 @@ fn dead(link: Link) -> Link
 }
 
 impl<const L: usize> State<L> {
-    /// Holds particle i where it is, and books its velocity to pin.
+    /// Holds particle i where it is, and books its velocity, turned round, to pin.
     pub(crate) fn pin<G: Ledger>(&mut self, i: u64, steps: &mut Steps<G>) -> Result<(), Refusal>
         requires lanes { L ≤ 16 }
         requires at { (k : ℕ) → k < length self.old.store.particles → Within (2 ^ 29) (particle_at self.old.store.particles k).at }
@@ -133,7 +133,7 @@ impl<const L: usize> State<L> {
         Ok(())
     }
 
-    /// Puts the held particle i at a place.
+    /// Puts the held particle i at a place, at rest.
     pub(crate) fn place_held<G: Ledger>(
         &mut self,
         setting: &Setting,

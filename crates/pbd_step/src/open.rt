@@ -80,7 +80,7 @@ fn open_weighed(alloc: Global, parts: &Parts) -> Result<(Vec<u16>, Vec<Link>), A
     }
 }
 
-/// What steps change of some parts, before the first.
+/// A state of some parts, before the first step.
 fn open_state<const L: usize>(alloc: Global, parts: &Parts) -> Result<State<L>, AllocError>
     requires lanes { L ≤ 16 }
     requires valid { IsTrue (is_valid parts.now) }
@@ -174,7 +174,8 @@ struct Rooms {
     laid_contacts: BondColumns,
 }
 
-// Lists of the pairs and numbers of these links, and columns of them and of all contacts.
+// Room for the pairs and numbers of these links and for columns of them and of all contacts, and the numbers of those with a
+// tear length.
 fn open_rooms(alloc: Global, links: &[Link]) -> Result<Rooms, AllocError>
     requires { length links.now ≤ 524288 }
     ensures pairs { IfOk result (λ rooms. rooms.pairs.room ≡ length links.now) }

@@ -42,7 +42,7 @@ fn tear(links: &mut Vec<Link>, colours: &mut Colouring, numbers: &[u32])
 
 impl<const L: usize, P: Projector<L> + Drop> Running<L, P> {
     /// Slows the particles that shapes touched, lets all links that are too long go together, mends the colours of
-    /// the others, and counts the step.
+    /// the others, and counts the step and its contacts.
     pub(crate) fn rub_and_tear<G: Ledger>(&mut self, setting: &Setting, steps: &mut Steps<G>)
         requires lanes_low { 0 < L }
         requires lanes_high { L ≤ 16 }

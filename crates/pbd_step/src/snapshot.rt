@@ -54,7 +54,7 @@ impl<const L: usize> Snapshot<L> {
         }
     }
 
-    /// Keeps the world of a solver of one scene. It takes over all particles once, and colours only where other links are live.
+    /// Keeps the world of a solver of one scene. It takes over all particles once, and colours unless the same links are live.
     pub fn keep<P: Projector<L> + Drop>(&mut self, solver: &Solver<L, P>)
         requires lanes_high { L ≤ 16 }
         requires one_scene { AreOfOneScene self.old solver.now.world }
@@ -89,8 +89,8 @@ impl<const L: usize> Snapshot<L> {
 }
 
 impl<const L: usize, P: Projector<L> + Drop> Solver<L, P> {
-    /// Goes back to the world that was kept of a solver of one scene. It takes over all particles once, and colours only where other
-    /// links are live.
+    /// Goes back to the world that was kept of a solver of one scene. It takes over all particles once, and colours unless the
+    /// same links are live.
     pub fn go_back(&mut self, saved: &Snapshot<L>)
         requires lanes_low { 0 < L }
         requires lanes_high { L ≤ 16 }

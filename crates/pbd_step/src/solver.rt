@@ -30,7 +30,7 @@ use std::sync::ledger::Ledger;
 ///
 /// Clauses see it as a sound world, the projector through which its steps project, and how often all particles of
 /// its two states were taken over, which no count of accesses tells. Its columns of particles, colours, contacts and
-/// the second state that a refused command goes back to are its inside.
+/// the second state that a refused step goes back to are its inside.
 #[derive(Drop)]
 pub struct Solver<const L: usize, P: Projector<L> + Drop> {
     pub(crate) setting: Setting,
@@ -83,8 +83,8 @@ impl<const L: usize, P: Projector<L> + Drop> Solver<L, P> {
         requires lanes_low { 0 < L }
         requires lanes_high { L ≤ 16 }
         ensures commanded { Commanded result (run_steps self.old.world n) self.old.world self.new.world }
-        // The projector was handed as many bonds as the passes of the steps have live links and contacts, counted up to
-        // 2^64 - 1. Which bonds these were, no clause says.
+        // Where the steps were taken, the projector was handed as many bonds as their passes have live links and contacts,
+        // counted up to 2^64 - 1. Which bonds these were, no clause says.
         ensures handed { OnOk result
             (P.count self.new.projector ≡ min (P.count self.old.projector + bonds_over n self.old.world) (2 ^ 64 - 1)) }
         ensures not_fallen { P.count self.old.projector ≤ P.count self.new.projector }
@@ -104,8 +104,8 @@ impl<const L: usize, P: Projector<L> + Drop> Solver<L, P> {
         self.run.run_whole(&self.setting, &mut self.kept, n, steps)
     }
 
-    /// Holds particle i where it is, and books its velocity to pin. `NoParticle` where there is none, `Held` where it is
-    /// held.
+    /// Holds particle i where it is, and books its velocity, turned round, to pin. `NoParticle` where there is none, `Held`
+    /// where it is held.
     pub fn pin<G: Ledger>(&mut self, i: u64, steps: &mut Steps<G>) -> Result<(), Refusal>
         requires lanes_low { 0 < L }
         requires lanes_high { L ≤ 16 }
@@ -132,8 +132,8 @@ impl<const L: usize, P: Projector<L> + Drop> Solver<L, P> {
         self.run.state.unpin(&self.setting, i, steps)
     }
 
-    /// Puts the held particle i at a place. `NoParticle` where there is none, `OutOfRange` where the place is outside
-    /// the limit, `NotHeld` where it is free, `Tracked` where a track leads it.
+    /// Puts the held particle i at a place, at rest. `NoParticle` where there is none, `OutOfRange` where the place is
+    /// outside the limit, `NotHeld` where it is free, `Tracked` where a track leads it.
     pub fn place_held<G: Ledger>(
         &mut self,
         i: u64,

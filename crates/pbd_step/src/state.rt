@@ -10,7 +10,7 @@ use pbd_shape::{Shapes, Touched};
 use pbd_store::Store;
 use pbd_world::{Link, List, RoomList, ShapeLists, Totals, Track};
 
-/// What no step changes: the scene's shapes and numbers, gravity, and the momentum at opening.
+/// What no step changes: the scene's tracks, shapes and numbers, gravity, and the momentum at opening.
 #[derive(Drop)]
 pub struct Setting {
     pub(crate) tracks: List<Track>,
@@ -32,7 +32,7 @@ impl Setting {
     }
 }
 
-/// What steps change.
+/// What steps and commands change, but for gravity.
 #[derive(Drop)]
 pub struct State<const L: usize> {
     pub(crate) store: Store<L>,
@@ -44,7 +44,7 @@ pub struct State<const L: usize> {
     pub(crate) contacts: u32,
 }
 
-/// What a step works with and leaves behind for the next one to overwrite.
+/// What steps work with and leave behind, and what colouring links anew works with. It is no part of the world.
 #[derive(Drop)]
 pub struct Scratch {
     pub(crate) found: SelfContacts,

@@ -143,7 +143,7 @@ impl<const L: usize, P: Projector<L> + Drop> Running<L, P> {
         Ok(())
     }
 
-    /// Takes n steps, or none where one of them is refused: the state is then as before the first.
+    /// Takes n steps, or none where one of them is refused: the world is then as before the first.
     pub(crate) fn run_whole<G: Ledger>(
         &mut self,
         setting: &Setting,

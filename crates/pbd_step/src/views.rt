@@ -130,7 +130,7 @@ impl<'a, const L: usize> Shown<'a, L> {
         self.setting.passes
     }
 
-    /// The part c / 1024 of its velocity that a free particle loses in a step.
+    /// The part c / 1024 of its velocity that a free particle loses in a step, with c in 0..=1,024.
     pub fn damping(&self) -> i64
         requires lanes_high { L ≤ 16 }
         ensures { result ≡ self.now.damping }
@@ -146,7 +146,7 @@ impl<'a, const L: usize> Shown<'a, L> {
         self.setting.thickness
     }
 
-    /// The part f / 256 of its velocity that a particle which touched a shape loses in a step.
+    /// The part f / 256 of its velocity that a particle which touched a shape loses in a step, with f in 0..=256.
     pub fn friction(&self) -> i64
         requires lanes_high { L ≤ 16 }
         ensures { result ≡ self.now.friction }

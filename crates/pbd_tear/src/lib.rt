@@ -65,7 +65,7 @@ fn push_if(out: &mut RoomList<u32>, number: u32, wanted: bool)
 
 /// Leaves in `out` exactly the numbers of the live links that tear, ascending: those that may tear and
 /// are longer than their tear length. What `out` held before is dropped.
-/// It looks only at the links of these numbers, which are those with a tear length.
+/// It looks only at the links that `numbers` names, which are those with a tear length.
 /// It reaches the store at most twice for each link that may tear, and not at all for the others.
 pub fn torn<const L: usize, G: Ledger>(
     store: &Store<L>,
