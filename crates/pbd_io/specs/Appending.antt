@@ -39,7 +39,7 @@ pub consumed_all : (input : List ℕ) (new : Option (List ℕ)) (bytes : List �
 consumed_all input None bytes consumed ended = absurd consumed
 consumed_all input (Some rest) bytes consumed ended = rw ended (rw ended at consumed ∙ append-nil bytes, refl)
 
--- and what is left otherwise
+-- and what is left of it, at the end or before
 pub consumed_some : (input : List ℕ) (new : Option (List ℕ)) (bytes : List ℕ)
     → Consumes (Some input) new bytes → new ≡ Some (drop (length bytes) input)
 consumed_some input None bytes consumed = absurd consumed

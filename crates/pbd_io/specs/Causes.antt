@@ -17,7 +17,7 @@ CountsFaults before now result = MatchResult result (λ _. now ≡ before) (λ _
 abbrev pub HasRisen : ℕ → ℕ → Type 0
 HasRisen before now = min (before + 1) (2 ^ 64 - 1) ≤ now
 
--- the count doesn't fall, and where the call failed it rose
+-- the count doesn't fall, and where the call failed it rose, or stands at its type's end
 pub record HasCause {T E : Type 0} (before now : ℕ) (result : Result T E) : Type 0 where
   pub later : before ≤ now
   pub failed : OnErr result (HasRisen before now)

@@ -28,8 +28,8 @@ given s room = min room (min (length s.left) s.piece)
 
 -- ---- a sink
 
--- what it holds, how much of it there can be, the calls that fail with the number of bytes
--- that each still takes, and two counts
+-- what it holds, how much of it there can be, the calls that fail with how many bytes
+-- each still takes at most, and two counts
 pub record SinkState : Type 0 where
   pub bytes : List ℕ
   pub room : ℕ
@@ -40,12 +40,12 @@ pub record SinkState : Type 0 where
 abbrev pub new_sink : ℕ → List (ℕ × ℕ) → SinkState
 new_sink room fails = record { bytes = []; room = room; fails = fails; calls = 0; faults = 0 }
 
--- how many bytes the call with this number takes before it fails, if it fails:
+-- how many bytes the call with this number takes at most before it fails, if it is listed:
 -- by the first entry with its number
 abbrev pub cut_at : List (ℕ × ℕ) → ℕ → Option ℕ
 cut_at fails call = option_map (λ entry. entry.1) (find (λ entry. entry.0 == call) fails)
 
--- how many bytes of this piece the next call takes before it fails, if it fails:
+-- how many bytes of this piece the next call takes at most before it fails, if it fails:
 -- none of a piece longer than the room that is left
 abbrev pub cut : SinkState → List ℕ → Option ℕ
 cut s piece =

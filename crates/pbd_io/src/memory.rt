@@ -92,8 +92,8 @@ impl Source for MemSource {
     }
 }
 
-/// A sink with a fixed room in memory. The calls that it fails are listed, each with the number
-/// of bytes that it still takes.
+/// A sink with a fixed room in memory. It fails a piece longer than the room that is left, and the
+/// calls that are listed, each with how many bytes it still takes at most.
 /// Clauses see it as a `SinkState`.
 #[derive(Drop)]
 pub struct MemSink {
@@ -154,7 +154,7 @@ impl MemSink {
     }
 }
 
-// How many bytes the call takes before it fails, if it fails.
+// How many bytes the call takes at most before it fails, if it is listed.
 fn cut_at(fails: &[(u64, usize)], call: u64) -> Option<usize>
     ensures { result ≡ cut_at fails.now call }
 {

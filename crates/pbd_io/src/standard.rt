@@ -67,8 +67,9 @@ impl<W: Write> Sink for StdStream<W> {
 
     ghost faults = { λ s. s.faults };
 
-    /// Writes until the piece is gone, and flushes. An error of either is a failure, and so is a
-    /// write that takes nothing of a piece that isn't gone.
+    /// Writes until the piece is gone, again after a write that was interrupted, and flushes. Any
+    /// other error of a write is a failure, and so are an error of the flush and a write that takes
+    /// nothing of a piece that isn't gone.
     fn write(&mut self, piece: &[u8]) -> Result<(), Failed>
         ensures bytes { WritesPiece None None result piece.now }
         ensures inner { OnOk result (Appends (W.contents self.old.inner) (W.contents self.new.inner) piece.now) }

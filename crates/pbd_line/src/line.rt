@@ -6,7 +6,8 @@ use arrayvec::ArrayVec;
 use itoa::Buffer;
 use std::marker::Model;
 
-/// At most 256 bytes, seen as their list. The caller knows that a piece fits. Nothing here takes memory.
+/// At most 256 bytes, seen as their list. The caller knows that a piece fits, where a number counts as the most bytes that
+/// it may have. Nothing here takes memory.
 #[derive(Drop)]
 pub struct Line {
     bytes: ArrayVec<u8, 256>,

@@ -50,11 +50,11 @@ NoEntryBeginsAnother = (e f : Entry) (more rest : List ℕ) → IsEntry e → Is
 abbrev pub NoProperPrefix : Type 0
 NoProperPrefix = (e f : Entry) (more : List ℕ) → IsEntry e → IsEntry f → entry_bytes f ≡ entry_bytes e ++ more → more ≡ []
 
--- a refused log has one offset
+-- bytes have at most one offset at which they go wrong
 abbrev pub OneFault : Type 0
 OneFault = (bytes : List ℕ) (offset place : ℕ) → IsFault bytes offset → IsFault bytes place → offset ≡ place
 
--- and it is no log
+-- and where they have one they are no log
 abbrev pub NoLogHasAFault : Type 0
 NoLogHasAFault = (bytes : List ℕ) (offset : ℕ) → IsFault bytes offset → SpellsNothing bytes
 

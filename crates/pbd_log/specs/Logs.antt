@@ -83,7 +83,7 @@ FailsToEnd total count rest offset =
     (((more : List ℕ) → rest ≡ end_bytes count ++ more → ⊥) × (offset + length rest ≡ total))
     ⊎ ((more : List ℕ) × (rest ≡ end_bytes count ++ more) × (0 < length more) × (offset + length more ≡ total))
 
--- behind the scene stand some entries, and then neither an entry nor the end of the log
+-- behind the scene stand entries, or none, and then neither an entry nor the end of the log with nothing behind it
 pub record FailsBehind (bytes : List ℕ) (offset : ℕ) : Type 0 where
   pub version : ℕ
   pub limit : ℤ

@@ -2,7 +2,7 @@
 
 ghost use Rattle.pbd_log.specs.Laws.{DifferentBytesDiffer, FieldIsItsReading, PartsSpellTheirLog, NoEntryBeginsAnother, NoProperPrefix, OneReading, OneFault, NoLogHasAFault, KeptEntryIsGrammatical, LoggedEntriesAreGrammatical};
 
-/// No other n bytes have the value of these.
+/// No two different lists of n bytes have the same big-endian reading.
 pub fn different_bytes_differ()
     ensures { DifferentBytesDiffer }
 {}
@@ -28,7 +28,7 @@ pub fn one_reading()
     ensures { OneReading }
 {}
 
-/// A refused log has one offset, and no log has one.
+/// Bytes have at most one offset at which they go wrong, and those of a log have none.
 pub fn one_fault()
     ensures one { OneFault }
     ensures none { NoLogHasAFault }

@@ -1,5 +1,5 @@
-//! The fields of a log, each appended to a piece that is written in one call. A piece has at most 111 bytes: a command
-//! has at most 33, an answer 14 and sums 64.
+//! The fields of a log, and of a state, each appended to a piece. A piece of a log is written in one call, and has at most
+//! 111 bytes: a command has at most 33, an answer 14 and sums 64.
 ghost use Rattle.std.specs.Prelude.{◌≡◌, ◌+◌, ◌≤◌, ◌<◌, ◌++◌, ◌∷◌, [], length};
 ghost use Rattle.pbd_log.specs.Entries.{number_bytes, signed_bytes, vector_bytes, axes_bytes, VectorFits, AreAxes};
 

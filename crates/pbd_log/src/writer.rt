@@ -121,7 +121,8 @@ impl Model for LogWriter {
 
 impl LogWriter {
     /// Writes the header and the scene, which has fewer than 2^32 bytes. The limit is 268,435,456 or 536,870,912.
-    /// `Failed` comes only where the sink's count of faults rose, and then a prefix of these bytes was appended.
+    /// `Failed` comes only where the sink's count of faults rose, or stands at 2^64 - 1, and then a prefix of these bytes
+    /// was appended.
     pub fn begin<K: Sink>(sink: &mut K, limit: i64, scene: &[u8]) -> Result<LogWriter, Failed>
         requires limit { IsTrue (is_limit limit) }
         requires scene { length scene.now < 2 ^ 32 }

@@ -76,7 +76,8 @@ cloth_settings s Shear = record { kind = Shear; k = s.shear; tear = s.shear_tear
 cloth_settings s Bend = record { kind = Bend; k = s.bend; tear = s.bend_tear }
 cloth_settings s Plain = record { kind = Plain; k = 0; tear = pos 0 }
 
--- the links of a kind that begin at a cell, along the row before down the column, and of a shear both diagonals
+-- the links of a kind that begin at a cell, along the row before down the column; for shear, both diagonals of the square
+-- that begins there
 unfoldable pub links_of_cell : ClothSpec → ℕ → Kind → ℕ → ℕ → List Link
 links_of_cell s base Stretch r c =
     cell_link s base (cloth_settings s Stretch) (cell r c) (cell r (c + 1))

@@ -8,7 +8,7 @@ use Rattle.pbd_world.specs.Valid.{is_valid_particle, is_valid_link, none_twice, 
 abbrev pub is_free_and_valid : ℤ → Particle → Bool
 is_free_and_valid limit p = not p.held && is_valid_particle limit p
 
--- a live link between two particles from number `base` on and below `end`
+-- a live and valid link between two particles from number `base` on and below `end`
 abbrev pub is_mesh_link : ℤ → ℕ → ℕ → Link → Bool
 is_mesh_link limit base end l = l.live && nat_le base l.a && nat_le base l.b && is_valid_link limit end l
 

@@ -20,7 +20,7 @@ pub record IsFace (n : ℕ) (face : List ℕ) : Type 0 where
   pub within : All (λ corner. corner < n) face
   pub once : IsTrue (none_twice {A = ℕ} (λ a b. a == b) face)
 
--- what holds of a mesh that was read
+-- what holds of a mesh that was read or made of arrays
 pub record IsMesh (mesh : ObjMesh) : Type 0 where
   pub inside : All {X = Vec3} (λ place. IsTrue (is_within (pos 536870912) place)) mesh.places
   pub whole : sum mesh.sizes ≡ length mesh.corners

@@ -65,7 +65,7 @@ pub record IsLinkFrom (base count : ℕ) (l : Link) : Type 0 where
 abbrev pub AreFew : List ℕ → Type 0
 AreFew counts = (v : ℕ) → v < length counts → slice_index counts v ≤ 32
 
--- for each particle from `base` on, how many links are at it
+-- for each particle from `base` on, how many links are at it, at most 32
 pub record HoldsCounts (base : ℕ) (links : List Link) (counts : List ℕ) : Type 0 where
   pub counts_at : (v : ℕ) → v < length counts → slice_index counts v ≡ links_at links (base + v)
   pub few : AreFew counts

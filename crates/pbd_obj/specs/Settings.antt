@@ -4,7 +4,7 @@ use Rattle.pbd_world.specs.Valid.{is_between}
 use Rattle.pbd_obj.specs.declared.settings.LinkSettings.{LinkSettings}
 use Rattle.pbd_obj.specs.declared.settings.MeshSettings.{MeshSettings}
 
--- of links that give way to nothing
+-- of links that have the greatest stiffness and never tear
 abbrev pub stiff : LinkSettings
 stiff = record { stiffness = 256; tear = pos 0 }
 

@@ -26,7 +26,7 @@ abbrev pub across_shared : Option Sharing → List (ℕ × ℕ)
 across_shared (Some (Two e f)) = apart (e.beside_low, f.beside_low) ++ apart (e.beside_high, f.beside_high)
 across_shared known = []
 
--- all edges of a sharing are of n vertices
+-- both edges of a sharing of two are of n vertices
 abbrev pub SharesWithin : ℕ → Option Sharing → Type 0
 SharesWithin n (Some (Two e f)) = IsEdgeOf n e × IsEdgeOf n f
 SharesWithin n known = ⊤

@@ -90,7 +90,8 @@ fn first_bad_face(
 }
 
 /// The mesh of these vertices, and of faces of which each has so many of the corners: vertices by number from 0, one face after
-/// another. The fault is that the numbers of corners don't agree, or that of the first bad vertex, or of the first bad face.
+/// another. The fault is the first of these: that the numbers of corners don't agree, that of the first bad vertex, that of the
+/// first bad face; or it is want of memory.
 #[tactic(auto, using(crate::proofs::ArrayLemmas::bad_count, crate::proofs::ArrayLemmas::bad_vertex, crate::proofs::ArrayLemmas::bad_face, crate::proofs::ArrayLemmas::mesh_found, crate::proofs::ArrayLemmas::mesh_is))]
 pub fn mesh_of(
     alloc: Global,

@@ -164,7 +164,8 @@ fn size(digits: u128, power: i64) -> u64
     size.min(TOO_GREAT) as u64
 }
 
-/// The units that a decimal word writes, or the first number that is too great for a coordinate.
+/// The units that a decimal word writes, rounded to the nearest whole number, or the first number of
+/// their sign that is too great for a coordinate.
 /// None comes where it is no decimal.
 pub fn units_of(word: &[u8]) -> Option<i64>
     ensures { result ≡ option_map capped (units_of word.now) }

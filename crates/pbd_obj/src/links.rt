@@ -171,8 +171,8 @@ fn add_kind(
     Ok(())
 }
 
-/// The links of a mesh whose first vertex is particle `base`. `TooMany` comes where there are more
-/// than `room`.
+/// The links of a mesh whose first vertex is particle `base`. `TooMany` comes only where there are
+/// more than `room`.
 #[tactic(auto, unfolding(crate::specs::MeshLinks::mesh_links))]
 fn mesh_links(
     alloc: Global,
@@ -318,10 +318,11 @@ fn append(mesh: &ObjMesh, weight: u16, links: &[Link], parts: &mut Parts) -> Res
     pushed
 }
 
-/// Appends the vertices of a mesh as free particles at rest, and links them: along the sides of each
-/// face, across each face with four corners, and if there are settings for it what faces each other
-/// across each edge that two faces share. After a refusal the parts are as before. `TooMany` comes
-/// before `TooManyAtParticle`, which names the vertex of the first link that is the 33rd there.
+/// Appends the vertices of a mesh as free particles at rest, and links them, no two of them twice:
+/// along the sides of each face, across each face with four corners, and if there are settings for it
+/// what faces each other across each edge that exactly two faces share. After a fault the parts are as
+/// before. `TooMany` comes before `TooManyAtParticle`, which names the vertex of the first link that is
+/// the 33rd there.
 #[tactic(auto, unfolding(crate::specs::MeshLinks::with_mesh_as))]
 pub fn add_mesh_with(
     alloc: Global,
@@ -351,7 +352,7 @@ pub fn add_mesh_with(
     Ok(())
 }
 
-/// The same with the settings of the form `obj`: weight 1, stiff links that never tear, and none that bend.
+/// The same with the settings of the form `obj`: weight 1, links of stiffness 256 that never tear, and no bend links.
 #[tactic(auto, unfolding(crate::specs::MeshLinks::with_mesh))]
 pub fn add_mesh(alloc: Global, mesh: &ObjMesh, parts: &mut Parts) -> Result<(), ObjFault>
     requires mesh { IsMesh mesh.now }

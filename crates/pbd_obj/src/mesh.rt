@@ -20,7 +20,7 @@ pub struct ObjMesh {
 /// Why a text gives no mesh, or a mesh can't be added to a scene.
 #[derive(Clone, Copy, Debug, PartialEq, Eq)]
 pub enum ObjFault {
-    /// A vertex isn't three decimals. Lines are counted from 1.
+    /// A vertex doesn't begin with three decimals. Lines are counted from 1.
     BadNumber { line: u32 },
     /// A face isn't three or more different vertices of the lines before it.
     BadFace { line: u32 },

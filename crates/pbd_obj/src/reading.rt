@@ -171,8 +171,9 @@ fn no_mesh(alloc: Global) -> ObjMesh
 }
 
 /// Reads a mesh. A line whose first word is `v` has three decimals, in metres, and one whose first
-/// word is `f` at least three vertices, counted from 1, or from the last back with a minus. What
-/// stands behind the three decimals, or behind a `/`, is read past, and so are all other lines.
+/// word is `f` at least three different vertices of the lines before it, counted from 1, or from the
+/// last back with a minus. What stands behind the three decimals, or behind a `/` in a vertex of a
+/// face, is read past, and so are all other lines.
 /// The fault is that of the first bad line, or want of memory.
 #[tactic(auto, using(crate::proofs::ReadLemmas::read_begins))]
 pub fn read_obj(alloc: Global, text: &[u8]) -> Result<ObjMesh, ObjFault>

@@ -5,9 +5,9 @@ ghost use Rattle.pbd_obj.specs.Settings.{are_link_settings, are_settings, are_so
 /// The settings of the links of a kind.
 #[derive(Clone, Copy, Debug, PartialEq, Eq)]
 pub struct LinkSettings {
-    /// The stiffness k / 256, in 0..=256.
+    /// The stiffness as a part of 256, in 0..=256.
     pub stiffness: u16,
-    /// The length above which they tear, in 0..=2,147,483,648, and 0 where they never do.
+    /// The length above which they tear, in 0..=2,147,483,648 units of 1/65,536 metre, and 0 where they never do.
     pub tear: i64,
 }
 

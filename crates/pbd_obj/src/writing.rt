@@ -82,7 +82,8 @@ fn vertex_line(place: Vec3) -> Line
 }
 
 /// Writes the line of a vertex: `v` and its coordinates in metres, exactly.
-/// `Failed` comes only where the sink's count of faults rose, and then a prefix of the line was appended.
+/// `Failed` comes only where the sink's count of faults rose, or stands at 2^64 - 1, and then a prefix
+/// of the line was appended.
 pub fn write_vertex<K: Sink>(place: Vec3, sink: &mut K) -> Result<(), Failed>
     requires { Within (2 ^ 29) place }
     ensures bytes { WritesPiece (K.written sink.old) (K.written sink.new) result (vertex_line place) }

@@ -1,4 +1,4 @@
-// The one loop of all arrays of the scene: values that are read one after another.
+// The one loop of the scene's arrays that have no fixed length: values that are read one after another.
 ghost use Rattle.std.specs.Prelude.{◌≡◌, ◌<◌, ◌≤◌, ◌++◌, ◌∷◌, ℕ, IfOk, [], length, map, List as Items};
 ghost use Rattle.toml.specs.Data.{Data};
 ghost use Rattle.toml.specs.View.{view};
@@ -28,7 +28,7 @@ pub trait Reader {
         ensures keeps { IfOk result (λ x. fits self.now (before.now ++ x ∷ [])) };
 }
 
-/// Reads each in order. The first that cannot be read is the fault.
+/// Reads each in order. The first that cannot be read is the fault, unless memory runs out.
 pub fn read_each<R: Reader>(
     alloc: Global,
     reader: &R,

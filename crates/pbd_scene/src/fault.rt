@@ -16,9 +16,9 @@ pub enum SceneRule {
     MissingKey,
     /// A value is of another kind.
     WrongType,
-    /// A value of the right kind is out of its range.
+    /// A value of the right kind is out of its range, or a place that values give together is beyond the limit.
     OutOfRange,
-    /// There are more entries than allowed.
+    /// There are more entries, pins, keys of a track, particles or links than allowed.
     TooMany,
     /// A number names no particle.
     BadIndex,

@@ -104,7 +104,7 @@ pub fn add_tracked(tracks: &[Track], names: &mut List<u32>) -> Result<(), AllocE
     Ok(())
 }
 
-/// Raises flag i. Other numbers are left out.
+/// Raises flag i, if there is one.
 fn mark(i: u32, flags: &mut Vec<bool>)
     ensures { flags.new.items ≡ slice_set flags.old.items i true }
 {

@@ -65,7 +65,7 @@ struct Spheres {
     limit: Limit,
 }
 
-/// The way by so much along each axis.
+/// The vector of so much along each axis.
 fn on_each_axis(n: i64) -> Vec3
     requires { unsigned_abs n ≤ 2 ^ 29 }
     ensures value { result ≡ record { x = n; y = n; z = n } }

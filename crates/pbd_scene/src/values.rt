@@ -183,7 +183,7 @@ impl Entry<'_> {
         }
     }
 
-    /// The number from 0 of a key that must be there.
+    /// The number in low..=high of a key that must be there.
     #[tactic(auto, unfolding(crate::specs::Values::required_count))]
     pub fn required_count(&self, key: KeyName, low: u32, high: u32) -> Result<u32, SceneFault>
         ensures value { Gives (λ n. n) result (required_count self.now.place key low high (table_view self.now.members.now)) }
@@ -193,7 +193,7 @@ impl Entry<'_> {
         Ok(n as u32)
     }
 
-    /// The number from 0 of a key, or the default where it isn't there.
+    /// The number in low..=high of a key, or the default where it isn't there.
     #[tactic(auto, unfolding(crate::specs::Values::count_or))]
     pub fn count_or(
         &self,

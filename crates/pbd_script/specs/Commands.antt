@@ -47,7 +47,8 @@ operands_in kinds.NumberAndVector operands = number_and_vector operands
 unfoldable pub form : List ℕ → List (List ℕ) → Option Command
 form word operands = option_and_then (λ verb. option_and_then (command_with verb) (operands_in (row verb).kind operands)) (verb_named word)
 
--- no words, or a first word that begins with `#`, give no command; words of no form give `Bad`
+-- no words, or a first word that begins with `#`, give no command; other words that are no verb's word and operands of its
+-- kind give `Bad`
 abbrev pub words_command : List (List ℕ) → Option Command
 words_command [] = None
 words_command (word ∷ operands) =

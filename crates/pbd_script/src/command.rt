@@ -60,9 +60,9 @@ fn form(word: &[u8], rest: &[u8]) -> Option<Command>
     verb.with(&operands)
 }
 
-/// The command of a line without its newline. None comes exactly where the line has no words or
-/// its first word begins with `#`.
-/// A line of no form gives `Bad`.
+/// The command of a line without its newline, where one carriage return at its end is left out.
+/// None comes exactly where the line has no words or its first word begins with `#`.
+/// Any other line that isn't a verb's word and operands of its kind gives `Bad`.
 pub fn line_command(line: &[u8]) -> Option<Command>
     ensures { result ≡ line_command line.now }
 {

@@ -13,13 +13,13 @@ pub fn scripts_are_read_line_by_line()
         commands (front ++ 10 ∷ back) ≡ commands front ++ commands back }
 {}
 
-/// A count that is printed is read back.
+/// A count below 10^18 that is printed is read back.
 #[tactic(auto, using(crate::proofs::NumberLemmas::count_decimal))]
 pub fn counts_are_read_back()
     ensures { (n : ℕ) → n < 10 ^ 18 → count (decimal n) ≡ Some n }
 {}
 
-/// A number that is printed is read back.
+/// A number of a size below 10^18 that is printed is read back.
 #[tactic(auto, using(crate::proofs::NumberLemmas::number_decimal))]
 pub fn numbers_are_read_back()
     ensures { (z : ℤ) → unsigned_abs z < 10 ^ 18 → number (signed_decimal z) ≡ Some z }

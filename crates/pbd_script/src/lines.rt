@@ -13,7 +13,7 @@ fn newline_at(bytes: &[u8]) -> Option<usize>
     bytes.iter().position(|b| *b == b'\n')
 }
 
-/// The first piece between newlines, and what follows its newline.
+/// The first piece between newlines, and what follows its newline, if it has one.
 pub fn first_line(bytes: &[u8]) -> (&[u8], Option<&[u8]>)
     ensures lines { MatchOption result.1 (pieces bytes.now ≡ result.0.now ∷ [])
         (λ rest. pieces bytes.now ≡ result.0.now ∷ pieces rest.now) }
