@@ -100,7 +100,7 @@ pub record Keeps (old new : Option Slotted) : Type 0 where
 
 -- ---- reading
 
--- as many as there are and room for them, or not
+-- 0 where there is room for so many, or that there isn't
 abbrev pub room_answer : ℕ → ℕ → ℕ
 room_answer count room = if nat_le count room then 0 else no_room
 

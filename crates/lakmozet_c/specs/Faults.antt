@@ -75,7 +75,8 @@ IsSceneIn limit None parts = ⊥
 abbrev pub IsScene : Option Members → Parts → Type 0
 IsScene tree parts = IsSceneIn (pos (2 ^ 29)) tree parts
 
--- why a text, read with a limit, which reads as this tree, or as none, is no scene: the first broken rule
+-- why a text, read with a limit, which reads as this tree, or as none, is no scene: the first broken rule, or that it reads as no
+-- tree; only want of memory is told without a reason
 abbrev pub IsFaultIn : ℤ → Option Members → SceneFault → Type 0
 IsFaultIn limit (Some tree) (Refused rule table position key) =
     scene_of limit tree ≡ broken rule (record { table = table; position = position }) key

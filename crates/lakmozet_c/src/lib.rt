@@ -1,4 +1,4 @@
-//! The solver for programs in C: each call is total, and says what the handle holds afterwards.
+//! The solver for programs in C: each call is total, and one that takes a handle says what that holds afterwards.
 #![tactic(auto)]
 
 mod commands;

@@ -33,7 +33,7 @@ pub extern "C" fn lak_places(
     })
 }
 
-/// Writes the places of one step before, as many as there is room for, and how many there are.
+/// Writes the places of one step before, as friction and commands left them, as many as there is room for, and how many there are.
 #[unsafe(no_mangle)]
 pub extern "C" fn lak_places_before(
     alloc: Global,

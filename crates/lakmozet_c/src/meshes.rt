@@ -46,9 +46,9 @@ struct Given<'a> {
 pub enum Unfit {
     /// A setting is out of its range.
     BadSettings,
-    /// The arrays are no mesh.
+    /// The arrays are no mesh, or memory ran out.
     NoArrays(ArraysFault),
-    /// The mesh makes too many particles or links.
+    /// The mesh makes too many particles or links, or too many at a vertex, or memory ran out.
     NotAdded(ObjFault),
 }
 

@@ -21,7 +21,7 @@ pub enum NoCloth {
     TooManySlots,
     /// The bytes are no UTF-8.
     NotText,
-    /// They are no TOML, for what stands behind so many of them.
+    /// They are no TOML, or deeper or longer than is read, for what stands behind so many of them.
     NoToml { offset: u64 },
     /// They break a rule, or memory ran out.
     NoScene(SceneFault),
@@ -45,7 +45,7 @@ fn scene_of(alloc: Global, text: &str, limit: i64) -> Result<Scene, SceneFault>
     read_scene(alloc, text, limit)
 }
 
-/// Where a text stops being TOML, which it isn't.
+/// Where the reading of a text stopped that isn't read as TOML, or that memory ran out.
 fn not_toml(alloc: Global, text: &str) -> NoCloth
     requires text { IsUtf8 text.now }
     requires wrong { parse_document text.now ≡ None }
@@ -141,7 +141,7 @@ pub(crate) const NOTHING_WRONG: Fault = Fault {
     key: 0,
 };
 
-/// Where the text stops being TOML, or the rule that the scene breaks, if one of these is the reason.
+/// Where the reading of the text as TOML stopped, or the rule that the scene breaks, if one of these is the reason.
 pub(crate) fn fault_of(why: &NoCloth) -> Fault
     ensures { TellsWhy why.now result }
 {

@@ -1,7 +1,7 @@
 //! What crosses to a C program in its own memory.
 
-/// Where a refused step left the range: the step, from 1, the part of it (1 predict, 2 link, 3 contact, 4 shape), and the
-/// particle, link or contact. All are 0 where an answer says no such thing.
+/// Where a step was refused: the step that would have been reached, as the world counts them; and where a place left the range, the
+/// part of the step (1 predict, 2 link, 3 contact, 4 shape), and the particle, link or contact. What an answer doesn't tell is 0.
 #[repr(C)]
 #[derive(Clone, Copy)]
 pub struct Left {
@@ -10,9 +10,9 @@ pub struct Left {
     pub phase: u8,
 }
 
-/// What is wrong with a scene. Where it is no TOML: how many bytes stand before the place where `toml` stopped. Else the first
-/// rule that it breaks, 2 to 11, and where: the number of its table, the position in it from 0, and the number of its key.
-/// What an answer doesn't tell is 0.
+/// What is wrong with a scene. Where it is no TOML, or deeper or longer than is read: how many bytes stand before the place where
+/// `toml` stopped. Else the first rule that it breaks, 2 to 11, and where: the number of its table, the position in it from 0, and
+/// the number of its key. What an answer doesn't tell is 0.
 #[repr(C)]
 #[derive(Clone, Copy)]
 pub struct Fault {
@@ -23,8 +23,8 @@ pub struct Fault {
     pub key: u8,
 }
 
-/// How a mesh is made cloth: the lengths above which its links tear, 0 where they never do, the weight of each particle, and how
-/// stiff its links are, in 256ths. `bends` is 0 where it has no bend links.
+/// How a mesh is made cloth: the lengths above which its links tear, in units of 1/65,536 metre, 0 where they never do, the weight
+/// of each particle, from 1, and the stiffness of its links, in 256ths, at most 256. `bends` is 0 where it has no bend links.
 #[repr(C)]
 #[derive(Clone, Copy)]
 pub struct MeshEntry {
@@ -47,7 +47,7 @@ pub struct MeshFault {
 }
 
 /// Where a replay stopped: how many bytes stand before the part that can't be read, where they are no log; the first entry
-/// that differs, from 1, and the number of its field, 1 to 13 in the order of the comparison. All are 0 where nothing is wrong.
+/// that differs, from 1, and the number of its field, 1 to 13 in the order of the comparison. What an answer doesn't tell is 0.
 #[repr(C)]
 #[derive(Clone, Copy)]
 pub struct Stop {

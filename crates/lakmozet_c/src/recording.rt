@@ -20,7 +20,7 @@ use std::alloc::{AllocError, Global};
 use std::marker::Brand;
 use std::sync::ledger::{Blank, Ledger};
 
-/// How many bytes a scene and a script may have.
+/// How many bytes a scene may have, and as many a script.
 const MOST: usize = 16_777_216;
 
 /// What is recorded, as bytes.

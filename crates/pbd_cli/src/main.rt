@@ -1,4 +1,5 @@
-//! Runs a simulation: a scene, a line `%%` and a script on standard input, and the replies on standard output.
+//! Does the form that its words name. What that reads, as a scene, a line `%%` and a script, is on standard input, and what it
+//! writes goes to standard output.
 #![tactic(auto)]
 
 mod run;

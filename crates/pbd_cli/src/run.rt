@@ -17,19 +17,23 @@ pub fn run<S: Source, K: Sink>(
     source: &mut S,
     sink: &mut K,
 ) -> Status
-    // For every scene and script, at each width, the bytes that `simulate` writes are those of the scalar solver, from one
-    // sound world to the next; a refused command changes nothing, and no later byte but its own line; and, undamped with equal
-    // weights, momentum changes exactly by gravity, pins and shapes.
+    // For every accepted scene and every script, at each width, where the input is told and the status isn't 2, 3 or 12, the
+    // bytes that `simulate` writes are those of the scalar solver, from one sound world to the next; a refused command changes
+    // nothing, and no later byte but its own line; and, undamped with equal weights, momentum changes exactly by gravity, pins
+    // and shapes.
     ensures headline { KeepsHeadline (run_of S.Source K.Sink (job_of words.now) source.old sink.old source.new sink.new result) }
-    // Unless the status is 2, 3 or 12, the status and the bytes are those of the outcome, whatever failed on the way.
+    // Where the input is told or not read, and unless the status is 2, 3 or 12, the status and the bytes are those of the
+    // outcome, whatever failed on the way.
     ensures outcome { Settles (run_of S.Source K.Sink (job_of words.now) source.old sink.old source.new sink.new result) }
     // The same holds of the outcome of some input, where the source doesn't tell what it gives.
     ensures untold { GoesAsSome (run_of S.Source K.Sink (job_of words.now) source.old sink.old source.new sink.new result) }
-    // Status 1 comes exactly where the words are no form, whatever the source tells.
+    // Status 1 comes only where the words are no form, and there always, but where its line can't be written; whatever the
+    // source tells.
     ensures usage { TellsUsage (run_of S.Source K.Sink (job_of words.now) source.old sink.old source.new sink.new result) }
     // `scramble` does what `simulate` does, whatever its number.
     ensures scrambled { ScramblesAlike (run_of S.Source K.Sink (job_of words.now) source.old sink.old source.new sink.new result) }
-    // In `host`, each session writes what it writes alone, whatever is asked of the others.
+    // In `host`, where the scenes are accepted, the input is told and the status isn't 2, 3 or 12, each session writes what it
+    // writes alone, but for the lines that name it, whatever is asked of the others.
     ensures hosted { HostsApart (run_of S.Source K.Sink (job_of words.now) source.old sink.old source.new sink.new result) }
     // A fault of reading or writing is told only where the source or the sink failed.
     ensures read_fault { result ≡ Status.ReadFault

@@ -23,7 +23,8 @@ pub const MOST_SLOTS: u32 = 16;
 
 /// A session, and slots that each keep a whole world of its scene. Only opening takes memory.
 ///
-/// Clauses see the world, and the list of the worlds in the slots. All of them are sound, as each call says.
+/// Clauses see the world, and the list of the worlds in the slots. All of them are sound, as each call but
+/// `cut_each` says.
 #[derive(Drop)]
 pub struct Cloth {
     pub(crate) playing: Session<LANES, LaneProjector<LANES>>,

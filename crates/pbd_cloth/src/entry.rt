@@ -13,7 +13,7 @@ pub struct LinkEntry {
     pub b: u32,
     /// The stiffness, in 256ths.
     pub stiffness: u16,
-    /// What it is in a mesh: 0 stretch, 1 shear, 2 bend, and 3 for a link of the scene itself.
+    /// What it is in a cloth, a rope or a mesh: 0 stretch, 1 shear, 2 bend; and 3 for a link of the scene itself.
     pub kind: u8,
     /// 1 where it is live, and 0 where it was cut or torn.
     pub live: u8,

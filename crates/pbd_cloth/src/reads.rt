@@ -103,7 +103,8 @@ impl Cloth {
         self.particles()
     }
 
-    /// Writes the places of one step before, as many as there is room for, and answers how many there are.
+    /// Writes the places of one step before, as friction and commands left them, as many as there is room for, and answers how
+    /// many there are.
     pub fn places_before(&self, into: &mut [Place]) -> u32
         ensures count { result ≡ length self.now.world.particles }
         ensures written { into.new ≡ overwritten into.old (places_before self.now.world) }
@@ -209,7 +210,7 @@ fn has_gone(earlier: &[Link], later: &[Link], i: usize) -> bool
     earlier[i].live && !later[i].live
 }
 
-// Writes a number at a place that is wanted and there, and answers the place after it.
+// Where a number is wanted, writes it at a place, if that is there, and answers the place after it. Else answers the place.
 fn write_if(into: &mut [u32], place: u32, number: u32, wanted: bool) -> u32
     requires { place < 524288 }
     ensures place { result ≡ (if wanted then place + 1 else place) }

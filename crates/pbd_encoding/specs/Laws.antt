@@ -67,7 +67,7 @@ abbrev pub RefusedIsExact : Type 0
 RefusedIsExact = (scene bytes : List ℕ) (w : World) (fault : StateFault) → length scene ≡ 32 → IsBytes scene → IsBytes bytes
     → form_on scene w bytes ≡ Err fault → GoesWrongAt scene bytes w fault.offset
 
--- two worlds of a scene never have the same bytes
+-- two worlds of a scene whose numbers are in the ranges of their types never have the same bytes
 abbrev pub StatesTellWorldsApart : Type 0
 StatesTellWorldsApart = (scene : List ℕ) (v w : World) → length scene ≡ 32 → AreOfOneScene v w → NumbersFit v → NumbersFit w
     → state_bytes scene v ≡ state_bytes scene w → v ≡ w

@@ -6,7 +6,8 @@ pub fn sizes_are_known()
     ensures { SizeIsKnown }
 {}
 
-/// The state of a world has the form of a state of its scene, and tells that world.
+/// The state of a world whose numbers are in the ranges of their types has the form of a state of its scene, and tells that
+/// world.
 pub fn what_is_written_is_told()
     ensures { WrittenIsTold }
 {}
@@ -21,7 +22,7 @@ pub fn refusals_are_exact()
     ensures { RefusedIsExact }
 {}
 
-/// Two worlds of a scene never have the same bytes.
+/// Two worlds of a scene whose numbers are in the ranges of their types never have the same bytes.
 pub fn states_tell_worlds_apart()
     ensures { StatesTellWorldsApart }
 {}

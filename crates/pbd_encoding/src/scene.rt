@@ -17,11 +17,11 @@ pub struct Settings {
     pub limit: i64,
     /// How often a step projects all constraints, in 0..=64.
     pub passes: u32,
-    /// The part c / 1024 of its velocity that a free particle loses in a step.
+    /// The part c / 1024 of its velocity that a free particle loses in a step, with c in 0..=1024.
     pub damping: i64,
     /// The distance that contacts keep, in 0..=1,048,576.
     pub thickness: i64,
-    /// The part f / 256 of its velocity that a particle which touched a shape loses in a step.
+    /// The part f / 256 of its velocity that a particle which touched a shape loses in a step, with f in 0..=256.
     pub friction: i64,
 }
 

@@ -44,7 +44,7 @@ last_solid (solid ∷ solids) at = last_from solid (last_solid solids) at (shape
 abbrev pub size_sum : Vec3 → ℕ
 size_sum v = unsigned_abs v.x + unsigned_abs v.y + unsigned_abs v.z
 
--- out of a solid, but for what rounding may take: half of the normal's sizes from a plane's offset, and less than 1 from a radius
+-- out of a solid, but for what rounding may take: half of the normal's sizes from a plane's offset, and at most 1 from a radius
 abbrev pub IsOut : Solid → Vec3 → Type 0
 IsOut (APlane plane) v = (pos 2 *ℤ plane.offset) ≤ℤ (pos 2 *ℤ dot plane.normal v +ℤ pos (size_sum plane.normal))
 IsOut (ASphere sphere) v = sphere.radius ≤ℤ pos (length_of (minus v sphere.centre) + 1)

@@ -1,4 +1,5 @@
-//! Laws of whole sessions, on which games in lock step rest: each the contract of a function that does nothing.
+//! Laws of whole sessions, on which games in lock step rest, of one projection and of shapes: each the contract of a function that
+//! does nothing.
 #![tactic(auto)]
 
 mod bonds;

@@ -15,7 +15,7 @@ pub fn a_slot_keeps_its_world()
 /// Rollback: with n slots, each turn is played at once with what is known or guessed of its inputs, after the world is saved
 /// in slot turn mod n. When the true inputs of one of the last n turns come, the machine goes back to its slot and plays that
 /// turn and those since again. At any time its world is that of the inputs as they are known, played in order from the start:
-/// of the true ones, once all have come, however late each was.
+/// of the true ones, once all have come, each within n turns.
 pub fn late_inputs_come_to_the_same_world()
     ensures world { (m : Machine) (n : ℕ) (events : List Event) → 1 ≤ n → n ≤ length m.slots → AreInTime n [] events
         → (all_acted m (all_acts n [] events)).world ≡ last_world m.world (commands_of (all_taken [] events)) }

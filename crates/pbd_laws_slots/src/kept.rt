@@ -12,7 +12,8 @@ ghost use Rattle.pbd_laws.specs.Ring.{Event, commands_of, all_taken, all_acts, A
 ghost use Rattle.pbd_laws_slots.specs.Views.{of_cloth, of_marks, all_done, mark_command};
 
 /// What a cloth does with its slots is what the machine of slots does: a command, a save and a going back are its acts. So a
-/// game that keeps each turn in a ring of n of a cloth's slots has at any time the world of the inputs that it knows.
+/// game that keeps each turn in a ring of n of a cloth's slots, and learns each input within n turns, has at any time the world of
+/// the inputs that it knows.
 pub fn cloths_are_a_machine_of_slots()
     ensures play { (c : Slotted) (command : Command) → of_cloth (played c command) ≡ acted (of_cloth c) (Play command) }
     ensures save { (c : Slotted) (k : ℕ) → of_cloth (saved c k) ≡ acted (of_cloth c) (Save k) }
@@ -22,8 +23,8 @@ pub fn cloths_are_a_machine_of_slots()
 {}
 
 /// What a script does with its eight marks is what the machine of slots does: a plain command, a mark and a rewind are its
-/// acts, those with a bad or an empty mark included. So a script that keeps each turn in a ring of n of the marks has at any
-/// time the world of the inputs that it knows.
+/// acts, those with a bad or an empty mark included. So a script that keeps each turn in a ring of n of the marks, and learns
+/// each input within n turns, has at any time the world of the inputs that it knows.
 pub fn marks_are_a_machine_of_slots()
     ensures play { (m : Marked) (command : Command) → of_marks (marked_after m (Plain command)) ≡ acted (of_marks m) (Play command) }
     ensures save { (m : Marked) (k : ℕ) → length m.marks ≡ 8 → of_marks (marked_after m (Mark k)) ≡ acted (of_marks m) (Save k) }

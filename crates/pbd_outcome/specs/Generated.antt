@@ -39,7 +39,7 @@ level_cloth size = record {
   bend_tear = pos 0;
 }
 
--- the sphere under its middle
+-- the sphere under it, half a spacing past its middle both ways
 abbrev pub middle_sphere : ℕ → Sphere
 middle_sphere size = record { centre = vector (pos (3277 * size)) (pos 0) (pos (3277 * size)); radius = pos 32768 }
 
@@ -105,7 +105,7 @@ sums_line s = line (codes "sums" ∷ decimal s.steps ∷ decimal s.live ∷ deci
     ∷ signed_decimal (axis s.at 0) ∷ signed_decimal (axis s.at 1) ∷ signed_decimal (axis s.at 2)
     ∷ signed_decimal (axis s.before 0) ∷ signed_decimal (axis s.before 1) ∷ signed_decimal (axis s.before 2) ∷ [])
 
--- the reply to the steps
+-- the first line, and the reply to the steps
 abbrev pub summary_head : ℕ → ℕ → World → Reply → List ℕ
 summary_head number size w reply = large_line number size ++ text w reply
 

@@ -31,7 +31,7 @@ status_number TooManyScenes = 15
 abbrev pub error_line : List (List ℕ) → List ℕ
 error_line words = line (codes "error" ∷ words)
 
--- the line of a status that has always the same
+-- the line of a status that has always the same, and nothing for any other
 abbrev pub status_line : Status → List ℕ
 status_line Usage = error_line (codes "1" ∷ codes "Usage" ∷ [])
 status_line ReadFault = error_line (codes "2" ∷ codes "ReadFault" ∷ [])

@@ -58,8 +58,9 @@ pub fn a_recorded_log_replays_alike()
     recorded_sessions_replay_alike();
 }
 
-/// A log of version 1 doesn't say its limit, which is 268,435,456. Where its scene is accepted with it, `replay` at every width
-/// has the outcome of its entries, replayed from the world that the scene opens, and that world has this limit.
+/// A log of version 1 doesn't say its limit, which is 268,435,456. Where the log has at most 134,217,728 bytes, and its scene is
+/// accepted with this limit, `replay` at every width has the outcome of its entries, replayed from the world that the scene
+/// opens, and that world has this limit.
 pub fn an_old_log_replays_with_its_own_limit()
     ensures outcome { (width : Width) (input scene : List ℕ) (entries : List Entry) (parts : Parts)
         → length input ≤ 134217728 → Spells input 1 old_limit scene entries → scene_in old_limit scene ≡ Ok parts

@@ -18,7 +18,7 @@ pub enum Status {
     WriteFault,
     /// The input is longer than the form allows.
     InputTooLong,
-    /// No line of the input is `%%`, or of a host's `%%%`.
+    /// No line of the input is `%%`, or of a host's `%%%`; or fewer than two are `%%` of an input with a mesh.
     NoScript,
     /// The scene is no UTF-8.
     SceneNotText,
@@ -67,7 +67,7 @@ impl Status {
     }
 }
 
-/// The line of a status that has always the same.
+/// The line of a status that has always the same, and nothing for any other.
 pub fn status_line(status: Status) -> &'static str
     ensures { result.now ≡ status_line status }
 {

@@ -70,7 +70,7 @@ EndsForScene (Fault (faults.Refused rule table position key)) old new before now
     Does (scene_refused (broken_at rule table position key)) old new before now status
 EndsForScene (Fault faults.OutOfMemory) old new before now status = (status ≡ OutOfMemory) × Keeps old new
 
--- what a call does that ends a run whose mesh is refused
+-- what a call does that ends a run whose mesh is refused, or for which there was no memory
 abbrev pub EndsForMesh : ObjFault → Option (List ℕ) → Option (List ℕ) → ℕ → ℕ → Status → Type 0
 EndsForMesh mesh_faults.OutOfMemory old new before now status = (status ≡ OutOfMemory) × Keeps old new
 EndsForMesh fault old new before now status = Does (obj_refused fault) old new before now status

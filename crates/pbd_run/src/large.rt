@@ -63,7 +63,7 @@ impl Large {
         session.write_reply(reply, sink, steps)
     }
 
-    /// Takes the steps, and writes the reply to them with the sums and the ledger of the world after them.
+    /// Takes the steps, and writes the first line, the reply to the steps, and the sums and the ledger of the world after them.
     pub fn run<const L: usize, P: Projector<L> + Drop, K: Sink, G: Ledger>(
         self,
         session: &mut Session<L, P>,

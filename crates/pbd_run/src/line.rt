@@ -1,4 +1,4 @@
-//! Lines of what stops a run.
+//! Lines of what stops a run, and of a generated scene.
 ghost use Rattle.std.specs.Prelude.{◌≡◌, ◌+◌, ◌≤◌, ◌++◌, [], ◌∷◌, length, codes, decimal};
 ghost use Rattle.pbd_scene.specs.Keys.{rule_number, rule_text, table_text, key_text};
 ghost use Rattle.pbd_outcome.specs.Statuses.{broken_at, line_in, log_line, refused_line, status_line};
@@ -106,7 +106,7 @@ pub fn not_text_line_in(n: u32) -> Line
     words_in("error 6 SceneNotText", n)
 }
 
-/// The line of a scene of a host that is no TOML.
+/// The line of a scene of a host that is no TOML, or deeper or longer than is read.
 pub fn not_toml_line_in(n: u32) -> Line
     ensures { result ≡ line_in n (status_line Status.SceneNotToml) }
 {

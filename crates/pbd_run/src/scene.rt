@@ -19,7 +19,7 @@ use std::alloc::Global;
 pub enum SceneStop {
     /// They are no UTF-8.
     NotText,
-    /// They are no TOML, or they break a rule, or memory ran out.
+    /// They are no TOML, or deeper or longer than is read, or they break a rule, or memory ran out.
     Fault(SceneFault),
 }
 

@@ -43,7 +43,7 @@ accesses (Read k) = 2
 accesses (WriteA k) = 1
 accesses (WriteB k) = 1
 
--- how many events book moves
+-- how often an event books moves
 abbrev pub bookings : Event → ℕ
 bookings (Read k) = 0
 bookings (WriteA k) = 0

@@ -16,7 +16,7 @@ pub enum EventFault {
     /// The events are not legal. Event `at`, from 0, is the first with which they begin no legal list; where they are
     /// only cut short, it is their number.
     BadEvent { at: u32 },
-    /// Bond `element` is the first of the batch that would move an end out of the store's limit.
+    /// The bond whose number is `element` is the first of the batch that would move an end out of the store's limit.
     Left { element: u32 },
 }
 

@@ -30,7 +30,7 @@ pub fn legal_interleavings_agree_with_the_drawn_one()
         ≡ interleaved limit (bond_of bonds) batch (drawn words (length batch)) before }
 {}
 
-/// All reads, then all writes of first ends, then all writes of second ends: the order of lanes is legal.
+/// All reads, then all writes of first ends, then all writes of second ends: the order of bonds side by side is legal.
 pub fn reads_then_writes_are_legal()
     ensures { (m : ℕ) → IsLegal m (reads_then_writes m) }
 {}

@@ -81,7 +81,7 @@ pub(crate) fn count_bonds<const L: usize>(store: &Store<L>, bonds: Bonds<'_>, ba
 /// They are legal where each bond's three events come once each, in the order `Read`, `WriteA`, `WriteB`; those of
 /// different bonds are mixed freely. Legal events do what the bonds do one by one, in the batch's order.
 /// After `BadEvent` the store and the totals are as before. After `Left` the places and the totals are any, and all
-/// else is as it was.
+/// else of the store is as it was.
 pub fn run_events<const L: usize, G: Ledger>(
     notes: &mut Notes,
     store: &mut Store<L>,

@@ -72,7 +72,7 @@ impl ScrambleProjector {
     /// Projects a batch by events that are drawn, as its bonds do one by one in the batch's order.
     ///
     /// `Left` has the number of the first bond that would move an end out of the store's limit. The places and
-    /// the totals are then any, and all else is as it was.
+    /// the totals are then any, and all else of the store is as it was.
     pub fn project_drawn<G: Ledger>(
         &mut self,
         store: &mut Store<1>,

@@ -37,7 +37,7 @@ pub(crate) struct Most {
     pub(crate) bonded: u128,
 }
 
-/// The first total that is too large.
+/// The first total that is too large, of all but the pin total.
 #[tactic(auto, unfolding(crate::specs::Soundness::totals_checked))]
 fn check_totals(most: &Most, totals: &Totals) -> Result<(), Unsound>
     ensures { result ≡ totals_checked most.now.any most.now.damped most.now.bonded (ledger_of totals.now) }

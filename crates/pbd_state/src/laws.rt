@@ -22,7 +22,7 @@ pub fn equal_worlds_have_equal_digests()
     ensures { EqualWorldsAgree }
 {}
 
-/// Where the words of two worlds differ in exactly one, their checksums differ. Those of equal worlds are equal.
+/// Where the words of two sound worlds differ in exactly one, their checksums differ. Those of equal worlds are equal.
 pub fn one_word_shows()
     ensures shows { OneWordShows }
     ensures equal { EqualWorldsSumAlike }

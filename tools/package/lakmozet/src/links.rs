@@ -20,7 +20,7 @@ pub struct Link {
     pub tear_length: Option<i64>,
     /// How much of its error one projection takes away, in 256ths, at most 256.
     pub stiffness: u16,
-    /// What it is in a mesh.
+    /// What it is in a cloth, a rope or a mesh.
     pub kind: LinkKind,
     /// Whether it is still there, neither cut nor torn.
     pub live: bool,
