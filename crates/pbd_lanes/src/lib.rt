@@ -1,4 +1,4 @@
-//! L whole numbers, or L truth values, side by side. L is one of 1, 2, 4, 8 and 16.
+//! L whole numbers, or L truth values, side by side. The contracts hold for any L; the program has 1, 2, 4, 8 and 16.
 #![tactic(auto)]
 
 ghost use Rattle.std.specs.Prelude.{◌≡◌, ℕ, ◌<◌, ◌&&◌, if◌then◌else◌, position, IfSome};

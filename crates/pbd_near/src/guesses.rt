@@ -1,20 +1,21 @@
-//! Guesses of lengths and of what one unit of an error is of them. Each loop brings what it reads into range, so that it is
-//! safe whatever the loop before it wrote, and nothing else is said of what it writes.
+//! Guesses of lengths, and of their errors over them. Each loop brings what it reads into range, so that it is safe whatever
+//! the loop before it wrote, and nothing else is said of what it writes.
 ghost use Rattle.std.specs.Prelude.{◌<◌, ◌≤◌, ◌≤ℤ◌, pos, neg_ℤ, unsigned_abs};
 
 use crate::products::{low15, product, upper, upper_ten};
 use crate::ways::Ways;
 use pbd_num::CHUNK;
 
-/// Of one bond: twice the shift that makes its square a number of 31 or 32 bits, and 2^14 over the root of the square's upper
-/// 16 bits so shifted.
+/// Of one bond: the even shift that makes its square, unless that is 0, a number of 31 or 32 bits, and a number near 2^22 over
+/// the root of the square's upper 16 bits so shifted.
 #[derive(Clone, Copy)]
 struct Seed {
     up: u32,
     inverse: i32,
 }
 
-/// Of one bond: the shift of its square, its length, and the error of its length over its length, times 2^17 (and shifted).
+/// Of one bond: the shift of its square, its length, and the error of its length over its length, times 2^17 and shifted down
+/// by half of that shift.
 #[derive(Clone, Copy)]
 pub(crate) struct Guess {
     pub(crate) up: u32,
@@ -41,7 +42,7 @@ fn step(r: i32, y: i32) -> i32
     upper(r * y)
 }
 
-// A polynomial of the fourth degree, that is wrong by 0.2 % at most.
+// A polynomial of the fourth degree, that is wrong by 0.22 % at most.
 #[inline(always)]
 fn seed_of(square: u32) -> Seed {
     let up = (square | 1).leading_zeros() & 30;

@@ -18,7 +18,7 @@ use pbd_num::Row;
 use shares::pull_of;
 use ways::Ways;
 
-/// The columns of a chunk, in which each loop finds what those before it wrote. They are for the stack of who projects bonds.
+/// The columns of a chunk, in which each loop finds what those before it wrote. Who projects bonds keeps them for the next chunk.
 #[derive(Clone, Copy)]
 pub struct Near {
     ways: Ways,
@@ -74,11 +74,12 @@ impl Near {
 
     /// What bonds move their second ends by, where the way of a bond leads from its second end to its first, and each move is
     /// the part `factor` / 512 of how far the way is from the length `rest`: that is the move of one of two free ends of one
-    /// weight, with half of `factor` as stiffness, and of a free end beside a held one with a quarter of it. Where `contact` is
-    /// set, a bond that isn't shorter than its rest length does nothing.
+    /// weight, with `factor` as stiffness, and of a free end beside a held one with half of it. Where `contact` is set, a bond
+    /// that isn't shorter than its rest length does nothing.
     ///
     /// A move with a flag other than 0 may be anything, and the answer is true exactly where there is none: flagged are
-    /// bonds from half a metre up (32,768 units), those of length 0, and those with a factor of -1.
+    /// bonds from half a metre up (32,768 units), those of length 0, those with a factor of -1, and those of which a guess
+    /// fails its test.
     pub fn run(
         &mut self,
         ways: &[Row],

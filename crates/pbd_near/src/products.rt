@@ -11,7 +11,7 @@ pub(crate) fn square_of(x: i32) -> u32
     (x * x) as u32
 }
 
-/// A product of a number of 16 bits and one of 17.
+/// The product of a number within 2^15 and one that is less than 2^16 in size.
 #[inline(always)]
 pub(crate) fn product(a: i32, b: i32) -> i32
     requires a { unsigned_abs a ≤ 32768 }
@@ -38,7 +38,7 @@ pub(crate) fn upper_ten(x: i32) -> i32
     x >> 22
 }
 
-/// The low 15 bits: the number itself where it is less than 2^15.
+/// The low 15 bits: the number itself where it is from 0 up, and less than 2^15.
 #[inline(always)]
 pub(crate) fn low15(x: i32) -> u32
     ensures { result ≤ 32767 }

@@ -1,6 +1,6 @@
-// Guesses of roots, and of quotients by them, by products and shifts of whole numbers alone (docs/SPEED.md has how they are
-// made). An exact test stands behind each, so nothing is said of a guess but its size. Products are of the low 32 bits of
-// numbers, so that what lies above them needs no bound.
+// Guesses of roots, and of quotients by them, by products, sums and shifts of whole numbers, without a division
+// (docs/SPEED.md has why). An exact test stands behind each, so nothing is said of a guess but its size. Products are of the
+// low 32 bits of numbers, so that what lies above them needs no bound.
 ghost use Rattle.std.specs.Prelude.{◌<◌, ◌≤◌, ◌^◌, ◌+◌, pos, ◌<ℤ◌, ◌≤ℤ◌};
 
 use crate::vectors::square;
@@ -12,7 +12,7 @@ fn low(n: u64) -> u64
     n & 4_294_967_295
 }
 
-/// The product of the low 32 bits of two numbers: one instruction in lanes.
+/// The product of the low 32 bits of two numbers: one instruction, for vectors too.
 #[inline(always)]
 fn product(a: u64, b: u64) -> u64
     ensures { result + 2 ^ 32 ≤ 2 ^ 64 }
@@ -28,8 +28,8 @@ fn high_product(a: u64, b: u64) -> u64
     product(a, b) >> 32
 }
 
-/// The high 32 bits of a number that is shifted left by an even count, so that one of the two highest is set, and half of
-/// that count.
+/// The high 32 bits of a number that is shifted left by an even count, so that one of the two highest is set unless it is 0,
+/// and half of that count.
 #[derive(Clone, Copy)]
 struct Raised {
     high: u64,
@@ -54,7 +54,7 @@ fn nearer(high: u64, inverse: u64) -> u64 {
 }
 
 /// A number near 2^29 / root(high / 2^32), where one of the two highest of 32 bits is set: by the polynomial of degree 3
-/// that is within 0.7 % of it there, each coefficient of it 2^32 more, and two steps.
+/// that is within 0.71 % of it there, each coefficient but the highest 2^32 more, and two steps.
 #[inline(always)]
 fn near_inverse_root(high: u64) -> u64 {
     let third = high_product(high, 1_309_134_401);
@@ -63,7 +63,8 @@ fn near_inverse_root(high: u64) -> u64 {
     nearer(high, nearer(high, 5_965_910_466 - first))
 }
 
-/// A number near a root, at most one below it and hardly ever above it, and one near 2^61 / (root * 2^half).
+/// A number near a root, and one near 2^61 / (root * 2^half). Of a root below 2^24 it is at most one below it, and hardly ever
+/// above it; of a greater one it may be wrong by more.
 #[derive(Clone, Copy)]
 pub(crate) struct NearRoot {
     pub(crate) root: i64,
@@ -85,7 +86,7 @@ fn lowered(n: i64, guess: u64) -> i64
     }
 }
 
-/// A number near the root of `n`, nearly always right where that is below 2^24.
+/// A number near the root of `n`, nearly always right where that is below 2^24; where `n` is 2^62 or more, it may be any.
 #[inline(always)]
 pub(crate) fn near_root(n: i64) -> NearRoot
     ensures low { pos 0 ≤ℤ result.root }

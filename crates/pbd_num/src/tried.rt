@@ -1,6 +1,6 @@
-//! The moves of two ends without a division of whole numbers and without a branch, so that a loop over bonds becomes one
-//! over lanes. A length and the parts of its error are guessed, nearly always right, and an exact test stands behind each
-//! guess.
+//! The moves of two ends without a division but by powers of two, where each `if` only picks one of two numbers, so that the
+//! compiler can make vectors of a loop over bonds. A length and the parts of its error are guessed, nearly always right where
+//! both are below 2^20, and an exact test stands behind each guess.
 ghost use Rattle.std.specs.Prelude.{◌≡◌, ◌<◌, ◌≤◌, ◌^◌, ◌+◌, ◌-◌, ◌*◌, ◌/◌, pos, ◌+ℤ◌, ◌-ℤ◌, ◌*ℤ◌, ◌<ℤ◌, ◌≤ℤ◌, IsTrue, unsigned_abs, FitsSigned};
 ghost use Rattle.std.specs.Int.{w32};
 ghost use Rattle.pbd_num.specs.Rounding.{rdiv as rounded, root as whole_root};
@@ -95,7 +95,8 @@ fn is_quotient(n: i64, length: i64, q: i32) -> bool
     (0 <= raised) & (raised < length)
 }
 
-/// What is added to a product before it is divided by 512: half of that, and 2^41 so that it isn't below 0.
+/// A product with what is added before it is divided by 512: half of that, or one less where the product is below 0, and 2^41
+/// so that the sum isn't below 0.
 #[inline(always)]
 fn raise(p: i64) -> i64
     requires { unsigned_abs p ≤ 2 ^ 40 }
@@ -172,7 +173,7 @@ impl Way {
         product(self.x, self.x) + product(self.y, self.y) + product(self.z, self.z)
     }
 
-    /// The length, rounded down.
+    /// The length, rounded down: guessed, and exact only where it is above 0.
     #[inline(always)]
     fn try_length(self) -> TriedLength
         requires x { unsigned_abs self.x ≤ 2 ^ 30 }
@@ -230,7 +231,7 @@ struct TriedPart {
 }
 
 impl Stretch {
-    /// What the factor `f` / 512 leaves of the error along one axis.
+    /// The part `f` / 512 of the error along one axis, guessed.
     #[inline(always)]
     fn try_part(self, axis: i32, f: i32) -> TriedPart
         requires low { pos 0 ≤ℤ self.length }
@@ -251,7 +252,7 @@ impl Stretch {
 }
 
 impl Weights {
-    /// Whether one end is held and the other is not, or both have one weight.
+    /// Whether one end is held and the other is not, or both are free and have one weight.
     #[inline(always)]
     fn are_even(self) -> bool
         requires first_low { pos 0 ≤ℤ self.first }

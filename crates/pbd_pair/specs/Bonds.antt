@@ -25,7 +25,7 @@ bond_count (Contacts pairs thickness) = length pairs.now
 bond_count (LaidLinks links laid) = length links.now
 bond_count (LaidContacts pairs thickness laid) = length pairs.now
 
--- a limit of at most 2^29
+-- a limit in 0..=2^29
 pub record IsBound (limit : ℤ) : Type 0 where
   pub low : pos 0 ≤ℤ limit
   pub high : limit ≤ℤ pos (2 ^ 29)

@@ -115,7 +115,7 @@ pub record AreSized (n : ℕ) (between : Lying) : Type 0 where
   pub second_low : (j : ℕ) → j < n → pos 0 ≤ℤ number_in between.second_weight j
   pub second_high : (j : ℕ) → j < n → number_in between.second_weight j ≤ℤ pos 65535
 
--- f / 512 is the share of a free end of a bond whose weights are even, and f is below 0 where the bond isn't short
+-- f / 512 is the share of a free end, and f is below 0 where the bond isn't short, or both ends are free and their weights differ
 pub record HoldsFactor (b : Bond) (first second f : ℤ) : Type 0 where
   pub low : neg_ℤ (pos 1) ≤ℤ f
   pub high : f ≤ℤ pos 512
@@ -188,7 +188,7 @@ pub record AreMoved (bond : ℕ → Bond) (numbers : List ℕ) (between : Lying)
   pub each : (j : ℕ) → j < length numbers → IsMoved (vector_of (row_in between.ways j)) (number_in between.first_weight j)
       (number_in between.second_weight j) (bond (slice_index_or numbers j 0)) (row_in back j) (row_in forth j)
 
--- one of two ends is held
+-- at least one of two ends is held
 abbrev pub has_held : ℤ → ℤ → Bool
 has_held first second = int_le first (pos 0) || int_le second (pos 0)
 
@@ -271,14 +271,14 @@ pub record AreExact (found : Found) (moves : List EndMoves) : Type 0 where
 abbrev pub unplaced : Vec3 → Vec3 → Shift
 unplaced first second = record { first = zero_vector; second = zero_vector; first_move = first; second_move = second }
 
--- the entries of the bond with number j in a chunk
+-- the entries of bond j of a chunk
 abbrev pub entries_in : Found → List EndMoves → ℕ → List Entry
 entries_in found moves j = entries_of (int_le (number_in (lying_in found).first_weight j) (pos 0))
     (int_le (number_in (lying_in found).second_weight j) (pos 0))
     (class_of (bond_of found.chunk.bonds (slice_index_or found.chunk.numbers.now j 0)))
     (unplaced (moves_in moves j).first (moves_in moves j).second)
 
--- the columns of a chunk have as many rows as it has bonds, and hold their rest lengths and factors
+-- the columns of a chunk have a row for each of its bonds, and hold their rest lengths and factors, and ways and weights in range
 pub record AreInColumns (found : Found) : Type 0 where
   pub rest_long : length found.chunk.numbers.now ≤ length found.laid.rest.now
   pub factor_long : length found.laid.factor.now ≡ length found.chunk.numbers.now

@@ -47,8 +47,8 @@ factor_of b first second =
     else if are_free first second then b.k
     else pos 2 *ℤ b.k
 
--- the stiffness of a bond whose ends have these weights, as both of them share its correction; 0 where both are held, and -1 where its
--- rest length is 16,384 or more
+-- the stiffness of a bond whose ends have these weights, as both of them share its correction; -1 where its rest length is 16,384 or
+-- more, and else 0 where both are held
 unfoldable pub stiffness_of : Bond → ℤ → ℤ → ℤ
 stiffness_of b first second =
     if int_le (pos 16384) b.rest then neg_ℤ (pos 1)
@@ -171,14 +171,14 @@ laid_at ls j = record {
   second_weight = number_in ls.second_weight j;
 }
 
--- the rows are the laid bonds of some numbers, where the particles have these effective weights
+-- the first rows are the laid bonds of some numbers, where the particles have these effective weights
 pub record AreLaid (bond : ℕ → Bond) (weight : ℕ → ℕ) (numbers : List ℕ) (ls : Lists) : Type 0 where
   pub even : AreEven ls
   pub long : length numbers ≤ length ls.first
   pub each : (j : ℕ) → j < length numbers → laid_at ls j ≡ laid_bond (bond (slice_index_or numbers j 0))
       (pos (weight (bond (slice_index_or numbers j 0)).a)) (pos (weight (bond (slice_index_or numbers j 0)).b))
 
--- the bonds of some numbers can be laid: each is one of particles that have a weight
+-- the bonds of some numbers can be laid: each is there and firm, and its particles have a weight
 pub record AreLayable (bonds : Bonds) (numbers weights : List ℕ) : Type 0 where
   pub known : (j : ℕ) → j < length numbers → slice_index_or numbers j 0 < bond_count bonds
   pub firm : (j : ℕ) → j < length numbers → IsFirm (bond_of bonds (slice_index_or numbers j 0))
@@ -211,7 +211,7 @@ laid_in (LaidContacts pairs thickness laid) = Some laid
 abbrev pub weight_in : List Particle → ℕ → ℕ
 weight_in ps i = effective_weight (particle_at ps i)
 
--- columns, where there are some, are those of the batch, row by row
+-- columns are those of the batch, row by row
 pub record AreOfBatch (bond : ℕ → Bond) (batch : List ℕ) (ps : List Particle) (l : Laid) : Type 0 where
   pub exact : length l.first.now ≡ length batch
   pub laid : AreLaid bond (weight_in ps) batch (lists_of l)

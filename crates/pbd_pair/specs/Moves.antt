@@ -40,7 +40,7 @@ abbrev pub settled : (ℕ → List Entry) → ℕ → Ledger → Ledger
 settled entries zero t = t
 settled entries (suc n) t = booked (settled entries n t) (entries n)
 
--- what n bonds move the free ends of those with a held one by
+-- what the first n of some moves come to together
 abbrev pub moved_below : (ℕ → Vec3) → ℕ → Vec3
 moved_below move zero = zero_vector
 moved_below move (suc n) = plus (moved_below move n) (move n)

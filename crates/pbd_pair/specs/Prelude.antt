@@ -1,4 +1,4 @@
--- The words of other crates that most clauses of this crate name, passed on from one place. Declares nothing.
+-- Words of other crates that clauses of this crate name, passed on from one place. Declares nothing.
 pub use Rattle.pbd_num.specs.Rows.{vector_of}
 pub use Rattle.pbd_num.specs.Vectors.{minus, opposite, plus, Within}
 pub use Rattle.pbd_world.specs.Bonds.{class_of}

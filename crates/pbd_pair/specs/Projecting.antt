@@ -28,7 +28,8 @@ pub record IsBatch (limit : ℤ) (n : ℕ) (bonds : Bonds) (batch : List ℕ) : 
   pub bond : (i : ℕ) → i < length batch → IsBond limit n (bond_of bonds (slice_index_or batch i 0))
   pub apart : AreApart (bond_of bonds) batch
 
--- 1 to l bonds can be projected together: no two have a common particle, the store is sound, and the ledger has room
+-- 1 to l bonds can be projected together: no two have a common particle, the store's places and weights are in range, and the ledger
+-- has room
 pub record CanProject (l : ℕ) (bonds : Bonds) (block : List ℕ) (s : Stored) (t : Totals) : Type 0 where
   pub bound : IsBound s.limit
   pub short : length block ≤ l
@@ -38,17 +39,17 @@ pub record CanProject (l : ℕ) (bonds : Bonds) (block : List ℕ) (s : Stored) 
   pub weights : Weigh s.particles
   pub room : HaveRoom (2 ^ 124) (ledger_of t)
 
--- what the bonds of a block come to one by one
+-- what the bonds of a chunk come to one by one
 abbrev pub projected_block : Bonds → List ℕ → Stored → Totals → Result Motion ℕ
 projected_block bonds block s t = projected s.limit (bond_of bonds) block (motion_of s t)
 
--- the bonds of a block have moved and were booked as one by one, or the one that is named leaves the limit so
+-- the bonds of a chunk have moved and were booked as one by one, or the one that is named leaves the limit so
 abbrev pub ComesTo : {T : Type 0} → Bonds → List ℕ → Stored → Stored → Totals → Totals → Result T Left → Type 0
 ComesTo bonds block old new t u result = MatchResult result
     (λ _. projected_block bonds block old t ≡ Ok (motion_of new u))
     (λ left. projected_block bonds block old t ≡ Err left.element)
 
--- n bonds leave the places within the limit, and add little to the ledger
+-- n bonds keep the places within the limit, and add little to the ledger
 pub record StaysSound (n : ℕ) (old new : Stored) (t u : Totals) : Type 0 where
   pub inside : AreInside old.limit new.particles
   pub room : (k : ℕ) → HaveRoom k (ledger_of t) → HaveRoom (k + n * 2 ^ 32) (ledger_of u)

@@ -5,8 +5,8 @@ ghost use Rattle.pbd_world.specs.Bonds.{link_bond, contact_bond};
 use crate::laid::Laid;
 use pbd_world::{Bond, Link};
 
-/// Links, or contacts: pairs of particles that are to be at least a thickness apart. With the columns of a batch of them, or
-/// without.
+/// Links, or contacts: pairs of particles that are to be at least `thickness` apart, in units of 1/65,536 metre. With the
+/// columns of a batch of them, or without.
 #[derive(Clone, Copy)]
 pub enum Bonds<'a> {
     Links(&'a [Link]),

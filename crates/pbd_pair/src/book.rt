@@ -25,7 +25,7 @@ fn add(totals: &mut Totals, class: Class, by: Vec3)
 }
 
 /// Adds both moves of two free ends to the total of the bond's class, or the move of the free end alone to
-/// that of pins.
+/// that of pins. Where both ends are held, nothing is added.
 pub(crate) fn book(totals: &mut Totals, held: HeldEnds, bond: Bond, shift: Shift)
     requires room { HaveRoom (2 ^ 125) (ledger_of totals.old) }
     requires first { Within (2 ^ 31) shift.first_move }

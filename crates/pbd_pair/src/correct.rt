@@ -96,8 +96,8 @@ pub(crate) fn stays(shift: Shift, limit: i64) -> bool
     first & second
 }
 
-/// What a bond does with its two ends: nothing where a contact is long enough. Else each end moves its
-/// share of the way to the rest length (Müller and others 2007, Jakobsen 2001), unless that leaves the limit.
+/// What a bond does with its two ends: nothing where a contact is long enough. Else each end moves by its share of the
+/// correction toward the rest length (Müller and others 2007, Jakobsen 2001), unless that leaves the limit.
 #[tactic(auto, unfolding(pbd_world::specs::Bonds::correction_of), using(pbd_num::proofs::Ranges::wider, crate::proofs::Ranges::rest_fits))]
 pub(crate) fn correct(limit: i64, p: End, q: End, bond: Bond) -> Correction
     requires limit { IsBound limit }

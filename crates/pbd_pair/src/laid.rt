@@ -50,7 +50,7 @@ pub struct BondColumns {
     second_weight: Vec<i32>,
 }
 
-// A rest length as 32-bit numbers go by it: up to a fourth of a metre.
+// A rest length as 32-bit numbers go by it: less than a fourth of a metre, 16,383 units at most.
 #[inline(always)]
 fn short_rest(rest: i64) -> i32
     requires { pos 0 ≤ℤ rest }
@@ -59,8 +59,8 @@ fn short_rest(rest: i64) -> i32
     rest.min(16_383) as i32
 }
 
-// The factor of a bond: its stiffness where both ends are free and have one weight, twice that beside a held end, and -1
-// where the weights differ or the rest length is a fourth of a metre or more.
+// The factor of a bond: -1 where the rest length is a fourth of a metre or more, or both ends are free and their weights
+// differ; else its stiffness where both ends are free, and twice that where one is held, or both are.
 #[inline(always)]
 #[tactic(auto, unfolding(crate::specs::Laid::factor_of))]
 fn factor_of(bond: Bond, first: i32, second: i32) -> i32
@@ -78,7 +78,7 @@ fn factor_of(bond: Bond, first: i32, second: i32) -> i32
     }
 }
 
-// The stiffness that both ends share: none where both are held, and -1 where the rest length is a fourth of a metre or more.
+// The stiffness that both ends share: -1 where the rest length is a fourth of a metre or more, and else 0 where both are held.
 #[inline(always)]
 #[tactic(auto, unfolding(crate::specs::Laid::stiffness_of))]
 fn stiffness_of(bond: Bond, first: i32, second: i32) -> i32
@@ -95,8 +95,8 @@ fn stiffness_of(bond: Bond, first: i32, second: i32) -> i32
     }
 }
 
-// 2^30 times the first end's part of a correction. It is a little too much, so that where a share lies between two whole numbers
-// the guess is the upper one, as rounding has it.
+// 2^30 times the first end's part of a correction. It is a little too much, but 2^30 at most, so that where a share lies halfway
+// between two whole numbers the guess is the upper one, as rounding has it.
 #[inline(always)]
 #[tactic(auto, unfolding(crate::specs::Laid::portion_of))]
 fn portion_of(bond: Bond, first: i32, second: i32) -> i32

@@ -1,4 +1,4 @@
-//! Batches of bonds, projected one by one or in lanes.
+//! Batches of bonds, projected one by one or in chunks of up to 128.
 #![tactic(auto)]
 
 mod bonds;

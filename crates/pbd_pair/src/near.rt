@@ -36,7 +36,8 @@ pub(crate) enum Told {
 #[derive(Clone, Copy)]
 pub(crate) struct NearMoves {
     near: Near,
-    /// The moves of the second ends, where no end is held.
+    /// A row of each bond: the move of its second end where that is free, and else the opposite of that of its first; for
+    /// unequal weights the whole correction, which is shared then.
     moves: [Row; CHUNK],
     /// The opposites of the moves of the first ends.
     back: [Row; CHUNK],
@@ -245,7 +246,7 @@ impl NearMoves {
         })
     }
 
-    // Tells the moves of a chunk's bonds by rows, side by side, if all of them come out right so.
+    // Tells the moves of a chunk's bonds by rows: of all of them, or else of some.
     fn tell(&mut self, found: &Found<'_>) -> Told
         requires known { AreKnown found.now.chunk.bonds found.now.chunk.numbers.now }
         requires columns { AreInColumns found.now }
@@ -264,7 +265,7 @@ impl NearMoves {
         Told::InPart
     }
 
-    /// Projects a chunk of bonds: side by side where the moves of all of them come out right so, else one by one.
+    /// Projects a chunk of bonds: side by side where rows tell the moves of all of them, else one by one.
     pub(crate) fn project<const L: usize, G: Ledger>(
         &mut self,
         store: &mut Store<L>,

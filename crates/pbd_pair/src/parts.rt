@@ -48,7 +48,7 @@ pub fn read_bond<const L: usize, G: Ledger>(
 }
 
 /// Adds both moves of two free ends to the total of the bond's class, or the move of the free end alone to
-/// that of pins.
+/// that of pins. Where both ends are held, nothing is added.
 pub fn book_moves(totals: &mut Totals, note: Note, bond: Bond, shift: Shift)
     requires room { HaveRoom (2 ^ 125) (ledger_of totals.old) }
     requires first { Within (2 ^ 31) shift.first_move }

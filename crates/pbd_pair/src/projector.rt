@@ -11,8 +11,8 @@ use pbd_store::{Steps, Store};
 use pbd_world::{Left, Totals};
 use std::sync::ledger::Ledger;
 
-/// What projects batches of constraints: bonds of which no two share a particle, so that the order within a batch
-/// has no effect, as between the colours of a Gauss-Seidel sweep.
+/// What projects batches of constraints: bonds of which no two share a particle, as those of one colour in a Gauss-Seidel
+/// sweep, so that the order within a batch has no effect but on which bond `Left` names.
 pub trait Projector<const L: usize> {
     /// Its lane width.
     ghost width: { Self → ℕ };
@@ -33,7 +33,7 @@ pub trait Projector<const L: usize> {
     /// Projects a batch as its bonds do one by one, in the batch's order.
     ///
     /// `Left` has the number of the first bond that would move an end out of the store's limit. The places and
-    /// the totals are then any, and all else is as it was. Columns that come with the bonds are those of the batch.
+    /// the totals are then any, and all else of the store is as it was. Columns that come with the bonds are those of the batch.
     fn project<G: Ledger>(
         &mut self,
         store: &mut Store<L>,

@@ -54,7 +54,7 @@ fn has_held(first: i32, second: i32) -> bool
     (first <= 0) | (second <= 0)
 }
 
-/// MoveSums what the ends of a chunk's bonds move by: `back` are the opposites of the moves of the first ends, and `forth` the
+/// Sums what the ends of a chunk's bonds move by: `back` are the opposites of the moves of the first ends, and `forth` the
 /// moves of the second ends. They come to at most 2^30, so that 32 bits hold them.
 #[inline(never)]
 pub(crate) fn sums_of(found: &Found<'_>, back: &[Row; CHUNK], forth: &[Row; CHUNK]) -> MoveSums

@@ -80,7 +80,7 @@ fn low8(both: i32) -> u32
     both.cast_unsigned() % 256
 }
 
-// What the first end's share leaves for both, in 256, and a whole.
+// What the first end's share leaves of that of both, in 256, and a whole.
 #[inline(always)]
 fn left_for_both(pulled: u32, share: u32) -> i32
     requires pulled { pulled ≤ 2 ^ 24 }
@@ -113,7 +113,8 @@ fn signed(axis: i32, share: i32) -> i32
 }
 
 impl Portion {
-    // What the first end's share leaves of its part of `pulled`: from 0 up and less than 256 * `total` where the share is right.
+    // What the first end's share leaves of its part of `pulled`, and a half: from 0 up and less than 256 * `total` where the
+    // share is right.
     #[inline(always)]
     fn left(self, pulled: u32, share: u32) -> i64
         requires portion { IsPortion self }

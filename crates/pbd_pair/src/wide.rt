@@ -123,7 +123,8 @@ fn put_pulls(chunk: &Chunk<'_>, pulls: &mut [Pull; CHUNK])
     }
 }
 
-// The moves of the bonds. It has no branch, and reads through slices of its own, so that it is a loop over lanes.
+// The moves of the bonds. True where no row is flagged. Each `if` in it only picks one of two numbers, and it reads through slices
+// of its own, so that the compiler can make vectors of it.
 #[inline(never)]
 fn put_rows(found: &Found<'_>, pulls: &[Pull; CHUNK], rows: &mut [Row; CHUNK]) -> bool
     requires known { AreKnown found.now.chunk.bonds found.now.chunk.numbers.now }
@@ -227,7 +228,7 @@ pub(crate) fn least_of(numbers: &[i32]) -> i32
     least
 }
 
-/// Tries the moves of a chunk's bonds in 64-bit numbers. True where all of them are exact.
+/// Tries the moves of a chunk's bonds in 64-bit numbers. True where all of them are exact and short.
 pub(crate) fn try_wide(found: &Found<'_>, rows: &mut [Row; CHUNK]) -> bool
     requires known { AreKnown found.now.chunk.bonds found.now.chunk.numbers.now }
     requires columns { AreInColumns found.now }
@@ -240,7 +241,7 @@ pub(crate) fn try_wide(found: &Found<'_>, rows: &mut [Row; CHUNK]) -> bool
     put_pulled_rows(found, rows)
 }
 
-/// Whether the first of a chunk's bonds is longer than the loops of 32-bit numbers go, so that they needn't be tried.
+/// Whether the first of a chunk's bonds is on one axis longer than the loops of 32-bit numbers go, so that they needn't be tried.
 #[inline(always)]
 pub(crate) fn begins_long(found: &Found<'_>) -> bool {
     let way = found.ways[0];
