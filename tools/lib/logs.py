@@ -19,7 +19,7 @@ def commands():
     table = {}
     for words, byte, numbers in ROW.findall(text[start:text.index("| answer | bytes |", start)]):
         kinds = "".join(KINDS[kind] for kind in re.findall(r"three i64|u64|i64", numbers))
-        # (of a line of no form all words tell it, and of a command the first)
+        # (of a line that is no command all words tell it, and of a command the first)
         table[int(byte, 16)] = (words if words.startswith("a line") else words.split()[0], kinds)
     return table
 

@@ -56,7 +56,8 @@ pub struct Stop {
     pub field: u8,
 }
 
-/// What a log keeps of a world: counts, and the sums of the places over all particles, in units of 1/65,536 metre.
+/// What a log keeps of a world: counts, and the sums of the places and the places before over all particles, in units of 1/65,536
+/// metre.
 #[repr(C)]
 #[derive(Clone, Copy)]
 pub struct Sums {

@@ -88,7 +88,7 @@ impl Cloth {
         go_back(&mut self.playing, &self.kept[slot as usize]);
     }
 
-    /// What a log keeps of the world: counts, and the sums of the places over all particles.
+    /// What a log keeps of the world: counts, and the sums of the places and the places before over all particles.
     pub fn sums(&self) -> FrameSums
         ensures value { result ≡ frame_sums self.now.world }
         ensures sound { AreSlots self.now.world self.now.slots }

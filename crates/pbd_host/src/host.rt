@@ -91,8 +91,8 @@ impl<const L: usize, P: Projector<L> + Drop> Host<L, P> {
     /// printed line by one call of `write`. Of a blank line it writes nothing, and of a bad tag that it is refused: both
     /// change nothing, and a command changes the world of its session alone.
     ///
-    /// `Failed` comes only where the sink's count of faults rose. Then a prefix of the line's text was appended, and
-    /// the worlds are those after the line.
+    /// `Failed` comes only where the sink's count of faults rose, or stands at 2^64 - 1. Then a prefix of the line's text was
+    /// appended, and the worlds are those after the line.
     #[tactic(auto, unfolding(crate::specs::Hosted::request_text))]
     pub fn serve_line<K: Sink, G: Ledger>(
         &mut self,

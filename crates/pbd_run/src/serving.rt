@@ -39,7 +39,7 @@ pub trait Serve<S, C: LineCommand> {
 
     /// Does the commands of a script of at most 2^31 bytes, and writes their answers. How many were refused comes back.
     ///
-    /// `Failed` comes only where the sink's count of faults rose, or stands at its type's end, and then a prefix of the text was
+    /// `Failed` comes only where the sink's count of faults rose, or stands at 2^64 - 1, and then a prefix of the text was
     /// appended.
     final fn serve_script<K: Sink, G: Ledger>(
         &self,

@@ -127,7 +127,8 @@ fn write_sums<K: Sink>(sums: &[NamedTotal], prefix: &[u8], sink: &mut K) -> Resu
 
 impl<const L: usize, P: Projector<L> + Drop> Session<L, P> {
     /// Writes the lines of a reply, with frames and ledgers read from the world as it is now.
-    /// `Failed` comes only where the sink's count of faults rose, and then a prefix of these bytes was appended.
+    /// `Failed` comes only where the sink's count of faults rose, or stands at 2^64 - 1, and then a prefix of these bytes was
+    /// appended.
     pub fn write_reply<K: Sink, G: Ledger>(
         &self,
         reply: &Reply,

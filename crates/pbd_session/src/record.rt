@@ -38,8 +38,8 @@ impl<const L: usize, P: Projector<L> + Drop> Session<L, P> {
 /// Does the commands of a script of at most 2^31 bytes on the session of a scene of fewer than 2^32 bytes, and writes its
 /// log, of version 2 and with the limit of the session's world.
 ///
-/// `Failed` comes only where the sink's count of faults rose. Then a prefix of the log was appended, and the session's
-/// world is one of those that the commands lead through.
+/// `Failed` comes only where the sink's count of faults rose, or stands at 2^64 - 1. Then a prefix of the log was appended,
+/// and the session's world is one of those that the commands lead through.
 pub fn run_record<const L: usize, P: Projector<L> + Drop, K: Sink, G: Ledger>(
     session: &mut Session<L, P>,
     scene: &[u8],

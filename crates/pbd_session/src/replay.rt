@@ -20,8 +20,8 @@ use std::sync::ledger::Ledger;
 /// Replays a log from the session's world: prints the reply of each entry that agrees, and at the first that differs
 /// the line of the mismatch.
 ///
-/// `Failed` comes only where the sink's count of faults rose. Then a prefix of that text was appended, and the
-/// session's world is one of those that the log's commands lead through.
+/// `Failed` comes only where the sink's count of faults rose, or stands at 2^64 - 1. Then a prefix of that text was appended,
+/// and the session's world is one of those that the log's commands lead through.
 pub fn run_replay<const L: usize, P: Projector<L> + Drop, K: Sink, G: Ledger>(
     session: &mut Session<L, P>,
     view: LogView<'_>,

@@ -27,8 +27,8 @@ pub fn refusals(reply: &Reply) -> u64
 
 /// Does the commands of a script of at most 2^31 bytes, and writes their replies.
 ///
-/// `Failed` comes only where the sink's count of faults rose. Then a prefix of the text was appended, and the
-/// session's world is one of those that the commands lead through.
+/// `Failed` comes only where the sink's count of faults rose, or stands at 2^64 - 1. Then a prefix of the text was appended,
+/// and the session's world is one of those that the commands lead through.
 pub fn run_script<const L: usize, P: Projector<L> + Drop, K: Sink, G: Ledger>(
     session: &mut Session<L, P>,
     script: &[u8],

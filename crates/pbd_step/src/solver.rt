@@ -268,7 +268,7 @@ impl<const L: usize, P: Projector<L> + Drop> Solver<L, P> {
         self.run.state.steps
     }
 
-    /// The sums of all moves since opening, by what made them: with the momentum at opening they are the momentum.
+    /// Where momentum came from since opening, by what made it: with the momentum at opening these totals are the momentum.
     pub fn totals(&self) -> &Totals
         requires lanes_high { L ≤ 16 }
         ensures value { ledger_of result.now ≡ self.now.world.totals }

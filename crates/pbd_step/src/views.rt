@@ -93,7 +93,7 @@ impl<'a, const L: usize> Shown<'a, L> {
         self.setting.gravity
     }
 
-    /// The sums of all moves since opening, by what made them.
+    /// Where momentum came from since opening, by what made it.
     pub fn totals(&self) -> &Totals
         requires lanes_high { L ≤ 16 }
         ensures value { ledger_of result.now ≡ self.now.totals }
