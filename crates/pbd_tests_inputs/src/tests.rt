@@ -1,4 +1,4 @@
-//! The tests, a module for each format.
+//! The tests, of cloths and ropes, of OBJ and of scenes, and the parts and rows for them.
 mod mesh;
 mod obj;
 mod parts;

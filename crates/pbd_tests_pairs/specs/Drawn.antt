@@ -34,7 +34,7 @@ are_apart pairs =
     && are_different pairs.second.now
     && share_none pairs.first.now pairs.second.now
 
--- particles within a limit, and pairs of them with different ends
+-- particles within a limit, and at most 128 pairs of them, where no particle is an end twice
 abbrev pub may_part : ℤ → List Particle → Pairs → Bool
 may_part limit particles pairs =
     is_limit limit
@@ -53,7 +53,7 @@ are_plain (Contacts pairs thickness) = true
 are_plain (LaidLinks links laid) = false
 are_plain (LaidContacts pairs thickness laid) = false
 
--- two particles or more within the greatest limit, and a batch of bonds of them
+-- 2 to 65,536 particles within the greatest limit, and a batch of bonds of them that come without columns
 abbrev pub may_project : List Particle → Bonds → List ℕ → Bool
 may_project particles bonds batch =
     nat_le 2 (length particles)

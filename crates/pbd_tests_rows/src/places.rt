@@ -41,7 +41,7 @@ macro_rules! moved {
     };
 }
 
-/// A free particle of weight 1 that doesn't move.
+/// A free particle of weight 1 at rest.
 #[macro_export]
 macro_rules! resting {
     ($x:expr, $y:expr, $z:expr) => {

@@ -28,7 +28,7 @@ macro_rules! held {
     };
 }
 
-/// A live link of full stiffness: its ends, its rest length, and above which length it tears.
+/// A live link of full stiffness: its ends, its rest length, and above which length it tears, or 0 where it never does.
 #[macro_export]
 macro_rules! link {
     ($a:expr, $b:expr, $rest:expr, $tear:expr) => {

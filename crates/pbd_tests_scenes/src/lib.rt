@@ -1,4 +1,5 @@
-//! What the crates of tests of steps, sessions, states and marks share: scenes, and the particles, links and keys with which they are drawn.
+//! What the crates of tests of steps, sessions, states and marks share: scenes, and the particles, links and keys with which they
+//! are drawn.
 #![tactic(auto)]
 
 mod entries;

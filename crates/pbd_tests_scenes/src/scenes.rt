@@ -1,4 +1,4 @@
-//! Scenes as they are drawn for the tests of steps and of sessions.
+//! Scenes as they are drawn for the tests of steps, sessions, states and marks.
 use crate::{free, free_at, held, key, link, links, particle};
 use pbd_num::{RANGE, Vec3};
 use pbd_tests_rows::place;
@@ -154,7 +154,7 @@ fn row_of(alloc: Global, count: u16) -> Result<Parts, AllocError> {
     Ok(parts)
 }
 
-/// So many particles in a row, each nearer to all others than the thickness.
+/// So many particles in a row. Where they are at most 1,000, each is nearer to all others than the thickness.
 pub fn in_a_row(alloc: Global, count: u16) -> Result<Scene, PartsFault> {
     scene_of(alloc, row_of(alloc, count))
 }

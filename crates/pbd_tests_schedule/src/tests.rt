@@ -47,7 +47,7 @@ macro_rules! three_pairs {
     };
 }
 
-// A stiff link of length 100.
+// A link of full stiffness and of rest length 100.
 macro_rules! link {
     ($a:expr, $b:expr) => {
         Link {

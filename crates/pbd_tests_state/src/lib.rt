@@ -1,5 +1,5 @@
-//! Tests of states: each wrong byte is refused at its place, and a refusal leaves the world as it was; what one width writes
-//! another reads; digests and checksums.
+//! Tests of states: where wrong bytes are refused, and that a refusal leaves the world as it was; what one width writes another
+//! reads; names of scenes, digests and checksums.
 #![tactic(auto)]
 
 #[cfg(test)]

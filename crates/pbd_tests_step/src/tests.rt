@@ -1,4 +1,4 @@
-//! The tests, of steps and of random bonds.
+//! The tests, of steps, of what they may cost and of random bonds.
 mod accesses;
 mod both;
 mod random_bonds;

@@ -1,4 +1,4 @@
-//! The tests, a module for each format.
+//! The tests, of sources and sinks, lines, logs and scripts.
 mod io;
 mod line;
 mod log;

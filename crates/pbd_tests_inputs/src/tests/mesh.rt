@@ -79,7 +79,7 @@ macro_rules! with_reach {
 
 /// Cloths, and whether they fit.
 static CLOTHS: [(ClothSpec, bool); 12] = [
-    // The last column is at the limit, and one past it.
+    // The last column is at the limit, or past it.
     (with_reach!(LIMIT - 200, 100), true),
     (with_reach!(LIMIT - 199, 100), false),
     (with_reach!(-LIMIT, LIMIT), true),

@@ -257,7 +257,7 @@ fn a_mesh_has_at_most_32_links_at_a_vertex_and_65536_vertices(
     each_row!(rt, &LIMITS, "is added", row => added_repeated(rt.alloc(), row), &row.3)
 }
 
-/// Another weight, stiffness and length for each.
+/// A weight, and another stiffness and tear length for each kind of link.
 static CLOTH: MeshSettings = MeshSettings {
     weight: 3,
     stretch: LinkSettings {
@@ -274,8 +274,8 @@ static CLOTH: MeshSettings = MeshSettings {
     }),
 };
 
-/// Whether a mesh has these links with the settings of a cloth, as `tools/mesh-scene --bend 40` makes it, and each particle
-/// the weight of the settings.
+/// Whether a mesh has these links with the settings of a cloth, joined as `tools/mesh-scene --bend 40` joins its vertices, and
+/// each particle the weight of the settings.
 fn has_links(alloc: Global, text: &str, links: &[Link]) -> Result<[bool; 2], Option<ObjFault>> {
     let mesh = read_short(alloc, text)?;
     let mut parts = empty_parts(alloc, RANGE);

@@ -11,7 +11,8 @@ use std::io::Eprint;
 
 const LIMIT: i64 = 536_870_912;
 
-/// Scenes, each with the number, table, position and key of the first rule that it breaks. `;` ends a line of a scene.
+/// Scenes, each with the number, table, position and key of the first rule that it breaks, or that it is accepted or no TOML.
+/// `;` ends a line of a scene.
 const RULES: &str = " => ok
 gravity=[0,-10,0]; particle=[{at=[0,1000,0]}] => ok
 = 1 => not toml

@@ -1,10 +1,10 @@
 //! Scenes for each key of each table, a line each, written as the cases of rules.
 //!
 //! Of a table's keys, in the order in which they are looked at, each is left out where it may not be, has a value of another
-//! kind, has values out of its range, and has a value of another kind where the next key has one too, so that the earlier is
-//! told. The last line of a table has a key that there isn't, behind one with a value of another kind.
+//! kind, has values out of its range where it has one, and has a value of another kind where the next key has one too, so that
+//! the earlier is told. The last line of a table has a key that there isn't, behind one with a value of another kind.
 
-/// Values of other kinds in place of a table, of an entry and of each key beside the tables, and numbers out of range.
+/// Values of other kinds in place of a table, of an entry and of keys beside the tables, and numbers out of range.
 pub const SCENE_KEYS: &str = "gravity=1 => 4 scene 0 gravity
 damping=true => 4 scene 0 damping
 thickness=[1] => 4 scene 0 thickness

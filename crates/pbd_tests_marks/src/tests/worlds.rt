@@ -56,7 +56,7 @@ const UP: Vec3 = Vec3 {
 
 const NOWHERE: Vec3 = Vec3 { x: 0, y: 0, z: 0 };
 
-/// Two free particles fall by 10 a step and a step, and the link between them tears in the first one. The third is held.
+/// Two free particles fall faster by 10 with each step, and the link between them tears in the first one. The third is held.
 const ROWS: &[Row] = &[
     (MarkCommand::Rewind(1), (UNMARKED, 0, 2, 1000)),
     (MarkCommand::Mark(1), (DONE, 0, 2, 1000)),

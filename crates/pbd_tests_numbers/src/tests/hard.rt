@@ -1,12 +1,12 @@
-//! The moves of pairs, among them hard ones: short lengths, quotients at halves, all weights.
+//! The moves of pairs, among them hard ones: short lengths, quotients at halves, weights from 0 to 65,535.
 use super::num::exact_moves;
 use pbd_num::{Pull, RANGE, TriedMoves, Vec3, Weights, try_moves};
 use pbd_tests_rows::{WrongRows, all_hold, is_within, place, wrong_row};
 
-/// Two places, a length, a stiffness, two effective weights, and how both places move.
+/// Two places, a rest length, a stiffness, two effective weights, and how both places move.
 type Pair = ((Vec3, Vec3), u32, u16, (u16, u16), (Vec3, Vec3));
 
-/// A pair: its places; its length and stiffness; its weights; and how its places move.
+/// A pair: its places; its rest length and stiffness; its weights; and how its places move.
 macro_rules! pair {
     (
         [$($a:expr),*], [$($b:expr),*]; $rest:expr, $k:expr; $first:expr, $second:expr;

@@ -1,4 +1,4 @@
-//! Each call at each width, over whole arrays.
+//! Each call over whole arrays, at each width, and at width 4 what is put into one lane.
 ghost use Rattle.std.specs.Prelude.{ℕ, ◌<◌, ◌≤◌, ◌^◌, pos, ◌<ℤ◌, IsTrue, unsigned_abs};
 ghost use Rattle.pbd_lanes.specs.Lane.{lane};
 
@@ -76,7 +76,7 @@ fn see<const L: usize>(x: &Lanes<L>, y: &Lanes<L>, mask: &Mask<L>, other: &Mask<
     }
 }
 
-/// Which calls come to what a case says. None where one of its numbers is out of range.
+/// Which calls come to what a case says. None where one of its numbers is out of range, or a second one isn't above 0.
 fn compared<const L: usize>(case: &Case<L>) -> Option<[bool; 10]>
     requires { L ≤ 16 }
 {

@@ -11,7 +11,7 @@ use rand_pcg::Lcg64Xsh32;
 /// The way between two ends, a rest length, and a factor.
 type Bond = ([i32; 3], u16, i16);
 
-/// Bonds, and how their second ends move: as bonds, and as contacts.
+/// Bonds, and how their second ends move: as links, and as contacts.
 static BONDS: [(Bond, [[i64; 3]; 2]); 22] = [
     (([6_554, 0, 0], 6_554, 256), [[0, 0, 0], [0, 0, 0]]),
     (([6_600, 0, 0], 6_554, 256), [[23, 0, 0], [0, 0, 0]]),
@@ -194,7 +194,8 @@ fn random_ways(words: &mut Lcg64Xsh32) -> [Row; 128] {
     ways
 }
 
-/// How many of the moves of random bonds are flagged. None where another isn't that of the exact call.
+/// How many of the moves of random bonds are flagged. None where another isn't that of the exact call, or where the flags and the
+/// answer for all bonds disagree.
 fn flagged(near: &mut Near, words: &mut Lcg64Xsh32, contact: bool) -> Option<u32> {
     let ways = random_ways(words);
     let bonds = Common {

@@ -71,7 +71,7 @@ fn halves_are_rounded_away_from_zero(rt: HostRuntime) {
 }
 
 /// The sum of two places, the ways from the second to the first and back, the opposite of a way, half of the first place, and
-/// its squared length and length. None where an axis is above 2^30.
+/// its squared length and length. None where an axis of the first place is above 2^30 in size, or one of the others above 2^61.
 fn calculated(a: Vec3, b: Vec3, way: Vec3) -> Option<([Vec3; 5], [i64; 2])> {
     if !is_within(a, 1 << 61) {
         return None;

@@ -1,4 +1,4 @@
-// What calls on the ends of pairs ask of ways and moves, as tests that a case is put to before it is tried.
+// Tests that the ways and moves of a case are put to before it is tried: they ask at least what calls on the ends of pairs ask.
 ghost use Rattle.std.specs.Prelude.{IsTrue};
 ghost use Rattle.pbd_store.specs.Pairs.{AreShort, AreMoves};
 
@@ -6,7 +6,7 @@ use pbd_num::Row;
 use pbd_store::EndMoves;
 use pbd_tests_rows::is_within;
 
-// Whether there are so many ways, all of them short and without a flag.
+// Whether there are so many ways, all of them of at most 2^16 an axis and without a flag.
 pub(crate) fn are_short(ways: &[Row], count: usize) -> bool
     ensures { IsTrue result → AreShort count ways.now }
 {

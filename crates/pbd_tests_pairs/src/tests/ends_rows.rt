@@ -7,7 +7,7 @@ use pbd_world::Particle;
 /// What is done with the ends of pairs.
 #[derive(Clone, Copy)]
 pub(crate) enum Trial {
-    /// They are looked at, and this lies between them: the way from the second end to the first, and the weights of both.
+    /// They are looked at, and this lies between them: the way from the second end to the first, and the effective weights of both.
     Read(&'static [([i32; 3], [i32; 2])]),
     /// The first ends go back by the first ways, and the second ends forth by the others.
     Pull(&'static [Row], &'static [Row]),
@@ -145,7 +145,7 @@ const NO_PAIRS: Drawing = Drawing {
     ..THREE
 };
 
-// Three pairs, the first two of them near the limit.
+// Three pairs, the first two of them near the limit, and the third with an end on it.
 const NEAR_THE_LIMIT: Drawing = Drawing {
     limit: RANGE,
     particles: &[

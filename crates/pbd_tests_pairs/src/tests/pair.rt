@@ -1,4 +1,4 @@
-//! Batches at each width, with both projectors.
+//! Batches one by one at two widths, and side by side at each.
 ghost use Rattle.std.specs.Prelude.{◌≡◌, ◌<◌, ◌≤◌, ◌^◌, length, IfSome, IsTrue};
 ghost use Rattle.std.specs.List.{list_all};
 ghost use Rattle.pbd_world.specs.Ledger.{ledger_of, HaveRoom};

@@ -193,7 +193,7 @@ static MOVING: [Particle; 3] = [
     moved!((10, 0, 0), (9, 0, 0)),
 ];
 
-/// The places before of three particles, after friction with shapes that touched the first two.
+/// The places before of three particles, after friction with shapes that touched those whose flags are set.
 fn rubbed_by<const L: usize, G: Ledger>(
     store: &mut Store<L>,
     friction: i64,
@@ -221,7 +221,7 @@ fn rubbed_by<const L: usize, G: Ledger>(
     )
 }
 
-/// The same in a store of its own, unless there is no memory.
+/// The same in a store of its own, where the first two were touched, unless there is no memory.
 fn rubbed_in<const L: usize, G: Ledger>(
     alloc: Global,
     friction: i64,

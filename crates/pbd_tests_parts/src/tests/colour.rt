@@ -7,7 +7,7 @@ use pbd_colour::Colouring;
 use pbd_tests_rows::{WrongRows, all_hold, wrong_row};
 use std::alloc::Global;
 
-// Whether numbers below n rise.
+// Whether numbers rise, all of them below n.
 fn are_rising(numbers: &[u32], n: u32) -> bool
     ensures rising { IsTrue result → IsStrictlyIncreasing numbers.now }
     ensures below { IsTrue result → (k : ℕ) → k < length numbers.now → slice_index numbers.now k < n }
@@ -23,7 +23,8 @@ fn are_rising(numbers: &[u32], n: u32) -> bool
     true
 }
 
-// A colouring of some pairs. None where there is no memory, or one of them is no pair of particles.
+// A colouring of some pairs. None where there is no memory, there are more than 70 particles or 2,415 pairs, or one of them is no
+// pair of particles.
 fn coloured(alloc: Global, particles: u32, pairs: &[(u32, u32)]) -> Option<Colouring>
     ensures pairs { IfSome result (λ c. c.pairs ≡ pairs.now) }
     ensures live { IfSome result (λ c. c.live ≡ replicate (length pairs.now) true) }
@@ -156,7 +157,7 @@ const FOUR_PAIRS: Case = Case {
     unlinked: (1, 2),
 };
 
-// Two rows and three columns: the sides, the diagonals, and the links over two particles.
+// Two rows and three columns: the sides, the diagonals, and the links between particles two apart.
 const CLOTH: Case = Case {
     name: "a cloth",
     particles: 6,

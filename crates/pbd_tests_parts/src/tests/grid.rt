@@ -121,10 +121,11 @@ fn finds_both(alloc: Global, near: &Near<'_>) -> [Option<bool>; 2]
     }
 }
 
-// A thickness, places, how many pairs are near, and how often a search reads its chains.
+// A thickness, places, how many pairs are near and kept, and how often a search reads its chains.
 type Row = (i64, &'static [Vec3], usize, u64);
 
-// Compares a grid with all pairs. None where the row is out of range, or another number of pairs is near.
+// Compares a grid with all pairs. None where there is no memory, the row is out of range, or another number of pairs is near and
+// kept.
 fn try_places(alloc: Global, row: &Row, wanted: &mut Vec<(u32, u32)>) -> Option<[Option<bool>; 2]> {
     let (thickness, places, count, looks) = *row;
     if thickness < 1 {

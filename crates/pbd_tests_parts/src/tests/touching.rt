@@ -72,7 +72,8 @@ fn push_touching(pairs: &mut Vec<(u32, u32)>, case: &Case<'_>) -> bool
     true
 }
 
-// The live links of so many particles. None where there is no memory, or one of them is no pair of particles.
+// The live links of so many particles. None where there is no memory, there are more than 64, or one of them is no pair of
+// particles.
 fn linked(alloc: Global, particles: u32, links: &[(u32, u32)]) -> Option<Colouring>
     requires { particles ≤ 1024 }
     ensures { IfSome result (λ c. c.particles ≡ particles) }
@@ -217,7 +218,8 @@ fn finds_linked(alloc: Global, case: &Case<'_>, wanted: &[(u32, u32)]) -> Option
     }
 }
 
-// Compares what is found at each width with all pairs. None where the case is out of range, or another number of pairs touch.
+// Compares what is found at each width with all pairs. None where there is no memory, the case is out of range, or another number
+// of pairs touch.
 fn try_pairs(alloc: Global, case: &Case<'_>, wanted: &mut Vec<(u32, u32)>) -> Option<Found> {
     if case.particles.len() > 1024 {
         return None;
@@ -329,8 +331,8 @@ fn contacts_of_few_particles_are_found(rt: HostRuntime) -> Result<(), WrongRows>
     all_hold(wrong)
 }
 
-/// So many particles in a row, a thickness, and how many contacts there are: all pairs, just as many as there is room for,
-/// and more.
+/// So many particles in a row, a thickness, and how many contacts there are: all pairs, first few, then nearly as many as there is
+/// room for, and then more.
 static ROWS: [(u32, i64, usize); 3] = [(70, 100, 2415), (724, 1000, 261_726), (725, 1000, 262_450)];
 
 #[test]

@@ -3,7 +3,7 @@ use super::written::{all_of, push_line, wrong_alike, wrong_runs_of, wrong_texts}
 use pbd_tests_rows::{WrongRows, all_hold};
 use std::alloc::AllocError;
 
-/// A line for each number from the first on and below the second, which stands at each `#` of it.
+/// A line for each number from the first on and below the second, which stands at the first two `#` of it.
 type Lines = (u32, u32, &'static str);
 
 fn push_lines(text: &mut String, (from, to, line): Lines) -> Result<(), AllocError> {

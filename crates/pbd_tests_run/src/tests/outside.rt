@@ -1,4 +1,4 @@
-//! Sources and sinks that fail at each call, and inputs that are no text or too long.
+//! Sources and sinks that fail at each call, and inputs that are too long.
 use super::logs::{LOG, OLD_LOG};
 use super::written::{Given, all_of, wrong_run};
 use pbd_tests_rows::{WrongRows, all_hold, wrong_row};
@@ -112,7 +112,7 @@ static WRITERS: [Writer; 14] = [
     ),
 ];
 
-/// How many runs are wrong whose call of `write` fails, wherever in its piece, which has so many bytes before it.
+/// How many runs are wrong whose call of `write` fails after 0 to 14 bytes of its piece, which has so many bytes before it.
 fn wrong_write(rt: &HostRuntime, writer: &Writer, call: u64, (before, len): (usize, usize)) -> u32 {
     let (words, input, output, _) = *writer;
     let mut wrong = 0u32;

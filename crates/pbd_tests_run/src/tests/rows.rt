@@ -115,7 +115,7 @@ obj * < v 0 0 1; v 1 0 1; v 0 1 1; f 1 2 3; %%; [[particle]]; at = [0, 0, 0]; [[
 obj * < # a comment; o square; v 0 0 0; v 1 0 0; v 1 1 0; vn 0 0 1; vt 0 0; s off; f 1//1 2//1 3//1; %%; gravity = [0, -65536, 0]; %%; step 1; frame => 0 # ok; # frame 1 3 3 0; v 0 -1 0; v 1 -1 0; v 1 0 0; f 1 2 3
 obj * < %%; %% => 0";
 
-/// Meshes with a fault behind scenes with and without one, and meshes that a scene has no room for.
+/// Meshes with a fault beside scenes with and without one, and meshes that a scene has no room for.
 const REFUSED: &str = "obj 2 <  => 5 error 5 NoScript
 obj 2 < v 1 2; %% => 5 error 5 NoScript
 obj 2 < v 1 2; %%; = 1; %% => 7 error 7 SceneNotToml

@@ -18,7 +18,7 @@ macro_rules! bad {
     };
 }
 
-/// Six particles in pairs at a distance of 105, with links of length 100 between the first two pairs.
+/// Six particles in pairs at a distance of 105, with a link of rest length 100 in each of the first two pairs.
 static TWO: Work<'static> = Work {
     particles: three_pairs!((0, 1), (105, 1); (0, 1), (105, 1); (0, 1), (105, 1)),
     bonds: Bonds::Links(&[link!(0, 1), link!(2, 3)]),
@@ -115,7 +115,7 @@ static CUT_SHORT: Schedule<'static> = Schedule {
     events: &[Read(0)],
 };
 
-/// A batch of no bonds has one legal list of events, the empty one.
+/// The empty list of events is legal for a batch of no bonds, and moves nothing.
 fn nothing_to_do<G: Ledger>(alloc: Global, steps: &mut Steps<G>) -> Result<bool, AllocError> {
     let seen = by_own_events::<1, G>(alloc, steps, &NOTHING_TO_DO)?;
     Ok(seen.answer == Ok(()) && seen.particles.as_slice() == NOTHING_TO_DO.work.particles)

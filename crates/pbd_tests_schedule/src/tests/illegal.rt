@@ -1,4 +1,5 @@
-//! Every list of up to seven events over two bonds: the illegal ones are refused, each at its first wrong event.
+//! Every list of up to seven events over two bonds: the illegal ones are refused, each at its first wrong event, or at its end
+//! where that comes too soon.
 ghost use Rattle.std.specs.Prelude.{◌≤◌};
 
 use super::batches::{Schedule, Work, by_events};
@@ -13,7 +14,7 @@ use std::marker::Brand;
 use std::sync::ledger::{Blank, Ledger};
 
 /// How many lists ran, how many were refused where they had to be, with the particles as before, and how many
-/// came to something else.
+/// were answered otherwise.
 #[derive(Clone, Copy)]
 struct Tally {
     ran: u32,

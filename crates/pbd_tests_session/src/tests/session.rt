@@ -127,7 +127,7 @@ fn holds_once_open<const L: usize, P: Projector<L> + Drop, G: Ledger>(
 /// What is told of both projectors.
 type Told = [Result<bool, AllocError>; 2];
 
-/// Whether it does with bonds that are projected one by one, and in lanes.
+/// Whether it does with bonds that are projected one by one, and side by side.
 fn both_hold<const L: usize, G: Ledger>(
     alloc: Global,
     scene: &Scene,

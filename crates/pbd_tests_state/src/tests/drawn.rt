@@ -49,7 +49,7 @@ fn one_of(words: &mut Lcg64Xsh32, count: u32) -> bool {
     words.next_word() % count.max(1) == 0
 }
 
-/// A vector whose axes are at most so long, and less than that below 0.
+/// A vector of which each axis is one of so many numbers about 0.
 fn vector(words: &mut Lcg64Xsh32, size: u32) -> Vec3 {
     let least = 0i64.saturating_sub(i64::from(size / 2));
     Vec3 {
@@ -79,7 +79,7 @@ fn drawn_body(words: &mut Lcg64Xsh32) -> Body {
     }
 }
 
-/// Particle i of a body: about 100 units from those beside it, and one of six held.
+/// Particle i of a body: about 100 units from those beside it. One of six is held, and one that a track leads.
 fn particle(words: &mut Lcg64Xsh32, body: &Body, i: u32) -> Particle {
     let columns = body.columns.max(1);
     let off = vector(words, 9);
@@ -123,7 +123,7 @@ fn kind(words: &mut Lcg64Xsh32, body: &Body, a: u32, b: u32) -> Option<Kind> {
     }
 }
 
-/// A link as long as its ends are apart, or a little longer or shorter.
+/// A link, whose rest length is about how far its ends are apart, or any from 50 to 350 where it is plain.
 fn link(words: &mut Lcg64Xsh32, body: &Body, ends: (u32, u32), kind: Kind) -> Link {
     let rest = match kind {
         Kind::Stretch => pick(words, 90, 21),
@@ -160,7 +160,7 @@ fn draw_links(words: &mut Lcg64Xsh32, body: &Body, parts: &mut Parts) -> bool {
     drawn
 }
 
-/// Adds a plane below the body, and a sphere in it, each to one of three scenes.
+/// Adds a plane below particle 0, and a sphere near it, each to one of three scenes.
 fn draw_shapes(words: &mut Lcg64Xsh32, parts: &mut Parts) -> bool {
     let mut drawn = true;
     if one_of(words, 3) {
@@ -198,7 +198,7 @@ fn draw_track(alloc: Global, words: &mut Lcg64Xsh32, parts: &mut Parts) -> bool 
     }
 }
 
-/// The numbers of a scene. One of three scenes has contacts.
+/// The numbers of a scene. One of three scenes has a thickness.
 fn drawn_numbers(words: &mut Lcg64Xsh32) -> Drawing {
     Drawing {
         gravity: vector(words, 21),

@@ -1,4 +1,4 @@
-//! Bytes of a hostile peer can do nothing but be refused.
+//! Bytes of a hostile peer are taken as the state that they are, or are refused and change nothing.
 ghost use Rattle.std.specs.Prelude.{◌≡◌, ◌<◌};
 
 use super::rows::{ROWS, Row, SIZE};

@@ -1,4 +1,4 @@
-//! A scene has one name, which each of its fixed numbers changes and no command does.
+//! A scene has one name, which each of seven of its fixed numbers changes, and which a step, a cut and another gravity don't.
 ghost use Rattle.std.specs.Prelude.{◌≡◌, ◌<◌};
 
 use super::hostile::{Tested, solver_of};

@@ -53,7 +53,7 @@ struct Played {
     end: State,
 }
 
-/// What went wrong, and at which byte, or at how many bytes where states differ in their length or their digest alone.
+/// What went wrong, and at which byte: `ROOM` where states differ in their length or their digest alone, and 0 where it is at none.
 type Wrong = (&'static str, usize);
 
 /// The widths at which the state of a session is written and read: each pair of different ones has one of twenty seeds.

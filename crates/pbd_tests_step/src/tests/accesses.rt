@@ -12,8 +12,8 @@ use std::alloc::{AllocError, Global};
 use std::marker::Brand;
 use std::sync::ledger::{Blank, Ledger};
 
-/// A projector, and what the batches that it was handed may cost: four accesses for each piece of as many bonds as it
-/// projects side by side.
+/// A projector, and what the batches that it was handed may cost: four accesses for each piece of as many bonds as it has
+/// lanes.
 #[derive(Drop)]
 struct Counting<P: Drop> {
     inner: P,
@@ -86,14 +86,14 @@ struct Row {
 }
 
 static ROWS: [Row; 3] = [
-    // Two steps of three passes: in each ten links one by one, or 5, 3, 2 and 1 pieces of them.
+    // Two steps of three passes: in each ten links in 10, 5, 3, 2 and 1 pieces.
     Row {
         name: "pairs",
         scene: PAIRS,
         steps: 2,
         accesses: [Ok(240), Ok(120), Ok(72), Ok(48), Ok(24)],
     },
-    // Two passes: four links one by one, or two colours of one piece each.
+    // Two passes: four pieces of one link each, or two colours of one piece each.
     Row {
         name: "line",
         scene: LINE,

@@ -98,7 +98,7 @@ fn are_at<const L: usize, G: Ledger>(
     particles as usize == script.particles
 }
 
-/// A session whose bonds are projected one by one, and one whose bonds are projected in lanes.
+/// A session whose bonds are projected one by one, and one whose bonds are projected side by side.
 #[derive(Drop)]
 struct Both<const L: usize> {
     scalar: Session<L, Scalar<L>>,

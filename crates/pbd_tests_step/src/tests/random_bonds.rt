@@ -1,4 +1,4 @@
-//! A million projections of random bonds: links and contacts, short and long ones, of all weights. At each width both projectors
+//! Millions of projections of random bonds: links and contacts, short and long ones, of all weights. At each width both projectors
 //! come to the same worlds, or meet the same refusal.
 use super::both::{Script, wrong_script};
 use pbd_num::{RANGE, Vec3};
@@ -26,7 +26,7 @@ struct Lengths {
     ways: u32,
     /// How far that is in one pair of 128, where it isn't 0.
     stray: i64,
-    /// The least rest length, and by how much others are greater.
+    /// The least rest length, and by how much others are greater at most.
     rest: i64,
     rests: u32,
     thickness: i64,
@@ -55,11 +55,11 @@ const CONTACTS: Lengths = Lengths {
     ..SHORT
 };
 
-/// A chunk of 128 bonds, each with a held end or ends of one weight, goes by loops of 32-bit numbers where all rest lengths are
-/// below 16,384 and all ways within 32,768. Else it goes by loops of 64-bit numbers where all moves are within 4,194,304, and one
-/// by one elsewhere.
+/// A chunk of up to 128 bonds goes by loops of 32-bit numbers where all its rest lengths are below 16,384 and all its lengths below
+/// 32,768. Else it is tried by loops of 64-bit numbers, and its moves are booked one by one only where a bond has free ends of
+/// unequal weights, or a move is not within 4,194,304 on an axis.
 static LINKS: [Lengths; 24] = [
-    // Links shorter than half a metre, but for strays.
+    // Links that should be shorter than a fourth of a metre.
     SHORT,
     Lengths {
         name: "links that are nearly as long as they should be",
@@ -232,7 +232,7 @@ static LINKS: [Lengths; 24] = [
     },
 ];
 
-/// Pairs that touch.
+/// Pairs that touch, and some that don't.
 static TOUCHING: [Lengths; 6] = [
     CONTACTS,
     Lengths {
@@ -268,7 +268,7 @@ static TOUCHING: [Lengths; 6] = [
     },
 ];
 
-/// The inverse masses of the ends.
+/// The weights of the ends, and how many of them are held.
 #[derive(Clone, Copy)]
 struct Masses {
     name: &'static str,
@@ -391,7 +391,7 @@ fn particle_at(words: &mut Lcg64Xsh32, at: Vec3, masses: &Masses) -> Particle {
     }
 }
 
-/// The link of pair j. Half of all have the whole stiffness.
+/// The link of pair j. About half of all have the whole stiffness.
 fn link_of(words: &mut Lcg64Xsh32, lengths: &Lengths, j: u16) -> Link {
     let a = 2 * u32::from(j);
     let whole = words.next_word() & 1 == 0;

@@ -34,7 +34,7 @@ fn first_three(numbers: &[u32]) -> [Option<u32>; 3] {
     ]
 }
 
-/// The first three torn numbers of four links.
+/// The first three torn numbers of at most four links.
 fn first_torn<const L: usize, G: Ledger>(
     alloc: Global,
     particles: &[Particle],
@@ -71,7 +71,8 @@ macro_rules! apart {
 
 static PLACED: [Particle; 6] = apart!(100 0; 101 1000; 102 2000);
 
-/// The first torn numbers of three links of lengths 100, 101 and 102 that tear above 100, and of one of length 102 that never tears.
+/// The first torn numbers of three links of lengths 100, 101 and 102 that tear above 100, of which the last may be gone, and of one
+/// of length 1,005 that never tears.
 fn numbers_in<const L: usize, G: Ledger>(
     alloc: Global,
     last_live: bool,

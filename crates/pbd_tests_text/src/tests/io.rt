@@ -1,4 +1,4 @@
-//! Each source and sink through its trait, with calls that fail once in mid-stream.
+//! Each source and sink through its trait, with calls that fail in mid-stream.
 use pbd_io::{Failed, MemSink, MemSource, Sink, Source, StdSink, StdSource, SureSink, SureSource};
 use pbd_tests_rows::{WrongRows, all_hold, each_row, wrong_row};
 use std::alloc::{AllocError, Global};

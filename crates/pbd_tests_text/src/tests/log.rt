@@ -448,7 +448,7 @@ fn wrong_cuts(rt: &impl Eprint, alloc: Global, logged: &Logged<'_>, cuts: &[Cut]
     wrong
 }
 
-// The header, the scene, each entry and the end are one call each.
+// The header, a scene that isn't empty, each entry and the end are one call each.
 #[test]
 fn a_log_stops_at_the_call_that_fails(rt: HostRuntime) -> Result<(), WrongRows> {
     let entries = [step(), frame()];
