@@ -327,7 +327,7 @@ fn wrong_entries(rt: &impl Eprint, parts: &Parts) -> u32 {
 }
 
 #[test]
-fn what_a_scene_leaves_out_has_its_default(rt: HostRuntime) -> Result<(), WrongRows> {
+fn keys_that_are_left_out_have_their_defaults(rt: HostRuntime) -> Result<(), WrongRows> {
     let text = "
         gravity = [0, -10, 0]
         pins = [2]

@@ -153,6 +153,6 @@ fn no_guess_of_a_hard_pair_is_taken_where_it_is_wrong(rt: HostRuntime) -> Result
             &[true; 2],
         ));
     }
-    assert!(rt; right == 16, "{right} of 16 guesses are right");
+    assert!(rt; right == 16, "{right} guesses are right, and not 16");
     all_hold(wrong)
 }

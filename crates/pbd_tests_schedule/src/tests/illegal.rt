@@ -144,7 +144,7 @@ pub(crate) fn try_all<G: Ledger>(alloc: Global, steps: &mut Steps<G>) -> Result<
 }
 
 #[test]
-fn all_other_lists_of_events_are_refused(rt: HostRuntime) {
+fn other_lists_of_up_to_seven_events_are_refused(rt: HostRuntime) {
     let told = tried::<Brand>(rt.alloc(), Blank::new(1), Trial::ShortLists);
     assert_eq!(rt; told.ok(), Some(1), "of 335,923 lists 20 are legal");
 }

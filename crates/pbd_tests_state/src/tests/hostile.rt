@@ -142,7 +142,7 @@ fn wrong_rows<G: Ledger>(rt: &impl Eprint, blank: Blank, solver: &mut Tested, ro
 }
 
 #[test]
-fn hostile_bytes_are_refused_at_their_places(rt: HostRuntime) -> Result<(), WrongRows> {
+fn hostile_bytes_are_taken_or_refused_as_rows_say(rt: HostRuntime) -> Result<(), WrongRows> {
     let opened = solver_of(rt.alloc(), scene(rt.alloc(), &DRAWING));
     let mut solver = opened.expect(&rt, "no solver");
     let wrong = wrong_rows::<Brand>(&rt, Blank::new(1), &mut solver, &ROWS);

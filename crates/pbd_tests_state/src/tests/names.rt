@@ -99,7 +99,7 @@ fn rows_of(rows: &[Row], name: &[u8; 32]) -> u32 {
     count
 }
 
-const OWN: &str = "has a name of its own, which no command changes at width 4";
+const OWN: &str = "has a name of its own, which a step, a cut and another gravity don't change at width 4";
 
 /// How many rows don't hold, or share their name. Each of them is told.
 fn wrong_rows<G: Ledger>(rt: &impl Eprint, alloc: Global, blank: Blank, rows: &[Row]) -> u32
@@ -118,7 +118,7 @@ fn wrong_rows<G: Ledger>(rt: &impl Eprint, alloc: Global, blank: Blank, rows: &[
 }
 
 #[test]
-fn each_fixed_number_changes_the_name_and_no_command_does(
+fn fixed_numbers_change_the_name_and_three_commands_do_not(
     rt: HostRuntime,
 ) -> Result<(), WrongRows> {
     all_hold(wrong_rows::<Brand>(&rt, rt.alloc(), Blank::new(1), &ROWS))

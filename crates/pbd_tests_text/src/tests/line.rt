@@ -38,7 +38,7 @@ fn a_line_has_numbers_of_three_kinds(rt: HostRuntime) -> Result<(), WrongRows> {
 }
 
 #[test]
-fn a_full_line_takes_no_more(rt: HostRuntime) -> Result<(), WrongRows> {
+fn two_hundred_and_fifty_six_bytes_fill_a_line(rt: HostRuntime) -> Result<(), WrongRows> {
     let mut line = Line::new();
     line.push("ab");
     let room = line.room();

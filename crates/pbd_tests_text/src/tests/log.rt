@@ -283,7 +283,7 @@ static OLD_LEAVES_CHANGED: [Wrong; 2] = [
 ];
 
 #[test]
-fn each_field_is_looked_at(rt: HostRuntime) -> Result<(), WrongRows> {
+fn changed_fields_are_refused_where_they_stand(rt: HostRuntime) -> Result<(), WrongRows> {
     let small = wrong_rows(&rt, &SMALL, &SMALL_CHANGED);
     let old = wrong_rows(&rt, &OLD_SMALL, &OLD_SMALL_CHANGED);
     let leaves = wrong_rows(&rt, &OLD_LEAVES, &OLD_LEAVES_CHANGED);

@@ -136,7 +136,7 @@ fn words_and_numbers_are_taken_from_lines(rt: HostRuntime) -> Result<(), WrongRo
             only_count(b" 7 8"),
         ),
     );
-    all_hold(wrong_row(&rt, (&"what is taken", "from eleven texts"), &taken, &TAKEN))
+    all_hold(wrong_row(&rt, (&"what is taken", "from twelve texts"), &taken, &TAKEN))
 }
 
 static VALUES: [(&[u8], u128); 4] = [
