@@ -29,7 +29,9 @@ static SEVENTY: [Lines; 3] = [
 ];
 
 #[test]
-fn contacts_of_seventy_particles_are_the_same_at_every_width(rt: HostRuntime) -> Result<(), WrongRows> {
+fn contacts_of_seventy_particles_are_the_same_at_every_width(
+    rt: HostRuntime,
+) -> Result<(), WrongRows> {
     let mut text = String::new(rt.alloc());
     let made = push_all(&mut text, &SEVENTY);
     let wrong = wrong_alike(

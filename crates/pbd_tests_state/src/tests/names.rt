@@ -99,7 +99,8 @@ fn rows_of(rows: &[Row], name: &[u8; 32]) -> u32 {
     count
 }
 
-const OWN: &str = "has a name of its own, which a step, a cut and another gravity don't change at width 4";
+const OWN: &str =
+    "has a name of its own, which a step, a cut and another gravity don't change at width 4";
 
 /// How many rows don't hold, or share their name. Each of them is told.
 fn wrong_rows<G: Ledger>(rt: &impl Eprint, alloc: Global, blank: Blank, rows: &[Row]) -> u32
