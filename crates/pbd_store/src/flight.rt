@@ -40,7 +40,7 @@ struct AxisForces {
     gravity: i64,
 }
 
-// The same of one axis.
+// Where one axis comes to, and what damping takes of it.
 #[derive(Clone, Copy)]
 struct AxisFlown {
     to: i64,

@@ -199,7 +199,7 @@ impl<const L: usize> Columns<L> {
 
 impl<const L: usize> Store<L> {
     /// Lets the free particles fly: each goes on as far as it came, less what damping takes, and by gravity. The held ones rest.
-    /// The error is the number of the first that has left the limit; all have flown then too.
+    /// The error is the number of the first that has left the limit of `forces`; all have flown then too.
     pub fn fly<G: Ledger>(&mut self, forces: Forces, steps: &mut Steps<G>) -> Result<Flown, u32>
         requires some_lanes { 0 < L }
         requires lanes { L ≤ 16 }

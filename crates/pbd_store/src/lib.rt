@@ -1,4 +1,4 @@
-//! A list of particles, read and written one by one or in lanes.
+//! A list of particles, read and written one by one, in lanes, by many pairs at once, or all at once.
 #![tactic(auto)]
 
 mod columns;

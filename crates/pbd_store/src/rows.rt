@@ -341,7 +341,7 @@ pub(crate) fn put_row(rows: &mut [Place], i: u32, row: Place)
     rows[i as usize] = row;
 }
 
-/// A list of places, in halves: what loops over pairs read and write are the low ones alone.
+/// A list of places, in halves: the loops that take the ways between pairs, and that pull them, read and write the low ones alone.
 #[derive(Drop)]
 pub(crate) struct PlaceRows {
     pub(crate) low: Vec<Place>,

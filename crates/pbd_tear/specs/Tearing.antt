@@ -24,7 +24,7 @@ pub record AscendTo (n : ℕ) (numbers : List ℕ) : Type 0 where
   pub rising : IsStrictlyIncreasing numbers
   pub within : (k : ℕ) → k < length numbers → slice_index numbers k < n
 
--- a link of n particles with a tear length in the range of both limits
+-- a link of n particles with a tear length at most 2^31 in size
 pub record IsLink (n : ℕ) (link : Link) : Type 0 where
   pub a : link.a < n
   pub b : link.b < n

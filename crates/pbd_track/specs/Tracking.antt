@@ -8,7 +8,7 @@ use Rattle.pbd_world.specs.Particles.{particle_at}
 use Rattle.pbd_world.specs.Tracks.{track_of, held_place}
 use Rattle.pbd_world.specs.Valid.{is_limit, is_valid_track}
 
--- a key in the range of both limits
+-- a key up to step 1,000,000, at a place within the greater limit
 pub record IsKey (key : Key) : Type 0 where
   pub step : key.step ≤ 1000000
   pub place : Within (2 ^ 29) key.place

@@ -16,7 +16,7 @@ particle_at ps i = slice_index_or ps i no_particle
 abbrev pub placed : List Particle → ℕ → Vec3 → List Particle
 placed ps i place = slice_set ps i (record (particle_at ps i) { at = place })
 
--- how far it came since the step before
+-- how far it came from its place before
 abbrev pub velocity : Particle → Vec3
 velocity p = minus p.at p.before
 

@@ -157,9 +157,9 @@ pub fn twice_the_lanes_halve_the_links()
         → 2 * links_work (2 * lanes) w.links ≤ links_work lanes w.links + 4 * colours_used w.links }
 {}
 
-/// What a step may cost is a sum: four accesses for each block, and in each pass for each block, each whole piece of links,
-/// each colour of links and each contact, of which it projects 262,144 at most; and one for each track, for each particle
-/// where there is a thickness, and for each end of a live link that may tear.
+/// What a step may cost is at most a sum: four accesses for each block, and in each pass for each block, each whole piece of
+/// links, each colour of links and each contact, of which it projects 262,144 at most; and one for each track, for each
+/// particle where there is a thickness, and for each end of a live link that may tear.
 pub fn steps_cost_a_sum()
     ensures { (width lanes : ℕ) (w : World) (contacts : List (ℕ × ℕ)) → 0 < lanes → IsSound w
         → step_work width lanes w contacts
