@@ -69,7 +69,7 @@ fn sweep(held: Held<'_>, colours: &mut [u8], marks: &mut Marks)
     marks.forget();
 }
 
-// Mends the colours of the pairs that are held after those of the numbers were dropped.
+// Mends the colours of the live pairs after those of the numbers were dropped.
 pub(crate) fn mend(held: Held<'_>, numbers: &[u32], colours: &mut [u8], marks: &mut Marks)
     requires held { AreHeld held.pairs.now held.live.now held.chains.now }
     requires in_range { (k : ℕ) → k < length numbers.now → slice_index numbers.now k < length held.pairs.now }

@@ -88,8 +88,8 @@ impl<const L: usize, P: Projector<L> + Drop> Host<L, P> {
     }
 
     /// Does what a line asks for, a line without its newline, and writes the session's number and the reply, each
-    /// printed line by one call of `write`. Of a blank line it writes nothing, and of a bad tag that it is refused: both
-    /// change nothing, and a command changes the world of its session alone.
+    /// printed line by one call of `write`. Of a blank line or a comment it writes nothing, and of a bad tag that it is
+    /// refused: these change nothing, and a command changes the world of its session alone.
     ///
     /// `Failed` comes only where the sink's count of faults rose, or stands at 2^64 - 1. Then a prefix of the line's text was
     /// appended, and the worlds are those after the line.

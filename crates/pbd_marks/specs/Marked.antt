@@ -53,7 +53,7 @@ abbrev pub with_world : Marked → Result World MarkRefusal → Marked × Result
 with_world m (Ok w) = (record m { world = w }, Ok Done)
 with_world m (Err r) = (m, Err r)
 
--- the state after a command, and the answer
+-- the world and the marks after a command, and the answer
 unfoldable pub marked_meaning : Marked → MarkCommand → Marked × Result Reply MarkRefusal
 marked_meaning m (Plain c) = (record m { world = after m.world c }, Ok (reply m.world c))
 marked_meaning m (Mark k) = with_marks m (set m.marks k m.world)
@@ -83,7 +83,7 @@ abbrev pub is_refused_answer : Result Reply MarkRefusal → Bool
 is_refused_answer (Ok reply) = is_refused reply
 is_refused_answer (Err r) = true
 
--- the state after all the commands
+-- the world and the marks after all the commands
 abbrev pub last_marked : Marked → List MarkCommand → Marked
 last_marked m [] = m
 last_marked m (c ∷ cs) = last_marked (marked_after m c) cs

@@ -16,9 +16,9 @@ pub fn a_rewind_changes_no_mark()
     ensures { (m : Marked) (k : ℕ) → (marked_after m (Rewind k)).marks ≡ m.marks }
 {}
 
-/// Save, play on, and load: the game is what it was when it was saved, whatever was played in between. All that is played
-/// from there prints the same lines, has as many refusals and ends in the same world as right after the save. What was played
-/// in between may set other marks, to which what is played later doesn't go back.
+/// Save, play on, and load: the game is what it was when it was saved, whatever was played in between that doesn't set the
+/// same mark. All that is played from there prints the same lines, has as many refusals and ends in the same world as right
+/// after the save. What was played in between may set other marks, to which what is played later doesn't go back.
 pub fn a_rewind_takes_back_all_since_its_mark()
     ensures { (m : Marked) (k : ℕ) (between later : List MarkCommand) → k ≤ 7 → length m.marks ≡ 8
         → LeavesMark k between → LeavesMarksOf later between → TakesBack m k between later }

@@ -37,13 +37,13 @@ pub record HaveCome (stages : List ℕ) (done : List Event) : Type 0 where
 pub record AreSound (limit : ℤ) (notes : List Note) : Type 0 where
   pub each : (k : ℕ) → k < length notes → IsSound limit (note_at notes k).correction
 
--- what an event costs in accesses
+-- what an event costs in accesses, at most
 abbrev pub accesses : Event → ℕ
 accesses (Read k) = 2
 accesses (WriteA k) = 1
 accesses (WriteB k) = 1
 
--- how often an event books moves
+-- how often an event books moves, at most
 abbrev pub bookings : Event → ℕ
 bookings (Read k) = 0
 bookings (WriteA k) = 0

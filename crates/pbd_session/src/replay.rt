@@ -17,8 +17,8 @@ use pbd_store::Steps;
 use pbd_world::FrameSums;
 use std::sync::ledger::Ledger;
 
-/// Replays a log from the session's world: prints the reply of each entry that agrees, and at the first that differs
-/// the line of the mismatch.
+/// Replays a log from the session's world: prints the reply of each entry up to the first that differs, and for that one
+/// the line of the mismatch, and ends there.
 ///
 /// `Failed` comes only where the sink's count of faults rose, or stands at 2^64 - 1. Then a prefix of that text was appended,
 /// and the session's world is one of those that the log's commands lead through.

@@ -22,7 +22,7 @@ pub record IsPlane (plane : Plane) : Type 0 where
   pub some : 0 < squared_length plane.normal
   pub offset : unsigned_abs plane.offset ≤ 2 ^ 40
 
--- a sphere within the range of both limits
+-- a sphere whose centre and radius are in the range of the greater limit
 pub record IsSphere (sphere : Sphere) : Type 0 where
   pub centre : Within (2 ^ 29) sphere.centre
   pub low : pos 0 ≤ℤ sphere.radius

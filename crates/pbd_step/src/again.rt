@@ -132,7 +132,7 @@ pub(crate) fn restore<const L: usize>(
 }
 
 /// A colouring takes over the flags and colours of another one of the same pairs, unless it has these flags, and so these colours.
-/// Whether it has them.
+/// Whether it had them.
 pub(crate) fn take_colours(colours: &mut Colouring, other: &Colouring) -> bool
     requires { colours.old.pairs ≡ other.now.pairs }
     ensures taken { colours.new ≡ record colours.old { live = other.now.live } }

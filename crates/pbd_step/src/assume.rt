@@ -16,7 +16,7 @@ use pbd_sound::{Described, Numbers, Unsound, judge, write_links, write_particles
 use pbd_store::Steps;
 use std::sync::ledger::Ledger;
 
-/// Makes a state the one that is described, with the weights and the links of another one.
+/// Makes a state the one that is described, with the weights of another one, and its links but for which of them are live.
 fn describe<const L: usize, D: Described, G: Ledger>(
     state: &mut State<L>,
     other: &State<L>,

@@ -131,8 +131,8 @@ impl<const L: usize, P: Projector<L> + Drop> Running<L, P> {
         Ok(())
     }
 
-    /// Projects all constraints as often as the scene says: in each pass the links, then the contacts, then the
-    /// shapes (the solver loop of Müller and others 2007). After a refusal places, totals and flags are any.
+    /// Takes as many passes as the scene says: in each the links, then the contacts, then the shapes (the solver loop of
+    /// Müller and others 2007). After a refusal places, totals and flags are any.
     pub(crate) fn project_in_passes<G: Ledger>(
         &mut self,
         setting: &Setting,

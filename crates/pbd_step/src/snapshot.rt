@@ -78,7 +78,7 @@ impl<const L: usize> Snapshot<L> {
         }
     }
 
-    /// The links, live ones and others.
+    /// The links, live ones and others. There are at most 524,288.
     pub fn links(&self) -> &[Link]
         requires lanes_high { L ≤ 16 }
         ensures value { result.now ≡ self.now.links }

@@ -56,7 +56,7 @@ pub struct Scratch {
     /// The live links, and the contacts, as they are projected.
     pub(crate) laid_links: BondColumns,
     pub(crate) laid_contacts: BondColumns,
-    /// Whether the live links are laid as they are now. What lets a link go, holds a particle or frees one says no here.
+    /// Whether the live links are known to be laid as they are now. What lets a link go, holds a particle or frees one says no here.
     pub(crate) are_links_laid: bool,
 }
 
