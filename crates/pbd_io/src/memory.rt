@@ -10,7 +10,7 @@ use crate::{Failed, Sink, Source};
 use std::alloc::{AllocError, Global};
 use std::marker::Model;
 
-/// Bytes in memory that come in pieces of a given length, and the numbers of the calls that fail.
+/// Bytes in memory that come in pieces of at most a given length, and the numbers of the calls that fail.
 /// Clauses see it as a `SourceState`.
 #[derive(Drop)]
 pub struct MemSource {

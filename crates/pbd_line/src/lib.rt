@@ -1,4 +1,4 @@
-//! One line of bytes, which is filled piece by piece and written in one call.
+//! One line of bytes, which is filled piece by piece, so that one call can write it.
 #![tactic(auto)]
 
 mod line;

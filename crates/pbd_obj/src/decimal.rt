@@ -15,7 +15,7 @@ const MOST_DIGITS: usize = 24;
 /// One more than the greatest size of a coordinate.
 const TOO_GREAT: u128 = 536_870_913;
 
-/// A decimal number as it is written: `digits` times ten to `power`, below zero with a minus.
+/// A decimal number as it is written: `digits` times ten to `power`, negated with a minus.
 #[derive(Clone, Copy)]
 pub struct Decimal {
     minus: bool,
@@ -47,7 +47,7 @@ fn mark_at(word: &[u8]) -> usize
     first_mark(word).unwrap_or(word.len())
 }
 
-/// The exponent behind a number, from its `e` on. None comes where it is not one.
+/// The exponent behind a number, from its `e` or `E` on, or 0 where nothing stands there. None comes where it is no exponent.
 fn exponent(word: &[u8]) -> Option<i64>
     ensures value { result ≡ exponent word.now }
     ensures size { IfSome result (λ e. unsigned_abs e ≤ 99) }

@@ -73,11 +73,11 @@ placed_track count before t =
       _ ← expect (not (list_any (λ u. u.particle == particle) before)) BadTrack place keys.Particle
       Ok (record { particle = particle; keys = t.keys })
 
--- a particle that stays where it is
+-- a particle that is held, at rest where it is
 abbrev pub held_still : Particle → Particle
 held_still p = record { at = p.at; before = p.at; weight = p.weight; held = true }
 
--- the particles from number i on, where those that are named stay
+-- the particles from number i on, where those that are named are held, at rest where they are
 unfoldable pub holding : List ℕ → ℕ → List Particle → List Particle
 holding named i [] = []
 holding named i (p ∷ ps) = (if is_among i named then held_still p else p) ∷ holding named (i + 1) ps

@@ -107,7 +107,7 @@ with_meshes limit s t = fold with_rope (fold with_cloth (plain_parts limit s t) 
 abbrev pub named : List ℕ → List Track → List ℕ
 named pins tracks = pins ++ map (λ t. t.particle) tracks
 
--- the parts with these tracks, where the particles that `pins` and the tracks name stay where they are
+-- the parts with these tracks, where the particles that `pins` and the tracks name are held, at rest where they are
 abbrev pub with_tracks : List ℕ → Parts → List Track → Parts
 with_tracks held parts tracks = record parts { particles = holding (named held tracks) 0 parts.particles; tracks = tracks }
 

@@ -105,7 +105,7 @@ fn entry_link(
     Ok(plain_link(a, b, rest_of(particles, a, b, l.rest), l))
 }
 
-/// Adds the links of the entries to those of the meshes, or answers the first rule that an entry breaks.
+/// Adds the links of the entries to those of the meshes, or answers the first rule that an entry breaks, unless memory runs out.
 pub fn add_links(
     alloc: Global,
     particles: &[Particle],

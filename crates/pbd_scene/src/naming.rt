@@ -137,7 +137,7 @@ fn held_if(named: bool, p: Particle) -> Particle
     }
 }
 
-/// The particles, where those that are named stay where they are.
+/// The particles, where those that are named are held, at rest where they are.
 pub fn holding(
     alloc: Global,
     names: &[u32],
