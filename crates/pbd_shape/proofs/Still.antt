@@ -103,7 +103,7 @@ module _ (limit : ℤ) (shapes : List Shape) (s : Passing)
       ∙ sym (pushed_still 0 many (λ j lt within. h (0 + j) within))
       ∙ pushed_all limit shapes (0 + many) s (omega arith) (omega (arith, flags))
 
--- the place in a lane is in the range of both limits, also where there is no particle
+-- the place in a lane is in the range of the greater limit, also where there is no particle
 pub lane_within : (n block j : ℕ) (limit : ℤ) (ps : List Particle) {v : Vec3} → unsigned_abs limit ≤ 2 ^ 29 → AreInside limit ps
     → v ≡ (particle_at ps (block * n + j)).at → Within (2 ^ 29) v
 lane_within n block j limit ps high inside e = subst (Within (2 ^ 29)) (sym e) (elim (cases_lt (block * n + j) (length ps)) [

@@ -27,7 +27,7 @@ pub formed_friction : (w : World) → IsTrue (is_well_formed (parts_of w)) → I
 formed_friction w h = (and_parts (nat_le w.passes 64 && is_between (pos 0) (pos 1024) w.damping
     && is_between (pos 0) (pos 1048576) w.thickness) (is_between (pos 0) (pos 256) w.friction) (formed (parts_of w) h).numbers).1
 
--- both places of each particle, damping and gravity are in the range of both limits
+-- both places of each particle, damping and gravity are in the range of the greater limit
 pub record IsMild (w : World) : Type 0 where
   pub at : (i : ℕ) → i < length w.particles → Within (2 ^ 29) (particle_at w.particles i).at
   pub before : (i : ℕ) → i < length w.particles → Within (2 ^ 29) (particle_at w.particles i).before

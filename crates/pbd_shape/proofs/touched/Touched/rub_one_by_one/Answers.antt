@@ -44,7 +44,7 @@ is_rubbed-rubs-requires g c =
     let span = c.span-span.ensures in
     omega (arith, span.within, c.requires.ready.flags, c.loop-j-test.true)
 
--- a place, and the place before, in the range of both limits
+-- a place, and the place before, in the range of the greater limit
 pub minus-requires : goal.minus-requires
 minus-requires g c =
     let span = c.span-span.ensures in
