@@ -146,7 +146,8 @@ counts_of cloth = record {
   slots = length cloth.slots;
 }
 
--- the links that went since slot k was saved: what the call answers, counts and leaves. A slot that isn't there leaves all.
+-- the links that are live in slot k's world and not live now: what the call answers, counts and leaves. A slot that isn't there
+-- leaves all.
 abbrev pub gone : Slotted → ℕ → List ℕ
 gone cloth k = gone_since (slot_at cloth k) cloth.world
 

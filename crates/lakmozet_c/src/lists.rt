@@ -101,7 +101,8 @@ pub extern "C" fn lak_links(
     })
 }
 
-/// Writes the numbers of the links that went since a slot was saved, and answers whether all fit.
+/// Writes the numbers of the links that are live in a slot's world and not live now, and answers whether all fit, or that there is
+/// no such slot.
 fn gone_since(cloth: &Cloth, slot: u32, into: &mut [u32], count: &mut u32) -> i32
     ensures answer { result ≡ pos (gone_answer cloth.now slot (length into.old)) }
     ensures count { count.new ≡ gone_count cloth.now slot count.old }

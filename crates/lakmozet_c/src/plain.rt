@@ -23,8 +23,9 @@ pub struct Fault {
     pub key: u8,
 }
 
-/// How a mesh is made cloth: the lengths above which its links tear, in units of 1/65,536 metre, 0 where they never do, the weight
-/// of each particle, from 1, and the stiffness of its links, in 256ths, at most 256. `bends` is 0 where it has no bend links.
+/// How a mesh is made cloth: the lengths above which its links tear, in units of 1/65,536 metre, at most 2,147,483,648, 0 where they
+/// never do, the weight of each particle, from 1, and the stiffness of its links, in 256ths, at most 256. `bends` is 0 where it has
+/// no bend links.
 #[repr(C)]
 #[derive(Clone, Copy)]
 pub struct MeshEntry {

@@ -30,7 +30,7 @@ pub fn run<S: Source, K: Sink>(
     // Status 1 comes only where the words are no form, and there always, but where its line can't be written; whatever the
     // source tells.
     ensures usage { TellsUsage (run_of S.Source K.Sink (job_of words.now) source.old sink.old source.new sink.new result) }
-    // `scramble` does what `simulate` does, whatever its number.
+    // Where the input is told and the status isn't 2, 3 or 12, `scramble` does what `simulate` does, whatever its number.
     ensures scrambled { ScramblesAlike (run_of S.Source K.Sink (job_of words.now) source.old sink.old source.new sink.new result) }
     // In `host`, where the scenes are accepted, the input is told and the status isn't 2, 3 or 12, each session writes what it
     // writes alone, but for the lines that name it, whatever is asked of the others.

@@ -62,7 +62,7 @@ pub record GoesWrongAt (scene bytes : List ℕ) (w : World) (offset : ℕ) : Typ
   pub so_far : take offset bytes ≡ take offset (state_bytes scene like)
   pub no_further : (v : World) → AreOfOneScene w v → take (offset + 1) bytes ≡ take (offset + 1) (state_bytes scene v) → ⊥
 
--- where the form is refused, it is at the first byte with which no state of the scene goes on
+-- where the form is refused, it is at the first byte with which no state of the scene goes on, or at the end where bytes are missing
 abbrev pub RefusedIsExact : Type 0
 RefusedIsExact = (scene bytes : List ℕ) (w : World) (fault : StateFault) → length scene ≡ 32 → IsBytes scene → IsBytes bytes
     → form_on scene w bytes ≡ Err fault → GoesWrongAt scene bytes w fault.offset

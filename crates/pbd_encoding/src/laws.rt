@@ -17,7 +17,7 @@ pub fn what_is_told_is_written()
     ensures { ToldIsWritten }
 {}
 
-/// The form of bytes is refused at the first byte with which no state of the scene goes on.
+/// The form of bytes is refused at the first byte with which no state of the scene goes on, or at their end where bytes are missing.
 pub fn refusals_are_exact()
     ensures { RefusedIsExact }
 {}

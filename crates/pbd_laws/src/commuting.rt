@@ -6,7 +6,7 @@ ghost use Rattle.pbd_laws.specs.Targets.{AreApart, AreAllApart};
 
 /// Players need no agreed order for inputs that name different things: two commands of which each names a particle, a link or
 /// the gravity, and not the same, come to the same world in either order, ledger included, and each has the same answer before
-/// and after the other. So do the commands of two players of whom neither names what the other does. Of two that name one
+/// and after the other. So do such commands of two players of whom neither names what the other does. Of two that name one
 /// particle nothing is said: there the later one may have its way.
 pub fn commands_that_name_different_things_commute()
     ensures world { (w : World) (c d : Command) → AreApart c d → after (after w c) d ≡ after (after w d) c }

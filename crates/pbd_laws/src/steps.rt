@@ -6,9 +6,9 @@ ghost use Rattle.pbd_world.specs.Meaning.{steps_of};
 ghost use Rattle.pbd_world.specs.Session.{refused_count};
 ghost use Rattle.pbd_laws.specs.Prelude.{Command, Step, World, after, reply, last_world};
 
-/// Step m and then step n is step m + n, where that is at most 100,000: a turn may be played as one command or as two. Where one of
-/// the two is refused, and m + n steps more make no more than 1,000,000, the whole is refused with the same step, phase and
-/// element, and its first part alone does as it does in the whole.
+/// Step m and then step n is step m + n, where both are at least 1 and that is at most 100,000: a turn may be played as one command
+/// or as two. Where one of the two is refused, and m + n steps more make no more than 1,000,000, the whole is refused with the same
+/// step, phase and element, and its first part alone does as it does in the whole.
 pub fn steps_add_up()
     ensures steps { (m n : ℕ) (w v : World) → steps_of m w ≡ Ok v → steps_of (m + n) w ≡ steps_of n v }
     ensures stops { (m n : ℕ) (w : World) (refusal : Refusal) → steps_of m w ≡ Err refusal → steps_of (m + n) w ≡ Err refusal }

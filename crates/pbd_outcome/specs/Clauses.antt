@@ -81,7 +81,7 @@ pub record TellsUsage (run : Run) : Type 0 where
   pub only : run.status ≡ Usage → run.job ≡ None
   pub always : run.job ≡ None → run.status ≢ WriteFault → run.status ≡ Usage
 
--- What `scramble` does is what `simulate` does at each width, whatever the number.
+-- What `scramble` does is what `simulate` does at each width, whatever the number, unless the status is one of these three.
 abbrev pub ScramblesAlike : Run → Type 0
 ScramblesAlike run = (number : ℕ) (width : Width) → run.job ≡ Some (Scramble number) → Settles (record run { job = Some (Simulate width) })
 

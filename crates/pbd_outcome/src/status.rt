@@ -28,7 +28,7 @@ pub enum Status {
     SceneRefused,
     /// The bytes are no log.
     LogRefused,
-    /// A record of the log differs from what the session answers.
+    /// An entry of the log differs from what the session answers.
     Mismatch,
     /// All went well, but a command was refused.
     SomeRefused,

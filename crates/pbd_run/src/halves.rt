@@ -18,7 +18,8 @@ pub struct Halves<'a> {
     pub script: &'a [u8],
 }
 
-/// The halves of an input. Where it has none, the line of that is written, unless memory ran out, and the status is the answer.
+/// The halves of an input. Where it has none, the line of that is written, unless memory ran out or the sink failed, and the status
+/// is the answer.
 pub fn halves_of<'a, K: Sink>(
     alloc: Global,
     input: &'a [u8],

@@ -38,7 +38,7 @@ pub fn scene_in(alloc: Global, bytes: &[u8], limit: i64) -> Result<Scene, SceneS
     }
 }
 
-/// Writes the line of a status, and answers it.
+/// Writes the line of a status, and answers the status, or `WriteFault` where the line can't be written.
 pub fn stop<K: Sink>(status: Status, sink: &mut K) -> Status
     requires plain { IsPlain status }
     ensures does { Does (stops status []) (K.written sink.old) (K.written sink.new) (K.faults sink.old) (K.faults sink.new) result }

@@ -41,7 +41,7 @@ pub fn are_few(text: &[u8]) -> bool
     false
 }
 
-/// Writes a line, and ends with a status.
+/// Writes a line, and ends with a status, or with `WriteFault` where the line can't be written.
 fn end_with<K: Sink>(line: &Line, status: Status, sink: &mut K) -> Status
     requires plain { IsPlain status }
     ensures { Does (record { text = line.now; status = status; rest = [] })
@@ -78,8 +78,8 @@ fn stop_in<K: Sink>(n: u32, why: SceneStop, sink: &mut K) -> Status
     }
 }
 
-/// Reads one scene more. Where it gives no parts, the line of that is written, unless memory ran out, and the status is the
-/// answer.
+/// Reads one scene more. Where it gives no parts, the line of that is written, unless memory ran out or the sink failed, and the
+/// status is the answer.
 fn add_scene<K: Sink>(
     alloc: Global,
     text: &[u8],
@@ -103,8 +103,8 @@ fn add_scene<K: Sink>(
     }
 }
 
-/// Reads at most 16 scenes. At the first that gives no parts the line of that is written, unless memory ran out, and the status
-/// is the answer.
+/// Reads at most 16 scenes. At the first that gives no parts the line of that is written, unless memory ran out or the sink failed,
+/// and the status is the answer.
 pub fn read_scenes<K: Sink>(alloc: Global, text: &[u8], sink: &mut K) -> Result<Vec<Scene>, Status>
     requires few { length (scenes text.now) ≤ 16 }
     ensures scenes { IfOk result (λ read. scenes_in 0 (scenes text.now) ≡ Ok read.items) }

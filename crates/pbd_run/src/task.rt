@@ -161,7 +161,7 @@ impl Counted for Scrambled<'_> {
     }
 }
 
-/// In which order the bonds of a batch are projected: side by side at a width, or as a seed draws it.
+/// In which order the bonds of a batch are projected: side by side, in a session of a width, or as a seed draws it.
 #[derive(Clone, Copy, Debug, PartialEq, Eq)]
 pub enum BatchOrder {
     AtWidth(Width),

@@ -85,7 +85,8 @@ fn in_scene<'a>(alloc: Global, text: &[u8], halves: Halves<'a>) -> Result<Thirds
     }
 }
 
-/// The thirds of an input. Where it has none, the line of that is written, unless memory ran out, and the status is the answer.
+/// The thirds of an input. Where it has none, the line of that is written, unless memory ran out or the sink failed, and the status
+/// is the answer.
 pub fn thirds_of<'a, K: Sink>(
     alloc: Global,
     input: &'a [u8],

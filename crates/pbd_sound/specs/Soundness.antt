@@ -93,7 +93,7 @@ is_same_sum s t = int_eq s.x t.x && int_eq s.y t.y && int_eq s.z t.z
 unfoldable pub is_balanced : Sum → Ledger → List Particle → Bool
 is_balanced opening t ps = is_same_sum (momentum ps) (both_sums opening (all_totals t))
 
--- how far a total may have grown: by 2^64 in each step, and not at all where nothing makes such moves
+-- how far a total may have grown: by 2^64 in each step, and not at all where no step changes it
 abbrev pub most_unless : Bool → ℕ → ℕ
 most_unless still steps = if still then 0 else 2 ^ 64 * steps
 
