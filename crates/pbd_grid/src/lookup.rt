@@ -37,7 +37,7 @@ pub(crate) struct Crowd<'a> {
     pub(crate) cells: Cells,
 }
 
-// The number of the cube of a coordinate, by a division of 32 bits, which is much faster than one of 64.
+// The number of the cube of a coordinate, by a division of 32 bits, which is faster than one of 64 on many processors.
 fn on_axis(x: i64, side: u32) -> u32
     requires x { unsigned_abs x ≤ 2 ^ 29 }
     requires low { 0 < side }

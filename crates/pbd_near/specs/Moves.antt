@@ -8,7 +8,7 @@ use Rattle.pbd_num.specs.PairMove.{corrections}
 abbrev pub pulled_by : ℤ → Bool → ℤ → ℕ → ℤ
 pulled_by factor contact rest length = if contact && int_le rest (pos length) then pos 0 else factor
 
--- `move` is the part f / 512 of how far `way` is from the length `rest`, where f is the factor that counts, and is short; `factor`
+-- `move` is short, and is the part f / 512 of how far `way` is from the length `rest`, where f is the factor that counts; `factor`
 -- isn't below 0, and `way` isn't of length 0
 pub record IsPulled (way : Vec3) (rest factor : ℤ) (contact : Bool) (move : Vec3) : Type 0 where
   pub asked : pos 0 ≤ℤ factor

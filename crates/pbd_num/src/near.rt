@@ -1,4 +1,4 @@
-// Guesses of roots, and of quotients by them, by products, sums and shifts of whole numbers, without a division
+// Guesses of roots, and of quotients by them, by products, sums and shifts of whole numbers, without a division but by 2
 // (docs/SPEED.md has why). An exact test stands behind each, so nothing is said of a guess but its size. Products are of the
 // low 32 bits of numbers, so that what lies above them needs no bound.
 ghost use Rattle.std.specs.Prelude.{◌<◌, ◌≤◌, ◌^◌, ◌+◌, pos, ◌<ℤ◌, ◌≤ℤ◌};
@@ -105,8 +105,8 @@ pub(crate) fn near_root(n: i64) -> NearRoot
 }
 
 impl NearRoot {
-    /// A number near `e * d / root`, rounded. It is a little too great rather than too small, so that halves go away from
-    /// zero.
+    /// A number near `e * d / root`, rounded, where `d` is at most `root` in size. Its size is a little too great rather than
+    /// too small, so that halves go away from zero.
     #[inline(always)]
     pub(crate) fn near_quotient(self, e: i32, d: i32) -> i32 {
         let axis = u64::from(d.unsigned_abs()) << (self.half & 31);

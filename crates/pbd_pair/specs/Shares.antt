@@ -38,7 +38,7 @@ pub record IsPortionOf (stiffness weight other : ℤ) (p : Portion) : Type 0 whe
   pub first : pos p.first ≡ weight
   pub total : 0 < unsigned_abs weight + unsigned_abs other → p.total ≡ unsigned_abs weight + unsigned_abs other
 
--- what a share leaves of `pulled` * `first` / (256 * `total`), and a half
+-- what a share leaves of `pulled` * `first` / (256 * `total`), and a half, all of it times 256 * `total`
 abbrev pub Leaves : Portion → ℕ → ℕ → ℕ → Type 0
 Leaves p pulled share left = left + share * (256 * p.total) ≡ pulled * p.first + 128 * p.total
 

@@ -11,8 +11,8 @@ use pbd_store::{Steps, Store};
 use pbd_world::{Left, Totals};
 use std::sync::ledger::Ledger;
 
-/// Projects bonds side by side, up to 128 together: a multiple of L of them, but for the last of a batch. A bond whose move isn't
-/// found exactly so is projected alone.
+/// Projects bonds side by side, up to 128 together: a multiple of L of them, but for the last of a batch. A move that isn't found
+/// exactly so is found for its bond alone, and the bonds of its chunk may then go one by one.
 #[derive(Clone, Copy)]
 pub struct LaneProjector<const L: usize> {
     count: u64,

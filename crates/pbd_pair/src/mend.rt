@@ -1,4 +1,5 @@
-// The bonds of a chunk that the loops of 64-bit numbers left, each corrected exactly and told by a row where one row can.
+// The bonds of a chunk that the loops of 64-bit numbers left, corrected exactly and told by a row each, until one row can't tell the
+// moves of a bond.
 ghost use Rattle.std.specs.Prelude.{◌≡◌, ◌<◌, ◌≤◌, ◌^◌, pos, ◌<ℤ◌, ◌≤ℤ◌, length, slice_index_or, IsTrue};
 ghost use Rattle.pbd_pair.specs.Prelude.{opposite, row_in, vector_of, Within};
 ghost use Rattle.pbd_pair.specs.Bonds.{bond_of};

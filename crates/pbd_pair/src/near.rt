@@ -36,8 +36,8 @@ pub(crate) enum Told {
 #[derive(Clone, Copy)]
 pub(crate) struct NearMoves {
     near: Near,
-    /// A row of each bond: the move of its second end where that is free, and else the opposite of that of its first; for
-    /// unequal weights the whole correction, which is shared then.
+    /// A row of each bond: the move of its second end where that is free, and else the opposite of that of its first where
+    /// that is; for unequal weights the whole correction, which is shared then.
     moves: [Row; CHUNK],
     /// The opposites of the moves of the first ends.
     back: [Row; CHUNK],

@@ -11,8 +11,8 @@ use pbd_store::{Steps, Store};
 use pbd_world::{Left, Totals};
 use std::sync::ledger::Ledger;
 
-/// What projects batches of constraints: bonds of which no two share a particle, as those of one colour in a Gauss-Seidel
-/// sweep, so that the order within a batch has no effect but on which bond `Left` names.
+/// What projects batches of constraints: bonds of which no two share a particle, as those of one colour below 63 in a
+/// Gauss-Seidel sweep, so that the order within a batch has no effect but on which bond `Left` names.
 pub trait Projector<const L: usize> {
     /// Its lane width.
     ghost width: { Self → ℕ };

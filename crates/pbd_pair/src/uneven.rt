@@ -113,8 +113,8 @@ fn signed(axis: i32, share: i32) -> i32
 }
 
 impl Portion {
-    // What the first end's share leaves of its part of `pulled`, and a half: from 0 up and less than 256 * `total` where the
-    // share is right.
+    // What the first end's share leaves of its part of `pulled`, in 256 * `total`, and a half: from 0 up and less than
+    // 256 * `total` where the share is right.
     #[inline(always)]
     fn left(self, pulled: u32, share: u32) -> i64
         requires portion { IsPortion self }
