@@ -88,9 +88,9 @@ const ROWS: &[Row] = &[
     (MarkCommand::Rewind(1), (DONE, 0, 2, 1000)),
 ];
 
-/// The same with a pass in each step: the link to the third particle pulls the first one, and goes back to as it was marked with
-/// the same pins and links, after each of these changes, and with one that tore. Behind a change stand how many links are live
-/// then, and the height a step later.
+/// The same with a pass in each step: the link to the third particle pulls the first one, and pulls it so again after a rewind
+/// beside the pins and links of its mark, after one past each of these changes, and after one past a link that tore. Behind a
+/// change stand how many links are live then, and the height a step later.
 macro_rules! pulled {
     ($($change:expr, $live:literal, $high:literal);*) => {
         &[

@@ -49,7 +49,7 @@ fn coloured(alloc: Global, particles: u32, pairs: &[(u32, u32)]) -> Option<Colou
     }
 }
 
-// Drops some of the pairs, all of which are live, where their numbers rise.
+// Drops some of the pairs, all of which are live. False where their numbers don't rise, or one isn't below `count`.
 fn drop_some(colouring: &mut Colouring, count: u32, numbers: &[u32]) -> bool
     requires { colouring.old.live ≡ replicate count true }
     ensures pairs { colouring.new.pairs ≡ colouring.old.pairs }

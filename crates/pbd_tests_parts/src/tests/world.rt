@@ -69,7 +69,7 @@ const BROKEN: Beside = Beside {
     ..CLOTH
 };
 
-/// A held seventh particle, whose tracks make it no scene.
+/// A held seventh particle beside it, and tracks that make it no scene unless a row says that it is one.
 const MISLED: Beside = Beside {
     particles: &[held!(0, 9, 0)],
     ..BROKEN

@@ -26,7 +26,7 @@ static READERS: [(&str, &[u8], &[u8]); 7] = [
     ),
 ];
 
-/// How many runs are wrong whose source gives so many bytes a call, and whose read of this number fails, each with a fault.
+/// One where a run whose read of this number fails doesn't end with a read fault, which is told then, and else nothing.
 fn wrong_read(rt: &HostRuntime, run: &Given<'_>, call: u64) -> u32 {
     let failing = Given {
         reads: &[call],
@@ -76,8 +76,8 @@ fn each_failed_read_ends_a_run(rt: HostRuntime) -> Result<(), WrongRows> {
     all_hold(wrong_readers(&rt, &READERS))
 }
 
-/// Words, an input, what is written, and how many bytes each call of `write` is handed: each line of a reply or a mark by
-/// one, and a face corner by corner.
+/// Words, an input, what is written, of `large` the first line alone, and how many bytes each call of `write` is handed for it:
+/// each line and each part of a log by one, and a face corner by corner.
 type Writer = (&'static str, &'static [u8], &'static [u8], &'static [usize]);
 
 static WRITERS: [Writer; 14] = [

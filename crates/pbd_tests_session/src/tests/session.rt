@@ -352,7 +352,7 @@ fn each_line_and_each_part_of_a_log_is_one_call(rt: HostRuntime) -> Result<(), W
 }
 
 /// A byte of a log, its wrong value, how its replay ends then, and what is printed: the first record that differs, its field,
-/// and the numbers that are recorded and found, behind the reply to a step that is done.
+/// and the numbers that are recorded and found, behind the reply of the record before it, where there is one.
 struct Wrong {
     at: usize,
     byte: u8,

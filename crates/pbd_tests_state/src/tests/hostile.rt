@@ -100,8 +100,8 @@ fn fault_of<G: Ledger>(
 const STARTS: &str =
     "has no room in one byte less, and has this size, this digest and a first step";
 
-/// Takes a solver's first step. One where its state before that isn't of the size and the digest that it should be, which is
-/// told then, and else nothing.
+/// Takes a solver's first step. One where its state before that has room in one byte less, or isn't of the size and the digest
+/// that it should be, or the step isn't done, which is told then, and else nothing.
 fn wrong_start<G: Ledger>(rt: &impl Eprint, solver: &mut Tested, steps: &mut Steps<G>) -> u32 {
     let mut room = [0; SIZE - 1];
     let shown = solver.shown();
@@ -117,7 +117,7 @@ fn wrong_start<G: Ledger>(rt: &impl Eprint, solver: &mut Tested, steps: &mut Ste
     )
 }
 
-/// How many rows don't hold where a solver reads its own state, changed. Each of them is told.
+/// How many rows don't hold where a solver reads its own state, changed, and one more where its start doesn't. Each is told.
 fn wrong_rows<G: Ledger>(rt: &impl Eprint, blank: Blank, solver: &mut Tested, rows: &[Row]) -> u32
     requires name { blank.name ≡ G.name }
     requires parts { blank.parts ≡ G.parts }

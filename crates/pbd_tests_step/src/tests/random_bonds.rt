@@ -55,9 +55,9 @@ const CONTACTS: Lengths = Lengths {
     ..SHORT
 };
 
-/// A chunk of up to 128 bonds goes by loops of 32-bit numbers where all its rest lengths are below 16,384 and all its lengths below
-/// 32,768. Else it is tried by loops of 64-bit numbers, and its moves are booked one by one only where a bond has free ends of
-/// unequal weights, or a move is not within 4,194,304 on an axis.
+/// A chunk of up to 128 bonds goes by loops of 32-bit numbers where all its rest lengths are below 16,384, all its lengths are above
+/// 0 and below 32,768, and all that is guessed is right. Else it is tried by loops of 64-bit numbers, and its moves are booked one
+/// by one only where a bond has free ends of unequal weights, or a move is not within 4,194,304 on an axis.
 static LINKS: [Lengths; 24] = [
     // Links that should be shorter than a fourth of a metre.
     SHORT,
@@ -102,7 +102,7 @@ static LINKS: [Lengths; 24] = [
         stray: 32_767,
         ..SHORT
     },
-    // Links of a fourth of a metre and more.
+    // Links that are mostly a fourth of a metre long or more, and short ones of which one in 128 is.
     Lengths {
         name: "links of a metre",
         ways: 0x0001_ffff,
@@ -191,7 +191,7 @@ static LINKS: [Lengths; 24] = [
         stray: 13_107_200,
         ..SHORT
     },
-    // Links at the edge of the range, of which some leave it.
+    // Links of which some leave the range: at its edge, and of any length anywhere in it.
     Lengths {
         name: "links of a few units, pulled out of the range at its edge",
         draws: 4,

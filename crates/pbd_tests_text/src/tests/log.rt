@@ -237,7 +237,7 @@ fn each_cut_and_what_is_too_long_are_refused(rt: HostRuntime) -> Result<(), Wron
     all_hold(wrong)
 }
 
-/// What becomes of the bytes with this one set.
+/// Where the bytes are refused with this one set, or none where they are taken.
 fn offset_with<const N: usize>(bytes: &[u8; N], (at, byte): (usize, u8)) -> Option<u64> {
     let mut changed = *bytes;
     if at < N {
@@ -246,10 +246,10 @@ fn offset_with<const N: usize>(bytes: &[u8; N], (at, byte): (usize, u8)) -> Opti
     offset_of(&changed)
 }
 
-/// Where a log is refused that has a wrong byte, and such bytes, each behind its index.
+/// Where a log is refused of which one byte is another, or none where it is taken, and such bytes, each behind its index.
 type Wrong = (Option<u64>, &'static [(usize, u8)]);
 
-/// How many wrong bytes of a log don't have their offsets. Each of them is told.
+/// How many changed bytes of a log don't come to what their rows say. Each of them is told.
 fn wrong_rows<const N: usize>(rt: &impl Eprint, bytes: &[u8; N], rows: &[Wrong]) -> u32 {
     let mut wrong = 0u32;
     for (offset, changes) in rows {
