@@ -110,7 +110,7 @@ const PULLS: Case = Case {
 };
 
 const TOUCHES: Case = Case {
-    name: "two that just touch",
+    name: "two just a thickness apart",
     particles: &[free!(0, 0, 1), free!(100, 0, 1)],
     bonds: Bonds::Contacts {
         pairs: &[(0, 1)],

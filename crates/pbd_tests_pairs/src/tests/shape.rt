@@ -271,7 +271,7 @@ const LIFTING: Shapes<'static> = Shapes {
 
 static PUSHES: [Case; 5] = [
     Case {
-        name: "three in a ball",
+        name: "two in a ball and one on it",
         particles: &[resting!(3, 4, 0), resting!(0, 0, 0), resting!(10, 0, 0)],
         shapes: Shapes {
             spheres: &[ball!(10)],

@@ -157,6 +157,6 @@ fn wrong_forms(rt: &HostRuntime, forms: &[Forms]) -> u32 {
 }
 
 #[test]
-fn a_cloth_is_the_same_in_three_forms(rt: HostRuntime) -> Result<(), WrongRows> {
+fn cloths_are_the_same_at_every_width_and_scrambled(rt: HostRuntime) -> Result<(), WrongRows> {
     all_hold(wrong_forms(&rt, &CLOTHS))
 }

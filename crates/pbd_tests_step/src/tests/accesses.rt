@@ -156,8 +156,6 @@ fn wrong_rows(rt: &HostRuntime, rows: &[Row]) -> u32 {
 }
 
 #[test]
-fn bonds_are_handed_on_in_as_many_pieces_as_their_work_says(
-    rt: HostRuntime,
-) -> Result<(), WrongRows> {
+fn bonds_may_cost_four_accesses_a_piece(rt: HostRuntime) -> Result<(), WrongRows> {
     all_hold(wrong_rows(&rt, &ROWS))
 }

@@ -193,7 +193,7 @@ static LINKS: [Lengths; 24] = [
     },
     // Links of which some leave the range: at its edge, and of any length anywhere in it.
     Lengths {
-        name: "links of a few units, pulled out of the range at its edge",
+        name: "short links, pulled out of the range at its edge",
         draws: 4,
         pairs: 512,
         from: RANGE - 0xffff,
@@ -319,7 +319,7 @@ static MASSES: [Masses; 6] = [
         stream: 5,
     },
     Masses {
-        name: "weights of which two are the same as often as not",
+        name: "weights of which two are often the same",
         weights: [1, 1, 1, 1, 65_535, 65_535, 2, 300],
         stray: 0,
         held: 8,

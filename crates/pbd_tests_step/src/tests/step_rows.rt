@@ -18,7 +18,7 @@ macro_rules! leaves {
     };
 }
 
-const ABOVE_A_PLANE: Drawing = Drawing {
+const BEHIND_A_PLANE: Drawing = Drawing {
     particles: &[free!(0, 0)],
     planes: &[plane!(1, 2, 2, 20)],
     ..EMPTY
@@ -156,7 +156,7 @@ pub(crate) static ROWS: [Row; 28] = [
     // Contacts and shapes push.
     row!("contacts push"; PUSHES; [STEP] => -1, 0, 0; 100, 0, 0; 100, 0, 0),
     row!("a torn link's ends touch"; TEARS_THEN_TOUCHES; [done!(Step(2))] => 0, 0, 0; 50, 0, 0),
-    row!("a plane pushes"; ABOVE_A_PLANE; [STEP] => 2, 4, 4),
+    row!("a plane pushes"; BEHIND_A_PLANE; [STEP] => 2, 4, 4),
     row!("a sphere pushes"; ON_A_SPHERE; [STEP] => 6, 8, 0; 0, 10, 0; 10, 0, 0),
     row!("friction by half"; Drawing { friction: 128, ..ON_A_SPHERE };
         [done!(Step(2))] => 7, 10, 0; 0, 15, 0; 10, 0, 0),
