@@ -2,7 +2,7 @@
 import { $, fail, game, told } from "./game.js";
 import { equal, hex } from "./lakmozet.js";
 import { Network } from "./network.js";
-import { SCENE, STEPS, packSession, unpackSession } from "./scene.js";
+import { LONGEST, SCENE, STEPS, packSession, unpackSession } from "./scene.js";
 import { Side } from "./side.js";
 import { drawWire, traffic } from "./wire.js";
 
@@ -73,7 +73,7 @@ $("share").addEventListener("click", async () => {
     if (!address) return told("This session began from a file, so its inputs don’t tell all of it. Save it as a file again.");
     history.replaceState(null, "", address);
     await navigator.clipboard?.writeText(address).catch(() => {});
-    told("The address has all turns of which the first player has both inputs, and was copied. Opened in a new tab, it shows the frame they come to.");
+    told(`The address has all turns that the first player has played with both inputs, and was copied where the browser allows it. Opened in a new tab, it shows the frame they come to, unless they are more than ${spelled(LONGEST)}.`);
 });
 
 // ---- a world as a file: its state, as the library writes it
@@ -181,7 +181,7 @@ async function begin(start = null) {
     game.clock = game.ahead / 0.06;
     broke = null;
     offer(false);
-    told("Moves a corner by 0.015 mm, in world 2 only. Your eyes won’t see it. The digests will.");
+    told("Moves a corner by 0.015 mm, in world 2 only. Your eyes won’t see it, unless the corner was freed. The digests will.");
     await Promise.all(sides.map(side => side.open(start)));
 }
 

@@ -41,7 +41,7 @@ export class Player {
     // Turns that can't change any more: both inputs are known, and they are played with them.
     get sure() { return Math.min(this.known, this.turn); }
 
-    // The turns of which this player has both inputs, as a link carries them.
+    // The turns that this player has played with both inputs, as a link carries them.
     get session() {
         return this.inputs.map(list => Array.from({ length: this.sure }, (_, turn) => list[turn] ?? NOTHING));
     }

@@ -67,7 +67,7 @@ function finish({ turns }) {
 
 const answers = {
     open, frame, finish,
-    // The turns that both are sure of, and the state that they came to.
+    // The turns that this player is sure of, and the state that they came to.
     sure: () => ({ session: player.session, whole: player.whole, ...player.sureWorld }),
     wrong: ({ state }) => ({ offset: player.wrongIn(state) }),
 };
