@@ -45,15 +45,16 @@ export function drawWire(now) {
 }
 
 // What the network carried, and how many frames were drawn, in the last second.
-let mark = { at: 0, bytes: 0 }, frames = 0, since = performance.now();
+let mark = null, frames = 0, since = performance.now();
 export function traffic(now) {
-    const real = performance.now();
+    const real = performance.now(), { network } = game;
     frames++;
-    if (now < mark.at) mark = { at: now, bytes: 0 };
+    // (a network that is new carried nothing before)
+    if (mark?.network !== network) mark = { network, at: now - 1000, bytes: 0 };
     if (now - mark.at < 1000 || real - since < 1000) return;
-    const rate = ((game.network.bytes - mark.bytes) / (now - mark.at) / 1.024).toFixed(1), drawn = frames * 1000 / (real - since);
-    $("traffic").textContent = `${rate} KB/s both ways · ${game.network.lost} of ${game.network.sent} lost · ${drawn.toFixed(drawn < 9.5 ? 1 : 0)} frames/s`;
-    mark = { at: now, bytes: game.network.bytes };
+    const rate = ((network.bytes - mark.bytes) / (now - mark.at) / 1.024).toFixed(1), drawn = frames * 1000 / (real - since);
+    $("traffic").textContent = `${rate} KB/s both ways · ${network.lost} of ${network.sent} lost · ${drawn.toFixed(drawn < 9.5 ? 1 : 0)} frames/s`;
+    mark = { network, at: now, bytes: network.bytes };
     frames = 0;
     since = real;
 }
