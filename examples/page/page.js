@@ -6,7 +6,7 @@ import { LONGEST, SCENE, STEPS, packSession, unpackSession } from "./scene.js";
 import { Side } from "./side.js";
 import { drawWire, traffic } from "./wire.js";
 
-let sides = [], restarting = false;
+let sides = [], restarting = false, arrived = false;
 const spelled = number => number.toLocaleString("en");
 const units = { delay: " ms", jitter: " ms", loss: " %" };
 for (const name of Object.keys(units)) {
@@ -73,7 +73,7 @@ $("share").addEventListener("click", async () => {
     if (!address) return told("This session began from a file, so its inputs don’t tell all of it. Save it as a file again.");
     history.replaceState(null, "", address);
     await navigator.clipboard?.writeText(address).catch(() => {});
-    told(`The address has all turns that the first player has played with both inputs, and was copied where the browser allows it. Opened in a new tab, it shows the frame they come to, unless they are more than ${spelled(LONGEST)}.`);
+    told(`The address has all turns that the first player has played with both inputs, and was copied where the browser allows it. Opened in a tab with another address, it shows the frame they come to, unless they are more than ${spelled(LONGEST)}.`);
 });
 
 // ---- a world as a file: its state, as the library writes it
@@ -125,6 +125,7 @@ let before = null;
 function live(real) {
     requestAnimationFrame(live);
     if (restarting) return;
+    if (arrived) return visit();
     const passed = before === null || game.paused ? 0 : Math.min(50, real - before);
     before = real;
     // Where a machine can't keep up, or the page was hidden, the clock of the game goes slower.
@@ -196,13 +197,25 @@ async function anew(start, text) {
 }
 $("again").addEventListener("click", () => anew());
 
-try {
-    const module = await WebAssembly.compileStreaming(fetch("lakmozet.wasm"));
-    const both = [new Side(0, module), new Side(1, module)], session = await given().catch(() => undefined);
-    sides = both;
+// Begins with the session that the address has, which goes on at a touch, or with a new one.
+async function visit() {
+    restarting = true;
+    arrived = false;
+    const session = await given().catch(() => undefined);
     game.paused = Boolean(session);
     await begin(session && { session, whole: true });
     if (session === undefined) told("The address can’t be read, so this is a new session.", true);
+    restarting = false;
+}
+// A link that comes into the open page's address is taken by the next frame. (What the page puts there itself makes no such event.)
+addEventListener("hashchange", () => {
+    arrived = true;
+});
+
+try {
+    const module = await WebAssembly.compileStreaming(fetch("lakmozet.wasm"));
+    sides = [new Side(0, module), new Side(1, module)];
+    await visit();
     window.sides = sides;
     if (game.seed !== null) {
         for (const name of ["alone", "share", "save", "load"]) $(name).disabled = true;
