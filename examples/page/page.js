@@ -31,6 +31,7 @@ $("alone").addEventListener("click", async () => {
         const start = await sides[0].ask({ what: "sure" }), turns = start.session[0].length;
         await anew(start, `Mended after turn ${turns - 1}: world 2 read the ${spelled(start.state.length)} bytes of world 1’s state.`);
     } else if (!broke) {
+        game.paused = false;
         broke = { at: game.clock };
         sides[1].lonely = true;
         told("Playing it in world 2 alone …");
