@@ -129,12 +129,11 @@ function live(real) {
     if (arrived) return visit();
     const passed = before === null || game.paused ? 0 : Math.min(50, real - before);
     before = real;
-    // Where a machine can't keep up, or the page was hidden, the clock of the game goes slower.
+    // Where a machine can't keep up, or the page was hidden, the clock of the game goes slower. (Where both wait it goes on, or
+    // no packet would come.)
     const tick = Math.max(...sides.map(s => s.state.tick)), stuck = game.ahead - tick > 10;
-    if (!stuck) {
-        game.clock += passed;
-        game.ahead += passed * 0.06;
-    }
+    if (!stuck || sides.every(s => s.state.waiting)) game.clock += passed;
+    if (!stuck) game.ahead += passed * 0.06;
     for (const side of sides) {
         if (side.asked) continue;
         const waits = side.state.waits;
