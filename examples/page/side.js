@@ -141,6 +141,7 @@ export class Side {
     // ---- hands
 
     nearest(x, y, reach = 46) {
+        if (!this.state) return null;
         let best = null, least = Infinity;
         for (let i = 0; i < SIDE * SIDE; i++) {
             const [px, py, far] = this.view.onCanvas(i);
@@ -190,6 +191,7 @@ export class Side {
 
     // Cuts the live links that a stroke crosses on the picture.
     cut(x0, y0, x1, y1) {
+        if (!this.state) return;
         const p = Array.from({ length: SIDE * SIDE }, (_, i) => this.view.onCanvas(i));
         const side = (ax, ay, bx, by, cx, cy) => (bx - ax) * (cy - ay) - (by - ay) * (cx - ax);
         this.links.forEach(([a, b], l) => {
@@ -287,6 +289,7 @@ export class Side {
     lean(degrees) {
         const d = Math.max(-25, Math.min(25, degrees)), a = d * Math.PI / 180;
         $(`tilt${this.id}`).value = d;
+        game.paused = false;
         this.wants.push([TURN, 0, Math.round(Math.sin(a) * GRAVITY), -Math.round(Math.cos(a) * GRAVITY), 0]);
     }
 
