@@ -14,7 +14,7 @@ export const game = {
     network: new Network(1),
     clock: 0,           // milliseconds of play
     ahead: 0,           // steps that should be played by now
-    touched: false,     // whether a hand did something
+    touched: false,     // whether a pointer went down on a cloth, or Space was pressed there
     paused: false,      // whether a session is shown that goes on at a touch
 };
 game.limit = seed === null ? Infinity : game.turns * STEPS;

@@ -41,8 +41,8 @@ export class World {
 
     take(size) { return this.lak.lak_take(size) >>> 0; }
 
-    // Takes memory for all that is read and written. No call on an open handle takes memory, so the memory can't grow from here on,
-    // and its views stay good.
+    // Takes the rest of the memory for what is read and written. No call on an open handle takes memory, so the memory can't grow
+    // from here on, and its views stay good.
     makeRoom() {
         const { particles, stateSize } = this, links = this.links.length;
         this.placesAt = this.take(PLACES * particles);

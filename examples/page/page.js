@@ -89,7 +89,7 @@ async function save() {
     told(`Saved world 1 after ${turns} turns, ${spelled(state.length)} bytes whose SHA-256 is the digest ${hex(digest).slice(0, 16)}…`);
 }
 
-// Both worlds go over to the one that a file has, if it is a state of the scene.
+// Both worlds go over to the one that a file has, if it is a state of the scene (and no other session is being opened).
 async function load(bytes) {
     const { offset } = await sides[0].ask({ what: "wrong", state: bytes });
     if (offset !== undefined) return told(`Refused: at byte ${spelled(offset)} the file stops being a state of this scene.`, true);
@@ -182,7 +182,7 @@ async function begin(start = null) {
     game.clock = game.ahead / 0.06;
     broke = null;
     offer(false);
-    told("Moves a corner by 0.015 mm, in world 2 only. Your eyes won’t see it, unless the corner was freed. The digests will.");
+    told("Moves a corner by 0.015 mm, in world 2 only. Your eyes won’t see it, unless the corner was freed or just moved. The digests will.");
     await Promise.all(sides.map(side => side.open(start)));
 }
 
@@ -207,7 +207,8 @@ async function visit() {
     if (session === undefined) told("The address can’t be read, so this is a new session.", true);
     restarting = false;
 }
-// A link that comes into the open page's address is taken by the next frame. (What the page puts there itself makes no such event.)
+// A link that comes into the open page's address is taken by the next frame of `live`, or the first after a restart.
+// (What the page puts there itself makes no such event.)
 addEventListener("hashchange", () => {
     arrived = true;
 });

@@ -19,10 +19,10 @@ export class Player {
         this.known = 0;             // turns of the other that are known without a gap
         this.theyKnow = 0;          // my turns that the other has
         this.tick = 0;              // steps played
-        this.after = [];            // the digest after each turn that can't change any more
-        this.settled = 0;           // turns that have it
+        this.after = [];            // by turn: the digest after it, made when it can't change any more
+        this.settled = 0;           // turns for which none is to be made any more
         this.theirs = [];           // digests that the other is sure of
-        this.compared = 0;          // turns whose digests were compared
+        this.compared = 0;          // turns whose digests were compared or needn't be
         this.desync = null;
         this.again = 0;
         this.lastAgain = 0;
@@ -46,7 +46,7 @@ export class Player {
         return this.inputs.map(list => Array.from({ length: this.sure }, (_, turn) => list[turn] ?? NOTHING));
     }
 
-    // Begins at the end of a session that was: plays its turns, or goes over to the state that they came to.
+    // Begins at the end of a session that was: plays its turns, or goes over to a state that is given.
     follow(session, state) {
         const turns = session[0].length;
         this.inputs = session.map(list => [...list]);
@@ -56,7 +56,7 @@ export class Player {
         this.known = this.theyKnow = this.compared = this.settled = turns;
     }
 
-    // What a function answers of a world that isn't this one, to which this one comes back.
+    // Lets a function go to another world, comes back to this one, and answers what it answered.
     elsewhere(ask) {
         this.world.save(SPARE);
         const answer = ask();
@@ -77,7 +77,7 @@ export class Player {
     // How many bytes stand before what can't be in a state of this scene, or nothing where it is one.
     wrongIn(state) { return this.elsewhere(() => this.world.readState(state)); }
 
-    // Says what this player does, at this step of the turn.
+    // Says what this player does, at this step of the turn, if it has room; cuts wait for room, and come at a turn's first step.
     want(kind, n, x = 0, y = 0, z = 0) {
         const step = (this.tick + STEPS - 1) % STEPS;   // a turn begins with what came right after the last one was sealed
         if (kind === CUT) {
@@ -147,7 +147,7 @@ export class Player {
         });
     }
 
-    // A refusal is an answer like any other: the same in both worlds, and nothing is changed by it. (A turn's cuts come last.)
+    // A refusal is an answer like any other: the same in both worlds, and nothing is changed by it. (A player's cuts come last in a step.)
     play([, kind, n, x, y, z]) {
         const w = this.world;
         if (kind === PIN) return w.pin(n);
@@ -156,7 +156,7 @@ export class Player {
         return w.gravity(x, y, z);
     }
 
-    // Takes what has come; where a turn was played without an input that has come now, goes back to its slot and plays on.
+    // Takes what has come; where a turn was played without commands that have come now, goes back to its slot and plays on.
     receive(now, packets) {
         const from = Math.min(Infinity, ...packets.map(bytes => this.take(bytes)));
         this.lastAgain = from < Infinity ? this.playAgain(from) : 0;
@@ -166,7 +166,7 @@ export class Player {
         return this.lastAgain;
     }
 
-    // Takes a packet, and answers the first turn that was played without an input that it has, or infinity.
+    // Takes a packet, and answers the first turn that was played without commands that it has, or infinity.
     take(bytes) {
         const it = unpack(bytes);
         let from = Infinity;
@@ -201,7 +201,7 @@ export class Player {
     // Compares what the other told of turns with what they came to here.
     compare(now) {
         while (this.compared < this.sure) {
-            // A packet tells the digest of one turn; what no packet told is skipped, since a later one says as much.
+            // A packet tells the digest of one turn; what no packet told yet is skipped once a later one is told, which says as much.
             if (this.theirs[this.compared]) {
                 const same = equal(this.theirs[this.compared], this.after[this.compared]);
                 if (!same && !this.desync) this.desync = { turn: this.compared, seen: this.turn, now };
@@ -217,7 +217,7 @@ export class Player {
         for (const list of [this.alone, this.after]) if (old >= 0) delete list[old];
     }
 
-    // Sent once a turn: all that the other may not have, so that a lost packet is mended by the next.
+    // Sent as a turn begins, and after 50 milliseconds without: all that the other may not have, so that the next mends a lost packet.
     tell(now) {
         const first = this.theyKnow, inputs = [], sure = this.sure - 1;
         for (let t = first; t < this.inputs[this.id].length; t++) inputs.push(this.inputs[this.id][t] ?? NOTHING);

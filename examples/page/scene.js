@@ -83,7 +83,8 @@ function read(view, at, many) {
     return [inputs, at];
 }
 
-// A packet: all turns that the other hasn't said it has, how many turns I have of it, and the digest of a turn that I'm sure of.
+// A packet: all turns that the other hasn't said it has, how many turns I have of it, and the digest of a turn that I'm sure of,
+// once there is one.
 const HEAD = 16, BLANK = new Uint8Array(HASH);
 export function pack({ first, inputs, known, turn, digest }) {
     const bytes = new Uint8Array(HEAD + HASH + sizeOf(inputs)), view = new DataView(bytes.buffer);

@@ -158,7 +158,7 @@ export class Side {
         const it = this.nearest(x, y);
         if (!it) return false;
         this.held = it.i;
-        this.stays = this.state.held[it.i];     // what was held before is so afterwards
+        this.stays = this.state.held[it.i];     // what was held before isn't freed by letting go
         this.far = it.far;
         this.aim = [x, y];
         this.at = [0, 1, 2].map(k => Math.round(this.view.places[it.i * 3 + k] * METRE));
@@ -177,7 +177,8 @@ export class Side {
         if (it) this.wants.push([this.state.held[it.i] ? UNPIN : PIN, it.i]);
     }
 
-    // Leads the held particle to where the hand points: within reach, above the floor, out of the sphere, and not too fast.
+    // Leads the held particle to where the hand points: within reach, above the floor (except beneath the sphere),
+    // out of the sphere, and not too fast.
     lead() {
         if (this.held === null) return;
         let to = this.view.inScene(...this.aim, this.far).map(v => Math.max(-LIMIT, Math.min(LIMIT, v * METRE)));

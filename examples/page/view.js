@@ -131,7 +131,8 @@ function squaresOf(links) {
 export class View {
     constructor(canvas) {
         this.canvas = canvas;
-        // Where a processor draws in place of a graphics card, the picture is plainer.
+        // Where a processor draws in place of a graphics card, as far as a name tells, and the address hasn't `fine`, the picture is
+        // plainer.
         const probe = View.soft ??= softly();
         const gl = this.gl = canvas.getContext("webgl2", { antialias: !probe, alpha: false });
         if (!gl) throw new Error("no WebGL2");
@@ -255,7 +256,8 @@ export class View {
         this.forward = [-this.sight[2], -this.sight[6], -this.sight[10]];
     }
 
-    // New places from the library. Where a world went back and came out elsewhere, the picture glides there.
+    // New places from the library. Where a world went back and came out elsewhere, the picture glides there (or jumps, along an
+    // axis by 0.6 metres or more).
     take(words, corrected) {
         const { places, error } = this;
         for (let i = 0; i < N; i++) for (let k = 0; k < 3; k++) {
@@ -278,7 +280,7 @@ export class View {
         this.squares = squaresOf(links);
     }
 
-    // The triangles whose three links all live, and the live threads that no triangle has.
+    // The triangles along one live diagonal of each square whose three links all live, and the live threads that no triangle has.
     torn(live, count) {
         if (count === this.liveCount) return;
         this.liveCount = count;

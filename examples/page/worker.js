@@ -17,7 +17,7 @@ async function open({ id, module, seed, keep, start }) {
     return { id, links: player.world.links };
 }
 
-// The upper right corner goes up by one unit, here alone.
+// The upper right corner is held one unit above where it is now, here alone.
 function secret(turn) {
     player.secret = null;
     const i = SIDE - 1, p = player.world.places();
