@@ -5,9 +5,9 @@ ghost use Rattle.pbd_world.specs.Step.{Passing, shape_part};
 ghost use Rattle.pbd_laws.specs.Prelude.{particle_at, World, IsSound};
 ghost use Rattle.pbd_laws.specs.Solids.{Solid, solids_of, shape_by, CanPush, last_solid, IsOut};
 
-/// A sphere, or a plane whose normal isn't 0, that touches a place leaves it out of itself, but for what rounding may take, as
-/// `IsOut` says for each kind. After the shape part of a pass a free particle is so out of the shape that touched it last, and where
-/// none touched it, it stands where it stood.
+/// A shape that touches a place leaves it out of itself, but for what rounding may take, as `IsOut` says for each kind; it isn't a
+/// plane whose normal is 0, as no scene has one. After the shape part of a pass a free particle is so out of the shape that touched it
+/// last, and where none touched it, it stands where it stood.
 pub fn shapes_leave_particles_outside()
     ensures touched { (solid : Solid) (p to : Vec3) → CanPush solid → shape_by solid p ≡ Some to → IsOut solid to }
     ensures last { (w : World) (s t : Passing) (i : ℕ) (solid : Solid) → IsSound w → shape_part w s ≡ Ok t
